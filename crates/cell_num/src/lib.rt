@@ -1,0 +1,19 @@
+// The words of the whole workspace: nets, transistor fingers, names, lists and lengths.
+#![tactic(auto)]
+
+pub mod finger;
+pub mod length;
+pub mod list;
+pub mod net;
+
+pub use finger::{Finger, Fingers, Row};
+pub use length::Fixed;
+pub use list::{List, NoMemory};
+pub use net::{NetNo, Pins};
+
+pub type FingerList = List<Finger>;
+
+/// Text, as its bytes.
+pub type Name = List<u8>;
+
+pub type Names = List<Name>;
