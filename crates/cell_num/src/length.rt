@@ -1,5 +1,5 @@
-ghost use Rattle.std.specs.Prelude.{◌≡◌, ◌≤◌, ◌<◌, ◌↔◌, ℕ, IfSome, IsNone};
-ghost use Rattle.cell_num.specs.Length.{IsNearest};
+ghost use Rattle.std.specs.Prelude.{◌≡◌, ◌≤◌, ◌<◌, ◌↔◌, ◌+ℤ◌, ◌*◌, ◌^◌, ℕ, pos, IfSome, IfNone, IsNone};
+ghost use Rattle.cell_num.specs.Length.{IsNearest, nearest_units, raised, lowered};
 
 /// A decimal number of metres: `digits * 10^ten`.
 #[derive(Clone, Copy, Debug, PartialEq, Eq)]
@@ -10,3 +10,98 @@ pub struct Fixed {
 
 /// The most units that a width or a length may have.
 pub const MOST_UNITS: u32 = 100_000;
+
+fn power_above(ten: i8) -> u32
+    ensures { result ≡ raised (ten +ℤ pos 12) }
+{
+    let of_picometres = i32::from(ten) + 12;
+    if of_picometres >= 0 {
+        of_picometres as u32
+    } else {
+        0
+    }
+}
+
+fn power_below(ten: i8) -> u32
+    ensures { result ≡ lowered (ten +ℤ pos 12) }
+{
+    let of_picometres = i32::from(ten) + 12;
+    if of_picometres >= 0 {
+        0
+    } else {
+        of_picometres.unsigned_abs()
+    }
+}
+
+#[tactic(auto, using(crate::proofs::Nearest::power_within))]
+fn scaled(number: u64, power: u32) -> u128
+    requires few { power ≤ 25 }
+    requires fits { number * 10 ^ power < 2 ^ 120 }
+    ensures { result ≡ number * 10 ^ power }
+{
+    u128::from(number) * 10u128.pow(power)
+}
+
+// The nearest number of units, or None for lengths of a metre and more.
+#[tactic(auto, using(crate::proofs::Nearest::nearest_is, crate::proofs::Nearest::nearest_of_zero, crate::proofs::Nearest::nearest_of_small, crate::proofs::Nearest::nearest_of_large, crate::proofs::Nearest::parts_within, crate::proofs::Nearest::unit_within, crate::proofs::Nearest::unit_there))]
+fn nearest(value: &Fixed, unit_pm: u64) -> Option<u128>
+    requires some { 0 < unit_pm }
+    requires small { unit_pm ≤ 1000000 }
+    ensures near { IfSome result (IsNearest value.now unit_pm) }
+    ensures far { IsNone result → 100000 < nearest_units value.now unit_pm }
+{
+    let above = power_above(value.ten);
+    let below = power_below(value.ten);
+    if value.digits == 0 || below > 25 {
+        return Some(0);
+    }
+    if above > 12 {
+        return None;
+    }
+    let parts = scaled(value.digits, above);
+    let unit = scaled(unit_pm, below);
+    Some((2 * parts + unit) / (2 * unit))
+}
+
+#[tactic(auto, using(crate::proofs::Nearest::far, crate::proofs::Nearest::not_far))]
+/// The number of units of `unit_pm` picometres nearest to a length, ties upward; None exactly where
+/// that is above [`MOST_UNITS`].
+pub fn snap(value: &Fixed, unit_pm: u64) -> Option<u32>
+    requires some { 0 < unit_pm }
+    requires small { unit_pm ≤ 1000000 }
+    ensures nearest { IfSome result (IsNearest value.now unit_pm) }
+    ensures within { IfSome result (λ s. s ≤ MOST_UNITS) }
+    ensures above { IsNone result ↔ ((s : ℕ) × IsNearest value.now unit_pm s × (MOST_UNITS < s)) }
+{
+    match nearest(value, unit_pm) {
+        None => None,
+        Some(units) if units > u128::from(MOST_UNITS) => None,
+        Some(units) => Some(units as u32),
+    }
+}
+
+#[cfg(test)]
+mod tests {
+    use super::*;
+    use std::test::Fail;
+
+    #[test]
+    fn snaps_to_the_nearest_unit(rt: HostRuntime) -> Result<(), Fail> {
+        for (digits, ten, unit_pm, units) in [
+            (3, -6, 150_000, Some(20)),
+            (1575, -9, 150_000, Some(11)),
+            (825, -9, 150_000, Some(6)),
+            (75, -8, 150_000, Some(5)),
+            (15, -3, 150_000, Some(100_000)),
+            (15_000_074_999, -12, 150_000, Some(100_000)),
+            (15_000_075, -9, 150_000, None),
+            (1, 0, 1, None),
+            (1, 60, 1_000_000, None),
+            (u64::MAX, -60, 1, Some(0)),
+            (0, 127, 1, Some(0)),
+        ] {
+            assert_eq!(rt; snap(&Fixed { digits, ten }, unit_pm), units, "{digits}e{ten} in {unit_pm}");
+        }
+        Ok(())
+    }
+}

@@ -7,7 +7,7 @@ pub mod list;
 pub mod net;
 
 pub use finger::{Finger, Fingers, Row};
-pub use length::Fixed;
+pub use length::{Fixed, MOST_UNITS, snap};
 pub use list::{List, NoMemory};
 pub use net::{NetNo, Pins};
 
