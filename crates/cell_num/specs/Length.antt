@@ -1,5 +1,5 @@
 -- Lengths in metres as decimal numbers, and the nearest whole number of units.
-use Rattle.std.specs.Prelude.{ℕ, ◌≡◌, ◌+◌, ◌*◌, ◌/◌, ◌^◌, ◌<◌, ◌≤◌, ℤ, pos, negsuc, ◌+ℤ◌}
+use Rattle.std.specs.Prelude.{ℕ, ◌+◌, ◌*◌, ◌/◌, ◌^◌, ◌<◌, ◌≤◌, ℤ, pos, negsuc, ◌+ℤ◌}
 use Rattle.cell_num.specs.declared.length.Fixed.{Fixed}
 
 -- the power of ten above the fraction line

@@ -87,20 +87,23 @@ mod tests {
 
     #[test]
     fn snaps_to_the_nearest_unit(rt: HostRuntime) -> Result<(), Fail> {
-        for (digits, ten, unit_pm, units) in [
-            (3, -6, 150_000, Some(20)),
-            (1575, -9, 150_000, Some(11)),
-            (825, -9, 150_000, Some(6)),
-            (75, -8, 150_000, Some(5)),
-            (15, -3, 150_000, Some(100_000)),
-            (15_000_074_999, -12, 150_000, Some(100_000)),
-            (15_000_075, -9, 150_000, None),
-            (1, 0, 1, None),
-            (1, 60, 1_000_000, None),
-            (u64::MAX, -60, 1, Some(0)),
-            (0, 127, 1, Some(0)),
+        for (digits, ten, units) in [
+            (3, -6, Some(20)),
+            (1575, -9, Some(11)),
+            (825, -9, Some(6)),
+            (75, -8, Some(5)),
+            (15, -3, Some(100_000)),
+            (15_000_074_999, -12, Some(100_000)),
+            (15_000_075, -9, None),
+            (1, 60, None),
+            (u64::MAX, -60, Some(0)),
+            (0, 127, Some(0)),
         ] {
-            assert_eq!(rt; snap(&Fixed { digits, ten }, unit_pm), units, "{digits}e{ten} in {unit_pm}");
+            assert_eq!(rt;
+                snap(&Fixed { digits, ten }, 150_000),
+                units,
+                "at {digits}e{ten}"
+            );
         }
         Ok(())
     }
