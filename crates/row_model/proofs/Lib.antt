@@ -1,0 +1,4 @@
+pub mod Decide
+mod Examples
+pub mod Permutations
+pub mod Sums

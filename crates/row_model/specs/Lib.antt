@@ -1,0 +1,3 @@
+pub mod Arrangement
+pub mod Gaps
+pub mod Tests

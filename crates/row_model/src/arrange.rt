@@ -1,0 +1,135 @@
+ghost use Rattle.std.specs.List.{list_all};
+ghost use Rattle.std.specs.Prelude.{◌==◌, ◌≡◌, ◌≤◌, ◌↔◌, IsTrue, length, count_by, max, if◌then◌else◌};
+ghost use Rattle.cell_num.specs.Fingers.{on_gate, columns_of, AreFingers};
+ghost use Rattle.row_model.specs.Arrangement.{IsArrangement, place, fingers_in};
+ghost use Rattle.row_model.specs.Tests.{placed_test, column_test, arrangement_test, same_finger, has_same_fingers};
+
+use crate::{Arrangement, Column, Placed};
+use cell_num::{Finger, Fingers, NetNo, Row};
+
+fn place_of(column: &Column, row: Row) -> Option<Placed>
+    ensures { result ≡ place row column.now }
+{
+    match row {
+        Row::P => column.p,
+        Row::N => column.n,
+    }
+}
+
+fn is_same(a: &Finger, b: &Finger) -> bool
+    ensures { result ≡ same_finger a.now b.now }
+{
+    a == b
+}
+
+fn count_in_row(columns: &[Column], row: Row, finger: &Finger) -> usize
+    ensures { result ≡ count_by (same_finger finger.now) (fingers_in row columns.now) }
+{
+    columns
+        .iter()
+        .filter_map(|column| place_of(column, row).map(|x| x.finger))
+        .filter(|other| is_same(finger, other))
+        .count()
+}
+
+fn row_len(columns: &[Column], row: Row) -> usize
+    ensures { result ≡ length (fingers_in row columns.now) }
+{
+    columns
+        .iter()
+        .filter_map(|column| place_of(column, row).map(|x| x.finger))
+        .count()
+}
+
+fn count(fingers: &[Finger], finger: &Finger) -> usize
+    ensures { result ≡ count_by (same_finger finger.now) fingers.now }
+{
+    fingers
+        .iter()
+        .filter(|other| is_same(finger, other))
+        .count()
+}
+
+// Each finger of the list is in the row as often as in the list.
+fn has_counts(columns: &[Column], row: Row, fingers: &[Finger]) -> bool
+    ensures { result ≡ list_all (λ x. count_by (same_finger x) (fingers_in row columns.now) == count_by (same_finger x) fingers.now) fingers.now }
+{
+    fingers.iter().all(|finger| count_in_row(columns, row, finger) == count(fingers, finger))
+}
+
+// The row has the same fingers as the list, each as often.
+fn has_fingers(columns: &[Column], row: Row, fingers: &[Finger]) -> bool
+    ensures { result ≡ has_same_fingers fingers.now (fingers_in row columns.now) }
+{
+    row_len(columns, row) == fingers.len() && has_counts(columns, row, fingers)
+}
+
+fn gate_count(fingers: &[Finger], gate: u32) -> usize
+    ensures { result ≡ on_gate gate fingers.now }
+{
+    fingers.iter().filter(|f| f.gate.0 == gate).count()
+}
+
+fn larger_count(fingers: &Fingers, gate: u32) -> usize
+    ensures { result ≡ max (on_gate gate fingers.now.p) (on_gate gate fingers.now.n) }
+{
+    gate_count(fingers.p.as_slice(), gate).max(gate_count(fingers.n.as_slice(), gate))
+}
+
+#[tactic(auto, using(crate::proofs::Sums::sum_below_more, crate::proofs::Sums::sum_below_le))]
+fn fewest_columns(fingers: &Fingers) -> usize
+    requires { AreFingers fingers.now }
+    ensures { result ≡ columns_of fingers.now }
+{
+    let mut total = 0;
+    for gate in 0..fingers.nets {
+        total += larger_count(fingers, gate);
+    }
+    total
+}
+
+fn is_unflipped_loop(x: &Placed) -> bool
+    ensures { result ≡ placed_test x.now }
+{
+    x.finger.lo != x.finger.hi || !x.flipped
+}
+
+fn is_column(column: &Column) -> bool
+    ensures { result ≡ column_test column.now.p column.now.n }
+{
+    match (&column.p, &column.n) {
+        (None, None) => false,
+        (Some(x), None) => is_unflipped_loop(x),
+        (None, Some(y)) => is_unflipped_loop(y),
+        (Some(x), Some(y)) => {
+            x.finger.gate == y.finger.gate && is_unflipped_loop(x) && is_unflipped_loop(y)
+        }
+    }
+}
+
+fn are_columns(columns: &[Column]) -> bool
+    ensures { result ≡ list_all (λ c. column_test c.p c.n) columns.now }
+{
+    columns.iter().all(|column| is_column(column))
+}
+
+fn arranges(row: &Arrangement, fingers: &Fingers) -> bool
+    requires { AreFingers fingers.now }
+    ensures { result ≡ arrangement_test row.now fingers.now }
+{
+    let columns = row.as_slice();
+    are_columns(columns)
+        && has_fingers(columns, Row::P, fingers.p.as_slice())
+        && has_fingers(columns, Row::N, fingers.n.as_slice())
+        && columns.len() == fewest_columns(fingers)
+}
+
+/// Whether the row has each of the fingers once, in columns of one gate, and as few of them as the
+/// counts of the gates allow.
+#[tactic(auto, using(crate::proofs::Decide::arrangement_decides))]
+pub fn is_arrangement(row: &Arrangement, fingers: &Fingers) -> bool
+    requires { AreFingers fingers.now }
+    ensures { IsTrue result ↔ IsArrangement row.now fingers.now }
+{
+    arranges(row, fingers)
+}

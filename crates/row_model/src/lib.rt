@@ -1,0 +1,13 @@
+// Columns of a row, their gaps, and which rows arrange which fingers.
+#![tactic(auto)]
+
+pub mod arrange;
+pub mod column;
+pub mod gap;
+
+pub use arrange::is_arrangement;
+pub use column::{Arrangement, Column, Placed};
+pub use gap::gaps;
+
+#[cfg(test)]
+mod tests;
