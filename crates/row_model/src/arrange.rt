@@ -1,20 +1,11 @@
 ghost use Rattle.std.specs.List.{list_all};
 ghost use Rattle.std.specs.Prelude.{◌==◌, ◌≡◌, ◌≤◌, ◌↔◌, IsTrue, length, count_by, max, if◌then◌else◌};
 ghost use Rattle.cell_num.specs.Fingers.{on_gate, columns_of, AreFingers};
-ghost use Rattle.row_model.specs.Arrangement.{IsArrangement, place, fingers_in};
+ghost use Rattle.row_model.specs.Arrangement.{IsArrangement, fingers_in};
 ghost use Rattle.row_model.specs.Tests.{placed_test, column_test, arrangement_test, same_finger, has_same_fingers};
 
 use crate::{Arrangement, Column, Placed};
 use cell_num::{Finger, Fingers, NetNo, Row};
-
-fn place_of(column: &Column, row: Row) -> Option<Placed>
-    ensures { result ≡ place row column.now }
-{
-    match row {
-        Row::P => column.p,
-        Row::N => column.n,
-    }
-}
 
 fn is_same(a: &Finger, b: &Finger) -> bool
     ensures { result ≡ same_finger a.now b.now }
@@ -27,7 +18,7 @@ fn count_in_row(columns: &[Column], row: Row, finger: &Finger) -> usize
 {
     columns
         .iter()
-        .filter_map(|column| place_of(column, row).map(|x| x.finger))
+        .filter_map(|column| column.place(row).map(|x| x.finger))
         .filter(|other| is_same(finger, other))
         .count()
 }
@@ -37,7 +28,7 @@ fn row_len(columns: &[Column], row: Row) -> usize
 {
     columns
         .iter()
-        .filter_map(|column| place_of(column, row).map(|x| x.finger))
+        .filter_map(|column| column.place(row).map(|x| x.finger))
         .count()
 }
 

@@ -1,0 +1,5 @@
+pub mod Comparisons
+pub mod Cutting
+pub mod Layers
+pub mod Rectangle
+pub mod Touching

@@ -1,0 +1,4 @@
+pub mod Desk
+pub mod Host
+pub mod Mem
+pub mod Whole

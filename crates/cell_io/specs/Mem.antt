@@ -1,0 +1,71 @@
+-- What the desks in memory hold.
+use Rattle.std.specs.Prelude.{ℕ, ◌≡◌, ◌+◌, ◌-◌, ◌^◌, min, List, length, take, drop, Contains, option_map, find}
+use Rattle.std.specs.Str.{bytes_eq}
+use Rattle.std.specs.BTreeMap.{get_by_text}
+use Rattle.cell_io.specs.Desk.{Files}
+use Rattle.cell_io.specs.declared.mem.File.{File}
+use Rattle.cell_io.specs.declared.mem.MemDesk.{MemDesk}
+use Rattle.cell_io.specs.declared.steady.SteadyDesk.{SteadyDesk}
+
+-- the files of a list, by name; of two with one name the first
+abbrev pub files_of : List File → Files
+files_of files name = option_map (λ (f : File). f.bytes) (find (λ f. bytes_eq f.name name) files)
+
+-- the files that the desk reads from
+abbrev pub given_files : MemDesk → Files
+given_files desk = files_of desk.given
+
+-- the files made through it
+abbrev pub made_files : MemDesk → Files
+made_files desk name = get_by_text desk.made name
+
+abbrev pub said_bytes : MemDesk → List ℕ
+said_bytes desk = desk.said
+
+-- the calls that are to fail, by their numbers
+abbrev pub failing_calls : MemDesk → List ℕ
+failing_calls desk = desk.fail
+
+-- the number of the next call
+abbrev pub next_call : MemDesk → ℕ
+next_call desk = desk.calls
+
+-- how often reading, writing and growing have failed
+abbrev pub read_faults_of : MemDesk → ℕ
+read_faults_of desk = desk.read_faults
+
+abbrev pub write_faults_of : MemDesk → ℕ
+write_faults_of desk = desk.write_faults
+
+abbrev pub shorts_of : MemDesk → ℕ
+shorts_of desk = desk.shorts
+
+-- the next call is to fail
+abbrev pub IsToFail : MemDesk → Type 0
+IsToFail desk = Contains (failing_calls desk) (next_call desk)
+
+-- one more, but for the greatest u64, which stays
+abbrev pub one_more : ℕ → ℕ
+one_more count = min (count + 1) (2 ^ 64 - 1)
+
+-- what each call does: it takes the next number, and neither the given files nor the list of failing calls change
+pub record IsAfterCall (old new : MemDesk) : Type 0 where
+  pub number : next_call new ≡ one_more (next_call old)
+  pub failing : failing_calls new ≡ failing_calls old
+  pub given : given_files new ≡ given_files old
+
+-- as many bytes of the file from a place on as there are and fit were copied to the front of the buffer
+pub record IsCopied (from : ℕ) (buffer : List ℕ) (count : ℕ) (file : List ℕ) : Type 0 where
+  pub most : count ≡ min (length file - from) (length buffer)
+  pub bytes : take count buffer ≡ take count (drop from file)
+
+-- the files that a steady desk reads from
+abbrev pub steady_files : SteadyDesk → Files
+steady_files desk = files_of desk.given
+
+-- how many bytes were written to files, and how many were said
+abbrev pub bytes_written : SteadyDesk → ℕ
+bytes_written desk = desk.written
+
+abbrev pub bytes_said : SteadyDesk → ℕ
+bytes_said desk = desk.said

@@ -1,0 +1,268 @@
+ghost use Rattle.std.specs.Prelude.{◌≡◌, ◌≤◌, ◌<◌, ◌+◌, ◌++◌, ◌^◌, ◌-◌, min, [], Contains, ℕ, List as Sequence, None, option_map, Some, length, take, drop, IsTrue, IsNone, IsSome, IfSome, IfOk, IsErrOf, ◌↔◌, OnOk, OnErr};
+ghost use Rattle.std.specs.BTreeMap.{get_by_text};
+ghost use Rattle.std.specs.Option.{option_copied};
+ghost use Rattle.cell_io.specs.Desk.{Rose, ReadsPart, IsHeld, AppendedIn, CreatedIn};
+ghost use Rattle.cell_io.specs.Mem.{files_of, given_files, made_files, said_bytes, failing_calls, next_call, read_faults_of, write_faults_of, shorts_of, IsToFail, IsAfterCall, IsCopied, one_more};
+ghost use Rattle.cell_io.specs.declared.desk.DeskAnswer.TheVariants as answer;
+
+use crate::{Desk, DeskAnswer};
+use cell_num::{List, Name, NoMemory};
+use std::alloc::Global;
+use std::collections::BTreeMap;
+
+/// A file in memory.
+#[derive(Drop)]
+pub struct File {
+    pub name: Name,
+    pub bytes: Name,
+}
+
+pub type FileList = List<File>;
+
+pub type CallList = List<u64>;
+
+/// A desk in memory, which tells all that it holds and fails at the calls of a list. The calls are
+/// numbered from 0, those that answer Missing too.
+#[derive(Drop)]
+pub struct MemDesk {
+    alloc: Global,
+    given: FileList,
+    made: BTreeMap<String, Name>,
+    said: Name,
+    fail: CallList,
+    calls: u64,
+    read_faults: u64,
+    write_faults: u64,
+    shorts: u64,
+}
+
+// Copies as many bytes of the file, from a place on, as there are and fit.
+pub(crate) fn copy_part(file: &[u8], from: u64, into: &mut [u8]) -> usize
+    ensures part { ReadsPart file.now from into.new result }
+    ensures copied { IsCopied from into.new result file.now }
+{
+    if from >= file.len() as u64 {
+        return 0;
+    }
+    let rest = &file[from as usize..];
+    let count = rest.len().min(into.len());
+    into[..count].copy_from_slice(&rest[..count]);
+    count
+}
+
+pub(crate) fn find_file<'a>(files: &'a [File], name: &[u8]) -> Option<&'a [u8]>
+    ensures { option_map (λ b. b.now) result ≡ files_of files.now name.now }
+{
+    files
+        .iter()
+        .find(|file| file.name.as_slice() == name)
+        .map(|file| file.bytes.as_slice())
+}
+
+fn has_call(calls: &[u64], call: u64) -> bool
+    ensures { IsTrue result ↔ Contains calls.now call }
+{
+    calls.contains(&call)
+}
+
+// Puts the part at the end of the file.
+fn append_to(files: &mut BTreeMap<String, Name>, name: &str, part: &[u8]) -> Result<(), NoMemory>
+    requires { IsHeld (get_by_text files.old) name.now }
+    ensures ok { OnOk result (AppendedIn name.now part.now (length part.now) (get_by_text files.old) (get_by_text files.new)) }
+    ensures err { OnErr result ((q : Sequence ℕ) → get_by_text files.new q ≡ get_by_text files.old q) }
+{
+    let Some(bytes) = files.get_mut(name) else {
+        unreachable!()
+    };
+    match bytes.extend(part) {
+        Ok(()) => Ok(()),
+        Err(error) => Err(error),
+    }
+}
+
+// Makes an empty file.
+fn create_in(alloc: Global, files: &mut BTreeMap<String, Name>, name: &str) -> Result<(), NoMemory>
+    ensures ok { OnOk result (CreatedIn name.now (get_by_text files.old) (get_by_text files.new)) }
+    ensures err { OnErr result ((q : Sequence ℕ) → get_by_text files.new q ≡ get_by_text files.old q) }
+{
+    let Ok(key) = String::from_str(alloc, name) else {
+        return Err(NoMemory);
+    };
+    match files.insert(key, List::new(alloc)) {
+        Ok(_) => Ok(()),
+        Err(_) => Err(NoMemory),
+    }
+}
+
+impl MemDesk {
+    /// A desk that has said and made nothing. It keeps the allocator for what it will hold, and takes
+    /// no memory yet. Of two given files with one name the first is read.
+    pub fn new(alloc: Global, given: FileList, fail: CallList) -> MemDesk
+        ensures given { given_files result ≡ files_of given }
+        ensures made { (name : Sequence ℕ) → IsNone (made_files result name) }
+        ensures said { said_bytes result ≡ [] }
+        ensures failing { failing_calls result ≡ fail }
+        ensures number { next_call result ≡ 0 }
+        ensures read_count { read_faults_of result ≡ 0 }
+        ensures write_count { write_faults_of result ≡ 0 }
+        ensures short_count { shorts_of result ≡ 0 }
+    {
+        MemDesk {
+            alloc,
+            given,
+            made: BTreeMap::new(alloc),
+            said: List::new(alloc),
+            fail,
+            calls: 0,
+            read_faults: 0,
+            write_faults: 0,
+            shorts: 0,
+        }
+    }
+
+    /// The bytes of a file that was made.
+    pub fn file(&self, name: &str) -> Option<&[u8]>
+        ensures { option_map (λ bytes. bytes.now) result ≡ made_files self.now name.now }
+    {
+        match self.made.get(name) {
+            Some(bytes) => Some(bytes.as_slice()),
+            None => None,
+        }
+    }
+
+    /// All bytes that were said.
+    pub fn all_said(&self) -> &[u8]
+        ensures { result.now ≡ said_bytes self.now }
+    {
+        self.said.as_slice()
+    }
+
+    // Takes the next number, and tells whether that call is to fail.
+    fn fails(&mut self) -> bool
+        ensures fails { IsTrue result ↔ IsToFail self.old }
+        ensures number { self.new ≡ record self.old { calls = one_more self.old.calls } }
+    {
+        let call = self.calls;
+        self.calls = call.saturating_add(1);
+        has_call(self.fail.as_slice(), call)
+    }
+}
+
+impl Desk for MemDesk {
+    ghost given = { λ m. Some (given_files m) };
+
+    ghost made = { λ m. Some (made_files m) };
+
+    ghost said = { λ m. Some (said_bytes m) };
+
+    ghost read_faults = { λ m. read_faults_of m };
+
+    ghost write_faults = { λ m. write_faults_of m };
+
+    ghost shorts = { λ m. shorts_of m };
+
+    fn read_part(&mut self, name: &str, from: u64, into: &mut [u8]) -> Result<usize, DeskAnswer>
+        ensures call { IsAfterCall self.old self.new }
+        ensures missing { IsErrOf result answer.Missing ↔ IsNone (given_files self.old name.now) }
+        ensures failed { IsErrOf result answer.Failed ↔ (IsSome (given_files self.old name.now) × IsToFail self.old) }
+        ensures rose { IsErrOf result answer.Failed → Rose (read_faults_of self.old) (read_faults_of self.new) }
+        ensures memory { result ≡ Err answer.NoMemory → ⊥ }
+        ensures bytes { IfOk result (λ count. IfSome (given_files self.old name.now) (IsCopied from into.new count)) }
+        ensures made { made_files self.new ≡ made_files self.old }
+        ensures said { said_bytes self.new ≡ said_bytes self.old }
+        ensures read_count { read_faults_of self.old ≤ read_faults_of self.new }
+        ensures write_count { write_faults_of self.new ≡ write_faults_of self.old }
+        ensures short_count { shorts_of self.new ≡ shorts_of self.old }
+    {
+        let fails = self.fails();
+        let Some(bytes) = find_file(self.given.as_slice(), name.as_bytes()) else {
+            return Err(DeskAnswer::Missing);
+        };
+        if fails {
+            self.read_faults = self.read_faults.saturating_add(1);
+            return Err(DeskAnswer::Failed);
+        }
+        Ok(copy_part(bytes, from, into))
+    }
+
+    fn create(&mut self, name: &str) -> Result<(), DeskAnswer>
+        ensures call { IsAfterCall self.old self.new }
+        ensures failed { IsErrOf result answer.Failed ↔ IsToFail self.old }
+        ensures missing { result ≡ Err answer.Missing → ⊥ }
+        ensures made { OnOk result (CreatedIn name.now (made_files self.old) (made_files self.new)) }
+        ensures refused { OnErr result (made_files self.new ≡ made_files self.old) }
+        ensures said { said_bytes self.new ≡ said_bytes self.old }
+        ensures rose { IsErrOf result answer.Failed → Rose (write_faults_of self.old) (write_faults_of self.new) }
+        ensures short { IsErrOf result answer.NoMemory → Rose (shorts_of self.old) (shorts_of self.new) }
+        ensures read_count { read_faults_of self.new ≡ read_faults_of self.old }
+        ensures write_count { write_faults_of self.old ≤ write_faults_of self.new }
+        ensures short_count { shorts_of self.old ≤ shorts_of self.new }
+    {
+        if self.fails() {
+            self.write_faults = self.write_faults.saturating_add(1);
+            return Err(DeskAnswer::Failed);
+        }
+        match create_in(self.alloc, &mut self.made, name) {
+            Ok(()) => Ok(()),
+            Err(_) => {
+                self.shorts = self.shorts.saturating_add(1);
+                Err(DeskAnswer::NoMemory)
+            }
+        }
+    }
+
+    fn append(&mut self, name: &str, part: &[u8]) -> Result<usize, DeskAnswer>
+        requires { IsHeld (made_files self.old) name.now }
+        ensures call { IsAfterCall self.old self.new }
+        ensures failed { IsErrOf result answer.Failed ↔ IsToFail self.old }
+        ensures missing { result ≡ Err answer.Missing → ⊥ }
+        ensures all { IfOk result (λ count. count ≡ length part.now) }
+        ensures made { OnOk result (AppendedIn name.now part.now (length part.now) (made_files self.old) (made_files self.new)) }
+        ensures refused { OnErr result (made_files self.new ≡ made_files self.old) }
+        ensures said { said_bytes self.new ≡ said_bytes self.old }
+        ensures rose { IsErrOf result answer.Failed → Rose (write_faults_of self.old) (write_faults_of self.new) }
+        ensures short { IsErrOf result answer.NoMemory → Rose (shorts_of self.old) (shorts_of self.new) }
+        ensures read_count { read_faults_of self.new ≡ read_faults_of self.old }
+        ensures write_count { write_faults_of self.old ≤ write_faults_of self.new }
+        ensures short_count { shorts_of self.old ≤ shorts_of self.new }
+    {
+        if self.fails() {
+            self.write_faults = self.write_faults.saturating_add(1);
+            return Err(DeskAnswer::Failed);
+        }
+        match append_to(&mut self.made, name, part) {
+            Ok(()) => Ok(part.len()),
+            Err(_) => {
+                self.shorts = self.shorts.saturating_add(1);
+                Err(DeskAnswer::NoMemory)
+            }
+        }
+    }
+
+    fn say(&mut self, part: &[u8]) -> Result<usize, DeskAnswer>
+        ensures call { IsAfterCall self.old self.new }
+        ensures failed { IsErrOf result answer.Failed ↔ IsToFail self.old }
+        ensures missing { result ≡ Err answer.Missing → ⊥ }
+        ensures all { IfOk result (λ count. count ≡ length part.now) }
+        ensures said { OnOk result (said_bytes self.new ≡ said_bytes self.old ++ part.now) }
+        ensures refused { OnErr result (said_bytes self.new ≡ said_bytes self.old) }
+        ensures made { made_files self.new ≡ made_files self.old }
+        ensures rose { IsErrOf result answer.Failed → Rose (write_faults_of self.old) (write_faults_of self.new) }
+        ensures short { IsErrOf result answer.NoMemory → Rose (shorts_of self.old) (shorts_of self.new) }
+        ensures read_count { read_faults_of self.new ≡ read_faults_of self.old }
+        ensures write_count { write_faults_of self.old ≤ write_faults_of self.new }
+        ensures short_count { shorts_of self.old ≤ shorts_of self.new }
+    {
+        if self.fails() {
+            self.write_faults = self.write_faults.saturating_add(1);
+            return Err(DeskAnswer::Failed);
+        }
+        match self.said.extend(part) {
+            Ok(()) => Ok(part.len()),
+            Err(_) => {
+                self.shorts = self.shorts.saturating_add(1);
+                Err(DeskAnswer::NoMemory)
+            }
+        }
+    }
+}
