@@ -1,8 +1,10 @@
 -- What the desks in memory hold.
-use Rattle.std.specs.Prelude.{ℕ, ◌≡◌, ◌+◌, ◌-◌, ◌^◌, min, List, length, take, drop, Contains, option_map, find}
+use Rattle.std.specs.Prelude.{ℕ, ◌≡◌, ◌+◌, ◌-◌, ◌^◌, min, List, length, take, drop, Contains, option_map, find, Result, Err}
 use Rattle.std.specs.Str.{bytes_eq}
 use Rattle.std.specs.BTreeMap.{get_by_text}
 use Rattle.cell_io.specs.Desk.{Files}
+use Rattle.cell_io.specs.declared.desk.DeskAnswer.{DeskAnswer}
+use Rattle.cell_io.specs.declared.desk.DeskAnswer.TheVariants.{Failed, NoMemory}
 use Rattle.cell_io.specs.declared.mem.File.{File}
 use Rattle.cell_io.specs.declared.mem.MemDesk.{MemDesk}
 use Rattle.cell_io.specs.declared.steady.SteadyDesk.{SteadyDesk}
@@ -47,6 +49,15 @@ IsToFail desk = Contains (failing_calls desk) (next_call desk)
 -- one more, but for the greatest u64, which stays
 abbrev pub one_more : ℕ → ℕ
 one_more count = min (count + 1) (2 ^ 64 - 1)
+
+-- a count of failures rises by one at Failed alone, one of short memory at NoMemory alone
+abbrev pub CountsFailed : {T : Type 0} → Result T DeskAnswer → ℕ → ℕ → Type 0
+CountsFailed (Err Failed) old new = new ≡ one_more old
+CountsFailed _ old new = new ≡ old
+
+abbrev pub CountsShort : {T : Type 0} → Result T DeskAnswer → ℕ → ℕ → Type 0
+CountsShort (Err NoMemory) old new = new ≡ one_more old
+CountsShort _ old new = new ≡ old
 
 -- what each call does: it takes the next number, and neither the given files nor the list of failing calls change
 pub record IsAfterCall (old new : MemDesk) : Type 0 where

@@ -2,7 +2,7 @@ ghost use Rattle.std.specs.Prelude.{◌≡◌, ◌≤◌, ◌<◌, ◌+◌, ◌+
 ghost use Rattle.std.specs.BTreeMap.{get_by_text};
 ghost use Rattle.std.specs.Option.{option_copied};
 ghost use Rattle.cell_io.specs.Desk.{Rose, ReadsPart, IsHeld, AppendedIn, CreatedIn};
-ghost use Rattle.cell_io.specs.Mem.{files_of, given_files, made_files, said_bytes, failing_calls, next_call, read_faults_of, write_faults_of, shorts_of, IsToFail, IsAfterCall, IsCopied, one_more};
+ghost use Rattle.cell_io.specs.Mem.{CountsFailed, CountsShort, files_of, given_files, made_files, said_bytes, failing_calls, next_call, read_faults_of, write_faults_of, shorts_of, IsToFail, IsAfterCall, IsCopied, one_more};
 ghost use Rattle.cell_io.specs.declared.desk.DeskAnswer.TheVariants as answer;
 
 use crate::{Desk, DeskAnswer};
@@ -173,6 +173,7 @@ impl Desk for MemDesk {
         ensures read_count { read_faults_of self.old ≤ read_faults_of self.new }
         ensures write_count { write_faults_of self.new ≡ write_faults_of self.old }
         ensures short_count { shorts_of self.new ≡ shorts_of self.old }
+        ensures counted { CountsFailed result (read_faults_of self.old) (read_faults_of self.new) }
     {
         let fails = self.fails();
         let Some(bytes) = find_file(self.given.as_slice(), name.as_bytes()) else {
@@ -197,6 +198,8 @@ impl Desk for MemDesk {
         ensures read_count { read_faults_of self.new ≡ read_faults_of self.old }
         ensures write_count { write_faults_of self.old ≤ write_faults_of self.new }
         ensures short_count { shorts_of self.old ≤ shorts_of self.new }
+        ensures counted { CountsFailed result (write_faults_of self.old) (write_faults_of self.new) }
+        ensures short_counted { CountsShort result (shorts_of self.old) (shorts_of self.new) }
     {
         if self.fails() {
             self.write_faults = self.write_faults.saturating_add(1);
@@ -225,6 +228,8 @@ impl Desk for MemDesk {
         ensures read_count { read_faults_of self.new ≡ read_faults_of self.old }
         ensures write_count { write_faults_of self.old ≤ write_faults_of self.new }
         ensures short_count { shorts_of self.old ≤ shorts_of self.new }
+        ensures counted { CountsFailed result (write_faults_of self.old) (write_faults_of self.new) }
+        ensures short_counted { CountsShort result (shorts_of self.old) (shorts_of self.new) }
     {
         if self.fails() {
             self.write_faults = self.write_faults.saturating_add(1);
@@ -252,6 +257,8 @@ impl Desk for MemDesk {
         ensures read_count { read_faults_of self.new ≡ read_faults_of self.old }
         ensures write_count { write_faults_of self.old ≤ write_faults_of self.new }
         ensures short_count { shorts_of self.old ≤ shorts_of self.new }
+        ensures counted { CountsFailed result (write_faults_of self.old) (write_faults_of self.new) }
+        ensures short_counted { CountsShort result (shorts_of self.old) (shorts_of self.new) }
     {
         if self.fails() {
             self.write_faults = self.write_faults.saturating_add(1);

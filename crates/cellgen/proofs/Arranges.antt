@@ -171,8 +171,8 @@ fewest_columns nets [] ns ps_below ns_below = alone_columns nets ns ns_below
 fewest_columns nets (p ∷ ps) ns ps_below ns_below =
     fewest_by nets p ps ns (All-head (IsBelow nets) p ps ps_below) ns_below (λ left below. fewest_columns nets ps left (All-tail (IsBelow nets) p ps ps_below) below) (taking p.gate.0 ns)
 
-pub file_order_arranges : (f : Fingers) → AreFingers f → IsArrangement (file_order f.p f.n) f
-file_order_arranges f are = record {
+arranges : (f : Fingers) → AreFingers f → IsArrangement (file_order f.p f.n) f
+arranges f are = record {
   columns = all_columns f.p f.n;
   p = subst (λ ps. IsPermutation f.p ps) (sym (p_in_order f.p f.n)) (IsPermutation-refl f.p);
   n = n_permuted f.p f.n;
@@ -181,3 +181,9 @@ file_order_arranges f are = record {
   where
     gates : (at : Row) (fs : List Finger) → All (IsFinger at f.nets) fs → All (IsBelow f.nets) fs
     gates at fs all = All-weaker (IsFinger at f.nets) (IsBelow f.nets) (λ x is. is.gate) fs all
+
+pub file_order_arranges : (f : Fingers) (row : List Column) → row ≡ file_order f.p f.n → AreFingers f → IsArrangement row f
+file_order_arranges f row is are = subst (λ (r : List Column). IsArrangement r f) (sym is) (arranges f are)
+
+pub arrangement_few : (f : Fingers) (row : List Column) → IsArrangement row f → AreFingers f → length row ≤ 64
+arrangement_few f row is are = omega (arith, is.fewest, are.few_columns)

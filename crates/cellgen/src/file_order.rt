@@ -1,4 +1,6 @@
-ghost use Rattle.std.specs.Prelude.{◌≡◌, IfOk, map};
+ghost use Rattle.std.specs.Prelude.{◌≡◌, ◌≤◌, IfOk, length, map};
+ghost use Rattle.cell_num.specs.Fingers.{AreFingers};
+ghost use Rattle.row_model.specs.Arrangement.{IsArrangement};
 ghost use Rattle.cellgen.specs.FileOrder.{is_on, first_place, first_on, without, unflipped, pair_of, file_order};
 
 use cell_num::{Finger, Fingers, NetNo, NoMemory};
@@ -51,9 +53,7 @@ fn pair(finger: &Finger, left: &mut Vec<Finger>) -> Column
     }
 }
 
-/// The columns of the fingers in the order of the file, each P finger with the first N finger of its
-/// gate that is left, all unflipped.
-pub fn row_of(alloc: Global, fingers: &Fingers) -> Result<Arrangement, NoMemory>
+fn columns_in_order(alloc: Global, fingers: &Fingers) -> Result<Arrangement, NoMemory>
     ensures { IfOk result (λ row. row ≡ file_order fingers.now.p fingers.now.n) }
 {
     let Ok(mut left) = fingers.n.as_slice().to_vec(alloc) else {
@@ -69,5 +69,17 @@ pub fn row_of(alloc: Global, fingers: &Fingers) -> Result<Arrangement, NoMemory>
             n: Some(placed(*finger)),
         })?;
     }
+    Ok(row)
+}
+
+/// The columns of the fingers in the order of the file, each P finger with the first N finger of its
+/// gate that is left, all unflipped.
+pub fn row_of(alloc: Global, fingers: &Fingers) -> Result<Arrangement, NoMemory>
+    requires { AreFingers fingers.now }
+    ensures row { IfOk result (λ row. row ≡ file_order fingers.now.p fingers.now.n) }
+    ensures arranges { IfOk result (λ row. IsArrangement row fingers.now) }
+    ensures few { IfOk result (λ row. length row ≤ 64) }
+{
+    let row = columns_in_order(alloc, fingers)?;
     Ok(row)
 }

@@ -2,9 +2,29 @@
 #![tactic(auto)]
 
 mod file_order;
+mod form;
+mod plan;
+mod report;
+mod run;
+mod status;
+mod steps;
 
-use std::io;
+use cell_io::HostDesk;
+use run::run;
+use status::Status;
+use std::env;
+use std::process::ExitCode;
 
-fn main(rt: HostRuntime) -> io::Result<()> {
-    Ok(())
+fn main(rt: HostRuntime) -> ExitCode {
+    // Arguments that can't be had are wrong words, and are told so.
+    let words = match env::args(&rt) {
+        Ok(args) => args.skip(1).collect::<Vec<String>>(rt.alloc()),
+        Err(_) => Ok(Vec::new(rt.alloc())),
+    };
+    let Ok(words) = words else {
+        return ExitCode::from(Status::NoMemory.number());
+    };
+    let mut desk = HostDesk::new(&rt);
+    let status = run(rt.alloc(), &words, &mut desk);
+    ExitCode::from(status.number())
 }

@@ -1,0 +1,63 @@
+-- The texts that the program says. Lines end by LF, units are grid units of half a lambda each.
+use Rattle.std.specs.Prelude.{ℕ, ◌+◌, List, [], ◌∷◌, ◌++◌, length, slice_get, unwrap_or, flat_map, codes, decimal, Option, Some, None}
+use Rattle.std.specs.List.{enumerate_from}
+use Rattle.cell_num.specs.declared.net.NetNo.{NetNo}
+use Rattle.spice_net.specs.declared.plain.SpiceFault.{SpiceFault}
+use Rattle.spice_net.specs.declared.plain.SpiceFault.TheVariants as fault
+use Rattle.row_model.specs.declared.column.Placed.{Placed}
+use Rattle.row_model.specs.declared.column.Column.{Column}
+use Rattle.row_model.specs.Gaps.{left_net, right_net, gaps_of}
+
+-- a net by its name
+abbrev pub name_of : List (List ℕ) → NetNo → List ℕ
+name_of nets net = unwrap_or (slice_get nets net.0) []
+
+-- a finger's left net, right net and width, or an empty place
+abbrev pub place_text : List (List ℕ) → Option Placed → List ℕ
+place_text nets None = codes "- - 0"
+place_text nets (Some x) = name_of nets (left_net x) ++ codes " " ++ name_of nets (right_net x) ++ codes " " ++ decimal x.finger.width
+
+-- the gate of a column by its name
+abbrev pub gate_text : List (List ℕ) → Option Placed → Option Placed → List ℕ
+gate_text nets (Some x) n = name_of nets x.finger.gate
+gate_text nets None (Some y) = name_of nets y.finger.gate
+gate_text nets None None = []
+
+abbrev pub column_text : List (List ℕ) → ℕ × Column → List ℕ
+column_text nets numbered =
+    codes "column "
+    ++ decimal numbered.0
+    ++ codes " gate "
+    ++ gate_text nets numbered.1.p numbered.1.n
+    ++ codes " p "
+    ++ place_text nets numbered.1.p
+    ++ codes " n "
+    ++ place_text nets numbered.1.n
+    ++ codes "\n"
+
+abbrev pub columns_text : List (List ℕ) → List Column → List ℕ
+columns_text nets row = flat_map (column_text nets) (enumerate_from 0 row)
+
+-- a word and a count
+abbrev pub count_line : List ℕ → ℕ → List ℕ
+count_line word count = word ++ decimal count ++ codes "\n"
+
+-- a word and a text
+abbrev pub text_line : List ℕ → List ℕ → List ℕ
+text_line word text = word ++ text ++ codes "\n"
+
+-- why a SPICE file is refused
+abbrev pub spice_line : SpiceFault → List ℕ
+spice_line fault.NoCell = codes "spice NoCell\n"
+spice_line (fault.Unbuilt line) = count_line (codes "spice Unbuilt line ") line
+spice_line (fault.Unpaired gate) = count_line (codes "spice Unpaired gate ") gate
+spice_line fault.NoMemory = []
+
+-- the cell's name, its columns and gaps, its width (the columns and the gaps), and each column
+abbrev pub plan_text : List ℕ → List (List ℕ) → List Column → List ℕ
+plan_text name nets row =
+    text_line (codes "cell ") name
+    ++ count_line (codes "columns ") (length row)
+    ++ count_line (codes "gaps ") (gaps_of row)
+    ++ count_line (codes "width ") (length row + gaps_of row)
+    ++ columns_text nets row

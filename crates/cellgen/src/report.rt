@@ -1,0 +1,116 @@
+ghost use Rattle.std.specs.Prelude.{◌≡◌, ◌≤◌, ◌++◌, length, decimal, OnOk, IfOk};
+ghost use Rattle.cellgen.specs.Report.{name_of, place_text, gate_text, column_text, columns_text, count_line, text_line, spice_line, plan_text};
+
+use cell_num::{Name, Names, NetNo, NoMemory};
+use itoa::Buffer;
+use row_model::{Arrangement, Column, Placed, gaps};
+use spice_net::SpiceFault;
+
+fn put_number(out: &mut Name, number: usize) -> Result<(), NoMemory>
+    ensures { OnOk result (out.new ≡ out.old ++ decimal number) }
+{
+    out.extend(Buffer::new().format(number).as_bytes())
+}
+
+fn put_net(out: &mut Name, nets: &Names, net: NetNo) -> Result<(), NoMemory>
+    ensures { OnOk result (out.new ≡ out.old ++ name_of nets.now net) }
+{
+    match nets.get(net.0 as usize) {
+        Some(name) => out.extend(name.as_slice()),
+        None => Ok(()),
+    }
+}
+
+fn put_gate(out: &mut Name, nets: &Names, column: &Column) -> Result<(), NoMemory>
+    ensures { OnOk result (out.new ≡ out.old ++ gate_text nets.now column.now.p column.now.n) }
+{
+    match (&column.p, &column.n) {
+        (Some(placed), _) | (None, Some(placed)) => put_net(out, nets, placed.finger.gate),
+        (None, None) => Ok(()),
+    }
+}
+
+fn put_place(out: &mut Name, nets: &Names, place: &Option<Placed>) -> Result<(), NoMemory>
+    ensures { OnOk result (out.new ≡ out.old ++ place_text nets.now place.now) }
+{
+    let Some(placed) = place else {
+        return out.extend(b"- - 0");
+    };
+    put_net(out, nets, placed.left())?;
+    out.extend(b" ")?;
+    put_net(out, nets, placed.right())?;
+    out.extend(b" ")?;
+    put_number(out, placed.finger.width as usize)
+}
+
+fn put_column(out: &mut Name, nets: &Names, at: usize, column: &Column) -> Result<(), NoMemory>
+    ensures { OnOk result (out.new ≡ out.old ++ column_text nets.now (at, column.now)) }
+{
+    out.extend(b"column ")?;
+    put_number(out, at)?;
+    out.extend(b" gate ")?;
+    put_gate(out, nets, column)?;
+    out.extend(b" p ")?;
+    put_place(out, nets, &column.p)?;
+    out.extend(b" n ")?;
+    put_place(out, nets, &column.n)?;
+    out.extend(b"\n")
+}
+
+fn put_columns(out: &mut Name, nets: &Names, row: &Arrangement) -> Result<(), NoMemory>
+    ensures { OnOk result (out.new ≡ out.old ++ columns_text nets.now row.now) }
+{
+    'columns: for (at, column) in row.as_slice().iter().enumerate() {
+        put_column(out, nets, at, column)?;
+    }
+    Ok(())
+}
+
+/// Adds a line of a word and a count.
+pub fn put_count(out: &mut Name, word: &[u8], count: usize) -> Result<(), NoMemory>
+    ensures { OnOk result (out.new ≡ out.old ++ count_line word.now count) }
+{
+    out.extend(word)?;
+    put_number(out, count)?;
+    out.extend(b"\n")
+}
+
+/// Adds a line of a word and a text.
+pub fn put_text(out: &mut Name, word: &[u8], text: &[u8]) -> Result<(), NoMemory>
+    ensures { OnOk result (out.new ≡ out.old ++ text_line word.now text.now) }
+{
+    out.extend(word)?;
+    out.extend(text)?;
+    out.extend(b"\n")
+}
+
+/// Adds the line of a fault of the SPICE file.
+pub fn put_spice(out: &mut Name, fault: &SpiceFault) -> Result<(), NoMemory>
+    ensures { OnOk result (out.new ≡ out.old ++ spice_line fault.now) }
+{
+    match fault {
+        SpiceFault::NoCell => out.extend(b"spice NoCell\n"),
+        SpiceFault::Unbuilt { line } => put_count(out, b"spice Unbuilt line ", *line as usize),
+        SpiceFault::Unpaired { gate } => put_count(out, b"spice Unpaired gate ", *gate as usize),
+        SpiceFault::NoMemory => Ok(()),
+    }
+}
+
+/// Adds the lines of a planned row.
+pub fn put_plan(
+    out: &mut Name,
+    name: &Name,
+    nets: &Names,
+    row: &Arrangement,
+) -> Result<(), NoMemory>
+    requires { length row.now ≤ 64 }
+    ensures { OnOk result (out.new ≡ out.old ++ plan_text name.now nets.now row.now) }
+{
+    let columns = row.len();
+    let gaps = gaps(row) as usize;
+    put_text(out, b"cell ", name.as_slice())?;
+    put_count(out, b"columns ", columns)?;
+    put_count(out, b"gaps ", gaps)?;
+    put_count(out, b"width ", columns + gaps)?;
+    put_columns(out, nets, row)
+}

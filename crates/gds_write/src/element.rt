@@ -1,0 +1,94 @@
+// The elements of a structure.
+ghost use Rattle.std.specs.Prelude.{◌≡◌, ◌++◌, OnOk};
+ghost use Rattle.std.specs.Int.{w16, to_be_bytes};
+ghost use Rattle.gds_record.specs.Records.{raw, spelled, spelling};
+ghost use Rattle.gds_record.specs.declared.types.RecordType.TheVariants as record_type;
+ghost use Rattle.gds_write.specs.Written.{layer_number, short, point, corners, rectangle_records, label_records, IsWritableShape, IsWritableLabel};
+
+use crate::put::{put, put_header, put_point, put_text};
+use box_geom::{Label, Layer, Rect, Shape};
+use gds_record::RecordType;
+use std::alloc::AllocError;
+
+/// The number of a layer in MOSIS SCMOS.
+pub fn number_of(layer: Layer) -> u16
+    ensures { result ≡ layer_number layer }
+{
+    match layer {
+        Layer::Well => 42,
+        Layer::Active => 43,
+        Layer::PSelect => 44,
+        Layer::NSelect => 45,
+        Layer::Poly => 46,
+        Layer::Contact => 25,
+        Layer::Metal1 => 49,
+        Layer::Via => 50,
+        Layer::Metal2 => 51,
+    }
+}
+
+fn put_layer(out: &mut Vec<u8>, layer: Layer) -> Result<(), AllocError>
+    ensures { OnOk result (out.new.items ≡ out.old.items ++ spelled (raw record_type.Layer (short (layer_number layer)))) }
+{
+    put(out, RecordType::Layer, &number_of(layer).to_be_bytes())?;
+    Ok(())
+}
+
+#[tactic(auto, unfolding(crate::specs::Written::corners))]
+fn put_corners(out: &mut Vec<u8>, shape: &Shape, unit: u32) -> Result<(), AllocError>
+    requires { IsWritableShape unit shape.now }
+    ensures { OnOk result (out.new.items ≡ out.old.items ++ corners unit shape.now.rect) }
+{
+    let rect = &shape.rect;
+    put_point(out, rect.x1, rect.y1, unit)?;
+    put_point(out, rect.x1, rect.y2, unit)?;
+    put_point(out, rect.x2, rect.y2, unit)?;
+    put_point(out, rect.x2, rect.y1, unit)?;
+    put_point(out, rect.x1, rect.y1, unit)?;
+    Ok(())
+}
+
+fn put_boundary_points(out: &mut Vec<u8>, shape: &Shape, unit: u32) -> Result<(), AllocError>
+    requires { IsWritableShape unit shape.now }
+    ensures { OnOk result (out.new.items ≡ out.old.items ++ spelled (raw record_type.Xy (corners unit shape.now.rect))) }
+{
+    put_header(out, RecordType::Xy, 40)?;
+    put_corners(out, shape, unit)?;
+    Ok(())
+}
+
+fn put_label_point(out: &mut Vec<u8>, label: &Label, unit: u32) -> Result<(), AllocError>
+    requires { IsWritableLabel unit label.now }
+    ensures { OnOk result (out.new.items ≡ out.old.items ++ spelled (raw record_type.Xy (point unit label.now.x label.now.y))) }
+{
+    put_header(out, RecordType::Xy, 8)?;
+    put_point(out, label.x, label.y, unit)?;
+    Ok(())
+}
+
+/// A rectangle, as a boundary of five points.
+pub fn put_rectangle(out: &mut Vec<u8>, shape: &Shape, unit: u32) -> Result<(), AllocError>
+    requires { IsWritableShape unit shape.now }
+    ensures { OnOk result (out.new.items ≡ out.old.items ++ spelling (rectangle_records unit shape.now)) }
+{
+    put(out, RecordType::Boundary, &[])?;
+    put_layer(out, shape.layer)?;
+    put(out, RecordType::DataType, &[0, 0])?;
+    put_boundary_points(out, shape, unit)?;
+    put(out, RecordType::EndEl, &[])?;
+    Ok(())
+}
+
+/// A label, as a text.
+pub fn put_label(out: &mut Vec<u8>, label: &Label, unit: u32) -> Result<(), AllocError>
+    requires { IsWritableLabel unit label.now }
+    ensures { OnOk result (out.new.items ≡ out.old.items ++ spelling (label_records unit label.now)) }
+{
+    put(out, RecordType::Text, &[])?;
+    put_layer(out, label.layer)?;
+    put(out, RecordType::TextType, &[0, 0])?;
+    put_label_point(out, label, unit)?;
+    put_text(out, RecordType::StringText, label.name.as_slice())?;
+    put(out, RecordType::EndEl, &[])?;
+    Ok(())
+}

@@ -1,0 +1,39 @@
+use cell_num::{List, NetNo, Row};
+use row_model::Arrangement;
+
+/// What a unit of a row is. Unit `u` has the node lines `2u` and `2u + 2` and the gate line `2u + 1`.
+#[derive(Clone, Copy, Debug, PartialEq, Eq)]
+pub enum UnitKind {
+    Column,
+    Gap,
+}
+
+/// The end of a finger at a node line, or of two fingers that share it.
+#[derive(Clone, Copy, Debug, PartialEq, Eq)]
+pub struct NodePlace {
+    pub row: Row,
+    pub line: u32,
+    pub net: NetNo,
+}
+
+/// The gate of a column at its gate line.
+#[derive(Clone, Copy, Debug, PartialEq, Eq)]
+pub struct GatePlace {
+    pub line: u32,
+    pub net: NetNo,
+}
+
+pub type UnitList = List<UnitKind>;
+
+pub type NodeList = List<NodePlace>;
+
+pub type GateList = List<GatePlace>;
+
+/// A row on its lines. Places stand in order of line, the N place of a line before its P place.
+#[derive(Debug, PartialEq, Drop)]
+pub struct Placement {
+    pub row: Arrangement,
+    pub units: UnitList,
+    pub nodes: NodeList,
+    pub gates: GateList,
+}

@@ -1,0 +1,10 @@
+pub mod CellFacts
+pub mod Counts
+pub mod FormFacts
+pub mod LineFacts
+pub mod NetFacts
+pub mod PinFacts
+pub mod Places
+pub mod Sound
+pub mod ValueFacts
+pub mod WordFacts
