@@ -40,12 +40,11 @@ tells_wider ended answer before after ab cd (inr (inr (inr none))) = inr (inr (i
 
 -- the steps kept what was said, and their end was told
 pub answer_told : (given : Option Files) (form : Option words.Form) (read read' write write' short short' : Type 0) (ended : Result Plan Refusal) (answer : Status) (said before after : Option (List ℕ)) → (read → read') → (write → write') → (short → short') → said ≡ before → IfSome given (λ files. Ends files form read ended) → (ended ≡ Err Words) ↔ IsNone form → IfErr ended (MayRefuse given (words.read_by form) read) → IfOk ended (λ plan. IsArrangement plan.row plan.cell.fingers) → Tells ended write short answer said after → (e : Result Plan Refusal) × MayEnd given form read' e × Tells e write' short' answer before after
-answer_told given form read read' write write' short short' ended answer said before after r w s same told usage unread row tells =
-    (
-      ended,
-      record { told = ends_wider given form ended r told; usage = usage; unread = unread_wider given (words.read_by form) ended r unread; row = row },
-      subst (λ (b : Option (List ℕ)). Tells ended write' short' answer b after) same (tells_wider ended answer said after w s tells)
-    )
+answer_told given form read read' write write' short short' ended answer said before after r w s same told usage unread row tells = (
+  ended,
+  record { told = ends_wider given form ended r told; usage = usage; unread = unread_wider given (words.read_by form) ended r unread; row = row },
+  subst (λ (b : Option (List ℕ)). Tells ended write' short' answer b after) same (tells_wider ended answer said after w s tells),
+)
 
 -- ---- which end each status tells
 

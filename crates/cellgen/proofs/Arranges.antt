@@ -1,22 +1,21 @@
 -- The row in file order is an arrangement of its fingers.
-use Rattle.std.proofs.Common.{ℕ, zero, suc, ◌≡◌, ◌≢◌, ◌+◌, ◌<◌, ◌≤◌, ◌⊎◌, ◌==◌, Bool, true, false, cond, List, [], ◌∷◌, ◌++◌, length, map, max, count_by, sum_by, Option, Some, None, option_map, option_and_then, slice_get, get_or, inl, inr, refl, sym, ap, subst, ◌∙◌, arith, All, IsPermutation}
-use Rattle.std.specs.List.{position, position_or_len, remove, filter_map}
+use Rattle.std.proofs.Common.{ℕ, zero, suc, ◌≡◌, ◌≢◌, ◌+◌, ◌<◌, ◌≤◌, ◌⊎◌, ◌==◌, Bool, true, false, cond, List, [], ◌∷◌, length, map, max, count_by, Option, Some, None, get_or, inl, inr, refl, sym, ap, subst, ◌∙◌, arith, All, IsPermutation}
+use Rattle.std.specs.List.{remove}
 use Rattle.std.proofs.lemmas.Grind.{common_steps}
-use Rattle.std.proofs.lemmas.Bool.{cases_Bool, cases_eq, cases_order, eqb-true, eq-eqb, ne_eqb, cases_lt}
-use Rattle.std.proofs.lemmas.List.Sums.{sum_by-cons, sum_by-remove, fails_before_first}
+use Rattle.std.proofs.lemmas.Bool.{cases_eq, eqb-true, eq-eqb, ne_eqb}
+use Rattle.std.proofs.lemmas.List.Sums.{sum_by-cons, fails_before_first}
 use Rattle.std.proofs.lemmas.Option.{slice_get-get_or}
 use Rattle.std.proofs.lemmas.List.Elements.{All-nil, All-cons, All-head, All-tail, All-weaker}
 use Rattle.std.proofs.lemmas.List.Quantifiers.{position-Some}
-use Rattle.std.proofs.lemmas.List.Sorted.{IsPermutation-refl, IsPermutation-cons, IsPermutation-trans, IsPermutation-remove, All-permutation, sum_by-IsPermutation, length_permutation}
+use Rattle.std.proofs.lemmas.List.Sorted.{IsPermutation-refl, IsPermutation-cons, IsPermutation-trans, IsPermutation-remove, All-permutation, sum_by-IsPermutation}
 use Rattle.cell_num.specs.declared.finger.Row.{Row}
 use Rattle.cell_num.specs.declared.finger.Row.TheVariants.{P, N}
 use Rattle.cell_num.specs.declared.finger.Finger.{Finger}
 use Rattle.cell_num.specs.declared.finger.Fingers.{Fingers}
-use Rattle.cell_num.specs.Fingers.{on_gate, sum_below, columns_of, AreFingers, IsFinger}
-use Rattle.row_model.specs.declared.column.Placed.{Placed}
+use Rattle.cell_num.specs.Fingers.{on_gate, sum_below, AreFingers, IsFinger}
 use Rattle.row_model.specs.declared.column.Column.{Column}
-use Rattle.row_model.specs.Arrangement.{IsArrangement, IsColumn, AreOneColumn, IsPlaced, fingers_in, place}
-use Rattle.cellgen.specs.FileOrder.{is_on, first_place, first_on, without, unflipped, n_alone, pair_of, file_order}
+use Rattle.row_model.specs.Arrangement.{IsArrangement, IsColumn, fingers_in}
+use Rattle.cellgen.specs.FileOrder.{is_on, first_place, first_on, without, n_alone, pair_of, file_order}
 
 on_cons : (gate : ℕ) (f : Finger) (fs : List Finger) → on_gate gate (f ∷ fs) ≡ cond (f.gate.0 == gate) 1 0 + on_gate gate fs
 on_cons gate f fs = sum_by-cons (λ y. cond (y.gate.0 == gate) 1 0) f fs
@@ -46,17 +45,21 @@ taking gate (f ∷ fs) = by (first_place gate (f ∷ fs)) refl
     by : (found : Option ℕ) → first_place gate (f ∷ fs) ≡ found → ((at : ℕ) × (x : Finger) × IsTaken gate (f ∷ fs) at x) ⊎ IsFree gate (f ∷ fs)
     by (Some at) e =
         let there : (at < length (f ∷ fs)) × (is_on gate (get_or (f ∷ fs) at f) ≡ true) × ((k : ℕ) → k < at → is_on gate (get_or (f ∷ fs) k f) ≡ false) = position-Some (is_on gate) (f ∷ fs) at f e in
-        inl (at, get_or (f ∷ fs) at f, record {
-          place = e;
-          first = rw e (slice_get-get_or (f ∷ fs) at f there.0);
-          gate = eqb-true _ _ there.1;
-          left = IsPermutation-remove (f ∷ fs) at (get_or (f ∷ fs) at f) there.0 (grind (arith, common_steps))
-        })
+        inl (
+          at,
+          get_or (f ∷ fs) at f,
+          record {
+            place = e;
+            first = rw e (slice_get-get_or (f ∷ fs) at f there.0);
+            gate = eqb-true _ _ there.1;
+            left = IsPermutation-remove (f ∷ fs) at (get_or (f ∷ fs) at f) there.0 (grind (arith, common_steps));
+          },
+        )
     by None e =
         inr (record {
           place = e;
           first = rw e refl;
-          none = count_none (is_on gate) (f ∷ fs) (λ k d less. fails_before_first (is_on gate) (f ∷ fs) k d (grind (arith, common_steps)))
+          none = count_none (is_on gate) (f ∷ fs) (λ k d less. fails_before_first (is_on gate) (f ∷ fs) k d (grind (arith, common_steps)));
         })
 
 -- ---- the P fingers, and the columns
@@ -176,7 +179,7 @@ arranges f are = record {
   columns = all_columns f.p f.n;
   p = subst (λ ps. IsPermutation f.p ps) (sym (p_in_order f.p f.n)) (IsPermutation-refl f.p);
   n = n_permuted f.p f.n;
-  fewest = fewest_columns f.nets f.p f.n (gates P f.p are.p) (gates N f.n are.n)
+  fewest = fewest_columns f.nets f.p f.n (gates P f.p are.p) (gates N f.n are.n);
 }
   where
     gates : (at : Row) (fs : List Finger) → All (IsFinger at f.nets) fs → All (IsBelow f.nets) fs

@@ -1,5 +1,5 @@
 -- The texts that the program says. Lines end by LF, units are grid units of half a lambda each.
-use Rattle.std.specs.Prelude.{ℕ, ◌+◌, List, [], ◌∷◌, ◌++◌, length, slice_get, unwrap_or, flat_map, codes, decimal, Option, Some, None}
+use Rattle.std.specs.Prelude.{ℕ, ◌+◌, List, [], ◌++◌, length, slice_get, unwrap_or, flat_map, codes, decimal, Option, Some, None}
 use Rattle.std.specs.List.{enumerate_from}
 use Rattle.cell_num.specs.declared.net.NetNo.{NetNo}
 use Rattle.spice_net.specs.declared.plain.SpiceFault.{SpiceFault}

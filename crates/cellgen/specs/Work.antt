@@ -1,5 +1,5 @@
 -- What the steps of a call come to, over the files that a desk tells.
-use Rattle.std.specs.Prelude.{ℕ, ◌≡◌, ◌⊎◌, ◌++◌, nat_le, List, [], ◌∷◌, length, Contains, codes, IsNone, IfSome, IfOk, IfErr, ◌↔◌, Option, Some, None, Result, Ok, Err, if◌then◌else◌}
+use Rattle.std.specs.Prelude.{ℕ, ◌≡◌, ◌⊎◌, ◌++◌, nat_le, List, [], length, Contains, codes, IsNone, IfSome, IfOk, IfErr, ◌↔◌, Option, Some, None, Result, Ok, Err, if◌then◌else◌}
 use Rattle.cell_io.specs.Desk.{Files, Both, AddsSome}
 use Rattle.row_model.specs.Arrangement.{IsArrangement}
 use Rattle.spice_net.specs.declared.plain.PlainCell.{PlainCell}

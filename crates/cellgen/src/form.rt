@@ -43,8 +43,12 @@ pub fn form_of(words: &[String]) -> Option<Form<'_>>
 {
     match words {
         [command, tech, spice, cell]
-            if is_plan(command.as_str(), tech.as_str(), spice.as_str(), cell.as_str()) =>
-        {
+            if is_plan(
+                command.as_str(),
+                tech.as_str(),
+                spice.as_str(),
+                cell.as_str(),
+            ) => {
             Some(Form::Plan {
                 spice: spice.as_str(),
                 cell: cell.as_str(),

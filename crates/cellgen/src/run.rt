@@ -109,7 +109,8 @@ MN y a gnd gnd n W=1.5u L=0.6u
 .ENDS
 ";
 
-    const ROW: &str = "status 0 ok\ncell inv\ncolumns 1\ngaps 0\nwidth 1\ncolumn 0 gate a p y vdd 20 n y gnd 10\n";
+    const ROW: &str =
+        "status 0 ok\ncell inv\ncolumns 1\ngaps 0\nwidth 1\ncolumn 0 gate a p y vdd 20 n y gnd 10\n";
 
     const UNPAIRED: &str = ".SUBCKT inv a y vdd gnd
 MP y a vdd vdd p W=3u L=0.6u
@@ -152,23 +153,43 @@ MN2 y b gnd gnd n W=1.5u L=0.6u
     fn says_what_the_words_ask_for(rt: HostRuntime) -> Result<(), Fail> {
         let alloc = rt.alloc();
         for (words, text, status, said) in [
-            (
-                "plan - c.sp INV",
-                INVERTER,
-                Status::Done,
-                ROW,
-            ),
+            ("plan - c.sp INV", INVERTER, Status::Done, ROW),
             (
                 "plan - c.sp two",
                 TWO,
                 Status::Done,
                 "status 0 ok\ncell two\ncolumns 2\ngaps 1\nwidth 3\ncolumn 0 gate a p x vdd 20 n x gnd 10\ncolumn 1 gate b p y vdd 20 n y gnd 10\n",
             ),
-            ("plan - c.sp inv", UNPAIRED, Status::Input, "status 4 input\nspice Unpaired gate 0\n"),
-            ("plan - c.sp inv", "", Status::Input, "status 4 input\nspice NoCell\n"),
-            ("plan - c.sp e", ".subckt e\n.ends\n", Status::Done, "status 0 ok\ncell e\ncolumns 0\ngaps 0\nwidth 0\n"),
-            ("plan - c.sp e", ".subckt e\nR1\n.ends\n", Status::Input, "status 4 input\nspice Unbuilt line 2\n"),
-            ("plan - d.sp inv", INVERTER, Status::ReadFault, "status 2 read d.sp\n"),
+            (
+                "plan - c.sp inv",
+                UNPAIRED,
+                Status::Input,
+                "status 4 input\nspice Unpaired gate 0\n",
+            ),
+            (
+                "plan - c.sp inv",
+                "",
+                Status::Input,
+                "status 4 input\nspice NoCell\n",
+            ),
+            (
+                "plan - c.sp e",
+                ".subckt e\n.ends\n",
+                Status::Done,
+                "status 0 ok\ncell e\ncolumns 0\ngaps 0\nwidth 0\n",
+            ),
+            (
+                "plan - c.sp e",
+                ".subckt e\nR1\n.ends\n",
+                Status::Input,
+                "status 4 input\nspice Unbuilt line 2\n",
+            ),
+            (
+                "plan - d.sp inv",
+                INVERTER,
+                Status::ReadFault,
+                "status 2 read d.sp\n",
+            ),
             ("", INVERTER, Status::Usage, USAGE),
             ("make", INVERTER, Status::Usage, USAGE),
             ("plan - c.sp a-b", INVERTER, Status::Usage, USAGE),

@@ -40,12 +40,7 @@ fn lower(alloc: Global, text: &str) -> Result<Name, NoMemory>
     }
 }
 
-fn read_input<D: Desk>(
-    alloc: Global,
-    desk: &mut D,
-    name: &str,
-    most: u64,
-) -> Result<Name, Refusal>
+fn read_input<D: Desk>(alloc: Global, desk: &mut D, name: &str, most: u64) -> Result<Name, Refusal>
     ensures size { IfOk result (λ bytes. length bytes ≤ most) }
     ensures file { IfOk result (λ bytes. IfSome (D.given desk.old) (λ files. within name.now most (files name.now) ≡ Ok bytes)) }
     ensures unread { IfErr result (λ e. IfSome (D.given desk.old) (λ files. IsUnread name.now (within name.now most (files name.now)) (Rose (D.read_faults desk.old) (D.read_faults desk.new)) e)) }

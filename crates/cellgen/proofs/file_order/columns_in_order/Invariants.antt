@@ -1,4 +1,4 @@
-use Rattle.std.proofs.Common.{◌≡◌, ◌++◌, map, take, drop}
+use Rattle.std.proofs.Common.{◌≡◌, ◌++◌, map, drop}
 use Rattle.cellgen.specs.FileOrder.{file_order, n_alone}
 use Rattle.cellgen.proofs.file_order.columns_in_order.Given as goal
 

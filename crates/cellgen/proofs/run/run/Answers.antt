@@ -1,4 +1,4 @@
-use Rattle.std.proofs.Common.{◌≡◌, ◌≤◌, ◌∙◌, inl, inr, arith}
+use Rattle.std.proofs.Common.{◌∙◌, inl, inr, arith}
 use Rattle.cell_io.specs.Desk.{Rose}
 use Rattle.cellgen.specs.Words.{texts, form_of, read_by}
 use Rattle.cellgen.proofs.Answering.{rose_wider, answer_told, usage_told, read_told, write_told, memory_told, plan_told}
