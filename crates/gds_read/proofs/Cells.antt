@@ -1,0 +1,35 @@
+-- What is decoded is the cell of a library.
+use Rattle.std.proofs.Common.{ℕ, ◌≡◌, List, [], ◌∷◌, Result, Ok, ap}
+use Rattle.box_geom.specs.declared.shape.Shapes.{Shapes}
+use Rattle.gds_record.specs.Records.{Item, IsBytes}
+use Rattle.gds_read.specs.declared.fault.GdsFault.{GdsFault}
+use Rattle.gds_read.specs.Grammar.{◌>>=◌, first_pass_of}
+use Rattle.gds_read.specs.Structure.{found_in, one_of}
+use Rattle.gds_read.specs.Elements.{elements_of, drawn}
+use Rattle.gds_read.specs.Decoding.{grid_in, decoded, Decodes, IsCell}
+use Rattle.gds_read.proofs.Found.{bind_ok, found, only}
+
+same_records : (x y : List Item) → ◌≡◌ {A = Result (List Item) GdsFault} (Ok x) (Ok y) → x ≡ y
+same_records x y e = cc
+
+one_found : (name : List ℕ) (all : List (List Item)) (records : List Item) → one_of name all ≡ Ok records → all ≡ records ∷ []
+one_found name [] records e = absurd cc
+one_found name (one ∷ []) records e = ap (λ (t : List Item). t ∷ []) (same_records one records e)
+one_found name (one ∷ other ∷ more) records e = absurd cc
+
+pub is_cell : (bytes name : List ℕ) (lambda : ℕ) (shapes : Shapes) → IsBytes bytes → Decodes bytes name lambda shapes → IsCell bytes name lambda shapes
+unfolding decoded
+is_cell bytes name lambda shapes fits e =
+    let a = bind_ok (first_pass_of bytes) (λ end. one_of name (found_in bytes name) >>= λ records. drawn (grid_in bytes lambda) (elements_of records)) shapes e in
+    let b = bind_ok (one_of name (found_in bytes name)) (λ records. drawn (grid_in bytes lambda) (elements_of records)) shapes a.2 in
+    record {
+      end = a.0;
+      records = b.0;
+      library = found bytes a.0 fits a.1;
+      one = one_found name (found_in bytes name) b.0 b.1;
+      draws = b.2;
+    }
+
+pub cell_is : (bytes name : List ℕ) (lambda : ℕ) (shapes : Shapes) → IsCell bytes name lambda shapes → Decodes bytes name lambda shapes
+unfolding decoded
+cell_is bytes name lambda shapes c = rw (only bytes c.end c.library, c.one) c.draws

@@ -1,0 +1,29 @@
+-- A whole number of grid units is read back as that number.
+use Rattle.std.proofs.Common.{ℕ, suc, ◌≡◌, ◌+◌, ◌-◌, ◌*◌, ◌/◌, ◌%◌, ◌<◌, ◌≤◌, ℤ, pos, negsuc, neg_ℤ, ◌*ℤ◌, ◌≤ℤ◌, ◌<ℤ◌, refl, sym, ap, subst, ◌∙◌, arith}
+use Rattle.std.specs.Int.{int_div_euclid, int_rem_euclid}
+use Rattle.std.proofs.lemmas.Nat.{div-mul-add}
+use Rattle.std.proofs.Math.Nat.{mul-mod_left, mul-div_cancel, mul-add-mod_self_right, mod-eq_of_lt}
+
+-- a number below zero, by one less than its distance
+negative : (n d : ℕ) → 0 < d → neg_ℤ (pos (suc n * d)) ≡ negsuc (n * d + (d - 1))
+negative n d some = let e : suc n * d ≡ suc (n * d + (d - 1)) = omega (arith, some) in ap (λ (m : ℕ). neg_ℤ (pos m)) e
+
+pub scaled_exact : (z : ℤ) (u : ℕ) → 0 < u → (z *ℤ pos u) *ℤ pos 1000 ≡ z *ℤ pos (500 * (2 * u))
+scaled_exact (pos n) u some = let e : n * u * 1000 ≡ n * (500 * (2 * u)) = omega arith in ap (λ (m : ℕ). pos m) e
+scaled_exact (negsuc n) u some =
+    let e : suc (n * u + (u - 1)) * 1000 ≡ suc n * (500 * (2 * u)) = omega (arith, some) in
+    ap (λ (z : ℤ). z *ℤ pos 1000) (negative n u some) ∙ ap (λ (m : ℕ). neg_ℤ (pos m)) e
+
+last_of : (n d : ℕ) → 0 < d → (n * d + (d - 1)) % d ≡ d - 1
+last_of n d some = mul-add-mod_self_right n d (d - 1) ∙ (let less : d - 1 < d = omega (arith, some) in mod-eq_of_lt less)
+
+pub exact_rem : (z : ℤ) (d : ℕ) → 0 < d → int_rem_euclid (z *ℤ pos d) (pos d) ≡ pos 0
+exact_rem (pos n) d some = ap (λ (m : ℕ). pos m) (mul-mod_left n d)
+exact_rem (negsuc n) d some =
+    let e : d - 1 - (n * d + (d - 1)) % d ≡ 0 = omega (arith, last_of n d some) in
+    ap (λ (z : ℤ). int_rem_euclid z (pos d)) (negative n d some) ∙ ap (λ (m : ℕ). pos m) e
+
+pub exact_div : (z : ℤ) (d : ℕ) → 0 < d → int_div_euclid (z *ℤ pos d) (pos d) ≡ z
+exact_div (pos n) d some = ap (λ (m : ℕ). pos m) (mul-div_cancel n some)
+exact_div (negsuc n) d some =
+    ap (λ (z : ℤ). int_div_euclid z (pos d)) (negative n d some) ∙ ap (λ (m : ℕ). negsuc m) (div-mul-add n d (d - 1) (omega (arith, some)))

@@ -1,0 +1,167 @@
+-- The numbers of a written element are read back: its layer, and its coordinates in grid units.
+use Rattle.std.proofs.Common.{ℕ, suc, ◌≡◌, ◌+◌, ◌-◌, ◌*◌, ◌^◌, ◌<◌, ◌≤◌, ◌==◌, eqb, ltb, Bool, true, false, cond, not, ◌&&◌, ◌||◌, int_lt, List, [], ◌∷◌, ◌++◌, length, take, drop, Option, Some, None, ℤ, pos, negsuc, neg_ℤ, nat_abs, unsigned_abs, ◌*ℤ◌, ◌≤ℤ◌, ◌<ℤ◌, refl, sym, ap, subst, ◌∙◌, arith, mul-le-mul, FitsSigned}
+use Rattle.std.specs.Int.{w32, from_be_bytes, to_be_bytes, cast_signed, cast_unsigned, int_div_euclid, int_rem_euclid}
+use Rattle.std.proofs.lemmas.Bool.{eq-eqb, ne_eqb}
+use Rattle.std.proofs.lemmas.Nat.{from_be_bytes-to_be_bytes_4}
+use Rattle.std.proofs.lemmas.Int.{ints, to_z-of_z, unsigned_abs-mul}
+use Rattle.std.proofs.Math.Facts.{Fits-of_z}
+use Rattle.box_geom.specs.Rectangle.{Rectangle, IsRectangle}
+use Rattle.box_geom.specs.declared.layer.Layer.{Layer}
+use Rattle.box_geom.specs.declared.layer.Layer.TheVariants as layer
+use Rattle.box_geom.specs.declared.shape.Shape.{Shape}
+use Rattle.box_geom.specs.declared.shape.Label.{Label}
+use Rattle.gds_read.specs.declared.units.Grid.{Grid}
+use Rattle.gds_read.specs.declared.units.Ends.{Ends}
+use Rattle.gds_read.specs.declared.element.Point.{Point}
+use Rattle.gds_read.specs.declared.element.Spot.{Spot}
+use Rattle.gds_read.specs.Units.{limited_to_grid, scaled_by, step_of_grid, whole_units_of, floor_units_of, in_order, ends_of}
+use Rattle.gds_read.specs.Elements.{layer_numbered, short_of, word_at, signed_at, point_at, is_upright, is_flat, is_round, are_corners, between, across_of, upward_of, rectangle_of, spot_at, spot_of}
+use Rattle.gds_write.specs.Written.{layer_number, short, long, point, corners, Fits, IsWritableShape, IsWritableLabel}
+use Rattle.gds_write.proofs.Pieces.{point_length, corners_length}
+use Rattle.gds_read.proofs.RoundTripExact.{scaled_exact, exact_rem, exact_div}
+
+pub layer_back : (l : Layer) → layer_numbered (short_of (short (layer_number l))) ≡ Some l
+layer_back layer.Well = refl
+layer_back layer.Active = refl
+layer_back layer.PSelect = refl
+layer_back layer.NSelect = refl
+layer_back layer.Poly = refl
+layer_back layer.Contact = refl
+layer_back layer.Metal1 = refl
+layer_back layer.Via = refl
+layer_back layer.Metal2 = refl
+
+-- ---- four-byte integers
+
+-- the database unit is a nanometre, and a grid unit has so many of them
+abbrev pub grid : ℕ → Grid
+grid unit = record { picometres = 1000; lambda_nm = 2 * unit }
+
+-- its two's complement
+abbrev pub word : ℕ → ℤ → ℕ
+word unit z = cast_unsigned w32 (z *ℤ pos unit)
+
+word_back : (unit : ℕ) (z : ℤ) → Fits unit z → from_be_bytes w32 (to_be_bytes w32 (word unit z)) ≡ word unit z
+word_back unit z fits = from_be_bytes-to_be_bytes_4 (word unit z) (Fits-of_z fits).fits
+
+number_back : (unit : ℕ) (z : ℤ) → Fits unit z → cast_signed w32 (word unit z) ≡ z *ℤ pos unit
+number_back unit z fits = to_z-of_z w32 (z *ℤ pos unit) fits
+
+signed_back : (unit : ℕ) (z : ℤ) → Fits unit z → cast_signed w32 (from_be_bytes w32 (to_be_bytes w32 (word unit z))) ≡ z *ℤ pos unit
+signed_back unit z fits = ap (λ (n : ℕ). cast_signed w32 n) (word_back unit z fits) ∙ number_back unit z fits
+
+some_step : (unit : ℕ) → 0 < unit → 0 < 500 * (2 * unit)
+some_step unit some = omega (arith, some)
+
+div_back : (unit : ℕ) (z : ℤ) → 0 < unit → int_div_euclid (scaled_by (grid unit) (z *ℤ pos unit)) (step_of_grid (grid unit)) ≡ z
+div_back unit z some = ap (λ (y : ℤ). int_div_euclid y (pos (500 * (2 * unit)))) (scaled_exact z unit some) ∙ exact_div z (500 * (2 * unit)) (some_step unit some)
+
+rem_back : (unit : ℕ) (z : ℤ) → 0 < unit → int_rem_euclid (scaled_by (grid unit) (z *ℤ pos unit)) (step_of_grid (grid unit)) ≡ pos 0
+rem_back unit z some = ap (λ (y : ℤ). int_rem_euclid y (pos (500 * (2 * unit)))) (scaled_exact z unit some) ∙ exact_rem z (500 * (2 * unit)) (some_step unit some)
+
+-- a number within the limits of a drawing
+pub record IsLimited (z : ℤ) : Type 0 where
+  pub least : neg_ℤ (pos 1000000000) ≤ℤ z
+  pub most : z ≤ℤ pos 1000000000
+
+limited_back : (z : ℤ) → IsLimited z → limited_to_grid z ≡ Some z
+limited_back z is =
+    let above : int_lt z (neg_ℤ (pos 1000000000)) ≡ false = grind (arith, ints) in
+    let below : int_lt (pos 1000000000) z ≡ false = grind (arith, ints) in
+    rw (above, below) refl
+
+whole_back : (unit : ℕ) (z : ℤ) → 0 < unit → IsLimited z → whole_units_of (grid unit) (z *ℤ pos unit) ≡ Some z
+whole_back unit z some is = rw (rem_back unit z some, div_back unit z some) (limited_back z is)
+
+floor_back : (unit : ℕ) (z : ℤ) → 0 < unit → IsLimited z → floor_units_of (grid unit) (z *ℤ pos unit) ≡ Some z
+floor_back unit z some is = rw (div_back unit z some) (limited_back z is)
+
+-- different numbers have different words
+differ : (unit : ℕ) (a b : ℤ) → 0 < unit → Fits unit a → Fits unit b → a <ℤ b → word unit a ≡ word unit b → ⊥
+differ unit a b some fits_a fits_b less same =
+    let products : a *ℤ pos unit ≡ b *ℤ pos unit = sym (number_back unit a fits_a) ∙ (ap (λ (n : ℕ). cast_signed w32 n) same ∙ number_back unit b fits_b) in
+    let equal : a ≡ b = sym (div_back unit a some) ∙ (ap (λ (y : ℤ). int_div_euclid (scaled_by (grid unit) y) (step_of_grid (grid unit))) products ∙ div_back unit b some) in
+    omega (arith, ints)
+
+-- ---- the corners of a rectangle
+
+round : (x1 y1 x2 y2 : ℕ) → (x1 ≡ x2 → ⊥) → (y1 ≡ y2 → ⊥) → is_round (record { x = x1; y = y1 }) (record { x = x1; y = y2 }) (record { x = x2; y = y2 }) (record { x = x2; y = y1 }) (record { x = x1; y = y1 }) ≡ true
+round x1 y1 x2 y2 wide high = rw (eq-eqb x1 x1 refl, eq-eqb y1 y1 refl, eq-eqb x2 x2 refl, eq-eqb y2 y2 refl, ne_eqb x1 x2 wide, ne_eqb y1 y2 high) refl
+
+-- the points that are read of the corners that are written
+pub record AreRead (unit : ℕ) (r : Rectangle) : Type 0 where
+  pub first : point_at 0 (corners unit r) ≡ record { x = word unit r.x1; y = word unit r.y1 }
+  pub second : point_at 8 (corners unit r) ≡ record { x = word unit r.x1; y = word unit r.y2 }
+  pub third : point_at 16 (corners unit r) ≡ record { x = word unit r.x2; y = word unit r.y2 }
+  pub fourth : point_at 24 (corners unit r) ≡ record { x = word unit r.x2; y = word unit r.y1 }
+  pub last : point_at 32 (corners unit r) ≡ record { x = word unit r.x1; y = word unit r.y1 }
+
+a_point : (a b x y : ℕ) → a ≡ x → b ≡ y → ◌≡◌ {A = Point} (record { x = a; y = b }) (record { x = x; y = y })
+a_point a b x y e f = rw (e, f) refl
+
+are_read : (unit : ℕ) (s : Shape) → IsWritableShape unit s → AreRead unit s.rect
+unfolding long point corners
+are_read unit s fits =
+    let x1 = word_back unit s.rect.x1 fits.x1 in
+    let y1 = word_back unit s.rect.y1 fits.y1 in
+    let x2 = word_back unit s.rect.x2 fits.x2 in
+    let y2 = word_back unit s.rect.y2 fits.y2 in
+    record { first = a_point _ _ _ _ x1 y1; second = a_point _ _ _ _ x1 y2; third = a_point _ _ _ _ x2 y2; fourth = a_point _ _ _ _ x2 y1; last = a_point _ _ _ _ x1 y1 }
+
+same_round : (a b c d e f g h i j : Point) → a ≡ f → b ≡ g → c ≡ h → d ≡ i → e ≡ j → is_round a b c d e ≡ is_round f g h i j
+same_round a b c d e f g h i j p q r s t = rw (p, q, r, s, t) refl
+
+pub corners_back : (unit : ℕ) (s : Shape) → 0 < unit → IsWritableShape unit s → IsRectangle s.rect → are_corners (corners unit s.rect) ≡ true
+unfolding are_corners
+corners_back unit s some fits is =
+    let r = are_read unit s fits in
+    let wide : word unit s.rect.x1 ≡ word unit s.rect.x2 → ⊥ = differ unit s.rect.x1 s.rect.x2 some fits.x1 fits.x2 is.wide in
+    let high : word unit s.rect.y1 ≡ word unit s.rect.y2 → ⊥ = differ unit s.rect.y1 s.rect.y2 some fits.y1 fits.y2 is.high in
+    rw (corners_length unit s.rect) (same_round _ _ _ _ _ _ _ _ _ _ r.first r.second r.third r.fourth r.last ∙ round (word unit s.rect.x1) (word unit s.rect.y1) (word unit s.rect.x2) (word unit s.rect.y2) wide high)
+
+in_order_back : (a b : ℤ) → a <ℤ b → in_order a b ≡ Some (record { low = a; high = b })
+in_order_back a b less = let e : int_lt a b ≡ true = grind (arith, ints) in rw e refl
+
+ends_back : (unit : ℕ) (a b : ℤ) → 0 < unit → IsLimited a → IsLimited b → a <ℤ b → ends_of (whole_units_of (grid unit) (a *ℤ pos unit)) (whole_units_of (grid unit) (b *ℤ pos unit)) ≡ Some (record { low = a; high = b })
+ends_back unit a b some la lb less = rw (whole_back unit a some la, whole_back unit b some lb) (in_order_back a b less)
+
+across_back : (unit : ℕ) (s : Shape) → 0 < unit → IsWritableShape unit s → IsRectangle s.rect → across_of (grid unit) (corners unit s.rect) ≡ Some (record { low = s.rect.x1; high = s.rect.x2 })
+unfolding across_of long point corners
+across_back unit s some fits is =
+    let low : IsLimited s.rect.x1 = omega (arith, ints) in
+    let high : IsLimited s.rect.x2 = omega (arith, ints) in
+    rw (signed_back unit s.rect.x1 fits.x1, signed_back unit s.rect.x2 fits.x2) (ends_back unit s.rect.x1 s.rect.x2 some low high is.wide)
+
+upward_back : (unit : ℕ) (s : Shape) → 0 < unit → IsWritableShape unit s → IsRectangle s.rect → upward_of (grid unit) (corners unit s.rect) ≡ Some (record { low = s.rect.y1; high = s.rect.y2 })
+unfolding upward_of long point corners
+upward_back unit s some fits is =
+    let low : IsLimited s.rect.y1 = omega (arith, ints) in
+    let high : IsLimited s.rect.y2 = omega (arith, ints) in
+    rw (signed_back unit s.rect.y1 fits.y1, signed_back unit s.rect.y2 fits.y2) (ends_back unit s.rect.y1 s.rect.y2 some low high is.high)
+
+pub rectangle_back : (unit : ℕ) (s : Shape) → 0 < unit → IsWritableShape unit s → IsRectangle s.rect → rectangle_of (grid unit) (corners unit s.rect) ≡ Some s.rect
+unfolding rectangle_of
+rectangle_back unit s some fits is = rw (across_back unit s some fits is, upward_back unit s some fits is) refl
+
+-- ---- the point of a label
+
+-- with ten nanometres or more to a grid unit, four bytes hold no more than the limit
+limited : (unit : ℕ) (z : ℤ) → 10 ≤ unit → Fits unit z → IsLimited z
+limited unit z enough fits =
+    let product : unsigned_abs (z *ℤ pos unit) ≡ unsigned_abs z * unit = unsigned_abs-mul z (pos unit) in
+    let more : unsigned_abs z * 10 ≤ unsigned_abs z * unit = mul-le-mul (let same : unsigned_abs z ≤ unsigned_abs z = omega arith in same) enough in
+    let few : unsigned_abs (z *ℤ pos unit) ≤ 2 ^ 31 = within (z *ℤ pos unit) fits in
+    let small : unsigned_abs z ≤ 1000000000 = omega (arith, product, more, few) in
+    by z small
+  where
+    within : (y : ℤ) → FitsSigned w32 y → unsigned_abs y ≤ 2 ^ 31
+    within y f = omega (arith, ints)
+
+    by : (y : ℤ) → unsigned_abs y ≤ 1000000000 → IsLimited y
+    by y small = omega (arith, ints)
+
+pub spot_back : (unit : ℕ) (l : Label) → 10 ≤ unit → IsWritableLabel unit l → spot_of (grid unit) l.layer (point unit l.x l.y) ≡ Some (record { layer = l.layer; x = l.x; y = l.y })
+unfolding long point
+spot_back unit l enough fits =
+    let some : 0 < unit = omega (arith, enough) in
+    rw (signed_back unit l.x fits.x, signed_back unit l.y fits.y, floor_back unit l.x some (limited unit l.x enough fits.x), floor_back unit l.y some (limited unit l.y enough fits.y)) refl

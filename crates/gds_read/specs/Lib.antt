@@ -1,0 +1,9 @@
+pub mod Decoding
+pub mod Elements
+pub mod Grammar
+pub mod Library
+pub mod Real
+pub mod RoundTrip
+pub mod Structure
+pub mod Units
+pub mod Words

@@ -1,0 +1,57 @@
+ghost use Rattle.std.specs.Prelude.{◌≡◌};
+ghost use Rattle.gds_read.specs.Grammar.{as_fault};
+
+use cell_num::Name;
+use gds_record::RecFault;
+use thiserror::Error;
+
+/// Why the bytes are not read. `at` is a place in the bytes, `code` the type of the record there.
+#[derive(Debug, PartialEq, Eq, Drop, Error)]
+pub enum GdsFault {
+    /// A record is not whole, or the bytes end before the library does.
+    #[error("Cut")]
+    Cut { at: u64 },
+    /// The length of a record or of its data.
+    #[error("Length")]
+    Length { at: u64 },
+    /// A record stands where the grammar has no place for it.
+    #[error("Order")]
+    Order { at: u64, code: u8 },
+    /// A record has another data type than its own, or a path another form than this reader takes.
+    #[error("Kind")]
+    Kind { at: u64, code: u8 },
+    /// The database unit, in picometres, is below 1 or above 1,000,000.
+    #[error("Unit")]
+    Unit { picometres: u64 },
+    /// No structure has the name.
+    #[error("NoCell")]
+    NoCell,
+    /// Two structures have the name.
+    #[error("Twice")]
+    Twice { name: Name },
+    /// Two neighbouring points differ in both coordinates.
+    #[error("Slant")]
+    Slant { at: u64 },
+    /// A coordinate is no whole number of grid units, or too large.
+    #[error("Grid")]
+    Grid { at: u64 },
+    /// The structure refers to another one.
+    #[error("Reference")]
+    Reference { at: u64 },
+    #[error("NoMemory")]
+    NoMemory,
+    /// An element that this reader does not take yet: a path, or a boundary that is no rectangle.
+    #[error("Unbuilt")]
+    Unbuilt { at: u64 },
+}
+
+impl From<RecFault> for GdsFault {
+    ghost from_gives = { λ f e. e ≡ as_fault f };
+
+    fn from(fault: RecFault) -> GdsFault {
+        match fault {
+            RecFault::Cut { at } => GdsFault::Cut { at },
+            RecFault::Length { at } => GdsFault::Length { at },
+        }
+    }
+}

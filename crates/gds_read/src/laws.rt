@@ -1,0 +1,34 @@
+ghost use Rattle.std.specs.Prelude.{◌≡◌, ℕ, List, Ok, Err};
+ghost use Rattle.gds_record.specs.Records.{IsBytes};
+ghost use Rattle.gds_read.specs.declared.fault.GdsFault.{GdsFault};
+ghost use Rattle.gds_read.specs.Grammar.{first_pass_of};
+ghost use Rattle.gds_record.specs.declared.types.RecordType.{RecordType};
+ghost use Rattle.gds_read.specs.declared.grammar.Place.TheVariants.{Start, Ended};
+ghost use Rattle.gds_read.specs.Words.{Accepts, IsLibraryWord, types_of};
+ghost use Rattle.box_geom.specs.declared.shape.Shapes.{Shapes};
+ghost use Rattle.gds_read.specs.Decoding.{Decodes, IsCell};
+ghost use Rattle.gds_read.specs.Library.{IsLibrary, IsFirstFault};
+
+/// The first pass accepts the bytes of a library, and no others, and else answers the first fault. It
+/// does nothing: its contract is the law.
+pub fn accepted_libraries()
+    ensures found { (bytes : List ℕ) (end : ℕ) → IsBytes bytes → first_pass_of bytes ≡ Ok end → IsLibrary bytes end }
+    ensures only { (bytes : List ℕ) (end : ℕ) → IsLibrary bytes end → first_pass_of bytes ≡ Ok end }
+    ensures first_fault { (bytes : List ℕ) (f : GdsFault) → IsBytes bytes → first_pass_of bytes ≡ Err f → IsFirstFault bytes f }
+    ensures only_fault { (bytes : List ℕ) (f : GdsFault) → IsFirstFault bytes f → first_pass_of bytes ≡ Err f }
+{}
+
+/// What a library is decoded to is the cell of the name in it, and only that. It does nothing: its
+/// contract is the law.
+pub fn decoded_cells()
+    ensures cell { (bytes name : List ℕ) (lambda : ℕ) (shapes : Shapes) → IsBytes bytes → Decodes bytes name lambda shapes → IsCell bytes name lambda shapes }
+    ensures decoded { (bytes name : List ℕ) (lambda : ℕ) (shapes : Shapes) → IsCell bytes name lambda shapes → Decodes bytes name lambda shapes }
+{}
+
+/// The table of places accepts the words of the written grammar, and no others; the types of the records
+/// of a library are such a word. It does nothing: its contract is the law.
+pub fn written_grammar()
+    ensures written { (word : List RecordType) → Accepts Start word Ended → IsLibraryWord word }
+    ensures accepted { (word : List RecordType) → IsLibraryWord word → Accepts Start word Ended }
+    ensures libraries { (bytes : List ℕ) (end : ℕ) (l : IsLibrary bytes end) → IsLibraryWord (types_of l.records) }
+{}

@@ -1,0 +1,107 @@
+ghost use Rattle.std.specs.Prelude.{◌≡◌, ◌≤◌, length, IfOk, IfErr};
+ghost use Rattle.gds_record.specs.Records.{items_from};
+ghost use Rattle.gds_read.specs.Elements.{elements_of, drawn, Gives};
+ghost use Rattle.gds_read.specs.Decoding.{unit_in, grid_in, Decodes, IsCell, IsRefused, IsTwiceOf};
+
+use crate::GdsFault;
+use crate::element::{add_record, field_content};
+use crate::pass::first_pass;
+use crate::real::picometres_at_place;
+use crate::structure::{Lookup, find_structure};
+use crate::units::Grid;
+use box_geom::Shapes;
+use cell_num::{List, Name};
+use gds_record::{RecordType, next_record};
+use std::alloc::Global;
+
+fn unit(units: &[u8]) -> u64
+    ensures { result ≡ unit_in units.now }
+{
+    if units.len() != 16 {
+        return 0;
+    }
+    picometres_at_place(units, 8)
+}
+
+fn grid_of(bytes: &[u8], lambda_nm: u32) -> Grid
+    requires { length bytes.now ≤ 1073741824 }
+    ensures { result ≡ grid_in bytes.now lambda_nm }
+{
+    let units = field_content(bytes, 0, RecordType::BgnStr, RecordType::Units);
+    Grid {
+        picometres: unit(units),
+        lambda_nm,
+    }
+}
+
+// What the elements draw that stand behind a place, up to the end of the structure.
+#[tactic(auto, using(gds_record::proofs::Walks::moves, crate::proofs::Drawings::starts, crate::proofs::Drawings::no_more, crate::proofs::Drawings::ends_here, crate::proofs::Drawings::goes_on_with, crate::proofs::Drawings::stops))]
+fn read_elements(alloc: Global, bytes: &[u8], place: u64, grid: &Grid) -> Result<Shapes, GdsFault>
+    requires size { length bytes.now ≤ 1073741824 }
+    requires place { place ≤ length bytes.now }
+    requires grid { 1 ≤ grid.now.lambda_nm }
+    ensures { Gives result (drawn grid.now (elements_of (items_from bytes.now place))) }
+{
+    let mut shapes = Shapes {
+        rects: List::new(alloc),
+        labels: List::new(alloc),
+    };
+    let mut at = place;
+    'records: loop {
+        let Ok(rec) = next_record(bytes, at) else {
+            return Ok(shapes);
+        };
+        if rec.code == RecordType::EndStr.number() {
+            return Ok(shapes);
+        }
+        match add_record(alloc, bytes, &rec, grid, &mut shapes) {
+            Ok(()) => {}
+            Err(fault) => return Err(fault),
+        }
+        at = rec.next;
+    }
+}
+
+// The structure's name stands twice.
+fn twice(name: &Name) -> GdsFault
+    ensures { IsTwiceOf name.now result }
+{
+    match name.clone() {
+        Ok(name) => GdsFault::Twice { name },
+        Err(_) => GdsFault::NoMemory,
+    }
+}
+
+/// The rectangles and labels of the structure that has the name, in grid units of half a lambda. The
+/// whole library is looked at first: the answer is the first fault of its records, then of the name,
+/// then of the structure's elements in order.
+#[tactic(auto, using(crate::proofs::Decoded::refused_first, crate::proofs::Decoded::no_cell, crate::proofs::Decoded::twice_refused, crate::proofs::Decoded::drawn_there, crate::proofs::Decoded::refused_there))]
+pub fn read_cell(
+    alloc: Global,
+    bytes: &[u8],
+    name: &Name,
+    lambda_nm: u32,
+) -> Result<Shapes, GdsFault>
+    requires size { length bytes.now ≤ 1073741824 }
+    requires lambda { 1 ≤ lambda_nm }
+    ensures decodes { IfOk result (λ shapes. Decodes bytes.now name.now lambda_nm shapes) }
+    // the bytes are a library, exactly one structure has the name, and this is what its elements draw
+    ensures cell { IfOk result (λ shapes. IsCell bytes.now name.now lambda_nm shapes) }
+    ensures refused { IfErr result (λ fault. IsRefused bytes.now name.now lambda_nm fault) }
+{
+    match first_pass(bytes) {
+        Ok(_) => {}
+        Err(fault) => return Err(fault),
+    }
+    match find_structure(bytes, name.as_slice()) {
+        Lookup::NoCell => Err(GdsFault::NoCell),
+        Lookup::Twice => Err(twice(name)),
+        Lookup::At { place } => {
+            let grid = grid_of(bytes, lambda_nm);
+            match read_elements(alloc, bytes, place, &grid) {
+                Ok(shapes) => Ok(shapes),
+                Err(fault) => Err(fault),
+            }
+        }
+    }
+}

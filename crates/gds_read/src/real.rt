@@ -1,0 +1,77 @@
+// The eight-byte reals of the format.
+
+ghost use Rattle.std.specs.Prelude.{◌≡◌, ◌≤◌, ◌<◌, ◌+◌, ◌^◌, length};
+ghost use Rattle.gds_read.specs.Real.{nearest, within, picometres_of, picometres_at};
+
+const LIMIT: u64 = 1_000_000_000_000_000_000;
+
+// fraction * 16 ^ exponent / 16 ^ 78, times 10 ^ 12
+#[tactic(auto, using(crate::proofs::Nearest::small, crate::proofs::Nearest::below, crate::proofs::Nearest::above, crate::proofs::Nearest::large))]
+fn scaled(fraction: u64, exponent: u64) -> u64
+    requires fraction { fraction < 2 ^ 56 }
+    requires exponent { exponent < 128 }
+    ensures { result ≡ within (nearest fraction exponent) }
+{
+    let value = u128::from(fraction) * 1_000_000_000_000;
+    if exponent <= 53 {
+        0
+    } else if exponent < 78 {
+        let unit = sixteen_to(78 - exponent);
+        limited((2 * value + unit) / (2 * unit))
+    } else if exponent < 83 {
+        limited(value * sixteen_to(exponent - 78))
+    } else if fraction == 0 {
+        0
+    } else {
+        LIMIT
+    }
+}
+
+#[tactic(auto, using(crate::proofs::Nearest::power_fits, crate::proofs::Nearest::power_pos, crate::proofs::Nearest::power_small))]
+fn sixteen_to(power: u64) -> u128
+    requires { power < 25 }
+    ensures value { result ≡ 16 ^ power }
+    ensures positive { 0 < result }
+    ensures limit { result ≤ 16 ^ 24 }
+    ensures small { power < 5 → result ≤ 16 ^ 4 }
+{
+    16u128.pow(power as u32)
+}
+
+fn limited(value: u128) -> u64
+    ensures { result ≡ within value }
+{
+    if value < 1_000_000_000_000_000_000 {
+        value as u64
+    } else {
+        LIMIT
+    }
+}
+
+/// The picometres of a real of metres.
+pub fn picometres(word: u64) -> u64
+    ensures { result ≡ picometres_of word }
+{
+    if word < 0x8000_0000_0000_0000 {
+        scaled(word % 0x100_0000_0000_0000, word / 0x100_0000_0000_0000)
+    } else {
+        0
+    }
+}
+
+/// The same of the eight bytes at a place.
+pub fn picometres_at_place(bytes: &[u8], at: usize) -> u64
+    requires { at + 8 ≤ length bytes.now }
+    ensures { result ≡ picometres_at bytes.now at }
+{
+    picometres(u64::from_be_bytes([
+        bytes[at],
+        bytes[at + 1],
+        bytes[at + 2],
+        bytes[at + 3],
+        bytes[at + 4],
+        bytes[at + 5],
+        bytes[at + 6],
+        bytes[at + 7],
+    ]))
+}

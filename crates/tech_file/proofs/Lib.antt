@@ -1,0 +1,5 @@
+pub mod Documents
+pub mod Empty
+pub mod Least
+pub mod Limits
+pub mod NameLists

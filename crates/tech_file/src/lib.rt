@@ -1,0 +1,124 @@
+// The technology file: a TOML table of lengths, limits and names.
+#![tactic(auto)]
+
+mod fault;
+mod keys;
+mod models;
+mod names;
+mod number;
+mod rails;
+mod read;
+mod tech;
+mod words;
+
+pub use fault::TechFault;
+pub use read::read_tech;
+pub use tech::Tech;
+
+#[cfg(test)]
+mod tests {
+    use crate::{Tech, TechFault, read_tech};
+    use cell_num::{Name, Names};
+    use std::alloc::{AllocError, Global};
+    use std::test::Fail;
+
+    fn add_names(out: &mut String, names: &Names) -> Result<(), AllocError> {
+        for name in names.as_slice() {
+            out.push_str(" ")?;
+            out.push_str(text_of(name))?;
+        }
+        Ok(())
+    }
+
+    fn text_of(name: &Name) -> &str {
+        str::from_utf8(name.as_slice()).unwrap_or("?")
+    }
+
+    fn fields(alloc: Global, tech: &Tech) -> Result<String, AllocError> {
+        let mut out = format!(in alloc;
+            "{} {} {} {} {} {} P",
+            tech.lambda_nm,
+            tech.wmax_p,
+            tech.wmax_n,
+            tech.budget,
+            text_of(&tech.vdd),
+            text_of(&tech.gnd)
+        )?;
+        add_names(&mut out, &tech.p_models)?;
+        out.push_str(" N")?;
+        add_names(&mut out, &tech.n_models)?;
+        Ok(out)
+    }
+
+    fn told(alloc: Global, text: &str) -> Result<String, AllocError> {
+        let bytes = text.as_bytes();
+        match read_tech(alloc, &bytes[..bytes.len().min(1000)]) {
+            Ok(tech) => fields(alloc, &tech),
+            Err(TechFault::Text) => String::from_str(alloc, "Text"),
+            Err(TechFault::Key { name }) => format!(in alloc; "Key {}", text_of(&name)),
+            Err(TechFault::Form { name }) => format!(in alloc; "Form {}", text_of(&name)),
+            Err(TechFault::Range { name, value }) => {
+                format!(in alloc; "Range {} {value}", text_of(&name))
+            }
+            Err(TechFault::NoMemory) => String::from_str(alloc, "NoMemory"),
+        }
+    }
+
+    const PLAIN: &str = "300 40 40 200000 vdd gnd P p pmos pch N n nmos nch";
+
+    #[test]
+    fn reads_technologies(rt: HostRuntime) -> Result<(), Fail> {
+        for (text, want) in [
+            ("", PLAIN),
+            (
+                "wmax_p = 20",
+                "300 20 40 200000 vdd gnd P p pmos pch N n nmos nch",
+            ),
+            (
+                "lambda_nm = 20\nwmax_p = 12\nwmax_n = 400\nbudget = 1",
+                "20 12 400 1 vdd gnd P p pmos pch N n nmos nch",
+            ),
+            (
+                "lambda_nm = 2000\nwmax_p = 400\nwmax_n = 12\nbudget = 1000000",
+                "2000 400 12 1000000 vdd gnd P p pmos pch N n nmos nch",
+            ),
+            (
+                "n_models = ['N']\ngnd = 'Vss'\nvdd = 'VCC'\np_models = ['PFET', 'pfet']",
+                "300 40 40 200000 vcc vss P pfet pfet N n",
+            ),
+        ] {
+            assert_eq!(rt; told(rt.alloc(), text)?.as_str(), want, "{text}");
+        }
+        let plain = Tech::plain(rt.alloc())?;
+        plain.show_limits();
+        assert_eq!(rt; fields(rt.alloc(), &plain)?.as_str(), PLAIN);
+        Ok(())
+    }
+
+    #[test]
+    fn refuses_the_first_fault(rt: HostRuntime) -> Result<(), Fail> {
+        for (text, want) in [
+            ("lambda_nm", "Text"),
+            ("zz = 1\n'B' = 2\na = 3\nlambda_nm = 301", "Key B"),
+            ("colour = 1", "Key colour"),
+            ("vdd = 5\nlambda_nm = 301", "Range lambda_nm 301"),
+            ("lambda_nm = 18", "Range lambda_nm 18"),
+            ("lambda_nm = 2002", "Range lambda_nm 2002"),
+            ("lambda_nm = -300", "Range lambda_nm -300"),
+            ("lambda_nm = 20.0", "Form lambda_nm"),
+            ("wmax_p = 11", "Range wmax_p 11"),
+            ("wmax_n = 401", "Range wmax_n 401"),
+            ("budget = 0", "Range budget 0"),
+            ("budget = 1000001", "Range budget 1000001"),
+            ("vdd = 5", "Form vdd"),
+            ("vdd = 'a(b'", "Form vdd"),
+            ("vdd = 'gnd'", "Form gnd"),
+            ("p_models = []", "Form p_models"),
+            ("p_models = ['n']", "Form n_models"),
+            ("n_models = ['P']", "Form n_models"),
+        ] {
+            assert_eq!(rt; told(rt.alloc(), text)?.as_str(), want, "{text}");
+        }
+        Ok(())
+    }
+}
