@@ -85,7 +85,9 @@ mod tests {
             (211, 0, Ok(1)),
             (111, 60, Ok(0)),
             (104, 0x2d, Ok(0)),
+            (104, 0x09, Err(GdsFault::Unbuilt { at: 102 })),
             (104, 0x0a, Err(GdsFault::Reference { at: 102 })),
+            (104, 0x0b, Err(GdsFault::Reference { at: 102 })),
             (104, 0x0c, Err(GdsFault::Length { at: 118 })),
             (
                 104,
@@ -134,6 +136,15 @@ mod tests {
         assert!(rt; short == Err(GdsFault::Length { at: 0 }));
         let other = read_cell(alloc, &LIBRARY, &name_of(alloc, b"in")?, 300);
         assert!(rt; other == Err(GdsFault::NoCell));
+        let mut twice = LIBRARY[..208].to_vec(alloc)?;
+        twice.extend_from_slice(&LIBRARY[66..])?;
+        let twice = read_cell(alloc, &twice, &name, 300);
+        assert!(rt;
+            twice
+                == Err(GdsFault::Twice {
+                    name: name_of(alloc, b"inv")?
+                })
+        );
         let finer = read_cell(alloc, &LIBRARY, &name, 280);
         assert!(rt; finer == Err(GdsFault::Grid { at: 118 }));
         Ok(())
