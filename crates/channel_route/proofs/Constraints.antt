@@ -1,0 +1,125 @@
+-- The computed constraints are exactly those of the definition.
+use Rattle.std.proofs.Common.{ℕ, ◌≡◌, ◌≢◌, ◌≤◌, ◌==◌, ◌&&◌, not, Bool, true, false, cond, List, [], ◌∷◌, Some, None, inl, inr, refl, sym, ap, subst, Contains, filter_map, flat_map}
+use Rattle.std.proofs.lemmas.Bool.{cases_Bool, and_parts, and_from, eqb-true, eq-eqb}
+use Rattle.std.proofs.lemmas.List.Elements.{All-contains, Contains-append_left, Contains-append_right, Contains-append_cases}
+use Rattle.cell_num.specs.declared.net.NetNo.{NetNo}
+use Rattle.cell_num.specs.declared.net.Pins.{Pins}
+use Rattle.cell_num.specs.declared.finger.Row.{Row}
+use Rattle.cell_num.specs.declared.finger.Row.TheVariants.{P, N}
+use Rattle.row_model.proofs.Decide.{net_decides}
+use Rattle.row_place.specs.declared.placement.NodePlace.{NodePlace}
+use Rattle.row_place.specs.declared.placement.Placement.{Placement}
+use Rattle.row_place.specs.Trunks.{HasTrunk, IsAbove}
+use Rattle.row_place.proofs.Lists.{some_same, contains_none, contains_cons, contains_here, contains_there, Kept, kept_from, contains_filter_map, all_from_contains}
+use Rattle.channel_route.specs.declared.wire.Wire.{Wire}
+use Rattle.channel_route.specs.declared.constraint.Constraint.{Constraint}
+use Rattle.channel_route.specs.Graph.{IsChannel, has_net}
+use Rattle.channel_route.specs.Wires.{IsWire, AreFound, AreWires, stands_over, is_over, over, constraints_of}
+use Rattle.channel_route.proofs.Pairs.{Some', any_at, test_finds}
+
+pub record From {X Y : Type 0} (f : X → List Y) (xs : List X) (y : Y) : Type 0 where
+  pub it : X
+  pub there : Contains xs it
+  pub gives : Contains (f it) y
+
+flat_from : {X Y : Type 0} (f : X → List Y) (xs : List X) (y : Y) → Contains (flat_map f xs) y → From f xs y
+flat_from f [] y h = absurd (contains_none y h)
+flat_from {X} {Y} f (x ∷ xs) y h =
+    elim (Contains-append_cases (f x) (flat_map f xs) y h) [
+      | inl here ↦ record { it = x; there = contains_here x xs; gives = here }
+      | inr rest ↦ more (flat_from f xs y rest)
+    ]
+  where
+    more : From f xs y → From f (x ∷ xs) y
+    more s = record { it = s.it; there = contains_there x xs s.it s.there; gives = s.gives }
+
+flat_there : {X Y : Type 0} (f : X → List Y) (xs : List X) (x : X) (y : Y) → Contains xs x → Contains (f x) y → Contains (flat_map f xs) y
+flat_there f [] x y there gives = absurd (contains_none x there)
+flat_there f (z ∷ zs) x y there gives =
+    elim (contains_cons z zs x there) [
+      | inl same ↦ Contains-append_left (f z) (flat_map f zs) y (subst (λ w. Contains (f w) y) (sym same) gives)
+      | inr rest ↦ Contains-append_right (f z) (flat_map f zs) y (flat_there f zs x y rest gives)
+    ]
+
+rows_over : (p n : Row) → stands_over p n ≡ true → (p ≡ P) × (n ≡ N)
+rows_over P N e = (refl, refl)
+rows_over P P e = absurd cc
+rows_over N P e = absurd cc
+rows_over N N e = absurd cc
+
+-- a net of a wire has a trunk
+pub wired : (p : Placement) (pins : Pins) (wires : List Wire) (net : NetNo) → AreFound p pins wires → has_net wires net ≡ true → HasTrunk p pins net
+wired p pins wires net found h =
+    let w : Some' (λ (w : Wire). (w.net.0 == net.0) ≡ true) wires = test_finds (λ (w : Wire). w.net.0 == net.0) wires h in
+    let is : IsWire p pins w.it = All-contains (IsWire p pins) wires w.it found.each w.there in
+    subst (λ n. HasTrunk p pins n) ((net_decides w.it.net net).0 w.holds) is.trunk
+
+pub record Parts (wires : List Wire) (p n : NodePlace) : Type 0 where
+  pub p_row : p.row ≡ P
+  pub n_row : n.row ≡ N
+  pub line : p.line ≡ n.line
+  pub differ : p.net ≢ n.net
+  pub upper : has_net wires p.net ≡ true
+  pub lower : has_net wires n.net ≡ true
+
+over_parts : (wires : List Wire) (p n : NodePlace) → is_over wires p n ≡ true → Parts wires p n
+over_parts wires p n e =
+    let a : ((stands_over p.row n.row && (p.line == n.line) && not (p.net.0 == n.net.0) && has_net wires p.net) ≡ true) × (has_net wires n.net ≡ true) = and_parts _ _ e in
+    let b : ((stands_over p.row n.row && (p.line == n.line) && not (p.net.0 == n.net.0)) ≡ true) × (has_net wires p.net ≡ true) = and_parts _ _ a.0 in
+    let d : ((stands_over p.row n.row && (p.line == n.line)) ≡ true) × (not (p.net.0 == n.net.0) ≡ true) = and_parts _ _ b.0 in
+    let f : (stands_over p.row n.row ≡ true) × ((p.line == n.line) ≡ true) = and_parts _ _ d.0 in
+    let rows : (p.row ≡ P) × (n.row ≡ N) = rows_over p.row n.row f.0 in
+    record { p_row = rows.0; n_row = rows.1; line = eqb-true p.line n.line f.1; differ = λ same. other d.1 (eq-eqb p.net.0 n.net.0 (ap (λ (m : NetNo). m.0) same)); upper = b.1; lower = a.1 }
+  where
+    other : not (p.net.0 == n.net.0) ≡ true → (p.net.0 == n.net.0) ≡ true → ⊥
+    other f g = let wrong : not (p.net.0 == n.net.0) ≡ false = rw g refl in cc
+
+over_gives : (wires : List Wire) (p n : NodePlace) (c : Constraint) → over wires p n ≡ Some c → (is_over wires p n ≡ true) × (c ≡ (let d : Constraint = record { upper = p.net; lower = n.net; line = p.line } in d))
+over_gives wires p n c e = go (is_over wires p n) refl e
+  where
+    go : (b : Bool) → is_over wires p n ≡ b → cond b (Some (let d : Constraint = record { upper = p.net; lower = n.net; line = p.line } in d)) None ≡ Some c → (is_over wires p n ≡ true) × (c ≡ (let d : Constraint = record { upper = p.net; lower = n.net; line = p.line } in d))
+    go true is f = (is, sym (some_same _ _ f))
+    go false is f = absurd cc
+
+-- both ways
+pub constraint_is : (p : Placement) (pins : Pins) (wires : List Wire) → AreWires p pins wires → (c : Constraint) → Contains (constraints_of wires p.nodes) c → IsAbove p pins c.upper c.lower c.line
+constraint_is p pins wires w c there =
+    let f : From (λ node. filter_map (over wires node) p.nodes) p.nodes c = flat_from (λ node. filter_map (over wires node) p.nodes) p.nodes c there in
+    let k : Kept (over wires f.it) p.nodes c = kept_from (over wires f.it) p.nodes c f.gives in
+    let g : (is_over wires f.it k.from ≡ true) × (c ≡ (let d : Constraint = record { upper = f.it.net; lower = k.from.net; line = f.it.line } in d)) = over_gives wires f.it k.from c k.gives in
+    let parts : Parts wires f.it k.from = over_parts wires f.it k.from g.0 in
+    subst (λ (d : Constraint). IsAbove p pins d.upper d.lower d.line) (sym g.1) (record {
+      p = subst (λ r. Contains p.nodes (record { row = r; line = f.it.line; net = f.it.net })) parts.p_row f.there;
+      n = subst (λ l. Contains p.nodes (record { row = N; line = l; net = k.from.net })) (sym parts.line) (subst (λ r. Contains p.nodes (record { row = r; line = k.from.line; net = k.from.net })) parts.n_row k.there);
+      differ = parts.differ;
+      upper_trunk = wired p pins wires f.it.net w.found parts.upper;
+      lower_trunk = wired p pins wires k.from.net w.found parts.lower;
+    })
+
+pub constraint_there : (p : Placement) (pins : Pins) (wires : List Wire) → AreWires p pins wires → (upper lower : NetNo) (line : ℕ) → IsAbove p pins upper lower line → Contains (constraints_of wires p.nodes) (record { upper = upper; lower = lower; line = line })
+constraint_there p pins wires w upper lower line h =
+    let top : NodePlace = record { row = P; line = line; net = upper } in
+    let bottom : NodePlace = record { row = N; line = line; net = lower } in
+    let differ : not (upper.0 == lower.0) ≡ true = not_same upper lower h.differ in
+    let is : is_over wires top bottom ≡ true = and_from _ _ (and_from _ _ (and_from _ _ (and_from _ _ refl (eq-eqb line line refl)) differ) (w.all upper h.upper_trunk)) (w.all lower h.lower_trunk) in
+    flat_there (λ node. filter_map (over wires node) p.nodes) p.nodes top (record { upper = upper; lower = lower; line = line }) h.p
+    (contains_filter_map (over wires top) p.nodes bottom (record { upper = upper; lower = lower; line = line }) h.n (rw is refl))
+  where
+    not_same : (a b : NetNo) → a ≢ b → not (a.0 == b.0) ≡ true
+    not_same a b differ =
+        elim (cases_Bool (a.0 == b.0)) [
+          | inl same ↦ absurd (differ ((net_decides a b).0 same))
+          | inr other ↦ rw other refl
+        ]
+
+-- what the fill asks
+pub channel : (p : Placement) (pins : Pins) (wires : List Wire) → AreWires p pins wires → IsChannel wires (constraints_of wires p.nodes)
+channel p pins wires w = record {
+  distinct = w.found.distinct;
+  order = w.order;
+  spans = all_from_contains (λ (x : Wire). x.left ≤ x.right) wires (λ x there. let is : IsWire p pins x = All-contains (IsWire p pins) wires x w.found.each there in All-contains (λ line. line ≤ x.right) _ x.left is.span.none_behind is.span.begins);
+  lower = λ c there. let above : IsAbove p pins c.upper c.lower c.line = constraint_is p pins wires w c there in
+      let found : Some' (λ (x : Wire). (x.net.0 == c.lower.0) ≡ true) wires = test_finds (λ (x : Wire). x.net.0 == c.lower.0) wires (w.all c.lower above.lower_trunk) in
+      any_at (λ (x : Wire). x.net ≡ c.lower) wires found.it found.there ((net_decides found.it.net c.lower).0 found.holds);
+  differ = λ c there. (constraint_is p pins wires w c there).differ;
+}

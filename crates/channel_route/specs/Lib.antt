@@ -1,0 +1,5 @@
+pub mod Cycle
+pub mod Graph
+pub mod Routing
+pub mod Turn
+pub mod Wires

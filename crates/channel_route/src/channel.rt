@@ -1,0 +1,53 @@
+ghost use Rattle.std.specs.Prelude.{IfOk, IfErr, IsPermutation, IsSorted};
+ghost use Rattle.row_place.specs.Places.{IsPlacement};
+ghost use Rattle.row_place.specs.Trunks.{HasPins};
+ghost use Rattle.channel_route.specs.Routing.{IsLegal, IsTight, IsDensity, HasNoAbove};
+ghost use Rattle.channel_route.specs.Cycle.{HasNoCycle, IsCause};
+ghost use Rattle.channel_route.specs.Wires.{trunk_cmp};
+
+use crate::constraint::constraints;
+use crate::cycle::find_cycle;
+use crate::fill::{Filled, fill};
+use crate::wire::wires;
+use crate::{RouteStop, Routing, Trunk};
+use cell_num::{List, Pins};
+use row_place::Placement;
+use std::alloc::Global;
+
+fn sort(trunks: &mut Vec<Trunk>)
+    ensures moved { IsPermutation trunks.old.items trunks.new.items }
+    ensures sorted { IsSorted trunk_cmp trunks.new.items }
+{
+    trunks.sort_unstable();
+}
+
+/// Routes the channel between the rows of a placement, in which each pin other than the rails has a
+/// place. Each trunk stands on the least track that the nets below it and the trunks before it allow.
+/// Cycle comes exactly where no routing is legal.
+pub fn route(alloc: Global, placement: &Placement, pins: &Pins) -> Result<Routing, RouteStop>
+    requires placement { IsPlacement placement.now }
+    requires pins { HasPins placement.now pins.now }
+    ensures legal { IfOk result (IsLegal placement.now pins.now) }
+    ensures tight { IfOk result (IsTight placement.now pins.now) }
+    // where no net stands above another, the tracks are as many as trunks cover one line
+    ensures density { IfOk result (λ routing. HasNoAbove placement.now pins.now → IsDensity routing.trunks routing.tracks) }
+    ensures acyclic { IfOk result (λ routing. HasNoCycle placement.now pins.now) }
+    ensures cause { IfErr result (IsCause placement.now pins.now) }
+{
+    let wires = wires(alloc, placement, pins)?;
+    let constraints = constraints(alloc, &wires, placement.nodes.as_slice())?;
+    match fill(alloc, wires, &constraints)? {
+        Filled::Done(trunks, tracks) => {
+            let mut trunks = trunks;
+            sort(&mut trunks);
+            Ok(Routing {
+                tracks,
+                trunks: List::from_vec(trunks),
+            })
+        }
+        Filled::Stuck(left) => {
+            let cycle = find_cycle(alloc, &left, &constraints)?;
+            Err(RouteStop::Cycle(cycle))
+        }
+    }
+}

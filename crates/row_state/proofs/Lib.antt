@@ -1,0 +1,14 @@
+pub mod ParityCode
+pub mod StateAfter
+pub mod Fewest
+pub mod Calls
+pub mod Exists
+pub mod KindsOf
+pub mod Keys
+pub mod Left
+pub mod Lists
+pub mod Merge
+pub mod Next
+pub mod Numbers
+pub mod Unfold
+pub mod Valid

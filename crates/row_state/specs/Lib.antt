@@ -1,0 +1,10 @@
+pub mod Completion
+pub mod Degrees
+pub mod Gates
+pub mod Law
+pub mod Order
+pub mod Parity
+pub mod Start
+pub mod Steps
+pub mod Tests
+pub mod Trails

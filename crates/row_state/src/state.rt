@@ -1,0 +1,207 @@
+ghost use Rattle.std.specs.Prelude.{◌≡◌, ◌≤◌, ◌<◌, ◌↔◌, ◌||◌, ℕ, IfOk, IfSome, IsTrue, List as Sequence, length, map, max, leb, ltb};
+ghost use Rattle.std.specs.List.{list_all, list_any, zip};
+ghost use Rattle.row_model.specs.declared.column.Column.{Column};
+ghost use Rattle.row_model.specs.Gaps.{gaps_of};
+ghost use Rattle.row_state.specs.declared.kind.Kinds.{Kinds};
+ghost use Rattle.row_state.specs.Completion.{further_gaps};
+ghost use Rattle.row_state.specs.Start.{AreSomeKinds, HasFingers, IsState, KeepsLead, columns_left, counts_of, start_of};
+ghost use Rattle.row_state.specs.Tests.{columns_test, counts_fit, end_fits, gate_left, keeps_lead, leads_below, left_of_kind, state_test};
+
+use crate::{Kind, Kinds};
+use cell_num::{List, NetNo, NoMemory};
+use std::alloc::{AllocError, Global};
+
+pub type Counts = List<u32>;
+
+/// How many fingers of each kind are left, and the open right end of each row.
+#[derive(Clone, Debug, PartialEq, Eq, PartialOrd, Ord, Drop)]
+pub struct State {
+    pub p_left: Counts,
+    pub n_left: Counts,
+    pub p_end: Option<NetNo>,
+    pub n_end: Option<NetNo>,
+}
+
+fn counts(alloc: Global, kinds: &[Kind]) -> Result<Vec<u32>, AllocError>
+    ensures { IfOk result (λ counts. counts.items ≡ counts_of kinds.now) }
+{
+    kinds.iter().map(|kind| kind.count).collect(alloc)
+}
+
+/// The state before the first column: all fingers are left, and no end is open.
+#[tactic(auto, using(crate::proofs::Valid::start_valid, crate::proofs::Unfold::gaps_from_start))]
+pub fn start(alloc: Global, kinds: &Kinds) -> Result<State, NoMemory>
+    requires kinds { AreSomeKinds kinds.now }
+    ensures state { IfOk result (λ s. s ≡ start_of kinds.now) }
+    ensures valid { IfOk result (λ s. IsState kinds.now s) }
+    ensures gaps { IfOk result (λ s. (row : Sequence Column) → further_gaps s row ≡ gaps_of row) }
+{
+    let Ok(p_left) = counts(alloc, kinds.p.as_slice()) else {
+        return Err(NoMemory);
+    };
+    let Ok(n_left) = counts(alloc, kinds.n.as_slice()) else {
+        return Err(NoMemory);
+    };
+    Ok(State {
+        p_left: List::from_vec(p_left),
+        n_left: List::from_vec(n_left),
+        p_end: None,
+        n_end: None,
+    })
+}
+
+fn of_kind(kind: &Kind, count: u32, gate: u32) -> u32
+    ensures { result ≡ left_of_kind gate (kind.now, count) }
+{
+    if kind.gate.0 == gate { count } else { 0 }
+}
+
+// How many fingers are left on the gate.
+#[tactic(auto, using(crate::proofs::Valid::gate_left_step))]
+pub(crate) fn count_left(kinds: &[Kind], left: &[u32], gate: u32) -> u32
+    requires same { length left.now ≡ length kinds.now }
+    requires few { gate_left kinds.now left.now gate ≤ 64 }
+    ensures { result ≡ gate_left kinds.now left.now gate }
+{
+    let mut total = 0;
+    for at in 0..kinds.len() {
+        total += of_kind(&kinds[at], left[at], gate);
+    }
+    total
+}
+
+// How many fingers there are on the gate.
+#[tactic(auto, using(crate::proofs::Valid::gate_all_step))]
+fn count_all(kinds: &[Kind], gate: u32) -> u32
+    requires few { gate_left kinds.now (counts_of kinds.now) gate ≤ 64 }
+    ensures { result ≡ gate_left kinds.now (counts_of kinds.now) gate }
+{
+    let mut total = 0;
+    for at in 0..kinds.len() {
+        total += of_kind(&kinds[at], kinds[at].count, gate);
+    }
+    total
+}
+
+#[tactic(auto, using(crate::proofs::Valid::gates_few))]
+fn columns_on_gate(kinds: &Kinds, gate: u32) -> u32
+    requires { AreSomeKinds kinds.now }
+    ensures value { result ≡ columns_test kinds.now gate }
+    ensures few { result ≤ 64 }
+{
+    let p = count_all(kinds.p.as_slice(), gate);
+    let n = count_all(kinds.n.as_slice(), gate);
+    p.max(n)
+}
+
+/// How many columns the fingers of the kinds need.
+#[tactic(auto, using(crate::proofs::Valid::columns_more, crate::proofs::Valid::columns_are))]
+pub fn columns(kinds: &Kinds) -> u32
+    requires { AreSomeKinds kinds.now }
+    ensures { result ≡ columns_left kinds.now (start_of kinds.now) }
+{
+    let mut total = 0;
+    for gate in 0..kinds.nets {
+        total += columns_on_gate(kinds, gate);
+    }
+    total
+}
+
+fn all_within(kinds: &[Kind], left: &[u32]) -> bool
+    ensures { result ≡ list_all (λ pair. leb pair.1 pair.0.count) (zip kinds.now left.now) }
+{
+    kinds
+        .iter()
+        .zip(left.iter())
+        .all(|pair| *pair.1 <= pair.0.count)
+}
+
+fn fits(kinds: &[Kind], left: &[u32]) -> bool
+    ensures { result ≡ counts_fit kinds.now left.now }
+{
+    left.len() == kinds.len() && all_within(kinds, left)
+}
+
+fn is_net(end: &Option<NetNo>, nets: u32) -> bool
+    ensures { result ≡ end_fits end.now nets }
+{
+    match end {
+        Some(net) => net.0 < nets,
+        None => true,
+    }
+}
+
+// Whether the gate has no more fingers left in the row that began with no more on it.
+#[tactic(auto, using(crate::proofs::Valid::gates_few, crate::proofs::Valid::left_few))]
+fn has_lead(state: &State, kinds: &Kinds, gate: u32) -> bool
+    requires kinds { AreSomeKinds kinds.now }
+    requires p_fits { IsTrue (counts_fit kinds.now.p state.now.p_left) }
+    requires n_fits { IsTrue (counts_fit kinds.now.n state.now.n_left) }
+    ensures { result ≡ keeps_lead kinds.now state.now gate }
+{
+    let p_all = count_all(kinds.p.as_slice(), gate);
+    let n_all = count_all(kinds.n.as_slice(), gate);
+    let p_left = count_left(kinds.p.as_slice(), state.p_left.as_slice(), gate);
+    let n_left = count_left(kinds.n.as_slice(), state.n_left.as_slice(), gate);
+    (p_all < n_all || n_left <= p_left) && (n_all < p_all || p_left <= n_left)
+}
+
+#[tactic(auto, using(crate::proofs::Valid::leads_more))]
+fn has_leads(state: &State, kinds: &Kinds) -> bool
+    requires kinds { AreSomeKinds kinds.now }
+    requires p_fits { IsTrue (counts_fit kinds.now.p state.now.p_left) }
+    requires n_fits { IsTrue (counts_fit kinds.now.n state.now.n_left) }
+    ensures { result ≡ leads_below kinds.now state.now kinds.now.nets }
+{
+    let mut kept = true;
+    for gate in 0..kinds.nets {
+        kept = has_lead(state, kinds, gate) && kept;
+    }
+    kept
+}
+
+fn passes(state: &State, kinds: &Kinds) -> bool
+    requires kinds { AreSomeKinds kinds.now }
+    ensures { result ≡ state_test kinds.now state.now }
+{
+    if !fits(kinds.p.as_slice(), state.p_left.as_slice()) {
+        return false;
+    }
+    if !fits(kinds.n.as_slice(), state.n_left.as_slice()) {
+        return false;
+    }
+    if !has_leads(state, kinds) {
+        return false;
+    }
+    is_net(&state.p_end, kinds.nets) && is_net(&state.n_end, kinds.nets)
+}
+
+/// Whether counts and ends are in range, and each gate has no more fingers left in the row that began
+/// with no more on it.
+#[tactic(auto, using(crate::proofs::Valid::state_decides))]
+pub fn is_state(state: &State, kinds: &Kinds) -> bool
+    requires kinds { AreSomeKinds kinds.now }
+    ensures { IsTrue result ↔ IsState kinds.now state.now }
+{
+    passes(state, kinds)
+}
+
+fn some_left(left: &[u32]) -> bool
+    ensures { result ≡ list_any (λ count. ltb 0 count) left.now }
+{
+    left.iter().any(|count| *count > 0)
+}
+
+fn any_left(state: &State) -> bool
+    ensures { result ≡ (list_any (λ count. ltb 0 count) state.now.p_left || list_any (λ count. ltb 0 count) state.now.n_left) }
+{
+    some_left(state.p_left.as_slice()) || some_left(state.n_left.as_slice())
+}
+
+/// Whether a finger is left.
+#[tactic(auto, using(crate::proofs::Valid::fingers_decide))]
+pub fn has_fingers(state: &State) -> bool
+    ensures { (k : Kinds) → IsState k state.now → (IsTrue result ↔ HasFingers k state.now) }
+{
+    any_left(state)
+}
