@@ -2,6 +2,7 @@ pub mod ParityCode
 pub mod StateAfter
 pub mod Fewest
 pub mod Calls
+pub mod Examples
 pub mod Exists
 pub mod KindsOf
 pub mod Keys
