@@ -4,9 +4,11 @@ pub mod Drawings
 pub mod Faulty
 pub mod Fields
 pub mod Found
+pub mod Layers
 pub mod LibraryWords
 pub mod Nearest
 pub mod Passes
+pub mod Refused
 pub mod RoundTrip
 pub mod RoundTripAccepted
 pub mod RoundTripExact

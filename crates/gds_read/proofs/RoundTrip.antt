@@ -1,11 +1,10 @@
 -- What is written is read back.
-use Rattle.std.proofs.Common.{ℕ, ◌≡◌, ◌*◌, List, Result, Ok, refl, ap, ◌∙◌}
+use Rattle.std.proofs.Common.{ℕ, ◌≡◌, ◌*◌, List, Result, ap, ◌∙◌}
 use Rattle.box_geom.specs.declared.shape.Shapes.{Shapes}
 use Rattle.gds_record.specs.declared.types.RecordType.TheVariants as record_type
 use Rattle.gds_record.specs.Records.{Item, Stream}
 use Rattle.gds_read.specs.declared.fault.GdsFault.{GdsFault}
-use Rattle.gds_read.specs.declared.units.Grid.{Grid}
-use Rattle.gds_read.specs.Grammar.{◌>>=◌, first_pass_of}
+use Rattle.gds_read.specs.Grammar.{◌>>=◌}
 use Rattle.gds_read.specs.Structure.{found_in, one_of}
 use Rattle.gds_read.specs.Elements.{elements_of, until, content_of, drawn}
 use Rattle.gds_read.specs.Decoding.{unit_in, units_of, grid_in, decoded, Decodes}
@@ -13,7 +12,6 @@ use Rattle.gds_read.specs.RoundTrip.{IsReadable}
 use Rattle.gds_read.proofs.RoundTripAccepted.{written_passes}
 use Rattle.gds_read.proofs.RoundTripLocated.{body, written_found}
 use Rattle.gds_read.proofs.RoundTripRedrawn.{shapes_drawn}
-use Rattle.gds_read.proofs.RoundTripWords.{grid}
 use Rattle.gds_write.specs.Written.{written}
 use Rattle.gds_write.proofs.Whole.{written_stream}
 

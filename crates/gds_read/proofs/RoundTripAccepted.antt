@@ -1,5 +1,5 @@
 -- The first pass accepts what is written, up to its end.
-use Rattle.std.proofs.Common.{ℕ, ◌≡◌, ◌+◌, List, [], ◌∷◌, ◌++◌, length, drop, Result, Ok, Err, refl, sym, ap, ◌∙◌, arith}
+use Rattle.std.proofs.Common.{ℕ, ◌≡◌, List, [], ◌∷◌, ◌++◌, length, Ok, refl, ap, ◌∙◌, arith}
 use Rattle.std.specs.List.{All, flat_map}
 use Rattle.std.proofs.Math.Seq.{drop-length}
 use Rattle.box_geom.specs.declared.shape.Shape.{Shape}
@@ -7,9 +7,8 @@ use Rattle.box_geom.specs.declared.shape.Label.{Label}
 use Rattle.box_geom.specs.declared.shape.Shapes.{Shapes}
 use Rattle.gds_record.specs.declared.record.RecFault.{RecFault}
 use Rattle.gds_record.specs.declared.record.RecFault.TheVariants.{Cut}
-use Rattle.gds_record.specs.Records.{Raw, Stream, placed, ends, records_from}
+use Rattle.gds_record.specs.Records.{Raw, Stream, placed, ends}
 use Rattle.gds_record.proofs.Spelled.{ends_at}
-use Rattle.gds_read.specs.declared.fault.GdsFault.{GdsFault}
 use Rattle.gds_read.specs.declared.grammar.Place.TheVariants.{Start, Structure}
 use Rattle.gds_read.specs.Grammar.{pass, zeros_behind, first_pass_of}
 use Rattle.gds_write.specs.Written.{rectangle_records, label_records, tail_records, library_records, written, IsWritableName, IsWritableLabel}

@@ -1,14 +1,14 @@
 -- The one structure of what is written is found by its name, and its unit is a nanometre.
-use Rattle.std.proofs.Common.{ℕ, ◌≡◌, List, [], ◌∷◌, ◌++◌, length, true, Result, Ok, Err, refl, sym, ap, ◌∙◌}
+use Rattle.std.proofs.Common.{ℕ, ◌≡◌, List, [], ◌∷◌, ◌++◌, true, Ok, refl, ap, ◌∙◌}
 use Rattle.std.specs.List.{All, flat_map}
 use Rattle.std.specs.Str.{bytes_eq}
 use Rattle.std.proofs.lemmas.Slice.Eq.{bytes_eq-Decides}
 use Rattle.box_geom.specs.declared.shape.Shape.{Shape}
 use Rattle.box_geom.specs.declared.shape.Label.{Label}
 use Rattle.box_geom.specs.declared.shape.Shapes.{Shapes}
-use Rattle.gds_record.specs.Records.{Item, Stream, placed, ends, items_from}
-use Rattle.gds_read.specs.Structure.{trimmed, behind_name, found_in, one_of}
-use Rattle.gds_write.specs.Written.{padded, rectangle_records, label_records, head_records, tail_records, library_records, written, IsWritableName, IsWritableLabel}
+use Rattle.gds_record.specs.Records.{Item, Stream, placed, ends}
+use Rattle.gds_read.specs.Structure.{behind_name, found_in, one_of}
+use Rattle.gds_write.specs.Written.{rectangle_records, label_records, head_records, tail_records, library_records, written, IsWritableName, IsWritableLabel}
 use Rattle.gds_write.proofs.Whole.{written_stream}
 use Rattle.gds_read.specs.RoundTrip.{HasNoZeroEnd}
 use Rattle.gds_read.proofs.RoundTripPadded.{padded_back}

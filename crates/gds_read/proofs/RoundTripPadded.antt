@@ -1,5 +1,5 @@
 -- A text that was filled up to an even length is read back.
-use Rattle.std.proofs.Common.{ℕ, ◌≡◌, ◌%◌, ◌==◌, List, [], ◌∷◌, ◌++◌, length, refl, ap, ◌∙◌, inl, inr}
+use Rattle.std.proofs.Common.{ℕ, ◌≡◌, ◌%◌, List, [], ◌∷◌, ◌++◌, length, refl, ap, ◌∙◌, inl, inr}
 use Rattle.std.proofs.lemmas.Bool.{cases_eq, eq-eqb, ne_eqb}
 use Rattle.gds_read.specs.Structure.{trimmed, or_nothing}
 use Rattle.gds_write.specs.Written.{padded}

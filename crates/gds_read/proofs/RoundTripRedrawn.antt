@@ -1,5 +1,5 @@
 -- The elements of what is written draw the shapes again.
-use Rattle.std.proofs.Common.{ℕ, ◌≡◌, ◌+◌, ◌*◌, ◌<◌, ◌≤◌, List, [], ◌∷◌, ◌++◌, length, drop, Bool, true, if◌then◌else◌, Option, Some, None, Result, Ok, Err, refl, sym, ap, ◌∙◌, arith}
+use Rattle.std.proofs.Common.{ℕ, ◌≡◌, ◌<◌, ◌≤◌, List, [], ◌∷◌, ◌++◌, drop, Bool, true, if◌then◌else◌, Option, Some, Ok, Err, refl, ap, ◌∙◌, arith}
 use Rattle.std.specs.List.{All, flat_map}
 use Rattle.std.proofs.lemmas.List.Elements.{All-head, All-tail}
 use Rattle.box_geom.specs.Rectangle.{Rectangle, IsRectangle}
@@ -9,7 +9,6 @@ use Rattle.box_geom.specs.declared.shape.Label.{Label}
 use Rattle.box_geom.specs.declared.shape.Shapes.{Shapes}
 use Rattle.gds_record.specs.Records.{Item, placed, ends}
 use Rattle.gds_record.specs.declared.types.RecordType.TheVariants as record_type
-use Rattle.gds_read.specs.declared.fault.GdsFault.{GdsFault}
 use Rattle.gds_read.specs.declared.units.Grid.{Grid}
 use Rattle.gds_read.specs.declared.fault.GdsFault.TheVariants as fault
 use Rattle.gds_read.specs.declared.element.Spot.{Spot}
@@ -17,7 +16,6 @@ use Rattle.gds_read.specs.Grammar.{◌>>=◌}
 use Rattle.gds_read.specs.Structure.{trimmed}
 use Rattle.gds_read.specs.Elements.{Element, elements_of, until, drawn, drawn_by, joined, text_on, spot_on, spot_of, with_label, rectangle_on, shape_on, with_shape, are_corners, rectangle_of}
 use Rattle.gds_write.specs.Written.{padded, point, corners, rectangle_records, label_records, tail_records, IsWritableShape, IsWritableLabel}
-use Rattle.gds_write.proofs.Pieces.{point_length}
 use Rattle.gds_read.specs.RoundTrip.{HasNoZeroEnd}
 use Rattle.gds_read.proofs.RoundTripPadded.{padded_back}
 use Rattle.gds_read.proofs.RoundTripWords.{grid, layer_back, corners_back, rectangle_back, spot_back}

@@ -1,5 +1,5 @@
 -- The numbers of a written element are read back: its layer, and its coordinates in grid units.
-use Rattle.std.proofs.Common.{ℕ, suc, ◌≡◌, ◌+◌, ◌-◌, ◌*◌, ◌^◌, ◌<◌, ◌≤◌, ◌==◌, eqb, ltb, Bool, true, false, cond, not, ◌&&◌, ◌||◌, int_lt, List, [], ◌∷◌, ◌++◌, length, take, drop, Option, Some, None, ℤ, pos, negsuc, neg_ℤ, nat_abs, unsigned_abs, ◌*ℤ◌, ◌≤ℤ◌, ◌<ℤ◌, refl, sym, ap, subst, ◌∙◌, arith, mul-le-mul, FitsSigned}
+use Rattle.std.proofs.Common.{ℕ, ◌≡◌, ◌*◌, ◌^◌, ◌<◌, ◌≤◌, true, false, int_lt, Some, ℤ, pos, neg_ℤ, unsigned_abs, ◌*ℤ◌, ◌≤ℤ◌, ◌<ℤ◌, refl, sym, ap, ◌∙◌, arith, mul-le-mul, FitsSigned}
 use Rattle.std.specs.Int.{w32, from_be_bytes, to_be_bytes, cast_signed, cast_unsigned, int_div_euclid, int_rem_euclid}
 use Rattle.std.proofs.lemmas.Bool.{eq-eqb, ne_eqb}
 use Rattle.std.proofs.lemmas.Nat.{from_be_bytes-to_be_bytes_4}
@@ -11,13 +11,11 @@ use Rattle.box_geom.specs.declared.layer.Layer.TheVariants as layer
 use Rattle.box_geom.specs.declared.shape.Shape.{Shape}
 use Rattle.box_geom.specs.declared.shape.Label.{Label}
 use Rattle.gds_read.specs.declared.units.Grid.{Grid}
-use Rattle.gds_read.specs.declared.units.Ends.{Ends}
 use Rattle.gds_read.specs.declared.element.Point.{Point}
-use Rattle.gds_read.specs.declared.element.Spot.{Spot}
 use Rattle.gds_read.specs.Units.{limited_to_grid, scaled_by, step_of_grid, whole_units_of, floor_units_of, in_order, ends_of}
-use Rattle.gds_read.specs.Elements.{layer_numbered, short_of, word_at, signed_at, point_at, is_upright, is_flat, is_round, are_corners, between, across_of, upward_of, rectangle_of, spot_at, spot_of}
+use Rattle.gds_read.specs.Elements.{layer_numbered, short_of, point_at, is_round, are_corners, across_of, upward_of, rectangle_of, spot_of}
 use Rattle.gds_write.specs.Written.{layer_number, short, long, point, corners, Fits, IsWritableShape, IsWritableLabel}
-use Rattle.gds_write.proofs.Pieces.{point_length, corners_length}
+use Rattle.gds_write.proofs.Pieces.{corners_length}
 use Rattle.gds_read.proofs.RoundTripExact.{scaled_exact, exact_rem, exact_div}
 
 pub layer_back : (l : Layer) → layer_numbered (short_of (short (layer_number l))) ≡ Some l

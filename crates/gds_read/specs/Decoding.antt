@@ -1,5 +1,6 @@
 -- What the bytes of a library say of one structure: what its elements draw, or the first fault.
-use Rattle.std.specs.Prelude.{ℕ, ◌≡◌, ◌==◌, List, [], ◌∷◌, length, Result, Ok, Err, if◌then◌else◌}
+use Rattle.std.specs.Prelude.{ℕ, ◌≡◌, ◌==◌, ◌⊎◌, List, [], ◌∷◌, ◌++◌, length, Result, Ok, Err, if◌then◌else◌}
+use Rattle.std.specs.List.{AllByRecursion}
 use Rattle.box_geom.specs.declared.shape.Shapes.{Shapes}
 use Rattle.gds_record.specs.declared.types.RecordType.TheVariants as record_type
 use Rattle.gds_record.specs.Records.{Item, items_from}
@@ -8,9 +9,9 @@ use Rattle.gds_read.specs.declared.fault.GdsFault.TheVariants as fault
 use Rattle.gds_read.specs.declared.units.Grid.{Grid}
 use Rattle.gds_read.specs.Real.{picometres_at}
 use Rattle.gds_read.specs.Grammar.{◌>>=◌, first_pass_of}
-use Rattle.gds_read.specs.Library.{IsLibrary}
+use Rattle.gds_read.specs.Library.{IsLibrary, IsFirstFault}
 use Rattle.gds_read.specs.Structure.{found_in, one_of}
-use Rattle.gds_read.specs.Elements.{until, content_of, elements_of, drawn}
+use Rattle.gds_read.specs.Elements.{Element, until, content_of, elements_of, drawn_by, drawn}
 
 -- the second of the two reals of UNITS
 abbrev pub unit_in : List ℕ → ℕ
@@ -50,6 +51,49 @@ pub record IsCell (bytes name : List ℕ) (lambda : ℕ) (shapes : Shapes) : Typ
   pub library : IsLibrary bytes end
   pub one : found_in bytes name ≡ records ∷ []
   pub draws : drawn (grid_in bytes lambda) (elements_of records) ≡ Ok shapes
+
+-- it is drawn without a fault
+pub record IsDrawn (grid : Grid) (e : Element) : Type 0 where
+  pub shapes : Shapes
+  pub is : drawn_by grid e e.kind ≡ Ok shapes
+
+-- the fault of the first element that has one
+pub record IsFirstFaulty (grid : Grid) (elements : List Element) (f : GdsFault) : Type 0 where
+  pub before : List Element
+  pub faulty : Element
+  pub behind : List Element
+  pub is : elements ≡ before ++ (faulty ∷ behind)
+  pub drawn_before : AllByRecursion (IsDrawn grid) before
+  pub fault : drawn_by grid faulty faulty.kind ≡ Err f
+
+-- the bytes are a library, but no structure has the name
+pub record HasNoCell (bytes name : List ℕ) (f : GdsFault) : Type 0 where
+  pub end : ℕ
+  pub library : IsLibrary bytes end
+  pub none : found_in bytes name ≡ []
+  pub fault : f ≡ fault.NoCell
+
+-- they are a library, but two structures or more have the name
+pub record HasTwice (bytes name : List ℕ) (f : GdsFault) : Type 0 where
+  pub end : ℕ
+  pub first : List Item
+  pub second : List Item
+  pub more : List (List Item)
+  pub library : IsLibrary bytes end
+  pub two : found_in bytes name ≡ first ∷ second ∷ more
+  pub fault : f ≡ fault.Twice name
+
+-- they are a library, exactly one structure has the name, but an element of it is faulty
+pub record HasFaultyElement (bytes name : List ℕ) (lambda : ℕ) (f : GdsFault) : Type 0 where
+  pub end : ℕ
+  pub records : List Item
+  pub library : IsLibrary bytes end
+  pub one : found_in bytes name ≡ records ∷ []
+  pub first : IsFirstFaulty (grid_in bytes lambda) (elements_of records) f
+
+-- why no cell is read
+abbrev pub IsCellFault : List ℕ → List ℕ → ℕ → GdsFault → Type 0
+IsCellFault bytes name lambda f = IsFirstFault bytes f ⊎ (HasNoCell bytes name f ⊎ (HasTwice bytes name f ⊎ HasFaultyElement bytes name lambda f))
 
 abbrev pub IsTwiceOf : List ℕ → GdsFault → Type 0
 IsTwiceOf name fault.NoMemory = Unit {0}

@@ -17,7 +17,8 @@ pub enum GdsFault {
     /// A record stands where the grammar has no place for it.
     #[error("Order")]
     Order { at: u64, code: u8 },
-    /// A record has another data type than its own, or a path another form than this reader takes.
+    /// A record has another data type than its own. It will say as well that a path has a form that is
+    /// not taken, which cannot come yet: each path on a layer of the drawing is `Unbuilt`.
     #[error("Kind")]
     Kind { at: u64, code: u8 },
     /// The database unit, in picometres, is below 1 or above 1,000,000.
@@ -29,7 +30,8 @@ pub enum GdsFault {
     /// Two structures have the name.
     #[error("Twice")]
     Twice { name: Name },
-    /// Two neighbouring points differ in both coordinates.
+    /// Two neighbouring points differ in both coordinates. It cannot come yet: such a boundary or path,
+    /// on a layer of the drawing, is `Unbuilt`.
     #[error("Slant")]
     Slant { at: u64 },
     /// A coordinate is no whole number of grid units, or too large.

@@ -1,13 +1,16 @@
-ghost use Rattle.std.specs.Prelude.{◌≡◌, ℕ, List, Ok, Err};
+ghost use Rattle.std.specs.Prelude.{◌≡◌, ℕ, List, Some, Ok, Err};
 ghost use Rattle.gds_record.specs.Records.{IsBytes};
 ghost use Rattle.gds_read.specs.declared.fault.GdsFault.{GdsFault};
 ghost use Rattle.gds_read.specs.Grammar.{first_pass_of};
 ghost use Rattle.gds_record.specs.declared.types.RecordType.{RecordType};
 ghost use Rattle.gds_read.specs.declared.grammar.Place.TheVariants.{Start, Ended};
 ghost use Rattle.gds_read.specs.Words.{Accepts, IsLibraryWord, types_of};
+ghost use Rattle.box_geom.specs.declared.layer.Layer.{Layer};
 ghost use Rattle.box_geom.specs.declared.shape.Shapes.{Shapes};
-ghost use Rattle.gds_read.specs.Decoding.{Decodes, IsCell};
+ghost use Rattle.gds_read.specs.Decoding.{Decodes, GdsRefused, IsCell, IsCellFault};
 ghost use Rattle.gds_read.specs.Library.{IsLibrary, IsFirstFault};
+ghost use Rattle.gds_read.specs.Elements.{layer_numbered};
+ghost use Rattle.gds_write.specs.Written.{layer_number};
 
 /// The first pass accepts the bytes of a library, and no others, and else answers the first fault. It
 /// does nothing: its contract is the law.
@@ -18,11 +21,15 @@ pub fn accepted_libraries()
     ensures only_fault { (bytes : List ℕ) (f : GdsFault) → IsFirstFault bytes f → first_pass_of bytes ≡ Err f }
 {}
 
-/// What a library is decoded to is the cell of the name in it, and only that. It does nothing: its
+/// What a library is decoded to is the cell of the name in it, and only that. Else the fault is that of
+/// the first record that is not right where it stands; in a library it is that no structure has the name,
+/// or that two have it; and where one has it, that of its first faulty element. It does nothing: its
 /// contract is the law.
 pub fn decoded_cells()
     ensures cell { (bytes name : List ℕ) (lambda : ℕ) (shapes : Shapes) → IsBytes bytes → Decodes bytes name lambda shapes → IsCell bytes name lambda shapes }
     ensures decoded { (bytes name : List ℕ) (lambda : ℕ) (shapes : Shapes) → IsCell bytes name lambda shapes → Decodes bytes name lambda shapes }
+    ensures fault { (bytes name : List ℕ) (lambda : ℕ) (f : GdsFault) → IsBytes bytes → GdsRefused bytes name lambda f → IsCellFault bytes name lambda f }
+    ensures refused { (bytes name : List ℕ) (lambda : ℕ) (f : GdsFault) → IsCellFault bytes name lambda f → GdsRefused bytes name lambda f }
 {}
 
 /// The table of places accepts the words of the written grammar, and no others; the types of the records
@@ -31,4 +38,11 @@ pub fn written_grammar()
     ensures written { (word : List RecordType) → Accepts Start word Ended → IsLibraryWord word }
     ensures accepted { (word : List RecordType) → IsLibraryWord word → Accepts Start word Ended }
     ensures libraries { (bytes : List ℕ) (end : ℕ) (l : IsLibrary bytes end) → IsLibraryWord (types_of l.records) }
+{}
+
+/// The layers are read of the numbers that they are written by, and of no others. It does nothing: its
+/// contract is the law.
+pub fn layer_numbers()
+    ensures written { (l : Layer) → layer_numbered (layer_number l) ≡ Some l }
+    ensures only { (n : ℕ) (l : Layer) → layer_numbered n ≡ Some l → layer_number l ≡ n }
 {}

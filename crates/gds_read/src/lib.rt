@@ -15,7 +15,7 @@ pub mod units;
 mod worked_cell;
 
 pub use fault::GdsFault;
-pub use laws::{accepted_libraries, decoded_cells, written_grammar};
+pub use laws::{accepted_libraries, decoded_cells, layer_numbers, written_grammar};
 pub use read::read_cell;
 pub use round_trip::read_written;
 

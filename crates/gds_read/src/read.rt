@@ -74,7 +74,7 @@ fn twice(name: &Name) -> GdsFault
 
 /// The rectangles and labels of the structure that has the name, in grid units of half a lambda. The
 /// whole library is looked at first: the answer is the first fault of its records, then of the name,
-/// then of the structure's elements in order.
+/// then of the structure's elements in order. At most 1,073,741,824 bytes are taken.
 #[tactic(auto, using(crate::proofs::Decoded::refused_first, crate::proofs::Decoded::no_cell, crate::proofs::Decoded::twice_refused, crate::proofs::Decoded::drawn_there, crate::proofs::Decoded::refused_there))]
 pub fn read_cell(
     alloc: Global,

@@ -24,7 +24,7 @@ pub enum RecFault {
     Length { at: u64 },
 }
 
-/// The record that begins at a place.
+/// The record that begins at a place. At most 1,073,741,824 bytes are taken.
 pub fn next_record(bytes: &[u8], at: u64) -> Result<GdsRec, RecFault>
     requires { length bytes.now ≤ 1073741824 }
     ensures { result ≡ record_at bytes.now at }
