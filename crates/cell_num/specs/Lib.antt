@@ -1,2 +1,3 @@
 pub mod Fingers
 pub mod Length
+pub mod Names

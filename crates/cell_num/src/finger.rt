@@ -8,7 +8,7 @@ pub enum Row {
 }
 
 /// One finger of a transistor. Unflipped it has `lo` on the left, flipped it has `hi` there.
-#[derive(Clone, Copy, Debug, PartialEq, Eq)]
+#[derive(Clone, Copy, Debug, PartialEq, Eq, PartialOrd, Ord)]
 pub struct Finger {
     pub row: Row,
     pub gate: NetNo,

@@ -1,5 +1,5 @@
 ghost use Rattle.std.specs.Prelude.{◌≡◌, ◌≤◌, ◌<◌, ◌↔◌, ◌+ℤ◌, ◌*◌, ◌^◌, ℕ, pos, IfSome, IfNone, IsNone};
-ghost use Rattle.cell_num.specs.Length.{IsNearest, nearest_units, raised, lowered};
+ghost use Rattle.cell_num.specs.Length.{IsNearest, nearest_units, units_up_to, power_above, power_below};
 
 /// A decimal number of metres: `digits * 10^ten`.
 #[derive(Clone, Copy, Debug, PartialEq, Eq)]
@@ -12,7 +12,7 @@ pub struct Fixed {
 pub const MOST_UNITS: u32 = 100_000;
 
 fn power_above(ten: i8) -> u32
-    ensures { result ≡ raised (ten +ℤ pos 12) }
+    ensures { result ≡ power_above (ten +ℤ pos 12) }
 {
     let of_picometres = i32::from(ten) + 12;
     if of_picometres >= 0 {
@@ -23,7 +23,7 @@ fn power_above(ten: i8) -> u32
 }
 
 fn power_below(ten: i8) -> u32
-    ensures { result ≡ lowered (ten +ℤ pos 12) }
+    ensures { result ≡ power_below (ten +ℤ pos 12) }
 {
     let of_picometres = i32::from(ten) + 12;
     if of_picometres >= 0 {
@@ -63,13 +63,14 @@ fn nearest(value: &Fixed, unit_pm: u64) -> Option<u128>
     Some((2 * parts + unit) / (2 * unit))
 }
 
-#[tactic(auto, using(crate::proofs::Nearest::far, crate::proofs::Nearest::not_far))]
+#[tactic(auto, using(crate::proofs::Nearest::far, crate::proofs::Nearest::not_far, crate::proofs::Nearest::is_told, crate::proofs::Nearest::is_beyond, crate::proofs::Nearest::is_above))]
 /// The number of units of `unit_pm` picometres nearest to a length, ties upward; None exactly where
 /// that is above [`MOST_UNITS`].
 pub fn snap(value: &Fixed, unit_pm: u64) -> Option<u32>
     requires some { 0 < unit_pm }
     requires small { unit_pm ≤ 1000000 }
     ensures nearest { IfSome result (IsNearest value.now unit_pm) }
+    ensures number { result ≡ units_up_to MOST_UNITS value.now unit_pm }
     ensures within { IfSome result (λ s. s ≤ MOST_UNITS) }
     ensures above { IsNone result ↔ ((s : ℕ) × IsNearest value.now unit_pm s × (MOST_UNITS < s)) }
 {

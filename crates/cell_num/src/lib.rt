@@ -4,11 +4,13 @@
 pub mod finger;
 pub mod length;
 pub mod list;
+pub mod name;
 pub mod net;
 
 pub use finger::{Finger, Fingers, Row};
 pub use length::{Fixed, MOST_UNITS, snap};
 pub use list::{List, NoMemory};
+pub use name::{MOST_NAME_BYTES, copy, is_name, lower};
 pub use net::{NetNo, Pins};
 
 pub type FingerList = List<Finger>;

@@ -4,7 +4,7 @@ ghost use Rattle.spice_text.specs.Physical.{is_blank, unmarked, unblanked, kind_
 ghost use Rattle.spice_text.specs.Words.{tight, words_of};
 
 use crate::physical::LineKind;
-use cell_num::{List, Name, Names, NoMemory};
+use cell_num::{Name, Names, NoMemory, copy};
 use std::alloc::{AllocError, Global};
 
 fn blank(byte: u8) -> bool
@@ -102,15 +102,6 @@ fn parts(alloc: Global, line: &[u8]) -> Result<Vec<&[u8]>, AllocError>
     ensures { IfOk result (λ v. map (λ w. w.now) v.items ≡ slice_split (λ b. b == 32) line.now) }
 {
     line.split(|b| *b == b' ').collect(alloc)
-}
-
-fn copy(alloc: Global, word: &[u8]) -> Result<Name, NoMemory>
-    ensures { IfOk result (λ w. w ≡ word.now) }
-{
-    match Vec::from_slice(alloc, word) {
-        Ok(items) => Ok(List::from_vec(items)),
-        Err(_) => Err(NoMemory),
-    }
 }
 
 fn not_empty(alloc: Global, line: &[u8]) -> Result<Names, NoMemory>

@@ -15,7 +15,7 @@ use Rattle.tech_file.specs.declared.number.Limits.{Limits}
 use Rattle.tech_file.specs.declared.number.Numbers.{Numbers}
 use Rattle.tech_file.specs.declared.rails.Rails.{Rails}
 use Rattle.tech_file.specs.declared.models.Models.{Models}
-use Rattle.tech_file.specs.Words.{lowered, is_name}
+use Rattle.cell_num.specs.Names.{lowered, is_name}
 use Rattle.tech_file.specs.Technology.{Technology, IsTechnology, IsLowerName, AreModels, plain}
 use Rattle.tech_file.specs.Reading.{◌>>=◌, or_fault, unless, value_at, is_within, within, number_at, lambda_limits, width_limits, budget_limits, name_in, as_name, name_at, with_first, names_in, if_few, models_at, texts, share, numbers_of, rails_of, models_of}
 

@@ -12,7 +12,7 @@ use Rattle.tech_file.specs.declared.number.Limits.{Limits}
 use Rattle.tech_file.specs.declared.number.Numbers.{Numbers}
 use Rattle.tech_file.specs.declared.rails.Rails.{Rails}
 use Rattle.tech_file.specs.declared.models.Models.{Models}
-use Rattle.tech_file.specs.Words.{lowered, is_name}
+use Rattle.cell_num.specs.Names.{lowered, is_name}
 use Rattle.tech_file.specs.Technology.{Technology, plain}
 
 infixl 10 ◌>>=◌

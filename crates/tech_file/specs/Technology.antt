@@ -1,6 +1,6 @@
 -- A technology: lengths, limits, and the names of the rails and of the transistor models.
 use Rattle.std.specs.Prelude.{ℕ, ◌≡◌, ◌≢◌, ◌≤◌, ◌%◌, List, [], ◌∷◌, length, codes, All, Contains, IsTrue}
-use Rattle.tech_file.specs.Words.{lowered, is_name}
+use Rattle.cell_num.specs.Names.{lowered, is_name}
 
 pub record Technology : Type 0 where
   pub lambda_nm : ℕ

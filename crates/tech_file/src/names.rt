@@ -2,8 +2,7 @@ ghost use Rattle.std.specs.Prelude.{◌≡◌, IfOk};
 ghost use Rattle.toml.specs.View.{view};
 ghost use Rattle.tech_file.specs.Reading.{name_in, as_name};
 
-use crate::words::{lower, named};
-use cell_num::{Name, NoMemory};
+use cell_num::{Name, NoMemory, is_name, lower};
 use std::alloc::Global;
 use toml::Value;
 
@@ -12,7 +11,7 @@ pub fn name_in(alloc: Global, text: &str) -> Result<Option<Name>, NoMemory>
     ensures { IfOk result (λ n. n ≡ name_in text.now) }
 {
     let name = lower(alloc, text.as_bytes())?;
-    if named(name.as_slice()) {
+    if is_name(name.as_slice()) {
         Ok(Some(name))
     } else {
         Ok(None)

@@ -7,10 +7,11 @@ use Rattle.std.specs.Char.{to_ascii_lowercase}
 abbrev pub lowered : List ℕ → List ℕ
 lowered text = map to_ascii_lowercase text
 
+-- printable ASCII, but for what other formats read as a mark
 abbrev pub is_name_byte : ℕ → Bool
 is_name_byte b = nat_le 33 b && nat_le b 126 && not (list_any (λ c. c == b) (codes "=;#\"'(),{}\\"))
 
--- the longest name
+-- the bytes of the longest name
 abbrev pub most_bytes : ℕ
 most_bytes = 64
 

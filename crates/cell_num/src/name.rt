@@ -1,0 +1,68 @@
+ghost use Rattle.std.specs.Prelude.{◌≡◌, IfOk};
+ghost use Rattle.std.specs.List.{list_all};
+ghost use Rattle.cell_num.specs.Names.{lowered, is_name_byte, is_name};
+
+use crate::{Name, NoMemory};
+use std::alloc::Global;
+
+/// The bytes of the longest name.
+pub const MOST_NAME_BYTES: usize = 64;
+
+/// A copy of a text.
+pub fn copy(alloc: Global, text: &[u8]) -> Result<Name, NoMemory>
+    ensures { IfOk result (λ n. n ≡ text.now) }
+{
+    match Vec::from_slice(alloc, text) {
+        Ok(bytes) => Ok(Name::from_vec(bytes)),
+        Err(_) => Err(NoMemory),
+    }
+}
+
+/// A copy with its letters in lower case.
+pub fn lower(alloc: Global, text: &[u8]) -> Result<Name, NoMemory>
+    ensures { IfOk result (λ n. n ≡ lowered text.now) }
+{
+    match text
+        .iter()
+        .map(|b| b.to_ascii_lowercase())
+        .collect::<Vec<u8>>(alloc)
+    {
+        Ok(bytes) => Ok(Name::from_vec(bytes)),
+        Err(_) => Err(NoMemory),
+    }
+}
+
+fn name_byte(byte: u8) -> bool
+    ensures { result ≡ is_name_byte byte }
+{
+    b'!' <= byte && byte <= b'~' && !b"=;#\"'(),{}\\".contains(&byte)
+}
+
+fn name_bytes(word: &[u8]) -> bool
+    ensures { result ≡ list_all is_name_byte word.now }
+{
+    word.iter().all(|b| name_byte(*b))
+}
+
+/// Whether a word may name a net, a transistor or a model: 1 to [`MOST_NAME_BYTES`] printable bytes,
+/// none of them a blank or one of `=;#"'(),{}\`.
+pub fn is_name(word: &[u8]) -> bool
+    ensures { result ≡ is_name word.now }
+{
+    1 <= word.len() && word.len() <= MOST_NAME_BYTES && name_bytes(word)
+}
+
+#[cfg(test)]
+mod tests {
+    use super::*;
+    use std::test::Fail;
+
+    #[test]
+    fn copies_names(rt: HostRuntime) -> Result<(), Fail> {
+        let name = copy(rt.alloc(), b"Vdd")?;
+        assert_eq!(rt; name.as_slice(), b"Vdd".as_slice());
+        let name = lower(rt.alloc(), b"N1_X$")?;
+        assert_eq!(rt; name.as_slice(), b"n1_x$".as_slice());
+        Ok(())
+    }
+}
