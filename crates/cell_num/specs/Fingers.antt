@@ -3,6 +3,7 @@
 use Rattle.std.specs.Prelude.{ℕ, zero, suc, ◌≡◌, ◌≢◌, ◌+◌, ◌<◌, ◌≤◌, ◌==◌, ◌⊎◌, List, length, count_by, max, All, AllPairs, Any}
 use Rattle.cell_num.specs.declared.net.NetNo.{NetNo}
 use Rattle.cell_num.specs.declared.net.Pins.{Pins}
+use Rattle.cell_num.specs.Pins.{IsRail}
 use Rattle.cell_num.specs.declared.finger.Row.{Row}
 use Rattle.cell_num.specs.declared.finger.Row.TheVariants.{P, N}
 use Rattle.cell_num.specs.declared.finger.Finger.{Finger}
@@ -35,10 +36,6 @@ pub record AreFingers (f : Fingers) : Type 0 where
   pub n : All (IsFinger N f.nets) f.n
   pub few_nets : f.nets ≤ 256
   pub few_columns : columns_of f ≤ 32
-
--- the net is one of the two rails
-abbrev pub IsRail : Pins → NetNo → Type 0
-IsRail pins net = (net ≡ pins.vdd) ⊎ (net ≡ pins.gnd)
 
 -- the finger has the net at its gate or at an end
 abbrev pub Meets : NetNo → Finger → Type 0

@@ -1,11 +1,11 @@
 // The words of the whole workspace: nets, transistor fingers, names, lists and lengths.
 #![tactic(auto)]
 
-pub mod finger;
-pub mod length;
-pub mod list;
-pub mod name;
-pub mod net;
+mod finger;
+mod length;
+mod list;
+mod name;
+mod net;
 
 pub use finger::{Finger, Fingers, Row};
 pub use length::{Fixed, MOST_UNITS, snap};

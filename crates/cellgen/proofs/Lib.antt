@@ -1,2 +1,4 @@
 pub mod Answering
 pub mod Arranges
+pub mod Completing
+pub mod Ending

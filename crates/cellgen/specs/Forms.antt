@@ -1,7 +1,8 @@
 -- The program's form of a call, by its texts.
+use Rattle.std.specs.Prelude.{option_map}
 use Rattle.cellgen.specs.declared.form.Form.{Form}
 use Rattle.cellgen.specs.declared.form.Form.TheVariants as read
 use Rattle.cellgen.specs.Words as words
 
 abbrev pub shown : Form → words.Form
-shown (read.Plan spice cell) = words.Plan spice.now cell.now
+shown (read.Plan tech spice cell) = words.Plan (option_map (λ name. name.now) tech) spice.now cell.now

@@ -1,6 +1,9 @@
+pub mod Faults
 pub mod FileOrder
 pub mod Forms
+pub mod Lines
 pub mod Report
 pub mod Status
+pub mod Steps
 pub mod Words
 pub mod Work

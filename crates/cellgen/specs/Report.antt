@@ -1,12 +1,11 @@
--- The texts that the program says. Lines end by LF, units are grid units of half a lambda each.
+-- The lines of a planned row. Widths are in grid units of half a lambda each.
 use Rattle.std.specs.Prelude.{ℕ, ◌+◌, List, [], ◌++◌, length, slice_get, unwrap_or, flat_map, codes, decimal, Option, Some, None}
 use Rattle.std.specs.List.{enumerate_from}
 use Rattle.cell_num.specs.declared.net.NetNo.{NetNo}
-use Rattle.spice_net.specs.declared.plain.SpiceFault.{SpiceFault}
-use Rattle.spice_net.specs.declared.plain.SpiceFault.TheVariants as fault
 use Rattle.row_model.specs.declared.column.Placed.{Placed}
 use Rattle.row_model.specs.declared.column.Column.{Column}
 use Rattle.row_model.specs.Gaps.{left_net, right_net, gaps_of}
+use Rattle.cellgen.specs.Lines.{text_line, count_line}
 
 -- a net by its name
 abbrev pub name_of : List (List ℕ) → NetNo → List ℕ
@@ -37,21 +36,6 @@ column_text nets numbered =
 
 abbrev pub columns_text : List (List ℕ) → List Column → List ℕ
 columns_text nets row = flat_map (column_text nets) (enumerate_from 0 row)
-
--- a word and a count
-abbrev pub count_line : List ℕ → ℕ → List ℕ
-count_line word count = word ++ decimal count ++ codes "\n"
-
--- a word and a text
-abbrev pub text_line : List ℕ → List ℕ → List ℕ
-text_line word text = word ++ text ++ codes "\n"
-
--- why a SPICE file is refused
-abbrev pub spice_line : SpiceFault → List ℕ
-spice_line fault.NoCell = codes "spice NoCell\n"
-spice_line (fault.Unbuilt line) = count_line (codes "spice Unbuilt line ") line
-spice_line (fault.Unpaired gate) = count_line (codes "spice Unpaired gate ") gate
-spice_line fault.NoMemory = []
 
 -- the cell's name, its columns and gaps, its width (the columns and the gaps), and each column
 abbrev pub plan_text : List ℕ → List (List ℕ) → List Column → List ℕ

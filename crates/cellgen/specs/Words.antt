@@ -1,5 +1,5 @@
 -- The words of a call of the program.
-use Rattle.std.specs.Prelude.{ℕ, ◌==◌, ◌&&◌, ◌||◌, nat_le, Bool, List, [], ◌∷◌, Option, Some, None, length, map, codes, bytes_eq, String, string_bytes, if◌then◌else◌}
+use Rattle.std.specs.Prelude.{ℕ, ◌==◌, ◌&&◌, ◌||◌, nat_le, Bool, List, [], ◌∷◌, ◌++◌, Option, Some, None, length, map, codes, bytes_eq, String, string_bytes, if◌then◌else◌}
 use Rattle.std.specs.List.{list_all}
 use Rattle.std.specs.declared.alloc.Global.{Global}
 
@@ -7,9 +7,9 @@ use Rattle.std.specs.declared.alloc.Global.{Global}
 abbrev pub texts : List (String Global) → List (List ℕ)
 texts words = map string_bytes words
 
--- what a call asks for: `plan - SPICE CELL`
+-- What a call asks for: `plan TECH SPICE CELL`. A technology of None is the plain one.
 pub data Form : Type 0 where
-  Plan : (spice cell : List ℕ) → Form
+  Plan : (tech : Option (List ℕ)) (spice cell : List ℕ) → Form
 
 -- a letter, a digit, `_`, `$` or `?`
 abbrev pub is_cell_byte : ℕ → Bool
@@ -21,14 +21,31 @@ abbrev pub is_cell : List ℕ → Bool
 is_cell name = nat_le 1 (length name) && nat_le (length name) 32 && list_all is_cell_byte name
 
 abbrev pub is_plan : List ℕ → List ℕ → List ℕ → List ℕ → Bool
-is_plan command tech spice cell = bytes_eq command (codes "plan") && bytes_eq tech (codes "-") && nat_le 1 (length spice) && is_cell cell
+is_plan command tech spice cell = bytes_eq command (codes "plan") && nat_le 1 (length tech) && nat_le 1 (length spice) && is_cell cell
+
+-- the technology's file, none for `-`
+abbrev pub tech_of : List ℕ → Option (List ℕ)
+tech_of word = if bytes_eq word (codes "-") then None else Some word
 
 -- the form of some words, None where they have none
 abbrev pub form_of : List (List ℕ) → Option Form
-form_of (command ∷ tech ∷ spice ∷ cell ∷ []) = if is_plan command tech spice cell then Some (Plan spice cell) else None
+form_of (command ∷ tech ∷ spice ∷ cell ∷ []) = if is_plan command tech spice cell then Some (Plan (tech_of tech) spice cell) else None
 form_of _ = None
 
+-- a file to read: what it is read as, and its name
+pub data Source : Type 0 where
+  TechFile : (name : List ℕ) → Source
+  SpiceFile : (name : List ℕ) → Source
+
+abbrev pub file_name : Source → List ℕ
+file_name (TechFile name) = name
+file_name (SpiceFile name) = name
+
+abbrev pub tech_files : Option (List ℕ) → List Source
+tech_files None = []
+tech_files (Some name) = TechFile name ∷ []
+
 -- the files that a form comes to read, in order
-abbrev pub read_by : Option Form → List (List ℕ)
+abbrev pub read_by : Option Form → List Source
 read_by None = []
-read_by (Some (Plan spice cell)) = spice ∷ []
+read_by (Some (Plan tech spice cell)) = tech_files tech ++ SpiceFile spice ∷ []

@@ -1,16 +1,21 @@
 ghost use Rattle.std.specs.Prelude.{◌≡◌, option_map};
 ghost use Rattle.std.specs.List.{list_all};
-ghost use Rattle.cellgen.specs.Words.{texts, is_cell_byte, is_cell, is_plan, form_of};
+ghost use Rattle.cellgen.specs.Words.{texts, is_cell_byte, is_cell, is_plan, tech_of, form_of};
 ghost use Rattle.cellgen.specs.Forms.{shown};
 
 /// What a call of the program asks for.
 #[derive(Clone, Copy)]
 pub enum Form<'a> {
-    Plan { spice: &'a str, cell: &'a str },
+    /// A row in the order of the file. A technology of None is the plain one.
+    Plan {
+        tech: Option<&'a str>,
+        spice: &'a str,
+        cell: &'a str,
+    },
 }
 
 /// The most bytes of a cell's name.
-pub const MOST_CELL_BYTES: usize = 32;
+const MOST_CELL_BYTES: usize = 32;
 
 fn is_cell_byte(byte: u8) -> bool
     ensures { result ≡ is_cell_byte byte }
@@ -34,7 +39,14 @@ fn is_cell(name: &str) -> bool
 fn is_plan(command: &str, tech: &str, spice: &str, cell: &str) -> bool
     ensures { result ≡ is_plan command.now tech.now spice.now cell.now }
 {
-    command == "plan" && tech == "-" && !spice.is_empty() && is_cell(cell)
+    command == "plan" && !tech.is_empty() && !spice.is_empty() && is_cell(cell)
+}
+
+// The technology's file, or None for the plain one.
+fn tech_of(word: &str) -> Option<&str>
+    ensures { option_map (λ name. name.now) result ≡ tech_of word.now }
+{
+    if word == "-" { None } else { Some(word) }
 }
 
 /// The form of the words, or None where they have none of the listed forms.
@@ -50,6 +62,7 @@ pub fn form_of(words: &[String]) -> Option<Form<'_>>
                 cell.as_str(),
             ) => {
             Some(Form::Plan {
+                tech: tech_of(tech.as_str()),
                 spice: spice.as_str(),
                 cell: cell.as_str(),
             })

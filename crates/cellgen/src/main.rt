@@ -1,13 +1,17 @@
 // Makes standard cells from SPICE subcircuits.
 #![tactic(auto)]
 
+mod faults;
 mod file_order;
 mod form;
+mod lines;
 mod plan;
 mod report;
 mod run;
 mod status;
 mod steps;
+#[cfg(test)]
+mod tests;
 
 use cell_io::HostDesk;
 use run::run;

@@ -1,14 +1,16 @@
 ghost use Rattle.std.specs.Prelude.{◌≡◌};
 
-use cell_num::{Name, NoMemory};
+use cell_num::{Fingers, Name, NoMemory};
+use finger_fold::FoldFault;
 use row_model::Arrangement;
-use spice_net::{PlainCell, SpiceFault};
+use spice_net::{SpiceFault, Subckt};
+use tech_file::TechFault;
 
-/// A cell and its row.
+/// A subcircuit, its fingers, and a row of these.
 #[derive(Drop)]
 pub struct Plan {
-    pub name: Name,
-    pub cell: PlainCell,
+    pub cell: Subckt,
+    pub fingers: Fingers,
     pub row: Arrangement,
 }
 
@@ -21,7 +23,9 @@ pub enum Refusal {
     Unread { name: Name },
     /// A file of more bytes than its limit.
     Long { name: Name },
+    Tech(TechFault),
     Spice(SpiceFault),
+    Fold(FoldFault),
     NoMemory,
 }
 
@@ -32,5 +36,44 @@ impl From<NoMemory> for Refusal {
 
     fn from(_: NoMemory) -> Refusal {
         Refusal::NoMemory
+    }
+}
+
+impl From<TechFault> for Refusal {
+    ghost use Rattle.cellgen.specs.Steps.{tech_refusal};
+
+    ghost from_gives = { λ fault e. e ≡ tech_refusal fault };
+
+    fn from(fault: TechFault) -> Refusal {
+        match fault {
+            TechFault::NoMemory => Refusal::NoMemory,
+            fault => Refusal::Tech(fault),
+        }
+    }
+}
+
+impl From<SpiceFault> for Refusal {
+    ghost use Rattle.cellgen.specs.Steps.{spice_refusal};
+
+    ghost from_gives = { λ fault e. e ≡ spice_refusal fault };
+
+    fn from(fault: SpiceFault) -> Refusal {
+        match fault {
+            SpiceFault::NoMemory => Refusal::NoMemory,
+            fault => Refusal::Spice(fault),
+        }
+    }
+}
+
+impl From<FoldFault> for Refusal {
+    ghost use Rattle.cellgen.specs.Steps.{fold_refusal};
+
+    ghost from_gives = { λ fault e. e ≡ fold_refusal fault };
+
+    fn from(fault: FoldFault) -> Refusal {
+        match fault {
+            FoldFault::NoMemory => Refusal::NoMemory,
+            fault => Refusal::Fold(fault),
+        }
     }
 }

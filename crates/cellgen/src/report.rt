@@ -1,16 +1,9 @@
-ghost use Rattle.std.specs.Prelude.{◌≡◌, ◌≤◌, ◌++◌, length, decimal, OnOk, IfOk};
-ghost use Rattle.cellgen.specs.Report.{name_of, place_text, gate_text, column_text, columns_text, count_line, text_line, spice_line, plan_text};
+ghost use Rattle.std.specs.Prelude.{◌≡◌, ◌≤◌, ◌++◌, length, OnOk};
+ghost use Rattle.cellgen.specs.Report.{name_of, place_text, gate_text, column_text, columns_text, plan_text};
 
+use crate::lines::{put_count, put_number, put_text};
 use cell_num::{Name, Names, NetNo, NoMemory};
-use itoa::Buffer;
 use row_model::{Arrangement, Column, Placed, gaps};
-use spice_net::SpiceFault;
-
-fn put_number(out: &mut Name, number: usize) -> Result<(), NoMemory>
-    ensures { OnOk result (out.new ≡ out.old ++ decimal number) }
-{
-    out.extend(Buffer::new().format(number).as_bytes())
-}
 
 fn put_net(out: &mut Name, nets: &Names, net: NetNo) -> Result<(), NoMemory>
     ensures { OnOk result (out.new ≡ out.old ++ name_of nets.now net) }
@@ -40,14 +33,14 @@ fn put_place(out: &mut Name, nets: &Names, place: &Option<Placed>) -> Result<(),
     out.extend(b" ")?;
     put_net(out, nets, placed.right())?;
     out.extend(b" ")?;
-    put_number(out, placed.finger.width as usize)
+    put_number(out, u64::from(placed.finger.width))
 }
 
 fn put_column(out: &mut Name, nets: &Names, at: usize, column: &Column) -> Result<(), NoMemory>
     ensures { OnOk result (out.new ≡ out.old ++ column_text nets.now (at, column.now)) }
 {
     out.extend(b"column ")?;
-    put_number(out, at)?;
+    put_number(out, at as u64)?;
     out.extend(b" gate ")?;
     put_gate(out, nets, column)?;
     out.extend(b" p ")?;
@@ -66,36 +59,6 @@ fn put_columns(out: &mut Name, nets: &Names, row: &Arrangement) -> Result<(), No
     Ok(())
 }
 
-/// Adds a line of a word and a count.
-pub fn put_count(out: &mut Name, word: &[u8], count: usize) -> Result<(), NoMemory>
-    ensures { OnOk result (out.new ≡ out.old ++ count_line word.now count) }
-{
-    out.extend(word)?;
-    put_number(out, count)?;
-    out.extend(b"\n")
-}
-
-/// Adds a line of a word and a text.
-pub fn put_text(out: &mut Name, word: &[u8], text: &[u8]) -> Result<(), NoMemory>
-    ensures { OnOk result (out.new ≡ out.old ++ text_line word.now text.now) }
-{
-    out.extend(word)?;
-    out.extend(text)?;
-    out.extend(b"\n")
-}
-
-/// Adds the line of a fault of the SPICE file.
-pub fn put_spice(out: &mut Name, fault: &SpiceFault) -> Result<(), NoMemory>
-    ensures { OnOk result (out.new ≡ out.old ++ spice_line fault.now) }
-{
-    match fault {
-        SpiceFault::NoCell => out.extend(b"spice NoCell\n"),
-        SpiceFault::Unbuilt { line } => put_count(out, b"spice Unbuilt line ", *line as usize),
-        SpiceFault::Unpaired { gate } => put_count(out, b"spice Unpaired gate ", *gate as usize),
-        SpiceFault::NoMemory => Ok(()),
-    }
-}
-
 /// Adds the lines of a planned row.
 pub fn put_plan(
     out: &mut Name,
@@ -106,8 +69,8 @@ pub fn put_plan(
     requires { length row.now ≤ 64 }
     ensures { OnOk result (out.new ≡ out.old ++ plan_text name.now nets.now row.now) }
 {
-    let columns = row.len();
-    let gaps = gaps(row) as usize;
+    let columns = row.len() as u64;
+    let gaps = u64::from(gaps(row));
     put_text(out, b"cell ", name.as_slice())?;
     put_count(out, b"columns ", columns)?;
     put_count(out, b"gaps ", gaps)?;

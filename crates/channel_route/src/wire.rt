@@ -2,7 +2,7 @@
 
 ghost use Rattle.std.specs.Prelude.{◌≡◌, ◌+◌, ◌≤◌, ◌<◌, ◌⊎◌, ◌↔◌, true, All, Contains, IfOk, OnOk, IfSome, IfNone, IsTrue, IsPermutation, IsSorted, length};
 ghost use Rattle.cell_num.specs.declared.net.NetNo.{NetNo as ANet};
-ghost use Rattle.cell_num.specs.Fingers.{IsRail};
+ghost use Rattle.cell_num.specs.Pins.{IsRail};
 ghost use Rattle.row_place.specs.Places.{IsPlacement};
 ghost use Rattle.row_place.specs.Trunks.{lines_of, HasPins, HasTrunk};
 ghost use Rattle.channel_route.specs.Graph.{has_net};

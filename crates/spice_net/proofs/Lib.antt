@@ -1,10 +1,8 @@
-pub mod CellFacts
-pub mod Counts
-pub mod FormFacts
 pub mod LineFacts
 pub mod NetFacts
+pub mod Parameters
 pub mod PinFacts
 pub mod Places
 pub mod Sound
-pub mod ValueFacts
-pub mod WordFacts
+pub mod SoundLines
+pub mod SoundNets

@@ -3,7 +3,7 @@ use Rattle.std.proofs.Common.{ℕ, ◌≡◌, ◌≢◌, ◌+◌, ◌*◌, ◌<�
 use Rattle.std.specs.Prelude.{AllPairs, bytes_eq, position, Some, None, if◌then◌else◌}
 use Rattle.std.specs.List.{list_any, position_or_len}
 use Rattle.std.proofs.lemmas.Bool.{cases_Bool}
-use Rattle.std.proofs.lemmas.List.{map-append, append-nil, take_more, length-map}
+use Rattle.std.proofs.lemmas.List.{map-append, append-nil, take_more}
 use Rattle.std.proofs.lemmas.List.Elements.{filter-append, filter_passes}
 use Rattle.std.proofs.lemmas.List.Filters.{length-filter_both}
 use Rattle.std.proofs.lemmas.List.Recursion.{is_position_or_len}
@@ -12,13 +12,15 @@ use Rattle.std.proofs.lemmas.List.Kept.{AllPairs-filter, AllPairs-cons}
 use Rattle.std.proofs.lemmas.Map.Views.{any-filter_same}
 use Rattle.std.proofs.lemmas.Slice.Eq.{bytes_eq-Decides}
 use Rattle.std.proofs.lemmas.Grind.{flat_map-append}
+use Rattle.std.proofs.lemmas.List.Sums.{fold-append}
 use Rattle.spice_net.specs.declared.transistor.Transistor.{Transistor}
 use Rattle.spice_net.proofs.Places.{found, missing}
-use Rattle.spice_net.specs.Nets.{distinct, names_of, with_name, number_of, named_nets, nets_of}
+use Rattle.spice_net.specs.Nets.{distinct, number_of, named_nets, nets_of}
+use Rattle.spice_net.specs.Reader.{names_of, with_name, with_names}
 
 -- ---- the keys of a set
 
-any_names : (w : List ℕ) (ks : List (Bor (List ℕ))) → list_any (λ k. bytes_eq w k.now) ks ≡ list_any (bytes_eq w) (names_of ks)
+pub any_names : (w : List ℕ) (ks : List (Bor (List ℕ))) → list_any (λ k. bytes_eq w k.now) ks ≡ list_any (bytes_eq w) (names_of ks)
 any_names w [] = refl
 any_names w (k ∷ ks) = rw (any_names w ks) refl
 
@@ -43,7 +45,7 @@ not_placed name ks e =
     let here : position_or_len (λ (k : Bor (List ℕ)). bytes_eq name k.now) ks ≡ length ks = omega (arith, missing (λ (k : Bor (List ℕ)). bytes_eq name k.now) ks e, prefix_len-le-length (λ (k : Bor (List ℕ)). not (bytes_eq name k.now)) ks) in
     sym here ∙ place_names name ks
 
-next_taken : {X : Type 0} (xs : List X) (i : ℕ) (x : X) → i < length xs → x ≡ get_or xs i x → take (i + 1) xs ≡ take i xs ++ x ∷ []
+pub next_taken : {X : Type 0} (xs : List X) (i : ℕ) (x : X) → i < length xs → x ≡ get_or xs i x → take (i + 1) xs ≡ take i xs ++ x ∷ []
 next_taken {X = X} xs i x lt is = take_more xs i x lt ∙ ap (λ (y : X). take i xs ++ y ∷ []) (sym is)
 
 -- ---- one more name
@@ -91,33 +93,26 @@ distinct_more (name ∷ names) word = elim (cases_Bool (bytes_eq word name)) [
   | inr differ ↦ rw (distinct_more names word) (other name names word differ)
 ]
 
-three_more : (words : List (List ℕ)) (a b c : List ℕ) → with_name (with_name (with_name (distinct words) a) b) c ≡ distinct (words ++ a ∷ b ∷ c ∷ [])
-three_more words a b c =
-    let first : with_name (distinct words) a ≡ distinct (words ++ a ∷ []) = sym (distinct_more words a) in
-    let second : with_name (distinct (words ++ a ∷ [])) b ≡ distinct ((words ++ a ∷ []) ++ b ∷ []) = sym (distinct_more (words ++ a ∷ []) b) in
-    let third : with_name (distinct ((words ++ a ∷ []) ++ b ∷ [])) c ≡ distinct (((words ++ a ∷ []) ++ b ∷ []) ++ c ∷ []) = sym (distinct_more ((words ++ a ∷ []) ++ b ∷ []) c) in
-    let flat : ((words ++ a ∷ []) ++ b ∷ []) ++ c ∷ [] ≡ words ++ a ∷ b ∷ c ∷ [] = append_assoc (words ++ a ∷ []) (b ∷ []) (c ∷ []) ∙ append_assoc words (a ∷ []) (b ∷ c ∷ []) in
-    ap (λ (ns : List (List ℕ)). with_name (with_name ns b) c) first ∙ (ap (λ (ns : List (List ℕ)). with_name ns c) second ∙ (third ∙ ap (λ (ns : List (List ℕ)). distinct ns) flat))
+-- ---- names that come one after the other
 
-pub nets_more : (pins : List (List ℕ)) (ts : List Transistor) (t : Transistor) → with_name (with_name (with_name (nets_of pins ts) t.drain) t.gate) t.source ≡ nets_of pins (ts ++ t ∷ [])
-nets_more pins ts t =
-    let named : named_nets (ts ++ t ∷ []) ≡ named_nets ts ++ t.drain ∷ t.gate ∷ t.source ∷ [] = flat_map-append (λ (t : Transistor). t.drain ∷ t.gate ∷ t.source ∷ []) ts (t ∷ []) in
-    let all : (pins ++ named_nets ts) ++ t.drain ∷ t.gate ∷ t.source ∷ [] ≡ pins ++ named_nets (ts ++ t ∷ []) = append_assoc pins (named_nets ts) (t.drain ∷ t.gate ∷ t.source ∷ []) ∙ ap (λ (ns : List (List ℕ)). pins ++ ns) (sym named) in
-    three_more (pins ++ named_nets ts) t.drain t.gate t.source ∙ ap (λ (ns : List (List ℕ)). distinct ns) all
+pub starts_distinct : distinct [] ≡ []
+starts_distinct = refl
 
--- ---- the next item of a list
+pub one_name_more : (names : List (List ℕ)) (i : ℕ) (name : List ℕ) → i < length names → name ≡ get_or names i name → with_name (distinct (take i names)) name ≡ distinct (take (i + 1) names)
+one_name_more names i name lt is = sym (distinct_more (take i names) name) ∙ ap (λ (ns : List (List ℕ)). distinct ns) (sym (next_taken names i name lt is))
 
-pub distinct_step : (names : List (List ℕ)) (i : ℕ) (name : List ℕ) (old new : List (List ℕ)) → i < length names → name ≡ get_or names i name → old ≡ distinct (take i names) → new ≡ with_name old name → new ≡ distinct (take (i + 1) names)
-distinct_step names i name old new lt is e n =
-    let more : take (i + 1) names ≡ take i names ++ name ∷ [] = next_taken names i name lt is in
-    n ∙ (ap (λ (ns : List (List ℕ)). with_name ns name) e ∙ (sym (distinct_more (take i names) name) ∙ ap (λ (ns : List (List ℕ)). distinct ns) (sym more)))
+pub three_names_more : (names : List (List ℕ)) (ts : List Transistor) (i : ℕ) (t : Transistor) → i < length ts → t ≡ get_or ts i t → with_name (with_name (with_name (with_names names (named_nets (take i ts))) t.drain) t.gate) t.source ≡ with_names names (named_nets (take (i + 1) ts))
+three_names_more names ts i t lt is =
+    rw (next_taken ts i t lt is, flat_map-append (λ (t : Transistor). t.drain ∷ t.gate ∷ t.source ∷ []) (take i ts) (t ∷ []), fold-append with_name names (named_nets (take i ts)) (t.drain ∷ t.gate ∷ t.source ∷ [])) refl
 
-pub nets_step : (pins : List (List ℕ)) (ts : List Transistor) (i : ℕ) (t : Transistor) (old one two new : List (List ℕ)) → i < length ts → t ≡ get_or ts i t → old ≡ nets_of pins (take i ts) → one ≡ with_name old t.drain → two ≡ with_name one t.gate → new ≡ with_name two t.source → new ≡ nets_of pins (take (i + 1) ts)
-nets_step pins ts i t old one two new lt is e a b n =
-    let more : take (i + 1) ts ≡ take i ts ++ t ∷ [] = next_taken ts i t lt is in
-    let first : one ≡ with_name (nets_of pins (take i ts)) t.drain = a ∙ ap (λ (ns : List (List ℕ)). with_name ns t.drain) e in
-    let second : two ≡ with_name (with_name (nets_of pins (take i ts)) t.drain) t.gate = b ∙ ap (λ (ns : List (List ℕ)). with_name ns t.gate) first in
-    n ∙ (ap (λ (ns : List (List ℕ)). with_name ns t.source) second ∙ (nets_more pins (take i ts) t ∙ ap (λ (us : List Transistor). nets_of pins us) (sym more)))
+-- names without repeats, and more behind them
+pub distinct_behind : (names words : List (List ℕ)) → with_names (distinct names) words ≡ distinct (names ++ words)
+distinct_behind names [] = ap (λ (ns : List (List ℕ)). distinct ns) (sym (append-nil names))
+distinct_behind names (word ∷ words) =
+    ap (λ (ns : List (List ℕ)). with_names ns words) (sym (distinct_more names word)) ∙ (distinct_behind (names ++ word ∷ []) words ∙ ap (λ (ns : List (List ℕ)). distinct ns) (append_assoc names (word ∷ []) words))
+
+pub nets_behind : (pins : List (List ℕ)) (ts : List Transistor) → distinct pins ≡ pins → with_names pins (named_nets ts) ≡ nets_of pins ts
+nets_behind pins ts e = ap (λ (ns : List (List ℕ)). with_names ns (named_nets ts)) (sym e) ∙ distinct_behind pins (named_nets ts)
 
 -- ---- what is without repeats
 
@@ -134,9 +129,6 @@ length_named (t ∷ ts) = omega (arith, length_named ts)
 
 pub length_nets : (pins : List (List ℕ)) (ts : List Transistor) → length (nets_of pins ts) ≤ length pins + 3 * length ts
 length_nets pins ts = omega (arith, length_distinct (pins ++ named_nets ts), length-append pins (named_nets ts), length_named ts)
-
-pub few_keys : (pins : List (List ℕ)) (ts : List Transistor) (ks : List (Bor (List ℕ))) → names_of ks ≡ nets_of pins ts → length pins ≤ 64 → length ts ≤ 64 → length ks ≤ 256
-few_keys pins ts ks e few_pins few_ts = omega (arith, length-map ks (λ k. k.now), ap length e, length_nets pins ts, few_pins, few_ts)
 
 all_differ : (words : List (List ℕ)) → AllPairs (λ (a b : List ℕ). a ≢ b) (distinct words)
 all_differ [] = λ i j d lt within. absurd (omega (arith, within))

@@ -1,6 +1,6 @@
-pub mod Lines
+pub mod Chosen
 pub mod Nets
-pub mod Plain
+pub mod Reader
+pub mod Subcircuit
+pub mod Subckts
 pub mod Transistors
-pub mod Values
-pub mod Words

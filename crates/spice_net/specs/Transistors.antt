@@ -1,33 +1,164 @@
--- The transistor that a line in the plain form gives.
-use Rattle.std.specs.Prelude.{ℕ, ◌&&◌, nat_eq, Bool, List, [], ◌∷◌, codes, bytes_eq, Option, Some, None, is_some, if◌then◌else◌}
-use Rattle.std.specs.List.{list_any, list_all, starts_with}
+-- What a line inside a subcircuit says: a transistor, or its first fault.
+use Rattle.std.specs.Prelude.{ℕ, pos, ◌*◌, ◌==◌, ◌&&◌, ◌||◌, not, nat_eq, nat_le, Bool, false, List, [], ◌∷◌, length, drop, filter_map, codes, bytes_eq, Option, Some, None, option_and_then, unwrap_or, Result, Ok, Err, if◌then◌else◌}
+use Rattle.std.specs.List.{starts_with, list_all, list_any}
+use Rattle.std.specs.Ordering.{int_eq}
+use Rattle.cell_num.specs.declared.length.Fixed.{Fixed}
 use Rattle.cell_num.specs.declared.finger.Row.{Row}
 use Rattle.cell_num.specs.declared.finger.Row.TheVariants.{P, N}
+use Rattle.cell_num.specs.Length.{units_up_to}
+use Rattle.cell_num.specs.Names.{is_name}
+use Rattle.spice_text.specs.declared.logical.Line.{Line}
+use Rattle.spice_text.specs.Numbers.{fixed_of}
+use Rattle.tech_file.specs.Technology.{Technology}
+use Rattle.spice_net.specs.declared.fault.SpiceFault.{SpiceFault}
+use Rattle.spice_net.specs.declared.fault.SpiceFault.TheVariants as fault
 use Rattle.spice_net.specs.declared.transistor.Transistor.{Transistor}
-use Rattle.spice_net.specs.Words.{words_of, is_printable, is_name}
-use Rattle.spice_net.specs.Values.{units_within}
+use Rattle.spice_net.specs.declared.transistor.Sizes.{Sizes}
+use Rattle.spice_net.specs.Chosen.{first_is, has_name}
+use Rattle.cell_num.specs.Steps.{require, or_fault, ◌>>=◌}
 
-abbrev pub is_one_of : List (List ℕ) → List ℕ → Bool
-is_one_of words word = list_any (bytes_eq word) words
+-- ---- parameters: words `key=value`
 
-abbrev pub row_of : List ℕ → Option Row
-row_of model =
-    if is_one_of (codes "p" ∷ codes "pmos" ∷ codes "pch" ∷ []) model then Some P else
-    if is_one_of (codes "n" ∷ codes "nmos" ∷ codes "nch" ∷ []) model then Some N else None
+abbrev pub is_parameter : List ℕ → Bool
+is_parameter word = list_any (λ b. b == 61) word
 
--- a transistor, where its row and its width are there
-abbrev pub transistor_with : List ℕ → List ℕ → List ℕ → Option Row → Option ℕ → Option Transistor
-transistor_with drain gate source (Some row) (Some width) = Some (record { row = row; drain = drain; gate = gate; source = source; width = width })
-transistor_with _ _ _ _ _ = None
+-- the value of a word that begins with a key and its `=`
+abbrev pub value_in : List ℕ → List ℕ → Option (List ℕ)
+value_in key word = if starts_with nat_eq word key then Some (drop (length key) word) else None
 
--- Eight words: a name that begins with an m, drain, gate, source, bulk, model, and the channel's width
--- of 6 to 40 units and its length of 4.
-abbrev pub transistor_from : List (List ℕ) → Option Transistor
-transistor_from (name ∷ drain ∷ gate ∷ source ∷ bulk ∷ model ∷ width ∷ length ∷ []) =
-    if starts_with nat_eq name (codes "m") && list_all is_name (name ∷ drain ∷ gate ∷ source ∷ bulk ∷ model ∷ []) && is_some (units_within 4 4 (codes "l=") length)
-    then transistor_with drain gate source (row_of model) (units_within 6 40 (codes "w=") width)
-    else None
-transistor_from _ = None
+abbrev pub last_of : List (List ℕ) → Option (List ℕ)
+last_of [] = None
+last_of (x ∷ []) = Some x
+last_of (x ∷ y ∷ more) = last_of (y ∷ more)
 
-abbrev pub transistor_of : List ℕ → Option Transistor
-transistor_of line = if is_printable line then transistor_from (words_of line) else None
+-- the value that counts for a key: that of its last word
+abbrev pub value_of : List ℕ → List (List ℕ) → Option (List ℕ)
+value_of key words = last_of (filter_map (value_in key) words)
+
+-- ---- the fields of a line
+
+-- the words that count: nets, the model, and the values of parameters
+pub record Fields : Type 0 where
+  pub drain : List ℕ
+  pub gate : List ℕ
+  pub source : List ℕ
+  pub bulk : List ℕ
+  pub model : List ℕ
+  pub width : List ℕ
+  pub channel : List ℕ
+  pub m : List ℕ
+  pub nf : List ℕ
+
+-- A transistor's name, drain, gate, source, bulk and model, and behind them parameters, a width and a
+-- length among them.
+abbrev pub fields_of : ℕ → List (List ℕ) → Result Fields SpiceFault
+fields_of line (name ∷ drain ∷ gate ∷ source ∷ bulk ∷ model ∷ parameters) = do
+  _ ← require (list_all is_name (name ∷ drain ∷ gate ∷ source ∷ bulk ∷ model ∷ [])) (fault.Fields line)
+  _ ← require (list_all is_parameter parameters) (fault.Fields line)
+  width ← or_fault (value_of (codes "w=") parameters) (fault.Fields line)
+  channel ← or_fault (value_of (codes "l=") parameters) (fault.Fields line)
+  Ok (record {
+    drain = drain;
+    gate = gate;
+    source = source;
+    bulk = bulk;
+    model = model;
+    width = width;
+    channel = channel;
+    m = unwrap_or (value_of (codes "m=") parameters) (codes "1");
+    nf = unwrap_or (value_of (codes "nf=") parameters) (codes "1");
+  })
+fields_of line _ = Err (fault.Fields line)
+
+-- ---- its numbers
+
+-- the grid unit, half a lambda, in picometres
+abbrev pub unit_pm : Technology → ℕ
+unit_pm tech = 500 * tech.lambda_nm
+
+-- the greatest size that is read
+abbrev pub most_units : ℕ
+most_units = 100000
+
+-- the least width
+abbrev pub least_units : ℕ
+least_units = 6
+
+-- the length of every channel
+abbrev pub channel_units : ℕ
+channel_units = 4
+
+-- the whole number of units nearest to a length, where it is not too large
+abbrev pub units_of : Technology → List ℕ → Option ℕ
+units_of tech value = option_and_then (λ metres. units_up_to most_units metres (unit_pm tech)) (fixed_of value)
+
+abbrev pub sizes_of : Technology → ℕ → Fields → Result Sizes SpiceFault
+sizes_of tech line fields = do
+  width ← or_fault (units_of tech fields.width) (fault.Number line)
+  channel ← or_fault (units_of tech fields.channel) (fault.Number line)
+  m ← or_fault (fixed_of fields.m) (fault.Number line)
+  nf ← or_fault (fixed_of fields.nf) (fault.Number line)
+  Ok (record { width = width; channel = channel; m = m; nf = nf })
+
+abbrev pub is_one : Fixed → Bool
+is_one number = (number.digits == 1) && int_eq number.ten (pos 0)
+
+-- ---- the transistor
+
+-- the row of a model
+abbrev pub row_of : Technology → List ℕ → Option Row
+row_of tech model =
+    if has_name tech.p_models model then Some P else
+    if has_name tech.n_models model then Some N else None
+
+-- the rail at the bulk of a row's transistors
+abbrev pub own_rail : Technology → Row → List ℕ
+own_rail tech P = tech.vdd
+own_rail tech N = tech.gnd
+
+-- the rail at none of their ends
+abbrev pub other_rail : Technology → Row → List ℕ
+other_rail tech P = tech.gnd
+other_rail tech N = tech.vdd
+
+abbrev pub is_rail : Technology → List ℕ → Bool
+is_rail tech net = bytes_eq net tech.vdd || bytes_eq net tech.gnd
+
+-- the gate is no rail, and neither end is the other row's
+abbrev pub rails_allowed : Technology → Row → Fields → Bool
+rails_allowed tech row fields =
+    not (is_rail tech fields.gate) && not (bytes_eq fields.drain (other_rail tech row)) && not (bytes_eq fields.source (other_rail tech row))
+
+-- The transistor of some fields, its channel 4 units long and at least 6 wide; or the first of its
+-- faults, in this order.
+abbrev pub transistor_with : Technology → ℕ → Fields → Result Transistor SpiceFault
+transistor_with tech line fields = do
+  row ← or_fault (row_of tech fields.model) (fault.Model line)
+  sizes ← sizes_of tech line fields
+  _ ← require (sizes.channel == channel_units) (fault.Length line sizes.channel)
+  _ ← require (nat_le least_units sizes.width) (fault.Narrow line sizes.width)
+  _ ← require (bytes_eq fields.bulk (own_rail tech row)) (fault.Body line)
+  _ ← require (rails_allowed tech row fields) (fault.Rail line)
+  _ ← require (is_one sizes.m && is_one sizes.nf) (fault.Multiple line)
+  Ok (record { row = row; drain = fields.drain; gate = fields.gate; source = fields.source; width = sizes.width })
+
+abbrev pub transistor_of : Technology → ℕ → List (List ℕ) → Result Transistor SpiceFault
+transistor_of tech line words = fields_of line words >>= transistor_with tech line
+
+-- ---- the lines
+
+-- the first word begins with an m
+abbrev pub is_transistor : List (List ℕ) → Bool
+is_transistor [] = false
+is_transistor (first ∷ more) = starts_with nat_eq first (codes "m")
+
+-- a line's transistor in front of those of the lines behind it
+abbrev pub with_line : Technology → Line → Result (List Transistor) SpiceFault → Result (List Transistor) SpiceFault
+with_line tech line behind =
+    if is_transistor line.words then transistor_of tech line.number line.words >>= (λ transistor. behind >>= λ more. Ok (transistor ∷ more)) else
+    require (first_is (codes ".global") line.words) (fault.Element line.number) >>= λ _. behind
+
+-- the transistors of lines, or the first fault of the first line that is refused
+abbrev pub transistors_of : Technology → List Line → Result (List Transistor) SpiceFault
+transistors_of tech [] = Ok []
+transistors_of tech (line ∷ lines) = with_line tech line (transistors_of tech lines)

@@ -1,12 +1,14 @@
-// Cells of SPICE netlists: the transistors of one subcircuit, with its nets numbered.
+// Subcircuits of SPICE files: transistors, with their nets numbered.
 #![tactic(auto)]
 
-pub mod lines;
-pub mod nets;
-pub mod plain;
-pub mod transistor;
-pub mod values;
-pub mod words;
+mod chosen;
+mod fault;
+mod nets;
+mod pins;
+mod read;
+mod subckt;
+mod transistor;
 
-pub use plain::{PlainCell, SpiceFault, read_plain};
-pub use transistor::Transistor;
+pub use fault::{SpiceFault, What};
+pub use read::read_cell;
+pub use subckt::{Device, DeviceList, Subckt};

@@ -1,15 +1,16 @@
-ghost use Rattle.std.specs.Prelude.{◌≡◌, ◌≤◌, ◌==◌, not, length, IfOk, OnOk};
+ghost use Rattle.std.specs.Prelude.{◌≡◌, ◌≤◌, ◌<◌, length, map, IfOk, OnOk};
 ghost use Rattle.indexmap.specs.IndexSet.{index_set_len};
-ghost use Rattle.cell_num.specs.Fingers.{on_gate};
-ghost use Rattle.spice_net.specs.Nets.{distinct, nets_of, number_of, net_of, finger_of, same_row, fingers_in, fingers_of, unpaired_gate, names_of, with_name};
+ghost use Rattle.spice_net.specs.Nets.{distinct, named_nets, nets_of, number_of, net_of, device_of};
+ghost use Rattle.spice_net.specs.Reader.{names_of, with_name, with_names};
 
+use crate::subckt::{Device, DeviceList};
 use crate::transistor::Transistor;
-use crate::words::copy;
-use cell_num::{Finger, FingerList, Fingers, Name, Names, NetNo, NoMemory, Row};
+use cell_num::{Name, Names, NetNo, NoMemory, copy};
 use indexmap::IndexSet;
 use std::alloc::Global;
 
-fn add<'a>(nets: &mut IndexSet<&'a [u8]>, name: &'a [u8]) -> Result<(), NoMemory>
+/// Adds a name, unless it is there.
+pub fn add<'a>(nets: &mut IndexSet<&'a [u8]>, name: &'a [u8]) -> Result<(), NoMemory>
     ensures { OnOk result (names_of nets.new.keys ≡ with_name (names_of nets.old.keys) name.now) }
 {
     match nets.insert_full(name) {
@@ -19,6 +20,7 @@ fn add<'a>(nets: &mut IndexSet<&'a [u8]>, name: &'a [u8]) -> Result<(), NoMemory
 }
 
 /// The names without repeats.
+#[tactic(auto, using(crate::proofs::NetFacts::starts_distinct, crate::proofs::NetFacts::one_name_more))]
 pub fn distinct_names<'a>(alloc: Global, names: &'a [Name]) -> Result<IndexSet<&'a [u8]>, NoMemory>
     ensures { IfOk result (λ nets. names_of nets.keys ≡ distinct names.now) }
 {
@@ -29,21 +31,42 @@ pub fn distinct_names<'a>(alloc: Global, names: &'a [Name]) -> Result<IndexSet<&
     Ok(nets)
 }
 
-/// The nets of a cell: its pins, and then the nets that its transistors name.
-pub fn net_set<'a>(
-    alloc: Global,
-    pins: &'a [Name],
+/// The names, and behind them the nets that transistors name.
+#[tactic(auto, using(crate::proofs::NetFacts::three_names_more))]
+pub fn with_nets<'a>(
+    names: IndexSet<&'a [u8]>,
     transistors: &'a [Transistor],
 ) -> Result<IndexSet<&'a [u8]>, NoMemory>
-    ensures { IfOk result (λ nets. names_of nets.keys ≡ nets_of pins.now transistors.now) }
+    ensures { IfOk result (λ nets. names_of nets.keys ≡ with_names (names_of names.entry.keys) (named_nets transistors.now)) }
 {
-    let mut nets = distinct_names(alloc, pins)?;
+    let mut nets = names;
     for transistor in transistors {
         add(&mut nets, transistor.drain.as_slice())?;
         add(&mut nets, transistor.gate.as_slice())?;
         add(&mut nets, transistor.source.as_slice())?;
     }
     Ok(nets)
+}
+
+/// The nets of a subcircuit: its pins, and then the nets that its transistors name.
+#[tactic(auto, using(crate::proofs::NetFacts::nets_behind))]
+pub fn net_set<'a>(
+    pins: IndexSet<&'a [u8]>,
+    transistors: &'a [Transistor],
+) -> Result<IndexSet<&'a [u8]>, NoMemory>
+    requires { distinct (names_of pins.keys) ≡ names_of pins.keys }
+    ensures { IfOk result (λ nets. names_of nets.keys ≡ nets_of (names_of pins.entry.keys) transistors.now) }
+{
+    let nets = with_nets(pins, transistors)?;
+    Ok(nets)
+}
+
+/// How many names a set has.
+pub fn count(names: &IndexSet<&[u8]>) -> usize
+    ensures names { result ≡ length (names_of names.now.keys) }
+    ensures set { result ≡ index_set_len names.now }
+{
+    names.len()
 }
 
 /// Copies of the names, by their numbers.
@@ -57,7 +80,6 @@ pub fn copies(alloc: Global, nets: &IndexSet<&[u8]>) -> Result<Names, NoMemory>
     Ok(names)
 }
 
-// the number of a net of the set
 fn number(nets: &IndexSet<&[u8]>, name: &[u8]) -> u32
     requires { index_set_len nets.now ≤ 256 }
     ensures { result ≡ number_of (names_of nets.now.keys) name.now }
@@ -68,61 +90,39 @@ fn number(nets: &IndexSet<&[u8]>, name: &[u8]) -> u32
     }
 }
 
-fn finger(nets: &IndexSet<&[u8]>, transistor: &Transistor) -> Finger
+/// The number of a net of a set.
+pub fn net(nets: &IndexSet<&[u8]>, name: &[u8]) -> NetNo
     requires { index_set_len nets.now ≤ 256 }
-    ensures { result ≡ finger_of (names_of nets.now.keys) transistor.now }
+    ensures { result ≡ net_of (names_of nets.now.keys) name.now }
 {
-    let drain = number(nets, transistor.drain.as_slice());
-    let source = number(nets, transistor.source.as_slice());
-    Finger {
+    NetNo(number(nets, name))
+}
+
+fn device(nets: &IndexSet<&[u8]>, transistor: &Transistor) -> Device
+    requires { index_set_len nets.now ≤ 256 }
+    ensures { result ≡ device_of (names_of nets.now.keys) transistor.now }
+{
+    Device {
         row: transistor.row,
-        gate: NetNo(number(nets, transistor.gate.as_slice())),
-        lo: NetNo(drain.min(source)),
-        hi: NetNo(drain.max(source)),
+        drain: net(nets, transistor.drain.as_slice()),
+        gate: net(nets, transistor.gate.as_slice()),
+        source: net(nets, transistor.source.as_slice()),
         width: transistor.width,
     }
 }
 
-fn is_in(transistor: &Transistor, row: Row) -> bool
-    ensures { result ≡ same_row transistor.now.row row }
-{
-    transistor.row == row
-}
-
-/// The fingers of the transistors in a row.
-pub fn fingers(
+/// The transistors, their nets by their numbers in a set.
+pub fn devices(
     alloc: Global,
-    row: Row,
     nets: &IndexSet<&[u8]>,
     transistors: &[Transistor],
-) -> Result<FingerList, NoMemory>
+) -> Result<DeviceList, NoMemory>
     requires { index_set_len nets.now ≤ 256 }
-    ensures { IfOk result (λ f. f ≡ fingers_in row (names_of nets.now.keys) transistors.now) }
+    ensures { IfOk result (λ ds. ds ≡ map (device_of (names_of nets.now.keys)) transistors.now) }
 {
-    let mut found = FingerList::new(alloc);
+    let mut found = DeviceList::new(alloc);
     for transistor in transistors {
-        if is_in(transistor, row) {
-            found.push(finger(nets, transistor))?;
-        }
+        found.push(device(nets, transistor))?;
     }
     Ok(found)
-}
-
-fn count_on(gate: u32, fingers: &[Finger]) -> usize
-    ensures { result ≡ on_gate gate fingers.now }
-{
-    fingers.iter().filter(|f| f.gate.0 == gate).count()
-}
-
-fn differ(gate: u32, fingers: &Fingers) -> bool
-    ensures { result ≡ not (on_gate gate fingers.now.p == on_gate gate fingers.now.n) }
-{
-    count_on(gate, fingers.p.as_slice()) != count_on(gate, fingers.n.as_slice())
-}
-
-/// The least gate that has not as many P as N fingers.
-pub fn unpaired(fingers: &Fingers) -> Option<u32>
-    ensures { result ≡ unpaired_gate fingers.now }
-{
-    (0..fingers.nets).find(|gate| differ(*gate, fingers))
 }

@@ -1,10 +1,18 @@
-ghost use Rattle.std.specs.Prelude.{◌≡◌, [], ◌∷◌, IfOk, Some, None};
-ghost use Rattle.spice_net.specs.Transistors.{row_of, transistor_from, transistor_of};
+ghost use Rattle.std.specs.Prelude.{◌≡◌, ◌≢◌, [], ◌∷◌, codes, option_map, unwrap_or, IfOk, IfErr, Ok, Err};
+ghost use Rattle.std.specs.List.{list_all};
+ghost use Rattle.cell_num.specs.Names.{is_name};
+ghost use Rattle.spice_net.specs.declared.fault.SpiceFault.TheVariants as fault;
+ghost use Rattle.spice_text.specs.Numbers.{fixed_of};
+ghost use Rattle.cell_num.specs.Steps.{or_fault};
+ghost use Rattle.spice_net.specs.Transistors.{is_parameter, value_in, value_of, fields_of, units_of, sizes_of, is_one, row_of, own_rail, other_rail, is_rail, rails_allowed, transistor_with, transistor_of, is_transistor};
+ghost use Rattle.spice_net.specs.Reader.{shown, are_fields, last_there, transistor_as};
 
-use crate::values::read_units;
-use crate::words::{all_named, copy, printable, words};
-use cell_num::{List, Name, NoMemory, Row};
+use crate::chosen::has_name;
+use crate::fault::SpiceFault;
+use cell_num::{Fixed, List, Name, NoMemory, Row, copy, is_name, snap};
+use spice_text::read_fixed;
 use std::alloc::Global;
+use tech_file::Tech;
 
 /// A transistor, its nets by their names.
 #[derive(Debug, Drop)]
@@ -19,59 +27,282 @@ pub struct Transistor {
 
 pub type TransistorList = List<Transistor>;
 
-fn row_by_model(model: &[u8]) -> Option<Row>
-    ensures { result ≡ row_of model.now }
+/// What the words of a transistor line say: its nets, its model, and the values that count for the
+/// channel's width, its length, `m` and `nf`.
+#[derive(Clone, Copy)]
+pub struct Fields<'a> {
+    pub drain: &'a [u8],
+    pub gate: &'a [u8],
+    pub source: &'a [u8],
+    pub bulk: &'a [u8],
+    pub model: &'a [u8],
+    pub width: &'a [u8],
+    pub channel: &'a [u8],
+    pub m: &'a [u8],
+    pub nf: &'a [u8],
+}
+
+/// The numbers of a transistor line: the channel's width and its length in grid units, `m` and `nf`.
+#[derive(Clone, Copy)]
+pub struct Sizes {
+    pub width: u32,
+    pub channel: u32,
+    pub m: Fixed,
+    pub nf: Fixed,
+}
+
+// The length of every channel.
+const CHANNEL_UNITS: u32 = 4;
+
+// The least width.
+const LEAST_UNITS: u32 = 6;
+
+fn is_parameter(word: &[u8]) -> bool
+    ensures { result ≡ is_parameter word.now }
 {
-    if model == b"p".as_slice() || model == b"pmos".as_slice() || model == b"pch".as_slice() {
+    word.iter().any(|b| *b == b'=')
+}
+
+fn are_parameters(words: &[Name]) -> bool
+    ensures { result ≡ list_all is_parameter words.now }
+{
+    words.iter().all(|word| is_parameter(word.as_slice()))
+}
+
+/// Whether each of the words may name something.
+pub fn are_names(words: &[Name]) -> bool
+    ensures { result ≡ list_all is_name words.now }
+{
+    words.iter().all(|word| is_name(word.as_slice()))
+}
+
+// a word's value for a key, or the one that was found before
+fn value_or_before<'a>(key: &[u8], word: &'a [u8], before: Option<&'a [u8]>) -> Option<&'a [u8]>
+    ensures { option_map (λ v. v.now) result ≡ last_there (value_in key.now word.now) (option_map (λ v. v.now) before.entry) }
+{
+    match word.strip_prefix(key) {
+        Some(value) => Some(value),
+        None => before,
+    }
+}
+
+// the value that counts for a key, which ends by its `=`
+#[tactic(auto, using(crate::proofs::Parameters::one_more))]
+fn value_of<'a>(key: &[u8], words: &'a [Name]) -> Option<&'a [u8]>
+    ensures { option_map (λ v. v.now) result ≡ value_of key.now words.now }
+{
+    let mut found = None;
+    for word in words {
+        found = value_or_before(key, word.as_slice(), found);
+    }
+    found
+}
+
+// the value that counts for a key, or `1`
+fn value_or_one<'a>(key: &[u8], words: &'a [Name]) -> &'a [u8]
+    ensures { result.now ≡ unwrap_or (value_of key.now words.now) (codes "1") }
+{
+    match value_of(key, words) {
+        Some(value) => value,
+        None => b"1",
+    }
+}
+
+fn read_fields(line: u32, words: &[Name]) -> Result<Fields<'_>, SpiceFault>
+    ensures { are_fields result ≡ fields_of line words.now }
+{
+    let [_, drain, gate, source, bulk, model, parameters @ ..] = words else {
+        return Err(SpiceFault::Fields { line });
+    };
+    if !are_names(&words[..6]) || !are_parameters(parameters) {
+        return Err(SpiceFault::Fields { line });
+    }
+    let Some(width) = value_of(b"w=", parameters) else {
+        return Err(SpiceFault::Fields { line });
+    };
+    let Some(channel) = value_of(b"l=", parameters) else {
+        return Err(SpiceFault::Fields { line });
+    };
+    Ok(Fields {
+        drain: drain.as_slice(),
+        gate: gate.as_slice(),
+        source: source.as_slice(),
+        bulk: bulk.as_slice(),
+        model: model.as_slice(),
+        width,
+        channel,
+        m: value_or_one(b"m=", parameters),
+        nf: value_or_one(b"nf=", parameters),
+    })
+}
+
+fn units(tech: &Tech, value: &[u8]) -> Option<u32>
+    ensures { result ≡ units_of tech.now value.now }
+{
+    tech.show_limits();
+    let metres = read_fixed(value)?;
+    snap(&metres, 500 * u64::from(tech.lambda_nm))
+}
+
+fn size(tech: &Tech, line: u32, value: &[u8]) -> Result<u32, SpiceFault>
+    ensures { result ≡ or_fault (units_of tech.now value.now) (fault.Number line) }
+{
+    match units(tech, value) {
+        Some(units) => Ok(units),
+        None => Err(SpiceFault::Number { line }),
+    }
+}
+
+fn number(line: u32, value: &[u8]) -> Result<Fixed, SpiceFault>
+    ensures { result ≡ or_fault (fixed_of value.now) (fault.Number line) }
+{
+    match read_fixed(value) {
+        Some(number) => Ok(number),
+        None => Err(SpiceFault::Number { line }),
+    }
+}
+
+fn read_sizes(tech: &Tech, line: u32, fields: &Fields) -> Result<Sizes, SpiceFault>
+    ensures { result ≡ sizes_of tech.now line (shown fields.now) }
+{
+    let width = size(tech, line, fields.width)?;
+    let channel = size(tech, line, fields.channel)?;
+    let m = number(line, fields.m)?;
+    let nf = number(line, fields.nf)?;
+    Ok(Sizes {
+        width,
+        channel,
+        m,
+        nf,
+    })
+}
+
+fn is_one(number: &Fixed) -> bool
+    ensures { result ≡ is_one number.now }
+{
+    number.digits == 1 && number.ten == 0
+}
+
+fn row_of(tech: &Tech, model: &[u8]) -> Option<Row>
+    ensures { result ≡ row_of tech.now model.now }
+{
+    if has_name(tech.p_models.as_slice(), model) {
         Some(Row::P)
-    } else if model == b"n".as_slice()
-        || model == b"nmos".as_slice()
-        || model == b"nch".as_slice()
-    {
+    } else if has_name(tech.n_models.as_slice(), model) {
         Some(Row::N)
     } else {
         None
     }
 }
 
-fn from_words(alloc: Global, words: &[Name]) -> Result<Option<Transistor>, NoMemory>
-    ensures { IfOk result (λ t. t ≡ transistor_from words.now) }
+fn own_rail(tech: &Tech, row: Row) -> &[u8]
+    ensures { result.now ≡ own_rail tech.now row }
 {
-    let [name, drain, gate, source, _, model, width, length] = words else {
-        return Ok(None);
-    };
-    if !name.as_slice().starts_with(b"m") {
-        return Ok(None);
+    match row {
+        Row::P => tech.vdd.as_slice(),
+        Row::N => tech.gnd.as_slice(),
     }
-    if !all_named(&words[..6]) {
-        return Ok(None);
-    }
-    if read_units(4, 4, b"l=", length.as_slice()).is_none() {
-        return Ok(None);
-    }
-    let Some(row) = row_by_model(model.as_slice()) else {
-        return Ok(None);
-    };
-    let Some(width) = read_units(6, 40, b"w=", width.as_slice()) else {
-        return Ok(None);
-    };
-    Ok(Some(Transistor {
-        row,
-        drain: copy(alloc, drain.as_slice())?,
-        gate: copy(alloc, gate.as_slice())?,
-        source: copy(alloc, source.as_slice())?,
-        width,
-    }))
 }
 
-/// The transistor that a line gives, or None where the line is of another form.
-#[tactic(auto, using(crate::proofs::FormFacts::nine_tell))]
-pub fn read_transistor(alloc: Global, line: &[u8]) -> Result<Option<Transistor>, NoMemory>
-    ensures { IfOk result (λ t. t ≡ transistor_of line.now) }
+fn other_rail(tech: &Tech, row: Row) -> &[u8]
+    ensures { result.now ≡ other_rail tech.now row }
 {
-    if !printable(line) {
-        return Ok(None);
+    match row {
+        Row::P => tech.gnd.as_slice(),
+        Row::N => tech.vdd.as_slice(),
     }
-    let words = words(alloc, line, 9)?;
-    from_words(alloc, words.as_slice())
+}
+
+/// Whether a net is one of the rails.
+pub fn is_rail(tech: &Tech, net: &[u8]) -> bool
+    ensures { result ≡ is_rail tech.now net.now }
+{
+    net == tech.vdd.as_slice() || net == tech.gnd.as_slice()
+}
+
+fn rails_allowed(tech: &Tech, row: Row, fields: &Fields) -> bool
+    ensures { result ≡ rails_allowed tech.now row (shown fields.now) }
+{
+    let other = other_rail(tech, row);
+    !is_rail(tech, fields.gate) && fields.drain != other && fields.source != other
+}
+
+// the row and the width of a transistor that is not refused
+#[derive(Clone, Copy)]
+struct Judged {
+    row: Row,
+    width: u32,
+}
+
+fn judge(tech: &Tech, line: u32, fields: &Fields) -> Result<Judged, SpiceFault>
+    ensures right { IfOk result (λ j. transistor_with tech.now line (shown fields.now) ≡ Ok (transistor_as j (shown fields.now))) }
+    ensures fault { IfErr result (λ f. transistor_with tech.now line (shown fields.now) ≡ Err f) }
+{
+    let Some(row) = row_of(tech, fields.model) else {
+        return Err(SpiceFault::Model { line });
+    };
+    let sizes = read_sizes(tech, line, fields)?;
+    if sizes.channel != CHANNEL_UNITS {
+        return Err(SpiceFault::Length {
+            line,
+            units: sizes.channel,
+        });
+    }
+    if sizes.width < LEAST_UNITS {
+        return Err(SpiceFault::Narrow {
+            line,
+            units: sizes.width,
+        });
+    }
+    if fields.bulk != own_rail(tech, row) {
+        return Err(SpiceFault::Body { line });
+    }
+    if !rails_allowed(tech, row, fields) {
+        return Err(SpiceFault::Rail { line });
+    }
+    if !is_one(&sizes.m) || !is_one(&sizes.nf) {
+        return Err(SpiceFault::Multiple { line });
+    }
+    Ok(Judged {
+        row,
+        width: sizes.width,
+    })
+}
+
+fn named(alloc: Global, judged: Judged, fields: &Fields) -> Result<Transistor, NoMemory>
+    ensures { IfOk result (λ t. t ≡ transistor_as judged (shown fields.now)) }
+{
+    Ok(Transistor {
+        row: judged.row,
+        drain: copy(alloc, fields.drain)?,
+        gate: copy(alloc, fields.gate)?,
+        source: copy(alloc, fields.source)?,
+        width: judged.width,
+    })
+}
+
+/// Whether a line's first word begins with an `m`.
+pub fn is_transistor(words: &[Name]) -> bool
+    ensures { result ≡ is_transistor words.now }
+{
+    match words {
+        [first, ..] => first.as_slice().starts_with(b"m"),
+        [] => false,
+    }
+}
+
+/// The transistor of a line that begins with an `m`, or the line's first fault.
+pub fn read_transistor(
+    alloc: Global,
+    tech: &Tech,
+    line: u32,
+    words: &[Name],
+) -> Result<Transistor, SpiceFault>
+    ensures transistor { IfOk result (λ t. transistor_of tech.now line words.now ≡ Ok t) }
+    ensures fault { IfErr result (λ f. f ≢ fault.NoMemory → transistor_of tech.now line words.now ≡ Err f) }
+{
+    let fields = read_fields(line, words)?;
+    let judged = judge(tech, line, &fields)?;
+    let transistor = named(alloc, judged, &fields)?;
+    Ok(transistor)
 }

@@ -6,7 +6,8 @@ use Rattle.std.proofs.lemmas.List.{length-drop}
 use Rattle.std.specs.List.{position_or_len}
 use Rattle.std.proofs.lemmas.Bool.{cases_Bool, eq-eqb, ne_eqb, ltb-false}
 use Rattle.std.proofs.lemmas.List.Recursion.{is_position_or_len}
-use Rattle.spice_text.specs.Physical.{physical, until_end, end_of, begins_with}
+use Rattle.spice_text.specs.Physical.{physical, begins_with}
+use Rattle.spice_text.specs.Reader.{until_end, end_of}
 
 same_step : (p : Bool) (n : ℕ) → (if p then 0 else suc n) ≡ cond p 0 (1 + n)
 same_step true n = refl

@@ -7,19 +7,20 @@ use Rattle.spice_text.specs.declared.logical.Line.{Line}
 use Rattle.spice_text.specs.declared.logical.Open.{Open}
 use Rattle.spice_text.specs.declared.logical.TextFault.{TextFault}
 use Rattle.spice_text.specs.declared.logical.TextFault.TheVariants as fault
-use Rattle.spice_text.specs.Physical.{physical, unmarked, unblanked, kind_of, is_refused}
+use Rattle.spice_text.specs.Physical.{physical, without_comment, without_blanks_in_front, kind_of, is_refused}
 use Rattle.spice_text.specs.Words.{words_of}
-use Rattle.spice_text.specs.Logical.{Group, grouped, group, then_group, line_of, lines_of, tells_directions, with_comment, with_info, closed, extended, finish, finished, split_of}
+use Rattle.spice_text.specs.Logical.{Group, grouped, group, then_group, line_of, lines_of, tells_directions, with_comment, split_of}
+use Rattle.spice_text.specs.Reader.{with_info, closed, extended, finish, finished}
 
-pub went_on : (more : List ℕ) (n : ℕ) (line : List ℕ) (done : List Line) (last : Option Open) (behind : List Line) (g : Group) → kind_of (unblanked line) ≡ kind.More → more ≡ drop 1 (unblanked line) → finish done (extended more last) behind g ≡ finish done last behind (grouped n line g)
+pub went_on : (more : List ℕ) (n : ℕ) (line : List ℕ) (done : List Line) (last : Option Open) (behind : List Line) (g : Group) → kind_of (without_blanks_in_front line) ≡ kind.Continuation → more ≡ drop 1 (without_blanks_in_front line) → finish done (extended more last) behind g ≡ finish done last behind (grouped n line g)
 went_on more n line done None behind g k e = rw k refl
-went_on more n line done (Some o) behind g k e = rw (k, e) (ap (λ (t : List ℕ). done ++ line_of o.number t ∷ (behind ++ g.lines)) (append_assoc o.text (32 ∷ drop 1 (unblanked line)) g.front))
+went_on more n line done (Some o) behind g k e = rw (k, e) (ap (λ (t : List ℕ). done ++ line_of o.number t ∷ (behind ++ g.lines)) (append_assoc o.text (32 ∷ drop 1 (without_blanks_in_front line)) g.front))
 
-pub began : (n : ℕ) (line : List ℕ) (done : List Line) (last : Option Open) (behind : List Line) (g : Group) → kind_of (unblanked line) ≡ kind.First → finish (closed done last behind) (Some (record { number = n; text = line })) [] g ≡ finish done last behind (grouped n line g)
+pub began : (n : ℕ) (line : List ℕ) (done : List Line) (last : Option Open) (behind : List Line) (g : Group) → kind_of (without_blanks_in_front line) ≡ kind.Begin → finish (closed done last behind) (Some (record { number = n; text = line })) [] g ≡ finish done last behind (grouped n line g)
 began n line done None behind g k = rw k (append_assoc done behind (line_of n (line ++ g.front) ∷ g.lines))
 began n line done (Some o) behind g k = rw (k, append-nil o.text) (append_assoc done (line_of o.number o.text ∷ behind) (line_of n (line ++ g.front) ∷ g.lines))
 
-pub skipped : (n : ℕ) (line : List ℕ) (done : List Line) (last : Option Open) (behind : List Line) (g : Group) → kind_of (unblanked line) ≡ kind.Empty → finish done last behind g ≡ finish done last behind (grouped n line g)
+pub skipped : (n : ℕ) (line : List ℕ) (done : List Line) (last : Option Open) (behind : List Line) (g : Group) → kind_of (without_blanks_in_front line) ≡ kind.Empty → finish done last behind g ≡ finish done last behind (grouped n line g)
 skipped n line done last behind g k = rw k refl
 
 behind_it : (n : ℕ) (words : List (List ℕ)) (done : List Line) (last : Option Open) (behind : List Line) (g : Group) → finish done last (with_info n words behind) g ≡ finish done last behind (with_comment n words g)
@@ -32,17 +33,17 @@ behind_it n words done last behind g = elim (cases_Bool (tells_directions words)
     put None = ap (λ (ls : List Line). done ++ ls) (append_assoc behind (record { number = n; info = true; words = words } ∷ []) g.lines)
     put (Some o) = ap (λ (ls : List Line). done ++ line_of o.number (o.text ++ g.front) ∷ ls) (append_assoc behind (record { number = n; info = true; words = words } ∷ []) g.lines)
 
-pub commented : (n : ℕ) (line : List ℕ) (done : List Line) (last : Option Open) (behind : List Line) (g : Group) → kind_of (unblanked line) ≡ kind.Comment → finish done last (with_info n (words_of line) behind) g ≡ finish done last behind (grouped n line g)
+pub commented : (n : ℕ) (line : List ℕ) (done : List Line) (last : Option Open) (behind : List Line) (g : Group) → kind_of (without_blanks_in_front line) ≡ kind.Comment → finish done last (with_info n (words_of line) behind) g ≡ finish done last behind (grouped n line g)
 commented n line done last behind g k = rw k (behind_it n (words_of line) done last behind g)
 
 pub step_all : (n : ℕ) (line : List ℕ) (done new_done : List Line) (last new : Option Open) (behind new_behind : List Line) (r : Result Group TextFault) → ((g : Group) → finish new_done new new_behind g ≡ finish done last behind (grouped n line g)) → finished new_done new new_behind r ≡ finished done last behind (then_group n line r)
 step_all n line done new_done last new behind new_behind (Ok g) same = ap (λ (ls : List Line). Ok ls) (same g)
 step_all n line done new_done last new behind new_behind (Err e) same = refl
 
-pub is_taken : (rest line after : List ℕ) (n : ℕ) (done new_done : List Line) (last new : Option Open) (behind new_behind : List Line) → physical rest ≡ line ∷ physical after → is_refused (unmarked true line) ≡ false → ((g : Group) → finish new_done new new_behind g ≡ finish done last behind (grouped n (unmarked true line) g)) → finished new_done new new_behind (group (n + 1) (physical after)) ≡ finished done last behind (group n (physical rest))
-is_taken rest line after n done new_done last new behind new_behind e kept same = rw (e, kept) (step_all n (unmarked true line) done new_done last new behind new_behind (group (n + 1) (physical after)) same)
+pub is_taken : (rest line after : List ℕ) (n : ℕ) (done new_done : List Line) (last new : Option Open) (behind new_behind : List Line) → physical rest ≡ line ∷ physical after → is_refused (without_comment true line) ≡ false → ((g : Group) → finish new_done new new_behind g ≡ finish done last behind (grouped n (without_comment true line) g)) → finished new_done new new_behind (group (n + 1) (physical after)) ≡ finished done last behind (group n (physical rest))
+is_taken rest line after n done new_done last new behind new_behind e kept same = rw (e, kept) (step_all n (without_comment true line) done new_done last new behind new_behind (group (n + 1) (physical after)) same)
 
-pub is_refused_line : (rest line after : List ℕ) (n : ℕ) (done : List Line) (last : Option Open) (behind : List Line) → physical rest ≡ line ∷ physical after → is_refused (unmarked true line) ≡ true → finished done last behind (group n (physical rest)) ≡ Err (fault.NotAscii n)
+pub is_refused_line : (rest line after : List ℕ) (n : ℕ) (done : List Line) (last : Option Open) (behind : List Line) → physical rest ≡ line ∷ physical after → is_refused (without_comment true line) ≡ true → finished done last behind (group n (physical rest)) ≡ Err (fault.NotAscii n)
 is_refused_line rest line after n done last behind e kept = rw (e, kept) refl
 
 pub is_done : (rest : List ℕ) (n : ℕ) (done : List Line) (last : Option Open) (behind : List Line) → length rest ≡ 0 → finished done last behind (group n (physical rest)) ≡ Ok (closed done last behind)

@@ -1,8 +1,8 @@
 -- Physical lines.
-use Rattle.std.specs.Prelude.{ℕ, suc, ◌==◌, ◌||◌, ◌&&◌, not, nat_lt, Bool, false, List, [], ◌∷◌, if◌then◌else◌}
+use Rattle.std.specs.Prelude.{ℕ, ◌==◌, ◌||◌, ◌&&◌, not, nat_lt, Bool, false, List, [], ◌∷◌, if◌then◌else◌}
 use Rattle.std.specs.List.{list_any}
 use Rattle.spice_text.specs.declared.physical.LineKind.{LineKind}
-use Rattle.spice_text.specs.declared.physical.LineKind.TheVariants.{Empty, Comment, More, First}
+use Rattle.spice_text.specs.declared.physical.LineKind.TheVariants.{Empty, Comment, Continuation, Begin}
 
 abbrev pub with_byte : ℕ → List (List ℕ) → List (List ℕ)
 with_byte b [] = (b ∷ []) ∷ []
@@ -20,32 +20,22 @@ physical (b ∷ bs) =
     if b == 13 && begins_with 10 bs then physical bs else
     with_byte b (physical bs)
 
--- how many bytes stand before the first line feed
-abbrev pub until_end : List ℕ → ℕ
-until_end [] = 0
-until_end (b ∷ bs) = if b == 10 then 0 else suc (until_end bs)
-
--- how many bytes its first line has, where it ends
-abbrev pub end_of : List ℕ → ℕ
-end_of [] = 0
-end_of (b ∷ bs) = if b == 10 then 0 else if b == 13 && begins_with 10 bs then 0 else suc (end_of bs)
-
 abbrev pub is_blank : ℕ → Bool
 is_blank b = b == 32 || b == 9
 
--- what stands before a `$` at the line's begin or behind a blank
-abbrev pub unmarked : Bool → List ℕ → List ℕ
-unmarked blank [] = []
-unmarked blank (b ∷ bs) = if blank && b == 36 then [] else b ∷ unmarked (is_blank b) bs
+-- what stands before a `$` at the line's begin or behind a blank; `blank`: at the begin, or a blank stands before
+abbrev pub without_comment : Bool → List ℕ → List ℕ
+without_comment blank [] = []
+without_comment blank (b ∷ bs) = if blank && b == 36 then [] else b ∷ without_comment (is_blank b) bs
 
 -- what stands behind the blanks in front
-abbrev pub unblanked : List ℕ → List ℕ
-unblanked [] = []
-unblanked (b ∷ bs) = if is_blank b then unblanked bs else b ∷ bs
+abbrev pub without_blanks_in_front : List ℕ → List ℕ
+without_blanks_in_front [] = []
+without_blanks_in_front (b ∷ bs) = if is_blank b then without_blanks_in_front bs else b ∷ bs
 
 abbrev pub kind_of : List ℕ → LineKind
 kind_of [] = Empty
-kind_of (b ∷ bs) = if b == 42 then Comment else if b == 43 then More else First
+kind_of (b ∷ bs) = if b == 42 then Comment else if b == 43 then Continuation else Begin
 
 -- a byte that no line may hold
 abbrev pub is_bad : ℕ → Bool
@@ -56,4 +46,4 @@ refused_as Comment bad = false
 refused_as _ bad = bad
 
 abbrev pub is_refused : List ℕ → Bool
-is_refused line = refused_as (kind_of (unblanked line)) (list_any is_bad line)
+is_refused line = refused_as (kind_of (without_blanks_in_front line)) (list_any is_bad line)

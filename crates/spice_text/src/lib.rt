@@ -1,8 +1,10 @@
-// The logical lines of a SPICE text and the words in them.
+// The logical lines of a SPICE text, the words in them, and numbers.
 #![tactic(auto)]
 
-pub mod logical;
-pub mod physical;
-pub mod words;
+mod logical;
+mod number;
+mod physical;
+mod words;
 
 pub use logical::{Line, Lines, TextFault, split_lines};
+pub use number::read_fixed;

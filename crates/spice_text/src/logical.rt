@@ -1,6 +1,7 @@
 ghost use Rattle.std.specs.Prelude.{◌≡◌, ◌≤◌, ◌<◌, ◌+◌, ◌++◌, [], ◌∷◌, Some, None, length, IfOk, OnOk, OnErr};
 ghost use Rattle.spice_text.specs.Words.{words_of};
-ghost use Rattle.spice_text.specs.Logical.{Group, closed, extended, finish, grouped, tells_directions, with_info, Answers, split_of};
+ghost use Rattle.spice_text.specs.Logical.{Group, grouped, tells_directions, Answers, split_of};
+ghost use Rattle.spice_text.specs.Reader.{closed, extended, finish, with_info};
 
 use crate::physical::{LineKind, first_line};
 use crate::words::{before_mark, behind_blanks, kind, refused, words};
@@ -29,7 +30,7 @@ pub struct Open {
 /// Why a text has no lines.
 #[derive(Debug, Drop, Error)]
 pub enum TextFault {
-    /// The first physical line that is no comment and holds a byte that is neither printable ASCII
+    /// The first physical line that holds, outside comments, a byte that is neither printable ASCII
     /// nor a tab.
     #[error("NotAscii")]
     NotAscii { line: u32 },
@@ -149,7 +150,7 @@ fn take_line(alloc: Global, number: u32, line: &[u8], state: State) -> Result<St
                 behind,
             })
         }
-        LineKind::More => {
+        LineKind::Continuation => {
             let last = extend(state.last, &body[1..])?;
             Ok(State {
                 done: state.done,
@@ -157,7 +158,7 @@ fn take_line(alloc: Global, number: u32, line: &[u8], state: State) -> Result<St
                 behind: state.behind,
             })
         }
-        LineKind::First => {
+        LineKind::Begin => {
             let done = close(alloc, state)?;
             let last = begin(alloc, number, line)?;
             Ok(State {

@@ -1,13 +1,14 @@
 ghost use Rattle.std.specs.Prelude.{◌≡◌, ◌≤◌, ◌<◌, ◌+◌, [], ◌∷◌, length, position, ◌==◌, IsTrue, ◌↔◌, take, drop};
-ghost use Rattle.spice_text.specs.Physical.{physical, until_end, end_of, unmarked, unblanked, kind_of, is_bad};
+ghost use Rattle.spice_text.specs.Physical.{physical};
+ghost use Rattle.spice_text.specs.Reader.{until_end, end_of};
 
 /// What a physical line is, by its first byte that is no blank.
 #[derive(Clone, Copy, Debug, PartialEq, Eq)]
 pub enum LineKind {
     Empty,
     Comment,
-    More,
-    First,
+    Continuation,
+    Begin,
 }
 
 fn find_feed(bytes: &[u8]) -> Option<usize>

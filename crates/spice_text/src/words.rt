@@ -1,10 +1,11 @@
-ghost use Rattle.std.specs.Prelude.{◌≡◌, ◌≤◌, ◌<◌, ◌+◌, [], ◌∷◌, ◌==◌, not, false, true, filter, map, length, IfOk};
-ghost use Rattle.std.specs.List.{slice_split, list_any};
-ghost use Rattle.spice_text.specs.Physical.{is_blank, unmarked, unblanked, kind_of, is_bad, is_refused};
-ghost use Rattle.spice_text.specs.Words.{tight, words_of};
+ghost use Rattle.std.specs.Prelude.{◌≡◌, ◌≤◌, ◌<◌, ◌+◌, [], ◌∷◌, ◌==◌, not, false, true, filter, map, length, IfOk, OnOk};
+ghost use Rattle.std.specs.List.{slice_split, join_with_byte, list_any};
+ghost use Rattle.cell_num.specs.Names.{lowered};
+ghost use Rattle.spice_text.specs.Physical.{is_blank, without_comment, without_blanks_in_front, kind_of, is_bad, is_refused};
+ghost use Rattle.spice_text.specs.Words.{without_blanks_at_end, trimmed, joined_at_equals, words_of};
 
 use crate::physical::LineKind;
-use cell_num::{Name, Names, NoMemory, copy};
+use cell_num::{Name, Names, NoMemory, lower};
 use std::alloc::{AllocError, Global};
 
 fn blank(byte: u8) -> bool
@@ -19,9 +20,9 @@ fn bad(byte: u8) -> bool
     byte != b'\t' && (byte < 32 || 126 < byte)
 }
 
-/// What stands before a comment by `$`.
+/// The line up to its `$` comment.
 pub fn before_mark(line: &[u8]) -> &[u8]
-    ensures { result.now ≡ unmarked true line.now }
+    ensures { result.now ≡ without_comment true line.now }
 {
     let mut after_blank = true;
     for at in 0..line.len() {
@@ -35,7 +36,7 @@ pub fn before_mark(line: &[u8]) -> &[u8]
 
 /// What stands behind the blanks in front.
 pub fn behind_blanks(line: &[u8]) -> &[u8]
-    ensures { result.now ≡ unblanked line.now }
+    ensures { result.now ≡ without_blanks_in_front line.now }
 {
     for at in 0..line.len() {
         if !blank(line[at]) {
@@ -45,14 +46,15 @@ pub fn behind_blanks(line: &[u8]) -> &[u8]
     &[]
 }
 
+/// What a line is, by what stands behind the blanks in front.
 pub fn kind(body: &[u8]) -> LineKind
     ensures { result ≡ kind_of body.now }
 {
     match body {
         [] => LineKind::Empty,
         [b'*', ..] => LineKind::Comment,
-        [b'+', ..] => LineKind::More,
-        [_, ..] => LineKind::First,
+        [b'+', ..] => LineKind::Continuation,
+        [_, ..] => LineKind::Begin,
     }
 }
 
@@ -62,7 +64,7 @@ fn any_bad(line: &[u8]) -> bool
     line.iter().any(|b| bad(*b))
 }
 
-/// Whether a byte stands in a line that is no comment, and may not.
+/// Whether a line that is no comment holds a byte that it may not hold.
 pub fn refused(line: &[u8]) -> bool
     ensures { result ≡ is_refused line.now }
 {
@@ -72,48 +74,79 @@ pub fn refused(line: &[u8]) -> bool
     }
 }
 
-// the text with one space where blanks separate words, and none beside `=`
-fn tighten(alloc: Global, text: &[u8]) -> Result<Name, NoMemory>
-    ensures { IfOk result (λ t. t ≡ tight false true text.now) }
+// what stands before the blanks at the end
+fn before_blanks(text: &[u8]) -> &[u8]
+    ensures { result.now ≡ without_blanks_at_end text.now }
+{
+    let mut end = text.len();
+    while 0 < end {
+        if !blank(text[end - 1]) {
+            return &text[..end];
+        }
+        end -= 1;
+    }
+    &[]
+}
+
+fn trim(text: &[u8]) -> &[u8]
+    ensures { result.now ≡ trimmed text.now }
+{
+    before_blanks(behind_blanks(text))
+}
+
+fn parts_between_equals(alloc: Global, text: &[u8]) -> Result<Vec<&[u8]>, AllocError>
+    ensures { IfOk result (λ v. map (λ w. w.now) v.items ≡ slice_split (λ b. b == 61) text.now) }
+{
+    text.split(|b| *b == b'=').collect(alloc)
+}
+
+// behind a text, each part without the blanks around it, `=` in front of each
+fn add_parts(out: &mut Name, parts: &[&[u8]]) -> Result<(), NoMemory>
+    ensures { OnOk result (out.new ≡ join_with_byte 61 (out.old ∷ map trimmed (map (λ w. w.now) parts.now))) }
+{
+    for part in parts {
+        out.push(b'=')?;
+        out.extend(trim(part))?;
+    }
+    Ok(())
+}
+
+fn join(alloc: Global, parts: &[&[u8]]) -> Result<Name, NoMemory>
+    ensures { IfOk result (λ t. t ≡ join_with_byte 61 (map trimmed (map (λ w. w.now) parts.now))) }
 {
     let mut out = Name::new(alloc);
-    let mut gap = false;
-    let mut joins = true;
-    for byte in text {
-        if blank(*byte) {
-            gap = !joins;
-        } else if *byte == b'=' {
-            out.push(b'=')?;
-            gap = false;
-            joins = true;
-        } else {
-            if gap {
-                out.push(b' ')?;
-            }
-            out.push(byte.to_ascii_lowercase())?;
-            gap = false;
-            joins = false;
-        }
+    if let [first, others @ ..] = parts {
+        out.extend(trim(first))?;
+        add_parts(&mut out, others)?;
     }
     Ok(out)
 }
 
-fn parts(alloc: Global, line: &[u8]) -> Result<Vec<&[u8]>, AllocError>
-    ensures { IfOk result (λ v. map (λ w. w.now) v.items ≡ slice_split (λ b. b == 32) line.now) }
+fn join_at_equals(alloc: Global, text: &[u8]) -> Result<Name, NoMemory>
+    ensures { IfOk result (λ t. t ≡ joined_at_equals text.now) }
 {
-    line.split(|b| *b == b' ').collect(alloc)
+    let Ok(parts) = parts_between_equals(alloc, text) else {
+        return Err(NoMemory);
+    };
+    join(alloc, parts.as_slice())
 }
 
-fn not_empty(alloc: Global, line: &[u8]) -> Result<Names, NoMemory>
-    ensures { IfOk result (λ ns. ns ≡ filter (λ w. not (length w == 0)) (slice_split (λ b. b == 32) line.now)) }
+fn parts_between_blanks(alloc: Global, text: &[u8]) -> Result<Vec<&[u8]>, AllocError>
+    ensures { IfOk result (λ v. map (λ w. w.now) v.items ≡ slice_split is_blank text.now) }
 {
-    let Ok(parts) = parts(alloc, line) else {
+    text.split(|b| blank(*b)).collect(alloc)
+}
+
+fn split_at_blanks(alloc: Global, text: &[u8]) -> Result<Names, NoMemory>
+    ensures { IfOk result (λ ns. ns ≡ map lowered (filter (λ w. not (length w == 0)) (slice_split is_blank text.now))) }
+{
+    let Ok(parts) = parts_between_blanks(alloc, text) else {
         return Err(NoMemory);
     };
     let mut names = Names::new(alloc);
     for word in &parts {
         if !word.is_empty() {
-            names.push(copy(alloc, word)?)?;
+            names.push(lower(alloc, word)?)?;
         }
     }
     Ok(names)
@@ -123,6 +156,6 @@ fn not_empty(alloc: Global, line: &[u8]) -> Result<Names, NoMemory>
 pub fn words(alloc: Global, text: &[u8]) -> Result<Names, NoMemory>
     ensures { IfOk result (λ ns. ns ≡ words_of text.now) }
 {
-    let tight = tighten(alloc, text)?;
-    not_empty(alloc, tight.as_slice())
+    let joined = join_at_equals(alloc, text)?;
+    split_at_blanks(alloc, joined.as_slice())
 }

@@ -1,5 +1,5 @@
 -- What is read keeps its limits.
-use Rattle.std.proofs.Common.{subst, codes, ◌≡◌, ◌≢◌, ℕ, ℤ, pos, negsuc, ◌%◌, ◌≤◌, ◌==◌, ◌&&◌, nat_le, Bool, true, false, List, [], ◌∷◌, length, get_or, Option, Some, None, option_and_then, Result, Ok, Err, refl, ◌∙◌, sym, inl, inr, arith}
+use Rattle.std.proofs.Common.{subst, codes, ◌≡◌, ◌≢◌, ℕ, ℤ, pos, negsuc, ◌%◌, ◌≤◌, ◌==◌, ◌&&◌, not, nat_le, Bool, true, false, List, [], ◌∷◌, length, get_or, Option, Some, None, option_and_then, Result, Ok, Err, refl, ◌∙◌, sym, inl, inr, arith}
 use Rattle.std.specs.Char.{to_ascii_lowercase}
 use Rattle.std.specs.List.{All, Contains, list_any}
 use Rattle.std.specs.Str.{bytes_eq}
@@ -17,7 +17,8 @@ use Rattle.tech_file.specs.declared.rails.Rails.{Rails}
 use Rattle.tech_file.specs.declared.models.Models.{Models}
 use Rattle.cell_num.specs.Names.{lowered, is_name}
 use Rattle.tech_file.specs.Technology.{Technology, IsTechnology, IsLowerName, AreModels, plain}
-use Rattle.tech_file.specs.Reading.{◌>>=◌, or_fault, unless, value_at, is_within, within, number_at, lambda_limits, width_limits, budget_limits, name_in, as_name, name_at, with_first, names_in, if_few, models_at, texts, share, numbers_of, rails_of, models_of}
+use Rattle.cell_num.specs.Steps.{◌>>=◌, or_fault, require}
+use Rattle.tech_file.specs.Reading.{value_at, is_within, within, number_at, lambda_limits, width_limits, budget_limits, name_in, as_name, name_at, with_first, names_in, if_few, models_at, texts, share, numbers_of, rails_of, models_of}
 
 -- a step that was taken, and the rest behind it
 step : {A B : Type 0} (read : Result A TechFault) (rest : A → Result B TechFault) (b : B) → (read >>= rest) ≡ Ok b → (a : A) × (read ≡ Ok a) × (rest a ≡ Ok b)
@@ -103,7 +104,7 @@ text_holds (Some text) name h = name_in_holds text name h
 name_holds : (key usual : List ℕ) (members : Members) (name : List ℕ) → name_at key usual members ≡ Ok name → IsLowerName name
 name_holds key usual members name h = text_holds (as_str (value_at key (string usual) members)) name (found _ _ _ h)
 
-allowed : (b : Bool) (f : TechFault) (u : Unit {0}) → unless b f ≡ Ok u → b ≡ false
+allowed : (b : Bool) (f : TechFault) (u : Unit {0}) → require (not b) f ≡ Ok u → b ≡ false
 allowed true f u h = cc
 allowed false f u h = refl
 
@@ -115,8 +116,8 @@ record AreRails (rails : Rails) : Type 0 where
 rails_hold : (members : Members) (rails : Rails) → rails_of members ≡ Ok rails → AreRails rails
 rails_hold members rails h =
     let (vdd, is_vdd, then_gnd) = step (name_at (codes "vdd") plain.vdd members) _ rails h in
-    let (gnd, is_gnd, then_unless) = step (name_at (codes "gnd") plain.gnd members) _ rails then_gnd in
-    let (u, is_allowed, same) = step (unless (bytes_eq vdd gnd) (fault.Form (codes "gnd"))) _ rails then_unless in
+    let (gnd, is_gnd, then_differ) = step (name_at (codes "gnd") plain.gnd members) _ rails then_gnd in
+    let (u, is_allowed, same) = step (require (not (bytes_eq vdd gnd)) (fault.Form (codes "gnd"))) _ rails then_differ in
     along AreRails (record { vdd = vdd; gnd = gnd }) rails same (record {
       vdd = name_holds (codes "vdd") plain.vdd members _ is_vdd;
       gnd = name_holds (codes "gnd") plain.gnd members _ is_gnd;
@@ -174,8 +175,8 @@ record AreKinds (models : Models) : Type 0 where
 models_hold : (members : Members) (models : Models) → models_of members ≡ Ok models → AreKinds models
 models_hold members models h =
     let (p, is_p, then_n) = step (models_at (codes "p_models") plain.p_models members) _ models h in
-    let (n, is_n, then_unless) = step (models_at (codes "n_models") plain.n_models members) _ models then_n in
-    let (u, is_allowed, same) = step (unless (share p n) (fault.Form (codes "n_models"))) _ models then_unless in
+    let (n, is_n, then_differ) = step (models_at (codes "n_models") plain.n_models members) _ models then_n in
+    let (u, is_allowed, same) = step (require (not (share p n)) (fault.Form (codes "n_models"))) _ models then_differ in
     along AreKinds (record { p = p; n = n }) models same (record {
       p = models_at_hold (codes "p_models") plain.p_models members _ is_p;
       n = models_at_hold (codes "n_models") plain.n_models members _ is_n;

@@ -1,5 +1,5 @@
 -- What a text says of a technology: keys of a TOML table, each with a plain value where it is absent.
-use Rattle.std.specs.Prelude.{ℕ, ℤ, pos, negsuc, ◌%◌, ◌==◌, ◌&&◌, nat_le, Bool, true, false, List, [], ◌∷◌, length, codes, bytes_eq, Option, Some, None, option_and_then, unwrap_or, Result, Ok, Err, if◌then◌else◌}
+use Rattle.std.specs.Prelude.{ℕ, ℤ, pos, negsuc, ◌%◌, ◌==◌, ◌&&◌, not, nat_le, Bool, true, false, List, [], ◌∷◌, length, codes, bytes_eq, Option, Some, None, option_and_then, unwrap_or, Result, Ok, Err, if◌then◌else◌}
 use Rattle.std.specs.List.{list_any}
 use Rattle.std.specs.Str.{is_utf8}
 use Rattle.std.specs.Ordering.{is_lt, nat_cmp}
@@ -13,20 +13,8 @@ use Rattle.tech_file.specs.declared.number.Numbers.{Numbers}
 use Rattle.tech_file.specs.declared.rails.Rails.{Rails}
 use Rattle.tech_file.specs.declared.models.Models.{Models}
 use Rattle.cell_num.specs.Names.{lowered, is_name}
+use Rattle.cell_num.specs.Steps.{require, or_fault, ◌>>=◌}
 use Rattle.tech_file.specs.Technology.{Technology, plain}
-
-infixl 10 ◌>>=◌
-abbrev pub ◌>>=◌ : {A B : Type 0} → Result A TechFault → (A → Result B TechFault) → Result B TechFault
-(Ok x) >>= f = f x
-(Err e) >>= f = Err e
-
-abbrev pub or_fault : {A : Type 0} → Option A → TechFault → Result A TechFault
-or_fault (Some a) f = Ok a
-or_fault None f = Err f
-
-abbrev pub unless : Bool → TechFault → Result (Unit {0}) TechFault
-unless true f = Err f
-unless false f = Ok tt
 
 -- ---- the table
 
@@ -137,7 +125,7 @@ abbrev pub rails_of : Members → Result Rails TechFault
 rails_of members = do
   vdd ← name_at (codes "vdd") plain.vdd members
   gnd ← name_at (codes "gnd") plain.gnd members
-  _ ← unless (bytes_eq vdd gnd) (fault.Form (codes "gnd"))
+  _ ← require (not (bytes_eq vdd gnd)) (fault.Form (codes "gnd"))
   Ok (record { vdd = vdd; gnd = gnd })
 
 -- a name stands in both lists
@@ -149,7 +137,7 @@ abbrev pub models_of : Members → Result Models TechFault
 models_of members = do
   p ← models_at (codes "p_models") plain.p_models members
   n ← models_at (codes "n_models") plain.n_models members
-  _ ← unless (share p n) (fault.Form (codes "n_models"))
+  _ ← require (not (share p n)) (fault.Form (codes "n_models"))
   Ok (record { p = p; n = n })
 
 -- the technology of a table, or the first fault

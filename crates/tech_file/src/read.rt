@@ -1,7 +1,8 @@
 ghost use Rattle.std.specs.Prelude.{◌≡◌, ◌≢◌, ◌≤◌, IfOk, IfErr, Ok, Err, length};
 ghost use Rattle.toml.specs.View.{table_view};
 ghost use Rattle.tech_file.specs.declared.fault.TechFault.TheVariants as fault;
-ghost use Rattle.tech_file.specs.Reading.{or_fault, table_of, known_alone, technology_of, technology};
+ghost use Rattle.cell_num.specs.Steps.{or_fault};
+ghost use Rattle.tech_file.specs.Reading.{table_of, known_alone, technology_of, technology};
 
 use crate::fault::TechFault;
 use crate::keys::unknown_key;

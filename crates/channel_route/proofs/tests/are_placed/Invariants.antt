@@ -1,6 +1,6 @@
 use Rattle.std.proofs.Common.{◌<◌, length}
 use Rattle.cell_num.specs.declared.net.NetNo.{NetNo}
-use Rattle.cell_num.specs.Fingers.{IsRail}
+use Rattle.cell_num.specs.Pins.{IsRail}
 use Rattle.row_place.specs.Trunks.{lines_of}
 use Rattle.channel_route.proofs.tests.are_placed.Given as goal
 

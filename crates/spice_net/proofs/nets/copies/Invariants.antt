@@ -1,5 +1,5 @@
 use Rattle.std.proofs.Common.{◌≡◌, take}
-use Rattle.spice_net.specs.Nets.{names_of}
+use Rattle.spice_net.specs.Reader.{names_of}
 use Rattle.spice_net.proofs.nets.copies.Given as goal
 
 abbrev pub invariant-loop-name : goal.invariant-loop-name

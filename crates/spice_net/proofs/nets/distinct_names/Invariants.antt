@@ -1,5 +1,6 @@
 use Rattle.std.proofs.Common.{◌≡◌, take}
-use Rattle.spice_net.specs.Nets.{distinct, names_of}
+use Rattle.spice_net.specs.Nets.{distinct}
+use Rattle.spice_net.specs.Reader.{names_of}
 use Rattle.spice_net.proofs.nets.distinct_names.Given as goal
 
 abbrev pub invariant-loop-name : goal.invariant-loop-name

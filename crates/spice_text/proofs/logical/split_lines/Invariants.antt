@@ -1,6 +1,7 @@
 use Rattle.std.proofs.Common.{◌≡◌, ◌≤◌, ◌+◌, length}
 use Rattle.spice_text.specs.Physical.{physical}
-use Rattle.spice_text.specs.Logical.{finished, group, split_of}
+use Rattle.spice_text.specs.Logical.{group, split_of}
+use Rattle.spice_text.specs.Reader.{finished}
 use Rattle.spice_text.proofs.logical.split_lines.Given as goal
 
 abbrev pub invariant-lines : goal.invariant-lines

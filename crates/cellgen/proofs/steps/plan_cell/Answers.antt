@@ -1,0 +1,71 @@
+use Rattle.std.proofs.Common.{option_map, ap, ◌∙◌, arith}
+use Rattle.cell_io.specs.Desk.{Rose}
+use Rattle.cell_num.specs.Names.{lowered}
+use Rattle.cellgen.proofs.Ending.{rose_wider, refused_tech_ends, unread_spice_ends, spice_ends}
+use Rattle.cellgen.proofs.steps.plan_cell.Goals as goal
+
+pub returns-in_err-tech-clause-steps : goal.returns-in_err-tech-clause-steps
+returns-in_err-tech-clause-steps g c =
+    refused_tech_ends
+    (Rose (g.D.Desk.read_faults c.args.desk.now) (g.D.Desk.read_faults c.technology_from.new.desk))
+    (g.D.Desk.given c.args.desk.now)
+    (option_map (λ name. name.now) c.args.tech)
+    c.args.spice.now
+    c.args.cell.now
+    c.technology_from.result
+    c.in_err-tech.field-0.0
+    c.from_residual.result
+    c.technology_from.ensures.steps
+    c.in_err-tech.was
+    c.from_residual.ensures
+
+pub returns-in_err-bytes-clause-steps : goal.returns-in_err-bytes-clause-steps
+returns-in_err-bytes-clause-steps g c =
+    unread_spice_ends
+    (Rose (g.D.Desk.read_faults c.args.desk.now) (g.D.Desk.read_faults c.technology_from.new.desk))
+    (Rose (g.D.Desk.read_faults c.technology_from.new.desk) (g.D.Desk.read_faults c.read_file.new.desk))
+    (Rose (g.D.Desk.read_faults c.args.desk.now) (g.D.Desk.read_faults c.read_file.new.desk))
+    (g.D.Desk.given c.args.desk.now)
+    (g.D.Desk.given c.technology_from.new.desk)
+    (option_map (λ name. name.now) c.args.tech)
+    c.args.spice.now
+    c.args.cell.now
+    c.technology_from.result
+    c.in_ok-tech.tech
+    c.in_err-bytes.field-0.0
+    c.from_residual-in_err-bytes.result
+    c.technology_from.ensures.given
+    (λ rose. rose_wider (g.D.Desk.read_faults c.args.desk.now) (g.D.Desk.read_faults c.args.desk.now) (g.D.Desk.read_faults c.technology_from.new.desk) (g.D.Desk.read_faults c.read_file.new.desk) (omega arith) c.read_file.ensures.read_count rose)
+    (λ rose. rose_wider (g.D.Desk.read_faults c.args.desk.now) (g.D.Desk.read_faults c.technology_from.new.desk) (g.D.Desk.read_faults c.read_file.new.desk) (g.D.Desk.read_faults c.read_file.new.desk) c.technology_from.ensures.read_count (omega arith) rose)
+    c.technology_from.ensures.steps
+    c.in_ok-tech.was
+    c.in_err-bytes.ensures.refusal
+    c.from_residual-in_err-bytes.ensures
+
+pub returns-clause-steps : goal.returns-clause-steps
+returns-clause-steps g c =
+    spice_ends
+    (Rose (g.D.Desk.read_faults c.args.desk.now) (g.D.Desk.read_faults c.technology_from.new.desk))
+    (Rose (g.D.Desk.read_faults c.technology_from.new.desk) (g.D.Desk.read_faults c.read_file.new.desk))
+    (Rose (g.D.Desk.read_faults c.args.desk.now) (g.D.Desk.read_faults c.read_file.new.desk))
+    (g.D.Desk.given c.args.desk.now)
+    (g.D.Desk.given c.technology_from.new.desk)
+    (option_map (λ name. name.now) c.args.tech)
+    c.args.spice.now
+    c.args.cell.now
+    c.in_ok-bytes.bytes
+    c.as_slice.result.now
+    c.in_ok-name.name
+    c.technology_from.result
+    c.in_ok-tech.tech
+    c.plan_in.result
+    c.technology_from.ensures.given
+    (λ rose. rose_wider (g.D.Desk.read_faults c.args.desk.now) (g.D.Desk.read_faults c.args.desk.now) (g.D.Desk.read_faults c.technology_from.new.desk) (g.D.Desk.read_faults c.read_file.new.desk) (omega arith) c.read_file.ensures.read_count rose)
+    (λ rose. rose_wider (g.D.Desk.read_faults c.args.desk.now) (g.D.Desk.read_faults c.technology_from.new.desk) (g.D.Desk.read_faults c.read_file.new.desk) (g.D.Desk.read_faults c.read_file.new.desk) c.technology_from.ensures.read_count (omega arith) rose)
+    c.technology_from.ensures.steps
+    c.in_ok-tech.was
+    c.in_ok-bytes.ensures.bytes
+    c.as_slice.ensures
+    (c.in_ok-name.ensures ∙ ap lowered c.as_bytes.ensures.value)
+    c.plan_in.ensures.plan
+    c.plan_in.ensures.refusal

@@ -1,0 +1,90 @@
+ghost use Rattle.std.specs.Prelude.{◌≡◌, ◌≢◌, ◌<◌, ◌≤◌, length, Ok, Err, OnOk, IfOk, IfErr};
+ghost use Rattle.cell_num.specs.Fingers.{AreFingers, AreSound};
+ghost use Rattle.spice_net.specs.Subckts.{IsSubckt};
+ghost use Rattle.finger_fold.specs.declared.folding.FoldFault.TheVariants as fault;
+ghost use Rattle.finger_fold.specs.Folding.{fingers_in, saturated, folded};
+
+use crate::columns::columns_of;
+use crate::count::count_in;
+use crate::cut::all_fingers;
+use cell_num::{Fingers, NoMemory, Row};
+use spice_net::Subckt;
+use std::alloc::Global;
+use tech_file::Tech;
+use thiserror::Error;
+
+// The most fingers of a row.
+const MOST_FINGERS: u128 = 64;
+
+// The most columns.
+const MOST_COLUMNS: u64 = 32;
+
+/// Why a subcircuit is not folded.
+#[derive(Debug, Drop, Error)]
+pub enum FoldFault {
+    /// A row has so many fingers, more than 64; the P row is looked at first. A count that needs more
+    /// than 64 bits is told as the greatest u64.
+    #[error("TooManyFingers")]
+    TooManyFingers { count: u64 },
+    /// The fingers need so many columns, more than 32.
+    #[error("TooManyColumns")]
+    TooManyColumns { count: u64 },
+    #[error("NoMemory")]
+    NoMemory,
+}
+
+impl From<NoMemory> for FoldFault {
+    ghost use Rattle.finger_fold.specs.declared.folding.FoldFault.TheVariants.{NoMemory};
+
+    ghost from_gives = { λ _ e. e ≡ NoMemory };
+
+    fn from(_: NoMemory) -> FoldFault {
+        FoldFault::NoMemory
+    }
+}
+
+fn saturated(count: u128) -> u64
+    ensures { result ≡ saturated count }
+{
+    count.min(u128::from(u64::MAX)) as u64
+}
+
+fn few_in(row: Row, cell: &Subckt, tech: &Tech) -> Result<(), FoldFault>
+    ensures ok { OnOk result (length (fingers_in row tech.now cell.now.devices) ≤ 64) }
+    ensures many { IfErr result (λ _. 64 < length (fingers_in row tech.now cell.now.devices)) }
+    ensures err { IfErr result (λ e. e ≡ fault.TooManyFingers (saturated (length (fingers_in row tech.now cell.now.devices)))) }
+{
+    let count = count_in(row, tech, cell.devices.as_slice());
+    if count > MOST_FINGERS {
+        return Err(FoldFault::TooManyFingers {
+            count: saturated(count),
+        });
+    }
+    Ok(())
+}
+
+/// The fingers of a subcircuit: each transistor is cut into as few fingers as the technology's widest
+/// finger of its row allows. The answer is sound for the subcircuit's nets and pins.
+#[tactic(auto, using(crate::proofs::Sound::asked))]
+pub fn fold(alloc: Global, cell: &Subckt, tech: &Tech) -> Result<Fingers, FoldFault>
+    requires { IsSubckt cell.now }
+    // The fingers of the definition, or the first limit passed; memory may run out.
+    ensures fingers { IfOk result (λ f. folded tech.now cell.now ≡ Ok f) }
+    ensures fault { IfErr result (λ e. e ≢ fault.NoMemory → folded tech.now cell.now ≡ Err e) }
+
+    // What the layers above ask of fingers, and that these are the cell's.
+    ensures asked { IfOk result (λ f. AreFingers f) }
+    ensures few_p { IfOk result (λ f. length f.p ≤ 64) }
+    ensures few_n { IfOk result (λ f. length f.n ≤ 64) }
+    ensures sound { IfOk result (λ f. AreSound cell.now.nets cell.now.pins f) }
+{
+    tech.show_limits();
+    few_in(Row::P, cell, tech)?;
+    few_in(Row::N, cell, tech)?;
+    let fingers = all_fingers(alloc, cell, tech)?;
+    let count = columns_of(&fingers);
+    if count > MOST_COLUMNS {
+        return Err(FoldFault::TooManyColumns { count });
+    }
+    Ok(fingers)
+}

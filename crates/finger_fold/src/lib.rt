@@ -1,0 +1,12 @@
+// Wide transistors as several fingers of a row.
+#![tactic(auto)]
+
+mod columns;
+mod count;
+mod cut;
+mod folding;
+
+pub use folding::{FoldFault, fold};
+
+#[cfg(test)]
+mod tests;

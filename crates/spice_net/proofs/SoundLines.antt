@@ -1,0 +1,121 @@
+-- What holds of each transistor that the lines inside a subcircuit give.
+use Rattle.std.proofs.Common.{ℕ, ◌≡◌, ◌≤◌, ◌==◌, ◌&&◌, not, Bool, true, false, cond, List, [], ◌∷◌, refl, sym, subst, ap, ◌∙◌, inl, inr, arith}
+use Rattle.std.specs.Prelude.{All, nat_le, nat_lt, bytes_eq, Option, Some, None, Result, Ok, Err, option_and_then, codes}
+use Rattle.std.proofs.lemmas.Bool.{cases_Bool, and_parts, not-true, leb-true, ltb-false}
+use Rattle.std.proofs.lemmas.List.Elements.{All-cons, All-nil}
+use Rattle.cell_num.specs.declared.length.Fixed.{Fixed}
+use Rattle.cell_num.specs.declared.finger.Row.{Row}
+use Rattle.cell_num.specs.Length.{units_up_to, nearest_units}
+use Rattle.spice_text.specs.declared.logical.Line.{Line}
+use Rattle.spice_text.specs.Numbers.{fixed_of}
+use Rattle.tech_file.specs.Technology.{Technology}
+use Rattle.spice_net.specs.declared.fault.SpiceFault.{SpiceFault}
+use Rattle.spice_net.specs.declared.fault.SpiceFault.TheVariants as fault
+use Rattle.spice_net.specs.declared.transistor.Transistor.{Transistor}
+use Rattle.spice_net.specs.declared.transistor.Sizes.{Sizes}
+use Rattle.spice_net.specs.Chosen.{first_is}
+use Rattle.cell_num.specs.Steps.{require, or_fault, ◌>>=◌}
+use Rattle.spice_net.specs.Transistors.{Fields, fields_of, unit_pm, units_of, sizes_of, is_one, row_of, own_rail, other_rail, is_rail, rails_allowed, transistor_with, transistor_of, is_transistor, with_line, transistors_of}
+
+-- ---- steps that were all granted
+
+pub granted_step : {A B : Type 0} (r : Result A SpiceFault) (f : A → Result B SpiceFault) (y : B) → (r >>= f) ≡ Ok y → (x : A) × (r ≡ Ok x) × (f x ≡ Ok y)
+granted_step (Ok x) f y e = (x, refl, e)
+granted_step (Err g) f y e = absurd cc
+
+pub granted_require : {B : Type 0} (b : Bool) (g : SpiceFault) (f : Unit {0} → Result B SpiceFault) (y : B) → (require b g >>= f) ≡ Ok y → (b ≡ true) × (f tt ≡ Ok y)
+granted_require true g f y e = (refl, e)
+granted_require false g f y e = absurd cc
+
+pub granted_option : {A B : Type 0} (o : Option A) (g : SpiceFault) (f : A → Result B SpiceFault) (y : B) → (or_fault o g >>= f) ≡ Ok y → (x : A) × (o ≡ Some x) × (f x ≡ Ok y)
+granted_option (Some x) g f y e = (x, refl, e)
+granted_option None g f y e = absurd cc
+
+ok_is : (t u : Transistor) → ◌≡◌ {A = Result Transistor SpiceFault} (Ok t) (Ok u) → t ≡ u
+ok_is t u e = cc
+
+oks_are : (ts us : List Transistor) → ◌≡◌ {A = Result (List Transistor) SpiceFault} (Ok ts) (Ok us) → ts ≡ us
+oks_are ts us e = cc
+
+-- ---- a transistor
+
+-- its width is 6 to 100,000 units, its gate is no rail, and its ends are not the other row's
+pub record IsRight (tech : Technology) (t : Transistor) : Type 0 where
+  pub least : 6 ≤ t.width
+  pub most : t.width ≤ 100000
+  pub gate : is_rail tech t.gate ≡ false
+  pub drain : bytes_eq t.drain (other_rail tech t.row) ≡ false
+  pub source : bytes_eq t.source (other_rail tech t.row) ≡ false
+
+few_units : (most unit : ℕ) (metres : Fixed) (units : ℕ) → units_up_to most metres unit ≡ Some units → units ≤ most
+few_units most unit metres units e = elim (cases_Bool (nat_lt most (nearest_units metres unit))) [
+  | inl more ↦ absurd (none_is (sym (ap (λ (b : Bool). cond b None (Some (nearest_units metres unit))) more) ∙ e))
+  | inr within ↦ omega (arith, ltb-false most (nearest_units metres unit) within, some_is (nearest_units metres unit) units (sym (ap (λ (b : Bool). cond b None (Some (nearest_units metres unit))) within) ∙ e))
+]
+  where
+    none_is : ◌≡◌ {A = Option ℕ} None (Some units) → ⊥
+    none_is e = absurd cc
+
+    some_is : (x y : ℕ) → ◌≡◌ {A = Option ℕ} (Some x) (Some y) → x ≡ y
+    some_is x y e = cc
+
+few_in : (most unit : ℕ) (length : Option Fixed) (units : ℕ) → option_and_then (λ metres. units_up_to most metres unit) length ≡ Some units → units ≤ most
+few_in most unit (Some metres) units e = few_units most unit metres units e
+few_in most unit None units e = absurd cc
+
+few_wide : (tech : Technology) (line : ℕ) (fields : Fields) (sizes : Sizes) → sizes_of tech line fields ≡ Ok sizes → sizes.width ≤ 100000
+few_wide tech line fields sizes e =
+    let width = granted_option (units_of tech fields.width) (fault.Number line) _ sizes e in
+    let channel = granted_option (units_of tech fields.channel) (fault.Number line) _ sizes width.2 in
+    let m = granted_option (fixed_of fields.m) (fault.Number line) _ sizes channel.2 in
+    let nf = granted_option (fixed_of fields.nf) (fault.Number line) _ sizes m.2 in
+    let made : width.0 ≡ sizes.width = cc in
+    omega (arith, few_in 100000 (unit_pm tech) (fixed_of fields.width) width.0 width.1, made)
+
+right_with : (tech : Technology) (line : ℕ) (fields : Fields) (t : Transistor) → transistor_with tech line fields ≡ Ok t → IsRight tech t
+right_with tech line fields t e =
+    let row = granted_option (row_of tech fields.model) (fault.Model line) _ t e in
+    let sizes = granted_step (sizes_of tech line fields) _ t row.2 in
+    let channel = granted_require (sizes.0.channel == 4) (fault.Length line sizes.0.channel) _ t sizes.2 in
+    let wide = granted_require (nat_le 6 sizes.0.width) (fault.Narrow line sizes.0.width) _ t channel.1 in
+    let bulk = granted_require (bytes_eq fields.bulk (own_rail tech row.0)) (fault.Body line) _ t wide.1 in
+    let rails = granted_require (rails_allowed tech row.0 fields) (fault.Rail line) _ t bulk.1 in
+    let one = granted_require (is_one sizes.0.m && is_one sizes.0.nf) (fault.Multiple line) _ t rails.1 in
+    made row.0 sizes.0 wide.0 rails.0 (few_wide tech line fields sizes.0 sizes.1) one.1
+  where
+    made : (row : Row) (sizes : Sizes) → nat_le 6 sizes.width ≡ true → rails_allowed tech row fields ≡ true → sizes.width ≤ 100000 → ◌≡◌ {A = Result Transistor SpiceFault} (Ok (record { row = row; drain = fields.drain; gate = fields.gate; source = fields.source; width = sizes.width })) (Ok t) → IsRight tech t
+    made row sizes wide rails most is =
+        let all = and_parts (not (is_rail tech fields.gate) && not (bytes_eq fields.drain (other_rail tech row))) (not (bytes_eq fields.source (other_rail tech row))) rails in
+        let first = and_parts (not (is_rail tech fields.gate)) (not (bytes_eq fields.drain (other_rail tech row))) all.0 in
+        subst (λ (u : Transistor). IsRight tech u) (ok_is (record { row = row; drain = fields.drain; gate = fields.gate; source = fields.source; width = sizes.width }) t is) (record {
+          least = leb-true 6 sizes.width wide;
+          most = most;
+          gate = not-true (is_rail tech fields.gate) first.0;
+          drain = not-true (bytes_eq fields.drain (other_rail tech row)) first.1;
+          source = not-true (bytes_eq fields.source (other_rail tech row)) all.1;
+        })
+
+right_of : (tech : Technology) (line : ℕ) (words : List (List ℕ)) (t : Transistor) → transistor_of tech line words ≡ Ok t → IsRight tech t
+right_of tech line words t e =
+    let fields = granted_step (fields_of line words) (transistor_with tech line) t e in
+    right_with tech line fields.0 t fields.2
+
+-- a line's transistor in front of those of the lines behind it
+right_line : (tech : Technology) (line : Line) (behind : Result (List Transistor) SpiceFault) (ts : List Transistor) → ((more : List Transistor) → behind ≡ Ok more → All (IsRight tech) more) → with_line tech line behind ≡ Ok ts → All (IsRight tech) ts
+right_line tech line behind ts rest e = elim (cases_Bool (is_transistor line.words)) [
+  | inl found ↦
+      let first = granted_step (transistor_of tech line.number line.words) (λ transistor. behind >>= λ more. Ok (transistor ∷ more)) ts (sym (by_kind found) ∙ e) in
+      let more = granted_step behind (λ more. Ok (first.0 ∷ more)) ts first.2 in
+      subst (λ (us : List Transistor). All (IsRight tech) us) (oks_are (first.0 ∷ more.0) ts more.2) (All-cons (IsRight tech) first.0 more.0 (right_of tech line.number line.words first.0 first.1) (rest more.0 more.1))
+  | inr other ↦ rest ts (granted_require (first_is (codes ".global") line.words) (fault.Element line.number) (λ _. behind) ts (sym (by_other other) ∙ e)).1
+]
+  where
+    by_kind : is_transistor line.words ≡ true → with_line tech line behind ≡ (transistor_of tech line.number line.words >>= λ transistor. behind >>= λ more. Ok (transistor ∷ more))
+    by_kind found = rw found refl
+
+    by_other : is_transistor line.words ≡ false → with_line tech line behind ≡ (require (first_is (codes ".global") line.words) (fault.Element line.number) >>= λ _. behind)
+    by_other other = rw other refl
+
+pub all_right : (tech : Technology) (lines : List Line) (ts : List Transistor) → transistors_of tech lines ≡ Ok ts → All (IsRight tech) ts
+all_right tech [] ts e = subst (λ (us : List Transistor). All (IsRight tech) us) (oks_are [] ts e) (All-nil (IsRight tech))
+all_right tech (line ∷ lines) ts e = right_line tech line (transistors_of tech lines) ts (all_right tech lines) e

@@ -1,0 +1,49 @@
+-- The reader's own words: what its structs show, and how far its steps have come.
+use Rattle.std.specs.Borrow.{Bor}
+use Rattle.std.specs.List.{list_any}
+use Rattle.std.specs.Prelude.{[], ◌∷◌, map, fold, bytes_eq, List, ◌++◌, if◌then◌else◌, ℕ, Option, Some, None, Result, Ok, Err}
+use Rattle.spice_net.specs.declared.fault.SpiceFault.{SpiceFault}
+use Rattle.spice_net.specs.declared.transistor.Fields.{Fields}
+use Rattle.spice_net.specs.declared.transistor.Judged.{Judged}
+use Rattle.spice_net.specs.declared.transistor.Transistor.{Transistor}
+use Rattle.spice_text.specs.declared.logical.Line.{Line}
+use Rattle.tech_file.specs.Technology.{Technology}
+use Rattle.cell_num.specs.Steps.{◌>>=◌}
+use Rattle.spice_net.specs.Transistors as line
+
+-- the fields of a line, by their texts
+abbrev pub shown : Fields → line.Fields
+shown f = record { drain = f.drain.now; gate = f.gate.now; source = f.source.now; bulk = f.bulk.now; model = f.model.now; width = f.width.now; channel = f.channel.now; m = f.m.now; nf = f.nf.now }
+
+abbrev pub are_fields : Result Fields SpiceFault → Result line.Fields SpiceFault
+are_fields (Ok f) = Ok (shown f)
+are_fields (Err e) = Err e
+
+-- the transistor of a line that is not refused
+abbrev pub transistor_as : Judged → line.Fields → Transistor
+transistor_as judged f = record { row = judged.row; drain = f.drain; gate = f.gate; source = f.source; width = judged.width }
+
+-- the later of two values, where it is there
+abbrev pub last_there : Option (List ℕ) → Option (List ℕ) → Option (List ℕ)
+last_there (Some value) before = Some value
+last_there None before = before
+
+-- a line in front of others, unless it is a comment
+abbrev pub with_shown : Technology → Line → Result (List Transistor) SpiceFault → Result (List Transistor) SpiceFault
+with_shown tech l rest = if l.info then rest else line.with_line tech l rest
+
+-- transistors, and behind them those of lines that are still to be read
+abbrev pub in_front : List Transistor → Result (List Transistor) SpiceFault → Result (List Transistor) SpiceFault
+in_front done rest = rest >>= λ more. Ok (done ++ more)
+
+-- the names that a set of slices holds
+abbrev pub names_of : List (Bor (List ℕ)) → List (List ℕ)
+names_of keys = map (λ key. key.now) keys
+
+-- names with one more, unless it stands there
+abbrev pub with_name : List (List ℕ) → List ℕ → List (List ℕ)
+with_name names word = if list_any (bytes_eq word) names then names else names ++ word ∷ []
+
+-- names with more, one after the other
+abbrev pub with_names : List (List ℕ) → List (List ℕ) → List (List ℕ)
+with_names names words = fold with_name names words

@@ -1,0 +1,33 @@
+use cell_num::{List, Name, Names, NetNo, Pins, Row};
+
+/// The most pins of a subcircuit, rails that are added to them counted.
+pub const MOST_PINS: usize = 64;
+
+/// The most transistors of a subcircuit.
+pub const MOST_DEVICES: usize = 128;
+
+/// The most nets of a subcircuit.
+pub const MOST_NETS: usize = 256;
+
+/// A transistor, its nets by their numbers.
+#[derive(Clone, Copy, Debug, PartialEq, Eq)]
+pub struct Device {
+    pub row: Row,
+    pub drain: NetNo,
+    pub gate: NetNo,
+    pub source: NetNo,
+    /// In grid units.
+    pub width: u32,
+}
+
+pub type DeviceList = List<Device>;
+
+/// A subcircuit: its nets by their numbers, the pins first, and its transistors in the order of the
+/// file.
+#[derive(Debug, Drop)]
+pub struct Subckt {
+    pub name: Name,
+    pub pins: Pins,
+    pub nets: Names,
+    pub devices: DeviceList,
+}

@@ -1,0 +1,7 @@
+use Rattle.std.proofs.Common.{arith}
+use Rattle.std.proofs.lemmas.Grind.{common_steps}
+use Rattle.spice_text.proofs.Joins.{joined_behind}
+use Rattle.spice_text.proofs.words.add_parts.Goals as goal
+
+pub loop-part-preserved : goal.loop-part-preserved
+loop-part-preserved c = grind (arith, common_steps, joined_behind)

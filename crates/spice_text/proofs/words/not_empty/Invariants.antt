@@ -1,5 +1,0 @@
-use Rattle.std.proofs.Common.{◌≡◌, ◌==◌, not, map, filter, length, take}
-use Rattle.spice_text.proofs.words.not_empty.Given as goal
-
-abbrev pub invariant-loop-word : goal.invariant-loop-word
-invariant-loop-word l = l.names ≡ filter (λ w. not (length w == 0)) (map (λ w. w.now) (take l.word-index l.word-items))
