@@ -1,0 +1,43 @@
+use cell_num::{List, NetNo};
+use row_state::{State, Step};
+
+/// Why a lemma holds: the bound of one row of its state, or all next columns.
+#[derive(Clone, Copy, Debug, PartialEq, Eq)]
+pub enum Rule {
+    P,
+    N,
+    Branch,
+}
+
+/// No completion of the state has fewer further gaps than the bound.
+#[derive(Debug, Drop)]
+pub struct Lemma {
+    pub state: State,
+    pub bound: u32,
+    pub rule: Rule,
+}
+
+pub type LemmaList = List<Lemma>;
+
+/// A column of the row, by its gate and the kinds of its fingers.
+#[derive(Clone, Copy, Debug, PartialEq, Eq)]
+pub struct LogStep {
+    pub gate: NetNo,
+    pub step: Step,
+}
+
+pub type LogSteps = List<LogStep>;
+
+/// The row that a log certifies, and its gaps.
+#[derive(Debug, Drop)]
+pub struct Best {
+    pub gaps: u32,
+    pub steps: LogSteps,
+}
+
+/// Lemmas on states, and the row that they certify, where the search found one.
+#[derive(Debug, Drop)]
+pub struct Log {
+    pub lemmas: LemmaList,
+    pub best: Option<Best>,
+}

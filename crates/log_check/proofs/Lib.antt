@@ -1,0 +1,5 @@
+pub mod Branches
+pub mod Kept
+pub mod Places
+pub mod SameKinds
+pub mod Sound

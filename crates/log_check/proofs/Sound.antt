@@ -1,0 +1,113 @@
+-- Justified lemmas are true, so an accepted row has least gaps.
+use Rattle.std.proofs.Common.{ℕ, zero, suc, ◌≡◌, ◌<◌, ◌≤◌, Bool, true, cond, ◌&&◌, List, [], ◌∷◌, length, Option, Some, None, max, fold, take, get_or, inl, inr, refl, sym, ap, subst, arith, All, ◌∙◌, add-one, take_all}
+use Rattle.std.specs.Str.{bytes_eq}
+use Rattle.std.proofs.lemmas.Slice.Eq.{bytes_eq-Decides}
+use Rattle.row_model.proofs.Decide.{net_decides}
+use Rattle.std.proofs.lemmas.Bool.{cases_Bool, and_parts}
+use Rattle.std.proofs.lemmas.List.Elements.{All-nil, All-head, All-tail, All-more}
+use Rattle.cell_num.specs.declared.finger.Row.{Row}
+use Rattle.cell_num.specs.declared.finger.Row.TheVariants.{P, N}
+use Rattle.cell_num.specs.declared.net.NetNo.{NetNo}
+use Rattle.cell_num.specs.declared.finger.Fingers.{Fingers}
+use Rattle.row_model.specs.declared.column.Column.{Column}
+use Rattle.row_model.specs.Arrangement.{IsArrangement}
+use Rattle.row_model.specs.Gaps.{gaps_of}
+use Rattle.row_state.specs.declared.kind.Kinds.{Kinds}
+use Rattle.row_state.specs.declared.state.State.{State}
+use Rattle.row_state.specs.Completion.{Need, further_gaps}
+use Rattle.row_state.specs.Start.{IsState, start_of, AreKinds}
+use Rattle.row_state.specs.Steps.{state_after}
+use Rattle.row_state.proofs.Unfold.{branch, completion_of, gaps_from_start}
+use Rattle.bound_log.specs.declared.log.Rule.{Rule}
+use Rattle.bound_log.specs.declared.log.Rule.TheVariants as by
+use Rattle.bound_log.specs.declared.log.Lemma.{Lemma}
+use Rattle.bound_log.specs.declared.log.Best.{Best}
+use Rattle.bound_log.specs.declared.log.Log.{Log}
+use Rattle.log_check.specs.Accepted.{same_end, same_state, better, best_of, RuleReaches, IsJustified, AreJustified, IsTrueOf, IsAccepted, BestPasses, Lists}
+
+-- the law of a bound
+abbrev pub Holds : (Row → State → Kinds → ℕ) → Kinds → Type 0
+Holds value k = (row : Row) (s : State) → IsState k s → Need k s (value row s k)
+
+make_state : List ℕ → List ℕ → Option NetNo → Option NetNo → State
+make_state p n pe ne = record { p_left = p; n_left = n; p_end = pe; n_end = ne }
+
+made_state : {p p' n n' : List ℕ} {pe pe' ne ne' : Option NetNo} → p ≡ p' → n ≡ n' → pe ≡ pe' → ne ≡ ne' → make_state p n pe ne ≡ make_state p' n' pe' ne'
+made_state a b c d = cc
+
+pub same_fields : (a b : State) → a.p_left ≡ b.p_left → a.n_left ≡ b.n_left → a.p_end ≡ b.p_end → a.n_end ≡ b.n_end → a ≡ b
+unfolding make_state
+same_fields a b p n pe ne = made_state p n pe ne
+
+same_end_is : (x y : Option NetNo) → same_end x y ≡ true → x ≡ y
+same_end_is None None h = refl
+same_end_is None (Some b) h = cc
+same_end_is (Some a) None h = cc
+same_end_is (Some a) (Some b) h = ap (λ (n : NetNo). Some n) ((net_decides a b).0 h)
+
+same_state_but_n : State → State → Bool
+same_state_but_n a b = bytes_eq a.p_left b.p_left && bytes_eq a.n_left b.n_left && same_end a.p_end b.p_end
+
+pub same_state_is : (a b : State) → same_state a b ≡ true → a ≡ b
+unfolding same_state_but_n
+same_state_is a b h =
+    let parts : (same_state_but_n a b ≡ true) × (same_end a.n_end b.n_end ≡ true) = and_parts _ _ h in
+    let parts' : (bytes_eq a.p_left b.p_left && bytes_eq a.n_left b.n_left ≡ true) × (same_end a.p_end b.p_end ≡ true) = and_parts _ _ parts.0 in
+    let parts'' : (bytes_eq a.p_left b.p_left ≡ true) × (bytes_eq a.n_left b.n_left ≡ true) = and_parts _ _ parts'.0 in
+    same_fields a b ((bytes_eq-Decides a.p_left b.p_left).0 parts''.0) ((bytes_eq-Decides a.n_left b.n_left).0 parts''.1) (same_end_is a.p_end b.p_end parts'.1) (same_end_is a.n_end b.n_end parts.1)
+
+need_max : (k : Kinds) (s : State) (a b : ℕ) → Need k s a → Need k s b → Need k s (max a b)
+need_max k s a b ha hb row h = omega (arith, ha row h, hb row h)
+
+need_better : (k : Kinds) (s : State) (best : ℕ) (lemma : Lemma) → Need k s best → IsTrueOf k lemma → Need k s (better s best lemma)
+need_better k s best lemma h true_of =
+    elim (cases_Bool (same_state lemma.state s)) [
+      | inl same ↦ subst (λ b. Need k s (cond b (max best lemma.bound) best)) (sym same) (need_max k s best lemma.bound h (subst (λ z. Need k z lemma.bound) (same_state_is lemma.state s same) true_of))
+      | inr other ↦ subst (λ b. Need k s (cond b (max best lemma.bound) best)) (sym other) h
+    ]
+
+best_from : (k : Kinds) (s : State) (best : ℕ) (lemmas : List Lemma) → Need k s best → All (IsTrueOf k) lemmas → Need k s (fold (better s) best lemmas)
+best_from k s best [] h all = h
+best_from k s best (x ∷ xs) h all = best_from k s (better s best x) xs (need_better k s best x h (All-head (IsTrueOf k) x xs all)) (All-tail (IsTrueOf k) x xs all)
+
+-- the best bound of true lemmas is true
+pub best_true : (k : Kinds) (s : State) (lemmas : List Lemma) → All (IsTrueOf k) lemmas → Need k s (best_of s lemmas)
+best_true k s lemmas all = best_from k s 0 lemmas (λ row h. omega arith) all
+
+by_rule : (value : Row → State → Kinds → ℕ) (k : Kinds) (earlier : List Lemma) (rule : Rule) (s : State) (bound : ℕ) → Holds value k → All (IsTrueOf k) earlier → IsState k s → RuleReaches value k (λ s. best_of s earlier) rule s bound → Need k s bound
+by_rule value k earlier by.P s bound law all state h = λ row complete. omega (arith, h, law P s state row complete)
+by_rule value k earlier by.N s bound law all state h = λ row complete. omega (arith, h, law N s state row complete)
+by_rule value k earlier by.Branch s bound law all state h = branch k s bound (λ step. best_of (state_after k s step) earlier) h.0 (λ step possible. best_true k (state_after k s step) earlier all) h.1
+
+pub justified_true : (value : Row → State → Kinds → ℕ) (k : Kinds) (earlier : List Lemma) (lemma : Lemma) → Holds value k → All (IsTrueOf k) earlier → IsJustified value k (λ s. best_of s earlier) lemma → IsTrueOf k lemma
+justified_true value k earlier lemma law all h = by_rule value k earlier lemma.rule lemma.state lemma.bound law all h.state h.reaches
+
+sound_up_to : (value : Row → State → Kinds → ℕ) (k : Kinds) (lemmas : List Lemma) → Holds value k → AreJustified value k lemmas → (n : ℕ) → n ≤ length lemmas → All (IsTrueOf k) (take n lemmas)
+sound_up_to value k lemmas law h zero within = All-nil (IsTrueOf k)
+sound_up_to value k [] law h (suc n) within = absurd (omega arith)
+sound_up_to value k (x ∷ xs) law h (suc n) within =
+    let lemmas : List Lemma = x ∷ xs in
+    let before : All (IsTrueOf k) (take n (x ∷ xs)) = sound_up_to value k (x ∷ xs) law h n (omega arith) in
+    let at : n < length (x ∷ xs) = omega arith in
+    subst (λ m. All (IsTrueOf k) (take m (x ∷ xs))) (add-one n) (All-more (IsTrueOf k) (x ∷ xs) n x at before (justified_true value k (take n (x ∷ xs)) (get_or (x ∷ xs) n x) law before (h n x at)))
+
+pub sound : (value : Row → State → Kinds → ℕ) (k : Kinds) (lemmas : List Lemma) → Holds value k → AreJustified value k lemmas → All (IsTrueOf k) lemmas
+sound value k lemmas law h = subst (All (IsTrueOf k)) (take_all (length lemmas) lemmas (omega arith)) (sound_up_to value k lemmas law h (length lemmas) (omega arith))
+
+-- the row of an accepted log arranges the fingers with the gaps that are answered
+row_arranges : (k : Kinds) (f : Fingers) (best gaps : ℕ) (row : Option Best) → BestPasses k f best row gaps → Lists k row (λ columns. IsArrangement columns f × (gaps ≡ gaps_of columns))
+row_arranges k f best gaps None h = absurd h
+row_arranges k f best gaps (Some row) h = (h.arranges.arranges, h.said ∙ h.counted)
+
+row_least : (k : Kinds) (f : Fingers) (best gaps : ℕ) (row : Option Best) → BestPasses k f best row gaps → gaps ≤ best
+row_least k f best gaps None h = absurd h
+row_least k f best gaps (Some row) h = omega (arith, h.said, h.least)
+
+pub accepted_arranges : (value : Row → State → Kinds → ℕ) (k : Kinds) (f : Fingers) (log : Log) (gaps : ℕ) → IsAccepted value k f log gaps → Lists k log.best (λ columns. IsArrangement columns f × (gaps ≡ gaps_of columns))
+accepted_arranges value k f log gaps h = row_arranges k f (best_of (start_of k) log.lemmas) gaps log.best h.passes
+
+-- no arrangement of the fingers has fewer gaps than the row of an accepted log
+pub accepted_least : (value : Row → State → Kinds → ℕ) (k : Kinds) (f : Fingers) (log : Log) (gaps : ℕ) → Holds value k → AreKinds f k → IsAccepted value k f log gaps → (other : List Column) → IsArrangement other f → gaps ≤ gaps_of other
+accepted_least value k f log gaps law kinds h other arranges =
+    let need : best_of (start_of k) log.lemmas ≤ further_gaps (start_of k) other = best_true k (start_of k) log.lemmas (sound value k log.lemmas law h.justified) other (completion_of f k other kinds arranges) in
+    omega (arith, need, gaps_from_start k other, row_least k f (best_of (start_of k) log.lemmas) gaps log.best h.passes)

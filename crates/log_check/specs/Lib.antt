@@ -1,0 +1,4 @@
+pub mod Accepted
+pub mod Known
+pub mod Refusal
+pub mod Tests

@@ -1,0 +1,101 @@
+ghost use Rattle.std.specs.Prelude.{◌≡◌, ◌≤◌, ◌+◌, All, IfOk, IfErr, OnOk, List as Sequence, length};
+ghost use Rattle.cell_num.specs.Fingers.{AreFingers};
+ghost use Rattle.row_model.specs.declared.column.Column.{Column};
+ghost use Rattle.row_model.specs.Arrangement.{IsArrangement};
+ghost use Rattle.row_model.specs.Gaps.{gaps_of};
+ghost use Rattle.row_state.specs.Start.{AreKinds, AreSomeKinds, start_of};
+ghost use Rattle.log_check.specs.Accepted.{AreJustified, BestPasses, ForKinds, IsAccepted, IsTrueOf, Lists, best_of};
+ghost use Rattle.log_check.specs.Refusal.{BestRefuses, LemmasRefuse, Refuses};
+
+use crate::Refused;
+use crate::known::best_in;
+use crate::lemma::first_unjustified;
+use crate::listed::check_row;
+use bound_log::{Best, Lemma, Log};
+use cell_num::{Fingers, NoMemory};
+use row_state::{Kinds, RowBound, kinds, start};
+use std::alloc::Global;
+
+// The line of the first lemma that is not justified.
+fn check_lemmas<B: RowBound>(
+    alloc: Global,
+    kinds: &Kinds,
+    lemmas: &[Lemma],
+    bound: &B,
+) -> Result<(), Refused>
+    requires kinds { AreSomeKinds kinds.now }
+    requires few { length lemmas.now ≤ 1073741824 }
+    ensures passes { OnOk result (AreJustified (B.value bound.now) kinds.now lemmas.now) }
+    ensures refuses { IfErr result (LemmasRefuse (B.value bound.now) kinds.now lemmas.now) }
+{
+    match first_unjustified(alloc, kinds, lemmas, bound)? {
+        Some(at) => Err(Refused::Unproved {
+            line: at as u32 + 3,
+        }),
+        None => Ok(()),
+    }
+}
+
+fn start_best(alloc: Global, kinds: &Kinds, lemmas: &[Lemma]) -> Result<u32, NoMemory>
+    requires kinds { AreSomeKinds kinds.now }
+    ensures { IfOk result (λ best. best ≡ best_of (start_of kinds.now) lemmas.now) }
+{
+    let first = start(alloc, kinds)?;
+    Ok(best_in(lemmas, &first))
+}
+
+fn check_best(
+    alloc: Global,
+    fingers: &Fingers,
+    kinds: &Kinds,
+    listed: &Option<Best>,
+    best: u32,
+) -> Result<u32, Refused>
+    requires fingers { AreFingers fingers.now }
+    ensures passes { IfOk result (BestPasses kinds.now fingers.now best listed.now) }
+    ensures refuses { IfErr result (BestRefuses kinds.now fingers.now best listed.now) }
+{
+    match listed {
+        Some(row) => check_row(alloc, fingers, kinds, row, best),
+        None => Err(Refused::NoRow { best }),
+    }
+}
+
+fn check<B: RowBound>(
+    alloc: Global,
+    fingers: &Fingers,
+    kinds: &Kinds,
+    log: &Log,
+    bound: &B,
+) -> Result<u32, Refused>
+    requires fingers { AreFingers fingers.now }
+    requires kinds { AreSomeKinds kinds.now }
+    requires few { length log.now.lemmas ≤ 1073741824 }
+    ensures accepted { IfOk result (IsAccepted (B.value bound.now) kinds.now fingers.now log.now) }
+    ensures refused { IfErr result (Refuses (B.value bound.now) kinds.now fingers.now log.now) }
+{
+    let lemmas = log.lemmas.as_slice();
+    check_lemmas(alloc, kinds, lemmas, bound)?;
+    let best = start_best(alloc, kinds, lemmas)?;
+    check_best(alloc, fingers, kinds, &log.best, best)
+}
+
+/// The gaps of the row that the log certifies, where the log is accepted: no arrangement of the
+/// fingers has fewer. Else the first cause to refuse it. At most 1,073,741,824 lemmas.
+pub fn check_log<B: RowBound>(
+    alloc: Global,
+    fingers: &Fingers,
+    log: &Log,
+    bound: &B,
+) -> Result<u32, Refused>
+    requires fingers { AreFingers fingers.now }
+    requires few { length log.now.lemmas ≤ 1073741824 }
+    ensures accepted { IfOk result (λ gaps. ForKinds fingers.now (λ k. IsAccepted (B.value bound.now) k fingers.now log.now gaps)) }
+    ensures refused { IfErr result (λ fault. ForKinds fingers.now (λ k. Refuses (B.value bound.now) k fingers.now log.now fault)) }
+    ensures arranges { IfOk result (λ gaps. ForKinds fingers.now (λ k. Lists k log.now.best (λ row. IsArrangement row fingers.now × (gaps ≡ gaps_of row)))) }
+    ensures least { IfOk result (λ gaps. (other : Sequence Column) → IsArrangement other fingers.now → gaps ≤ gaps_of other) }
+    ensures lemmas { IfOk result (λ _. ForKinds fingers.now (λ k. All (IsTrueOf k) log.now.lemmas)) }
+{
+    let kinds = kinds(alloc, fingers)?;
+    check(alloc, fingers, &kinds, log, bound)
+}

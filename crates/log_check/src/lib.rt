@@ -1,0 +1,14 @@
+// Whether a log proves that its row has least gaps.
+#![tactic(auto)]
+
+mod check;
+mod known;
+mod lemma;
+mod listed;
+mod refused;
+
+pub use check::check_log;
+pub use refused::Refused;
+
+#[cfg(test)]
+mod tests;
