@@ -144,6 +144,12 @@ fn routes_rows(rt: HostRuntime) -> Result<(), Fail> {
         ),
         "NAND2"
     );
+    Ok(())
+}
+
+// A net above another at one line.
+#[test]
+fn routes_rows_with_a_constraint(rt: HostRuntime) -> Result<(), Fail> {
     // pins a b c cn vdd gnd: a stands above b at line 2
     let gate = routed(
         rt.alloc(),

@@ -1,3 +1,4 @@
+pub mod Columns
 mod Counts
 mod Shares
 mod Sound

@@ -4,10 +4,9 @@ ghost use Rattle.spice_net.specs.Subckts.{IsSubckt};
 ghost use Rattle.finger_fold.specs.declared.folding.FoldFault.TheVariants as fault;
 ghost use Rattle.finger_fold.specs.Folding.{fingers_in, saturated, folded};
 
-use crate::columns::columns_of;
 use crate::count::count_in;
 use crate::cut::all_fingers;
-use cell_num::{Fingers, NoMemory, Row};
+use cell_num::{Fingers, NoMemory, Row, columns_of};
 use spice_net::Subckt;
 use std::alloc::Global;
 use tech_file::Tech;
@@ -82,7 +81,7 @@ pub fn fold(alloc: Global, cell: &Subckt, tech: &Tech) -> Result<Fingers, FoldFa
     few_in(Row::P, cell, tech)?;
     few_in(Row::N, cell, tech)?;
     let fingers = all_fingers(alloc, cell, tech)?;
-    let count = columns_of(&fingers);
+    let count = columns_of(&fingers) as u64;
     if count > MOST_COLUMNS {
         return Err(FoldFault::TooManyColumns { count });
     }

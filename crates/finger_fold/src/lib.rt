@@ -1,7 +1,6 @@
 // Wide transistors as several fingers of a row.
 #![tactic(auto)]
 
-mod columns;
 mod count;
 mod cut;
 mod folding;

@@ -3,7 +3,8 @@ use Rattle.std.proofs.Common.{ℕ, ◌≡◌, List, [], ◌∷◌, Result, Ok, a
 use Rattle.box_geom.specs.declared.shape.Shapes.{Shapes}
 use Rattle.gds_record.specs.Records.{Item, IsBytes}
 use Rattle.gds_read.specs.declared.fault.GdsFault.{GdsFault}
-use Rattle.gds_read.specs.Grammar.{◌>>=◌, first_pass_of}
+use Rattle.cell_num.specs.Steps.{◌>>=◌}
+use Rattle.gds_read.specs.Grammar.{first_pass_of}
 use Rattle.gds_read.specs.Structure.{found_in, one_of}
 use Rattle.gds_read.specs.Elements.{elements_of, drawn}
 use Rattle.gds_read.specs.Decoding.{grid_in, decoded, Decodes, IsCell}

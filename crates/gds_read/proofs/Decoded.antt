@@ -5,7 +5,8 @@ use Rattle.gds_record.specs.Records.{Item, items_from}
 use Rattle.gds_read.specs.declared.fault.GdsFault.{GdsFault}
 use Rattle.gds_read.specs.declared.fault.GdsFault.TheVariants as fault
 use Rattle.gds_read.specs.declared.structure.Lookup.TheVariants as lookup
-use Rattle.gds_read.specs.Grammar.{◌>>=◌, first_pass_of}
+use Rattle.cell_num.specs.Steps.{◌>>=◌}
+use Rattle.gds_read.specs.Grammar.{first_pass_of}
 use Rattle.gds_read.specs.Structure.{found_in, one_of, Finds}
 use Rattle.gds_read.specs.Elements.{elements_of, drawn, Gives}
 use Rattle.gds_read.specs.Decoding.{grid_in, decoded, Decodes, GdsRefused, IsRefused, IsTwiceOf}

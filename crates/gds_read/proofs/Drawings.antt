@@ -13,7 +13,8 @@ use Rattle.gds_record.proofs.Walks.{items_end, items_more}
 use Rattle.gds_read.specs.declared.fault.GdsFault.{GdsFault}
 use Rattle.gds_read.specs.declared.fault.GdsFault.TheVariants as fault
 use Rattle.gds_read.specs.declared.units.Grid.{Grid}
-use Rattle.gds_read.specs.Grammar.{◌>>=◌, element_begun}
+use Rattle.cell_num.specs.Steps.{◌>>=◌}
+use Rattle.gds_read.specs.Grammar.{element_begun}
 use Rattle.gds_read.specs.Elements.{Element, until, with_element, elements_of, nothing_drawn, joined, drawn_at, drawn_by, drawn, Adds, Gives}
 
 pub adds_same : (f : GdsFault) (old new : Shapes) → Adds (Err f) old new (Err f)

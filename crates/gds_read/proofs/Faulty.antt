@@ -11,7 +11,8 @@ use Rattle.gds_record.proofs.Cuts.{Cuts, cuts}
 use Rattle.gds_read.specs.declared.fault.GdsFault.{GdsFault}
 use Rattle.gds_read.specs.declared.grammar.Place.{Place}
 use Rattle.gds_read.specs.declared.grammar.Place.TheVariants.{Start, Opened, Library, Naming, Structure, Element, Ended}
-use Rattle.gds_read.specs.Grammar.{◌>>=◌, pass, pass_from, first_pass_of, step_of, zeros_behind, goes_on, as_fault}
+use Rattle.cell_num.specs.Steps.{◌>>=◌}
+use Rattle.gds_read.specs.Grammar.{pass, pass_from, first_pass_of, step_of, zeros_behind, goes_on, as_fault}
 use Rattle.gds_read.specs.Library.{Follows, fault_or, step_at, HasFault, IsFirstFault}
 use Rattle.gds_read.proofs.Passes.{pass_stops, pass_fails}
 use Rattle.gds_read.proofs.Found.{follows_more, spelled_length, same_item, parts_of, passes_all}

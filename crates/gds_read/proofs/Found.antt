@@ -14,7 +14,8 @@ use Rattle.gds_record.proofs.Cuts.{Cuts, cuts}
 use Rattle.gds_read.specs.declared.fault.GdsFault.{GdsFault}
 use Rattle.gds_read.specs.declared.grammar.Place.{Place}
 use Rattle.gds_read.specs.declared.grammar.Place.TheVariants.{Start, Opened, Library, Naming, Structure, Element, Ended}
-use Rattle.gds_read.specs.Grammar.{◌>>=◌, pass, first_pass_of, step_of, zeros_behind, first_behind, goes_on}
+use Rattle.cell_num.specs.Steps.{◌>>=◌}
+use Rattle.gds_read.specs.Grammar.{pass, first_pass_of, step_of, zeros_behind, first_behind, goes_on}
 use Rattle.gds_read.specs.Library.{Follows, IsLibrary}
 
 pub record Rests (bytes : List ℕ) (at : ℕ) (place : Place) (end : ℕ) : Type 0 where

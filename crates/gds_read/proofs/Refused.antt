@@ -6,7 +6,8 @@ use Rattle.gds_record.specs.Records.{Item, IsBytes}
 use Rattle.gds_read.specs.declared.fault.GdsFault.{GdsFault}
 use Rattle.gds_read.specs.declared.fault.GdsFault.TheVariants as fault
 use Rattle.gds_read.specs.declared.units.Grid.{Grid}
-use Rattle.gds_read.specs.Grammar.{◌>>=◌, first_pass_of}
+use Rattle.cell_num.specs.Steps.{◌>>=◌}
+use Rattle.gds_read.specs.Grammar.{first_pass_of}
 use Rattle.gds_read.specs.Structure.{found_in, one_of}
 use Rattle.gds_read.specs.Elements.{Element, elements_of, joined, drawn_by, drawn}
 use Rattle.gds_read.specs.Decoding.{grid_in, decoded, GdsRefused, IsDrawn, IsFirstFaulty, HasNoCell, HasTwice, HasFaultyElement, IsCellFault}

@@ -4,7 +4,7 @@ use Rattle.box_geom.specs.declared.shape.Shapes.{Shapes}
 use Rattle.gds_record.specs.declared.types.RecordType.TheVariants as record_type
 use Rattle.gds_record.specs.Records.{Item, Stream}
 use Rattle.gds_read.specs.declared.fault.GdsFault.{GdsFault}
-use Rattle.gds_read.specs.Grammar.{◌>>=◌}
+use Rattle.cell_num.specs.Steps.{◌>>=◌}
 use Rattle.gds_read.specs.Structure.{found_in, one_of}
 use Rattle.gds_read.specs.Elements.{elements_of, until, content_of, drawn}
 use Rattle.gds_read.specs.Decoding.{unit_in, units_of, grid_in, decoded, Decodes}

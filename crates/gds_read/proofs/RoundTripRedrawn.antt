@@ -12,7 +12,7 @@ use Rattle.gds_record.specs.declared.types.RecordType.TheVariants as record_type
 use Rattle.gds_read.specs.declared.units.Grid.{Grid}
 use Rattle.gds_read.specs.declared.fault.GdsFault.TheVariants as fault
 use Rattle.gds_read.specs.declared.element.Spot.{Spot}
-use Rattle.gds_read.specs.Grammar.{◌>>=◌}
+use Rattle.cell_num.specs.Steps.{◌>>=◌}
 use Rattle.gds_read.specs.Structure.{trimmed}
 use Rattle.gds_read.specs.Elements.{Element, elements_of, until, drawn, drawn_by, joined, text_on, spot_on, spot_of, with_label, rectangle_on, shape_on, with_shape, are_corners, rectangle_of}
 use Rattle.gds_write.specs.Written.{padded, point, corners, rectangle_records, label_records, tail_records, IsWritableShape, IsWritableLabel}

@@ -8,7 +8,8 @@ use Rattle.gds_read.specs.declared.fault.GdsFault.{GdsFault}
 use Rattle.gds_read.specs.declared.fault.GdsFault.TheVariants as fault
 use Rattle.gds_read.specs.declared.units.Grid.{Grid}
 use Rattle.gds_read.specs.Real.{picometres_at}
-use Rattle.gds_read.specs.Grammar.{◌>>=◌, first_pass_of}
+use Rattle.cell_num.specs.Steps.{◌>>=◌}
+use Rattle.gds_read.specs.Grammar.{first_pass_of}
 use Rattle.gds_read.specs.Library.{IsLibrary, IsFirstFault}
 use Rattle.gds_read.specs.Structure.{found_in, one_of}
 use Rattle.gds_read.specs.Elements.{Element, until, content_of, elements_of, drawn_by, drawn}

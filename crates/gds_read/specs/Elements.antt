@@ -18,7 +18,8 @@ use Rattle.gds_read.specs.declared.element.Point.{Point}
 use Rattle.gds_read.specs.declared.element.Spot.{Spot}
 use Rattle.gds_read.specs.Units.{whole_units_of, floor_units_of, ends_of}
 use Rattle.gds_read.specs.Structure.{is_type, trimmed}
-use Rattle.gds_read.specs.Grammar.{element_begun, ◌>>=◌}
+use Rattle.cell_num.specs.Steps.{◌>>=◌}
+use Rattle.gds_read.specs.Grammar.{element_begun}
 
 -- the records before the first one of a type
 abbrev pub until : RecordType → List Item → List Item

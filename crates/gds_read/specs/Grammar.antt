@@ -1,6 +1,7 @@
 -- The grammar of a library, as a recognizer of the list of its records: which records of the table are
 -- allowed at which place, and the first record that is not right where it stands.
 use Rattle.std.specs.Prelude.{ℕ, ◌+◌, ◌%◌, ◌==◌, ◌||◌, ◌&&◌, not, nat_lt, is_some, Bool, true, false, List, [], ◌∷◌, length, get_or, drop, position, Option, Some, None, Result, Ok, Err, if◌then◌else◌}
+use Rattle.cell_num.specs.Steps.{◌>>=◌}
 use Rattle.gds_record.specs.declared.record.RecFault.{RecFault}
 use Rattle.gds_record.specs.declared.record.RecFault.TheVariants as record_fault
 use Rattle.gds_record.specs.declared.types.RecordType.{RecordType}
@@ -158,11 +159,6 @@ first_behind bytes from (Some more) = Err (fault.Order (from + more) (get_or byt
 
 abbrev pub zeros_behind : List ℕ → ℕ → Result ℕ GdsFault
 zeros_behind bytes from = first_behind bytes from (position (λ b. not (b == 0)) (drop from bytes))
-
-infixl 10 ◌>>=◌
-abbrev pub ◌>>=◌ : {A B : Type 0} → Result A GdsFault → (A → Result B GdsFault) → Result B GdsFault
-(Ok x) >>= f = f x
-(Err e) >>= f = Err e
 
 abbrev pub goes_on : Place → Result ℕ GdsFault → Result ℕ GdsFault → Result ℕ GdsFault
 goes_on Ended behind rest = behind

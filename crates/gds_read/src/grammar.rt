@@ -1,4 +1,5 @@
 ghost use Rattle.std.specs.Prelude.{◌≡◌};
+ghost use Rattle.gds_read.specs.declared.grammar.Place.TheVariants.{Library};
 ghost use Rattle.gds_read.specs.Grammar.{element_begun, is_complete, is_allowed_inside, seen_with, is_allowed, has_wrong_length, follows};
 
 use gds_record::RecordType;
@@ -179,6 +180,26 @@ pub fn wrong_length(place: Place, inner: RecordType, size: usize) -> bool
     }
 }
 
+// The place behind a record inside a library.
+fn after_in_library(named: bool, units: bool, structures: bool, inner: RecordType) -> Place
+    ensures { result ≡ follows (Library named units structures) inner }
+{
+    match inner {
+        RecordType::LibName => Place::Library {
+            named: true,
+            units,
+            structures,
+        },
+        RecordType::Units => Place::Library {
+            named,
+            units: true,
+            structures,
+        },
+        RecordType::BgnStr => Place::Naming,
+        _ => Place::Ended,
+    }
+}
+
 /// The place behind a record that is allowed at a place.
 pub fn after(place: Place, inner: RecordType) -> Place
     ensures { result ≡ follows place inner }
@@ -192,30 +213,12 @@ pub fn after(place: Place, inner: RecordType) -> Place
         },
         (
             Place::Library {
+                named,
                 units,
                 structures,
-                ..
             },
-            RecordType::LibName,
-        ) => Place::Library {
-            named: true,
-            units,
-            structures,
-        },
-        (
-            Place::Library {
-                named,
-                structures,
-                ..
-            },
-            RecordType::Units,
-        ) => Place::Library {
-            named,
-            units: true,
-            structures,
-        },
-        (Place::Library { .. }, RecordType::BgnStr) => Place::Naming,
-        (Place::Library { .. }, _) => Place::Ended,
+            _,
+        ) => after_in_library(named, units, structures, inner),
         (Place::Naming, _) => Place::Structure,
         (Place::Structure, _) => match begun(inner) {
             Some(kind) => Place::Element {

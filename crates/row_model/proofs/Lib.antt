@@ -1,4 +1,3 @@
 pub mod Decide
 mod Examples
 pub mod Permutations
-pub mod Sums

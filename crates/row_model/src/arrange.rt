@@ -5,7 +5,7 @@ ghost use Rattle.row_model.specs.Arrangement.{IsArrangement, fingers_in};
 ghost use Rattle.row_model.specs.Tests.{placed_test, column_test, arrangement_test, same_finger, has_same_fingers};
 
 use crate::{Arrangement, Column, Placed};
-use cell_num::{Finger, Fingers, NetNo, Row};
+use cell_num::{Finger, Fingers, Row, columns_of};
 
 fn is_same(a: &Finger, b: &Finger) -> bool
     ensures { result ≡ same_finger a.now b.now }
@@ -55,30 +55,6 @@ fn has_fingers(columns: &[Column], row: Row, fingers: &[Finger]) -> bool
     row_len(columns, row) == fingers.len() && has_counts(columns, row, fingers)
 }
 
-fn gate_count(fingers: &[Finger], gate: u32) -> usize
-    ensures { result ≡ on_gate gate fingers.now }
-{
-    fingers.iter().filter(|f| f.gate.0 == gate).count()
-}
-
-fn larger_count(fingers: &Fingers, gate: u32) -> usize
-    ensures { result ≡ max (on_gate gate fingers.now.p) (on_gate gate fingers.now.n) }
-{
-    gate_count(fingers.p.as_slice(), gate).max(gate_count(fingers.n.as_slice(), gate))
-}
-
-#[tactic(auto, using(crate::proofs::Sums::sum_below_more, crate::proofs::Sums::sum_below_le))]
-fn fewest_columns(fingers: &Fingers) -> usize
-    requires { AreFingers fingers.now }
-    ensures { result ≡ columns_of fingers.now }
-{
-    let mut total = 0;
-    for gate in 0..fingers.nets {
-        total += larger_count(fingers, gate);
-    }
-    total
-}
-
 fn is_unflipped_loop(x: &Placed) -> bool
     ensures { result ≡ placed_test x.now }
 {
@@ -112,7 +88,7 @@ fn arranges(row: &Arrangement, fingers: &Fingers) -> bool
     are_columns(columns)
         && has_fingers(columns, Row::P, fingers.p.as_slice())
         && has_fingers(columns, Row::N, fingers.n.as_slice())
-        && columns.len() == fewest_columns(fingers)
+        && columns.len() == columns_of(fingers)
 }
 
 /// Whether the row has each of the fingers once, in columns of one gate, and as few of them as the

@@ -32,8 +32,7 @@ fn gap_count(alloc: Global, columns: &[Column]) -> Result<u32, NoMemory>
 }
 
 // Two inverters with the gates 0 and 1 and the outputs 2 and 3, both unflipped; a NAND2 of the gates
-// 0 and 1, its output 2 and its inner net 3; a transmission gate with the gates 2 and 3 between the
-// nets 0 and 1.
+// 0 and 1, its output 2 and its inner net 3.
 #[test]
 fn counts_gaps(rt: HostRuntime) -> Result<(), Fail> {
     let first = Column {
@@ -52,14 +51,6 @@ fn counts_gaps(rt: HostRuntime) -> Result<(), Fail> {
         p: placed(finger(Row::P, 1, 2, VDD), true),
         n: placed(finger(Row::N, 1, 3, GND), false),
     };
-    let pass_n = Column {
-        p: None,
-        n: placed(finger(Row::N, 2, 0, 1), false),
-    };
-    let pass_p = Column {
-        p: placed(finger(Row::P, 3, 0, 1), false),
-        n: None,
-    };
     let turned = Column {
         p: placed(finger(Row::P, 1, 3, VDD), true),
         n: placed(finger(Row::N, 1, 3, GND), true),
@@ -76,6 +67,20 @@ fn counts_gaps(rt: HostRuntime) -> Result<(), Fail> {
         "the second inverter flipped"
     );
     assert_eq!(rt; gap_count(rt.alloc(), &[upper, lower])?, 0, "NAND2");
+    Ok(())
+}
+
+// A transmission gate with the gates 2 and 3 between the nets 0 and 1.
+#[test]
+fn an_empty_place_is_no_gap(rt: HostRuntime) -> Result<(), Fail> {
+    let pass_n = Column {
+        p: None,
+        n: placed(finger(Row::N, 2, 0, 1), false),
+    };
+    let pass_p = Column {
+        p: placed(finger(Row::P, 3, 0, 1), false),
+        n: None,
+    };
     assert_eq!(rt;
         gap_count(rt.alloc(), &[pass_n, pass_p])?,
         0,

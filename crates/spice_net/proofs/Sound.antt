@@ -28,7 +28,8 @@ use Rattle.spice_net.specs.Subcircuit.{pins_of, with_rail, with_rails, idle_pin,
 use Rattle.spice_net.specs.Subckts.{far_rail, IsDevice, Joins, IsSubckt}
 use Rattle.spice_net.proofs.NetFacts.{one_name, nets_differ}
 use Rattle.spice_net.proofs.SoundNets.{has_distinct, has_itself, numbered, same_numbered, number_at, first_numbered, distinct_longer, distinct_push}
-use Rattle.spice_net.proofs.SoundLines.{IsRight, granted_step, granted_require, all_right}
+use Rattle.cell_num.proofs.Steps.{granted_step, granted_require}
+use Rattle.spice_net.proofs.SoundLines.{IsRight, all_right}
 
 -- ---- the pins
 

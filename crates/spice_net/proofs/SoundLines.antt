@@ -15,21 +15,8 @@ use Rattle.spice_net.specs.declared.transistor.Transistor.{Transistor}
 use Rattle.spice_net.specs.declared.transistor.Sizes.{Sizes}
 use Rattle.spice_net.specs.Chosen.{first_is}
 use Rattle.cell_num.specs.Steps.{require, or_fault, ◌>>=◌}
+use Rattle.cell_num.proofs.Steps.{granted_step, granted_require, granted_option}
 use Rattle.spice_net.specs.Transistors.{Fields, fields_of, unit_pm, units_of, sizes_of, is_one, row_of, own_rail, other_rail, is_rail, rails_allowed, transistor_with, transistor_of, is_transistor, with_line, transistors_of}
-
--- ---- steps that were all granted
-
-pub granted_step : {A B : Type 0} (r : Result A SpiceFault) (f : A → Result B SpiceFault) (y : B) → (r >>= f) ≡ Ok y → (x : A) × (r ≡ Ok x) × (f x ≡ Ok y)
-granted_step (Ok x) f y e = (x, refl, e)
-granted_step (Err g) f y e = absurd cc
-
-pub granted_require : {B : Type 0} (b : Bool) (g : SpiceFault) (f : Unit {0} → Result B SpiceFault) (y : B) → (require b g >>= f) ≡ Ok y → (b ≡ true) × (f tt ≡ Ok y)
-granted_require true g f y e = (refl, e)
-granted_require false g f y e = absurd cc
-
-pub granted_option : {A B : Type 0} (o : Option A) (g : SpiceFault) (f : A → Result B SpiceFault) (y : B) → (or_fault o g >>= f) ≡ Ok y → (x : A) × (o ≡ Some x) × (f x ≡ Ok y)
-granted_option (Some x) g f y e = (x, refl, e)
-granted_option None g f y e = absurd cc
 
 ok_is : (t u : Transistor) → ◌≡◌ {A = Result Transistor SpiceFault} (Ok t) (Ok u) → t ≡ u
 ok_is t u e = cc

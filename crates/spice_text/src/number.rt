@@ -312,56 +312,63 @@ mod tests {
 
     #[test]
     fn reads_numbers(rt: HostRuntime) -> Result<(), Fail> {
-        for (word, digits_and_ten) in [
-            (b"3u".as_slice(), Some((3, -6))),
-            (b"0.6u", Some((6, -7))),
-            (b"600N", Some((6, -7))),
-            (b"1.5UM", Some((15, -7))),
-            (b"1.5E-6", Some((15, -7))),
-            (b".5", Some((5, -1))),
-            (b"5.", Some((5, 0))),
-            (b"1meg", Some((1, 6))),
-            (b"1Meg", Some((1, 6))),
-            (b"1m", Some((1, -3))),
-            (b"1mil", None),
-            (b"1MILS", None),
-            (b"1.5T", Some((15, 11))),
-            (b"2g", Some((2, 9))),
-            (b"3K", Some((3, 3))),
-            (b"4p", Some((4, -12))),
-            (b"5f", Some((5, -15))),
-            (b"1x", Some((1, 0))),
-            (b"1e", Some((1, 0))),
-            (b"1e+", None),
-            (b"1e5u", Some((1, -1))),
-            (b"2e+3", Some((2, 3))),
-            (b"1e100", None),
-            (b"1e5e5", None),
-            (b"007.500", Some((75, -1))),
-            (b"00.00", Some((0, 0))),
-            (b"0e99", Some((0, 0))),
-            (b"0mil", None),
-            (b"123456789012345678", Some((123456789012345678, 0))),
-            (b"1234567890123456789", None),
-            (b"1000000000000000000000", Some((1, 21))),
-            (b"1e60", Some((1, 60))),
-            (b"1e61", None),
-            (b"1e-60", Some((1, -60))),
-            (b"1e-61", None),
-            (b"1e57k", Some((1, 60))),
-            (b"1e60k", None),
-            (b"10e59", Some((1, 60))),
-            (b"-1", None),
-            (b"+1", None),
-            (b"1.2.3", None),
-            (b".", None),
-            (b"u", None),
-            (b"1_", None),
-            (b"", None),
+        for (word, digits, ten) in [
+            (b"3u".as_slice(), 3, -6),
+            (b"0.6u", 6, -7),
+            (b"600N", 6, -7),
+            (b"1.5UM", 15, -7),
+            (b"1.5E-6", 15, -7),
+            (b".5", 5, -1),
+            (b"5.", 5, 0),
+            (b"1meg", 1, 6),
+            (b"1Meg", 1, 6),
+            (b"1m", 1, -3),
+            (b"1.5T", 15, 11),
+            (b"2g", 2, 9),
+            (b"3K", 3, 3),
+            (b"4p", 4, -12),
+            (b"5f", 5, -15),
+            (b"1x", 1, 0),
+            (b"1e", 1, 0),
+            (b"1e5u", 1, -1),
+            (b"2e+3", 2, 3),
+            (b"007.500", 75, -1),
+            (b"00.00", 0, 0),
+            (b"0e99", 0, 0),
+            (b"123456789012345678", 123456789012345678, 0),
+            (b"1000000000000000000000", 1, 21),
+            (b"1e60", 1, 60),
+            (b"1e-60", 1, -60),
+            (b"1e57k", 1, 60),
+            (b"10e59", 1, 60),
         ] {
-            let read = read_fixed(word);
-            let wanted = digits_and_ten.map(|(digits, ten)| Fixed { digits, ten });
-            assert_eq!(rt; read, wanted);
+            assert_eq!(rt; read_fixed(word), Some(Fixed { digits, ten }));
+        }
+        Ok(())
+    }
+
+    #[test]
+    fn refuses_other_words(rt: HostRuntime) -> Result<(), Fail> {
+        for word in [
+            b"1mil".as_slice(),
+            b"1MILS",
+            b"1e+",
+            b"1e100",
+            b"1e5e5",
+            b"0mil",
+            b"1234567890123456789",
+            b"1e61",
+            b"1e-61",
+            b"1e60k",
+            b"-1",
+            b"+1",
+            b"1.2.3",
+            b".",
+            b"u",
+            b"1_",
+            b"",
+        ] {
+            assert_eq!(rt; read_fixed(word), None);
         }
         Ok(())
     }

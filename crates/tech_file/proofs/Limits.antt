@@ -18,12 +18,8 @@ use Rattle.tech_file.specs.declared.models.Models.{Models}
 use Rattle.cell_num.specs.Names.{lowered, is_name}
 use Rattle.tech_file.specs.Technology.{Technology, IsTechnology, IsLowerName, AreModels, plain}
 use Rattle.cell_num.specs.Steps.{◌>>=◌, or_fault, require}
+use Rattle.cell_num.proofs.Steps.{granted_step}
 use Rattle.tech_file.specs.Reading.{value_at, is_within, within, number_at, lambda_limits, width_limits, budget_limits, name_in, as_name, name_at, with_first, names_in, if_few, models_at, texts, share, numbers_of, rails_of, models_of}
-
--- a step that was taken, and the rest behind it
-step : {A B : Type 0} (read : Result A TechFault) (rest : A → Result B TechFault) (b : B) → (read >>= rest) ≡ Ok b → (a : A) × (read ≡ Ok a) × (rest a ≡ Ok b)
-step (Ok a) rest b h = (a, refl, h)
-step (Err e) rest b h = cc
 
 found : {A : Type 0} (o : Option A) (f : TechFault) (a : A) → or_fault o f ≡ Ok a → o ≡ Some a
 found (Some x) f a h = cc
@@ -41,7 +37,7 @@ within_holds key limits (negsuc k) n h = cc
 
 number_holds : (key : List ℕ) (limits : Limits) (members : Members) (n : ℕ) → number_at key limits members ≡ Ok n → is_within limits n ≡ true
 number_holds key limits members n h =
-    let (z, there, rest) = step (or_fault (as_integer (value_at key (integer (pos limits.plain)) members)) (fault.Form key)) (within key limits) n h in
+    let (z, there, rest) = granted_step (or_fault (as_integer (value_at key (integer (pos limits.plain)) members)) (fault.Form key)) (within key limits) n h in
     within_holds key limits z n rest
 
 record IsIn (limits : Limits) (n : ℕ) : Type 0 where
@@ -70,10 +66,10 @@ along_some P a b h = let same : a ≡ b = cc in subst P same
 
 numbers_hold : (members : Members) (a : Numbers) → numbers_of members ≡ Ok a → AreNumbers a
 numbers_hold members a h =
-    let (lambda_nm, is_lambda, then_p) = step (number_at (codes "lambda_nm") lambda_limits members) _ a h in
-    let (p, is_p, then_n) = step (number_at (codes "wmax_p") (width_limits 40) members) _ a then_p in
-    let (n, is_n, then_budget) = step (number_at (codes "wmax_n") (width_limits 40) members) _ a then_n in
-    let (budget, is_budget, same) = step (number_at (codes "budget") budget_limits members) _ a then_budget in
+    let (lambda_nm, is_lambda, then_p) = granted_step (number_at (codes "lambda_nm") lambda_limits members) _ a h in
+    let (p, is_p, then_n) = granted_step (number_at (codes "wmax_p") (width_limits 40) members) _ a then_p in
+    let (n, is_n, then_budget) = granted_step (number_at (codes "wmax_n") (width_limits 40) members) _ a then_n in
+    let (budget, is_budget, same) = granted_step (number_at (codes "budget") budget_limits members) _ a then_budget in
     along AreNumbers (record { lambda_nm = lambda_nm; wmax_p = p; wmax_n = n; budget = budget }) a same (record {
       lambda = is_in _ _ (number_holds (codes "lambda_nm") lambda_limits members _ is_lambda);
       p = is_in _ _ (number_holds (codes "wmax_p") (width_limits 40) members _ is_p);
@@ -115,9 +111,9 @@ record AreRails (rails : Rails) : Type 0 where
 
 rails_hold : (members : Members) (rails : Rails) → rails_of members ≡ Ok rails → AreRails rails
 rails_hold members rails h =
-    let (vdd, is_vdd, then_gnd) = step (name_at (codes "vdd") plain.vdd members) _ rails h in
-    let (gnd, is_gnd, then_differ) = step (name_at (codes "gnd") plain.gnd members) _ rails then_gnd in
-    let (u, is_allowed, same) = step (require (not (bytes_eq vdd gnd)) (fault.Form (codes "gnd"))) _ rails then_differ in
+    let (vdd, is_vdd, then_gnd) = granted_step (name_at (codes "vdd") plain.vdd members) _ rails h in
+    let (gnd, is_gnd, then_differ) = granted_step (name_at (codes "gnd") plain.gnd members) _ rails then_gnd in
+    let (u, is_allowed, same) = granted_step (require (not (bytes_eq vdd gnd)) (fault.Form (codes "gnd"))) _ rails then_differ in
     along AreRails (record { vdd = vdd; gnd = gnd }) rails same (record {
       vdd = name_holds (codes "vdd") plain.vdd members _ is_vdd;
       gnd = name_holds (codes "gnd") plain.gnd members _ is_gnd;
@@ -174,9 +170,9 @@ record AreKinds (models : Models) : Type 0 where
 
 models_hold : (members : Members) (models : Models) → models_of members ≡ Ok models → AreKinds models
 models_hold members models h =
-    let (p, is_p, then_n) = step (models_at (codes "p_models") plain.p_models members) _ models h in
-    let (n, is_n, then_differ) = step (models_at (codes "n_models") plain.n_models members) _ models then_n in
-    let (u, is_allowed, same) = step (require (not (share p n)) (fault.Form (codes "n_models"))) _ models then_differ in
+    let (p, is_p, then_n) = granted_step (models_at (codes "p_models") plain.p_models members) _ models h in
+    let (n, is_n, then_differ) = granted_step (models_at (codes "n_models") plain.n_models members) _ models then_n in
+    let (u, is_allowed, same) = granted_step (require (not (share p n)) (fault.Form (codes "n_models"))) _ models then_differ in
     along AreKinds (record { p = p; n = n }) models same (record {
       p = models_at_hold (codes "p_models") plain.p_models members _ is_p;
       n = models_at_hold (codes "n_models") plain.n_models members _ is_n;

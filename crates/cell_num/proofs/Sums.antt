@@ -1,5 +1,5 @@
 -- Sums over the numbers below a bound.
-use Rattle.std.proofs.Common.{ℕ, zero, suc, ◌≡◌, ◌+◌, ◌<◌, ◌≤◌, inl, inr, refl, arith, add-one}
+use Rattle.std.proofs.Common.{ℕ, zero, suc, ◌≡◌, ◌+◌, ◌*◌, ◌<◌, ◌≤◌, inl, inr, refl, arith, add-one}
 use Rattle.std.proofs.lemmas.Bool.{cases_order}
 use Rattle.cell_num.specs.Fingers.{sum_below}
 
@@ -14,3 +14,8 @@ sum_below_le f (suc n) i h =
       | inl e ↦ rw e (omega arith)
       | inr other ↦ elim other [ inl less ↦ omega (arith, sum_below_le f n i less) | inr more ↦ omega arith ]
     ]
+
+-- a sum of terms that are at most m
+pub sum_below_most : (f : ℕ → ℕ) (m n : ℕ) → ((i : ℕ) → f i ≤ m) → sum_below f n ≤ n * m
+sum_below_most f m zero few = omega arith
+sum_below_most f m (suc n) few = omega (arith, sum_below_most f m n few, few n)

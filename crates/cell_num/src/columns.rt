@@ -1,7 +1,7 @@
-ghost use Rattle.std.specs.Prelude.{◌≡◌, ◌≤◌, length, max};
+ghost use Rattle.std.specs.Prelude.{◌≡◌, ◌≤◌, max};
 ghost use Rattle.cell_num.specs.Fingers.{on_gate, columns_of};
 
-use cell_num::{Finger, Fingers};
+use crate::{Finger, Fingers};
 
 fn gate_count(fingers: &[Finger], gate: u32) -> usize
     ensures { result ≡ on_gate gate fingers.now }
@@ -15,16 +15,15 @@ fn larger_count(fingers: &Fingers, gate: u32) -> usize
     gate_count(fingers.p.as_slice(), gate).max(gate_count(fingers.n.as_slice(), gate))
 }
 
-/// How many columns the fingers need.
-pub fn columns_of(fingers: &Fingers) -> u64
-    requires nets { fingers.now.nets ≤ 256 }
-    requires few_p { length fingers.now.p ≤ 64 }
-    requires few_n { length fingers.now.n ≤ 64 }
+/// The fewest columns that hold the fingers: the sum over the gates of the larger of the two counts.
+#[tactic(auto, using(crate::proofs::Sums::sum_below_more, crate::proofs::Sums::sum_below_le))]
+pub fn columns_of(fingers: &Fingers) -> usize
+    requires few { columns_of fingers.now ≤ 1000000 }
     ensures { result ≡ columns_of fingers.now }
 {
     let mut total = 0;
     for gate in 0..fingers.nets {
-        total += larger_count(fingers, gate) as u64;
+        total += larger_count(fingers, gate);
     }
     total
 }

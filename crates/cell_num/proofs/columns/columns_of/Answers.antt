@@ -1,7 +1,7 @@
 use Rattle.std.proofs.Common.{◌+◌, ◌≤◌, max, arith}
 use Rattle.cell_num.specs.Fingers.{on_gate, columns_of, sum_below}
-use Rattle.row_model.proofs.Sums.{sum_below_le}
-use Rattle.row_model.proofs.arrange.fewest_columns.Goals as goal
+use Rattle.cell_num.proofs.Sums.{sum_below_le}
+use Rattle.cell_num.proofs.columns.columns_of.Goals as goal
 
 pub overflow_add-total : goal.overflow_add-total
 overflow_add-total c =
