@@ -1,6 +1,18 @@
 // Logs that certify how few gaps a row can have.
 #![tactic(auto)]
 
+mod fault;
+mod line;
+mod lines;
 mod log;
+mod read;
+mod word;
+mod write;
 
+pub use fault::LogFault;
 pub use log::{Best, Lemma, LemmaList, Log, LogStep, LogSteps, Rule};
+pub use read::read_log;
+pub use write::write_log;
+
+#[cfg(test)]
+mod tests;

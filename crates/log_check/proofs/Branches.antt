@@ -8,9 +8,14 @@ use Rattle.cell_num.specs.declared.finger.Row.{Row}
 use Rattle.row_state.specs.declared.kind.Kinds.{Kinds}
 use Rattle.row_state.specs.declared.state.State.{State}
 use Rattle.row_state.specs.declared.step.Step.{Step}
-use Rattle.row_state.specs.Steps.{IsPossible, AreSuccessors}
+use Rattle.row_state.specs.Completion.{cost_of}
+use Rattle.row_state.specs.Start.{AreSomeKinds, IsState}
+use Rattle.row_state.specs.Steps.{IsPossible, AreSuccessors, column_of, state_after}
+use Rattle.row_state.proofs.Calls.{valid_after}
+use Rattle.bound_log.specs.declared.log.Rule.{Rule}
+use Rattle.bound_log.specs.declared.log.Rule.TheVariants as by
 use Rattle.bound_log.specs.declared.log.Lemma.{Lemma}
-use Rattle.log_check.specs.Accepted.{StepReaches, BranchReaches, IsJustified, best_of}
+use Rattle.log_check.specs.Accepted.{StepReaches, BranchReaches, RuleReaches, IsJustified, best_of}
 use Rattle.log_check.specs.Refusal.{IsFirstUnjustified}
 
 pub branch_all : (k : Kinds) (s : State) (steps : List Step) (best : State → ℕ) (bound : ℕ) → AreSuccessors k s steps → All (StepReaches k best s bound) steps → BranchReaches k best s bound
@@ -23,8 +28,15 @@ pub branch_end : (k : Kinds) (s : State) (steps items : List Step) (i : ℕ) (be
 branch_end k s steps items i best bound are same past all =
     branch_all k s steps best bound are (subst (All (StepReaches k best s bound)) same (subst (All (StepReaches k best s bound)) (take_all i items past) all))
 
-same_best : (value : Row → State → Kinds → ℕ) (k : Kinds) (x : Lemma) (best other : State → ℕ) → ((s : State) → best s ≡ other s) → IsJustified value k best x → IsJustified value k other x
-same_best value k x best other same h = subst (λ (f : State → ℕ). IsJustified value k f x) (λ i s. same s i) h
+-- where two tell the same best bound of each valid state, they justify the same
+same_reach : (value : Row → State → Kinds → ℕ) (k : Kinds) (rule : Rule) (x : State) (bound : ℕ) (best other : State → ℕ) → AreSomeKinds k → IsState k x → ((s : State) → IsState k s → best s ≡ other s) → RuleReaches value k best rule x bound → RuleReaches value k other rule x bound
+same_reach value k by.P x bound best other some state same h = h
+same_reach value k by.N x bound best other some state same h = h
+same_reach value k by.Branch x bound best other some state same h =
+    (h.0, λ step possible. let r : bound ≤ cost_of x (column_of k step) + best (state_after k x step) = h.1 step possible in omega (arith, r, same (state_after k x step) (valid_after k x step some state possible)))
+
+same_best : (value : Row → State → Kinds → ℕ) (k : Kinds) (x : Lemma) (best other : State → ℕ) → AreSomeKinds k → ((s : State) → IsState k s → best s ≡ other s) → IsJustified value k best x → IsJustified value k other x
+same_best value k x best other some same h = record { state = h.state; reaches = same_reach value k x.rule x.state x.bound best other some h.state same h.reaches }
 
 -- the lemma at `at`, whatever list it is taken from
 here_is : (value : Row → State → Kinds → ℕ) (k : Kinds) (lemmas : List Lemma) (at : ℕ) (x d : Lemma) (best : State → ℕ) → x ≡ get_or lemmas at x → at < length lemmas → IsJustified value k best x ↔ IsJustified value k best (get_or lemmas at d)
@@ -32,19 +44,19 @@ here_is value k lemmas at x d best is within =
     let e : x ≡ get_or lemmas at d = is ∙ get_or_default lemmas at x d within in
     (subst (λ (y : Lemma). IsJustified value k best y) e, subst (λ (y : Lemma). IsJustified value k best y) (sym e))
 
-pub first_is : (value : Row → State → Kinds → ℕ) (k : Kinds) (lemmas : List Lemma) (at : ℕ) (x : Lemma) (best : State → ℕ) → ((i : ℕ) (d : Lemma) → i < at → IsJustified value k (λ s. best_of s (take i lemmas)) (get_or lemmas i d)) → ((s : State) → best s ≡ best_of s (take at lemmas)) → x ≡ get_or lemmas at x → at < length lemmas → (IsJustified value k best x → ⊥) → IsFirstUnjustified value k lemmas at
-first_is value k lemmas at x best before same is within wrong =
+pub first_is : (value : Row → State → Kinds → ℕ) (k : Kinds) (lemmas : List Lemma) (at : ℕ) (x : Lemma) (best : State → ℕ) → AreSomeKinds k → ((i : ℕ) (d : Lemma) → i < at → IsJustified value k (λ s. best_of s (take i lemmas)) (get_or lemmas i d)) → ((s : State) → IsState k s → best s ≡ best_of s (take at lemmas)) → x ≡ get_or lemmas at x → at < length lemmas → (IsJustified value k best x → ⊥) → IsFirstUnjustified value k lemmas at
+first_is value k lemmas at x best some before same is within wrong =
     record {
       within = within;
       before = before;
-      unproved = λ d h. wrong (same_best value k x (λ s. best_of s (take at lemmas)) best (λ s. sym (same s)) ((here_is value k lemmas at x d (λ s. best_of s (take at lemmas)) is within).1 h));
+      unproved = λ d h. wrong (same_best value k x (λ s. best_of s (take at lemmas)) best some (λ s state. sym (same s state)) ((here_is value k lemmas at x d (λ s. best_of s (take at lemmas)) is within).1 h));
     }
 
-pub justified_more : (value : Row → State → Kinds → ℕ) (k : Kinds) (lemmas : List Lemma) (at : ℕ) (x : Lemma) (best : State → ℕ) → ((i : ℕ) (d : Lemma) → i < at → IsJustified value k (λ s. best_of s (take i lemmas)) (get_or lemmas i d)) → x ≡ get_or lemmas at x → at < length lemmas → ((s : State) → best s ≡ best_of s (take at lemmas)) → IsJustified value k best x → (i : ℕ) (d : Lemma) → i < at + 1 → IsJustified value k (λ s. best_of s (take i lemmas)) (get_or lemmas i d)
-justified_more value k lemmas at x best before is within same here i d below =
+pub justified_more : (value : Row → State → Kinds → ℕ) (k : Kinds) (lemmas : List Lemma) (at : ℕ) (x : Lemma) (best : State → ℕ) → AreSomeKinds k → ((i : ℕ) (d : Lemma) → i < at → IsJustified value k (λ s. best_of s (take i lemmas)) (get_or lemmas i d)) → x ≡ get_or lemmas at x → at < length lemmas → ((s : State) → IsState k s → best s ≡ best_of s (take at lemmas)) → IsJustified value k best x → (i : ℕ) (d : Lemma) → i < at + 1 → IsJustified value k (λ s. best_of s (take i lemmas)) (get_or lemmas i d)
+justified_more value k lemmas at x best some before is within same here i d below =
     elim (cases_lt i at) [
       | inl less ↦ before i d less
       | inr more ↦
           let e : at ≡ i = omega arith in
-          subst (λ n. IsJustified value k (λ s. best_of s (take n lemmas)) (get_or lemmas n d)) e ((here_is value k lemmas at x d (λ s. best_of s (take at lemmas)) is within).0 (same_best value k x best (λ s. best_of s (take at lemmas)) same here))
+          subst (λ n. IsJustified value k (λ s. best_of s (take n lemmas)) (get_or lemmas n d)) e ((here_is value k lemmas at x d (λ s. best_of s (take at lemmas)) is within).0 (same_best value k x best (λ s. best_of s (take at lemmas)) some same here))
     ]

@@ -3,7 +3,7 @@ use Rattle.std.proofs.Common.{ℕ, zero, suc, ◌≡◌, ◌<◌, ◌≤◌, Boo
 use Rattle.std.specs.Str.{bytes_eq}
 use Rattle.std.proofs.lemmas.Slice.Eq.{bytes_eq-Decides}
 use Rattle.row_model.proofs.Decide.{net_decides}
-use Rattle.std.proofs.lemmas.Bool.{cases_Bool, and_parts}
+use Rattle.std.proofs.lemmas.Bool.{cases_Bool, and_from, and_parts, eq-eqb}
 use Rattle.std.proofs.lemmas.List.Elements.{All-nil, All-head, All-tail, All-more}
 use Rattle.cell_num.specs.declared.finger.Row.{Row}
 use Rattle.cell_num.specs.declared.finger.Row.TheVariants.{P, N}
@@ -17,27 +17,21 @@ use Rattle.row_state.specs.declared.state.State.{State}
 use Rattle.row_state.specs.Completion.{Need, further_gaps}
 use Rattle.row_state.specs.Start.{IsState, start_of, AreKinds}
 use Rattle.row_state.specs.Steps.{state_after}
+use Rattle.row_state.proofs.Codes.{same_fields}
 use Rattle.row_state.proofs.Unfold.{branch, completion_of, gaps_from_start}
 use Rattle.bound_log.specs.declared.log.Rule.{Rule}
 use Rattle.bound_log.specs.declared.log.Rule.TheVariants as by
 use Rattle.bound_log.specs.declared.log.Lemma.{Lemma}
 use Rattle.bound_log.specs.declared.log.Best.{Best}
 use Rattle.bound_log.specs.declared.log.Log.{Log}
+use Rattle.log_check.specs.declared.refused.Refused.{Refused}
+use Rattle.log_check.specs.declared.refused.Refused.TheVariants as because
+use Rattle.log_check.specs.Refusal.{BestRefuses, Proves, Refuses}
 use Rattle.log_check.specs.Accepted.{same_end, same_state, better, best_of, RuleReaches, IsJustified, AreJustified, IsTrueOf, IsAccepted, BestPasses, Lists}
 
 -- the law of a bound
 abbrev pub Holds : (Row → State → Kinds → ℕ) → Kinds → Type 0
 Holds value k = (row : Row) (s : State) → IsState k s → Need k s (value row s k)
-
-make_state : List ℕ → List ℕ → Option NetNo → Option NetNo → State
-make_state p n pe ne = record { p_left = p; n_left = n; p_end = pe; n_end = ne }
-
-made_state : {p p' n n' : List ℕ} {pe pe' ne ne' : Option NetNo} → p ≡ p' → n ≡ n' → pe ≡ pe' → ne ≡ ne' → make_state p n pe ne ≡ make_state p' n' pe' ne'
-made_state a b c d = cc
-
-pub same_fields : (a b : State) → a.p_left ≡ b.p_left → a.n_left ≡ b.n_left → a.p_end ≡ b.p_end → a.n_end ≡ b.n_end → a ≡ b
-unfolding make_state
-same_fields a b p n pe ne = made_state p n pe ne
 
 same_end_is : (x y : Option NetNo) → same_end x y ≡ true → x ≡ y
 same_end_is None None h = refl
@@ -55,6 +49,15 @@ same_state_is a b h =
     let parts' : (bytes_eq a.p_left b.p_left && bytes_eq a.n_left b.n_left ≡ true) × (same_end a.p_end b.p_end ≡ true) = and_parts _ _ parts.0 in
     let parts'' : (bytes_eq a.p_left b.p_left ≡ true) × (bytes_eq a.n_left b.n_left ≡ true) = and_parts _ _ parts'.0 in
     same_fields a b ((bytes_eq-Decides a.p_left b.p_left).0 parts''.0) ((bytes_eq-Decides a.n_left b.n_left).0 parts''.1) (same_end_is a.p_end b.p_end parts'.1) (same_end_is a.n_end b.n_end parts.1)
+
+same_end_self : (x : Option NetNo) → same_end x x ≡ true
+same_end_self None = refl
+same_end_self (Some a) = eq-eqb a.0 a.0 refl
+
+pub same_state_from : (a b : State) → a ≡ b → same_state a b ≡ true
+same_state_from a b e =
+    subst (λ (z : State). same_state a z ≡ true) e
+    (and_from _ _ (and_from _ _ (and_from _ _ ((bytes_eq-Decides a.p_left a.p_left).1 refl) ((bytes_eq-Decides a.n_left a.n_left).1 refl)) (same_end_self a.p_end)) (same_end_self a.n_end))
 
 need_max : (k : Kinds) (s : State) (a b : ℕ) → Need k s a → Need k s b → Need k s (max a b)
 need_max k s a b ha hb row h = omega (arith, ha row h, hb row h)
@@ -106,8 +109,32 @@ row_least k f best gaps (Some row) h = omega (arith, h.said, h.least)
 pub accepted_arranges : (value : Row → State → Kinds → ℕ) (k : Kinds) (f : Fingers) (log : Log) (gaps : ℕ) → IsAccepted value k f log gaps → Lists k log.best (λ columns. IsArrangement columns f × (gaps ≡ gaps_of columns))
 accepted_arranges value k f log gaps h = row_arranges k f (best_of (start_of k) log.lemmas) gaps log.best h.passes
 
--- no arrangement of the fingers has fewer gaps than the row of an accepted log
+-- no arrangement of the fingers has fewer gaps than justified lemmas prove of the start state
+pub justified_least : (value : Row → State → Kinds → ℕ) (k : Kinds) (f : Fingers) (lemmas : List Lemma) → Holds value k → AreKinds f k → AreJustified value k lemmas → (other : List Column) → IsArrangement other f → best_of (start_of k) lemmas ≤ gaps_of other
+justified_least value k f lemmas law kinds h other arranges =
+    let need : best_of (start_of k) lemmas ≤ further_gaps (start_of k) other = best_true k (start_of k) lemmas (sound value k lemmas law h) other (completion_of f k other kinds arranges) in
+    omega (arith, need, gaps_from_start k other)
+
+-- nor than the row of an accepted log
 pub accepted_least : (value : Row → State → Kinds → ℕ) (k : Kinds) (f : Fingers) (log : Log) (gaps : ℕ) → Holds value k → AreKinds f k → IsAccepted value k f log gaps → (other : List Column) → IsArrangement other f → gaps ≤ gaps_of other
 accepted_least value k f log gaps law kinds h other arranges =
-    let need : best_of (start_of k) log.lemmas ≤ further_gaps (start_of k) other = best_true k (start_of k) log.lemmas (sound value k log.lemmas law h.justified) other (completion_of f k other kinds arranges) in
-    omega (arith, need, gaps_from_start k other, row_least k f (best_of (start_of k) log.lemmas) gaps log.best h.passes)
+    omega (arith, justified_least value k f log.lemmas law kinds h.justified other arranges, row_least k f (best_of (start_of k) log.lemmas) gaps log.best h.passes)
+
+low_row : (k : Kinds) (f : Fingers) (best : ℕ) (row : Option Best) (cause : Refused) → ((other : List Column) → IsArrangement other f → best ≤ gaps_of other) → BestRefuses k f best row cause → Proves (λ b. (other : List Column) → IsArrangement other f → b ≤ gaps_of other) cause
+low_row k f best None (because.NoRow proved) low is = λ other arranges. omega (arith, low other arranges, is)
+low_row k f best None (because.NotLeast proved said) low h = absurd h
+low_row k f best (Some row) (because.NoRow proved) low h = absurd h
+low_row k f best (Some row) (because.NotLeast proved said) low (arranges, counted, is, same, more) = λ other fits. omega (arith, low other fits, is)
+low_row k f best row (because.Unproved line) low h = tt
+low_row k f best row because.NotArrangement low h = tt
+low_row k f best row (because.Gaps said counted) low h = tt
+low_row k f best row because.NoMemory low h = tt
+
+-- what a refusal tells of the lemmas is true
+pub refused_low : (value : Row → State → Kinds → ℕ) (k : Kinds) (f : Fingers) (log : Log) (cause : Refused) → Holds value k → AreKinds f k → Refuses value k f log cause → Proves (λ best. (other : List Column) → IsArrangement other f → best ≤ gaps_of other) cause
+refused_low value k f log (because.NoRow proved) law kinds h = low_row k f (best_of (start_of k) log.lemmas) log.best (because.NoRow proved) (justified_least value k f log.lemmas law kinds h.0) h.1
+refused_low value k f log (because.NotLeast proved said) law kinds h = low_row k f (best_of (start_of k) log.lemmas) log.best (because.NotLeast proved said) (justified_least value k f log.lemmas law kinds h.0) h.1
+refused_low value k f log (because.Unproved line) law kinds h = tt
+refused_low value k f log because.NotArrangement law kinds h = tt
+refused_low value k f log (because.Gaps said counted) law kinds h = tt
+refused_low value k f log because.NoMemory law kinds h = tt

@@ -31,9 +31,13 @@ same_end _ _ = false
 abbrev pub same_state : State → State → Bool
 same_state a b = bytes_eq a.p_left b.p_left && bytes_eq a.n_left b.n_left && same_end a.p_end b.p_end && same_end a.n_end b.n_end
 
--- the best bound so far, with one more lemma
+-- the best bound of s so far, with one more bound, of x
+abbrev pub raised : State → ℕ → State → ℕ → ℕ
+raised x bound s best = cond (same_state x s) (max best bound) best
+
+-- with one more lemma
 abbrev pub better : State → ℕ → Lemma → ℕ
-better s best lemma = cond (same_state lemma.state s) (max best lemma.bound) best
+better s best lemma = raised lemma.state lemma.bound s best
 
 -- the greatest bound of a lemma with the state, 0 if none
 abbrev pub best_of : State → List Lemma → ℕ
@@ -108,3 +112,7 @@ Lists k (Some row) Says = Says (columns_listed k row.steps)
 -- for the kinds of the fingers
 abbrev pub ForKinds : Fingers → (Kinds → Type 0) → Type 0
 ForKinds f Says = (k : Kinds) → AreKinds f k → AreSomeKinds k → Says k
+
+-- with the kinds of the fingers, which there are
+abbrev pub WithKinds : Fingers → (Kinds → Type 0) → Type 0
+WithKinds f Says = (k : Kinds) × AreKinds f k × AreSomeKinds k × Says k

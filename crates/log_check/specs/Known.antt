@@ -1,19 +1,16 @@
--- Best bounds by state, kept in order.
-use Rattle.std.specs.Prelude.{ℕ, Option, unwrap_or}
-use Rattle.std.specs.declared.cmp.Ordering.{Ordering}
-use Rattle.std.specs.Ordering.{nat_cmp, ordering_then}
-use Rattle.std.specs.Option.{option_cmp}
-use Rattle.std.specs.Cmp.Lexicographic.{slice_cmp}
-use Rattle.cell_num.specs.declared.net.NetNo.{NetNo}
+-- Best bounds, kept by the number of the state.
+use Rattle.std.specs.Prelude.{ℕ, ◌≡◌, List, Option, unwrap_or}
+use Rattle.row_state.specs.declared.kind.Kinds.{Kinds}
 use Rattle.row_state.specs.declared.state.State.{State}
-
-abbrev pub net_cmp : NetNo → NetNo → Ordering
-net_cmp a b = nat_cmp a.0 b.0
-
--- by counts, and then by open ends
-abbrev pub state_cmp : State → State → Ordering
-state_cmp a b = ordering_then (slice_cmp nat_cmp a.p_left b.p_left) (ordering_then (slice_cmp nat_cmp a.n_left b.n_left) (ordering_then (option_cmp net_cmp a.p_end b.p_end) (option_cmp net_cmp a.n_end b.n_end)))
+use Rattle.row_state.specs.Code.{state_code}
+use Rattle.row_state.specs.Start.{IsState}
+use Rattle.bound_log.specs.declared.log.Lemma.{Lemma}
+use Rattle.log_check.specs.Accepted.{best_of}
 
 -- the bound kept of the state, 0 if none
-abbrev pub known_best : (State → Option ℕ) → State → ℕ
-known_best known s = unwrap_or (known s) 0
+abbrev pub known_best : (ℕ → Option ℕ) → Kinds → State → ℕ
+known_best table k s = unwrap_or (table (state_code k s)) 0
+
+-- what is kept of each valid state is its best bound in the lemmas
+abbrev pub Knows : Kinds → (ℕ → Option ℕ) → List Lemma → Type 0
+Knows k table lemmas = (s : State) → IsState k s → known_best table k s ≡ best_of s lemmas

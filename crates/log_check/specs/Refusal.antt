@@ -45,3 +45,9 @@ abbrev pub Refuses : (Row → State → Kinds → ℕ) → Kinds → Fingers →
 Refuses value k f log (because.Unproved line) = LemmasRefuse value k log.lemmas (because.Unproved line)
 Refuses value k f log because.NoMemory = Unit {0}
 Refuses value k f log fault = AreJustified value k log.lemmas × BestRefuses k f (best_of (start_of k) log.lemmas) log.best fault
+
+-- so it is of the number of gaps that the lemmas prove, where the refusal tells it
+abbrev pub Proves : (ℕ → Type 0) → Refused → Type 0
+Proves Says (because.NoRow best) = Says best
+Proves Says (because.NotLeast best said) = Says best
+Proves Says _ = Unit {0}

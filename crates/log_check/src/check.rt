@@ -1,11 +1,12 @@
-ghost use Rattle.std.specs.Prelude.{◌≡◌, ◌≤◌, ◌+◌, All, IfOk, IfErr, OnOk, List as Sequence, length};
+ghost use Rattle.std.specs.Prelude.{◌≡◌, ◌≢◌, ◌≤◌, ◌+◌, All, IfOk, IfErr, OnOk, List as Sequence, length};
 ghost use Rattle.cell_num.specs.Fingers.{AreFingers};
 ghost use Rattle.row_model.specs.declared.column.Column.{Column};
 ghost use Rattle.row_model.specs.Arrangement.{IsArrangement};
 ghost use Rattle.row_model.specs.Gaps.{gaps_of};
 ghost use Rattle.row_state.specs.Start.{AreKinds, AreSomeKinds, start_of};
-ghost use Rattle.log_check.specs.Accepted.{AreJustified, BestPasses, ForKinds, IsAccepted, IsTrueOf, Lists, best_of};
-ghost use Rattle.log_check.specs.Refusal.{BestRefuses, LemmasRefuse, Refuses};
+ghost use Rattle.log_check.specs.Accepted.{AreJustified, BestPasses, IsAccepted, IsTrueOf, Lists, WithKinds, best_of};
+ghost use Rattle.log_check.specs.declared.refused.Refused.TheVariants as because;
+ghost use Rattle.log_check.specs.Refusal.{BestRefuses, LemmasRefuse, Proves, Refuses};
 
 use crate::Refused;
 use crate::known::best_in;
@@ -90,11 +91,12 @@ pub fn check_log<B: RowBound>(
 ) -> Result<u32, Refused>
     requires fingers { AreFingers fingers.now }
     requires few { length log.now.lemmas ≤ 1073741824 }
-    ensures accepted { IfOk result (λ gaps. ForKinds fingers.now (λ k. IsAccepted (B.value bound.now) k fingers.now log.now gaps)) }
-    ensures refused { IfErr result (λ fault. ForKinds fingers.now (λ k. Refuses (B.value bound.now) k fingers.now log.now fault)) }
-    ensures arranges { IfOk result (λ gaps. ForKinds fingers.now (λ k. Lists k log.now.best (λ row. IsArrangement row fingers.now × (gaps ≡ gaps_of row)))) }
+    ensures accepted { IfOk result (λ gaps. WithKinds fingers.now (λ k. IsAccepted (B.value bound.now) k fingers.now log.now gaps)) }
+    ensures refused { IfErr result (λ fault. fault ≢ because.NoMemory → WithKinds fingers.now (λ k. Refuses (B.value bound.now) k fingers.now log.now fault)) }
+    ensures arranges { IfOk result (λ gaps. WithKinds fingers.now (λ k. Lists k log.now.best (λ row. IsArrangement row fingers.now × (gaps ≡ gaps_of row)))) }
     ensures least { IfOk result (λ gaps. (other : Sequence Column) → IsArrangement other fingers.now → gaps ≤ gaps_of other) }
-    ensures lemmas { IfOk result (λ _. ForKinds fingers.now (λ k. All (IsTrueOf k) log.now.lemmas)) }
+    ensures low { IfErr result (Proves (λ best. (other : Sequence Column) → IsArrangement other fingers.now → best ≤ gaps_of other)) }
+    ensures lemmas { IfOk result (λ _. WithKinds fingers.now (λ k. All (IsTrueOf k) log.now.lemmas)) }
 {
     let kinds = kinds(alloc, fingers)?;
     check(alloc, fingers, &kinds, log, bound)

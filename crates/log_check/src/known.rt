@@ -1,61 +1,58 @@
-ghost use Rattle.std.specs.Prelude.{◌≡◌, ℕ, Some, OnOk, IfOk, cond, fold, max, take};
-ghost use Rattle.std.specs.BTreeMap.{get, is_at};
-ghost use Rattle.row_state.specs.declared.state.State.{State};
-ghost use Rattle.log_check.specs.Accepted.{best_of, better, same_state};
-ghost use Rattle.log_check.specs.Known.{known_best, state_cmp};
+ghost use Rattle.std.specs.Prelude.{◌≡◌, ◌≢◌, ℕ, Some, OnErr, OnOk, unwrap_or};
+ghost use Rattle.std.specs.Ordering.{nat_cmp};
+ghost use Rattle.std.specs.BTreeMap.{get};
+ghost use Rattle.row_state.specs.declared.state.State.{State as StateOf};
+ghost use Rattle.row_state.specs.Start.{AreSomeKinds, IsState};
+ghost use Rattle.log_check.specs.Accepted.{best_of, raised, same_state};
+ghost use Rattle.log_check.specs.Known.{known_best};
 
 use bound_log::Lemma;
 use cell_num::NoMemory;
-use row_state::{Counts, State};
-use std::alloc::Global;
+use row_state::{Kinds, State, code};
 use std::collections::BTreeMap;
 
-// The best bound of each state of the lemmas so far.
-pub(crate) type Known = BTreeMap<State, u32>;
+/// The best bound of each state of the lemmas so far, by the number of the state.
+pub type Known = BTreeMap<u128, u32>;
 
-// The best bound of the state, 0 if it has none.
-pub(crate) fn best(known: &Known, state: &State) -> u32
-    ensures { result ≡ known_best (get state_cmp known.now) state.now }
+fn kept(known: &Known, number: u128) -> u32
+    ensures { result ≡ unwrap_or (get nat_cmp known.now number) 0 }
 {
-    known.get(state).copied().unwrap_or(0)
+    known.get(&number).copied().unwrap_or(0)
 }
 
-fn copied(alloc: Global, counts: &Counts) -> Result<Counts, NoMemory>
-    ensures { IfOk result (λ copy. copy ≡ counts.now) }
+/// The best bound kept of the state, 0 if none.
+pub fn best(known: &Known, state: &State, kinds: &Kinds) -> u32
+    requires kinds { AreSomeKinds kinds.now }
+    requires state { IsState kinds.now state.now }
+    ensures { result ≡ known_best (get nat_cmp known.now) kinds.now state.now }
 {
-    let mut copy = Counts::new(alloc);
-    copy.extend(counts.as_slice())?;
-    Ok(copy)
+    kept(known, code(state, kinds))
 }
 
-fn copy_of(alloc: Global, state: &State) -> Result<State, NoMemory>
-    ensures { IfOk result (λ copy. copy ≡ state.now) }
+fn keep(known: &mut Known, number: u128, bound: u32) -> Result<(), NoMemory>
+    ensures kept { OnOk result (get nat_cmp known.new number ≡ Some bound) }
+    ensures others { OnOk result ((q : ℕ) → q ≢ number → get nat_cmp known.new q ≡ get nat_cmp known.old q) }
+    ensures unchanged { OnErr result ((q : ℕ) → get nat_cmp known.new q ≡ get nat_cmp known.old q) }
 {
-    Ok(State {
-        p_left: copied(alloc, &state.p_left)?,
-        n_left: copied(alloc, &state.n_left)?,
-        p_end: state.p_end,
-        n_end: state.n_end,
-    })
-}
-
-fn keep(known: &mut Known, state: State, bound: u32) -> Result<(), NoMemory>
-    ensures { OnOk result ((q : State) → get state_cmp known.new q ≡ cond (is_at (state_cmp state) q) (Some bound) (get state_cmp known.old q)) }
-{
-    match known.insert(state, bound) {
+    match known.insert(number, bound) {
         Ok(_) => Ok(()),
         Err(_) => Err(NoMemory),
     }
 }
 
-// One lemma more.
-pub(crate) fn note(alloc: Global, known: &mut Known, lemma: &Lemma) -> Result<(), NoMemory>
-    ensures { OnOk result ((s : State) → known_best (get state_cmp known.new) s ≡ better s (known_best (get state_cmp known.old) s) lemma.now) }
+/// One lemma more. The map is as before where the memory is refused.
+pub fn note(known: &mut Known, kinds: &Kinds, state: &State, bound: u32) -> Result<(), NoMemory>
+    requires kinds { AreSomeKinds kinds.now }
+    requires state { IsState kinds.now state.now }
+    ensures raised { OnOk result ((s : StateOf) → IsState kinds.now s → known_best (get nat_cmp known.new) kinds.now s ≡ raised state.now bound s (known_best (get nat_cmp known.old) kinds.now s)) }
+    ensures unchanged { OnErr result ((q : ℕ) → get nat_cmp known.new q ≡ get nat_cmp known.old q) }
 {
-    let bound = best(known, &lemma.state).max(lemma.bound);
-    let state = copy_of(alloc, &lemma.state)?;
-    keep(known, state, bound)?;
-    Ok(())
+    let number = code(state, kinds);
+    let most = kept(known, number).max(bound);
+    match keep(known, number, most) {
+        Ok(()) => Ok(()),
+        Err(_) => Err(NoMemory),
+    }
 }
 
 fn is_same(a: &State, b: &State) -> bool

@@ -4,7 +4,8 @@ ghost use Rattle.row_state.specs.Start.{AreSomeKinds, IsState};
 ghost use Rattle.row_state.specs.Steps.{IsPossible};
 ghost use Rattle.log_check.specs.Accepted.{StepReaches, BranchReaches, RuleReaches, IsJustified, AreJustified};
 ghost use Rattle.std.specs.BTreeMap.{get};
-ghost use Rattle.log_check.specs.Known.{known_best, state_cmp};
+ghost use Rattle.std.specs.Ordering.{nat_cmp};
+ghost use Rattle.log_check.specs.Known.{known_best};
 ghost use Rattle.log_check.specs.Refusal.{IsFirstUnjustified};
 
 use crate::known::{Known, best, note};
@@ -27,10 +28,10 @@ fn step_reaches(
     requires kinds { AreSomeKinds kinds.now }
     requires state { IsState kinds.now state.now }
     requires step { IsPossible kinds.now state.now step.now }
-    ensures { IfOk result (λ yes. IsTrue yes ↔ StepReaches kinds.now (known_best (get state_cmp known.now)) state.now bound step.now) }
+    ensures { IfOk result (λ yes. IsTrue yes ↔ StepReaches kinds.now (known_best (get nat_cmp known.now) kinds.now) state.now bound step.now) }
 {
     let next = after(alloc, state, step, kinds)?;
-    let reached = u64::from(step_cost(state, step, kinds)) + u64::from(best(known, &next));
+    let reached = u64::from(step_cost(state, step, kinds)) + u64::from(best(known, &next, kinds));
     Ok(u64::from(bound) <= reached)
 }
 
@@ -44,7 +45,7 @@ fn branch_reaches(
 ) -> Result<bool, NoMemory>
     requires kinds { AreSomeKinds kinds.now }
     requires state { IsState kinds.now state.now }
-    ensures { IfOk result (λ yes. IsTrue yes ↔ BranchReaches kinds.now (known_best (get state_cmp known.now)) state.now bound) }
+    ensures { IfOk result (λ yes. IsTrue yes ↔ BranchReaches kinds.now (known_best (get nat_cmp known.now) kinds.now) state.now bound) }
 {
     let steps = successors(alloc, state, kinds)?;
     for step in steps.as_slice() {
@@ -63,7 +64,7 @@ fn is_justified<B: RowBound>(
     bound: &B,
 ) -> Result<bool, NoMemory>
     requires kinds { AreSomeKinds kinds.now }
-    ensures { IfOk result (λ yes. IsTrue yes ↔ IsJustified (B.value bound.now) kinds.now (known_best (get state_cmp known.now)) lemma.now) }
+    ensures { IfOk result (λ yes. IsTrue yes ↔ IsJustified (B.value bound.now) kinds.now (known_best (get nat_cmp known.now) kinds.now) lemma.now) }
 {
     if !is_state(&lemma.state, kinds) {
         return Ok(false);
@@ -98,7 +99,7 @@ pub(crate) fn first_unjustified<B: RowBound>(
         if !is_justified(alloc, kinds, &known, lemma, bound)? {
             return Ok(Some(at));
         }
-        note(alloc, &mut known, lemma)?;
+        note(&mut known, kinds, &lemma.state, lemma.bound)?;
     }
     Ok(None)
 }

@@ -8,6 +8,7 @@ mod listed;
 mod refused;
 
 pub use check::check_log;
+pub use known::{Known, best, note};
 pub use refused::Refused;
 
 #[cfg(test)]

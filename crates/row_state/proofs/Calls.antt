@@ -1,7 +1,6 @@
 -- What the calls on next columns promise, from what every call that takes kinds asks.
-use Rattle.std.specs.Prelude.{ℕ, zero, suc, ◌≡◌, ◌+◌, ◌<◌, List, [], ◌∷◌, ◌++◌, length, Contains, IfSome, Option, Some, None, ltb, get_or, slice_get, slice_index}
-use Rattle.std.proofs.Common.{refl, sym, ap, arith, ◌∙◌}
-use Rattle.std.proofs.lemmas.Option.{slice_get-get_or}
+use Rattle.std.specs.Prelude.{ℕ, ◌≡◌, ◌+◌, ◌<◌, List, ◌∷◌, length, IfSome, Option, Some, None, ltb, slice_index}
+use Rattle.std.proofs.Common.{refl, arith}
 use Rattle.row_model.specs.declared.column.Column.{Column}
 use Rattle.row_state.specs.declared.kind.Kind.{Kind}
 use Rattle.row_state.specs.declared.kind.Kinds.{Kinds}
@@ -10,15 +9,14 @@ use Rattle.row_state.specs.declared.step.Side.{Side}
 use Rattle.row_state.specs.declared.step.Step.{Step}
 use Rattle.row_state.specs.Completion.{Completes}
 use Rattle.row_state.specs.Start.{AreSomeKinds, IsState, columns_left}
+use Rattle.row_state.specs.declared.gate.OnGate.{OnGate}
+use Rattle.row_state.specs.Runs.{IsOnGate}
 use Rattle.row_state.specs.Steps.{AreSuccessors, IsLeft, IsPossible, Unfolds, column_of, state_after}
-use Rattle.row_state.specs.Tests.{columns_from, columns_on, gate_left, joined_below, next_columns, sides_of, sides_on}
+use Rattle.row_state.specs.Tests.{columns_from, columns_on, next_columns, sides_on}
 use Rattle.row_state.proofs.Next.{next_are}
 use Rattle.row_state.proofs.StateAfter.{after_valid, columns_after}
 use Rattle.row_state.proofs.Unfold.{Next, unfold_from, unfold_to}
 use Rattle.row_state.proofs.Valid.{ends_are_nets, gates_are_nets}
-
-pub joined_more : {X : Type 0} (f : ℕ → List X) (n : ℕ) → joined_below f (n + 1) ≡ joined_below f n ++ f n
-joined_more f n = let e : n + 1 ≡ suc n = omega arith in ap (joined_below f) e
 
 side_in : (kinds : List Kind) (left : List ℕ) (side : Option Side) → length left ≡ length kinds → IsLeft kinds left side → IfSome side (λ x. x.kind < length left) × IfSome side (λ x. 0 < slice_index left x.kind)
 side_in kinds left None same h = (tt, tt)
@@ -46,9 +44,6 @@ next_unfold k s some c cs h =
     let all : AreSuccessors k s (next_columns k s) = next_succeed k s some in
     (next.step, all.all next.step next.possible, next.is, next.rest)
 
-pub sides_at : (kinds : List Kind) (left : List ℕ) (gate i : ℕ) (k : Kind) (c : ℕ) → i < length kinds → length left ≡ length kinds → sides_of gate i (slice_get kinds i) (slice_get left i) ≡ sides_of gate i (Some (get_or kinds i k)) (Some (get_or left i c))
-sides_at kinds left gate i k c l same = rw (slice_get-get_or kinds i k l, slice_get-get_or left i c (omega (arith, l, same))) refl
-
 -- the next columns on a gate, from their parts
-pub on_gate_is : (k : Kinds) (s : State) (gate : ℕ) (ps ns : List Side) (p n : ℕ) → ps ≡ sides_on k.p s.p_left gate → ns ≡ sides_on k.n s.n_left gate → p ≡ gate_left k.p s.p_left gate → n ≡ gate_left k.n s.n_left gate → columns_from ps ns (ltb n p) (ltb p n) ≡ columns_on k s gate
-on_gate_is k s gate ps ns p n eps ens ep en = rw (eps, ens, ep, en) refl
+pub on_gate_is : (k : Kinds) (s : State) (on : OnGate) → IsOnGate k s on → columns_from (sides_on k.p s.p_left on.gate) (sides_on k.n s.n_left on.gate) (ltb on.n.left on.p.left) (ltb on.p.left on.n.left) ≡ columns_on k s on.gate
+on_gate_is k s on h = rw (h.p.left, h.n.left) refl

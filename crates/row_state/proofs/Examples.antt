@@ -5,7 +5,7 @@ use Rattle.cell_num.specs.declared.finger.Row.{Row}
 use Rattle.cell_num.specs.declared.finger.Row.TheVariants.{P, N}
 use Rattle.cell_num.specs.declared.finger.Finger.{Finger}
 use Rattle.cell_num.specs.declared.finger.Fingers.{Fingers}
-use Rattle.cell_num.specs.Fingers.{AreFingers, IsFinger, columns_of, on_gate, sum_below}
+use Rattle.cell_num.specs.Fingers.{AreFingers, IsFinger, on_gate, sum_below}
 use Rattle.row_state.specs.declared.kind.Kinds.{Kinds}
 use Rattle.row_state.specs.declared.state.State.{State}
 use Rattle.row_state.specs.declared.step.Step.{Step}

@@ -1,28 +1,26 @@
 -- Each state has a completion.
-use Rattle.std.proofs.Common.{ℕ, zero, suc, ◌≡◌, ◌+◌, ◌-◌, ◌<◌, ◌≤◌, Bool, cond, true, false, ◌==◌, List, [], ◌∷◌, ◌++◌, length, Option, Some, None, replicate, inl, inr, refl, sym, ap, subst, arith, IsPermutation, ◌∙◌, slice_get, slice_index, count_by, option_map}
-use Rattle.std.proofs.lemmas.Bool.{cases_Bool, cases_eq, cases_lt, eqb-true, eq-eqb}
+use Rattle.std.proofs.Common.{ℕ, zero, suc, ◌≡◌, ◌+◌, ◌<◌, ◌≤◌, cond, false, ◌==◌, List, [], ◌∷◌, length, Option, Some, None, replicate, inl, inr, refl, sym, subst, arith, IsPermutation, ◌∙◌, slice_get, slice_index}
+use Rattle.std.proofs.lemmas.Bool.{cases_Bool, cases_lt, eqb-true, eq-eqb}
 use Rattle.std.proofs.lemmas.Option.{slice_get_within}
 use Rattle.std.proofs.lemmas.List.Elements.{All-nil}
-use Rattle.std.proofs.lemmas.List.Sums.{sum_by-append, sum_by-cons}
+use Rattle.std.proofs.lemmas.List.Sums.{sum_by-append}
 use Rattle.std.proofs.lemmas.List.Sorted.{IsPermutation-refl}
 use Rattle.cell_num.specs.declared.finger.Row.{Row}
 use Rattle.cell_num.specs.declared.finger.Row.TheVariants.{P, N}
-use Rattle.cell_num.specs.declared.net.NetNo.{NetNo}
 use Rattle.cell_num.specs.declared.finger.Finger.{Finger}
 use Rattle.row_model.specs.declared.column.Placed.{Placed}
 use Rattle.row_model.specs.declared.column.Column.{Column}
-use Rattle.cell_num.specs.Fingers.{on_gate, columns_of}
+use Rattle.cell_num.specs.Fingers.{on_gate}
 use Rattle.row_model.specs.Arrangement.{IsColumn, AreOneColumn}
 use Rattle.row_model.proofs.Permutations.{count_cons}
 use Rattle.row_model.proofs.Decide.{net_decides}
 use Rattle.row_state.specs.declared.kind.Kind.{Kind}
 use Rattle.row_state.specs.declared.kind.Kinds.{Kinds}
 use Rattle.row_state.specs.declared.state.State.{State}
-use Rattle.row_state.specs.declared.step.Side.{Side}
 use Rattle.row_state.specs.declared.step.Step.{Step}
 use Rattle.row_state.specs.Completion.{finger_of, fingers_left, left_in, Completes}
 use Rattle.row_state.specs.Start.{GatesAreNets, HasFingers, columns_left}
-use Rattle.row_state.specs.Steps.{placed_of, column_of, IsLeft, IsPossible, HalfMayStand, left_after, state_after}
+use Rattle.row_state.specs.Steps.{placed_of, column_of, IsLeft, IsPossible, HalfMayStand, state_after}
 use Rattle.row_state.specs.Gates.{most}
 use Rattle.row_state.proofs.Fewest.{most_same, most_none}
 use Rattle.row_state.proofs.Unfold.{unfold_from, half_at, placed_kind}

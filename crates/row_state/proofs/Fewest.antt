@@ -1,18 +1,15 @@
 -- How many columns fingers need, and one column more.
-use Rattle.std.proofs.Common.{ℕ, zero, suc, ◌≡◌, ◌+◌, ◌-◌, ◌<◌, ◌≤◌, max, Bool, cond, true, false, ◌==◌, List, [], ◌∷◌, ◌++◌, length, Option, Some, None, option_map, inl, inr, refl, sym, ap, subst, arith, count_by, All, IsPermutation, ◌∙◌}
-use Rattle.std.proofs.lemmas.Bool.{cases_Bool, cases_eq, cases_order, cases_lt, eqb-true, eq-eqb, ne_eqb}
-use Rattle.std.proofs.lemmas.List.Sums.{sum_by-cons}
+use Rattle.std.proofs.Common.{ℕ, zero, suc, ◌≡◌, ◌+◌, ◌<◌, ◌≤◌, max, cond, ◌==◌, List, [], ◌∷◌, length, Option, Some, None, option_map, inl, inr, refl, sym, ap, subst, arith, All, IsPermutation, ◌∙◌}
+use Rattle.std.proofs.lemmas.Bool.{cases_lt}
 use Rattle.std.proofs.lemmas.List.Sorted.{sum_by-IsPermutation}
 use Rattle.std.proofs.lemmas.List.Elements.{All-head, All-tail}
-use Rattle.cell_num.specs.declared.finger.Row.{Row}
 use Rattle.cell_num.specs.declared.finger.Row.TheVariants.{P, N}
 use Rattle.cell_num.specs.declared.net.NetNo.{NetNo}
 use Rattle.cell_num.specs.declared.finger.Finger.{Finger}
 use Rattle.row_model.specs.declared.column.Placed.{Placed}
 use Rattle.row_model.specs.declared.column.Column.{Column}
-use Rattle.cell_num.specs.Fingers.{on_gate, sum_below, columns_of}
+use Rattle.cell_num.specs.Fingers.{on_gate}
 use Rattle.row_model.specs.Arrangement.{fingers_in, IsColumn, AreOneColumn}
-use Rattle.row_model.proofs.Permutations.{count_cons}
 use Rattle.std.specs.List.{cons_option}
 use Rattle.row_state.specs.Gates.{OneDiffers, gate_here, gate_other, most, one_differs, sum_below_same}
 use Rattle.row_state.specs.Steps.{HalfMayStand}

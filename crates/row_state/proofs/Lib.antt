@@ -2,6 +2,7 @@ pub mod ParityCode
 pub mod StateAfter
 pub mod Fewest
 pub mod Calls
+pub mod Codes
 pub mod Examples
 pub mod Exists
 pub mod KindsOf
@@ -11,5 +12,7 @@ pub mod Lists
 pub mod Merge
 pub mod Next
 pub mod Numbers
+pub mod Runs
+pub mod Sides
 pub mod Unfold
 pub mod Valid

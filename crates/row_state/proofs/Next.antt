@@ -1,30 +1,30 @@
 -- The list of next columns: each is possible, each possible one is in it, and they ascend.
-use Rattle.std.specs.Prelude.{ℕ, zero, suc, ◌≡◌, ◌+◌, ◌<◌, ◌≤◌, Bool, true, false, cond, ◌&&◌, ◌==◌, ltb, if◌then◌else◌, List, [], ◌∷◌, ◌++◌, length, map, All, AllPairs, Contains, flat_map, slice_get, slice_index, Option, Some, None}
+use Rattle.std.specs.Prelude.{ℕ, zero, suc, ◌≡◌, ◌<◌, Bool, true, false, ◌&&◌, ◌==◌, ltb, if◌then◌else◌, List, [], ◌∷◌, ◌++◌, length, All, AllPairs, Contains, flat_map, slice_get, slice_index, Option, Some, None}
 use Rattle.std.proofs.Common.{refl, sym, ap, subst, arith, ◌∙◌, inl, inr}
-use Rattle.std.proofs.lemmas.Bool.{cases_Bool, cases_eq, cases_lt, and_parts, and_from, eqb-true, eqb-false, eq-eqb, ne_eqb, ltb-true, lt-ltb, cond-true, cond-false}
-use Rattle.std.proofs.lemmas.Option.{same_Some, none-some, slice_get-get_or, slice_get_within, slice_get_cases, get_or_from_slice_get}
-use Rattle.std.proofs.lemmas.List.Elements.{All-nil, All-cons, All-append, Contains-append_left, Contains-append_right}
+use Rattle.std.proofs.lemmas.Bool.{cases_Bool, and_parts, and_from, eqb-true, eq-eqb, ltb-true, lt-ltb}
+use Rattle.std.proofs.lemmas.Option.{slice_get-get_or, slice_get_within, slice_get_cases, get_or_from_slice_get}
+use Rattle.std.proofs.lemmas.List.Elements.{All-nil, All-append, Contains-append_left, Contains-append_right}
 use Rattle.cell_num.specs.declared.finger.Row.{Row}
 use Rattle.cell_num.specs.declared.finger.Row.TheVariants.{P, N}
 use Rattle.cell_num.specs.declared.net.NetNo.{NetNo}
 use Rattle.cell_num.specs.Fingers.{on_gate}
 use Rattle.row_model.specs.declared.column.Placed.{Placed}
 use Rattle.row_model.specs.declared.column.Column.{Column}
-use Rattle.row_model.specs.Arrangement.{AreOneColumn, IsColumn, IsPlaced}
+use Rattle.row_model.specs.Arrangement.{AreOneColumn, IsPlaced}
 use Rattle.row_model.proofs.Decide.{net_decides}
 use Rattle.row_state.specs.declared.kind.Kind.{Kind}
 use Rattle.row_state.specs.declared.kind.Kinds.{Kinds}
 use Rattle.row_state.specs.declared.state.State.{State}
 use Rattle.row_state.specs.declared.step.Side.{Side}
 use Rattle.row_state.specs.declared.step.Step.{Step}
-use Rattle.row_state.specs.Completion.{finger_of, fingers_left}
-use Rattle.row_state.specs.Order.{ColumnBefore, KeyBefore, KindBefore, column_key, gate_key, kind_key, place_key}
-use Rattle.row_state.specs.Start.{AreSomeKinds, GatesAreNets, IsState}
+use Rattle.row_state.specs.Completion.{fingers_left}
+use Rattle.row_state.specs.Order.{ColumnBefore, KeyBefore, KindBefore, gate_key, kind_key, place_key}
+use Rattle.row_state.specs.Start.{AreSomeKinds, GatesAreNets}
 use Rattle.row_state.specs.Steps.{AreSuccessors, HalfMayStand, IsLeft, IsPossible, column_of, placed_of}
-use Rattle.row_state.specs.Tests.{columns_from, columns_on, gate_left, joined_below, next_columns, side_of, sides_of, sides_on, step_of, turns_of, with_each, with_side}
+use Rattle.row_state.specs.Tests.{columns_from, columns_on, gate_left, next_columns, side_of, sides_of, sides_on, step_of, turns_of, with_each, with_side}
 use Rattle.row_state.proofs.Exists.{possible_by}
 use Rattle.row_state.proofs.Keys.{key_append, key_behind, key_head, key_prefix, key_tail, key_untail}
-use Rattle.row_state.proofs.Lists.{all_at, all_flat, all_imply, all_joined, all_map, all_one, all_two, contains_flat, contains_here, contains_joined, contains_later, contains_map, cross, pairs_append, pairs_at, pairs_flat, pairs_joined, pairs_map, pairs_none, pairs_one, pairs_two}
+use Rattle.row_state.proofs.Lists.{all_flat, all_imply, all_joined, all_map, all_one, all_two, contains_flat, contains_here, contains_joined, contains_later, contains_map, cross, pairs_append, pairs_at, pairs_flat, pairs_joined, pairs_map, pairs_none, pairs_one, pairs_two}
 use Rattle.row_state.proofs.Numbers.{gate_code}
 use Rattle.row_state.proofs.Unfold.{placed_kind}
 

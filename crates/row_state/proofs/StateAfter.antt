@@ -1,28 +1,25 @@
 -- The state after a possible next column.
-use Rattle.std.proofs.Common.{ℕ, zero, suc, ◌≡◌, ◌+◌, ◌-◌, ◌<◌, ◌≤◌, max, Bool, cond, true, false, ◌==◌, List, [], ◌∷◌, length, Option, Some, None, option_map, inl, inr, refl, sym, ap, subst, arith, IsPermutation, ◌∙◌, slice_get, slice_set, slice_index, IfSome, get_or}
-use Rattle.std.proofs.lemmas.Bool.{cases_Bool, cases_eq, cases_lt}
-use Rattle.std.proofs.lemmas.Option.{same_Some, none-some, slice_get_within}
+use Rattle.std.proofs.Common.{ℕ, suc, ◌≡◌, ◌+◌, ◌-◌, ◌<◌, ◌≤◌, Bool, true, false, List, ◌∷◌, length, Option, Some, None, option_map, inl, inr, refl, sym, ap, subst, arith, IsPermutation, ◌∙◌, slice_get, slice_index, IfSome, get_or}
+use Rattle.std.proofs.lemmas.Bool.{cases_eq}
 use Rattle.std.proofs.lemmas.List.{length-set, get_or-set_same, get_or-set_other}
 use Rattle.cell_num.specs.declared.finger.Row.{Row}
 use Rattle.cell_num.specs.declared.finger.Row.TheVariants.{P, N}
 use Rattle.cell_num.specs.declared.net.NetNo.{NetNo}
 use Rattle.cell_num.specs.declared.finger.Finger.{Finger}
 use Rattle.row_model.specs.declared.column.Placed.{Placed}
-use Rattle.row_model.specs.declared.column.Column.{Column}
-use Rattle.cell_num.specs.Fingers.{on_gate, columns_of}
-use Rattle.row_model.specs.Arrangement.{IsColumn, AreOneColumn}
+use Rattle.cell_num.specs.Fingers.{on_gate}
+use Rattle.row_model.specs.Arrangement.{AreOneColumn}
 use Rattle.row_model.specs.Gaps.{right_net}
 use Rattle.row_state.specs.declared.kind.Kind.{Kind}
 use Rattle.row_state.specs.declared.kind.Kinds.{Kinds}
 use Rattle.row_state.specs.declared.state.State.{State}
 use Rattle.row_state.specs.declared.step.Side.{Side}
 use Rattle.row_state.specs.declared.step.Step.{Step}
-use Rattle.row_state.specs.Completion.{finger_of, fingers_left, left_in}
-use Rattle.row_state.specs.Start.{GatesAreNets, EndsAreNets, HasFingers, IsState, KeepsLead, columns_left, start_of}
-use Rattle.row_state.specs.Steps.{placed_of, column_of, IsLeft, IsPossible, HalfMayStand, left_after, state_after}
+use Rattle.row_state.specs.Completion.{fingers_left}
+use Rattle.row_state.specs.Start.{GatesAreNets, EndsAreNets, IsState, columns_left}
+use Rattle.row_state.specs.Steps.{placed_of, IsLeft, IsPossible, HalfMayStand, left_after, state_after}
 use Rattle.row_state.proofs.Left.{with_place, row_from}
-use Rattle.row_state.specs.Gates.{most, gate_here, gate_other}
-use Rattle.row_state.proofs.Fewest.{GateWithin}
+use Rattle.row_state.specs.Gates.{gate_here, gate_other}
 use Rattle.row_state.proofs.Unfold.{one_more, gate_within, placed_gate, placed_kind, gate_perm}
 
 -- one column less is left

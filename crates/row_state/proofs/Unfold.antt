@@ -1,6 +1,6 @@
 -- A completion is a possible next column and a completion of the state after it.
-use Rattle.std.proofs.Common.{ℕ, zero, suc, ◌≡◌, ◌+◌, ◌-◌, ◌<◌, ◌≤◌, max, Bool, cond, true, false, ◌==◌, ◌||◌, List, [], ◌∷◌, ◌++◌, length, Option, Some, None, option_map, inl, inr, refl, sym, ap, subst, arith, count_by, All, IsPermutation, ◌∙◌, slice_get, zip}
-use Rattle.std.proofs.lemmas.List.Sorted.{IsPermutation-refl, IsPermutation-cons, IsPermutation-sym, IsPermutation-trans, sum_by-IsPermutation, length_permutation}
+use Rattle.std.proofs.Common.{ℕ, suc, ◌≡◌, ◌+◌, ◌<◌, ◌≤◌, Bool, cond, ◌==◌, ◌||◌, List, [], ◌∷◌, length, Option, Some, None, option_map, refl, sym, ap, subst, arith, IsPermutation, ◌∙◌, slice_get, zip}
+use Rattle.std.proofs.lemmas.List.Sorted.{IsPermutation-cons, IsPermutation-sym, IsPermutation-trans, sum_by-IsPermutation, length_permutation}
 use Rattle.std.proofs.lemmas.List.Elements.{All-head, All-tail, All-cons}
 use Rattle.std.proofs.lemmas.List.Sums.{sum_by-cons}
 use Rattle.std.specs.List.{cons_option}
@@ -12,7 +12,7 @@ use Rattle.cell_num.specs.declared.finger.Finger.{Finger}
 use Rattle.cell_num.specs.declared.finger.Fingers.{Fingers}
 use Rattle.row_model.specs.declared.column.Placed.{Placed}
 use Rattle.row_model.specs.declared.column.Column.{Column}
-use Rattle.cell_num.specs.Fingers.{on_gate, sum_below, columns_of}
+use Rattle.cell_num.specs.Fingers.{on_gate, columns_of}
 use Rattle.row_model.specs.Arrangement.{IsArrangement, fingers_in, IsColumn, AreOneColumn}
 use Rattle.row_model.specs.Gaps.{gaps_of, is_gap, facing_differs, right_net}
 use Rattle.row_state.specs.declared.kind.Kind.{Kind}
@@ -20,9 +20,9 @@ use Rattle.row_state.specs.declared.kind.Kinds.{Kinds}
 use Rattle.row_state.specs.declared.state.State.{State}
 use Rattle.row_state.specs.declared.step.Side.{Side}
 use Rattle.row_state.specs.declared.step.Step.{Step}
-use Rattle.row_state.specs.Completion.{finger_of, fingers_left, left_in, Completes, Need, further_gaps, first_cost, cost_of, end_differs}
+use Rattle.row_state.specs.Completion.{finger_of, fingers_left, left_in, Completes, Need, further_gaps, cost_of, end_differs}
 use Rattle.row_state.specs.Start.{GatesAreNets, HasFingers, AreKinds, start_of, counts_of}
-use Rattle.row_state.specs.Steps.{placed_of, column_of, IsLeft, IsPossible, HalfMayStand, left_after, state_after}
+use Rattle.row_state.specs.Steps.{placed_of, column_of, IsPossible, HalfMayStand, left_after, state_after}
 use Rattle.row_state.proofs.Left.{with_place, Taken, row_to, row_from}
 use Rattle.row_state.specs.Gates.{most}
 use Rattle.row_state.proofs.Fewest.{most_same, few, placed_cons, Adds, adds, GateWithin}

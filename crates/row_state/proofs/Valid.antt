@@ -1,6 +1,6 @@
 -- Fingers left on a gate, and which states are valid.
-use Rattle.std.specs.Prelude.{ℕ, zero, suc, ◌≡◌, ◌↔◌, ◌+◌, ◌<◌, ◌≤◌, Bool, true, false, cond, ◌&&◌, ◌||◌, ◌==◌, ltb, leb, max, List, [], ◌∷◌, ◌++◌, length, map, replicate, drop, get_or, Option, Some, None, All, IfSome, IsTrue, sum_by, slice_get, slice_index}
-use Rattle.std.proofs.Common.{refl, sym, ap, subst, arith, ◌∙◌, inl, inr}
+use Rattle.std.specs.Prelude.{ℕ, zero, suc, ◌≡◌, ◌↔◌, ◌+◌, ◌<◌, ◌≤◌, true, ◌&&◌, ◌||◌, ◌==◌, ltb, leb, max, List, [], ◌∷◌, length, replicate, drop, get_or, Option, Some, None, All, IfSome, IsTrue, slice_get, slice_index}
+use Rattle.std.proofs.Common.{refl, ap, subst, arith, ◌∙◌, inl, inr}
 use Rattle.std.specs.Bool.{Decides}
 use Rattle.std.specs.List.{list_all, list_any, zip}
 use Rattle.std.proofs.lemmas.Bool.{and_from, and_parts, cases_Bool, cases_lt, eq-eqb, eqb-true, le-leb, leb-true, lt-ltb, ltb-true, or_cases, or_left, or_right}
@@ -12,13 +12,14 @@ use Rattle.cell_num.specs.declared.finger.Row.{Row}
 use Rattle.cell_num.specs.declared.finger.Row.TheVariants.{P, N}
 use Rattle.cell_num.specs.declared.net.NetNo.{NetNo}
 use Rattle.cell_num.specs.declared.finger.Finger.{Finger}
-use Rattle.cell_num.specs.declared.finger.Fingers.{Fingers}
 use Rattle.cell_num.specs.Fingers.{AreFingers, IsFinger, on_gate, sum_below}
 use Rattle.row_state.specs.declared.kind.Kind.{Kind}
 use Rattle.row_state.specs.declared.kind.Kinds.{Kinds}
 use Rattle.row_state.specs.declared.state.State.{State}
 use Rattle.row_state.specs.Completion.{finger_of, fingers_left, left_in}
 use Rattle.row_state.specs.Start.{AreSomeKinds, EndsAreNets, GatesAreNets, HasFingers, IsKind, IsState, KeepsLead, columns_left, counts_of, start_of}
+use Rattle.row_state.specs.declared.gate.OnGate.{OnGate}
+use Rattle.row_state.specs.Runs.{IsOnGate}
 use Rattle.row_state.specs.Tests.{columns_test, counts_fit, end_fits, gate_left, keeps_lead, leads_below, left_of_kind, state_test}
 use Rattle.row_state.specs.Gates.{sum_below_same}
 use Rattle.row_state.proofs.KindsOf.{few_fingers}
@@ -91,6 +92,12 @@ kinds_few k some =
     let few = few_fingers (left_in k (start_of k)) (some_fingers k some) in
     (omega (arith, few.0, kinds_le P k.nets k.p some.p), omega (arith, few.1, kinds_le N k.nets k.n some.n))
 
+pub kinds_few_p : (k : Kinds) → AreSomeKinds k → length k.p ≤ 60
+kinds_few_p k some = (kinds_few k some).0
+
+pub kinds_few_n : (k : Kinds) → AreSomeKinds k → length k.n ≤ 60
+kinds_few_n k some = (kinds_few k some).1
+
 on_gate_le : (gate : ℕ) (fs : List Finger) → on_gate gate fs ≤ length fs
 on_gate_le gate fs = count_by-le-length (λ (f : Finger). f.gate.0 == gate) fs
 
@@ -134,6 +141,13 @@ each_fit (k ∷ ks) (c ∷ cs) h = and_from _ _ (le-leb _ _ (h zero k refl)) (ea
 
 pub fits_from : (kinds : List Kind) (left : List ℕ) → length left ≡ length kinds → ((i : ℕ) (kind : Kind) → slice_get kinds i ≡ Some kind → slice_index left i ≤ kind.count) → counts_fit kinds left ≡ true
 fits_from kinds left same h = and_from _ _ (eq-eqb _ _ same) (each_fit kinds left h)
+
+-- the counts of a valid state fit
+pub p_fits : (k : Kinds) (s : State) → IsState k s → counts_fit k.p s.p_left ≡ true
+p_fits k s valid = fits_from k.p s.p_left valid.p_kinds valid.p_counts
+
+pub n_fits : (k : Kinds) (s : State) → IsState k s → counts_fit k.n s.n_left ≡ true
+n_fits k s valid = fits_from k.n s.n_left valid.n_kinds valid.n_counts
 
 -- of a valid state few fingers are left on a gate
 pub state_few : (k : Kinds) (s : State) (gate : ℕ) → AreSomeKinds k → IsState k s → (length s.p_left ≡ length k.p) × (length s.n_left ≡ length k.n) × (gate_left k.p s.p_left gate ≤ 64) × (gate_left k.n s.n_left gate ≤ 64)
@@ -200,6 +214,9 @@ leads_at k s (suc n) gate h l =
 leads_from : (k : Kinds) (s : State) (n : ℕ) → ((gate : ℕ) → KeepsLead k s gate) → leads_below k s n ≡ true
 leads_from k s zero h = refl
 leads_from k s (suc n) h = and_from _ _ ((lead_decides k s n).1 (h n)) (leads_from k s n h)
+
+pub lead_is : (k : Kinds) (s : State) (on : OnGate) → IsOnGate k s on → ((ltb on.p.all on.n.all || leb on.n.left on.p.left) && (ltb on.n.all on.p.all || leb on.p.left on.n.left)) ≡ keeps_lead k s on.gate
+lead_is k s on h = rw (h.p.all, h.n.all, h.p.left, h.n.left) refl
 
 pub leads_more : (k : Kinds) (s : State) (n : ℕ) → leads_below k s (n + 1) ≡ (keeps_lead k s n && leads_below k s n)
 leads_more k s n = let e : n + 1 ≡ suc n = omega arith in ap (leads_below k s) e
@@ -276,9 +293,6 @@ fingers_decide k s valid = (sound, complete)
       | inl l ↦ or_left _ _ (there_some P k.p s.p_left l)
       | inr l ↦ or_right _ _ (there_some N k.n s.n_left (omega (arith, h, l)))
     ]
-
-pub columns_more : (f : ℕ → ℕ) (n : ℕ) → sum_below f (n + 1) ≡ sum_below f n + f n
-columns_more f n = let e : n + 1 ≡ suc n = omega arith in ap (sum_below f) e
 
 pub columns_are : (k : Kinds) → sum_below (columns_test k) k.nets ≡ columns_left k (start_of k)
 columns_are k = sum_below_same (columns_test k) (λ gate. max (on_gate gate (fingers_left P k.p (counts_of k.p))) (on_gate gate (fingers_left N k.n (counts_of k.n)))) k.nets (λ gate. rw (gate_code P k.p (counts_of k.p) gate, gate_code N k.n (counts_of k.n) gate) refl)

@@ -1,23 +1,19 @@
 -- What a row's places say of the fingers in them: odd degrees and empty places.
-use Rattle.std.proofs.Common.{ℕ, zero, suc, ◌≡◌, ◌+◌, ◌-◌, ◌*◌, ◌<◌, ◌≤◌, max, Bool, cond, true, false, not, ◌==◌, List, [], ◌∷◌, ◌++◌, length, Option, Some, None, option_map, map, replicate, inl, inr, refl, sym, ap, subst, arith, IsPermutation, ◌∙◌, sum_by, get_or}
+use Rattle.std.proofs.Common.{ℕ, zero, suc, ◌≡◌, ◌+◌, ◌-◌, ◌<◌, Bool, cond, true, false, not, ◌==◌, List, [], ◌∷◌, length, Option, Some, None, option_map, refl, sym, ap, arith, IsPermutation, ◌∙◌, sum_by, get_or}
 use Rattle.std.specs.List.{cons_option}
 use Rattle.std.proofs.lemmas.List.{length-map}
-use Rattle.std.proofs.lemmas.Bool.{cases_Bool, cases_eq, cases_lt, eq-eqb, ne_eqb}
-use Rattle.std.proofs.lemmas.List.Sums.{sum_by-cons, sum_by-append}
+use Rattle.std.proofs.lemmas.List.Sums.{sum_by-cons}
 use Rattle.std.proofs.lemmas.List.Sorted.{sum_by-IsPermutation, length_permutation}
 use Rattle.cell_num.specs.declared.finger.Row.{Row}
-use Rattle.cell_num.specs.declared.finger.Row.TheVariants.{P, N}
-use Rattle.cell_num.specs.declared.net.NetNo.{NetNo}
 use Rattle.cell_num.specs.declared.finger.Finger.{Finger}
 use Rattle.row_model.specs.declared.column.Placed.{Placed}
 use Rattle.row_model.specs.declared.column.Column.{Column}
 use Rattle.cell_num.specs.Fingers.{on_gate, sum_below}
 use Rattle.row_model.specs.Arrangement.{place, fingers_in}
 use Rattle.row_model.specs.Gaps.{left_net, right_net}
-use Rattle.row_model.proofs.Permutations.{count_cons}
 use Rattle.row_state.specs.Parity.{parity, ends_on}
 use Rattle.row_state.specs.Trails.{odd, toggle, empties, places}
-use Rattle.row_state.specs.Gates.{most, one_differs, OneDiffers, sum_below_same, gate_here, gate_other}
+use Rattle.row_state.specs.Gates.{most, one_differs, OneDiffers, gate_here, gate_other}
 
 abbrev pub bit_of : Bool → ℕ
 bit_of b = cond b 1 0
@@ -25,7 +21,7 @@ bit_of b = cond b 1 0
 abbrev pub degree : ℕ → List Finger → ℕ
 degree u fs = sum_by (ends_on u) fs
 
-parity_bit : (b : Bool) (n : ℕ) → parity (bit_of b + n) ≡ cond b (not (parity n)) (parity n)
+pub parity_bit : (b : Bool) (n : ℕ) → parity (bit_of b + n) ≡ cond b (not (parity n)) (parity n)
 parity_bit true n = let e : 1 + n ≡ suc n = omega arith in ap parity e
 parity_bit false n = let e : 0 + n ≡ n = omega arith in ap parity e
 

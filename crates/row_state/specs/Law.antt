@@ -1,21 +1,17 @@
 -- The law of the parity bound.
-use Rattle.std.proofs.Common.{ℕ, zero, suc, ◌≡◌, ◌+◌, ◌-◌, ◌*◌, ◌/◌, ◌<◌, ◌≤◌, max, Bool, cond, true, false, ◌||◌, List, [], ◌∷◌, length, get_or, Option, Some, None, option_map, replicate, refl, sym, ap, subst, arith, IsPermutation, ◌∙◌, slice_get, All, ◌++◌}
+use Rattle.std.proofs.Common.{ℕ, ◌≡◌, ◌<◌, ◌≤◌, List, [], ◌∷◌, Option, Some, None, replicate, refl, arith, ◌∙◌, All}
 use Rattle.std.proofs.lemmas.List.Elements.{All-append, All-head, All-nil, All-replicate, All-tail}
 use Rattle.cell_num.specs.declared.finger.Row.{Row}
 use Rattle.cell_num.specs.declared.finger.Row.TheVariants.{P, N}
 use Rattle.cell_num.specs.declared.net.NetNo.{NetNo}
 use Rattle.cell_num.specs.declared.finger.Finger.{Finger}
 use Rattle.row_model.specs.declared.column.Placed.{Placed}
-use Rattle.row_model.specs.declared.column.Column.{Column}
-use Rattle.cell_num.specs.Fingers.{on_gate, sum_below}
-use Rattle.row_model.specs.Arrangement.{place, fingers_in}
-use Rattle.row_model.specs.Gaps.{gaps_of, right_net}
 use Rattle.row_state.specs.declared.kind.Kind.{Kind}
 use Rattle.row_state.specs.declared.kind.Kinds.{Kinds}
 use Rattle.row_state.specs.declared.state.State.{State}
-use Rattle.row_state.specs.Completion.{Need, Completes, further_gaps, fingers_left, finger_of, left_in, end_differs}
+use Rattle.row_state.specs.Completion.{Need, further_gaps, fingers_left, finger_of, left_in}
 use Rattle.row_state.specs.Start.{AreSomeKinds, IsKind}
-use Rattle.row_state.specs.Trails.{odd, toggle, size, empties, places, row_cost, Bounds, bounds, cost_behind, cost_is, size_same, p_cost_le, n_cost_le}
+use Rattle.row_state.specs.Trails.{odd, toggle, size, empties, places, row_cost, Bounds, bounds, cost_is, size_same, p_cost_le, n_cost_le}
 use Rattle.row_state.specs.Parity.{is_odd, empty_left, parity_of, parity_value}
 use Rattle.row_state.specs.Gates.{most, sum_below_same}
 use Rattle.row_state.specs.Degrees.{odd_places, empties_are}

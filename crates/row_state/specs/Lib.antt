@@ -1,9 +1,11 @@
+pub mod Code
 pub mod Completion
 pub mod Degrees
 pub mod Gates
 pub mod Law
 pub mod Order
 pub mod Parity
+pub mod Runs
 pub mod Start
 pub mod Steps
 pub mod Tests

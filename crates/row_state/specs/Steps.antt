@@ -1,9 +1,8 @@
 -- The possible next columns of a state, and the state after one.
-use Rattle.std.specs.Prelude.{ℕ, Bool, ◌≡◌, ◌+◌, ◌-◌, ◌≤◌, ◌<◌, List, [], ◌∷◌, Option, Some, None, length, slice_get, slice_set, slice_index, slice_index_or, All, Contains}
+use Rattle.std.specs.Prelude.{ℕ, Bool, ◌≡◌, ◌-◌, ◌<◌, List, ◌∷◌, Option, Some, None, length, slice_get, slice_set, slice_index, slice_index_or, All, Contains}
 use Rattle.std.specs.Option.{option_map}
 use Rattle.cell_num.specs.declared.finger.Row.{Row}
 use Rattle.cell_num.specs.declared.finger.Row.TheVariants.{P, N}
-use Rattle.cell_num.specs.declared.net.NetNo.{NetNo}
 use Rattle.row_model.specs.declared.column.Placed.{Placed}
 use Rattle.row_model.specs.declared.column.Column.{Column}
 use Rattle.cell_num.specs.Fingers.{on_gate}

@@ -1,5 +1,5 @@
 -- Counts, tests and lists that compute the facts of kinds, states and next columns.
-use Rattle.std.specs.Prelude.{ℕ, zero, suc, ◌≡◌, ◌+◌, ◌-◌, ◌/◌, ◌%◌, ◌≤◌, ◌<◌, Bool, true, false, not, cond, ◌&&◌, ◌||◌, ◌==◌, ltb, leb, max, if◌then◌else◌, List, [], ◌∷◌, ◌++◌, Option, Some, None, length, map, sum_by, count_by, slice_get}
+use Rattle.std.specs.Prelude.{ℕ, zero, suc, ◌≡◌, ◌+◌, ◌-◌, ◌/◌, ◌%◌, Bool, true, false, not, cond, ◌&&◌, ◌||◌, ◌==◌, ltb, leb, max, if◌then◌else◌, List, [], ◌∷◌, ◌++◌, Option, Some, None, length, map, sum_by, count_by, slice_get}
 use Rattle.std.specs.List.{zip, list_all, flat_map}
 use Rattle.std.specs.declared.cmp.Ordering.{Ordering}
 use Rattle.std.specs.Ordering.{nat_cmp, ordering_then}
@@ -81,7 +81,11 @@ side_of kind flipped = record { kind = kind; flipped = flipped }
 abbrev pub turns_of : ℕ → Kind → List Side
 turns_of i kind = if kind.lo.0 == kind.hi.0 then side_of i false ∷ [] else side_of i false ∷ side_of i true ∷ []
 
--- those in which it may stand, where it has the gate and a finger left
+-- those in which it may stand, where so many fingers of it are left
+abbrev pub turns_left : ℕ → Kind → ℕ → List Side
+turns_left i kind count = if ltb 0 count then turns_of i kind else []
+
+-- where it has the gate and a finger left
 abbrev pub sides_of : ℕ → ℕ → Option Kind → Option ℕ → List Side
 sides_of gate i (Some kind) (Some count) = if (kind.gate.0 == gate) && ltb 0 count then turns_of i kind else []
 sides_of gate i _ _ = []

@@ -3,13 +3,16 @@
 #![tactic(auto)]
 
 pub mod bound;
+pub mod coding;
 pub mod found;
+mod gate;
 pub mod kind;
 pub mod parity;
 pub mod state;
 pub mod step;
 
 pub use bound::RowBound;
+pub use coding::code;
 pub use found::kinds;
 pub use kind::{Kind, KindList, Kinds};
 pub use parity::Parity;

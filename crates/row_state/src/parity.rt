@@ -1,13 +1,16 @@
-ghost use Rattle.std.specs.Prelude.{◌≡◌, ◌≤◌, ◌<◌, ◌+◌, ◌-◌, ◌/◌, ◌%◌, ◌==◌, if◌then◌else◌, ℕ, count_by, length};
+ghost use Rattle.std.specs.Prelude.{◌<◌, All, IfSome, cond, false, not, slice_index_or, ◌≡◌, ◌≤◌, ◌+◌, ◌-◌, ◌/◌, ◌%◌, ◌==◌, if◌then◌else◌, ℕ, count_by, length};
 ghost use Rattle.std.specs.List.{zip};
 ghost use Rattle.cell_num.specs.Fingers.{sum_below};
 ghost use Rattle.row_state.specs.Law.{parity_holds};
 ghost use Rattle.row_state.specs.Parity.{parity_value};
-ghost use Rattle.row_state.specs.Start.{AreSomeKinds, IsState};
+ghost use Rattle.row_state.specs.declared.kind.Kinds.{Kinds as KindsOf};
+ghost use Rattle.row_state.specs.declared.state.State.{State as StateOf};
+ghost use Rattle.row_state.specs.Runs.{IsOnGate};
+ghost use Rattle.row_state.specs.Start.{AreSomeKinds, IsKind, IsState};
 ghost use Rattle.row_state.specs.Tests.{adds_odd, empty_test, gate_left, halved, is_odd_behind, is_odd_net, kinds_in, left_of, parity_test};
-ghost use Rattle.row_state.specs.Trails.{end_of, size};
+ghost use Rattle.row_state.specs.Trails.{end_of, size, toggle};
 
-use crate::state::count_left;
+use crate::gate::{OnGate, on_gate};
 use crate::{Kind, Kinds, RowBound, State};
 use cell_num::{NetNo, Row};
 
@@ -16,35 +19,59 @@ use cell_num::{NetNo, Row};
 #[derive(Clone, Copy, Debug)]
 pub struct Parity;
 
-fn adds(kind: &Kind, count: u32, net: u32) -> bool
-    ensures { result ≡ adds_odd net (kind.now, count) }
+// Takes the net out of the set, or puts it in.
+#[tactic(auto, using(crate::proofs::ParityCode::toggled_at))]
+fn toggle_net(set: &mut [bool; 256], net: u32)
+    requires { net < 256 }
+    ensures { (u : ℕ) → slice_index_or set.new u false ≡ toggle net (λ v. slice_index_or set.old v false) u }
 {
-    count % 2 == 1 && (net == kind.lo.0) != (net == kind.hi.0)
+    let at = net as usize;
+    set[at] = !set[at];
 }
 
-fn count_adding(kinds: &[Kind], left: &[u32], net: u32) -> usize
-    ensures { result ≡ count_by (adds_odd net) (zip kinds.now left.now) }
+// An odd number of fingers turns the degree of both ends, and twice that of one net at both.
+#[tactic(auto, using(crate::proofs::ParityCode::ends_toggled))]
+fn toggle_ends(set: &mut [bool; 256], kind: &Kind, count: u32)
+    requires lo { kind.now.lo.0 < 256 }
+    requires hi { kind.now.hi.0 < 256 }
+    ensures { (u : ℕ) → slice_index_or set.new u false ≡ cond (adds_odd u (kind.now, count)) (not (slice_index_or set.old u false)) (slice_index_or set.old u false) }
 {
-    kinds
-        .iter()
-        .zip(left.iter())
-        .filter(|pair| adds(pair.0, *pair.1, net))
-        .count()
+    if count % 2 == 1 {
+        toggle_net(set, kind.lo.0);
+        toggle_net(set, kind.hi.0);
+    }
 }
 
-fn is_odd(kinds: &[Kind], left: &[u32], net: u32) -> bool
-    ensures { result ≡ is_odd_net kinds.now left.now net }
+// The nets of odd degree.
+#[tactic(auto, using(crate::proofs::ParityCode::kind_ends, crate::proofs::ParityCode::odd_more))]
+fn odd_nets(kinds: &[Kind], left: &[u32], nets: u32) -> [bool; 256]
+    requires few { nets ≤ 256 }
+    requires kinds { All (IsKind nets) kinds.now }
+    requires same { length left.now ≡ length kinds.now }
+    ensures { (u : ℕ) → slice_index_or result u false ≡ is_odd_net kinds.now left.now u }
 {
-    count_adding(kinds, left, net) % 2 == 1
+    let mut odd = [false; 256];
+    for at in 0..kinds.len() {
+        toggle_ends(&mut odd, &kinds[at], left[at]);
+    }
+    odd
 }
 
-// Whether the net has odd degree, with the net of an open end taken out, or put in.
-fn is_odd_with(kinds: &[Kind], left: &[u32], end: &Option<NetNo>, net: u32) -> bool
-    ensures { result ≡ is_odd_behind end.now kinds.now left.now net }
+// The nets of odd degree, with the net of an open end taken out, or put in.
+fn odd_behind(kinds: &[Kind], left: &[u32], end: &Option<NetNo>, nets: u32) -> [bool; 256]
+    requires few { nets ≤ 256 }
+    requires kinds { All (IsKind nets) kinds.now }
+    requires same { length left.now ≡ length kinds.now }
+    requires end { IfSome end.now (λ v. v.0 < nets) }
+    ensures { (u : ℕ) → slice_index_or result u false ≡ is_odd_behind end.now kinds.now left.now u }
 {
+    let mut odd = odd_nets(kinds, left, nets);
     match end {
-        Some(open) => is_odd(kinds, left, net) != (net == open.0),
-        None => is_odd(kinds, left, net),
+        Some(open) => {
+            toggle_net(&mut odd, open.0);
+            odd
+        }
+        None => odd,
     }
 }
 
@@ -55,58 +82,60 @@ fn one_if(counted: bool) -> u32
 }
 
 #[tactic(auto, using(crate::proofs::ParityCode::size_more, crate::proofs::ParityCode::size_le))]
-fn count_odd(kinds: &[Kind], left: &[u32], end: &Option<NetNo>, nets: u32) -> u32
-    ensures { result ≡ size nets (is_odd_behind end.now kinds.now left.now) }
+fn count_in(set: &[bool; 256], nets: u32) -> u32
+    requires { nets ≤ 256 }
+    ensures { result ≡ size nets (λ u. slice_index_or set.now u false) }
 {
-    let mut odd = 0;
+    let mut count = 0;
     for net in 0..nets {
-        odd += one_if(is_odd_with(kinds, left, end, net));
+        count += one_if(set[net as usize]);
     }
-    odd
+    count
 }
 
-#[tactic(auto, using(crate::proofs::Valid::few_p, crate::proofs::Valid::few_n))]
-fn on_gate(row: Row, state: &State, kinds: &Kinds, gate: u32) -> u32
-    requires kinds { AreSomeKinds kinds.now }
-    requires state { IsState kinds.now state.now }
-    ensures value { result ≡ gate_left (kinds_in row kinds.now) (left_of row state.now) gate }
-    ensures few { result ≤ 64 }
+#[tactic(auto, using(crate::proofs::ParityCode::size_of))]
+fn count_odd(kinds: &[Kind], left: &[u32], end: &Option<NetNo>, nets: u32) -> u32
+    requires few { nets ≤ 256 }
+    requires kinds { All (IsKind nets) kinds.now }
+    requires same { length left.now ≡ length kinds.now }
+    requires end { IfSome end.now (λ v. v.0 < nets) }
+    ensures { result ≡ size nets (is_odd_behind end.now kinds.now left.now) }
 {
-    match row {
-        Row::P => count_left(kinds.p.as_slice(), state.p_left.as_slice(), gate),
-        Row::N => count_left(kinds.n.as_slice(), state.n_left.as_slice(), gate),
-    }
+    count_in(&odd_behind(kinds, left, end, nets), nets)
 }
 
 // The places of the gate that stay empty in the row.
-fn empty_on(row: Row, state: &State, kinds: &Kinds, gate: u32) -> u32
-    requires kinds { AreSomeKinds kinds.now }
-    requires state { IsState kinds.now state.now }
-    ensures value { result ≡ empty_test row state.now kinds.now gate }
-    ensures few { result ≤ 64 }
+#[tactic(auto, using(crate::proofs::ParityCode::empty_p, crate::proofs::ParityCode::empty_n))]
+fn empty_on(row: Row, on: &OnGate) -> u32
+    ensures { (k : KindsOf) (s : StateOf) → IsOnGate k s on.now → result ≡ empty_test row s k on.now.gate }
 {
-    let p = on_gate(Row::P, state, kinds, gate);
-    let n = on_gate(Row::N, state, kinds, gate);
     match row {
-        Row::P => n.saturating_sub(p),
-        Row::N => p.saturating_sub(n),
+        Row::P => on.n.left.saturating_sub(on.p.left),
+        Row::N => on.p.left.saturating_sub(on.n.left),
     }
 }
 
-#[tactic(auto, using(crate::proofs::ParityCode::sum_more))]
+#[tactic(auto, using(cell_num::proofs::Sums::sum_below_more, crate::proofs::ParityCode::empty_few, crate::proofs::Runs::first_gates, crate::proofs::Valid::p_fits, crate::proofs::Valid::n_fits))]
 fn count_empty(row: Row, state: &State, kinds: &Kinds) -> u32
     requires kinds { AreSomeKinds kinds.now }
     requires state { IsState kinds.now state.now }
     ensures { result ≡ sum_below (empty_test row state.now kinds.now) kinds.now.nets }
 {
     let mut empty = 0;
+    let mut p_from = 0;
+    let mut n_from = 0;
     for gate in 0..kinds.nets {
-        empty += empty_on(row, state, kinds, gate);
+        let on = on_gate(state, kinds, gate, p_from, n_from);
+        empty += empty_on(row, &on);
+        p_from = on.p.to;
+        n_from = on.n.to;
     }
     empty
 }
 
 fn count_odd_in(row: Row, state: &State, kinds: &Kinds) -> u32
+    requires kinds { AreSomeKinds kinds.now }
+    requires state { IsState kinds.now state.now }
     ensures { result ≡ size kinds.now.nets (is_odd_behind (end_of row state.now) (kinds_in row kinds.now) (left_of row state.now)) }
 {
     match row {

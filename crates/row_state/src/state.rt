@@ -2,11 +2,14 @@ ghost use Rattle.std.specs.Prelude.{◌≡◌, ◌≤◌, ◌<◌, ◌↔◌, �
 ghost use Rattle.std.specs.List.{list_all, list_any, zip};
 ghost use Rattle.row_model.specs.declared.column.Column.{Column};
 ghost use Rattle.row_model.specs.Gaps.{gaps_of};
-ghost use Rattle.row_state.specs.declared.kind.Kinds.{Kinds};
+ghost use Rattle.row_state.specs.declared.kind.Kinds.{Kinds as KindsOf};
+ghost use Rattle.row_state.specs.declared.state.State.{State as StateOf};
+ghost use Rattle.row_state.specs.Runs.{IsOnGate};
 ghost use Rattle.row_state.specs.Completion.{further_gaps};
 ghost use Rattle.row_state.specs.Start.{AreSomeKinds, HasFingers, IsState, KeepsLead, columns_left, counts_of, start_of};
 ghost use Rattle.row_state.specs.Tests.{columns_test, counts_fit, end_fits, gate_left, keeps_lead, leads_below, left_of_kind, state_test};
 
+use crate::gate::{OnGate, on_gate};
 use crate::{Kind, Kinds};
 use cell_num::{List, NetNo, NoMemory};
 use std::alloc::{AllocError, Global};
@@ -56,20 +59,6 @@ fn of_kind(kind: &Kind, count: u32, gate: u32) -> u32
     if kind.gate.0 == gate { count } else { 0 }
 }
 
-// How many fingers are left on the gate.
-#[tactic(auto, using(crate::proofs::Valid::gate_left_step))]
-pub(crate) fn count_left(kinds: &[Kind], left: &[u32], gate: u32) -> u32
-    requires same { length left.now ≡ length kinds.now }
-    requires few { gate_left kinds.now left.now gate ≤ 64 }
-    ensures { result ≡ gate_left kinds.now left.now gate }
-{
-    let mut total = 0;
-    for at in 0..kinds.len() {
-        total += of_kind(&kinds[at], left[at], gate);
-    }
-    total
-}
-
 // How many fingers there are on the gate.
 #[tactic(auto, using(crate::proofs::Valid::gate_all_step))]
 fn count_all(kinds: &[Kind], gate: u32) -> u32
@@ -95,7 +84,7 @@ fn columns_on_gate(kinds: &Kinds, gate: u32) -> u32
 }
 
 /// How many columns the fingers of the kinds need.
-#[tactic(auto, using(crate::proofs::Valid::columns_more, crate::proofs::Valid::columns_are))]
+#[tactic(auto, using(cell_num::proofs::Sums::sum_below_more, crate::proofs::Valid::columns_are))]
 pub fn columns(kinds: &Kinds) -> u32
     requires { AreSomeKinds kinds.now }
     ensures { result ≡ columns_left kinds.now (start_of kinds.now) }
@@ -132,21 +121,16 @@ fn is_net(end: &Option<NetNo>, nets: u32) -> bool
 }
 
 // Whether the gate has no more fingers left in the row that began with no more on it.
-#[tactic(auto, using(crate::proofs::Valid::gates_few, crate::proofs::Valid::left_few))]
-fn has_lead(state: &State, kinds: &Kinds, gate: u32) -> bool
-    requires kinds { AreSomeKinds kinds.now }
-    requires p_fits { IsTrue (counts_fit kinds.now.p state.now.p_left) }
-    requires n_fits { IsTrue (counts_fit kinds.now.n state.now.n_left) }
-    ensures { result ≡ keeps_lead kinds.now state.now gate }
+#[tactic(auto, using(crate::proofs::Valid::lead_is))]
+fn has_lead(on: &OnGate) -> bool
+    ensures { (k : KindsOf) (s : StateOf) → IsOnGate k s on.now → result ≡ keeps_lead k s on.now.gate }
 {
-    let p_all = count_all(kinds.p.as_slice(), gate);
-    let n_all = count_all(kinds.n.as_slice(), gate);
-    let p_left = count_left(kinds.p.as_slice(), state.p_left.as_slice(), gate);
-    let n_left = count_left(kinds.n.as_slice(), state.n_left.as_slice(), gate);
-    (p_all < n_all || n_left <= p_left) && (n_all < p_all || p_left <= n_left)
+    let p = on.p;
+    let n = on.n;
+    (p.all < n.all || n.left <= p.left) && (n.all < p.all || p.left <= n.left)
 }
 
-#[tactic(auto, using(crate::proofs::Valid::leads_more))]
+#[tactic(auto, using(crate::proofs::Valid::leads_more, crate::proofs::Runs::first_gates))]
 fn has_leads(state: &State, kinds: &Kinds) -> bool
     requires kinds { AreSomeKinds kinds.now }
     requires p_fits { IsTrue (counts_fit kinds.now.p state.now.p_left) }
@@ -154,8 +138,13 @@ fn has_leads(state: &State, kinds: &Kinds) -> bool
     ensures { result ≡ leads_below kinds.now state.now kinds.now.nets }
 {
     let mut kept = true;
+    let mut p_from = 0;
+    let mut n_from = 0;
     for gate in 0..kinds.nets {
-        kept = has_lead(state, kinds, gate) && kept;
+        let on = on_gate(state, kinds, gate, p_from, n_from);
+        kept = has_lead(&on) && kept;
+        p_from = on.p.to;
+        n_from = on.n.to;
     }
     kept
 }
@@ -201,7 +190,7 @@ fn any_left(state: &State) -> bool
 /// Whether a finger is left.
 #[tactic(auto, using(crate::proofs::Valid::fingers_decide))]
 pub fn has_fingers(state: &State) -> bool
-    ensures { (k : Kinds) → IsState k state.now → (IsTrue result ↔ HasFingers k state.now) }
+    ensures { (k : KindsOf) → IsState k state.now → (IsTrue result ↔ HasFingers k state.now) }
 {
     any_left(state)
 }

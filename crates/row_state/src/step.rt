@@ -1,13 +1,14 @@
-ghost use Rattle.std.specs.Prelude.{◌≡◌, ◌≤◌, ◌<◌, ◌+◌, ◌++◌, ◌∷◌, ◌==◌, ◌&&◌, ltb, Some, ℕ, Bool, IfOk, OnOk, List as Sequence, length, map, slice_get, option_map, IfSome, slice_index};
+ghost use Rattle.std.specs.Prelude.{None, [], if◌then◌else◌, ◌≡◌, ◌≤◌, ◌<◌, ◌+◌, ◌++◌, ◌∷◌, ◌==◌, ◌&&◌, ltb, Some, ℕ, Bool, IfOk, OnOk, List as Sequence, length, map, slice_get, option_map, IfSome, slice_index};
 ghost use Rattle.std.specs.List.{flat_map};
 ghost use Rattle.row_model.specs.declared.column.Column.{Column};
 ghost use Rattle.row_model.specs.Gaps.{right_net};
 ghost use Rattle.row_state.specs.Completion.{Completes, cost_of, end_differs, further_gaps};
 ghost use Rattle.row_state.specs.Start.{AreSomeKinds, IsState, columns_left};
 ghost use Rattle.row_state.specs.Steps.{AreSuccessors, IsLeft, IsPossible, Unfolds, column_of, left_after, oriented_of, placed_of, state_after};
-ghost use Rattle.row_state.specs.Tests.{columns_from, columns_on, next_columns, sides_of, sides_on, turns_of, with_each, with_side};
+ghost use Rattle.row_state.specs.Runs.{IsOnGate, IsRun};
+ghost use Rattle.row_state.specs.Tests.{columns_on, next_columns, sides_of, sides_on, turns_left, with_each, with_side};
 
-use crate::state::count_left;
+use crate::gate::{OnGate, Run, on_gate};
 use crate::{Counts, Kind, Kinds, State};
 use cell_num::{Finger, List, NetNo, NoMemory, Row};
 use row_model::{Column, Placed};
@@ -29,8 +30,6 @@ pub struct Step {
 }
 
 pub type Steps = List<Step>;
-
-type Sides = List<Side>;
 
 fn oriented(row: Row, kind: &Kind, flipped: bool) -> Placed
     ensures { result ≡ oriented_of row kind.now flipped }
@@ -165,72 +164,76 @@ pub fn after(alloc: Global, state: &State, step: &Step, kinds: &Kinds) -> Result
     Ok(next)
 }
 
-// The orientations of a kind with its two ends.
-fn push_turns(sides: &mut Sides, at: u32, kind: &Kind) -> Result<(), NoMemory>
-    ensures { OnOk result (sides.new ≡ sides.old ++ turns_of at kind.now) }
+// The step with an N finger of the kind, in each orientation of its own, where one is left.
+fn push_turns(
+    steps: &mut Steps,
+    p: Option<Side>,
+    at: u32,
+    kind: &Kind,
+    count: u32,
+) -> Result<(), NoMemory>
+    ensures { OnOk result (steps.new ≡ steps.old ++ with_each p (turns_left at kind.now count)) }
 {
-    sides.push(Side {
-        kind: at,
-        flipped: false,
+    if count == 0 {
+        return Ok(());
+    }
+    steps.push(Step {
+        p,
+        n: Some(Side {
+            kind: at,
+            flipped: false,
+        }),
     })?;
     if kind.lo != kind.hi {
-        sides.push(Side {
-            kind: at,
-            flipped: true,
+        steps.push(Step {
+            p,
+            n: Some(Side {
+                kind: at,
+                flipped: true,
+            }),
         })?;
     }
     Ok(())
 }
 
-fn may_stand(kind: &Kind, count: u32, gate: u32) -> bool
-    ensures { result ≡ ((kind.now.gate.0 == gate) && ltb 0 count) }
-{
-    kind.gate.0 == gate && count > 0
-}
-
-fn push_sides(
-    sides: &mut Sides,
-    at: u32,
-    kind: &Kind,
-    count: u32,
+// The step with each N side on the gate.
+fn push_each(
+    steps: &mut Steps,
+    p: Option<Side>,
+    kinds: &[Kind],
+    left: &[u32],
     gate: u32,
+    run: Run,
 ) -> Result<(), NoMemory>
-    ensures { OnOk result (sides.new ≡ sides.old ++ sides_of gate at (Some kind.now) (Some count)) }
-{
-    if may_stand(kind, count, gate) {
-        push_turns(sides, at, kind)?;
-    }
-    Ok(())
-}
-
-// The sides in which the fingers left on the gate may stand.
-#[tactic(auto, using(crate::proofs::Calls::joined_more, crate::proofs::Calls::sides_at))]
-fn sides(alloc: Global, kinds: &[Kind], left: &[u32], gate: u32) -> Result<Sides, NoMemory>
     requires few { length kinds.now ≤ 60 }
     requires same { length left.now ≡ length kinds.now }
-    ensures { IfOk result (λ sides. sides ≡ sides_on kinds.now left.now gate) }
+    requires run { IsRun kinds.now left.now gate run }
+    ensures { OnOk result (steps.new ≡ steps.old ++ with_each p (sides_on kinds.now left.now gate)) }
 {
-    let mut sides = Sides::new(alloc);
-    for at in 0..kinds.len() {
-        push_sides(&mut sides, at as u32, &kinds[at], left[at], gate)?;
-    }
-    Ok(sides)
-}
-
-fn push_each(steps: &mut Steps, p: Option<Side>, ns: &[Side]) -> Result<(), NoMemory>
-    ensures { OnOk result (steps.new ≡ steps.old ++ with_each p ns.now) }
-{
-    for n in ns {
-        steps.push(Step { p, n: Some(*n) })?;
+    for at in run.from..run.to {
+        push_turns(steps, p, at as u32, &kinds[at], left[at])?;
     }
     Ok(())
 }
 
-fn push_side(steps: &mut Steps, p: Side, ns: &[Side], alone: bool) -> Result<(), NoMemory>
-    ensures { OnOk result (steps.new ≡ steps.old ++ with_side ns.now alone p) }
+// The columns with the P side: a half one may stand where the gate has more fingers left in the P row.
+#[tactic(auto, using(crate::proofs::Valid::kinds_few_n))]
+fn push_side(
+    steps: &mut Steps,
+    p: Side,
+    state: &State,
+    kinds: &Kinds,
+    on: &OnGate,
+) -> Result<(), NoMemory>
+    requires kinds { AreSomeKinds kinds.now }
+    requires state { IsState kinds.now state.now }
+    requires on { IsOnGate kinds.now state.now on.now }
+    ensures { OnOk result (steps.new ≡ steps.old ++ with_side (sides_on kinds.now.n state.now.n_left on.now.gate) (ltb on.now.n.left on.now.p.left) p) }
 {
-    push_each(steps, Some(p), ns)?;
-    if alone {
+    let n_kinds = kinds.n.as_slice();
+    let n_left = state.n_left.as_slice();
+    push_each(steps, Some(p), n_kinds, n_left, on.gate, on.n)?;
+    if on.n.left < on.p.left {
         steps.push(Step {
             p: Some(p),
             n: None,
@@ -239,72 +242,102 @@ fn push_side(steps: &mut Steps, p: Side, ns: &[Side], alone: bool) -> Result<(),
     Ok(())
 }
 
-fn push_filled(steps: &mut Steps, ps: &[Side], ns: &[Side], p_alone: bool) -> Result<(), NoMemory>
-    ensures { OnOk result (steps.new ≡ steps.old ++ flat_map (with_side ns.now p_alone) ps.now) }
-{
-    for p in ps {
-        push_side(steps, *p, ns, p_alone)?;
-    }
-    Ok(())
-}
-
-fn push_columns(
+// The columns with a P finger of the kind, in each orientation of its own, where one is left.
+fn push_kind(
     steps: &mut Steps,
-    ps: &[Side],
-    ns: &[Side],
-    p_alone: bool,
-    n_alone: bool,
-) -> Result<(), NoMemory>
-    ensures { OnOk result (steps.new ≡ steps.old ++ columns_from ps.now ns.now p_alone n_alone) }
-{
-    push_filled(steps, ps, ns, p_alone)?;
-    if n_alone {
-        push_each(steps, None, ns)?;
-    }
-    Ok(())
-}
-
-// The next columns on one gate. A half column may stand only where the gate has more fingers left in
-// its row than in the other.
-#[tactic(auto, using(crate::proofs::Valid::state_few, crate::proofs::Valid::kinds_few))]
-fn push_on_gate(
-    alloc: Global,
-    steps: &mut Steps,
+    at: u32,
+    kind: &Kind,
+    count: u32,
     state: &State,
     kinds: &Kinds,
-    gate: u32,
+    on: &OnGate,
 ) -> Result<(), NoMemory>
     requires kinds { AreSomeKinds kinds.now }
     requires state { IsState kinds.now state.now }
-    ensures { OnOk result (steps.new ≡ steps.old ++ columns_on kinds.now state.now gate) }
+    requires on { IsOnGate kinds.now state.now on.now }
+    ensures { OnOk result (steps.new ≡ steps.old ++ flat_map (with_side (sides_on kinds.now.n state.now.n_left on.now.gate) (ltb on.now.n.left on.now.p.left)) (turns_left at kind.now count)) }
 {
-    let p_kinds = kinds.p.as_slice();
-    let n_kinds = kinds.n.as_slice();
-    let p_left = state.p_left.as_slice();
-    let n_left = state.n_left.as_slice();
-    let p_count = count_left(p_kinds, p_left, gate);
-    let n_count = count_left(n_kinds, n_left, gate);
-    let ps = sides(alloc, p_kinds, p_left, gate)?;
-    let ns = sides(alloc, n_kinds, n_left, gate)?;
-    push_columns(
-        steps,
-        ps.as_slice(),
-        ns.as_slice(),
-        n_count < p_count,
-        p_count < n_count,
-    )?;
+    if count == 0 {
+        return Ok(());
+    }
+    let side = Side {
+        kind: at,
+        flipped: false,
+    };
+    push_side(steps, side, state, kinds, on)?;
+    if kind.lo != kind.hi {
+        let side = Side {
+            kind: at,
+            flipped: true,
+        };
+        push_side(steps, side, state, kinds, on)?;
+    }
     Ok(())
 }
 
-#[tactic(auto, using(crate::proofs::Calls::joined_more))]
+// The columns with a P finger on the gate.
+#[tactic(auto, using(crate::proofs::Valid::kinds_few_p))]
+fn push_filled(steps: &mut Steps, state: &State, kinds: &Kinds, on: &OnGate) -> Result<(), NoMemory>
+    requires kinds { AreSomeKinds kinds.now }
+    requires state { IsState kinds.now state.now }
+    requires on { IsOnGate kinds.now state.now on.now }
+    ensures { OnOk result (steps.new ≡ steps.old ++ flat_map (with_side (sides_on kinds.now.n state.now.n_left on.now.gate) (ltb on.now.n.left on.now.p.left)) (sides_on kinds.now.p state.now.p_left on.now.gate)) }
+{
+    let p_kinds = kinds.p.as_slice();
+    let p_left = state.p_left.as_slice();
+    for at in on.p.from..on.p.to {
+        push_kind(steps, at as u32, &p_kinds[at], p_left[at], state, kinds, on)?;
+    }
+    Ok(())
+}
+
+// The columns with an N finger alone: they may stand where the gate has more fingers left in the N row.
+#[tactic(auto, using(crate::proofs::Valid::kinds_few_n))]
+fn push_alone(steps: &mut Steps, state: &State, kinds: &Kinds, on: &OnGate) -> Result<(), NoMemory>
+    requires kinds { AreSomeKinds kinds.now }
+    requires state { IsState kinds.now state.now }
+    requires on { IsOnGate kinds.now state.now on.now }
+    ensures { OnOk result (steps.new ≡ steps.old ++ (if ltb on.now.p.left on.now.n.left then with_each None (sides_on kinds.now.n state.now.n_left on.now.gate) else [])) }
+{
+    if on.p.left < on.n.left {
+        let n_kinds = kinds.n.as_slice();
+        let n_left = state.n_left.as_slice();
+        push_each(steps, None, n_kinds, n_left, on.gate, on.n)?;
+    }
+    Ok(())
+}
+
+#[tactic(auto, using(crate::proofs::Calls::on_gate_is))]
+fn push_on_gate(
+    steps: &mut Steps,
+    state: &State,
+    kinds: &Kinds,
+    on: &OnGate,
+) -> Result<(), NoMemory>
+    requires kinds { AreSomeKinds kinds.now }
+    requires state { IsState kinds.now state.now }
+    requires on { IsOnGate kinds.now state.now on.now }
+    ensures { OnOk result (steps.new ≡ steps.old ++ columns_on kinds.now state.now on.now.gate) }
+{
+    push_filled(steps, state, kinds, on)?;
+    push_alone(steps, state, kinds, on)?;
+    Ok(())
+}
+
+#[tactic(auto, using(crate::proofs::Runs::first_gates, crate::proofs::Valid::p_fits, crate::proofs::Valid::n_fits))]
 fn list_next(alloc: Global, state: &State, kinds: &Kinds) -> Result<Steps, NoMemory>
     requires kinds { AreSomeKinds kinds.now }
     requires state { IsState kinds.now state.now }
     ensures { IfOk result (λ steps. steps ≡ next_columns kinds.now state.now) }
 {
     let mut steps = Steps::new(alloc);
+    let mut p_from = 0;
+    let mut n_from = 0;
     for gate in 0..kinds.nets {
-        push_on_gate(alloc, &mut steps, state, kinds, gate)?;
+        let on = on_gate(state, kinds, gate, p_from, n_from);
+        push_on_gate(&mut steps, state, kinds, &on)?;
+        p_from = on.p.to;
+        n_from = on.n.to;
     }
     Ok(steps)
 }

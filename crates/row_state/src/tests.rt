@@ -8,7 +8,7 @@ use crate::{
     is_state, kinds, start, step_cost, successors,
 };
 use cell_num::{Finger, FingerList, Fingers, NetNo, NoMemory, Row};
-use std::alloc::Global;
+use std::alloc::{AllocError, Global};
 use std::test::Fail;
 
 fn finger(row: Row, gate: u32, lo: u32, hi: u32, width: u32) -> Finger {
@@ -29,10 +29,6 @@ fn kind(gate: u32, lo: u32, hi: u32, width: u32, count: u32) -> Kind {
         width,
         count,
     }
-}
-
-fn side(kind: u32, flipped: bool) -> Option<Side> {
-    Some(Side { kind, flipped })
 }
 
 fn is_sound(finger: &Finger, row: Row, nets: u32) -> bool
@@ -130,6 +126,40 @@ fn finds_kinds(rt: HostRuntime) -> Result<(), Fail> {
     Ok(())
 }
 
+// The kind, with a mark where it is flipped.
+fn told(alloc: Global, side: &Option<Side>) -> Result<String, AllocError> {
+    match side {
+        Some(side) => {
+            if side.flipped {
+                format!(in alloc; "{}'", side.kind)
+            } else {
+                format!(in alloc; "{}", side.kind)
+            }
+        }
+        None => String::from_str(alloc, "-"),
+    }
+}
+
+// The next columns before the first one.
+fn listed(alloc: Global, rows: &Fingers) -> Result<String, Fail>
+    requires { AreFingers rows.now }
+{
+    let found = kinds(alloc, rows)?;
+    let first = start(alloc, &found)?;
+    if !is_state(&first, &found) || !has_fingers(&first) {
+        return Ok(String::from_str(alloc, "no state")?);
+    }
+    let steps = successors(alloc, &first, &found)?;
+    let mut text = String::new(alloc);
+    for step in steps.as_slice() {
+        text.push_str(told(alloc, &step.p)?.as_str())?;
+        text.push_str("/")?;
+        text.push_str(told(alloc, &step.n)?.as_str())?;
+        text.push_str(" ")?;
+    }
+    Ok(text)
+}
+
 // A transmission gate of the gates 2 and 3 between the nets 0 and 1, and the mixed fingers.
 #[test]
 fn lists_next_columns(rt: HostRuntime) -> Result<(), Fail> {
@@ -141,93 +171,12 @@ fn lists_next_columns(rt: HostRuntime) -> Result<(), Fail> {
         &[finger(Row::N, 2, 0, 1, 10)],
     )?;
     assert!(rt; are_sound(&pass));
-    let pass_kinds = kinds(alloc, &pass)?;
-    let pass_start = start(alloc, &pass_kinds)?;
-    assert_eq!(rt;
-        successors(alloc, &pass_start, &pass_kinds)?.as_slice(),
-        [
-            Step {
-                p: None,
-                n: side(0, false)
-            },
-            Step {
-                p: None,
-                n: side(0, true)
-            },
-            Step {
-                p: side(0, false),
-                n: None
-            },
-            Step {
-                p: side(0, true),
-                n: None
-            },
-        ]
-        .as_slice()
-    );
+    assert_eq!(rt; listed(alloc, &pass)?.as_str(), "-/0 -/0' 0/- 0'/- ");
     let rows = mixed(alloc)?;
     assert!(rt; are_sound(&rows));
-    let found = kinds(alloc, &rows)?;
-    let first = start(alloc, &found)?;
-    assert!(rt; is_state(&first, &found));
-    assert!(rt; has_fingers(&first));
     assert_eq!(rt;
-        successors(alloc, &first, &found)?.as_slice(),
-        [
-            Step {
-                p: side(0, false),
-                n: side(0, false)
-            },
-            Step {
-                p: side(0, false),
-                n: side(0, true)
-            },
-            Step {
-                p: side(0, false),
-                n: None
-            },
-            Step {
-                p: side(0, true),
-                n: side(0, false)
-            },
-            Step {
-                p: side(0, true),
-                n: side(0, true)
-            },
-            Step {
-                p: side(0, true),
-                n: None
-            },
-            Step {
-                p: side(1, false),
-                n: side(0, false)
-            },
-            Step {
-                p: side(1, false),
-                n: side(0, true)
-            },
-            Step {
-                p: side(1, false),
-                n: None
-            },
-            Step {
-                p: side(1, true),
-                n: side(0, false)
-            },
-            Step {
-                p: side(1, true),
-                n: side(0, true)
-            },
-            Step {
-                p: side(1, true),
-                n: None
-            },
-            Step {
-                p: side(2, false),
-                n: None
-            },
-        ]
-        .as_slice()
+        listed(alloc, &rows)?.as_str(),
+        "0/0 0/0' 0/- 0'/0 0'/0' 0'/- 1/0 1/0' 1/- 1'/0 1'/0' 1'/- 2/- "
     );
     Ok(())
 }
@@ -250,6 +199,19 @@ fn costs(alloc: Global, state: &State, kinds: &Kinds) -> Result<Vec<(u32, u32)>,
     Ok(costs)
 }
 
+// The inverters with the first one placed, its rails open.
+fn second(alloc: Global) -> Result<State, NoMemory> {
+    let mut state = State {
+        p_left: Counts::new(alloc),
+        n_left: Counts::new(alloc),
+        p_end: Some(NetNo(6)),
+        n_end: Some(NetNo(7)),
+    };
+    state.p_left.extend(&[0, 1, 1])?;
+    state.n_left.extend(&[0, 1, 1])?;
+    Ok(state)
+}
+
 #[test]
 fn counts_costs_and_bounds(rt: HostRuntime) -> Result<(), Fail> {
     let alloc = rt.alloc();
@@ -263,29 +225,13 @@ fn counts_costs_and_bounds(rt: HostRuntime) -> Result<(), Fail> {
         costs(alloc, &first, &found)?.as_slice(),
         [(0, 1); 12].as_slice()
     );
-    let mut second = State {
-        p_left: Counts::new(alloc),
-        n_left: Counts::new(alloc),
-        p_end: Some(NetNo(6)),
-        n_end: Some(NetNo(7)),
-    };
-    second.p_left.extend(&[0, 1, 1])?;
-    second.n_left.extend(&[0, 1, 1])?;
+    let second = second(alloc)?;
     assert!(rt; is_state(&second, &found));
     assert_eq!(rt; Parity.bound(Row::P, &second, &found), 1);
-    assert_eq!(rt;
-        costs(alloc, &second, &found)?.as_slice(),
-        [
-            (1, 0),
-            (1, 0),
-            (1, 1),
-            (0, 1),
-            (1, 0),
-            (1, 0),
-            (1, 1),
-            (0, 1),
-        ]
-        .as_slice()
-    );
+    let half = [(1, 0), (1, 0), (1, 1), (0, 1)];
+    let next = costs(alloc, &second, &found)?;
+    assert_eq!(rt; next.len(), 8);
+    assert_eq!(rt; &next[..4], half.as_slice());
+    assert_eq!(rt; &next[4..], half.as_slice());
     Ok(())
 }

@@ -1,10 +1,11 @@
 use Rattle.std.proofs.Common.{rules, ◌≡◌, max}
+use Rattle.std.specs.Prelude.{unwrap_or}
+use Rattle.std.specs.Ordering.{nat_cmp}
 use Rattle.std.specs.BTreeMap.{get}
-use Rattle.log_check.specs.Known.{known_best, state_cmp}
-use Rattle.log_check.proofs.Kept.{kept}
+use Rattle.log_check.proofs.Kept.{one_raised}
 use Rattle.log_check.proofs.known.note.Goals as goal
 
-pub returns : goal.returns
-returns c =
-    let is : c.max-bound.result ≡ max (known_best (get state_cmp c.args.known.now) c.args.lemma.now.state) c.args.lemma.now.bound = search rules in
-    kept (get state_cmp c.args.known.now) (get state_cmp c.keep.new.known) c.args.lemma.now c.in_ok-state.state c.max-bound.result c.in_ok-state.ensures is c.in_ok-keep.ensures
+pub returns-in-Ok-clause-raised : goal.returns-in-Ok-clause-raised
+returns-in-Ok-clause-raised c =
+    let most : c.max-most.result ≡ max (unwrap_or (get nat_cmp c.args.known.now c.code-number.result) 0) c.args.bound = search rules in
+    one_raised c.args.kinds.now (get nat_cmp c.args.known.now) (get nat_cmp c.keep.new.known) c.args.state.now c.args.bound c.code-number.result c.max-most.result c.requires.state c.code-number.ensures.code most c.in-Ok.ensures.kept c.in-Ok.ensures.others

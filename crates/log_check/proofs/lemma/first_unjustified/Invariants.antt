@@ -1,12 +1,12 @@
-use Rattle.std.proofs.Common.{ℕ, ◌≡◌, ◌<◌, take, get_or}
+use Rattle.std.proofs.Common.{ℕ, ◌<◌, take, get_or}
 use Rattle.std.specs.BTreeMap.{get}
-use Rattle.row_state.specs.declared.state.State.{State}
 use Rattle.bound_log.specs.declared.log.Lemma.{Lemma}
 use Rattle.log_check.specs.Accepted.{IsJustified, best_of}
-use Rattle.log_check.specs.Known.{known_best, state_cmp}
+use Rattle.std.specs.Ordering.{nat_cmp}
+use Rattle.log_check.specs.Known.{Knows}
 use Rattle.log_check.proofs.lemma.first_unjustified.Given as goal
 
 abbrev pub invariant-loop-at : goal.invariant-loop-at
 invariant-loop-at g l =
     ((i : ℕ) (d : Lemma) → i < l.at → IsJustified (g.B.RowBound.value l.bound) l.kinds (λ s. best_of s (take i l.lemmas)) (get_or l.lemmas i d))
-    × ((s : State) → known_best (get state_cmp l.known) s ≡ best_of s (take l.at l.lemmas))
+    × Knows l.kinds (get nat_cmp l.known) (take l.at l.lemmas)

@@ -1,6 +1,10 @@
 use Rattle.std.proofs.Common.{◌≡◌}
+use Rattle.row_state.specs.Runs.{GatesFrom}
 use Rattle.row_state.specs.Tests.{leads_below}
 use Rattle.row_state.proofs.state.has_leads.Given as goal
 
 abbrev pub invariant-loop-gate : goal.invariant-loop-gate
-invariant-loop-gate l = l.kept ≡ leads_below l.kinds l.state l.gate
+invariant-loop-gate l =
+    (l.kept ≡ leads_below l.kinds l.state l.gate)
+    × GatesFrom l.kinds.p l.gate l.p_from
+    × GatesFrom l.kinds.n l.gate l.n_from

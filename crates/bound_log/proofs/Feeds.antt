@@ -1,0 +1,88 @@
+-- The first line of some bytes, and those behind it.
+use Rattle.std.specs.Prelude.{ℕ, ◌≡◌, ◌≢◌, ◌+◌, ◌-◌, ◌<◌, ◌==◌, ◌&&◌, true, false, List, [], ◌∷◌, Some, None, Ok, Err, codes, length, take, drop, position, nat_lt}
+use Rattle.std.proofs.Common.{refl, sym, ap, arith, ◌∙◌, inl, inr}
+use Rattle.std.specs.List.{join_with_byte, position_or_len}
+use Rattle.std.proofs.Math.Seq.{take-length}
+use Rattle.std.proofs.lemmas.List.{length-drop}
+use Rattle.std.proofs.lemmas.Bool.{and_parts, cases_Bool, eqb-true, ltb-false, ltb-true}
+use Rattle.std.proofs.lemmas.List.Elements.{All-from_get_or}
+use Rattle.std.proofs.lemmas.List.Sums.{fails_before_first}
+use Rattle.std.proofs.lemmas.List.Splits.{join_with_byte-slice_split, length-slice_split, slice_split_first, slice_split_none}
+use Rattle.std.proofs.lemmas.Option.{cond_some, none-some}
+use Rattle.bound_log.specs.declared.fault.LogFault.TheVariants as fault
+use Rattle.bound_log.specs.Line.{is_word, parts_at}
+use Rattle.bound_log.specs.Reading.{behind, end_at, last_of, lines_in, without_last}
+
+-- a list of parts has a last one
+pub some_part : (bytes : List ℕ) → 0 < length (parts_at 10 bytes)
+some_part bytes = omega (arith, length-slice_split (λ b. b == 10) bytes)
+
+pub more_parts : (part : List ℕ) (parts : List (List ℕ)) → 0 < length parts → without_last (part ∷ parts) ≡ part ∷ without_last parts
+more_parts part [] h = absurd (omega (arith, h))
+more_parts part (next ∷ more) h = refl
+
+pub same_last : (part : List ℕ) (parts : List (List ℕ)) → 0 < length parts → last_of (part ∷ parts) ≡ last_of parts
+same_last part [] h = absurd (omega (arith, h))
+same_last part (next ∷ more) h = refl
+
+no_feed : (bytes : List ℕ) → None ≡ position (λ b. b == 10) bytes → parts_at 10 bytes ≡ bytes ∷ []
+no_feed bytes e = elim (cases_Bool (nat_lt (position_or_len (λ b. b == 10) bytes) (length bytes))) [
+  | inl found ↦ let there : position (λ b. b == 10) bytes ≡ Some (position_or_len (λ b. b == 10) bytes) = rw found refl in absurd (none-some _ (e ∙ there))
+  | inr none ↦ slice_split_none (λ b. b == 10) bytes (All-from_get_or (λ b. (b == 10) ≡ false) bytes 0 (λ i l. fails_before_first (λ b. b == 10) bytes i 0 (omega (arith, l, ltb-false _ _ none))))
+]
+
+at_feed : (bytes : List ℕ) (at : ℕ) → Some at ≡ position (λ b. b == 10) bytes → parts_at 10 bytes ≡ take at bytes ∷ parts_at 10 (drop (at + 1) bytes)
+at_feed bytes at e =
+    let found : (nat_lt (position_or_len (λ b. b == 10) bytes) (length bytes) ≡ true) × (position_or_len (λ b. b == 10) bytes ≡ at) = cond_some _ _ _ (sym e) in
+    rw (sym found.1) (slice_split_first (λ b. b == 10) bytes 0 (ltb-true _ _ found.0))
+
+pub feed_within : (bytes : List ℕ) (at : ℕ) → Some at ≡ position (λ b. b == 10) bytes → at < length bytes
+feed_within bytes at e =
+    let found : (nat_lt (position_or_len (λ b. b == 10) bytes) (length bytes) ≡ true) × (position_or_len (λ b. b == 10) bytes ≡ at) = cond_some _ _ _ (sym e) in
+    omega (arith, found.1, ltb-true _ _ found.0)
+
+pub no_line : (bytes : List ℕ) → None ≡ position (λ b. b == 10) bytes → lines_in bytes ≡ []
+unfolding lines_in
+no_line bytes e = ap without_last (no_feed bytes e)
+
+all_behind : (bytes : List ℕ) (n : ℕ) → take (length bytes - n) (drop n bytes) ≡ drop n bytes
+all_behind bytes n = rw (sym (length-drop n bytes)) (take-length (drop n bytes))
+
+pub first_lines : (bytes : List ℕ) (at : ℕ) → Some at ≡ position (λ b. b == 10) bytes → lines_in bytes ≡ take at bytes ∷ lines_in (take (length bytes - (at + 1)) (drop (at + 1) bytes))
+unfolding lines_in
+first_lines bytes at e =
+    rw (all_behind bytes (at + 1)) (ap without_last (at_feed bytes at e) ∙ more_parts (take at bytes) (parts_at 10 (drop (at + 1) bytes)) (some_part (drop (at + 1) bytes)))
+
+pub first_behind : (bytes : List ℕ) (at : ℕ) → Some at ≡ position (λ b. b == 10) bytes → behind bytes ≡ behind (take (length bytes - (at + 1)) (drop (at + 1) bytes))
+unfolding behind
+first_behind bytes at e =
+    rw (all_behind bytes (at + 1)) (ap last_of (at_feed bytes at e) ∙ same_last (take at bytes) (parts_at 10 (drop (at + 1) bytes)) (some_part (drop (at + 1) bytes)))
+
+nothing_left : (bytes : List ℕ) → length bytes ≡ 0 → (length (lines_in bytes) == 0 && length (behind bytes) == 0) ≡ true
+unfolding lines_in behind
+nothing_left [] none = refl
+nothing_left (b ∷ bs) none = absurd (omega (arith, none))
+
+no_part : (parts : List (List ℕ)) → length (without_last parts) ≡ 0 → length (last_of parts) ≡ 0 → length (join_with_byte 10 parts) ≡ 0
+no_part [] h g = refl
+no_part (part ∷ []) h g = g
+no_part (part ∷ next ∷ more) h g = absurd (omega (arith, h))
+
+something_left : (bytes : List ℕ) → length bytes ≢ 0 → (length (lines_in bytes) == 0 && length (behind bytes) == 0) ≡ false
+unfolding lines_in behind
+something_left bytes some = elim (cases_Bool (length (lines_in bytes) == 0 && length (behind bytes) == 0)) [
+  | inl none ↦
+      let both : ((length (lines_in bytes) == 0) ≡ true) × ((length (behind bytes) == 0) ≡ true) = and_parts _ _ none in
+      absurd (some (ap length (sym (join_with_byte-slice_split 10 bytes)) ∙ no_part (parts_at 10 bytes) (eqb-true _ _ both.0) (eqb-true _ _ both.1)))
+  | inr left ↦ left
+]
+
+-- the line `end`, the last or not
+pub ended : (n : ℕ) (bytes line after : List ℕ) → lines_in bytes ≡ line ∷ lines_in after → behind bytes ≡ behind after → is_word line (codes "end") ≡ true → length after ≡ 0 → Ok tt ≡ end_at n (lines_in bytes) (behind bytes)
+ended n bytes line after is same end none = rw (is, same, end, nothing_left after none) refl
+
+pub ended_before : (n : ℕ) (bytes line after : List ℕ) → lines_in bytes ≡ line ∷ lines_in after → behind bytes ≡ behind after → is_word line (codes "end") ≡ true → length after ≢ 0 → Err (fault.Line (n + 1)) ≡ end_at n (lines_in bytes) (behind bytes)
+ended_before n bytes line after is same end some = rw (is, same, end, something_left after some) refl
+
+pub not_ended : (n : ℕ) (bytes line : List ℕ) (later : List (List ℕ)) → lines_in bytes ≡ line ∷ later → is_word line (codes "end") ≡ false → Err (fault.Line n) ≡ end_at n (lines_in bytes) (behind bytes)
+not_ended n bytes line later is other = rw (is, other) refl

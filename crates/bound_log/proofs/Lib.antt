@@ -1,0 +1,15 @@
+pub mod Again
+pub mod Counts
+pub mod Decimals
+pub mod Examples
+pub mod Feeds
+pub mod Injective
+pub mod Names
+pub mod Numbers
+pub mod Only
+pub mod Spelled
+pub mod Splits
+pub mod Fronts
+pub mod States
+pub mod Texts
+pub mod Whole

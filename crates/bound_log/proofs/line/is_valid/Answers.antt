@@ -1,0 +1,5 @@
+use Rattle.bound_log.proofs.States.{is_tested}
+use Rattle.bound_log.proofs.line.is_valid.Goals as goal
+
+pub returns : goal.returns
+returns c = is_tested c.args.kinds.now c.args.state.now c.is_state.result c.requires c.is_state.ensures

@@ -1,0 +1,62 @@
+-- The text of a log: ASCII lines, each ended by LF; numbers are decimal, and one space parts the fields.
+use Rattle.std.specs.Prelude.{ℕ, Bool, true, false, List, [], ◌∷◌, ◌++◌, Option, Some, None, map, flat_map, codes, decimal}
+use Rattle.std.specs.List.{join_with_byte}
+use Rattle.cell_num.specs.declared.net.NetNo.{NetNo}
+use Rattle.row_state.specs.declared.step.Side.{Side}
+use Rattle.bound_log.specs.declared.log.Rule.{Rule}
+use Rattle.bound_log.specs.declared.log.Rule.TheVariants as by
+use Rattle.bound_log.specs.declared.log.Lemma.{Lemma}
+use Rattle.bound_log.specs.declared.log.LogStep.{LogStep}
+use Rattle.bound_log.specs.declared.log.Best.{Best}
+use Rattle.bound_log.specs.declared.log.Log.{Log}
+
+abbrev pub rule_text : Rule → List ℕ
+rule_text by.P = codes "P"
+rule_text by.N = codes "N"
+rule_text by.Branch = codes "B"
+
+-- the counts left by kind, joined by commas (byte 44); `-` for a row without kinds
+abbrev pub counts_text : List ℕ → List ℕ
+counts_text [] = codes "-"
+counts_text (c ∷ cs) = join_with_byte 44 (map decimal (c ∷ cs))
+
+abbrev pub end_text : Option NetNo → List ℕ
+end_text None = codes "-"
+end_text (Some net) = decimal net.0
+
+abbrev pub lemma_line : Lemma → List ℕ
+lemma_line lemma =
+    codes "lemma "
+    ++ decimal lemma.bound
+    ++ codes " "
+    ++ rule_text lemma.rule
+    ++ codes " "
+    ++ counts_text lemma.state.p_left
+    ++ codes " "
+    ++ counts_text lemma.state.n_left
+    ++ codes " "
+    ++ end_text lemma.state.p_end
+    ++ codes " "
+    ++ end_text lemma.state.n_end
+    ++ codes "\n"
+
+abbrev pub flip_text : Bool → List ℕ
+flip_text true = codes "1"
+flip_text false = codes "0"
+
+-- a kind and its flip; an empty place has the flip 0
+abbrev pub side_text : Option Side → List ℕ
+side_text None = codes "- 0"
+side_text (Some side) = decimal side.kind ++ codes " " ++ flip_text side.flipped
+
+abbrev pub column_line : LogStep → List ℕ
+column_line listed = codes "column " ++ decimal listed.gate.0 ++ codes " " ++ side_text listed.step.p ++ codes " " ++ side_text listed.step.n ++ codes "\n"
+
+-- the gaps and the columns of the row, or `open`
+abbrev pub best_text : Option Best → List ℕ
+best_text None = codes "open\n"
+best_text (Some best) = codes "gaps " ++ decimal best.gaps ++ codes "\n" ++ flat_map column_line best.steps
+
+abbrev pub log_text : List ℕ → Log → List ℕ
+log_text name log =
+    codes "cellgen-log 1\n" ++ codes "cell " ++ name ++ codes "\n" ++ flat_map lemma_line log.lemmas ++ best_text log.best ++ codes "end\n"

@@ -1,0 +1,220 @@
+ghost use Rattle.std.specs.Prelude.{◌≡◌, ◌+◌, [], IfOk, length, map};
+ghost use Rattle.row_state.specs.Start.{AreSomeKinds};
+ghost use Rattle.row_state.specs.Tests.{state_test};
+ghost use Rattle.bound_log.specs.Line.{column_in, counts_each, counts_in, entry_in, gaps_in, lemma_in, parts_at, state_in, step_in, words_in};
+
+use crate::word::{end, is_word, number_below, parts, rule, side};
+use crate::{Lemma, LogStep};
+use cell_num::{NetNo, NoMemory};
+use row_state::{Counts, Kind, Kinds, State, Step, is_state};
+use std::alloc::Global;
+
+/// A line of the lemmas, or the one that ends them.
+#[derive(Debug, Drop)]
+pub(crate) enum Entry {
+    Lemma(Lemma),
+    Gaps(u32),
+    Open,
+}
+
+#[tactic(auto, using(crate::proofs::Counts::next_count, crate::proofs::Counts::bad_count, crate::proofs::Counts::all_counts))]
+fn counts_of_words(
+    alloc: Global,
+    kinds: &[Kind],
+    words: &[&[u8]],
+) -> Result<Option<Counts>, NoMemory>
+    requires { length words.now ≡ length kinds.now }
+    ensures { IfOk result (λ counts. counts ≡ counts_each kinds.now (map (λ word. word.now) words.now)) }
+{
+    let mut counts = Counts::new(alloc);
+    for at in 0..kinds.len() {
+        let Some(count) = number_below(words[at], u64::from(kinds[at].count) + 1) else {
+            return Ok(None);
+        };
+        counts.push(count)?;
+    }
+    Ok(Some(counts))
+}
+
+#[tactic(auto, using(crate::proofs::Counts::not_as_many))]
+fn some_counts(alloc: Global, kinds: &[Kind], word: &[u8]) -> Result<Option<Counts>, NoMemory>
+    ensures { IfOk result (λ counts. counts ≡ counts_each kinds.now (parts_at 44 word.now)) }
+{
+    let words = parts(alloc, word, b',')?;
+    if words.len() != kinds.len() {
+        return Ok(None);
+    }
+    counts_of_words(alloc, kinds, &words)
+}
+
+fn no_counts(alloc: Global, word: &[u8]) -> Option<Counts>
+    ensures { result ≡ counts_in [] word.now }
+{
+    if is_word(word, b"-") {
+        Some(Counts::new(alloc))
+    } else {
+        None
+    }
+}
+
+fn counts(alloc: Global, kinds: &[Kind], word: &[u8]) -> Result<Option<Counts>, NoMemory>
+    ensures { IfOk result (λ counts. counts ≡ counts_in kinds.now word.now) }
+{
+    match kinds {
+        [] => Ok(no_counts(alloc, word)),
+        [_, ..] => some_counts(alloc, kinds, word),
+    }
+}
+
+#[tactic(auto, using(crate::proofs::States::is_tested))]
+fn is_valid(state: &State, kinds: &Kinds) -> bool
+    requires { AreSomeKinds kinds.now }
+    ensures { result ≡ state_test kinds.now state.now }
+{
+    is_state(state, kinds)
+}
+
+fn state(
+    alloc: Global,
+    kinds: &Kinds,
+    p_left: &[u8],
+    n_left: &[u8],
+    p_end: &[u8],
+    n_end: &[u8],
+) -> Result<Option<State>, NoMemory>
+    requires { AreSomeKinds kinds.now }
+    ensures { IfOk result (λ state. state ≡ state_in kinds.now p_left.now n_left.now p_end.now n_end.now) }
+{
+    let Some(p_left) = counts(alloc, kinds.p.as_slice(), p_left)? else {
+        return Ok(None);
+    };
+    let Some(n_left) = counts(alloc, kinds.n.as_slice(), n_left)? else {
+        return Ok(None);
+    };
+    let Some(p_end) = end(p_end, kinds.nets) else {
+        return Ok(None);
+    };
+    let Some(n_end) = end(n_end, kinds.nets) else {
+        return Ok(None);
+    };
+    let state = State {
+        p_left,
+        n_left,
+        p_end,
+        n_end,
+    };
+    if is_valid(&state, kinds) {
+        Ok(Some(state))
+    } else {
+        Ok(None)
+    }
+}
+
+fn lemma(alloc: Global, kinds: &Kinds, words: &[&[u8]]) -> Result<Option<Lemma>, NoMemory>
+    requires { AreSomeKinds kinds.now }
+    ensures { IfOk result (λ lemma. lemma ≡ lemma_in kinds.now (map (λ word. word.now) words.now)) }
+{
+    let [bound, reason, p_left, n_left, p_end, n_end] = words else {
+        return Ok(None);
+    };
+    let Some(bound) = number_below(bound, 64) else {
+        return Ok(None);
+    };
+    if bound < 1 {
+        return Ok(None);
+    }
+    let Some(rule) = rule(reason) else {
+        return Ok(None);
+    };
+    let Some(state) = state(alloc, kinds, p_left, n_left, p_end, n_end)? else {
+        return Ok(None);
+    };
+    Ok(Some(Lemma { state, bound, rule }))
+}
+
+fn gaps(words: &[&[u8]]) -> Option<u32>
+    ensures { result ≡ gaps_in (map (λ word. word.now) words.now) }
+{
+    match words {
+        [gaps] => number_below(gaps, 64),
+        _ => None,
+    }
+}
+
+#[tactic(auto, using(row_state::proofs::Valid::kinds_few))]
+fn step(kinds: &Kinds, words: &[&[u8]]) -> Option<LogStep>
+    requires { AreSomeKinds kinds.now }
+    ensures { result ≡ step_in kinds.now (map (λ word. word.now) words.now) }
+{
+    let [gate, p_kind, p_flip, n_kind, n_flip] = words else {
+        return None;
+    };
+    let gate = number_below(gate, u64::from(kinds.nets))?;
+    let p = side(kinds.p.as_slice(), p_kind, p_flip)?;
+    let n = side(kinds.n.as_slice(), n_kind, n_flip)?;
+    if p.is_none() && n.is_none() {
+        return None;
+    }
+    Some(LogStep {
+        gate: NetNo(gate),
+        step: Step { p, n },
+    })
+}
+
+fn entry_of_words(alloc: Global, kinds: &Kinds, words: &[&[u8]]) -> Result<Option<Entry>, NoMemory>
+    requires { AreSomeKinds kinds.now }
+    ensures { IfOk result (λ entry. entry ≡ entry_in kinds.now (map (λ word. word.now) words.now)) }
+{
+    let [word, rest @ ..] = words else {
+        return Ok(None);
+    };
+    if is_word(word, b"lemma") {
+        return Ok(lemma(alloc, kinds, rest)?.map(Entry::Lemma));
+    }
+    if is_word(word, b"gaps") {
+        return Ok(gaps(rest).map(Entry::Gaps));
+    }
+    if is_word(word, b"open") && rest.is_empty() {
+        return Ok(Some(Entry::Open));
+    }
+    Ok(None)
+}
+
+fn column_of_words(kinds: &Kinds, words: &[&[u8]]) -> Option<LogStep>
+    requires { AreSomeKinds kinds.now }
+    ensures { result ≡ column_in kinds.now (map (λ word. word.now) words.now) }
+{
+    let [word, rest @ ..] = words else {
+        return None;
+    };
+    if is_word(word, b"column") {
+        step(kinds, rest)
+    } else {
+        None
+    }
+}
+
+pub(crate) fn read_entry(
+    alloc: Global,
+    kinds: &Kinds,
+    line: &[u8],
+) -> Result<Option<Entry>, NoMemory>
+    requires { AreSomeKinds kinds.now }
+    ensures { IfOk result (λ entry. entry ≡ entry_in kinds.now (words_in line.now)) }
+{
+    let words = parts(alloc, line, b' ')?;
+    let entry = entry_of_words(alloc, kinds, &words)?;
+    Ok(entry)
+}
+
+pub(crate) fn read_column(
+    alloc: Global,
+    kinds: &Kinds,
+    line: &[u8],
+) -> Result<Option<LogStep>, NoMemory>
+    requires { AreSomeKinds kinds.now }
+    ensures { IfOk result (λ listed. listed ≡ column_in kinds.now (words_in line.now)) }
+{
+    let words = parts(alloc, line, b' ')?;
+    Ok(column_of_words(kinds, &words))
+}

@@ -1,0 +1,168 @@
+ghost use Rattle.std.specs.Prelude.{◌≡◌, ◌≢◌, ◌≤◌, ◌+◌, ◌++◌, ℕ, IfOk, IfErr, IfSome, IfNone, Ok, Err, List as Sequence, codes, length};
+ghost use Rattle.row_state.specs.Start.{AreSomeKinds};
+ghost use Rattle.bound_log.specs.declared.fault.LogFault.TheVariants as fault;
+ghost use Rattle.bound_log.specs.declared.log.Log.{Log as LogOf};
+ghost use Rattle.bound_log.specs.Fits.{Fits, IsLogName};
+ghost use Rattle.bound_log.specs.Line.{is_word};
+ghost use Rattle.bound_log.specs.Reading.{behind, columns_at, end_at, lines_in, log_at, log_of, named_at};
+ghost use Rattle.bound_log.specs.Text.{log_text};
+
+use crate::line::{Entry, read_column, read_entry};
+use crate::lines::first_line;
+use crate::word::is_word;
+use crate::{Best, LemmaList, Log, LogFault, LogSteps};
+use cell_num::Name;
+use row_state::Kinds;
+use std::alloc::Global;
+
+// The line `end`, and nothing behind it.
+#[tactic(auto, using(crate::proofs::Feeds::ended, crate::proofs::Feeds::ended_before, crate::proofs::Feeds::not_ended))]
+fn read_end(bytes: &[u8], number: u32) -> Result<(), LogFault>
+    requires { number ≤ 4000000000 }
+    ensures { result ≡ end_at number (lines_in bytes.now) (behind bytes.now) }
+{
+    let Some(first) = first_line(bytes) else {
+        return Err(LogFault::Cut);
+    };
+    if !is_word(first.line, b"end") {
+        return Err(LogFault::Line { line: number });
+    }
+    if !first.after.is_empty() {
+        return Err(LogFault::Line { line: number + 1 });
+    }
+    Ok(())
+}
+
+// The columns up to the line `end`, the last.
+#[tactic(auto, using(crate::proofs::Fronts::columns_cut, crate::proofs::Fronts::columns_done, crate::proofs::Fronts::columns_open, crate::proofs::Fronts::columns_wrong, crate::proofs::Fronts::columns_more))]
+fn read_columns(alloc: Global, kinds: &Kinds, bytes: &[u8], from: u32) -> Result<LogSteps, LogFault>
+    requires kinds { AreSomeKinds kinds.now }
+    requires few { length bytes.now + from ≤ 2000000000 }
+    ensures steps { IfOk result (λ steps. columns_at kinds.now from (lines_in bytes.now) (behind bytes.now) ≡ Ok steps) }
+    ensures fault { IfErr result (λ f. f ≢ fault.NoMemory → columns_at kinds.now from (lines_in bytes.now) (behind bytes.now) ≡ Err f) }
+{
+    let mut steps = LogSteps::new(alloc);
+    let mut rest = bytes;
+    let mut number = from;
+    'columns: loop {
+        let Some(first) = first_line(rest) else {
+            return Err(LogFault::Cut);
+        };
+        if is_word(first.line, b"end") {
+            read_end(rest, number)?;
+            return Ok(steps);
+        }
+        let Some(listed) = read_column(alloc, kinds, first.line)? else {
+            return Err(LogFault::Line { line: number });
+        };
+        steps.push(listed)?;
+        rest = first.after;
+        number += 1;
+    }
+}
+
+// The lemmas, and behind them the row that they certify, or `open`.
+#[tactic(auto, using(crate::proofs::Fronts::log_cut, crate::proofs::Fronts::log_wrong, crate::proofs::Fronts::log_more, crate::proofs::Fronts::log_listed, crate::proofs::Fronts::log_unlisted, crate::proofs::Fronts::log_ended, crate::proofs::Fronts::log_unended))]
+fn read_lemmas(alloc: Global, kinds: &Kinds, bytes: &[u8], from: u32) -> Result<Log, LogFault>
+    requires kinds { AreSomeKinds kinds.now }
+    requires few { length bytes.now + from ≤ 2000000000 }
+    ensures log { IfOk result (λ log. log_at kinds.now from (lines_in bytes.now) (behind bytes.now) ≡ Ok log) }
+    ensures fault { IfErr result (λ f. f ≢ fault.NoMemory → log_at kinds.now from (lines_in bytes.now) (behind bytes.now) ≡ Err f) }
+{
+    let mut lemmas = LemmaList::new(alloc);
+    let mut rest = bytes;
+    let mut number = from;
+    'lemmas: loop {
+        let Some(first) = first_line(rest) else {
+            return Err(LogFault::Cut);
+        };
+        match read_entry(alloc, kinds, first.line)? {
+            Some(Entry::Lemma(lemma)) => lemmas.push(lemma)?,
+            Some(Entry::Gaps(gaps)) => {
+                let steps = read_columns(alloc, kinds, first.after, number + 1)?;
+                return Ok(Log {
+                    lemmas,
+                    best: Some(Best { gaps, steps }),
+                });
+            }
+            Some(Entry::Open) => {
+                read_end(first.after, number + 1)?;
+                return Ok(Log { lemmas, best: None });
+            }
+            None => return Err(LogFault::Line { line: number }),
+        }
+        rest = first.after;
+        number += 1;
+    }
+}
+
+fn behind_cell(line: &[u8]) -> Option<&[u8]>
+    ensures some { IfSome result (λ rest. line.now ≡ codes "cell " ++ rest.now) }
+    ensures none { IfNone result ((rest : Sequence ℕ) → line.now ≢ codes "cell " ++ rest) }
+{
+    line.strip_prefix(b"cell ")
+}
+
+#[tactic(auto, using(crate::proofs::Names::behind_front, crate::proofs::Names::no_front))]
+fn is_named(line: &[u8], name: &Name) -> bool
+    ensures { result ≡ is_word line.now (codes "cell " ++ name.now) }
+{
+    match behind_cell(line) {
+        Some(rest) => is_word(rest, name.as_slice()),
+        None => false,
+    }
+}
+
+fn read_named(alloc: Global, bytes: &[u8], name: &Name, kinds: &Kinds) -> Result<Log, LogFault>
+    requires few { length bytes.now ≤ 1073741824 }
+    requires kinds { AreSomeKinds kinds.now }
+    ensures log { IfOk result (λ log. named_at name.now kinds.now (lines_in bytes.now) (behind bytes.now) ≡ Ok log) }
+    ensures fault { IfErr result (λ f. f ≢ fault.NoMemory → named_at name.now kinds.now (lines_in bytes.now) (behind bytes.now) ≡ Err f) }
+{
+    let Some(first) = first_line(bytes) else {
+        return Err(LogFault::Cut);
+    };
+    if !is_named(first.line, name) {
+        return Err(LogFault::Cell);
+    }
+    let log = read_lemmas(alloc, kinds, first.after, 3)?;
+    Ok(log)
+}
+
+#[tactic(auto, unfolding(crate::specs::Reading::log_of))]
+fn read_text(alloc: Global, bytes: &[u8], name: &Name, kinds: &Kinds) -> Result<Log, LogFault>
+    requires few { length bytes.now ≤ 1073741824 }
+    requires kinds { AreSomeKinds kinds.now }
+    ensures log { IfOk result (λ log. log_of bytes.now name.now kinds.now ≡ Ok log) }
+    ensures fault { IfErr result (λ f. f ≢ fault.NoMemory → log_of bytes.now name.now kinds.now ≡ Err f) }
+{
+    let Some(first) = first_line(bytes) else {
+        return Err(LogFault::Cut);
+    };
+    if !is_word(first.line, b"cellgen-log 1") {
+        return Err(LogFault::Version);
+    }
+    let log = read_named(alloc, first.after, name, kinds)?;
+    Ok(log)
+}
+
+/// The log of which the bytes are the text, for the cell of that name and the kinds of its fingers. The
+/// name has 1 to 32 bytes and no line feed, and there are at most 1,073,741,824 bytes.
+pub fn read_log(alloc: Global, bytes: &[u8], name: &Name, kinds: &Kinds) -> Result<Log, LogFault>
+    requires name { IsLogName name.now }
+    requires few { length bytes.now ≤ 1073741824 }
+    requires kinds { AreSomeKinds kinds.now }
+    // The log of the definition, or its first fault; memory may run out.
+    ensures log { IfOk result (λ log. log_of bytes.now name.now kinds.now ≡ Ok log) }
+    ensures fault { IfErr result (λ f. f ≢ fault.NoMemory → log_of bytes.now name.now kinds.now ≡ Err f) }
+
+    // The one log of all that has these bytes as its text, and it fits; or no log that fits has them.
+    ensures fits { IfOk result (λ log. Fits kinds.now log) }
+    ensures text { IfOk result (λ log. bytes.now ≡ log_text name.now log) }
+    ensures one { IfOk result (λ log. (other : LogOf) → log_text name.now other ≡ bytes.now → other ≡ log) }
+    ensures few { IfOk result (λ log. length log.lemmas ≤ length bytes.now) }
+    ensures none { IfErr result (λ f. f ≢ fault.NoMemory → (log : LogOf) → Fits kinds.now log → log_text name.now log ≢ bytes.now) }
+{
+    let log = read_text(alloc, bytes, name, kinds)?;
+    Ok(log)
+}

@@ -1,0 +1,27 @@
+-- Each valid state has a number of its own: its counts and ends as the digits of a number of mixed radix.
+use Rattle.std.specs.Prelude.{ℕ, ◌+◌, ◌*◌, List, [], ◌∷◌, Option, Some, None}
+use Rattle.cell_num.specs.declared.net.NetNo.{NetNo}
+use Rattle.row_state.specs.declared.kind.Kind.{Kind}
+use Rattle.row_state.specs.declared.kind.Kinds.{Kinds}
+use Rattle.row_state.specs.declared.state.State.{State}
+
+-- how many lists of counts there are: the product of (count + 1) over the kinds
+abbrev pub count_lists : List Kind → ℕ
+count_lists [] = 1
+count_lists (k ∷ ks) = (k.count + 1) * count_lists ks
+
+-- as many numbers as there are lists of counts of each row and open ends, or fewer
+abbrev pub most_states : Kinds → ℕ
+most_states k = count_lists k.p * count_lists k.n * ((k.nets + 1) * (k.nets + 1))
+
+abbrev pub counts_code : List Kind → List ℕ → ℕ
+counts_code [] cs = 0
+counts_code (k ∷ ks) [] = 0
+counts_code (k ∷ ks) (c ∷ cs) = counts_code ks cs * (k.count + 1) + c
+
+abbrev pub end_code : Option NetNo → ℕ
+end_code None = 0
+end_code (Some v) = v.0 + 1
+
+abbrev pub state_code : Kinds → State → ℕ
+state_code k s = ((counts_code k.p s.p_left * count_lists k.n + counts_code k.n s.n_left) * (k.nets + 1) + end_code s.p_end) * (k.nets + 1) + end_code s.n_end
