@@ -1,0 +1,9 @@
+pub mod Columns
+pub mod Few
+pub mod Grown
+pub mod Least
+pub mod Promised
+pub mod Reach
+pub mod Rows
+pub mod Tried
+pub mod Visits

@@ -1,0 +1,162 @@
+-- What a search promises, for every end of it.
+use Rattle.std.proofs.Common.{ℕ, ◌≡◌, ◌+◌, ◌<◌, ◌≤◌, List, length, get_or, Option, Some, None, Result, Ok, Err, IfOk, IfErr, IsNone, IfSome, refl, sym, ap, subst, arith, All, ◌∙◌}
+use Rattle.cell_num.specs.declared.finger.Row.{Row}
+use Rattle.cell_num.specs.declared.finger.Fingers.{Fingers}
+use Rattle.cell_num.specs.Fingers.{columns_of}
+use Rattle.row_model.specs.declared.column.Column.{Column}
+use Rattle.row_model.specs.Arrangement.{IsArrangement}
+use Rattle.row_model.specs.Gaps.{gaps_of}
+use Rattle.row_state.specs.declared.kind.Kinds.{Kinds}
+use Rattle.row_state.specs.declared.state.State.{State}
+use Rattle.row_state.specs.declared.step.Step.{Step}
+use Rattle.row_state.specs.Start.{AreKinds, AreSomeKinds, start_of}
+use Rattle.row_state.proofs.Unfold.{columns_same}
+use Rattle.row_state.proofs.Valid.{gates_are_nets}
+use Rattle.bound_log.specs.declared.log.Lemma.{Lemma}
+use Rattle.bound_log.specs.declared.log.Best.{Best}
+use Rattle.bound_log.specs.declared.log.Log.{Log}
+use Rattle.bound_log.specs.Fits.{BestFits, Fits, LemmaFits}
+use Rattle.log_check.specs.Accepted.{AreJustified, IsAccepted, Lists, RowPasses, WithKinds, best_of, columns_listed}
+use Rattle.log_check.proofs.Sound.{Holds, justified_least}
+use Rattle.row_search.specs.declared.found.Found.{Found}
+use Rattle.row_search.specs.declared.found.Stop.{Stop}
+use Rattle.row_search.specs.declared.found.Stop.TheVariants.{Unfinished, NoMemory}
+use Rattle.row_search.specs.declared.progress.Progress.{Progress}
+use Rattle.row_search.specs.Ended.{AreDistinct, IfLemmas, IfLog, IfUnfinished, IsInRange, IsLean}
+use Rattle.row_search.specs.Enough.{columns_in, enough}
+use Rattle.row_search.specs.First.{IsFirstLeast}
+use Rattle.row_search.specs.Limits.{IsFound, IsFoundAt, IsOpen, ProveGaps, StopsWell, best_with, found_of}
+use Rattle.row_search.specs.Reached.{IsWithin}
+use Rattle.row_search.specs.Steps.{row_of, steps_of}
+use Rattle.row_search.proofs.Columns.{all_fit, all_listed, listed_row}
+use Rattle.row_search.proofs.Least.{bound_le, first_least, gaps_are, in_range, length_row, states_of, too_short, within_wider}
+
+pub record Promised (value : Row → State → Kinds → ℕ) (f : Fingers) (spend : ℕ) (r : Result Found Stop) : Type 0 where
+  pub row : IfOk r (λ found. IsFirstLeast f found.row)
+  pub accepted : IfOk r (λ found. WithKinds f (λ k. IsAccepted value k f found.log (gaps_of found.row)))
+  pub lists : IfOk r (λ found. WithKinds f (λ k. Lists k found.log.best (λ row. row ≡ found.row)))
+  pub nodes : IfOk r (λ found. found.nodes ≡ length found.log.lemmas + columns_of f + 1)
+  pub budget : IfOk r (λ found. found.nodes ≤ spend)
+  pub open_best : IfUnfinished r (λ log proved. IsNone log.best)
+  pub many : IfUnfinished r (λ log proved. spend ≤ length log.lemmas + columns_of f)
+  pub few : IfUnfinished r (λ log proved. length log.lemmas ≤ spend)
+  pub proved : IfUnfinished r (λ log proved. WithKinds f (λ k. proved ≡ best_of (start_of k) log.lemmas))
+  pub low : IfUnfinished r (λ log proved. (other : List Column) → IsArrangement other f → proved ≤ gaps_of other)
+  pub enough_is : IfUnfinished r (λ log proved. WithKinds f (λ k. spend < enough k))
+  pub justified : IfLemmas r (λ lemmas. WithKinds f (λ k. AreJustified value k lemmas))
+  pub distinct : IfLemmas r AreDistinct
+  pub range : IfLemmas r (All (IsInRange (columns_of f)))
+  pub reached : IfLemmas r (λ lemmas. WithKinds f (λ k. All (IsWithin k (best_of (start_of k) lemmas)) lemmas))
+  pub lean : IfLemmas r (λ lemmas. WithKinds f (λ k. All (IsLean value k) lemmas))
+  pub fits : IfLog r (λ log. WithKinds f (λ k. Fits k log))
+
+lemmas_fit : (value : Row → State → Kinds → ℕ) (k : Kinds) (gaps : ℕ) (lemmas : List Lemma) → Holds value k → AreSomeKinds k → ProveGaps value k gaps lemmas → All (LemmaFits k) lemmas
+lemmas_fit value k gaps lemmas law kinds h i d within =
+    let range : IsInRange (columns_in k) (get_or lemmas i d) = in_range value k gaps lemmas law kinds h i d within in
+    record { state = states_of value k lemmas h.kept.justified i d within; some = range.0; few = omega (arith, range.1, kinds.few_columns) }
+
+-- the log lists the row, and it has the gaps that the log says
+row_passes : (value : Row → State → Kinds → ℕ) (k : Kinds) (f : Fingers) (spend gaps : ℕ) (steps : List Step) (p : Progress) → Holds value k → AreKinds f k → AreSomeKinds k → IsFoundAt value k spend gaps steps p → RowPasses k f (best_of (start_of k) p.lemmas) (best_with k gaps steps) (gaps_of (row_of k steps))
+row_passes value k f spend gaps steps p law of_f kinds h =
+    let e : columns_listed k (steps_of k steps) ≡ row_of k steps = listed_row k steps in
+    let counted : gaps_of (row_of k steps) ≡ gaps = gaps_are value k p.lemmas gaps (row_of k steps) law h.lemmas.kept.justified h.lemmas.low h.first in
+    record {
+      arranges = record {
+        listed = all_listed k steps (gates_are_nets k kinds) h.sound;
+        arranges = subst (λ row. IsArrangement row f) (sym e) (first_least value k f p.lemmas gaps (row_of k steps) law of_f h.lemmas.kept.justified h.lemmas.low h.first).arranges;
+      };
+      said = counted;
+      counted = sym counted ∙ ap gaps_of (sym e);
+      least = h.lemmas.low;
+    }
+
+best_fits : (value : Row → State → Kinds → ℕ) (k : Kinds) (spend gaps : ℕ) (steps : List Step) (p : Progress) → Holds value k → AreSomeKinds k → IsFoundAt value k spend gaps steps p → BestFits k (best_with k gaps steps)
+best_fits value k spend gaps steps p law kinds h =
+    record {
+      few = omega (arith, h.lemmas.low, bound_le value k p.lemmas (start_of k) law (gates_are_nets k kinds) h.lemmas.kept.justified, kinds.few_columns);
+      steps = all_fit k steps (gates_are_nets k kinds) h.sound;
+    }
+
+ranges : (value : Row → State → Kinds → ℕ) (k : Kinds) (f : Fingers) (gaps : ℕ) (lemmas : List Lemma) → Holds value k → AreKinds f k → AreSomeKinds k → ProveGaps value k gaps lemmas → All (IsInRange (columns_of f)) lemmas
+ranges value k f gaps lemmas law of_f kinds h = subst (λ n. All (IsInRange n) lemmas) (sym (columns_same f k of_f)) (in_range value k gaps lemmas law kinds h)
+
+best_reached : (value : Row → State → Kinds → ℕ) (k : Kinds) (gaps : ℕ) (lemmas : List Lemma) → ProveGaps value k gaps lemmas → All (IsWithin k (best_of (start_of k) lemmas)) lemmas
+best_reached value k gaps lemmas h = within_wider k gaps (best_of (start_of k) lemmas) lemmas h.low h.within
+
+promised_found : (value : Row → State → Kinds → ℕ) (k : Kinds) (f : Fingers) (spend gaps : ℕ) (steps : List Step) (p : Progress) → Holds value k → AreKinds f k → AreSomeKinds k → IsFoundAt value k spend gaps steps p → Promised value f spend (Ok (found_of k p gaps steps))
+promised_found value k f spend gaps steps p law of_f kinds h =
+    record {
+      row = first_least value k f p.lemmas gaps (row_of k steps) law of_f h.lemmas.kept.justified h.lemmas.low h.first;
+      accepted = (k, of_f, kinds, (record { justified = h.lemmas.kept.justified; passes = row_passes value k f spend gaps steps p law of_f kinds h }));
+      lists = (k, of_f, kinds, (listed_row k steps));
+      nodes = omega (arith, h.nodes, h.first.completes.fewest, length_row k steps, columns_same f k of_f);
+      budget = h.few;
+      open_best = tt;
+      many = tt;
+      few = tt;
+      proved = tt;
+      low = tt;
+      enough_is = tt;
+      justified = (k, of_f, kinds, h.lemmas.kept.justified);
+      distinct = h.lemmas.kept.distinct;
+      range = ranges value k f gaps p.lemmas law of_f kinds h.lemmas;
+      reached = (k, of_f, kinds, (best_reached value k gaps p.lemmas h.lemmas));
+      lean = (k, of_f, kinds, h.lemmas.kept.lean);
+      fits = (k, of_f, kinds, (record { lemmas = lemmas_fit value k gaps p.lemmas law kinds h.lemmas; best = best_fits value k spend gaps steps p law kinds h }));
+    }
+
+no_best : (log : Log) → log.best ≡ None → IsNone log.best
+no_best log e = subst (λ (b : Option Best). IsNone b) (sym e) refl
+
+none_fits : (k : Kinds) (best : Option Best) → best ≡ None → IfSome best (BestFits k)
+none_fits k best e = subst (λ (b : Option Best). IfSome b (BestFits k)) (sym e) tt
+
+promised_open : (value : Row → State → Kinds → ℕ) (k : Kinds) (f : Fingers) (spend : ℕ) (log : Log) (told : ℕ) → Holds value k → AreKinds f k → AreSomeKinds k → IsOpen value k spend log told → Promised value f spend (Err (Unfinished log told))
+promised_open value k f spend log told law of_f kinds h =
+    record {
+      row = tt;
+      accepted = tt;
+      lists = tt;
+      nodes = tt;
+      budget = tt;
+      open_best = no_best log h.best;
+      many = omega (arith, h.many, columns_same f k of_f);
+      few = h.few;
+      proved = (k, of_f, kinds, h.proved_is);
+      low = λ other arranges. omega (arith, h.proved_is, justified_least value k f log.lemmas law of_f h.lemmas.kept.justified other arranges);
+      enough_is = (k, of_f, kinds, (too_short value k told spend log.lemmas law kinds h.lemmas h.many));
+      justified = (k, of_f, kinds, h.lemmas.kept.justified);
+      distinct = h.lemmas.kept.distinct;
+      range = ranges value k f told log.lemmas law of_f kinds h.lemmas;
+      reached = (k, of_f, kinds, (best_reached value k told log.lemmas h.lemmas));
+      lean = (k, of_f, kinds, h.lemmas.kept.lean);
+      fits = (k, of_f, kinds, (record { lemmas = lemmas_fit value k told log.lemmas law kinds h.lemmas; best = none_fits k log.best h.best }));
+    }
+
+promised_none : (value : Row → State → Kinds → ℕ) (f : Fingers) (spend : ℕ) → Promised value f spend (Err NoMemory)
+promised_none value f spend =
+    record {
+      row = tt;
+      accepted = tt;
+      lists = tt;
+      nodes = tt;
+      budget = tt;
+      open_best = tt;
+      many = tt;
+      few = tt;
+      proved = tt;
+      low = tt;
+      enough_is = tt;
+      justified = tt;
+      distinct = tt;
+      range = tt;
+      reached = tt;
+      lean = tt;
+      fits = tt;
+    }
+
+-- what the limits come to is what is promised
+pub promised : (value : Row → State → Kinds → ℕ) (k : Kinds) (f : Fingers) (spend : ℕ) (r : Result Found Stop) → Holds value k → AreKinds f k → AreSomeKinds k → IfOk r (IsFound value k spend) → IfErr r (StopsWell value k spend) → Promised value f spend r
+promised value k f spend (Ok found) law of_f kinds h i = subst (λ (z : Found). Promised value f spend (Ok z)) (sym h.is) (promised_found value k f spend h.gaps h.steps h.p law of_f kinds h.last)
+promised value k f spend (Err (Unfinished log told)) law of_f kinds h i = promised_open value k f spend log told law of_f kinds i
+promised value k f spend (Err NoMemory) law of_f kinds h i = promised_none value f spend

@@ -1,0 +1,153 @@
+ghost use Rattle.std.specs.Prelude.{◌≤◌, All, IsTrue, length};
+ghost use Rattle.cell_num.specs.Fingers.{AreFingers, IsFinger};
+
+use crate::{Found, Stop, search};
+use bound_log::{Lemma, Rule};
+use cell_num::{Finger, FingerList, Fingers, NetNo, NoMemory, Row};
+use row_model::{Column, Placed};
+use row_state::Parity;
+use std::alloc::{AllocError, Global};
+use std::test::Fail;
+
+fn is_sound(finger: &Finger, row: Row, nets: u32) -> bool
+    ensures { IsTrue result → IsFinger row nets finger.now }
+{
+    finger.row == row && finger.lo.0 <= finger.hi.0 && finger.gate.0 < nets && finger.hi.0 < nets
+}
+
+fn all_sound(fingers: &[Finger], row: Row, nets: u32) -> bool
+    ensures { IsTrue result → All (IsFinger row nets) fingers.now }
+{
+    for finger in fingers {
+        if !is_sound(finger, row, nets) {
+            return false;
+        }
+    }
+    true
+}
+
+#[tactic(auto, using(row_state::proofs::Examples::are_fingers))]
+fn are_sound(fingers: &Fingers) -> bool
+    ensures { IsTrue result → AreFingers fingers.now }
+{
+    if !all_sound(fingers.p.as_slice(), Row::P, fingers.nets) {
+        return false;
+    }
+    if !all_sound(fingers.n.as_slice(), Row::N, fingers.nets) {
+        return false;
+    }
+    fingers.nets <= 256 && fingers.p.len() <= 16 && fingers.n.len() <= 16
+}
+
+// A P and an N finger of one gate: the gate, the lower end of both, the higher end of each.
+type Pair = (u32, u32, u32, u32);
+
+fn finger(row: Row, gate: u32, lo: u32, hi: u32, width: u32) -> Finger {
+    Finger {
+        row,
+        gate: NetNo(gate),
+        lo: NetNo(lo),
+        hi: NetNo(hi),
+        width,
+    }
+}
+
+fn fingers(alloc: Global, nets: u32, pairs: &[Pair]) -> Result<Fingers, NoMemory> {
+    let mut rows = Fingers {
+        nets,
+        p: FingerList::new(alloc),
+        n: FingerList::new(alloc),
+    };
+    for pair in pairs {
+        rows.p.push(finger(Row::P, pair.0, pair.1, pair.2, 20))?;
+        rows.n.push(finger(Row::N, pair.0, pair.1, pair.3, 10))?;
+    }
+    Ok(rows)
+}
+
+fn place(placed: &Option<Placed>) -> &str {
+    match placed {
+        Some(x) if x.flipped => "f",
+        Some(_) => "u",
+        None => "-",
+    }
+}
+
+fn put_column(alloc: Global, text: &mut String, column: &Column) -> Result<(), AllocError> {
+    let gate = match &column.p {
+        Some(x) => x.finger.gate.0,
+        None => 99,
+    };
+    let told = format!(in alloc; " {gate}{}{}", place(&column.p), place(&column.n))?;
+    text.push_str(&told)
+}
+
+fn is_branch(lemma: &Lemma) -> bool {
+    lemma.bound == 1 && lemma.rule == Rule::Branch
+}
+
+// The gaps, how many of the lemmas are branch lemmas of bound 1, the nodes, and of each column the
+// gate and the turns of its two fingers.
+fn row_text(alloc: Global, found: &Found) -> Result<String, AllocError> {
+    let gaps = match &found.log.best {
+        Some(best) => best.gaps,
+        None => 99,
+    };
+    let lemmas = found.log.lemmas.as_slice();
+    let branches = lemmas.iter().filter(|lemma| is_branch(lemma)).count();
+    let mut text = format!(in alloc; "{gaps} {branches}/{} {}:", lemmas.len(), found.nodes)?;
+    for column in found.row.as_slice() {
+        put_column(alloc, &mut text, column)?;
+    }
+    Ok(text)
+}
+
+fn ended(alloc: Global, nets: u32, pairs: &[Pair], budget: u64) -> Result<String, Fail> {
+    let rows = fingers(alloc, nets, pairs)?;
+    if !are_sound(&rows) {
+        return Ok(String::from_str(alloc, "unsound")?);
+    }
+    let told = match search(alloc, &rows, &Parity, budget) {
+        Ok(found) => row_text(alloc, &found)?,
+        Err(Stop::Unfinished { log, proved }) => {
+            format!(in alloc; "proved {proved} by {}", log.lemmas.len())?
+        }
+        Err(Stop::NoMemory) => String::from_str(alloc, "NoMemory")?,
+    };
+    Ok(told)
+}
+
+// The outputs stand behind the gates, the rails behind the outputs.
+const INVERTERS: [Pair; 3] = [(0, 3, 6, 7), (1, 4, 6, 7), (2, 5, 6, 7)];
+
+#[test]
+fn finds_rows(rt: HostRuntime) -> Result<(), Fail> {
+    let alloc = rt.alloc();
+    let rows: [(u32, &[Pair], u64, &str); 6] = [
+        (4, &[(0, 1, 2, 3)], 1, "proved 0 by 0"),
+        (4, &[(0, 1, 2, 3)], 2, "0 0/0 2: 0uu"),
+        (6, &[(0, 2, 4, 5), (1, 3, 4, 5)], 3, "0 0/0 3: 0uu 1ff"),
+        (8, &INVERTERS, 1, "proved 1 by 1"),
+        (8, &INVERTERS, 4, "proved 1 by 1"),
+        (8, &INVERTERS, 5, "1 0/1 5: 0uu 1uu 2ff"),
+    ];
+    for (nets, pairs, budget, want) in rows {
+        assert_eq!(rt; ended(alloc, nets, pairs, budget)?.as_str(), want);
+    }
+    Ok(())
+}
+
+// Twelve pairs between two nets and two between two others need a gap, and no parity tells it.
+#[test]
+fn searches_long(rt: HostRuntime) -> Result<(), Fail> {
+    let alloc = rt.alloc();
+    let mut pairs = [(0, 14, 15, 15); 14];
+    for gate in 0..14 {
+        let ends = if gate < 12 { (14, 15) } else { (16, 17) };
+        pairs[gate] = (gate as u32, ends.0, ends.1, ends.1);
+    }
+    let turns = "0uu 1ff 2uu 3ff 4uu 5ff 6uu 7ff 8uu 9ff 10uu 11ff 12uu 13ff";
+    let want = format!(in alloc; "1 16393/16393 16408: {turns}")?;
+    assert_eq!(rt; ended(alloc, 18, &pairs, 200_000)?.as_str(), want.as_str());
+    Ok(())
+}
