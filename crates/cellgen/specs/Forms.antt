@@ -6,3 +6,4 @@ use Rattle.cellgen.specs.Words as words
 
 abbrev pub shown : Form → words.Form
 shown (read.Plan tech spice cell) = words.Plan (option_map (λ name. name.now) tech) spice.now cell.now
+shown (read.Check tech spice cell log) = words.Check (option_map (λ name. name.now) tech) spice.now cell.now log.now

@@ -1,9 +1,12 @@
 pub mod Faults
-pub mod FileOrder
+pub mod Files
 pub mod Forms
+pub mod Inputs
 pub mod Lines
+pub mod Refusals
 pub mod Report
 pub mod Status
 pub mod Steps
+pub mod Told
 pub mod Words
 pub mod Work

@@ -1,4 +1,5 @@
--- The lines of a planned row. Widths are in grid units of half a lambda each.
+-- The lines of a planned row, of a spent budget and of a checked log. Widths of fingers are in grid units of
+-- half a lambda each.
 use Rattle.std.specs.Prelude.{ℕ, ◌+◌, List, [], ◌++◌, length, slice_get, unwrap_or, flat_map, codes, decimal, Option, Some, None}
 use Rattle.std.specs.List.{enumerate_from}
 use Rattle.cell_num.specs.declared.net.NetNo.{NetNo}
@@ -37,11 +38,22 @@ column_text nets numbered =
 abbrev pub columns_text : List (List ℕ) → List Column → List ℕ
 columns_text nets row = flat_map (column_text nets) (enumerate_from 0 row)
 
--- the cell's name, its columns and gaps, its width (the columns and the gaps), and each column
-abbrev pub plan_text : List ℕ → List (List ℕ) → List Column → List ℕ
-plan_text name nets row =
+-- the cell's name, the columns and gaps of its row, and its width, which is their sum
+abbrev pub row_text : List ℕ → ℕ → ℕ → List ℕ
+row_text name columns gaps =
     text_line (codes "cell ") name
-    ++ count_line (codes "columns ") (length row)
-    ++ count_line (codes "gaps ") (gaps_of row)
-    ++ count_line (codes "width ") (length row + gaps_of row)
-    ++ columns_text nets row
+    ++ count_line (codes "columns ") columns
+    ++ count_line (codes "gaps ") gaps
+    ++ count_line (codes "width ") (columns + gaps)
+
+-- the same of a row, and each column
+abbrev pub plan_text : List ℕ → List (List ℕ) → List Column → List ℕ
+plan_text name nets row = row_text name (length row) (gaps_of row) ++ columns_text nets row
+
+-- the gaps that are proved, and the number of lemmas
+abbrev pub stopped_text : ℕ → ℕ → List ℕ
+stopped_text proved lemmas = count_line (codes "proved ") proved ++ count_line (codes "lemmas ") lemmas
+
+-- the row of an accepted log, and the number of its lemmas
+abbrev pub checked_text : List ℕ → ℕ → ℕ → ℕ → List ℕ
+checked_text name columns gaps lemmas = row_text name columns gaps ++ count_line (codes "lemmas ") lemmas

@@ -2,12 +2,14 @@ ghost use Rattle.std.specs.Prelude.{◌≡◌, ◌++◌, OnOk};
 ghost use Rattle.std.specs.Fmt.{signed_decimal};
 ghost use Rattle.spice_net.specs.declared.fault.SpiceFault.TheVariants as spice;
 ghost use Rattle.cellgen.specs.Lines.{text_line, count_line};
-ghost use Rattle.cellgen.specs.Faults.{tech_line, size_line, spice_line, fold_line};
+ghost use Rattle.cellgen.specs.Faults.{tech_line, spice_line, fold_line, log_line, check_line};
 
-use crate::lines::{put_count, put_number, put_text};
+use crate::lines::{put_count, put_pair, put_text};
+use bound_log::LogFault;
 use cell_num::{Name, NoMemory};
 use finger_fold::FoldFault;
 use itoa::Buffer;
+use log_check::Refused;
 use spice_net::{SpiceFault, What};
 use tech_file::TechFault;
 
@@ -42,14 +44,6 @@ fn put_line(out: &mut Name, word: &[u8], line: u32) -> Result<(), NoMemory>
     put_count(out, word, u64::from(line))
 }
 
-fn put_size(out: &mut Name, word: &[u8], line: u32, units: u32) -> Result<(), NoMemory>
-    ensures { OnOk result (out.new ≡ out.old ++ size_line word.now line units) }
-{
-    out.extend(word)?;
-    put_number(out, u64::from(line))?;
-    put_count(out, b" units ", u64::from(units))
-}
-
 fn put_too_many(out: &mut Name, what: What, count: u64) -> Result<(), NoMemory>
     ensures { OnOk result (out.new ≡ out.old ++ spice_line (spice.TooMany what count)) }
 {
@@ -72,8 +66,20 @@ pub fn put_spice(out: &mut Name, fault: &SpiceFault) -> Result<(), NoMemory>
         SpiceFault::Fields { line } => put_line(out, b"spice Fields line ", *line)?,
         SpiceFault::Model { line } => put_line(out, b"spice Model line ", *line)?,
         SpiceFault::Number { line } => put_line(out, b"spice Number line ", *line)?,
-        SpiceFault::Length { line, units } => put_size(out, b"spice Length line ", *line, *units)?,
-        SpiceFault::Narrow { line, units } => put_size(out, b"spice Narrow line ", *line, *units)?,
+        SpiceFault::Length { line, units } => put_pair(
+            out,
+            b"spice Length line ",
+            *line,
+            b" units ",
+            *units,
+        )?,
+        SpiceFault::Narrow { line, units } => put_pair(
+            out,
+            b"spice Narrow line ",
+            *line,
+            b" units ",
+            *units,
+        )?,
         SpiceFault::Body { line } => put_line(out, b"spice Body line ", *line)?,
         SpiceFault::Rail { line } => put_line(out, b"spice Rail line ", *line)?,
         SpiceFault::NoRail => out.extend(b"spice NoRail\n")?,
@@ -99,4 +105,36 @@ pub fn put_fold(out: &mut Name, fault: &FoldFault) -> Result<(), NoMemory>
         }
         FoldFault::NoMemory => Ok(()),
     }
+}
+
+/// Adds the line of a fault of the text of a log.
+pub fn put_log(out: &mut Name, fault: &LogFault) -> Result<(), NoMemory>
+    ensures { OnOk result (out.new ≡ out.old ++ log_line fault.now) }
+{
+    match fault {
+        LogFault::Version => out.extend(b"log Version\n"),
+        LogFault::Cell => out.extend(b"log Cell\n"),
+        LogFault::Line { line } => put_line(out, b"log Line line ", *line),
+        LogFault::Cut => out.extend(b"log Cut\n"),
+        LogFault::NoMemory => Ok(()),
+    }
+}
+
+/// Adds the line of the cause that refuses a log.
+pub fn put_refused(out: &mut Name, cause: &Refused) -> Result<(), NoMemory>
+    ensures { OnOk result (out.new ≡ out.old ++ check_line cause.now) }
+{
+    match cause {
+        Refused::Unproved { line } => put_line(out, b"log Unproved line ", *line)?,
+        Refused::NoRow { best } => put_line(out, b"log NoRow best ", *best)?,
+        Refused::NotArrangement => out.extend(b"log NotArrangement\n")?,
+        Refused::Gaps { said, counted } => {
+            put_pair(out, b"log Gaps said ", *said, b" counted ", *counted)?
+        }
+        Refused::NotLeast { best, said } => {
+            put_pair(out, b"log NotLeast best ", *best, b" said ", *said)?
+        }
+        Refused::NoMemory => (),
+    }
+    Ok(())
 }

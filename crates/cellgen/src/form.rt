@@ -1,16 +1,23 @@
-ghost use Rattle.std.specs.Prelude.{◌≡◌, option_map};
+ghost use Rattle.std.specs.Prelude.{◌≡◌, [], ◌∷◌, option_map};
 ghost use Rattle.std.specs.List.{list_all};
-ghost use Rattle.cellgen.specs.Words.{texts, is_cell_byte, is_cell, is_plan, tech_of, form_of};
+ghost use Rattle.cellgen.specs.Words.{texts, are_inputs, is_cell_byte, is_cell, tech_of, form_of};
 ghost use Rattle.cellgen.specs.Forms.{shown};
 
 /// What a call of the program asks for.
 #[derive(Clone, Copy)]
 pub enum Form<'a> {
-    /// A row in the order of the file. A technology of None is the plain one.
+    /// The first least row. A technology of None is the plain one.
     Plan {
         tech: Option<&'a str>,
         spice: &'a str,
         cell: &'a str,
+    },
+    /// Whether a log certifies a row.
+    Check {
+        tech: Option<&'a str>,
+        spice: &'a str,
+        cell: &'a str,
+        log: &'a str,
     },
 }
 
@@ -36,10 +43,10 @@ fn is_cell(name: &str) -> bool
     !bytes.is_empty() && bytes.len() <= MOST_CELL_BYTES && are_cell_bytes(bytes)
 }
 
-fn is_plan(command: &str, tech: &str, spice: &str, cell: &str) -> bool
-    ensures { result ≡ is_plan command.now tech.now spice.now cell.now }
+fn are_inputs(tech: &str, spice: &str, cell: &str) -> bool
+    ensures { result ≡ are_inputs tech.now spice.now cell.now }
 {
-    command == "plan" && !tech.is_empty() && !spice.is_empty() && is_cell(cell)
+    !tech.is_empty() && !spice.is_empty() && is_cell(cell)
 }
 
 // The technology's file, or None for the plain one.
@@ -49,24 +56,61 @@ fn tech_of(word: &str) -> Option<&str>
     if word == "-" { None } else { Some(word) }
 }
 
+fn plan_of<'a>(command: &str, tech: &'a str, spice: &'a str, cell: &'a str) -> Option<Form<'a>>
+    ensures { option_map shown result ≡ form_of (command.now ∷ tech.now ∷ spice.now ∷ cell.now ∷ []) }
+{
+    if command == "plan" && are_inputs(tech, spice, cell) {
+        Some(Form::Plan {
+            tech: tech_of(tech),
+            spice,
+            cell,
+        })
+    } else {
+        None
+    }
+}
+
+fn check_of<'a>(
+    command: &str,
+    tech: &'a str,
+    spice: &'a str,
+    cell: &'a str,
+    log: &'a str,
+) -> Option<Form<'a>>
+    ensures { option_map shown result ≡ form_of (command.now ∷ tech.now ∷ spice.now ∷ cell.now ∷ log.now ∷ []) }
+{
+    if command == "check" && are_inputs(tech, spice, cell) && !log.is_empty() {
+        Some(Form::Check {
+            tech: tech_of(tech),
+            spice,
+            cell,
+            log,
+        })
+    } else {
+        None
+    }
+}
+
 /// The form of the words, or None where they have none of the listed forms.
 pub fn form_of(words: &[String]) -> Option<Form<'_>>
     ensures { option_map shown result ≡ form_of (texts words.now) }
 {
     match words {
-        [command, tech, spice, cell]
-            if is_plan(
+        [command, tech, spice, cell] => {
+            plan_of(
                 command.as_str(),
                 tech.as_str(),
                 spice.as_str(),
                 cell.as_str(),
-            ) => {
-            Some(Form::Plan {
-                tech: tech_of(tech.as_str()),
-                spice: spice.as_str(),
-                cell: cell.as_str(),
-            })
+            )
         }
+        [command, tech, spice, cell, log] => check_of(
+            command.as_str(),
+            tech.as_str(),
+            spice.as_str(),
+            cell.as_str(),
+            log.as_str(),
+        ),
         _ => None,
     }
 }

@@ -1,17 +1,20 @@
 // Makes standard cells from SPICE subcircuits.
 #![tactic(auto)]
 
+mod answer;
+mod checking;
 mod faults;
-mod file_order;
 mod form;
+mod inputs;
 mod lines;
-mod plan;
+mod planning;
+mod refusal;
 mod report;
 mod run;
 mod status;
-mod steps;
 #[cfg(test)]
 mod tests;
+mod work;
 
 use cell_io::HostDesk;
 use run::run;

@@ -1,5 +1,5 @@
 ghost use Rattle.std.specs.Prelude.{◌≡◌, ◌≤◌, ◌++◌, length, OnOk};
-ghost use Rattle.cellgen.specs.Report.{name_of, place_text, gate_text, column_text, columns_text, plan_text};
+ghost use Rattle.cellgen.specs.Report.{name_of, place_text, gate_text, column_text, columns_text, row_text, plan_text, stopped_text, checked_text};
 
 use crate::lines::{put_count, put_number, put_text};
 use cell_num::{Name, Names, NetNo, NoMemory};
@@ -59,6 +59,17 @@ fn put_columns(out: &mut Name, nets: &Names, row: &Arrangement) -> Result<(), No
     Ok(())
 }
 
+fn put_row(out: &mut Name, name: &Name, columns: u64, gaps: u32) -> Result<(), NoMemory>
+    requires { columns ≤ 1000000 }
+    ensures { OnOk result (out.new ≡ out.old ++ row_text name.now columns gaps) }
+{
+    let gaps = u64::from(gaps);
+    put_text(out, b"cell ", name.as_slice())?;
+    put_count(out, b"columns ", columns)?;
+    put_count(out, b"gaps ", gaps)?;
+    put_count(out, b"width ", columns + gaps)
+}
+
 /// Adds the lines of a planned row.
 pub fn put_plan(
     out: &mut Name,
@@ -69,11 +80,29 @@ pub fn put_plan(
     requires { length row.now ≤ 64 }
     ensures { OnOk result (out.new ≡ out.old ++ plan_text name.now nets.now row.now) }
 {
-    let columns = row.len() as u64;
-    let gaps = u64::from(gaps(row));
-    put_text(out, b"cell ", name.as_slice())?;
-    put_count(out, b"columns ", columns)?;
-    put_count(out, b"gaps ", gaps)?;
-    put_count(out, b"width ", columns + gaps)?;
+    put_row(out, name, row.len() as u64, gaps(row))?;
     put_columns(out, nets, row)
+}
+
+/// Adds the lines of a spent budget.
+pub fn put_stopped(out: &mut Name, proved: u32, lemmas: u64) -> Result<(), NoMemory>
+    ensures { OnOk result (out.new ≡ out.old ++ stopped_text proved lemmas) }
+{
+    put_count(out, b"proved ", u64::from(proved))?;
+    put_count(out, b"lemmas ", lemmas)
+}
+
+/// Adds the lines of a checked log.
+pub fn put_checked(
+    out: &mut Name,
+    name: &Name,
+    columns: u64,
+    gaps: u32,
+    lemmas: u64,
+) -> Result<(), NoMemory>
+    requires { columns ≤ 1000000 }
+    ensures { OnOk result (out.new ≡ out.old ++ checked_text name.now columns gaps lemmas) }
+{
+    put_row(out, name, columns, gaps)?;
+    put_count(out, b"lemmas ", lemmas)
 }

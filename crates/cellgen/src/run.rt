@@ -1,68 +1,120 @@
-ghost use Rattle.std.specs.Prelude.{◌≡◌, ◌≤◌, ◌⊎◌, List, ℕ, Option, Result, IfOk, IfSome, IsNone, length};
+ghost use Rattle.std.specs.Prelude.{◌≡◌, ◌≤◌, ◌↔◌, ◌⊎◌, List, ℕ, Option, Result, ◌++◌, IfOk, IfSome, IsNone};
 ghost use Rattle.cell_io.specs.Desk.{Rose};
-ghost use Rattle.cellgen.specs.declared.plan.Plan.{Plan as PlanOf};
-ghost use Rattle.cellgen.specs.declared.plan.Refusal.{Refusal as RefusalOf};
+ghost use Rattle.cellgen.specs.declared.answer.Answer.{Answer as AnswerOf};
+ghost use Rattle.cellgen.specs.declared.refusal.Refusal.{Refusal as RefusalOf};
 ghost use Rattle.cellgen.specs.declared.status.Status.TheVariants as status;
+ghost use Rattle.cellgen.specs.Files.{AsCalledFor, Lacks, OverDesk};
+ghost use Rattle.cellgen.specs.Steps.{OrShort};
+ghost use Rattle.cellgen.specs.Told.{status_of, answer_text, refusal_text, report_of, Tells, TellsWhole, IsOfForm, IsOfOutside, IsShort};
 ghost use Rattle.cellgen.specs.Words.{texts, form_of, read_by};
-ghost use Rattle.cellgen.specs.Steps.{reading_of, planned};
-ghost use Rattle.cellgen.specs.Work.{status_of, report_of, MayEnd, Lacks, Tells, TellsWhole, IsOfOutside, IsOfPlan};
+ghost use Rattle.cellgen.specs.Work.{Ended, HasEnough, HoldsAcceptedLog, IsCheck};
 
-use crate::faults::{put_fold, put_spice, put_tech};
+use crate::answer::Answer;
+use crate::faults::{put_fold, put_log, put_refused, put_spice, put_tech};
 use crate::lines::put_text;
-use crate::plan::{Plan, Refusal};
-use crate::report::put_plan;
+use crate::refusal::Refusal;
+use crate::report::{put_checked, put_plan, put_stopped};
 use crate::status::Status;
-use crate::steps::plan;
+use crate::work::do_work;
 use cell_io::{Desk, WriteFault, say_all};
 use cell_num::{Name, NoMemory};
 use std::alloc::Global;
 
-fn status_for(ended: &Result<Plan, Refusal>) -> Status
+fn status_for(ended: &Result<Answer, Refusal>) -> Status
     ensures { result ≡ status_of ended.now }
 {
     match ended {
-        Ok(_) => Status::Done,
+        Ok(Answer::Planned { .. } | Answer::Checked { .. }) => Status::Done,
+        Ok(Answer::Stopped { .. }) => Status::Unfinished,
         Err(Refusal::Words) => Status::Usage,
         Err(Refusal::Unread { .. }) => Status::ReadFault,
         Err(Refusal::Long { .. }) => Status::TooLong,
         Err(Refusal::Tech(_) | Refusal::Spice(_) | Refusal::Fold(_)) => Status::Input,
+        Err(Refusal::Log(_) | Refusal::Rejected(_)) => Status::Rejected,
         Err(Refusal::NoMemory) => Status::NoMemory,
     }
 }
 
-fn report_for(alloc: Global, ended: &Result<Plan, Refusal>) -> Result<Name, NoMemory>
-    requires { IfOk ended.now (λ plan. length plan.row ≤ 64) }
-    ensures { IfOk result (λ text. text ≡ report_of ended.now) }
+fn answer_report(alloc: Global, answer: &Answer) -> Result<Name, NoMemory>
+    requires { IsShort answer.now }
+    ensures { IfOk result (λ text. text ≡ answer_text answer.now) }
 {
     let mut out = Name::new(alloc);
-    match ended {
-        Ok(plan) => {
+    match answer {
+        Answer::Planned { cell, row } => {
             out.extend(b"status 0 ok\n")?;
-            put_plan(&mut out, &plan.cell.name, &plan.cell.nets, &plan.row)?;
+            put_plan(&mut out, &cell.name, &cell.nets, row)?;
         }
-        Err(Refusal::Words) => out.extend(b"status 1 usage\nplan TECH SPICE CELL\n")?,
-        Err(Refusal::Unread { name }) => put_text(&mut out, b"status 2 read ", name.as_slice())?,
-        Err(Refusal::Long { name }) => put_text(&mut out, b"status 10 long ", name.as_slice())?,
-        Err(Refusal::Tech(fault)) => {
-            out.extend(b"status 4 input\n")?;
-            put_tech(&mut out, fault)?;
+        Answer::Stopped {
+            proved,
+            lemmas,
+            text,
+        } => {
+            out.extend(b"status 6 unfinished\n")?;
+            put_stopped(&mut out, *proved, *lemmas)?;
+            out.extend(text.as_slice())?;
         }
-        Err(Refusal::Spice(fault)) => {
-            out.extend(b"status 4 input\n")?;
-            put_spice(&mut out, fault)?;
+        Answer::Checked {
+            name,
+            columns,
+            gaps,
+            lemmas,
+        } => {
+            out.extend(b"status 0 ok\n")?;
+            put_checked(&mut out, name, *columns, *gaps, *lemmas)?;
         }
-        Err(Refusal::Fold(fault)) => {
-            out.extend(b"status 4 input\n")?;
-            put_fold(&mut out, fault)?;
-        }
-        Err(Refusal::NoMemory) => (),
     }
     Ok(out)
 }
 
-// Says the report of what the steps ended with.
-fn tell<D: Desk>(alloc: Global, desk: &mut D, ended: &Result<Plan, Refusal>) -> Status
-    requires { IfOk ended.now (λ plan. length plan.row ≤ 64) }
+fn refusal_report(alloc: Global, refusal: &Refusal) -> Result<Name, NoMemory>
+    ensures { IfOk result (λ text. text ≡ refusal_text refusal.now) }
+{
+    let mut out = Name::new(alloc);
+    match refusal {
+        Refusal::Words => out.extend(
+            b"status 1 usage\nplan TECH SPICE CELL\ncheck TECH SPICE CELL LOG\n",
+        )?,
+        Refusal::Unread { name } => put_text(&mut out, b"status 2 read ", name.as_slice())?,
+        Refusal::Long { name } => put_text(&mut out, b"status 10 long ", name.as_slice())?,
+        Refusal::Tech(fault) => {
+            out.extend(b"status 4 input\n")?;
+            put_tech(&mut out, fault)?;
+        }
+        Refusal::Spice(fault) => {
+            out.extend(b"status 4 input\n")?;
+            put_spice(&mut out, fault)?;
+        }
+        Refusal::Fold(fault) => {
+            out.extend(b"status 4 input\n")?;
+            put_fold(&mut out, fault)?;
+        }
+        Refusal::Log(fault) => {
+            out.extend(b"status 7 rejected\n")?;
+            put_log(&mut out, fault)?;
+        }
+        Refusal::Rejected(cause) => {
+            out.extend(b"status 7 rejected\n")?;
+            put_refused(&mut out, cause)?;
+        }
+        Refusal::NoMemory => (),
+    }
+    Ok(out)
+}
+
+fn report_for(alloc: Global, ended: &Result<Answer, Refusal>) -> Result<Name, NoMemory>
+    requires { IfOk ended.now IsShort }
+    ensures { IfOk result (λ text. text ≡ report_of ended.now) }
+{
+    match ended {
+        Ok(answer) => answer_report(alloc, answer),
+        Err(refusal) => refusal_report(alloc, refusal),
+    }
+}
+
+// Says the report of what the work ended with.
+fn tell<D: Desk>(alloc: Global, desk: &mut D, ended: &Result<Answer, Refusal>) -> Status
+    requires { IfOk ended.now IsShort }
     ensures tells { Tells ended.now (Rose (D.write_faults desk.old) (D.write_faults desk.new)) (Rose (D.shorts desk.old) (D.shorts desk.new)) result (D.said desk.old) (D.said desk.new) }
     ensures given { D.given desk.new ≡ D.given desk.old }
     ensures made { D.made desk.new ≡ D.made desk.old }
@@ -82,28 +134,36 @@ fn tell<D: Desk>(alloc: Global, desk: &mut D, ended: &Result<Plan, Refusal>) -> 
 
 /// Does what the words ask for, and says the report.
 ///
-/// The words are `plan TECH SPICE CELL`: a technology file or `-` for the plain technology, a SPICE
-/// file, and the name of one of its subcircuits. The row of its fingers, in the order of the file, is
-/// said.
+/// `plan TECH SPICE CELL` finds the first least row of a cell: TECH is a technology file or `-` for the
+/// plain technology, SPICE a file, and CELL the name of one of its subcircuits. `check TECH SPICE CELL LOG`
+/// tells whether the file LOG is the text of a log that certifies a row of that cell.
 pub fn run<D: Desk>(alloc: Global, words: &[String], desk: &mut D) -> Status
-    // The steps ended so, and the status and what was said are those of this end; or a count tells
-    // that saying it failed, or memory ran out.
-    ensures answer { (ended : Result PlanOf RefusalOf) × MayEnd (D.given desk.old) (form_of (texts words.now)) (Rose (D.read_faults desk.old) (D.read_faults desk.new)) ended × Tells ended (Rose (D.write_faults desk.old) (D.write_faults desk.new)) (Rose (D.shorts desk.old) (D.shorts desk.new)) result (D.said desk.old) (D.said desk.new) }
+    // The work ended so, and the status and what was said are those of this end; or a count tells that
+    // saying it failed, or memory ran out.
+    ensures answer { (ended : Result AnswerOf RefusalOf) × OrShort (Ended (OverDesk (D.given desk.old) (Rose (D.read_faults desk.old) (D.read_faults desk.new))) (form_of (texts words.now))) ended × Tells ended (Rose (D.write_faults desk.old) (D.write_faults desk.new)) (Rose (D.shorts desk.old) (D.shorts desk.new)) result (D.said desk.old) (D.said desk.new) }
 
-    // Over files that are told, what they call for is told whole, but for ReadFault, WriteFault and
+    // Over files that are told, an end that they call for is told whole, but for ReadFault, WriteFault and
     // NoMemory.
-    ensures called_for { IfSome (D.given desk.old) (λ files. IsOfOutside result ⊎ TellsWhole (planned (reading_of files) (form_of (texts words.now))) result (D.said desk.old) (D.said desk.new)) }
+    ensures called_for { IfSome (D.given desk.old) (λ files. IsOfOutside result ⊎ ((ended : Result AnswerOf RefusalOf) × Ended (AsCalledFor files) (form_of (texts words.now)) ended × TellsWhole ended result (D.said desk.old) (D.said desk.new))) }
 
-    // Over such files, where neither reading nor writing failed, the status is the one that they call
-    // for, or memory ran out.
-    ensures completes { IfSome (D.given desk.old) (λ files. (Rose (D.read_faults desk.old) (D.read_faults desk.new) → ⊥) → (Rose (D.write_faults desk.old) (D.write_faults desk.new) → ⊥) → (result ≡ status_of (planned (reading_of files) (form_of (texts words.now)))) ⊎ (result ≡ status.NoMemory)) }
+    // Over such files, where neither reading nor writing failed, the status is of an end that they call for,
+    // or memory ran out.
+    ensures completes { IfSome (D.given desk.old) (λ files. (Rose (D.read_faults desk.old) (D.read_faults desk.new) → ⊥) → (Rose (D.write_faults desk.old) (D.write_faults desk.new) → ⊥) → ((ended : Result AnswerOf RefusalOf) × Ended (AsCalledFor files) (form_of (texts words.now)) ended × (result ≡ status_of ended)) ⊎ (result ≡ status.NoMemory)) }
+
+    // So a plan whose budget is enough, and a check of an accepted log, are done, or memory ran out.
+    ensures planned { IfSome (D.given desk.old) (λ files. (Rose (D.read_faults desk.old) (D.read_faults desk.new) → ⊥) → (Rose (D.write_faults desk.old) (D.write_faults desk.new) → ⊥) → HasEnough files (form_of (texts words.now)) → (result ≡ status.Done) ⊎ (result ≡ status.NoMemory)) }
+    ensures accepts { IfSome (D.given desk.old) (λ files. (Rose (D.read_faults desk.old) (D.read_faults desk.new) → ⊥) → (Rose (D.write_faults desk.old) (D.write_faults desk.new) → ⊥) → HoldsAcceptedLog files (form_of (texts words.now)) → (result ≡ status.Done) ⊎ (result ≡ status.NoMemory)) }
+
+    // A check is done exactly where the log file is the text of an accepted log, but for ReadFault, WriteFault
+    // and NoMemory.
+    ensures checked { IfSome (D.given desk.old) (λ files. IsCheck (form_of (texts words.now)) → IsOfOutside result ⊎ (result ≡ status.Done ↔ HoldsAcceptedLog files (form_of (texts words.now)))) }
 
     // Each fault of the outside has its cause.
     ensures usage { result ≡ status.Usage → IsNone (form_of (texts words.now)) }
     ensures read { result ≡ status.ReadFault → (Rose (D.read_faults desk.old) (D.read_faults desk.new)) ⊎ Lacks (D.given desk.old) (read_by (form_of (texts words.now))) }
     ensures write { result ≡ status.WriteFault → Rose (D.write_faults desk.old) (D.write_faults desk.new) }
     ensures memory { result ≡ status.NoMemory → (Rose (D.shorts desk.old) (D.shorts desk.new)) ⊎ (D.said desk.new ≡ D.said desk.old) }
-    ensures other { IsOfPlan result }
+    ensures other { IsOfForm (form_of (texts words.now)) result }
 
     ensures given { D.given desk.new ≡ D.given desk.old }
     ensures made { D.made desk.new ≡ D.made desk.old }
@@ -111,6 +171,6 @@ pub fn run<D: Desk>(alloc: Global, words: &[String], desk: &mut D) -> Status
     ensures write_count { D.write_faults desk.old ≤ D.write_faults desk.new }
     ensures short_count { D.shorts desk.old ≤ D.shorts desk.new }
 {
-    let ended = plan(alloc, words, desk);
+    let ended = do_work(alloc, words, desk);
     tell(alloc, desk, &ended)
 }

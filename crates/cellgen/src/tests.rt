@@ -15,7 +15,7 @@ MN y a gnd gnd n W=1.5u L=0.6u
 const ROW: &str =
     "status 0 ok\ncell inv\ncolumns 1\ngaps 0\nwidth 1\ncolumn 0 gate a p y vdd 20 n y gnd 10\n";
 
-const USAGE: &str = "status 1 usage\nplan TECH SPICE CELL\n";
+const USAGE: &str = "status 1 usage\nplan TECH SPICE CELL\ncheck TECH SPICE CELL LOG\n";
 
 fn name_of(alloc: Global, text: &str) -> Result<Name, Fail> {
     Ok(List::from_vec(text.as_bytes().to_vec(alloc)?))
@@ -29,10 +29,16 @@ fn words_of(alloc: Global, text: &str) -> Result<Vec<String>, Fail> {
     Ok(words)
 }
 
-// A desk with the files `t.toml` and `c.sp`, whose calls from the list fail.
-fn desk_with(alloc: Global, tech: Name, spice: Name, fail: &[u64]) -> Result<MemDesk, Fail> {
+// A desk with the files `t.toml`, `c.sp` and `l.clog`, whose calls from the list fail.
+fn desk_with(
+    alloc: Global,
+    tech: Name,
+    spice: Name,
+    log: Name,
+    fail: &[u64],
+) -> Result<MemDesk, Fail> {
     let mut files = FileList::new(alloc);
-    for (name, bytes) in [("t.toml", tech), ("c.sp", spice)] {
+    for (name, bytes) in [("t.toml", tech), ("c.sp", spice), ("l.clog", log)] {
         let name = name_of(alloc, name)?;
         files.push(File { name, bytes })?;
     }
@@ -41,9 +47,22 @@ fn desk_with(alloc: Global, tech: Name, spice: Name, fail: &[u64]) -> Result<Mem
     Ok(MemDesk::new(alloc, files, calls))
 }
 
+// Runs the words over these files.
+fn run_over(alloc: Global, words: &str, files: [&str; 3]) -> Result<(Status, MemDesk), Fail> {
+    let [tech, spice, log] = files;
+    let mut desk = desk_with(
+        alloc,
+        name_of(alloc, tech)?,
+        name_of(alloc, spice)?,
+        name_of(alloc, log)?,
+        &[],
+    )?;
+    let status = run(alloc, &words_of(alloc, words)?, &mut desk);
+    Ok((status, desk))
+}
+
 #[test]
 fn says_what_the_words_ask_for(rt: HostRuntime) -> Result<(), Fail> {
-    let alloc = rt.alloc();
     for (words, status, said) in [
         ("plan - c.sp INV", Status::Done, ROW),
         ("plan t.toml c.sp inv", Status::Done, ROW),
@@ -58,111 +77,232 @@ fn says_what_the_words_ask_for(rt: HostRuntime) -> Result<(), Fail> {
             Status::Input,
             "status 4 input\ntech Text\n",
         ),
+        (
+            "check - c.sp inv d.clog",
+            Status::ReadFault,
+            "status 2 read d.clog\n",
+        ),
+        (
+            "check - c.sp inw d.clog",
+            Status::Input,
+            "status 4 input\nspice NoCell\n",
+        ),
         ("", Status::Usage, USAGE),
         ("make", Status::Usage, USAGE),
         ("plan - c.sp", Status::Usage, USAGE),
-        ("plan - c.sp inv x", Status::Usage, USAGE),
+        ("plan - c.sp inv l.clog", Status::Usage, USAGE),
+        ("check - c.sp inv", Status::Usage, USAGE),
         ("plan - c.sp a-b", Status::Usage, USAGE),
     ] {
-        let spice = name_of(alloc, INVERTER)?;
-        let mut desk = desk_with(alloc, Name::new(alloc), spice, &[])?;
-        let got = run(alloc, &words_of(alloc, words)?, &mut desk);
-        assert_eq!(rt; got, status, "{words}");
-        assert_eq!(rt; desk.all_said(), said.as_bytes(), "{words}");
+        let (got, desk) = run_over(rt.alloc(), words, ["", INVERTER, ""])?;
+        assert_eq!(rt; desk.all_said(), said.as_bytes());
+        assert_eq!(rt; got, status, "{said}");
     }
     Ok(())
 }
 
+const INVERTERS: &str = ".SUBCKT x3 a b c x y z vdd gnd
+M1 x a vdd vdd p W=3u L=0.6u
+M2 x a gnd gnd n W=1.5u L=0.6u
+M3 y b vdd vdd p W=3u L=0.6u
+M4 y b gnd gnd n W=1.5u L=0.6u
+M5 z c vdd vdd p W=3u L=0.6u
+M6 z c gnd gnd n W=1.5u L=0.6u
+.ENDS
+";
+
 #[test]
-fn plans_rows(rt: HostRuntime) -> Result<(), Fail> {
-    let alloc = rt.alloc();
-    let words = words_of(alloc, "plan t.toml c.sp inv")?;
+fn plans_the_least_row(rt: HostRuntime) -> Result<(), Fail> {
     for (tech, spice, said) in [
         (
+            "",
+            ".SUBCKT x a b y vdd gnd\nM1 y a vdd vdd p W=3u L=0.6u\nM2 y b vdd vdd p W=3u L=0.6u\nM3 y a n1 gnd n W=3u L=0.6u\nM4 n1 b gnd gnd n W=3u L=0.6u\n.ENDS\n",
+            "columns 2\ngaps 0\nwidth 2\ncolumn 0 gate a p y vdd 20 n y n1 20\ncolumn 1 gate b p vdd y 20 n n1 gnd 20\n",
+        ),
+        (
+            "",
+            ".SUBCKT x a b x y vdd gnd\nM1 x a vdd vdd p W=3u L=0.6u\nM2 x a gnd gnd n W=1.5u L=0.6u\nM3 y b vdd vdd p W=3u L=0.6u\nM4 y b gnd gnd n W=1.5u L=0.6u\n.ENDS\n",
+            "columns 2\ngaps 0\nwidth 2\ncolumn 0 gate a p x vdd 20 n x gnd 10\ncolumn 1 gate b p vdd y 20 n gnd y 10\n",
+        ),
+        (
             "wmax_p = 20",
-            ".SUBCKT inv a y vdd gnd\nMP y a vdd vdd p W=6.15u L=0.6u\nMN y a gnd gnd n W=1.5u L=0.6u\n.ENDS\n",
-            "status 0 ok\ncell inv\ncolumns 3\ngaps 2\nwidth 5\ncolumn 0 gate a p y vdd 14 n y gnd 10\ncolumn 1 gate a p y vdd 14 n - - 0\ncolumn 2 gate a p y vdd 13 n - - 0\n",
+            ".SUBCKT x a y vdd gnd\nMP y a vdd vdd p W=6.15u L=0.6u\nMN y a gnd gnd n W=1.5u L=0.6u\n.ENDS\n",
+            "columns 3\ngaps 0\nwidth 3\ncolumn 0 gate a p y vdd 13 n y gnd 10\ncolumn 1 gate a p vdd y 14 n - - 0\ncolumn 2 gate a p y vdd 14 n - - 0\n",
         ),
         (
             "",
-            ".SUBCKT inv a y vdd gnd\nMP y a vdd vdd p W=12u L=0.6u\nMN y a gnd gnd n W=1.5u L=0.6u\n.ENDS\n",
-            "status 0 ok\ncell inv\ncolumns 2\ngaps 1\nwidth 3\ncolumn 0 gate a p y vdd 40 n y gnd 10\ncolumn 1 gate a p y vdd 40 n - - 0\n",
+            ".SUBCKT x a y vdd gnd\nMP y a vdd vdd p W=12u L=0.6u\nMN y a gnd gnd n W=1.5u L=0.6u\n.ENDS\n",
+            "columns 2\ngaps 0\nwidth 2\ncolumn 0 gate a p y vdd 40 n y gnd 10\ncolumn 1 gate a p vdd y 40 n - - 0\n",
         ),
         (
             "",
-            ".SUBCKT inv a y vdd gnd\nMP y a vdd vdd p W=3u L=0.6u\nMn Y a\n+ GND gnd NMOS w=1.5UM $ width\n+ L = 600N AD=2p\n.ENDS\n",
-            ROW,
+            ".SUBCKT x a b c cn vdd gnd\nMN a c b gnd n W=1.5u L=0.6u\nMP a cn b vdd p W=3u L=0.6u\n.ENDS\n",
+            "columns 2\ngaps 0\nwidth 2\ncolumn 0 gate c p - - 0 n a b 10\ncolumn 1 gate cn p a b 20 n - - 0\n",
         ),
         (
             "",
-            ".GLOBAL gnd\n.SUBCKT inv a y vdd\nMP y a vdd vdd p W=3u L=0.6u\nMN y a gnd gnd n W=1.5E-6 L=0.6u\n.ENDS\n",
-            ROW,
-        ),
-        (
-            "",
-            ".SUBCKT inv a y z vdd gnd\nMP1 y a vdd vdd p W=3u L=0.6u\nMN1 z a gnd gnd n W=1.5u L=0.6u\nMN2 y a gnd gnd n W=3u L=0.6u\nMP2 z a vdd vdd p W=3.3u L=0.6u\nMN3 y a z gnd n W=1.5u L=0.6u\n.ENDS\n",
-            "status 0 ok\ncell inv\ncolumns 3\ngaps 2\nwidth 5\ncolumn 0 gate a p y vdd 20 n z gnd 10\ncolumn 1 gate a p z vdd 22 n y gnd 20\ncolumn 2 gate a p - - 0 n y z 10\n",
+            ".GLOBAL gnd\n.SUBCKT x a y vdd\nMP y a vdd vdd p W=3u L=0.6u\nMn Y a\n+ GND gnd NMOS w=1.5UM $ width\n+ L = 600N AD=2p\n.ENDS\n",
+            "columns 1\ngaps 0\nwidth 1\ncolumn 0 gate a p y vdd 20 n y gnd 10\n",
         ),
     ] {
-        let mut desk = desk_with(alloc, name_of(alloc, tech)?, name_of(alloc, spice)?, &[])?;
-        let got = run(alloc, &words, &mut desk);
-        assert_eq!(rt; desk.all_said(), said.as_bytes(), "{spice}");
-        assert_eq!(rt; got, Status::Done, "{spice}");
+        let said = format!(in rt.alloc(); "status 0 ok\ncell x\n{said}")?;
+        let (got, desk) = run_over(rt.alloc(), "plan t.toml c.sp x", [tech, spice, ""])?;
+        assert_eq!(rt; desk.all_said(), said.as_bytes());
+        assert_eq!(rt; got, Status::Done, "{said}");
     }
     Ok(())
 }
 
 #[test]
-fn names_the_fault_of_an_input(rt: HostRuntime) -> Result<(), Fail> {
-    let alloc = rt.alloc();
-    let words = words_of(alloc, "plan t.toml c.sp inv")?;
-    for (tech, spice, line) in [
-        ("lambda_nm", INVERTER, "tech Text\n"),
-        ("colour = 1", INVERTER, "tech Key name colour\n"),
-        ("vdd = 5", INVERTER, "tech Form name vdd\n"),
-        (
-            "lambda_nm = 301",
-            INVERTER,
-            "tech Range name lambda_nm value 301\n",
-        ),
-        (
-            "lambda_nm = -2",
-            INVERTER,
-            "tech Range name lambda_nm value -2\n",
-        ),
-        ("", "", "spice NoCell\n"),
-        ("", ".SUBCKT inv vdd gnd\n.ENDS\n", "spice Empty\n"),
+fn plans_larger_cells(rt: HostRuntime) -> Result<(), Fail> {
+    for (tech, spice, status, said) in [
         (
             "",
-            ".SUBCKT inv a y vdd\nMP y a vdd vdd p W=3u L=0.6u\nMN y a gnd gnd n W=1.5u L=0.6u\n.ENDS\n",
+            INVERTERS,
+            Status::Done,
+            "status 0 ok\ncell x3\ncolumns 3\ngaps 1\nwidth 4\ncolumn 0 gate a p x vdd 20 n x gnd 10\ncolumn 1 gate b p y vdd 20 n y gnd 10\ncolumn 2 gate c p vdd z 20 n gnd z 10\n",
+        ),
+        (
+            "budget = 1",
+            INVERTERS,
+            Status::Unfinished,
+            "status 6 unfinished\nproved 1\nlemmas 1\ncellgen-log 1\ncell x3\nlemma 1 P 1,1,1 1,1,1 - -\nopen\nend\n",
+        ),
+        (
+            "",
+            ".GLOBAL vdd gnd\n.SUBCKT x3 e d q\nM1 en e vdd vdd p W=3u L=0.6u AD=3p PD=4u\nM2 en e gnd gnd n W=1.5u L=0.6u\nM3 p1 d vdd vdd p W=3u L=0.6u\nM4 m en p1 vdd p W=3u L=0.6u\nM5 n1 d gnd gnd n W=1.5u L=0.6u\nM6 m e n1 gnd n W=1.5u L=0.6u\nM7 q m vdd vdd p W=3u L=0.6u\nM8 q m gnd gnd n W=1.5u L=0.6u\nM9 m q vdd vdd p W=0.9u L=0.6u\nM10 m q gnd gnd n W=0.9u L=0.6u\n.ENDS\n",
+            Status::Done,
+            "status 0 ok\ncell x3\ncolumns 6\ngaps 0\nwidth 6\ncolumn 0 gate e p en vdd 20 n en gnd 10\ncolumn 1 gate d p vdd p1 20 n gnd n1 10\ncolumn 2 gate e p - - 0 n n1 m 10\ncolumn 3 gate en p p1 m 20 n - - 0\ncolumn 4 gate q p m vdd 6 n m gnd 6\ncolumn 5 gate m p vdd q 20 n gnd q 10\n",
+        ),
+    ] {
+        let (got, desk) = run_over(rt.alloc(), "plan t.toml c.sp x3", [tech, spice, ""])?;
+        assert_eq!(rt; desk.all_said(), said.as_bytes());
+        assert_eq!(rt; got, status, "{said}");
+    }
+    Ok(())
+}
+
+// One inverter of 32 fingers in each row.
+#[test]
+fn plans_32_columns(rt: HostRuntime) -> Result<(), Fail> {
+    let spice =
+        ".SUBCKT x a y vdd gnd\nMP y a vdd vdd p W=192u L=0.6u\nMN y a gnd gnd n W=192u L=0.6u\n.ENDS\n";
+    let (got, desk) = run_over(rt.alloc(), "plan - c.sp x", ["", spice, ""])?;
+    let front =
+        "status 0 ok\ncell x\ncolumns 32\ngaps 0\nwidth 32\ncolumn 0 gate a p y vdd 40 n y gnd 40\n";
+    assert!(rt; desk.all_said().starts_with(front.as_bytes()));
+    assert_eq!(rt; got, Status::Done);
+    Ok(())
+}
+
+// The log of the three inverters, as it is and changed.
+#[test]
+fn checks_logs(rt: HostRuntime) -> Result<(), Fail> {
+    const HEAD: &str = "cellgen-log 1\ncell x3\n";
+    const LEMMA: &str = "lemma 1 P 1,1,1 1,1,1 - -\n";
+    const ROW: &str = "gaps 1\ncolumn 0 0 0 0 0\ncolumn 1 1 0 1 0\ncolumn 2 2 1 2 1\nend\n";
+    for (head, lemmas, row, line) in [
+        (
+            HEAD,
+            "lemma 2 P 1,1,1 1,1,1 - -\n",
+            ROW,
+            "log Unproved line 3\n",
+        ),
+        (
+            HEAD,
+            "lemma 1 P 1,1,1 1,1,1 - -\nlemma 1 B 0,0,0 0,0,0 - -\n",
+            ROW,
+            "log Unproved line 4\n",
+        ),
+        (HEAD, LEMMA, "open\nend\n", "log NoRow best 1\n"),
+        (
+            HEAD,
+            LEMMA,
+            "gaps 2\ncolumn 0 0 0 0 0\ncolumn 1 1 0 1 0\ncolumn 2 2 1 2 1\nend\n",
+            "log Gaps said 2 counted 1\n",
+        ),
+        (HEAD, "", ROW, "log NotLeast best 0 said 1\n"),
+        (
+            HEAD,
+            LEMMA,
+            "gaps 1\ncolumn 0 0 0 0 0\nend\n",
+            "log NotArrangement\n",
+        ),
+        (HEAD, "lemma 1 P 1,1 1,1,1 - -\n", ROW, "log Line line 3\n"),
+        (HEAD, LEMMA, "open\n", "log Cut\n"),
+        ("cellgen-log 2\ncell x3\n", LEMMA, ROW, "log Version\n"),
+        ("cellgen-log 1\ncell X3\n", LEMMA, ROW, "log Cell\n"),
+    ] {
+        let log = format!(in rt.alloc(); "{head}{lemmas}{row}")?;
+        let said = format!(in rt.alloc(); "status 7 rejected\n{line}")?;
+        let files = ["", INVERTERS, log.as_str()];
+        let (got, desk) = run_over(rt.alloc(), "check - c.sp x3 l.clog", files)?;
+        assert_eq!(rt; desk.all_said(), said.as_bytes());
+        assert_eq!(rt; got, Status::Rejected, "{said}");
+    }
+    let log = format!(in rt.alloc(); "{HEAD}{LEMMA}{ROW}")?;
+    let said = "status 0 ok\ncell x3\ncolumns 3\ngaps 1\nwidth 4\nlemmas 1\n";
+    let (got, desk) = run_over(
+        rt.alloc(),
+        "check - c.sp X3 l.clog",
+        ["", INVERTERS, log.as_str()],
+    )?;
+    assert_eq!(rt; desk.all_said(), said.as_bytes());
+    assert_eq!(rt; got, Status::Done, "{said}");
+    Ok(())
+}
+
+#[test]
+fn names_the_fault_of_a_technology(rt: HostRuntime) -> Result<(), Fail> {
+    for (tech, line) in [
+        ("lambda_nm", "tech Text\n"),
+        ("colour = 1", "tech Key name colour\n"),
+        ("vdd = 5", "tech Form name vdd\n"),
+        ("lambda_nm = 301", "tech Range name lambda_nm value 301\n"),
+        ("lambda_nm = -2", "tech Range name lambda_nm value -2\n"),
+    ] {
+        let said = format!(in rt.alloc(); "status 4 input\n{line}")?;
+        let files = [tech, INVERTER, ""];
+        let (got, desk) = run_over(rt.alloc(), "plan t.toml c.sp inv", files)?;
+        assert_eq!(rt; desk.all_said(), said.as_bytes());
+        assert_eq!(rt; got, Status::Input, "{said}");
+    }
+    Ok(())
+}
+
+#[test]
+fn names_the_fault_of_a_subcircuit(rt: HostRuntime) -> Result<(), Fail> {
+    const P: &str = "MP y a vdd vdd p W=3u L=0.6u\n";
+    for (pins, transistors, line) in [
+        ("vdd gnd", "", "spice Empty\n"),
+        (
+            "a y vdd",
+            "MP y a vdd vdd p W=3u L=0.6u\nMN y a gnd gnd n W=1.5u L=0.6u\n",
             "spice NoRail\n",
         ),
+        ("a y q vdd gnd", P, "spice IdlePin name q\n"),
         (
-            "",
-            ".SUBCKT inv a y q vdd gnd\nMP y a vdd vdd p W=3u L=0.6u\n.ENDS\n",
-            "spice IdlePin name q\n",
-        ),
-        (
-            "",
-            ".SUBCKT inv a y vdd gnd\nMP y a vdd vdd p W=3u L=0.6u\nMN y a gnd gnd n W=0.75u L=0.6u\n.ENDS\n",
+            "a y vdd gnd",
+            "MP y a vdd vdd p W=3u L=0.6u\nMN y a gnd gnd n W=0.75u L=0.6u\n",
             "spice Narrow line 3 units 5\n",
         ),
         (
-            "",
-            ".SUBCKT inv a y vdd gnd\nMP y a vdd vdd p W=3u L=0.6u\nMN y a gnd gnd n W=1.5u L=0.6u m=2\n.ENDS\n",
+            "a y vdd gnd",
+            "MP y a vdd vdd p W=3u L=0.6u\nMN y a gnd gnd n W=1.5u L=0.6u m=2\n",
             "spice Multiple line 3\n",
         ),
         (
-            "",
-            ".SUBCKT inv a y vdd gnd\nMP y a vdd vdd p W=192.15u L=0.6u\nMN y a gnd gnd n W=192u L=0.6u\n.ENDS\n",
+            "a y vdd gnd",
+            "MP y a vdd vdd p W=192.15u L=0.6u\nMN y a gnd gnd n W=192u L=0.6u\n",
             "fold TooManyColumns count 33\n",
         ),
     ] {
-        let mut desk = desk_with(alloc, name_of(alloc, tech)?, name_of(alloc, spice)?, &[])?;
-        let got = run(alloc, &words, &mut desk);
-        let said = format!(in alloc; "status 4 input\n{line}")?;
-        assert_eq!(rt; desk.all_said(), said.as_bytes(), "{line}");
-        assert_eq!(rt; got, Status::Input, "{line}");
+        let spice = format!(in rt.alloc(); ".SUBCKT inv {pins}\n{transistors}.ENDS\n")?;
+        let said = format!(in rt.alloc(); "status 4 input\n{line}")?;
+        let files = ["", spice.as_str(), ""];
+        let (got, desk) = run_over(rt.alloc(), "plan t.toml c.sp inv", files)?;
+        assert_eq!(rt; desk.all_said(), said.as_bytes());
+        assert_eq!(rt; got, Status::Input, "{said}");
     }
     Ok(())
 }
@@ -180,7 +320,13 @@ fn ends_by_failed_calls(rt: HostRuntime) -> Result<(), Fail> {
         (5, Status::Done, ROW),
     ] {
         let tech = name_of(alloc, "wmax_p = 20\n")?;
-        let mut desk = desk_with(alloc, tech, name_of(alloc, INVERTER)?, &[call])?;
+        let mut desk = desk_with(
+            alloc,
+            tech,
+            name_of(alloc, INVERTER)?,
+            Name::new(alloc),
+            &[call],
+        )?;
         assert_eq!(rt; run(alloc, &words, &mut desk), status, "call {call}");
         assert_eq!(rt; desk.all_said(), said.as_bytes(), "call {call}");
     }
@@ -213,7 +359,7 @@ fn refuses_long_files(rt: HostRuntime) -> Result<(), Fail> {
     ] {
         let comment = List::from_vec(vec![in alloc; b'#'; tech]?);
         let stars = List::from_vec(vec![in alloc; b'*'; spice]?);
-        let mut desk = desk_with(alloc, comment, stars, &[])?;
+        let mut desk = desk_with(alloc, comment, stars, Name::new(alloc), &[])?;
         assert_eq!(rt; run(alloc, &words, &mut desk), status, "{said}");
         assert_eq!(rt; desk.all_said(), said.as_bytes(), "{said}");
     }
