@@ -195,60 +195,53 @@ fn plans_32_columns(rt: HostRuntime) -> Result<(), Fail> {
     Ok(())
 }
 
-// The log of the three inverters, as it is and changed.
+// The parts of the log of the three inverters.
+const HEAD: &str = "cellgen-log 1\ncell x3\n";
+
+const LEMMA: &str = "lemma 1 P 1,1,1 1,1,1 - -\n";
+
+const LISTED: &str = "gaps 1\ncolumn 0 0 0 0 0\ncolumn 1 1 0 1 0\ncolumn 2 2 1 2 1\nend\n";
+
 #[test]
-fn checks_logs(rt: HostRuntime) -> Result<(), Fail> {
-    const HEAD: &str = "cellgen-log 1\ncell x3\n";
-    const LEMMA: &str = "lemma 1 P 1,1,1 1,1,1 - -\n";
-    const ROW: &str = "gaps 1\ncolumn 0 0 0 0 0\ncolumn 1 1 0 1 0\ncolumn 2 2 1 2 1\nend\n";
+fn accepts_a_log(rt: HostRuntime) -> Result<(), Fail> {
+    let log = format!(in rt.alloc(); "{HEAD}{LEMMA}{LISTED}")?;
+    let files = ["", INVERTERS, log.as_str()];
+    let (got, desk) = run_over(rt.alloc(), "check - c.sp X3 l.clog", files)?;
+    let said = "status 0 ok\ncell x3\ncolumns 3\ngaps 1\nwidth 4\nlemmas 1\n";
+    assert_eq!(rt; desk.all_said(), said.as_bytes());
+    assert_eq!(rt; got, Status::Done);
+    Ok(())
+}
+
+#[test]
+fn rejects_logs(rt: HostRuntime) -> Result<(), Fail> {
+    let two = "gaps 2\ncolumn 0 0 0 0 0\ncolumn 1 1 0 1 0\ncolumn 2 2 1 2 1\nend\n";
+    let one = "gaps 1\ncolumn 0 0 0 0 0\nend\n";
+    let leaf = "lemma 1 P 1,1,1 1,1,1 - -\nlemma 1 B 0,0,0 0,0,0 - -\n";
     for (head, lemmas, row, line) in [
         (
             HEAD,
             "lemma 2 P 1,1,1 1,1,1 - -\n",
-            ROW,
-            "log Unproved line 3\n",
+            LISTED,
+            "Unproved line 3",
         ),
-        (
-            HEAD,
-            "lemma 1 P 1,1,1 1,1,1 - -\nlemma 1 B 0,0,0 0,0,0 - -\n",
-            ROW,
-            "log Unproved line 4\n",
-        ),
-        (HEAD, LEMMA, "open\nend\n", "log NoRow best 1\n"),
-        (
-            HEAD,
-            LEMMA,
-            "gaps 2\ncolumn 0 0 0 0 0\ncolumn 1 1 0 1 0\ncolumn 2 2 1 2 1\nend\n",
-            "log Gaps said 2 counted 1\n",
-        ),
-        (HEAD, "", ROW, "log NotLeast best 0 said 1\n"),
-        (
-            HEAD,
-            LEMMA,
-            "gaps 1\ncolumn 0 0 0 0 0\nend\n",
-            "log NotArrangement\n",
-        ),
-        (HEAD, "lemma 1 P 1,1 1,1,1 - -\n", ROW, "log Line line 3\n"),
-        (HEAD, LEMMA, "open\n", "log Cut\n"),
-        ("cellgen-log 2\ncell x3\n", LEMMA, ROW, "log Version\n"),
-        ("cellgen-log 1\ncell X3\n", LEMMA, ROW, "log Cell\n"),
+        (HEAD, leaf, LISTED, "Unproved line 4"),
+        (HEAD, LEMMA, "open\nend\n", "NoRow best 1"),
+        (HEAD, LEMMA, one, "NotArrangement"),
+        (HEAD, LEMMA, two, "Gaps said 2 counted 1"),
+        (HEAD, "", LISTED, "NotLeast best 0 said 1"),
+        (HEAD, "lemma 1 P 1,1 1,1,1 - -\n", LISTED, "Line line 3"),
+        (HEAD, LEMMA, "open\n", "Cut"),
+        ("cellgen-log 2\ncell x3\n", LEMMA, LISTED, "Version"),
+        ("cellgen-log 1\ncell X3\n", LEMMA, LISTED, "Cell"),
     ] {
         let log = format!(in rt.alloc(); "{head}{lemmas}{row}")?;
-        let said = format!(in rt.alloc(); "status 7 rejected\n{line}")?;
+        let said = format!(in rt.alloc(); "status 7 rejected\nlog {line}\n")?;
         let files = ["", INVERTERS, log.as_str()];
         let (got, desk) = run_over(rt.alloc(), "check - c.sp x3 l.clog", files)?;
         assert_eq!(rt; desk.all_said(), said.as_bytes());
-        assert_eq!(rt; got, Status::Rejected, "{said}");
+        assert_eq!(rt; got, Status::Rejected, "{line}");
     }
-    let log = format!(in rt.alloc(); "{HEAD}{LEMMA}{ROW}")?;
-    let said = "status 0 ok\ncell x3\ncolumns 3\ngaps 1\nwidth 4\nlemmas 1\n";
-    let (got, desk) = run_over(
-        rt.alloc(),
-        "check - c.sp X3 l.clog",
-        ["", INVERTERS, log.as_str()],
-    )?;
-    assert_eq!(rt; desk.all_said(), said.as_bytes());
-    assert_eq!(rt; got, Status::Done, "{said}");
     Ok(())
 }
 

@@ -147,10 +147,9 @@ fn routes_rows(rt: HostRuntime) -> Result<(), Fail> {
     Ok(())
 }
 
-// A net above another at one line.
+// Pins a b c cn vdd gnd: a stands above b at line 2.
 #[test]
-fn routes_rows_with_a_constraint(rt: HostRuntime) -> Result<(), Fail> {
-    // pins a b c cn vdd gnd: a stands above b at line 2
+fn routes_a_transmission_gate(rt: HostRuntime) -> Result<(), Fail> {
     let gate = routed(
         rt.alloc(),
         &[n_alone(2, (0, 1)), p_alone(3, (0, 1))],
@@ -169,7 +168,12 @@ fn routes_rows_with_a_constraint(rt: HostRuntime) -> Result<(), Fail> {
         ),
         "transmission gate"
     );
-    // pins e d q vdd gnd, then en p1 m n1: p1 stands above m at line 6
+    Ok(())
+}
+
+// Pins e d q vdd gnd, then en p1 m n1: p1 stands above m at line 6.
+#[test]
+fn routes_a_latch(rt: HostRuntime) -> Result<(), Fail> {
     let latch = routed(
         rt.alloc(),
         &[
