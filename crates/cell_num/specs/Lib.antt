@@ -1,5 +1,9 @@
 pub mod Fingers
 pub mod Length
+pub mod Lines
+pub mod Lists
 pub mod Names
 pub mod Pins
+pub mod Room
 pub mod Steps
+pub mod Tests

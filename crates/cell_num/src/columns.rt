@@ -9,7 +9,7 @@ fn gate_count(fingers: &[Finger], gate: u32) -> usize
     fingers.iter().filter(|f| f.gate.0 == gate).count()
 }
 
-fn larger_count(fingers: &Fingers, gate: u32) -> usize
+pub fn larger_count(fingers: &Fingers, gate: u32) -> usize
     ensures { result ≡ max (on_gate gate fingers.now.p) (on_gate gate fingers.now.n) }
 {
     gate_count(fingers.p.as_slice(), gate).max(gate_count(fingers.n.as_slice(), gate))

@@ -3,21 +3,32 @@
 
 mod columns;
 mod finger;
+mod fingers;
 mod length;
+mod limits;
+mod lines;
 mod list;
 mod name;
 mod net;
+mod room;
 
 pub use columns::columns_of;
 pub use finger::{Finger, Fingers, Row};
+pub use fingers::are_fingers;
 pub use length::{Fixed, MOST_UNITS, snap};
+pub use limits::{MOST_BYTES, MOST_COLUMNS, MOST_FINGERS, MOST_NETS};
+pub use lines::{put_count, put_number, put_pair, put_text};
 pub use list::{List, NoMemory};
 pub use name::{MOST_NAME_BYTES, copy, is_name, lower};
 pub use net::{NetNo, Pins};
+pub use room::Room;
 
 pub type FingerList = List<Finger>;
 
-/// Text, as its bytes.
+/// Bytes of any kind.
+pub type Bytes = List<u8>;
+
+/// A name, as its bytes.
 pub type Name = List<u8>;
 
 pub type Names = List<Name>;

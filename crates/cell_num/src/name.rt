@@ -12,24 +12,18 @@ pub const MOST_NAME_BYTES: usize = 64;
 pub fn copy(alloc: Global, text: &[u8]) -> Result<Name, NoMemory>
     ensures { IfOk result (λ n. n ≡ text.now) }
 {
-    match Vec::from_slice(alloc, text) {
-        Ok(bytes) => Ok(Name::from_vec(bytes)),
-        Err(_) => Err(NoMemory),
-    }
+    Ok(Name::from_vec(Vec::from_slice(alloc, text)?))
 }
 
 /// A copy with its letters in lower case.
 pub fn lower(alloc: Global, text: &[u8]) -> Result<Name, NoMemory>
     ensures { IfOk result (λ n. n ≡ lowered text.now) }
 {
-    match text
+    let bytes = text
         .iter()
         .map(|b| b.to_ascii_lowercase())
-        .collect::<Vec<u8>>(alloc)
-    {
-        Ok(bytes) => Ok(Name::from_vec(bytes)),
-        Err(_) => Err(NoMemory),
-    }
+        .collect::<Vec<u8>>(alloc)?;
+    Ok(Name::from_vec(bytes))
 }
 
 fn name_byte(byte: u8) -> bool

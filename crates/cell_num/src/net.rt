@@ -1,3 +1,6 @@
+ghost use Rattle.std.specs.Prelude.{◌↔◌, IsTrue};
+ghost use Rattle.cell_num.specs.Pins.{IsRail};
+
 /// A net, by its number.
 #[derive(Clone, Copy, Debug, PartialEq, Eq, PartialOrd, Ord)]
 pub struct NetNo(pub u32);
@@ -8,4 +11,13 @@ pub struct Pins {
     pub pins: u32,
     pub vdd: NetNo,
     pub gnd: NetNo,
+}
+
+impl Pins {
+    /// Whether the net is one of the two rails.
+    pub fn is_rail(&self, net: NetNo) -> bool
+        ensures { IsTrue result ↔ IsRail self.now net }
+    {
+        net == self.vdd || net == self.gnd
+    }
 }

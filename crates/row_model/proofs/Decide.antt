@@ -12,17 +12,12 @@ use Rattle.row_model.specs.declared.column.Placed.{Placed}
 use Rattle.row_model.specs.declared.column.Column.{Column}
 use Rattle.cell_num.specs.Fingers.{columns_of}
 use Rattle.row_model.specs.Arrangement.{IsArrangement, IsPlaced, AreOneColumn, IsColumn, fingers_in}
-use Rattle.row_model.specs.Tests.{arrangement_test, placed_test, column_test, same_row, same_finger}
-use Rattle.row_model.proofs.Permutations.{counts_decide}
+use Rattle.cell_num.proofs.Decide.{row_decides}
+use Rattle.row_model.specs.Tests.{arrangement_test, placed_test, column_test, same_finger}
+use Rattle.cell_num.proofs.Permutations.{counts_decide}
 
 pub net_decides : (a b : NetNo) → Decides (a.0 == b.0) (a ≡ b)
 net_decides a b = Decides-like _ (λ e. ap (λ (n : ℕ). let r : NetNo = record { 0 = n } in r) e) (λ e. ap (λ (n : NetNo). n.0) e) (Decides-eqb a.0 b.0)
-
-pub row_decides : (a b : Row) → Decides (same_row a b) (a ≡ b)
-row_decides P P = (λ _. refl, λ _. refl)
-row_decides P N = (λ e. cc, λ e. cc)
-row_decides N P = (λ e. cc, λ e. cc)
-row_decides N N = (λ _. refl, λ _. refl)
 
 make : Row → NetNo → NetNo → NetNo → ℕ → Finger
 make r g l h w = record { row = r; gate = g; lo = l; hi = h; width = w }

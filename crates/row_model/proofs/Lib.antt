@@ -1,3 +1,2 @@
 pub mod Decide
 mod Examples
-pub mod Permutations

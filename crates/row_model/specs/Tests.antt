@@ -1,19 +1,14 @@
 -- Tests that compute the facts of an arrangement.
-use Rattle.std.specs.Prelude.{◌||◌, ◌&&◌, ◌==◌, Bool, true, false, not, List, Option, Some, None, length, count_by}
+use Rattle.std.specs.Prelude.{◌||◌, ◌&&◌, ◌==◌, Bool, false, not, List, Option, Some, None, length, count_by}
 use Rattle.std.specs.List.{list_all}
-use Rattle.cell_num.specs.declared.finger.Row.{Row}
 use Rattle.cell_num.specs.declared.finger.Row.TheVariants.{P, N}
 use Rattle.cell_num.specs.declared.finger.Finger.{Finger}
 use Rattle.cell_num.specs.declared.finger.Fingers.{Fingers}
 use Rattle.cell_num.specs.Fingers.{columns_of}
+use Rattle.cell_num.specs.Tests.{same_row}
 use Rattle.row_model.specs.declared.column.Placed.{Placed}
 use Rattle.row_model.specs.declared.column.Column.{Column}
 use Rattle.row_model.specs.Arrangement.{fingers_in}
-
-abbrev pub same_row : Row → Row → Bool
-same_row P P = true
-same_row N N = true
-same_row _ _ = false
 
 abbrev pub same_finger : Finger → Finger → Bool
 same_finger a b = same_row a.row b.row && (a.gate.0 == b.gate.0) && (a.lo.0 == b.lo.0) && (a.hi.0 == b.hi.0) && (a.width == b.width)

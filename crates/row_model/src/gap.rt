@@ -2,6 +2,7 @@ ghost use Rattle.std.specs.Prelude.{◌≡◌, ◌≤◌, length};
 ghost use Rattle.row_model.specs.Gaps.{facing_differs, is_gap, gaps_of};
 
 use crate::{Arrangement, Column, Placed};
+use cell_num::MOST_FINGERS;
 
 fn differs(before: &Option<Placed>, after: &Option<Placed>) -> bool
     ensures { result ≡ facing_differs before.now after.now }
@@ -22,7 +23,7 @@ pub fn has_gap(before: &Column, after: &Column) -> bool
 
 /// The number of neighbouring columns with a gap between them.
 pub fn gaps(row: &Arrangement) -> u32
-    requires { length row.now ≤ 64 }
+    requires { length row.now ≤ MOST_FINGERS }
     ensures { result ≡ gaps_of row.now }
 {
     let columns = row.as_slice();
