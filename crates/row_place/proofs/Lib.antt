@@ -2,5 +2,7 @@ pub mod Bounds
 mod Gates
 pub mod Lists
 mod Nodes
-mod Placed
-pub mod Seats
+pub mod Pins
+pub mod Placed
+pub mod Seated
+pub mod Units
