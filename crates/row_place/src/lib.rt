@@ -6,7 +6,7 @@ pub mod placement;
 pub mod places;
 mod seat;
 
-pub use laws::rows_on_lines;
+pub use laws::{one_placement, rows_on_lines};
 pub use placement::{
     GateList, GatePlace, NodeList, NodePlace, Placement, Seat, SeatList, UnitKind, UnitList,
 };
