@@ -1,10 +1,11 @@
 -- Cycles of nets that stand above each other.
-use Rattle.std.specs.Prelude.{ℕ, ◌≢◌, ◌<◌, List, [], ◌∷◌, length, All, AllPairs}
+use Rattle.std.specs.Prelude.{ℕ, ◌≡◌, ◌≢◌, ◌<◌, List, [], ◌∷◌, length, All, AllPairs, Contains}
 use Rattle.std.specs.Bool.{⊤}
 use Rattle.cell_num.specs.declared.net.NetNo.{NetNo}
 use Rattle.cell_num.specs.declared.net.Pins.{Pins}
+use Rattle.cell_num.specs.declared.finger.Row.TheVariants.{P, N}
 use Rattle.row_place.specs.declared.placement.Placement.{Placement}
-use Rattle.row_place.specs.Trunks.{IsAbove}
+use Rattle.row_place.specs.Trunks.{HasTrunk, IsAbove}
 use Rattle.channel_route.specs.declared.routing.Above.{Above}
 use Rattle.channel_route.specs.declared.routing.RouteStop.{RouteStop}
 use Rattle.channel_route.specs.declared.routing.RouteStop.TheVariants.{Cycle, NoMemory}
@@ -37,6 +38,18 @@ IsCycle placement pins cycle = IsCycleOf (IsAbove placement pins) cycle
 -- no list is a cycle
 abbrev pub HasNoCycle : Placement → Pins → Type 0
 HasNoCycle placement pins = (cycle : List Above) → IsCycle placement pins cycle → ⊥
+
+-- a net with a trunk, and node places in both rows
+pub record IsInBothRows (placement : Placement) (pins : Pins) (net : NetNo) : Type 0 where
+  pub trunk : HasTrunk placement pins net
+  pub p_line : ℕ
+  pub p : Contains placement.nodes (record { row = P; line = p_line; net = net })
+  pub n_line : ℕ
+  pub n : Contains placement.nodes (record { row = N; line = n_line; net = net })
+
+-- there is one such net at most
+abbrev pub HasOneInBothRows : Placement → Pins → Type 0
+HasOneInBothRows placement pins = (a b : NetNo) → IsInBothRows placement pins a → IsInBothRows placement pins b → a ≡ b
 
 -- what stops the router
 abbrev pub IsCause : Placement → Pins → RouteStop → Type 0

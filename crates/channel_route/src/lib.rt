@@ -5,10 +5,12 @@ pub mod channel;
 mod constraint;
 mod cycle;
 mod fill;
+pub mod laws;
 pub mod routing;
 mod wire;
 
 pub use channel::route;
+pub use laws::{no_cycle, one_routing};
 pub use routing::{Above, CycleList, RouteStop, Routing, Trunk, TrunkList};
 
 #[cfg(test)]

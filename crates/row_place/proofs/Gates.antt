@@ -10,12 +10,12 @@ use Rattle.row_model.specs.declared.column.Placed.{Placed}
 use Rattle.row_model.specs.declared.column.Column.{Column}
 use Rattle.row_model.specs.Arrangement.{place, AreOneColumn, IsColumn}
 use Rattle.row_place.specs.declared.placement.GatePlace.{GatePlace}
-use Rattle.row_place.specs.declared.seat.Seat.{Seat}
-use Rattle.row_place.specs.Units.{gap_between, unit_of}
+use Rattle.row_place.specs.declared.placement.Seat.{Seat}
+use Rattle.row_place.specs.Units.{gap_between, unit_of, seats_from, seats_of}
 use Rattle.row_place.specs.Places.{IsGate}
-use Rattle.row_place.specs.Steps.{seats_from, seats_of, gate_in, gate_of, gates_of}
+use Rattle.row_place.specs.Steps.{gate_in, gate_of, gates_of}
 use Rattle.row_place.proofs.Lists.{some_same, contains_get, contains_filter_map, Kept, kept_from, all_from_contains}
-use Rattle.row_place.proofs.Seats.{SitsAt, seat_at, seat_from, unit_from}
+use Rattle.row_place.proofs.Units.{SitsAt, seat_at, seat_from, unit_from}
 
 abbrev the_gate : ℕ → NetNo → GatePlace
 the_gate line net = record { line = line; net = net }

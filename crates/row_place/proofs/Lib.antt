@@ -1,6 +1,10 @@
+pub mod Apart
 pub mod Bounds
 mod Gates
 pub mod Lists
 mod Nodes
-mod Placed
-pub mod Seats
+pub mod Order
+pub mod Pins
+pub mod Placed
+pub mod Seated
+pub mod Units

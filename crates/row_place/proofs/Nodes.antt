@@ -12,12 +12,12 @@ use Rattle.row_model.specs.Arrangement.{place}
 use Rattle.row_model.specs.Gaps.{left_net, right_net, facing_differs, is_gap}
 use Rattle.row_model.proofs.Decide.{net_decides}
 use Rattle.row_place.specs.declared.placement.NodePlace.{NodePlace}
-use Rattle.row_place.specs.declared.seat.Seat.{Seat}
-use Rattle.row_place.specs.Units.{gap_between, units_of, unit_of}
+use Rattle.row_place.specs.declared.placement.Seat.{Seat}
+use Rattle.row_place.specs.Units.{gap_between, units_of, unit_of, seats_from, seats_of}
 use Rattle.row_place.specs.Places.{IsNode, StandsBefore}
-use Rattle.row_place.specs.Steps.{seats_from, seats_of, end_at, or_else, first_net, node_at, nodes_below}
+use Rattle.row_place.specs.Steps.{end_at, or_else, first_net, node_at, nodes_below}
 use Rattle.row_place.proofs.Lists.{some_same, contains_none, contains_cons, contains_here, contains_there, contains_option, all_from_contains}
-use Rattle.row_place.proofs.Seats.{SitsAt, seat_at, seat_from, unit_below, unit_from, next_unit}
+use Rattle.row_place.proofs.Units.{SitsAt, seat_at, seat_from, unit_below, unit_from, next_unit}
 
 -- which end is at a line
 pub record Ends (line unit : ℕ) (placed : Option Placed) (net : NetNo) : Type 0 where

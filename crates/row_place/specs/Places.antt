@@ -9,7 +9,8 @@ use Rattle.row_model.specs.Gaps.{left_net, right_net}
 use Rattle.row_place.specs.declared.placement.NodePlace.{NodePlace}
 use Rattle.row_place.specs.declared.placement.GatePlace.{GatePlace}
 use Rattle.row_place.specs.declared.placement.Placement.{Placement}
-use Rattle.row_place.specs.Units.{units_of, unit_of}
+use Rattle.row_place.specs.Units.{units_of, unit_of, seats_of}
+use Rattle.row_place.specs.Steps.{nodes_below, gates_of}
 
 -- in a row of the cell some finger has an end of this net at this node line
 pub record IsNode (row : List Column) (node : NodePlace) : Type 0 where
@@ -44,3 +45,7 @@ pub record IsPlacement (placement : Placement) : Type 0 where
   pub node_order : AllPairs StandsBefore placement.nodes
   pub gates : (gate : GatePlace) → Contains placement.gates gate ↔ IsGate placement.row gate
   pub gate_order : AllPairs (λ a b. a.line < b.line) placement.gates
+
+-- the units and the places of a row, as a value
+abbrev pub placement_of : List Column → Placement
+placement_of row = record { row = row; units = units_of row; nodes = nodes_below (seats_of row) (length (units_of row) + 1); gates = gates_of (seats_of row) }

@@ -1,24 +1,14 @@
 -- The places of a row, computed unit by unit.
-use Rattle.std.specs.Prelude.{ℕ, zero, suc, ◌+◌, ◌*◌, ◌==◌, if◌then◌else◌, List, [], ◌∷◌, ◌++◌, Option, Some, None, length, option_map, option_to_list, filter_map}
+use Rattle.std.specs.Prelude.{ℕ, zero, suc, ◌+◌, ◌*◌, ◌==◌, if◌then◌else◌, List, [], ◌∷◌, ◌++◌, Option, Some, None, option_map, option_to_list, filter_map}
 use Rattle.cell_num.specs.declared.net.NetNo.{NetNo}
 use Rattle.cell_num.specs.declared.finger.Row.{Row}
 use Rattle.cell_num.specs.declared.finger.Row.TheVariants.{P, N}
 use Rattle.row_model.specs.declared.column.Placed.{Placed}
-use Rattle.row_model.specs.declared.column.Column.{Column}
 use Rattle.row_model.specs.Arrangement.{place}
 use Rattle.row_model.specs.Gaps.{left_net, right_net}
 use Rattle.row_place.specs.declared.placement.NodePlace.{NodePlace}
 use Rattle.row_place.specs.declared.placement.GatePlace.{GatePlace}
-use Rattle.row_place.specs.declared.seat.Seat.{Seat}
-use Rattle.row_place.specs.Units.{gap_between}
-
--- the columns with their units, where the first unit that is free has this number
-abbrev pub seats_from : ℕ → Option Column → List Column → List Seat
-seats_from unit before [] = []
-seats_from unit before (column ∷ row) = record { column = column; unit = unit + length (gap_between before column) } ∷ seats_from (unit + length (gap_between before column) + 1) (Some column) row
-
-abbrev pub seats_of : List Column → List Seat
-seats_of row = seats_from 0 None row
+use Rattle.row_place.specs.declared.placement.Seat.{Seat}
 
 -- the net of the end that a finger of a unit has at a line
 abbrev pub end_at : ℕ → ℕ → Option Placed → Option NetNo

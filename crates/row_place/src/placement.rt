@@ -1,11 +1,18 @@
 use cell_num::{List, NetNo, Row};
-use row_model::Arrangement;
+use row_model::{Arrangement, Column};
 
 /// What a unit of a row is. Unit `u` has the node lines `2u` and `2u + 2` and the gate line `2u + 1`.
 #[derive(Clone, Copy, Debug, PartialEq, Eq)]
 pub enum UnitKind {
     Column,
     Gap,
+}
+
+/// A column and the unit that it is.
+#[derive(Clone, Copy, Debug)]
+pub struct Seat {
+    pub column: Column,
+    pub unit: u32,
 }
 
 /// The end of a finger at a node line, or of two fingers that share it.
@@ -24,6 +31,8 @@ pub struct GatePlace {
 }
 
 pub type UnitList = List<UnitKind>;
+
+pub type SeatList = List<Seat>;
 
 pub type NodeList = List<NodePlace>;
 

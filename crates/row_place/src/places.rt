@@ -1,13 +1,17 @@
-ghost use Rattle.std.specs.Prelude.{◌≡◌, ◌≤◌, ◌+◌, ◌++◌, ◌∷◌, [], cond, All, IfOk, OnOk, length};
-ghost use Rattle.row_model.specs.Arrangement.{IsColumn};
-ghost use Rattle.row_place.specs.Units.{gap_between, units_of};
+ghost use Rattle.std.specs.Prelude.{ℕ, ◌≡◌, ◌≤◌, ◌+◌, ◌++◌, ◌∷◌, [], cond, List, All, IfOk, OnOk, length};
+ghost use Rattle.cell_num.specs.declared.net.Pins.{Pins as APins};
+ghost use Rattle.cell_num.specs.declared.finger.Fingers.{Fingers as AFingers};
+ghost use Rattle.cell_num.specs.Pins.{ArePins};
+ghost use Rattle.cell_num.specs.Fingers.{AreSound};
+ghost use Rattle.row_model.specs.Arrangement.{IsColumn, IsArrangement};
+ghost use Rattle.row_place.specs.Units.{gap_between, units_of, seats_of};
 ghost use Rattle.row_place.specs.declared.placement.UnitKind.TheVariants.{Gap};
-ghost use Rattle.row_place.specs.Places.{IsPlacement};
-ghost use Rattle.row_place.specs.Steps.{seats_of, first_net, node_at, nodes_below, gates_of};
+ghost use Rattle.row_place.specs.Places.{IsPlacement, placement_of};
+ghost use Rattle.row_place.specs.Trunks.{HasPins};
+ghost use Rattle.row_place.specs.Steps.{first_net, node_at, nodes_below, gates_of};
 
-use crate::seat::Seat;
-use crate::{GateList, NodeList, NodePlace, Placement, UnitKind, UnitList};
-use cell_num::{List, NetNo, NoMemory, Row};
+use crate::{GateList, NodeList, NodePlace, Placement, Seat, SeatList, UnitKind, UnitList};
+use cell_num::{NetNo, NoMemory, Row};
 use row_model::{Arrangement, Column, has_gap};
 use std::alloc::Global;
 
@@ -15,7 +19,7 @@ use std::alloc::Global;
 #[derive(Drop)]
 struct Spread {
     units: UnitList,
-    seats: List<Seat>,
+    seats: SeatList,
 }
 
 fn is_behind_gap(before: &Option<Column>, column: &Column) -> bool
@@ -35,7 +39,7 @@ fn walk(alloc: Global, columns: &[Column]) -> Result<Spread, NoMemory>
     ensures few_units { IfOk result (λ s. length s.units ≤ 64) }
 {
     let mut units = UnitList::new(alloc);
-    let mut seats = List::new(alloc);
+    let mut seats = SeatList::new(alloc);
     let mut before = None;
     for column in columns {
         if is_behind_gap(&before, column) {
@@ -102,12 +106,23 @@ fn gates(alloc: Global, seats: &[Seat]) -> Result<GateList, NoMemory>
     Ok(gates)
 }
 
+/// The columns of a row of at most 32, each with the unit that it is.
+pub fn seats(alloc: Global, row: &Arrangement) -> Result<SeatList, NoMemory>
+    requires few { length row.now ≤ 32 }
+    ensures { IfOk result (λ seats. seats ≡ seats_of row.now) }
+{
+    let Spread { seats, .. } = walk(alloc, row.as_slice())?;
+    Ok(seats)
+}
+
 /// Puts a row of at most 32 columns on its lines.
 pub fn place(alloc: Global, row: &Arrangement) -> Result<Placement, NoMemory>
     requires columns { All IsColumn row.now }
     requires few { length row.now ≤ 32 }
-    ensures row { IfOk result (λ placement. placement.row ≡ row.now) }
+    ensures exact { IfOk result (λ placement. placement ≡ placement_of row.now) }
     ensures places { IfOk result IsPlacement }
+    // in an arrangement of a cell's fingers each pin other than the rails has a place
+    ensures pins { IfOk result (λ placement. (names : List (List ℕ)) (pins : APins) (f : AFingers) → AreSound names pins f → ArePins f.nets pins → IsArrangement row.now f → HasPins placement pins) }
 {
     let columns = row.as_slice();
     let mut copy = Arrangement::new(alloc);

@@ -2,16 +2,9 @@ ghost use Rattle.std.specs.Prelude.{◌≡◌, ◌≤◌};
 ghost use Rattle.row_model.specs.Arrangement.{place};
 ghost use Rattle.row_place.specs.Steps.{end_at, gate_in, gate_of};
 
-use crate::GatePlace;
+use crate::{GatePlace, Seat};
 use cell_num::{NetNo, Row};
 use row_model::Column;
-
-/// A column and the unit that it is.
-#[derive(Clone, Copy, Debug)]
-pub struct Seat {
-    pub column: Column,
-    pub unit: u32,
-}
 
 impl Seat {
     /// The net that the finger in a row has at a node line.

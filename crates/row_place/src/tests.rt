@@ -1,5 +1,5 @@
-ghost use Rattle.std.specs.Prelude.{◌≡◌, ◌≤◌, false, All, length};
-ghost use Rattle.row_model.specs.Arrangement.{IsColumn};
+ghost use Rattle.std.specs.Prelude.{◌≡◌, ◌≤◌, All, length};
+ghost use Rattle.row_model.specs.Arrangement.{IsPlaced, IsColumn};
 
 use crate::{Placement, UnitKind, place};
 use cell_num::{Finger, NetNo, NoMemory, Row};
@@ -7,14 +7,17 @@ use row_model::{Arrangement, Column, Placed};
 use std::alloc::Global;
 use std::test::Fail;
 
-const VDD: u32 = 4;
-
-const GND: u32 = 5;
-
-fn unflipped(row: Row, gate: u32, lo: u32, hi: u32) -> Placed
+// A finger with the nets at its ends from left to right; it is flipped where they fall.
+fn standing(row: Row, gate: u32, left: u32, right: u32) -> Placed
     ensures gate { result.finger.gate.0 ≡ gate }
-    ensures unflipped { result.flipped ≡ false }
+    ensures placed { IsPlaced result }
 {
+    let flipped = right < left;
+    let (lo, hi) = if flipped {
+        (right, left)
+    } else {
+        (left, right)
+    };
     Placed {
         finger: Finger {
             row,
@@ -23,34 +26,34 @@ fn unflipped(row: Row, gate: u32, lo: u32, hi: u32) -> Placed
             hi: NetNo(hi),
             width: 20,
         },
-        flipped: false,
+        flipped,
     }
 }
 
-fn p_alone(gate: u32, lo: u32, hi: u32) -> Column
+fn both(gate: u32, p: (u32, u32), n: (u32, u32)) -> Column
     ensures { IsColumn result }
 {
     Column {
-        p: Some(unflipped(Row::P, gate, lo, hi)),
+        p: Some(standing(Row::P, gate, p.0, p.1)),
+        n: Some(standing(Row::N, gate, n.0, n.1)),
+    }
+}
+
+fn p_alone(gate: u32, p: (u32, u32)) -> Column
+    ensures { IsColumn result }
+{
+    Column {
+        p: Some(standing(Row::P, gate, p.0, p.1)),
         n: None,
     }
 }
 
-fn n_alone(gate: u32, lo: u32, hi: u32) -> Column
+fn n_alone(gate: u32, n: (u32, u32)) -> Column
     ensures { IsColumn result }
 {
     Column {
         p: None,
-        n: Some(unflipped(Row::N, gate, lo, hi)),
-    }
-}
-
-fn inverter(gate: u32, output: u32) -> Column
-    ensures { IsColumn result }
-{
-    Column {
-        p: Some(unflipped(Row::P, gate, output, VDD)),
-        n: Some(unflipped(Row::N, gate, output, GND)),
+        n: Some(standing(Row::N, gate, n.0, n.1)),
     }
 }
 
@@ -81,7 +84,7 @@ fn are_gates(placement: &Placement, want: &[(u32, u32)]) -> bool {
 // A transmission gate of the gates 2 and 3 between the nets 0 and 1: its columns share a node line.
 #[test]
 fn places_half_columns(rt: HostRuntime) -> Result<(), Fail> {
-    let placement = placed(rt.alloc(), &[n_alone(2, 0, 1), p_alone(3, 0, 1)])?;
+    let placement = placed(rt.alloc(), &[n_alone(2, (0, 1)), p_alone(3, (0, 1))])?;
     assert_eq!(rt;
         placement.units.as_slice(),
         [UnitKind::Column, UnitKind::Column].as_slice()
@@ -101,29 +104,45 @@ fn places_half_columns(rt: HostRuntime) -> Result<(), Fail> {
     Ok(())
 }
 
-// Two inverters of the gates 0 and 1 and the outputs 2 and 3: a gap stands between them.
+// Inverters of the gates 0, 1 and 2 with the outputs 3, 4 and 5, vdd 6 and gnd 7. The second is
+// flipped, and shares the rails' node line with the first; a gap stands before the third.
 #[test]
-fn places_a_gap(rt: HostRuntime) -> Result<(), Fail> {
-    let placement = placed(rt.alloc(), &[inverter(0, 2), inverter(1, 3)])?;
+fn places_a_flipped_column_and_a_gap(rt: HostRuntime) -> Result<(), Fail> {
+    let placement = placed(
+        rt.alloc(),
+        &[
+            both(0, (3, 6), (3, 7)),
+            both(1, (6, 4), (7, 4)),
+            both(2, (5, 6), (5, 7)),
+        ],
+    )?;
     assert_eq!(rt;
         placement.units.as_slice(),
-        [UnitKind::Column, UnitKind::Gap, UnitKind::Column].as_slice()
+        [
+            UnitKind::Column,
+            UnitKind::Column,
+            UnitKind::Gap,
+            UnitKind::Column
+        ]
+        .as_slice()
     );
     assert!(rt;
         are_nodes(
             &placement,
             &[
-                (Row::N, 0, 2),
-                (Row::P, 0, 2),
-                (Row::N, 2, GND),
-                (Row::P, 2, VDD),
-                (Row::N, 4, 3),
-                (Row::P, 4, 3),
-                (Row::N, 6, GND),
-                (Row::P, 6, VDD),
+                (Row::N, 0, 3),
+                (Row::P, 0, 3),
+                (Row::N, 2, 7),
+                (Row::P, 2, 6),
+                (Row::N, 4, 4),
+                (Row::P, 4, 4),
+                (Row::N, 6, 5),
+                (Row::P, 6, 5),
+                (Row::N, 8, 7),
+                (Row::P, 8, 6),
             ]
         )
     );
-    assert!(rt; are_gates(&placement, &[(1, 0), (5, 1)]));
+    assert!(rt; are_gates(&placement, &[(1, 0), (3, 1), (7, 2)]));
     Ok(())
 }

@@ -1,6 +1,5 @@
 use Rattle.std.proofs.Common.{◌≡◌, ◌≤◌, ◌*◌, ◌++◌, All, length, drop}
-use Rattle.row_place.specs.Units.{units_of, units_behind}
-use Rattle.row_place.specs.Steps.{seats_of, seats_from}
+use Rattle.row_place.specs.Units.{units_of, units_behind, seats_of, seats_from}
 use Rattle.row_place.proofs.places.walk.Given as goal
 
 abbrev pub invariant-loop-column : goal.invariant-loop-column

@@ -5,9 +5,8 @@ use Rattle.std.proofs.lemmas.List.Sums.{sum_by-cons}
 use Rattle.row_model.specs.declared.column.Column.{Column}
 use Rattle.row_model.specs.Gaps.{is_gap, gaps_of}
 use Rattle.row_place.specs.declared.placement.UnitKind.TheVariants.{Column as ColumnUnit}
-use Rattle.row_place.specs.declared.seat.Seat.{Seat}
-use Rattle.row_place.specs.Units.{gap_between, units_behind, units_of, unit_of}
-use Rattle.row_place.specs.Steps.{seats_from, seats_of}
+use Rattle.row_place.specs.declared.placement.Seat.{Seat}
+use Rattle.row_place.specs.Units.{gap_between, units_behind, units_of, unit_of, seats_from, seats_of}
 use Rattle.row_place.proofs.Lists.{some_same, contains_none, contains_cons, contains_here, contains_there}
 
 -- the gap units from a column on up to the column at a place
@@ -54,7 +53,7 @@ make c u = record { column = c; unit = u }
 made : {c c' : Column} {u u' : ℕ} → c ≡ c' → u ≡ u' → make c u ≡ make c' u'
 made ec eu = cc
 
-same_seat : (a b : Seat) → a.column ≡ b.column → a.unit ≡ b.unit → a ≡ b
+pub same_seat : (a b : Seat) → a.column ≡ b.column → a.unit ≡ b.unit → a ≡ b
 unfolding make
 same_seat a b c u = made c u
 

@@ -1,0 +1,208 @@
+-- A placement has one legal and tight routing at most.
+use Rattle.std.proofs.Common.{ℕ, zero, suc, ◌≡◌, ◌<◌, ◌≤◌, List, [], ◌∷◌, inl, inr, refl, sym, ap, subst, arith, AllPairs, Contains}
+use Rattle.std.proofs.lemmas.Bool.{cases_order}
+use Rattle.std.proofs.lemmas.List.Elements.{All-contains}
+use Rattle.cell_num.specs.declared.net.NetNo.{NetNo}
+use Rattle.cell_num.specs.declared.net.Pins.{Pins}
+use Rattle.row_place.specs.declared.placement.Placement.{Placement}
+use Rattle.row_place.specs.Trunks.{lines_of, HasTrunk, IsSpan, IsAbove}
+use Rattle.row_place.proofs.Lists.{contains_none, contains_cons}
+use Rattle.row_place.proofs.Order.{same_list}
+use Rattle.channel_route.specs.declared.routing.Trunk.{Trunk}
+use Rattle.channel_route.specs.declared.routing.Routing.{Routing}
+use Rattle.channel_route.specs.Routing.{AreApart, IsLegal, IsEarlier, IsFree, IsTight}
+use Rattle.channel_route.proofs.Pairs.{Some', some_from_any, any_at, pairs_head, pairs_tail}
+use Rattle.channel_route.proofs.Unique.{IsTightFor, one_track}
+
+-- a net with a trunk
+abbrev Key : Placement → Pins → Type 0
+Key p pins = (net : NetNo) × HasTrunk p pins net
+
+found : (p : Placement) (pins : Pins) (r : Routing) → IsLegal p pins r → (k : Key p pins) → Some' (λ (t : Trunk). t.net ≡ k.0) r.trunks
+found p pins r l k = some_from_any (λ (t : Trunk). t.net ≡ k.0) r.trunks ((l.nets k.0).0 k.1)
+
+-- its trunk in a legal routing
+abbrev trunk : (p : Placement) (pins : Pins) (r : Routing) → IsLegal p pins r → Key p pins → Trunk
+trunk p pins r l k = (found p pins r l k).it
+
+-- in order of net, trunks of one net are one
+one_a_net : (trunks : List Trunk) → AllPairs (λ a b. a.net.0 < b.net.0) trunks → (a b : Trunk) → Contains trunks a → Contains trunks b → a.net ≡ b.net → a ≡ b
+one_a_net [] up a b ha hb e = absurd (contains_none a ha)
+one_a_net (t ∷ ts) up a b ha hb e =
+    elim (contains_cons t ts a ha) [
+      | inl a_first ↦ elim (contains_cons t ts b hb) [
+        | inl b_first ↦ cc
+        | inr b_rest ↦ absurd (below b b_rest (let n : t.net.0 ≡ b.net.0 = cc in n))
+      ]
+      | inr a_rest ↦ elim (contains_cons t ts b hb) [
+        | inl b_first ↦ absurd (below a a_rest (let n : t.net.0 ≡ a.net.0 = cc in n))
+        | inr b_rest ↦ one_a_net ts (pairs_tail (λ (a b : Trunk). a.net.0 < b.net.0) t ts up) a b a_rest b_rest e
+      ]
+    ]
+  where
+    below : (z : Trunk) → Contains ts z → t.net.0 ≡ z.net.0 → ⊥
+    below z there same = let less : t.net.0 < z.net.0 = All-contains (λ (z : Trunk). t.net.0 < z.net.0) ts z (pairs_head (λ (a b : Trunk). a.net.0 < b.net.0) t ts up) there in omega (arith, less, same)
+
+pub record SameSpan (a b : Trunk) : Type 0 where
+  pub net : a.net ≡ b.net
+  pub left : a.left ≡ b.left
+  pub right : a.right ≡ b.right
+
+same_span : (p : Placement) (pins : Pins) (r s : Routing) (lr : IsLegal p pins r) (ls : IsLegal p pins s) (k : Key p pins) → SameSpan (trunk p pins r lr k) (trunk p pins s ls k)
+same_span p pins r s lr ls k =
+    let a = found p pins r lr k in
+    let b = found p pins s ls k in
+    let sa : IsSpan p k.0 a.it.left a.it.right = subst (λ n. IsSpan p n a.it.left a.it.right) a.holds (All-contains (λ (t : Trunk). IsSpan p t.net t.left t.right) r.trunks a.it lr.spans a.there) in
+    let sb : IsSpan p k.0 b.it.left b.it.right = subst (λ n. IsSpan p n b.it.left b.it.right) b.holds (All-contains (λ (t : Trunk). IsSpan p t.net t.left t.right) s.trunks b.it ls.spans b.there) in
+    record {
+      net = cc;
+      left = both (All-contains (λ line. a.it.left ≤ line) (lines_of p k.0) b.it.left sa.none_before sb.begins) (All-contains (λ line. b.it.left ≤ line) (lines_of p k.0) a.it.left sb.none_before sa.begins);
+      right = both (All-contains (λ line. line ≤ b.it.right) (lines_of p k.0) a.it.right sb.none_behind sa.ends) (All-contains (λ line. line ≤ a.it.right) (lines_of p k.0) b.it.right sa.none_behind sb.ends);
+    }
+  where
+    both : {m n : ℕ} → m ≤ n → n ≤ m → m ≡ n
+    both e f = omega (arith, e, f)
+
+earlier_same : (a b c d : Trunk) → SameSpan a c → SameSpan b d → IsEarlier a b → IsEarlier c d
+earlier_same a b c d e f (inl less) = inl (omega (arith, less, e.left, f.left))
+earlier_same a b c d e f (inr (same, less)) = inr (omega (arith, same, e.left, f.left), omega (arith, less, ap (λ (n : NetNo). n.0) e.net, ap (λ (n : NetNo). n.0) f.net))
+
+apart_same : (a b c d : Trunk) → SameSpan a c → SameSpan b d → AreApart a b → AreApart c d
+apart_same a b c d e f (inl less) = inl (omega (arith, less, e.right, f.left))
+apart_same a b c d e f (inr less) = inr (omega (arith, less, e.left, f.right))
+
+apart_or_not : (a b : Trunk) → ((AreApart a b → ⊥) → ⊥) → AreApart a b
+apart_or_not a b h =
+    elim (cases_order a.right b.left) [
+      | inl same ↦ second (omega (arith, same))
+      | inr other ↦ elim other [ inl less ↦ inl less | inr more ↦ second (omega (arith, more)) ]
+    ]
+  where
+    second : b.left ≤ a.right → AreApart a b
+    second low =
+        elim (cases_order b.right a.left) [
+          | inl same ↦ absurd (h (none low (omega (arith, same))))
+          | inr other ↦ elim other [ inl less ↦ inr less | inr more ↦ absurd (h (none low (omega (arith, more)))) ]
+        ]
+      where
+        none : b.left ≤ a.right → a.left ≤ b.right → AreApart a b → ⊥
+        none e f (inl g) = omega (arith, e, g)
+        none e f (inr g) = omega (arith, f, g)
+
+flipped : (a b : Trunk) → SameSpan a b → SameSpan b a
+flipped a b e = record { net = sym e.net; left = sym e.left; right = sym e.right }
+
+abbrev Over : (p : Placement) (pins : Pins) → Key p pins → Key p pins → Type 0
+Over p pins k m = (line : ℕ) × IsAbove p pins k.0 m.0 line
+
+-- an earlier trunk that shares a line, by a routing
+abbrev Early : (p : Placement) (pins : Pins) (r : Routing) → IsLegal p pins r → Key p pins → Key p pins → Type 0
+Early p pins r l m k = IsEarlier (trunk p pins r l m) (trunk p pins r l k) × (AreApart (trunk p pins r l m) (trunk p pins r l k) → ⊥)
+
+abbrev track : (p : Placement) (pins : Pins) (r : Routing) → IsLegal p pins r → Key p pins → ℕ
+track p pins r l k = (trunk p pins r l k).track
+
+-- what tightness of a routing says of keys, where another one tells what is earlier
+tight_keys : (p : Placement) (pins : Pins) (r q : Routing) (l : IsLegal p pins r) (m : IsLegal p pins q) → IsTight p pins q → IsTightFor (Over p pins) (Early p pins r l) (track p pins q m)
+tight_keys p pins r q l m tight k = (
+  record {
+    above = λ y over. free.0.above (trunk p pins q m y) (found p pins q m y).there over.0 (subst (λ n. IsAbove p pins n (trunk p pins q m y).net over.0) (sym u.holds) (subst (λ n. IsAbove p pins k.0 n over.0) (sym (found p pins q m y).holds) over.1));
+    clear = λ y same early. early.1 (apart_same _ _ _ _ (to_r y) (to_r k) (free.0.clear (trunk p pins q m y) (found p pins q m y).there same (earlier_same _ _ _ _ (to_q y) (to_q k) early.0)));
+  },
+  λ low less f. free.1 low less (record {
+    above = λ b there line over.
+        let y : Key p pins = (b.net, over.lower_trunk) in
+        let is : trunk p pins q m y ≡ b = own b there over.lower_trunk in
+        subst (λ (z : Trunk). z.track < low) is (f.above y (line, subst (λ n. IsAbove p pins n b.net line) u.holds over));
+    clear = λ o there same early.
+        let has : HasTrunk p pins o.net = (m.nets o.net).1 (any_at (λ (t : Trunk). t.net ≡ o.net) q.trunks o there refl) in
+        let y : Key p pins = (o.net, has) in
+        let is : trunk p pins q m y ≡ o = own o there has in
+        apart_or_not o u.it (λ near. f.clear y (subst (λ (z : Trunk). z.track ≡ low) (sym is) same) (
+          earlier_same _ _ _ _ (to_r y) (to_r k) (subst (λ (z : Trunk). IsEarlier z u.it) (sym is) early),
+          λ apart. near (subst (λ (z : Trunk). AreApart z u.it) is (apart_same _ _ _ _ (to_q y) (to_q k) apart)),
+        ));
+  }),
+)
+  where
+    u : Some' (λ (t : Trunk). t.net ≡ k.0) q.trunks
+    u = found p pins q m k
+
+    free : IsFree p pins q.trunks u.it u.it.track × ((low : ℕ) → low < u.it.track → IsFree p pins q.trunks u.it low → ⊥)
+    free = tight u.it u.there
+
+    to_q : (y : Key p pins) → SameSpan (trunk p pins r l y) (trunk p pins q m y)
+    to_q y = same_span p pins r q l m y
+
+    to_r : (y : Key p pins) → SameSpan (trunk p pins q m y) (trunk p pins r l y)
+    to_r y = same_span p pins q r m l y
+
+    own : (t : Trunk) → Contains q.trunks t → (has : HasTrunk p pins t.net) → trunk p pins q m (t.net, has) ≡ t
+    own t there has = let f : Some' (λ (z : Trunk). z.net ≡ t.net) q.trunks = found p pins q m (t.net, has) in one_a_net q.trunks m.order f.it t f.there there f.holds
+
+-- from the earliest trunk on
+from_earliest : (p : Placement) (pins : Pins) (r : Routing) (l : IsLegal p pins r) (P : Key p pins → Type 0) → ((x : Key p pins) → ((y : Key p pins) → Early p pins r l y x → P y) → P x) → (x : Key p pins) → P x
+from_earliest p pins r l P step x = by_left (suc (trunk p pins r l x).left) x (omega arith)
+  where
+    by_net : (n : ℕ) → ((y : Key p pins) → (trunk p pins r l y).left < n → P y) → (m : ℕ) (x : Key p pins) → (trunk p pins r l x).left < suc n → (trunk p pins r l x).net.0 < m → P x
+    by_net n before zero x h less = absurd (omega (arith, less))
+    by_net n before (suc m) x h less = step x (λ y early. next (by_net n before m) y early.0)
+      where
+        next : ((y : Key p pins) → (trunk p pins r l y).left < suc n → (trunk p pins r l y).net.0 < m → P y) → (y : Key p pins) → IsEarlier (trunk p pins r l y) (trunk p pins r l x) → P y
+        next lesser y (inl e) = before y (omega (arith, e, h))
+        next lesser y (inr (e, f)) = lesser y (omega (arith, e, h)) (omega (arith, f, less))
+
+    by_left : (n : ℕ) (x : Key p pins) → (trunk p pins r l x).left < n → P x
+    by_left zero x h = absurd (omega (arith, h))
+    by_left (suc n) x h = by_net n (by_left n) (suc (trunk p pins r l x).net.0) x h (omega arith)
+
+make_trunk : NetNo → ℕ → ℕ → ℕ → Trunk
+make_trunk net left right track = record { net = net; left = left; right = right; track = track }
+
+made_trunk : {n m : NetNo} {a b c d e f : ℕ} → n ≡ m → a ≡ b → c ≡ d → e ≡ f → make_trunk n a c e ≡ make_trunk m b d f
+made_trunk en ea ec ee = cc
+
+trunk_same : (a b : Trunk) → SameSpan a b → a.track ≡ b.track → a ≡ b
+unfolding make_trunk
+trunk_same a b e f = made_trunk e.net e.left e.right f
+
+-- each trunk of one is in the other
+there_too : (p : Placement) (pins : Pins) (r s : Routing) → IsLegal p pins r → IsTight p pins r → IsLegal p pins s → IsTight p pins s → (t : Trunk) → Contains r.trunks t → Contains s.trunks t
+there_too p pins r s lr tr ls ts t there =
+    let has : HasTrunk p pins t.net = (lr.nets t.net).1 (any_at (λ (z : Trunk). z.net ≡ t.net) r.trunks t there refl) in
+    let k : Key p pins = (t.net, has) in
+    let mine : trunk p pins r lr k ≡ t = one_a_net r.trunks lr.order (found p pins r lr k).it t (found p pins r lr k).there there (found p pins r lr k).holds in
+    let same : track p pins r lr k ≡ track p pins s ls k = one_track (Over p pins) (Early p pins r lr) (track p pins r lr) (track p pins s ls) (from_earliest p pins r lr) (tight_keys p pins r r lr lr tr) (tight_keys p pins r s lr ls ts) k in
+    subst (λ z. Contains s.trunks z) mine (subst (λ z. Contains s.trunks z) (sym (trunk_same (trunk p pins r lr k) (trunk p pins s ls k) (same_span p pins r s lr ls k) same)) (found p pins s ls k).there)
+
+-- no more tracks
+no_more : (p : Placement) (pins : Pins) (r s : Routing) → IsLegal p pins r → IsLegal p pins s → ((t : Trunk) → Contains s.trunks t → Contains r.trunks t) → r.tracks < s.tracks → ⊥
+no_more p pins r s lr ls back less =
+    let t : Some' (λ (t : Trunk). t.track ≡ r.tracks) s.trunks = some_from_any (λ (t : Trunk). t.track ≡ r.tracks) s.trunks (ls.full r.tracks less) in
+    let low : t.it.track < r.tracks = All-contains (λ (t : Trunk). t.track < r.tracks) r.trunks t.it lr.tracks (back t.it t.there) in
+    omega (arith, low, t.holds)
+
+make : ℕ → List Trunk → Routing
+make tracks trunks = record { tracks = tracks; trunks = trunks }
+
+made : {m n : ℕ} {xs ys : List Trunk} → m ≡ n → xs ≡ ys → make m xs ≡ make n ys
+made e f = cc
+
+pub one_routing : (p : Placement) (pins : Pins) (r s : Routing) → IsLegal p pins r → IsTight p pins r → IsLegal p pins s → IsTight p pins s → r ≡ s
+unfolding make
+one_routing p pins r s lr tr ls ts = made tracks trunks
+  where
+    there : (t : Trunk) → Contains r.trunks t → Contains s.trunks t
+    there = there_too p pins r s lr tr ls ts
+
+    back : (t : Trunk) → Contains s.trunks t → Contains r.trunks t
+    back = there_too p pins s r ls ts lr tr
+
+    trunks : r.trunks ≡ s.trunks
+    trunks = same_list (λ (a b : Trunk). a.net.0 < b.net.0) (λ a b e f. omega (arith, e, f)) r.trunks s.trunks lr.order ls.order there back
+
+    tracks : r.tracks ≡ s.tracks
+    tracks = elim (cases_order r.tracks s.tracks) [
+      | inl same ↦ same
+      | inr other ↦ elim other [ inl less ↦ absurd (no_more p pins r s lr ls back less) | inr more ↦ absurd (no_more p pins s r ls lr there more) ]
+    ]

@@ -1,0 +1,17 @@
+ghost use Rattle.std.specs.Prelude.{◌≡◌};
+ghost use Rattle.cell_num.specs.declared.net.Pins.{Pins};
+ghost use Rattle.row_place.specs.declared.placement.Placement.{Placement};
+ghost use Rattle.channel_route.specs.declared.routing.Routing.{Routing};
+ghost use Rattle.channel_route.specs.Routing.{IsLegal, IsTight};
+ghost use Rattle.channel_route.specs.Cycle.{HasOneInBothRows, HasNoCycle};
+
+/// A placement has one legal and tight routing at most. It does nothing: its contract is the law.
+pub fn one_routing()
+    ensures { (placement : Placement) (pins : Pins) (a b : Routing) → IsLegal placement pins a → IsTight placement pins a → IsLegal placement pins b → IsTight placement pins b → a ≡ b }
+{}
+
+/// Each net of a cycle has node places in both rows, so there is none where only one net with a trunk
+/// has. It does nothing: its contract is the law.
+pub fn no_cycle()
+    ensures { (placement : Placement) (pins : Pins) → HasOneInBothRows placement pins → HasNoCycle placement pins }
+{}
