@@ -10,12 +10,12 @@ use Rattle.row_model.proofs.Decide.{net_decides}
 use Rattle.row_place.specs.declared.placement.NodePlace.{NodePlace}
 use Rattle.row_place.specs.declared.placement.Placement.{Placement}
 use Rattle.row_place.specs.Trunks.{HasTrunk, IsAbove}
-use Rattle.row_place.proofs.Lists.{some_same, contains_none, contains_cons, contains_here, contains_there, Kept, kept_from, contains_filter_map, all_from_contains}
+use Rattle.cell_num.proofs.Lists.{some_same, contains_none, contains_cons, contains_here, contains_there, Kept, kept_from, contains_filter_map, all_from_contains}
 use Rattle.channel_route.specs.declared.wire.Wire.{Wire}
 use Rattle.channel_route.specs.declared.constraint.Constraint.{Constraint}
 use Rattle.channel_route.specs.Graph.{IsChannel, has_net}
 use Rattle.channel_route.specs.Wires.{IsWire, AreFound, AreWires, stands_over, is_over, over, constraints_of}
-use Rattle.channel_route.proofs.Pairs.{Some', any_at, test_finds}
+use Rattle.cell_num.proofs.Pairs.{Some', any_at, test_finds}
 
 pub record From {X Y : Type 0} (f : X → List Y) (xs : List X) (y : Y) : Type 0 where
   pub it : X

@@ -5,15 +5,15 @@ use Rattle.std.proofs.lemmas.List.Elements.{All-contains}
 use Rattle.std.proofs.lemmas.List.Folds.{list_any_none}
 use Rattle.cell_num.specs.declared.net.NetNo.{NetNo}
 use Rattle.cell_num.specs.declared.net.Pins.{Pins}
-use Rattle.row_model.proofs.Permutations.{count_cons}
+use Rattle.cell_num.proofs.Permutations.{count_cons}
 use Rattle.row_place.specs.declared.placement.Placement.{Placement}
-use Rattle.row_place.proofs.Lists.{contains_here, contains_there, all_from_contains}
+use Rattle.cell_num.proofs.Lists.{contains_here, contains_there, all_from_contains}
 use Rattle.channel_route.specs.declared.routing.Trunk.{Trunk}
 use Rattle.channel_route.specs.declared.wire.Wire.{Wire}
 use Rattle.channel_route.specs.Routing.{AreApart, IsLegal, HasNoAbove, covers, IsDensity}
 use Rattle.channel_route.specs.Graph.{wire_of, IsBefore, IsBlocked}
 use Rattle.channel_route.specs.Wires.{IsWire, constraints_of}
-use Rattle.channel_route.proofs.Pairs.{Some', some_from_any, OneEach, one_each_rest, parts_differ, none_counted}
+use Rattle.cell_num.proofs.Pairs.{Some', some_from_any, OneEach, one_each_rest, parts_differ, none_counted}
 use Rattle.channel_route.proofs.Constraints.{constraint_is}
 use Rattle.channel_route.proofs.Legal.{IsDone, routing_of, legal, to_sorted, from_sorted, one_each_sorted, trunk_wire}
 use Rattle.channel_route.proofs.Turns.{count_le, count_less}

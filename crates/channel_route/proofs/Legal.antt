@@ -7,10 +7,10 @@ use Rattle.std.proofs.lemmas.List.Sorted.{Contains-permutation, IsPermutation-sy
 use Rattle.cell_num.specs.declared.net.NetNo.{NetNo}
 use Rattle.cell_num.specs.declared.net.Pins.{Pins}
 use Rattle.row_model.proofs.Decide.{net_decides}
-use Rattle.row_model.proofs.Permutations.{count_cons}
+use Rattle.cell_num.proofs.Permutations.{count_cons}
 use Rattle.row_place.specs.declared.placement.Placement.{Placement}
 use Rattle.row_place.specs.Trunks.{HasTrunk, IsSpan, IsAbove}
-use Rattle.row_place.proofs.Lists.{all_from_contains}
+use Rattle.cell_num.proofs.Lists.{all_from_contains}
 use Rattle.channel_route.specs.declared.routing.Trunk.{Trunk}
 use Rattle.channel_route.specs.declared.routing.Routing.{Routing}
 use Rattle.channel_route.specs.declared.routing.Above.{Above}
@@ -20,7 +20,7 @@ use Rattle.channel_route.specs.Routing.{AreApart, IsLegal, IsEarlier, IsFree, Is
 use Rattle.channel_route.specs.Cycle.{next_net, StandAbove, IsCycleOf, IsCycle, HasNoCycle}
 use Rattle.channel_route.specs.Graph.{wire_of, IsBefore, IsBlocked, HasTrunkBelow, IsFilled}
 use Rattle.channel_route.specs.Wires.{IsWire, AreWires, constraints_of, trunk_cmp}
-use Rattle.channel_route.proofs.Pairs.{Some', some_from_any, any_at, test_finds, OneEach, one_each_permutation, one_each_same, pairs_from_sorted}
+use Rattle.cell_num.proofs.Pairs.{Some', some_from_any, any_at, test_finds, OneEach, one_each_permutation, one_each_same, pairs_from_sorted}
 use Rattle.channel_route.proofs.Sweep.{contains_map, TrunkOf, map_contains}
 use Rattle.channel_route.proofs.Constraints.{constraint_is, constraint_there}
 use Rattle.channel_route.proofs.Wires.{cmp_less}

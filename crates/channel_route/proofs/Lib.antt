@@ -3,7 +3,6 @@ mod Crossing
 mod Density
 mod Legal
 pub mod OneRouting
-mod Pairs
 mod Sweep
 mod Turns
 pub mod Unique

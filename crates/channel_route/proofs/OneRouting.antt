@@ -6,12 +6,12 @@ use Rattle.cell_num.specs.declared.net.NetNo.{NetNo}
 use Rattle.cell_num.specs.declared.net.Pins.{Pins}
 use Rattle.row_place.specs.declared.placement.Placement.{Placement}
 use Rattle.row_place.specs.Trunks.{lines_of, HasTrunk, IsSpan, IsAbove}
-use Rattle.row_place.proofs.Lists.{contains_none, contains_cons}
+use Rattle.cell_num.proofs.Lists.{contains_none, contains_cons}
 use Rattle.row_place.proofs.Order.{same_list}
 use Rattle.channel_route.specs.declared.routing.Trunk.{Trunk}
 use Rattle.channel_route.specs.declared.routing.Routing.{Routing}
 use Rattle.channel_route.specs.Routing.{AreApart, IsLegal, IsEarlier, IsFree, IsTight}
-use Rattle.channel_route.proofs.Pairs.{Some', some_from_any, any_at, pairs_head, pairs_tail}
+use Rattle.cell_num.proofs.Pairs.{Some', some_from_any, any_at, pairs_head, pairs_tail}
 use Rattle.channel_route.proofs.Unique.{IsTightFor, one_track}
 
 -- a net with a trunk

@@ -8,13 +8,13 @@ use Rattle.std.proofs.lemmas.List.Elements.{All-contains, All-more, Contains-app
 use Rattle.std.proofs.lemmas.List.Sorted.{IsPermutation-append_right, IsPermutation-middle, IsPermutation-sym, IsPermutation-trans, Contains-permutation}
 use Rattle.cell_num.specs.declared.net.NetNo.{NetNo}
 use Rattle.row_model.proofs.Decide.{net_decides}
-use Rattle.row_place.proofs.Lists.{contains_none, contains_cons, contains_here, contains_there}
+use Rattle.cell_num.proofs.Lists.{contains_none, contains_cons, contains_here, contains_there}
 use Rattle.channel_route.specs.declared.routing.Trunk.{Trunk}
 use Rattle.channel_route.specs.declared.wire.Wire.{Wire}
 use Rattle.channel_route.specs.declared.constraint.Constraint.{Constraint}
 use Rattle.channel_route.specs.Routing.{AreApart}
 use Rattle.channel_route.specs.Graph.{wire_of, IsBefore, IsChannel, IsCrossed, IsHeld, IsBlocked, HasTrunkBelow, IsPartial, IsFilled, has_net, waits, starts_behind, has_room, HasMoved}
-use Rattle.channel_route.proofs.Pairs.{Some', some_from_any, any_at, any_append_left, test_finds, test_there, test_fails, pairs_without, pairs_behind, OneEach, one_each_permutation, parts_differ}
+use Rattle.cell_num.proofs.Pairs.{Some', some_from_any, any_at, any_append_left, test_finds, test_there, test_fails, pairs_without, pairs_behind, OneEach, one_each_permutation, parts_differ}
 
 -- lines that a track is filled to
 abbrev pub Reaches : Option ℕ → ℕ → Type 0

@@ -7,15 +7,15 @@ use Rattle.std.proofs.lemmas.List.Elements.{All-contains, All-more, All-weaker, 
 use Rattle.std.proofs.lemmas.List.Sums.{sum_by-append}
 use Rattle.std.proofs.lemmas.List.Sorted.{IsPermutation-append_comm}
 use Rattle.cell_num.specs.declared.net.NetNo.{NetNo}
-use Rattle.row_model.proofs.Permutations.{count_cons}
-use Rattle.row_place.proofs.Lists.{contains_none, contains_cons, contains_here, contains_there, all_from_contains}
+use Rattle.cell_num.proofs.Permutations.{count_cons}
+use Rattle.cell_num.proofs.Lists.{contains_none, contains_cons, contains_here, contains_there, all_from_contains}
 use Rattle.channel_route.specs.declared.routing.Above.{Above}
 use Rattle.channel_route.specs.declared.wire.Wire.{Wire}
 use Rattle.channel_route.specs.declared.constraint.Constraint.{Constraint}
 use Rattle.channel_route.specs.Cycle.{StandAbove, IsCycleOf}
 use Rattle.channel_route.specs.Graph.{has_net, waits}
 use Rattle.channel_route.specs.Turn.{IsOver, waits_at, passes, IsTurn}
-use Rattle.channel_route.proofs.Pairs.{Some', test_finds, test_there, OneEach, one_each_permutation, parts_differ, pairs_differ}
+use Rattle.cell_num.proofs.Pairs.{Some', test_finds, test_there, OneEach, one_each_permutation, parts_differ, pairs_differ}
 use Rattle.row_model.proofs.Decide.{net_decides}
 
 -- one more step of a walk

@@ -12,11 +12,11 @@ use Rattle.row_place.specs.declared.placement.NodePlace.{NodePlace}
 use Rattle.row_place.specs.declared.placement.GatePlace.{GatePlace}
 use Rattle.row_place.specs.declared.placement.Placement.{Placement}
 use Rattle.row_place.specs.Trunks.{lines_of, HasPins, HasTrunk}
-use Rattle.row_place.proofs.Lists.{contains_here, contains_there}
+use Rattle.cell_num.proofs.Lists.{contains_here, contains_there}
 use Rattle.channel_route.specs.declared.wire.Wire.{Wire}
 use Rattle.channel_route.specs.Graph.{IsBefore, has_net}
 use Rattle.channel_route.specs.Wires.{IsWire, AreFound, AreWires, wire_cmp}
-use Rattle.channel_route.proofs.Pairs.{Some', OneEach, one_each_permutation, one_each_push, pairs_from_sorted}
+use Rattle.cell_num.proofs.Pairs.{Some', OneEach, one_each_permutation, one_each_push, pairs_from_sorted}
 
 pub found_push : (p : Placement) (pins : Pins) (wires : List Wire) (w : Wire) → AreFound p pins wires → has_net wires w.net ≡ false → IsWire p pins w → AreFound p pins (wires ++ w ∷ [])
 found_push p pins wires w found new is = record {

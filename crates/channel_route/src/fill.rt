@@ -8,7 +8,7 @@ ghost use Rattle.channel_route.specs.Graph.{IsChannel, IsFilled, IsOutcome, has_
 
 use crate::Trunk;
 use crate::constraint::Constraint;
-use crate::wire::Wire;
+use crate::wire::{MOST_WIRES, Wire};
 use cell_num::NetNo;
 use std::alloc::{AllocError, Global};
 
@@ -85,7 +85,7 @@ pub fn fill(
     constraints: &[Constraint],
 ) -> Result<Filled, AllocError>
     requires channel { IsChannel wires.items constraints.now }
-    requires few { length wires.items ≤ 1024 }
+    requires few { length wires.items ≤ MOST_WIRES }
     ensures { IfOk result (IsOutcome wires.items constraints.now) }
 {
     let mut placed = Vec::new(alloc);

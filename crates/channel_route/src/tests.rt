@@ -1,29 +1,37 @@
-ghost use Rattle.std.specs.Prelude.{◌≡◌, ◌≤◌, false, true, All, IfOk, length};
-ghost use Rattle.row_model.specs.Arrangement.{IsColumn};
+ghost use Rattle.std.specs.Prelude.{◌≡◌, ◌≤◌, true, All, IfOk, length};
+ghost use Rattle.row_model.specs.Arrangement.{IsPlaced, IsColumn};
+ghost use Rattle.row_place.specs.Places.{IsPlacement};
 ghost use Rattle.row_place.specs.Trunks.{HasPins};
 
-use crate::wire::{is_rail, lines};
+use crate::constraint::{Constraint, constraints};
+use crate::wire::{lines, wires};
 use crate::{Above, RouteStop, Routing, Trunk, route};
-use cell_num::{Finger, NetNo, Pins, Row};
+use cell_num::{Finger, MOST_COLUMNS, NetNo, NoMemory, Pins, Row};
 use row_model::{Arrangement, Column, Placed};
 use row_place::{Placement, place};
 use std::alloc::{AllocError, Global};
 use std::test::Fail;
 
-// A finger that is never flipped between two nets of which one is given first.
-fn finger(row: Row, gate: u32, left: u32, right: u32) -> Placed
+// A finger with the nets at its ends from left to right; it is flipped where they fall.
+fn standing(row: Row, gate: u32, left: u32, right: u32) -> Placed
     ensures gate { result.finger.gate.0 ≡ gate }
-    ensures unflipped { result.flipped ≡ false }
+    ensures placed { IsPlaced result }
 {
+    let flipped = right < left;
+    let (lo, hi) = if flipped {
+        (right, left)
+    } else {
+        (left, right)
+    };
     Placed {
         finger: Finger {
             row,
             gate: NetNo(gate),
-            lo: NetNo(left),
-            hi: NetNo(right),
+            lo: NetNo(lo),
+            hi: NetNo(hi),
             width: 20,
         },
-        flipped: false,
+        flipped,
     }
 }
 
@@ -31,8 +39,8 @@ fn both(gate: u32, p: (u32, u32), n: (u32, u32)) -> Column
     ensures { IsColumn result }
 {
     Column {
-        p: Some(finger(Row::P, gate, p.0, p.1)),
-        n: Some(finger(Row::N, gate, n.0, n.1)),
+        p: Some(standing(Row::P, gate, p.0, p.1)),
+        n: Some(standing(Row::N, gate, n.0, n.1)),
     }
 }
 
@@ -40,7 +48,7 @@ fn p_alone(gate: u32, p: (u32, u32)) -> Column
     ensures { IsColumn result }
 {
     Column {
-        p: Some(finger(Row::P, gate, p.0, p.1)),
+        p: Some(standing(Row::P, gate, p.0, p.1)),
         n: None,
     }
 }
@@ -50,16 +58,26 @@ fn n_alone(gate: u32, n: (u32, u32)) -> Column
 {
     Column {
         p: None,
-        n: Some(finger(Row::N, gate, n.0, n.1)),
+        n: Some(standing(Row::N, gate, n.0, n.1)),
     }
 }
 
-fn are_placed(alloc: Global, placement: &Placement, pins: &Pins) -> Result<bool, AllocError>
+fn placed(alloc: Global, columns: &[Column]) -> Result<Placement, NoMemory>
+    requires columns { All IsColumn columns.now }
+    requires few { length columns.now ≤ MOST_COLUMNS }
+    ensures { IfOk result IsPlacement }
+{
+    let mut row = Arrangement::new(alloc);
+    row.extend(columns)?;
+    place(alloc, &row)
+}
+
+fn have_places(alloc: Global, placement: &Placement, pins: &Pins) -> Result<bool, AllocError>
     ensures { IfOk result (λ placed. placed ≡ true → HasPins placement.now pins.now) }
 {
     for number in 0..pins.pins {
         let net = NetNo(number);
-        if !is_rail(pins, net) && lines(alloc, placement, net)?.is_empty() {
+        if !pins.is_rail(net) && lines(alloc, placement, net)?.is_empty() {
             return Ok(false);
         }
     }
@@ -67,21 +85,24 @@ fn are_placed(alloc: Global, placement: &Placement, pins: &Pins) -> Result<bool,
 }
 
 // A pin without a place gives NoMemory, which no row of the tests expects.
-fn routed(alloc: Global, columns: &[Column], pins: &Pins) -> Result<Routing, RouteStop>
-    requires columns { All IsColumn columns.now }
-    requires few { length columns.now ≤ 32 }
+fn routed(alloc: Global, placement: &Placement, pins: &Pins) -> Result<Routing, RouteStop>
+    requires { IsPlacement placement.now }
 {
-    let mut row = Arrangement::new(alloc);
-    if row.extend(columns).is_err() {
+    if !have_places(alloc, placement, pins)? {
         return Err(RouteStop::NoMemory);
     }
-    let Ok(placement) = place(alloc, &row) else {
-        return Err(RouteStop::NoMemory);
-    };
-    if !are_placed(alloc, &placement, pins)? {
-        return Err(RouteStop::NoMemory);
+    route(alloc, placement, pins)
+}
+
+// A pin without a place gives no constraints, which no row of the tests expects.
+fn above(alloc: Global, placement: &Placement, pins: &Pins) -> Result<Vec<Constraint>, AllocError>
+    requires { IsPlacement placement.now }
+{
+    if !have_places(alloc, placement, pins)? {
+        return Ok(Vec::new(alloc));
     }
-    route(alloc, &placement, pins)
+    let wires = wires(alloc, placement, pins)?;
+    constraints(alloc, &wires, placement.nodes.as_slice())
 }
 
 fn rails_at(vdd: u32) -> Pins
@@ -122,23 +143,34 @@ fn is_cycle(answer: &Result<Routing, RouteStop>, entries: &[(u32, u32)]) -> bool
     }
 }
 
+fn are_above(constraints: &[Constraint], want: &[(u32, u32, u32)]) -> bool {
+    constraints.len() == want.len()
+        && constraints.iter().zip(want.iter()).all(|(constraint, want)| constraint.upper
+            == NetNo(want.0)
+            && constraint.lower == NetNo(want.1)
+            && constraint.line == want.2)
+}
+
 #[test]
 fn routes_rows(rt: HostRuntime) -> Result<(), Fail> {
     // pins a y vdd gnd
-    let inverter = routed(rt.alloc(), &[both(0, (1, 2), (1, 3))], &rails_at(2));
-    assert!(rt;
-        is_routing(&inverter, 1, &[trunk(0, 1, 1, 0), trunk(1, 0, 0, 0)]),
-        "inverter"
-    );
-    // pins a b y vdd gnd, and the inner net 5, which has no trunk
-    let nand = routed(
-        rt.alloc(),
-        &[both(0, (2, 3), (2, 5)), both(1, (3, 2), (5, 4))],
-        &rails_at(3),
-    );
+    let inverter = placed(rt.alloc(), &[both(0, (1, 2), (1, 3))])?;
     assert!(rt;
         is_routing(
-            &nand,
+            &routed(rt.alloc(), &inverter, &rails_at(2)),
+            1,
+            &[trunk(0, 1, 1, 0), trunk(1, 0, 0, 0)]
+        ),
+        "inverter"
+    );
+    // pins a b y vdd gnd, and the inner net 5, which has no trunk; b's fingers are flipped
+    let nand = placed(
+        rt.alloc(),
+        &[both(0, (2, 3), (2, 5)), both(1, (3, 2), (5, 4))],
+    )?;
+    assert!(rt;
+        is_routing(
+            &routed(rt.alloc(), &nand, &rails_at(3)),
             2,
             &[trunk(0, 1, 1, 1), trunk(1, 3, 3, 1), trunk(2, 0, 4, 0)]
         ),
@@ -150,14 +182,12 @@ fn routes_rows(rt: HostRuntime) -> Result<(), Fail> {
 // Pins a b c cn vdd gnd: a stands above b at line 2.
 #[test]
 fn routes_a_transmission_gate(rt: HostRuntime) -> Result<(), Fail> {
-    let gate = routed(
-        rt.alloc(),
-        &[n_alone(2, (0, 1)), p_alone(3, (0, 1))],
-        &rails_at(4),
-    );
+    let gate = placed(rt.alloc(), &[n_alone(2, (0, 1)), p_alone(3, (0, 1))])?;
+    let pins = rails_at(4);
+    assert!(rt; are_above(&above(rt.alloc(), &gate, &pins)?, &[(0, 1, 2)]));
     assert!(rt;
         is_routing(
-            &gate,
+            &routed(rt.alloc(), &gate, &pins),
             2,
             &[
                 trunk(0, 0, 2, 1),
@@ -165,16 +195,15 @@ fn routes_a_transmission_gate(rt: HostRuntime) -> Result<(), Fail> {
                 trunk(2, 1, 1, 0),
                 trunk(3, 3, 3, 1)
             ]
-        ),
-        "transmission gate"
+        )
     );
     Ok(())
 }
 
-// Pins e d q vdd gnd, then en p1 m n1: p1 stands above m at line 6.
+// Pins e d q vdd gnd, then en p1 m n1: p1 stands above m at line 6. Seven fingers are flipped.
 #[test]
 fn routes_a_latch(rt: HostRuntime) -> Result<(), Fail> {
-    let latch = routed(
+    let latch = placed(
         rt.alloc(),
         &[
             both(0, (5, 3), (5, 4)),
@@ -184,11 +213,12 @@ fn routes_a_latch(rt: HostRuntime) -> Result<(), Fail> {
             both(2, (7, 3), (7, 4)),
             both(7, (3, 2), (4, 2)),
         ],
-        &rails_at(3),
-    );
+    )?;
+    let pins = rails_at(3);
+    assert!(rt; are_above(&above(rt.alloc(), &latch, &pins)?, &[(6, 7, 6)]));
     assert!(rt;
         is_routing(
-            &latch,
+            &routed(rt.alloc(), &latch, &pins),
             3,
             &[
                 trunk(0, 1, 5, 1),
@@ -198,8 +228,7 @@ fn routes_a_latch(rt: HostRuntime) -> Result<(), Fail> {
                 trunk(6, 4, 6, 2),
                 trunk(7, 6, 11, 1),
             ]
-        ),
-        "latch"
+        )
     );
     Ok(())
 }
@@ -207,11 +236,10 @@ fn routes_a_latch(rt: HostRuntime) -> Result<(), Fail> {
 // Pins x y u v s t a b vdd gnd: x stands above y at line 0, y above x at line 4.
 #[test]
 fn finds_the_cycle(rt: HostRuntime) -> Result<(), Fail> {
-    let answer = routed(
+    let row = placed(
         rt.alloc(),
         &[both(6, (0, 2), (1, 3)), both(7, (1, 4), (0, 5))],
-        &rails_at(8),
-    );
-    assert!(rt; is_cycle(&answer, &[(0, 0), (1, 4)]));
+    )?;
+    assert!(rt; is_cycle(&routed(rt.alloc(), &row, &rails_at(8)), &[(0, 0), (1, 4)]));
     Ok(())
 }

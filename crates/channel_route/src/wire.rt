@@ -22,6 +22,9 @@ pub struct Wire {
     pub right: u32,
 }
 
+/// More wires than a row has places.
+pub const MOST_WIRES: usize = 1024;
+
 // The lines of the places of a net.
 pub fn lines(alloc: Global, placement: &Placement, net: NetNo) -> Result<Vec<u32>, AllocError>
     ensures { IfOk result (λ lines. lines.items ≡ lines_of placement.now net) }
@@ -68,16 +71,10 @@ fn greatest(lines: &[u32]) -> u32
     greatest
 }
 
-pub fn is_rail(pins: &Pins, net: NetNo) -> bool
-    ensures { IsTrue result ↔ IsRail pins.now net }
-{
-    net == pins.vdd || net == pins.gnd
-}
-
 fn is_wired(pins: &Pins, net: NetNo, places: usize) -> bool
     ensures { IsTrue result ↔ ((IsRail pins.now net → ⊥) × ((2 ≤ places) ⊎ (net.0 < pins.now.pins))) }
 {
-    !is_rail(pins, net) && (places >= 2 || net.0 < pins.pins)
+    !pins.is_rail(net) && (places >= 2 || net.0 < pins.pins)
 }
 
 fn wire_of(
@@ -141,7 +138,7 @@ pub fn wires(alloc: Global, placement: &Placement, pins: &Pins) -> Result<Vec<Wi
     requires placement { IsPlacement placement.now }
     requires pins { HasPins placement.now pins.now }
     ensures wires { IfOk result (λ wires. AreWires placement.now pins.now wires.items) }
-    ensures few { IfOk result (λ wires. length wires.items ≤ 1024) }
+    ensures few { IfOk result (λ wires. length wires.items ≤ MOST_WIRES) }
 {
     let mut wires = Vec::new(alloc);
     for node in placement.nodes.as_slice() {

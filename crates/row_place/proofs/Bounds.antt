@@ -11,7 +11,7 @@ use Rattle.row_place.specs.declared.placement.GatePlace.{GatePlace}
 use Rattle.row_place.specs.declared.placement.Placement.{Placement}
 use Rattle.row_place.specs.Units.{gap_between, units_behind, units_of, unit_of}
 use Rattle.row_place.specs.Places.{IsNode, IsGate, StandsBefore, IsPlacement}
-use Rattle.row_place.proofs.Lists.{all_from_contains}
+use Rattle.cell_num.proofs.Lists.{all_from_contains}
 use Rattle.row_place.proofs.Units.{unit_below}
 
 at_most_one : (before : Option Column) (c : Column) → length (gap_between before c) ≤ 1

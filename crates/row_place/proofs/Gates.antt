@@ -14,7 +14,7 @@ use Rattle.row_place.specs.declared.placement.Seat.{Seat}
 use Rattle.row_place.specs.Units.{gap_between, unit_of, seats_from, seats_of}
 use Rattle.row_place.specs.Places.{IsGate}
 use Rattle.row_place.specs.Steps.{gate_in, gate_of, gates_of}
-use Rattle.row_place.proofs.Lists.{some_same, contains_get, contains_filter_map, Kept, kept_from, all_from_contains}
+use Rattle.cell_num.proofs.Lists.{some_same, contains_get, contains_filter_map, Kept, kept_from, all_from_contains}
 use Rattle.row_place.proofs.Units.{SitsAt, seat_at, seat_from, unit_from}
 
 abbrev the_gate : ℕ → NetNo → GatePlace

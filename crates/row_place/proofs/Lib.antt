@@ -1,7 +1,6 @@
 pub mod Apart
 pub mod Bounds
 mod Gates
-pub mod Lists
 mod Nodes
 pub mod Order
 pub mod Pins

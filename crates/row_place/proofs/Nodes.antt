@@ -16,7 +16,7 @@ use Rattle.row_place.specs.declared.placement.Seat.{Seat}
 use Rattle.row_place.specs.Units.{gap_between, units_of, unit_of, seats_from, seats_of}
 use Rattle.row_place.specs.Places.{IsNode, StandsBefore}
 use Rattle.row_place.specs.Steps.{end_at, or_else, first_net, node_at, nodes_below}
-use Rattle.row_place.proofs.Lists.{some_same, contains_none, contains_cons, contains_here, contains_there, contains_option, all_from_contains}
+use Rattle.cell_num.proofs.Lists.{some_same, contains_none, contains_cons, contains_here, contains_there, contains_option, all_from_contains}
 use Rattle.row_place.proofs.Units.{SitsAt, seat_at, seat_from, unit_below, unit_from, next_unit}
 
 -- which end is at a line

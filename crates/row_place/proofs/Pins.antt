@@ -21,7 +21,7 @@ use Rattle.row_place.specs.declared.placement.GatePlace.{GatePlace}
 use Rattle.row_place.specs.Units.{unit_of}
 use Rattle.row_place.specs.Places.{IsNode, IsGate, placement_of}
 use Rattle.row_place.specs.Trunks.{lines_of, HasPins}
-use Rattle.row_place.proofs.Lists.{some_same, contains_none, contains_cons, Kept, kept_from}
+use Rattle.cell_num.proofs.Lists.{some_same, contains_none, contains_cons, Kept, kept_from}
 use Rattle.row_place.proofs.Nodes.{nodes_exact}
 use Rattle.row_place.proofs.Gates.{gates_exact}
 

@@ -3,7 +3,7 @@ use Rattle.std.proofs.Common.{ℕ, zero, suc, ◌≡◌, ◌+◌, List, [], ◌�
 use Rattle.row_model.specs.declared.column.Column.{Column}
 use Rattle.row_place.specs.declared.placement.Seat.{Seat}
 use Rattle.row_place.specs.Units.{gap_between, unit_of, seats_from, seats_of}
-use Rattle.row_place.proofs.Lists.{some_same}
+use Rattle.cell_num.proofs.Lists.{some_same}
 use Rattle.row_place.proofs.Units.{gaps_upto, gaps_upto_is, same_seat}
 
 abbrev seat : Column → ℕ → Seat

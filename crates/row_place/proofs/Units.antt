@@ -7,7 +7,7 @@ use Rattle.row_model.specs.Gaps.{is_gap, gaps_of}
 use Rattle.row_place.specs.declared.placement.UnitKind.TheVariants.{Column as ColumnUnit}
 use Rattle.row_place.specs.declared.placement.Seat.{Seat}
 use Rattle.row_place.specs.Units.{gap_between, units_behind, units_of, unit_of, seats_from, seats_of}
-use Rattle.row_place.proofs.Lists.{some_same, contains_none, contains_cons, contains_here, contains_there}
+use Rattle.cell_num.proofs.Lists.{some_same, contains_none, contains_cons, contains_here, contains_there}
 
 -- the gap units from a column on up to the column at a place
 abbrev pub gaps_upto : Option Column → List Column → ℕ → ℕ

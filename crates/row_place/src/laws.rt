@@ -7,6 +7,8 @@ ghost use Rattle.row_place.specs.declared.placement.Placement.{Placement};
 ghost use Rattle.row_place.specs.Units.{gap_between, units_of, unit_of, seats_of};
 ghost use Rattle.row_place.specs.Places.{IsNode, IsGate, IsPlacement, placement_of};
 
+use cell_num::MOST_COLUMNS;
+
 /// Each column of a row has the unit that its place gives; node lines and gate lines alternate. It does
 /// nothing: its contract is the law.
 pub fn rows_on_lines()
@@ -18,8 +20,8 @@ pub fn rows_on_lines()
     ensures alternate { (row : List Column) (node : NodePlace) (gate : GatePlace) → IsNode row node → IsGate row gate → node.line ≢ gate.line }
 {}
 
-/// A row of at most 32 columns has one placement. It does nothing: its contract is the law.
+/// A row of at most `MOST_COLUMNS` columns has one placement. It does nothing: its contract is the law.
 pub fn one_placement()
-    ensures is { (row : List Column) → All IsColumn row → length row ≤ 32 → IsPlacement (placement_of row) }
+    ensures is { (row : List Column) → All IsColumn row → length row ≤ MOST_COLUMNS → IsPlacement (placement_of row) }
     ensures only { (placement : Placement) → IsPlacement placement → placement ≡ placement_of placement.row }
 {}

@@ -1,5 +1,8 @@
-use cell_num::{List, NetNo, Row};
+use cell_num::{List, MOST_COLUMNS, NetNo, Row};
 use row_model::{Arrangement, Column};
+
+/// More units than a row has: before each of its columns there is at most one gap.
+pub const MOST_UNITS: usize = 2 * MOST_COLUMNS;
 
 /// What a unit of a row is. Unit `u` has the node lines `2u` and `2u + 2` and the gate line `2u + 1`.
 #[derive(Clone, Copy, Debug, PartialEq, Eq)]

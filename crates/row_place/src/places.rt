@@ -10,8 +10,10 @@ ghost use Rattle.row_place.specs.Places.{IsPlacement, placement_of};
 ghost use Rattle.row_place.specs.Trunks.{HasPins};
 ghost use Rattle.row_place.specs.Steps.{first_net, node_at, nodes_below, gates_of};
 
-use crate::{GateList, NodeList, NodePlace, Placement, Seat, SeatList, UnitKind, UnitList};
-use cell_num::{NetNo, NoMemory, Row};
+use crate::{
+    GateList, MOST_UNITS, NodeList, NodePlace, Placement, Seat, SeatList, UnitKind, UnitList,
+};
+use cell_num::{MOST_COLUMNS, NetNo, NoMemory, Row};
 use row_model::{Arrangement, Column, has_gap};
 use std::alloc::Global;
 
@@ -32,11 +34,11 @@ fn is_behind_gap(before: &Option<Column>, column: &Column) -> bool
 }
 
 fn walk(alloc: Global, columns: &[Column]) -> Result<Spread, NoMemory>
-    requires { length columns.now ≤ 32 }
+    requires { length columns.now ≤ MOST_COLUMNS }
     ensures units { IfOk result (λ s. s.units ≡ units_of columns.now) }
     ensures seats { IfOk result (λ s. s.seats ≡ seats_of columns.now) }
-    ensures few { IfOk result (λ s. All (λ seat. seat.unit ≤ 64) s.seats) }
-    ensures few_units { IfOk result (λ s. length s.units ≤ 64) }
+    ensures few { IfOk result (λ s. All (λ seat. seat.unit ≤ MOST_UNITS) s.seats) }
+    ensures few_units { IfOk result (λ s. length s.units ≤ MOST_UNITS) }
 {
     let mut units = UnitList::new(alloc);
     let mut seats = SeatList::new(alloc);
@@ -58,7 +60,7 @@ fn walk(alloc: Global, columns: &[Column]) -> Result<Spread, NoMemory>
 
 // The net at a node line of a row. All ends that meet there have it.
 fn net_at(seats: &[Seat], row: Row, line: u32) -> Option<NetNo>
-    requires { All (λ seat. seat.unit ≤ 64) seats.now }
+    requires { All (λ seat. seat.unit ≤ MOST_UNITS) seats.now }
     ensures { result ≡ first_net row line seats.now }
 {
     for seat in seats {
@@ -71,7 +73,7 @@ fn net_at(seats: &[Seat], row: Row, line: u32) -> Option<NetNo>
 }
 
 fn add_node(nodes: &mut NodeList, seats: &[Seat], row: Row, line: u32) -> Result<(), NoMemory>
-    requires { All (λ seat. seat.unit ≤ 64) seats.now }
+    requires { All (λ seat. seat.unit ≤ MOST_UNITS) seats.now }
     ensures { OnOk result (nodes.new ≡ nodes.old ++ node_at row line seats.now) }
 {
     match net_at(seats, row, line) {
@@ -81,8 +83,8 @@ fn add_node(nodes: &mut NodeList, seats: &[Seat], row: Row, line: u32) -> Result
 }
 
 fn nodes(alloc: Global, seats: &[Seat], units: u32) -> Result<NodeList, NoMemory>
-    requires seats { All (λ seat. seat.unit ≤ 64) seats.now }
-    requires units { units ≤ 64 }
+    requires seats { All (λ seat. seat.unit ≤ MOST_UNITS) seats.now }
+    requires units { units ≤ MOST_UNITS }
     ensures { IfOk result (λ nodes. nodes ≡ nodes_below seats.now (units + 1)) }
 {
     let mut nodes = NodeList::new(alloc);
@@ -94,7 +96,7 @@ fn nodes(alloc: Global, seats: &[Seat], units: u32) -> Result<NodeList, NoMemory
 }
 
 fn gates(alloc: Global, seats: &[Seat]) -> Result<GateList, NoMemory>
-    requires { All (λ seat. seat.unit ≤ 64) seats.now }
+    requires { All (λ seat. seat.unit ≤ MOST_UNITS) seats.now }
     ensures { IfOk result (λ gates. gates ≡ gates_of seats.now) }
 {
     let mut gates = GateList::new(alloc);
@@ -106,19 +108,19 @@ fn gates(alloc: Global, seats: &[Seat]) -> Result<GateList, NoMemory>
     Ok(gates)
 }
 
-/// The columns of a row of at most 32, each with the unit that it is.
+/// The columns of a row of at most `MOST_COLUMNS`, each with the unit that it is.
 pub fn seats(alloc: Global, row: &Arrangement) -> Result<SeatList, NoMemory>
-    requires few { length row.now ≤ 32 }
+    requires few { length row.now ≤ MOST_COLUMNS }
     ensures { IfOk result (λ seats. seats ≡ seats_of row.now) }
 {
     let Spread { seats, .. } = walk(alloc, row.as_slice())?;
     Ok(seats)
 }
 
-/// Puts a row of at most 32 columns on its lines.
+/// Puts a row of at most `MOST_COLUMNS` columns on its lines.
 pub fn place(alloc: Global, row: &Arrangement) -> Result<Placement, NoMemory>
     requires columns { All IsColumn row.now }
-    requires few { length row.now ≤ 32 }
+    requires few { length row.now ≤ MOST_COLUMNS }
     ensures exact { IfOk result (λ placement. placement ≡ placement_of row.now) }
     ensures places { IfOk result IsPlacement }
     // in an arrangement of a cell's fingers each pin other than the rails has a place

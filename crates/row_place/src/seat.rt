@@ -2,14 +2,14 @@ ghost use Rattle.std.specs.Prelude.{◌≡◌, ◌≤◌};
 ghost use Rattle.row_model.specs.Arrangement.{place};
 ghost use Rattle.row_place.specs.Steps.{end_at, gate_in, gate_of};
 
-use crate::{GatePlace, Seat};
+use crate::{GatePlace, MOST_UNITS, Seat};
 use cell_num::{NetNo, Row};
 use row_model::Column;
 
 impl Seat {
     /// The net that the finger in a row has at a node line.
     pub fn end_at(&self, row: Row, line: u32) -> Option<NetNo>
-        requires { self.now.unit ≤ 64 }
+        requires { self.now.unit ≤ MOST_UNITS }
         ensures { result ≡ end_at line self.now.unit (place row self.now.column) }
     {
         let placed = self.column.place(row)?;
@@ -24,7 +24,7 @@ impl Seat {
 
     /// The place of the gate.
     pub fn gate(&self) -> Option<GatePlace>
-        requires { self.now.unit ≤ 64 }
+        requires { self.now.unit ≤ MOST_UNITS }
         ensures { result ≡ gate_of self.now }
     {
         let net = gate_net(&self.column)?;

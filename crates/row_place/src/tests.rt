@@ -2,7 +2,7 @@ ghost use Rattle.std.specs.Prelude.{◌≡◌, ◌≤◌, All, length};
 ghost use Rattle.row_model.specs.Arrangement.{IsPlaced, IsColumn};
 
 use crate::{Placement, UnitKind, place};
-use cell_num::{Finger, NetNo, NoMemory, Row};
+use cell_num::{Finger, MOST_COLUMNS, NetNo, NoMemory, Row};
 use row_model::{Arrangement, Column, Placed};
 use std::alloc::Global;
 use std::test::Fail;
@@ -59,7 +59,7 @@ fn n_alone(gate: u32, n: (u32, u32)) -> Column
 
 fn placed(alloc: Global, columns: &[Column]) -> Result<Placement, NoMemory>
     requires columns { All IsColumn columns.now }
-    requires few { length columns.now ≤ 32 }
+    requires few { length columns.now ≤ MOST_COLUMNS }
 {
     let mut row = Arrangement::new(alloc);
     row.extend(columns)?;

@@ -3,7 +3,7 @@ use Rattle.channel_route.specs.declared.routing.Above.{Above}
 use Rattle.channel_route.specs.declared.wire.Wire.{Wire}
 use Rattle.channel_route.specs.Cycle.{StandAbove}
 use Rattle.channel_route.specs.Turn.{IsOver, passes, IsTurn}
-use Rattle.channel_route.proofs.Pairs.{OneEach, one_each_push}
+use Rattle.cell_num.proofs.Pairs.{OneEach, one_each_push}
 use Rattle.channel_route.proofs.Turns.{waits_there, walk_push, fewer_left, turn_ends, rest_copied}
 use Rattle.channel_route.proofs.cycle.turn.Goals as goal
 

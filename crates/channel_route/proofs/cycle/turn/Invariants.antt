@@ -2,7 +2,7 @@ use Rattle.std.proofs.Common.{◌≡◌, true, not, count_by}
 use Rattle.channel_route.specs.Cycle.{StandAbove}
 use Rattle.channel_route.specs.Graph.{has_net}
 use Rattle.channel_route.specs.Turn.{IsOver, passes}
-use Rattle.channel_route.proofs.Pairs.{OneEach}
+use Rattle.cell_num.proofs.Pairs.{OneEach}
 use Rattle.channel_route.proofs.cycle.turn.Given as goal
 
 -- a walk over different nets down to one that is left

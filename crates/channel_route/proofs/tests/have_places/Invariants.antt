@@ -2,7 +2,7 @@ use Rattle.std.proofs.Common.{◌<◌, length}
 use Rattle.cell_num.specs.declared.net.NetNo.{NetNo}
 use Rattle.cell_num.specs.Pins.{IsRail}
 use Rattle.row_place.specs.Trunks.{lines_of}
-use Rattle.channel_route.proofs.tests.are_placed.Given as goal
+use Rattle.channel_route.proofs.tests.have_places.Given as goal
 
 -- each pin so far has a place
 abbrev pub invariant-loop-number : goal.invariant-loop-number
