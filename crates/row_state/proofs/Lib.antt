@@ -13,6 +13,7 @@ pub mod Merge
 pub mod Next
 pub mod Numbers
 pub mod Runs
+pub mod SameKinds
 pub mod Sides
 pub mod Unfold
 pub mod Valid

@@ -3,6 +3,7 @@ ghost use Rattle.cell_num.specs.declared.finger.Row.{Row};
 ghost use Rattle.cell_num.specs.Fingers.{AreFingers, IsFinger};
 ghost use Rattle.row_model.specs.declared.column.Column.{Column};
 ghost use Rattle.row_model.specs.Arrangement.{IsArrangement};
+ghost use Rattle.row_state.specs.declared.kind.Kinds.{Kinds as KindsOf};
 ghost use Rattle.row_state.specs.Completion.{Completes};
 ghost use Rattle.row_state.specs.Start.{AreKinds, AreKindsOf, AreSomeKinds, start_of};
 ghost use Rattle.row_state.specs.Tests.{IsSingle, is_same_kind, kind_cmp, merged, merged_all, single};
@@ -102,17 +103,27 @@ fn kinds_of(alloc: Global, fingers: &[Finger]) -> Result<KindList, NoMemory>
     Ok(kinds)
 }
 
-/// The kinds of the fingers.
+// The kinds of both rows, in order.
 #[tactic(auto, using(crate::proofs::KindsOf::few_fingers))]
-pub fn kinds(alloc: Global, fingers: &Fingers) -> Result<Kinds, NoMemory>
+fn kinds_of_rows(alloc: Global, fingers: &Fingers) -> Result<Kinds, NoMemory>
     requires { AreFingers fingers.now }
-    ensures kinds { IfOk result (λ k. AreKinds fingers.now k) }
-    ensures sound { IfOk result (λ k. AreSomeKinds k) }
-    ensures arranges { IfOk result (λ k. (row : Sequence Column) → IsArrangement row fingers.now ↔ Completes k (start_of k) row) }
+    ensures { IfOk result (λ k. AreKinds fingers.now k × AreSomeKinds k) }
 {
     Ok(Kinds {
         nets: fingers.nets,
         p: kinds_of(alloc, fingers.p.as_slice())?,
         n: kinds_of(alloc, fingers.n.as_slice())?,
     })
+}
+
+/// The kinds of the fingers. No other lists of kinds in order are theirs.
+pub fn kinds(alloc: Global, fingers: &Fingers) -> Result<Kinds, NoMemory>
+    requires { AreFingers fingers.now }
+    ensures kinds { IfOk result (λ k. AreKinds fingers.now k) }
+    ensures sound { IfOk result (λ k. AreSomeKinds k) }
+    ensures only { IfOk result (λ k. (other : KindsOf) → AreKinds fingers.now other → AreSomeKinds other → other ≡ k) }
+    ensures arranges { IfOk result (λ k. (row : Sequence Column) → IsArrangement row fingers.now ↔ Completes k (start_of k) row) }
+{
+    let kinds = kinds_of_rows(alloc, fingers)?;
+    Ok(kinds)
 }
