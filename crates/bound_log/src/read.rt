@@ -7,10 +7,10 @@ ghost use Rattle.bound_log.specs.Line.{is_word};
 ghost use Rattle.bound_log.specs.Reading.{behind, columns_at, end_at, lines_in, log_at, log_of, named_at};
 ghost use Rattle.bound_log.specs.Text.{log_text};
 
-use crate::line::{Entry, read_column, read_entry};
+use crate::line::{read_column, read_entry};
 use crate::lines::first_line;
 use crate::word::is_word;
-use crate::{Best, LemmaList, Log, LogFault, LogSteps};
+use crate::{Best, Entry, LemmaList, Log, LogFault, LogSteps};
 use cell_num::Name;
 use row_state::Kinds;
 use std::alloc::Global;
