@@ -5,7 +5,7 @@ ghost use Rattle.row_model.specs.Arrangement.{IsArrangement};
 ghost use Rattle.row_model.specs.Gaps.{gaps_of};
 ghost use Rattle.row_state.specs.Start.{AreKinds, AreSomeKinds, start_of};
 ghost use Rattle.log_check.specs.Accepted.{AreJustified, BestPasses, IsAccepted, IsTrueOf, Lists, WithKinds, best_of};
-ghost use Rattle.log_check.specs.Known.{Knows};
+ghost use Rattle.log_check.specs.Known.{Knows, best_known};
 ghost use Rattle.log_check.specs.declared.refused.Refused.TheVariants as because;
 ghost use Rattle.log_check.specs.Refusal.{BestRefuses, LemmasRefuse, Proves, Refuses};
 
@@ -45,7 +45,7 @@ fn check_lemmas<B: RowBound>(
 
 fn start_best(alloc: Global, kinds: &Kinds, known: &Known) -> Result<u32, NoMemory>
     requires kinds { AreSomeKinds kinds.now }
-    ensures { IfOk result (λ best. best ≡ known.now kinds.now (start_of kinds.now)) }
+    ensures { IfOk result (λ best. best ≡ best_known known.now kinds.now (start_of kinds.now)) }
 {
     let first = start(alloc, kinds)?;
     Ok(known.best(kinds, &first))

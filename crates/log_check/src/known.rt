@@ -5,30 +5,18 @@ ghost use Rattle.row_state.specs.declared.kind.Kinds.{Kinds as KindsOf};
 ghost use Rattle.row_state.specs.declared.state.State.{State as StateOf};
 ghost use Rattle.row_state.specs.Start.{AreSomeKinds, IsState};
 ghost use Rattle.log_check.specs.Accepted.{raised};
+ghost use Rattle.log_check.specs.Known.{best_known};
 
 use cell_num::NoMemory;
 use row_state::{Kinds, State, code};
 use std::alloc::Global;
 use std::collections::BTreeMap;
-use std::marker::Model;
 
 /// The best bound of each state that was noted, for the kinds that the states are of.
 #[derive(Drop)]
 pub struct Known {
     // By the number of the state.
     bounds: BTreeMap<u128, u32>,
-}
-
-impl Model for Known {
-    ghost use Rattle.std.specs.Prelude.{ℕ};
-    ghost use Rattle.std.specs.Ordering.{nat_cmp};
-    ghost use Rattle.std.specs.BTreeMap.{get};
-    ghost use Rattle.row_state.specs.declared.kind.Kinds.{Kinds};
-    ghost use Rattle.row_state.specs.declared.state.State.{State};
-    ghost use Rattle.log_check.specs.Known.{bound_in};
-
-    ghost Value = { Kinds → State → ℕ };
-    ghost view = { λ known. bound_in (get nat_cmp known.bounds) };
 }
 
 fn kept(bounds: &BTreeMap<u128, u32>, number: u128) -> u32
@@ -50,7 +38,7 @@ fn keep(bounds: &mut BTreeMap<u128, u32>, number: u128, bound: u32) -> Result<()
 
 impl Known {
     pub fn new(alloc: Global) -> Known
-        ensures { (k : KindsOf) (s : StateOf) → result k s ≡ 0 }
+        ensures { (k : KindsOf) (s : StateOf) → best_known result k s ≡ 0 }
     {
         Known {
             bounds: BTreeMap::new(alloc),
@@ -61,7 +49,7 @@ impl Known {
     pub fn best(&self, kinds: &Kinds, state: &State) -> u32
         requires kinds { AreSomeKinds kinds.now }
         requires state { IsState kinds.now state.now }
-        ensures { result ≡ self.now kinds.now state.now }
+        ensures { result ≡ best_known self.now kinds.now state.now }
     {
         kept(&self.bounds, code(state, kinds))
     }
@@ -70,8 +58,8 @@ impl Known {
     pub fn note(&mut self, kinds: &Kinds, state: &State, bound: u32) -> Result<(), NoMemory>
         requires kinds { AreSomeKinds kinds.now }
         requires state { IsState kinds.now state.now }
-        ensures raised { OnOk result ((s : StateOf) → IsState kinds.now s → self.new kinds.now s ≡ raised state.now bound s (self.old kinds.now s)) }
-        ensures unchanged { OnErr result ((k : KindsOf) (s : StateOf) → self.new k s ≡ self.old k s) }
+        ensures raised { OnOk result ((s : StateOf) → IsState kinds.now s → best_known self.new kinds.now s ≡ raised state.now bound s (best_known self.old kinds.now s)) }
+        ensures unchanged { OnErr result ((k : KindsOf) (s : StateOf) → best_known self.new k s ≡ best_known self.old k s) }
     {
         let number = code(state, kinds);
         let most = kept(&self.bounds, number).max(bound);

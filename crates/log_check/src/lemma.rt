@@ -2,6 +2,7 @@ ghost use Rattle.std.specs.Prelude.{◌↔◌, IsTrue, IfOk};
 ghost use Rattle.row_state.specs.Start.{AreSomeKinds, IsState};
 ghost use Rattle.row_state.specs.Steps.{IsPossible};
 ghost use Rattle.log_check.specs.Accepted.{StepReaches, BranchReaches, IsJustified};
+ghost use Rattle.log_check.specs.Known.{best_known};
 
 use crate::Known;
 use bound_log::{Lemma, Rule};
@@ -23,7 +24,7 @@ fn step_reaches(
     requires kinds { AreSomeKinds kinds.now }
     requires state { IsState kinds.now state.now }
     requires step { IsPossible kinds.now state.now step.now }
-    ensures { IfOk result (λ yes. IsTrue yes ↔ StepReaches kinds.now (known.now kinds.now) state.now bound step.now) }
+    ensures { IfOk result (λ yes. IsTrue yes ↔ StepReaches kinds.now (best_known known.now kinds.now) state.now bound step.now) }
 {
     let next = after(alloc, state, step, kinds)?;
     let reached = u64::from(step_cost(state, step, kinds)) + u64::from(known.best(kinds, &next));
@@ -40,7 +41,7 @@ fn branch_reaches(
 ) -> Result<bool, NoMemory>
     requires kinds { AreSomeKinds kinds.now }
     requires state { IsState kinds.now state.now }
-    ensures { IfOk result (λ yes. IsTrue yes ↔ BranchReaches kinds.now (known.now kinds.now) state.now bound) }
+    ensures { IfOk result (λ yes. IsTrue yes ↔ BranchReaches kinds.now (best_known known.now kinds.now) state.now bound) }
 {
     let steps = successors(alloc, state, kinds)?;
     for step in steps.as_slice() {
@@ -60,7 +61,7 @@ pub(crate) fn is_justified<B: RowBound>(
     bound: &B,
 ) -> Result<bool, NoMemory>
     requires kinds { AreSomeKinds kinds.now }
-    ensures { IfOk result (λ yes. IsTrue yes ↔ IsJustified (B.value bound.now) kinds.now (known.now kinds.now) lemma.now) }
+    ensures { IfOk result (λ yes. IsTrue yes ↔ IsJustified (B.value bound.now) kinds.now (best_known known.now kinds.now) lemma.now) }
 {
     if !is_state(&lemma.state, kinds) {
         return Ok(false);
