@@ -1,5 +1,5 @@
 -- How a search ended: what its log proves, and what holds of the log in either case.
-use Rattle.std.specs.Prelude.{ℕ, ◌≡◌, ◌<◌, ◌≤◌, ◌+◌, List, Result, Ok, Err, IsNone, All, length, slice_index_or}
+use Rattle.std.specs.Prelude.{ℕ, ◌≡◌, ◌<◌, ◌≤◌, ◌+◌, List, Result, Err, IsNone, All, length, slice_index_or}
 use Rattle.cell_num.specs.declared.finger.Row.{Row}
 use Rattle.cell_num.specs.declared.finger.Row.TheVariants.{P, N}
 use Rattle.cell_num.specs.declared.finger.Fingers.{Fingers}
@@ -18,7 +18,7 @@ use Rattle.bound_log.specs.Fits.{Fits}
 use Rattle.log_check.specs.Accepted.{AreJustified, IsAccepted, Lists, best_of}
 use Rattle.row_search.specs.declared.found.Found.{Found}
 use Rattle.row_search.specs.declared.found.Stop.{Stop}
-use Rattle.row_search.specs.declared.found.Stop.TheVariants.{Unfinished, NoMemory}
+use Rattle.row_search.specs.declared.found.Stop.TheVariants.{Unfinished}
 use Rattle.row_search.specs.Enough.{enough}
 use Rattle.row_search.specs.Reached.{IsWithin}
 

@@ -1,7 +1,6 @@
 -- What one visit of a state promises.
 use Rattle.std.specs.Prelude.{ℕ, ◌≡◌, ◌≤◌, ◌<◌, ◌+◌, ◌++◌, ◌⊎◌, List, All, length}
 use Rattle.cell_num.specs.declared.finger.Row.{Row}
-use Rattle.cell_num.specs.declared.finger.Row.TheVariants.{P, N}
 use Rattle.row_model.specs.declared.column.Column.{Column}
 use Rattle.row_state.specs.declared.kind.Kinds.{Kinds}
 use Rattle.row_state.specs.declared.state.State.{State}

@@ -120,13 +120,18 @@ fn ended(alloc: Global, nets: u32, pairs: &[Pair], budget: u64) -> Result<String
 // The outputs stand behind the gates, the rails behind the outputs.
 const INVERTERS: [Pair; 3] = [(0, 3, 6, 7), (1, 4, 6, 7), (2, 5, 6, 7)];
 
+// Fingers of the P row begin and end on one net.
+const RINGS: [Pair; 3] = [(0, 4, 4, 5), (1, 3, 3, 5), (2, 4, 4, 5)];
+
 #[test]
 fn finds_rows(rt: HostRuntime) -> Result<(), Fail> {
     let alloc = rt.alloc();
-    let rows: [(u32, &[Pair], u64, &str); 6] = [
+    let rows: [(u32, &[Pair], u64, &str); 7] = [
         (4, &[(0, 1, 2, 3)], 1, "proved 0 by 0"),
         (4, &[(0, 1, 2, 3)], 2, "0 0/0 2: 0uu"),
         (6, &[(0, 2, 4, 5), (1, 3, 4, 5)], 3, "0 0/0 3: 0uu 1ff"),
+        // A state whose bound is kept takes no node, so that the last node is left for another.
+        (6, &RINGS, 8, "proved 1 by 8"),
         (8, &INVERTERS, 1, "proved 1 by 1"),
         (8, &INVERTERS, 4, "proved 1 by 1"),
         (8, &INVERTERS, 5, "1 0/1 5: 0uu 1uu 2ff"),
