@@ -14,7 +14,7 @@ use crate::known::Known;
 use crate::lemma::is_justified;
 use crate::listed::check_row;
 use bound_log::{Best, Lemma, Log};
-use cell_num::{Fingers, NoMemory};
+use cell_num::{Fingers, MOST_BYTES, NoMemory};
 use row_state::{Kinds, RowBound, kinds, start};
 use std::alloc::Global;
 
@@ -26,7 +26,7 @@ fn check_lemmas<B: RowBound>(
     bound: &B,
 ) -> Result<Known, Refused>
     requires kinds { AreSomeKinds kinds.now }
-    requires few { length lemmas.now ≤ 1073741824 }
+    requires few { length lemmas.now ≤ MOST_BYTES }
     ensures passes { IfOk result (λ known. AreJustified (B.value bound.now) kinds.now lemmas.now × Knows kinds.now known lemmas.now) }
     ensures refuses { IfErr result (LemmasRefuse (B.value bound.now) kinds.now lemmas.now) }
 {
@@ -77,7 +77,7 @@ fn check<B: RowBound>(
 ) -> Result<u32, Refused>
     requires fingers { AreFingers fingers.now }
     requires kinds { AreSomeKinds kinds.now }
-    requires few { length log.now.lemmas ≤ 1073741824 }
+    requires few { length log.now.lemmas ≤ MOST_BYTES }
     ensures accepted { IfOk result (IsAccepted (B.value bound.now) kinds.now fingers.now log.now) }
     ensures refused { IfErr result (Refuses (B.value bound.now) kinds.now fingers.now log.now) }
 {
@@ -88,7 +88,7 @@ fn check<B: RowBound>(
 }
 
 /// The gaps of the row that the log certifies, where the log is accepted: no arrangement of the
-/// fingers has fewer. Else the first cause to refuse it. At most 1,073,741,824 lemmas.
+/// fingers has fewer. Else the first cause to refuse it. At most [`MOST_BYTES`] lemmas.
 pub fn check_log<B: RowBound>(
     alloc: Global,
     fingers: &Fingers,
@@ -96,7 +96,7 @@ pub fn check_log<B: RowBound>(
     bound: &B,
 ) -> Result<u32, Refused>
     requires fingers { AreFingers fingers.now }
-    requires few { length log.now.lemmas ≤ 1073741824 }
+    requires few { length log.now.lemmas ≤ MOST_BYTES }
     ensures accepted { IfOk result (λ gaps. WithKinds fingers.now (λ k. IsAccepted (B.value bound.now) k fingers.now log.now gaps)) }
     ensures refused { IfErr result (λ fault. fault ≢ because.NoMemory → WithKinds fingers.now (λ k. Refuses (B.value bound.now) k fingers.now log.now fault)) }
     ensures arranges { IfOk result (λ gaps. WithKinds fingers.now (λ k. Lists k log.now.best (λ row. IsArrangement row fingers.now × (gaps ≡ gaps_of row)))) }

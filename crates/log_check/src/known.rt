@@ -30,10 +30,8 @@ fn keep(bounds: &mut BTreeMap<u128, u32>, number: u128, bound: u32) -> Result<()
     ensures others { OnOk result ((q : ℕ) → q ≢ number → get nat_cmp bounds.new q ≡ get nat_cmp bounds.old q) }
     ensures unchanged { OnErr result ((q : ℕ) → get nat_cmp bounds.new q ≡ get nat_cmp bounds.old q) }
 {
-    match bounds.insert(number, bound) {
-        Ok(_) => Ok(()),
-        Err(_) => Err(NoMemory),
-    }
+    bounds.insert(number, bound)?;
+    Ok(())
 }
 
 impl Known {
@@ -63,9 +61,7 @@ impl Known {
     {
         let number = code(state, kinds);
         let most = kept(&self.bounds, number).max(bound);
-        match keep(&mut self.bounds, number, most) {
-            Ok(()) => Ok(()),
-            Err(_) => Err(NoMemory),
-        }
+        keep(&mut self.bounds, number, most)?;
+        Ok(())
     }
 }

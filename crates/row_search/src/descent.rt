@@ -7,7 +7,7 @@ ghost use Rattle.row_search.specs.Visit.{AreKept, HasFailed, HasFound, HasSpent,
 
 use crate::progress::Progress;
 use bound_log::Rule;
-use cell_num::{NoMemory, Row};
+use cell_num::{MOST_COLUMNS, NoMemory, Row};
 use row_state::{Kinds, RowBound, State, Steps, after, has_fingers, step_cost, successors};
 use std::alloc::Global;
 
@@ -64,7 +64,7 @@ pub(crate) fn visit<B: RowBound>(
 ) -> Result<Option<Steps>, Halt>
     requires kinds { AreSomeKinds task.now.kinds.now }
     requires state { IsState task.now.kinds.now state.now }
-    requires few { allowed ≤ 64 }
+    requires few { allowed ≤ MOST_COLUMNS }
     requires nodes { progress.old.nodes ≤ task.now.budget }
     requires lemmas { AreKept (B.value task.now.bound.now) task.now.kinds.now progress.old.lemmas }
     requires knows { KnowsAll task.now.kinds.now progress.old }

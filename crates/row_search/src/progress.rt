@@ -12,10 +12,7 @@ use std::alloc::Global;
 fn copied(state: &State) -> Result<State, NoMemory>
     ensures { IfOk result (λ copy. copy ≡ state.now) }
 {
-    match state.clone() {
-        Ok(copy) => Ok(copy),
-        Err(_) => Err(NoMemory),
-    }
+    Ok(state.clone()?)
 }
 
 /// What a search has come to.

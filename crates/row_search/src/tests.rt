@@ -1,43 +1,10 @@
-ghost use Rattle.std.specs.Prelude.{◌≤◌, All, IsTrue, length};
-ghost use Rattle.cell_num.specs.Fingers.{AreFingers, IsFinger};
-
 use crate::{Found, Stop, search};
 use bound_log::{Lemma, Rule};
-use cell_num::{Finger, FingerList, Fingers, NetNo, NoMemory, Row};
+use cell_num::{Finger, FingerList, Fingers, NetNo, NoMemory, Row, are_fingers};
 use row_model::{Column, Placed};
 use row_state::Parity;
 use std::alloc::{AllocError, Global};
 use std::test::Fail;
-
-fn is_sound(finger: &Finger, row: Row, nets: u32) -> bool
-    ensures { IsTrue result → IsFinger row nets finger.now }
-{
-    finger.row == row && finger.lo.0 <= finger.hi.0 && finger.gate.0 < nets && finger.hi.0 < nets
-}
-
-fn all_sound(fingers: &[Finger], row: Row, nets: u32) -> bool
-    ensures { IsTrue result → All (IsFinger row nets) fingers.now }
-{
-    for finger in fingers {
-        if !is_sound(finger, row, nets) {
-            return false;
-        }
-    }
-    true
-}
-
-#[tactic(auto, using(row_state::proofs::Examples::are_fingers))]
-fn are_sound(fingers: &Fingers) -> bool
-    ensures { IsTrue result → AreFingers fingers.now }
-{
-    if !all_sound(fingers.p.as_slice(), Row::P, fingers.nets) {
-        return false;
-    }
-    if !all_sound(fingers.n.as_slice(), Row::N, fingers.nets) {
-        return false;
-    }
-    fingers.nets <= 256 && fingers.p.len() <= 16 && fingers.n.len() <= 16
-}
 
 // A P and an N finger of one gate: the gate, the lower end of both, the higher end of each.
 type Pair = (u32, u32, u32, u32);
@@ -104,7 +71,7 @@ fn row_text(alloc: Global, found: &Found) -> Result<String, AllocError> {
 
 fn ended(alloc: Global, nets: u32, pairs: &[Pair], budget: u64) -> Result<String, Fail> {
     let rows = fingers(alloc, nets, pairs)?;
-    if !are_sound(&rows) {
+    if !are_fingers(&rows) {
         return Ok(String::from_str(alloc, "unsound")?);
     }
     let told = match search(alloc, &rows, &Parity, budget) {

@@ -3,7 +3,6 @@ pub mod StateAfter
 pub mod Fewest
 pub mod Calls
 pub mod Codes
-pub mod Examples
 pub mod Exists
 pub mod KindsOf
 pub mod Keys

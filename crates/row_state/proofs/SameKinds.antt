@@ -22,7 +22,8 @@ use Rattle.row_state.specs.Order.{KeyBefore, KindBefore, kind_key}
 use Rattle.row_state.specs.Start.{AreKinds, AreSomeKinds, IsKind, counts_of}
 use Rattle.row_state.proofs.Keys.{key_trans}
 use Rattle.row_state.proofs.Left.{IsPermutation-uncons}
-use Rattle.row_state.proofs.Lists.{all_imply, contains_here, pairs_head, pairs_tail}
+use Rattle.cell_num.proofs.Lists.{all_imply, contains_here}
+use Rattle.cell_num.proofs.Pairs.{pairs_head, pairs_tail}
 
 abbrev finger_key : Finger → List ℕ
 finger_key f = f.gate.0 ∷ f.lo.0 ∷ f.hi.0 ∷ f.width ∷ []

@@ -9,7 +9,7 @@ ghost use Rattle.row_state.specs.Start.{AreKinds, AreKindsOf, AreSomeKinds, star
 ghost use Rattle.row_state.specs.Tests.{IsSingle, is_same_kind, kind_cmp, merged, merged_all, single};
 
 use crate::{Kind, KindList, Kinds};
-use cell_num::{Finger, Fingers, NoMemory};
+use cell_num::{Finger, Fingers, MOST_COLUMNS, MOST_FINGERS, NoMemory};
 use std::alloc::{AllocError, Global};
 
 // The finger as a kind of its own.
@@ -51,7 +51,7 @@ fn is_same(a: &Kind, b: &Kind) -> bool
 
 // The kind joins the current one, or takes its place.
 fn join(kinds: &mut KindList, current: &mut Kind, kind: &Kind) -> Result<(), NoMemory>
-    requires few { current.old.count ≤ 64 }
+    requires few { current.old.count ≤ MOST_FINGERS }
     requires one { kind.now.count ≤ 1 }
     ensures joined { OnOk result ((rest : Sequence Kind) → kinds.new ++ merged current.new rest ≡ kinds.old ++ merged current.old (kind.now ∷ rest)) }
     ensures count { OnOk result (current.new.count ≤ current.old.count + 1) }
@@ -67,7 +67,7 @@ fn join(kinds: &mut KindList, current: &mut Kind, kind: &Kind) -> Result<(), NoM
 
 // Neighbours of one kind are counted together.
 fn merge(alloc: Global, first: &Kind, rest: &[Kind]) -> Result<KindList, NoMemory>
-    requires few { length rest.now ≤ 60 }
+    requires few { length rest.now ≤ MOST_COLUMNS }
     requires one { first.now.count ≤ 1 }
     requires ones { All IsSingle rest.now }
     ensures { IfOk result (λ kinds. kinds ≡ merged first.now rest.now) }
@@ -82,7 +82,7 @@ fn merge(alloc: Global, first: &Kind, rest: &[Kind]) -> Result<KindList, NoMemor
 }
 
 fn merge_all(alloc: Global, kinds: &[Kind]) -> Result<KindList, NoMemory>
-    requires few { length kinds.now ≤ 60 }
+    requires few { length kinds.now ≤ MOST_COLUMNS }
     requires ones { All IsSingle kinds.now }
     ensures { IfOk result (λ all. all ≡ merged_all kinds.now) }
 {
@@ -93,12 +93,10 @@ fn merge_all(alloc: Global, kinds: &[Kind]) -> Result<KindList, NoMemory>
 }
 
 fn kinds_of(alloc: Global, fingers: &[Finger]) -> Result<KindList, NoMemory>
-    requires few { length fingers.now ≤ 60 }
+    requires few { length fingers.now ≤ MOST_COLUMNS }
     ensures { IfOk result (λ kinds. (row : Row) (nets : ℕ) → All (IsFinger row nets) fingers.now → AreKindsOf row nets fingers.now kinds) }
 {
-    let Ok(singles) = sorted_singles(alloc, fingers) else {
-        return Err(NoMemory);
-    };
+    let singles = sorted_singles(alloc, fingers)?;
     let kinds = merge_all(alloc, &singles)?;
     Ok(kinds)
 }
