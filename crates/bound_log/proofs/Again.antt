@@ -18,7 +18,7 @@ use Rattle.bound_log.specs.declared.log.Rule.{Rule}
 use Rattle.bound_log.specs.declared.log.Rule.TheVariants as by
 use Rattle.bound_log.specs.declared.log.Lemma.{Lemma}
 use Rattle.bound_log.specs.declared.log.LogStep.{LogStep}
-use Rattle.bound_log.specs.declared.line.Entry.TheVariants as entry
+use Rattle.bound_log.specs.declared.log.Entry.TheVariants as entry
 use Rattle.bound_log.specs.Fits.{IsFilled, LemmaFits, SideFits, StepFits}
 use Rattle.bound_log.specs.Line.{counts_each, counts_in, end_in, entry_in, flip_in, is_word, column_in, number_below, parts_at, rule_in, side_in, state_in, words_in}
 use Rattle.bound_log.specs.Text.{counts_text, end_text, flip_text, rule_text}

@@ -14,8 +14,8 @@ use Rattle.bound_log.specs.declared.fault.LogFault.TheVariants as fault
 use Rattle.bound_log.specs.declared.log.Lemma.{Lemma}
 use Rattle.bound_log.specs.declared.log.LogStep.{LogStep}
 use Rattle.bound_log.specs.declared.log.Log.{Log}
-use Rattle.bound_log.specs.declared.line.Entry.{Entry}
-use Rattle.bound_log.specs.declared.line.Entry.TheVariants as entry
+use Rattle.bound_log.specs.declared.log.Entry.{Entry}
+use Rattle.bound_log.specs.declared.log.Entry.TheVariants as entry
 use Rattle.bound_log.specs.Fits.{Fits, LemmaFits, StepFits}
 use Rattle.bound_log.specs.Line.{entry_in, gaps_in, is_word, lemma_in, column_in, words_in}
 use Rattle.bound_log.specs.Reading.{begun_by, behind, columns_at, end_at, lines_in, log_at, log_of, named_at, text_at}

@@ -13,8 +13,8 @@ use Rattle.bound_log.specs.declared.log.Rule.{Rule}
 use Rattle.bound_log.specs.declared.log.Rule.TheVariants as by
 use Rattle.bound_log.specs.declared.log.Lemma.{Lemma}
 use Rattle.bound_log.specs.declared.log.LogStep.{LogStep}
-use Rattle.bound_log.specs.declared.line.Entry.{Entry}
-use Rattle.bound_log.specs.declared.line.Entry.TheVariants as entry
+use Rattle.bound_log.specs.declared.log.Entry.{Entry}
+use Rattle.bound_log.specs.declared.log.Entry.TheVariants as entry
 
 -- steps that may each find nothing
 infixl 10 ◌>>=◌

@@ -6,8 +6,8 @@ use Rattle.bound_log.specs.declared.fault.LogFault.{LogFault}
 use Rattle.bound_log.specs.declared.fault.LogFault.TheVariants as fault
 use Rattle.bound_log.specs.declared.log.LogStep.{LogStep}
 use Rattle.bound_log.specs.declared.log.Log.{Log}
-use Rattle.bound_log.specs.declared.line.Entry.{Entry}
-use Rattle.bound_log.specs.declared.line.Entry.TheVariants as entry
+use Rattle.bound_log.specs.declared.log.Entry.{Entry}
+use Rattle.bound_log.specs.declared.log.Entry.TheVariants as entry
 use Rattle.bound_log.specs.Line.{entry_in, is_word, column_in, parts_at, words_in}
 
 abbrev pub without_last : List (List ℕ) → List (List ℕ)

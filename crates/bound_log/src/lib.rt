@@ -10,7 +10,7 @@ mod word;
 mod write;
 
 pub use fault::LogFault;
-pub use log::{Best, Lemma, LemmaList, Log, LogStep, LogSteps, Rule};
+pub use log::{Best, Entry, Lemma, LemmaList, Log, LogStep, LogSteps, Rule};
 pub use read::read_log;
 pub use write::write_log;
 

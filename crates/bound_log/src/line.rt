@@ -4,18 +4,10 @@ ghost use Rattle.row_state.specs.Tests.{state_test};
 ghost use Rattle.bound_log.specs.Line.{column_in, counts_each, counts_in, entry_in, gaps_in, lemma_in, parts_at, state_in, step_in, words_in};
 
 use crate::word::{end, is_word, number_below, parts, rule, side};
-use crate::{Lemma, LogStep};
+use crate::{Entry, Lemma, LogStep};
 use cell_num::{NetNo, NoMemory};
 use row_state::{Counts, Kind, Kinds, State, Step, is_state};
 use std::alloc::Global;
-
-/// A line of the lemmas, or the one that ends them.
-#[derive(Debug, Drop)]
-pub(crate) enum Entry {
-    Lemma(Lemma),
-    Gaps(u32),
-    Open,
-}
 
 #[tactic(auto, using(crate::proofs::Counts::next_count, crate::proofs::Counts::bad_count, crate::proofs::Counts::all_counts))]
 fn counts_of_words(

@@ -19,6 +19,15 @@ pub struct Lemma {
 
 pub type LemmaList = List<Lemma>;
 
+/// What a line says behind the name: a lemma, or what follows the lemmas: the gaps of a row whose columns
+/// are listed, or that none is.
+#[derive(Debug, Drop)]
+pub enum Entry {
+    Lemma(Lemma),
+    Gaps(u32),
+    Open,
+}
+
 /// A column of the row, by its gate and the kinds of its fingers.
 #[derive(Clone, Copy, Debug, PartialEq, Eq)]
 pub struct LogStep {

@@ -7,11 +7,11 @@ ghost use Rattle.bound_log.specs.Line.{is_word};
 ghost use Rattle.bound_log.specs.Reading.{behind, columns_at, end_at, lines_in, log_at, log_of, named_at};
 ghost use Rattle.bound_log.specs.Text.{log_text};
 
-use crate::line::{Entry, read_column, read_entry};
+use crate::line::{read_column, read_entry};
 use crate::lines::first_line;
 use crate::word::is_word;
-use crate::{Best, LemmaList, Log, LogFault, LogSteps};
-use cell_num::Name;
+use crate::{Best, Entry, LemmaList, Log, LogFault, LogSteps};
+use cell_num::{MOST_BYTES, Name};
 use row_state::Kinds;
 use std::alloc::Global;
 
@@ -114,7 +114,7 @@ fn is_named(line: &[u8], name: &Name) -> bool
 }
 
 fn read_named(alloc: Global, bytes: &[u8], name: &Name, kinds: &Kinds) -> Result<Log, LogFault>
-    requires few { length bytes.now ≤ 1073741824 }
+    requires few { length bytes.now ≤ MOST_BYTES }
     requires kinds { AreSomeKinds kinds.now }
     ensures log { IfOk result (λ log. named_at name.now kinds.now (lines_in bytes.now) (behind bytes.now) ≡ Ok log) }
     ensures fault { IfErr result (λ f. f ≢ fault.NoMemory → named_at name.now kinds.now (lines_in bytes.now) (behind bytes.now) ≡ Err f) }
@@ -131,7 +131,7 @@ fn read_named(alloc: Global, bytes: &[u8], name: &Name, kinds: &Kinds) -> Result
 
 #[tactic(auto, unfolding(crate::specs::Reading::log_of))]
 fn read_text(alloc: Global, bytes: &[u8], name: &Name, kinds: &Kinds) -> Result<Log, LogFault>
-    requires few { length bytes.now ≤ 1073741824 }
+    requires few { length bytes.now ≤ MOST_BYTES }
     requires kinds { AreSomeKinds kinds.now }
     ensures log { IfOk result (λ log. log_of bytes.now name.now kinds.now ≡ Ok log) }
     ensures fault { IfErr result (λ f. f ≢ fault.NoMemory → log_of bytes.now name.now kinds.now ≡ Err f) }
@@ -147,10 +147,10 @@ fn read_text(alloc: Global, bytes: &[u8], name: &Name, kinds: &Kinds) -> Result<
 }
 
 /// The log of which the bytes are the text, for the cell of that name and the kinds of its fingers. The
-/// name has 1 to 32 bytes and no line feed, and there are at most 1,073,741,824 bytes.
+/// name has 1 to 32 bytes and no line feed, and there are at most [`MOST_BYTES`] bytes.
 pub fn read_log(alloc: Global, bytes: &[u8], name: &Name, kinds: &Kinds) -> Result<Log, LogFault>
     requires name { IsLogName name.now }
-    requires few { length bytes.now ≤ 1073741824 }
+    requires few { length bytes.now ≤ MOST_BYTES }
     requires kinds { AreSomeKinds kinds.now }
     // The log of the definition, or its first fault; memory may run out.
     ensures log { IfOk result (λ log. log_of bytes.now name.now kinds.now ≡ Ok log) }

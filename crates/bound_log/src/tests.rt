@@ -1,9 +1,8 @@
 ghost use Rattle.std.specs.Prelude.{◌≢◌, All, IsTrue};
-ghost use Rattle.cell_num.specs.Fingers.{AreFingers, IsFinger};
 ghost use Rattle.bound_log.specs.Fits.{IsLogName};
 
 use crate::{LogFault, read_log, write_log};
-use cell_num::{Finger, FingerList, Fingers, Name, NetNo, NoMemory, Row};
+use cell_num::{Finger, FingerList, Fingers, Name, NetNo, NoMemory, Row, are_fingers};
 use row_state::kinds;
 use std::alloc::{AllocError, Global};
 use std::test::Fail;
@@ -16,36 +15,6 @@ fn finger(row: Row, gate: u32, lo: u32, hi: u32, width: u32) -> Finger {
         hi: NetNo(hi),
         width,
     }
-}
-
-fn is_sound(finger: &Finger, row: Row, nets: u32) -> bool
-    ensures { IsTrue result → IsFinger row nets finger.now }
-{
-    finger.row == row && finger.lo.0 <= finger.hi.0 && finger.gate.0 < nets && finger.hi.0 < nets
-}
-
-fn all_sound(fingers: &[Finger], row: Row, nets: u32) -> bool
-    ensures { IsTrue result → All (IsFinger row nets) fingers.now }
-{
-    for finger in fingers {
-        if !is_sound(finger, row, nets) {
-            return false;
-        }
-    }
-    true
-}
-
-#[tactic(auto, using(row_state::proofs::Examples::are_fingers))]
-fn are_sound(fingers: &Fingers) -> bool
-    ensures { IsTrue result → AreFingers fingers.now }
-{
-    if !all_sound(fingers.p.as_slice(), Row::P, fingers.nets) {
-        return false;
-    }
-    if !all_sound(fingers.n.as_slice(), Row::N, fingers.nets) {
-        return false;
-    }
-    fingers.nets <= 256 && fingers.p.len() <= 16 && fingers.n.len() <= 16
 }
 
 // Three inverters with the gates 0, 1, 2, the outputs 3, 4, 5 and the rails 6, 7.
@@ -97,7 +66,7 @@ fn answer(alloc: Global, text: &[u8]) -> Result<String, Fail> {
     let fingers = inverters(alloc)?;
     let mut name = Name::new(alloc);
     name.extend(b"x3")?;
-    if !are_sound(&fingers) || !is_log_name(&name) || 1000 < text.len() {
+    if !are_fingers(&fingers) || !is_log_name(&name) || 1000 < text.len() {
         return Ok(String::from_str(alloc, "unsound")?);
     }
     let log = match read_log(alloc, text, &name, &kinds(alloc, &fingers)?) {

@@ -2,25 +2,16 @@ ghost use Rattle.std.specs.Prelude.{◌≡◌, ◌≢◌, ◌≤◌, ◌<◌, �
 ghost use Rattle.bound_log.specs.Line.{end_in, flip_in, is_word, number_below, parts_at, place_in, rule_in, side_in};
 
 use crate::Rule;
-use cell_num::{NetNo, NoMemory};
+use cell_num::{MOST_COLUMNS, NetNo};
 use itoa::Buffer;
 use row_state::{Kind, Side};
 use std::alloc::{AllocError, Global};
 
-fn parts_of(alloc: Global, text: &[u8], byte: u8) -> Result<Vec<&[u8]>, AllocError>
+/// The parts of a text between one byte and the next of its kind.
+pub(crate) fn parts(alloc: Global, text: &[u8], byte: u8) -> Result<Vec<&[u8]>, AllocError>
     ensures { IfOk result (λ parts. map (λ part. part.now) parts.items ≡ parts_at byte text.now) }
 {
     text.split(|b| *b == byte).collect(alloc)
-}
-
-/// The parts of a text between one byte and the next of its kind.
-pub(crate) fn parts(alloc: Global, text: &[u8], byte: u8) -> Result<Vec<&[u8]>, NoMemory>
-    ensures { IfOk result (λ parts. map (λ part. part.now) parts.items ≡ parts_at byte text.now) }
-{
-    match parts_of(alloc, text, byte) {
-        Ok(parts) => Ok(parts),
-        Err(_) => Err(NoMemory),
-    }
 }
 
 pub(crate) fn is_word(word: &[u8], other: &[u8]) -> bool
@@ -111,7 +102,7 @@ fn no_side(flipped: bool) -> Option<Option<Side>>
 }
 
 fn some_side(word: &[u8], kinds: usize, flipped: bool) -> Option<Option<Side>>
-    requires { kinds ≤ 60 }
+    requires { kinds ≤ MOST_COLUMNS }
     ensures { result ≡ option_map (λ n. Some (record { kind = n; flipped = flipped })) (number_below kinds word.now) }
 {
     match number_below(word, kinds as u64) {
@@ -121,7 +112,7 @@ fn some_side(word: &[u8], kinds: usize, flipped: bool) -> Option<Option<Side>>
 }
 
 fn place(kinds: &[Kind], word: &[u8], flipped: bool) -> Option<Option<Side>>
-    requires { length kinds.now ≤ 60 }
+    requires { length kinds.now ≤ MOST_COLUMNS }
     ensures { result ≡ place_in kinds.now word.now flipped }
 {
     if is_word(word, b"-") {
@@ -132,7 +123,7 @@ fn place(kinds: &[Kind], word: &[u8], flipped: bool) -> Option<Option<Side>>
 }
 
 pub(crate) fn side(kinds: &[Kind], word: &[u8], flip_word: &[u8]) -> Option<Option<Side>>
-    requires { length kinds.now ≤ 60 }
+    requires { length kinds.now ≤ MOST_COLUMNS }
     ensures { result ≡ side_in kinds.now word.now flip_word.now }
 {
     let flipped = flip(flip_word)?;

@@ -1,5 +1,5 @@
 -- What is kept by number is the best bound of each valid state.
-use Rattle.std.proofs.Common.{ℕ, ◌≡◌, ◌≢◌, ◌<◌, ◌+◌, true, false, cond, List, [], ◌∷◌, ◌++◌, Option, Some, None, length, max, take, get_or, inl, inr, sym, ap, subst, ◌∙◌}
+use Rattle.std.proofs.Common.{ℕ, ◌≡◌, ◌≢◌, ◌<◌, ◌+◌, true, false, cond, List, [], ◌∷◌, ◌++◌, Option, Some, length, max, take, get_or, inl, inr, sym, ap, subst, ◌∙◌}
 use Rattle.std.specs.Prelude.{unwrap_or}
 use Rattle.std.proofs.lemmas.Bool.{cases_Bool, cases_eq}
 use Rattle.std.proofs.lemmas.List.{take_more}
@@ -11,14 +11,15 @@ use Rattle.row_state.specs.Start.{IsState}
 use Rattle.row_state.proofs.Codes.{state_same}
 use Rattle.bound_log.specs.declared.log.Lemma.{Lemma}
 use Rattle.log_check.specs.Accepted.{same_state, raised, better}
-use Rattle.log_check.specs.Known.{known_best, Knows}
+use Rattle.log_check.specs.declared.known.Known.{Known}
+use Rattle.log_check.specs.Known.{bound_in, best_known, Knows}
 use Rattle.log_check.proofs.Sound.{same_state_is, same_state_from}
 
 differs : (x s : State) → (x ≡ s → ⊥) → same_state x s ≡ false
 differs x s other = elim (cases_Bool (same_state x s)) [ inl same ↦ absurd (other (same_state_is x s same)) | inr e ↦ e ]
 
 -- a bound is kept under the number of its state, and nothing else changes
-pub one_raised : (k : Kinds) (old new : ℕ → Option ℕ) (x : State) (bound number best : ℕ) → IsState k x → number ≡ state_code k x → best ≡ max (unwrap_or (old number) 0) bound → new number ≡ Some best → ((q : ℕ) → q ≢ number → new q ≡ old q) → (s : State) → IsState k s → known_best new k s ≡ raised x bound s (known_best old k s)
+pub one_raised : (k : Kinds) (old new : ℕ → Option ℕ) (x : State) (bound number best : ℕ) → IsState k x → number ≡ state_code k x → best ≡ max (unwrap_or (old number) 0) bound → new number ≡ Some best → ((q : ℕ) → q ≢ number → new q ≡ old q) → (s : State) → IsState k s → bound_in new k s ≡ raised x bound s (bound_in old k s)
 one_raised k old new x bound number best valid is most here others s state =
     elim (cases_eq (state_code k s) number) [
       | inl e ↦
@@ -27,23 +28,23 @@ one_raised k old new x bound number best valid is most here others s state =
           ∙ ap (λ o. unwrap_or o 0) here
           ∙ most
           ∙ ap (λ q. max (unwrap_or (old q) 0) bound) (sym e)
-          ∙ ap (λ b. cond b (max (known_best old k s) bound) (known_best old k s)) (sym same)
+          ∙ ap (λ b. cond b (max (bound_in old k s) bound) (bound_in old k s)) (sym same)
       | inr ne ↦
           let other : same_state x s ≡ false = differs x s (λ same. ne (ap (state_code k) (sym same) ∙ sym is)) in
           ap (λ o. unwrap_or o 0) (others (state_code k s) ne)
-          ∙ ap (λ b. cond b (max (known_best old k s) bound) (known_best old k s)) (sym other)
+          ∙ ap (λ b. cond b (max (bound_in old k s) bound) (bound_in old k s)) (sym other)
     ]
 
--- nothing is kept, and there are no lemmas
-pub knows_none : (k : Kinds) (table : ℕ → Option ℕ) → ((q : ℕ) → table q ≡ None) → Knows k table []
-knows_none k table none s state = ap (λ o. unwrap_or o 0) (none (state_code k s))
+-- nothing was noted, and there are no lemmas
+pub knows_none : (k : Kinds) (known : Known) → ((k : Kinds) (s : State) → best_known known k s ≡ 0) → Knows k known []
+knows_none k known none s state = none k s
 
 -- one lemma more
-pub knows_more : (k : Kinds) (old new : ℕ → Option ℕ) (lemmas : List Lemma) (x : Lemma) → Knows k old lemmas → ((s : State) → IsState k s → known_best new k s ≡ raised x.state x.bound s (known_best old k s)) → Knows k new (lemmas ++ x ∷ [])
+pub knows_more : (k : Kinds) (old new : Known) (lemmas : List Lemma) (x : Lemma) → Knows k old lemmas → ((s : State) → IsState k s → best_known new k s ≡ raised x.state x.bound s (best_known old k s)) → Knows k new (lemmas ++ x ∷ [])
 knows_more k old new lemmas x before noted s state =
     noted s state ∙ ap (λ best. raised x.state x.bound s best) (before s state) ∙ sym (fold-append (better s) 0 lemmas (x ∷ []))
 
-pub knows_at : (k : Kinds) (old new : ℕ → Option ℕ) (lemmas : List Lemma) (at : ℕ) (x : Lemma) → Knows k old (take at lemmas) → ((s : State) → IsState k s → known_best new k s ≡ raised x.state x.bound s (known_best old k s)) → x ≡ get_or lemmas at x → at < length lemmas → Knows k new (take (at + 1) lemmas)
+pub knows_at : (k : Kinds) (old new : Known) (lemmas : List Lemma) (at : ℕ) (x : Lemma) → Knows k old (take at lemmas) → ((s : State) → IsState k s → best_known new k s ≡ raised x.state x.bound s (best_known old k s)) → x ≡ get_or lemmas at x → at < length lemmas → Knows k new (take (at + 1) lemmas)
 knows_at k old new lemmas at x before noted is within =
     let all : take at lemmas ++ x ∷ [] ≡ take (at + 1) lemmas = ap (λ (y : Lemma). take at lemmas ++ y ∷ []) is ∙ sym (take_more lemmas at x within) in
     subst (Knows k new) all (knows_more k old new (take at lemmas) x before noted)

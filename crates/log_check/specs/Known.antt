@@ -1,16 +1,23 @@
--- Best bounds, kept by the number of the state.
+-- Best bounds of states, as they are kept.
 use Rattle.std.specs.Prelude.{ℕ, ◌≡◌, List, Option, unwrap_or}
+use Rattle.std.specs.Ordering.{nat_cmp}
+use Rattle.std.specs.BTreeMap.{get}
 use Rattle.row_state.specs.declared.kind.Kinds.{Kinds}
 use Rattle.row_state.specs.declared.state.State.{State}
 use Rattle.row_state.specs.Code.{state_code}
 use Rattle.row_state.specs.Start.{IsState}
 use Rattle.bound_log.specs.declared.log.Lemma.{Lemma}
+use Rattle.log_check.specs.declared.known.Known.{Known}
 use Rattle.log_check.specs.Accepted.{best_of}
 
--- the bound kept of the state, 0 if none
-abbrev pub known_best : (ℕ → Option ℕ) → Kinds → State → ℕ
-known_best table k s = unwrap_or (table (state_code k s)) 0
+-- the bound that a table by numbers of states has of the state, 0 if none
+abbrev pub bound_in : (ℕ → Option ℕ) → Kinds → State → ℕ
+bound_in table k s = unwrap_or (table (state_code k s)) 0
+
+-- what is kept is a function: for some kinds, from states to their best bounds so far
+abbrev pub best_known : Known → Kinds → State → ℕ
+best_known known = bound_in (get nat_cmp known.bounds)
 
 -- what is kept of each valid state is its best bound in the lemmas
-abbrev pub Knows : Kinds → (ℕ → Option ℕ) → List Lemma → Type 0
-Knows k table lemmas = (s : State) → IsState k s → known_best table k s ≡ best_of s lemmas
+abbrev pub Knows : Kinds → Known → List Lemma → Type 0
+Knows k known lemmas = (s : State) → IsState k s → best_known known k s ≡ best_of s lemmas

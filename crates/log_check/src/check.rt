@@ -5,44 +5,50 @@ ghost use Rattle.row_model.specs.Arrangement.{IsArrangement};
 ghost use Rattle.row_model.specs.Gaps.{gaps_of};
 ghost use Rattle.row_state.specs.Start.{AreKinds, AreSomeKinds, start_of};
 ghost use Rattle.log_check.specs.Accepted.{AreJustified, BestPasses, IsAccepted, IsTrueOf, Lists, WithKinds, best_of};
+ghost use Rattle.log_check.specs.Known.{Knows, best_known};
 ghost use Rattle.log_check.specs.declared.refused.Refused.TheVariants as because;
 ghost use Rattle.log_check.specs.Refusal.{BestRefuses, LemmasRefuse, Proves, Refuses};
 
 use crate::Refused;
-use crate::known::best_in;
-use crate::lemma::first_unjustified;
+use crate::known::Known;
+use crate::lemma::is_justified;
 use crate::listed::check_row;
 use bound_log::{Best, Lemma, Log};
-use cell_num::{Fingers, NoMemory};
+use cell_num::{Fingers, MOST_BYTES, NoMemory};
 use row_state::{Kinds, RowBound, kinds, start};
 use std::alloc::Global;
 
-// The line of the first lemma that is not justified.
+// The best bounds of the lemmas, or the line of the first one that those before it do not justify.
 fn check_lemmas<B: RowBound>(
     alloc: Global,
     kinds: &Kinds,
     lemmas: &[Lemma],
     bound: &B,
-) -> Result<(), Refused>
+) -> Result<Known, Refused>
     requires kinds { AreSomeKinds kinds.now }
-    requires few { length lemmas.now ≤ 1073741824 }
-    ensures passes { OnOk result (AreJustified (B.value bound.now) kinds.now lemmas.now) }
+    requires few { length lemmas.now ≤ MOST_BYTES }
+    ensures passes { IfOk result (λ known. AreJustified (B.value bound.now) kinds.now lemmas.now × Knows kinds.now known lemmas.now) }
     ensures refuses { IfErr result (LemmasRefuse (B.value bound.now) kinds.now lemmas.now) }
 {
-    match first_unjustified(alloc, kinds, lemmas, bound)? {
-        Some(at) => Err(Refused::Unproved {
-            line: at as u32 + 3,
-        }),
-        None => Ok(()),
+    let mut known = Known::new(alloc);
+    for at in 0..lemmas.len() {
+        let lemma = &lemmas[at];
+        if !is_justified(alloc, kinds, &known, lemma, bound)? {
+            return Err(Refused::Unproved {
+                line: at as u32 + 3,
+            });
+        }
+        known.note(kinds, &lemma.state, lemma.bound)?;
     }
+    Ok(known)
 }
 
-fn start_best(alloc: Global, kinds: &Kinds, lemmas: &[Lemma]) -> Result<u32, NoMemory>
+fn start_best(alloc: Global, kinds: &Kinds, known: &Known) -> Result<u32, NoMemory>
     requires kinds { AreSomeKinds kinds.now }
-    ensures { IfOk result (λ best. best ≡ best_of (start_of kinds.now) lemmas.now) }
+    ensures { IfOk result (λ best. best ≡ best_known known.now kinds.now (start_of kinds.now)) }
 {
     let first = start(alloc, kinds)?;
-    Ok(best_in(lemmas, &first))
+    Ok(known.best(kinds, &first))
 }
 
 fn check_best(
@@ -71,18 +77,18 @@ fn check<B: RowBound>(
 ) -> Result<u32, Refused>
     requires fingers { AreFingers fingers.now }
     requires kinds { AreSomeKinds kinds.now }
-    requires few { length log.now.lemmas ≤ 1073741824 }
+    requires few { length log.now.lemmas ≤ MOST_BYTES }
     ensures accepted { IfOk result (IsAccepted (B.value bound.now) kinds.now fingers.now log.now) }
     ensures refused { IfErr result (Refuses (B.value bound.now) kinds.now fingers.now log.now) }
 {
     let lemmas = log.lemmas.as_slice();
-    check_lemmas(alloc, kinds, lemmas, bound)?;
-    let best = start_best(alloc, kinds, lemmas)?;
+    let known = check_lemmas(alloc, kinds, lemmas, bound)?;
+    let best = start_best(alloc, kinds, &known)?;
     check_best(alloc, fingers, kinds, &log.best, best)
 }
 
 /// The gaps of the row that the log certifies, where the log is accepted: no arrangement of the
-/// fingers has fewer. Else the first cause to refuse it. At most 1,073,741,824 lemmas.
+/// fingers has fewer. Else the first cause to refuse it. At most [`MOST_BYTES`] lemmas.
 pub fn check_log<B: RowBound>(
     alloc: Global,
     fingers: &Fingers,
@@ -90,7 +96,7 @@ pub fn check_log<B: RowBound>(
     bound: &B,
 ) -> Result<u32, Refused>
     requires fingers { AreFingers fingers.now }
-    requires few { length log.now.lemmas ≤ 1073741824 }
+    requires few { length log.now.lemmas ≤ MOST_BYTES }
     ensures accepted { IfOk result (λ gaps. WithKinds fingers.now (λ k. IsAccepted (B.value bound.now) k fingers.now log.now gaps)) }
     ensures refused { IfErr result (λ fault. fault ≢ because.NoMemory → WithKinds fingers.now (λ k. Refuses (B.value bound.now) k fingers.now log.now fault)) }
     ensures arranges { IfOk result (λ gaps. WithKinds fingers.now (λ k. Lists k log.now.best (λ row. IsArrangement row fingers.now × (gaps ≡ gaps_of row)))) }

@@ -1,14 +1,10 @@
-ghost use Rattle.std.specs.Prelude.{◌≡◌, ◌≤◌, ◌<◌, ◌+◌, ◌↔◌, ◌-◌, All, IsTrue, IfOk, IfSome, IfNone, length, take, slice_get};
-ghost use Rattle.bound_log.specs.declared.log.Lemma.{Lemma};
+ghost use Rattle.std.specs.Prelude.{◌↔◌, IsTrue, IfOk};
 ghost use Rattle.row_state.specs.Start.{AreSomeKinds, IsState};
 ghost use Rattle.row_state.specs.Steps.{IsPossible};
-ghost use Rattle.log_check.specs.Accepted.{StepReaches, BranchReaches, RuleReaches, IsJustified, AreJustified};
-ghost use Rattle.std.specs.BTreeMap.{get};
-ghost use Rattle.std.specs.Ordering.{nat_cmp};
-ghost use Rattle.log_check.specs.Known.{known_best};
-ghost use Rattle.log_check.specs.Refusal.{IsFirstUnjustified};
+ghost use Rattle.log_check.specs.Accepted.{StepReaches, BranchReaches, IsJustified};
+ghost use Rattle.log_check.specs.Known.{best_known};
 
-use crate::known::{Known, best, note};
+use crate::Known;
 use bound_log::{Lemma, Rule};
 use cell_num::{NoMemory, Row};
 use row_state::{
@@ -28,10 +24,10 @@ fn step_reaches(
     requires kinds { AreSomeKinds kinds.now }
     requires state { IsState kinds.now state.now }
     requires step { IsPossible kinds.now state.now step.now }
-    ensures { IfOk result (λ yes. IsTrue yes ↔ StepReaches kinds.now (known_best (get nat_cmp known.now) kinds.now) state.now bound step.now) }
+    ensures { IfOk result (λ yes. IsTrue yes ↔ StepReaches kinds.now (best_known known.now kinds.now) state.now bound step.now) }
 {
     let next = after(alloc, state, step, kinds)?;
-    let reached = u64::from(step_cost(state, step, kinds)) + u64::from(best(known, &next, kinds));
+    let reached = u64::from(step_cost(state, step, kinds)) + u64::from(known.best(kinds, &next));
     Ok(u64::from(bound) <= reached)
 }
 
@@ -45,7 +41,7 @@ fn branch_reaches(
 ) -> Result<bool, NoMemory>
     requires kinds { AreSomeKinds kinds.now }
     requires state { IsState kinds.now state.now }
-    ensures { IfOk result (λ yes. IsTrue yes ↔ BranchReaches kinds.now (known_best (get nat_cmp known.now) kinds.now) state.now bound) }
+    ensures { IfOk result (λ yes. IsTrue yes ↔ BranchReaches kinds.now (best_known known.now kinds.now) state.now bound) }
 {
     let steps = successors(alloc, state, kinds)?;
     for step in steps.as_slice() {
@@ -56,7 +52,8 @@ fn branch_reaches(
     Ok(true)
 }
 
-fn is_justified<B: RowBound>(
+// Whether the bounds known justify the lemma.
+pub(crate) fn is_justified<B: RowBound>(
     alloc: Global,
     kinds: &Kinds,
     known: &Known,
@@ -64,7 +61,7 @@ fn is_justified<B: RowBound>(
     bound: &B,
 ) -> Result<bool, NoMemory>
     requires kinds { AreSomeKinds kinds.now }
-    ensures { IfOk result (λ yes. IsTrue yes ↔ IsJustified (B.value bound.now) kinds.now (known_best (get nat_cmp known.now) kinds.now) lemma.now) }
+    ensures { IfOk result (λ yes. IsTrue yes ↔ IsJustified (B.value bound.now) kinds.now (best_known known.now kinds.now) lemma.now) }
 {
     if !is_state(&lemma.state, kinds) {
         return Ok(false);
@@ -80,26 +77,4 @@ fn is_justified<B: RowBound>(
             }
         }
     }
-}
-
-// The first lemma that those before it do not justify.
-pub(crate) fn first_unjustified<B: RowBound>(
-    alloc: Global,
-    kinds: &Kinds,
-    lemmas: &[Lemma],
-    bound: &B,
-) -> Result<Option<usize>, NoMemory>
-    requires kinds { AreSomeKinds kinds.now }
-    ensures none { IfOk result (λ first. IfNone first (AreJustified (B.value bound.now) kinds.now lemmas.now)) }
-    ensures first { IfOk result (λ first. IfSome first (λ at. IsFirstUnjustified (B.value bound.now) kinds.now lemmas.now at)) }
-{
-    let mut known = Known::new(alloc);
-    for at in 0..lemmas.len() {
-        let lemma = &lemmas[at];
-        if !is_justified(alloc, kinds, &known, lemma, bound)? {
-            return Ok(Some(at));
-        }
-        note(&mut known, kinds, &lemma.state, lemma.bound)?;
-    }
-    Ok(None)
 }

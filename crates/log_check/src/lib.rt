@@ -8,7 +8,7 @@ mod listed;
 mod refused;
 
 pub use check::check_log;
-pub use known::{Known, best, note};
+pub use known::Known;
 pub use refused::Refused;
 
 #[cfg(test)]

@@ -58,10 +58,7 @@ fn columns(alloc: Global, kinds: &Kinds, steps: &[LogStep]) -> Result<Vec<Column
 fn arrangement(alloc: Global, kinds: &Kinds, steps: &[LogStep]) -> Result<Arrangement, NoMemory>
     ensures { IfOk result (λ row. row ≡ columns_listed kinds.now steps.now) }
 {
-    let Ok(columns) = columns(alloc, kinds, steps) else {
-        return Err(NoMemory);
-    };
-    Ok(List::from_vec(columns))
+    Ok(List::from_vec(columns(alloc, kinds, steps)?))
 }
 
 fn is_row(kinds: &Kinds, steps: &[LogStep], row: &Arrangement, fingers: &Fingers) -> bool

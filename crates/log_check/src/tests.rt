@@ -1,9 +1,8 @@
-ghost use Rattle.std.specs.Prelude.{◌≡◌, ◌≤◌, ◌<◌, ◌+◌, All, IsTrue, length};
-ghost use Rattle.cell_num.specs.Fingers.{AreFingers, IsFinger};
+ghost use Rattle.std.specs.Prelude.{◌≤◌, length};
 
 use crate::{Refused, check_log};
 use bound_log::{Best, Lemma, LemmaList, Log, LogStep, LogSteps, Rule};
-use cell_num::{Finger, FingerList, Fingers, NetNo, NoMemory, Row};
+use cell_num::{Finger, FingerList, Fingers, NetNo, NoMemory, Row, are_fingers};
 use row_state::{Counts, Parity, Side, State, Step};
 use std::alloc::{AllocError, Global};
 use std::test::Fail;
@@ -16,36 +15,6 @@ fn finger(row: Row, gate: u32, lo: u32, hi: u32, width: u32) -> Finger {
         hi: NetNo(hi),
         width,
     }
-}
-
-fn is_sound(finger: &Finger, row: Row, nets: u32) -> bool
-    ensures { IsTrue result → IsFinger row nets finger.now }
-{
-    finger.row == row && finger.lo.0 <= finger.hi.0 && finger.gate.0 < nets && finger.hi.0 < nets
-}
-
-fn all_sound(fingers: &[Finger], row: Row, nets: u32) -> bool
-    ensures { IsTrue result → All (IsFinger row nets) fingers.now }
-{
-    for finger in fingers {
-        if !is_sound(finger, row, nets) {
-            return false;
-        }
-    }
-    true
-}
-
-#[tactic(auto, using(row_state::proofs::Examples::are_fingers))]
-fn are_sound(fingers: &Fingers) -> bool
-    ensures { IsTrue result → AreFingers fingers.now }
-{
-    if !all_sound(fingers.p.as_slice(), Row::P, fingers.nets) {
-        return false;
-    }
-    if !all_sound(fingers.n.as_slice(), Row::N, fingers.nets) {
-        return false;
-    }
-    fingers.nets <= 256 && fingers.p.len() <= 16 && fingers.n.len() <= 16
 }
 
 // Three inverters with the gates 0, 1, 2, the outputs 3, 4, 5 and the rails 6, 7.
@@ -130,7 +99,7 @@ fn answer(alloc: Global, log: &Log) -> Result<String, Fail>
     requires { length log.now.lemmas ≤ 1073741824 }
 {
     let rows = inverters(alloc)?;
-    if !are_sound(&rows) {
+    if !are_fingers(&rows) {
         return Ok(String::from_str(alloc, "unsound")?);
     }
     Ok(told(alloc, check_log(alloc, &rows, log, &Parity))?)

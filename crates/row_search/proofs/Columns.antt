@@ -12,7 +12,7 @@ use Rattle.row_state.specs.declared.step.Step.{Step}
 use Rattle.row_state.specs.Order.{gate_key}
 use Rattle.row_state.specs.Start.{GatesAreNets}
 use Rattle.row_state.specs.Steps.{column_of, placed_of, oriented_of}
-use Rattle.row_state.proofs.Lists.{all_map}
+use Rattle.cell_num.proofs.Lists.{all_map}
 use Rattle.bound_log.specs.Fits.{SideFits, StepFits}
 use Rattle.log_check.specs.Accepted.{HasGate, IsListed, columns_listed}
 use Rattle.row_search.specs.Steps.{IsStep, gate_of, listed_of, row_of, steps_of}

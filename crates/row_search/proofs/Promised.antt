@@ -1,9 +1,8 @@
 -- What a search promises, for every end of it.
-use Rattle.std.proofs.Common.{ℕ, ◌≡◌, ◌+◌, ◌<◌, ◌≤◌, List, length, get_or, Option, Some, None, Result, Ok, Err, IfOk, IfErr, IsNone, IfSome, refl, sym, ap, subst, arith, All, ◌∙◌}
+use Rattle.std.proofs.Common.{ℕ, ◌≡◌, ◌+◌, List, length, get_or, Option, None, Result, Ok, Err, IfOk, IfErr, IsNone, IfSome, refl, sym, ap, subst, arith, All, ◌∙◌}
 use Rattle.cell_num.specs.declared.finger.Row.{Row}
 use Rattle.cell_num.specs.declared.finger.Fingers.{Fingers}
 use Rattle.cell_num.specs.Fingers.{columns_of}
-use Rattle.row_model.specs.declared.column.Column.{Column}
 use Rattle.row_model.specs.Arrangement.{IsArrangement}
 use Rattle.row_model.specs.Gaps.{gaps_of}
 use Rattle.row_state.specs.declared.kind.Kinds.{Kinds}
@@ -15,15 +14,15 @@ use Rattle.row_state.proofs.Valid.{gates_are_nets}
 use Rattle.bound_log.specs.declared.log.Lemma.{Lemma}
 use Rattle.bound_log.specs.declared.log.Best.{Best}
 use Rattle.bound_log.specs.declared.log.Log.{Log}
-use Rattle.bound_log.specs.Fits.{BestFits, Fits, LemmaFits}
-use Rattle.log_check.specs.Accepted.{AreJustified, IsAccepted, Lists, RowPasses, WithKinds, best_of, columns_listed}
+use Rattle.bound_log.specs.Fits.{BestFits, LemmaFits}
+use Rattle.log_check.specs.Accepted.{RowPasses, WithKinds, best_of, columns_listed}
 use Rattle.log_check.proofs.Sound.{Holds, justified_least}
 use Rattle.row_search.specs.declared.found.Found.{Found}
 use Rattle.row_search.specs.declared.found.Stop.{Stop}
 use Rattle.row_search.specs.declared.found.Stop.TheVariants.{Unfinished, NoMemory}
 use Rattle.row_search.specs.declared.progress.Progress.{Progress}
-use Rattle.row_search.specs.Ended.{AreDistinct, IfLemmas, IfLog, IfUnfinished, IsInRange, IsLean}
-use Rattle.row_search.specs.Enough.{columns_in, enough}
+use Rattle.row_search.specs.Ended.{IfUnfinished, IsInRange, IsSearchLog, IsSolved, IsSpent}
+use Rattle.row_search.specs.Enough.{columns_in}
 use Rattle.row_search.specs.First.{IsFirstLeast}
 use Rattle.row_search.specs.Limits.{IsFound, IsFoundAt, IsOpen, ProveGaps, StopsWell, best_with, found_of}
 use Rattle.row_search.specs.Reached.{IsWithin}
@@ -33,22 +32,9 @@ use Rattle.row_search.proofs.Least.{bound_le, first_least, gaps_are, in_range, l
 
 pub record Promised (value : Row → State → Kinds → ℕ) (f : Fingers) (spend : ℕ) (r : Result Found Stop) : Type 0 where
   pub row : IfOk r (λ found. IsFirstLeast f found.row)
-  pub accepted : IfOk r (λ found. WithKinds f (λ k. IsAccepted value k f found.log (gaps_of found.row)))
-  pub lists : IfOk r (λ found. WithKinds f (λ k. Lists k found.log.best (λ row. row ≡ found.row)))
+  pub solved : IfOk r (λ found. WithKinds f (λ k. IsSolved value k f spend found.row found.log))
   pub nodes : IfOk r (λ found. found.nodes ≡ length found.log.lemmas + columns_of f + 1)
-  pub budget : IfOk r (λ found. found.nodes ≤ spend)
-  pub open_best : IfUnfinished r (λ log proved. IsNone log.best)
-  pub many : IfUnfinished r (λ log proved. spend ≤ length log.lemmas + columns_of f)
-  pub few : IfUnfinished r (λ log proved. length log.lemmas ≤ spend)
-  pub proved : IfUnfinished r (λ log proved. WithKinds f (λ k. proved ≡ best_of (start_of k) log.lemmas))
-  pub low : IfUnfinished r (λ log proved. (other : List Column) → IsArrangement other f → proved ≤ gaps_of other)
-  pub enough_is : IfUnfinished r (λ log proved. WithKinds f (λ k. spend < enough k))
-  pub justified : IfLemmas r (λ lemmas. WithKinds f (λ k. AreJustified value k lemmas))
-  pub distinct : IfLemmas r AreDistinct
-  pub range : IfLemmas r (All (IsInRange (columns_of f)))
-  pub reached : IfLemmas r (λ lemmas. WithKinds f (λ k. All (IsWithin k (best_of (start_of k) lemmas)) lemmas))
-  pub lean : IfLemmas r (λ lemmas. WithKinds f (λ k. All (IsLean value k) lemmas))
-  pub fits : IfLog r (λ log. WithKinds f (λ k. Fits k log))
+  pub spent : IfUnfinished r (λ log proved. WithKinds f (λ k. IsSpent value k f spend log proved))
 
 lemmas_fit : (value : Row → State → Kinds → ℕ) (k : Kinds) (gaps : ℕ) (lemmas : List Lemma) → Holds value k → AreSomeKinds k → ProveGaps value k gaps lemmas → All (LemmaFits k) lemmas
 lemmas_fit value k gaps lemmas law kinds h i d within =
@@ -83,26 +69,37 @@ ranges value k f gaps lemmas law of_f kinds h = subst (λ n. All (IsInRange n) l
 best_reached : (value : Row → State → Kinds → ℕ) (k : Kinds) (gaps : ℕ) (lemmas : List Lemma) → ProveGaps value k gaps lemmas → All (IsWithin k (best_of (start_of k) lemmas)) lemmas
 best_reached value k gaps lemmas h = within_wider k gaps (best_of (start_of k) lemmas) lemmas h.low h.within
 
+-- what holds of the log, whatever row it lists
+searched_of : (value : Row → State → Kinds → ℕ) (k : Kinds) (f : Fingers) (gaps : ℕ) (log : Log) → Holds value k → AreKinds f k → AreSomeKinds k → ProveGaps value k gaps log.lemmas → IfSome log.best (BestFits k) → IsSearchLog value k f log
+searched_of value k f gaps log law of_f kinds h best =
+    record {
+      justified = h.kept.justified;
+      distinct = h.kept.distinct;
+      range = ranges value k f gaps log.lemmas law of_f kinds h;
+      reached = best_reached value k gaps log.lemmas h;
+      lean = h.kept.lean;
+      fits = record { lemmas = lemmas_fit value k gaps log.lemmas law kinds h; best = best };
+    }
+
+nodes_of : (k : Kinds) (f : Fingers) (value : Row → State → Kinds → ℕ) (spend gaps : ℕ) (steps : List Step) (p : Progress) → AreKinds f k → IsFoundAt value k spend gaps steps p → p.nodes ≡ length p.lemmas + columns_of f + 1
+nodes_of k f value spend gaps steps p of_f h = omega (arith, h.nodes, h.first.completes.fewest, length_row k steps, columns_same f k of_f)
+
+solved_by : (value : Row → State → Kinds → ℕ) (k : Kinds) (f : Fingers) (spend gaps : ℕ) (steps : List Step) (p : Progress) → Holds value k → AreKinds f k → AreSomeKinds k → IsFoundAt value k spend gaps steps p → IsSolved value k f spend (row_of k steps) (found_of k p gaps steps).log
+solved_by value k f spend gaps steps p law of_f kinds h =
+    record {
+      accepted = record { justified = h.lemmas.kept.justified; passes = row_passes value k f spend gaps steps p law of_f kinds h };
+      lists = listed_row k steps;
+      kept = omega (arith, h.few, nodes_of k f value spend gaps steps p of_f h);
+      searched = searched_of value k f gaps (found_of k p gaps steps).log law of_f kinds h.lemmas (best_fits value k spend gaps steps p law kinds h);
+    }
+
 promised_found : (value : Row → State → Kinds → ℕ) (k : Kinds) (f : Fingers) (spend gaps : ℕ) (steps : List Step) (p : Progress) → Holds value k → AreKinds f k → AreSomeKinds k → IsFoundAt value k spend gaps steps p → Promised value f spend (Ok (found_of k p gaps steps))
 promised_found value k f spend gaps steps p law of_f kinds h =
     record {
       row = first_least value k f p.lemmas gaps (row_of k steps) law of_f h.lemmas.kept.justified h.lemmas.low h.first;
-      accepted = (k, of_f, kinds, (record { justified = h.lemmas.kept.justified; passes = row_passes value k f spend gaps steps p law of_f kinds h }));
-      lists = (k, of_f, kinds, (listed_row k steps));
-      nodes = omega (arith, h.nodes, h.first.completes.fewest, length_row k steps, columns_same f k of_f);
-      budget = h.few;
-      open_best = tt;
-      many = tt;
-      few = tt;
-      proved = tt;
-      low = tt;
-      enough_is = tt;
-      justified = (k, of_f, kinds, h.lemmas.kept.justified);
-      distinct = h.lemmas.kept.distinct;
-      range = ranges value k f gaps p.lemmas law of_f kinds h.lemmas;
-      reached = (k, of_f, kinds, (best_reached value k gaps p.lemmas h.lemmas));
-      lean = (k, of_f, kinds, h.lemmas.kept.lean);
-      fits = (k, of_f, kinds, (record { lemmas = lemmas_fit value k gaps p.lemmas law kinds h.lemmas; best = best_fits value k spend gaps steps p law kinds h }));
+      solved = (k, of_f, kinds, solved_by value k f spend gaps steps p law of_f kinds h);
+      nodes = nodes_of k f value spend gaps steps p of_f h;
+      spent = tt;
     }
 
 no_best : (log : Log) → log.best ≡ None → IsNone log.best
@@ -111,52 +108,20 @@ no_best log e = subst (λ (b : Option Best). IsNone b) (sym e) refl
 none_fits : (k : Kinds) (best : Option Best) → best ≡ None → IfSome best (BestFits k)
 none_fits k best e = subst (λ (b : Option Best). IfSome b (BestFits k)) (sym e) tt
 
-promised_open : (value : Row → State → Kinds → ℕ) (k : Kinds) (f : Fingers) (spend : ℕ) (log : Log) (told : ℕ) → Holds value k → AreKinds f k → AreSomeKinds k → IsOpen value k spend log told → Promised value f spend (Err (Unfinished log told))
-promised_open value k f spend log told law of_f kinds h =
+spent_by : (value : Row → State → Kinds → ℕ) (k : Kinds) (f : Fingers) (spend : ℕ) (log : Log) (told : ℕ) → Holds value k → AreKinds f k → AreSomeKinds k → IsOpen value k spend log told → IsSpent value k f spend log told
+spent_by value k f spend log told law of_f kinds h =
     record {
-      row = tt;
-      accepted = tt;
-      lists = tt;
-      nodes = tt;
-      budget = tt;
-      open_best = no_best log h.best;
+      lists_none = no_best log h.best;
       many = omega (arith, h.many, columns_same f k of_f);
       few = h.few;
-      proved = (k, of_f, kinds, h.proved_is);
+      best = h.proved_is;
       low = λ other arranges. omega (arith, h.proved_is, justified_least value k f log.lemmas law of_f h.lemmas.kept.justified other arranges);
-      enough_is = (k, of_f, kinds, (too_short value k told spend log.lemmas law kinds h.lemmas h.many));
-      justified = (k, of_f, kinds, h.lemmas.kept.justified);
-      distinct = h.lemmas.kept.distinct;
-      range = ranges value k f told log.lemmas law of_f kinds h.lemmas;
-      reached = (k, of_f, kinds, (best_reached value k told log.lemmas h.lemmas));
-      lean = (k, of_f, kinds, h.lemmas.kept.lean);
-      fits = (k, of_f, kinds, (record { lemmas = lemmas_fit value k told log.lemmas law kinds h.lemmas; best = none_fits k log.best h.best }));
-    }
-
-promised_none : (value : Row → State → Kinds → ℕ) (f : Fingers) (spend : ℕ) → Promised value f spend (Err NoMemory)
-promised_none value f spend =
-    record {
-      row = tt;
-      accepted = tt;
-      lists = tt;
-      nodes = tt;
-      budget = tt;
-      open_best = tt;
-      many = tt;
-      few = tt;
-      proved = tt;
-      low = tt;
-      enough_is = tt;
-      justified = tt;
-      distinct = tt;
-      range = tt;
-      reached = tt;
-      lean = tt;
-      fits = tt;
+      short = too_short value k told spend log.lemmas law kinds h.lemmas h.many;
+      searched = searched_of value k f told log law of_f kinds h.lemmas (none_fits k log.best h.best);
     }
 
 -- what the limits come to is what is promised
 pub promised : (value : Row → State → Kinds → ℕ) (k : Kinds) (f : Fingers) (spend : ℕ) (r : Result Found Stop) → Holds value k → AreKinds f k → AreSomeKinds k → IfOk r (IsFound value k spend) → IfErr r (StopsWell value k spend) → Promised value f spend r
 promised value k f spend (Ok found) law of_f kinds h i = subst (λ (z : Found). Promised value f spend (Ok z)) (sym h.is) (promised_found value k f spend h.gaps h.steps h.p law of_f kinds h.last)
-promised value k f spend (Err (Unfinished log told)) law of_f kinds h i = promised_open value k f spend log told law of_f kinds i
-promised value k f spend (Err NoMemory) law of_f kinds h i = promised_none value f spend
+promised value k f spend (Err (Unfinished log told)) law of_f kinds h i = record { row = tt; solved = tt; nodes = tt; spent = (k, of_f, kinds, spent_by value k f spend log told law of_f kinds i) }
+promised value k f spend (Err NoMemory) law of_f kinds h i = record { row = tt; solved = tt; nodes = tt; spent = tt }

@@ -126,8 +126,8 @@ failed_kept value k budget s allowed rule p q r h nodes pushed knows =
 
 -- the bound of a row is a rule of the lemma
 pub row_reaches : (value : Row → State → Kinds → ℕ) (k : Kinds) (best : State → ℕ) (s : State) (n : ℕ) (rule : Rule) → RowReaches value k s n rule → RuleReaches value k best rule s n × IsLean value k (lemma_of s n rule)
-row_reaches value k best s n by.P h = (h, λ e. cc)
-row_reaches value k best s n by.N h = (h, λ e. cc)
+row_reaches value k best s n by.P h = (h, h)
+row_reaches value k best s n by.N h = (h.1, h)
 row_reaches value k best s n by.Branch h = absurd h
 
 pub some_left : {X : Type 0} {b : Bool} → (IsTrue b ↔ X) → b ≡ true → X

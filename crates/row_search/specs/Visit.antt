@@ -1,9 +1,6 @@
 -- What one visit of a state promises.
 use Rattle.std.specs.Prelude.{ℕ, ◌≡◌, ◌≤◌, ◌<◌, ◌+◌, ◌++◌, ◌⊎◌, List, All, length}
-use Rattle.std.specs.Ordering.{nat_cmp}
-use Rattle.std.specs.BTreeMap.{get}
 use Rattle.cell_num.specs.declared.finger.Row.{Row}
-use Rattle.cell_num.specs.declared.finger.Row.TheVariants.{P, N}
 use Rattle.row_model.specs.declared.column.Column.{Column}
 use Rattle.row_state.specs.declared.kind.Kinds.{Kinds}
 use Rattle.row_state.specs.declared.state.State.{State}
@@ -16,7 +13,7 @@ use Rattle.bound_log.specs.declared.log.Rule.TheVariants as by
 use Rattle.bound_log.specs.declared.log.Lemma.{Lemma}
 use Rattle.log_check.specs.Accepted.{AreJustified, best_of}
 use Rattle.row_search.specs.declared.progress.Progress.{Progress}
-use Rattle.row_search.specs.Ended.{AreDistinct, IsLean}
+use Rattle.row_search.specs.Ended.{AreDistinct, IsFirstRule, IsLean}
 use Rattle.log_check.specs.Known.{Knows}
 use Rattle.row_search.specs.Reached.{IsReached, IsWithin}
 use Rattle.row_search.specs.Steps.{IsStep, row_of}
@@ -30,15 +27,10 @@ pub record IsFirstWithin (k : Kinds) (s : State) (allowed : ℕ) (row : List Col
 abbrev pub lemma_of : State → ℕ → Rule → Lemma
 lemma_of s bound rule = record { state = s; bound = bound; rule = rule }
 
--- the bound of the rule's row reaches so many gaps
+-- the bound of a row serves, and no earlier one
 abbrev pub RowReaches : (Row → State → Kinds → ℕ) → Kinds → State → ℕ → Rule → Type 0
-RowReaches value k s bound by.P = bound ≤ value P s k
-RowReaches value k s bound by.N = bound ≤ value N s k
 RowReaches value k s bound by.Branch = ⊥
-
--- the bound of neither row does
-abbrev pub NoRowReaches : (Row → State → Kinds → ℕ) → Kinds → State → ℕ → Type 0
-NoRowReaches value k s bound = (value P s k < bound) × (value N s k < bound)
+RowReaches value k s bound rule = IsFirstRule value k s bound rule
 
 -- the state is one that the limit reaches, with so many gaps still allowed
 pub record IsAllowed (k : Kinds) (limit : ℕ) (s : State) (allowed : ℕ) : Type 0 where
@@ -60,7 +52,7 @@ pub record IsGrown (k : Kinds) (n : ℕ) (before after : List Lemma) : Type 0 wh
   pub below : All (λ lemma. columns_left k lemma.state < n) more
 
 abbrev pub KnowsAll : Kinds → Progress → Type 0
-KnowsAll k p = Knows k (get nat_cmp p.known) p.lemmas
+KnowsAll k p = Knows k p.known p.lemmas
 
 -- a search went on from `before` to `after`, with so many gaps allowed at a state: it kept the budget, it
 -- added only lemmas of states with fewer than n columns left, which each limit reaches that reaches the

@@ -1,12 +1,13 @@
 ghost use Rattle.std.specs.Prelude.{◌≡◌, ◌≤◌, ◌<◌, ◌+◌, IfOk, IfErr, IfSome, IfNone};
 ghost use Rattle.row_state.specs.Start.{AreSomeKinds, IsState, columns_left};
+ghost use Rattle.bound_log.specs.declared.log.Rule.TheVariants.{Branch};
 ghost use Rattle.row_search.specs.declared.descent.Halt.TheVariants.{Spent, NoMemory};
-ghost use Rattle.row_search.specs.Visit.{AreKept, HasFailed, HasFound, HasSpent, IsFurther, KnowsAll, NoRowReaches, RowReaches};
+ghost use Rattle.row_search.specs.Ended.{IsFirstRule};
+ghost use Rattle.row_search.specs.Visit.{AreKept, HasFailed, HasFound, HasSpent, IsFurther, KnowsAll, RowReaches};
 
 use crate::progress::Progress;
 use bound_log::Rule;
-use cell_num::{NoMemory, Row};
-use log_check::best;
+use cell_num::{MOST_COLUMNS, NoMemory, Row};
 use row_state::{Kinds, RowBound, State, Steps, after, has_fingers, step_cost, successors};
 use std::alloc::Global;
 
@@ -42,7 +43,7 @@ fn row_rule<B: RowBound>(task: &Task<B>, state: &State, allowed: u32) -> Option<
     requires kinds { AreSomeKinds task.now.kinds.now }
     requires state { IsState task.now.kinds.now state.now }
     ensures some { IfSome result (RowReaches (B.value task.now.bound.now) task.now.kinds.now state.now (allowed + 1)) }
-    ensures none { IfNone result (NoRowReaches (B.value task.now.bound.now) task.now.kinds.now state.now (allowed + 1)) }
+    ensures none { IfNone result (IsFirstRule (B.value task.now.bound.now) task.now.kinds.now state.now (allowed + 1) Branch) }
 {
     if task.bound.bound(Row::P, state, task.kinds) > allowed {
         return Some(Rule::P);
@@ -63,7 +64,7 @@ pub(crate) fn visit<B: RowBound>(
 ) -> Result<Option<Steps>, Halt>
     requires kinds { AreSomeKinds task.now.kinds.now }
     requires state { IsState task.now.kinds.now state.now }
-    requires few { allowed ≤ 64 }
+    requires few { allowed ≤ MOST_COLUMNS }
     requires nodes { progress.old.nodes ≤ task.now.budget }
     requires lemmas { AreKept (B.value task.now.bound.now) task.now.kinds.now progress.old.lemmas }
     requires knows { KnowsAll task.now.kinds.now progress.old }
@@ -72,7 +73,7 @@ pub(crate) fn visit<B: RowBound>(
     ensures found { IfOk result (λ r. IfSome r (λ steps. HasFound task.now.kinds.now state.now allowed steps progress.old progress.new)) }
     ensures spent { IfErr result (λ halt. halt ≡ Spent → HasSpent task.now.kinds.now task.now.budget state.now progress.old progress.new) }
 {
-    if best(&progress.known, state, task.kinds) > allowed {
+    if progress.known.best(task.kinds, state) > allowed {
         return Ok(None);
     }
     if progress.nodes == task.budget {

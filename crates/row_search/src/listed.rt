@@ -55,18 +55,12 @@ pub(crate) fn arrangement(
 ) -> Result<Arrangement, NoMemory>
     ensures { IfOk result (λ row. row ≡ row_of kinds.now steps.now) }
 {
-    match columns(alloc, steps, kinds) {
-        Ok(columns) => Ok(List::from_vec(columns)),
-        Err(_) => Err(NoMemory),
-    }
+    Ok(List::from_vec(columns(alloc, steps, kinds)?))
 }
 
 /// The same steps as a log lists them.
 pub(crate) fn log_steps(alloc: Global, steps: &[Step], kinds: &Kinds) -> Result<LogSteps, NoMemory>
     ensures { IfOk result (λ all. all ≡ steps_of kinds.now steps.now) }
 {
-    match all_listed(alloc, steps, kinds) {
-        Ok(all) => Ok(List::from_vec(all)),
-        Err(_) => Err(NoMemory),
-    }
+    Ok(List::from_vec(all_listed(alloc, steps, kinds)?))
 }

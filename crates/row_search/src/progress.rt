@@ -5,17 +5,14 @@ ghost use Rattle.row_search.specs.Visit.{KnowsAll, lemma_of};
 
 use bound_log::{Lemma, LemmaList, Rule};
 use cell_num::NoMemory;
-use log_check::{Known, note};
+use log_check::Known;
 use row_state::{Kinds, State};
 use std::alloc::Global;
 
 fn copied(state: &State) -> Result<State, NoMemory>
     ensures { IfOk result (λ copy. copy ≡ state.now) }
 {
-    match state.clone() {
-        Ok(copy) => Ok(copy),
-        Err(_) => Err(NoMemory),
-    }
+    Ok(state.clone()?)
 }
 
 /// What a search has come to.
@@ -56,7 +53,7 @@ impl Progress {
         ensures knows { OnOk result (KnowsAll kinds.now self.old → KnowsAll kinds.now self.new) }
     {
         let own = copied(state)?;
-        note(&mut self.known, kinds, state, bound)?;
+        self.known.note(kinds, state, bound)?;
         self.lemmas.push(Lemma {
             state: own,
             bound,

@@ -1,43 +1,10 @@
-ghost use Rattle.std.specs.Prelude.{◌≤◌, All, IsTrue, length};
-ghost use Rattle.cell_num.specs.Fingers.{AreFingers, IsFinger};
-
 use crate::{Found, Stop, search};
 use bound_log::{Lemma, Rule};
-use cell_num::{Finger, FingerList, Fingers, NetNo, NoMemory, Row};
+use cell_num::{Finger, FingerList, Fingers, NetNo, NoMemory, Row, are_fingers};
 use row_model::{Column, Placed};
 use row_state::Parity;
 use std::alloc::{AllocError, Global};
 use std::test::Fail;
-
-fn is_sound(finger: &Finger, row: Row, nets: u32) -> bool
-    ensures { IsTrue result → IsFinger row nets finger.now }
-{
-    finger.row == row && finger.lo.0 <= finger.hi.0 && finger.gate.0 < nets && finger.hi.0 < nets
-}
-
-fn all_sound(fingers: &[Finger], row: Row, nets: u32) -> bool
-    ensures { IsTrue result → All (IsFinger row nets) fingers.now }
-{
-    for finger in fingers {
-        if !is_sound(finger, row, nets) {
-            return false;
-        }
-    }
-    true
-}
-
-#[tactic(auto, using(row_state::proofs::Examples::are_fingers))]
-fn are_sound(fingers: &Fingers) -> bool
-    ensures { IsTrue result → AreFingers fingers.now }
-{
-    if !all_sound(fingers.p.as_slice(), Row::P, fingers.nets) {
-        return false;
-    }
-    if !all_sound(fingers.n.as_slice(), Row::N, fingers.nets) {
-        return false;
-    }
-    fingers.nets <= 256 && fingers.p.len() <= 16 && fingers.n.len() <= 16
-}
 
 // A P and an N finger of one gate: the gate, the lower end of both, the higher end of each.
 type Pair = (u32, u32, u32, u32);
@@ -104,7 +71,7 @@ fn row_text(alloc: Global, found: &Found) -> Result<String, AllocError> {
 
 fn ended(alloc: Global, nets: u32, pairs: &[Pair], budget: u64) -> Result<String, Fail> {
     let rows = fingers(alloc, nets, pairs)?;
-    if !are_sound(&rows) {
+    if !are_fingers(&rows) {
         return Ok(String::from_str(alloc, "unsound")?);
     }
     let told = match search(alloc, &rows, &Parity, budget) {
@@ -120,13 +87,18 @@ fn ended(alloc: Global, nets: u32, pairs: &[Pair], budget: u64) -> Result<String
 // The outputs stand behind the gates, the rails behind the outputs.
 const INVERTERS: [Pair; 3] = [(0, 3, 6, 7), (1, 4, 6, 7), (2, 5, 6, 7)];
 
+// Fingers of the P row begin and end on one net.
+const RINGS: [Pair; 3] = [(0, 4, 4, 5), (1, 3, 3, 5), (2, 4, 4, 5)];
+
 #[test]
 fn finds_rows(rt: HostRuntime) -> Result<(), Fail> {
     let alloc = rt.alloc();
-    let rows: [(u32, &[Pair], u64, &str); 6] = [
+    let rows: [(u32, &[Pair], u64, &str); 7] = [
         (4, &[(0, 1, 2, 3)], 1, "proved 0 by 0"),
         (4, &[(0, 1, 2, 3)], 2, "0 0/0 2: 0uu"),
         (6, &[(0, 2, 4, 5), (1, 3, 4, 5)], 3, "0 0/0 3: 0uu 1ff"),
+        // A state whose bound is kept takes no node, so that the last node is left for another.
+        (6, &RINGS, 8, "proved 1 by 8"),
         (8, &INVERTERS, 1, "proved 1 by 1"),
         (8, &INVERTERS, 4, "proved 1 by 1"),
         (8, &INVERTERS, 5, "1 0/1 5: 0uu 1uu 2ff"),

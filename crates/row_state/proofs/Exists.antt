@@ -12,7 +12,7 @@ use Rattle.row_model.specs.declared.column.Placed.{Placed}
 use Rattle.row_model.specs.declared.column.Column.{Column}
 use Rattle.cell_num.specs.Fingers.{on_gate}
 use Rattle.row_model.specs.Arrangement.{IsColumn, AreOneColumn}
-use Rattle.row_model.proofs.Permutations.{count_cons}
+use Rattle.cell_num.proofs.Permutations.{count_cons}
 use Rattle.row_model.proofs.Decide.{net_decides}
 use Rattle.row_state.specs.declared.kind.Kind.{Kind}
 use Rattle.row_state.specs.declared.kind.Kinds.{Kinds}

@@ -12,7 +12,7 @@ use Rattle.row_state.specs.declared.kind.Kind.{Kind}
 use Rattle.row_state.specs.declared.kind.Kinds.{Kinds}
 use Rattle.row_state.specs.Completion.{Completes}
 use Rattle.row_state.specs.Start.{AreKinds, AreKindsOf, AreSomeKinds, start_of}
-use Rattle.row_state.proofs.Lists.{all_imply}
+use Rattle.cell_num.proofs.Lists.{all_imply}
 use Rattle.row_state.specs.Degrees.{all_on_gates}
 use Rattle.row_state.proofs.Unfold.{arrangement_of, columns_same, completion_of}
 

@@ -8,7 +8,7 @@ use Rattle.cell_num.specs.declared.finger.Row.{Row}
 use Rattle.cell_num.specs.declared.finger.Finger.{Finger}
 use Rattle.row_model.specs.declared.column.Placed.{Placed}
 use Rattle.row_model.specs.Tests.{same_finger}
-use Rattle.row_model.proofs.Permutations.{permutation_from_counts, count_cons}
+use Rattle.cell_num.proofs.Permutations.{permutation_from_counts, count_cons}
 use Rattle.row_model.proofs.Decide.{finger_decides}
 use Rattle.row_state.specs.declared.kind.Kind.{Kind}
 use Rattle.row_state.specs.declared.step.Side.{Side}

@@ -3,7 +3,6 @@ pub mod StateAfter
 pub mod Fewest
 pub mod Calls
 pub mod Codes
-pub mod Examples
 pub mod Exists
 pub mod KindsOf
 pub mod Keys
@@ -13,6 +12,7 @@ pub mod Merge
 pub mod Next
 pub mod Numbers
 pub mod Runs
+pub mod SameKinds
 pub mod Sides
 pub mod Unfold
 pub mod Valid

@@ -20,7 +20,8 @@ use Rattle.row_state.specs.Order.{KindBefore, kind_key}
 use Rattle.row_state.specs.Start.{AreKindsOf, IsKind, counts_of}
 use Rattle.row_state.specs.Tests.{IsSingle, is_same_kind, kind_cmp, merged, merged_all, single, with_one_more}
 use Rattle.row_state.proofs.Keys.{key_trans}
-use Rattle.row_state.proofs.Lists.{all_map, pairs_none, pairs_one, all_one}
+use Rattle.cell_num.proofs.Lists.{all_map, all_one}
+use Rattle.cell_num.proofs.Pairs.{pairs_none, pairs_one}
 
 replicate_suc : {X : Type 0} (n : ℕ) (x : X) (xs : List X) → replicate (suc n) x ++ xs ≡ replicate n x ++ x ∷ xs
 replicate_suc zero x xs = refl

@@ -24,7 +24,10 @@ use Rattle.row_state.specs.Steps.{AreSuccessors, HalfMayStand, IsLeft, IsPossibl
 use Rattle.row_state.specs.Tests.{columns_from, columns_on, gate_left, next_columns, side_of, sides_of, sides_on, step_of, turns_of, with_each, with_side}
 use Rattle.row_state.proofs.Exists.{possible_by}
 use Rattle.row_state.proofs.Keys.{key_append, key_behind, key_head, key_prefix, key_tail, key_untail}
-use Rattle.row_state.proofs.Lists.{all_flat, all_imply, all_joined, all_map, all_one, all_two, contains_flat, contains_here, contains_joined, contains_later, contains_map, cross, pairs_append, pairs_at, pairs_flat, pairs_joined, pairs_map, pairs_none, pairs_one, pairs_two}
+use Rattle.cell_num.proofs.Lists.{all_flat, all_imply, all_map, all_one, all_two, contains_here, contains_there}
+use Rattle.cell_num.proofs.Pairs.{cross, pairs_append, pairs_at, pairs_flat, pairs_map, pairs_none, pairs_one, pairs_two}
+use Rattle.cell_num.proofs.In.{contains_flat, contains_map}
+use Rattle.row_state.proofs.Lists.{all_joined, contains_joined, pairs_joined}
 use Rattle.row_state.proofs.Numbers.{gate_code}
 use Rattle.row_state.proofs.Unfold.{placed_kind}
 
@@ -125,7 +128,7 @@ turns_have i kind flipped turned =
   where
     both : (b : Bool) → Contains (side_of i false ∷ side_of i true ∷ []) (side_of i b)
     both false = contains_here (side_of i false) (side_of i true ∷ [])
-    both true = contains_later (side_of i false) (side_of i true ∷ []) (side_of i true) (contains_here (side_of i true) [])
+    both true = contains_there (side_of i false) (side_of i true ∷ []) (side_of i true) (contains_here (side_of i true) [])
 
 within_left : (left : List ℕ) (i : ℕ) → 0 < slice_index left i → i < length left
 within_left [] i h = absurd (omega (arith, h))

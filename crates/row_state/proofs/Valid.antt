@@ -23,7 +23,7 @@ use Rattle.row_state.specs.Runs.{IsOnGate}
 use Rattle.row_state.specs.Tests.{columns_test, counts_fit, end_fits, gate_left, keeps_lead, leads_below, left_of_kind, state_test}
 use Rattle.row_state.specs.Gates.{sum_below_same}
 use Rattle.row_state.proofs.KindsOf.{few_fingers}
-use Rattle.row_state.proofs.Lists.{all_at}
+use Rattle.cell_num.proofs.Lists.{all_at}
 use Rattle.row_state.proofs.Numbers.{gate_code}
 
 counts_within : (kinds : List Kind) (i : ℕ) (kind : Kind) → slice_get kinds i ≡ Some kind → slice_index (counts_of kinds) i ≤ kind.count
@@ -87,15 +87,15 @@ kinds_le row nets (k ∷ ks) h =
     omega (arith, here.some, length-append (replicate k.count (finger_of row k)) (fingers_left row ks (counts_of ks)), length-replicate k.count (finger_of row k), kinds_le row nets ks (All-tail (IsKind nets) k ks h))
 
 -- there are few kinds
-pub kinds_few : (k : Kinds) → AreSomeKinds k → (length k.p ≤ 60) × (length k.n ≤ 60)
+pub kinds_few : (k : Kinds) → AreSomeKinds k → (length k.p ≤ 32) × (length k.n ≤ 32)
 kinds_few k some =
     let few = few_fingers (left_in k (start_of k)) (some_fingers k some) in
     (omega (arith, few.0, kinds_le P k.nets k.p some.p), omega (arith, few.1, kinds_le N k.nets k.n some.n))
 
-pub kinds_few_p : (k : Kinds) → AreSomeKinds k → length k.p ≤ 60
+pub kinds_few_p : (k : Kinds) → AreSomeKinds k → length k.p ≤ 32
 kinds_few_p k some = (kinds_few k some).0
 
-pub kinds_few_n : (k : Kinds) → AreSomeKinds k → length k.n ≤ 60
+pub kinds_few_n : (k : Kinds) → AreSomeKinds k → length k.n ≤ 32
 kinds_few_n k some = (kinds_few k some).1
 
 on_gate_le : (gate : ℕ) (fs : List Finger) → on_gate gate fs ≤ length fs

@@ -4,7 +4,7 @@ use Rattle.std.proofs.Common.{refl, sym, ap, arith, inl, inr}
 use Rattle.std.proofs.lemmas.Bool.{cases_eq, eq-eqb, ne_eqb}
 use Rattle.cell_num.specs.declared.finger.Finger.{Finger}
 use Rattle.cell_num.specs.Fingers.{on_gate, sum_below}
-use Rattle.row_model.proofs.Permutations.{count_cons}
+use Rattle.cell_num.proofs.Permutations.{count_cons}
 
 -- the columns that two lists of fingers need
 abbrev pub most : List Finger → List Finger → ℕ → ℕ

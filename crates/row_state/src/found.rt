@@ -3,12 +3,13 @@ ghost use Rattle.cell_num.specs.declared.finger.Row.{Row};
 ghost use Rattle.cell_num.specs.Fingers.{AreFingers, IsFinger};
 ghost use Rattle.row_model.specs.declared.column.Column.{Column};
 ghost use Rattle.row_model.specs.Arrangement.{IsArrangement};
+ghost use Rattle.row_state.specs.declared.kind.Kinds.{Kinds as KindsOf};
 ghost use Rattle.row_state.specs.Completion.{Completes};
 ghost use Rattle.row_state.specs.Start.{AreKinds, AreKindsOf, AreSomeKinds, start_of};
 ghost use Rattle.row_state.specs.Tests.{IsSingle, is_same_kind, kind_cmp, merged, merged_all, single};
 
 use crate::{Kind, KindList, Kinds};
-use cell_num::{Finger, Fingers, NoMemory};
+use cell_num::{Finger, Fingers, MOST_COLUMNS, MOST_FINGERS, NoMemory};
 use std::alloc::{AllocError, Global};
 
 // The finger as a kind of its own.
@@ -50,7 +51,7 @@ fn is_same(a: &Kind, b: &Kind) -> bool
 
 // The kind joins the current one, or takes its place.
 fn join(kinds: &mut KindList, current: &mut Kind, kind: &Kind) -> Result<(), NoMemory>
-    requires few { current.old.count ≤ 64 }
+    requires few { current.old.count ≤ MOST_FINGERS }
     requires one { kind.now.count ≤ 1 }
     ensures joined { OnOk result ((rest : Sequence Kind) → kinds.new ++ merged current.new rest ≡ kinds.old ++ merged current.old (kind.now ∷ rest)) }
     ensures count { OnOk result (current.new.count ≤ current.old.count + 1) }
@@ -66,7 +67,7 @@ fn join(kinds: &mut KindList, current: &mut Kind, kind: &Kind) -> Result<(), NoM
 
 // Neighbours of one kind are counted together.
 fn merge(alloc: Global, first: &Kind, rest: &[Kind]) -> Result<KindList, NoMemory>
-    requires few { length rest.now ≤ 60 }
+    requires few { length rest.now ≤ MOST_COLUMNS }
     requires one { first.now.count ≤ 1 }
     requires ones { All IsSingle rest.now }
     ensures { IfOk result (λ kinds. kinds ≡ merged first.now rest.now) }
@@ -81,7 +82,7 @@ fn merge(alloc: Global, first: &Kind, rest: &[Kind]) -> Result<KindList, NoMemor
 }
 
 fn merge_all(alloc: Global, kinds: &[Kind]) -> Result<KindList, NoMemory>
-    requires few { length kinds.now ≤ 60 }
+    requires few { length kinds.now ≤ MOST_COLUMNS }
     requires ones { All IsSingle kinds.now }
     ensures { IfOk result (λ all. all ≡ merged_all kinds.now) }
 {
@@ -92,27 +93,35 @@ fn merge_all(alloc: Global, kinds: &[Kind]) -> Result<KindList, NoMemory>
 }
 
 fn kinds_of(alloc: Global, fingers: &[Finger]) -> Result<KindList, NoMemory>
-    requires few { length fingers.now ≤ 60 }
+    requires few { length fingers.now ≤ MOST_COLUMNS }
     ensures { IfOk result (λ kinds. (row : Row) (nets : ℕ) → All (IsFinger row nets) fingers.now → AreKindsOf row nets fingers.now kinds) }
 {
-    let Ok(singles) = sorted_singles(alloc, fingers) else {
-        return Err(NoMemory);
-    };
+    let singles = sorted_singles(alloc, fingers)?;
     let kinds = merge_all(alloc, &singles)?;
     Ok(kinds)
 }
 
-/// The kinds of the fingers.
+// The kinds of both rows, in order.
 #[tactic(auto, using(crate::proofs::KindsOf::few_fingers))]
-pub fn kinds(alloc: Global, fingers: &Fingers) -> Result<Kinds, NoMemory>
+fn kinds_of_rows(alloc: Global, fingers: &Fingers) -> Result<Kinds, NoMemory>
     requires { AreFingers fingers.now }
-    ensures kinds { IfOk result (λ k. AreKinds fingers.now k) }
-    ensures sound { IfOk result (λ k. AreSomeKinds k) }
-    ensures arranges { IfOk result (λ k. (row : Sequence Column) → IsArrangement row fingers.now ↔ Completes k (start_of k) row) }
+    ensures { IfOk result (λ k. AreKinds fingers.now k × AreSomeKinds k) }
 {
     Ok(Kinds {
         nets: fingers.nets,
         p: kinds_of(alloc, fingers.p.as_slice())?,
         n: kinds_of(alloc, fingers.n.as_slice())?,
     })
+}
+
+/// The kinds of the fingers. No other lists of kinds in order are theirs.
+pub fn kinds(alloc: Global, fingers: &Fingers) -> Result<Kinds, NoMemory>
+    requires { AreFingers fingers.now }
+    ensures kinds { IfOk result (λ k. AreKinds fingers.now k) }
+    ensures sound { IfOk result (λ k. AreSomeKinds k) }
+    ensures only { IfOk result (λ k. (other : KindsOf) → AreKinds fingers.now other → AreSomeKinds other → other ≡ k) }
+    ensures arranges { IfOk result (λ k. (row : Sequence Column) → IsArrangement row fingers.now ↔ Completes k (start_of k) row) }
+{
+    let kinds = kinds_of_rows(alloc, fingers)?;
+    Ok(kinds)
 }

@@ -5,6 +5,7 @@ ghost use Rattle.row_state.specs.Start.{AreSomeKinds, counts_of};
 ghost use Rattle.row_state.specs.Tests.{counts_fit, gate_left};
 
 use crate::{Kind, Kinds, State};
+use cell_num::MOST_FINGERS;
 
 // The kinds of one row on a gate, from `from` to below `to`, and how many fingers of them there are
 // and are left.
@@ -29,8 +30,8 @@ pub(crate) struct OnGate {
 fn run_from(kinds: &[Kind], left: &[u32], gate: u32, from: usize) -> Run
     requires order { AllPairs KindBefore kinds.now }
     requires same { length left.now ≡ length kinds.now }
-    requires few { gate_left kinds.now (counts_of kinds.now) gate ≤ 64 }
-    requires few_left { gate_left kinds.now left.now gate ≤ 64 }
+    requires few { gate_left kinds.now (counts_of kinds.now) gate ≤ MOST_FINGERS }
+    requires few_left { gate_left kinds.now left.now gate ≤ MOST_FINGERS }
     requires from { GatesFrom kinds.now gate from }
     ensures { IsRun kinds.now left.now gate result }
 {

@@ -12,7 +12,10 @@ ghost use Rattle.row_state.specs.Trails.{end_of, size, toggle};
 
 use crate::gate::{OnGate, on_gate};
 use crate::{Kind, Kinds, RowBound, State};
-use cell_num::{NetNo, Row};
+use cell_num::{MOST_NETS, NetNo, Row};
+
+// A place for each net of a cell.
+const NETS: usize = MOST_NETS as usize;
 
 /// The bound that counts the nets of odd degree: a walk through all fingers left of a row passes each
 /// net in pairs of ends but where it begins, ends or breaks.
@@ -21,8 +24,8 @@ pub struct Parity;
 
 // Takes the net out of the set, or puts it in.
 #[tactic(auto, using(crate::proofs::ParityCode::toggled_at))]
-fn toggle_net(set: &mut [bool; 256], net: u32)
-    requires { net < 256 }
+fn toggle_net(set: &mut [bool; NETS], net: u32)
+    requires { net < MOST_NETS }
     ensures { (u : ℕ) → slice_index_or set.new u false ≡ toggle net (λ v. slice_index_or set.old v false) u }
 {
     let at = net as usize;
@@ -31,9 +34,9 @@ fn toggle_net(set: &mut [bool; 256], net: u32)
 
 // An odd number of fingers turns the degree of both ends, and twice that of one net at both.
 #[tactic(auto, using(crate::proofs::ParityCode::ends_toggled))]
-fn toggle_ends(set: &mut [bool; 256], kind: &Kind, count: u32)
-    requires lo { kind.now.lo.0 < 256 }
-    requires hi { kind.now.hi.0 < 256 }
+fn toggle_ends(set: &mut [bool; NETS], kind: &Kind, count: u32)
+    requires lo { kind.now.lo.0 < MOST_NETS }
+    requires hi { kind.now.hi.0 < MOST_NETS }
     ensures { (u : ℕ) → slice_index_or set.new u false ≡ cond (adds_odd u (kind.now, count)) (not (slice_index_or set.old u false)) (slice_index_or set.old u false) }
 {
     if count % 2 == 1 {
@@ -44,13 +47,13 @@ fn toggle_ends(set: &mut [bool; 256], kind: &Kind, count: u32)
 
 // The nets of odd degree.
 #[tactic(auto, using(crate::proofs::ParityCode::kind_ends, crate::proofs::ParityCode::odd_more))]
-fn odd_nets(kinds: &[Kind], left: &[u32], nets: u32) -> [bool; 256]
-    requires few { nets ≤ 256 }
+fn odd_nets(kinds: &[Kind], left: &[u32], nets: u32) -> [bool; NETS]
+    requires few { nets ≤ MOST_NETS }
     requires kinds { All (IsKind nets) kinds.now }
     requires same { length left.now ≡ length kinds.now }
     ensures { (u : ℕ) → slice_index_or result u false ≡ is_odd_net kinds.now left.now u }
 {
-    let mut odd = [false; 256];
+    let mut odd = [false; NETS];
     for at in 0..kinds.len() {
         toggle_ends(&mut odd, &kinds[at], left[at]);
     }
@@ -58,8 +61,8 @@ fn odd_nets(kinds: &[Kind], left: &[u32], nets: u32) -> [bool; 256]
 }
 
 // The nets of odd degree, with the net of an open end taken out, or put in.
-fn odd_behind(kinds: &[Kind], left: &[u32], end: &Option<NetNo>, nets: u32) -> [bool; 256]
-    requires few { nets ≤ 256 }
+fn odd_behind(kinds: &[Kind], left: &[u32], end: &Option<NetNo>, nets: u32) -> [bool; NETS]
+    requires few { nets ≤ MOST_NETS }
     requires kinds { All (IsKind nets) kinds.now }
     requires same { length left.now ≡ length kinds.now }
     requires end { IfSome end.now (λ v. v.0 < nets) }
@@ -82,8 +85,8 @@ fn one_if(counted: bool) -> u32
 }
 
 #[tactic(auto, using(crate::proofs::ParityCode::size_more, crate::proofs::ParityCode::size_le))]
-fn count_in(set: &[bool; 256], nets: u32) -> u32
-    requires { nets ≤ 256 }
+fn count_in(set: &[bool; NETS], nets: u32) -> u32
+    requires { nets ≤ MOST_NETS }
     ensures { result ≡ size nets (λ u. slice_index_or set.now u false) }
 {
     let mut count = 0;
@@ -95,7 +98,7 @@ fn count_in(set: &[bool; 256], nets: u32) -> u32
 
 #[tactic(auto, using(crate::proofs::ParityCode::size_of))]
 fn count_odd(kinds: &[Kind], left: &[u32], end: &Option<NetNo>, nets: u32) -> u32
-    requires few { nets ≤ 256 }
+    requires few { nets ≤ MOST_NETS }
     requires kinds { All (IsKind nets) kinds.now }
     requires same { length left.now ≡ length kinds.now }
     requires end { IfSome end.now (λ v. v.0 < nets) }

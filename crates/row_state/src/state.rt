@@ -11,7 +11,7 @@ ghost use Rattle.row_state.specs.Tests.{columns_test, counts_fit, end_fits, gate
 
 use crate::gate::{OnGate, on_gate};
 use crate::{Kind, Kinds};
-use cell_num::{List, NetNo, NoMemory};
+use cell_num::{List, MOST_FINGERS, NetNo, NoMemory};
 use std::alloc::{AllocError, Global};
 
 pub type Counts = List<u32>;
@@ -39,15 +39,9 @@ pub fn start(alloc: Global, kinds: &Kinds) -> Result<State, NoMemory>
     ensures valid { IfOk result (λ s. IsState kinds.now s) }
     ensures gaps { IfOk result (λ s. (row : Sequence Column) → further_gaps s row ≡ gaps_of row) }
 {
-    let Ok(p_left) = counts(alloc, kinds.p.as_slice()) else {
-        return Err(NoMemory);
-    };
-    let Ok(n_left) = counts(alloc, kinds.n.as_slice()) else {
-        return Err(NoMemory);
-    };
     Ok(State {
-        p_left: List::from_vec(p_left),
-        n_left: List::from_vec(n_left),
+        p_left: List::from_vec(counts(alloc, kinds.p.as_slice())?),
+        n_left: List::from_vec(counts(alloc, kinds.n.as_slice())?),
         p_end: None,
         n_end: None,
     })
@@ -62,7 +56,7 @@ fn of_kind(kind: &Kind, count: u32, gate: u32) -> u32
 // How many fingers there are on the gate.
 #[tactic(auto, using(crate::proofs::Valid::gate_all_step))]
 fn count_all(kinds: &[Kind], gate: u32) -> u32
-    requires few { gate_left kinds.now (counts_of kinds.now) gate ≤ 64 }
+    requires few { gate_left kinds.now (counts_of kinds.now) gate ≤ MOST_FINGERS }
     ensures { result ≡ gate_left kinds.now (counts_of kinds.now) gate }
 {
     let mut total = 0;
@@ -76,7 +70,7 @@ fn count_all(kinds: &[Kind], gate: u32) -> u32
 fn columns_on_gate(kinds: &Kinds, gate: u32) -> u32
     requires { AreSomeKinds kinds.now }
     ensures value { result ≡ columns_test kinds.now gate }
-    ensures few { result ≤ 64 }
+    ensures few { result ≤ MOST_FINGERS }
 {
     let p = count_all(kinds.p.as_slice(), gate);
     let n = count_all(kinds.n.as_slice(), gate);

@@ -10,7 +10,7 @@ ghost use Rattle.row_state.specs.Tests.{columns_on, next_columns, sides_of, side
 
 use crate::gate::{OnGate, Run, on_gate};
 use crate::{Counts, Kind, Kinds, State};
-use cell_num::{Finger, List, NetNo, NoMemory, Row};
+use cell_num::{Finger, List, MOST_COLUMNS, NetNo, NoMemory, Row};
 use row_model::{Column, Placed};
 use std::alloc::Global;
 
@@ -112,10 +112,8 @@ fn copied(alloc: Global, counts: &[u32]) -> Result<Vec<u32>, NoMemory>
     ensures { IfOk result (λ copy. copy.items ≡ counts.now) }
 {
     let mut copy = Vec::new(alloc);
-    match copy.extend_from_slice(counts) {
-        Ok(()) => Ok(copy),
-        Err(_) => Err(NoMemory),
-    }
+    copy.extend_from_slice(counts)?;
+    Ok(copy)
 }
 
 // The counts with one finger of the side's kind taken.
@@ -205,7 +203,7 @@ fn push_each(
     gate: u32,
     run: Run,
 ) -> Result<(), NoMemory>
-    requires few { length kinds.now ≤ 60 }
+    requires few { length kinds.now ≤ MOST_COLUMNS }
     requires same { length left.now ≡ length kinds.now }
     requires run { IsRun kinds.now left.now gate run }
     ensures { OnOk result (steps.new ≡ steps.old ++ with_each p (sides_on kinds.now left.now gate)) }

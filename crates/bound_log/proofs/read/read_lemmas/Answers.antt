@@ -1,6 +1,6 @@
 use Rattle.std.proofs.Common.{rules, sym, ◌∙◌, ◌≡◌, ◌+◌, ◌≤◌, length, arith, Some}
 use Rattle.std.proofs.lemmas.Result.{err_from_is_err_and}
-use Rattle.bound_log.specs.declared.line.Entry.TheVariants as entry
+use Rattle.bound_log.specs.declared.log.Entry.TheVariants as entry
 use Rattle.bound_log.specs.Line.{entry_in, words_in}
 use Rattle.bound_log.specs.Reading.{behind, lines_in, log_at}
 use Rattle.bound_log.proofs.Fronts.{log_more, log_unlisted, log_wrong}

@@ -78,7 +78,7 @@ pub returns-in_err-keep-2-clause-further : goal.returns-in_err-keep-2-clause-fur
 returns-in_err-keep-2-clause-further g t c = further_still (g.B.RowBound.value c.args.task.now.bound.now) c.args.task.now.kinds.now c.args.task.now.budget (columns_left c.args.task.now.kinds.now c.args.state.now + 1) c.args.state.now c.args.allowed c.args.progress.now c.loop-step.progress c.keep-2.new.self c.in_err-keep-2.ensures.err c.in_err-keep-2.ensures.nodes (further_wider (g.B.RowBound.value c.args.task.now.bound.now) c.args.task.now.kinds.now c.args.task.now.budget c.args.state.now c.args.allowed c.args.progress.now c.loop-step.progress c.loop-step.invariant.0.further)
 
 pub returns-clause-further : goal.returns-clause-further
-returns-clause-further g t c = further_kept (g.B.RowBound.value c.args.task.now.bound.now) c.args.task.now.kinds.now c.args.task.now.budget c.args.state.now c.args.allowed by.Branch c.args.progress.now c.loop-step.progress c.keep-2.new.self c.loop-step.invariant.0 c.in_ok-keep-2.ensures.nodes c.in_ok-keep-2.ensures.ok c.requires.state ((some_left (c.has_fingers.ensures c.args.task.now.kinds.now c.requires.state) c.if-not-has_fingers.false), branch_end c.args.task.now.kinds.now c.args.state.now c.in_ok-steps.steps c.as_slice-step-items.result.now c.loop-step.step-index (λ z. best_of z c.loop-step.progress.lemmas) (c.args.allowed + 1) c.in_ok-steps.ensures.steps c.as_slice-step-items.ensures c.loop-step-test.false c.loop-step.invariant.1) (λ e. c.in_default.ensures.none) (omega (arith, c.best.ensures, c.requires.knows c.args.state.now c.requires.state, c.if-best-allowed.false))
+returns-clause-further g t c = further_kept (g.B.RowBound.value c.args.task.now.bound.now) c.args.task.now.kinds.now c.args.task.now.budget c.args.state.now c.args.allowed by.Branch c.args.progress.now c.loop-step.progress c.keep-2.new.self c.loop-step.invariant.0 c.in_ok-keep-2.ensures.nodes c.in_ok-keep-2.ensures.ok c.requires.state ((some_left (c.has_fingers.ensures c.args.task.now.kinds.now c.requires.state) c.if-not-has_fingers.false), branch_end c.args.task.now.kinds.now c.args.state.now c.in_ok-steps.steps c.as_slice-step-items.result.now c.loop-step.step-index (λ z. best_of z c.loop-step.progress.lemmas) (c.args.allowed + 1) c.in_ok-steps.ensures.steps c.as_slice-step-items.ensures c.loop-step-test.false c.loop-step.invariant.1) c.in_default.ensures.none (omega (arith, c.best.ensures, c.requires.knows c.args.state.now c.requires.state, c.if-best-allowed.false))
 
 pub returns-clause-failed : goal.returns-clause-failed
 returns-clause-failed g t c = failed_kept (g.B.RowBound.value c.args.task.now.bound.now) c.args.task.now.kinds.now c.args.task.now.budget c.args.state.now c.args.allowed by.Branch c.args.progress.now c.loop-step.progress c.keep-2.new.self c.loop-step.invariant.0 c.in_ok-keep-2.ensures.nodes c.in_ok-keep-2.ensures.ok c.in_ok-keep-2.ensures.knows

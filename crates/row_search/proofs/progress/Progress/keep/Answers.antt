@@ -1,6 +1,4 @@
 use Rattle.std.proofs.Common.{◌≡◌, ◌++◌, ◌∷◌, [], ap, sym, subst, ◌∙◌}
-use Rattle.std.specs.Ordering.{nat_cmp}
-use Rattle.std.specs.BTreeMap.{get}
 use Rattle.row_state.specs.declared.state.State.{State}
 use Rattle.log_check.specs.Known.{Knows}
 use Rattle.log_check.proofs.Kept.{knows_more}
@@ -10,4 +8,4 @@ use Rattle.row_search.proofs.progress.Progress.keep.Goals as goal
 pub returns-clause-knows : goal.returns-clause-knows
 returns-clause-knows c = λ before.
     let pushed : c.push.new.self ≡ c.args.self.now.lemmas ++ lemma_of c.args.state.now c.args.bound c.args.rule ∷ [] = c.in_ok-push.ensures.ok ∙ ap (λ (s : State). c.args.self.now.lemmas ++ lemma_of s c.args.bound c.args.rule ∷ []) c.in_ok-own.ensures in
-    subst (Knows c.args.kinds.now (get nat_cmp c.note.new.known)) (sym pushed) (knows_more c.args.kinds.now (get nat_cmp c.args.self.now.known) (get nat_cmp c.note.new.known) c.args.self.now.lemmas (lemma_of c.args.state.now c.args.bound c.args.rule) before c.in_ok-note.ensures.raised)
+    subst (Knows c.args.kinds.now c.note.new.self) (sym pushed) (knows_more c.args.kinds.now c.args.self.now.known c.note.new.self c.args.self.now.lemmas (lemma_of c.args.state.now c.args.bound c.args.rule) before c.in_ok-note.ensures.raised)
