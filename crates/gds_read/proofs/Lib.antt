@@ -1,6 +1,7 @@
 pub mod Cells
 pub mod Decoded
 pub mod Drawings
+pub mod Ends
 pub mod Faulty
 pub mod Fields
 pub mod Found
