@@ -5,7 +5,6 @@ pub mod Ends
 pub mod Faulty
 pub mod Fields
 pub mod Found
-pub mod Layers
 pub mod LibraryWords
 pub mod Nearest
 pub mod Passes

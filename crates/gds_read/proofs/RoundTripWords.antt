@@ -13,8 +13,9 @@ use Rattle.box_geom.specs.declared.shape.Label.{Label}
 use Rattle.gds_read.specs.declared.units.Grid.{Grid}
 use Rattle.gds_read.specs.declared.element.Point.{Point}
 use Rattle.gds_read.specs.Units.{limited_to_grid, scaled_by, step_of_grid, whole_units_of, floor_units_of, in_order, ends_of}
-use Rattle.gds_read.specs.Elements.{layer_numbered, short_of, point_at, is_round, are_corners, across_of, upward_of, rectangle_of, spot_of}
-use Rattle.gds_write.specs.Written.{layer_number, short, long, point, corners, Fits, IsWritableShape, IsWritableLabel}
+use Rattle.gds_record.specs.Layers.{layer_number, layer_numbered}
+use Rattle.gds_read.specs.Elements.{short_of, point_at, is_round, are_corners, across_of, upward_of, rectangle_of, spot_of}
+use Rattle.gds_write.specs.Written.{short, long, point, corners, Fits, IsWritableShape, IsWritableLabel}
 use Rattle.gds_write.proofs.Pieces.{corners_length}
 use Rattle.gds_read.proofs.RoundTripExact.{scaled_exact, exact_rem, exact_div}
 

@@ -1,17 +1,18 @@
 ghost use Rattle.std.specs.Prelude.{◌≡◌, ◌≤◌, ◌<◌, ◌+◌, ◌==◌, not, [], ◌∷◌, length, find, option_map, IsTrue, IfSome, IfOk, OnOk};
 ghost use Rattle.gds_record.specs.Records.{item_of, items_from};
 ghost use Rattle.gds_record.specs.declared.types.RecordType.TheVariants as record_type;
+ghost use Rattle.gds_record.specs.Layers.{layer_numbered};
 ghost use Rattle.gds_record.specs.Types.{type_numbered};
 ghost use Rattle.gds_read.specs.Structure.{is_type, trimmed};
 ghost use Rattle.gds_read.specs.Units.{IsSide};
-ghost use Rattle.gds_read.specs.Elements.{until, content_of, place_of, layer_numbered, short_of, layer_of, word_at, signed_at, point_at, is_upright, is_flat, is_round, are_corners, across_of, upward_of, rectangle_of, rectangle_on, boundary_shape, spot_of, text_on, text_spot, path_on, joined, with_shape, with_label, drawn_at, drawn_by, Adds};
+ghost use Rattle.gds_read.specs.Elements.{until, content_of, place_of, short_of, layer_of, word_at, signed_at, point_at, is_upright, is_flat, is_round, are_corners, across_of, upward_of, rectangle_of, rectangle_on, boundary_shape, spot_of, text_on, text_spot, path_on, joined, with_shape, with_label, drawn_at, drawn_by, Adds};
 
 use crate::GdsFault;
 use crate::structure::trim;
 use crate::units::{Ends, Grid, floor_units, side};
 use box_geom::{Label, Layer, Rect, Shape, Shapes};
 use cell_num::{List, Name, NoMemory};
-use gds_record::{GdsRec, RecordType, next_record};
+use gds_record::{GdsRec, RecordType, layers, next_record};
 use std::alloc::Global;
 
 /// A point of a file, each coordinate as the four bytes that it has, read without a sign.
@@ -76,23 +77,6 @@ fn points_place(bytes: &[u8], from: u64) -> u64
     }
 }
 
-fn layer(number: u16) -> Option<Layer>
-    ensures { result ≡ layer_numbered number }
-{
-    match number {
-        42 => Some(Layer::Well),
-        43 => Some(Layer::Active),
-        44 => Some(Layer::PSelect),
-        45 => Some(Layer::NSelect),
-        46 => Some(Layer::Poly),
-        25 => Some(Layer::Contact),
-        49 => Some(Layer::Metal1),
-        50 => Some(Layer::Via),
-        51 => Some(Layer::Metal2),
-        _ => None,
-    }
-}
-
 fn short(content: &[u8]) -> u16
     ensures { result ≡ short_of content.now }
 {
@@ -108,7 +92,7 @@ fn element_layer(bytes: &[u8], from: u64) -> Option<Layer>
     requires place { from ≤ length bytes.now }
     ensures { result ≡ layer_numbered (short_of (content_of record_type.Layer (until record_type.EndEl (items_from bytes.now from)))) }
 {
-    layer(short(field_content(bytes, from, RecordType::EndEl, RecordType::Layer)))
+    layers::numbered(short(field_content(bytes, from, RecordType::EndEl, RecordType::Layer)))
 }
 
 fn word(content: &[u8], at: usize) -> u32

@@ -1,4 +1,4 @@
-ghost use Rattle.std.specs.Prelude.{◌≡◌, ℕ, List, Some, Ok, Err};
+ghost use Rattle.std.specs.Prelude.{◌≡◌, ℕ, List, Ok, Err};
 ghost use Rattle.gds_record.specs.Records.{IsBytes};
 ghost use Rattle.gds_read.specs.declared.fault.GdsFault.{GdsFault};
 ghost use Rattle.gds_read.specs.Grammar.{first_pass_of};
@@ -6,12 +6,9 @@ ghost use Rattle.gds_record.specs.declared.types.RecordType.{RecordType};
 ghost use Rattle.gds_read.specs.declared.grammar.Place.{Place};
 ghost use Rattle.gds_read.specs.declared.grammar.Place.TheVariants.{Start, Ended};
 ghost use Rattle.gds_read.specs.Words.{Accepts, IsLibraryWord, types_of};
-ghost use Rattle.box_geom.specs.declared.layer.Layer.{Layer};
 ghost use Rattle.box_geom.specs.declared.shape.Shapes.{Shapes};
 ghost use Rattle.gds_read.specs.Decoding.{Decodes, GdsRefused, IsCell, IsCellFault};
 ghost use Rattle.gds_read.specs.Library.{IsLibrary, IsFirstFault};
-ghost use Rattle.gds_read.specs.Elements.{layer_numbered};
-ghost use Rattle.gds_write.specs.Written.{layer_number};
 
 /// The first pass accepts the bytes of a library, and no others, and else answers the first fault. It
 /// does nothing: its contract is the law.
@@ -41,11 +38,4 @@ pub fn written_grammar()
     ensures accepted { (word : List RecordType) → IsLibraryWord word → Accepts Start word Ended }
     ensures libraries { (bytes : List ℕ) (end : ℕ) (l : IsLibrary bytes end) → IsLibraryWord (types_of l.records) }
     ensures no_dead_end { (place : Place) → (rest : List RecordType) × Accepts place rest Ended }
-{}
-
-/// The layers are read of the numbers that they are written by, and of no others. It does nothing: its
-/// contract is the law.
-pub fn layer_numbers()
-    ensures written { (l : Layer) → layer_numbered (layer_number l) ≡ Some l }
-    ensures only { (n : ℕ) (l : Layer) → layer_numbered n ≡ Some l → layer_number l ≡ n }
 {}
