@@ -4,21 +4,21 @@ use Rattle.std.specs.Bool.{Decides}
 use Rattle.std.specs.Int.{int_max}
 use Rattle.std.proofs.lemmas.Int.{ints, clamps, by_lt_z}
 use Rattle.std.proofs.lemmas.Bool.Decides.{Decides-like}
-use Rattle.box_geom.specs.Rectangle.{Rectangle, IsRectangle}
+use Rattle.box_geom.specs.Rectangle.{Rectangle, IsProper}
 use Rattle.box_geom.specs.Comparisons.{overlapping, gap_of, gap_by, gap_between}
 use Rattle.box_geom.specs.Touching.{Overlap, ShareRow, ShareColumn, Face, FaceInNeither}
 use Rattle.box_geom.proofs.Spans.{int_le_decides, overlap_decides}
 
-row_of : (a b : Rectangle) → IsRectangle a → IsRectangle b → (a.y1 <ℤ b.y2) × (b.y1 <ℤ a.y2) → ShareRow a b
+row_of : (a b : Rectangle) → IsProper a → IsProper b → (a.y1 <ℤ b.y2) × (b.y1 <ℤ a.y2) → ShareRow a b
 row_of a b ra rb (l, h) = record { y = int_max a.y1 b.y1; a_low = omega (arith, ints, clamps); a_high = omega (arith, ints, clamps); b_low = omega (arith, ints, clamps); b_high = omega (arith, ints, clamps) }
 
-column_of : (a b : Rectangle) → IsRectangle a → IsRectangle b → (a.x1 <ℤ b.x2) × (b.x1 <ℤ a.x2) → ShareColumn a b
+column_of : (a b : Rectangle) → IsProper a → IsProper b → (a.x1 <ℤ b.x2) × (b.x1 <ℤ a.x2) → ShareColumn a b
 column_of a b ra rb (l, h) = record { x = int_max a.x1 b.x1; a_left = omega (arith, ints, clamps); a_right = omega (arith, ints, clamps); b_left = omega (arith, ints, clamps); b_right = omega (arith, ints, clamps) }
 
-row_decides : (a b : Rectangle) → IsRectangle a → IsRectangle b → Decides (overlapping a.y1 a.y2 b.y1 b.y2) (ShareRow a b)
+row_decides : (a b : Rectangle) → IsProper a → IsProper b → Decides (overlapping a.y1 a.y2 b.y1 b.y2) (ShareRow a b)
 row_decides a b ra rb = Decides-like (overlapping a.y1 a.y2 b.y1 b.y2) (row_of a b ra rb) (λ s. (omega (arith, ints), omega (arith, ints))) (overlap_decides a.y1 a.y2 b.y1 b.y2)
 
-column_decides : (a b : Rectangle) → IsRectangle a → IsRectangle b → Decides (overlapping a.x1 a.x2 b.x1 b.x2) (ShareColumn a b)
+column_decides : (a b : Rectangle) → IsProper a → IsProper b → Decides (overlapping a.x1 a.x2 b.x1 b.x2) (ShareColumn a b)
 column_decides a b ra rb = Decides-like (overlapping a.x1 a.x2 b.x1 b.x2) (column_of a b ra rb) (λ s. (omega (arith, ints), omega (arith, ints))) (overlap_decides a.x1 a.x2 b.x1 b.x2)
 
 gap_is : (a b c d : ℤ) → ((a <ℤ d) × (c <ℤ b) → ⊥) → (c ≡ b +ℤ pos (gap_of a b c d)) ⊎ (a ≡ d +ℤ pos (gap_of a b c d))
@@ -38,7 +38,7 @@ faces_by a b true false r c ac ar = inl (record { row = r.0 refl; gap = gap_is a
 faces_by a b false true r c ac ar = inr (record { column = c.0 refl; gap = gap_is a.y1 a.y2 b.y1 b.y2 (ar refl) })
 faces_by a b false false r c ac ar = tt
 
-pub faces : (a b : Rectangle) → IsRectangle a → IsRectangle b → IfSome (gap_between a b) (λ d. Face a b d)
+pub faces : (a b : Rectangle) → IsProper a → IsProper b → IfSome (gap_between a b) (λ d. Face a b d)
 faces a b ra rb =
     faces_by a b (overlapping a.y1 a.y2 b.y1 b.y2) (overlapping a.x1 a.x2 b.x1 b.x2) (row_decides a b ra rb) (column_decides a b ra rb)
     (λ e h. let t = (overlap_decides a.x1 a.x2 b.x1 b.x2).1 h in cc)
@@ -60,5 +60,5 @@ faces_not_by a b false true r c =
 faces_not_by a b false false r c =
     (λ e. inr (record { row = λ s. absurd (cc (r.1 s)); column = λ s. absurd (cc (c.1 s)) }), λ e. refl)
 
-pub faces_not : (a b : Rectangle) → IsRectangle a → IsRectangle b → IsNone (gap_between a b) ↔ (Overlap a b ⊎ FaceInNeither a b)
+pub faces_not : (a b : Rectangle) → IsProper a → IsProper b → IsNone (gap_between a b) ↔ (Overlap a b ⊎ FaceInNeither a b)
 faces_not a b ra rb = faces_not_by a b (overlapping a.y1 a.y2 b.y1 b.y2) (overlapping a.x1 a.x2 b.x1 b.x2) (row_decides a b ra rb) (column_decides a b ra rb)

@@ -4,7 +4,7 @@ use Rattle.std.specs.Bool.{Decides}
 use Rattle.std.specs.Int.{int_max}
 use Rattle.std.proofs.lemmas.Int.{ints, clamps, by_lt_z}
 use Rattle.std.proofs.lemmas.Bool.Decides.{Decides-and, Decides-or, Decides-like}
-use Rattle.box_geom.specs.Rectangle.{Rectangle, IsRectangle, Holds}
+use Rattle.box_geom.specs.Rectangle.{Rectangle, IsProper, Holds}
 use Rattle.box_geom.specs.Comparisons.{overlapping, reaching, beside, stacked, touching}
 use Rattle.box_geom.specs.Touching.{Cell, Edge, to_right, to_left, upward, downward, Touch}
 use Rattle.box_geom.proofs.Spans.{overlap_decides, reach_decides}
@@ -23,7 +23,7 @@ pub record Stacked (a b : Rectangle) : Type 0 where
   pub low : a.y1 ≤ℤ b.y2
   pub high : b.y1 ≤ℤ a.y2
 
-beside_touches : (a b : Rectangle) → IsRectangle a → IsRectangle b → Beside a b → Touch a b
+beside_touches : (a b : Rectangle) → IsProper a → IsProper b → Beside a b → Touch a b
 beside_touches a b ra rb h =
     let y : ℤ = int_max a.y1 b.y1 in
     by_lt_z b.x1 a.x2
@@ -32,7 +32,7 @@ beside_touches a b ra rb h =
     (λ m. record { one = record { x = a.x1; y = y }; other = record { x = b.x2 -ℤ pos 1; y = y }; in_a = omega (arith, ints, clamps); in_b = omega (arith, ints, clamps); meet = inr (to_left (omega (arith, ints)) refl) }))
     (λ l. record { one = record { x = a.x2 -ℤ pos 1; y = y }; other = record { x = b.x1; y = y }; in_a = omega (arith, ints, clamps); in_b = omega (arith, ints, clamps); meet = inr (to_right (omega (arith, ints)) refl) })
 
-stacked_touches : (a b : Rectangle) → IsRectangle a → IsRectangle b → Stacked a b → Touch a b
+stacked_touches : (a b : Rectangle) → IsProper a → IsProper b → Stacked a b → Touch a b
 stacked_touches a b ra rb h =
     let x : ℤ = int_max a.x1 b.x1 in
     by_lt_z b.y1 a.y2
@@ -42,7 +42,7 @@ stacked_touches a b ra rb h =
     (λ l. record { one = record { x = x; y = a.y2 -ℤ pos 1 }; other = record { x = x; y = b.y1 }; in_a = omega (arith, ints, clamps); in_b = omega (arith, ints, clamps); meet = inr (upward refl (omega (arith, ints))) })
 
 -- rectangles whose sides meet touch
-pub sides_touch : (a b : Rectangle) → IsRectangle a → IsRectangle b → Beside a b ⊎ Stacked a b → Touch a b
+pub sides_touch : (a b : Rectangle) → IsProper a → IsProper b → Beside a b ⊎ Stacked a b → Touch a b
 sides_touch a b ra rb (inl h) = beside_touches a b ra rb h
 sides_touch a b ra rb (inr h) = stacked_touches a b ra rb h
 
@@ -62,5 +62,5 @@ sides_decide a b = Decides-or (beside a b) (stacked a b)
     (Decides-like (beside a b) (λ h. record { left = h.0.0; right = h.0.1; low = h.1.0; high = h.1.1 }) (λ h. ((h.left, h.right), (h.low, h.high))) (Decides-and (reaching a.x1 a.x2 b.x1 b.x2) (overlapping a.y1 a.y2 b.y1 b.y2) (reach_decides a.x1 a.x2 b.x1 b.x2) (overlap_decides a.y1 a.y2 b.y1 b.y2)))
     (Decides-like (stacked a b) (λ h. record { left = h.0.0; right = h.0.1; low = h.1.0; high = h.1.1 }) (λ h. ((h.left, h.right), (h.low, h.high))) (Decides-and (overlapping a.x1 a.x2 b.x1 b.x2) (reaching a.y1 a.y2 b.y1 b.y2) (overlap_decides a.x1 a.x2 b.x1 b.x2) (reach_decides a.y1 a.y2 b.y1 b.y2)))
 
-pub touch_decides : (a b : Rectangle) → IsRectangle a → IsRectangle b → IsTrue (touching a b) ↔ Touch a b
+pub touch_decides : (a b : Rectangle) → IsProper a → IsProper b → IsTrue (touching a b) ↔ Touch a b
 touch_decides a b ra rb = Decides-like (touching a b) (sides_touch a b ra rb) (touch_sides a b) (sides_decide a b)

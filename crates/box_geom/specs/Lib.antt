@@ -1,5 +1,8 @@
+pub mod Chains
 pub mod Comparisons
 pub mod Cutting
 pub mod Layers
+pub mod Near
 pub mod Rectangle
+pub mod Runs
 pub mod Touching

@@ -9,10 +9,14 @@ pub record Rectangle : Type 0 where
   pub x2 : ℤ
   pub y2 : ℤ
 
--- the sides ascend, and none lies beyond the limit of 1,000,000,000
-pub record IsRectangle (r : Rectangle) : Type 0 where
+-- the sides ascend: some cell lies in the rectangle
+pub record IsProper (r : Rectangle) : Type 0 where
   pub wide : r.x1 <ℤ r.x2
   pub high : r.y1 <ℤ r.y2
+
+-- the sides ascend, and none lies beyond the limit of 1,000,000,000
+pub record IsRectangle (r : Rectangle) : Type 0 where
+  pub proper : IsProper r
   pub left : neg_ℤ (pos 1000000000) ≤ℤ r.x1
   pub right : r.x2 ≤ℤ pos 1000000000
   pub low : neg_ℤ (pos 1000000000) ≤ℤ r.y1

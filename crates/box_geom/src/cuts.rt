@@ -51,10 +51,8 @@ fn once_each(mut values: Vec<i32>) -> Vec<i32>
 fn cuts_along(alloc: Global, shapes: &[Shape], axis: Axis) -> Result<CoordList, NoMemory>
     ensures { IfOk result (λ cuts. AreCuts (sides axis shapes.now) cuts) }
 {
-    match all_sides(alloc, shapes, axis) {
-        Ok(values) => Ok(List::from_vec(once_each(values))),
-        Err(_) => Err(NoMemory),
-    }
+    let values = all_sides(alloc, shapes, axis)?;
+    Ok(List::from_vec(once_each(values)))
 }
 
 impl Cuts {

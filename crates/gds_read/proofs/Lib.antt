@@ -1,10 +1,10 @@
 pub mod Cells
 pub mod Decoded
 pub mod Drawings
+pub mod Ends
 pub mod Faulty
 pub mod Fields
 pub mod Found
-pub mod Layers
 pub mod LibraryWords
 pub mod Nearest
 pub mod Passes

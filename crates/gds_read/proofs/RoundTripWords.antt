@@ -13,8 +13,9 @@ use Rattle.box_geom.specs.declared.shape.Label.{Label}
 use Rattle.gds_read.specs.declared.units.Grid.{Grid}
 use Rattle.gds_read.specs.declared.element.Point.{Point}
 use Rattle.gds_read.specs.Units.{limited_to_grid, scaled_by, step_of_grid, whole_units_of, floor_units_of, in_order, ends_of}
-use Rattle.gds_read.specs.Elements.{layer_numbered, short_of, point_at, is_round, are_corners, across_of, upward_of, rectangle_of, spot_of}
-use Rattle.gds_write.specs.Written.{layer_number, short, long, point, corners, Fits, IsWritableShape, IsWritableLabel}
+use Rattle.gds_record.specs.Layers.{layer_number, layer_numbered}
+use Rattle.gds_read.specs.Elements.{short_of, point_at, is_round, are_corners, across_of, upward_of, rectangle_of, spot_of}
+use Rattle.gds_write.specs.Written.{short, long, point, corners, Fits, IsWritableShape, IsWritableLabel}
 use Rattle.gds_write.proofs.Pieces.{corners_length}
 use Rattle.gds_read.proofs.RoundTripExact.{scaled_exact, exact_rem, exact_div}
 
@@ -113,8 +114,8 @@ pub corners_back : (unit : ℕ) (s : Shape) → 0 < unit → IsWritableShape uni
 unfolding are_corners
 corners_back unit s some fits is =
     let r = are_read unit s fits in
-    let wide : word unit s.rect.x1 ≡ word unit s.rect.x2 → ⊥ = differ unit s.rect.x1 s.rect.x2 some fits.x1 fits.x2 is.wide in
-    let high : word unit s.rect.y1 ≡ word unit s.rect.y2 → ⊥ = differ unit s.rect.y1 s.rect.y2 some fits.y1 fits.y2 is.high in
+    let wide : word unit s.rect.x1 ≡ word unit s.rect.x2 → ⊥ = differ unit s.rect.x1 s.rect.x2 some fits.x1 fits.x2 is.proper.wide in
+    let high : word unit s.rect.y1 ≡ word unit s.rect.y2 → ⊥ = differ unit s.rect.y1 s.rect.y2 some fits.y1 fits.y2 is.proper.high in
     rw (corners_length unit s.rect) (same_round _ _ _ _ _ _ _ _ _ _ r.first r.second r.third r.fourth r.last ∙ round (word unit s.rect.x1) (word unit s.rect.y1) (word unit s.rect.x2) (word unit s.rect.y2) wide high)
 
 in_order_back : (a b : ℤ) → a <ℤ b → in_order a b ≡ Some (record { low = a; high = b })
@@ -128,14 +129,14 @@ unfolding across_of long point corners
 across_back unit s some fits is =
     let low : IsLimited s.rect.x1 = omega (arith, ints) in
     let high : IsLimited s.rect.x2 = omega (arith, ints) in
-    rw (signed_back unit s.rect.x1 fits.x1, signed_back unit s.rect.x2 fits.x2) (ends_back unit s.rect.x1 s.rect.x2 some low high is.wide)
+    rw (signed_back unit s.rect.x1 fits.x1, signed_back unit s.rect.x2 fits.x2) (ends_back unit s.rect.x1 s.rect.x2 some low high is.proper.wide)
 
 upward_back : (unit : ℕ) (s : Shape) → 0 < unit → IsWritableShape unit s → IsRectangle s.rect → upward_of (grid unit) (corners unit s.rect) ≡ Some (record { low = s.rect.y1; high = s.rect.y2 })
 unfolding upward_of long point corners
 upward_back unit s some fits is =
     let low : IsLimited s.rect.y1 = omega (arith, ints) in
     let high : IsLimited s.rect.y2 = omega (arith, ints) in
-    rw (signed_back unit s.rect.y1 fits.y1, signed_back unit s.rect.y2 fits.y2) (ends_back unit s.rect.y1 s.rect.y2 some low high is.high)
+    rw (signed_back unit s.rect.y1 fits.y1, signed_back unit s.rect.y2 fits.y2) (ends_back unit s.rect.y1 s.rect.y2 some low high is.proper.high)
 
 pub rectangle_back : (unit : ℕ) (s : Shape) → 0 < unit → IsWritableShape unit s → IsRectangle s.rect → rectangle_of (grid unit) (corners unit s.rect) ≡ Some s.rect
 unfolding rectangle_of

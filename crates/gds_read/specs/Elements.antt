@@ -3,11 +3,11 @@ use Rattle.std.specs.Prelude.{ℕ, ◌≡◌, ◌+◌, ◌*◌, ◌==◌, ◌&&�
 use Rattle.std.specs.Int.{w32, from_be_bytes, cast_signed}
 use Rattle.box_geom.specs.Rectangle.{Rectangle}
 use Rattle.box_geom.specs.declared.layer.Layer.{Layer}
-use Rattle.box_geom.specs.declared.layer.Layer.TheVariants as layer
 use Rattle.box_geom.specs.declared.shape.Shape.{Shape}
 use Rattle.box_geom.specs.declared.shape.Shapes.{Shapes}
 use Rattle.gds_record.specs.declared.types.RecordType.{RecordType}
 use Rattle.gds_record.specs.declared.types.RecordType.TheVariants as record_type
+use Rattle.gds_record.specs.Layers.{layer_numbered}
 use Rattle.gds_record.specs.Types.{type_numbered}
 use Rattle.gds_record.specs.Records.{Item}
 use Rattle.gds_read.specs.declared.fault.GdsFault.{GdsFault}
@@ -53,20 +53,6 @@ place_of (Some r) = r.at
 
 abbrev pub content_of : RecordType → List Item → List ℕ
 content_of kind records = data_of (find (is_type kind) records)
-
--- the layers of the drawing by their numbers, those of MOSIS SCMOS
-abbrev pub layer_numbered : ℕ → Option Layer
-layer_numbered number =
-    if number == 42 then Some layer.Well else
-    if number == 43 then Some layer.Active else
-    if number == 44 then Some layer.PSelect else
-    if number == 45 then Some layer.NSelect else
-    if number == 46 then Some layer.Poly else
-    if number == 25 then Some layer.Contact else
-    if number == 49 then Some layer.Metal1 else
-    if number == 50 then Some layer.Via else
-    if number == 51 then Some layer.Metal2 else
-    None
 
 -- a two-byte integer
 abbrev pub short_of : List ℕ → ℕ

@@ -1,17 +1,18 @@
 ghost use Rattle.std.specs.Prelude.{◌≡◌, ◌≤◌, ◌<◌, ◌+◌, ◌==◌, not, [], ◌∷◌, length, find, option_map, IsTrue, IfSome, IfOk, OnOk};
 ghost use Rattle.gds_record.specs.Records.{item_of, items_from};
 ghost use Rattle.gds_record.specs.declared.types.RecordType.TheVariants as record_type;
+ghost use Rattle.gds_record.specs.Layers.{layer_numbered};
 ghost use Rattle.gds_record.specs.Types.{type_numbered};
 ghost use Rattle.gds_read.specs.Structure.{is_type, trimmed};
 ghost use Rattle.gds_read.specs.Units.{IsSide};
-ghost use Rattle.gds_read.specs.Elements.{until, content_of, place_of, layer_numbered, short_of, layer_of, word_at, signed_at, point_at, is_upright, is_flat, is_round, are_corners, across_of, upward_of, rectangle_of, rectangle_on, boundary_shape, spot_of, text_on, text_spot, path_on, joined, with_shape, with_label, drawn_at, drawn_by, Adds};
+ghost use Rattle.gds_read.specs.Elements.{until, content_of, place_of, short_of, layer_of, word_at, signed_at, point_at, is_upright, is_flat, is_round, are_corners, across_of, upward_of, rectangle_of, rectangle_on, boundary_shape, spot_of, text_on, text_spot, path_on, joined, with_shape, with_label, drawn_at, drawn_by, Adds};
 
 use crate::GdsFault;
 use crate::structure::trim;
 use crate::units::{Ends, Grid, floor_units, side};
 use box_geom::{Label, Layer, Rect, Shape, Shapes};
-use cell_num::{List, Name, NoMemory};
-use gds_record::{GdsRec, RecordType, next_record};
+use cell_num::{MOST_BYTES, NoMemory, copy};
+use gds_record::{GdsRec, RecordType, layers, next_record};
 use std::alloc::Global;
 
 /// A point of a file, each coordinate as the four bytes that it has, read without a sign.
@@ -32,7 +33,7 @@ pub struct Spot {
 /// The first record of a type between a place and the next record of the type `end`.
 #[tactic(auto, using(gds_record::proofs::Walks::moves, crate::proofs::Fields::none_left, crate::proofs::Fields::none_before, crate::proofs::Fields::this_one, crate::proofs::Fields::later))]
 pub fn field(bytes: &[u8], from: u64, end: RecordType, kind: RecordType) -> Option<GdsRec>
-    requires size { length bytes.now ≤ 1073741824 }
+    requires size { length bytes.now ≤ MOST_BYTES }
     requires place { from ≤ length bytes.now }
     ensures found { option_map (item_of bytes.now) result ≡ find (is_type kind) (until end (items_from bytes.now from)) }
     ensures within { IfSome result (λ r. (r.at + 4 ≤ r.next) × (r.next ≤ length bytes.now)) }
@@ -54,7 +55,7 @@ pub fn field(bytes: &[u8], from: u64, end: RecordType, kind: RecordType) -> Opti
 
 /// The data of that record, or none.
 pub fn field_content(bytes: &[u8], from: u64, end: RecordType, kind: RecordType) -> &[u8]
-    requires size { length bytes.now ≤ 1073741824 }
+    requires size { length bytes.now ≤ MOST_BYTES }
     requires place { from ≤ length bytes.now }
     ensures { result.now ≡ content_of kind (until end (items_from bytes.now from)) }
 {
@@ -66,30 +67,13 @@ pub fn field_content(bytes: &[u8], from: u64, end: RecordType, kind: RecordType)
 
 // The place of an element's points.
 fn points_place(bytes: &[u8], from: u64) -> u64
-    requires size { length bytes.now ≤ 1073741824 }
+    requires size { length bytes.now ≤ MOST_BYTES }
     requires place { from ≤ length bytes.now }
     ensures { result ≡ place_of (find (is_type record_type.Xy) (until record_type.EndEl (items_from bytes.now from))) }
 {
     match field(bytes, from, RecordType::EndEl, RecordType::Xy) {
         Some(rec) => rec.at,
         None => 0,
-    }
-}
-
-fn layer(number: u16) -> Option<Layer>
-    ensures { result ≡ layer_numbered number }
-{
-    match number {
-        42 => Some(Layer::Well),
-        43 => Some(Layer::Active),
-        44 => Some(Layer::PSelect),
-        45 => Some(Layer::NSelect),
-        46 => Some(Layer::Poly),
-        25 => Some(Layer::Contact),
-        49 => Some(Layer::Metal1),
-        50 => Some(Layer::Via),
-        51 => Some(Layer::Metal2),
-        _ => None,
     }
 }
 
@@ -104,11 +88,11 @@ fn short(content: &[u8]) -> u16
 
 // The layer of the element behind whose first record a place is.
 fn element_layer(bytes: &[u8], from: u64) -> Option<Layer>
-    requires size { length bytes.now ≤ 1073741824 }
+    requires size { length bytes.now ≤ MOST_BYTES }
     requires place { from ≤ length bytes.now }
     ensures { result ≡ layer_numbered (short_of (content_of record_type.Layer (until record_type.EndEl (items_from bytes.now from)))) }
 {
-    layer(short(field_content(bytes, from, RecordType::EndEl, RecordType::Layer)))
+    layers::numbered(short(field_content(bytes, from, RecordType::EndEl, RecordType::Layer)))
 }
 
 fn word(content: &[u8], at: usize) -> u32
@@ -232,7 +216,7 @@ fn rectangle(grid: &Grid, xy: &[u8]) -> Option<Rect>
 
 // The rectangle of a boundary behind whose first record a place is, if its layer is in the drawing.
 fn boundary(bytes: &[u8], rec: &GdsRec, grid: &Grid) -> Result<Option<Shape>, GdsFault>
-    requires size { length bytes.now ≤ 1073741824 }
+    requires size { length bytes.now ≤ MOST_BYTES }
     requires place { rec.now.next ≤ length bytes.now }
     requires grid { 1 ≤ grid.now.lambda_nm }
     ensures { result ≡ boundary_shape grid.now (record { kind = record_type.Boundary; at = rec.now.at; inside = until record_type.EndEl (items_from bytes.now rec.now.next) }) }
@@ -268,7 +252,7 @@ fn label_spot(grid: &Grid, layer: Layer, xy: &[u8]) -> Option<Spot>
 
 // The place of a text, if its layer is in the drawing.
 fn text(bytes: &[u8], rec: &GdsRec, grid: &Grid) -> Result<Option<Spot>, GdsFault>
-    requires size { length bytes.now ≤ 1073741824 }
+    requires size { length bytes.now ≤ MOST_BYTES }
     requires place { rec.now.next ≤ length bytes.now }
     requires grid { 1 ≤ grid.now.lambda_nm }
     ensures { result ≡ text_spot grid.now (record { kind = record_type.Text; at = rec.now.at; inside = until record_type.EndEl (items_from bytes.now rec.now.next) }) }
@@ -291,21 +275,11 @@ fn text(bytes: &[u8], rec: &GdsRec, grid: &Grid) -> Result<Option<Spot>, GdsFaul
 fn add_shape(shapes: &mut Shapes, shape: Option<Shape>) -> Result<(), NoMemory>
     ensures { OnOk result (shapes.new ≡ joined shapes.old (with_shape shape)) }
 {
-    match shape {
-        Some(shape) => match shapes.rects.push(shape) {
-            Ok(()) => Ok(()),
-            Err(_) => Err(NoMemory),
-        },
-        None => Ok(()),
-    }
-}
-
-fn copied(alloc: Global, text: &[u8]) -> Result<Name, NoMemory>
-    ensures { IfOk result (λ name. name ≡ text.now) }
-{
-    let mut name = List::new(alloc);
-    name.extend(text)?;
-    Ok(name)
+    let Some(shape) = shape else {
+        return Ok(());
+    };
+    shapes.rects.push(shape)?;
+    Ok(())
 }
 
 // Adds a label, if there is one.
@@ -320,19 +294,15 @@ fn add_label(
     let Some(spot) = spot else {
         return Ok(());
     };
-    let Ok(name) = copied(alloc, name) else {
-        return Err(NoMemory);
-    };
+    let name = copy(alloc, name)?;
     let label = Label {
         layer: spot.layer,
         x: spot.x,
         y: spot.y,
         name,
     };
-    match shapes.labels.push(label) {
-        Ok(()) => Ok(()),
-        Err(_) => Err(NoMemory),
-    }
+    shapes.labels.push(label)?;
+    Ok(())
 }
 
 #[tactic(auto, using(crate::proofs::Drawings::adds_same))]
@@ -342,18 +312,14 @@ fn add_boundary(
     grid: &Grid,
     shapes: &mut Shapes,
 ) -> Result<(), GdsFault>
-    requires size { length bytes.now ≤ 1073741824 }
+    requires size { length bytes.now ≤ MOST_BYTES }
     requires place { rec.now.next ≤ length bytes.now }
     requires grid { 1 ≤ grid.now.lambda_nm }
     ensures { Adds result shapes.old shapes.new (drawn_by grid.now (record { kind = record_type.Boundary; at = rec.now.at; inside = until record_type.EndEl (items_from bytes.now rec.now.next) }) record_type.Boundary) }
 {
-    match boundary(bytes, rec, grid) {
-        Ok(shape) => match add_shape(shapes, shape) {
-            Ok(()) => Ok(()),
-            Err(_) => Err(GdsFault::NoMemory),
-        },
-        Err(fault) => Err(fault),
-    }
+    let shape = boundary(bytes, rec, grid)?;
+    add_shape(shapes, shape)?;
+    Ok(())
 }
 
 #[tactic(auto, using(crate::proofs::Drawings::adds_same))]
@@ -364,21 +330,15 @@ fn add_text(
     grid: &Grid,
     shapes: &mut Shapes,
 ) -> Result<(), GdsFault>
-    requires size { length bytes.now ≤ 1073741824 }
+    requires size { length bytes.now ≤ MOST_BYTES }
     requires place { rec.now.next ≤ length bytes.now }
     requires grid { 1 ≤ grid.now.lambda_nm }
     ensures { Adds result shapes.old shapes.new (drawn_by grid.now (record { kind = record_type.Text; at = rec.now.at; inside = until record_type.EndEl (items_from bytes.now rec.now.next) }) record_type.Text) }
 {
-    match text(bytes, rec, grid) {
-        Ok(spot) => {
-            let name = field_content(bytes, rec.next, RecordType::EndEl, RecordType::StringText);
-            match add_label(alloc, shapes, spot, trim(name)) {
-                Ok(()) => Ok(()),
-                Err(_) => Err(GdsFault::NoMemory),
-            }
-        }
-        Err(fault) => Err(fault),
-    }
+    let spot = text(bytes, rec, grid)?;
+    let name = field_content(bytes, rec.next, RecordType::EndEl, RecordType::StringText);
+    add_label(alloc, shapes, spot, trim(name))?;
+    Ok(())
 }
 
 /// Adds what the element draws that a record of a type begins, if it begins one.
@@ -390,7 +350,7 @@ pub fn add_element(
     grid: &Grid,
     shapes: &mut Shapes,
 ) -> Result<(), GdsFault>
-    requires size { length bytes.now ≤ 1073741824 }
+    requires size { length bytes.now ≤ MOST_BYTES }
     requires place { rec.now.next ≤ length bytes.now }
     requires grid { 1 ≤ grid.now.lambda_nm }
     ensures { Adds result shapes.old shapes.new (drawn_by grid.now (record { kind = kind; at = rec.now.at; inside = until record_type.EndEl (items_from bytes.now rec.now.next) }) kind) }
@@ -415,7 +375,7 @@ pub fn add_record(
     grid: &Grid,
     shapes: &mut Shapes,
 ) -> Result<(), GdsFault>
-    requires size { length bytes.now ≤ 1073741824 }
+    requires size { length bytes.now ≤ MOST_BYTES }
     requires place { rec.now.next ≤ length bytes.now }
     requires grid { 1 ≤ grid.now.lambda_nm }
     ensures { Adds result shapes.old shapes.new (drawn_at grid.now (item_of bytes.now rec.now) (items_from bytes.now rec.now.next) (type_numbered rec.now.code)) }

@@ -1,7 +1,8 @@
 ghost use Rattle.std.specs.Prelude.{◌≡◌};
 ghost use Rattle.gds_read.specs.Grammar.{as_fault};
+ghost use Rattle.gds_read.specs.declared.fault.GdsFault.TheVariants as fault;
 
-use cell_num::Name;
+use cell_num::{Name, NoMemory};
 use gds_record::RecFault;
 use thiserror::Error;
 
@@ -55,5 +56,13 @@ impl From<RecFault> for GdsFault {
             RecFault::Cut { at } => GdsFault::Cut { at },
             RecFault::Length { at } => GdsFault::Length { at },
         }
+    }
+}
+
+impl From<NoMemory> for GdsFault {
+    ghost from_gives = { λ _ e. e ≡ fault.NoMemory };
+
+    fn from(_: NoMemory) -> GdsFault {
+        GdsFault::NoMemory
     }
 }

@@ -1,16 +1,14 @@
-ghost use Rattle.std.specs.Prelude.{◌≡◌, ℕ, List, Some, Ok, Err};
+ghost use Rattle.std.specs.Prelude.{◌≡◌, ℕ, List, Ok, Err};
 ghost use Rattle.gds_record.specs.Records.{IsBytes};
 ghost use Rattle.gds_read.specs.declared.fault.GdsFault.{GdsFault};
 ghost use Rattle.gds_read.specs.Grammar.{first_pass_of};
 ghost use Rattle.gds_record.specs.declared.types.RecordType.{RecordType};
+ghost use Rattle.gds_read.specs.declared.grammar.Place.{Place};
 ghost use Rattle.gds_read.specs.declared.grammar.Place.TheVariants.{Start, Ended};
 ghost use Rattle.gds_read.specs.Words.{Accepts, IsLibraryWord, types_of};
-ghost use Rattle.box_geom.specs.declared.layer.Layer.{Layer};
 ghost use Rattle.box_geom.specs.declared.shape.Shapes.{Shapes};
 ghost use Rattle.gds_read.specs.Decoding.{Decodes, GdsRefused, IsCell, IsCellFault};
 ghost use Rattle.gds_read.specs.Library.{IsLibrary, IsFirstFault};
-ghost use Rattle.gds_read.specs.Elements.{layer_numbered};
-ghost use Rattle.gds_write.specs.Written.{layer_number};
 
 /// The first pass accepts the bytes of a library, and no others, and else answers the first fault. It
 /// does nothing: its contract is the law.
@@ -33,16 +31,11 @@ pub fn decoded_cells()
 {}
 
 /// The table of places accepts the words of the written grammar, and no others; the types of the records
-/// of a library are such a word. It does nothing: its contract is the law.
+/// of a library are such a word. From each place some records lead to the end, so a record is refused where
+/// no library goes on with it, and not later. It does nothing: its contract is the law.
 pub fn written_grammar()
     ensures written { (word : List RecordType) → Accepts Start word Ended → IsLibraryWord word }
     ensures accepted { (word : List RecordType) → IsLibraryWord word → Accepts Start word Ended }
     ensures libraries { (bytes : List ℕ) (end : ℕ) (l : IsLibrary bytes end) → IsLibraryWord (types_of l.records) }
-{}
-
-/// The layers are read of the numbers that they are written by, and of no others. It does nothing: its
-/// contract is the law.
-pub fn layer_numbers()
-    ensures written { (l : Layer) → layer_numbered (layer_number l) ≡ Some l }
-    ensures only { (n : ℕ) (l : Layer) → layer_numbered n ≡ Some l → layer_number l ≡ n }
+    ensures no_dead_end { (place : Place) → (rest : List RecordType) × Accepts place rest Ended }
 {}

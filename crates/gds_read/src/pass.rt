@@ -5,6 +5,7 @@ ghost use Rattle.gds_read.specs.Grammar.{is_wrong_unit, with_unit, known_step, s
 use crate::GdsFault;
 use crate::grammar::{Place, after, allowed, wrong_length};
 use crate::real::picometres_at_place;
+use cell_num::MOST_BYTES;
 use gds_record::{GdsRec, RecordType, next_record};
 
 fn wrong_unit(picometres: u64) -> bool
@@ -90,7 +91,7 @@ fn behind(bytes: &[u8], from: u64) -> Result<u64, GdsFault>
 /// Goes over all records of a library, and answers the place behind it.
 #[tactic(auto, using(gds_record::proofs::Walks::moves, crate::proofs::Passes::pass_stops, crate::proofs::Passes::pass_fails, crate::proofs::Passes::pass_ends, crate::proofs::Passes::pass_goes))]
 pub fn first_pass(bytes: &[u8]) -> Result<u64, GdsFault>
-    requires { length bytes.now ≤ 1073741824 }
+    requires { length bytes.now ≤ MOST_BYTES }
     ensures { result ≡ first_pass_of bytes.now }
 {
     let mut place = Place::Start;

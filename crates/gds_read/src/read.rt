@@ -10,7 +10,7 @@ use crate::real::picometres_at_place;
 use crate::structure::{Lookup, find_structure};
 use crate::units::Grid;
 use box_geom::Shapes;
-use cell_num::{List, Name};
+use cell_num::{List, MOST_BYTES, Name};
 use gds_record::{RecordType, next_record};
 use std::alloc::Global;
 
@@ -24,7 +24,7 @@ fn unit(units: &[u8]) -> u64
 }
 
 fn grid_of(bytes: &[u8], lambda_nm: u32) -> Grid
-    requires { length bytes.now ≤ 1073741824 }
+    requires { length bytes.now ≤ MOST_BYTES }
     ensures { result ≡ grid_in bytes.now lambda_nm }
 {
     let units = field_content(bytes, 0, RecordType::BgnStr, RecordType::Units);
@@ -37,7 +37,7 @@ fn grid_of(bytes: &[u8], lambda_nm: u32) -> Grid
 // What the elements draw that stand behind a place, up to the end of the structure.
 #[tactic(auto, using(gds_record::proofs::Walks::moves, crate::proofs::Drawings::starts, crate::proofs::Drawings::no_more, crate::proofs::Drawings::ends_here, crate::proofs::Drawings::goes_on_with, crate::proofs::Drawings::stops))]
 fn read_elements(alloc: Global, bytes: &[u8], place: u64, grid: &Grid) -> Result<Shapes, GdsFault>
-    requires size { length bytes.now ≤ 1073741824 }
+    requires size { length bytes.now ≤ MOST_BYTES }
     requires place { place ≤ length bytes.now }
     requires grid { 1 ≤ grid.now.lambda_nm }
     ensures { Gives result (drawn grid.now (elements_of (items_from bytes.now place))) }
@@ -82,7 +82,7 @@ pub fn read_cell(
     name: &Name,
     lambda_nm: u32,
 ) -> Result<Shapes, GdsFault>
-    requires size { length bytes.now ≤ 1073741824 }
+    requires size { length bytes.now ≤ MOST_BYTES }
     requires lambda { 1 ≤ lambda_nm }
     ensures decodes { IfOk result (λ shapes. Decodes bytes.now name.now lambda_nm shapes) }
     // the bytes are a library, exactly one structure has the name, and this is what its elements draw

@@ -2,6 +2,7 @@ ghost use Rattle.std.specs.Prelude.{◌≡◌, ◌≤◌, ◌<◌, ◌+◌, ◌=
 ghost use Rattle.gds_record.specs.Records.{Item, item_of, records_from};
 ghost use Rattle.gds_read.specs.Structure.{trimmed, is_named, Finds, IsWithin, found_in};
 
+use cell_num::MOST_BYTES;
 use gds_record::{GdsRec, RecordType, next_record};
 
 /// The structures that have a name.
@@ -37,7 +38,7 @@ fn named(rec: &GdsRec, content: &[u8], name: &[u8]) -> bool
 /// The place behind the name of the structure that has it.
 #[tactic(auto, using(gds_record::proofs::Walks::moves, crate::proofs::Tails::ends, crate::proofs::Tails::passes, crate::proofs::Tails::finds, crate::proofs::Tails::again))]
 pub fn find_structure(bytes: &[u8], name: &[u8]) -> Lookup
-    requires { length bytes.now ≤ 1073741824 }
+    requires { length bytes.now ≤ MOST_BYTES }
     ensures found { Finds bytes.now result (found_in bytes.now name.now) }
     ensures within { IsWithin (length bytes.now) result }
 {

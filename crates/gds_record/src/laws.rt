@@ -2,6 +2,8 @@ ghost use Rattle.std.specs.Prelude.{◌≡◌, ◌+◌, ◌++◌, ℕ, List, Ok,
 ghost use Rattle.gds_record.specs.declared.record.GdsRec.{GdsRec};
 ghost use Rattle.gds_record.specs.declared.types.RecordType.{RecordType};
 ghost use Rattle.gds_record.specs.Types.{number_of, type_numbered};
+ghost use Rattle.box_geom.specs.declared.layer.Layer.{Layer};
+ghost use Rattle.gds_record.specs.Layers.{layer_number, layer_numbered};
 ghost use Rattle.gds_record.specs.Records.{Raw, IsRaw, IsBytes, IsSpelled, spelled, record_at};
 
 /// The records that `next_record` finds are the ones that are spelled. The type that is read of a number
@@ -12,4 +14,11 @@ pub fn spelled_records()
     ensures only { (bytes : List ℕ) (at : ℕ) (r : GdsRec) → IsBytes bytes → record_at bytes at ≡ Ok r → IsSpelled bytes at r }
     ensures numbers { (t : RecordType) → type_numbered (number_of t) ≡ Some t }
     ensures numbered_only { (n : ℕ) (t : RecordType) → type_numbered n ≡ Some t → number_of t ≡ n }
+{}
+
+/// The layers are read of the numbers that they are written by, and of no others. It does nothing: its
+/// contract is the law.
+pub fn layer_numbers()
+    ensures written { (l : Layer) → layer_numbered (layer_number l) ≡ Some l }
+    ensures only { (n : ℕ) (l : Layer) → layer_numbered n ≡ Some l → layer_number l ≡ n }
 {}

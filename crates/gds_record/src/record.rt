@@ -1,6 +1,7 @@
 ghost use Rattle.std.specs.Prelude.{◌≡◌, ◌≤◌, length};
 ghost use Rattle.gds_record.specs.Records.{record_at};
 
+use cell_num::MOST_BYTES;
 use thiserror::Error;
 
 /// A record: its place, its type and data type, and the place behind it. Its data lies between
@@ -26,7 +27,7 @@ pub enum RecFault {
 
 /// The record that begins at a place. At most 1,073,741,824 bytes are taken.
 pub fn next_record(bytes: &[u8], at: u64) -> Result<GdsRec, RecFault>
-    requires { length bytes.now ≤ 1073741824 }
+    requires { length bytes.now ≤ MOST_BYTES }
     ensures { result ≡ record_at bytes.now at }
 {
     let whole = bytes.len() as u64;

@@ -15,7 +15,8 @@ use Rattle.gds_record.specs.declared.types.RecordType.{RecordType}
 use Rattle.gds_record.specs.declared.types.RecordType.TheVariants as record_type
 use Rattle.gds_record.proofs.Spelled.{join, stream_spelled, ends_at}
 use Rattle.gds_record.proofs.Walks.{from_step}
-use Rattle.gds_write.specs.Written.{short, padded, layer_number, point, corners, times, units, rectangle_records, label_records, head_records, tail_records, library_records, written, IsWritableName, IsWritableLabel}
+use Rattle.gds_record.specs.Layers.{layer_number}
+use Rattle.gds_write.specs.Written.{short, padded, point, corners, times, units, rectangle_records, label_records, head_records, tail_records, library_records, written, IsWritableName, IsWritableLabel}
 use Rattle.gds_write.proofs.Pieces.{point_length, corners_length}
 
 -- ---- each record is whole

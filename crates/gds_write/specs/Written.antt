@@ -3,25 +3,12 @@ use Rattle.std.specs.Prelude.{ℕ, ℤ, pos, ◌*ℤ◌, ◌≤◌, ◌%◌, ◌
 use Rattle.std.specs.Int.{w16, w32, to_be_bytes, cast_unsigned}
 use Rattle.std.specs.List.{flat_map}
 use Rattle.box_geom.specs.Rectangle.{Rectangle}
-use Rattle.box_geom.specs.declared.layer.Layer.{Layer}
-use Rattle.box_geom.specs.declared.layer.Layer.TheVariants as layer
 use Rattle.box_geom.specs.declared.shape.Shape.{Shape}
 use Rattle.box_geom.specs.declared.shape.Label.{Label}
 use Rattle.box_geom.specs.declared.shape.Shapes.{Shapes}
+use Rattle.gds_record.specs.Layers.{layer_number}
 use Rattle.gds_record.specs.Records.{Raw, raw, spelling}
 use Rattle.gds_record.specs.declared.types.RecordType.TheVariants as record_type
-
--- the layer numbers of MOSIS SCMOS
-abbrev pub layer_number : Layer → ℕ
-layer_number layer.Well = 42
-layer_number layer.Active = 43
-layer_number layer.PSelect = 44
-layer_number layer.NSelect = 45
-layer_number layer.Poly = 46
-layer_number layer.Contact = 25
-layer_number layer.Metal1 = 49
-layer_number layer.Via = 50
-layer_number layer.Metal2 = 51
 
 -- a two-byte integer, the high byte first
 abbrev pub short : ℕ → List ℕ

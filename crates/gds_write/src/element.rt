@@ -1,36 +1,20 @@
 // The elements of a structure.
 ghost use Rattle.std.specs.Prelude.{◌≡◌, ◌++◌, OnOk};
 ghost use Rattle.std.specs.Int.{w16, to_be_bytes};
+ghost use Rattle.gds_record.specs.Layers.{layer_number};
 ghost use Rattle.gds_record.specs.Records.{raw, spelled, spelling};
 ghost use Rattle.gds_record.specs.declared.types.RecordType.TheVariants as record_type;
-ghost use Rattle.gds_write.specs.Written.{layer_number, short, point, corners, rectangle_records, label_records, IsWritableShape, IsWritableLabel};
+ghost use Rattle.gds_write.specs.Written.{short, point, corners, rectangle_records, label_records, IsWritableShape, IsWritableLabel};
 
 use crate::put::{put, put_header, put_point, put_text};
 use box_geom::{Label, Layer, Rect, Shape};
-use gds_record::RecordType;
+use gds_record::{RecordType, layers};
 use std::alloc::AllocError;
-
-/// The number of a layer in MOSIS SCMOS.
-pub fn number_of(layer: Layer) -> u16
-    ensures { result ≡ layer_number layer }
-{
-    match layer {
-        Layer::Well => 42,
-        Layer::Active => 43,
-        Layer::PSelect => 44,
-        Layer::NSelect => 45,
-        Layer::Poly => 46,
-        Layer::Contact => 25,
-        Layer::Metal1 => 49,
-        Layer::Via => 50,
-        Layer::Metal2 => 51,
-    }
-}
 
 fn put_layer(out: &mut Vec<u8>, layer: Layer) -> Result<(), AllocError>
     ensures { OnOk result (out.new.items ≡ out.old.items ++ spelled (raw record_type.Layer (short (layer_number layer)))) }
 {
-    put(out, RecordType::Layer, &number_of(layer).to_be_bytes())?;
+    put(out, RecordType::Layer, &layers::number(layer).to_be_bytes())?;
     Ok(())
 }
 

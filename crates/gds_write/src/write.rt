@@ -60,20 +60,6 @@ fn put_tail(out: &mut Vec<u8>) -> Result<(), AllocError>
     Ok(())
 }
 
-fn library(alloc: Global, name: &[u8], shapes: &Shapes, unit_nm: u32) -> Result<Vec<u8>, AllocError>
-    requires name { IsWritableName name.now }
-    requires rects { All (IsWritableShape unit_nm) shapes.now.rects }
-    requires labels { All (IsWritableLabel unit_nm) shapes.now.labels }
-    ensures { IfOk result (λ out. out.items ≡ written name.now shapes.now unit_nm) }
-{
-    let mut out = Vec::new(alloc);
-    put_head(&mut out, name)?;
-    put_rectangles(&mut out, shapes.rects.as_slice(), unit_nm)?;
-    put_labels(&mut out, shapes.labels.as_slice(), unit_nm)?;
-    put_tail(&mut out)?;
-    Ok(out)
-}
-
 /// The bytes of a library with one structure of that name: first the rectangles, then the labels,
 /// each in its order. A grid unit has `unit_nm` nanometres. The name has 1 to 32 bytes, the name of a
 /// label 1 to 64, and each coordinate in nanometres fits an `i32`.
@@ -88,8 +74,10 @@ pub fn write_cell(
     requires labels { All (IsWritableLabel unit_nm) shapes.now.labels }
     ensures { IfOk result (λ bytes. bytes.items ≡ written name.now shapes.now unit_nm) }
 {
-    match library(alloc, name.as_slice(), shapes, unit_nm) {
-        Ok(bytes) => Ok(bytes),
-        Err(_) => Err(NoMemory),
-    }
+    let mut out = Vec::new(alloc);
+    put_head(&mut out, name.as_slice())?;
+    put_rectangles(&mut out, shapes.rects.as_slice(), unit_nm)?;
+    put_labels(&mut out, shapes.labels.as_slice(), unit_nm)?;
+    put_tail(&mut out)?;
+    Ok(out)
 }

@@ -1,5 +1,5 @@
-use Rattle.gds_read.proofs.Layers.{numbered, numbered_only}
-use Rattle.gds_read.proofs.laws.layer_numbers.Goals as goal
+use Rattle.gds_record.proofs.LayerTable.{numbered, numbered_only}
+use Rattle.gds_record.proofs.laws.layer_numbers.Goals as goal
 
 pub returns-clause-written : goal.returns-clause-written
 returns-clause-written c = numbered

@@ -41,10 +41,6 @@ const RECTS: [(Layer, [i32; 4]); 29] = [
     (Layer::Via, [6, 52, 10, 56]),
 ];
 
-// XY of the well in nanometres, which goes round from (-1500, 9300) to (8100, 17700).
-const WELL: [u8; 44] =
-    *b"\x00\x2c\x10\x03\xff\xff\xfa\x24\x00\x00\x24\x54\xff\xff\xfa\x24\x00\x00\x45\x24\x00\x00\x1f\xa4\x00\x00\x45\x24\x00\x00\x1f\xa4\x00\x00\x24\x54\xff\xff\xfa\x24\x00\x00\x24\x54";
-
 fn small_shape(layer: Layer, x1: i32, y1: i32, x2: i32, y2: i32) -> Result<Shape, Fail>
     ensures { IfOk result (IsWritableShape 150) }
 {
@@ -103,27 +99,28 @@ fn inverter(alloc: Global) -> Result<Shapes, Fail>
     Ok(Shapes { rects, labels })
 }
 
-fn inv(alloc: Global) -> Result<Name, Fail>
-    ensures { IfOk result IsWritableName }
-{
-    let mut name = Name::new(alloc);
-    name.extend(b"inv")?;
-    Ok(name)
-}
-
 fn file(alloc: Global) -> Result<Vec<u8>, Fail> {
     let shapes = inverter(alloc)?;
-    let name = inv(alloc)?;
+    let mut name = Name::new(alloc);
+    name.extend(b"inv")?;
     let bytes = write_cell(alloc, &name, &shapes, 150)?;
     Ok(bytes)
 }
 
-fn read(alloc: Global, bytes: &[u8]) -> Result<Result<Shapes, GdsFault>, Fail> {
-    if bytes.len() > 2122 {
+fn read(
+    alloc: Global,
+    bytes: &[u8],
+    name: &str,
+    lambda_nm: u32,
+) -> Result<Result<Shapes, GdsFault>, Fail>
+    requires { 1 ≤ lambda_nm }
+{
+    if bytes.len() > 10_000 {
         return Err(Fail::from("a long file"));
     }
-    let name = inv(alloc)?;
-    Ok(read_cell(alloc, bytes, &name, 300))
+    let mut text = Name::new(alloc);
+    text.extend(name.as_bytes())?;
+    Ok(read_cell(alloc, bytes, &text, lambda_nm))
 }
 
 fn without_last_two(bytes: &[u8]) -> &[u8] {
@@ -134,30 +131,39 @@ fn without_last_two(bytes: &[u8]) -> &[u8] {
 }
 
 #[test]
-fn inverter_is_written(rt: HostRuntime) -> Result<(), Fail> {
-    let bytes = file(rt.alloc())?;
-    assert_eq!(rt; bytes.len(), 2122);
-    assert_eq!(rt;
-        &bytes[102..106],
-        b"\x00\x04\x08\x00".as_slice(),
-        "the first boundary"
-    );
-    assert_eq!(rt; &bytes[118..162], WELL.as_slice(), "its points");
-    assert_eq!(rt;
-        &bytes[2118..2122],
-        b"\x00\x04\x04\x00".as_slice(),
-        "the end of the library"
-    );
-    Ok(())
-}
-
-#[test]
 fn inverter_is_read_back(rt: HostRuntime) -> Result<(), Fail> {
     let alloc = rt.alloc();
     let bytes = file(alloc)?;
-    let cut = read(alloc, without_last_two(&bytes))?;
-    assert!(rt; cut == Err(GdsFault::Cut { at: 2118 }));
-    let whole = read(alloc, &bytes)?;
+    assert_eq!(rt; bytes.len(), 2122);
+    let whole = read(alloc, &bytes, "inv", 300)?;
     assert!(rt; whole == Ok(inverter(alloc)?));
+    let cut = read(alloc, without_last_two(&bytes), "inv", 300)?;
+    assert!(rt; cut == Err(GdsFault::Cut { at: 2118 }));
+    let finer = read(alloc, &bytes, "inv", 280)?;
+    assert!(rt; finer == Err(GdsFault::Grid { at: 118 }));
+    let other = read(alloc, &bytes, "in", 300)?;
+    assert!(rt; other == Err(GdsFault::NoCell));
+    Ok(())
+}
+
+// One byte of the file changed.
+#[test]
+fn changed_bytes_are_refused(rt: HostRuntime) -> Result<(), Fail> {
+    let alloc = rt.alloc();
+    let rows = [
+        (58, 0xb9, GdsFault::Unit { picometres: 0 }),
+        (104, 0x11, GdsFault::Order { at: 102, code: 17 }),
+        (104, 0x0b, GdsFault::Reference { at: 102 }),
+        (105, 2, GdsFault::Kind { at: 102, code: 8 }),
+        (107, 7, GdsFault::Length { at: 106 }),
+        (2120, 1, GdsFault::Order { at: 2118, code: 1 }),
+    ];
+    for (at, value, fault) in rows {
+        let mut bytes = file(alloc)?;
+        assert!(rt; at < bytes.len());
+        bytes[at] = value;
+        let read = read(alloc, &bytes, "inv", 300)?;
+        assert!(rt; read == Err(fault), "{at} {value}");
+    }
     Ok(())
 }

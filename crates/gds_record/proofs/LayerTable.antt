@@ -3,8 +3,7 @@ use Rattle.std.proofs.Common.{ℕ, ◌≡◌, Some, refl}
 use Rattle.box_geom.specs.declared.layer.Layer.{Layer}
 use Rattle.box_geom.specs.declared.layer.Layer.TheVariants as layer
 use Rattle.gds_record.proofs.Tables.{row, no_entry}
-use Rattle.gds_read.specs.Elements.{layer_numbered}
-use Rattle.gds_write.specs.Written.{layer_number}
+use Rattle.gds_record.specs.Layers.{layer_number, layer_numbered}
 
 pub numbered : (l : Layer) → layer_numbered (layer_number l) ≡ Some l
 numbered layer.Well = refl
