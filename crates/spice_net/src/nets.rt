@@ -1,4 +1,4 @@
-ghost use Rattle.std.specs.Prelude.{◌≡◌, ◌≤◌, ◌<◌, length, map, IfOk, OnOk};
+ghost use Rattle.std.specs.Prelude.{◌≡◌, ◌≤◌, [], ◌∷◌, length, map, IfOk, OnOk};
 ghost use Rattle.indexmap.specs.IndexSet.{index_set_len};
 ghost use Rattle.spice_net.specs.Nets.{distinct, named_nets, nets_of, number_of, net_of, device_of};
 ghost use Rattle.spice_net.specs.Reader.{names_of, with_name, with_names};
@@ -31,8 +31,18 @@ pub fn distinct_names<'a>(alloc: Global, names: &'a [Name]) -> Result<IndexSet<&
     Ok(nets)
 }
 
+// adds the nets that a transistor names
+fn add_nets<'a>(nets: &mut IndexSet<&'a [u8]>, transistor: &'a Transistor) -> Result<(), NoMemory>
+    ensures { OnOk result (names_of nets.new.keys ≡ with_names (names_of nets.old.keys) (named_nets (transistor.now ∷ []))) }
+{
+    add(nets, transistor.drain.as_slice())?;
+    add(nets, transistor.gate.as_slice())?;
+    add(nets, transistor.source.as_slice())?;
+    Ok(())
+}
+
 /// The names, and behind them the nets that transistors name.
-#[tactic(auto, using(crate::proofs::NetFacts::three_names_more))]
+#[tactic(auto, using(crate::proofs::NetFacts::more_names))]
 pub fn with_nets<'a>(
     names: IndexSet<&'a [u8]>,
     transistors: &'a [Transistor],
@@ -41,9 +51,7 @@ pub fn with_nets<'a>(
 {
     let mut nets = names;
     for transistor in transistors {
-        add(&mut nets, transistor.drain.as_slice())?;
-        add(&mut nets, transistor.gate.as_slice())?;
-        add(&mut nets, transistor.source.as_slice())?;
+        add_nets(&mut nets, transistor)?;
     }
     Ok(nets)
 }

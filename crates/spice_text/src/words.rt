@@ -1,10 +1,9 @@
 ghost use Rattle.std.specs.Prelude.{◌≡◌, ◌≤◌, ◌<◌, ◌+◌, [], ◌∷◌, ◌==◌, not, false, true, filter, map, length, IfOk, OnOk};
 ghost use Rattle.std.specs.List.{slice_split, join_with_byte, list_any};
 ghost use Rattle.cell_num.specs.Names.{lowered};
-ghost use Rattle.spice_text.specs.Physical.{is_blank, without_comment, without_blanks_in_front, kind_of, is_bad, is_refused};
+ghost use Rattle.spice_text.specs.Physical.{is_blank, without_comment, without_blanks_in_front, is_comment, is_bad, is_refused};
 ghost use Rattle.spice_text.specs.Words.{without_blanks_at_end, trimmed, joined_at_equals, words_of};
 
-use crate::physical::LineKind;
 use cell_num::{Name, Names, NoMemory, lower};
 use std::alloc::{AllocError, Global};
 
@@ -46,15 +45,12 @@ pub fn behind_blanks(line: &[u8]) -> &[u8]
     &[]
 }
 
-/// What a line is, by what stands behind the blanks in front.
-pub fn kind(body: &[u8]) -> LineKind
-    ensures { result ≡ kind_of body.now }
+fn is_comment(body: &[u8]) -> bool
+    ensures { result ≡ is_comment body.now }
 {
     match body {
-        [] => LineKind::Empty,
-        [b'*', ..] => LineKind::Comment,
-        [b'+', ..] => LineKind::Continuation,
-        [_, ..] => LineKind::Begin,
+        [b'*', ..] => true,
+        _ => false,
     }
 }
 
@@ -68,10 +64,7 @@ fn any_bad(line: &[u8]) -> bool
 pub fn refused(line: &[u8]) -> bool
     ensures { result ≡ is_refused line.now }
 {
-    match kind(behind_blanks(line)) {
-        LineKind::Comment => false,
-        _ => any_bad(line),
-    }
+    !is_comment(behind_blanks(line)) && any_bad(line)
 }
 
 // what stands before the blanks at the end

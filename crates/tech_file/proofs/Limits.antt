@@ -13,7 +13,7 @@ use Rattle.tech_file.specs.declared.fault.TechFault.{TechFault}
 use Rattle.tech_file.specs.declared.fault.TechFault.TheVariants as fault
 use Rattle.cell_num.specs.Names.{lowered, is_name}
 use Rattle.tech_file.specs.Technology.{Technology, IsTechnology, IsLowerName, AreModels, plain}
-use Rattle.cell_num.specs.Steps.{◌>>=◌, or_fault, require}
+use Rattle.cell_num.specs.Steps.{or_fault, require}
 use Rattle.cell_num.proofs.Steps.{granted_step}
 use Rattle.tech_file.specs.Reading.{Limits, Numbers, Rails, Models, value_at, is_within, within, number_at, lambda_limits, width_limits, budget_limits, height_limits, name_in, as_name, name_at, with_first, names_in, if_few, models_at, texts, share, known_alone, numbers_of, rails_of, models_of, technology_of}
 

@@ -2,12 +2,12 @@
 use Rattle.std.proofs.Common.{◌≡◌, ℕ, ℤ, pos, negsuc, Bool, true, false, not, List, Option, Some, None, Result, Ok, Err, codes, inl, inr}
 use Rattle.std.specs.Str.{bytes_eq}
 use Rattle.std.proofs.lemmas.Bool.{cases_Bool}
-use Rattle.toml.specs.Data.{Members, integer, string, array, as_integer, as_str, as_array}
+use Rattle.toml.specs.Data.{Members, integer, string, array, as_integer}
 use Rattle.cell_num.specs.Steps.{◌>>=◌, or_fault, require}
 use Rattle.tech_file.specs.declared.fault.TechFault.{TechFault}
 use Rattle.tech_file.specs.declared.fault.TechFault.TheVariants as fault
 use Rattle.tech_file.specs.Technology.{plain}
-use Rattle.tech_file.specs.Reading.{Limits, Numbers, Rails, Models, table_of, least_unknown, none_unknown, known_alone, value_at, is_within, within, number_at, lambda_limits, width_limits, budget_limits, height_limits, as_name, name_at, as_models, models_at, texts, share, numbers_of, rails_of, models_of, technology_of, technology}
+use Rattle.tech_file.specs.Reading.{Limits, table_of, least_unknown, none_unknown, known_alone, value_at, is_within, within, number_at, lambda_limits, width_limits, budget_limits, height_limits, as_name, name_at, as_models, models_at, texts, share, numbers_of, rails_of, models_of, technology_of, technology}
 
 -- ---- steps
 
