@@ -5,7 +5,7 @@ ghost use Rattle.spice_net.specs.Reader.{names_of, with_name, with_names};
 
 use crate::subckt::{Device, DeviceList};
 use crate::transistor::Transistor;
-use cell_num::{Name, Names, NetNo, NoMemory, copy};
+use cell_num::{MOST_NETS, Name, Names, NetNo, NoMemory, copy};
 use indexmap::IndexSet;
 use std::alloc::Global;
 
@@ -13,10 +13,8 @@ use std::alloc::Global;
 pub fn add<'a>(nets: &mut IndexSet<&'a [u8]>, name: &'a [u8]) -> Result<(), NoMemory>
     ensures { OnOk result (names_of nets.new.keys ≡ with_name (names_of nets.old.keys) name.now) }
 {
-    match nets.insert_full(name) {
-        Ok(_) => Ok(()),
-        Err(_) => Err(NoMemory),
-    }
+    nets.insert_full(name)?;
+    Ok(())
 }
 
 /// The names without repeats.
@@ -89,7 +87,7 @@ pub fn copies(alloc: Global, nets: &IndexSet<&[u8]>) -> Result<Names, NoMemory>
 }
 
 fn number(nets: &IndexSet<&[u8]>, name: &[u8]) -> u32
-    requires { index_set_len nets.now ≤ 256 }
+    requires { index_set_len nets.now ≤ MOST_NETS }
     ensures { result ≡ number_of (names_of nets.now.keys) name.now }
 {
     match nets.get_index_of(name) {
@@ -100,14 +98,14 @@ fn number(nets: &IndexSet<&[u8]>, name: &[u8]) -> u32
 
 /// The number of a net of a set.
 pub fn net(nets: &IndexSet<&[u8]>, name: &[u8]) -> NetNo
-    requires { index_set_len nets.now ≤ 256 }
+    requires { index_set_len nets.now ≤ MOST_NETS }
     ensures { result ≡ net_of (names_of nets.now.keys) name.now }
 {
     NetNo(number(nets, name))
 }
 
 fn device(nets: &IndexSet<&[u8]>, transistor: &Transistor) -> Device
-    requires { index_set_len nets.now ≤ 256 }
+    requires { index_set_len nets.now ≤ MOST_NETS }
     ensures { result ≡ device_of (names_of nets.now.keys) transistor.now }
 {
     Device {
@@ -125,7 +123,7 @@ pub fn devices(
     nets: &IndexSet<&[u8]>,
     transistors: &[Transistor],
 ) -> Result<DeviceList, NoMemory>
-    requires { index_set_len nets.now ≤ 256 }
+    requires { index_set_len nets.now ≤ MOST_NETS }
     ensures { IfOk result (λ ds. ds ≡ map (device_of (names_of nets.now.keys)) transistors.now) }
 {
     let mut found = DeviceList::new(alloc);

@@ -16,9 +16,9 @@ use crate::chosen::{choose, first_is};
 use crate::fault::{SpiceFault, What};
 use crate::nets::{copies, count, devices, net, net_set};
 use crate::pins::{check_pins, has_rails, read_pins, with_rails};
-use crate::subckt::{MOST_DEVICES, MOST_NETS, MOST_PINS, Subckt};
+use crate::subckt::{MOST_DEVICES, MOST_PINS, Subckt};
 use crate::transistor::{Transistor, TransistorList, is_transistor, read_transistor};
-use cell_num::{Name, NoMemory, Pins, copy};
+use cell_num::{MOST_BYTES, MOST_NETS, Name, NoMemory, Pins, copy};
 use indexmap::IndexSet;
 use spice_text::{Line, Lines, TextFault, split_lines};
 use std::alloc::Global;
@@ -85,7 +85,7 @@ fn number_nets(
     nets: &IndexSet<&[u8]>,
     transistors: &[Transistor],
 ) -> Result<Subckt, NoMemory>
-    requires few { index_set_len nets.now ≤ 256 }
+    requires few { index_set_len nets.now ≤ MOST_NETS }
     requires pins { pins ≤ 64 }
     ensures { IfOk result (λ cell. (names : List (List ℕ)) → pins ≡ length names → names_of nets.now.keys ≡ nets_of names transistors.now → cell ≡ subckt_with name.now tech.now names transistors.now) }
 {
@@ -118,7 +118,7 @@ fn number_all<'a>(
     limit(MOST_PINS, What::Pins, listed)?;
     limit(MOST_DEVICES, What::Devices, transistors.len())?;
     let nets = net_set(pins, transistors)?;
-    limit(MOST_NETS, What::Nets, count(&nets))?;
+    limit(MOST_NETS as usize, What::Nets, count(&nets))?;
     let cell = number_nets(alloc, name, tech, listed, &nets, transistors)?;
     Ok(cell)
 }
@@ -159,7 +159,7 @@ fn read_lines(alloc: Global, name: &Name, tech: &Tech, lines: &[Line]) -> Result
 }
 
 fn split(alloc: Global, bytes: &[u8]) -> Result<Lines, SpiceFault>
-    requires { length bytes.now ≤ 1073741824 }
+    requires { length bytes.now ≤ MOST_BYTES }
     ensures lines { IfOk result (λ lines. lines_in bytes.now ≡ Ok lines) }
     ensures fault { IfErr result (λ f. f ≢ fault.NoMemory → lines_in bytes.now ≡ Err f) }
 {
@@ -171,7 +171,7 @@ fn split(alloc: Global, bytes: &[u8]) -> Result<Lines, SpiceFault>
 }
 
 fn read_text(alloc: Global, bytes: &[u8], name: &Name, tech: &Tech) -> Result<Subckt, SpiceFault>
-    requires { length bytes.now ≤ 1073741824 }
+    requires { length bytes.now ≤ MOST_BYTES }
     ensures cell { IfOk result (λ cell. subcircuit bytes.now name.now tech.now ≡ Ok cell) }
     ensures fault { IfErr result (λ f. f ≢ fault.NoMemory → subcircuit bytes.now name.now tech.now ≡ Err f) }
 {
@@ -188,7 +188,7 @@ pub fn read_cell(
     name: &Name,
     tech: &Tech,
 ) -> Result<Subckt, SpiceFault>
-    requires { length bytes.now ≤ 1073741824 }
+    requires { length bytes.now ≤ MOST_BYTES }
     // The subcircuit of the definition, or its first fault; memory may run out.
     ensures cell { IfOk result (λ cell. subcircuit bytes.now name.now tech.now ≡ Ok cell) }
     ensures fault { IfErr result (λ f. f ≢ fault.NoMemory → subcircuit bytes.now name.now tech.now ≡ Err f) }

@@ -6,7 +6,7 @@ ghost use Rattle.spice_text.specs.Reader.{closed, extended, finish, with_info};
 
 use crate::physical::first_line;
 use crate::words::{before_mark, behind_blanks, refused, words};
-use cell_num::{List, Name, Names, NoMemory};
+use cell_num::{Bytes, List, MOST_BYTES, Names, NoMemory, copy};
 use std::alloc::Global;
 use std::marker::Model;
 use thiserror::Error;
@@ -26,7 +26,7 @@ pub type Lines = List<Line>;
 #[derive(Debug, Drop)]
 pub struct Open {
     pub number: u32,
-    pub text: Name,
+    pub text: Bytes,
 }
 
 impl Model for Open {
@@ -71,10 +71,8 @@ fn joined(done: Lines, behind: Lines) -> Result<Lines, NoMemory>
 {
     let mut all = done.into_vec();
     let mut more = behind.into_vec();
-    match all.append(&mut more) {
-        Ok(()) => Ok(Lines::from_vec(all)),
-        Err(_) => Err(NoMemory),
-    }
+    all.append(&mut more)?;
+    Ok(Lines::from_vec(all))
 }
 
 fn close(alloc: Global, state: State) -> Result<Lines, NoMemory>
@@ -115,9 +113,10 @@ fn extend(last: Option<Open>, more: &[u8]) -> Result<Option<Open>, NoMemory>
 fn begin(alloc: Global, number: u32, text: &[u8]) -> Result<Open, NoMemory>
     ensures { IfOk result (λ o. o ≡ record { number = number; text = text.now }) }
 {
-    let mut copy = Name::new(alloc);
-    copy.extend(text)?;
-    Ok(Open { number, text: copy })
+    Ok(Open {
+        number,
+        text: copy(alloc, text)?,
+    })
 }
 
 fn is_info(words: &Names) -> bool
@@ -183,7 +182,7 @@ fn take_line(alloc: Global, number: u32, line: &[u8], state: State) -> Result<St
 /// their first physical lines. The text has at most a gibibyte.
 #[tactic(auto, using(crate::proofs::Groups::is_refused_line, crate::proofs::Groups::is_taken, crate::proofs::Groups::is_done, crate::proofs::Groups::starts, crate::proofs::Groups::never_split))]
 pub fn split_lines(alloc: Global, bytes: &[u8]) -> Result<Lines, TextFault>
-    requires { length bytes.now ≤ 1073741824 }
+    requires { length bytes.now ≤ MOST_BYTES }
     // The lines of the definition, or the first line that it refuses; memory may run out.
     ensures lines { IfOk result (λ lines. split_of bytes.now ≡ Ok lines) }
     ensures fault { IfErr result (λ f. f ≢ fault.NoMemory → split_of bytes.now ≡ Err f) }

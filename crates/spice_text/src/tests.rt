@@ -1,9 +1,9 @@
 use crate::{Line, TextFault, read_fixed, split_lines};
-use cell_num::{Fixed, Name, NoMemory};
+use cell_num::{Bytes, Fixed, NoMemory};
 use std::alloc::Global;
 use std::test::Fail;
 
-fn add_line(out: &mut Name, line: &Line) -> Result<(), NoMemory> {
+fn add_line(out: &mut Bytes, line: &Line) -> Result<(), NoMemory> {
     out.push(b'0' + (line.number % 10) as u8)?;
     if line.info {
         out.push(b'!')?;
@@ -16,8 +16,8 @@ fn add_line(out: &mut Name, line: &Line) -> Result<(), NoMemory> {
 }
 
 // the lines by their numbers and words, or the number of the line that is refused
-fn told(alloc: Global, text: &[u8]) -> Result<Name, NoMemory> {
-    let mut out = Name::new(alloc);
+fn told(alloc: Global, text: &[u8]) -> Result<Bytes, NoMemory> {
+    let mut out = Bytes::new(alloc);
     match split_lines(alloc, &text[..text.len().min(1000)]) {
         Ok(lines) => {
             for line in lines.as_slice() {

@@ -4,7 +4,7 @@ ghost use Rattle.cell_num.specs.Names.{lowered};
 ghost use Rattle.spice_text.specs.Physical.{is_blank, without_comment, without_blanks_in_front, is_comment, is_bad, is_refused};
 ghost use Rattle.spice_text.specs.Words.{without_blanks_at_end, trimmed, joined_at_equals, words_of};
 
-use cell_num::{Name, Names, NoMemory, lower};
+use cell_num::{Bytes, Names, NoMemory, lower};
 use std::alloc::{AllocError, Global};
 
 fn blank(byte: u8) -> bool
@@ -94,7 +94,7 @@ fn parts_between_equals(alloc: Global, text: &[u8]) -> Result<Vec<&[u8]>, AllocE
 }
 
 // behind a text, each part without the blanks around it, `=` in front of each
-fn add_parts(out: &mut Name, parts: &[&[u8]]) -> Result<(), NoMemory>
+fn add_parts(out: &mut Bytes, parts: &[&[u8]]) -> Result<(), NoMemory>
     ensures { OnOk result (out.new ≡ join_with_byte 61 (out.old ∷ map trimmed (map (λ w. w.now) parts.now))) }
 {
     for part in parts {
@@ -104,10 +104,10 @@ fn add_parts(out: &mut Name, parts: &[&[u8]]) -> Result<(), NoMemory>
     Ok(())
 }
 
-fn join(alloc: Global, parts: &[&[u8]]) -> Result<Name, NoMemory>
+fn join(alloc: Global, parts: &[&[u8]]) -> Result<Bytes, NoMemory>
     ensures { IfOk result (λ t. t ≡ join_with_byte 61 (map trimmed (map (λ w. w.now) parts.now))) }
 {
-    let mut out = Name::new(alloc);
+    let mut out = Bytes::new(alloc);
     if let [first, others @ ..] = parts {
         out.extend(trim(first))?;
         add_parts(&mut out, others)?;
@@ -115,12 +115,10 @@ fn join(alloc: Global, parts: &[&[u8]]) -> Result<Name, NoMemory>
     Ok(out)
 }
 
-fn join_at_equals(alloc: Global, text: &[u8]) -> Result<Name, NoMemory>
+fn join_at_equals(alloc: Global, text: &[u8]) -> Result<Bytes, NoMemory>
     ensures { IfOk result (λ t. t ≡ joined_at_equals text.now) }
 {
-    let Ok(parts) = parts_between_equals(alloc, text) else {
-        return Err(NoMemory);
-    };
+    let parts = parts_between_equals(alloc, text)?;
     join(alloc, parts.as_slice())
 }
 
@@ -133,9 +131,7 @@ fn parts_between_blanks(alloc: Global, text: &[u8]) -> Result<Vec<&[u8]>, AllocE
 fn split_at_blanks(alloc: Global, text: &[u8]) -> Result<Names, NoMemory>
     ensures { IfOk result (λ ns. ns ≡ map lowered (filter (λ w. not (length w == 0)) (slice_split is_blank text.now))) }
 {
-    let Ok(parts) = parts_between_blanks(alloc, text) else {
-        return Err(NoMemory);
-    };
+    let parts = parts_between_blanks(alloc, text)?;
     let mut names = Names::new(alloc);
     for word in &parts {
         if !word.is_empty() {

@@ -11,6 +11,7 @@ use crate::number::read_numbers;
 use crate::rails::read_rails;
 use crate::tech::Tech;
 use crate::words::copy;
+use cell_num::MOST_BYTES;
 use std::alloc::Global;
 use toml::Table;
 
@@ -66,7 +67,7 @@ fn technology_of(alloc: Global, table: &Table) -> Result<Tech, TechFault>
 /// absent has its plain value.
 #[tactic(auto, using(crate::proofs::Told::technology_never))]
 pub fn read_tech(alloc: Global, bytes: &[u8]) -> Result<Tech, TechFault>
-    requires { length bytes.now ≤ 1073741824 }
+    requires { length bytes.now ≤ MOST_BYTES }
     ensures technology { IfOk result (λ tech. technology bytes.now ≡ Ok tech) }
     ensures fault { IfErr result (λ f. f ≢ fault.NoMemory → technology bytes.now ≡ Err f) }
 
