@@ -8,11 +8,12 @@ use Rattle.std.proofs.lemmas.List.Elements.{filter-append, All-weaker}
 use Rattle.std.proofs.lemmas.List.Concat.{flat_map-cons}
 use Rattle.cell_num.specs.declared.finger.Row.{Row}
 use Rattle.cell_num.specs.declared.finger.Row.TheVariants.{P, N}
+use Rattle.cell_num.specs.Tests.{same_row}
 use Rattle.spice_net.specs.declared.subckt.Device.{Device}
 use Rattle.spice_net.specs.declared.subckt.Subckt.{Subckt}
 use Rattle.spice_net.specs.Subckts.{IsSubckt, IsDevice}
 use Rattle.tech_file.specs.Technology.{Technology, IsTechnology}
-use Rattle.finger_fold.specs.Folding.{widest, count_of, finger_of, shared_out, fingers_of, same_row, fingers_in}
+use Rattle.finger_fold.specs.Folding.{widest, count_of, finger_of, shared_out, fingers_of, fingers_in}
 
 pub least_widest : (tech : Technology) (row : Row) → IsTechnology tech → 12 ≤ widest tech row
 least_widest tech P limits = limits.wmax_p_least

@@ -2,3 +2,4 @@ pub mod Columns
 mod Counts
 mod Shares
 mod Sound
+pub mod Told

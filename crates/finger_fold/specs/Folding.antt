@@ -1,12 +1,13 @@
 -- The fingers of a subcircuit: each transistor is cut into as few fingers as its row's greatest width
 -- allows, whose widths differ by one unit at most.
-use Rattle.std.specs.Prelude.{ℕ, ◌+◌, ◌-◌, ◌/◌, ◌%◌, ◌^◌, nat_le, Bool, true, false, List, ◌++◌, length, min, max, filter, flat_map, replicate, Result, Ok}
+use Rattle.std.specs.Prelude.{ℕ, ◌+◌, ◌-◌, ◌/◌, ◌%◌, ◌^◌, nat_le, List, ◌++◌, length, min, max, filter, flat_map, replicate, Result, Ok}
 use Rattle.std.specs.Int.{div_ceil}
 use Rattle.cell_num.specs.declared.finger.Row.{Row}
 use Rattle.cell_num.specs.declared.finger.Row.TheVariants.{P, N}
 use Rattle.cell_num.specs.declared.finger.Finger.{Finger}
 use Rattle.cell_num.specs.declared.finger.Fingers.{Fingers}
 use Rattle.cell_num.specs.Fingers.{columns_of}
+use Rattle.cell_num.specs.Tests.{same_row}
 use Rattle.tech_file.specs.Technology.{Technology}
 use Rattle.spice_net.specs.declared.subckt.Device.{Device}
 use Rattle.spice_net.specs.declared.subckt.Subckt.{Subckt}
@@ -33,11 +34,6 @@ shared_out d k = replicate (d.width % k) (finger_of d (d.width / k + 1)) ++ repl
 
 abbrev pub fingers_of : Technology → Device → List Finger
 fingers_of tech d = shared_out d (count_of tech d)
-
-abbrev pub same_row : Row → Row → Bool
-same_row P P = true
-same_row N N = true
-same_row _ _ = false
 
 -- the fingers of a row, in the order of their transistors
 abbrev pub fingers_in : Row → Technology → List Device → List Finger

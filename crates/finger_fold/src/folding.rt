@@ -1,4 +1,5 @@
 ghost use Rattle.std.specs.Prelude.{◌≡◌, ◌≢◌, ◌<◌, ◌≤◌, length, Ok, Err, OnOk, IfOk, IfErr};
+ghost use Rattle.cell_num.specs.declared.finger.Row.TheVariants.{P, N};
 ghost use Rattle.cell_num.specs.Fingers.{AreFingers, AreSound};
 ghost use Rattle.spice_net.specs.Subckts.{IsSubckt};
 ghost use Rattle.finger_fold.specs.declared.folding.FoldFault.TheVariants as fault;
@@ -6,17 +7,14 @@ ghost use Rattle.finger_fold.specs.Folding.{fingers_in, saturated, folded};
 
 use crate::count::count_in;
 use crate::cut::all_fingers;
-use cell_num::{Fingers, NoMemory, Row, columns_of};
+use cell_num::{Fingers, MOST_COLUMNS, NoMemory, Row, columns_of};
 use spice_net::Subckt;
 use std::alloc::Global;
 use tech_file::Tech;
 use thiserror::Error;
 
 // The most fingers of a row.
-const MOST_FINGERS: u128 = 64;
-
-// The most columns.
-const MOST_COLUMNS: u64 = 32;
+const MOST_IN_A_ROW: u128 = 64;
 
 /// Why a subcircuit is not folded.
 #[derive(Debug, Drop, Error)]
@@ -54,7 +52,7 @@ fn few_in(row: Row, cell: &Subckt, tech: &Tech) -> Result<(), FoldFault>
     ensures err { IfErr result (λ e. e ≡ fault.TooManyFingers (saturated (length (fingers_in row tech.now cell.now.devices)))) }
 {
     let count = count_in(row, tech, cell.devices.as_slice());
-    if count > MOST_FINGERS {
+    if count > MOST_IN_A_ROW {
         return Err(FoldFault::TooManyFingers {
             count: saturated(count),
         });
@@ -62,14 +60,27 @@ fn few_in(row: Row, cell: &Subckt, tech: &Tech) -> Result<(), FoldFault>
     Ok(())
 }
 
+// The P row is looked at first.
+fn few_in_rows(cell: &Subckt, tech: &Tech) -> Result<(), FoldFault>
+    ensures few_p { OnOk result (length (fingers_in P tech.now cell.now.devices) ≤ 64) }
+    ensures few_n { OnOk result (length (fingers_in N tech.now cell.now.devices) ≤ 64) }
+    ensures fault { IfErr result (λ e. folded tech.now cell.now ≡ Err e) }
+{
+    few_in(Row::P, cell, tech)?;
+    few_in(Row::N, cell, tech)
+}
+
 /// The fingers of a subcircuit: each transistor is cut into as few fingers as the technology's widest
 /// finger of its row allows. The answer is sound for the subcircuit's nets and pins.
-#[tactic(auto, using(crate::proofs::Sound::asked))]
+#[tactic(auto, using(crate::proofs::Sound::asked, crate::proofs::Told::never_folded))]
 pub fn fold(alloc: Global, cell: &Subckt, tech: &Tech) -> Result<Fingers, FoldFault>
     requires { IsSubckt cell.now }
     // The fingers of the definition, or the first limit passed; memory may run out.
     ensures fingers { IfOk result (λ f. folded tech.now cell.now ≡ Ok f) }
     ensures fault { IfErr result (λ e. e ≢ fault.NoMemory → folded tech.now cell.now ≡ Err e) }
+
+    // Memory alone makes it NoMemory: the definition never answers so.
+    ensures told { folded tech.now cell.now ≢ Err fault.NoMemory }
 
     // What the layers above ask of fingers, and that these are the cell's.
     ensures asked { IfOk result (λ f. AreFingers f) }
@@ -78,12 +89,13 @@ pub fn fold(alloc: Global, cell: &Subckt, tech: &Tech) -> Result<Fingers, FoldFa
     ensures sound { IfOk result (λ f. AreSound cell.now.nets cell.now.pins f) }
 {
     tech.show_limits();
-    few_in(Row::P, cell, tech)?;
-    few_in(Row::N, cell, tech)?;
+    few_in_rows(cell, tech)?;
     let fingers = all_fingers(alloc, cell, tech)?;
-    let count = columns_of(&fingers) as u64;
+    let count = columns_of(&fingers);
     if count > MOST_COLUMNS {
-        return Err(FoldFault::TooManyColumns { count });
+        return Err(FoldFault::TooManyColumns {
+            count: count as u64,
+        });
     }
     Ok(fingers)
 }

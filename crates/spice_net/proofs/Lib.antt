@@ -6,3 +6,4 @@ pub mod Places
 pub mod Sound
 pub mod SoundLines
 pub mod SoundNets
+pub mod Told

@@ -5,7 +5,7 @@ use Rattle.std.proofs.lemmas.Bool.{cases_Bool}
 use Rattle.spice_text.specs.declared.logical.Line.{Line}
 use Rattle.tech_file.specs.Technology.{Technology}
 use Rattle.spice_net.specs.declared.fault.SpiceFault.{SpiceFault}
-use Rattle.spice_net.specs.declared.transistor.Transistor.{Transistor}
+use Rattle.spice_net.specs.Transistors.{Transistor}
 use Rattle.spice_net.specs.Chosen.{without_comments}
 use Rattle.spice_net.specs.Transistors.{transistors_of}
 use Rattle.spice_net.specs.Reader.{with_shown, in_front}

@@ -13,7 +13,7 @@ use Rattle.std.proofs.lemmas.Map.Views.{any-filter_same}
 use Rattle.std.proofs.lemmas.Slice.Eq.{bytes_eq-Decides}
 use Rattle.std.proofs.lemmas.Grind.{flat_map-append}
 use Rattle.std.proofs.lemmas.List.Sums.{fold-append}
-use Rattle.spice_net.specs.declared.transistor.Transistor.{Transistor}
+use Rattle.spice_net.specs.Transistors.{Transistor}
 use Rattle.spice_net.proofs.Places.{found, missing}
 use Rattle.spice_net.specs.Nets.{distinct, number_of, named_nets, nets_of}
 use Rattle.spice_net.specs.Reader.{names_of, with_name, with_names}
@@ -101,8 +101,8 @@ starts_distinct = refl
 pub one_name_more : (names : List (List ℕ)) (i : ℕ) (name : List ℕ) → i < length names → name ≡ get_or names i name → with_name (distinct (take i names)) name ≡ distinct (take (i + 1) names)
 one_name_more names i name lt is = sym (distinct_more (take i names) name) ∙ ap (λ (ns : List (List ℕ)). distinct ns) (sym (next_taken names i name lt is))
 
-pub three_names_more : (names : List (List ℕ)) (ts : List Transistor) (i : ℕ) (t : Transistor) → i < length ts → t ≡ get_or ts i t → with_name (with_name (with_name (with_names names (named_nets (take i ts))) t.drain) t.gate) t.source ≡ with_names names (named_nets (take (i + 1) ts))
-three_names_more names ts i t lt is =
+pub more_names : (names : List (List ℕ)) (ts : List Transistor) (i : ℕ) (t : Transistor) → i < length ts → t ≡ get_or ts i t → with_names (with_names names (named_nets (take i ts))) (named_nets (t ∷ [])) ≡ with_names names (named_nets (take (i + 1) ts))
+more_names names ts i t lt is =
     rw (next_taken ts i t lt is, flat_map-append (λ (t : Transistor). t.drain ∷ t.gate ∷ t.source ∷ []) (take i ts) (t ∷ []), fold-append with_name names (named_nets (take i ts)) (t.drain ∷ t.gate ∷ t.source ∷ [])) refl
 
 -- names without repeats, and more behind them

@@ -9,7 +9,7 @@ use Rattle.cell_num.specs.Names.{is_name}
 use Rattle.spice_text.specs.declared.logical.Line.{Line}
 use Rattle.tech_file.specs.Technology.{Technology}
 use Rattle.spice_net.specs.declared.fault.SpiceFault.TheVariants as fault
-use Rattle.spice_net.specs.declared.transistor.Transistor.{Transistor}
+use Rattle.spice_net.specs.Transistors.{Transistor}
 use Rattle.spice_net.specs.Chosen.{has_name, is_global}
 use Rattle.spice_net.specs.Nets.{distinct, named_nets}
 use Rattle.spice_net.specs.Reader.{names_of, with_name, with_names}

@@ -19,8 +19,8 @@ use Rattle.spice_net.specs.declared.fault.What.TheVariants as what
 use Rattle.spice_net.specs.declared.fault.SpiceFault.{SpiceFault}
 use Rattle.spice_net.specs.declared.fault.SpiceFault.TheVariants as fault
 use Rattle.spice_net.specs.declared.subckt.Subckt.{Subckt}
-use Rattle.spice_net.specs.declared.transistor.Transistor.{Transistor}
-use Rattle.spice_net.specs.Chosen.{has_name, is_global, chosen_in, lines_in}
+use Rattle.spice_net.specs.Transistors.{Transistor}
+use Rattle.spice_net.specs.Chosen.{has_name, is_global, chosen_in, without_comments, lines_in}
 use Rattle.spice_net.specs.Transistors.{is_rail, other_rail, transistors_of}
 use Rattle.spice_net.specs.Nets.{distinct, named_nets, nets_of, number_of, net_of, device_of}
 use Rattle.cell_num.specs.Steps.{require}
@@ -268,13 +268,13 @@ is_read bytes name tech cell e =
     let lines = granted_step (lines_in bytes) (subckt_in name tech) cell e in
     let chosen = granted_step (chosen_in name lines.0) _ cell lines.2 in
     let listed = granted_step (pins_of chosen.0.head) _ cell chosen.2 in
-    let inside = granted_step (transistors_of tech chosen.0.inside) (λ ts. subckt_of name tech (with_rails tech lines.0 listed.0) ts) cell listed.2 in
+    let inside = granted_step (transistors_of tech (without_comments chosen.0.inside)) (λ ts. subckt_of name tech (with_rails tech lines.0 listed.0) ts) cell listed.2 in
     let whole = accepted name tech (with_rails tech lines.0 listed.0) inside.0 cell inside.2 in (
       with_rails tech lines.0 listed.0,
       inside.0,
       record {
         pins_whole = pin_rail lines.0 tech.gnd (with_rail lines.0 tech.vdd listed.0) (pin_rail lines.0 tech.vdd listed.0 (lines_pins chosen.0.head listed.0 listed.1));
-        right = all_right tech chosen.0.inside inside.0 inside.1;
+        right = all_right tech (without_comments chosen.0.inside) inside.0 inside.1;
         accepted = whole.0;
         made = whole.1;
       },

@@ -11,7 +11,7 @@ use Rattle.spice_text.specs.Numbers.{fixed_of}
 use Rattle.tech_file.specs.Technology.{Technology}
 use Rattle.spice_net.specs.declared.fault.SpiceFault.{SpiceFault}
 use Rattle.spice_net.specs.declared.fault.SpiceFault.TheVariants as fault
-use Rattle.spice_net.specs.declared.transistor.Transistor.{Transistor}
+use Rattle.spice_net.specs.Transistors.{Transistor}
 use Rattle.spice_net.specs.declared.transistor.Sizes.{Sizes}
 use Rattle.spice_net.specs.Chosen.{first_is}
 use Rattle.cell_num.specs.Steps.{require, or_fault, ◌>>=◌}

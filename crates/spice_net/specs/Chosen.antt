@@ -41,27 +41,28 @@ abbrev pub from_first : (Line → Bool) → List Line → List Line
 from_first test [] = []
 from_first test (line ∷ lines) = if test line then line ∷ lines else from_first test lines
 
--- the line that begins a subcircuit, and the lines inside without comments
+-- the line that begins a subcircuit, and the lines inside
 pub record Chosen : Type 0 where
   pub head : Line
   pub inside : List Line
 
-abbrev pub without_comments : List Line → List Line
-without_comments lines = filter (λ line. not line.info) lines
-
 -- the lines of the subcircuit that begins with the first line, up to the next line that ends one
 abbrev pub chosen_at : List Line → Result Chosen SpiceFault
 chosen_at [] = Err fault.NoCell
-chosen_at (head ∷ behind) = or_fault (position ends behind) fault.Unended >>= λ end. Ok (record { head = head; inside = without_comments (take end behind) })
+chosen_at (head ∷ behind) = or_fault (position ends behind) fault.Unended >>= λ end. Ok (record { head = head; inside = take end behind })
 
 abbrev pub chosen_in : List ℕ → List Line → Result Chosen SpiceFault
 chosen_in name lines = chosen_at (from_first (begins name) lines)
 
+-- the lines but for comments that tell directions of pins
+abbrev pub without_comments : List Line → List Line
+without_comments lines = filter (λ line. not line.info) lines
+
+abbrev pub of_text : Result (List Line) TextFault → Result (List Line) SpiceFault
+of_text (Ok lines) = Ok lines
+of_text (Err (text_fault.NotAscii line)) = Err (fault.NotAscii line)
+of_text (Err text_fault.NoMemory) = Err fault.NoMemory
+
 -- the lines of a text, or the first line that holds a byte it may not
 abbrev pub lines_in : List ℕ → Result (List Line) SpiceFault
 lines_in bytes = of_text (split_of bytes)
-  where
-    of_text : Result (List Line) TextFault → Result (List Line) SpiceFault
-    of_text (Ok lines) = Ok lines
-    of_text (Err (text_fault.NotAscii line)) = Err (fault.NotAscii line)
-    of_text (Err text_fault.NoMemory) = Err fault.NoMemory

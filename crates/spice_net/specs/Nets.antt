@@ -2,7 +2,7 @@
 use Rattle.std.specs.Prelude.{ℕ, not, List, [], ◌∷◌, ◌++◌, filter, flat_map, bytes_eq}
 use Rattle.std.specs.List.{position_or_len}
 use Rattle.cell_num.specs.declared.net.NetNo.{NetNo}
-use Rattle.spice_net.specs.declared.transistor.Transistor.{Transistor}
+use Rattle.spice_net.specs.Transistors.{Transistor}
 use Rattle.spice_net.specs.declared.subckt.Device.{Device}
 
 -- Words without repeats: each word after its first place is dropped.

@@ -1,27 +1,17 @@
--- The reader's own words: what its structs show, and how far its steps have come.
+-- The reader's own words: how far its steps have come.
 use Rattle.std.specs.Borrow.{Bor}
 use Rattle.std.specs.List.{list_any}
 use Rattle.std.specs.Prelude.{[], ◌∷◌, map, fold, bytes_eq, List, ◌++◌, if◌then◌else◌, ℕ, Option, Some, None, Result, Ok, Err}
 use Rattle.spice_net.specs.declared.fault.SpiceFault.{SpiceFault}
-use Rattle.spice_net.specs.declared.transistor.Fields.{Fields}
-use Rattle.spice_net.specs.declared.transistor.Judged.{Judged}
-use Rattle.spice_net.specs.declared.transistor.Transistor.{Transistor}
+use Rattle.cell_num.specs.declared.finger.Row.{Row}
+use Rattle.spice_net.specs.Transistors.{Fields, Transistor, with_line}
 use Rattle.spice_text.specs.declared.logical.Line.{Line}
 use Rattle.tech_file.specs.Technology.{Technology}
 use Rattle.cell_num.specs.Steps.{◌>>=◌}
-use Rattle.spice_net.specs.Transistors as line
 
--- the fields of a line, by their texts
-abbrev pub shown : Fields → line.Fields
-shown f = record { drain = f.drain.now; gate = f.gate.now; source = f.source.now; bulk = f.bulk.now; model = f.model.now; width = f.width.now; channel = f.channel.now; m = f.m.now; nf = f.nf.now }
-
-abbrev pub are_fields : Result Fields SpiceFault → Result line.Fields SpiceFault
-are_fields (Ok f) = Ok (shown f)
-are_fields (Err e) = Err e
-
--- the transistor of a line that is not refused
-abbrev pub transistor_as : Judged → line.Fields → Transistor
-transistor_as judged f = record { row = judged.row; drain = f.drain; gate = f.gate; source = f.source; width = judged.width }
+-- the transistor of some fields, where its row and its width are known
+abbrev pub transistor_as : Row → ℕ → Fields → Transistor
+transistor_as row width f = record { row = row; drain = f.drain; gate = f.gate; source = f.source; width = width }
 
 -- the later of two values, where it is there
 abbrev pub last_there : Option (List ℕ) → Option (List ℕ) → Option (List ℕ)
@@ -30,7 +20,7 @@ last_there None before = before
 
 -- a line in front of others, unless it is a comment
 abbrev pub with_shown : Technology → Line → Result (List Transistor) SpiceFault → Result (List Transistor) SpiceFault
-with_shown tech l rest = if l.info then rest else line.with_line tech l rest
+with_shown tech l rest = if l.info then rest else with_line tech l rest
 
 -- transistors, and behind them those of lines that are still to be read
 abbrev pub in_front : List Transistor → Result (List Transistor) SpiceFault → Result (List Transistor) SpiceFault

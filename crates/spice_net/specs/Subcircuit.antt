@@ -9,8 +9,8 @@ use Rattle.spice_net.specs.declared.fault.What.TheVariants as what
 use Rattle.spice_net.specs.declared.fault.SpiceFault.{SpiceFault}
 use Rattle.spice_net.specs.declared.fault.SpiceFault.TheVariants as fault
 use Rattle.spice_net.specs.declared.subckt.Subckt.{Subckt}
-use Rattle.spice_net.specs.declared.transistor.Transistor.{Transistor}
-use Rattle.spice_net.specs.Chosen.{has_name, is_global, chosen_in, lines_in}
+use Rattle.spice_net.specs.Transistors.{Transistor}
+use Rattle.spice_net.specs.Chosen.{has_name, is_global, chosen_in, without_comments, lines_in}
 use Rattle.spice_net.specs.Transistors.{is_rail, transistors_of}
 use Rattle.spice_net.specs.Nets.{distinct, named_nets, nets_of, net_of, device_of}
 use Rattle.cell_num.specs.Steps.{require, ◌>>=◌}
@@ -84,7 +84,7 @@ abbrev pub subckt_in : List ℕ → Technology → List Line → Result Subckt S
 subckt_in name tech lines = do
   chosen ← chosen_in name lines
   pins ← pins_of chosen.head
-  transistors ← transistors_of tech chosen.inside
+  transistors ← transistors_of tech (without_comments chosen.inside)
   subckt_of name tech (with_rails tech lines pins) transistors
 
 -- The subcircuit of this name that the bytes of a file hold, or the first fault.

@@ -12,8 +12,6 @@ use Rattle.spice_text.specs.Numbers.{fixed_of}
 use Rattle.tech_file.specs.Technology.{Technology}
 use Rattle.spice_net.specs.declared.fault.SpiceFault.{SpiceFault}
 use Rattle.spice_net.specs.declared.fault.SpiceFault.TheVariants as fault
-use Rattle.spice_net.specs.declared.transistor.Transistor.{Transistor}
-use Rattle.spice_net.specs.declared.transistor.Sizes.{Sizes}
 use Rattle.spice_net.specs.Chosen.{first_is, has_name}
 use Rattle.cell_num.specs.Steps.{require, or_fault, ◌>>=◌}
 
@@ -92,6 +90,13 @@ channel_units = 4
 abbrev pub units_of : Technology → List ℕ → Option ℕ
 units_of tech value = option_and_then (λ metres. units_up_to most_units metres (unit_pm tech)) (fixed_of value)
 
+-- the channel's width and its length in units, `m` and `nf`
+pub record Sizes : Type 0 where
+  pub width : ℕ
+  pub channel : ℕ
+  pub m : Fixed
+  pub nf : Fixed
+
 abbrev pub sizes_of : Technology → ℕ → Fields → Result Sizes SpiceFault
 sizes_of tech line fields = do
   width ← or_fault (units_of tech fields.width) (fault.Number line)
@@ -104,6 +109,14 @@ abbrev pub is_one : Fixed → Bool
 is_one number = (number.digits == 1) && int_eq number.ten (pos 0)
 
 -- ---- the transistor
+
+-- a transistor with its nets by their names, its width in units
+pub record Transistor : Type 0 where
+  pub row : Row
+  pub drain : List ℕ
+  pub gate : List ℕ
+  pub source : List ℕ
+  pub width : ℕ
 
 -- the row of a model
 abbrev pub row_of : Technology → List ℕ → Option Row

@@ -1,6 +1,6 @@
 ghost use Rattle.std.specs.Prelude.{◌≡◌, ◌<◌, ◌≤◌, [], ◌∷◌, length, drop, position, IfOk, IfErr, IfSome, Ok, Err};
 ghost use Rattle.std.specs.List.{list_any};
-ghost use Rattle.spice_net.specs.Chosen.{first_is, second_is, begins, ends, has_name, makes_global, is_global, from_first, without_comments, chosen_in};
+ghost use Rattle.spice_net.specs.Chosen.{first_is, second_is, begins, ends, has_name, makes_global, is_global, from_first, chosen_in};
 
 use crate::fault::SpiceFault;
 use cell_num::Name;
@@ -95,7 +95,7 @@ fn find_end(lines: &[Line]) -> Option<usize>
 
 /// The lines of the subcircuit of a name.
 pub fn choose<'a>(lines: &'a [Line], name: &[u8]) -> Result<Block<'a>, SpiceFault>
-    ensures lines { IfOk result (λ b. chosen_in name.now lines.now ≡ Ok (record { head = b.head.now; inside = without_comments b.lines.now })) }
+    ensures lines { IfOk result (λ b. chosen_in name.now lines.now ≡ Ok (record { head = b.head.now; inside = b.lines.now })) }
     ensures fault { IfErr result (λ f. chosen_in name.now lines.now ≡ Err f) }
 {
     let [head, behind @ ..] = from_begin(lines, name) else {

@@ -3,6 +3,7 @@
 
 mod chosen;
 mod fault;
+mod fields;
 mod nets;
 mod pins;
 mod read;
@@ -12,3 +13,6 @@ mod transistor;
 pub use fault::{SpiceFault, What};
 pub use read::read_cell;
 pub use subckt::{Device, DeviceList, Subckt};
+
+#[cfg(test)]
+mod tests;

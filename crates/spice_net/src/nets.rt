@@ -1,11 +1,11 @@
-ghost use Rattle.std.specs.Prelude.{◌≡◌, ◌≤◌, ◌<◌, length, map, IfOk, OnOk};
+ghost use Rattle.std.specs.Prelude.{◌≡◌, ◌≤◌, [], ◌∷◌, length, map, IfOk, OnOk};
 ghost use Rattle.indexmap.specs.IndexSet.{index_set_len};
 ghost use Rattle.spice_net.specs.Nets.{distinct, named_nets, nets_of, number_of, net_of, device_of};
 ghost use Rattle.spice_net.specs.Reader.{names_of, with_name, with_names};
 
 use crate::subckt::{Device, DeviceList};
 use crate::transistor::Transistor;
-use cell_num::{Name, Names, NetNo, NoMemory, copy};
+use cell_num::{MOST_NETS, Name, Names, NetNo, NoMemory, copy};
 use indexmap::IndexSet;
 use std::alloc::Global;
 
@@ -13,10 +13,8 @@ use std::alloc::Global;
 pub fn add<'a>(nets: &mut IndexSet<&'a [u8]>, name: &'a [u8]) -> Result<(), NoMemory>
     ensures { OnOk result (names_of nets.new.keys ≡ with_name (names_of nets.old.keys) name.now) }
 {
-    match nets.insert_full(name) {
-        Ok(_) => Ok(()),
-        Err(_) => Err(NoMemory),
-    }
+    nets.insert_full(name)?;
+    Ok(())
 }
 
 /// The names without repeats.
@@ -31,8 +29,18 @@ pub fn distinct_names<'a>(alloc: Global, names: &'a [Name]) -> Result<IndexSet<&
     Ok(nets)
 }
 
+// adds the nets that a transistor names
+fn add_nets<'a>(nets: &mut IndexSet<&'a [u8]>, transistor: &'a Transistor) -> Result<(), NoMemory>
+    ensures { OnOk result (names_of nets.new.keys ≡ with_names (names_of nets.old.keys) (named_nets (transistor.now ∷ []))) }
+{
+    add(nets, transistor.drain.as_slice())?;
+    add(nets, transistor.gate.as_slice())?;
+    add(nets, transistor.source.as_slice())?;
+    Ok(())
+}
+
 /// The names, and behind them the nets that transistors name.
-#[tactic(auto, using(crate::proofs::NetFacts::three_names_more))]
+#[tactic(auto, using(crate::proofs::NetFacts::more_names))]
 pub fn with_nets<'a>(
     names: IndexSet<&'a [u8]>,
     transistors: &'a [Transistor],
@@ -41,9 +49,7 @@ pub fn with_nets<'a>(
 {
     let mut nets = names;
     for transistor in transistors {
-        add(&mut nets, transistor.drain.as_slice())?;
-        add(&mut nets, transistor.gate.as_slice())?;
-        add(&mut nets, transistor.source.as_slice())?;
+        add_nets(&mut nets, transistor)?;
     }
     Ok(nets)
 }
@@ -81,7 +87,7 @@ pub fn copies(alloc: Global, nets: &IndexSet<&[u8]>) -> Result<Names, NoMemory>
 }
 
 fn number(nets: &IndexSet<&[u8]>, name: &[u8]) -> u32
-    requires { index_set_len nets.now ≤ 256 }
+    requires { index_set_len nets.now ≤ MOST_NETS }
     ensures { result ≡ number_of (names_of nets.now.keys) name.now }
 {
     match nets.get_index_of(name) {
@@ -92,14 +98,14 @@ fn number(nets: &IndexSet<&[u8]>, name: &[u8]) -> u32
 
 /// The number of a net of a set.
 pub fn net(nets: &IndexSet<&[u8]>, name: &[u8]) -> NetNo
-    requires { index_set_len nets.now ≤ 256 }
+    requires { index_set_len nets.now ≤ MOST_NETS }
     ensures { result ≡ net_of (names_of nets.now.keys) name.now }
 {
     NetNo(number(nets, name))
 }
 
 fn device(nets: &IndexSet<&[u8]>, transistor: &Transistor) -> Device
-    requires { index_set_len nets.now ≤ 256 }
+    requires { index_set_len nets.now ≤ MOST_NETS }
     ensures { result ≡ device_of (names_of nets.now.keys) transistor.now }
 {
     Device {
@@ -117,7 +123,7 @@ pub fn devices(
     nets: &IndexSet<&[u8]>,
     transistors: &[Transistor],
 ) -> Result<DeviceList, NoMemory>
-    requires { index_set_len nets.now ≤ 256 }
+    requires { index_set_len nets.now ≤ MOST_NETS }
     ensures { IfOk result (λ ds. ds ≡ map (device_of (names_of nets.now.keys)) transistors.now) }
 {
     let mut found = DeviceList::new(alloc);

@@ -7,8 +7,9 @@ ghost use Rattle.spice_net.specs.Subcircuit.{pins_of, with_rail, with_rails, is_
 
 use crate::chosen::is_global;
 use crate::fault::SpiceFault;
+use crate::fields::are_names;
 use crate::nets::{add, distinct_names, with_nets};
-use crate::transistor::{Transistor, are_names, is_rail};
+use crate::transistor::{Transistor, is_rail};
 use cell_num::{Name, NoMemory, copy};
 use indexmap::IndexSet;
 use spice_text::Line;

@@ -6,9 +6,6 @@ pub const MOST_PINS: usize = 64;
 /// The most transistors of a subcircuit.
 pub const MOST_DEVICES: usize = 128;
 
-/// The most nets of a subcircuit.
-pub const MOST_NETS: usize = 256;
-
 /// A transistor, its nets by their numbers.
 #[derive(Clone, Copy, Debug, PartialEq, Eq)]
 pub struct Device {

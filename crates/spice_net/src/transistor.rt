@@ -1,17 +1,17 @@
-ghost use Rattle.std.specs.Prelude.{◌≡◌, ◌≢◌, [], ◌∷◌, codes, option_map, unwrap_or, IfOk, IfErr, Ok, Err};
-ghost use Rattle.std.specs.List.{list_all};
-ghost use Rattle.cell_num.specs.Names.{is_name};
+ghost use Rattle.std.specs.Prelude.{◌≡◌, ◌≢◌, IfOk, IfErr, Ok, Err};
 ghost use Rattle.spice_net.specs.declared.fault.SpiceFault.TheVariants as fault;
 ghost use Rattle.spice_text.specs.Numbers.{fixed_of};
 ghost use Rattle.cell_num.specs.Steps.{or_fault};
-ghost use Rattle.spice_net.specs.Transistors.{is_parameter, value_in, value_of, fields_of, units_of, sizes_of, is_one, row_of, own_rail, other_rail, is_rail, rails_allowed, transistor_with, transistor_of, is_transistor};
-ghost use Rattle.spice_net.specs.Reader.{shown, are_fields, last_there, transistor_as};
+ghost use Rattle.spice_net.specs.Transistors.{units_of, sizes_of, is_one, row_of, own_rail, other_rail, is_rail, rails_allowed, transistor_with, transistor_of, is_transistor};
+ghost use Rattle.spice_net.specs.Reader.{transistor_as};
 
 use crate::chosen::has_name;
 use crate::fault::SpiceFault;
-use cell_num::{Fixed, List, Name, NoMemory, Row, copy, is_name, snap};
+use crate::fields::{Fields, read_fields};
+use cell_num::{Fixed, List, Name, NoMemory, Row, copy, snap};
 use spice_text::read_fixed;
 use std::alloc::Global;
+use std::marker::Model;
 use tech_file::Tech;
 
 /// A transistor, its nets by their names.
@@ -25,30 +25,31 @@ pub struct Transistor {
     pub width: u32,
 }
 
-pub type TransistorList = List<Transistor>;
+impl Model for Transistor {
+    ghost use Rattle.spice_net.specs.Transistors.{Transistor as TransistorOf};
 
-/// What the words of a transistor line say: its nets, its model, and the values that count for the
-/// channel's width, its length, `m` and `nf`.
-#[derive(Clone, Copy)]
-pub struct Fields<'a> {
-    pub drain: &'a [u8],
-    pub gate: &'a [u8],
-    pub source: &'a [u8],
-    pub bulk: &'a [u8],
-    pub model: &'a [u8],
-    pub width: &'a [u8],
-    pub channel: &'a [u8],
-    pub m: &'a [u8],
-    pub nf: &'a [u8],
+    ghost Value = { TransistorOf };
+
+    ghost view = { λ v. record { row = v.row; drain = v.drain; gate = v.gate; source = v.source; width = v.width } };
 }
 
+pub type TransistorList = List<Transistor>;
+
 /// The numbers of a transistor line: the channel's width and its length in grid units, `m` and `nf`.
-#[derive(Clone, Copy)]
-pub struct Sizes {
-    pub width: u32,
-    pub channel: u32,
-    pub m: Fixed,
-    pub nf: Fixed,
+#[derive(Drop)]
+struct Sizes {
+    width: u32,
+    channel: u32,
+    m: Fixed,
+    nf: Fixed,
+}
+
+impl Model for Sizes {
+    ghost use Rattle.spice_net.specs.Transistors.{Sizes as SizesOf};
+
+    ghost Value = { SizesOf };
+
+    ghost view = { λ v. record { width = v.width; channel = v.channel; m = v.m; nf = v.nf } };
 }
 
 // The length of every channel.
@@ -56,85 +57,6 @@ const CHANNEL_UNITS: u32 = 4;
 
 // The least width.
 const LEAST_UNITS: u32 = 6;
-
-fn is_parameter(word: &[u8]) -> bool
-    ensures { result ≡ is_parameter word.now }
-{
-    word.iter().any(|b| *b == b'=')
-}
-
-fn are_parameters(words: &[Name]) -> bool
-    ensures { result ≡ list_all is_parameter words.now }
-{
-    words.iter().all(|word| is_parameter(word.as_slice()))
-}
-
-/// Whether each of the words may name something.
-pub fn are_names(words: &[Name]) -> bool
-    ensures { result ≡ list_all is_name words.now }
-{
-    words.iter().all(|word| is_name(word.as_slice()))
-}
-
-// a word's value for a key, or the one that was found before
-fn value_or_before<'a>(key: &[u8], word: &'a [u8], before: Option<&'a [u8]>) -> Option<&'a [u8]>
-    ensures { option_map (λ v. v.now) result ≡ last_there (value_in key.now word.now) (option_map (λ v. v.now) before.entry) }
-{
-    match word.strip_prefix(key) {
-        Some(value) => Some(value),
-        None => before,
-    }
-}
-
-// the value that counts for a key, which ends by its `=`
-#[tactic(auto, using(crate::proofs::Parameters::one_more))]
-fn value_of<'a>(key: &[u8], words: &'a [Name]) -> Option<&'a [u8]>
-    ensures { option_map (λ v. v.now) result ≡ value_of key.now words.now }
-{
-    let mut found = None;
-    for word in words {
-        found = value_or_before(key, word.as_slice(), found);
-    }
-    found
-}
-
-// the value that counts for a key, or `1`
-fn value_or_one<'a>(key: &[u8], words: &'a [Name]) -> &'a [u8]
-    ensures { result.now ≡ unwrap_or (value_of key.now words.now) (codes "1") }
-{
-    match value_of(key, words) {
-        Some(value) => value,
-        None => b"1",
-    }
-}
-
-fn read_fields(line: u32, words: &[Name]) -> Result<Fields<'_>, SpiceFault>
-    ensures { are_fields result ≡ fields_of line words.now }
-{
-    let [_, drain, gate, source, bulk, model, parameters @ ..] = words else {
-        return Err(SpiceFault::Fields { line });
-    };
-    if !are_names(&words[..6]) || !are_parameters(parameters) {
-        return Err(SpiceFault::Fields { line });
-    }
-    let Some(width) = value_of(b"w=", parameters) else {
-        return Err(SpiceFault::Fields { line });
-    };
-    let Some(channel) = value_of(b"l=", parameters) else {
-        return Err(SpiceFault::Fields { line });
-    };
-    Ok(Fields {
-        drain: drain.as_slice(),
-        gate: gate.as_slice(),
-        source: source.as_slice(),
-        bulk: bulk.as_slice(),
-        model: model.as_slice(),
-        width,
-        channel,
-        m: value_or_one(b"m=", parameters),
-        nf: value_or_one(b"nf=", parameters),
-    })
-}
 
 fn units(tech: &Tech, value: &[u8]) -> Option<u32>
     ensures { result ≡ units_of tech.now value.now }
@@ -163,7 +85,7 @@ fn number(line: u32, value: &[u8]) -> Result<Fixed, SpiceFault>
 }
 
 fn read_sizes(tech: &Tech, line: u32, fields: &Fields) -> Result<Sizes, SpiceFault>
-    ensures { result ≡ sizes_of tech.now line (shown fields.now) }
+    ensures { result ≡ sizes_of tech.now line fields.now }
 {
     let width = size(tech, line, fields.width)?;
     let channel = size(tech, line, fields.channel)?;
@@ -221,7 +143,7 @@ pub fn is_rail(tech: &Tech, net: &[u8]) -> bool
 }
 
 fn rails_allowed(tech: &Tech, row: Row, fields: &Fields) -> bool
-    ensures { result ≡ rails_allowed tech.now row (shown fields.now) }
+    ensures { result ≡ rails_allowed tech.now row fields.now }
 {
     let other = other_rail(tech, row);
     !is_rail(tech, fields.gate) && fields.drain != other && fields.source != other
@@ -235,8 +157,8 @@ struct Judged {
 }
 
 fn judge(tech: &Tech, line: u32, fields: &Fields) -> Result<Judged, SpiceFault>
-    ensures right { IfOk result (λ j. transistor_with tech.now line (shown fields.now) ≡ Ok (transistor_as j (shown fields.now))) }
-    ensures fault { IfErr result (λ f. transistor_with tech.now line (shown fields.now) ≡ Err f) }
+    ensures right { IfOk result (λ j. transistor_with tech.now line fields.now ≡ Ok (transistor_as j.row j.width fields.now)) }
+    ensures fault { IfErr result (λ f. transistor_with tech.now line fields.now ≡ Err f) }
 {
     let Some(row) = row_of(tech, fields.model) else {
         return Err(SpiceFault::Model { line });
@@ -270,7 +192,7 @@ fn judge(tech: &Tech, line: u32, fields: &Fields) -> Result<Judged, SpiceFault>
 }
 
 fn named(alloc: Global, judged: Judged, fields: &Fields) -> Result<Transistor, NoMemory>
-    ensures { IfOk result (λ t. t ≡ transistor_as judged (shown fields.now)) }
+    ensures { IfOk result (λ t. t ≡ transistor_as judged.row judged.width fields.now) }
 {
     Ok(Transistor {
         row: judged.row,

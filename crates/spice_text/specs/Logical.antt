@@ -1,12 +1,10 @@
 -- Logical lines.
-use Rattle.std.specs.Prelude.{Bool, true, false, ℕ, ◌≡◌, ◌+◌, List, [], ◌∷◌, ◌++◌, drop, codes, Result, Ok, Err, if◌then◌else◌}
+use Rattle.std.specs.Prelude.{Bool, true, false, ℕ, ◌+◌, ◌==◌, List, [], ◌∷◌, ◌++◌, codes, Result, Ok, Err, if◌then◌else◌}
 use Rattle.std.specs.Str.{bytes_eq}
-use Rattle.spice_text.specs.declared.physical.LineKind.{LineKind}
-use Rattle.spice_text.specs.declared.physical.LineKind.TheVariants as kind
 use Rattle.spice_text.specs.declared.logical.Line.{Line}
 use Rattle.spice_text.specs.declared.logical.TextFault.{TextFault}
 use Rattle.spice_text.specs.declared.logical.TextFault.TheVariants as fault
-use Rattle.spice_text.specs.Physical.{physical, without_comment, without_blanks_in_front, kind_of, is_refused}
+use Rattle.spice_text.specs.Physical.{physical, without_comment, without_blanks_in_front, is_refused}
 use Rattle.spice_text.specs.Words.{words_of}
 
 -- what the continuations in front add to the line before them, and the lines behind, each with its continuations
@@ -33,15 +31,17 @@ with_comment n words g =
     record { front = g.front; lines = record { number = n; info = true; words = words } ∷ g.lines }
     else g
 
--- a physical line without its comment, in front of others
-abbrev pub grouped_as : LineKind → ℕ → List ℕ → Group → Group
-grouped_as kind.Empty n line g = g
-grouped_as kind.Comment n line g = with_comment n (words_of line) g
-grouped_as kind.Continuation n line g = record { front = (32 ∷ drop 1 (without_blanks_in_front line)) ++ g.front; lines = g.lines }
-grouped_as kind.Begin n line g = record { front = []; lines = line_of n (line ++ g.front) ∷ g.lines }
+-- A physical line without its comment, in front of others. It is told by what stands behind the blanks in
+-- front: nothing, `*` for a comment, `+` for a continuation, else a line begins.
+abbrev pub grouped_by : List ℕ → ℕ → List ℕ → Group → Group
+grouped_by [] n line g = g
+grouped_by (b ∷ body) n line g =
+    if b == 42 then with_comment n (words_of line) g else
+    if b == 43 then record { front = (32 ∷ body) ++ g.front; lines = g.lines }
+    else record { front = []; lines = line_of n (line ++ g.front) ∷ g.lines }
 
 abbrev pub grouped : ℕ → List ℕ → Group → Group
-grouped n line g = grouped_as (kind_of (without_blanks_in_front line)) n line g
+grouped n line g = grouped_by (without_blanks_in_front line) n line g
 
 abbrev pub then_group : ℕ → List ℕ → Result Group TextFault → Result Group TextFault
 then_group n line (Ok g) = Ok (grouped n line g)
@@ -60,9 +60,3 @@ lines_of (Err e) = Err e
 -- the lines of a text; continuations in front of the first belong to none
 abbrev pub split_of : List ℕ → Result (List Line) TextFault
 split_of bytes = lines_of (group 1 (physical bytes))
-
--- an answer is what the definition gives, but for want of memory
-abbrev pub Answers : Result (List Line) TextFault → Result (List Line) TextFault → Type 0
-Answers (Ok lines) read = read ≡ Ok lines
-Answers (Err fault.NoMemory) read = Unit {0}
-Answers (Err (fault.NotAscii n)) read = read ≡ Err (fault.NotAscii n)

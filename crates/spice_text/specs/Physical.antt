@@ -1,8 +1,6 @@
 -- Physical lines.
 use Rattle.std.specs.Prelude.{ℕ, ◌==◌, ◌||◌, ◌&&◌, not, nat_lt, Bool, false, List, [], ◌∷◌, if◌then◌else◌}
 use Rattle.std.specs.List.{list_any}
-use Rattle.spice_text.specs.declared.physical.LineKind.{LineKind}
-use Rattle.spice_text.specs.declared.physical.LineKind.TheVariants.{Empty, Comment, Continuation, Begin}
 
 abbrev pub with_byte : ℕ → List (List ℕ) → List (List ℕ)
 with_byte b [] = (b ∷ []) ∷ []
@@ -33,17 +31,14 @@ abbrev pub without_blanks_in_front : List ℕ → List ℕ
 without_blanks_in_front [] = []
 without_blanks_in_front (b ∷ bs) = if is_blank b then without_blanks_in_front bs else b ∷ bs
 
-abbrev pub kind_of : List ℕ → LineKind
-kind_of [] = Empty
-kind_of (b ∷ bs) = if b == 42 then Comment else if b == 43 then Continuation else Begin
-
 -- a byte that no line may hold
 abbrev pub is_bad : ℕ → Bool
 is_bad b = not (b == 9) && (nat_lt b 32 || nat_lt 126 b)
 
-abbrev pub refused_as : LineKind → Bool → Bool
-refused_as Comment bad = false
-refused_as _ bad = bad
+-- a line that begins with `*`, where it has no blanks in front
+abbrev pub is_comment : List ℕ → Bool
+is_comment [] = false
+is_comment (b ∷ bs) = b == 42
 
 abbrev pub is_refused : List ℕ → Bool
-is_refused line = refused_as (kind_of (without_blanks_in_front line)) (list_any is_bad line)
+is_refused line = not (is_comment (without_blanks_in_front line)) && list_any is_bad line

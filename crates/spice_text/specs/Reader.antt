@@ -1,7 +1,6 @@
 -- The reader's own words, which its inner functions promise; no definition of the text needs them.
 use Rattle.std.specs.Prelude.{ℕ, suc, ◌==◌, ◌&&◌, nat_le, Bool, true, List, [], ◌∷◌, ◌++◌, Option, Some, None, Result, Ok, Err, if◌then◌else◌}
 use Rattle.spice_text.specs.declared.logical.Line.{Line}
-use Rattle.spice_text.specs.declared.logical.Open.{Open}
 use Rattle.spice_text.specs.declared.logical.TextFault.{TextFault}
 use Rattle.spice_text.specs.Physical.{begins_with}
 use Rattle.spice_text.specs.Logical.{Group, line_of, tells_directions}
@@ -19,6 +18,10 @@ end_of [] = 0
 end_of (b ∷ bs) = if b == 10 then 0 else if b == 13 && begins_with 10 bs then 0 else suc (end_of bs)
 
 -- ---- logical lines: those that are done, the one that may go on, and the comments behind it
+
+pub record Open : Type 0 where
+  pub number : ℕ
+  pub text : List ℕ
 
 abbrev pub closed : List Line → Option Open → List Line → List Line
 closed done None behind = done ++ behind

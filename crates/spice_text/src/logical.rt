@@ -1,12 +1,14 @@
-ghost use Rattle.std.specs.Prelude.{◌≡◌, ◌≤◌, ◌<◌, ◌+◌, ◌++◌, [], ◌∷◌, Some, None, length, IfOk, OnOk, OnErr};
+ghost use Rattle.std.specs.Prelude.{◌≡◌, ◌≤◌, ◌<◌, ◌+◌, ◌++◌, [], ◌∷◌, Some, None, length, ◌≢◌, Ok, Err, IfOk, IfErr};
+ghost use Rattle.spice_text.specs.declared.logical.TextFault.TheVariants as fault;
 ghost use Rattle.spice_text.specs.Words.{words_of};
-ghost use Rattle.spice_text.specs.Logical.{Group, grouped, tells_directions, Answers, split_of};
+ghost use Rattle.spice_text.specs.Logical.{Group, grouped, tells_directions, split_of};
 ghost use Rattle.spice_text.specs.Reader.{closed, extended, finish, with_info};
 
-use crate::physical::{LineKind, first_line};
-use crate::words::{before_mark, behind_blanks, kind, refused, words};
-use cell_num::{List, Name, Names, NoMemory};
+use crate::physical::first_line;
+use crate::words::{before_mark, behind_blanks, refused, words};
+use cell_num::{Bytes, List, MOST_BYTES, Names, NoMemory, copy};
 use std::alloc::Global;
+use std::marker::Model;
 use thiserror::Error;
 
 /// The words of a logical line in lower case, and the number of its first physical line, counted
@@ -24,7 +26,15 @@ pub type Lines = List<Line>;
 #[derive(Debug, Drop)]
 pub struct Open {
     pub number: u32,
-    pub text: Name,
+    pub text: Bytes,
+}
+
+impl Model for Open {
+    ghost use Rattle.spice_text.specs.Reader.{Open as OpenOf};
+
+    ghost Value = { OpenOf };
+
+    ghost view = { λ o. record { number = o.number; text = o.text } };
 }
 
 /// Why a text has no lines.
@@ -61,10 +71,8 @@ fn joined(done: Lines, behind: Lines) -> Result<Lines, NoMemory>
 {
     let mut all = done.into_vec();
     let mut more = behind.into_vec();
-    match all.append(&mut more) {
-        Ok(()) => Ok(Lines::from_vec(all)),
-        Err(_) => Err(NoMemory),
-    }
+    all.append(&mut more)?;
+    Ok(Lines::from_vec(all))
 }
 
 fn close(alloc: Global, state: State) -> Result<Lines, NoMemory>
@@ -105,9 +113,10 @@ fn extend(last: Option<Open>, more: &[u8]) -> Result<Option<Open>, NoMemory>
 fn begin(alloc: Global, number: u32, text: &[u8]) -> Result<Open, NoMemory>
     ensures { IfOk result (λ o. o ≡ record { number = number; text = text.now }) }
 {
-    let mut copy = Name::new(alloc);
-    copy.extend(text)?;
-    Ok(Open { number, text: copy })
+    Ok(Open {
+        number,
+        text: copy(alloc, text)?,
+    })
 }
 
 fn is_info(words: &Names) -> bool
@@ -139,10 +148,9 @@ fn add_comment(alloc: Global, number: u32, line: &[u8], behind: Lines) -> Result
 fn take_line(alloc: Global, number: u32, line: &[u8], state: State) -> Result<State, NoMemory>
     ensures { IfOk result (λ new. (g : Group) → finish new.done new.last new.behind g ≡ finish state.done state.last state.behind (grouped number line.now g)) }
 {
-    let body = behind_blanks(line);
-    match kind(body) {
-        LineKind::Empty => Ok(state),
-        LineKind::Comment => {
+    match behind_blanks(line) {
+        [] => Ok(state),
+        [b'*', ..] => {
             let behind = add_comment(alloc, number, line, state.behind)?;
             Ok(State {
                 done: state.done,
@@ -150,15 +158,15 @@ fn take_line(alloc: Global, number: u32, line: &[u8], state: State) -> Result<St
                 behind,
             })
         }
-        LineKind::Continuation => {
-            let last = extend(state.last, &body[1..])?;
+        [b'+', more @ ..] => {
+            let last = extend(state.last, more)?;
             Ok(State {
                 done: state.done,
                 last,
                 behind: state.behind,
             })
         }
-        LineKind::Begin => {
+        [_, ..] => {
             let done = close(alloc, state)?;
             let last = begin(alloc, number, line)?;
             Ok(State {
@@ -172,10 +180,15 @@ fn take_line(alloc: Global, number: u32, line: &[u8], state: State) -> Result<St
 
 /// The logical lines of a text, and its comments that tell directions of pins, in the order of
 /// their first physical lines. The text has at most a gibibyte.
-#[tactic(auto, using(crate::proofs::Groups::is_refused_line, crate::proofs::Groups::is_taken, crate::proofs::Groups::is_done, crate::proofs::Groups::starts))]
+#[tactic(auto, using(crate::proofs::Groups::is_refused_line, crate::proofs::Groups::is_taken, crate::proofs::Groups::is_done, crate::proofs::Groups::starts, crate::proofs::Groups::never_split))]
 pub fn split_lines(alloc: Global, bytes: &[u8]) -> Result<Lines, TextFault>
-    requires { length bytes.now ≤ 1073741824 }
-    ensures { Answers result (split_of bytes.now) }
+    requires { length bytes.now ≤ MOST_BYTES }
+    // The lines of the definition, or the first line that it refuses; memory may run out.
+    ensures lines { IfOk result (λ lines. split_of bytes.now ≡ Ok lines) }
+    ensures fault { IfErr result (λ f. f ≢ fault.NoMemory → split_of bytes.now ≡ Err f) }
+
+    // Memory alone makes it NoMemory: the definition never answers so.
+    ensures told { split_of bytes.now ≢ Err fault.NoMemory }
 {
     let mut state = State {
         done: Lines::new(alloc),
@@ -196,66 +209,4 @@ pub fn split_lines(alloc: Global, bytes: &[u8]) -> Result<Lines, TextFault>
     }
     let lines = close(alloc, state)?;
     Ok(lines)
-}
-
-#[cfg(test)]
-mod tests {
-    use super::*;
-    use std::test::Fail;
-
-    fn add_line(out: &mut Name, line: &Line) -> Result<(), NoMemory> {
-        out.push(b'0' + (line.number % 10) as u8)?;
-        if line.info {
-            out.push(b'!')?;
-        }
-        for word in line.words.as_slice() {
-            out.push(b' ')?;
-            out.extend(word.as_slice())?;
-        }
-        out.push(b'\n')
-    }
-
-    // the lines by their numbers and words, or the number of the line that is refused
-    fn told(alloc: Global, text: &[u8]) -> Result<Name, NoMemory> {
-        let mut out = Name::new(alloc);
-        match split_lines(alloc, &text[..text.len().min(1000)]) {
-            Ok(lines) => {
-                for line in lines.as_slice() {
-                    add_line(&mut out, line)?;
-                }
-            }
-            Err(TextFault::NotAscii { line }) => out.push(b'0' + (line % 10) as u8)?,
-            Err(TextFault::NoMemory) => return Err(NoMemory),
-        }
-        Ok(out)
-    }
-
-    fn tells(alloc: Global, text: &[u8], wanted: &[u8]) -> bool {
-        match told(alloc, text) {
-            Ok(out) => out.as_slice() == wanted,
-            Err(NoMemory) => false,
-        }
-    }
-
-    #[test]
-    fn joins_lines_and_splits_words(rt: HostRuntime) -> Result<(), Fail> {
-        for (text, wanted) in [
-            (
-                b"+ a\n.SUBCKT Inv A  Y\t$ pins\r\n*.PinInfo A:I\n+ vdd\n\n* \x80\nM1 y a$b W = 3u L= 6u\n +nf=1".as_slice(),
-                b"2 .subckt inv a y vdd\n3! *.pininfo a:i\n7 m1 y a$b w=3u l=6u nf=1\n".as_slice(),
-            ),
-            (
-                b"x1\n+ $ b\n+$a\n$ \xff\r\n*.pininfo b:o\n*.pininfos\n.ends",
-                b"1 x1 $a\n5! *.pininfo b:o\n7 .ends\n",
-            ),
-            (b"= a =\t= b\n", b"1 =a==b\n"),
-            (b"a\rb\n", b"1"),
-            (b"a\nb\r", b"2"),
-            (b"*\r\xff\nok\n+\x01", b"3"),
-            (b"", b""),
-        ] {
-            assert!(rt; tells(rt.alloc(), text, wanted));
-        }
-        Ok(())
-    }
 }

@@ -2,15 +2,6 @@ ghost use Rattle.std.specs.Prelude.{◌≡◌, ◌≤◌, ◌<◌, ◌+◌, [], 
 ghost use Rattle.spice_text.specs.Physical.{physical};
 ghost use Rattle.spice_text.specs.Reader.{until_end, end_of};
 
-/// What a physical line is, by its first byte that is no blank.
-#[derive(Clone, Copy, Debug, PartialEq, Eq)]
-pub enum LineKind {
-    Empty,
-    Comment,
-    Continuation,
-    Begin,
-}
-
 fn find_feed(bytes: &[u8]) -> Option<usize>
     ensures { result ≡ position (λ b. b == 10) bytes.now }
 {

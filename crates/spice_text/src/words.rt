@@ -1,11 +1,10 @@
 ghost use Rattle.std.specs.Prelude.{◌≡◌, ◌≤◌, ◌<◌, ◌+◌, [], ◌∷◌, ◌==◌, not, false, true, filter, map, length, IfOk, OnOk};
 ghost use Rattle.std.specs.List.{slice_split, join_with_byte, list_any};
 ghost use Rattle.cell_num.specs.Names.{lowered};
-ghost use Rattle.spice_text.specs.Physical.{is_blank, without_comment, without_blanks_in_front, kind_of, is_bad, is_refused};
+ghost use Rattle.spice_text.specs.Physical.{is_blank, without_comment, without_blanks_in_front, is_comment, is_bad, is_refused};
 ghost use Rattle.spice_text.specs.Words.{without_blanks_at_end, trimmed, joined_at_equals, words_of};
 
-use crate::physical::LineKind;
-use cell_num::{Name, Names, NoMemory, lower};
+use cell_num::{Bytes, Names, NoMemory, lower};
 use std::alloc::{AllocError, Global};
 
 fn blank(byte: u8) -> bool
@@ -46,15 +45,12 @@ pub fn behind_blanks(line: &[u8]) -> &[u8]
     &[]
 }
 
-/// What a line is, by what stands behind the blanks in front.
-pub fn kind(body: &[u8]) -> LineKind
-    ensures { result ≡ kind_of body.now }
+fn is_comment(body: &[u8]) -> bool
+    ensures { result ≡ is_comment body.now }
 {
     match body {
-        [] => LineKind::Empty,
-        [b'*', ..] => LineKind::Comment,
-        [b'+', ..] => LineKind::Continuation,
-        [_, ..] => LineKind::Begin,
+        [b'*', ..] => true,
+        _ => false,
     }
 }
 
@@ -68,10 +64,7 @@ fn any_bad(line: &[u8]) -> bool
 pub fn refused(line: &[u8]) -> bool
     ensures { result ≡ is_refused line.now }
 {
-    match kind(behind_blanks(line)) {
-        LineKind::Comment => false,
-        _ => any_bad(line),
-    }
+    !is_comment(behind_blanks(line)) && any_bad(line)
 }
 
 // what stands before the blanks at the end
@@ -101,7 +94,7 @@ fn parts_between_equals(alloc: Global, text: &[u8]) -> Result<Vec<&[u8]>, AllocE
 }
 
 // behind a text, each part without the blanks around it, `=` in front of each
-fn add_parts(out: &mut Name, parts: &[&[u8]]) -> Result<(), NoMemory>
+fn add_parts(out: &mut Bytes, parts: &[&[u8]]) -> Result<(), NoMemory>
     ensures { OnOk result (out.new ≡ join_with_byte 61 (out.old ∷ map trimmed (map (λ w. w.now) parts.now))) }
 {
     for part in parts {
@@ -111,10 +104,10 @@ fn add_parts(out: &mut Name, parts: &[&[u8]]) -> Result<(), NoMemory>
     Ok(())
 }
 
-fn join(alloc: Global, parts: &[&[u8]]) -> Result<Name, NoMemory>
+fn join(alloc: Global, parts: &[&[u8]]) -> Result<Bytes, NoMemory>
     ensures { IfOk result (λ t. t ≡ join_with_byte 61 (map trimmed (map (λ w. w.now) parts.now))) }
 {
-    let mut out = Name::new(alloc);
+    let mut out = Bytes::new(alloc);
     if let [first, others @ ..] = parts {
         out.extend(trim(first))?;
         add_parts(&mut out, others)?;
@@ -122,12 +115,10 @@ fn join(alloc: Global, parts: &[&[u8]]) -> Result<Name, NoMemory>
     Ok(out)
 }
 
-fn join_at_equals(alloc: Global, text: &[u8]) -> Result<Name, NoMemory>
+fn join_at_equals(alloc: Global, text: &[u8]) -> Result<Bytes, NoMemory>
     ensures { IfOk result (λ t. t ≡ joined_at_equals text.now) }
 {
-    let Ok(parts) = parts_between_equals(alloc, text) else {
-        return Err(NoMemory);
-    };
+    let parts = parts_between_equals(alloc, text)?;
     join(alloc, parts.as_slice())
 }
 
@@ -140,9 +131,7 @@ fn parts_between_blanks(alloc: Global, text: &[u8]) -> Result<Vec<&[u8]>, AllocE
 fn split_at_blanks(alloc: Global, text: &[u8]) -> Result<Names, NoMemory>
     ensures { IfOk result (λ ns. ns ≡ map lowered (filter (λ w. not (length w == 0)) (slice_split is_blank text.now))) }
 {
-    let Ok(parts) = parts_between_blanks(alloc, text) else {
-        return Err(NoMemory);
-    };
+    let parts = parts_between_blanks(alloc, text)?;
     let mut names = Names::new(alloc);
     for word in &parts {
         if !word.is_empty() {

@@ -3,3 +3,4 @@ pub mod Empty
 pub mod Least
 pub mod Limits
 pub mod NameLists
+pub mod Told

@@ -11,15 +11,11 @@ use Rattle.std.proofs.lemmas.Slice.Eq.{bytes_eq-Decides}
 use Rattle.toml.specs.Data.{Items, no_items, item, Members, no_members, integer, string, array, as_str, as_integer, as_array}
 use Rattle.tech_file.specs.declared.fault.TechFault.{TechFault}
 use Rattle.tech_file.specs.declared.fault.TechFault.TheVariants as fault
-use Rattle.tech_file.specs.declared.number.Limits.{Limits}
-use Rattle.tech_file.specs.declared.number.Numbers.{Numbers}
-use Rattle.tech_file.specs.declared.rails.Rails.{Rails}
-use Rattle.tech_file.specs.declared.models.Models.{Models}
 use Rattle.cell_num.specs.Names.{lowered, is_name}
 use Rattle.tech_file.specs.Technology.{Technology, IsTechnology, IsLowerName, AreModels, plain}
-use Rattle.cell_num.specs.Steps.{◌>>=◌, or_fault, require}
+use Rattle.cell_num.specs.Steps.{or_fault, require}
 use Rattle.cell_num.proofs.Steps.{granted_step}
-use Rattle.tech_file.specs.Reading.{value_at, is_within, within, number_at, lambda_limits, width_limits, budget_limits, name_in, as_name, name_at, with_first, names_in, if_few, models_at, texts, share, numbers_of, rails_of, models_of}
+use Rattle.tech_file.specs.Reading.{Limits, Numbers, Rails, Models, value_at, is_within, within, number_at, lambda_limits, width_limits, budget_limits, height_limits, name_in, as_name, name_at, with_first, names_in, if_few, models_at, texts, share, known_alone, numbers_of, rails_of, models_of, technology_of}
 
 found : {A : Type 0} (o : Option A) (f : TechFault) (a : A) → or_fault o f ≡ Ok a → o ≡ Some a
 found (Some x) f a h = cc
@@ -56,6 +52,7 @@ record AreNumbers (a : Numbers) : Type 0 where
   p : IsIn (width_limits 40) a.wmax_p
   n : IsIn (width_limits 40) a.wmax_n
   budget : IsIn budget_limits a.budget
+  height : IsIn height_limits a.height
 
 -- what holds of an answer holds of the same answer
 along : {A : Type 0} (P : A → Type 0) (a b : A) → ◌≡◌ {A = Result A TechFault} (Ok a) (Ok b) → P a → P b
@@ -69,12 +66,14 @@ numbers_hold members a h =
     let (lambda_nm, is_lambda, then_p) = granted_step (number_at (codes "lambda_nm") lambda_limits members) _ a h in
     let (p, is_p, then_n) = granted_step (number_at (codes "wmax_p") (width_limits 40) members) _ a then_p in
     let (n, is_n, then_budget) = granted_step (number_at (codes "wmax_n") (width_limits 40) members) _ a then_n in
-    let (budget, is_budget, same) = granted_step (number_at (codes "budget") budget_limits members) _ a then_budget in
-    along AreNumbers (record { lambda_nm = lambda_nm; wmax_p = p; wmax_n = n; budget = budget }) a same (record {
+    let (budget, is_budget, then_height) = granted_step (number_at (codes "budget") budget_limits members) _ a then_budget in
+    let (height, is_height, same) = granted_step (number_at (codes "height") height_limits members) _ a then_height in
+    along AreNumbers (record { lambda_nm = lambda_nm; wmax_p = p; wmax_n = n; budget = budget; height = height }) a same (record {
       lambda = is_in _ _ (number_holds (codes "lambda_nm") lambda_limits members _ is_lambda);
       p = is_in _ _ (number_holds (codes "wmax_p") (width_limits 40) members _ is_p);
       n = is_in _ _ (number_holds (codes "wmax_n") (width_limits 40) members _ is_n);
       budget = is_in _ _ (number_holds (codes "budget") budget_limits members _ is_budget);
+      height = is_in _ _ (number_holds (codes "height") height_limits members _ is_height);
     })
 
 -- ---- names
@@ -181,15 +180,16 @@ models_hold members models h =
 
 -- ---- the technology
 
-abbrev pub joined : Numbers → Rails → Models → Technology
-joined numbers rails models = record { lambda_nm = numbers.lambda_nm; wmax_p = numbers.wmax_p; wmax_n = numbers.wmax_n; vdd = rails.vdd; gnd = rails.gnd; p_models = models.p; n_models = models.n; budget = numbers.budget }
-
-pub limits_hold : (members : Members) (numbers : Numbers) (rails : Rails) (models : Models) → numbers_of members ≡ Ok numbers → rails_of members ≡ Ok rails → models_of members ≡ Ok models → IsTechnology (joined numbers rails models)
-limits_hold members numbers rails models is_numbers is_rails is_models =
-    let ns = numbers_hold members numbers is_numbers in
-    let rs = rails_hold members rails is_rails in
-    let ms = models_hold members models is_models in
-    record {
+pub limits_hold : (members : Members) (t : Technology) → technology_of members ≡ Ok t → IsTechnology t
+limits_hold members t h =
+    let (known, is_known, then_numbers) = granted_step (known_alone members) _ t h in
+    let (numbers, are_numbers, then_rails) = granted_step (numbers_of members) _ t then_numbers in
+    let (rails, are_rails, then_models) = granted_step (rails_of members) _ t then_rails in
+    let (models, are_models, same) = granted_step (models_of members) _ t then_models in
+    let ns = numbers_hold members numbers are_numbers in
+    let rs = rails_hold members rails are_rails in
+    let ms = models_hold members models are_models in
+    along IsTechnology (record { lambda_nm = numbers.lambda_nm; wmax_p = numbers.wmax_p; wmax_n = numbers.wmax_n; vdd = rails.vdd; gnd = rails.gnd; p_models = models.p; n_models = models.n; budget = numbers.budget; height = numbers.height }) t same (record {
       lambda_even = ns.lambda.even;
       lambda_least = ns.lambda.least;
       lambda_most = ns.lambda.most;
@@ -199,14 +199,15 @@ limits_hold members numbers rails models is_numbers is_rails is_models =
       wmax_n_most = ns.n.most;
       budget_least = ns.budget.least;
       budget_most = ns.budget.most;
+      height_most = ns.height.most;
       vdd = rs.vdd;
       gnd = rs.gnd;
       rails_differ = rs.differ;
       p_models = ms.p;
       n_models = ms.n;
       kinds_differ = ms.differ;
-    }
+    })
 
 -- the plain technology is what a table without keys says
 pub plain_holds : IsTechnology plain
-plain_holds = limits_hold no_members (record { lambda_nm = 300; wmax_p = 40; wmax_n = 40; budget = 200000 }) (record { vdd = plain.vdd; gnd = plain.gnd }) (record { p = plain.p_models; n = plain.n_models }) refl refl refl
+plain_holds = limits_hold no_members plain refl

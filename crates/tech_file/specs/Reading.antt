@@ -1,5 +1,5 @@
 -- What a text says of a technology: keys of a TOML table, each with a plain value where it is absent.
-use Rattle.std.specs.Prelude.{ℕ, ℤ, pos, negsuc, ◌%◌, ◌==◌, ◌&&◌, not, nat_le, Bool, true, false, List, [], ◌∷◌, length, codes, bytes_eq, Option, Some, None, option_and_then, unwrap_or, Result, Ok, Err, if◌then◌else◌}
+use Rattle.std.specs.Prelude.{ℕ, ℤ, pos, negsuc, ◌%◌, ◌==◌, ◌&&◌, not, nat_le, Bool, List, [], ◌∷◌, length, codes, bytes_eq, Option, Some, None, option_and_then, unwrap_or, Result, Ok, Err, if◌then◌else◌}
 use Rattle.std.specs.List.{list_any}
 use Rattle.std.specs.Str.{is_utf8}
 use Rattle.std.specs.Ordering.{is_lt, nat_cmp}
@@ -8,10 +8,6 @@ use Rattle.toml.specs.Data.{Data, string, integer, array, Items, no_items, item,
 use Rattle.toml.specs.Parse.{parse_document}
 use Rattle.tech_file.specs.declared.fault.TechFault.{TechFault}
 use Rattle.tech_file.specs.declared.fault.TechFault.TheVariants as fault
-use Rattle.tech_file.specs.declared.number.Limits.{Limits}
-use Rattle.tech_file.specs.declared.number.Numbers.{Numbers}
-use Rattle.tech_file.specs.declared.rails.Rails.{Rails}
-use Rattle.tech_file.specs.declared.models.Models.{Models}
 use Rattle.cell_num.specs.Names.{lowered, is_name}
 use Rattle.cell_num.specs.Steps.{require, or_fault, ◌>>=◌}
 use Rattle.tech_file.specs.Technology.{Technology, plain}
@@ -23,7 +19,7 @@ abbrev pub table_of : List ℕ → Option Members
 table_of bytes = if is_utf8 bytes then parse_document bytes else None
 
 abbrev pub known_keys : List (List ℕ)
-known_keys = codes "lambda_nm" ∷ codes "wmax_p" ∷ codes "wmax_n" ∷ codes "budget" ∷ codes "vdd" ∷ codes "gnd" ∷ codes "p_models" ∷ codes "n_models" ∷ []
+known_keys = codes "lambda_nm" ∷ codes "wmax_p" ∷ codes "wmax_n" ∷ codes "budget" ∷ codes "height" ∷ codes "vdd" ∷ codes "gnd" ∷ codes "p_models" ∷ codes "n_models" ∷ []
 
 abbrev pub is_known : List ℕ → Bool
 is_known key = list_any (λ known. bytes_eq key known) known_keys
@@ -38,12 +34,12 @@ abbrev pub least_unknown : Members → Option (List ℕ)
 least_unknown no_members = None
 least_unknown (member key value members) = if is_known key then least_unknown members else Some (lesser key (least_unknown members))
 
+abbrev pub none_unknown : Option (List ℕ) → Result (Unit {0}) TechFault
+none_unknown (Some key) = Err (fault.Key key)
+none_unknown None = Ok tt
+
 abbrev pub known_alone : Members → Result (Unit {0}) TechFault
-known_alone members = unless_there (least_unknown members)
-  where
-    unless_there : Option (List ℕ) → Result (Unit {0}) TechFault
-    unless_there (Some key) = Err (fault.Key key)
-    unless_there None = Ok tt
+known_alone members = none_unknown (least_unknown members)
 
 -- the value of a key, or its plain value
 abbrev pub value_at : List ℕ → Data → Members → Data
@@ -51,7 +47,14 @@ value_at key usual members = unwrap_or (get_member key members) usual
 
 -- ---- integers
 
--- from the least to the most, and a multiple of the step
+-- Which integers a key takes: those from the least to the most that are multiples of the step. Where the
+-- key is absent, it has the plain value.
+pub record Limits : Type 0 where
+  pub plain : ℕ
+  pub least : ℕ
+  pub most : ℕ
+  pub step : ℕ
+
 abbrev pub is_within : Limits → ℕ → Bool
 is_within limits n = nat_le limits.least n && nat_le n limits.most && (n % limits.step == 0)
 
@@ -70,6 +73,9 @@ width_limits usual = record { plain = usual; least = 12; most = 400; step = 1 }
 
 abbrev pub budget_limits : Limits
 budget_limits = record { plain = plain.budget; least = 1; most = 1000000; step = 1 }
+
+abbrev pub height_limits : Limits
+height_limits = record { plain = plain.height; least = 0; most = 4000; step = 1 }
 
 -- ---- names
 
@@ -110,7 +116,18 @@ texts (text ∷ more) = item (string text) (texts more)
 abbrev pub models_at : List ℕ → List (List ℕ) → Members → Result (List (List ℕ)) TechFault
 models_at key usual members = or_fault (as_models (value_at key (array (texts usual)) members)) (fault.Form key)
 
+-- a name stands in both lists
+abbrev pub share : List (List ℕ) → List (List ℕ) → Bool
+share these those = list_any (λ name. list_any (λ other. bytes_eq other name) these) those
+
 -- ---- the technology
+
+pub record Numbers : Type 0 where
+  pub lambda_nm : ℕ
+  pub wmax_p : ℕ
+  pub wmax_n : ℕ
+  pub budget : ℕ
+  pub height : ℕ
 
 abbrev pub numbers_of : Members → Result Numbers TechFault
 numbers_of members = do
@@ -118,9 +135,14 @@ numbers_of members = do
   wmax_p ← number_at (codes "wmax_p") (width_limits plain.wmax_p) members
   wmax_n ← number_at (codes "wmax_n") (width_limits plain.wmax_n) members
   budget ← number_at (codes "budget") budget_limits members
-  Ok (record { lambda_nm = lambda_nm; wmax_p = wmax_p; wmax_n = wmax_n; budget = budget })
+  height ← number_at (codes "height") height_limits members
+  Ok (record { lambda_nm = lambda_nm; wmax_p = wmax_p; wmax_n = wmax_n; budget = budget; height = height })
 
--- two names that differ
+-- the two rails, which differ
+pub record Rails : Type 0 where
+  pub vdd : List ℕ
+  pub gnd : List ℕ
+
 abbrev pub rails_of : Members → Result Rails TechFault
 rails_of members = do
   vdd ← name_at (codes "vdd") plain.vdd members
@@ -128,11 +150,11 @@ rails_of members = do
   _ ← require (not (bytes_eq vdd gnd)) (fault.Form (codes "gnd"))
   Ok (record { vdd = vdd; gnd = gnd })
 
--- a name stands in both lists
-abbrev pub share : List (List ℕ) → List (List ℕ) → Bool
-share these those = list_any (λ name. list_any (λ other. bytes_eq other name) these) those
+-- the models of both kinds of transistors, which share no name
+pub record Models : Type 0 where
+  pub p : List (List ℕ)
+  pub n : List (List ℕ)
 
--- two lists that share no name
 abbrev pub models_of : Members → Result Models TechFault
 models_of members = do
   p ← models_at (codes "p_models") plain.p_models members
@@ -156,6 +178,7 @@ technology_of members = do
     p_models = models.p;
     n_models = models.n;
     budget = numbers.budget;
+    height = numbers.height;
   })
 
 -- The technology that bytes say, or the first fault.

@@ -11,6 +11,7 @@ pub record Technology : Type 0 where
   pub p_models : List (List ℕ)
   pub n_models : List (List ℕ)
   pub budget : ℕ
+  pub height : ℕ
 
 -- a name in lower case
 pub record IsLowerName (name : List ℕ) : Type 0 where
@@ -23,8 +24,9 @@ pub record AreModels (names : List (List ℕ)) : Type 0 where
   pub few : length names ≤ 16
   pub spelled : All IsLowerName names
 
--- What holds of every technology. The lambda is in nanometres, the greatest widths of fingers are in
--- grid units of half a lambda, and the budget is in nodes of the search.
+-- What holds of every technology. The lambda is in nanometres, the greatest widths of fingers and the
+-- height of cells are in grid units of half a lambda, and the budget is in nodes of the search. A height
+-- of 0 leaves the height to each cell.
 pub record IsTechnology (t : Technology) : Type 0 where
   pub lambda_even : t.lambda_nm % 2 ≡ 0
   pub lambda_least : 20 ≤ t.lambda_nm
@@ -35,6 +37,7 @@ pub record IsTechnology (t : Technology) : Type 0 where
   pub wmax_n_most : t.wmax_n ≤ 400
   pub budget_least : 1 ≤ t.budget
   pub budget_most : t.budget ≤ 1000000
+  pub height_most : t.height ≤ 4000
   pub vdd : IsLowerName t.vdd
   pub gnd : IsLowerName t.gnd
   pub rails_differ : t.vdd ≢ t.gnd
@@ -53,4 +56,5 @@ plain = record {
   p_models = codes "p" ∷ codes "pmos" ∷ codes "pch" ∷ [];
   n_models = codes "n" ∷ codes "nmos" ∷ codes "nch" ∷ [];
   budget = 200000;
+  height = 0;
 }

@@ -1,6 +1,9 @@
-ghost use Rattle.std.specs.Prelude.{◌≡◌};
+ghost use Rattle.std.specs.Prelude.{◌≡◌, ◌≢◌};
+ghost use Rattle.tech_file.specs.declared.fault.TechFault.TheVariants as fault;
 
+use crate::words::copy;
 use cell_num::{Name, NoMemory};
+use std::alloc::Global;
 use thiserror::Error;
 
 /// Why no technology was read.
@@ -29,5 +32,15 @@ impl From<NoMemory> for TechFault {
 
     fn from(_: NoMemory) -> TechFault {
         TechFault::NoMemory
+    }
+}
+
+/// The fault of a key whose value is of another kind or may not stand there.
+pub fn bad_form(alloc: Global, key: &str) -> TechFault
+    ensures { result ≢ fault.NoMemory → result ≡ fault.Form key.now }
+{
+    match copy(alloc, key) {
+        Ok(name) => TechFault::Form { name },
+        Err(NoMemory) => TechFault::NoMemory,
     }
 }

@@ -1,4 +1,5 @@
-ghost use Rattle.std.specs.Prelude.{◌≡◌, not, find, option_map, string_bytes};
+ghost use Rattle.std.specs.Prelude.{◌≡◌, not, find, option_map, string_bytes, bytes_eq};
+ghost use Rattle.std.specs.List.{list_any};
 ghost use Rattle.std.specs.BTreeMap.{keys, IsOrdered};
 ghost use Rattle.std.specs.String.{string_cmp};
 ghost use Rattle.toml.specs.Data.{get_member};
@@ -7,17 +8,29 @@ ghost use Rattle.tech_file.specs.Reading.{is_known, least_unknown};
 
 use toml::{Table, Value};
 
+/// All keys of a technology.
+const KEYS: [&str; 9] = [
+    "lambda_nm",
+    "wmax_p",
+    "wmax_n",
+    "budget",
+    "height",
+    "vdd",
+    "gnd",
+    "p_models",
+    "n_models",
+];
+
+fn among(keys: &[&str], key: &str) -> bool
+    ensures { result ≡ list_any (λ other. bytes_eq key.now other.now) keys.now }
+{
+    keys.iter().any(|other| key == *other)
+}
+
 fn known(key: &str) -> bool
     ensures { result ≡ is_known key.now }
 {
-    key == "lambda_nm"
-        || key == "wmax_p"
-        || key == "wmax_n"
-        || key == "budget"
-        || key == "vdd"
-        || key == "gnd"
-        || key == "p_models"
-        || key == "n_models"
+    among(&KEYS, key)
 }
 
 // The first unknown key in the order of a table, whose keys ascend by their bytes.

@@ -5,13 +5,14 @@ ghost use Rattle.toml.specs.View.{table_view, view, items_view};
 ghost use Rattle.tech_file.specs.declared.fault.TechFault.TheVariants as fault;
 ghost use Rattle.tech_file.specs.Reading.{value_at, names_in, if_few, as_models, texts, models_at, share, models_of};
 
-use crate::fault::TechFault;
+use crate::fault::{TechFault, bad_form};
 use crate::keys::value_of;
 use crate::names::as_name;
 use crate::tech::{PLAIN_N, PLAIN_P};
-use crate::words::{copies, copy};
+use crate::words::copies;
 use cell_num::{Name, Names, NoMemory};
 use std::alloc::Global;
+use std::marker::Model;
 use toml::{Table, Value};
 
 /// The most models of one kind.
@@ -77,9 +78,7 @@ fn models_at(alloc: Global, table: &Table, key: &str, usual: &[&str]) -> Result<
 {
     match listed_at(alloc, table, key, usual)? {
         Some(names) => Ok(names),
-        None => Err(TechFault::Form {
-            name: copy(alloc, key)?,
-        }),
+        None => Err(bad_form(alloc, key)),
     }
 }
 
@@ -102,6 +101,14 @@ pub struct Models {
     pub n: Names,
 }
 
+impl Model for Models {
+    ghost use Rattle.tech_file.specs.Reading.{Models as ModelsOf};
+
+    ghost Value = { ModelsOf };
+
+    ghost view = { λ v. record { p = v.p; n = v.n } };
+}
+
 /// The models of a table.
 pub fn read_models(alloc: Global, table: &Table) -> Result<Models, TechFault>
     ensures models { IfOk result (λ m. models_of (table_view table.now) ≡ Ok m) }
@@ -110,9 +117,7 @@ pub fn read_models(alloc: Global, table: &Table) -> Result<Models, TechFault>
     let p = models_at(alloc, table, "p_models", &PLAIN_P)?;
     let n = models_at(alloc, table, "n_models", &PLAIN_N)?;
     if shared(p.as_slice(), n.as_slice()) {
-        return Err(TechFault::Form {
-            name: copy(alloc, "n_models")?,
-        });
+        return Err(bad_form(alloc, "n_models"));
     }
     Ok(Models { p, n })
 }

@@ -1,23 +1,32 @@
-ghost use Rattle.std.specs.Prelude.{◌≡◌, ◌≢◌, ◌<◌, ◌≤◌, ◌%◌, IfOk, IfErr, Ok, Err, pos, true};
+ghost use Rattle.std.specs.Prelude.{◌≡◌, ◌≢◌, ◌<◌, IfOk, IfErr, Ok, Err, pos};
 ghost use Rattle.toml.specs.Data.{integer, as_integer};
 ghost use Rattle.toml.specs.View.{table_view};
 ghost use Rattle.tech_file.specs.declared.fault.TechFault.TheVariants as fault;
-ghost use Rattle.tech_file.specs.Reading.{value_at, number_at, lambda_limits, width_limits, budget_limits, numbers_of, is_within};
+ghost use Rattle.tech_file.specs.Reading.{value_at, number_at, numbers_of};
 
-use crate::fault::TechFault;
+use crate::fault::{TechFault, bad_form};
 use crate::keys::value_of;
 use crate::words::copy;
 use std::alloc::Global;
+use std::marker::Model;
 use toml::Table;
 
 /// Which integers a key takes: those from `least` to `most` that are multiples of `step`. `plain` is
 /// taken where the key is absent.
-#[derive(Clone, Copy)]
+#[derive(Drop)]
 pub struct Limits {
-    pub plain: u32,
-    pub least: u32,
-    pub most: u32,
-    pub step: u32,
+    plain: u32,
+    least: u32,
+    most: u32,
+    step: u32,
+}
+
+impl Model for Limits {
+    ghost use Rattle.tech_file.specs.Reading.{Limits as LimitsOf};
+
+    ghost Value = { LimitsOf };
+
+    ghost view = { λ l. record { plain = l.plain; least = l.least; most = l.most; step = l.step } };
 }
 
 /// A lambda in nanometres. It is even, since a grid unit is half of it.
@@ -44,6 +53,14 @@ const BUDGET: Limits = Limits {
     step: 1,
 };
 
+/// The height of a cell, in grid units.
+const HEIGHT: Limits = Limits {
+    plain: 0,
+    least: 0,
+    most: 4_000,
+    step: 1,
+};
+
 fn integer_at(table: &Table, key: &str, plain: u32) -> Option<i64>
     ensures { result ≡ as_integer (value_at key.now (integer (pos plain)) (table_view table.now)) }
 {
@@ -54,15 +71,13 @@ fn integer_at(table: &Table, key: &str, plain: u32) -> Option<i64>
 }
 
 // The number of a key.
-fn number_at(alloc: Global, table: &Table, key: &str, limits: Limits) -> Result<u32, TechFault>
-    requires { 0 < limits.step }
-    ensures number { IfOk result (λ n. number_at key.now limits (table_view table.now) ≡ Ok n) }
-    ensures fault { IfErr result (λ f. f ≢ fault.NoMemory → number_at key.now limits (table_view table.now) ≡ Err f) }
+fn number_at(alloc: Global, table: &Table, key: &str, limits: &Limits) -> Result<u32, TechFault>
+    requires { 0 < limits.now.step }
+    ensures number { IfOk result (λ n. number_at key.now limits.now (table_view table.now) ≡ Ok n) }
+    ensures fault { IfErr result (λ f. f ≢ fault.NoMemory → number_at key.now limits.now (table_view table.now) ≡ Err f) }
 {
     let Some(value) = integer_at(table, key, limits.plain) else {
-        return Err(TechFault::Form {
-            name: copy(alloc, key)?,
-        });
+        return Err(bad_form(alloc, key));
     };
     if value < i64::from(limits.least)
         || i64::from(limits.most) < value
@@ -83,6 +98,15 @@ pub struct Numbers {
     pub wmax_p: u32,
     pub wmax_n: u32,
     pub budget: u64,
+    pub height: u32,
+}
+
+impl Model for Numbers {
+    ghost use Rattle.tech_file.specs.Reading.{Numbers as NumbersOf};
+
+    ghost Value = { NumbersOf };
+
+    ghost view = { λ v. record { lambda_nm = v.lambda_nm; wmax_p = v.wmax_p; wmax_n = v.wmax_n; budget = v.budget; height = v.height } };
 }
 
 /// The integers of a table.
@@ -90,14 +114,16 @@ pub fn read_numbers(alloc: Global, table: &Table) -> Result<Numbers, TechFault>
     ensures numbers { IfOk result (λ n. numbers_of (table_view table.now) ≡ Ok n) }
     ensures fault { IfErr result (λ f. f ≢ fault.NoMemory → numbers_of (table_view table.now) ≡ Err f) }
 {
-    let lambda_nm = number_at(alloc, table, "lambda_nm", LAMBDA_NM)?;
-    let wmax_p = number_at(alloc, table, "wmax_p", WIDTH)?;
-    let wmax_n = number_at(alloc, table, "wmax_n", WIDTH)?;
-    let budget = number_at(alloc, table, "budget", BUDGET)?;
+    let lambda_nm = number_at(alloc, table, "lambda_nm", &LAMBDA_NM)?;
+    let wmax_p = number_at(alloc, table, "wmax_p", &WIDTH)?;
+    let wmax_n = number_at(alloc, table, "wmax_n", &WIDTH)?;
+    let budget = number_at(alloc, table, "budget", &BUDGET)?;
+    let height = number_at(alloc, table, "height", &HEIGHT)?;
     Ok(Numbers {
         lambda_nm,
         wmax_p,
         wmax_n,
         budget: u64::from(budget),
+        height,
     })
 }

@@ -4,12 +4,12 @@ ghost use Rattle.toml.specs.View.{table_view};
 ghost use Rattle.tech_file.specs.declared.fault.TechFault.TheVariants as fault;
 ghost use Rattle.tech_file.specs.Reading.{value_at, as_name, name_at, rails_of};
 
-use crate::fault::TechFault;
+use crate::fault::{TechFault, bad_form};
 use crate::keys::value_of;
 use crate::names::name_in;
-use crate::words::copy;
 use cell_num::{Name, NoMemory};
 use std::alloc::Global;
+use std::marker::Model;
 use toml::Table;
 
 fn text_at<'a>(table: &'a Table, key: &str, usual: &'a str) -> Option<&'a str>
@@ -36,9 +36,7 @@ fn name_at(alloc: Global, table: &Table, key: &str, usual: &str) -> Result<Name,
 {
     match named_at(alloc, table, key, usual)? {
         Some(name) => Ok(name),
-        None => Err(TechFault::Form {
-            name: copy(alloc, key)?,
-        }),
+        None => Err(bad_form(alloc, key)),
     }
 }
 
@@ -49,6 +47,14 @@ pub struct Rails {
     pub gnd: Name,
 }
 
+impl Model for Rails {
+    ghost use Rattle.tech_file.specs.Reading.{Rails as RailsOf};
+
+    ghost Value = { RailsOf };
+
+    ghost view = { λ v. record { vdd = v.vdd; gnd = v.gnd } };
+}
+
 /// The rails of a table.
 pub fn read_rails(alloc: Global, table: &Table) -> Result<Rails, TechFault>
     ensures rails { IfOk result (λ r. rails_of (table_view table.now) ≡ Ok r) }
@@ -57,9 +63,7 @@ pub fn read_rails(alloc: Global, table: &Table) -> Result<Rails, TechFault>
     let vdd = name_at(alloc, table, "vdd", "vdd")?;
     let gnd = name_at(alloc, table, "gnd", "gnd")?;
     if vdd.as_slice() == gnd.as_slice() {
-        return Err(TechFault::Form {
-            name: copy(alloc, "gnd")?,
-        });
+        return Err(bad_form(alloc, "gnd"));
     }
     Ok(Rails { vdd, gnd })
 }

@@ -11,6 +11,7 @@ use crate::number::read_numbers;
 use crate::rails::read_rails;
 use crate::tech::Tech;
 use crate::words::copy;
+use cell_num::MOST_BYTES;
 use std::alloc::Global;
 use toml::Table;
 
@@ -58,15 +59,20 @@ fn technology_of(alloc: Global, table: &Table) -> Result<Tech, TechFault>
         p_models: models.p,
         n_models: models.n,
         budget: numbers.budget,
+        height: numbers.height,
     })
 }
 
 /// Reads a technology file, a TOML document. The names in it are made lower case, and a key that is
 /// absent has its plain value.
+#[tactic(auto, using(crate::proofs::Told::technology_never))]
 pub fn read_tech(alloc: Global, bytes: &[u8]) -> Result<Tech, TechFault>
-    requires { length bytes.now ≤ 1073741824 }
+    requires { length bytes.now ≤ MOST_BYTES }
     ensures technology { IfOk result (λ tech. technology bytes.now ≡ Ok tech) }
     ensures fault { IfErr result (λ f. f ≢ fault.NoMemory → technology bytes.now ≡ Err f) }
+
+    // Memory alone makes it NoMemory: the definition never answers so.
+    ensures told { technology bytes.now ≢ Err fault.NoMemory }
 {
     let table = read_table(alloc, bytes)?;
     technology_of(alloc, &table)

@@ -25,6 +25,8 @@ pub struct Tech {
     pub n_models: Names,
     /// The most nodes that a search goes through, from 1 to 1,000,000.
     pub budget: u64,
+    /// The height of every cell, in grid units, at most 4,000; or 0, where each cell is as high as it needs.
+    pub height: u32,
 }
 
 impl Model for Tech {
@@ -32,9 +34,9 @@ impl Model for Tech {
 
     ghost Value = { Technology };
 
-    ghost view = { λ t. record { lambda_nm = t.lambda_nm; wmax_p = t.wmax_p; wmax_n = t.wmax_n; vdd = t.vdd; gnd = t.gnd; p_models = t.p_models; n_models = t.n_models; budget = t.budget } };
+    ghost view = { λ t. record { lambda_nm = t.lambda_nm; wmax_p = t.wmax_p; wmax_n = t.wmax_n; vdd = t.vdd; gnd = t.gnd; p_models = t.p_models; n_models = t.n_models; budget = t.budget; height = t.height } };
 
-    ghost invariant = { λ t. IsTechnology (record { lambda_nm = t.lambda_nm; wmax_p = t.wmax_p; wmax_n = t.wmax_n; vdd = t.vdd; gnd = t.gnd; p_models = t.p_models; n_models = t.n_models; budget = t.budget }) };
+    ghost invariant = { λ t. IsTechnology (record { lambda_nm = t.lambda_nm; wmax_p = t.wmax_p; wmax_n = t.wmax_n; vdd = t.vdd; gnd = t.gnd; p_models = t.p_models; n_models = t.n_models; budget = t.budget; height = t.height }) };
 }
 
 pub const PLAIN_P: [&str; 3] = ["p", "pmos", "pch"];
@@ -64,6 +66,7 @@ impl Tech {
             p_models,
             n_models,
             budget: 200_000,
+            height: 0,
         })
     }
 

@@ -4,4 +4,4 @@ use Rattle.std.proofs.Common.{rules}
 use Rattle.toml.specs.View.{table_view}
 
 pub invariant_of-result : goal.invariant_of-result
-invariant_of-result c = limits_hold (table_view c.args.table.now) c.in_ok-numbers.numbers c.in_ok-rails.rails c.in_ok-models.models (search rules) (search rules) (search rules)
+invariant_of-result c = limits_hold (table_view c.args.table.now) _ (search rules)

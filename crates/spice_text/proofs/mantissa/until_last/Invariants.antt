@@ -1,7 +1,7 @@
 use Rattle.std.proofs.Common.{◌≡◌, ◌≤◌, length, filter, take}
 use Rattle.std.specs.Char.{is_ascii_digit}
 use Rattle.spice_text.specs.Numbers.{without_zeros_at_end}
-use Rattle.spice_text.proofs.number.until_last.Given as goal
+use Rattle.spice_text.proofs.mantissa.until_last.Given as goal
 
 abbrev pub invariant-loop-end : goal.invariant-loop-end
 invariant-loop-end l =
