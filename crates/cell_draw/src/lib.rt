@@ -1,0 +1,6 @@
+// The drawing of a routed row as rectangles on the layers.
+#![tactic(auto)]
+
+pub mod layout;
+
+pub use layout::{Bar, Contact, Frame, Gate, Layout, Strip, Tag};

@@ -1,0 +1,21 @@
+use cell_num::List;
+
+/// One line stands at least so far behind another, in grid units.
+#[derive(Clone, Copy, Debug, PartialEq, Eq)]
+pub struct Distance {
+    pub from: u32,
+    pub to: u32,
+    pub least: u32,
+}
+
+pub type DistanceList = List<Distance>;
+
+/// What so many lines keep between them. Line 0 besides stands at 8 or more.
+#[derive(Debug, PartialEq, Drop)]
+pub struct Distances {
+    pub lines: u32,
+    pub list: DistanceList,
+}
+
+/// The position of each line, in grid units.
+pub type LineXs = List<u32>;
