@@ -1,2 +1,5 @@
+pub mod Drawings
+pub mod Frame
 pub mod Laid
+pub mod Layouts
 pub mod Shapes
