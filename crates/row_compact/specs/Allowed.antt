@@ -15,8 +15,11 @@ pub record Stretch : Type 0 where
   pub right : ℕ
   pub track : ℕ
 
+abbrev pub stretch_of : Trunk → Stretch
+stretch_of t = record { left = t.left; right = t.right; track = t.track }
+
 abbrev pub stretches_of : List Trunk → List Stretch
-stretches_of trunks = map (λ t. let s : Stretch = record { left = t.left; right = t.right; track = t.track } in s) trunks
+stretches_of trunks = map stretch_of trunks
 
 -- in some row a contacted place stands at the node line
 pub record HasContact (placement : Placement) (pins : Pins) (line : ℕ) : Type 0 where

@@ -1,3 +1,6 @@
+ghost use Rattle.std.specs.Prelude.{◌≡◌};
+ghost use Rattle.row_compact.specs.Solution.{x_of as x_at};
+
 use cell_num::List;
 
 /// One line stands at least so far behind another, in grid units.
@@ -19,3 +22,13 @@ pub struct Distances {
 
 /// The position of each line, in grid units.
 pub type LineXs = List<u32>;
+
+/// Where a line stands; 0 behind the last.
+pub fn x_of(xs: &[u32], line: u32) -> u32
+    ensures { result ≡ x_at xs.now line }
+{
+    match xs.get(line as usize) {
+        Some(x) => *x,
+        None => 0,
+    }
+}
