@@ -24,7 +24,6 @@ use Rattle.cell_draw.specs.declared.layout.Bar.{Bar}
 use Rattle.cell_draw.specs.declared.layout.Tag.{Tag}
 use Rattle.cell_draw.specs.declared.layout.Layout.{Layout}
 use Rattle.cell_draw.specs.Frame.{frame_of, track_y}
-use Rattle.cell_draw.specs.Shapes.{cell_height}
 
 -- the last line plus 8
 abbrev pub width_of : Placement → List ℕ → ℕ
@@ -116,13 +115,19 @@ abbrev pub or_else : Option Tag → Option Tag → Option Tag
 or_else None other = other
 or_else (Some tag) other = Some tag
 
+-- at the first place of a net
+abbrev pub place_tag : Frame → List NodePlace → List ℕ → List Gate → NetNo → Option Tag
+place_tag f nodes xs gates net = or_else (option_map (node_tag f xs) (find (λ node. node.net.0 == net.0) nodes)) (option_map (gate_tag f) (find (λ g. g.net.0 == net.0) gates))
+
+-- on the trunk of a net, or else at its first place
+abbrev pub net_tag : Frame → List NodePlace → List Trunk → List ℕ → List Gate → NetNo → Option Tag
+net_tag f nodes trunks xs gates net = or_else (option_map (λ t. metal_tag (x_of xs t.left) (track_y f t.track) net) (trunk_of trunks net)) (place_tag f nodes xs gates net)
+
 abbrev pub tag_of : Pins → Frame → List NodePlace → List Trunk → List ℕ → List Gate → NetNo → Option Tag
 tag_of pins f nodes trunks xs gates net =
     if net.0 == pins.gnd.0 then Some (metal_tag 8 8 net)
-    else if net.0 == pins.vdd.0 then Some (metal_tag 8 (cell_height f - 8) net)
-    else or_else (option_map (λ t. metal_tag (x_of xs t.left) (track_y f t.track) net) (trunk_of trunks net))
-    (or_else (option_map (node_tag f xs) (find (λ node. node.net.0 == net.0) nodes))
-    (option_map (gate_tag f) (find (λ g. g.net.0 == net.0) gates)))
+    else if net.0 == pins.vdd.0 then Some (metal_tag 8 (f.yp + f.hp + 16) net)
+    else net_tag f nodes trunks xs gates net
 
 abbrev pub net_no : ℕ → NetNo
 net_no n = record { 0 = n }

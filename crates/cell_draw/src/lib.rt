@@ -2,7 +2,13 @@
 #![tactic(auto)]
 
 pub mod drawing;
+pub mod frame;
+mod groups;
+mod labels;
 pub mod layout;
+mod plan;
+mod shape;
 
-pub use drawing::Drawing;
+pub use drawing::{DrawFault, Drawing};
+pub use frame::Edges;
 pub use layout::{Bar, Contact, Frame, Gate, Layout, Strip, Tag};
