@@ -1,0 +1,105 @@
+// The heights of a cell.
+
+ghost use Rattle.std.specs.Prelude.{◌≡◌, ◌≤◌, ◌+◌, All, IfOk, IfErr};
+ghost use Rattle.std.specs.declared.result.Result.TheVariants.{Err as Failed};
+ghost use Rattle.row_model.specs.Arrangement.{place};
+ghost use Rattle.cell_draw.specs.Faults.{IsCause, too_tall};
+ghost use Rattle.cell_draw.specs.Frame.{wider, height_of, channel_of, needed_of, frame_of, track_y, IsTooTall};
+ghost use Rattle.cell_draw.specs.Small.{IsFingerWidth, HasWidths, IsSmallFrame};
+
+use crate::{DrawFault, Frame};
+use cell_num::Row;
+use row_model::{Column, Placed};
+use row_place::Placement;
+
+/// The channel edges of the N and of the P row, in grid units.
+#[derive(Clone, Copy, Debug, PartialEq, Eq)]
+pub struct Edges {
+    pub n: u32,
+    pub p: u32,
+}
+
+fn wider(most: u32, placed: &Option<Placed>) -> u32
+    requires width { IsFingerWidth placed.now }
+    requires most { most ≤ 400 }
+    ensures value { result ≡ wider most placed.now }
+    ensures least { most ≤ result }
+    ensures most { result ≤ 400 }
+{
+    match placed {
+        Some(placed) => most.max(placed.finger.width),
+        None => most,
+    }
+}
+
+// The greatest finger width of a row, at least 10.
+#[tactic(auto, using(crate::proofs::Sizes::width_in))]
+fn height_of(row: Row, columns: &[Column]) -> u32
+    requires { All HasWidths columns.now }
+    ensures value { result ≡ height_of row columns.now }
+    ensures least { 10 ≤ result }
+    ensures most { result ≤ 400 }
+{
+    let mut most = 10;
+    for column in columns {
+        most = wider(most, &column.place(row));
+    }
+    most
+}
+
+// The height of a channel of so many tracks.
+fn channel_of(tracks: u32) -> u32
+    requires { tracks ≤ 1000 }
+    ensures value { result ≡ channel_of tracks }
+    ensures most { result ≤ 16040 }
+{
+    40 + 16 * tracks.saturating_sub(1)
+}
+
+/// The heights of a cell, which are the least ones where no height is given. The channel takes what a
+/// given height has to spare.
+pub fn frame(
+    columns: &[Column],
+    tracks: u32,
+    height: u32,
+    width: u32,
+) -> Result<Frame, DrawFault>
+    requires widths { All HasWidths columns.now }
+    requires tracks { tracks ≤ 1000 }
+    requires height { height ≤ 4000 }
+    requires wide { 16 ≤ width }
+    requires right { width ≤ 1000008 }
+    ensures exact { IfOk result (λ f. f ≡ frame_of columns.now tracks height width) }
+    ensures small { IfOk result IsSmallFrame }
+    ensures fits { IfOk result (λ f. IsTooTall columns.now tracks height → ⊥) }
+    ensures tall { IsTooTall columns.now tracks height → result ≡ Failed (too_tall columns.now tracks height) }
+    ensures cause { IfErr result (IsCause columns.now tracks height) }
+{
+    let hn = height_of(Row::N, columns);
+    let hp = height_of(Row::P, columns);
+    let yn = 24 + hn;
+    let channel = channel_of(tracks);
+    let needed = yn + channel + hp + 24;
+    if height != 0 && height < needed {
+        return Err(DrawFault::TooTall {
+            needed,
+            given: height,
+        });
+    }
+    Ok(Frame {
+        hn,
+        hp,
+        yn,
+        yp: yn + channel + height.saturating_sub(needed),
+        width,
+    })
+}
+
+/// The height of a track.
+pub fn track_y(frame: &Frame, track: u32) -> u32
+    requires frame { IsSmallFrame frame.now }
+    requires track { track ≤ 1000 }
+    ensures { result ≡ track_y frame.now track }
+{
+    frame.yn + 20 + 16 * track
+}

@@ -1,0 +1,14 @@
+// The drawing of a routed row as rectangles on the layers.
+#![tactic(auto)]
+
+pub mod drawing;
+pub mod frame;
+mod groups;
+mod labels;
+pub mod layout;
+mod plan;
+mod shape;
+
+pub use drawing::{DrawFault, Drawing};
+pub use frame::Edges;
+pub use layout::{Bar, Contact, Frame, Gate, Layout, Strip, Tag};

@@ -1,0 +1,5 @@
+mod Decide
+mod Least
+mod Members
+mod Solutions
+mod Within

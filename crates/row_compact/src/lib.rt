@@ -1,0 +1,10 @@
+// Where the lines of a routed row stand.
+#![tactic(auto)]
+
+pub mod allowed;
+pub mod distance;
+pub mod lines;
+
+pub use allowed::distances;
+pub use distance::{Distance, DistanceList, Distances, LineXs, x_of};
+pub use lines::{even_lines, least_lines, one_least};
