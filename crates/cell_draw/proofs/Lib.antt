@@ -1,2 +1,5 @@
+mod BridgeFrom
+mod BridgeLines
+mod BridgeRow
 mod Found
 mod Sizes

@@ -172,10 +172,7 @@ fn name_of(alloc: Global, names: &[Name], net: NetNo) -> Result<Name, NoMemory>
     ensures { IfOk result (λ name. name ≡ get_or names.now net.0 []) }
 {
     match names.get(net.0 as usize) {
-        Some(name) => match name.clone() {
-            Ok(name) => Ok(name),
-            Err(_) => Err(NoMemory),
-        },
+        Some(name) => Ok(name.clone()?),
         None => Ok(Name::new(alloc)),
     }
 }

@@ -15,7 +15,7 @@ use Rattle.channel_route.specs.declared.routing.Routing.{Routing}
 use Rattle.channel_route.specs.Routing.{IsLegal}
 use Rattle.row_compact.specs.Allowed.{HasContact}
 use Rattle.row_compact.specs.Entries.{is_rail, has_trunk, is_contacted, is_wide}
-use Rattle.row_compact.proofs.Members.{Some', some_from_any, any_at, test_finds, test_there}
+use Rattle.cell_num.proofs.Pairs.{Some', some_from_any, any_at, test_finds, test_there}
 
 pub rail_decides : (pins : Pins) (net : NetNo) → Decides (is_rail pins net) (IsRail pins net)
 rail_decides pins net = Decides-or (net.0 == pins.vdd.0) (net.0 == pins.gnd.0) (net_decides net pins.vdd) (net_decides net pins.gnd)

@@ -1,5 +1,4 @@
 mod Decide
 mod Least
-mod Members
 mod Solutions
 mod Within

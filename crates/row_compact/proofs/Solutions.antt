@@ -11,7 +11,7 @@ use Rattle.row_place.specs.declared.placement.Placement.{Placement}
 use Rattle.row_place.specs.declared.placement.UnitKind.{UnitKind}
 use Rattle.row_place.specs.declared.placement.UnitKind.TheVariants.{Column, Gap}
 use Rattle.row_place.specs.Places.{IsPlacement}
-use Rattle.row_place.proofs.Lists.{some_same, all_from_contains, Kept, kept_from, contains_filter_map}
+use Rattle.cell_num.proofs.Lists.{some_same, all_from_contains, Kept, kept_from, contains_filter_map}
 use Rattle.channel_route.specs.declared.routing.Trunk.{Trunk}
 use Rattle.channel_route.specs.declared.routing.Routing.{Routing}
 use Rattle.channel_route.specs.Routing.{IsLegal}
@@ -21,7 +21,7 @@ use Rattle.row_compact.specs.Solution.{x_of, IsEntry, IsKept, IsSolution}
 use Rattle.row_compact.specs.Allowed.{Stretch, stretch_of, stretches_of, HasContact, AreAllowed}
 use Rattle.row_compact.specs.Entries.{entry, is_wide, least_in, unit_entries, units_from, pair_entry, pairs_of, entries_of}
 use Rattle.row_compact.proofs.Decide.{wide_decides}
-use Rattle.row_compact.proofs.Members.{Image, in_map, contains_map, Piece, in_flat, contains_flat}
+use Rattle.cell_num.proofs.In.{Image, in_map, contains_map, Piece, in_flat, contains_flat}
 use Rattle.row_compact.proofs.Within.{few, trunk_left, trunk_line}
 
 -- the distances of a unit are kept

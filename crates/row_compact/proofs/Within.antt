@@ -8,7 +8,7 @@ use Rattle.row_place.specs.declared.placement.GatePlace.{GatePlace}
 use Rattle.row_place.specs.declared.placement.Placement.{Placement}
 use Rattle.row_place.specs.Places.{IsPlacement}
 use Rattle.row_place.specs.Trunks.{lines_of, IsSpan}
-use Rattle.row_place.proofs.Lists.{all_from_contains}
+use Rattle.cell_num.proofs.Lists.{all_from_contains}
 use Rattle.row_place.proofs.Bounds.{few_units, node_line, gate_line}
 use Rattle.channel_route.specs.declared.routing.Trunk.{Trunk}
 use Rattle.channel_route.specs.declared.routing.Routing.{Routing}
