@@ -14,18 +14,25 @@ use Rattle.row_model.specs.Arrangement.{place}
 use Rattle.row_place.specs.declared.placement.NodePlace.{NodePlace}
 use Rattle.row_place.specs.declared.placement.GatePlace.{GatePlace}
 use Rattle.row_place.specs.declared.placement.Seat.{Seat}
+use Rattle.row_place.specs.declared.placement.Placement.{Placement}
+use Rattle.row_place.specs.Places.{IsPlacement}
 use Rattle.row_place.specs.Units.{seats_of, unit_of}
 use Rattle.row_place.specs.Steps.{gate_in, gate_of, gates_of}
 use Rattle.row_place.proofs.Units.{SitsAt, seat_at}
 use Rattle.cell_num.proofs.Lists.{contains_filter_map}
 use Rattle.channel_route.specs.declared.routing.Trunk.{Trunk}
+use Rattle.channel_route.specs.declared.routing.Routing.{Routing}
+use Rattle.channel_route.specs.Routing.{IsLegal}
 use Rattle.row_compact.specs.Solution.{x_of}
+use Rattle.row_compact.specs.Allowed.{AreAllowed, stretches_of}
 use Rattle.cell_draw.specs.declared.layout.Frame.{Frame}
 use Rattle.cell_draw.specs.declared.layout.Strip.{Strip}
 use Rattle.cell_draw.specs.declared.layout.Contact.{Contact}
 use Rattle.cell_draw.specs.declared.layout.Gate.{Gate}
-use Rattle.cell_draw.specs.Frame.{track_y}
-use Rattle.cell_draw.specs.Layouts.{strip_of, strips_at, trunk_of, reach_of, is_rail, contact_with, contact_of, finger_width, gate_with, gate_at, gates_on}
+use Rattle.cell_draw.specs.Frame.{track_y, height_of}
+use Rattle.cell_draw.specs.Laid.{IsFrame}
+use Rattle.cell_draw.specs.Sound.{IsSoundRow}
+use Rattle.cell_draw.specs.Layouts.{strip_of, strips_at, trunk_of, reach_of, is_rail, contact_with, contact_of, finger_width, gate_with, gate_at, gates_on, width_of}
 use Rattle.cell_draw.proofs.Found.{found_all, found_is}
 
 -- a strip is a finger of a column
@@ -185,3 +192,14 @@ gate_from row f trunks xs g there = by (kept_from (gate_at f trunks xs) (seats_o
 
     by : Kept (gate_at f trunks xs) (seats_of row) g → GateFrom row f trunks xs g
     by k = placed k.from k.there k.gives (gate_of k.from) refl k.gives
+
+-- What is asked of a row that is drawn in this frame.
+pub record IsDrawn (names : List (List ℕ)) (pins : Pins) (p : Placement) (r : Routing) (xs : List ℕ) (f : Frame) : Type 0 where
+  pub placement : IsPlacement p
+  pub row : IsSoundRow names pins p.row
+  pub legal : IsLegal p pins r
+  pub allowed : AreAllowed p pins (stretches_of r.trunks) xs
+  pub frame : IsFrame f r.tracks
+  pub width : f.width ≡ width_of p xs
+  pub hn : f.hn ≡ height_of N p.row
+  pub hp : f.hp ≡ height_of P p.row

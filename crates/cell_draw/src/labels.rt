@@ -1,6 +1,6 @@
 // Where the names of the nets stand, and the labels there.
 
-ghost use Rattle.std.specs.Prelude.{◌≡◌, ◌≤◌, ◌+◌, ℕ, ◌==◌, [], get_or, All, IfOk, filter_map, map, find};
+ghost use Rattle.std.specs.Prelude.{◌≡◌, ◌≤◌, ◌+◌, ℕ, ◌==◌, ◌++◌, [], get_or, option_to_list, All, IfOk, OnOk, filter_map, map, find};
 ghost use Rattle.std.specs.List.{range_with_len};
 ghost use Rattle.std.specs.Option.{option_copied};
 ghost use Rattle.cell_draw.specs.Drawings.{label_of};
@@ -144,6 +144,15 @@ fn tag_of(
     }
 }
 
+fn add_tag(tags: &mut List<Tag>, tag: Option<Tag>) -> Result<(), NoMemory>
+    ensures { OnOk result (tags.new ≡ tags.old ++ option_to_list tag) }
+{
+    match tag {
+        Some(tag) => tags.push(tag),
+        None => Ok(()),
+    }
+}
+
 /// A tag for each net that stands in the cell, in order of net.
 pub fn tags(
     alloc: Global,
@@ -161,9 +170,8 @@ pub fn tags(
 {
     let mut tags = List::new(alloc);
     for net in 0..nets {
-        if let Some(tag) = tag_of(frame, pins, nodes, trunks, xs, gates, NetNo(net)) {
-            tags.push(tag)?;
-        }
+        let tag = tag_of(frame, pins, nodes, trunks, xs, gates, NetNo(net));
+        add_tag(&mut tags, tag)?;
     }
     Ok(tags)
 }
