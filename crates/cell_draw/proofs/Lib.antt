@@ -1,6 +1,9 @@
+mod BridgeBars
 mod BridgeFrom
 mod BridgeLines
+mod BridgeRouted
 mod BridgeRow
+mod BridgeTracks
 mod Found
 mod RulesActive
 mod RulesAround

@@ -58,12 +58,7 @@ fn channel_of(tracks: u32) -> u32
 
 /// The heights of a cell, which are the least ones where no height is given. The channel takes what a
 /// given height has to spare.
-pub fn frame(
-    columns: &[Column],
-    tracks: u32,
-    height: u32,
-    width: u32,
-) -> Result<Frame, DrawFault>
+pub fn frame(columns: &[Column], tracks: u32, height: u32, width: u32) -> Result<Frame, DrawFault>
     requires widths { All HasWidths columns.now }
     requires tracks { tracks ≤ 1000 }
     requires height { height ≤ 4000 }

@@ -113,11 +113,7 @@ fn net_tag(
     ensures { result ≡ net_tag frame.now nodes.now trunks.now xs.now gates.now net }
 {
     match trunk_of(trunks, net) {
-        Some(trunk) => Some(metal_tag(
-            x_of(xs, trunk.left),
-            track_y(frame, trunk.track),
-            net,
-        )),
+        Some(trunk) => Some(metal_tag(x_of(xs, trunk.left), track_y(frame, trunk.track), net)),
         None => place_tag(frame, nodes, xs, gates, net),
     }
 }

@@ -279,7 +279,16 @@ pub fn layout(
     let contacts = contacts(alloc, frame, pins, trunks, xs, nodes)?;
     let gates = gates(alloc, frame, trunks, xs, seats.as_slice())?;
     let bars = bars(alloc, frame, nodes, xs, trunks)?;
-    let tags = tags(alloc, frame, nets, pins, nodes, trunks, xs, gates.as_slice())?;
+    let tags = tags(
+        alloc,
+        frame,
+        nets,
+        pins,
+        nodes,
+        trunks,
+        xs,
+        gates.as_slice(),
+    )?;
     Ok(Layout {
         frame: *frame,
         gnd: pins.gnd,
