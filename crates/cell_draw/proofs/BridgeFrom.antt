@@ -123,8 +123,8 @@ contact_from f pins trunks xs nodes c there = by (kept_from (contact_of f pins t
     }
 
     reached : (node : NodePlace) → Contains nodes node → contact_of f pins trunks xs node ≡ Some c → is_rail pins node.net ≡ false → (o : Option ℕ) → reach_of f trunks node.net ≡ o → option_map (λ reach. contact_with xs node (Some reach)) o ≡ Some c → ContactFrom f pins trunks xs nodes c
-    reached node stands gives no None e g = absurd cc
-    reached node stands gives no (Some y) e g = make node stands gives (Some y) (some_same (contact_with xs node (Some y)) c g) (signal no (sym e) y refl)
+    reached node stands gives other None e g = absurd cc
+    reached node stands gives other (Some y) e g = make node stands gives (Some y) (some_same (contact_with xs node (Some y)) c g) (signal other (sym e) y refl)
 
     tested : (node : NodePlace) → Contains nodes node → contact_of f pins trunks xs node ≡ Some c → (b : Bool) → is_rail pins node.net ≡ b → (if b then Some (contact_with xs node None) else option_map (λ reach. contact_with xs node (Some reach)) (reach_of f trunks node.net)) ≡ Some c → ContactFrom f pins trunks xs nodes c
     tested node stands gives true e g = make node stands gives None (some_same (contact_with xs node None) c g) (rail e refl)

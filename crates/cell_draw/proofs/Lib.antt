@@ -1,5 +1,7 @@
 mod BridgeFrom
+mod BridgeGates
 mod BridgeLines
+mod BridgePlaces
 mod BridgeRow
 mod Found
 mod RulesActive
@@ -18,3 +20,4 @@ mod RulesRows
 mod RulesVias
 mod RulesWhole
 mod Sizes
+mod Smalls

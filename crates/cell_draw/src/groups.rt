@@ -5,8 +5,7 @@ ghost use Rattle.std.specs.List.{flat_map};
 ghost use Rattle.cell_draw.specs.Shapes.{frame_shapes, finger, reach_shapes, contact_shapes, pad_shapes, gate_shapes, via_shapes, bar_shapes, shapes_of};
 ghost use Rattle.cell_draw.specs.Small.{IsSmall, IsSmallFrame, IsSmallStrip, IsSmallContact, IsSmallGate, IsSmallBar, IsHeight, IsReach};
 
-use crate::shape;
-use crate::{Bar, Contact, Frame, Gate, Layout, Strip};
+use crate::{Bar, Contact, Frame, Gate, Layout, Strip, shape};
 use box_geom::{Layer, ShapeList};
 use cell_num::{NoMemory, Row};
 use std::alloc::Global;

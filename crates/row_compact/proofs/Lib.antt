@@ -1,4 +1,4 @@
-mod Decide
+pub mod Decide
 mod Least
 mod Solutions
-mod Within
+pub mod Within

@@ -133,11 +133,20 @@ fn entries(
     Ok(list)
 }
 
-fn lines_of(placement: &Placement) -> u32
-    requires { length placement.now.units ≤ 64 }
-    ensures { result ≡ 2 * length placement.now.units + 1 }
+fn lines_of_units(units: usize) -> u32
+    requires { units ≤ 64 }
+    ensures { result ≡ 2 * units + 1 }
 {
-    2 * placement.units.len() as u32 + 1
+    2 * units as u32 + 1
+}
+
+/// How many lines a placement has: two for each unit, and the last one.
+pub fn lines_of(placement: &Placement) -> u32
+    requires { IsPlacement placement.now }
+    ensures lines { result ≡ 2 * length placement.now.units + 1 }
+    ensures few { result ≤ 127 }
+{
+    lines_of_units(placement.units.len())
 }
 
 /// The distances that the lines of a placement keep under a legal routing. Their solutions are exactly
