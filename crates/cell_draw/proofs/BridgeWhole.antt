@@ -20,13 +20,12 @@ use Rattle.cell_draw.specs.Laid.{IsFrame, IsInside, IsStrip, IsGate, IsLaid}
 use Rattle.cell_draw.specs.Layouts.{width_of, laid_out}
 use Rattle.cell_draw.specs.Small.{HasWidths}
 use Rattle.cell_draw.specs.Sound.{IsSoundRow, AreLines}
-use Rattle.cell_draw.proofs.BridgeBars.{pads, bars, bar_spread, vias}
+use Rattle.cell_draw.proofs.BridgeRouted.{reaches, clear, pads, bars, bar_spread, vias}
 use Rattle.cell_draw.proofs.BridgeFrom.{IsDrawn, StripFrom, strip_from, ContactFrom, contact_from, GateFrom, gate_from}
 use Rattle.cell_draw.proofs.BridgeGates.{gate_is, gate_spread, beside, over}
 use Rattle.cell_draw.proofs.BridgeLines.{after_first}
 use Rattle.cell_draw.proofs.BridgePlaces.{strip_is, ordered, inside, spread, single, rails, ends, node_last}
 use Rattle.cell_draw.proofs.BridgeRow.{height_least, widths}
-use Rattle.cell_draw.proofs.BridgeTracks.{reaches, clear}
 
 pub lines_of_allowed : (p : Placement) (pins : Pins) (r : Routing) (xs : List ℕ) → AreAllowed p pins (stretches_of r.trunks) xs → AreLines p xs
 lines_of_allowed p pins r xs a = record { lines = a.lines; first = a.first; next = a.next }

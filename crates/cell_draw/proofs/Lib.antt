@@ -1,8 +1,13 @@
+mod BridgeBars
 mod BridgeFrom
 mod BridgeGates
 mod BridgeLines
 mod BridgePlaces
+mod BridgeRouted
 mod BridgeRow
+mod BridgeTracks
+mod BridgeWhole
+mod Draws
 mod Found
 mod RulesActive
 mod RulesAround
