@@ -80,7 +80,7 @@ small l w frame right tags = record {
 pub record Lies (f : Frame) (tracks : ℕ) (trunks : List Trunk) (xs : List ℕ) (gates : List Gate) : Type 0 where
   pub small : IsSmallFrame f
   pub frame : IsFrame f tracks
-  pub tracks : All (λ (t : Trunk). t.track < tracks) trunks
+  pub on_tracks : All (λ (t : Trunk). t.track < tracks) trunks
   pub lines : (line : ℕ) → x_of xs line ≤ 1000000
   pub gates : All (λ (g : Gate). g.x ≤ 1000000) gates
 
@@ -109,7 +109,7 @@ tag_small pins f tracks nodes trunks xs gates l net t e = rails (net.0 == pins.g
     trunk : (o : Option Trunk) → trunk_of trunks net ≡ o → or_else (option_map (λ (u : Trunk). metal_tag (x_of xs u.left) (track_y f u.track) net) o) (place_tag f nodes xs gates net) ≡ Some t → IsSmallTag t
     trunk None is h = node (find (λ (n : NodePlace). n.net.0 == net.0) nodes) refl h
     trunk (Some u) is h =
-        let low : u.track < tracks = found_all (λ (z : Trunk). z.track < tracks) (λ (z : Trunk). z.net.0 == net.0) trunks u l.tracks is in
+        let low : u.track < tracks = found_all (λ (z : Trunk). z.track < tracks) (λ (z : Trunk). z.net.0 == net.0) trunks u l.on_tracks is in
         some_tag (metal_tag (x_of xs u.left) (track_y f u.track) net) t h (record { right = l.lines u.left; top = omega (arith, low, l.frame.room, l.small.top) })
 
     rails : (g v : Bool) → (if g then Some (metal_tag 8 8 net) else if v then Some (metal_tag 8 (f.yp + f.hp + 16) net) else net_tag f nodes trunks xs gates net) ≡ Some t → IsSmallTag t

@@ -104,8 +104,8 @@ pushed d all xs n x part is = record {
       | inr high ↦
           let at : line ≡ n = omega (arith, short, high) in
           let most : reach_from xs n 0 d.list ≤ x_of other n = reach_most xs n 0 d.list (x_of other n) (omega arith) (λ e there to.
-              let k : IsKept other e = All-contains (IsKept other) d.list e s.kept there in
-              omega (arith, k, part.least other s e.from (omega (arith, (entry e there).ascends, to)), ap (λ m. x_of other m) to)) in
+          let k : IsKept other e = All-contains (IsKept other) d.list e s.kept there in
+          omega (arith, k, part.least other s e.from (omega (arith, (entry e there).ascends, to)), ap (λ m. x_of other m) to)) in
           omega (arith, most, is, last, ap (λ m. x_of (xs ++ x ∷ []) m) at, ap (λ m. x_of other m) at)
     ]
 

@@ -8,3 +8,6 @@ pub mod lines;
 pub use allowed::{distances, lines_of};
 pub use distance::{Distance, DistanceList, Distances, LineXs, x_of};
 pub use lines::{even_lines, least_lines, one_least};
+
+#[cfg(test)]
+mod tests;
