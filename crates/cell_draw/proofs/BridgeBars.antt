@@ -40,7 +40,7 @@ pub record Passed {X : Type 0} (test : X → Bool) (xs : List X) (x : X) : Type 
   pub there : Contains xs x
   pub is : test x ≡ true
 
-filtered : {X : Type 0} (test : X → Bool) (xs : List X) (x : X) → Contains (filter test xs) x → Passed test xs x
+pub filtered : {X : Type 0} (test : X → Bool) (xs : List X) (x : X) → Contains (filter test xs) x → Passed test xs x
 filtered test [] x c = absurd (contains_none x c)
 filtered {X} test (y ∷ ys) x c = by (test y) refl (λ rest. filtered test ys x rest)
   where

@@ -1,4 +1,5 @@
 mod BridgeBars
+mod BridgeCount
 mod BridgeFrom
 mod BridgeGates
 mod BridgeLines
