@@ -84,4 +84,4 @@ drawn_small names pins p r xs height nets f l is row legal allowed last frame ef
         omega (arith, g_is.inside.right, frame.right))
 
     tags : All IsSmallTag (laid_out f nets pins p r.trunks xs).tags
-    tags = tags_small pins f r.tracks nets p.nodes r.trunks xs (gates_on f r.trunks xs (seats_of p.row)) (record { small = frame; frame = drawn.frame; on_tracks = legal.tracks; lines = lines; gates = gates })
+    tags = tags_small pins f r.tracks nets p.nodes r.trunks xs (gates_on f r.trunks xs (seats_of p.row)) (record { small = frame; frame = drawn.frame; on_tracks = legal.tracks; lines = lines; on_gates = gates })

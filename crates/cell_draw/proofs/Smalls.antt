@@ -82,7 +82,7 @@ pub record Lies (f : Frame) (tracks : ℕ) (trunks : List Trunk) (xs : List ℕ)
   pub frame : IsFrame f tracks
   pub on_tracks : All (λ (t : Trunk). t.track < tracks) trunks
   pub lines : (line : ℕ) → x_of xs line ≤ 1000000
-  pub gates : All (λ (g : Gate). g.x ≤ 1000000) gates
+  pub on_gates : All (λ (g : Gate). g.x ≤ 1000000) gates
 
 node_small : (f : Frame) (xs : List ℕ) (node : NodePlace) (side : Row) → IsSmallFrame f → ((line : ℕ) → x_of xs line ≤ 1000000) → (if is_p side then f.yp + 4 else f.yn - 4) ≤ 200000
 node_small f xs node P small lines = omega (arith, small.top)
@@ -100,7 +100,7 @@ tag_small pins f tracks nodes trunks xs gates l net t e = rails (net.0 == pins.g
   where
     gate : (o : Option Gate) → find (λ (g : Gate). g.net.0 == net.0) gates ≡ o → option_map (gate_tag f) o ≡ Some t → IsSmallTag t
     gate None is h = absurd cc
-    gate (Some g) is h = some_tag (gate_tag f g) t h (record { right = found_all (λ (z : Gate). z.x ≤ 1000000) (λ (z : Gate). z.net.0 == net.0) gates g l.gates is; top = gate_small f g.n l.small })
+    gate (Some g) is h = some_tag (gate_tag f g) t h (record { right = found_all (λ (z : Gate). z.x ≤ 1000000) (λ (z : Gate). z.net.0 == net.0) gates g l.on_gates is; top = gate_small f g.n l.small })
 
     node : (o : Option NodePlace) → find (λ (n : NodePlace). n.net.0 == net.0) nodes ≡ o → or_else (option_map (node_tag f xs) o) (option_map (gate_tag f) (find (λ (g : Gate). g.net.0 == net.0) gates)) ≡ Some t → IsSmallTag t
     node None is h = gate (find (λ (g : Gate). g.net.0 == net.0) gates) refl h

@@ -3,7 +3,7 @@ ghost use Rattle.row_model.specs.Arrangement.{IsPlaced, IsColumn};
 ghost use Rattle.row_compact.specs.Solution.{IsEntry};
 
 use crate::allowed::entries;
-use crate::{Distances, LineXs, even_lines, least_lines, lines_of};
+use crate::{Distance, Distances, LineXs, even_lines, least_lines, lines_of};
 use cell_num::{Finger, NetNo, NoMemory, Pins, Row};
 use channel_route::Trunk;
 use row_model::{Arrangement, Column, Placed};
@@ -52,11 +52,20 @@ fn trunk(net: u32, left: u32, right: u32, track: u32) -> Trunk {
     }
 }
 
+fn is_entry(distance: &Distance, lines: u32) -> bool
+    ensures { result ≡ true → IsEntry lines distance.now }
+{
+    if distance.from >= distance.to || distance.to >= lines {
+        return false;
+    }
+    distance.least <= 1000
+}
+
 fn are_entries(distances: &Distances) -> bool
     ensures { result ≡ true → All (IsEntry distances.now.lines) distances.now.list }
 {
     for distance in distances.list.as_slice() {
-        if distance.from >= distance.to || distance.to >= distances.lines || distance.least > 1000 {
+        if !is_entry(distance, distances.lines) {
             return false;
         }
     }
