@@ -1,6 +1,7 @@
 -- Lines that ascend, and the units of columns.
 use Rattle.std.proofs.Common.{ℕ, zero, suc, ◌≡◌, ◌+◌, ◌*◌, ◌-◌, ◌<◌, ◌≤◌, List, [], ◌∷◌, ◌++◌, Option, Some, None, length, slice_get, ap, sym, refl, subst, ◌∙◌, inl, inr, arith, AllPairs, Contains}
 use Rattle.std.proofs.lemmas.Bool.{cases_eq, cases_lt}
+use Rattle.std.proofs.lemmas.List.{get_or_past}
 use Rattle.std.proofs.lemmas.Option.{slice_get_within}
 use Rattle.cell_num.proofs.Lists.{some_same, contains_none, contains_cons}
 use Rattle.cell_num.proofs.Pairs.{pairs_at}
@@ -33,6 +34,16 @@ after_first p xs lines line most = omega (arith, lines.first, behind p xs lines 
 
 pub before_end : (p : Placement) (xs : List ℕ) → AreLines p xs → (line : ℕ) → line ≤ 2 * length p.units → x_of xs line + 8 ≤ width_of p xs
 before_end p xs lines line most = omega (arith, behind p xs lines line (2 * length p.units) 0 (omega (arith, most)) (omega arith))
+
+pub wide_enough : (p : Placement) (xs : List ℕ) → AreLines p xs → 16 ≤ width_of p xs
+wide_enough p xs lines = omega (arith, after_first p xs lines (2 * length p.units) (omega arith))
+
+-- no line stands behind the last
+pub x_most : (p : Placement) (xs : List ℕ) → AreLines p xs → x_of xs (2 * length p.units) ≤ 1000000 → (line : ℕ) → x_of xs line ≤ 1000000
+x_most p xs lines last line = elim (cases_lt (2 * length p.units) line) [
+  | inl beyond ↦ omega (arith, get_or_past xs line 0 (omega (arith, beyond, lines.lines)))
+  | inr within ↦ omega (arith, last, behind p xs lines line (2 * length p.units) 0 (omega (arith, within)) (omega arith))
+]
 
 -- lines at one place are one line
 pub same_line : (p : Placement) (xs : List ℕ) → AreLines p xs → (i j : ℕ) → i ≤ 2 * length p.units → j ≤ 2 * length p.units → x_of xs i ≡ x_of xs j → i ≡ j

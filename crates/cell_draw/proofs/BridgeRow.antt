@@ -66,12 +66,11 @@ widths names pins row s = all_from_contains HasWidths row (λ c there. record {
 })
 
 -- the rail that no end of a row is
-pub other_rail : Row → Pins → NetNo
+abbrev pub other_rail : Row → Pins → NetNo
 other_rail N pins = pins.vdd
 other_rail P pins = pins.gnd
 
 pub no_end : (names : List (List ℕ)) (pins : Pins) (row : List Column) → IsSoundRow names pins row → (side : Row) (c : Column) (x : Placed) → Contains row c → place side c ≡ Some x → HasNoEnd (other_rail side pins) x.finger
-unfolding other_rail
 no_end names pins row s N c x there e = All-contains (HasNoEnd pins.vdd) s.fingers.n x.finger s.sound.n_ends (n_finger names pins row s c x there e)
 no_end names pins row s P c x there e = All-contains (HasNoEnd pins.gnd) s.fingers.p x.finger s.sound.p_ends (p_finger names pins row s c x there e)
 

@@ -1,10 +1,14 @@
 mod BridgeBars
 mod BridgeCount
 mod BridgeFrom
+mod BridgeGates
 mod BridgeLines
+mod BridgePlaces
 mod BridgeRouted
 mod BridgeRow
 mod BridgeTracks
+mod BridgeWhole
+mod Draws
 mod Found
 mod RulesActive
 mod RulesAround
@@ -22,3 +26,4 @@ mod RulesRows
 mod RulesVias
 mod RulesWhole
 mod Sizes
+mod Smalls

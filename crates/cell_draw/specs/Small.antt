@@ -9,6 +9,7 @@ use Rattle.cell_draw.specs.declared.layout.Contact.{Contact}
 use Rattle.cell_draw.specs.declared.layout.Gate.{Gate}
 use Rattle.cell_draw.specs.declared.layout.Bar.{Bar}
 use Rattle.cell_draw.specs.declared.layout.Layout.{Layout}
+use Rattle.cell_draw.specs.declared.layout.Tag.{Tag}
 use Rattle.cell_draw.specs.Laid.{row_height, IsWidth, HasFinger}
 
 -- where a place is filled its finger is 6 to 400 wide
@@ -61,9 +62,14 @@ pub record IsSmallBar (f : Frame) (b : Bar) : Type 0 where
   pub height : IsHeight f b.y
   pub vias : All (λ x. x ≤ 1000000) b.vias
 
+pub record IsSmallTag (t : Tag) : Type 0 where
+  pub right : t.x ≤ 1000000
+  pub top : t.y ≤ 200000
+
 pub record IsSmall (l : Layout) : Type 0 where
   pub frame : IsSmallFrame l.frame
   pub strips : All (IsSmallStrip l.frame) l.strips
   pub contacts : All (IsSmallContact l.frame) l.contacts
   pub gates : All (IsSmallGate l.frame) l.gates
   pub bars : All (IsSmallBar l.frame) l.bars
+  pub tags : All IsSmallTag l.tags

@@ -1,13 +1,11 @@
 // The heights of a cell.
 
-ghost use Rattle.std.specs.Prelude.{◌≡◌, ◌≤◌, ◌+◌, All, IfOk, IfErr};
-ghost use Rattle.std.specs.declared.result.Result.TheVariants.{Err as Failed};
+ghost use Rattle.std.specs.Prelude.{◌≡◌, ◌≤◌, ◌+◌, All};
 ghost use Rattle.row_model.specs.Arrangement.{place};
-ghost use Rattle.cell_draw.specs.Faults.{IsCause, too_tall};
 ghost use Rattle.cell_draw.specs.Frame.{wider, height_of, channel_of, needed_of, frame_of, track_y, IsTooTall};
 ghost use Rattle.cell_draw.specs.Small.{IsFingerWidth, HasWidths, IsSmallFrame};
 
-use crate::{DrawFault, Frame};
+use crate::Frame;
 use cell_num::Row;
 use row_model::{Column, Placed};
 use row_place::Placement;
@@ -56,38 +54,54 @@ fn channel_of(tracks: u32) -> u32
     40 + 16 * tracks.saturating_sub(1)
 }
 
+/// The least height of a cell with so many tracks.
+pub fn needed(columns: &[Column], tracks: u32) -> u32
+    requires widths { All HasWidths columns.now }
+    requires tracks { tracks ≤ 1000 }
+    ensures value { result ≡ needed_of columns.now tracks }
+    ensures most { result ≤ 20000 }
+{
+    24 + height_of(Row::N, columns) + channel_of(tracks) + height_of(Row::P, columns) + 24
+}
+
 /// The heights of a cell, which are the least ones where no height is given. The channel takes what a
 /// given height has to spare.
-pub fn frame(columns: &[Column], tracks: u32, height: u32, width: u32) -> Result<Frame, DrawFault>
+pub fn frame(columns: &[Column], tracks: u32, height: u32, width: u32) -> Frame
     requires widths { All HasWidths columns.now }
     requires tracks { tracks ≤ 1000 }
     requires height { height ≤ 4000 }
     requires wide { 16 ≤ width }
     requires right { width ≤ 1000008 }
-    ensures exact { IfOk result (λ f. f ≡ frame_of columns.now tracks height width) }
-    ensures small { IfOk result IsSmallFrame }
-    ensures fits { IfOk result (λ f. IsTooTall columns.now tracks height → ⊥) }
-    ensures tall { IsTooTall columns.now tracks height → result ≡ Failed (too_tall columns.now tracks height) }
-    ensures cause { IfErr result (IsCause columns.now tracks height) }
+    ensures exact { result ≡ frame_of columns.now tracks height width }
+    ensures small { IsSmallFrame result }
 {
     let hn = height_of(Row::N, columns);
     let hp = height_of(Row::P, columns);
     let yn = 24 + hn;
-    let channel = channel_of(tracks);
-    let needed = yn + channel + hp + 24;
-    if height != 0 && height < needed {
-        return Err(DrawFault::TooTall {
-            needed,
-            given: height,
-        });
-    }
-    Ok(Frame {
+    let spare = height.saturating_sub(needed(columns, tracks));
+    Frame {
         hn,
         hp,
         yn,
-        yp: yn + channel + height.saturating_sub(needed),
+        yp: yn + channel_of(tracks) + spare,
         width,
-    })
+    }
+}
+
+/// The channel edges of a cell, whose height is 0 or enough.
+pub fn channel_edges(placement: &Placement, tracks: u32, height: u32) -> Edges
+    requires widths { All HasWidths placement.now.row }
+    requires tracks { tracks ≤ 1000 }
+    requires height { height ≤ 4000 }
+    requires enough { IsTooTall placement.now.row tracks height → ⊥ }
+    ensures n { result.n ≡ (frame_of placement.now.row tracks height 16).yn }
+    ensures p { result.p ≡ (frame_of placement.now.row tracks height 16).yp }
+{
+    let frame = frame(placement.row.as_slice(), tracks, height, 16);
+    Edges {
+        n: frame.yn,
+        p: frame.yp,
+    }
 }
 
 /// The height of a track.

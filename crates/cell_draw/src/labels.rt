@@ -5,7 +5,7 @@ ghost use Rattle.std.specs.List.{range_with_len};
 ghost use Rattle.std.specs.Option.{option_copied};
 ghost use Rattle.cell_draw.specs.Drawings.{label_of};
 ghost use Rattle.cell_draw.specs.Layouts.{node_tag, gate_y, gate_tag, metal_tag, place_tag, net_tag, tag_of, net_no};
-ghost use Rattle.cell_draw.specs.Small.{IsSmallFrame};
+ghost use Rattle.cell_draw.specs.Small.{IsSmallFrame, IsSmallTag};
 
 use crate::frame::track_y;
 use crate::plan::trunk_of;
@@ -182,8 +182,7 @@ fn name_of(alloc: Global, names: &[Name], net: NetNo) -> Result<Name, NoMemory>
 }
 
 fn label_of(alloc: Global, names: &[Name], tag: &Tag) -> Result<Label, NoMemory>
-    requires x { tag.now.x ≤ 1000000 }
-    requires y { tag.now.y ≤ 200000 }
+    requires { IsSmallTag tag.now }
     ensures { IfOk result (λ label. label ≡ label_of names.now tag.now) }
 {
     let name = name_of(alloc, names, tag.net)?;
@@ -197,8 +196,7 @@ fn label_of(alloc: Global, names: &[Name], tag: &Tag) -> Result<Label, NoMemory>
 
 /// The names of the nets where their tags stand.
 pub fn labels(alloc: Global, names: &[Name], tags: &[Tag]) -> Result<LabelList, NoMemory>
-    requires x { All (λ tag. tag.x ≤ 1000000) tags.now }
-    requires y { All (λ tag. tag.y ≤ 200000) tags.now }
+    requires { All IsSmallTag tags.now }
     ensures { IfOk result (λ labels. labels ≡ map (label_of names.now) tags.now) }
 {
     let mut labels = LabelList::new(alloc);

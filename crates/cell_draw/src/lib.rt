@@ -1,6 +1,7 @@
 // The drawing of a routed row as rectangles on the layers.
 #![tactic(auto)]
 
+pub mod cell;
 pub mod drawing;
 pub mod frame;
 mod groups;
@@ -9,6 +10,7 @@ pub mod layout;
 mod plan;
 mod shape;
 
+pub use cell::{draw, draw_base};
 pub use drawing::{DrawFault, Drawing};
-pub use frame::Edges;
+pub use frame::{Edges, channel_edges};
 pub use layout::{Bar, Contact, Frame, Gate, Layout, Strip, Tag};

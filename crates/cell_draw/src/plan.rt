@@ -4,6 +4,7 @@ ghost use Rattle.std.specs.Prelude.{◌≡◌, ◌≤◌, ◌<◌, ◌+◌, ◌*
 ghost use Rattle.std.specs.List.{flat_map, list_any, range_with_len};
 ghost use Rattle.std.specs.Option.{option_copied};
 ghost use Rattle.row_compact.specs.Solution.{x_of as x_at};
+ghost use Rattle.cell_draw.specs.Drawings.{base_of};
 ghost use Rattle.cell_draw.specs.Layouts.{strip_of, strips_at, trunk_of, reach_of, is_rail, contact_of, finger_width, gate_at, gates_on, is_p, is_over, has_own_via, vias_of, bar_of, laid_out, tag_of, net_no};
 ghost use Rattle.cell_draw.specs.Small.{IsSmallFrame};
 ghost use Rattle.row_place.specs.Units.{seats_of};
@@ -298,5 +299,30 @@ pub fn layout(
         gates,
         bars,
         tags,
+    })
+}
+
+/// The layout of the rows of a placement alone.
+pub fn base(
+    alloc: Global,
+    frame: &Frame,
+    pins: &Pins,
+    placement: &Placement,
+    xs: &[u32],
+) -> Result<Layout, NoMemory>
+    requires { length placement.now.row ≤ 32 }
+    ensures { IfOk result (λ layout. layout ≡ base_of frame.now pins.now placement.now xs.now) }
+{
+    let seats = seats(alloc, &placement.row)?;
+    let strips = strips(alloc, xs, seats.as_slice())?;
+    Ok(Layout {
+        frame: *frame,
+        gnd: pins.gnd,
+        vdd: pins.vdd,
+        strips,
+        contacts: List::new(alloc),
+        gates: List::new(alloc),
+        bars: List::new(alloc),
+        tags: List::new(alloc),
     })
 }

@@ -1,5 +1,5 @@
 -- Going once over the lines gives the least solution.
-use Rattle.std.proofs.Common.{ℕ, zero, suc, ◌≡◌, ◌+◌, ◌*◌, ◌<◌, ◌≤◌, ◌==◌, ◌⊎◌, max, Bool, true, false, cond, List, [], ◌∷◌, ◌++◌, length, inl, inr, refl, sym, ap, subst, ◌∙◌, arith, All, Contains, get_or, length-append}
+use Rattle.std.proofs.Common.{ℕ, zero, suc, ◌≡◌, ◌+◌, ◌*◌, ◌<◌, ◌≤◌, ◌==◌, List, [], ◌∷◌, ◌++◌, length, inl, inr, refl, sym, ap, subst, ◌∙◌, arith, All, Contains, get_or, length-append}
 use Rattle.std.proofs.lemmas.Bool.{cases_Bool, cases_eq, cases_lt, eqb-true, eq-eqb}
 use Rattle.std.proofs.lemmas.List.{get_or_append_left, get_or_past}
 use Rattle.std.proofs.lemmas.Grind.{same_number_lists}
@@ -104,8 +104,8 @@ pushed d all xs n x part is = record {
       | inr high ↦
           let at : line ≡ n = omega (arith, short, high) in
           let most : reach_from xs n 0 d.list ≤ x_of other n = reach_most xs n 0 d.list (x_of other n) (omega arith) (λ e there to.
-              let k : IsKept other e = All-contains (IsKept other) d.list e s.kept there in
-              omega (arith, k, part.least other s e.from (omega (arith, (entry e there).ascends, to)), ap (λ m. x_of other m) to)) in
+          let k : IsKept other e = All-contains (IsKept other) d.list e s.kept there in
+          omega (arith, k, part.least other s e.from (omega (arith, (entry e there).ascends, to)), ap (λ m. x_of other m) to)) in
           omega (arith, most, is, last, ap (λ m. x_of (xs ++ x ∷ []) m) at, ap (λ m. x_of other m) at)
     ]
 

@@ -1,7 +1,7 @@
 -- The solutions of the distances are exactly the positions that the row allows.
-use Rattle.std.proofs.Common.{ℕ, zero, suc, ◌≡◌, ◌↔◌, ◌+◌, ◌*◌, ◌<◌, ◌≤◌, ◌==◌, ◌&&◌, ◌⊎◌, ltb, Bool, true, false, cond, List, [], ◌∷◌, ◌++◌, Some, None, length, map, inl, inr, refl, sym, ap, subst, ◌∙◌, arith, All, Contains, filter_map, flat_map, slice_get, get_or}
+use Rattle.std.proofs.Common.{ℕ, zero, suc, ◌≡◌, ◌↔◌, ◌+◌, ◌*◌, ◌<◌, ◌≤◌, ◌==◌, ◌&&◌, ◌⊎◌, ltb, Bool, true, false, cond, List, [], ◌∷◌, ◌++◌, Some, None, length, map, inl, inr, refl, sym, ap, subst, ◌∙◌, arith, All, Contains, filter_map, slice_get, get_or}
 use Rattle.std.specs.List.{range_with_len}
-use Rattle.std.proofs.lemmas.Bool.{cases_Bool, and_parts, and_from, eqb-true, eq-eqb, ltb-true, lt-ltb}
+use Rattle.std.proofs.lemmas.Bool.{and_parts, and_from, eqb-true, eq-eqb, ltb-true, lt-ltb}
 use Rattle.std.proofs.lemmas.List.{length-map}
 use Rattle.std.proofs.lemmas.List.Elements.{All-nil, All-cons, All-head, All-tail, All-append, All-contains, Contains-append_left, Contains-append_right}
 use Rattle.std.proofs.lemmas.List.FromFn.{get_or-map-range_with_len, length-range_with_len}
@@ -19,10 +19,10 @@ use Rattle.row_compact.specs.declared.distance.Distance.{Distance}
 use Rattle.row_compact.specs.declared.distance.Distances.{Distances}
 use Rattle.row_compact.specs.Solution.{x_of, IsEntry, IsKept, IsSolution}
 use Rattle.row_compact.specs.Allowed.{Stretch, stretch_of, stretches_of, HasContact, AreAllowed}
-use Rattle.row_compact.specs.Entries.{entry, is_wide, least_in, unit_entries, units_from, pair_entry, pairs_of, entries_of}
+use Rattle.row_compact.specs.Entries.{entry, is_wide, least_in, units_from, pair_entry, pairs_of, entries_of}
 use Rattle.row_compact.proofs.Decide.{wide_decides}
 use Rattle.cell_num.proofs.In.{Image, in_map, contains_map, Piece, in_flat, contains_flat}
-use Rattle.row_compact.proofs.Within.{few, trunk_left, trunk_line}
+use Rattle.row_compact.proofs.Within.{trunk_left}
 
 -- the distances of a unit are kept
 record KeepsUnit (xs : List ℕ) (wide : ℕ → Bool) (unit : ℕ) (kind : UnitKind) : Type 0 where

@@ -1,5 +1,5 @@
 -- The lines of a legal routing are lines of the placement.
-use Rattle.std.proofs.Common.{ℕ, ◌≡◌, ◌+◌, ◌*◌, ◌<◌, ◌≤◌, ◌==◌, ◌++◌, List, length, map, filter, ap, arith, All, Contains}
+use Rattle.std.proofs.Common.{ℕ, ◌*◌, ◌≤◌, ◌==◌, length, map, filter, ap, arith, All, Contains}
 use Rattle.std.proofs.lemmas.List.Elements.{All-append, All-map, All-filter, All-contains}
 use Rattle.cell_num.specs.declared.net.NetNo.{NetNo}
 use Rattle.cell_num.specs.declared.net.Pins.{Pins}

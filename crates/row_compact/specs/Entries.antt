@@ -1,5 +1,5 @@
 -- The list of distances of a routed row.
-use Rattle.std.specs.Prelude.{ℕ, ◌+◌, ◌*◌, ◌==◌, ◌&&◌, ◌||◌, ltb, max, get_or, Bool, true, false, cond, List, [], ◌∷◌, ◌++◌, length, Option, Some, None, filter_map}
+use Rattle.std.specs.Prelude.{ℕ, ◌+◌, ◌*◌, ◌==◌, ◌&&◌, ◌||◌, ltb, max, get_or, Bool, true, false, cond, List, [], ◌∷◌, ◌++◌, Option, Some, None, filter_map}
 use Rattle.std.specs.List.{flat_map, list_any}
 use Rattle.cell_num.specs.declared.net.NetNo.{NetNo}
 use Rattle.cell_num.specs.declared.net.Pins.{Pins}
@@ -9,7 +9,6 @@ use Rattle.row_place.specs.declared.placement.UnitKind.{UnitKind}
 use Rattle.row_place.specs.declared.placement.UnitKind.TheVariants.{Column, Gap}
 use Rattle.channel_route.specs.declared.routing.Trunk.{Trunk}
 use Rattle.row_compact.specs.declared.distance.Distance.{Distance}
-use Rattle.row_compact.specs.declared.distance.Distances.{Distances}
 
 abbrev pub entry : ℕ → ℕ → ℕ → Distance
 entry from to least = record { from = from; to = to; least = least }

@@ -36,11 +36,8 @@ fn is_contacted(pins: &Pins, trunks: &[Trunk], net: NetNo) -> bool
 fn is_wide(placement: &Placement, pins: &Pins, trunks: &[Trunk], line: u32) -> bool
     ensures { result ≡ is_wide pins.now trunks.now placement.now.nodes line }
 {
-    placement
-        .nodes
-        .as_slice()
-        .iter()
-        .any(|node| node.line == line && is_contacted(pins, trunks, node.net))
+    placement.nodes.as_slice().iter().any(|node| node.line == line
+        && is_contacted(pins, trunks, node.net))
 }
 
 fn least_in(kind: UnitKind, is_wide: bool) -> u32
@@ -52,12 +49,7 @@ fn least_in(kind: UnitKind, is_wide: bool) -> u32
     }
 }
 
-fn add_unit(
-    list: &mut DistanceList,
-    unit: u32,
-    before: u32,
-    behind: u32,
-) -> Result<(), NoMemory>
+fn add_unit(list: &mut DistanceList, unit: u32, before: u32, behind: u32) -> Result<(), NoMemory>
     requires { unit ≤ 64 }
     ensures { OnOk result (list.new ≡ list.old ++ two_entries unit before behind) }
 {
@@ -118,7 +110,7 @@ fn add_all_pairs(list: &mut DistanceList, trunks: &[Trunk]) -> Result<(), NoMemo
     Ok(())
 }
 
-fn entries(
+pub fn entries(
     alloc: Global,
     placement: &Placement,
     pins: &Pins,
@@ -133,11 +125,20 @@ fn entries(
     Ok(list)
 }
 
-fn lines_of(placement: &Placement) -> u32
-    requires { length placement.now.units ≤ 64 }
-    ensures { result ≡ 2 * length placement.now.units + 1 }
+fn lines_of_units(units: usize) -> u32
+    requires { units ≤ 64 }
+    ensures { result ≡ 2 * units + 1 }
 {
-    2 * placement.units.len() as u32 + 1
+    2 * units as u32 + 1
+}
+
+/// How many lines a placement has: two for each unit, and the last one.
+pub fn lines_of(placement: &Placement) -> u32
+    requires { IsPlacement placement.now }
+    ensures lines { result ≡ 2 * length placement.now.units + 1 }
+    ensures few { result ≤ 127 }
+{
+    lines_of_units(placement.units.len())
 }
 
 /// The distances that the lines of a placement keep under a legal routing. Their solutions are exactly

@@ -5,6 +5,9 @@ pub mod allowed;
 pub mod distance;
 pub mod lines;
 
-pub use allowed::distances;
+pub use allowed::{distances, lines_of};
 pub use distance::{Distance, DistanceList, Distances, LineXs, x_of};
 pub use lines::{even_lines, least_lines, one_least};
+
+#[cfg(test)]
+mod tests;

@@ -67,5 +67,4 @@ pub fn least_lines(alloc: Global, distances: &Distances) -> Result<LineXs, NoMem
 /// A law: distances have one least solution. The call does nothing.
 pub fn one_least()
     ensures one { (d : SomeDistances) (xs ys : Sequence ℕ) → IsLeast d xs → IsLeast d ys → xs ≡ ys }
-{
-}
+{}

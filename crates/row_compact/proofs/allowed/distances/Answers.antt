@@ -8,20 +8,12 @@ use Rattle.row_compact.proofs.allowed.distances.Goals as goal
 pub entries-requires : goal.entries-requires
 entries-requires c = omega (arith, few c.args.placement.now c.requires.placement)
 
-pub lines_of-lines-requires : goal.lines_of-lines-requires
-lines_of-lines-requires c = omega (arith, few c.args.placement.now c.requires.placement)
-
 pub returns-clause-solutions : goal.returns-clause-solutions
 returns-clause-solutions c =
     let list : c.in_ok-list.list ≡ entries_of c.args.placement.now c.args.pins.now c.args.routing.now.trunks = search rules in
     let lines : c.lines_of-lines.result ≡ 2 * length c.args.placement.now.units + 1 = search rules in
     let d : Distances = record { lines = c.lines_of-lines.result; list = c.in_ok-list.list } in
     solutions c.args.placement.now c.args.pins.now c.args.routing.now d c.requires.routing lines list
-
-pub returns-clause-few : goal.returns-clause-few
-returns-clause-few c =
-    let lines : c.lines_of-lines.result ≡ 2 * length c.args.placement.now.units + 1 = search rules in
-    omega (arith, lines, few c.args.placement.now c.requires.placement)
 
 pub returns-clause-ascending : goal.returns-clause-ascending
 returns-clause-ascending c =
