@@ -1,7 +1,6 @@
 // Drawing a routed row.
 
-ghost use Rattle.std.specs.Prelude.{◌≡◌, ◌≤◌, ◌<◌, ◌+◌, ◌*◌, [], All, IfOk, IfErr, length};
-ghost use Rattle.std.specs.declared.result.Result.TheVariants.{Err as Failed};
+ghost use Rattle.std.specs.Prelude.{◌≡◌, ◌≤◌, ◌<◌, ◌+◌, ◌*◌, All, IfOk, IfErr, length};
 ghost use Rattle.row_place.specs.Places.{IsPlacement};
 ghost use Rattle.row_place.specs.Trunks.{HasPins};
 ghost use Rattle.channel_route.specs.Routing.{IsLegal};
@@ -9,10 +8,10 @@ ghost use Rattle.row_compact.specs.Allowed.{AreAllowed, stretches_of};
 ghost use Rattle.row_compact.specs.Solution.{x_of as x_at};
 ghost use Rattle.scmos_rules.specs.Rules.{Obeys};
 ghost use Rattle.scmos_rules.specs.declared.rules.Deck.TheVariants.{Plain};
-ghost use Rattle.cell_draw.specs.Drawings.{drawing_of, base_of, height_given};
-ghost use Rattle.cell_draw.specs.Faults.{IsCause, too_tall};
-ghost use Rattle.cell_draw.specs.Frame.{IsTooTall, frame_of, needed_of};
-ghost use Rattle.cell_draw.specs.Layouts.{layout_of, width_of};
+ghost use Rattle.cell_draw.specs.Drawings.{drawing_of, drawn_of, base_drawn_of, height_given};
+ghost use Rattle.cell_draw.specs.Faults.{IsCause, SaysTooTall};
+ghost use Rattle.cell_draw.specs.Frame.{IsTooTall, frame_of};
+ghost use Rattle.cell_draw.specs.Layouts.{width_of};
 ghost use Rattle.cell_draw.specs.Small.{IsSmall, IsSmallFrame, HasWidths};
 ghost use Rattle.cell_draw.specs.Sound.{IsSoundRow, AreLines};
 
@@ -58,7 +57,7 @@ fn fitting_frame(
     ensures exact { IfOk result (λ f. f ≡ frame_of placement.now.row tracks height (width_of placement.now xs.now)) }
     ensures small { IfOk result IsSmallFrame }
     ensures fits { IfOk result (λ f. IsTooTall placement.now.row tracks height → ⊥) }
-    ensures tall { IsTooTall placement.now.row tracks height → result ≡ Failed (too_tall placement.now.row tracks height) }
+    ensures tall { SaysTooTall placement.now.row tracks height result }
     ensures cause { IfErr result (IsCause placement.now.row tracks height) }
 {
     let columns = placement.row.as_slice();
@@ -89,9 +88,9 @@ fn drawn(
     requires lines { AreAllowed placement.now pins.now (stretches_of routing.now.trunks) xs.now }
     requires last { x_at xs.now (2 * length placement.now.units) ≤ 1000000 }
     requires height { height ≤ 4000 }
-    ensures exact { IfOk result (λ d. d ≡ drawing_of names.now (layout_of (length names.now) pins.now placement.now routing.now xs.now height)) }
+    ensures exact { IfOk result (λ d. d ≡ drawn_of names.now pins.now placement.now routing.now xs.now height) }
     ensures fits { IfOk result (λ d. IsTooTall placement.now.row routing.now.tracks height → ⊥) }
-    ensures tall { IsTooTall placement.now.row routing.now.tracks height → result ≡ Failed (too_tall placement.now.row routing.now.tracks height) }
+    ensures tall { SaysTooTall placement.now.row routing.now.tracks height result }
     ensures cause { IfErr result (IsCause placement.now.row routing.now.tracks height) }
 {
     let xs = xs.as_slice();
@@ -127,13 +126,13 @@ pub fn draw(
     requires lines { AreAllowed placement.now pins.now (stretches_of routing.now.trunks) xs.now }
     requires last { x_at xs.now (2 * length placement.now.units) ≤ 1000000 }
     requires height { height ≤ 4000 }
-    ensures exact { IfOk result (λ d. d ≡ drawing_of names.now (layout_of (length names.now) pins.now placement.now routing.now xs.now height)) }
+    ensures exact { IfOk result (λ d. d ≡ drawn_of names.now pins.now placement.now routing.now xs.now height) }
     ensures obeys { IfOk result (λ d. Obeys Plain d.shapes.rects) }
     ensures width { IfOk result (λ d. d.width ≡ x_at xs.now (2 * length placement.now.units) + 8) }
     ensures height { IfOk result (λ d. d.height ≡ height_given placement.now.row routing.now.tracks height) }
     ensures few { IfOk result (λ d. length d.shapes.rects < 2000) }
     ensures fits { IfOk result (λ d. IsTooTall placement.now.row routing.now.tracks height → ⊥) }
-    ensures tall { IsTooTall placement.now.row routing.now.tracks height → result ≡ Failed (too_tall placement.now.row routing.now.tracks height) }
+    ensures tall { SaysTooTall placement.now.row routing.now.tracks height result }
     ensures cause { IfErr result (IsCause placement.now.row routing.now.tracks height) }
 {
     match drawn(alloc, names, pins, placement, routing, xs, height) {
@@ -157,9 +156,9 @@ fn base_drawn(
     requires last { x_at xs.now (2 * length placement.now.units) ≤ 1000000 }
     requires tracks { tracks ≤ 1000 }
     requires height { height ≤ 4000 }
-    ensures exact { IfOk result (λ d. d ≡ drawing_of [] (base_of (frame_of placement.now.row tracks height (width_of placement.now xs.now)) pins.now placement.now xs.now)) }
+    ensures exact { IfOk result (λ d. d ≡ base_drawn_of pins.now placement.now tracks xs.now height) }
     ensures fits { IfOk result (λ d. IsTooTall placement.now.row tracks height → ⊥) }
-    ensures tall { IsTooTall placement.now.row tracks height → result ≡ Failed (too_tall placement.now.row tracks height) }
+    ensures tall { SaysTooTall placement.now.row tracks height result }
     ensures cause { IfErr result (IsCause placement.now.row tracks height) }
 {
     let xs = xs.as_slice();
@@ -183,12 +182,12 @@ pub fn draw_base(
     requires last { x_at xs.now (2 * length placement.now.units) ≤ 1000000 }
     requires tracks { tracks ≤ 1000 }
     requires height { height ≤ 4000 }
-    ensures exact { IfOk result (λ d. d ≡ drawing_of [] (base_of (frame_of placement.now.row tracks height (width_of placement.now xs.now)) pins.now placement.now xs.now)) }
+    ensures exact { IfOk result (λ d. d ≡ base_drawn_of pins.now placement.now tracks xs.now height) }
     ensures obeys { IfOk result (λ d. Obeys Plain d.shapes.rects) }
     ensures width { IfOk result (λ d. d.width ≡ x_at xs.now (2 * length placement.now.units) + 8) }
     ensures height { IfOk result (λ d. d.height ≡ height_given placement.now.row tracks height) }
     ensures fits { IfOk result (λ d. IsTooTall placement.now.row tracks height → ⊥) }
-    ensures tall { IsTooTall placement.now.row tracks height → result ≡ Failed (too_tall placement.now.row tracks height) }
+    ensures tall { SaysTooTall placement.now.row tracks height result }
     ensures cause { IfErr result (IsCause placement.now.row tracks height) }
 {
     match base_drawn(alloc, pins, placement, tracks, xs, height) {

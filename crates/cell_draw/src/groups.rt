@@ -5,7 +5,7 @@ ghost use Rattle.std.specs.List.{flat_map};
 ghost use Rattle.cell_draw.specs.Shapes.{frame_shapes, finger, reach_shapes, contact_shapes, pad_shapes, gate_shapes, via_shapes, bar_shapes, shapes_of};
 ghost use Rattle.cell_draw.specs.Small.{IsSmall, IsSmallFrame, IsSmallStrip, IsSmallContact, IsSmallGate, IsSmallBar, IsHeight, IsReach};
 
-use crate::{Bar, Contact, Frame, Gate, Layout, Strip, shape};
+use crate::{Bar, Contact, Frame, Gate, Layout, Strip, channel_shapes, row_shapes, shape};
 use box_geom::{Layer, ShapeList};
 use cell_num::{NoMemory, Row};
 use std::alloc::Global;
@@ -27,7 +27,7 @@ fn add_fingers(out: &mut ShapeList, frame: &Frame, strips: &[Strip]) -> Result<(
     ensures { OnOk result (out.new ≡ out.old ++ flat_map (λ s. finger frame.now s ∷ []) strips.now) }
 {
     for strip in strips {
-        out.push(shape::finger(frame, strip))?;
+        out.push(row_shapes::finger(frame, strip))?;
     }
     Ok(())
 }
@@ -48,8 +48,8 @@ fn add_reach(
     let Some(reach) = reach else {
         return Ok(());
     };
-    out.push(shape::square(Layer::Via, x, shape::landing(frame, row), 2))?;
-    out.push(shape::branch(frame, row, x, reach))
+    out.push(shape::square(Layer::Via, x, row_shapes::landing(frame, row), 2))?;
+    out.push(row_shapes::branch(frame, row, x, reach))
 }
 
 fn add_contact(out: &mut ShapeList, frame: &Frame, contact: &Contact) -> Result<(), NoMemory>
@@ -57,10 +57,10 @@ fn add_contact(out: &mut ShapeList, frame: &Frame, contact: &Contact) -> Result<
     requires contact { IsSmallContact frame.now contact.now }
     ensures { OnOk result (out.new ≡ out.old ++ contact_shapes frame.now contact.now) }
 {
-    let centre = shape::centre(frame, contact.row);
+    let centre = row_shapes::centre(frame, contact.row);
     out.push(shape::square(Layer::Active, contact.x, centre, 5))?;
     out.push(shape::square(Layer::Contact, contact.x, centre, 2))?;
-    out.push(shape::strap(frame, contact))?;
+    out.push(row_shapes::strap(frame, contact))?;
     add_reach(out, frame, contact.row, contact.x, contact.reach)
 }
 
@@ -93,7 +93,7 @@ fn add_gate(out: &mut ShapeList, frame: &Frame, gate: &Gate) -> Result<(), NoMem
     requires gate { IsSmallGate frame.now gate.now }
     ensures { OnOk result (out.new ≡ out.old ++ gate_shapes frame.now gate.now) }
 {
-    out.push(shape::gate_strip(frame, gate))?;
+    out.push(channel_shapes::gate_strip(frame, gate))?;
     add_pad(out, gate.x, gate.track, frame)
 }
 
@@ -124,7 +124,7 @@ fn add_bar(out: &mut ShapeList, frame: &Frame, bar: &Bar) -> Result<(), NoMemory
     requires bar { IsSmallBar frame.now bar.now }
     ensures { OnOk result (out.new ≡ out.old ++ bar_shapes bar.now) }
 {
-    out.push(shape::bar_metal(frame, bar))?;
+    out.push(channel_shapes::bar_metal(frame, bar))?;
     add_vias(out, bar.y, bar.vias.as_slice())
 }
 

@@ -7,8 +7,8 @@ ghost use Rattle.cell_draw.specs.Drawings.{label_of};
 ghost use Rattle.cell_draw.specs.Layouts.{node_tag, gate_y, gate_tag, metal_tag, place_tag, net_tag, tag_of, net_no};
 ghost use Rattle.cell_draw.specs.Small.{IsSmallFrame, IsSmallTag};
 
+use crate::contacts::trunk_of;
 use crate::frame::track_y;
-use crate::plan::trunk_of;
 use crate::{Frame, Gate, Tag};
 use box_geom::{Label, LabelList, Layer};
 use cell_num::{List, Name, NetNo, NoMemory, Pins, Row};

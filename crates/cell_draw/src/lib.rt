@@ -1,13 +1,18 @@
 // The drawing of a routed row as rectangles on the layers.
 #![tactic(auto)]
 
+mod bars;
 pub mod cell;
+mod channel_shapes;
+mod contacts;
 pub mod drawing;
 pub mod frame;
+mod gates;
 mod groups;
 mod labels;
 pub mod layout;
 mod plan;
+mod row_shapes;
 mod shape;
 
 pub use cell::{draw, draw_base};

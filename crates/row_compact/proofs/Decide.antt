@@ -1,7 +1,7 @@
 -- The tests by which the code tells contacted places decide the definitions.
-use Rattle.std.proofs.Common.{ℕ, ◌≡◌, ◌==◌, ◌&&◌, true}
+use Rattle.std.proofs.Common.{ℕ, ◌≡◌, ◌↔◌, ◌==◌, ◌&&◌, IsTrue, Bool, true, false, inl, inr, refl, sym}
 use Rattle.std.specs.Bool.{Decides}
-use Rattle.std.proofs.lemmas.Bool.{and_parts, and_from, eqb-true, eq-eqb}
+use Rattle.std.proofs.lemmas.Bool.{cases_Bool, and_parts, and_from, eqb-true, eq-eqb}
 use Rattle.std.proofs.lemmas.Bool.Decides.{Decides-or}
 use Rattle.cell_num.specs.declared.net.NetNo.{NetNo}
 use Rattle.cell_num.specs.declared.net.Pins.{Pins}
@@ -19,6 +19,14 @@ use Rattle.cell_num.proofs.Pairs.{Some', some_from_any, any_at, test_finds, test
 
 pub rail_decides : (pins : Pins) (net : NetNo) → Decides (is_rail pins net) (IsRail pins net)
 rail_decides pins net = Decides-or (net.0 == pins.vdd.0) (net.0 == pins.gnd.0) (net_decides net pins.vdd) (net_decides net pins.gnd)
+
+-- what tells a rail is that test
+pub rail_test : (pins : Pins) (net : NetNo) (told : Bool) → (IsTrue told ↔ IsRail pins net) → told ≡ is_rail pins net
+rail_test pins net true h = sym ((rail_decides pins net).1 (h.0 refl))
+rail_test pins net false h = elim (cases_Bool (is_rail pins net)) [
+  | inl e ↦ absurd (let wrong : ◌≡◌ {A = Bool} false true = h.1 ((rail_decides pins net).0 e) in cc)
+  | inr e ↦ sym e
+]
 
 pub trunk_decides : (p : Placement) (pins : Pins) (r : Routing) → IsLegal p pins r → (net : NetNo) → Decides (has_trunk r.trunks net) (HasTrunk p pins net)
 trunk_decides p pins r legal net = (there, back)

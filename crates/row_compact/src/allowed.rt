@@ -17,7 +17,7 @@ use std::alloc::Global;
 fn is_rail(pins: &Pins, net: NetNo) -> bool
     ensures { result ≡ is_rail pins.now net }
 {
-    net.0 == pins.vdd.0 || net.0 == pins.gnd.0
+    pins.is_rail(net)
 }
 
 fn has_trunk(trunks: &[Trunk], net: NetNo) -> bool
