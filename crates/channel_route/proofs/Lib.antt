@@ -1,8 +1,10 @@
 mod Constraints
 mod Crossing
 mod Density
+mod Down
 mod Legal
 pub mod OneRouting
+mod Stuck
 mod Sweep
 mod Turns
 pub mod Unique
