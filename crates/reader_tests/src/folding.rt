@@ -1,5 +1,5 @@
-use crate::{FoldFault, fold};
-use cell_num::{Finger, FingerList, Fingers, NetNo, NoMemory, Row, copy};
+use cell_num::{FingerList, Fingers, NoMemory, copy};
+use finger_fold::{FoldFault, fold};
 use spice_net::read_cell;
 use std::alloc::{AllocError, Global};
 use std::test::Fail;
@@ -42,9 +42,7 @@ fn told(alloc: Global, limits: &str, widths: (u32, u32)) -> Result<String, Alloc
             let n = widths_of(alloc, "N", &fingers.n)?;
             format!(in alloc; "{p} {n}")
         }
-        Err(FoldFault::TooManyFingers { count }) => format!(in alloc; "TooManyFingers {count}"),
-        Err(FoldFault::TooManyColumns { count }) => format!(in alloc; "TooManyColumns {count}"),
-        Err(FoldFault::NoMemory) => String::from_str(alloc, "NoMemory"),
+        Err(fault) => format!(in alloc; "{fault:?}"),
     }
 }
 
@@ -55,12 +53,16 @@ fn cuts_transistors(rt: HostRuntime) -> Result<(), Fail> {
         ("", (80, 20), "P 40 40 N 20"),
         ("wmax_n = 12", (6, 13), "P 6 N 7 6"),
         ("wmax_n = 400", (100, 401), "P 34 33 33 N 201 200"),
-        ("", (1281, 1280), "TooManyColumns 33"),
-        ("", (1280, 1281), "TooManyColumns 33"),
-        ("", (2560, 20), "TooManyColumns 64"),
-        ("", (2561, 2601), "TooManyFingers 65"),
-        ("", (20, 2601), "TooManyFingers 66"),
-        ("wmax_p = 12", (100_000, 20), "TooManyFingers 8334"),
+        ("", (1281, 1280), "TooManyColumns { count: 33 }"),
+        ("", (1280, 1281), "TooManyColumns { count: 33 }"),
+        ("", (2560, 20), "TooManyColumns { count: 64 }"),
+        ("", (2561, 2601), "TooManyFingers { count: 65 }"),
+        ("", (20, 2601), "TooManyFingers { count: 66 }"),
+        (
+            "wmax_p = 12",
+            (100_000, 20),
+            "TooManyFingers { count: 8334 }",
+        ),
     ] {
         assert_eq!(rt;
             told(rt.alloc(), limits, widths)?.as_str(),
@@ -68,22 +70,5 @@ fn cuts_transistors(rt: HostRuntime) -> Result<(), Fail> {
             "{limits} {widths:?}"
         );
     }
-    Ok(())
-}
-
-#[test]
-fn takes_32_columns(rt: HostRuntime) -> Result<(), Fail> {
-    let fingers = folded(rt.alloc(), "", (1280, 1280))?;
-    let finger = Finger {
-        row: Row::P,
-        gate: NetNo(0),
-        lo: NetNo(1),
-        hi: NetNo(2),
-        width: 40,
-    };
-    assert_eq!(rt; fingers.nets, 4);
-    assert_eq!(rt; fingers.p.len(), 32);
-    assert_eq!(rt; fingers.n.len(), 32);
-    assert_eq!(rt; fingers.p.get(31), Some(&finger));
     Ok(())
 }

@@ -1,7 +1,7 @@
-use crate::{Tech, TechFault, read_tech};
 use cell_num::{Name, Names};
 use std::alloc::{AllocError, Global};
 use std::test::Fail;
+use tech_file::{Tech, TechFault, read_tech};
 
 fn text_of(name: &Name) -> &str {
     str::from_utf8(name.as_slice()).unwrap_or("?")

@@ -1,5 +1,5 @@
-use crate::read_cell;
 use cell_num::{Row, copy};
+use spice_net::read_cell;
 use std::alloc::Global;
 use std::test::Fail;
 use tech_file::Tech;
