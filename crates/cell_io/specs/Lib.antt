@@ -1,4 +1,5 @@
 pub mod Desk
 pub mod Host
 pub mod Mem
+pub mod Output
 pub mod Whole

@@ -1,6 +1,6 @@
 ghost use Rattle.std.specs.Prelude.{◌≡◌, ◌≤◌, ◌<◌, ◌+◌, ◌-◌, ◌^◌, min, ℕ, None, Ok, Err, IfOk, IfErr, length};
 ghost use Rattle.cell_io.specs.Desk.{Rose};
-ghost use Rattle.cell_io.specs.Host.{read_faults_of, write_faults_of, shorts_of};
+ghost use Rattle.cell_io.specs.Host.{host_view, read_faults_of, write_faults_of, shorts_of};
 ghost use Rattle.cell_io.specs.declared.desk.DeskAnswer.TheVariants.{Failed};
 
 use crate::{Desk, DeskAnswer};
@@ -55,6 +55,7 @@ fn count_fault(
     ensures within { IfOk result (λ count. count ≤ length part.now) }
     ensures none { result ≡ Ok 0 → 0 < length part.now → Rose faults.old faults.new }
     ensures failed { IfErr result (λ answer. (answer ≡ Failed) × Rose faults.old faults.new) }
+    ensures quiet { IfOk result (λ count. 0 < count → faults.new ≡ faults.old) }
     ensures count { faults.old ≤ faults.new }
 {
     match written {
@@ -87,17 +88,7 @@ impl<'a, R: Files + Print> HostDesk<'a, R> {
 }
 
 impl<R: Files + Print> Desk for HostDesk<'_, R> {
-    ghost given = { λ m. None };
-
-    ghost made = { λ m. None };
-
-    ghost said = { λ m. None };
-
-    ghost read_faults = { λ m. read_faults_of m };
-
-    ghost write_faults = { λ m. write_faults_of m };
-
-    ghost shorts = { λ m. shorts_of m };
+    ghost view = { host_view };
 
     fn read_part(&mut self, name: &str, from: u64, into: &mut [u8]) -> Result<usize, DeskAnswer> {
         match read_at(self.rt, name, from, into) {

@@ -4,14 +4,15 @@
 pub mod desk;
 pub mod host;
 pub mod mem;
-pub mod say;
+pub mod output;
 pub mod steady;
 pub mod whole;
 
 pub use desk::{Desk, DeskAnswer};
 pub use host::HostDesk;
 pub use mem::{CallList, File, FileList, MemDesk};
-pub use say::{WriteFault, say_all};
+pub use output::{WriteFault, append_all, say_all, write_all};
+
 pub use steady::SteadyDesk;
 pub use whole::{ReadFault, read_all};
 
