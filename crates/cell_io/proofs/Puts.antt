@@ -1,5 +1,5 @@
 -- What has been put so far, over several parts.
-use Rattle.std.proofs.Common.{ℕ, ◌≡◌, ◌+◌, ◌-◌, ◌∙◌, ap, arith, length-drop, subst, ◌≤◌, List, [], ◌++◌, length, take, drop, Option, Some, None, refl, sym, append_assoc, append-nil, IfSome, Bool, true, false, bytes_eq, if◌then◌else◌}
+use Rattle.std.proofs.Common.{ℕ, ◌≡◌, ◌+◌, ◌-◌, ◌∙◌, ap, arith, length-drop, subst, ◌≤◌, List, [], ◌++◌, length, take, drop, Option, Some, None, refl, sym, append_assoc, append-nil, IfSome, Bool, true, false, bytes_eq, if◌then◌else◌, Result, Ok, Err, OnErr}
 use Rattle.std.proofs.Math.Seq.{take-add, take-length}
 use Rattle.std.proofs.lemmas.Slice.Eq.{bytes_eq-Decides}
 use Rattle.cell_io.specs.Desk.{View, Files, Rose, Both, ForSome, AddsPart, AppendedIn, CreatedIn, WrittenIn, Sets, IsHeld, OnlySays, OnlyMakes, IsQuiet, WritingFailed, MemoryFailed}
@@ -145,3 +145,7 @@ written_some name bytes first before after a b =
     both_more (CreatedIn name) (ForSome bytes (AppendedIn name bytes)) (ForSome bytes (WrittenIn name bytes))
     (λ x y z p q. (q.0, q.1, created_appended name bytes q.0 x y z p q.2))
     first before after a b
+
+pub refused_so : {T E : Type 0} (r : Result T E) (P Q : Type 0) → (P → Q) → OnErr r P → OnErr r Q
+refused_so (Ok x) P Q so a = tt
+refused_so (Err e) P Q so a = so a

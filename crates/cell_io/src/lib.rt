@@ -5,6 +5,7 @@ pub mod desk;
 pub mod host;
 pub mod mem;
 pub mod output;
+mod reading;
 pub mod steady;
 pub mod whole;
 

@@ -1,10 +1,10 @@
-ghost use Rattle.std.specs.Prelude.{◌≡◌, ◌≤◌, ◌<◌, length, vec_len, IfOk, IfErr, IfSome, IsErrOf};
+ghost use Rattle.std.specs.Prelude.{◌≡◌, ◌≤◌, ◌<◌, length, vec_len, IfOk, IfSome, IsErrOf};
 ghost use Rattle.cell_io.specs.Desk.{told, IsMissing, OnlyReads, ReadingFailed};
 ghost use Rattle.cell_io.specs.Whole.{IsFront, HasMore, ReadFor, KeepsUnlessUnread};
-ghost use Rattle.cell_io.specs.declared.whole.ReadFault.TheVariants.{Missing, Failed, TooLong, NoMemory};
+ghost use Rattle.cell_io.specs.declared.whole.ReadFault.TheVariants.{Missing, Failed, TooLong};
 
 use crate::{Desk, DeskAnswer};
-use std::alloc::Global;
+use std::alloc::{AllocError, Global};
 use thiserror::Error;
 
 /// Why a file was not read.
@@ -25,14 +25,10 @@ pub enum ReadFault {
 const PART: usize = 65536;
 
 // Room for a part, on the heap.
-fn make_buffer(alloc: Global) -> Result<Vec<u8>, ReadFault>
-    ensures room { IfOk result (λ buffer. vec_len buffer ≡ PART) }
-    ensures memory { IfErr result (λ fault. fault ≡ NoMemory) }
+fn make_buffer(alloc: Global) -> Result<Vec<u8>, AllocError>
+    ensures { IfOk result (λ buffer. vec_len buffer ≡ PART) }
 {
-    match vec![in alloc; 0u8; PART] {
-        Ok(buffer) => Ok(buffer),
-        Err(_) => Err(ReadFault::NoMemory),
-    }
+    vec![in alloc; 0u8; PART]
 }
 
 // Adds some of the file's next bytes, at most as many as the part has room for, and says whether there were any.
@@ -86,7 +82,11 @@ pub fn read_all<D: Desk>(
     ensures quiet { KeepsUnlessUnread result (D.view desk.old) (D.view desk.new) }
 {
     let mut bytes = Vec::new(alloc);
-    let mut buffer = make_buffer(alloc)?;
+    let Ok(mut buffer) = make_buffer(alloc) else {
+        // a file that is not there is told so all the same
+        read_more(desk, name, &mut [0u8; 1], &mut bytes)?;
+        return Err(ReadFault::NoMemory);
+    };
     'parts: loop {
         let room = most - bytes.len() as u64;
         let want = if room < PART as u64 {

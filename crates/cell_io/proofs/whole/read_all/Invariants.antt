@@ -6,6 +6,7 @@ use Rattle.cell_io.proofs.whole.read_all.Given as goal
 abbrev pub invariant-parts : goal.invariant-parts
 invariant-parts g l =
     (vec_len l.bytes ≤ l.most)
+    × (vec_len l.buffer ≡ 65536)
     × IfSome (told (g.D.Desk.view l.desk).given l.name) (IsFront l.bytes.items)
     × (g.D.Desk.view l.desk ≡ g.D.Desk.view l.fn.desk)
 
