@@ -6,7 +6,7 @@ ghost use Rattle.cell_io.specs.Mem.{mem_view, CountsFailed, CountsShort, files_o
 ghost use Rattle.cell_io.specs.declared.desk.DeskAnswer.TheVariants as answer;
 
 use crate::{Desk, DeskAnswer};
-use cell_num::{List, Name, NoMemory};
+use cell_num::{Bytes, List, Name, NoMemory};
 use std::alloc::Global;
 use std::collections::BTreeMap;
 
@@ -14,7 +14,7 @@ use std::collections::BTreeMap;
 #[derive(Drop)]
 pub struct File {
     pub name: Name,
-    pub bytes: Name,
+    pub bytes: Bytes,
 }
 
 pub type FileList = List<File>;
@@ -27,8 +27,8 @@ pub type CallList = List<u64>;
 pub struct MemDesk {
     alloc: Global,
     given: FileList,
-    made: BTreeMap<String, Name>,
-    said: Name,
+    made: BTreeMap<String, Bytes>,
+    said: Bytes,
     fail: CallList,
     calls: u64,
     read_faults: u64,
@@ -66,7 +66,7 @@ fn has_call(calls: &[u64], call: u64) -> bool
 }
 
 // Puts the part at the end of the file.
-fn append_to(files: &mut BTreeMap<String, Name>, name: &str, part: &[u8]) -> Result<(), NoMemory>
+fn append_to(files: &mut BTreeMap<String, Bytes>, name: &str, part: &[u8]) -> Result<(), NoMemory>
     requires { IsHeld (get_by_text files.old) name.now }
     ensures ok { OnOk result (AppendedIn name.now part.now (length part.now) (get_by_text files.old) (get_by_text files.new)) }
     ensures err { OnErr result ((q : Sequence ℕ) → get_by_text files.new q ≡ get_by_text files.old q) }
@@ -81,13 +81,11 @@ fn append_to(files: &mut BTreeMap<String, Name>, name: &str, part: &[u8]) -> Res
 }
 
 // Makes an empty file.
-fn create_in(alloc: Global, files: &mut BTreeMap<String, Name>, name: &str) -> Result<(), NoMemory>
+fn create_in(alloc: Global, files: &mut BTreeMap<String, Bytes>, name: &str) -> Result<(), NoMemory>
     ensures ok { OnOk result (CreatedIn name.now (get_by_text files.old) (get_by_text files.new)) }
     ensures err { OnErr result ((q : Sequence ℕ) → get_by_text files.new q ≡ get_by_text files.old q) }
 {
-    let Ok(key) = String::from_str(alloc, name) else {
-        return Err(NoMemory);
-    };
+    let key = String::from_str(alloc, name)?;
     match files.insert(key, List::new(alloc)) {
         Ok(_) => Ok(()),
         Err(_) => Err(NoMemory),
