@@ -90,6 +90,15 @@ fn least_net(turn: &[Above]) -> NetNo
     least
 }
 
+// The place of the least net.
+fn least_place(turn: &[Above]) -> usize
+    requires { 0 < length turn.now }
+    ensures below { result < length turn.now }
+    ensures least { (d : AnAbove) → All (λ a. (slice_index_or turn.now result d).net.0 ≤ a.net.0) turn.now }
+{
+    place_in(turn, least_net(turn))
+}
+
 /// The cycle to which the walk down from a net comes, its least net first.
 pub fn find_cycle(
     alloc: Global,
@@ -107,7 +116,7 @@ pub fn find_cycle(
     if turn.is_empty() {
         unreachable!()
     }
-    let at = place_in(&turn, least_net(&turn));
+    let at = least_place(&turn);
     let mut cycle = Vec::new(alloc);
     cycle.extend_from_slice(&turn[at..])?;
     cycle.extend_from_slice(&turn[..at])?;
