@@ -1,6 +1,7 @@
 // Finds a cycle where each wire that is left stands above another one.
 
-ghost use Rattle.std.specs.Prelude.{ℕ, ◌≡◌, ◌≢◌, ◌≤◌, ◌<◌, ◌==◌, true, All, Contains, IfOk, IfSome, IsSome, length, get_or, count_by, slice_index_or};
+ghost use Rattle.std.specs.Prelude.{ℕ, ◌≡◌, ◌≢◌, ◌≤◌, ◌<◌, ◌==◌, true, All};
+ghost use Rattle.std.specs.Prelude.{Contains, IfOk, IfSome, IsSome, length, get_or, count_by, slice_index_or};
 ghost use Rattle.channel_route.specs.declared.routing.Above.{Above as AnAbove};
 ghost use Rattle.channel_route.specs.declared.constraint.Constraint.{Constraint as AConstraint};
 ghost use Rattle.channel_route.specs.Cycle.{StandAbove, IsCycleBelow};

@@ -10,7 +10,9 @@ ghost use Rattle.channel_route.specs.Told.{IsTold};
 
 /// A placement has one legal and tight routing at most. It does nothing: its contract is the law.
 pub fn one_routing()
-    ensures { (placement : Placement) (pins : Pins) (a b : Routing) → IsLegal placement pins a → IsTight placement pins a → IsLegal placement pins b → IsTight placement pins b → a ≡ b }
+    ensures { (placement : Placement) (pins : Pins) (a b : Routing)
+        → IsLegal placement pins a → IsTight placement pins a
+        → IsLegal placement pins b → IsTight placement pins b → a ≡ b }
 {}
 
 /// Each net of a cycle has node places in both rows, so there is none where only one net with a trunk
@@ -21,6 +23,8 @@ pub fn no_cycle()
 
 /// One cycle is told at most, and it is a cycle. It does nothing: its contract is the law.
 pub fn one_told()
-    ensures cycle { (placement : Placement) (pins : Pins) (cycle : List Above) → IsTold placement pins cycle → IsCycle placement pins cycle }
-    ensures one { (placement : Placement) (pins : Pins) (a b : List Above) → IsPlacement placement → IsTold placement pins a → IsTold placement pins b → a ≡ b }
+    ensures cycle { (placement : Placement) (pins : Pins) (cycle : List Above)
+        → IsTold placement pins cycle → IsCycle placement pins cycle }
+    ensures one { (placement : Placement) (pins : Pins) (a b : List Above)
+        → IsPlacement placement → IsTold placement pins a → IsTold placement pins b → a ≡ b }
 {}
