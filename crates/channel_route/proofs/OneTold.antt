@@ -1,7 +1,6 @@
 -- One cycle is told: a walk down has no choice, so two walks from one net come to one cycle.
-use Rattle.std.proofs.Common.{ℕ, ◌≡◌, ◌<◌, ◌≤◌, ◌⊎◌, List, [], ◌∷◌, get_or, inl, inr, refl, sym, ap, subst, arith, All, AllPairs, Contains}
-use Rattle.std.proofs.lemmas.Bool.{cases_order, eq-eqb}
-use Rattle.std.proofs.lemmas.List.{get_or_default}
+use Rattle.std.proofs.Common.{ℕ, ◌≡◌, ◌<◌, ◌≤◌, ◌⊎◌, List, [], ◌∷◌, inl, inr, refl, sym, ap, subst, arith, All, Contains}
+use Rattle.std.proofs.lemmas.Bool.{eq-eqb}
 use Rattle.std.proofs.lemmas.List.Elements.{All-head, All-tail, All-contains}
 use Rattle.cell_num.specs.declared.net.NetNo.{NetNo}
 use Rattle.cell_num.specs.declared.net.Pins.{Pins}
@@ -15,26 +14,7 @@ use Rattle.row_place.specs.Places.{StandsBefore, IsPlacement}
 use Rattle.channel_route.specs.declared.routing.Above.{Above}
 use Rattle.channel_route.specs.Cycle.{next_net, StandAbove, IsCycleFrom, ComesTo, IsCycleBelow}
 use Rattle.channel_route.specs.Told.{IsFirstStuck, IsStep, IsTold}
-
--- of two elements of a list in order one stands before the other, or they are one
-either : {X : Type 0} (R : X → X → Type 0) (xs : List X) (a b : X) → AllPairs R xs → Contains xs a → Contains xs b → (a ≡ b) ⊎ (R a b ⊎ R b a)
-either {X} R xs a b h (k, sk, ek) (j, sj, ej) =
-    elim (cases_order k j) [
-      | inl same ↦ inl (one same)
-      | inr other ↦ elim other [
-        | inl less ↦ inr (inl (joined R ek there (h k j a less sj)))
-        | inr more ↦ inr (inr (joined R there ek (h j k a more sk)))
-      ]
-    ]
-  where
-    there : get_or xs j a ≡ b
-    there = subst (λ z. z ≡ b) (get_or_default xs j b a sj) ej
-
-    one : k ≡ j → a ≡ b
-    one same = subst (λ z. z ≡ b) (subst (λ i. get_or xs i a ≡ a) same ek) there
-
-    joined : (R : X → X → Type 0) {x y u v : X} → x ≡ u → y ≡ v → R x y → R u v
-    joined R {x} {y} {u} {v} e f r = subst (λ z. R u z) f (subst (λ z. R z y) e r)
+use Rattle.channel_route.proofs.OneRouting.{either}
 
 same_lower : (p : Placement) → IsPlacement p → (a b : NodePlace) → Contains p.nodes a → Contains p.nodes b → a.line ≡ b.line → a.row ≡ N → b.row ≡ N → a.net ≡ b.net
 same_lower p is a b ha hb line ra rb =
