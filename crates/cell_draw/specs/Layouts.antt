@@ -130,6 +130,10 @@ tag_of pins f nodes trunks xs gates net =
 abbrev pub net_no : ℕ → NetNo
 net_no n = record { 0 = n }
 
+-- in order of net
+abbrev pub tags_of : Pins → Frame → ℕ → List NodePlace → List Trunk → List ℕ → List Gate → List Tag
+tags_of pins f nets nodes trunks xs gates = filter_map (λ n. tag_of pins f nodes trunks xs gates (net_no n)) (range_with_len 0 nets)
+
 abbrev pub gates_on : Frame → List Trunk → List ℕ → List Seat → List Gate
 gates_on f trunks xs seats = filter_map (gate_at f trunks xs) seats
 
@@ -142,7 +146,7 @@ laid_out f nets pins placement trunks xs = record {
   contacts = filter_map (contact_of f pins trunks xs) placement.nodes;
   gates = gates_on f trunks xs (seats_of placement.row);
   bars = map (bar_of f placement.nodes xs) trunks;
-  tags = filter_map (λ n. tag_of pins f placement.nodes trunks xs (gates_on f trunks xs (seats_of placement.row)) (net_no n)) (range_with_len 0 nets);
+  tags = tags_of pins f nets placement.nodes trunks xs (gates_on f trunks xs (seats_of placement.row));
 }
 
 -- the layout of a routed row, on lines at these places and in a cell of this height

@@ -2,7 +2,6 @@
 
 ghost use Rattle.std.specs.Prelude.{◌≡◌, ◌≤◌, ◌<◌, ◌+◌, ◌*◌, All, IfOk, IfErr, length};
 ghost use Rattle.row_place.specs.Places.{IsPlacement};
-ghost use Rattle.row_place.specs.Trunks.{HasPins};
 ghost use Rattle.channel_route.specs.Routing.{IsLegal};
 ghost use Rattle.row_compact.specs.Allowed.{AreAllowed, stretches_of};
 ghost use Rattle.row_compact.specs.Solution.{x_of as x_at};
@@ -120,7 +119,6 @@ pub fn draw(
     height: u32,
 ) -> Result<Drawing, DrawFault>
     requires placement { IsPlacement placement.now }
-    requires pins { HasPins placement.now pins.now }
     requires row { IsSoundRow names.now pins.now placement.now.row }
     requires routing { IsLegal placement.now pins.now routing.now }
     requires lines { AreAllowed placement.now pins.now (stretches_of routing.now.trunks) xs.now }

@@ -1,11 +1,10 @@
 // The distances that a routed row asks for.
 
-ghost use Rattle.std.specs.Prelude.{◌≡◌, ◌≤◌, ◌+◌, ◌*◌, ◌++◌, ◌↔◌, ℕ, All, List as Sequence, IfOk, OnOk, filter_map, length};
+ghost use Rattle.std.specs.Prelude.{◌≡◌, ◌≤◌, ◌+◌, ◌*◌, ◌++◌, All, IfOk, OnOk, filter_map, length};
 ghost use Rattle.row_place.specs.Places.{IsPlacement};
-ghost use Rattle.row_place.specs.Trunks.{HasPins};
 ghost use Rattle.channel_route.specs.Routing.{IsLegal};
-ghost use Rattle.row_compact.specs.Solution.{IsEntry, IsSolution};
-ghost use Rattle.row_compact.specs.Allowed.{AreAllowed, stretches_of};
+ghost use Rattle.row_compact.specs.Solution.{IsEntry};
+ghost use Rattle.row_compact.specs.Allowed.{AreDistances, stretches_of};
 ghost use Rattle.row_compact.specs.Entries.{is_rail, has_trunk, is_contacted, is_wide, least_in, two_entries, units_from, pair_entry, pairs_of, entries_of};
 
 use crate::{Distance, DistanceList, Distances};
@@ -150,9 +149,8 @@ pub fn distances(
     pins: &Pins,
 ) -> Result<Distances, NoMemory>
     requires placement { IsPlacement placement.now }
-    requires pins { HasPins placement.now pins.now }
     requires routing { IsLegal placement.now pins.now routing.now }
-    ensures solutions { IfOk result (λ d. (xs : Sequence ℕ) → IsSolution d xs ↔ AreAllowed placement.now pins.now (stretches_of routing.now.trunks) xs) }
+    ensures solutions { IfOk result (AreDistances placement.now pins.now (stretches_of routing.now.trunks)) }
     ensures lines { IfOk result (λ d. d.lines ≡ 2 * length placement.now.units + 1) }
     ensures few { IfOk result (λ d. d.lines ≤ 127) }
     ensures ascending { IfOk result (λ d. All (IsEntry d.lines) d.list) }
