@@ -1,6 +1,6 @@
 -- The bars of a layout, their vias, and the gates that meet them.
-use Rattle.std.proofs.Common.{ℕ, ◌≡◌, ◌≢◌, ◌+◌, ◌*◌, ◌==◌, ◌&&◌, ◌<◌, ◌≤◌, Bool, true, false, List, [], ◌∷◌, ◌++◌, Option, Some, None, inl, inr, ◌⊎◌, refl, sym, ap, subst, ◌∙◌, arith, Contains, map, option_map, filter_map, length}
-use Rattle.std.specs.List.{All, filter}
+use Rattle.std.proofs.Common.{ℕ, ◌≡◌, ◌+◌, ◌==◌, ◌&&◌, ◌<◌, ◌≤◌, Bool, true, false, List, [], ◌∷◌, Some, inl, inr, ◌⊎◌, refl, sym, ap, subst, ◌∙◌, arith, Contains, map}
+use Rattle.std.specs.List.{filter}
 use Rattle.std.proofs.lemmas.Bool.{cases_order, and_parts}
 use Rattle.std.proofs.lemmas.List.Elements.{Contains-append_left, Contains-append_right}
 use Rattle.cell_num.specs.declared.net.NetNo.{NetNo}
@@ -8,7 +8,7 @@ use Rattle.cell_num.specs.declared.net.Pins.{Pins}
 use Rattle.cell_num.specs.declared.finger.Row.{Row}
 use Rattle.cell_num.specs.declared.finger.Row.TheVariants.{P, N}
 use Rattle.cell_num.specs.Pins.{IsRail}
-use Rattle.cell_num.proofs.Lists.{some_same, contains_none, contains_cons, contains_here, contains_there, contains_filter_map}
+use Rattle.cell_num.proofs.Lists.{contains_none, contains_cons, contains_here, contains_there, contains_filter_map}
 use Rattle.cell_num.proofs.In.{Image, in_map, contains_map}
 use Rattle.row_model.proofs.Decide.{net_decides}
 use Rattle.row_place.specs.declared.placement.NodePlace.{NodePlace}
@@ -22,17 +22,16 @@ use Rattle.channel_route.specs.declared.routing.Trunk.{Trunk}
 use Rattle.channel_route.specs.declared.routing.Routing.{Routing}
 use Rattle.channel_route.specs.Routing.{IsLegal}
 use Rattle.row_compact.specs.Solution.{x_of}
-use Rattle.row_compact.specs.Allowed.{stretch_of, stretches_of}
+use Rattle.row_compact.specs.Allowed.{stretch_of}
 use Rattle.row_compact.proofs.Decide.{rail_decides}
 use Rattle.cell_draw.specs.declared.layout.Frame.{Frame}
-use Rattle.cell_draw.specs.declared.layout.Contact.{Contact}
 use Rattle.cell_draw.specs.declared.layout.Gate.{Gate}
 use Rattle.cell_draw.specs.declared.layout.Bar.{Bar}
-use Rattle.cell_draw.specs.declared.layout.Layout.{Layout}
 use Rattle.cell_draw.specs.Frame.{track_y}
-use Rattle.cell_draw.specs.Laid.{IsTrack, AreFar, AreBars, IsOnBar, GoesTo, IsMet}
-use Rattle.cell_draw.specs.Layouts.{trunk_of, reach_of, is_rail, contact_with, contact_of, has_own_via, vias_of, bar_of, laid_out}
-use Rattle.cell_draw.proofs.BridgeFrom.{ReachFrom, reach_from, GateFrom, gate_from}
+use Rattle.cell_draw.specs.Laid.{IsTrack, AreBars, IsOnBar, GoesTo, IsMet}
+use Rattle.row_compact.specs.Entries.{is_rail}
+use Rattle.cell_draw.specs.Layouts.{trunk_of, contact_with, contact_of, has_own_via, vias_of, bar_of, laid_out}
+use Rattle.cell_draw.proofs.BridgeFrom.{ReachFrom, reach_from, GateFrom}
 use Rattle.cell_draw.proofs.BridgeTracks.{IsRouted, two_nets, one_trunk, has_trunk, trunk_is, on_track, span_of, Between, between}
 
 -- an element that passes a test

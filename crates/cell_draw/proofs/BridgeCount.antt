@@ -1,19 +1,18 @@
 -- How many tracks and shapes a drawn row has.
-use Rattle.std.proofs.Common.{ℕ, zero, suc, ◌≡◌, ◌+◌, ◌*◌, ◌==◌, ◌&&◌, ◌<◌, ◌≤◌, Bool, true, false, cond, List, [], ◌∷◌, ◌++◌, Option, Some, None, inl, inr, ◌⊎◌, refl, sym, ap, subst, ◌∙◌, arith, All, AllPairs, Contains, map, filter_map, flat_map, length}
+use Rattle.std.proofs.Common.{ℕ, zero, suc, ◌≡◌, ◌+◌, ◌*◌, ◌==◌, ◌&&◌, ◌<◌, ◌≤◌, Bool, true, false, cond, List, [], ◌∷◌, ◌++◌, Option, Some, None, inl, inr, refl, sym, ap, subst, arith, All, AllPairs, Contains, map, filter_map, flat_map, length}
 use Rattle.std.specs.List.{filter, cons_option}
 use Rattle.std.proofs.lemmas.Bool.{cases_Bool, and_parts, eqb-true}
 use Rattle.std.proofs.lemmas.List.{length-append}
 use Rattle.std.proofs.lemmas.List.Elements.{All-contains, All-head, All-tail, Contains-append_left, Contains-append_right, Contains-append_cases}
 use Rattle.cell_num.specs.declared.net.NetNo.{NetNo}
 use Rattle.cell_num.specs.declared.net.Pins.{Pins}
-use Rattle.cell_num.proofs.Lists.{contains_none, contains_cons, contains_here, contains_there, contains_get, all_from_contains}
-use Rattle.cell_num.proofs.In.{Image, in_map}
+use Rattle.cell_num.proofs.Lists.{contains_none, contains_cons, contains_get, all_from_contains}
+use Rattle.cell_num.proofs.In.{in_map}
 use Rattle.cell_num.proofs.Pairs.{Some', some_from_any, pairs_head, pairs_tail}
 use Rattle.cell_num.proofs.Permutations.{Split, split_cons}
 use Rattle.row_model.specs.declared.column.Column.{Column}
 use Rattle.row_model.specs.declared.column.Placed.{Placed}
 use Rattle.row_model.specs.Gaps.{left_net, right_net}
-use Rattle.row_model.proofs.Decide.{net_decides}
 use Rattle.row_place.specs.declared.placement.NodePlace.{NodePlace}
 use Rattle.row_place.specs.declared.placement.GatePlace.{GatePlace}
 use Rattle.row_place.specs.declared.placement.Placement.{Placement}
@@ -28,18 +27,17 @@ use Rattle.channel_route.specs.declared.routing.Routing.{Routing}
 use Rattle.channel_route.specs.Routing.{IsLegal}
 use Rattle.box_geom.specs.declared.shape.Shape.{Shape}
 use Rattle.cell_draw.specs.declared.layout.Frame.{Frame}
-use Rattle.cell_draw.specs.declared.layout.Strip.{Strip}
 use Rattle.cell_draw.specs.declared.layout.Contact.{Contact}
 use Rattle.cell_draw.specs.declared.layout.Gate.{Gate}
 use Rattle.cell_draw.specs.declared.layout.Bar.{Bar}
 use Rattle.cell_num.specs.declared.finger.Row.TheVariants.{P, N}
 use Rattle.row_compact.specs.Solution.{x_of}
 use Rattle.cell_draw.specs.Shapes.{frame_shapes, finger, reach_shapes, contact_shapes, pad_shapes, gate_shapes, via_shapes, bar_shapes, shapes_of}
-use Rattle.cell_draw.specs.Layouts.{strip_of, strips_at, contact_of, gate_at, gates_on, has_own_via, vias_of, bar_of, width_of, laid_out, layout_of}
+use Rattle.cell_draw.specs.Layouts.{strip_of, strips_at, contact_of, gate_at, has_own_via, bar_of, width_of, laid_out, layout_of}
 use Rattle.cell_draw.specs.Frame.{frame_of}
 use Rattle.cell_draw.specs.Sound.{IsSoundRow}
 use Rattle.cell_draw.proofs.BridgeRow.{net_named}
-use Rattle.cell_draw.proofs.BridgeBars.{Passed, filtered}
+use Rattle.cell_draw.proofs.BridgeBars.{filtered}
 
 split_there : {X : Type 0} (xs : List X) (x : X) → Contains xs x → Split x xs
 split_there [] x c = absurd (contains_none x c)

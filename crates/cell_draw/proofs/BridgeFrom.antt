@@ -1,5 +1,5 @@
 -- Where each element of a layout comes from.
-use Rattle.std.proofs.Common.{ℕ, ◌≡◌, ◌+◌, ◌*◌, ◌==◌, Bool, true, false, if◌then◌else◌, List, [], ◌∷◌, ◌++◌, Option, Some, None, inl, inr, refl, sym, ap, subst, ◌∙◌, Contains, find, map, filter_map, flat_map, option_map, slice_get}
+use Rattle.std.proofs.Common.{ℕ, ◌≡◌, ◌+◌, ◌*◌, ◌==◌, Bool, true, false, if◌then◌else◌, List, Option, Some, None, inl, inr, refl, sym, ap, subst, ◌∙◌, Contains, filter_map, flat_map, option_map, slice_get}
 use Rattle.std.proofs.lemmas.List.Elements.{Contains-append_cases}
 use Rattle.cell_num.specs.declared.net.NetNo.{NetNo}
 use Rattle.cell_num.specs.declared.net.Pins.{Pins}
@@ -32,7 +32,8 @@ use Rattle.cell_draw.specs.declared.layout.Gate.{Gate}
 use Rattle.cell_draw.specs.Frame.{track_y, height_of}
 use Rattle.cell_draw.specs.Laid.{IsFrame}
 use Rattle.cell_draw.specs.Sound.{IsSoundRow}
-use Rattle.cell_draw.specs.Layouts.{strip_of, strips_at, trunk_of, reach_of, is_rail, contact_with, contact_of, finger_width, gate_with, gate_at, gates_on, width_of}
+use Rattle.row_compact.specs.Entries.{is_rail}
+use Rattle.cell_draw.specs.Layouts.{strip_of, strips_at, trunk_of, reach_of, contact_with, contact_of, finger_width, gate_with, gate_at, gates_on, width_of}
 use Rattle.cell_draw.proofs.Found.{found_all, found_is}
 
 -- a strip is a finger of a column

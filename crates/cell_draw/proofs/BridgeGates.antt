@@ -1,24 +1,21 @@
 -- The fields of IsLaid on gates.
-use Rattle.std.proofs.Common.{ℕ, ◌≡◌, ◌+◌, ◌*◌, ◌<◌, ◌≤◌, ◌⊎◌, List, Option, Some, None, length, inl, inr, refl, sym, ap, subst, ◌∙◌, arith, All, Contains, slice_get, option_map}
+use Rattle.std.proofs.Common.{ℕ, ◌≡◌, ◌+◌, ◌*◌, ◌<◌, ◌≤◌, ◌⊎◌, List, Option, Some, None, length, inl, inr, refl, sym, ap, subst, ◌∙◌, arith, All, Contains, slice_get}
 use Rattle.std.proofs.lemmas.Bool.{cases_eq, cases_lt}
 use Rattle.std.proofs.lemmas.List.Elements.{All-contains}
 use Rattle.cell_num.specs.declared.net.NetNo.{NetNo}
 use Rattle.cell_num.specs.declared.net.Pins.{Pins}
-use Rattle.cell_num.specs.Pins.{IsRail}
 use Rattle.cell_num.specs.declared.finger.Row.{Row}
 use Rattle.cell_num.specs.declared.finger.Row.TheVariants.{P, N}
 use Rattle.cell_num.proofs.Lists.{some_same, contains_get}
 use Rattle.row_model.specs.declared.column.Placed.{Placed}
 use Rattle.row_model.specs.declared.column.Column.{Column}
 use Rattle.row_model.specs.Arrangement.{place}
-use Rattle.row_place.specs.declared.placement.NodePlace.{NodePlace}
 use Rattle.row_place.specs.declared.placement.Placement.{Placement}
-use Rattle.row_place.specs.declared.placement.Seat.{Seat}
 use Rattle.row_place.specs.declared.placement.UnitKind.TheVariants.{Column as ColumnUnit}
 use Rattle.row_place.specs.Places.{IsPlacement}
 use Rattle.row_place.specs.Steps.{gate_in}
-use Rattle.row_place.specs.Trunks.{IsContacted, HasTrunk}
-use Rattle.row_place.specs.Units.{units_of, unit_of}
+use Rattle.row_place.specs.Trunks.{IsContacted}
+use Rattle.row_place.specs.Units.{unit_of}
 use Rattle.row_place.proofs.Apart.{even_node}
 use Rattle.row_place.proofs.Bounds.{node_line}
 use Rattle.row_place.proofs.Units.{same_seat}
@@ -34,13 +31,14 @@ use Rattle.cell_draw.specs.declared.layout.Contact.{Contact}
 use Rattle.cell_draw.specs.declared.layout.Gate.{Gate}
 use Rattle.cell_draw.specs.Frame.{height_of}
 use Rattle.cell_draw.specs.Laid.{width_in, AreFar, IsWidth, HasFinger, IsGate, Crosses}
-use Rattle.cell_draw.specs.Layouts.{width_of, is_rail, finger_width, gate_at}
+use Rattle.row_compact.proofs.Decide.{rail_decides}
+use Rattle.cell_draw.specs.Layouts.{width_of, finger_width, gate_at}
 use Rattle.cell_draw.specs.Small.{IsFingerWidth, HasWidths}
 use Rattle.cell_draw.specs.Sound.{AreLines}
 use Rattle.cell_draw.proofs.BridgeLines.{behind, units_rise, column_unit}
 use Rattle.cell_draw.proofs.BridgeRow.{height_holds}
-use Rattle.cell_draw.proofs.BridgeFrom.{StripFrom, ContactFrom, Kind, rail, signal, GateFrom, ReachFrom, reach_from, TrunkFrom}
-use Rattle.cell_draw.proofs.BridgePlaces.{unit_last, inside, rail_decides}
+use Rattle.cell_draw.proofs.BridgeFrom.{StripFrom, ContactFrom, Kind, rail, signal, GateFrom, ReachFrom, reach_from}
+use Rattle.cell_draw.proofs.BridgePlaces.{unit_last, inside}
 
 -- where a row has a finger of a column its width is one of a finger
 gate_width : (o : Option Placed) (height : ℕ) → IsFingerWidth o → ((x : Placed) → o ≡ Some x → x.finger.width ≤ height) → IsWidth height (finger_width o)

@@ -7,7 +7,6 @@ use Rattle.cell_num.proofs.Lists.{some_same, contains_none, contains_cons}
 use Rattle.cell_num.proofs.Pairs.{pairs_at}
 use Rattle.row_model.specs.declared.column.Column.{Column}
 use Rattle.row_place.specs.declared.placement.Placement.{Placement}
-use Rattle.row_place.specs.declared.placement.UnitKind.{UnitKind}
 use Rattle.row_place.specs.declared.placement.UnitKind.TheVariants.{Column as ColumnUnit}
 use Rattle.row_place.specs.Units.{gap_between, units_behind, units_of, unit_of}
 use Rattle.row_place.proofs.Seated.{unit_next}

@@ -1,8 +1,6 @@
 -- The fields of IsLaid on fingers and contacts.
-use Rattle.std.proofs.Common.{ℕ, ◌≡◌, ◌+◌, ◌*◌, ◌-◌, ◌<◌, ◌≤◌, ◌==◌, ◌⊎◌, ◌∷◌, Bool, true, false, if◌then◌else◌, List, Option, Some, None, length, inl, inr, refl, sym, ap, subst, ◌∙◌, arith, All, Contains, slice_get}
-use Rattle.std.specs.Bool.{Decides}
+use Rattle.std.proofs.Common.{ℕ, ◌≡◌, ◌+◌, ◌*◌, ◌<◌, ◌≤◌, ◌⊎◌, Bool, true, false, if◌then◌else◌, List, Option, Some, None, length, inl, inr, refl, sym, ap, subst, ◌∙◌, arith, All, Contains, slice_get}
 use Rattle.std.proofs.lemmas.Bool.{cases_eq, cases_lt}
-use Rattle.std.proofs.lemmas.Bool.Decides.{Decides-or}
 use Rattle.std.proofs.lemmas.List.Elements.{All-contains}
 use Rattle.cell_num.specs.declared.net.NetNo.{NetNo}
 use Rattle.cell_num.specs.declared.net.Pins.{Pins}
@@ -10,8 +8,7 @@ use Rattle.cell_num.specs.Pins.{IsRail}
 use Rattle.cell_num.specs.Fingers.{HasNoEnd}
 use Rattle.cell_num.specs.declared.finger.Row.{Row}
 use Rattle.cell_num.specs.declared.finger.Row.TheVariants.{P, N}
-use Rattle.cell_num.proofs.Lists.{some_same, contains_get, all_from_contains}
-use Rattle.row_model.proofs.Decide.{net_decides}
+use Rattle.cell_num.proofs.Lists.{some_same, contains_get}
 use Rattle.row_model.specs.declared.column.Placed.{Placed}
 use Rattle.row_model.specs.declared.column.Column.{Column}
 use Rattle.row_model.specs.Arrangement.{place}
@@ -19,20 +16,20 @@ use Rattle.row_model.specs.Gaps.{left_net, right_net}
 use Rattle.row_place.specs.declared.placement.NodePlace.{NodePlace}
 use Rattle.row_place.specs.declared.placement.Placement.{Placement}
 use Rattle.row_place.specs.Places.{IsNode, IsPlacement, StandsBefore}
-use Rattle.row_place.specs.Units.{units_of, unit_of}
+use Rattle.row_place.specs.Units.{unit_of}
 use Rattle.row_place.proofs.Apart.{even_node, nodes_apart}
 use Rattle.row_place.proofs.Bounds.{node_line}
 use Rattle.row_place.proofs.Units.{unit_below}
 use Rattle.channel_route.specs.declared.routing.Routing.{Routing}
 use Rattle.row_compact.specs.Solution.{x_of}
-use Rattle.row_compact.specs.Allowed.{AreAllowed}
 use Rattle.cell_draw.specs.declared.layout.Frame.{Frame}
 use Rattle.cell_draw.specs.declared.layout.Strip.{Strip}
 use Rattle.cell_draw.specs.declared.layout.Contact.{Contact}
 use Rattle.cell_draw.specs.declared.layout.Layout.{Layout}
 use Rattle.cell_draw.specs.Frame.{height_of}
 use Rattle.cell_draw.specs.Laid.{IsInside, row_height, rail_in, AreFar, IsStrip, Follows, MeetsEnd}
-use Rattle.cell_draw.specs.Layouts.{width_of, is_rail, contact_of, reach_of, laid_out}
+use Rattle.row_compact.proofs.Decide.{rail_decides}
+use Rattle.cell_draw.specs.Layouts.{width_of, contact_of}
 use Rattle.cell_draw.specs.Small.{IsFingerWidth, HasWidths}
 use Rattle.cell_draw.specs.Sound.{IsSoundRow, AreLines}
 use Rattle.cell_draw.proofs.Sizes.{width_in}
@@ -178,9 +175,6 @@ not_other names pins p is sound node there same =
       | inl lo ↦ none.0 (sym lo ∙ same)
       | inr hi ↦ none.1 (sym hi ∙ same)
     ]
-
-pub rail_decides : (pins : Pins) (net : NetNo) → Decides (is_rail pins net) (IsRail pins net)
-rail_decides pins net = Decides-or (net.0 == pins.vdd.0) (net.0 == pins.gnd.0) (net_decides net pins.vdd) (net_decides net pins.gnd)
 
 -- a rail in a row is the row's own
 pub own_rail : (l : Layout) (pins : Pins) → l.gnd ≡ pins.gnd → l.vdd ≡ pins.vdd → (side : Row) (net : NetNo) → IsRail pins net → (net ≡ other_rail side pins → ⊥) → net ≡ rail_in side l

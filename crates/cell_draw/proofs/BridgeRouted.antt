@@ -1,5 +1,5 @@
 -- What the routing gives of a layout that is drawn: reaches, pads, bars and vias.
-use Rattle.std.proofs.Common.{ℕ, ◌≡◌, ◌≤◌, List, Option, Some, Contains}
+use Rattle.std.proofs.Common.{ℕ, ◌≡◌, ◌≤◌, List, Some, Contains}
 use Rattle.cell_num.specs.declared.net.Pins.{Pins}
 use Rattle.cell_num.specs.declared.finger.Row.TheVariants.{P, N}
 use Rattle.row_place.specs.declared.placement.Placement.{Placement}

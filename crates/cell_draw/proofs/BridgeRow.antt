@@ -1,5 +1,5 @@
 -- What sound fingers give of a row: widths, gates that are signals, ends on the right rail.
-use Rattle.std.proofs.Common.{ℕ, ◌≡◌, ◌+◌, ◌≤◌, ◌<◌, List, [], ◌∷◌, Option, Some, None, max, fold, length, inl, inr, refl, sym, ap, subst, ◌∙◌, arith, All, Contains, filter_map, option_map}
+use Rattle.std.proofs.Common.{ℕ, ◌≡◌, ◌≤◌, ◌<◌, List, [], ◌∷◌, Option, Some, None, fold, inl, inr, refl, ap, ◌∙◌, arith, All, Contains, option_map}
 use Rattle.std.proofs.lemmas.List.Elements.{All-contains}
 use Rattle.std.proofs.lemmas.List.Sorted.{Contains-permutation, IsPermutation-sym}
 use Rattle.std.proofs.Math.Nat.{le-max_left, le-max_right}

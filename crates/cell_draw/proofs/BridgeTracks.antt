@@ -1,19 +1,15 @@
 -- What a legal routing on allowed lines gives: the trunks of nets, their tracks and their lines.
-use Rattle.std.proofs.Common.{ℕ, ◌≡◌, ◌≢◌, ◌+◌, ◌*◌, ◌==◌, ◌<◌, ◌≤◌, Bool, true, false, List, [], ◌∷◌, ◌++◌, Option, Some, None, inl, inr, ◌⊎◌, refl, sym, ap, subst, ◌∙◌, arith, Contains, find, map, option_map, length}
-use Rattle.std.specs.List.{All, filter}
+use Rattle.std.proofs.Common.{ℕ, ◌≡◌, ◌≢◌, ◌*◌, ◌==◌, ◌<◌, ◌≤◌, Bool, true, false, List, [], ◌∷◌, Option, Some, None, inl, inr, ◌⊎◌, refl, sym, ap, subst, ◌∙◌, arith, Contains, find, length}
 use Rattle.std.proofs.lemmas.Bool.{cases_eq, eq-eqb}
-use Rattle.std.proofs.lemmas.List.Elements.{All-contains, Contains-append_left, Contains-append_right}
+use Rattle.std.proofs.lemmas.List.Elements.{All-contains}
 use Rattle.cell_num.specs.declared.net.NetNo.{NetNo}
 use Rattle.cell_num.specs.declared.net.Pins.{Pins}
 use Rattle.cell_num.specs.declared.finger.Row.{Row}
 use Rattle.cell_num.specs.declared.finger.Row.TheVariants.{P, N}
-use Rattle.cell_num.specs.Pins.{IsRail}
-use Rattle.cell_num.proofs.Lists.{some_same, contains_none, contains_cons, contains_here, contains_there}
-use Rattle.cell_num.proofs.In.{contains_map}
+use Rattle.cell_num.proofs.Lists.{contains_none, contains_cons}
 use Rattle.cell_num.proofs.Pairs.{any_at}
 use Rattle.row_model.proofs.Decide.{net_decides}
 use Rattle.row_place.specs.declared.placement.NodePlace.{NodePlace}
-use Rattle.row_place.specs.declared.placement.GatePlace.{GatePlace}
 use Rattle.row_place.specs.declared.placement.Placement.{Placement}
 use Rattle.row_place.specs.Places.{IsPlacement}
 use Rattle.row_place.specs.Trunks.{lines_of, HasTrunk, IsSpan, IsAbove}
@@ -22,16 +18,16 @@ use Rattle.channel_route.specs.declared.routing.Trunk.{Trunk}
 use Rattle.channel_route.specs.declared.routing.Routing.{Routing}
 use Rattle.channel_route.specs.Routing.{IsLegal}
 use Rattle.row_compact.specs.Solution.{x_of}
-use Rattle.row_compact.specs.Allowed.{stretch_of, stretches_of, AreAllowed}
-use Rattle.row_compact.proofs.Within.{trunk_line, net_line}
+use Rattle.row_compact.specs.Allowed.{stretches_of, AreAllowed}
+use Rattle.row_compact.proofs.Within.{trunk_line}
 use Rattle.cell_draw.specs.declared.layout.Frame.{Frame}
 use Rattle.cell_draw.specs.declared.layout.Contact.{Contact}
 use Rattle.cell_draw.specs.Frame.{track_y}
 use Rattle.cell_draw.specs.Laid.{IsTrack, KeepClear}
-use Rattle.cell_draw.specs.Layouts.{trunk_of, reach_of, contact_of}
+use Rattle.cell_draw.specs.Layouts.{trunk_of}
 use Rattle.cell_draw.specs.Sound.{AreLines}
 use Rattle.cell_draw.proofs.BridgeLines.{behind, same_line, one_in_order}
-use Rattle.cell_draw.proofs.BridgeFrom.{TrunkFrom, trunk_from, ReachFrom, reach_from, Kind, rail, signal, ContactFrom, contact_from}
+use Rattle.cell_draw.proofs.BridgeFrom.{TrunkFrom, trunk_from, ReachFrom, reach_from, Kind, rail, signal, ContactFrom}
 
 -- a routed placement on lines that it allows
 pub record IsRouted (p : Placement) (pins : Pins) (r : Routing) (xs : List ℕ) : Type 0 where

@@ -1,27 +1,23 @@
 -- A routed row on allowed lines is laid as the rules ask.
-use Rattle.std.proofs.Common.{ℕ, ◌≡◌, ◌+◌, ◌*◌, ◌-◌, ◌<◌, ◌≤◌, ◌⊎◌, List, [], Option, Some, None, length, inl, inr, refl, sym, ap, subst, ◌∙◌, arith, All, Contains}
+use Rattle.std.proofs.Common.{ℕ, ◌≡◌, ◌*◌, List, [], length, refl, arith, All, Contains}
 use Rattle.cell_num.specs.declared.net.Pins.{Pins}
 use Rattle.cell_num.specs.declared.finger.Row.TheVariants.{P, N}
 use Rattle.cell_num.proofs.Lists.{contains_none, all_from_contains}
-use Rattle.row_model.specs.declared.column.Column.{Column}
 use Rattle.row_place.specs.declared.placement.Placement.{Placement}
 use Rattle.row_place.specs.Places.{IsPlacement}
 use Rattle.channel_route.specs.declared.routing.Routing.{Routing}
-use Rattle.channel_route.specs.Routing.{IsLegal}
 use Rattle.row_compact.specs.Allowed.{AreAllowed, stretches_of}
 use Rattle.cell_draw.specs.declared.layout.Frame.{Frame}
-use Rattle.cell_draw.specs.declared.layout.Strip.{Strip}
 use Rattle.cell_draw.specs.declared.layout.Contact.{Contact}
 use Rattle.cell_draw.specs.declared.layout.Gate.{Gate}
-use Rattle.cell_draw.specs.declared.layout.Bar.{Bar}
 use Rattle.cell_draw.specs.Drawings.{base_of}
-use Rattle.cell_draw.specs.Frame.{height_of, channel_of, needed_of, frame_of}
+use Rattle.cell_draw.specs.Frame.{height_of, frame_of}
 use Rattle.cell_draw.specs.Laid.{IsFrame, IsInside, IsStrip, IsGate, IsLaid}
 use Rattle.cell_draw.specs.Layouts.{width_of, laid_out}
 use Rattle.cell_draw.specs.Small.{HasWidths}
-use Rattle.cell_draw.specs.Sound.{IsSoundRow, AreLines}
+use Rattle.cell_draw.specs.Sound.{AreLines}
 use Rattle.cell_draw.proofs.BridgeRouted.{reaches, clear, pads, bars, bar_spread, vias}
-use Rattle.cell_draw.proofs.BridgeFrom.{IsDrawn, StripFrom, strip_from, ContactFrom, contact_from, GateFrom, gate_from}
+use Rattle.cell_draw.proofs.BridgeFrom.{IsDrawn, strip_from, ContactFrom, contact_from, GateFrom, gate_from}
 use Rattle.cell_draw.proofs.BridgeGates.{gate_is, gate_spread, beside, over}
 use Rattle.cell_draw.proofs.BridgeLines.{after_first}
 use Rattle.cell_draw.proofs.BridgePlaces.{strip_is, ordered, inside, spread, single, rails, ends, node_last}

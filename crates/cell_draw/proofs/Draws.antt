@@ -1,5 +1,5 @@
 -- What the calls say of what they draw.
-use Rattle.std.proofs.Common.{ℕ, ◌≡◌, ◌+◌, ◌*◌, ◌≤◌, ◌<◌, List, [], length, refl, sym, ap, subst, arith, All, Contains, map}
+use Rattle.std.proofs.Common.{ℕ, ◌≡◌, ◌*◌, ◌≤◌, ◌<◌, List, length, refl, sym, subst, arith, All, map}
 use Rattle.std.proofs.lemmas.List.Elements.{All-contains, All-nil}
 use Rattle.box_geom.specs.declared.shape.Shape.{Shape}
 use Rattle.cell_num.specs.declared.net.Pins.{Pins}
@@ -21,17 +21,16 @@ use Rattle.cell_draw.specs.declared.layout.Gate.{Gate}
 use Rattle.cell_draw.specs.declared.layout.Layout.{Layout}
 use Rattle.cell_draw.specs.Drawings.{base_of}
 use Rattle.cell_draw.specs.Frame.{frame_of}
-use Rattle.cell_draw.specs.Laid.{IsInside, IsGate, IsLaid}
+use Rattle.cell_draw.specs.Laid.{IsGate, IsLaid}
 use Rattle.cell_draw.specs.Layouts.{width_of, bar_of, gates_on, laid_out, layout_of}
 use Rattle.cell_draw.specs.Shapes.{shapes_of}
 use Rattle.cell_draw.specs.Small.{IsSmallFrame, IsSmallTag, IsSmall, HasWidths}
 use Rattle.cell_draw.specs.Sound.{IsSoundRow, AreLines}
-use Rattle.cell_draw.proofs.BridgeCount.{few_tracks}
 use Rattle.cell_draw.proofs.BridgeFrom.{IsDrawn}
 use Rattle.cell_draw.proofs.BridgeLines.{x_most}
 use Rattle.cell_draw.proofs.BridgeWhole.{lines_of_allowed, frame_is, laid, base_laid}
 use Rattle.cell_draw.proofs.RulesWhole.{obeys}
-use Rattle.cell_draw.proofs.Smalls.{Lies, small, tags_small}
+use Rattle.cell_draw.proofs.Smalls.{small, tags_small}
 
 base_is : (pins : Pins) (p : Placement) (tracks height : ℕ) (xs : List ℕ) → IsPlacement p → AreLines p xs → All HasWidths p.row → IsLaid (base_of (frame_of p.row tracks height (width_of p xs)) pins p xs)
 base_is pins p tracks height xs is lines wide = base_laid pins p tracks xs (frame_of p.row tracks height (width_of p xs)) is lines wide (frame_is p tracks height xs lines) refl refl refl

@@ -1,5 +1,5 @@
 -- The layout of a routed row on its lines.
-use Rattle.std.specs.Prelude.{ℕ, ◌+◌, ◌*◌, ◌-◌, ◌==◌, ◌&&◌, ◌||◌, not, Bool, true, false, if◌then◌else◌, List, [], ◌∷◌, ◌++◌, map, filter, length, Option, Some, None, option_map, filter_map, find}
+use Rattle.std.specs.Prelude.{ℕ, ◌+◌, ◌*◌, ◌-◌, ◌==◌, ◌&&◌, not, Bool, true, false, if◌then◌else◌, List, [], ◌∷◌, ◌++◌, map, filter, length, Option, Some, None, option_map, filter_map, find}
 use Rattle.std.specs.List.{flat_map, list_any, range_with_len}
 use Rattle.cell_num.specs.declared.net.NetNo.{NetNo}
 use Rattle.cell_num.specs.declared.net.Pins.{Pins}
@@ -15,6 +15,7 @@ use Rattle.row_place.specs.Units.{seats_of}
 use Rattle.row_place.specs.Steps.{gate_of}
 use Rattle.channel_route.specs.declared.routing.Trunk.{Trunk}
 use Rattle.channel_route.specs.declared.routing.Routing.{Routing}
+use Rattle.row_compact.specs.Entries.{is_rail}
 use Rattle.row_compact.specs.Solution.{x_of}
 use Rattle.cell_draw.specs.declared.layout.Frame.{Frame}
 use Rattle.cell_draw.specs.declared.layout.Strip.{Strip}
@@ -44,9 +45,6 @@ trunk_of trunks net = find (λ t. t.net.0 == net.0) trunks
 -- the height of the track of a net's trunk
 abbrev pub reach_of : Frame → List Trunk → NetNo → Option ℕ
 reach_of f trunks net = option_map (λ t. track_y f t.track) (trunk_of trunks net)
-
-abbrev pub is_rail : Pins → NetNo → Bool
-is_rail pins net = (net.0 == pins.vdd.0) || (net.0 == pins.gnd.0)
 
 abbrev pub contact_with : List ℕ → NodePlace → Option ℕ → Contact
 contact_with xs node reach = record { row = node.row; x = x_of xs node.line; net = node.net; reach = reach }
@@ -132,6 +130,10 @@ tag_of pins f nodes trunks xs gates net =
 abbrev pub net_no : ℕ → NetNo
 net_no n = record { 0 = n }
 
+-- in order of net
+abbrev pub tags_of : Pins → Frame → ℕ → List NodePlace → List Trunk → List ℕ → List Gate → List Tag
+tags_of pins f nets nodes trunks xs gates = filter_map (λ n. tag_of pins f nodes trunks xs gates (net_no n)) (range_with_len 0 nets)
+
 abbrev pub gates_on : Frame → List Trunk → List ℕ → List Seat → List Gate
 gates_on f trunks xs seats = filter_map (gate_at f trunks xs) seats
 
@@ -144,7 +146,7 @@ laid_out f nets pins placement trunks xs = record {
   contacts = filter_map (contact_of f pins trunks xs) placement.nodes;
   gates = gates_on f trunks xs (seats_of placement.row);
   bars = map (bar_of f placement.nodes xs) trunks;
-  tags = filter_map (λ n. tag_of pins f placement.nodes trunks xs (gates_on f trunks xs (seats_of placement.row)) (net_no n)) (range_with_len 0 nets);
+  tags = tags_of pins f nets placement.nodes trunks xs (gates_on f trunks xs (seats_of placement.row));
 }
 
 -- the layout of a routed row, on lines at these places and in a cell of this height

@@ -1,5 +1,5 @@
 -- What keeps the coordinates of a layout in order and within their type.
-use Rattle.std.specs.Prelude.{ℕ, ◌≡◌, ◌+◌, ◌≤◌, ◌<◌, Option, Some, None, List}
+use Rattle.std.specs.Prelude.{ℕ, ◌≡◌, ◌+◌, ◌≤◌, ◌<◌, Option, Some, None}
 use Rattle.std.specs.List.{All}
 use Rattle.row_model.specs.declared.column.Placed.{Placed}
 use Rattle.row_model.specs.declared.column.Column.{Column}

@@ -2,7 +2,6 @@
 
 ghost use Rattle.std.specs.Prelude.{◌≡◌, ◌≤◌, ◌<◌, ◌+◌, ◌*◌, All, IfOk, IfErr, length};
 ghost use Rattle.row_place.specs.Places.{IsPlacement};
-ghost use Rattle.row_place.specs.Trunks.{HasPins};
 ghost use Rattle.channel_route.specs.Routing.{IsLegal};
 ghost use Rattle.row_compact.specs.Allowed.{AreAllowed, stretches_of};
 ghost use Rattle.row_compact.specs.Solution.{x_of as x_at};
@@ -19,13 +18,16 @@ use crate::frame::{frame, needed};
 use crate::groups::shapes;
 use crate::labels::labels;
 use crate::plan::{base, layout};
-use crate::{DrawFault, Drawing, Frame, Layout};
+use crate::{DrawFault, Drawing, Frame, Layout, MOST_HEIGHT, MOST_TRACKS, MOST_X};
 use box_geom::Shapes;
 use cell_num::{Name, Names, NoMemory, Pins};
 use channel_route::Routing;
 use row_compact::{LineXs, lines_of, x_of};
 use row_place::Placement;
 use std::alloc::Global;
+
+/// A drawing has fewer rectangles than this.
+pub const MOST_SHAPES: usize = 2_000;
 
 fn drawing(alloc: Global, names: &[Name], layout: &Layout) -> Result<Drawing, NoMemory>
     requires { IsSmall layout.now }
@@ -51,9 +53,9 @@ fn fitting_frame(
     requires placement { IsPlacement placement.now }
     requires widths { All HasWidths placement.now.row }
     requires lines { AreLines placement.now xs.now }
-    requires last { x_at xs.now (2 * length placement.now.units) ≤ 1000000 }
-    requires tracks { tracks ≤ 1000 }
-    requires height { height ≤ 4000 }
+    requires last { x_at xs.now (2 * length placement.now.units) ≤ MOST_X }
+    requires tracks { tracks ≤ MOST_TRACKS }
+    requires height { height ≤ MOST_HEIGHT }
     ensures exact { IfOk result (λ f. f ≡ frame_of placement.now.row tracks height (width_of placement.now xs.now)) }
     ensures small { IfOk result IsSmallFrame }
     ensures fits { IfOk result (λ f. IsTooTall placement.now.row tracks height → ⊥) }
@@ -86,8 +88,8 @@ fn drawn(
     requires row { IsSoundRow names.now pins.now placement.now.row }
     requires routing { IsLegal placement.now pins.now routing.now }
     requires lines { AreAllowed placement.now pins.now (stretches_of routing.now.trunks) xs.now }
-    requires last { x_at xs.now (2 * length placement.now.units) ≤ 1000000 }
-    requires height { height ≤ 4000 }
+    requires last { x_at xs.now (2 * length placement.now.units) ≤ MOST_X }
+    requires height { height ≤ MOST_HEIGHT }
     ensures exact { IfOk result (λ d. d ≡ drawn_of names.now pins.now placement.now routing.now xs.now height) }
     ensures fits { IfOk result (λ d. IsTooTall placement.now.row routing.now.tracks height → ⊥) }
     ensures tall { SaysTooTall placement.now.row routing.now.tracks height result }
@@ -120,17 +122,16 @@ pub fn draw(
     height: u32,
 ) -> Result<Drawing, DrawFault>
     requires placement { IsPlacement placement.now }
-    requires pins { HasPins placement.now pins.now }
     requires row { IsSoundRow names.now pins.now placement.now.row }
     requires routing { IsLegal placement.now pins.now routing.now }
     requires lines { AreAllowed placement.now pins.now (stretches_of routing.now.trunks) xs.now }
-    requires last { x_at xs.now (2 * length placement.now.units) ≤ 1000000 }
-    requires height { height ≤ 4000 }
+    requires last { x_at xs.now (2 * length placement.now.units) ≤ MOST_X }
+    requires height { height ≤ MOST_HEIGHT }
     ensures exact { IfOk result (λ d. d ≡ drawn_of names.now pins.now placement.now routing.now xs.now height) }
     ensures obeys { IfOk result (λ d. Obeys Plain d.shapes.rects) }
     ensures width { IfOk result (λ d. d.width ≡ x_at xs.now (2 * length placement.now.units) + 8) }
     ensures height { IfOk result (λ d. d.height ≡ height_given placement.now.row routing.now.tracks height) }
-    ensures few { IfOk result (λ d. length d.shapes.rects < 2000) }
+    ensures few { IfOk result (λ d. length d.shapes.rects < MOST_SHAPES) }
     ensures fits { IfOk result (λ d. IsTooTall placement.now.row routing.now.tracks height → ⊥) }
     ensures tall { SaysTooTall placement.now.row routing.now.tracks height result }
     ensures cause { IfErr result (IsCause placement.now.row routing.now.tracks height) }
@@ -153,9 +154,9 @@ fn base_drawn(
     requires placement { IsPlacement placement.now }
     requires widths { All HasWidths placement.now.row }
     requires lines { AreLines placement.now xs.now }
-    requires last { x_at xs.now (2 * length placement.now.units) ≤ 1000000 }
-    requires tracks { tracks ≤ 1000 }
-    requires height { height ≤ 4000 }
+    requires last { x_at xs.now (2 * length placement.now.units) ≤ MOST_X }
+    requires tracks { tracks ≤ MOST_TRACKS }
+    requires height { height ≤ MOST_HEIGHT }
     ensures exact { IfOk result (λ d. d ≡ base_drawn_of pins.now placement.now tracks xs.now height) }
     ensures fits { IfOk result (λ d. IsTooTall placement.now.row tracks height → ⊥) }
     ensures tall { SaysTooTall placement.now.row tracks height result }
@@ -179,9 +180,9 @@ pub fn draw_base(
     requires placement { IsPlacement placement.now }
     requires widths { All HasWidths placement.now.row }
     requires lines { AreLines placement.now xs.now }
-    requires last { x_at xs.now (2 * length placement.now.units) ≤ 1000000 }
-    requires tracks { tracks ≤ 1000 }
-    requires height { height ≤ 4000 }
+    requires last { x_at xs.now (2 * length placement.now.units) ≤ MOST_X }
+    requires tracks { tracks ≤ MOST_TRACKS }
+    requires height { height ≤ MOST_HEIGHT }
     ensures exact { IfOk result (λ d. d ≡ base_drawn_of pins.now placement.now tracks xs.now height) }
     ensures obeys { IfOk result (λ d. Obeys Plain d.shapes.rects) }
     ensures width { IfOk result (λ d. d.width ≡ x_at xs.now (2 * length placement.now.units) + 8) }

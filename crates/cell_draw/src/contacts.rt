@@ -2,7 +2,8 @@
 
 ghost use Rattle.std.specs.Prelude.{◌≡◌, ◌≤◌, ◌<◌, ◌==◌, ◌||◌, All, IfOk, filter_map};
 ghost use Rattle.std.specs.Option.{option_copied};
-ghost use Rattle.cell_draw.specs.Layouts.{trunk_of, reach_of, is_rail, contact_of};
+ghost use Rattle.cell_draw.specs.Layouts.{trunk_of, reach_of, contact_of};
+ghost use Rattle.row_compact.specs.Entries.{is_rail};
 ghost use Rattle.cell_draw.specs.Small.{IsSmallFrame};
 
 use crate::frame::track_y;
@@ -16,7 +17,7 @@ use std::alloc::Global;
 fn is_rail(pins: &Pins, net: NetNo) -> bool
     ensures { result ≡ is_rail pins.now net }
 {
-    net.0 == pins.vdd.0 || net.0 == pins.gnd.0
+    pins.is_rail(net)
 }
 
 pub fn trunk_of(trunks: &[Trunk], net: NetNo) -> Option<&Trunk>

@@ -10,6 +10,15 @@ use cell_num::Row;
 use row_model::{Column, Placed};
 use row_place::Placement;
 
+/// The greatest height of a cell that may be given, in grid units.
+pub const MOST_HEIGHT: u32 = 4_000;
+
+/// The most tracks of a cell.
+pub const MOST_TRACKS: u32 = 1_000;
+
+/// Where the last line of a cell may stand, in grid units.
+pub const MOST_X: u32 = 1_000_000;
+
 /// The channel edges of the N and of the P row, in grid units.
 #[derive(Clone, Copy, Debug, PartialEq, Eq)]
 pub struct Edges {
@@ -91,8 +100,8 @@ pub fn frame(columns: &[Column], tracks: u32, height: u32, width: u32) -> Frame
 /// The channel edges of a cell, whose height is 0 or enough.
 pub fn channel_edges(placement: &Placement, tracks: u32, height: u32) -> Edges
     requires widths { All HasWidths placement.now.row }
-    requires tracks { tracks ≤ 1000 }
-    requires height { height ≤ 4000 }
+    requires tracks { tracks ≤ MOST_TRACKS }
+    requires height { height ≤ MOST_HEIGHT }
     requires enough { IsTooTall placement.now.row tracks height → ⊥ }
     ensures n { result.n ≡ (frame_of placement.now.row tracks height 16).yn }
     ensures p { result.p ≡ (frame_of placement.now.row tracks height 16).yp }

@@ -4,7 +4,7 @@ ghost use Rattle.std.specs.Prelude.{◌≡◌, ◌≤◌, ◌+◌, ℕ, ◌==◌
 ghost use Rattle.std.specs.List.{range_with_len};
 ghost use Rattle.std.specs.Option.{option_copied};
 ghost use Rattle.cell_draw.specs.Drawings.{label_of};
-ghost use Rattle.cell_draw.specs.Layouts.{node_tag, gate_y, gate_tag, metal_tag, place_tag, net_tag, tag_of, net_no};
+ghost use Rattle.cell_draw.specs.Layouts.{node_tag, gate_y, gate_tag, metal_tag, place_tag, net_tag, tag_of, tags_of};
 ghost use Rattle.cell_draw.specs.Small.{IsSmallFrame, IsSmallTag};
 
 use crate::contacts::trunk_of;
@@ -162,7 +162,7 @@ pub fn tags(
 ) -> Result<List<Tag>, NoMemory>
     requires frame { IsSmallFrame frame.now }
     requires trunks { All (λ trunk. trunk.track ≤ 1000) trunks.now }
-    ensures { IfOk result (λ tags. tags ≡ filter_map (λ n. tag_of pins.now frame.now nodes.now trunks.now xs.now gates.now (net_no n)) (range_with_len 0 nets)) }
+    ensures { IfOk result (λ tags. tags ≡ tags_of pins.now frame.now nets nodes.now trunks.now xs.now gates.now) }
 {
     let mut tags = List::new(alloc);
     for net in 0..nets {

@@ -15,9 +15,9 @@ mod plan;
 mod row_shapes;
 mod shape;
 
-pub use cell::{draw, draw_base};
+pub use cell::{MOST_SHAPES, draw, draw_base};
 pub use drawing::{DrawFault, Drawing};
-pub use frame::{Edges, channel_edges};
+pub use frame::{Edges, MOST_HEIGHT, MOST_TRACKS, MOST_X, channel_edges};
 pub use layout::{Bar, Contact, Frame, Gate, Layout, Strip, Tag};
 
 #[cfg(test)]

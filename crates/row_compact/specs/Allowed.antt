@@ -1,13 +1,17 @@
 -- Which positions of its lines a routed row allows.
-use Rattle.std.specs.Prelude.{ℕ, ◌≡◌, ◌+◌, ◌*◌, ◌≤◌, ◌<◌, List, Some, length, map, slice_get}
+use Rattle.std.specs.Prelude.{ℕ, ◌≡◌, ◌+◌, ◌*◌, ◌≤◌, ◌<◌, ◌↔◌, List, Some, length, map, slice_get}
 use Rattle.std.specs.List.{Contains}
 use Rattle.cell_num.specs.declared.net.Pins.{Pins}
 use Rattle.row_place.specs.declared.placement.NodePlace.{NodePlace}
 use Rattle.row_place.specs.declared.placement.Placement.{Placement}
 use Rattle.row_place.specs.declared.placement.UnitKind.TheVariants.{Column}
+use Rattle.row_place.specs.Places.{IsPlacement}
 use Rattle.row_place.specs.Trunks.{IsContacted}
+use Rattle.channel_route.specs.declared.routing.Routing.{Routing}
 use Rattle.channel_route.specs.declared.routing.Trunk.{Trunk}
-use Rattle.row_compact.specs.Solution.{x_of}
+use Rattle.channel_route.specs.Routing.{IsLegal}
+use Rattle.row_compact.specs.declared.distance.Distances.{Distances}
+use Rattle.row_compact.specs.Solution.{x_of, IsSolution}
 
 -- a stretch of a track between two lines
 pub record Stretch : Type 0 where
@@ -38,3 +42,11 @@ pub record AreAllowed (placement : Placement) (pins : Pins) (stretches : List St
   pub left : (unit : ℕ) → slice_get placement.units unit ≡ Some Column → HasContact placement pins (2 * unit) → x_of xs (2 * unit) + 11 ≤ x_of xs (2 * unit + 1)
   pub right : (unit : ℕ) → slice_get placement.units unit ≡ Some Column → HasContact placement pins (2 * unit + 2) → x_of xs (2 * unit + 1) + 11 ≤ x_of xs (2 * unit + 2)
   pub apart : (a b : Stretch) → Contains stretches a → Contains stretches b → a.track ≡ b.track → a.right < b.left → x_of xs a.right + 14 ≤ x_of xs b.left
+
+-- the solutions of the distances are exactly the positions that the row allows
+abbrev pub AreDistances : Placement → Pins → List Stretch → Distances → Type 0
+AreDistances placement pins stretches d = (xs : List ℕ) → IsSolution d xs ↔ AreAllowed placement pins stretches xs
+
+-- positions that every legal routing with so many lines allows
+abbrev pub AreAlwaysAllowed : ℕ → List ℕ → Type 0
+AreAlwaysAllowed lines xs = (p : Placement) (pins : Pins) (r : Routing) → IsPlacement p → IsLegal p pins r → lines ≡ 2 * length p.units + 1 → AreAllowed p pins (stretches_of r.trunks) xs

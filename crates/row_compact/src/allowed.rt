@@ -1,14 +1,13 @@
 // The distances that a routed row asks for.
 
-ghost use Rattle.std.specs.Prelude.{◌≡◌, ◌≤◌, ◌+◌, ◌*◌, ◌++◌, ◌↔◌, ℕ, All, List as Sequence, IfOk, OnOk, filter_map, length};
+ghost use Rattle.std.specs.Prelude.{◌≡◌, ◌≤◌, ◌+◌, ◌*◌, ◌++◌, All, IfOk, OnOk, filter_map, length};
 ghost use Rattle.row_place.specs.Places.{IsPlacement};
-ghost use Rattle.row_place.specs.Trunks.{HasPins};
 ghost use Rattle.channel_route.specs.Routing.{IsLegal};
-ghost use Rattle.row_compact.specs.Solution.{IsEntry, IsSolution};
-ghost use Rattle.row_compact.specs.Allowed.{AreAllowed, stretches_of};
+ghost use Rattle.row_compact.specs.Solution.{IsEntry};
+ghost use Rattle.row_compact.specs.Allowed.{AreDistances, stretches_of};
 ghost use Rattle.row_compact.specs.Entries.{is_rail, has_trunk, is_contacted, is_wide, least_in, two_entries, units_from, pair_entry, pairs_of, entries_of};
 
-use crate::{Distance, DistanceList, Distances};
+use crate::{Distance, DistanceList, Distances, MOST_LINES};
 use cell_num::{NetNo, NoMemory, Pins};
 use channel_route::{Routing, Trunk};
 use row_place::{Placement, UnitKind};
@@ -136,7 +135,7 @@ fn lines_of_units(units: usize) -> u32
 pub fn lines_of(placement: &Placement) -> u32
     requires { IsPlacement placement.now }
     ensures lines { result ≡ 2 * length placement.now.units + 1 }
-    ensures few { result ≤ 127 }
+    ensures few { result ≤ MOST_LINES }
 {
     lines_of_units(placement.units.len())
 }
@@ -150,11 +149,10 @@ pub fn distances(
     pins: &Pins,
 ) -> Result<Distances, NoMemory>
     requires placement { IsPlacement placement.now }
-    requires pins { HasPins placement.now pins.now }
     requires routing { IsLegal placement.now pins.now routing.now }
-    ensures solutions { IfOk result (λ d. (xs : Sequence ℕ) → IsSolution d xs ↔ AreAllowed placement.now pins.now (stretches_of routing.now.trunks) xs) }
+    ensures solutions { IfOk result (AreDistances placement.now pins.now (stretches_of routing.now.trunks)) }
     ensures lines { IfOk result (λ d. d.lines ≡ 2 * length placement.now.units + 1) }
-    ensures few { IfOk result (λ d. d.lines ≤ 127) }
+    ensures few { IfOk result (λ d. d.lines ≤ MOST_LINES) }
     ensures ascending { IfOk result (λ d. All (IsEntry d.lines) d.list) }
 {
     let list = entries(alloc, placement, pins, routing.trunks.as_slice())?;

@@ -3,6 +3,9 @@ ghost use Rattle.row_compact.specs.Solution.{x_of as x_at};
 
 use cell_num::List;
 
+/// The most lines of a row: two for each unit, and the last one.
+pub const MOST_LINES: u32 = 127;
+
 /// One line stands at least so far behind another, in grid units.
 #[derive(Clone, Copy, Debug, PartialEq, Eq)]
 pub struct Distance {

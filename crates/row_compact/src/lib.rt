@@ -6,7 +6,7 @@ pub mod distance;
 pub mod lines;
 
 pub use allowed::{distances, lines_of};
-pub use distance::{Distance, DistanceList, Distances, LineXs, x_of};
+pub use distance::{Distance, DistanceList, Distances, LineXs, MOST_LINES, x_of};
 pub use lines::{even_lines, least_lines, one_least};
 
 #[cfg(test)]

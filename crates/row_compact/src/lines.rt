@@ -2,25 +2,20 @@
 
 ghost use Rattle.std.specs.Prelude.{◌≡◌, ◌≤◌, ◌<◌, ◌+◌, ◌*◌, ℕ, List as Sequence, All, IfOk, length, map};
 ghost use Rattle.std.specs.List.{range_with_len};
-ghost use Rattle.cell_num.specs.declared.net.Pins.{Pins as SomePins};
-ghost use Rattle.row_place.specs.declared.placement.Placement.{Placement};
-ghost use Rattle.row_place.specs.Places.{IsPlacement};
-ghost use Rattle.channel_route.specs.declared.routing.Routing.{Routing};
-ghost use Rattle.channel_route.specs.Routing.{IsLegal};
 ghost use Rattle.row_compact.specs.declared.distance.Distances.{Distances as SomeDistances};
 ghost use Rattle.row_compact.specs.Solution.{IsEntry, IsLeast, x_of as x_at};
-ghost use Rattle.row_compact.specs.Allowed.{AreAllowed, stretches_of};
+ghost use Rattle.row_compact.specs.Allowed.{AreAlwaysAllowed};
 ghost use Rattle.row_compact.specs.Entries.{reach_from};
 
-use crate::{Distance, Distances, LineXs, x_of};
+use crate::{Distance, Distances, LineXs, MOST_LINES, x_of};
 use cell_num::NoMemory;
 use std::alloc::Global;
 
 /// Puts line 0 at 8 and each next line 14 further, which every legal routing of as many lines allows.
 pub fn even_lines(alloc: Global, lines: u32) -> Result<LineXs, NoMemory>
-    requires { lines ≤ 127 }
+    requires { lines ≤ MOST_LINES }
     ensures values { IfOk result (λ xs. xs ≡ map (λ line. 8 + 14 * line) (range_with_len 0 lines)) }
-    ensures allowed { IfOk result (λ xs. (p : Placement) (pins : SomePins) (r : Routing) → IsPlacement p → IsLegal p pins r → lines ≡ 2 * length p.units + 1 → AreAllowed p pins (stretches_of r.trunks) xs) }
+    ensures allowed { IfOk result (AreAlwaysAllowed lines) }
 {
     let mut xs = LineXs::new(alloc);
     for line in 0..lines {
@@ -49,7 +44,7 @@ fn least_x(list: &[Distance], xs: &[u32], line: u32) -> u32
 #[tactic(auto, using(crate::proofs::Least::begun, crate::proofs::Least::pushed, crate::proofs::Least::whole, crate::proofs::Least::modest_entries))]
 pub fn least_lines(alloc: Global, distances: &Distances) -> Result<LineXs, NoMemory>
     requires some { 0 < distances.now.lines }
-    requires few { distances.now.lines ≤ 127 }
+    requires few { distances.now.lines ≤ MOST_LINES }
     requires ascending { All (IsEntry distances.now.lines) distances.now.list }
     ensures least { IfOk result (IsLeast distances.now) }
     ensures first { IfOk result (λ xs. x_at xs 0 ≡ 8) }

@@ -1,4 +1,4 @@
-use Rattle.std.proofs.Common.{◌≡◌, ap, subst, sym, arith}
+use Rattle.std.proofs.Common.{ap}
 use Rattle.cell_draw.specs.declared.drawing.Drawing.{Drawing}
 use Rattle.cell_draw.proofs.BridgeCount.{few_drawn}
 use Rattle.cell_draw.proofs.Draws.{drawing_obeys}

@@ -1,5 +1,4 @@
-use Rattle.std.proofs.Common.{◌≡◌, ◌≤◌, fold, take, max}
-use Rattle.row_model.specs.Arrangement.{place}
+use Rattle.std.proofs.Common.{◌≡◌, ◌≤◌, take}
 use Rattle.cell_draw.specs.Frame.{height_of}
 use Rattle.cell_draw.proofs.frame.height_of.Given as goal
 
