@@ -6,7 +6,7 @@ ghost use Rattle.channel_route.specs.Routing.{IsLegal};
 ghost use Rattle.row_compact.specs.Allowed.{AreAllowed, stretches_of};
 ghost use Rattle.cell_draw.specs.Sound.{IsSoundRow};
 
-use crate::{DrawFault, Drawing, draw};
+use crate::{DrawFault, Drawing, MOST_HEIGHT, MOST_X, draw};
 use box_geom::{Layer, Shape};
 use cell_num::{Finger, Names, NetNo, NoMemory, Pins, Row, copy};
 use channel_route::{Routing, route};
@@ -146,13 +146,13 @@ fn lines(
 
 // The inverter on its least or on even lines, in a cell of this height.
 fn drawn(alloc: Global, are_least: bool, height: u32) -> Result<Result<Drawing, DrawFault>, Fail>
-    requires { height ≤ 4000 }
+    requires { height ≤ MOST_HEIGHT }
 {
     let cell = inverter(alloc)?;
     let placement = place(alloc, &cell.row)?;
     let routing = route(alloc, &placement, &cell.pins)?;
     let xs = lines(alloc, &placement, &routing, &cell.pins, are_least)?;
-    if x_of(xs.as_slice(), lines_of(&placement) - 1) > 1_000_000 {
+    if x_of(xs.as_slice(), lines_of(&placement) - 1) > MOST_X {
         return Err(Fail::from(NoMemory));
     }
     Ok(draw(

@@ -11,8 +11,3 @@ pub lines-requires-clause-pins : goal.lines-requires-clause-pins
 lines-requires-clause-pins c =
     let s = c.in_ok-cell.ensures.sound in
     c.in_ok-placement.ensures.pins c.in_ok-cell.cell.names c.in_ok-cell.cell.pins s.fingers s.sound (subst (λ n. ArePins n c.in_ok-cell.cell.pins) (sym s.sound.named) c.in_ok-cell.ensures.pins) s.arranged
-
-pub draw-requires-clause-pins : goal.draw-requires-clause-pins
-draw-requires-clause-pins c =
-    let s = c.in_ok-cell.ensures.sound in
-    c.in_ok-placement.ensures.pins c.in_ok-cell.cell.names c.in_ok-cell.cell.pins s.fingers s.sound (subst (λ n. ArePins n c.in_ok-cell.cell.pins) (sym s.sound.named) c.in_ok-cell.ensures.pins) s.arranged
