@@ -1,4 +1,6 @@
 pub mod Desk
 pub mod Host
 pub mod Mem
+pub mod Output
+pub mod Reading
 pub mod Whole

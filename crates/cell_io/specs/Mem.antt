@@ -1,8 +1,8 @@
 -- What the desks in memory hold.
-use Rattle.std.specs.Prelude.{ℕ, ◌≡◌, ◌+◌, ◌-◌, ◌^◌, min, List, length, take, drop, Contains, option_map, find, Result, Err}
+use Rattle.std.specs.Prelude.{ℕ, ◌≡◌, ◌+◌, ◌-◌, ◌^◌, min, List, length, take, drop, Contains, option_map, find, Result, Err, Some, None}
 use Rattle.std.specs.Str.{bytes_eq}
 use Rattle.std.specs.BTreeMap.{get_by_text}
-use Rattle.cell_io.specs.Desk.{Files}
+use Rattle.cell_io.specs.Desk.{Files, View}
 use Rattle.cell_io.specs.declared.desk.DeskAnswer.{DeskAnswer}
 use Rattle.cell_io.specs.declared.desk.DeskAnswer.TheVariants.{Failed, NoMemory}
 use Rattle.cell_io.specs.declared.mem.File.{File}
@@ -42,6 +42,10 @@ write_faults_of desk = desk.write_faults
 abbrev pub shorts_of : MemDesk → ℕ
 shorts_of desk = desk.shorts
 
+-- what contracts see of it
+abbrev pub mem_view : MemDesk → View
+mem_view desk = record { given = Some (given_files desk); made = Some (made_files desk); said = Some (said_bytes desk); read_faults = read_faults_of desk; write_faults = write_faults_of desk; shorts = shorts_of desk }
+
 -- the next call is to fail
 abbrev pub IsToFail : MemDesk → Type 0
 IsToFail desk = Contains (failing_calls desk) (next_call desk)
@@ -65,10 +69,11 @@ pub record IsAfterCall (old new : MemDesk) : Type 0 where
   pub failing : failing_calls new ≡ failing_calls old
   pub given : given_files new ≡ given_files old
 
--- as many bytes of the file from a place on as there are and fit were copied to the front of the buffer
-pub record IsCopied (from : ℕ) (buffer : List ℕ) (count : ℕ) (file : List ℕ) : Type 0 where
-  pub most : count ≡ min (length file - from) (length buffer)
-  pub bytes : take count buffer ≡ take count (drop from file)
+-- as many bytes of the file from a place on as there are and fit were copied to the front of the buffer, and the rest of it is as it was
+pub record IsCopied (from : ℕ) (old new : List ℕ) (count : ℕ) (file : List ℕ) : Type 0 where
+  pub most : count ≡ min (length file - from) (length old)
+  pub bytes : take count new ≡ take count (drop from file)
+  pub rest : drop count new ≡ drop count old
 
 -- the files that a steady desk reads from
 abbrev pub steady_files : SteadyDesk → Files
@@ -80,3 +85,7 @@ bytes_written desk = desk.written
 
 abbrev pub bytes_said : SteadyDesk → ℕ
 bytes_said desk = desk.said
+
+-- what contracts see of it: its files, and counts that stay at 0
+abbrev pub steady_view : SteadyDesk → View
+steady_view desk = record { given = Some (steady_files desk); made = None; said = None; read_faults = 0; write_faults = 0; shorts = 0 }

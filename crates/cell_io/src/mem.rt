@@ -1,12 +1,11 @@
-ghost use Rattle.std.specs.Prelude.{◌≡◌, ◌≤◌, ◌<◌, ◌+◌, ◌++◌, ◌^◌, ◌-◌, min, [], Contains, ℕ, List as Sequence, None, option_map, Some, length, take, drop, IsTrue, IsNone, IsSome, IfSome, IfOk, IsErrOf, ◌↔◌, OnOk, OnErr};
+ghost use Rattle.std.specs.Prelude.{◌≡◌, ◌<◌, ◌+◌, ◌++◌, ◌-◌, min, [], Contains, ℕ, List as Sequence, None, option_map, Some, length, take, IsTrue, IsNone, IsSome, IfSome, IfOk, IsErrOf, ◌↔◌, OnOk, OnErr};
 ghost use Rattle.std.specs.BTreeMap.{get_by_text};
-ghost use Rattle.std.specs.Option.{option_copied};
-ghost use Rattle.cell_io.specs.Desk.{Rose, ReadsPart, IsHeld, AppendedIn, CreatedIn};
-ghost use Rattle.cell_io.specs.Mem.{CountsFailed, CountsShort, files_of, given_files, made_files, said_bytes, failing_calls, next_call, read_faults_of, write_faults_of, shorts_of, IsToFail, IsAfterCall, IsCopied, one_more};
+ghost use Rattle.cell_io.specs.Desk.{ReadsPart, IsHeld, AppendedIn, CreatedIn, OnlyReads, OnlyMakes, OnlySays, ReadingFailed};
+ghost use Rattle.cell_io.specs.Mem.{mem_view, CountsFailed, CountsShort, files_of, given_files, made_files, said_bytes, failing_calls, next_call, read_faults_of, write_faults_of, shorts_of, IsToFail, IsAfterCall, IsCopied, one_more};
 ghost use Rattle.cell_io.specs.declared.desk.DeskAnswer.TheVariants as answer;
 
 use crate::{Desk, DeskAnswer};
-use cell_num::{List, Name, NoMemory};
+use cell_num::{Bytes, List, Name, NoMemory};
 use std::alloc::Global;
 use std::collections::BTreeMap;
 
@@ -14,7 +13,7 @@ use std::collections::BTreeMap;
 #[derive(Drop)]
 pub struct File {
     pub name: Name,
-    pub bytes: Name,
+    pub bytes: Bytes,
 }
 
 pub type FileList = List<File>;
@@ -27,8 +26,8 @@ pub type CallList = List<u64>;
 pub struct MemDesk {
     alloc: Global,
     given: FileList,
-    made: BTreeMap<String, Name>,
-    said: Name,
+    made: BTreeMap<String, Bytes>,
+    said: Bytes,
     fail: CallList,
     calls: u64,
     read_faults: u64,
@@ -39,7 +38,7 @@ pub struct MemDesk {
 // Copies as many bytes of the file, from a place on, as there are and fit.
 pub(crate) fn copy_part(file: &[u8], from: u64, into: &mut [u8]) -> usize
     ensures part { ReadsPart file.now from into.new result }
-    ensures copied { IsCopied from into.new result file.now }
+    ensures copied { IsCopied from into.old into.new result file.now }
 {
     if from >= file.len() as u64 {
         return 0;
@@ -66,9 +65,10 @@ fn has_call(calls: &[u64], call: u64) -> bool
 }
 
 // Puts the part at the end of the file.
-fn append_to(files: &mut BTreeMap<String, Name>, name: &str, part: &[u8]) -> Result<(), NoMemory>
+fn append_to(files: &mut BTreeMap<String, Bytes>, name: &str, part: &[u8]) -> Result<(), NoMemory>
     requires { IsHeld (get_by_text files.old) name.now }
-    ensures ok { OnOk result (AppendedIn name.now part.now (length part.now) (get_by_text files.old) (get_by_text files.new)) }
+    ensures ok { OnOk result
+        (AppendedIn name.now part.now (length part.now) (get_by_text files.old) (get_by_text files.new)) }
     ensures err { OnErr result ((q : Sequence ℕ) → get_by_text files.new q ≡ get_by_text files.old q) }
 {
     let Some(bytes) = files.get_mut(name) else {
@@ -81,13 +81,11 @@ fn append_to(files: &mut BTreeMap<String, Name>, name: &str, part: &[u8]) -> Res
 }
 
 // Makes an empty file.
-fn create_in(alloc: Global, files: &mut BTreeMap<String, Name>, name: &str) -> Result<(), NoMemory>
+fn create_in(alloc: Global, files: &mut BTreeMap<String, Bytes>, name: &str) -> Result<(), NoMemory>
     ensures ok { OnOk result (CreatedIn name.now (get_by_text files.old) (get_by_text files.new)) }
     ensures err { OnErr result ((q : Sequence ℕ) → get_by_text files.new q ≡ get_by_text files.old q) }
 {
-    let Ok(key) = String::from_str(alloc, name) else {
-        return Err(NoMemory);
-    };
+    let key = String::from_str(alloc, name)?;
     match files.insert(key, List::new(alloc)) {
         Ok(_) => Ok(()),
         Err(_) => Err(NoMemory),
@@ -149,31 +147,21 @@ impl MemDesk {
 }
 
 impl Desk for MemDesk {
-    ghost given = { λ m. Some (given_files m) };
-
-    ghost made = { λ m. Some (made_files m) };
-
-    ghost said = { λ m. Some (said_bytes m) };
-
-    ghost read_faults = { λ m. read_faults_of m };
-
-    ghost write_faults = { λ m. write_faults_of m };
-
-    ghost shorts = { λ m. shorts_of m };
+    ghost view = { mem_view };
 
     fn read_part(&mut self, name: &str, from: u64, into: &mut [u8]) -> Result<usize, DeskAnswer>
         ensures call { IsAfterCall self.old self.new }
         ensures missing { IsErrOf result answer.Missing ↔ IsNone (given_files self.old name.now) }
-        ensures failed { IsErrOf result answer.Failed ↔ (IsSome (given_files self.old name.now) × IsToFail self.old) }
-        ensures rose { IsErrOf result answer.Failed → Rose (read_faults_of self.old) (read_faults_of self.new) }
+        ensures failed { IsErrOf result answer.Failed
+            ↔ (IsSome (given_files self.old name.now) × IsToFail self.old) }
         ensures memory { result ≡ Err answer.NoMemory → ⊥ }
-        ensures bytes { IfOk result (λ count. IfSome (given_files self.old name.now) (IsCopied from into.new count)) }
-        ensures made { made_files self.new ≡ made_files self.old }
-        ensures said { said_bytes self.new ≡ said_bytes self.old }
-        ensures read_count { read_faults_of self.old ≤ read_faults_of self.new }
-        ensures write_count { write_faults_of self.new ≡ write_faults_of self.old }
-        ensures short_count { shorts_of self.new ≡ shorts_of self.old }
+        ensures bytes { IfOk result (λ count.
+            IfSome (given_files self.old name.now) (IsCopied from into.old into.new count)) }
+        ensures refused { OnErr result (into.new ≡ into.old) }
         ensures counted { CountsFailed result (read_faults_of self.old) (read_faults_of self.new) }
+        ensures rose { IsErrOf result answer.Failed → ReadingFailed (mem_view self.old) (mem_view self.new) }
+        ensures only { OnlyReads (mem_view self.old) (mem_view self.new) }
+        ensures quiet { OnOk result (mem_view self.new ≡ mem_view self.old) }
     {
         let fails = self.fails();
         let Some(bytes) = find_file(self.given.as_slice(), name.as_bytes()) else {
@@ -192,14 +180,9 @@ impl Desk for MemDesk {
         ensures missing { result ≡ Err answer.Missing → ⊥ }
         ensures made { OnOk result (CreatedIn name.now (made_files self.old) (made_files self.new)) }
         ensures refused { OnErr result (made_files self.new ≡ made_files self.old) }
-        ensures said { said_bytes self.new ≡ said_bytes self.old }
-        ensures rose { IsErrOf result answer.Failed → Rose (write_faults_of self.old) (write_faults_of self.new) }
-        ensures short { IsErrOf result answer.NoMemory → Rose (shorts_of self.old) (shorts_of self.new) }
-        ensures read_count { read_faults_of self.new ≡ read_faults_of self.old }
-        ensures write_count { write_faults_of self.old ≤ write_faults_of self.new }
-        ensures short_count { shorts_of self.old ≤ shorts_of self.new }
         ensures counted { CountsFailed result (write_faults_of self.old) (write_faults_of self.new) }
         ensures short_counted { CountsShort result (shorts_of self.old) (shorts_of self.new) }
+        ensures only { OnlyMakes (mem_view self.old) (mem_view self.new) }
     {
         if self.fails() {
             self.write_faults = self.write_faults.saturating_add(1);
@@ -220,16 +203,12 @@ impl Desk for MemDesk {
         ensures failed { IsErrOf result answer.Failed ↔ IsToFail self.old }
         ensures missing { result ≡ Err answer.Missing → ⊥ }
         ensures all { IfOk result (λ count. count ≡ length part.now) }
-        ensures made { OnOk result (AppendedIn name.now part.now (length part.now) (made_files self.old) (made_files self.new)) }
+        ensures made { OnOk result
+            (AppendedIn name.now part.now (length part.now) (made_files self.old) (made_files self.new)) }
         ensures refused { OnErr result (made_files self.new ≡ made_files self.old) }
-        ensures said { said_bytes self.new ≡ said_bytes self.old }
-        ensures rose { IsErrOf result answer.Failed → Rose (write_faults_of self.old) (write_faults_of self.new) }
-        ensures short { IsErrOf result answer.NoMemory → Rose (shorts_of self.old) (shorts_of self.new) }
-        ensures read_count { read_faults_of self.new ≡ read_faults_of self.old }
-        ensures write_count { write_faults_of self.old ≤ write_faults_of self.new }
-        ensures short_count { shorts_of self.old ≤ shorts_of self.new }
         ensures counted { CountsFailed result (write_faults_of self.old) (write_faults_of self.new) }
         ensures short_counted { CountsShort result (shorts_of self.old) (shorts_of self.new) }
+        ensures only { OnlyMakes (mem_view self.old) (mem_view self.new) }
     {
         if self.fails() {
             self.write_faults = self.write_faults.saturating_add(1);
@@ -251,14 +230,9 @@ impl Desk for MemDesk {
         ensures all { IfOk result (λ count. count ≡ length part.now) }
         ensures said { OnOk result (said_bytes self.new ≡ said_bytes self.old ++ part.now) }
         ensures refused { OnErr result (said_bytes self.new ≡ said_bytes self.old) }
-        ensures made { made_files self.new ≡ made_files self.old }
-        ensures rose { IsErrOf result answer.Failed → Rose (write_faults_of self.old) (write_faults_of self.new) }
-        ensures short { IsErrOf result answer.NoMemory → Rose (shorts_of self.old) (shorts_of self.new) }
-        ensures read_count { read_faults_of self.new ≡ read_faults_of self.old }
-        ensures write_count { write_faults_of self.old ≤ write_faults_of self.new }
-        ensures short_count { shorts_of self.old ≤ shorts_of self.new }
         ensures counted { CountsFailed result (write_faults_of self.old) (write_faults_of self.new) }
         ensures short_counted { CountsShort result (shorts_of self.old) (shorts_of self.new) }
+        ensures only { OnlySays (mem_view self.old) (mem_view self.new) }
     {
         if self.fails() {
             self.write_faults = self.write_faults.saturating_add(1);

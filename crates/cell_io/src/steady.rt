@@ -1,5 +1,5 @@
-ghost use Rattle.std.specs.Prelude.{◌≡◌, ◌≤◌, ◌<◌, ◌+◌, ◌-◌, ◌^◌, ◌↔◌, min, Some, None, Ok, IsNone, IsErrOf, IsOk, IfOk, IfSome, ℕ, length};
-ghost use Rattle.cell_io.specs.Mem.{files_of, steady_files, bytes_written, bytes_said, IsCopied};
+ghost use Rattle.std.specs.Prelude.{◌≡◌, ◌<◌, ◌+◌, ◌-◌, ◌^◌, ◌↔◌, min, Some, None, Ok, IsNone, IsErrOf, IsOk, OnErr, IfOk, IfSome, length};
+ghost use Rattle.cell_io.specs.Mem.{steady_view, files_of, steady_files, bytes_written, bytes_said, IsCopied};
 ghost use Rattle.cell_io.specs.declared.desk.DeskAnswer.TheVariants.{Missing, Failed, NoMemory};
 
 use crate::mem::{copy_part, find_file};
@@ -43,23 +43,15 @@ impl SteadyDesk {
 }
 
 impl Desk for SteadyDesk {
-    ghost given = { λ m. Some (steady_files m) };
-
-    ghost made = { λ m. None };
-
-    ghost said = { λ m. None };
-
-    ghost read_faults = { λ m. 0 };
-
-    ghost write_faults = { λ m. 0 };
-
-    ghost shorts = { λ m. 0 };
+    ghost view = { steady_view };
 
     fn read_part(&mut self, name: &str, from: u64, into: &mut [u8]) -> Result<usize, DeskAnswer>
         ensures missing { IsErrOf result Missing ↔ IsNone (steady_files self.old name.now) }
         ensures failed { result ≡ Err Failed → ⊥ }
         ensures memory { result ≡ Err NoMemory → ⊥ }
-        ensures bytes { IfOk result (λ count. IfSome (steady_files self.old name.now) (IsCopied from into.new count)) }
+        ensures bytes { IfOk result (λ count.
+            IfSome (steady_files self.old name.now) (IsCopied from into.old into.new count)) }
+        ensures refused { OnErr result (into.new ≡ into.old) }
         ensures same { self.new ≡ self.old }
     {
         match find_file(self.given.as_slice(), name.as_bytes()) {

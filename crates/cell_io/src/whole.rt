@@ -1,10 +1,10 @@
-ghost use Rattle.std.specs.Prelude.{◌≡◌, ◌≤◌, ◌<◌, ◌+◌, ◌↔◌, List, ℕ, Option, length, take, vec_len, OnErr, IfOk, IfSome, IsNone, IsErrOf, MatchOption};
-ghost use Rattle.cell_io.specs.Desk.{Rose, told};
-ghost use Rattle.cell_io.specs.Whole.{IsFront, HasMore, ReadFor};
+ghost use Rattle.std.specs.Prelude.{◌≡◌, ◌≤◌, ◌<◌, length, vec_len, IfOk, IfSome, IsErrOf};
+ghost use Rattle.cell_io.specs.Desk.{told, IsMissing, OnlyReads, ReadingFailed};
+ghost use Rattle.cell_io.specs.Whole.{IsFront, HasMore, ReadFor, KeepsUnlessUnread};
 ghost use Rattle.cell_io.specs.declared.whole.ReadFault.TheVariants.{Missing, Failed, TooLong};
 
 use crate::{Desk, DeskAnswer};
-use std::alloc::Global;
+use std::alloc::{AllocError, Global};
 use thiserror::Error;
 
 /// Why a file was not read.
@@ -21,8 +21,15 @@ pub enum ReadFault {
     NoMemory,
 }
 
-// The bytes of one reading. A desk over files opens the file for each, so they are not few.
+// The bytes of one reading.
 const PART: usize = 65536;
+
+// Room for a part, on the heap.
+fn make_buffer(alloc: Global) -> Result<Vec<u8>, AllocError>
+    ensures { IfOk result (λ buffer. vec_len buffer ≡ PART) }
+{
+    vec![in alloc; 0u8; PART]
+}
 
 // Adds some of the file's next bytes, at most as many as the part has room for, and says whether there were any.
 fn read_more<D: Desk>(
@@ -32,18 +39,15 @@ fn read_more<D: Desk>(
     bytes: &mut Vec<u8>,
 ) -> Result<bool, ReadFault>
     requires room { 0 < length part.old }
-    requires front { IfSome (told (D.given desk.old) name.now) (IsFront bytes.old.items) }
+    requires front { IfSome (told (D.view desk.old).given name.now) (IsFront bytes.old.items) }
     ensures more { IfOk result (λ more. HasMore more (vec_len bytes.old) (vec_len bytes.new) (length part.old)) }
-    ensures front { IfOk result (λ more. IfSome (told (D.given desk.old) name.now) (ReadFor more bytes.new.items)) }
-    ensures missing { MatchOption (D.given desk.old) (IsErrOf result Missing → Rose (D.read_faults desk.old) (D.read_faults desk.new)) (λ files. IsErrOf result Missing ↔ IsNone (files name.now)) }
-    ensures failed { IsErrOf result Failed → Rose (D.read_faults desk.old) (D.read_faults desk.new) }
+    ensures front { IfOk result (λ more.
+        IfSome (told (D.view desk.old).given name.now) (ReadFor more bytes.new.items)) }
+    ensures missing { IsMissing (IsErrOf result Missing) name.now (D.view desk.old) (D.view desk.new) }
+    ensures failed { IsErrOf result Failed → ReadingFailed (D.view desk.old) (D.view desk.new) }
     ensures too_long { result ≡ Err TooLong → ⊥ }
-    ensures given { D.given desk.new ≡ D.given desk.old }
-    ensures made { D.made desk.new ≡ D.made desk.old }
-    ensures said { D.said desk.new ≡ D.said desk.old }
-    ensures read_count { D.read_faults desk.old ≤ D.read_faults desk.new }
-    ensures write_count { D.write_faults desk.old ≤ D.write_faults desk.new }
-    ensures short_count { D.shorts desk.old ≤ D.shorts desk.new }
+    ensures only { OnlyReads (D.view desk.old) (D.view desk.new) }
+    ensures quiet { KeepsUnlessUnread result (D.view desk.old) (D.view desk.new) }
 {
     let count = match desk.read_part(name, bytes.len() as u64, part) {
         Ok(count) => count,
@@ -57,8 +61,8 @@ fn read_more<D: Desk>(
     Ok(count != 0)
 }
 
-/// The whole file, of at most `most` bytes. The file is read part by part, and one that changes
-/// meanwhile may give a mixture.
+/// The whole file, of at most `most` bytes. It is read part by part, and takes memory for a part beside
+/// what it answers.
 pub fn read_all<D: Desk>(
     alloc: Global,
     desk: &mut D,
@@ -66,21 +70,24 @@ pub fn read_all<D: Desk>(
     most: u64,
 ) -> Result<Vec<u8>, ReadFault>
     ensures size { IfOk result (λ bytes. vec_len bytes ≤ most) }
-    ensures file { IfOk result (λ bytes. IfSome (told (D.given desk.old) name.now) (λ file. bytes.items ≡ file)) }
+    ensures file { IfOk result (λ bytes.
+        IfSome (told (D.view desk.old).given name.now) (λ file. bytes.items ≡ file)) }
     // exactly a told file that has more bytes is too long: it never comes whole
-    ensures too_long { IsErrOf result TooLong → IfSome (told (D.given desk.old) name.now) (λ file. most < length file) }
-    ensures fits { IfOk result (λ bytes. IfSome (told (D.given desk.old) name.now) (λ file. length file ≤ most)) }
-    ensures missing { MatchOption (D.given desk.old) (IsErrOf result Missing → Rose (D.read_faults desk.old) (D.read_faults desk.new)) (λ files. IsErrOf result Missing ↔ IsNone (files name.now)) }
-    ensures failed { IsErrOf result Failed → Rose (D.read_faults desk.old) (D.read_faults desk.new) }
-    ensures given { D.given desk.new ≡ D.given desk.old }
-    ensures made { D.made desk.new ≡ D.made desk.old }
-    ensures said { D.said desk.new ≡ D.said desk.old }
-    ensures read_count { D.read_faults desk.old ≤ D.read_faults desk.new }
-    ensures write_count { D.write_faults desk.old ≤ D.write_faults desk.new }
-    ensures short_count { D.shorts desk.old ≤ D.shorts desk.new }
+    ensures too_long { IsErrOf result TooLong →
+        IfSome (told (D.view desk.old).given name.now) (λ file. most < length file) }
+    ensures fits { IfOk result (λ bytes.
+        IfSome (told (D.view desk.old).given name.now) (λ file. length file ≤ most)) }
+    ensures missing { IsMissing (IsErrOf result Missing) name.now (D.view desk.old) (D.view desk.new) }
+    ensures failed { IsErrOf result Failed → ReadingFailed (D.view desk.old) (D.view desk.new) }
+    ensures only { OnlyReads (D.view desk.old) (D.view desk.new) }
+    ensures quiet { KeepsUnlessUnread result (D.view desk.old) (D.view desk.new) }
 {
     let mut bytes = Vec::new(alloc);
-    let mut buffer = [0u8; PART];
+    let Ok(mut buffer) = make_buffer(alloc) else {
+        // a file that is not there is told so all the same
+        read_more(desk, name, &mut [0u8; 1], &mut bytes)?;
+        return Err(ReadFault::NoMemory);
+    };
     'parts: loop {
         let room = most - bytes.len() as u64;
         let want = if room < PART as u64 {

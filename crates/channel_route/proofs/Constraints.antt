@@ -1,5 +1,6 @@
 -- The computed constraints are exactly those of the definition.
-use Rattle.std.proofs.Common.{ℕ, ◌≡◌, ◌≢◌, ◌≤◌, ◌==◌, ◌&&◌, not, Bool, true, false, cond, List, [], ◌∷◌, Some, None, inl, inr, refl, sym, ap, subst, Contains, filter_map, flat_map}
+use Rattle.std.proofs.Common.{ℕ, ◌≡◌, ◌≢◌, ◌≤◌, ◌==◌, ◌&&◌, not, Bool, true, false, cond, List, [], ◌∷◌, Some, None, inl, inr, refl, sym, ap, subst, arith, All, get_or, Contains, filter_map, flat_map}
+use Rattle.std.specs.Bool.{⊤}
 use Rattle.std.proofs.lemmas.Bool.{cases_Bool, and_parts, and_from, eqb-true, eq-eqb}
 use Rattle.std.proofs.lemmas.List.Elements.{All-contains, Contains-append_left, Contains-append_right, Contains-append_cases}
 use Rattle.cell_num.specs.declared.net.NetNo.{NetNo}
@@ -9,13 +10,15 @@ use Rattle.cell_num.specs.declared.finger.Row.TheVariants.{P, N}
 use Rattle.row_model.proofs.Decide.{net_decides}
 use Rattle.row_place.specs.declared.placement.NodePlace.{NodePlace}
 use Rattle.row_place.specs.declared.placement.Placement.{Placement}
+use Rattle.row_place.specs.Places.{StandsBefore, IsPlacement}
 use Rattle.row_place.specs.Trunks.{HasTrunk, IsAbove}
 use Rattle.cell_num.proofs.Lists.{some_same, contains_none, contains_cons, contains_here, contains_there, Kept, kept_from, contains_filter_map, all_from_contains}
 use Rattle.channel_route.specs.declared.wire.Wire.{Wire}
 use Rattle.channel_route.specs.declared.constraint.Constraint.{Constraint}
 use Rattle.channel_route.specs.Graph.{IsChannel, has_net}
+use Rattle.channel_route.specs.Turn.{AreInOrder}
 use Rattle.channel_route.specs.Wires.{IsWire, AreFound, AreWires, stands_over, is_over, over, constraints_of}
-use Rattle.cell_num.proofs.Pairs.{Some', any_at, test_finds}
+use Rattle.cell_num.proofs.Pairs.{Some', any_at, test_finds, pairs_flat}
 
 pub record From {X Y : Type 0} (f : X → List Y) (xs : List X) (y : Y) : Type 0 where
   pub it : X
@@ -123,3 +126,19 @@ channel p pins wires w = record {
       any_at (λ (x : Wire). x.net ≡ c.lower) wires found.it found.there ((net_decides found.it.net c.lower).0 found.holds);
   differ = λ c there. (constraint_is p pins wires w c there).differ;
 }
+
+-- they are in order of line, as the node places are
+pub in_order : (p : Placement) → IsPlacement p → (wires : List Wire) → AreInOrder (constraints_of wires p.nodes)
+in_order p is wires =
+    pairs_flat (λ (a b : NodePlace). a.line ≤ b.line) (λ node. ⊤) (λ (c d : Constraint). c.line ≤ d.line) (λ (node : NodePlace) (c : Constraint). c.line ≡ node.line) (λ node. filter_map (over wires node) p.nodes) p.nodes (λ node _. lines node)
+    (λ node _. λ i j d less short. let a : (get_or (filter_map (over wires node) p.nodes) i d).line ≡ node.line = lines node i d (omega (arith, less, short)) in let b : (get_or (filter_map (over wires node) p.nodes) j d).line ≡ node.line = lines node j d short in omega (arith, a, b))
+    (λ x y a b _ _ less here there. omega (arith, less, here, there)) (λ k d short. tt) (λ i j d less short. upward (get_or p.nodes i d) (get_or p.nodes j d) (is.node_order i j d less short))
+  where
+    lines : (node : NodePlace) → All (λ (c : Constraint). c.line ≡ node.line) (filter_map (over wires node) p.nodes)
+    lines node = all_from_contains (λ (c : Constraint). c.line ≡ node.line) (filter_map (over wires node) p.nodes) (λ c there.
+        let k : Kept (over wires node) p.nodes c = kept_from (over wires node) p.nodes c there in
+        ap (λ (d : Constraint). d.line) (over_gives wires node k.from c k.gives).1)
+
+    upward : (a b : NodePlace) → StandsBefore a b → a.line ≤ b.line
+    upward a b (inl less) = omega (arith, less)
+    upward a b (inr (same, _, _)) = omega (arith, same)

@@ -17,7 +17,7 @@ use Rattle.channel_route.specs.declared.routing.Above.{Above}
 use Rattle.channel_route.specs.declared.wire.Wire.{Wire}
 use Rattle.channel_route.specs.declared.constraint.Constraint.{Constraint}
 use Rattle.channel_route.specs.Routing.{AreApart, IsLegal, IsEarlier, IsFree, IsTight}
-use Rattle.channel_route.specs.Cycle.{next_net, StandAbove, IsCycleOf, IsCycle, HasNoCycle}
+use Rattle.channel_route.specs.Cycle.{next_net, StandAbove, HasNoCycle}
 use Rattle.channel_route.specs.Graph.{wire_of, IsBefore, IsBlocked, HasTrunkBelow, IsFilled}
 use Rattle.channel_route.specs.Wires.{IsWire, AreWires, constraints_of, trunk_cmp}
 use Rattle.cell_num.proofs.Pairs.{Some', some_from_any, any_at, test_finds, OneEach, one_each_permutation, one_each_same, pairs_from_sorted}
@@ -166,12 +166,3 @@ acyclic p pins routing l (first ∷ rest) c =
     let t : Some' (λ (t : Trunk). t.net ≡ first.net) routing.trunks = some_from_any (λ (t : Trunk). t.net ≡ first.net) routing.trunks ((l.nets first.net).0 c.above.0.upper_trunk) in
     let wrong : t.it.track < t.it.track = falls p pins routing l (first ∷ rest) first.net t.it t.it (omega arith) c.above t.there t.holds t.there t.holds in
     omega (arith, wrong)
-
--- a cycle of constraints is one of nets above each other
-walk_above : (p : Placement) (pins : Pins) (wires : List Wire) → AreWires p pins wires → (walk : List Above) (back : NetNo) → StandAbove (λ upper lower line. Contains (constraints_of wires p.nodes) (record { upper = upper; lower = lower; line = line })) walk back → StandAbove (IsAbove p pins) walk back
-walk_above p pins wires w [] back h = tt
-walk_above p pins wires w (a ∷ more) back h = (constraint_is p pins wires w (record { upper = a.net; lower = next_net more back; line = a.line }) h.0, walk_above p pins wires w more back h.1)
-
-pub cycle_above : (p : Placement) (pins : Pins) (wires : List Wire) → AreWires p pins wires → (cycle : List Above) → IsCycleOf (λ upper lower line. Contains (constraints_of wires p.nodes) (record { upper = upper; lower = lower; line = line })) cycle → IsCycle p pins cycle
-cycle_above p pins wires w [] c = absurd c
-cycle_above p pins wires w (first ∷ rest) c = record { two = c.two; differ = c.differ; above = walk_above p pins wires w (first ∷ rest) first.net c.above; least = c.least }

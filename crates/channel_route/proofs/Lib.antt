@@ -1,8 +1,11 @@
 mod Constraints
 mod Crossing
 mod Density
+mod Down
 mod Legal
 pub mod OneRouting
+pub mod OneTold
+pub mod Stuck
 mod Sweep
 mod Turns
 pub mod Unique

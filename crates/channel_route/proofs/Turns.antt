@@ -12,9 +12,9 @@ use Rattle.cell_num.proofs.Lists.{contains_none, contains_cons, contains_here, c
 use Rattle.channel_route.specs.declared.routing.Above.{Above}
 use Rattle.channel_route.specs.declared.wire.Wire.{Wire}
 use Rattle.channel_route.specs.declared.constraint.Constraint.{Constraint}
-use Rattle.channel_route.specs.Cycle.{StandAbove, IsCycleOf}
+use Rattle.channel_route.specs.Cycle.{next_net, StandAbove, ComesTo, IsCycleBelow}
 use Rattle.channel_route.specs.Graph.{has_net, waits}
-use Rattle.channel_route.specs.Turn.{IsOver, waits_at, passes, IsTurn}
+use Rattle.channel_route.specs.Turn.{waits_at, passes, IsTurn}
 use Rattle.cell_num.proofs.Pairs.{Some', test_finds, test_there, OneEach, one_each_permutation, parts_differ, pairs_differ}
 use Rattle.row_model.proofs.Decide.{net_decides}
 
@@ -38,6 +38,30 @@ pub walk_join : (Over : NetNo → NetNo → ℕ → Type 0) (xs : List Above) (y
 walk_join Over [] y ys back before behind = behind
 walk_join Over (x ∷ []) y ys back before behind = (before.0, behind)
 walk_join Over (x ∷ z ∷ more) y ys back before behind = (before.0, walk_join Over (z ∷ more) y ys back before.1 behind)
+
+-- where a longer walk begins
+begins_push : (path : List Above) (a : Above) (next : NetNo) → next_net (path ++ a ∷ []) next ≡ next_net path a.net
+begins_push [] a next = refl
+begins_push (x ∷ xs) a next = refl
+
+begins_join : (xs : List Above) (y : Above) (ys : List Above) (back : NetNo) → next_net (xs ++ y ∷ ys) back ≡ next_net xs y.net
+begins_join [] y ys back = refl
+begins_join (x ∷ xs) y ys back = refl
+
+pub begins_more : (path : List Above) (a : Above) (next start : NetNo) → next_net path a.net ≡ start → next_net (path ++ a ∷ []) next ≡ start
+begins_more path a next start is = subst (λ n. n ≡ start) (sym (begins_push path a next)) is
+
+-- what each step of a walk is, the walk is
+pub walk_like : (Over Down : NetNo → NetNo → ℕ → Type 0) → ((upper lower : NetNo) (line : ℕ) → Over upper lower line → Down upper lower line) → (walk : List Above) (back : NetNo) → StandAbove Over walk back → StandAbove Down walk back
+walk_like Over Down f [] back h = tt
+walk_like Over Down f (a ∷ more) back h = (f a.net (next_net more back) a.line h.0, walk_like Over Down f more back h.1)
+
+pub cycle_like : (Over Down : NetNo → NetNo → ℕ → Type 0) → ((upper lower : NetNo) (line : ℕ) → Over upper lower line → Down upper lower line) → (start : NetNo) (cycle : List Above) → IsCycleBelow Over start cycle → IsCycleBelow Down start cycle
+cycle_like Over Down f start [] c = absurd c
+cycle_like Over Down f start (first ∷ rest) (c, w) = (
+  record { two = c.two; differ = c.differ; above = walk_like Over Down f (first ∷ rest) first.net c.above; least = c.least },
+  record { path = w.path; walk = walk_like Over Down f w.path first.net w.walk; begins = w.begins },
+)
 
 -- a net that is left waits
 pub waits_there : (left : List Wire) (cs : List Constraint) (net : NetNo) → All (λ w. waits left cs w ≡ true) left → has_net left net ≡ true → waits_at left net cs ≡ true
@@ -107,62 +131,78 @@ one_each_behind : (xs ys : List Above) → OneEach (λ (z : Above). z.net.0) (xs
 one_each_behind xs ys h n = omega (arith, h n, sum_by-append (λ (z : Above). cond (z.net.0 == n) 1 0) xs ys)
 
 -- the walk from the place of the net that it comes back to
-pub turn_ends : (cs : List Constraint) (path : List Above) (here : NetNo) (at : ℕ) (d : Above) → at < length path → (get_or path at d).net ≡ here → StandAbove (IsOver cs) path here → OneEach (λ (z : Above). z.net.0) path → IsTurn cs (drop at path)
-turn_ends cs path here at d below is walk one =
-    let parts : take at path ++ drop at path ≡ path = take-append-drop at path in
-    let behind : StandAbove (IsOver cs) (drop at path) here = walk_behind (IsOver cs) (take at path) (drop at path) here (subst (λ p. StandAbove (IsOver cs) p here) (sym parts) walk) in
-    let one' : OneEach (λ (z : Above). z.net.0) (drop at path) = one_each_behind (take at path) (drop at path) (subst (λ p. OneEach (λ (z : Above). z.net.0) p) (sym parts) one) in
-    closed (drop at path) (get_or path at d) (drop (suc at) path) (drop-cons path at d below) is behind one'
+pub turn_ends : (Over : NetNo → NetNo → ℕ → Type 0) (path : List Above) (here start : NetNo) (at : ℕ) (d : Above) → at < length path → (get_or path at d).net ≡ here → StandAbove Over path here → OneEach (λ (z : Above). z.net.0) path → next_net path here ≡ start → IsTurn Over start (drop at path)
+turn_ends Over path here start at d below is walk one begins =
+    closed (take at path) (drop at path) (get_or path at d) (drop (suc at) path) (drop-cons path at d below) is (subst (λ p. StandAbove Over p here) (sym parts) walk) (subst (λ p. OneEach (λ (z : Above). z.net.0) p) (sym parts) one) (subst (λ p. next_net p here ≡ start) (sym parts) begins)
   where
-    closed : (turn : List Above) (y : Above) (ys : List Above) → turn ≡ y ∷ ys → y.net ≡ here → StandAbove (IsOver cs) turn here → OneEach (λ (z : Above). z.net.0) turn → IsTurn cs turn
-    closed turn y ys e same h one = subst (λ t. IsTurn cs t) (sym e) (subst (λ t. StandAbove (IsOver cs) t y.net) e (subst (λ n. StandAbove (IsOver cs) turn n) (sym same) h), subst (λ t. OneEach (λ (z : Above). z.net.0) t) e one)
+    parts : take at path ++ drop at path ≡ path
+    parts = take-append-drop at path
+
+    ends : (xs : List Above) (y : Above) (ys : List Above) → y.net ≡ here → StandAbove Over (xs ++ y ∷ ys) here → OneEach (λ (z : Above). z.net.0) (xs ++ y ∷ ys) → next_net (xs ++ y ∷ ys) here ≡ start → IsTurn Over start (y ∷ ys)
+    ends xs y ys same h one from = (
+      subst (λ n. StandAbove Over (y ∷ ys) n) (sym same) (walk_behind Over xs (y ∷ ys) here h),
+      one_each_behind xs (y ∷ ys) one,
+      record { path = xs; walk = walk_before Over xs y ys here h; begins = subst (λ n. n ≡ start) (begins_join xs y ys here) from },
+    )
+
+    closed : (xs turn : List Above) (y : Above) (ys : List Above) → turn ≡ y ∷ ys → y.net ≡ here → StandAbove Over (xs ++ turn) here → OneEach (λ (z : Above). z.net.0) (xs ++ turn) → next_net (xs ++ turn) here ≡ start → IsTurn Over start turn
+    closed xs turn y ys e same h one from = subst (λ t. IsTurn Over start t) (sym e) (ends xs y ys same (subst (λ t. StandAbove Over (xs ++ t) here) e h) (subst (λ t. OneEach (λ (z : Above). z.net.0) (xs ++ t)) e one) (subst (λ t. next_net (xs ++ t) here ≡ start) e from))
 
 nets_differ : (xs : List Above) → OneEach (λ (z : Above). z.net.0) xs → AllPairs (λ a b. a.net ≢ b.net) xs
 nets_differ xs h = λ i j d less short e. pairs_differ (λ (z : Above). z.net.0) xs h i j d less short (ap (λ (n : NetNo). n.0) e)
 
 -- the cycle from its least net on
-pub rotated : (cs : List Constraint) (xs : List Above) (y : Above) (ys : List Above) → ((c : Constraint) → Contains cs c → c.upper ≢ c.lower) → IsTurn cs (xs ++ y ∷ ys) → All (λ a. y.net.0 ≤ a.net.0) (xs ++ y ∷ ys) → IsCycleOf (IsOver cs) (y ∷ (ys ++ xs))
-rotated cs xs y ys differ turn least = record {
-  two = two (ys ++ xs) walk;
-  differ = nets_differ (y ∷ (ys ++ xs)) one;
-  above = walk;
-  least = all_from_contains (λ (a : Above). y.net.0 < a.net.0) (ys ++ xs) (λ a there.
-      let low : y.net.0 ≤ a.net.0 = All-contains (λ (z : Above). y.net.0 ≤ z.net.0) (xs ++ y ∷ ys) a least (elim (Contains-append_cases ys xs a there) [ inl behind ↦ Contains-append_right xs (y ∷ ys) a (contains_there y ys a behind) | inr before ↦ Contains-append_left xs (y ∷ ys) a before ]) in
-      elim (cases_order y.net.0 a.net.0) [
-        | inl same ↦ absurd (parts_differ (λ (z : Above). z.net.0) (y ∷ []) (ys ++ xs) y a one (contains_here y []) there same)
-        | inr other ↦ elim other [ inl less ↦ less | inr more ↦ absurd (omega (arith, low, more)) ]
-      ]);
-}
+pub rotated : (Over : NetNo → NetNo → ℕ → Type 0) (start : NetNo) (xs : List Above) (y : Above) (ys : List Above) → ((upper lower : NetNo) (line : ℕ) → Over upper lower line → upper ≢ lower) → IsTurn Over start (xs ++ y ∷ ys) → All (λ a. y.net.0 ≤ a.net.0) (xs ++ y ∷ ys) → IsCycleBelow Over start (y ∷ (ys ++ xs))
+rotated Over start xs y ys differ turn least = (
+  record {
+    two = two (ys ++ xs) walk;
+    differ = nets_differ (y ∷ (ys ++ xs)) one;
+    above = walk;
+    least = all_from_contains (λ (a : Above). y.net.0 < a.net.0) (ys ++ xs) (λ a there.
+        let low : y.net.0 ≤ a.net.0 = All-contains (λ (z : Above). y.net.0 ≤ z.net.0) (xs ++ y ∷ ys) a least (elim (Contains-append_cases ys xs a there) [ inl behind ↦ Contains-append_right xs (y ∷ ys) a (contains_there y ys a behind) | inr before ↦ Contains-append_left xs (y ∷ ys) a before ]) in
+        elim (cases_order y.net.0 a.net.0) [
+          | inl same ↦ absurd (parts_differ (λ (z : Above). z.net.0) (y ∷ []) (ys ++ xs) y a one (contains_here y []) there same)
+          | inr other ↦ elim other [ inl less ↦ less | inr more ↦ absurd (omega (arith, low, more)) ]
+        ]);
+  },
+  comes xs turn,
+)
   where
-    walk_of : (xs : List Above) → IsTurn cs (xs ++ y ∷ ys) → StandAbove (IsOver cs) (y ∷ (ys ++ xs)) y.net
-    walk_of [] t = subst (λ zs. StandAbove (IsOver cs) (y ∷ zs) y.net) (sym (append-nil ys)) t.0
-    walk_of (x ∷ more) t = walk_join (IsOver cs) (y ∷ ys) x more y.net (walk_behind (IsOver cs) (x ∷ more) (y ∷ ys) x.net t.0) (walk_before (IsOver cs) (x ∷ more) y ys x.net t.0)
+    walk_of : (xs : List Above) → IsTurn Over start (xs ++ y ∷ ys) → StandAbove Over (y ∷ (ys ++ xs)) y.net
+    walk_of [] t = subst (λ zs. StandAbove Over (y ∷ zs) y.net) (sym (append-nil ys)) t.0
+    walk_of (x ∷ more) t = walk_join Over (y ∷ ys) x more y.net (walk_behind Over (x ∷ more) (y ∷ ys) x.net t.0) (walk_before Over (x ∷ more) y ys x.net t.0)
 
-    walk : StandAbove (IsOver cs) (y ∷ (ys ++ xs)) y.net
+    walk : StandAbove Over (y ∷ (ys ++ xs)) y.net
     walk = walk_of xs turn
 
-    one_of : (xs : List Above) → IsTurn cs (xs ++ y ∷ ys) → OneEach (λ (z : Above). z.net.0) (xs ++ y ∷ ys)
+    one_of : (xs : List Above) → IsTurn Over start (xs ++ y ∷ ys) → OneEach (λ (z : Above). z.net.0) (xs ++ y ∷ ys)
     one_of [] t = t.1
     one_of (x ∷ more) t = t.1
 
     one : OneEach (λ (z : Above). z.net.0) (y ∷ (ys ++ xs))
     one = one_each_permutation (λ (z : Above). z.net.0) (xs ++ y ∷ ys) ((y ∷ ys) ++ xs) (IsPermutation-append_comm xs (y ∷ ys)) (one_of xs turn)
 
-    two : (rest : List Above) → StandAbove (IsOver cs) (y ∷ rest) y.net → 0 < length rest
-    two [] h = absurd (differ (record { upper = y.net; lower = y.net; line = y.line }) h.0 refl)
+    two : (rest : List Above) → StandAbove Over (y ∷ rest) y.net → 0 < length rest
+    two [] h = absurd (differ y.net y.net y.line h.0 refl)
     two (z ∷ zs) h = omega arith
 
-pub rotated_at : (cs : List Constraint) (turn : List Above) (at : ℕ) (net : NetNo) (d : Above) → at < length turn → (get_or turn at d).net ≡ net → ((c : Constraint) → Contains cs c → c.upper ≢ c.lower) → IsTurn cs turn → All (λ a. net.0 ≤ a.net.0) turn → IsCycleOf (IsOver cs) (drop at turn ++ take at turn)
-rotated_at cs turn at net d below is differ closed least =
+    -- the walk goes on round the turn
+    comes : (xs : List Above) → IsTurn Over start (xs ++ y ∷ ys) → ComesTo Over start y.net
+    comes [] t = t.2
+    comes (x ∷ more) t =
+        let w : ComesTo Over start x.net = t.2 in
+        record { path = w.path ++ x ∷ more; walk = walk_join Over w.path x more y.net w.walk (walk_before Over (x ∷ more) y ys x.net t.0); begins = subst (λ n. n ≡ start) (sym (begins_join w.path x more y.net)) w.begins }
+
+pub rotated_at : (Over : NetNo → NetNo → ℕ → Type 0) (start : NetNo) (turn : List Above) (at : ℕ) (d : Above) → at < length turn → ((upper lower : NetNo) (line : ℕ) → Over upper lower line → upper ≢ lower) → IsTurn Over start turn → All (λ a. (get_or turn at d).net.0 ≤ a.net.0) turn → IsCycleBelow Over start (drop at turn ++ take at turn)
+rotated_at Over start turn at d below differ closed least =
     let y : Above = get_or turn at d in
     let split : drop at turn ≡ y ∷ drop (suc at) turn = drop-cons turn at d below in
     let parts : turn ≡ take at turn ++ y ∷ drop (suc at) turn = subst (λ zs. turn ≡ take at turn ++ zs) split (sym (take-append-drop at turn)) in
-    let least' : All (λ a. y.net.0 ≤ a.net.0) turn = subst (λ n. All (λ (a : Above). n.0 ≤ a.net.0) turn) (sym is) least in
-    subst (λ zs. IsCycleOf (IsOver cs) (zs ++ take at turn)) (sym split) (rotated cs (take at turn) y (drop (suc at) turn) differ (subst (λ t. IsTurn cs t) parts closed) (subst (λ t. All (λ (a : Above). y.net.0 ≤ a.net.0) t) parts least'))
+    subst (λ zs. IsCycleBelow Over start (zs ++ take at turn)) (sym split) (rotated Over start (take at turn) y (drop (suc at) turn) differ (subst (λ t. IsTurn Over start t) parts closed) (subst (λ t. All (λ (a : Above). y.net.0 ≤ a.net.0) t) parts least))
 
-pub turn_some : (cs : List Constraint) (turn : List Above) → IsTurn cs turn → 0 < length turn
-turn_some cs [] h = absurd h
-turn_some cs (x ∷ xs) h = omega arith
+pub turn_some : (Over : NetNo → NetNo → ℕ → Type 0) (start : NetNo) (turn : List Above) → IsTurn Over start turn → 0 < length turn
+turn_some Over start [] h = absurd h
+turn_some Over start (x ∷ xs) h = omega arith
 
 -- the least net so far
 pub least_more : (turn : List Above) (at : ℕ) (d : Above) (least now : ℕ) → at < length turn → now ≤ least → now ≤ (get_or turn at d).net.0 → All (λ a. least ≤ a.net.0) (take at turn) → All (λ a. now ≤ a.net.0) (take (at + 1) turn)

@@ -32,6 +32,17 @@ abbrev pub IsCycleOf : (NetNo → NetNo → ℕ → Type 0) → List Above → T
 IsCycleOf Over [] = ⊥
 IsCycleOf Over (first ∷ rest) = IsCycleFrom Over first rest
 
+-- a walk from one net down to another
+pub record ComesTo (Over : NetNo → NetNo → ℕ → Type 0) (start net : NetNo) : Type 0 where
+  pub path : List Above
+  pub walk : StandAbove Over path net
+  pub begins : next_net path net ≡ start
+
+-- a cycle that a walk from a net comes to
+abbrev pub IsCycleBelow : (NetNo → NetNo → ℕ → Type 0) → NetNo → List Above → Type 0
+IsCycleBelow Over start [] = ⊥
+IsCycleBelow Over start (first ∷ rest) = IsCycleFrom Over first rest × ComesTo Over start first.net
+
 abbrev pub IsCycle : Placement → Pins → List Above → Type 0
 IsCycle placement pins cycle = IsCycleOf (IsAbove placement pins) cycle
 

@@ -92,4 +92,4 @@ HasMoved left constraints at still (Some reach) = length still < at
 -- what filling tracks comes to
 abbrev pub IsOutcome : List Wire → List Constraint → Filled → Type 0
 IsOutcome wires constraints (Done trunks tracks) = IsFilled wires constraints trunks.items [] tracks
-IsOutcome wires constraints (Stuck left) = (0 < length left.items) × All (λ w. waits left.items constraints w ≡ true) left.items
+IsOutcome wires constraints (Stuck left) = (0 < length left.items) × All (λ w. waits left.items constraints w ≡ true) left.items × (trunks : List Trunk) × (tracks : ℕ) × IsFilled wires constraints trunks left.items tracks

@@ -1,5 +1,6 @@
 pub mod Cycle
 pub mod Graph
 pub mod Routing
+pub mod Told
 pub mod Turn
 pub mod Wires

@@ -3,6 +3,7 @@ ghost use Rattle.row_place.specs.Places.{IsPlacement};
 ghost use Rattle.row_place.specs.Trunks.{HasPins};
 ghost use Rattle.channel_route.specs.Routing.{IsLegal, IsTight, IsDensity, HasNoAbove};
 ghost use Rattle.channel_route.specs.Cycle.{HasNoCycle, IsCause};
+ghost use Rattle.channel_route.specs.Told.{TellsCycle};
 ghost use Rattle.channel_route.specs.Wires.{trunk_cmp};
 
 use crate::constraint::constraints;
@@ -23,16 +24,19 @@ fn sort(trunks: &mut Vec<Trunk>)
 
 /// Routes the channel between the rows of a placement, in which each pin other than the rails has a
 /// place. Each trunk stands on the least track that the nets below it and the trunks before it allow.
-/// Cycle comes exactly where no routing is legal.
+/// Cycle comes exactly where no routing is legal; of several cycles it tells the one below the first
+/// net that can not be placed.
 pub fn route(alloc: Global, placement: &Placement, pins: &Pins) -> Result<Routing, RouteStop>
     requires placement { IsPlacement placement.now }
     requires pins { HasPins placement.now pins.now }
     ensures legal { IfOk result (IsLegal placement.now pins.now) }
     ensures tight { IfOk result (IsTight placement.now pins.now) }
     // where no net stands above another, the tracks are as many as trunks cover one line
-    ensures density { IfOk result (λ routing. HasNoAbove placement.now pins.now → IsDensity routing.trunks routing.tracks) }
+    ensures density { IfOk result (λ routing. HasNoAbove placement.now pins.now
+        → IsDensity routing.trunks routing.tracks) }
     ensures acyclic { IfOk result (λ routing. HasNoCycle placement.now pins.now) }
     ensures cause { IfErr result (IsCause placement.now pins.now) }
+    ensures told { IfErr result (TellsCycle placement.now pins.now) }
 {
     let wires = wires(alloc, placement, pins)?;
     let constraints = constraints(alloc, &wires, placement.nodes.as_slice())?;
@@ -46,7 +50,8 @@ pub fn route(alloc: Global, placement: &Placement, pins: &Pins) -> Result<Routin
             })
         }
         Filled::Stuck(left) => {
-            let cycle = find_cycle(alloc, &left, &constraints)?;
+            let start = left[0].net;
+            let cycle = find_cycle(alloc, &left, &constraints, start)?;
             Err(RouteStop::Cycle(cycle))
         }
     }

@@ -6,6 +6,3 @@ mod cut;
 mod folding;
 
 pub use folding::{FoldFault, fold};
-
-#[cfg(test)]
-mod tests;

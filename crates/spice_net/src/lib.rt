@@ -13,6 +13,3 @@ mod transistor;
 pub use fault::{SpiceFault, What};
 pub use read::read_cell;
 pub use subckt::{Device, DeviceList, Subckt};
-
-#[cfg(test)]
-mod tests;

@@ -13,8 +13,10 @@ use std::alloc::Global;
 pub fn add<'a>(nets: &mut IndexSet<&'a [u8]>, name: &'a [u8]) -> Result<(), NoMemory>
     ensures { OnOk result (names_of nets.new.keys ≡ with_name (names_of nets.old.keys) name.now) }
 {
-    nets.insert_full(name)?;
-    Ok(())
+    match nets.insert_full(name) {
+        Ok(_) => Ok(()),
+        Err(_) => Err(NoMemory),
+    }
 }
 
 /// The names without repeats.

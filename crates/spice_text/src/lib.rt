@@ -11,6 +11,3 @@ mod words;
 
 pub use logical::{Line, Lines, TextFault, split_lines};
 pub use number::read_fixed;
-
-#[cfg(test)]
-mod tests;

@@ -14,6 +14,3 @@ mod words;
 pub use fault::TechFault;
 pub use read::read_tech;
 pub use tech::Tech;
-
-#[cfg(test)]
-mod tests;

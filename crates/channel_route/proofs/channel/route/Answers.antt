@@ -1,14 +1,17 @@
-use Rattle.std.proofs.Common.{◌≡◌, ◌≢◌, List, [], Contains, rules, sym, subst}
+use Rattle.std.proofs.Common.{◌≡◌, ◌≢◌, List, [], Contains, get_or, ap, rules, sym, subst}
 use Rattle.channel_route.specs.declared.routing.Trunk.{Trunk}
 use Rattle.channel_route.specs.declared.constraint.Constraint.{Constraint}
+use Rattle.channel_route.specs.declared.wire.Wire.{Wire}
 use Rattle.channel_route.specs.declared.fill.Filled.{Filled}
+use Rattle.channel_route.specs.declared.fill.Filled.TheVariants.{Stuck}
+use Rattle.channel_route.specs.Cycle.{IsCycleBelow}
 use Rattle.channel_route.specs.Routing.{IsLegal, IsTight, IsDensity, HasNoAbove}
-use Rattle.channel_route.specs.Cycle.{IsCycleOf}
 use Rattle.channel_route.specs.Graph.{IsChannel, IsFilled, IsOutcome}
 use Rattle.channel_route.specs.Wires.{constraints_of}
-use Rattle.channel_route.specs.Turn.{IsOver}
-use Rattle.channel_route.proofs.Constraints.{channel, constraint_is}
-use Rattle.channel_route.proofs.Legal.{IsDone, routing_of, legal, tight, acyclic, cycle_above}
+use Rattle.channel_route.specs.Turn.{AreInOrder, IsDown}
+use Rattle.channel_route.proofs.Constraints.{channel, constraint_is, in_order}
+use Rattle.channel_route.proofs.Legal.{IsDone, routing_of, legal, tight, acyclic}
+use Rattle.channel_route.proofs.Stuck.{AreLeft, told, cycle_is}
 use Rattle.channel_route.proofs.Density.{density}
 use Rattle.channel_route.proofs.channel.route.Goals as goal
 
@@ -40,7 +43,26 @@ find_cycle-requires-clause-differ c =
     let same : c.deref-in-Stuck-2.result.now ≡ constraints_of c.in_ok-wires.wires.items c.args.placement.now.nodes = search rules in
     subst (λ (cs : List Constraint). (d : Constraint) → Contains cs d → d.upper ≢ d.lower) (sym same) (λ d there. (constraint_is c.args.placement.now c.args.pins.now c.in_ok-wires.wires.items c.in_ok-wires.ensures.wires d there).differ)
 
-pub returns-clause-cause : goal.returns-clause-cause
-returns-clause-cause c =
+pub find_cycle-requires-clause-order : goal.find_cycle-requires-clause-order
+find_cycle-requires-clause-order c =
     let same : c.deref-in-Stuck-2.result.now ≡ constraints_of c.in_ok-wires.wires.items c.args.placement.now.nodes = search rules in
-    cycle_above c.args.placement.now c.args.pins.now c.in_ok-wires.wires.items c.in_ok-wires.ensures.wires c.in_ok-cycle-in-Stuck.cycle (subst (λ (cs : List Constraint). IsCycleOf (IsOver cs) c.in_ok-cycle-in-Stuck.cycle) same c.in_ok-cycle-in-Stuck.ensures)
+    subst (λ (cs : List Constraint). AreInOrder cs) (sym same) (in_order c.args.placement.now c.requires.placement c.in_ok-wires.wires.items)
+
+pub returns-clause-told : goal.returns-clause-told
+returns-clause-told c =
+    let wires : List Wire = c.in_ok-wires.wires.items in
+    let left : List Wire = c.in-Stuck.left.items in
+    let first : Wire = c.index.result.now in
+    let cs : List Constraint = constraints_of wires c.args.placement.now.nodes in
+    let same : c.deref-2.result.now ≡ cs = search rules in
+    let same-2 : c.deref-in-Stuck-2.result.now ≡ cs = search rules in
+    let lent : c.deref-in-Stuck.result.now ≡ left = search rules in
+    let begins : first.net ≡ (get_or left 0 first).net = ap (λ (w : Wire). w.net) c.index.ensures in
+    let stuck : IsOutcome wires cs (Stuck c.in-Stuck.left) = subst (λ (z : List Constraint). IsOutcome wires z (Stuck c.in-Stuck.left)) same (subst (λ (f : Filled). IsOutcome wires c.deref-2.result.now f) c.in-Stuck.is c.in_ok-trunks.ensures) in
+    let are : AreLeft c.args.placement.now c.args.pins.now wires left stuck.2 stuck.3 = record { wired = c.in_ok-wires.ensures.wires; filled = stuck.4; stuck = stuck.1 } in
+    let down : IsCycleBelow (IsDown left cs) first.net c.in_ok-cycle-in-Stuck.cycle = subst (λ (ws : List Wire). IsCycleBelow (IsDown ws cs) first.net c.in_ok-cycle-in-Stuck.cycle) lent (subst (λ (z : List Constraint). IsCycleBelow (IsDown c.deref-in-Stuck.result.now z) first.net c.in_ok-cycle-in-Stuck.cycle) same-2 c.in_ok-cycle-in-Stuck.ensures) in
+    let below : IsCycleBelow (IsDown left cs) (get_or left 0 first).net c.in_ok-cycle-in-Stuck.cycle = subst (λ n. IsCycleBelow (IsDown left cs) n c.in_ok-cycle-in-Stuck.cycle) begins down in
+    told c.args.placement.now c.args.pins.now wires left stuck.2 stuck.3 are first stuck.0 c.in_ok-cycle-in-Stuck.cycle below
+
+pub returns-clause-cause : goal.returns-clause-cause
+returns-clause-cause c = cycle_is c.args.placement.now c.args.pins.now c.in_ok-cycle-in-Stuck.cycle (returns-clause-told c)

@@ -1,0 +1,106 @@
+use cell_num::{Row, copy};
+use spice_net::read_cell;
+use std::alloc::Global;
+use std::test::Fail;
+use tech_file::Tech;
+
+// the pins, the rails, the nets and each device of the cell `c`; or the fault
+fn told(alloc: Global, text: &[u8]) -> Result<String, Fail> {
+    let name = copy(alloc, b"c")?;
+    let tech = Tech::plain(alloc)?;
+    let cell = match read_cell(alloc, &text[..text.len().min(1000)], &name, &tech) {
+        Ok(cell) => cell,
+        Err(fault) => return Ok(format!(in alloc; "{fault:?}")?),
+    };
+    let mut told = format!(in alloc;
+        "{} {} {}",
+        cell.pins.pins, cell.pins.vdd.0, cell.pins.gnd.0
+    )?;
+    for net in cell.nets.as_slice() {
+        told.push(' ')?;
+        told.push_str(str::from_utf8(net.as_slice()).unwrap_or("?"))?;
+    }
+    for device in cell.devices.as_slice() {
+        let row = if device.row == Row::P { "P" } else { "N" };
+        let text = format!(in alloc;
+            ", {row} {} {} {} {}",
+            device.drain.0, device.gate.0, device.source.0, device.width
+        )?;
+        told.push_str(text.as_str())?;
+    }
+    Ok(told)
+}
+
+const INVERTER: &str = "4 2 3 a y vdd gnd, P 1 0 2 20, N 1 0 3 10";
+
+#[test]
+fn reads_subcircuits(rt: HostRuntime) -> Result<(), Fail> {
+    for (text, want) in [
+        (
+            b".SUBCKT c a y vdd gnd\n*.PININFO a:I y:O vdd:B gnd:B\nMP y a vdd vdd p W=3u L=0.6u\nMN y a gnd gnd n W=1.5u L=0.6u\n.ENDS\n".as_slice(),
+            INVERTER,
+        ),
+        (
+            b".SUBCKT c a y vdd gnd\nMP y a vdd vdd p W=3u L=0.6u\nMn Y a\n+ GND gnd NMOS w=1.5UM $ width\n+ L = 600N AD=2p\n.ENDS\n",
+            INVERTER,
+        ),
+        (
+            b".subckt c a y vdd\nMP y a vdd vdd p W=3u L=0.6u\nMN y a gnd gnd n w=9 W=1.5E-6 L=0.6u NF=2 nf=1 m=1000m\n.ends\n.GLOBAL x gnd",
+            INVERTER,
+        ),
+        (
+            b".global gnd vdd\n.subckt c a y\n.global\nMP y a vdd vdd p W=3u L=0.6u\nmn y a t gnd n w=1.575u l=.6u\nmn2 t a gnd gnd nch w=0.825u l=600n\n.ENDS\n",
+            "4 2 3 a y vdd gnd t, P 1 0 2 20, N 1 0 4 11, N 4 0 3 6",
+        ),
+        (b"", "NoCell"),
+        (
+            b"* \xe9\n.subckt d\n.ends\nr1 \x01\n",
+            "NotAscii { line: 4 }",
+        ),
+        (b".subckt c a y vdd gnd\n", "Unended"),
+        (b".subckt c a y vdd gnd y\n.ends\n", "Fields { line: 1 }"),
+        (b".subckt c vdd gnd\n.ends\n", "Empty"),
+        (
+            b".subckt c a y vdd\nMP y a vdd vdd p W=3u L=0.6u\nMN y a gnd gnd n W=1.5u L=0.6u\n.ends\n",
+            "NoRail",
+        ),
+        (
+            b".subckt c a b y vdd gnd\nMP y a vdd vdd p W=3u L=0.6u\n.ends\n",
+            "IdlePin { name: List { items: [98] } }",
+        ),
+    ] {
+        assert_eq!(rt; told(rt.alloc(), text)?.as_str(), want);
+    }
+    Ok(())
+}
+
+#[test]
+fn refuses_the_first_fault_of_a_line(rt: HostRuntime) -> Result<(), Fail> {
+    for (line, want) in [
+        ("R1 y a 5", "Element { line: 2 }"),
+        ("MN y a gnd gnd", "Fields { line: 2 }"),
+        ("MN y a gnd (gnd x w=1.5u l=.6u", "Fields { line: 2 }"),
+        ("MN y a gnd gnd n w=1.5u l=.6u 5", "Fields { line: 2 }"),
+        ("MN y a gnd gnd n w=1.5u", "Fields { line: 2 }"),
+        ("MN y a gnd gnd x w=-1 l=.6u", "Model { line: 2 }"),
+        ("MN y a gnd gnd n w=1.5u w=-1 l=1u", "Number { line: 2 }"),
+        ("MN y a gnd gnd n w=15.1m l=.6u", "Number { line: 2 }"),
+        ("MN y a gnd gnd n w=1.5u l=.6u m=one", "Number { line: 2 }"),
+        (
+            "MN y a gnd gnd n w=.75u l=1u",
+            "Length { line: 2, units: 7 }",
+        ),
+        (
+            "MN y a gnd vdd n w=.75u l=.6u",
+            "Narrow { line: 2, units: 5 }",
+        ),
+        ("MN y vdd gnd vdd n w=1.5u l=.6u", "Body { line: 2 }"),
+        ("MN y vdd gnd gnd n w=1.5u l=.6u m=2", "Rail { line: 2 }"),
+        ("MN y a vdd gnd n w=1.5u l=.6u", "Rail { line: 2 }"),
+        ("MN y a gnd gnd n w=1.5u l=.6u m=2", "Multiple { line: 2 }"),
+    ] {
+        let text = format!(in rt.alloc(); ".subckt c a y vdd gnd\n{line}\nR2\n.ends\n")?;
+        assert_eq!(rt; told(rt.alloc(), text.as_bytes())?.as_str(), want, "{line}");
+    }
+    Ok(())
+}
