@@ -8,7 +8,3 @@ text_line word text = word ++ text ++ codes "\n"
 -- a word and a count
 abbrev pub count_line : List ℕ → ℕ → List ℕ
 count_line word count = word ++ decimal count ++ codes "\n"
-
--- two numbers, each behind its word
-abbrev pub pair_line : List ℕ → ℕ → List ℕ → ℕ → List ℕ
-pair_line word first behind second = word ++ decimal first ++ count_line behind second

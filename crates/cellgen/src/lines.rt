@@ -1,5 +1,5 @@
 ghost use Rattle.std.specs.Prelude.{◌≡◌, ◌++◌, decimal, OnOk};
-ghost use Rattle.cellgen.specs.Lines.{text_line, count_line, pair_line};
+ghost use Rattle.cellgen.specs.Lines.{text_line, count_line};
 
 use cell_num::{Name, NoMemory};
 use itoa::Buffer;
@@ -27,19 +27,4 @@ pub fn put_count(out: &mut Name, word: &[u8], count: u64) -> Result<(), NoMemory
     out.extend(word)?;
     put_number(out, count)?;
     out.extend(b"\n")
-}
-
-/// Adds a line of two numbers, each behind its word.
-pub fn put_pair(
-    out: &mut Name,
-    word: &[u8],
-    first: u32,
-    behind: &[u8],
-    second: u32,
-) -> Result<(), NoMemory>
-    ensures { OnOk result (out.new ≡ out.old ++ pair_line word.now first behind.now second) }
-{
-    out.extend(word)?;
-    put_number(out, u64::from(first))?;
-    put_count(out, behind, u64::from(second))
 }

@@ -1,13 +1,17 @@
 // Makes standard cells from SPICE subcircuits.
 #![tactic(auto)]
 
-mod answer;
-mod checking;
+mod check;
+mod deliver;
+mod end;
+mod fault_line;
 mod faults;
 mod form;
+mod gather;
 mod inputs;
 mod lines;
-mod planning;
+mod plan;
+mod read;
 mod refusal;
 mod report;
 mod run;

@@ -1,5 +1,5 @@
 ghost use Rattle.std.specs.Prelude.{◌≡◌, ◌≤◌, ◌++◌, length, OnOk};
-ghost use Rattle.cellgen.specs.Report.{name_of, place_text, gate_text, column_text, columns_text, row_text, plan_text, stopped_text, checked_text};
+ghost use Rattle.cellgen.specs.Report.{name_of, place_text, gate_text, column_text, columns_text, row_text, plan_text, unfinished_text, checked_text};
 
 use crate::lines::{put_count, put_number, put_text};
 use cell_num::{Name, Names, NetNo, NoMemory};
@@ -84,9 +84,9 @@ pub fn put_plan(
     put_columns(out, nets, row)
 }
 
-/// Adds the lines of a spent budget.
-pub fn put_stopped(out: &mut Name, proved: u32, lemmas: u64) -> Result<(), NoMemory>
-    ensures { OnOk result (out.new ≡ out.old ++ stopped_text proved lemmas) }
+/// Adds the lines of an unfinished search.
+pub fn put_unfinished(out: &mut Name, proved: u32, lemmas: u64) -> Result<(), NoMemory>
+    ensures { OnOk result (out.new ≡ out.old ++ unfinished_text proved lemmas) }
 {
     put_count(out, b"proved ", u64::from(proved))?;
     put_count(out, b"lemmas ", lemmas)
