@@ -9,7 +9,11 @@ use Rattle.std.proofs.lemmas.List.Sums.{AllPass-from_list_all}
 use Rattle.std.proofs.lemmas.Str.Ascii.{lowercase_is}
 use Rattle.cell_num.specs.Names.{lowered}
 use Rattle.bound_log.specs.Fits.{IsLogName}
+use Rattle.tech_file.specs.Technology.{Technology}
+use Rattle.spice_net.specs.declared.subckt.Subckt.{Subckt}
+use Rattle.spice_net.specs.Subcircuit.{subcircuit}
 use Rattle.cellgen.specs.Words.{is_cell, is_cell_byte}
+use Rattle.cellgen.proofs.Results.{ok_behind}
 
 line_feed : (c : ℕ) → to_ascii_lowercase c ≡ 10 → c ≡ 10
 line_feed c e = elim (cases_lt c 65) [
@@ -36,3 +40,16 @@ log_name cell h =
       few = omega (arith, leb-true (length cell) 32 few, length-map cell to_ascii_lowercase);
       line = All-map (λ b. b ≢ 10) to_ascii_lowercase cell (All-weaker (λ b. is_cell_byte b ≡ true) (λ b. to_ascii_lowercase b ≢ 10) (λ b ok. not_line_feed b ok) cell (AllPass-from_list_all is_cell_byte cell sized.1));
     }
+
+-- ---- a subcircuit has the name that was asked for
+
+subckt_named : (bytes name : List ℕ) (tech : Technology) → IfOk (subcircuit bytes name tech) (λ (cell : Subckt). cell.name ≡ name)
+subckt_named bytes name tech =
+    let Is : Subckt → Type 0 = λ (cell : Subckt). cell.name ≡ name in
+    ok_behind Is _ _ (λ lines. ok_behind Is _ _ (λ chosen. ok_behind Is _ _ (λ pins. ok_behind Is _ _ (λ transistors.
+    ok_behind Is _ _ (λ rails. ok_behind Is _ _ (λ idle. ok_behind Is _ _ (λ some. ok_behind Is _ _ (λ few. refl))))))))
+
+pub cell_named : (bytes name : List ℕ) (tech : Technology) (cell : Subckt) → subcircuit bytes name tech ≡ Ok cell → IsLogName name → IsLogName cell.name
+cell_named bytes name tech cell is named =
+    let same : cell.name ≡ name = subst (λ r. IfOk r (λ (cell : Subckt). cell.name ≡ name)) is (subckt_named bytes name tech) in
+    subst IsLogName (sym same) named

@@ -13,7 +13,7 @@ use Rattle.cellgen.specs.Check.{ChecksTo}
 use Rattle.cellgen.specs.End.{says}
 use Rattle.cellgen.specs.Faults.{fault_line, tech_fault, spice_fault, fold_fault}
 use Rattle.cellgen.specs.Gather.{gathered}
-use Rattle.cellgen.specs.Lines.{text_line}
+use Rattle.cell_num.specs.Lines.{text_line}
 use Rattle.cellgen.specs.Plan.{PlansTo}
 use Rattle.cellgen.specs.Reading.{called, MayCome}
 use Rattle.cellgen.specs.Status.{number_of}

@@ -3,12 +3,10 @@ pub mod Check
 pub mod Deliver
 pub mod End
 pub mod Ends
-pub mod Evidence
 pub mod Faults
 pub mod Fields
 pub mod Gather
 pub mod Inputs
-pub mod Lines
 pub mod Plan
 pub mod Read
 pub mod Reading

@@ -7,7 +7,7 @@ use Rattle.bound_log.specs.declared.log.Log.{Log}
 use Rattle.bound_log.specs.Text.{log_text}
 use Rattle.spice_net.specs.declared.subckt.Subckt.{Subckt}
 use Rattle.log_check.specs.Accepted.{ForKinds, WithKinds}
-use Rattle.cellgen.specs.Evidence.{IsSolved, IsSpent}
+use Rattle.row_search.specs.Ended.{IsSolved, IsSpent}
 use Rattle.row_search.specs.Enough.{enough}
 use Rattle.row_search.specs.First.{IsFirstLeast}
 use Rattle.cellgen.specs.declared.end.End.{End}

@@ -6,7 +6,7 @@ use Rattle.cell_num.specs.declared.net.NetNo.{NetNo}
 use Rattle.row_model.specs.declared.column.Placed.{Placed}
 use Rattle.row_model.specs.declared.column.Column.{Column}
 use Rattle.row_model.specs.Gaps.{left_net, right_net, gaps_of}
-use Rattle.cellgen.specs.Lines.{text_line, count_line}
+use Rattle.cell_num.specs.Lines.{text_line, count_line}
 
 -- a net by its name
 abbrev pub name_of : List (List ℕ) → NetNo → List ℕ

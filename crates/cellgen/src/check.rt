@@ -7,7 +7,7 @@ use crate::inputs::Inputs;
 use crate::report::put_checked;
 use crate::status::Status;
 use bound_log::{LogFault, read_log};
-use cell_num::{Name, NoMemory, columns_of};
+use cell_num::{Bytes, NoMemory, columns_of};
 use log_check::{Refused, check_log};
 use row_state::{Parity, kinds};
 use std::alloc::Global;
@@ -48,7 +48,7 @@ fn end_of(alloc: Global, inputs: &Inputs, answer: &CheckAnswer) -> Result<End, N
     ensures { IfOk result (λ end. end ≡ check_end inputs.now answer.now) }
 {
     inputs.show_limits();
-    let mut report = Name::new(alloc);
+    let mut report = Bytes::new(alloc);
     match answer {
         CheckAnswer::Accepted { gaps, lemmas } => {
             let columns = columns_of(&inputs.fingers) as u64;

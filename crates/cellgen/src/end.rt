@@ -2,14 +2,14 @@ ghost use Rattle.std.specs.Prelude.{◌≡◌};
 ghost use Rattle.cellgen.specs.End.{says};
 
 use crate::status::Status;
-use cell_num::{List, Name};
+use cell_num::{Bytes, List};
 use std::alloc::Global;
 
 /// A file to make.
 #[derive(Debug, Drop)]
 pub struct Output {
     pub name: String,
-    pub bytes: Name,
+    pub bytes: Bytes,
 }
 
 pub type OutputList = List<Output>;
@@ -19,12 +19,12 @@ pub type OutputList = List<Output>;
 pub struct End {
     pub status: Status,
     pub files: OutputList,
-    pub report: Name,
+    pub report: Bytes,
 }
 
 impl End {
     /// An end without files.
-    pub fn says(alloc: Global, status: Status, report: Name) -> End
+    pub fn says(alloc: Global, status: Status, report: Bytes) -> End
         ensures { result ≡ says status report }
     {
         End {

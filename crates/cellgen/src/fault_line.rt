@@ -2,8 +2,7 @@ ghost use Rattle.std.specs.Prelude.{◌≡◌, ◌++◌, map, flat_map, codes, O
 ghost use Rattle.cellgen.specs.Faults.{field_text, fault_line};
 ghost use Rattle.cellgen.specs.Fields.{spelled};
 
-use crate::lines::put_number;
-use cell_num::{Name, NoMemory};
+use cell_num::{Bytes, NoMemory, put_number};
 use itoa::Buffer;
 
 /// A field of a fault: its name and its value.
@@ -15,14 +14,14 @@ pub enum Field<'a> {
 }
 
 // Adds a word behind a blank.
-fn put_word(out: &mut Name, word: &[u8]) -> Result<(), NoMemory>
+fn put_word(out: &mut Bytes, word: &[u8]) -> Result<(), NoMemory>
     ensures { OnOk result (out.new ≡ out.old ++ codes " " ++ word.now) }
 {
     out.extend(b" ")?;
     out.extend(word)
 }
 
-fn put_field(out: &mut Name, field: &Field<'_>) -> Result<(), NoMemory>
+fn put_field(out: &mut Bytes, field: &Field<'_>) -> Result<(), NoMemory>
     ensures { OnOk result (out.new ≡ out.old ++ field_text (spelled field.now)) }
 {
     match field {
@@ -42,7 +41,7 @@ fn put_field(out: &mut Name, field: &Field<'_>) -> Result<(), NoMemory>
     }
 }
 
-fn put_fields(out: &mut Name, fields: &[Field<'_>]) -> Result<(), NoMemory>
+fn put_fields(out: &mut Bytes, fields: &[Field<'_>]) -> Result<(), NoMemory>
     ensures { OnOk result (out.new ≡ out.old ++ flat_map field_text (map spelled fields.now)) }
 {
     'fields: for field in fields {
@@ -53,7 +52,7 @@ fn put_fields(out: &mut Name, fields: &[Field<'_>]) -> Result<(), NoMemory>
 
 /// Adds the line of a fault: the part's word, the fault's name, and each field's name and value.
 pub fn put_fault(
-    out: &mut Name,
+    out: &mut Bytes,
     word: &[u8],
     name: &[u8],
     fields: &[Field<'_>],

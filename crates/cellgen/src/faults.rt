@@ -4,14 +4,14 @@ ghost use Rattle.cellgen.specs.Faults.{fault_line, tech_fault, what_text, spice_
 
 use crate::fault_line::{Field, put_fault};
 use bound_log::LogFault;
-use cell_num::{Name, NoMemory};
+use cell_num::{Bytes, NoMemory};
 use finger_fold::FoldFault;
 use log_check::Refused;
 use spice_net::{SpiceFault, What};
 use tech_file::TechFault;
 
 /// Adds the line of a fault of the technology.
-pub fn put_tech(out: &mut Name, fault: &TechFault) -> Result<(), NoMemory>
+pub fn put_tech(out: &mut Bytes, fault: &TechFault) -> Result<(), NoMemory>
     ensures { OnOk result (out.new ≡ out.old ++ fault_line (codes "tech") (tech_fault fault.now)) }
 {
     match fault {
@@ -46,14 +46,14 @@ pub fn put_tech(out: &mut Name, fault: &TechFault) -> Result<(), NoMemory>
 }
 
 // A fault of the SPICE file that has no fields.
-fn put_spice_alone(out: &mut Name, name: &[u8]) -> Result<(), NoMemory>
+fn put_spice_alone(out: &mut Bytes, name: &[u8]) -> Result<(), NoMemory>
     ensures { OnOk result (out.new ≡ out.old ++ fault_line (codes "spice") (record { name = name.now; fields = [] })) }
 {
     put_fault(out, b"spice", name, &[])
 }
 
 // A fault of a line of the SPICE file.
-fn put_spice_line(out: &mut Name, name: &[u8], line: u32) -> Result<(), NoMemory>
+fn put_spice_line(out: &mut Bytes, name: &[u8], line: u32) -> Result<(), NoMemory>
     ensures { OnOk result
         (out.new ≡ out.old ++ fault_line (codes "spice") (record { name = name.now; fields = faults.Number (codes "line") line ∷ [] })) }
 {
@@ -66,7 +66,7 @@ fn put_spice_line(out: &mut Name, name: &[u8], line: u32) -> Result<(), NoMemory
 }
 
 // A fault of a length in a line of the SPICE file.
-fn put_spice_units(out: &mut Name, name: &[u8], line: u32, units: u32) -> Result<(), NoMemory>
+fn put_spice_units(out: &mut Bytes, name: &[u8], line: u32, units: u32) -> Result<(), NoMemory>
     ensures { OnOk result
         (out.new ≡ out.old ++ fault_line (codes "spice") (record { name = name.now; fields = faults.Number (codes "line") line ∷ faults.Number (codes "units") units ∷ [] })) }
 {
@@ -90,7 +90,7 @@ fn what_text(what: What) -> &'static [u8]
 }
 
 /// Adds the line of a fault of the SPICE file.
-pub fn put_spice(out: &mut Name, fault: &SpiceFault) -> Result<(), NoMemory>
+pub fn put_spice(out: &mut Bytes, fault: &SpiceFault) -> Result<(), NoMemory>
     ensures { OnOk result (out.new ≡ out.old ++ fault_line (codes "spice") (spice_fault fault.now)) }
 {
     match fault {
@@ -130,7 +130,7 @@ pub fn put_spice(out: &mut Name, fault: &SpiceFault) -> Result<(), NoMemory>
 }
 
 /// Adds the line of a fault of folding.
-pub fn put_fold(out: &mut Name, fault: &FoldFault) -> Result<(), NoMemory>
+pub fn put_fold(out: &mut Bytes, fault: &FoldFault) -> Result<(), NoMemory>
     ensures { OnOk result (out.new ≡ out.old ++ fault_line (codes "fold") (fold_fault fault.now)) }
 {
     match fault {
@@ -155,7 +155,7 @@ pub fn put_fold(out: &mut Name, fault: &FoldFault) -> Result<(), NoMemory>
 }
 
 /// Adds the line of a fault of the text of a log.
-pub fn put_log(out: &mut Name, fault: &LogFault) -> Result<(), NoMemory>
+pub fn put_log(out: &mut Bytes, fault: &LogFault) -> Result<(), NoMemory>
     ensures { OnOk result (out.new ≡ out.old ++ fault_line (codes "log") (log_fault fault.now)) }
 {
     match fault {
@@ -176,7 +176,7 @@ pub fn put_log(out: &mut Name, fault: &LogFault) -> Result<(), NoMemory>
 
 // A cause of one number or two, each behind its name.
 fn put_cause(
-    out: &mut Name,
+    out: &mut Bytes,
     name: &[u8],
     first: (&[u8], u32),
     second: (&[u8], u32),
@@ -194,7 +194,7 @@ fn put_cause(
 }
 
 /// Adds the line of the cause that refuses a log.
-pub fn put_refused(out: &mut Name, cause: &Refused) -> Result<(), NoMemory>
+pub fn put_refused(out: &mut Bytes, cause: &Refused) -> Result<(), NoMemory>
     ensures { OnOk result (out.new ≡ out.old ++ fault_line (codes "log") (check_fault cause.now)) }
 {
     match cause {

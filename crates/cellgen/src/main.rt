@@ -9,7 +9,6 @@ mod faults;
 mod form;
 mod gather;
 mod inputs;
-mod lines;
 mod plan;
 mod read;
 mod refusal;

@@ -7,7 +7,7 @@ use crate::inputs::Inputs;
 use crate::report::{put_plan, put_unfinished};
 use crate::status::Status;
 use bound_log::{Log, write_log};
-use cell_num::{Name, NoMemory};
+use cell_num::{Bytes, NoMemory};
 use row_model::Arrangement;
 use row_search::{Stop, search};
 use row_state::Parity;
@@ -18,7 +18,7 @@ fn planned(alloc: Global, cell: &Subckt, row: &Arrangement) -> Result<End, NoMem
     requires { length row.now ≤ 64 }
     ensures { IfOk result (λ end. end ≡ planned_end cell.now row.now) }
 {
-    let mut report = Name::new(alloc);
+    let mut report = Bytes::new(alloc);
     report.extend(b"status 0 ok\n")?;
     put_plan(&mut report, &cell.name, &cell.nets, row)?;
     Ok(End::says(alloc, Status::Done, report))
@@ -30,7 +30,7 @@ fn unfinished(alloc: Global, cell: &Subckt, log: &Log, proved: u32) -> Result<En
     ensures { IfOk result (λ end. end ≡ unfinished_end cell.now proved log.now) }
 {
     let text = write_log(alloc, &cell.name, log)?;
-    let mut report = Name::new(alloc);
+    let mut report = Bytes::new(alloc);
     report.extend(b"status 6 unfinished\n")?;
     put_unfinished(&mut report, proved, log.lemmas.len() as u64)?;
     report.extend(&text)?;

@@ -3,9 +3,8 @@ ghost use Rattle.cellgen.specs.Ends.{refused, refusal_status, refusal_text};
 
 use crate::end::End;
 use crate::faults::{put_fold, put_spice, put_tech};
-use crate::lines::put_text;
 use crate::status::Status;
-use cell_num::{Name, NoMemory};
+use cell_num::{Bytes, Name, NoMemory, put_text};
 use finger_fold::FoldFault;
 use spice_net::SpiceFault;
 use std::alloc::Global;
@@ -87,10 +86,10 @@ fn status_of(refusal: &Refusal) -> Status
     }
 }
 
-fn report_of(alloc: Global, refusal: &Refusal) -> Result<Name, NoMemory>
+fn report_of(alloc: Global, refusal: &Refusal) -> Result<Bytes, NoMemory>
     ensures { IfOk result (λ text. text ≡ refusal_text refusal.now) }
 {
-    let mut out = Name::new(alloc);
+    let mut out = Bytes::new(alloc);
     match refusal {
         Refusal::Words => out.extend(
             b"status 1 usage\nplan TECH SPICE CELL\ncheck TECH SPICE CELL LOG\n",

@@ -19,7 +19,7 @@ use crate::refusal::refused;
 use crate::status::Status;
 use crate::work::work;
 use cell_io::Desk;
-use cell_num::{Name, NoMemory};
+use cell_num::{Bytes, NoMemory};
 use std::alloc::Global;
 
 // Gathers what the words ask for and does the work on it.
@@ -40,7 +40,7 @@ fn prepare<D: Desk>(alloc: Global, words: &[String], desk: &mut D) -> End
 {
     match end_of(alloc, words, desk) {
         Ok(end) => end,
-        Err(NoMemory) => End::says(alloc, Status::NoMemory, Name::new(alloc)),
+        Err(NoMemory) => End::says(alloc, Status::NoMemory, Bytes::new(alloc)),
     }
 }
 
