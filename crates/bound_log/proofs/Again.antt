@@ -203,7 +203,7 @@ unfolding side_words kind_word flip_word
 two_words None = refl
 two_words (Some side) = refl
 
-side_again : (kinds : List Kind) (side : Option Side) → length kinds ≤ 60 → SideFits kinds side → side_in kinds (kind_word side) (flip_word side) ≡ Some side
+side_again : (kinds : List Kind) (side : Option Side) → length kinds ≤ 32 → SideFits kinds side → side_in kinds (kind_word side) (flip_word side) ≡ Some side
 unfolding kind_word flip_word
 side_again kinds None few h = refl
 side_again kinds (Some side) few h =

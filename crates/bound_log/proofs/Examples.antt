@@ -44,9 +44,29 @@ is_cut : log_of front (codes "x3") kinds ≡ Err fault.Cut
 unfolding behind columns_at digits lines_in log_at log_of number_below
 is_cut = refl
 
-too_few_counts : log_of (codes "cellgen-log 1\ncell x3\nlemma 1 P 1,1 1,1,1 - -\n") (codes "x3") kinds ≡ Err (fault.Line 3)
-unfolding behind columns_at digits lines_in log_at log_of number_below
+-- a text of one lemma
+lemma_of : List ℕ → List ℕ
+lemma_of fields = codes "cellgen-log 1\ncell x3\nlemma " ++ fields ++ codes "\n"
+
+too_few_counts : log_of (lemma_of (codes "1 P 1,1 1,1,1 - -")) (codes "x3") kinds ≡ Err (fault.Line 3)
+unfolding behind columns_at digits lemma_of lines_in log_at log_of number_below
 too_few_counts = refl
+
+too_great_a_bound : log_of (lemma_of (codes "64 P 1,1,1 1,1,1 - -")) (codes "x3") kinds ≡ Err (fault.Line 3)
+unfolding behind columns_at digits lemma_of lines_in log_at log_of number_below
+too_great_a_bound = refl
+
+zero_in_front : log_of (lemma_of (codes "01 P 1,1,1 1,1,1 - -")) (codes "x3") kinds ≡ Err (fault.Line 3)
+unfolding behind columns_at digits lemma_of lines_in log_at log_of number_below
+zero_in_front = refl
+
+no_lead : log_of (lemma_of (codes "1 P 0,1,1 1,1,1 - -")) (codes "x3") kinds ≡ Err (fault.Line 3)
+unfolding behind columns_at digits lemma_of lines_in log_at log_of number_below
+no_lead = refl
+
+other_name : log_of (codes "cellgen-log 1\ncell x3 \n") (codes "x3") kinds ≡ Err fault.Cell
+unfolding behind columns_at digits lines_in log_at log_of number_below
+other_name = refl
 
 behind_end : log_of (front ++ codes "end\n ") (codes "x3") kinds ≡ Err (fault.Line 9)
 unfolding behind columns_at digits lines_in log_at log_of number_below

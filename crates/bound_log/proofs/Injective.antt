@@ -71,7 +71,7 @@ end_same nets (Some u) (Some v) few fits h =
     let number : u.0 ≡ v.0 = decimal_one u.0 v.0 (omega (arith, few, fits)) h in
     λ i. Some (record { 0 = number i })
 
-side_same : (kinds : List Kind) (a b : Option Side) → length kinds ≤ 60 → SideFits kinds b → kind_word a ≡ kind_word b → flip_word a ≡ flip_word b → a ≡ b
+side_same : (kinds : List Kind) (a b : Option Side) → length kinds ≤ 32 → SideFits kinds b → kind_word a ≡ kind_word b → flip_word a ≡ flip_word b → a ≡ b
 unfolding kind_word flip_word
 side_same kinds None None few fits h g = refl
 side_same kinds None (Some t) few fits h g = absurd (not_dash t.kind (sym h))

@@ -10,9 +10,6 @@ mod word;
 mod write;
 
 pub use fault::LogFault;
-pub use log::{Best, Entry, Lemma, LemmaList, Log, LogStep, LogSteps, Rule};
+pub use log::{Best, Entry, Lemma, LemmaList, Log, LogStep, LogSteps, MOST_GAPS, Rule};
 pub use read::read_log;
 pub use write::write_log;
-
-#[cfg(test)]
-mod tests;

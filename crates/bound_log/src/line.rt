@@ -4,7 +4,7 @@ ghost use Rattle.row_state.specs.Tests.{state_test};
 ghost use Rattle.bound_log.specs.Line.{column_in, counts_each, counts_in, entry_in, gaps_in, lemma_in, parts_at, state_in, step_in, words_in};
 
 use crate::word::{end, is_word, number_below, parts, rule, side};
-use crate::{Entry, Lemma, LogStep};
+use crate::{Entry, Lemma, LogStep, MOST_GAPS};
 use cell_num::{NetNo, NoMemory};
 use row_state::{Counts, Kind, Kinds, State, Step, is_state};
 use std::alloc::Global;
@@ -109,7 +109,7 @@ fn lemma(alloc: Global, kinds: &Kinds, words: &[&[u8]]) -> Result<Option<Lemma>,
     let [bound, reason, p_left, n_left, p_end, n_end] = words else {
         return Ok(None);
     };
-    let Some(bound) = number_below(bound, 64) else {
+    let Some(bound) = number_below(bound, MOST_GAPS + 1) else {
         return Ok(None);
     };
     if bound < 1 {
@@ -128,7 +128,7 @@ fn gaps(words: &[&[u8]]) -> Option<u32>
     ensures { result ≡ gaps_in (map (λ word. word.now) words.now) }
 {
     match words {
-        [gaps] => number_below(gaps, 64),
+        [gaps] => number_below(gaps, MOST_GAPS + 1),
         _ => None,
     }
 }

@@ -1,6 +1,9 @@
 use cell_num::{List, NetNo};
 use row_state::{State, Step};
 
+/// The most gaps, and the greatest bound, that the text of a log can hold.
+pub const MOST_GAPS: u64 = 63;
+
 /// Why a lemma holds: the bound of one row of its state, or all next columns.
 #[derive(Clone, Copy, Debug, PartialEq, Eq)]
 pub enum Rule {

@@ -30,8 +30,10 @@ fn keep(bounds: &mut BTreeMap<u128, u32>, number: u128, bound: u32) -> Result<()
     ensures others { OnOk result ((q : ℕ) → q ≢ number → get nat_cmp bounds.new q ≡ get nat_cmp bounds.old q) }
     ensures unchanged { OnErr result ((q : ℕ) → get nat_cmp bounds.new q ≡ get nat_cmp bounds.old q) }
 {
-    bounds.insert(number, bound)?;
-    Ok(())
+    match bounds.insert(number, bound) {
+        Ok(_) => Ok(()),
+        Err(_) => Err(NoMemory),
+    }
 }
 
 impl Known {

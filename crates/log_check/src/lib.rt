@@ -10,6 +10,3 @@ mod refused;
 pub use check::check_log;
 pub use known::Known;
 pub use refused::Refused;
-
-#[cfg(test)]
-mod tests;

@@ -18,4 +18,3 @@ pub use kind::{Kind, KindList, Kinds};
 pub use parity::Parity;
 pub use state::{Counts, State, columns, has_fingers, is_state, start};
 pub use step::{Side, Step, Steps, after, column, step_cost, successors};
-
