@@ -68,7 +68,7 @@ appends_none name bytes x held there q = set_again name held x q there (bytes_eq
 held_still : (name bytes : List ℕ) (at : ℕ) (x y : Files) → AppendedIn name bytes at x y → IsHeld x name → IsHeld y name
 held_still name bytes at x y a h = (h.0 ++ take at bytes, sets_at name _ x y (a h.0 h.1))
 
-held_still_told : (name bytes : List ℕ) (at : ℕ) (old new : Option Files) → Both (AppendedIn name bytes at) old new → IfSome old (λ files. IsHeld files name) → IfSome new (λ files. IsHeld files name)
+pub held_still_told : (name bytes : List ℕ) (at : ℕ) (old new : Option Files) → Both (AppendedIn name bytes at) old new → IfSome old (λ files. IsHeld files name) → IfSome new (λ files. IsHeld files name)
 held_still_told name bytes at None None a h = tt
 held_still_told name bytes at (Some x) (Some y) a h = held_still name bytes at x y a h
 held_still_told name bytes at None (Some y) a h = absurd a

@@ -1,5 +1,5 @@
 -- Bytes in memory leave what is behind their position.
-use Rattle.std.proofs.Common.{ℕ, ◌≡◌, ap, List, drop, Option, Some, option_map}
+use Rattle.std.proofs.Common.{ℕ, ap, List, drop, Option, Some, option_map}
 use Rattle.std.specs.Io.Cursor.{cursor_position, cursor_inner, cursor_remaining}
 use Rattle.std.specs.declared.io.impls.Cursor.{Cursor}
 use Rattle.cell_io.specs.Reading.{LeavesTheRest}

@@ -1,5 +1,5 @@
 -- Bytes that go to the end of a file or of what was said.
-use Rattle.std.specs.Prelude.{ℕ, ◌≡◌, List, Option, Some, None, option_map, IfSome}
+use Rattle.std.specs.Prelude.{ℕ, List, Option, Some, None, IfSome}
 use Rattle.cell_io.specs.Desk.{View, Rose, Both, AddsPart, AppendedIn, IsHeld, OnlyMakes, OnlySays}
 
 -- a place to put bytes: a file by name, or, without one, what is said

@@ -67,8 +67,8 @@ impl<F: Read + Seek + Drop> Reading<F> {
 // Bytes in memory are read as a file is, and there the contract above tells which ones come.
 #[cfg(test)]
 #[tactic(auto, using(crate::proofs::Readings::cursor_leaves_the_rest))]
-pub(crate) fn read_memory(bytes: &[u8], from: u64, into: &mut [u8]) -> io::Result<usize>
-    ensures { IfOk result (λ count. ReadsPart bytes.now from into.new count) }
+pub(crate) fn read_memory(bytes: Vec<u8>, from: u64, into: &mut [u8]) -> io::Result<usize>
+    ensures { IfOk result (λ count. ReadsPart bytes.items from into.new count) }
 {
     let mut reading = Reading::new("", io::Cursor::new(bytes))?;
     reading.read_part(from, into)

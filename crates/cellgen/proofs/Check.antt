@@ -34,11 +34,14 @@ misread inputs bytes k f of_k some_k other wrong none =
 
 pub rejected : (inputs : Inputs) (bytes : List ℕ) (k : Kinds) (log : Log) (f : Refused) → AreKinds inputs.fingers k → AreSomeKinds k → f ≢ because.NoMemory → log_of bytes inputs.cell.name k ≡ Ok log → ((other : Log) → log_text inputs.cell.name other ≡ bytes → other ≡ log) → WithKinds inputs.fingers (λ j. Refuses parity_value j inputs.fingers log f) → Checks inputs bytes (Rejected f)
 rejected inputs bytes k log f of_k some_k other is_log one (j, of_j, some_j, refuses) =
-    let refused : Refuses parity_value k inputs.fingers log f = for_kinds inputs.fingers j (λ kinds. Refuses parity_value kinds inputs.fingers log f) of_j some_j refuses k of_k some_k in
-    (other, (k, of_k, some_k, (log, is_log, refused)), λ gaps lemmas (i, of_i, some_i, (found, fits, text, accepts, many)).
-    let same : found ≡ log = one found (sym text) in
-    let passed : IsAccepted parity_value k inputs.fingers found gaps = for_kinds inputs.fingers i (λ kinds. IsAccepted parity_value kinds inputs.fingers found gaps) of_i some_i accepts k of_k some_k in
-    not_both parity_value k inputs.fingers log gaps f (subst (λ (x : Log). IsAccepted parity_value k inputs.fingers x gaps) same passed) refused other)
+    let refused : Refuses parity_value k inputs.fingers log f = for_kinds inputs.fingers j (λ kinds. Refuses parity_value kinds inputs.fingers log f) of_j some_j refuses k of_k some_k in (
+      other,
+      (k, of_k, some_k, (log, is_log, refused)),
+      λ gaps lemmas (i, of_i, some_i, (found, fits, text, accepts, many)).
+          let same : found ≡ log = one found (sym text) in
+          let passed : IsAccepted parity_value k inputs.fingers found gaps = for_kinds inputs.fingers i (λ kinds. IsAccepted parity_value kinds inputs.fingers found gaps) of_i some_i accepts k of_k some_k in
+          not_both parity_value k inputs.fingers log gaps f (subst (λ (x : Log). IsAccepted parity_value k inputs.fingers x gaps) same passed) refused other,
+    )
 
 -- ---- the status
 

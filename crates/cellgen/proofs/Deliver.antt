@@ -1,6 +1,6 @@
 -- How an end is told, from what each call of the desk did.
 use Rattle.std.proofs.Common.{ℕ, ◌≡◌, ◌≤◌, ◌⊎◌, ◌++◌, List, [], ◌∷◌, Option, Some, None, length, take, string_bytes, inl, inr, refl, sym, ap, ◌∙◌, subst, arith}
-use Rattle.std.proofs.lemmas.List.{take-length}
+use Rattle.std.proofs.Math.Seq.{take-length}
 use Rattle.cell_io.specs.Desk.{Files, View, Both, ForSome, AddsPart, WrittenIn, OnlyMakes, OnlySays, Rose}
 use Rattle.cellgen.specs.declared.end.End.{End}
 use Rattle.cellgen.specs.declared.end.Output.{Output}

@@ -33,10 +33,10 @@ may_wider None source (Err e) wider (inl is) = inl is
 may_wider None source (Err e) wider (inr (failed, is)) = inr (wider failed, is)
 
 -- what came between two views of a desk came between wider ones
-came_between : {A : Type 0} (a b c d : View) (reading : Reading A) (ended : Result A Refusal) → OnlyReads a b → OnlyReads c d → Comes (MayRead b.given (Rose b.read_faults c.read_faults)) reading ended → Comes (MayRead a.given (Rose a.read_faults d.read_faults)) reading ended
-came_between a b c d reading ended x y came =
+pub came_between : {A : Type 0} (a b c d : View) (reading : Reading A) (ended : Result A Refusal) → b.given ≡ a.given → a.read_faults ≤ b.read_faults → c.read_faults ≤ d.read_faults → Comes (MayRead b.given (Rose b.read_faults c.read_faults)) reading ended → Comes (MayRead a.given (Rose a.read_faults d.read_faults)) reading ended
+came_between a b c d reading ended same low high came =
     came_wider (MayRead b.given (Rose b.read_faults c.read_faults)) (MayRead a.given (Rose a.read_faults d.read_faults)) reading ended
-    (λ source read may. may_wider a.given source read (rose_wider a.read_faults b.read_faults c.read_faults d.read_faults x.reads y.reads) (subst (λ (given : Option Files). MayRead given (Rose b.read_faults c.read_faults) source read) x.given may))
+    (λ source read may. may_wider a.given source read (rose_wider a.read_faults b.read_faults c.read_faults d.read_faults low high) (subst (λ (given : Option Files). MayRead given (Rose b.read_faults c.read_faults) source read) same may))
     came
 
 -- ---- steps in order
@@ -47,8 +47,8 @@ taken a b c first next r x ended one two came is (inr short) = inr short
 taken a b c first next r x ended one two (inr short) is rest = cc
 taken {A} a b c first next r x ended one two (inl came) is (inl rest) =
     inl (came_on (MayRead a.given (Rose a.read_faults c.read_faults)) first next x ended
-    (came_between a a b c first (Ok x) (only_refl a) two (subst (λ (r : Result A Refusal). Comes (MayRead a.given (Rose a.read_faults b.read_faults)) first r) is came))
-    (came_between a b c c (next x) ended one (only_refl c) rest))
+    (came_between a a b c first (Ok x) refl (omega arith) two.reads (subst (λ (r : Result A Refusal). Comes (MayRead a.given (Rose a.read_faults b.read_faults)) first r) is came))
+    (came_between a b c c (next x) ended one.given one.reads (omega arith) rest))
 
 -- a refusal that is handed on
 abbrev pub IsHanded : {X : Type 0} → Result X Refusal → Refusal → Type 0
@@ -66,7 +66,7 @@ refused a b c first next r e ended two (inr short) is told =
 refused {A} {B} a b c first next r e ended two (inl came) is told =
     inl (subst (λ (r : Result B Refusal). Comes (MayRead a.given (Rose a.read_faults c.read_faults)) (first >>= next) r) (sym (handed ended e told))
     (came_refused (MayRead a.given (Rose a.read_faults c.read_faults)) first next e
-    (came_between a a b c first (Err e) (only_refl a) two (subst (λ (r : Result A Refusal). Comes (MayRead a.given (Rose a.read_faults b.read_faults)) first r) is came))))
+    (came_between a a b c first (Err e) refl (omega arith) two.reads (subst (λ (r : Result A Refusal). Comes (MayRead a.given (Rose a.read_faults b.read_faults)) first r) is came))))
 
 pub came_bytes : (a b : View) (source : Source) (read : Result (List ℕ) Refusal) → IsRead a b source read → MayCome a b (bytes_of source) read
 came_bytes a b source (Ok bytes) (inl may) = inl (Ok bytes, may, refl)

@@ -1,5 +1,5 @@
 -- What a call comes to: its status, the files that it makes, and its report.
-use Rattle.std.specs.Prelude.{ℕ, ◌≡◌, Bool, ◌==◌, List, [], ◌∷◌, ◌++◌, codes, Option, Some, None, Result, Ok, Err}
+use Rattle.std.specs.Prelude.{ℕ, ◌≡◌, Bool, ◌==◌, ◌||◌, List, [], ◌∷◌, ◌++◌, codes, Option, Some, None, Result, Ok, Err}
 use Rattle.std.specs.List.{list_any}
 use Rattle.cell_io.specs.Desk.{Files, View}
 use Rattle.cellgen.specs.declared.end.End.{End}
@@ -67,15 +67,19 @@ MayEnd old new form end = (got : Result Material Refusal) × MayCome old new (ga
 abbrev pub is_among : List Status → Status → Bool
 is_among listed answer = list_any (λ other. number_of other == number_of answer) listed
 
--- those of each form on a cell of a SPICE file
-abbrev pub of_cells : List Status
-of_cells = status.Done ∷ status.ReadFault ∷ status.WriteFault ∷ status.Input ∷ status.NoMemory ∷ status.TooLong ∷ []
+-- what the words or the files call for: a search alone is unfinished, and a log alone is rejected
+abbrev pub settled_of : Option Form → List Status
+settled_of None = status.Usage ∷ []
+settled_of (Some (Plan asked)) = status.Done ∷ status.Input ∷ status.Unfinished ∷ []
+settled_of (Some (Check asked log)) = status.Done ∷ status.Input ∷ status.Rejected ∷ []
 
--- a search alone is unfinished and a log alone is rejected
-abbrev pub statuses_of : Option Form → List Status
-statuses_of None = status.Usage ∷ status.WriteFault ∷ status.NoMemory ∷ []
-statuses_of (Some (Plan asked)) = status.Unfinished ∷ of_cells
-statuses_of (Some (Check asked log)) = status.Rejected ∷ of_cells
+-- what a file or the desk may bring about
+abbrev pub outside_of : Option Form → List Status
+outside_of None = status.WriteFault ∷ status.NoMemory ∷ []
+outside_of (Some form) = status.ReadFault ∷ status.WriteFault ∷ status.NoMemory ∷ status.TooLong ∷ []
+
+abbrev pub is_status_of : Option Form → Status → Bool
+is_status_of form answer = is_among (settled_of form) answer || is_among (outside_of form) answer
 
 -- the statuses that tell of the desk or of memory
 abbrev pub IsOfOutside : Status → Type 0

@@ -13,32 +13,32 @@ use Rattle.cellgen.specs.Reading.{Reading, Ends, bytes_of, ◌>>=◌}
 use Rattle.cellgen.specs.Sources.{Source, TechFile, SpiceFile, LogFile}
 use Rattle.cellgen.specs.Words.{CellAsked, Form, Plan, Check}
 
+abbrev pub technology_in : List ℕ → Reading Technology
+technology_in bytes = Ends (as_refusal Tech (technology bytes))
+
 -- the plain technology, or the one of a file
 abbrev pub technology_from : Option (List ℕ) → Reading Technology
 technology_from None = Ends (Ok plain)
-technology_from (Some name) = do
-  bytes ← bytes_of (TechFile name)
-  Ends (as_refusal Tech (technology bytes))
+technology_from (Some name) = bytes_of (TechFile name) >>= technology_in
 
--- the technology, then the SPICE file, the subcircuit of the name in lower case, and its fingers
+-- the SPICE file, the subcircuit of the name in lower case, and its fingers
+abbrev pub inputs_over : CellAsked → Technology → Reading Inputs
+inputs_over asked tech = bytes_of (SpiceFile asked.spice) >>= λ bytes. Ends (inputs_in bytes (lowered asked.cell) tech)
+
+-- the technology, and then the others
 abbrev pub inputs_from : CellAsked → Reading Inputs
-inputs_from asked = do
-  tech ← technology_from asked.tech
-  bytes ← bytes_of (SpiceFile asked.spice)
-  Ends (inputs_in bytes (lowered asked.cell) tech)
+inputs_from asked = technology_from asked.tech >>= inputs_over asked
 
 -- ---- by command
 
 abbrev pub planning : CellAsked → Reading Material
-planning asked = do
-  inputs ← inputs_from asked
-  Ends (Ok (Planning inputs))
+planning asked = inputs_from asked >>= λ inputs. Ends (Ok (Planning inputs))
+
+abbrev pub checking_over : List ℕ → Inputs → Reading Material
+checking_over log inputs = bytes_of (LogFile log) >>= λ bytes. Ends (Ok (Checking inputs bytes))
 
 abbrev pub checking : CellAsked → List ℕ → Reading Material
-checking asked log = do
-  inputs ← inputs_from asked
-  bytes ← bytes_of (LogFile log)
-  Ends (Ok (Checking inputs bytes))
+checking asked log = inputs_from asked >>= checking_over log
 
 abbrev pub gathered : Option Form → Reading Material
 gathered None = Ends (Err Words)

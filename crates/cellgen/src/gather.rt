@@ -1,6 +1,6 @@
 ghost use Rattle.std.specs.Prelude.{option_map};
 ghost use Rattle.cell_io.specs.Desk.{OnlyReads};
-ghost use Rattle.cellgen.specs.Gather.{gathered, checking};
+ghost use Rattle.cellgen.specs.Gather.{gathered, planning, checking, checking_over};
 ghost use Rattle.cellgen.specs.Reading.{MayCome};
 ghost use Rattle.cellgen.specs.Shown.{shown};
 
@@ -19,18 +19,42 @@ pub enum Material {
     Checking(Inputs, FileBytes),
 }
 
-fn gather_check<D: Desk>(
+fn with_log<D: Desk>(
     alloc: Global,
     desk: &mut D,
-    cell: &CellAsked<'_>,
+    inputs: Inputs,
     log: &str,
 ) -> Result<Material, Refusal>
-    ensures comes { MayCome (D.view desk.old) (D.view desk.new) (checking cell.now log.now) result }
+    ensures comes { MayCome (D.view desk.old) (D.view desk.new) (checking_over log.now inputs) result }
     ensures only { OnlyReads (D.view desk.old) (D.view desk.new) }
 {
-    let inputs = read_inputs(alloc, desk, cell)?;
     let bytes = read_file(alloc, desk, Source::Log(log))?;
     Ok(Material::Checking(inputs, bytes))
+}
+
+fn for_plan<D: Desk>(
+    alloc: Global,
+    desk: &mut D,
+    asked: &CellAsked<'_>,
+) -> Result<Material, Refusal>
+    ensures comes { MayCome (D.view desk.old) (D.view desk.new) (planning asked.now) result }
+    ensures only { OnlyReads (D.view desk.old) (D.view desk.new) }
+{
+    let inputs = read_inputs(alloc, desk, asked)?;
+    Ok(Material::Planning(inputs))
+}
+
+fn for_check<D: Desk>(
+    alloc: Global,
+    desk: &mut D,
+    asked: &CellAsked<'_>,
+    log: &str,
+) -> Result<Material, Refusal>
+    ensures comes { MayCome (D.view desk.old) (D.view desk.new) (checking asked.now log.now) result }
+    ensures only { OnlyReads (D.view desk.old) (D.view desk.new) }
+{
+    let inputs = read_inputs(alloc, desk, asked)?;
+    with_log(alloc, desk, inputs, log)
 }
 
 /// Reads what the form asks for, up to the first step that refuses.
@@ -43,8 +67,8 @@ pub fn gather<D: Desk>(
     ensures only { OnlyReads (D.view desk.old) (D.view desk.new) }
 {
     match form {
-        Some(Form::Plan { cell }) => Ok(Material::Planning(read_inputs(alloc, desk, &cell)?)),
-        Some(Form::Check { cell, log }) => gather_check(alloc, desk, &cell, log),
+        Some(Form::Plan { cell }) => for_plan(alloc, desk, &cell),
+        Some(Form::Check { cell, log }) => for_check(alloc, desk, &cell, log),
         None => Err(Refusal::Words),
     }
 }

@@ -1,9 +1,9 @@
-ghost use Rattle.std.specs.Prelude.{◌≡◌, ◌≢◌, ◌≤◌, length, option_map, Ok, Err, IfOk, IfErr};
+ghost use Rattle.std.specs.Prelude.{◌≡◌, ◌≢◌, ◌≤◌, length, option_map, Some, Ok, Err, IfOk, IfErr};
 ghost use Rattle.cell_io.specs.Desk.{OnlyReads};
 ghost use Rattle.tech_file.specs.Reading.{technology};
 ghost use Rattle.bound_log.specs.Fits.{IsLogName};
 ghost use Rattle.cellgen.specs.declared.refusal.Refusal.TheVariants as refused;
-ghost use Rattle.cellgen.specs.Gather.{technology_from, inputs_from};
+ghost use Rattle.cellgen.specs.Gather.{technology_from, inputs_from, inputs_over};
 ghost use Rattle.cellgen.specs.Inputs.{AreInputs, inputs_in};
 ghost use Rattle.cellgen.specs.Reading.{MayCome};
 ghost use Rattle.cellgen.specs.Refusals.{as_refusal};
@@ -56,6 +56,14 @@ fn technology_in(alloc: Global, bytes: &[u8]) -> Result<Tech, Refusal>
     Ok(read_tech(alloc, bytes)?)
 }
 
+fn read_tech_file<D: Desk>(alloc: Global, desk: &mut D, name: &str) -> Result<Tech, Refusal>
+    ensures comes { MayCome (D.view desk.old) (D.view desk.new) (technology_from (Some name.now)) result }
+    ensures only { OnlyReads (D.view desk.old) (D.view desk.new) }
+{
+    let bytes = read_file(alloc, desk, Source::Tech(name))?;
+    technology_in(alloc, bytes.as_slice())
+}
+
 // The technology of a file, or the plain one.
 fn read_technology<D: Desk>(
     alloc: Global,
@@ -66,14 +74,14 @@ fn read_technology<D: Desk>(
         (technology_from (option_map (λ name. name.now) file.entry)) result }
     ensures only { OnlyReads (D.view desk.old) (D.view desk.new) }
 {
-    let Some(name) = file else {
-        return Ok(Tech::plain(alloc)?);
-    };
-    let bytes = read_file(alloc, desk, Source::Tech(name))?;
-    technology_in(alloc, bytes.as_slice())
+    match file {
+        Some(name) => read_tech_file(alloc, desk, name),
+        None => Ok(Tech::plain(alloc)?),
+    }
 }
 
 // The subcircuit of a name in the bytes of a SPICE file, and its fingers.
+#[tactic(auto, using(crate::proofs::Names::cell_named))]
 fn inputs_in(alloc: Global, bytes: &[u8], name: &Name, tech: Tech) -> Result<Inputs, Refusal>
     requires few { length bytes.now ≤ 1073741824 }
     requires name { IsLogName name.now }
@@ -90,6 +98,21 @@ fn inputs_in(alloc: Global, bytes: &[u8], name: &Name, tech: Tech) -> Result<Inp
     })
 }
 
+// The SPICE file, the subcircuit of the name in lower case, and its fingers.
+fn inputs_over<D: Desk>(
+    alloc: Global,
+    desk: &mut D,
+    asked: &CellAsked<'_>,
+    tech: Tech,
+) -> Result<Inputs, Refusal>
+    ensures comes { MayCome (D.view desk.old) (D.view desk.new) (inputs_over asked.now tech) result }
+    ensures only { OnlyReads (D.view desk.old) (D.view desk.new) }
+{
+    let bytes = read_file(alloc, desk, Source::Spice(asked.spice))?;
+    let name = asked.name(alloc)?;
+    inputs_in(alloc, bytes.as_slice(), &name, tech)
+}
+
 /// The technology, then the SPICE file, the subcircuit of the name in lower case, and its fingers.
 pub fn read_inputs<D: Desk>(
     alloc: Global,
@@ -100,7 +123,5 @@ pub fn read_inputs<D: Desk>(
     ensures only { OnlyReads (D.view desk.old) (D.view desk.new) }
 {
     let tech = read_technology(alloc, desk, asked.tech)?;
-    let bytes = read_file(alloc, desk, Source::Spice(asked.spice))?;
-    let name = asked.name(alloc)?;
-    inputs_in(alloc, bytes.as_slice(), &name, tech)
+    inputs_over(alloc, desk, asked, tech)
 }

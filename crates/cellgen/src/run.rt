@@ -5,7 +5,7 @@ ghost use Rattle.cellgen.specs.declared.status.Status.TheVariants as status;
 ghost use Rattle.cellgen.specs.Calm.{IfCalm, IsDoneOrShort};
 ghost use Rattle.cellgen.specs.Check.{HoldsAcceptedLog, IsCheck};
 ghost use Rattle.cellgen.specs.Deliver.{Tells, TellsWhole};
-ghost use Rattle.cellgen.specs.Ends.{CallsFor, IsOfOutside, MayEnd, is_among, statuses_of};
+ghost use Rattle.cellgen.specs.Ends.{CallsFor, IsOfOutside, MayEnd, is_status_of};
 ghost use Rattle.cellgen.specs.Gather.{read_by};
 ghost use Rattle.cellgen.specs.Plan.{HasEnough};
 ghost use Rattle.cellgen.specs.Sources.{Lacks};
@@ -78,7 +78,7 @@ pub fn run<D: Desk>(alloc: Global, words: &[String], desk: &mut D) -> Status
     ensures memory { result ≡ status.NoMemory
         → Rose (D.view desk.old).shorts (D.view desk.new).shorts
         ⊎ ((D.view desk.new).said ≡ (D.view desk.old).said) }
-    ensures other { IsTrue (is_among (statuses_of (asked words.now)) result) }
+    ensures other { IsTrue (is_status_of (asked words.now) result) }
 
     ensures given { (D.view desk.new).given ≡ (D.view desk.old).given }
     ensures read_count { (D.view desk.old).read_faults ≤ (D.view desk.new).read_faults }

@@ -1,4 +1,4 @@
-use Rattle.std.proofs.Common.{rules, ◌≤◌, length, drop, arith, length-drop, take, ◌-◌, option_map}
+use Rattle.std.proofs.Common.{◌≤◌, length, drop, arith, length-drop, take, ◌-◌, option_map}
 use Rattle.std.proofs.lemmas.List.{length-take-le}
 use Rattle.cell_io.proofs.Puts.{puts_rest, quiet_more}
 use Rattle.cell_io.proofs.output.put_all.Goals as goal

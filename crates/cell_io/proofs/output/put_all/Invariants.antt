@@ -1,4 +1,4 @@
-use Rattle.std.proofs.Common.{◌≡◌, ◌≤◌, ◌-◌, length, option_map}
+use Rattle.std.proofs.Common.{◌≤◌, ◌-◌, length, option_map}
 use Rattle.cell_io.specs.Desk.{IsQuiet}
 use Rattle.cell_io.specs.Output.{Puts}
 use Rattle.cell_io.proofs.output.put_all.Given as goal
