@@ -85,8 +85,8 @@ memory_or (Spice f) = inr (λ is. cc)
 memory_or (Fold f) = inr (λ is. cc)
 
 pub ended_so : {A : Type 0} (a b : View) (answer ended : Result A Refusal) → IfOk ended (λ x. answer ≡ Ok x) → IfErr ended (λ e. e ≢ NoMemory → answer ≡ Err e) → MayCome a b (Ends answer) ended
-ended_so a b answer (Ok x) found no = inl (sym found)
-ended_so a b answer (Err e) found no = elim (memory_or e) [
+ended_so a b answer (Ok x) found bad = inl (sym found)
+ended_so a b answer (Err e) found bad = elim (memory_or e) [
   | inl short ↦ inr (ap (λ (x : Refusal). Err x) short)
-  | inr other ↦ inl (sym (no other))
+  | inr other ↦ inl (sym (bad other))
 ]

@@ -10,6 +10,7 @@ use Rattle.cellgen.specs.declared.status.Status.{Status}
 use Rattle.cellgen.specs.declared.status.Status.TheVariants as status
 use Rattle.cellgen.specs.declared.check.CheckAnswer.TheVariants.{Accepted, Misread, Rejected}
 use Rattle.cellgen.specs.Check.{ChecksTo}
+use Rattle.cellgen.specs.End.{says}
 use Rattle.cellgen.specs.Ends.{CallsFor, EndsTo, MayEnd, is_among, outside_of, refusal_status, refused, settled_of}
 use Rattle.cellgen.specs.Gather.{gathered, read_by}
 use Rattle.cellgen.specs.Inputs.{Inputs}
@@ -101,7 +102,7 @@ file_fault (Some files) failed source e (inr (faulty, is)) =
     inl (rw same refl)
 
 held_cause : (sources : List Source) (files : Files) (source : Source) (content : Option (List ℕ)) (e : Refusal) → Contains sources source → files (file_name source) ≡ content → Err e ≡ within (file_name source) (most_bytes source) content → refusal_status e ≡ status.ReadFault → Lacks (Some files) sources
-held_cause sources files source None e there lacks is read = (source, there, lacks)
+held_cause sources files source None e there lacks is read = (source, there, rw lacks refl)
 held_cause sources files source (Some bytes) e there holds is read = by (nat_le (length bytes) (most_bytes source)) is
   where
     by : (few : Bool) → ◌≡◌ {A = Result (List ℕ) Refusal} (Err e) (if few then Ok bytes else Err (Long (file_name source))) → Lacks (Some files) sources
@@ -166,3 +167,7 @@ end_told files old new form end told (got, inl came, ends) =
           let unread : end ≡ refused (Unread name) = subst (λ (r : Result Material Refusal). EndsTo r end) is ends in
           inr (inl (failed, ap (λ (x : End). x.status) unread))
     ]
+
+-- where memory ran out, the call ends without a word
+pub short_end : (old new : View) (form : Option Form) (end : End) → end ≡ says status.NoMemory [] → MayEnd old new form end
+short_end old new form end is = (Err NoMemory, inr refl, is)

@@ -1,11 +1,11 @@
 pub mod Accepted
-pub mod Check
-pub mod Deliver
+pub mod Checked
+pub mod Delivered
 pub mod Desks
 pub mod Ends
 pub mod Gathered
 pub mod Names
-pub mod Plan
+pub mod Planned
 pub mod Reading
 pub mod Results
 pub mod Telling

@@ -1,5 +1,5 @@
 -- The lower case of a cell's name stands in a line, and a subcircuit keeps its name.
-use Rattle.std.proofs.Common.{ℕ, ◌≡◌, ◌≢◌, ◌+◌, ◌≤◌, ◌<◌, ◌&&◌, true, List, All, IsTrue, IfOk, Result, Ok, Err, refl, sym, ap, subst, ◌∙◌, length, nat_le, inl, inr, arith}
+use Rattle.std.proofs.Common.{ℕ, ◌==◌, not, List, ◌≡◌, ◌≢◌, ◌+◌, ◌≤◌, ◌<◌, ◌&&◌, true, All, IsTrue, IfOk, Result, Ok, Err, refl, sym, ap, subst, ◌∙◌, length, nat_le, inl, inr, arith}
 use Rattle.std.specs.List.{list_all}
 use Rattle.std.specs.Char.{to_ascii_lowercase}
 use Rattle.std.proofs.lemmas.Bool.{and_parts, cases_lt, leb-true}
@@ -10,8 +10,13 @@ use Rattle.std.proofs.lemmas.Str.Ascii.{lowercase_is}
 use Rattle.cell_num.specs.Names.{lowered}
 use Rattle.bound_log.specs.Fits.{IsLogName}
 use Rattle.tech_file.specs.Technology.{Technology}
+use Rattle.cell_num.specs.Steps.{◌>>=◌, require}
+use Rattle.spice_net.specs.declared.fault.SpiceFault.{SpiceFault}
+use Rattle.spice_net.specs.declared.fault.SpiceFault.TheVariants as fault
 use Rattle.spice_net.specs.declared.subckt.Subckt.{Subckt}
-use Rattle.spice_net.specs.Subcircuit.{subcircuit}
+use Rattle.spice_net.specs.Chosen.{has_name, chosen_in, without_comments, lines_in}
+use Rattle.spice_net.specs.Subcircuit.{pins_of, with_rails, idle_pin, none_idle, few_enough, numbered, subckt_with, subckt_of, subckt_in, subcircuit}
+use Rattle.spice_net.specs.Transistors.{Transistor, transistors_of}
 use Rattle.cellgen.specs.Words.{is_cell, is_cell_byte}
 use Rattle.cellgen.proofs.Results.{ok_behind}
 
@@ -43,13 +48,25 @@ log_name cell h =
 
 -- ---- a subcircuit has the name that was asked for
 
-subckt_named : (bytes name : List ℕ) (tech : Technology) → IfOk (subcircuit bytes name tech) (λ (cell : Subckt). cell.name ≡ name)
+abbrev IsNamed : List ℕ → Subckt → Type 0
+IsNamed name cell = cell.name ≡ name
+
+of_named : (name : List ℕ) (tech : Technology) (pins : List (List ℕ)) (transistors : List Transistor) → IfOk (subckt_of name tech pins transistors) (IsNamed name)
+of_named name tech pins transistors =
+    ok_behind (IsNamed name) (require (has_name pins tech.vdd && has_name pins tech.gnd) fault.NoRail) (λ _. none_idle (idle_pin tech pins transistors) >>= λ _. require (not (length transistors == 0)) fault.Empty >>= λ _. numbered name tech pins transistors)
+    (λ _. ok_behind (IsNamed name) (none_idle (idle_pin tech pins transistors)) (λ _. require (not (length transistors == 0)) fault.Empty >>= λ _. numbered name tech pins transistors)
+    (λ _. ok_behind (IsNamed name) (require (not (length transistors == 0)) fault.Empty) (λ _. numbered name tech pins transistors)
+    (λ _. ok_behind (IsNamed name) (few_enough pins transistors) (λ _. Ok (subckt_with name tech pins transistors)) (λ _. refl))))
+
+subckt_named : (bytes name : List ℕ) (tech : Technology) → IfOk (subcircuit bytes name tech) (IsNamed name)
 subckt_named bytes name tech =
-    let Is : Subckt → Type 0 = λ (cell : Subckt). cell.name ≡ name in
-    ok_behind Is _ _ (λ lines. ok_behind Is _ _ (λ chosen. ok_behind Is _ _ (λ pins. ok_behind Is _ _ (λ transistors.
-    ok_behind Is _ _ (λ rails. ok_behind Is _ _ (λ idle. ok_behind Is _ _ (λ some. ok_behind Is _ _ (λ few. refl))))))))
+    ok_behind (IsNamed name) (lines_in bytes) (subckt_in name tech)
+    (λ lines. ok_behind (IsNamed name) (chosen_in name lines) (λ chosen. pins_of chosen.head >>= λ pins. transistors_of tech (without_comments chosen.inside) >>= λ transistors. subckt_of name tech (with_rails tech lines pins) transistors)
+    (λ chosen. ok_behind (IsNamed name) (pins_of chosen.head) (λ pins. transistors_of tech (without_comments chosen.inside) >>= λ transistors. subckt_of name tech (with_rails tech lines pins) transistors)
+    (λ pins. ok_behind (IsNamed name) (transistors_of tech (without_comments chosen.inside)) (λ transistors. subckt_of name tech (with_rails tech lines pins) transistors)
+    (λ transistors. of_named name tech (with_rails tech lines pins) transistors))))
 
 pub cell_named : (bytes name : List ℕ) (tech : Technology) (cell : Subckt) → subcircuit bytes name tech ≡ Ok cell → IsLogName name → IsLogName cell.name
 cell_named bytes name tech cell is named =
-    let same : cell.name ≡ name = subst (λ r. IfOk r (λ (cell : Subckt). cell.name ≡ name)) is (subckt_named bytes name tech) in
+    let same : cell.name ≡ name = subst (λ (r : Result Subckt SpiceFault). IfOk r (IsNamed name)) is (subckt_named bytes name tech) in
     subst IsLogName (sym same) named

@@ -49,13 +49,13 @@ came_told files failed (Reads source go) ended (Err e, inr (faulty, is), told) =
     let same : e ≡ Unread (file_name source) = cc in
     inr (faulty, (file_name source, told ∙ ap (λ (x : Refusal). Err x) same))
 
+comes_so : {A : Type 0} (files : Files) (source : Source) (go : List ℕ → Reading A) (read : Result (List ℕ) Refusal) → read ≡ held files source → ((bytes : List ℕ) → Comes (λ source read. read ≡ held files source) (go bytes) (called files (go bytes))) → Comes (λ source read. read ≡ held files source) (Reads source go) (behind read (λ bytes. called files (go bytes)))
+comes_so files source go (Ok bytes) is each = (Ok bytes, is, each bytes)
+comes_so files source go (Err e) is each = (Err e, is, refl)
+
 pub called_comes : {A : Type 0} (files : Files) (reading : Reading A) → Comes (λ source read. read ≡ held files source) reading (called files reading)
 called_comes files (Ends told) = refl
-called_comes {A} files (Reads source go) = by (held files source) refl
-  where
-    by : (read : Result (List ℕ) Refusal) → read ≡ held files source → Comes (λ source read. read ≡ held files source) (Reads source go) (called files (Reads source go))
-    by (Ok bytes) is = (Ok bytes, is, subst (λ (ended : Result A Refusal). Comes (λ source read. read ≡ held files source) (go bytes) ended) (ap (λ read. behind read (λ bytes. called files (go bytes))) is) (called_comes files (go bytes)))
-    by (Err e) is = (Err e, is, sym (ap (λ read. behind read (λ bytes. called files (go bytes))) is))
+called_comes files (Reads source go) = comes_so files source go (held files source) refl (λ bytes. called_comes files (go bytes))
 
 -- ---- what a reading reads, and what it ends with by itself
 
@@ -64,9 +64,9 @@ Keeps May Is (Ends told) = Is told
 Keeps May Is (Reads source go) = May source × ((bytes : List ℕ) → Keeps May Is (go bytes))
 
 pub keeps_on : {A B : Type 0} (May : Source → Type 0) (Is : Result A Refusal → Type 0) (Is' : Result B Refusal → Type 0) (first : Reading A) (next : A → Reading B) → Keeps May Is first → ((x : A) → Is (Ok x) → Keeps May Is' (next x)) → ((e : Refusal) → Is (Err e) → Is' (Err e)) → Keeps May Is' (first >>= next)
-keeps_on May Is Is' (Ends (Ok x)) next kept on no = on x kept
-keeps_on May Is Is' (Ends (Err e)) next kept on no = no e kept
-keeps_on May Is Is' (Reads source go) next (there, rest) on no = (there, λ bytes. keeps_on May Is Is' (go bytes) next (rest bytes) on no)
+keeps_on May Is Is' (Ends (Ok x)) next kept on off = on x kept
+keeps_on May Is Is' (Ends (Err e)) next kept on off = off e kept
+keeps_on May Is Is' (Reads source go) next (there, rest) on off = (there, λ bytes. keeps_on May Is Is' (go bytes) next (rest bytes) on off)
 
 -- it ended by itself, or by a file that was refused
 pub came_kept : {A : Type 0} (R : Source → Result (List ℕ) Refusal → Type 0) (May : Source → Type 0) (Is : Result A Refusal → Type 0) (reading : Reading A) (ended : Result A Refusal) → Keeps May Is reading → Comes R reading ended → Is ended ⊎ ((source : Source) × May source × (e : Refusal) × R source (Err e) × (ended ≡ Err e))

@@ -19,12 +19,12 @@ use Rattle.cellgen.specs.Plan.{HasEnough}
 use Rattle.cellgen.specs.Reading.{called, MayCome}
 use Rattle.cellgen.specs.Sources.{Lacks, held}
 use Rattle.cellgen.specs.Words.{Form, Plan, Check}
-use Rattle.cellgen.proofs.Check.{done_holds, holds_done}
-use Rattle.cellgen.proofs.Deliver.{none_begun, none_made}
+use Rattle.cellgen.proofs.Checked.{done_holds, holds_done}
+use Rattle.cellgen.proofs.Delivered.{none_begun, none_made}
 use Rattle.cellgen.proofs.Desks.{came_between}
 use Rattle.cellgen.proofs.Ends.{end_cases, end_told, file_outside, file_status, file_unread, no_files, not_read, not_short, not_written, usage_alone}
 use Rattle.cellgen.proofs.Gathered.{IsGathered, gathered_keeps}
-use Rattle.cellgen.proofs.Plan.{enough_done}
+use Rattle.cellgen.proofs.Planned.{enough_done}
 use Rattle.cellgen.proofs.Reading.{called_comes, came_kept}
 
 -- ---- the whole call
@@ -121,7 +121,7 @@ cause_of a c form answer (end, may, inl (is, made, said)) = elim (end_cases a c 
 ]
 
 not_settled : (form : Option Form) (answer other : Status) → is_among (settled_of form) answer ≡ true → answer ≡ other → is_among (settled_of form) other ≡ false → ⊥
-not_settled form answer other h is no =
+not_settled form answer other h is never =
     let yes : is_among (settled_of form) other ≡ true = subst (λ (s : Status). is_among (settled_of form) s ≡ true) is h in
     cc
 

@@ -1,5 +1,5 @@
 -- What a check of a log comes to.
-use Rattle.std.specs.Prelude.{ℕ, ◌≡◌, ◌≢◌, ◌≤◌, List, [], ◌++◌, codes, length, Option, Some, Result, Ok, Err}
+use Rattle.std.specs.Prelude.{ℕ, ◌≡◌, ◌≢◌, ◌≤◌, List, [], ◌++◌, codes, length, Option, Some, None, Result, Ok, Err}
 use Rattle.cell_io.specs.Desk.{Files}
 use Rattle.cell_num.specs.Fingers.{columns_of}
 use Rattle.row_model.specs.declared.column.Column.{Column}
@@ -7,10 +7,12 @@ use Rattle.row_model.specs.Arrangement.{IsArrangement}
 use Rattle.row_model.specs.Gaps.{gaps_of}
 use Rattle.row_state.specs.Parity.{parity_value}
 use Rattle.bound_log.specs.declared.log.Log.{Log}
+use Rattle.bound_log.specs.declared.fault.LogFault.{LogFault}
 use Rattle.bound_log.specs.declared.fault.LogFault.TheVariants as misread
 use Rattle.bound_log.specs.Fits.{Fits}
 use Rattle.bound_log.specs.Reading.{log_of}
 use Rattle.bound_log.specs.Text.{log_text}
+use Rattle.log_check.specs.declared.refused.Refused.{Refused}
 use Rattle.log_check.specs.declared.refused.Refused.TheVariants as because
 use Rattle.log_check.specs.Accepted.{IsAccepted, WithKinds}
 use Rattle.log_check.specs.Refusal.{Refuses}
@@ -50,6 +52,15 @@ Checks inputs bytes (Rejected f) =
     (f ≢ because.NoMemory)
     × WithKinds inputs.fingers (λ k. (log : Log) × (log_of bytes inputs.cell.name k ≡ Ok log) × Refuses parity_value k inputs.fingers log f)
     × IsNoAccepted inputs bytes
+
+-- want of memory is no answer
+abbrev pub misread_answer : LogFault → Option CheckAnswer
+misread_answer misread.NoMemory = None
+misread_answer f = Some (Misread f)
+
+abbrev pub rejected_answer : Refused → Option CheckAnswer
+rejected_answer because.NoMemory = None
+rejected_answer f = Some (Rejected f)
 
 abbrev rejected : List ℕ → End
 rejected line = says status.Rejected (codes "status 7 rejected\n" ++ line)

@@ -1,5 +1,5 @@
-ghost use Rattle.std.specs.Prelude.{◌≡◌, ◌≤◌, IfOk, length};
-ghost use Rattle.cellgen.specs.Check.{Checks, ChecksTo, check_end};
+ghost use Rattle.std.specs.Prelude.{◌≡◌, ◌≤◌, IfOk, Some, length};
+ghost use Rattle.cellgen.specs.Check.{Checks, ChecksTo, check_end, misread_answer, rejected_answer};
 
 use crate::end::End;
 use crate::faults::{put_log, put_refused};
@@ -23,6 +23,24 @@ pub enum CheckAnswer {
     Rejected(Refused),
 }
 
+fn misread(fault: LogFault) -> Result<CheckAnswer, NoMemory>
+    ensures { IfOk result (λ answer. Some answer ≡ misread_answer fault) }
+{
+    match fault {
+        LogFault::NoMemory => Err(NoMemory),
+        fault => Ok(CheckAnswer::Misread(fault)),
+    }
+}
+
+fn rejected(cause: Refused) -> Result<CheckAnswer, NoMemory>
+    ensures { IfOk result (λ answer. Some answer ≡ rejected_answer cause) }
+{
+    match cause {
+        Refused::NoMemory => Err(NoMemory),
+        cause => Ok(CheckAnswer::Rejected(cause)),
+    }
+}
+
 fn answer(alloc: Global, inputs: &Inputs, bytes: &[u8]) -> Result<CheckAnswer, NoMemory>
     requires { length bytes.now ≤ 1073741824 }
     ensures { IfOk result (Checks inputs.now bytes.now) }
@@ -31,16 +49,14 @@ fn answer(alloc: Global, inputs: &Inputs, bytes: &[u8]) -> Result<CheckAnswer, N
     let kinds = kinds(alloc, &inputs.fingers)?;
     let log = match read_log(alloc, bytes, &inputs.cell.name, &kinds) {
         Ok(log) => log,
-        Err(LogFault::NoMemory) => return Err(NoMemory),
-        Err(fault) => return Ok(CheckAnswer::Misread(fault)),
+        Err(fault) => return misread(fault),
     };
     match check_log(alloc, &inputs.fingers, &log, &Parity) {
         Ok(gaps) => Ok(CheckAnswer::Accepted {
             gaps,
             lemmas: log.lemmas.len() as u64,
         }),
-        Err(Refused::NoMemory) => Err(NoMemory),
-        Err(cause) => Ok(CheckAnswer::Rejected(cause)),
+        Err(cause) => rejected(cause),
     }
 }
 

@@ -178,18 +178,20 @@ pub fn put_log(out: &mut Bytes, fault: &LogFault) -> Result<(), NoMemory>
 fn put_cause(
     out: &mut Bytes,
     name: &[u8],
-    first: (&[u8], u32),
-    second: (&[u8], u32),
+    first: &[u8],
+    count: u32,
+    second: &[u8],
+    other: u32,
 ) -> Result<(), NoMemory>
     ensures { OnOk result
-        (out.new ≡ out.old ++ fault_line (codes "log") (record { name = name.now; fields = faults.Number first.0.now first.1 ∷ faults.Number second.0.now second.1 ∷ [] })) }
+        (out.new ≡ out.old ++ fault_line (codes "log") (record { name = name.now; fields = faults.Number first.now count ∷ faults.Number second.now other ∷ [] })) }
 {
-    let first = Field::Number(first.0, u64::from(first.1));
+    let first = Field::Number(first, u64::from(count));
     put_fault(
         out,
         b"log",
         name,
-        &[first, Field::Number(second.0, u64::from(second.1))],
+        &[first, Field::Number(second, u64::from(other))],
     )
 }
 
@@ -216,10 +218,10 @@ pub fn put_refused(out: &mut Bytes, cause: &Refused) -> Result<(), NoMemory>
         }
         Refused::NotArrangement => put_fault(out, b"log", b"NotArrangement", &[]),
         Refused::Gaps { said, counted } => {
-            put_cause(out, b"Gaps", (b"said", *said), (b"counted", *counted))
+            put_cause(out, b"Gaps", b"said", *said, b"counted", *counted)
         }
         Refused::NotLeast { best, said } => {
-            put_cause(out, b"NotLeast", (b"best", *best), (b"said", *said))
+            put_cause(out, b"NotLeast", b"best", *best, b"said", *said)
         }
         Refused::NoMemory => put_fault(out, b"log", b"NoMemory", &[]),
     }

@@ -31,7 +31,6 @@ impl<'a> Model for CellAsked<'a> {
 
 impl<'a> CellAsked<'a> {
     /// The cell's name in lower case.
-    #[tactic(auto, using(crate::proofs::Names::log_name))]
     pub fn name(&self, alloc: Global) -> Result<Name, NoMemory>
         ensures lower { IfOk result (λ name. name ≡ lowered self.now.cell) }
         ensures line { IfOk result (λ name. IsLogName name) }

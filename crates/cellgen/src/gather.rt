@@ -63,7 +63,7 @@ pub fn gather<D: Desk>(
     desk: &mut D,
     form: Option<Form<'_>>,
 ) -> Result<Material, Refusal>
-    ensures comes { MayCome (D.view desk.old) (D.view desk.new) (gathered (option_map shown form)) result }
+    ensures comes { MayCome (D.view desk.old) (D.view desk.new) (gathered (option_map shown form.entry)) result }
     ensures only { OnlyReads (D.view desk.old) (D.view desk.new) }
 {
     match form {

@@ -45,6 +45,15 @@ impl Inputs {
     {
         let _ = &self.fingers;
     }
+
+    /// The most nodes of a search, at most 1,000,000.
+    pub fn budget(&self) -> u64
+        ensures is { result ≡ self.now.tech.budget }
+        ensures few { result ≤ 1000000 }
+    {
+        self.tech.show_limits();
+        self.tech.budget
+    }
 }
 
 fn technology_in(alloc: Global, bytes: &[u8]) -> Result<Tech, Refusal>
@@ -81,7 +90,6 @@ fn read_technology<D: Desk>(
 }
 
 // The subcircuit of a name in the bytes of a SPICE file, and its fingers.
-#[tactic(auto, using(crate::proofs::Names::cell_named))]
 fn inputs_in(alloc: Global, bytes: &[u8], name: &Name, tech: Tech) -> Result<Inputs, Refusal>
     requires few { length bytes.now ≤ 1073741824 }
     requires name { IsLogName name.now }

@@ -42,7 +42,7 @@ pub fn plan(alloc: Global, inputs: &Inputs) -> Result<End, NoMemory>
     ensures { IfOk result (PlansTo inputs.now) }
 {
     inputs.show_limits();
-    match search(alloc, &inputs.fingers, &Parity, inputs.tech.budget) {
+    match search(alloc, &inputs.fingers, &Parity, inputs.budget()) {
         Ok(found) => planned(alloc, &inputs.cell, &found.row),
         Err(Stop::Unfinished { log, proved }) => unfinished(alloc, &inputs.cell, &log, proved),
         Err(Stop::NoMemory) => Err(NoMemory),

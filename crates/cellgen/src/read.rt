@@ -43,7 +43,7 @@ pub enum Source<'a> {
 }
 
 fn file_name(source: Source<'_>) -> &str
-    ensures { result.now ≡ file_name (named source) }
+    ensures { result.now ≡ file_name (named source.entry) }
 {
     match source {
         Source::Tech(name) | Source::Spice(name) | Source::Log(name) => name,
@@ -51,7 +51,7 @@ fn file_name(source: Source<'_>) -> &str
 }
 
 fn most_bytes(source: Source<'_>) -> u64
-    ensures is { result ≡ most_bytes (named source) }
+    ensures is { result ≡ most_bytes (named source.entry) }
     ensures few { result ≤ 1073741824 }
 {
     match source {
@@ -66,7 +66,7 @@ pub fn read_file<D: Desk>(
     desk: &mut D,
     source: Source<'_>,
 ) -> Result<FileBytes, Refusal>
-    ensures reads { IsRead (D.view desk.old) (D.view desk.new) (named source) result }
+    ensures reads { IsRead (D.view desk.old) (D.view desk.new) (named source.entry) result }
     ensures only { OnlyReads (D.view desk.old) (D.view desk.new) }
 {
     let name = file_name(source);

@@ -1,4 +1,7 @@
+use Rattle.std.proofs.Common.{ℕ, List, Option, ap, subst}
 use Rattle.cellgen.specs.Gather.{inputs_over, technology_from}
+use Rattle.cellgen.specs.Reading.{MayCome}
+use Rattle.cellgen.specs.Words.{CellAsked}
 use Rattle.cellgen.proofs.Desks.{only_refl, refused, taken}
 use Rattle.cellgen.proofs.inputs.read_inputs.Goals as goal
 
@@ -7,7 +10,7 @@ returns-in_err-tech-clause-comes g c =
     refused (g.D.Desk.view c.args.desk.now) (g.D.Desk.view c.read_technology.new.desk) (g.D.Desk.view c.read_technology.new.desk)
     (technology_from c.args.asked.now.tech) (inputs_over c.args.asked.now) c.read_technology.result c.in_err-tech.field-0.0 c.from_residual.result
     (only_refl (g.D.Desk.view c.read_technology.new.desk))
-    c.read_technology.ensures.comes
+    (subst (λ (file : Option (List ℕ)). MayCome (g.D.Desk.view c.args.desk.now) (g.D.Desk.view c.read_technology.new.desk) (technology_from file) c.read_technology.result) (ap (λ (x : CellAsked). x.tech) c.asked.view_is) c.read_technology.ensures.comes)
     c.in_err-tech.was
     c.from_residual.ensures
 
@@ -17,6 +20,6 @@ returns-clause-comes g c =
     (technology_from c.args.asked.now.tech) (inputs_over c.args.asked.now) c.read_technology.result c.in_ok-tech.tech c.inputs_over.result
     c.read_technology.ensures.only
     c.inputs_over.ensures.only
-    c.read_technology.ensures.comes
+    (subst (λ (file : Option (List ℕ)). MayCome (g.D.Desk.view c.args.desk.now) (g.D.Desk.view c.read_technology.new.desk) (technology_from file) c.read_technology.result) (ap (λ (x : CellAsked). x.tech) c.asked.view_is) c.read_technology.ensures.comes)
     c.in_ok-tech.was
     c.inputs_over.ensures.comes

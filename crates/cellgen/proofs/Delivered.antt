@@ -1,6 +1,7 @@
 -- How an end is told, from what each call of the desk did.
-use Rattle.std.proofs.Common.{ℕ, ◌≡◌, ◌≤◌, ◌⊎◌, ◌++◌, List, [], ◌∷◌, Option, Some, None, length, take, string_bytes, inl, inr, refl, sym, ap, ◌∙◌, subst, arith}
+use Rattle.std.proofs.Common.{ℕ, ◌≡◌, ◌≤◌, ◌⊎◌, ◌++◌, List, [], ◌∷◌, Option, Some, None, ◌+◌, ◌<◌, drop, get_or, Result, Ok, Err, OnErr, length, take, string_bytes, inl, inr, refl, sym, ap, ◌∙◌, subst, arith}
 use Rattle.std.proofs.Math.Seq.{take-length}
+use Rattle.std.proofs.lemmas.List.{drop_more}
 use Rattle.cell_io.specs.Desk.{Files, View, Both, ForSome, AddsPart, WrittenIn, OnlyMakes, OnlySays, Rose}
 use Rattle.cellgen.specs.declared.end.End.{End}
 use Rattle.cellgen.specs.declared.end.Output.{Output}
@@ -9,6 +10,13 @@ use Rattle.cellgen.specs.Deliver.{Makes, MakesAll, MakesSome, Says, GivesUp, Tel
 use Rattle.cellgen.proofs.Desks.{rose_wider}
 
 -- ---- files
+
+pub next_file : (files : List Output) (i : ℕ) (file : Output) → i < length files → file ≡ get_or files i file → drop i files ≡ file ∷ drop (i + 1) files
+next_file files i file within is = drop_more files i file within ∙ ap (λ (f : Output). f ∷ drop (i + 1) files) (sym is)
+
+pub on_err : {A E : Type 0} (r : Result A E) (X : Type 0) → X → OnErr r X
+on_err (Ok x) X h = tt
+on_err (Err e) X h = h
 
 pub all_none : (a : Option Files) → Both (MakesAll []) a a
 all_none None = tt
@@ -53,6 +61,9 @@ none_begun None None h = refl
 none_begun (Some x) (Some y) h = absurd h
 none_begun None (Some y) h = absurd h
 none_begun (Some x) None h = absurd h
+
+pub makes_trans : (a b c : View) → OnlyMakes a b → OnlyMakes b c → OnlyMakes a c
+makes_trans a b c x y = record { given = y.given ∙ x.given; said = y.said ∙ x.said; reads = y.reads ∙ x.reads; writes = omega (arith, x.writes, y.writes); shorts = omega (arith, x.shorts, y.shorts) }
 
 -- ---- the report
 
