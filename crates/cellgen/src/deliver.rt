@@ -8,7 +8,7 @@ use crate::status::Status;
 use cell_io::{Desk, WriteFault, say_all, write_all};
 
 // Makes the files in order.
-#[tactic(auto, using(crate::proofs::Delivered::all_none, crate::proofs::Delivered::all_more, crate::proofs::Delivered::some_more, crate::proofs::Delivered::some_here, crate::proofs::Delivered::makes_trans, crate::proofs::Desks::rose_wider))]
+#[tactic(auto, using(crate::proofs::Delivered::all_none, crate::proofs::Desks::rose_wider))]
 fn make_files<D: Desk>(desk: &mut D, files: &[Output]) -> Result<(), WriteFault>
     ensures all { OnOk result (Both (MakesAll files.now) (D.view desk.old).made (D.view desk.new).made) }
     ensures some { OnErr result (Both (MakesSome files.now) (D.view desk.old).made (D.view desk.new).made) }

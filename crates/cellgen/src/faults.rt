@@ -1,6 +1,5 @@
-ghost use Rattle.std.specs.Prelude.{◌≡◌, ◌++◌, ◌∷◌, [], codes, OnOk};
-ghost use Rattle.cellgen.specs.Faults as faults;
-ghost use Rattle.cellgen.specs.Faults.{fault_line, tech_fault, what_text, spice_fault, fold_fault, log_fault, check_fault};
+ghost use Rattle.std.specs.Prelude.{◌≡◌, ◌++◌, [], codes, OnOk};
+ghost use Rattle.cellgen.specs.Faults.{fault_line, fault_of, at_line, with_two, tech_fault, what_text, spice_fault, fold_fault, log_fault, check_fault};
 
 use crate::fault_line::{Field, put_fault};
 use bound_log::LogFault;
@@ -47,7 +46,7 @@ pub fn put_tech(out: &mut Bytes, fault: &TechFault) -> Result<(), NoMemory>
 
 // A fault of the SPICE file that has no fields.
 fn put_spice_alone(out: &mut Bytes, name: &[u8]) -> Result<(), NoMemory>
-    ensures { OnOk result (out.new ≡ out.old ++ fault_line (codes "spice") (record { name = name.now; fields = [] })) }
+    ensures { OnOk result (out.new ≡ out.old ++ fault_line (codes "spice") (fault_of name.now [])) }
 {
     put_fault(out, b"spice", name, &[])
 }
@@ -55,7 +54,7 @@ fn put_spice_alone(out: &mut Bytes, name: &[u8]) -> Result<(), NoMemory>
 // A fault of a line of the SPICE file.
 fn put_spice_line(out: &mut Bytes, name: &[u8], line: u32) -> Result<(), NoMemory>
     ensures { OnOk result
-        (out.new ≡ out.old ++ fault_line (codes "spice") (record { name = name.now; fields = faults.Number (codes "line") line ∷ [] })) }
+        (out.new ≡ out.old ++ fault_line (codes "spice") (at_line name.now line)) }
 {
     put_fault(
         out,
@@ -68,7 +67,8 @@ fn put_spice_line(out: &mut Bytes, name: &[u8], line: u32) -> Result<(), NoMemor
 // A fault of a length in a line of the SPICE file.
 fn put_spice_units(out: &mut Bytes, name: &[u8], line: u32, units: u32) -> Result<(), NoMemory>
     ensures { OnOk result
-        (out.new ≡ out.old ++ fault_line (codes "spice") (record { name = name.now; fields = faults.Number (codes "line") line ∷ faults.Number (codes "units") units ∷ [] })) }
+        (out.new ≡ out.old
+        ++ fault_line (codes "spice") (with_two name.now (codes "line") line (codes "units") units)) }
 {
     let line = Field::Number(b"line", u64::from(line));
     put_fault(
@@ -184,7 +184,7 @@ fn put_cause(
     other: u32,
 ) -> Result<(), NoMemory>
     ensures { OnOk result
-        (out.new ≡ out.old ++ fault_line (codes "log") (record { name = name.now; fields = faults.Number first.now count ∷ faults.Number second.now other ∷ [] })) }
+        (out.new ≡ out.old ++ fault_line (codes "log") (with_two name.now first.now count second.now other)) }
 {
     let first = Field::Number(first, u64::from(count));
     put_fault(

@@ -24,7 +24,11 @@ impl<'a> Model for CellAsked<'a> {
 
     ghost Value = { Asked };
 
-    ghost view = { λ a. record { tech = option_map (λ name. name.now) a.tech; spice = a.spice.now; cell = a.cell.now } };
+    ghost view = { λ a. record {
+      tech = option_map (λ name. name.now) a.tech;
+      spice = a.spice.now;
+      cell = a.cell.now;
+    } };
 
     ghost invariant = { λ a. IsTrue (is_cell a.cell.now) };
 }

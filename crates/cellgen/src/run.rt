@@ -67,14 +67,16 @@ pub fn run<D: Desk>(alloc: Global, words: &[String], desk: &mut D) -> Status
     // Over such files, where neither reading nor writing failed, the status is of an end that they call for,
     // or memory ran out.
     ensures completes { IfCalm (D.view desk.old) (D.view desk.new) (λ files.
-        ((end : EndOf) × CallsFor files (asked words.now) end × (result ≡ end.status)) ⊎ (result ≡ status.NoMemory)) }
+        ((end : EndOf) × CallsFor files (asked words.now) end × (result ≡ end.status))
+        ⊎ (result ≡ status.NoMemory)) }
 
     // Each fault of the outside has its cause.
     ensures usage { result ≡ status.Usage → IsNone (asked words.now) }
     ensures read { result ≡ status.ReadFault
         → Rose (D.view desk.old).read_faults (D.view desk.new).read_faults
         ⊎ Lacks (D.view desk.old).given (read_by (asked words.now)) }
-    ensures write { result ≡ status.WriteFault → Rose (D.view desk.old).write_faults (D.view desk.new).write_faults }
+    ensures write { result ≡ status.WriteFault
+        → Rose (D.view desk.old).write_faults (D.view desk.new).write_faults }
     ensures memory { result ≡ status.NoMemory
         → Rose (D.view desk.old).shorts (D.view desk.new).shorts
         ⊎ ((D.view desk.new).said ≡ (D.view desk.old).said) }
