@@ -1,3 +1,5 @@
+use crate::deliver::deliver;
+use crate::end::{End, Output, OutputList};
 use crate::run::run;
 use crate::status::Status;
 use cell_io::{CallList, File, FileList, MemDesk};
@@ -30,33 +32,32 @@ fn words_of(alloc: Global, text: &str) -> Result<Vec<String>, Fail> {
 }
 
 // A desk with the files `t.toml`, `c.sp` and `l.clog`, whose calls from the list fail.
-fn desk_with(
-    alloc: Global,
-    tech: Name,
-    spice: Name,
-    log: Name,
-    fail: &[u64],
-) -> Result<MemDesk, Fail> {
-    let mut files = FileList::new(alloc);
+fn desk_with(alloc: Global, files: [Name; 3], fail: &[u64]) -> Result<MemDesk, Fail> {
+    let [tech, spice, log] = files;
+    let mut list = FileList::new(alloc);
     for (name, bytes) in [("t.toml", tech), ("c.sp", spice), ("l.clog", log)] {
         let name = name_of(alloc, name)?;
-        files.push(File { name, bytes })?;
+        list.push(File { name, bytes })?;
     }
     let mut calls = CallList::new(alloc);
     calls.extend(fail)?;
-    Ok(MemDesk::new(alloc, files, calls))
+    Ok(MemDesk::new(alloc, list, calls))
 }
 
-// Runs the words over these files.
-fn run_over(alloc: Global, words: &str, files: [&str; 3]) -> Result<(Status, MemDesk), Fail> {
+// Runs the words over these files, with the failing calls.
+fn run_over(
+    alloc: Global,
+    words: &str,
+    files: [&str; 3],
+    fail: &[u64],
+) -> Result<(Status, MemDesk), Fail> {
     let [tech, spice, log] = files;
-    let mut desk = desk_with(
-        alloc,
+    let files = [
         name_of(alloc, tech)?,
         name_of(alloc, spice)?,
         name_of(alloc, log)?,
-        &[],
-    )?;
+    ];
+    let mut desk = desk_with(alloc, files, fail)?;
     let status = run(alloc, &words_of(alloc, words)?, &mut desk);
     Ok((status, desk))
 }
@@ -94,7 +95,7 @@ fn says_what_the_words_ask_for(rt: HostRuntime) -> Result<(), Fail> {
         ("check - c.sp inv", Status::Usage, USAGE),
         ("plan - c.sp a-b", Status::Usage, USAGE),
     ] {
-        let (got, desk) = run_over(rt.alloc(), words, ["", INVERTER, ""])?;
+        let (got, desk) = run_over(rt.alloc(), words, ["", INVERTER, ""], &[])?;
         assert_eq!(rt; desk.all_said(), said.as_bytes());
         assert_eq!(rt; got, status, "{said}");
     }
@@ -146,7 +147,7 @@ fn plans_the_least_row(rt: HostRuntime) -> Result<(), Fail> {
         ),
     ] {
         let said = format!(in rt.alloc(); "status 0 ok\ncell x\n{said}")?;
-        let (got, desk) = run_over(rt.alloc(), "plan t.toml c.sp x", [tech, spice, ""])?;
+        let (got, desk) = run_over(rt.alloc(), "plan t.toml c.sp x", [tech, spice, ""], &[])?;
         assert_eq!(rt; desk.all_said(), said.as_bytes());
         assert_eq!(rt; got, Status::Done, "{said}");
     }
@@ -175,23 +176,10 @@ fn plans_larger_cells(rt: HostRuntime) -> Result<(), Fail> {
             "status 0 ok\ncell x3\ncolumns 6\ngaps 0\nwidth 6\ncolumn 0 gate e p en vdd 20 n en gnd 10\ncolumn 1 gate d p vdd p1 20 n gnd n1 10\ncolumn 2 gate e p - - 0 n n1 m 10\ncolumn 3 gate en p p1 m 20 n - - 0\ncolumn 4 gate q p m vdd 6 n m gnd 6\ncolumn 5 gate m p vdd q 20 n gnd q 10\n",
         ),
     ] {
-        let (got, desk) = run_over(rt.alloc(), "plan t.toml c.sp x3", [tech, spice, ""])?;
+        let (got, desk) = run_over(rt.alloc(), "plan t.toml c.sp x3", [tech, spice, ""], &[])?;
         assert_eq!(rt; desk.all_said(), said.as_bytes());
         assert_eq!(rt; got, status, "{said}");
     }
-    Ok(())
-}
-
-// One inverter of 32 fingers in each row.
-#[test]
-fn plans_32_columns(rt: HostRuntime) -> Result<(), Fail> {
-    let spice =
-        ".SUBCKT x a y vdd gnd\nMP y a vdd vdd p W=192u L=0.6u\nMN y a gnd gnd n W=192u L=0.6u\n.ENDS\n";
-    let (got, desk) = run_over(rt.alloc(), "plan - c.sp x", ["", spice, ""])?;
-    let front =
-        "status 0 ok\ncell x\ncolumns 32\ngaps 0\nwidth 32\ncolumn 0 gate a p y vdd 40 n y gnd 40\n";
-    assert!(rt; desk.all_said().starts_with(front.as_bytes()));
-    assert_eq!(rt; got, Status::Done);
     Ok(())
 }
 
@@ -201,17 +189,6 @@ const HEAD: &str = "cellgen-log 1\ncell x3\n";
 const LEMMA: &str = "lemma 1 P 1,1,1 1,1,1 - -\n";
 
 const LISTED: &str = "gaps 1\ncolumn 0 0 0 0 0\ncolumn 1 1 0 1 0\ncolumn 2 2 1 2 1\nend\n";
-
-#[test]
-fn accepts_a_log(rt: HostRuntime) -> Result<(), Fail> {
-    let log = format!(in rt.alloc(); "{HEAD}{LEMMA}{LISTED}")?;
-    let files = ["", INVERTERS, log.as_str()];
-    let (got, desk) = run_over(rt.alloc(), "check - c.sp X3 l.clog", files)?;
-    let said = "status 0 ok\ncell x3\ncolumns 3\ngaps 1\nwidth 4\nlemmas 1\n";
-    assert_eq!(rt; desk.all_said(), said.as_bytes());
-    assert_eq!(rt; got, Status::Done);
-    Ok(())
-}
 
 #[test]
 fn rejects_logs(rt: HostRuntime) -> Result<(), Fail> {
@@ -238,7 +215,7 @@ fn rejects_logs(rt: HostRuntime) -> Result<(), Fail> {
         let log = format!(in rt.alloc(); "{head}{lemmas}{row}")?;
         let said = format!(in rt.alloc(); "status 7 rejected\nlog {line}\n")?;
         let files = ["", INVERTERS, log.as_str()];
-        let (got, desk) = run_over(rt.alloc(), "check - c.sp x3 l.clog", files)?;
+        let (got, desk) = run_over(rt.alloc(), "check - c.sp x3 l.clog", files, &[])?;
         assert_eq!(rt; desk.all_said(), said.as_bytes());
         assert_eq!(rt; got, Status::Rejected, "{line}");
     }
@@ -256,7 +233,7 @@ fn names_the_fault_of_a_technology(rt: HostRuntime) -> Result<(), Fail> {
     ] {
         let said = format!(in rt.alloc(); "status 4 input\n{line}")?;
         let files = [tech, INVERTER, ""];
-        let (got, desk) = run_over(rt.alloc(), "plan t.toml c.sp inv", files)?;
+        let (got, desk) = run_over(rt.alloc(), "plan t.toml c.sp inv", files, &[])?;
         assert_eq!(rt; desk.all_said(), said.as_bytes());
         assert_eq!(rt; got, Status::Input, "{said}");
     }
@@ -293,35 +270,45 @@ fn names_the_fault_of_a_subcircuit(rt: HostRuntime) -> Result<(), Fail> {
         let spice = format!(in rt.alloc(); ".SUBCKT inv {pins}\n{transistors}.ENDS\n")?;
         let said = format!(in rt.alloc(); "status 4 input\n{line}")?;
         let files = ["", spice.as_str(), ""];
-        let (got, desk) = run_over(rt.alloc(), "plan t.toml c.sp inv", files)?;
+        let (got, desk) = run_over(rt.alloc(), "plan t.toml c.sp inv", files, &[])?;
         assert_eq!(rt; desk.all_said(), said.as_bytes());
         assert_eq!(rt; got, Status::Input, "{said}");
     }
     Ok(())
 }
 
+// Each call of the desk fails in turn. A file is read by two calls, its bytes and its end, and the files are
+// opened in the order of the words.
 #[test]
 fn ends_by_failed_calls(rt: HostRuntime) -> Result<(), Fail> {
-    let alloc = rt.alloc();
-    let words = words_of(alloc, "plan t.toml c.sp inv")?;
-    for (call, status, said) in [
-        (0, Status::ReadFault, "status 2 read t.toml\n"),
-        (1, Status::ReadFault, "status 2 read t.toml\n"),
-        (2, Status::ReadFault, "status 2 read c.sp\n"),
-        (3, Status::ReadFault, "status 2 read c.sp\n"),
-        (4, Status::WriteFault, ""),
-        (5, Status::Done, ROW),
+    let log = format!(in rt.alloc(); "{HEAD}{LEMMA}{LISTED}")?;
+    let files = ["budget = 9\n", INVERTERS, log.as_str()];
+    for (words, opened) in [
+        (
+            "plan t.toml c.sp x3",
+            ["t.toml", "t.toml", "c.sp", "c.sp"].as_slice(),
+        ),
+        (
+            "check t.toml c.sp X3 l.clog",
+            ["t.toml", "t.toml", "c.sp", "c.sp", "l.clog", "l.clog"].as_slice(),
+        ),
     ] {
-        let tech = name_of(alloc, "wmax_p = 20\n")?;
-        let mut desk = desk_with(
-            alloc,
-            tech,
-            name_of(alloc, INVERTER)?,
-            Name::new(alloc),
-            &[call],
-        )?;
-        assert_eq!(rt; run(alloc, &words, &mut desk), status, "call {call}");
-        assert_eq!(rt; desk.all_said(), said.as_bytes(), "call {call}");
+        for (call, name) in opened.iter().enumerate() {
+            let said = format!(in rt.alloc(); "status 2 read {name}\n")?;
+            let (got, desk) = run_over(rt.alloc(), words, files, &[call as u64])?;
+            assert_eq!(rt; desk.all_said(), said.as_bytes(), "call {call}");
+            assert_eq!(rt; got, Status::ReadFault, "call {call}");
+        }
+        let calls = opened.len() as u64;
+        let (got, desk) = run_over(rt.alloc(), words, files, &[calls])?;
+        assert!(rt; desk.all_said().is_empty());
+        assert_eq!(rt; got, Status::WriteFault);
+        let (got, desk) = run_over(rt.alloc(), words, files, &[calls + 1])?;
+        assert!(rt;
+            desk.all_said()
+                .starts_with(b"status 0 ok\ncell x3\ncolumns 3\ngaps 1\nwidth 4\n")
+        );
+        assert_eq!(rt; got, Status::Done);
     }
     Ok(())
 }
@@ -352,9 +339,49 @@ fn refuses_long_files(rt: HostRuntime) -> Result<(), Fail> {
     ] {
         let comment = List::from_vec(vec![in alloc; b'#'; tech]?);
         let stars = List::from_vec(vec![in alloc; b'*'; spice]?);
-        let mut desk = desk_with(alloc, comment, stars, Name::new(alloc), &[])?;
+        let mut desk = desk_with(alloc, [comment, stars, Name::new(alloc)], &[])?;
         assert_eq!(rt; run(alloc, &words, &mut desk), status, "{said}");
         assert_eq!(rt; desk.all_said(), said.as_bytes(), "{said}");
+    }
+    Ok(())
+}
+
+// A call is a create, an append for each file, and a saying.
+#[test]
+fn delivers_files_in_order(rt: HostRuntime) -> Result<(), Fail> {
+    let alloc = rt.alloc();
+    let mut files = OutputList::new(alloc);
+    for (name, text) in [("x.clog", "log"), ("x.gds", "shapes")] {
+        let name = String::from_str(alloc, name)?;
+        let bytes = name_of(alloc, text)?;
+        files.push(Output { name, bytes })?;
+    }
+    let end = End {
+        status: Status::Unfinished,
+        files,
+        report: name_of(alloc, "told")?,
+    };
+    for (call, status, log, shapes, said) in [
+        (0, Status::WriteFault, None, None, ""),
+        (1, Status::WriteFault, Some(""), None, ""),
+        (2, Status::WriteFault, Some("log"), None, ""),
+        (3, Status::WriteFault, Some("log"), Some(""), ""),
+        (4, Status::WriteFault, Some("log"), Some("shapes"), ""),
+        (5, Status::Unfinished, Some("log"), Some("shapes"), "told"),
+    ] {
+        let mut calls = CallList::new(alloc);
+        calls.push(call)?;
+        let mut desk = MemDesk::new(alloc, FileList::new(alloc), calls);
+        assert_eq!(rt; deliver(&mut desk, &end), status, "call {call}");
+        assert!(rt;
+            desk.file("x.clog") == log.map(|text| text.as_bytes()),
+            "call {call}"
+        );
+        assert!(rt;
+            desk.file("x.gds") == shapes.map(|text| text.as_bytes()),
+            "call {call}"
+        );
+        assert_eq!(rt; desk.all_said(), said.as_bytes(), "call {call}");
     }
     Ok(())
 }
