@@ -1,5 +1,5 @@
 -- Files made in order, from what each call of the desk did.
-use Rattle.std.proofs.Common.{ℕ, ◌≡◌, ◌≤◌, ◌⊎◌, ◌++◌, List, [], ◌∷◌, Option, Some, None, ◌+◌, ◌<◌, drop, get_or, Result, Ok, Err, OnErr, length, take, string_bytes, inl, inr, refl, sym, ap, ◌∙◌, subst, arith}
+use Rattle.std.proofs.Common.{ℕ, ◌≡◌, ◌⊎◌, List, [], ◌∷◌, Option, Some, None, ◌+◌, ◌<◌, drop, get_or, Result, Ok, Err, OnErr, length, string_bytes, inl, inr, refl, sym, ap, ◌∙◌, arith}
 use Rattle.std.proofs.lemmas.List.{drop_more}
 use Rattle.cell_io.specs.Desk.{Files, View, Both, ForSome, WrittenIn, OnlyMakes}
 use Rattle.cellgen.specs.declared.end.Output.{Output}
