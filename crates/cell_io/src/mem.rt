@@ -1,7 +1,6 @@
-ghost use Rattle.std.specs.Prelude.{◌≡◌, ◌≤◌, ◌<◌, ◌+◌, ◌++◌, ◌^◌, ◌-◌, min, [], Contains, ℕ, List as Sequence, None, option_map, Some, length, take, drop, IsTrue, IsNone, IsSome, IfSome, IfOk, IsErrOf, ◌↔◌, OnOk, OnErr};
+ghost use Rattle.std.specs.Prelude.{◌≡◌, ◌<◌, ◌+◌, ◌++◌, ◌-◌, min, [], Contains, ℕ, List as Sequence, None, option_map, Some, length, take, IsTrue, IsNone, IsSome, IfSome, IfOk, IsErrOf, ◌↔◌, OnOk, OnErr};
 ghost use Rattle.std.specs.BTreeMap.{get_by_text};
-ghost use Rattle.std.specs.Option.{option_copied};
-ghost use Rattle.cell_io.specs.Desk.{ReadsPart, IsHeld, AppendedIn, CreatedIn, IsMissing, OnlyReads, OnlyMakes, OnlySays, IsQuiet, ReadingFailed, WritingFailed, MemoryFailed};
+ghost use Rattle.cell_io.specs.Desk.{ReadsPart, IsHeld, AppendedIn, CreatedIn, OnlyReads, OnlyMakes, OnlySays, ReadingFailed};
 ghost use Rattle.cell_io.specs.Mem.{mem_view, CountsFailed, CountsShort, files_of, given_files, made_files, said_bytes, failing_calls, next_call, read_faults_of, write_faults_of, shorts_of, IsToFail, IsAfterCall, IsCopied, one_more};
 ghost use Rattle.cell_io.specs.declared.desk.DeskAnswer.TheVariants as answer;
 
@@ -68,7 +67,8 @@ fn has_call(calls: &[u64], call: u64) -> bool
 // Puts the part at the end of the file.
 fn append_to(files: &mut BTreeMap<String, Bytes>, name: &str, part: &[u8]) -> Result<(), NoMemory>
     requires { IsHeld (get_by_text files.old) name.now }
-    ensures ok { OnOk result (AppendedIn name.now part.now (length part.now) (get_by_text files.old) (get_by_text files.new)) }
+    ensures ok { OnOk result
+        (AppendedIn name.now part.now (length part.now) (get_by_text files.old) (get_by_text files.new)) }
     ensures err { OnErr result ((q : Sequence ℕ) → get_by_text files.new q ≡ get_by_text files.old q) }
 {
     let Some(bytes) = files.get_mut(name) else {
@@ -152,7 +152,8 @@ impl Desk for MemDesk {
     fn read_part(&mut self, name: &str, from: u64, into: &mut [u8]) -> Result<usize, DeskAnswer>
         ensures call { IsAfterCall self.old self.new }
         ensures missing { IsErrOf result answer.Missing ↔ IsNone (given_files self.old name.now) }
-        ensures failed { IsErrOf result answer.Failed ↔ (IsSome (given_files self.old name.now) × IsToFail self.old) }
+        ensures failed { IsErrOf result answer.Failed
+            ↔ (IsSome (given_files self.old name.now) × IsToFail self.old) }
         ensures memory { result ≡ Err answer.NoMemory → ⊥ }
         ensures bytes { IfOk result (λ count.
             IfSome (given_files self.old name.now) (IsCopied from into.old into.new count)) }

@@ -48,7 +48,8 @@ impl<F: Read + Seek + Drop> Reading<F> {
         // where the file tells its bytes and stands where it should, they are the bytes from there on
         ensures bytes { LeavesTheRest F.remaining F.stream_position F.stream_bytes →
             F.stream_position (file_of self.old) ≡ Some (place_of self.old) →
-            IfOk result (λ count. IfSome (F.stream_bytes (file_of self.old)) (λ file. ReadsPart file from into.new count)) }
+            IfOk result (λ count.
+            IfSome (F.stream_bytes (file_of self.old)) (λ file. ReadsPart file from into.new count)) }
         // where it stands there it only reads
         ensures onward { place_of self.old ≡ from →
             ReadConsumes (F.remaining (file_of self.old)) (F.remaining (file_of self.new)) result into.new }

@@ -1,4 +1,4 @@
-ghost use Rattle.std.specs.Prelude.{◌≡◌, ◌≤◌, ◌<◌, ◌+◌, ◌-◌, ◌^◌, ◌↔◌, min, Some, None, Ok, IsNone, IsErrOf, IsOk, OnErr, IfOk, IfSome, ℕ, length};
+ghost use Rattle.std.specs.Prelude.{◌≡◌, ◌<◌, ◌+◌, ◌-◌, ◌^◌, ◌↔◌, min, Some, None, Ok, IsNone, IsErrOf, IsOk, OnErr, IfOk, IfSome, length};
 ghost use Rattle.cell_io.specs.Mem.{steady_view, files_of, steady_files, bytes_written, bytes_said, IsCopied};
 ghost use Rattle.cell_io.specs.declared.desk.DeskAnswer.TheVariants.{Missing, Failed, NoMemory};
 
@@ -49,7 +49,8 @@ impl Desk for SteadyDesk {
         ensures missing { IsErrOf result Missing ↔ IsNone (steady_files self.old name.now) }
         ensures failed { result ≡ Err Failed → ⊥ }
         ensures memory { result ≡ Err NoMemory → ⊥ }
-        ensures bytes { IfOk result (λ count. IfSome (steady_files self.old name.now) (IsCopied from into.old into.new count)) }
+        ensures bytes { IfOk result (λ count.
+            IfSome (steady_files self.old name.now) (IsCopied from into.old into.new count)) }
         ensures refused { OnErr result (into.new ≡ into.old) }
         ensures same { self.new ≡ self.old }
     {

@@ -41,7 +41,8 @@ fn read_more<D: Desk>(
     requires room { 0 < length part.old }
     requires front { IfSome (told (D.view desk.old).given name.now) (IsFront bytes.old.items) }
     ensures more { IfOk result (λ more. HasMore more (vec_len bytes.old) (vec_len bytes.new) (length part.old)) }
-    ensures front { IfOk result (λ more. IfSome (told (D.view desk.old).given name.now) (ReadFor more bytes.new.items)) }
+    ensures front { IfOk result (λ more.
+        IfSome (told (D.view desk.old).given name.now) (ReadFor more bytes.new.items)) }
     ensures missing { IsMissing (IsErrOf result Missing) name.now (D.view desk.old) (D.view desk.new) }
     ensures failed { IsErrOf result Failed → ReadingFailed (D.view desk.old) (D.view desk.new) }
     ensures too_long { result ≡ Err TooLong → ⊥ }

@@ -1,8 +1,8 @@
 -- The computed constraints are exactly those of the definition.
-use Rattle.std.proofs.Common.{ℕ, ◌≡◌, ◌≢◌, ◌≤◌, ◌==◌, ◌&&◌, not, Bool, true, false, cond, List, [], ◌∷◌, Some, None, inl, inr, refl, sym, ap, subst, arith, All, get_or, Contains, filter_map, flat_map}
+use Rattle.std.proofs.Common.{ℕ, ◌≡◌, ◌≢◌, ◌≤◌, ◌==◌, ◌&&◌, not, Bool, true, false, cond, List, Some, None, inl, inr, refl, sym, ap, subst, arith, All, get_or, Contains, filter_map}
 use Rattle.std.specs.Bool.{⊤}
 use Rattle.std.proofs.lemmas.Bool.{cases_Bool, and_parts, and_from, eqb-true, eq-eqb}
-use Rattle.std.proofs.lemmas.List.Elements.{All-contains, Contains-append_left, Contains-append_right, Contains-append_cases}
+use Rattle.std.proofs.lemmas.List.Elements.{All-contains}
 use Rattle.cell_num.specs.declared.net.NetNo.{NetNo}
 use Rattle.cell_num.specs.declared.net.Pins.{Pins}
 use Rattle.cell_num.specs.declared.finger.Row.{Row}
@@ -12,37 +12,14 @@ use Rattle.row_place.specs.declared.placement.NodePlace.{NodePlace}
 use Rattle.row_place.specs.declared.placement.Placement.{Placement}
 use Rattle.row_place.specs.Places.{StandsBefore, IsPlacement}
 use Rattle.row_place.specs.Trunks.{HasTrunk, IsAbove}
-use Rattle.cell_num.proofs.Lists.{some_same, contains_none, contains_cons, contains_here, contains_there, Kept, kept_from, contains_filter_map, all_from_contains}
+use Rattle.cell_num.proofs.Lists.{some_same, Kept, kept_from, contains_filter_map, all_from_contains}
 use Rattle.channel_route.specs.declared.wire.Wire.{Wire}
 use Rattle.channel_route.specs.declared.constraint.Constraint.{Constraint}
 use Rattle.channel_route.specs.Graph.{IsChannel, has_net}
 use Rattle.channel_route.specs.Turn.{AreInOrder}
 use Rattle.channel_route.specs.Wires.{IsWire, AreFound, AreWires, stands_over, is_over, over, constraints_of}
+use Rattle.cell_num.proofs.In.{Piece, in_flat, contains_flat}
 use Rattle.cell_num.proofs.Pairs.{Some', any_at, test_finds, pairs_flat}
-
-pub record From {X Y : Type 0} (f : X → List Y) (xs : List X) (y : Y) : Type 0 where
-  pub it : X
-  pub there : Contains xs it
-  pub gives : Contains (f it) y
-
-flat_from : {X Y : Type 0} (f : X → List Y) (xs : List X) (y : Y) → Contains (flat_map f xs) y → From f xs y
-flat_from f [] y h = absurd (contains_none y h)
-flat_from {X} {Y} f (x ∷ xs) y h =
-    elim (Contains-append_cases (f x) (flat_map f xs) y h) [
-      | inl here ↦ record { it = x; there = contains_here x xs; gives = here }
-      | inr rest ↦ more (flat_from f xs y rest)
-    ]
-  where
-    more : From f xs y → From f (x ∷ xs) y
-    more s = record { it = s.it; there = contains_there x xs s.it s.there; gives = s.gives }
-
-flat_there : {X Y : Type 0} (f : X → List Y) (xs : List X) (x : X) (y : Y) → Contains xs x → Contains (f x) y → Contains (flat_map f xs) y
-flat_there f [] x y there gives = absurd (contains_none x there)
-flat_there f (z ∷ zs) x y there gives =
-    elim (contains_cons z zs x there) [
-      | inl same ↦ Contains-append_left (f z) (flat_map f zs) y (subst (λ w. Contains (f w) y) (sym same) gives)
-      | inr rest ↦ Contains-append_right (f z) (flat_map f zs) y (flat_there f zs x y rest gives)
-    ]
 
 rows_over : (p n : Row) → stands_over p n ≡ true → (p ≡ P) × (n ≡ N)
 rows_over P N e = (refl, refl)
@@ -87,15 +64,15 @@ over_gives wires p n c e = go (is_over wires p n) refl e
 -- both ways
 pub constraint_is : (p : Placement) (pins : Pins) (wires : List Wire) → AreWires p pins wires → (c : Constraint) → Contains (constraints_of wires p.nodes) c → IsAbove p pins c.upper c.lower c.line
 constraint_is p pins wires w c there =
-    let f : From (λ node. filter_map (over wires node) p.nodes) p.nodes c = flat_from (λ node. filter_map (over wires node) p.nodes) p.nodes c there in
-    let k : Kept (over wires f.it) p.nodes c = kept_from (over wires f.it) p.nodes c f.gives in
-    let g : (is_over wires f.it k.from ≡ true) × (c ≡ (let d : Constraint = record { upper = f.it.net; lower = k.from.net; line = f.it.line } in d)) = over_gives wires f.it k.from c k.gives in
-    let parts : Parts wires f.it k.from = over_parts wires f.it k.from g.0 in
+    let f : Piece (λ node. filter_map (over wires node) p.nodes) p.nodes c = in_flat (λ node. filter_map (over wires node) p.nodes) p.nodes c there in
+    let k : Kept (over wires f.of) p.nodes c = kept_from (over wires f.of) p.nodes c f.inside in
+    let g : (is_over wires f.of k.from ≡ true) × (c ≡ (let d : Constraint = record { upper = f.of.net; lower = k.from.net; line = f.of.line } in d)) = over_gives wires f.of k.from c k.gives in
+    let parts : Parts wires f.of k.from = over_parts wires f.of k.from g.0 in
     subst (λ (d : Constraint). IsAbove p pins d.upper d.lower d.line) (sym g.1) (record {
-      p = subst (λ r. Contains p.nodes (record { row = r; line = f.it.line; net = f.it.net })) parts.p_row f.there;
+      p = subst (λ r. Contains p.nodes (record { row = r; line = f.of.line; net = f.of.net })) parts.p_row f.listed;
       n = subst (λ l. Contains p.nodes (record { row = N; line = l; net = k.from.net })) (sym parts.line) (subst (λ r. Contains p.nodes (record { row = r; line = k.from.line; net = k.from.net })) parts.n_row k.there);
       differ = parts.differ;
-      upper_trunk = wired p pins wires f.it.net w.found parts.upper;
+      upper_trunk = wired p pins wires f.of.net w.found parts.upper;
       lower_trunk = wired p pins wires k.from.net w.found parts.lower;
     })
 
@@ -105,7 +82,7 @@ constraint_there p pins wires w upper lower line h =
     let bottom : NodePlace = record { row = N; line = line; net = lower } in
     let differ : not (upper.0 == lower.0) ≡ true = not_same upper lower h.differ in
     let is : is_over wires top bottom ≡ true = and_from _ _ (and_from _ _ (and_from _ _ (and_from _ _ refl (eq-eqb line line refl)) differ) (w.all upper h.upper_trunk)) (w.all lower h.lower_trunk) in
-    flat_there (λ node. filter_map (over wires node) p.nodes) p.nodes top (record { upper = upper; lower = lower; line = line }) h.p
+    contains_flat (λ node. filter_map (over wires node) p.nodes) p.nodes top (record { upper = upper; lower = lower; line = line }) h.p
     (contains_filter_map (over wires top) p.nodes bottom (record { upper = upper; lower = lower; line = line }) h.n (rw is refl))
   where
     not_same : (a b : NetNo) → a ≢ b → not (a.0 == b.0) ≡ true

@@ -7,6 +7,7 @@ use Rattle.std.proofs.lemmas.List.Sorted.{Contains-permutation, IsPermutation-sy
 use Rattle.cell_num.specs.declared.net.NetNo.{NetNo}
 use Rattle.cell_num.specs.declared.net.Pins.{Pins}
 use Rattle.row_model.proofs.Decide.{net_decides}
+use Rattle.cell_num.proofs.In.{Image, in_map, contains_map}
 use Rattle.cell_num.proofs.Permutations.{count_cons}
 use Rattle.row_place.specs.declared.placement.Placement.{Placement}
 use Rattle.row_place.specs.Trunks.{HasTrunk, IsSpan, IsAbove}
@@ -21,7 +22,6 @@ use Rattle.channel_route.specs.Cycle.{next_net, StandAbove, HasNoCycle}
 use Rattle.channel_route.specs.Graph.{wire_of, IsBefore, IsBlocked, HasTrunkBelow, IsFilled}
 use Rattle.channel_route.specs.Wires.{IsWire, AreWires, constraints_of, trunk_cmp}
 use Rattle.cell_num.proofs.Pairs.{Some', some_from_any, any_at, test_finds, OneEach, one_each_permutation, one_each_same, pairs_from_sorted}
-use Rattle.channel_route.proofs.Sweep.{contains_map, TrunkOf, map_contains}
 use Rattle.channel_route.proofs.Constraints.{constraint_is, constraint_there}
 use Rattle.channel_route.proofs.Wires.{cmp_less}
 
@@ -59,17 +59,17 @@ one_each_sorted p pins wires filled trunks tracks d = one_each_permutation (λ (
 -- a trunk is of a wire, and each net with a trunk has one
 pub trunk_wire : (p : Placement) (pins : Pins) (wires : List Wire) (filled trunks : List Trunk) (tracks : ℕ) → IsDone p pins wires filled trunks tracks → (t : Trunk) → Contains trunks t → IsWire p pins (wire_of t)
 trunk_wire p pins wires filled trunks tracks d t there =
-    let mapped : Contains (map wire_of filled ++ []) (wire_of t) = subst (λ ws. Contains ws (wire_of t)) (sym (append-nil (map wire_of filled))) (contains_map filled t (from_sorted p pins wires filled trunks tracks d t there)) in
+    let mapped : Contains (map wire_of filled ++ []) (wire_of t) = subst (λ ws. Contains ws (wire_of t)) (sym (append-nil (map wire_of filled))) (contains_map wire_of filled t (from_sorted p pins wires filled trunks tracks d t there)) in
     All-contains (IsWire p pins) wires (wire_of t) d.wired.found.each (Contains-permutation (map wire_of filled ++ []) wires (wire_of t) (IsPermutation-sym wires (map wire_of filled ++ []) d.filled'.part.all) mapped)
 
 pub net_trunk : (p : Placement) (pins : Pins) (wires : List Wire) (filled trunks : List Trunk) (tracks : ℕ) → IsDone p pins wires filled trunks tracks → (net : NetNo) → HasTrunk p pins net → Some' (λ (t : Trunk). t.net ≡ net) trunks
 net_trunk p pins wires filled trunks tracks d net trunk =
     let w : Some' (λ (w : Wire). (w.net.0 == net.0) ≡ true) wires = test_finds (λ (w : Wire). w.net.0 == net.0) wires (d.wired.all net trunk) in
     let placed : Contains (map wire_of filled) w.it = subst (λ ws. Contains ws w.it) (append-nil (map wire_of filled)) (Contains-permutation wires (map wire_of filled ++ []) w.it d.filled'.part.all w.there) in
-    let of : TrunkOf filled w.it = map_contains filled w.it placed in
-    let same : of.trunk.net ≡ w.it.net = ap (λ (w : Wire). w.net) of.is in
+    let of : Image wire_of filled w.it = in_map wire_of filled w.it placed in
+    let same : of.of.net ≡ w.it.net = ap (λ (w : Wire). w.net) of.is in
     let is : w.it.net ≡ net = (net_decides w.it.net net).0 w.holds in
-    record { it = of.trunk; there = to_sorted p pins wires filled trunks tracks d of.trunk of.there; holds = subst (λ n. of.trunk.net ≡ n) is same }
+    record { it = of.of; there = to_sorted p pins wires filled trunks tracks d of.of of.listed; holds = subst (λ n. of.of.net ≡ n) is same }
 
 net_less : (a b c : Trunk) → a.net.0 < b.net.0 → b.net.0 < c.net.0 → a.net.0 < c.net.0
 net_less a b c e f = omega (arith, e, f)

@@ -4,7 +4,8 @@ mod Density
 mod Down
 mod Legal
 pub mod OneRouting
-mod Stuck
+pub mod OneTold
+pub mod Stuck
 mod Sweep
 mod Turns
 pub mod Unique

@@ -1,17 +1,17 @@
 -- A placement has one legal and tight routing at most.
-use Rattle.std.proofs.Common.{ℕ, zero, suc, ◌≡◌, ◌<◌, ◌≤◌, List, [], ◌∷◌, inl, inr, refl, sym, ap, subst, arith, AllPairs, Contains}
+use Rattle.std.proofs.Common.{ℕ, zero, suc, ◌≡◌, ◌<◌, ◌≤◌, ◌⊎◌, get_or, List, inl, inr, refl, sym, ap, subst, arith, AllPairs, Contains}
 use Rattle.std.proofs.lemmas.Bool.{cases_order}
+use Rattle.std.proofs.lemmas.List.{get_or_default}
 use Rattle.std.proofs.lemmas.List.Elements.{All-contains}
 use Rattle.cell_num.specs.declared.net.NetNo.{NetNo}
 use Rattle.cell_num.specs.declared.net.Pins.{Pins}
 use Rattle.row_place.specs.declared.placement.Placement.{Placement}
 use Rattle.row_place.specs.Trunks.{lines_of, HasTrunk, IsSpan, IsAbove}
-use Rattle.cell_num.proofs.Lists.{contains_none, contains_cons}
 use Rattle.row_place.proofs.Order.{same_list}
 use Rattle.channel_route.specs.declared.routing.Trunk.{Trunk}
 use Rattle.channel_route.specs.declared.routing.Routing.{Routing}
 use Rattle.channel_route.specs.Routing.{AreApart, IsLegal, IsEarlier, IsFree, IsTight}
-use Rattle.cell_num.proofs.Pairs.{Some', some_from_any, any_at, pairs_head, pairs_tail}
+use Rattle.cell_num.proofs.Pairs.{Some', some_from_any, any_at}
 use Rattle.channel_route.proofs.Unique.{IsTightFor, one_track}
 
 -- a net with a trunk
@@ -25,23 +25,36 @@ found p pins r l k = some_from_any (λ (t : Trunk). t.net ≡ k.0) r.trunks ((l.
 abbrev trunk : (p : Placement) (pins : Pins) (r : Routing) → IsLegal p pins r → Key p pins → Trunk
 trunk p pins r l k = (found p pins r l k).it
 
--- in order of net, trunks of one net are one
-one_a_net : (trunks : List Trunk) → AllPairs (λ a b. a.net.0 < b.net.0) trunks → (a b : Trunk) → Contains trunks a → Contains trunks b → a.net ≡ b.net → a ≡ b
-one_a_net [] up a b ha hb e = absurd (contains_none a ha)
-one_a_net (t ∷ ts) up a b ha hb e =
-    elim (contains_cons t ts a ha) [
-      | inl a_first ↦ elim (contains_cons t ts b hb) [
-        | inl b_first ↦ cc
-        | inr b_rest ↦ absurd (below b b_rest (let n : t.net.0 ≡ b.net.0 = cc in n))
-      ]
-      | inr a_rest ↦ elim (contains_cons t ts b hb) [
-        | inl b_first ↦ absurd (below a a_rest (let n : t.net.0 ≡ a.net.0 = cc in n))
-        | inr b_rest ↦ one_a_net ts (pairs_tail (λ (a b : Trunk). a.net.0 < b.net.0) t ts up) a b a_rest b_rest e
+-- of two elements of a list in order one stands before the other, or they are one
+pub either : {X : Type 0} (R : X → X → Type 0) (xs : List X) (a b : X) → AllPairs R xs → Contains xs a → Contains xs b → (a ≡ b) ⊎ (R a b ⊎ R b a)
+either {X} R xs a b h (k, sk, ek) (j, sj, ej) =
+    elim (cases_order k j) [
+      | inl same ↦ inl (one same)
+      | inr other ↦ elim other [
+        | inl less ↦ inr (inl (joined R ek there (h k j a less sj)))
+        | inr more ↦ inr (inr (joined R there ek (h j k a more sk)))
       ]
     ]
   where
-    below : (z : Trunk) → Contains ts z → t.net.0 ≡ z.net.0 → ⊥
-    below z there same = let less : t.net.0 < z.net.0 = All-contains (λ (z : Trunk). t.net.0 < z.net.0) ts z (pairs_head (λ (a b : Trunk). a.net.0 < b.net.0) t ts up) there in omega (arith, less, same)
+    there : get_or xs j a ≡ b
+    there = subst (λ z. z ≡ b) (get_or_default xs j b a sj) ej
+
+    one : k ≡ j → a ≡ b
+    one same = subst (λ z. z ≡ b) (subst (λ i. get_or xs i a ≡ a) same ek) there
+
+    joined : (R : X → X → Type 0) {x y u v : X} → x ≡ u → y ≡ v → R x y → R u v
+    joined R {x} {y} {u} {v} e f r = subst (λ z. R u z) f (subst (λ z. R z y) e r)
+
+-- in order of net, trunks of one net are one
+one_a_net : (trunks : List Trunk) → AllPairs (λ a b. a.net.0 < b.net.0) trunks → (a b : Trunk) → Contains trunks a → Contains trunks b → a.net ≡ b.net → a ≡ b
+one_a_net trunks up a b ha hb e =
+    elim (either (λ (a b : Trunk). a.net.0 < b.net.0) trunks a b up ha hb) [
+      | inl same ↦ same
+      | inr other ↦ absurd (elim other [ inl less ↦ omega (arith, less, same) | inr more ↦ omega (arith, more, same) ])
+    ]
+  where
+    same : a.net.0 ≡ b.net.0
+    same = ap (λ (n : NetNo). n.0) e
 
 pub record SameSpan (a b : Trunk) : Type 0 where
   pub net : a.net ≡ b.net

@@ -5,6 +5,7 @@ use Rattle.std.proofs.lemmas.List.Elements.{All-contains, Contains-append_right,
 use Rattle.std.proofs.lemmas.List.Sorted.{Contains-permutation, IsPermutation-sym}
 use Rattle.cell_num.specs.declared.net.NetNo.{NetNo}
 use Rattle.cell_num.specs.declared.net.Pins.{Pins}
+use Rattle.cell_num.proofs.In.{Image, in_map}
 use Rattle.cell_num.proofs.Lists.{contains_cons, contains_here}
 use Rattle.cell_num.proofs.Pairs.{Some', test_finds, test_there, pairs_head}
 use Rattle.row_model.proofs.Decide.{net_decides}
@@ -20,7 +21,6 @@ use Rattle.channel_route.specs.Graph.{wire_of, IsBefore, HasTrunkBelow, IsFilled
 use Rattle.channel_route.specs.Wires.{IsWire, AreWires, constraints_of}
 use Rattle.channel_route.specs.Turn.{leads, IsDown}
 use Rattle.channel_route.proofs.Constraints.{constraint_is, constraint_there}
-use Rattle.channel_route.proofs.Sweep.{TrunkOf, map_contains}
 use Rattle.channel_route.proofs.Turns.{waits_there, walk_like, cycle_like}
 
 -- the wires that are left, each of which stands above another one
@@ -56,9 +56,9 @@ left_stuck p pins wires left trunks tracks h net s = by (Contains-append_cases (
     by : Contains (map wire_of trunks) w.it ⊎ Contains left w.it → has_net left net ≡ true
     by (inr there) = test_there (λ (z : Wire). z.net.0 == net.0) left w.it there w.holds
     by (inl there) =
-        let t : TrunkOf trunks w.it = map_contains trunks w.it there in
-        let same : t.trunk.net ≡ net = subst (λ m. t.trunk.net ≡ m) ((net_decides w.it.net net).0 w.holds) (ap (λ (z : Wire). z.net) t.is) in
-        absurd (not_placed p pins wires left trunks tracks h net s (suc t.trunk.track) t.trunk t.there (subst (λ m. s.set m ≡ true) (sym same) s.there) (omega arith))
+        let t : Image wire_of trunks w.it = in_map wire_of trunks w.it there in
+        let same : t.of.net ≡ net = subst (λ m. t.of.net ≡ m) ((net_decides w.it.net net).0 w.holds) (ap (λ (z : Wire). z.net) t.is) in
+        absurd (not_placed p pins wires left trunks tracks h net s (suc t.of.track) t.of t.listed (subst (λ m. s.set m ≡ true) (sym same) s.there) (omega arith))
 
 -- the first wire that is left is the first that can not be placed
 pub first_stuck : (p : Placement) (pins : Pins) (wires left : List Wire) (trunks : List Trunk) (tracks : ℕ) → AreLeft p pins wires left trunks tracks → (d : Wire) → 0 < length left → IsFirstStuck p pins (get_or left 0 d).net

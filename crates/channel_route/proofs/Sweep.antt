@@ -8,7 +8,8 @@ use Rattle.std.proofs.lemmas.List.Elements.{All-contains, All-more, Contains-app
 use Rattle.std.proofs.lemmas.List.Sorted.{IsPermutation-append_right, IsPermutation-middle, IsPermutation-sym, IsPermutation-trans, Contains-permutation}
 use Rattle.cell_num.specs.declared.net.NetNo.{NetNo}
 use Rattle.row_model.proofs.Decide.{net_decides}
-use Rattle.cell_num.proofs.Lists.{contains_none, contains_cons, contains_here, contains_there}
+use Rattle.cell_num.proofs.In.{Image, in_map, contains_map}
+use Rattle.cell_num.proofs.Lists.{contains_none, contains_here, contains_there}
 use Rattle.channel_route.specs.declared.routing.Trunk.{Trunk}
 use Rattle.channel_route.specs.declared.wire.Wire.{Wire}
 use Rattle.channel_route.specs.declared.constraint.Constraint.{Constraint}
@@ -96,31 +97,6 @@ waiting left cs w e =
     let x : Some' (λ (z : Wire). (z.net.0 == c.it.lower.0) ≡ true) left = test_finds (λ (z : Wire). z.net.0 == c.it.lower.0) left parts.1 in
     record { constraint = c.it; there = c.there; upper = (net_decides c.it.upper w.net).0 parts.0; lower = x.it; left_there = x.there; is = (net_decides x.it.net c.it.lower).0 x.holds }
 
--- the wires that a trunk is of
-pub contains_map : (trunks : List Trunk) (t : Trunk) → Contains trunks t → Contains (map wire_of trunks) (wire_of t)
-contains_map [] t there = absurd (contains_none t there)
-contains_map (x ∷ xs) t there =
-    elim (contains_cons x xs t there) [
-      | inl same ↦ subst (λ z. Contains (map wire_of (x ∷ xs)) (wire_of z)) same (contains_here (wire_of x) (map wire_of xs))
-      | inr rest ↦ contains_there (wire_of x) (map wire_of xs) (wire_of t) (contains_map xs t rest)
-    ]
-
-pub record TrunkOf (trunks : List Trunk) (w : Wire) : Type 0 where
-  pub trunk : Trunk
-  pub there : Contains trunks trunk
-  pub is : wire_of trunk ≡ w
-
-pub map_contains : (trunks : List Trunk) (w : Wire) → Contains (map wire_of trunks) w → TrunkOf trunks w
-map_contains [] w there = absurd (contains_none w there)
-map_contains (x ∷ xs) w there =
-    elim (contains_cons (wire_of x) (map wire_of xs) w there) [
-      | inl same ↦ record { trunk = x; there = contains_here x xs; is = same }
-      | inr rest ↦ more (map_contains xs w rest)
-    ]
-  where
-    more : TrunkOf xs w → TrunkOf (x ∷ xs) w
-    more t = record { trunk = t.trunk; there = contains_there x xs t.trunk t.there; is = t.is }
-
 -- the first sweep over what is left
 pub begun : (wires : List Wire) (cs : List Constraint) (left : List Wire) (trunks : List Trunk) (track : ℕ) → IsChannel wires cs → IsFilled wires cs trunks left track → IsSweep wires cs left trunks [] left track None
 begun wires cs left trunks track channel filled = record {
@@ -129,7 +105,7 @@ begun wires cs left trunks track channel filled = record {
   skipped = λ w there. absurd (contains_none w there);
   on = λ t there e. absurd (omega (arith, filled.low t there, e));
   last = tt;
-  settled = λ b b_there x x_there e. absurd (parts_differ (λ (w : Wire). w.net.0) (map wire_of trunks) left (wire_of b) x distinct (contains_map trunks b b_there) x_there (ap (λ (n : NetNo). n.0) e));
+  settled = λ b b_there x x_there e. absurd (parts_differ (λ (w : Wire). w.net.0) (map wire_of trunks) left (wire_of b) x distinct (contains_map wire_of trunks b b_there) x_there (ap (λ (n : NetNo). n.0) e));
   below = λ c there none. lower c there none (some_from_any (λ (w : Wire). w.net ≡ c.lower) wires (channel.lower c there));
 }
   where
@@ -140,8 +116,8 @@ begun wires cs left trunks track channel filled = record {
     lower c there none found =
         elim (Contains-append_cases (map wire_of trunks) left found.it (Contains-permutation wires (map wire_of trunks ++ left) found.it filled.part.all found.there)) [
           | inl old ↦
-              let of : TrunkOf trunks found.it = map_contains trunks found.it old in
-              record { trunk = of.trunk; there = of.there; is = subst (λ (w : Wire). w.net ≡ c.lower) (sym of.is) found.holds; low = filled.low of.trunk of.there }
+              let of : Image wire_of trunks found.it = in_map wire_of trunks found.it old in
+              record { trunk = of.of; there = of.listed; is = subst (λ (w : Wire). w.net ≡ c.lower) (sym of.is) found.holds; low = filled.low of.of of.listed }
           | inr still ↦ absurd (let there' : has_net left c.lower ≡ true = test_there (λ (w : Wire). w.net.0 == c.lower.0) left found.it still (eq-eqb found.it.net.0 c.lower.0 (ap (λ (n : NetNo). n.0) found.holds)) in cc)
         ]
 

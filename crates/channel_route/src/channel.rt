@@ -32,7 +32,8 @@ pub fn route(alloc: Global, placement: &Placement, pins: &Pins) -> Result<Routin
     ensures legal { IfOk result (IsLegal placement.now pins.now) }
     ensures tight { IfOk result (IsTight placement.now pins.now) }
     // where no net stands above another, the tracks are as many as trunks cover one line
-    ensures density { IfOk result (λ routing. HasNoAbove placement.now pins.now → IsDensity routing.trunks routing.tracks) }
+    ensures density { IfOk result (λ routing. HasNoAbove placement.now pins.now
+        → IsDensity routing.trunks routing.tracks) }
     ensures acyclic { IfOk result (λ routing. HasNoCycle placement.now pins.now) }
     ensures cause { IfErr result (IsCause placement.now pins.now) }
     ensures told { IfErr result (TellsCycle placement.now pins.now) }

@@ -53,7 +53,8 @@ fn add_constraints(
     p: &NodePlace,
     nodes: &[NodePlace],
 ) -> Result<(), AllocError>
-    ensures { OnOk result (constraints.new.items ≡ constraints.old.items ++ filter_map (over wires.now p.now) nodes.now) }
+    ensures { OnOk result (constraints.new.items
+        ≡ constraints.old.items ++ filter_map (over wires.now p.now) nodes.now) }
 {
     for n in nodes {
         if let Some(constraint) = constraint_of(wires, p, n) {

@@ -1,6 +1,7 @@
 // Finds a cycle where each wire that is left stands above another one.
 
-ghost use Rattle.std.specs.Prelude.{ℕ, ◌≡◌, ◌≢◌, ◌≤◌, ◌<◌, ◌==◌, true, All, Contains, IfOk, IfSome, IsSome, length, get_or, count_by, slice_index_or};
+ghost use Rattle.std.specs.Prelude.{ℕ, ◌≡◌, ◌≢◌, ◌≤◌, ◌<◌, ◌==◌, true, All};
+ghost use Rattle.std.specs.Prelude.{Contains, IfOk, IfSome, IsSome, length, get_or, count_by, slice_index_or};
 ghost use Rattle.channel_route.specs.declared.routing.Above.{Above as AnAbove};
 ghost use Rattle.channel_route.specs.declared.constraint.Constraint.{Constraint as AConstraint};
 ghost use Rattle.channel_route.specs.Cycle.{StandAbove, IsCycleBelow};
@@ -90,6 +91,15 @@ fn least_net(turn: &[Above]) -> NetNo
     least
 }
 
+// The place of the least net.
+fn least_place(turn: &[Above]) -> usize
+    requires { 0 < length turn.now }
+    ensures below { result < length turn.now }
+    ensures least { (d : AnAbove) → All (λ a. (slice_index_or turn.now result d).net.0 ≤ a.net.0) turn.now }
+{
+    place_in(turn, least_net(turn))
+}
+
 /// The cycle to which the walk down from a net comes, its least net first.
 pub fn find_cycle(
     alloc: Global,
@@ -107,7 +117,7 @@ pub fn find_cycle(
     if turn.is_empty() {
         unreachable!()
     }
-    let at = place_in(&turn, least_net(&turn));
+    let at = least_place(&turn);
     let mut cycle = Vec::new(alloc);
     cycle.extend_from_slice(&turn[at..])?;
     cycle.extend_from_slice(&turn[..at])?;

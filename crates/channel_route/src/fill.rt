@@ -56,9 +56,12 @@ fn fill_track(
     track: u32,
     placed: &mut Vec<Trunk>,
 ) -> Result<Vec<Wire>, AllocError>
-    ensures filled { IfOk result (λ still. (wires : List AWire) → IsChannel wires constraints.now → IsFilled wires constraints.now placed.old.items left.now track → length still.items < length left.now → IsFilled wires constraints.now placed.new.items still.items (track + 1)) }
+    ensures filled { IfOk result (λ still. (wires : List AWire) → IsChannel wires constraints.now
+        → IsFilled wires constraints.now placed.old.items left.now track → length still.items < length left.now
+        → IsFilled wires constraints.now placed.new.items still.items (track + 1)) }
     ensures fewer { IfOk result (λ still. length still.items ≤ length left.now) }
-    ensures stuck { IfOk result (λ still. length still.items ≡ length left.now → All (λ w. waits left.now constraints.now w ≡ true) left.now) }
+    ensures stuck { IfOk result (λ still. length still.items ≡ length left.now
+        → All (λ w. waits left.now constraints.now w ≡ true) left.now) }
 {
     let mut still = Vec::new(alloc);
     let mut reach = None;

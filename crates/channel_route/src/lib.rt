@@ -10,7 +10,7 @@ pub mod routing;
 mod wire;
 
 pub use channel::route;
-pub use laws::{no_cycle, one_routing};
+pub use laws::{no_cycle, one_routing, one_told};
 pub use routing::{Above, CycleList, RouteStop, Routing, Trunk, TrunkList};
 
 #[cfg(test)]

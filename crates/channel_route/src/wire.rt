@@ -1,6 +1,7 @@
 // The nets that need a trunk.
 
-ghost use Rattle.std.specs.Prelude.{◌≡◌, ◌+◌, ◌≤◌, ◌<◌, ◌⊎◌, ◌↔◌, true, All, Contains, IfOk, OnOk, IfSome, IfNone, IsTrue, IsPermutation, IsSorted, length};
+ghost use Rattle.std.specs.Prelude.{◌≡◌, ◌+◌, ◌≤◌, ◌<◌, ◌⊎◌, ◌↔◌, true, All};
+ghost use Rattle.std.specs.Prelude.{Contains, IfOk, OnOk, IfSome, IfNone, IsTrue, IsPermutation, IsSorted, length};
 ghost use Rattle.cell_num.specs.declared.net.NetNo.{NetNo as ANet};
 ghost use Rattle.cell_num.specs.Pins.{IsRail};
 ghost use Rattle.row_place.specs.Places.{IsPlacement};
@@ -111,7 +112,8 @@ fn add_wire(
     requires found { AreFound placement.now pins.now wires.old.items }
     ensures found { OnOk result (AreFound placement.now pins.now wires.new.items) }
     ensures there { OnOk result (HasTrunk placement.now pins.now net → has_net wires.new.items net ≡ true) }
-    ensures kept { OnOk result ((other : ANet) → has_net wires.old.items other ≡ true → has_net wires.new.items other ≡ true) }
+    ensures kept { OnOk result ((other : ANet) → has_net wires.old.items other ≡ true
+        → has_net wires.new.items other ≡ true) }
     ensures more { OnOk result (length wires.new.items ≤ length wires.old.items + 1) }
 {
     if holds_net(wires.as_slice(), net) {

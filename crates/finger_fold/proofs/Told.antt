@@ -1,6 +1,6 @@
 -- No definition refuses for want of memory.
-use Rattle.std.proofs.Common.{◌≡◌, ℕ, nat_le, length}
-use Rattle.std.specs.Prelude.{Result, Ok, Err}
+use Rattle.std.proofs.Common.{◌≡◌, nat_le, length}
+use Rattle.std.specs.Prelude.{Err}
 use Rattle.cell_num.specs.declared.finger.Fingers.{Fingers}
 use Rattle.cell_num.specs.Fingers.{columns_of}
 use Rattle.cell_num.specs.Steps.{require}

@@ -124,7 +124,8 @@ pub fn place(alloc: Global, row: &Arrangement) -> Result<Placement, NoMemory>
     ensures exact { IfOk result (λ placement. placement ≡ placement_of row.now) }
     ensures places { IfOk result IsPlacement }
     // in an arrangement of a cell's fingers each pin other than the rails has a place
-    ensures pins { IfOk result (λ placement. (names : List (List ℕ)) (pins : APins) (f : AFingers) → AreSound names pins f → ArePins f.nets pins → IsArrangement row.now f → HasPins placement pins) }
+    ensures pins { IfOk result (λ placement. (names : List (List ℕ)) (pins : APins) (f : AFingers)
+        → AreSound names pins f → ArePins f.nets pins → IsArrangement row.now f → HasPins placement pins) }
 {
     let columns = row.as_slice();
     let mut copy = Arrangement::new(alloc);

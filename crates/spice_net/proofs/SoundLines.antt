@@ -1,6 +1,6 @@
 -- What holds of each transistor that the lines inside a subcircuit give.
 use Rattle.std.proofs.Common.{ℕ, ◌≡◌, ◌≤◌, ◌==◌, ◌&&◌, not, Bool, true, false, cond, List, [], ◌∷◌, refl, sym, subst, ap, ◌∙◌, inl, inr, arith}
-use Rattle.std.specs.Prelude.{All, nat_le, nat_lt, bytes_eq, Option, Some, None, Result, Ok, Err, option_and_then, codes}
+use Rattle.std.specs.Prelude.{All, nat_le, nat_lt, bytes_eq, Option, Some, None, Result, Ok, option_and_then, codes}
 use Rattle.std.proofs.lemmas.Bool.{cases_Bool, and_parts, not-true, leb-true, ltb-false}
 use Rattle.std.proofs.lemmas.List.Elements.{All-cons, All-nil}
 use Rattle.cell_num.specs.declared.length.Fixed.{Fixed}
@@ -14,7 +14,7 @@ use Rattle.spice_net.specs.declared.fault.SpiceFault.TheVariants as fault
 use Rattle.spice_net.specs.Transistors.{Transistor}
 use Rattle.spice_net.specs.declared.transistor.Sizes.{Sizes}
 use Rattle.spice_net.specs.Chosen.{first_is}
-use Rattle.cell_num.specs.Steps.{require, or_fault, ◌>>=◌}
+use Rattle.cell_num.specs.Steps.{require, ◌>>=◌}
 use Rattle.cell_num.proofs.Steps.{granted_step, granted_require, granted_option}
 use Rattle.spice_net.specs.Transistors.{Fields, fields_of, unit_pm, units_of, sizes_of, is_one, row_of, own_rail, other_rail, is_rail, rails_allowed, transistor_with, transistor_of, is_transistor, with_line, transistors_of}
 

@@ -3,7 +3,6 @@ use Rattle.std.proofs.Common.{◌≡◌, ℕ, ◌==◌, ◌&&◌, not, nat_le, B
 use Rattle.std.specs.Prelude.{Option, Some, None, Result, Ok, Err, position, bytes_eq}
 use Rattle.std.specs.List.{list_all}
 use Rattle.std.proofs.lemmas.Bool.{cases_Bool}
-use Rattle.cell_num.specs.declared.finger.Row.{Row}
 use Rattle.cell_num.specs.Names.{is_name}
 use Rattle.cell_num.specs.Steps.{◌>>=◌, require, or_fault}
 use Rattle.spice_text.specs.declared.logical.Line.{Line}
@@ -19,9 +18,9 @@ use Rattle.spice_net.specs.declared.fault.What.TheVariants as what
 use Rattle.spice_net.specs.declared.fault.SpiceFault.{SpiceFault}
 use Rattle.spice_net.specs.declared.fault.SpiceFault.TheVariants as fault
 use Rattle.spice_net.specs.Chosen.{first_is, has_name, begins, ends, from_first, chosen_at, chosen_in, without_comments, of_text, lines_in}
-use Rattle.spice_net.specs.Transistors.{Fields, Sizes, Transistor, is_parameter, value_of, fields_of, units_of, sizes_of, is_one, row_of, own_rail, rails_allowed, transistor_with, transistor_of, is_transistor, with_line, transistors_of}
+use Rattle.spice_net.specs.Transistors.{Fields, Transistor, is_parameter, value_of, fields_of, units_of, sizes_of, is_one, row_of, own_rail, rails_allowed, transistor_with, transistor_of, is_transistor, with_line, transistors_of}
 use Rattle.spice_net.specs.Nets.{distinct, nets_of}
-use Rattle.spice_net.specs.Subcircuit.{pins_of, with_rails, idle_pin, none_idle, at_most, few_enough, numbered, subckt_of, subckt_in, subcircuit}
+use Rattle.spice_net.specs.Subcircuit.{pins_of, with_rails, idle_pin, none_idle, at_most, few_enough, subckt_of, subckt_in, subcircuit}
 
 abbrev Never : {A : Type 0} → Result A SpiceFault → Type 0
 Never r = r ≡ Err fault.NoMemory → ⊥

@@ -1,7 +1,7 @@
 -- The reader's own words: how far its steps have come.
 use Rattle.std.specs.Borrow.{Bor}
 use Rattle.std.specs.List.{list_any}
-use Rattle.std.specs.Prelude.{[], ◌∷◌, map, fold, bytes_eq, List, ◌++◌, if◌then◌else◌, ℕ, Option, Some, None, Result, Ok, Err}
+use Rattle.std.specs.Prelude.{[], ◌∷◌, map, fold, bytes_eq, List, ◌++◌, if◌then◌else◌, ℕ, Option, Some, None, Result, Ok}
 use Rattle.spice_net.specs.declared.fault.SpiceFault.{SpiceFault}
 use Rattle.cell_num.specs.declared.finger.Row.{Row}
 use Rattle.spice_net.specs.Transistors.{Fields, Transistor, with_line}

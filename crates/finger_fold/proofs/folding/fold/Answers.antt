@@ -1,5 +1,3 @@
-use Rattle.std.proofs.Common.{◌≤◌}
-use Rattle.cell_num.specs.Fingers.{columns_of}
 use Rattle.finger_fold.proofs.Columns.{few_columns}
 use Rattle.finger_fold.proofs.Sound.{sound}
 use Rattle.finger_fold.proofs.folding.fold.Goals as goal

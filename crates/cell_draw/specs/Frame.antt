@@ -1,0 +1,42 @@
+-- The heights of a cell. The widest finger of a row decides its height; the tracks, or a given height of
+-- the cell, that of the channel.
+use Rattle.std.specs.Prelude.{ℕ, ◌+◌, ◌*◌, ◌-◌, ◌<◌, ◌≢◌, max, fold, List, Option, Some, None}
+use Rattle.cell_num.specs.declared.finger.Row.{Row}
+use Rattle.cell_num.specs.declared.finger.Row.TheVariants.{P, N}
+use Rattle.row_model.specs.declared.column.Placed.{Placed}
+use Rattle.row_model.specs.declared.column.Column.{Column}
+use Rattle.row_model.specs.Arrangement.{place}
+use Rattle.cell_draw.specs.declared.layout.Frame.{Frame}
+
+abbrev pub wider : ℕ → Option Placed → ℕ
+wider most None = most
+wider most (Some x) = max most x.finger.width
+
+-- the greatest finger width of a row, at least 10
+abbrev pub height_of : Row → List Column → ℕ
+height_of row columns = fold (λ most column. wider most (place row column)) 10 columns
+
+-- the height of the channel: 20 from each edge to the nearest track, 16 between two
+abbrev pub channel_of : ℕ → ℕ
+channel_of tracks = 40 + 16 * (tracks - 1)
+
+-- the least height of the cell
+abbrev pub needed_of : List Column → ℕ → ℕ
+needed_of row tracks = 24 + height_of N row + channel_of tracks + height_of P row + 24
+
+-- the height is given, and is not enough
+abbrev pub IsTooTall : List Column → ℕ → ℕ → Type 0
+IsTooTall row tracks height = (height ≢ 0) × (height < needed_of row tracks)
+
+-- The channel takes what the given height has to spare; the height 0 leaves it at the least.
+abbrev pub frame_of : List Column → ℕ → ℕ → ℕ → Frame
+frame_of row tracks height width = record {
+  hn = height_of N row;
+  hp = height_of P row;
+  yn = 24 + height_of N row;
+  yp = 24 + height_of N row + channel_of tracks + (height - needed_of row tracks);
+  width = width;
+}
+
+abbrev pub track_y : Frame → ℕ → ℕ
+track_y f j = f.yn + 20 + 16 * j

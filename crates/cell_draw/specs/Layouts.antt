@@ -1,0 +1,154 @@
+-- The layout of a routed row on its lines.
+use Rattle.std.specs.Prelude.{ℕ, ◌+◌, ◌*◌, ◌-◌, ◌==◌, ◌&&◌, not, Bool, true, false, if◌then◌else◌, List, [], ◌∷◌, ◌++◌, map, filter, length, Option, Some, None, option_map, filter_map, find}
+use Rattle.std.specs.List.{flat_map, list_any, range_with_len}
+use Rattle.cell_num.specs.declared.net.NetNo.{NetNo}
+use Rattle.cell_num.specs.declared.net.Pins.{Pins}
+use Rattle.cell_num.specs.declared.finger.Row.{Row}
+use Rattle.cell_num.specs.declared.finger.Row.TheVariants.{P, N}
+use Rattle.row_model.specs.declared.column.Placed.{Placed}
+use Rattle.box_geom.specs.declared.layer.Layer.TheVariants.{Active, Poly, Metal1}
+use Rattle.row_place.specs.declared.placement.NodePlace.{NodePlace}
+use Rattle.row_place.specs.declared.placement.GatePlace.{GatePlace}
+use Rattle.row_place.specs.declared.placement.Placement.{Placement}
+use Rattle.row_place.specs.declared.placement.Seat.{Seat}
+use Rattle.row_place.specs.Units.{seats_of}
+use Rattle.row_place.specs.Steps.{gate_of}
+use Rattle.channel_route.specs.declared.routing.Trunk.{Trunk}
+use Rattle.channel_route.specs.declared.routing.Routing.{Routing}
+use Rattle.row_compact.specs.Entries.{is_rail}
+use Rattle.row_compact.specs.Solution.{x_of}
+use Rattle.cell_draw.specs.declared.layout.Frame.{Frame}
+use Rattle.cell_draw.specs.declared.layout.Strip.{Strip}
+use Rattle.cell_draw.specs.declared.layout.Contact.{Contact}
+use Rattle.cell_draw.specs.declared.layout.Gate.{Gate}
+use Rattle.cell_draw.specs.declared.layout.Bar.{Bar}
+use Rattle.cell_draw.specs.declared.layout.Tag.{Tag}
+use Rattle.cell_draw.specs.declared.layout.Layout.{Layout}
+use Rattle.cell_draw.specs.Frame.{frame_of, track_y}
+
+-- the last line plus 8
+abbrev pub width_of : Placement → List ℕ → ℕ
+width_of placement xs = x_of xs (2 * length placement.units) + 8
+
+-- a finger goes from the left node line of its column's unit to the right one
+abbrev pub strip_of : List ℕ → ℕ → Row → Option Placed → List Strip
+strip_of xs unit row None = []
+strip_of xs unit row (Some x) = record { row = row; left = x_of xs (2 * unit); right = x_of xs (2 * unit + 2); width = x.finger.width } ∷ []
+
+abbrev pub strips_at : List ℕ → Seat → List Strip
+strips_at xs seat = strip_of xs seat.unit N seat.column.n ++ strip_of xs seat.unit P seat.column.p
+
+-- the trunk of a net
+abbrev pub trunk_of : List Trunk → NetNo → Option Trunk
+trunk_of trunks net = find (λ t. t.net.0 == net.0) trunks
+
+-- the height of the track of a net's trunk
+abbrev pub reach_of : Frame → List Trunk → NetNo → Option ℕ
+reach_of f trunks net = option_map (λ t. track_y f t.track) (trunk_of trunks net)
+
+abbrev pub contact_with : List ℕ → NodePlace → Option ℕ → Contact
+contact_with xs node reach = record { row = node.row; x = x_of xs node.line; net = node.net; reach = reach }
+
+-- a node place is contacted where its net is a rail or has a trunk
+abbrev pub contact_of : Frame → Pins → List Trunk → List ℕ → NodePlace → Option Contact
+contact_of f pins trunks xs node =
+    if is_rail pins node.net then Some (contact_with xs node None)
+    else option_map (λ reach. contact_with xs node (Some reach)) (reach_of f trunks node.net)
+
+abbrev pub finger_width : Option Placed → Option ℕ
+finger_width placed = option_map (λ (x : Placed). x.finger.width) placed
+
+abbrev pub gate_with : Frame → List Trunk → List ℕ → Seat → GatePlace → Gate
+gate_with f trunks xs seat place = record {
+  x = x_of xs place.line;
+  net = place.net;
+  n = finger_width seat.column.n;
+  p = finger_width seat.column.p;
+  track = reach_of f trunks place.net;
+}
+
+abbrev pub gate_at : Frame → List Trunk → List ℕ → Seat → Option Gate
+gate_at f trunks xs seat = option_map (gate_with f trunks xs seat) (gate_of seat)
+
+abbrev pub is_p : Row → Bool
+is_p P = true
+is_p N = false
+
+-- the N row has a place of the same net at the line
+abbrev pub is_over : NodePlace → NodePlace → Bool
+is_over node other = not (is_p other.row) && (other.line == node.line) && (other.net.0 == node.net.0)
+
+-- a place of the P row over one of the N row shares its via
+abbrev pub has_own_via : List NodePlace → NodePlace → Bool
+has_own_via nodes node = not (is_p node.row && list_any (is_over node) nodes)
+
+-- the node lines where a net has a place, each once, ascending
+abbrev pub vias_of : List NodePlace → List ℕ → NetNo → List ℕ
+vias_of nodes xs net = map (λ node. x_of xs node.line) (filter (λ node. (node.net.0 == net.0) && has_own_via nodes node) nodes)
+
+abbrev pub bar_of : Frame → List NodePlace → List ℕ → Trunk → Bar
+bar_of f nodes xs t = record {
+  left = x_of xs t.left;
+  right = x_of xs t.right;
+  y = track_y f t.track;
+  net = t.net;
+  vias = vias_of nodes xs t.net;
+}
+
+-- A net's name stands on its rail, on its trunk, or else at its only place.
+abbrev pub node_tag : Frame → List ℕ → NodePlace → Tag
+node_tag f xs node = record { layer = Active; x = x_of xs node.line; y = if is_p node.row then f.yp + 4 else f.yn - 4; net = node.net }
+
+abbrev pub gate_y : Frame → Option ℕ → ℕ
+gate_y f None = f.yp - 2
+gate_y f (Some width) = f.yn + 2
+
+abbrev pub gate_tag : Frame → Gate → Tag
+gate_tag f g = record { layer = Poly; x = g.x; y = gate_y f g.n; net = g.net }
+
+abbrev pub metal_tag : ℕ → ℕ → NetNo → Tag
+metal_tag x y net = record { layer = Metal1; x = x; y = y; net = net }
+
+abbrev pub or_else : Option Tag → Option Tag → Option Tag
+or_else None other = other
+or_else (Some tag) other = Some tag
+
+-- at the first place of a net
+abbrev pub place_tag : Frame → List NodePlace → List ℕ → List Gate → NetNo → Option Tag
+place_tag f nodes xs gates net = or_else (option_map (node_tag f xs) (find (λ node. node.net.0 == net.0) nodes)) (option_map (gate_tag f) (find (λ g. g.net.0 == net.0) gates))
+
+-- on the trunk of a net, or else at its first place
+abbrev pub net_tag : Frame → List NodePlace → List Trunk → List ℕ → List Gate → NetNo → Option Tag
+net_tag f nodes trunks xs gates net = or_else (option_map (λ t. metal_tag (x_of xs t.left) (track_y f t.track) net) (trunk_of trunks net)) (place_tag f nodes xs gates net)
+
+abbrev pub tag_of : Pins → Frame → List NodePlace → List Trunk → List ℕ → List Gate → NetNo → Option Tag
+tag_of pins f nodes trunks xs gates net =
+    if net.0 == pins.gnd.0 then Some (metal_tag 8 8 net)
+    else if net.0 == pins.vdd.0 then Some (metal_tag 8 (f.yp + f.hp + 16) net)
+    else net_tag f nodes trunks xs gates net
+
+abbrev pub net_no : ℕ → NetNo
+net_no n = record { 0 = n }
+
+-- in order of net
+abbrev pub tags_of : Pins → Frame → ℕ → List NodePlace → List Trunk → List ℕ → List Gate → List Tag
+tags_of pins f nets nodes trunks xs gates = filter_map (λ n. tag_of pins f nodes trunks xs gates (net_no n)) (range_with_len 0 nets)
+
+abbrev pub gates_on : Frame → List Trunk → List ℕ → List Seat → List Gate
+gates_on f trunks xs seats = filter_map (gate_at f trunks xs) seats
+
+abbrev pub laid_out : Frame → ℕ → Pins → Placement → List Trunk → List ℕ → Layout
+laid_out f nets pins placement trunks xs = record {
+  frame = f;
+  gnd = pins.gnd;
+  vdd = pins.vdd;
+  strips = flat_map (strips_at xs) (seats_of placement.row);
+  contacts = filter_map (contact_of f pins trunks xs) placement.nodes;
+  gates = gates_on f trunks xs (seats_of placement.row);
+  bars = map (bar_of f placement.nodes xs) trunks;
+  tags = tags_of pins f nets placement.nodes trunks xs (gates_on f trunks xs (seats_of placement.row));
+}
+
+-- the layout of a routed row, on lines at these places and in a cell of this height
+abbrev pub layout_of : ℕ → Pins → Placement → Routing → List ℕ → ℕ → Layout
+layout_of nets pins placement routing xs height = laid_out (frame_of placement.row routing.tracks height (width_of placement xs)) nets pins placement routing.trunks xs

@@ -1,0 +1,71 @@
+// The shapes of gates and of bars.
+
+ghost use Rattle.std.specs.Prelude.{◌≡◌, ◌≤◌, ◌<◌, ◌+◌, pos, IfSome};
+ghost use Rattle.box_geom.specs.declared.layer.Layer.TheVariants.{Poly, Metal1};
+ghost use Rattle.cell_draw.specs.Laid.{IsWidth};
+ghost use Rattle.cell_draw.specs.Shapes.{upright, finger, gate_low, gate_high, gate_strip, bar_metal};
+ghost use Rattle.cell_draw.specs.Small.{IsSmallFrame, IsSmallGate, IsSmallBar, IsReach};
+
+use crate::shape::upright;
+use crate::{Bar, Frame, Gate};
+use box_geom::{Layer, Rect, Shape};
+
+// The lower end of a gate, by the finger of the N row.
+fn gate_low(frame: &Frame, n: Option<u32>, track: Option<u32>) -> u32
+    requires frame { IsSmallFrame frame.now }
+    requires n { IsWidth frame.now.hn n }
+    requires track { IsReach frame.now track }
+    ensures value { pos result ≡ gate_low frame.now n track }
+    ensures most { result + 4 ≤ frame.now.yp }
+    ensures over { IfSome n (λ w. result ≤ frame.now.yn) }
+{
+    match (n, track) {
+        (Some(width), _) => frame.yn - (width + 4),
+        (None, Some(track)) => track,
+        (None, None) => frame.yp - 4,
+    }
+}
+
+// The upper end of a gate, by the finger of the P row.
+fn gate_high(frame: &Frame, p: Option<u32>, track: Option<u32>) -> u32
+    requires frame { IsSmallFrame frame.now }
+    requires p { IsWidth frame.now.hp p }
+    requires track { IsReach frame.now track }
+    ensures value { pos result ≡ gate_high frame.now p track }
+    ensures least { frame.now.yn + 4 ≤ result }
+    ensures over { IfSome p (λ w. frame.now.yp ≤ result) }
+    ensures most { result ≤ 200000 }
+{
+    match (p, track) {
+        (Some(width), _) => frame.yp + width + 4,
+        (None, Some(track)) => track,
+        (None, None) => frame.yn + 4,
+    }
+}
+
+#[tactic(auto, using(crate::proofs::Sizes::low_high))]
+pub fn gate_strip(frame: &Frame, gate: &Gate) -> Shape
+    requires frame { IsSmallFrame frame.now }
+    requires gate { IsSmallGate frame.now gate.now }
+    ensures { result ≡ gate_strip frame.now gate.now }
+{
+    let low = gate_low(frame, gate.n, gate.track);
+    let high = gate_high(frame, gate.p, gate.track);
+    upright(Layer::Poly, gate.x, 2, low, high)
+}
+
+pub fn bar_metal(frame: &Frame, bar: &Bar) -> Shape
+    requires frame { IsSmallFrame frame.now }
+    requires bar { IsSmallBar frame.now bar.now }
+    ensures { result ≡ bar_metal bar.now }
+{
+    Shape {
+        layer: Layer::Metal1,
+        rect: Rect {
+            x1: bar.left as i32 - 4,
+            y1: bar.y as i32 - 4,
+            x2: bar.right as i32 + 4,
+            y2: bar.y as i32 + 4,
+        },
+    }
+}

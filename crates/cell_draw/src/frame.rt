@@ -1,0 +1,123 @@
+// The heights of a cell.
+
+ghost use Rattle.std.specs.Prelude.{◌≡◌, ◌≤◌, ◌+◌, All};
+ghost use Rattle.row_model.specs.Arrangement.{place};
+ghost use Rattle.cell_draw.specs.Frame.{wider, height_of, channel_of, needed_of, frame_of, track_y, IsTooTall};
+ghost use Rattle.cell_draw.specs.Small.{IsFingerWidth, HasWidths, IsSmallFrame};
+
+use crate::Frame;
+use cell_num::Row;
+use row_model::{Column, Placed};
+use row_place::Placement;
+
+/// The greatest height of a cell that may be given, in grid units.
+pub const MOST_HEIGHT: u32 = 4_000;
+
+/// The most tracks of a cell.
+pub const MOST_TRACKS: u32 = 1_000;
+
+/// Where the last line of a cell may stand, in grid units.
+pub const MOST_X: u32 = 1_000_000;
+
+/// The channel edges of the N and of the P row, in grid units.
+#[derive(Clone, Copy, Debug, PartialEq, Eq)]
+pub struct Edges {
+    pub n: u32,
+    pub p: u32,
+}
+
+fn wider(most: u32, placed: &Option<Placed>) -> u32
+    requires width { IsFingerWidth placed.now }
+    requires most { most ≤ 400 }
+    ensures value { result ≡ wider most placed.now }
+    ensures least { most ≤ result }
+    ensures most { result ≤ 400 }
+{
+    match placed {
+        Some(placed) => most.max(placed.finger.width),
+        None => most,
+    }
+}
+
+// The greatest finger width of a row, at least 10.
+#[tactic(auto, using(crate::proofs::Sizes::width_in))]
+fn height_of(row: Row, columns: &[Column]) -> u32
+    requires { All HasWidths columns.now }
+    ensures value { result ≡ height_of row columns.now }
+    ensures least { 10 ≤ result }
+    ensures most { result ≤ 400 }
+{
+    let mut most = 10;
+    for column in columns {
+        most = wider(most, &column.place(row));
+    }
+    most
+}
+
+// The height of a channel of so many tracks.
+fn channel_of(tracks: u32) -> u32
+    requires { tracks ≤ 1000 }
+    ensures value { result ≡ channel_of tracks }
+    ensures most { result ≤ 16040 }
+{
+    40 + 16 * tracks.saturating_sub(1)
+}
+
+/// The least height of a cell with so many tracks.
+pub fn needed(columns: &[Column], tracks: u32) -> u32
+    requires widths { All HasWidths columns.now }
+    requires tracks { tracks ≤ 1000 }
+    ensures value { result ≡ needed_of columns.now tracks }
+    ensures most { result ≤ 20000 }
+{
+    24 + height_of(Row::N, columns) + channel_of(tracks) + height_of(Row::P, columns) + 24
+}
+
+/// The heights of a cell, which are the least ones where no height is given. The channel takes what a
+/// given height has to spare.
+pub fn frame(columns: &[Column], tracks: u32, height: u32, width: u32) -> Frame
+    requires widths { All HasWidths columns.now }
+    requires tracks { tracks ≤ 1000 }
+    requires height { height ≤ 4000 }
+    requires wide { 16 ≤ width }
+    requires right { width ≤ 1000008 }
+    ensures exact { result ≡ frame_of columns.now tracks height width }
+    ensures small { IsSmallFrame result }
+{
+    let hn = height_of(Row::N, columns);
+    let hp = height_of(Row::P, columns);
+    let yn = 24 + hn;
+    let spare = height.saturating_sub(needed(columns, tracks));
+    Frame {
+        hn,
+        hp,
+        yn,
+        yp: yn + channel_of(tracks) + spare,
+        width,
+    }
+}
+
+/// The channel edges of a cell, whose height is 0 or enough.
+pub fn channel_edges(placement: &Placement, tracks: u32, height: u32) -> Edges
+    requires widths { All HasWidths placement.now.row }
+    requires tracks { tracks ≤ MOST_TRACKS }
+    requires height { height ≤ MOST_HEIGHT }
+    requires enough { IsTooTall placement.now.row tracks height → ⊥ }
+    ensures n { result.n ≡ (frame_of placement.now.row tracks height 16).yn }
+    ensures p { result.p ≡ (frame_of placement.now.row tracks height 16).yp }
+{
+    let frame = frame(placement.row.as_slice(), tracks, height, 16);
+    Edges {
+        n: frame.yn,
+        p: frame.yp,
+    }
+}
+
+/// The height of a track.
+pub fn track_y(frame: &Frame, track: u32) -> u32
+    requires frame { IsSmallFrame frame.now }
+    requires track { track ≤ 1000 }
+    ensures { result ≡ track_y frame.now track }
+{
+    frame.yn + 20 + 16 * track
+}

@@ -1,0 +1,147 @@
+// The shapes of fingers and of contacted node places.
+
+ghost use Rattle.std.specs.Prelude.{◌≡◌, ◌≤◌, ◌<◌, ◌+◌, pos};
+ghost use Rattle.box_geom.specs.declared.layer.Layer.TheVariants.{Metal1, Metal2};
+ghost use Rattle.cell_draw.specs.Shapes.{upright, finger_low, finger_high, finger, centre, landing, strap_low, strap_high, strap, branch_low, branch_high, branch};
+ghost use Rattle.cell_draw.specs.Small.{IsSmallFrame, IsSmallStrip, IsSmallContact, IsHeight};
+
+use crate::shape::upright;
+use crate::{Contact, Frame, Strip};
+use box_geom::{Layer, Rect, Shape};
+use cell_num::Row;
+
+// From a lower to an upper height.
+#[derive(Clone, Copy)]
+struct Span {
+    low: u32,
+    high: u32,
+}
+
+fn finger_span(frame: &Frame, strip: &Strip) -> Span
+    requires frame { IsSmallFrame frame.now }
+    requires strip { IsSmallStrip frame.now strip.now }
+    ensures low { pos result.low ≡ finger_low frame.now strip.now.row strip.now.width }
+    ensures high { pos result.high ≡ finger_high frame.now strip.now.row strip.now.width }
+    ensures ascends { result.low < result.high }
+    ensures most { result.high ≤ 200000 }
+{
+    match strip.row {
+        Row::N => Span {
+            low: frame.yn - strip.width,
+            high: frame.yn,
+        },
+        Row::P => Span {
+            low: frame.yp,
+            high: frame.yp + strip.width,
+        },
+    }
+}
+
+pub fn finger(frame: &Frame, strip: &Strip) -> Shape
+    requires frame { IsSmallFrame frame.now }
+    requires strip { IsSmallStrip frame.now strip.now }
+    ensures { result ≡ finger frame.now strip.now }
+{
+    let span = finger_span(frame, strip);
+    Shape {
+        layer: Layer::Active,
+        rect: Rect {
+            x1: strip.left as i32,
+            y1: span.low as i32,
+            x2: strip.right as i32,
+            y2: span.high as i32,
+        },
+    }
+}
+
+// The centre of a node's contact, 5 inside the row.
+pub fn centre(frame: &Frame, row: Row) -> u32
+    requires { IsSmallFrame frame.now }
+    ensures value { pos result ≡ centre frame.now row }
+    ensures most { result ≤ 150000 }
+{
+    match row {
+        Row::N => frame.yn - 5,
+        Row::P => frame.yp + 5,
+    }
+}
+
+// The centre of a signal's landing via, 6 inside the channel.
+pub fn landing(frame: &Frame, row: Row) -> u32
+    requires { IsSmallFrame frame.now }
+    ensures value { pos result ≡ landing frame.now row }
+    ensures most { result ≤ 150000 }
+{
+    match row {
+        Row::N => frame.yn + 6,
+        Row::P => frame.yp - 6,
+    }
+}
+
+// A rail's strap begins at the rail; a signal's goes past the landing via. Both go past the contact.
+fn strap_span(frame: &Frame, row: Row, reach: Option<u32>) -> Span
+    requires { IsSmallFrame frame.now }
+    ensures low { pos result.low ≡ strap_low frame.now row reach }
+    ensures high { pos result.high ≡ strap_high frame.now row reach }
+    ensures ascends { result.low < result.high }
+    ensures most { result.high ≤ 200000 }
+{
+    match (row, reach) {
+        (Row::N, None) => Span {
+            low: 16,
+            high: frame.yn - 1,
+        },
+        (Row::P, None) => Span {
+            low: frame.yp + 1,
+            high: frame.yp + frame.hp + 8,
+        },
+        (Row::N, Some(_)) => Span {
+            low: frame.yn - 9,
+            high: frame.yn + 10,
+        },
+        (Row::P, Some(_)) => Span {
+            low: frame.yp - 10,
+            high: frame.yp + 9,
+        },
+    }
+}
+
+pub fn strap(frame: &Frame, contact: &Contact) -> Shape
+    requires frame { IsSmallFrame frame.now }
+    requires contact { IsSmallContact frame.now contact.now }
+    ensures { result ≡ strap frame.now contact.now.row contact.now.x contact.now.reach }
+{
+    let span = strap_span(frame, contact.row, contact.reach);
+    upright(Layer::Metal1, contact.x, 4, span.low, span.high)
+}
+
+// From past the landing via to past the track that is reached.
+fn branch_span(frame: &Frame, row: Row, reach: u32) -> Span
+    requires frame { IsSmallFrame frame.now }
+    requires reach { IsHeight frame.now reach }
+    ensures low { pos result.low ≡ branch_low frame.now row reach }
+    ensures high { pos result.high ≡ branch_high frame.now row reach }
+    ensures ascends { result.low < result.high }
+    ensures most { result.high ≤ 200000 }
+{
+    match row {
+        Row::N => Span {
+            low: frame.yn + 2,
+            high: reach + 4,
+        },
+        Row::P => Span {
+            low: reach - 4,
+            high: frame.yp - 2,
+        },
+    }
+}
+
+pub fn branch(frame: &Frame, row: Row, x: u32, reach: u32) -> Shape
+    requires frame { IsSmallFrame frame.now }
+    requires x { x ≤ 1000000 }
+    requires reach { IsHeight frame.now reach }
+    ensures { result ≡ branch frame.now row x reach }
+{
+    let span = branch_span(frame, row, reach);
+    upright(Layer::Metal2, x, 4, span.low, span.high)
+}

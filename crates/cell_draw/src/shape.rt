@@ -1,0 +1,126 @@
+// One shape of a layout: primitives, and well, selects and rails.
+
+ghost use Rattle.std.specs.Prelude.{◌≡◌, ◌≤◌, ◌<◌, ◌+◌, ◌-ℤ◌, pos};
+ghost use Rattle.box_geom.specs.declared.layer.Layer.TheVariants.{Metal1};
+ghost use Rattle.cell_draw.specs.Shapes.{box, around, upright, well, p_select, n_select, gnd_rail, vdd_rail};
+ghost use Rattle.cell_draw.specs.Small.{IsSmallFrame};
+
+use crate::Frame;
+use box_geom::{Layer, Rect, Shape};
+
+// A rectangle that begins at the left edge of the cell and goes so far beyond it to both sides.
+fn across(layer: Layer, frame: &Frame, beyond: u32, low: u32, high: u32) -> Shape
+    requires frame { IsSmallFrame frame.now }
+    requires beyond { beyond ≤ 10 }
+    requires ascends { low < high }
+    requires high { high ≤ 200000 }
+    ensures { result ≡ box layer (pos 0 -ℤ pos beyond) (pos low) (pos (frame.now.width + beyond)) (pos high) }
+{
+    Shape {
+        layer,
+        rect: Rect {
+            x1: 0 - beyond as i32,
+            y1: low as i32,
+            x2: (frame.width + beyond) as i32,
+            y2: high as i32,
+        },
+    }
+}
+
+// The square around a point that reaches so far to each side.
+pub fn square(layer: Layer, x: u32, y: u32, by: u32) -> Shape
+    requires x { x ≤ 1000000 }
+    requires y { y ≤ 200000 }
+    requires some { 0 < by }
+    requires by { by ≤ 10 }
+    ensures { result ≡ around layer x (pos y) by }
+{
+    Shape {
+        layer,
+        rect: Rect {
+            x1: x as i32 - by as i32,
+            y1: y as i32 - by as i32,
+            x2: x as i32 + by as i32,
+            y2: y as i32 + by as i32,
+        },
+    }
+}
+
+// From low to high, so far to both sides of a line.
+pub fn upright(layer: Layer, x: u32, by: u32, low: u32, high: u32) -> Shape
+    requires x { x ≤ 1000000 }
+    requires some { 0 < by }
+    requires by { by ≤ 10 }
+    requires ascends { low < high }
+    requires high { high ≤ 200000 }
+    ensures { result ≡ upright layer x by (pos low) (pos high) }
+{
+    Shape {
+        layer,
+        rect: Rect {
+            x1: x as i32 - by as i32,
+            y1: low as i32,
+            x2: x as i32 + by as i32,
+            y2: high as i32,
+        },
+    }
+}
+
+pub fn well(frame: &Frame) -> Shape
+    requires { IsSmallFrame frame.now }
+    ensures { result ≡ well frame.now }
+{
+    across(
+        Layer::Well,
+        frame,
+        10,
+        frame.yp - 12,
+        frame.yp + frame.hp + 24,
+    )
+}
+
+pub fn p_select(frame: &Frame) -> Shape
+    requires { IsSmallFrame frame.now }
+    ensures { result ≡ p_select frame.now }
+{
+    across(
+        Layer::PSelect,
+        frame,
+        2,
+        frame.yp - 4,
+        frame.yp + frame.hp + 4,
+    )
+}
+
+pub fn n_select(frame: &Frame) -> Shape
+    requires { IsSmallFrame frame.now }
+    ensures { result ≡ n_select frame.now }
+{
+    across(
+        Layer::NSelect,
+        frame,
+        2,
+        frame.yn - (frame.hn + 4),
+        frame.yn + 4,
+    )
+}
+
+pub fn gnd_rail(frame: &Frame) -> Shape
+    requires { IsSmallFrame frame.now }
+    ensures { result ≡ gnd_rail frame.now }
+{
+    across(Layer::Metal1, frame, 0, 0, 16)
+}
+
+pub fn vdd_rail(frame: &Frame) -> Shape
+    requires { IsSmallFrame frame.now }
+    ensures { result ≡ vdd_rail frame.now }
+{
+    across(
+        Layer::Metal1,
+        frame,
+        0,
+        frame.yp + frame.hp + 8,
+        frame.yp + frame.hp + 24,
+    )
+}

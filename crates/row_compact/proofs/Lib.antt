@@ -1,0 +1,5 @@
+pub mod Decide
+mod Least
+pub mod Prefixes
+mod Solutions
+pub mod Within

@@ -1,0 +1,30 @@
+-- The solutions of a list of distances, and the least of them.
+use Rattle.std.specs.Prelude.{ℕ, ◌≡◌, ◌+◌, ◌≤◌, ◌<◌, List, length, get_or}
+use Rattle.std.specs.List.{All}
+use Rattle.row_compact.specs.declared.distance.Distance.{Distance}
+use Rattle.row_compact.specs.declared.distance.Distances.{Distances}
+
+-- where a line stands
+abbrev pub x_of : List ℕ → ℕ → ℕ
+x_of xs line = get_or xs line 0
+
+-- from a line to a later one, by at most 1,000
+pub record IsEntry (lines : ℕ) (d : Distance) : Type 0 where
+  pub ascends : d.from < d.to
+  pub within : d.to < lines
+  pub modest : d.least ≤ 1000
+
+-- the second line stands far enough behind the first
+abbrev pub IsKept : List ℕ → Distance → Type 0
+IsKept xs d = x_of xs d.from + d.least ≤ x_of xs d.to
+
+-- a position for each line: line 0 at 8 or more, and each distance is kept
+pub record IsSolution (d : Distances) (xs : List ℕ) : Type 0 where
+  pub lines : length xs ≡ d.lines
+  pub first : 8 ≤ x_of xs 0
+  pub kept : All (IsKept xs) d.list
+
+-- a solution that is at every line at most every other one
+pub record IsLeast (d : Distances) (xs : List ℕ) : Type 0 where
+  pub solution : IsSolution d xs
+  pub least : (other : List ℕ) → IsSolution d other → (line : ℕ) → line < d.lines → x_of xs line ≤ x_of other line

@@ -1,0 +1,6 @@
+pub mod Conditions
+pub mod Failing
+pub mod Gates
+pub mod Layout
+pub mod Numbers
+pub mod Rules
