@@ -1,5 +1,5 @@
 -- What a check of some bytes comes to, from what the reader and the checker of logs answered.
-use Rattle.std.proofs.Common.{ℕ, ◌≡◌, ◌≢◌, ◌≤◌, List, Option, Some, None, Result, Ok, Err, length, inl, inr, refl, sym, subst, IfOk}
+use Rattle.std.proofs.Common.{ℕ, ◌≡◌, ◌≢◌, ◌≤◌, List, Some, Result, Ok, Err, length, refl, sym, subst, IfOk}
 use Rattle.row_model.specs.declared.column.Column.{Column}
 use Rattle.row_model.specs.Arrangement.{IsArrangement}
 use Rattle.row_model.specs.Gaps.{gaps_of}

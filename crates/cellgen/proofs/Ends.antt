@@ -1,11 +1,11 @@
 -- What a call comes to, from what it gathered: by form, and by the refusal of a file.
-use Rattle.std.proofs.Common.{ℕ, ◌≡◌, ◌⊎◌, ◌≤◌, ◌<◌, Bool, true, false, nat_le, if◌then◌else◌, length, arith, List, [], Option, Some, None, Result, Ok, Err, IsNone, Contains, inl, inr, refl, sym, ap, ◌∙◌, subst}
+use Rattle.std.proofs.Common.{ℕ, ◌≡◌, ◌⊎◌, Bool, true, false, nat_le, if◌then◌else◌, length, arith, List, [], Option, Some, None, Result, Ok, Err, IsNone, Contains, inl, inr, refl, sym, ap, ◌∙◌, subst}
 use Rattle.cell_io.specs.Desk.{Files, View, Rose}
 use Rattle.cellgen.specs.declared.end.End.{End}
 use Rattle.cellgen.specs.declared.gather.Material.{Material}
 use Rattle.cellgen.specs.declared.gather.Material.TheVariants.{Planning, Checking}
 use Rattle.cellgen.specs.declared.refusal.Refusal.{Refusal}
-use Rattle.cellgen.specs.declared.refusal.Refusal.TheVariants.{Words, Unread, Long, Tech, Spice, Fold, NoMemory}
+use Rattle.cellgen.specs.declared.refusal.Refusal.TheVariants.{Unread, Long, NoMemory}
 use Rattle.cellgen.specs.declared.status.Status.{Status}
 use Rattle.cellgen.specs.declared.status.Status.TheVariants as status
 use Rattle.cellgen.specs.declared.check.CheckAnswer.TheVariants.{Accepted, Misread, Rejected}
@@ -15,11 +15,11 @@ use Rattle.cellgen.specs.Ends.{CallsFor, EndsTo, MayEnd, is_among, outside_of, r
 use Rattle.cellgen.specs.Gather.{gathered, read_by}
 use Rattle.cellgen.specs.Inputs.{Inputs}
 use Rattle.cellgen.specs.Plan.{PlansTo, Planned, Unfinished}
-use Rattle.cellgen.specs.Reading.{called, Comes}
-use Rattle.cellgen.specs.Sources.{Source, MayRead, Lacks, file_name, held, most_bytes, within}
+use Rattle.cellgen.specs.Reading.{Comes}
+use Rattle.cellgen.specs.Sources.{Source, MayRead, Lacks, file_name, most_bytes, within}
 use Rattle.cellgen.specs.Words.{CellAsked, Form, Plan, Check}
-use Rattle.cellgen.proofs.Gathered.{IsGathered, IsMaterialOf, gathered_keeps}
-use Rattle.cellgen.proofs.Reading.{IsUnread, came_kept, came_told, called_comes}
+use Rattle.cellgen.proofs.Gathered.{IsGathered, gathered_keeps}
+use Rattle.cellgen.proofs.Reading.{came_kept, came_told}
 
 -- ---- by form
 

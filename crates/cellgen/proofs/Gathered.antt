@@ -1,5 +1,5 @@
 -- Which files the forms read, and what they end with by themselves.
-use Rattle.std.proofs.Common.{ℕ, ◌≡◌, ◌⊎◌, ◌++◌, List, [], ◌∷◌, Option, Some, None, Result, Ok, Err, IfErr, Contains, inl, inr, refl, arith}
+use Rattle.std.proofs.Common.{ℕ, ◌≡◌, ◌++◌, List, [], ◌∷◌, Option, Some, None, Result, Ok, Err, IfErr, Contains, refl, arith}
 use Rattle.std.proofs.lemmas.List.Elements.{Contains-append_left}
 use Rattle.cell_num.specs.Names.{lowered}
 use Rattle.cell_num.specs.declared.finger.Fingers.{Fingers}
@@ -15,8 +15,7 @@ use Rattle.cellgen.specs.declared.refusal.Refusal.TheVariants.{Words, Tech, Spic
 use Rattle.cellgen.specs.declared.status.Status.TheVariants as status
 use Rattle.cellgen.specs.Ends.{refusal_status}
 use Rattle.cellgen.specs.Gather.{gathered, input_files, inputs_from, read_by, technology_from}
-use Rattle.cellgen.specs.Inputs.{Inputs, inputs_in, inputs_of}
-use Rattle.cellgen.specs.Reading.{bytes_of, Ends}
+use Rattle.cellgen.specs.Inputs.{inputs_in, inputs_of}
 use Rattle.cellgen.specs.Refusals.{as_refusal}
 use Rattle.cellgen.specs.Sources.{Source, TechFile, SpiceFile, LogFile}
 use Rattle.cellgen.specs.Words.{CellAsked, Form, Plan, Check}

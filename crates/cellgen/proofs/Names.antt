@@ -1,5 +1,5 @@
 -- The lower case of a cell's name stands in a line, and a subcircuit keeps its name.
-use Rattle.std.proofs.Common.{ℕ, ◌==◌, not, List, ◌≡◌, ◌≢◌, ◌+◌, ◌≤◌, ◌<◌, ◌&&◌, true, All, IsTrue, IfOk, Result, Ok, Err, refl, sym, ap, subst, ◌∙◌, length, nat_le, inl, inr, arith}
+use Rattle.std.proofs.Common.{ℕ, ◌==◌, not, List, ◌≡◌, ◌≢◌, ◌+◌, ◌&&◌, true, IsTrue, IfOk, Result, Ok, refl, sym, subst, ◌∙◌, length, nat_le, inl, inr, arith}
 use Rattle.std.specs.List.{list_all}
 use Rattle.std.specs.Char.{to_ascii_lowercase}
 use Rattle.std.proofs.lemmas.Bool.{and_parts, cases_lt, leb-true}

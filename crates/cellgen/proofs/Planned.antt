@@ -1,5 +1,5 @@
 -- What a plan comes to, from what the search answered.
-use Rattle.std.proofs.Common.{ℕ, ◌≡◌, ◌≤◌, ◌<◌, List, Result, Ok, Err, IfOk, refl, arith}
+use Rattle.std.proofs.Common.{ℕ, ◌≡◌, ◌≤◌, List, Result, IfOk, refl, arith}
 use Rattle.std.proofs.lemmas.Result.{IfOk-weaker}
 use Rattle.cell_num.specs.declared.list.NoMemory.{NoMemory}
 use Rattle.row_model.specs.declared.column.Column.{Column}

@@ -1,5 +1,5 @@
 -- What the top call owes of its answer, from the end that it came to and how this was told.
-use Rattle.std.proofs.Common.{ℕ, ◌≡◌, ◌≤◌, ◌⊎◌, ◌↔◌, ◌||◌, ◌++◌, Bool, true, false, List, [], Option, Some, None, Result, Ok, Err, IfSome, IsNone, Contains, inl, inr, refl, sym, ap, ◌∙◌, subst, arith}
+use Rattle.std.proofs.Common.{ℕ, ◌≡◌, ◌⊎◌, ◌↔◌, ◌||◌, Bool, true, false, List, [], Option, Some, None, Result, Ok, Err, IfSome, IsNone, Contains, inl, inr, refl, sym, ap, ◌∙◌, subst, arith}
 use Rattle.std.proofs.lemmas.List.{append-nil}
 use Rattle.cell_io.specs.Desk.{Files, View, Both, ForSome, AddsPart, OnlyReads, Rose}
 use Rattle.cellgen.specs.declared.end.End.{End}
@@ -10,13 +10,13 @@ use Rattle.cellgen.specs.declared.refusal.Refusal.{Refusal}
 use Rattle.cellgen.specs.declared.refusal.Refusal.TheVariants.{Words, Unread, Long, Tech, Spice, Fold, NoMemory}
 use Rattle.cellgen.specs.declared.status.Status.{Status}
 use Rattle.cellgen.specs.declared.status.Status.TheVariants as status
-use Rattle.cellgen.specs.Calm.{IfCalm, IsCalm, IsDoneOrShort}
+use Rattle.cellgen.specs.Calm.{IsCalm, IsDoneOrShort}
 use Rattle.cellgen.specs.Check.{HoldsAcceptedLog, IsCheck}
 use Rattle.cellgen.specs.Deliver.{GivesUp, MakesAll, MakesSome, OnlyTells, Says, Tells, TellsSome, TellsWhole}
 use Rattle.cellgen.specs.Ends.{CallsFor, EndsTo, IsOfOutside, MayEnd, is_among, is_status_of, outside_of, refused, settled_of}
 use Rattle.cellgen.specs.Gather.{gathered, read_by}
 use Rattle.cellgen.specs.Plan.{HasEnough}
-use Rattle.cellgen.specs.Reading.{called, MayCome}
+use Rattle.cellgen.specs.Reading.{called}
 use Rattle.cellgen.specs.Sources.{Lacks, held}
 use Rattle.cellgen.specs.Words.{Form, Plan, Check}
 use Rattle.cellgen.proofs.Checked.{done_holds, holds_done}

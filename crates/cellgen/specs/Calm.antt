@@ -1,5 +1,5 @@
 -- Calls whose reading and writing did not fail.
-use Rattle.std.specs.Prelude.{ℕ, ◌≡◌, ◌⊎◌, IfSome}
+use Rattle.std.specs.Prelude.{◌≡◌, ◌⊎◌, IfSome}
 use Rattle.cell_io.specs.Desk.{Files, View, Rose}
 use Rattle.cellgen.specs.declared.status.Status.{Status}
 use Rattle.cellgen.specs.declared.status.Status.TheVariants.{Done, NoMemory}

@@ -1,5 +1,5 @@
 -- What a check of a log comes to.
-use Rattle.std.specs.Prelude.{ℕ, ◌≡◌, ◌≢◌, ◌≤◌, List, [], ◌++◌, codes, length, Option, Some, None, Result, Ok, Err}
+use Rattle.std.specs.Prelude.{ℕ, ◌≡◌, ◌≢◌, ◌≤◌, List, ◌++◌, codes, length, Option, Some, None, Ok, Err}
 use Rattle.cell_io.specs.Desk.{Files}
 use Rattle.cell_num.specs.Fingers.{columns_of}
 use Rattle.row_model.specs.declared.column.Column.{Column}

@@ -1,5 +1,5 @@
 -- The line of a fault: the part's word, the fault's name, then each field's name and its value.
-use Rattle.std.specs.Prelude.{ℕ, ℤ, List, [], ◌∷◌, ◌++◌, codes, decimal, flat_map, pos}
+use Rattle.std.specs.Prelude.{ℕ, ℤ, List, [], ◌∷◌, ◌++◌, codes, decimal, flat_map}
 use Rattle.std.specs.Fmt.{signed_decimal}
 use Rattle.tech_file.specs.declared.fault.TechFault.{TechFault}
 use Rattle.tech_file.specs.declared.fault.TechFault.TheVariants as tech

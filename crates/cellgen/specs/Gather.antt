@@ -1,8 +1,7 @@
 -- What the forms read, in order, and what they then work on.
-use Rattle.std.specs.Prelude.{ℕ, ◌≡◌, List, [], ◌∷◌, ◌++◌, Option, Some, None, Result, Ok, Err}
+use Rattle.std.specs.Prelude.{ℕ, List, [], ◌∷◌, ◌++◌, Option, Some, None, Ok, Err}
 use Rattle.cellgen.specs.declared.gather.Material.{Material}
 use Rattle.cellgen.specs.declared.gather.Material.TheVariants.{Planning, Checking}
-use Rattle.cellgen.specs.declared.refusal.Refusal.{Refusal}
 use Rattle.cellgen.specs.declared.refusal.Refusal.TheVariants.{Words, Tech}
 use Rattle.cell_num.specs.Names.{lowered}
 use Rattle.tech_file.specs.Technology.{Technology, plain}

@@ -1,5 +1,5 @@
 -- What the commands on a cell of a SPICE file work on: the technology, the subcircuit and its fingers.
-use Rattle.std.specs.Prelude.{ℕ, List, Result, Ok, Err}
+use Rattle.std.specs.Prelude.{ℕ, List, Result, Ok}
 use Rattle.cell_num.specs.Fingers.{AreFingers}
 use Rattle.cell_num.specs.Steps.{◌>>=◌}
 use Rattle.cell_num.specs.declared.finger.Fingers.{Fingers}

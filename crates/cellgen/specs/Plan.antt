@@ -1,5 +1,5 @@
 -- What a plan comes to: the first least row, or the log of an unfinished search.
-use Rattle.std.specs.Prelude.{ℕ, ◌≡◌, ◌≤◌, List, [], ◌++◌, codes, length, Option, Some, Result, Ok}
+use Rattle.std.specs.Prelude.{ℕ, ◌≡◌, ◌≤◌, List, ◌++◌, codes, length, Option, Ok}
 use Rattle.cell_io.specs.Desk.{Files}
 use Rattle.row_model.specs.declared.column.Column.{Column}
 use Rattle.row_state.specs.Parity.{parity_value}

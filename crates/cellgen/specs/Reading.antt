@@ -1,6 +1,6 @@
 -- Work that reads files in order: which file comes next depends on what the ones before it held, and the first
 -- refusal ends it.
-use Rattle.std.specs.Prelude.{ℕ, ◌≡◌, ◌⊎◌, List, Option, Result, Ok, Err}
+use Rattle.std.specs.Prelude.{ℕ, ◌≡◌, ◌⊎◌, List, Result, Ok, Err}
 use Rattle.cell_io.specs.Desk.{Files, View, Rose}
 use Rattle.cellgen.specs.declared.refusal.Refusal.{Refusal}
 use Rattle.cellgen.specs.declared.refusal.Refusal.TheVariants.{NoMemory}

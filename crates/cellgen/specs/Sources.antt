@@ -1,6 +1,6 @@
 -- The files that a call reads, and what reading one may come to.
 use Rattle.std.specs.Prelude.{ℕ, ◌≡◌, ◌≤◌, ◌⊎◌, nat_le, List, length, Contains, IsNone, Option, Some, None, Result, Ok, Err, if◌then◌else◌}
-use Rattle.cell_io.specs.Desk.{Files, Rose}
+use Rattle.cell_io.specs.Desk.{Files}
 use Rattle.cellgen.specs.declared.refusal.Refusal.{Refusal}
 use Rattle.cellgen.specs.declared.refusal.Refusal.TheVariants.{Unread, Long}
 

@@ -1,5 +1,5 @@
-use Rattle.std.proofs.Common.{ℕ, ◌≡◌, ◌+◌, ◌∷◌, List, Option, Some, drop, sym, subst, arith}
-use Rattle.cell_io.specs.Desk.{Files, Both, Sets}
+use Rattle.std.proofs.Common.{ℕ, ◌≡◌, ◌+◌, ◌∷◌, List, Some, drop, sym, subst, arith}
+use Rattle.cell_io.specs.Desk.{Both, Sets}
 use Rattle.cellgen.specs.declared.end.Output.{Output}
 use Rattle.cellgen.specs.Deliver.{Makes, MakesAll, MakesSome}
 use Rattle.cellgen.proofs.Delivered.{all_more, makes_trans, next_file, on_err, some_here, some_more}

@@ -1,4 +1,4 @@
-use Rattle.std.proofs.Common.{◌≡◌, Option, drop}
+use Rattle.std.proofs.Common.{Option, drop}
 use Rattle.cell_io.specs.Desk.{Files, Both, OnlyMakes}
 use Rattle.cellgen.specs.Deliver.{MakesAll, MakesSome}
 use Rattle.cellgen.proofs.deliver.make_files.Given as goal

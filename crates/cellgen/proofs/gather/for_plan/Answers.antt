@@ -1,4 +1,4 @@
-use Rattle.std.proofs.Common.{Ok, Err, inl, refl}
+use Rattle.std.proofs.Common.{Ok, inl, refl}
 use Rattle.cellgen.specs.declared.gather.Material.TheVariants.{Planning}
 use Rattle.cellgen.specs.Gather.{inputs_from}
 use Rattle.cellgen.specs.Inputs.{Inputs}

@@ -1,4 +1,4 @@
-use Rattle.std.proofs.Common.{ℕ, List, Ok, Err, inl, refl}
+use Rattle.std.proofs.Common.{ℕ, List, Ok, inl, refl}
 use Rattle.cellgen.specs.declared.gather.Material.TheVariants.{Checking}
 use Rattle.cellgen.specs.Reading.{bytes_of, Ends}
 use Rattle.cellgen.specs.Sources.{LogFile}

@@ -1,4 +1,4 @@
-use Rattle.std.proofs.Common.{ℕ, List, ap, ◌∙◌, subst}
+use Rattle.std.proofs.Common.{ℕ, List, ap, subst}
 use Rattle.cell_num.specs.Names.{lowered}
 use Rattle.cellgen.specs.Inputs.{inputs_in}
 use Rattle.cellgen.specs.Read.{IsRead}

@@ -1,4 +1,3 @@
-use Rattle.std.proofs.Common.{rules}
 use Rattle.cellgen.specs.declared.refusal.Refusal.TheVariants.{Tech}
 use Rattle.cellgen.specs.Gather.{technology_in}
 use Rattle.cellgen.specs.Reading.{bytes_of}

@@ -1,6 +1,6 @@
 use Rattle.std.proofs.Common.{refl}
 use Rattle.cellgen.specs.Words.{asked}
-use Rattle.cellgen.proofs.Telling.{Answers, accepts_told, answers, called_for_told, checked_told, completes_told, made_told, memory_told, planned_told, read_told, status_told, usage_told, write_told}
+use Rattle.cellgen.proofs.Telling.{accepts_told, answers, called_for_told, checked_told, completes_told, made_told, memory_told, planned_told, read_told, status_told, usage_told, write_told}
 use Rattle.cellgen.proofs.run.run.Goals as goal
 
 pub returns-clause-ends : goal.returns-clause-ends
