@@ -10,6 +10,7 @@ mod BridgeTracks
 mod BridgeWhole
 mod Draws
 mod Found
+mod Inverter
 mod RulesActive
 mod RulesAround
 mod RulesContacts
