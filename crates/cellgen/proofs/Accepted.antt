@@ -1,5 +1,5 @@
 -- A log is accepted or refused, and not both.
-use Rattle.std.proofs.Common.{ℕ, ◌≡◌, ◌≢◌, ◌≤◌, ◌<◌, List, Option, Some, None, length, refl, sym, ◌∙◌, arith}
+use Rattle.std.proofs.Common.{ℕ, ◌≢◌, Option, Some, None, refl, sym, ◌∙◌, arith}
 use Rattle.cell_num.specs.declared.finger.Row.{Row}
 use Rattle.cell_num.specs.declared.finger.Fingers.{Fingers}
 use Rattle.row_state.specs.declared.kind.Kinds.{Kinds}
@@ -11,8 +11,8 @@ use Rattle.bound_log.specs.declared.log.Best.{Best}
 use Rattle.bound_log.specs.declared.log.Log.{Log}
 use Rattle.log_check.specs.declared.refused.Refused.{Refused}
 use Rattle.log_check.specs.declared.refused.Refused.TheVariants as because
-use Rattle.log_check.specs.Accepted.{AreJustified, BestPasses, IsAccepted, best_of}
-use Rattle.log_check.specs.Refusal.{BestRefuses, IsFirstUnjustified, Refuses}
+use Rattle.log_check.specs.Accepted.{BestPasses, IsAccepted, best_of}
+use Rattle.log_check.specs.Refusal.{BestRefuses, Refuses}
 
 best_not_both : (k : Kinds) (f : Fingers) (best : ℕ) (row : Option Best) (gaps : ℕ) (cause : Refused) → BestPasses k f best row gaps → BestRefuses k f best row cause → cause ≢ because.NoMemory → ⊥
 best_not_both k f best None gaps cause passes refuses other = passes

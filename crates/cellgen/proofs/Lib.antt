@@ -1,11 +1,11 @@
-mod Accepted
-pub mod LogRead
+pub mod Accepted
 pub mod Checked
-pub mod Counts
-pub mod Forms
-pub mod InputsRead
-pub mod Readings
-pub mod Spent
-pub mod Steps
+pub mod Delivered
+pub mod Desks
+pub mod Ends
+pub mod Gathered
+pub mod Names
+pub mod Planned
+pub mod Reading
+pub mod Results
 pub mod Telling
-pub mod Works

@@ -1,4 +1,4 @@
--- The lines of a planned row, of a spent budget and of a checked log. Widths of fingers are in grid units of
+-- The lines of a planned row, of an unfinished search and of a checked log. Widths of fingers are in grid units of
 -- half a lambda each.
 use Rattle.std.specs.Prelude.{ℕ, ◌+◌, List, [], ◌++◌, length, slice_get, unwrap_or, flat_map, codes, decimal, Option, Some, None}
 use Rattle.std.specs.List.{enumerate_from}
@@ -6,7 +6,7 @@ use Rattle.cell_num.specs.declared.net.NetNo.{NetNo}
 use Rattle.row_model.specs.declared.column.Placed.{Placed}
 use Rattle.row_model.specs.declared.column.Column.{Column}
 use Rattle.row_model.specs.Gaps.{left_net, right_net, gaps_of}
-use Rattle.cellgen.specs.Lines.{text_line, count_line}
+use Rattle.cell_num.specs.Lines.{text_line, count_line}
 
 -- a net by its name
 abbrev pub name_of : List (List ℕ) → NetNo → List ℕ
@@ -51,8 +51,8 @@ abbrev pub plan_text : List ℕ → List (List ℕ) → List Column → List ℕ
 plan_text name nets row = row_text name (length row) (gaps_of row) ++ columns_text nets row
 
 -- the gaps that are proved, and the number of lemmas
-abbrev pub stopped_text : ℕ → ℕ → List ℕ
-stopped_text proved lemmas = count_line (codes "proved ") proved ++ count_line (codes "lemmas ") lemmas
+abbrev pub unfinished_text : ℕ → ℕ → List ℕ
+unfinished_text proved lemmas = count_line (codes "proved ") proved ++ count_line (codes "lemmas ") lemmas
 
 -- the row of an accepted log, and the number of its lemmas
 abbrev pub checked_text : List ℕ → ℕ → ℕ → ℕ → List ℕ

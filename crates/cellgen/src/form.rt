@@ -1,24 +1,55 @@
-ghost use Rattle.std.specs.Prelude.{◌≡◌, [], ◌∷◌, option_map};
+ghost use Rattle.std.specs.Prelude.{◌≡◌, map, option_map, IfOk, string_bytes};
 ghost use Rattle.std.specs.List.{list_all};
-ghost use Rattle.cellgen.specs.Words.{texts, are_inputs, is_cell_byte, is_cell, tech_of, form_of};
-ghost use Rattle.cellgen.specs.Forms.{shown};
+ghost use Rattle.cell_num.specs.Names.{lowered};
+ghost use Rattle.bound_log.specs.Fits.{IsLogName};
+ghost use Rattle.cellgen.specs.Shown.{shown};
+ghost use Rattle.cellgen.specs.Words.{texts, is_cell_byte, is_cell, is_file, tech_of, cell_of, plan_of, check_of, form_of, asked};
+
+use cell_num::{Name, NoMemory, lower};
+use std::alloc::Global;
+use std::marker::Model;
+
+/// A cell that is asked for. Its name has 1 to 32 letters, digits, `_`, `$` or `?`.
+#[derive(Drop)]
+pub struct CellAsked<'a> {
+    /// The technology's file; None is the plain technology.
+    pub tech: Option<&'a str>,
+    pub spice: &'a str,
+    pub cell: &'a str,
+}
+
+impl<'a> Model for CellAsked<'a> {
+    ghost use Rattle.std.specs.Prelude.{option_map, IsTrue};
+    ghost use Rattle.cellgen.specs.Words.{CellAsked as Asked, is_cell};
+
+    ghost Value = { Asked };
+
+    ghost view = { λ a. record {
+      tech = option_map (λ name. name.now) a.tech;
+      spice = a.spice.now;
+      cell = a.cell.now;
+    } };
+
+    ghost invariant = { λ a. IsTrue (is_cell a.cell.now) };
+}
+
+impl<'a> CellAsked<'a> {
+    /// The cell's name in lower case.
+    pub fn name(&self, alloc: Global) -> Result<Name, NoMemory>
+        ensures lower { IfOk result (λ name. name ≡ lowered self.now.cell) }
+        ensures line { IfOk result (λ name. IsLogName name) }
+    {
+        lower(alloc, self.cell.as_bytes())
+    }
+}
 
 /// What a call of the program asks for.
-#[derive(Clone, Copy)]
+#[derive(Drop)]
 pub enum Form<'a> {
-    /// The first least row. A technology of None is the plain one.
-    Plan {
-        tech: Option<&'a str>,
-        spice: &'a str,
-        cell: &'a str,
-    },
-    /// Whether a log certifies a row.
-    Check {
-        tech: Option<&'a str>,
-        spice: &'a str,
-        cell: &'a str,
-        log: &'a str,
-    },
+    /// The first least row of a cell.
+    Plan { cell: CellAsked<'a> },
+    /// Whether a log certifies a row of a cell.
+    Check { cell: CellAsked<'a>, log: &'a str },
 }
 
 /// The most bytes of a cell's name.
@@ -43,12 +74,6 @@ fn is_cell(name: &str) -> bool
     !bytes.is_empty() && bytes.len() <= MOST_CELL_BYTES && are_cell_bytes(bytes)
 }
 
-fn are_inputs(tech: &str, spice: &str, cell: &str) -> bool
-    ensures { result ≡ are_inputs tech.now spice.now cell.now }
-{
-    !tech.is_empty() && !spice.is_empty() && is_cell(cell)
-}
-
 // The technology's file, or None for the plain one.
 fn tech_of(word: &str) -> Option<&str>
     ensures { option_map (λ name. name.now) result ≡ tech_of word.now }
@@ -56,11 +81,11 @@ fn tech_of(word: &str) -> Option<&str>
     if word == "-" { None } else { Some(word) }
 }
 
-fn plan_of<'a>(command: &str, tech: &'a str, spice: &'a str, cell: &'a str) -> Option<Form<'a>>
-    ensures { option_map shown result ≡ form_of (command.now ∷ tech.now ∷ spice.now ∷ cell.now ∷ []) }
+fn cell_of<'a>(tech: &'a str, spice: &'a str, cell: &'a str) -> Option<CellAsked<'a>>
+    ensures { result ≡ cell_of tech.now spice.now cell.now }
 {
-    if command == "plan" && are_inputs(tech, spice, cell) {
-        Some(Form::Plan {
+    if !tech.is_empty() && !spice.is_empty() && is_cell(cell) {
+        Some(CellAsked {
             tech: tech_of(tech),
             spice,
             cell,
@@ -70,47 +95,46 @@ fn plan_of<'a>(command: &str, tech: &'a str, spice: &'a str, cell: &'a str) -> O
     }
 }
 
-fn check_of<'a>(
-    command: &str,
-    tech: &'a str,
-    spice: &'a str,
-    cell: &'a str,
-    log: &'a str,
-) -> Option<Form<'a>>
-    ensures { option_map shown result ≡ form_of (command.now ∷ tech.now ∷ spice.now ∷ cell.now ∷ log.now ∷ []) }
+// The form of the words behind `plan`.
+fn plan_of(words: &[String]) -> Option<Form<'_>>
+    ensures { option_map shown result ≡ plan_of (texts words.now) }
 {
-    if command == "check" && are_inputs(tech, spice, cell) && !log.is_empty() {
-        Some(Form::Check {
-            tech: tech_of(tech),
-            spice,
-            cell,
-            log,
-        })
-    } else {
-        None
+    let [tech, spice, cell] = words else {
+        return None;
+    };
+    match cell_of(tech.as_str(), spice.as_str(), cell.as_str()) {
+        Some(cell) => Some(Form::Plan { cell }),
+        None => None,
     }
 }
 
-/// The form of the words, or None where they have none of the listed forms.
+// The form of the words behind `check`.
+fn check_of(words: &[String]) -> Option<Form<'_>>
+    ensures { option_map shown result ≡ check_of (texts words.now) }
+{
+    let [tech, spice, cell, log] = words else {
+        return None;
+    };
+    if log.is_empty() {
+        return None;
+    }
+    match cell_of(tech.as_str(), spice.as_str(), cell.as_str()) {
+        Some(cell) => Some(Form::Check {
+            cell,
+            log: log.as_str(),
+        }),
+        None => None,
+    }
+}
+
+/// The form of the words, told by the command first, or None where they have none of the listed forms.
 pub fn form_of(words: &[String]) -> Option<Form<'_>>
-    ensures { option_map shown result ≡ form_of (texts words.now) }
+    ensures { option_map shown result ≡ asked words.now }
 {
-    match words {
-        [command, tech, spice, cell] => {
-            plan_of(
-                command.as_str(),
-                tech.as_str(),
-                spice.as_str(),
-                cell.as_str(),
-            )
-        }
-        [command, tech, spice, cell, log] => check_of(
-            command.as_str(),
-            tech.as_str(),
-            spice.as_str(),
-            cell.as_str(),
-            log.as_str(),
-        ),
+    let (command, rest) = words.split_first()?;
+    match command.as_str() {
+        "plan" => plan_of(rest),
+        "check" => check_of(rest),
         _ => None,
     }
 }

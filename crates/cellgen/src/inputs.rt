@@ -1,128 +1,135 @@
-ghost use Rattle.std.specs.Prelude.{◌≡◌, ◌≢◌, ◌≤◌, length, option_map, Ok, Err, IfOk, IfErr, IsTrue};
-ghost use Rattle.cell_io.specs.Desk.{Rose};
-ghost use Rattle.cell_num.specs.Fingers.{AreFingers};
+ghost use Rattle.std.specs.Prelude.{◌≡◌, ◌≢◌, ◌≤◌, length, option_map, Some, Ok, Err, IfOk, IfErr};
+ghost use Rattle.cell_io.specs.Desk.{OnlyReads};
 ghost use Rattle.tech_file.specs.Reading.{technology};
 ghost use Rattle.bound_log.specs.Fits.{IsLogName};
 ghost use Rattle.cellgen.specs.declared.refusal.Refusal.TheVariants as refused;
-ghost use Rattle.cellgen.specs.Files.{MayRead, OverDesk};
-ghost use Rattle.cellgen.specs.Inputs.{TechnologyFrom, InputsFrom, inputs_in};
-ghost use Rattle.cellgen.specs.Steps.{OrShort, as_refusal};
-ghost use Rattle.cellgen.specs.Words.{is_cell};
+ghost use Rattle.cellgen.specs.Gather.{technology_from, inputs_from, inputs_over};
+ghost use Rattle.cellgen.specs.Inputs.{AreInputs, inputs_in};
+ghost use Rattle.cellgen.specs.Reading.{MayCome};
+ghost use Rattle.cellgen.specs.Refusals.{as_refusal};
 
-use crate::answer::Inputs;
+use crate::form::CellAsked;
+use crate::read::{Source, read_file};
 use crate::refusal::Refusal;
-use cell_io::{Desk, ReadFault, read_all};
-use cell_num::{Name, copy, lower};
+use cell_io::Desk;
+use cell_num::{Fingers, Name};
 use finger_fold::fold;
-use spice_net::read_cell;
+use spice_net::{Subckt, read_cell};
 use std::alloc::Global;
+use std::marker::Model;
 use tech_file::{Tech, read_tech};
 
-/// The most bytes of a technology file.
-const MOST_TECH: u64 = 4_194_304;
+/// What the commands on a cell of a SPICE file work on: the technology, the subcircuit, whose name has 1 to 32
+/// bytes, and its fingers.
+#[derive(Drop)]
+pub struct Inputs {
+    pub tech: Tech,
+    pub cell: Subckt,
+    pub fingers: Fingers,
+}
 
-/// The most bytes of a SPICE file.
-const MOST_SPICE: u64 = 4_194_304;
+impl Model for Inputs {
+    ghost use Rattle.cellgen.specs.Inputs.{Inputs as InputsOf, AreInputs, inputs_of};
 
-/// The bytes of a file, at most `most` of them.
-pub fn read_file<D: Desk>(
-    alloc: Global,
-    desk: &mut D,
-    name: &str,
-    most: u64,
-) -> Result<Name, Refusal>
-    ensures size { IfOk result (λ bytes. length bytes ≤ most) }
-    ensures read { OrShort (MayRead (D.given desk.old) (Rose (D.read_faults desk.old) (D.read_faults desk.new)) name.now most) result }
-    ensures given { D.given desk.new ≡ D.given desk.old }
-    ensures made { D.made desk.new ≡ D.made desk.old }
-    ensures said { D.said desk.new ≡ D.said desk.old }
-    ensures read_count { D.read_faults desk.old ≤ D.read_faults desk.new }
-    ensures write_count { D.write_faults desk.old ≤ D.write_faults desk.new }
-    ensures short_count { D.shorts desk.old ≤ D.shorts desk.new }
-{
-    match read_all(alloc, desk, name, most) {
-        Ok(bytes) => Ok(Name::from_vec(bytes)),
-        Err(ReadFault::Missing | ReadFault::Failed) => Err(Refusal::Unread {
-            name: copy(alloc, name.as_bytes())?,
-        }),
-        Err(ReadFault::TooLong) => Err(Refusal::Long {
-            name: copy(alloc, name.as_bytes())?,
-        }),
-        Err(ReadFault::NoMemory) => Err(Refusal::NoMemory),
+    ghost Value = { InputsOf };
+
+    ghost view = { λ i. inputs_of i.tech i.cell i.fingers };
+
+    ghost invariant = { λ i. AreInputs (inputs_of i.tech i.cell i.fingers) };
+}
+
+impl Inputs {
+    /// Shows a caller's proof what holds of all inputs; it does nothing.
+    pub fn show_limits(&self)
+        ensures { AreInputs self.now }
+    {
+        let _ = &self.fingers;
+    }
+
+    /// The most nodes of a search, at most 1,000,000.
+    pub fn budget(&self) -> u64
+        ensures is { result ≡ self.now.tech.budget }
+        ensures few { result ≤ 1000000 }
+    {
+        self.tech.show_limits();
+        self.tech.budget
     }
 }
 
 fn technology_in(alloc: Global, bytes: &[u8]) -> Result<Tech, Refusal>
     requires { length bytes.now ≤ 1073741824 }
     ensures technology { IfOk result (λ tech. as_refusal refused.Tech (technology bytes.now) ≡ Ok tech) }
-    ensures refusal { IfErr result (λ e. e ≢ refused.NoMemory → as_refusal refused.Tech (technology bytes.now) ≡ Err e) }
+    ensures refusal { IfErr result
+        (λ e. e ≢ refused.NoMemory → as_refusal refused.Tech (technology bytes.now) ≡ Err e) }
 {
     Ok(read_tech(alloc, bytes)?)
 }
 
+fn read_tech_file<D: Desk>(alloc: Global, desk: &mut D, name: &str) -> Result<Tech, Refusal>
+    ensures comes { MayCome (D.view desk.old) (D.view desk.new) (technology_from (Some name.now)) result }
+    ensures only { OnlyReads (D.view desk.old) (D.view desk.new) }
+{
+    let bytes = read_file(alloc, desk, Source::Tech(name))?;
+    technology_in(alloc, bytes.as_slice())
+}
+
 // The technology of a file, or the plain one.
-fn technology_from<D: Desk>(
+fn read_technology<D: Desk>(
     alloc: Global,
     desk: &mut D,
     file: Option<&str>,
 ) -> Result<Tech, Refusal>
-    ensures steps { OrShort (TechnologyFrom (OverDesk (D.given desk.old) (Rose (D.read_faults desk.old) (D.read_faults desk.new))) (option_map (λ name. name.now) file.entry)) result }
-    ensures given { D.given desk.new ≡ D.given desk.old }
-    ensures made { D.made desk.new ≡ D.made desk.old }
-    ensures said { D.said desk.new ≡ D.said desk.old }
-    ensures read_count { D.read_faults desk.old ≤ D.read_faults desk.new }
-    ensures write_count { D.write_faults desk.old ≤ D.write_faults desk.new }
-    ensures short_count { D.shorts desk.old ≤ D.shorts desk.new }
+    ensures comes { MayCome (D.view desk.old) (D.view desk.new)
+        (technology_from (option_map (λ name. name.now) file.entry)) result }
+    ensures only { OnlyReads (D.view desk.old) (D.view desk.new) }
 {
-    let Some(name) = file else {
-        return Ok(Tech::plain(alloc)?);
-    };
-    let bytes = read_file(alloc, desk, name, MOST_TECH)?;
-    technology_in(alloc, bytes.as_slice())
+    match file {
+        Some(name) => read_tech_file(alloc, desk, name),
+        None => Ok(Tech::plain(alloc)?),
+    }
 }
 
 // The subcircuit of a name in the bytes of a SPICE file, and its fingers.
-fn inputs_in(alloc: Global, bytes: &[u8], name: Name, tech: &Tech) -> Result<Inputs, Refusal>
-    requires { length bytes.now ≤ 1073741824 }
-    ensures inputs { IfOk result (λ inputs. inputs_in bytes.now name tech.now ≡ Ok inputs) }
-    ensures refusal { IfErr result (λ e. e ≢ refused.NoMemory → inputs_in bytes.now name tech.now ≡ Err e) }
-    ensures name { IfOk result (λ inputs. inputs.name ≡ name) }
-    ensures fingers { IfOk result (λ inputs. AreFingers inputs.fingers) }
-    ensures budget { IfOk result (λ inputs. inputs.budget ≤ 1000000) }
+fn inputs_in(alloc: Global, bytes: &[u8], name: &Name, tech: Tech) -> Result<Inputs, Refusal>
+    requires few { length bytes.now ≤ 1073741824 }
+    requires name { IsLogName name.now }
+    ensures inputs { IfOk result (λ inputs. inputs_in bytes.now name.now tech ≡ Ok inputs) }
+    ensures refusal { IfErr result (λ e. e ≢ refused.NoMemory → inputs_in bytes.now name.now tech ≡ Err e) }
 {
     tech.show_limits();
-    let cell = read_cell(alloc, bytes, &name, tech)?;
-    let fingers = fold(alloc, &cell, tech)?;
+    let cell = read_cell(alloc, bytes, name, &tech)?;
+    let fingers = fold(alloc, &cell, &tech)?;
     Ok(Inputs {
-        name,
+        tech,
         cell,
         fingers,
-        budget: tech.budget,
     })
+}
+
+// The SPICE file, the subcircuit of the name in lower case, and its fingers.
+fn inputs_over<D: Desk>(
+    alloc: Global,
+    desk: &mut D,
+    asked: &CellAsked<'_>,
+    tech: Tech,
+) -> Result<Inputs, Refusal>
+    ensures comes { MayCome (D.view desk.old) (D.view desk.new) (inputs_over asked.now tech) result }
+    ensures only { OnlyReads (D.view desk.old) (D.view desk.new) }
+{
+    let bytes = read_file(alloc, desk, Source::Spice(asked.spice))?;
+    let name = asked.name(alloc)?;
+    inputs_in(alloc, bytes.as_slice(), &name, tech)
 }
 
 /// The technology, then the SPICE file, the subcircuit of the name in lower case, and its fingers.
 pub fn read_inputs<D: Desk>(
     alloc: Global,
     desk: &mut D,
-    tech: Option<&str>,
-    spice: &str,
-    cell: &str,
+    asked: &CellAsked<'_>,
 ) -> Result<Inputs, Refusal>
-    requires cell { IsTrue (is_cell cell.now) }
-    ensures steps { OrShort (InputsFrom (OverDesk (D.given desk.old) (Rose (D.read_faults desk.old) (D.read_faults desk.new))) (option_map (λ name. name.now) tech.entry) spice.now cell.now) result }
-    ensures name { IfOk result (λ inputs. IsLogName inputs.name) }
-    ensures fingers { IfOk result (λ inputs. AreFingers inputs.fingers) }
-    ensures budget { IfOk result (λ inputs. inputs.budget ≤ 1000000) }
-    ensures given { D.given desk.new ≡ D.given desk.old }
-    ensures made { D.made desk.new ≡ D.made desk.old }
-    ensures said { D.said desk.new ≡ D.said desk.old }
-    ensures read_count { D.read_faults desk.old ≤ D.read_faults desk.new }
-    ensures write_count { D.write_faults desk.old ≤ D.write_faults desk.new }
-    ensures short_count { D.shorts desk.old ≤ D.shorts desk.new }
+    ensures comes { MayCome (D.view desk.old) (D.view desk.new) (inputs_from asked.now) result }
+    ensures only { OnlyReads (D.view desk.old) (D.view desk.new) }
 {
-    let tech = technology_from(alloc, desk, tech)?;
-    let bytes = read_file(alloc, desk, spice, MOST_SPICE)?;
-    let name = lower(alloc, cell.as_bytes())?;
-    inputs_in(alloc, bytes.as_slice(), name, &tech)
+    let tech = read_technology(alloc, desk, asked.tech)?;
+    inputs_over(alloc, desk, asked, tech)
 }

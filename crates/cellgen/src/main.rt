@@ -1,13 +1,17 @@
 // Makes standard cells from SPICE subcircuits.
 #![tactic(auto)]
 
-mod answer;
-mod checking;
+mod check;
+mod deliver;
+mod end;
+mod fault_line;
 mod faults;
 mod form;
+mod gather;
 mod inputs;
-mod lines;
-mod planning;
+mod plan;
+mod process;
+mod read;
 mod refusal;
 mod report;
 mod run;
@@ -17,6 +21,7 @@ mod tests;
 mod work;
 
 use cell_io::HostDesk;
+use process::{exit_code, words_after_name};
 use run::run;
 use status::Status;
 use std::env;
@@ -25,13 +30,12 @@ use std::process::ExitCode;
 fn main(rt: HostRuntime) -> ExitCode {
     // Arguments that can't be had are wrong words, and are told so.
     let words = match env::args(&rt) {
-        Ok(args) => args.skip(1).collect::<Vec<String>>(rt.alloc()),
+        Ok(args) => words_after_name(rt.alloc(), args),
         Err(_) => Ok(Vec::new(rt.alloc())),
     };
     let Ok(words) = words else {
-        return ExitCode::from(Status::NoMemory.number());
+        return exit_code(Status::NoMemory);
     };
     let mut desk = HostDesk::new(&rt);
-    let status = run(rt.alloc(), &words, &mut desk);
-    ExitCode::from(status.number())
+    exit_code(run(rt.alloc(), &words, &mut desk))
 }

@@ -1,13 +1,16 @@
-ghost use Rattle.std.specs.Prelude.{◌≡◌};
+ghost use Rattle.std.specs.Prelude.{◌≡◌, IfOk};
+ghost use Rattle.cellgen.specs.Ends.{refused, refusal_status, refusal_text};
 
-use bound_log::LogFault;
-use cell_num::{Name, NoMemory};
+use crate::end::End;
+use crate::faults::{put_fold, put_spice, put_tech};
+use crate::status::Status;
+use cell_num::{Bytes, Name, NoMemory, put_text};
 use finger_fold::FoldFault;
-use log_check::Refused;
 use spice_net::SpiceFault;
+use std::alloc::Global;
 use tech_file::TechFault;
 
-/// The first step that was refused, and why.
+/// The first step that was refused before the work of a command, and why.
 #[derive(Debug, Drop)]
 pub enum Refusal {
     /// The words have none of the listed forms.
@@ -19,10 +22,6 @@ pub enum Refusal {
     Tech(TechFault),
     Spice(SpiceFault),
     Fold(FoldFault),
-    /// The bytes are no text of a log for the cell.
-    Log(LogFault),
-    /// The log is not accepted.
-    Rejected(Refused),
     NoMemory,
 }
 
@@ -75,28 +74,49 @@ impl From<FoldFault> for Refusal {
     }
 }
 
-impl From<LogFault> for Refusal {
-    ghost use Rattle.cellgen.specs.Refusals.{log_refusal};
-
-    ghost from_gives = { λ fault e. e ≡ log_refusal fault };
-
-    fn from(fault: LogFault) -> Refusal {
-        match fault {
-            LogFault::NoMemory => Refusal::NoMemory,
-            fault => Refusal::Log(fault),
-        }
+fn status_of(refusal: &Refusal) -> Status
+    ensures { result ≡ refusal_status refusal.now }
+{
+    match refusal {
+        Refusal::Words => Status::Usage,
+        Refusal::Unread { .. } => Status::ReadFault,
+        Refusal::Long { .. } => Status::TooLong,
+        Refusal::Tech(_) | Refusal::Spice(_) | Refusal::Fold(_) => Status::Input,
+        Refusal::NoMemory => Status::NoMemory,
     }
 }
 
-impl From<Refused> for Refusal {
-    ghost use Rattle.cellgen.specs.Refusals.{check_refusal};
-
-    ghost from_gives = { λ fault e. e ≡ check_refusal fault };
-
-    fn from(fault: Refused) -> Refusal {
-        match fault {
-            Refused::NoMemory => Refusal::NoMemory,
-            fault => Refusal::Rejected(fault),
+fn report_of(alloc: Global, refusal: &Refusal) -> Result<Bytes, NoMemory>
+    ensures { IfOk result (λ text. text ≡ refusal_text refusal.now) }
+{
+    let mut out = Bytes::new(alloc);
+    match refusal {
+        Refusal::Words => out.extend(
+            b"status 1 usage\nplan TECH SPICE CELL\ncheck TECH SPICE CELL LOG\n",
+        )?,
+        Refusal::Unread { name } => put_text(&mut out, b"status 2 read ", name.as_slice())?,
+        Refusal::Long { name } => put_text(&mut out, b"status 10 long ", name.as_slice())?,
+        Refusal::Tech(fault) => {
+            out.extend(b"status 4 input\n")?;
+            put_tech(&mut out, fault)?;
         }
+        Refusal::Spice(fault) => {
+            out.extend(b"status 4 input\n")?;
+            put_spice(&mut out, fault)?;
+        }
+        Refusal::Fold(fault) => {
+            out.extend(b"status 4 input\n")?;
+            put_fold(&mut out, fault)?;
+        }
+        Refusal::NoMemory => (),
     }
+    Ok(out)
+}
+
+/// The end of a call whose first refusal this is.
+pub fn refused(alloc: Global, refusal: &Refusal) -> Result<End, NoMemory>
+    ensures { IfOk result (λ end. end ≡ refused refusal.now) }
+{
+    let report = report_of(alloc, refusal)?;
+    Ok(End::says(alloc, status_of(refusal), report))
 }

@@ -1,11 +1,10 @@
 ghost use Rattle.std.specs.Prelude.{◌≡◌, ◌≤◌, ◌++◌, length, OnOk};
-ghost use Rattle.cellgen.specs.Report.{name_of, place_text, gate_text, column_text, columns_text, row_text, plan_text, stopped_text, checked_text};
+ghost use Rattle.cellgen.specs.Report.{name_of, place_text, gate_text, column_text, columns_text, row_text, plan_text, unfinished_text, checked_text};
 
-use crate::lines::{put_count, put_number, put_text};
-use cell_num::{Name, Names, NetNo, NoMemory};
+use cell_num::{Bytes, Name, Names, NetNo, NoMemory, put_count, put_number, put_text};
 use row_model::{Arrangement, Column, Placed, gaps};
 
-fn put_net(out: &mut Name, nets: &Names, net: NetNo) -> Result<(), NoMemory>
+fn put_net(out: &mut Bytes, nets: &Names, net: NetNo) -> Result<(), NoMemory>
     ensures { OnOk result (out.new ≡ out.old ++ name_of nets.now net) }
 {
     match nets.get(net.0 as usize) {
@@ -14,7 +13,7 @@ fn put_net(out: &mut Name, nets: &Names, net: NetNo) -> Result<(), NoMemory>
     }
 }
 
-fn put_gate(out: &mut Name, nets: &Names, column: &Column) -> Result<(), NoMemory>
+fn put_gate(out: &mut Bytes, nets: &Names, column: &Column) -> Result<(), NoMemory>
     ensures { OnOk result (out.new ≡ out.old ++ gate_text nets.now column.now.p column.now.n) }
 {
     match (&column.p, &column.n) {
@@ -23,7 +22,7 @@ fn put_gate(out: &mut Name, nets: &Names, column: &Column) -> Result<(), NoMemor
     }
 }
 
-fn put_place(out: &mut Name, nets: &Names, place: &Option<Placed>) -> Result<(), NoMemory>
+fn put_place(out: &mut Bytes, nets: &Names, place: &Option<Placed>) -> Result<(), NoMemory>
     ensures { OnOk result (out.new ≡ out.old ++ place_text nets.now place.now) }
 {
     let Some(placed) = place else {
@@ -36,7 +35,7 @@ fn put_place(out: &mut Name, nets: &Names, place: &Option<Placed>) -> Result<(),
     put_number(out, u64::from(placed.finger.width))
 }
 
-fn put_column(out: &mut Name, nets: &Names, at: usize, column: &Column) -> Result<(), NoMemory>
+fn put_column(out: &mut Bytes, nets: &Names, at: usize, column: &Column) -> Result<(), NoMemory>
     ensures { OnOk result (out.new ≡ out.old ++ column_text nets.now (at, column.now)) }
 {
     out.extend(b"column ")?;
@@ -50,7 +49,7 @@ fn put_column(out: &mut Name, nets: &Names, at: usize, column: &Column) -> Resul
     out.extend(b"\n")
 }
 
-fn put_columns(out: &mut Name, nets: &Names, row: &Arrangement) -> Result<(), NoMemory>
+fn put_columns(out: &mut Bytes, nets: &Names, row: &Arrangement) -> Result<(), NoMemory>
     ensures { OnOk result (out.new ≡ out.old ++ columns_text nets.now row.now) }
 {
     'columns: for (at, column) in row.as_slice().iter().enumerate() {
@@ -59,7 +58,7 @@ fn put_columns(out: &mut Name, nets: &Names, row: &Arrangement) -> Result<(), No
     Ok(())
 }
 
-fn put_row(out: &mut Name, name: &Name, columns: u64, gaps: u32) -> Result<(), NoMemory>
+fn put_row(out: &mut Bytes, name: &Name, columns: u64, gaps: u32) -> Result<(), NoMemory>
     requires { columns ≤ 1000000 }
     ensures { OnOk result (out.new ≡ out.old ++ row_text name.now columns gaps) }
 {
@@ -72,7 +71,7 @@ fn put_row(out: &mut Name, name: &Name, columns: u64, gaps: u32) -> Result<(), N
 
 /// Adds the lines of a planned row.
 pub fn put_plan(
-    out: &mut Name,
+    out: &mut Bytes,
     name: &Name,
     nets: &Names,
     row: &Arrangement,
@@ -84,9 +83,9 @@ pub fn put_plan(
     put_columns(out, nets, row)
 }
 
-/// Adds the lines of a spent budget.
-pub fn put_stopped(out: &mut Name, proved: u32, lemmas: u64) -> Result<(), NoMemory>
-    ensures { OnOk result (out.new ≡ out.old ++ stopped_text proved lemmas) }
+/// Adds the lines of an unfinished search.
+pub fn put_unfinished(out: &mut Bytes, proved: u32, lemmas: u64) -> Result<(), NoMemory>
+    ensures { OnOk result (out.new ≡ out.old ++ unfinished_text proved lemmas) }
 {
     put_count(out, b"proved ", u64::from(proved))?;
     put_count(out, b"lemmas ", lemmas)
@@ -94,7 +93,7 @@ pub fn put_stopped(out: &mut Name, proved: u32, lemmas: u64) -> Result<(), NoMem
 
 /// Adds the lines of a checked log.
 pub fn put_checked(
-    out: &mut Name,
+    out: &mut Bytes,
     name: &Name,
     columns: u64,
     gaps: u32,

@@ -1,134 +1,46 @@
-ghost use Rattle.std.specs.Prelude.{◌≡◌, ◌≤◌, ◌↔◌, ◌⊎◌, List, ℕ, Option, Result, ◌++◌, IfOk, IfSome, IsNone};
-ghost use Rattle.cell_io.specs.Desk.{Rose};
-ghost use Rattle.cellgen.specs.declared.answer.Answer.{Answer as AnswerOf};
-ghost use Rattle.cellgen.specs.declared.refusal.Refusal.{Refusal as RefusalOf};
+ghost use Rattle.std.specs.Prelude.{◌≡◌, ◌≤◌, ◌↔◌, ◌⊎◌, IfOk, IfSome, IsNone, IsTrue};
+ghost use Rattle.cell_io.specs.Desk.{OnlyReads, Rose};
+ghost use Rattle.cellgen.specs.declared.end.End.{End as EndOf};
 ghost use Rattle.cellgen.specs.declared.status.Status.TheVariants as status;
-ghost use Rattle.cellgen.specs.Files.{AsCalledFor, Lacks, OverDesk};
-ghost use Rattle.cellgen.specs.Steps.{OrShort};
-ghost use Rattle.cellgen.specs.Told.{status_of, answer_text, refusal_text, report_of, Tells, TellsWhole, IsOfForm, IsOfOutside, IsShort};
-ghost use Rattle.cellgen.specs.Words.{texts, form_of, read_by};
-ghost use Rattle.cellgen.specs.Work.{Ended, HasEnough, HoldsAcceptedLog, IsCheck};
+ghost use Rattle.cellgen.specs.Calm.{IfCalm, IsDoneOrShort};
+ghost use Rattle.cellgen.specs.Check.{HoldsAcceptedLog, IsCheck};
+ghost use Rattle.cellgen.specs.Deliver.{Tells, TellsWhole};
+ghost use Rattle.cellgen.specs.Ends.{CallsFor, IsOfOutside, MayEnd, is_status_of};
+ghost use Rattle.cellgen.specs.Gather.{read_by};
+ghost use Rattle.cellgen.specs.Plan.{HasEnough};
+ghost use Rattle.cellgen.specs.Sources.{Lacks};
+ghost use Rattle.cellgen.specs.Words.{asked};
 
-use crate::answer::Answer;
-use crate::faults::{put_fold, put_log, put_refused, put_spice, put_tech};
-use crate::lines::put_text;
-use crate::refusal::Refusal;
-use crate::report::{put_checked, put_plan, put_stopped};
+use crate::deliver::deliver;
+use crate::end::End;
+use crate::form::form_of;
+use crate::gather::gather;
+use crate::refusal::refused;
 use crate::status::Status;
-use crate::work::do_work;
-use cell_io::{Desk, WriteFault, say_all};
-use cell_num::{Name, NoMemory};
+use crate::work::work;
+use cell_io::Desk;
+use cell_num::{Bytes, NoMemory};
 use std::alloc::Global;
 
-fn status_for(ended: &Result<Answer, Refusal>) -> Status
-    ensures { result ≡ status_of ended.now }
+// Gathers what the words ask for and does the work on it.
+fn end_of<D: Desk>(alloc: Global, words: &[String], desk: &mut D) -> Result<End, NoMemory>
+    ensures ends { IfOk result (MayEnd (D.view desk.old) (D.view desk.new) (asked words.now)) }
+    ensures only { OnlyReads (D.view desk.old) (D.view desk.new) }
 {
-    match ended {
-        Ok(Answer::Planned { .. } | Answer::Checked { .. }) => Status::Done,
-        Ok(Answer::Stopped { .. }) => Status::Unfinished,
-        Err(Refusal::Words) => Status::Usage,
-        Err(Refusal::Unread { .. }) => Status::ReadFault,
-        Err(Refusal::Long { .. }) => Status::TooLong,
-        Err(Refusal::Tech(_) | Refusal::Spice(_) | Refusal::Fold(_)) => Status::Input,
-        Err(Refusal::Log(_) | Refusal::Rejected(_)) => Status::Rejected,
-        Err(Refusal::NoMemory) => Status::NoMemory,
+    match gather(alloc, desk, form_of(words)) {
+        Ok(material) => work(alloc, &material),
+        Err(refusal) => refused(alloc, &refusal),
     }
 }
 
-fn answer_report(alloc: Global, answer: &Answer) -> Result<Name, NoMemory>
-    requires { IsShort answer.now }
-    ensures { IfOk result (λ text. text ≡ answer_text answer.now) }
+// The same, with an end that says nothing where memory ran out.
+fn prepare<D: Desk>(alloc: Global, words: &[String], desk: &mut D) -> End
+    ensures ends { MayEnd (D.view desk.old) (D.view desk.new) (asked words.now) result }
+    ensures only { OnlyReads (D.view desk.old) (D.view desk.new) }
 {
-    let mut out = Name::new(alloc);
-    match answer {
-        Answer::Planned { cell, row } => {
-            out.extend(b"status 0 ok\n")?;
-            put_plan(&mut out, &cell.name, &cell.nets, row)?;
-        }
-        Answer::Stopped {
-            proved,
-            lemmas,
-            text,
-        } => {
-            out.extend(b"status 6 unfinished\n")?;
-            put_stopped(&mut out, *proved, *lemmas)?;
-            out.extend(text.as_slice())?;
-        }
-        Answer::Checked {
-            name,
-            columns,
-            gaps,
-            lemmas,
-        } => {
-            out.extend(b"status 0 ok\n")?;
-            put_checked(&mut out, name, *columns, *gaps, *lemmas)?;
-        }
-    }
-    Ok(out)
-}
-
-fn refusal_report(alloc: Global, refusal: &Refusal) -> Result<Name, NoMemory>
-    ensures { IfOk result (λ text. text ≡ refusal_text refusal.now) }
-{
-    let mut out = Name::new(alloc);
-    match refusal {
-        Refusal::Words => out.extend(
-            b"status 1 usage\nplan TECH SPICE CELL\ncheck TECH SPICE CELL LOG\n",
-        )?,
-        Refusal::Unread { name } => put_text(&mut out, b"status 2 read ", name.as_slice())?,
-        Refusal::Long { name } => put_text(&mut out, b"status 10 long ", name.as_slice())?,
-        Refusal::Tech(fault) => {
-            out.extend(b"status 4 input\n")?;
-            put_tech(&mut out, fault)?;
-        }
-        Refusal::Spice(fault) => {
-            out.extend(b"status 4 input\n")?;
-            put_spice(&mut out, fault)?;
-        }
-        Refusal::Fold(fault) => {
-            out.extend(b"status 4 input\n")?;
-            put_fold(&mut out, fault)?;
-        }
-        Refusal::Log(fault) => {
-            out.extend(b"status 7 rejected\n")?;
-            put_log(&mut out, fault)?;
-        }
-        Refusal::Rejected(cause) => {
-            out.extend(b"status 7 rejected\n")?;
-            put_refused(&mut out, cause)?;
-        }
-        Refusal::NoMemory => (),
-    }
-    Ok(out)
-}
-
-fn report_for(alloc: Global, ended: &Result<Answer, Refusal>) -> Result<Name, NoMemory>
-    requires { IfOk ended.now IsShort }
-    ensures { IfOk result (λ text. text ≡ report_of ended.now) }
-{
-    match ended {
-        Ok(answer) => answer_report(alloc, answer),
-        Err(refusal) => refusal_report(alloc, refusal),
-    }
-}
-
-// Says the report of what the work ended with.
-fn tell<D: Desk>(alloc: Global, desk: &mut D, ended: &Result<Answer, Refusal>) -> Status
-    requires { IfOk ended.now IsShort }
-    ensures tells { Tells ended.now (Rose (D.write_faults desk.old) (D.write_faults desk.new)) (Rose (D.shorts desk.old) (D.shorts desk.new)) result (D.said desk.old) (D.said desk.new) }
-    ensures given { D.given desk.new ≡ D.given desk.old }
-    ensures made { D.made desk.new ≡ D.made desk.old }
-    ensures read_count { D.read_faults desk.old ≤ D.read_faults desk.new }
-    ensures write_count { D.write_faults desk.old ≤ D.write_faults desk.new }
-    ensures short_count { D.shorts desk.old ≤ D.shorts desk.new }
-{
-    let Ok(report) = report_for(alloc, ended) else {
-        return Status::NoMemory;
-    };
-    match say_all(desk, report.as_slice()) {
-        Ok(()) => status_for(ended),
-        Err(WriteFault::Failed) => Status::WriteFault,
-        Err(WriteFault::NoMemory) => Status::NoMemory,
+    match end_of(alloc, words, desk) {
+        Ok(end) => end,
+        Err(NoMemory) => End::says(alloc, Status::NoMemory, Bytes::new(alloc)),
     }
 }
 
@@ -137,40 +49,58 @@ fn tell<D: Desk>(alloc: Global, desk: &mut D, ended: &Result<Answer, Refusal>) -
 /// `plan TECH SPICE CELL` finds the first least row of a cell: TECH is a technology file or `-` for the
 /// plain technology, SPICE a file, and CELL the name of one of its subcircuits. `check TECH SPICE CELL LOG`
 /// tells whether the file LOG is the text of a log that certifies a row of that cell.
+///
+/// All memory that is not the desk's own is taken before the first file is made.
 pub fn run<D: Desk>(alloc: Global, words: &[String], desk: &mut D) -> Status
-    // The work ended so, and the status and what was said are those of this end; or a count tells that
-    // saying it failed, or memory ran out.
-    ensures answer { (ended : Result AnswerOf RefusalOf) × OrShort (Ended (OverDesk (D.given desk.old) (Rose (D.read_faults desk.old) (D.read_faults desk.new))) (form_of (texts words.now))) ended × Tells ended (Rose (D.write_faults desk.old) (D.write_faults desk.new)) (Rose (D.shorts desk.old) (D.shorts desk.new)) result (D.said desk.old) (D.said desk.new) }
+    // The call came to such an end, and it was told: whole, or up to where writing failed or the desk found no
+    // memory. Where memory ran out before, the end is to say nothing.
+    ensures ends { (end : EndOf)
+        × MayEnd (D.view desk.old) (D.view desk.new) (asked words.now) end
+        × Tells end result (D.view desk.old) (D.view desk.new) }
 
     // Over files that are told, an end that they call for is told whole, but for ReadFault, WriteFault and
     // NoMemory.
-    ensures called_for { IfSome (D.given desk.old) (λ files. IsOfOutside result ⊎ ((ended : Result AnswerOf RefusalOf) × Ended (AsCalledFor files) (form_of (texts words.now)) ended × TellsWhole ended result (D.said desk.old) (D.said desk.new))) }
+    ensures called_for { IfSome (D.view desk.old).given (λ files. IsOfOutside result ⊎ ((end : EndOf)
+        × CallsFor files (asked words.now) end
+        × TellsWhole end result (D.view desk.old) (D.view desk.new))) }
 
     // Over such files, where neither reading nor writing failed, the status is of an end that they call for,
     // or memory ran out.
-    ensures completes { IfSome (D.given desk.old) (λ files. (Rose (D.read_faults desk.old) (D.read_faults desk.new) → ⊥) → (Rose (D.write_faults desk.old) (D.write_faults desk.new) → ⊥) → ((ended : Result AnswerOf RefusalOf) × Ended (AsCalledFor files) (form_of (texts words.now)) ended × (result ≡ status_of ended)) ⊎ (result ≡ status.NoMemory)) }
-
-    // So a plan whose budget is enough, and a check of an accepted log, are done, or memory ran out.
-    ensures planned { IfSome (D.given desk.old) (λ files. (Rose (D.read_faults desk.old) (D.read_faults desk.new) → ⊥) → (Rose (D.write_faults desk.old) (D.write_faults desk.new) → ⊥) → HasEnough files (form_of (texts words.now)) → (result ≡ status.Done) ⊎ (result ≡ status.NoMemory)) }
-    ensures accepts { IfSome (D.given desk.old) (λ files. (Rose (D.read_faults desk.old) (D.read_faults desk.new) → ⊥) → (Rose (D.write_faults desk.old) (D.write_faults desk.new) → ⊥) → HoldsAcceptedLog files (form_of (texts words.now)) → (result ≡ status.Done) ⊎ (result ≡ status.NoMemory)) }
-
-    // A check is done exactly where the log file is the text of an accepted log, but for ReadFault, WriteFault
-    // and NoMemory.
-    ensures checked { IfSome (D.given desk.old) (λ files. IsCheck (form_of (texts words.now)) → IsOfOutside result ⊎ (result ≡ status.Done ↔ HoldsAcceptedLog files (form_of (texts words.now)))) }
+    ensures completes { IfCalm (D.view desk.old) (D.view desk.new) (λ files.
+        ((end : EndOf) × CallsFor files (asked words.now) end × (result ≡ end.status))
+        ⊎ (result ≡ status.NoMemory)) }
 
     // Each fault of the outside has its cause.
-    ensures usage { result ≡ status.Usage → IsNone (form_of (texts words.now)) }
-    ensures read { result ≡ status.ReadFault → (Rose (D.read_faults desk.old) (D.read_faults desk.new)) ⊎ Lacks (D.given desk.old) (read_by (form_of (texts words.now))) }
-    ensures write { result ≡ status.WriteFault → Rose (D.write_faults desk.old) (D.write_faults desk.new) }
-    ensures memory { result ≡ status.NoMemory → (Rose (D.shorts desk.old) (D.shorts desk.new)) ⊎ (D.said desk.new ≡ D.said desk.old) }
-    ensures other { IsOfForm (form_of (texts words.now)) result }
+    ensures usage { result ≡ status.Usage → IsNone (asked words.now) }
+    ensures read { result ≡ status.ReadFault
+        → Rose (D.view desk.old).read_faults (D.view desk.new).read_faults
+        ⊎ Lacks (D.view desk.old).given (read_by (asked words.now)) }
+    ensures write { result ≡ status.WriteFault
+        → Rose (D.view desk.old).write_faults (D.view desk.new).write_faults }
+    ensures memory { result ≡ status.NoMemory
+        → Rose (D.view desk.old).shorts (D.view desk.new).shorts
+        ⊎ ((D.view desk.new).said ≡ (D.view desk.old).said) }
+    ensures other { IsTrue (is_status_of (asked words.now) result) }
 
-    ensures given { D.given desk.new ≡ D.given desk.old }
-    ensures made { D.made desk.new ≡ D.made desk.old }
-    ensures read_count { D.read_faults desk.old ≤ D.read_faults desk.new }
-    ensures write_count { D.write_faults desk.old ≤ D.write_faults desk.new }
-    ensures short_count { D.shorts desk.old ≤ D.shorts desk.new }
+    ensures given { (D.view desk.new).given ≡ (D.view desk.old).given }
+    ensures read_count { (D.view desk.old).read_faults ≤ (D.view desk.new).read_faults }
+    ensures write_count { (D.view desk.old).write_faults ≤ (D.view desk.new).write_faults }
+    ensures short_count { (D.view desk.old).shorts ≤ (D.view desk.new).shorts }
+
+    // No command makes files.
+    ensures made { (D.view desk.new).made ≡ (D.view desk.old).made }
+
+    // A plan whose budget is enough is done, or memory ran out.
+    ensures planned { IfCalm (D.view desk.old) (D.view desk.new) (λ files.
+        HasEnough files (asked words.now) → IsDoneOrShort result) }
+
+    // A check is done exactly where the log file is the text of an accepted log, but for ReadFault, WriteFault
+    // and NoMemory; and where neither reading nor writing failed it is done there, or memory ran out.
+    ensures checked { IfSome (D.view desk.old).given (λ files. IsCheck (asked words.now)
+        → IsOfOutside result ⊎ (result ≡ status.Done ↔ HoldsAcceptedLog files (asked words.now))) }
+    ensures accepts { IfCalm (D.view desk.old) (D.view desk.new) (λ files.
+        HoldsAcceptedLog files (asked words.now) → IsDoneOrShort result) }
 {
-    let ended = do_work(alloc, words, desk);
-    tell(alloc, desk, &ended)
+    let end = prepare(alloc, words, desk);
+    deliver(desk, &end)
 }

@@ -76,9 +76,11 @@ pub fn search<B: RowBound>(
 ) -> Result<Found, Stop>
     requires { AreFingers fingers.now }
     ensures row { IfOk result (λ found. IsFirstLeast fingers.now found.row) }
-    ensures solved { IfOk result (λ found. WithKinds fingers.now (λ k. IsSolved (B.value bound.now) k fingers.now budget found.row found.log)) }
+    ensures solved { IfOk result (λ found.
+        WithKinds fingers.now (λ k. IsSolved (B.value bound.now) k fingers.now budget found.row found.log)) }
     ensures nodes { IfOk result (λ found. found.nodes ≡ length found.log.lemmas + columns_of fingers.now + 1) }
-    ensures spent { IfUnfinished result (λ log proved. WithKinds fingers.now (λ k. IsSpent (B.value bound.now) k fingers.now budget log proved)) }
+    ensures spent { IfUnfinished result (λ log proved.
+        WithKinds fingers.now (λ k. IsSpent (B.value bound.now) k fingers.now budget log proved)) }
 {
     let kinds = kinds(alloc, fingers)?;
     let task = Task {

@@ -1,4 +1,4 @@
 use Rattle.cellgen.proofs.faults.put_refused.Goals as goal
 
-pub returns-in_ok-put_pair-in-NotLeast : goal.returns-in_ok-put_pair-in-NotLeast
-returns-in_ok-put_pair-in-NotLeast c = rw c.in-NotLeast.is c.in_ok-put_pair-in-NotLeast.ensures
+pub returns-in-NotArrangement : goal.returns-in-NotArrangement
+returns-in-NotArrangement c = rw c.in-NotArrangement.is c.put_fault-in-NotArrangement.ensures

@@ -1,138 +1,42 @@
-use Rattle.std.proofs.Common.{◌≡◌, ◌⊎◌, inl, inr, arith}
-use Rattle.cell_io.specs.Desk.{Rose}
-use Rattle.cellgen.specs.Words.{texts, form_of}
-use Rattle.cellgen.proofs.Counts.{rose_wider}
-use Rattle.cellgen.proofs.Telling.{Completes, accepts_told, answer_told, called_for_told, checked_told, completes_told, narrower, planned_told, read_told, status_told, usage_told}
+use Rattle.std.proofs.Common.{refl}
+use Rattle.cellgen.specs.Words.{asked}
+use Rattle.cellgen.proofs.Telling.{accepts_told, answers, called_for_told, checked_told, completes_told, made_told, memory_told, planned_told, read_told, status_told, usage_told, write_told}
 use Rattle.cellgen.proofs.run.run.Goals as goal
 
-pub returns-clause-answer : goal.returns-clause-answer
-returns-clause-answer g c =
-    answer_told
-    (g.D.Desk.given c.args.desk.now)
-    (form_of (texts c.args.words.now))
-    (Rose (g.D.Desk.read_faults c.args.desk.now) (g.D.Desk.read_faults c.do_work-ended.new.desk))
-    (Rose (g.D.Desk.read_faults c.args.desk.now) (g.D.Desk.read_faults c.tell.new.desk))
-    (Rose (g.D.Desk.write_faults c.do_work-ended.new.desk) (g.D.Desk.write_faults c.tell.new.desk))
-    (Rose (g.D.Desk.write_faults c.args.desk.now) (g.D.Desk.write_faults c.tell.new.desk))
-    (Rose (g.D.Desk.shorts c.do_work-ended.new.desk) (g.D.Desk.shorts c.tell.new.desk))
-    (Rose (g.D.Desk.shorts c.args.desk.now) (g.D.Desk.shorts c.tell.new.desk))
-    c.do_work-ended.result
-    c.tell.result
-    (g.D.Desk.said c.do_work-ended.new.desk)
-    (g.D.Desk.said c.args.desk.now)
-    (g.D.Desk.said c.tell.new.desk)
-    (λ rose. rose_wider (g.D.Desk.read_faults c.args.desk.now) (g.D.Desk.read_faults c.args.desk.now) (g.D.Desk.read_faults c.do_work-ended.new.desk) (g.D.Desk.read_faults c.tell.new.desk) (omega arith) c.tell.ensures.read_count rose)
-    (λ rose. rose_wider (g.D.Desk.write_faults c.args.desk.now) (g.D.Desk.write_faults c.do_work-ended.new.desk) (g.D.Desk.write_faults c.tell.new.desk) (g.D.Desk.write_faults c.tell.new.desk) c.do_work-ended.ensures.write_count (omega arith) rose)
-    (λ rose. rose_wider (g.D.Desk.shorts c.args.desk.now) (g.D.Desk.shorts c.do_work-ended.new.desk) (g.D.Desk.shorts c.tell.new.desk) (g.D.Desk.shorts c.tell.new.desk) c.do_work-ended.ensures.short_count (omega arith) rose)
-    c.do_work-ended.ensures.said
-    c.do_work-ended.ensures.steps
-    c.tell.ensures.tells
+pub returns-clause-ends : goal.returns-clause-ends
+returns-clause-ends g c =
+    answers (g.D.Desk.view c.args.desk.now) (g.D.Desk.view c.prepare-end.new.desk) (g.D.Desk.view c.deliver.new.desk) (asked c.args.words.now) c.prepare-end.result c.deliver.result
+    c.prepare-end.ensures.only c.deliver.ensures.only c.prepare-end.ensures.ends c.deliver.ensures.tells
 
 pub returns-clause-called_for : goal.returns-clause-called_for
-returns-clause-called_for g c =
-    called_for_told
-    (g.D.Desk.given c.args.desk.now)
-    (form_of (texts c.args.words.now))
-    (Rose (g.D.Desk.read_faults c.args.desk.now) (g.D.Desk.read_faults c.do_work-ended.new.desk))
-    (Rose (g.D.Desk.write_faults c.do_work-ended.new.desk) (g.D.Desk.write_faults c.tell.new.desk))
-    (Rose (g.D.Desk.shorts c.do_work-ended.new.desk) (g.D.Desk.shorts c.tell.new.desk))
-    c.do_work-ended.result
-    c.tell.result
-    (g.D.Desk.said c.do_work-ended.new.desk)
-    (g.D.Desk.said c.args.desk.now)
-    (g.D.Desk.said c.tell.new.desk)
-    c.do_work-ended.ensures.said
-    c.do_work-ended.ensures.steps
-    c.tell.ensures.tells
-
-pub returns-clause-checked : goal.returns-clause-checked
-returns-clause-checked g c =
-    checked_told
-    (g.D.Desk.given c.args.desk.now)
-    (texts c.args.words.now)
-    c.tell.result
-    (g.D.Desk.said c.args.desk.now)
-    (g.D.Desk.said c.tell.new.desk)
-    (returns-clause-called_for g c)
+returns-clause-called_for g c = called_for_told (g.D.Desk.view c.args.desk.now) (g.D.Desk.view c.deliver.new.desk) (asked c.args.words.now) c.deliver.result (g.D.Desk.view c.args.desk.now).given refl (returns-clause-ends g c)
 
 pub returns-clause-completes : goal.returns-clause-completes
-returns-clause-completes g c =
-    narrower
-    (g.D.Desk.given c.args.desk.now)
-    (Completes (form_of (texts c.args.words.now)))
-    (Rose (g.D.Desk.read_faults c.args.desk.now) (g.D.Desk.read_faults c.do_work-ended.new.desk))
-    (Rose (g.D.Desk.read_faults c.args.desk.now) (g.D.Desk.read_faults c.tell.new.desk))
-    (Rose (g.D.Desk.write_faults c.do_work-ended.new.desk) (g.D.Desk.write_faults c.tell.new.desk))
-    (Rose (g.D.Desk.write_faults c.args.desk.now) (g.D.Desk.write_faults c.tell.new.desk))
-    c.tell.result
-    (λ rose. rose_wider (g.D.Desk.read_faults c.args.desk.now) (g.D.Desk.read_faults c.args.desk.now) (g.D.Desk.read_faults c.do_work-ended.new.desk) (g.D.Desk.read_faults c.tell.new.desk) (omega arith) c.tell.ensures.read_count rose)
-    (λ rose. rose_wider (g.D.Desk.write_faults c.args.desk.now) (g.D.Desk.write_faults c.do_work-ended.new.desk) (g.D.Desk.write_faults c.tell.new.desk) (g.D.Desk.write_faults c.tell.new.desk) c.do_work-ended.ensures.write_count (omega arith) rose)
-    (completes_told
-    (g.D.Desk.given c.args.desk.now)
-    (form_of (texts c.args.words.now))
-    (Rose (g.D.Desk.read_faults c.args.desk.now) (g.D.Desk.read_faults c.do_work-ended.new.desk))
-    (Rose (g.D.Desk.write_faults c.do_work-ended.new.desk) (g.D.Desk.write_faults c.tell.new.desk))
-    (Rose (g.D.Desk.shorts c.do_work-ended.new.desk) (g.D.Desk.shorts c.tell.new.desk))
-    c.do_work-ended.result
-    c.tell.result
-    (g.D.Desk.said c.do_work-ended.new.desk)
-    (g.D.Desk.said c.tell.new.desk)
-    c.do_work-ended.ensures.steps
-    c.tell.ensures.tells)
-
-pub returns-clause-read : goal.returns-clause-read
-returns-clause-read g c = λ is.
-    elim (read_told
-    (g.D.Desk.given c.args.desk.now)
-    (form_of (texts c.args.words.now))
-    (Rose (g.D.Desk.read_faults c.args.desk.now) (g.D.Desk.read_faults c.do_work-ended.new.desk))
-    (Rose (g.D.Desk.write_faults c.do_work-ended.new.desk) (g.D.Desk.write_faults c.tell.new.desk))
-    (Rose (g.D.Desk.shorts c.do_work-ended.new.desk) (g.D.Desk.shorts c.tell.new.desk))
-    c.do_work-ended.result
-    c.tell.result
-    (g.D.Desk.said c.do_work-ended.new.desk)
-    (g.D.Desk.said c.tell.new.desk)
-    c.do_work-ended.ensures.steps
-    c.tell.ensures.tells
-    is) [
-      | inl rose ↦ inl (rose_wider (g.D.Desk.read_faults c.args.desk.now) (g.D.Desk.read_faults c.args.desk.now) (g.D.Desk.read_faults c.do_work-ended.new.desk) (g.D.Desk.read_faults c.tell.new.desk) (omega arith) c.tell.ensures.read_count rose)
-      | inr lacks ↦ inr lacks
-    ]
-
-pub returns-clause-other : goal.returns-clause-other
-returns-clause-other g c =
-    status_told
-    (g.D.Desk.given c.args.desk.now)
-    (form_of (texts c.args.words.now))
-    (Rose (g.D.Desk.read_faults c.args.desk.now) (g.D.Desk.read_faults c.do_work-ended.new.desk))
-    (Rose (g.D.Desk.write_faults c.do_work-ended.new.desk) (g.D.Desk.write_faults c.tell.new.desk))
-    (Rose (g.D.Desk.shorts c.do_work-ended.new.desk) (g.D.Desk.shorts c.tell.new.desk))
-    c.do_work-ended.result
-    c.tell.result
-    (g.D.Desk.said c.do_work-ended.new.desk)
-    (g.D.Desk.said c.tell.new.desk)
-    c.do_work-ended.ensures.steps
-    c.tell.ensures.tells
+returns-clause-completes g c = completes_told (g.D.Desk.view c.args.desk.now) (g.D.Desk.view c.deliver.new.desk) (asked c.args.words.now) c.deliver.result (g.D.Desk.view c.args.desk.now).given refl (returns-clause-ends g c)
 
 pub returns-clause-usage : goal.returns-clause-usage
-returns-clause-usage g c = usage_told (form_of (texts c.args.words.now)) c.tell.result (returns-clause-other g c)
+returns-clause-usage g c = usage_told (g.D.Desk.view c.args.desk.now) (g.D.Desk.view c.deliver.new.desk) (asked c.args.words.now) c.deliver.result (returns-clause-ends g c)
+
+pub returns-clause-read : goal.returns-clause-read
+returns-clause-read g c = read_told (g.D.Desk.view c.args.desk.now) (g.D.Desk.view c.deliver.new.desk) (asked c.args.words.now) c.deliver.result (returns-clause-ends g c)
+
+pub returns-clause-write : goal.returns-clause-write
+returns-clause-write g c = write_told (g.D.Desk.view c.args.desk.now) (g.D.Desk.view c.deliver.new.desk) (asked c.args.words.now) c.deliver.result (returns-clause-ends g c)
+
+pub returns-clause-memory : goal.returns-clause-memory
+returns-clause-memory g c = memory_told (g.D.Desk.view c.args.desk.now) (g.D.Desk.view c.deliver.new.desk) (asked c.args.words.now) c.deliver.result (returns-clause-ends g c)
+
+pub returns-clause-other : goal.returns-clause-other
+returns-clause-other g c = status_told (g.D.Desk.view c.args.desk.now) (g.D.Desk.view c.deliver.new.desk) (asked c.args.words.now) c.deliver.result (returns-clause-ends g c)
+
+pub returns-clause-made : goal.returns-clause-made
+returns-clause-made g c = made_told (g.D.Desk.view c.args.desk.now) (g.D.Desk.view c.deliver.new.desk) (asked c.args.words.now) c.deliver.result (returns-clause-ends g c)
 
 pub returns-clause-planned : goal.returns-clause-planned
-returns-clause-planned g c =
-    planned_told
-    (g.D.Desk.given c.args.desk.now)
-    (form_of (texts c.args.words.now))
-    (Rose (g.D.Desk.read_faults c.args.desk.now) (g.D.Desk.read_faults c.tell.new.desk))
-    (Rose (g.D.Desk.write_faults c.args.desk.now) (g.D.Desk.write_faults c.tell.new.desk))
-    c.tell.result
-    (returns-clause-completes g c)
+returns-clause-planned g c = planned_told (g.D.Desk.view c.args.desk.now) (g.D.Desk.view c.deliver.new.desk) (asked c.args.words.now) c.deliver.result (g.D.Desk.view c.args.desk.now).given (returns-clause-completes g c)
+
+pub returns-clause-checked : goal.returns-clause-checked
+returns-clause-checked g c = checked_told (g.D.Desk.view c.args.desk.now) (g.D.Desk.view c.deliver.new.desk) (asked c.args.words.now) c.deliver.result (g.D.Desk.view c.args.desk.now).given (returns-clause-called_for g c)
 
 pub returns-clause-accepts : goal.returns-clause-accepts
-returns-clause-accepts g c =
-    accepts_told
-    (g.D.Desk.given c.args.desk.now)
-    (texts c.args.words.now)
-    (Rose (g.D.Desk.read_faults c.args.desk.now) (g.D.Desk.read_faults c.tell.new.desk))
-    (Rose (g.D.Desk.write_faults c.args.desk.now) (g.D.Desk.write_faults c.tell.new.desk))
-    c.tell.result
-    (returns-clause-completes g c)
+returns-clause-accepts g c = accepts_told (g.D.Desk.view c.args.desk.now) (g.D.Desk.view c.deliver.new.desk) (asked c.args.words.now) c.deliver.result (g.D.Desk.view c.args.desk.now).given (returns-clause-completes g c)

@@ -1,0 +1,173 @@
+-- What a call comes to, from what it gathered: by form, and by the refusal of a file.
+use Rattle.std.proofs.Common.{ℕ, ◌≡◌, ◌⊎◌, Bool, true, false, nat_le, if◌then◌else◌, length, arith, List, [], Option, Some, None, Result, Ok, Err, IsNone, Contains, inl, inr, refl, sym, ap, ◌∙◌, subst}
+use Rattle.cell_io.specs.Desk.{Files, View, Rose}
+use Rattle.cellgen.specs.declared.end.End.{End}
+use Rattle.cellgen.specs.declared.gather.Material.{Material}
+use Rattle.cellgen.specs.declared.gather.Material.TheVariants.{Planning, Checking}
+use Rattle.cellgen.specs.declared.refusal.Refusal.{Refusal}
+use Rattle.cellgen.specs.declared.refusal.Refusal.TheVariants.{Unread, Long, NoMemory}
+use Rattle.cellgen.specs.declared.status.Status.{Status}
+use Rattle.cellgen.specs.declared.status.Status.TheVariants as status
+use Rattle.cellgen.specs.declared.check.CheckAnswer.TheVariants.{Accepted, Misread, Rejected}
+use Rattle.cellgen.specs.Check.{ChecksTo}
+use Rattle.cellgen.specs.End.{says}
+use Rattle.cellgen.specs.Ends.{CallsFor, EndsTo, MayEnd, is_among, outside_of, refusal_status, refused, settled_of}
+use Rattle.cellgen.specs.Gather.{gathered, read_by}
+use Rattle.cellgen.specs.Inputs.{Inputs}
+use Rattle.cellgen.specs.Plan.{PlansTo, Planned, Unfinished}
+use Rattle.cellgen.specs.Reading.{Comes}
+use Rattle.cellgen.specs.Sources.{Source, MayRead, Lacks, file_name, most_bytes, within}
+use Rattle.cellgen.specs.Words.{CellAsked, Form, Plan, Check}
+use Rattle.cellgen.proofs.Gathered.{IsGathered, gathered_keeps}
+use Rattle.cellgen.proofs.Reading.{came_kept, came_told}
+
+-- ---- by form
+
+plan_settled : (asked : CellAsked) (inputs : Inputs) (end : End) → PlansTo inputs end → is_among (settled_of (Some (Plan asked))) end.status ≡ true
+plan_settled asked inputs end (Planned row log, h, is) = rw is refl
+plan_settled asked inputs end (Unfinished proved log, h, is) = rw is refl
+
+check_settled : (asked : CellAsked) (log : List ℕ) (inputs : Inputs) (bytes : List ℕ) (end : End) → ChecksTo inputs bytes end → is_among (settled_of (Some (Check asked log))) end.status ≡ true
+check_settled asked log inputs bytes end (Accepted gaps lemmas, h, is) = rw is refl
+check_settled asked log inputs bytes end (Misread f, h, is) = rw is refl
+check_settled asked log inputs bytes end (Rejected f, h, is) = rw is refl
+
+input_settled : (form : Form) → is_among (settled_of (Some form)) status.Input ≡ true
+input_settled (Plan asked) = refl
+input_settled (Check asked log) = refl
+
+-- what was gathered, or refused by its form, ends so
+settled : (form : Option Form) (got : Result Material Refusal) (end : End) → IsGathered form got → EndsTo got end → is_among (settled_of form) end.status ≡ true
+settled None (Ok material) end is ends = absurd is
+settled None (Err e) end is ends = rw (ends, is) refl
+settled (Some form) (Err e) end is ends = subst (λ (s : Status). is_among (settled_of (Some form)) s ≡ true) (sym (ap (λ (x : End). x.status) ends ∙ is)) (input_settled form)
+settled (Some (Plan asked)) (Ok (Planning inputs)) end is ends = plan_settled asked inputs end ends
+settled (Some (Plan asked)) (Ok (Checking inputs bytes)) end is ends = absurd is
+settled (Some (Check asked log)) (Ok (Planning inputs)) end is ends = absurd is
+settled (Some (Check asked log)) (Ok (Checking inputs bytes)) end is ends = check_settled asked log inputs bytes end ends
+
+-- no form settles for a status of the desk, and the words alone are told as usage
+pub not_read : (form : Option Form) → is_among (settled_of form) status.ReadFault ≡ false
+not_read None = refl
+not_read (Some (Plan asked)) = refl
+not_read (Some (Check asked log)) = refl
+
+pub not_written : (form : Option Form) → is_among (settled_of form) status.WriteFault ≡ false
+not_written None = refl
+not_written (Some (Plan asked)) = refl
+not_written (Some (Check asked log)) = refl
+
+pub not_short : (form : Option Form) → is_among (settled_of form) status.NoMemory ≡ false
+not_short None = refl
+not_short (Some (Plan asked)) = refl
+not_short (Some (Check asked log)) = refl
+
+pub usage_alone : (form : Option Form) → is_among (settled_of form) status.Usage ≡ true → IsNone form
+usage_alone None h = refl
+usage_alone (Some (Plan asked)) h = cc
+usage_alone (Some (Check asked log)) h = cc
+
+-- no command makes files
+pub no_files : (got : Result Material Refusal) (end : End) → EndsTo got end → end.files ≡ []
+no_files (Err e) end ends = rw ends refl
+no_files (Ok (Planning inputs)) end (Planned row log, h, is) = rw is refl
+no_files (Ok (Planning inputs)) end (Unfinished proved log, h, is) = rw is refl
+no_files (Ok (Checking inputs bytes)) end (Accepted gaps lemmas, h, is) = rw is refl
+no_files (Ok (Checking inputs bytes)) end (Misread f, h, is) = rw is refl
+no_files (Ok (Checking inputs bytes)) end (Rejected f, h, is) = rw is refl
+
+-- ---- by a file
+
+abbrev pub IsFileFault : Refusal → Type 0
+IsFileFault e = (refusal_status e ≡ status.ReadFault) ⊎ (refusal_status e ≡ status.TooLong)
+
+within_fault : (name : List ℕ) (most : ℕ) (content : Option (List ℕ)) (e : Refusal) → Err e ≡ within name most content → IsFileFault e
+within_fault name most None e is =
+    let same : e ≡ Unread name = cc in
+    inl (rw same refl)
+within_fault name most (Some bytes) e is = by (nat_le (length bytes) most) is
+  where
+    by : (few : Bool) → ◌≡◌ {A = Result (List ℕ) Refusal} (Err e) (if few then Ok bytes else Err (Long name)) → IsFileFault e
+    by true is = cc
+    by false is =
+        let same : e ≡ Long name = cc in
+        inr (rw same refl)
+
+file_fault : (given : Option Files) (failed : Type 0) (source : Source) (e : Refusal) → MayRead given failed source (Err e) → IsFileFault e
+file_fault None failed source e (inl is) = inr (rw is refl)
+file_fault None failed source e (inr (faulty, is)) = inl (rw is refl)
+file_fault (Some files) failed source e (inl is) = within_fault (file_name source) (most_bytes source) (files (file_name source)) e is
+file_fault (Some files) failed source e (inr (faulty, is)) =
+    let same : e ≡ Unread (file_name source) = cc in
+    inl (rw same refl)
+
+held_cause : (sources : List Source) (files : Files) (source : Source) (content : Option (List ℕ)) (e : Refusal) → Contains sources source → files (file_name source) ≡ content → Err e ≡ within (file_name source) (most_bytes source) content → refusal_status e ≡ status.ReadFault → Lacks (Some files) sources
+held_cause sources files source None e there lacks is read = (source, there, rw lacks refl)
+held_cause sources files source (Some bytes) e there holds is read = by (nat_le (length bytes) (most_bytes source)) is
+  where
+    by : (few : Bool) → ◌≡◌ {A = Result (List ℕ) Refusal} (Err e) (if few then Ok bytes else Err (Long (file_name source))) → Lacks (Some files) sources
+    by true is = cc
+    by false is =
+        let same : e ≡ Long (file_name source) = cc in
+        let long : status.ReadFault ≡ status.TooLong = sym read ∙ ap refusal_status same in
+        cc
+
+-- a file is unread because reading failed, or because it is not there
+file_cause : (given : Option Files) (failed : Type 0) (sources : List Source) (source : Source) (e : Refusal) → Contains sources source → MayRead given failed source (Err e) → refusal_status e ≡ status.ReadFault → failed ⊎ Lacks given sources
+file_cause None failed sources source e there (inl is) read =
+    let long : status.ReadFault ≡ status.TooLong = sym read ∙ ap refusal_status is in
+    cc
+file_cause None failed sources source e there (inr (faulty, is)) read = inl faulty
+file_cause (Some files) failed sources source e there (inr (faulty, is)) read = inl faulty
+file_cause (Some files) failed sources source e there (inl is) read = inr (held_cause sources files source (files (file_name source)) e there refl is read)
+
+-- ---- the end of a call
+
+-- a file of the form was refused
+pub record IsByFile (old new : View) (form : Option Form) (end : End) : Type 0 where
+  pub source : Source
+  pub e : Refusal
+  pub there : Contains (read_by form) source
+  pub may : MayRead old.given (Rose old.read_faults new.read_faults) source (Err e)
+  pub ends : end ≡ refused e
+
+pub end_cases : (old new : View) (form : Option Form) (end : End) → MayEnd old new form end → (is_among (settled_of form) end.status ≡ true) ⊎ IsByFile old new form end ⊎ (end ≡ refused NoMemory)
+end_cases old new form end (got, inr short, ends) = inr (inr (subst (λ (r : Result Material Refusal). EndsTo r end) short ends))
+end_cases old new form end (got, inl came, ends) =
+    elim (came_kept (MayRead old.given (Rose old.read_faults new.read_faults)) (λ source. Contains (read_by form) source) (IsGathered form) (gathered form) got (gathered_keeps form) came) [
+      | inl is ↦ inl (settled form got end is ends)
+      | inr (source, there, e, may, is) ↦ inr (inl (record { source = source; e = e; there = there; may = may; ends = subst (λ (r : Result Material Refusal). EndsTo r end) is ends }))
+    ]
+
+pub file_status : (old new : View) (form : Option Form) (end : End) → IsByFile old new form end → (end.status ≡ status.ReadFault) ⊎ (end.status ≡ status.TooLong)
+file_status old new form end h = elim (file_fault old.given (Rose old.read_faults new.read_faults) h.source h.e h.may) [
+  | inl read ↦ inl (ap (λ (x : End). x.status) h.ends ∙ read)
+  | inr long ↦ inr (ap (λ (x : End). x.status) h.ends ∙ long)
+]
+
+pub file_unread : (old new : View) (form : Option Form) (end : End) → IsByFile old new form end → end.status ≡ status.ReadFault → Rose old.read_faults new.read_faults ⊎ Lacks old.given (read_by form)
+file_unread old new form end h read = file_cause old.given (Rose old.read_faults new.read_faults) (read_by form) h.source h.e h.there h.may (sym (ap (λ (x : End). x.status) h.ends) ∙ read)
+
+pub file_outside : (old new : View) (form : Option Form) (end : End) → IsByFile old new form end → is_among (outside_of form) end.status ≡ true
+file_outside old new None end h = absurd (omega (arith, h.there.1))
+file_outside old new (Some form) end h = elim (file_status old new (Some form) end h) [
+  | inl read ↦ rw read refl
+  | inr long ↦ rw long refl
+]
+
+-- over told files: what they call for, or reading failed, or memory ran out
+pub end_told : (files : Files) (old new : View) (form : Option Form) (end : End) → old.given ≡ Some files → MayEnd old new form end → CallsFor files form end ⊎ (Rose old.read_faults new.read_faults × (end.status ≡ status.ReadFault)) ⊎ (end.status ≡ status.NoMemory)
+end_told files old new form end told (got, inr short, ends) =
+    let none : end ≡ refused NoMemory = subst (λ (r : Result Material Refusal). EndsTo r end) short ends in
+    inr (inr (ap (λ (x : End). x.status) none))
+end_told files old new form end told (got, inl came, ends) =
+    elim (came_told files (Rose old.read_faults new.read_faults) (gathered form) got (subst (λ (given : Option Files). Comes (MayRead given (Rose old.read_faults new.read_faults)) (gathered form) got) told came)) [
+      | inl same ↦ inl (subst (λ (r : Result Material Refusal). EndsTo r end) same ends)
+      | inr (failed, (name, is)) ↦
+          let unread : end ≡ refused (Unread name) = subst (λ (r : Result Material Refusal). EndsTo r end) is ends in
+          inr (inl (failed, ap (λ (x : End). x.status) unread))
+    ]
+
+-- where memory ran out, the call ends without a word
+pub short_end : (old new : View) (form : Option Form) (end : End) → end ≡ says status.NoMemory [] → MayEnd old new form end
+short_end old new form end is = (Err NoMemory, inr refl, is)

@@ -1,0 +1,13 @@
+use Rattle.std.proofs.Common.{◌≡◌, ap, sym, subst, ◌∙◌}
+use Rattle.std.proofs.lemmas.Result.{IfOk-weaker}
+use Rattle.cell_num.specs.Names.{lowered}
+use Rattle.bound_log.specs.Fits.{IsLogName}
+use Rattle.cellgen.specs.Words.{CellAsked}
+use Rattle.cellgen.proofs.Names.{log_name}
+use Rattle.cellgen.proofs.form.CellAsked.name.Goals as goal
+
+pub returns-clause-lower : goal.returns-clause-lower
+returns-clause-lower c = IfOk-weaker c.lower.result (λ n. n ≡ lowered c.as_bytes.result.now) (λ n. n ≡ lowered c.args.self.now.cell) (λ n is. is ∙ ap lowered (c.as_bytes.ensures.value ∙ ap (λ (x : CellAsked). x.cell) c.self.view_is)) c.lower.ensures
+
+pub returns-clause-line : goal.returns-clause-line
+returns-clause-line c = IfOk-weaker c.lower.result (λ n. n ≡ lowered c.as_bytes.result.now) IsLogName (λ n is. subst IsLogName (sym (is ∙ ap lowered c.as_bytes.ensures.value)) (log_name c.self.inside.cell.now c.self.invariant)) c.lower.ensures

@@ -1,0 +1,89 @@
+-- What a call comes to: its status, the files that it makes, and its report.
+use Rattle.std.specs.Prelude.{ℕ, ◌≡◌, Bool, ◌==◌, ◌||◌, List, [], ◌∷◌, ◌++◌, codes, Option, Some, None, Result, Ok, Err}
+use Rattle.std.specs.List.{list_any}
+use Rattle.cell_io.specs.Desk.{Files, View}
+use Rattle.cellgen.specs.declared.end.End.{End}
+use Rattle.cellgen.specs.declared.gather.Material.{Material}
+use Rattle.cellgen.specs.declared.gather.Material.TheVariants.{Planning, Checking}
+use Rattle.cellgen.specs.declared.refusal.Refusal.{Refusal}
+use Rattle.cellgen.specs.declared.refusal.Refusal.TheVariants.{Words, Unread, Long, Tech, Spice, Fold, NoMemory}
+use Rattle.cellgen.specs.declared.status.Status.{Status}
+use Rattle.cellgen.specs.declared.status.Status.TheVariants as status
+use Rattle.cellgen.specs.Check.{ChecksTo}
+use Rattle.cellgen.specs.End.{says}
+use Rattle.cellgen.specs.Faults.{fault_line, tech_fault, spice_fault, fold_fault}
+use Rattle.cellgen.specs.Gather.{gathered}
+use Rattle.cell_num.specs.Lines.{text_line}
+use Rattle.cellgen.specs.Plan.{PlansTo}
+use Rattle.cellgen.specs.Reading.{called, MayCome}
+use Rattle.cellgen.specs.Status.{number_of}
+use Rattle.cellgen.specs.Words.{Form, Plan, Check}
+
+-- ---- a step that refuses
+
+abbrev pub refusal_status : Refusal → Status
+refusal_status Words = status.Usage
+refusal_status (Unread name) = status.ReadFault
+refusal_status (Long name) = status.TooLong
+refusal_status (Tech f) = status.Input
+refusal_status (Spice f) = status.Input
+refusal_status (Fold f) = status.Input
+refusal_status NoMemory = status.NoMemory
+
+abbrev pub refusal_text : Refusal → List ℕ
+refusal_text Words = codes "status 1 usage\nplan TECH SPICE CELL\ncheck TECH SPICE CELL LOG\n"
+refusal_text (Unread name) = text_line (codes "status 2 read ") name
+refusal_text (Long name) = text_line (codes "status 10 long ") name
+refusal_text (Tech f) = codes "status 4 input\n" ++ fault_line (codes "tech") (tech_fault f)
+refusal_text (Spice f) = codes "status 4 input\n" ++ fault_line (codes "spice") (spice_fault f)
+refusal_text (Fold f) = codes "status 4 input\n" ++ fault_line (codes "fold") (fold_fault f)
+refusal_text NoMemory = []
+
+abbrev pub refused : Refusal → End
+refused e = says (refusal_status e) (refusal_text e)
+
+-- ---- the whole
+
+-- the work on what was gathered may come to this end
+abbrev pub WorksTo : Material → End → Type 0
+WorksTo (Planning inputs) end = PlansTo inputs end
+WorksTo (Checking inputs log) end = ChecksTo inputs log end
+
+-- it was gathered, or a step refused
+abbrev pub EndsTo : Result Material Refusal → End → Type 0
+EndsTo (Ok material) end = WorksTo material end
+EndsTo (Err e) end = end ≡ refused e
+
+-- a call of a form over files that are told
+abbrev pub CallsFor : Files → Option Form → End → Type 0
+CallsFor files form end = EndsTo (called files (gathered form)) end
+
+-- a call of a form over a desk, seen before and after it
+abbrev pub MayEnd : View → View → Option Form → End → Type 0
+MayEnd old new form end = (got : Result Material Refusal) × MayCome old new (gathered form) got × EndsTo got end
+
+-- ---- the statuses of a form
+
+abbrev pub is_among : List Status → Status → Bool
+is_among listed answer = list_any (λ other. number_of other == number_of answer) listed
+
+-- what the words or the files call for: a search alone is unfinished, and a log alone is rejected
+abbrev pub settled_of : Option Form → List Status
+settled_of None = status.Usage ∷ []
+settled_of (Some (Plan asked)) = status.Done ∷ status.Input ∷ status.Unfinished ∷ []
+settled_of (Some (Check asked log)) = status.Done ∷ status.Input ∷ status.Rejected ∷ []
+
+-- what a file or the desk may bring about
+abbrev pub outside_of : Option Form → List Status
+outside_of None = status.WriteFault ∷ status.NoMemory ∷ []
+outside_of (Some form) = status.ReadFault ∷ status.WriteFault ∷ status.NoMemory ∷ status.TooLong ∷ []
+
+abbrev pub is_status_of : Option Form → Status → Bool
+is_status_of form answer = is_among (settled_of form) answer || is_among (outside_of form) answer
+
+-- the statuses that tell of the desk or of memory
+abbrev pub IsOfOutside : Status → Type 0
+IsOfOutside status.ReadFault = Unit {0}
+IsOfOutside status.WriteFault = Unit {0}
+IsOfOutside status.NoMemory = Unit {0}
+IsOfOutside _ = ⊥

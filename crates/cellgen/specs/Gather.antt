@@ -1,0 +1,55 @@
+-- What the forms read, in order, and what they then work on.
+use Rattle.std.specs.Prelude.{ℕ, List, [], ◌∷◌, ◌++◌, Option, Some, None, Ok, Err}
+use Rattle.cellgen.specs.declared.gather.Material.{Material}
+use Rattle.cellgen.specs.declared.gather.Material.TheVariants.{Planning, Checking}
+use Rattle.cellgen.specs.declared.refusal.Refusal.TheVariants.{Words, Tech}
+use Rattle.cell_num.specs.Names.{lowered}
+use Rattle.tech_file.specs.Technology.{Technology, plain}
+use Rattle.tech_file.specs.Reading.{technology}
+use Rattle.cellgen.specs.Inputs.{Inputs, inputs_in}
+use Rattle.cellgen.specs.Refusals.{as_refusal}
+use Rattle.cellgen.specs.Reading.{Reading, Ends, bytes_of, ◌>>=◌}
+use Rattle.cellgen.specs.Sources.{Source, TechFile, SpiceFile, LogFile}
+use Rattle.cellgen.specs.Words.{CellAsked, Form, Plan, Check}
+
+abbrev pub technology_in : List ℕ → Reading Technology
+technology_in bytes = Ends (as_refusal Tech (technology bytes))
+
+-- the plain technology, or the one of a file
+abbrev pub technology_from : Option (List ℕ) → Reading Technology
+technology_from None = Ends (Ok plain)
+technology_from (Some name) = bytes_of (TechFile name) >>= technology_in
+
+-- the SPICE file, the subcircuit of the name in lower case, and its fingers
+abbrev pub inputs_over : CellAsked → Technology → Reading Inputs
+inputs_over asked tech = bytes_of (SpiceFile asked.spice) >>= λ bytes. Ends (inputs_in bytes (lowered asked.cell) tech)
+
+-- the technology, and then the others
+abbrev pub inputs_from : CellAsked → Reading Inputs
+inputs_from asked = technology_from asked.tech >>= inputs_over asked
+
+-- ---- by command
+
+abbrev pub planning : CellAsked → Reading Material
+planning asked = inputs_from asked >>= λ inputs. Ends (Ok (Planning inputs))
+
+abbrev pub checking_over : List ℕ → Inputs → Reading Material
+checking_over log inputs = bytes_of (LogFile log) >>= λ bytes. Ends (Ok (Checking inputs bytes))
+
+abbrev pub checking : CellAsked → List ℕ → Reading Material
+checking asked log = inputs_from asked >>= checking_over log
+
+abbrev pub gathered : Option Form → Reading Material
+gathered None = Ends (Err Words)
+gathered (Some (Plan asked)) = planning asked
+gathered (Some (Check asked log)) = checking asked log
+
+-- the files that a form comes to read, in order
+abbrev pub input_files : Option (List ℕ) → List ℕ → List Source
+input_files None spice = SpiceFile spice ∷ []
+input_files (Some tech) spice = TechFile tech ∷ SpiceFile spice ∷ []
+
+abbrev pub read_by : Option Form → List Source
+read_by None = []
+read_by (Some (Plan asked)) = input_files asked.tech asked.spice
+read_by (Some (Check asked log)) = input_files asked.tech asked.spice ++ LogFile log ∷ []

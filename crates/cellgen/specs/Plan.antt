@@ -1,0 +1,55 @@
+-- What a plan comes to: the first least row, or the log of an unfinished search.
+use Rattle.std.specs.Prelude.{ℕ, ◌≡◌, ◌≤◌, List, ◌++◌, codes, length, Option, Ok}
+use Rattle.cell_io.specs.Desk.{Files}
+use Rattle.row_model.specs.declared.column.Column.{Column}
+use Rattle.row_state.specs.Parity.{parity_value}
+use Rattle.bound_log.specs.declared.log.Log.{Log}
+use Rattle.bound_log.specs.Text.{log_text}
+use Rattle.spice_net.specs.declared.subckt.Subckt.{Subckt}
+use Rattle.log_check.specs.Accepted.{ForKinds, WithKinds}
+use Rattle.row_search.specs.Ended.{IsSolved, IsSpent}
+use Rattle.row_search.specs.Enough.{enough}
+use Rattle.row_search.specs.First.{IsFirstLeast}
+use Rattle.cellgen.specs.declared.end.End.{End}
+use Rattle.cellgen.specs.declared.gather.Material.TheVariants.{Planning}
+use Rattle.cellgen.specs.declared.status.Status.TheVariants as status
+use Rattle.cellgen.specs.End.{says}
+use Rattle.cellgen.specs.Gather.{gathered}
+use Rattle.cellgen.specs.Inputs.{Inputs}
+use Rattle.cellgen.specs.Reading.{called}
+use Rattle.cellgen.specs.Report.{plan_text, unfinished_text}
+use Rattle.cellgen.specs.Words.{Form}
+
+pub data PlanAnswer : Type 0 where
+  Planned : (row : List Column) (log : Log) → PlanAnswer
+  Unfinished : (proved : ℕ) (log : Log) → PlanAnswer
+
+-- The first least arrangement, with an accepted log that lists it and was found within the budget; or the budget
+-- is spent, and the log proves so many gaps.
+abbrev pub Plans : Inputs → PlanAnswer → Type 0
+Plans inputs (Planned row log) =
+    IsFirstLeast inputs.fingers row
+    × WithKinds inputs.fingers (λ k. IsSolved parity_value k inputs.fingers inputs.tech.budget row log)
+Plans inputs (Unfinished proved log) =
+    WithKinds inputs.fingers (λ k. IsSpent parity_value k inputs.fingers inputs.tech.budget log proved)
+
+abbrev pub planned_end : Subckt → List Column → End
+planned_end cell row = says status.Done (codes "status 0 ok\n" ++ plan_text cell.name cell.nets row)
+
+abbrev pub unfinished_end : Subckt → ℕ → Log → End
+unfinished_end cell proved log =
+    says status.Unfinished (codes "status 6 unfinished\n" ++ unfinished_text proved (length log.lemmas) ++ log_text cell.name log)
+
+abbrev pub plan_end : Inputs → PlanAnswer → End
+plan_end inputs (Planned row log) = planned_end inputs.cell row
+plan_end inputs (Unfinished proved log) = unfinished_end inputs.cell proved log
+
+abbrev pub PlansTo : Inputs → End → Type 0
+PlansTo inputs end = (answer : PlanAnswer) × Plans inputs answer × (end ≡ plan_end inputs answer)
+
+-- the inputs of a plan are there and accepted, and the budget is enough for their fingers
+abbrev pub HasEnough : Files → Option Form → Type 0
+HasEnough files form =
+    (inputs : Inputs)
+    × (called files (gathered form) ≡ Ok (Planning inputs))
+    × ForKinds inputs.fingers (λ k. enough k ≤ inputs.tech.budget)

@@ -1,0 +1,8 @@
+-- The program's form of a call, by its texts.
+use Rattle.cellgen.specs.declared.form.Form.{Form}
+use Rattle.cellgen.specs.declared.form.Form.TheVariants as read
+use Rattle.cellgen.specs.Words as words
+
+abbrev pub shown : Form → words.Form
+shown (read.Plan cell) = words.Plan cell
+shown (read.Check cell log) = words.Check cell log.now
