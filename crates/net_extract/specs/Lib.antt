@@ -1,0 +1,6 @@
+pub mod Devices
+pub mod Extraction
+pub mod Labels
+pub mod Nets
+pub mod Numbering
+pub mod Parts
