@@ -1,3 +1,4 @@
+pub mod Classes
 pub mod Devices
 pub mod Extraction
 pub mod Labels

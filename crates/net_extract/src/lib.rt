@@ -2,9 +2,11 @@
 #![tactic(auto)]
 
 pub mod fault;
+pub mod label;
 pub mod laws;
 pub mod netlist;
 
+pub use label::{Link, classes};
 pub use fault::ExtractFault;
 pub use laws::rectangle_nets;
 pub use netlist::{Drawn, DrawnList, Netlist};
