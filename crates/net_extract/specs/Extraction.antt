@@ -8,7 +8,9 @@ use Rattle.box_geom.specs.declared.shape.Shapes.{Shapes}
 use Rattle.net_extract.specs.Nets.{Site}
 use Rattle.net_extract.specs.Numbering.{AreNets, IsInNet}
 use Rattle.net_extract.specs.Devices.{IsDevice, IsOdd, IsFirstOdd, AreDevices}
-use Rattle.net_extract.specs.Labels.{Held, AreHeld, IsFirstStray, IsShortIn, HasNoShort, IsSplit, names_of}
+use Rattle.net_extract.specs.declared.naming.Held.{Held}
+use Rattle.net_extract.specs.Labels.{AreHeld, IsFirstStray}
+use Rattle.net_extract.specs.Naming.{IsAgreed, IsShort, IsSplit, names_of}
 use Rattle.net_extract.specs.declared.netlist.Drawn.{Drawn}
 use Rattle.net_extract.specs.declared.netlist.Netlist.{Netlist}
 use Rattle.net_extract.specs.declared.fault.ExtractFault.{ExtractFault}
@@ -34,17 +36,13 @@ pub record IsLabelled (shapes : Shapes) (firsts : List Site) (held : List Held) 
   pub nets : AreNets shapes.rects firsts
   pub labels : AreHeld shapes.rects firsts shapes.labels held
 
-pub record IsAgreed (held : List Held) : Type 0 where
-  pub no_short : (n : ℕ) → HasNoShort held n
-  pub no_split : (name : List ℕ) → IsSplit held name → ⊥
-
 -- the netlist of a drawing
 pub record Extracts (shapes : Shapes) (netlist : Netlist) : Type 0 where
   pub few : AreFew shapes
   pub firsts : List Site
   pub held : List Held
   pub labelled : IsLabelled shapes firsts held
-  pub agreed : IsAgreed held
+  pub agreed : IsAgreed held (length firsts)
   pub names : netlist.names ≡ names_of held (length firsts)
   pub boxes : List Rectangle
   pub devices : AreDevices shapes.rects boxes
@@ -67,41 +65,24 @@ pub record IsStrayLabel (shapes : Shapes) (name : List ℕ) : Type 0 where
   pub regular : AreRegular shapes
   pub stray : IsFirstStray shapes.rects shapes.labels name
 
--- the first net with two different labels
-pub record IsFirstShort (held : List Held) (one other : List ℕ) : Type 0 where
-  pub net : ℕ
-  pub short : IsShortIn held net one other
-  pub first : (n : ℕ) → n < net → HasNoShort held n
-
-pub record IsShort (shapes : Shapes) (one other : List ℕ) : Type 0 where
+pub record IsShortDrawing (shapes : Shapes) (one other : List ℕ) : Type 0 where
   pub regular : AreRegular shapes
   pub firsts : List Site
   pub held : List Held
   pub labelled : IsLabelled shapes firsts held
-  pub short : IsFirstShort held one other
+  pub short : IsShort held (length firsts) one other
 
--- the first label whose name stands in two nets
-pub record IsFirstSplit (held : List Held) (name : List ℕ) : Type 0 where
-  pub before : List Held
-  pub label : Held
-  pub after : List Held
-  pub parts : held ≡ before ++ label ∷ after
-  pub fine : (h : Held) → Contains before h → IsSplit held h.name → ⊥
-  pub named : label.name ≡ name
-  pub split : IsSplit held name
-
-pub record IsSplitName (shapes : Shapes) (name : List ℕ) : Type 0 where
+pub record IsSplitDrawing (shapes : Shapes) (name : List ℕ) : Type 0 where
   pub regular : AreRegular shapes
   pub firsts : List Site
   pub held : List Held
   pub labelled : IsLabelled shapes firsts held
-  pub no_short : (n : ℕ) → HasNoShort held n
-  pub split : IsFirstSplit held name
+  pub split : IsSplit held (length firsts) name
 
 abbrev pub ExtractRefused : Shapes → ExtractFault → Type 0
 ExtractRefused shapes (TooMany count) = IsTooMany shapes count
 ExtractRefused shapes (OddDevice x y) = IsOddDevice shapes x y
 ExtractRefused shapes (Stray name) = IsStrayLabel shapes name
-ExtractRefused shapes (Short one other) = IsShort shapes one other
-ExtractRefused shapes (Split name) = IsSplitName shapes name
+ExtractRefused shapes (Short one other) = IsShortDrawing shapes one other
+ExtractRefused shapes (Split name) = IsSplitDrawing shapes name
 ExtractRefused shapes NoMemory = Unit {0}

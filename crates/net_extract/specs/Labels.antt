@@ -1,4 +1,4 @@
--- Names of nets by labels.
+-- Labels and the conductor cells that they belong to.
 use Rattle.std.specs.Prelude.{◌≡◌, ℤ, pos, ◌-ℤ◌, ℕ, Bool, true, false, not, ◌&&◌, ◌||◌, ◌==◌, if◌then◌else◌, Option, Some, None, IsNone, List, [], ◌∷◌, ◌++◌, map, ◌⊎◌, IsTrue, length, codes, decimal}
 use Rattle.std.specs.List.{filter, AllZip, Contains, range_with_len}
 use Rattle.std.specs.Str.{bytes_eq}
@@ -8,6 +8,7 @@ use Rattle.box_geom.specs.declared.shape.Shape.{Shape}
 use Rattle.box_geom.specs.declared.shape.Label.{Label}
 use Rattle.box_geom.specs.declared.layer.Layer.{Layer}
 use Rattle.box_geom.specs.declared.layer.Layer.TheVariants.{Active, Poly, Metal1, Metal2}
+use Rattle.net_extract.specs.declared.naming.Held.{Held}
 use Rattle.net_extract.specs.Nets.{Kind, layer_of, Site, Conducts}
 use Rattle.net_extract.specs.Numbering.{IsInNet}
 
@@ -47,11 +48,7 @@ Belongs s l a = IsFirstConductor s l.layer (cells_round l.x l.y) a
 abbrev pub IsStray : List Shape → Label → Type 0
 IsStray s l = (a : Site) → Belongs s l a → ⊥
 
--- a label's name and the number of its net
-pub record Held : Type 0 where
-  pub name : List ℕ
-  pub net : ℕ
-
+-- the label's name and the number of its net
 pub record IsHeld (s : List Shape) (firsts : List Site) (l : Label) (h : Held) : Type 0 where
   pub name : h.name ≡ l.name
   pub site : Site
@@ -71,49 +68,3 @@ pub record IsFirstStray (s : List Shape) (labels : List Label) (name : List ℕ)
   pub fine : (l : Label) → Contains before l → IsStray s l → ⊥
   pub stray : IsStray s label
   pub named : label.name ≡ name
-
--- ---- names over the labels that nets hold
--- the names of a net's labels, in their order
-abbrev pub names_in : ℕ → List Held → List (List ℕ)
-names_in n held = map (λ (h : Held). h.name) (filter (λ (h : Held). h.net == n) held)
-
-abbrev pub first_name : List (List ℕ) → Option (List ℕ)
-first_name [] = None
-first_name (a ∷ names) = Some a
-
--- the first label of a net
-abbrev pub label_of : ℕ → List Held → Option (List ℕ)
-label_of n held = first_name (names_in n held)
-
--- the first label of a list that differs from a name
-abbrev pub first_other : List ℕ → List (List ℕ) → Option (List ℕ)
-first_other a names = first_name (filter (λ (b : List ℕ). not (bytes_eq b a)) names)
-
--- two different labels in a net: its first label, and its first label that differs from it
-pub record IsShortIn (held : List Held) (n : ℕ) (one other : List ℕ) : Type 0 where
-  pub first : label_of n held ≡ Some one
-  pub differs : first_other one (names_in n held) ≡ Some other
-
-pub record HasNoShort (held : List Held) (n : ℕ) : Type 0 where
-  pub none : (one other : List ℕ) → IsShortIn held n one other → ⊥
-
--- a name that stands in two nets
-pub record IsSplit (held : List Held) (name : List ℕ) : Type 0 where
-  pub a : Held
-  pub b : Held
-  pub in_a : Contains held a
-  pub in_b : Contains held b
-  pub name_a : a.name ≡ name
-  pub name_b : b.name ≡ name
-  pub apart : a.net ≡ b.net → ⊥
-
--- a net goes by its first label, and by `_` and its number where it has none
-abbrev pub name_or_number : ℕ → Option (List ℕ) → List ℕ
-name_or_number n (Some name) = name
-name_or_number n None = codes "_" ++ decimal n
-
-abbrev pub name_of : List Held → ℕ → List ℕ
-name_of held n = name_or_number n (label_of n held)
-
-abbrev pub names_of : List Held → ℕ → List (List ℕ)
-names_of held count = map (name_of held) (range_with_len 0 count)
