@@ -1,2 +1,4 @@
 pub mod Bonds
+pub mod Faults
 pub mod Merging
+pub mod Orders

@@ -53,10 +53,6 @@ name_of held n = name_or_number n (label_of n held)
 abbrev pub names_of : List Held → ℕ → List (List ℕ)
 names_of held count = map (name_of held) (range_with_len 0 count)
 
-abbrev pub IsShortOf : List ℕ → List ℕ → ExtractFault → Type 0
-IsShortOf one other (Short a b) = (a ≡ one) × (b ≡ other)
-IsShortOf one other _ = ⊥
-
 -- the first net with two labels, its first label and the first other one
 pub record IsShort (held : List Held) (count : ℕ) (one other : List ℕ) : Type 0 where
   pub net : ℕ
@@ -74,3 +70,19 @@ IsNameFault held count (Short one other) = IsShort held count one other
 IsNameFault held count (Split name) = IsSplit held count name
 IsNameFault held count NoMemory = Unit {0}
 IsNameFault held count _ = ⊥
+
+-- ---- what single steps answer; want of memory may come in place of each
+abbrev pub IsShortOf : List ℕ → List ℕ → ExtractFault → Type 0
+IsShortOf one other (Short a b) = (a ≡ one) × (b ≡ other)
+IsShortOf one other NoMemory = Unit {0}
+IsShortOf one other _ = ⊥
+
+abbrev pub IsShortIn : List Held → ℕ → ExtractFault → Type 0
+IsShortIn held net (Short one other) = (label_of net held ≡ Some one) × (other_of net held ≡ Some other)
+IsShortIn held net NoMemory = Unit {0}
+IsShortIn held net _ = ⊥
+
+abbrev pub IsSplitOf : List ℕ → ExtractFault → Type 0
+IsSplitOf name (Split a) = a ≡ name
+IsSplitOf name NoMemory = Unit {0}
+IsSplitOf name _ = ⊥

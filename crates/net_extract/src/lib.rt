@@ -6,9 +6,11 @@ pub mod label;
 pub mod laws;
 pub mod naming;
 pub mod netlist;
+#[cfg(test)]
+mod tests;
 
-pub use label::{Link, classes};
 pub use fault::ExtractFault;
-pub use laws::rectangle_nets;
-pub use naming::Held;
+pub use label::{Link, classes};
+pub use laws::{one_numbering, rectangle_nets};
+pub use naming::{Held, net_names};
 pub use netlist::{Drawn, DrawnList, Netlist};

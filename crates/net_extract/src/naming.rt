@@ -1,8 +1,7 @@
-ghost use Rattle.std.specs.Prelude.{◌≡◌, ◌++◌, ◌==◌, not, ◌&&◌, IsTrue, IfOk, IfErr, OnOk, is_some, codes, decimal};
+ghost use Rattle.std.specs.Prelude.{◌≡◌, ◌++◌, IsTrue, IfOk, IfErr, OnOk, is_some, None, codes, decimal};
 ghost use Rattle.std.specs.Option.{option_map};
-ghost use Rattle.std.specs.List.{find};
 ghost use Rattle.std.specs.Str.{bytes_eq};
-ghost use Rattle.net_extract.specs.Naming.{label_of, first_other, other_of, short_net, stands_elsewhere, split_name, name_of, names_of, IsAgreed, IsShortOf, IsNameFault};
+ghost use Rattle.net_extract.specs.Naming.{label_of, first_other, other_of, short_net, stands_elsewhere, split_name, name_of, names_of, IsShortOf, IsShortIn, IsSplitOf, IsNameFault};
 
 use crate::fault::ExtractFault;
 use cell_num::{Name, Names, NoMemory, copy, put_number};
@@ -71,13 +70,56 @@ fn first_split(held: &[Held]) -> Option<&Name>
         .map(|label| &label.name)
 }
 
-fn short(alloc: Global, one: &Name, other: &Name) -> Result<ExtractFault, NoMemory>
-    ensures { IfOk result (λ f. IsShortOf one.now other.now f) }
+fn short(alloc: Global, one: &Name, other: &Name) -> ExtractFault
+    ensures { IsShortOf one.now other.now result }
 {
-    Ok(ExtractFault::Short {
-        one: copy(alloc, one.as_slice())?,
-        other: copy(alloc, other.as_slice())?,
-    })
+    match (copy(alloc, one.as_slice()), copy(alloc, other.as_slice())) {
+        (Ok(one), Ok(other)) => ExtractFault::Short { one, other },
+        _ => ExtractFault::NoMemory,
+    }
+}
+
+#[tactic(auto, using(crate::proofs::Faults::other_has_label))]
+fn short_in(alloc: Global, held: &[Held], net: u32) -> ExtractFault
+    requires { IsTrue (is_some (other_of net held.now)) }
+    ensures { IsShortIn held.now net result }
+{
+    match (label(held, net), other_label(held, net)) {
+        (Some(one), Some(other)) => short(alloc, one, other),
+        _ => unreachable!(),
+    }
+}
+
+#[tactic(auto, using(crate::proofs::Faults::short_rules))]
+fn check_shorts(alloc: Global, held: &[Held], count: u32) -> Result<(), ExtractFault>
+    ensures none { OnOk result (short_net held.now count ≡ None) }
+    ensures refused { IfErr result (IsNameFault held.now count) }
+{
+    match first_short(held, count) {
+        Some(net) => Err(short_in(alloc, held, net)),
+        None => Ok(()),
+    }
+}
+
+fn split(alloc: Global, name: &Name) -> ExtractFault
+    ensures { IsSplitOf name.now result }
+{
+    match copy(alloc, name.as_slice()) {
+        Ok(name) => ExtractFault::Split { name },
+        Err(_) => ExtractFault::NoMemory,
+    }
+}
+
+#[tactic(auto, using(crate::proofs::Faults::split_rules))]
+fn check_splits(alloc: Global, held: &[Held], count: u32) -> Result<(), ExtractFault>
+    requires { short_net held.now count ≡ None }
+    ensures none { OnOk result (split_name held.now ≡ None) }
+    ensures refused { IfErr result (IsNameFault held.now count) }
+{
+    match first_split(held) {
+        Some(name) => Err(split(alloc, name)),
+        None => Ok(()),
+    }
 }
 
 fn number_name(alloc: Global, net: u32) -> Result<Name, NoMemory>
@@ -105,4 +147,20 @@ fn all_names(alloc: Global, held: &[Held], count: u32) -> Result<Names, NoMemory
         names.push(net_name(alloc, held, net)?)?;
     }
     Ok(names)
+}
+
+/// The names of `count` nets by number: a net's first label, or `_` and its number where it has none. It
+/// is refused where a net holds two different labels, or else where a label stands in two nets.
+pub fn net_names(alloc: Global, held: &[Held], count: u32) -> Result<Names, ExtractFault>
+    ensures names { IfOk result (λ names. names ≡ names_of held.now count) }
+    ensures no_short { OnOk result (short_net held.now count ≡ None) }
+    ensures no_split { OnOk result (split_name held.now ≡ None) }
+    ensures refused { IfErr result (IsNameFault held.now count) }
+{
+    check_shorts(alloc, held, count)?;
+    check_splits(alloc, held, count)?;
+    match all_names(alloc, held, count) {
+        Ok(names) => Ok(names),
+        Err(_) => Err(ExtractFault::NoMemory),
+    }
 }
