@@ -1,0 +1,16 @@
+// Nets and devices of a drawing: what hangs together, by cells and by rectangles.
+#![tactic(auto)]
+
+pub mod fault;
+pub mod label;
+pub mod laws;
+pub mod naming;
+pub mod netlist;
+#[cfg(test)]
+mod tests;
+
+pub use fault::ExtractFault;
+pub use label::{Link, classes};
+pub use laws::{one_numbering, rectangle_nets};
+pub use naming::{Held, net_names};
+pub use netlist::{Drawn, DrawnList, Netlist};

@@ -1,0 +1,23 @@
+use cell_num::{List, Names, Row};
+
+/// A device as it is drawn: its gate's net, the nets along its two diffusion sides with `lo <= hi`, the
+/// length of these sides and their distance, in grid units.
+#[derive(Clone, Copy, Debug, PartialEq, Eq)]
+pub struct Drawn {
+    pub row: Row,
+    pub gate: u32,
+    pub lo: u32,
+    pub hi: u32,
+    pub width: u32,
+    pub length: u32,
+}
+
+pub type DrawnList = List<Drawn>;
+
+/// The names of nets by number, and the devices; nets are numbered and devices stand by their first
+/// cells, the lowest row first and in it from the left.
+#[derive(Debug, PartialEq, Eq, Drop)]
+pub struct Netlist {
+    pub names: Names,
+    pub devices: DrawnList,
+}
