@@ -34,16 +34,21 @@ fn words_of(alloc: Global, text: &str) -> Result<Vec<String>, Fail> {
 }
 
 // A desk with the files `t.toml`, `c.sp` and `l.clog`, whose calls from the list fail.
-fn desk_with(alloc: Global, files: [Name; 3], fail: &[u64]) -> Result<MemDesk, Fail> {
-    let [tech, spice, log] = files;
-    let mut list = FileList::new(alloc);
+fn desk_with(
+    alloc: Global,
+    tech: Name,
+    spice: Name,
+    log: Name,
+    fail: &[u64],
+) -> Result<MemDesk, Fail> {
+    let mut files = FileList::new(alloc);
     for (name, bytes) in [("t.toml", tech), ("c.sp", spice), ("l.clog", log)] {
         let name = name_of(alloc, name)?;
-        list.push(File { name, bytes })?;
+        files.push(File { name, bytes })?;
     }
     let mut calls = CallList::new(alloc);
     calls.extend(fail)?;
-    Ok(MemDesk::new(alloc, list, calls))
+    Ok(MemDesk::new(alloc, files, calls))
 }
 
 // Runs the words over these files, with the failing calls.
@@ -54,12 +59,13 @@ fn run_over(
     fail: &[u64],
 ) -> Result<(Status, MemDesk), Fail> {
     let [tech, spice, log] = files;
-    let files = [
+    let mut desk = desk_with(
+        alloc,
         name_of(alloc, tech)?,
         name_of(alloc, spice)?,
         name_of(alloc, log)?,
-    ];
-    let mut desk = desk_with(alloc, files, fail)?;
+        fail,
+    )?;
     let status = run(alloc, &words_of(alloc, words)?, &mut desk);
     Ok((status, desk))
 }
@@ -183,7 +189,7 @@ fn refuses_long_files(rt: HostRuntime) -> Result<(), Fail> {
     ] {
         let comment = List::from_vec(vec![in alloc; b'#'; tech]?);
         let stars = List::from_vec(vec![in alloc; b'*'; spice]?);
-        let mut desk = desk_with(alloc, [comment, stars, Name::new(alloc)], &[])?;
+        let mut desk = desk_with(alloc, comment, stars, Name::new(alloc), &[])?;
         assert_eq!(rt; run(alloc, &words, &mut desk), status, "{said}");
         assert_eq!(rt; desk.all_said(), said.as_bytes(), "{said}");
     }
