@@ -1,9 +1,9 @@
 -- The number that a word is.
-use Rattle.std.specs.Prelude.{ℕ, zero, suc, ◌≡◌, ◌≢◌, ◌+◌, ◌^◌, ◌<◌, ◌≤◌, Bool, true, false, cond, List, Some, None, find, decimal}
+use Rattle.std.specs.Prelude.{ℕ, zero, suc, ◌≡◌, ◌≢◌, ◌+◌, ◌-◌, ◌^◌, ◌<◌, ◌≤◌, Bool, true, false, cond, List, [], ◌∷◌, Some, None, find, decimal}
 use Rattle.std.proofs.Common.{refl, sym, ap, arith, ◌∙◌, ◌⊎◌, inl, inr}
 use Rattle.std.specs.List.{range_with_len}
 use Rattle.std.proofs.lemmas.Bool.{cases_Bool, cases_eq}
-use Rattle.std.proofs.lemmas.Fmt.{decimal_injective}
+use Rattle.std.proofs.lemmas.Fmt.{decimal_digit, decimal_injective}
 use Rattle.std.proofs.lemmas.Option.{none-some, same_Some}
 use Rattle.std.proofs.lemmas.Slice.Eq.{bytes_eq-Decides}
 use Rattle.bound_log.specs.Line.{is_word, number_below}
@@ -57,3 +57,8 @@ not_below limit word n e l few = none_in word 0 limit (λ m low high d. let same
 pub no_number : (limit : ℕ) (word : List ℕ) → ((n : ℕ) → n < 4294967296 → word ≢ decimal n) → limit ≤ 4294967296 → number_below limit word ≡ None
 unfolding number_below
 no_number limit word h few = none_in word 0 limit (λ m low high. h m (omega (arith, high, few)))
+
+-- one digit
+pub one_digit : (word : List ℕ) (byte n : ℕ) → word ≡ byte ∷ [] → 48 ≤ byte → byte ≤ 57 → n ≡ byte - 48 → word ≡ decimal n
+one_digit word byte n is low high value =
+    is ∙ (ap (λ (b : ℕ). b ∷ []) (omega (arith, low, value)) ∙ sym (decimal_digit n (omega (arith, high, low, value))))
