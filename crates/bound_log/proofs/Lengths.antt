@@ -1,15 +1,12 @@
 -- How long the lines are.
-use Rattle.std.specs.Prelude.{ℕ, ◌≡◌, ◌+◌, ◌*◌, ◌<◌, ◌≤◌, Bool, true, false, List, [], ◌∷◌, ◌++◌, Option, Some, None, All, IfSome, length, map, codes, decimal}
-use Rattle.std.proofs.Common.{refl, ap, arith}
-use Rattle.std.specs.List.{join_with_byte}
+use Rattle.std.specs.Prelude.{ℕ, ◌≡◌, ◌+◌, ◌*◌, ◌<◌, ◌≤◌, Bool, true, false, List, [], ◌∷◌, ◌++◌, Option, Some, None, All, IfSome, length, codes, decimal}
+use Rattle.std.proofs.Common.{ap, arith}
 use Rattle.std.proofs.lemmas.Fmt.{length-decimal-le}
 use Rattle.std.proofs.lemmas.List.{length-append}
 use Rattle.std.proofs.lemmas.List.Elements.{All-head, All-tail}
 use Rattle.cell_num.specs.declared.net.NetNo.{NetNo}
 use Rattle.row_state.specs.declared.kind.Kind.{Kind}
-use Rattle.row_state.specs.declared.kind.Kinds.{Kinds}
 use Rattle.row_state.specs.declared.step.Side.{Side}
-use Rattle.row_state.specs.Start.{AreSomeKinds}
 use Rattle.row_state.proofs.Valid.{gates_few, kinds_few}
 use Rattle.bound_log.specs.declared.log.Rule.{Rule}
 use Rattle.bound_log.specs.declared.log.Rule.TheVariants as by

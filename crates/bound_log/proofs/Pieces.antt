@@ -1,5 +1,5 @@
 -- A log read in pieces is the log read whole.
-use Rattle.std.specs.Prelude.{ℕ, ◌≡◌, ◌≢◌, ◌+◌, ◌<◌, ◌==◌, ◌&&◌, Bool, true, false, List, [], ◌∷◌, ◌++◌, Option, Some, None, Result, Ok, Err, All, length, codes}
+use Rattle.std.specs.Prelude.{ℕ, ◌≡◌, ◌+◌, ◌<◌, ◌==◌, ◌&&◌, Bool, true, false, List, [], ◌∷◌, ◌++◌, Option, Some, None, Result, Ok, Err, All, length, codes}
 use Rattle.std.proofs.Common.{refl, sym, ap, arith, ◌∙◌, inl, inr}
 use Rattle.std.proofs.lemmas.Bool.{cases_Bool, ne_eqb}
 use Rattle.std.proofs.lemmas.List.{length-append}
@@ -11,7 +11,6 @@ use Rattle.bound_log.specs.declared.fault.LogFault.{LogFault}
 use Rattle.bound_log.specs.declared.fault.LogFault.TheVariants as fault
 use Rattle.bound_log.specs.declared.item.LogItem.{LogItem}
 use Rattle.bound_log.specs.declared.item.LogItem.TheVariants as item
-use Rattle.bound_log.specs.declared.item.LogPlace.{LogPlace}
 use Rattle.bound_log.specs.declared.item.LogPlace.TheVariants as place
 use Rattle.bound_log.specs.declared.log.LogStep.{LogStep}
 use Rattle.bound_log.specs.declared.log.Log.{Log}
@@ -19,11 +18,11 @@ use Rattle.bound_log.specs.declared.log.Entry.{Entry}
 use Rattle.bound_log.specs.declared.log.Entry.TheVariants as entry
 use Rattle.bound_log.specs.Fits.{IsLogName}
 use Rattle.bound_log.specs.Line.{column_in, entry_in, is_word, words_in}
-use Rattle.bound_log.specs.Pieces.{Tale, begun, column_says, columns_told, ended, entry_says, item_if, line_tale, log_read, log_told, refused, tale_of, then_tale}
+use Rattle.bound_log.specs.Pieces.{begun, column_says, columns_told, entry_says, item_if, line_tale, log_read, log_told, tale_of, then_tale}
 use Rattle.bound_log.specs.Reading.{begun_by, behind, columns_at, end_at, lines_in, log_at, log_of, named_at, text_at}
 use Rattle.bound_log.proofs.Only.{text_cons}
 use Rattle.bound_log.proofs.Splits.{Lacks, behind_lacks, bytes_again, fed, lines_lack, lines_text}
-use Rattle.bound_log.proofs.Tales.{is_behind, no_more}
+use Rattle.bound_log.proofs.Tales.{is_behind}
 use Rattle.bound_log.proofs.Told.{ahead, at_line, cut, ended_more, read_as, wrong}
 
 no_line : (rest : List ℕ) → lines_text [] rest ≡ rest

@@ -1,5 +1,5 @@
 -- What the bytes of a line tell.
-use Rattle.std.specs.Prelude.{ℕ, suc, ◌≡◌, ◌≢◌, ◌+◌, ◌<◌, ◌≤◌, ◌==◌, nat_lt, leb, Bool, true, false, cond, List, [], ◌∷◌, ◌++◌, Option, Some, None, Result, Ok, Err, All, IfSome, get_or, length, position, take}
+use Rattle.std.specs.Prelude.{ℕ, ◌≡◌, ◌≢◌, ◌+◌, ◌<◌, ◌==◌, nat_lt, leb, Bool, true, false, cond, List, [], ◌∷◌, ◌++◌, Option, Some, None, Result, Ok, Err, get_or, length, position, take}
 use Rattle.std.proofs.Common.{refl, sym, ap, arith, ◌∙◌, inl, inr}
 use Rattle.std.specs.List.{position_or_len}
 use Rattle.std.proofs.Math.Seq.{take-length}
@@ -14,8 +14,7 @@ use Rattle.bound_log.specs.declared.item.LogItem.{LogItem}
 use Rattle.bound_log.specs.declared.item.LogItem.TheVariants as item
 use Rattle.bound_log.specs.declared.item.LogPlace.{LogPlace}
 use Rattle.bound_log.specs.declared.item.LogPlace.TheVariants as place
-use Rattle.bound_log.specs.Pieces.{IsShort, Reader, Tale, behind_line, byte_tale, line_bytes, line_tale, longer, next_tale, refused, tale_of, then_tale, told, told_by, whole_says, with_line}
-use Rattle.bound_log.proofs.Feeds.{feed_within}
+use Rattle.bound_log.specs.Pieces.{IsShort, Reader, Tale, behind_line, byte_tale, line_bytes, line_tale, longer, next_tale, refused, tale_of, then_tale, told, whole_says, with_line}
 use Rattle.bound_log.proofs.Splits.{Lacks}
 
 abbrev pub no_more : Reader → Tale

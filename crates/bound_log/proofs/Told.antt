@@ -1,34 +1,30 @@
 -- The lines of a log, told one by one, are the log.
-use Rattle.std.specs.Prelude.{ℕ, ◌≡◌, ◌≢◌, ◌+◌, ◌<◌, ◌≤◌, ◌==◌, ◌&&◌, leb, Bool, true, false, List, [], ◌∷◌, ◌++◌, Option, Some, None, Result, Ok, Err, All, length, codes, decimal}
+use Rattle.std.specs.Prelude.{ℕ, ◌≡◌, ◌≢◌, ◌+◌, ◌<◌, ◌≤◌, leb, false, List, [], ◌∷◌, ◌++◌, Option, Some, None, Result, Ok, Err, length, codes}
 use Rattle.std.proofs.Common.{refl, sym, ap, arith, ◌∙◌, inl, inr}
-use Rattle.std.specs.List.{flat_map, join_with_byte}
-use Rattle.std.proofs.lemmas.Bool.{cases_Bool, leb-false, ne_eqb}
+use Rattle.std.specs.List.{join_with_byte}
+use Rattle.std.proofs.lemmas.Bool.{cases_Bool, leb-false}
 use Rattle.std.proofs.lemmas.List.{length-append}
-use Rattle.std.proofs.lemmas.List.Elements.{All-head, All-tail}
-use Rattle.cell_num.specs.Steps.{◌>>=◌, require, or_fault}
+use Rattle.cell_num.specs.Steps.{◌>>=◌}
 use Rattle.row_state.specs.declared.kind.Kinds.{Kinds}
 use Rattle.row_state.specs.Start.{AreSomeKinds}
 use Rattle.bound_log.specs.declared.fault.LogFault.{LogFault}
 use Rattle.bound_log.specs.declared.fault.LogFault.TheVariants as fault
 use Rattle.bound_log.specs.declared.item.LogItem.{LogItem}
-use Rattle.bound_log.specs.declared.item.LogItem.TheVariants as item
 use Rattle.bound_log.specs.declared.item.LogPlace.{LogPlace}
 use Rattle.bound_log.specs.declared.item.LogPlace.TheVariants as place
 use Rattle.bound_log.specs.declared.log.LogStep.{LogStep}
-use Rattle.bound_log.specs.declared.log.Log.{Log}
 use Rattle.bound_log.specs.declared.log.Entry.{Entry}
 use Rattle.bound_log.specs.declared.log.Entry.TheVariants as entry
 use Rattle.bound_log.specs.Fits.{IsLogName}
 use Rattle.bound_log.specs.Line.{column_in, entry_in, is_word, words_in}
-use Rattle.bound_log.specs.Pieces.{Reader, Tale, begun, columns_told, ended, line_says, line_tale, log_read, log_told, longer, refused, tale_of, then_tale, whole_says, wrong_at}
-use Rattle.bound_log.specs.Reading.{begun_by, behind, columns_at, end_at, lines_in, log_at, log_of, named_at, text_at}
+use Rattle.bound_log.specs.Pieces.{Reader, Tale, ended, line_says, line_tale, longer, refused, tale_of, then_tale, whole_says, wrong_at}
 use Rattle.bound_log.specs.Text.{gaps_line}
 use Rattle.bound_log.proofs.Lengths.{column_short, gaps_short, lemma_short}
 use Rattle.bound_log.proofs.Numbers.{is_other}
-use Rattle.bound_log.proofs.Only.{EntrySpelled, column_spelled, entry_spelled, line_of_words, text_cons}
+use Rattle.bound_log.proofs.Only.{EntrySpelled, column_spelled, entry_spelled, line_of_words}
 use Rattle.bound_log.proofs.Spelled.{column_joined, lemma_joined}
-use Rattle.bound_log.proofs.Splits.{Lacks, fed, lines_text}
-use Rattle.bound_log.proofs.Tales.{feeds, is_behind, no_more, quiet, stays, tale_append}
+use Rattle.bound_log.proofs.Splits.{Lacks, fed}
+use Rattle.bound_log.proofs.Tales.{feeds, quiet, stays, tale_append}
 
 -- ---- lines that are too long
 

@@ -1,4 +1,4 @@
-use Rattle.std.proofs.Common.{List, ℕ, ◌≡◌, ◌<◌, ◌≤◌, ◌+◌, ap, arith, length}
+use Rattle.std.proofs.Common.{List, ℕ, ◌≡◌, ap, arith, length}
 use Rattle.bound_log.specs.Text.{counts_text}
 use Rattle.bound_log.proofs.Texts.{counts_full, counts_left, on_err}
 use Rattle.bound_log.proofs.spell.put_counts.Goals as goal
