@@ -12,7 +12,7 @@ use Rattle.std.proofs.lemmas.Option.{cond_some, none-some}
 use Rattle.bound_log.specs.declared.fault.LogFault.TheVariants as fault
 use Rattle.bound_log.specs.Line.{is_word, parts_at}
 use Rattle.bound_log.specs.Reading.{behind, end_at, last_of, lines_in, without_last}
-use Rattle.bound_log.proofs.Parts.{all_behind, cut_at, not_cut}
+use Rattle.bound_log.proofs.Parts.{all_behind, cut_at, found_within, not_cut}
 
 -- a list of parts has a last one
 pub some_part : (bytes : List ℕ) → 0 < length (parts_at 10 bytes)
@@ -33,9 +33,7 @@ at_feed : (bytes : List ℕ) (at : ℕ) → Some at ≡ position (λ b. b == 10)
 at_feed bytes at e = cut_at 10 bytes at e
 
 pub feed_within : (bytes : List ℕ) (at : ℕ) → Some at ≡ position (λ b. b == 10) bytes → at < length bytes
-feed_within bytes at e =
-    let found : (nat_lt (position_or_len (λ b. b == 10) bytes) (length bytes) ≡ true) × (position_or_len (λ b. b == 10) bytes ≡ at) = cond_some _ _ _ (sym e) in
-    omega (arith, found.1, ltb-true _ _ found.0)
+feed_within bytes at e = found_within 10 bytes at e
 
 pub no_line : (bytes : List ℕ) → None ≡ position (λ b. b == 10) bytes → lines_in bytes ≡ []
 unfolding lines_in

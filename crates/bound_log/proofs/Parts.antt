@@ -1,5 +1,5 @@
 -- The parts of a text, one after the other.
-use Rattle.std.specs.Prelude.{ℕ, ◌≡◌, ◌+◌, ◌-◌, ◌<◌, ◌≤◌, ◌==◌, nat_lt, true, List, [], ◌∷◌, ◌++◌, Some, None, length, map, take, drop, position}
+use Rattle.std.specs.Prelude.{ℕ, ◌≡◌, ◌+◌, ◌-◌, ◌<◌, ◌≤◌, ◌==◌, nat_lt, true, false, List, [], ◌∷◌, ◌++◌, Some, None, length, map, take, drop, position}
 use Rattle.std.proofs.Common.{refl, sym, ap, arith, ◌∙◌, inl, inr}
 use Rattle.std.specs.Borrow.{Bor}
 use Rattle.std.specs.List.{position_or_len}
@@ -22,6 +22,11 @@ pub cut_at : (c : ℕ) (text : List ℕ) (at : ℕ) → Some at ≡ position (λ
 cut_at c text at e =
     let found : (nat_lt (position_or_len (λ b. b == c) text) (length text) ≡ true) × (position_or_len (λ b. b == c) text ≡ at) = cond_some _ _ _ (sym e) in
     rw (sym found.1) (slice_split_first (λ b. b == c) text 0 (ltb-true _ _ found.0))
+
+pub found_within : (c : ℕ) (text : List ℕ) (at : ℕ) → Some at ≡ position (λ b. b == c) text → at < length text
+found_within c text at e =
+    let found : (nat_lt (position_or_len (λ b. b == c) text) (length text) ≡ true) × (position_or_len (λ b. b == c) text ≡ at) = cond_some _ _ _ (sym e) in
+    omega (arith, found.1, ltb-true _ _ found.0)
 
 pub all_behind : (text : List ℕ) (n : ℕ) → take (length text - n) (drop n text) ≡ drop n text
 all_behind text n = rw (sym (length-drop n text)) (take-length (drop n text))

@@ -1,4 +1,4 @@
-ghost use Rattle.std.specs.Prelude.{◌≡◌, ◌+◌, [], IfOk, length, map};
+ghost use Rattle.std.specs.Prelude.{◌≡◌, ◌≤◌, ◌+◌, [], IfOk, length, map};
 ghost use Rattle.row_state.specs.Start.{AreSomeKinds};
 ghost use Rattle.row_state.specs.Tests.{state_test};
 ghost use Rattle.bound_log.specs.Line.{column_in, counts_each, counts_in, entry_in, gaps_in, lemma_in, parts_at, state_in, step_in, words_in};

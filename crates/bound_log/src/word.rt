@@ -7,8 +7,10 @@ use cell_num::{MOST_COLUMNS, NetNo};
 use itoa::Buffer;
 use row_state::{Kind, Side};
 
+#[tactic(auto, using(crate::proofs::Parts::found_within))]
 pub(crate) fn find_byte(text: &[u8], byte: u8) -> Option<usize>
-    ensures { result ≡ position (λ b. b == byte) text.now }
+    ensures at { result ≡ position (λ b. b == byte) text.now }
+    ensures within { IfSome result (λ at. at < length text.now) }
 {
     text.iter().position(|b| *b == byte)
 }
@@ -46,10 +48,16 @@ pub(crate) fn is_word(word: &[u8], other: &[u8]) -> bool
 fn digit(word: &[u8]) -> Option<u32>
     ensures { IfSome result (λ n. word.now ≡ decimal n) }
 {
-    match word {
-        [byte] if b'0' <= *byte && *byte <= b'9' => Some(u32::from(*byte - b'0')),
-        _ => None,
+    let [byte] = word else {
+        return None;
+    };
+    if *byte < b'0' {
+        return None;
     }
+    if b'9' < *byte {
+        return None;
+    }
+    Some(u32::from(*byte - b'0'))
 }
 
 // The number of which the word is the decimal, of however many digits.
