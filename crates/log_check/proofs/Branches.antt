@@ -1,6 +1,6 @@
 -- All next columns of a list are all next columns.
-use Rattle.std.proofs.Common.{ℕ, ◌≡◌, ◌<◌, ◌≤◌, List, length, take, get_or, All, subst, sym, arith, take_all, ◌↔◌}
-use Rattle.std.proofs.lemmas.List.Elements.{All-contains, All-get_or}
+use Rattle.std.proofs.Common.{ℕ, ◌≡◌, ◌<◌, ◌≤◌, List, [], ◌∷◌, length, take, get_or, All, subst, sym, arith, take_all, ◌↔◌}
+use Rattle.std.proofs.lemmas.List.Elements.{All-cons, All-contains, All-get_or, All-head, All-nil, All-tail}
 use Rattle.std.proofs.Common.{inl, inr, ◌+◌, ◌∙◌}
 use Rattle.std.proofs.lemmas.Bool.{cases_lt}
 use Rattle.std.proofs.lemmas.List.{get_or_default}
@@ -8,25 +8,37 @@ use Rattle.cell_num.specs.declared.finger.Row.{Row}
 use Rattle.row_state.specs.declared.kind.Kinds.{Kinds}
 use Rattle.row_state.specs.declared.state.State.{State}
 use Rattle.row_state.specs.declared.step.Step.{Step}
+use Rattle.row_state.specs.declared.candidate.Candidate.{Candidate}
+use Rattle.row_state.specs.Candidates.{AreCandidates, IsCandidate, candidate_steps}
 use Rattle.row_state.specs.Completion.{cost_of}
 use Rattle.row_state.specs.Start.{AreSomeKinds, IsState}
-use Rattle.row_state.specs.Steps.{IsPossible, AreSuccessors, column_of, state_after}
+use Rattle.row_state.specs.Steps.{IsPossible, column_of, state_after}
 use Rattle.row_state.proofs.Calls.{valid_after}
+use Rattle.row_state.proofs.Digits.{among_candidates}
 use Rattle.bound_log.specs.declared.log.Rule.{Rule}
 use Rattle.bound_log.specs.declared.log.Rule.TheVariants as by
 use Rattle.bound_log.specs.declared.log.Lemma.{Lemma}
 use Rattle.log_check.specs.Accepted.{StepReaches, BranchReaches, RuleReaches, IsJustified, best_of}
 use Rattle.log_check.specs.Refusal.{IsFirstUnjustified}
 
-pub branch_all : (k : Kinds) (s : State) (steps : List Step) (best : State → ℕ) (bound : ℕ) → AreSuccessors k s steps → All (StepReaches k best s bound) steps → BranchReaches k best s bound
-branch_all k s steps best bound are all step possible = All-contains (StepReaches k best s bound) steps step all (are.all step possible)
+-- the column reaches the bound, if it may come next
+abbrev pub Passes : Kinds → (State → ℕ) → State → ℕ → Step → Type 0
+Passes k best s bound step = IsPossible k s step → StepReaches k best s bound step
 
-pub step_possible : (k : Kinds) (s : State) (steps : List Step) (i : ℕ) (d : Step) → AreSuccessors k s steps → i < length steps → IsPossible k s (get_or steps i d)
-step_possible k s steps i d are within = All-get_or (IsPossible k s) steps i d within are.possible
+pub branch_all : (k : Kinds) (s : State) (all : List Candidate) (best : State → ℕ) (bound : ℕ) → IsState k s → AreCandidates k all → All (λ (c : Candidate). Passes k best s bound c.step) all → BranchReaches k best s bound
+branch_all k s all best bound valid are each step possible =
+    All-contains (Passes k best s bound) (candidate_steps all) step (among_candidates k all s step are valid possible) (steps_of all each) possible
+  where
+    steps_of : (cs : List Candidate) → All (λ (c : Candidate). Passes k best s bound c.step) cs → All (Passes k best s bound) (candidate_steps cs)
+    steps_of [] h = All-nil (Passes k best s bound)
+    steps_of (c ∷ cs) h = All-cons (Passes k best s bound) c.step (candidate_steps cs) (All-head (λ (c : Candidate). Passes k best s bound c.step) c cs h) (steps_of cs (All-tail (λ (c : Candidate). Passes k best s bound c.step) c cs h))
 
-pub branch_end : (k : Kinds) (s : State) (steps items : List Step) (i : ℕ) (best : State → ℕ) (bound : ℕ) → AreSuccessors k s steps → items ≡ steps → length items ≤ i → All (StepReaches k best s bound) (take i items) → BranchReaches k best s bound
-branch_end k s steps items i best bound are same past all =
-    branch_all k s steps best bound are (subst (All (StepReaches k best s bound)) same (subst (All (StepReaches k best s bound)) (take_all i items past) all))
+pub candidate_is : (k : Kinds) (all : List Candidate) (i : ℕ) (d : Candidate) → AreCandidates k all → i < length all → IsCandidate k (get_or all i d)
+candidate_is k all i d are within = All-get_or (IsCandidate k) all i d within are.each
+
+pub branch_end : (k : Kinds) (s : State) (all items : List Candidate) (i : ℕ) (best : State → ℕ) (bound : ℕ) → IsState k s → AreCandidates k all → items ≡ all → length items ≤ i → All (λ (c : Candidate). Passes k best s bound c.step) (take i items) → BranchReaches k best s bound
+branch_end k s all items i best bound valid are same past each =
+    branch_all k s all best bound valid are (subst (All (λ (c : Candidate). Passes k best s bound c.step)) same (subst (All (λ (c : Candidate). Passes k best s bound c.step)) (take_all i items past) each))
 
 -- where two tell the same best bound of each valid state, they justify the same
 same_reach : (value : Row → State → Kinds → ℕ) (k : Kinds) (rule : Rule) (x : State) (bound : ℕ) (best other : State → ℕ) → AreSomeKinds k → IsState k x → ((s : State) → IsState k s → best s ≡ other s) → RuleReaches value k best rule x bound → RuleReaches value k other rule x bound
@@ -35,7 +47,7 @@ same_reach value k by.N x bound best other some state same h = h
 same_reach value k by.Branch x bound best other some state same h =
     (h.0, λ step possible. let r : bound ≤ cost_of x (column_of k step) + best (state_after k x step) = h.1 step possible in omega (arith, r, same (state_after k x step) (valid_after k x step some state possible)))
 
-same_best : (value : Row → State → Kinds → ℕ) (k : Kinds) (x : Lemma) (best other : State → ℕ) → AreSomeKinds k → ((s : State) → IsState k s → best s ≡ other s) → IsJustified value k best x → IsJustified value k other x
+pub same_best : (value : Row → State → Kinds → ℕ) (k : Kinds) (x : Lemma) (best other : State → ℕ) → AreSomeKinds k → ((s : State) → IsState k s → best s ≡ other s) → IsJustified value k best x → IsJustified value k other x
 same_best value k x best other some same h = record { state = h.state; reaches = same_reach value k x.rule x.state x.bound best other some h.state same h.reaches }
 
 -- the lemma at `at`, whatever list it is taken from

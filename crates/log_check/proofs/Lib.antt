@@ -1,4 +1,5 @@
 pub mod Branches
+pub mod Items
 pub mod Kept
 pub mod Places
 pub mod SameKinds

@@ -1,4 +1,5 @@
 pub mod Accepted
+pub mod Items
 pub mod Known
 pub mod Refusal
 pub mod Tests

@@ -1,90 +1,76 @@
-ghost use Rattle.std.specs.Prelude.{◌≡◌, ◌≢◌, ◌≤◌, ◌+◌, All, IfOk, IfErr, OnOk, List as Sequence, length};
+ghost use Rattle.std.specs.Prelude.{◌≡◌, ◌≢◌, ◌≤◌, ◌+◌, All, IfOk, IfErr, None, OnOk, ℕ, List as Sequence, length};
+ghost use Rattle.cell_num.specs.declared.finger.Row.{Row as RowOf};
 ghost use Rattle.cell_num.specs.Fingers.{AreFingers};
 ghost use Rattle.row_model.specs.declared.column.Column.{Column};
 ghost use Rattle.row_model.specs.Arrangement.{IsArrangement};
 ghost use Rattle.row_model.specs.Gaps.{gaps_of};
-ghost use Rattle.row_state.specs.Start.{AreKinds, AreSomeKinds, start_of};
-ghost use Rattle.log_check.specs.Accepted.{AreJustified, BestPasses, IsAccepted, IsTrueOf, Lists, WithKinds, best_of};
-ghost use Rattle.log_check.specs.Known.{Knows, best_known};
+ghost use Rattle.row_state.specs.declared.kind.Kinds.{Kinds as KindsOf};
+ghost use Rattle.row_state.specs.declared.state.State.{State as StateOf};
+ghost use Rattle.bound_log.specs.declared.log.Lemma.{Lemma as LemmaOf};
+ghost use Rattle.log_check.specs.Accepted.{IsAccepted, IsTrueOf, Lists, WithKinds};
+ghost use Rattle.log_check.specs.Items.{ForSeen, HasSeen, with_columns, with_lemmas};
 ghost use Rattle.log_check.specs.declared.refused.Refused.TheVariants as because;
-ghost use Rattle.log_check.specs.Refusal.{BestRefuses, LemmasRefuse, Proves, Refuses};
+ghost use Rattle.log_check.specs.Refusal.{Proves, Refuses};
 
-use crate::Refused;
-use crate::known::Known;
-use crate::lemma::is_justified;
-use crate::listed::check_row;
-use bound_log::{Best, Lemma, Log};
+use crate::{Refused, Seen};
+use bound_log::{Best, Lemma, Log, LogStep};
 use cell_num::{Fingers, MOST_BYTES, NoMemory};
-use row_state::{Kinds, RowBound, kinds, start};
+use row_state::RowBound;
 use std::alloc::Global;
 
-// The best bounds of the lemmas, or the line of the first one that those before it do not justify.
-fn check_lemmas<B: RowBound>(
-    alloc: Global,
-    kinds: &Kinds,
-    lemmas: &[Lemma],
-    bound: &B,
-) -> Result<Known, Refused>
-    requires kinds { AreSomeKinds kinds.now }
-    requires few { length lemmas.now ≤ MOST_BYTES }
-    ensures passes { IfOk result (λ known. AreJustified (B.value bound.now) kinds.now lemmas.now × Knows kinds.now known lemmas.now) }
-    ensures refuses { IfErr result (LemmasRefuse (B.value bound.now) kinds.now lemmas.now) }
+fn add_lemmas<B: RowBound>(seen: &mut Seen, bound: &B, lemmas: &[Lemma]) -> Result<(), NoMemory>
+    requires few { seen.old.lemmas + length lemmas.now ≤ MOST_BYTES }
+    ensures fingers { seen.new.fingers ≡ seen.old.fingers }
+    ensures seen { OnOk result (ForSeen (B.value bound.now) seen.old (λ log.
+        HasSeen (B.value bound.now) seen.new (with_lemmas log lemmas.now))) }
 {
-    let mut known = Known::new(alloc);
-    for at in 0..lemmas.len() {
-        let lemma = &lemmas[at];
-        if !is_justified(alloc, kinds, &known, lemma, bound)? {
-            return Err(Refused::Unproved {
-                line: at as u32 + 3,
-            });
-        }
-        known.note(kinds, &lemma.state, lemma.bound)?;
+    for lemma in lemmas {
+        seen.lemma(bound, lemma)?;
     }
-    Ok(known)
+    Ok(())
 }
 
-fn start_best(alloc: Global, kinds: &Kinds, known: &Known) -> Result<u32, NoMemory>
-    requires kinds { AreSomeKinds kinds.now }
-    ensures { IfOk result (λ best. best ≡ best_known known.now kinds.now (start_of kinds.now)) }
+fn add_columns(seen: &mut Seen, steps: &[LogStep]) -> Result<(), NoMemory>
+    ensures fingers { seen.new.fingers ≡ seen.old.fingers }
+    ensures seen { OnOk result ((value : RowOf → StateOf → KindsOf → ℕ) →
+        ForSeen value seen.old (λ log. HasSeen value seen.new (with_columns log steps.now))) }
 {
-    let first = start(alloc, kinds)?;
-    Ok(known.best(kinds, &first))
+    for step in steps {
+        seen.column(step)?;
+    }
+    Ok(())
 }
 
-fn check_best(
+fn add_row(seen: &mut Seen, row: &Option<Best>) -> Result<(), NoMemory>
+    ensures fingers { seen.new.fingers ≡ seen.old.fingers }
+    ensures seen { OnOk result ((value : RowOf → StateOf → KindsOf → ℕ) (lemmas : Sequence LemmaOf) →
+        HasSeen value seen.old (record { lemmas = lemmas; best = None }) →
+        HasSeen value seen.new (record { lemmas = lemmas; best = row.now })) }
+{
+    let Some(row) = row else {
+        return Ok(());
+    };
+    seen.gaps(row.gaps);
+    add_columns(seen, row.steps.as_slice())?;
+    Ok(())
+}
+
+// All items of the log.
+fn see_all<B: RowBound>(
     alloc: Global,
     fingers: &Fingers,
-    kinds: &Kinds,
-    listed: &Option<Best>,
-    best: u32,
-) -> Result<u32, Refused>
-    requires fingers { AreFingers fingers.now }
-    ensures passes { IfOk result (BestPasses kinds.now fingers.now best listed.now) }
-    ensures refuses { IfErr result (BestRefuses kinds.now fingers.now best listed.now) }
-{
-    match listed {
-        Some(row) => check_row(alloc, fingers, kinds, row, best),
-        None => Err(Refused::NoRow { best }),
-    }
-}
-
-fn check<B: RowBound>(
-    alloc: Global,
-    fingers: &Fingers,
-    kinds: &Kinds,
     log: &Log,
     bound: &B,
-) -> Result<u32, Refused>
+) -> Result<Seen, NoMemory>
     requires fingers { AreFingers fingers.now }
-    requires kinds { AreSomeKinds kinds.now }
     requires few { length log.now.lemmas ≤ MOST_BYTES }
-    ensures accepted { IfOk result (IsAccepted (B.value bound.now) kinds.now fingers.now log.now) }
-    ensures refused { IfErr result (Refuses (B.value bound.now) kinds.now fingers.now log.now) }
+    ensures fingers { IfOk result (λ c. c.fingers ≡ fingers.now) }
+    ensures seen { IfOk result (λ c. HasSeen (B.value bound.now) c log.now) }
 {
-    let lemmas = log.lemmas.as_slice();
-    let known = check_lemmas(alloc, kinds, lemmas, bound)?;
-    let best = start_best(alloc, kinds, &known)?;
-    check_best(alloc, fingers, kinds, &log.best, best)
+    let mut seen = Seen::new(alloc, fingers)?;
+    add_lemmas(&mut seen, bound, log.lemmas.as_slice())?;
+    add_row(&mut seen, &log.best)?;
+    Ok(seen)
 }
 
 /// The gaps of the row that the log certifies, where the log is accepted: no arrangement of the
@@ -104,6 +90,6 @@ pub fn check_log<B: RowBound>(
     ensures low { IfErr result (Proves (λ best. (other : Sequence Column) → IsArrangement other fingers.now → best ≤ gaps_of other)) }
     ensures lemmas { IfOk result (λ _. WithKinds fingers.now (λ k. All (IsTrueOf k) log.now.lemmas)) }
 {
-    let kinds = kinds(alloc, fingers)?;
-    check(alloc, fingers, &kinds, log, bound)
+    let seen = see_all(alloc, fingers, log, bound)?;
+    seen.finish(alloc, bound)
 }

@@ -1,67 +1,94 @@
 ghost use Rattle.std.specs.Prelude.{◌↔◌, IsTrue, IfOk};
+ghost use Rattle.row_state.specs.Candidates.{AreCandidates, IsCandidate, IsNumbered};
 ghost use Rattle.row_state.specs.Start.{AreSomeKinds, IsState};
 ghost use Rattle.row_state.specs.Steps.{IsPossible};
-ghost use Rattle.log_check.specs.Accepted.{StepReaches, BranchReaches, IsJustified};
+ghost use Rattle.log_check.specs.Accepted.{BranchReaches, IsJustified, StepReaches};
 ghost use Rattle.log_check.specs.Known.{best_known};
 
 use crate::Known;
 use bound_log::{Lemma, Rule};
 use cell_num::{NoMemory, Row};
-use row_state::{
-    Kinds, RowBound, State, Step, after, has_fingers, is_state, step_cost, successors,
-};
-use std::alloc::Global;
+use row_state::{Candidate, Candidates, Kinds, Numbered, RowBound, State, has_fingers, is_state};
 
 // Whether the column's cost and the best earlier bound behind it reach the bound.
-fn step_reaches(
-    alloc: Global,
-    kinds: &Kinds,
-    known: &Known,
-    state: &State,
-    bound: u32,
-    step: &Step,
-) -> Result<bool, NoMemory>
+fn step_reaches(kinds: &Kinds, known: &Known, from: &Numbered, next: &Candidate, bound: u32) -> bool
     requires kinds { AreSomeKinds kinds.now }
-    requires state { IsState kinds.now state.now }
-    requires step { IsPossible kinds.now state.now step.now }
-    ensures { IfOk result (λ yes. IsTrue yes ↔ StepReaches kinds.now (best_known known.now kinds.now) state.now bound step.now) }
+    requires numbered { IsNumbered kinds.now from.now }
+    requires next { IsCandidate kinds.now next.now }
+    requires step { IsPossible kinds.now from.now.state next.now.step }
+    ensures { IsTrue result ↔
+        StepReaches kinds.now (best_known known.now kinds.now) from.now.state bound next.now.step }
 {
-    let next = after(alloc, state, step, kinds)?;
-    let reached = u64::from(step_cost(state, step, kinds)) + u64::from(known.best(kinds, &next));
-    Ok(u64::from(bound) <= reached)
+    let behind = known.best_at(from.code_behind(kinds, next));
+    u64::from(bound) <= u64::from(from.cost(next)) + u64::from(behind)
 }
 
-#[tactic(auto, using(crate::proofs::Branches::branch_all, crate::proofs::Branches::step_possible))]
+// Whether the column reaches the bound, if it may come next.
+fn passes(kinds: &Kinds, known: &Known, from: &Numbered, next: &Candidate, bound: u32) -> bool
+    requires kinds { AreSomeKinds kinds.now }
+    requires numbered { IsNumbered kinds.now from.now }
+    requires next { IsCandidate kinds.now next.now }
+    ensures { IsTrue result ↔
+        (IsPossible kinds.now from.now.state next.now.step →
+        StepReaches kinds.now (best_known known.now kinds.now) from.now.state bound next.now.step) }
+{
+    if !from.allows(kinds, next) {
+        return true;
+    }
+    step_reaches(kinds, known, from, next, bound)
+}
+
+#[tactic(auto, using(crate::proofs::Branches::candidate_is))]
 fn branch_reaches(
-    alloc: Global,
     kinds: &Kinds,
     known: &Known,
-    state: &State,
+    candidates: &Candidates,
+    from: &Numbered,
     bound: u32,
-) -> Result<bool, NoMemory>
+) -> bool
     requires kinds { AreSomeKinds kinds.now }
-    requires state { IsState kinds.now state.now }
-    ensures { IfOk result (λ yes. IsTrue yes ↔ BranchReaches kinds.now (best_known known.now kinds.now) state.now bound) }
+    requires candidates { AreCandidates kinds.now candidates.now }
+    requires numbered { IsNumbered kinds.now from.now }
+    ensures { IsTrue result ↔
+        BranchReaches kinds.now (best_known known.now kinds.now) from.now.state bound }
 {
-    let steps = successors(alloc, state, kinds)?;
-    for step in steps.as_slice() {
-        if !step_reaches(alloc, kinds, known, state, bound, step)? {
-            return Ok(false);
+    for next in candidates.as_slice() {
+        if !passes(kinds, known, from, next, bound) {
+            return false;
         }
     }
-    Ok(true)
+    true
 }
 
-// Whether the bounds known justify the lemma.
-pub(crate) fn is_justified<B: RowBound>(
-    alloc: Global,
+fn branch_holds(
     kinds: &Kinds,
     known: &Known,
+    candidates: &Candidates,
+    state: &State,
+    bound: u32,
+) -> Result<bool, NoMemory>
+    requires kinds { AreSomeKinds kinds.now }
+    requires candidates { AreCandidates kinds.now candidates.now }
+    requires state { IsState kinds.now state.now }
+    ensures { IfOk result (λ yes. IsTrue yes ↔
+        BranchReaches kinds.now (best_known known.now kinds.now) state.now bound) }
+{
+    let from = Numbered::new(state.clone()?, kinds);
+    Ok(branch_reaches(kinds, known, candidates, &from, bound))
+}
+
+// Whether the bounds known justify the lemma, where all columns that may ever come next are listed.
+pub(crate) fn is_justified<B: RowBound>(
+    kinds: &Kinds,
+    known: &Known,
+    candidates: &Candidates,
     lemma: &Lemma,
     bound: &B,
 ) -> Result<bool, NoMemory>
     requires kinds { AreSomeKinds kinds.now }
-    ensures { IfOk result (λ yes. IsTrue yes ↔ IsJustified (B.value bound.now) kinds.now (best_known known.now kinds.now) lemma.now) }
+    requires candidates { AreCandidates kinds.now candidates.now }
+    ensures { IfOk result (λ yes. IsTrue yes ↔
+        IsJustified (B.value bound.now) kinds.now (best_known known.now kinds.now) lemma.now) }
 {
     if !is_state(&lemma.state, kinds) {
         return Ok(false);
@@ -71,7 +98,7 @@ pub(crate) fn is_justified<B: RowBound>(
         Rule::N => Ok(lemma.bound <= bound.bound(Row::N, &lemma.state, kinds)),
         Rule::Branch => {
             if has_fingers(&lemma.state) {
-                branch_reaches(alloc, kinds, known, &lemma.state, lemma.bound)
+                branch_holds(kinds, known, candidates, &lemma.state, lemma.bound)
             } else {
                 Ok(false)
             }

@@ -2,11 +2,18 @@
 #![tactic(auto)]
 
 mod check;
+mod checker;
 mod known;
 mod lemma;
 mod listed;
 mod refused;
+mod seen;
 
 pub use check::check_log;
+pub use checker::Checker;
 pub use known::Known;
 pub use refused::Refused;
+pub use seen::Seen;
+
+#[cfg(test)]
+mod tests;

@@ -1,0 +1,13 @@
+use Rattle.std.proofs.Common.{rules, subst, ◌∙◌}
+use Rattle.bound_log.specs.declared.log.Log.{Log}
+use Rattle.log_check.specs.Items.{HasSeen, with_lemmas}
+use Rattle.log_check.proofs.Items.{lemmas_again}
+use Rattle.log_check.proofs.check.add_lemmas.Goals as goal
+
+pub loop-lemma-preserved : goal.loop-lemma-preserved
+loop-lemma-preserved g c = (
+  λ log seen. subst (λ (l : Log). HasSeen (g.B.RowBound.value c.args.bound.now) c.lemma.new.self l) (lemmas_again log c.args.lemmas.now c.loop-lemma.lemma-index c.lemma-item.result c.lemma-item.is c.loop-lemma-test.true)
+      (c.in_ok-lemma.ensures.seen _ (c.loop-lemma.invariant.0 log seen)),
+  search rules,
+  c.in_ok-lemma.ensures.fingers ∙ c.loop-lemma.invariant.2,
+)

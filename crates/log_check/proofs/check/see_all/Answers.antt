@@ -1,0 +1,10 @@
+use Rattle.std.proofs.Common.{List, subst, None}
+use Rattle.bound_log.specs.declared.log.Lemma.{Lemma}
+use Rattle.log_check.specs.Items.{HasSeen, empty_log}
+use Rattle.log_check.proofs.check.see_all.Goals as goal
+
+pub returns-clause-seen : goal.returns-clause-seen
+returns-clause-seen g c =
+    c.in_ok-add_row.ensures.seen (g.B.RowBound.value c.args.bound.now) c.args.log.now.lemmas
+    (subst (λ (lemmas : List Lemma). HasSeen (g.B.RowBound.value c.args.bound.now) c.add_lemmas.new.seen (record { lemmas = lemmas; best = None })) c.as_slice.ensures
+    (c.in_ok-add_lemmas.ensures.seen empty_log (c.in_ok-seen.ensures.seen (g.B.RowBound.value c.args.bound.now))))

@@ -1,0 +1,101 @@
+ghost use Rattle.std.specs.Prelude.{◌≡◌, ◌≢◌, ◌≤◌, ◌<◌, ◌+◌, ◌∷◌, [], All, IfErr, IfOk, List as Sequence, OnErr, OnOk};
+ghost use Rattle.cell_num.specs.Fingers.{AreFingers};
+ghost use Rattle.row_model.specs.declared.column.Column.{Column};
+ghost use Rattle.row_model.specs.Arrangement.{IsArrangement};
+ghost use Rattle.row_model.specs.Gaps.{gaps_of};
+ghost use Rattle.log_check.specs.Accepted.{IsAccepted, IsTrueOf, Lists, WithKinds};
+ghost use Rattle.log_check.specs.Items.{ForSeen, HasSeen, empty_log, with_columns, with_gaps, with_lemmas};
+ghost use Rattle.log_check.specs.declared.refused.Refused.TheVariants as because;
+ghost use Rattle.log_check.specs.Refusal.{Proves, Refuses};
+
+use crate::{Refused, Seen};
+use bound_log::{Lemma, LogStep};
+use cell_num::{Fingers, MOST_BYTES, NoMemory};
+use row_state::RowBound;
+use std::alloc::Global;
+
+/// A log checked item by item, in the order of its lines: each lemma, then the gaps said and each column.
+#[derive(Drop)]
+pub struct Checker<B: RowBound + Drop> {
+    seen: Seen,
+    bound: B,
+}
+
+impl<B: RowBound + Drop> Checker<B> {
+    /// A checker of logs for the fingers, before the first item.
+    pub fn new(alloc: Global, fingers: &Fingers, bound: B) -> Result<Checker<B>, NoMemory>
+        requires fingers { AreFingers fingers.now }
+        ensures fingers { IfOk result (λ c. c.seen.fingers ≡ fingers.now) }
+        ensures bound { IfOk result (λ c. c.bound ≡ bound) }
+        ensures count { IfOk result (λ c. c.seen.lemmas ≡ 0) }
+        ensures seen { IfOk result (λ c. HasSeen (B.value bound) c.seen empty_log) }
+    {
+        Ok(Checker {
+            seen: Seen::new(alloc, fingers)?,
+            bound,
+        })
+    }
+
+    /// One lemma more; at most [`MOST_BYTES`] in all. After NoMemory the items are those before.
+    pub fn lemma(&mut self, lemma: &Lemma) -> Result<(), NoMemory>
+        requires few { self.old.seen.lemmas < MOST_BYTES }
+        ensures fingers { self.new.seen.fingers ≡ self.old.seen.fingers }
+        ensures bound { self.new.bound ≡ self.old.bound }
+        ensures count { OnOk result (self.new.seen.lemmas ≡ self.old.seen.lemmas + 1) }
+        ensures seen { OnOk result (ForSeen (B.value self.old.bound) self.old.seen (λ log.
+            HasSeen (B.value self.old.bound) self.new.seen (with_lemmas log (lemma.now ∷ [])))) }
+        ensures unchanged { OnErr result (ForSeen (B.value self.old.bound) self.old.seen
+            (HasSeen (B.value self.old.bound) self.new.seen)) }
+    {
+        self.seen.lemma(&self.bound, lemma)?;
+        Ok(())
+    }
+
+    /// The gaps that the log says of the row whose columns follow.
+    pub fn gaps(&mut self, said: u32)
+        ensures fingers { self.new.seen.fingers ≡ self.old.seen.fingers }
+        ensures bound { self.new.bound ≡ self.old.bound }
+        ensures count { self.new.seen.lemmas ≡ self.old.seen.lemmas }
+        ensures seen { ForSeen (B.value self.old.bound) self.old.seen (λ log.
+            HasSeen (B.value self.old.bound) self.new.seen (with_gaps log said)) }
+    {
+        self.seen.gaps(said);
+    }
+
+    /// One column more of the row whose gaps were said; where none were, it counts for nothing. After
+    /// NoMemory the checker is as before.
+    pub fn column(&mut self, step: &LogStep) -> Result<(), NoMemory>
+        ensures fingers { self.new.seen.fingers ≡ self.old.seen.fingers }
+        ensures bound { self.new.bound ≡ self.old.bound }
+        ensures count { self.new.seen.lemmas ≡ self.old.seen.lemmas }
+        ensures seen { OnOk result (ForSeen (B.value self.old.bound) self.old.seen (λ log.
+            HasSeen (B.value self.old.bound) self.new.seen (with_columns log (step.now ∷ [])))) }
+        ensures unchanged { OnErr result (self.new ≡ self.old) }
+    {
+        self.seen.column(step)?;
+        Ok(())
+    }
+
+    /// The gaps of the row that the log certifies, where the log of the items is accepted: no arrangement
+    /// of the fingers has fewer. Else the first cause to refuse it.
+    pub fn finish(&self, alloc: Global) -> Result<u32, Refused>
+        ensures accepted { IfOk result (λ gaps. ForSeen (B.value self.now.bound) self.now.seen (λ log.
+            WithKinds self.now.seen.fingers (λ k.
+            IsAccepted (B.value self.now.bound) k self.now.seen.fingers log gaps))) }
+        ensures refused { IfErr result (λ fault. fault ≢ because.NoMemory →
+            ForSeen (B.value self.now.bound) self.now.seen (λ log. WithKinds self.now.seen.fingers (λ k.
+            Refuses (B.value self.now.bound) k self.now.seen.fingers log fault))) }
+        ensures arranges { IfOk result (λ gaps. ForSeen (B.value self.now.bound) self.now.seen (λ log.
+            WithKinds self.now.seen.fingers (λ k.
+            Lists k log.best (λ row. IsArrangement row self.now.seen.fingers × (gaps ≡ gaps_of row))))) }
+        ensures least { IfOk result (λ gaps. ForSeen (B.value self.now.bound) self.now.seen (λ log.
+            (other : Sequence Column) → IsArrangement other self.now.seen.fingers → gaps ≤ gaps_of other)) }
+        ensures low { IfErr result (λ fault. ForSeen (B.value self.now.bound) self.now.seen (λ log.
+            Proves (λ best. (other : Sequence Column) →
+            IsArrangement other self.now.seen.fingers → best ≤ gaps_of other) fault)) }
+        ensures lemmas { IfOk result (λ _. ForSeen (B.value self.now.bound) self.now.seen (λ log.
+            WithKinds self.now.seen.fingers (λ k. All (IsTrueOf k) log.lemmas))) }
+    {
+        self.seen.finish(alloc, &self.bound)
+    }
+}
