@@ -27,11 +27,14 @@ Passes k best s bound step = IsPossible k s step → StepReaches k best s bound 
 
 pub branch_all : (k : Kinds) (s : State) (all : List Candidate) (best : State → ℕ) (bound : ℕ) → IsState k s → AreCandidates k all → All (λ (c : Candidate). Passes k best s bound c.step) all → BranchReaches k best s bound
 branch_all k s all best bound valid are each step possible =
-    All-contains (Passes k best s bound) (candidate_steps all) step (among_candidates k all s step are valid possible) (steps_of all each) possible
+    All-contains (Passes k best s bound) (candidate_steps all) step (steps_of all each) (among_candidates k all s step are valid possible) possible
   where
     steps_of : (cs : List Candidate) → All (λ (c : Candidate). Passes k best s bound c.step) cs → All (Passes k best s bound) (candidate_steps cs)
     steps_of [] h = All-nil (Passes k best s bound)
     steps_of (c ∷ cs) h = All-cons (Passes k best s bound) c.step (candidate_steps cs) (All-head (λ (c : Candidate). Passes k best s bound c.step) c cs h) (steps_of cs (All-tail (λ (c : Candidate). Passes k best s bound c.step) c cs h))
+
+pub same_valid : (k : Kinds) (a b : State) → a ≡ b → IsState k b → IsState k a
+same_valid k a b same valid = subst (IsState k) (sym same) valid
 
 pub candidate_is : (k : Kinds) (all : List Candidate) (i : ℕ) (d : Candidate) → AreCandidates k all → i < length all → IsCandidate k (get_or all i d)
 candidate_is k all i d are within = All-get_or (IsCandidate k) all i d within are.each

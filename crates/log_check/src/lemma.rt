@@ -1,4 +1,4 @@
-ghost use Rattle.std.specs.Prelude.{◌↔◌, IsTrue, IfOk};
+ghost use Rattle.std.specs.Prelude.{◌≡◌, ◌↔◌, IsTrue, IfOk};
 ghost use Rattle.row_state.specs.Candidates.{AreCandidates, IsCandidate, IsNumbered};
 ghost use Rattle.row_state.specs.Start.{AreSomeKinds, IsState};
 ghost use Rattle.row_state.specs.Steps.{IsPossible};
@@ -60,6 +60,13 @@ fn branch_reaches(
     true
 }
 
+fn copied(state: &State) -> Result<State, NoMemory>
+    ensures { IfOk result (λ copy. copy ≡ state.now) }
+{
+    Ok(state.clone()?)
+}
+
+#[tactic(auto, using(crate::proofs::Branches::same_valid))]
 fn branch_holds(
     kinds: &Kinds,
     known: &Known,
@@ -73,7 +80,8 @@ fn branch_holds(
     ensures { IfOk result (λ yes. IsTrue yes ↔
         BranchReaches kinds.now (best_known known.now kinds.now) state.now bound) }
 {
-    let from = Numbered::new(state.clone()?, kinds);
+    let own = copied(state)?;
+    let from = Numbered::new(own, kinds);
     Ok(branch_reaches(kinds, known, candidates, &from, bound))
 }
 
