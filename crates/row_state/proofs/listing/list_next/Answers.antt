@@ -2,7 +2,7 @@ use Rattle.std.proofs.Common.{◌+◌, ◌++◌, ◌∙◌, ap, subst, sym}
 use Rattle.row_state.specs.Runs.{GatesFrom}
 use Rattle.row_state.specs.Tests.{columns_on, joined_below}
 use Rattle.row_state.proofs.Sides.{joined_more}
-use Rattle.row_state.proofs.step.list_next.Goals as goal
+use Rattle.row_state.proofs.listing.list_next.Goals as goal
 
 pub loop-gate-preserved : goal.loop-gate-preserved
 loop-gate-preserved c = (

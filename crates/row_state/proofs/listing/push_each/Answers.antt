@@ -3,7 +3,7 @@ use Rattle.std.proofs.lemmas.List.{map-append}
 use Rattle.row_state.specs.declared.kind.Kind.{Kind}
 use Rattle.row_state.specs.Tests.{with_each}
 use Rattle.row_state.proofs.Sides.{given_all, given_more, given_none}
-use Rattle.row_state.proofs.step.push_each.Goals as goal
+use Rattle.row_state.proofs.listing.push_each.Goals as goal
 
 pub loop-at-init : goal.loop-at-init
 loop-at-init c = given_none (with_each c.args.p) c.args.steps.now c.args.kinds.now c.args.left.now c.args.gate c.args.run.from refl c.requires.run.begins

@@ -1,7 +1,7 @@
 use Rattle.std.proofs.Common.{◌≡◌}
 use Rattle.row_state.specs.Runs.{GatesFrom}
 use Rattle.row_state.specs.Tests.{columns_on, joined_below}
-use Rattle.row_state.proofs.step.list_next.Given as goal
+use Rattle.row_state.proofs.listing.list_next.Given as goal
 
 abbrev pub invariant-loop-gate : goal.invariant-loop-gate
 invariant-loop-gate l =

@@ -6,7 +6,7 @@ use Rattle.row_state.specs.declared.step.Side.{Side}
 use Rattle.row_state.specs.declared.step.Step.{Step}
 use Rattle.row_state.specs.Tests.{sides_on, with_side}
 use Rattle.row_state.proofs.Sides.{given_all, given_more, given_none}
-use Rattle.row_state.proofs.step.push_filled.Goals as goal
+use Rattle.row_state.proofs.listing.push_filled.Goals as goal
 
 pub loop-at-init : goal.loop-at-init
 loop-at-init c =
