@@ -1,7 +1,6 @@
 -- How long the lines are.
 use Rattle.std.specs.Prelude.{ℕ, ◌≡◌, ◌+◌, ◌*◌, ◌<◌, ◌≤◌, Bool, true, false, List, [], ◌∷◌, ◌++◌, Option, Some, None, All, IfSome, length, codes, decimal}
 use Rattle.std.proofs.Common.{ap, arith}
-use Rattle.std.specs.List.{flat_map}
 use Rattle.std.proofs.lemmas.Fmt.{length-decimal-le}
 use Rattle.std.proofs.lemmas.List.{length-append}
 use Rattle.std.proofs.lemmas.List.Elements.{All-head, All-tail}
@@ -14,7 +13,7 @@ use Rattle.bound_log.specs.declared.log.Rule.TheVariants as by
 use Rattle.bound_log.specs.declared.log.Lemma.{Lemma}
 use Rattle.bound_log.specs.declared.log.LogStep.{LogStep}
 use Rattle.bound_log.specs.Fits.{ForSome, IsLogName, LemmaFits, SideFits, StepFits}
-use Rattle.bound_log.specs.Text.{column_line, counts_text, end_text, flip_text, gaps_line, head_lines, lemma_line, rule_text, side_text}
+use Rattle.bound_log.specs.Text.{column_line, counts_text, end_text, flip_text, gaps_line, head_lines, lemma_line, more_counts_text, rule_text, side_text}
 use Rattle.bound_log.proofs.Again.{few_counts, few_each}
 use Rattle.bound_log.proofs.Texts.{joined_apart}
 
@@ -27,22 +26,22 @@ two_digits n h = length-decimal-le 2 n (omega arith) (omega (arith, h)) (omega (
 three_digits : (n : ℕ) → n < 1000 → length (decimal n) ≤ 3
 three_digits n h = length-decimal-le 3 n (omega arith) (omega (arith, h)) (omega (arith, h))
 
-more_counts : (counts : List ℕ) → All (λ (c : ℕ). c ≤ 64) counts → length (flat_map (λ count. 44 ∷ decimal count) counts) ≤ 3 * length counts
+more_counts : (counts : List ℕ) → All (λ (c : ℕ). c ≤ 64) counts → length (more_counts_text counts) ≤ 3 * length counts
 more_counts [] h = omega arith
 more_counts (c ∷ cs) h =
     let few : c ≤ 64 = All-head (λ (c : ℕ). c ≤ 64) c cs h in
-    let rest : length (flat_map (λ count. 44 ∷ decimal count) cs) ≤ 3 * length cs = more_counts cs (All-tail (λ (c : ℕ). c ≤ 64) c cs h) in
+    let rest : length (more_counts_text cs) ≤ 3 * length cs = more_counts cs (All-tail (λ (c : ℕ). c ≤ 64) c cs h) in
     let first : length (decimal c) ≤ 2 = two_digits c (omega (arith, few)) in
-    omega (arith, first, rest, length-append (44 ∷ decimal c) (flat_map (λ count. 44 ∷ decimal count) cs))
+    omega (arith, first, rest, length-append (44 ∷ decimal c) (more_counts_text cs))
 
 counts_short : (counts : List ℕ) → All (λ (c : ℕ). c ≤ 64) counts → length counts ≤ 32 → length (counts_text counts) ≤ 96
 counts_short [] h few = omega arith
 counts_short (c ∷ cs) h few =
     let most : c ≤ 64 = All-head (λ (c : ℕ). c ≤ 64) c cs h in
     let first : length (decimal c) ≤ 2 = two_digits c (omega (arith, most)) in
-    let rest : length (flat_map (λ count. 44 ∷ decimal count) cs) ≤ 3 * length cs = more_counts cs (All-tail (λ (c : ℕ). c ≤ 64) c cs h) in
-    let apart : length (counts_text (c ∷ cs)) ≡ length (decimal c ++ flat_map (λ count. 44 ∷ decimal count) cs) = ap length (joined_apart c cs) in
-    omega (arith, apart, first, rest, few, length-append (decimal c) (flat_map (λ count. 44 ∷ decimal count) cs))
+    let rest : length (more_counts_text cs) ≤ 3 * length cs = more_counts cs (All-tail (λ (c : ℕ). c ≤ 64) c cs h) in
+    let apart : length (counts_text (c ∷ cs)) ≡ length (decimal c ++ more_counts_text cs) = ap length (joined_apart c cs) in
+    omega (arith, apart, first, rest, few, length-append (decimal c) (more_counts_text cs))
 
 end_short : (nets : ℕ) (end : Option NetNo) → nets ≤ 256 → IfSome end (λ v. v.0 < nets) → length (end_text end) ≤ 3
 end_short nets None few h = omega arith

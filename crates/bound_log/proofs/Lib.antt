@@ -8,6 +8,7 @@ pub mod Lengths
 pub mod Names
 pub mod Numbers
 pub mod Only
+pub mod Parts
 pub mod Pieces
 pub mod Spelled
 pub mod Splits

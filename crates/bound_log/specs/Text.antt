@@ -20,6 +20,10 @@ abbrev pub counts_text : List ℕ → List ℕ
 counts_text [] = codes "-"
 counts_text (c ∷ cs) = join_with_byte 44 (map decimal (c ∷ cs))
 
+-- further counts, each behind its comma
+abbrev pub more_counts_text : List ℕ → List ℕ
+more_counts_text counts = flat_map (λ count. 44 ∷ decimal count) counts
+
 abbrev pub end_text : Option NetNo → List ℕ
 end_text None = codes "-"
 end_text (Some net) = decimal net.0

@@ -36,8 +36,10 @@ fn entry_item(entry: Option<Entry>, fault: LogFault) -> Result<LogItem, LogFault
 
 fn say_entry(alloc: Global, kinds: &Kinds, number: u32, line: &[u8]) -> Result<LogItem, LogFault>
     requires { AreSomeKinds kinds.now }
-    ensures item { IfOk result (λ item. entry_says (entry_in kinds.now (words_in line.now)) (fault.Line number) ≡ Ok item) }
-    ensures fault { IfErr result (λ f. f ≢ fault.NoMemory → entry_says (entry_in kinds.now (words_in line.now)) (fault.Line number) ≡ Err f) }
+    ensures item { IfOk result (λ item.
+        entry_says (entry_in kinds.now (words_in line.now)) (fault.Line number) ≡ Ok item) }
+    ensures fault { IfErr result (λ f. f ≢ fault.NoMemory →
+        entry_says (entry_in kinds.now (words_in line.now)) (fault.Line number) ≡ Err f) }
 {
     let entry = read_entry(alloc, kinds, line)?;
     entry_item(entry, LogFault::Line { line: number })
@@ -52,16 +54,14 @@ fn column_item(column: Option<LogStep>, fault: LogFault) -> Result<LogItem, LogF
     }
 }
 
-fn say_column(alloc: Global, kinds: &Kinds, number: u32, line: &[u8]) -> Result<LogItem, LogFault>
+fn say_column(kinds: &Kinds, number: u32, line: &[u8]) -> Result<LogItem, LogFault>
     requires { AreSomeKinds kinds.now }
-    ensures item { IfOk result (λ item. columns_say kinds.now number line.now ≡ Ok item) }
-    ensures fault { IfErr result (λ f. f ≢ fault.NoMemory → columns_say kinds.now number line.now ≡ Err f) }
+    ensures { result ≡ columns_say kinds.now number line.now }
 {
     if is_word(line, b"end") {
         return Ok(LogItem::End);
     }
-    let column = read_column(alloc, kinds, line)?;
-    column_item(column, LogFault::Line { line: number })
+    column_item(read_column(kinds, line), LogFault::Line { line: number })
 }
 
 fn say_line(
@@ -74,7 +74,8 @@ fn say_line(
 ) -> Result<LogItem, LogFault>
     requires { AreSomeKinds kinds.now }
     ensures item { IfOk result (λ item. line_says name.now kinds.now place number line.now ≡ Ok item) }
-    ensures fault { IfErr result (λ f. f ≢ fault.NoMemory → line_says name.now kinds.now place number line.now ≡ Err f) }
+    ensures fault { IfErr result (λ f. f ≢ fault.NoMemory →
+        line_says name.now kinds.now place number line.now ≡ Err f) }
 {
     match place {
         LogPlace::Version => item_if(
@@ -84,7 +85,7 @@ fn say_line(
         ),
         LogPlace::Cell => item_if(is_named(line, name), LogItem::Head, LogFault::Cell),
         LogPlace::Lemmas => say_entry(alloc, kinds, number, line),
-        LogPlace::Columns => say_column(alloc, kinds, number, line),
+        LogPlace::Columns => say_column(kinds, number, line),
         LogPlace::End => item_if(
             is_word(line, b"end"),
             LogItem::End,
@@ -280,11 +281,13 @@ impl LogReader {
         requires some { 0 < length part.now }
         requires few { self.old.number + length part.now ≤ MOST_BYTES + 1 }
         ensures used { IfOk result (λ took. took.0 ≡ line_bytes part.now) }
-        ensures item { IfOk result (λ took. tale_of self.old (take took.0 part.now) ≡ record { items = told took.1; reader = self.new }) }
+        ensures item { IfOk result (λ took.
+            tale_of self.old (take took.0 part.now) ≡ record { items = told took.1; reader = self.new }) }
         ensures sound { OnOk result (self.new.fault ≡ None) }
         ensures few { IfOk result (λ took. self.new.number ≤ self.old.number + took.0) }
         ensures within { IfOk result (λ took. (0 < took.0) × (took.0 ≤ length part.now)) }
-        ensures fault { IfErr result (λ f. f ≢ fault.NoMemory → (tale_of self.old (take (line_bytes part.now) part.now)).reader ≡ self.new) }
+        ensures fault { IfErr result (λ f. f ≢ fault.NoMemory →
+            (tale_of self.old (take (line_bytes part.now) part.now)).reader ≡ self.new) }
         ensures told { IfErr result (λ f. f ≢ fault.NoMemory → self.new.fault ≡ Some f) }
         ensures memory { IfErr result (λ f. f ≡ fault.NoMemory → self.new ≡ self.old) }
     {

@@ -1,6 +1,5 @@
-ghost use Rattle.std.specs.Prelude.{◌≡◌, ◌≤◌, ◌<◌, ◌+◌, ◌++◌, ◌∷◌, OnErr, OnOk, decimal, length};
-ghost use Rattle.std.specs.List.{flat_map};
-ghost use Rattle.bound_log.specs.Text.{column_line, counts_text, end_text, flip_text, gaps_line, head_lines, lemma_line, rule_text, side_text};
+ghost use Rattle.std.specs.Prelude.{◌≡◌, ◌≤◌, ◌<◌, ◌+◌, ◌++◌, OnErr, OnOk, decimal, length};
+ghost use Rattle.bound_log.specs.Text.{column_line, counts_text, end_text, flip_text, gaps_line, head_lines, lemma_line, more_counts_text, rule_text, side_text};
 
 use crate::out::Out;
 use crate::{Lemma, LogStep, Rule};
@@ -27,9 +26,9 @@ fn rule_word(rule: Rule) -> &'static [u8]
 }
 
 fn put_more_counts<O: Out>(out: &mut O, counts: &[u32]) -> Result<(), NoMemory>
-    ensures text { OnOk result (O.text out.new ≡ O.text out.old ++ flat_map (λ count. 44 ∷ decimal count) counts.now) }
-    ensures left { OnOk result (O.room out.old ≤ O.room out.new + length (flat_map (λ count. 44 ∷ decimal count) counts.now)) }
-    ensures full { OnErr result (O.room out.old < length (flat_map (λ count. 44 ∷ decimal count) counts.now)) }
+    ensures text { OnOk result (O.text out.new ≡ O.text out.old ++ more_counts_text counts.now) }
+    ensures left { OnOk result (O.room out.old ≤ O.room out.new + length (more_counts_text counts.now)) }
+    ensures full { OnErr result (O.room out.old < length (more_counts_text counts.now)) }
 {
     for count in counts {
         out.put(b",")?;

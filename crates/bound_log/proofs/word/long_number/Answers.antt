@@ -4,7 +4,7 @@ use Rattle.std.specs.Prelude.{decimal}
 use Rattle.std.proofs.lemmas.Str.{IsUtf8-from_ascii}
 use Rattle.std.proofs.lemmas.Fmt.{parse-decimal, IsAscii-decimal}
 use Rattle.std.proofs.lemmas.Grind.{common_steps}
-use Rattle.bound_log.proofs.word.number.Goals as goal
+use Rattle.bound_log.proofs.word.long_number.Goals as goal
 
 not_both : {A E : Type 0} (r : Result A E) (n : A) (f : E) → r ≡ Ok n → r ≡ Err f → ⊥
 not_both r n f e k = absurd cc
