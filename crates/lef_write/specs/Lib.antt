@@ -1,0 +1,2 @@
+pub mod Lef
+pub mod Ports

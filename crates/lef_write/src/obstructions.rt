@@ -1,0 +1,40 @@
+// The obstructions of a macro.
+ghost use Rattle.std.specs.Prelude.{◌≡◌, ◌++◌, OnOk};
+ghost use Rattle.lef_write.specs.Lef.{layer_text, obstructions_text};
+
+use crate::shapes::put_rects;
+use box_geom::Shape;
+use cell_num::{Bytes, NoMemory};
+
+fn put_layer(
+    out: &mut Bytes,
+    layer: &[u8],
+    shapes: &[Shape],
+    unit_nm: u32,
+) -> Result<(), NoMemory>
+    ensures { OnOk result (out.new ≡ out.old ++ layer_text layer.now unit_nm shapes.now) }
+{
+    if shapes.is_empty() {
+        return Ok(());
+    }
+    out.extend(layer)?;
+    put_rects(out, b"    ", shapes, unit_nm)
+}
+
+/// Adds the obstructions, where there are any.
+pub fn put_obstructions(
+    out: &mut Bytes,
+    metal1: &[Shape],
+    metal2: &[Shape],
+    unit_nm: u32,
+) -> Result<(), NoMemory>
+    ensures { OnOk result (out.new ≡ out.old ++ obstructions_text unit_nm metal1.now metal2.now) }
+{
+    if metal1.is_empty() && metal2.is_empty() {
+        return Ok(());
+    }
+    out.extend(b"  OBS\n")?;
+    put_layer(out, b"    LAYER metal1 ;\n", metal1, unit_nm)?;
+    put_layer(out, b"    LAYER metal2 ;\n", metal2, unit_nm)?;
+    out.extend(b"  END\n")
+}
