@@ -22,6 +22,7 @@ use Rattle.spice_net.specs.declared.subckt.Subckt.{Subckt}
 use Rattle.spice_net.specs.Transistors.{Transistor}
 use Rattle.spice_net.specs.Chosen.{has_name, is_global, chosen_in, without_comments, lines_in}
 use Rattle.spice_net.specs.Transistors.{is_rail, other_rail, transistors_of}
+use Rattle.spice_net.specs.Directions.{direction_of}
 use Rattle.spice_net.specs.Nets.{distinct, named_nets, nets_of, number_of, net_of, device_of}
 use Rattle.cell_num.specs.Steps.{require}
 use Rattle.spice_net.specs.Subcircuit.{pins_of, with_rail, with_rails, idle_pin, none_idle, few_enough, subckt_with, subckt_of, subckt_in, subcircuit}
@@ -300,3 +301,9 @@ pub few_devices : (bytes name : List ℕ) (tech : Technology) (cell : Subckt) �
 few_devices bytes name tech cell e =
     let read = is_read bytes name tech cell e in
     subst (λ (c : Subckt). length c.devices ≤ 128) read.3.made (omega (arith, read.3.accepted.few_devices, length-map read.2 (device_of (nets_of read.1 read.2))))
+
+-- each pin has a direction
+pub all_directed : (bytes name : List ℕ) (tech : Technology) (cell : Subckt) → subcircuit bytes name tech ≡ Ok cell → length cell.directions ≡ cell.pins.pins
+all_directed bytes name tech cell e =
+    let read = is_read bytes name tech cell e in
+    subst (λ (c : Subckt). length c.directions ≡ c.pins.pins) read.3.made (length-map read.1 (direction_of tech read.0 read.2))

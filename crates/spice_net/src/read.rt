@@ -186,7 +186,7 @@ fn read_text(alloc: Global, bytes: &[u8], name: &Name, tech: &Tech) -> Result<Su
 }
 
 /// Reads the subcircuit of a name, given in lower case, from a SPICE file of at most a gibibyte.
-#[tactic(auto, using(crate::proofs::Sound::sound, crate::proofs::Sound::pins, crate::proofs::Sound::few_pins, crate::proofs::Sound::few_devices, crate::proofs::Told::never_subcircuit))]
+#[tactic(auto, using(crate::proofs::Sound::sound, crate::proofs::Sound::pins, crate::proofs::Sound::few_pins, crate::proofs::Sound::few_devices, crate::proofs::Sound::all_directed, crate::proofs::Told::never_subcircuit))]
 pub fn read_cell(
     alloc: Global,
     bytes: &[u8],
@@ -206,6 +206,7 @@ pub fn read_cell(
     ensures pins { IfOk result (λ cell. ArePins (length cell.nets) cell.pins) }
     ensures few_pins { IfOk result (λ cell. cell.pins.pins ≤ 64) }
     ensures few_devices { IfOk result (λ cell. length cell.devices ≤ 128) }
+    ensures directions { IfOk result (λ cell. length cell.directions ≡ cell.pins.pins) }
 {
     // The limits of the technology are shown first; the match names the value for the prover.
     tech.show_limits();
