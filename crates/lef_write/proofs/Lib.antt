@@ -1,1 +1,4 @@
+pub mod Named
+pub mod Own
 pub mod Placed
+pub mod Shown

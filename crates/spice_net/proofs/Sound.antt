@@ -67,7 +67,7 @@ none_there : (o : Option (List ℕ)) (u : Unit {0}) → none_idle o ≡ Ok u →
 none_there None u e = refl
 none_there (Some pin) u e = absurd cc
 
-accepted : (name : List ℕ) (tech : Technology) (lines : List Line) (pins : List (List ℕ)) (ts : List Transistor) (cell : Subckt) → subckt_of name tech lines pins ts ≡ Ok cell → IsAccepted tech pins ts × (subckt_with name tech lines pins ts ≡ cell)
+pub accepted : (name : List ℕ) (tech : Technology) (lines : List Line) (pins : List (List ℕ)) (ts : List Transistor) (cell : Subckt) → subckt_of name tech lines pins ts ≡ Ok cell → IsAccepted tech pins ts × (subckt_with name tech lines pins ts ≡ cell)
 accepted name tech lines pins ts cell e =
     let rails = granted_require (has_name pins tech.vdd && has_name pins tech.gnd) fault.NoRail _ cell e in
     let idle = granted_step (none_idle (idle_pin tech pins ts)) _ cell rails.1 in

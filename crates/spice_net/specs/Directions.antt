@@ -1,15 +1,11 @@
 -- The directions of pins: what comments tell of them, or else what their transistors show.
-use Rattle.std.specs.Prelude.{ℕ, ◌&&◌, ◌||◌, not, Bool, List, drop, map, filter, filter_map, codes, bytes_eq, Option, Some, None, option_and_then, unwrap_or, if◌then◌else◌}
-use Rattle.std.specs.List.{list_any, flat_map, last_or}
+use Rattle.std.specs.Prelude.{ℕ, ◌&&◌, ◌||◌, not, Bool, List, drop, map, filter_map, codes, bytes_eq, Option, Some, None, option_and_then, unwrap_or, if◌then◌else◌}
+use Rattle.std.specs.List.{list_any, last_or}
 use Rattle.spice_text.specs.declared.logical.Line.{Line}
 use Rattle.tech_file.specs.Technology.{Technology}
 use Rattle.spice_net.specs.declared.subckt.Direction.{Direction}
 use Rattle.spice_net.specs.declared.subckt.Direction.TheVariants.{Input, Output, Inout}
 use Rattle.spice_net.specs.Transistors.{Transistor, value_in, is_rail}
-
--- the words behind `*.pininfo` in the comments among these lines
-abbrev pub told_words : List Line → List (List ℕ)
-told_words lines = flat_map (λ line. drop 1 line.words) (filter (λ line. line.info) lines)
 
 -- what stands behind a pin's name in a pair
 abbrev pub direction_behind : List ℕ → Option Direction
@@ -22,9 +18,13 @@ direction_behind mark =
 abbrev pub told_by : List ℕ → List ℕ → Option Direction
 told_by pin word = option_and_then direction_behind (value_in pin word)
 
--- what the last pair for a pin tells
-abbrev pub told_of : List (List ℕ) → List ℕ → Option Direction
-told_of words pin = last_or None (filter_map (told_by pin) words)
+-- what a comment that tells directions tells of a pin: by the last pair for it
+abbrev pub told_in : List ℕ → Line → Option Direction
+told_in pin line = if line.info then last_or None (filter_map (told_by pin) (drop 1 line.words)) else None
+
+-- what the last such comment tells that has a pair for the pin
+abbrev pub told_of : List Line → List ℕ → Option Direction
+told_of lines pin = last_or None (filter_map (told_in pin) lines)
 
 -- a net that is a gate, and no drain or source
 abbrev pub meets_gates_alone : List Transistor → List ℕ → Bool
@@ -36,7 +36,7 @@ abbrev pub shown_of : Technology → List Transistor → List ℕ → Direction
 shown_of tech transistors pin = if not (is_rail tech pin) && meets_gates_alone transistors pin then Input else Inout
 
 abbrev pub direction_of : Technology → List Line → List Transistor → List ℕ → Direction
-direction_of tech lines transistors pin = unwrap_or (told_of (told_words lines) pin) (shown_of tech transistors pin)
+direction_of tech lines transistors pin = unwrap_or (told_of lines pin) (shown_of tech transistors pin)
 
 -- The directions of the pins of a subcircuit, by the lines inside it and its transistors.
 abbrev pub directions_of : Technology → List Line → List (List ℕ) → List Transistor → List Direction

@@ -1,12 +1,12 @@
-ghost use Rattle.std.specs.Prelude.{◌≡◌, ◌||◌, bytes_eq, IfOk};
-ghost use Rattle.std.specs.List.{list_any};
-ghost use Rattle.spice_net.specs.Directions.{told_words, direction_behind, told_by, told_of, shown_of, direction_of, directions_of};
+ghost use Rattle.std.specs.Prelude.{◌≡◌, ◌||◌, bytes_eq, filter_map, None, IfOk};
+ghost use Rattle.std.specs.List.{list_any, last_or};
+ghost use Rattle.spice_net.specs.Directions.{direction_behind, told_by, told_in, told_of, shown_of, direction_of, directions_of};
 ghost use Rattle.spice_net.specs.Reader.{names_of};
 
 use crate::chosen::behind_first;
 use crate::subckt::{Direction, DirectionList};
 use crate::transistor::{Transistor, is_rail};
-use cell_num::NoMemory;
+use cell_num::{Name, NoMemory};
 use spice_text::Line;
 use std::alloc::Global;
 use tech_file::Tech;
@@ -31,16 +31,30 @@ fn told_by(pin: &[u8], word: &[u8]) -> Option<Direction>
     direction_behind(word.strip_prefix(pin)?)
 }
 
-// what the last pair for a pin tells
-fn told_of(lines: &[Line], pin: &[u8]) -> Option<Direction>
-    ensures { result ≡ told_of (told_words lines.now) pin.now }
+fn told_by_words(pin: &[u8], words: &[Name]) -> Option<Direction>
+    ensures { result ≡ last_or None (filter_map (told_by pin.now) words.now) }
 {
-    lines
+    words
         .iter()
-        .filter(|line| line.info)
-        .flat_map(|line| behind_first(line.words.as_slice()).iter())
         .filter_map(|word| told_by(pin, word.as_slice()))
         .last()
+}
+
+fn told_in(pin: &[u8], line: &Line) -> Option<Direction>
+    ensures { result ≡ told_in pin.now line.now }
+{
+    if line.info {
+        told_by_words(pin, behind_first(line.words.as_slice()))
+    } else {
+        None
+    }
+}
+
+// what the last pair for a pin tells
+fn told_of(lines: &[Line], pin: &[u8]) -> Option<Direction>
+    ensures { result ≡ told_of lines.now pin.now }
+{
+    lines.iter().filter_map(|line| told_in(pin, line)).last()
 }
 
 fn is_gate(transistors: &[Transistor], net: &[u8]) -> bool
@@ -52,9 +66,7 @@ fn is_gate(transistors: &[Transistor], net: &[u8]) -> bool
 fn is_end(transistors: &[Transistor], net: &[u8]) -> bool
     ensures { result ≡ list_any (λ t. bytes_eq net.now t.drain || bytes_eq net.now t.source) transistors.now }
 {
-    transistors
-        .iter()
-        .any(|t| net == t.drain.as_slice() || net == t.source.as_slice())
+    transistors.iter().any(|t| net == t.drain.as_slice() || net == t.source.as_slice())
 }
 
 // the direction of a pin of which no pair tells

@@ -11,7 +11,7 @@ ghost use Rattle.spice_net.specs.Nets.{distinct, nets_of};
 ghost use Rattle.spice_net.specs.Reader.{names_of, with_shown, in_front};
 ghost use Rattle.spice_net.specs.Transistors.{Transistor as TransistorOf, transistors_of};
 ghost use Rattle.spice_net.specs.Subcircuit.{at_most, subckt_with, numbered, subckt_of, subckt_in, subcircuit};
-ghost use Rattle.spice_net.specs.Subckts.{IsSubckt};
+ghost use Rattle.spice_net.specs.Subckts.{AreNames, IsSubckt};
 
 use crate::chosen::{choose, first_is};
 use crate::directions::directions_of;
@@ -186,7 +186,7 @@ fn read_text(alloc: Global, bytes: &[u8], name: &Name, tech: &Tech) -> Result<Su
 }
 
 /// Reads the subcircuit of a name, given in lower case, from a SPICE file of at most a gibibyte.
-#[tactic(auto, using(crate::proofs::Sound::sound, crate::proofs::Sound::pins, crate::proofs::Sound::few_pins, crate::proofs::Sound::few_devices, crate::proofs::Sound::all_directed, crate::proofs::Told::never_subcircuit))]
+#[tactic(auto, using(crate::proofs::Sound::sound, crate::proofs::Sound::pins, crate::proofs::Sound::few_pins, crate::proofs::Sound::few_devices, crate::proofs::Sound::all_directed, crate::proofs::Spelled::named, crate::proofs::Spelled::name_kept, crate::proofs::Told::never_subcircuit))]
 pub fn read_cell(
     alloc: Global,
     bytes: &[u8],
@@ -207,6 +207,8 @@ pub fn read_cell(
     ensures few_pins { IfOk result (λ cell. cell.pins.pins ≤ 64) }
     ensures few_devices { IfOk result (λ cell. length cell.devices ≤ 128) }
     ensures directions { IfOk result (λ cell. length cell.directions ≡ cell.pins.pins) }
+    ensures named { IfOk result (λ cell. AreNames cell.nets) }
+    ensures name { IfOk result (λ cell. cell.name ≡ name.now) }
 {
     // The limits of the technology are shown first; the match names the value for the prover.
     tech.show_limits();
