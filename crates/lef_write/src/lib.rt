@@ -1,6 +1,7 @@
 // Writing a cell as a macro of a LEF library.
 #![tactic(auto)]
 
+pub mod laws;
 mod number;
 mod obstructions;
 mod pins;
@@ -11,5 +12,6 @@ mod shapes;
 mod tests;
 mod write;
 
+pub use laws::drawn_ports;
 pub use port::{Port, PortList};
 pub use write::{lef_ports, lef_text};

@@ -1,11 +1,11 @@
 -- The directions of pins: what comments tell of them, or else what their transistors show.
 use Rattle.std.specs.Prelude.{ℕ, ◌&&◌, ◌||◌, not, Bool, List, drop, map, filter_map, codes, bytes_eq, Option, Some, None, option_and_then, unwrap_or, if◌then◌else◌}
-use Rattle.std.specs.List.{list_any, last_or}
+use Rattle.std.specs.List.{list_any}
 use Rattle.spice_text.specs.declared.logical.Line.{Line}
 use Rattle.tech_file.specs.Technology.{Technology}
 use Rattle.spice_net.specs.declared.subckt.Direction.{Direction}
 use Rattle.spice_net.specs.declared.subckt.Direction.TheVariants.{Input, Output, Inout}
-use Rattle.spice_net.specs.Transistors.{Transistor, value_in, is_rail}
+use Rattle.spice_net.specs.Transistors.{Transistor, value_in, last_of, is_rail}
 
 -- what stands behind a pin's name in a pair
 abbrev pub direction_behind : List ℕ → Option Direction
@@ -18,13 +18,17 @@ direction_behind mark =
 abbrev pub told_by : List ℕ → List ℕ → Option Direction
 told_by pin word = option_and_then direction_behind (value_in pin word)
 
--- what a comment that tells directions tells of a pin: by the last pair for it
-abbrev pub told_in : List ℕ → Line → Option Direction
-told_in pin line = if line.info then last_or None (filter_map (told_by pin) (drop 1 line.words)) else None
+-- what the last pair for a pin tells
+abbrev pub told_among : List ℕ → List (List ℕ) → Option Direction
+told_among pin words = last_of (filter_map (told_by pin) words)
 
--- what the last such comment tells that has a pair for the pin
+-- what a line tells of a pin, where it is a comment that tells directions
+abbrev pub told_in : List ℕ → Line → Option Direction
+told_in pin line = if line.info then told_among pin (drop 1 line.words) else None
+
+-- what the last line tells that has a pair for the pin
 abbrev pub told_of : List Line → List ℕ → Option Direction
-told_of lines pin = last_or None (filter_map (told_in pin) lines)
+told_of lines pin = last_of (filter_map (told_in pin) lines)
 
 -- a net that is a gate, and no drain or source
 abbrev pub meets_gates_alone : List Transistor → List ℕ → Bool

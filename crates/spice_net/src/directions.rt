@@ -1,7 +1,7 @@
-ghost use Rattle.std.specs.Prelude.{◌≡◌, ◌||◌, bytes_eq, filter_map, None, IfOk};
-ghost use Rattle.std.specs.List.{list_any, last_or};
-ghost use Rattle.spice_net.specs.Directions.{direction_behind, told_by, told_in, told_of, shown_of, direction_of, directions_of};
-ghost use Rattle.spice_net.specs.Reader.{names_of};
+ghost use Rattle.std.specs.Prelude.{◌≡◌, ◌||◌, bytes_eq, IfOk};
+ghost use Rattle.std.specs.List.{list_any};
+ghost use Rattle.spice_net.specs.Directions.{direction_behind, told_by, told_among, told_in, told_of, shown_of, direction_of, directions_of};
+ghost use Rattle.spice_net.specs.Reader.{last_there, names_of};
 
 use crate::chosen::behind_first;
 use crate::subckt::{Direction, DirectionList};
@@ -31,30 +31,46 @@ fn told_by(pin: &[u8], word: &[u8]) -> Option<Direction>
     direction_behind(word.strip_prefix(pin)?)
 }
 
-fn told_by_words(pin: &[u8], words: &[Name]) -> Option<Direction>
-    ensures { result ≡ last_or None (filter_map (told_by pin.now) words.now) }
+fn later(told: Option<Direction>, before: Option<Direction>) -> Option<Direction>
+    ensures { result ≡ last_there told before }
 {
-    words
-        .iter()
-        .filter_map(|word| told_by(pin, word.as_slice()))
-        .last()
+    match told {
+        Some(direction) => Some(direction),
+        None => before,
+    }
+}
+
+// what the last pair for a pin tells
+#[tactic(auto, using(crate::proofs::Parameters::word_more))]
+fn told_among(pin: &[u8], words: &[Name]) -> Option<Direction>
+    ensures { result ≡ told_among pin.now words.now }
+{
+    let mut found = None;
+    for word in words {
+        found = later(told_by(pin, word.as_slice()), found);
+    }
+    found
 }
 
 fn told_in(pin: &[u8], line: &Line) -> Option<Direction>
     ensures { result ≡ told_in pin.now line.now }
 {
     if line.info {
-        told_by_words(pin, behind_first(line.words.as_slice()))
+        told_among(pin, behind_first(line.words.as_slice()))
     } else {
         None
     }
 }
 
-// what the last pair for a pin tells
+#[tactic(auto, using(crate::proofs::Parameters::line_more))]
 fn told_of(lines: &[Line], pin: &[u8]) -> Option<Direction>
     ensures { result ≡ told_of lines.now pin.now }
 {
-    lines.iter().filter_map(|line| told_in(pin, line)).last()
+    let mut found = None;
+    for line in lines {
+        found = later(told_in(pin, line), found);
+    }
+    found
 }
 
 fn is_gate(transistors: &[Transistor], net: &[u8]) -> bool
