@@ -98,7 +98,7 @@ in_metal pins trunks metal net place e = elim (cases_Bool (net.0 == pins.gnd.0))
     behind : (net.0 == pins.gnd.0) ≡ false → other ≡ Some place
     behind signal = sym (ap (λ (b : Bool). cond b (slice_get metal 0) other) signal) ∙ e
 
-port_in_metal : (pins : Pins) (trunks : List Trunk) (metal : List ℕ) (n : ℕ) (port : Port) → port_of pins trunks metal n ≡ Some port → Contains metal port.shape
+pub port_in_metal : (pins : Pins) (trunks : List Trunk) (metal : List ℕ) (n : ℕ) (port : Port) → port_of pins trunks metal n ≡ Some port → Contains metal port.shape
 port_in_metal pins trunks metal n port e = by_place (place_of_net pins trunks metal (net_no n)) refl e
   where
     by_place : (o : Option ℕ) → place_of_net pins trunks metal (net_no n) ≡ o → option_map (port_with (net_no n)) o ≡ Some port → Contains metal port.shape
