@@ -15,16 +15,19 @@ use Rattle.cell_draw.specs.declared.layout.Layout.{Layout}
 use Rattle.cell_draw.specs.Layouts.{trunk_of}
 use Rattle.cell_draw.specs.Shapes.{gnd_rail, vdd_rail, bar_metal, shapes_of}
 use Rattle.lef_write.specs.declared.port.Port.{Port}
-use Rattle.lef_write.specs.Ports.{places_on, last_ones, place_of_trunk, place_of_net, net_no, port_with, port_of, ports_of, is_port_of, port_shapes}
+use Rattle.lef_write.specs.Ports.{places_on, last_ones, place_of_trunk, place_of_net, net_no, port_with, port_of, ports_of, shape_of, port_shapes}
 use Rattle.lef_write.proofs.Shown.{places, front, at_place, at_last, metal_of}
 
 -- ---- the first item that passes
+
+one_and : (n : ℕ) → ◌≡◌ {A = ℕ} (1 + n) (suc n)
+one_and n = omega arith
 
 pub found_first : {X : Type 0} (p : X → Bool) (xs : List X) (x : X) → find p xs ≡ Some x → slice_get xs (position_or_len p xs) ≡ Some x
 found_first p [] x e = e
 found_first {X} p (y ∷ ys) x e = elim (cases_Bool (p y)) [
   | inl passes ↦ rw passes (sym (ap (λ (b : Bool). cond b (Some y) (find p ys)) passes) ∙ e)
-  | inr fails ↦ rw fails (found_first p ys x (sym (ap (λ (b : Bool). cond b (Some y) (find p ys)) fails) ∙ e))
+  | inr fails ↦ rw fails (ap (λ (n : ℕ). slice_get (y ∷ ys) n) (one_and (position_or_len p ys)) ∙ found_first p ys x (sym (ap (λ (b : Bool). cond b (Some y) (find p ys)) fails) ∙ e))
 ]
 
 pub found_position : {X : Type 0} (p : X → Bool) (xs : List X) (x : X) → find p xs ≡ Some x → position p xs ≡ Some (position_or_len p xs)
@@ -65,36 +68,30 @@ signal_at l pins trunks net no_gnd no_vdd = rw (ne_eqb net.0 pins.gnd.0 no_gnd, 
 
 -- ---- the ports of one pin
 
-filter_front : (n m : ℕ) (place : Option ℕ) (rest : List Port) → filter (is_port_of (net_no n)) (cons_option (option_map (port_with (net_no m)) place) rest) ≡ cond (m == n) (cons_option (option_map (port_with (net_no m)) place) (filter (is_port_of (net_no n)) rest)) (filter (is_port_of (net_no n)) rest)
-filter_front n m None rest = elim (cases_Bool (m == n)) [
-  | inl same ↦ rw same refl
-  | inr other ↦ rw other refl
-]
-filter_front n m (Some place) rest = elim (cases_Bool (m == n)) [
-  | inl same ↦ rw same refl
-  | inr other ↦ rw other refl
-]
-
 abbrev with_place : (ℕ → Option ℕ) → ℕ → Option Port
 with_place g n = option_map (port_with (net_no n)) (g n)
 
-none_before : (g : ℕ → Option ℕ) (n a count : ℕ) → n < a → filter (is_port_of (net_no n)) (filter_map (with_place g) (range_with_len a count)) ≡ []
-none_before g n a zero lt = refl
-none_before g n a (suc count) lt = filter_front n a (g a) (filter_map (with_place g) (range_with_len (a + 1) count)) ∙ rw (ne_eqb a n (λ same. omega (arith, lt, same)), none_before g n (a + 1) count (omega (arith, lt))) refl
-
-one_of : (g : ℕ → Option ℕ) (n a count : ℕ) → a ≤ n → n < a + count → filter (is_port_of (net_no n)) (filter_map (with_place g) (range_with_len a count)) ≡ cons_option (with_place g n) []
-one_of g n a zero le lt = absurd (omega (arith, le, lt))
-one_of g n a (suc count) le lt = elim (cases_eq a n) [
-  | inl same ↦ filter_front n a (g a) (filter_map (with_place g) (range_with_len (a + 1) count)) ∙ rw (eq-eqb a n same, none_before g n (a + 1) count (omega (arith, same))) (ap (λ m. cons_option (with_place g m) []) same)
-  | inr other ↦ filter_front n a (g a) (filter_map (with_place g) (range_with_len (a + 1) count)) ∙ rw (ne_eqb a n other) (one_of g n (a + 1) count (omega (arith, le, other)) (omega (arith, lt)))
+front_shape : (rects : List Shape) (n m : ℕ) (place : Option ℕ) (rest : List Port) → filter_map (shape_of (net_no n) rects) (cons_option (option_map (port_with (net_no m)) place) rest) ≡ cond (m == n) (cons_option (option_and_then (slice_get rects) place) (filter_map (shape_of (net_no n) rects) rest)) (filter_map (shape_of (net_no n) rects) rest)
+front_shape rects n m None rest = elim (cases_Bool (m == n)) [
+  | inl same ↦ rw same refl
+  | inr other ↦ rw other refl
+]
+front_shape rects n m (Some place) rest = elim (cases_Bool (m == n)) [
+  | inl same ↦ rw same refl
+  | inr other ↦ rw other refl
 ]
 
-shape_of_one : (rects : List Shape) (pin : NetNo) (place : Option ℕ) (s : Shape) → option_and_then (slice_get rects) place ≡ Some s → filter_map (λ (port : Port). slice_get rects port.shape) (cons_option (option_map (port_with pin) place) []) ≡ s ∷ []
-shape_of_one rects pin None s e = absurd cc
-shape_of_one rects pin (Some place) s e = rw e refl
+none_before : (rects : List Shape) (g : ℕ → Option ℕ) (n a count : ℕ) → n < a → filter_map (shape_of (net_no n) rects) (filter_map (with_place g) (range_with_len a count)) ≡ []
+none_before rects g n a zero lt = refl
+none_before rects g n a (suc count) lt = front_shape rects n a (g a) (filter_map (with_place g) (range_with_len (a + 1) count)) ∙ rw (ne_eqb a n (λ same. omega (arith, lt, same)), none_before rects g n (a + 1) count (omega (arith, lt))) refl
+
+one_of : (rects : List Shape) (g : ℕ → Option ℕ) (n a count : ℕ) → a ≤ n → n < a + count → filter_map (shape_of (net_no n) rects) (filter_map (with_place g) (range_with_len a count)) ≡ cons_option (option_and_then (slice_get rects) (g n)) []
+one_of rects g n a zero le lt = absurd (omega (arith, le, lt))
+one_of rects g n a (suc count) le lt = elim (cases_eq a n) [
+  | inl same ↦ front_shape rects n a (g a) (filter_map (with_place g) (range_with_len (a + 1) count)) ∙ rw (eq-eqb a n same, none_before rects g n (a + 1) count (omega (arith, same))) (ap (λ m. cons_option (option_and_then (slice_get rects) (g m)) []) same)
+  | inr other ↦ front_shape rects n a (g a) (filter_map (with_place g) (range_with_len (a + 1) count)) ∙ rw (ne_eqb a n other) (one_of rects g n (a + 1) count (omega (arith, le, other)) (omega (arith, lt)))
+]
 
 -- the shapes at the ports of a pin are the one at the place of its net
 pub pin_shapes : (l : Layout) (pins : Pins) (trunks : List Trunk) (n : ℕ) (s : Shape) → n < pins.pins → net_shape l pins trunks (net_no n) ≡ Some s → port_shapes (ports_of pins trunks (shapes_of l)) (shapes_of l) (net_no n) ≡ s ∷ []
-pin_shapes l pins trunks n s lt e =
-    let one : filter (is_port_of (net_no n)) (ports_of pins trunks (shapes_of l)) ≡ cons_option (port_of pins trunks (places l) n) [] = one_of (λ m. place_of_net pins trunks (places l) (net_no m)) n 0 pins.pins (omega arith) (omega (arith, lt)) in
-    ap (λ ports. filter_map (λ (port : Port). slice_get (shapes_of l) port.shape) ports) one ∙ shape_of_one (shapes_of l) (net_no n) (place_of_net pins trunks (places l) (net_no n)) s e
+pin_shapes l pins trunks n s lt e = one_of (shapes_of l) (λ m. place_of_net pins trunks (places l) (net_no m)) n 0 pins.pins (omega arith) (omega (arith, lt)) ∙ ap (λ o. cons_option o []) e

@@ -108,5 +108,5 @@ port_in_metal pins trunks metal n port e = by_place (place_of_net pins trunks me
 -- each port of a cell stands on metal1
 pub ports_are : (pins : Pins) (trunks : List Trunk) (rects : List Shape) → All (IsPort rects) (ports_of pins trunks rects)
 ports_are pins trunks rects = all_from_contains (IsPort rects) (ports_of pins trunks rects) (λ port there.
-  let kept = kept_from (port_of pins trunks (places_on Metal1 rects)) (range_with_len 0 pins.pins) port there in
-  place_is_on Metal1 rects port.shape (port_in_metal pins trunks (places_on Metal1 rects) kept.from port kept.gives))
+    let kept = kept_from (port_of pins trunks (places_on Metal1 rects)) (range_with_len 0 pins.pins) port there in
+    place_is_on Metal1 rects port.shape (port_in_metal pins trunks (places_on Metal1 rects) kept.from port kept.gives))

@@ -28,41 +28,40 @@ abbrev pub three_digits : ℕ → List ℕ
 three_digits n = digit (n / 100) ∷ digit (n / 10 % 10) ∷ digit (n % 10) ∷ []
 
 -- nanometres in microns, with exactly three decimals
-abbrev pub microns : ℕ → List ℕ
+unfoldable pub microns : ℕ → List ℕ
 microns nm = decimal (nm / 1000) ++ codes "." ++ three_digits (nm % 1000)
 
 abbrev pub minus_of : ℤ → List ℕ
 minus_of z = if int_lt z (pos 0) then codes "-" else []
 
 -- a coordinate in grid units of so many nanometres
-abbrev pub coordinate : ℕ → ℤ → List ℕ
+unfoldable pub coordinate : ℕ → ℤ → List ℕ
 coordinate unit z = minus_of z ++ microns (unsigned_abs z * unit)
 
 -- ---- statements
 
+unfoldable pub corner_text : ℕ → ℤ → ℤ → List ℕ
+corner_text unit x y = coordinate unit x ++ codes " " ++ coordinate unit y
+
 -- the lower left and the upper right corner of a rectangle
-abbrev pub rect_text : List ℕ → ℕ → Shape → List ℕ
+unfoldable pub rect_text : List ℕ → ℕ → Shape → List ℕ
 rect_text indent unit s =
     indent
     ++ codes "RECT "
-    ++ coordinate unit s.rect.x1
+    ++ corner_text unit s.rect.x1 s.rect.y1
     ++ codes " "
-    ++ coordinate unit s.rect.y1
-    ++ codes " "
-    ++ coordinate unit s.rect.x2
-    ++ codes " "
-    ++ coordinate unit s.rect.y2
+    ++ corner_text unit s.rect.x2 s.rect.y2
     ++ codes " ;\n"
 
 abbrev pub rects_text : List ℕ → ℕ → List Shape → List ℕ
 rects_text indent unit shapes = flat_map (rect_text indent unit) shapes
 
-abbrev pub direction_text : Direction → List ℕ
+unfoldable pub direction_text : Direction → List ℕ
 direction_text Input = codes "    DIRECTION INPUT ;\n"
 direction_text Output = codes "    DIRECTION OUTPUT ;\n"
 direction_text Inout = codes "    DIRECTION INOUT ;\n"
 
-abbrev pub use_text : Pins → NetNo → List ℕ
+unfoldable pub use_text : Pins → NetNo → List ℕ
 use_text pins net =
     if net.0 == pins.vdd.0 then codes "    USE POWER ;\n" else
     if net.0 == pins.gnd.0 then codes "    USE GROUND ;\n" else
@@ -76,42 +75,45 @@ name_of names n = unwrap_or (slice_get names n) []
 abbrev pub direction_of : List Direction → ℕ → Direction
 direction_of directions n = unwrap_or (slice_get directions n) Inout
 
--- a pin with its direction, its use and its port, which lies on metal1
-abbrev pub pin_text : Subckt → List Port → List Shape → ℕ → ℕ → List ℕ
+-- a port, which lies on metal1
+unfoldable pub port_text : ℕ → List Shape → List ℕ
+port_text unit shapes = codes "    PORT\n      LAYER metal1 ;\n" ++ rects_text (codes "      ") unit shapes ++ codes "    END\n"
+
+-- a pin with its direction, its use and its port
+unfoldable pub pin_text : Subckt → List Port → List Shape → ℕ → ℕ → List ℕ
 pin_text cell ports rects unit n =
     text_line (codes "  PIN ") (name_of cell.nets n)
     ++ direction_text (direction_of cell.directions n)
     ++ use_text cell.pins (net_no n)
-    ++ codes "    PORT\n      LAYER metal1 ;\n"
-    ++ rects_text (codes "      ") unit (port_shapes ports rects (net_no n))
-    ++ codes "    END\n"
+    ++ port_text unit (port_shapes ports rects (net_no n))
     ++ text_line (codes "  END ") (name_of cell.nets n)
 
 abbrev pub pins_text : Subckt → List Port → List Shape → ℕ → List ℕ
 pins_text cell ports rects unit = flat_map (pin_text cell ports rects unit) (range_with_len 0 cell.pins.pins)
 
 -- a layer's obstructions, where it has any
-abbrev pub layer_text : List ℕ → ℕ → List Shape → List ℕ
+unfoldable pub layer_text : List ℕ → ℕ → List Shape → List ℕ
 layer_text layer unit shapes = if length shapes == 0 then [] else layer ++ rects_text (codes "    ") unit shapes
 
 -- the obstructions, where there are any
-abbrev pub obstructions_text : ℕ → List Shape → List Shape → List ℕ
+unfoldable pub obstructions_text : ℕ → List Shape → List Shape → List ℕ
 obstructions_text unit first second =
     if length first == 0 && length second == 0 then [] else
     codes "  OBS\n" ++ layer_text (codes "    LAYER metal1 ;\n") unit first ++ layer_text (codes "    LAYER metal2 ;\n") unit second ++ codes "  END\n"
 
-abbrev pub head_text : List ℕ
+unfoldable pub head_text : List ℕ
 head_text = codes "VERSION 5.8 ;\nBUSBITCHARS \"[]\" ;\nDIVIDERCHAR \"/\" ;\nUNITS\n  DATABASE MICRONS 1000 ;\nEND UNITS\n"
 
+unfoldable pub size_text : ℕ → ℕ → ℕ → List ℕ
+size_text width height unit = codes "  SIZE " ++ microns (width * unit) ++ codes " BY " ++ microns (height * unit) ++ codes " ;\n"
+
 -- a core cell with its lower left corner at the origin, which may be mirrored at both axes
-abbrev pub macro_text : List ℕ → ℕ → ℕ → ℕ → List ℕ
+unfoldable pub macro_text : List ℕ → ℕ → ℕ → ℕ → List ℕ
 macro_text name width height unit =
     text_line (codes "MACRO ") name
-    ++ codes "  CLASS CORE ;\n  ORIGIN 0.000 0.000 ;\n  SIZE "
-    ++ microns (width * unit)
-    ++ codes " BY "
-    ++ microns (height * unit)
-    ++ codes " ;\n  SYMMETRY X Y ;\n"
+    ++ codes "  CLASS CORE ;\n  ORIGIN 0.000 0.000 ;\n"
+    ++ size_text width height unit
+    ++ codes "  SYMMETRY X Y ;\n"
 
 -- The library of one macro: the cell with these ports. A grid unit has so many nanometres.
 abbrev pub library_text : Subckt → List Port → Drawing → ℕ → List ℕ

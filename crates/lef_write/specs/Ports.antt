@@ -1,5 +1,5 @@
 -- The ports and the obstructions of a cell: which shapes of its drawing are which.
-use Rattle.std.specs.Prelude.{ℕ, ◌≡◌, ◌<◌, ◌-◌, ◌==◌, ◌&&◌, not, Bool, List, ◌++◌, length, filter, filter_map, drop, slice_get, position, Option, Some, None, option_map, option_and_then, if◌then◌else◌}
+use Rattle.std.specs.Prelude.{ℕ, ◌≡◌, ◌<◌, ◌-◌, ◌==◌, ◌&&◌, not, Bool, List, ◌++◌, length, filter_map, drop, slice_get, position, Option, Some, None, option_map, option_and_then, if◌then◌else◌}
 use Rattle.std.specs.List.{list_any, enumerate_from, range_with_len}
 use Rattle.cell_num.specs.declared.net.NetNo.{NetNo}
 use Rattle.cell_num.specs.declared.net.Pins.{Pins}
@@ -61,12 +61,13 @@ pub record IsOn (layer : Layer) (rects : List Shape) (place : ℕ) : Type 0 wher
 abbrev pub IsPort : List Shape → Port → Type 0
 IsPort rects port = IsOn Metal1 rects port.shape
 
-abbrev pub is_port_of : NetNo → Port → Bool
-is_port_of pin port = port.pin.0 == pin.0
+-- the shape at a port, where it is one of this pin
+abbrev pub shape_of : NetNo → List Shape → Port → Option Shape
+shape_of pin rects port = if port.pin.0 == pin.0 then slice_get rects port.shape else None
 
 -- the shapes at the ports of a pin
 abbrev pub port_shapes : List Port → List Shape → NetNo → List Shape
-port_shapes ports rects pin = filter_map (λ (port : Port). slice_get rects port.shape) (filter (is_port_of pin) ports)
+port_shapes ports rects pin = filter_map (shape_of pin rects) ports
 
 -- a port stands at this place
 abbrev pub is_taken : List Port → ℕ → Bool

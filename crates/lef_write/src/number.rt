@@ -12,6 +12,7 @@ fn digit(value: u64) -> u8
 }
 
 /// Adds a length in microns, with exactly three decimals.
+#[tactic(auto, unfolding(crate::specs::Lef::microns))]
 pub fn put_microns(out: &mut Bytes, nanometres: u64) -> Result<(), NoMemory>
     ensures { OnOk result (out.new ≡ out.old ++ microns nanometres) }
 {
@@ -28,6 +29,7 @@ fn put_minus(out: &mut Bytes, value: i32) -> Result<(), NoMemory>
 }
 
 /// Adds a coordinate that is given in grid units of so many nanometres.
+#[tactic(auto, unfolding(crate::specs::Lef::coordinate))]
 pub fn put_coordinate(out: &mut Bytes, value: i32, unit_nm: u32) -> Result<(), NoMemory>
     ensures { OnOk result (out.new ≡ out.old ++ coordinate unit_nm value) }
 {

@@ -1,17 +1,13 @@
 // The obstructions of a macro.
-ghost use Rattle.std.specs.Prelude.{◌≡◌, ◌++◌, OnOk};
+ghost use Rattle.std.specs.Prelude.{◌≡◌, ◌==◌, ◌&&◌, ◌++◌, length, OnOk};
 ghost use Rattle.lef_write.specs.Lef.{layer_text, obstructions_text};
 
 use crate::shapes::put_rects;
 use box_geom::Shape;
 use cell_num::{Bytes, NoMemory};
 
-fn put_layer(
-    out: &mut Bytes,
-    layer: &[u8],
-    shapes: &[Shape],
-    unit_nm: u32,
-) -> Result<(), NoMemory>
+#[tactic(auto, unfolding(crate::specs::Lef::layer_text))]
+fn put_layer(out: &mut Bytes, layer: &[u8], shapes: &[Shape], unit_nm: u32) -> Result<(), NoMemory>
     ensures { OnOk result (out.new ≡ out.old ++ layer_text layer.now unit_nm shapes.now) }
 {
     if shapes.is_empty() {
@@ -21,7 +17,14 @@ fn put_layer(
     put_rects(out, b"    ", shapes, unit_nm)
 }
 
+fn are_empty(metal1: &[Shape], metal2: &[Shape]) -> bool
+    ensures { result ≡ (length metal1.now == 0 && length metal2.now == 0) }
+{
+    metal1.is_empty() && metal2.is_empty()
+}
+
 /// Adds the obstructions, where there are any.
+#[tactic(auto, unfolding(crate::specs::Lef::obstructions_text))]
 pub fn put_obstructions(
     out: &mut Bytes,
     metal1: &[Shape],
@@ -30,7 +33,7 @@ pub fn put_obstructions(
 ) -> Result<(), NoMemory>
     ensures { OnOk result (out.new ≡ out.old ++ obstructions_text unit_nm metal1.now metal2.now) }
 {
-    if metal1.is_empty() && metal2.is_empty() {
+    if are_empty(metal1, metal2) {
         return Ok(());
     }
     out.extend(b"  OBS\n")?;

@@ -1,6 +1,6 @@
 // The pins of a macro.
 ghost use Rattle.std.specs.Prelude.{◌≡◌, ◌≤◌, ◌<◌, ◌++◌, length, OnOk};
-ghost use Rattle.lef_write.specs.Lef.{direction_text, use_text, name_of, direction_of, pin_text, pins_text};
+ghost use Rattle.lef_write.specs.Lef.{direction_text, use_text, name_of, direction_of, port_text, pin_text, pins_text};
 
 use crate::Port;
 use crate::ports::port_shapes;
@@ -10,6 +10,7 @@ use cell_num::{Bytes, NetNo, NoMemory, Pins, put_text};
 use spice_net::{Direction, Subckt};
 use std::alloc::Global;
 
+#[tactic(auto, unfolding(crate::specs::Lef::direction_text))]
 fn direction_text(direction: Direction) -> &'static [u8]
     ensures { result.now ≡ direction_text direction }
 {
@@ -20,6 +21,7 @@ fn direction_text(direction: Direction) -> &'static [u8]
     }
 }
 
+#[tactic(auto, unfolding(crate::specs::Lef::use_text))]
 fn use_text(pins: &Pins, pin: NetNo) -> &'static [u8]
     ensures { result.now ≡ use_text pins.now pin }
 {
@@ -50,6 +52,16 @@ fn name_of(cell: &Subckt, pin: u32) -> &[u8]
     }
 }
 
+#[tactic(auto, unfolding(crate::specs::Lef::port_text))]
+fn put_port(out: &mut Bytes, shapes: &[Shape], unit_nm: u32) -> Result<(), NoMemory>
+    ensures { OnOk result (out.new ≡ out.old ++ port_text unit_nm shapes.now) }
+{
+    out.extend(b"    PORT\n      LAYER metal1 ;\n")?;
+    put_rects(out, b"      ", shapes, unit_nm)?;
+    out.extend(b"    END\n")
+}
+
+#[tactic(auto, unfolding(crate::specs::Lef::pin_text))]
 fn put_pin(
     alloc: Global,
     out: &mut Bytes,
@@ -66,9 +78,7 @@ fn put_pin(
     put_text(out, b"  PIN ", name)?;
     out.extend(direction_text(direction_of(cell, pin)))?;
     out.extend(use_text(&cell.pins, NetNo(pin)))?;
-    out.extend(b"    PORT\n      LAYER metal1 ;\n")?;
-    put_rects(out, b"      ", shapes.as_slice(), unit_nm)?;
-    out.extend(b"    END\n")?;
+    put_port(out, shapes.as_slice(), unit_nm)?;
     put_text(out, b"  END ", name)
 }
 

@@ -1,7 +1,8 @@
 // Which shapes of a drawing are ports, and which are obstructions.
-ghost use Rattle.std.specs.Prelude.{◌≡◌, ◌<◌, length, slice_get, position, All, IfOk};
+ghost use Rattle.std.specs.Prelude.{◌≡◌, ◌<◌, ◌==◌, ◌++◌, length, position, filter_map, option_to_list, IfOk, OnOk};
+ghost use Rattle.std.specs.List.{range_with_len};
 ghost use Rattle.box_geom.specs.Layers.{same_layer};
-ghost use Rattle.lef_write.specs.Ports.{places_on, last_ones, place_of_trunk, place_of_net, port_of, ports_of, port_shapes, is_taken, obstructions_on};
+ghost use Rattle.lef_write.specs.Ports.{places_on, last_ones, place_of_trunk, place_of_net, port_of, ports_of, shape_of, port_shapes, is_taken, obstructions_on};
 
 use crate::{Port, PortList};
 use box_geom::{Layer, Shape, ShapeList};
@@ -35,11 +36,19 @@ fn last_ones(count: usize, places: &[u32]) -> &[u32]
     &places[places.len().saturating_sub(count)..]
 }
 
+fn find_trunk(trunks: &[Trunk], net: NetNo) -> Option<usize>
+    ensures { result ≡ position (λ t. t.net.0 == net.0) trunks.now }
+{
+    trunks.iter().position(|trunk| trunk.net == net)
+}
+
 fn place_of_trunk(trunks: &[Trunk], metal: &[u32], net: NetNo) -> Option<u32>
     ensures { result ≡ place_of_trunk trunks.now metal.now net }
 {
-    let at = trunks.iter().position(|trunk| trunk.net == net)?;
-    last_ones(trunks.len(), metal).get(at).copied()
+    match find_trunk(trunks, net) {
+        Some(at) => last_ones(trunks.len(), metal).get(at).copied(),
+        None => None,
+    }
 }
 
 fn place_of_net(pins: &Pins, trunks: &[Trunk], metal: &[u32], net: NetNo) -> Option<u32>
@@ -62,6 +71,30 @@ fn port_of(pins: &Pins, trunks: &[Trunk], metal: &[u32], pin: u32) -> Option<Por
     Some(Port { pin, shape })
 }
 
+fn add_port(ports: &mut PortList, port: Option<Port>) -> Result<(), NoMemory>
+    ensures { OnOk result (ports.new ≡ ports.old ++ option_to_list port) }
+{
+    match port {
+        Some(port) => ports.push(port),
+        None => Ok(()),
+    }
+}
+
+fn ports_among(
+    alloc: Global,
+    pins: &Pins,
+    trunks: &[Trunk],
+    metal: &[u32],
+) -> Result<PortList, NoMemory>
+    ensures { IfOk result (λ ports. ports ≡ filter_map (port_of pins.now trunks.now metal.now) (range_with_len 0 pins.now.pins)) }
+{
+    let mut ports = PortList::new(alloc);
+    for pin in 0..pins.pins {
+        add_port(&mut ports, port_of(pins, trunks, metal, pin))?;
+    }
+    Ok(ports)
+}
+
 /// The ports of a cell's pins in a drawing of it: each pin's rail or trunk.
 pub fn ports_of(
     alloc: Global,
@@ -73,13 +106,17 @@ pub fn ports_of(
     ensures { IfOk result (λ ports. ports ≡ ports_of pins.now trunks.now rects.now) }
 {
     let metal = places_on(alloc, Layer::Metal1, rects)?;
-    let mut ports = PortList::new(alloc);
-    for pin in 0..pins.pins {
-        if let Some(port) = port_of(pins, trunks, metal.as_slice(), pin) {
-            ports.push(port)?;
-        }
+    ports_among(alloc, pins, trunks, metal.as_slice())
+}
+
+fn shape_of(pin: NetNo, rects: &[Shape], port: &Port) -> Option<Shape>
+    ensures { result ≡ shape_of pin rects.now port.now }
+{
+    if port.pin == pin {
+        rects.get(port.shape as usize).copied()
+    } else {
+        None
     }
-    Ok(ports)
 }
 
 /// The shapes at the ports of a pin.
@@ -93,8 +130,7 @@ pub fn port_shapes(
 {
     ports
         .iter()
-        .filter(|port| port.pin == pin)
-        .filter_map(|port| rects.get(port.shape as usize).copied())
+        .filter_map(|port| shape_of(pin, rects, port))
         .collect(alloc)
 }
 

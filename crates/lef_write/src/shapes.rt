@@ -1,24 +1,30 @@
 // The rectangles of a layer.
 ghost use Rattle.std.specs.Prelude.{◌≡◌, ◌++◌, OnOk};
-ghost use Rattle.lef_write.specs.Lef.{rect_text, rects_text};
+ghost use Rattle.lef_write.specs.Lef.{corner_text, rect_text, rects_text};
 
 use crate::number::put_coordinate;
 use box_geom::Shape;
 use cell_num::{Bytes, NoMemory};
 
+#[tactic(auto, unfolding(crate::specs::Lef::corner_text))]
+fn put_corner(out: &mut Bytes, x: i32, y: i32, unit_nm: u32) -> Result<(), NoMemory>
+    ensures { OnOk result (out.new ≡ out.old ++ corner_text unit_nm x y) }
+{
+    put_coordinate(out, x, unit_nm)?;
+    out.extend(b" ")?;
+    put_coordinate(out, y, unit_nm)
+}
+
+#[tactic(auto, unfolding(crate::specs::Lef::rect_text))]
 fn put_rect(out: &mut Bytes, indent: &[u8], shape: &Shape, unit_nm: u32) -> Result<(), NoMemory>
     ensures { OnOk result (out.new ≡ out.old ++ rect_text indent.now unit_nm shape.now) }
 {
     let rect = &shape.rect;
     out.extend(indent)?;
     out.extend(b"RECT ")?;
-    put_coordinate(out, rect.x1, unit_nm)?;
+    put_corner(out, rect.x1, rect.y1, unit_nm)?;
     out.extend(b" ")?;
-    put_coordinate(out, rect.y1, unit_nm)?;
-    out.extend(b" ")?;
-    put_coordinate(out, rect.x2, unit_nm)?;
-    out.extend(b" ")?;
-    put_coordinate(out, rect.y2, unit_nm)?;
+    put_corner(out, rect.x2, rect.y2, unit_nm)?;
     out.extend(b" ;\n")
 }
 

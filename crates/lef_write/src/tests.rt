@@ -187,7 +187,12 @@ fn drawing(alloc: Global, table: &[(Layer, [i32; 4])], width: u32) -> Result<Dra
     })
 }
 
-fn cell(alloc: Global, name: &[u8], words: &[&[u8]], directions: &[Direction]) -> Result<Subckt, NoMemory> {
+fn cell(
+    alloc: Global,
+    name: &[u8],
+    words: &[&[u8]],
+    directions: &[Direction],
+) -> Result<Subckt, NoMemory> {
     let mut nets = Names::new(alloc);
     for word in words {
         nets.push(copy(alloc, word)?)?;

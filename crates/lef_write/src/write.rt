@@ -1,5 +1,5 @@
 ghost use Rattle.std.specs.Prelude.{◌≡◌, ◌≤◌, ◌<◌, ◌++◌, length, OnOk, IfOk, All};
-ghost use Rattle.lef_write.specs.Lef.{head_text, macro_text, library_text, cell_text};
+ghost use Rattle.lef_write.specs.Lef.{head_text, size_text, macro_text, library_text, cell_text};
 ghost use Rattle.lef_write.specs.Ports.{IsPort};
 
 use crate::number::put_microns;
@@ -14,12 +14,28 @@ use channel_route::Routing;
 use spice_net::Subckt;
 use std::alloc::Global;
 
+#[tactic(auto, unfolding(crate::specs::Lef::head_text))]
 fn put_head(out: &mut Bytes) -> Result<(), NoMemory>
     ensures { OnOk result (out.new ≡ out.old ++ head_text) }
 {
-    out.extend(b"VERSION 5.8 ;\nBUSBITCHARS \"[]\" ;\nDIVIDERCHAR \"/\" ;\nUNITS\n  DATABASE MICRONS 1000 ;\nEND UNITS\n")
+    out.extend(
+        b"VERSION 5.8 ;\nBUSBITCHARS \"[]\" ;\nDIVIDERCHAR \"/\" ;\nUNITS\n  DATABASE MICRONS 1000 ;\nEND UNITS\n",
+    )
 }
 
+#[tactic(auto, unfolding(crate::specs::Lef::size_text))]
+fn put_size(out: &mut Bytes, width: u32, height: u32, unit_nm: u32) -> Result<(), NoMemory>
+    ensures { OnOk result (out.new ≡ out.old ++ size_text width height unit_nm) }
+{
+    let unit = u64::from(unit_nm);
+    out.extend(b"  SIZE ")?;
+    put_microns(out, u64::from(width) * unit)?;
+    out.extend(b" BY ")?;
+    put_microns(out, u64::from(height) * unit)?;
+    out.extend(b" ;\n")
+}
+
+#[tactic(auto, unfolding(crate::specs::Lef::macro_text))]
 fn put_macro(
     out: &mut Bytes,
     name: &[u8],
@@ -29,13 +45,10 @@ fn put_macro(
 ) -> Result<(), NoMemory>
     ensures { OnOk result (out.new ≡ out.old ++ macro_text name.now width height unit_nm) }
 {
-    let unit = u64::from(unit_nm);
     put_text(out, b"MACRO ", name)?;
-    out.extend(b"  CLASS CORE ;\n  ORIGIN 0.000 0.000 ;\n  SIZE ")?;
-    put_microns(out, u64::from(width) * unit)?;
-    out.extend(b" BY ")?;
-    put_microns(out, u64::from(height) * unit)?;
-    out.extend(b" ;\n  SYMMETRY X Y ;\n")
+    out.extend(b"  CLASS CORE ;\n  ORIGIN 0.000 0.000 ;\n")?;
+    put_size(out, width, height, unit_nm)?;
+    out.extend(b"  SYMMETRY X Y ;\n")
 }
 
 /// The library of one macro, the cell with these ports as its pins' rectangles. All other metal of the
