@@ -35,7 +35,7 @@ from_place layer full (x ∷ xs) n i same =
 pub at_place : (layer : Layer) (rects : List Shape) (i : ℕ) → option_and_then (slice_get rects) (slice_get (places_on layer rects) i) ≡ slice_get (shapes_on layer rects) i
 at_place layer rects i = from_place layer rects rects 0 i (λ k. let e : 0 + k ≡ k = omega arith in ap (λ m. slice_get rects m) e)
 
-as_many : (layer : Layer) (xs : List Shape) (n : ℕ) → length (filter_map (place_on layer) (enumerate_from n xs)) ≡ length (shapes_on layer xs)
+pub as_many : (layer : Layer) (xs : List Shape) (n : ℕ) → length (filter_map (place_on layer) (enumerate_from n xs)) ≡ length (shapes_on layer xs)
 as_many layer [] n = refl
 as_many layer (x ∷ xs) n = elim (cases_Bool (same_layer x.layer layer)) [
   | inl on ↦ rw on (ap (λ m. suc m) (as_many layer xs (n + 1)))
@@ -69,7 +69,7 @@ metal_of l = filter-append (λ (s : Shape). same_layer s.layer Metal1) (frame_sh
 
 -- ---- the last of them
 
-drop_get : {X : Type 0} (k : ℕ) (xs : List X) (i : ℕ) → slice_get (drop k xs) i ≡ slice_get xs (k + i)
+pub drop_get : {X : Type 0} (k : ℕ) (xs : List X) (i : ℕ) → slice_get (drop k xs) i ≡ slice_get xs (k + i)
 drop_get zero xs i = let e : 0 + i ≡ i = omega arith in sym (ap (λ m. slice_get xs m) e)
 drop_get (suc k) [] i = refl
 drop_get (suc k) (x ∷ xs) i = let e : suc k + i ≡ suc (k + i) = omega arith in drop_get k xs i ∙ sym (ap (λ m. slice_get (x ∷ xs) m) e)

@@ -95,11 +95,18 @@ pins_text cell ports rects unit = flat_map (pin_text cell ports rects unit) (ran
 unfoldable pub layer_text : List ℕ → ℕ → List Shape → List ℕ
 layer_text layer unit shapes = if length shapes == 0 then [] else layer ++ rects_text (codes "    ") unit shapes
 
+unfoldable pub metal1_text : ℕ → List Shape → List ℕ
+metal1_text unit shapes = layer_text (codes "    LAYER metal1 ;\n") unit shapes
+
+unfoldable pub metal2_text : ℕ → List Shape → List ℕ
+metal2_text unit shapes = layer_text (codes "    LAYER metal2 ;\n") unit shapes
+
+unfoldable pub block_text : ℕ → List Shape → List Shape → List ℕ
+block_text unit first second = codes "  OBS\n" ++ metal1_text unit first ++ metal2_text unit second ++ codes "  END\n"
+
 -- the obstructions, where there are any
 unfoldable pub obstructions_text : ℕ → List Shape → List Shape → List ℕ
-obstructions_text unit first second =
-    if length first == 0 && length second == 0 then [] else
-    codes "  OBS\n" ++ layer_text (codes "    LAYER metal1 ;\n") unit first ++ layer_text (codes "    LAYER metal2 ;\n") unit second ++ codes "  END\n"
+obstructions_text unit first second = if length first == 0 && length second == 0 then [] else block_text unit first second
 
 unfoldable pub head_text : List ℕ
 head_text = codes "VERSION 5.8 ;\nBUSBITCHARS \"[]\" ;\nDIVIDERCHAR \"/\" ;\nUNITS\n  DATABASE MICRONS 1000 ;\nEND UNITS\n"
