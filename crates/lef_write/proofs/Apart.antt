@@ -1,14 +1,11 @@
 -- The ports of a drawn cell stand at different places.
-use Rattle.std.proofs.Common.{ℕ, zero, suc, ◌≡◌, ◌≢◌, ◌+◌, ◌-◌, ◌<◌, ◌≤◌, ◌==◌, Bool, true, false, cond, List, [], ◌∷◌, ◌++◌, length, get_or, map, refl, sym, subst, ap, ◌∙◌, inl, inr, ◌⊎◌, arith, length-append, All, AllPairs, Contains}
+use Rattle.std.proofs.Common.{ℕ, zero, suc, ◌≡◌, ◌≢◌, ◌+◌, ◌-◌, ◌<◌, ◌≤◌, ◌==◌, cond, List, length, get_or, map, refl, sym, subst, ap, ◌∙◌, inl, inr, ◌⊎◌, arith, length-append, AllPairs, Contains}
 use Rattle.std.specs.Prelude.{Option, Some, None, filter_map, slice_get, position, option_map, option_and_then}
 use Rattle.std.specs.List.{cons_option, range_with_len}
 use Rattle.std.proofs.lemmas.Bool.{cases_Bool, cases_eq, cases_lt, eqb-true, eq-eqb, ne_eqb}
 use Rattle.std.proofs.lemmas.List.{length-map}
-use Rattle.std.proofs.lemmas.List.Elements.{All-nil, All-cons}
 use Rattle.std.proofs.lemmas.List.Kept.{AllPairs-cons}
 use Rattle.std.proofs.lemmas.List.Quantifiers.{position-Some}
-use Rattle.std.proofs.lemmas.Option.{slice_get_within}
-use Rattle.cell_num.specs.declared.net.NetNo.{NetNo}
 use Rattle.cell_num.specs.declared.net.Pins.{Pins}
 use Rattle.cell_num.proofs.Lists.{some_same, contains_none, contains_cons, all_from_contains, kept_from}
 use Rattle.cell_num.proofs.Pairs.{pairs_none, pairs_at, pairs_map}
@@ -24,7 +21,7 @@ use Rattle.cell_draw.specs.Layouts.{bar_of, layout_of}
 use Rattle.cell_draw.specs.Shapes.{gnd_rail, bar_metal, shapes_of}
 use Rattle.lef_write.specs.declared.port.Port.{Port}
 use Rattle.lef_write.specs.Drawn.{shapes_on, AreAllMetal}
-use Rattle.lef_write.specs.Ports.{places_on, last_ones, place_of_trunk, place_of_net, net_no, port_with, port_of, ports_of}
+use Rattle.lef_write.specs.Ports.{places_on, last_ones, place_of_net, net_no, port_with, port_of, ports_of}
 use Rattle.lef_write.proofs.Members.{Differ}
 use Rattle.lef_write.proofs.Placed.{port_in_metal, ports_are}
 use Rattle.lef_write.proofs.Rest.{different, all_metal}

@@ -1,6 +1,6 @@
 -- The label of a pin's name stands on its port.
-use Rattle.std.proofs.Common.{ℕ, zero, suc, ◌≡◌, ◌≢◌, ◌+◌, ◌*◌, ◌-◌, ◌<◌, ◌≤◌, ◌==◌, Bool, true, false, cond, List, [], ◌∷◌, length, map, refl, sym, subst, ap, ◌∙◌, inl, inr, arith, Any, All, Contains}
-use Rattle.std.specs.Prelude.{Option, Some, None, pos, find, filter_map, get_or}
+use Rattle.std.proofs.Common.{ℕ, zero, suc, ◌≡◌, ◌+◌, ◌*◌, ◌-◌, ◌<◌, ◌≤◌, ◌==◌, Bool, true, List, [], ◌∷◌, length, refl, subst, ap, ◌∙◌, inl, inr, arith, Contains}
+use Rattle.std.specs.Prelude.{Option, Some, find}
 use Rattle.std.specs.List.{list_any, range_with_len}
 use Rattle.std.proofs.lemmas.Bool.{cases_Bool, cases_eq, eq-eqb, ne_eqb}
 use Rattle.std.proofs.lemmas.Int.{ints}
@@ -11,8 +11,6 @@ use Rattle.cell_num.specs.Pins.{IsRail}
 use Rattle.cell_num.proofs.Lists.{contains_here, contains_there, contains_get, contains_filter_map}
 use Rattle.cell_num.proofs.In.{contains_map}
 use Rattle.cell_num.proofs.Pairs.{Some', some_from_any, test_there}
-use Rattle.box_geom.specs.declared.layer.Layer.TheVariants.{Metal1}
-use Rattle.box_geom.specs.declared.shape.Shape.{Shape}
 use Rattle.row_place.specs.declared.placement.Placement.{Placement}
 use Rattle.row_place.specs.Places.{IsPlacement}
 use Rattle.row_place.specs.Trunks.{lines_of, IsSpan}
@@ -30,8 +28,8 @@ use Rattle.cell_draw.specs.Layouts.{width_of, trunk_of, bar_of, metal_tag, tag_o
 use Rattle.cell_draw.specs.Shapes.{gnd_rail, vdd_rail, bar_metal}
 use Rattle.row_place.specs.Units.{seats_of}
 use Rattle.lef_write.specs.Ports.{net_no, ports_of}
-use Rattle.lef_write.specs.Drawn.{IsNamed, HasPort}
-use Rattle.lef_write.proofs.Own.{found_first, trunk_at, net_shape, trunk_shape, gnd_at, vdd_at, signal_at, pin_shapes}
+use Rattle.lef_write.specs.Drawn.{HasPort}
+use Rattle.lef_write.proofs.Own.{found_first, trunk_at, gnd_at, vdd_at, signal_at, pin_shapes}
 
 -- ---- lines ascend
 

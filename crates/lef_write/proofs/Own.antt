@@ -1,13 +1,12 @@
 -- Each pin of a drawn cell has one port, its rail or its trunk.
-use Rattle.std.proofs.Common.{ℕ, zero, suc, ◌≡◌, ◌+◌, ◌<◌, ◌≤◌, ◌==◌, Bool, true, false, cond, List, [], ◌∷◌, ◌++◌, length, map, filter, refl, sym, subst, ap, ◌∙◌, inl, inr, arith, Contains}
-use Rattle.std.specs.Prelude.{Option, Some, None, find, filter_map, slice_get, position, option_map, option_and_then, nat_lt}
-use Rattle.std.specs.List.{cons_option, position_or_len, range_with_len, enumerate_from}
-use Rattle.std.proofs.lemmas.Bool.{cases_Bool, cases_eq, eqb-true, eq-eqb, ne_eqb, lt-ltb}
+use Rattle.std.proofs.Common.{ℕ, zero, suc, ◌≡◌, ◌+◌, ◌<◌, ◌≤◌, ◌==◌, Bool, cond, List, [], ◌∷◌, length, map, refl, sym, ap, ◌∙◌, inl, inr, arith}
+use Rattle.std.specs.Prelude.{Option, Some, None, find, filter_map, slice_get, position, option_map, option_and_then}
+use Rattle.std.specs.List.{cons_option, position_or_len, range_with_len}
+use Rattle.std.proofs.lemmas.Bool.{cases_Bool, cases_eq, eq-eqb, ne_eqb, lt-ltb}
 use Rattle.std.proofs.lemmas.List.{length-map}
 use Rattle.std.proofs.lemmas.Option.{slice_get_within, slice_get-map}
 use Rattle.cell_num.specs.declared.net.NetNo.{NetNo}
 use Rattle.cell_num.specs.declared.net.Pins.{Pins}
-use Rattle.box_geom.specs.declared.layer.Layer.TheVariants.{Metal1}
 use Rattle.box_geom.specs.declared.shape.Shape.{Shape}
 use Rattle.channel_route.specs.declared.routing.Trunk.{Trunk}
 use Rattle.cell_draw.specs.declared.layout.Bar.{Bar}
@@ -15,8 +14,8 @@ use Rattle.cell_draw.specs.declared.layout.Layout.{Layout}
 use Rattle.cell_draw.specs.Layouts.{trunk_of}
 use Rattle.cell_draw.specs.Shapes.{gnd_rail, vdd_rail, bar_metal, shapes_of}
 use Rattle.lef_write.specs.declared.port.Port.{Port}
-use Rattle.lef_write.specs.Ports.{places_on, last_ones, place_of_trunk, place_of_net, net_no, port_with, port_of, ports_of, shape_of, port_shapes}
-use Rattle.lef_write.proofs.Shown.{places, front, at_place, at_last, metal_of}
+use Rattle.lef_write.specs.Ports.{last_ones, place_of_trunk, place_of_net, net_no, port_with, ports_of, shape_of, port_shapes}
+use Rattle.lef_write.proofs.Shown.{places, at_last}
 
 -- ---- the first item that passes
 

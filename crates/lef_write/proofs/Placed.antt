@@ -1,11 +1,11 @@
 -- Ports stand on metal1.
 use Rattle.std.proofs.Common.{ℕ, zero, suc, ◌≡◌, ◌+◌, ◌-◌, ◌==◌, length, Bool, true, false, cond, List, [], ◌∷◌, get_or, drop, refl, sym, ap, ◌∙◌, inl, inr, arith, All, Contains}
-use Rattle.std.specs.Prelude.{Option, Some, None, filter_map, slice_get, position, option_map, option_and_then}
+use Rattle.std.specs.Prelude.{Option, Some, None, slice_get, position, option_map, option_and_then}
 use Rattle.std.specs.List.{enumerate_from, range_with_len}
 use Rattle.std.proofs.lemmas.Bool.{cases_Bool, eqb-true}
 use Rattle.cell_num.specs.declared.net.NetNo.{NetNo}
 use Rattle.cell_num.specs.declared.net.Pins.{Pins}
-use Rattle.cell_num.proofs.Lists.{some_same, contains_none, contains_cons, contains_there, contains_get, all_from_contains, Kept, kept_from}
+use Rattle.cell_num.proofs.Lists.{some_same, contains_none, contains_cons, contains_there, contains_get, all_from_contains, kept_from}
 use Rattle.box_geom.specs.declared.layer.Layer.{Layer}
 use Rattle.box_geom.specs.declared.layer.Layer.TheVariants.{Well, Active, PSelect, NSelect, Poly, Contact, Metal1, Via, Metal2}
 use Rattle.box_geom.specs.declared.shape.Shape.{Shape}

@@ -1,27 +1,23 @@
 -- The obstructions are the metal that is no port.
-use Rattle.std.proofs.Common.{ℕ, zero, suc, ◌≡◌, ◌≢◌, ◌+◌, ◌-◌, ◌<◌, ◌≤◌, ◌==◌, ◌&&◌, not, Bool, true, false, cond, List, [], ◌∷◌, ◌++◌, length, get_or, drop, map, filter, refl, sym, subst, ap, ◌∙◌, inl, inr, ◌⊎◌, arith, append_assoc, length-append, All, AllPairs, Contains, IsPermutation}
-use Rattle.std.specs.Prelude.{Option, Some, None, filter_map, slice_get, position, option_map, option_and_then}
-use Rattle.std.specs.List.{list_any, cons_option, enumerate_from, range_with_len, position_or_len}
-use Rattle.std.proofs.lemmas.Bool.{cases_Bool, cases_eq, cases_lt, eqb-true, eq-eqb, ne_eqb, and_parts}
-use Rattle.std.proofs.lemmas.List.{length-map, map-append}
+use Rattle.std.proofs.Common.{ℕ, suc, ◌≡◌, ◌≢◌, ◌+◌, ◌≤◌, ◌==◌, not, true, false, List, [], ◌∷◌, ◌++◌, get_or, map, filter, refl, sym, subst, ap, ◌∙◌, inl, inr, arith, append_assoc, All, Contains, IsPermutation}
+use Rattle.std.specs.Prelude.{Some, filter_map, slice_get}
+use Rattle.std.specs.List.{enumerate_from}
+use Rattle.std.proofs.lemmas.Bool.{cases_Bool, eqb-true, eq-eqb}
+use Rattle.std.proofs.lemmas.List.{map-append}
 use Rattle.std.proofs.lemmas.List.Elements.{All-nil, All-cons, All-head, All-tail, All-contains}
 use Rattle.std.proofs.lemmas.List.Kept.{AllPairs-filter, AllPairs-cons}
-use Rattle.std.proofs.lemmas.List.Quantifiers.{position-Some}
-use Rattle.std.proofs.lemmas.List.Sorted.{IsPermutation-filter_both, IsPermutation-map, IsPermutation-trans, IsPermutation-sym, IsPermutation-append_left, IsPermutation-append_right}
-use Rattle.std.proofs.lemmas.Option.{slice_get_within, slice_get-get_or, get_or_from_slice_get}
-use Rattle.cell_num.specs.declared.net.NetNo.{NetNo}
-use Rattle.cell_num.specs.declared.net.Pins.{Pins}
-use Rattle.cell_num.proofs.Lists.{some_same, contains_none, contains_cons, contains_here, contains_there, contains_get, all_from_contains, all_imply, kept_from}
-use Rattle.cell_num.proofs.In.{Image, in_map, contains_map}
-use Rattle.cell_num.proofs.Pairs.{Some', test_finds, test_there, pairs_none, pairs_at, pairs_map}
+use Rattle.std.proofs.lemmas.List.Sorted.{IsPermutation-filter_both, IsPermutation-map, IsPermutation-trans, IsPermutation-sym, IsPermutation-append_left}
+use Rattle.std.proofs.lemmas.Option.{get_or_from_slice_get}
+use Rattle.cell_num.proofs.Lists.{some_same, all_imply}
+use Rattle.cell_num.proofs.In.{in_map, contains_map}
+use Rattle.cell_num.proofs.Pairs.{Some', test_finds, test_there, pairs_none}
 use Rattle.box_geom.specs.declared.layer.Layer.{Layer}
 use Rattle.box_geom.specs.declared.layer.Layer.TheVariants.{Metal1, Metal2}
 use Rattle.box_geom.specs.declared.shape.Shape.{Shape}
 use Rattle.box_geom.specs.Layers.{same_layer}
-use Rattle.channel_route.specs.declared.routing.Trunk.{Trunk}
 use Rattle.lef_write.specs.declared.port.Port.{Port}
 use Rattle.lef_write.specs.Drawn.{shapes_on, all_port_shapes, AreAllMetal}
-use Rattle.lef_write.specs.Ports.{place_on, places_on, is_taken, obstruction_on, obstructions_on, obstructions, IsOn, IsPort}
+use Rattle.lef_write.specs.Ports.{place_on, places_on, is_taken, obstruction_on, obstructions_on, IsPort}
 use Rattle.lef_write.proofs.Members.{Differ, same_members, filter_in, filter_from}
 use Rattle.lef_write.proofs.Placed.{one_layer}
 

@@ -1,6 +1,6 @@
 -- The metal1 shapes of a layout, and their places.
-use Rattle.std.proofs.Common.{ℕ, zero, suc, ◌≡◌, ◌+◌, ◌-◌, ◌≤◌, ◌<◌, Bool, true, false, List, [], ◌∷◌, ◌++◌, length, drop, map, filter, refl, sym, ap, ◌∙◌, inl, inr, length-append, arith, Contains}
-use Rattle.std.specs.Prelude.{Option, Some, None, filter_map, flat_map, slice_get, option_and_then}
+use Rattle.std.proofs.Common.{ℕ, zero, suc, ◌≡◌, ◌+◌, ◌-◌, List, [], ◌∷◌, ◌++◌, length, drop, map, refl, sym, ap, ◌∙◌, inl, inr, length-append, arith}
+use Rattle.std.specs.Prelude.{Some, filter_map, flat_map, slice_get, option_and_then}
 use Rattle.std.specs.List.{enumerate_from}
 use Rattle.std.proofs.lemmas.Bool.{cases_Bool}
 use Rattle.std.proofs.lemmas.List.{length-map}

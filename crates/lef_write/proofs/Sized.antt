@@ -1,5 +1,5 @@
 -- The width and the height of a drawn cell are the greatest x and the greatest y of its metal1.
-use Rattle.std.proofs.Common.{ℕ, ◌≡◌, ◌+◌, ◌*◌, ◌-◌, ◌≤◌, ◌<◌, Bool, true, false, List, [], ◌∷◌, ◌++◌, length, map, filter, refl, sym, subst, ap, ◌∙◌, inl, inr, arith, All, Any, Contains}
+use Rattle.std.proofs.Common.{ℕ, ◌≡◌, ◌+◌, ◌*◌, ◌≤◌, ◌<◌, List, [], ◌∷◌, ◌++◌, length, map, refl, sym, subst, ap, inl, inr, arith, All, Any, Contains}
 use Rattle.std.specs.Prelude.{Option, Some, None, option_map, flat_map, pos, ◌≤ℤ◌}
 use Rattle.std.proofs.lemmas.Bool.{cases_Bool}
 use Rattle.std.proofs.lemmas.Int.{ints}
@@ -7,10 +7,9 @@ use Rattle.std.proofs.lemmas.List.Elements.{All-nil, All-cons, All-head, All-tai
 use Rattle.cell_num.specs.declared.finger.Row.{Row}
 use Rattle.cell_num.specs.declared.finger.Row.TheVariants.{P, N}
 use Rattle.cell_num.specs.declared.net.Pins.{Pins}
-use Rattle.cell_num.proofs.Lists.{contains_here, contains_there, all_from_contains, all_flat, all_one, Kept, kept_from, some_same}
+use Rattle.cell_num.proofs.Lists.{contains_here, contains_there, all_from_contains, all_flat, all_one, kept_from, some_same}
 use Rattle.cell_num.proofs.Pairs.{any_at}
-use Rattle.box_geom.specs.declared.layer.Layer.{Layer}
-use Rattle.box_geom.specs.declared.layer.Layer.TheVariants.{Well, Active, PSelect, NSelect, Poly, Contact as ContactCut, Metal1, Via, Metal2}
+use Rattle.box_geom.specs.declared.layer.Layer.TheVariants.{Active, Poly, Contact as ContactCut, Metal1, Via}
 use Rattle.box_geom.specs.declared.shape.Shape.{Shape}
 use Rattle.box_geom.specs.Layers.{same_layer}
 use Rattle.row_place.specs.declared.placement.NodePlace.{NodePlace}
@@ -24,7 +23,6 @@ use Rattle.row_compact.specs.Allowed.{AreAllowed, stretches_of}
 use Rattle.row_compact.specs.Entries.{is_rail}
 use Rattle.row_compact.specs.Solution.{x_of}
 use Rattle.row_compact.proofs.Within.{trunk_line}
-use Rattle.cell_draw.specs.declared.drawing.Drawing.{Drawing}
 use Rattle.cell_draw.specs.declared.layout.Bar.{Bar}
 use Rattle.cell_draw.specs.declared.layout.Contact.{Contact}
 use Rattle.cell_draw.specs.declared.layout.Frame.{Frame}
@@ -32,12 +30,11 @@ use Rattle.cell_draw.specs.declared.layout.Gate.{Gate}
 use Rattle.cell_draw.specs.declared.layout.Layout.{Layout}
 use Rattle.cell_draw.specs.declared.layout.Strip.{Strip}
 use Rattle.cell_draw.specs.Drawings.{drawing_of, drawn_of}
-use Rattle.cell_draw.specs.Frame.{track_y}
-use Rattle.cell_draw.specs.Layouts.{width_of, contact_with, contact_of, bar_of, reach_of, layout_of}
+use Rattle.cell_draw.specs.Layouts.{contact_with, contact_of, bar_of, reach_of, layout_of}
 use Rattle.cell_draw.specs.Shapes.{around, cell_height, well, p_select, n_select, centre, landing, branch, gnd_rail, vdd_rail, frame_shapes, finger, strap, strap_high, reach_shapes, contact_shapes, gate_strip, pad_shapes, gate_shapes, bar_metal, via_shapes, bar_shapes, shapes_of}
 use Rattle.lef_write.specs.Drawn.{shapes_on, IsWithin, IsAtEnd, IsSized}
 use Rattle.lef_write.proofs.Placed.{one_layer}
-use Rattle.lef_write.proofs.Shown.{front, inner_shapes, metal_of}
+use Rattle.lef_write.proofs.Shown.{inner_shapes, metal_of}
 use Rattle.lef_write.proofs.Named.{rising}
 
 -- ---- metal1 of a layout whose contacts and bars lie within it

@@ -1,12 +1,10 @@
 -- The macro of a cell as the text of a LEF library, by the LEF/DEF 5.8 Language Reference. Numbers are in
 -- microns.
-use Rattle.std.specs.Prelude.{ℕ, ◌+◌, ◌*◌, ◌/◌, ◌%◌, ◌==◌, ◌&&◌, ℤ, pos, int_lt, unsigned_abs, List, [], ◌∷◌, ◌++◌, length, codes, decimal, slice_get, get_or, unwrap_or, if◌then◌else◌}
+use Rattle.std.specs.Prelude.{ℕ, ◌+◌, ◌*◌, ◌/◌, ◌%◌, ◌==◌, ◌&&◌, ℤ, pos, int_lt, unsigned_abs, List, [], ◌∷◌, ◌++◌, length, codes, decimal, slice_get, unwrap_or, if◌then◌else◌}
 use Rattle.std.specs.List.{flat_map, range_with_len}
 use Rattle.cell_num.specs.declared.net.NetNo.{NetNo}
 use Rattle.cell_num.specs.declared.net.Pins.{Pins}
 use Rattle.cell_num.specs.Lines.{text_line}
-use Rattle.box_geom.specs.Rectangle.{Rectangle}
-use Rattle.box_geom.specs.declared.layer.Layer.{Layer}
 use Rattle.box_geom.specs.declared.layer.Layer.TheVariants.{Metal1, Metal2}
 use Rattle.box_geom.specs.declared.shape.Shape.{Shape}
 use Rattle.spice_net.specs.declared.subckt.Direction.{Direction}

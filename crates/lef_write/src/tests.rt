@@ -1,7 +1,7 @@
-ghost use Rattle.std.specs.Prelude.{◌≡◌, IfOk};
+ghost use Rattle.std.specs.Prelude.{◌≤◌};
 
 use crate::lef_text;
-use box_geom::{Label, LabelList, Layer, Rect, Shape, ShapeList, Shapes};
+use box_geom::{LabelList, Layer, Rect, Shape, ShapeList, Shapes};
 use cell_draw::{Drawing, MOST_SHAPES};
 use cell_num::{Names, NetNo, NoMemory, Pins, copy};
 use channel_route::{Routing, Trunk, TrunkList};
@@ -191,6 +191,7 @@ fn cell(
     alloc: Global,
     name: &[u8],
     words: &[&[u8]],
+    pins: Pins,
     directions: &[Direction],
 ) -> Result<Subckt, NoMemory> {
     let mut nets = Names::new(alloc);
@@ -199,18 +200,23 @@ fn cell(
     }
     let mut listed = DirectionList::new(alloc);
     listed.extend(directions)?;
-    let pins = words.len() as u32;
     Ok(Subckt {
         name: copy(alloc, name)?,
-        pins: Pins {
-            pins,
-            vdd: NetNo(pins - 2),
-            gnd: NetNo(pins - 1),
-        },
+        pins,
         nets,
         devices: DeviceList::new(alloc),
         directions: listed,
     })
+}
+
+fn rails_behind(signals: u32) -> Pins
+    requires { signals ≤ 64 }
+{
+    Pins {
+        pins: signals + 2,
+        vdd: NetNo(signals),
+        gnd: NetNo(signals + 1),
+    }
 }
 
 fn routing(alloc: Global, trunks: &[Trunk]) -> Result<Routing, NoMemory> {
@@ -262,7 +268,8 @@ fn writes_an_inverter(rt: HostRuntime) -> Result<(), Fail> {
         Direction::Inout,
         Direction::Inout,
     ];
-    let cell = cell(alloc, b"inv", &[b"a", b"y", b"vdd", b"gnd"], &directions)?;
+    let names: [&[u8]; 4] = [b"a", b"y", b"vdd", b"gnd"];
+    let cell = cell(alloc, b"inv", &names, rails_behind(2), &directions)?;
     let routing = routing(alloc, &[trunk(0, 1), trunk(1, 0)])?;
     let drawing = drawing(alloc, &INVERTER, 41)?;
     assert!(rt; is_written(alloc, &cell, &routing, &drawing, &INVERTER_TEXT)?);
@@ -273,7 +280,8 @@ fn writes_an_inverter(rt: HostRuntime) -> Result<(), Fail> {
 fn writes_a_cell_without_metal2(rt: HostRuntime) -> Result<(), Fail> {
     let alloc = rt.alloc();
     let directions = [Direction::Input, Direction::Inout, Direction::Inout];
-    let cell = cell(alloc, b"hold", &[b"a", b"vdd", b"gnd"], &directions)?;
+    let names: [&[u8]; 3] = [b"a", b"vdd", b"gnd"];
+    let cell = cell(alloc, b"hold", &names, rails_behind(1), &directions)?;
     let routing = routing(alloc, &[trunk(0, 1)])?;
     let drawing = drawing(alloc, &CAPACITOR, 38)?;
     assert!(rt; is_written(alloc, &cell, &routing, &drawing, &CAPACITOR_TEXT)?);
