@@ -1,9 +1,10 @@
-use Rattle.std.proofs.Common.{◌≡◌, ap, arith, sym, List, ◌∙◌}
+use Rattle.std.proofs.Common.{◌≡◌, ap, arith, subst, sym, List, ◌∙◌}
 use Rattle.row_state.specs.declared.step.Step.{Step}
 use Rattle.row_state.specs.Start.{columns_left}
 use Rattle.row_state.proofs.Valid.{gates_are_nets}
+use Rattle.bound_log.specs.declared.log.Lemma.{Lemma}
 use Rattle.log_check.specs.Accepted.{best_of}
-use Rattle.row_search.specs.Limits.{found_of}
+use Rattle.row_search.specs.Limits.{IsOpen, found_of}
 use Rattle.row_search.specs.Visit.{HasFailed, HasFound, HasSpent}
 use Rattle.row_search.proofs.Least.{bound_le}
 use Rattle.row_search.proofs.Tried.{failed_known, failed_more, failed_none, found_at, open_at}
@@ -20,7 +21,8 @@ returns-in-Ok-Some-clause-found g c =
 pub returns-in-Err-Spent-clause-stopped : goal.returns-in-Err-Spent-clause-stopped
 returns-in-Err-Spent-clause-stopped g c =
     let spent : HasSpent c.args.task.now.kinds.now c.args.task.now.budget c.in_ok-first.first.state c.loop-limit.progress c.visit.new.progress = c.in-Err-Spent.ensures.spent c.in-Err-Spent.field-0-is in
-    open_at (g.B.RowBound.value c.args.task.now.bound.now) c.args.task.now.kinds.now c.args.task.now.budget c.in_ok-first.first.state c.loop-limit.limit c.best_at-proved.result c.loop-limit.progress c.visit.new.progress c.requires.kinds c.in_ok-first.ensures.state c.loop-limit.invariant c.in-Err-Spent.ensures.further spent (c.best_at-proved.ensures c.args.task.now.kinds.now c.in_ok-first.first.state (sym c.in_ok-first.ensures.numbered.code) ∙ spent.knows.table c.in_ok-first.first.state c.in_ok-first.ensures.numbered.valid)
+    subst (λ (kept : List Lemma). IsOpen (g.B.RowBound.value c.args.task.now.bound.now) c.args.task.now.kinds.now c.args.task.now.budget kept c.best_at-proved.result) (sym c.into_kept-kept.ensures)
+    (open_at (g.B.RowBound.value c.args.task.now.bound.now) c.args.task.now.kinds.now c.args.task.now.budget c.in_ok-first.first.state c.loop-limit.limit c.best_at-proved.result c.loop-limit.progress c.visit.new.progress c.requires.kinds c.in_ok-first.ensures.state c.loop-limit.invariant c.in-Err-Spent.ensures.further spent (c.best_at-proved.ensures c.args.task.now.kinds.now c.in_ok-first.first.state (sym c.in_ok-first.ensures.numbered.code) ∙ spent.knows.table c.in_ok-first.first.state c.in_ok-first.ensures.numbered.valid))
 
 pub loop-limit-preserved : goal.loop-limit-preserved
 loop-limit-preserved g c =
