@@ -45,10 +45,10 @@ hit_right (r ∷ rs) ss x y h = inr (hit_right rs ss x y h)
 -- ---- the runs of a row
 
 -- how many of the numbers are not above x
-abbrev upto : ℤ → List ℤ → ℕ
+abbrev pub upto : ℤ → List ℤ → ℕ
 upto x zs = tally (λ z. int_le z x) zs
 
-none_upto : (low x : ℤ) (zs : List ℤ) → Above low zs → x ≤ℤ low → upto x zs ≡ 0
+pub none_upto : (low x : ℤ) (zs : List ℤ) → Above low zs → x ≤ℤ low → upto x zs ≡ 0
 none_upto low x [] h below = refl
 none_upto low x (z ∷ zs) h below = let first : low <ℤ z = h.0 in let rest = none_upto z x zs h.1 (omega (arith, ints)) in rw (above_is z x (omega (arith, ints))) (omega (arith, rest))
 
@@ -56,7 +56,7 @@ abbrev size : List ℤ → ℕ
 size zs = tally (λ z. true) zs
 
 -- where a cell of the row lies between the numbers of a list that ascends
-by_pair : {P : Type 0} (a b x : ℤ) (zs : List ℤ) → a <ℤ b → Above b zs → (x <ℤ a → upto x (a ∷ b ∷ zs) ≡ 0 → upto x zs ≡ 0 → P) → (a ≤ℤ x → x <ℤ b → upto x (a ∷ b ∷ zs) ≡ 1 → upto x zs ≡ 0 → P) → (b ≤ℤ x → upto x (a ∷ b ∷ zs) ≡ 2 + upto x zs → P) → P
+pub by_pair : {P : Type 0} (a b x : ℤ) (zs : List ℤ) → a <ℤ b → Above b zs → (x <ℤ a → upto x (a ∷ b ∷ zs) ≡ 0 → upto x zs ≡ 0 → P) → (a ≤ℤ x → x <ℤ b → upto x (a ∷ b ∷ zs) ≡ 1 → upto x zs ≡ 0 → P) → (b ≤ℤ x → upto x (a ∷ b ∷ zs) ≡ 2 + upto x zs → P) → P
 by_pair a b x zs less h before inside behind =
     by_lt_z x a
     (λ low. let none : upto x zs ≡ 0 = none_upto b x zs h (omega (arith, ints)) in before low (rw (above_is a x low, above_is b x (omega (arith, ints))) (omega (arith, none))) none)
@@ -103,7 +103,7 @@ record IsBand (ys : List ℤ) (c y : ℤ) : Type 0 where
   listed : In ys c
   slot : (v : ℤ) → In ys v → int_le v y ≡ int_le v c
 
-not_below : (low v : ℤ) (ys : List ℤ) → Above low ys → In ys v → low <ℤ v
+pub not_below : (low v : ℤ) (ys : List ℤ) → Above low ys → In ys v → low <ℤ v
 not_below low v [] h i = absurd i
 not_below low v (z ∷ zs) h (inl e) = subst (λ w. low <ℤ w) e h.0
 not_below low v (z ∷ zs) h (inr i) = let first : low <ℤ z = h.0 in let rest : z <ℤ v = not_below z v zs h.1 i in omega (arith, ints)
@@ -192,7 +192,7 @@ crossed_same ys c x y (s ∷ ss) band ends = both (crosses_same ys c y s band en
     both : crosses y s ≡ crosses c s → tally (is_crossed x y) ss ≡ tally (is_crossed x c) ss → cond (crosses y s && int_le s.from.x x) 1 0 + tally (is_crossed x y) ss ≡ cond (crosses c s && int_le s.from.x x) 1 0 + tally (is_crossed x c) ss
     both p q = rw (p, q) refl
 
-crossings_upto : (x c : ℤ) (ss : List Step) → upto x (crossings c ss) % 2 ≡ tally (is_crossed x c) ss % 2
+pub crossings_upto : (x c : ℤ) (ss : List Step) → upto x (crossings c ss) % 2 ≡ tally (is_crossed x c) ss % 2
 crossings_upto x c ss =
     odd_parity (λ z. int_le z x) (map (λ (s : Step). s.from.x) (filter (crosses c) ss))
     ∙ ap (λ (n : ℕ). n % 2) (tally_mapped (λ (s : Step). s.from.x) (crosses c) (λ z. int_le z x) ss)
@@ -224,12 +224,12 @@ in_toggled h v (z ∷ zs) i =
     by_lt_z h z
     (λ less. rw (less_is h z less) (inr i))
     (λ most. by_lt_z z h
-    (λ more. rw (more_is h z most, less_is z h more) (rest i))
+    (λ more. rw (more_is h z most, less_is z h more) (rest (λ j. in_toggled h v zs j) i))
     (λ even. rw (more_is h z most, more_is z h even) i))
   where
-    rest : In (z ∷ zs) v → In (z ∷ with_height h zs) v
-    rest (inl e) = inl e
-    rest (inr j) = inr (in_toggled h v zs j)
+    rest : (In zs v → In (with_height h zs) v) → In (z ∷ zs) v → In (z ∷ with_height h zs) v
+    rest later (inl e) = inl e
+    rest later (inr j) = inr (later j)
 
 in_new : (h : ℤ) (zs : List ℤ) → In (with_height h zs) h
 in_new h [] = inl refl
@@ -240,7 +240,7 @@ in_new h (z ∷ zs) =
     (λ more. rw (more_is h z most, less_is z h more) (inr (in_new h zs)))
     (λ even. rw (more_is h z most, more_is z h even) (inl (let e : z ≡ h = omega (arith, ints) in e))))
 
-in_heights : (ps : List Point) (p : Point) → In ps p → In (heights ps) p.y
+pub in_heights : (ps : List Point) (p : Point) → In ps p → In (heights ps) p.y
 in_heights [] p i = absurd i
 in_heights (q ∷ ps) p (inl e) = subst (λ (r : Point). In (heights (q ∷ ps)) r.y) e (in_new q.y (heights ps))
 in_heights (q ∷ ps) p (inr i) = in_toggled q.y p.y (heights ps) (in_heights ps p i)
@@ -249,7 +249,7 @@ all_ends : (ys : List ℤ) (a : Point) (bs : List Point) → ((p : Point) → In
 all_ends ys a [] h = tt
 all_ends ys a (b ∷ bs) h = (record { from = h a (inl refl); to = h b (inr (inl refl)) }, all_ends ys b bs (λ p i. h p (inr i)))
 
-heights_up : (ps : List Point) → Up (heights ps)
+pub heights_up : (ps : List Point) → Up (heights ps)
 heights_up [] = tt
 heights_up (p ∷ ps) = height_up p.y (heights ps) (heights_up ps)
 

@@ -16,7 +16,7 @@ use Rattle.gds_read.specs.declared.fault.GdsFault.TheVariants as fault
 use Rattle.gds_read.specs.declared.units.Grid.{Grid}
 use Rattle.cell_num.specs.Steps.{◌>>=◌}
 use Rattle.gds_read.specs.Grammar.{element_begun}
-use Rattle.gds_read.specs.Elements.{Element, until, with_element, elements_of, nothing_drawn, joined, drawn_at, drawn_by, drawn, Adds, Gives}
+use Rattle.gds_read.specs.Elements.{Element, until, with_element, elements_of, nothing_drawn, joined, drawn_at, drawn_by, drawn, drawn_record, Adds, Gives}
 
 pub adds_same : (f : GdsFault) (old new : Shapes) → Adds (Err f) old new (Err f)
 adds_same (fault.Cut at) old new = refl
@@ -123,13 +123,9 @@ ends_here bytes grid at done r e k = ap (λ (t : List Item). with_front done (dr
 here : (bytes : List ℕ) (grid : Grid) (count at : ℕ) (r : GdsRec) → record_at bytes at ≡ Ok r → (r.code ≡ number_of record_type.EndStr → ⊥) → drawn_from bytes grid count at ≡ (drawn_at grid count (item_of bytes r) (items_from bytes r.next) (type_numbered r.code) >>= rest_after grid count (elements_of (items_from bytes r.next)))
 here bytes grid count at r e other = ap (λ (t : List Item). drawn grid count (elements_of t)) (items_more bytes at r e) ∙ elements_more grid count (item_of bytes r) (items_from bytes r.next) other
 
--- what a record draws behind shapes that were drawn
-abbrev pub drawn_next : List ℕ → Grid → Shapes → GdsRec → Result Shapes GdsFault
-drawn_next bytes grid done r = drawn_at grid (length done.rects) (item_of bytes r) (items_from bytes r.next) (type_numbered r.code)
-
-pub goes_on_with : (bytes : List ℕ) (grid : Grid) (at : ℕ) (done new : Shapes) (r : GdsRec) → record_at bytes at ≡ Ok r → (r.code ≡ number_of record_type.EndStr → ⊥) → Adds (Ok tt) done new (drawn_next bytes grid done r) → drawn_behind bytes grid done at ≡ drawn_behind bytes grid new r.next
+pub goes_on_with : (bytes : List ℕ) (grid : Grid) (at : ℕ) (done new : Shapes) (r : GdsRec) → record_at bytes at ≡ Ok r → (r.code ≡ number_of record_type.EndStr → ⊥) → Adds (Ok tt) done new (drawn_record bytes grid done r) → drawn_behind bytes grid done at ≡ drawn_behind bytes grid new r.next
 goes_on_with bytes grid at done new r e other adds =
-    ap (λ (t : Result Shapes GdsFault). with_front done t) (here bytes grid (length done.rects) at r e other) ∙ go (drawn_next bytes grid done r) adds
+    ap (λ (t : Result Shapes GdsFault). with_front done t) (here bytes grid (length done.rects) at r e other) ∙ go (drawn_record bytes grid done r) adds
   where
     go : (x : Result Shapes GdsFault) → Adds (Ok tt) done new x → with_front done (x >>= rest_after grid (length done.rects) (elements_of (items_from bytes r.next))) ≡ drawn_behind bytes grid new r.next
     go (Ok one) same =
@@ -138,7 +134,7 @@ goes_on_with bytes grid at done new r e other adds =
         ∙ ap (λ (s : Shapes). drawn_behind bytes grid s r.next) (sym same))
     go (Err f) impossible = absurd impossible
 
-with_fault : (bytes : List ℕ) (grid : Grid) (at : ℕ) (done : Shapes) (r : GdsRec) (f : GdsFault) → record_at bytes at ≡ Ok r → (r.code ≡ number_of record_type.EndStr → ⊥) → drawn_next bytes grid done r ≡ Err f → drawn_behind bytes grid done at ≡ Err f
+with_fault : (bytes : List ℕ) (grid : Grid) (at : ℕ) (done : Shapes) (r : GdsRec) (f : GdsFault) → record_at bytes at ≡ Ok r → (r.code ≡ number_of record_type.EndStr → ⊥) → drawn_record bytes grid done r ≡ Err f → drawn_behind bytes grid done at ≡ Err f
 with_fault bytes grid at done r f e other k = ap (λ (t : Result Shapes GdsFault). with_front done t) (here bytes grid (length done.rects) at r e other ∙ ap (λ (x : Result Shapes GdsFault). x >>= rest_after grid (length done.rects) (elements_of (items_from bytes r.next))) k)
 
 gives_same : (f : GdsFault) (all : Result Shapes GdsFault) → all ≡ Err f → Gives (Err f) all
@@ -181,9 +177,9 @@ fault_of fault.NoMemory old new (Err g) adds = inl refl
 fault_of (fault.Wide at) old new (Ok one) adds = inr adds
 fault_of (fault.Wide at) old new (Err g) adds = inr adds
 
-pub stops : (bytes : List ℕ) (grid : Grid) (at : ℕ) (done new : Shapes) (r : GdsRec) (f : GdsFault) (all : Result Shapes GdsFault) → record_at bytes at ≡ Ok r → (r.code ≡ number_of record_type.EndStr → ⊥) → Adds (Err f) done new (drawn_next bytes grid done r) → drawn_behind bytes grid done at ≡ all → Gives (Err f) all
+pub stops : (bytes : List ℕ) (grid : Grid) (at : ℕ) (done new : Shapes) (r : GdsRec) (f : GdsFault) (all : Result Shapes GdsFault) → record_at bytes at ≡ Ok r → (r.code ≡ number_of record_type.EndStr → ⊥) → Adds (Err f) done new (drawn_record bytes grid done r) → drawn_behind bytes grid done at ≡ all → Gives (Err f) all
 stops bytes grid at done new r f all e other adds so =
-    elim (fault_of f done new (drawn_next bytes grid done r) adds) [
+    elim (fault_of f done new (drawn_record bytes grid done r) adds) [
       | inl short ↦ rw short tt
       | inr same ↦ gives_same f all (sym so ∙ with_fault bytes grid at done r f e other same)
     ]

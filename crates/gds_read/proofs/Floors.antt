@@ -13,7 +13,7 @@ record IsBelow (v d z : ℤ) : Type 0 where
 
 behind : (q n d r : ℕ) → d * q + r ≡ n → r < d → negsuc n <ℤ ((negsuc q +ℤ pos 1) *ℤ pos d)
 behind zero n d r whole rest = omega (arith, ints)
-behind (suc k) n d r whole rest = omega (arith, ints, whole)
+behind (suc k) n d r whole rest = let e : negsuc (suc k) +ℤ pos 1 ≡ negsuc k = omega (arith, ints) in rw e (omega (arith, ints, whole))
 
 down : (v : ℤ) (d : ℕ) → 0 < d → IsBelow v (pos d) (int_div_euclid v (pos d))
 down (pos n) d some =

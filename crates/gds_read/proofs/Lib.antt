@@ -1,4 +1,5 @@
 pub mod Ascending
+pub mod BandRuns
 pub mod Cells
 pub mod Covered
 pub mod Decoded
@@ -23,6 +24,8 @@ pub mod RoundTripLocated
 pub mod RoundTripPadded
 pub mod RoundTripRedrawn
 pub mod RoundTripWords
+pub mod Rows
+pub mod Stretches
 pub mod Sweeping
 pub mod Tails
 pub mod Trim

@@ -195,26 +195,22 @@ closed_at r p a b c d g = closed_is r a b c d p g
 pub walks_are : (r : Rectangle) → IsProper r → AreWalksOf r
 walks_are r p =
     record {
-      left_open = (
-        open_at r p (at false false) (at false true) (at true true) (at true false) (goes refl refl refl refl refl),
-        open_at r p (at false true) (at true true) (at true false) (at false false) (goes refl refl refl refl refl),
-        open_at r p (at true true) (at true false) (at false false) (at false true) (goes refl refl refl refl refl),
-        open_at r p (at true false) (at false false) (at false true) (at true true) (goes refl refl refl refl refl),
-        open_at r p (at false false) (at true false) (at true true) (at false true) (goes refl refl refl refl refl),
-        open_at r p (at true false) (at true true) (at false true) (at false false) (goes refl refl refl refl refl),
-        open_at r p (at true true) (at false true) (at false false) (at true false) (goes refl refl refl refl refl),
-        open_at r p (at false true) (at false false) (at true false) (at true true) (goes refl refl refl refl refl),
-        tt,
-      );
-      taken_round = (
-        closed_at r p (at false false) (at false true) (at true true) (at true false) (goes refl refl refl refl refl),
-        closed_at r p (at false true) (at true true) (at true false) (at false false) (goes refl refl refl refl refl),
-        closed_at r p (at true true) (at true false) (at false false) (at false true) (goes refl refl refl refl refl),
-        closed_at r p (at true false) (at false false) (at false true) (at true true) (goes refl refl refl refl refl),
-        closed_at r p (at false false) (at true false) (at true true) (at false true) (goes refl refl refl refl refl),
-        closed_at r p (at true false) (at true true) (at false true) (at false false) (goes refl refl refl refl refl),
-        closed_at r p (at true true) (at false true) (at false false) (at true false) (goes refl refl refl refl refl),
-        closed_at r p (at false true) (at false false) (at true false) (at true true) (goes refl refl refl refl refl),
-        tt,
-      );
+      left_open = (open_at r p (at false false) (at false true) (at true true) (at true false) (goes refl refl refl refl refl),
+      (open_at r p (at false true) (at true true) (at true false) (at false false) (goes refl refl refl refl refl),
+      (open_at r p (at true true) (at true false) (at false false) (at false true) (goes refl refl refl refl refl),
+      (open_at r p (at true false) (at false false) (at false true) (at true true) (goes refl refl refl refl refl),
+      (open_at r p (at false false) (at true false) (at true true) (at false true) (goes refl refl refl refl refl),
+      (open_at r p (at true false) (at true true) (at false true) (at false false) (goes refl refl refl refl refl),
+      (open_at r p (at true true) (at false true) (at false false) (at true false) (goes refl refl refl refl refl),
+      (open_at r p (at false true) (at false false) (at true false) (at true true) (goes refl refl refl refl refl),
+      tt))))))));
+      taken_round = (closed_at r p (at false false) (at false true) (at true true) (at true false) (goes refl refl refl refl refl),
+      (closed_at r p (at false true) (at true true) (at true false) (at false false) (goes refl refl refl refl refl),
+      (closed_at r p (at true true) (at true false) (at false false) (at false true) (goes refl refl refl refl refl),
+      (closed_at r p (at true false) (at false false) (at false true) (at true true) (goes refl refl refl refl refl),
+      (closed_at r p (at false false) (at true false) (at true true) (at false true) (goes refl refl refl refl refl),
+      (closed_at r p (at true false) (at true true) (at false true) (at false false) (goes refl refl refl refl refl),
+      (closed_at r p (at true true) (at false true) (at false false) (at true false) (goes refl refl refl refl refl),
+      (closed_at r p (at false true) (at false false) (at true false) (at true true) (goes refl refl refl refl refl),
+      tt))))))));
     }

@@ -83,7 +83,7 @@ faulty_behind grid count (e ∷ es) f h = elim (bind_err (drawn_by grid count e 
 first_faulty : (grid : Grid) (es : List Element) (f : GdsFault) → drawn grid 0 es ≡ Err f → IsFirstFaulty grid es f
 first_faulty grid es f h =
     let s = faulty_behind grid 0 es f h in
-    record { before = s.before; shapes = s.shapes; faulty = s.faulty; behind = s.behind; is = s.is; drawn_before = s.drawn_before; fault = s.fault }
+    record { before = s.before; shapes = s.shapes; faulty = s.faulty; behind = s.behind; is = s.is; drawn_before = s.drawn_before; fault = ap (λ (n : ℕ). drawn_by grid n s.faulty s.faulty.kind) (let e : length s.shapes.rects ≡ 0 + length s.shapes.rects = omega arith in e) ∙ s.fault }
 
 faulty_drawn : (grid : Grid) (count : ℕ) (before behind : List Element) (faulty : Element) (f : GdsFault) (shapes : Shapes) → drawn grid count before ≡ Ok shapes → drawn_by grid (count + length shapes.rects) faulty faulty.kind ≡ Err f → drawn grid count (before ++ (faulty ∷ behind)) ≡ Err f
 unfolding drawn
@@ -141,4 +141,4 @@ cell_fault_is bytes name lambda f (inr (inl c)) = passed_on bytes name lambda c.
 cell_fault_is bytes name lambda f (inr (inr (inl c))) = passed_on bytes name lambda c.end (c.first ∷ c.second ∷ c.more) f (only bytes c.end c.library) c.two (ap (λ (g : GdsFault). Err g) (sym c.fault))
 cell_fault_is bytes name lambda f (inr (inr (inr c))) =
     passed_on bytes name lambda c.end (c.records ∷ []) f (only bytes c.end c.library) c.one
-    (ap (λ (t : List Element). drawn (grid_in bytes lambda) 0 t) c.first.is ∙ faulty_drawn (grid_in bytes lambda) 0 c.first.before c.first.behind c.first.faulty f c.first.shapes c.first.drawn_before c.first.fault)
+    (ap (λ (t : List Element). drawn (grid_in bytes lambda) 0 t) c.first.is ∙ faulty_drawn (grid_in bytes lambda) 0 c.first.before c.first.behind c.first.faulty f c.first.shapes c.first.drawn_before (ap (λ (n : ℕ). drawn_by (grid_in bytes lambda) n c.first.faulty c.first.faulty.kind) (let e : 0 + length c.first.shapes.rects ≡ length c.first.shapes.rects = omega arith in e) ∙ c.first.fault))

@@ -79,5 +79,5 @@ waits out x = record { more = λ rest. refl }
 pub goes : (out : List ℤ) (c x : ℤ) → c ≡ x → PairsOff out (Some c) x out None
 goes out c x e = record { more = λ rest. rw (same_is c x e) refl }
 
-pub stays : (out : List ℤ) (c x : ℤ) → (c ≡ x → ⊥) → PairsOff out (Some c) x (out ++ c ∷ []) (Some x)
-stays out c x differ = record { more = λ rest. rw (other_is c x differ) (append_assoc out (c ∷ []) (unpaired (Some x) rest)) }
+pub stays : (out new : List ℤ) (c x : ℤ) → new ≡ out ++ c ∷ [] → (c ≡ x → ⊥) → PairsOff out (Some c) x new (Some x)
+stays out new c x e differ = record { more = λ rest. rw (e, other_is c x differ) (append_assoc out (c ∷ []) (unpaired (Some x) rest)) }

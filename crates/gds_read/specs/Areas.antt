@@ -55,8 +55,8 @@ put pen rects [] = Ok rects
 put pen rects (a ∷ xs) = shape_of pen a >>= λ s. put pen (with_kept rects s) xs
 
 -- the areas that an element is told to have, or its fault
-abbrev pub put_told : Pen → List Shape → Result (List Area) GdsFault → Result (List Shape) GdsFault
-put_told pen rects told = told >>= put pen rects
+abbrev pub put_all : Pen → List Shape → Result (List Area) GdsFault → Result (List Shape) GdsFault
+put_all pen rects told = told >>= put pen rects
 
 -- Memory may run out anywhere; else the rectangles are the ones told, or the fault.
 abbrev pub Puts : Result (Unit {0}) GdsFault → List Shape → Result (List Shape) GdsFault → Type 0

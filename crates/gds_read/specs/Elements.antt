@@ -7,13 +7,14 @@ use Rattle.gds_record.specs.declared.types.RecordType.{RecordType}
 use Rattle.gds_record.specs.declared.types.RecordType.TheVariants as record_type
 use Rattle.gds_record.specs.Layers.{layer_numbered}
 use Rattle.gds_record.specs.Types.{number_of, type_numbered}
-use Rattle.gds_record.specs.Records.{Item, items_from}
+use Rattle.gds_record.specs.Records.{Item, item_of, items_from}
 use Rattle.gds_record.specs.declared.record.GdsRec.{GdsRec}
 use Rattle.gds_read.specs.declared.fault.GdsFault.{GdsFault}
 use Rattle.gds_read.specs.declared.fault.GdsFault.TheVariants as fault
 use Rattle.gds_read.specs.declared.units.Grid.{Grid}
 use Rattle.gds_read.specs.declared.area.Area.{Area}
 use Rattle.gds_read.specs.declared.area.Pen.{Pen}
+use Rattle.gds_read.specs.declared.path.Reach.{Reach}
 use Rattle.gds_read.specs.declared.point.Point.{Point}
 use Rattle.gds_read.specs.declared.label.Spot.{Spot}
 use Rattle.gds_read.specs.Units.{floor_units_of}
@@ -22,7 +23,7 @@ use Rattle.gds_read.specs.Points.{signed_at, points_of, has_slant, closed}
 use Rattle.gds_read.specs.EvenOdd.{boundary_rectangles}
 use Rattle.gds_read.specs.Paths.{width_of, past_ends, path_areas}
 use Rattle.gds_read.specs.Areas.{area_of, shapes_of}
-use Rattle.cell_num.specs.Steps.{◌>>=◌, require, or_fault}
+use Rattle.cell_num.specs.Steps.{◌>>=◌, require}
 use Rattle.gds_read.specs.Grammar.{element_begun}
 
 -- the records before the first one of a type
@@ -94,19 +95,23 @@ boundary_areas at points = require (not (has_slant (closed points))) (fault.Slan
 abbrev pub half_of : List Item → ℕ
 half_of inside = width_of (content_of record_type.Width inside)
 
--- how far a path goes past its outer points, where its ends have one of the two forms
-abbrev pub ends_of_path : List Item → Option ℕ
-ends_of_path inside = past_ends (half_of inside) (short_of (content_of record_type.PathType inside))
-
 abbrev pub form_fault : List Item → GdsFault
 form_fault inside = fault.Kind (place_of (find (is_type record_type.PathType) inside)) (number_of record_type.PathType)
 
+abbrev pub reach_told : ℕ → GdsFault → Option ℕ → Result Reach GdsFault
+reach_told half f None = Err f
+reach_told half f (Some ends) = Ok (record { half = half; ends = ends })
+
+-- half its width, and how far it goes past its outer points; its ends have one of two forms
+abbrev pub reach_of : List Item → Result Reach GdsFault
+reach_of inside = reach_told (half_of inside) (form_fault inside) (past_ends (half_of inside) (short_of (content_of record_type.PathType inside)))
+
+unfoldable pub areas_along : ℕ → Reach → List Point → Result (List Area) GdsFault
+areas_along at reach points = require (not (has_slant points)) (fault.Slant at) >>= λ _. Ok (path_areas reach.half reach.ends points)
+
 -- The form of the ends is looked at first.
-unfoldable pub path_areas_of : ℕ → List Item → Result (List Area) GdsFault
-path_areas_of at inside =
-    or_fault (ends_of_path inside) (form_fault inside)
-    >>= λ ends. require (not (has_slant (points_of (xy_of inside)))) (fault.Slant at)
-    >>= λ _. Ok (path_areas (half_of inside) ends (points_of (xy_of inside)))
+abbrev pub path_areas_of : ℕ → List Item → Result (List Area) GdsFault
+path_areas_of at inside = reach_of inside >>= λ reach. areas_along at reach (points_of (xy_of inside))
 
 -- the areas of an element, in halves of a file unit; its points stand at a place
 abbrev pub areas_of : ℕ → List Item → RecordType → Result (List Area) GdsFault
@@ -192,3 +197,11 @@ Adds (Ok _) old new (Ok one) = new ≡ joined old one
 Adds (Ok _) old new (Err e) = ⊥
 Adds (Err fault.NoMemory) old new read = Unit {0}
 Adds (Err f) old new read = read ≡ Err f
+
+-- what drawing the element of a record does to them
+abbrev pub Draws : Result (Unit {0}) GdsFault → List ℕ → GdsRec → RecordType → Grid → Shapes → Shapes → Type 0
+Draws result bytes rec kind grid old new = Adds result old new (drawn_by grid (length old.rects) (element_of bytes rec kind) kind)
+
+-- what a record of some bytes draws behind the shapes that were drawn
+abbrev pub drawn_record : List ℕ → Grid → Shapes → GdsRec → Result Shapes GdsFault
+drawn_record bytes grid done r = drawn_at grid (length done.rects) (item_of bytes r) (items_from bytes r.next) (type_numbered r.code)

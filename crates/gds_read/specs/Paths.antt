@@ -47,10 +47,13 @@ segments half ends past [] = []
 segments half ends past (a ∷ []) = []
 segments half ends past (a ∷ b ∷ more) = segment half past (past_second half ends more) a b ∷ segments half ends half (b ∷ more)
 
+abbrev pub all_segments : ℕ → ℕ → List Point → List Area
+all_segments half ends points = segments half ends ends points
+
 -- how far the ends go: not past the outer points at type 0, half the width at type 2
 abbrev pub past_ends : ℕ → ℕ → Option ℕ
 past_ends half form = if form == 0 then Some 0 else if form == 2 then Some half else None
 
 -- a path of width 0 covers nothing
 abbrev pub path_areas : ℕ → ℕ → List Point → List Area
-path_areas half ends points = if half == 0 then [] else segments half ends ends (thinned points)
+path_areas half ends points = if half == 0 then [] else all_segments half ends (thinned points)

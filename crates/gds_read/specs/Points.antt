@@ -13,8 +13,11 @@ abbrev pub point_at : ℕ → List ℕ → Point
 point_at at xy = record { x = signed_at at xy; y = signed_at (at + 4) xy }
 
 -- each point has eight bytes
+abbrev pub first_points : ℕ → List ℕ → List Point
+first_points n xy = map (λ i. point_at (8 * i) xy) (range_with_len 0 n)
+
 abbrev pub points_of : List ℕ → List Point
-points_of xy = map (λ i. point_at (8 * i) xy) (range_with_len 0 (length xy / 8))
+points_of xy = first_points (length xy / 8) xy
 
 -- from one point to the next
 pub record Step : Type 0 where

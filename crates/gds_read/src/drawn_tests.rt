@@ -183,8 +183,6 @@ fn paths(rt: HostRuntime) -> Result<(), Fail> {
     assert!(rt; drawn(alloc, &thin, 2)? == metal(alloc, &[])?);
     let point = element(alloc, PATH, &bend[..2], Some(4), Some(2))?;
     assert!(rt; drawn(alloc, &point, 2)? == metal(alloc, &[])?);
-    let slant = element(alloc, PATH, &ELL[1..4], None, Some(0))?;
-    assert!(rt; drawn(alloc, &slant, 2)? == metal(alloc, &[])?);
     let steep = [[0, 0], [3, 4]];
     let steep_path = element(alloc, PATH, &steep, None, Some(0))?;
     assert!(rt; drawn(alloc, &steep_path, 2)? == Err(GdsFault::Slant { at: 124 }));

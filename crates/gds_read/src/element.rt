@@ -1,11 +1,9 @@
 // What an element draws.
 ghost use Rattle.std.specs.Prelude.{◌≡◌, ◌≤◌, ◌<◌, ◌+◌, length, OnOk};
-ghost use Rattle.gds_record.specs.Records.{item_of, items_from};
 ghost use Rattle.gds_record.specs.declared.types.RecordType.TheVariants as record_type;
-ghost use Rattle.gds_record.specs.Types.{type_numbered};
 ghost use Rattle.gds_read.specs.Points.{points_of};
-ghost use Rattle.gds_read.specs.Areas.{put_told, Puts};
-ghost use Rattle.gds_read.specs.Elements.{inside_of, element_of, pen_for, boundary_areas, path_areas_of, drawn_at, drawn_by, Adds};
+ghost use Rattle.gds_read.specs.Areas.{put_all, Puts};
+ghost use Rattle.gds_read.specs.Elements.{inside_of, pen_for, boundary_areas, reach_of, areas_along, path_areas_of, drawn_record, Adds, Draws};
 
 use crate::GdsFault;
 use crate::area::{MOST_RECTANGLES, Pen};
@@ -44,17 +42,60 @@ fn boundary(
     rects: &mut ShapeList,
 ) -> Result<(), GdsFault>
     requires grid { 1 ≤ pen.now.grid.lambda_nm }
-    ensures { Puts result rects.new (put_told pen.now rects.old (boundary_areas pen.now.at (points_of xy.now))) }
+    ensures { Puts result rects.new (put_all pen.now rects.old (boundary_areas pen.now.at (points_of xy.now))) }
 {
     let mut walk = points(alloc, xy)?;
     close(&mut walk)?;
     if slanted(walk.as_slice()) {
         return Err(GdsFault::Slant { at: pen.at });
     }
-    add_inside(alloc, walk.as_slice(), pen, rects)?;
-    Ok(())
+    match add_inside(alloc, walk.as_slice(), pen, rects) {
+        Ok(()) => Ok(()),
+        Err(fault) => Err(fault),
+    }
 }
 
+// How broad a path is, and how far it goes past its outer points.
+fn reach(bytes: &[u8], rec: &GdsRec) -> Result<Reach, GdsFault>
+    requires size { length bytes.now ≤ MOST_BYTES }
+    requires place { rec.now.next ≤ length bytes.now }
+    ensures { result ≡ reach_of (inside_of bytes.now rec.now) }
+{
+    let half = width(element_content(bytes, rec.next, RecordType::Width));
+    let form = short(element_content(bytes, rec.next, RecordType::PathType));
+    match past_ends(half, form) {
+        Some(ends) => Ok(Reach { half, ends }),
+        None => {
+            Err(GdsFault::Kind {
+                at: field_place(bytes, rec.next, RecordType::PathType),
+                code: RecordType::PathType.number(),
+            })
+        }
+    }
+}
+
+#[tactic(auto, unfolding(crate::specs::Elements::areas_along))]
+fn along(
+    alloc: Global,
+    xy: &[u8],
+    reach: &Reach,
+    pen: &Pen,
+    rects: &mut ShapeList,
+) -> Result<(), GdsFault>
+    requires grid { 1 ≤ pen.now.grid.lambda_nm }
+    ensures { Puts result rects.new (put_all pen.now rects.old (areas_along pen.now.at reach.now (points_of xy.now))) }
+{
+    let points = points(alloc, xy)?;
+    if slanted(points.as_slice()) {
+        return Err(GdsFault::Slant { at: pen.at });
+    }
+    match add_path_areas(reach, points, pen, rects) {
+        Ok(()) => Ok(()),
+        Err(fault) => Err(fault),
+    }
+}
+
+#[tactic(auto, using(crate::proofs::Putting::puts_same))]
 fn path(
     alloc: Global,
     bytes: &[u8],
@@ -65,22 +106,17 @@ fn path(
     requires size { length bytes.now ≤ MOST_BYTES }
     requires place { rec.now.next ≤ length bytes.now }
     requires grid { 1 ≤ pen.now.grid.lambda_nm }
-    ensures { Puts result rects.new (put_told pen.now rects.old (path_areas_of pen.now.at (inside_of bytes.now rec.now))) }
+    ensures { Puts result rects.new (put_all pen.now rects.old (path_areas_of pen.now.at (inside_of bytes.now rec.now))) }
 {
-    let half = width(element_content(bytes, rec.next, RecordType::Width));
-    let form = short(element_content(bytes, rec.next, RecordType::PathType));
-    let Some(ends) = past_ends(half, form) else {
-        return Err(GdsFault::Kind {
-            at: field_place(bytes, rec.next, RecordType::PathType),
-            code: RecordType::PathType.number(),
-        });
+    let reach = match reach(bytes, rec) {
+        Ok(reach) => reach,
+        Err(fault) => return Err(fault),
     };
-    let points = points(alloc, element_content(bytes, rec.next, RecordType::Xy))?;
-    if slanted(points.as_slice()) {
-        return Err(GdsFault::Slant { at: pen.at });
+    let xy = element_content(bytes, rec.next, RecordType::Xy);
+    match along(alloc, xy, &reach, pen, rects) {
+        Ok(()) => Ok(()),
+        Err(fault) => Err(fault),
     }
-    add_path_areas(&Reach { half, ends }, points, pen, rects)?;
-    Ok(())
 }
 
 #[tactic(auto, using(crate::proofs::Limits::adds_drawn, crate::proofs::Limits::is_wide, crate::proofs::Limits::adds_fault))]
@@ -95,14 +131,17 @@ fn add_boundary(
     requires place { rec.now.next ≤ length bytes.now }
     requires grid { 1 ≤ grid.now.lambda_nm }
     requires room { length shapes.now.rects ≤ MOST_RECTANGLES }
-    ensures adds { Adds result shapes.old shapes.new (drawn_by grid.now (length shapes.old.rects) (element_of bytes.now rec.now record_type.Boundary) record_type.Boundary) }
+    ensures adds { Draws result bytes.now rec.now record_type.Boundary grid.now shapes.old shapes.new }
     ensures room { OnOk result (length shapes.new.rects ≤ MOST_RECTANGLES) }
 {
     let Some(pen) = pen(bytes, rec, grid) else {
         return Ok(());
     };
     let xy = element_content(bytes, rec.next, RecordType::Xy);
-    boundary(alloc, xy, &pen, &mut shapes.rects)?;
+    match boundary(alloc, xy, &pen, &mut shapes.rects) {
+        Ok(()) => {}
+        Err(fault) => return Err(fault),
+    }
     if shapes.rects.len() > MOST_RECTANGLES {
         return Err(GdsFault::Wide { at: rec.at });
     }
@@ -121,13 +160,16 @@ fn add_path(
     requires place { rec.now.next ≤ length bytes.now }
     requires grid { 1 ≤ grid.now.lambda_nm }
     requires room { length shapes.now.rects ≤ MOST_RECTANGLES }
-    ensures adds { Adds result shapes.old shapes.new (drawn_by grid.now (length shapes.old.rects) (element_of bytes.now rec.now record_type.Path) record_type.Path) }
+    ensures adds { Draws result bytes.now rec.now record_type.Path grid.now shapes.old shapes.new }
     ensures room { OnOk result (length shapes.new.rects ≤ MOST_RECTANGLES) }
 {
     let Some(pen) = pen(bytes, rec, grid) else {
         return Ok(());
     };
-    path(alloc, bytes, rec, &pen, &mut shapes.rects)?;
+    match path(alloc, bytes, rec, &pen, &mut shapes.rects) {
+        Ok(()) => {}
+        Err(fault) => return Err(fault),
+    }
     if shapes.rects.len() > MOST_RECTANGLES {
         return Err(GdsFault::Wide { at: rec.at });
     }
@@ -147,7 +189,7 @@ pub fn add_element(
     requires place { rec.now.next ≤ length bytes.now }
     requires grid { 1 ≤ grid.now.lambda_nm }
     requires room { length shapes.now.rects ≤ MOST_RECTANGLES }
-    ensures adds { Adds result shapes.old shapes.new (drawn_by grid.now (length shapes.old.rects) (element_of bytes.now rec.now kind) kind) }
+    ensures adds { Draws result bytes.now rec.now kind grid.now shapes.old shapes.new }
     ensures room { OnOk result (length shapes.new.rects ≤ MOST_RECTANGLES) }
 {
     match kind {
@@ -171,7 +213,7 @@ pub fn add_record(
     requires place { rec.now.next ≤ length bytes.now }
     requires grid { 1 ≤ grid.now.lambda_nm }
     requires room { length shapes.now.rects ≤ MOST_RECTANGLES }
-    ensures adds { Adds result shapes.old shapes.new (drawn_at grid.now (length shapes.old.rects) (item_of bytes.now rec.now) (items_from bytes.now rec.now.next) (type_numbered rec.now.code)) }
+    ensures adds { Adds result shapes.old shapes.new (drawn_record bytes.now grid.now shapes.old rec.now) }
     ensures room { OnOk result (length shapes.new.rects ≤ MOST_RECTANGLES) }
 {
     match RecordType::numbered(rec.code) {

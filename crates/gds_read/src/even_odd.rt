@@ -115,7 +115,10 @@ fn add_runs(
 {
     let mut rest = xs;
     while let [from, to, more @ ..] = rest {
-        add_area(pen, &run(low, high, from, to), rects)?;
+        match add_area(pen, &run(low, high, from, to), rects) {
+            Ok(()) => {}
+            Err(fault) => return Err(fault),
+        }
         rest = more;
     }
     Ok(())
@@ -129,7 +132,7 @@ fn take(xs: &mut Vec<i32>, end: &SideEnd) -> Result<(), AllocError>
 }
 
 // Draws what lies between the heights of ends that are sorted.
-#[tactic(auto, using(crate::proofs::Putting::stops, crate::proofs::Putting::goes_on))]
+#[tactic(auto, using(crate::proofs::Rows::same_row, crate::proofs::Rows::next_row, crate::proofs::Rows::row_stops))]
 fn sweep(
     alloc: Global,
     ends: &[SideEnd],
@@ -147,12 +150,15 @@ fn sweep(
     for end in ends {
         if end.y == row.y {
             take(&mut xs, end)?;
-        } else {
-            xs = odd_ones(alloc, xs)?;
-            add_runs(&row, end, xs.as_slice(), pen, rects)?;
-            take(&mut xs, end)?;
-            row = *end;
+            continue;
         }
+        xs = odd_ones(alloc, xs)?;
+        match add_runs(&row, end, xs.as_slice(), pen, rects) {
+            Ok(()) => {}
+            Err(fault) => return Err(fault),
+        }
+        take(&mut xs, end)?;
+        row = *end;
     }
     Ok(())
 }
@@ -173,6 +179,8 @@ pub fn add_inside(
     };
     let mut ends = side_ends(alloc, first, rest)?;
     ends.sort_unstable();
-    sweep(alloc, ends.as_slice(), pen, rects)?;
-    Ok(())
+    match sweep(alloc, ends.as_slice(), pen, rects) {
+        Ok(()) => Ok(()),
+        Err(fault) => Err(fault),
+    }
 }

@@ -2,9 +2,8 @@
 ghost use Rattle.std.specs.Prelude.{◌≡◌, ◌≤◌, ◌<◌, ◌+◌, ◌==◌, not, [], ◌∷◌, length, find, option_map, IfSome};
 ghost use Rattle.gds_record.specs.Records.{item_of, items_from};
 ghost use Rattle.gds_record.specs.declared.types.RecordType.TheVariants as record_type;
-ghost use Rattle.gds_record.specs.Layers.{layer_numbered};
 ghost use Rattle.gds_read.specs.Structure.{is_type};
-ghost use Rattle.gds_read.specs.Elements.{until, content_of, place_of, short_of};
+ghost use Rattle.gds_read.specs.Elements.{until, content_of, place_of, short_of, layer_of};
 
 use box_geom::Layer;
 use cell_num::MOST_BYTES;
@@ -80,7 +79,7 @@ pub fn short(content: &[u8]) -> u16
 pub fn element_layer(bytes: &[u8], from: u64) -> Option<Layer>
     requires size { length bytes.now ≤ MOST_BYTES }
     requires place { from ≤ length bytes.now }
-    ensures { result ≡ layer_numbered (short_of (content_of record_type.Layer (until record_type.EndEl (items_from bytes.now from)))) }
+    ensures { result ≡ layer_of (until record_type.EndEl (items_from bytes.now from)) }
 {
     layers::numbered(short(element_content(bytes, from, RecordType::Layer)))
 }

@@ -1,7 +1,7 @@
 // Labels.
 ghost use Rattle.std.specs.Prelude.{◌≡◌, ◌≤◌, ◌<◌, ◌+◌, ◌==◌, length, OnOk};
 ghost use Rattle.gds_record.specs.declared.types.RecordType.TheVariants as record_type;
-ghost use Rattle.gds_read.specs.Elements.{element_of, spot_of, text_spot, with_label, joined, drawn_by, Adds};
+ghost use Rattle.gds_read.specs.Elements.{element_of, spot_of, text_spot, with_label, joined, Draws};
 
 use crate::GdsFault;
 use crate::area::MOST_RECTANGLES;
@@ -91,7 +91,7 @@ pub fn add_text(
     requires place { rec.now.next ≤ length bytes.now }
     requires grid { 1 ≤ grid.now.lambda_nm }
     requires room { length shapes.now.rects ≤ MOST_RECTANGLES }
-    ensures adds { Adds result shapes.old shapes.new (drawn_by grid.now (length shapes.old.rects) (element_of bytes.now rec.now record_type.Text) record_type.Text) }
+    ensures adds { Draws result bytes.now rec.now record_type.Text grid.now shapes.old shapes.new }
     ensures room { OnOk result (length shapes.new.rects ≤ MOST_RECTANGLES) }
 {
     let spot = text(bytes, rec, grid)?;

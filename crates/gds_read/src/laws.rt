@@ -1,4 +1,5 @@
 ghost use Rattle.std.specs.Prelude.{◌≡◌, ◌↔◌, ◌≤◌, ℕ, ℤ, List, Some, Ok, Err};
+ghost use Rattle.std.specs.List.{Contains, AllPairs};
 ghost use Rattle.gds_record.specs.Records.{IsBytes};
 ghost use Rattle.gds_read.specs.declared.fault.GdsFault.{GdsFault};
 ghost use Rattle.gds_read.specs.Grammar.{first_pass_of};
@@ -14,7 +15,7 @@ ghost use Rattle.gds_read.specs.declared.point.Point.{Point};
 ghost use Rattle.gds_read.specs.declared.units.Grid.{Grid};
 ghost use Rattle.gds_read.specs.EvenOdd.{IsInside, boundary_rectangles};
 ghost use Rattle.gds_read.specs.Units.{floor_units_of};
-ghost use Rattle.gds_read.specs.Drawn.{AreWalksOf, IsFloor};
+ghost use Rattle.gds_read.specs.Drawn.{AreWalksOf, IsRunOf, IsBefore, IsFloor};
 
 /// The first pass accepts the bytes of a library, and no others, and else answers the first fault. It
 /// does nothing: its contract is the law.
@@ -47,11 +48,14 @@ pub fn written_grammar()
 {}
 
 /// Each of the eight walks round a rectangle, left open or taken round, is that rectangle. The cells of a
-/// boundary are those from which a line to the left crosses an odd number of its sides. A label stands at
+/// boundary are those from which a line to the left crosses an odd number of its sides; each of its
+/// rectangles is a run of them between neighbouring heights of its points, in order. A label stands at
 /// the greatest whole number of grid units that is not above its point. It does nothing: its contract is
 /// the law.
 pub fn drawn_elements()
     ensures walks { (r : Rectangle) → IsProper r → AreWalksOf r }
     ensures cells { (points : List Point) (x y : ℤ) → Covers (boundary_rectangles points) x y ↔ IsInside points x y }
+    ensures runs { (points : List Point) (r : Rectangle) → Contains (boundary_rectangles points) r → IsRunOf points r }
+    ensures order { (points : List Point) → AllPairs IsBefore (boundary_rectangles points) }
     ensures label { (grid : Grid) (value units : ℤ) → 1 ≤ grid.lambda_nm → floor_units_of grid value ≡ Some units → IsFloor grid value units }
 {}

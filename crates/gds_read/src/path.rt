@@ -1,7 +1,7 @@
 // The areas of a path.
 ghost use Rattle.std.specs.Prelude.{◌≡◌, ◌≤◌, ◌==◌, if◌then◌else◌, IfOk};
 ghost use Rattle.gds_read.specs.Areas.{put, Puts};
-ghost use Rattle.gds_read.specs.Paths.{thinned, width_of, stretch, long, segment, segments, past_ends, path_areas};
+ghost use Rattle.gds_read.specs.Paths.{thinned, width_of, stretch, long, segment, all_segments, past_second, past_ends, path_areas};
 
 use crate::GdsFault;
 use crate::area::{Area, Pen, Span, add_area};
@@ -77,8 +77,18 @@ fn segment(half: u32, past_a: u32, past_b: u32, a: &Point, b: &Point) -> Area
     }
 }
 
+// How far a segment goes past its second point, before these points.
+fn past_second(reach: &Reach, more: &[Point]) -> u32
+    ensures { result ≡ past_second reach.now.half reach.now.ends more.now }
+{
+    match more {
+        [] => reach.ends,
+        [_, ..] => reach.half,
+    }
+}
+
 // Draws the segments between points that neighbours do not share.
-#[tactic(auto, using(crate::proofs::Putting::stops, crate::proofs::Putting::goes_on))]
+#[tactic(auto, using(crate::proofs::Putting::stops, crate::proofs::Putting::goes_on, crate::proofs::Rows::no_segment))]
 fn add_segments(
     reach: &Reach,
     points: &[Point],
@@ -86,13 +96,16 @@ fn add_segments(
     rects: &mut ShapeList,
 ) -> Result<(), GdsFault>
     requires grid { 1 ≤ pen.now.grid.lambda_nm }
-    ensures { Puts result rects.new (put pen.now rects.old (segments reach.now.half reach.now.ends reach.now.ends points.now)) }
+    ensures { Puts result rects.new (put pen.now rects.old (all_segments reach.now.half reach.now.ends points.now)) }
 {
     let mut rest = points;
     let mut past = reach.ends;
     while let [a, b, more @ ..] = rest {
-        let past_second = if more.is_empty() { reach.ends } else { reach.half };
-        add_area(pen, &segment(reach.half, past, past_second, a, b), rects)?;
+        let past_second = past_second(reach, more);
+        match add_area(pen, &segment(reach.half, past, past_second, a, b), rects) {
+            Ok(()) => {}
+            Err(fault) => return Err(fault),
+        }
         past = reach.half;
         rest = &rest[1..];
     }
@@ -120,6 +133,8 @@ pub fn add_path_areas(
         return Ok(());
     }
     let points = thin(points);
-    add_segments(reach, points.as_slice(), pen, rects)?;
-    Ok(())
+    match add_segments(reach, points.as_slice(), pen, rects) {
+        Ok(()) => Ok(()),
+        Err(fault) => Err(fault),
+    }
 }
