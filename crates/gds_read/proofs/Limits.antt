@@ -1,5 +1,5 @@
 -- What an element draws is kept up to the limit, and told where it goes beyond.
-use Rattle.std.proofs.Common.{ℕ, ◌≡◌, ◌+◌, ◌<◌, ◌≤◌, true, false, nat_lt, if◌then◌else◌, Bool, Some, List, [], ◌∷◌, ◌++◌, length, Result, Ok, Err, refl, sym, ap, ◌∙◌, arith, ◌⊎◌, inl, inr, append_assoc, append-nil}
+use Rattle.std.proofs.Common.{ℕ, ◌≡◌, ◌+◌, ◌<◌, ◌≤◌, true, false, nat_lt, if◌then◌else◌, Bool, Option, Some, None, option_map, List, [], ◌∷◌, ◌++◌, length, Result, Ok, Err, refl, sym, subst, ap, ◌∙◌, arith, ◌⊎◌, inl, inr, append_assoc, append-nil}
 use Rattle.std.proofs.lemmas.Bool.{cases_Bool, ltb-true, ltb-false}
 use Rattle.std.proofs.Common.{length-append}
 use Rattle.box_geom.specs.declared.shape.Shape.{Shape}
@@ -9,8 +9,12 @@ use Rattle.gds_read.specs.declared.fault.GdsFault.{GdsFault}
 use Rattle.gds_read.specs.declared.fault.GdsFault.TheVariants as fault
 use Rattle.gds_read.specs.declared.area.Area.{Area}
 use Rattle.gds_read.specs.declared.area.Pen.{Pen}
-use Rattle.gds_read.specs.Areas.{shape_of, shapes_of, with_kept, put, Puts}
-use Rattle.gds_read.specs.Elements.{joined, rectangles, within_limit, drawn_on, Adds}
+use Rattle.box_geom.specs.declared.layer.Layer.{Layer}
+use Rattle.gds_record.specs.Records.{Item}
+use Rattle.gds_read.specs.declared.units.Grid.{Grid}
+use Rattle.gds_read.specs.Points.{points_of}
+use Rattle.gds_read.specs.Areas.{shape_of, shapes_of, with_kept, put, put_all, Puts}
+use Rattle.gds_read.specs.Elements.{joined, rectangles, within_limit, layer_of, xy_place, xy_of, boundary_areas, path_areas_of, pen_of, pen_for, drawn_on, Adds}
 use Rattle.gds_read.proofs.Putting.{fault_of}
 use Rattle.gds_read.proofs.Drawings.{adds_same}
 use Rattle.cell_num.specs.Steps.{◌>>=◌}
@@ -136,7 +140,7 @@ faulty at pen old (Ok xs) f e = by (shapes_of pen xs) (sym (put_is pen old xs) �
     by (Ok rects) p = absurd cc
     by (Err g) p = ap (λ (h : GdsFault). Err h) (fault_is g f p)
 
-pub adds_fault : (at : ℕ) (pen : Pen) (old new : Shapes) (last : List Shape) (areas : Result (List Area) GdsFault) (f : GdsFault) → Puts (Err f) last (areas >>= put pen old.rects) → Adds (Err f) old new (drawn_on at (length old.rects) (Some pen) areas)
+pub adds_fault : (at : ℕ) (pen : Pen) (old new : Shapes) (last : List Shape) (areas : Result (List Area) GdsFault) (f : GdsFault) → Puts {A = Unit {0}} (Err f) last (areas >>= put pen old.rects) → Adds (Err f) old new (drawn_on at (length old.rects) (Some pen) areas)
 adds_fault at pen old new last areas f puts = elim (fault_of f last (areas >>= put pen old.rects) puts) [
   | inl short ↦ rw short (out (drawn_on at (length old.rects) (Some pen) areas))
   | inr same ↦ rw (faulty at pen old.rects areas f same) (adds_same f old new)
@@ -145,3 +149,28 @@ adds_fault at pen old new last areas f puts = elim (fault_of f last (areas >>= p
     out : (x : Result Shapes GdsFault) → Adds (Err fault.NoMemory) old new x
     out (Ok s) = tt
     out (Err g) = tt
+
+-- ---- the faults of a boundary and of a path
+
+pen_at : (grid : Grid) (inside : List Item) (pen : Pen) → pen_for grid inside ≡ Some pen → pen.at ≡ xy_place inside
+pen_at grid inside pen e = by (layer_of inside) e
+  where
+    some_is : (a b : Pen) → ◌≡◌ {A = Option Pen} (Some a) (Some b) → a ≡ b
+    some_is a b q = cc
+
+    by : (o : Option Layer) → option_map (pen_of grid inside) o ≡ Some pen → pen.at ≡ xy_place inside
+    by None q = absurd cc
+    by (Some on) q = ap (λ (p : Pen). p.at) (sym (some_is (pen_of grid inside on) pen q))
+
+pub boundary_fault : (grid : Grid) (at : ℕ) (inside : List Item) (pen : Pen) (old new : Shapes) (last : List Shape) (xy : List ℕ) (f : GdsFault) → pen_for grid inside ≡ Some pen → xy ≡ xy_of inside → Puts {A = Unit {0}} (Err f) last (put_all pen old.rects (boundary_areas pen.at (points_of xy))) → Adds (Err f) old new (drawn_on at (length old.rects) (pen_for grid inside) (boundary_areas (xy_place inside) (points_of (xy_of inside))))
+boundary_fault grid at inside pen old new last xy f told points puts =
+    subst (λ (o : Option Pen). Adds (Err f) old new (drawn_on at (length old.rects) o (boundary_areas (xy_place inside) (points_of (xy_of inside))))) (sym told)
+    (adds_fault at pen old new last (boundary_areas (xy_place inside) (points_of (xy_of inside))) f
+    (subst (λ (t : List ℕ). Puts {A = Unit {0}} (Err f) last (put_all pen old.rects (boundary_areas (xy_place inside) (points_of t)))) points
+    (subst (λ (n : ℕ). Puts {A = Unit {0}} (Err f) last (put_all pen old.rects (boundary_areas n (points_of xy)))) (pen_at grid inside pen told) puts)))
+
+pub path_fault : (grid : Grid) (at : ℕ) (inside : List Item) (pen : Pen) (old new : Shapes) (last : List Shape) (f : GdsFault) → pen_for grid inside ≡ Some pen → Puts {A = Unit {0}} (Err f) last (put_all pen old.rects (path_areas_of pen.at inside)) → Adds (Err f) old new (drawn_on at (length old.rects) (pen_for grid inside) (path_areas_of (xy_place inside) inside))
+path_fault grid at inside pen old new last f told puts =
+    subst (λ (o : Option Pen). Adds (Err f) old new (drawn_on at (length old.rects) o (path_areas_of (xy_place inside) inside))) (sym told)
+    (adds_fault at pen old new last (path_areas_of (xy_place inside) inside) f
+    (subst (λ (n : ℕ). Puts {A = Unit {0}} (Err f) last (put_all pen old.rects (path_areas_of n inside))) (pen_at grid inside pen told) puts))

@@ -24,7 +24,7 @@ pub goes_on : (pen : Pen) (old new : List Shape) (xs bs : List Area) → put pen
 goes_on pen old new xs bs e = put_more pen old xs bs ∙ ap (λ (x : Result (List Shape) GdsFault). x >>= λ new. put pen new bs) e
 
 -- Memory ran out, or the fault is the one told.
-pub fault_of : (f : GdsFault) (new : List Shape) (x : Result (List Shape) GdsFault) → Puts (Err f) new x → (f ≡ fault.NoMemory) ⊎ (x ≡ Err f)
+pub fault_of : (f : GdsFault) (new : List Shape) (x : Result (List Shape) GdsFault) → Puts {A = Unit {0}} (Err f) new x → (f ≡ fault.NoMemory) ⊎ (x ≡ Err f)
 fault_of (fault.Cut at) new x puts = inr puts
 fault_of (fault.Length at) new x puts = inr puts
 fault_of (fault.Order at code) new x puts = inr puts
@@ -38,7 +38,7 @@ fault_of (fault.Reference at) new x puts = inr puts
 fault_of fault.NoMemory new x puts = inl refl
 fault_of (fault.Wide at) new x puts = inr puts
 
-pub puts_same : (f : GdsFault) (new : List Shape) (x : Result (List Shape) GdsFault) → x ≡ Err f → Puts (Err f) new x
+pub puts_same : (f : GdsFault) (new : List Shape) (x : Result (List Shape) GdsFault) → x ≡ Err f → Puts {A = Unit {0}} (Err f) new x
 puts_same (fault.Cut at) new x e = e
 puts_same (fault.Length at) new x e = e
 puts_same (fault.Order at code) new x e = e
@@ -53,12 +53,12 @@ puts_same fault.NoMemory new x e = tt
 puts_same (fault.Wide at) new x e = e
 
 -- a fault stays the fault of what follows
-pub carried : (f : GdsFault) (new last : List Shape) (x y : Result (List Shape) GdsFault) → Puts (Err f) new x → (x ≡ Err f → y ≡ Err f) → Puts (Err f) last y
+pub carried : (f : GdsFault) (new last : List Shape) (x y : Result (List Shape) GdsFault) → Puts {A = Unit {0}} (Err f) new x → (x ≡ Err f → y ≡ Err f) → Puts {A = Unit {0}} (Err f) last y
 carried f new last x y puts so = elim (fault_of f new x puts) [
   | inl short ↦ rw short tt
   | inr same ↦ puts_same f last y (so same)
 ]
 
-pub stops : (pen : Pen) (old new last : List Shape) (xs bs : List Area) (f : GdsFault) (all : Result (List Shape) GdsFault) → Puts (Err f) new (put pen old xs) → put pen old (xs ++ bs) ≡ all → Puts (Err f) last all
+pub stops : (pen : Pen) (old new last : List Shape) (xs bs : List Area) (f : GdsFault) (all : Result (List Shape) GdsFault) → Puts {A = Unit {0}} (Err f) new (put pen old xs) → put pen old (xs ++ bs) ≡ all → Puts {A = Unit {0}} (Err f) last all
 stops pen old new last xs bs f all puts so =
     carried f new last (put pen old xs) all puts (λ e. sym so ∙ (put_more pen old xs bs ∙ ap (λ (x : Result (List Shape) GdsFault). x >>= λ new. put pen new bs) e))

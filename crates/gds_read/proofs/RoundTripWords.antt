@@ -132,7 +132,7 @@ abbrev pub scaled_up : ℕ → Rectangle → Rectangle
 scaled_up unit r = record { x1 = r.x1 *ℤ pos unit; y1 = r.y1 *ℤ pos unit; x2 = r.x2 *ℤ pos unit; y2 = r.y2 *ℤ pos unit }
 
 pub rectangle_back : (unit : ℕ) (r : Rectangle) → 0 < unit → IsRectangle r → rectangle_of (grid unit) (area_of (scaled_up unit r)) ≡ Some r
-unfolding rectangle_of
+unfolding rectangle_of area_of
 rectangle_back unit r some is =
     let x1 : IsLimited r.x1 = omega (arith, ints) in
     let x2 : IsLimited r.x2 = omega (arith, ints) in

@@ -18,7 +18,7 @@ use Rattle.cell_num.specs.Steps.{◌>>=◌}
 abbrev pub span_of : ℤ → ℤ → Span
 span_of low high = record { low = pos 2 *ℤ low; high = pos 2 *ℤ high }
 
-abbrev pub area_of : Rectangle → Area
+unfoldable pub area_of : Rectangle → Area
 area_of r = record { across = span_of r.x1 r.x2; upward = span_of r.y1 r.y2 }
 
 -- two coordinates in halves of a file unit as the ends of a side in grid units
@@ -58,8 +58,12 @@ put pen rects (a ∷ xs) = shape_of pen a >>= λ s. put pen (with_kept rects s) 
 abbrev pub put_all : Pen → List Shape → Result (List Area) GdsFault → Result (List Shape) GdsFault
 put_all pen rects told = told >>= put pen rects
 
--- Memory may run out anywhere; else the rectangles are the ones told, or the fault.
-abbrev pub Puts : Result (Unit {0}) GdsFault → List Shape → Result (List Shape) GdsFault → Type 0
+-- Memory may run out anywhere; else the fault is the one told.
+abbrev pub Faults : GdsFault → Result (List Shape) GdsFault → Type 0
+Faults fault.NoMemory told = Unit {0}
+Faults f told = told ≡ Err f
+
+-- the rectangles are the ones told, or the fault
+abbrev pub Puts : {A : Type 0} → Result A GdsFault → List Shape → Result (List Shape) GdsFault → Type 0
 Puts (Ok _) new told = told ≡ Ok new
-Puts (Err fault.NoMemory) new told = Unit {0}
-Puts (Err f) new told = told ≡ Err f
+Puts (Err f) new told = Faults f told

@@ -1,9 +1,11 @@
 -- What the functions give that go over a boundary row by row.
-use Rattle.std.specs.Prelude.{ℕ, ◌≡◌, Bool, ℤ, List, [], ◌∷◌, ◌++◌, Option, Some, None, if◌then◌else◌}
+use Rattle.std.specs.Prelude.{ℕ, ◌≡◌, Bool, ℤ, List, [], ◌∷◌, ◌++◌, map, Option, Some, None, if◌then◌else◌}
 use Rattle.std.specs.List.{flat_map}
 use Rattle.std.specs.Ordering.{int_eq}
 use Rattle.box_geom.specs.Rectangle.{Rectangle}
 use Rattle.gds_read.specs.declared.even_odd.SideEnd.{SideEnd}
+use Rattle.gds_read.specs.declared.area.Area.{Area}
+use Rattle.gds_read.specs.Areas.{area_of}
 use Rattle.gds_read.specs.Points.{Step}
 use Rattle.gds_read.specs.EvenOdd.{odd_ones, runs}
 
@@ -19,6 +21,10 @@ unpaired None [] = []
 unpaired (Some c) [] = c ∷ []
 unpaired None (x ∷ xs) = unpaired (Some x) xs
 unpaired (Some c) (x ∷ xs) = if int_eq c x then unpaired None xs else c ∷ unpaired (Some x) xs
+
+-- the runs of the rows from one end's height to that of the next one
+abbrev pub row_areas : SideEnd → SideEnd → List ℤ → List Area
+row_areas row end xs = map area_of (runs row.y end.y (odd_ones xs))
 
 -- one number more, whatever follows it
 pub record PairsOff (old : List ℤ) (waiting : Option ℤ) (x : ℤ) (new : List ℤ) (now : Option ℤ) : Type 0 where

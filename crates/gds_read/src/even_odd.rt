@@ -4,7 +4,7 @@ ghost use Rattle.std.specs.Prelude.{◌≡◌, ◌≤◌, [], ◌∷◌, ◌++�
 ghost use Rattle.gds_read.specs.Points.{steps_from};
 ghost use Rattle.gds_read.specs.EvenOdd.{odd_ones, runs, inside_walk};
 ghost use Rattle.gds_read.specs.Areas.{area_of, put, Puts};
-ghost use Rattle.gds_read.specs.Sweep.{ends_of, unpaired, PairsOff, swept_all};
+ghost use Rattle.gds_read.specs.Sweep.{ends_of, unpaired, PairsOff, row_areas, swept_all};
 
 use crate::GdsFault;
 use crate::area::{Area, Pen, add_area, doubled};
@@ -36,6 +36,13 @@ fn side_ends(alloc: Global, first: &Point, rest: &[Point]) -> Result<Vec<SideEnd
     Ok(ends)
 }
 
+fn push(xs: &mut Vec<i32>, x: &i32) -> Result<(), AllocError>
+    ensures { OnOk result (xs.new.items ≡ xs.old.items ++ x.now ∷ []) }
+{
+    xs.push(*x)?;
+    Ok(())
+}
+
 // A number of a sorted list goes away with its like, or waits for it.
 #[tactic(auto, using(crate::proofs::Unpaired::waits, crate::proofs::Unpaired::goes, crate::proofs::Unpaired::stays))]
 fn pair_off(
@@ -51,7 +58,7 @@ fn pair_off(
             if y == *x {
                 return Ok(None);
             }
-            out.push(y)?;
+            push(out, &y)?;
             Ok(Some(*x))
         }
     }
@@ -92,6 +99,7 @@ fn odd_ones(alloc: Global, mut xs: Vec<i32>) -> Result<Vec<i32>, AllocError>
     }
 }
 
+#[tactic(auto, unfolding(crate::specs::Areas::area_of))]
 fn run(low: &SideEnd, high: &SideEnd, from: &i32, to: &i32) -> Area
     ensures { result ≡ area_of (record { x1 = from.now; y1 = low.now.y; x2 = to.now; y2 = high.now.y }) }
 {
@@ -124,15 +132,30 @@ fn add_runs(
     Ok(())
 }
 
-fn take(xs: &mut Vec<i32>, end: &SideEnd) -> Result<(), AllocError>
-    ensures { OnOk result (xs.new.items ≡ xs.old.items ++ end.now.x ∷ []) }
+// Draws the runs of the rows from one end's height to that of the next one. Of the crossings of the rows
+// below come those of the rows above, but that the others at that height are not among them yet.
+fn next_row(
+    alloc: Global,
+    row: &SideEnd,
+    end: &SideEnd,
+    xs: Vec<i32>,
+    pen: &Pen,
+    rects: &mut ShapeList,
+) -> Result<Vec<i32>, GdsFault>
+    requires grid { 1 ≤ pen.now.grid.lambda_nm }
+    ensures drawn { Puts result rects.new (put pen.now rects.old (row_areas row.now end.now xs.items)) }
+    ensures crossings { IfOk result (λ v. v.items ≡ odd_ones xs.items ++ end.now.x ∷ []) }
 {
-    xs.push(end.x)?;
-    Ok(())
+    let mut odd = odd_ones(alloc, xs)?;
+    match add_runs(row, end, odd.as_slice(), pen, rects) {
+        Ok(()) => {}
+        Err(fault) => return Err(fault),
+    }
+    push(&mut odd, &end.x)?;
+    Ok(odd)
 }
 
 // Draws what lies between the heights of ends that are sorted.
-#[tactic(auto, using(crate::proofs::Rows::same_row, crate::proofs::Rows::next_row, crate::proofs::Rows::row_stops))]
 fn sweep(
     alloc: Global,
     ends: &[SideEnd],
@@ -149,15 +172,13 @@ fn sweep(
     let mut xs = Vec::new(alloc);
     for end in ends {
         if end.y == row.y {
-            take(&mut xs, end)?;
+            push(&mut xs, &end.x)?;
             continue;
         }
-        xs = odd_ones(alloc, xs)?;
-        match add_runs(&row, end, xs.as_slice(), pen, rects) {
-            Ok(()) => {}
+        xs = match next_row(alloc, &row, end, xs, pen, rects) {
+            Ok(xs) => xs,
             Err(fault) => return Err(fault),
-        }
-        take(&mut xs, end)?;
+        };
         row = *end;
     }
     Ok(())
