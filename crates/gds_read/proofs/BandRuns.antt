@@ -1,5 +1,5 @@
 -- Each rectangle of a boundary is a run of its cells, and they stand in order.
-use Rattle.std.proofs.Common.{ℕ, ◌≡◌, ◌+◌, ◌%◌, ◌<◌, ◌≤◌, ℤ, pos, ◌-ℤ◌, ◌≤ℤ◌, ◌<ℤ◌, int_lt, true, Bool, if◌then◌else◌, List, [], ◌∷◌, ◌++◌, map, All, refl, sym, subst, ap, ◌∙◌, arith, inl, inr, ◌⊎◌}
+use Rattle.std.proofs.Common.{ℕ, ◌≡◌, ◌%◌, ℤ, pos, ◌-ℤ◌, ◌≤ℤ◌, ◌<ℤ◌, int_lt, true, if◌then◌else◌, List, [], ◌∷◌, ◌++◌, map, All, refl, sym, subst, ap, ◌∙◌, arith, inl, inr, ◌⊎◌}
 use Rattle.std.specs.List.{filter, Contains, AllPairs}
 use Rattle.std.proofs.lemmas.Int.{ints, by_lt_z}
 use Rattle.std.proofs.lemmas.List.Kept.{AllPairs-cons}
@@ -9,8 +9,8 @@ use Rattle.cell_num.proofs.Pairs.{pairs_none, pairs_append}
 use Rattle.box_geom.specs.Rectangle.{Rectangle}
 use Rattle.box_geom.specs.Runs.{IsRun}
 use Rattle.gds_read.specs.declared.point.Point.{Point}
-use Rattle.gds_read.specs.Points.{Step, steps_from, steps, closed}
-use Rattle.gds_read.specs.EvenOdd.{crosses, is_crossed, IsInside, odd_ones, crossings, with_height, heights, runs, bands, boundary_rectangles}
+use Rattle.gds_read.specs.Points.{Step, steps_from}
+use Rattle.gds_read.specs.EvenOdd.{crosses, is_crossed, IsInside, crossings, with_height, heights, runs, bands, boundary_rectangles}
 use Rattle.gds_read.specs.Drawn.{HasHeight, IsRunOf, IsBefore}
 use Rattle.gds_read.proofs.Ascending.{less_is, more_is, tally, tally_is, Above, Up, above_up, odd_up}
 use Rattle.gds_read.proofs.Covered.{upto, none_upto, by_pair, not_below, crossings_upto, in_heights, heights_up}

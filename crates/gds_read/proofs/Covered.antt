@@ -1,13 +1,13 @@
 -- The rectangles of a boundary hold the cells that the even-odd rule gives it.
-use Rattle.std.proofs.Common.{ℕ, zero, suc, ◌≡◌, ◌↔◌, ◌+◌, ◌*◌, ◌%◌, ◌<◌, ◌≤◌, Bool, true, false, cond, not, ◌&&◌, ◌||◌, ℤ, ◌≤ℤ◌, ◌<ℤ◌, int_le, int_lt, List, [], ◌∷◌, ◌++◌, length, map, refl, sym, subst, ap, ◌∙◌, arith, inl, inr, ◌⊎◌}
-use Rattle.std.specs.List.{filter, Contains}
+use Rattle.std.proofs.Common.{ℕ, ◌≡◌, ◌↔◌, ◌+◌, ◌%◌, ◌<◌, Bool, true, false, cond, not, ◌&&◌, ◌||◌, ℤ, ◌≤ℤ◌, ◌<ℤ◌, int_le, int_lt, List, [], ◌∷◌, ◌++◌, map, refl, sym, subst, ap, ◌∙◌, arith, inl, inr, ◌⊎◌}
+use Rattle.std.specs.List.{filter}
 use Rattle.std.proofs.lemmas.Int.{ints, by_lt_z}
-use Rattle.cell_num.proofs.In.{In, in_append}
+use Rattle.cell_num.proofs.In.{In}
 use Rattle.cell_num.proofs.Lists.{contains_none, contains_cons, contains_here, contains_there}
 use Rattle.box_geom.specs.Rectangle.{Rectangle, Holds, Covers}
 use Rattle.gds_read.specs.declared.point.Point.{Point}
-use Rattle.gds_read.specs.Points.{Step, steps_from, steps, closed}
-use Rattle.gds_read.specs.EvenOdd.{crosses, is_crossed, IsInside, odd_ones, crossings, with_height, heights, runs, bands, boundary_rectangles}
+use Rattle.gds_read.specs.Points.{Step, steps_from}
+use Rattle.gds_read.specs.EvenOdd.{crosses, is_crossed, IsInside, crossings, with_height, heights, runs, bands, boundary_rectangles}
 use Rattle.gds_read.proofs.Ascending.{less_is, more_is, below_is, above_is, not_both, tally, tally_is, tally_mapped, Above, Up, above_up, odd_up, odd_parity, height_up}
 
 -- ---- some rectangle of a list holds a cell
@@ -275,6 +275,7 @@ step_crosses ys y s ends e =
   where
     rw_none : int_le s.from.y y ≡ false → int_le s.to.y y ≡ false → crosses y s ≡ false
     rw_none p q = crosses_is y s ∙ rw (p, q) refl
+
     rw_both : int_le s.from.y y ≡ true → int_le s.to.y y ≡ true → crosses y s ≡ false
     rw_both p q = crosses_is y s ∙ rw (p, q) refl
 

@@ -1,9 +1,8 @@
 -- What an element draws is kept up to the limit, and told where it goes beyond.
-use Rattle.std.proofs.Common.{ℕ, ◌≡◌, ◌+◌, ◌<◌, ◌≤◌, true, false, nat_lt, if◌then◌else◌, Bool, Option, Some, None, option_map, List, [], ◌∷◌, ◌++◌, length, Result, Ok, Err, refl, sym, subst, ap, ◌∙◌, arith, ◌⊎◌, inl, inr, append_assoc, append-nil}
+use Rattle.std.proofs.Common.{ℕ, ◌≡◌, ◌+◌, ◌<◌, ◌≤◌, nat_lt, Option, Some, None, option_map, List, [], ◌∷◌, ◌++◌, length, Result, Ok, Err, refl, sym, subst, ap, ◌∙◌, arith, ◌⊎◌, inl, inr, append_assoc, append-nil}
 use Rattle.std.proofs.lemmas.Bool.{cases_Bool, ltb-true, ltb-false}
 use Rattle.std.proofs.Common.{length-append}
 use Rattle.box_geom.specs.declared.shape.Shape.{Shape}
-use Rattle.box_geom.specs.declared.shape.Label.{Label}
 use Rattle.box_geom.specs.declared.shape.Shapes.{Shapes}
 use Rattle.gds_read.specs.declared.fault.GdsFault.{GdsFault}
 use Rattle.gds_read.specs.declared.fault.GdsFault.TheVariants as fault

@@ -1,15 +1,11 @@
 -- Areas are drawn one after the other.
-use Rattle.std.proofs.Common.{ℕ, ◌≡◌, ◌+◌, ◌<◌, ◌≤◌, true, false, nat_lt, if◌then◌else◌, Bool, List, [], ◌∷◌, ◌++◌, length, map, Result, Ok, Err, refl, sym, ap, ◌∙◌, arith, ◌⊎◌, inl, inr, append_assoc, append-nil}
-use Rattle.std.proofs.lemmas.Bool.{cases_Bool}
-
-use Rattle.box_geom.specs.Rectangle.{Rectangle}
+use Rattle.std.proofs.Common.{◌≡◌, List, [], ◌∷◌, ◌++◌, Result, Ok, Err, refl, sym, ap, ◌∙◌, ◌⊎◌, inl, inr}
 use Rattle.box_geom.specs.declared.shape.Shape.{Shape}
-use Rattle.box_geom.specs.declared.shape.Shapes.{Shapes}
 use Rattle.gds_read.specs.declared.fault.GdsFault.{GdsFault}
 use Rattle.gds_read.specs.declared.fault.GdsFault.TheVariants as fault
 use Rattle.gds_read.specs.declared.area.Area.{Area}
 use Rattle.gds_read.specs.declared.area.Pen.{Pen}
-use Rattle.gds_read.specs.Areas.{area_of, shape_of, shapes_of, with_kept, put, Puts}
+use Rattle.gds_read.specs.Areas.{shape_of, with_kept, put, Puts}
 use Rattle.cell_num.specs.Steps.{◌>>=◌}
 
 put_more : (pen : Pen) (old : List Shape) (xs bs : List Area) → put pen old (xs ++ bs) ≡ (put pen old xs >>= λ new. put pen new bs)

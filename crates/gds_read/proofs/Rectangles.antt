@@ -1,12 +1,12 @@
 -- A walk round a rectangle is that rectangle. A walk over its corners is told by two flags a corner.
-use Rattle.std.proofs.Common.{ℕ, ◌≡◌, Bool, true, false, cond, not, ◌&&◌, ◌||◌, ℤ, ◌<ℤ◌, int_le, int_lt, List, [], ◌∷◌, ◌++◌, map, refl, sym, ap, ◌∙◌, arith, append-nil}
+use Rattle.std.proofs.Common.{◌≡◌, Bool, true, false, cond, not, ◌&&◌, ◌||◌, ℤ, ◌<ℤ◌, int_le, int_lt, List, [], ◌∷◌, ◌++◌, map, refl, ap, ◌∙◌, arith}
 use Rattle.std.specs.List.{filter, list_any}
 use Rattle.std.specs.Ordering.{int_eq}
 use Rattle.std.proofs.lemmas.Int.{ints}
 use Rattle.box_geom.specs.Rectangle.{Rectangle, IsProper}
 use Rattle.gds_read.specs.declared.point.Point.{Point}
-use Rattle.gds_read.specs.Points.{Step, steps_from, is_slanted, has_slant, closed}
-use Rattle.gds_read.specs.EvenOdd.{crosses, toggled, odd_ones, crossings, with_height, heights, runs, bands, inside_walk, boundary_rectangles}
+use Rattle.gds_read.specs.Points.{Step, steps_from, is_slanted, closed}
+use Rattle.gds_read.specs.EvenOdd.{crosses, toggled, odd_ones, crossings, with_height, heights, runs, bands, inside_walk}
 use Rattle.gds_read.specs.Drawn.{corner, round, IsRectangleOf, AreWalksOf}
 use Rattle.gds_read.proofs.Ascending.{less_is, more_is, below_is, above_is, same_is}
 
@@ -163,6 +163,7 @@ inside_is r a bs p g =
   where
     both : low (a ∷ bs) ≡ true → high (a ∷ bs) ≡ true → those r.y1 r.y2 (low (a ∷ bs)) (high (a ∷ bs)) ≡ r.y1 ∷ r.y2 ∷ []
     both e f = rw (e, f) refl
+
     sides : left a bs ≡ true → right_side a bs ≡ true → those r.x1 r.x2 (left a bs) (right_side a bs) ≡ r.x1 ∷ r.x2 ∷ []
     sides e f = rw (e, f) refl
 
@@ -195,22 +196,54 @@ closed_at r p a b c d g = closed_is r a b c d p g
 pub walks_are : (r : Rectangle) → IsProper r → AreWalksOf r
 walks_are r p =
     record {
-      left_open = (open_at r p (at false false) (at false true) (at true true) (at true false) (goes refl refl refl refl refl),
-      (open_at r p (at false true) (at true true) (at true false) (at false false) (goes refl refl refl refl refl),
-      (open_at r p (at true true) (at true false) (at false false) (at false true) (goes refl refl refl refl refl),
-      (open_at r p (at true false) (at false false) (at false true) (at true true) (goes refl refl refl refl refl),
-      (open_at r p (at false false) (at true false) (at true true) (at false true) (goes refl refl refl refl refl),
-      (open_at r p (at true false) (at true true) (at false true) (at false false) (goes refl refl refl refl refl),
-      (open_at r p (at true true) (at false true) (at false false) (at true false) (goes refl refl refl refl refl),
-      (open_at r p (at false true) (at false false) (at true false) (at true true) (goes refl refl refl refl refl),
-      tt))))))));
-      taken_round = (closed_at r p (at false false) (at false true) (at true true) (at true false) (goes refl refl refl refl refl),
-      (closed_at r p (at false true) (at true true) (at true false) (at false false) (goes refl refl refl refl refl),
-      (closed_at r p (at true true) (at true false) (at false false) (at false true) (goes refl refl refl refl refl),
-      (closed_at r p (at true false) (at false false) (at false true) (at true true) (goes refl refl refl refl refl),
-      (closed_at r p (at false false) (at true false) (at true true) (at false true) (goes refl refl refl refl refl),
-      (closed_at r p (at true false) (at true true) (at false true) (at false false) (goes refl refl refl refl refl),
-      (closed_at r p (at true true) (at false true) (at false false) (at true false) (goes refl refl refl refl refl),
-      (closed_at r p (at false true) (at false false) (at true false) (at true true) (goes refl refl refl refl refl),
-      tt))))))));
+      left_open = (
+        open_at r p (at false false) (at false true) (at true true) (at true false) (goes refl refl refl refl refl),
+        (
+          open_at r p (at false true) (at true true) (at true false) (at false false) (goes refl refl refl refl refl),
+          (
+            open_at r p (at true true) (at true false) (at false false) (at false true) (goes refl refl refl refl refl),
+            (
+              open_at r p (at true false) (at false false) (at false true) (at true true) (goes refl refl refl refl refl),
+              (
+                open_at r p (at false false) (at true false) (at true true) (at false true) (goes refl refl refl refl refl),
+                (
+                  open_at r p (at true false) (at true true) (at false true) (at false false) (goes refl refl refl refl refl),
+                  (
+                    open_at r p (at true true) (at false true) (at false false) (at true false) (goes refl refl refl refl refl),
+                    (
+                      open_at r p (at false true) (at false false) (at true false) (at true true) (goes refl refl refl refl refl),
+                      tt,
+                    ),
+                  ),
+                ),
+              ),
+            ),
+          ),
+        ),
+      );
+      taken_round = (
+        closed_at r p (at false false) (at false true) (at true true) (at true false) (goes refl refl refl refl refl),
+        (
+          closed_at r p (at false true) (at true true) (at true false) (at false false) (goes refl refl refl refl refl),
+          (
+            closed_at r p (at true true) (at true false) (at false false) (at false true) (goes refl refl refl refl refl),
+            (
+              closed_at r p (at true false) (at false false) (at false true) (at true true) (goes refl refl refl refl refl),
+              (
+                closed_at r p (at false false) (at true false) (at true true) (at false true) (goes refl refl refl refl refl),
+                (
+                  closed_at r p (at true false) (at true true) (at false true) (at false false) (goes refl refl refl refl refl),
+                  (
+                    closed_at r p (at true true) (at false true) (at false false) (at true false) (goes refl refl refl refl refl),
+                    (
+                      closed_at r p (at false true) (at false false) (at true false) (at true true) (goes refl refl refl refl refl),
+                      tt,
+                    ),
+                  ),
+                ),
+              ),
+            ),
+          ),
+        ),
+      );
     }

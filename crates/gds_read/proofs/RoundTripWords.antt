@@ -1,5 +1,5 @@
 -- The numbers of a written element are read back: its layer, and its coordinates in grid units.
-use Rattle.std.proofs.Common.{ℕ, ◌≡◌, ◌*◌, ◌/◌, ◌^◌, List, [], ◌∷◌, map, ◌<◌, ◌≤◌, true, false, int_lt, Some, ℤ, pos, neg_ℤ, unsigned_abs, ◌*ℤ◌, ◌≤ℤ◌, ◌<ℤ◌, refl, sym, ap, ◌∙◌, arith, mul-le-mul, FitsSigned}
+use Rattle.std.proofs.Common.{ℕ, ◌≡◌, ◌*◌, ◌/◌, ◌^◌, List, [], ◌∷◌, map, ◌<◌, ◌≤◌, true, false, int_lt, Some, ℤ, pos, neg_ℤ, unsigned_abs, ◌*ℤ◌, ◌≤ℤ◌, ◌<ℤ◌, refl, ap, ◌∙◌, arith, mul-le-mul, FitsSigned}
 use Rattle.std.specs.Int.{w32, from_be_bytes, to_be_bytes, cast_signed, cast_unsigned, int_div_euclid, int_rem_euclid}
 use Rattle.std.specs.List.{range_with_len}
 use Rattle.std.proofs.lemmas.Nat.{from_be_bytes-to_be_bytes_4}
@@ -12,7 +12,7 @@ use Rattle.box_geom.specs.declared.shape.Shape.{Shape}
 use Rattle.box_geom.specs.declared.shape.Label.{Label}
 use Rattle.gds_read.specs.declared.units.Grid.{Grid}
 use Rattle.gds_read.specs.declared.point.Point.{Point}
-use Rattle.gds_read.specs.Units.{limited_to_grid, scaled_by, step_of_grid, two_steps, whole_units_of, floor_units_of, in_order, ends_of}
+use Rattle.gds_read.specs.Units.{limited_to_grid, scaled_by, step_of_grid, two_steps, whole_units_of, floor_units_of, in_order}
 use Rattle.gds_record.specs.Layers.{layer_number, layer_numbered}
 use Rattle.gds_read.specs.Points.{point_at, points_of}
 use Rattle.gds_read.specs.Areas.{span_of, area_of, side_of, rectangle_of}

@@ -1,19 +1,18 @@
 -- What lies between the sorted ends of the sides of a walk is what lies inside it.
-use Rattle.std.proofs.Common.{ℕ, zero, suc, ◌≡◌, ◌+◌, ◌*◌, ◌%◌, ◌<◌, ◌≤◌, Bool, true, false, cond, not, ◌&&◌, ◌||◌, if◌then◌else◌, ℤ, ◌≤ℤ◌, ◌<ℤ◌, int_le, int_lt, List, [], ◌∷◌, ◌++◌, length, map, get_or, IsPermutation, refl, sym, subst, ap, ◌∙◌, arith, inl, inr, append_assoc, append-nil}
+use Rattle.std.proofs.Common.{ℕ, suc, ◌≡◌, ◌+◌, ◌*◌, ◌%◌, ◌<◌, ◌≤◌, Bool, true, false, cond, ◌&&◌, if◌then◌else◌, ℤ, ◌≤ℤ◌, ◌<ℤ◌, int_le, List, [], ◌∷◌, ◌++◌, map, get_or, IsPermutation, refl, sym, subst, ap, ◌∙◌, arith, inl, inr, append_assoc, append-nil}
 use Rattle.std.specs.List.{filter}
 use Rattle.std.specs.List.Sorted.{IsSorted}
 use Rattle.std.specs.Ordering.{int_cmp, ordering_then, int_eq, is_lt}
 use Rattle.std.specs.declared.cmp.Ordering.{Ordering}
 use Rattle.std.proofs.lemmas.Int.{ints, by_lt_z}
-use Rattle.std.proofs.lemmas.Bool.{cases_Bool, cases_eq}
+use Rattle.std.proofs.lemmas.Bool.{cases_eq}
 use Rattle.std.proofs.lemmas.List.Sorted.{length_permutation}
-use Rattle.box_geom.specs.Rectangle.{Rectangle}
 use Rattle.gds_read.specs.declared.point.Point.{Point}
 use Rattle.gds_read.specs.declared.even_odd.SideEnd.{SideEnd}
-use Rattle.gds_read.specs.Points.{Step, steps_from, steps}
+use Rattle.gds_read.specs.Points.{Step, steps_from}
 use Rattle.gds_read.specs.EvenOdd.{crosses, odd_ones, crossings, with_height, heights, runs, bands, inside_walk}
-use Rattle.gds_read.specs.Sweep.{two_ends, ends_of, swept, swept_all}
-use Rattle.gds_read.proofs.Ascending.{less_is, more_is, below_is, above_is, same_is, is_same, is_other, not_both, tally, tally_moved, times, tally_mapped, like, Above, Up, Level, above_up, once, same_lists, odd_same, odd_again, height_up, height_has, Has}
+use Rattle.gds_read.specs.Sweep.{ends_of, swept, swept_all}
+use Rattle.gds_read.proofs.Ascending.{less_is, more_is, below_is, above_is, same_is, is_same, is_other, not_both, tally, tally_moved, times, tally_mapped, like, Above, Up, Level, once, same_lists, odd_same, odd_again, height_up, height_has, Has}
 
 abbrev pub end_cmp : SideEnd → SideEnd → Ordering
 end_cmp a b = ordering_then (int_cmp a.y b.y) (int_cmp a.x b.x)
@@ -130,9 +129,11 @@ flips y s b =
     downward : (b : Bool) → (0 + cond b 1 0) % 2 ≡ cond b 1 0 % 2
     downward true = refl
     downward false = refl
+
     upward : (b : Bool) → (cond b 1 0 + 0) % 2 ≡ cond b 1 0 % 2
     upward true = refl
     upward false = refl
+
     both : (b : Bool) → (cond b 1 0 + cond b 1 0) % 2 ≡ 0
     both true = refl
     both false = refl

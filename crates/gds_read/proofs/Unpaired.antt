@@ -1,9 +1,8 @@
 -- What stays of a sorted list where equal neighbours fall out in pairs.
-use Rattle.std.proofs.Common.{ℕ, zero, suc, ◌≡◌, ◌+◌, ◌%◌, ◌<◌, ◌≤◌, Bool, true, false, cond, if◌then◌else◌, ℤ, pos, ◌-ℤ◌, ◌≤ℤ◌, ◌<ℤ◌, int_lt, List, [], ◌∷◌, Option, Some, None, get_or, IsPermutation, refl, sym, subst, ◌∙◌, ◌++◌, append_assoc, arith, inl, inr}
+use Rattle.std.proofs.Common.{ℕ, suc, ◌≡◌, ◌+◌, ◌%◌, Bool, true, false, cond, if◌then◌else◌, ℤ, pos, ◌-ℤ◌, ◌≤ℤ◌, ◌<ℤ◌, int_lt, List, [], ◌∷◌, Option, Some, None, get_or, IsPermutation, refl, subst, ◌++◌, append_assoc, arith}
 use Rattle.std.specs.List.Sorted.{IsSorted}
 use Rattle.std.specs.Ordering.{int_cmp, int_eq, is_lt}
 use Rattle.std.proofs.lemmas.Int.{ints, by_lt_z}
-use Rattle.std.proofs.lemmas.Bool.{cases_Bool}
 use Rattle.gds_read.specs.EvenOdd.{odd_ones}
 use Rattle.gds_read.specs.Sweep.{unpaired, PairsOff}
 use Rattle.gds_read.proofs.Ascending.{same_is, is_same, is_other, other_is, not_both, times, tally_moved, like, Above, Up, Level, odd_is}
@@ -48,6 +47,7 @@ stays_up (x ∷ xs) up = up_of (below x) (unpaired (Some x) xs) (stays_above (be
   where
     below : ℤ → ℤ
     below x = x -ℤ pos 1
+
     lower : (x : ℤ) → below x <ℤ x
     lower x = omega (arith, ints)
 

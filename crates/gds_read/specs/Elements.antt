@@ -1,5 +1,5 @@
 -- What the elements of a structure draw.
-use Rattle.std.specs.Prelude.{ℕ, ◌≡◌, ◌+◌, ◌*◌, ◌==◌, not, is_some, nat_lt, Bool, ℤ, List, [], ◌∷◌, ◌++◌, length, map, find, option_map, Option, Some, None, Result, Ok, Err, if◌then◌else◌}
+use Rattle.std.specs.Prelude.{ℕ, ◌≡◌, ◌+◌, ◌*◌, ◌==◌, not, is_some, nat_lt, ℤ, List, [], ◌∷◌, ◌++◌, length, map, find, option_map, Option, Some, None, Result, Ok, Err, if◌then◌else◌}
 use Rattle.box_geom.specs.declared.layer.Layer.{Layer}
 use Rattle.box_geom.specs.declared.shape.Shape.{Shape}
 use Rattle.box_geom.specs.declared.shape.Shapes.{Shapes}

@@ -1,5 +1,5 @@
 -- What the functions give that go over a boundary row by row.
-use Rattle.std.specs.Prelude.{ℕ, ◌≡◌, Bool, ℤ, List, [], ◌∷◌, ◌++◌, map, Option, Some, None, if◌then◌else◌}
+use Rattle.std.specs.Prelude.{◌≡◌, ℤ, List, [], ◌∷◌, ◌++◌, map, Option, Some, None, if◌then◌else◌}
 use Rattle.std.specs.List.{flat_map}
 use Rattle.std.specs.Ordering.{int_eq}
 use Rattle.box_geom.specs.Rectangle.{Rectangle}

@@ -49,10 +49,7 @@ fn side(grid: &Grid, span: &Span) -> Option<Ends>
     ensures value { result ≡ side_of grid.now span.now }
     ensures sides { IfSome result IsSide }
 {
-    match (
-        whole_units(grid, span.low),
-        whole_units(grid, span.high),
-    ) {
+    match (whole_units(grid, span.low), whole_units(grid, span.high)) {
         (Some(a), Some(b)) => {
             if a < b {
                 Some(Ends { low: a, high: b })

@@ -9,6 +9,7 @@ use std::alloc::Global;
 use std::test::Fail;
 
 const BOUNDARY: u8 = 8;
+
 const PATH: u8 = 9;
 
 fn put_record(out: &mut Vec<u8>, code: u8, form: u8, content: &[u8]) -> Result<(), Fail> {
@@ -64,11 +65,7 @@ fn empty(alloc: Global) -> Shapes {
 }
 
 // What is read of a library whose structure has this element alone, in grid units of half a lambda.
-fn drawn(
-    alloc: Global,
-    element: &[u8],
-    lambda_nm: u32,
-) -> Result<Result<Shapes, GdsFault>, Fail>
+fn drawn(alloc: Global, element: &[u8], lambda_nm: u32) -> Result<Result<Shapes, GdsFault>, Fail>
     requires { 1 ≤ lambda_nm }
 {
     let mut name = Name::new(alloc);
@@ -103,15 +100,7 @@ fn metal(alloc: Global, table: &[[i32; 4]]) -> Result<Result<Shapes, GdsFault>, 
     Ok(Ok(shapes))
 }
 
-const ELL: [[i32; 2]; 7] = [
-    [0, 0],
-    [0, 4],
-    [2, 4],
-    [2, 2],
-    [4, 2],
-    [4, 0],
-    [0, 0],
-];
+const ELL: [[i32; 2]; 7] = [[0, 0], [0, 4], [2, 4], [2, 2], [4, 2], [4, 0], [0, 0]];
 // A ring: its two walks are joined by a side that is passed twice.
 const RING: [[i32; 2]; 10] = [
     [0, 0],
@@ -125,6 +114,7 @@ const RING: [[i32; 2]; 10] = [
     [6, 6],
     [6, 0],
 ];
+
 const TWICE: [[i32; 2]; 8] = [
     [0, 0],
     [0, 2],

@@ -35,12 +35,7 @@ fn pen(bytes: &[u8], rec: &GdsRec, grid: &Grid) -> Option<Pen>
 }
 
 #[tactic(auto, unfolding(crate::specs::Elements::boundary_areas), using(crate::proofs::Putting::stops))]
-fn boundary(
-    alloc: Global,
-    xy: &[u8],
-    pen: &Pen,
-    rects: &mut ShapeList,
-) -> Result<(), GdsFault>
+fn boundary(alloc: Global, xy: &[u8], pen: &Pen, rects: &mut ShapeList) -> Result<(), GdsFault>
     requires grid { 1 ≤ pen.now.grid.lambda_nm }
     ensures { Puts result rects.new (put_all pen.now rects.old (boundary_areas pen.now.at (points_of xy.now))) }
 {

@@ -45,11 +45,7 @@ fn push(xs: &mut Vec<i32>, x: &i32) -> Result<(), AllocError>
 
 // A number of a sorted list goes away with its like, or waits for it.
 #[tactic(auto, using(crate::proofs::Unpaired::waits, crate::proofs::Unpaired::goes, crate::proofs::Unpaired::stays))]
-fn pair_off(
-    out: &mut Vec<i32>,
-    waiting: Option<i32>,
-    x: &i32,
-) -> Result<Option<i32>, AllocError>
+fn pair_off(out: &mut Vec<i32>, waiting: Option<i32>, x: &i32) -> Result<Option<i32>, AllocError>
     ensures { IfOk result (λ now. PairsOff out.old.items waiting x.now out.new.items now) }
 {
     match waiting {
@@ -156,12 +152,7 @@ fn next_row(
 }
 
 // Draws what lies between the heights of ends that are sorted.
-fn sweep(
-    alloc: Global,
-    ends: &[SideEnd],
-    pen: &Pen,
-    rects: &mut ShapeList,
-) -> Result<(), GdsFault>
+fn sweep(alloc: Global, ends: &[SideEnd], pen: &Pen, rects: &mut ShapeList) -> Result<(), GdsFault>
     requires grid { 1 ≤ pen.now.grid.lambda_nm }
     ensures { Puts result rects.new (put pen.now rects.old (map area_of (swept_all ends.now))) }
 {

@@ -2,6 +2,8 @@
 #![tactic(auto)]
 
 pub mod area;
+#[cfg(test)]
+mod drawn_tests;
 pub mod element;
 pub mod even_odd;
 pub mod fault;
@@ -16,8 +18,6 @@ pub mod read;
 pub mod real;
 pub mod round_trip;
 pub mod structure;
-#[cfg(test)]
-mod drawn_tests;
 #[cfg(test)]
 mod tests;
 pub mod units;

@@ -1,4 +1,4 @@
-use Rattle.std.proofs.Common.{◌≡◌, map, length}
+use Rattle.std.proofs.Common.{◌≡◌, length}
 use Rattle.gds_read.specs.Paths.{segments}
 use Rattle.gds_read.specs.Areas.{put}
 use Rattle.gds_read.proofs.path.add_segments.Given as goal
