@@ -1,5 +1,5 @@
 // Boundaries and paths with any points, and what they draw.
-ghost use Rattle.std.specs.Prelude.{◌≤◌};
+ghost use Rattle.std.specs.Prelude.{◌≡◌, ◌≤◌, []};
 
 use crate::{GdsFault, read_cell};
 use box_geom::{LabelList, Layer, Rect, Shape, ShapeList, Shapes};
@@ -57,7 +57,10 @@ fn element(
     Ok(out)
 }
 
-fn empty(alloc: Global) -> Shapes {
+fn empty(alloc: Global) -> Shapes
+    ensures rects { result.rects ≡ [] }
+    ensures labels { result.labels ≡ [] }
+{
     Shapes {
         rects: ShapeList::new(alloc),
         labels: LabelList::new(alloc),
