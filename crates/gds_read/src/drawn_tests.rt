@@ -1,0 +1,216 @@
+// Boundaries and paths with any points, and what they draw.
+ghost use Rattle.std.specs.Prelude.{◌≡◌, ◌≤◌, []};
+
+use crate::{GdsFault, read_cell};
+use box_geom::{LabelList, Layer, Rect, Shape, ShapeList, Shapes};
+use cell_num::Name;
+use gds_write::write_cell;
+use std::alloc::Global;
+use std::test::Fail;
+
+const BOUNDARY: u8 = 8;
+
+const PATH: u8 = 9;
+
+fn put_record(out: &mut Vec<u8>, code: u8, form: u8, content: &[u8]) -> Result<(), Fail> {
+    if content.len() > 65_000 {
+        return Err(Fail::from("a long record"));
+    }
+    let size = content.len() as u16 + 4;
+    out.extend_from_slice(&size.to_be_bytes())?;
+    out.push(code)?;
+    out.push(form)?;
+    out.extend_from_slice(content)?;
+    Ok(())
+}
+
+fn coordinates(alloc: Global, points: &[[i32; 2]]) -> Result<Vec<u8>, Fail> {
+    let mut content = Vec::new(alloc);
+    for point in points {
+        content.extend_from_slice(&point[0].to_be_bytes())?;
+        content.extend_from_slice(&point[1].to_be_bytes())?;
+    }
+    Ok(content)
+}
+
+// An element on metal1, the form of its ends and its width before its points.
+fn element(
+    alloc: Global,
+    kind: u8,
+    points: &[[i32; 2]],
+    width: Option<i32>,
+    form: Option<u8>,
+) -> Result<Vec<u8>, Fail> {
+    let mut out = Vec::new(alloc);
+    put_record(&mut out, kind, 0, &[])?;
+    put_record(&mut out, 0x0d, 2, &[0, 49])?;
+    put_record(&mut out, 0x0e, 2, &[0, 7])?;
+    if let Some(form) = form {
+        put_record(&mut out, 0x21, 2, &[0, form])?;
+    }
+    if let Some(width) = width {
+        put_record(&mut out, 0x0f, 3, &width.to_be_bytes())?;
+    }
+    let content = coordinates(alloc, points)?;
+    put_record(&mut out, 0x10, 3, &content)?;
+    put_record(&mut out, 0x11, 0, &[])?;
+    Ok(out)
+}
+
+fn empty(alloc: Global) -> Shapes
+    ensures rects { result.rects ≡ [] }
+    ensures labels { result.labels ≡ [] }
+{
+    Shapes {
+        rects: ShapeList::new(alloc),
+        labels: LabelList::new(alloc),
+    }
+}
+
+// What is read of a library whose structure has this element alone, in grid units of half a lambda.
+fn drawn(alloc: Global, element: &[u8], lambda_nm: u32) -> Result<Result<Shapes, GdsFault>, Fail>
+    requires { 1 ≤ lambda_nm }
+{
+    let mut name = Name::new(alloc);
+    name.extend(b"inv")?;
+    let frame = write_cell(alloc, &name, &empty(alloc), 1)?;
+    if frame.len() != 110 || element.len() > 100_000 {
+        return Err(Fail::from("a long file"));
+    }
+    let mut bytes = Vec::new(alloc);
+    bytes.extend_from_slice(&frame[..102])?;
+    bytes.extend_from_slice(element)?;
+    bytes.extend_from_slice(&frame[102..])?;
+    if bytes.len() > 200_000 {
+        return Err(Fail::from("a long file"));
+    }
+    Ok(read_cell(alloc, &bytes, &name, lambda_nm))
+}
+
+fn metal(alloc: Global, table: &[[i32; 4]]) -> Result<Result<Shapes, GdsFault>, Fail> {
+    let mut shapes = empty(alloc);
+    for sides in table {
+        let [x1, y1, x2, y2] = *sides;
+        if x1 < x2 && y1 < y2 && -1000 < x1 && x2 < 1000 && -1000 < y1 && y2 < 1000 {
+            shapes.rects.push(Shape {
+                layer: Layer::Metal1,
+                rect: Rect { x1, y1, x2, y2 },
+            })?;
+        } else {
+            return Err(Fail::from("no small rectangle"));
+        }
+    }
+    Ok(Ok(shapes))
+}
+
+const ELL: [[i32; 2]; 7] = [[0, 0], [0, 4], [2, 4], [2, 2], [4, 2], [4, 0], [0, 0]];
+// A ring: its two walks are joined by a side that is passed twice.
+const RING: [[i32; 2]; 10] = [
+    [0, 0],
+    [0, 2],
+    [2, 2],
+    [2, 4],
+    [4, 4],
+    [4, 2],
+    [0, 2],
+    [0, 6],
+    [6, 6],
+    [6, 0],
+];
+
+const TWICE: [[i32; 2]; 8] = [
+    [0, 0],
+    [0, 2],
+    [2, 2],
+    [2, 0],
+    [0, 0],
+    [0, 2],
+    [2, 2],
+    [2, 0],
+];
+
+#[test]
+fn boundaries(rt: HostRuntime) -> Result<(), Fail> {
+    let alloc = rt.alloc();
+    let ell = metal(alloc, &[[0, 0, 4, 2], [0, 2, 2, 4]])?;
+    let closed = element(alloc, BOUNDARY, &ELL, None, None)?;
+    assert!(rt; drawn(alloc, &closed, 2)? == ell);
+    let open = element(alloc, BOUNDARY, &ELL[..6], None, None)?;
+    assert!(rt; drawn(alloc, &open, 2)? == ell);
+    let ring = element(alloc, BOUNDARY, &RING, None, None)?;
+    let sides = [[0, 0, 6, 2], [0, 2, 2, 4], [4, 2, 6, 4], [0, 4, 6, 6]];
+    assert!(rt; drawn(alloc, &ring, 2)? == metal(alloc, &sides)?);
+    let twice = element(alloc, BOUNDARY, &TWICE, None, None)?;
+    assert!(rt; drawn(alloc, &twice, 2)? == metal(alloc, &[])?);
+    let slant = element(alloc, BOUNDARY, &ELL[..3], None, None)?;
+    assert!(rt; drawn(alloc, &slant, 2)? == Err(GdsFault::Slant { at: 118 }));
+    let coarse = element(alloc, BOUNDARY, &ELL, None, None)?;
+    assert!(rt; drawn(alloc, &coarse, 6)? == Err(GdsFault::Grid { at: 118 }));
+    let far = [
+        [i32::MIN, i32::MIN],
+        [i32::MIN, i32::MAX],
+        [i32::MAX, i32::MAX],
+        [i32::MAX, i32::MIN],
+    ];
+    let far = element(alloc, BOUNDARY, &far, None, None)?;
+    assert!(rt; drawn(alloc, &far, 2)? == Err(GdsFault::Grid { at: 118 }));
+    Ok(())
+}
+
+#[test]
+fn paths(rt: HostRuntime) -> Result<(), Fail> {
+    let alloc = rt.alloc();
+    let bend = [[0, 0], [0, 0], [10, 0], [10, 10], [10, 10]];
+    let flush = element(alloc, PATH, &bend, Some(2), None)?;
+    assert!(rt; drawn(alloc, &flush, 2)? == metal(alloc, &[[0, -1, 11, 1], [9, -1, 11, 10]])?);
+    let square = element(alloc, PATH, &bend, Some(-4), Some(2))?;
+    assert!(rt; drawn(alloc, &square, 2)? == metal(alloc, &[[-2, -2, 12, 2], [8, -2, 12, 12]])?);
+    let back = [[10, 0], [0, 0], [0, -10]];
+    let back = element(alloc, PATH, &back, Some(2), Some(2))?;
+    assert!(rt; drawn(alloc, &back, 2)? == metal(alloc, &[[-1, -1, 11, 1], [-1, -11, 1, 1]])?);
+    let line = [[0, 0], [10, 0]];
+    let odd = element(alloc, PATH, &line, Some(3), Some(0))?;
+    assert!(rt; drawn(alloc, &odd, 1)? == metal(alloc, &[[0, -3, 20, 3]])?);
+    assert!(rt; drawn(alloc, &odd, 2)? == Err(GdsFault::Grid { at: 132 }));
+    let thin = element(alloc, PATH, &line, None, Some(2))?;
+    assert!(rt; drawn(alloc, &thin, 2)? == metal(alloc, &[])?);
+    let point = element(alloc, PATH, &bend[..2], Some(4), Some(2))?;
+    assert!(rt; drawn(alloc, &point, 2)? == metal(alloc, &[])?);
+    let steep = [[0, 0], [3, 4]];
+    let steep_path = element(alloc, PATH, &steep, None, Some(0))?;
+    assert!(rt; drawn(alloc, &steep_path, 2)? == Err(GdsFault::Slant { at: 124 }));
+    let round = element(alloc, PATH, &steep, Some(2), Some(1))?;
+    assert!(rt; drawn(alloc, &round, 2)? == Err(GdsFault::Kind { at: 118, code: 33 }));
+    let wide = [[0, 0], [i32::MAX, 0]];
+    let wide = element(alloc, PATH, &wide, Some(i32::MIN), Some(2))?;
+    assert!(rt; drawn(alloc, &wide, 2)? == Err(GdsFault::Grid { at: 132 }));
+    Ok(())
+}
+
+// A comb whose teeth grow by one: n teeth have n (n + 1) / 2 runs.
+fn comb(alloc: Global, teeth: u16) -> Result<Vec<[i32; 2]>, Fail> {
+    let mut points = Vec::new(alloc);
+    for tooth in 0..teeth {
+        let x = 2 * i32::from(tooth);
+        let y = i32::from(tooth) + 1;
+        points.push([x, 0])?;
+        points.push([x, y])?;
+        points.push([x + 1, y])?;
+        points.push([x + 1, 0])?;
+    }
+    Ok(points)
+}
+
+#[test]
+fn too_many_rectangles(rt: HostRuntime) -> Result<(), Fail> {
+    let alloc = rt.alloc();
+    let few = element(alloc, BOUNDARY, &comb(alloc, 1413)?, None, None)?;
+    match drawn(alloc, &few, 2)? {
+        Ok(shapes) => assert_eq!(rt; shapes.rects.len(), 998_991),
+        Err(_) => return Err(Fail::from("a fault")),
+    }
+    let many = element(alloc, BOUNDARY, &comb(alloc, 1414)?, None, None)?;
+    assert!(rt; drawn(alloc, &many, 2)? == Err(GdsFault::Wide { at: 102 }));
+    assert!(rt; drawn(alloc, &many, 4)? == Err(GdsFault::Grid { at: 118 }));
+    Ok(())
+}
