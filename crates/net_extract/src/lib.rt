@@ -4,7 +4,16 @@
 pub mod fault;
 pub mod label;
 pub mod laws;
+pub mod area;
+pub mod bond;
+pub mod class;
+pub mod cut;
+pub mod device;
+pub mod gate;
+pub mod piece;
+pub mod lookup;
 pub mod naming;
+pub mod netmap;
 pub mod netlist;
 #[cfg(test)]
 mod tests;
