@@ -473,3 +473,6 @@ both_gate s r a z b t ea da eb ez dz = (
 )
 
 pub ruleset gate_rules = (no_active_gate, both_gate)
+
+pub gates_of : (s : List Shape) (wires : List Wire) (firsts : List Piece) (z : AreGateNets s wires firsts) → Gates s z.gates wires firsts
+gates_of s wires firsts z = record { are = z.are; nets = z.nets }

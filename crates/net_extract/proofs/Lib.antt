@@ -1,7 +1,9 @@
 pub mod Bonds
+pub mod Carving
 pub mod Classing
 pub mod Conductors
 pub mod Covering
+pub mod Extracting
 pub mod Faults
 pub mod Filling
 pub mod Finding
@@ -10,6 +12,7 @@ pub mod Labelling
 pub mod Linking
 pub mod Listing
 pub mod Merging
+pub mod Netting
 pub mod Numbering
 pub mod Numbers
 pub mod Orders

@@ -69,7 +69,7 @@ is_diffused s row area a p r da ea dp ep dr = (
 pub ruleset diffusion_rules = (no_active, some_poly, is_diffused)
 
 -- ---- the net along a side
-in_first : (s : List Shape) (firsts : List Site) (n : ℕ) (a b : Site) → IsInNet s firsts n a → IsInNet s firsts n b → SameNet s a b
+pub in_first : (s : List Shape) (firsts : List Site) (n : ℕ) (a b : Site) → IsInNet s firsts n a → IsInNet s firsts n b → SameNet s a b
 in_first s firsts n a b x y =
     let same : x.first ≡ y.first = some_same x.first y.first (sym x.numbered ∙ y.numbered) in
     net_both s a x.first b (net_back s x.first a x.same) (subst (λ z. SameNet s z b) (sym same) y.same)
@@ -104,22 +104,22 @@ kind_row : (row : Row) → kind_of (conductor_of row) ≡ diffusion_of row
 kind_row P = refl
 kind_row N = refl
 
-corner_held : (r : Rectangle) → IsProper r → Holds r r.x1 r.y1
+pub corner_held : (r : Rectangle) → IsProper r → Holds r r.x1 r.y1
 corner_held r p = let w = p.wide in let h = p.high in omega (arith, ints)
 
 -- a cell of the kind lies in a wire of it
-record InWire (wires : List Wire) (a : Site) : Type 0 where
+pub record InWire (wires : List Wire) (a : Site) : Type 0 where
   pub wire : Wire
   pub listed : Contains wires wire
   pub inside : IsIn (part_of wire.piece) a
 
-in_wire : (s : List Shape) (wires : List Wire) (firsts : List Piece) → AreWires s wires firsts → (a : Site) → Conducts s a → InWire wires a
+pub in_wire : (s : List Shape) (wires : List Wire) (firsts : List Piece) → AreWires s wires firsts → (a : Site) → Conducts s a → InWire wires a
 in_wire s wires firsts m a c =
     let h = held_cell s (pieces_of wires) m.drawn a c in
     let i = in_map (λ (z : Wire). z.piece) wires h.piece h.listed in
     record { wire = i.of; listed = i.listed; inside = subst (λ p. IsIn (part_of p) a) (sym i.is) h.inside }
 
-wire_proper : (s : List Shape) (wires : List Wire) (firsts : List Piece) → AreWires s wires firsts → (w : Wire) → Contains wires w → IsProper (rect_of w.piece)
+pub wire_proper : (s : List Shape) (wires : List Wire) (firsts : List Piece) → AreWires s wires firsts → (w : Wire) → Contains wires w → IsProper (rect_of w.piece)
 wire_proper s wires firsts m w c = piece_proper s (pieces_of wires) m.drawn w.piece (contains_map (λ (z : Wire). z.piece) wires w c)
 
 pub side_some : (s : List Shape) (wires : List Wire) (firsts : List Piece) → AreWires s wires firsts → (row : Row) (area : Rectangle) (n : ℕ) → IsProper area → IsDiffusion s row area → net_in wires (conductor_of row) area.x1 area.y1 ≡ Some n → all_agree wires (conductor_of row) area n ≡ true → IsSideNet s (firsts_of firsts) row area n
@@ -269,3 +269,7 @@ no_row s r p n d = by d.row d.is.of_row
     by : (row : Row) → ((x y : ℤ) → Holds r x y → InRow row s x y) → ⊥
     by P h = p (record { all = h })
     by N h = n (record { all = h })
+
+pub if_some : {X : Type 0} (P Q : X → Type 0) (o : Option X) → ((x : X) → P x → Q x) → IfSome o P → IfSome o Q
+if_some P Q None f h = tt
+if_some P Q (Some x) f h = f x h

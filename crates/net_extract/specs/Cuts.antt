@@ -1,13 +1,15 @@
 -- Pieces that are cut by rectangles.
-use Rattle.std.specs.Prelude.{◌≡◌, ◌↔◌, ℤ, int_lt, Bool, ◌&&◌, if◌then◌else◌, List, [], ◌∷◌, ◌++◌, map, fold}
+use Rattle.std.specs.Prelude.{int_lt, Bool, ◌&&◌, if◌then◌else◌, List, [], ◌∷◌, ◌++◌, fold}
 use Rattle.std.specs.Int.{int_max, int_min}
-use Rattle.std.specs.List.{All, flat_map}
-use Rattle.box_geom.specs.Rectangle.{Rectangle, IsProper, Covers}
+use Rattle.std.specs.List.{flat_map}
+use Rattle.box_geom.specs.Rectangle.{Rectangle}
 use Rattle.box_geom.specs.Layers.{same_layer}
 use Rattle.box_geom.specs.declared.shape.Shape.{Shape}
 use Rattle.box_geom.specs.declared.layer.Layer.{Layer}
+use Rattle.box_geom.specs.declared.layer.Layer.TheVariants.{Well, Active, Poly as PolyLayer, Metal1 as Metal1Layer, Metal2 as Metal2Layer}
 use Rattle.net_extract.specs.Pieces.{rect_of}
 use Rattle.net_extract.specs.declared.piece.Conductor.{Conductor}
+use Rattle.net_extract.specs.declared.piece.Conductor.TheVariants.{PDiffusion, NDiffusion, Poly, Metal1, Metal2}
 use Rattle.net_extract.specs.declared.piece.Piece.{Piece}
 
 abbrev pub is_some_piece : Piece → Bool
@@ -64,6 +66,22 @@ drawn_once k layer s = if same_layer s.layer layer then piece_of k s.rect ∷ []
 abbrev pub drawn_all : Conductor → Layer → List Shape → List Piece
 drawn_all k layer shapes = flat_map (drawn_once k layer) shapes
 
--- the cells of pieces
-abbrev pub CellsOf : List Piece → ℤ → ℤ → Type 0
-CellsOf ps = Covers (map rect_of ps)
+abbrev pub diffusion_in : Conductor → List Shape → List Piece
+diffusion_in k shapes = cut_all PolyLayer (drawn_all k Active shapes) shapes
+
+abbrev pub p_diffusion_in : List Shape → List Piece
+p_diffusion_in shapes = shared_all Well (diffusion_in PDiffusion shapes) shapes
+
+abbrev pub n_diffusion_in : List Shape → List Piece
+n_diffusion_in shapes = cut_all Well (diffusion_in NDiffusion shapes) shapes
+
+-- all conductor of a drawing
+abbrev pub pieces_in : List Shape → List Piece
+pieces_in shapes = (((p_diffusion_in shapes ++ n_diffusion_in shapes) ++ drawn_all Poly PolyLayer shapes) ++ drawn_all Metal1 Metal1Layer shapes) ++ drawn_all Metal2 Metal2Layer shapes
+
+abbrev pub gates_in : List Shape → List Piece
+gates_in shapes = shared_all PolyLayer (drawn_all Poly Active shapes) shapes
+
+-- a piece as a shape of poly
+abbrev pub poly_of : Piece → Shape
+poly_of p = record { layer = PolyLayer; rect = rect_of p }

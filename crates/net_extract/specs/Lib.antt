@@ -13,4 +13,5 @@ pub mod Nets
 pub mod Numbering
 pub mod Parts
 pub mod Sides
+pub mod Steps
 pub mod Pieces

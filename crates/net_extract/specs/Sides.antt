@@ -79,3 +79,8 @@ length_of Upward p = unsigned_abs (p.top -ℤ p.low)
 
 abbrev pub drawn_as : Row → ℕ → ℕ × ℕ → Piece → Current → Drawn
 drawn_as row gate ends p current = record { row = row; gate = gate; lo = min ends.0 ends.1; hi = max ends.0 ends.1; width = width_of current p; length = length_of current p }
+
+-- the nets along the two sides that the current flows through
+pub record AreSideNets (s : List Shape) (firsts : List Site) (box : Rectangle) (row : Row) (flow : Flow) (ends : ℕ × ℕ) : Type 0 where
+  pub source : IsSideNet s firsts row (source_side flow box) ends.0
+  pub drain : IsSideNet s firsts row (drain_side flow box) ends.1

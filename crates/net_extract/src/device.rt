@@ -7,7 +7,9 @@ ghost use Rattle.net_extract.specs.Extraction.{IsDrawn};
 ghost use Rattle.net_extract.specs.NetMaps.{AreWires, firsts_of};
 ghost use Rattle.net_extract.specs.Nets.{Site};
 ghost use Rattle.net_extract.specs.Pieces.{rect_of};
-ghost use Rattle.net_extract.specs.Sides.{flow_of, conductor_of, IsInRow, IsDiffusion, agrees, all_agree, IsSideNet, IsAlong, IsNotAlong, AreClosed, drawn_as};
+ghost use Rattle.net_extract.specs.Sides.{flow_of, conductor_of, IsInRow, IsDiffusion, agrees, all_agree, IsSideNet, IsAlong, IsNotAlong, AreClosed, AreSideNets, drawn_as};
+ghost use Rattle.net_extract.specs.Lookups.{net_in};
+ghost use Rattle.net_extract.specs.declared.piece.Conductor.TheVariants.{Poly};
 
 use crate::area::{Area, do_overlap, is_free, is_full};
 use crate::lookup::net_of_cell;
@@ -235,6 +237,37 @@ fn drawn(row: Row, gate: u32, ends: (u32, u32), piece: &Piece, current: Current)
     }
 }
 
+fn gate_net(wires: &[Wire], gate: &Piece) -> Option<u32>
+    ensures { result ≡ net_in wires.now Poly gate.now.left gate.now.low }
+{
+    let (x, y) = (i64::from(gate.left), i64::from(gate.low));
+    net_of_cell(wires, Conductor::Poly, x, y)
+}
+
+// The nets along the two sides that the current flows through.
+fn side_nets(
+    shapes: &[Shape],
+    map: &NetMap,
+    row: Row,
+    gate: &Piece,
+    current: Current,
+) -> Option<(u32, u32)>
+    requires gate { IsProper (rect_of gate.now) }
+    requires shapes { All (λ s. IsProper s.rect) shapes.now }
+    requires map { AreWires shapes.now map.now.wires.items map.now.firsts.items }
+    ensures some { IfSome result (λ ends. AreSideNets shapes.now (firsts_of map.now.firsts.items) (rect_of gate.now) row
+        (flow_of current) ends) }
+    ensures none { result ≡ None → IsNotAlong shapes.now (rect_of gate.now) row (flow_of current) }
+{
+    match side_net(shapes, map, row, &source(gate, current)) {
+        Some(one) => match side_net(shapes, map, row, &drain(gate, current)) {
+            Some(other) => Some((one, other)),
+            None => None,
+        },
+        None => None,
+    }
+}
+
 // The device of a gate with the current in one direction; None where it is none.
 fn device_along(
     shapes: &[Shape],
@@ -253,19 +286,13 @@ fn device_along(
     if !are_ends_closed(shapes, gate, current) {
         return None;
     }
-    let Some(one) = side_net(shapes, map, row, &source(gate, current)) else {
-        return None;
-    };
-    let Some(other) = side_net(shapes, map, row, &drain(gate, current)) else {
-        return None;
-    };
-    let net = net_of_cell(
-        map.wires.as_slice(),
-        Conductor::Poly,
-        i64::from(gate.left),
-        i64::from(gate.low),
-    )?;
-    Some(drawn(row, net, (one, other), gate, current))
+    match side_nets(shapes, map, row, gate, current) {
+        Some(ends) => match gate_net(map.wires.as_slice(), gate) {
+            Some(net) => Some(drawn(row, net, ends, gate, current)),
+            None => None,
+        },
+        None => None,
+    }
 }
 
 fn device_in_row(shapes: &[Shape], map: &NetMap, row: Row, gate: &Piece) -> Option<Drawn>

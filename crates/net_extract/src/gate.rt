@@ -85,10 +85,11 @@ fn device_of_class(shapes: &[Shape], map: &NetMap, gates: &NetMap, net: usize) -
         (get_or gates.now.firsts.items net blank).low }
 {
     let gate = box_of_class(gates, net);
-    if !is_gate(shapes, &gate) {
-        return None;
+    if is_gate(shapes, &gate) {
+        device_of(shapes, map, &gate)
+    } else {
+        None
     }
-    device_of(shapes, map, &gate)
 }
 
 fn odd(first: Piece) -> ExtractFault

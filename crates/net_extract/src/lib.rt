@@ -9,6 +9,7 @@ pub mod bond;
 pub mod class;
 pub mod cut;
 pub mod device;
+pub mod drawing;
 pub mod gate;
 pub mod piece;
 pub mod lookup;
@@ -16,8 +17,11 @@ pub mod naming;
 pub mod netmap;
 pub mod netlist;
 #[cfg(test)]
+mod drawing_tests;
+#[cfg(test)]
 mod tests;
 
+pub use drawing::extract;
 pub use fault::ExtractFault;
 pub use label::{Link, classes};
 pub use laws::{one_numbering, rectangle_nets};

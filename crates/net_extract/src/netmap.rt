@@ -1,9 +1,15 @@
 // The nets of a drawing: every piece of conductor with the number of its net.
-ghost use Rattle.std.specs.Prelude.{◌≡◌, ◌<◌, ◌≤◌, ◌++◌, ◌∷◌, [], ◌+◌, length, get_or, IfOk, OnOk};
+ghost use Rattle.std.specs.Prelude.{◌≡◌, ◌<◌, ◌≤◌, ◌++◌, ◌∷◌, [], ◌+◌, All, IsPermutation, IsSorted, length, get_or, IfOk, OnOk};
 ghost use Rattle.net_extract.specs.Classes.{AreHeads};
-ghost use Rattle.net_extract.specs.NetMaps.{AreNumbered, nets_of};
+ghost use Rattle.box_geom.specs.Rectangle.{IsProper};
+ghost use Rattle.net_extract.specs.NetMaps.{AreNumbered, AreWires, nets_of};
+ghost use Rattle.net_extract.specs.Parts.{AreDrawn};
+ghost use Rattle.net_extract.specs.Pieces.{rects_in, piece_cmp};
 
+use crate::class::least_labels;
+use crate::cut::all_pieces;
 use crate::piece::Piece;
+use box_geom::Shape;
 use cell_num::NoMemory;
 use std::alloc::Global;
 
@@ -21,7 +27,7 @@ pub struct NetMap {
     pub firsts: Vec<Piece>,
 }
 
-fn next_number(firsts: &[Piece]) -> Result<u32, NoMemory>
+pub(crate) fn count_of(firsts: &[Piece]) -> Result<u32, NoMemory>
     ensures { IfOk result (λ n. n ≡ length firsts.now) }
 {
     u32::try_from(firsts.len()).map_err(|_| NoMemory)
@@ -43,7 +49,7 @@ fn number_of(
     if label < wires.len() {
         return Ok(wires[label].net);
     }
-    let number = next_number(firsts.as_slice())?;
+    let number = count_of(firsts.as_slice())?;
     firsts.push(piece).map_err(|_| NoMemory)?;
     Ok(number)
 }
@@ -81,4 +87,36 @@ fn number_all(alloc: Global, pieces: &[Piece], labels: &[usize]) -> Result<NetMa
         number_piece(&mut wires, &mut firsts, pieces, labels, at)?;
     }
     Ok(NetMap { wires, firsts })
+}
+
+fn sorted(mut pieces: Vec<Piece>) -> Vec<Piece>
+    ensures moved { IsPermutation pieces.items result.items }
+    ensures sorted { IsSorted piece_cmp result.items }
+{
+    pieces.sort_unstable();
+    pieces
+}
+
+#[tactic(auto, using(crate::proofs::Netting::piece_rules))]
+fn ordered_pieces(alloc: Global, shapes: &[Shape]) -> Result<Vec<Piece>, NoMemory>
+    requires { All (λ s. IsProper s.rect) shapes.now }
+    ensures drawn { IfOk result (λ ps. AreDrawn shapes.now (rects_in ps.items)) }
+    ensures sorted { IfOk result (λ ps. IsSorted piece_cmp ps.items) }
+{
+    let pieces = all_pieces(alloc, shapes)?;
+    Ok(sorted(pieces.into_vec()))
+}
+
+/// The nets of a drawing: pieces in the order of their first cells, with the numbers of their nets.
+#[tactic(auto, using(crate::proofs::Netting::net_rules))]
+pub(crate) fn net_map(alloc: Global, shapes: &[Shape]) -> Result<NetMap, NoMemory>
+    requires { All (λ s. IsProper s.rect) shapes.now }
+    ensures { IfOk result (λ m. AreWires shapes.now m.wires.items m.firsts.items) }
+{
+    let pieces = ordered_pieces(alloc, shapes)?;
+    let labels = least_labels(alloc, shapes, pieces.as_slice())?;
+    match number_all(alloc, pieces.as_slice(), labels.as_slice()) {
+        Ok(map) => Ok(map),
+        Err(NoMemory) => Err(NoMemory),
+    }
 }
