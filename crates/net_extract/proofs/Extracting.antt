@@ -1,5 +1,5 @@
 -- The steps of extraction give the netlist, or the fault.
-use Rattle.std.proofs.Common.{◌≡◌, ℕ, ◌≤◌, ◌<◌, List, [], ◌∷◌, map, length, Option, Some, None, IfSome, arith, inl, inr, ◌⊎◌, refl, sym, subst, ap, ◌∙◌}
+use Rattle.std.proofs.Common.{◌≡◌, ℕ, ◌≤◌, ◌<◌, List, [], ◌∷◌, map, length, Option, Some, None, Result, Ok, Err, IfOk, arith, inl, inr, ◌⊎◌, refl, sym, subst, ap, ◌∙◌}
 use Rattle.std.specs.List.{All, AllZip, find}
 use Rattle.box_geom.specs.Layers.{AreWithinLimits}
 use Rattle.box_geom.specs.declared.shape.Shape.{Shape}
@@ -10,7 +10,7 @@ use Rattle.net_extract.specs.Devices.{AreDevices, IsFirstOdd}
 use Rattle.net_extract.specs.Extraction.{AreFew, AreRegular, IsLabelled, Extracts, IsTooMany, IsOddDevice, IsStrayLabel, IsShortDrawing, IsSplitDrawing, ExtractRefused}
 use Rattle.net_extract.specs.Naming.{IsAgreed, names_of, short_net, split_name, IsNameFault}
 use Rattle.net_extract.specs.Labels.{AreHeld, IsFirstStray}
-use Rattle.net_extract.specs.Lookups.{is_lost, held_in, IsStrayOf}
+use Rattle.net_extract.specs.Lookups.{is_lost, held_in, IsStrayOf, IsLostBy}
 use Rattle.net_extract.specs.GateNets.{AreGates, AreGateNets, AreFound, IsOddFault}
 use Rattle.net_extract.specs.NetMaps.{firsts_of, AreWires}
 use Rattle.net_extract.specs.Steps.{AreNamed}
@@ -21,6 +21,9 @@ use Rattle.net_extract.specs.declared.fault.ExtractFault.{ExtractFault}
 use Rattle.net_extract.specs.declared.fault.ExtractFault.TheVariants.{TooMany, OddDevice, Stray, Short, Split, NoMemory}
 use Rattle.net_extract.specs.declared.piece.Piece.{Piece}
 use Rattle.net_extract.specs.declared.netmap.Wire.{Wire}
+use Rattle.box_geom.specs.Rectangle.{IsRectangle}
+use Rattle.net_extract.specs.Cuts.{poly_of, gates_in}
+use Rattle.net_extract.proofs.Carving.{gates_drawn, proper_of_limits}
 use Rattle.net_extract.proofs.Labelling.{labels_held, stray_is}
 
 pub many_rects : (shapes : Shapes) → 10000 < length shapes.rects → IsTooMany shapes (length shapes.rects)
@@ -42,19 +45,17 @@ odd_refused shapes (Stray n) few o = absurd o
 odd_refused shapes (Short a b) few o = absurd o
 odd_refused shapes (Split n) few o = absurd o
 
-pub stray_refused : (shapes : Shapes) (wires : List Wire) (firsts : List Piece) (f : ExtractFault) → AreRegular shapes → AreWires shapes.rects wires firsts → IfSome (find (is_lost wires) shapes.labels) (λ (l : Label). IsStrayOf l.name f) → ExtractRefused shapes f
-stray_refused shapes wires firsts f regular m e = by (find (is_lost wires) shapes.labels) refl e
-  where
-    at : (l : Label) → find (is_lost wires) shapes.labels ≡ Some l → (g : ExtractFault) → IsStrayOf l.name g → ExtractRefused shapes g
-    at l q (Stray name) s = record { regular = regular; stray = subst (IsFirstStray shapes.rects shapes.labels) (sym s) (stray_is shapes.rects wires firsts m shapes.labels l q) }
-    at l q NoMemory s = tt
-    at l q (TooMany n) s = absurd s
-    at l q (OddDevice x y) s = absurd s
-    at l q (Short a b) s = absurd s
-    at l q (Split n) s = absurd s
-    by : (o : Option Label) → find (is_lost wires) shapes.labels ≡ o → IfSome o (λ (l : Label). IsStrayOf l.name f) → ExtractRefused shapes f
-    by None q s = absurd s
-    by (Some l) q s = at l q f s
+stray_at : (shapes : Shapes) (wires : List Wire) (firsts : List Piece) → AreRegular shapes → AreWires shapes.rects wires firsts → (o : Option Label) → find (is_lost wires) shapes.labels ≡ o → (f : ExtractFault) → IsLostBy o f → ExtractRefused shapes f
+stray_at shapes wires firsts regular m None q f s = absurd s
+stray_at shapes wires firsts regular m (Some l) q (Stray name) s = record { regular = regular; stray = subst (IsFirstStray shapes.rects shapes.labels) (sym s) (stray_is shapes.rects wires firsts m shapes.labels l q) }
+stray_at shapes wires firsts regular m (Some l) q NoMemory s = tt
+stray_at shapes wires firsts regular m (Some l) q (TooMany n) s = absurd s
+stray_at shapes wires firsts regular m (Some l) q (OddDevice x y) s = absurd s
+stray_at shapes wires firsts regular m (Some l) q (Short a b) s = absurd s
+stray_at shapes wires firsts regular m (Some l) q (Split n) s = absurd s
+
+pub stray_refused : (shapes : Shapes) (wires ws : List Wire) (labels : List Label) (firsts : List Piece) (f : ExtractFault) → AreRegular shapes → AreWires shapes.rects wires firsts → ws ≡ wires → labels ≡ shapes.labels → IsLostBy (find (is_lost ws) labels) f → ExtractRefused shapes f
+stray_refused shapes wires ws labels firsts f regular m ew el e = stray_at shapes wires firsts regular m (find (is_lost wires) shapes.labels) refl f (subst (λ z. IsLostBy (find (is_lost z) shapes.labels) f) ew (subst (λ z. IsLostBy (find (is_lost ws) z) f) el e))
 
 many_firsts : (firsts : List Piece) → length (firsts_of firsts) ≡ length firsts
 many_firsts [] = refl
@@ -101,3 +102,10 @@ extracts shapes firsts n few found named = record {
   devices = found.are;
   drawn = found.drawn;
 }
+
+pub if_ok : {X E : Type 0} (A B : X → Type 0) (r : Result X E) → ((x : X) → A x → B x) → IfOk r A → IfOk r B
+if_ok A B (Ok x) f h = f x h
+if_ok A B (Err e) f h = tt
+
+pub gate_nets : (s g : List Shape) (wires : List Wire) (firsts : List Piece) → All (λ (z : Shape). IsRectangle z.rect) s → g ≡ map poly_of (gates_in s) → AreWires g wires firsts → AreGateNets s wires firsts
+gate_nets s g wires firsts limits e m = record { gates = g; are = subst (AreGates s) (sym e) (gates_drawn s (proper_of_limits s limits)); nets = m }

@@ -30,3 +30,9 @@ pub net_is : (s : List Shape) (ps : List Piece) (ls : List ℕ) (wires : List Wi
 net_is s ps ls wires firsts d up least n = wires_are s ps ls wires firsts (record { drawn = d; sorted = up; least = least }) n
 
 pub ruleset net_rules = (pieces_proper, labels_head, net_is)
+
+pub heads_from : (s : List Shape) (ps qs rs : List Piece) (ls ms : List ℕ) → qs ≡ ps → rs ≡ ps → ms ≡ ls → AreLeast (length qs) (Paired s qs) ls → AreHeads (length rs) ms
+heads_from s ps qs rs ls ms eq er em least = subst (λ zs. AreHeads (length zs) ms) (sym er) (subst (AreHeads (length ps)) (sym em) (labels_head s ps ls (subst (λ zs. AreLeast (length zs) (Paired s zs) ls) eq least)))
+
+pub net_from : (s : List Shape) (ps qs rs : List Piece) (ls ms : List ℕ) (wires : List Wire) (firsts : List Piece) → qs ≡ ps → rs ≡ ps → ms ≡ ls → AreDrawn s (rects_in ps) → IsSorted piece_cmp ps → AreLeast (length qs) (Paired s qs) ls → AreNumbered rs ms (length rs) wires firsts → AreWires s wires firsts
+net_from s ps qs rs ls ms wires firsts eq er em d up least n = net_is s ps ls wires firsts d up (subst (λ zs. AreLeast (length zs) (Paired s zs) ls) eq least) (subst (λ zs. AreNumbered zs ls (length zs) wires firsts) er (subst (λ zs. AreNumbered rs zs (length rs) wires firsts) em n))

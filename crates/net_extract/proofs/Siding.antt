@@ -270,6 +270,6 @@ no_row s r p n d = by d.row d.is.of_row
     by P h = p (record { all = h })
     by N h = n (record { all = h })
 
-pub if_some : {X : Type 0} (P Q : X → Type 0) (o : Option X) → ((x : X) → P x → Q x) → IfSome o P → IfSome o Q
-if_some P Q None f h = tt
-if_some P Q (Some x) f h = f x h
+pub if_some : {X : Type 0} (A B : X → Type 0) (o : Option X) → ((x : X) → A x → B x) → IfSome o A → IfSome o B
+if_some A B None f h = tt
+if_some A B (Some x) f h = f x h

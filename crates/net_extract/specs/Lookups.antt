@@ -62,3 +62,8 @@ abbrev pub IsStrayOf : List ℕ → ExtractFault → Type 0
 IsStrayOf name (Stray n) = n ≡ name
 IsStrayOf name NoMemory = Unit {0}
 IsStrayOf name _ = ⊥
+
+-- the label that was found is refused
+abbrev pub IsLostBy : Option Label → ExtractFault → Type 0
+IsLostBy (Some l) f = IsStrayOf l.name f
+IsLostBy None f = ⊥

@@ -1,5 +1,7 @@
 // The netlist of a drawing.
-ghost use Rattle.std.specs.Prelude.{◌≡◌, All, IfOk, IfErr, OnOk, map};
+ghost use Rattle.std.specs.Prelude.{◌≡◌, All, IfOk, IfErr, OnOk, None, map};
+ghost use Rattle.std.specs.List.{find};
+ghost use Rattle.net_extract.specs.Lookups.{is_lost};
 ghost use Rattle.box_geom.specs.Layers.{AreWithinLimits};
 ghost use Rattle.box_geom.specs.Rectangle.{IsRectangle};
 ghost use Rattle.net_extract.specs.Cuts.{poly_of};
@@ -97,20 +99,39 @@ fn all_devices(alloc: Global, shapes: &Shapes, map: &NetMap) -> Result<DrawnList
     }
 }
 
-fn all_names(alloc: Global, shapes: &Shapes, map: &NetMap) -> Result<Names, ExtractFault>
+fn names_by_labels(
+    alloc: Global,
+    shapes: &Shapes,
+    map: &NetMap,
+) -> Result<Names, ExtractFault>
     requires regular { AreRegular shapes.now }
     requires map { AreWires shapes.now.rects map.now.wires.items map.now.firsts.items }
+    requires held { find (is_lost map.now.wires.items) shapes.now.labels ≡ None }
     ensures ok { IfOk result (AreNamed shapes.now (firsts_of map.now.firsts.items)) }
     ensures refused { IfErr result (λ f. ExtractRefused shapes.now f) }
 {
-    check_strays(alloc, map.wires.as_slice(), shapes.labels.as_slice())?;
     let Ok(held) = all_held(alloc, map.wires.as_slice(), shapes.labels.as_slice()) else {
         return Err(ExtractFault::NoMemory);
     };
     let Ok(count) = count_of(map.firsts.as_slice()) else {
         return Err(ExtractFault::NoMemory);
     };
-    net_names(alloc, held.as_slice(), count)
+    match net_names(alloc, held.as_slice(), count) {
+        Ok(names) => Ok(names),
+        Err(fault) => Err(fault),
+    }
+}
+
+fn all_names(alloc: Global, shapes: &Shapes, map: &NetMap) -> Result<Names, ExtractFault>
+    requires regular { AreRegular shapes.now }
+    requires map { AreWires shapes.now.rects map.now.wires.items map.now.firsts.items }
+    ensures ok { IfOk result (AreNamed shapes.now (firsts_of map.now.firsts.items)) }
+    ensures refused { IfErr result (λ f. ExtractRefused shapes.now f) }
+{
+    match check_strays(alloc, map.wires.as_slice(), shapes.labels.as_slice()) {
+        Ok(()) => names_by_labels(alloc, shapes, map),
+        Err(fault) => Err(fault),
+    }
 }
 
 fn extract_few(alloc: Global, shapes: &Shapes) -> Result<Netlist, ExtractFault>

@@ -15,6 +15,7 @@ use crate::netlist::{Drawn, DrawnList};
 use crate::netmap::{NetMap, Wire};
 use crate::piece::Piece;
 use box_geom::{Layer, Shape};
+use cell_num::NoMemory;
 use std::alloc::Global;
 
 fn widened(to: Piece, wire: &Wire, net: usize) -> Piece
@@ -117,11 +118,10 @@ pub(crate) fn devices(
     let mut devices = DrawnList::new(alloc);
     for net in 0..gates.firsts.len() {
         match device_of_class(shapes, map, gates, net) {
-            Some(device) => {
-                if devices.push(device).is_err() {
-                    return Err(ExtractFault::NoMemory);
-                }
-            }
+            Some(device) => match devices.push(device) {
+                Ok(()) => {}
+                Err(NoMemory) => return Err(ExtractFault::NoMemory),
+            },
             None => return Err(odd(gates.firsts[net])),
         }
     }

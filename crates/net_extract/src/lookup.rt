@@ -1,10 +1,10 @@
 // The net of a place, and the nets of labels.
-ghost use Rattle.std.specs.Prelude.{◌≡◌, ◌++◌, ◌∷◌, [], IfOk, IfErr, OnOk, None, IfSome, option_to_list};
+ghost use Rattle.std.specs.Prelude.{◌≡◌, ◌++◌, ◌∷◌, [], IfOk, IfErr, OnOk, None, option_to_list};
 ghost use Rattle.std.specs.Option.{option_map};
 ghost use Rattle.std.specs.List.{find};
 ghost use Rattle.box_geom.specs.Comparisons.{within, holding};
 ghost use Rattle.net_extract.specs.Labels.{is_wiring};
-ghost use Rattle.net_extract.specs.Lookups.{is_at, net_in, net_on, or_else, net_round, net_of_label, is_lost, held_of, held_in, IsStrayOf};
+ghost use Rattle.net_extract.specs.Lookups.{is_at, net_in, net_on, or_else, net_round, net_of_label, is_lost, held_of, held_in, IsStrayOf, IsLostBy};
 ghost use Rattle.net_extract.specs.Pieces.{rect_of};
 
 use crate::fault::ExtractFault;
@@ -114,7 +114,7 @@ fn stray(alloc: Global, name: &[u8]) -> ExtractFault
 /// Refuses the first label that belongs to no conductor cell.
 pub(crate) fn check_strays(alloc: Global, wires: &[Wire], labels: &[Label]) -> Result<(), ExtractFault>
     ensures none { OnOk result (find (is_lost wires.now) labels.now ≡ None) }
-    ensures stray { IfErr result (λ f. IfSome (find (is_lost wires.now) labels.now) (λ l. IsStrayOf l.name f)) }
+    ensures stray { IfErr result (λ f. IsLostBy (find (is_lost wires.now) labels.now) f) }
 {
     match first_stray(wires, labels) {
         Some(label) => Err(stray(alloc, label.name.as_slice())),
