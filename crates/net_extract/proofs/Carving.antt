@@ -74,17 +74,17 @@ around_has : (r : Rectangle) (p : Piece) (x y : ℤ) → Holds (rect_of p) x y �
 around_has r p x y h out =
     by_lt_z x r.x1
     (λ l. let k : Holds (rect_of (left_part p r)) x y = omega (arith, ints, clamps) in
-      record { piece = left_part p r; listed = Contains-append_left (kept (left_part p r)) (kept (right_part p r) ++ (kept (low_part p r) ++ kept (high_part p r))) (left_part p r) (to_kept (left_part p r) x y k); holds = k })
+    record { piece = left_part p r; listed = Contains-append_left (kept (left_part p r)) (kept (right_part p r) ++ (kept (low_part p r) ++ kept (high_part p r))) (left_part p r) (to_kept (left_part p r) x y k); holds = k })
     (λ l. by_lt_z x r.x2
-      (λ m. by_lt_z y r.y1
-        (λ u. let k : Holds (rect_of (low_part p r)) x y = omega (arith, ints, clamps) in
-          record { piece = low_part p r; listed = Contains-append_right (kept (left_part p r)) (kept (right_part p r) ++ (kept (low_part p r) ++ kept (high_part p r))) (low_part p r) (Contains-append_right (kept (right_part p r)) (kept (low_part p r) ++ kept (high_part p r)) (low_part p r) (Contains-append_left (kept (low_part p r)) (kept (high_part p r)) (low_part p r) (to_kept (low_part p r) x y k))); holds = k })
-        (λ u. by_lt_z y r.y2
-          (λ v. absurd (out (record { left = l; right = m; low = u; high = v })))
-          (λ v. let k : Holds (rect_of (high_part p r)) x y = omega (arith, ints, clamps) in
-            record { piece = high_part p r; listed = Contains-append_right (kept (left_part p r)) (kept (right_part p r) ++ (kept (low_part p r) ++ kept (high_part p r))) (high_part p r) (Contains-append_right (kept (right_part p r)) (kept (low_part p r) ++ kept (high_part p r)) (high_part p r) (Contains-append_right (kept (low_part p r)) (kept (high_part p r)) (high_part p r) (to_kept (high_part p r) x y k))); holds = k })))
-      (λ m. let k : Holds (rect_of (right_part p r)) x y = omega (arith, ints, clamps) in
-        record { piece = right_part p r; listed = Contains-append_right (kept (left_part p r)) (kept (right_part p r) ++ (kept (low_part p r) ++ kept (high_part p r))) (right_part p r) (Contains-append_left (kept (right_part p r)) (kept (low_part p r) ++ kept (high_part p r)) (right_part p r) (to_kept (right_part p r) x y k)); holds = k }))
+    (λ m. by_lt_z y r.y1
+    (λ u. let k : Holds (rect_of (low_part p r)) x y = omega (arith, ints, clamps) in
+    record { piece = low_part p r; listed = Contains-append_right (kept (left_part p r)) (kept (right_part p r) ++ (kept (low_part p r) ++ kept (high_part p r))) (low_part p r) (Contains-append_right (kept (right_part p r)) (kept (low_part p r) ++ kept (high_part p r)) (low_part p r) (Contains-append_left (kept (low_part p r)) (kept (high_part p r)) (low_part p r) (to_kept (low_part p r) x y k))); holds = k })
+    (λ u. by_lt_z y r.y2
+    (λ v. absurd (out (record { left = l; right = m; low = u; high = v })))
+    (λ v. let k : Holds (rect_of (high_part p r)) x y = omega (arith, ints, clamps) in
+    record { piece = high_part p r; listed = Contains-append_right (kept (left_part p r)) (kept (right_part p r) ++ (kept (low_part p r) ++ kept (high_part p r))) (high_part p r) (Contains-append_right (kept (right_part p r)) (kept (low_part p r) ++ kept (high_part p r)) (high_part p r) (Contains-append_right (kept (low_part p r)) (kept (high_part p r)) (high_part p r) (to_kept (high_part p r) x y k))); holds = k })))
+    (λ m. let k : Holds (rect_of (right_part p r)) x y = omega (arith, ints, clamps) in
+    record { piece = right_part p r; listed = Contains-append_right (kept (left_part p r)) (kept (right_part p r) ++ (kept (low_part p r) ++ kept (high_part p r))) (right_part p r) (Contains-append_left (kept (right_part p r)) (kept (low_part p r) ++ kept (high_part p r)) (right_part p r) (to_kept (right_part p r) x y k)); holds = k }))
 
 -- ---- lists of pieces of one kind
 pub record ArePieces (k : Conductor) (P : ℤ → ℤ → Type 0) (ps : List Piece) : Type 0 where
@@ -157,14 +157,14 @@ shared_are k P layer ps ss a = record {
   proper = λ q c. let f = from_shape layer ps ss q c in (shared_is f.shape.rect f.of q f.inside).proper;
   sound = λ x y h. let f = from_shape layer ps ss h.piece h.listed in let r = shared_is f.shape.rect f.of h.piece f.inside in (a.sound x y (record { piece = f.of; listed = f.listed; holds = r.inside x y h.holds }), shown ss layer f.shape x y f.there f.on (r.within x y h.holds));
   all = λ x y q.
-    let h = a.all x y q.0 in
-    let w = shows ss layer x y q.1 in
-    let g = w.holds in
-    let hh = h.holds in
-    let k : Holds (rect_of (common_part h.piece w.shape.rect)) x y = omega (arith, ints, clamps) in
-    let one : Contains (flat_map (shared_part w.shape.rect) ps) (common_part h.piece w.shape.rect) = contains_flat (shared_part w.shape.rect) ps h.piece (common_part h.piece w.shape.rect) h.listed (to_kept (common_part h.piece w.shape.rect) x y k) in
-    let here : Contains (shared_once layer ps w.shape) (common_part h.piece w.shape.rect) = rw w.on one in
-    record { piece = common_part h.piece w.shape.rect; listed = contains_flat (shared_once layer ps) ss w.shape (common_part h.piece w.shape.rect) w.listed here; holds = k };
+      let h = a.all x y q.0 in
+      let w = shows ss layer x y q.1 in
+      let g = w.holds in
+      let hh = h.holds in
+      let k : Holds (rect_of (common_part h.piece w.shape.rect)) x y = omega (arith, ints, clamps) in
+      let one : Contains (flat_map (shared_part w.shape.rect) ps) (common_part h.piece w.shape.rect) = contains_flat (shared_part w.shape.rect) ps h.piece (common_part h.piece w.shape.rect) h.listed (to_kept (common_part h.piece w.shape.rect) x y k) in
+      let here : Contains (shared_once layer ps w.shape) (common_part h.piece w.shape.rect) = rw w.on one in
+      record { piece = common_part h.piece w.shape.rect; listed = contains_flat (shared_once layer ps) ss w.shape (common_part h.piece w.shape.rect) w.listed here; holds = k };
 }
 
 -- a piece that is a shape of the layer
@@ -187,9 +187,9 @@ drawn_are k layer ss proper = record {
   proper = λ q c. let f = from_drawn k layer ss q c in subst (λ (p : Piece). IsProper (rect_of p)) f.is (All-contains (λ (z : Shape). IsProper z.rect) ss f.shape proper f.there);
   sound = λ x y h. let f = from_drawn k layer ss h.piece h.listed in shown ss layer f.shape x y f.there f.on (subst (λ (p : Piece). Holds (rect_of p) x y) (sym f.is) h.holds);
   all = λ x y on.
-    let w = shows ss layer x y on in
-    let here : Contains (drawn_once k layer w.shape) (piece_of k w.shape.rect) = rw w.on (contains_here (piece_of k w.shape.rect) []) in
-    record { piece = piece_of k w.shape.rect; listed = contains_flat (drawn_once k layer) ss w.shape (piece_of k w.shape.rect) w.listed here; holds = w.holds };
+      let w = shows ss layer x y on in
+      let here : Contains (drawn_once k layer w.shape) (piece_of k w.shape.rect) = rw w.on (contains_here (piece_of k w.shape.rect) []) in
+      record { piece = piece_of k w.shape.rect; listed = contains_flat (drawn_once k layer) ss w.shape (piece_of k w.shape.rect) w.listed here; holds = w.holds };
 }
 
 -- ---- two lists of pieces together
@@ -226,32 +226,44 @@ pieces_drawn s proper = record { covered = covered; conducts = conducts; proper 
   where
     ps : List Piece
     ps = p_diffusion_in s
+
     ns : List Piece
     ns = n_diffusion_in s
+
     os : List Piece
     os = drawn_all Poly PolyLayer s
+
     ms : List Piece
     ms = drawn_all Metal1 Metal1Layer s
+
     ts : List Piece
     ts = drawn_all Metal2 Metal2Layer s
+
     pa : ArePieces PDiffusion (Are s p_diffusion) (p_diffusion_in s)
     pa = p_are s proper
+
     na : ArePieces NDiffusion (Are s n_diffusion) (n_diffusion_in s)
     na = n_are s proper
+
     oa : ArePieces Poly (On PolyLayer s) (drawn_all Poly PolyLayer s)
     oa = drawn_are Poly PolyLayer s proper
+
     ma : ArePieces Metal1 (On Metal1Layer s) (drawn_all Metal1 Metal1Layer s)
     ma = drawn_are Metal1 Metal1Layer s proper
+
     ta : ArePieces Metal2 (On Metal2Layer s) (drawn_all Metal2 Metal2Layer s)
     ta = drawn_are Metal2 Metal2Layer s proper
+
     whole : Split s (pieces_in s)
     whole = split_both s (((ps ++ ns) ++ os) ++ ms) ts (split_both s ((ps ++ ns) ++ os) ms (split_both s (ps ++ ns) os (split_both s ps ns (split_of s PDiffusion ps pa) (split_of s NDiffusion ns na)) (split_of s Poly os oa)) (split_of s Metal1 ms ma)) (split_of s Metal2 ts ta)
+
     covered : (k : Kind) (x y : ℤ) → Are s k x y → Covers (rects_in (pieces_in s) k) x y
     covered p_diffusion x y a = has_left (((ps ++ ns) ++ os) ++ ms) ts PDiffusion x y (has_left ((ps ++ ns) ++ os) ms PDiffusion x y (has_left (ps ++ ns) os PDiffusion x y (has_left ps ns PDiffusion x y (first_kind PDiffusion (Are s p_diffusion) ps pa x y a))))
     covered n_diffusion x y a = has_left (((ps ++ ns) ++ os) ++ ms) ts NDiffusion x y (has_left ((ps ++ ns) ++ os) ms NDiffusion x y (has_left (ps ++ ns) os NDiffusion x y (in_kind NDiffusion (Are s n_diffusion) ns na x y a ps)))
     covered poly x y a = has_left (((ps ++ ns) ++ os) ++ ms) ts Poly x y (has_left ((ps ++ ns) ++ os) ms Poly x y (in_kind Poly (On PolyLayer s) os oa x y a (ps ++ ns)))
     covered metal1 x y a = has_left (((ps ++ ns) ++ os) ++ ms) ts Metal1 x y (in_kind Metal1 (On Metal1Layer s) ms ma x y a ((ps ++ ns) ++ os))
     covered metal2 x y a = in_kind Metal2 (On Metal2Layer s) ts ta x y a (((ps ++ ns) ++ os) ++ ms)
+
     conducts : (k : Kind) (x y : ℤ) → Covers (rects_in (pieces_in s) k) x y → Are s k x y
     conducts k x y c = let l = listed_of (pieces_in s) k c.rect c.listed in subst (λ j. Are s j x y) l.kind (whole.sound l.piece l.listed x y (subst (λ r. Holds r x y) (sym l.rect) c.holds))
 

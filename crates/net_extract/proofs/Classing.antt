@@ -75,23 +75,30 @@ joining_is n R back i j ls made li lj r is e = subst (IsTried n R i j ls) (sym e
   where
     from : ℕ
     from = max (get_or ls i 0) (get_or ls j 0)
+
     to : ℕ
     to = min (get_or ls i 0) (get_or ls j 0)
+
     f : ℕ → ℕ
     f = renamed from to
+
     at : (p : ℕ) → p < n → get_or (map f ls) p 0 ≡ f (get_or ls p 0)
     at p lp = at_map f ls n p is.count lp
+
     end_one : (((from ≡ get_or ls i 0) × (to ≡ get_or ls j 0)) ⊎ ((from ≡ get_or ls j 0) × (to ≡ get_or ls i 0))) → (get_or ls i 0 ≡ from) ⊎ (get_or ls i 0 ≡ to)
     end_one (inl p) = inl (sym p.0)
     end_one (inr p) = inr (sym p.1)
+
     end_other : (((from ≡ get_or ls i 0) × (to ≡ get_or ls j 0)) ⊎ ((from ≡ get_or ls j 0) × (to ≡ get_or ls i 0))) → (get_or ls j 0 ≡ from) ⊎ (get_or ls j 0 ≡ to)
     end_other (inl p) = inr (sym p.1)
     end_other (inr p) = inl (sym p.0)
+
     low : (p : ℕ) → p < n → get_or (map f ls) p 0 ≤ p
     low p lp = elim (renaming from to (get_or ls p 0)) [
       | inl q ↦ let le : to ≤ from = omega arith in let was = is.low p lp in let here = at p lp in let e0 = q.0 in let e1 = q.1 in omega (arith, le, was, here, e0, e1)
       | inr q ↦ let was = is.low p lp in let here = at p lp in omega (arith, q, was, here)
     ]
+
     reach : (p : ℕ) → p < n → Chain R p (get_or (map f ls) p 0)
     reach p lp = subst (λ z. Chain R p z) (sym (at p lp)) (elim (renaming from to (get_or ls p 0)) [
       | inl q ↦ subst (λ z. Chain R p z) (sym q.1) (joined R p from to (subst (λ z. Chain R p z) q.0 (is.reach p lp)) (linked_ends n R back i j ls li lj r is))

@@ -79,6 +79,7 @@ name_refused shapes wires firsts held count f regular m e eh ec is = by f (subst
   where
     lab : IsLabelled shapes (firsts_of firsts) held
     lab = subst (IsLabelled shapes (firsts_of firsts)) (sym eh) (labelled shapes wires firsts m e)
+
     by : (g : ExtractFault) → IsNameFault held (length (firsts_of firsts)) g → ExtractRefused shapes g
     by (Short a b) s = record { regular = regular; firsts = firsts_of firsts; held = held; labelled = lab; short = s }
     by (Split n) s = record { regular = regular; firsts = firsts_of firsts; held = held; labelled = lab; split = s }

@@ -82,8 +82,8 @@ more_covered {y} {at} {top} s layer area at' top' r was e ea et =
       some = (let a = was.some in omega (arith, ints, clamps));
       most = (let a = was.most in omega (arith, ints, clamps));
       cells = λ x t a b c d. by_lt_z x at
-        (λ less. was.cells x t a less c (omega (arith, ints, clamps)))
-        (λ most. f.covers x t (let l = was.least in omega (arith, ints, clamps)));
+          (λ less. was.cells x t a less c (omega (arith, ints, clamps)))
+          (λ most. f.covers x t (let l = was.least in omega (arith, ints, clamps)));
     }
 
 pub not_covered : {y at top : ℤ} (s : List Shape) (layer : Layer) (area : Rectangle) → IsCovered s layer area y at top → at <ℤ area.x2 → area.y1 ≤ℤ y → y <ℤ area.y2 → holder s layer at y ≡ None → IsFull s layer area → ⊥
@@ -133,17 +133,26 @@ free_decides s layer area p all = by (meeting_any s layer area) refl
   where
     meets_proper : (z : Shape) → Contains s z → Decides (meeting area z.rect) (Common area z.rect)
     meets_proper z c = meeting_decides area z.rect p (All-contains (λ (w : Shape). IsProper w.rect) s z all c)
+
     by : (b : Bool) → meeting_any s layer area ≡ b → IsTrue (not b) ↔ IsFree s layer area
-    by true e = (λ t. absurd (cc t), λ f.
-        let w = any_of (meeting_on layer area) s e in
-        let t = and_parts (same_layer w.it.layer layer) (meeting area w.it.rect) w.passes in
-        let c = (meets_proper w.it w.listed).0 t.1 in
-        absurd (f.free c.x c.y c.in_a (shown s layer w.it c.x c.y w.listed t.0 c.in_b)))
-    by false e = (λ t. record { free = λ x y h c.
-        let w = shows s layer x y c in
-        let m : meeting area w.shape.rect ≡ true = (meets_proper w.shape w.listed).1 (record { x = x; y = y; in_a = h; in_b = w.holds }) in
-        let any : meeting_any s layer area ≡ true = of_any (meeting_on layer area) s w.shape w.listed (and_true (same_layer w.shape.layer layer) (meeting area w.shape.rect) w.on m) in
-        absurd (cc (sym e ∙ any)) }, λ f. refl)
+    by true e = (
+      λ t. absurd (cc t),
+      λ f.
+          let w = any_of (meeting_on layer area) s e in
+          let t = and_parts (same_layer w.it.layer layer) (meeting area w.it.rect) w.passes in
+          let c = (meets_proper w.it w.listed).0 t.1 in
+          absurd (f.free c.x c.y c.in_a (shown s layer w.it c.x c.y w.listed t.0 c.in_b)),
+    )
+    by false e = (
+      λ t. record {
+        free = λ x y h c.
+            let w = shows s layer x y c in
+            let m : meeting area w.shape.rect ≡ true = (meets_proper w.shape w.listed).1 (record { x = x; y = y; in_a = h; in_b = w.holds }) in
+            let any : meeting_any s layer area ≡ true = of_any (meeting_on layer area) s w.shape w.listed (and_true (same_layer w.shape.layer layer) (meeting area w.shape.rect) w.on m) in
+            absurd (cc (sym e ∙ any));
+      },
+      λ f. refl,
+    )
 
 -- ---- the measures of the walks
 pub less_left : (x a b : ℤ) → a <ℤ b → b ≤ℤ x → unsigned_abs (x -ℤ b) < unsigned_abs (x -ℤ a)

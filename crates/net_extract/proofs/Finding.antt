@@ -83,6 +83,7 @@ shows (q ∷ qs) layer x y c = by (same_layer q.layer layer) refl c (λ d. shows
   where
     later : Shows qs layer x y → Shows (q ∷ qs) layer x y
     later r = record { shape = r.shape; listed = contains_there q qs r.shape r.listed; on = r.on; holds = r.holds }
+
     by : (b : Bool) → same_layer q.layer layer ≡ b → Covers (map (λ (w : Shape). w.rect) (cond b (q ∷ filter (λ (w : Shape). same_layer w.layer layer) qs) (filter (λ (w : Shape). same_layer w.layer layer) qs))) x y → (Covers (rects_on layer qs) x y → Shows qs layer x y) → Shows (q ∷ qs) layer x y
     by true e d rest = elim (cover_split q.rect (rects_on layer qs) x y d) [
       | inl h ↦ record { shape = q; listed = contains_here q qs; on = e; holds = h }

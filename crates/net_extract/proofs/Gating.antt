@@ -197,7 +197,6 @@ box wires firsts n = rect_of (box_of wires firsts n)
 bounds_of : (wires : List Wire) (firsts : List Piece) (n : ℕ) → IsBounds n (point_of (first_at firsts n)) wires (box_of wires firsts n)
 bounds_of wires firsts n = bounds_are n (point_of (first_at firsts n)) wires
 
-
 first_proper : (s g : List Shape) (wires : List Wire) (firsts : List Piece) → Gates s g wires firsts → (n : ℕ) → n < length firsts → Classed g wires firsts (first_at firsts n).left (first_at firsts n).low
 first_proper s g wires firsts z n l = classed s g wires firsts z (first_at firsts n).left (first_at firsts n).low ((z.are.poly (first_at firsts n).left (first_at firsts n).low).0 (first_is s g wires firsts z n l).conducts)
 
@@ -293,14 +292,17 @@ box_in_class s g wires firsts z n l r gate at = (bounds_of wires firsts n).least
         let m : IsInNet g (firsts_of firsts) n (site_at poly u v) = subst (λ j. IsInNet g (firsts_of firsts) n (site_at j u v)) is_poly (subst (λ j. IsInNet g (firsts_of firsts) j (site_at (kind_of w.piece.kind) u v)) e k) in
         let net : SameNet g (site_at poly (first_at firsts n).left (first_at firsts n).low) (site_at poly u v) = in_first g (firsts_of firsts) n (site_at poly (first_at firsts n).left (first_at firsts n).low) (site_at poly u v) (in_own s g wires firsts z n l) m in
         (gate.class (first_at firsts n).left (first_at firsts n).low u v at).0 (class_of_net s g z.are (first_at firsts n).left (first_at firsts n).low u v net)
+
     wire_in : (w : Wire) → Contains wires w → w.net ≡ n → Lies w.piece r
     wire_in w c e =
         let p = wire_proper g wires firsts z.nets w c in
         let b = box_within (rect_of w.piece) r p (λ u v h. cell_in w c e u v h) in
         let b0 = b.0.0 in let b1 = b.0.1 in let b2 = b.1.0 in let b3 = b.1.1 in
         record { left = b0; right = b2; low = b1; high = b3 }
+
     each : (w : Wire) → Contains wires w → w.net ≡ n → Lies w.piece r
     each = wire_in
+
     start : Lies (point_of (first_at firsts n)) r
     start = record { left = omega (arith, ints); right = omega (arith, ints); low = omega (arith, ints); high = omega (arith, ints) }
 
@@ -403,8 +405,8 @@ begins s g wires firsts z i j less l gi gj =
     record {
       not_behind = record { row = omega (arith, ints); column = λ h. let q = up.column (omega (arith, ints)) in omega (arith, ints) };
       other = λ back.
-        let br = back.row in
-        b.other (record { row = omega (arith, ints); column = λ h. let q = back.column (omega (arith, ints)) in omega (arith, ints); layer = λ h k. subst (λ a. rank a ≤ rank (kind_of (first_at firsts i).kind)) (sym kj) (subst (λ a. rank poly ≤ rank a) (sym ki) (omega arith)) });
+          let br = back.row in
+          b.other (record { row = omega (arith, ints); column = λ h. let q = back.column (omega (arith, ints)) in omega (arith, ints); layer = λ h k. subst (λ a. rank a ≤ rank (kind_of (first_at firsts i).kind)) (sym kj) (subst (λ a. rank poly ≤ rank a) (sym ki) (omega arith)) });
     }
 
 boxes_ascend : (s g : List Shape) (wires : List Wire) (firsts : List Piece) → Gates s g wires firsts → (k : ℕ) → k ≤ length firsts → ((n : ℕ) → n < k → IsSomeDevice s (box wires firsts n)) → AllPairs BeginsBefore (boxes_below wires firsts k)
@@ -428,16 +430,16 @@ all_done s g wires firsts sites k devices z e done = record {
     ascending = boxes_ascend s g wires firsts z k (omega (arith, e)) done.each;
     devices = λ r c. let i = of_boxes wires firsts k r c in subst (IsSomeDevice s) i.is (done.each i.at i.below);
     all = λ r d.
-      let h = corner_held r d.is.class.proper in
-      let c = classed s g wires firsts z r.x1 r.y1 (d.is.class.gate r.x1 r.y1 h) in
-      let l = c.below in
-      let below : c.wire.net < k = omega (arith, e, l) in
-      let same : box wires firsts c.wire.net ≡ r = same_box s (box wires firsts c.wire.net) r (done.each c.wire.net below).is.class d.is.class r.x1 r.y1 (cell_in_box s g wires firsts z r.x1 r.y1 c) h in
-      subst (Contains (boxes_below wires firsts k)) same (to_boxes wires firsts k c.wire.net below);
+        let h = corner_held r d.is.class.proper in
+        let c = classed s g wires firsts z r.x1 r.y1 (d.is.class.gate r.x1 r.y1 h) in
+        let l = c.below in
+        let below : c.wire.net < k = omega (arith, e, l) in
+        let same : box wires firsts c.wire.net ≡ r = same_box s (box wires firsts c.wire.net) r (done.each c.wire.net below).is.class d.is.class r.x1 r.y1 (cell_in_box s g wires firsts z r.x1 r.y1 c) h in
+        subst (Contains (boxes_below wires firsts k)) same (to_boxes wires firsts k c.wire.net below);
     none_odd = λ x y o.
-      let c = classed s g wires firsts z x y o.gate in
-      let l = c.below in
-      o.odd (box wires firsts c.wire.net) (cell_in_box s g wires firsts z x y c) (done.each c.wire.net (omega (arith, e, l)));
+        let c = classed s g wires firsts z x y o.gate in
+        let l = c.below in
+        o.odd (box wires firsts c.wire.net) (cell_in_box s g wires firsts z x y c) (done.each c.wire.net (omega (arith, e, l)));
   };
   drawn = done.drawn;
 }

@@ -117,6 +117,7 @@ bond_decides s a b pa pb =
     of_touch : place a.kind ≡ place b.kind → Bond s (part_of a) (part_of b) → Touch (rect_of a) (rect_of b)
     of_touch e (by_touch k t) = t
     of_touch e (joining j) = absurd (unjoined s a b (same_kind_place a.kind b.kind e) j)
+
     of_joint : (place a.kind ≡ place b.kind → ⊥) → Bond s (part_of a) (part_of b) → AreJoined s (part_of a) (part_of b)
     of_joint ne (by_touch k t) = absurd (ne (same_place a.kind b.kind k))
     of_joint ne (joining j) = j

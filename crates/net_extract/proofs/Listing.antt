@@ -61,6 +61,7 @@ listed_of (p ∷ ps) k r c = by (is_of k p.kind) refl c (λ d. listed_of ps k r 
   where
     later : Listed ps k r → Listed (p ∷ ps) k r
     later l = record { piece = l.piece; listed = contains_there p ps l.piece l.listed; kind = l.kind; rect = l.rect }
+
     by : (b : Bool) → is_of k p.kind ≡ b → Contains (if b then rect_of p ∷ rects_in ps k else rects_in ps k) r → (Contains (rects_in ps k) r → Listed ps k r) → Listed (p ∷ ps) k r
     by true e d go = elim (contains_cons (rect_of p) (rects_in ps k) r d) [
       | inl same ↦ record { piece = p; listed = contains_here p ps; kind = kind_is k p.kind e; rect = same }
@@ -73,8 +74,8 @@ of_listed [] p k c e = absurd (contains_none p c)
 of_listed (q ∷ qs) p k c e =
     elim (contains_cons q qs p c) [
       | inl same ↦
-        let mine : is_of k q.kind ≡ true = subst (λ z. is_of k z.kind ≡ true) (sym same) (subst (λ z. is_of z p.kind ≡ true) e (is_own p.kind)) in
-        subst (λ z. Contains (rects_in (q ∷ qs) k) (rect_of z)) same (rw mine (contains_here (rect_of q) (rects_in qs k)))
+          let mine : is_of k q.kind ≡ true = subst (λ z. is_of k z.kind ≡ true) (sym same) (subst (λ z. is_of z p.kind ≡ true) e (is_own p.kind)) in
+          subst (λ z. Contains (rects_in (q ∷ qs) k) (rect_of z)) same (rw mine (contains_here (rect_of q) (rects_in qs k)))
       | inr rest ↦ by (is_of k q.kind) (of_listed qs p k rest e)
     ]
   where

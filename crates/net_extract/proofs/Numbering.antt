@@ -60,32 +60,40 @@ more_numbered ps labels k wires made firsts more w lk heads was piece e next =
   where
     all : pieces_of (wires ++ w ∷ []) ≡ take (k + 1) ps
     all = map_push (λ (z : Wire). z.piece) wires w ∙ ap (λ z. z ++ w.piece ∷ []) was.pieces ∙ ap (λ z. take k ps ++ z ∷ []) piece ∙ sym (take_more ps k blank lk)
+
     tops : more ≡ heads_below ps labels (k + 1)
     tops = elim (cases_eq (get_or labels k 0) k) [
       | inl own ↦ next.first own ∙ ap (λ z. z ++ get_or ps k blank ∷ []) was.heads ∙ sym (heads_own ps labels k own)
       | inr ne ↦ next.later (let low = heads.low k lk in omega (arith, low, ne)) ∙ was.heads ∙ sym (heads_other ps labels k ne)
     ]
+
     many : length (nets_of wires) ≡ k
     many = map_length (λ (z : Wire). z.net) wires ∙ as_many ps labels k wires firsts (omega (arith, lk)) was
+
     nets : nets_of (wires ++ w ∷ []) ≡ nets_of wires ++ w.net ∷ []
     nets = map_push (λ (z : Wire). z.net) wires w
+
     before : (i : ℕ) → i < k → get_or (nets_of (wires ++ w ∷ [])) i 0 ≡ get_or (nets_of wires) i 0
     before i l = ap (λ z. get_or z i 0) nets ∙ get_or_append_left (nets_of wires) (w.net ∷ []) 0 i (omega (arith, l, many))
+
     here : get_or (nets_of (wires ++ w ∷ [])) k 0 ≡ w.net
     here = ap (λ z. get_or z k 0) nets ∙ subst (λ z. get_or (nets_of wires ++ w.net ∷ []) z 0 ≡ w.net) many (get_or-append_seam (nets_of wires) w.net [] 0)
+
     kept : (i : ℕ) (p : Piece) → slice_get firsts i ≡ Some p → slice_get more i ≡ Some p
     kept i p g = elim (cases_eq (get_or labels k 0) k) [
       | inl own ↦ subst (λ z. slice_get z i ≡ Some p) (sym (next.first own)) (get_left firsts (get_or ps k blank ∷ []) i p g)
       | inr ne ↦ subst (λ z. slice_get z i ≡ Some p) (sym (next.later (let low = heads.low k lk in omega (arith, low, ne)))) g
     ]
+
     last : slice_get more w.net ≡ Some (get_or ps (get_or labels k 0) blank)
     last = elim (cases_eq (get_or labels k 0) k) [
       | inl own ↦ subst (λ z. slice_get more w.net ≡ Some (get_or ps z blank)) (sym own) (subst (λ z. slice_get more z ≡ Some (get_or ps k blank)) (sym (next.new own)) (subst (λ z. slice_get z (length firsts) ≡ Some (get_or ps k blank)) (sym (next.first own)) (get_end firsts (get_or ps k blank))))
       | inr ne ↦
-        let less : get_or labels k 0 < k = (let low = heads.low k lk in omega (arith, low, ne)) in
-        let it : slice_get firsts (get_or (nets_of wires) (get_or labels k 0) 0) ≡ Some (get_or ps (get_or labels (get_or labels k 0) 0) blank) = was.numbers (get_or labels k 0) less in
-        kept w.net (get_or ps (get_or labels k 0) blank) (subst (λ z. slice_get firsts z ≡ Some (get_or ps (get_or labels k 0) blank)) (sym (next.old less)) (subst (λ z. slice_get firsts (get_or (nets_of wires) (get_or labels k 0) 0) ≡ Some (get_or ps z blank)) (heads.itself k lk) it))
+          let less : get_or labels k 0 < k = (let low = heads.low k lk in omega (arith, low, ne)) in
+          let it : slice_get firsts (get_or (nets_of wires) (get_or labels k 0) 0) ≡ Some (get_or ps (get_or labels (get_or labels k 0) 0) blank) = was.numbers (get_or labels k 0) less in
+          kept w.net (get_or ps (get_or labels k 0) blank) (subst (λ z. slice_get firsts z ≡ Some (get_or ps (get_or labels k 0) blank)) (sym (next.old less)) (subst (λ z. slice_get firsts (get_or (nets_of wires) (get_or labels k 0) 0) ≡ Some (get_or ps z blank)) (heads.itself k lk) it))
     ]
+
     numbers : (i : ℕ) → i < k + 1 → slice_get more (get_or (nets_of (wires ++ w ∷ [])) i 0) ≡ Some (get_or ps (get_or labels i 0) blank)
     numbers i l = elim (cases_eq i k) [
       | inl e ↦ subst (λ z. slice_get more (get_or (nets_of (wires ++ w ∷ [])) z 0) ≡ Some (get_or ps (get_or labels z 0) blank)) (sym e) (subst (λ z. slice_get more z ≡ Some (get_or ps (get_or labels k 0) blank)) (sym here) last)
@@ -104,11 +112,11 @@ head_of ps labels zero p c = absurd (contains_none p c)
 head_of ps labels (suc k) p c =
     elim (cases_eq (get_or labels k 0) k) [
       | inl own ↦
-        let d : Contains (heads_below ps labels k ++ get_or ps k blank ∷ []) p = subst (λ z. Contains z p) (heads_own ps labels k own) (rw add-one c) in
-        elim (Contains-append_cases (heads_below ps labels k) (get_or ps k blank ∷ []) p d) [
-          | inl old ↦ later (head_of ps labels k p old)
-          | inr new ↦ record { at = k; below = omega arith; own = own; is = contains_one (get_or ps k blank) p new }
-        ]
+          let d : Contains (heads_below ps labels k ++ get_or ps k blank ∷ []) p = subst (λ z. Contains z p) (heads_own ps labels k own) (rw add-one c) in
+          elim (Contains-append_cases (heads_below ps labels k) (get_or ps k blank ∷ []) p d) [
+            | inl old ↦ later (head_of ps labels k p old)
+            | inr new ↦ record { at = k; below = omega arith; own = own; is = contains_one (get_or ps k blank) p new }
+          ]
       | inr ne ↦ later (head_of ps labels k p (subst (λ z. Contains z p) (heads_other ps labels k ne) (rw add-one c)))
     ]
   where
@@ -125,6 +133,7 @@ head_is ps labels (suc k) i l own =
   where
     same_own : get_or labels k 0 ≡ k → heads_below ps labels (suc k) ≡ heads_below ps labels k ++ get_or ps k blank ∷ []
     same_own e = rw (eq-eqb (get_or labels k 0) k e) refl
+
     more : Contains (heads_below ps labels k) (get_or ps i blank) → Contains (heads_below ps labels (suc k)) (get_or ps i blank)
     more c = Contains-append_left (heads_below ps labels k) (if get_or labels k 0 == k then get_or ps k blank ∷ [] else []) (get_or ps i blank) c
 

@@ -27,11 +27,11 @@ not_behind_both a b c ab bc =
       row = omega (arith, ints);
       column = λ h. let f = ab.column (omega (arith, ints)) in let g = bc.column (omega (arith, ints)) in omega (arith, ints);
       layer = λ h k.
-        let f = ab.column (omega (arith, ints)) in
-        let g = bc.column (omega (arith, ints)) in
-        let l = ab.layer (omega (arith, ints)) (omega (arith, ints)) in
-        let m = bc.layer (omega (arith, ints)) (omega (arith, ints)) in
-        omega (arith, l, m);
+          let f = ab.column (omega (arith, ints)) in
+          let g = bc.column (omega (arith, ints)) in
+          let l = ab.layer (omega (arith, ints)) (omega (arith, ints)) in
+          let m = bc.layer (omega (arith, ints)) (omega (arith, ints)) in
+          omega (arith, l, m);
     }
 
 -- the corner of a piece does not come behind any cell of it
@@ -124,6 +124,7 @@ step_layer s t el ef e = by (nat_cmp (place t.kind) (place s.kind)) (ranked (pla
   where
     from : place s.kind ≤ place t.kind → NotBehind (corner_of s) (corner_of t)
     from le = record { row = omega (arith, ints); column = λ u. omega (arith, ints); layer = λ u v. rank_order s.kind t.kind le }
+
     by : (r : Ordering) → MatchOrdering r (place t.kind < place s.kind) (place t.kind ≡ place s.kind) (place s.kind < place t.kind) → is_lt (ordering_then r (ordering_then (int_cmp t.top s.top) (int_cmp t.right s.right))) ≡ false → NotBehind (corner_of s) (corner_of t)
     by Less m f = absurd (cc f)
     by Equal m f = from (omega (arith, m))

@@ -157,6 +157,7 @@ side_two_nets s wires firsts m row area n p e no' a side =
   where
     at : IsInNet s (firsts_of firsts) n (site_at (diffusion_of row) area.x1 area.y1)
     at = subst (λ k. IsInNet s (firsts_of firsts) n (site_at k area.x1 area.y1)) (kind_row row) (net_in_some s wires firsts m (conductor_of row) area.x1 area.y1 n e).net
+
     one_by_one : (w : Wire) → Contains wires w → agrees (conductor_of row) area n w ≡ true
     one_by_one w c = net_agrees (place w.piece.kind == place (conductor_of row)) (meeting area (rect_of w.piece)) (w.net == n) (λ k met.
         let there = (meeting_decides area (rect_of w.piece) p (wire_proper s wires firsts m w c)).0 met in
@@ -260,6 +261,7 @@ no_device s r row p in_row across up d =
     at : (f : Flow) → IsSide s (diffusion_of row) (source_side f r) d.left → IsSide s (diffusion_of row) (drain_side f r) d.right → IsClosed s (low_end f r) → IsClosed s (high_end f r) → ⊥
     at rightward a b l h = across.never d.left d.right a b l h
     at upward a b l h = up.never d.left d.right a b l h
+
     by : IsDevice s r row d.gate d.left d.right d.width d.length → ⊥
     by is = at is.flow is.left_side is.right_side is.low is.high
 

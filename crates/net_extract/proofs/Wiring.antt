@@ -31,6 +31,12 @@ use Rattle.net_extract.proofs.Numbers.{wired_back}
 use Rattle.net_extract.proofs.Pairing.{paired_back, paired_below, paired_of, bond_of_pair}
 use Rattle.net_extract.proofs.Ranking.{not_behind_self, not_behind_both, corner_first, same_site, ordered}
 
+-- what stands at a place, whatever stands for a missing piece
+pub at_blank : (qs : List Piece) (q : Piece) (k : ℕ) → k < length qs → get_or qs k q ≡ q → get_or qs k blank ≡ q
+at_blank [] q k l e = absurd (omega (arith, l))
+at_blank (x ∷ xs) q zero l e = e
+at_blank (x ∷ xs) q (suc k) l e = at_blank xs q k (omega (arith, l)) e
+
 -- the number of a piece of the list
 pub record Numbered (ps : List Piece) (p : Piece) : Type 0 where
   pub at : ℕ
@@ -38,12 +44,7 @@ pub record Numbered (ps : List Piece) (p : Piece) : Type 0 where
   pub is : get_or ps at blank ≡ p
 
 pub number_of : (ps : List Piece) (p : Piece) → Contains ps p → Numbered ps p
-number_of ps p (k, l, e) = record { at = k; within = l; is = get_or_blank ps p k l e }
-  where
-    get_or_blank : (qs : List Piece) (q : Piece) (k : ℕ) → k < length qs → get_or qs k q ≡ q → get_or qs k blank ≡ q
-    get_or_blank [] q k l e = absurd (omega (arith, l))
-    get_or_blank (x ∷ xs) q zero l e = e
-    get_or_blank (x ∷ xs) q (suc k) l e = get_or_blank xs q k (omega (arith, l)) e
+number_of ps p (k, l, e) = record { at = k; within = l; is = at_blank ps p k l e }
 
 listed_at : (ps : List Piece) (i : ℕ) → i < length ps → Contains ps (get_or ps i blank)
 listed_at ps i l = contains_get ps i (get_or ps i blank) (slice_get-get_or ps i blank l)
@@ -149,11 +150,11 @@ head_first : (s : List Shape) (ps : List Piece) (ls : List ℕ) → AreSet s ps 
 head_first s ps ls z i l own = record {
   conducts = corner_conducts s ps z.drawn (at ps i) (listed_at ps i l);
   first = λ b n.
-    let c = place_of s ps z.drawn b (end_conducts s (corner_of (at ps i)) b n) in
-    let e = net_label s ps ls z i c.at (corner_of (at ps i)) b l c.within (corner_at s ps z.drawn i l) c.inside n in
-    let low = z.least.sound.low c.at c.within in
-    let le : i ≤ c.at = omega (arith, e, own, low) in
-    not_behind_both (corner_of (at ps i)) (corner_of (at ps c.at)) b (ordered ps blank z.sorted i c.at le c.within) (corner_first (at ps c.at) b c.inside);
+      let c = place_of s ps z.drawn b (end_conducts s (corner_of (at ps i)) b n) in
+      let e = net_label s ps ls z i c.at (corner_of (at ps i)) b l c.within (corner_at s ps z.drawn i l) c.inside n in
+      let low = z.least.sound.low c.at c.within in
+      let le : i ≤ c.at = omega (arith, e, own, low) in
+      not_behind_both (corner_of (at ps i)) (corner_of (at ps c.at)) b (ordered ps blank z.sorted i c.at le c.within) (corner_first (at ps c.at) b c.inside);
 }
 
 -- heads come in order
@@ -164,11 +165,11 @@ heads_before s ps ls z i j less l oi oj =
     record {
       not_behind = up;
       other = λ back.
-        let ca = corner_conducts s ps z.drawn (at ps i) (listed_at ps i li) in
-        let e : corner_of (at ps i) ≡ corner_of (at ps j) = same_site s (corner_of (at ps i)) (corner_of (at ps j)) ca (corner_conducts s ps z.drawn (at ps j) (listed_at ps j l)) up back in
-        let n : SameNet s (corner_of (at ps i)) (corner_of (at ps j)) = subst (λ b. SameNet s (corner_of (at ps i)) b) e (net_self s (corner_of (at ps i)) ca) in
-        let same = net_label s ps ls z i j (corner_of (at ps i)) (corner_of (at ps j)) li l (corner_at s ps z.drawn i li) (corner_at s ps z.drawn j l) n in
-        omega (arith, same, oi, oj, less);
+          let ca = corner_conducts s ps z.drawn (at ps i) (listed_at ps i li) in
+          let e : corner_of (at ps i) ≡ corner_of (at ps j) = same_site s (corner_of (at ps i)) (corner_of (at ps j)) ca (corner_conducts s ps z.drawn (at ps j) (listed_at ps j l)) up back in
+          let n : SameNet s (corner_of (at ps i)) (corner_of (at ps j)) = subst (λ b. SameNet s (corner_of (at ps i)) b) e (net_self s (corner_of (at ps i)) ca) in
+          let same = net_label s ps ls z i j (corner_of (at ps i)) (corner_of (at ps j)) li l (corner_at s ps z.drawn i li) (corner_at s ps z.drawn j l) n in
+          omega (arith, same, oi, oj, less);
     }
 
 map_append : {X Y : Type 0} (f : X → Y) (xs ys : List X) → map f (xs ++ ys) ≡ map f xs ++ map f ys
@@ -194,8 +195,10 @@ heads_ascend s ps ls z (suc k) le =
   where
     with_own : get_or ls k 0 ≡ k → heads_below ps ls (suc k) ≡ heads_below ps ls k ++ at ps k ∷ []
     with_own e = subst (λ n. heads_below ps ls n ≡ heads_below ps ls k ++ at ps k ∷ []) (suc_one k) (heads_own ps ls k e)
+
     without : (get_or ls k 0 ≡ k → ⊥) → heads_below ps ls (suc k) ≡ heads_below ps ls k
     without ne = subst (λ n. heads_below ps ls n ≡ heads_below ps ls k) (suc_one k) (heads_other ps ls k ne)
+
     before : get_or ls k 0 ≡ k → (a : Site) → Contains (firsts_of (heads_below ps ls k)) a → IsBefore a (corner_of (at ps k))
     before own a c =
         let i = in_map corner_of (heads_below ps ls k) a c in
@@ -207,20 +210,20 @@ nets_of_heads : (s : List Shape) (ps : List Piece) (ls : List ℕ) → AreSet s 
 nets_of_heads s ps ls z = record {
   ascending = heads_ascend s ps ls z (length ps) (omega arith);
   sound = λ a c.
-    let i = in_map corner_of (heads_below ps ls (length ps)) a c in
-    let h = head_of ps ls (length ps) i.of i.listed in
-    subst (IsFirstOfNet s) i.is (subst (λ x. IsFirstOfNet s (corner_of x)) h.is (head_first s ps ls z h.at h.below h.own));
+      let i = in_map corner_of (heads_below ps ls (length ps)) a c in
+      let h = head_of ps ls (length ps) i.of i.listed in
+      subst (IsFirstOfNet s) i.is (subst (λ x. IsFirstOfNet s (corner_of x)) h.is (head_first s ps ls z h.at h.below h.own));
   all = λ a f.
-    let c = place_of s ps z.drawn a f.conducts in
-    let low = z.least.sound.low c.at c.within in
-    let top : ℕ = get_or ls c.at 0 in
-    let lt : get_or ls c.at 0 < length ps = (let w = c.within in omega (arith, low, w)) in
-    let own : get_or ls (get_or ls c.at 0) 0 ≡ get_or ls c.at 0 = (least_heads (length ps) (Paired s ps) ls z.least).itself c.at c.within in
-    let n : SameNet s a (corner_of (at ps (get_or ls c.at 0))) = label_net s ps ls z c.at (get_or ls c.at 0) a (corner_of (at ps (get_or ls c.at 0))) c.within lt c.inside (corner_at s ps z.drawn (get_or ls c.at 0) lt) (sym own) in
-    let there : NotBehind a (corner_of (at ps (get_or ls c.at 0))) = f.first (corner_of (at ps (get_or ls c.at 0))) n in
-    let back : NotBehind (corner_of (at ps (get_or ls c.at 0))) a = not_behind_both (corner_of (at ps (get_or ls c.at 0))) (corner_of (at ps c.at)) a (ordered ps blank z.sorted (get_or ls c.at 0) c.at low c.within) (corner_first (at ps c.at) a c.inside) in
-    let e : a ≡ corner_of (at ps (get_or ls c.at 0)) = same_site s a (corner_of (at ps (get_or ls c.at 0))) f.conducts (corner_conducts s ps z.drawn (at ps (get_or ls c.at 0)) (listed_at ps (get_or ls c.at 0) lt)) there back in
-    subst (Contains (firsts_of (heads_below ps ls (length ps)))) (sym e) (contains_map corner_of (heads_below ps ls (length ps)) (at ps (get_or ls c.at 0)) (head_is ps ls (length ps) (get_or ls c.at 0) lt own));
+      let c = place_of s ps z.drawn a f.conducts in
+      let low = z.least.sound.low c.at c.within in
+      let top : ℕ = get_or ls c.at 0 in
+      let lt : get_or ls c.at 0 < length ps = (let w = c.within in omega (arith, low, w)) in
+      let own : get_or ls (get_or ls c.at 0) 0 ≡ get_or ls c.at 0 = (least_heads (length ps) (Paired s ps) ls z.least).itself c.at c.within in
+      let n : SameNet s a (corner_of (at ps (get_or ls c.at 0))) = label_net s ps ls z c.at (get_or ls c.at 0) a (corner_of (at ps (get_or ls c.at 0))) c.within lt c.inside (corner_at s ps z.drawn (get_or ls c.at 0) lt) (sym own) in
+      let there : NotBehind a (corner_of (at ps (get_or ls c.at 0))) = f.first (corner_of (at ps (get_or ls c.at 0))) n in
+      let back : NotBehind (corner_of (at ps (get_or ls c.at 0))) a = not_behind_both (corner_of (at ps (get_or ls c.at 0))) (corner_of (at ps c.at)) a (ordered ps blank z.sorted (get_or ls c.at 0) c.at low c.within) (corner_first (at ps c.at) a c.inside) in
+      let e : a ≡ corner_of (at ps (get_or ls c.at 0)) = same_site s a (corner_of (at ps (get_or ls c.at 0))) f.conducts (corner_conducts s ps z.drawn (at ps (get_or ls c.at 0)) (listed_at ps (get_or ls c.at 0) lt)) there back in
+      subst (Contains (firsts_of (heads_below ps ls (length ps)))) (sym e) (contains_map corner_of (heads_below ps ls (length ps)) (at ps (get_or ls c.at 0)) (head_is ps ls (length ps) (get_or ls c.at 0) lt own));
 }
 
 -- number n of the wires
@@ -233,8 +236,10 @@ wires_are s ps ls wires firsts z is = record {
   where
     pieces : pieces_of wires ≡ ps
     pieces = is.pieces ∙ take_all (length ps) ps (omega arith)
+
     many : length wires ≡ length ps
     many = as_many ps ls (length ps) wires firsts (omega arith) is
+
     numbered : (w : Wire) → Contains wires w → IsInNet s (firsts_of firsts) w.net (corner_of w.piece)
     numbered w (i, l, e) =
         let li : i < length ps = omega (arith, l, many) in

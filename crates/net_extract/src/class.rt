@@ -21,13 +21,7 @@ fn join(labels: &mut Vec<usize>, one: usize, other: usize)
     rename(labels.as_mut_slice(), a.max(b), a.min(b));
 }
 
-fn try_join(
-    labels: &mut Vec<usize>,
-    shapes: &[Shape],
-    pieces: &[Piece],
-    at: usize,
-    earlier: usize,
-)
+fn try_join(labels: &mut Vec<usize>, shapes: &[Shape], pieces: &[Piece], at: usize, earlier: usize)
     requires sound { AreSound (length pieces.now) (Paired shapes.now pieces.now) labels.old.items }
     requires proper { All (λ p. IsProper (rect_of p)) pieces.now }
     requires at { at < length pieces.now }
@@ -64,7 +58,11 @@ fn join_all(labels: &mut Vec<usize>, shapes: &[Shape], pieces: &[Piece])
 }
 
 /// For each piece the number of the first one that bonds chain with it.
-pub(crate) fn least_labels(alloc: Global, shapes: &[Shape], pieces: &[Piece]) -> Result<Vec<usize>, NoMemory>
+pub(crate) fn least_labels(
+    alloc: Global,
+    shapes: &[Shape],
+    pieces: &[Piece],
+) -> Result<Vec<usize>, NoMemory>
     requires { All (λ p. IsProper (rect_of p)) pieces.now }
     ensures { IfOk result (λ labels. AreLeast (length pieces.now) (Paired shapes.now pieces.now) labels.items) }
 {

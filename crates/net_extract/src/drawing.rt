@@ -99,11 +99,7 @@ fn all_devices(alloc: Global, shapes: &Shapes, map: &NetMap) -> Result<DrawnList
     }
 }
 
-fn names_by_labels(
-    alloc: Global,
-    shapes: &Shapes,
-    map: &NetMap,
-) -> Result<Names, ExtractFault>
+fn names_by_labels(alloc: Global, shapes: &Shapes, map: &NetMap) -> Result<Names, ExtractFault>
     requires regular { AreRegular shapes.now }
     requires map { AreWires shapes.now.rects map.now.wires.items map.now.firsts.items }
     requires held { find (is_lost map.now.wires.items) shapes.now.labels ≡ None }

@@ -85,8 +85,12 @@ fn is_named(netlist: &Netlist, net: usize, name: &[u8]) -> bool {
 #[test]
 fn an_inverter(rt: HostRuntime) -> Result<(), Fail> {
     let alloc = rt.alloc();
-    let labels: [(&[u8], i32, i32); 4] =
-        [(b"a", 22, 54), (b"y", 8, 54), (b"vdd", 8, 110), (b"gnd", 8, 8)];
+    let labels: [(&[u8], i32, i32); 4] = [
+        (b"a", 22, 54),
+        (b"y", 8, 54),
+        (b"vdd", 8, 110),
+        (b"gnd", 8, 8),
+    ];
     let shapes = drawing(alloc, &INVERTER, &labels)?;
     let Ok(netlist) = extract(alloc, &shapes) else {
         return Err(Fail::from("refused"));
@@ -97,8 +101,22 @@ fn an_inverter(rt: HostRuntime) -> Result<(), Fail> {
     assert_eq!(rt; is_named(&netlist, 2, b"y"), true);
     assert_eq!(rt; is_named(&netlist, 3, b"vdd"), true);
     let devices = [
-        Drawn { row: Row::N, gate: 1, lo: 0, hi: 2, width: 10, length: 4 },
-        Drawn { row: Row::P, gate: 1, lo: 2, hi: 3, width: 20, length: 4 },
+        Drawn {
+            row: Row::N,
+            gate: 1,
+            lo: 0,
+            hi: 2,
+            width: 10,
+            length: 4,
+        },
+        Drawn {
+            row: Row::P,
+            gate: 1,
+            lo: 2,
+            hi: 3,
+            width: 20,
+            length: 4,
+        },
     ];
     assert_eq!(rt; netlist.devices.as_slice(), devices.as_slice());
     Ok(())
@@ -110,16 +128,31 @@ fn refused_drawings(rt: HostRuntime) -> Result<(), Fail> {
     let alloc = rt.alloc();
     let split = drawing(alloc, &INVERTER, &[(b"a", 22, 54), (b"a", 8, 54)])?;
     let name = copy(alloc, b"a")?;
-    assert_eq!(rt; extract(alloc, &split).err(), Some(ExtractFault::Split { name }));
+    assert_eq!(rt;
+        extract(alloc, &split).err(),
+        Some(ExtractFault::Split { name })
+    );
     let short = drawing(alloc, &INVERTER, &[(b"y", 8, 54), (b"q", 8, 54)])?;
     let one = copy(alloc, b"y")?;
     let other = copy(alloc, b"q")?;
-    assert_eq!(rt; extract(alloc, &short).err(), Some(ExtractFault::Short { one, other }));
+    assert_eq!(rt;
+        extract(alloc, &short).err(),
+        Some(ExtractFault::Short { one, other })
+    );
     let stray = drawing(alloc, &INVERTER, &[(b"s", 60, 54)])?;
     let name = copy(alloc, b"s")?;
-    assert_eq!(rt; extract(alloc, &stray).err(), Some(ExtractFault::Stray { name }));
-    let odd = [(Layer::Active, [0, 0, 10, 10]), (Layer::Poly, [4, 2, 8, 12])];
+    assert_eq!(rt;
+        extract(alloc, &stray).err(),
+        Some(ExtractFault::Stray { name })
+    );
+    let odd = [
+        (Layer::Active, [0, 0, 10, 10]),
+        (Layer::Poly, [4, 2, 8, 12]),
+    ];
     let odd = drawing(alloc, &odd, &[])?;
-    assert_eq!(rt; extract(alloc, &odd).err(), Some(ExtractFault::OddDevice { x: 4, y: 2 }));
+    assert_eq!(rt;
+        extract(alloc, &odd).err(),
+        Some(ExtractFault::OddDevice { x: 4, y: 2 })
+    );
     Ok(())
 }

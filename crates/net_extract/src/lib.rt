@@ -1,23 +1,23 @@
 // Nets and devices of a drawing: what hangs together, by cells and by rectangles.
 #![tactic(auto)]
 
-pub mod fault;
-pub mod label;
-pub mod laws;
 pub mod area;
 pub mod bond;
 pub mod class;
 pub mod cut;
 pub mod device;
 pub mod drawing;
-pub mod gate;
-pub mod piece;
-pub mod lookup;
-pub mod naming;
-pub mod netmap;
-pub mod netlist;
 #[cfg(test)]
 mod drawing_tests;
+pub mod fault;
+pub mod gate;
+pub mod label;
+pub mod laws;
+pub mod lookup;
+pub mod naming;
+pub mod netlist;
+pub mod netmap;
+pub mod piece;
 #[cfg(test)]
 mod tests;
 

@@ -87,7 +87,10 @@ fn net_of_point(wires: &[Wire], layer: Layer, x: i32, y: i32) -> Option<u32>
 fn is_conductor(layer: Layer) -> bool
     ensures { result ≡ is_wiring layer }
 {
-    layer == Layer::Active || layer == Layer::Poly || layer == Layer::Metal1 || layer == Layer::Metal2
+    layer == Layer::Active
+        || layer == Layer::Poly
+        || layer == Layer::Metal1
+        || layer == Layer::Metal2
 }
 
 fn is_stray(wires: &[Wire], label: &Label) -> bool
@@ -112,7 +115,11 @@ fn stray(alloc: Global, name: &[u8]) -> ExtractFault
 }
 
 /// Refuses the first label that belongs to no conductor cell.
-pub(crate) fn check_strays(alloc: Global, wires: &[Wire], labels: &[Label]) -> Result<(), ExtractFault>
+pub(crate) fn check_strays(
+    alloc: Global,
+    wires: &[Wire],
+    labels: &[Label],
+) -> Result<(), ExtractFault>
     ensures none { OnOk result (find (is_lost wires.now) labels.now ≡ None) }
     ensures stray { IfErr result (λ f. IsLostBy (find (is_lost wires.now) labels.now) f) }
 {
@@ -137,7 +144,12 @@ fn held(alloc: Global, wires: &[Wire], label: &Label) -> Result<Option<Held>, No
     }
 }
 
-fn add_held(alloc: Global, wires: &[Wire], label: &Label, all: &mut Vec<Held>) -> Result<(), NoMemory>
+fn add_held(
+    alloc: Global,
+    wires: &[Wire],
+    label: &Label,
+    all: &mut Vec<Held>,
+) -> Result<(), NoMemory>
     ensures { OnOk result (all.new.items ≡ all.old.items ++ option_to_list (held_of wires.now label.now)) }
 {
     match held(alloc, wires, label)? {
@@ -147,7 +159,11 @@ fn add_held(alloc: Global, wires: &[Wire], label: &Label, all: &mut Vec<Held>) -
 }
 
 /// The labels on layers of conductors with the nets that they belong to.
-pub(crate) fn all_held(alloc: Global, wires: &[Wire], labels: &[Label]) -> Result<Vec<Held>, NoMemory>
+pub(crate) fn all_held(
+    alloc: Global,
+    wires: &[Wire],
+    labels: &[Label],
+) -> Result<Vec<Held>, NoMemory>
     ensures { IfOk result (λ h. h.items ≡ held_in wires.now labels.now) }
 {
     let mut all = Vec::new(alloc);

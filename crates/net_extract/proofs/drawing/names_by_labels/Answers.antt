@@ -15,8 +15,8 @@ returns-in-Ok-net_names-clause-ok c =
     let ec : c.in-Ok-count_of.count ≡ length c.args.map.now.firsts.items = grind (arith) in
     named_are c.args.shapes.now c.args.map.now.wires.items c.args.map.now.firsts.items c.as_slice-4.result.now c.in-Ok-count_of.count c.in-Ok-net_names.names c.requires.map c.requires.held eh ec c.in-Ok-net_names.ensures.no_short c.in-Ok-net_names.ensures.no_split c.in-Ok-net_names.ensures.names
 
-pub returns-in-Err-clause-refused : goal.returns-in-Err-clause-refused
-returns-in-Err-clause-refused c =
+pub returns-clause-refused : goal.returns-clause-refused
+returns-clause-refused c =
     let a = c.as_slice.ensures.value in
     let b = c.as_slice-2.ensures in
     let h = c.in-Ok.ensures in
