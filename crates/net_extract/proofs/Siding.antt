@@ -22,8 +22,8 @@ use Rattle.net_extract.specs.NetMaps.{firsts_of, pieces_of, AreWires, IsFound}
 use Rattle.net_extract.specs.Lookups.{net_in}
 use Rattle.net_extract.specs.Areas.{meeting, IsFull, IsFree}
 use Rattle.net_extract.specs.Sides.{flow_of, conductor_of, IsInRow, IsDiffusion, agrees, all_agree, IsSideNet, IsAlong, IsNotAlong, AreClosed, width_of, length_of, drawn_as}
-use Rattle.net_extract.specs.declared.device.Current.{Current}
-use Rattle.net_extract.specs.declared.device.Current.TheVariants.{Rightward, Upward}
+use Rattle.net_extract.specs.declared.side.Current.{Current}
+use Rattle.net_extract.specs.declared.side.Current.TheVariants.{Rightward, Upward}
 use Rattle.net_extract.specs.declared.netlist.Drawn.{Drawn}
 use Rattle.net_extract.specs.declared.piece.Conductor.{Conductor}
 use Rattle.net_extract.specs.declared.piece.Conductor.TheVariants.{PDiffusion, NDiffusion, Poly}

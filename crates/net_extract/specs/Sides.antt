@@ -10,8 +10,8 @@ use Rattle.net_extract.specs.Numbering.{IsInNet}
 use Rattle.net_extract.specs.Devices.{InRow, diffusion_of, IsSide, IsClosed, IsSize, Flow, rightward, upward, source_side, drain_side, low_end, high_end}
 use Rattle.net_extract.specs.Pieces.{place, rect_of}
 use Rattle.net_extract.specs.Areas.{meeting}
-use Rattle.net_extract.specs.declared.device.Current.{Current}
-use Rattle.net_extract.specs.declared.device.Current.TheVariants.{Rightward, Upward}
+use Rattle.net_extract.specs.declared.side.Current.{Current}
+use Rattle.net_extract.specs.declared.side.Current.TheVariants.{Rightward, Upward}
 use Rattle.net_extract.specs.declared.netlist.Drawn.{Drawn}
 use Rattle.net_extract.specs.declared.piece.Conductor.{Conductor}
 use Rattle.net_extract.specs.declared.piece.Conductor.TheVariants.{PDiffusion, NDiffusion}

@@ -2,7 +2,7 @@
 ghost use Rattle.std.specs.Prelude.{◌≡◌, ◌↔◌, All, IsTrue, IfSome, None};
 ghost use Rattle.box_geom.specs.Rectangle.{IsProper};
 ghost use Rattle.net_extract.specs.Areas.{cells_in, meeting_across, meeting_upward, meeting};
-ghost use Rattle.net_extract.specs.Devices.{left_of, right_of, below, above, source_side, drain_side, low_end, high_end, IsSide, IsClosed, IsGateBox, IsSomeDevice, diffusion_of};
+ghost use Rattle.net_extract.specs.Devices.{IsSide, IsGateBox, IsSomeDevice, diffusion_of};
 ghost use Rattle.net_extract.specs.Extraction.{IsDrawn};
 ghost use Rattle.net_extract.specs.NetMaps.{AreWires, firsts_of};
 ghost use Rattle.net_extract.specs.Nets.{Site};
@@ -16,106 +16,9 @@ use crate::lookup::net_of_cell;
 use crate::netlist::Drawn;
 use crate::netmap::{NetMap, Wire};
 use crate::piece::{Conductor, Piece};
+use crate::side::{Current, drain, high_side, low_side, source, whole};
 use box_geom::{Layer, Shape};
 use cell_num::Row;
-
-/// How the current flows through a device.
-#[derive(Clone, Copy, Debug)]
-pub enum Current {
-    Rightward,
-    Upward,
-}
-
-pub(crate) fn whole(gate: &Piece) -> Area
-    ensures { cells_in result ≡ rect_of gate.now }
-{
-    Area {
-        x1: i64::from(gate.left),
-        y1: i64::from(gate.low),
-        x2: i64::from(gate.right),
-        y2: i64::from(gate.top),
-    }
-}
-
-fn left(gate: &Piece) -> Area
-    ensures { cells_in result ≡ left_of (rect_of gate.now) }
-{
-    Area {
-        x1: i64::from(gate.left) - 1,
-        y1: i64::from(gate.low),
-        x2: i64::from(gate.left),
-        y2: i64::from(gate.top),
-    }
-}
-
-fn right(gate: &Piece) -> Area
-    ensures { cells_in result ≡ right_of (rect_of gate.now) }
-{
-    Area {
-        x1: i64::from(gate.right),
-        y1: i64::from(gate.low),
-        x2: i64::from(gate.right) + 1,
-        y2: i64::from(gate.top),
-    }
-}
-
-fn under(gate: &Piece) -> Area
-    ensures { cells_in result ≡ below (rect_of gate.now) }
-{
-    Area {
-        x1: i64::from(gate.left),
-        y1: i64::from(gate.low) - 1,
-        x2: i64::from(gate.right),
-        y2: i64::from(gate.low),
-    }
-}
-
-fn over(gate: &Piece) -> Area
-    ensures { cells_in result ≡ above (rect_of gate.now) }
-{
-    Area {
-        x1: i64::from(gate.left),
-        y1: i64::from(gate.top),
-        x2: i64::from(gate.right),
-        y2: i64::from(gate.top) + 1,
-    }
-}
-
-fn source(gate: &Piece, current: Current) -> Area
-    ensures { cells_in result ≡ source_side (flow_of current) (rect_of gate.now) }
-{
-    match current {
-        Current::Rightward => left(gate),
-        Current::Upward => under(gate),
-    }
-}
-
-fn drain(gate: &Piece, current: Current) -> Area
-    ensures { cells_in result ≡ drain_side (flow_of current) (rect_of gate.now) }
-{
-    match current {
-        Current::Rightward => right(gate),
-        Current::Upward => over(gate),
-    }
-}
-
-fn low_side(gate: &Piece, current: Current) -> Area
-    ensures { cells_in result ≡ low_end (flow_of current) (rect_of gate.now) }
-{
-    match current {
-        Current::Rightward => under(gate),
-        Current::Upward => left(gate),
-    }
-}
-
-fn high_side(gate: &Piece, current: Current) -> Area
-    ensures { cells_in result ≡ high_end (flow_of current) (rect_of gate.now) }
-{
-    match current {
-        Current::Rightward => over(gate),
-        Current::Upward => right(gate),
-    }
-}
 
 #[tactic(auto, using(crate::proofs::Siding::row_rules))]
 fn is_in_row(shapes: &[Shape], row: Row, area: &Area) -> bool

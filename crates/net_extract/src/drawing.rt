@@ -11,7 +11,7 @@ ghost use Rattle.net_extract.specs.NetMaps.{AreWires, firsts_of};
 ghost use Rattle.net_extract.specs.Pieces.{rect_of};
 ghost use Rattle.net_extract.specs.Steps.{AreNamed};
 
-use crate::cut::gate_pieces;
+use crate::conductor::gate_pieces;
 use crate::fault::ExtractFault;
 use crate::gate::devices;
 use crate::lookup::{all_held, check_strays};

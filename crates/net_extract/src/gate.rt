@@ -9,11 +9,12 @@ ghost use Rattle.net_extract.specs.Pieces.{rect_of};
 ghost use Rattle.net_extract.specs.declared.fault.ExtractFault.TheVariants.{OddDevice};
 
 use crate::area::is_full;
-use crate::device::{device_of, whole};
+use crate::device::device_of;
 use crate::fault::ExtractFault;
 use crate::netlist::{Drawn, DrawnList};
 use crate::netmap::{NetMap, Wire};
 use crate::piece::Piece;
+use crate::side::whole;
 use box_geom::{Layer, Shape};
 use cell_num::NoMemory;
 use std::alloc::Global;

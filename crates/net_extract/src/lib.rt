@@ -1,23 +1,25 @@
 // Nets and devices of a drawing: what hangs together, by cells and by rectangles.
 #![tactic(auto)]
 
-pub mod area;
-pub mod bond;
-pub mod class;
-pub mod cut;
-pub mod device;
-pub mod drawing;
+mod area;
+mod bond;
+mod class;
+mod conductor;
+mod cut;
+mod device;
+mod drawing;
 #[cfg(test)]
 mod drawing_tests;
 pub mod fault;
-pub mod gate;
+mod gate;
 pub mod label;
 pub mod laws;
-pub mod lookup;
+mod lookup;
 pub mod naming;
 pub mod netlist;
-pub mod netmap;
-pub mod piece;
+mod netmap;
+mod piece;
+mod side;
 #[cfg(test)]
 mod tests;
 

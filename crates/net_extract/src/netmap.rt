@@ -7,7 +7,7 @@ ghost use Rattle.net_extract.specs.Parts.{AreDrawn};
 ghost use Rattle.net_extract.specs.Pieces.{rects_in, piece_cmp};
 
 use crate::class::least_labels;
-use crate::cut::all_pieces;
+use crate::conductor::all_pieces;
 use crate::piece::Piece;
 use box_geom::Shape;
 use cell_num::NoMemory;
