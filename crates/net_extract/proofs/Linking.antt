@@ -9,17 +9,17 @@ use Rattle.std.proofs.lemmas.Bool.Decides.{Decides-and, Decides-or, Decides-like
 use Rattle.box_geom.specs.Rectangle.{Rectangle, IsProper, Holds, Covers}
 use Rattle.box_geom.specs.Layers.{rects_on, same_layer}
 use Rattle.box_geom.specs.Touching.{Touch}
-use Rattle.box_geom.specs.Comparisons.{touching}
+use Rattle.box_geom.specs.Comparisons.{overlapping, touching}
 use Rattle.box_geom.specs.declared.shape.Shape.{Shape}
 use Rattle.box_geom.specs.declared.layer.Layer.{Layer}
 use Rattle.box_geom.specs.declared.layer.Layer.TheVariants.{Contact, Via}
-use Rattle.box_geom.proofs.Spans.{int_lt_decides}
+use Rattle.box_geom.proofs.Spans.{int_lt_decides, overlap_decides}
 use Rattle.box_geom.proofs.Meeting.{touch_decides}
 use Rattle.scmos_rules.specs.Layout.{On}
 use Rattle.net_extract.specs.Nets.{Kind, p_diffusion, n_diffusion, poly, metal1, metal2, IsLower, of_p, of_n, of_poly, Joins, by_contact, by_via, Through}
 use Rattle.net_extract.specs.Parts.{Part, AreJoined, Bond, touching as by_touch, joining}
 use Rattle.net_extract.specs.Pieces.{kind_of, place, rect_of, part_of, link_layer}
-use Rattle.net_extract.specs.Meetings.{sharing, crossing, linking, linking_by, bonding}
+use Rattle.net_extract.specs.Meetings.{sharing, crossing, linking, sharing_cell, linking_by, bonding}
 use Rattle.net_extract.specs.declared.piece.Conductor.{Conductor}
 use Rattle.net_extract.specs.declared.piece.Conductor.TheVariants.{PDiffusion, NDiffusion, Poly, Metal1, Metal2}
 use Rattle.net_extract.specs.declared.piece.Piece.{Piece}
@@ -65,8 +65,19 @@ links_decide (s ∷ ss) layer a b = step (same_layer s.layer layer) (links_decid
     step true rest = Decides-like (crossing a b s.rect || linking ss layer a b) (λ e. elim e [ inl m ↦ record { x = m.x; y = m.y; in_a = m.in_a; in_b = m.in_b; is = cover_first s.rect (rects_on layer ss) m.x m.y m.is } | inr m ↦ record { x = m.x; y = m.y; in_a = m.in_a; in_b = m.in_b; is = cover_later s.rect (rects_on layer ss) m.x m.y m.is } ]) (meet_split s.rect (rects_on layer ss) a b) (Decides-or (crossing a b s.rect) (linking ss layer a b) (cross_decides a b s.rect) rest)
     step false rest = rest
 
+abbrev Overlapping : Rectangle → Rectangle → Type 0
+Overlapping a b = ((a.x1 <ℤ b.x2) × (b.x1 <ℤ a.x2)) × ((a.y1 <ℤ b.y2) × (b.y1 <ℤ a.y2))
+
+cells_meet : (a b : Rectangle) (x y : ℤ) → Holds a x y → Holds b x y → Overlapping a b
+cells_meet a b x y h k = ((omega (arith, ints), omega (arith, ints)), (omega (arith, ints), omega (arith, ints)))
+
+cell_decides : (a b : Rectangle) → Decides (sharing_cell a b) (Overlapping a b)
+cell_decides a b = Decides-and (overlapping a.x1 a.x2 b.x1 b.x2) (overlapping a.y1 a.y2 b.y1 b.y2) (overlap_decides a.x1 a.x2 b.x1 b.x2) (overlap_decides a.y1 a.y2 b.y1 b.y2)
+
 linked_decides : (shapes : List Shape) (o : Option Layer) (a b : Rectangle) → Decides (linking_by shapes o a b) (Meet (OnLink o shapes) a b)
-linked_decides shapes (Some layer) a b = links_decide shapes layer a b
+linked_decides shapes (Some layer) a b =
+    Decides-like (sharing_cell a b && linking shapes layer a b) (λ h. h.1) (λ m. (((cells_meet a b m.x m.y m.in_a m.in_b), m)))
+    (Decides-and (sharing_cell a b) (linking shapes layer a b) (cell_decides a b) (links_decide shapes layer a b))
 linked_decides shapes None a b = (λ e. absurd (cc e), λ m. absurd m.is)
 
 joint_decides : (s : List Shape) (a b : Piece) → Decides (linking_by s (link_layer a.kind b.kind) (rect_of a) (rect_of b)) (AreJoined s (part_of a) (part_of b))

@@ -4,7 +4,7 @@ use Rattle.std.specs.Int.{int_max, int_min}
 use Rattle.std.specs.List.{list_any}
 use Rattle.box_geom.specs.Rectangle.{Rectangle}
 use Rattle.box_geom.specs.Layers.{same_layer}
-use Rattle.box_geom.specs.Comparisons.{touching}
+use Rattle.box_geom.specs.Comparisons.{overlapping, touching}
 use Rattle.box_geom.specs.declared.shape.Shape.{Shape}
 use Rattle.box_geom.specs.declared.layer.Layer.{Layer}
 use Rattle.net_extract.specs.Pieces.{place, rect_of, link_layer}
@@ -28,8 +28,12 @@ crossing a b c = crossing_across a b c && crossing_upward a b c
 abbrev pub linking : List Shape → Layer → Rectangle → Rectangle → Bool
 linking shapes layer a b = list_any (λ s. same_layer s.layer layer && crossing a b s.rect) shapes
 
+-- two rectangles have a cell in common
+abbrev pub sharing_cell : Rectangle → Rectangle → Bool
+sharing_cell a b = overlapping a.x1 a.x2 b.x1 b.x2 && overlapping a.y1 a.y2 b.y1 b.y2
+
 abbrev pub linking_by : List Shape → Option Layer → Rectangle → Rectangle → Bool
-linking_by shapes (Some layer) a b = linking shapes layer a b
+linking_by shapes (Some layer) a b = sharing_cell a b && linking shapes layer a b
 linking_by shapes None a b = false
 
 abbrev pub bonding : List Shape → Piece → Piece → Bool

@@ -3,7 +3,7 @@ ghost use Rattle.std.specs.Prelude.{◌≡◌, ◌↔◌, IsTrue, IfSome};
 ghost use Rattle.box_geom.specs.Comparisons.{overlapping, reaching, beside, stacked, touching};
 ghost use Rattle.box_geom.specs.Layers.{same_layer};
 ghost use Rattle.box_geom.specs.Rectangle.{IsProper};
-ghost use Rattle.net_extract.specs.Meetings.{sharing, crossing_across, crossing_upward, crossing, linking, linking_by, bonding};
+ghost use Rattle.net_extract.specs.Meetings.{sharing, crossing_across, crossing_upward, crossing, linking, sharing_cell, linking_by, bonding};
 ghost use Rattle.net_extract.specs.Parts.{Bond};
 ghost use Rattle.net_extract.specs.Pieces.{place, rect_of, part_of, link_layer};
 
@@ -78,6 +78,12 @@ pub(crate) fn is_on(shape: &Shape, layer: Layer) -> bool
     shape.layer == layer
 }
 
+fn overlaps(a: &Piece, b: &Piece) -> bool
+    ensures { result ≡ sharing_cell (rect_of a.now) (rect_of b.now) }
+{
+    overlap(a.left, a.right, b.left, b.right) && overlap(a.low, a.top, b.low, b.top)
+}
+
 fn links(shapes: &[Shape], layer: Layer, a: &Piece, b: &Piece) -> bool
     ensures { result ≡ linking shapes.now layer (rect_of a.now) (rect_of b.now) }
 {
@@ -102,7 +108,7 @@ fn are_linked(shapes: &[Shape], a: &Piece, b: &Piece) -> bool
     ensures { result ≡ linking_by shapes.now (link_layer a.now.kind b.now.kind) (rect_of a.now) (rect_of b.now) }
 {
     match layer_between(a.kind, b.kind) {
-        Some(layer) => links(shapes, layer, a, b),
+        Some(layer) => overlaps(a, b) && links(shapes, layer, a, b),
         None => false,
     }
 }
