@@ -10,6 +10,7 @@ mod log;
 mod out;
 mod read;
 mod reader;
+mod said;
 mod spell;
 mod word;
 mod write;
