@@ -1,3 +1,4 @@
+pub mod Bounds
 mod BridgeBars
 mod BridgeCount
 mod BridgeFrom
@@ -8,9 +9,21 @@ mod BridgeRouted
 mod BridgeRow
 mod BridgeTracks
 mod BridgeWhole
+mod Devices
 mod Draws
 mod Found
 mod Inverter
+mod Labels
+mod LabelsPlaced
+mod NetsApart
+mod NetsBridge
+mod NetsDrawn
+mod NetsFacts
+mod NetsJoined
+mod NetsPlaces
+mod NetsRouted
+mod NetsWhole
+mod NetsWires
 mod RulesActive
 mod RulesAround
 mod RulesContacts
@@ -28,3 +41,4 @@ mod RulesVias
 mod RulesWhole
 mod Sizes
 mod Smalls
+mod Tags
