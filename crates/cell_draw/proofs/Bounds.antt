@@ -10,9 +10,9 @@ use Rattle.cell_num.proofs.Lists.{all_flat, all_map, all_one, all_two}
 use Rattle.box_geom.specs.declared.layer.Layer.{Layer}
 use Rattle.box_geom.specs.declared.layer.Layer.TheVariants.{Active, Via, Poly, Contact as ContactCut}
 use Rattle.box_geom.specs.declared.shape.Shape.{Shape}
+use Rattle.box_geom.specs.declared.shape.Label.{Label}
 use Rattle.cell_draw.specs.Bounds.{IsWithin, IsShapeWithin, IsLabelWithin, AreWithin}
-use Rattle.cell_draw.specs.Drawings.{label_of, drawing_of}
-use Rattle.cell_draw.specs.declared.drawing.Drawing.{Drawing}
+use Rattle.cell_draw.specs.Drawings.{label_of}
 use Rattle.cell_draw.specs.declared.layout.Frame.{Frame}
 use Rattle.cell_draw.specs.declared.layout.Strip.{Strip}
 use Rattle.cell_draw.specs.declared.layout.Contact.{Contact}
@@ -104,11 +104,11 @@ tag_within : (names : List (List ℕ)) (t : Tag) → IsSmallTag t → IsLabelWit
 tag_within names t is = let right = is.right in let top = is.top in record { x = omega (arith, ints); y = omega (arith, ints) }
 
 -- the drawing of a small layout lies within the limits
-pub drawing_within : (names : List (List ℕ)) (l : Layout) → IsSmall l → AreWithin (drawing_of names l).shapes
-drawing_within names l s = record { rects = shapes_within l s; labels = all_map IsSmallTag IsLabelWithin (label_of names) l.tags (tag_within names) s.tags }
-
-pub within_if : (d : Drawing) (names : List (List ℕ)) (l : Layout) → IsSmall l → d ≡ drawing_of names l → AreWithin d.shapes
-within_if d names l s e = subst (λ z. AreWithin z.shapes) (sym e) (drawing_within names l s)
+pub parts_within : (rects : List Shape) (labels : List Label) (names : List (List ℕ)) (l : Layout) → rects ≡ shapes_of l → labels ≡ map (label_of names) l.tags → IsSmall l → AreWithin (record { rects = rects; labels = labels })
+parts_within rects labels names l er el s = record {
+  rects = subst (λ z. All IsShapeWithin z) (sym er) (shapes_within l s);
+  labels = subst (λ z. All IsLabelWithin z) (sym el) (all_map IsSmallTag IsLabelWithin (label_of names) l.tags (tag_within names) s.tags);
+}
 
 abs_most : (z : ℤ) → IsWithin z → unsigned_abs z ≤ 1000018
 abs_most (pos n) h = omega (arith, ints)

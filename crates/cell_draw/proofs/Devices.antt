@@ -212,7 +212,7 @@ closed l w n s there strip past = record {
   closed = λ x y h on.
       let a = area_held l x y on in
       let z = past x y h in
-      past_area l w n s a.piece there a.listed x y a.holds z.0 z.1.0 z.1.1;
+      past_area l w n s a.piece there a.listed x y a.holds z.0 z.1 z.2;
 }
 
 below_past : (f : Frame) (row : Row) (s : Strip) (z : ℕ) (x y : ℤ) → Holds (below (box_in f row s z)) x y → (y +ℤ pos 1) ≡ finger_low f row s.width
@@ -261,13 +261,18 @@ left_site_in l w n s there = left_side l.frame s.row s (n.over s).x (n.gated s t
 pub right_site_in : (l : Layout) (w : IsLaid l) (n : IsNetted l) (s : Strip) → Contains l.strips s → Holds (half_rect l n s right_end) (box_of l n s).x2 (box_of l n s).y1
 right_site_in l w n s there = right_side l.frame s.row s (n.over s).x (n.gated s there).1.right (box_of l n s).x2 (box_of l n s).y1 (right_corner (box_of l n s) (gate_box l w n s there).proper)
 
+-- a device whose current flows to the right
+pub record FlowsRight (l : Layout) (n : IsNetted l) (s : Strip) : Type 0 where
+  pub is : IsDevice (shapes_of l) (box_of l n s) s.row (gate_site l n s) (side_site l n s left_end) (side_site l n s right_end) s.width 4
+  pub flow : is.flow ≡ rightward
+
 -- each finger with its gate is a device
-pub device : (l : Layout) (w : IsLaid l) (n : IsNetted l) (s : Strip) → Contains l.strips s → IsDevice (shapes_of l) (box_of l n s) s.row (gate_site l n s) (side_site l n s left_end) (side_site l n s right_end) s.width 4
-device l w n s there =
+pub right_device : (l : Layout) (w : IsLaid l) (n : IsNetted l) (s : Strip) → Contains l.strips s → FlowsRight l n s
+right_device l w n s there =
     let b : Rectangle = box_of l n s in
     let o = n.gated s there in
     let c : IsGateBox (shapes_of l) b = gate_box l w n s there in
-    record {
+    let d : IsDevice (shapes_of l) (box_of l n s) s.row (gate_site l n s) (side_site l n s left_end) (side_site l n s right_end) s.width 4 = record {
       flow = rightward;
       class = c;
       of_row = λ x y h. side_well l w s.row x y (strip_side l w s there x y (box_finger l n s there x y h));
@@ -277,4 +282,8 @@ device l w n s there =
       low = closed l w n s there (below b) (λ x y h. (h.left, h.right, inl (below_past l.frame s.row s (n.over s).x x y h)));
       high = closed l w n s there (above b) (λ x y h. (h.left, h.right, inr (above_past l.frame s.row s (n.over s).x x y h)));
       size = size_of l.frame s.row s (n.over s).x;
-    }
+    } in
+    record { is = d; flow = refl }
+
+pub device : (l : Layout) (w : IsLaid l) (n : IsNetted l) (s : Strip) → Contains l.strips s → IsDevice (shapes_of l) (box_of l n s) s.row (gate_site l n s) (side_site l n s left_end) (side_site l n s right_end) s.width 4
+device l w n s there = (right_device l w n s there).is

@@ -44,7 +44,7 @@ base_small pins p tracks height xs f l is lines wide frame ef el =
 pub base_obeys : (shapes : List Shape) (pins : Pins) (p : Placement) (tracks height : ℕ) (xs : List ℕ) → shapes ≡ shapes_of (base_of (frame_of p.row tracks height (width_of p xs)) pins p xs) → IsPlacement p → AreLines p xs → All HasWidths p.row → Obeys Plain shapes
 base_obeys shapes pins p tracks height xs e is lines wide = subst (λ z. Obeys Plain z) (sym e) (obeys (base_of (frame_of p.row tracks height (width_of p xs)) pins p xs) (base_is pins p tracks height xs is lines wide))
 
-drawn_is : (names : List (List ℕ)) (pins : Pins) (p : Placement) (r : Routing) (xs : List ℕ) (height : ℕ) → IsPlacement p → IsSoundRow names pins p.row → IsLegal p pins r → AreAllowed p pins (stretches_of r.trunks) xs → IsDrawn names pins p r xs (frame_of p.row r.tracks height (width_of p xs))
+pub drawn_is : (names : List (List ℕ)) (pins : Pins) (p : Placement) (r : Routing) (xs : List ℕ) (height : ℕ) → IsPlacement p → IsSoundRow names pins p.row → IsLegal p pins r → AreAllowed p pins (stretches_of r.trunks) xs → IsDrawn names pins p r xs (frame_of p.row r.tracks height (width_of p xs))
 drawn_is names pins p r xs height is row legal allowed = record {
   placement = is;
   row = row;

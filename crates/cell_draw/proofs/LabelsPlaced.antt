@@ -37,7 +37,7 @@ use Rattle.cell_draw.specs.Layouts.{gate_y, reach_of, bar_of as bar_from, trunk_
 use Rattle.cell_draw.proofs.BridgeFrom.{IsDrawn, GateFrom, gate_from, trunk_from}
 use Rattle.cell_draw.proofs.BridgeTracks.{none_found}
 use Rattle.cell_draw.proofs.Found.{found_all, found_is}
-use Rattle.cell_draw.proofs.Labels.{LabelOn, direct, beside, on_diffusion, node_y, left_corner, right_corner, active_at, NoneBegins, end_bare, begins}
+use Rattle.cell_draw.proofs.LabelPieces.{LabelOn, direct, beside, on_diffusion, node_y, left_corner, right_corner, active_at, NoneBegins, end_bare, begins}
 use Rattle.cell_draw.proofs.NetsBridge.{HasNets}
 use Rattle.cell_draw.proofs.NetsFacts.{left_end, right_end, IsOver, Reaches, IsNetted}
 use Rattle.cell_draw.proofs.NetsPlaces.{strip_with, strip_listed}

@@ -10,11 +10,16 @@ mod BridgeRow
 mod BridgeTracks
 mod BridgeWhole
 mod Devices
+mod DevicesPlaced
+mod DrawnNets
 mod Draws
+mod Extracts
 mod Found
 mod Inverter
-mod Labels
+mod LabelPieces
 mod LabelsPlaced
+mod Names
+mod NamesPlaced
 mod NetsApart
 mod NetsBridge
 mod NetsDrawn
@@ -39,6 +44,8 @@ mod RulesPoly
 mod RulesRows
 mod RulesVias
 mod RulesWhole
+mod ShownRow
+mod ShownTracks
 mod Sizes
 mod Smalls
 mod Tags

@@ -287,6 +287,8 @@ lower : (k : Kind) → IsLower k → Lower k
 lower p_diffusion of_p = tt
 lower n_diffusion of_n = tt
 lower poly of_poly = tt
+lower metal1 h = elim h [ ]
+lower metal2 h = elim h [ ]
 
 -- in one cell lies one kind of the lower ones
 lower_kinds : (l : Layout) (j k : Kind) (x y : ℤ) → IsLower j → IsLower k → Are (shapes_of l) j x y → Are (shapes_of l) k x y → j ≡ k

@@ -54,7 +54,7 @@ pub record EndNode (p : Placement) (xs : List ℕ) (s : Strip) (e : End) (net : 
   pub there : Contains p.nodes node
   pub row : node.row ≡ s.row
   pub x : x_of xs node.line ≡ end_x e s
-  pub net : node.net ≡ net
+  pub of : node.net ≡ net
 
 abbrev node_with : Row → ℕ → NetNo → NodePlace
 node_with row line net = record { row = row; line = line; net = net }
@@ -63,11 +63,11 @@ pub end_node : (p : Placement) (xs : List ℕ) → IsPlacement p → (s : Strip)
 end_node p xs is s left_end b =
     let n : NodePlace = node_with s.row (2 * unit_of p.row b.at) (left_net b.finger) in
     let node : IsNode p.row n = record { at = b.at; column = b.column; finger = b.finger; stands = b.stands; filled = b.filled; end = inl (refl, refl) } in
-    record { node = n; there = (is.nodes n).1 node; row = refl; x = sym b.left; net = refl }
+    record { node = n; there = (is.nodes n).1 node; row = refl; x = sym b.left; of = refl }
 end_node p xs is s right_end b =
     let n : NodePlace = node_with s.row (2 * unit_of p.row b.at + 2) (right_net b.finger) in
     let node : IsNode p.row n = record { at = b.at; column = b.column; finger = b.finger; stands = b.stands; filled = b.filled; end = inr (refl, refl) } in
-    record { node = n; there = (is.nodes n).1 node; row = refl; x = sym b.right; net = refl }
+    record { node = n; there = (is.nodes n).1 node; row = refl; x = sym b.right; of = refl }
 
 -- the net at an end of a strip is that of the node there
 pub net_at_end : (p : Placement) (xs : List ℕ) → IsPlacement p → AreLines p xs → (s : Strip) (e : End) (net : NetNo) (n : EndNode p xs s e net) → net_at p.nodes xs s.row (end_x e s) ≡ n.node.net
@@ -94,7 +94,7 @@ contact_or_bare : (pins : Pins) (p : Placement) (r : Routing) (xs : List ℕ) (f
 contact_or_bare pins p r xs f nets node there = by (is_rail pins node.net) refl
   where
     contacted : (reach : Option ℕ) → contact_of f pins r.trunks xs node ≡ Some (contact_with xs node reach) → HasContact (layout pins p r xs f nets) node.row (x_of xs node.line)
-    contacted reach gives = record { contact = contact_with xs node reach; listed = contains_filter_map (contact_of f pins r.trunks xs) p.nodes node (contact_with xs node reach) there gives; row = refl; x = refl }
+    contacted reach gives = record { contact = contact_with xs node reach; listed = contains_filter_map (contact_of f pins r.trunks xs) p.nodes node (contact_with xs node reach) there gives; in_row = refl; at_x = refl }
 
     signal : is_rail pins node.net ≡ false → (o : Option Trunk) → trunk_of r.trunks node.net ≡ o → HasContact (layout pins p r xs f nets) node.row (x_of xs node.line) ⊎ IsBare pins r node.net
     signal other None e = inr (record { signal = λ rail. (let wrong : true ≡ false = sym ((rail_decides pins node.net).1 rail) ∙ other in cc); bare = e })
@@ -138,7 +138,7 @@ has_nets names pins p r xs f nets d differ =
     record {
       netted = all;
       at_node = λ node there. net_at_node p xs is lines node there;
-      at_end = λ s e there b. let n = end_node p xs is s e b in net_at_end p xs is lines s e (end_net b.finger e) n ∙ n.net;
+      at_end = λ s e there b. let n = end_node p xs is s e b in net_at_end p xs is lines s e (end_net b.finger e) n ∙ n.of;
     }
   where
     lines : AreLines p xs
@@ -150,7 +150,7 @@ has_nets names pins p r xs f nets d differ =
     fingered : (g : Gate) (row : Row) (width : ℕ) → Contains (layout pins p r xs f nets).gates g → width_in row g ≡ Some width → HasStrip (layout pins p r xs f nets) g row width
     fingered g row width there e =
         let s = gate_strip p xs f r.trunks is lines g row width (gate_from p.row f r.trunks xs g there) e in
-        record { strip = s.0; listed = s.1.0; row = s.1.1.0; width = s.1.1.1.0; over = s.1.1.1.1 }
+        record { strip = s.0; listed = s.1; in_row = s.2; as_wide = s.3; over = s.4 }
 
     contacts : (c : Contact) → Contains (layout pins p r xs f nets).contacts c → c.net ≡ net_at p.nodes xs c.row c.x
     contacts c there =
@@ -192,7 +192,7 @@ has_nets names pins p r xs f nets d differ =
     ends s e there =
         let n = end_of s e there in
         elim (contact_or_bare pins p r xs f nets n.node n.there) [
-          | inl c ↦ inl (record { contact = c.contact; listed = c.listed; row = c.row ∙ n.row; x = c.x ∙ n.x })
+          | inl c ↦ inl (record { contact = c.contact; listed = c.listed; in_row = c.in_row ∙ n.row; at_x = c.at_x ∙ n.x })
           | inr bare ↦ inr (lone_end s e there bare)
         ]
 

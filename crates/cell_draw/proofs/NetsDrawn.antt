@@ -45,7 +45,7 @@ pad_side f k fr P z is x y h = omega (arith, ints)
 
 -- the P row lies in the well, the N row outside it
 pub side_well : (l : Layout) (w : IsLaid l) (row : Row) (x y : ℤ) → InSide l.frame row x y → InRow row (shapes_of l) x y
-side_well l w N x y h on = let v = well_holds l x y on in let fr = w.frame in omega (arith, ints)
+side_well l w N x y h = λ on. let v = well_holds l x y on in let fr = w.frame in omega (arith, ints)
 side_well l w P x y h = let fr = w.frame in well_covers l x y (omega (arith, ints))
 
 one_row : (l : Layout) (w : IsLaid l) (row side : Row) (x y : ℤ) → InSide l.frame row x y → InRow side (shapes_of l) x y → row ≡ side

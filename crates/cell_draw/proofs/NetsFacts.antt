@@ -36,8 +36,8 @@ pub record Reaches (l : Layout) (c : Contact) (y : ℕ) : Type 0 where
 pub record HasContact (l : Layout) (row : Row) (x : ℕ) : Type 0 where
   pub contact : Contact
   pub listed : Contains l.contacts contact
-  pub row : contact.row ≡ row
-  pub x : contact.x ≡ x
+  pub in_row : contact.row ≡ row
+  pub at_x : contact.x ≡ x
 
 -- a net that stands at one line of one row alone, without a contact
 pub record IsLone (l : Layout) (nets : Row → ℕ → NetNo) (row : Row) (x : ℕ) : Type 0 where
@@ -57,8 +57,8 @@ pub record IsLoneGate (l : Layout) (nets : Row → ℕ → NetNo) (g : Gate) : T
 pub record HasStrip (l : Layout) (g : Gate) (row : Row) (width : ℕ) : Type 0 where
   pub strip : Strip
   pub listed : Contains l.strips strip
-  pub row : strip.row ≡ row
-  pub width : strip.width ≡ width
+  pub in_row : strip.row ≡ row
+  pub as_wide : strip.width ≡ width
   pub over : IsOver strip g
 
 pub record IsNetted (l : Layout) : Type 0 where

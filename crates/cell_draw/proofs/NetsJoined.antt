@@ -182,8 +182,8 @@ meets_half f P s z x right_end a b wide at = record { u = pos s.right -ℤ pos 1
 pub half_pad : (l : Layout) (w : IsLaid l) (n : IsNetted l) (s : Strip) (e : End) → Contains l.strips s → (c : HasContact l s.row (end_x e s)) → Together l n (half s e) (pad c.contact)
 half_pad l w n s e h c =
     let o : IsOver s (n.over s) = (n.gated s h).1 in
-    let m : MeetsHalf l.frame s.row s (n.over s).x c.contact.x e = meets_half l.frame s.row s (n.over s).x c.contact.x e o.left o.right (strip_is l w s h).least c.x in
-    shared l n (half s e) (pad c.contact) h c.listed (ap (λ r. diffusion_of r) (sym c.row)) m.u m.v m.on_half (subst (λ r. Holds (pad_in l.frame r c.contact.x).rect m.u m.v) (sym c.row) m.on_pad)
+    let m : MeetsHalf l.frame s.row s (n.over s).x c.contact.x e = meets_half l.frame s.row s (n.over s).x c.contact.x e o.left o.right (strip_is l w s h).least c.at_x in
+    shared l n (half s e) (pad c.contact) h c.listed (ap (λ r. diffusion_of r) (sym c.in_row)) m.u m.v m.on_half (subst (λ r. Holds (pad_in l.frame r c.contact.x).rect m.u m.v) (sym c.in_row) m.on_pad)
 
 -- a cell of a half and the cell behind it of the next
 record MeetsNext (f : Frame) (row : Row) (s t : Strip) (x z : ℕ) : Type 0 where

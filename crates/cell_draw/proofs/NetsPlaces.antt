@@ -85,7 +85,7 @@ test_over : (s : Strip) (g : Gate) → is_over s g ≡ true → IsOver s g
 test_over s g e = let both = and_parts (leb (s.left + 8) g.x) (leb (g.x + 8) s.right) e in record { left = leb-true (s.left + 8) g.x both.0; right = leb-true (g.x + 8) s.right both.1 }
 
 -- a gate over a strip is that of its column
-over_at : (p : Placement) (xs : List ℕ) (f : Frame) (trunks : List Trunk) → IsPlacement p → AreLines p xs → (g : Gate) (s : Strip) (a : GateFrom p.row f trunks xs g) (b : StripFrom p.row xs s) → IsOver s g → a.at ≡ b.at
+pub over_at : (p : Placement) (xs : List ℕ) (f : Frame) (trunks : List Trunk) → IsPlacement p → AreLines p xs → (g : Gate) (s : Strip) (a : GateFrom p.row f trunks xs g) (b : StripFrom p.row xs s) → IsOver s g → a.at ≡ b.at
 over_at p xs f trunks is lines g s a b o = elim (cases_lt a.at b.at) [
   | inl less ↦
       let rise : unit_of p.row a.at < unit_of p.row b.at = units_rise p.row a.at b.at a.seat.column b.column less a.stands b.stands in
@@ -133,7 +133,7 @@ pub record ColumnGate (row : List Column) (f : Frame) (trunks : List Trunk) (xs 
   pub gate : Gate
   pub listed : Contains (gates_on f trunks xs (seats_of row)) gate
   pub from : GateFrom row f trunks xs gate
-  pub at : from.at ≡ at
+  pub same_at : from.at ≡ at
 
 pub column_gate : (p : Placement) (xs : List ℕ) (f : Frame) (trunks : List Trunk) → (at : ℕ) (column : Column) (side : Row) (x : Placed) → slice_get p.row at ≡ Some column → place side column ≡ Some x → ColumnGate p.row f trunks xs at
 column_gate p xs f trunks at column side x stands filled =
@@ -163,7 +163,7 @@ column_gate p xs f trunks at column side x stands filled =
         p = refl;
         track = refl;
       };
-      at = refl;
+      same_at = refl;
     }
 
 -- each strip has a gate over it
@@ -174,7 +174,7 @@ strip_gate p xs f trunks is lines s b = by (find (is_over s) (gates_on f trunks 
     c = column_gate p xs f trunks b.at b.column s.row b.finger b.stands b.filled
 
     by : (o : Option Gate) → find (is_over s) (gates_on f trunks xs (seats_of p.row)) ≡ o → Contains (gates_on f trunks xs (seats_of p.row)) (gate_over (gates_on f trunks xs (seats_of p.row)) s) × IsOver s (gate_over (gates_on f trunks xs (seats_of p.row)) s)
-    by None e = absurd (none_found (is_over s) (gates_on f trunks xs (seats_of p.row)) c.gate c.listed (over_test s c.gate (at_over p xs f trunks is lines c.gate s c.from b c.at)) e)
+    by None e = absurd (none_found (is_over s) (gates_on f trunks xs (seats_of p.row)) c.gate c.listed (over_test s c.gate (at_over p xs f trunks is lines c.gate s c.from b c.same_at)) e)
     by (Some g) e =
         let same : g ≡ gate_over (gates_on f trunks xs (seats_of p.row)) s = sym (ap (λ o. gate_or_none o) e) in
         let listed : Contains (gates_on f trunks xs (seats_of p.row)) g = found_all (λ z. Contains (gates_on f trunks xs (seats_of p.row)) z) (is_over s) (gates_on f trunks xs (seats_of p.row)) g (all_from_contains (λ z. Contains (gates_on f trunks xs (seats_of p.row)) z) (gates_on f trunks xs (seats_of p.row)) (λ z there. there)) e in
@@ -197,7 +197,7 @@ some_width : (o : Option Placed) (width : ℕ) → finger_width o ≡ Some width
 some_width None width e = absurd cc
 some_width (Some x) width e = (x, refl, some_same x.finger.width width e)
 
-in_strips : (xs : List ℕ) (seat : Seat) (side : Row) (x : Placed) (s : Strip) → place side seat.column ≡ Some x → Contains (strip_of xs seat.unit side (Some x)) s → Contains (strips_at xs seat) s
+pub in_strips : (xs : List ℕ) (seat : Seat) (side : Row) (x : Placed) (s : Strip) → place side seat.column ≡ Some x → Contains (strip_of xs seat.unit side (Some x)) s → Contains (strips_at xs seat) s
 in_strips xs seat N x s e c = Contains-append_left (strip_of xs seat.unit N seat.column.n) (strip_of xs seat.unit P seat.column.p) s (subst (λ o. Contains (strip_of xs seat.unit N o) s) (sym e) c)
 in_strips xs seat P x s e c = Contains-append_right (strip_of xs seat.unit N seat.column.n) (strip_of xs seat.unit P seat.column.p) s (subst (λ o. Contains (strip_of xs seat.unit P o) s) (sym e) c)
 
@@ -215,6 +215,6 @@ pub gate_strip : (p : Placement) (xs : List ℕ) (f : Frame) (trunks : List Trun
 gate_strip p xs f trunks is lines g row width a e =
     let w = some_width (place row a.seat.column) width (known_width a.seat.column g row width a.n a.p e) in
     let s : Strip = strip_with xs (unit_of p.row a.at) row w.0 in
-    let listed : Contains (flat_map (strips_at xs) (seats_of p.row)) s = strip_listed p.row xs a.at a.seat.column row w.0 a.stands w.1.0 in
-    let b : StripFrom p.row xs s = record { at = a.at; column = a.seat.column; finger = w.0; stands = a.stands; filled = w.1.0; left = refl; right = refl; width = refl } in
-    (s, listed, refl, w.1.1, at_over p xs f trunks is lines g s a b refl)
+    let listed : Contains (flat_map (strips_at xs) (seats_of p.row)) s = strip_listed p.row xs a.at a.seat.column row w.0 a.stands w.1 in
+    let b : StripFrom p.row xs s = record { at = a.at; column = a.seat.column; finger = w.0; stands = a.stands; filled = w.1; left = refl; right = refl; width = refl } in
+    (s, listed, refl, w.2, at_over p xs f trunks is lines g s a b refl)

@@ -100,7 +100,7 @@ nodes_on p net = filter (λ (z : NodePlace). z.net.0 == net.0) p.nodes
 abbrev gates_at : Placement → NetNo → List GatePlace
 gates_at p net = filter (λ (z : GatePlace). z.net.0 == net.0) p.gates
 
-places : (p : Placement) (net : NetNo) → length (lines_of p net) ≡ length (nodes_on p net) + length (gates_at p net)
+pub places : (p : Placement) (net : NetNo) → length (lines_of p net) ≡ length (nodes_on p net) + length (gates_at p net)
 places p net =
     length-append (map (λ (z : NodePlace). z.line) (nodes_on p net)) (map (λ (z : GatePlace). z.line) (gates_at p net))
     ∙ (ap (λ k. k + length (map (λ (z : GatePlace). z.line) (gates_at p net))) (length-map (nodes_on p net) (λ (z : NodePlace). z.line)) ∙ ap (λ k. length (nodes_on p net) + k) (length-map (gates_at p net) (λ (z : GatePlace). z.line)))

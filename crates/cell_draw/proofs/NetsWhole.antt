@@ -87,7 +87,7 @@ contact_hub l w n c h = before l n (pad c) (metal (strap_of c)) refl (pad_strap 
 half_hub : (l : Layout) (w : IsLaid l) (n : IsNetted l) (s : Strip) (e : End) → Contains l.strips s → HasContact l s.row (end_x e s) ⊎ IsLone l n.nets s.row (end_x e s) → ToHub l n (half s e)
 half_hub l w n s e h (inr lone) = hubbed l n (at_end s e) (h, lone)
 half_hub l w n s e h (inl c) =
-    let net : c.contact.net ≡ n.nets s.row (end_x e s) = n.contacts c.contact c.listed ∙ (ap (λ r. n.nets r c.contact.x) c.row ∙ ap (λ x. n.nets s.row x) c.x) in
+    let net : c.contact.net ≡ n.nets s.row (end_x e s) = n.contacts c.contact c.listed ∙ (ap (λ r. n.nets r c.contact.x) c.in_row ∙ ap (λ x. n.nets s.row x) c.at_x) in
     before l n (half s e) (pad c.contact) (sym net) (half_pad l w n s e h c) (contact_hub l w n c.contact c.listed)
 
 track_hub : (l : Layout) (w : IsLaid l) (n : IsNetted l) (g : Gate) (t : ℕ) → IsPad l g t → ToHub l n (gate (pad_of g t))

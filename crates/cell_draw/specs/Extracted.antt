@@ -3,6 +3,10 @@ use Rattle.std.specs.Prelude.{◌≡◌, ◌≢◌, ℤ, ◌⊎◌, ℕ, List, �
 use Rattle.std.specs.List.{AllPairs, AllZip, Any}
 use Rattle.cell_num.specs.declared.finger.Finger.{Finger}
 use Rattle.cell_num.specs.declared.finger.Fingers.{Fingers}
+use Rattle.cell_num.specs.declared.net.Pins.{Pins}
+use Rattle.cell_num.specs.Fingers.{AreSound}
+use Rattle.row_model.specs.declared.column.Column.{Column}
+use Rattle.row_model.specs.Arrangement.{IsArrangement}
 use Rattle.box_geom.specs.Rectangle.{Rectangle, Holds}
 use Rattle.box_geom.specs.declared.shape.Shape.{Shape}
 use Rattle.box_geom.specs.declared.shape.Shapes.{Shapes}
@@ -33,4 +37,13 @@ pub record ExtractsTo (names : List (List ℕ)) (fingers : Fingers) (shapes : Sh
   pub gates : AreGates shapes.rects boxes
   pub drawn : List Finger
   pub devices : AllZip (IsFingerAt names shapes) boxes drawn
-  pub fingers : IsPermutation (fingers.p ++ fingers.n) drawn
+  pub permuted : IsPermutation (fingers.p ++ fingers.n) drawn
+
+-- the row arranges the fingers, which are sound for the names and the pins
+pub record Arranges (names : List (List ℕ)) (pins : Pins) (row : List Column) (fingers : Fingers) : Type 0 where
+  pub sound : AreSound names pins fingers
+  pub arranged : IsArrangement row fingers
+
+-- whichever fingers the row arranges, the drawing extracts to them
+pub record ExtractsToRow (names : List (List ℕ)) (pins : Pins) (row : List Column) (shapes : Shapes) : Type 0 where
+  pub to : (fingers : Fingers) → Arranges names pins row fingers → ExtractsTo names fingers shapes

@@ -37,7 +37,7 @@ pub record IsIn (span : Span) (box : Rectangle) : Type 0 where
 pub record IsInRow (s : List Shape) (side : Row) (span : Span) (box : Rectangle) : Type 0 where
   pub inside : IsIn span box
   pub device : IsSomeDevice s box
-  pub side : device.row ≡ side
+  pub of_side : device.row ≡ side
 
 -- the device, with its nets from left to right
 pub record IsPlacedAt (names : List (List ℕ)) (shapes : Shapes) (side : Row) (box : Rectangle) (x : Placed) : Type 0 where

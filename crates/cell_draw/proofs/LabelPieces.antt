@@ -39,7 +39,6 @@ use Rattle.cell_draw.specs.Frame.{track_y}
 use Rattle.cell_draw.specs.Laid.{IsFrame, IsStrip, MeetsEnd, IsLaid}
 use Rattle.cell_draw.specs.Layouts.{is_p, node_tag, gate_y, gate_tag, metal_tag, bar_of as bar_from, trunk_of, gates_on, laid_out}
 use Rattle.cell_draw.specs.Shapes.{shapes_of}
-use Rattle.cell_draw.proofs.BridgeTracks.{TrunkFrom, trunk_from, none_found}
 use Rattle.cell_draw.proofs.Found.{found_all, found_is}
 use Rattle.cell_draw.proofs.NetsApart.{part_of}
 use Rattle.cell_draw.proofs.NetsBridge.{HasNets}
@@ -62,7 +61,7 @@ label_at layer x y name = record { layer = layer; x = pos x; y = pos y; name = n
 pub record LabelOn (l : Layout) (n : IsNetted l) (label : Label) (net : NetNo) : Type 0 where
   pub wire : Wire
   pub listed : IsWire l wire
-  pub net : net_of l n wire ≡ net
+  pub of : net_of l n wire ≡ net
   pub site : Site
   pub belongs : Belongs (shapes_of l) label site
   pub holds : IsIn (part_of l n wire) site
@@ -72,7 +71,7 @@ pub direct : (l : Layout) (w : IsLaid l) (n : IsNetted l) (a : Wire) (layer : La
 direct l w n a layer x y name net h e on holds = record {
   wire = a;
   listed = h;
-  net = e;
+  of = e;
   site = site_at (kind_of a) (pos x) (pos y);
   belongs = inl (record { cell = refl; on_layer = on; conducts = conducts l w n a h (pos x) (pos y) holds });
   holds = record { kind = refl; holds = holds };
@@ -83,7 +82,7 @@ pub beside : (l : Layout) (w : IsLaid l) (n : IsNetted l) (a : Wire) (layer : La
 beside l w n a layer x y name net h e on holds bare = record {
   wire = a;
   listed = h;
-  net = e;
+  of = e;
   site = site_at (kind_of a) (pos x -ℤ pos 1) (pos y);
   belongs = inr (bare, inl (record { cell = refl; on_layer = on; conducts = conducts l w n a h (pos x -ℤ pos 1) (pos y) holds }));
   holds = record { kind = refl; holds = holds };
