@@ -69,7 +69,7 @@ seated p xs seat side x there filled =
     let s : Strip = strip_with xs seat.unit side x in
     record { at = at.at; stands = at.stands; unit = at.unit; filled = filled; listed = contains_flat (strips_at xs) (seats_of p.row) seat s there (in_strips xs seat side x s filled (contains_here s [])) }
 
-pub from_seat : (p : Placement) (xs : List ℕ) (seat : Seat) (side : Row) (x : Placed) (s : IsSeated p xs seat side x) → StripFrom p.row xs (strip_with xs seat.unit side x)
+abbrev pub from_seat : (p : Placement) (xs : List ℕ) (seat : Seat) (side : Row) (x : Placed) (s : IsSeated p xs seat side x) → StripFrom p.row xs (strip_with xs seat.unit side x)
 from_seat p xs seat side x s = record {
   at = s.at;
   column = seat.column;
@@ -125,11 +125,11 @@ named_at names pins p r xs f w are seat side x s =
     let b : StripFrom p.row xs t = from_seat p xs seat side x s in
     record {
       gate_named = subst (λ z. IsNamed (shapes names pins p r xs f) (name_of names z) (gate_site (layout names pins p r xs f) n t)) (over_seat names pins p r xs f w seat side x s).net
-      (piece_named names pins p r xs f w are (gate (strip_of (n.over t))) (gate_site (layout names pins p r xs f) n t) o.0 (record { kind = refl; holds = gate_site_in (layout names pins p r xs f) w.laid n t s.listed }));
+          (piece_named names pins p r xs f w are (gate (strip_of (n.over t))) (gate_site (layout names pins p r xs f) n t) o.0 (record { kind = refl; holds = gate_site_in (layout names pins p r xs f) w.laid n t s.listed }));
       left_named = subst (λ z. IsNamed (shapes names pins p r xs f) (name_of names z) (side_site (layout names pins p r xs f) n t left_end)) (w.has.at_end t left_end s.listed b)
-      (piece_named names pins p r xs f w are (half t left_end) (side_site (layout names pins p r xs f) n t left_end) s.listed (record { kind = refl; holds = left_site_in (layout names pins p r xs f) w.laid n t s.listed }));
+          (piece_named names pins p r xs f w are (half t left_end) (side_site (layout names pins p r xs f) n t left_end) s.listed (record { kind = refl; holds = left_site_in (layout names pins p r xs f) w.laid n t s.listed }));
       right_named = subst (λ z. IsNamed (shapes names pins p r xs f) (name_of names z) (side_site (layout names pins p r xs f) n t right_end)) (w.has.at_end t right_end s.listed b)
-      (piece_named names pins p r xs f w are (half t right_end) (side_site (layout names pins p r xs f) n t right_end) s.listed (record { kind = refl; holds = right_site_in (layout names pins p r xs f) w.laid n t s.listed }));
+          (piece_named names pins p r xs f w are (half t right_end) (side_site (layout names pins p r xs f) n t right_end) s.listed (record { kind = refl; holds = right_site_in (layout names pins p r xs f) w.laid n t s.listed }));
     }
 
 -- a finger that stands is the device of its box
@@ -184,7 +184,7 @@ zip_append R [] us (y ∷ ys) vs h k = absurd h
 zip_append R (x ∷ xs) us [] vs h k = absurd h
 
 -- ---- each class once
-seats_ascend : (unit : ℕ) (before : Option Column) (row : List Column) → AllPairs (λ (a b : Seat). a.unit < b.unit) (seats_from unit before row)
+pub seats_ascend : (unit : ℕ) (before : Option Column) (row : List Column) → AllPairs (λ (a b : Seat). a.unit < b.unit) (seats_from unit before row)
 seats_ascend unit before [] = pairs_none (λ (a b : Seat). a.unit < b.unit)
 seats_ascend unit before (c ∷ row) =
     let here : Seat = record { column = c; unit = unit + length (gap_between before c) } in

@@ -306,8 +306,7 @@ labels_apart names pins p r xs f w l m a b hl hm ba bb =
     let v = t.1.on in
     let ea : u.site ≡ a = one_site (shapes_of (layout names pins p r xs f)) l u.site a u.belongs ba in
     let eb : v.site ≡ b = one_site (shapes_of (layout names pins p r xs f)) m v.site b v.belongs bb in
-    let law = nets (layout names pins p r xs f) w.laid w.has.netted u.wire v.wire u.site v.site u.listed v.listed u.holds v.holds in
-    (
+    let law = nets (layout names pins p r xs f) w.laid w.has.netted u.wire v.wire u.site v.site u.listed v.listed u.holds v.holds in (
       λ same. s.1.reads ∙ (ap (λ z. name_of names z) (sym u.of ∙ (law.0 (subst (λ z. SameNet (shapes_of (layout names pins p r xs f)) z v.site) (sym ea) (subst (λ z. SameNet (shapes_of (layout names pins p r xs f)) a z) (sym eb) same)) ∙ v.of)) ∙ sym t.1.reads),
       λ e.
           let one : s.0 ≡ t.0 = same_net names w.drawn.row.sound.names_differ s.0 t.0 s.1.low t.1.low (sym s.1.reads ∙ (e ∙ t.1.reads)) in

@@ -98,8 +98,8 @@ covered_strip l w n s there x y h bare =
     by_lt_z x (pos g.x -ℤ pos 2)
     (λ less. covers_wire l n (half s left_end) there x y (left_half l.frame s.row s g.x x y h less))
     (λ most. by_lt_z x (pos g.x +ℤ pos 2)
-        (λ less. absurd (bare (gate_covers l w s g there o.0 o.1 x y h most less)))
-        (λ far. covers_wire l n (half s right_end) there x y (right_half l.frame s.row s g.x x y h far)))
+    (λ less. absurd (bare (gate_covers l w s g there o.0 o.1 x y h most less)))
+    (λ far. covers_wire l n (half s right_end) there x y (right_half l.frame s.row s g.x x y h far)))
 
 covered_area : (l : Layout) (w : IsLaid l) (n : IsNetted l) (side : Row) (a : Area) → IsArea l a → (x y : ℤ) → Holds (area_rect l a) x y → (On Poly (shapes_of l) x y → ⊥) → InRow side (shapes_of l) x y → Covers (parts l n (diffusion_of side)) x y
 covered_area l w n side (finger_of s) there x y h bare i =

@@ -100,8 +100,7 @@ columns_shown names pins p r xs f w are unit before [] sub = tt
 columns_shown names pins p r xs f w are unit before (c ∷ row) sub =
     let seat : Seat = record { column = c; unit = unit + length (gap_between before c) } in
     let rest : List Seat = seats_from (unit + length (gap_between before c) + 1) (Some c) row in
-    let there : Contains (seats_of p.row) seat = sub seat (contains_here seat rest) in
-    (
+    let there : Contains (seats_of p.row) seat = sub seat (contains_here seat rest) in (
       record { p = place_shown names pins p r xs f w are seat there P c.p refl; n = place_shown names pins p r xs f w are seat there N c.n refl },
       columns_shown names pins p r xs f w are (unit + length (gap_between before c) + 1) (Some c) row (λ s h. sub s (contains_there seat rest s h)),
     )
@@ -133,20 +132,24 @@ joined_by names pins p r xs f w s t side x y hs ht next = by side hs ht
         let z : Strip = strip_with xs s.unit N x in
         let u : Strip = strip_with xs t.unit N y in
         let o : IsOver z (w.has.netted.over z) = (w.has.netted.gated z a.listed).1 in
-        let q : IsOver u (w.has.netted.over u) = (w.has.netted.gated u b.listed).1 in
-        (refl, λ v from to. elim (join_n f z u (w.has.netted.over z).x (w.has.netted.over u).x v (strip_is (layout names pins p r xs f) w.laid z a.listed).least (strip_is (layout names pins p r xs f) w.laid u b.listed).least (omega (arith, o.left)) at (omega (arith, q.right)) from to) [
-          | inl h ↦ active N z v (pos f.yn -ℤ pos 1) a.listed refl h
-          | inr h ↦ active N u v (pos f.yn -ℤ pos 1) b.listed refl h
-        ])
+        let q : IsOver u (w.has.netted.over u) = (w.has.netted.gated u b.listed).1 in (
+          refl,
+          λ v from to. elim (join_n f z u (w.has.netted.over z).x (w.has.netted.over u).x v (strip_is (layout names pins p r xs f) w.laid z a.listed).least (strip_is (layout names pins p r xs f) w.laid u b.listed).least (omega (arith, o.left)) at (omega (arith, q.right)) from to) [
+            | inl h ↦ active N z v (pos f.yn -ℤ pos 1) a.listed refl h
+            | inr h ↦ active N u v (pos f.yn -ℤ pos 1) b.listed refl h
+          ],
+        )
     by P a b =
         let z : Strip = strip_with xs s.unit P x in
         let u : Strip = strip_with xs t.unit P y in
         let o : IsOver z (w.has.netted.over z) = (w.has.netted.gated z a.listed).1 in
-        let q : IsOver u (w.has.netted.over u) = (w.has.netted.gated u b.listed).1 in
-        (refl, λ v from to. elim (join_p f z u (w.has.netted.over z).x (w.has.netted.over u).x v (strip_is (layout names pins p r xs f) w.laid z a.listed).least (strip_is (layout names pins p r xs f) w.laid u b.listed).least (omega (arith, o.left)) at (omega (arith, q.right)) from to) [
-          | inl h ↦ active P z v (pos f.yp) a.listed refl h
-          | inr h ↦ active P u v (pos f.yp) b.listed refl h
-        ])
+        let q : IsOver u (w.has.netted.over u) = (w.has.netted.gated u b.listed).1 in (
+          refl,
+          λ v from to. elim (join_p f z u (w.has.netted.over z).x (w.has.netted.over u).x v (strip_is (layout names pins p r xs f) w.laid z a.listed).least (strip_is (layout names pins p r xs f) w.laid u b.listed).least (omega (arith, o.left)) at (omega (arith, q.right)) from to) [
+            | inl h ↦ active P z v (pos f.yp) a.listed refl h
+            | inr h ↦ active P u v (pos f.yp) b.listed refl h
+          ],
+        )
 
 no_gap : (a b : Column) → is_gap (a, b) ≡ false → length (gap_between (Some a) b) ≡ 0
 no_gap a b e = rw e refl

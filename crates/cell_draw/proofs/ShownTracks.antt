@@ -1,5 +1,5 @@
 -- A drawn row shows its routing.
-use Rattle.std.proofs.Common.{ℕ, ◌≡◌, ◌+◌, ◌*◌, ◌<◌, ◌==◌, Bool, true, false, if◌then◌else◌, List, Option, Some, None, inl, inr, refl, sym, ap, ◌∙◌, arith, All, Any, Contains, length, option_map}
+use Rattle.std.proofs.Common.{ℕ, ◌≡◌, ◌+◌, ◌*◌, ◌<◌, ◌==◌, Bool, true, false, if◌then◌else◌, List, Option, Some, None, inl, inr, refl, sym, ap, subst, ◌∙◌, arith, All, Any, Contains, length, option_map}
 use Rattle.std.specs.List.{range_with_len}
 use Rattle.cell_num.specs.declared.net.NetNo.{NetNo}
 use Rattle.cell_num.specs.declared.net.Pins.{Pins}
@@ -16,7 +16,7 @@ use Rattle.cell_draw.specs.declared.layout.Frame.{Frame}
 use Rattle.cell_draw.specs.declared.layout.Gate.{Gate}
 use Rattle.cell_draw.specs.declared.layout.Tag.{Tag}
 use Rattle.cell_draw.specs.Drawings.{label_of}
-use Rattle.cell_draw.specs.Frame.{track_y}
+use Rattle.cell_draw.specs.Frame.{channel_edge, track_y}
 use Rattle.cell_draw.specs.Layouts.{metal_tag, or_else, place_tag, net_tag, tag_of, tags_of, net_no, trunk_of, gates_on}
 use Rattle.cell_draw.specs.Shown.{ShowsTrack, ShowsRouting}
 use Rattle.cell_draw.proofs.BridgeTracks.{has_trunk, span_of, trunk_is}
@@ -52,12 +52,12 @@ shows_track names pins p r xs f d t there =
     }
 
 -- a drawn row shows its routing
-pub shows_routing : (names : List (List ℕ)) (pins : Pins) (p : Placement) (r : Routing) (xs : List ℕ) (f : Frame) (d : IsDrawn names pins p r xs f) → ShowsRouting names pins p f.yn (shapes names pins p r xs f) r
-shows_routing names pins p r xs f d = record {
+pub shows_routing : (names : List (List ℕ)) (pins : Pins) (p : Placement) (r : Routing) (xs : List ℕ) (f : Frame) (d : IsDrawn names pins p r xs f) → f.yn ≡ channel_edge p.row → ShowsRouting names pins p (shapes names pins p r xs f) r
+shows_routing names pins p r xs f d edge = record {
   nets = d.legal.nets;
   order = d.legal.order;
   spans = d.legal.spans;
-  shown = all_from_contains (ShowsTrack names f.yn (shapes names pins p r xs f)) r.trunks (shows_track names pins p r xs f d);
+  shown = all_from_contains (ShowsTrack names (channel_edge p.row) (shapes names pins p r xs f)) r.trunks (λ t there. subst (λ y. ShowsTrack names y (shapes names pins p r xs f) t) edge (shows_track names pins p r xs f d t there));
   below = d.legal.tracks;
   full = λ tracks e. d.legal.full tracks (omega (arith, e));
 }

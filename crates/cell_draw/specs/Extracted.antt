@@ -1,9 +1,10 @@
 -- What a drawing is as a circuit: net by net and device by device the fingers that it was drawn from.
-use Rattle.std.specs.Prelude.{◌≡◌, ◌≢◌, ℤ, ◌⊎◌, ℕ, List, ◌++◌, IsPermutation}
+use Rattle.std.specs.Prelude.{◌≡◌, ◌≢◌, ℤ, ◌⊎◌, ℕ, List, ◌++◌, length, IsPermutation}
 use Rattle.std.specs.List.{AllPairs, AllZip, Any}
 use Rattle.cell_num.specs.declared.finger.Finger.{Finger}
 use Rattle.cell_num.specs.declared.finger.Fingers.{Fingers}
 use Rattle.cell_num.specs.declared.net.Pins.{Pins}
+use Rattle.cell_num.specs.Pins.{ArePins}
 use Rattle.cell_num.specs.Fingers.{AreSound}
 use Rattle.row_model.specs.declared.column.Column.{Column}
 use Rattle.row_model.specs.Arrangement.{IsArrangement}
@@ -44,6 +45,6 @@ pub record Arranges (names : List (List ℕ)) (pins : Pins) (row : List Column) 
   pub sound : AreSound names pins fingers
   pub arranged : IsArrangement row fingers
 
--- whichever fingers the row arranges, the drawing extracts to them
+-- Whichever fingers the row arranges, the drawing extracts to them; the rails are two of the pins.
 pub record ExtractsToRow (names : List (List ℕ)) (pins : Pins) (row : List Column) (shapes : Shapes) : Type 0 where
-  pub to : (fingers : Fingers) → Arranges names pins row fingers → ExtractsTo names fingers shapes
+  pub to : ArePins (length names) pins → (fingers : Fingers) → Arranges names pins row fingers → ExtractsTo names fingers shapes

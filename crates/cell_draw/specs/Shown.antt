@@ -1,8 +1,9 @@
 -- The row and the routing that a drawing shows.
-use Rattle.std.specs.Prelude.{◌≡◌, ℤ, pos, ◌+ℤ◌, ◌-ℤ◌, ◌≤ℤ◌, ◌<ℤ◌, ℕ, ◌+◌, ◌*◌, ◌<◌, ◌↔◌, false, List, Option, Some, None, slice_get}
+use Rattle.std.specs.Prelude.{◌≡◌, ℤ, pos, ◌+ℤ◌, ◌-ℤ◌, ◌≤ℤ◌, ◌<ℤ◌, ℕ, ◌+◌, ◌*◌, ◌<◌, ◌↔◌, false, List, length, Option, Some, None, slice_get}
 use Rattle.std.specs.List.{All, AllPairs, AllZip, Any, Contains}
 use Rattle.cell_num.specs.declared.net.NetNo.{NetNo}
 use Rattle.cell_num.specs.declared.net.Pins.{Pins}
+use Rattle.cell_num.specs.Pins.{ArePins}
 use Rattle.cell_num.specs.declared.finger.Row.{Row}
 use Rattle.cell_num.specs.declared.finger.Row.TheVariants.{P, N}
 use Rattle.row_model.specs.declared.column.Placed.{Placed}
@@ -21,6 +22,7 @@ use Rattle.box_geom.specs.declared.layer.Layer.TheVariants.{Active, Metal1}
 use Rattle.scmos_rules.specs.Layout.{On}
 use Rattle.net_extract.specs.Nets.{Site}
 use Rattle.net_extract.specs.Devices.{rightward, IsDevice, IsSomeDevice}
+use Rattle.cell_draw.specs.Frame.{channel_edge}
 use Rattle.cell_draw.specs.Named.{name_of, IsNamed}
 
 -- where the gates of a column stand
@@ -88,6 +90,10 @@ pub record ShowsRow (names : List (List ℕ)) (row : List Column) (shapes : Shap
   pub all : (box : Rectangle) → IsSomeDevice shapes.rects box → Any (λ (span : Span). IsIn span box) spans
   pub abut : (a b : Column) (one other : Span) → AreNeighbours row spans a b one other → is_gap (a, b) ≡ false → (side : Row) (left right : Rectangle) → IsInRow shapes.rects side one left → IsInRow shapes.rects side other right → IsJoined shapes.rects side left right
 
+-- The drawing shows the row; the rails are two of the pins.
+pub record ShowsColumns (names : List (List ℕ)) (pins : Pins) (row : List Column) (shapes : Shapes) : Type 0 where
+  pub shown : ArePins (length names) pins → ShowsRow names row shapes
+
 -- the net's label stands on the track, where the channel begins at this height
 pub record ShowsTrack (names : List (List ℕ)) (yn : ℕ) (shapes : Shapes) (t : Trunk) : Type 0 where
   pub label : Label
@@ -98,10 +104,10 @@ pub record ShowsTrack (names : List (List ℕ)) (yn : ℕ) (shapes : Shapes) (t 
 
 -- The routing that a drawing shows: for each net that needs one a trunk from its first to its last line,
 -- on the track of its label; and one track more than the highest of them, if there is one.
-pub record ShowsRouting (names : List (List ℕ)) (pins : Pins) (placement : Placement) (yn : ℕ) (shapes : Shapes) (r : Routing) : Type 0 where
+pub record ShowsRouting (names : List (List ℕ)) (pins : Pins) (placement : Placement) (shapes : Shapes) (r : Routing) : Type 0 where
   pub nets : (net : NetNo) → HasTrunk placement pins net ↔ Any (λ (t : Trunk). t.net ≡ net) r.trunks
   pub order : AllPairs (λ (a b : Trunk). a.net.0 < b.net.0) r.trunks
   pub spans : All (λ (t : Trunk). IsSpan placement t.net t.left t.right) r.trunks
-  pub shown : All (ShowsTrack names yn shapes) r.trunks
+  pub shown : All (ShowsTrack names (channel_edge placement.row) shapes) r.trunks
   pub below : All (λ (t : Trunk). t.track < r.tracks) r.trunks
   pub full : (tracks : ℕ) → r.tracks ≡ tracks + 1 → Any (λ (t : Trunk). t.track ≡ tracks) r.trunks

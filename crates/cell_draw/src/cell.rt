@@ -1,7 +1,6 @@
 // Drawing a routed row.
 
 ghost use Rattle.std.specs.Prelude.{◌≡◌, ◌≤◌, ◌<◌, ◌+◌, ◌*◌, All, Contains, IfOk, IfErr, length};
-ghost use Rattle.cell_num.specs.Pins.{ArePins};
 ghost use Rattle.row_place.specs.Places.{IsPlacement};
 ghost use Rattle.channel_route.specs.Routing.{IsLegal};
 ghost use Rattle.row_compact.specs.Allowed.{AreAllowed, stretches_of};
@@ -13,9 +12,9 @@ ghost use Rattle.cell_draw.specs.Bounds.{AreWithin};
 ghost use Rattle.cell_draw.specs.Drawings.{drawing_of, drawn_of, base_drawn_of, height_given};
 ghost use Rattle.cell_draw.specs.Extracted.{ExtractsToRow};
 ghost use Rattle.cell_draw.specs.Faults.{IsCause, SaysTooTall};
-ghost use Rattle.cell_draw.specs.Frame.{IsTooTall, channel_edge, frame_of};
+ghost use Rattle.cell_draw.specs.Frame.{IsTooTall, frame_of};
 ghost use Rattle.cell_draw.specs.Layouts.{width_of};
-ghost use Rattle.cell_draw.specs.Shown.{ShowsRow, ShowsRouting};
+ghost use Rattle.cell_draw.specs.Shown.{ShowsColumns, ShowsRouting};
 ghost use Rattle.cell_draw.specs.Small.{IsSmall, IsSmallFrame, HasWidths};
 ghost use Rattle.cell_draw.specs.Sound.{IsSoundRow, AreLines};
 
@@ -142,9 +141,9 @@ pub fn draw(
     ensures few { IfOk result (λ d. length d.shapes.rects < MOST_SHAPES) }
     ensures within { IfOk result (λ d. AreWithin d.shapes) }
     ensures named { IfOk result (λ d. All (λ (l : SomeLabel). Contains names.now l.name) d.shapes.labels) }
-    ensures extracts { IfOk result (λ d. ArePins (length names.now) pins.now → ExtractsToRow names.now pins.now placement.now.row d.shapes) }
-    ensures shows { IfOk result (λ d. ArePins (length names.now) pins.now → ShowsRow names.now placement.now.row d.shapes) }
-    ensures routed { IfOk result (λ d. ShowsRouting names.now pins.now placement.now (channel_edge placement.now.row) d.shapes routing.now) }
+    ensures extracts { IfOk result (λ d. ExtractsToRow names.now pins.now placement.now.row d.shapes) }
+    ensures shows { IfOk result (λ d. ShowsColumns names.now pins.now placement.now.row d.shapes) }
+    ensures routed { IfOk result (λ d. ShowsRouting names.now pins.now placement.now d.shapes routing.now) }
     ensures fits { IfOk result (λ d. IsTooTall placement.now.row routing.now.tracks height → ⊥) }
     ensures tall { SaysTooTall placement.now.row routing.now.tracks height result }
     ensures cause { IfErr result (IsCause placement.now.row routing.now.tracks height) }

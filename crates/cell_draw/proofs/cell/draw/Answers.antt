@@ -15,10 +15,10 @@ pub returns-in-Ok-clause-named : goal.returns-in-Ok-clause-named
 returns-in-Ok-clause-named c = drawing_named c.in-Ok.drawing.shapes.labels c.args.names.now c.args.pins.now c.args.placement.now c.args.routing.now c.args.xs.now c.args.height (ap (λ (d : Drawing). d.shapes.labels) c.in-Ok.ensures.exact)
 
 pub returns-in-Ok-clause-extracts : goal.returns-in-Ok-clause-extracts
-returns-in-Ok-clause-extracts c = λ are. drawn_extracts c.in-Ok.drawing c.args.names.now c.args.pins.now c.args.placement.now c.args.routing.now c.args.xs.now c.args.height c.in-Ok.ensures.exact c.requires.placement c.requires.row c.requires.routing c.requires.lines are
+returns-in-Ok-clause-extracts c = drawn_extracts c.in-Ok.drawing c.args.names.now c.args.pins.now c.args.placement.now c.args.routing.now c.args.xs.now c.args.height c.in-Ok.ensures.exact c.requires.placement c.requires.row c.requires.routing c.requires.lines
 
 pub returns-in-Ok-clause-shows : goal.returns-in-Ok-clause-shows
-returns-in-Ok-clause-shows c = λ are. drawn_shows c.in-Ok.drawing c.args.names.now c.args.pins.now c.args.placement.now c.args.routing.now c.args.xs.now c.args.height c.in-Ok.ensures.exact c.requires.placement c.requires.row c.requires.routing c.requires.lines are
+returns-in-Ok-clause-shows c = drawn_shows c.in-Ok.drawing c.args.names.now c.args.pins.now c.args.placement.now c.args.routing.now c.args.xs.now c.args.height c.in-Ok.ensures.exact c.requires.placement c.requires.row c.requires.routing c.requires.lines
 
 pub returns-in-Ok-clause-routed : goal.returns-in-Ok-clause-routed
 returns-in-Ok-clause-routed c = drawn_routing c.in-Ok.drawing c.args.names.now c.args.pins.now c.args.placement.now c.args.routing.now c.args.xs.now c.args.height c.in-Ok.ensures.exact c.requires.placement c.requires.row c.requires.routing c.requires.lines
