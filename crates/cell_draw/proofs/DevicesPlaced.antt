@@ -1,5 +1,5 @@
 -- Each device of a drawn row is that of a finger.
-use Rattle.std.proofs.Common.{ℕ, ◌≡◌, ◌+◌, ◌*◌, ◌<◌, ◌≤◌, ℤ, pos, ◌≤ℤ◌, ◌<ℤ◌, ◌-ℤ◌, List, Option, Some, None, inl, inr, refl, sym, ap, subst, ◌∙◌, arith, Contains, length, slice_get, ◌↔◌}
+use Rattle.std.proofs.Common.{ℕ, ◌≡◌, ◌+◌, ◌*◌, ◌≤◌, ℤ, pos, ◌≤ℤ◌, ◌-ℤ◌, List, inl, inr, refl, sym, ap, subst, ◌∙◌, arith, Contains, length, slice_get}
 use Rattle.std.proofs.lemmas.Int.{ints}
 use Rattle.std.proofs.lemmas.Bool.{cases_lt}
 use Rattle.cell_num.specs.declared.net.Pins.{Pins}
@@ -7,8 +7,6 @@ use Rattle.cell_num.specs.declared.finger.Row.{Row}
 use Rattle.cell_num.specs.declared.finger.Row.TheVariants.{P, N}
 use Rattle.cell_num.proofs.Lists.{some_same}
 use Rattle.row_model.specs.declared.column.Placed.{Placed}
-use Rattle.row_model.specs.declared.column.Column.{Column}
-use Rattle.row_model.specs.Arrangement.{place}
 use Rattle.row_place.specs.declared.placement.Placement.{Placement}
 use Rattle.row_place.specs.declared.placement.Seat.{Seat}
 use Rattle.row_place.specs.Places.{IsPlacement}
@@ -25,8 +23,9 @@ use Rattle.cell_draw.specs.Sound.{AreLines}
 use Rattle.cell_draw.proofs.BridgeFrom.{StripFrom, strip_from}
 use Rattle.cell_draw.proofs.BridgeLines.{same_line, units_rise}
 use Rattle.cell_draw.proofs.BridgePlaces.{unit_last, same_strip}
-use Rattle.cell_draw.proofs.Devices.{box_of, InBox, in_box, gate_box, device}
-use Rattle.cell_draw.proofs.Extracts.{IsSeated, seated}
+use Rattle.cell_draw.proofs.DeviceBoxes.{box_of, InBox, in_box, gate_box}
+use Rattle.cell_draw.proofs.Devices.{device}
+use Rattle.cell_draw.proofs.FingersPlaced.{IsSeated, seated}
 use Rattle.cell_draw.proofs.LabelsPlaced.{IsWired, layout}
 use Rattle.cell_draw.proofs.NamesPlaced.{shapes}
 use Rattle.cell_draw.proofs.NetsPlaces.{strip_with}

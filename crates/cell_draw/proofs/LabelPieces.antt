@@ -1,57 +1,34 @@
 -- Labels belong to pieces of their nets.
-use Rattle.std.proofs.Common.{ℕ, ◌≡◌, ◌≢◌, ◌+◌, ◌*◌, ◌-◌, ◌<◌, ◌≤◌, ◌==◌, ◌&&◌, Bool, true, false, ℤ, pos, ◌≤ℤ◌, ◌<ℤ◌, ◌+ℤ◌, ◌-ℤ◌, List, [], ◌∷◌, Option, Some, None, inl, inr, ◌⊎◌, refl, sym, ap, subst, ◌∙◌, arith, Contains, find, length, if◌then◌else◌, option_map}
+use Rattle.std.proofs.Common.{ℕ, ◌≡◌, ◌+◌, ◌-◌, ◌≤◌, ◌==◌, ◌&&◌, Bool, ℤ, pos, ◌-ℤ◌, List, inl, inr, refl, sym, ap, subst, ◌∙◌, arith, Contains, if◌then◌else◌}
 use Rattle.std.proofs.lemmas.Int.{ints}
-use Rattle.std.proofs.lemmas.Bool.{eq-eqb, eqb-true, and_parts, and_from}
 use Rattle.cell_num.specs.declared.net.NetNo.{NetNo}
-use Rattle.cell_num.specs.declared.net.Pins.{Pins}
 use Rattle.cell_num.specs.declared.finger.Row.{Row}
 use Rattle.cell_num.specs.declared.finger.Row.TheVariants.{P, N}
 use Rattle.cell_num.specs.Tests.{same_row}
-use Rattle.cell_num.proofs.Decide.{row_decides}
-use Rattle.cell_num.proofs.In.{contains_map}
-use Rattle.cell_num.proofs.Lists.{all_from_contains}
-use Rattle.row_place.specs.declared.placement.NodePlace.{NodePlace}
-use Rattle.row_place.specs.declared.placement.Placement.{Placement}
-use Rattle.row_place.specs.Places.{IsNode, IsPlacement}
-use Rattle.row_place.specs.Units.{seats_of, unit_of}
-use Rattle.channel_route.specs.declared.routing.Trunk.{Trunk}
-use Rattle.channel_route.specs.declared.routing.Routing.{Routing}
-use Rattle.row_compact.specs.Solution.{x_of}
-use Rattle.box_geom.specs.Rectangle.{Rectangle, Holds}
+use Rattle.box_geom.specs.Rectangle.{Holds}
 use Rattle.box_geom.specs.Touching.{Cell}
 use Rattle.box_geom.specs.declared.layer.Layer.{Layer}
 use Rattle.box_geom.specs.declared.layer.Layer.TheVariants.{Active, Poly, Metal1}
-use Rattle.box_geom.specs.declared.shape.Shape.{Shape}
 use Rattle.box_geom.specs.declared.shape.Label.{Label}
 use Rattle.scmos_rules.specs.Layout.{On}
 use Rattle.net_extract.specs.Nets.{Kind, p_diffusion, n_diffusion, poly, metal1, metal2, layer_of, Site, site_at, Conducts}
 use Rattle.net_extract.specs.Devices.{diffusion_of}
-use Rattle.net_extract.specs.Labels.{IsConductorAt, IsFirstConductor, cells_round, Belongs}
+use Rattle.net_extract.specs.Labels.{IsConductorAt, Belongs}
 use Rattle.net_extract.specs.Parts.{IsIn}
 use Rattle.cell_draw.specs.declared.layout.Frame.{Frame}
 use Rattle.cell_draw.specs.declared.layout.Strip.{Strip}
 use Rattle.cell_draw.specs.declared.layout.Contact.{Contact}
-use Rattle.cell_draw.specs.declared.layout.Gate.{Gate}
-use Rattle.cell_draw.specs.declared.layout.Tag.{Tag}
 use Rattle.cell_draw.specs.declared.layout.Layout.{Layout}
-use Rattle.cell_draw.specs.Drawings.{label_of}
-use Rattle.cell_draw.specs.Frame.{track_y}
-use Rattle.cell_draw.specs.Laid.{IsFrame, IsStrip, MeetsEnd, IsLaid}
-use Rattle.cell_draw.specs.Layouts.{is_p, node_tag, gate_y, gate_tag, metal_tag, bar_of as bar_from, trunk_of, gates_on, laid_out}
+use Rattle.cell_draw.specs.Laid.{IsFrame, IsLaid}
+use Rattle.cell_draw.specs.Layouts.{is_p}
 use Rattle.cell_draw.specs.Shapes.{shapes_of}
-use Rattle.cell_draw.proofs.Found.{found_all, found_is}
 use Rattle.cell_draw.proofs.NetsApart.{part_of}
-use Rattle.cell_draw.proofs.NetsBridge.{HasNets}
 use Rattle.cell_draw.proofs.NetsDrawn.{conducts}
-use Rattle.cell_draw.proofs.NetsFacts.{End, left_end, right_end, end_x, IsOver, IsNetted}
-use Rattle.cell_draw.proofs.NetsWires.{Wire, metal, gate, half, kind_of, rect_of, net_of, half_in, IsWire}
+use Rattle.cell_draw.proofs.NetsFacts.{left_end, right_end, IsNetted}
+use Rattle.cell_draw.proofs.NetsWires.{Wire, kind_of, rect_of, net_of, half_in, IsWire}
 use Rattle.cell_draw.proofs.RulesActive.{Area, finger_of, IsArea, area_rect, finger_in, pad_in, strip_is}
 use Rattle.cell_draw.proofs.RulesActive as area
 use Rattle.cell_draw.proofs.RulesCovers.{area_held}
-use Rattle.cell_draw.proofs.RulesMetal1.{gnd, vdd, bar_of}
-use Rattle.cell_draw.proofs.RulesPlaces.{TwoStrips, one_strip, after, before, n_under_p, p_over_n, two_strips}
-use Rattle.cell_draw.proofs.RulesPoly.{strip_of, strip_at}
-use Rattle.cell_draw.proofs.Tags.{TagFrom, on_gnd, on_vdd, on_trunk, at_node, at_gate}
 
 -- a label with the layer and the place, whatever its name
 abbrev label_at : Layer → ℕ → ℕ → List ℕ → Label

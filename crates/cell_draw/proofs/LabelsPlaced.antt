@@ -1,8 +1,7 @@
 -- The label of each net of a routed row belongs to a piece of that net.
-use Rattle.std.proofs.Common.{ℕ, ◌≡◌, ◌+◌, ◌*◌, ◌-◌, ◌<◌, ◌≤◌, ◌==◌, ◌&&◌, Bool, true, false, ℤ, pos, ◌+ℤ◌, ◌-ℤ◌, List, [], ◌∷◌, Option, Some, None, inl, inr, ◌⊎◌, refl, sym, ap, subst, ◌∙◌, arith, Contains, find, length, get_or, if◌then◌else◌, option_map}
+use Rattle.std.proofs.Common.{ℕ, ◌≡◌, ◌+◌, ◌≤◌, ◌==◌, pos, ◌-ℤ◌, List, [], Option, Some, None, inl, inr, refl, sym, ap, subst, ◌∙◌, arith, Contains, find, length, get_or, option_map}
 use Rattle.std.proofs.lemmas.Int.{ints}
 use Rattle.std.proofs.lemmas.Bool.{eq-eqb, eqb-true, and_parts, and_from}
-use Rattle.std.proofs.lemmas.List.Elements.{All-contains}
 use Rattle.cell_num.specs.declared.net.NetNo.{NetNo}
 use Rattle.cell_num.specs.declared.net.Pins.{Pins}
 use Rattle.cell_num.specs.declared.finger.Row.{Row}
@@ -32,7 +31,7 @@ use Rattle.cell_draw.specs.Shapes.{gnd_rail, vdd_rail, shapes_of}
 use Rattle.scmos_rules.specs.Layout.{On}
 use Rattle.cell_draw.specs.Drawings.{label_of}
 use Rattle.cell_draw.specs.Frame.{track_y}
-use Rattle.cell_draw.specs.Laid.{IsFrame, HasFinger, IsGate, rail_in, IsLaid}
+use Rattle.cell_draw.specs.Laid.{IsFrame, HasFinger, rail_in, IsLaid}
 use Rattle.cell_draw.specs.Layouts.{gate_y, reach_of, bar_of as bar_from, trunk_of, gates_on, laid_out}
 use Rattle.cell_draw.proofs.BridgeFrom.{IsDrawn, GateFrom, gate_from, trunk_from}
 use Rattle.cell_draw.proofs.BridgeTracks.{none_found}

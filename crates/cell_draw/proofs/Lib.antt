@@ -9,11 +9,13 @@ mod BridgeRouted
 mod BridgeRow
 mod BridgeTracks
 mod BridgeWhole
+mod DeviceBoxes
 mod Devices
 mod DevicesPlaced
 mod DrawnNets
 mod Draws
 mod Extracts
+mod FingersPlaced
 mod Found
 mod Inverter
 mod LabelPieces
@@ -24,7 +26,11 @@ mod NetsApart
 mod NetsBridge
 mod NetsDrawn
 mod NetsFacts
+mod NetsHalves
 mod NetsJoined
+mod NetsKinds
+mod NetsLinks
+mod NetsLow
 mod NetsPlaces
 mod NetsRouted
 mod NetsWhole
@@ -49,3 +55,4 @@ mod ShownTracks
 mod Sizes
 mod Smalls
 mod Tags
+mod TagsFound

@@ -1,5 +1,5 @@
 -- A label belongs to one conductor cell.
-use Rattle.std.proofs.Common.{◌≡◌, ℤ, List, [], ◌∷◌, inl, inr, ◌⊎◌, refl, sym, ap, subst, ◌∙◌}
+use Rattle.std.proofs.Common.{◌≡◌, ℤ, List, [], ◌∷◌, inl, inr, refl, sym, subst, ◌∙◌}
 use Rattle.box_geom.specs.Touching.{Cell}
 use Rattle.box_geom.specs.declared.layer.Layer.{Layer}
 use Rattle.box_geom.specs.declared.shape.Shape.{Shape}

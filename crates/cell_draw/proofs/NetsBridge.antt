@@ -1,16 +1,14 @@
 -- The layout of a routed row has the nets of its placement.
-use Rattle.std.proofs.Common.{ℕ, ◌≡◌, ◌≢◌, ◌+◌, ◌*◌, ◌<◌, ◌≤◌, Bool, true, false, List, Option, Some, None, inl, inr, ◌⊎◌, refl, sym, ap, subst, ◌∙◌, arith, length, map, All, Contains, option_map, slice_get}
+use Rattle.std.proofs.Common.{ℕ, ◌≡◌, ◌≢◌, ◌+◌, ◌*◌, Bool, true, false, List, Option, Some, None, inl, inr, ◌⊎◌, refl, sym, ap, subst, ◌∙◌, arith, Contains, option_map}
 use Rattle.std.proofs.lemmas.List.Elements.{All-contains}
 use Rattle.cell_num.specs.declared.net.NetNo.{NetNo}
 use Rattle.cell_num.specs.declared.net.Pins.{Pins}
 use Rattle.cell_num.specs.declared.finger.Row.{Row}
-use Rattle.cell_num.specs.declared.finger.Row.TheVariants.{P, N}
 use Rattle.cell_num.specs.declared.finger.Finger.{Finger}
 use Rattle.cell_num.specs.Pins.{IsRail}
 use Rattle.cell_num.proofs.Lists.{some_same, contains_get, contains_filter_map}
 use Rattle.row_model.specs.declared.column.Placed.{Placed}
 use Rattle.row_model.specs.declared.column.Column.{Column}
-use Rattle.row_model.specs.Arrangement.{place}
 use Rattle.row_model.specs.Gaps.{left_net, right_net}
 use Rattle.row_place.specs.declared.placement.NodePlace.{NodePlace}
 use Rattle.row_place.specs.declared.placement.GatePlace.{GatePlace}
@@ -28,18 +26,16 @@ use Rattle.cell_draw.specs.declared.layout.Frame.{Frame}
 use Rattle.cell_draw.specs.declared.layout.Strip.{Strip}
 use Rattle.cell_draw.specs.declared.layout.Contact.{Contact}
 use Rattle.cell_draw.specs.declared.layout.Gate.{Gate}
-use Rattle.cell_draw.specs.declared.layout.Bar.{Bar}
 use Rattle.cell_draw.specs.declared.layout.Layout.{Layout}
 use Rattle.cell_draw.specs.Frame.{track_y}
 use Rattle.cell_draw.specs.Laid.{width_in}
 use Rattle.cell_draw.specs.Layouts.{trunk_of, reach_of, contact_with, contact_of, gates_on, laid_out}
 use Rattle.cell_draw.specs.Sound.{IsSoundRow, AreLines}
-use Rattle.cell_draw.proofs.BridgeBars.{no_rail}
 use Rattle.cell_draw.proofs.BridgeFrom.{StripFrom, strip_from, ContactFrom, contact_from, GateFrom, gate_from, IsDrawn}
 use Rattle.cell_draw.proofs.BridgeGates.{gate_spread}
 use Rattle.cell_draw.proofs.BridgeRow.{p_finger, n_finger}
 use Rattle.cell_draw.proofs.BridgeWhole.{lines_of_allowed}
-use Rattle.cell_draw.proofs.NetsFacts.{End, left_end, right_end, end_x, IsOver, Reaches, HasContact, IsLone, IsLoneGate, HasStrip, IsNetted}
+use Rattle.cell_draw.proofs.NetsFacts.{End, left_end, right_end, end_x, HasContact, IsLone, IsLoneGate, HasStrip, IsNetted}
 use Rattle.cell_draw.proofs.NetsPlaces.{net_at, net_at_node, gate_over, strip_gate, only_gate, gate_strip}
 use Rattle.cell_draw.proofs.NetsRouted.{signal_meets, IsBare, one_node_alone, one_gate_alone, node_or_gate, no_bar, bar_signal, bar_alone}
 

@@ -1,12 +1,12 @@
 -- The conductor cells of a drawing are the cells of its pieces.
-use Rattle.std.proofs.Common.{◌≡◌, ℕ, ◌+◌, ◌≤◌, ℤ, pos, ◌≤ℤ◌, ◌<ℤ◌, ◌+ℤ◌, ◌-ℤ◌, arith, inl, inr, ◌⊎◌, refl, sym, ap, subst}
+use Rattle.std.proofs.Common.{◌≡◌, ℕ, ◌+◌, ◌≤◌, ℤ, pos, ◌≤ℤ◌, ◌<ℤ◌, ◌+ℤ◌, ◌-ℤ◌, arith, inl, inr, refl, sym, ap, subst}
 use Rattle.std.specs.List.{All, Contains}
 use Rattle.std.proofs.lemmas.Int.{ints, by_lt_z}
 use Rattle.cell_num.specs.declared.finger.Row.{Row}
 use Rattle.cell_num.specs.declared.finger.Row.TheVariants.{P, N}
 use Rattle.cell_num.proofs.Lists.{all_from_contains}
 use Rattle.box_geom.specs.Rectangle.{Rectangle, IsProper, Holds, Covers}
-use Rattle.box_geom.specs.declared.layer.Layer.TheVariants.{Well, Active, Poly}
+use Rattle.box_geom.specs.declared.layer.Layer.TheVariants.{Poly}
 use Rattle.scmos_rules.specs.Layout.{On, Diffusion}
 use Rattle.scmos_rules.specs.Conditions.{IsWide}
 use Rattle.net_extract.specs.Nets.{Kind, p_diffusion, n_diffusion, poly, metal1, metal2, Are}
@@ -18,7 +18,7 @@ use Rattle.cell_draw.specs.declared.layout.Contact.{Contact}
 use Rattle.cell_draw.specs.declared.layout.Gate.{Gate}
 use Rattle.cell_draw.specs.declared.layout.Layout.{Layout}
 use Rattle.cell_draw.specs.Shapes.{shapes_of}
-use Rattle.cell_draw.specs.Laid.{IsFrame, IsInside, IsStrip, row_height, AreFar, Crosses, IsLaid}
+use Rattle.cell_draw.specs.Laid.{IsFrame, IsInside, IsStrip, row_height, Crosses, IsLaid}
 use Rattle.cell_draw.proofs.NetsFacts.{End, left_end, right_end, IsOver, IsNetted}
 use Rattle.cell_draw.proofs.NetsWires.{Wire, metal, branch, gate, half, pad, half_in, half_rect, pad_rect, kind_of, rect_of, IsWire, parts, WireFrom, wire_from, wire_listed}
 use Rattle.cell_draw.proofs.RulesActive.{Area, finger_of, finger_in, pad_in, IsArea, area_rect, strip_is}
@@ -28,7 +28,7 @@ use Rattle.cell_draw.proofs.RulesGates.{GateEnds, gate_ends, AtCrossing, crossin
 use Rattle.cell_draw.proofs.RulesMetal1.{metal_rect, metal_wide}
 use Rattle.cell_draw.proofs.RulesMetal2.{branch_rect, branch_wide}
 use Rattle.cell_draw.proofs.RulesRows.{InN, InP, inside_of}
-use Rattle.cell_draw.proofs.RulesPoly.{Piece, strip_of, piece_rect, piece_wide, pad_in as pad_inside}
+use Rattle.cell_draw.proofs.RulesPoly.{strip_of, piece_rect, piece_wide, pad_in as pad_inside}
 
 -- a cell of the row
 abbrev InSide : Frame → Row → ℤ → ℤ → Type 0

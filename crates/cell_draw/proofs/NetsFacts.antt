@@ -1,5 +1,5 @@
 -- What a layout must meet so that each net of its drawing is one of its nets: facts on numbers alone.
-use Rattle.std.proofs.Common.{◌≡◌, ◌≢◌, ℕ, ◌+◌, ◌≤◌, Option, Some, None, ◌⊎◌}
+use Rattle.std.proofs.Common.{◌≡◌, ◌≢◌, ℕ, ◌+◌, ◌≤◌, Some, None, ◌⊎◌}
 use Rattle.std.specs.List.{Contains}
 use Rattle.cell_num.specs.declared.net.NetNo.{NetNo}
 use Rattle.cell_num.specs.declared.finger.Row.{Row}

@@ -1,10 +1,10 @@
 -- Pieces of one net are chained: each leads to the rail or the bar of its net, or to its only place.
-use Rattle.std.proofs.Common.{◌≡◌, ℕ, ◌+◌, ◌≤◌, ℤ, pos, ◌+ℤ◌, ◌-ℤ◌, Option, Some, None, arith, inl, inr, ◌⊎◌, refl, sym, ap, subst, ◌∙◌}
+use Rattle.std.proofs.Common.{◌≡◌, ℕ, ◌+◌, ◌≤◌, ℤ, pos, ◌+ℤ◌, ◌-ℤ◌, Option, Some, None, arith, inl, inr, ◌⊎◌, refl, sym, ap, subst}
 use Rattle.std.specs.List.{Contains, flat_map}
 use Rattle.std.proofs.lemmas.Int.{ints}
 use Rattle.cell_num.specs.declared.finger.Row.{Row}
 use Rattle.cell_num.specs.declared.finger.Row.TheVariants.{P, N}
-use Rattle.box_geom.specs.Rectangle.{Rectangle, Holds}
+use Rattle.box_geom.specs.Rectangle.{Holds}
 use Rattle.box_geom.specs.Touching.{Edge, to_right, to_left, upward, downward}
 use Rattle.box_geom.specs.Chains.{Chain}
 use Rattle.box_geom.specs.Layers.{rects_on}
@@ -23,7 +23,8 @@ use Rattle.cell_draw.specs.declared.layout.Bar.{Bar}
 use Rattle.cell_draw.specs.declared.layout.Layout.{Layout}
 use Rattle.cell_draw.specs.Shapes.{strap, landing, centre, reach_shapes, pad_shapes, via_shapes, shapes_of}
 use Rattle.cell_draw.specs.Laid.{IsFrame, IsInside, HasFinger, IsOnBar, IsMet, IsLaid}
-use Rattle.cell_draw.proofs.NetsApart.{part_of, lower_row, strap_over, pad_around, landing_strap, landing_branch, branch_meets}
+use Rattle.cell_draw.proofs.NetsApart.{part_of}
+use Rattle.cell_draw.proofs.NetsLinks.{lower_row, strap_over, pad_around, landing_strap, landing_branch, branch_meets}
 use Rattle.cell_draw.proofs.NetsFacts.{End, left_end, right_end, end_x, IsOver, Reaches, HasContact, IsNetted}
 use Rattle.cell_draw.proofs.NetsWires.{Wire, metal, branch, gate, half, pad, half_in, kind_of, rect_of, IsWire, parts, wire_listed}
 use Rattle.cell_draw.proofs.RulesActive.{pad_in, strip_is}

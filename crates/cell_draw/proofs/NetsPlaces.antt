@@ -1,7 +1,7 @@
 -- The nets at the lines of a routed row, and the gates over its fingers.
-use Rattle.std.proofs.Common.{ℕ, ◌≡◌, ◌+◌, ◌*◌, ◌<◌, ◌≤◌, ◌==◌, ◌&&◌, leb, Bool, true, false, List, [], ◌∷◌, Option, Some, None, inl, inr, ◌⊎◌, refl, sym, ap, subst, ◌∙◌, arith, find, length, All, Contains, filter_map, flat_map, option_map, slice_get}
-use Rattle.std.proofs.lemmas.Bool.{cases_lt, cases_eq, eq-eqb, eqb-true, leb-true, le-leb, and_parts, and_from}
-use Rattle.std.proofs.lemmas.List.Elements.{All-contains, Contains-append_left, Contains-append_right}
+use Rattle.std.proofs.Common.{ℕ, ◌≡◌, ◌+◌, ◌*◌, ◌<◌, ◌≤◌, ◌==◌, ◌&&◌, leb, Bool, true, List, [], Option, Some, None, inl, inr, refl, sym, ap, subst, ◌∙◌, arith, find, length, Contains, flat_map, option_map, slice_get}
+use Rattle.std.proofs.lemmas.Bool.{cases_lt, eq-eqb, eqb-true, leb-true, le-leb, and_parts, and_from}
+use Rattle.std.proofs.lemmas.List.Elements.{Contains-append_left, Contains-append_right}
 use Rattle.cell_num.specs.declared.net.NetNo.{NetNo}
 use Rattle.cell_num.specs.declared.finger.Row.{Row}
 use Rattle.cell_num.specs.declared.finger.Row.TheVariants.{P, N}
@@ -28,7 +28,7 @@ use Rattle.cell_draw.specs.declared.layout.Frame.{Frame}
 use Rattle.cell_draw.specs.declared.layout.Strip.{Strip}
 use Rattle.cell_draw.specs.declared.layout.Gate.{Gate}
 use Rattle.cell_draw.specs.Laid.{width_in}
-use Rattle.cell_draw.specs.Layouts.{strip_of, strips_at, finger_width, gate_with, gate_at, gates_on, reach_of, net_no}
+use Rattle.cell_draw.specs.Layouts.{strip_of, strips_at, finger_width, gate_with, gate_at, gates_on, net_no}
 use Rattle.cell_draw.specs.Sound.{AreLines}
 use Rattle.cell_draw.proofs.BridgeFrom.{StripFrom, GateFrom, gate_from}
 use Rattle.cell_draw.proofs.BridgeLines.{behind, same_line, units_rise}

@@ -1,12 +1,10 @@
 -- What the routing gives of the nets of a layout: signals meet their bars, and a net without a trunk has one place.
-use Rattle.std.proofs.Common.{ℕ, ◌≡◌, ◌≢◌, ◌+◌, ◌*◌, ◌<◌, ◌≤◌, ◌==◌, ◌&&◌, ◌++◌, not, Bool, true, false, if◌then◌else◌, List, [], ◌∷◌, Option, Some, None, inl, inr, ◌⊎◌, refl, sym, ap, subst, ◌∙◌, arith, find, filter, length, map, All, Any, Contains, option_map}
+use Rattle.std.proofs.Common.{ℕ, ◌≡◌, ◌≢◌, ◌+◌, ◌≤◌, ◌==◌, ◌&&◌, not, Bool, true, false, List, [], ◌∷◌, Some, None, inl, inr, refl, sym, ap, subst, ◌∙◌, arith, filter, length, map, Contains}
 use Rattle.std.specs.List.{list_any}
-use Rattle.std.proofs.lemmas.Bool.{cases_Bool, cases_lt, eq-eqb, eqb-true, and_parts, and_from}
+use Rattle.std.proofs.lemmas.Bool.{cases_Bool, cases_lt, eqb-true, and_parts, and_from}
 use Rattle.std.proofs.lemmas.List.{length-append, length-map}
 use Rattle.cell_num.specs.declared.net.NetNo.{NetNo}
 use Rattle.cell_num.specs.declared.net.Pins.{Pins}
-use Rattle.cell_num.specs.declared.finger.Row.{Row}
-use Rattle.cell_num.specs.declared.finger.Row.TheVariants.{P, N}
 use Rattle.cell_num.specs.Pins.{IsRail}
 use Rattle.cell_num.proofs.In.{Image, in_map, contains_map}
 use Rattle.cell_num.proofs.Lists.{contains_none, contains_one}
@@ -15,7 +13,7 @@ use Rattle.row_model.proofs.Decide.{net_decides}
 use Rattle.row_place.specs.declared.placement.NodePlace.{NodePlace}
 use Rattle.row_place.specs.declared.placement.GatePlace.{GatePlace}
 use Rattle.row_place.specs.declared.placement.Placement.{Placement}
-use Rattle.row_place.specs.Trunks.{lines_of, HasTrunk}
+use Rattle.row_place.specs.Trunks.{lines_of}
 use Rattle.channel_route.specs.declared.routing.Trunk.{Trunk}
 use Rattle.channel_route.specs.declared.routing.Routing.{Routing}
 use Rattle.channel_route.specs.Routing.{IsLegal}
@@ -23,7 +21,6 @@ use Rattle.row_compact.specs.Solution.{x_of}
 use Rattle.cell_draw.specs.declared.layout.Frame.{Frame}
 use Rattle.cell_draw.specs.declared.layout.Contact.{Contact}
 use Rattle.cell_draw.specs.declared.layout.Bar.{Bar}
-use Rattle.cell_draw.specs.Frame.{track_y}
 use Rattle.cell_draw.specs.Laid.{GoesTo}
 use Rattle.cell_draw.specs.Layouts.{is_p, is_over, has_own_via, vias_of, bar_of, trunk_of, laid_out}
 use Rattle.cell_draw.proofs.BridgeBars.{passes, goes_to}

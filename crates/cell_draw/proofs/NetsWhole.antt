@@ -1,10 +1,8 @@
 -- Two conductor cells of a drawing are in one net exactly where their pieces are of one net.
 use Rattle.std.proofs.Common.{◌≡◌, ◌↔◌, ℕ, Option, Some, None, arith, inl, inr, ◌⊎◌, refl, sym, ap, subst, ◌∙◌}
 use Rattle.std.specs.List.{Contains}
-use Rattle.cell_num.specs.declared.net.NetNo.{NetNo}
 use Rattle.cell_num.specs.declared.finger.Row.{Row}
 use Rattle.cell_num.specs.declared.finger.Row.TheVariants.{P, N}
-use Rattle.box_geom.specs.Chains.{Chain}
 use Rattle.box_geom.specs.Rectangle.{Holds}
 use Rattle.scmos_rules.proofs.Chains.{none}
 use Rattle.net_extract.specs.Nets.{Site, SameNet, Conducts}
@@ -19,13 +17,13 @@ use Rattle.cell_draw.specs.Shapes.{shapes_of}
 use Rattle.cell_draw.specs.Laid.{Follows, IsStrip, IsOnBar, rail_in, IsLaid}
 use Rattle.cell_draw.proofs.NetsApart.{part_of, chained_net}
 use Rattle.cell_draw.proofs.NetsDrawn.{are_drawn}
-use Rattle.cell_draw.proofs.NetsFacts.{End, left_end, right_end, end_x, Reaches, HasContact, IsLone, IsLoneGate, IsNetted}
+use Rattle.cell_draw.proofs.NetsFacts.{End, left_end, right_end, end_x, Reaches, HasContact, IsLone, IsNetted}
 use Rattle.cell_draw.proofs.NetsJoined.{Together, together, back, pad_strap, strap_branch, branch_bar, strip_pad, pad_bar, gnd_strap, vdd_strap, half_pad, next_halves}
-use Rattle.cell_draw.proofs.NetsWires.{Wire, metal, branch, gate, half, pad, kind_of, rect_of, net_of, IsWire, parts, WireFrom, wire_from, wire_listed}
+use Rattle.cell_draw.proofs.NetsWires.{Wire, metal, branch, gate, half, pad, net_of, IsWire, parts, WireFrom, wire_from, wire_listed}
 use Rattle.cell_draw.proofs.RulesActive.{strip_is}
-use Rattle.cell_draw.proofs.RulesMetal1.{Metal, gnd, vdd, strap_of, bar_of}
+use Rattle.cell_draw.proofs.RulesMetal1.{gnd, vdd, strap_of, bar_of}
 use Rattle.cell_draw.proofs.RulesMetal2.{Signal, IsSignal}
-use Rattle.cell_draw.proofs.RulesPoly.{Piece, strip_of, pad_of, IsPad}
+use Rattle.cell_draw.proofs.RulesPoly.{strip_of, pad_of, IsPad}
 
 -- where the pieces of a net come together: on its rail or its bar, or at its only place
 data Hub : Type 0 where

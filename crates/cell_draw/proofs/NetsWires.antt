@@ -1,5 +1,5 @@
 -- The pieces of conductor of a layout as rectangles, each with its kind and its net.
-use Rattle.std.proofs.Common.{◌≡◌, ℕ, pos, ◌+ℤ◌, ◌-ℤ◌, List, [], ◌∷◌, ◌++◌, Option, Some, inl, inr, ◌⊎◌, refl, sym, subst}
+use Rattle.std.proofs.Common.{◌≡◌, ℕ, pos, ◌+ℤ◌, ◌-ℤ◌, List, [], ◌∷◌, ◌++◌, inl, inr, refl, sym, subst}
 use Rattle.std.specs.List.{Contains, flat_map}
 use Rattle.std.proofs.lemmas.List.Elements.{Contains-append_cases, Contains-append_left, Contains-append_right}
 use Rattle.cell_num.specs.declared.net.NetNo.{NetNo}
@@ -21,7 +21,6 @@ use Rattle.cell_draw.proofs.RulesActive.{pad_in}
 use Rattle.cell_draw.proofs.RulesLayers.{of_frame, of_contact, of_gate, of_bar, drawn}
 use Rattle.cell_draw.proofs.RulesMetal1.{Metal, gnd, vdd, strap_of, bar_of, metal_rect, metal_net, IsMetal, on_metal1}
 use Rattle.cell_draw.proofs.RulesMetal2.{Signal, IsSignal, branch_rect, on_metal2}
-use Rattle.cell_draw.proofs.RulesPieces.{Origin}
 use Rattle.cell_draw.proofs.RulesPoly.{Piece, strip_of, pad_of, piece_gate, piece_rect, IsPiece, on_poly}
 
 -- the part of a finger that lies to one side of the gate at x

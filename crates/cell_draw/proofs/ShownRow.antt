@@ -1,5 +1,5 @@
 -- A drawn row shows its columns.
-use Rattle.std.proofs.Common.{ℕ, zero, suc, ◌≡◌, ◌+◌, ◌*◌, ◌<◌, ◌≤◌, ℤ, pos, ◌≤ℤ◌, ◌<ℤ◌, ◌+ℤ◌, ◌-ℤ◌, Bool, true, false, List, [], ◌∷◌, Option, Some, None, inl, inr, ◌⊎◌, refl, sym, ap, subst, ◌∙◌, arith, All, AllPairs, Any, Contains, length, map, slice_get}
+use Rattle.std.proofs.Common.{ℕ, zero, suc, ◌≡◌, ◌+◌, ◌*◌, ◌<◌, ◌≤◌, ℤ, pos, ◌≤ℤ◌, ◌<ℤ◌, ◌+ℤ◌, ◌-ℤ◌, false, List, [], ◌∷◌, Option, Some, None, inl, inr, ◌⊎◌, refl, sym, ap, subst, ◌∙◌, arith, Any, Contains, length, map, slice_get}
 use Rattle.std.specs.List.{AllZip}
 use Rattle.std.proofs.lemmas.Int.{ints, by_lt_z}
 use Rattle.cell_num.specs.declared.net.Pins.{Pins}
@@ -27,14 +27,16 @@ use Rattle.net_extract.specs.Devices.{IsSomeDevice}
 use Rattle.cell_draw.specs.declared.layout.Frame.{Frame}
 use Rattle.cell_draw.specs.declared.layout.Strip.{Strip}
 use Rattle.cell_draw.specs.Shapes.{shapes_of}
-use Rattle.cell_draw.specs.Shown.{Span, IsIn, IsInRow, IsPlacedAt, IsOneIn, IsPlace, IsShownColumn, IsJoined, AreNeighbours, ShowsRow}
+use Rattle.cell_draw.specs.Shown.{Span, IsIn, IsInRow, IsPlace, IsShownColumn, IsJoined, AreNeighbours, ShowsRow}
 use Rattle.cell_draw.specs.Sound.{AreLines}
 use Rattle.cell_draw.proofs.BridgeLines.{behind}
 use Rattle.cell_draw.proofs.BridgePlaces.{unit_last}
 use Rattle.cell_draw.proofs.BridgeWhole.{lines_of_allowed}
-use Rattle.cell_draw.proofs.Devices.{box_of, gate_site, side_site, right_device}
+use Rattle.cell_draw.proofs.DeviceBoxes.{box_of}
+use Rattle.cell_draw.proofs.Devices.{gate_site, side_site, right_device}
 use Rattle.cell_draw.proofs.DevicesPlaced.{DeviceSeat, device_seat, one_seat}
-use Rattle.cell_draw.proofs.Extracts.{IsSeated, seated, OverSeat, over_seat, NamedAt, named_at, seats_ascend}
+use Rattle.cell_draw.proofs.Extracts.{seats_ascend}
+use Rattle.cell_draw.proofs.FingersPlaced.{IsSeated, seated, OverSeat, over_seat, NamedAt, named_at}
 use Rattle.cell_draw.proofs.LabelsPlaced.{IsWired, layout}
 use Rattle.cell_draw.proofs.NamesPlaced.{shapes}
 use Rattle.cell_draw.proofs.NetsFacts.{left_end, right_end, IsOver}

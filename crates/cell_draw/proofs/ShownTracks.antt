@@ -1,5 +1,5 @@
 -- A drawn row shows its routing.
-use Rattle.std.proofs.Common.{ℕ, ◌≡◌, ◌+◌, ◌*◌, ◌<◌, ◌==◌, Bool, true, false, if◌then◌else◌, List, Option, Some, None, inl, inr, refl, sym, ap, subst, ◌∙◌, arith, All, Any, Contains, length, option_map}
+use Rattle.std.proofs.Common.{ℕ, ◌≡◌, ◌+◌, ◌<◌, ◌==◌, Bool, true, false, if◌then◌else◌, List, Option, Some, None, inl, inr, refl, sym, ap, subst, ◌∙◌, arith, Contains, length, option_map}
 use Rattle.std.specs.List.{range_with_len}
 use Rattle.cell_num.specs.declared.net.NetNo.{NetNo}
 use Rattle.cell_num.specs.declared.net.Pins.{Pins}
@@ -21,7 +21,8 @@ use Rattle.cell_draw.specs.Layouts.{metal_tag, or_else, place_tag, net_tag, tag_
 use Rattle.cell_draw.specs.Shown.{ShowsTrack, ShowsRouting}
 use Rattle.cell_draw.proofs.BridgeTracks.{has_trunk, span_of, trunk_is}
 use Rattle.cell_draw.proofs.BridgeFrom.{IsDrawn}
-use Rattle.cell_draw.proofs.NamesPlaced.{shapes, place_low, in_range}
+use Rattle.cell_draw.proofs.NamesPlaced.{shapes, in_range}
+use Rattle.cell_draw.proofs.NetsLow.{place_low}
 
 -- the tag of a net with a trunk stands on it
 trunk_tag : (pins : Pins) (p : Placement) (r : Routing) (xs : List ℕ) (f : Frame) (net : NetNo) (t : Trunk) → (IsRail pins net → ⊥) → trunk_of r.trunks net ≡ Some t → tag_of pins f p.nodes r.trunks xs (gates_on f r.trunks xs (seats_of p.row)) net ≡ Some (metal_tag (x_of xs t.left) (track_y f t.track) net)

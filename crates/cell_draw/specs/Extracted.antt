@@ -1,5 +1,5 @@
 -- What a drawing is as a circuit: net by net and device by device the fingers that it was drawn from.
-use Rattle.std.specs.Prelude.{◌≡◌, ◌≢◌, ℤ, ◌⊎◌, ℕ, List, ◌++◌, length, IsPermutation}
+use Rattle.std.specs.Prelude.{◌≢◌, ℤ, ◌⊎◌, ℕ, List, ◌++◌, length, IsPermutation}
 use Rattle.std.specs.List.{AllPairs, AllZip, Any}
 use Rattle.cell_num.specs.declared.finger.Finger.{Finger}
 use Rattle.cell_num.specs.declared.finger.Fingers.{Fingers}
@@ -13,7 +13,7 @@ use Rattle.box_geom.specs.declared.shape.Shape.{Shape}
 use Rattle.box_geom.specs.declared.shape.Shapes.{Shapes}
 use Rattle.scmos_rules.specs.Layout.{Gate}
 use Rattle.net_extract.specs.Nets.{Site}
-use Rattle.net_extract.specs.Devices.{IsDevice, IsGateBox}
+use Rattle.net_extract.specs.Devices.{IsDevice}
 use Rattle.cell_draw.specs.Named.{name_of, IsNamed, AreNamed}
 
 -- all classes of gate cells, each once

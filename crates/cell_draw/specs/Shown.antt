@@ -1,5 +1,5 @@
 -- The row and the routing that a drawing shows.
-use Rattle.std.specs.Prelude.{◌≡◌, ℤ, pos, ◌+ℤ◌, ◌-ℤ◌, ◌≤ℤ◌, ◌<ℤ◌, ℕ, ◌+◌, ◌*◌, ◌<◌, ◌↔◌, false, List, length, Option, Some, None, slice_get}
+use Rattle.std.specs.Prelude.{◌≡◌, ℤ, pos, ◌-ℤ◌, ◌≤ℤ◌, ◌<ℤ◌, ℕ, ◌+◌, ◌*◌, ◌<◌, ◌↔◌, false, List, length, Option, Some, None, slice_get}
 use Rattle.std.specs.List.{All, AllPairs, AllZip, Any, Contains}
 use Rattle.cell_num.specs.declared.net.NetNo.{NetNo}
 use Rattle.cell_num.specs.declared.net.Pins.{Pins}
@@ -8,7 +8,6 @@ use Rattle.cell_num.specs.declared.finger.Row.{Row}
 use Rattle.cell_num.specs.declared.finger.Row.TheVariants.{P, N}
 use Rattle.row_model.specs.declared.column.Placed.{Placed}
 use Rattle.row_model.specs.declared.column.Column.{Column}
-use Rattle.row_model.specs.Arrangement.{place}
 use Rattle.row_model.specs.Gaps.{left_net, right_net, is_gap}
 use Rattle.row_place.specs.declared.placement.Placement.{Placement}
 use Rattle.row_place.specs.Trunks.{HasTrunk, IsSpan}
