@@ -32,10 +32,7 @@ mod NetsJoined
 mod NetsKinds
 mod NetsLinks
 mod NetsLow
-<<<<<<< HEAD
 mod NetsNamed
-=======
->>>>>>> 1187f4738bea6d88d42a122f8b60fa3c8394209d
 mod NetsPlaces
 mod NetsRouted
 mod NetsWhole
