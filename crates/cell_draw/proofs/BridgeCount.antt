@@ -4,21 +4,16 @@ use Rattle.std.specs.List.{filter, cons_option}
 use Rattle.std.proofs.lemmas.Bool.{cases_Bool, and_parts, eqb-true}
 use Rattle.std.proofs.lemmas.List.{length-append}
 use Rattle.std.proofs.lemmas.List.Elements.{All-contains, All-head, All-tail, Contains-append_left, Contains-append_right, Contains-append_cases}
-use Rattle.cell_num.specs.declared.net.NetNo.{NetNo}
 use Rattle.cell_num.specs.declared.net.Pins.{Pins}
-use Rattle.cell_num.proofs.Lists.{contains_none, contains_cons, contains_get, all_from_contains}
-use Rattle.cell_num.proofs.In.{in_map}
+use Rattle.cell_num.proofs.Lists.{contains_none, contains_cons, all_from_contains}
 use Rattle.cell_num.proofs.Pairs.{Some', some_from_any, pairs_head, pairs_tail}
 use Rattle.cell_num.proofs.Permutations.{Split, split_cons}
-use Rattle.row_model.specs.declared.column.Column.{Column}
 use Rattle.row_model.specs.declared.column.Placed.{Placed}
-use Rattle.row_model.specs.Gaps.{left_net, right_net}
 use Rattle.row_place.specs.declared.placement.NodePlace.{NodePlace}
-use Rattle.row_place.specs.declared.placement.GatePlace.{GatePlace}
 use Rattle.row_place.specs.declared.placement.Placement.{Placement}
 use Rattle.row_place.specs.declared.placement.Seat.{Seat}
-use Rattle.row_place.specs.Places.{IsPlacement, IsNode, IsGate}
-use Rattle.row_place.specs.Trunks.{lines_of, IsSpan}
+use Rattle.row_place.specs.Places.{IsPlacement}
+use Rattle.row_place.specs.Trunks.{IsSpan}
 use Rattle.row_place.specs.Units.{seats_of}
 use Rattle.row_place.proofs.Bounds.{few_nodes, length_from_rising}
 use Rattle.row_place.proofs.Seated.{seat_count}
@@ -37,7 +32,6 @@ use Rattle.cell_draw.specs.Layouts.{strip_of, strips_at, contact_of, gate_at, ha
 use Rattle.cell_draw.specs.Frame.{frame_of}
 use Rattle.cell_draw.specs.Sound.{IsSoundRow}
 use Rattle.cell_draw.proofs.NetsNamed.{place_low}
-use Rattle.cell_draw.proofs.BridgeBars.{filtered}
 
 split_there : {X : Type 0} (xs : List X) (x : X) → Contains xs x → Split x xs
 split_there [] x c = absurd (contains_none x c)

@@ -1,5 +1,5 @@
 -- What sound fingers give of a row: widths, gates that are signals, ends on the right rail.
-use Rattle.std.proofs.Common.{ℕ, ◌≡◌, ◌≤◌, ◌<◌, List, [], ◌∷◌, Option, Some, None, fold, inl, inr, refl, ap, ◌∙◌, arith, All, Contains, option_map}
+use Rattle.std.proofs.Common.{ℕ, ◌≡◌, ◌≤◌, List, [], ◌∷◌, Option, Some, None, fold, inl, inr, refl, ap, ◌∙◌, arith, All, Contains, option_map}
 use Rattle.std.proofs.lemmas.List.Elements.{All-contains}
 use Rattle.std.proofs.lemmas.List.Sorted.{Contains-permutation, IsPermutation-sym}
 use Rattle.std.proofs.Math.Nat.{le-max_left, le-max_right}
@@ -8,7 +8,7 @@ use Rattle.cell_num.specs.declared.net.Pins.{Pins}
 use Rattle.cell_num.specs.declared.finger.Row.{Row}
 use Rattle.cell_num.specs.declared.finger.Row.TheVariants.{P, N}
 use Rattle.cell_num.specs.declared.finger.Finger.{Finger}
-use Rattle.cell_num.specs.Fingers.{HasNoEnd, IsFinger}
+use Rattle.cell_num.specs.Fingers.{HasNoEnd}
 use Rattle.cell_num.proofs.Lists.{some_same, contains_none, contains_cons, contains_filter_map, all_from_contains}
 use Rattle.row_model.specs.declared.column.Placed.{Placed}
 use Rattle.row_model.specs.declared.column.Column.{Column}

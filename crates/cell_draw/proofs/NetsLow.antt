@@ -1,9 +1,8 @@
 -- Each piece of a routed row is of a named net.
-use Rattle.std.proofs.Common.{ℕ, ◌≡◌, ◌<◌, ◌==◌, List, sym, ap, subst, arith, Contains, length}
+use Rattle.std.proofs.Common.{ℕ, ◌<◌, List, sym, ap, subst, arith, Contains, length}
 use Rattle.cell_num.specs.declared.net.Pins.{Pins}
 use Rattle.cell_num.specs.Pins.{ArePins}
 use Rattle.cell_num.proofs.In.{Image, in_map}
-use Rattle.row_model.specs.Arrangement.{place}
 use Rattle.row_place.specs.declared.placement.Placement.{Placement}
 use Rattle.row_place.proofs.Placed.{only_placement}
 use Rattle.channel_route.specs.declared.routing.Routing.{Routing}

@@ -22,7 +22,6 @@ use Rattle.cell_draw.specs.Sound.{IsSoundRow}
 use Rattle.cell_draw.proofs.BridgePlaces.{EndOf, end_of}
 use Rattle.cell_draw.proofs.BridgeRow.{p_finger, n_finger}
 use Rattle.cell_draw.proofs.BridgeBars.{Passed, filtered}
-use Rattle.cell_draw.proofs.NetsWires.{gate}
 
 -- the nets of a finger are named
 record AreLow (names : List (List ℕ)) (x : Finger) : Type 0 where
