@@ -1,7 +1,14 @@
 pub mod Covering
+pub mod Events
 pub mod Facing
+pub mod Filters
+pub mod Joins
 pub mod Limits
 pub mod Meeting
+pub mod Moved
 pub mod Slots
 pub mod Sorting
 pub mod Spans
+pub mod Stacks
+pub mod Strips
+pub mod Sweeps

@@ -1,8 +1,13 @@
+pub mod Banding
 pub mod Chains
 pub mod Comparisons
 pub mod Cutting
 pub mod Layers
+pub mod Moving
 pub mod Near
+pub mod Ranges
 pub mod Rectangle
+pub mod Regions
 pub mod Runs
+pub mod Sweeping
 pub mod Touching

@@ -40,7 +40,7 @@ fn all_sides(alloc: Global, shapes: &[Shape], axis: Axis) -> Result<Vec<i32>, Al
     Ok(values)
 }
 
-fn once_each(mut values: Vec<i32>) -> Vec<i32>
+pub(crate) fn once_each(mut values: Vec<i32>) -> Vec<i32>
     ensures { AreCuts values.items result.items }
 {
     values.sort_unstable();

@@ -1,19 +1,27 @@
 // Rectangles of unit cells on the layers of a drawing, and what they cover.
 #![tactic(auto)]
 
+mod bands;
+pub mod block;
 pub mod cuts;
 pub mod layer;
+pub mod ranges;
 pub mod rect;
+pub mod region;
 pub mod shape;
 mod span;
+mod sweep;
 #[cfg(test)]
 mod tests;
 pub mod touching;
 
+pub use block::Block;
 use cell_num::List;
 pub use cuts::Cuts;
 pub use layer::Layer;
+pub use ranges::XRange;
 pub use rect::Rect;
+pub use region::{Place, Region};
 pub use shape::{Label, Shape, Shapes, covered};
 pub use touching::{facing_gap, touches};
 

@@ -48,7 +48,7 @@ fn show_all_limits(shapes: &[Shape])
     }
 }
 
-fn is_on(shape: &Shape, layer: Layer) -> bool
+pub(crate) fn is_on(shape: &Shape, layer: Layer) -> bool
     ensures { result ≡ same_layer shape.now.layer layer }
 {
     shape.layer == layer

@@ -1,0 +1,6 @@
+use Rattle.std.proofs.Common.{drop}
+use Rattle.box_geom.proofs.Stacks.{AreDone}
+use Rattle.box_geom.proofs.bands.add_bands.Given as goal
+
+abbrev pub invariant-loop-high : goal.invariant-loop-high
+invariant-loop-high l = AreDone l.operation l.first l.second l.out.items l.low (drop l.high-index l.rest)

@@ -1,0 +1,333 @@
+ghost use Rattle.std.specs.Prelude.{◌≡◌, ◌≤◌, ◌↔◌, ◌⊎◌, ℤ, pos, neg_ℤ, ◌-ℤ◌, map, IfOk, IfSome, IsNone, IsTrue};
+ghost use Rattle.std.specs.List.{All, filter};
+ghost use Rattle.box_geom.specs.Rectangle.{Covers};
+ghost use Rattle.box_geom.specs.Layers.{rects_on};
+ghost use Rattle.box_geom.specs.Regions.{IsBlock, AreBanded, SameCells, OnPlane, IsNear, IsFirst, IsSmall, CoversNone};
+ghost use Rattle.box_geom.specs.Banding.{IsMade};
+ghost use Rattle.box_geom.specs.Moving.{whole, spread_by, moved_by, is_proper, turned_by, AreSmall, MovesAre};
+
+use crate::bands::bands;
+use crate::block::Block;
+use crate::shape::is_on;
+use crate::sweep::Operation;
+use crate::{Layer, Rect, Shape, Shapes};
+use cell_num::NoMemory;
+use std::alloc::{AllocError, Global};
+use std::marker::Model;
+
+const LEAST: i32 = -2_000_000_000;
+
+const MOST: i32 = 2_000_000_000;
+
+/// A cell, by its lower left corner, in grid units.
+#[derive(Clone, Copy, Debug, PartialEq, Eq)]
+pub struct Place {
+    pub x: i32,
+    pub y: i32,
+}
+
+/// A set of cells, as rectangles in horizontal bands that ascend without overlap. The rectangles of
+/// a band ascend with room between them: each is as wide as the cells of its rows hang together.
+/// Contracts see a region as the list of these rectangles.
+#[derive(Debug, Drop)]
+pub struct Region {
+    blocks: Vec<Block>,
+}
+
+impl Model for Region {
+    ghost use Rattle.std.specs.Prelude.{List};
+    ghost use Rattle.box_geom.specs.Rectangle.{Rectangle};
+    ghost use Rattle.box_geom.specs.Regions.{AreBanded};
+
+    ghost Value = { List Rectangle };
+
+    ghost view = { λ r. r.blocks.items };
+
+    ghost invariant = { λ r. AreBanded r.blocks.items };
+}
+
+// How far the sides of a rectangle move.
+#[derive(Clone, Copy, Debug)]
+pub struct Moves {
+    x1: i32,
+    y1: i32,
+    x2: i32,
+    y2: i32,
+}
+
+fn made(
+    alloc: Global,
+    operation: Operation,
+    first: &[Block],
+    second: &[Block],
+) -> Result<Region, NoMemory>
+    requires first { All IsBlock first.now }
+    requires second { All IsBlock second.now }
+    ensures { IfOk result (λ r. IsMade operation first.now second.now r) }
+{
+    match bands(alloc, operation, first, second) {
+        Ok(blocks) => Ok(Region { blocks }),
+        Err(_) => Err(NoMemory),
+    }
+}
+
+fn block_of(rect: &Rect) -> Block
+    ensures { result ≡ rect.now }
+{
+    Block {
+        x1: rect.x1,
+        y1: rect.y1,
+        x2: rect.x2,
+        y2: rect.y2,
+    }
+}
+
+fn blocks_on(alloc: Global, shapes: &[Shape], layer: Layer) -> Result<Vec<Block>, AllocError>
+    ensures { IfOk result (λ v. v.items ≡ rects_on layer shapes.now) }
+{
+    let mut out = Vec::new(alloc);
+    for shape in shapes {
+        if is_on(shape, layer) {
+            out.push(block_of(&shape.rect))?;
+        }
+    }
+    Ok(out)
+}
+
+fn outward(by: u32) -> Moves
+    requires { by ≤ 1000 }
+    ensures sides { MovesAre (neg_ℤ (pos by)) (neg_ℤ (pos by)) (pos by) (pos by) result }
+    ensures small { AreSmall result }
+{
+    let by = by as i32;
+    Moves {
+        x1: -by,
+        y1: -by,
+        x2: by,
+        y2: by,
+    }
+}
+
+fn along(dx: i32, dy: i32) -> Moves
+    requires dx { IsSmall dx }
+    requires dy { IsSmall dy }
+    ensures sides { MovesAre dx dy dx dy result }
+    ensures small { AreSmall result }
+{
+    Moves {
+        x1: dx,
+        y1: dy,
+        x2: dx,
+        y2: dy,
+    }
+}
+
+fn spread(block: &Block, by: &Moves) -> Block
+    requires block { IsBlock block.now }
+    requires small { AreSmall by.now }
+    ensures { result ≡ spread_by by.now block.now }
+{
+    Block {
+        x1: block.x1 + by.x1,
+        y1: block.y1 + by.y1,
+        x2: block.x2 + by.x2,
+        y2: block.y2 + by.y2,
+    }
+}
+
+fn moved(block: &Block, by: &Moves) -> Block
+    requires block { IsBlock block.now }
+    requires small { AreSmall by.now }
+    ensures { result ≡ moved_by by.now block.now }
+{
+    spread(block, by).common(&whole_plane())
+}
+
+fn all_moved(alloc: Global, blocks: &[Block], by: &Moves) -> Result<Vec<Block>, AllocError>
+    requires blocks { All IsBlock blocks.now }
+    requires small { AreSmall by.now }
+    ensures { IfOk result (λ v. v.items ≡ filter is_proper (map (moved_by by.now) blocks.now)) }
+{
+    let mut out = Vec::new(alloc);
+    for block in blocks {
+        let next = moved(block, by);
+        if next.does_ascend() {
+            out.push(next)?;
+        }
+    }
+    Ok(out)
+}
+
+fn whole_plane() -> Block
+    ensures { result ≡ whole }
+{
+    Block {
+        x1: LEAST,
+        y1: LEAST,
+        x2: MOST,
+        y2: MOST,
+    }
+}
+
+fn turned_block(block: &Block) -> Block
+    ensures { result ≡ turned_by block.now }
+{
+    Block {
+        x1: block.y1,
+        y1: block.x1,
+        x2: block.y2,
+        y2: block.x2,
+    }
+}
+
+fn all_turned(alloc: Global, blocks: &[Block]) -> Result<Vec<Block>, AllocError>
+    ensures { IfOk result (λ v. v.items ≡ map turned_by blocks.now) }
+{
+    let mut out = Vec::new(alloc);
+    for block in blocks {
+        out.push(turned_block(block))?;
+    }
+    Ok(out)
+}
+
+impl Region {
+    /// The cells that the rectangles cover.
+    pub fn from_blocks(alloc: Global, blocks: &[Block]) -> Result<Region, NoMemory>
+        requires { All IsBlock blocks.now }
+        ensures { IfOk result (λ r. SameCells r blocks.now) }
+    {
+        match made(alloc, Operation::Either, blocks, &[]) {
+            Ok(region) => Ok(region),
+            Err(error) => Err(error),
+        }
+    }
+
+    /// No cell. It takes no memory.
+    pub fn empty(alloc: Global) -> Region
+        ensures { CoversNone result }
+    {
+        Region {
+            blocks: Vec::new(alloc),
+        }
+    }
+
+    /// All cells that regions reach.
+    pub fn plane(alloc: Global) -> Result<Region, NoMemory>
+        ensures { IfOk result (λ r. (x y : ℤ) → Covers r x y ↔ OnPlane x y) }
+    {
+        let whole = whole_plane();
+        match Region::from_blocks(alloc, &[whole]) {
+            Ok(region) => Ok(region),
+            Err(error) => Err(error),
+        }
+    }
+
+    /// The cells that a layer covers.
+    pub fn of(alloc: Global, shapes: &Shapes, layer: Layer) -> Result<Region, NoMemory>
+        ensures { IfOk result (λ r. SameCells r (rects_on layer shapes.now.rects)) }
+    {
+        shapes.show_limits();
+        let blocks = blocks_on(alloc, shapes.rects.as_slice(), layer)?;
+        match Region::from_blocks(alloc, blocks.as_slice()) {
+            Ok(region) => Ok(region),
+            Err(error) => Err(error),
+        }
+    }
+
+    /// The rectangles, band by band, in each by x.
+    pub fn blocks(&self) -> &[Block]
+        ensures all { result.now ≡ self.now }
+        ensures banded { AreBanded self.now }
+    {
+        self.blocks.as_slice()
+    }
+
+    /// The cells of both regions.
+    pub fn both(&self, alloc: Global, other: &Region) -> Result<Region, NoMemory>
+        ensures { IfOk result (λ r. (x y : ℤ) → Covers r x y ↔ (Covers self.now x y × Covers other.now x y)) }
+    {
+        match made(alloc, Operation::Both, self.blocks(), other.blocks()) {
+            Ok(region) => Ok(region),
+            Err(error) => Err(error),
+        }
+    }
+
+    /// The cells of one or both of the regions.
+    pub fn either(&self, alloc: Global, other: &Region) -> Result<Region, NoMemory>
+        ensures { IfOk result (λ r. (x y : ℤ) → Covers r x y ↔ (Covers self.now x y ⊎ Covers other.now x y)) }
+    {
+        match made(alloc, Operation::Either, self.blocks(), other.blocks()) {
+            Ok(region) => Ok(region),
+            Err(error) => Err(error),
+        }
+    }
+
+    /// The cells of the region that are not cells of the other.
+    pub fn minus(&self, alloc: Global, other: &Region) -> Result<Region, NoMemory>
+        ensures { IfOk result (λ r. (x y : ℤ) → Covers r x y ↔ (Covers self.now x y × (Covers other.now x y → ⊥))) }
+    {
+        match made(alloc, Operation::Minus, self.blocks(), other.blocks()) {
+            Ok(region) => Ok(region),
+            Err(error) => Err(error),
+        }
+    }
+
+    /// The cells within a distance of some cell of the region, as far as regions reach.
+    pub fn grown(&self, alloc: Global, by: u32) -> Result<Region, NoMemory>
+        requires { by ≤ 1000 }
+        ensures { IfOk result (λ r. (x y : ℤ) → Covers r x y ↔ (OnPlane x y × IsNear self.now by x y)) }
+    {
+        let moves = outward(by);
+        let blocks = all_moved(alloc, self.blocks(), &moves)?;
+        match Region::from_blocks(alloc, blocks.as_slice()) {
+            Ok(region) => Ok(region),
+            Err(error) => Err(error),
+        }
+    }
+
+    /// The cells of the region, each moved, as far as regions reach.
+    pub fn shifted(&self, alloc: Global, dx: i32, dy: i32) -> Result<Region, NoMemory>
+        requires dx { IsSmall dx }
+        requires dy { IsSmall dy }
+        ensures { IfOk result (λ r. (x y : ℤ) → Covers r x y ↔ (OnPlane x y × Covers self.now (x -ℤ dx) (y -ℤ dy))) }
+    {
+        let moves = along(dx, dy);
+        let blocks = all_moved(alloc, self.blocks(), &moves)?;
+        match Region::from_blocks(alloc, blocks.as_slice()) {
+            Ok(region) => Ok(region),
+            Err(error) => Err(error),
+        }
+    }
+
+    /// The region with x and y exchanged.
+    pub fn turned(&self, alloc: Global) -> Result<Region, NoMemory>
+        ensures { IfOk result (λ r. (x y : ℤ) → Covers r x y ↔ Covers self.now y x) }
+    {
+        let blocks = all_turned(alloc, self.blocks())?;
+        match Region::from_blocks(alloc, blocks.as_slice()) {
+            Ok(region) => Ok(region),
+            Err(error) => Err(error),
+        }
+    }
+
+    /// Whether no cell is in the region.
+    pub fn is_empty(&self) -> bool
+        ensures { IsTrue result ↔ CoversNone self.now }
+    {
+        self.blocks().is_empty()
+    }
+
+    /// The first cell by y, then x. None where the region is empty.
+    pub fn first_cell(&self) -> Option<Place>
+        ensures some { IfSome result (λ p. IsFirst (Covers self.now) p.x p.y) }
+        ensures none { IsNone result ↔ CoversNone self.now }
+    {
+        match self.blocks().first() {
+            Some(block) => Some(Place {
+                x: block.x1,
+                y: block.y1,
+            }),
+            None => None,
+        }
+    }
+}
