@@ -75,21 +75,21 @@ links_whole i a k (c ∷ cs) (suc m) b n e is t = by (touching a c) (links_whole
     by true h = inr h
     by false h = h
 
-record IsOver (all : List Rectangle) (k : ℕ) (as : List Rectangle) (l : Link) : Type 0 where
+record IsOver (all : List Rectangle) (k : ℕ) (rest : List Rectangle) (l : Link) : Type 0 where
   at : ℕ
   first : Rectangle
   other : Rectangle
   one : l.one ≡ k + at
-  is : slice_get as at ≡ Some first
+  is : slice_get rest at ≡ Some first
   there : slice_get all l.other ≡ Some other
   touch : touching first other ≡ true
 
-over_sound : (all : List Rectangle) (k : ℕ) (as : List Rectangle) (l : Link) → In (links_over all k as) l → IsOver all k as l
+over_sound : (all : List Rectangle) (k : ℕ) (rest : List Rectangle) (l : Link) → In (links_over all k rest) l → IsOver all k rest l
 over_sound all k [] l c = absurd c
-over_sound all k (a ∷ as) l c =
-    elim (in_append (links_from k a 0 all) (links_over all (k + 1) as) l c) [
+over_sound all k (a ∷ rest) l c =
+    elim (in_append (links_from k a 0 all) (links_over all (k + 1) rest) l c) [
       | inl h ↦ (let f = links_sound k a 0 all l h in let e : l.other ≡ f.at = (let s = f.second in omega arith) in record { at = 0; first = a; other = f.other; one = (let s = f.one in omega arith); is = refl; there = subst (λ n. slice_get all n ≡ Some f.other) (sym e) f.is; touch = f.touch })
-      | inr h ↦ (let o = over_sound all (k + 1) as l h in record { at = suc o.at; first = o.first; other = o.other; one = (let s = o.one in omega arith); is = o.is; there = o.there; touch = o.touch })
+      | inr h ↦ (let o = over_sound all (k + 1) rest l h in record { at = suc o.at; first = o.first; other = o.other; one = (let s = o.one in omega arith); is = o.is; there = o.there; touch = o.touch })
     ]
 
 append_left : (xs ys : List Link) (l : Link) → In xs l → In (xs ++ ys) l
@@ -101,7 +101,7 @@ append_right : (xs ys : List Link) (l : Link) → In ys l → In (xs ++ ys) l
 append_right [] ys l i = i
 append_right (x ∷ xs) ys l i = inr (append_right xs ys l i)
 
-over_whole : (all : List Rectangle) (k : ℕ) (as : List Rectangle) (m : ℕ) (a : Rectangle) (n : ℕ) (j : ℕ) (b : Rectangle) → n ≡ k + m → slice_get as m ≡ Some a → slice_get all j ≡ Some b → touching a b ≡ true → In (links_over all k as) (record { one = n; other = j })
+over_whole : (all : List Rectangle) (k : ℕ) (rest : List Rectangle) (m : ℕ) (a : Rectangle) (n : ℕ) (j : ℕ) (b : Rectangle) → n ≡ k + m → slice_get rest m ≡ Some a → slice_get all j ≡ Some b → touching a b ≡ true → In (links_over all k rest) (record { one = n; other = j })
 over_whole all k [] m a n j b e is there t = absurd (cc is)
 over_whole all k (c ∷ cs) zero a n j b e is there t =
     let same : c ≡ a = some_same c a is in
@@ -227,25 +227,25 @@ hits_whole d l a labels k (c ∷ cs) (suc m) b q is e p = by (slice_index labels
     by true i = i
     by false i = put_right (some_part d a c) (hits_from d l a labels (k + 1) cs) q i
 
-record IsSomeHit (d : ℕ) (labels : List ℕ) (all : List Rectangle) (k : ℕ) (as : List Rectangle) (q : Rectangle) : Type 0 where
+record IsSomeHit (d : ℕ) (labels : List ℕ) (all : List Rectangle) (k : ℕ) (rest : List Rectangle) (q : Rectangle) : Type 0 where
   at : ℕ
   first : Rectangle
-  is : slice_get as at ≡ Some first
+  is : slice_get rest at ≡ Some first
   second : ℕ
   other : Rectangle
   there : slice_get all second ≡ Some other
   differ : (slice_index labels second == slice_index labels (k + at)) ≡ false
   part : In (some_part d first other) q
 
-some_sound : (d : ℕ) (labels : List ℕ) (all : List Rectangle) (k : ℕ) (as : List Rectangle) (q : Rectangle) → In (hits_over d labels all k as) q → IsSomeHit d labels all k as q
+some_sound : (d : ℕ) (labels : List ℕ) (all : List Rectangle) (k : ℕ) (rest : List Rectangle) (q : Rectangle) → In (hits_over d labels all k rest) q → IsSomeHit d labels all k rest q
 some_sound d labels all k [] q c = absurd c
-some_sound d labels all k (a ∷ as) q c =
-    elim (in_append (hits_from d (slice_index labels k) a labels 0 all) (hits_over d labels all (k + 1) as) q c) [
+some_sound d labels all k (a ∷ rest) q c =
+    elim (in_append (hits_from d (slice_index labels k) a labels 0 all) (hits_over d labels all (k + 1) rest) q c) [
       | inl i ↦ (let h = hits_sound d (slice_index labels k) a labels 0 all q i in let f : k + 0 ≡ k = omega arith in record { at = 0; first = a; is = refl; second = h.at; other = h.other; there = h.is; differ = subst (λ n. (slice_index labels h.at == slice_index labels n) ≡ false) (sym f) h.differ; part = h.part })
-      | inr i ↦ (let h = some_sound d labels all (k + 1) as q i in let f : (k + 1) + h.at ≡ k + suc h.at = omega arith in record { at = suc h.at; first = h.first; is = h.is; second = h.second; other = h.other; there = h.there; differ = subst (λ n. (slice_index labels h.second == slice_index labels n) ≡ false) f h.differ; part = h.part })
+      | inr i ↦ (let h = some_sound d labels all (k + 1) rest q i in let f : (k + 1) + h.at ≡ k + suc h.at = omega arith in record { at = suc h.at; first = h.first; is = h.is; second = h.second; other = h.other; there = h.there; differ = subst (λ n. (slice_index labels h.second == slice_index labels n) ≡ false) f h.differ; part = h.part })
     ]
 
-some_whole : (d : ℕ) (labels : List ℕ) (all : List Rectangle) (k : ℕ) (as : List Rectangle) (m : ℕ) (a : Rectangle) (j : ℕ) (b q : Rectangle) → slice_get as m ≡ Some a → slice_get all j ≡ Some b → (slice_index labels j == slice_index labels (k + m)) ≡ false → In (some_part d a b) q → In (hits_over d labels all k as) q
+some_whole : (d : ℕ) (labels : List ℕ) (all : List Rectangle) (k : ℕ) (rest : List Rectangle) (m : ℕ) (a : Rectangle) (j : ℕ) (b q : Rectangle) → slice_get rest m ≡ Some a → slice_get all j ≡ Some b → (slice_index labels j == slice_index labels (k + m)) ≡ false → In (some_part d a b) q → In (hits_over d labels all k rest) q
 some_whole d labels all k [] m a j b q is there e p = absurd (cc is)
 some_whole d labels all k (c ∷ cs) zero a j b q is there e p =
     let f : k + 0 ≡ k = omega arith in

@@ -8,7 +8,7 @@ use Rattle.box_geom.specs.declared.shape.Shape.{Shape}
 use Rattle.box_geom.specs.declared.layer.Layer.TheVariants.{Active, Poly}
 use Rattle.scmos_rules.specs.Layout.{On, Gate, Diffusion, FieldPoly, Bare}
 use Rattle.scmos_rules.specs.Gates.{Way, right, left, up, down, Ahead, FailsPolyEnd, FailsActiveEnd, FailsFieldPoly}
-use Rattle.scmos_rules.specs.Outward.{EndsEarly, StandsEarly, MeetsEarly, AreOneOf}
+use Rattle.scmos_rules.specs.Outward.{shift_across, shift_upward, EndsEarly, StandsEarly, MeetsEarly, AreOneOf}
 use Rattle.scmos_rules.specs.Regions.{AreCells, AreInner, IsInner, Lacks, way_of}
 use Rattle.scmos_rules.specs.declared.gates.Heading.{Heading}
 use Rattle.scmos_rules.specs.declared.gates.Heading.TheVariants.{Right, Left, Up, Down}
@@ -31,17 +31,11 @@ moved P r dx dy way k e m = record { same = λ x y. (λ c. let d = (m x y).0 c i
 same_place : (P : ℤ → ℤ → Type 0) (x y s t : ℤ) → x ≡ s → y ≡ t → P x y ↔ P s t
 same_place P x y s t e f = (λ p. subst (λ z. P s z) f (subst (λ z. P z y) e p), λ p. subst (λ z. P x z) (sym f) (subst (λ z. P z t) (sym e) p))
 
-pub ahead_right : (P : ℤ → ℤ → Type 0) (r : List Rectangle) (dx dy : ℤ) (k : ℕ) → dx ≡ neg_ℤ (pos k) → dy ≡ pos 0 → ((x y : ℤ) → Covers r x y ↔ (OnPlane x y × P (x -ℤ dx) (y -ℤ dy))) → AreCells (λ x y. OnPlane x y × Ahead P right k x y) r
-ahead_right P r dx dy k e f m = moved P r dx dy right k (λ x y. same_place P (x -ℤ dx) (y -ℤ dy) (x +ℤ pos k) y (omega (arith, ints)) (omega (arith, ints))) m
-
-pub ahead_left : (P : ℤ → ℤ → Type 0) (r : List Rectangle) (dx dy : ℤ) (k : ℕ) → dx ≡ pos k → dy ≡ pos 0 → ((x y : ℤ) → Covers r x y ↔ (OnPlane x y × P (x -ℤ dx) (y -ℤ dy))) → AreCells (λ x y. OnPlane x y × Ahead P left k x y) r
-ahead_left P r dx dy k e f m = moved P r dx dy left k (λ x y. same_place P (x -ℤ dx) (y -ℤ dy) (x -ℤ pos k) y (omega (arith, ints)) (omega (arith, ints))) m
-
-pub ahead_up : (P : ℤ → ℤ → Type 0) (r : List Rectangle) (dx dy : ℤ) (k : ℕ) → dx ≡ pos 0 → dy ≡ neg_ℤ (pos k) → ((x y : ℤ) → Covers r x y ↔ (OnPlane x y × P (x -ℤ dx) (y -ℤ dy))) → AreCells (λ x y. OnPlane x y × Ahead P up k x y) r
-ahead_up P r dx dy k e f m = moved P r dx dy up k (λ x y. same_place P (x -ℤ dx) (y -ℤ dy) x (y +ℤ pos k) (omega (arith, ints)) (omega (arith, ints))) m
-
-pub ahead_down : (P : ℤ → ℤ → Type 0) (r : List Rectangle) (dx dy : ℤ) (k : ℕ) → dx ≡ pos 0 → dy ≡ pos k → ((x y : ℤ) → Covers r x y ↔ (OnPlane x y × P (x -ℤ dx) (y -ℤ dy))) → AreCells (λ x y. OnPlane x y × Ahead P down k x y) r
-ahead_down P r dx dy k e f m = moved P r dx dy down k (λ x y. same_place P (x -ℤ dx) (y -ℤ dy) x (y -ℤ pos k) (omega (arith, ints)) (omega (arith, ints))) m
+pub ahead_is : (heading : Heading) (P : ℤ → ℤ → Type 0) (r : List Rectangle) (dx dy : ℤ) (k : ℕ) → dx ≡ shift_across heading k → dy ≡ shift_upward heading k → ((x y : ℤ) → Covers r x y ↔ (OnPlane x y × P (x -ℤ dx) (y -ℤ dy))) → AreCells (λ x y. OnPlane x y × Ahead P (way_of heading) k x y) r
+ahead_is Right P r dx dy k e f m = moved P r dx dy right k (λ x y. same_place P (x -ℤ dx) (y -ℤ dy) (x +ℤ pos k) y (omega (arith, ints)) (omega (arith, ints))) m
+ahead_is Left P r dx dy k e f m = moved P r dx dy left k (λ x y. same_place P (x -ℤ dx) (y -ℤ dy) (x -ℤ pos k) y (omega (arith, ints)) (omega (arith, ints))) m
+ahead_is Up P r dx dy k e f m = moved P r dx dy up k (λ x y. same_place P (x -ℤ dx) (y -ℤ dy) x (y +ℤ pos k) (omega (arith, ints)) (omega (arith, ints))) m
+ahead_is Down P r dx dy k e f m = moved P r dx dy down k (λ x y. same_place P (x -ℤ dx) (y -ℤ dy) x (y -ℤ pos k) (omega (arith, ints)) (omega (arith, ints))) m
 
 -- ---- one of v cells lacks
 pub none_lacks : (P Q : ℤ → ℤ → Type 0) (way : Way) (r : List Rectangle) → CoversNone r → AreCells (λ x y. P x y × Lacks Q way 0 x y) r

@@ -6,7 +6,7 @@ pub mod Distances
 pub mod Lengths
 pub mod Listing
 pub mod Merging
-pub mod Sets
+pub mod Unions
 pub mod Sizes
 pub mod Spacings
 pub mod Widths

@@ -13,7 +13,7 @@ links_from i a k (b ∷ bs) = if touching a b then record { one = i; other = k }
 -- links from the rectangles at k and behind to all
 abbrev pub links_over : List Rectangle → ℕ → List Rectangle → List Link
 links_over all k [] = []
-links_over all k (a ∷ as) = links_from k a 0 all ++ links_over all (k + 1) as
+links_over all k (a ∷ rest) = links_from k a 0 all ++ links_over all (k + 1) rest
 
 abbrev pub some_part : ℕ → Rectangle → Rectangle → List Rectangle
 some_part d a b = if is_proper (near_part d a b) then near_part d a b ∷ [] else []
@@ -25,4 +25,4 @@ hits_from d l a labels k (b ∷ bs) = if slice_index labels k == l then hits_fro
 
 abbrev pub hits_over : ℕ → List ℕ → List Rectangle → ℕ → List Rectangle → List Rectangle
 hits_over d labels all k [] = []
-hits_over d labels all k (a ∷ as) = hits_from d (slice_index labels k) a labels 0 all ++ hits_over d labels all (k + 1) as
+hits_over d labels all k (a ∷ rest) = hits_from d (slice_index labels k) a labels 0 all ++ hits_over d labels all (k + 1) rest

@@ -1,11 +1,26 @@
 -- Where the rules on gates and on field poly fail in one direction.
-use Rattle.std.specs.Prelude.{ℤ, ℕ, ◌≤◌, ◌<◌, ◌+◌, ◌↔◌, ◌⊎◌, List}
+use Rattle.std.specs.Prelude.{ℤ, pos, neg_ℤ, ℕ, ◌≤◌, ◌<◌, ◌+◌, ◌↔◌, ◌⊎◌, List}
 use Rattle.box_geom.specs.Rectangle.{Rectangle, Covers}
 use Rattle.box_geom.specs.declared.shape.Shape.{Shape}
 use Rattle.box_geom.specs.declared.layer.Layer.TheVariants.{Active, Poly}
 use Rattle.scmos_rules.specs.Layout.{On, Gate, Diffusion, FieldPoly, Bare}
 use Rattle.scmos_rules.specs.Gates.{Way, Ahead}
 use Rattle.scmos_rules.specs.Regions.{Lacks}
+use Rattle.scmos_rules.specs.declared.gates.Heading.{Heading}
+use Rattle.scmos_rules.specs.declared.gates.Heading.TheVariants.{Right, Left, Up, Down}
+
+-- how far a set is shifted so that each cell shows the one k ahead
+abbrev pub shift_across : Heading → ℕ → ℤ
+shift_across Right k = neg_ℤ (pos k)
+shift_across Left k = pos k
+shift_across Up k = pos 0
+shift_across Down k = pos 0
+
+abbrev pub shift_upward : Heading → ℕ → ℤ
+shift_upward Right k = pos 0
+shift_upward Left k = pos 0
+shift_upward Up k = neg_ℤ (pos k)
+shift_upward Down k = pos k
 
 -- a gate cell at the edge of active, where one of the v cells beyond is not poly
 pub record EndsEarly (s : List Shape) (v : ℕ) (way : Way) (x y : ℤ) : Type 0 where

@@ -101,7 +101,6 @@ fn near_others(alloc: Global, set: &Region, by: u32) -> Result<Region, NoMemory>
 }
 
 // The cells of gaps below a value on a layer, and those within it of another class.
-#[tactic(auto, using(crate::proofs::Classing::spacing_is))]
 pub(crate) fn spacing(
     alloc: Global,
     shapes: &Shapes,

@@ -5,11 +5,11 @@ ghost use Rattle.scmos_rules.specs.Violations.{AreViolations, IsFaultOf};
 ghost use Rattle.scmos_rules.specs.declared.rules.Deck.TheVariants.{Plain};
 
 use crate::apart::spacing;
-use crate::around::{layer_not_away, layer_not_surrounded};
 use crate::composite::{
     contact_edge, diffusion_edge, gate_distance, select_edge, via_over_edge, well_edge,
 };
 use crate::gates::{active_end, field_distance, poly_end};
+use crate::nearby::{layer_not_away, layer_not_surrounded};
 use crate::runs::{size, width};
 use crate::{RuleFault, RuleNo, Rules, Violation, Violations};
 use box_geom::{Layer, Region, Shapes};
@@ -69,11 +69,7 @@ fn all_broken(alloc: Global, shapes: &Shapes, rules: &Rules) -> Result<Violation
 
 /// The rules that a layout breaks, in the table's order, each with the first cell that fails it by y,
 /// then x. Err where there are more than 10,000 rectangles.
-pub fn violations(
-    alloc: Global,
-    shapes: &Shapes,
-    rules: &Rules,
-) -> Result<Violations, RuleFault>
+pub fn violations(alloc: Global, shapes: &Shapes, rules: &Rules) -> Result<Violations, RuleFault>
     ensures found { IfOk result (λ vs. AreViolations rules.now shapes.now.rects vs) }
     ensures few { IfOk result (λ _. length shapes.now.rects ≤ 10000) }
     ensures fault { IfErr result (IsFaultOf shapes.now.rects) }

@@ -1,18 +1,17 @@
 // Rules on sets that several layers make.
-ghost use Rattle.std.specs.Prelude.{◌⊎◌, IfOk};
+ghost use Rattle.std.specs.Prelude.{◌≤◌, IfOk};
 ghost use Rattle.box_geom.specs.declared.layer.Layer.TheVariants.{Well, Active, PSelect, NSelect, Poly, Contact, Via};
 ghost use Rattle.scmos_rules.specs.Failing.{FailsSurround, FailsAway, FailsPartly};
 ghost use Rattle.scmos_rules.specs.Layout.{On, Gate, PActive, NActive, PolyContact, DiffusionContact, BareContact};
 ghost use Rattle.scmos_rules.specs.Regions.{AreCells, EitherOf};
 ghost use Rattle.scmos_rules.specs.declared.rules.Deck.TheVariants.{Plain};
 
-use crate::around::{layer_partly, not_away, not_surrounded};
+use crate::nearby::{layer_partly, not_away, not_surrounded};
 use crate::sets::{bare_contact, diffusion_contact, gate, n_active, on, p_active, poly_contact};
 use box_geom::{Layer, Region, Shapes};
 use cell_num::NoMemory;
 use std::alloc::Global;
 
-#[tactic(auto, using(crate::proofs::Distances::like_surround))]
 fn p_active_not_in(
     alloc: Global,
     shapes: &Shapes,
@@ -30,7 +29,6 @@ fn p_active_not_in(
     }
 }
 
-#[tactic(auto, using(crate::proofs::Distances::like_surround))]
 fn n_active_not_in(alloc: Global, shapes: &Shapes) -> Result<Region, NoMemory>
     ensures { IfOk result (λ r. AreCells (FailsSurround (NActive Plain shapes.now.rects) (On NSelect shapes.now.rects) 4) r) }
 {
@@ -42,7 +40,6 @@ fn n_active_not_in(alloc: Global, shapes: &Shapes) -> Result<Region, NoMemory>
     }
 }
 
-#[tactic(auto, using(crate::proofs::Distances::like_away))]
 fn n_active_near_well(alloc: Global, shapes: &Shapes) -> Result<Region, NoMemory>
     ensures { IfOk result (λ r. AreCells (FailsAway (NActive Plain shapes.now.rects) (On Well shapes.now.rects) 12) r) }
 {
@@ -55,7 +52,6 @@ fn n_active_near_well(alloc: Global, shapes: &Shapes) -> Result<Region, NoMemory
 }
 
 // P active too near the end of the well, and N active too near the well.
-#[tactic(auto, using(crate::proofs::Sets::either_cells))]
 pub(crate) fn well_edge(alloc: Global, shapes: &Shapes) -> Result<Region, NoMemory>
     ensures { IfOk result (λ r. AreCells (EitherOf (FailsSurround (PActive Plain shapes.now.rects) (On Well shapes.now.rects) 12) (FailsAway (NActive Plain shapes.now.rects) (On Well shapes.now.rects) 12)) r) }
 {
@@ -68,7 +64,6 @@ pub(crate) fn well_edge(alloc: Global, shapes: &Shapes) -> Result<Region, NoMemo
 }
 
 // Active that its select does not surround.
-#[tactic(auto, using(crate::proofs::Sets::either_cells))]
 pub(crate) fn select_edge(alloc: Global, shapes: &Shapes) -> Result<Region, NoMemory>
     ensures { IfOk result (λ r. AreCells (EitherOf (FailsSurround (PActive Plain shapes.now.rects) (On PSelect shapes.now.rects) 4) (FailsSurround (NActive Plain shapes.now.rects) (On NSelect shapes.now.rects) 4)) r) }
 {
@@ -80,7 +75,6 @@ pub(crate) fn select_edge(alloc: Global, shapes: &Shapes) -> Result<Region, NoMe
     }
 }
 
-#[tactic(auto, using(crate::proofs::Distances::like_surround))]
 fn poly_contact_not_in(alloc: Global, shapes: &Shapes) -> Result<Region, NoMemory>
     ensures { IfOk result (λ r. AreCells (FailsSurround (PolyContact shapes.now.rects) (On Poly shapes.now.rects) 3) r) }
 {
@@ -93,7 +87,6 @@ fn poly_contact_not_in(alloc: Global, shapes: &Shapes) -> Result<Region, NoMemor
 }
 
 // Contacts on nothing, and contacts to poly too near its edge.
-#[tactic(auto, using(crate::proofs::Sets::either_cells))]
 pub(crate) fn contact_edge(alloc: Global, shapes: &Shapes) -> Result<Region, NoMemory>
     ensures { IfOk result (λ r. AreCells (EitherOf (BareContact shapes.now.rects) (FailsSurround (PolyContact shapes.now.rects) (On Poly shapes.now.rects) 3)) r) }
 {
@@ -106,7 +99,6 @@ pub(crate) fn contact_edge(alloc: Global, shapes: &Shapes) -> Result<Region, NoM
 }
 
 // Contacts to diffusion too near the edge of active.
-#[tactic(auto, using(crate::proofs::Distances::like_surround))]
 pub(crate) fn diffusion_edge(alloc: Global, shapes: &Shapes) -> Result<Region, NoMemory>
     ensures { IfOk result (λ r. AreCells (FailsSurround (DiffusionContact shapes.now.rects) (On Active shapes.now.rects) 3) r) }
 {
@@ -119,7 +111,6 @@ pub(crate) fn diffusion_edge(alloc: Global, shapes: &Shapes) -> Result<Region, N
 }
 
 // Contacts too near a gate.
-#[tactic(auto, using(crate::proofs::Distances::like_away))]
 pub(crate) fn gate_distance(alloc: Global, shapes: &Shapes) -> Result<Region, NoMemory>
     ensures { IfOk result (λ r. AreCells (FailsAway (On Contact shapes.now.rects) (Gate shapes.now.rects) 4) r) }
 {
@@ -132,7 +123,6 @@ pub(crate) fn gate_distance(alloc: Global, shapes: &Shapes) -> Result<Region, No
 }
 
 // Vias too near an edge of poly or of active.
-#[tactic(auto, using(crate::proofs::Sets::either_cells))]
 pub(crate) fn via_over_edge(alloc: Global, shapes: &Shapes) -> Result<Region, NoMemory>
     ensures { IfOk result (λ r. AreCells (EitherOf (FailsPartly (On Via shapes.now.rects) (On Poly shapes.now.rects) 4) (FailsPartly (On Via shapes.now.rects) (On Active shapes.now.rects) 4)) r) }
 {

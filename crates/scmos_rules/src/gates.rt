@@ -1,9 +1,9 @@
 // Rules on the cells that follow outward from a cell.
-ghost use Rattle.std.specs.Prelude.{◌≤◌, IfOk};
+ghost use Rattle.std.specs.Prelude.{◌≡◌, ◌≤◌, IfOk};
 ghost use Rattle.box_geom.specs.Rectangle.{Covers};
-ghost use Rattle.box_geom.specs.Regions.{OnPlane};
+ghost use Rattle.box_geom.specs.Regions.{OnPlane, IsSmall};
 ghost use Rattle.scmos_rules.specs.Gates.{Ahead, FailsPolyEnd, FailsActiveEnd, FailsFieldPoly};
-ghost use Rattle.scmos_rules.specs.Outward.{EndsEarly, StandsEarly, MeetsEarly, AreOneOf};
+ghost use Rattle.scmos_rules.specs.Outward.{shift_across, shift_upward, EndsEarly, StandsEarly, MeetsEarly, AreOneOf};
 ghost use Rattle.scmos_rules.specs.Layout.{Bare};
 ghost use Rattle.scmos_rules.specs.Regions.{AreCells, AreInner, Lacks, way_of};
 
@@ -21,23 +21,38 @@ pub enum Heading {
     Down,
 }
 
+// How far a set is shifted so that each cell shows the one at a distance ahead.
+fn across(heading: Heading, distance: u32) -> i32
+    requires { distance ≤ 1000 }
+    ensures value { result ≡ shift_across heading distance }
+    ensures small { IsSmall result }
+{
+    match heading {
+        Heading::Right => -(distance as i32),
+        Heading::Left => distance as i32,
+        Heading::Up | Heading::Down => 0,
+    }
+}
+
+fn upward(heading: Heading, distance: u32) -> i32
+    requires { distance ≤ 1000 }
+    ensures value { result ≡ shift_upward heading distance }
+    ensures small { IsSmall result }
+{
+    match heading {
+        Heading::Up => -(distance as i32),
+        Heading::Down => distance as i32,
+        Heading::Right | Heading::Left => 0,
+    }
+}
+
 // The cells whose cell at a distance in a direction is in the set.
-fn ahead(
-    alloc: Global,
-    set: &Region,
-    heading: Heading,
-    distance: u32,
-) -> Result<Region, NoMemory>
+fn ahead(alloc: Global, set: &Region, heading: Heading, distance: u32) -> Result<Region, NoMemory>
     requires small { distance ≤ 1000 }
     ensures { IfOk result (λ r. AreCells (λ x y. OnPlane x y × Ahead (Covers set.now) (way_of heading) distance x y) r) }
 {
-    let far = distance as i32;
-    let (dx, dy) = match heading {
-        Heading::Right => (-far, 0),
-        Heading::Left => (far, 0),
-        Heading::Up => (0, -far),
-        Heading::Down => (0, far),
-    };
+    let dx = across(heading, distance);
+    let dy = upward(heading, distance);
     match set.shifted(alloc, dx, dy) {
         Ok(region) => Ok(region),
         Err(error) => Err(error),
@@ -60,12 +75,12 @@ fn lacking(
     for distance in 0..last {
         let there = ahead(alloc, set, heading, distance + 1)?;
         let out = base.minus(alloc, &there)?;
-        found = found.either(alloc, &out)?;
+        let more = found.either(alloc, &out)?;
+        found = more;
     }
     Ok(found)
 }
 
-#[tactic(auto, using(crate::proofs::Directions::four_ways))]
 fn together(
     alloc: Global,
     right: &Region,
@@ -83,12 +98,7 @@ fn together(
     }
 }
 
-#[tactic(auto, using(crate::proofs::Directions::ends_early))]
-fn ending_early(
-    alloc: Global,
-    shapes: &Shapes,
-    heading: Heading,
-) -> Result<Region, NoMemory>
+fn ending_early(alloc: Global, shapes: &Shapes, heading: Heading) -> Result<Region, NoMemory>
     ensures { IfOk result (λ r. AreCells (EndsEarly shapes.now.rects 4 (way_of heading)) r) }
 {
     let gates = gate(alloc, shapes)?;
@@ -102,12 +112,7 @@ fn ending_early(
     }
 }
 
-#[tactic(auto, using(crate::proofs::Directions::stands_early))]
-fn standing_early(
-    alloc: Global,
-    shapes: &Shapes,
-    heading: Heading,
-) -> Result<Region, NoMemory>
+fn standing_early(alloc: Global, shapes: &Shapes, heading: Heading) -> Result<Region, NoMemory>
     ensures { IfOk result (λ r. AreCells (StandsEarly shapes.now.rects 6 (way_of heading)) r) }
 {
     let gates = gate(alloc, shapes)?;
@@ -121,12 +126,7 @@ fn standing_early(
     }
 }
 
-#[tactic(auto, using(crate::proofs::Directions::meets_early))]
-fn meeting_early(
-    alloc: Global,
-    shapes: &Shapes,
-    heading: Heading,
-) -> Result<Region, NoMemory>
+fn meeting_early(alloc: Global, shapes: &Shapes, heading: Heading) -> Result<Region, NoMemory>
     ensures { IfOk result (λ r. AreCells (MeetsEarly shapes.now.rects 2 (way_of heading)) r) }
 {
     let field = field_poly(alloc, shapes)?;
@@ -143,7 +143,6 @@ fn meeting_early(
 }
 
 // The cells of a set whose next cell in a direction is neither poly nor active.
-#[tactic(auto, using(crate::proofs::Directions::bare_ahead))]
 fn bare_ahead(
     alloc: Global,
     shapes: &Shapes,
@@ -165,7 +164,6 @@ fn bare_ahead(
 }
 
 // Gate cells where poly ends too early past active.
-#[tactic(auto, using(crate::proofs::Directions::poly_ends))]
 pub(crate) fn poly_end(alloc: Global, shapes: &Shapes) -> Result<Region, NoMemory>
     ensures { IfOk result (λ r. AreCells (FailsPolyEnd shapes.now.rects 4) r) }
 {
@@ -180,7 +178,6 @@ pub(crate) fn poly_end(alloc: Global, shapes: &Shapes) -> Result<Region, NoMemor
 }
 
 // Gate cells where active ends too early past poly.
-#[tactic(auto, using(crate::proofs::Directions::active_ends))]
 pub(crate) fn active_end(alloc: Global, shapes: &Shapes) -> Result<Region, NoMemory>
     ensures { IfOk result (λ r. AreCells (FailsActiveEnd shapes.now.rects 6) r) }
 {
@@ -195,7 +192,6 @@ pub(crate) fn active_end(alloc: Global, shapes: &Shapes) -> Result<Region, NoMem
 }
 
 // Field poly cells too close to active.
-#[tactic(auto, using(crate::proofs::Directions::field_meets))]
 pub(crate) fn field_distance(alloc: Global, shapes: &Shapes) -> Result<Region, NoMemory>
     ensures { IfOk result (λ r. AreCells (FailsFieldPoly shapes.now.rects 2) r) }
 {

@@ -3,12 +3,12 @@
 #![tactic(auto)]
 
 mod apart;
-mod around;
 pub mod checking;
 mod composite;
 mod gates;
 pub mod laws;
 pub mod linking;
+mod nearby;
 pub mod number;
 pub mod rules;
 mod runs;

@@ -47,12 +47,7 @@ fn wrong_blocks(
     Ok(out)
 }
 
-fn wrong_rows(
-    alloc: Global,
-    set: &Region,
-    measure: Measure,
-    value: u32,
-) -> Result<Region, NoMemory>
+fn wrong_rows(alloc: Global, set: &Region, measure: Measure, value: u32) -> Result<Region, NoMemory>
     ensures { IfOk result (λ r. AreCells (λ x y. Covers set.now x y × IsWrong measure (λ z. Covers set.now z y) value x) r) }
 {
     let blocks = wrong_blocks(alloc, set.blocks(), measure, value)?;
@@ -81,7 +76,6 @@ pub(crate) fn wrong_runs(
     }
 }
 
-#[tactic(auto, using(crate::proofs::Lengths::like_width))]
 pub(crate) fn width(
     alloc: Global,
     shapes: &Shapes,
@@ -97,7 +91,6 @@ pub(crate) fn width(
     }
 }
 
-#[tactic(auto, using(crate::proofs::Lengths::like_size))]
 pub(crate) fn size(
     alloc: Global,
     shapes: &Shapes,

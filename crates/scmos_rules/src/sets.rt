@@ -8,7 +8,6 @@ use box_geom::{Layer, Region, Shapes};
 use cell_num::NoMemory;
 use std::alloc::Global;
 
-#[tactic(auto, using(crate::proofs::Sets::on_cells, crate::proofs::Sets::on_inner))]
 pub(crate) fn on(alloc: Global, shapes: &Shapes, layer: Layer) -> Result<Region, NoMemory>
     ensures cells { IfOk result (λ r. AreCells (On layer shapes.now.rects) r) }
     ensures inner { IfOk result (λ r. AreInner r) }
@@ -20,7 +19,6 @@ pub(crate) fn on(alloc: Global, shapes: &Shapes, layer: Layer) -> Result<Region,
     }
 }
 
-#[tactic(auto, using(crate::proofs::Sets::both_cells, crate::proofs::Sets::both_inner))]
 pub(crate) fn gate(alloc: Global, shapes: &Shapes) -> Result<Region, NoMemory>
     ensures cells { IfOk result (λ r. AreCells (Gate shapes.now.rects) r) }
     ensures inner { IfOk result (λ r. AreInner r) }
@@ -33,7 +31,6 @@ pub(crate) fn gate(alloc: Global, shapes: &Shapes) -> Result<Region, NoMemory>
     }
 }
 
-#[tactic(auto, using(crate::proofs::Sets::minus_cells, crate::proofs::Sets::minus_inner))]
 pub(crate) fn diffusion(alloc: Global, shapes: &Shapes) -> Result<Region, NoMemory>
     ensures cells { IfOk result (λ r. AreCells (Diffusion shapes.now.rects) r) }
     ensures inner { IfOk result (λ r. AreInner r) }
@@ -46,7 +43,6 @@ pub(crate) fn diffusion(alloc: Global, shapes: &Shapes) -> Result<Region, NoMemo
     }
 }
 
-#[tactic(auto, using(crate::proofs::Sets::minus_cells, crate::proofs::Sets::minus_inner))]
 pub(crate) fn field_poly(alloc: Global, shapes: &Shapes) -> Result<Region, NoMemory>
     ensures cells { IfOk result (λ r. AreCells (FieldPoly shapes.now.rects) r) }
     ensures inner { IfOk result (λ r. AreInner r) }
@@ -59,7 +55,6 @@ pub(crate) fn field_poly(alloc: Global, shapes: &Shapes) -> Result<Region, NoMem
     }
 }
 
-#[tactic(auto, using(crate::proofs::Sets::both_cells, crate::proofs::Sets::both_inner))]
 pub(crate) fn p_active(alloc: Global, shapes: &Shapes) -> Result<Region, NoMemory>
     ensures cells { IfOk result (λ r. AreCells (PActive Plain shapes.now.rects) r) }
     ensures inner { IfOk result (λ r. AreInner r) }
@@ -72,7 +67,6 @@ pub(crate) fn p_active(alloc: Global, shapes: &Shapes) -> Result<Region, NoMemor
     }
 }
 
-#[tactic(auto, using(crate::proofs::Sets::minus_cells, crate::proofs::Sets::minus_inner))]
 pub(crate) fn n_active(alloc: Global, shapes: &Shapes) -> Result<Region, NoMemory>
     ensures cells { IfOk result (λ r. AreCells (NActive Plain shapes.now.rects) r) }
     ensures inner { IfOk result (λ r. AreInner r) }
@@ -85,7 +79,6 @@ pub(crate) fn n_active(alloc: Global, shapes: &Shapes) -> Result<Region, NoMemor
     }
 }
 
-#[tactic(auto, using(crate::proofs::Sets::both_cells, crate::proofs::Sets::both_inner))]
 pub(crate) fn poly_contact(alloc: Global, shapes: &Shapes) -> Result<Region, NoMemory>
     ensures cells { IfOk result (λ r. AreCells (PolyContact shapes.now.rects) r) }
     ensures inner { IfOk result (λ r. AreInner r) }
@@ -98,7 +91,6 @@ pub(crate) fn poly_contact(alloc: Global, shapes: &Shapes) -> Result<Region, NoM
     }
 }
 
-#[tactic(auto, using(crate::proofs::Sets::both_cells, crate::proofs::Sets::both_inner))]
 pub(crate) fn diffusion_contact(alloc: Global, shapes: &Shapes) -> Result<Region, NoMemory>
     ensures cells { IfOk result (λ r. AreCells (DiffusionContact shapes.now.rects) r) }
     ensures inner { IfOk result (λ r. AreInner r) }
@@ -112,7 +104,6 @@ pub(crate) fn diffusion_contact(alloc: Global, shapes: &Shapes) -> Result<Region
 }
 
 // Contacts without poly, and of these the ones without active.
-#[tactic(auto, using(crate::proofs::Sets::bare_cells))]
 pub(crate) fn bare_contact(alloc: Global, shapes: &Shapes) -> Result<Region, NoMemory>
     ensures cells { IfOk result (λ r. AreCells (BareContact shapes.now.rects) r) }
 {

@@ -11,7 +11,6 @@ use cell_num::NoMemory;
 use std::alloc::Global;
 
 // The cells of a set with a cell within a distance that is not in the other set.
-#[tactic(auto, using(crate::proofs::Distances::surround_is))]
 pub(crate) fn not_surrounded(
     alloc: Global,
     inside: &Region,
@@ -32,7 +31,6 @@ pub(crate) fn not_surrounded(
 }
 
 // The cells of a set with a cell of the other set within a distance.
-#[tactic(auto, using(crate::proofs::Distances::away_is))]
 pub(crate) fn not_away(
     alloc: Global,
     inside: &Region,
@@ -51,7 +49,6 @@ pub(crate) fn not_away(
 }
 
 // The same for two layers.
-#[tactic(auto, using(crate::proofs::Distances::like_surround))]
 pub(crate) fn layer_not_surrounded(
     alloc: Global,
     shapes: &Shapes,
@@ -70,7 +67,6 @@ pub(crate) fn layer_not_surrounded(
     }
 }
 
-#[tactic(auto, using(crate::proofs::Distances::like_away))]
 pub(crate) fn layer_not_away(
     alloc: Global,
     shapes: &Shapes,
@@ -90,7 +86,6 @@ pub(crate) fn layer_not_away(
 }
 
 // The cells of a layer where the cells within a distance are partly of the other and partly not.
-#[tactic(auto, using(crate::proofs::Sets::both_cells))]
 pub(crate) fn layer_partly(
     alloc: Global,
     shapes: &Shapes,
