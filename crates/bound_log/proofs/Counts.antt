@@ -64,3 +64,6 @@ all_counts front kinds words at l same = no_more front kinds (map (λ w. w.now) 
 
 pub not_as_many : (kinds : List Kind) (words : List (Bor (List ℕ))) (parts : List (List ℕ)) → map (λ w. w.now) words ≡ parts → length words ≢ length kinds → counts_each kinds parts ≡ None
 not_as_many kinds words parts is h = as_many kinds parts (λ e. h (sym (length-map words (λ w. w.now)) ∙ ap length is ∙ e))
+
+pub too_many : (kinds : List Kind) (parts : List (List ℕ)) → length kinds ≤ 32 → 32 < length parts → counts_each kinds parts ≡ None
+too_many kinds parts few many = as_many kinds parts (λ e. omega (arith, few, many, e))

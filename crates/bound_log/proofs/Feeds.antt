@@ -1,17 +1,13 @@
 -- The first line of some bytes, and those behind it.
-use Rattle.std.specs.Prelude.{ℕ, ◌≡◌, ◌≢◌, ◌+◌, ◌-◌, ◌<◌, ◌==◌, ◌&&◌, true, false, List, [], ◌∷◌, Some, None, Ok, Err, codes, length, take, drop, position, nat_lt}
+use Rattle.std.specs.Prelude.{ℕ, ◌≡◌, ◌≢◌, ◌+◌, ◌-◌, ◌<◌, ◌==◌, ◌&&◌, true, false, List, [], ◌∷◌, Some, None, Ok, Err, codes, length, take, drop, position}
 use Rattle.std.proofs.Common.{refl, sym, ap, arith, ◌∙◌, inl, inr}
-use Rattle.std.specs.List.{join_with_byte, position_or_len}
-use Rattle.std.proofs.Math.Seq.{take-length}
-use Rattle.std.proofs.lemmas.List.{length-drop}
-use Rattle.std.proofs.lemmas.Bool.{and_parts, cases_Bool, eqb-true, ltb-false, ltb-true}
-use Rattle.std.proofs.lemmas.List.Elements.{All-from_get_or}
-use Rattle.std.proofs.lemmas.List.Sums.{fails_before_first}
-use Rattle.std.proofs.lemmas.List.Splits.{join_with_byte-slice_split, length-slice_split, slice_split_first, slice_split_none}
-use Rattle.std.proofs.lemmas.Option.{cond_some, none-some}
+use Rattle.std.specs.List.{join_with_byte}
+use Rattle.std.proofs.lemmas.Bool.{and_parts, cases_Bool, eqb-true}
+use Rattle.std.proofs.lemmas.List.Splits.{join_with_byte-slice_split, length-slice_split}
 use Rattle.bound_log.specs.declared.fault.LogFault.TheVariants as fault
 use Rattle.bound_log.specs.Line.{is_word, parts_at}
 use Rattle.bound_log.specs.Reading.{behind, end_at, last_of, lines_in, without_last}
+use Rattle.bound_log.proofs.Parts.{all_behind, cut_at, found_within, not_cut}
 
 -- a list of parts has a last one
 pub some_part : (bytes : List ℕ) → 0 < length (parts_at 10 bytes)
@@ -26,27 +22,17 @@ same_last part [] h = absurd (omega (arith, h))
 same_last part (next ∷ more) h = refl
 
 no_feed : (bytes : List ℕ) → None ≡ position (λ b. b == 10) bytes → parts_at 10 bytes ≡ bytes ∷ []
-no_feed bytes e = elim (cases_Bool (nat_lt (position_or_len (λ b. b == 10) bytes) (length bytes))) [
-  | inl found ↦ let there : position (λ b. b == 10) bytes ≡ Some (position_or_len (λ b. b == 10) bytes) = rw found refl in absurd (none-some _ (e ∙ there))
-  | inr none ↦ slice_split_none (λ b. b == 10) bytes (All-from_get_or (λ b. (b == 10) ≡ false) bytes 0 (λ i l. fails_before_first (λ b. b == 10) bytes i 0 (omega (arith, l, ltb-false _ _ none))))
-]
+no_feed bytes e = not_cut 10 bytes e
 
 at_feed : (bytes : List ℕ) (at : ℕ) → Some at ≡ position (λ b. b == 10) bytes → parts_at 10 bytes ≡ take at bytes ∷ parts_at 10 (drop (at + 1) bytes)
-at_feed bytes at e =
-    let found : (nat_lt (position_or_len (λ b. b == 10) bytes) (length bytes) ≡ true) × (position_or_len (λ b. b == 10) bytes ≡ at) = cond_some _ _ _ (sym e) in
-    rw (sym found.1) (slice_split_first (λ b. b == 10) bytes 0 (ltb-true _ _ found.0))
+at_feed bytes at e = cut_at 10 bytes at e
 
 pub feed_within : (bytes : List ℕ) (at : ℕ) → Some at ≡ position (λ b. b == 10) bytes → at < length bytes
-feed_within bytes at e =
-    let found : (nat_lt (position_or_len (λ b. b == 10) bytes) (length bytes) ≡ true) × (position_or_len (λ b. b == 10) bytes ≡ at) = cond_some _ _ _ (sym e) in
-    omega (arith, found.1, ltb-true _ _ found.0)
+feed_within bytes at e = found_within 10 bytes at e
 
 pub no_line : (bytes : List ℕ) → None ≡ position (λ b. b == 10) bytes → lines_in bytes ≡ []
 unfolding lines_in
 no_line bytes e = ap without_last (no_feed bytes e)
-
-all_behind : (bytes : List ℕ) (n : ℕ) → take (length bytes - n) (drop n bytes) ≡ drop n bytes
-all_behind bytes n = rw (sym (length-drop n bytes)) (take-length (drop n bytes))
 
 pub first_lines : (bytes : List ℕ) (at : ℕ) → Some at ≡ position (λ b. b == 10) bytes → lines_in bytes ≡ take at bytes ∷ lines_in (take (length bytes - (at + 1)) (drop (at + 1) bytes))
 unfolding lines_in

@@ -1,14 +1,15 @@
 -- Only the text of a log that fits is read.
-use Rattle.std.specs.Prelude.{ℕ, ◌≡◌, ◌+◌, ◌<◌, ◌==◌, ◌&&◌, Bool, true, false, List, [], ◌∷◌, ◌++◌, Option, Some, None, Result, Ok, Err, All, length, codes, decimal}
+use Rattle.std.specs.Prelude.{ℕ, ◌≡◌, ◌+◌, ◌<◌, ◌≤◌, ◌==◌, ◌&&◌, Bool, true, false, List, [], ◌∷◌, ◌++◌, Option, Some, None, Result, Ok, Err, All, length, codes, decimal}
 use Rattle.std.proofs.Common.{refl, sym, ap, subst, arith, ◌∙◌, inl, inr}
 use Rattle.std.specs.List.{flat_map, join_with_byte}
 use Rattle.std.proofs.lemmas.Bool.{and_parts, eqb-true}
-use Rattle.std.proofs.lemmas.List.{append_assoc}
+use Rattle.std.proofs.lemmas.List.{append_assoc, length-append}
 use Rattle.std.proofs.lemmas.List.Elements.{All-cons, All-nil}
 use Rattle.std.proofs.lemmas.List.Splits.{join_with_byte-slice_split}
 use Rattle.std.proofs.lemmas.Option.{none-some, same_Some}
 use Rattle.cell_num.specs.Steps.{◌>>=◌, require, or_fault}
 use Rattle.row_state.specs.declared.kind.Kinds.{Kinds}
+use Rattle.row_state.specs.declared.step.Side.{Side}
 use Rattle.row_state.specs.Start.{AreSomeKinds}
 use Rattle.bound_log.specs.declared.fault.LogFault.TheVariants as fault
 use Rattle.bound_log.specs.declared.log.Lemma.{Lemma}
@@ -21,7 +22,7 @@ use Rattle.bound_log.specs.Line.{entry_in, gaps_in, is_word, lemma_in, column_in
 use Rattle.bound_log.specs.Reading.{begun_by, behind, columns_at, end_at, lines_in, log_at, log_of, named_at, text_at}
 use Rattle.bound_log.specs.Text.{best_text, column_line, lemma_line, log_text}
 use Rattle.bound_log.proofs.Numbers.{chosen, found_below, same_words}
-use Rattle.bound_log.proofs.Spelled.{column_joined, step_spelled, column_words, cons_same, is_provided, lemma_joined, lemma_spelled, lemma_words, mapped}
+use Rattle.bound_log.proofs.Spelled.{column_joined, step_spelled, column_words, cons_same, is_provided, lemma_joined, lemma_spelled, lemma_words, mapped, side_words}
 use Rattle.bound_log.proofs.Splits.{bytes_again, fed, lines_text}
 
 pub err-ok : {A E : Type 0} (e : E) (a : A) → ◌≡◌ {A = Result A E} (Err e) (Ok a) → ⊥
@@ -53,7 +54,7 @@ gaps_spelled [] gaps h = absurd (none-some gaps h)
 gaps_spelled (a ∷ b ∷ bs) gaps h = absurd (none-some gaps h)
 gaps_spelled (a ∷ []) gaps h = let found : (a ≡ decimal gaps) × (gaps < 64) = found_below 64 a gaps h in (cons_same _ _ _ _ found.0 refl, found.1)
 
-EntrySpelled : Kinds → List (List ℕ) → Entry → Type 0
+unfoldable pub EntrySpelled : Kinds → List (List ℕ) → Entry → Type 0
 EntrySpelled k words (entry.Lemma lemma) = (words ≡ codes "lemma" ∷ lemma_words lemma) × LemmaFits k lemma
 EntrySpelled k words (entry.Gaps gaps) = (words ≡ codes "gaps" ∷ decimal gaps ∷ []) × (gaps < 64)
 EntrySpelled k words entry.Open = words ≡ codes "open" ∷ []
@@ -62,7 +63,7 @@ no_words : (words : List (List ℕ)) → (length words == 0) ≡ true → words 
 no_words [] h = refl
 no_words (w ∷ ws) h = absurd (omega (arith, eqb-true (length (w ∷ ws)) 0 h))
 
-entry_spelled : (k : Kinds) (words : List (List ℕ)) (e : Entry) → AreSomeKinds k → entry_in k words ≡ Some e → EntrySpelled k words e
+pub entry_spelled : (k : Kinds) (words : List (List ℕ)) (e : Entry) → AreSomeKinds k → entry_in k words ≡ Some e → EntrySpelled k words e
 unfolding EntrySpelled
 entry_spelled k [] e some h = absurd (none-some e h)
 entry_spelled k (word ∷ words) e some h =
@@ -85,7 +86,7 @@ entry_spelled k (word ∷ words) e some h =
       ]
     ]
 
-column_spelled : (k : Kinds) (words : List (List ℕ)) (listed : LogStep) → column_in k words ≡ Some listed → (words ≡ codes "column" ∷ column_words listed) × StepFits k listed
+pub column_spelled : (k : Kinds) (words : List (List ℕ)) (listed : LogStep) → column_in k words ≡ Some listed → (words ≡ codes "column" ∷ column_words listed) × StepFits k listed
 column_spelled k [] listed h = absurd (none-some listed h)
 column_spelled k (word ∷ words) listed h =
     elim (chosen (is_word word (codes "column")) _ _ _ h) [
@@ -95,10 +96,40 @@ column_spelled k (word ∷ words) listed h =
       | inr none ↦ absurd (none-some listed none.1)
     ]
 
-line_of_words : (line : List ℕ) (words : List (List ℕ)) → words_in line ≡ words → fed line ≡ fed (join_with_byte 32 words)
+spelled_few : (k : Kinds) (words : List (List ℕ)) (e : Entry) → EntrySpelled k words e → length words ≤ 7
+unfolding EntrySpelled lemma_words
+spelled_few k words (entry.Lemma lemma) h = omega (arith, ap length h.0)
+spelled_few k words (entry.Gaps gaps) h = omega (arith, ap length h.0)
+spelled_few k words entry.Open h = omega (arith, ap length h)
+
+-- more words than any line has
+pub long_entry : (k : Kinds) (words : List (List ℕ)) → AreSomeKinds k → 7 < length words → entry_in k words ≡ None
+long_entry k words some many = by_entry (entry_in k words) refl
+  where
+    by_entry : (o : Option Entry) → entry_in k words ≡ o → entry_in k words ≡ None
+    by_entry None is = is
+    by_entry (Some e) is = let few : length words ≤ 7 = spelled_few k words e (entry_spelled k words e some is) in absurd (omega (arith, few, many))
+
+two_words : (side : Option Side) → length (side_words side) ≡ 2
+unfolding side_words
+two_words None = refl
+two_words (Some side) = refl
+
+column_few : (words : List (List ℕ)) (listed : LogStep) → words ≡ codes "column" ∷ column_words listed → length words ≤ 6
+unfolding column_words
+column_few words listed e = omega (arith, ap length e, length-append (side_words listed.step.p) (side_words listed.step.n), two_words listed.step.p, two_words listed.step.n)
+
+pub long_column : (k : Kinds) (words : List (List ℕ)) → 6 < length words → column_in k words ≡ None
+long_column k words many = by_column (column_in k words) refl
+  where
+    by_column : (o : Option LogStep) → column_in k words ≡ o → column_in k words ≡ None
+    by_column None is = is
+    by_column (Some listed) is = let few : length words ≤ 6 = column_few words listed (column_spelled k words listed is).0 in absurd (omega (arith, few, many))
+
+pub line_of_words : (line : List ℕ) (words : List (List ℕ)) → words_in line ≡ words → fed line ≡ fed (join_with_byte 32 words)
 line_of_words line words h = ap fed (sym (join_with_byte-slice_split 32 line) ∙ ap (join_with_byte 32) h)
 
-text_cons : (line : List ℕ) (lines : List (List ℕ)) (rest : List ℕ) → lines_text (line ∷ lines) rest ≡ fed line ++ lines_text lines rest
+pub text_cons : (line : List ℕ) (lines : List (List ℕ)) (rest : List ℕ) → lines_text (line ∷ lines) rest ≡ fed line ++ lines_text lines rest
 unfolding lines_text
 text_cons line lines rest = append_assoc (fed line) (flat_map fed lines) rest
 

@@ -1,4 +1,4 @@
-ghost use Rattle.std.specs.Prelude.{◌≡◌, ◌+◌, [], IfOk, length, map};
+ghost use Rattle.std.specs.Prelude.{◌≡◌, ◌≤◌, ◌+◌, [], IfOk, length, map};
 ghost use Rattle.row_state.specs.Start.{AreSomeKinds};
 ghost use Rattle.row_state.specs.Tests.{state_test};
 ghost use Rattle.bound_log.specs.Line.{column_in, counts_each, counts_in, entry_in, gaps_in, lemma_in, parts_at, state_in, step_in, words_in};
@@ -18,7 +18,7 @@ fn counts_of_words(
     requires { length words.now ≡ length kinds.now }
     ensures { IfOk result (λ counts. counts ≡ counts_each kinds.now (map (λ word. word.now) words.now)) }
 {
-    let mut counts = Counts::new(alloc);
+    let mut counts = Counts::from_vec(Vec::with_capacity(alloc, kinds.len())?);
     for at in 0..kinds.len() {
         let Some(count) = number_below(words[at], u64::from(kinds[at].count) + 1) else {
             return Ok(None);
@@ -28,15 +28,18 @@ fn counts_of_words(
     Ok(Some(counts))
 }
 
-#[tactic(auto, using(crate::proofs::Counts::not_as_many))]
+#[tactic(auto, using(crate::proofs::Counts::not_as_many, crate::proofs::Counts::too_many))]
 fn some_counts(alloc: Global, kinds: &[Kind], word: &[u8]) -> Result<Option<Counts>, NoMemory>
+    requires { length kinds.now ≤ 32 }
     ensures { IfOk result (λ counts. counts ≡ counts_each kinds.now (parts_at 44 word.now)) }
 {
-    let words = parts(alloc, word, b',')?;
+    let Some(words) = parts::<32>(word, b',') else {
+        return Ok(None);
+    };
     if words.len() != kinds.len() {
         return Ok(None);
     }
-    counts_of_words(alloc, kinds, &words)
+    counts_of_words(alloc, kinds, words.as_slice())
 }
 
 fn no_counts(alloc: Global, word: &[u8]) -> Option<Counts>
@@ -50,6 +53,7 @@ fn no_counts(alloc: Global, word: &[u8]) -> Option<Counts>
 }
 
 fn counts(alloc: Global, kinds: &[Kind], word: &[u8]) -> Result<Option<Counts>, NoMemory>
+    requires { length kinds.now ≤ 32 }
     ensures { IfOk result (λ counts. counts ≡ counts_in kinds.now word.now) }
 {
     match kinds {
@@ -66,6 +70,7 @@ fn is_valid(state: &State, kinds: &Kinds) -> bool
     is_state(state, kinds)
 }
 
+#[tactic(auto, using(row_state::proofs::Valid::kinds_few))]
 fn state(
     alloc: Global,
     kinds: &Kinds,
@@ -186,6 +191,7 @@ fn column_of_words(kinds: &Kinds, words: &[&[u8]]) -> Option<LogStep>
     }
 }
 
+#[tactic(auto, using(crate::proofs::Only::long_entry))]
 pub(crate) fn read_entry(
     alloc: Global,
     kinds: &Kinds,
@@ -194,19 +200,18 @@ pub(crate) fn read_entry(
     requires { AreSomeKinds kinds.now }
     ensures { IfOk result (λ entry. entry ≡ entry_in kinds.now (words_in line.now)) }
 {
-    let words = parts(alloc, line, b' ')?;
-    let entry = entry_of_words(alloc, kinds, &words)?;
+    let Some(words) = parts::<7>(line, b' ') else {
+        return Ok(None);
+    };
+    let entry = entry_of_words(alloc, kinds, words.as_slice())?;
     Ok(entry)
 }
 
-pub(crate) fn read_column(
-    alloc: Global,
-    kinds: &Kinds,
-    line: &[u8],
-) -> Result<Option<LogStep>, NoMemory>
+#[tactic(auto, using(crate::proofs::Only::long_column))]
+pub(crate) fn read_column(kinds: &Kinds, line: &[u8]) -> Option<LogStep>
     requires { AreSomeKinds kinds.now }
-    ensures { IfOk result (λ listed. listed ≡ column_in kinds.now (words_in line.now)) }
+    ensures { result ≡ column_in kinds.now (words_in line.now) }
 {
-    let words = parts(alloc, line, b' ')?;
-    Ok(column_of_words(kinds, &words))
+    let words = parts::<6>(line, b' ')?;
+    column_of_words(kinds, words.as_slice())
 }

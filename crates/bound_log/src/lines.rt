@@ -1,6 +1,8 @@
 ghost use Rattle.std.specs.Prelude.{◌≡◌, ◌<◌, ◌∷◌, ◌==◌, [], IfNone, IfSome, length, position};
 ghost use Rattle.bound_log.specs.Reading.{behind, lines_in};
 
+use crate::word::find_byte;
+
 /// A line without its line feed, and what stands behind it.
 #[derive(Clone, Copy)]
 pub(crate) struct Line<'a> {
@@ -8,10 +10,10 @@ pub(crate) struct Line<'a> {
     pub(crate) after: &'a [u8],
 }
 
-fn find_feed(bytes: &[u8]) -> Option<usize>
+pub(crate) fn find_feed(bytes: &[u8]) -> Option<usize>
     ensures { result ≡ position (λ b. b == 10) bytes.now }
 {
-    bytes.iter().position(|b| *b == b'\n')
+    find_byte(bytes, b'\n')
 }
 
 /// The first line, if a line feed ends it.

@@ -38,8 +38,10 @@ fn read_end(bytes: &[u8], number: u32) -> Result<(), LogFault>
 fn read_columns(alloc: Global, kinds: &Kinds, bytes: &[u8], from: u32) -> Result<LogSteps, LogFault>
     requires kinds { AreSomeKinds kinds.now }
     requires few { length bytes.now + from ≤ 2000000000 }
-    ensures steps { IfOk result (λ steps. columns_at kinds.now from (lines_in bytes.now) (behind bytes.now) ≡ Ok steps) }
-    ensures fault { IfErr result (λ f. f ≢ fault.NoMemory → columns_at kinds.now from (lines_in bytes.now) (behind bytes.now) ≡ Err f) }
+    ensures steps { IfOk result (λ steps.
+        columns_at kinds.now from (lines_in bytes.now) (behind bytes.now) ≡ Ok steps) }
+    ensures fault { IfErr result (λ f. f ≢ fault.NoMemory →
+        columns_at kinds.now from (lines_in bytes.now) (behind bytes.now) ≡ Err f) }
 {
     let mut steps = LogSteps::new(alloc);
     let mut rest = bytes;
@@ -52,7 +54,7 @@ fn read_columns(alloc: Global, kinds: &Kinds, bytes: &[u8], from: u32) -> Result
             read_end(rest, number)?;
             return Ok(steps);
         }
-        let Some(listed) = read_column(alloc, kinds, first.line)? else {
+        let Some(listed) = read_column(kinds, first.line) else {
             return Err(LogFault::Line { line: number });
         };
         steps.push(listed)?;
@@ -67,7 +69,8 @@ fn read_lemmas(alloc: Global, kinds: &Kinds, bytes: &[u8], from: u32) -> Result<
     requires kinds { AreSomeKinds kinds.now }
     requires few { length bytes.now + from ≤ 2000000000 }
     ensures log { IfOk result (λ log. log_at kinds.now from (lines_in bytes.now) (behind bytes.now) ≡ Ok log) }
-    ensures fault { IfErr result (λ f. f ≢ fault.NoMemory → log_at kinds.now from (lines_in bytes.now) (behind bytes.now) ≡ Err f) }
+    ensures fault { IfErr result (λ f. f ≢ fault.NoMemory →
+        log_at kinds.now from (lines_in bytes.now) (behind bytes.now) ≡ Err f) }
 {
     let mut lemmas = LemmaList::new(alloc);
     let mut rest = bytes;
@@ -104,7 +107,7 @@ fn behind_cell(line: &[u8]) -> Option<&[u8]>
 }
 
 #[tactic(auto, using(crate::proofs::Names::behind_front, crate::proofs::Names::no_front))]
-fn is_named(line: &[u8], name: &Name) -> bool
+pub(crate) fn is_named(line: &[u8], name: &Name) -> bool
     ensures { result ≡ is_word line.now (codes "cell " ++ name.now) }
 {
     match behind_cell(line) {
@@ -116,8 +119,10 @@ fn is_named(line: &[u8], name: &Name) -> bool
 fn read_named(alloc: Global, bytes: &[u8], name: &Name, kinds: &Kinds) -> Result<Log, LogFault>
     requires few { length bytes.now ≤ MOST_BYTES }
     requires kinds { AreSomeKinds kinds.now }
-    ensures log { IfOk result (λ log. named_at name.now kinds.now (lines_in bytes.now) (behind bytes.now) ≡ Ok log) }
-    ensures fault { IfErr result (λ f. f ≢ fault.NoMemory → named_at name.now kinds.now (lines_in bytes.now) (behind bytes.now) ≡ Err f) }
+    ensures log { IfOk result (λ log.
+        named_at name.now kinds.now (lines_in bytes.now) (behind bytes.now) ≡ Ok log) }
+    ensures fault { IfErr result (λ f. f ≢ fault.NoMemory →
+        named_at name.now kinds.now (lines_in bytes.now) (behind bytes.now) ≡ Err f) }
 {
     let Some(first) = first_line(bytes) else {
         return Err(LogFault::Cut);
@@ -161,7 +166,8 @@ pub fn read_log(alloc: Global, bytes: &[u8], name: &Name, kinds: &Kinds) -> Resu
     ensures text { IfOk result (λ log. bytes.now ≡ log_text name.now log) }
     ensures one { IfOk result (λ log. (other : LogOf) → log_text name.now other ≡ bytes.now → other ≡ log) }
     ensures few { IfOk result (λ log. length log.lemmas ≤ length bytes.now) }
-    ensures none { IfErr result (λ f. f ≢ fault.NoMemory → (log : LogOf) → Fits kinds.now log → log_text name.now log ≢ bytes.now) }
+    ensures none { IfErr result (λ f. f ≢ fault.NoMemory →
+        (log : LogOf) → Fits kinds.now log → log_text name.now log ≢ bytes.now) }
 {
     let log = read_text(alloc, bytes, name, kinds)?;
     Ok(log)

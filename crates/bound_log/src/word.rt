@@ -1,17 +1,39 @@
-ghost use Rattle.std.specs.Prelude.{◌≡◌, ◌≢◌, ◌≤◌, ◌<◌, ◌^◌, ◌↔◌, ℕ, Some, None, if◌then◌else◌, decimal, length, map, option_map, IfOk, IfSome, IfNone, IsTrue};
+ghost use Rattle.std.specs.Prelude.{◌==◌, ◌≡◌, ◌≢◌, ◌≤◌, ◌<◌, ◌^◌, ◌↔◌, ℕ, Some, None, if◌then◌else◌, decimal, length, map, option_map, position, IfSome, IfNone, IsTrue};
 ghost use Rattle.bound_log.specs.Line.{end_in, flip_in, is_word, number_below, parts_at, place_in, rule_in, side_in};
 
 use crate::Rule;
+use arrayvec::ArrayVec;
 use cell_num::{MOST_COLUMNS, NetNo};
 use itoa::Buffer;
 use row_state::{Kind, Side};
-use std::alloc::{AllocError, Global};
 
-/// The parts of a text between one byte and the next of its kind.
-pub(crate) fn parts(alloc: Global, text: &[u8], byte: u8) -> Result<Vec<&[u8]>, AllocError>
-    ensures { IfOk result (λ parts. map (λ part. part.now) parts.items ≡ parts_at byte text.now) }
+#[tactic(auto, using(crate::proofs::Parts::found_within))]
+pub(crate) fn find_byte(text: &[u8], byte: u8) -> Option<usize>
+    ensures at { result ≡ position (λ b. b == byte) text.now }
+    ensures within { IfSome result (λ at. at < length text.now) }
 {
-    text.split(|b| *b == byte).collect(alloc)
+    text.iter().position(|b| *b == byte)
+}
+
+/// The parts of a text between one byte and the next of its kind, where they are at most `N`.
+#[tactic(auto, using(crate::proofs::Parts::part_more, crate::proofs::Parts::part_last, crate::proofs::Parts::parts_full))]
+pub(crate) fn parts<const N: usize>(text: &[u8], byte: u8) -> Option<ArrayVec<&[u8], N>>
+    ensures some { IfSome result (λ parts. map (λ part. part.now) parts.items ≡ parts_at byte text.now) }
+    ensures none { IfNone result (N < length (parts_at byte text.now)) }
+{
+    let mut parts = ArrayVec::new();
+    let mut rest = text;
+    'parts: loop {
+        if parts.is_full() {
+            return None;
+        }
+        let Some(at) = find_byte(rest, byte) else {
+            parts.push(rest);
+            return Some(parts);
+        };
+        parts.push(&rest[..at]);
+        rest = &rest[at + 1..];
+    }
 }
 
 pub(crate) fn is_word(word: &[u8], other: &[u8]) -> bool
@@ -21,8 +43,25 @@ pub(crate) fn is_word(word: &[u8], other: &[u8]) -> bool
     word == other
 }
 
-// The number of which the word is the decimal.
-fn number(word: &[u8]) -> Option<u32>
+// The number of a word of one digit.
+#[tactic(auto, using(crate::proofs::Numbers::one_digit))]
+fn digit(word: &[u8]) -> Option<u32>
+    ensures { IfSome result (λ n. word.now ≡ decimal n) }
+{
+    let [byte] = word else {
+        return None;
+    };
+    if *byte < b'0' {
+        return None;
+    }
+    if b'9' < *byte {
+        return None;
+    }
+    Some(u32::from(*byte - b'0'))
+}
+
+// The number of which the word is the decimal, of however many digits.
+fn long_number(word: &[u8]) -> Option<u32>
     ensures some { IfSome result (λ n. word.now ≡ decimal n) }
     ensures none { IfNone result ((n : ℕ) → n < 2 ^ 32 → word.now ≢ decimal n) }
 {
@@ -40,6 +79,17 @@ fn number(word: &[u8]) -> Option<u32>
     } else {
         None
     }
+}
+
+// The number of which the word is the decimal.
+fn number(word: &[u8]) -> Option<u32>
+    ensures some { IfSome result (λ n. word.now ≡ decimal n) }
+    ensures none { IfNone result ((n : ℕ) → n < 2 ^ 32 → word.now ≢ decimal n) }
+{
+    if let Some(value) = digit(word) {
+        return Some(value);
+    }
+    long_number(word)
 }
 
 #[tactic(auto, using(crate::proofs::Numbers::is_below, crate::proofs::Numbers::not_below, crate::proofs::Numbers::no_number))]

@@ -1,7 +1,7 @@
 -- The inverter of the tests is a sound row.
-use Rattle.std.proofs.Common.{ℕ, ◌≡◌, ◌≢◌, ◌+◌, ◌<◌, ◌≤◌, List, [], ◌∷◌, Some, None, codes, length, false, inl, inr, ◌⊎◌, refl, sym, ap, subst, ◌∙◌, get_or, arith, All, AllPairs, Any, IsPermutation}
+use Rattle.std.proofs.Common.{ℕ, ◌≡◌, ◌≢◌, ◌<◌, ◌≤◌, List, [], ◌∷◌, Some, codes, false, inl, inr, refl, sym, ap, subst, ◌∙◌, get_or, arith, All, AllPairs, Any, replicate}
 use Rattle.std.proofs.lemmas.Bool.{cases_eq}
-use Rattle.std.proofs.lemmas.List.Elements.{All-nil, All-cons}
+use Rattle.std.proofs.lemmas.List.Elements.{All-nil, All-cons, All-replicate}
 use Rattle.std.proofs.lemmas.List.Kept.{AllPairs-cons}
 use Rattle.std.proofs.lemmas.List.Sorted.{IsPermutation-refl}
 use Rattle.cell_num.specs.declared.net.NetNo.{NetNo}
@@ -17,19 +17,23 @@ use Rattle.cell_num.proofs.Pairs.{any_at, pairs_none}
 use Rattle.row_model.specs.declared.column.Column.{Column}
 use Rattle.row_model.specs.declared.column.Placed.{Placed}
 use Rattle.row_model.specs.Arrangement.{IsColumn, IsArrangement}
+use Rattle.cell_draw.specs.Small.{HasWidths}
 use Rattle.cell_draw.specs.Sound.{IsSoundRow}
 
-abbrev net : ℕ → NetNo
+abbrev pub net : ℕ → NetNo
 net n = record { 0 = n }
 
-abbrev finger : Row → ℕ → ℕ → ℕ → Finger
+abbrev pub finger : Row → ℕ → ℕ → ℕ → Finger
 finger row lo hi width = record { row = row; gate = net 0; lo = net lo; hi = net hi; width = width }
 
 abbrev standing : Row → ℕ → ℕ → ℕ → Placed
 standing row lo hi width = record { finger = finger row lo hi width; flipped = false }
 
+abbrev pub column : Column
+column = record { p = Some (standing P 1 2 20); n = Some (standing N 1 3 10) }
+
 abbrev pub row : List Column
-row = record { p = Some (standing P 1 2 20); n = Some (standing N 1 3 10) } ∷ []
+row = column ∷ []
 
 abbrev pub pins : Pins
 pins = record { pins = 4; vdd = net 2; gnd = net 3 }
@@ -40,14 +44,14 @@ names = codes "a" ∷ codes "y" ∷ codes "vdd" ∷ codes "gnd" ∷ []
 abbrev fingers : Fingers
 fingers = record { nets = 4; p = finger P 1 2 20 ∷ []; n = finger N 1 3 10 ∷ [] }
 
-other_net : (a b : ℕ) → (a ≡ b → ⊥) → net a ≢ net b
+pub other_net : (a b : ℕ) → (a ≡ b → ⊥) → net a ≢ net b
 other_net a b ne e = ne (ap (λ (n : NetNo). n.0) e)
 
 -- names of different first letters
-other_name : (a b : List ℕ) (x y : ℕ) → get_or a 0 0 ≡ x → get_or b 0 0 ≡ y → (x ≡ y → ⊥) → a ≢ b
+pub other_name : (a b : List ℕ) (x y : ℕ) → get_or a 0 0 ≡ x → get_or b 0 0 ≡ y → (x ≡ y → ⊥) → a ≢ b
 other_name a b x y first second ne e = ne (sym first ∙ (ap (λ zs. get_or zs 0 0) e ∙ second))
 
-differ : AllPairs (λ (a b : List ℕ). a ≢ b) names
+pub differ : AllPairs (λ (a b : List ℕ). a ≢ b) names
 differ =
     let a : List ℕ = codes "a" in
     let y : List ℕ = codes "y" in
@@ -61,11 +65,11 @@ differ =
     (AllPairs-cons (λ (u v : List ℕ). u ≢ v) vdd (gnd ∷ []) (all_one (λ v. vdd ≢ v) gnd (other_name vdd gnd 118 103 refl refl (omega arith)))
     (AllPairs-cons (λ (u v : List ℕ). u ≢ v) gnd [] (All-nil (λ v. gnd ≢ v)) (pairs_none (λ (u v : List ℕ). u ≢ v)))))
 
-no_rail : IsRail pins (net 0) → ⊥
+pub no_rail : IsRail pins (net 0) → ⊥
 no_rail (inl e) = other_net 0 2 (omega arith) e
 no_rail (inr e) = other_net 0 3 (omega arith) e
 
-met : (n : NetNo) → n.0 < 4 → (IsRail pins n → ⊥) → Any (Meets n) (finger P 1 2 20 ∷ [])
+pub met : (n : NetNo) → n.0 < 4 → (IsRail pins n → ⊥) → Any (Meets n) (finger P 1 2 20 ∷ [])
 met n low signal = elim (cases_eq n.0 0) [
   | inl gate ↦ any_at (Meets n) (finger P 1 2 20 ∷ []) (finger P 1 2 20) (contains_here (finger P 1 2 20) []) (inl (ap net (sym gate)))
   | inr other ↦ elim (cases_eq n.0 1) [
@@ -108,3 +112,10 @@ pins_are = record { named = omega arith; vdd = omega arith; gnd = omega arith; d
 
 pub sound_if : (ns : List (List ℕ)) (ps : Pins) (columns : List Column) → ns ≡ names → ps ≡ pins → columns ≡ row → IsSoundRow ns ps columns
 sound_if ns ps columns e f g = subst (λ z. IsSoundRow z ps columns) (sym e) (subst (λ z. IsSoundRow names z columns) (sym f) (subst (λ z. IsSoundRow names pins z) (sym g) sound_row))
+
+-- many columns of this kind
+pub many_columns : (columns : List Column) → columns ≡ replicate 32 column → All IsColumn columns
+many_columns columns e = subst (λ z. All IsColumn z) (sym e) (All-replicate IsColumn 32 column (refl, (λ e. refl), (λ e. refl)))
+
+pub many_widths : (columns : List Column) → columns ≡ replicate 32 column → All HasWidths columns
+many_widths columns e = subst (λ z. All HasWidths z) (sym e) (All-replicate HasWidths 32 column (record { n = (omega arith, omega arith); p = (omega arith, omega arith) }))

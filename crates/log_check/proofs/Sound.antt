@@ -17,7 +17,7 @@ use Rattle.row_state.specs.declared.state.State.{State}
 use Rattle.row_state.specs.Completion.{Need, further_gaps}
 use Rattle.row_state.specs.Start.{IsState, start_of, AreKinds}
 use Rattle.row_state.specs.Steps.{state_after}
-use Rattle.row_state.proofs.Codes.{same_fields}
+use Rattle.row_state.specs.Decoded.{same_fields}
 use Rattle.row_state.proofs.Unfold.{branch, completion_of, gaps_from_start}
 use Rattle.bound_log.specs.declared.log.Rule.{Rule}
 use Rattle.bound_log.specs.declared.log.Rule.TheVariants as by

@@ -3,6 +3,7 @@ ghost use Rattle.std.specs.Ordering.{nat_cmp};
 ghost use Rattle.std.specs.BTreeMap.{get};
 ghost use Rattle.row_state.specs.declared.kind.Kinds.{Kinds as KindsOf};
 ghost use Rattle.row_state.specs.declared.state.State.{State as StateOf};
+ghost use Rattle.row_state.specs.Code.{state_code};
 ghost use Rattle.row_state.specs.Start.{AreSomeKinds, IsState};
 ghost use Rattle.log_check.specs.Accepted.{raised};
 ghost use Rattle.log_check.specs.Known.{best_known};
@@ -45,13 +46,30 @@ impl Known {
         }
     }
 
+    /// The best bound noted of the state with the number, 0 if none.
+    pub fn best_at(&self, number: u128) -> u32
+        ensures { (k : KindsOf) (s : StateOf) → state_code k s ≡ number → result ≡ best_known self.now k s }
+    {
+        kept(&self.bounds, number)
+    }
+
     /// The best bound noted of the state, 0 if none.
     pub fn best(&self, kinds: &Kinds, state: &State) -> u32
         requires kinds { AreSomeKinds kinds.now }
         requires state { IsState kinds.now state.now }
         ensures { result ≡ best_known self.now kinds.now state.now }
     {
-        kept(&self.bounds, code(state, kinds))
+        self.best_at(code(state, kinds))
+    }
+
+    /// One bound more of the state with the number. What was noted is as before where the memory is refused.
+    pub fn note_at(&mut self, number: u128, bound: u32) -> Result<(), NoMemory>
+        ensures raised { OnOk result ((k : KindsOf) (x : StateOf) → IsState k x → state_code k x ≡ number → (s : StateOf) → IsState k s → best_known self.new k s ≡ raised x bound s (best_known self.old k s)) }
+        ensures unchanged { OnErr result ((k : KindsOf) (s : StateOf) → best_known self.new k s ≡ best_known self.old k s) }
+    {
+        let most = kept(&self.bounds, number).max(bound);
+        keep(&mut self.bounds, number, most)?;
+        Ok(())
     }
 
     /// One bound more of the state. What was noted is as before where the memory is refused.
@@ -61,9 +79,7 @@ impl Known {
         ensures raised { OnOk result ((s : StateOf) → IsState kinds.now s → best_known self.new kinds.now s ≡ raised state.now bound s (best_known self.old kinds.now s)) }
         ensures unchanged { OnErr result ((k : KindsOf) (s : StateOf) → best_known self.new k s ≡ best_known self.old k s) }
     {
-        let number = code(state, kinds);
-        let most = kept(&self.bounds, number).max(bound);
-        keep(&mut self.bounds, number, most)?;
+        self.note_at(code(state, kinds), bound)?;
         Ok(())
     }
 }

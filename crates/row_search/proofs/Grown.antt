@@ -9,7 +9,8 @@ use Rattle.cell_num.specs.declared.finger.Row.{Row}
 use Rattle.row_state.specs.declared.kind.Kinds.{Kinds}
 use Rattle.row_state.specs.declared.state.State.{State}
 use Rattle.row_state.specs.declared.step.Step.{Step}
-use Rattle.row_state.specs.Steps.{state_after}
+use Rattle.row_state.specs.declared.candidate.Candidate.{Candidate}
+use Rattle.row_state.specs.Steps.{IsPossible, state_after}
 use Rattle.bound_log.specs.declared.log.Lemma.{Lemma}
 use Rattle.log_check.specs.Accepted.{same_state, better, best_of, StepReaches, RuleReaches, IsJustified, AreJustified}
 use Rattle.row_state.specs.Start.{IsState, columns_left}
@@ -17,6 +18,10 @@ use Rattle.bound_log.specs.declared.log.Rule.{Rule}
 use Rattle.log_check.proofs.Sound.{same_state_from, same_state_is}
 use Rattle.row_search.specs.Ended.{AreDistinct, IsLean}
 use Rattle.row_search.specs.Visit.{AreKept, IsGrown, lemma_of}
+
+-- where the column may come next, its cost and the best bound of the state behind it reach the bound
+abbrev pub Reaches : Kinds → (State → ℕ) → State → ℕ → Candidate → Type 0
+Reaches k best s bound c = IsPossible k s c.step → StepReaches k best s bound c.step
 
 pub grown_refl : (k : Kinds) (n : ℕ) (xs : List Lemma) → IsGrown k n xs xs
 grown_refl k n xs = record { more = []; is = sym (append-nil xs); below = All-nil (λ lemma. columns_left k lemma.state < n) }
@@ -51,8 +56,8 @@ best_grows k n s xs ys g = omega (arith, fold_ge s (best_of s xs) g.more, fold-a
 pub reaches_grown : (k : Kinds) (n : ℕ) (s : State) (bound : ℕ) (step : Step) (xs ys : List Lemma) → IsGrown k n xs ys → StepReaches k (λ z. best_of z xs) s bound step → StepReaches k (λ z. best_of z ys) s bound step
 reaches_grown k n s bound step xs ys g h = omega (arith, h, best_grows k n (state_after k s step) xs ys g)
 
-pub all_reach_grown : (k : Kinds) (n : ℕ) (s : State) (bound : ℕ) (steps : List Step) (xs ys : List Lemma) → IsGrown k n xs ys → All (StepReaches k (λ z. best_of z xs) s bound) steps → All (StepReaches k (λ z. best_of z ys) s bound) steps
-all_reach_grown k n s bound steps xs ys g all = All-weaker (StepReaches k (λ z. best_of z xs) s bound) (StepReaches k (λ z. best_of z ys) s bound) (λ step. reaches_grown k n s bound step xs ys g) steps all
+pub all_reach_grown : (k : Kinds) (n : ℕ) (s : State) (bound : ℕ) (items : List Candidate) (xs ys : List Lemma) → IsGrown k n xs ys → All (Reaches k (λ z. best_of z xs) s bound) items → All (Reaches k (λ z. best_of z ys) s bound) items
+all_reach_grown k n s bound items xs ys g all = All-weaker (Reaches k (λ z. best_of z xs) s bound) (Reaches k (λ z. best_of z ys) s bound) (λ c h possible. reaches_grown k n s bound c.step xs ys g (h possible)) items all
 
 -- the lemma that was added counts
 pub best_pushed : (xs : List Lemma) (x : Lemma) → x.bound ≤ best_of x.state (xs ++ x ∷ [])

@@ -1,6 +1,7 @@
 pub mod Columns
 pub mod Few
 pub mod Grown
+pub mod Keeping
 pub mod Least
 pub mod Promised
 pub mod Reach

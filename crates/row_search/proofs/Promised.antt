@@ -1,5 +1,5 @@
 -- What a search promises, for every end of it.
-use Rattle.std.proofs.Common.{ℕ, ◌≡◌, ◌+◌, List, length, get_or, Option, None, Result, Ok, Err, IfOk, IfErr, IsNone, IfSome, refl, sym, ap, subst, arith, All, ◌∙◌}
+use Rattle.std.proofs.Common.{ℕ, ◌≡◌, ◌+◌, List, length, get_or, Result, Ok, Err, IfOk, IfErr, IfSome, refl, sym, ap, subst, arith, All, ◌∙◌}
 use Rattle.cell_num.specs.declared.finger.Row.{Row}
 use Rattle.cell_num.specs.declared.finger.Fingers.{Fingers}
 use Rattle.cell_num.specs.Fingers.{columns_of}
@@ -12,29 +12,28 @@ use Rattle.row_state.specs.Start.{AreKinds, AreSomeKinds, start_of}
 use Rattle.row_state.proofs.Unfold.{columns_same}
 use Rattle.row_state.proofs.Valid.{gates_are_nets}
 use Rattle.bound_log.specs.declared.log.Lemma.{Lemma}
-use Rattle.bound_log.specs.declared.log.Best.{Best}
 use Rattle.bound_log.specs.declared.log.Log.{Log}
 use Rattle.bound_log.specs.Fits.{BestFits, LemmaFits}
 use Rattle.log_check.specs.Accepted.{RowPasses, WithKinds, best_of, columns_listed}
 use Rattle.log_check.proofs.Sound.{Holds, justified_least}
-use Rattle.row_search.specs.declared.found.Found.{Found}
-use Rattle.row_search.specs.declared.found.Stop.{Stop}
-use Rattle.row_search.specs.declared.found.Stop.TheVariants.{Unfinished, NoMemory}
-use Rattle.row_search.specs.declared.progress.Progress.{Progress}
-use Rattle.row_search.specs.Ended.{IfUnfinished, IsInRange, IsSearchLog, IsSolved, IsSpent}
+use Rattle.row_search.specs.declared.found.FoundKept.{FoundKept}
+use Rattle.row_search.specs.declared.found.StopKept.{StopKept}
+use Rattle.row_search.specs.declared.found.StopKept.TheVariants.{Unfinished, NoMemory}
+use Rattle.row_search.specs.Ended.{IfOpen, IsInRange, IsSearchLog, IsSolved, IsSpent, log_with, log_without}
 use Rattle.row_search.specs.Enough.{columns_in}
 use Rattle.row_search.specs.First.{IsFirstLeast}
 use Rattle.row_search.specs.Limits.{IsFound, IsFoundAt, IsOpen, ProveGaps, StopsWell, best_with, found_of}
 use Rattle.row_search.specs.Reached.{IsWithin}
+use Rattle.row_search.specs.SoFar.{SoFar}
 use Rattle.row_search.specs.Steps.{row_of, steps_of}
 use Rattle.row_search.proofs.Columns.{all_fit, all_listed, listed_row}
 use Rattle.row_search.proofs.Least.{bound_le, first_least, gaps_are, in_range, length_row, states_of, too_short, within_wider}
 
-pub record Promised (value : Row → State → Kinds → ℕ) (f : Fingers) (spend : ℕ) (r : Result Found Stop) : Type 0 where
+pub record Promised (value : Row → State → Kinds → ℕ) (f : Fingers) (spend : ℕ) (r : Result FoundKept StopKept) : Type 0 where
   pub row : IfOk r (λ found. IsFirstLeast f found.row)
-  pub solved : IfOk r (λ found. WithKinds f (λ k. IsSolved value k f spend found.row found.log))
-  pub nodes : IfOk r (λ found. found.nodes ≡ length found.log.lemmas + columns_of f + 1)
-  pub spent : IfUnfinished r (λ log proved. WithKinds f (λ k. IsSpent value k f spend log proved))
+  pub solved : IfOk r (λ found. WithKinds f (λ k. IsSolved value k f spend found.row (log_with found.kept found.best)))
+  pub nodes : IfOk r (λ found. found.nodes ≡ length found.kept + columns_of f + 1)
+  pub spent : IfOpen r (λ kept proved. WithKinds f (λ k. IsSpent value k f spend (log_without kept) proved))
 
 lemmas_fit : (value : Row → State → Kinds → ℕ) (k : Kinds) (gaps : ℕ) (lemmas : List Lemma) → Holds value k → AreSomeKinds k → ProveGaps value k gaps lemmas → All (LemmaFits k) lemmas
 lemmas_fit value k gaps lemmas law kinds h i d within =
@@ -42,7 +41,7 @@ lemmas_fit value k gaps lemmas law kinds h i d within =
     record { state = states_of value k lemmas h.kept.justified i d within; some = range.0; few = omega (arith, range.1, kinds.few_columns) }
 
 -- the log lists the row, and it has the gaps that the log says
-row_passes : (value : Row → State → Kinds → ℕ) (k : Kinds) (f : Fingers) (spend gaps : ℕ) (steps : List Step) (p : Progress) → Holds value k → AreKinds f k → AreSomeKinds k → IsFoundAt value k spend gaps steps p → RowPasses k f (best_of (start_of k) p.lemmas) (best_with k gaps steps) (gaps_of (row_of k steps))
+row_passes : (value : Row → State → Kinds → ℕ) (k : Kinds) (f : Fingers) (spend gaps : ℕ) (steps : List Step) (p : SoFar) → Holds value k → AreKinds f k → AreSomeKinds k → IsFoundAt value k spend gaps steps p → RowPasses k f (best_of (start_of k) p.lemmas) (best_with k gaps steps) (gaps_of (row_of k steps))
 row_passes value k f spend gaps steps p law of_f kinds h =
     let e : columns_listed k (steps_of k steps) ≡ row_of k steps = listed_row k steps in
     let counted : gaps_of (row_of k steps) ≡ gaps = gaps_are value k p.lemmas gaps (row_of k steps) law h.lemmas.kept.justified h.lemmas.low h.first in
@@ -56,7 +55,7 @@ row_passes value k f spend gaps steps p law of_f kinds h =
       least = h.lemmas.low;
     }
 
-best_fits : (value : Row → State → Kinds → ℕ) (k : Kinds) (spend gaps : ℕ) (steps : List Step) (p : Progress) → Holds value k → AreSomeKinds k → IsFoundAt value k spend gaps steps p → BestFits k (best_with k gaps steps)
+best_fits : (value : Row → State → Kinds → ℕ) (k : Kinds) (spend gaps : ℕ) (steps : List Step) (p : SoFar) → Holds value k → AreSomeKinds k → IsFoundAt value k spend gaps steps p → BestFits k (best_with k gaps steps)
 best_fits value k spend gaps steps p law kinds h =
     record {
       few = omega (arith, h.lemmas.low, bound_le value k p.lemmas (start_of k) law (gates_are_nets k kinds) h.lemmas.kept.justified, kinds.few_columns);
@@ -81,19 +80,19 @@ searched_of value k f gaps log law of_f kinds h best =
       fits = record { lemmas = lemmas_fit value k gaps log.lemmas law kinds h; best = best };
     }
 
-nodes_of : (k : Kinds) (f : Fingers) (value : Row → State → Kinds → ℕ) (spend gaps : ℕ) (steps : List Step) (p : Progress) → AreKinds f k → IsFoundAt value k spend gaps steps p → p.nodes ≡ length p.lemmas + columns_of f + 1
+nodes_of : (k : Kinds) (f : Fingers) (value : Row → State → Kinds → ℕ) (spend gaps : ℕ) (steps : List Step) (p : SoFar) → AreKinds f k → IsFoundAt value k spend gaps steps p → p.nodes ≡ length p.lemmas + columns_of f + 1
 nodes_of k f value spend gaps steps p of_f h = omega (arith, h.nodes, h.first.completes.fewest, length_row k steps, columns_same f k of_f)
 
-solved_by : (value : Row → State → Kinds → ℕ) (k : Kinds) (f : Fingers) (spend gaps : ℕ) (steps : List Step) (p : Progress) → Holds value k → AreKinds f k → AreSomeKinds k → IsFoundAt value k spend gaps steps p → IsSolved value k f spend (row_of k steps) (found_of k p gaps steps).log
+solved_by : (value : Row → State → Kinds → ℕ) (k : Kinds) (f : Fingers) (spend gaps : ℕ) (steps : List Step) (p : SoFar) → Holds value k → AreKinds f k → AreSomeKinds k → IsFoundAt value k spend gaps steps p → IsSolved value k f spend (row_of k steps) (log_with p.lemmas (best_with k gaps steps))
 solved_by value k f spend gaps steps p law of_f kinds h =
     record {
       accepted = record { justified = h.lemmas.kept.justified; passes = row_passes value k f spend gaps steps p law of_f kinds h };
       lists = listed_row k steps;
       kept = omega (arith, h.few, nodes_of k f value spend gaps steps p of_f h);
-      searched = searched_of value k f gaps (found_of k p gaps steps).log law of_f kinds h.lemmas (best_fits value k spend gaps steps p law kinds h);
+      searched = searched_of value k f gaps (log_with p.lemmas (best_with k gaps steps)) law of_f kinds h.lemmas (best_fits value k spend gaps steps p law kinds h);
     }
 
-promised_found : (value : Row → State → Kinds → ℕ) (k : Kinds) (f : Fingers) (spend gaps : ℕ) (steps : List Step) (p : Progress) → Holds value k → AreKinds f k → AreSomeKinds k → IsFoundAt value k spend gaps steps p → Promised value f spend (Ok (found_of k p gaps steps))
+promised_found : (value : Row → State → Kinds → ℕ) (k : Kinds) (f : Fingers) (spend gaps : ℕ) (steps : List Step) (p : SoFar) → Holds value k → AreKinds f k → AreSomeKinds k → IsFoundAt value k spend gaps steps p → Promised value f spend (Ok (found_of k p gaps steps))
 promised_found value k f spend gaps steps p law of_f kinds h =
     record {
       row = first_least value k f p.lemmas gaps (row_of k steps) law of_f h.lemmas.kept.justified h.lemmas.low h.first;
@@ -102,26 +101,20 @@ promised_found value k f spend gaps steps p law of_f kinds h =
       spent = tt;
     }
 
-no_best : (log : Log) → log.best ≡ None → IsNone log.best
-no_best log e = subst (λ (b : Option Best). IsNone b) (sym e) refl
-
-none_fits : (k : Kinds) (best : Option Best) → best ≡ None → IfSome best (BestFits k)
-none_fits k best e = subst (λ (b : Option Best). IfSome b (BestFits k)) (sym e) tt
-
-spent_by : (value : Row → State → Kinds → ℕ) (k : Kinds) (f : Fingers) (spend : ℕ) (log : Log) (told : ℕ) → Holds value k → AreKinds f k → AreSomeKinds k → IsOpen value k spend log told → IsSpent value k f spend log told
-spent_by value k f spend log told law of_f kinds h =
+spent_by : (value : Row → State → Kinds → ℕ) (k : Kinds) (f : Fingers) (spend : ℕ) (kept : List Lemma) (told : ℕ) → Holds value k → AreKinds f k → AreSomeKinds k → IsOpen value k spend kept told → IsSpent value k f spend (log_without kept) told
+spent_by value k f spend kept told law of_f kinds h =
     record {
-      lists_none = no_best log h.best;
+      lists_none = refl;
       many = omega (arith, h.many, columns_same f k of_f);
       few = h.few;
       best = h.proved_is;
-      low = λ other arranges. omega (arith, h.proved_is, justified_least value k f log.lemmas law of_f h.lemmas.kept.justified other arranges);
-      short = too_short value k told spend log.lemmas law kinds h.lemmas h.many;
-      searched = searched_of value k f told log law of_f kinds h.lemmas (none_fits k log.best h.best);
+      low = λ other arranges. omega (arith, h.proved_is, justified_least value k f kept law of_f h.lemmas.kept.justified other arranges);
+      short = too_short value k told spend kept law kinds h.lemmas h.many;
+      searched = searched_of value k f told (log_without kept) law of_f kinds h.lemmas tt;
     }
 
 -- what the limits come to is what is promised
-pub promised : (value : Row → State → Kinds → ℕ) (k : Kinds) (f : Fingers) (spend : ℕ) (r : Result Found Stop) → Holds value k → AreKinds f k → AreSomeKinds k → IfOk r (IsFound value k spend) → IfErr r (StopsWell value k spend) → Promised value f spend r
-promised value k f spend (Ok found) law of_f kinds h i = subst (λ (z : Found). Promised value f spend (Ok z)) (sym h.is) (promised_found value k f spend h.gaps h.steps h.p law of_f kinds h.last)
-promised value k f spend (Err (Unfinished log told)) law of_f kinds h i = record { row = tt; solved = tt; nodes = tt; spent = (k, of_f, kinds, spent_by value k f spend log told law of_f kinds i) }
+pub promised : (value : Row → State → Kinds → ℕ) (k : Kinds) (f : Fingers) (spend : ℕ) (r : Result FoundKept StopKept) → Holds value k → AreKinds f k → AreSomeKinds k → IfOk r (IsFound value k spend) → IfErr r (StopsWell value k spend) → Promised value f spend r
+promised value k f spend (Ok found) law of_f kinds h i = subst (λ (z : FoundKept). Promised value f spend (Ok z)) (sym h.is) (promised_found value k f spend h.gaps h.steps h.p law of_f kinds h.last)
+promised value k f spend (Err (Unfinished kept told)) law of_f kinds h i = record { row = tt; solved = tt; nodes = tt; spent = (k, of_f, kinds, spent_by value k f spend kept told law of_f kinds i) }
 promised value k f spend (Err NoMemory) law of_f kinds h i = record { row = tt; solved = tt; nodes = tt; spent = tt }

@@ -1,7 +1,7 @@
 -- What a visit may conclude.
 use Rattle.std.proofs.Common.{ℕ, zero, suc, ◌≡◌, ◌+◌, ◌-◌, ◌<◌, ◌≤◌, List, [], ◌∷◌, ◌++◌, length, take, get_or, map, inl, inr, refl, sym, ap, subst, arith, All, Contains, ◌∙◌, ◌⊎◌, IsPermutation}
 use Rattle.std.proofs.lemmas.Bool.{cases_order}
-use Rattle.std.proofs.lemmas.List.Elements.{All-get_or, All-nil}
+use Rattle.std.proofs.lemmas.List.Elements.{All-nil}
 use Rattle.std.proofs.lemmas.List.{reverse-append, get_or-take, get_or_default, length-take}
 use Rattle.std.proofs.lemmas.List.Sorted.{IsPermutation-refl, length_permutation}
 use Rattle.cell_num.specs.declared.finger.Row.TheVariants.{P, N}
@@ -12,9 +12,9 @@ use Rattle.row_state.specs.declared.kind.Kinds.{Kinds}
 use Rattle.row_state.specs.declared.state.State.{State}
 use Rattle.row_state.specs.declared.step.Step.{Step}
 use Rattle.row_state.specs.Completion.{cost_of, further_gaps, Completes, fingers_left, left_in}
-use Rattle.row_state.specs.Order.{RowBefore}
+use Rattle.row_state.specs.Order.{ColumnBefore, RowBefore}
 use Rattle.row_state.specs.Start.{HasFingers, GatesAreNets}
-use Rattle.row_state.specs.Steps.{IsPossible, AreSuccessors, column_of, state_after}
+use Rattle.row_state.specs.Steps.{IsPossible, column_of, state_after}
 use Rattle.row_state.proofs.Unfold.{Next, unfold_to, unfold_from, further_step}
 use Rattle.row_state.specs.Gates.{most}
 use Rattle.row_state.proofs.Fewest.{most_same, most_none}
@@ -24,15 +24,20 @@ use Rattle.log_check.proofs.Sound.{best_true}
 use Rattle.row_search.specs.Steps.{row_of}
 use Rattle.row_search.specs.Visit.{IsFirstWithin}
 
--- a step fails: each completion behind it has more gaps than are allowed
-abbrev pub Fails : Kinds → State → ℕ → Step → Type 0
-Fails k s allowed step = (row : List Column) → Completes k (state_after k s step) row → allowed < cost_of s (column_of k step) + further_gaps (state_after k s step) row
+-- the steps are in order, and each possible next column is one of them
+pub record AreOrdered (k : Kinds) (s : State) (steps : List Step) : Type 0 where
+  pub all : (step : Step) → IsPossible k s step → Contains steps step
+  pub order : (i j : ℕ) (d : Step) → i < j → j < length steps → ColumnBefore (column_of k (get_or steps i d)) (column_of k (get_or steps j d))
 
-pub fails : (k : Kinds) (s : State) (allowed : ℕ) (step : Step) (lemmas : List Lemma) → All (IsTrueOf k) lemmas → StepReaches k (λ z. best_of z lemmas) s (allowed + 1) step → Fails k s allowed step
-fails k s allowed step lemmas all reaches row h = omega (arith, reaches, best_true k (state_after k s step) lemmas all row h)
+-- a step fails: it is not possible, or each completion behind it has more gaps than are allowed
+abbrev pub Fails : Kinds → State → ℕ → Step → Type 0
+Fails k s allowed step = IsPossible k s step → (row : List Column) → Completes k (state_after k s step) row → allowed < cost_of s (column_of k step) + further_gaps (state_after k s step) row
+
+pub fails : (k : Kinds) (s : State) (allowed : ℕ) (step : Step) (lemmas : List Lemma) → All (IsTrueOf k) lemmas → (IsPossible k s step → StepReaches k (λ z. best_of z lemmas) s (allowed + 1) step) → Fails k s allowed step
+fails k s allowed step lemmas all reaches possible row h = omega (arith, reaches possible, best_true k (state_after k s step) lemmas all row h)
 
 -- the order of two of the next columns, by their places
-after_or_same : (k : Kinds) (s : State) (steps : List Step) (i j : ℕ) (rest cs : List Column) (d : Step) → AreSuccessors k s steps → i < length steps → j < length steps → (j < i → ⊥) → (i ≡ j → (rest ≡ cs) ⊎ RowBefore rest cs) → (column_of k (get_or steps i d) ∷ rest ≡ column_of k (get_or steps j d) ∷ cs) ⊎ RowBefore (column_of k (get_or steps i d) ∷ rest) (column_of k (get_or steps j d) ∷ cs)
+after_or_same : (k : Kinds) (s : State) (steps : List Step) (i j : ℕ) (rest cs : List Column) (d : Step) → AreOrdered k s steps → i < length steps → j < length steps → (j < i → ⊥) → (i ≡ j → (rest ≡ cs) ⊎ RowBefore rest cs) → (column_of k (get_or steps i d) ∷ rest ≡ column_of k (get_or steps j d) ∷ cs) ⊎ RowBefore (column_of k (get_or steps i d) ∷ rest) (column_of k (get_or steps j d) ∷ cs)
 after_or_same k s steps i j rest cs d are wi wj not_before same =
     elim (cases_order i j) [
       | inl e ↦ elim (same e) [
@@ -45,21 +50,21 @@ after_or_same k s steps i j rest cs d are wi wj not_before same =
       ]
     ]
 
-first_at : (k : Kinds) (s : State) (allowed : ℕ) (steps : List Step) (i : ℕ) (d : Step) (rest : List Column) → AreSuccessors k s steps → i < length steps → All (Fails k s allowed) (take i steps) → cost_of s (column_of k (get_or steps i d)) ≤ allowed → IsFirstWithin k (state_after k s (get_or steps i d)) (allowed - cost_of s (column_of k (get_or steps i d))) rest → (j : ℕ) (cs : List Column) → j < length steps → Completes k (state_after k s (get_or steps j d)) cs → further_gaps s (column_of k (get_or steps j d) ∷ cs) ≤ allowed → (column_of k (get_or steps i d) ∷ rest ≡ column_of k (get_or steps j d) ∷ cs) ⊎ RowBefore (column_of k (get_or steps i d) ∷ rest) (column_of k (get_or steps j d) ∷ cs)
-first_at k s allowed steps i d rest are within failed cheap h j cs wj complete few =
+first_at : (k : Kinds) (s : State) (allowed : ℕ) (steps : List Step) (i : ℕ) (d : Step) (rest : List Column) → AreOrdered k s steps → i < length steps → All (Fails k s allowed) (take i steps) → cost_of s (column_of k (get_or steps i d)) ≤ allowed → IsFirstWithin k (state_after k s (get_or steps i d)) (allowed - cost_of s (column_of k (get_or steps i d))) rest → (j : ℕ) (cs : List Column) → j < length steps → IsPossible k s (get_or steps j d) → Completes k (state_after k s (get_or steps j d)) cs → further_gaps s (column_of k (get_or steps j d) ∷ cs) ≤ allowed → (column_of k (get_or steps i d) ∷ rest ≡ column_of k (get_or steps j d) ∷ cs) ⊎ RowBefore (column_of k (get_or steps i d) ∷ rest) (column_of k (get_or steps j d) ∷ cs)
+first_at k s allowed steps i d rest are within failed cheap h j cs wj possible complete few =
     let step_gaps : further_gaps s (column_of k (get_or steps j d) ∷ cs) ≡ cost_of s (column_of k (get_or steps j d)) + further_gaps (state_after k s (get_or steps j d)) cs = further_step k s (get_or steps j d) cs in
     after_or_same k s steps i j rest cs d are within wj
     (λ less.
     let shorter : j < length (take i steps) = omega (arith, length-take i steps) in
     let same : get_or (take i steps) j d ≡ get_or steps j d = get_or-take i steps j d less in
     let bad : Fails k s allowed (get_or steps j d) = subst (Fails k s allowed) same (failed j d shorter) in
-    omega (arith, bad cs complete, step_gaps))
+    omega (arith, bad possible cs complete, step_gaps))
     (λ e.
     let complete' : Completes k (state_after k s (get_or steps i d)) cs = subst (λ (n : ℕ). Completes k (state_after k s (get_or steps n d)) cs) (sym e) complete in
     let few' : further_gaps s (column_of k (get_or steps i d) ∷ cs) ≤ allowed = subst (λ (n : ℕ). further_gaps s (column_of k (get_or steps n d) ∷ cs) ≤ allowed) (sym e) few in
     h.first cs complete' (omega (arith, few', further_step k s (get_or steps i d) cs)))
 
-first_of : (k : Kinds) (s : State) (allowed : ℕ) (steps : List Step) (i : ℕ) (d : Step) (rest : List Column) → HasFingers k s → AreSuccessors k s steps → i < length steps → All (Fails k s allowed) (take i steps) → cost_of s (column_of k (get_or steps i d)) ≤ allowed → IsFirstWithin k (state_after k s (get_or steps i d)) (allowed - cost_of s (column_of k (get_or steps i d))) rest → (other : List Column) → Completes k s other → further_gaps s other ≤ allowed → (column_of k (get_or steps i d) ∷ rest ≡ other) ⊎ RowBefore (column_of k (get_or steps i d) ∷ rest) other
+first_of : (k : Kinds) (s : State) (allowed : ℕ) (steps : List Step) (i : ℕ) (d : Step) (rest : List Column) → HasFingers k s → AreOrdered k s steps → i < length steps → All (Fails k s allowed) (take i steps) → cost_of s (column_of k (get_or steps i d)) ≤ allowed → IsFirstWithin k (state_after k s (get_or steps i d)) (allowed - cost_of s (column_of k (get_or steps i d))) rest → (other : List Column) → Completes k s other → further_gaps s other ≤ allowed → (column_of k (get_or steps i d) ∷ rest ≡ other) ⊎ RowBefore (column_of k (get_or steps i d) ∷ rest) other
 first_of k s allowed steps i d rest some are within failed cheap h [] complete few =
     absurd (omega (arith, some, length_permutation (fingers_left P k.p s.p_left) [] complete.p, length_permutation (fingers_left N k.n s.n_left) [] complete.n))
 first_of k s allowed steps i d rest some are within failed cheap h (c ∷ cs) complete few =
@@ -70,12 +75,12 @@ first_of k s allowed steps i d rest some are within failed cheap h (c ∷ cs) co
     let is : column_of k (get_or steps j d) ≡ c = ap (column_of k) same ∙ next.is in
     let complete' : Completes k (state_after k s (get_or steps j d)) cs = subst (λ (z : Step). Completes k (state_after k s z) cs) (sym same) next.rest in
     let few' : further_gaps s (column_of k (get_or steps j d) ∷ cs) ≤ allowed = subst (λ (z : Column). further_gaps s (z ∷ cs) ≤ allowed) (sym is) few in
-    subst (λ (z : Column). (column_of k (get_or steps i d) ∷ rest ≡ z ∷ cs) ⊎ RowBefore (column_of k (get_or steps i d) ∷ rest) (z ∷ cs)) is (first_at k s allowed steps i d rest are within failed cheap h j cs there.1 complete' few')
+    subst (λ (z : Column). (column_of k (get_or steps i d) ∷ rest ≡ z ∷ cs) ⊎ RowBefore (column_of k (get_or steps i d) ∷ rest) (z ∷ cs)) is (first_at k s allowed steps i d rest are within failed cheap h j cs there.1 (subst (IsPossible k s) (sym same) next.possible) complete' few')
 
-pub found : (k : Kinds) (s : State) (allowed : ℕ) (steps : List Step) (i : ℕ) (d : Step) (rest : List Column) → GatesAreNets k → HasFingers k s → AreSuccessors k s steps → i < length steps → All (Fails k s allowed) (take i steps) → cost_of s (column_of k (get_or steps i d)) ≤ allowed → IsFirstWithin k (state_after k s (get_or steps i d)) (allowed - cost_of s (column_of k (get_or steps i d))) rest → IsFirstWithin k s allowed (column_of k (get_or steps i d) ∷ rest)
-found k s allowed steps i d rest nets some are within failed cheap h =
+pub found : (k : Kinds) (s : State) (allowed : ℕ) (steps : List Step) (i : ℕ) (d : Step) (rest : List Column) → GatesAreNets k → HasFingers k s → AreOrdered k s steps → i < length steps → IsPossible k s (get_or steps i d) → All (Fails k s allowed) (take i steps) → cost_of s (column_of k (get_or steps i d)) ≤ allowed → IsFirstWithin k (state_after k s (get_or steps i d)) (allowed - cost_of s (column_of k (get_or steps i d))) rest → IsFirstWithin k s allowed (column_of k (get_or steps i d) ∷ rest)
+found k s allowed steps i d rest nets some are within possible failed cheap h =
     record {
-      completes = unfold_from k s (get_or steps i d) rest nets (All-get_or (IsPossible k s) steps i d within are.possible) h.completes;
+      completes = unfold_from k s (get_or steps i d) rest nets possible h.completes;
       within = omega (arith, h.within, cheap, further_step k s (get_or steps i d) rest);
       first = first_of k s allowed steps i d rest some are within failed cheap h;
     }

@@ -1,6 +1,8 @@
 -- The ways in which a visit ends, over what it begins with and what it comes to.
-use Rattle.std.proofs.Common.{ℕ, ◌≡◌, ◌+◌, ◌-◌, ◌<◌, ◌≤◌, Bool, true, false, List, [], ◌∷◌, ◌++◌, length, length-append, take, get_or, refl, sym, ap, subst, arith, All, ◌∙◌, ◌↔◌, IsTrue, Option, Some, None}
-use Rattle.std.proofs.lemmas.List.Elements.{All-more, All-weaker, All-push, All-nil}
+use Rattle.std.proofs.Common.{ℕ, ◌≡◌, ◌+◌, ◌-◌, ◌<◌, ◌≤◌, Bool, true, false, List, [], ◌∷◌, ◌++◌, length, length-append, take, take_all, get_or, refl, sym, ap, subst, arith, All, ◌∙◌, ◌↔◌, IsTrue, Option, Some, None}
+use Rattle.std.proofs.lemmas.List.Elements.{All-contains, All-more, All-push, All-nil}
+use Rattle.std.proofs.lemmas.List.{get_or-map, length-map, take-map}
+use Rattle.cell_num.proofs.Lists.{all_map}
 use Rattle.cell_num.specs.declared.finger.Row.{Row}
 use Rattle.row_state.specs.declared.kind.Kinds.{Kinds}
 use Rattle.row_state.specs.declared.kind.Kind.{Kind}
@@ -9,27 +11,31 @@ use Rattle.row_state.specs.declared.step.Side.{Side}
 use Rattle.row_state.specs.declared.step.Step.{Step}
 use Rattle.row_state.specs.Completion.{cost_of}
 use Rattle.row_state.specs.Start.{AreSomeKinds, GatesAreNets, IsState, HasFingers, columns_left}
-use Rattle.row_state.specs.Steps.{IsLeft, IsPossible, AreSuccessors, column_of, state_after}
-use Rattle.row_state.proofs.Calls.{fewer_after}
+use Rattle.row_state.specs.declared.candidate.Candidate.{Candidate}
+use Rattle.row_state.specs.Candidates.{AreCandidates, IsCandidate, candidate_steps}
+use Rattle.row_state.specs.Code.{state_code}
+use Rattle.row_state.specs.Steps.{IsLeft, IsPossible, column_of, state_after}
+use Rattle.row_state.proofs.Calls.{fewer_after, valid_after}
+use Rattle.row_state.proofs.Digits.{among_candidates}
 use Rattle.row_state.proofs.Valid.{gates_are_nets}
 use Rattle.bound_log.specs.declared.log.Lemma.{Lemma}
 use Rattle.bound_log.specs.declared.log.Rule.{Rule}
 use Rattle.bound_log.specs.declared.log.Rule.TheVariants as by
 use Rattle.bound_log.specs.Fits.{SideFits}
-use Rattle.log_check.specs.Accepted.{best_of, StepReaches, RuleReaches, AreJustified}
-use Rattle.log_check.proofs.Branches.{step_possible}
+use Rattle.log_check.specs.Accepted.{best_of, BranchReaches, StepReaches, RuleReaches, AreJustified}
+use Rattle.log_check.specs.Known.{best_known}
 use Rattle.log_check.proofs.Sound.{Holds, sound}
-use Rattle.row_search.specs.declared.progress.Progress.{Progress}
 use Rattle.row_search.specs.Ended.{IsLean}
 use Rattle.row_search.specs.Reached.{IsReached, IsWithin}
+use Rattle.row_search.specs.SoFar.{KnowsAll, SoFar, one_node}
 use Rattle.row_search.specs.Steps.{IsStep, row_of}
-use Rattle.row_search.specs.Visit.{AreKept, HasFailed, HasFound, HasSpent, IsAllowed, IsFirstWithin, IsFurther, IsGrown, KnowsAll, RowReaches, lemma_of}
-use Rattle.row_search.proofs.Grown.{all_reach_grown, best_unmoved, kept_push, grown_refl, grown_trans, grown_weaker, kept_bound, kept_grown, kept_length}
+use Rattle.row_search.specs.Visit.{AreKept, HasFailed, HasFound, HasSpent, IsAllowed, IsFirstWithin, IsFurther, IsGrown, RowReaches, lemma_of}
+use Rattle.row_search.proofs.Grown.{Reaches, all_reach_grown, best_unmoved, kept_push, grown_refl, grown_trans, grown_weaker, kept_bound, kept_grown, kept_length}
 use Rattle.row_search.proofs.Reach.{reached_after}
-use Rattle.row_search.proofs.Rows.{Fails, fails, found, leaf, row_of_push}
+use Rattle.row_search.proofs.Rows.{AreOrdered, Fails, fails, found, leaf, row_of_push}
 
 -- the lemmas of before, and no fewer nodes
-pub further_same : (value : Row → State → Kinds → ℕ) (k : Kinds) (budget n : ℕ) (s : State) (allowed : ℕ) (p q : Progress) → q.lemmas ≡ p.lemmas → p.nodes ≤ q.nodes → q.nodes ≤ budget → AreKept value k p.lemmas → IsFurther value k budget n s allowed p q
+pub further_same : (value : Row → State → Kinds → ℕ) (k : Kinds) (budget n : ℕ) (s : State) (allowed : ℕ) (p q : SoFar) → q.lemmas ≡ p.lemmas → p.nodes ≤ q.nodes → q.nodes ≤ budget → AreKept value k p.lemmas → IsFurther value k budget n s allowed p q
 further_same value k budget n s allowed p q same more few kept =
     record {
       nodes = few;
@@ -39,12 +45,12 @@ further_same value k budget n s allowed p q same more few kept =
       fewer = omega (arith, ap length same, more);
     }
 
-pub further_wider : (value : Row → State → Kinds → ℕ) (k : Kinds) (budget : ℕ) (s : State) (allowed : ℕ) (p q : Progress) → IsFurther value k budget (columns_left k s) s allowed p q → IsFurther value k budget (columns_left k s + 1) s allowed p q
+pub further_wider : (value : Row → State → Kinds → ℕ) (k : Kinds) (budget : ℕ) (s : State) (allowed : ℕ) (p q : SoFar) → IsFurther value k budget (columns_left k s) s allowed p q → IsFurther value k budget (columns_left k s + 1) s allowed p q
 further_wider value k budget s allowed p q h =
     record { nodes = h.nodes; lemmas = h.lemmas; grown = grown_weaker k (columns_left k s) (columns_left k s + 1) p.lemmas q.lemmas (omega arith) h.grown; within = h.within; fewer = h.fewer }
 
 -- the same lemmas and nodes again
-pub further_still : (value : Row → State → Kinds → ℕ) (k : Kinds) (budget n : ℕ) (s : State) (allowed : ℕ) (p q r : Progress) → r.lemmas ≡ q.lemmas → r.nodes ≡ q.nodes → IsFurther value k budget n s allowed p q → IsFurther value k budget n s allowed p r
+pub further_still : (value : Row → State → Kinds → ℕ) (k : Kinds) (budget n : ℕ) (s : State) (allowed : ℕ) (p q r : SoFar) → r.lemmas ≡ q.lemmas → r.nodes ≡ q.nodes → IsFurther value k budget n s allowed p q → IsFurther value k budget n s allowed p r
 further_still value k budget n s allowed p q r same nodes h =
     record {
       nodes = omega (arith, h.nodes, nodes);
@@ -64,7 +70,7 @@ allowed_after k limit s after allowed cost step some possible ec cheap ea h =
     }
 
 -- a visit of a state behind is a part of the visit
-pub further_behind : (value : Row → State → Kinds → ℕ) (k : Kinds) (budget : ℕ) (s after : State) (allowed cost : ℕ) (step : Step) (p q r : Progress) → AreSomeKinds k → IsPossible k s step → cost ≡ cost_of s (column_of k step) → cost ≤ allowed → after ≡ state_after k s step → IsFurther value k budget (columns_left k s) s allowed p q → IsFurther value k budget (columns_left k after + 1) after (allowed - cost) q r → IsFurther value k budget (columns_left k s) s allowed p r
+pub further_behind : (value : Row → State → Kinds → ℕ) (k : Kinds) (budget : ℕ) (s after : State) (allowed cost : ℕ) (step : Step) (p q r : SoFar) → AreSomeKinds k → IsPossible k s step → cost ≡ cost_of s (column_of k step) → cost ≤ allowed → after ≡ state_after k s step → IsFurther value k budget (columns_left k s) s allowed p q → IsFurther value k budget (columns_left k after + 1) after (allowed - cost) q r → IsFurther value k budget (columns_left k s) s allowed p r
 further_behind value k budget s after allowed cost step p q r some possible ec cheap ea h i =
     let fewer_left : columns_left k s ≡ columns_left k after + 1 = fewer_after k s step some possible ∙ ap (λ (z : State). columns_left k z + 1) (sym ea) in
     record {
@@ -76,23 +82,29 @@ further_behind value k budget s after allowed cost step p q r some possible ec c
     }
 
 -- some of the next columns were tried, and all of them failed
-pub record HasTried (value : Row → State → Kinds → ℕ) (k : Kinds) (budget : ℕ) (s : State) (allowed : ℕ) (p q : Progress) : Type 0 where
+pub record HasTried (value : Row → State → Kinds → ℕ) (k : Kinds) (budget : ℕ) (s : State) (allowed : ℕ) (p q : SoFar) : Type 0 where
   pub further : IsFurther value k budget (columns_left k s) s allowed p q
   pub knows : KnowsAll k q
   pub counted : q.nodes + length p.lemmas ≡ p.nodes + length q.lemmas + 1
 
-abbrev pub one_node : Progress → Progress
-one_node p = record { nodes = p.nodes + 1; known = p.known; lemmas = p.lemmas }
+counted_nodes : (p q : SoFar) → q ≡ one_node p → q.nodes ≡ p.nodes + 1
+counted_nodes p q e = ap (λ (z : SoFar). z.nodes) e
 
-pub tried_none : (value : Row → State → Kinds → ℕ) (k : Kinds) (budget : ℕ) (s : State) (allowed : ℕ) (p : Progress) → AreKept value k p.lemmas → KnowsAll k p → p.nodes + 1 ≤ budget → HasTried value k budget s allowed p (one_node p)
-tried_none value k budget s allowed p kept knows few =
+counted_lemmas : (p q : SoFar) → q ≡ one_node p → q.lemmas ≡ p.lemmas
+counted_lemmas p q e = ap (λ (z : SoFar). z.lemmas) e
+
+pub further_counted : (value : Row → State → Kinds → ℕ) (k : Kinds) (budget n : ℕ) (s : State) (allowed : ℕ) (p q : SoFar) → q ≡ one_node p → p.nodes + 1 ≤ budget → AreKept value k p.lemmas → IsFurther value k budget n s allowed p q
+further_counted value k budget n s allowed p q e few kept = further_same value k budget n s allowed p q (counted_lemmas p q e) (omega (arith, counted_nodes p q e)) (omega (arith, counted_nodes p q e, few)) kept
+
+pub tried_none : (value : Row → State → Kinds → ℕ) (k : Kinds) (budget : ℕ) (s : State) (allowed : ℕ) (p q : SoFar) → q ≡ one_node p → AreKept value k p.lemmas → KnowsAll k p → p.nodes + 1 ≤ budget → HasTried value k budget s allowed p q
+tried_none value k budget s allowed p q e kept knows few =
     record {
-      further = further_same value k budget (columns_left k s) s allowed p (one_node p) refl (omega arith) few kept;
-      knows = knows;
-      counted = omega arith;
+      further = further_counted value k budget (columns_left k s) s allowed p q e few kept;
+      knows = subst (KnowsAll k) (sym e) (record { kinds = knows.kinds; table = knows.table });
+      counted = omega (arith, counted_nodes p q e, ap length (counted_lemmas p q e));
     }
 
-pub tried_more : (value : Row → State → Kinds → ℕ) (k : Kinds) (budget : ℕ) (s after : State) (allowed cost : ℕ) (step : Step) (p q r : Progress) → AreSomeKinds k → IsPossible k s step → cost ≡ cost_of s (column_of k step) → cost ≤ allowed → after ≡ state_after k s step → HasTried value k budget s allowed p q → IsFurther value k budget (columns_left k after + 1) after (allowed - cost) q r → HasFailed k after (allowed - cost) q r → HasTried value k budget s allowed p r
+pub tried_more : (value : Row → State → Kinds → ℕ) (k : Kinds) (budget : ℕ) (s after : State) (allowed cost : ℕ) (step : Step) (p q r : SoFar) → AreSomeKinds k → IsPossible k s step → cost ≡ cost_of s (column_of k step) → cost ≤ allowed → after ≡ state_after k s step → HasTried value k budget s allowed p q → IsFurther value k budget (columns_left k after + 1) after (allowed - cost) q r → HasFailed k after (allowed - cost) q r → HasTried value k budget s allowed p r
 tried_more value k budget s after allowed cost step p q r some possible ec cheap ea h i failed =
     record {
       further = further_behind value k budget s after allowed cost step p q r some possible ec cheap ea h.further i;
@@ -105,7 +117,7 @@ within_push k limit xs ys s allowed rule e reached all =
     subst (All (IsWithin k limit)) (sym e) (All-push (IsWithin k limit) xs (lemma_of s (allowed + 1) rule) all (record { gaps = reached.gaps; reached = reached.reached; within = omega (arith, reached.within) }))
 
 -- a lemma of the state is kept
-pub further_kept : (value : Row → State → Kinds → ℕ) (k : Kinds) (budget : ℕ) (s : State) (allowed : ℕ) (rule : Rule) (p q r : Progress) → HasTried value k budget s allowed p q → r.nodes ≡ q.nodes → r.lemmas ≡ q.lemmas ++ lemma_of s (allowed + 1) rule ∷ [] → IsState k s → RuleReaches value k (λ z. best_of z q.lemmas) rule s (allowed + 1) → IsLean value k (lemma_of s (allowed + 1) rule) → best_of s p.lemmas ≤ allowed → IsFurther value k budget (columns_left k s + 1) s allowed p r
+pub further_kept : (value : Row → State → Kinds → ℕ) (k : Kinds) (budget : ℕ) (s : State) (allowed : ℕ) (rule : Rule) (p q r : SoFar) → HasTried value k budget s allowed p q → r.nodes ≡ q.nodes → r.lemmas ≡ q.lemmas ++ lemma_of s (allowed + 1) rule ∷ [] → IsState k s → RuleReaches value k (λ z. best_of z q.lemmas) rule s (allowed + 1) → IsLean value k (lemma_of s (allowed + 1) rule) → best_of s p.lemmas ≤ allowed → IsFurther value k budget (columns_left k s + 1) s allowed p r
 further_kept value k budget s allowed rule p q r h nodes pushed state reaches lean low =
     let low_still : best_of s q.lemmas < allowed + 1 = omega (arith, low, best_unmoved k s p.lemmas q.lemmas h.further.grown) in
     record {
@@ -116,7 +128,7 @@ further_kept value k budget s allowed rule p q r h nodes pushed state reaches le
       fewer = omega (arith, h.counted, nodes, kept_length q.lemmas r.lemmas s (allowed + 1) rule pushed);
     }
 
-pub failed_kept : (value : Row → State → Kinds → ℕ) (k : Kinds) (budget : ℕ) (s : State) (allowed : ℕ) (rule : Rule) (p q r : Progress) → HasTried value k budget s allowed p q → r.nodes ≡ q.nodes → r.lemmas ≡ q.lemmas ++ lemma_of s (allowed + 1) rule ∷ [] → (KnowsAll k q → KnowsAll k r) → HasFailed k s allowed p r
+pub failed_kept : (value : Row → State → Kinds → ℕ) (k : Kinds) (budget : ℕ) (s : State) (allowed : ℕ) (rule : Rule) (p q r : SoFar) → HasTried value k budget s allowed p q → r.nodes ≡ q.nodes → r.lemmas ≡ q.lemmas ++ lemma_of s (allowed + 1) rule ∷ [] → (KnowsAll k q → KnowsAll k r) → HasFailed k s allowed p r
 failed_kept value k budget s allowed rule p q r h nodes pushed knows =
     record {
       knows = knows h.knows;
@@ -133,26 +145,22 @@ row_reaches value k best s n by.Branch h = absurd h
 pub some_left : {X : Type 0} {b : Bool} → (IsTrue b ↔ X) → b ≡ true → X
 some_left tells e = tells.0 e
 
--- the kept bound fails at once
-pub known_fails : (k : Kinds) (s : State) (allowed best : ℕ) (p : Progress) → KnowsAll k p → IsState k s → best ≡ best_of s p.lemmas → allowed < best → HasFailed k s allowed p p
-known_fails k s allowed best p knows state e above = record { knows = knows; proves = omega (arith, e, above); counted = refl }
-
-pub budget_spent : (k : Kinds) (budget : ℕ) (s : State) (p : Progress) → KnowsAll k p → p.nodes ≡ budget → HasSpent k budget s p p
+pub budget_spent : (k : Kinds) (budget : ℕ) (s : State) (p : SoFar) → KnowsAll k p → p.nodes ≡ budget → HasSpent k budget s p p
 budget_spent k budget s p knows e = record { nodes = e; knows = knows; most = omega arith }
 
-pub spent_behind : (value : Row → State → Kinds → ℕ) (k : Kinds) (budget : ℕ) (s after : State) (allowed : ℕ) (step : Step) (p q r : Progress) → AreSomeKinds k → IsPossible k s step → after ≡ state_after k s step → HasTried value k budget s allowed p q → HasSpent k budget after q r → HasSpent k budget s p r
+pub spent_behind : (value : Row → State → Kinds → ℕ) (k : Kinds) (budget : ℕ) (s after : State) (allowed : ℕ) (step : Step) (p q r : SoFar) → AreSomeKinds k → IsPossible k s step → after ≡ state_after k s step → HasTried value k budget s allowed p q → HasSpent k budget after q r → HasSpent k budget s p r
 spent_behind value k budget s after allowed step p q r some possible ea h spent =
     let fewer_left : columns_left k s ≡ columns_left k after + 1 = fewer_after k s step some possible ∙ ap (λ (z : State). columns_left k z + 1) (sym ea) in
     record { nodes = spent.nodes; knows = spent.knows; most = omega (arith, spent.most, h.counted, fewer_left) }
 
 -- no finger is left
-pub found_leaf : (k : Kinds) (s : State) (allowed : ℕ) (steps : List Step) (b : Bool) (p : Progress) → steps ≡ [] → (IsTrue b ↔ HasFingers k s) → b ≡ false → HasFound k s allowed steps p (one_node p)
-found_leaf k s allowed steps b p e tells is_false =
-    subst (λ (r : List Step). HasFound k s allowed r p (one_node p)) (sym e)
+pub found_leaf : (k : Kinds) (s : State) (allowed : ℕ) (steps : List Step) (b : Bool) (p q : SoFar) → q ≡ one_node p → steps ≡ [] → (IsTrue b ↔ HasFingers k s) → b ≡ false → HasFound k s allowed steps p q
+found_leaf k s allowed steps b p q counted e tells is_false =
+    subst (λ (r : List Step). HasFound k s allowed r p q) (sym e)
     (record {
       row = leaf k s allowed (λ some. let yes : b ≡ true = tells.1 some in cc);
       sound = All-nil (IsStep k);
-      counted = omega arith;
+      counted = omega (arith, counted_nodes p q counted, ap length (counted_lemmas p q counted));
     })
 
 -- what a possible step says of its kinds
@@ -163,29 +171,50 @@ side_fits kinds left (Some side) h = h.0
 pub step_is : (k : Kinds) (s : State) (step : Step) → IsPossible k s step → IsStep k step
 step_is k s step h = record { p = side_fits k.p s.p_left step.p h.p; n = side_fits k.n s.n_left step.n h.n; column = h.column }
 
-pub possible_at : (k : Kinds) (s : State) (steps items : List Step) (i : ℕ) (d : Step) → AreSuccessors k s steps → items ≡ steps → i < length items → IsPossible k s (get_or items i d)
-possible_at k s steps items i d are same within = step_possible k s items i d (subst (AreSuccessors k s) (sym same) are) within
+-- the next columns of a state among the candidates
+candidates_ordered : (k : Kinds) (all : List Candidate) (s : State) → AreCandidates k all → IsState k s → AreOrdered k s (candidate_steps all)
+candidates_ordered k all s are valid = record { all = λ step possible. among_candidates k all s step are valid possible; order = are.steps.order }
 
--- one more step that fails: it costs too much, or a lemma says so of the state behind it
-pub step_dear : (k : Kinds) (s : State) (allowed cost : ℕ) (best : State → ℕ) (items : List Step) (i : ℕ) (d : Step) → All (StepReaches k best s (allowed + 1)) (take i items) → i < length items → cost ≡ cost_of s (column_of k (get_or items i d)) → allowed < cost → All (StepReaches k best s (allowed + 1)) (take (i + 1) items)
-step_dear k s allowed cost best items i d all within ec dear = All-more (StepReaches k best s (allowed + 1)) items i d within all (omega (arith, ec, dear))
+-- one more column that may not come next, or that fails: it costs too much, or a lemma says so of the state behind it
+pub step_not : (k : Kinds) (s : State) (bound : ℕ) (best : State → ℕ) (items : List Candidate) (i : ℕ) (d : Candidate) (b : Bool) → All (Reaches k best s bound) (take i items) → i < length items → (IsTrue b ↔ IsPossible k s (get_or items i d).step) → b ≡ false → All (Reaches k best s bound) (take (i + 1) items)
+step_not k s bound best items i d b all within tells is_false = All-more (Reaches k best s bound) items i d within all (λ possible. let yes : b ≡ true = tells.1 possible in absurd (cc))
 
-pub step_fails : (k : Kinds) (m : ℕ) (s after : State) (allowed cost : ℕ) (log grown : List Lemma) (items : List Step) (i : ℕ) (d : Step) → IsGrown k m log grown → All (StepReaches k (λ z. best_of z log) s (allowed + 1)) (take i items) → i < length items → cost ≡ cost_of s (column_of k (get_or items i d)) → after ≡ state_after k s (get_or items i d) → allowed - cost < best_of after grown → All (StepReaches k (λ z. best_of z grown) s (allowed + 1)) (take (i + 1) items)
+pub step_dear : (k : Kinds) (s : State) (allowed cost : ℕ) (best : State → ℕ) (items : List Candidate) (i : ℕ) (d : Candidate) → All (Reaches k best s (allowed + 1)) (take i items) → i < length items → cost ≡ cost_of s (column_of k (get_or items i d).step) → allowed < cost → All (Reaches k best s (allowed + 1)) (take (i + 1) items)
+step_dear k s allowed cost best items i d all within ec dear = All-more (Reaches k best s (allowed + 1)) items i d within all (λ possible. omega (arith, ec, dear))
+
+pub step_known : (k : Kinds) (s : State) (allowed cost told : ℕ) (log : List Lemma) (items : List Candidate) (i : ℕ) (d : Candidate) → All (Reaches k (λ z. best_of z log) s (allowed + 1)) (take i items) → i < length items → cost ≡ cost_of s (column_of k (get_or items i d).step) → told ≡ best_of (state_after k s (get_or items i d).step) log → allowed - cost < told → All (Reaches k (λ z. best_of z log) s (allowed + 1)) (take (i + 1) items)
+step_known k s allowed cost told log items i d all within ec is above = All-more (Reaches k (λ z. best_of z log) s (allowed + 1)) items i d within all (λ possible. omega (arith, above, ec, is))
+
+pub step_fails : (k : Kinds) (m : ℕ) (s after : State) (allowed cost : ℕ) (log grown : List Lemma) (items : List Candidate) (i : ℕ) (d : Candidate) → IsGrown k m log grown → All (Reaches k (λ z. best_of z log) s (allowed + 1)) (take i items) → i < length items → cost ≡ cost_of s (column_of k (get_or items i d).step) → after ≡ state_after k s (get_or items i d).step → allowed - cost < best_of after grown → All (Reaches k (λ z. best_of z grown) s (allowed + 1)) (take (i + 1) items)
 step_fails k m s after allowed cost log grown items i d g all within ec ea above =
-    All-more (StepReaches k (λ z. best_of z grown) s (allowed + 1)) items i d within (all_reach_grown k m s (allowed + 1) (take i items) log grown g all) (omega (arith, above, ec, ap (λ z. best_of z grown) ea))
+    All-more (Reaches k (λ z. best_of z grown) s (allowed + 1)) items i d within (all_reach_grown k m s (allowed + 1) (take i items) log grown g all) (λ possible. omega (arith, above, ec, ap (λ z. best_of z grown) ea))
+
+-- all columns that may come next reach the bound
+pub branch_end : (k : Kinds) (s : State) (items all : List Candidate) (i : ℕ) (best : State → ℕ) (bound : ℕ) → AreCandidates k all → IsState k s → items ≡ all → length items ≤ i → All (Reaches k best s bound) (take i items) → BranchReaches k best s bound
+branch_end k s items all i best bound are valid same past tried step possible =
+    let each : All (Reaches k best s bound) all = subst (All (Reaches k best s bound)) same (subst (All (Reaches k best s bound)) (take_all i items past) tried) in
+    let steps : All (λ (x : Step). IsPossible k s x → StepReaches k best s bound x) (candidate_steps all) = all_map (Reaches k best s bound) (λ (x : Step). IsPossible k s x → StepReaches k best s bound x) (λ (c : Candidate). c.step) all (λ c h. h) each in
+    All-contains (λ (x : Step). IsPossible k s x → StepReaches k best s bound x) (candidate_steps all) step steps (among_candidates k all s step are valid possible) possible
 
 -- the first completion behind the first step that does not fail is the first of the state
-first_behind : (value : Row → State → Kinds → ℕ) (k : Kinds) (s after : State) (allowed cost : ℕ) (log : List Lemma) (steps items : List Step) (i : ℕ) (d : Step) (rest pushed : List Step) → Holds value k → AreJustified value k log → GatesAreNets k → HasFingers k s → AreSuccessors k s steps → items ≡ steps → i < length items → All (StepReaches k (λ z. best_of z log) s (allowed + 1)) (take i items) → cost ≡ cost_of s (column_of k (get_or items i d)) → cost ≤ allowed → after ≡ state_after k s (get_or items i d) → IsFirstWithin k after (allowed - cost) (row_of k rest) → pushed ≡ rest ++ get_or items i d ∷ [] → IsFirstWithin k s allowed (row_of k pushed)
-first_behind value k s after allowed cost log steps items i d rest pushed law justified nets some are same within failed ec cheap ea h ep =
-    let are' : AreSuccessors k s items = subst (AreSuccessors k s) (sym same) are in
-    let all_fail : All (Fails k s allowed) (take i items) = All-weaker (StepReaches k (λ z. best_of z log) s (allowed + 1)) (Fails k s allowed) (λ z. fails k s allowed z log (sound value k log law justified)) (take i items) failed in
-    let h' : IsFirstWithin k (state_after k s (get_or items i d)) (allowed - cost_of s (column_of k (get_or items i d))) (row_of k rest) = subst (λ (z : State). IsFirstWithin k z (allowed - cost_of s (column_of k (get_or items i d))) (row_of k rest)) ea (subst (λ (n : ℕ). IsFirstWithin k after (allowed - n) (row_of k rest)) ec h) in
-    subst (IsFirstWithin k s allowed) (sym (ap (row_of k) ep ∙ row_of_push k rest (get_or items i d))) (found k s allowed items i d (row_of k rest) nets some are' within all_fail (omega (arith, ec, cheap)) h')
+first_behind : (value : Row → State → Kinds → ℕ) (k : Kinds) (s after : State) (allowed cost : ℕ) (log : List Lemma) (items : List Candidate) (i : ℕ) (d : Candidate) (rest pushed : List Step) → Holds value k → AreJustified value k log → GatesAreNets k → HasFingers k s → AreOrdered k s (candidate_steps items) → i < length items → IsPossible k s (get_or items i d).step → All (Reaches k (λ z. best_of z log) s (allowed + 1)) (take i items) → cost ≡ cost_of s (column_of k (get_or items i d).step) → cost ≤ allowed → after ≡ state_after k s (get_or items i d).step → IsFirstWithin k after (allowed - cost) (row_of k rest) → pushed ≡ rest ++ (get_or items i d).step ∷ [] → IsFirstWithin k s allowed (row_of k pushed)
+first_behind value k s after allowed cost log items i d rest pushed law justified nets some are within possible failed ec cheap ea h ep =
+    let step : Step = (get_or items i d).step in
+    let here : get_or (candidate_steps items) i d.step ≡ step = get_or-map (λ (c : Candidate). c.step) items i d d.step within in
+    let inside : i < length (candidate_steps items) = omega (arith, within, length-map items (λ (c : Candidate). c.step)) in
+    let all_fail : All (Fails k s allowed) (take i (candidate_steps items)) = subst (All (Fails k s allowed)) (sym (take-map (λ (c : Candidate). c.step) i items)) (all_map (Reaches k (λ z. best_of z log) s (allowed + 1)) (Fails k s allowed) (λ (c : Candidate). c.step) (take i items) (λ c. fails k s allowed c.step log (sound value k log law justified)) failed) in
+    let h' : IsFirstWithin k (state_after k s step) (allowed - cost_of s (column_of k step)) (row_of k rest) = subst (λ (z : State). IsFirstWithin k z (allowed - cost_of s (column_of k step)) (row_of k rest)) ea (subst (λ (n : ℕ). IsFirstWithin k after (allowed - n) (row_of k rest)) ec h) in
+    let first : (z : Step) → get_or (candidate_steps items) i d.step ≡ z → IsPossible k s z → cost_of s (column_of k z) ≤ allowed → IsFirstWithin k (state_after k s z) (allowed - cost_of s (column_of k z)) (row_of k rest) → IsFirstWithin k s allowed (column_of k z ∷ row_of k rest) = λ z e. subst (λ (y : Step). IsPossible k s y → cost_of s (column_of k y) ≤ allowed → IsFirstWithin k (state_after k s y) (allowed - cost_of s (column_of k y)) (row_of k rest) → IsFirstWithin k s allowed (column_of k y ∷ row_of k rest)) e (λ may cheaply f. found k s allowed (candidate_steps items) i d.step (row_of k rest) nets some are inside may all_fail cheaply f) in
+    subst (IsFirstWithin k s allowed) (sym (ap (row_of k) ep ∙ row_of_push k rest step)) (first step here possible (omega (arith, ec, cheap)) h')
 
-pub found_behind : (value : Row → State → Kinds → ℕ) (k : Kinds) (budget : ℕ) (s after : State) (allowed cost : ℕ) (steps items : List Step) (i : ℕ) (d : Step) (rest pushed : List Step) (p q r : Progress) → Holds value k → AreSomeKinds k → HasFingers k s → AreSuccessors k s steps → items ≡ steps → i < length items → All (StepReaches k (λ z. best_of z q.lemmas) s (allowed + 1)) (take i items) → cost ≡ cost_of s (column_of k (get_or items i d)) → cost ≤ allowed → after ≡ state_after k s (get_or items i d) → HasTried value k budget s allowed p q → HasFound k after (allowed - cost) rest q r → pushed ≡ rest ++ get_or items i d ∷ [] → HasFound k s allowed pushed p r
-found_behind value k budget s after allowed cost steps items i d rest pushed p q r law kinds some are same within failed ec cheap ea h behind ep =
+pub found_behind : (value : Row → State → Kinds → ℕ) (k : Kinds) (budget : ℕ) (s after : State) (allowed cost : ℕ) (items all : List Candidate) (i : ℕ) (d : Candidate) (rest pushed : List Step) (p q r : SoFar) → Holds value k → AreSomeKinds k → HasFingers k s → AreCandidates k all → IsState k s → items ≡ all → i < length items → IsPossible k s (get_or items i d).step → All (Reaches k (λ z. best_of z q.lemmas) s (allowed + 1)) (take i items) → cost ≡ cost_of s (column_of k (get_or items i d).step) → cost ≤ allowed → after ≡ state_after k s (get_or items i d).step → HasTried value k budget s allowed p q → HasFound k after (allowed - cost) rest q r → pushed ≡ rest ++ (get_or items i d).step ∷ [] → HasFound k s allowed pushed p r
+found_behind value k budget s after allowed cost items all i d rest pushed p q r law kinds some are valid same within possible failed ec cheap ea h behind ep =
     record {
-      row = first_behind value k s after allowed cost q.lemmas steps items i d rest pushed law h.further.lemmas.justified (gates_are_nets k kinds) some are same within failed ec cheap ea behind.row ep;
-      sound = subst (All (IsStep k)) (sym ep) (All-push (IsStep k) rest (get_or items i d) behind.sound (step_is k s (get_or items i d) (possible_at k s steps items i d are same within)));
-      counted = omega (arith, behind.counted, h.counted, ap length ep, length-append rest (get_or items i d ∷ []));
+      row = first_behind value k s after allowed cost q.lemmas items i d rest pushed law h.further.lemmas.justified (gates_are_nets k kinds) some (candidates_ordered k items s (subst (AreCandidates k) (sym same) are) valid) within possible failed ec cheap ea behind.row ep;
+      sound = subst (All (IsStep k)) (sym ep) (All-push (IsStep k) rest (get_or items i d).step behind.sound (step_is k s (get_or items i d).step possible));
+      counted = omega (arith, behind.counted, h.counted, ap length ep, length-append rest ((get_or items i d).step ∷ []));
     }
+
+-- what is known of the state behind
+pub known_behind : (k : Kinds) (p : SoFar) (s : State) (step : Step) (code told : ℕ) → AreSomeKinds k → KnowsAll k p → IsState k s → IsPossible k s step → code ≡ state_code k (state_after k s step) → ((k : Kinds) (s : State) → state_code k s ≡ code → told ≡ best_known p.known k s) → told ≡ best_of (state_after k s step) p.lemmas
+known_behind k p s step code told some knows valid possible e is = is k (state_after k s step) (sym e) ∙ knows.table (state_after k s step) (valid_after k s step some valid possible)

@@ -1,5 +1,5 @@
 -- How a search ended: what its log proves, and what holds of the log in either case.
-use Rattle.std.specs.Prelude.{ℕ, ◌≡◌, ◌<◌, ◌≤◌, ◌+◌, List, Result, Err, IsNone, All, length, slice_index_or}
+use Rattle.std.specs.Prelude.{ℕ, ◌≡◌, ◌<◌, ◌≤◌, ◌+◌, List, Some, None, Result, Err, IsNone, All, length, slice_index_or}
 use Rattle.cell_num.specs.declared.finger.Row.{Row}
 use Rattle.cell_num.specs.declared.finger.Row.TheVariants.{P, N}
 use Rattle.cell_num.specs.declared.finger.Fingers.{Fingers}
@@ -13,12 +13,16 @@ use Rattle.row_state.specs.Start.{start_of}
 use Rattle.bound_log.specs.declared.log.Rule.{Rule}
 use Rattle.bound_log.specs.declared.log.Rule.TheVariants as by
 use Rattle.bound_log.specs.declared.log.Lemma.{Lemma}
+use Rattle.bound_log.specs.declared.log.Best.{Best}
 use Rattle.bound_log.specs.declared.log.Log.{Log}
 use Rattle.bound_log.specs.Fits.{Fits}
 use Rattle.log_check.specs.Accepted.{AreJustified, IsAccepted, Lists, best_of}
 use Rattle.row_search.specs.declared.found.Found.{Found}
 use Rattle.row_search.specs.declared.found.Stop.{Stop}
 use Rattle.row_search.specs.declared.found.Stop.TheVariants.{Unfinished}
+use Rattle.row_search.specs.declared.found.FoundKept.{FoundKept}
+use Rattle.row_search.specs.declared.found.StopKept.{StopKept}
+use Rattle.row_search.specs.declared.found.StopKept.TheVariants as stopped
 use Rattle.row_search.specs.Enough.{enough}
 use Rattle.row_search.specs.Reached.{IsWithin}
 
@@ -26,6 +30,19 @@ use Rattle.row_search.specs.Reached.{IsWithin}
 abbrev pub IfUnfinished : Result Found Stop → (Log → ℕ → Type 0) → Type 0
 IfUnfinished (Err (Unfinished log proved)) Says = Says log proved
 IfUnfinished _ Says = Unit {0}
+
+-- the same where the lemmas are as they were kept
+abbrev pub IfOpen : Result FoundKept StopKept → (List Lemma → ℕ → Type 0) → Type 0
+IfOpen (Err (stopped.Unfinished kept proved)) Says = Says kept proved
+IfOpen _ Says = Unit {0}
+
+-- the log of kept lemmas that lists a row
+abbrev pub log_with : List Lemma → Best → Log
+log_with kept best = record { lemmas = kept; best = Some best }
+
+-- and one that lists none
+abbrev pub log_without : List Lemma → Log
+log_without kept = record { lemmas = kept; best = None }
 
 -- no two lemmas have one state and one bound
 abbrev pub AreDistinct : List Lemma → Type 0

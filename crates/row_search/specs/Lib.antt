@@ -1,7 +1,9 @@
 pub mod Ended
 pub mod Enough
 pub mod First
+pub mod Kept
 pub mod Limits
 pub mod Reached
+pub mod SoFar
 pub mod Steps
 pub mod Visit

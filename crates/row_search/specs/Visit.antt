@@ -12,10 +12,9 @@ use Rattle.bound_log.specs.declared.log.Rule.{Rule}
 use Rattle.bound_log.specs.declared.log.Rule.TheVariants as by
 use Rattle.bound_log.specs.declared.log.Lemma.{Lemma}
 use Rattle.log_check.specs.Accepted.{AreJustified, best_of}
-use Rattle.row_search.specs.declared.progress.Progress.{Progress}
 use Rattle.row_search.specs.Ended.{AreDistinct, IsFirstRule, IsLean}
-use Rattle.log_check.specs.Known.{Knows}
 use Rattle.row_search.specs.Reached.{IsReached, IsWithin}
+use Rattle.row_search.specs.SoFar.{KnowsAll, SoFar}
 use Rattle.row_search.specs.Steps.{IsStep, row_of}
 
 -- the first of the completions of a state that have at most so many further gaps
@@ -51,13 +50,10 @@ pub record IsGrown (k : Kinds) (n : ℕ) (before after : List Lemma) : Type 0 wh
   pub is : after ≡ before ++ more
   pub below : All (λ lemma. columns_left k lemma.state < n) more
 
-abbrev pub KnowsAll : Kinds → Progress → Type 0
-KnowsAll k p = Knows k p.known p.lemmas
-
 -- a search went on from `before` to `after`, with so many gaps allowed at a state: it kept the budget, it
 -- added only lemmas of states with fewer than n columns left, which each limit reaches that reaches the
 -- state, and it took at least a node for each of them
-pub record IsFurther (value : Row → State → Kinds → ℕ) (k : Kinds) (budget n : ℕ) (s : State) (allowed : ℕ) (before after : Progress) : Type 0 where
+pub record IsFurther (value : Row → State → Kinds → ℕ) (k : Kinds) (budget n : ℕ) (s : State) (allowed : ℕ) (before after : SoFar) : Type 0 where
   pub nodes : after.nodes ≤ budget
   pub lemmas : AreKept value k after.lemmas
   pub grown : IsGrown k n before.lemmas after.lemmas
@@ -65,19 +61,19 @@ pub record IsFurther (value : Row → State → Kinds → ℕ) (k : Kinds) (budg
   pub fewer : before.nodes + length after.lemmas ≤ after.nodes + length before.lemmas
 
 -- no completion has so few gaps, and the lemmas prove it: a node for each one that was added
-pub record HasFailed (k : Kinds) (s : State) (allowed : ℕ) (before after : Progress) : Type 0 where
+pub record HasFailed (k : Kinds) (s : State) (allowed : ℕ) (before after : SoFar) : Type 0 where
   pub knows : KnowsAll k after
   pub proves : allowed < best_of s after.lemmas
   pub counted : after.nodes + length before.lemmas ≡ before.nodes + length after.lemmas
 
 -- the first completion of as few gaps was found: a node more for each of its columns, and one at the end
-pub record HasFound (k : Kinds) (s : State) (allowed : ℕ) (steps : List Step) (before after : Progress) : Type 0 where
+pub record HasFound (k : Kinds) (s : State) (allowed : ℕ) (steps : List Step) (before after : SoFar) : Type 0 where
   pub row : IsFirstWithin k s allowed (row_of k steps)
   pub sound : All (IsStep k) steps
   pub counted : after.nodes + length before.lemmas ≡ before.nodes + length after.lemmas + length steps + 1
 
 -- the budget is spent: at most a node more for each of the columns left
-pub record HasSpent (k : Kinds) (budget : ℕ) (s : State) (before after : Progress) : Type 0 where
+pub record HasSpent (k : Kinds) (budget : ℕ) (s : State) (before after : SoFar) : Type 0 where
   pub nodes : after.nodes ≡ budget
   pub knows : KnowsAll k after
   pub most : after.nodes + length before.lemmas ≤ before.nodes + length after.lemmas + columns_left k s

@@ -1,14 +1,17 @@
 ghost use Rattle.std.specs.Prelude.{◌≡◌, ◌≤◌, ◌<◌, ◌+◌, IfOk, IfErr, IfSome, IfNone};
+ghost use Rattle.row_state.specs.Candidates.{AreCandidates, IsNumbered};
 ghost use Rattle.row_state.specs.Start.{AreSomeKinds, IsState, columns_left};
 ghost use Rattle.bound_log.specs.declared.log.Rule.TheVariants.{Branch};
 ghost use Rattle.row_search.specs.declared.descent.Halt.TheVariants.{Spent, NoMemory};
+ghost use Rattle.log_check.specs.Accepted.{best_of};
 ghost use Rattle.row_search.specs.Ended.{IsFirstRule};
-ghost use Rattle.row_search.specs.Visit.{AreKept, HasFailed, HasFound, HasSpent, IsFurther, KnowsAll, RowReaches};
+ghost use Rattle.row_search.specs.SoFar.{KnowsAll};
+ghost use Rattle.row_search.specs.Visit.{AreKept, HasFailed, HasFound, HasSpent, IsFurther, RowReaches};
 
 use crate::progress::Progress;
 use bound_log::Rule;
 use cell_num::{MOST_COLUMNS, NoMemory, Row};
-use row_state::{Kinds, RowBound, State, Steps, after, has_fingers, step_cost, successors};
+use row_state::{Candidate, Kinds, Numbered, RowBound, State, Steps, has_fingers};
 use std::alloc::Global;
 
 /// What a search is given.
@@ -16,6 +19,8 @@ use std::alloc::Global;
 pub(crate) struct Task<'a, B> {
     pub alloc: Global,
     pub kinds: &'a Kinds,
+    /// All columns that may come next in some state.
+    pub candidates: &'a [Candidate],
     pub bound: &'a B,
     pub budget: u64,
 }
@@ -55,54 +60,58 @@ fn row_rule<B: RowBound>(task: &Task<B>, state: &State, allowed: u32) -> Option<
 }
 
 /// The first completion of the state with as few gaps as are allowed, its last step first, or none;
-/// then a kept lemma proves it.
+/// then a kept lemma proves it. No kept one does so far.
 pub(crate) fn visit<B: RowBound>(
     task: &Task<B>,
     progress: &mut Progress,
-    state: &State,
+    at: &Numbered,
     allowed: u32,
 ) -> Result<Option<Steps>, Halt>
     requires kinds { AreSomeKinds task.now.kinds.now }
-    requires state { IsState task.now.kinds.now state.now }
+    requires candidates { AreCandidates task.now.kinds.now task.now.candidates.now }
+    requires numbered { IsNumbered task.now.kinds.now at.now }
     requires few { allowed ≤ MOST_COLUMNS }
     requires nodes { progress.old.nodes ≤ task.now.budget }
     requires lemmas { AreKept (B.value task.now.bound.now) task.now.kinds.now progress.old.lemmas }
     requires knows { KnowsAll task.now.kinds.now progress.old }
-    ensures further { IsFurther (B.value task.now.bound.now) task.now.kinds.now task.now.budget (columns_left task.now.kinds.now state.now + 1) state.now allowed progress.old progress.new }
-    ensures failed { IfOk result (λ r. IfNone r (HasFailed task.now.kinds.now state.now allowed progress.old progress.new)) }
-    ensures found { IfOk result (λ r. IfSome r (λ steps. HasFound task.now.kinds.now state.now allowed steps progress.old progress.new)) }
-    ensures spent { IfErr result (λ halt. halt ≡ Spent → HasSpent task.now.kinds.now task.now.budget state.now progress.old progress.new) }
+    requires low { best_of at.now.state progress.old.lemmas ≤ allowed }
+    ensures further { IsFurther (B.value task.now.bound.now) task.now.kinds.now task.now.budget (columns_left task.now.kinds.now at.now.state + 1) at.now.state allowed progress.old progress.new }
+    ensures failed { IfOk result (λ r. IfNone r (HasFailed task.now.kinds.now at.now.state allowed progress.old progress.new)) }
+    ensures found { IfOk result (λ r. IfSome r (λ steps. HasFound task.now.kinds.now at.now.state allowed steps progress.old progress.new)) }
+    ensures spent { IfErr result (λ halt. halt ≡ Spent → HasSpent task.now.kinds.now task.now.budget at.now.state progress.old progress.new) }
 {
-    if progress.known.best(task.kinds, state) > allowed {
-        return Ok(None);
-    }
-    if progress.nodes == task.budget {
+    if progress.nodes() == task.budget {
         return Err(Halt::Spent);
     }
-    progress.nodes += 1;
-    if !has_fingers(state) {
+    progress.count_node();
+    if !has_fingers(&at.state) {
         return Ok(Some(Steps::new(task.alloc)));
     }
-    if let Some(rule) = row_rule(task, state, allowed) {
-        progress.keep(task.kinds, state, allowed + 1, rule)?;
+    if let Some(rule) = row_rule(task, &at.state, allowed) {
+        progress.keep(at, allowed + 1, rule)?;
         return Ok(None);
     }
-    let steps = successors(task.alloc, state, task.kinds)?;
-    for step in steps.as_slice() {
-        let cost = step_cost(state, step, task.kinds);
+    for next in task.candidates {
+        if !at.allows(task.kinds, next) {
+            continue;
+        }
+        let cost = at.cost(next);
         if allowed < cost {
             continue;
         }
-        let next = after(task.alloc, state, step, task.kinds)?;
-        let tried = match visit(task, progress, &next, allowed - cost) {
+        if progress.best_at(at.code_behind(task.kinds, next)) > allowed - cost {
+            continue;
+        }
+        let behind = at.behind(task.alloc, task.kinds, next)?;
+        let tried = match visit(task, progress, &behind, allowed - cost) {
             Ok(tried) => tried,
             Err(halt) => return Err(halt),
         };
         if let Some(mut rest) = tried {
-            rest.push(*step)?;
+            rest.push(next.step)?;
             return Ok(Some(rest));
         }
     }
-    progress.keep(task.kinds, state, allowed + 1, Rule::Branch)?;
+    progress.keep(at, allowed + 1, Rule::Branch)?;
     Ok(None)
 }

@@ -3,12 +3,16 @@
 
 mod descent;
 mod found;
+mod kept;
 mod limits;
 mod listed;
 mod progress;
+mod whole;
 
-pub use found::{Found, Stop};
-pub use limits::search;
+pub use found::{Found, FoundKept, Stop, StopKept};
+pub use kept::Kept;
+pub use limits::search_kept;
+pub use whole::search;
 
 #[cfg(test)]
 mod tests;

@@ -1,18 +1,20 @@
-ghost use Rattle.std.specs.Prelude.{◌≡◌, ◌≤◌, ◌<◌, ◌+◌, IfOk, IfErr, length};
+ghost use Rattle.std.specs.Prelude.{◌≡◌, ◌≤◌, ◌<◌, ◌+◌, [], IfOk, IfErr, length};
 ghost use Rattle.cell_num.specs.Fingers.{AreFingers, columns_of};
-ghost use Rattle.row_state.specs.Start.{AreSomeKinds};
+ghost use Rattle.row_state.specs.Candidates.{AreCandidates, IsNumbered};
+ghost use Rattle.row_state.specs.Start.{AreSomeKinds, start_of};
 ghost use Rattle.log_check.specs.Accepted.{WithKinds};
-ghost use Rattle.row_search.specs.Ended.{IfUnfinished, IsSolved, IsSpent};
+ghost use Rattle.row_search.specs.Ended.{IfOpen, IsSolved, IsSpent, log_with, log_without};
 ghost use Rattle.row_search.specs.First.{IsFirstLeast};
+ghost use Rattle.row_search.specs.SoFar.{KnowsAll};
 ghost use Rattle.row_search.specs.Limits.{IsFound, StopsWell, found_of};
 
 use crate::descent::{Halt, Task, visit};
 use crate::listed::{arrangement, log_steps};
 use crate::progress::Progress;
-use crate::{Found, Stop};
-use bound_log::{Best, Log};
+use crate::{FoundKept, StopKept};
+use bound_log::Best;
 use cell_num::{Fingers, NoMemory};
-use row_state::{Kinds, RowBound, Step, columns, kinds, start};
+use row_state::{Kinds, Numbered, RowBound, Step, candidates, columns, kinds, start};
 use std::alloc::Global;
 
 // The answer where the row of the steps is found, at so many gaps.
@@ -22,70 +24,96 @@ fn finish(
     progress: Progress,
     gaps: u32,
     steps: &[Step],
-) -> Result<Found, NoMemory>
+) -> Result<FoundKept, NoMemory>
     ensures { IfOk result (λ found. found ≡ found_of kinds.now progress gaps steps.now) }
 {
     let row = arrangement(alloc, steps, kinds)?;
     let steps = log_steps(alloc, steps, kinds)?;
-    Ok(Found {
+    let nodes = progress.nodes();
+    Ok(FoundKept {
         row,
-        log: Log {
-            lemmas: progress.lemmas,
-            best: Some(Best { gaps, steps }),
-        },
-        nodes: progress.nodes,
+        kept: progress.into_kept(),
+        best: Best { gaps, steps },
+        nodes,
     })
 }
 
+fn numbered_start(alloc: Global, kinds: &Kinds) -> Result<Numbered, NoMemory>
+    requires { AreSomeKinds kinds.now }
+    ensures state { IfOk result (λ first. first.state ≡ start_of kinds.now) }
+    ensures numbered { IfOk result (IsNumbered kinds.now) }
+{
+    Ok(Numbered::new(start(alloc, kinds)?, kinds))
+}
+
+fn copied(kinds: &Kinds) -> Result<Kinds, NoMemory>
+    ensures { IfOk result (λ copy. copy ≡ kinds.now) }
+{
+    Ok(kinds.clone()?)
+}
+
+fn no_progress(alloc: Global, kinds: &Kinds) -> Result<Progress, NoMemory>
+    requires { AreSomeKinds kinds.now }
+    ensures nodes { IfOk result (λ progress. progress.nodes ≡ 0) }
+    ensures lemmas { IfOk result (λ progress. progress.lemmas ≡ []) }
+    ensures knows { IfOk result (KnowsAll kinds.now) }
+{
+    let own = copied(kinds)?;
+    Ok(Progress::new(alloc, own))
+}
+
 // Tries the limits in turn, from 0 on.
-fn try_limits<B: RowBound>(task: &Task<B>) -> Result<Found, Stop>
+fn try_limits<B: RowBound>(task: &Task<B>) -> Result<FoundKept, StopKept>
     requires kinds { AreSomeKinds task.now.kinds.now }
+    requires candidates { AreCandidates task.now.kinds.now task.now.candidates.now }
     ensures found { IfOk result (IsFound (B.value task.now.bound.now) task.now.kinds.now task.now.budget) }
     ensures stopped { IfErr result (StopsWell (B.value task.now.bound.now) task.now.kinds.now task.now.budget) }
 {
-    let start = start(task.alloc, task.kinds)?;
-    let mut progress = Progress::new(task.alloc);
+    let first = numbered_start(task.alloc, task.kinds)?;
+    let mut progress = no_progress(task.alloc, task.kinds)?;
     for limit in 0..columns(task.kinds) + 1 {
-        match visit(task, &mut progress, &start, limit) {
+        if progress.best_at(first.code) > limit {
+            continue;
+        }
+        match visit(task, &mut progress, &first, limit) {
             Ok(Some(steps)) => {
                 let found = finish(task.alloc, task.kinds, progress, limit, steps.as_slice())?;
                 return Ok(found);
             }
             Ok(None) => {}
             Err(Halt::Spent) => {
-                let proved = progress.known.best(task.kinds, &start);
-                let log = Log {
-                    lemmas: progress.lemmas,
-                    best: None,
-                };
-                return Err(Stop::Unfinished { log, proved });
+                let proved = progress.best_at(first.code);
+                let kept = progress.into_kept();
+                return Err(StopKept::Unfinished { kept, proved });
             }
-            Err(Halt::NoMemory) => return Err(Stop::NoMemory),
+            Err(Halt::NoMemory) => return Err(StopKept::NoMemory),
         }
     }
     unreachable!()
 }
 
-/// The first least arrangement of the fingers, and a log that proves that none has fewer gaps; or what is proved when the
+/// The first least arrangement of the fingers, and lemmas that prove that none has fewer gaps; or what is proved when the
 /// budget of nodes is spent. A node is a visit of a state of which no kept lemma says that it fails.
-pub fn search<B: RowBound>(
+pub fn search_kept<B: RowBound>(
     alloc: Global,
     fingers: &Fingers,
     bound: &B,
     budget: u64,
-) -> Result<Found, Stop>
+) -> Result<FoundKept, StopKept>
     requires { AreFingers fingers.now }
     ensures row { IfOk result (λ found. IsFirstLeast fingers.now found.row) }
     ensures solved { IfOk result (λ found.
-        WithKinds fingers.now (λ k. IsSolved (B.value bound.now) k fingers.now budget found.row found.log)) }
-    ensures nodes { IfOk result (λ found. found.nodes ≡ length found.log.lemmas + columns_of fingers.now + 1) }
-    ensures spent { IfUnfinished result (λ log proved.
-        WithKinds fingers.now (λ k. IsSpent (B.value bound.now) k fingers.now budget log proved)) }
+        WithKinds fingers.now (λ k. IsSolved (B.value bound.now) k fingers.now budget found.row (log_with found.kept found.best))) }
+    ensures nodes { IfOk result (λ found. found.nodes ≡ length found.kept + columns_of fingers.now + 1) }
+    ensures spent { IfOpen result (λ kept proved.
+        WithKinds fingers.now (λ k. IsSpent (B.value bound.now) k fingers.now budget (log_without kept) proved)) }
 {
     let kinds = kinds(alloc, fingers)?;
+    let candidates = candidates(alloc, &kinds)?;
     let task = Task {
         alloc,
         kinds: &kinds,
+        candidates: candidates.as_slice(),
         bound,
         budget,
     };

@@ -1,64 +1,108 @@
-ghost use Rattle.std.specs.Prelude.{◌≡◌, ◌++◌, ◌∷◌, [], IfOk, OnOk, OnErr};
+ghost use Rattle.std.specs.Prelude.{◌≡◌, ◌<◌, ◌+◌, ◌++◌, ◌∷◌, [], ℕ, OnOk, OnErr};
 ghost use Rattle.row_state.specs.declared.kind.Kinds.{Kinds as KindsOf};
-ghost use Rattle.row_state.specs.Start.{AreSomeKinds, IsState};
-ghost use Rattle.row_search.specs.Visit.{KnowsAll, lemma_of};
+ghost use Rattle.row_state.specs.declared.state.State.{State as StateOf};
+ghost use Rattle.row_state.specs.Candidates.{IsNumbered};
+ghost use Rattle.row_state.specs.Code.{state_code};
+ghost use Rattle.row_state.specs.Start.{AreSomeKinds};
+ghost use Rattle.log_check.specs.Known.{best_known};
+ghost use Rattle.row_search.specs.SoFar.{KnowsAll, one_node};
+ghost use Rattle.row_search.specs.Visit.{lemma_of};
 
-use bound_log::{Lemma, LemmaList, Rule};
-use cell_num::NoMemory;
+use crate::Kept;
+use crate::kept::Packed;
+use bound_log::Rule;
+use cell_num::{List, NoMemory};
 use log_check::Known;
-use row_state::{Kinds, State};
+use row_state::{Kinds, Numbered};
 use std::alloc::Global;
-
-fn copied(state: &State) -> Result<State, NoMemory>
-    ensures { IfOk result (λ copy. copy ≡ state.now) }
-{
-    Ok(state.clone()?)
-}
+use std::marker::Model;
 
 /// What a search has come to.
 #[derive(Drop)]
 pub(crate) struct Progress {
-    pub nodes: u64,
-    /// The best bound of each state that the lemmas speak of.
-    pub known: Known,
-    pub lemmas: LemmaList,
+    nodes: u64,
+    // The best bound of each state that the lemmas speak of.
+    known: Known,
+    kinds: Kinds,
+    packed: List<Packed>,
+}
+
+impl Model for Progress {
+    ghost use Rattle.std.specs.Prelude.{All, map};
+    ghost use Rattle.row_state.specs.Code.{IsCode};
+    ghost use Rattle.row_state.specs.Start.{AreSomeKinds};
+    ghost use Rattle.row_search.specs.Kept.{numbered_lemma};
+    ghost use Rattle.row_search.specs.SoFar.{SoFar};
+    ghost use Rattle.log_check.specs.contracts.known.Known.{the_row as known_row};
+    ghost use Rattle.std.specs.Coded.{codes};
+
+    ghost Value = { SoFar };
+
+    ghost coded = { Prim.hlevel (codes, known_row.coded) };
+
+    ghost view = { λ p. record { nodes = p.nodes; known = p.known; kinds = p.kinds; lemmas = map (λ x. numbered_lemma p.kinds x.state x.bound x.rule) p.packed } };
+
+    ghost invariant = { λ p. AreSomeKinds p.kinds × All (λ x. IsCode p.kinds x.state) p.packed };
 }
 
 impl Progress {
-    pub(crate) fn new(alloc: Global) -> Progress
+    pub(crate) fn new(alloc: Global, kinds: Kinds) -> Progress
+        requires { AreSomeKinds kinds }
         ensures nodes { result.nodes ≡ 0 }
         ensures lemmas { result.lemmas ≡ [] }
-        ensures knows { (k : KindsOf) → KnowsAll k result }
+        ensures knows { KnowsAll kinds result }
     {
         Progress {
             nodes: 0,
             known: Known::new(alloc),
-            lemmas: LemmaList::new(alloc),
+            kinds,
+            packed: List::new(alloc),
         }
     }
 
-    // Keeps one lemma more.
-    pub(crate) fn keep(
-        &mut self,
-        kinds: &Kinds,
-        state: &State,
-        bound: u32,
-        rule: Rule,
-    ) -> Result<(), NoMemory>
-        requires kinds { AreSomeKinds kinds.now }
-        requires state { IsState kinds.now state.now }
-        ensures nodes { self.new.nodes ≡ self.old.nodes }
-        ensures ok { OnOk result (self.new.lemmas ≡ self.old.lemmas ++ lemma_of state.now bound rule ∷ []) }
-        ensures err { OnErr result (self.new.lemmas ≡ self.old.lemmas) }
-        ensures knows { OnOk result (KnowsAll kinds.now self.old → KnowsAll kinds.now self.new) }
+    pub(crate) fn nodes(&self) -> u64
+        ensures { result ≡ self.now.nodes }
     {
-        let own = copied(state)?;
-        self.known.note(kinds, state, bound)?;
-        self.lemmas.push(Lemma {
-            state: own,
+        self.nodes
+    }
+
+    pub(crate) fn count_node(&mut self)
+        requires { self.old.nodes < 18446744073709551615 }
+        ensures { self.new ≡ one_node self.old }
+    {
+        self.nodes += 1;
+    }
+
+    /// The best bound of the state with the number.
+    pub(crate) fn best_at(&self, code: u128) -> u32
+        ensures { (k : KindsOf) (s : StateOf) → state_code k s ≡ code → result ≡ best_known self.now.known k s }
+    {
+        self.known.best_at(code)
+    }
+
+    /// Keeps one lemma more.
+    pub(crate) fn keep(&mut self, at: &Numbered, bound: u32, rule: Rule) -> Result<(), NoMemory>
+        requires { IsNumbered self.old.kinds at.now }
+        ensures nodes { self.new.nodes ≡ self.old.nodes }
+        ensures ok { OnOk result (self.new.lemmas ≡ self.old.lemmas ++ lemma_of at.now.state bound rule ∷ []) }
+        ensures err { OnErr result (self.new.lemmas ≡ self.old.lemmas) }
+        ensures knows { OnOk result ((k : KindsOf) → KnowsAll k self.old → KnowsAll k self.new) }
+    {
+        self.known.note_at(at.code, bound)?;
+        self.packed.push(Packed {
+            state: at.code,
             bound,
             rule,
         })?;
         Ok(())
+    }
+
+    pub(crate) fn into_kept(self) -> Kept
+        ensures { result ≡ self.lemmas }
+    {
+        Kept {
+            kinds: self.kinds,
+            packed: self.packed,
+        }
     }
 }

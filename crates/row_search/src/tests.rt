@@ -1,4 +1,4 @@
-use crate::{Found, Stop, search};
+use crate::{Found, Kept, Stop, StopKept, search, search_kept};
 use bound_log::{Lemma, Rule};
 use cell_num::{Finger, FingerList, Fingers, NetNo, NoMemory, Row, are_fingers};
 use row_model::{Column, Placed};
@@ -121,5 +121,80 @@ fn searches_long(rt: HostRuntime) -> Result<(), Fail> {
     let turns = "0uu 1ff 2uu 3ff 4uu 5ff 6uu 7ff 8uu 9ff 10uu 11ff 12uu 13ff";
     let want = format!(in alloc; "1 16393/16393 16408: {turns}")?;
     assert_eq!(rt; ended(alloc, 18, &pairs, 200_000)?.as_str(), want.as_str());
+    Ok(())
+}
+
+fn put_counts(alloc: Global, text: &mut String, counts: &[u32]) -> Result<(), AllocError> {
+    for count in counts {
+        let told = format!(in alloc; "{count}")?;
+        text.push_str(&told)?;
+    }
+    Ok(())
+}
+
+fn end_text(alloc: Global, end: &Option<NetNo>) -> Result<String, AllocError> {
+    match end {
+        Some(net) => format!(in alloc; "{}", net.0),
+        None => String::from_str(alloc, "-"),
+    }
+}
+
+// The bound, the rule, the counts left of both rows and the two open ends.
+fn put_lemma(alloc: Global, text: &mut String, lemma: &Lemma) -> Result<(), AllocError> {
+    let rule = match lemma.rule {
+        Rule::P => "P",
+        Rule::N => "N",
+        Rule::Branch => "B",
+    };
+    let head = format!(in alloc; " {}{rule} ", lemma.bound)?;
+    text.push_str(&head)?;
+    put_counts(alloc, text, lemma.state.p_left.as_slice())?;
+    text.push_str("/")?;
+    put_counts(alloc, text, lemma.state.n_left.as_slice())?;
+    let p_end = end_text(alloc, &lemma.state.p_end)?;
+    let n_end = end_text(alloc, &lemma.state.n_end)?;
+    let ends = format!(in alloc; " {p_end},{n_end};")?;
+    text.push_str(&ends)
+}
+
+// All kept lemmas, each fetched into the same one.
+fn kept_text(alloc: Global, kept: &Kept) -> Result<String, Fail> {
+    let mut text = format!(in alloc; "{}:", kept.len())?;
+    let mut lemma = kept.room(alloc)?;
+    for at in 0..kept.len() {
+        kept.fetch(at, &mut lemma);
+        put_lemma(alloc, &mut text, &lemma)?;
+    }
+    Ok(text)
+}
+
+fn ended_kept(alloc: Global, nets: u32, pairs: &[Pair], budget: u64) -> Result<String, Fail> {
+    let rows = fingers(alloc, nets, pairs)?;
+    if !are_fingers(&rows) {
+        return Ok(String::from_str(alloc, "unsound")?);
+    }
+    let told = match search_kept(alloc, &rows, &Parity, budget) {
+        Ok(found) => {
+            let lemmas = kept_text(alloc, &found.kept)?;
+            let columns = found.best.steps.len();
+            format!(in alloc; "gaps {} columns {columns} by {lemmas}", found.best.gaps)?
+        }
+        Err(StopKept::Unfinished { kept, proved }) => {
+            let lemmas = kept_text(alloc, &kept)?;
+            format!(in alloc; "proved {proved} by {lemmas}")?
+        }
+        Err(StopKept::NoMemory) => String::from_str(alloc, "NoMemory")?,
+    };
+    Ok(told)
+}
+
+#[test]
+fn keeps_lemmas(rt: HostRuntime) -> Result<(), Fail> {
+    let alloc = rt.alloc();
+    let rings =
+        "proved 1 by 8: 1N 011/011 4,5; 1B 010/010 4,5; 1B 011/011 4,4; 1B 101/101 3,5; 1B 101/101 3,3; 1N 110/110 4,5; 1B 110/110 4,4; 1B 111/111 -,-;";
+    assert_eq!(rt; ended_kept(alloc, 6, &RINGS, 8)?.as_str(), rings);
+    let inverters = "gaps 1 columns 3 by 1: 1P 111/111 -,-;";
+    assert_eq!(rt; ended_kept(alloc, 8, &INVERTERS, 5)?.as_str(), inverters);
     Ok(())
 }

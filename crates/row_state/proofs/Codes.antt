@@ -10,31 +10,11 @@ use Rattle.row_state.specs.declared.kind.Kind.{Kind}
 use Rattle.row_state.specs.declared.kind.Kinds.{Kinds}
 use Rattle.row_state.specs.declared.state.State.{State}
 use Rattle.row_state.specs.Code.{count_lists, counts_code, end_code, most_states, state_code}
+use Rattle.row_state.specs.Decoded.{Within, counts_below, end_below, rows_code, same_fields}
 use Rattle.row_state.specs.Completion.{finger_of, fingers_left, left_in}
 use Rattle.row_state.specs.Start.{AreSomeKinds, IsState, counts_of, start_of}
 use Rattle.row_state.proofs.KindsOf.{few_fingers}
 use Rattle.row_state.proofs.Valid.{some_fingers}
-
-make_state : List ℕ → List ℕ → Option NetNo → Option NetNo → State
-make_state p n pe ne = record { p_left = p; n_left = n; p_end = pe; n_end = ne }
-
-made_state : {p p' n n' : List ℕ} {pe pe' ne ne' : Option NetNo} → p ≡ p' → n ≡ n' → pe ≡ pe' → ne ≡ ne' → make_state p n pe ne ≡ make_state p' n' pe' ne'
-made_state a b c d = cc
-
-pub same_fields : (a b : State) → a.p_left ≡ b.p_left → a.n_left ≡ b.n_left → a.p_end ≡ b.p_end → a.n_end ≡ b.n_end → a ≡ b
-unfolding make_state
-same_fields a b p n pe ne = made_state p n pe ne
-
--- each count is at most its kind's
-abbrev pub Within : List Kind → List ℕ → Type 0
-Within ks cs = (i : ℕ) (kind : Kind) → slice_get ks i ≡ Some kind → slice_index cs i ≤ kind.count
-
-counts_below : (ks : List Kind) (cs : List ℕ) → length cs ≡ length ks → Within ks cs → counts_code ks cs < count_lists ks
-counts_below [] cs same h = omega arith
-counts_below (k ∷ ks) [] same h = absurd (omega (arith, same))
-counts_below (k ∷ ks) (c ∷ cs) same h =
-    let here : c ≤ k.count = h zero k refl in
-    mul-add-lt (counts_code ks cs) (k.count + 1) c (count_lists ks) (counts_below ks cs (omega (arith, same)) (λ i kind is. h (suc i) kind is)) (omega arith)
 
 counts_same : (ks : List Kind) (cs ds : List ℕ) → length cs ≡ length ks → length ds ≡ length ks → Within ks cs → Within ks ds → counts_code ks cs ≡ counts_code ks ds → cs ≡ ds
 counts_same [] [] [] lc ld hc hd e = refl
@@ -49,10 +29,6 @@ counts_same (k ∷ ks) (c ∷ cs) (d ∷ ds) lc ld hc hd e =
     let rest : cs ≡ ds = counts_same ks cs ds (omega (arith, lc)) (omega (arith, ld)) (λ i kind is. hc (suc i) kind is) (λ i kind is. hd (suc i) kind is) parts.0 in
     ap (λ x. x ∷ cs) parts.1 ∙ ap (λ xs. d ∷ xs) rest
 
-end_below : (nets : ℕ) (x : Option NetNo) → IfSome x (λ v. v.0 < nets) → end_code x < nets + 1
-end_below nets None h = omega arith
-end_below nets (Some v) h = omega (arith, h)
-
 pub ends_below : (k : Kinds) (s : State) → IsState k s → (end_code s.p_end < k.nets + 1) × (end_code s.n_end < k.nets + 1)
 ends_below k s h = (end_below k.nets s.p_end h.p_end, end_below k.nets s.n_end h.n_end)
 
@@ -65,10 +41,6 @@ end_same None None e = refl
 end_same None (Some w) e = absurd (omega (arith, e))
 end_same (Some v) None e = absurd (omega (arith, e))
 end_same (Some v) (Some w) e = let same : v.0 ≡ w.0 = omega (arith, e) in ap (λ (n : ℕ). Some (make_net n)) same
-
--- the number of both rows' counts
-abbrev pub rows_code : Kinds → State → ℕ
-rows_code k s = counts_code k.p s.p_left * count_lists k.n + counts_code k.n s.n_left
 
 rows_below : (k : Kinds) (s : State) → IsState k s → rows_code k s < count_lists k.n * count_lists k.p
 rows_below k s h = mul-add-lt (counts_code k.p s.p_left) (count_lists k.n) (counts_code k.n s.n_left) (count_lists k.p) (counts_below k.p s.p_left h.p_kinds h.p_counts) (counts_below k.n s.n_left h.n_kinds h.n_counts)
@@ -112,6 +84,10 @@ lists_few_p k some = lists_within P k.p (few_fingers (left_in k (start_of k)) (s
 
 pub lists_few_n : (k : Kinds) → AreSomeKinds k → count_lists k.n ≤ 4294967296
 lists_few_n k some = lists_within N k.n (few_fingers (left_in k (start_of k)) (some_fingers k some)).1
+
+pub lists_some : (kinds : List Kind) → 0 < count_lists kinds
+lists_some [] = omega arith
+lists_some (k ∷ ks) = let le : 1 * count_lists ks ≤ (k.count + 1) * count_lists ks = mul-le-mul_right (count_lists ks) (omega arith) in omega (arith, le, lists_some ks)
 
 -- the last kinds alone
 pub lists_next : (kinds : List Kind) (i : ℕ) (k : Kind) → i < length kinds → count_lists (drop i kinds) ≡ count_lists (drop (suc i) kinds) * ((get_or kinds i k).count + 1)

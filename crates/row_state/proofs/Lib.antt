@@ -2,7 +2,9 @@ pub mod ParityCode
 pub mod StateAfter
 pub mod Fewest
 pub mod Calls
+pub mod Digits
 pub mod Codes
+pub mod Decoding
 pub mod Exists
 pub mod KindsOf
 pub mod Keys

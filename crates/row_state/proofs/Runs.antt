@@ -39,6 +39,27 @@ gates_ascend kinds i j d order l within =
     let b : Kind = get_or kinds j d in
     key_head_le a.gate.0 b.gate.0 (a.lo.0 ∷ a.hi.0 ∷ a.width ∷ []) (b.lo.0 ∷ b.hi.0 ∷ b.width ∷ []) (order i j d l within)
 
+-- the first kind whose gate is not lower
+pub begins_here : (kinds : List Kind) (gate at : ℕ) (x : Kind) → AllPairs KindBefore kinds → at < length kinds → ((i : ℕ) (d : Kind) → i < at → (get_or kinds i d).gate.0 < gate) → gate ≤ (get_or kinds at x).gate.0 → GatesFrom kinds gate at
+begins_here kinds gate at x order within lower here =
+    record {
+      within = omega (arith, within);
+      lower = lower;
+      rest = λ i d l m.
+          let same : (get_or kinds at x).gate.0 ≡ (get_or kinds at d).gate.0 = ap (λ (k : Kind). k.gate.0) (get_or_default kinds at x d within) in
+          elim (cases_order at i) [
+            | inl e ↦ omega (arith, here, same, ap (λ n. (get_or kinds n d).gate.0) e)
+            | inr either ↦ elim either [
+              | inl less ↦ omega (arith, here, same, gates_ascend kinds at i d order less m)
+              | inr more ↦ absurd (omega (arith, l, more))
+            ]
+          ];
+    }
+
+-- where there is none, all are
+pub begins_last : (kinds : List Kind) (gate at : ℕ) → length kinds ≡ at → ((i : ℕ) (d : Kind) → i < at → (get_or kinds i d).gate.0 < gate) → GatesFrom kinds gate at
+begins_last kinds gate at e lower = record { within = omega (arith, e); lower = lower; rest = λ i d l m. absurd (omega (arith, e, l, m)) }
+
 -- the first kind of another gate ends the gate's kinds
 pub ends_here : (kinds : List Kind) (gate from at : ℕ) (x : Kind) → AllPairs KindBefore kinds → GatesFrom kinds gate from → from ≤ at → at < length kinds → ((i : ℕ) (d : Kind) → i < at → (get_or kinds i d).gate.0 < gate + 1) → (get_or kinds at x).gate.0 ≢ gate → GatesFrom kinds (gate + 1) at
 ends_here kinds gate from at x order begins here within lower other =

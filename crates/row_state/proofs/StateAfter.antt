@@ -47,7 +47,7 @@ flip_end : (row : Row) (b : Bool) (kind : Kind) (nets : ℕ) → (kind.lo.0 < ne
 flip_end row true kind nets h = h.0
 flip_end row false kind nets h = h.1
 
-placed_end : (row : Row) (kinds : List Kind) (side : Option Side) (nets : ℕ) → ((i : ℕ) (kind : Kind) → slice_get kinds i ≡ Some kind → (kind.lo.0 < nets) × (kind.hi.0 < nets)) → IfSome (option_map right_net (placed_of row kinds side)) (λ v. v.0 < nets)
+pub placed_end : (row : Row) (kinds : List Kind) (side : Option Side) (nets : ℕ) → ((i : ℕ) (kind : Kind) → slice_get kinds i ≡ Some kind → (kind.lo.0 < nets) × (kind.hi.0 < nets)) → IfSome (option_map right_net (placed_of row kinds side)) (λ v. v.0 < nets)
 placed_end row kinds None nets below = tt
 placed_end row kinds (Some side) nets below = at (slice_get kinds side.kind) refl
   where

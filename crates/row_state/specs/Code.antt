@@ -1,9 +1,10 @@
 -- Each valid state has a number of its own: its counts and ends as the digits of a number of mixed radix.
-use Rattle.std.specs.Prelude.{ℕ, ◌+◌, ◌*◌, List, [], ◌∷◌, Option, Some, None}
+use Rattle.std.specs.Prelude.{ℕ, zero, suc, ◌≡◌, ◌+◌, ◌*◌, ◌/◌, ◌%◌, List, [], ◌∷◌, Option, Some, None}
 use Rattle.cell_num.specs.declared.net.NetNo.{NetNo}
 use Rattle.row_state.specs.declared.kind.Kind.{Kind}
 use Rattle.row_state.specs.declared.kind.Kinds.{Kinds}
 use Rattle.row_state.specs.declared.state.State.{State}
+use Rattle.row_state.specs.Start.{IsState}
 
 -- how many lists of counts there are: the product of (count + 1) over the kinds
 abbrev pub count_lists : List Kind → ℕ
@@ -25,3 +26,30 @@ end_code (Some v) = v.0 + 1
 
 abbrev pub state_code : Kinds → State → ℕ
 state_code k s = ((counts_code k.p s.p_left * count_lists k.n + counts_code k.n s.n_left) * (k.nets + 1) + end_code s.p_end) * (k.nets + 1) + end_code s.n_end
+
+-- the digits of a number are the counts
+abbrev pub counts_of_code : List Kind → ℕ → List ℕ
+counts_of_code [] n = []
+counts_of_code (k ∷ ks) n = n % (k.count + 1) ∷ counts_of_code ks (n / (k.count + 1))
+
+abbrev pub end_of_code : ℕ → Option NetNo
+end_of_code zero = None
+end_of_code (suc n) = Some (record { 0 = n })
+
+-- the number behind whose digits the two ends stand
+abbrev pub rows_of_code : Kinds → ℕ → ℕ
+rows_of_code k code = code / (k.nets + 1) / (k.nets + 1)
+
+-- the state of which this is the number
+abbrev pub state_of : Kinds → ℕ → State
+state_of k code =
+    record {
+      p_left = counts_of_code k.p (rows_of_code k code / count_lists k.n);
+      n_left = counts_of_code k.n (rows_of_code k code % count_lists k.n);
+      p_end = end_of_code (code / (k.nets + 1) % (k.nets + 1));
+      n_end = end_of_code (code % (k.nets + 1));
+    }
+
+-- some valid state has the number
+abbrev pub IsCode : Kinds → ℕ → Type 0
+IsCode k code = (s : State) × IsState k s × (state_code k s ≡ code)

@@ -1,5 +1,7 @@
+pub mod Candidates
 pub mod Code
 pub mod Completion
+pub mod Decoded
 pub mod Degrees
 pub mod Gates
 pub mod Law

@@ -1,5 +1,5 @@
 -- Counts, tests and lists that compute the facts of kinds, states and next columns.
-use Rattle.std.specs.Prelude.{ℕ, zero, suc, ◌≡◌, ◌+◌, ◌-◌, ◌/◌, ◌%◌, Bool, true, false, not, cond, ◌&&◌, ◌||◌, ◌==◌, ltb, leb, max, if◌then◌else◌, List, [], ◌∷◌, ◌++◌, Option, Some, None, length, map, sum_by, count_by, slice_get}
+use Rattle.std.specs.Prelude.{ℕ, zero, suc, ◌≡◌, ◌+◌, ◌-◌, ◌/◌, ◌%◌, Bool, true, false, not, cond, ◌&&◌, ◌||◌, ◌==◌, ltb, leb, max, if◌then◌else◌, List, [], ◌∷◌, ◌++◌, Option, Some, None, length, map, sum_by, count_by, slice_get, slice_index}
 use Rattle.std.specs.List.{zip, list_all, flat_map}
 use Rattle.std.specs.declared.cmp.Ordering.{Ordering}
 use Rattle.std.specs.Ordering.{nat_cmp, ordering_then}
@@ -8,6 +8,7 @@ use Rattle.cell_num.specs.declared.finger.Row.TheVariants.{P, N}
 use Rattle.cell_num.specs.declared.net.NetNo.{NetNo}
 use Rattle.cell_num.specs.Fingers.{sum_below}
 use Rattle.cell_num.specs.declared.finger.Finger.{Finger}
+use Rattle.row_model.specs.declared.column.Placed.{Placed}
 use Rattle.row_state.specs.declared.kind.Kind.{Kind}
 use Rattle.row_state.specs.declared.kind.Kinds.{Kinds}
 use Rattle.row_state.specs.declared.state.State.{State}
@@ -148,3 +149,14 @@ halved None odd = (odd - 1) / 2
 
 abbrev pub parity_test : Row → State → Kinds → ℕ
 parity_test row s k = halved (end_of row s) (size k.nets (is_odd_behind (end_of row s) (kinds_in row k) (left_of row s))) - sum_below (empty_test row s k) k.nets
+
+-- a finger of the side's kind is left
+abbrev pub side_left : List ℕ → Option Side → Bool
+side_left left None = true
+side_left left (Some side) = ltb 0 (slice_index left side.kind)
+
+-- a half column's row has more fingers left on its gate than the other
+abbrev pub half_test : Option Placed → Option Placed → ℕ → ℕ → Bool
+half_test (Some x) None p n = ltb n p
+half_test None (Some y) p n = ltb p n
+half_test _ _ p n = true

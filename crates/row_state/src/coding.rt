@@ -1,17 +1,19 @@
 ghost use Rattle.std.specs.Prelude.{◌≡◌, ◌≤◌, ◌<◌, ◌+◌, ◌*◌, ℕ, Some, length, slice_get, slice_index};
 ghost use Rattle.row_state.specs.declared.kind.Kind.{Kind as KindOf};
 ghost use Rattle.row_state.specs.declared.state.State.{State as StateOf};
-ghost use Rattle.row_state.specs.Code.{count_lists, counts_code, end_code, most_states, state_code};
+ghost use Rattle.row_state.specs.Code.{IsCode, count_lists, counts_code, counts_of_code, end_code, end_of_code, most_states, rows_of_code, state_code, state_of};
+ghost use Rattle.row_state.specs.Decoded.{rows_code};
 ghost use Rattle.row_state.specs.Start.{AreSomeKinds, IsState};
 
 use crate::{Kind, Kinds, State};
 use cell_num::NetNo;
 
 // How many lists of counts the kinds allow.
-#[tactic(auto, using(crate::proofs::Codes::lists_next, crate::proofs::Codes::lists_drop))]
-fn lists(kinds: &[Kind]) -> u64
+#[tactic(auto, using(crate::proofs::Codes::lists_next, crate::proofs::Codes::lists_drop, crate::proofs::Codes::lists_some))]
+pub(crate) fn lists(kinds: &[Kind]) -> u64
     requires few { count_lists kinds.now ≤ 4294967296 }
-    ensures { result ≡ count_lists kinds.now }
+    ensures value { result ≡ count_lists kinds.now }
+    ensures some { 0 < result }
 {
     let mut lists = 1;
     for at in (0..kinds.len()).rev() {
@@ -35,7 +37,7 @@ fn counts_number(kinds: &[Kind], left: &[u32]) -> u64
     number
 }
 
-fn end_number(end: &Option<NetNo>) -> u128
+pub(crate) fn end_number(end: &Option<NetNo>) -> u128
     ensures { result ≡ end_code end.now }
 {
     match end {
@@ -46,17 +48,16 @@ fn end_number(end: &Option<NetNo>) -> u128
 
 // The counts of both rows as one number.
 #[tactic(auto, using(crate::proofs::Codes::lists_few_p, crate::proofs::Codes::lists_few_n, crate::proofs::Codes::rows_few))]
-fn rows_number(state: &State, kinds: &Kinds) -> u128
+pub(crate) fn rows_number(state: &State, kinds: &Kinds) -> u64
     requires kinds { AreSomeKinds kinds.now }
     requires state { IsState kinds.now state.now }
-    ensures value { result ≡ counts_code kinds.now.p state.now.p_left * count_lists kinds.now.n + counts_code kinds.now.n state.now.n_left }
-    ensures few { result < 18446744073709551616 }
+    ensures { result ≡ rows_code kinds.now state.now }
 {
     let p_kinds = kinds.p.as_slice();
     let n_kinds = kinds.n.as_slice();
     let p = counts_number(p_kinds, state.p_left.as_slice());
     let n = counts_number(n_kinds, state.n_left.as_slice());
-    u128::from(p) * u128::from(lists(n_kinds)) + u128::from(n)
+    p * lists(n_kinds) + n
 }
 
 /// The number of a state among those of its kinds: no other has it.
@@ -69,6 +70,64 @@ pub fn code(state: &State, kinds: &Kinds) -> u128
     ensures own { (other : StateOf) → IsState kinds.now other → state_code kinds.now other ≡ result → other ≡ state.now }
 {
     let ends = u128::from(kinds.nets) + 1;
-    let rows = rows_number(state, kinds);
+    let rows = u128::from(rows_number(state, kinds));
     (rows * ends + end_number(&state.p_end)) * ends + end_number(&state.n_end)
+}
+
+// The digits of the number as counts.
+#[tactic(auto, using(crate::proofs::Decoding::counts_put))]
+fn put_counts(kinds: &[Kind], number: u64, into: &mut [u32])
+    requires same { length into.old ≡ length kinds.now }
+    ensures { into.new ≡ counts_of_code kinds.now number }
+{
+    let mut rest = number;
+    for at in 0..kinds.len() {
+        let radix = u64::from(kinds[at].count) + 1;
+        into[at] = (rest % radix) as u32;
+        rest /= radix;
+    }
+}
+
+fn end_numbered(number: u128) -> Option<NetNo>
+    requires { number ≤ 256 }
+    ensures { result ≡ end_of_code number }
+{
+    if number == 0 {
+        None
+    } else {
+        Some(NetNo((number - 1) as u32))
+    }
+}
+
+#[tactic(auto, using(crate::proofs::Codes::lists_few_n))]
+fn put_state(code: u128, kinds: &Kinds, into: &mut State)
+    requires kinds { AreSomeKinds kinds.now }
+    requires few { rows_of_code kinds.now code < 18446744073709551616 }
+    requires p_room { length into.old.p_left ≡ length kinds.now.p }
+    requires n_room { length into.old.n_left ≡ length kinds.now.n }
+    ensures { into.new ≡ state_of kinds.now code }
+{
+    let p_kinds = kinds.p.as_slice();
+    let n_kinds = kinds.n.as_slice();
+    let ends = u128::from(kinds.nets) + 1;
+    let rows = (code / ends / ends) as u64;
+    let lists = lists(n_kinds);
+    put_counts(p_kinds, rows / lists, into.p_left.as_mut_slice());
+    put_counts(n_kinds, rows % lists, into.n_left.as_mut_slice());
+    into.p_end = end_numbered(code / ends % ends);
+    into.n_end = end_numbered(code % ends);
+}
+
+/// The state that has the number, in the place of one with as many kinds.
+#[tactic(auto, using(crate::proofs::Decoding::code_few, crate::proofs::Decoding::code_valid, crate::proofs::Decoding::code_again))]
+pub fn decode(code: u128, kinds: &Kinds, into: &mut State)
+    requires kinds { AreSomeKinds kinds.now }
+    requires code { IsCode kinds.now code }
+    requires p_room { length into.old.p_left ≡ length kinds.now.p }
+    requires n_room { length into.old.n_left ≡ length kinds.now.n }
+    ensures state { IsState kinds.now into.new }
+    ensures code { state_code kinds.now into.new ≡ code }
+    ensures value { into.new ≡ state_of kinds.now code }
+{
+    put_state(code, kinds, into);
 }

@@ -16,7 +16,7 @@ pub type KindList = List<Kind>;
 
 /// The kinds of the fingers of each row, by gate, lower end, higher end and width, over the nets
 /// numbered below `nets`.
-#[derive(Debug, PartialEq, Drop)]
+#[derive(Clone, Debug, PartialEq, Drop)]
 pub struct Kinds {
     pub nets: u32,
     pub p: KindList,

@@ -3,18 +3,24 @@
 #![tactic(auto)]
 
 pub mod bound;
+pub mod candidate;
 pub mod coding;
 pub mod found;
 mod gate;
 pub mod kind;
+pub mod listing;
+pub mod numbered;
 pub mod parity;
 pub mod state;
 pub mod step;
 
 pub use bound::RowBound;
-pub use coding::code;
+pub use candidate::{Candidate, Candidates, candidates};
+pub use coding::{code, decode};
 pub use found::kinds;
 pub use kind::{Kind, KindList, Kinds};
+pub use listing::successors;
+pub use numbered::Numbered;
 pub use parity::Parity;
 pub use state::{Counts, State, columns, has_fingers, is_state, start};
-pub use step::{Side, Step, Steps, after, column, step_cost, successors};
+pub use step::{Side, Step, Steps, after, column, step_cost};

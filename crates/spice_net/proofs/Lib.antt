@@ -6,4 +6,5 @@ pub mod Places
 pub mod Sound
 pub mod SoundLines
 pub mod SoundNets
+pub mod Spelled
 pub mod Told

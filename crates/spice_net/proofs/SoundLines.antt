@@ -18,10 +18,10 @@ use Rattle.cell_num.specs.Steps.{require, ◌>>=◌}
 use Rattle.cell_num.proofs.Steps.{granted_step, granted_require, granted_option}
 use Rattle.spice_net.specs.Transistors.{Fields, fields_of, unit_pm, units_of, sizes_of, is_one, row_of, own_rail, other_rail, is_rail, rails_allowed, transistor_with, transistor_of, is_transistor, with_line, transistors_of}
 
-ok_is : (t u : Transistor) → ◌≡◌ {A = Result Transistor SpiceFault} (Ok t) (Ok u) → t ≡ u
+pub ok_is : (t u : Transistor) → ◌≡◌ {A = Result Transistor SpiceFault} (Ok t) (Ok u) → t ≡ u
 ok_is t u e = cc
 
-oks_are : (ts us : List Transistor) → ◌≡◌ {A = Result (List Transistor) SpiceFault} (Ok ts) (Ok us) → ts ≡ us
+pub oks_are : (ts us : List Transistor) → ◌≡◌ {A = Result (List Transistor) SpiceFault} (Ok ts) (Ok us) → ts ≡ us
 oks_are ts us e = cc
 
 -- ---- a transistor

@@ -1,9 +1,10 @@
 -- What holds of every subcircuit that is read.
-use Rattle.std.specs.Prelude.{ℕ, ◌≡◌, ◌≢◌, ◌<◌, ◌≤◌, ◌⊎◌, length, All, AllPairs, Any}
+use Rattle.std.specs.Prelude.{ℕ, ◌≡◌, ◌≢◌, ◌<◌, ◌≤◌, ◌⊎◌, List, length, All, AllPairs, Any, IsTrue}
 use Rattle.cell_num.specs.declared.net.NetNo.{NetNo}
 use Rattle.cell_num.specs.declared.net.Pins.{Pins}
 use Rattle.cell_num.specs.declared.finger.Row.{Row}
 use Rattle.cell_num.specs.declared.finger.Row.TheVariants.{P, N}
+use Rattle.cell_num.specs.Names.{is_name}
 use Rattle.cell_num.specs.Pins.{IsRail}
 use Rattle.spice_net.specs.declared.subckt.Device.{Device}
 use Rattle.spice_net.specs.declared.subckt.Subckt.{Subckt}
@@ -37,3 +38,7 @@ pub record IsSubckt (cell : Subckt) : Type 0 where
   pub names_differ : AllPairs (λ a b. a ≢ b) cell.nets
   pub devices : All (IsDevice (length cell.nets) cell.pins) cell.devices
   pub met : (net : NetNo) → net.0 < length cell.nets → (IsRail cell.pins net → ⊥) → Any (Joins net) cell.devices
+
+-- each word is spelled as names are: 1 to 64 printable bytes, none of which is a mark
+abbrev pub AreNames : List (List ℕ) → Type 0
+AreNames names = All (λ name. IsTrue (is_name name)) names

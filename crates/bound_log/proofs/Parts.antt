@@ -1,0 +1,60 @@
+-- The parts of a text, one after the other.
+use Rattle.std.specs.Prelude.{ℕ, ◌≡◌, ◌+◌, ◌-◌, ◌<◌, ◌≤◌, ◌==◌, nat_lt, true, false, List, [], ◌∷◌, ◌++◌, Some, None, length, map, take, drop, position}
+use Rattle.std.proofs.Common.{refl, sym, ap, arith, ◌∙◌, inl, inr}
+use Rattle.std.specs.Borrow.{Bor}
+use Rattle.std.specs.List.{position_or_len}
+use Rattle.std.proofs.Math.Seq.{take-length}
+use Rattle.std.proofs.lemmas.Bool.{cases_Bool, ltb-false, ltb-true}
+use Rattle.std.proofs.lemmas.List.{append-nil, length-append, length-drop, length-map}
+use Rattle.std.proofs.lemmas.List.Elements.{All-from_get_or}
+use Rattle.std.proofs.lemmas.List.Sums.{fails_before_first}
+use Rattle.std.proofs.lemmas.List.Splits.{length-slice_split, slice_split_first, slice_split_none}
+use Rattle.std.proofs.lemmas.Option.{cond_some, none-some}
+use Rattle.bound_log.specs.Line.{parts_at}
+
+pub not_cut : (c : ℕ) (text : List ℕ) → None ≡ position (λ b. b == c) text → parts_at c text ≡ text ∷ []
+not_cut c text e = elim (cases_Bool (nat_lt (position_or_len (λ b. b == c) text) (length text))) [
+  | inl found ↦ let there : position (λ b. b == c) text ≡ Some (position_or_len (λ b. b == c) text) = rw found refl in absurd (none-some _ (e ∙ there))
+  | inr none ↦ slice_split_none (λ b. b == c) text (All-from_get_or (λ b. (b == c) ≡ false) text 0 (λ i l. fails_before_first (λ b. b == c) text i 0 (omega (arith, l, ltb-false _ _ none))))
+]
+
+pub cut_at : (c : ℕ) (text : List ℕ) (at : ℕ) → Some at ≡ position (λ b. b == c) text → parts_at c text ≡ take at text ∷ parts_at c (drop (at + 1) text)
+cut_at c text at e =
+    let found : (nat_lt (position_or_len (λ b. b == c) text) (length text) ≡ true) × (position_or_len (λ b. b == c) text ≡ at) = cond_some _ _ _ (sym e) in
+    rw (sym found.1) (slice_split_first (λ b. b == c) text 0 (ltb-true _ _ found.0))
+
+pub found_within : (c : ℕ) (text : List ℕ) (at : ℕ) → Some at ≡ position (λ b. b == c) text → at < length text
+found_within c text at e =
+    let found : (nat_lt (position_or_len (λ b. b == c) text) (length text) ≡ true) × (position_or_len (λ b. b == c) text ≡ at) = cond_some _ _ _ (sym e) in
+    omega (arith, found.1, ltb-true _ _ found.0)
+
+pub all_behind : (text : List ℕ) (n : ℕ) → take (length text - n) (drop n text) ≡ drop n text
+all_behind text n = rw (sym (length-drop n text)) (take-length (drop n text))
+
+some_part : (c : ℕ) (text : List ℕ) → 0 < length (parts_at c text)
+some_part c text = omega (arith, length-slice_split (λ b. b == c) text)
+
+-- ---- the parts so far, and the rest
+
+joined : (items : List (Bor (List ℕ))) (part : Bor (List ℕ)) (more : List (List ℕ)) → map (λ p. p.now) (items ++ part ∷ []) ++ more ≡ map (λ p. p.now) items ++ (part.now ∷ more)
+joined [] part more = refl
+joined (item ∷ items) part more = ap (λ (ps : List (List ℕ)). item.now ∷ ps) (joined items part more)
+
+pub part_more : (c : ℕ) (items : List (Bor (List ℕ))) (part : Bor (List ℕ)) (rest : List ℕ) (at : ℕ) (all : List (List ℕ)) → map (λ p. p.now) items ++ parts_at c rest ≡ all → Some at ≡ position (λ b. b == c) rest → part.now ≡ take at rest → map (λ p. p.now) (items ++ part ∷ []) ++ parts_at c (take (length rest - (at + 1)) (drop (at + 1) rest)) ≡ all
+part_more c items part rest at all so_far found is =
+    joined items part (parts_at c (take (length rest - (at + 1)) (drop (at + 1) rest)))
+    ∙ (ap (λ (l : List ℕ). map (λ p. p.now) items ++ (l ∷ parts_at c (take (length rest - (at + 1)) (drop (at + 1) rest)))) is
+    ∙ (ap (λ (l : List ℕ). map (λ p. p.now) items ++ (take at rest ∷ parts_at c l)) (all_behind rest (at + 1))
+    ∙ (ap (λ (ps : List (List ℕ)). map (λ p. p.now) items ++ ps) (sym (cut_at c rest at found)) ∙ so_far)))
+
+pub part_last : (c : ℕ) (items : List (Bor (List ℕ))) (part : Bor (List ℕ)) (rest : List ℕ) (all : List (List ℕ)) → map (λ p. p.now) items ++ parts_at c rest ≡ all → None ≡ position (λ b. b == c) rest → part.now ≡ rest → map (λ p. p.now) (items ++ part ∷ []) ≡ all
+part_last c items part rest all so_far none is =
+    sym (append-nil (map (λ p. p.now) (items ++ part ∷ [])))
+    ∙ (joined items part []
+    ∙ (ap (λ (l : List ℕ). map (λ p. p.now) items ++ (l ∷ [])) is
+    ∙ (ap (λ (ps : List (List ℕ)). map (λ p. p.now) items ++ ps) (sym (not_cut c rest none)) ∙ so_far)))
+
+-- there is one more than there is room for
+pub parts_full : (c : ℕ) (items : List (Bor (List ℕ))) (rest : List ℕ) (all : List (List ℕ)) (most : ℕ) → map (λ p. p.now) items ++ parts_at c rest ≡ all → most ≤ length items → most < length all
+parts_full c items rest all most so_far full =
+    omega (arith, full, some_part c rest, ap length so_far, length-append (map (λ p. p.now) items) (parts_at c rest), length-map items (λ p. p.now))

@@ -1,0 +1,9 @@
+pub mod Apart
+pub mod Members
+pub mod Named
+pub mod Own
+pub mod Placed
+pub mod Ranges
+pub mod Rest
+pub mod Shown
+pub mod Sized

@@ -1,0 +1,53 @@
+-- What holds of the ports and of the size of a drawn cell.
+use Rattle.std.specs.Prelude.{ℕ, ◌≡◌, pos, ◌≤ℤ◌, List, [], ◌∷◌, ◌++◌, filter, filter_map, slice_get, get_or, IsPermutation}
+use Rattle.std.specs.List.{All, Any, Contains}
+use Rattle.box_geom.specs.Layers.{same_layer}
+use Rattle.box_geom.specs.Rectangle.{Holds}
+use Rattle.box_geom.specs.declared.layer.Layer.{Layer}
+use Rattle.box_geom.specs.declared.layer.Layer.TheVariants.{Metal1, Metal2}
+use Rattle.box_geom.specs.declared.shape.Label.{Label}
+use Rattle.box_geom.specs.declared.shape.Shape.{Shape}
+use Rattle.cell_draw.specs.declared.drawing.Drawing.{Drawing}
+use Rattle.lef_write.specs.declared.port.Port.{Port}
+use Rattle.lef_write.specs.Ports.{net_no, port_shapes, obstructions}
+
+-- the shapes of a layer, in the order of the drawing
+abbrev pub shapes_on : Layer → List Shape → List Shape
+shapes_on layer rects = filter (λ (s : Shape). same_layer s.layer layer) rects
+
+-- a label of this name stands on the shape
+pub record IsNamed (labels : List Label) (word : List ℕ) (s : Shape) : Type 0 where
+  pub label : Label
+  pub listed : Contains labels label
+  pub name : label.name ≡ word
+  pub layer : label.layer ≡ s.layer
+  pub holds : Holds s.rect label.x label.y
+
+-- the pin has exactly one port, and the label of its name stands there
+pub record HasPort (names : List (List ℕ)) (ports : List Port) (d : Drawing) (n : ℕ) : Type 0 where
+  pub shape : Shape
+  pub one : port_shapes ports d.shapes.rects (net_no n) ≡ shape ∷ []
+  pub named : IsNamed d.shapes.labels (get_or names n []) shape
+
+-- the shapes at all ports
+abbrev pub all_port_shapes : List Port → List Shape → List Shape
+all_port_shapes ports rects = filter_map (λ (port : Port). slice_get rects port.shape) ports
+
+-- Ports and obstructions are together the metal of the drawing, each shape once.
+abbrev pub AreAllMetal : List Port → List Shape → Type 0
+AreAllMetal ports rects = IsPermutation (all_port_shapes ports rects ++ obstructions ports rects) (shapes_on Metal1 rects ++ shapes_on Metal2 rects)
+
+-- no metal1 reaches beyond this width and height
+pub record IsWithin (d : Drawing) (s : Shape) : Type 0 where
+  pub right : s.rect.x2 ≤ℤ pos d.width
+  pub top : s.rect.y2 ≤ℤ pos d.height
+
+-- metal1 reaches to this width and height
+pub record IsAtEnd (d : Drawing) (s : Shape) : Type 0 where
+  pub right : s.rect.x2 ≡ pos d.width
+  pub top : s.rect.y2 ≡ pos d.height
+
+-- the width and the height are the greatest x and the greatest y of metal1
+pub record IsSized (d : Drawing) : Type 0 where
+  pub most : All (IsWithin d) (shapes_on Metal1 d.shapes.rects)
+  pub there : Any (IsAtEnd d) (shapes_on Metal1 d.shapes.rects)

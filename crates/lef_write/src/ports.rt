@@ -1,0 +1,159 @@
+// Which shapes of a drawing are ports, and which are obstructions.
+ghost use Rattle.std.specs.Prelude.{◌≡◌, ◌<◌, ◌==◌, ◌++◌, length, position, filter_map, option_to_list, IfOk, OnOk};
+ghost use Rattle.std.specs.List.{range_with_len};
+ghost use Rattle.box_geom.specs.Layers.{same_layer};
+ghost use Rattle.lef_write.specs.Ports.{places_on, last_ones, place_of_trunk, place_of_net, port_of, ports_of, shape_of, port_shapes, is_taken, obstructions_on};
+
+use crate::{Port, PortList};
+use box_geom::{Layer, Shape, ShapeList};
+use cell_draw::MOST_SHAPES;
+use cell_num::{List, NetNo, NoMemory, Pins};
+use channel_route::Trunk;
+use std::alloc::{AllocError, Global};
+
+fn is_on(shape: &Shape, layer: Layer) -> bool
+    ensures { result ≡ same_layer shape.now.layer layer }
+{
+    shape.layer == layer
+}
+
+fn places_on(alloc: Global, layer: Layer, rects: &[Shape]) -> Result<List<u32>, NoMemory>
+    requires { length rects.now < MOST_SHAPES }
+    ensures { IfOk result (λ places. places ≡ places_on layer rects.now) }
+{
+    let mut places = List::new(alloc);
+    'shapes: for (at, shape) in rects.iter().enumerate() {
+        if is_on(shape, layer) {
+            places.push(at as u32)?;
+        }
+    }
+    Ok(places)
+}
+
+fn last_ones(count: usize, places: &[u32]) -> &[u32]
+    ensures { result.now ≡ last_ones count places.now }
+{
+    &places[places.len().saturating_sub(count)..]
+}
+
+fn find_trunk(trunks: &[Trunk], net: NetNo) -> Option<usize>
+    ensures { result ≡ position (λ t. t.net.0 == net.0) trunks.now }
+{
+    trunks.iter().position(|trunk| trunk.net == net)
+}
+
+fn place_of_trunk(trunks: &[Trunk], metal: &[u32], net: NetNo) -> Option<u32>
+    ensures { result ≡ place_of_trunk trunks.now metal.now net }
+{
+    match find_trunk(trunks, net) {
+        Some(at) => last_ones(trunks.len(), metal).get(at).copied(),
+        None => None,
+    }
+}
+
+fn place_of_net(pins: &Pins, trunks: &[Trunk], metal: &[u32], net: NetNo) -> Option<u32>
+    ensures { result ≡ place_of_net pins.now trunks.now metal.now net }
+{
+    if net == pins.gnd {
+        metal.get(0).copied()
+    } else if net == pins.vdd {
+        metal.get(1).copied()
+    } else {
+        place_of_trunk(trunks, metal, net)
+    }
+}
+
+fn port_of(pins: &Pins, trunks: &[Trunk], metal: &[u32], pin: u32) -> Option<Port>
+    ensures { result ≡ port_of pins.now trunks.now metal.now pin }
+{
+    let pin = NetNo(pin);
+    let shape = place_of_net(pins, trunks, metal, pin)?;
+    Some(Port { pin, shape })
+}
+
+fn add_port(ports: &mut PortList, port: Option<Port>) -> Result<(), NoMemory>
+    ensures { OnOk result (ports.new ≡ ports.old ++ option_to_list port) }
+{
+    match port {
+        Some(port) => ports.push(port),
+        None => Ok(()),
+    }
+}
+
+fn ports_among(
+    alloc: Global,
+    pins: &Pins,
+    trunks: &[Trunk],
+    metal: &[u32],
+) -> Result<PortList, NoMemory>
+    ensures { IfOk result (λ ports. ports ≡ filter_map (port_of pins.now trunks.now metal.now) (range_with_len 0 pins.now.pins)) }
+{
+    let mut ports = PortList::new(alloc);
+    for pin in 0..pins.pins {
+        add_port(&mut ports, port_of(pins, trunks, metal, pin))?;
+    }
+    Ok(ports)
+}
+
+/// The ports of a cell's pins in a drawing of it: each pin's rail or trunk.
+pub fn ports_of(
+    alloc: Global,
+    pins: &Pins,
+    trunks: &[Trunk],
+    rects: &[Shape],
+) -> Result<PortList, NoMemory>
+    requires { length rects.now < MOST_SHAPES }
+    ensures { IfOk result (λ ports. ports ≡ ports_of pins.now trunks.now rects.now) }
+{
+    let metal = places_on(alloc, Layer::Metal1, rects)?;
+    ports_among(alloc, pins, trunks, metal.as_slice())
+}
+
+fn shape_of(pin: NetNo, rects: &[Shape], port: &Port) -> Option<Shape>
+    ensures { result ≡ shape_of pin rects.now port.now }
+{
+    if port.pin == pin {
+        rects.get(port.shape as usize).copied()
+    } else {
+        None
+    }
+}
+
+/// The shapes at the ports of a pin.
+pub fn port_shapes(
+    alloc: Global,
+    ports: &[Port],
+    rects: &[Shape],
+    pin: NetNo,
+) -> Result<Vec<Shape>, AllocError>
+    ensures { IfOk result (λ shapes. shapes.items ≡ port_shapes ports.now rects.now pin) }
+{
+    ports
+        .iter()
+        .filter_map(|port| shape_of(pin, rects, port))
+        .collect(alloc)
+}
+
+fn is_taken(ports: &[Port], place: usize) -> bool
+    ensures { result ≡ is_taken ports.now place }
+{
+    ports.iter().any(|port| port.shape as usize == place)
+}
+
+/// The shapes of a layer that are no ports.
+pub fn obstructions_on(
+    alloc: Global,
+    layer: Layer,
+    ports: &[Port],
+    rects: &[Shape],
+) -> Result<ShapeList, NoMemory>
+    ensures { IfOk result (λ shapes. shapes ≡ obstructions_on layer ports.now rects.now) }
+{
+    let mut found = ShapeList::new(alloc);
+    'shapes: for (at, shape) in rects.iter().enumerate() {
+        if is_on(shape, layer) && !is_taken(ports, at) {
+            found.push(*shape)?;
+        }
+    }
+    Ok(found)
+}

@@ -1,0 +1,15 @@
+-- Lemmas whose states are kept by their numbers.
+use Rattle.std.specs.Prelude.{ℕ, ◌≡◌, length}
+use Rattle.row_state.specs.declared.kind.Kinds.{Kinds}
+use Rattle.row_state.specs.Code.{state_of}
+use Rattle.bound_log.specs.declared.log.Rule.{Rule}
+use Rattle.bound_log.specs.declared.log.Lemma.{Lemma}
+
+-- the lemma on the state of which this is the number
+abbrev pub numbered_lemma : Kinds → ℕ → ℕ → Rule → Lemma
+numbered_lemma k code bound rule = record { state = state_of k code; bound = bound; rule = rule }
+
+-- a lemma whose counts have room for those of another one
+pub record HasRoom (room lemma : Lemma) : Type 0 where
+  pub p : length room.state.p_left ≡ length lemma.state.p_left
+  pub n : length room.state.n_left ≡ length lemma.state.n_left

@@ -1,0 +1,63 @@
+ghost use Rattle.std.specs.Prelude.{◌≡◌, ◌+◌, IfOk, length};
+ghost use Rattle.cell_num.specs.Fingers.{AreFingers, columns_of};
+ghost use Rattle.log_check.specs.Accepted.{WithKinds};
+ghost use Rattle.row_search.specs.Ended.{IfUnfinished, IsSolved, IsSpent};
+ghost use Rattle.row_search.specs.First.{IsFirstLeast};
+
+use crate::{Found, Kept, Stop, StopKept, search_kept};
+use bound_log::{LemmaList, Log};
+use cell_num::{Fingers, NoMemory};
+use row_state::RowBound;
+use std::alloc::Global;
+
+// The kept lemmas, each with its state.
+fn unpacked(alloc: Global, kept: &Kept) -> Result<LemmaList, NoMemory>
+    ensures { IfOk result (λ lemmas. lemmas ≡ kept.now) }
+{
+    let mut lemmas = LemmaList::new(alloc);
+    for at in 0..kept.len() {
+        let mut lemma = kept.room(alloc)?;
+        kept.fetch(at, &mut lemma);
+        lemmas.push(lemma)?;
+    }
+    Ok(lemmas)
+}
+
+/// The first least arrangement of the fingers, and a log that proves that none has fewer gaps; or what is proved when the
+/// budget of nodes is spent. A node is a visit of a state of which no kept lemma says that it fails.
+pub fn search<B: RowBound>(
+    alloc: Global,
+    fingers: &Fingers,
+    bound: &B,
+    budget: u64,
+) -> Result<Found, Stop>
+    requires { AreFingers fingers.now }
+    ensures row { IfOk result (λ found. IsFirstLeast fingers.now found.row) }
+    ensures solved { IfOk result (λ found.
+        WithKinds fingers.now (λ k. IsSolved (B.value bound.now) k fingers.now budget found.row found.log)) }
+    ensures nodes { IfOk result (λ found. found.nodes ≡ length found.log.lemmas + columns_of fingers.now + 1) }
+    ensures spent { IfUnfinished result (λ log proved.
+        WithKinds fingers.now (λ k. IsSpent (B.value bound.now) k fingers.now budget log proved)) }
+{
+    match search_kept(alloc, fingers, bound, budget) {
+        Ok(found) => {
+            let lemmas = unpacked(alloc, &found.kept)?;
+            Ok(Found {
+                row: found.row,
+                log: Log {
+                    lemmas,
+                    best: Some(found.best),
+                },
+                nodes: found.nodes,
+            })
+        }
+        Err(StopKept::Unfinished { kept, proved }) => {
+            let lemmas = unpacked(alloc, &kept)?;
+            Err(Stop::Unfinished {
+                log: Log { lemmas, best: None },
+                proved,
+            })
+        }
+        Err(StopKept::NoMemory) => Err(Stop::NoMemory),
+    }
+}
