@@ -184,6 +184,18 @@ cells_of_places rs links are (suc n) c d i j a b p q h k (m, t, rest) =
     joined (Linked (Covers rs)) c o.to d o.chain (cells_of_places rs links are n o.to d m j o.rect b o.is q o.holds k rest)
 
 -- ---- the parts near others
+from_zero : (labels : List ℕ) (n l : ℕ) → (slice_index labels (0 + n) == l) ≡ false → (slice_index labels n == l) ≡ false
+from_zero labels n l e = let f : 0 + n ≡ n = omega arith in subst (λ k. (slice_index labels k == l) ≡ false) f e
+
+to_zero : (labels : List ℕ) (n l : ℕ) → (slice_index labels n == l) ≡ false → (slice_index labels (0 + n) == l) ≡ false
+to_zero labels n l e = let f : n ≡ 0 + n = omega arith in subst (λ k. (slice_index labels k == l) ≡ false) f e
+
+at_zero : (labels : List ℕ) (n m : ℕ) → (slice_index labels n == slice_index labels (0 + m)) ≡ false → (slice_index labels n == slice_index labels m) ≡ false
+at_zero labels n m e = let f : 0 + m ≡ m = omega arith in subst (λ k. (slice_index labels n == slice_index labels k) ≡ false) f e
+
+into_zero : (labels : List ℕ) (n m : ℕ) → (slice_index labels n == slice_index labels m) ≡ false → (slice_index labels n == slice_index labels (0 + m)) ≡ false
+into_zero labels n m e = let f : m ≡ 0 + m = omega arith in subst (λ k. (slice_index labels n == slice_index labels k) ≡ false) f e
+
 record IsHit (d l : ℕ) (a : Rectangle) (labels : List ℕ) (k : ℕ) (bs : List Rectangle) (q : Rectangle) : Type 0 where
   at : ℕ
   other : Rectangle
@@ -241,7 +253,7 @@ some_sound : (d : ℕ) (labels : List ℕ) (all : List Rectangle) (k : ℕ) (res
 some_sound d labels all k [] q c = absurd c
 some_sound d labels all k (a ∷ rest) q c =
     elim (in_append (hits_from d (slice_index labels k) a labels 0 all) (hits_over d labels all (k + 1) rest) q c) [
-      | inl i ↦ (let h = hits_sound d (slice_index labels k) a labels 0 all q i in let f : k + 0 ≡ k = omega arith in record { at = 0; first = a; is = refl; second = h.at; other = h.other; there = h.is; differ = subst (λ n. (slice_index labels h.at == slice_index labels n) ≡ false) (sym f) h.differ; part = h.part })
+      | inl i ↦ (let h = hits_sound d (slice_index labels k) a labels 0 all q i in let f : k + 0 ≡ k = omega arith in record { at = 0; first = a; is = refl; second = h.at; other = h.other; there = h.is; differ = subst (λ n. (slice_index labels h.at == slice_index labels n) ≡ false) (sym f) (from_zero labels h.at (slice_index labels k) h.differ); part = h.part })
       | inr i ↦ (let h = some_sound d labels all (k + 1) rest q i in let f : (k + 1) + h.at ≡ k + suc h.at = omega arith in record { at = suc h.at; first = h.first; is = h.is; second = h.second; other = h.other; there = h.there; differ = subst (λ n. (slice_index labels h.second == slice_index labels n) ≡ false) f h.differ; part = h.part })
     ]
 
@@ -250,7 +262,7 @@ some_whole d labels all k [] m a j b q is there e p = absurd (cc is)
 some_whole d labels all k (c ∷ cs) zero a j b q is there e p =
     let f : k + 0 ≡ k = omega arith in
     put_left (hits_from d (slice_index labels k) c labels 0 all) (hits_over d labels all (k + 1) cs) q
-    (hits_whole d (slice_index labels k) c labels 0 all j b q there (subst (λ n. (slice_index labels j == slice_index labels n) ≡ false) f e) (subst (λ z. In (some_part d z b) q) (sym (some_same c a is)) p))
+    (hits_whole d (slice_index labels k) c labels 0 all j b q there (to_zero labels j (slice_index labels k) (subst (λ n. (slice_index labels j == slice_index labels n) ≡ false) f e)) (subst (λ z. In (some_part d z b) q) (sym (some_same c a is)) p))
 some_whole d labels all k (c ∷ cs) (suc m) a j b q is there e p =
     let f : k + suc m ≡ (k + 1) + m = omega arith in
     put_right (hits_from d (slice_index labels k) c labels 0 all) (hits_over d labels all (k + 1) cs) q
@@ -321,7 +333,7 @@ apart_is rs links n labels hits r d real le count sep he same = record { same = 
           t = n'.t;
           other = record { rect = i.other; listed = contains_get rs i.second i.other i.there; holds = n'.holds };
           near = n'.near;
-          apart = apart x y n'.s n'.t i.at i.second i.first i.other i.is i.there held n'.holds i.differ;
+          apart = apart x y n'.s n'.t i.at i.second i.first i.other i.is i.there held n'.holds (at_zero labels i.second i.at i.differ);
         }
 
     back : (x y : ℤ) → FailsApart (Covers rs) d x y → Covers (hits_over d labels rs 0 rs) x y
@@ -341,7 +353,7 @@ apart_is rs links n labels hits r d real le count sep he same = record { same = 
             let h = in_part d f.covered.rect f.other.rect x y f.s f.t f.covered.holds f.near f.other.holds in
             let a = h.left in let b = h.right in let c = h.low in let g = h.high in
             let real' : IsProper (near_part d f.covered.rect f.other.rect) = record { wide = omega (arith, ints); high = omega (arith, ints) } in
-            let i = some_whole d labels rs 0 rs p.at f.covered.rect q.at f.other.rect (near_part d f.covered.rect f.other.rect) p.is q.is e (part_there d f.covered.rect f.other.rect real') in
+            let i = some_whole d labels rs 0 rs p.at f.covered.rect q.at f.other.rect (near_part d f.covered.rect f.other.rect) p.is q.is (into_zero labels q.at p.at e) (part_there d f.covered.rect f.other.rect real') in
             record { rect = near_part d f.covered.rect f.other.rect; listed = in_contains (hits_over d labels rs 0 rs) (near_part d f.covered.rect f.other.rect) i; holds = h }
 
 pub hits_blocks : (rs hits : List Rectangle) (d : ℕ) (labels : List ℕ) → All IsBlock rs → hits ≡ hits_over d labels rs 0 rs → All IsBlock hits

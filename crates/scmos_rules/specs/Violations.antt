@@ -1,8 +1,9 @@
 -- The broken rules of a layout.
-use Rattle.std.specs.Prelude.{◌≡◌, ◌↔◌, ℕ, ◌<◌, ◌≤◌, List, length, Option, Some, slice_get}
+use Rattle.std.specs.Prelude.{◌≡◌, ◌↔◌, ℕ, ◌<◌, ◌≤◌, List, length, Option, Some, None, slice_get}
 use Rattle.std.specs.List.{Contains, AllPairs}
 use Rattle.box_geom.specs.Regions.{IsFirst}
 use Rattle.box_geom.specs.declared.shape.Shape.{Shape}
+use Rattle.scmos_rules.specs.Failing.{IsEmpty}
 use Rattle.scmos_rules.specs.Numbers.{numbers_of}
 use Rattle.scmos_rules.specs.Rules.{Fails}
 use Rattle.scmos_rules.specs.declared.number.RuleNo.{RuleNo}
@@ -24,6 +25,15 @@ pub record StandsBefore {X : Type 0} (xs : List X) (a b : X) : Type 0 where
 pub record AreBroken (d : Deck) (s : List Shape) (rules : List RuleNo) (vs : List Violation) : Type 0 where
   pub listed : (v : Violation) → Contains vs v ↔ (Contains rules v.rule × IsFirst (Fails d v.rule s) v.x v.y)
   pub order : AllPairs (λ (v w : Violation). StandsBefore rules v.rule w.rule) vs
+
+-- the violation of one rule, where some cell fails it
+pub record IsViolation (d : Deck) (s : List Shape) (number : RuleNo) (v : Violation) : Type 0 where
+  pub rule : v.rule ≡ number
+  pub first : IsFirst (Fails d number s) v.x v.y
+
+abbrev pub IsVerdict : Deck → List Shape → RuleNo → Option Violation → Type 0
+IsVerdict d s rule None = IsEmpty (Fails d rule s)
+IsVerdict d s rule (Some v) = IsViolation d s rule v
 
 abbrev pub AreViolations : Deck → List Shape → List Violation → Type 0
 AreViolations d s vs = AreBroken d s (numbers_of d) vs

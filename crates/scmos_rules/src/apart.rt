@@ -90,10 +90,10 @@ fn near_others(alloc: Global, set: &Region, by: u32) -> Result<Region, NoMemory>
     requires small { by ≤ 1000 }
     ensures { IfOk result (λ r. AreCells (FailsApart (Covers set.now) by) r) }
 {
-    let blocks = set.blocks();
-    let links = all_links(alloc, blocks)?;
-    let labels = classes(alloc, blocks.len(), links.as_slice())?;
-    let hits = all_hits(alloc, blocks, labels.as_slice(), by)?;
+    let parts = set.blocks();
+    let links = all_links(alloc, parts)?;
+    let labels = classes(alloc, parts.len(), links.as_slice())?;
+    let hits = all_hits(alloc, parts, labels.as_slice(), by)?;
     match Region::from_blocks(alloc, hits.as_slice()) {
         Ok(region) => Ok(region),
         Err(error) => Err(error),

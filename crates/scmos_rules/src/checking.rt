@@ -1,7 +1,7 @@
-ghost use Rattle.std.specs.Prelude.{◌≤◌, length, IfOk, IfErr};
+ghost use Rattle.std.specs.Prelude.{◌≡◌, ◌≤◌, ◌++◌, length, option_to_list, IfOk, IfErr, OnOk};
 ghost use Rattle.scmos_rules.specs.Regions.{AreCells};
 ghost use Rattle.scmos_rules.specs.Rules.{Fails};
-ghost use Rattle.scmos_rules.specs.Violations.{AreViolations, IsFaultOf};
+ghost use Rattle.scmos_rules.specs.Violations.{IsVerdict, AreViolations, IsFaultOf};
 ghost use Rattle.scmos_rules.specs.declared.rules.Deck.TheVariants.{Plain};
 
 use crate::apart::spacing;
@@ -50,19 +50,37 @@ fn failing(alloc: Global, shapes: &Shapes, rule: RuleNo) -> Result<Region, NoMem
     }
 }
 
+// The violation of a rule, where some cell fails it.
+fn verdict(alloc: Global, shapes: &Shapes, rule: RuleNo) -> Result<Option<Violation>, NoMemory>
+    ensures { IfOk result (IsVerdict Plain shapes.now.rects rule) }
+{
+    let region = failing(alloc, shapes, rule)?;
+    match region.first_cell() {
+        Some(place) => Ok(Some(Violation {
+            rule,
+            x: place.x,
+            y: place.y,
+        })),
+        None => Ok(None),
+    }
+}
+
+fn add(found: &mut Violations, verdict: Option<Violation>) -> Result<(), NoMemory>
+    ensures { OnOk result (found.new ≡ found.old ++ option_to_list verdict) }
+{
+    match verdict {
+        Some(violation) => found.push(violation),
+        None => Ok(()),
+    }
+}
+
 fn all_broken(alloc: Global, shapes: &Shapes, rules: &Rules) -> Result<Violations, NoMemory>
     ensures { IfOk result (λ vs. AreViolations rules.now shapes.now.rects vs) }
 {
     let mut found = Violations::new(alloc);
     for rule in rules.numbers() {
-        let region = failing(alloc, shapes, *rule)?;
-        if let Some(place) = region.first_cell() {
-            found.push(Violation {
-                rule: *rule,
-                x: place.x,
-                y: place.y,
-            })?;
-        }
+        let violation = verdict(alloc, shapes, *rule)?;
+        add(&mut found, violation)?;
     }
     Ok(found)
 }

@@ -105,7 +105,7 @@ pub(crate) fn diffusion_contact(alloc: Global, shapes: &Shapes) -> Result<Region
 
 // Contacts without poly, and of these the ones without active.
 pub(crate) fn bare_contact(alloc: Global, shapes: &Shapes) -> Result<Region, NoMemory>
-    ensures cells { IfOk result (λ r. AreCells (BareContact shapes.now.rects) r) }
+    ensures { IfOk result (λ r. AreCells (BareContact shapes.now.rects) r) }
 {
     let contact = on(alloc, shapes, Layer::Contact)?;
     let poly = on(alloc, shapes, Layer::Poly)?;
