@@ -106,11 +106,9 @@ found d s rules r vs new b is first = record { listed = λ v. (λ c. there v (Co
         let q = seat rules v.rule (contains_in rules v.rule k.0) in
         record { i = q.at; j = length rules; before = slice_get_within rules q.at v.rule q.is; first = get_left rules (r ∷ []) q.at v.rule q.is; second = subst (λ z. slice_get (rules ++ r ∷ []) (length rules) ≡ Some z) (sym is) (get_last rules r) }
 
-pub verdict_some : (s : List Shape) (r : RuleNo) (v : Violation) (region : List Rectangle) → AreCells (Fails Plain r s) region → v.rule ≡ r → IsFirst (Covers region) v.x v.y → IsVerdict Plain s r (Some v)
-verdict_some s r v region cells is f = record { rule = is; first = first_like (Covers region) (Fails Plain r s) v.x v.y cells.same f }
-
-pub verdict_none : (s : List Shape) (r : RuleNo) (region : List Rectangle) → AreCells (Fails Plain r s) region → CoversNone region → IsVerdict Plain s r None
-verdict_none s r region cells none x y f = none x y ((cells.same x y).1 f)
+-- the first cell of the region of failing cells
+pub first_failing : (s : List Shape) (r : RuleNo) (region : List Rectangle) (x y u v : ℤ) → AreCells (Fails Plain r s) region → IsFirst (Covers region) u v → x ≡ u → y ≡ v → IsFirst (Fails Plain r s) x y
+first_failing s r region x y u v cells f e g = subst (λ z. IsFirst (Fails Plain r s) z y) (sym e) (subst (IsFirst (Fails Plain r s) u) (sym g) (first_like (Covers region) (Fails Plain r s) u v cells.same f))
 
 pub one_more_rule : (d : Deck) (s : List Shape) (all : List RuleNo) (i : ℕ) (r : RuleNo) (vs new : List Violation) (o : Option Violation) → i < length all → r ≡ get_or all i N1_1 → AreBroken d s (take i all) vs → IsVerdict Plain s r o → new ≡ vs ++ option_to_list o → AreBroken d s (take (i + 1) all) new
 one_more_rule d s all i r vs new o lt is b verdict e =

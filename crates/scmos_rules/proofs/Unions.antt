@@ -35,10 +35,10 @@ minus_inner a b r i m = record { inner = λ x y c. i.inner x y ((m x y).0 c).0 }
 pub either_cells : (P Q : ℤ → ℤ → Type 0) (a b r : List Rectangle) → AreCells P a → AreCells Q b → ((x y : ℤ) → Covers r x y ↔ (Covers a x y ⊎ Covers b x y)) → AreCells (λ x y. P x y ⊎ Q x y) r
 either_cells P Q a b r p q m = record { same = λ x y. (λ c. elim ((m x y).0 c) [ inl d ↦ inl ((p.same x y).0 d) | inr d ↦ inr ((q.same x y).0 d) ], λ d. (m x y).1 (elim d [ inl e ↦ inl ((p.same x y).1 e) | inr e ↦ inr ((q.same x y).1 e) ])) }
 
-pub bare_cells : (P Q R : ℤ → ℤ → Type 0) (a b c m r : List Rectangle) → AreCells P a → AreCells Q b → AreCells R c → ((x y : ℤ) → Covers m x y ↔ (Covers a x y × (Covers b x y → ⊥))) → ((x y : ℤ) → Covers r x y ↔ (Covers m x y × (Covers c x y → ⊥))) → AreCells (λ x y. P x y × (Q x y → ⊥) × (R x y → ⊥)) r
+pub bare_cells : (P Q R : ℤ → ℤ → Type 0) (a b c m r : List Rectangle) → AreCells P a → AreCells Q b → AreCells R c → ((x y : ℤ) → Covers m x y ↔ (Covers a x y × (Covers b x y → ⊥))) → ((x y : ℤ) → Covers r x y ↔ (Covers m x y × (Covers c x y → ⊥))) → AreCells (λ x y. P x y × ((Q x y → ⊥) × (R x y → ⊥))) r
 bare_cells P Q R a b c m r p q s f g = record {
   same = λ x y. (
-    λ u. let v = (g x y).0 u in let w = (f x y).0 v.0 in ((p.same x y).0 w.0, λ e. w.1 ((q.same x y).1 e), λ e. v.1 ((s.same x y).1 e)),
-    λ (d, e, h). (g x y).1 ((f x y).1 ((p.same x y).1 d, λ k. e ((q.same x y).0 k)), λ k. h ((s.same x y).0 k)),
+    λ u. let v = (g x y).0 u in let w = (f x y).0 v.0 in ((p.same x y).0 w.0, (λ e. w.1 ((q.same x y).1 e), λ e. v.1 ((s.same x y).1 e))),
+    λ d. (g x y).1 ((f x y).1 ((p.same x y).1 d.0, λ k. d.1.0 ((q.same x y).0 k)), λ k. d.1.1 ((s.same x y).0 k)),
   );
 }
