@@ -9,6 +9,9 @@ mod faults;
 mod form;
 mod gather;
 mod inputs;
+mod lines;
+mod make;
+mod make_report;
 mod plan;
 mod process;
 mod read;
@@ -16,6 +19,7 @@ mod refusal;
 mod report;
 mod run;
 mod status;
+mod stem;
 #[cfg(test)]
 mod tests;
 mod work;
