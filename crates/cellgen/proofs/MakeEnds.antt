@@ -1,5 +1,5 @@
 -- An end of `make`, from its parts.
-use Rattle.std.proofs.Common.{ℕ, ◌≡◌, List, [], ◌∷◌, ◌++◌, Result, Ok, Err, IfOk, codes, refl, sym, ap, ◌∙◌, map, string_bytes}
+use Rattle.std.proofs.Common.{ℕ, ◌≡◌, List, [], ◌∷◌, ◌++◌, Result, Ok, Err, IfOk, refl, sym, ap, ◌∙◌, subst, map, string_bytes}
 use Rattle.cell_num.specs.declared.list.NoMemory.{NoMemory}
 use Rattle.cellgen.specs.declared.end.End.{End}
 use Rattle.cellgen.specs.declared.end.Output.{Output}
@@ -34,3 +34,7 @@ end_two status first second name bytes other_name other_bytes text report (Ok en
   files = ap (λ (x : End). map named x.files) is ∙ two_are first second (name, bytes) (other_name, other_bytes) (file_is first name bytes p q) (file_is second other_name other_bytes s u);
   report = ap (λ (x : End). x.report) is ∙ t;
 }
+
+-- with the text that the report is
+pub end_said : (status : Status) (told : List (List ℕ × List ℕ)) (report text : List ℕ) (r : Result End NoMemory) → report ≡ text → IfOk r (IsEnd status told report) → IfOk r (IsEnd status told text)
+end_said status told report text r is ends = subst (λ (t : List ℕ). IfOk r (IsEnd status told t)) is ends

@@ -93,7 +93,7 @@ told_so files form end answer old new (Ok material) make of is (inl h) ends whol
     record {
       inputs = inputs;
       out = out;
-      comes = is ∙ ap (λ (m : Material). Ok {E = Refusal} m) same;
+      comes = subst (λ (m : Material). called files (gathered form) ≡ Ok m) same is;
       end = end;
       ends = subst (λ (m : Material). EndsTo (Ok m) end) same ends;
       whole = whole;

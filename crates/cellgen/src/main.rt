@@ -3,14 +3,15 @@
 
 mod check;
 mod deliver;
+mod drawn;
 mod end;
 mod fault_line;
 mod faults;
 mod form;
 mod gather;
 mod inputs;
-mod lines;
 mod make;
+mod make_end;
 mod make_report;
 mod plan;
 mod process;
