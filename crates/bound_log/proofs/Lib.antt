@@ -4,12 +4,16 @@ pub mod Decimals
 pub mod Examples
 pub mod Feeds
 pub mod Injective
+pub mod Lengths
 pub mod Names
 pub mod Numbers
 pub mod Only
+pub mod Pieces
 pub mod Spelled
 pub mod Splits
 pub mod Fronts
 pub mod States
+pub mod Tales
 pub mod Texts
+pub mod Told
 pub mod Whole

@@ -53,7 +53,7 @@ gaps_spelled [] gaps h = absurd (none-some gaps h)
 gaps_spelled (a ∷ b ∷ bs) gaps h = absurd (none-some gaps h)
 gaps_spelled (a ∷ []) gaps h = let found : (a ≡ decimal gaps) × (gaps < 64) = found_below 64 a gaps h in (cons_same _ _ _ _ found.0 refl, found.1)
 
-EntrySpelled : Kinds → List (List ℕ) → Entry → Type 0
+unfoldable pub EntrySpelled : Kinds → List (List ℕ) → Entry → Type 0
 EntrySpelled k words (entry.Lemma lemma) = (words ≡ codes "lemma" ∷ lemma_words lemma) × LemmaFits k lemma
 EntrySpelled k words (entry.Gaps gaps) = (words ≡ codes "gaps" ∷ decimal gaps ∷ []) × (gaps < 64)
 EntrySpelled k words entry.Open = words ≡ codes "open" ∷ []
@@ -62,7 +62,7 @@ no_words : (words : List (List ℕ)) → (length words == 0) ≡ true → words 
 no_words [] h = refl
 no_words (w ∷ ws) h = absurd (omega (arith, eqb-true (length (w ∷ ws)) 0 h))
 
-entry_spelled : (k : Kinds) (words : List (List ℕ)) (e : Entry) → AreSomeKinds k → entry_in k words ≡ Some e → EntrySpelled k words e
+pub entry_spelled : (k : Kinds) (words : List (List ℕ)) (e : Entry) → AreSomeKinds k → entry_in k words ≡ Some e → EntrySpelled k words e
 unfolding EntrySpelled
 entry_spelled k [] e some h = absurd (none-some e h)
 entry_spelled k (word ∷ words) e some h =
@@ -85,7 +85,7 @@ entry_spelled k (word ∷ words) e some h =
       ]
     ]
 
-column_spelled : (k : Kinds) (words : List (List ℕ)) (listed : LogStep) → column_in k words ≡ Some listed → (words ≡ codes "column" ∷ column_words listed) × StepFits k listed
+pub column_spelled : (k : Kinds) (words : List (List ℕ)) (listed : LogStep) → column_in k words ≡ Some listed → (words ≡ codes "column" ∷ column_words listed) × StepFits k listed
 column_spelled k [] listed h = absurd (none-some listed h)
 column_spelled k (word ∷ words) listed h =
     elim (chosen (is_word word (codes "column")) _ _ _ h) [
@@ -95,10 +95,10 @@ column_spelled k (word ∷ words) listed h =
       | inr none ↦ absurd (none-some listed none.1)
     ]
 
-line_of_words : (line : List ℕ) (words : List (List ℕ)) → words_in line ≡ words → fed line ≡ fed (join_with_byte 32 words)
+pub line_of_words : (line : List ℕ) (words : List (List ℕ)) → words_in line ≡ words → fed line ≡ fed (join_with_byte 32 words)
 line_of_words line words h = ap fed (sym (join_with_byte-slice_split 32 line) ∙ ap (join_with_byte 32) h)
 
-text_cons : (line : List ℕ) (lines : List (List ℕ)) (rest : List ℕ) → lines_text (line ∷ lines) rest ≡ fed line ++ lines_text lines rest
+pub text_cons : (line : List ℕ) (lines : List (List ℕ)) (rest : List ℕ) → lines_text (line ∷ lines) rest ≡ fed line ++ lines_text lines rest
 unfolding lines_text
 text_cons line lines rest = append_assoc (fed line) (flat_map fed lines) rest
 

@@ -1,11 +1,11 @@
 -- Texts cut at a byte that their parts do not hold.
 use Rattle.std.specs.Prelude.{ℕ, ◌≡◌, ◌<◌, ◌≤◌, ◌==◌, false, List, [], ◌∷◌, ◌++◌, All, length}
-use Rattle.std.proofs.Common.{refl, sym, ap, arith, ◌∙◌}
-use Rattle.std.specs.List.{flat_map, join_with_byte}
-use Rattle.std.proofs.lemmas.Bool.{eq-eqb, ne_eqb}
+use Rattle.std.proofs.Common.{refl, sym, ap, subst, arith, ◌∙◌, inl, inr}
+use Rattle.std.specs.List.{flat_map, join_with_byte, onto_first}
+use Rattle.std.proofs.lemmas.Bool.{cases_Bool, eq-eqb, ne_eqb}
 use Rattle.std.proofs.lemmas.List.{append_assoc}
 use Rattle.std.proofs.lemmas.List.Elements.{All-append, All-cons, All-head, All-nil, All-tail}
-use Rattle.std.proofs.lemmas.List.Splits.{join_with_byte-slice_split, slice_split_at, slice_split_none}
+use Rattle.std.proofs.lemmas.List.Splits.{join_with_byte-slice_split, slice_split-cons_no, slice_split-cons_yes, slice_split_at, slice_split_none}
 use Rattle.bound_log.specs.Line.{parts_at}
 use Rattle.bound_log.specs.Reading.{behind, last_of, lines_in, without_last}
 use Rattle.bound_log.proofs.Feeds.{more_parts, same_last, some_part}
@@ -76,3 +76,34 @@ joined_lines (part ∷ next ∷ more) some =
 pub bytes_again : (bytes : List ℕ) → bytes ≡ lines_text (lines_in bytes) (behind bytes)
 unfolding lines_in behind
 bytes_again bytes = sym (join_with_byte-slice_split 10 bytes) ∙ joined_lines (parts_at 10 bytes) (some_part bytes)
+
+-- no part holds the byte
+onto_lacks : (c b : ℕ) (parts : List (List ℕ)) → (b == c) ≡ false → All (Lacks c) parts → All (Lacks c) (onto_first b parts)
+onto_lacks c b [] other lacks = All-cons (Lacks c) (b ∷ []) [] (All-cons (λ d. (d == c) ≡ false) b [] other (All-nil (λ d. (d == c) ≡ false))) (All-nil (Lacks c))
+onto_lacks c b (part ∷ parts) other lacks =
+    All-cons (Lacks c) (b ∷ part) parts (All-cons (λ d. (d == c) ≡ false) b part other (All-head (Lacks c) part parts lacks)) (All-tail (Lacks c) part parts lacks)
+
+parts_lack : (c : ℕ) (bytes : List ℕ) → All (Lacks c) (parts_at c bytes)
+parts_lack c [] = All-cons (Lacks c) [] [] (All-nil (λ d. (d == c) ≡ false)) (All-nil (Lacks c))
+parts_lack c (b ∷ bs) = elim (cases_Bool (b == c)) [
+  | inl hit ↦ subst (All (Lacks c)) (sym (slice_split-cons_yes (λ d. d == c) b bs hit)) (All-cons (Lacks c) [] (parts_at c bs) (All-nil (λ d. (d == c) ≡ false)) (parts_lack c bs))
+  | inr miss ↦ subst (All (Lacks c)) (sym (slice_split-cons_no (λ d. d == c) b bs miss)) (onto_lacks c b (parts_at c bs) miss (parts_lack c bs))
+]
+
+all_but_last : (parts : List (List ℕ)) → All (Lacks 10) parts → All (Lacks 10) (without_last parts)
+all_but_last [] h = All-nil (Lacks 10)
+all_but_last (part ∷ []) h = All-nil (Lacks 10)
+all_but_last (part ∷ next ∷ more) h = All-cons (Lacks 10) part (without_last (next ∷ more)) (All-head (Lacks 10) part (next ∷ more) h) (all_but_last (next ∷ more) (All-tail (Lacks 10) part (next ∷ more) h))
+
+last_lacks : (parts : List (List ℕ)) → All (Lacks 10) parts → Lacks 10 (last_of parts)
+last_lacks [] h = All-nil (λ d. (d == 10) ≡ false)
+last_lacks (part ∷ []) h = All-head (Lacks 10) part [] h
+last_lacks (part ∷ next ∷ more) h = last_lacks (next ∷ more) (All-tail (Lacks 10) part (next ∷ more) h)
+
+pub lines_lack : (bytes : List ℕ) → All (Lacks 10) (lines_in bytes)
+unfolding lines_in
+lines_lack bytes = all_but_last (parts_at 10 bytes) (parts_lack 10 bytes)
+
+pub behind_lacks : (bytes : List ℕ) → Lacks 10 (behind bytes)
+unfolding behind
+behind_lacks bytes = last_lacks (parts_at 10 bytes) (parts_lack 10 bytes)

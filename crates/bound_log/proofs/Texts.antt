@@ -1,12 +1,12 @@
 -- Texts in the form in which they are written.
-use Rattle.std.specs.Prelude.{ℕ, ◌≡◌, ◌-◌, ◌≤◌, List, [], ◌∷◌, ◌++◌, length, get_or, take, drop, map, decimal}
+use Rattle.std.specs.Prelude.{ℕ, zero, suc, Result, Ok, Err, OnErr, ◌≡◌, ◌+◌, ◌-◌, ◌<◌, ◌≤◌, List, [], ◌∷◌, ◌++◌, length, get_or, take, drop, map, decimal}
 use Rattle.std.proofs.Common.{sym, ap, arith, ◌∙◌}
 use Rattle.std.specs.List.{flat_map, join_with_byte}
 use Rattle.std.proofs.Math.Seq.{take-length}
-use Rattle.std.proofs.lemmas.List.{append-nil, append_assoc}
+use Rattle.std.proofs.lemmas.List.{append-nil, append_assoc, length-append}
 use Rattle.bound_log.specs.Text.{counts_text}
 
-joined_apart : (c : ℕ) (cs : List ℕ) → join_with_byte 44 (map decimal (c ∷ cs)) ≡ decimal c ++ flat_map (λ count. 44 ∷ decimal count) cs
+pub joined_apart : (c : ℕ) (cs : List ℕ) → join_with_byte 44 (map decimal (c ∷ cs)) ≡ decimal c ++ flat_map (λ count. 44 ∷ decimal count) cs
 joined_apart c [] = sym (append-nil (decimal c))
 joined_apart c (d ∷ ds) = ap (λ (bs : List ℕ). decimal c ++ (44 ∷ bs)) (joined_apart d ds)
 
@@ -16,3 +16,37 @@ counts_apart out [] some = absurd (omega (arith, some))
 counts_apart out (c ∷ cs) some =
     let rest : length (c ∷ cs) - 1 ≡ length cs = omega arith in
     rw (rest, take-length cs) (append_assoc out (decimal c) (flat_map (λ count. 44 ∷ decimal count) cs) ∙ ap (λ (bs : List ℕ). out ++ bs) (sym (joined_apart c cs)))
+
+-- ---- how much room they take
+
+abbrev pub commas : List ℕ → List ℕ
+commas counts = flat_map (λ count. 44 ∷ decimal count) counts
+
+more_at : (counts : List ℕ) (i d : ℕ) → i < length counts → length (commas (take i counts)) + (1 + length (decimal (get_or counts i d))) ≤ length (commas counts)
+more_at [] i d within = absurd (omega (arith, within))
+more_at (c ∷ cs) zero d within = omega (arith, length-append (44 ∷ decimal c) (commas cs))
+more_at (c ∷ cs) (suc i) d within =
+    omega (arith, more_at cs i d (omega (arith, within)), length-append (44 ∷ decimal c) (commas (take i cs)), length-append (44 ∷ decimal c) (commas cs))
+
+-- no room for a comma
+pub comma_full : (counts : List ℕ) (i old now : ℕ) → i < length counts → old ≤ now + length (commas (take i counts)) → now < 1 → old < length (commas counts)
+comma_full counts i old now within left full = omega (arith, more_at counts i 0 within, left, full)
+
+-- nor for the count behind it
+pub count_full : (counts : List ℕ) (i d old now mid : ℕ) → i < length counts → old ≤ now + length (commas (take i counts)) → now ≤ mid + 1 → mid < length (decimal (get_or counts i d)) → old < length (commas counts)
+count_full counts i d old now mid within left more full = omega (arith, more_at counts i d within, left, more, full)
+
+counts_length : (counts : List ℕ) (d : ℕ) → 1 ≤ length counts → length (counts_text counts) ≡ length (decimal (get_or counts 0 d)) + length (commas (take (length counts - 1) (drop 1 counts)))
+counts_length [] d some = absurd (omega (arith, some))
+counts_length (c ∷ cs) d some =
+    omega (arith, ap length (counts_apart [] (c ∷ cs) some), length-append (decimal c) (commas (take (length (c ∷ cs) - 1) (drop 1 (c ∷ cs)))))
+
+pub counts_full : (counts : List ℕ) (d old mid : ℕ) → 1 ≤ length counts → old ≤ mid + length (decimal (get_or counts 0 d)) → mid < length (commas (take (length counts - 1) (drop 1 counts))) → old < length (counts_text counts)
+counts_full counts d old mid some left full = omega (arith, counts_length counts d some, left, full)
+
+pub counts_left : (counts : List ℕ) (d old mid new : ℕ) → 1 ≤ length counts → old ≤ mid + length (decimal (get_or counts 0 d)) → mid ≤ new + length (commas (take (length counts - 1) (drop 1 counts))) → old ≤ new + length (counts_text counts)
+counts_left counts d old mid new some left more = omega (arith, counts_length counts d some, left, more)
+
+pub on_err : {A E : Type 0} (r : Result A E) (P : Type 0) → P → OnErr r P
+on_err (Ok a) P h = tt
+on_err (Err e) P h = h

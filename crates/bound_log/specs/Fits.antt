@@ -4,7 +4,7 @@ use Rattle.row_state.specs.declared.kind.Kind.{Kind}
 use Rattle.row_state.specs.declared.kind.Kinds.{Kinds}
 use Rattle.row_state.specs.declared.step.Side.{Side}
 use Rattle.row_state.specs.declared.step.Step.{Step}
-use Rattle.row_state.specs.Start.{IsState}
+use Rattle.row_state.specs.Start.{AreSomeKinds, IsState}
 use Rattle.bound_log.specs.declared.log.Lemma.{Lemma}
 use Rattle.bound_log.specs.declared.log.LogStep.{LogStep}
 use Rattle.bound_log.specs.declared.log.Best.{Best}
@@ -43,3 +43,7 @@ pub record BestFits (k : Kinds) (best : Best) : Type 0 where
 pub record Fits (k : Kinds) (log : Log) : Type 0 where
   pub lemmas : All (LemmaFits k) log.lemmas
   pub best : IfSome log.best (BestFits k)
+
+-- so it is for the kinds of some fingers
+abbrev pub ForSome : (Kinds → Type 0) → Type 0
+ForSome Says = (k : Kinds) × AreSomeKinds k × Says k

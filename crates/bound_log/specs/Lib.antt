@@ -1,4 +1,5 @@
 pub mod Fits
 pub mod Line
+pub mod Pieces
 pub mod Reading
 pub mod Text

@@ -52,11 +52,24 @@ side_text (Some side) = decimal side.kind ++ codes " " ++ flip_text side.flipped
 abbrev pub column_line : LogStep → List ℕ
 column_line listed = codes "column " ++ decimal listed.gate.0 ++ codes " " ++ side_text listed.step.p ++ codes " " ++ side_text listed.step.n ++ codes "\n"
 
+-- the first two lines, of the version and the name
+abbrev pub head_lines : List ℕ → List ℕ
+head_lines name = codes "cellgen-log 1\n" ++ codes "cell " ++ name ++ codes "\n"
+
+abbrev pub gaps_line : ℕ → List ℕ
+gaps_line gaps = codes "gaps " ++ decimal gaps ++ codes "\n"
+
+-- in place of gaps and columns
+abbrev pub open_line : List ℕ
+open_line = codes "open\n"
+
+abbrev pub last_line : List ℕ
+last_line = codes "end\n"
+
 -- the gaps and the columns of the row, or `open`
 abbrev pub best_text : Option Best → List ℕ
-best_text None = codes "open\n"
-best_text (Some best) = codes "gaps " ++ decimal best.gaps ++ codes "\n" ++ flat_map column_line best.steps
+best_text None = open_line
+best_text (Some best) = gaps_line best.gaps ++ flat_map column_line best.steps
 
 abbrev pub log_text : List ℕ → Log → List ℕ
-log_text name log =
-    codes "cellgen-log 1\n" ++ codes "cell " ++ name ++ codes "\n" ++ flat_map lemma_line log.lemmas ++ best_text log.best ++ codes "end\n"
+log_text name log = head_lines name ++ flat_map lemma_line log.lemmas ++ best_text log.best ++ last_line

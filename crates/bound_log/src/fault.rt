@@ -2,7 +2,7 @@ use cell_num::NoMemory;
 use thiserror::Error;
 
 /// Why the bytes are not the text of a log, by the first place that is wrong.
-#[derive(Debug, Drop, Error)]
+#[derive(Clone, Copy, Debug, Error)]
 pub enum LogFault {
     /// The first line is another.
     #[error("Version")]

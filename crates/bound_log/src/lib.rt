@@ -2,14 +2,28 @@
 #![tactic(auto)]
 
 mod fault;
+mod item;
+mod law;
 mod line;
 mod lines;
 mod log;
+mod out;
 mod read;
+mod reader;
+mod spell;
 mod word;
 mod write;
+mod writer;
 
 pub use fault::LogFault;
+pub use item::{LogItem, LogPlace};
+pub use law::reads_in_pieces;
 pub use log::{Best, Entry, Lemma, LemmaList, Log, LogStep, LogSteps, MOST_GAPS, Rule};
+pub use out::MOST_LINE_BYTES;
 pub use read::read_log;
+pub use reader::LogReader;
 pub use write::write_log;
+pub use writer::LineWriter;
+
+#[cfg(test)]
+mod tests;

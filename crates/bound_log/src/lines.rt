@@ -8,7 +8,7 @@ pub(crate) struct Line<'a> {
     pub(crate) after: &'a [u8],
 }
 
-fn find_feed(bytes: &[u8]) -> Option<usize>
+pub(crate) fn find_feed(bytes: &[u8]) -> Option<usize>
     ensures { result ≡ position (λ b. b == 10) bytes.now }
 {
     bytes.iter().position(|b| *b == b'\n')

@@ -104,7 +104,7 @@ fn behind_cell(line: &[u8]) -> Option<&[u8]>
 }
 
 #[tactic(auto, using(crate::proofs::Names::behind_front, crate::proofs::Names::no_front))]
-fn is_named(line: &[u8], name: &Name) -> bool
+pub(crate) fn is_named(line: &[u8], name: &Name) -> bool
     ensures { result ≡ is_word line.now (codes "cell " ++ name.now) }
 {
     match behind_cell(line) {

@@ -1,5 +1,5 @@
 use cell_num::{Row, copy};
-use spice_net::read_cell;
+use spice_net::{Direction, read_cell};
 use std::alloc::Global;
 use std::test::Fail;
 use tech_file::Tech;
@@ -101,6 +101,41 @@ fn refuses_the_first_fault_of_a_line(rt: HostRuntime) -> Result<(), Fail> {
     ] {
         let text = format!(in rt.alloc(); ".subckt c a y vdd gnd\n{line}\nR2\n.ends\n")?;
         assert_eq!(rt; told(rt.alloc(), text.as_bytes())?.as_str(), want, "{line}");
+    }
+    Ok(())
+}
+
+// the directions of the pins of the cell `c`, a letter each
+fn directed(alloc: Global, text: &[u8]) -> Result<String, Fail> {
+    let name = copy(alloc, b"c")?;
+    let tech = Tech::plain(alloc)?;
+    let cell = match read_cell(alloc, &text[..text.len().min(1000)], &name, &tech) {
+        Ok(cell) => cell,
+        Err(fault) => return Ok(format!(in alloc; "{fault:?}")?),
+    };
+    let mut told = String::new(alloc);
+    for direction in cell.directions.as_slice() {
+        told.push(match direction {
+            Direction::Input => 'I',
+            Direction::Output => 'O',
+            Direction::Inout => 'B',
+        })?;
+    }
+    Ok(told)
+}
+
+#[test]
+fn reads_directions(rt: HostRuntime) -> Result<(), Fail> {
+    for (front, inside, behind, want) in [
+        ("", "*.PININFO a:I y:O vdd:B gnd:B\n", "", "IOBB"),
+        ("*.pininfo a:o\n", "", "*.pininfo y:o\n", "IBBB"),
+        ("", " *.PinInfo y:B A:o VDD:i\n*.pininfo a:I x:o y:q y $ y:o\n", "", "IBIB"),
+        ("", "*.pininfo a:b:o y :o y:io\n* .pininfo a:o\n", "", "IBBB"),
+    ] {
+        let text = format!(in rt.alloc();
+            "{front}.SUBCKT c a y vdd gnd\n{inside}MP y a vdd vdd p W=3u L=0.6u\nMN y a gnd gnd n W=1.5u L=0.6u\n.ENDS\n{behind}"
+        )?;
+        assert_eq!(rt; directed(rt.alloc(), text.as_bytes())?.as_str(), want, "{inside}");
     }
     Ok(())
 }

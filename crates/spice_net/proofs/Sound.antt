@@ -22,6 +22,7 @@ use Rattle.spice_net.specs.declared.subckt.Subckt.{Subckt}
 use Rattle.spice_net.specs.Transistors.{Transistor}
 use Rattle.spice_net.specs.Chosen.{has_name, is_global, chosen_in, without_comments, lines_in}
 use Rattle.spice_net.specs.Transistors.{is_rail, other_rail, transistors_of}
+use Rattle.spice_net.specs.Directions.{direction_of}
 use Rattle.spice_net.specs.Nets.{distinct, named_nets, nets_of, number_of, net_of, device_of}
 use Rattle.cell_num.specs.Steps.{require}
 use Rattle.spice_net.specs.Subcircuit.{pins_of, with_rail, with_rails, idle_pin, none_idle, few_enough, subckt_with, subckt_of, subckt_in, subcircuit}
@@ -66,8 +67,8 @@ none_there : (o : Option (List ℕ)) (u : Unit {0}) → none_idle o ≡ Ok u →
 none_there None u e = refl
 none_there (Some pin) u e = absurd cc
 
-pub accepted : (name : List ℕ) (tech : Technology) (pins : List (List ℕ)) (ts : List Transistor) (cell : Subckt) → subckt_of name tech pins ts ≡ Ok cell → IsAccepted tech pins ts × (subckt_with name tech pins ts ≡ cell)
-accepted name tech pins ts cell e =
+pub accepted : (name : List ℕ) (tech : Technology) (lines : List Line) (pins : List (List ℕ)) (ts : List Transistor) (cell : Subckt) → subckt_of name tech lines pins ts ≡ Ok cell → IsAccepted tech pins ts × (subckt_with name tech lines pins ts ≡ cell)
+accepted name tech lines pins ts cell e =
     let rails = granted_require (has_name pins tech.vdd && has_name pins tech.gnd) fault.NoRail _ cell e in
     let idle = granted_step (none_idle (idle_pin tech pins ts)) _ cell rails.1 in
     let some = granted_require (not (length ts == 0)) fault.Empty _ cell idle.2 in
@@ -83,7 +84,7 @@ accepted name tech pins ts cell e =
         few_devices = leb-true (length ts) 128 few_devices.0;
         few_nets = leb-true (length (nets_of pins ts)) 256 (required (nat_le (length (nets_of pins ts)) 256) (fault.TooMany what.Nets (length (nets_of pins ts))) few.0 few_devices.1);
       },
-      ok_is (subckt_with name tech pins ts) cell few.2,
+      ok_is (subckt_with name tech lines pins ts) cell few.2,
     )
   where
     ok_is : (a b : Subckt) → ◌≡◌ {A = Result Subckt SpiceFault} (Ok a) (Ok b) → a ≡ b
@@ -240,16 +241,16 @@ is_met tech pins ts count net none lt no_rail = met_by_name tech pins ts count (
 
 -- ---- the whole
 
-sound_with : (name : List ℕ) (tech : Technology) (pins : List (List ℕ)) (ts : List Transistor) → IsAccepted tech pins ts → All (IsRight tech) ts → IsSubckt (subckt_with name tech pins ts)
-sound_with name tech pins ts ok right = record {
+sound_with : (name : List ℕ) (tech : Technology) (lines : List Line) (pins : List (List ℕ)) (ts : List Transistor) → IsAccepted tech pins ts → All (IsRight tech) ts → IsSubckt (subckt_with name tech lines pins ts)
+sound_with name tech lines pins ts ok right = record {
   few_nets = ok.few_nets;
   names_differ = nets_differ pins ts (nets_of pins ts) refl;
   devices = are_devices (nets_of pins ts) tech (length pins) ts right (all_named (nets_of pins ts) tech ts (all_among pins ts) (pin_named pins ts tech.vdd ok.vdd) (pin_named pins ts tech.gnd ok.gnd));
   met = λ net lt no_rail. is_met tech pins ts (length pins) net ok.none_idle lt no_rail;
 }
 
-pins_with : (name : List ℕ) (tech : Technology) (pins : List (List ℕ)) (ts : List Transistor) → IsTechnology tech → IsAccepted tech pins ts → length pins ≤ length (distinct pins) → ArePins (length (subckt_with name tech pins ts).nets) (subckt_with name tech pins ts).pins
-pins_with name tech pins ts technology ok all = record {
+pins_with : (name : List ℕ) (tech : Technology) (lines : List Line) (pins : List (List ℕ)) (ts : List Transistor) → IsTechnology tech → IsAccepted tech pins ts → length pins ≤ length (distinct pins) → ArePins (length (subckt_with name tech lines pins ts).nets) (subckt_with name tech lines pins ts).pins
+pins_with name tech lines pins ts technology ok all = record {
   named = omega (arith, all, distinct_longer pins (named_nets ts));
   vdd = first_numbered tech.vdd pins (named_nets ts) ok.vdd;
   gnd = first_numbered tech.gnd pins (named_nets ts) ok.gnd;
@@ -257,19 +258,20 @@ pins_with name tech pins ts technology ok all = record {
 }
 
 -- what the steps before the last give
-record IsRead (name : List ℕ) (tech : Technology) (cell : Subckt) (pins : List (List ℕ)) (ts : List Transistor) : Type 0 where
+record IsRead (name : List ℕ) (tech : Technology) (cell : Subckt) (lines : List Line) (pins : List (List ℕ)) (ts : List Transistor) : Type 0 where
   pins_whole : length pins ≤ length (distinct pins)
   right : All (IsRight tech) ts
   accepted : IsAccepted tech pins ts
-  made : subckt_with name tech pins ts ≡ cell
+  made : subckt_with name tech lines pins ts ≡ cell
 
-is_read : (bytes name : List ℕ) (tech : Technology) (cell : Subckt) → subcircuit bytes name tech ≡ Ok cell → (pins : List (List ℕ)) × (ts : List Transistor) × IsRead name tech cell pins ts
+is_read : (bytes name : List ℕ) (tech : Technology) (cell : Subckt) → subcircuit bytes name tech ≡ Ok cell → (lines : List Line) × (pins : List (List ℕ)) × (ts : List Transistor) × IsRead name tech cell lines pins ts
 is_read bytes name tech cell e =
     let lines = granted_step (lines_in bytes) (subckt_in name tech) cell e in
     let chosen = granted_step (chosen_in name lines.0) _ cell lines.2 in
     let listed = granted_step (pins_of chosen.0.head) _ cell chosen.2 in
-    let inside = granted_step (transistors_of tech (without_comments chosen.0.inside)) (λ ts. subckt_of name tech (with_rails tech lines.0 listed.0) ts) cell listed.2 in
-    let whole = accepted name tech (with_rails tech lines.0 listed.0) inside.0 cell inside.2 in (
+    let inside = granted_step (transistors_of tech (without_comments chosen.0.inside)) (λ ts. subckt_of name tech chosen.0.inside (with_rails tech lines.0 listed.0) ts) cell listed.2 in
+    let whole = accepted name tech chosen.0.inside (with_rails tech lines.0 listed.0) inside.0 cell inside.2 in (
+      chosen.0.inside,
       with_rails tech lines.0 listed.0,
       inside.0,
       record {
@@ -283,19 +285,25 @@ is_read bytes name tech cell e =
 pub sound : (bytes name : List ℕ) (tech : Technology) (cell : Subckt) → IsTechnology tech → subcircuit bytes name tech ≡ Ok cell → IsSubckt cell
 sound bytes name tech cell technology e =
     let read = is_read bytes name tech cell e in
-    subst (λ (c : Subckt). IsSubckt c) read.2.made (sound_with name tech read.0 read.1 read.2.accepted read.2.right)
+    subst (λ (c : Subckt). IsSubckt c) read.3.made (sound_with name tech read.0 read.1 read.2 read.3.accepted read.3.right)
 
 pub pins : (bytes name : List ℕ) (tech : Technology) (cell : Subckt) → IsTechnology tech → subcircuit bytes name tech ≡ Ok cell → ArePins (length cell.nets) cell.pins
 pins bytes name tech cell technology e =
     let read = is_read bytes name tech cell e in
-    subst (λ (c : Subckt). ArePins (length c.nets) c.pins) read.2.made (pins_with name tech read.0 read.1 technology read.2.accepted read.2.pins_whole)
+    subst (λ (c : Subckt). ArePins (length c.nets) c.pins) read.3.made (pins_with name tech read.0 read.1 read.2 technology read.3.accepted read.3.pins_whole)
 
 pub few_pins : (bytes name : List ℕ) (tech : Technology) (cell : Subckt) → subcircuit bytes name tech ≡ Ok cell → cell.pins.pins ≤ 64
 few_pins bytes name tech cell e =
     let read = is_read bytes name tech cell e in
-    subst (λ (c : Subckt). c.pins.pins ≤ 64) read.2.made read.2.accepted.few_pins
+    subst (λ (c : Subckt). c.pins.pins ≤ 64) read.3.made read.3.accepted.few_pins
 
 pub few_devices : (bytes name : List ℕ) (tech : Technology) (cell : Subckt) → subcircuit bytes name tech ≡ Ok cell → length cell.devices ≤ 128
 few_devices bytes name tech cell e =
     let read = is_read bytes name tech cell e in
-    subst (λ (c : Subckt). length c.devices ≤ 128) read.2.made (omega (arith, read.2.accepted.few_devices, length-map read.1 (device_of (nets_of read.0 read.1))))
+    subst (λ (c : Subckt). length c.devices ≤ 128) read.3.made (omega (arith, read.3.accepted.few_devices, length-map read.2 (device_of (nets_of read.1 read.2))))
+
+-- each pin has a direction
+pub all_directed : (bytes name : List ℕ) (tech : Technology) (cell : Subckt) → subcircuit bytes name tech ≡ Ok cell → length cell.directions ≡ cell.pins.pins
+all_directed bytes name tech cell e =
+    let read = is_read bytes name tech cell e in
+    subst (λ (c : Subckt). length c.directions ≡ c.pins.pins) read.3.made (length-map read.1 (direction_of tech read.0 read.2))

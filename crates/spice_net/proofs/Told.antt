@@ -106,8 +106,8 @@ never_few pins ts =
     never_step fault.NoMemory (at_most 64 what.Pins (length pins)) _ (never_most 64 what.Pins (length pins)) (λ u.
     never_step fault.NoMemory (at_most 128 what.Devices (length ts)) _ (never_most 128 what.Devices (length ts)) (λ v. never_most 256 what.Nets (length (nets_of pins ts))))
 
-never_whole : (name : List ℕ) (tech : Technology) (pins : List (List ℕ)) (ts : List Transistor) → Never (subckt_of name tech pins ts)
-never_whole name tech pins ts =
+never_whole : (name : List ℕ) (tech : Technology) (lines : List Line) (pins : List (List ℕ)) (ts : List Transistor) → Never (subckt_of name tech lines pins ts)
+never_whole name tech lines pins ts =
     required (has_name pins tech.vdd && has_name pins tech.gnd) fault.NoRail _ (λ q. cc) (λ u1.
     never_step fault.NoMemory (none_idle (idle_pin tech pins ts)) _ (never_idle (idle_pin tech pins ts)) (λ u2.
     required (not (length ts == 0)) fault.Empty _ (λ q. cc) (λ u3.
@@ -117,7 +117,7 @@ never_in : (name : List ℕ) (tech : Technology) (lines : List Line) → Never (
 never_in name tech lines =
     never_step fault.NoMemory (chosen_in name lines) _ (never_chosen (from_first (begins name) lines)) (λ chosen.
     never_step fault.NoMemory (pins_of chosen.head) _ (required (list_all is_name (drop 2 chosen.head.words) && length (distinct (drop 2 chosen.head.words)) == length (drop 2 chosen.head.words)) (fault.Fields chosen.head.number) _ (λ q. cc) (λ u q. cc)) (λ pins.
-    never_step fault.NoMemory (transistors_of tech (without_comments chosen.inside)) _ (never_lines tech (without_comments chosen.inside)) (λ ts. never_whole name tech (with_rails tech lines pins) ts)))
+    never_step fault.NoMemory (transistors_of tech (without_comments chosen.inside)) _ (never_lines tech (without_comments chosen.inside)) (λ ts. never_whole name tech chosen.inside (with_rails tech lines pins) ts)))
 
 pub never_subcircuit : (bytes name : List ℕ) (tech : Technology) → Never (subcircuit bytes name tech)
 never_subcircuit bytes name tech =

@@ -1,4 +1,5 @@
 pub mod Chosen
+pub mod Directions
 pub mod Nets
 pub mod Reader
 pub mod Subcircuit

@@ -14,7 +14,7 @@ abbrev pub transistor_as : Row → ℕ → Fields → Transistor
 transistor_as row width f = record { row = row; drain = f.drain; gate = f.gate; source = f.source; width = width }
 
 -- the later of two values, where it is there
-abbrev pub last_there : Option (List ℕ) → Option (List ℕ) → Option (List ℕ)
+abbrev pub last_there : {X : Type 0} → Option X → Option X → Option X
 last_there (Some value) before = Some value
 last_there None before = before
 

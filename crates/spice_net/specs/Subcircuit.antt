@@ -12,6 +12,7 @@ use Rattle.spice_net.specs.declared.subckt.Subckt.{Subckt}
 use Rattle.spice_net.specs.Transistors.{Transistor}
 use Rattle.spice_net.specs.Chosen.{has_name, is_global, chosen_in, without_comments, lines_in}
 use Rattle.spice_net.specs.Transistors.{is_rail, transistors_of}
+use Rattle.spice_net.specs.Directions.{directions_of}
 use Rattle.spice_net.specs.Nets.{distinct, named_nets, nets_of, net_of, device_of}
 use Rattle.cell_num.specs.Steps.{require, ◌>>=◌}
 
@@ -60,32 +61,34 @@ few_enough pins transistors = do
   _ ← at_most most_devices what.Devices (length transistors)
   at_most most_nets what.Nets (length (nets_of pins transistors))
 
-abbrev pub subckt_with : List ℕ → Technology → List (List ℕ) → List Transistor → Subckt
-subckt_with name tech pins transistors =
+abbrev pub subckt_with : List ℕ → Technology → List Line → List (List ℕ) → List Transistor → Subckt
+subckt_with name tech lines pins transistors =
     record {
       name = name;
       pins = record { pins = length pins; vdd = net_of (nets_of pins transistors) tech.vdd; gnd = net_of (nets_of pins transistors) tech.gnd };
       nets = nets_of pins transistors;
       devices = map (device_of (nets_of pins transistors)) transistors;
+      directions = directions_of tech lines pins transistors;
     }
 
 -- the subcircuit of pins and transistors that are not too many
-abbrev pub numbered : List ℕ → Technology → List (List ℕ) → List Transistor → Result Subckt SpiceFault
-numbered name tech pins transistors = few_enough pins transistors >>= λ _. Ok (subckt_with name tech pins transistors)
+abbrev pub numbered : List ℕ → Technology → List Line → List (List ℕ) → List Transistor → Result Subckt SpiceFault
+numbered name tech lines pins transistors = few_enough pins transistors >>= λ _. Ok (subckt_with name tech lines pins transistors)
 
-abbrev pub subckt_of : List ℕ → Technology → List (List ℕ) → List Transistor → Result Subckt SpiceFault
-subckt_of name tech pins transistors = do
+-- the lines are those inside the subcircuit, which tell directions of pins
+abbrev pub subckt_of : List ℕ → Technology → List Line → List (List ℕ) → List Transistor → Result Subckt SpiceFault
+subckt_of name tech lines pins transistors = do
   _ ← require (has_name pins tech.vdd && has_name pins tech.gnd) fault.NoRail
   _ ← none_idle (idle_pin tech pins transistors)
   _ ← require (not (length transistors == 0)) fault.Empty
-  numbered name tech pins transistors
+  numbered name tech lines pins transistors
 
 abbrev pub subckt_in : List ℕ → Technology → List Line → Result Subckt SpiceFault
 subckt_in name tech lines = do
   chosen ← chosen_in name lines
   pins ← pins_of chosen.head
   transistors ← transistors_of tech (without_comments chosen.inside)
-  subckt_of name tech (with_rails tech lines pins) transistors
+  subckt_of name tech chosen.inside (with_rails tech lines pins) transistors
 
 -- The subcircuit of this name that the bytes of a file hold, or the first fault.
 abbrev pub subcircuit : List ℕ → List ℕ → Technology → Result Subckt SpiceFault

@@ -24,7 +24,7 @@ is_parameter word = list_any (λ b. b == 61) word
 abbrev pub value_in : List ℕ → List ℕ → Option (List ℕ)
 value_in key word = if starts_with nat_eq word key then Some (drop (length key) word) else None
 
-abbrev pub last_of : List (List ℕ) → Option (List ℕ)
+abbrev pub last_of : {X : Type 0} → List X → Option X
 last_of [] = None
 last_of (x ∷ []) = Some x
 last_of (x ∷ y ∷ more) = last_of (y ∷ more)

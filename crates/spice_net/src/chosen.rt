@@ -52,7 +52,8 @@ pub fn has_name(names: &[Name], name: &[u8]) -> bool
     names.iter().any(|other| name == other.as_slice())
 }
 
-fn behind_first(words: &[Name]) -> &[Name]
+/// The words behind the first.
+pub fn behind_first(words: &[Name]) -> &[Name]
     ensures { result.now ≡ drop 1 words.now }
 {
     match words {

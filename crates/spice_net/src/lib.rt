@@ -2,6 +2,7 @@
 #![tactic(auto)]
 
 mod chosen;
+mod directions;
 mod fault;
 mod fields;
 mod nets;
@@ -12,4 +13,4 @@ mod transistor;
 
 pub use fault::{SpiceFault, What};
 pub use read::read_cell;
-pub use subckt::{Device, DeviceList, Subckt};
+pub use subckt::{Device, DeviceList, Direction, DirectionList, Subckt};

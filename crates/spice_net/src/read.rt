@@ -6,6 +6,7 @@ ghost use Rattle.spice_net.specs.declared.fault.SpiceFault.{SpiceFault as FaultO
 ghost use Rattle.spice_net.specs.declared.fault.SpiceFault.TheVariants as fault;
 ghost use Rattle.spice_net.specs.declared.fault.What.TheVariants as what;
 ghost use Rattle.spice_net.specs.Chosen.{without_comments, lines_in};
+ghost use Rattle.spice_net.specs.Directions.{directions_of as directions_in};
 ghost use Rattle.spice_net.specs.Nets.{distinct, nets_of};
 ghost use Rattle.spice_net.specs.Reader.{names_of, with_shown, in_front};
 ghost use Rattle.spice_net.specs.Transistors.{Transistor as TransistorOf, transistors_of};
@@ -13,10 +14,11 @@ ghost use Rattle.spice_net.specs.Subcircuit.{at_most, subckt_with, numbered, sub
 ghost use Rattle.spice_net.specs.Subckts.{AreNames, IsSubckt};
 
 use crate::chosen::{choose, first_is};
+use crate::directions::directions_of;
 use crate::fault::{SpiceFault, What};
 use crate::nets::{copies, count, devices, net, net_set};
 use crate::pins::{check_pins, has_rails, read_pins, with_rails};
-use crate::subckt::{MOST_DEVICES, MOST_PINS, Subckt};
+use crate::subckt::{DirectionList, MOST_DEVICES, MOST_PINS, Subckt};
 use crate::transistor::{Transistor, TransistorList, is_transistor, read_transistor};
 use cell_num::{MOST_BYTES, MOST_NETS, Name, NoMemory, Pins, copy};
 use indexmap::IndexSet;
@@ -81,16 +83,16 @@ fn number_nets(
     alloc: Global,
     name: &Name,
     tech: &Tech,
-    pins: usize,
+    directions: DirectionList,
     nets: &IndexSet<&[u8]>,
     transistors: &[Transistor],
 ) -> Result<Subckt, NoMemory>
     requires few { index_set_len nets.now ≤ MOST_NETS }
-    requires pins { pins ≤ 64 }
-    ensures { IfOk result (λ cell. (names : List (List ℕ)) → pins ≡ length names → names_of nets.now.keys ≡ nets_of names transistors.now → cell ≡ subckt_with name.now tech.now names transistors.now) }
+    requires pins { length directions ≤ 64 }
+    ensures { IfOk result (λ cell. (lines : List LineOf) → (names : List (List ℕ)) → directions ≡ directions_in tech.now lines names transistors.now → names_of nets.now.keys ≡ nets_of names transistors.now → cell ≡ subckt_with name.now tech.now lines names transistors.now) }
 {
     let pins = Pins {
-        pins: pins as u32,
+        pins: directions.len() as u32,
         vdd: net(nets, tech.vdd.as_slice()),
         gnd: net(nets, tech.gnd.as_slice()),
     };
@@ -99,6 +101,7 @@ fn number_nets(
         pins,
         nets: copies(alloc, nets)?,
         devices: devices(alloc, nets, transistors)?,
+        directions,
     })
 }
 
@@ -107,19 +110,20 @@ fn number_all<'a>(
     alloc: Global,
     name: &Name,
     tech: &'a Tech,
+    lines: &[Line],
     pins: IndexSet<&'a [u8]>,
     transistors: &'a [Transistor],
 ) -> Result<Subckt, SpiceFault>
     requires { distinct (names_of pins.keys) ≡ names_of pins.keys }
-    ensures cell { IfOk result (λ cell. numbered name.now tech.now (names_of pins.entry.keys) transistors.now ≡ Ok cell) }
-    ensures fault { IfErr result (λ f. f ≢ fault.NoMemory → numbered name.now tech.now (names_of pins.entry.keys) transistors.now ≡ Err f) }
+    ensures cell { IfOk result (λ cell. numbered name.now tech.now lines.now (names_of pins.entry.keys) transistors.now ≡ Ok cell) }
+    ensures fault { IfErr result (λ f. f ≢ fault.NoMemory → numbered name.now tech.now lines.now (names_of pins.entry.keys) transistors.now ≡ Err f) }
 {
-    let listed = count(&pins);
-    limit(MOST_PINS, What::Pins, listed)?;
+    limit(MOST_PINS, What::Pins, count(&pins))?;
     limit(MOST_DEVICES, What::Devices, transistors.len())?;
+    let directions = directions_of(alloc, tech, lines, pins.as_slice(), transistors)?;
     let nets = net_set(pins, transistors)?;
     limit(MOST_NETS as usize, What::Nets, count(&nets))?;
-    let cell = number_nets(alloc, name, tech, listed, &nets, transistors)?;
+    let cell = number_nets(alloc, name, tech, directions, &nets, transistors)?;
     Ok(cell)
 }
 
@@ -128,12 +132,13 @@ fn join<'a>(
     alloc: Global,
     name: &Name,
     tech: &'a Tech,
+    lines: &[Line],
     pins: IndexSet<&'a [u8]>,
     transistors: &'a [Transistor],
 ) -> Result<Subckt, SpiceFault>
     requires { distinct (names_of pins.keys) ≡ names_of pins.keys }
-    ensures cell { IfOk result (λ cell. subckt_of name.now tech.now (names_of pins.entry.keys) transistors.now ≡ Ok cell) }
-    ensures fault { IfErr result (λ f. f ≢ fault.NoMemory → subckt_of name.now tech.now (names_of pins.entry.keys) transistors.now ≡ Err f) }
+    ensures cell { IfOk result (λ cell. subckt_of name.now tech.now lines.now (names_of pins.entry.keys) transistors.now ≡ Ok cell) }
+    ensures fault { IfErr result (λ f. f ≢ fault.NoMemory → subckt_of name.now tech.now lines.now (names_of pins.entry.keys) transistors.now ≡ Err f) }
 {
     if !has_rails(tech, &pins) {
         return Err(SpiceFault::NoRail);
@@ -142,7 +147,7 @@ fn join<'a>(
     if transistors.is_empty() {
         return Err(SpiceFault::Empty);
     }
-    let cell = number_all(alloc, name, tech, pins, transistors)?;
+    let cell = number_all(alloc, name, tech, lines, pins, transistors)?;
     Ok(cell)
 }
 
@@ -154,7 +159,7 @@ fn read_lines(alloc: Global, name: &Name, tech: &Tech, lines: &[Line]) -> Result
     let pins = read_pins(alloc, block.head)?;
     let transistors = read_transistors(alloc, tech, block.lines)?;
     let pins = with_rails(pins, lines, tech)?;
-    let cell = join(alloc, name, tech, pins, transistors.as_slice())?;
+    let cell = join(alloc, name, tech, block.lines, pins, transistors.as_slice())?;
     Ok(cell)
 }
 
@@ -181,7 +186,7 @@ fn read_text(alloc: Global, bytes: &[u8], name: &Name, tech: &Tech) -> Result<Su
 }
 
 /// Reads the subcircuit of a name, given in lower case, from a SPICE file of at most a gibibyte.
-#[tactic(auto, using(crate::proofs::Sound::sound, crate::proofs::Sound::pins, crate::proofs::Sound::few_pins, crate::proofs::Sound::few_devices, crate::proofs::Spelled::named, crate::proofs::Spelled::name_kept, crate::proofs::Told::never_subcircuit))]
+#[tactic(auto, using(crate::proofs::Sound::sound, crate::proofs::Sound::pins, crate::proofs::Sound::few_pins, crate::proofs::Sound::few_devices, crate::proofs::Sound::all_directed, crate::proofs::Spelled::named, crate::proofs::Spelled::name_kept, crate::proofs::Told::never_subcircuit))]
 pub fn read_cell(
     alloc: Global,
     bytes: &[u8],
@@ -201,6 +206,7 @@ pub fn read_cell(
     ensures pins { IfOk result (λ cell. ArePins (length cell.nets) cell.pins) }
     ensures few_pins { IfOk result (λ cell. cell.pins.pins ≤ 64) }
     ensures few_devices { IfOk result (λ cell. length cell.devices ≤ 128) }
+    ensures directions { IfOk result (λ cell. length cell.directions ≡ cell.pins.pins) }
     ensures named { IfOk result (λ cell. AreNames cell.nets) }
     ensures name { IfOk result (λ cell. cell.name ≡ name.now) }
 {

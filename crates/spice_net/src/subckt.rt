@@ -19,12 +19,23 @@ pub struct Device {
 
 pub type DeviceList = List<Device>;
 
-/// A subcircuit: its nets by their numbers, the pins first, and its transistors in the order of the
-/// file.
+/// The direction of a pin's signal, as a LEF pin has it.
+#[derive(Clone, Copy, Debug, PartialEq, Eq)]
+pub enum Direction {
+    Input,
+    Output,
+    Inout,
+}
+
+pub type DirectionList = List<Direction>;
+
+/// A subcircuit: its nets by their numbers, the pins first, its transistors in the order of the file,
+/// and the direction of each pin.
 #[derive(Debug, Drop)]
 pub struct Subckt {
     pub name: Name,
     pub pins: Pins,
     pub nets: Names,
     pub devices: DeviceList,
+    pub directions: DirectionList,
 }

@@ -1,0 +1,89 @@
+"""The inputs of the measures: each makes its files in a folder and gives the words of the call."""
+import random
+import subprocess
+
+FLIP_FLOP = """\
+* a flip-flop of 24 transistors: clocked inverters as master and slave, each with its keeper
+.subckt dff d clk q vdd gnd
+mp1 ck clk vdd vdd pmos w=3u l=0.6u
+mn1 ck clk gnd gnd nmos w=1.5u l=0.6u
+mp2 p2 d vdd vdd pmos w=3u l=0.6u
+mp3 m clk p2 vdd pmos w=3u l=0.6u
+mn2 n2 d gnd gnd nmos w=1.5u l=0.6u
+mn3 m ck n2 gnd nmos w=1.5u l=0.6u
+mp4 mb m vdd vdd pmos w=3u l=0.6u
+mn4 mb m gnd gnd nmos w=1.5u l=0.6u
+mp5 p5 mb vdd vdd pmos w=0.9u l=0.6u
+mp6 m ck p5 vdd pmos w=0.9u l=0.6u
+mn5 n5 mb gnd gnd nmos w=0.9u l=0.6u
+mn6 m clk n5 gnd nmos w=0.9u l=0.6u
+mp7 p7 mb vdd vdd pmos w=3u l=0.6u
+mp8 s ck p7 vdd pmos w=3u l=0.6u
+mn7 n7 mb gnd gnd nmos w=1.5u l=0.6u
+mn8 s clk n7 gnd nmos w=1.5u l=0.6u
+mp9 q s vdd vdd pmos w=6u l=0.6u
+mn9 q s gnd gnd nmos w=3u l=0.6u
+mpa pa q vdd vdd pmos w=0.9u l=0.6u
+mpb s clk pa vdd pmos w=0.9u l=0.6u
+mna na q gnd gnd nmos w=0.9u l=0.6u
+mnb s ck na gnd nmos w=0.9u l=0.6u
+mpc qb q vdd vdd pmos w=3u l=0.6u
+mnc qb q gnd gnd nmos w=1.5u l=0.6u
+.ends
+"""
+
+
+def inverters(name, count):
+    """A subcircuit of inverters that share nothing but the rails."""
+    pins = " ".join(f"a{i} y{i}" for i in range(count))
+    lines = [f".subckt {name} {pins} vdd gnd"]
+    for i in range(count):
+        lines.append(f"mp{i} y{i} a{i} vdd vdd pmos w=3u l=0.6u")
+        lines.append(f"mn{i} y{i} a{i} gnd gnd nmos w=1.5u l=0.6u")
+    return "\n".join(lines + [".ends", ""])
+
+
+def random_cell(name, columns, nets, seed):
+    """Gates of their own, each with a P and an N transistor between nets drawn by chance."""
+    draw = random.Random(seed)
+    inner = [f"x{i}" for i in range(nets)]
+    lines = [f".subckt {name} {' '.join(f'a{i}' for i in range(columns))} vdd gnd"]
+    for i in range(columns):
+        for kind, rail, model in (("p", "vdd", "pmos"), ("n", "gnd", "nmos")):
+            drain, source = draw.sample(inner + [rail], 2)
+            lines.append(f"m{kind}{i} {drain} a{i} {source} {rail} {model} w=3u l=0.6u")
+    return "\n".join(lines + [".ends", ""])
+
+
+def library(folder, program):
+    text = [inverters(f"c{i}", 8) for i in range(4600)]
+    (folder / "library.sp").write_text("".join(text)[: 4 * 1024 * 1024 - 400] + "\n.ends\n" + inverters("last", 1))
+    return ["plan", "-", "library.sp", "last"]
+
+
+def planned(text, name, budget):
+    def make(folder, program):
+        (folder / f"{name}.sp").write_text(text)
+        (folder / f"{name}.toml").write_text(f"budget = {budget}\n")
+        return ["plan", f"{name}.toml", f"{name}.sp", name]
+    return make
+
+
+def checked(text, name, budget):
+    """The log of an unfinished search: what `plan` says behind its first three lines."""
+    def make(folder, program):
+        words = planned(text, name, budget)(folder, program)
+        said = subprocess.run([program] + words, cwd=folder, capture_output=True, check=False).stdout
+        (folder / f"{name}.clog").write_bytes(said.split(b"\n", 3)[3])
+        return ["check", f"{name}.toml", f"{name}.sp", name, f"{name}.clog"]
+    return make
+
+
+MEASURES = [
+    ("plan: an inverter behind a library of 4 MiB", library),
+    ("plan: 14 inverters", planned(inverters("row", 14), "row", 200000)),
+    ("plan: a flip-flop, to 200,000 nodes", planned(FLIP_FLOP, "dff", 200000)),
+    ("plan: a flip-flop, to 1,000,000 nodes", planned(FLIP_FLOP, "dff", 1000000)),
+    ("plan: a random cell of 12 columns, to 1,000,000 nodes", planned(random_cell("any", 12, 9, 1), "any", 1000000)),
+    ("check: the log of the flip-flop to 200,000 nodes", checked(FLIP_FLOP, "dff", 200000)),
+]

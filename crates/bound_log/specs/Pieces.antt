@@ -1,0 +1,170 @@
+-- A log read byte by byte: each line feed ends a line, which says one item.
+use Rattle.std.specs.Prelude.{ℕ, ◌+◌, ◌≤◌, IfSome, ◌==◌, leb, Bool, true, false, List, [], ◌∷◌, ◌++◌, Option, Some, None, Result, Ok, Err, length, codes, position, if◌then◌else◌}
+use Rattle.row_state.specs.declared.kind.Kinds.{Kinds}
+use Rattle.bound_log.specs.declared.fault.LogFault.{LogFault}
+use Rattle.bound_log.specs.declared.fault.LogFault.TheVariants as fault
+use Rattle.bound_log.specs.declared.item.LogItem.{LogItem}
+use Rattle.bound_log.specs.declared.item.LogItem.TheVariants as item
+use Rattle.bound_log.specs.declared.item.LogPlace.{LogPlace}
+use Rattle.bound_log.specs.declared.item.LogPlace.TheVariants as place
+use Rattle.bound_log.specs.declared.log.LogStep.{LogStep}
+use Rattle.bound_log.specs.declared.log.Log.{Log}
+use Rattle.bound_log.specs.declared.log.Entry.{Entry}
+use Rattle.bound_log.specs.declared.log.Entry.TheVariants as entry
+use Rattle.bound_log.specs.Line.{entry_in, is_word, column_in, words_in}
+
+-- Where a reader of a log for this name and these kinds stands.
+pub record Reader : Type 0 where
+  pub name : List ℕ
+  pub kinds : Kinds
+  -- what line comes next, and its number
+  pub place : LogPlace
+  pub number : ℕ
+  -- its bytes so far, unless they are more than a line of a log can have
+  pub line : Option (List ℕ)
+  -- the first wrong place, if there was one
+  pub fault : Option LogFault
+
+abbrev pub begun : List ℕ → Kinds → Reader
+begun name k = record { name = name; kinds = k; place = place.Version; number = 1; line = Some []; fault = None }
+
+-- what line comes behind one that says this
+abbrev pub place_behind : LogItem → LogPlace
+place_behind item.More = place.Cell
+place_behind item.Head = place.Lemmas
+place_behind (item.Lemma lemma) = place.Lemmas
+place_behind (item.Gaps gaps) = place.Columns
+place_behind (item.Column column) = place.Columns
+place_behind item.Open = place.End
+place_behind item.End = place.Behind
+
+abbrev pub entry_item : Entry → LogItem
+entry_item (entry.Lemma lemma) = item.Lemma lemma
+entry_item (entry.Gaps gaps) = item.Gaps gaps
+entry_item entry.Open = item.Open
+
+-- an item, where a condition holds
+abbrev pub item_if : Bool → LogItem → LogFault → Result LogItem LogFault
+item_if true i f = Ok i
+item_if false i f = Err f
+
+abbrev pub entry_says : Option Entry → LogFault → Result LogItem LogFault
+entry_says (Some e) f = Ok (entry_item e)
+entry_says None f = Err f
+
+abbrev pub column_says : Option LogStep → LogFault → Result LogItem LogFault
+column_says (Some column) f = Ok (item.Column column)
+column_says None f = Err f
+
+abbrev pub columns_say : Kinds → ℕ → List ℕ → Result LogItem LogFault
+columns_say k n line = if is_word line (codes "end") then Ok item.End else column_says (column_in k (words_in line)) (fault.Line n)
+
+-- what the line of that number says there
+abbrev pub line_says : List ℕ → Kinds → LogPlace → ℕ → List ℕ → Result LogItem LogFault
+line_says name k place.Version n line = item_if (is_word line (codes "cellgen-log 1")) item.More fault.Version
+line_says name k place.Cell n line = item_if (is_word line (codes "cell " ++ name)) item.Head fault.Cell
+line_says name k place.Lemmas n line = entry_says (entry_in k (words_in line)) (fault.Line n)
+line_says name k place.Columns n line = columns_say k n line
+line_says name k place.End n line = item_if (is_word line (codes "end")) item.End (fault.Line n)
+line_says name k place.Behind n line = Err (fault.Line n)
+
+-- what is wrong there with a line of another form
+abbrev pub wrong_at : LogPlace → ℕ → LogFault
+wrong_at place.Version n = fault.Version
+wrong_at place.Cell n = fault.Cell
+wrong_at place.Lemmas n = fault.Line n
+wrong_at place.Columns n = fault.Line n
+wrong_at place.End n = fault.Line n
+wrong_at place.Behind n = fault.Line n
+
+-- so does a line of which too many bytes came
+abbrev pub whole_says : Reader → Option (List ℕ) → Result LogItem LogFault
+whole_says r (Some line) = line_says r.name r.kinds r.place r.number line
+whole_says r None = Err (wrong_at r.place r.number)
+
+-- with some bytes more; a line of a log has at most 300
+abbrev pub longer : Option (List ℕ) → List ℕ → Option (List ℕ)
+longer None part = None
+longer (Some line) part = if leb (length line + length part) 300 then Some (line ++ part) else None
+
+-- it holds no more than a line of a log can
+abbrev pub IsShort : Option (List ℕ) → Type 0
+IsShort line = IfSome line (λ bytes. length bytes ≤ 300)
+
+abbrev pub with_line : Reader → Option (List ℕ) → Reader
+with_line r line = record { name = r.name; kinds = r.kinds; place = r.place; number = r.number; line = line; fault = r.fault }
+
+abbrev pub refused : Reader → LogFault → Reader
+refused r f = record { name = r.name; kinds = r.kinds; place = r.place; number = r.number; line = Some []; fault = Some f }
+
+-- behind a line
+abbrev pub behind_line : Reader → Result LogItem LogFault → Reader
+behind_line r (Ok said) = record { name = r.name; kinds = r.kinds; place = place_behind said; number = r.number + 1; line = Some []; fault = None }
+behind_line r (Err f) = refused r f
+
+-- the items that are told: `More` tells nothing
+abbrev pub told : LogItem → List LogItem
+told item.More = []
+told i = i ∷ []
+
+abbrev pub told_by : Result LogItem LogFault → List LogItem
+told_by (Ok said) = told said
+told_by (Err f) = []
+
+-- items, and the reader behind them
+pub record Tale : Type 0 where
+  pub items : List LogItem
+  pub reader : Reader
+
+abbrev pub line_tale : Reader → Result LogItem LogFault → Tale
+line_tale r said = record { items = told_by said; reader = behind_line r said }
+
+-- one byte more, of a line that may be
+abbrev pub byte_tale : Reader → ℕ → Tale
+byte_tale r b =
+    if b == 10 then line_tale r (whole_says r r.line) else
+    record { items = []; reader = with_line r (longer r.line (b ∷ [])) }
+
+-- one byte more: none may stand behind `end`, and none counts behind a fault
+abbrev pub next_tale : Option LogFault → LogPlace → Reader → ℕ → Tale
+next_tale (Some f) p r b = record { items = []; reader = r }
+next_tale None place.Behind r b = record { items = []; reader = refused r (fault.Line r.number) }
+next_tale None _ r b = byte_tale r b
+
+abbrev pub then_tale : Tale → (Reader → Tale) → Tale
+then_tale first rest = record { items = first.items ++ (rest first.reader).items; reader = (rest first.reader).reader }
+
+-- all that some bytes more tell
+unfoldable pub tale_of : Reader → List ℕ → Tale
+tale_of r [] = record { items = []; reader = r }
+tale_of r (b ∷ bs) = then_tale (next_tale r.fault r.place r b) (λ next. tale_of next bs)
+
+abbrev pub bytes_to : List ℕ → Option ℕ → ℕ
+bytes_to part (Some at) = at + 1
+bytes_to part None = length part
+
+-- how many bytes there are up to the end of the first line
+abbrev pub line_bytes : List ℕ → ℕ
+line_bytes part = bytes_to part (position (λ b. b == 10) part)
+
+-- the reader at the end of the bytes: its fault, or `Cut` unless `end` was there
+abbrev pub ended : {A : Type 0} → Option LogFault → LogPlace → A → Result A LogFault
+ended (Some f) p a = Err f
+ended None place.Behind a = Ok a
+ended None _ a = Err fault.Cut
+
+abbrev pub columns_told : List LogItem → List LogStep
+columns_told [] = []
+columns_told (item.Column column ∷ items) = column ∷ columns_told items
+columns_told (_ ∷ items) = columns_told items
+
+-- the log of the items told
+abbrev pub log_told : List LogItem → Log
+log_told [] = record { lemmas = []; best = None }
+log_told (item.Lemma lemma ∷ items) = record { lemmas = lemma ∷ (log_told items).lemmas; best = (log_told items).best }
+log_told (item.Gaps gaps ∷ items) = record { lemmas = []; best = Some (record { gaps = gaps; steps = columns_told items }) }
+log_told (_ ∷ items) = log_told items
+
+-- the log told, or the fault
+abbrev pub log_read : Tale → Result Log LogFault
+log_read tale = ended tale.reader.fault tale.reader.place (log_told tale.items)

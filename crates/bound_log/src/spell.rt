@@ -1,0 +1,139 @@
+ghost use Rattle.std.specs.Prelude.{◌≡◌, ◌≤◌, ◌<◌, ◌+◌, ◌++◌, ◌∷◌, OnErr, OnOk, decimal, length};
+ghost use Rattle.std.specs.List.{flat_map};
+ghost use Rattle.bound_log.specs.Text.{column_line, counts_text, end_text, flip_text, gaps_line, head_lines, lemma_line, rule_text, side_text};
+
+use crate::out::Out;
+use crate::{Lemma, LogStep, Rule};
+use cell_num::{Name, NetNo, NoMemory};
+use itoa::Buffer;
+use row_state::{Counts, Side};
+
+fn put_number<O: Out>(out: &mut O, number: u32) -> Result<(), NoMemory>
+    ensures text { OnOk result (O.text out.new ≡ O.text out.old ++ decimal number) }
+    ensures left { OnOk result (O.room out.old ≤ O.room out.new + length (decimal number)) }
+    ensures full { OnErr result (O.room out.old < length (decimal number)) }
+{
+    out.put(Buffer::new().format(number).as_bytes())
+}
+
+fn rule_word(rule: Rule) -> &'static [u8]
+    ensures { result.now ≡ rule_text rule }
+{
+    match rule {
+        Rule::P => b"P",
+        Rule::N => b"N",
+        Rule::Branch => b"B",
+    }
+}
+
+fn put_more_counts<O: Out>(out: &mut O, counts: &[u32]) -> Result<(), NoMemory>
+    ensures text { OnOk result (O.text out.new ≡ O.text out.old ++ flat_map (λ count. 44 ∷ decimal count) counts.now) }
+    ensures left { OnOk result (O.room out.old ≤ O.room out.new + length (flat_map (λ count. 44 ∷ decimal count) counts.now)) }
+    ensures full { OnErr result (O.room out.old < length (flat_map (λ count. 44 ∷ decimal count) counts.now)) }
+{
+    for count in counts {
+        out.put(b",")?;
+        put_number(out, *count)?;
+    }
+    Ok(())
+}
+
+#[tactic(auto, using(crate::proofs::Texts::counts_apart))]
+fn put_counts<O: Out>(out: &mut O, counts: &Counts) -> Result<(), NoMemory>
+    ensures text { OnOk result (O.text out.new ≡ O.text out.old ++ counts_text counts.now) }
+    ensures left { OnOk result (O.room out.old ≤ O.room out.new + length (counts_text counts.now)) }
+    ensures full { OnErr result (O.room out.old < length (counts_text counts.now)) }
+{
+    let [first, rest @ ..] = counts.as_slice() else {
+        return out.put(b"-");
+    };
+    put_number(out, *first)?;
+    put_more_counts(out, rest)?;
+    Ok(())
+}
+
+fn put_end<O: Out>(out: &mut O, end: &Option<NetNo>) -> Result<(), NoMemory>
+    ensures text { OnOk result (O.text out.new ≡ O.text out.old ++ end_text end.now) }
+    ensures left { OnOk result (O.room out.old ≤ O.room out.new + length (end_text end.now)) }
+    ensures full { OnErr result (O.room out.old < length (end_text end.now)) }
+{
+    match end {
+        Some(net) => put_number(out, net.0),
+        None => out.put(b"-"),
+    }
+}
+
+pub(crate) fn put_lemma<O: Out>(out: &mut O, lemma: &Lemma) -> Result<(), NoMemory>
+    ensures text { OnOk result (O.text out.new ≡ O.text out.old ++ lemma_line lemma.now) }
+    ensures full { OnErr result (O.room out.old < length (lemma_line lemma.now)) }
+{
+    out.put(b"lemma ")?;
+    put_number(out, lemma.bound)?;
+    out.put(b" ")?;
+    out.put(rule_word(lemma.rule))?;
+    out.put(b" ")?;
+    put_counts(out, &lemma.state.p_left)?;
+    out.put(b" ")?;
+    put_counts(out, &lemma.state.n_left)?;
+    out.put(b" ")?;
+    put_end(out, &lemma.state.p_end)?;
+    out.put(b" ")?;
+    put_end(out, &lemma.state.n_end)?;
+    out.put(b"\n")?;
+    Ok(())
+}
+
+fn flip_word(flipped: bool) -> &'static [u8]
+    ensures { result.now ≡ flip_text flipped }
+{
+    if flipped { b"1" } else { b"0" }
+}
+
+fn put_side<O: Out>(out: &mut O, side: &Option<Side>) -> Result<(), NoMemory>
+    ensures text { OnOk result (O.text out.new ≡ O.text out.old ++ side_text side.now) }
+    ensures left { OnOk result (O.room out.old ≤ O.room out.new + length (side_text side.now)) }
+    ensures full { OnErr result (O.room out.old < length (side_text side.now)) }
+{
+    let Some(side) = side else {
+        return out.put(b"- 0");
+    };
+    put_number(out, side.kind)?;
+    out.put(b" ")?;
+    out.put(flip_word(side.flipped))?;
+    Ok(())
+}
+
+pub(crate) fn put_column<O: Out>(out: &mut O, listed: &LogStep) -> Result<(), NoMemory>
+    ensures text { OnOk result (O.text out.new ≡ O.text out.old ++ column_line listed.now) }
+    ensures full { OnErr result (O.room out.old < length (column_line listed.now)) }
+{
+    out.put(b"column ")?;
+    put_number(out, listed.gate.0)?;
+    out.put(b" ")?;
+    put_side(out, &listed.step.p)?;
+    out.put(b" ")?;
+    put_side(out, &listed.step.n)?;
+    out.put(b"\n")?;
+    Ok(())
+}
+
+pub(crate) fn put_head<O: Out>(out: &mut O, name: &Name) -> Result<(), NoMemory>
+    ensures text { OnOk result (O.text out.new ≡ O.text out.old ++ head_lines name.now) }
+    ensures full { OnErr result (O.room out.old < length (head_lines name.now)) }
+{
+    out.put(b"cellgen-log 1\n")?;
+    out.put(b"cell ")?;
+    out.put(name.as_slice())?;
+    out.put(b"\n")?;
+    Ok(())
+}
+
+pub(crate) fn put_gaps<O: Out>(out: &mut O, gaps: u32) -> Result<(), NoMemory>
+    ensures text { OnOk result (O.text out.new ≡ O.text out.old ++ gaps_line gaps) }
+    ensures full { OnErr result (O.room out.old < length (gaps_line gaps)) }
+{
+    out.put(b"gaps ")?;
+    put_number(out, gaps)?;
+    out.put(b"\n")?;
+    Ok(())
+}

@@ -1,0 +1,15 @@
+# One rule a cell: `make -f library.mk -j` in the folder that make-library made ready makes all cells on all processors,
+# `make -f library.mk .made/7` the seventh cell of the list alone. TECH, SPICE and PROGRAM come from the environment.
+COUNT := $(shell wc -l < cells)
+
+all: $(addprefix .made/,$(shell seq $(COUNT)))
+
+# A cell is made again where the inputs are newer than its line in the table.
+.made/%: inputs
+	@name=$$(sed -n '$*p' cells); \
+	began=$$(date +%s.%N); \
+	"$$PROGRAM" make "$$TECH" "$$SPICE" "$$name" "$$name" > "$$name.txt"; status=$$?; \
+	seconds=$$(echo "$$began $$(date +%s.%N)" | awk '{ printf "%.2f", $$2 - $$1 }'); \
+	awk -v name="$$name" -v status=$$status -v seconds=$$seconds -f "$(TOP)/row.awk" "$$name.txt" > .made/$*.new; \
+	mv .made/$*.new .made/$*; \
+	awk -v name="$$name" -v status=$$status -v at=$* -v count=$(COUNT) -f "$(TOP)/told.awk" "$$name.txt"
