@@ -1,7 +1,8 @@
 -- What the calls say of what they draw.
-use Rattle.std.proofs.Common.{ℕ, ◌≡◌, ◌*◌, ◌≤◌, ◌<◌, List, length, refl, sym, subst, arith, All, map}
+use Rattle.std.proofs.Common.{ℕ, ◌≡◌, ◌*◌, ◌≤◌, ◌<◌, List, length, refl, sym, subst, arith, All, Contains, map}
 use Rattle.std.proofs.lemmas.List.Elements.{All-contains, All-nil}
 use Rattle.box_geom.specs.declared.shape.Shape.{Shape}
+use Rattle.box_geom.specs.declared.shape.Label.{Label}
 use Rattle.cell_num.specs.declared.net.Pins.{Pins}
 use Rattle.cell_num.proofs.In.{Image, in_map}
 use Rattle.cell_num.proofs.Lists.{all_from_contains}
@@ -19,7 +20,7 @@ use Rattle.cell_draw.specs.declared.layout.Frame.{Frame}
 use Rattle.cell_draw.specs.declared.layout.Bar.{Bar}
 use Rattle.cell_draw.specs.declared.layout.Gate.{Gate}
 use Rattle.cell_draw.specs.declared.layout.Layout.{Layout}
-use Rattle.cell_draw.specs.Drawings.{base_of}
+use Rattle.cell_draw.specs.Drawings.{label_of, base_of}
 use Rattle.cell_draw.specs.Frame.{frame_of}
 use Rattle.cell_draw.specs.Laid.{IsGate, IsLaid}
 use Rattle.cell_draw.specs.Layouts.{width_of, bar_of, gates_on, laid_out, layout_of}
@@ -31,6 +32,7 @@ use Rattle.cell_draw.proofs.BridgeLines.{x_most}
 use Rattle.cell_draw.proofs.BridgeWhole.{lines_of_allowed, frame_is, laid, base_laid}
 use Rattle.cell_draw.proofs.RulesWhole.{obeys}
 use Rattle.cell_draw.proofs.Smalls.{small, tags_small}
+use Rattle.cell_draw.proofs.Tags.{labels_named}
 
 base_is : (pins : Pins) (p : Placement) (tracks height : ℕ) (xs : List ℕ) → IsPlacement p → AreLines p xs → All HasWidths p.row → IsLaid (base_of (frame_of p.row tracks height (width_of p xs)) pins p xs)
 base_is pins p tracks height xs is lines wide = base_laid pins p tracks xs (frame_of p.row tracks height (width_of p xs)) is lines wide (frame_is p tracks height xs lines) refl refl refl
@@ -42,7 +44,7 @@ base_small pins p tracks height xs f l is lines wide frame ef el =
 pub base_obeys : (shapes : List Shape) (pins : Pins) (p : Placement) (tracks height : ℕ) (xs : List ℕ) → shapes ≡ shapes_of (base_of (frame_of p.row tracks height (width_of p xs)) pins p xs) → IsPlacement p → AreLines p xs → All HasWidths p.row → Obeys Plain shapes
 base_obeys shapes pins p tracks height xs e is lines wide = subst (λ z. Obeys Plain z) (sym e) (obeys (base_of (frame_of p.row tracks height (width_of p xs)) pins p xs) (base_is pins p tracks height xs is lines wide))
 
-drawn_is : (names : List (List ℕ)) (pins : Pins) (p : Placement) (r : Routing) (xs : List ℕ) (height : ℕ) → IsPlacement p → IsSoundRow names pins p.row → IsLegal p pins r → AreAllowed p pins (stretches_of r.trunks) xs → IsDrawn names pins p r xs (frame_of p.row r.tracks height (width_of p xs))
+pub drawn_is : (names : List (List ℕ)) (pins : Pins) (p : Placement) (r : Routing) (xs : List ℕ) (height : ℕ) → IsPlacement p → IsSoundRow names pins p.row → IsLegal p pins r → AreAllowed p pins (stretches_of r.trunks) xs → IsDrawn names pins p r xs (frame_of p.row r.tracks height (width_of p xs))
 drawn_is names pins p r xs height is row legal allowed = record {
   placement = is;
   row = row;
@@ -56,6 +58,11 @@ drawn_is names pins p r xs height is row legal allowed = record {
 
 pub drawing_obeys : (shapes : List Shape) (names : List (List ℕ)) (pins : Pins) (p : Placement) (r : Routing) (xs : List ℕ) (height : ℕ) → shapes ≡ shapes_of (layout_of (length names) pins p r xs height) → IsPlacement p → IsSoundRow names pins p.row → IsLegal p pins r → AreAllowed p pins (stretches_of r.trunks) xs → Obeys Plain shapes
 drawing_obeys shapes names pins p r xs height e is row legal allowed = subst (λ z. Obeys Plain z) (sym e) (obeys (layout_of (length names) pins p r xs height) (laid names pins p r xs (frame_of p.row r.tracks height (width_of p xs)) (length names) (drawn_is names pins p r xs height is row legal allowed)))
+
+pub drawing_named : (labels : List Label) (names : List (List ℕ)) (pins : Pins) (p : Placement) (r : Routing) (xs : List ℕ) (height : ℕ) → labels ≡ map (label_of names) (layout_of (length names) pins p r xs height).tags → All (λ (l : Label). Contains names l.name) labels
+drawing_named labels names pins p r xs height e =
+    let f : Frame = frame_of p.row r.tracks height (width_of p xs) in
+    labels_named names pins f p.nodes r.trunks xs (gates_on f r.trunks xs (seats_of p.row)) labels e
 
 pub low_tracks : (p : Placement) (pins : Pins) (r : Routing) → IsLegal p pins r → r.tracks ≤ 256 → (trunks : List Trunk) → trunks ≡ r.trunks → All (λ (t : Trunk). t.track ≤ 1000) trunks
 low_tracks p pins r legal few trunks e = subst (λ z. All (λ (t : Trunk). t.track ≤ 1000) z) (sym e) (all_from_contains (λ (t : Trunk). t.track ≤ 1000) r.trunks (λ t there. omega (arith, few, All-contains (λ (u : Trunk). u.track < r.tracks) r.trunks t legal.tracks there)))

@@ -1,3 +1,4 @@
+pub mod Bounds
 mod BridgeBars
 mod BridgeCount
 mod BridgeFrom
@@ -28,3 +29,4 @@ mod RulesVias
 mod RulesWhole
 mod Sizes
 mod Smalls
+mod Tags

@@ -1,3 +1,4 @@
+pub mod Bounds
 pub mod Drawings
 pub mod Faults
 pub mod Frame

@@ -1,12 +1,14 @@
 // Drawing a routed row.
 
-ghost use Rattle.std.specs.Prelude.{◌≡◌, ◌≤◌, ◌<◌, ◌+◌, ◌*◌, All, IfOk, IfErr, length};
+ghost use Rattle.std.specs.Prelude.{◌≡◌, ◌≤◌, ◌<◌, ◌+◌, ◌*◌, All, Contains, IfOk, IfErr, length};
 ghost use Rattle.row_place.specs.Places.{IsPlacement};
 ghost use Rattle.channel_route.specs.Routing.{IsLegal};
 ghost use Rattle.row_compact.specs.Allowed.{AreAllowed, stretches_of};
 ghost use Rattle.row_compact.specs.Solution.{x_of as x_at};
 ghost use Rattle.scmos_rules.specs.Rules.{Obeys};
 ghost use Rattle.scmos_rules.specs.declared.rules.Deck.TheVariants.{Plain};
+ghost use Rattle.box_geom.specs.declared.shape.Label.{Label as SomeLabel};
+ghost use Rattle.cell_draw.specs.Bounds.{AreWithin};
 ghost use Rattle.cell_draw.specs.Drawings.{drawing_of, drawn_of, base_drawn_of, height_given};
 ghost use Rattle.cell_draw.specs.Faults.{IsCause, SaysTooTall};
 ghost use Rattle.cell_draw.specs.Frame.{IsTooTall, frame_of};
@@ -31,7 +33,8 @@ pub const MOST_SHAPES: usize = 2_000;
 
 fn drawing(alloc: Global, names: &[Name], layout: &Layout) -> Result<Drawing, NoMemory>
     requires { IsSmall layout.now }
-    ensures { IfOk result (λ d. d ≡ drawing_of names.now layout.now) }
+    ensures exact { IfOk result (λ d. d ≡ drawing_of names.now layout.now) }
+    ensures within { IfOk result (λ d. AreWithin d.shapes) }
 {
     let rects = shapes(alloc, layout)?;
     let labels = labels(alloc, names, layout.tags.as_slice())?;
@@ -91,6 +94,7 @@ fn drawn(
     requires last { x_at xs.now (2 * length placement.now.units) ≤ MOST_X }
     requires height { height ≤ MOST_HEIGHT }
     ensures exact { IfOk result (λ d. d ≡ drawn_of names.now pins.now placement.now routing.now xs.now height) }
+    ensures within { IfOk result (λ d. AreWithin d.shapes) }
     ensures fits { IfOk result (λ d. IsTooTall placement.now.row routing.now.tracks height → ⊥) }
     ensures tall { SaysTooTall placement.now.row routing.now.tracks height result }
     ensures cause { IfErr result (IsCause placement.now.row routing.now.tracks height) }
@@ -132,6 +136,8 @@ pub fn draw(
     ensures width { IfOk result (λ d. d.width ≡ x_at xs.now (2 * length placement.now.units) + 8) }
     ensures height { IfOk result (λ d. d.height ≡ height_given placement.now.row routing.now.tracks height) }
     ensures few { IfOk result (λ d. length d.shapes.rects < MOST_SHAPES) }
+    ensures within { IfOk result (λ d. AreWithin d.shapes) }
+    ensures named { IfOk result (λ d. All (λ (l : SomeLabel). Contains names.now l.name) d.shapes.labels) }
     ensures fits { IfOk result (λ d. IsTooTall placement.now.row routing.now.tracks height → ⊥) }
     ensures tall { SaysTooTall placement.now.row routing.now.tracks height result }
     ensures cause { IfErr result (IsCause placement.now.row routing.now.tracks height) }
@@ -158,6 +164,7 @@ fn base_drawn(
     requires tracks { tracks ≤ MOST_TRACKS }
     requires height { height ≤ MOST_HEIGHT }
     ensures exact { IfOk result (λ d. d ≡ base_drawn_of pins.now placement.now tracks xs.now height) }
+    ensures within { IfOk result (λ d. AreWithin d.shapes) }
     ensures fits { IfOk result (λ d. IsTooTall placement.now.row tracks height → ⊥) }
     ensures tall { SaysTooTall placement.now.row tracks height result }
     ensures cause { IfErr result (IsCause placement.now.row tracks height) }
@@ -187,6 +194,7 @@ pub fn draw_base(
     ensures obeys { IfOk result (λ d. Obeys Plain d.shapes.rects) }
     ensures width { IfOk result (λ d. d.width ≡ x_at xs.now (2 * length placement.now.units) + 8) }
     ensures height { IfOk result (λ d. d.height ≡ height_given placement.now.row tracks height) }
+    ensures within { IfOk result (λ d. AreWithin d.shapes) }
     ensures fits { IfOk result (λ d. IsTooTall placement.now.row tracks height → ⊥) }
     ensures tall { SaysTooTall placement.now.row tracks height result }
     ensures cause { IfErr result (IsCause placement.now.row tracks height) }

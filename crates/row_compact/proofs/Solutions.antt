@@ -1,10 +1,7 @@
 -- The solutions of the distances are exactly the positions that the row allows.
 use Rattle.std.proofs.Common.{ℕ, zero, suc, ◌≡◌, ◌↔◌, ◌+◌, ◌*◌, ◌<◌, ◌≤◌, ◌==◌, ◌&&◌, ◌⊎◌, ltb, Bool, true, false, cond, List, [], ◌∷◌, ◌++◌, Some, None, length, map, inl, inr, refl, sym, ap, subst, ◌∙◌, arith, All, Contains, filter_map, slice_get, get_or}
-use Rattle.std.specs.List.{range_with_len}
 use Rattle.std.proofs.lemmas.Bool.{and_parts, and_from, eqb-true, eq-eqb, ltb-true, lt-ltb}
-use Rattle.std.proofs.lemmas.List.{length-map}
 use Rattle.std.proofs.lemmas.List.Elements.{All-nil, All-cons, All-head, All-tail, All-append, All-contains, Contains-append_left, Contains-append_right}
-use Rattle.std.proofs.lemmas.List.FromFn.{get_or-map-range_with_len, length-range_with_len}
 use Rattle.std.proofs.lemmas.Option.{slice_get_within}
 use Rattle.cell_num.specs.declared.net.Pins.{Pins}
 use Rattle.row_place.specs.declared.placement.Placement.{Placement}
@@ -231,24 +228,3 @@ ascending p pins r d is legal lines list = subst (λ z. All (IsEntry d.lines) z)
         let last : f.right.left ≤ 2 * length p.units = trunk_left p pins r is legal f.right f.right_there in
         let apart : f.left.right < f.right.left = f.pair.apart in
         subst (λ e. IsEntry d.lines e) (sym f.pair.is) (record { ascends = apart; within = omega (arith, last, lines); modest = omega arith })
-
--- even lines are allowed
-pub even_allowed : (lines : ℕ) (xs : List ℕ) → xs ≡ map (λ line. 8 + 14 * line) (range_with_len 0 lines) → (p : Placement) (pins : Pins) (r : Routing) → IsPlacement p → IsLegal p pins r → lines ≡ 2 * length p.units + 1 → AreAllowed p pins (stretches_of r.trunks) xs
-even_allowed lines xs e p pins r is legal count = record {
-  lines = ap length e ∙ length-map (range_with_len 0 lines) (λ line. 8 + 14 * line) ∙ length-range_with_len 0 lines ∙ count;
-  first = omega (arith, at 0 (omega (arith, count)));
-  next = λ line short. omega (arith, at line (omega (arith, short, count)), at (line + 1) (omega (arith, short, count)));
-  left = λ unit e h. let short = slice_get_within p.units unit Column e in omega (arith, at (2 * unit) (omega (arith, short, count)), at (2 * unit + 1) (omega (arith, short, count)));
-  right = λ unit e h. let short = slice_get_within p.units unit Column e in omega (arith, at (2 * unit + 1) (omega (arith, short, count)), at (2 * unit + 2) (omega (arith, short, count)));
-  apart = apart;
-}
-  where
-    at : (line : ℕ) → line < lines → x_of xs line ≡ 8 + 14 * line
-    at line short = ap (λ (ys : List ℕ). get_or ys line 0) e ∙ get_or-map-range_with_len (λ n. 8 + 14 * n) 0 lines line line 0 short (omega arith)
-
-    apart : (a b : Stretch) → Contains (stretches_of r.trunks) a → Contains (stretches_of r.trunks) b → a.track ≡ b.track → a.right < b.left → x_of xs a.right + 14 ≤ x_of xs b.left
-    apart a b la lb same less =
-        let j : Image stretch_of r.trunks b = in_map stretch_of r.trunks b lb in
-        let left' : j.of.left ≡ b.left = ap (λ (z : Stretch). z.left) j.is in
-        let last : j.of.left ≤ 2 * length p.units = trunk_left p pins r is legal j.of j.listed in
-        omega (arith, less, at a.right (omega (arith, last, left', less, count)), at b.left (omega (arith, last, left', count)))

@@ -28,3 +28,9 @@ pub record IsSolution (d : Distances) (xs : List ℕ) : Type 0 where
 pub record IsLeast (d : Distances) (xs : List ℕ) : Type 0 where
   pub solution : IsSolution d xs
   pub least : (other : List ℕ) → IsSolution d other → (line : ℕ) → line < d.lines → x_of xs line ≤ x_of other line
+
+-- so many lines, the first at 8 or more and each other one 8 or more behind the line before
+pub record AreSpread (lines : ℕ) (xs : List ℕ) : Type 0 where
+  pub count : length xs ≡ lines
+  pub first : 0 < lines → 8 ≤ x_of xs 0
+  pub next : (line : ℕ) → line + 1 < lines → x_of xs line + 8 ≤ x_of xs (line + 1)

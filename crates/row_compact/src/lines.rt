@@ -3,7 +3,7 @@
 ghost use Rattle.std.specs.Prelude.{◌≡◌, ◌≤◌, ◌<◌, ◌+◌, ◌*◌, ℕ, List as Sequence, All, IfOk, length, map};
 ghost use Rattle.std.specs.List.{range_with_len};
 ghost use Rattle.row_compact.specs.declared.distance.Distances.{Distances as SomeDistances};
-ghost use Rattle.row_compact.specs.Solution.{IsEntry, IsLeast, x_of as x_at};
+ghost use Rattle.row_compact.specs.Solution.{AreSpread, IsEntry, IsLeast, x_of as x_at};
 ghost use Rattle.row_compact.specs.Allowed.{AreAlwaysAllowed};
 ghost use Rattle.row_compact.specs.Entries.{reach_from};
 
@@ -15,6 +15,7 @@ use std::alloc::Global;
 pub fn even_lines(alloc: Global, lines: u32) -> Result<LineXs, NoMemory>
     requires { lines ≤ MOST_LINES }
     ensures values { IfOk result (λ xs. xs ≡ map (λ line. 8 + 14 * line) (range_with_len 0 lines)) }
+    ensures spread { IfOk result (AreSpread lines) }
     ensures allowed { IfOk result (AreAlwaysAllowed lines) }
 {
     let mut xs = LineXs::new(alloc);

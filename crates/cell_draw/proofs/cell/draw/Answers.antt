@@ -1,7 +1,7 @@
 use Rattle.std.proofs.Common.{ap}
 use Rattle.cell_draw.specs.declared.drawing.Drawing.{Drawing}
 use Rattle.cell_draw.proofs.BridgeCount.{few_drawn}
-use Rattle.cell_draw.proofs.Draws.{drawing_obeys}
+use Rattle.cell_draw.proofs.Draws.{drawing_obeys, drawing_named}
 use Rattle.cell_draw.proofs.cell.draw.Goals as goal
 
 pub returns-in-Ok-clause-obeys : goal.returns-in-Ok-clause-obeys
@@ -9,3 +9,6 @@ returns-in-Ok-clause-obeys c = drawing_obeys c.in-Ok.drawing.shapes.rects c.args
 
 pub returns-in-Ok-clause-few : goal.returns-in-Ok-clause-few
 returns-in-Ok-clause-few c = few_drawn c.in-Ok.drawing.shapes.rects c.args.names.now c.args.pins.now c.args.placement.now c.args.routing.now c.args.xs.now c.args.height (ap (λ (d : Drawing). d.shapes.rects) c.in-Ok.ensures.exact) c.requires.placement c.requires.row c.requires.routing
+
+pub returns-in-Ok-clause-named : goal.returns-in-Ok-clause-named
+returns-in-Ok-clause-named c = drawing_named c.in-Ok.drawing.shapes.labels c.args.names.now c.args.pins.now c.args.placement.now c.args.routing.now c.args.xs.now c.args.height (ap (λ (d : Drawing). d.shapes.labels) c.in-Ok.ensures.exact)
