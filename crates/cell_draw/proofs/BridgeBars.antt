@@ -57,7 +57,7 @@ filtered {X} test (y ∷ ys) x c = by (test y) refl (λ rest. filtered test ys x
         let all : filter test (y ∷ ys) ≡ filter test ys = rw here refl in
         more (later (subst (λ zs. Contains zs x) all c))
 
-passes : {X : Type 0} (test : X → Bool) (xs : List X) (x : X) → Contains xs x → test x ≡ true → Contains (filter test xs) x
+pub passes : {X : Type 0} (test : X → Bool) (xs : List X) (x : X) → Contains xs x → test x ≡ true → Contains (filter test xs) x
 passes test [] x c h = absurd (contains_none x c)
 passes {X} test (y ∷ ys) x c h = by (test y) refl (λ rest. passes test ys x rest h)
   where
@@ -76,13 +76,13 @@ passes {X} test (y ∷ ys) x c h = by (test y) refl (λ rest. passes test ys x r
         ])
 
 -- the line of a place of a net is one of the net
-node_in_lines : (p : Placement) (node : NodePlace) (net : NetNo) → Contains p.nodes node → node.net ≡ net → Contains (lines_of p net) node.line
+pub node_in_lines : (p : Placement) (node : NodePlace) (net : NetNo) → Contains p.nodes node → node.net ≡ net → Contains (lines_of p net) node.line
 node_in_lines p node net there e =
     Contains-append_left (map (λ (z : NodePlace). z.line) (filter (λ (z : NodePlace). z.net.0 == net.0) p.nodes)) (map (λ (z : GatePlace). z.line) (filter (λ (z : GatePlace). z.net.0 == net.0) p.gates)) node.line
     (contains_map (λ (z : NodePlace). z.line) (filter (λ (z : NodePlace). z.net.0 == net.0) p.nodes) node
     (passes (λ (z : NodePlace). z.net.0 == net.0) p.nodes node there ((net_decides node.net net).1 e)))
 
-gate_in_lines : (p : Placement) (gate : GatePlace) (net : NetNo) → Contains p.gates gate → gate.net ≡ net → Contains (lines_of p net) gate.line
+pub gate_in_lines : (p : Placement) (gate : GatePlace) (net : NetNo) → Contains p.gates gate → gate.net ≡ net → Contains (lines_of p net) gate.line
 gate_in_lines p gate net there e =
     Contains-append_right (map (λ (z : NodePlace). z.line) (filter (λ (z : NodePlace). z.net.0 == net.0) p.nodes)) (map (λ (z : GatePlace). z.line) (filter (λ (z : GatePlace). z.net.0 == net.0) p.gates)) gate.line
     (contains_map (λ (z : GatePlace). z.line) (filter (λ (z : GatePlace). z.net.0 == net.0) p.gates) gate
@@ -144,7 +144,7 @@ pad_on_bar p pins r xs w f nets g y from e =
       of = reach.from.of ∙ sym from.net;
     }
 
-no_rail : (pins : Pins) (net : NetNo) → (IsRail pins net → ⊥) → is_rail pins net ≡ false
+pub no_rail : (pins : Pins) (net : NetNo) → (IsRail pins net → ⊥) → is_rail pins net ≡ false
 no_rail pins net not = by (is_rail pins net) refl
   where
     by : (b : Bool) → is_rail pins net ≡ b → is_rail pins net ≡ false
@@ -152,13 +152,13 @@ no_rail pins net not = by (is_rail pins net) refl
     by false other = other
 
 -- the contact of a node place whose net has a trunk
-signal_is : (p : Placement) (pins : Pins) (r : Routing) → IsLegal p pins r → (f : Frame) (xs : List ℕ) (node : NodePlace) (t : Trunk) → Contains r.trunks t → node.net ≡ t.net → contact_of f pins r.trunks xs node ≡ Some (contact_with xs node (Some (track_y f t.track)))
+pub signal_is : (p : Placement) (pins : Pins) (r : Routing) → IsLegal p pins r → (f : Frame) (xs : List ℕ) (node : NodePlace) (t : Trunk) → Contains r.trunks t → node.net ≡ t.net → contact_of f pins r.trunks xs node ≡ Some (contact_with xs node (Some (track_y f t.track)))
 signal_is p pins r legal f xs node t there e =
     let signal : is_rail pins node.net ≡ false = no_rail pins node.net (λ rail. (has_trunk p pins r legal t there).0 (subst (IsRail pins) e rail)) in
     let found : trunk_of r.trunks node.net ≡ Some t = trunk_is p pins r legal t node.net there e in
     rw signal (rw found refl)
 
-goes_to : (row : Row) (y : ℕ) → GoesTo row y y
+pub goes_to : (row : Row) (y : ℕ) → GoesTo row y y
 goes_to N y = omega arith
 goes_to P y = omega arith
 

@@ -69,7 +69,7 @@ make row left right width = record { row = row; left = left; right = right; widt
 made : {r r' : Row} {a a' b b' c c' : ℕ} → r ≡ r' → a ≡ a' → b ≡ b' → c ≡ c' → make r a b c ≡ make r' a' b' c'
 made er ea eb ec = cc
 
-same_strip : (s t : Strip) → s.row ≡ t.row → s.left ≡ t.left → s.right ≡ t.right → s.width ≡ t.width → s ≡ t
+pub same_strip : (s t : Strip) → s.row ≡ t.row → s.left ≡ t.left → s.right ≡ t.right → s.width ≡ t.width → s ≡ t
 unfolding make
 same_strip s t r a b c = made r a b c
 
@@ -141,12 +141,12 @@ single p xs f pins r is lines c d a b row x =
     some_same c d (sym a.gives ∙ ap (λ n. contact_of f pins r.trunks xs n) node ∙ b.gives)
 
 -- the net of a node is that of an end of a finger
-record EndOf (row : List Column) (side : Row) (net : NetNo) : Type 0 where
-  column : Column
-  finger : Placed
-  there : Contains row column
-  filled : place side column ≡ Some finger
-  is : (net ≡ finger.finger.lo) ⊎ (net ≡ finger.finger.hi)
+pub record EndOf (row : List Column) (side : Row) (net : NetNo) : Type 0 where
+  pub column : Column
+  pub finger : Placed
+  pub there : Contains row column
+  pub filled : place side column ≡ Some finger
+  pub is : (net ≡ finger.finger.lo) ⊎ (net ≡ finger.finger.hi)
 
 end_cases : (x : Placed) (net : NetNo) → (net ≡ left_net x) ⊎ (net ≡ right_net x) → (net ≡ x.finger.lo) ⊎ (net ≡ x.finger.hi)
 end_cases x net h = by x.flipped refl h
@@ -157,7 +157,7 @@ end_cases x net h = by x.flipped refl h
     by false e (inl h) = inl (h ∙ ap (λ b. if b then x.finger.hi else x.finger.lo) e)
     by false e (inr h) = inr (h ∙ ap (λ b. if b then x.finger.lo else x.finger.hi) e)
 
-end_of : (row : List Column) (node : NodePlace) → IsNode row node → EndOf row node.row node.net
+pub end_of : (row : List Column) (node : NodePlace) → IsNode row node → EndOf row node.row node.net
 end_of row node h = record {
   column = h.column;
   finger = h.finger;

@@ -48,10 +48,10 @@ height_holds row columns c x there e = fold_holds row 10 columns c x there e
 finger_in : (row : Row) (columns : List Column) (c : Column) (x : Placed) → Contains columns c → place row c ≡ Some x → Contains (fingers_in row columns) x.finger
 finger_in row columns c x there e = contains_filter_map (λ column. option_map (λ (z : Placed). z.finger) (place row column)) columns c x.finger there (ap (λ o. option_map (λ (z : Placed). z.finger) o) e)
 
-p_finger : (names : List (List ℕ)) (pins : Pins) (row : List Column) (s : IsSoundRow names pins row) (c : Column) (x : Placed) → Contains row c → c.p ≡ Some x → Contains s.fingers.p x.finger
+pub p_finger : (names : List (List ℕ)) (pins : Pins) (row : List Column) (s : IsSoundRow names pins row) (c : Column) (x : Placed) → Contains row c → c.p ≡ Some x → Contains s.fingers.p x.finger
 p_finger names pins row s c x there e = Contains-permutation (fingers_in P row) s.fingers.p x.finger (IsPermutation-sym s.fingers.p (fingers_in P row) s.arranged.p) (finger_in P row c x there e)
 
-n_finger : (names : List (List ℕ)) (pins : Pins) (row : List Column) (s : IsSoundRow names pins row) (c : Column) (x : Placed) → Contains row c → c.n ≡ Some x → Contains s.fingers.n x.finger
+pub n_finger : (names : List (List ℕ)) (pins : Pins) (row : List Column) (s : IsSoundRow names pins row) (c : Column) (x : Placed) → Contains row c → c.n ≡ Some x → Contains s.fingers.n x.finger
 n_finger names pins row s c x there e = Contains-permutation (fingers_in N row) s.fingers.n x.finger (IsPermutation-sym s.fingers.n (fingers_in N row) s.arranged.n) (finger_in N row c x there e)
 
 filled_width : (o : Option Placed) → ((x : Placed) → o ≡ Some x → (6 ≤ x.finger.width) × (x.finger.width ≤ 400)) → IsFingerWidth o

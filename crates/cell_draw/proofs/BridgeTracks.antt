@@ -57,7 +57,7 @@ pub has_trunk : (p : Placement) (pins : Pins) (r : Routing) → IsLegal p pins r
 has_trunk p pins r legal t there = (legal.nets t.net).1 (any_at (λ (u : Trunk). u.net ≡ t.net) r.trunks t there refl)
 
 -- a test that an element passes finds one
-none_found : {X : Type 0} (p : X → Bool) (xs : List X) (x : X) → Contains xs x → p x ≡ true → find p xs ≡ None → ⊥
+pub none_found : {X : Type 0} (p : X → Bool) (xs : List X) (x : X) → Contains xs x → p x ≡ true → find p xs ≡ None → ⊥
 none_found p [] x c h e = contains_none x c
 none_found {X} p (y ∷ ys) x c h e = by (p y) refl (λ more. none_found p ys x more h)
   where

@@ -1,7 +1,7 @@
 -- The inverter of the tests is a sound row.
-use Rattle.std.proofs.Common.{ℕ, ◌≡◌, ◌≢◌, ◌+◌, ◌<◌, ◌≤◌, List, [], ◌∷◌, Some, None, codes, length, false, inl, inr, ◌⊎◌, refl, sym, ap, subst, ◌∙◌, get_or, arith, All, AllPairs, Any, IsPermutation}
+use Rattle.std.proofs.Common.{ℕ, ◌≡◌, ◌≢◌, ◌<◌, ◌≤◌, List, [], ◌∷◌, Some, codes, false, inl, inr, refl, sym, ap, subst, ◌∙◌, get_or, arith, AllPairs, Any}
 use Rattle.std.proofs.lemmas.Bool.{cases_eq}
-use Rattle.std.proofs.lemmas.List.Elements.{All-nil, All-cons}
+use Rattle.std.proofs.lemmas.List.Elements.{All-nil, All-cons, All-replicate}
 use Rattle.std.proofs.lemmas.List.Kept.{AllPairs-cons}
 use Rattle.std.proofs.lemmas.List.Sorted.{IsPermutation-refl}
 use Rattle.cell_num.specs.declared.net.NetNo.{NetNo}
@@ -17,6 +17,7 @@ use Rattle.cell_num.proofs.Pairs.{any_at, pairs_none}
 use Rattle.row_model.specs.declared.column.Column.{Column}
 use Rattle.row_model.specs.declared.column.Placed.{Placed}
 use Rattle.row_model.specs.Arrangement.{IsColumn, IsArrangement}
+use Rattle.cell_draw.specs.Small.{HasWidths}
 use Rattle.cell_draw.specs.Sound.{IsSoundRow}
 
 abbrev net : ℕ → NetNo
@@ -28,8 +29,11 @@ finger row lo hi width = record { row = row; gate = net 0; lo = net lo; hi = net
 abbrev standing : Row → ℕ → ℕ → ℕ → Placed
 standing row lo hi width = record { finger = finger row lo hi width; flipped = false }
 
+abbrev pub column : Column
+column = record { p = Some (standing P 1 2 20); n = Some (standing N 1 3 10) }
+
 abbrev pub row : List Column
-row = record { p = Some (standing P 1 2 20); n = Some (standing N 1 3 10) } ∷ []
+row = column ∷ []
 
 abbrev pub pins : Pins
 pins = record { pins = 4; vdd = net 2; gnd = net 3 }
@@ -108,3 +112,10 @@ pins_are = record { named = omega arith; vdd = omega arith; gnd = omega arith; d
 
 pub sound_if : (ns : List (List ℕ)) (ps : Pins) (columns : List Column) → ns ≡ names → ps ≡ pins → columns ≡ row → IsSoundRow ns ps columns
 sound_if ns ps columns e f g = subst (λ z. IsSoundRow z ps columns) (sym e) (subst (λ z. IsSoundRow names z columns) (sym f) (subst (λ z. IsSoundRow names pins z) (sym g) sound_row))
+
+-- many columns of this kind
+pub many_columns : (columns : List Column) → columns ≡ replicate 32 column → All IsColumn columns
+many_columns columns e = subst (λ z. All IsColumn z) (sym e) (All-replicate IsColumn 32 column (refl, (λ e. refl), (λ e. refl)))
+
+pub many_widths : (columns : List Column) → columns ≡ replicate 32 column → All HasWidths columns
+many_widths columns e = subst (λ z. All HasWidths z) (sym e) (All-replicate HasWidths 32 column (record { n = (omega arith, omega arith); p = (omega arith, omega arith) }))

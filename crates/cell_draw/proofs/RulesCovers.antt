@@ -21,7 +21,7 @@ use Rattle.cell_draw.proofs.RulesContacts.{IsCut, cut_rect, on_contact}
 use Rattle.cell_draw.proofs.RulesMetal2.{Signal, IsSignal, branch_rect}
 use Rattle.cell_draw.proofs.RulesVias.{IsViaPlace, via_rect, on_via}
 
-covers : (layer : Layer) (l : Layout) (r : Rectangle) → OnGroup layer l r → (x y : ℤ) → Holds r x y → On layer (shapes_of l) x y
+pub covers : (layer : Layer) (l : Layout) (r : Rectangle) → OnGroup layer l r → (x y : ℤ) → Holds r x y → On layer (shapes_of l) x y
 covers layer l r g x y h = record { rect = r; listed = drawn layer l r g; holds = h }
 
 pub well_covers : (l : Layout) (x y : ℤ) → Holds (well l.frame).rect x y → On Well (shapes_of l) x y

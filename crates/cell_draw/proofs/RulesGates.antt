@@ -43,7 +43,7 @@ low_end f k fr (Some v) track t = omega (arith, ints)
 low_end f k fr None (Some y) t = let c = t y refl in omega (arith, ints)
 low_end f k fr None None t = omega (arith, ints)
 
-gate_ends : (f : Frame) (k : ℕ) → IsFrame f k → (row : Row) (width : ℕ) (g : Gate) → width_in row g ≡ Some width → ((y : ℕ) → g.track ≡ Some y → InChannel f y) → GateEnds f row width g.n g.p g.track
+pub gate_ends : (f : Frame) (k : ℕ) → IsFrame f k → (row : Row) (width : ℕ) (g : Gate) → width_in row g ≡ Some width → ((y : ℕ) → g.track ≡ Some y → InChannel f y) → GateEnds f row width g.n g.p g.track
 gate_ends f k fr N width g e t =
     let h = high_end f k fr g.p g.track t in
     subst (λ o. GateEnds f N width o g.p g.track) (sym e) (record { low = omega (arith, ints); high = omega (arith, ints) })

@@ -45,7 +45,7 @@ touching Is rect Same v rs origin proper good = record {
       (sides_of Is rect Same v a b o p (good o.piece p.piece o.listed p.listed) close);
 }
 
-close_sides : (v : ℕ) → 1 ≤ v → (a b : Rectangle) → Beside a b ⊎ Stacked a b → Close v a b
+pub close_sides : (v : ℕ) → 1 ≤ v → (a b : Rectangle) → Beside a b ⊎ Stacked a b → Close v a b
 close_sides v least a b (inl t) = omega (arith, ints)
 close_sides v least a b (inr t) = omega (arith, ints)
 

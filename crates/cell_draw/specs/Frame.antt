@@ -20,6 +20,10 @@ height_of row columns = fold (λ most column. wider most (place row column)) 10 
 abbrev pub channel_of : ℕ → ℕ
 channel_of tracks = 40 + 16 * (tracks - 1)
 
+-- where the channel begins, above the fingers of the N row
+abbrev pub channel_edge : List Column → ℕ
+channel_edge row = 24 + height_of N row
+
 -- the least height of the cell
 abbrev pub needed_of : List Column → ℕ → ℕ
 needed_of row tracks = 24 + height_of N row + channel_of tracks + height_of P row + 24

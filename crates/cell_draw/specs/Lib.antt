@@ -1,9 +1,12 @@
 pub mod Bounds
 pub mod Drawings
+pub mod Extracted
 pub mod Faults
 pub mod Frame
 pub mod Laid
 pub mod Layouts
+pub mod Named
 pub mod Shapes
+pub mod Shown
 pub mod Small
 pub mod Sound

@@ -10,9 +10,11 @@ ghost use Rattle.scmos_rules.specs.declared.rules.Deck.TheVariants.{Plain};
 ghost use Rattle.box_geom.specs.declared.shape.Label.{Label as SomeLabel};
 ghost use Rattle.cell_draw.specs.Bounds.{AreWithin};
 ghost use Rattle.cell_draw.specs.Drawings.{drawing_of, drawn_of, base_drawn_of, height_given};
+ghost use Rattle.cell_draw.specs.Extracted.{ExtractsToRow};
 ghost use Rattle.cell_draw.specs.Faults.{IsCause, SaysTooTall};
 ghost use Rattle.cell_draw.specs.Frame.{IsTooTall, frame_of};
 ghost use Rattle.cell_draw.specs.Layouts.{width_of};
+ghost use Rattle.cell_draw.specs.Shown.{ShowsColumns, ShowsRouting};
 ghost use Rattle.cell_draw.specs.Small.{IsSmall, IsSmallFrame, HasWidths};
 ghost use Rattle.cell_draw.specs.Sound.{IsSoundRow, AreLines};
 
@@ -115,7 +117,8 @@ fn drawn(
 }
 
 /// Draws a row of sound fingers on lines that its distances allow, in a cell of the given height, or of
-/// the least where that is 0. The shapes obey every rule.
+/// the least where that is 0. The shapes obey every rule, extract to the fingers of the row, net by net,
+/// and show the row and the routing.
 pub fn draw(
     alloc: Global,
     names: &Names,
@@ -138,6 +141,9 @@ pub fn draw(
     ensures few { IfOk result (λ d. length d.shapes.rects < MOST_SHAPES) }
     ensures within { IfOk result (λ d. AreWithin d.shapes) }
     ensures named { IfOk result (λ d. All (λ (l : SomeLabel). Contains names.now l.name) d.shapes.labels) }
+    ensures extracts { IfOk result (λ d. ExtractsToRow names.now pins.now placement.now.row d.shapes) }
+    ensures shows { IfOk result (λ d. ShowsColumns names.now pins.now placement.now.row d.shapes) }
+    ensures routed { IfOk result (λ d. ShowsRouting names.now pins.now placement.now d.shapes routing.now) }
     ensures fits { IfOk result (λ d. IsTooTall placement.now.row routing.now.tracks height → ⊥) }
     ensures tall { SaysTooTall placement.now.row routing.now.tracks height result }
     ensures cause { IfErr result (IsCause placement.now.row routing.now.tracks height) }

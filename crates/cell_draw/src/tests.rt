@@ -1,13 +1,15 @@
-ghost use Rattle.std.specs.Prelude.{◌≡◌, ◌≤◌, IfOk, length};
+ghost use Rattle.std.specs.Prelude.{◌≡◌, ◌≤◌, All, IfOk, length};
 ghost use Rattle.cell_num.specs.Pins.{ArePins};
 ghost use Rattle.row_place.specs.Places.{IsPlacement};
 ghost use Rattle.row_place.specs.Trunks.{HasPins};
 ghost use Rattle.channel_route.specs.Routing.{IsLegal};
 ghost use Rattle.row_compact.specs.Allowed.{AreAllowed, stretches_of};
+ghost use Rattle.row_model.specs.Arrangement.{IsColumn};
+ghost use Rattle.cell_draw.specs.Small.{HasWidths};
 ghost use Rattle.cell_draw.specs.Sound.{IsSoundRow};
 
-use crate::{DrawFault, Drawing, MOST_HEIGHT, MOST_X, draw};
-use box_geom::{Layer, Shape};
+use crate::{DrawFault, Drawing, MOST_HEIGHT, MOST_X, draw, draw_base};
+use box_geom::{Label, Layer, Shape};
 use cell_num::{Finger, Names, NetNo, NoMemory, Pins, Row, copy};
 use channel_route::{Routing, route};
 use row_compact::{LineXs, distances, even_lines, least_lines, lines_of, x_of};
@@ -23,7 +25,37 @@ struct Cell {
     row: Arrangement,
 }
 
-// The inverter, pins `a y vdd gnd`: its P finger is 20 wide, its N finger 10.
+// The inverter's column: its P finger is 20 wide, its N finger 10.
+const COLUMN: Column = Column {
+    p: Some(Placed {
+        finger: Finger {
+            row: Row::P,
+            gate: NetNo(0),
+            lo: NetNo(1),
+            hi: NetNo(2),
+            width: 20,
+        },
+        flipped: false,
+    }),
+    n: Some(Placed {
+        finger: Finger {
+            row: Row::N,
+            gate: NetNo(0),
+            lo: NetNo(1),
+            hi: NetNo(3),
+            width: 10,
+        },
+        flipped: false,
+    }),
+};
+
+const PINS: Pins = Pins {
+    pins: 4,
+    vdd: NetNo(2),
+    gnd: NetNo(3),
+};
+
+// The inverter, pins `a y vdd gnd`.
 #[tactic(auto, using(crate::proofs::Inverter::sound_if))]
 fn inverter(alloc: Global) -> Result<Cell, NoMemory>
     ensures sound { IfOk result (λ cell. IsSoundRow cell.names cell.pins cell.row) }
@@ -36,34 +68,12 @@ fn inverter(alloc: Global) -> Result<Cell, NoMemory>
     names.push(copy(alloc, b"vdd")?)?;
     names.push(copy(alloc, b"gnd")?)?;
     let mut row = Arrangement::new(alloc);
-    row.push(Column {
-        p: Some(Placed {
-            finger: Finger {
-                row: Row::P,
-                gate: NetNo(0),
-                lo: NetNo(1),
-                hi: NetNo(2),
-                width: 20,
-            },
-            flipped: false,
-        }),
-        n: Some(Placed {
-            finger: Finger {
-                row: Row::N,
-                gate: NetNo(0),
-                lo: NetNo(1),
-                hi: NetNo(3),
-                width: 10,
-            },
-            flipped: false,
-        }),
-    })?;
-    let pins = Pins {
-        pins: 4,
-        vdd: NetNo(2),
-        gnd: NetNo(3),
-    };
-    Ok(Cell { names, pins, row })
+    row.push(COLUMN)?;
+    Ok(Cell {
+        names,
+        pins: PINS,
+        row,
+    })
 }
 
 const EVEN: [(Layer, [i32; 4]); 29] = [
@@ -98,6 +108,14 @@ const EVEN: [(Layer, [i32; 4]); 29] = [
     (Layer::Via, [6, 52, 10, 56]),
 ];
 
+// Its labels.
+const NAMED: [(&[u8], [i32; 2]); 4] = [
+    (b"a", [22, 54]),
+    (b"y", [8, 54]),
+    (b"vdd", [8, 110]),
+    (b"gnd", [8, 8]),
+];
+
 // What stands elsewhere on the least lines in a cell of height 130.
 const HIGH: [(usize, [i32; 4]); 6] = [
     (0, [-10, 74, 51, 130]),
@@ -116,6 +134,15 @@ fn is_even(rects: &[Shape]) -> bool {
     rects.len() == 29
         && rects.iter().zip(EVEN.iter()).all(|pair| pair.0.layer == pair.1.0
             && sides(pair.0) == pair.1.1)
+}
+
+fn are_named(labels: &[Label]) -> bool {
+    labels.len() == 4
+        && labels.iter().zip(NAMED.iter()).all(|pair| {
+            pair.0.layer == Layer::Metal1
+                && pair.0.name.as_slice() == pair.1.0
+                && [pair.0.x, pair.0.y] == pair.1.1
+        })
 }
 
 fn is_high(rects: &[Shape]) -> bool {
@@ -171,11 +198,7 @@ fn draws_an_inverter(rt: HostRuntime) -> Result<(), Fail> {
     let drawing = drawn(rt.alloc(), false, 0)??;
     assert_eq!(rt; (drawing.width, drawing.height), (44, 118));
     assert!(rt; is_even(drawing.shapes.rects.as_slice()));
-    let labels = drawing.shapes.labels.as_slice();
-    assert_eq!(rt; labels.len(), 4);
-    assert!(rt;
-        matches!(labels.first(), Some(label) if label.layer == Layer::Metal1 && (label.x, label.y) == (22, 54))
-    );
+    assert!(rt; are_named(drawing.shapes.labels.as_slice()));
     Ok(())
 }
 
@@ -196,5 +219,36 @@ fn draws_a_high_inverter(rt: HostRuntime) -> Result<(), Fail> {
             })
         )
     );
+    Ok(())
+}
+
+// A row of 32 columns, all of them the inverter's.
+fn wide(alloc: Global) -> Result<Arrangement, NoMemory>
+    ensures columns { IfOk result (All IsColumn) }
+    ensures widths { IfOk result (All HasWidths) }
+    ensures few { IfOk result (λ row. length row ≤ 32) }
+{
+    let mut row = Arrangement::new(alloc);
+    row.extend(&[COLUMN; 32])?;
+    Ok(row)
+}
+
+// Its rows alone on even lines, with room for 26 tracks.
+fn base(alloc: Global) -> Result<Result<Drawing, DrawFault>, Fail> {
+    let row = wide(alloc)?;
+    let placement = place(alloc, &row)?;
+    let xs = even_lines(alloc, lines_of(&placement))?;
+    Ok(draw_base(alloc, &PINS, &placement, 26, &xs, 0))
+}
+
+#[test]
+fn draws_a_wide_base(rt: HostRuntime) -> Result<(), Fail> {
+    let drawing = base(rt.alloc())??;
+    let rects = drawing.shapes.rects.as_slice();
+    assert_eq!(rt;
+        (drawing.width, drawing.height, rects.len()),
+        (1780, 518, 69)
+    );
+    assert!(rt; matches!(rects.first(), Some(shape) if sides(shape) == [-10, 462, 1790, 518]));
     Ok(())
 }

@@ -11,6 +11,7 @@ pub mod MakeTold
 pub mod Makes
 pub mod Names
 pub mod Planned
+pub mod ReadBack
 pub mod Reading
 pub mod Results
 pub mod Telling
