@@ -1,9 +1,5 @@
 -- A layout with small numbers is drawn within the limits, which a four-byte integer in nanometres reaches.
-<<<<<<< HEAD
-use Rattle.std.proofs.Common.{ℕ, ◌≤◌, ◌≡◌, ℤ, pos, ◌*ℤ◌, ◌+ℤ◌, ◌-ℤ◌, negsuc, unsigned_abs, List, [], ◌∷◌, ◌++◌, Option, Some, None, map, sym, subst, arith, All, FitsSigned}
-=======
 use Rattle.std.proofs.Common.{ℕ, ◌≤◌, ◌≡◌, ℤ, pos, ◌*ℤ◌, negsuc, unsigned_abs, List, [], ◌∷◌, ◌++◌, Option, Some, None, map, sym, subst, arith, All, FitsSigned}
->>>>>>> draw-wip
 use Rattle.std.specs.Int.{w32}
 use Rattle.std.specs.List.{flat_map}
 use Rattle.std.proofs.lemmas.Int.{ints, fits_signed_mul}
@@ -26,11 +22,7 @@ use Rattle.cell_draw.specs.declared.layout.Tag.{Tag}
 use Rattle.cell_draw.specs.declared.layout.Layout.{Layout}
 use Rattle.cell_draw.specs.Laid.{row_height, IsWidth}
 use Rattle.cell_draw.specs.Shapes.{box, around, well, p_select, n_select, gnd_rail, vdd_rail, frame_shapes, finger, finger_low, finger_high, centre, landing, strap, branch, reach_shapes, contact_shapes, gate_low, gate_high, gate_strip, pad_shapes, gate_shapes, bar_metal, via_shapes, bar_shapes, shapes_of}
-<<<<<<< HEAD
-use Rattle.cell_draw.specs.Small.{IsSmallFrame, IsHeight, IsReach, IsSmallStrip, IsSmallContact, IsSmallGate, IsSmallBar, IsSmallTag, IsSmall}
-=======
 use Rattle.cell_draw.specs.Small.{IsSmallFrame, IsReach, IsSmallStrip, IsSmallContact, IsSmallGate, IsSmallBar, IsSmallTag, IsSmall}
->>>>>>> draw-wip
 
 frame_within : (f : Frame) → IsSmallFrame f → All IsShapeWithin (frame_shapes f)
 frame_within f s =

@@ -55,7 +55,4 @@ mod ShownTracks
 mod Sizes
 mod Smalls
 mod Tags
-<<<<<<< HEAD
-=======
 mod TagsFound
->>>>>>> draw-wip

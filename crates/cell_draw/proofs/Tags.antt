@@ -1,9 +1,5 @@
 -- Where the tag of a net stands, and that labels are names of nets.
-<<<<<<< HEAD
-use Rattle.std.proofs.Common.{ℕ, ◌≡◌, ◌+◌, ◌-◌, ◌<◌, ◌==◌, Bool, true, false, if◌then◌else◌, List, [], Option, Some, None, inl, inr, refl, sym, ap, subst, ◌∙◌, arith, All, Contains, length, get_or, find, map, filter_map, option_map, slice_get}
-=======
 use Rattle.std.proofs.Common.{ℕ, ◌≡◌, ◌+◌, ◌<◌, ◌==◌, Bool, true, false, if◌then◌else◌, List, [], Option, Some, None, inl, inr, refl, sym, ap, subst, ◌∙◌, arith, All, Contains, length, get_or, find, map, option_map, slice_get}
->>>>>>> draw-wip
 use Rattle.std.specs.List.{range_with_len}
 use Rattle.std.proofs.lemmas.List.FromFn.{get_or-range_with_len, length-range_with_len}
 use Rattle.std.proofs.lemmas.Option.{slice_get_within, get_or_from_slice_get}

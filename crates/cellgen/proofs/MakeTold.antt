@@ -126,6 +126,9 @@ drawn_so inputs out end answer old new (made.Made row log routing xs, h, is) don
   least_lines = h.lines;
   fits = h.fits;
   obeys = h.obeys;
+  extracts = h.extracts;
+  shows_row = h.shows_row;
+  shows_routing = h.shows_routing;
   decodes = h.decodes;
   files = both_made out _ _ end.files old.made new.made is.files whole.1.0;
   says = said_so _ end.report old.said new.said is.report whole.1.1;

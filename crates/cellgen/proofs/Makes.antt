@@ -1,5 +1,5 @@
 -- What making a cell comes to, from what its steps answered.
-use Rattle.std.proofs.Common.{ℕ, ◌≡◌, ◌≤◌, ◌/◌, ◌*◌, ◌+◌, ◌%◌, List, Result, Ok, Err, IfOk, All, length, refl, sym, ap, subst, arith, ◌∙◌}
+use Rattle.std.proofs.Common.{ℕ, ◌≡◌, ◌≤◌, ◌/◌, ◌*◌, ◌+◌, ◌%◌, List, Result, Ok, Err, IfOk, All, Contains, length, refl, sym, ap, subst, arith, ◌∙◌}
 use Rattle.std.proofs.lemmas.Result.{IfOk-weaker}
 use Rattle.std.proofs.Math.Nat.{div-add-mod}
 use Rattle.cell_num.specs.declared.finger.Fingers.{Fingers}
@@ -7,6 +7,9 @@ use Rattle.cell_num.specs.declared.list.NoMemory.{NoMemory}
 use Rattle.cell_num.specs.declared.net.Pins.{Pins}
 use Rattle.cell_num.specs.Fingers.{AreSound}
 use Rattle.cell_num.specs.Pins.{ArePins}
+use Rattle.box_geom.specs.declared.shape.Label.{Label}
+use Rattle.box_geom.specs.declared.shape.Shapes.{Shapes}
+use Rattle.box_geom.specs.Layers.{AreWithinLimits}
 use Rattle.row_model.specs.declared.column.Column.{Column}
 use Rattle.row_model.specs.Arrangement.{IsArrangement, IsColumn}
 use Rattle.row_state.specs.Parity.{parity_value}
@@ -28,14 +31,18 @@ use Rattle.cell_draw.specs.declared.drawing.Drawing.{Drawing}
 use Rattle.cell_draw.specs.declared.drawing.DrawFault.{DrawFault}
 use Rattle.cell_draw.specs.declared.drawing.DrawFault.TheVariants.{TooTall}
 use Rattle.cell_draw.specs.Drawings.{drawn_of}
+use Rattle.cell_draw.specs.Bounds.{AreWithin}
+use Rattle.cell_draw.specs.Extracted.{ExtractsTo, ExtractsToRow}
 use Rattle.cell_draw.specs.Faults.{IsCause}
 use Rattle.cell_draw.specs.Frame.{needed_of, IsTooTall}
+use Rattle.cell_draw.specs.Shown.{ShowsColumns, ShowsRouting, ShowsRow}
 use Rattle.cell_draw.specs.Sound.{IsSoundRow}
 use Rattle.gds_read.specs.RoundTrip.{IsReadable}
 use Rattle.gds_read.specs.Decoding.{Decodes}
 use Rattle.gds_read.proofs.RoundTrip.{round_trip}
 use Rattle.cellgen.specs.declared.end.End.{End}
 use Rattle.cellgen.specs.Inputs.{Inputs, AreInputs, unit_nm}
+use Rattle.cellgen.proofs.ReadBack.{readable}
 use Rattle.cellgen.specs.Make.{AreLeastLines, IsFound, IsRouted, IsMade, Made, Cyclic, Tall, Unfinished, MakesTo, IsMadeEnd, IsCycleEnd, IsTallEnd, IsUnfinishedEnd, drawing_in, library_of}
 
 -- ---- what the steps ask; they see the inputs from inside
@@ -96,32 +103,69 @@ pub tall_to : (inputs : Inputs) (out : List ℕ) (row : List Column) (log : Log)
 tall_to inputs out row log routing needed given r found routed tall n g is =
     IfOk-weaker r (IsTallEnd inputs.cell out log needed given) (MakesTo inputs out) (λ end ends. (Tall row log routing, (found, routed, tall), subst (λ h. IsTallEnd inputs.cell out log (needed_of row routing.tracks) h end) g (subst (λ m. IsTallEnd inputs.cell out log m given end) n ends))) is
 
-pub made_to : (inputs : Inputs) (out : List ℕ) (row : List Column) (log : Log) (routing : Routing) (xs : List ℕ) (drawing : Drawing) (r : Result End NoMemory) → AreInputs inputs → IsFound inputs row log → IsRouted inputs row routing → AreLeastLines (placement_of row) inputs.cell.pins routing xs → (IsTooTall row routing.tracks inputs.tech.height → ⊥) → drawing ≡ drawing_in inputs row routing xs → Obeys Plain drawing.shapes.rects → IsReadable inputs.cell.name drawing.shapes (unit_nm inputs.tech) → IfOk r (IsMadeEnd inputs.cell out row log routing.tracks drawing (unit_nm inputs.tech)) → IfOk r (MakesTo inputs out)
-made_to inputs out row log routing xs drawing r are found routed lines fits is obeys readable ends =
-    IfOk-weaker r (IsMadeEnd inputs.cell out row log routing.tracks drawing (unit_nm inputs.tech)) (MakesTo inputs out) (λ end e. (Made row log routing xs, made, subst (λ (d : Drawing). IsMadeEnd inputs.cell out row log routing.tracks d (unit_nm inputs.tech) end) is e)) ends
-  where
-    made : IsMade inputs row log routing xs
-    made = record {
+-- what is said of the shapes of a drawing
+pub record IsSoundDrawing (inputs : Inputs) (row : List Column) (routing : Routing) (drawing : Drawing) : Type 0 where
+  pub obeys : Obeys Plain drawing.shapes.rects
+  pub extracts : ExtractsTo inputs.cell.nets inputs.fingers drawing.shapes
+  pub shows_row : ShowsRow inputs.cell.nets row drawing.shapes
+  pub shows_routing : ShowsRouting inputs.cell.nets inputs.cell.pins (placement_of row) drawing.shapes routing
+  pub readable : IsReadable inputs.cell.name drawing.shapes (unit_nm inputs.tech)
+
+is_made : (inputs : Inputs) (row : List Column) (log : Log) (routing : Routing) (xs : List ℕ) (drawing : Drawing) → AreInputs inputs → IsFound inputs row log → IsRouted inputs row routing → AreLeastLines (placement_of row) inputs.cell.pins routing xs → (IsTooTall row routing.tracks inputs.tech.height → ⊥) → drawing ≡ drawing_in inputs row routing xs → IsSoundDrawing inputs row routing drawing → IsMade inputs row log routing xs
+is_made inputs row log routing xs drawing are found routed lines fits is sound =
+    let drawn : IsSoundDrawing inputs row routing (drawing_in inputs row routing xs) = subst (λ (d : Drawing). IsSoundDrawing inputs row routing d) is sound in
+    record {
       found = found;
       routed = routed;
       lines = lines;
       fits = fits;
-      obeys = subst (λ (d : Drawing). Obeys Plain d.shapes.rects) is obeys;
-      decodes = subst (λ (d : Drawing). Decodes (library_of inputs d) inputs.cell.name inputs.tech.lambda_nm d.shapes) is (decodes_so inputs drawing are readable);
+      obeys = drawn.obeys;
+      extracts = drawn.extracts;
+      shows_row = drawn.shows_row;
+      shows_routing = drawn.shows_routing;
+      decodes = decodes_so inputs (drawing_in inputs row routing xs) are drawn.readable;
     }
+
+made_to : (inputs : Inputs) (out : List ℕ) (row : List Column) (log : Log) (routing : Routing) (xs : List ℕ) (drawing : Drawing) (r : Result End NoMemory) → IsMade inputs row log routing xs → drawing ≡ drawing_in inputs row routing xs → IfOk r (IsMadeEnd inputs.cell out row log routing.tracks drawing (unit_nm inputs.tech)) → IfOk r (MakesTo inputs out)
+made_to inputs out row log routing xs drawing r made is ends =
+    IfOk-weaker r (IsMadeEnd inputs.cell out row log routing.tracks drawing (unit_nm inputs.tech)) (MakesTo inputs out) (λ end e. (Made row log routing xs, made, subst (λ (d : Drawing). IsMadeEnd inputs.cell out row log routing.tracks d (unit_nm inputs.tech) end) is e)) ends
 
 -- ---- the same, from what the steps see
 
-pub drawn_to : (inputs inside : Inputs) (out : List ℕ) (row : List Column) (log : Log) (placement : Placement) (routing : Routing) (lines : List ℕ) (drawing : Drawing) (height unit : ℕ) (r : Result End NoMemory) → inside ≡ inputs → placement ≡ placement_of row → height ≡ inputs.tech.height → unit ≡ unit_nm inputs.tech → AreInputs inputs → IsFound inputs row log → IsRouted inputs row routing → AreLeastLines placement inside.cell.pins routing lines → (IsTooTall placement.row routing.tracks height → ⊥) → drawing ≡ drawn_of inside.cell.nets inside.cell.pins placement routing lines height → Obeys Plain drawing.shapes.rects → IsReadable inside.cell.name drawing.shapes unit → IfOk r (IsMadeEnd inside.cell out row log routing.tracks drawing unit) → IfOk r (MakesTo inputs out)
-drawn_to inputs inside out row log placement routing lines drawing height unit r same is high nm are found routed least fits exact obeys readable ends =
-    made_to inputs out row log routing lines drawing r are found routed
-    (subst (λ (i : Inputs). AreLeastLines (placement_of row) i.cell.pins routing lines) same (subst (λ (p : Placement). AreLeastLines p inside.cell.pins routing lines) is least))
-    (λ tall. fits (subst (λ (p : Placement). IsTooTall p.row routing.tracks height) (sym is) (subst (λ h. IsTooTall row routing.tracks h) (sym high) tall)))
-    (subst (λ (i : Inputs). drawing ≡ drawn_of i.cell.nets i.cell.pins (placement_of row) routing lines inputs.tech.height) same
-    (subst (λ (p : Placement). drawing ≡ drawn_of inside.cell.nets inside.cell.pins p routing lines inputs.tech.height) is
-    (subst (λ h. drawing ≡ drawn_of inside.cell.nets inside.cell.pins placement routing lines h) high exact)))
-    obeys
-    (subst (λ (i : Inputs). IsReadable i.cell.name drawing.shapes (unit_nm inputs.tech)) same (subst (λ u. IsReadable inside.cell.name drawing.shapes u) nm readable))
+-- a drawing of a routed row, as the steps see it
+pub record IsDrawnSo (inside : Inputs) (row : List Column) (placement : Placement) (routing : Routing) (lines : List ℕ) (drawing : Drawing) (height unit : ℕ) : Type 0 where
+  pub least : AreLeastLines placement inside.cell.pins routing lines
+  pub fits : IsTooTall placement.row routing.tracks height → ⊥
+  pub exact : drawing ≡ drawn_of inside.cell.nets inside.cell.pins placement routing lines height
+  pub obeys : Obeys Plain drawing.shapes.rects
+  pub extracts : ExtractsToRow inside.cell.nets inside.cell.pins placement.row drawing.shapes
+  pub shows : ShowsColumns inside.cell.nets inside.cell.pins placement.row drawing.shapes
+  pub routed : ShowsRouting inside.cell.nets inside.cell.pins placement drawing.shapes routing
+  pub readable : IsReadable inside.cell.name drawing.shapes unit
+
+-- the same of the inputs and the row themselves
+seen_so : (inputs inside : Inputs) (row : List Column) (placement : Placement) (routing : Routing) (lines : List ℕ) (drawing : Drawing) (height unit : ℕ) → inside ≡ inputs → placement ≡ placement_of row → height ≡ inputs.tech.height → unit ≡ unit_nm inputs.tech → IsDrawnSo inside row placement routing lines drawing height unit → IsDrawnSo inputs row (placement_of row) routing lines drawing inputs.tech.height (unit_nm inputs.tech)
+seen_so inputs inside row placement routing lines drawing height unit same is high nm h =
+    subst (λ (i : Inputs). IsDrawnSo i row (placement_of row) routing lines drawing inputs.tech.height (unit_nm inputs.tech)) same
+    (subst (λ (p : Placement). IsDrawnSo inside row p routing lines drawing inputs.tech.height (unit_nm inputs.tech)) is
+    (subst (λ n. IsDrawnSo inside row placement routing lines drawing n (unit_nm inputs.tech)) high
+    (subst (λ u. IsDrawnSo inside row placement routing lines drawing height u) nm h)))
+
+sound_drawing : (inputs : Inputs) (row : List Column) (log : Log) (routing : Routing) (lines : List ℕ) (drawing : Drawing) → AreInputs inputs → IsFound inputs row log → IsDrawnSo inputs row (placement_of row) routing lines drawing inputs.tech.height (unit_nm inputs.tech) → IsSoundDrawing inputs row routing drawing
+sound_drawing inputs row log routing lines drawing are found h = record {
+  obeys = h.obeys;
+  extracts = h.extracts.to are.pins inputs.fingers (record { sound = are.sound; arranged = found.first.arranges });
+  shows_row = h.shows.shown are.pins;
+  shows_routing = h.routed;
+  readable = h.readable;
+}
+
+pub drawn_to : (inputs inside : Inputs) (out : List ℕ) (row : List Column) (log : Log) (placement : Placement) (routing : Routing) (lines : List ℕ) (drawing : Drawing) (height unit : ℕ) (r : Result End NoMemory) → inside ≡ inputs → placement ≡ placement_of row → height ≡ inputs.tech.height → unit ≡ unit_nm inputs.tech → AreInputs inputs → IsFound inputs row log → IsRouted inputs row routing → IsDrawnSo inside row placement routing lines drawing height unit → IfOk r (IsMadeEnd inside.cell out row log routing.tracks drawing unit) → IfOk r (MakesTo inputs out)
+drawn_to inputs inside out row log placement routing lines drawing height unit r same is high nm are found routed h ends =
+    let seen = seen_so inputs inside row placement routing lines drawing height unit same is high nm h in
+    made_to inputs out row log routing lines drawing r
+    (is_made inputs row log routing lines drawing are found routed seen.least seen.fits seen.exact (sound_drawing inputs row log routing lines drawing are found seen))
+    seen.exact
     (subst (λ (i : Inputs). IfOk r (IsMadeEnd i.cell out row log routing.tracks drawing (unit_nm inputs.tech))) same (subst (λ u. IfOk r (IsMadeEnd inside.cell out row log routing.tracks drawing u)) nm ends))
 
 needed_is : (needed given least height : ℕ) → ◌≡◌ {A = DrawFault} (TooTall needed given) (TooTall least height) → (needed ≡ least) × (given ≡ height)
@@ -140,3 +184,8 @@ cyclic_so inputs inside out row log placement cycle r same is found told ends =
 
 pub named_so : (inputs inside : Inputs) → inside ≡ inputs → AreInputs inputs → IsLogName inside.cell.name
 named_so inputs inside same are = subst (λ (i : Inputs). IsLogName i.cell.name) (sym same) are.name
+
+pub readable_so : (inputs inside : Inputs) (shapes : Shapes) (unit : ℕ) → inside ≡ inputs → AreInputs inputs → 10 ≤ unit → unit ≤ 1000 → AreWithinLimits shapes.rects → AreWithin shapes → All (λ (l : Label). Contains inside.cell.nets l.name) shapes.labels → IsReadable inside.cell.name shapes unit
+readable_so inputs inside shapes unit same are least most limits within listed =
+    let seen : AreInputs inside = subst AreInputs (sym same) are in
+    readable inside.cell.nets inside.cell.name shapes unit seen.nets seen.name seen.whole least most limits within listed

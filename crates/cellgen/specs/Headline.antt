@@ -18,7 +18,9 @@ use Rattle.channel_route.specs.Routing.{IsLegal, IsTight}
 use Rattle.channel_route.specs.Told.{IsTold}
 use Rattle.scmos_rules.specs.Rules.{Obeys}
 use Rattle.scmos_rules.specs.declared.rules.Deck.TheVariants.{Plain}
+use Rattle.cell_draw.specs.Extracted.{ExtractsTo}
 use Rattle.cell_draw.specs.Frame.{needed_of, IsTooTall}
+use Rattle.cell_draw.specs.Shown.{ShowsRouting, ShowsRow}
 use Rattle.gds_read.specs.Decoding.{Decodes}
 use Rattle.cellgen.specs.declared.gather.Material.TheVariants.{Making}
 use Rattle.cellgen.specs.declared.status.Status.{Status}
@@ -80,6 +82,12 @@ pub record IsMadeCell (inputs : Inputs) (out : List ℕ) (old new : View) : Type
   pub fits : IsTooTall row routing.tracks inputs.tech.height → ⊥
   -- The shapes obey every rule of the profile.
   pub obeys : Obeys Plain (drawing_in inputs row routing lines).shapes.rects
+  -- Its devices, one for each class of gate cells, are the fingers of the folded subcircuit, net by net.
+  pub extracts : ExtractsTo inputs.cell.nets inputs.fingers (drawing_in inputs row routing lines).shapes
+  -- They stand in the columns of the row, and neighbours without a gap abut in each row that both fill.
+  pub shows_row : ShowsRow inputs.cell.nets row (drawing_in inputs row routing lines).shapes
+  -- The labels of trunks stand on the tracks of the routing.
+  pub shows_routing : ShowsRouting inputs.cell.nets inputs.cell.pins (placement_of row) (drawing_in inputs row routing lines).shapes routing
   -- The bytes are a library with one cell of that name, and these are its shapes and labels.
   pub decodes : Decodes (library_of inputs (drawing_in inputs row routing lines)) inputs.cell.name inputs.tech.lambda_nm (drawing_in inputs row routing lines).shapes
   -- They stand in `OUT.gds`, and the text of the log in `OUT.clog`.

@@ -22,7 +22,9 @@ use Rattle.scmos_rules.specs.Rules.{Obeys}
 use Rattle.scmos_rules.specs.declared.rules.Deck.TheVariants.{Plain}
 use Rattle.cell_draw.specs.declared.drawing.Drawing.{Drawing}
 use Rattle.cell_draw.specs.Drawings.{drawn_of}
+use Rattle.cell_draw.specs.Extracted.{ExtractsTo}
 use Rattle.cell_draw.specs.Frame.{needed_of, IsTooTall}
+use Rattle.cell_draw.specs.Shown.{ShowsRouting, ShowsRow}
 use Rattle.gds_write.specs.Written.{written}
 use Rattle.gds_read.specs.Decoding.{Decodes}
 use Rattle.spice_net.specs.declared.subckt.Subckt.{Subckt}
@@ -61,14 +63,17 @@ library_of inputs drawing = written inputs.cell.name drawing.shapes (unit_nm inp
 
 -- What is said of a drawn cell. Its row is the first least arrangement of the fingers, and the log is accepted
 -- and lists it. Its channel is routed legally and tightly, its lines stand at the least places, and the height is
--- enough. The shapes obey every rule, and the bytes decode, with the cell's name and the technology's lambda, to
--- these shapes.
+-- enough. The shapes obey every rule, extract net by net to the fingers, and show the row and the routing; and the
+-- bytes decode, with the cell's name and the technology's lambda, to these shapes.
 pub record IsMade (inputs : Inputs) (row : List Column) (log : Log) (routing : Routing) (xs : List ℕ) : Type 0 where
   pub found : IsFound inputs row log
   pub routed : IsRouted inputs row routing
   pub lines : AreLeastLines (placement_of row) inputs.cell.pins routing xs
   pub fits : IsTooTall row routing.tracks inputs.tech.height → ⊥
   pub obeys : Obeys Plain (drawing_in inputs row routing xs).shapes.rects
+  pub extracts : ExtractsTo inputs.cell.nets inputs.fingers (drawing_in inputs row routing xs).shapes
+  pub shows_row : ShowsRow inputs.cell.nets row (drawing_in inputs row routing xs).shapes
+  pub shows_routing : ShowsRouting inputs.cell.nets inputs.cell.pins (placement_of row) (drawing_in inputs row routing xs).shapes routing
   pub decodes : Decodes (library_of inputs (drawing_in inputs row routing xs)) inputs.cell.name inputs.tech.lambda_nm (drawing_in inputs row routing xs).shapes
 
 -- ---- what it comes to

@@ -1,14 +1,17 @@
 ghost use Rattle.std.specs.Prelude.{◌≡◌, ◌≤◌, ◌*◌, All, Contains, IfOk, IfErr, length};
-ghost use Rattle.box_geom.specs.declared.shape.Label.{Label};
+ghost use Rattle.box_geom.specs.declared.shape.Label.{Label as SomeLabel};
 ghost use Rattle.box_geom.specs.Layers.{AreWithinLimits};
 ghost use Rattle.row_place.specs.Places.{IsPlacement};
 ghost use Rattle.channel_route.specs.Routing.{IsLegal};
 ghost use Rattle.row_compact.specs.Solution.{x_of};
 ghost use Rattle.scmos_rules.specs.Rules.{Obeys};
 ghost use Rattle.scmos_rules.specs.declared.rules.Deck.TheVariants.{Plain};
+ghost use Rattle.cell_draw.specs.Bounds.{AreWithin};
 ghost use Rattle.cell_draw.specs.Drawings.{drawn_of};
+ghost use Rattle.cell_draw.specs.Extracted.{ExtractsToRow};
 ghost use Rattle.cell_draw.specs.Faults.{IsCause};
 ghost use Rattle.cell_draw.specs.Frame.{IsTooTall};
+ghost use Rattle.cell_draw.specs.Shown.{ShowsColumns, ShowsRouting};
 ghost use Rattle.cell_draw.specs.Sound.{IsSoundRow};
 ghost use Rattle.cellgen.specs.Make.{AreLeastLines};
 
@@ -62,7 +65,12 @@ pub fn draw_routed(
     ensures lines { IfOk result (λ d. AreLeastLines placement.now cell.now.pins routing.now d.lines) }
     ensures exact { IfOk result (λ d. d.drawing ≡ drawn_of cell.now.nets cell.now.pins placement.now routing.now d.lines height) }
     ensures obeys { IfOk result (λ d. Obeys Plain d.drawing.shapes.rects) }
+    ensures extracts { IfOk result (λ d. ExtractsToRow cell.now.nets cell.now.pins placement.now.row d.drawing.shapes) }
+    ensures shows { IfOk result (λ d. ShowsColumns cell.now.nets cell.now.pins placement.now.row d.drawing.shapes) }
+    ensures routed { IfOk result (λ d. ShowsRouting cell.now.nets cell.now.pins placement.now d.drawing.shapes routing.now) }
     ensures limits { IfOk result (λ d. AreWithinLimits d.drawing.shapes.rects) }
+    ensures within { IfOk result (λ d. AreWithin d.drawing.shapes) }
+    ensures named { IfOk result (λ d. All (λ (l : SomeLabel). Contains cell.now.nets l.name) d.drawing.shapes.labels) }
     ensures fits { IfOk result (λ d. IsTooTall placement.now.row routing.now.tracks height → ⊥) }
     ensures cause { IfErr result (IsCause placement.now.row routing.now.tracks height) }
 {

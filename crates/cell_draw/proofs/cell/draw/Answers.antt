@@ -1,10 +1,7 @@
 use Rattle.std.proofs.Common.{ap}
 use Rattle.cell_draw.specs.declared.drawing.Drawing.{Drawing}
 use Rattle.cell_draw.proofs.BridgeCount.{few_drawn}
-<<<<<<< HEAD
-=======
 use Rattle.cell_draw.proofs.DrawnNets.{drawn_extracts, drawn_shows, drawn_routing}
->>>>>>> draw-wip
 use Rattle.cell_draw.proofs.Draws.{drawing_obeys, drawing_named}
 use Rattle.cell_draw.proofs.cell.draw.Goals as goal
 
@@ -16,8 +13,6 @@ returns-in-Ok-clause-few c = few_drawn c.in-Ok.drawing.shapes.rects c.args.names
 
 pub returns-in-Ok-clause-named : goal.returns-in-Ok-clause-named
 returns-in-Ok-clause-named c = drawing_named c.in-Ok.drawing.shapes.labels c.args.names.now c.args.pins.now c.args.placement.now c.args.routing.now c.args.xs.now c.args.height (ap (λ (d : Drawing). d.shapes.labels) c.in-Ok.ensures.exact)
-<<<<<<< HEAD
-=======
 
 pub returns-in-Ok-clause-extracts : goal.returns-in-Ok-clause-extracts
 returns-in-Ok-clause-extracts c = drawn_extracts c.in-Ok.drawing c.args.names.now c.args.pins.now c.args.placement.now c.args.routing.now c.args.xs.now c.args.height c.in-Ok.ensures.exact c.requires.placement c.requires.row c.requires.routing c.requires.lines
@@ -27,4 +22,3 @@ returns-in-Ok-clause-shows c = drawn_shows c.in-Ok.drawing c.args.names.now c.ar
 
 pub returns-in-Ok-clause-routed : goal.returns-in-Ok-clause-routed
 returns-in-Ok-clause-routed c = drawn_routing c.in-Ok.drawing c.args.names.now c.args.pins.now c.args.placement.now c.args.routing.now c.args.xs.now c.args.height c.in-Ok.ensures.exact c.requires.placement c.requires.row c.requires.routing c.requires.lines
->>>>>>> draw-wip

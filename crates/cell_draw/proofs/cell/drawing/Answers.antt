@@ -1,9 +1,4 @@
-<<<<<<< HEAD
-use Rattle.std.proofs.Common.{◌≡◌, map, subst, sym, rules}
-use Rattle.cell_draw.specs.Bounds.{IsShapeWithin, IsLabelWithin}
-=======
 use Rattle.std.proofs.Common.{◌≡◌, map, rules}
->>>>>>> draw-wip
 use Rattle.cell_draw.specs.Drawings.{label_of}
 use Rattle.cell_draw.specs.Shapes.{shapes_of}
 use Rattle.cell_draw.proofs.Bounds.{parts_within}

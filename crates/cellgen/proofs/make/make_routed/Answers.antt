@@ -2,7 +2,7 @@ use Rattle.std.proofs.Common.{arith, subst}
 use Rattle.cell_draw.specs.declared.drawing.DrawFault.{DrawFault}
 use Rattle.cell_draw.specs.Faults.{IsCause}
 use Rattle.cellgen.specs.Inputs.{inputs_of}
-use Rattle.cellgen.proofs.Makes.{drawn_to, few_columns, few_lemmas, named_so, placed_legal, placed_row, tall_so}
+use Rattle.cellgen.proofs.Makes.{drawn_to, few_columns, few_lemmas, named_so, placed_legal, placed_row, readable_so, tall_so}
 use Rattle.cellgen.proofs.make.make_routed.Goals as goal
 
 pub draw_routed-requires-clause-row : goal.draw_routed-requires-clause-row
@@ -21,7 +21,9 @@ pub with_drawing-requires-clause-columns : goal.with_drawing-requires-clause-col
 with_drawing-requires-clause-columns c = omega (arith, few_columns c.args.inputs.now c.args.row.now c.args.log.now c.show_limits.ensures c.requires.found)
 
 pub with_drawing-requires-clause-readable : goal.with_drawing-requires-clause-readable
-with_drawing-requires-clause-readable c = ?
+with_drawing-requires-clause-readable c =
+    readable_so c.args.inputs.now (inputs_of c.inputs.inside.tech c.inputs.inside.cell c.inputs.inside.fingers) c.in-Ok.drawn.drawing.shapes c.unit_nm.result c.inputs.view_is c.show_limits.ensures c.unit_nm.ensures.least c.unit_nm.ensures.most
+    c.in-Ok.ensures.limits c.in-Ok.ensures.within c.in-Ok.ensures.named
 
 pub tall-requires-clause-name : goal.tall-requires-clause-name
 tall-requires-clause-name c = named_so c.args.inputs.now (inputs_of c.inputs.inside.tech c.inputs.inside.cell c.inputs.inside.fingers) c.inputs.view_is c.show_limits.ensures
@@ -33,7 +35,17 @@ pub returns-in-Ok : goal.returns-in-Ok
 returns-in-Ok c =
     drawn_to c.args.inputs.now (inputs_of c.inputs.inside.tech c.inputs.inside.cell c.inputs.inside.fingers) c.args.stem.now c.args.row.now c.args.log.now c.args.placement.now c.args.routing.now c.in-Ok.drawn.lines c.in-Ok.drawn.drawing c.height.result c.unit_nm.result c.with_drawing.result
     c.inputs.view_is c.requires.placement c.height.ensures.is c.unit_nm.ensures.is c.show_limits.ensures c.requires.found c.requires.routed
-    c.in-Ok.ensures.lines c.in-Ok.ensures.fits c.in-Ok.ensures.exact c.in-Ok.ensures.obeys (with_drawing-requires-clause-readable c) c.with_drawing.ensures
+    (record {
+      least = c.in-Ok.ensures.lines;
+      fits = c.in-Ok.ensures.fits;
+      exact = c.in-Ok.ensures.exact;
+      obeys = c.in-Ok.ensures.obeys;
+      extracts = c.in-Ok.ensures.extracts;
+      shows = c.in-Ok.ensures.shows;
+      routed = c.in-Ok.ensures.routed;
+      readable = with_drawing-requires-clause-readable c;
+    })
+    c.with_drawing.ensures
 
 pub returns-in-Err-TooTall : goal.returns-in-Err-TooTall
 returns-in-Err-TooTall c =
