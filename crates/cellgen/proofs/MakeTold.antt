@@ -17,12 +17,12 @@ use Rattle.cellgen.specs.declared.refusal.Refusal.{Refusal}
 use Rattle.cellgen.specs.declared.refusal.Refusal.TheVariants.{Words, Unread, Long, Tech, Spice, Fold, NoMemory}
 use Rattle.cellgen.specs.declared.status.Status.{Status}
 use Rattle.cellgen.specs.declared.status.Status.TheVariants as status
-use Rattle.cellgen.specs.Calm.{IsCalm, IsDoneOrShort}
+use Rattle.cellgen.specs.Calm.{IsCalm}
 use Rattle.cellgen.specs.declared.end.Output.{Output}
 use Rattle.cellgen.specs.Deliver.{MakesAll, Says, TellsWhole}
 use Rattle.cellgen.specs.Ends.{CallsFor, EndsTo, IsOfOutside, refused, refusal_status}
 use Rattle.cellgen.specs.Gather.{gathered}
-use Rattle.cellgen.specs.Headline.{CanBeDrawn, CanMake, IsCyclicCell, IsMadeCell, IsMake, IsSpentSearch, IsTallCell, MakesNone, WhereMakeEnds}
+use Rattle.cellgen.specs.Headline.{CanBeDrawn, FromInputs, HasCycle, IsCyclicCell, IsMadeCell, IsMake, IsOrShort, IsSpentSearch, IsTallCell, IsTooHigh, MakesNone, OfFirstLeast, WhereMakeEnds}
 use Rattle.cellgen.specs.Inputs.{Inputs}
 use Rattle.cellgen.specs.Make.{MakesTo}
 use Rattle.cellgen.specs.Make as made
@@ -121,6 +121,7 @@ drawn_so inputs out end answer old new (made.Made row log routing xs, h, is) don
   lines = xs;
   first_least = h.found.first;
   certified = h.found.solved;
+  acyclic = h.routed.acyclic;
   legal = h.routed.legal;
   tight = h.routed.tight;
   least_lines = h.lines;
@@ -172,6 +173,7 @@ tall_so inputs out end answer old new (made.Tall row log routing, h, is) done wh
   routing = routing;
   first_least = h.0.first;
   certified = h.0.solved;
+  acyclic = h.1.0.acyclic;
   legal = h.1.0.legal;
   tight = h.1.0.tight;
   tall = h.1.1;
@@ -237,18 +239,39 @@ spent_told a c form answer (Some files) told = λ make is.
 spends_less : (inputs : Inputs) (log : Log) (proved : ℕ) → ForKinds inputs.fingers (λ k. enough k ≤ inputs.tech.budget) → WithKinds inputs.fingers (λ k. IsSpent parity_value k inputs.fingers inputs.tech.budget log proved) → ⊥
 spends_less inputs log proved much (k, are, some, spent) = absurd (omega (arith, much k are some, spent.short))
 
-drawn_where : (inputs : Inputs) (out : List ℕ) (end : End) → ForKinds inputs.fingers (λ k. enough k ≤ inputs.tech.budget) → ((row : List Column) → IsFirstLeast inputs.fingers row → CanBeDrawn inputs row) → MakesTo inputs out end → end.status ≡ status.Done
-drawn_where inputs out end much can (made.Made row log routing xs, h, is) = is.status
-drawn_where inputs out end much can (made.Cyclic row log cycle, h, is) = absurd ((can row h.0.first).acyclic cycle (cycle_is (placement_of row) inputs.cell.pins cycle h.1))
-drawn_where inputs out end much can (made.Tall row log routing, h, is) = absurd ((can row h.0.first).fits routing h.1.0 h.1.1)
-drawn_where inputs out end much can (made.Unfinished proved log, h, is) = absurd (spends_less inputs log proved much h)
+drawn_where : (inputs : Inputs) (out : List ℕ) (end : End) → OfFirstLeast CanBeDrawn inputs out → MakesTo inputs out end → end.status ≡ status.Done
+drawn_where inputs out end (much, can) (made.Made row log routing xs, h, is) = is.status
+drawn_where inputs out end (much, can) (made.Cyclic row log cycle, h, is) = absurd ((can row h.0.first).acyclic cycle (cycle_is (placement_of row) inputs.cell.pins cycle h.1))
+drawn_where inputs out end (much, can) (made.Tall row log routing, h, is) = absurd ((can row h.0.first).fits routing h.1.0 h.1.1)
+drawn_where inputs out end (much, can) (made.Unfinished proved log, h, is) = absurd (spends_less inputs log proved much h)
 
-pub makes_told : (a c : View) (form : Option Form) (answer : Status) (given : Option Files) → IfSome given (λ files. IsCalm a c → Completes form files answer) → IfSome given (λ files. IsCalm a c → CanMake files form → IsDoneOrShort answer)
-makes_told a c form answer None told = tt
-makes_told a c form answer (Some files) told = λ calm (inputs, out, got, much, can). elim (told calm) [
-  | inl (end, calls, is) ↦ inl (is ∙ drawn_where inputs out end much can (subst (λ (r : Result Material Refusal). EndsTo r end) got calls))
+cyclic_where : (inputs : Inputs) (out : List ℕ) (end : End) → OfFirstLeast HasCycle inputs out → MakesTo inputs out end → end.status ≡ status.Cycle
+cyclic_where inputs out end (much, has) (made.Made row log routing xs, h, is) = absurd (h.routed.acyclic (has row h.found.first).0 (has row h.found.first).1)
+cyclic_where inputs out end (much, has) (made.Cyclic row log cycle, h, is) = is.status
+cyclic_where inputs out end (much, has) (made.Tall row log routing, h, is) = absurd (h.1.0.acyclic (has row h.0.first).0 (has row h.0.first).1)
+cyclic_where inputs out end (much, has) (made.Unfinished proved log, h, is) = absurd (spends_less inputs log proved much h)
+
+tall_where : (inputs : Inputs) (out : List ℕ) (end : End) → OfFirstLeast IsTooHigh inputs out → MakesTo inputs out end → end.status ≡ status.TooTall
+tall_where inputs out end (much, high) (made.Made row log routing xs, h, is) = absurd (h.fits ((high row h.found.first).tall routing h.routed))
+tall_where inputs out end (much, high) (made.Cyclic row log cycle, h, is) = absurd ((high row h.0.first).acyclic cycle (cycle_is (placement_of row) inputs.cell.pins cycle h.1))
+tall_where inputs out end (much, high) (made.Tall row log routing, h, is) = is.status
+tall_where inputs out end (much, high) (made.Unfinished proved log, h, is) = absurd (spends_less inputs log proved much h)
+
+settles : (a c : View) (form : Option Form) (settled answer : Status) (Says : Inputs → List ℕ → Type 0) (given : Option Files) → ((inputs : Inputs) (out : List ℕ) (end : End) → Says inputs out → MakesTo inputs out end → end.status ≡ settled) → IfSome given (λ files. IsCalm a c → Completes form files answer) → IfSome given (λ files. IsCalm a c → FromInputs files form Says → IsOrShort settled answer)
+settles a c form settled answer Says None each told = tt
+settles a c form settled answer Says (Some files) each told = λ calm (inputs, out, got, says). elim (told calm) [
+  | inl (end, calls, is) ↦ inl (is ∙ each inputs out end says (subst (λ (r : Result Material Refusal). EndsTo r end) got calls))
   | inr short ↦ inr short
 ]
+
+pub draws_told : (a c : View) (form : Option Form) (answer : Status) (given : Option Files) → IfSome given (λ files. IsCalm a c → Completes form files answer) → IfSome given (λ files. IsCalm a c → FromInputs files form (OfFirstLeast CanBeDrawn) → IsOrShort status.Done answer)
+draws_told a c form answer given told = settles a c form status.Done answer (OfFirstLeast CanBeDrawn) given drawn_where told
+
+pub meets_told : (a c : View) (form : Option Form) (answer : Status) (given : Option Files) → IfSome given (λ files. IsCalm a c → Completes form files answer) → IfSome given (λ files. IsCalm a c → FromInputs files form (OfFirstLeast HasCycle) → IsOrShort status.Cycle answer)
+meets_told a c form answer given told = settles a c form status.Cycle answer (OfFirstLeast HasCycle) given cyclic_where told
+
+pub needs_told : (a c : View) (form : Option Form) (answer : Status) (given : Option Files) → IfSome given (λ files. IsCalm a c → Completes form files answer) → IfSome given (λ files. IsCalm a c → FromInputs files form (OfFirstLeast IsTooHigh) → IsOrShort status.TooTall answer)
+needs_told a c form answer given told = settles a c form status.TooTall answer (OfFirstLeast IsTooHigh) given tall_where told
 
 -- ---- calls that make no file
 

@@ -1,6 +1,6 @@
 -- What a call of `make` leaves behind: the drawing of a cell with its evidence, or the evidence of why there is
 -- none. Files and what was said are told where the desk tells them.
-use Rattle.std.specs.Prelude.{ℕ, ◌≡◌, ◌≢◌, ◌≤◌, List, ◌++◌, codes, length, Option, Some, Ok}
+use Rattle.std.specs.Prelude.{ℕ, ◌≡◌, ◌≢◌, ◌≤◌, ◌⊎◌, List, ◌++◌, codes, length, Option, Some, Ok}
 use Rattle.cell_io.specs.Desk.{Files, View, Both}
 use Rattle.row_model.specs.declared.column.Column.{Column}
 use Rattle.row_state.specs.Parity.{parity_value}
@@ -72,6 +72,8 @@ pub record IsMadeCell (inputs : Inputs) (out : List ℕ) (old new : View) : Type
   pub first_least : IsFirstLeast inputs.fingers row
   -- The checker accepts the log, and the row that it lists is this one.
   pub certified : WithKinds inputs.fingers (λ k. IsSolved parity_value k inputs.fingers inputs.tech.budget row log)
+  -- No nets stand above each other in a ring.
+  pub acyclic : HasNoCycle (placement_of row) inputs.cell.pins
   -- Each net that needs a trunk has one, trunks of one track are apart, and each stands on the least track that is
   -- free for it.
   pub legal : IsLegal (placement_of row) inputs.cell.pins routing
@@ -118,6 +120,7 @@ pub record IsTallCell (inputs : Inputs) (out : List ℕ) (old new : View) : Type
   pub routing : Routing
   pub first_least : IsFirstLeast inputs.fingers row
   pub certified : WithKinds inputs.fingers (λ k. IsSolved parity_value k inputs.fingers inputs.tech.budget row log)
+  pub acyclic : HasNoCycle (placement_of row) inputs.cell.pins
   pub legal : IsLegal (placement_of row) inputs.cell.pins routing
   pub tight : IsTight (placement_of row) inputs.cell.pins routing
   pub tall : IsTooTall row routing.tracks inputs.tech.height
@@ -132,18 +135,30 @@ pub record IsSpentSearch (inputs : Inputs) (out : List ℕ) (old new : View) : T
   pub files : Both (HasLog out (log_text inputs.cell.name log)) old.made new.made
   pub says : Both (Says (codes "status 6 unfinished\n" ++ unfinished_text proved (length log.lemmas))) old.said new.said
 
--- ---- cells that can be drawn
+-- ---- how `make` has to end
+
+-- the budget is enough for the fingers, and so it is of their first least row
+abbrev pub OfFirstLeast : (Inputs → List Column → Type 0) → Inputs → List ℕ → Type 0
+OfFirstLeast Says inputs out =
+    ForKinds inputs.fingers (λ k. enough k ≤ inputs.tech.budget) × ((row : List Column) → IsFirstLeast inputs.fingers row → Says inputs row)
 
 -- no nets of the row stand above each other in a ring, and its height is enough
 pub record CanBeDrawn (inputs : Inputs) (row : List Column) : Type 0 where
   pub acyclic : HasNoCycle (placement_of row) inputs.cell.pins
   pub fits : (routing : Routing) → IsRouted inputs row routing → IsTooTall row routing.tracks inputs.tech.height → ⊥
 
--- the inputs are there and accepted, the budget is enough for their fingers, and their first least row can be drawn
-abbrev pub CanMake : Files → Option words.Form → Type 0
-CanMake files form = FromInputs files form (λ inputs out.
-    ForKinds inputs.fingers (λ k. enough k ≤ inputs.tech.budget)
-    × ((row : List Column) → IsFirstLeast inputs.fingers row → CanBeDrawn inputs row))
+-- some do
+abbrev pub HasCycle : Inputs → List Column → Type 0
+HasCycle inputs row = (cycle : List Above) × IsCycle (placement_of row) inputs.cell.pins cycle
+
+-- none do, but the row needs more than the height
+pub record IsTooHigh (inputs : Inputs) (row : List Column) : Type 0 where
+  pub acyclic : HasNoCycle (placement_of row) inputs.cell.pins
+  pub tall : (routing : Routing) → IsRouted inputs row routing → IsTooTall row routing.tracks inputs.tech.height
+
+-- with this status, or memory ran out
+abbrev pub IsOrShort : Status → Status → Type 0
+IsOrShort settled answer = (answer ≡ settled) ⊎ (answer ≡ status.NoMemory)
 
 -- ---- calls that make no file
 

@@ -7,7 +7,7 @@ ghost use Rattle.cellgen.specs.Check.{HoldsAcceptedLog, IsCheck};
 ghost use Rattle.cellgen.specs.Deliver.{Tells, TellsWhole};
 ghost use Rattle.cellgen.specs.Ends.{CallsFor, IsOfOutside, MayEnd, is_status_of};
 ghost use Rattle.cellgen.specs.Gather.{read_by};
-ghost use Rattle.cellgen.specs.Headline.{CanMake, IsCyclicCell, IsMadeCell, IsMake, IsSpentSearch, IsTallCell, MakesNone, WhereMakeEnds};
+ghost use Rattle.cellgen.specs.Headline.{CanBeDrawn, FromInputs, HasCycle, IsCyclicCell, IsMadeCell, IsMake, IsOrShort, IsSpentSearch, IsTallCell, IsTooHigh, MakesNone, OfFirstLeast, WhereMakeEnds};
 ghost use Rattle.cellgen.specs.Plan.{HasEnough};
 ghost use Rattle.cellgen.specs.Sources.{Lacks};
 ghost use Rattle.cellgen.specs.Words.{asked};
@@ -107,9 +107,13 @@ pub fn run<D: Desk>(alloc: Global, words: &[String], desk: &mut D) -> Status
     ensures spent { IfSome (D.view desk.old).given (λ files. WhereMakeEnds files (asked words.now) result
         status.Unfinished (λ inputs out. IsSpentSearch inputs out (D.view desk.old) (D.view desk.new))) }
 
-    // Where the first least row can be drawn and the budget is enough, it is drawn, or memory ran out.
-    ensures makes { IfCalm (D.view desk.old) (D.view desk.new) (λ files.
-        CanMake files (asked words.now) → IsDoneOrShort result) }
+    // Where the budget is enough, it ends so exactly where the first least row calls for it, or memory ran out.
+    ensures draws { IfCalm (D.view desk.old) (D.view desk.new) (λ files.
+        FromInputs files (asked words.now) (OfFirstLeast CanBeDrawn) → IsOrShort status.Done result) }
+    ensures meets { IfCalm (D.view desk.old) (D.view desk.new) (λ files.
+        FromInputs files (asked words.now) (OfFirstLeast HasCycle) → IsOrShort status.Cycle result) }
+    ensures needs { IfCalm (D.view desk.old) (D.view desk.new) (λ files.
+        FromInputs files (asked words.now) (OfFirstLeast IsTooHigh) → IsOrShort status.TooTall result) }
 
     // A plan whose budget is enough is done, or memory ran out.
     ensures planned { IfCalm (D.view desk.old) (D.view desk.new) (λ files.
