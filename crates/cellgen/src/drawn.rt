@@ -63,14 +63,17 @@ pub fn draw_routed(
     requires routing { IsLegal placement.now cell.now.pins routing.now }
     requires height { height ≤ 4000 }
     ensures lines { IfOk result (λ d. AreLeastLines placement.now cell.now.pins routing.now d.lines) }
-    ensures exact { IfOk result (λ d. d.drawing ≡ drawn_of cell.now.nets cell.now.pins placement.now routing.now d.lines height) }
+    ensures exact { IfOk result (λ d. d.drawing
+        ≡ drawn_of cell.now.nets cell.now.pins placement.now routing.now d.lines height) }
     ensures obeys { IfOk result (λ d. Obeys Plain d.drawing.shapes.rects) }
     ensures extracts { IfOk result (λ d. ExtractsToRow cell.now.nets cell.now.pins placement.now.row d.drawing.shapes) }
     ensures shows { IfOk result (λ d. ShowsColumns cell.now.nets cell.now.pins placement.now.row d.drawing.shapes) }
-    ensures routed { IfOk result (λ d. ShowsRouting cell.now.nets cell.now.pins placement.now d.drawing.shapes routing.now) }
+    ensures routed { IfOk result (λ d.
+        ShowsRouting cell.now.nets cell.now.pins placement.now d.drawing.shapes routing.now) }
     ensures limits { IfOk result (λ d. AreWithinLimits d.drawing.shapes.rects) }
     ensures within { IfOk result (λ d. AreWithin d.drawing.shapes) }
-    ensures named { IfOk result (λ d. All (λ (l : SomeLabel). Contains cell.now.nets l.name) d.drawing.shapes.labels) }
+    ensures named { IfOk result (λ d.
+        All (λ (l : SomeLabel). Contains cell.now.nets l.name) d.drawing.shapes.labels) }
     ensures fits { IfOk result (λ d. IsTooTall placement.now.row routing.now.tracks height → ⊥) }
     ensures cause { IfErr result (IsCause placement.now.row routing.now.tracks height) }
 {

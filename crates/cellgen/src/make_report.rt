@@ -17,7 +17,8 @@ fn put_below(
     next: Option<&Above>,
     first: Option<&Above>,
 ) -> Result<(), NoMemory>
-    ensures { OnOk result (out.new ≡ out.old ++ below_text nets.now (option_copied next.entry) (option_copied first.entry)) }
+    ensures { OnOk result (out.new
+        ≡ out.old ++ below_text nets.now (option_copied next.entry) (option_copied first.entry)) }
 {
     match (next, first) {
         (Some(above), _) | (None, Some(above)) => put_net(out, nets, above.net),
