@@ -1,5 +1,5 @@
 -- The inverter of the tests is a sound row.
-use Rattle.std.proofs.Common.{ℕ, ◌≡◌, ◌≢◌, ◌<◌, ◌≤◌, List, [], ◌∷◌, Some, codes, false, inl, inr, refl, sym, ap, subst, ◌∙◌, get_or, arith, AllPairs, Any}
+use Rattle.std.proofs.Common.{ℕ, ◌≡◌, ◌≢◌, ◌<◌, ◌≤◌, List, [], ◌∷◌, Some, codes, false, inl, inr, refl, sym, ap, subst, ◌∙◌, get_or, arith, All, AllPairs, Any, replicate}
 use Rattle.std.proofs.lemmas.Bool.{cases_eq}
 use Rattle.std.proofs.lemmas.List.Elements.{All-nil, All-cons, All-replicate}
 use Rattle.std.proofs.lemmas.List.Kept.{AllPairs-cons}
@@ -20,10 +20,10 @@ use Rattle.row_model.specs.Arrangement.{IsColumn, IsArrangement}
 use Rattle.cell_draw.specs.Small.{HasWidths}
 use Rattle.cell_draw.specs.Sound.{IsSoundRow}
 
-abbrev net : ℕ → NetNo
+abbrev pub net : ℕ → NetNo
 net n = record { 0 = n }
 
-abbrev finger : Row → ℕ → ℕ → ℕ → Finger
+abbrev pub finger : Row → ℕ → ℕ → ℕ → Finger
 finger row lo hi width = record { row = row; gate = net 0; lo = net lo; hi = net hi; width = width }
 
 abbrev standing : Row → ℕ → ℕ → ℕ → Placed
@@ -44,14 +44,14 @@ names = codes "a" ∷ codes "y" ∷ codes "vdd" ∷ codes "gnd" ∷ []
 abbrev fingers : Fingers
 fingers = record { nets = 4; p = finger P 1 2 20 ∷ []; n = finger N 1 3 10 ∷ [] }
 
-other_net : (a b : ℕ) → (a ≡ b → ⊥) → net a ≢ net b
+pub other_net : (a b : ℕ) → (a ≡ b → ⊥) → net a ≢ net b
 other_net a b ne e = ne (ap (λ (n : NetNo). n.0) e)
 
 -- names of different first letters
-other_name : (a b : List ℕ) (x y : ℕ) → get_or a 0 0 ≡ x → get_or b 0 0 ≡ y → (x ≡ y → ⊥) → a ≢ b
+pub other_name : (a b : List ℕ) (x y : ℕ) → get_or a 0 0 ≡ x → get_or b 0 0 ≡ y → (x ≡ y → ⊥) → a ≢ b
 other_name a b x y first second ne e = ne (sym first ∙ (ap (λ zs. get_or zs 0 0) e ∙ second))
 
-differ : AllPairs (λ (a b : List ℕ). a ≢ b) names
+pub differ : AllPairs (λ (a b : List ℕ). a ≢ b) names
 differ =
     let a : List ℕ = codes "a" in
     let y : List ℕ = codes "y" in
@@ -65,11 +65,11 @@ differ =
     (AllPairs-cons (λ (u v : List ℕ). u ≢ v) vdd (gnd ∷ []) (all_one (λ v. vdd ≢ v) gnd (other_name vdd gnd 118 103 refl refl (omega arith)))
     (AllPairs-cons (λ (u v : List ℕ). u ≢ v) gnd [] (All-nil (λ v. gnd ≢ v)) (pairs_none (λ (u v : List ℕ). u ≢ v)))))
 
-no_rail : IsRail pins (net 0) → ⊥
+pub no_rail : IsRail pins (net 0) → ⊥
 no_rail (inl e) = other_net 0 2 (omega arith) e
 no_rail (inr e) = other_net 0 3 (omega arith) e
 
-met : (n : NetNo) → n.0 < 4 → (IsRail pins n → ⊥) → Any (Meets n) (finger P 1 2 20 ∷ [])
+pub met : (n : NetNo) → n.0 < 4 → (IsRail pins n → ⊥) → Any (Meets n) (finger P 1 2 20 ∷ [])
 met n low signal = elim (cases_eq n.0 0) [
   | inl gate ↦ any_at (Meets n) (finger P 1 2 20 ∷ []) (finger P 1 2 20) (contains_here (finger P 1 2 20) []) (inl (ap net (sym gate)))
   | inr other ↦ elim (cases_eq n.0 1) [

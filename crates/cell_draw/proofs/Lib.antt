@@ -17,6 +17,7 @@ mod Draws
 mod Extracts
 mod FingersPlaced
 mod Found
+mod Halves
 mod Inverter
 mod LabelPieces
 mod LabelsPlaced

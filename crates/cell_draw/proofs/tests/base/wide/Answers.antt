@@ -1,0 +1,9 @@
+use Rattle.std.proofs.Common.{◌≡◌, replicate, rules}
+use Rattle.cell_draw.proofs.Inverter.{column, many_columns, many_widths}
+use Rattle.cell_draw.proofs.tests.base.wide.Goals as goal
+
+pub returns-clause-columns : goal.returns-clause-columns
+returns-clause-columns c = many_columns c.extend.new.self (search rules)
+
+pub returns-clause-widths : goal.returns-clause-widths
+returns-clause-widths c = many_widths c.extend.new.self (search rules)
