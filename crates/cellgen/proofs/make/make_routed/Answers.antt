@@ -22,7 +22,7 @@ with_drawing-requires-clause-columns c = omega (arith, few_columns c.args.inputs
 
 pub with_drawing-requires-clause-readable : goal.with_drawing-requires-clause-readable
 with_drawing-requires-clause-readable c =
-    readable_so c.args.inputs.now (inputs_of c.inputs.inside.tech c.inputs.inside.cell c.inputs.inside.fingers) c.in-Ok.drawn.drawing.shapes c.unit_nm.result c.inputs.view_is c.show_limits.ensures c.unit_nm.ensures.least c.unit_nm.ensures.most
+    readable_so c.args.inputs.now (inputs_of c.inputs.inside.tech c.inputs.inside.cell c.inputs.inside.fingers) c.in-Ok.drawn.drawing.shapes c.unit_nm-unit_nm.result c.inputs.view_is c.show_limits.ensures c.unit_nm-unit_nm.ensures.least c.unit_nm-unit_nm.ensures.most
     c.in-Ok.ensures.limits c.in-Ok.ensures.within c.in-Ok.ensures.named
 
 pub tall-requires-clause-name : goal.tall-requires-clause-name
@@ -33,8 +33,8 @@ tall-requires-clause-few c = omega (arith, few_lemmas c.args.inputs.now c.args.r
 
 pub returns-in-Ok : goal.returns-in-Ok
 returns-in-Ok c =
-    drawn_to c.args.inputs.now (inputs_of c.inputs.inside.tech c.inputs.inside.cell c.inputs.inside.fingers) c.args.stem.now c.args.row.now c.args.log.now c.args.placement.now c.args.routing.now c.in-Ok.drawn.lines c.in-Ok.drawn.drawing c.height.result c.unit_nm.result c.with_drawing.result
-    c.inputs.view_is c.requires.placement c.height.ensures.is c.unit_nm.ensures.is c.show_limits.ensures c.requires.found c.requires.routed
+    drawn_to c.args.inputs.now (inputs_of c.inputs.inside.tech c.inputs.inside.cell c.inputs.inside.fingers) c.args.stem.now c.args.row.now c.args.log.now c.args.placement.now c.args.routing.now c.in-Ok.drawn.lines c.in-Ok.drawn.drawing c.height.result c.unit_nm-unit_nm.result c.with_drawing.result
+    c.inputs.view_is c.requires.placement c.height.ensures.is c.unit_nm-unit_nm.ensures.is c.show_limits.ensures c.requires.found c.requires.routed
     (record {
       least = c.in-Ok.ensures.lines;
       fits = c.in-Ok.ensures.fits;
@@ -43,7 +43,9 @@ returns-in-Ok c =
       extracts = c.in-Ok.ensures.extracts;
       shows = c.in-Ok.ensures.shows;
       routed = c.in-Ok.ensures.routed;
-      readable = with_drawing-requires-clause-readable c;
+      readable =
+          readable_so c.args.inputs.now (inputs_of c.inputs.inside.tech c.inputs.inside.cell c.inputs.inside.fingers) c.in-Ok.drawn.drawing.shapes c.unit_nm-unit_nm.result c.inputs.view_is c.show_limits.ensures c.unit_nm-unit_nm.ensures.least c.unit_nm-unit_nm.ensures.most
+          c.in-Ok.ensures.limits c.in-Ok.ensures.within c.in-Ok.ensures.named;
     })
     c.with_drawing.ensures
 
