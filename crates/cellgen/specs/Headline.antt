@@ -48,15 +48,15 @@ WhereMakeEnds files form answer settled Says = IsMake form → answer ≡ settle
 
 -- ---- files
 
--- the log and the drawing are there, and all other files are as before
-pub record HasLogAndDrawing (out log drawing : List ℕ) (old new : Files) : Type 0 where
-  pub log : new (out ++ codes ".clog") ≡ Some log
-  pub drawing : new (out ++ codes ".gds") ≡ Some drawing
+-- the text of the log and the bytes of the drawing are there, and all other files are as before
+pub record HasLogAndDrawing (out text bytes : List ℕ) (old new : Files) : Type 0 where
+  pub log : new (out ++ codes ".clog") ≡ Some text
+  pub drawing : new (out ++ codes ".gds") ≡ Some bytes
   pub others : (name : List ℕ) → name ≢ out ++ codes ".clog" → name ≢ out ++ codes ".gds" → new name ≡ old name
 
--- the log is there, and all other files are as before
-pub record HasLog (out log : List ℕ) (old new : Files) : Type 0 where
-  pub log : new (out ++ codes ".clog") ≡ Some log
+-- the text of the log is there, and all other files are as before
+pub record HasLog (out text : List ℕ) (old new : Files) : Type 0 where
+  pub log : new (out ++ codes ".clog") ≡ Some text
   pub others : (name : List ℕ) → name ≢ out ++ codes ".clog" → new name ≡ old name
 
 -- ---- a cell that was drawn

@@ -1,21 +1,22 @@
 -- The lines of a drawn cell, of a cycle, and of a cell that is too tall. Lengths are in grid units of half a lambda
 -- each.
-use Rattle.std.specs.Prelude.{ℕ, ◌+◌, List, [], ◌++◌, slice_get, flat_map, codes, decimal, Option, Some, None}
+use Rattle.std.specs.Prelude.{ℕ, ◌+◌, nat_lt, if◌then◌else◌, List, [], ◌++◌, length, slice_get, flat_map, codes, decimal, Option, Some, None}
 use Rattle.std.specs.List.{enumerate_from}
 use Rattle.channel_route.specs.declared.routing.Above.{Above}
 use Rattle.cell_num.specs.Lines.{count_line, pair_line}
 use Rattle.cellgen.specs.Report.{name_of}
 
--- the net below an entry of a cycle: that of the next one, or behind the last that of the first
-abbrev pub below_text : List (List ℕ) → Option Above → Option Above → List ℕ
-below_text nets (Some next) first = name_of nets next.net
-below_text nets None (Some first) = name_of nets first.net
-below_text nets None None = []
+-- the place of the entry below another: the next one, or behind the last the first
+abbrev pub below : ℕ → ℕ → ℕ
+below count at = if nat_lt (at + 1) count then at + 1 else 0
+
+abbrev pub entry_text : List (List ℕ) → Option Above → List ℕ
+entry_text nets None = []
+entry_text nets (Some above) = name_of nets above.net
 
 -- an entry's net, and the one below it
 abbrev pub nets_text : List (List ℕ) → List Above → ℕ × Above → List ℕ
-nets_text nets cycle numbered =
-    name_of nets numbered.1.net ++ codes " above " ++ below_text nets (slice_get cycle (numbered.0 + 1)) (slice_get cycle 0)
+nets_text nets cycle numbered = name_of nets numbered.1.net ++ codes " above " ++ entry_text nets (slice_get cycle (below (length cycle) numbered.0))
 
 abbrev pub above_text : List (List ℕ) → List Above → ℕ × Above → List ℕ
 above_text nets cycle numbered = nets_text nets cycle numbered ++ codes " at line " ++ decimal numbered.1.line ++ codes "\n"

@@ -1,6 +1,5 @@
-ghost use Rattle.std.specs.Prelude.{◌≡◌, ◌<◌, ◌≤◌, ◌++◌, codes, IfOk, OnOk, length};
-ghost use Rattle.std.specs.Option.{option_copied};
-ghost use Rattle.cellgen.specs.MakeReport.{below_text, nets_text, above_text, cycle_text, drawn_text, tall_text};
+ghost use Rattle.std.specs.Prelude.{◌≡◌, ◌<◌, ◌≤◌, ◌++◌, codes, IfOk, OnOk, length, slice_get};
+ghost use Rattle.cellgen.specs.MakeReport.{below, entry_text, nets_text, above_text, cycle_text, drawn_text, tall_text};
 ghost use Rattle.cellgen.specs.Report.{plan_text, unfinished_text};
 
 use crate::report::{put_net, put_plan, put_unfinished};
@@ -11,18 +10,19 @@ use row_model::Arrangement;
 use spice_net::Subckt;
 use std::alloc::Global;
 
-fn put_below(
-    out: &mut Bytes,
-    nets: &Names,
-    next: Option<&Above>,
-    first: Option<&Above>,
-) -> Result<(), NoMemory>
-    ensures { OnOk result (out.new
-        ≡ out.old ++ below_text nets.now (option_copied next.entry) (option_copied first.entry)) }
+fn below(count: usize, at: usize) -> usize
+    requires { at < count }
+    ensures { result ≡ below count at }
 {
-    match (next, first) {
-        (Some(above), _) | (None, Some(above)) => put_net(out, nets, above.net),
-        (None, None) => Ok(()),
+    if at + 1 < count { at + 1 } else { 0 }
+}
+
+fn put_entry(out: &mut Bytes, nets: &Names, cycle: &[Above], at: usize) -> Result<(), NoMemory>
+    ensures { OnOk result (out.new ≡ out.old ++ entry_text nets.now (slice_get cycle.now at)) }
+{
+    match cycle.get(at) {
+        Some(above) => put_net(out, nets, above.net),
+        None => Ok(()),
     }
 }
 
@@ -38,7 +38,7 @@ fn put_nets(
 {
     put_net(out, nets, above.net)?;
     out.extend(b" above ")?;
-    put_below(out, nets, cycle.get(at + 1), cycle.get(0))
+    put_entry(out, nets, cycle, below(cycle.len(), at))
 }
 
 fn put_above(
