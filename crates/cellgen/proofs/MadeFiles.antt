@@ -68,7 +68,7 @@ two_made out log drawing [] old new is made = cc
 two_made out log drawing (file ∷ []) old new is made =
     let none : [] ≡ (out ++ codes ".gds", drawing) ∷ [] = rest_are (named file) (out ++ codes ".clog", log) [] ((out ++ codes ".gds", drawing) ∷ []) is in
     cc
-two_made out log drawing (file ∷ other ∷ []) old new is (mid, sets, last, others, same) =
+two_made out log drawing (file ∷ other ∷ []) old new is (mid, sets, (last, others, same)) =
     let rest : named other ∷ [] ≡ (out ++ codes ".gds", drawing) ∷ [] = rest_are (named file) (out ++ codes ".clog", log) (named other ∷ []) ((out ++ codes ".gds", drawing) ∷ []) is in
     two_set out log drawing old mid new
     (set_so file (out ++ codes ".clog") log old mid (first_is (named file) (out ++ codes ".clog", log) (named other ∷ []) ((out ++ codes ".gds", drawing) ∷ []) is) sets)

@@ -131,8 +131,8 @@ drawn_so inputs out end answer old new (made.Made row log routing xs, h, is) don
   shows_row = h.shows_row;
   shows_routing = h.shows_routing;
   decodes = h.decodes;
-  files = both_made out _ _ end.files old.made new.made is.files whole.1.0;
-  says = said_so _ end.report old.said new.said is.report whole.1.1;
+  files = both_made out _ _ end.files old.made new.made is.files whole.1;
+  says = said_so _ end.report old.said new.said is.report whole.2;
 }
 drawn_so inputs out end answer old new (made.Cyclic row log cycle, h, is) done whole =
     let clash : status.Done ≡ status.Cycle = sym done ∙ (whole.0 ∙ is.status) in
@@ -153,8 +153,8 @@ cyclic_so inputs out end answer old new (made.Cyclic row log cycle, h, is) done 
   certified = h.0.solved;
   is_cycle = cycle_is (placement_of row) inputs.cell.pins cycle h.1;
   is_told = h.1;
-  files = log_made out _ end.files old.made new.made is.files whole.1.0;
-  says = said_so _ end.report old.said new.said is.report whole.1.1;
+  files = log_made out _ end.files old.made new.made is.files whole.1;
+  says = said_so _ end.report old.said new.said is.report whole.2;
 }
 cyclic_so inputs out end answer old new (made.Made row log routing xs, h, is) done whole =
     let clash : status.Cycle ≡ status.Done = sym done ∙ (whole.0 ∙ is.status) in
@@ -173,12 +173,12 @@ tall_so inputs out end answer old new (made.Tall row log routing, h, is) done wh
   routing = routing;
   first_least = h.0.first;
   certified = h.0.solved;
-  acyclic = h.1.0.acyclic;
-  legal = h.1.0.legal;
-  tight = h.1.0.tight;
-  tall = h.1.1;
-  files = log_made out _ end.files old.made new.made is.files whole.1.0;
-  says = said_so _ end.report old.said new.said is.report whole.1.1;
+  acyclic = h.1.acyclic;
+  legal = h.1.legal;
+  tight = h.1.tight;
+  tall = h.2;
+  files = log_made out _ end.files old.made new.made is.files whole.1;
+  says = said_so _ end.report old.said new.said is.report whole.2;
 }
 tall_so inputs out end answer old new (made.Made row log routing xs, h, is) done whole =
     let clash : status.TooTall ≡ status.Done = sym done ∙ (whole.0 ∙ is.status) in
@@ -195,8 +195,8 @@ spent_so inputs out end answer old new (made.Unfinished proved log, h, is) done 
   log = log;
   proved = proved;
   spent = h;
-  files = log_made out _ end.files old.made new.made is.files whole.1.0;
-  says = said_so _ end.report old.said new.said is.report whole.1.1;
+  files = log_made out _ end.files old.made new.made is.files whole.1;
+  says = said_so _ end.report old.said new.said is.report whole.2;
 }
 spent_so inputs out end answer old new (made.Made row log routing xs, h, is) done whole =
     let clash : status.Unfinished ≡ status.Done = sym done ∙ (whole.0 ∙ is.status) in
@@ -242,13 +242,13 @@ spends_less inputs log proved much (k, are, some, spent) = absurd (omega (arith,
 drawn_where : (inputs : Inputs) (out : List ℕ) (end : End) → OfFirstLeast CanBeDrawn inputs out → MakesTo inputs out end → end.status ≡ status.Done
 drawn_where inputs out end (much, can) (made.Made row log routing xs, h, is) = is.status
 drawn_where inputs out end (much, can) (made.Cyclic row log cycle, h, is) = absurd ((can row h.0.first).acyclic cycle (cycle_is (placement_of row) inputs.cell.pins cycle h.1))
-drawn_where inputs out end (much, can) (made.Tall row log routing, h, is) = absurd ((can row h.0.first).fits routing h.1.0 h.1.1)
+drawn_where inputs out end (much, can) (made.Tall row log routing, h, is) = absurd ((can row h.0.first).fits routing h.1 h.2)
 drawn_where inputs out end (much, can) (made.Unfinished proved log, h, is) = absurd (spends_less inputs log proved much h)
 
 cyclic_where : (inputs : Inputs) (out : List ℕ) (end : End) → OfFirstLeast HasCycle inputs out → MakesTo inputs out end → end.status ≡ status.Cycle
 cyclic_where inputs out end (much, has) (made.Made row log routing xs, h, is) = absurd (h.routed.acyclic (has row h.found.first).0 (has row h.found.first).1)
 cyclic_where inputs out end (much, has) (made.Cyclic row log cycle, h, is) = is.status
-cyclic_where inputs out end (much, has) (made.Tall row log routing, h, is) = absurd (h.1.0.acyclic (has row h.0.first).0 (has row h.0.first).1)
+cyclic_where inputs out end (much, has) (made.Tall row log routing, h, is) = absurd (h.1.acyclic (has row h.0.first).0 (has row h.0.first).1)
 cyclic_where inputs out end (much, has) (made.Unfinished proved log, h, is) = absurd (spends_less inputs log proved much h)
 
 tall_where : (inputs : Inputs) (out : List ℕ) (end : End) → OfFirstLeast IsTooHigh inputs out → MakesTo inputs out end → end.status ≡ status.TooTall
