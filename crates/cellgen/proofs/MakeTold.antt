@@ -113,6 +113,15 @@ make_told files form answer old new make of (inr (end, calls, whole)) =
 said_so : (text report : List ℕ) (old new : Option (List ℕ)) → report ≡ text → Both (Says report) old new → Both (Says text) old new
 said_so text report old new is said = subst (λ (t : List ℕ). Both (Says t) old new) is said
 
+done_no_cycle : status.Done ≡ status.Cycle → ⊥
+done_no_cycle e = cc
+
+done_no_tall : status.Done ≡ status.TooTall → ⊥
+done_no_tall e = cc
+
+done_no_unfinished : status.Done ≡ status.Unfinished → ⊥
+done_no_unfinished e = cc
+
 drawn_so : (inputs : Inputs) (out : List ℕ) (end : End) (answer : Status) (old new : View) → MakesTo inputs out end → answer ≡ status.Done → TellsWhole end answer old new → IsMadeCell inputs out old new
 drawn_so inputs out end answer old new (made.Made row log routing xs, h, is) done whole = record {
   row = row;
@@ -135,14 +144,11 @@ drawn_so inputs out end answer old new (made.Made row log routing xs, h, is) don
   says = said_so _ end.report old.said new.said is.report whole.2;
 }
 drawn_so inputs out end answer old new (made.Cyclic row log cycle, h, is) done whole =
-    let clash : status.Done ≡ status.Cycle = sym done ∙ (whole.0 ∙ is.status) in
-    cc
+    absurd (done_no_cycle (sym done ∙ (whole.0 ∙ is.status)))
 drawn_so inputs out end answer old new (made.Tall row log routing, h, is) done whole =
-    let clash : status.Done ≡ status.TooTall = sym done ∙ (whole.0 ∙ is.status) in
-    cc
+    absurd (done_no_tall (sym done ∙ (whole.0 ∙ is.status)))
 drawn_so inputs out end answer old new (made.Unfinished proved log, h, is) done whole =
-    let clash : status.Done ≡ status.Unfinished = sym done ∙ (whole.0 ∙ is.status) in
-    cc
+    absurd (done_no_unfinished (sym done ∙ (whole.0 ∙ is.status)))
 
 cyclic_so : (inputs : Inputs) (out : List ℕ) (end : End) (answer : Status) (old new : View) → MakesTo inputs out end → answer ≡ status.Cycle → TellsWhole end answer old new → IsCyclicCell inputs out old new
 cyclic_so inputs out end answer old new (made.Cyclic row log cycle, h, is) done whole = record {
