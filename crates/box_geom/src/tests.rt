@@ -1,6 +1,9 @@
 ghost use Rattle.std.specs.Prelude.{◌≤◌};
 
-use crate::{Cuts, LabelList, Layer, Rect, Shape, ShapeList, Shapes, covered, facing_gap, touches};
+use crate::{
+    Block, Cuts, LabelList, Layer, Place, Rect, Region, Shape, ShapeList, Shapes, covered,
+    facing_gap, touches,
+};
 use std::alloc::Global;
 use std::test::Fail;
 
@@ -86,5 +89,80 @@ fn cells_and_cuts(rt: HostRuntime) -> Result<(), Fail> {
     let cuts = Cuts::new(rt.alloc(), &shapes)?;
     assert_eq!(rt; cuts.xs.as_slice(), [0, 4, 10].as_slice());
     assert_eq!(rt; cuts.ys.as_slice(), [-2, 0, 4, 8].as_slice());
+    Ok(())
+}
+
+fn block(x1: i32, y1: i32, x2: i32, y2: i32) -> Block {
+    Block { x1, y1, x2, y2 }
+}
+
+// Metal1 with three rectangles that make an angle, and a bar of poly over it.
+fn angle_and_bar(alloc: Global) -> Result<Shapes, Fail> {
+    let mut rects = ShapeList::new(alloc);
+    rects.push(Shape {
+        layer: Layer::Metal1,
+        rect: Rect {
+            x1: 0,
+            y1: 0,
+            x2: 10,
+            y2: 2,
+        },
+    })?;
+    rects.push(Shape {
+        layer: Layer::Metal1,
+        rect: Rect {
+            x1: 0,
+            y1: 2,
+            x2: 2,
+            y2: 8,
+        },
+    })?;
+    rects.push(Shape {
+        layer: Layer::Metal1,
+        rect: Rect {
+            x1: 2,
+            y1: 2,
+            x2: 4,
+            y2: 5,
+        },
+    })?;
+    rects.push(Shape {
+        layer: Layer::Poly,
+        rect: Rect {
+            x1: 1,
+            y1: 4,
+            x2: 6,
+            y2: 6,
+        },
+    })?;
+    Ok(Shapes {
+        rects,
+        labels: LabelList::new(alloc),
+    })
+}
+
+#[test]
+fn regions_put_together(rt: HostRuntime) -> Result<(), Fail> {
+    let alloc = rt.alloc();
+    let shapes = angle_and_bar(alloc)?;
+    let angle = Region::of(alloc, &shapes, Layer::Metal1)?;
+    let bar = Region::of(alloc, &shapes, Layer::Poly)?;
+    assert_eq!(rt;
+        angle.blocks(),
+        [block(0, 0, 10, 2), block(0, 2, 4, 5), block(0, 5, 2, 8)].as_slice(),
+        "rectangles that touch along x are one"
+    );
+    assert_eq!(rt;
+        angle.both(alloc, &bar)?.blocks(),
+        [block(1, 4, 4, 5), block(1, 5, 2, 6)].as_slice()
+    );
+    assert_eq!(rt;
+        bar.minus(alloc, &angle)?.blocks(),
+        [block(4, 4, 6, 5), block(2, 5, 6, 6)].as_slice()
+    );
+    assert_eq!(rt; bar.turned(alloc)?.blocks(), [block(4, 1, 6, 6)].as_slice());
+    let first = bar.grown(alloc, 2)?.first_cell();
+    assert_eq!(rt; first, Some(Place { x: -1, y: 2 }));
+    assert!(rt; bar.minus(alloc, &bar)?.is_empty());
     Ok(())
 }

@@ -4,21 +4,16 @@ use Rattle.std.specs.List.{filter, cons_option}
 use Rattle.std.proofs.lemmas.Bool.{cases_Bool, and_parts, eqb-true}
 use Rattle.std.proofs.lemmas.List.{length-append}
 use Rattle.std.proofs.lemmas.List.Elements.{All-contains, All-head, All-tail, Contains-append_left, Contains-append_right, Contains-append_cases}
-use Rattle.cell_num.specs.declared.net.NetNo.{NetNo}
 use Rattle.cell_num.specs.declared.net.Pins.{Pins}
-use Rattle.cell_num.proofs.Lists.{contains_none, contains_cons, contains_get, all_from_contains}
-use Rattle.cell_num.proofs.In.{in_map}
+use Rattle.cell_num.proofs.Lists.{contains_none, contains_cons, all_from_contains}
 use Rattle.cell_num.proofs.Pairs.{Some', some_from_any, pairs_head, pairs_tail}
 use Rattle.cell_num.proofs.Permutations.{Split, split_cons}
-use Rattle.row_model.specs.declared.column.Column.{Column}
 use Rattle.row_model.specs.declared.column.Placed.{Placed}
-use Rattle.row_model.specs.Gaps.{left_net, right_net}
 use Rattle.row_place.specs.declared.placement.NodePlace.{NodePlace}
-use Rattle.row_place.specs.declared.placement.GatePlace.{GatePlace}
 use Rattle.row_place.specs.declared.placement.Placement.{Placement}
 use Rattle.row_place.specs.declared.placement.Seat.{Seat}
-use Rattle.row_place.specs.Places.{IsPlacement, IsNode, IsGate}
-use Rattle.row_place.specs.Trunks.{lines_of, IsSpan}
+use Rattle.row_place.specs.Places.{IsPlacement}
+use Rattle.row_place.specs.Trunks.{IsSpan}
 use Rattle.row_place.specs.Units.{seats_of}
 use Rattle.row_place.proofs.Bounds.{few_nodes, length_from_rising}
 use Rattle.row_place.proofs.Seated.{seat_count}
@@ -36,8 +31,7 @@ use Rattle.cell_draw.specs.Shapes.{frame_shapes, finger, reach_shapes, contact_s
 use Rattle.cell_draw.specs.Layouts.{strip_of, strips_at, contact_of, gate_at, has_own_via, bar_of, width_of, laid_out, layout_of}
 use Rattle.cell_draw.specs.Frame.{frame_of}
 use Rattle.cell_draw.specs.Sound.{IsSoundRow}
-use Rattle.cell_draw.proofs.BridgeRow.{net_named}
-use Rattle.cell_draw.proofs.BridgeBars.{filtered}
+use Rattle.cell_draw.proofs.NetsNamed.{place_low}
 
 split_there : {X : Type 0} (xs : List X) (x : X) → Contains xs x → Split x xs
 split_there [] x c = absurd (contains_none x c)
@@ -68,52 +62,12 @@ covered key (suc n) xs each =
     record { it = u.it; there = stays xs t.it u.it s u.there (λ same. omega (arith, less, t.holds, u.holds, ap key same)); holds = u.holds }) in
     omega (arith, rest, ap length s.is, length-append s.before s.after, length-append s.before (t.it ∷ s.after))
 
--- the net of a place is that of a finger
-left_named : (x : Placed) → x.finger.lo.0 < 256 → x.finger.hi.0 < 256 → (left_net x).0 < 256
-left_named x lo hi = elim (cases_Bool x.flipped) [
-  | inl turned ↦ let e : left_net x ≡ x.finger.hi = rw turned refl in subst (λ (n : NetNo). n.0 < 256) (sym e) hi
-  | inr straight ↦ let e : left_net x ≡ x.finger.lo = rw straight refl in subst (λ (n : NetNo). n.0 < 256) (sym e) lo
-]
-
-right_named : (x : Placed) → x.finger.lo.0 < 256 → x.finger.hi.0 < 256 → (right_net x).0 < 256
-right_named x lo hi = elim (cases_Bool x.flipped) [
-  | inl turned ↦ let e : right_net x ≡ x.finger.lo = rw turned refl in subst (λ (n : NetNo). n.0 < 256) (sym e) lo
-  | inr straight ↦ let e : right_net x ≡ x.finger.hi = rw straight refl in subst (λ (n : NetNo). n.0 < 256) (sym e) hi
-]
-
-node_net : (names : List (List ℕ)) (pins : Pins) (row : List Column) → IsSoundRow names pins row → (node : NodePlace) → IsNode row node → node.net.0 < 256
-node_net names pins row s node is =
-    let named = net_named names pins row s node.row is.column is.finger (contains_get row is.at is.column is.stands) is.filled in
-    elim is.end [
-      | inl left ↦ subst (λ (n : NetNo). n.0 < 256) (sym left.1) (left_named is.finger named.1 named.2)
-      | inr right ↦ subst (λ (n : NetNo). n.0 < 256) (sym right.1) (right_named is.finger named.1 named.2)
-    ]
-
-gate_net : (names : List (List ℕ)) (pins : Pins) (row : List Column) → IsSoundRow names pins row → (gate : GatePlace) → IsGate row gate → gate.net.0 < 256
-gate_net names pins row s gate is =
-    let named = net_named names pins row s is.side is.column is.finger (contains_get row is.at is.column is.stands) is.filled in
-    subst (λ (n : NetNo). n.0 < 256) (sym is.net) named.0
-
--- a net with a line is one of the names
-line_named : (names : List (List ℕ)) (pins : Pins) (p : Placement) → IsPlacement p → IsSoundRow names pins p.row → (net : NetNo) (line : ℕ) → Contains (lines_of p net) line → net.0 < 256
-line_named names pins p is s net line c =
-    elim (Contains-append_cases (map (λ (z : NodePlace). z.line) (filter (λ (z : NodePlace). z.net.0 == net.0) p.nodes)) (map (λ (z : GatePlace). z.line) (filter (λ (z : GatePlace). z.net.0 == net.0) p.gates)) line c) [
-      | inl node ↦
-          let i = in_map (λ (z : NodePlace). z.line) (filter (λ (z : NodePlace). z.net.0 == net.0) p.nodes) line node in
-          let k = filtered (λ (z : NodePlace). z.net.0 == net.0) p.nodes i.of i.listed in
-          omega (arith, eqb-true i.of.net.0 net.0 k.is, node_net names pins p.row s i.of ((is.nodes i.of).0 k.there))
-      | inr gate ↦
-          let i = in_map (λ (z : GatePlace). z.line) (filter (λ (z : GatePlace). z.net.0 == net.0) p.gates) line gate in
-          let k = filtered (λ (z : GatePlace). z.net.0 == net.0) p.gates i.of i.listed in
-          omega (arith, eqb-true i.of.net.0 net.0 k.is, gate_net names pins p.row s i.of ((is.gates i.of).0 k.there))
-    ]
-
 pub few_trunks : (names : List (List ℕ)) (pins : Pins) (p : Placement) (r : Routing) → IsPlacement p → IsSoundRow names pins p.row → IsLegal p pins r → length r.trunks ≤ 256
 few_trunks names pins p r is s legal =
     length_from_rising (λ (t : Trunk). t.net.0) r.trunks 256 legal.order
     (all_from_contains (λ (t : Trunk). t.net.0 < 256) r.trunks (λ t there.
     let span : IsSpan p t.net t.left t.right = All-contains (λ (u : Trunk). IsSpan p u.net u.left u.right) r.trunks t legal.spans there in
-    line_named names pins p is s t.net t.left span.begins))
+    omega (arith, place_low names pins p is s t.net t.left span.begins, s.sound.named, s.few_nets)))
 
 -- each track has a trunk
 pub few_tracks : (names : List (List ℕ)) (pins : Pins) (p : Placement) (r : Routing) → IsPlacement p → IsSoundRow names pins p.row → IsLegal p pins r → r.tracks ≤ 256

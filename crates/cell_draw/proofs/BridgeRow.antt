@@ -1,5 +1,5 @@
 -- What sound fingers give of a row: widths, gates that are signals, ends on the right rail.
-use Rattle.std.proofs.Common.{ℕ, ◌≡◌, ◌≤◌, ◌<◌, List, [], ◌∷◌, Option, Some, None, fold, inl, inr, refl, ap, ◌∙◌, arith, All, Contains, option_map}
+use Rattle.std.proofs.Common.{ℕ, ◌≡◌, ◌≤◌, List, [], ◌∷◌, Option, Some, None, fold, inl, inr, refl, ap, ◌∙◌, arith, All, Contains, option_map}
 use Rattle.std.proofs.lemmas.List.Elements.{All-contains}
 use Rattle.std.proofs.lemmas.List.Sorted.{Contains-permutation, IsPermutation-sym}
 use Rattle.std.proofs.Math.Nat.{le-max_left, le-max_right}
@@ -8,7 +8,7 @@ use Rattle.cell_num.specs.declared.net.Pins.{Pins}
 use Rattle.cell_num.specs.declared.finger.Row.{Row}
 use Rattle.cell_num.specs.declared.finger.Row.TheVariants.{P, N}
 use Rattle.cell_num.specs.declared.finger.Finger.{Finger}
-use Rattle.cell_num.specs.Fingers.{HasNoEnd, IsFinger}
+use Rattle.cell_num.specs.Fingers.{HasNoEnd}
 use Rattle.cell_num.proofs.Lists.{some_same, contains_none, contains_cons, contains_filter_map, all_from_contains}
 use Rattle.row_model.specs.declared.column.Placed.{Placed}
 use Rattle.row_model.specs.declared.column.Column.{Column}
@@ -73,12 +73,3 @@ other_rail P pins = pins.gnd
 pub no_end : (names : List (List ℕ)) (pins : Pins) (row : List Column) → IsSoundRow names pins row → (side : Row) (c : Column) (x : Placed) → Contains row c → place side c ≡ Some x → HasNoEnd (other_rail side pins) x.finger
 no_end names pins row s N c x there e = All-contains (HasNoEnd pins.vdd) s.fingers.n x.finger s.sound.n_ends (n_finger names pins row s c x there e)
 no_end names pins row s P c x there e = All-contains (HasNoEnd pins.gnd) s.fingers.p x.finger s.sound.p_ends (p_finger names pins row s c x there e)
-
--- nets of fingers are named
-pub net_named : (names : List (List ℕ)) (pins : Pins) (row : List Column) → IsSoundRow names pins row → (side : Row) (c : Column) (x : Placed) → Contains row c → place side c ≡ Some x → (x.finger.gate.0 < 256) × (x.finger.lo.0 < 256) × (x.finger.hi.0 < 256)
-net_named names pins row s N c x there e =
-    let f = All-contains (IsFinger N s.fingers.nets) s.fingers.n x.finger s.sound.n (n_finger names pins row s c x there e) in
-    (omega (arith, f.gate, s.few_nets), omega (arith, f.order, f.ends, s.few_nets), omega (arith, f.ends, s.few_nets))
-net_named names pins row s P c x there e =
-    let f = All-contains (IsFinger P s.fingers.nets) s.fingers.p x.finger s.sound.p (p_finger names pins row s c x there e) in
-    (omega (arith, f.gate, s.few_nets), omega (arith, f.order, f.ends, s.few_nets), omega (arith, f.ends, s.few_nets))

@@ -13,7 +13,6 @@ use Rattle.cell_num.specs.Fingers.{IsFinger, Meets, HasNoEnd, AreSound}
 use Rattle.cell_num.proofs.Lists.{all_one, all_two, contains_here}
 use Rattle.cell_num.proofs.Pairs.{any_at, pairs_one, pairs_append}
 use Rattle.row_model.specs.declared.column.Column.{Column}
-use Rattle.row_model.specs.declared.column.Placed.{Placed}
 use Rattle.row_model.specs.Arrangement.{IsColumn, IsArrangement}
 use Rattle.cell_draw.specs.Sound.{IsSoundRow}
 use Rattle.cell_draw.proofs.Inverter.{net, finger, names as four_names, differ, other_net, other_name, met}

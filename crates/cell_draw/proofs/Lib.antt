@@ -32,6 +32,7 @@ mod NetsJoined
 mod NetsKinds
 mod NetsLinks
 mod NetsLow
+mod NetsNamed
 mod NetsPlaces
 mod NetsRouted
 mod NetsWhole

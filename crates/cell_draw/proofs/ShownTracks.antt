@@ -22,7 +22,7 @@ use Rattle.cell_draw.specs.Shown.{ShowsTrack, ShowsRouting}
 use Rattle.cell_draw.proofs.BridgeTracks.{has_trunk, span_of, trunk_is}
 use Rattle.cell_draw.proofs.BridgeFrom.{IsDrawn}
 use Rattle.cell_draw.proofs.NamesPlaced.{shapes, in_range}
-use Rattle.cell_draw.proofs.NetsLow.{place_low}
+use Rattle.cell_draw.proofs.NetsNamed.{place_low}
 
 -- the tag of a net with a trunk stands on it
 trunk_tag : (pins : Pins) (p : Placement) (r : Routing) (xs : List ℕ) (f : Frame) (net : NetNo) (t : Trunk) → (IsRail pins net → ⊥) → trunk_of r.trunks net ≡ Some t → tag_of pins f p.nodes r.trunks xs (gates_on f r.trunks xs (seats_of p.row)) net ≡ Some (metal_tag (x_of xs t.left) (track_y f t.track) net)

@@ -21,8 +21,8 @@ one_found name (one ∷ other ∷ more) records e = absurd cc
 pub is_cell : (bytes name : List ℕ) (lambda : ℕ) (shapes : Shapes) → IsBytes bytes → Decodes bytes name lambda shapes → IsCell bytes name lambda shapes
 unfolding decoded
 is_cell bytes name lambda shapes fits e =
-    let a = bind_ok (first_pass_of bytes) (λ end. one_of name (found_in bytes name) >>= λ records. drawn (grid_in bytes lambda) (elements_of records)) shapes e in
-    let b = bind_ok (one_of name (found_in bytes name)) (λ records. drawn (grid_in bytes lambda) (elements_of records)) shapes a.2 in
+    let a = bind_ok (first_pass_of bytes) (λ end. one_of name (found_in bytes name) >>= λ records. drawn (grid_in bytes lambda) 0 (elements_of records)) shapes e in
+    let b = bind_ok (one_of name (found_in bytes name)) (λ records. drawn (grid_in bytes lambda) 0 (elements_of records)) shapes a.2 in
     record {
       end = a.0;
       records = b.0;

@@ -1,5 +1,5 @@
 -- What is written is read back.
-use Rattle.std.proofs.Common.{ℕ, ◌≡◌, ◌*◌, List, Result, ap, ◌∙◌}
+use Rattle.std.proofs.Common.{ℕ, ◌≡◌, ◌*◌, List, Result, ap, ◌∙◌, arith}
 use Rattle.box_geom.specs.declared.shape.Shapes.{Shapes}
 use Rattle.gds_record.specs.declared.types.RecordType.TheVariants as record_type
 use Rattle.gds_record.specs.Records.{Item, Stream}
@@ -23,7 +23,7 @@ pub round_trip : (name : List ℕ) (shapes : Shapes) (unit : ℕ) → IsReadable
 unfolding decoded
 round_trip name shapes unit is =
     let bytes : List ℕ = written name shapes unit in
-    ap (λ (r : Result ℕ GdsFault). r >>= λ end. one_of name (found_in bytes name) >>= λ records. drawn (grid_in bytes (2 * unit)) (elements_of records)) (written_passes name shapes unit is.named is.labels)
-    ∙ (ap (λ (r : Result (List Item) GdsFault). r >>= λ records. drawn (grid_in bytes (2 * unit)) (elements_of records)) (written_found name shapes unit is.named is.labels is.named_whole)
-    ∙ (ap (λ (n : ℕ). drawn (record { picometres = n; lambda_nm = 2 * unit }) (elements_of (body name shapes unit))) (nanometre name shapes unit is)
-    ∙ shapes_drawn unit shapes.rects shapes.labels _ is.enough is.rects is.limits is.labels is.labels_whole))
+    ap (λ (r : Result ℕ GdsFault). r >>= λ end. one_of name (found_in bytes name) >>= λ records. drawn (grid_in bytes (2 * unit)) 0 (elements_of records)) (written_passes name shapes unit is.named is.labels)
+    ∙ (ap (λ (r : Result (List Item) GdsFault). r >>= λ records. drawn (grid_in bytes (2 * unit)) 0 (elements_of records)) (written_found name shapes unit is.named is.labels is.named_whole)
+    ∙ (ap (λ (n : ℕ). drawn (record { picometres = n; lambda_nm = 2 * unit }) 0 (elements_of (body name shapes unit))) (nanometre name shapes unit is)
+    ∙ shapes_drawn unit 0 shapes.rects shapes.labels _ is.enough (omega (arith, is.few)) is.rects is.limits is.labels is.labels_whole))

@@ -1,7 +1,7 @@
 -- The numbers of a written element are read back: its layer, and its coordinates in grid units.
-use Rattle.std.proofs.Common.{ℕ, ◌≡◌, ◌*◌, ◌^◌, ◌<◌, ◌≤◌, true, false, int_lt, Some, ℤ, pos, neg_ℤ, unsigned_abs, ◌*ℤ◌, ◌≤ℤ◌, ◌<ℤ◌, refl, sym, ap, ◌∙◌, arith, mul-le-mul, FitsSigned}
+use Rattle.std.proofs.Common.{ℕ, ◌≡◌, ◌*◌, ◌/◌, ◌^◌, List, [], ◌∷◌, map, ◌<◌, ◌≤◌, true, false, int_lt, Some, ℤ, pos, neg_ℤ, unsigned_abs, ◌*ℤ◌, ◌≤ℤ◌, ◌<ℤ◌, refl, ap, ◌∙◌, arith, mul-le-mul, FitsSigned}
 use Rattle.std.specs.Int.{w32, from_be_bytes, to_be_bytes, cast_signed, cast_unsigned, int_div_euclid, int_rem_euclid}
-use Rattle.std.proofs.lemmas.Bool.{eq-eqb, ne_eqb}
+use Rattle.std.specs.List.{range_with_len}
 use Rattle.std.proofs.lemmas.Nat.{from_be_bytes-to_be_bytes_4}
 use Rattle.std.proofs.lemmas.Int.{ints, to_z-of_z, unsigned_abs-mul}
 use Rattle.std.proofs.Math.Facts.{Fits-of_z}
@@ -11,13 +11,15 @@ use Rattle.box_geom.specs.declared.layer.Layer.TheVariants as layer
 use Rattle.box_geom.specs.declared.shape.Shape.{Shape}
 use Rattle.box_geom.specs.declared.shape.Label.{Label}
 use Rattle.gds_read.specs.declared.units.Grid.{Grid}
-use Rattle.gds_read.specs.declared.element.Point.{Point}
-use Rattle.gds_read.specs.Units.{limited_to_grid, scaled_by, step_of_grid, whole_units_of, floor_units_of, in_order, ends_of}
+use Rattle.gds_read.specs.declared.point.Point.{Point}
+use Rattle.gds_read.specs.Units.{limited_to_grid, scaled_by, step_of_grid, two_steps, whole_units_of, floor_units_of, in_order}
 use Rattle.gds_record.specs.Layers.{layer_number, layer_numbered}
-use Rattle.gds_read.specs.Elements.{short_of, point_at, is_round, are_corners, across_of, upward_of, rectangle_of, spot_of}
+use Rattle.gds_read.specs.Points.{point_at, points_of}
+use Rattle.gds_read.specs.Areas.{span_of, area_of, side_of, rectangle_of}
+use Rattle.gds_read.specs.Elements.{short_of, spot_of}
 use Rattle.gds_write.specs.Written.{short, long, point, corners, Fits, IsWritableShape, IsWritableLabel}
 use Rattle.gds_write.proofs.Pieces.{corners_length}
-use Rattle.gds_read.proofs.RoundTripExact.{scaled_exact, exact_rem, exact_div}
+use Rattle.gds_read.proofs.RoundTripExact.{scaled_exact, halves_exact, exact_rem, exact_div}
 
 pub layer_back : (l : Layer) → layer_numbered (short_of (short (layer_number l))) ≡ Some l
 layer_back layer.Well = refl
@@ -55,9 +57,6 @@ some_step unit some = omega (arith, some)
 div_back : (unit : ℕ) (z : ℤ) → 0 < unit → int_div_euclid (scaled_by (grid unit) (z *ℤ pos unit)) (step_of_grid (grid unit)) ≡ z
 div_back unit z some = ap (λ (y : ℤ). int_div_euclid y (pos (500 * (2 * unit)))) (scaled_exact z unit some) ∙ exact_div z (500 * (2 * unit)) (some_step unit some)
 
-rem_back : (unit : ℕ) (z : ℤ) → 0 < unit → int_rem_euclid (scaled_by (grid unit) (z *ℤ pos unit)) (step_of_grid (grid unit)) ≡ pos 0
-rem_back unit z some = ap (λ (y : ℤ). int_rem_euclid y (pos (500 * (2 * unit)))) (scaled_exact z unit some) ∙ exact_rem z (500 * (2 * unit)) (some_step unit some)
-
 -- a number within the limits of a drawing
 pub record IsLimited (z : ℤ) : Type 0 where
   pub least : neg_ℤ (pos 1000000000) ≤ℤ z
@@ -69,78 +68,77 @@ limited_back z is =
     let below : int_lt (pos 1000000000) z ≡ false = grind (arith, ints) in
     rw (above, below) refl
 
-whole_back : (unit : ℕ) (z : ℤ) → 0 < unit → IsLimited z → whole_units_of (grid unit) (z *ℤ pos unit) ≡ Some z
-whole_back unit z some is = rw (rem_back unit z some, div_back unit z some) (limited_back z is)
+-- halves of a file unit
+halves_div_back : (unit : ℕ) (z : ℤ) → 0 < unit → int_div_euclid (scaled_by (grid unit) (pos 2 *ℤ (z *ℤ pos unit))) (two_steps (grid unit)) ≡ z
+halves_div_back unit z some = ap (λ (y : ℤ). int_div_euclid y (pos (1000 * (2 * unit)))) (halves_exact z unit some) ∙ exact_div z (1000 * (2 * unit)) (let l : 0 < 1000 * (2 * unit) = omega (arith, some) in l)
+
+halves_rem_back : (unit : ℕ) (z : ℤ) → 0 < unit → int_rem_euclid (scaled_by (grid unit) (pos 2 *ℤ (z *ℤ pos unit))) (two_steps (grid unit)) ≡ pos 0
+halves_rem_back unit z some = ap (λ (y : ℤ). int_rem_euclid y (pos (1000 * (2 * unit)))) (halves_exact z unit some) ∙ exact_rem z (1000 * (2 * unit)) (let l : 0 < 1000 * (2 * unit) = omega (arith, some) in l)
+
+whole_back : (unit : ℕ) (z : ℤ) → 0 < unit → IsLimited z → whole_units_of (grid unit) (pos 2 *ℤ (z *ℤ pos unit)) ≡ Some z
+whole_back unit z some is = rw (halves_rem_back unit z some, halves_div_back unit z some) (limited_back z is)
 
 floor_back : (unit : ℕ) (z : ℤ) → 0 < unit → IsLimited z → floor_units_of (grid unit) (z *ℤ pos unit) ≡ Some z
 floor_back unit z some is = rw (div_back unit z some) (limited_back z is)
 
--- different numbers have different words
-differ : (unit : ℕ) (a b : ℤ) → 0 < unit → Fits unit a → Fits unit b → a <ℤ b → word unit a ≡ word unit b → ⊥
-differ unit a b some fits_a fits_b less same =
-    let products : a *ℤ pos unit ≡ b *ℤ pos unit = sym (number_back unit a fits_a) ∙ (ap (λ (n : ℕ). cast_signed w32 n) same ∙ number_back unit b fits_b) in
-    let equal : a ≡ b = sym (div_back unit a some) ∙ (ap (λ (y : ℤ). int_div_euclid (scaled_by (grid unit) y) (step_of_grid (grid unit))) products ∙ div_back unit b some) in
-    omega (arith, ints)
-
 -- ---- the corners of a rectangle
 
-round : (x1 y1 x2 y2 : ℕ) → (x1 ≡ x2 → ⊥) → (y1 ≡ y2 → ⊥) → is_round (record { x = x1; y = y1 }) (record { x = x1; y = y2 }) (record { x = x2; y = y2 }) (record { x = x2; y = y1 }) (record { x = x1; y = y1 }) ≡ true
-round x1 y1 x2 y2 wide high = rw (eq-eqb x1 x1 refl, eq-eqb y1 y1 refl, eq-eqb x2 x2 refl, eq-eqb y2 y2 refl, ne_eqb x1 x2 wide, ne_eqb y1 y2 high) refl
+abbrev point_in : ℕ → ℤ → ℤ → Point
+point_in unit x y = record { x = x *ℤ pos unit; y = y *ℤ pos unit }
 
 -- the points that are read of the corners that are written
 pub record AreRead (unit : ℕ) (r : Rectangle) : Type 0 where
-  pub first : point_at 0 (corners unit r) ≡ record { x = word unit r.x1; y = word unit r.y1 }
-  pub second : point_at 8 (corners unit r) ≡ record { x = word unit r.x1; y = word unit r.y2 }
-  pub third : point_at 16 (corners unit r) ≡ record { x = word unit r.x2; y = word unit r.y2 }
-  pub fourth : point_at 24 (corners unit r) ≡ record { x = word unit r.x2; y = word unit r.y1 }
-  pub last : point_at 32 (corners unit r) ≡ record { x = word unit r.x1; y = word unit r.y1 }
+  pub first : point_at 0 (corners unit r) ≡ point_in unit r.x1 r.y1
+  pub second : point_at 8 (corners unit r) ≡ point_in unit r.x1 r.y2
+  pub third : point_at 16 (corners unit r) ≡ point_in unit r.x2 r.y2
+  pub fourth : point_at 24 (corners unit r) ≡ point_in unit r.x2 r.y1
+  pub last : point_at 32 (corners unit r) ≡ point_in unit r.x1 r.y1
 
-a_point : (a b x y : ℕ) → a ≡ x → b ≡ y → ◌≡◌ {A = Point} (record { x = a; y = b }) (record { x = x; y = y })
+a_point : (a b x y : ℤ) → a ≡ x → b ≡ y → ◌≡◌ {A = Point} (record { x = a; y = b }) (record { x = x; y = y })
 a_point a b x y e f = rw (e, f) refl
 
 are_read : (unit : ℕ) (s : Shape) → IsWritableShape unit s → AreRead unit s.rect
 unfolding long point corners
 are_read unit s fits =
-    let x1 = word_back unit s.rect.x1 fits.x1 in
-    let y1 = word_back unit s.rect.y1 fits.y1 in
-    let x2 = word_back unit s.rect.x2 fits.x2 in
-    let y2 = word_back unit s.rect.y2 fits.y2 in
+    let x1 = signed_back unit s.rect.x1 fits.x1 in
+    let y1 = signed_back unit s.rect.y1 fits.y1 in
+    let x2 = signed_back unit s.rect.x2 fits.x2 in
+    let y2 = signed_back unit s.rect.y2 fits.y2 in
     record { first = a_point _ _ _ _ x1 y1; second = a_point _ _ _ _ x1 y2; third = a_point _ _ _ _ x2 y2; fourth = a_point _ _ _ _ x2 y1; last = a_point _ _ _ _ x1 y1 }
 
-same_round : (a b c d e f g h i j : Point) → a ≡ f → b ≡ g → c ≡ h → d ≡ i → e ≡ j → is_round a b c d e ≡ is_round f g h i j
-same_round a b c d e f g h i j p q r s t = rw (p, q, r, s, t) refl
+five : (a b c d e f g h i j : Point) → a ≡ f → b ≡ g → c ≡ h → d ≡ i → e ≡ j → a ∷ b ∷ c ∷ d ∷ e ∷ [] ≡ f ∷ g ∷ h ∷ i ∷ j ∷ []
+five a b c d e f g h i j p q r s t = rw (p, q, r, s, t) refl
 
-pub corners_back : (unit : ℕ) (s : Shape) → 0 < unit → IsWritableShape unit s → IsRectangle s.rect → are_corners (corners unit s.rect) ≡ true
-unfolding are_corners
-corners_back unit s some fits is =
+-- the walk round a rectangle in file units
+abbrev pub walk_round : ℕ → Rectangle → List Point
+walk_round unit r = point_in unit r.x1 r.y1 ∷ point_in unit r.x1 r.y2 ∷ point_in unit r.x2 r.y2 ∷ point_in unit r.x2 r.y1 ∷ point_in unit r.x1 r.y1 ∷ []
+
+five_points : (unit : ℕ) (r : Rectangle) → points_of (corners unit r) ≡ point_at 0 (corners unit r) ∷ point_at 8 (corners unit r) ∷ point_at 16 (corners unit r) ∷ point_at 24 (corners unit r) ∷ point_at 32 (corners unit r) ∷ []
+five_points unit r = ap (λ (n : ℕ). map (λ i. point_at (8 * i) (corners unit r)) (range_with_len 0 (n / 8))) (corners_length unit r)
+
+pub points_back : (unit : ℕ) (s : Shape) → IsWritableShape unit s → points_of (corners unit s.rect) ≡ walk_round unit s.rect
+points_back unit s fits =
     let r = are_read unit s fits in
-    let wide : word unit s.rect.x1 ≡ word unit s.rect.x2 → ⊥ = differ unit s.rect.x1 s.rect.x2 some fits.x1 fits.x2 is.proper.wide in
-    let high : word unit s.rect.y1 ≡ word unit s.rect.y2 → ⊥ = differ unit s.rect.y1 s.rect.y2 some fits.y1 fits.y2 is.proper.high in
-    rw (corners_length unit s.rect) (same_round _ _ _ _ _ _ _ _ _ _ r.first r.second r.third r.fourth r.last ∙ round (word unit s.rect.x1) (word unit s.rect.y1) (word unit s.rect.x2) (word unit s.rect.y2) wide high)
+    five_points unit s.rect ∙ five _ _ _ _ _ _ _ _ _ _ r.first r.second r.third r.fourth r.last
 
 in_order_back : (a b : ℤ) → a <ℤ b → in_order a b ≡ Some (record { low = a; high = b })
 in_order_back a b less = let e : int_lt a b ≡ true = grind (arith, ints) in rw e refl
 
-ends_back : (unit : ℕ) (a b : ℤ) → 0 < unit → IsLimited a → IsLimited b → a <ℤ b → ends_of (whole_units_of (grid unit) (a *ℤ pos unit)) (whole_units_of (grid unit) (b *ℤ pos unit)) ≡ Some (record { low = a; high = b })
-ends_back unit a b some la lb less = rw (whole_back unit a some la, whole_back unit b some lb) (in_order_back a b less)
+side_back : (unit : ℕ) (a b : ℤ) → 0 < unit → IsLimited a → IsLimited b → a <ℤ b → side_of (grid unit) (span_of (a *ℤ pos unit) (b *ℤ pos unit)) ≡ Some (record { low = a; high = b })
+side_back unit a b some la lb less = rw (whole_back unit a some la, whole_back unit b some lb) (in_order_back a b less)
 
-across_back : (unit : ℕ) (s : Shape) → 0 < unit → IsWritableShape unit s → IsRectangle s.rect → across_of (grid unit) (corners unit s.rect) ≡ Some (record { low = s.rect.x1; high = s.rect.x2 })
-unfolding across_of long point corners
-across_back unit s some fits is =
-    let low : IsLimited s.rect.x1 = omega (arith, ints) in
-    let high : IsLimited s.rect.x2 = omega (arith, ints) in
-    rw (signed_back unit s.rect.x1 fits.x1, signed_back unit s.rect.x2 fits.x2) (ends_back unit s.rect.x1 s.rect.x2 some low high is.proper.wide)
+-- the rectangle in file units
+abbrev pub scaled_up : ℕ → Rectangle → Rectangle
+scaled_up unit r = record { x1 = r.x1 *ℤ pos unit; y1 = r.y1 *ℤ pos unit; x2 = r.x2 *ℤ pos unit; y2 = r.y2 *ℤ pos unit }
 
-upward_back : (unit : ℕ) (s : Shape) → 0 < unit → IsWritableShape unit s → IsRectangle s.rect → upward_of (grid unit) (corners unit s.rect) ≡ Some (record { low = s.rect.y1; high = s.rect.y2 })
-unfolding upward_of long point corners
-upward_back unit s some fits is =
-    let low : IsLimited s.rect.y1 = omega (arith, ints) in
-    let high : IsLimited s.rect.y2 = omega (arith, ints) in
-    rw (signed_back unit s.rect.y1 fits.y1, signed_back unit s.rect.y2 fits.y2) (ends_back unit s.rect.y1 s.rect.y2 some low high is.proper.high)
-
-pub rectangle_back : (unit : ℕ) (s : Shape) → 0 < unit → IsWritableShape unit s → IsRectangle s.rect → rectangle_of (grid unit) (corners unit s.rect) ≡ Some s.rect
-unfolding rectangle_of
-rectangle_back unit s some fits is = rw (across_back unit s some fits is, upward_back unit s some fits is) refl
+pub rectangle_back : (unit : ℕ) (r : Rectangle) → 0 < unit → IsRectangle r → rectangle_of (grid unit) (area_of (scaled_up unit r)) ≡ Some r
+unfolding rectangle_of area_of
+rectangle_back unit r some is =
+    let x1 : IsLimited r.x1 = omega (arith, ints) in
+    let x2 : IsLimited r.x2 = omega (arith, ints) in
+    let y1 : IsLimited r.y1 = omega (arith, ints) in
+    let y2 : IsLimited r.y2 = omega (arith, ints) in
+    rw (side_back unit r.x1 r.x2 some x1 x2 is.proper.wide, side_back unit r.y1 r.y2 some y1 y2 is.proper.high) refl
 
 -- ---- the point of a label
 

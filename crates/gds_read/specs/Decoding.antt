@@ -1,6 +1,5 @@
 -- What the bytes of a library say of one structure: what its elements draw, or the first fault.
 use Rattle.std.specs.Prelude.{ℕ, ◌≡◌, ◌==◌, ◌⊎◌, List, [], ◌∷◌, ◌++◌, length, Result, Ok, Err, if◌then◌else◌}
-use Rattle.std.specs.List.{AllByRecursion}
 use Rattle.box_geom.specs.declared.shape.Shapes.{Shapes}
 use Rattle.gds_record.specs.declared.types.RecordType.TheVariants as record_type
 use Rattle.gds_record.specs.Records.{Item, items_from}
@@ -31,7 +30,7 @@ unfoldable pub decoded : List ℕ → List ℕ → ℕ → Result Shapes GdsFaul
 decoded bytes name lambda =
     first_pass_of bytes
     >>= λ end. one_of name (found_in bytes name)
-    >>= λ records. drawn (grid_in bytes lambda) (elements_of records)
+    >>= λ records. drawn (grid_in bytes lambda) 0 (elements_of records)
 
 abbrev pub Decodes : List ℕ → List ℕ → ℕ → Shapes → Type 0
 Decodes bytes name lambda shapes = decoded bytes name lambda ≡ Ok shapes
@@ -51,21 +50,18 @@ pub record IsCell (bytes name : List ℕ) (lambda : ℕ) (shapes : Shapes) : Typ
   pub records : List Item
   pub library : IsLibrary bytes end
   pub one : found_in bytes name ≡ records ∷ []
-  pub draws : drawn (grid_in bytes lambda) (elements_of records) ≡ Ok shapes
+  pub draws : drawn (grid_in bytes lambda) 0 (elements_of records) ≡ Ok shapes
 
--- it is drawn without a fault
-pub record IsDrawn (grid : Grid) (e : Element) : Type 0 where
-  pub shapes : Shapes
-  pub is : drawn_by grid e e.kind ≡ Ok shapes
-
--- the fault of the first element that has one
+-- The first element that has a fault: those before it are drawn without one, and so many rectangles
+-- stand before it.
 pub record IsFirstFaulty (grid : Grid) (elements : List Element) (f : GdsFault) : Type 0 where
   pub before : List Element
+  pub shapes : Shapes
   pub faulty : Element
   pub behind : List Element
   pub is : elements ≡ before ++ (faulty ∷ behind)
-  pub drawn_before : AllByRecursion (IsDrawn grid) before
-  pub fault : drawn_by grid faulty faulty.kind ≡ Err f
+  pub drawn_before : drawn grid 0 before ≡ Ok shapes
+  pub fault : drawn_by grid (length shapes.rects) faulty faulty.kind ≡ Err f
 
 -- the bytes are a library, but no structure has the name
 pub record HasNoCell (bytes name : List ℕ) (f : GdsFault) : Type 0 where

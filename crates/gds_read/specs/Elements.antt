@@ -1,24 +1,29 @@
 -- What the elements of a structure draw.
-use Rattle.std.specs.Prelude.{ℕ, ◌≡◌, ◌+◌, ◌*◌, ◌==◌, ◌&&◌, ◌||◌, not, is_some, Bool, ℤ, List, [], ◌∷◌, ◌++◌, length, take, drop, find, Option, Some, None, Result, Ok, Err, if◌then◌else◌}
-use Rattle.std.specs.Int.{w32, from_be_bytes, cast_signed}
-use Rattle.box_geom.specs.Rectangle.{Rectangle}
+use Rattle.std.specs.Prelude.{ℕ, ◌≡◌, ◌+◌, ◌*◌, ◌==◌, not, is_some, nat_lt, ℤ, List, [], ◌∷◌, ◌++◌, length, map, find, option_map, Option, Some, None, Result, Ok, Err, if◌then◌else◌}
 use Rattle.box_geom.specs.declared.layer.Layer.{Layer}
 use Rattle.box_geom.specs.declared.shape.Shape.{Shape}
 use Rattle.box_geom.specs.declared.shape.Shapes.{Shapes}
 use Rattle.gds_record.specs.declared.types.RecordType.{RecordType}
 use Rattle.gds_record.specs.declared.types.RecordType.TheVariants as record_type
 use Rattle.gds_record.specs.Layers.{layer_numbered}
-use Rattle.gds_record.specs.Types.{type_numbered}
-use Rattle.gds_record.specs.Records.{Item}
+use Rattle.gds_record.specs.Types.{number_of, type_numbered}
+use Rattle.gds_record.specs.Records.{Item, item_of, items_from}
+use Rattle.gds_record.specs.declared.record.GdsRec.{GdsRec}
 use Rattle.gds_read.specs.declared.fault.GdsFault.{GdsFault}
 use Rattle.gds_read.specs.declared.fault.GdsFault.TheVariants as fault
 use Rattle.gds_read.specs.declared.units.Grid.{Grid}
-use Rattle.gds_read.specs.declared.units.Ends.{Ends}
-use Rattle.gds_read.specs.declared.element.Point.{Point}
-use Rattle.gds_read.specs.declared.element.Spot.{Spot}
-use Rattle.gds_read.specs.Units.{whole_units_of, floor_units_of, ends_of}
+use Rattle.gds_read.specs.declared.area.Area.{Area}
+use Rattle.gds_read.specs.declared.area.Pen.{Pen}
+use Rattle.gds_read.specs.declared.path.Reach.{Reach}
+use Rattle.gds_read.specs.declared.point.Point.{Point}
+use Rattle.gds_read.specs.declared.label.Spot.{Spot}
+use Rattle.gds_read.specs.Units.{floor_units_of}
 use Rattle.gds_read.specs.Structure.{is_type, trimmed}
-use Rattle.cell_num.specs.Steps.{◌>>=◌}
+use Rattle.gds_read.specs.Points.{signed_at, points_of, has_slant, closed}
+use Rattle.gds_read.specs.EvenOdd.{boundary_rectangles}
+use Rattle.gds_read.specs.Paths.{width_of, past_ends, path_areas}
+use Rattle.gds_read.specs.Areas.{area_of, shapes_of}
+use Rattle.cell_num.specs.Steps.{◌>>=◌, require}
 use Rattle.gds_read.specs.Grammar.{element_begun}
 
 -- the records before the first one of a type
@@ -31,6 +36,13 @@ pub record Element : Type 0 where
   pub kind : RecordType
   pub at : ℕ
   pub inside : List Item
+
+-- the records inside the element that a record of some bytes begins, and the element
+abbrev pub inside_of : List ℕ → GdsRec → List Item
+inside_of bytes rec = until record_type.EndEl (items_from bytes rec.next)
+
+abbrev pub element_of : List ℕ → GdsRec → RecordType → Element
+element_of bytes rec kind = record { kind = kind; at = rec.at; inside = inside_of bytes rec }
 
 -- the element that a record of the table begins, if it begins one
 abbrev pub with_element : Item → List Item → Option RecordType → List Element → List Element
@@ -60,58 +72,72 @@ short_of (high ∷ low ∷ []) = 256 * high + low
 short_of _ = 0
 
 -- the element's layer, where the drawing has it
-abbrev pub layer_of : Element → Option Layer
-layer_of e = layer_numbered (short_of (content_of record_type.Layer e.inside))
+abbrev pub layer_of : List Item → Option Layer
+layer_of inside = layer_numbered (short_of (content_of record_type.Layer inside))
 
--- the four-byte integers of a list of points, without and with their sign
-abbrev pub word_at : ℕ → List ℕ → ℕ
-word_at at content = from_be_bytes w32 (take 4 (drop at content))
+-- the place of an element's points
+abbrev pub xy_place : List Item → ℕ
+xy_place inside = place_of (find (is_type record_type.Xy) inside)
 
-abbrev pub signed_at : ℕ → List ℕ → ℤ
-signed_at at content = cast_signed w32 (word_at at content)
+abbrev pub xy_of : List Item → List ℕ
+xy_of inside = content_of record_type.Xy inside
 
-abbrev pub point_at : ℕ → List ℕ → Point
-point_at at xy = record { x = word_at at xy; y = word_at (at + 4) xy }
+abbrev pub nothing_drawn : Shapes
+nothing_drawn = record { rects = []; labels = [] }
 
--- Four corners of a rectangle, taken round: the first side upright, or the first side flat.
-abbrev pub is_upright : Point → Point → Point → Point → Bool
-is_upright a b c d = (a.x == b.x) && ((b.y == c.y) && ((c.x == d.x) && ((d.y == a.y) && (not (a.x == c.x) && not (a.y == c.y)))))
+-- ---- boundaries and paths
 
-abbrev pub is_flat : Point → Point → Point → Point → Bool
-is_flat a b c d = (a.y == b.y) && ((b.x == c.x) && ((c.y == d.y) && ((d.x == a.x) && (not (a.x == c.x) && not (a.y == c.y)))))
+-- A boundary is taken round to its first point.
+unfoldable pub boundary_areas : ℕ → List Point → Result (List Area) GdsFault
+boundary_areas at points = require (not (has_slant (closed points))) (fault.Slant at) >>= λ _. Ok (map area_of (boundary_rectangles points))
 
-abbrev pub is_round : Point → Point → Point → Point → Point → Bool
-is_round a b c d e = ((a.x == e.x) && (a.y == e.y)) && (is_upright a b c d || is_flat a b c d)
+-- half the width of a path
+abbrev pub half_of : List Item → ℕ
+half_of inside = width_of (content_of record_type.Width inside)
 
--- the points of a boundary are those corners, and the first one again
-unfoldable pub are_corners : List ℕ → Bool
-are_corners xy = (length xy == 40) && is_round (point_at 0 xy) (point_at 8 xy) (point_at 16 xy) (point_at 24 xy) (point_at 32 xy)
+abbrev pub form_fault : List Item → GdsFault
+form_fault inside = fault.Kind (place_of (find (is_type record_type.PathType) inside)) (number_of record_type.PathType)
 
-abbrev pub between : Option Ends → Option Ends → Option Rectangle
-between (Some x) (Some y) = Some (record { x1 = x.low; y1 = y.low; x2 = x.high; y2 = y.high })
-between _ _ = None
+abbrev pub reach_told : ℕ → GdsFault → Option ℕ → Result Reach GdsFault
+reach_told half f None = Err f
+reach_told half f (Some ends) = Ok (record { half = half; ends = ends })
 
--- the sides of the rectangle of the first and the third corner, in grid units
-unfoldable pub across_of : Grid → List ℕ → Option Ends
-across_of grid xy = ends_of (whole_units_of grid (signed_at 0 xy)) (whole_units_of grid (signed_at 16 xy))
+-- half its width, and how far it goes past its outer points; its ends have one of two forms
+abbrev pub reach_of : List Item → Result Reach GdsFault
+reach_of inside = reach_told (half_of inside) (form_fault inside) (past_ends (half_of inside) (short_of (content_of record_type.PathType inside)))
 
-unfoldable pub upward_of : Grid → List ℕ → Option Ends
-upward_of grid xy = ends_of (whole_units_of grid (signed_at 4 xy)) (whole_units_of grid (signed_at 20 xy))
+unfoldable pub areas_along : ℕ → Reach → List Point → Result (List Area) GdsFault
+areas_along at reach points = require (not (has_slant points)) (fault.Slant at) >>= λ _. Ok (path_areas reach.half reach.ends points)
 
-unfoldable pub rectangle_of : Grid → List ℕ → Option Rectangle
-rectangle_of grid xy = between (across_of grid xy) (upward_of grid xy)
+-- The form of the ends is looked at first.
+abbrev pub path_areas_of : ℕ → List Item → Result (List Area) GdsFault
+path_areas_of at inside = reach_of inside >>= λ reach. areas_along at reach (points_of (xy_of inside))
 
-abbrev pub shape_on : Layer → ℕ → Option Rectangle → Result (Option Shape) GdsFault
-shape_on on at None = Err (fault.Grid at)
-shape_on on at (Some rect) = Ok (Some (record { layer = on; rect = rect }))
+-- the areas of an element, in halves of a file unit; its points stand at a place
+abbrev pub areas_of : ℕ → List Item → RecordType → Result (List Area) GdsFault
+areas_of at inside record_type.Boundary = boundary_areas at (points_of (xy_of inside))
+areas_of at inside record_type.Path = path_areas_of at inside
+areas_of at inside _ = Ok []
 
-abbrev pub rectangle_on : Grid → ℕ → ℕ → List ℕ → Option Layer → Result (Option Shape) GdsFault
-rectangle_on grid at xy_at xy None = Ok None
-rectangle_on grid at xy_at xy (Some on) = if are_corners xy then shape_on on xy_at (rectangle_of grid xy) else Err (fault.Unbuilt at)
+abbrev pub rectangles : List Shape → Shapes
+rectangles rects = record { rects = rects; labels = [] }
 
--- a boundary draws its rectangle
-abbrev pub boundary_shape : Grid → Element → Result (Option Shape) GdsFault
-boundary_shape grid e = rectangle_on grid e.at (place_of (find (is_type record_type.Xy) e.inside)) (content_of record_type.Xy e.inside) (layer_of e)
+abbrev pub pen_of : Grid → List Item → Layer → Pen
+pen_of grid inside on = record { grid = grid; layer = on; at = xy_place inside }
+
+-- A structure has at most 1,000,000 rectangles; so many were drawn before the element.
+abbrev pub within_limit : ℕ → ℕ → Shapes → Result Shapes GdsFault
+within_limit at count one = if nat_lt 1000000 (count + length one.rects) then Err (fault.Wide at) else Ok one
+
+-- What is on a layer of the drawing is drawn.
+abbrev pub drawn_on : ℕ → ℕ → Option Pen → Result (List Area) GdsFault → Result Shapes GdsFault
+drawn_on at count None areas = Ok nothing_drawn
+drawn_on at count (Some pen) areas = areas >>= λ list. shapes_of pen list >>= λ rects. within_limit at count (rectangles rects)
+
+abbrev pub pen_for : Grid → List Item → Option Pen
+pen_for grid inside = option_map (pen_of grid inside) (layer_of inside)
+
+-- ---- labels
 
 abbrev pub spot_at : Layer → Option ℤ → Option ℤ → Option Spot
 spot_at on (Some x) (Some y) = Some (record { layer = on; x = x; y = y })
@@ -131,45 +157,33 @@ text_on grid xy_at xy (Some on) = spot_on xy_at (spot_of grid on xy)
 
 -- the place of a text
 abbrev pub text_spot : Grid → Element → Result (Option Spot) GdsFault
-text_spot grid e = text_on grid (place_of (find (is_type record_type.Xy) e.inside)) (content_of record_type.Xy e.inside) (layer_of e)
-
-abbrev pub nothing_drawn : Shapes
-nothing_drawn = record { rects = []; labels = [] }
-
-abbrev pub with_shape : Option Shape → Shapes
-with_shape None = nothing_drawn
-with_shape (Some shape) = record { rects = shape ∷ []; labels = [] }
+text_spot grid e = text_on grid (xy_place e.inside) (xy_of e.inside) (layer_of e.inside)
 
 abbrev pub with_label : List ℕ → Option Spot → Shapes
 with_label name None = nothing_drawn
 with_label name (Some spot) = record { rects = []; labels = record { layer = spot.layer; x = spot.x; y = spot.y; name = name } ∷ [] }
 
--- a path on a layer of the drawing is not read yet
-abbrev pub path_on : ℕ → Option Layer → Result Shapes GdsFault
-path_on at None = Ok nothing_drawn
-path_on at (Some on) = Err (fault.Unbuilt at)
-
 -- what an element draws, or its first fault
-abbrev pub drawn_by : Grid → Element → RecordType → Result Shapes GdsFault
-drawn_by grid e record_type.Boundary = boundary_shape grid e >>= λ shape. Ok (with_shape shape)
-drawn_by grid e record_type.Path = path_on e.at (layer_of e)
-drawn_by grid e record_type.Text = text_spot grid e >>= λ spot. Ok (with_label (trimmed (content_of record_type.StringText e.inside)) spot)
-drawn_by grid e record_type.SRef = Err (fault.Reference e.at)
-drawn_by grid e record_type.ARef = Err (fault.Reference e.at)
-drawn_by grid e _ = Ok nothing_drawn
+abbrev pub drawn_by : Grid → ℕ → Element → RecordType → Result Shapes GdsFault
+drawn_by grid count e record_type.Boundary = drawn_on e.at count (pen_for grid e.inside) (areas_of (xy_place e.inside) e.inside record_type.Boundary)
+drawn_by grid count e record_type.Path = drawn_on e.at count (pen_for grid e.inside) (areas_of (xy_place e.inside) e.inside record_type.Path)
+drawn_by grid count e record_type.Text = text_spot grid e >>= λ spot. Ok (with_label (trimmed (content_of record_type.StringText e.inside)) spot)
+drawn_by grid count e record_type.SRef = Err (fault.Reference e.at)
+drawn_by grid count e record_type.ARef = Err (fault.Reference e.at)
+drawn_by grid count e _ = Ok nothing_drawn
 
 -- the same of a record and those behind it; one that begins no element draws nothing
-abbrev pub drawn_at : Grid → Item → List Item → Option RecordType → Result Shapes GdsFault
-drawn_at grid r rs None = Ok nothing_drawn
-drawn_at grid r rs (Some kind) = drawn_by grid (record { kind = kind; at = r.at; inside = until record_type.EndEl rs }) kind
+abbrev pub drawn_at : Grid → ℕ → Item → List Item → Option RecordType → Result Shapes GdsFault
+drawn_at grid count r rs None = Ok nothing_drawn
+drawn_at grid count r rs (Some kind) = drawn_by grid count (record { kind = kind; at = r.at; inside = until record_type.EndEl rs }) kind
 
 abbrev pub joined : Shapes → Shapes → Shapes
 joined a b = record { rects = a.rects ++ b.rects; labels = a.labels ++ b.labels }
 
--- what the elements draw in order, or the first fault
-unfoldable pub drawn : Grid → List Element → Result Shapes GdsFault
-drawn grid [] = Ok nothing_drawn
-drawn grid (e ∷ es) = drawn_by grid e e.kind >>= λ one. drawn grid es >>= λ rest. Ok (joined one rest)
+-- what the elements draw in order, or the first fault; so many rectangles were drawn before
+unfoldable pub drawn : Grid → ℕ → List Element → Result Shapes GdsFault
+drawn grid count [] = Ok nothing_drawn
+drawn grid count (e ∷ es) = drawn_by grid count e e.kind >>= λ one. drawn grid (count + length one.rects) es >>= λ rest. Ok (joined one rest)
 
 -- Memory may run out anywhere; else the answer is the one read.
 abbrev pub Gives : Result Shapes GdsFault → Result Shapes GdsFault → Type 0
@@ -183,3 +197,11 @@ Adds (Ok _) old new (Ok one) = new ≡ joined old one
 Adds (Ok _) old new (Err e) = ⊥
 Adds (Err fault.NoMemory) old new read = Unit {0}
 Adds (Err f) old new read = read ≡ Err f
+
+-- what drawing the element of a record does to them
+abbrev pub Draws : Result (Unit {0}) GdsFault → List ℕ → GdsRec → RecordType → Grid → Shapes → Shapes → Type 0
+Draws result bytes rec kind grid old new = Adds result old new (drawn_by grid (length old.rects) (element_of bytes rec kind) kind)
+
+-- what a record of some bytes draws behind the shapes that were drawn
+abbrev pub drawn_record : List ℕ → Grid → Shapes → GdsRec → Result Shapes GdsFault
+drawn_record bytes grid done r = drawn_at grid (length done.rects) (item_of bytes r) (items_from bytes r.next) (type_numbered r.code)

@@ -1,9 +1,15 @@
+pub mod Areas
 pub mod Decoding
+pub mod Drawn
 pub mod Elements
+pub mod EvenOdd
 pub mod Grammar
 pub mod Library
+pub mod Paths
+pub mod Points
 pub mod Real
 pub mod RoundTrip
 pub mod Structure
+pub mod Sweep
 pub mod Units
 pub mod Words

@@ -1,5 +1,5 @@
 -- Which cells are read back as they were written.
-use Rattle.std.specs.Prelude.{ℕ, ◌≡◌, ◌≤◌, List, [], ◌∷◌, ◌++◌, All}
+use Rattle.std.specs.Prelude.{ℕ, ◌≡◌, ◌≤◌, List, [], ◌∷◌, ◌++◌, length, All}
 use Rattle.box_geom.specs.Rectangle.{IsRectangle}
 use Rattle.box_geom.specs.declared.shape.Shape.{Shape}
 use Rattle.box_geom.specs.declared.shape.Label.{Label}
@@ -10,9 +10,11 @@ use Rattle.gds_write.specs.Written.{IsWritableName, IsWritableShape, IsWritableL
 abbrev pub HasNoZeroEnd : List ℕ → Type 0
 HasNoZeroEnd text = (front : List ℕ) → text ≡ front ++ 0 ∷ [] → ⊥
 
--- what may be written, with ten nanometres or more to a grid unit, and no name that ends by a zero byte
+-- What may be written, with ten nanometres or more to a grid unit, at most 1,000,000 rectangles, and no
+-- name that ends by a zero byte.
 pub record IsReadable (name : List ℕ) (shapes : Shapes) (unit : ℕ) : Type 0 where
   pub enough : 10 ≤ unit
+  pub few : length shapes.rects ≤ 1000000
   pub named : IsWritableName name
   pub named_whole : HasNoZeroEnd name
   pub rects : All (IsWritableShape unit) shapes.rects

@@ -16,11 +16,15 @@ scaled_by grid value = value *ℤ pos grid.picometres
 abbrev pub step_of_grid : Grid → ℤ
 step_of_grid grid = pos (500 * grid.lambda_nm)
 
--- a whole number of grid units
+-- A coordinate in halves of a file unit as a whole number of grid units; so many picometres are two of
+-- them.
+abbrev pub two_steps : Grid → ℤ
+two_steps grid = pos (1000 * grid.lambda_nm)
+
 abbrev pub whole_units_of : Grid → ℤ → Option ℤ
 whole_units_of grid value =
-    if unsigned_abs (int_rem_euclid (scaled_by grid value) (step_of_grid grid)) == 0
-    then limited_to_grid (int_div_euclid (scaled_by grid value) (step_of_grid grid))
+    if unsigned_abs (int_rem_euclid (scaled_by grid value) (two_steps grid)) == 0
+    then limited_to_grid (int_div_euclid (scaled_by grid value) (two_steps grid))
     else None
 
 -- rounded downward

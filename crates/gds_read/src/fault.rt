@@ -4,6 +4,7 @@ ghost use Rattle.gds_read.specs.declared.fault.GdsFault.TheVariants as fault;
 
 use cell_num::{Name, NoMemory};
 use gds_record::RecFault;
+use std::alloc::AllocError;
 use thiserror::Error;
 
 /// Why the bytes are not read. `at` is a place in the bytes, `code` the type of the record there.
@@ -18,8 +19,7 @@ pub enum GdsFault {
     /// A record stands where the grammar has no place for it.
     #[error("Order")]
     Order { at: u64, code: u8 },
-    /// A record has another data type than its own. It will say as well that a path has a form that is
-    /// not taken, which cannot come yet: each path on a layer of the drawing is `Unbuilt`.
+    /// A record has another data type than its own, or the ends of a path have a form other than 0 and 2.
     #[error("Kind")]
     Kind { at: u64, code: u8 },
     /// The database unit, in picometres, is below 1 or above 1,000,000.
@@ -31,8 +31,7 @@ pub enum GdsFault {
     /// Two structures have the name.
     #[error("Twice")]
     Twice { name: Name },
-    /// Two neighbouring points differ in both coordinates. It cannot come yet: such a boundary or path,
-    /// on a layer of the drawing, is `Unbuilt`.
+    /// Two neighbouring points of a boundary or a path differ in both coordinates.
     #[error("Slant")]
     Slant { at: u64 },
     /// A coordinate is no whole number of grid units, or too large.
@@ -43,9 +42,9 @@ pub enum GdsFault {
     Reference { at: u64 },
     #[error("NoMemory")]
     NoMemory,
-    /// An element that this reader does not take yet: a path, or a boundary that is no rectangle.
-    #[error("Unbuilt")]
-    Unbuilt { at: u64 },
+    /// Up to and with this element the structure has more than 1,000,000 rectangles.
+    #[error("Wide")]
+    Wide { at: u64 },
 }
 
 impl From<RecFault> for GdsFault {
@@ -63,6 +62,14 @@ impl From<NoMemory> for GdsFault {
     ghost from_gives = { λ _ e. e ≡ fault.NoMemory };
 
     fn from(_: NoMemory) -> GdsFault {
+        GdsFault::NoMemory
+    }
+}
+
+impl From<AllocError> for GdsFault {
+    ghost from_gives = { λ _ e. e ≡ fault.NoMemory };
+
+    fn from(_: AllocError) -> GdsFault {
         GdsFault::NoMemory
     }
 }

@@ -1,4 +1,5 @@
-ghost use Rattle.std.specs.Prelude.{◌≡◌, ℕ, List, Ok, Err};
+ghost use Rattle.std.specs.Prelude.{◌≡◌, ◌↔◌, ◌≤◌, ℕ, ℤ, List, Some, Ok, Err};
+ghost use Rattle.std.specs.List.{Contains, AllPairs};
 ghost use Rattle.gds_record.specs.Records.{IsBytes};
 ghost use Rattle.gds_read.specs.declared.fault.GdsFault.{GdsFault};
 ghost use Rattle.gds_read.specs.Grammar.{first_pass_of};
@@ -9,6 +10,12 @@ ghost use Rattle.gds_read.specs.Words.{Accepts, IsLibraryWord, types_of};
 ghost use Rattle.box_geom.specs.declared.shape.Shapes.{Shapes};
 ghost use Rattle.gds_read.specs.Decoding.{Decodes, GdsRefused, IsCell, IsCellFault};
 ghost use Rattle.gds_read.specs.Library.{IsLibrary, IsFirstFault};
+ghost use Rattle.box_geom.specs.Rectangle.{Rectangle, IsProper, Covers};
+ghost use Rattle.gds_read.specs.declared.point.Point.{Point};
+ghost use Rattle.gds_read.specs.declared.units.Grid.{Grid};
+ghost use Rattle.gds_read.specs.EvenOdd.{IsInside, boundary_rectangles};
+ghost use Rattle.gds_read.specs.Units.{floor_units_of};
+ghost use Rattle.gds_read.specs.Drawn.{AreWalksOf, IsRunOf, IsBefore, IsFloor};
 
 /// The first pass accepts the bytes of a library, and no others, and else answers the first fault. It
 /// does nothing: its contract is the law.
@@ -38,4 +45,17 @@ pub fn written_grammar()
     ensures accepted { (word : List RecordType) → IsLibraryWord word → Accepts Start word Ended }
     ensures libraries { (bytes : List ℕ) (end : ℕ) (l : IsLibrary bytes end) → IsLibraryWord (types_of l.records) }
     ensures no_dead_end { (place : Place) → (rest : List RecordType) × Accepts place rest Ended }
+{}
+
+/// Each of the eight walks round a rectangle, left open or taken round, is that rectangle. The cells of a
+/// boundary are those from which a line to the left crosses an odd number of its sides; each of its
+/// rectangles is a run of them between neighbouring heights of its points, in order. A label stands at
+/// the greatest whole number of grid units that is not above its point. It does nothing: its contract is
+/// the law.
+pub fn drawn_elements()
+    ensures walks { (r : Rectangle) → IsProper r → AreWalksOf r }
+    ensures cells { (points : List Point) (x y : ℤ) → Covers (boundary_rectangles points) x y ↔ IsInside points x y }
+    ensures runs { (points : List Point) (r : Rectangle) → Contains (boundary_rectangles points) r → IsRunOf points r }
+    ensures order { (points : List Point) → AllPairs IsBefore (boundary_rectangles points) }
+    ensures label { (grid : Grid) (value units : ℤ) → 1 ≤ grid.lambda_nm → floor_units_of grid value ≡ Some units → IsFloor grid value units }
 {}

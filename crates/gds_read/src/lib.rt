@@ -1,11 +1,19 @@
 // Reading one structure of a GDSII file into the rectangles and labels of a drawing.
 #![tactic(auto)]
 
+pub mod area;
+#[cfg(test)]
+mod drawn_tests;
 pub mod element;
+pub mod even_odd;
 pub mod fault;
+pub mod field;
 pub mod grammar;
+pub mod label;
 pub mod laws;
 pub mod pass;
+pub mod path;
+pub mod point;
 pub mod read;
 pub mod real;
 pub mod round_trip;
@@ -15,6 +23,6 @@ mod tests;
 pub mod units;
 
 pub use fault::GdsFault;
-pub use laws::{accepted_libraries, decoded_cells, written_grammar};
+pub use laws::{accepted_libraries, decoded_cells, drawn_elements, written_grammar};
 pub use read::read_cell;
 pub use round_trip::read_written;

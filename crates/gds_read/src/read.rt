@@ -4,7 +4,8 @@ ghost use Rattle.gds_read.specs.Elements.{elements_of, drawn, Gives};
 ghost use Rattle.gds_read.specs.Decoding.{unit_in, grid_in, Decodes, IsCell, IsRefused, IsTwiceOf};
 
 use crate::GdsFault;
-use crate::element::{add_record, field_content};
+use crate::element::add_record;
+use crate::field::field_content;
 use crate::pass::first_pass;
 use crate::real::picometres_at_place;
 use crate::structure::{Lookup, find_structure};
@@ -40,7 +41,7 @@ fn read_elements(alloc: Global, bytes: &[u8], place: u64, grid: &Grid) -> Result
     requires size { length bytes.now ≤ MOST_BYTES }
     requires place { place ≤ length bytes.now }
     requires grid { 1 ≤ grid.now.lambda_nm }
-    ensures { Gives result (drawn grid.now (elements_of (items_from bytes.now place))) }
+    ensures { Gives result (drawn grid.now 0 (elements_of (items_from bytes.now place))) }
 {
     let mut shapes = Shapes {
         rects: List::new(alloc),

@@ -1,5 +1,5 @@
 ghost use Rattle.std.specs.Prelude.{◌≡◌, ◌≤◌, ◌<◌, ◌+◌, ◌*◌, ℤ, pos, ◌*ℤ◌, ◌≤ℤ◌, ◌<ℤ◌, neg_ℤ, IfSome};
-ghost use Rattle.gds_read.specs.Units.{limited_to_grid, scaled_by, step_of_grid, whole_units_of, floor_units_of, ends_of, IsSide};
+ghost use Rattle.gds_read.specs.Units.{limited_to_grid, scaled_by, step_of_grid, two_steps, whole_units_of, floor_units_of};
 
 /// The database unit of a file in picometres, and lambda in nanometres. A grid unit is half a lambda.
 #[derive(Clone, Copy, Debug, PartialEq, Eq)]
@@ -40,14 +40,22 @@ fn step(grid: &Grid) -> i128
     500 * i128::from(grid.lambda_nm)
 }
 
-/// The coordinate in grid units, if that is a whole number within the limits of a drawing.
-pub fn whole_units(grid: &Grid, value: i32) -> Option<i32>
+// Two grid units in picometres.
+fn two_steps(grid: &Grid) -> i128
+    ensures { result ≡ two_steps grid.now }
+{
+    1000 * i128::from(grid.lambda_nm)
+}
+
+/// A coordinate in halves of a file unit as a number of grid units, if that is a whole number within the
+/// limits of a drawing.
+pub fn whole_units(grid: &Grid, value: i64) -> Option<i32>
     requires { 1 ≤ grid.now.lambda_nm }
     ensures value { result ≡ whole_units_of grid.now value }
     ensures limits { IfSome result (λ z. (neg_ℤ (pos 1000000000) ≤ℤ z) × (z ≤ℤ pos 1000000000)) }
 {
-    let wide = scaled(grid, value);
-    let step = step(grid);
+    let wide = i128::from(value) * i128::from(grid.picometres);
+    let step = two_steps(grid);
     if wide.rem_euclid(step) != 0 {
         return None;
     }
@@ -60,24 +68,4 @@ pub fn floor_units(grid: &Grid, value: i32) -> Option<i32>
     ensures { result ≡ floor_units_of grid.now value }
 {
     limited(scaled(grid, value).div_euclid(step(grid)))
-}
-
-/// Two coordinates of the file as the ends of a side, if they are whole and differ.
-pub fn side(grid: &Grid, one: i32, other: i32) -> Option<Ends>
-    requires { 1 ≤ grid.now.lambda_nm }
-    ensures value { result ≡ ends_of (whole_units_of grid.now one) (whole_units_of grid.now other) }
-    ensures sides { IfSome result IsSide }
-{
-    match (whole_units(grid, one), whole_units(grid, other)) {
-        (Some(a), Some(b)) => {
-            if a < b {
-                Some(Ends { low: a, high: b })
-            } else if b < a {
-                Some(Ends { low: b, high: a })
-            } else {
-                None
-            }
-        }
-        _ => None,
-    }
 }

@@ -39,7 +39,7 @@ parts_of_steps s rs d (suc n) a b p q lp lq h k (m, w, r) =
     joined (Bonded s rs) (part a.kind p) (part m.kind c.rect) (part b.kind q) (one (Bonded s rs) (part a.kind p) (part m.kind c.rect) first) rest
 
 -- ---- from rectangles to cells
-carried_steps : {X Y : Type 0} (S : X → X → Type 0) (T : Y → Y → Type 0) (f : X → Y) → ((a b : X) → S a b → T (f a) (f b)) → (n : ℕ) (a b : X) → Steps S n a b → Chain T (f a) (f b)
+pub carried_steps : {X Y : Type 0} (S : X → X → Type 0) (T : Y → Y → Type 0) (f : X → Y) → ((a b : X) → S a b → T (f a) (f b)) → (n : ℕ) (a b : X) → Steps S n a b → Chain T (f a) (f b)
 carried_steps S T f step zero a b e = none T (f a) (f b) (ap f e)
 carried_steps S T f step (suc n) a b (m, s, r) = joined T (f a) (f m) (f b) (one T (f a) (f m) (step a m s)) (carried_steps S T f step n m b r)
 

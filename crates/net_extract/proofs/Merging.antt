@@ -33,7 +33,7 @@ get-map f [] i lt = absurd (omega arith)
 get-map f (l ∷ ls) zero lt = refl
 get-map f (l ∷ ls) (suc i) lt = get-map f ls i (omega arith)
 
-length-map : (f : ℕ → ℕ) (ls : List ℕ) → length (map f ls) ≡ length ls
+pub length-map : (f : ℕ → ℕ) (ls : List ℕ) → length (map f ls) ≡ length ls
 length-map f [] = refl
 length-map f (l ∷ ls) = omega (arith, length-map f ls)
 

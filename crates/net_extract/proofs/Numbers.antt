@@ -11,10 +11,10 @@ use Rattle.scmos_rules.proofs.Chains.{joined, turned, flip_linked}
 use Rattle.net_extract.specs.Nets.{Kind, Site, Conducts, Through, Meets, along, through, Wired, SameNet}
 use Rattle.net_extract.specs.Numbering.{NotBehind, IsBefore, AreNets, IsInNet}
 
-flip_edge : (a b : Cell) → Edge a b → Edge b a
+pub flip_edge : (a b : Cell) → Edge a b → Edge b a
 flip_edge a b e = (flip_linked (λ x y. Unit {0}) a b (record { from = tt; to = tt; edge = e })).edge
 
-swapped : (s : List Shape) (x y : ℤ) (k l : Kind) → Through s x y k l → Through s x y l k
+pub swapped : (s : List Shape) (x y : ℤ) (k l : Kind) → Through s x y k l → Through s x y l k
 swapped s x y k l (inl j) = inr j
 swapped s x y k l (inr j) = inl j
 
@@ -22,7 +22,7 @@ meets_back : (s : List Shape) (a b : Site) → Meets s a b → Meets s b a
 meets_back s a b (along e edge) = along (sym e) (flip_edge a.cell b.cell edge)
 meets_back s a b (through e t) = through (sym e) (subst (λ (c : Cell). Through s c.x c.y b.kind a.kind) e (swapped s a.cell.x a.cell.y a.kind b.kind t))
 
-wired_back : (s : List Shape) (a b : Site) → Wired s a b → Wired s b a
+pub wired_back : (s : List Shape) (a b : Site) → Wired s a b → Wired s b a
 wired_back s a b w = record { from = w.to; to = w.from; meets = meets_back s a b w.meets }
 
 -- two sites in the net of a third

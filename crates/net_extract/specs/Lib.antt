@@ -1,8 +1,17 @@
+pub mod Areas
 pub mod Classes
+pub mod Cuts
 pub mod Devices
 pub mod Extraction
+pub mod GateNets
 pub mod Labels
+pub mod Lookups
+pub mod Meetings
 pub mod Naming
+pub mod NetMaps
 pub mod Nets
 pub mod Numbering
 pub mod Parts
+pub mod Sides
+pub mod Steps
+pub mod Pieces

@@ -18,7 +18,7 @@ fn renamed_label(from: usize, to: usize, label: usize) -> usize
     if label == from { to } else { label }
 }
 
-fn rename(labels: &mut [usize], from: usize, to: usize)
+pub(crate) fn rename(labels: &mut [usize], from: usize, to: usize)
     ensures { labels.new ≡ map (renamed from to) labels.old }
 {
     for label in labels.iter_mut() {
@@ -37,7 +37,7 @@ fn merge(labels: &mut Vec<usize>, link: &Link)
     }
 }
 
-fn numbers(alloc: Global, count: usize) -> Result<Vec<usize>, NoMemory>
+pub(crate) fn numbers(alloc: Global, count: usize) -> Result<Vec<usize>, NoMemory>
     ensures { IfOk result (λ labels. labels.items ≡ range_with_len 0 count) }
 {
     let mut labels = Vec::new(alloc);

@@ -1,14 +1,29 @@
 // Nets and devices of a drawing: what hangs together, by cells and by rectangles.
 #![tactic(auto)]
 
+mod area;
+mod bond;
+mod class;
+mod conductor;
+mod cut;
+mod device;
+mod drawing;
+#[cfg(test)]
+mod drawing_tests;
 pub mod fault;
+mod gate;
 pub mod label;
 pub mod laws;
+mod lookup;
 pub mod naming;
 pub mod netlist;
+mod netmap;
+mod piece;
+mod side;
 #[cfg(test)]
 mod tests;
 
+pub use drawing::extract;
 pub use fault::ExtractFault;
 pub use label::{Link, classes};
 pub use laws::{one_numbering, rectangle_nets};

@@ -28,7 +28,7 @@ turned_steps S flip (suc n) a b (m, s, r) = joined S b m a (turned_steps S flip 
 pub turned : {X : Type 0} (S : X → X → Type 0) → ((a b : X) → S a b → S b a) → (a b : X) → Chain S a b → Chain S b a
 turned S flip a b k = turned_steps S flip k.count a b k.steps
 
-flip_edge : (a b : Cell) → Edge a b → Edge b a
+pub flip_edge : (a b : Cell) → Edge a b → Edge b a
 flip_edge a b (to_right e f) = to_left e (sym f)
 flip_edge a b (to_left e f) = to_right e (sym f)
 flip_edge a b (upward e f) = downward (sym e) f
@@ -95,7 +95,7 @@ inside rs r listed x y s t h k =
     joined (Linked (Covers rs)) (at x y) (at s y) (at s t) (row_of rs r listed x s y h corner) (column_of rs r listed s y t corner k)
 
 -- the cells at which two rectangles touch are chained
-meet : (rs : List Rectangle) (a b : Rectangle) (j : Joint rs a b) → Chain (Linked (Covers rs)) j.touch.one j.touch.other
+pub meet : (rs : List Rectangle) (a b : Rectangle) (j : Joint rs a b) → Chain (Linked (Covers rs)) j.touch.one j.touch.other
 meet rs a b j =
     let t = j.touch in
     elim t.meet [

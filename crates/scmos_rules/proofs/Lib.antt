@@ -1,5 +1,12 @@
 pub mod Around
 pub mod Chains
+pub mod Classing
+pub mod Directions
+pub mod Distances
+pub mod Lengths
+pub mod Listing
+pub mod Merging
+pub mod Unions
 pub mod Sizes
 pub mod Spacings
 pub mod Widths

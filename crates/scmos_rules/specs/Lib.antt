@@ -1,7 +1,12 @@
+pub mod Apart
+pub mod Classes
 pub mod Conditions
 pub mod Failing
 pub mod Gates
 pub mod Laws
 pub mod Layout
 pub mod Numbers
+pub mod Outward
+pub mod Regions
 pub mod Rules
+pub mod Violations

@@ -6,5 +6,8 @@ use Rattle.gds_read.proofs.read.read_elements.Goals as goal
 pub records-preserved : goal.records-preserved
 records-preserved c = (
   (moves c.args.bytes.now c.records.at c.in-Ok.rec (sym c.in-Ok.ensures)).within,
-  sym (goes_on_with c.args.bytes.now c.args.grid.now c.records.at c.records.shapes c.add_record.new.shapes c.in-Ok.rec (sym c.in-Ok.ensures) (search rules) c.in-Ok-add_record.ensures) ∙ c.records.invariant.1,
+  (
+    search rules,
+    sym (goes_on_with c.args.bytes.now c.args.grid.now c.records.at c.records.shapes c.add_record.new.shapes c.in-Ok.rec (sym c.in-Ok.ensures) (search rules) c.in-Ok-add_record.ensures.adds) ∙ c.records.invariant.1.1,
+  ),
 )

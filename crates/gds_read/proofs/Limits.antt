@@ -1,0 +1,175 @@
+-- What an element draws is kept up to the limit, and told where it goes beyond.
+use Rattle.std.proofs.Common.{ℕ, ◌≡◌, ◌+◌, ◌<◌, ◌≤◌, nat_lt, Option, Some, None, option_map, List, [], ◌∷◌, ◌++◌, length, Result, Ok, Err, refl, sym, subst, ap, ◌∙◌, arith, ◌⊎◌, inl, inr, append_assoc, append-nil}
+use Rattle.std.proofs.lemmas.Bool.{cases_Bool, ltb-true, ltb-false}
+use Rattle.std.proofs.Common.{length-append}
+use Rattle.box_geom.specs.declared.shape.Shape.{Shape}
+use Rattle.box_geom.specs.declared.shape.Shapes.{Shapes}
+use Rattle.gds_read.specs.declared.fault.GdsFault.{GdsFault}
+use Rattle.gds_read.specs.declared.fault.GdsFault.TheVariants as fault
+use Rattle.gds_read.specs.declared.area.Area.{Area}
+use Rattle.gds_read.specs.declared.area.Pen.{Pen}
+use Rattle.box_geom.specs.declared.layer.Layer.{Layer}
+use Rattle.gds_record.specs.Records.{Item}
+use Rattle.gds_read.specs.declared.units.Grid.{Grid}
+use Rattle.gds_read.specs.Points.{points_of}
+use Rattle.gds_read.specs.Areas.{shape_of, shapes_of, with_kept, put, put_all, Puts}
+use Rattle.gds_read.specs.Elements.{joined, rectangles, within_limit, layer_of, xy_place, xy_of, boundary_areas, path_areas_of, pen_of, pen_for, drawn_on, Adds}
+use Rattle.gds_read.proofs.Putting.{fault_of}
+use Rattle.gds_read.proofs.Drawings.{adds_same}
+use Rattle.cell_num.specs.Steps.{◌>>=◌}
+
+abbrev all_kept : List Shape → List Shape → List Shape
+all_kept old [] = old
+all_kept old (s ∷ ss) = all_kept (with_kept old s) ss
+
+put_is : (pen : Pen) (old : List Shape) (xs : List Area) → put pen old xs ≡ (shapes_of pen xs >>= λ rects. Ok (all_kept old rects))
+put_is pen old [] = refl
+put_is pen old (a ∷ xs) = by (shape_of pen a) (λ s. put_is pen (with_kept old s) xs)
+  where
+    more : (s : Shape) (x : Result (List Shape) GdsFault) → (x >>= λ rects. Ok (all_kept (with_kept old s) rects)) ≡ ((x >>= λ ss. Ok (s ∷ ss)) >>= λ rects. Ok (all_kept old rects))
+    more s (Ok ss) = refl
+    more s (Err f) = refl
+
+    by : (x : Result Shape GdsFault) → ((s : Shape) → put pen (with_kept old s) xs ≡ (shapes_of pen xs >>= λ rects. Ok (all_kept (with_kept old s) rects))) → (x >>= λ s. put pen (with_kept old s) xs) ≡ ((x >>= λ s. shapes_of pen xs >>= λ ss. Ok (s ∷ ss)) >>= λ rects. Ok (all_kept old rects))
+    by (Ok s) rest = rest s ∙ more s (shapes_of pen xs)
+    by (Err f) rest = refl
+
+full : (old : List Shape) (s : Shape) → 1000000 < length old → with_kept old s ≡ old
+unfolding with_kept
+full old s h = elim (cases_Bool (nat_lt 1000000 (length old))) [
+  | inl e ↦ rw e refl
+  | inr e ↦ absurd (let l = ltb-false 1000000 (length old) e in omega (arith, h, l))
+]
+
+room : (old : List Shape) (s : Shape) → length old ≤ 1000000 → with_kept old s ≡ old ++ s ∷ []
+unfolding with_kept
+room old s h = elim (cases_Bool (nat_lt 1000000 (length old))) [
+  | inl e ↦ absurd (let l = ltb-true 1000000 (length old) e in omega (arith, h, l))
+  | inr e ↦ rw e refl
+]
+
+one_more : (old : List Shape) (s : Shape) → length (old ++ s ∷ []) ≡ length old + 1
+one_more old s = length-append old (s ∷ [])
+
+longer : (old rects : List Shape) → length old ≤ length (all_kept old rects)
+longer old [] = omega arith
+longer old (s ∷ ss) =
+    elim (cases_Bool (nat_lt 1000000 (length old))) [
+      | inl e ↦ let more = ltb-true 1000000 (length old) e in rw (full old s (omega (arith, more))) (longer old ss)
+      | inr e ↦ let few = ltb-false 1000000 (length old) e in rw (room old s (omega (arith, few))) (let rest = longer (old ++ s ∷ []) ss in omega (arith, rest, one_more old s))
+    ]
+
+kept_few : (old rects : List Shape) → length old + length rects ≤ 1000000 → all_kept old rects ≡ old ++ rects
+kept_few old [] h = sym (append-nil old)
+kept_few old (s ∷ ss) h =
+    ap (λ (t : List Shape). all_kept t ss) (room old s (omega (arith, h)))
+    ∙ (kept_few (old ++ s ∷ []) ss (omega (arith, h, one_more old s)) ∙ append_assoc old (s ∷ []) ss)
+
+kept_many : (old rects : List Shape) → 1000000 < length old + length rects → 1000000 < length (all_kept old rects)
+kept_many old [] h = omega (arith, h)
+kept_many old (s ∷ ss) h =
+    elim (cases_Bool (nat_lt 1000000 (length old))) [
+      | inl e ↦ let more = ltb-true 1000000 (length old) e in rw (full old s (omega (arith, more))) (let rest = longer old ss in omega (arith, rest, more))
+      | inr e ↦ let few = ltb-false 1000000 (length old) e in rw (room old s (omega (arith, few))) (kept_many (old ++ s ∷ []) ss (omega (arith, h, one_more old s)))
+    ]
+
+pub within : (at count : ℕ) (one : Shapes) → count + length one.rects ≤ 1000000 → within_limit at count one ≡ Ok one
+within at count one h = elim (cases_Bool (nat_lt 1000000 (count + length one.rects))) [
+  | inl e ↦ absurd (let l = ltb-true 1000000 (count + length one.rects) e in omega (arith, h, l))
+  | inr e ↦ rw e refl
+]
+
+beyond : (at count : ℕ) (one : Shapes) → 1000000 < count + length one.rects → within_limit at count one ≡ Err (fault.Wide at)
+beyond at count one h = elim (cases_Bool (nat_lt 1000000 (count + length one.rects))) [
+  | inl e ↦ rw e refl
+  | inr e ↦ absurd (let l = ltb-false 1000000 (count + length one.rects) e in omega (arith, h, l))
+]
+
+-- what was drawn without a fault, and how many rectangles there are then
+record IsKept (at : ℕ) (pen : Pen) (old new : List Shape) (areas : Result (List Area) GdsFault) : Type 0 where
+  rects : List Shape
+  is : drawn_on at (length old) (Some pen) areas ≡ within_limit at (length old) (rectangles rects)
+  kept : all_kept old rects ≡ new
+
+ok_is : (a b : List Shape) → ◌≡◌ {A = Result (List Shape) GdsFault} (Ok a) (Ok b) → a ≡ b
+ok_is a b e = cc
+
+kept_by : (at : ℕ) (pen : Pen) (old new : List Shape) (areas : Result (List Area) GdsFault) → (areas >>= put pen old) ≡ Ok new → IsKept at pen old new areas
+kept_by at pen old new (Err f) e = absurd cc
+kept_by at pen old new (Ok xs) e = by (shapes_of pen xs) refl (sym (put_is pen old xs) ∙ e)
+  where
+    by : (x : Result (List Shape) GdsFault) → shapes_of pen xs ≡ x → (x >>= λ rects. Ok (all_kept old rects)) ≡ Ok new → IsKept at pen old new (Ok xs)
+    by (Err f) q p = absurd cc
+    by (Ok rects) q p = record { rects = rects; is = ap (λ (x : Result (List Shape) GdsFault). x >>= λ rects. within_limit at (length old) (rectangles rects)) q; kept = ok_is (all_kept old rects) new p }
+
+-- the shapes after an element whose rectangles have room
+pub adds_drawn : (at : ℕ) (pen : Pen) (old : Shapes) (new : List Shape) (areas : Result (List Area) GdsFault) → (areas >>= put pen old.rects) ≡ Ok new → length new ≤ 1000000 → Adds (Ok tt) old (record { rects = new; labels = old.labels }) (drawn_on at (length old.rects) (Some pen) areas)
+adds_drawn at pen old new areas e few =
+    let k = kept_by at pen old.rects new areas e in
+    all k (elim (many_or_few k) [ inl many ↦ absurd (let m = kept_many old.rects k.rects many in let c = ap length k.kept in omega (arith, m, c, few)) | inr less ↦ less ])
+  where
+    many_or_few : (k : IsKept at pen old.rects new areas) → (1000000 < length old.rects + length k.rects) ⊎ (length old.rects + length k.rects ≤ 1000000)
+    many_or_few k = elim (cases_Bool (nat_lt 1000000 (length old.rects + length k.rects))) [
+      | inl e ↦ inl (let l = ltb-true 1000000 (length old.rects + length k.rects) e in omega (arith, l))
+      | inr e ↦ inr (let l = ltb-false 1000000 (length old.rects + length k.rects) e in omega (arith, l))
+    ]
+
+    same : (k : IsKept at pen old.rects new areas) → old.rects ++ k.rects ≡ new → ◌≡◌ {A = Shapes} (record { rects = new; labels = old.labels }) (joined old (rectangles k.rects))
+    same k e = rw (e, append-nil old.labels) refl
+
+    all : (k : IsKept at pen old.rects new areas) → length old.rects + length k.rects ≤ 1000000 → Adds (Ok tt) old (record { rects = new; labels = old.labels }) (drawn_on at (length old.rects) (Some pen) areas)
+    all k less = rw (k.is, within at (length old.rects) (rectangles k.rects) less) (same k (sym (kept_few old.rects k.rects less) ∙ k.kept))
+
+pub is_wide : (at : ℕ) (pen : Pen) (old new : List Shape) (areas : Result (List Area) GdsFault) → (areas >>= put pen old) ≡ Ok new → length old ≤ 1000000 → 1000000 < length new → drawn_on at (length old) (Some pen) areas ≡ Err (fault.Wide at)
+is_wide at pen old new areas e start many =
+    let k = kept_by at pen old new areas e in
+    k.is ∙ beyond at (length old) (rectangles k.rects) (elim (cases_Bool (nat_lt 1000000 (length old + length k.rects))) [
+      | inl e ↦ let l = ltb-true 1000000 (length old + length k.rects) e in omega (arith, l)
+      | inr e ↦ absurd (let l = ltb-false 1000000 (length old + length k.rects) e in let c = ap length (sym (kept_few old k.rects l) ∙ k.kept) in omega (arith, l, c, many, length-append old k.rects))
+    ])
+
+fault_is : (f g : GdsFault) → ◌≡◌ {A = Result (List Shape) GdsFault} (Err f) (Err g) → f ≡ g
+fault_is f g e = cc
+
+faulty : (at : ℕ) (pen : Pen) (old : List Shape) (areas : Result (List Area) GdsFault) (f : GdsFault) → (areas >>= put pen old) ≡ Err f → drawn_on at (length old) (Some pen) areas ≡ Err f
+faulty at pen old (Err g) f e = ap (λ (h : GdsFault). Err h) (fault_is g f e)
+faulty at pen old (Ok xs) f e = by (shapes_of pen xs) (sym (put_is pen old xs) ∙ e)
+  where
+    by : (x : Result (List Shape) GdsFault) → (x >>= λ rects. Ok (all_kept old rects)) ≡ Err f → (x >>= λ rects. within_limit at (length old) (rectangles rects)) ≡ Err f
+    by (Ok rects) p = absurd cc
+    by (Err g) p = ap (λ (h : GdsFault). Err h) (fault_is g f p)
+
+pub adds_fault : (at : ℕ) (pen : Pen) (old new : Shapes) (last : List Shape) (areas : Result (List Area) GdsFault) (f : GdsFault) → Puts {A = Unit {0}} (Err f) last (areas >>= put pen old.rects) → Adds (Err f) old new (drawn_on at (length old.rects) (Some pen) areas)
+adds_fault at pen old new last areas f puts = elim (fault_of f last (areas >>= put pen old.rects) puts) [
+  | inl short ↦ rw short (out (drawn_on at (length old.rects) (Some pen) areas))
+  | inr same ↦ rw (faulty at pen old.rects areas f same) (adds_same f old new)
+]
+  where
+    out : (x : Result Shapes GdsFault) → Adds (Err fault.NoMemory) old new x
+    out (Ok s) = tt
+    out (Err g) = tt
+
+-- ---- the faults of a boundary and of a path
+
+pen_at : (grid : Grid) (inside : List Item) (pen : Pen) → pen_for grid inside ≡ Some pen → pen.at ≡ xy_place inside
+pen_at grid inside pen e = by (layer_of inside) e
+  where
+    some_is : (a b : Pen) → ◌≡◌ {A = Option Pen} (Some a) (Some b) → a ≡ b
+    some_is a b q = cc
+
+    by : (o : Option Layer) → option_map (pen_of grid inside) o ≡ Some pen → pen.at ≡ xy_place inside
+    by None q = absurd cc
+    by (Some on) q = ap (λ (p : Pen). p.at) (sym (some_is (pen_of grid inside on) pen q))
+
+pub boundary_fault : (grid : Grid) (at : ℕ) (inside : List Item) (pen : Pen) (old new : Shapes) (last : List Shape) (xy : List ℕ) (f : GdsFault) → pen_for grid inside ≡ Some pen → xy ≡ xy_of inside → Puts {A = Unit {0}} (Err f) last (put_all pen old.rects (boundary_areas pen.at (points_of xy))) → Adds (Err f) old new (drawn_on at (length old.rects) (pen_for grid inside) (boundary_areas (xy_place inside) (points_of (xy_of inside))))
+boundary_fault grid at inside pen old new last xy f told points puts =
+    subst (λ (o : Option Pen). Adds (Err f) old new (drawn_on at (length old.rects) o (boundary_areas (xy_place inside) (points_of (xy_of inside))))) (sym told)
+    (adds_fault at pen old new last (boundary_areas (xy_place inside) (points_of (xy_of inside))) f
+    (subst (λ (t : List ℕ). Puts {A = Unit {0}} (Err f) last (put_all pen old.rects (boundary_areas (xy_place inside) (points_of t)))) points
+    (subst (λ (n : ℕ). Puts {A = Unit {0}} (Err f) last (put_all pen old.rects (boundary_areas n (points_of xy)))) (pen_at grid inside pen told) puts)))
+
+pub path_fault : (grid : Grid) (at : ℕ) (inside : List Item) (pen : Pen) (old new : Shapes) (last : List Shape) (f : GdsFault) → pen_for grid inside ≡ Some pen → Puts {A = Unit {0}} (Err f) last (put_all pen old.rects (path_areas_of pen.at inside)) → Adds (Err f) old new (drawn_on at (length old.rects) (pen_for grid inside) (path_areas_of (xy_place inside) inside))
+path_fault grid at inside pen old new last f told puts =
+    subst (λ (o : Option Pen). Adds (Err f) old new (drawn_on at (length old.rects) o (path_areas_of (xy_place inside) inside))) (sym told)
+    (adds_fault at pen old new last (path_areas_of (xy_place inside) inside) f
+    (subst (λ (n : ℕ). Puts {A = Unit {0}} (Err f) last (put_all pen old.rects (path_areas_of n inside))) (pen_at grid inside pen told) puts))

@@ -1,0 +1,28 @@
+use Rattle.std.proofs.Common.{rules, arith, ◌≡◌, ◌≤◌, length, pos, slice_index_or}
+use Rattle.gds_read.specs.declared.even_odd.SideEnd.{SideEnd}
+use Rattle.gds_read.proofs.Rows.{same_row_at, next_row_at, row_stops_at, rows_done}
+use Rattle.gds_read.proofs.even_odd.sweep.Goals as goal
+
+-- what stands where no end is
+abbrev none : SideEnd
+none = record { y = pos 0; x = pos 0 }
+
+pub loop-end-preserved-then-end-row : goal.loop-end-preserved-then-end-row
+loop-end-preserved-then-end-row c =
+    let same : (slice_index_or c.args.ends.now c.loop-end.end-index none).y ≡ c.loop-end.row.y = search rules in
+    same_row_at c.args.pen.now c.loop-end.rects c.loop-end.row c.loop-end.xs.items c.push.new.xs.items c.args.ends.now c.loop-end.end-index none _ c.loop-end-test.true same c.in_ok-push.ensures c.loop-end.invariant
+
+pub returns-in-Err : goal.returns-in-Err
+returns-in-Err c =
+    let other : (slice_index_or c.args.ends.now c.loop-end.end-index none).y ≡ c.loop-end.row.y → ⊥ = search rules in
+    row_stops_at c.args.pen.now c.loop-end.rects c.next_row.new.rects c.next_row.new.rects c.loop-end.row c.loop-end.xs.items c.args.ends.now c.loop-end.end-index none c.in-Err.fault _ c.loop-end-test.true other c.in-Err.ensures.drawn c.loop-end.invariant
+
+pub loop-end-preserved : goal.loop-end-preserved
+loop-end-preserved c =
+    let other : (slice_index_or c.args.ends.now c.loop-end.end-index none).y ≡ c.loop-end.row.y → ⊥ = search rules in
+    next_row_at c.args.pen.now c.loop-end.rects c.next_row.new.rects c.loop-end.row c.loop-end.xs.items c.in-Ok.xs.items c.args.ends.now c.loop-end.end-index none _ c.loop-end-test.true other c.in-Ok.ensures.drawn c.in-Ok.ensures.crossings c.loop-end.invariant
+
+pub returns : goal.returns
+returns c =
+    let past : length c.args.ends.now ≤ c.loop-end.end-index = omega (arith, c.loop-end-test.false) in
+    rows_done c.args.pen.now c.loop-end.rects c.loop-end.row c.loop-end.xs.items c.args.ends.now c.loop-end.end-index _ past c.loop-end.invariant

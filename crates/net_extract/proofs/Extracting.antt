@@ -1,0 +1,112 @@
+-- The steps of extraction give the netlist, or the fault.
+use Rattle.std.proofs.Common.{◌≡◌, ℕ, ◌≤◌, ◌<◌, List, [], ◌∷◌, map, length, Option, Some, None, Result, Ok, Err, IfOk, arith, inl, inr, ◌⊎◌, refl, sym, subst, ap, ◌∙◌}
+use Rattle.std.specs.List.{All, AllZip, find}
+use Rattle.box_geom.specs.Layers.{AreWithinLimits}
+use Rattle.box_geom.specs.declared.shape.Shape.{Shape}
+use Rattle.box_geom.specs.declared.shape.Label.{Label}
+use Rattle.box_geom.specs.declared.shape.Shapes.{Shapes}
+use Rattle.net_extract.specs.Nets.{Site}
+use Rattle.net_extract.specs.Devices.{AreDevices, IsFirstOdd}
+use Rattle.net_extract.specs.Extraction.{AreFew, AreRegular, IsLabelled, Extracts, IsTooMany, IsOddDevice, IsStrayLabel, IsShortDrawing, IsSplitDrawing, ExtractRefused}
+use Rattle.net_extract.specs.Naming.{IsAgreed, names_of, short_net, split_name, IsNameFault}
+use Rattle.net_extract.specs.Labels.{AreHeld, IsFirstStray}
+use Rattle.net_extract.specs.Lookups.{is_lost, held_in, IsStrayOf, IsLostBy}
+use Rattle.net_extract.specs.GateNets.{AreGates, AreGateNets, AreFound, IsOddFault}
+use Rattle.net_extract.specs.NetMaps.{firsts_of, AreWires}
+use Rattle.net_extract.specs.Steps.{AreNamed}
+use Rattle.net_extract.specs.declared.naming.Held.{Held}
+use Rattle.net_extract.specs.declared.netlist.Drawn.{Drawn}
+use Rattle.net_extract.specs.declared.netlist.Netlist.{Netlist}
+use Rattle.net_extract.specs.declared.fault.ExtractFault.{ExtractFault}
+use Rattle.net_extract.specs.declared.fault.ExtractFault.TheVariants.{TooMany, OddDevice, Stray, Short, Split, NoMemory}
+use Rattle.net_extract.specs.declared.piece.Piece.{Piece}
+use Rattle.net_extract.specs.declared.netmap.Wire.{Wire}
+use Rattle.box_geom.specs.Rectangle.{IsRectangle}
+use Rattle.net_extract.specs.Cuts.{poly_of, gates_in}
+use Rattle.net_extract.proofs.Carving.{gates_drawn, proper_of_limits}
+use Rattle.net_extract.proofs.Labelling.{labels_held, stray_is}
+
+pub many_rects : (shapes : Shapes) → 10000 < length shapes.rects → IsTooMany shapes (length shapes.rects)
+many_rects shapes l = record { which = inl (l, refl) }
+
+pub many_labels : (shapes : Shapes) → length shapes.rects ≤ 10000 → 2000 < length shapes.labels → IsTooMany shapes (length shapes.labels)
+many_labels shapes r l = record { which = inr (r, l, refl) }
+
+pub few_are : (shapes : Shapes) → length shapes.rects ≤ 10000 → length shapes.labels ≤ 2000 → AreFew shapes
+few_are shapes r l = record { rects = r; labels = l }
+
+pub ruleset count_rules = (many_rects, many_labels, few_are)
+
+pub odd_refused : (shapes : Shapes) (f : ExtractFault) → AreFew shapes → IsOddFault shapes.rects f → ExtractRefused shapes f
+odd_refused shapes (OddDevice x y) few o = record { few = few; odd = o }
+odd_refused shapes NoMemory few o = tt
+odd_refused shapes (TooMany n) few o = absurd o
+odd_refused shapes (Stray n) few o = absurd o
+odd_refused shapes (Short a b) few o = absurd o
+odd_refused shapes (Split n) few o = absurd o
+
+stray_at : (shapes : Shapes) (wires : List Wire) (firsts : List Piece) → AreRegular shapes → AreWires shapes.rects wires firsts → (o : Option Label) → find (is_lost wires) shapes.labels ≡ o → (f : ExtractFault) → IsLostBy o f → ExtractRefused shapes f
+stray_at shapes wires firsts regular m None q f s = absurd s
+stray_at shapes wires firsts regular m (Some l) q (Stray name) s = record { regular = regular; stray = subst (IsFirstStray shapes.rects shapes.labels) (sym s) (stray_is shapes.rects wires firsts m shapes.labels l q) }
+stray_at shapes wires firsts regular m (Some l) q NoMemory s = tt
+stray_at shapes wires firsts regular m (Some l) q (TooMany n) s = absurd s
+stray_at shapes wires firsts regular m (Some l) q (OddDevice x y) s = absurd s
+stray_at shapes wires firsts regular m (Some l) q (Short a b) s = absurd s
+stray_at shapes wires firsts regular m (Some l) q (Split n) s = absurd s
+
+pub stray_refused : (shapes : Shapes) (wires ws : List Wire) (labels : List Label) (firsts : List Piece) (f : ExtractFault) → AreRegular shapes → AreWires shapes.rects wires firsts → ws ≡ wires → labels ≡ shapes.labels → IsLostBy (find (is_lost ws) labels) f → ExtractRefused shapes f
+stray_refused shapes wires ws labels firsts f regular m ew el e = stray_at shapes wires firsts regular m (find (is_lost wires) shapes.labels) refl f (subst (λ z. IsLostBy (find (is_lost z) shapes.labels) f) ew (subst (λ z. IsLostBy (find (is_lost ws) z) f) el e))
+
+many_firsts : (firsts : List Piece) → length (firsts_of firsts) ≡ length firsts
+many_firsts [] = refl
+many_firsts (p ∷ ps) = omega (arith, many_firsts ps)
+
+labelled : (shapes : Shapes) (wires : List Wire) (firsts : List Piece) → AreWires shapes.rects wires firsts → find (is_lost wires) shapes.labels ≡ None → IsLabelled shapes (firsts_of firsts) (held_in wires shapes.labels)
+labelled shapes wires firsts m e = record { nets = m.nets; labels = labels_held shapes.rects wires firsts m shapes.labels e }
+
+pub named_are : (shapes : Shapes) (wires : List Wire) (firsts : List Piece) (held : List Held) (count : ℕ) (names : List (List ℕ)) → AreWires shapes.rects wires firsts → find (is_lost wires) shapes.labels ≡ None → held ≡ held_in wires shapes.labels → count ≡ length firsts → short_net held count ≡ None → split_name held ≡ None → names ≡ names_of held count → AreNamed shapes (firsts_of firsts) names
+named_are shapes wires firsts held count names m e eh ec ss sp en =
+    let same : count ≡ length (firsts_of firsts) = ec ∙ sym (many_firsts firsts) in
+    record {
+      held = held;
+      labelled = subst (IsLabelled shapes (firsts_of firsts)) (sym eh) (labelled shapes wires firsts m e);
+      agreed = subst (IsAgreed held) same (record { no_short = ss; no_split = sp });
+      are = subst (λ n. names ≡ names_of held n) same en;
+    }
+
+pub name_refused : (shapes : Shapes) (wires : List Wire) (firsts : List Piece) (held : List Held) (count : ℕ) (f : ExtractFault) → AreRegular shapes → AreWires shapes.rects wires firsts → find (is_lost wires) shapes.labels ≡ None → held ≡ held_in wires shapes.labels → count ≡ length firsts → IsNameFault held count f → ExtractRefused shapes f
+name_refused shapes wires firsts held count f regular m e eh ec is = by f (subst (λ n. IsNameFault held n f) (ec ∙ sym (many_firsts firsts)) is)
+  where
+    lab : IsLabelled shapes (firsts_of firsts) held
+    lab = subst (IsLabelled shapes (firsts_of firsts)) (sym eh) (labelled shapes wires firsts m e)
+
+    by : (g : ExtractFault) → IsNameFault held (length (firsts_of firsts)) g → ExtractRefused shapes g
+    by (Short a b) s = record { regular = regular; firsts = firsts_of firsts; held = held; labelled = lab; short = s }
+    by (Split n) s = record { regular = regular; firsts = firsts_of firsts; held = held; labelled = lab; split = s }
+    by NoMemory s = tt
+    by (TooMany n) s = absurd s
+    by (OddDevice x y) s = absurd s
+    by (Stray n) s = absurd s
+
+pub regular_of : (shapes : Shapes) (firsts : List Site) (devices : List Drawn) → AreFew shapes → AreFound shapes.rects firsts devices → AreRegular shapes
+regular_of shapes firsts devices few found = record { few = few; none_odd = found.are.none_odd }
+
+pub extracts : (shapes : Shapes) (firsts : List Site) (n : Netlist) → AreFew shapes → AreFound shapes.rects firsts n.devices → AreNamed shapes firsts n.names → Extracts shapes n
+extracts shapes firsts n few found named = record {
+  few = few;
+  firsts = firsts;
+  held = named.held;
+  labelled = named.labelled;
+  agreed = named.agreed;
+  names = named.are;
+  boxes = found.boxes;
+  devices = found.are;
+  drawn = found.drawn;
+}
+
+pub if_ok : {X E : Type 0} (A B : X → Type 0) (r : Result X E) → ((x : X) → A x → B x) → IfOk r A → IfOk r B
+if_ok A B (Ok x) f h = f x h
+if_ok A B (Err e) f h = tt
+
+pub gate_nets : (s g : List Shape) (wires : List Wire) (firsts : List Piece) → All (λ (z : Shape). IsRectangle z.rect) s → g ≡ map poly_of (gates_in s) → AreWires g wires firsts → AreGateNets s wires firsts
+gate_nets s g wires firsts limits e m = record { gates = g; are = subst (AreGates s) (sym e) (gates_drawn s (proper_of_limits s limits)); nets = m }

@@ -1,0 +1,38 @@
+-- Pieces, labels and numbers together are the nets of a drawing.
+use Rattle.std.proofs.Common.{◌≡◌, ℕ, List, length, sym, subst, IsPermutation, IsSorted}
+use Rattle.std.specs.List.{All}
+use Rattle.box_geom.specs.Rectangle.{IsProper}
+use Rattle.box_geom.specs.declared.shape.Shape.{Shape}
+use Rattle.net_extract.specs.Classes.{AreLeast, AreHeads}
+use Rattle.net_extract.specs.Cuts.{pieces_in}
+use Rattle.net_extract.specs.NetMaps.{AreWires, AreNumbered}
+use Rattle.net_extract.specs.Parts.{AreDrawn}
+use Rattle.net_extract.specs.Pieces.{rect_of, rects_in, piece_cmp, Paired}
+use Rattle.net_extract.specs.declared.netmap.Wire.{Wire}
+use Rattle.net_extract.specs.declared.piece.Piece.{Piece}
+use Rattle.net_extract.proofs.Carving.{pieces_drawn}
+use Rattle.net_extract.proofs.Classing.{least_heads}
+use Rattle.net_extract.proofs.Listing.{drawn_permuted, all_proper}
+use Rattle.net_extract.proofs.Wiring.{wires_are}
+
+pub sorted_drawn : (s : List Shape) (ps qs : List Piece) → All (λ (z : Shape). IsProper z.rect) s → ps ≡ pieces_in s → IsPermutation ps qs → AreDrawn s (rects_in qs)
+sorted_drawn s ps qs proper e m = drawn_permuted s ps qs m (subst (λ z. AreDrawn s (rects_in z)) (sym e) (pieces_drawn s proper))
+
+pub ruleset piece_rules = (sorted_drawn)
+
+pub pieces_proper : (s : List Shape) (ps : List Piece) → AreDrawn s (rects_in ps) → All (λ p. IsProper (rect_of p)) ps
+pieces_proper = all_proper
+
+pub labels_head : (s : List Shape) (ps : List Piece) (ls : List ℕ) → AreLeast (length ps) (Paired s ps) ls → AreHeads (length ps) ls
+labels_head s ps ls is = least_heads (length ps) (Paired s ps) ls is
+
+pub net_is : (s : List Shape) (ps : List Piece) (ls : List ℕ) (wires : List Wire) (firsts : List Piece) → AreDrawn s (rects_in ps) → IsSorted piece_cmp ps → AreLeast (length ps) (Paired s ps) ls → AreNumbered ps ls (length ps) wires firsts → AreWires s wires firsts
+net_is s ps ls wires firsts d up least n = wires_are s ps ls wires firsts (record { drawn = d; sorted = up; least = least }) n
+
+pub ruleset net_rules = (pieces_proper, labels_head, net_is)
+
+pub heads_from : (s : List Shape) (ps qs rs : List Piece) (ls ms : List ℕ) → qs ≡ ps → rs ≡ ps → ms ≡ ls → AreLeast (length qs) (Paired s qs) ls → AreHeads (length rs) ms
+heads_from s ps qs rs ls ms eq er em least = subst (λ zs. AreHeads (length zs) ms) (sym er) (subst (AreHeads (length ps)) (sym em) (labels_head s ps ls (subst (λ zs. AreLeast (length zs) (Paired s zs) ls) eq least)))
+
+pub net_from : (s : List Shape) (ps qs rs : List Piece) (ls ms : List ℕ) (wires : List Wire) (firsts : List Piece) → qs ≡ ps → rs ≡ ps → ms ≡ ls → AreDrawn s (rects_in ps) → IsSorted piece_cmp ps → AreLeast (length qs) (Paired s qs) ls → AreNumbered rs ms (length rs) wires firsts → AreWires s wires firsts
+net_from s ps qs rs ls ms wires firsts eq er em d up least n = net_is s ps ls wires firsts d up (subst (λ zs. AreLeast (length zs) (Paired s zs) ls) eq least) (subst (λ zs. AreNumbered zs ls (length zs) wires firsts) er (subst (λ zs. AreNumbered rs zs (length rs) wires firsts) em n))

@@ -1,0 +1,277 @@
+-- The sides of a gate, the net along each, and the device between them.
+use Rattle.std.proofs.Common.{◌≡◌, ◌↔◌, IsTrue, IfSome, ℕ, ◌≤◌, ◌<◌, min, max, ℤ, pos, ◌+ℤ◌, ◌-ℤ◌, ◌≤ℤ◌, ◌<ℤ◌, unsigned_abs, Bool, true, false, not, ◌&&◌, ◌||◌, ◌==◌, Option, Some, None, List, [], ◌∷◌, slice_get, arith, inl, inr, ◌⊎◌, refl, sym, subst, ap, ◌∙◌}
+use Rattle.std.specs.List.{All, Contains, list_all}
+use Rattle.std.specs.Bool.{Decides}
+use Rattle.std.proofs.lemmas.Int.{ints, clamps}
+use Rattle.std.proofs.lemmas.Bool.{cases_eq, eq-eqb, ne_eqb, cases_order}
+use Rattle.cell_num.proofs.Lists.{some_same, contains_none, contains_cons, contains_here, contains_there}
+use Rattle.cell_num.proofs.In.{Image, in_map, contains_map}
+use Rattle.cell_num.specs.declared.finger.Row.{Row}
+use Rattle.cell_num.specs.declared.finger.Row.TheVariants.{P, N}
+use Rattle.box_geom.specs.Rectangle.{Rectangle, IsProper, Holds, Covers}
+use Rattle.box_geom.specs.declared.shape.Shape.{Shape}
+use Rattle.box_geom.specs.declared.layer.Layer.TheVariants.{Well, Active, Poly as PolyLayer}
+use Rattle.scmos_rules.specs.Layout.{On, Gate}
+use Rattle.net_extract.specs.Nets.{Kind, p_diffusion, n_diffusion, poly, Site, site_at, Conducts, SameNet}
+use Rattle.net_extract.specs.Numbering.{AreNets, IsInNet}
+use Rattle.net_extract.specs.Parts.{AreDrawn, IsIn}
+use Rattle.net_extract.specs.Devices.{InRow, diffusion_of, IsSide, IsClosed, IsSize, Flow, rightward, upward, source_side, drain_side, low_end, high_end, IsGateBox, IsDevice, IsSomeDevice}
+use Rattle.net_extract.specs.Extraction.{IsDrawn}
+use Rattle.net_extract.specs.Pieces.{kind_of, place, rect_of, part_of, rects_in}
+use Rattle.net_extract.specs.NetMaps.{firsts_of, pieces_of, AreWires, IsFound}
+use Rattle.net_extract.specs.Lookups.{net_in}
+use Rattle.net_extract.specs.Areas.{meeting, IsFull, IsFree}
+use Rattle.net_extract.specs.Sides.{flow_of, conductor_of, IsInRow, IsDiffusion, agrees, all_agree, IsSideNet, IsAlong, IsNotAlong, AreClosed, width_of, length_of, drawn_as}
+use Rattle.net_extract.specs.declared.side.Current.{Current}
+use Rattle.net_extract.specs.declared.side.Current.TheVariants.{Rightward, Upward}
+use Rattle.net_extract.specs.declared.netlist.Drawn.{Drawn}
+use Rattle.net_extract.specs.declared.piece.Conductor.{Conductor}
+use Rattle.net_extract.specs.declared.piece.Conductor.TheVariants.{PDiffusion, NDiffusion, Poly}
+use Rattle.net_extract.specs.declared.piece.Piece.{Piece}
+use Rattle.net_extract.specs.declared.netmap.Wire.{Wire}
+use Rattle.net_extract.proofs.Conductors.{same_place, same_kind_place}
+use Rattle.net_extract.proofs.Filling.{Common, meeting_decides, and_parts, and_true}
+use Rattle.net_extract.proofs.Labelling.{net_in_some, net_in_none, wire_net}
+use Rattle.net_extract.proofs.Listing.{piece_proper, Held as HeldCell, held as held_cell}
+use Rattle.net_extract.proofs.Numbers.{one_number}
+use Rattle.net_extract.proofs.Wiring.{net_back, net_both, net_self}
+
+-- ---- rows
+pub full_row : (s : List Shape) (area : Rectangle) (b : Bool) → (IsTrue b ↔ IsFull s Well area) → IsTrue b ↔ IsInRow s P area
+full_row s area b d = (λ t. record { all = (d.0 t).full }, λ r. d.1 (record { full = r.all }))
+
+pub free_row : (s : List Shape) (area : Rectangle) (b : Bool) → (IsTrue b ↔ IsFree s Well area) → IsTrue b ↔ IsInRow s N area
+free_row s area b d = (λ t. record { all = (d.0 t).free }, λ r. d.1 (record { free = r.all }))
+
+pub ruleset row_rules = (full_row, free_row)
+
+-- ---- areas of diffusion
+diffusion_there : (s : List Shape) (row : Row) (x y : ℤ) → On Active s x y → (On PolyLayer s x y → ⊥) → InRow row s x y → Conducts s (site_at (diffusion_of row) x y)
+diffusion_there s P x y a p w = ((a, p), w)
+diffusion_there s N x y a p w = ((a, p), w)
+
+of_diffusion : (s : List Shape) (row : Row) (x y : ℤ) → Conducts s (site_at (diffusion_of row) x y) → On Active s x y × (On PolyLayer s x y → ⊥) × InRow row s x y
+of_diffusion s P x y d = (d.0.0, d.0.1, d.1)
+of_diffusion s N x y d = (d.0.0, d.0.1, d.1)
+
+pub no_active : (s : List Shape) (row : Row) (area : Rectangle) (b : Bool) → (IsTrue b ↔ IsFull s Active area) → b ≡ false → IsDiffusion s row area → ⊥
+no_active s row area b d e is = let t = d.1 (record { full = λ x y h. (of_diffusion s row x y (is.all x y h)).0 }) in absurd (cc (sym e ∙ t))
+
+pub some_poly : (s : List Shape) (row : Row) (area : Rectangle) (b : Bool) → (IsTrue b ↔ IsFree s PolyLayer area) → b ≡ false → IsDiffusion s row area → ⊥
+some_poly s row area b d e is = let t = d.1 (record { free = λ x y h. (of_diffusion s row x y (is.all x y h)).1 }) in absurd (cc (sym e ∙ t))
+
+pub is_diffused : (s : List Shape) (row : Row) (area : Rectangle) (a p r : Bool) → (IsTrue a ↔ IsFull s Active area) → a ≡ true → (IsTrue p ↔ IsFree s PolyLayer area) → p ≡ true → (IsTrue r ↔ IsInRow s row area) → IsTrue r ↔ IsDiffusion s row area
+is_diffused s row area a p r da ea dp ep dr = (
+  λ t. record { all = λ x y h. diffusion_there s row x y ((da.0 ea).full x y h) ((dp.0 ep).free x y h) ((dr.0 t).all x y h) },
+  λ d. dr.1 (record { all = λ x y h. (of_diffusion s row x y (d.all x y h)).2 }),
+)
+
+pub ruleset diffusion_rules = (no_active, some_poly, is_diffused)
+
+-- ---- the net along a side
+pub in_first : (s : List Shape) (firsts : List Site) (n : ℕ) (a b : Site) → IsInNet s firsts n a → IsInNet s firsts n b → SameNet s a b
+in_first s firsts n a b x y =
+    let same : x.first ≡ y.first = some_same x.first y.first (sym x.numbered ∙ y.numbered) in
+    net_both s a x.first b (net_back s x.first a x.same) (subst (λ z. SameNet s z b) (sym same) y.same)
+
+pub move_net : (s : List Shape) (firsts : List Site) (n : ℕ) (a b : Site) → IsInNet s firsts n a → SameNet s a b → IsInNet s firsts n b
+move_net s firsts n a b x ab = record { first = x.first; numbered = x.numbered; same = net_both s x.first a b x.same ab }
+
+all_of : {X : Type 0} (p : X → Bool) (xs : List X) → list_all p xs ≡ true → (x : X) → Contains xs x → p x ≡ true
+all_of p [] e x c = absurd (contains_none x c)
+all_of p (y ∷ ys) e x c =
+    let t = and_parts (p y) (list_all p ys) e in
+    elim (contains_cons y ys x c) [ inl same ↦ subst (λ z. p z ≡ true) same t.0 | inr later ↦ all_of p ys t.1 x later ]
+
+of_all : {X : Type 0} (p : X → Bool) (xs : List X) → ((x : X) → Contains xs x → p x ≡ true) → list_all p xs ≡ true
+of_all p [] h = refl
+of_all p (y ∷ ys) h = and_true (p y) (list_all p ys) (h y (contains_here y ys)) (of_all p ys (λ x c. h x (contains_there y ys x c)))
+
+agree_net : (a b c : Bool) → (not (a && b) || c) ≡ true → a ≡ true → b ≡ true → c ≡ true
+agree_net true true c e f g = e
+agree_net true false c e f g = absurd (cc g)
+agree_net false b c e f g = absurd (cc f)
+
+net_agrees : (a b c : Bool) → (a ≡ true → b ≡ true → c ≡ true) → (not (a && b) || c) ≡ true
+net_agrees true true c h = h refl refl
+net_agrees true false c h = refl
+net_agrees false b c h = refl
+
+eq_of : (a b : ℕ) → (a == b) ≡ true → a ≡ b
+eq_of a b e = elim (cases_eq a b) [ inl same ↦ same | inr ne ↦ absurd (let f : (a == b) ≡ false = ne_eqb a b ne in cc (sym f ∙ e)) ]
+
+kind_row : (row : Row) → kind_of (conductor_of row) ≡ diffusion_of row
+kind_row P = refl
+kind_row N = refl
+
+pub corner_held : (r : Rectangle) → IsProper r → Holds r r.x1 r.y1
+corner_held r p = let w = p.wide in let h = p.high in omega (arith, ints)
+
+-- a cell of the kind lies in a wire of it
+pub record InWire (wires : List Wire) (a : Site) : Type 0 where
+  pub wire : Wire
+  pub listed : Contains wires wire
+  pub inside : IsIn (part_of wire.piece) a
+
+pub in_wire : (s : List Shape) (wires : List Wire) (firsts : List Piece) → AreWires s wires firsts → (a : Site) → Conducts s a → InWire wires a
+in_wire s wires firsts m a c =
+    let h = held_cell s (pieces_of wires) m.drawn a c in
+    let i = in_map (λ (z : Wire). z.piece) wires h.piece h.listed in
+    record { wire = i.of; listed = i.listed; inside = subst (λ p. IsIn (part_of p) a) (sym i.is) h.inside }
+
+pub wire_proper : (s : List Shape) (wires : List Wire) (firsts : List Piece) → AreWires s wires firsts → (w : Wire) → Contains wires w → IsProper (rect_of w.piece)
+wire_proper s wires firsts m w c = piece_proper s (pieces_of wires) m.drawn w.piece (contains_map (λ (z : Wire). z.piece) wires w c)
+
+pub side_some : (s : List Shape) (wires : List Wire) (firsts : List Piece) → AreWires s wires firsts → (row : Row) (area : Rectangle) (n : ℕ) → IsProper area → IsDiffusion s row area → net_in wires (conductor_of row) area.x1 area.y1 ≡ Some n → all_agree wires (conductor_of row) area n ≡ true → IsSideNet s (firsts_of firsts) row area n
+side_some s wires firsts m row area n p d e agree =
+    let f : IsFound s (firsts_of firsts) (kind_of (conductor_of row)) area.x1 area.y1 n = net_in_some s wires firsts m (conductor_of row) area.x1 area.y1 n e in
+    let at : IsInNet s (firsts_of firsts) n (site_at (diffusion_of row) area.x1 area.y1) = subst (λ k. IsInNet s (firsts_of firsts) n (site_at k area.x1 area.y1)) (kind_row row) f.net in
+    record {
+      site = site_at (diffusion_of row) area.x1 area.y1;
+      side = record {
+        conducts = d.all area.x1 area.y1 (corner_held area p);
+        side = λ x y h. (d.all x y h, in_first s (firsts_of firsts) n (site_at (diffusion_of row) area.x1 area.y1) (site_at (diffusion_of row) x y) at (net_there x y h));
+      };
+      net = at;
+    }
+  where
+    net_there : (x y : ℤ) → Holds area x y → IsInNet s (firsts_of firsts) n (site_at (diffusion_of row) x y)
+    net_there x y h =
+        let w = in_wire s wires firsts m (site_at (diffusion_of row) x y) (d.all x y h) in
+        let t : agrees (conductor_of row) area n w.wire ≡ true = all_of (agrees (conductor_of row) area n) wires agree w.wire w.listed in
+        let kinds : place w.wire.piece.kind ≡ place (conductor_of row) = same_place w.wire.piece.kind (conductor_of row) (w.inside.kind ∙ sym (kind_row row)) in
+        let met : meeting area (rect_of w.wire.piece) ≡ true = (meeting_decides area (rect_of w.wire.piece) p (wire_proper s wires firsts m w.wire w.listed)).1 (record { x = x; y = y; in_a = h; in_b = w.inside.holds }) in
+        let same : w.wire.net ≡ n = eq_of w.wire.net n (agree_net (place w.wire.piece.kind == place (conductor_of row)) (meeting area (rect_of w.wire.piece)) (w.wire.net == n) t (eq-eqb (place w.wire.piece.kind) (place (conductor_of row)) kinds) met) in
+        subst (λ z. IsInNet s (firsts_of firsts) z (site_at (diffusion_of row) x y)) same (wire_net s wires firsts m w.wire w.listed (site_at (diffusion_of row) x y) w.inside)
+
+pub side_not_diffusion : (s : List Shape) (row : Row) (area : Rectangle) → (IsDiffusion s row area → ⊥) → (a : Site) → IsSide s (diffusion_of row) area a → ⊥
+side_not_diffusion s row area out a side = out (record { all = λ x y h. (side.side x y h).0 })
+
+pub side_no_net : (s : List Shape) (wires : List Wire) (firsts : List Piece) → AreWires s wires firsts → (row : Row) (area : Rectangle) → IsProper area → net_in wires (conductor_of row) area.x1 area.y1 ≡ None → (a : Site) → IsSide s (diffusion_of row) area a → ⊥
+side_no_net s wires firsts m row area p e a side = net_in_none s wires firsts m (conductor_of row) area.x1 area.y1 e (subst (λ k. Conducts s (site_at k area.x1 area.y1)) (sym (kind_row row)) (side.side area.x1 area.y1 (corner_held area p)).0)
+
+pub side_two_nets : (s : List Shape) (wires : List Wire) (firsts : List Piece) → AreWires s wires firsts → (row : Row) (area : Rectangle) (n : ℕ) → IsProper area → net_in wires (conductor_of row) area.x1 area.y1 ≡ Some n → all_agree wires (conductor_of row) area n ≡ false → (a : Site) → IsSide s (diffusion_of row) area a → ⊥
+side_two_nets s wires firsts m row area n p e no' a side =
+    let all : all_agree wires (conductor_of row) area n ≡ true = of_all (agrees (conductor_of row) area n) wires one_by_one in
+    absurd (cc (sym no' ∙ all))
+  where
+    at : IsInNet s (firsts_of firsts) n (site_at (diffusion_of row) area.x1 area.y1)
+    at = subst (λ k. IsInNet s (firsts_of firsts) n (site_at k area.x1 area.y1)) (kind_row row) (net_in_some s wires firsts m (conductor_of row) area.x1 area.y1 n e).net
+
+    one_by_one : (w : Wire) → Contains wires w → agrees (conductor_of row) area n w ≡ true
+    one_by_one w c = net_agrees (place w.piece.kind == place (conductor_of row)) (meeting area (rect_of w.piece)) (w.net == n) (λ k met.
+        let there = (meeting_decides area (rect_of w.piece) p (wire_proper s wires firsts m w c)).0 met in
+        let kinds : kind_of w.piece.kind ≡ diffusion_of row = same_kind_place w.piece.kind (conductor_of row) (eq_of (place w.piece.kind) (place (conductor_of row)) k) ∙ kind_row row in
+        let mine : IsInNet s (firsts_of firsts) w.net (site_at (diffusion_of row) there.x there.y) = wire_net s wires firsts m w c (site_at (diffusion_of row) there.x there.y) (record { kind = kinds; holds = there.in_b }) in
+        let first : SameNet s a (site_at (diffusion_of row) area.x1 area.y1) = (side.side area.x1 area.y1 (corner_held area p)).1 in
+        let second : SameNet s a (site_at (diffusion_of row) there.x there.y) = (side.side there.x there.y there.in_a).1 in
+        let link : SameNet s (site_at (diffusion_of row) area.x1 area.y1) (site_at (diffusion_of row) there.x there.y) = net_both s (site_at (diffusion_of row) area.x1 area.y1) a (site_at (diffusion_of row) there.x there.y) (net_back s a (site_at (diffusion_of row) area.x1 area.y1) first) second in
+        let moved : IsInNet s (firsts_of firsts) n (site_at (diffusion_of row) there.x there.y) = move_net s (firsts_of firsts) n (site_at (diffusion_of row) area.x1 area.y1) (site_at (diffusion_of row) there.x there.y) at link in
+        eq-eqb w.net n (one_number s (firsts_of firsts) w.net n (site_at (diffusion_of row) there.x there.y) m.nets mine moved))
+
+-- ---- the four sides of a gate
+pub source_proper : (flow : Flow) (r a : Rectangle) → IsProper r → a ≡ source_side flow r → IsProper a
+source_proper rightward r a p e = subst IsProper (sym e) (let w = p.wide in let h = p.high in record { wide = omega (arith, ints); high = omega (arith, ints) })
+source_proper upward r a p e = subst IsProper (sym e) (let w = p.wide in let h = p.high in record { wide = omega (arith, ints); high = omega (arith, ints) })
+
+pub drain_proper : (flow : Flow) (r a : Rectangle) → IsProper r → a ≡ drain_side flow r → IsProper a
+drain_proper rightward r a p e = subst IsProper (sym e) (let w = p.wide in let h = p.high in record { wide = omega (arith, ints); high = omega (arith, ints) })
+drain_proper upward r a p e = subst IsProper (sym e) (let w = p.wide in let h = p.high in record { wide = omega (arith, ints); high = omega (arith, ints) })
+
+pub low_proper : (flow : Flow) (r a : Rectangle) → IsProper r → a ≡ low_end flow r → IsProper a
+low_proper rightward r a p e = subst IsProper (sym e) (let w = p.wide in let h = p.high in record { wide = omega (arith, ints); high = omega (arith, ints) })
+low_proper upward r a p e = subst IsProper (sym e) (let w = p.wide in let h = p.high in record { wide = omega (arith, ints); high = omega (arith, ints) })
+
+pub high_proper : (flow : Flow) (r a : Rectangle) → IsProper r → a ≡ high_end flow r → IsProper a
+high_proper rightward r a p e = subst IsProper (sym e) (let w = p.wide in let h = p.high in record { wide = omega (arith, ints); high = omega (arith, ints) })
+high_proper upward r a p e = subst IsProper (sym e) (let w = p.wide in let h = p.high in record { wide = omega (arith, ints); high = omega (arith, ints) })
+
+pub low_not_closed : (s : List Shape) (flow : Flow) (r a : Rectangle) (b : Bool) → a ≡ low_end flow r → (IsTrue b ↔ IsFree s Active a) → b ≡ false → AreClosed s flow r → ⊥
+low_not_closed s flow r a b e d no' c = let t = d.1 (subst (IsFree s Active) (sym e) (record { free = c.low.closed })) in absurd (cc (sym no' ∙ t))
+
+pub both_closed : (s : List Shape) (flow : Flow) (r a z : Rectangle) (b t : Bool) → a ≡ low_end flow r → (IsTrue b ↔ IsFree s Active a) → b ≡ true → z ≡ high_end flow r → (IsTrue t ↔ IsFree s Active z) → IsTrue t ↔ AreClosed s flow r
+both_closed s flow r a z b t ea da eb ez dz = (
+  λ x. record { low = record { closed = (subst (IsFree s Active) ea (da.0 eb)).free }; high = record { closed = (subst (IsFree s Active) ez (dz.0 x)).free } },
+  λ c. dz.1 (subst (IsFree s Active) (sym ez) (record { free = c.high.closed })),
+)
+
+-- ---- the device between two sides
+size_of : (current : Current) (p : Piece) → IsProper (rect_of p) → IsSize (flow_of current) (rect_of p) (width_of current p) (length_of current p)
+size_of Rightward p r = let w = r.wide in let h = r.high in record { across = λ e. (omega (arith, ints), omega (arith, ints)); upright = λ e. absurd (cc e) }
+size_of Upward p r = let w = r.wide in let h = r.high in record { across = λ e. absurd (cc e); upright = λ e. (omega (arith, ints), omega (arith, ints)) }
+
+ends_of : (one other : ℕ) → (((min one other ≡ one) × (max one other ≡ other)) ⊎ ((min one other ≡ other) × (max one other ≡ one)))
+ends_of one other = elim (cases_order one other) [
+  | inl e ↦ inl (omega (arith, e), omega (arith, e))
+  | inr r ↦ elim r [ inl l ↦ inl (omega (arith, l), omega (arith, l)) | inr g ↦ inr (omega (arith, g), omega (arith, g)) ]
+]
+
+pub along_is : (s : List Shape) (wires : List Wire) (firsts : List Piece) → AreWires s wires firsts → (p : Piece) (row : Row) (current : Current) (gate one other : ℕ) (d : Drawn) → IsProper (rect_of p) → AreClosed s (flow_of current) (rect_of p) → net_in wires Poly p.left p.low ≡ Some gate → IsSideNet s (firsts_of firsts) row (source_side (flow_of current) (rect_of p)) one → IsSideNet s (firsts_of firsts) row (drain_side (flow_of current) (rect_of p)) other → d ≡ drawn_as row gate (one, other) p current → IsAlong s (firsts_of firsts) (rect_of p) row (flow_of current) d
+along_is s wires firsts m p row current gate one other d proper closed e source drain is = subst (IsAlong s (firsts_of firsts) (rect_of p) row (flow_of current)) (sym is) (record {
+  of_row = refl;
+  gate = (net_in_some s wires firsts m Poly p.left p.low gate e).net;
+  one = one;
+  other = other;
+  source = source;
+  drain = drain;
+  ends = ends_of one other;
+  order = omega arith;
+  low = closed.low;
+  high = closed.high;
+  size = size_of current p proper;
+})
+
+pub along_drawn : (s : List Shape) (firsts : List Site) (r : Rectangle) (row : Row) (flow : Flow) (d : Drawn) → IsGateBox s r → IsInRow s row r → IsAlong s firsts r row flow d → IsDrawn s firsts r d
+along_drawn s firsts r row flow d box in_row a = record {
+  gate = site_at poly r.x1 r.y1;
+  left = a.source.site;
+  right = a.drain.site;
+  is = subst (λ w. IsDevice s r w (site_at poly r.x1 r.y1) a.source.site a.drain.site d.width d.length) (sym a.of_row) (record {
+    flow = flow;
+    class = box;
+    of_row = in_row.all;
+    gate_net = net_self s (site_at poly r.x1 r.y1) (box.gate r.x1 r.y1 (corner_held r box.proper)).1;
+    left_side = a.source.side;
+    right_side = a.drain.side;
+    low = a.low;
+    high = a.high;
+    size = a.size;
+  });
+  gate_net = a.gate;
+  sides = elim a.ends [
+    | inl e ↦ inl (subst (λ n. IsInNet s firsts n a.source.site) (sym e.0) a.source.net, subst (λ n. IsInNet s firsts n a.drain.site) (sym e.1) a.drain.net)
+    | inr e ↦ inr (subst (λ n. IsInNet s firsts n a.drain.site) (sym e.0) a.drain.net, subst (λ n. IsInNet s firsts n a.source.site) (sym e.1) a.source.net)
+  ];
+  order = a.order;
+}
+
+-- a cell is in one row
+row_one : (s : List Shape) (a b : Row) (x y : ℤ) → InRow a s x y → InRow b s x y → a ≡ b
+row_one s P P x y u v = refl
+row_one s P N x y u v = absurd (v u)
+row_one s N P x y u v = absurd (u v)
+row_one s N N x y u v = refl
+
+pub no_device : (s : List Shape) (r : Rectangle) (row : Row) → IsProper r → IsInRow s row r → IsNotAlong s r row rightward → IsNotAlong s r row upward → IsSomeDevice s r → ⊥
+no_device s r row p in_row across up d =
+    let c = corner_held r p in
+    let same : d.row ≡ row = row_one s d.row row r.x1 r.y1 (d.is.of_row r.x1 r.y1 c) (in_row.all r.x1 r.y1 c) in
+    by (subst (λ w. IsDevice s r w d.gate d.left d.right d.width d.length) same d.is)
+  where
+    at : (f : Flow) → IsSide s (diffusion_of row) (source_side f r) d.left → IsSide s (diffusion_of row) (drain_side f r) d.right → IsClosed s (low_end f r) → IsClosed s (high_end f r) → ⊥
+    at rightward a b l h = across.never d.left d.right a b l h
+    at upward a b l h = up.never d.left d.right a b l h
+
+    by : IsDevice s r row d.gate d.left d.right d.width d.length → ⊥
+    by is = at is.flow is.left_side is.right_side is.low is.high
+
+pub no_row : (s : List Shape) (r : Rectangle) → (IsInRow s P r → ⊥) → (IsInRow s N r → ⊥) → IsSomeDevice s r → ⊥
+no_row s r p n d = by d.row d.is.of_row
+  where
+    by : (row : Row) → ((x y : ℤ) → Holds r x y → InRow row s x y) → ⊥
+    by P h = p (record { all = h })
+    by N h = n (record { all = h })
+
+pub if_some : {X : Type 0} (A B : X → Type 0) (o : Option X) → ((x : X) → A x → B x) → IfSome o A → IfSome o B
+if_some A B None f h = tt
+if_some A B (Some x) f h = f x h

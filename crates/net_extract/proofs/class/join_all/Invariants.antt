@@ -1,0 +1,7 @@
+use Rattle.std.proofs.Common.{length}
+use Rattle.net_extract.specs.Pieces.{Paired}
+use Rattle.net_extract.proofs.Classing.{AreSettled}
+use Rattle.net_extract.proofs.class.join_all.Given as goal
+
+abbrev pub invariant-loop-at : goal.invariant-loop-at
+invariant-loop-at l = AreSettled (length l.pieces) (Paired l.shapes l.pieces) l.at l.labels.items

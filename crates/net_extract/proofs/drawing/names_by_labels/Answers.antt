@@ -1,0 +1,28 @@
+use Rattle.std.proofs.Common.{◌≡◌, ℕ, arith, length}
+use Rattle.net_extract.specs.Lookups.{held_in}
+use Rattle.net_extract.proofs.Extracting.{named_are, name_refused}
+use Rattle.net_extract.proofs.drawing.names_by_labels.Goals as goal
+
+pub returns-in-Ok-net_names-clause-ok : goal.returns-in-Ok-net_names-clause-ok
+returns-in-Ok-net_names-clause-ok c =
+    let a = c.as_slice.ensures.value in
+    let b = c.as_slice-2.ensures in
+    let h = c.in-Ok.ensures in
+    let d = c.as_slice-3.ensures.value in
+    let n = c.in-Ok-count_of.ensures in
+    let f = c.as_slice-4.ensures.value in
+    let eh : c.as_slice-4.result.now ≡ held_in c.args.map.now.wires.items c.args.shapes.now.labels = grind (arith) in
+    let ec : c.in-Ok-count_of.count ≡ length c.args.map.now.firsts.items = grind (arith) in
+    named_are c.args.shapes.now c.args.map.now.wires.items c.args.map.now.firsts.items c.as_slice-4.result.now c.in-Ok-count_of.count c.in-Ok-net_names.names c.requires.map c.requires.held eh ec c.in-Ok-net_names.ensures.no_short c.in-Ok-net_names.ensures.no_split c.in-Ok-net_names.ensures.names
+
+pub returns-clause-refused : goal.returns-clause-refused
+returns-clause-refused c =
+    let a = c.as_slice.ensures.value in
+    let b = c.as_slice-2.ensures in
+    let h = c.in-Ok.ensures in
+    let d = c.as_slice-3.ensures.value in
+    let n = c.in-Ok-count_of.ensures in
+    let f = c.as_slice-4.ensures.value in
+    let eh : c.as_slice-4.result.now ≡ held_in c.args.map.now.wires.items c.args.shapes.now.labels = grind (arith) in
+    let ec : c.in-Ok-count_of.count ≡ length c.args.map.now.firsts.items = grind (arith) in
+    name_refused c.args.shapes.now c.args.map.now.wires.items c.args.map.now.firsts.items c.as_slice-4.result.now c.in-Ok-count_of.count c.in-Err.fault c.requires.regular c.requires.map c.requires.held eh ec c.in-Err.ensures.refused

@@ -1,0 +1,18 @@
+use Rattle.std.proofs.Common.{◌≡◌, ℕ, List, length, get_or, refl, arith, ◌∙◌, sym, ap}
+use Rattle.net_extract.specs.NetMaps.{blank, nets_of}
+use Rattle.net_extract.specs.declared.netmap.Wire.{Wire}
+use Rattle.net_extract.proofs.Numbering.{more_numbered, as_many, on_ok}
+use Rattle.net_extract.proofs.netmap.number_piece.Goals as goal
+
+pub returns : goal.returns
+returns c =
+    let less = c.requires.at in
+    let same : c.as_slice.result.now ≡ c.args.wires.now.items = c.as_slice.ensures.value in
+    let many : length c.as_slice.result.now ≡ c.args.at = ap (λ (z : List Wire). length z) same ∙ as_many c.args.pieces.now c.args.labels.now c.args.at c.args.wires.now.items c.args.firsts.now.items (omega (arith, less)) c.requires.before in
+    on_ok c.add_wire.result c.add_wire.ensures (λ made. more_numbered c.args.pieces.now c.args.labels.now c.args.at c.args.wires.now.items c.add_wire.new.wires.items c.args.firsts.now.items c.number_of.new.firsts.items (record { piece = get_or c.args.pieces.now c.args.at blank; net = c.in_ok-net.net }) c.requires.at c.requires.labels c.requires.before refl made
+    (record {
+      first = λ e. c.in_ok-net.ensures.first (e ∙ sym many);
+      new = λ e. c.in_ok-net.ensures.new (e ∙ sym many);
+      later = λ l. c.in_ok-net.ensures.later (omega (arith, l, many));
+      old = λ l. c.in_ok-net.ensures.old (omega (arith, l, many)) ∙ ap (λ (z : List Wire). get_or (nets_of z) (get_or c.args.labels.now c.args.at 0) 0) same;
+    }))

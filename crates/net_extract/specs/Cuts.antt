@@ -1,0 +1,87 @@
+-- Pieces that are cut by rectangles.
+use Rattle.std.specs.Prelude.{int_lt, Bool, ◌&&◌, if◌then◌else◌, List, [], ◌∷◌, ◌++◌, fold}
+use Rattle.std.specs.Int.{int_max, int_min}
+use Rattle.std.specs.List.{flat_map}
+use Rattle.box_geom.specs.Rectangle.{Rectangle}
+use Rattle.box_geom.specs.Layers.{same_layer}
+use Rattle.box_geom.specs.declared.shape.Shape.{Shape}
+use Rattle.box_geom.specs.declared.layer.Layer.{Layer}
+use Rattle.box_geom.specs.declared.layer.Layer.TheVariants.{Well, Active, Poly as PolyLayer, Metal1 as Metal1Layer, Metal2 as Metal2Layer}
+use Rattle.net_extract.specs.Pieces.{rect_of}
+use Rattle.net_extract.specs.declared.piece.Conductor.{Conductor}
+use Rattle.net_extract.specs.declared.piece.Conductor.TheVariants.{PDiffusion, NDiffusion, Poly, Metal1, Metal2}
+use Rattle.net_extract.specs.declared.piece.Piece.{Piece}
+
+abbrev pub is_some_piece : Piece → Bool
+is_some_piece p = int_lt p.left p.right && int_lt p.low p.top
+
+-- the piece, where it has cells
+abbrev pub kept : Piece → List Piece
+kept p = if is_some_piece p then p ∷ [] else []
+
+abbrev pub left_part : Piece → Rectangle → Piece
+left_part p r = record { low = p.low; left = p.left; kind = p.kind; top = p.top; right = int_min p.right r.x1 }
+
+abbrev pub right_part : Piece → Rectangle → Piece
+right_part p r = record { low = p.low; left = int_max p.left r.x2; kind = p.kind; top = p.top; right = p.right }
+
+abbrev pub low_part : Piece → Rectangle → Piece
+low_part p r = record { low = p.low; left = int_max p.left r.x1; kind = p.kind; top = int_min p.top r.y1; right = int_min p.right r.x2 }
+
+abbrev pub high_part : Piece → Rectangle → Piece
+high_part p r = record { low = int_max p.low r.y2; left = int_max p.left r.x1; kind = p.kind; top = p.top; right = int_min p.right r.x2 }
+
+-- what is left of a piece without a rectangle
+abbrev pub around : Rectangle → Piece → List Piece
+around r p = kept (left_part p r) ++ (kept (right_part p r) ++ (kept (low_part p r) ++ kept (high_part p r)))
+
+-- what a piece and a rectangle have in common
+abbrev pub common_part : Piece → Rectangle → Piece
+common_part p r = record { low = int_max p.low r.y1; left = int_max p.left r.x1; kind = p.kind; top = int_min p.top r.y2; right = int_min p.right r.x2 }
+
+abbrev pub shared_part : Rectangle → Piece → List Piece
+shared_part r p = kept (common_part p r)
+
+-- what is left of pieces without the shapes of a layer
+abbrev pub cut_once : Layer → List Piece → Shape → List Piece
+cut_once layer ps s = if same_layer s.layer layer then flat_map (around s.rect) ps else ps
+
+abbrev pub cut_all : Layer → List Piece → List Shape → List Piece
+cut_all layer ps shapes = fold (cut_once layer) ps shapes
+
+-- what pieces have in common with the shapes of a layer
+abbrev pub shared_once : Layer → List Piece → Shape → List Piece
+shared_once layer ps s = if same_layer s.layer layer then flat_map (shared_part s.rect) ps else []
+
+abbrev pub shared_all : Layer → List Piece → List Shape → List Piece
+shared_all layer ps shapes = flat_map (shared_once layer ps) shapes
+
+-- the rectangles of a layer as pieces of a kind
+abbrev pub piece_of : Conductor → Rectangle → Piece
+piece_of k r = record { low = r.y1; left = r.x1; kind = k; top = r.y2; right = r.x2 }
+
+abbrev pub drawn_once : Conductor → Layer → Shape → List Piece
+drawn_once k layer s = if same_layer s.layer layer then piece_of k s.rect ∷ [] else []
+
+abbrev pub drawn_all : Conductor → Layer → List Shape → List Piece
+drawn_all k layer shapes = flat_map (drawn_once k layer) shapes
+
+abbrev pub diffusion_in : Conductor → List Shape → List Piece
+diffusion_in k shapes = cut_all PolyLayer (drawn_all k Active shapes) shapes
+
+abbrev pub p_diffusion_in : List Shape → List Piece
+p_diffusion_in shapes = shared_all Well (diffusion_in PDiffusion shapes) shapes
+
+abbrev pub n_diffusion_in : List Shape → List Piece
+n_diffusion_in shapes = cut_all Well (diffusion_in NDiffusion shapes) shapes
+
+-- all conductor of a drawing
+abbrev pub pieces_in : List Shape → List Piece
+pieces_in shapes = (((p_diffusion_in shapes ++ n_diffusion_in shapes) ++ drawn_all Poly PolyLayer shapes) ++ drawn_all Metal1 Metal1Layer shapes) ++ drawn_all Metal2 Metal2Layer shapes
+
+abbrev pub gates_in : List Shape → List Piece
+gates_in shapes = shared_all PolyLayer (drawn_all Poly Active shapes) shapes
+
+-- a piece as a shape of poly
+abbrev pub poly_of : Piece → Shape
+poly_of p = record { layer = PolyLayer; rect = rect_of p }

@@ -1,0 +1,157 @@
+// The netlist of a drawing.
+ghost use Rattle.std.specs.Prelude.{◌≡◌, All, IfOk, IfErr, OnOk, None, map};
+ghost use Rattle.std.specs.List.{find};
+ghost use Rattle.net_extract.specs.Lookups.{is_lost};
+ghost use Rattle.box_geom.specs.Layers.{AreWithinLimits};
+ghost use Rattle.box_geom.specs.Rectangle.{IsRectangle};
+ghost use Rattle.net_extract.specs.Cuts.{poly_of};
+ghost use Rattle.net_extract.specs.Extraction.{AreFew, AreRegular, Extracts, ExtractRefused};
+ghost use Rattle.net_extract.specs.GateNets.{AreGateNets, AreFound};
+ghost use Rattle.net_extract.specs.NetMaps.{AreWires, firsts_of};
+ghost use Rattle.net_extract.specs.Pieces.{rect_of};
+ghost use Rattle.net_extract.specs.Steps.{AreNamed};
+
+use crate::conductor::gate_pieces;
+use crate::fault::ExtractFault;
+use crate::gate::devices;
+use crate::lookup::{all_held, check_strays};
+use crate::naming::net_names;
+use crate::netlist::{DrawnList, Netlist};
+use crate::netmap::{NetMap, count_of, net_map};
+use crate::piece::Piece;
+use box_geom::{Layer, Rect, Shape, Shapes};
+use cell_num::{Names, NoMemory};
+use std::alloc::Global;
+
+const MOST_RECTS: usize = 10_000;
+
+const MOST_LABELS: usize = 2_000;
+
+#[tactic(auto, using(crate::proofs::Extracting::count_rules))]
+fn check_counts(shapes: &Shapes) -> Result<(), ExtractFault>
+    ensures few { OnOk result (AreFew shapes.now) }
+    ensures many { IfErr result (λ f. ExtractRefused shapes.now f) }
+{
+    let rects = shapes.rects.len();
+    let labels = shapes.labels.len();
+    if rects > MOST_RECTS {
+        return Err(ExtractFault::TooMany {
+            count: rects as u64,
+        });
+    }
+    if labels > MOST_LABELS {
+        return Err(ExtractFault::TooMany {
+            count: labels as u64,
+        });
+    }
+    Ok(())
+}
+
+fn gate_shape(piece: &Piece) -> Shape
+    requires { IsRectangle (rect_of piece.now) }
+    ensures { result ≡ poly_of piece.now }
+{
+    Shape {
+        layer: Layer::Poly,
+        rect: Rect {
+            x1: piece.left,
+            y1: piece.low,
+            x2: piece.right,
+            y2: piece.top,
+        },
+    }
+}
+
+fn gate_shapes(alloc: Global, pieces: &[Piece]) -> Result<Vec<Shape>, NoMemory>
+    requires { All (λ p. IsRectangle (rect_of p)) pieces.now }
+    ensures { IfOk result (λ shapes. shapes.items ≡ map poly_of pieces.now) }
+{
+    let mut shapes = Vec::new(alloc);
+    for piece in pieces {
+        shapes.push(gate_shape(piece)).map_err(|_| NoMemory)?;
+    }
+    Ok(shapes)
+}
+
+// The classes of gate cells, as the nets of a drawing of the gates alone.
+fn gate_map(alloc: Global, shapes: &[Shape]) -> Result<NetMap, NoMemory>
+    requires { All (λ s. IsRectangle s.rect) shapes.now }
+    ensures { IfOk result (λ m. AreGateNets shapes.now m.wires.items m.firsts.items) }
+{
+    let pieces = gate_pieces(alloc, shapes)?;
+    let gates = gate_shapes(alloc, pieces.as_slice())?;
+    net_map(alloc, gates.as_slice())
+}
+
+fn all_devices(alloc: Global, shapes: &Shapes, map: &NetMap) -> Result<DrawnList, ExtractFault>
+    requires few { AreFew shapes.now }
+    requires limits { AreWithinLimits shapes.now.rects }
+    requires map { AreWires shapes.now.rects map.now.wires.items map.now.firsts.items }
+    ensures ok { IfOk result (AreFound shapes.now.rects (firsts_of map.now.firsts.items)) }
+    ensures refused { IfErr result (λ f. ExtractRefused shapes.now f) }
+{
+    let Ok(gates) = gate_map(alloc, shapes.rects.as_slice()) else {
+        return Err(ExtractFault::NoMemory);
+    };
+    match devices(alloc, shapes.rects.as_slice(), map, &gates) {
+        Ok(devices) => Ok(devices),
+        Err(fault) => Err(fault),
+    }
+}
+
+fn names_by_labels(alloc: Global, shapes: &Shapes, map: &NetMap) -> Result<Names, ExtractFault>
+    requires regular { AreRegular shapes.now }
+    requires map { AreWires shapes.now.rects map.now.wires.items map.now.firsts.items }
+    requires held { find (is_lost map.now.wires.items) shapes.now.labels ≡ None }
+    ensures ok { IfOk result (AreNamed shapes.now (firsts_of map.now.firsts.items)) }
+    ensures refused { IfErr result (λ f. ExtractRefused shapes.now f) }
+{
+    let Ok(held) = all_held(alloc, map.wires.as_slice(), shapes.labels.as_slice()) else {
+        return Err(ExtractFault::NoMemory);
+    };
+    let Ok(count) = count_of(map.firsts.as_slice()) else {
+        return Err(ExtractFault::NoMemory);
+    };
+    match net_names(alloc, held.as_slice(), count) {
+        Ok(names) => Ok(names),
+        Err(fault) => Err(fault),
+    }
+}
+
+fn all_names(alloc: Global, shapes: &Shapes, map: &NetMap) -> Result<Names, ExtractFault>
+    requires regular { AreRegular shapes.now }
+    requires map { AreWires shapes.now.rects map.now.wires.items map.now.firsts.items }
+    ensures ok { IfOk result (AreNamed shapes.now (firsts_of map.now.firsts.items)) }
+    ensures refused { IfErr result (λ f. ExtractRefused shapes.now f) }
+{
+    match check_strays(alloc, map.wires.as_slice(), shapes.labels.as_slice()) {
+        Ok(()) => names_by_labels(alloc, shapes, map),
+        Err(fault) => Err(fault),
+    }
+}
+
+fn extract_few(alloc: Global, shapes: &Shapes) -> Result<Netlist, ExtractFault>
+    requires few { AreFew shapes.now }
+    requires limits { AreWithinLimits shapes.now.rects }
+    ensures ok { IfOk result (λ n. Extracts shapes.now n) }
+    ensures refused { IfErr result (λ f. ExtractRefused shapes.now f) }
+{
+    let Ok(map) = net_map(alloc, shapes.rects.as_slice()) else {
+        return Err(ExtractFault::NoMemory);
+    };
+    let devices = all_devices(alloc, shapes, &map)?;
+    let names = all_names(alloc, shapes, &map)?;
+    Ok(Netlist { names, devices })
+}
+
+/// The nets and devices of a drawing: nets by number with their names, devices by the nets at their gates
+/// and sides. It is refused above 10,000 rectangles or 2,000 labels, where a class of gate cells is no
+/// device, where a label belongs to no conductor cell, and where labels and nets do not agree.
+pub fn extract(alloc: Global, shapes: &Shapes) -> Result<Netlist, ExtractFault>
+    ensures ok { IfOk result (λ n. Extracts shapes.now n) }
+    ensures refused { IfErr result (λ f. ExtractRefused shapes.now f) }
+{
+    check_counts(shapes)?;
+    shapes.show_limits();
+    extract_few(alloc, shapes)
+}

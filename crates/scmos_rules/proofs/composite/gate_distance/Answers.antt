@@ -1,0 +1,8 @@
+use Rattle.box_geom.specs.declared.layer.Layer.TheVariants.{Well, Active, PSelect, NSelect, Poly, Contact, Metal1, Via, Metal2}
+use Rattle.scmos_rules.specs.Layout.{On, Gate, Diffusion, FieldPoly, PActive, NActive, PolyContact, DiffusionContact, BareContact}
+use Rattle.scmos_rules.specs.declared.rules.Deck.TheVariants.{Plain}
+use Rattle.scmos_rules.proofs.Distances.{like_away}
+use Rattle.scmos_rules.proofs.composite.gate_distance.Goals as goal
+
+pub returns-in-Ok : goal.returns-in-Ok
+returns-in-Ok c = like_away (On Contact c.args.shapes.now.rects) (Gate c.args.shapes.now.rects) c.in_ok-contact.contact c.in_ok-gates.gates c.in-Ok.region 4 c.in_ok-contact.ensures.cells c.in_ok-gates.ensures.cells c.in-Ok.ensures

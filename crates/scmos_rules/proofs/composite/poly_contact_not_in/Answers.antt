@@ -1,0 +1,8 @@
+use Rattle.box_geom.specs.declared.layer.Layer.TheVariants.{Well, Active, PSelect, NSelect, Poly, Contact, Metal1, Via, Metal2}
+use Rattle.scmos_rules.specs.Layout.{On, Gate, Diffusion, FieldPoly, PActive, NActive, PolyContact, DiffusionContact, BareContact}
+use Rattle.scmos_rules.specs.declared.rules.Deck.TheVariants.{Plain}
+use Rattle.scmos_rules.proofs.Distances.{like_surround}
+use Rattle.scmos_rules.proofs.composite.poly_contact_not_in.Goals as goal
+
+pub returns-in-Ok : goal.returns-in-Ok
+returns-in-Ok c = like_surround (PolyContact c.args.shapes.now.rects) (On Poly c.args.shapes.now.rects) c.in_ok-contact.contact c.in_ok-poly.poly c.in-Ok.region 3 c.in_ok-contact.ensures.cells c.in_ok-poly.ensures.cells c.in-Ok.ensures

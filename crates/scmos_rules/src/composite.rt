@@ -1,0 +1,135 @@
+// Rules on sets that several layers make.
+ghost use Rattle.std.specs.Prelude.{◌≤◌, IfOk};
+ghost use Rattle.box_geom.specs.declared.layer.Layer.TheVariants.{Well, Active, PSelect, NSelect, Poly, Contact, Via};
+ghost use Rattle.scmos_rules.specs.Failing.{FailsSurround, FailsAway, FailsPartly};
+ghost use Rattle.scmos_rules.specs.Layout.{On, Gate, PActive, NActive, PolyContact, DiffusionContact, BareContact};
+ghost use Rattle.scmos_rules.specs.Regions.{AreCells, EitherOf};
+ghost use Rattle.scmos_rules.specs.declared.rules.Deck.TheVariants.{Plain};
+
+use crate::nearby::{layer_partly, not_away, not_surrounded};
+use crate::sets::{bare_contact, diffusion_contact, gate, n_active, on, p_active, poly_contact};
+use box_geom::{Layer, Region, Shapes};
+use cell_num::NoMemory;
+use std::alloc::Global;
+
+fn p_active_not_in(
+    alloc: Global,
+    shapes: &Shapes,
+    layer: Layer,
+    by: u32,
+) -> Result<Region, NoMemory>
+    requires small { by ≤ 1000 }
+    ensures { IfOk result (λ r. AreCells (FailsSurround (PActive Plain shapes.now.rects) (On layer shapes.now.rects) by) r) }
+{
+    let active = p_active(alloc, shapes)?;
+    let around = on(alloc, shapes, layer)?;
+    match not_surrounded(alloc, &active, &around, by) {
+        Ok(region) => Ok(region),
+        Err(error) => Err(error),
+    }
+}
+
+fn n_active_not_in(alloc: Global, shapes: &Shapes) -> Result<Region, NoMemory>
+    ensures { IfOk result (λ r. AreCells (FailsSurround (NActive Plain shapes.now.rects) (On NSelect shapes.now.rects) 4) r) }
+{
+    let active = n_active(alloc, shapes)?;
+    let around = on(alloc, shapes, Layer::NSelect)?;
+    match not_surrounded(alloc, &active, &around, 4) {
+        Ok(region) => Ok(region),
+        Err(error) => Err(error),
+    }
+}
+
+fn n_active_near_well(alloc: Global, shapes: &Shapes) -> Result<Region, NoMemory>
+    ensures { IfOk result (λ r. AreCells (FailsAway (NActive Plain shapes.now.rects) (On Well shapes.now.rects) 12) r) }
+{
+    let active = n_active(alloc, shapes)?;
+    let well = on(alloc, shapes, Layer::Well)?;
+    match not_away(alloc, &active, &well, 12) {
+        Ok(region) => Ok(region),
+        Err(error) => Err(error),
+    }
+}
+
+// P active too near the end of the well, and N active too near the well.
+pub(crate) fn well_edge(alloc: Global, shapes: &Shapes) -> Result<Region, NoMemory>
+    ensures { IfOk result (λ r. AreCells (EitherOf (FailsSurround (PActive Plain shapes.now.rects) (On Well shapes.now.rects) 12) (FailsAway (NActive Plain shapes.now.rects) (On Well shapes.now.rects) 12)) r) }
+{
+    let inside = p_active_not_in(alloc, shapes, Layer::Well, 12)?;
+    let outside = n_active_near_well(alloc, shapes)?;
+    match inside.either(alloc, &outside) {
+        Ok(region) => Ok(region),
+        Err(error) => Err(error),
+    }
+}
+
+// Active that its select does not surround.
+pub(crate) fn select_edge(alloc: Global, shapes: &Shapes) -> Result<Region, NoMemory>
+    ensures { IfOk result (λ r. AreCells (EitherOf (FailsSurround (PActive Plain shapes.now.rects) (On PSelect shapes.now.rects) 4) (FailsSurround (NActive Plain shapes.now.rects) (On NSelect shapes.now.rects) 4)) r) }
+{
+    let p = p_active_not_in(alloc, shapes, Layer::PSelect, 4)?;
+    let n = n_active_not_in(alloc, shapes)?;
+    match p.either(alloc, &n) {
+        Ok(region) => Ok(region),
+        Err(error) => Err(error),
+    }
+}
+
+fn poly_contact_not_in(alloc: Global, shapes: &Shapes) -> Result<Region, NoMemory>
+    ensures { IfOk result (λ r. AreCells (FailsSurround (PolyContact shapes.now.rects) (On Poly shapes.now.rects) 3) r) }
+{
+    let contact = poly_contact(alloc, shapes)?;
+    let poly = on(alloc, shapes, Layer::Poly)?;
+    match not_surrounded(alloc, &contact, &poly, 3) {
+        Ok(region) => Ok(region),
+        Err(error) => Err(error),
+    }
+}
+
+// Contacts on nothing, and contacts to poly too near its edge.
+pub(crate) fn contact_edge(alloc: Global, shapes: &Shapes) -> Result<Region, NoMemory>
+    ensures { IfOk result (λ r. AreCells (EitherOf (BareContact shapes.now.rects) (FailsSurround (PolyContact shapes.now.rects) (On Poly shapes.now.rects) 3)) r) }
+{
+    let bare = bare_contact(alloc, shapes)?;
+    let edge = poly_contact_not_in(alloc, shapes)?;
+    match bare.either(alloc, &edge) {
+        Ok(region) => Ok(region),
+        Err(error) => Err(error),
+    }
+}
+
+// Contacts to diffusion too near the edge of active.
+pub(crate) fn diffusion_edge(alloc: Global, shapes: &Shapes) -> Result<Region, NoMemory>
+    ensures { IfOk result (λ r. AreCells (FailsSurround (DiffusionContact shapes.now.rects) (On Active shapes.now.rects) 3) r) }
+{
+    let contact = diffusion_contact(alloc, shapes)?;
+    let active = on(alloc, shapes, Layer::Active)?;
+    match not_surrounded(alloc, &contact, &active, 3) {
+        Ok(region) => Ok(region),
+        Err(error) => Err(error),
+    }
+}
+
+// Contacts too near a gate.
+pub(crate) fn gate_distance(alloc: Global, shapes: &Shapes) -> Result<Region, NoMemory>
+    ensures { IfOk result (λ r. AreCells (FailsAway (On Contact shapes.now.rects) (Gate shapes.now.rects) 4) r) }
+{
+    let contact = on(alloc, shapes, Layer::Contact)?;
+    let gates = gate(alloc, shapes)?;
+    match not_away(alloc, &contact, &gates, 4) {
+        Ok(region) => Ok(region),
+        Err(error) => Err(error),
+    }
+}
+
+// Vias too near an edge of poly or of active.
+pub(crate) fn via_over_edge(alloc: Global, shapes: &Shapes) -> Result<Region, NoMemory>
+    ensures { IfOk result (λ r. AreCells (EitherOf (FailsPartly (On Via shapes.now.rects) (On Poly shapes.now.rects) 4) (FailsPartly (On Via shapes.now.rects) (On Active shapes.now.rects) 4)) r) }
+{
+    let poly = layer_partly(alloc, shapes, Layer::Via, Layer::Poly, 4)?;
+    let active = layer_partly(alloc, shapes, Layer::Via, Layer::Active, 4)?;
+    match poly.either(alloc, &active) {
+        Ok(region) => Ok(region),
+        Err(error) => Err(error),
+    }
+}

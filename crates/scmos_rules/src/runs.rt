@@ -1,0 +1,121 @@
+// Rules on the lengths of covered and of uncovered runs.
+ghost use Rattle.std.specs.Prelude.{◌≡◌, ◌≤◌, ℤ, IfOk};
+ghost use Rattle.std.specs.List.{All, filter};
+ghost use Rattle.box_geom.specs.Rectangle.{Covers};
+ghost use Rattle.scmos_rules.specs.Failing.{FailsWidth, FailsSize, FailsOpen};
+ghost use Rattle.scmos_rules.specs.Layout.{On};
+ghost use Rattle.scmos_rules.specs.Regions.{AreCells, AreInner, IsWrong, FailsRun, is_wrong as is_wrong_run};
+
+use crate::sets::on;
+use box_geom::{Block, Layer, Region, Shapes};
+use cell_num::NoMemory;
+use std::alloc::{AllocError, Global};
+
+/// What is asked of the length of a run.
+#[derive(Clone, Copy, Debug, PartialEq, Eq)]
+pub enum Measure {
+    /// At least the value.
+    Width,
+    /// Exactly the value.
+    Size,
+}
+
+fn is_wrong(block: &Block, measure: Measure, value: u32) -> bool
+    ensures { result ≡ is_wrong_run measure value block.now }
+{
+    let width = block.x2.abs_diff(block.x1);
+    match measure {
+        Measure::Width => width < value,
+        Measure::Size => width != value,
+    }
+}
+
+fn wrong_blocks(
+    alloc: Global,
+    blocks: &[Block],
+    measure: Measure,
+    value: u32,
+) -> Result<Vec<Block>, AllocError>
+    ensures { IfOk result (λ v. v.items ≡ filter (is_wrong_run measure value) blocks.now) }
+{
+    let mut out = Vec::new(alloc);
+    for block in blocks {
+        if is_wrong(block, measure, value) {
+            out.push(*block)?;
+        }
+    }
+    Ok(out)
+}
+
+fn wrong_rows(alloc: Global, set: &Region, measure: Measure, value: u32) -> Result<Region, NoMemory>
+    ensures { IfOk result (λ r. AreCells (λ x y. Covers set.now x y × IsWrong measure (λ z. Covers set.now z y) value x) r) }
+{
+    let blocks = wrong_blocks(alloc, set.blocks(), measure, value)?;
+    match Region::from_blocks(alloc, blocks.as_slice()) {
+        Ok(region) => Ok(region),
+        Err(error) => Err(error),
+    }
+}
+
+// The cells of a set whose run along the row or along the column has not the length.
+pub(crate) fn wrong_runs(
+    alloc: Global,
+    set: &Region,
+    measure: Measure,
+    value: u32,
+) -> Result<Region, NoMemory>
+    ensures { IfOk result (λ r. AreCells (FailsRun measure (Covers set.now) value) r) }
+{
+    let rows = wrong_rows(alloc, set, measure, value)?;
+    let turned = set.turned(alloc)?;
+    let across = wrong_rows(alloc, &turned, measure, value)?;
+    let columns = across.turned(alloc)?;
+    match rows.either(alloc, &columns) {
+        Ok(region) => Ok(region),
+        Err(error) => Err(error),
+    }
+}
+
+pub(crate) fn width(
+    alloc: Global,
+    shapes: &Shapes,
+    layer: Layer,
+    value: u32,
+) -> Result<Region, NoMemory>
+    ensures { IfOk result (λ r. AreCells (FailsWidth (On layer shapes.now.rects) value) r) }
+{
+    let set = on(alloc, shapes, layer)?;
+    match wrong_runs(alloc, &set, Measure::Width, value) {
+        Ok(region) => Ok(region),
+        Err(error) => Err(error),
+    }
+}
+
+pub(crate) fn size(
+    alloc: Global,
+    shapes: &Shapes,
+    layer: Layer,
+    value: u32,
+) -> Result<Region, NoMemory>
+    ensures { IfOk result (λ r. AreCells (FailsSize (On layer shapes.now.rects) value) r) }
+{
+    let set = on(alloc, shapes, layer)?;
+    match wrong_runs(alloc, &set, Measure::Size, value) {
+        Ok(region) => Ok(region),
+        Err(error) => Err(error),
+    }
+}
+
+// The cells of the gaps below a value in a set. A gap is a run of the cells that are not in the set.
+pub(crate) fn open(alloc: Global, set: &Region, value: u32) -> Result<Region, NoMemory>
+    requires inner { AreInner set.now }
+    requires small { value ≤ 1000 }
+    ensures { IfOk result (λ r. AreCells (FailsOpen (Covers set.now) value) r) }
+{
+    let plane = Region::plane(alloc)?;
+    let rest = plane.minus(alloc, set)?;
+    match wrong_runs(alloc, &rest, Measure::Width, value) {
+        Ok(region) => Ok(region),
+        Err(error) => Err(error),
+    }
+}

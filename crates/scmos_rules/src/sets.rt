@@ -1,0 +1,118 @@
+// The sets of cells of a layout that the rules speak of, as regions.
+ghost use Rattle.std.specs.Prelude.{IfOk};
+ghost use Rattle.scmos_rules.specs.Layout.{On, Gate, Diffusion, FieldPoly, PActive, NActive, PolyContact, DiffusionContact, BareContact};
+ghost use Rattle.scmos_rules.specs.Regions.{AreCells, AreInner};
+ghost use Rattle.scmos_rules.specs.declared.rules.Deck.TheVariants.{Plain};
+
+use box_geom::{Layer, Region, Shapes};
+use cell_num::NoMemory;
+use std::alloc::Global;
+
+pub(crate) fn on(alloc: Global, shapes: &Shapes, layer: Layer) -> Result<Region, NoMemory>
+    ensures cells { IfOk result (λ r. AreCells (On layer shapes.now.rects) r) }
+    ensures inner { IfOk result (λ r. AreInner r) }
+{
+    shapes.show_limits();
+    match Region::of(alloc, shapes, layer) {
+        Ok(region) => Ok(region),
+        Err(error) => Err(error),
+    }
+}
+
+pub(crate) fn gate(alloc: Global, shapes: &Shapes) -> Result<Region, NoMemory>
+    ensures cells { IfOk result (λ r. AreCells (Gate shapes.now.rects) r) }
+    ensures inner { IfOk result (λ r. AreInner r) }
+{
+    let active = on(alloc, shapes, Layer::Active)?;
+    let poly = on(alloc, shapes, Layer::Poly)?;
+    match active.both(alloc, &poly) {
+        Ok(region) => Ok(region),
+        Err(error) => Err(error),
+    }
+}
+
+pub(crate) fn diffusion(alloc: Global, shapes: &Shapes) -> Result<Region, NoMemory>
+    ensures cells { IfOk result (λ r. AreCells (Diffusion shapes.now.rects) r) }
+    ensures inner { IfOk result (λ r. AreInner r) }
+{
+    let active = on(alloc, shapes, Layer::Active)?;
+    let poly = on(alloc, shapes, Layer::Poly)?;
+    match active.minus(alloc, &poly) {
+        Ok(region) => Ok(region),
+        Err(error) => Err(error),
+    }
+}
+
+pub(crate) fn field_poly(alloc: Global, shapes: &Shapes) -> Result<Region, NoMemory>
+    ensures cells { IfOk result (λ r. AreCells (FieldPoly shapes.now.rects) r) }
+    ensures inner { IfOk result (λ r. AreInner r) }
+{
+    let poly = on(alloc, shapes, Layer::Poly)?;
+    let active = on(alloc, shapes, Layer::Active)?;
+    match poly.minus(alloc, &active) {
+        Ok(region) => Ok(region),
+        Err(error) => Err(error),
+    }
+}
+
+pub(crate) fn p_active(alloc: Global, shapes: &Shapes) -> Result<Region, NoMemory>
+    ensures cells { IfOk result (λ r. AreCells (PActive Plain shapes.now.rects) r) }
+    ensures inner { IfOk result (λ r. AreInner r) }
+{
+    let active = on(alloc, shapes, Layer::Active)?;
+    let well = on(alloc, shapes, Layer::Well)?;
+    match active.both(alloc, &well) {
+        Ok(region) => Ok(region),
+        Err(error) => Err(error),
+    }
+}
+
+pub(crate) fn n_active(alloc: Global, shapes: &Shapes) -> Result<Region, NoMemory>
+    ensures cells { IfOk result (λ r. AreCells (NActive Plain shapes.now.rects) r) }
+    ensures inner { IfOk result (λ r. AreInner r) }
+{
+    let active = on(alloc, shapes, Layer::Active)?;
+    let well = on(alloc, shapes, Layer::Well)?;
+    match active.minus(alloc, &well) {
+        Ok(region) => Ok(region),
+        Err(error) => Err(error),
+    }
+}
+
+pub(crate) fn poly_contact(alloc: Global, shapes: &Shapes) -> Result<Region, NoMemory>
+    ensures cells { IfOk result (λ r. AreCells (PolyContact shapes.now.rects) r) }
+    ensures inner { IfOk result (λ r. AreInner r) }
+{
+    let contact = on(alloc, shapes, Layer::Contact)?;
+    let poly = on(alloc, shapes, Layer::Poly)?;
+    match contact.both(alloc, &poly) {
+        Ok(region) => Ok(region),
+        Err(error) => Err(error),
+    }
+}
+
+pub(crate) fn diffusion_contact(alloc: Global, shapes: &Shapes) -> Result<Region, NoMemory>
+    ensures cells { IfOk result (λ r. AreCells (DiffusionContact shapes.now.rects) r) }
+    ensures inner { IfOk result (λ r. AreInner r) }
+{
+    let contact = on(alloc, shapes, Layer::Contact)?;
+    let diffusion = diffusion(alloc, shapes)?;
+    match contact.both(alloc, &diffusion) {
+        Ok(region) => Ok(region),
+        Err(error) => Err(error),
+    }
+}
+
+// Contacts without poly, and of these the ones without active.
+pub(crate) fn bare_contact(alloc: Global, shapes: &Shapes) -> Result<Region, NoMemory>
+    ensures { IfOk result (λ r. AreCells (BareContact shapes.now.rects) r) }
+{
+    let contact = on(alloc, shapes, Layer::Contact)?;
+    let poly = on(alloc, shapes, Layer::Poly)?;
+    let active = on(alloc, shapes, Layer::Active)?;
+    let rest = contact.minus(alloc, &poly)?;
+    match rest.minus(alloc, &active) {
+        Ok(region) => Ok(region),
+        Err(error) => Err(error),
+    }
+}
