@@ -3,7 +3,7 @@ use Rattle.std.proofs.Common.{ℕ, ◌≡◌, ◌⊎◌, Bool, true, false, nat_
 use Rattle.cell_io.specs.Desk.{Files, View, Rose}
 use Rattle.cellgen.specs.declared.end.End.{End}
 use Rattle.cellgen.specs.declared.gather.Material.{Material}
-use Rattle.cellgen.specs.declared.gather.Material.TheVariants.{Planning, Checking}
+use Rattle.cellgen.specs.declared.gather.Material.TheVariants.{Planning, Making, Checking}
 use Rattle.cellgen.specs.declared.refusal.Refusal.{Refusal}
 use Rattle.cellgen.specs.declared.refusal.Refusal.TheVariants.{Unread, Long, NoMemory}
 use Rattle.cellgen.specs.declared.status.Status.{Status}
@@ -14,10 +14,13 @@ use Rattle.cellgen.specs.End.{says}
 use Rattle.cellgen.specs.Ends.{CallsFor, EndsTo, MayEnd, is_among, outside_of, refusal_status, refused, settled_of}
 use Rattle.cellgen.specs.Gather.{gathered, read_by}
 use Rattle.cellgen.specs.Inputs.{Inputs}
+use Rattle.cellgen.specs.Headline.{IsMake}
+use Rattle.cellgen.specs.Make.{MakesTo}
+use Rattle.cellgen.specs.Make as made
 use Rattle.cellgen.specs.Plan.{PlansTo, Planned, Unfinished}
-use Rattle.cellgen.specs.Reading.{Comes}
+use Rattle.cellgen.specs.Reading.{Comes, MayCome}
 use Rattle.cellgen.specs.Sources.{Source, MayRead, Lacks, file_name, most_bytes, within}
-use Rattle.cellgen.specs.Words.{CellAsked, Form, Plan, Check}
+use Rattle.cellgen.specs.Words.{CellAsked, Form, Plan, Make, Check}
 use Rattle.cellgen.proofs.Gathered.{IsGathered, gathered_keeps}
 use Rattle.cellgen.proofs.Reading.{came_kept, came_told}
 
@@ -27,6 +30,12 @@ plan_settled : (asked : CellAsked) (inputs : Inputs) (end : End) → PlansTo inp
 plan_settled asked inputs end (Planned row log, h, is) = rw is refl
 plan_settled asked inputs end (Unfinished proved log, h, is) = rw is refl
 
+make_settled : (asked : CellAsked) (out : List ℕ) (inputs : Inputs) (stem : List ℕ) (end : End) → MakesTo inputs stem end → is_among (settled_of (Some (Make asked out))) end.status ≡ true
+make_settled asked out inputs stem end (made.Made row log routing xs, h, is) = rw is.status refl
+make_settled asked out inputs stem end (made.Cyclic row log cycle, h, is) = rw is.status refl
+make_settled asked out inputs stem end (made.Tall row log routing, h, is) = rw is.status refl
+make_settled asked out inputs stem end (made.Unfinished proved log, h, is) = rw is.status refl
+
 check_settled : (asked : CellAsked) (log : List ℕ) (inputs : Inputs) (bytes : List ℕ) (end : End) → ChecksTo inputs bytes end → is_among (settled_of (Some (Check asked log))) end.status ≡ true
 check_settled asked log inputs bytes end (Accepted gaps lemmas, h, is) = rw is refl
 check_settled asked log inputs bytes end (Misread f, h, is) = rw is refl
@@ -34,6 +43,7 @@ check_settled asked log inputs bytes end (Rejected f, h, is) = rw is refl
 
 input_settled : (form : Form) → is_among (settled_of (Some form)) status.Input ≡ true
 input_settled (Plan asked) = refl
+input_settled (Make asked out) = refl
 input_settled (Check asked log) = refl
 
 -- what was gathered, or refused by its form, ends so
@@ -42,7 +52,12 @@ settled None (Ok material) end is ends = absurd is
 settled None (Err e) end is ends = rw (ends, is) refl
 settled (Some form) (Err e) end is ends = subst (λ (s : Status). is_among (settled_of (Some form)) s ≡ true) (sym (ap (λ (x : End). x.status) ends ∙ is)) (input_settled form)
 settled (Some (Plan asked)) (Ok (Planning inputs)) end is ends = plan_settled asked inputs end ends
+settled (Some (Plan asked)) (Ok (Making inputs stem)) end is ends = absurd is
 settled (Some (Plan asked)) (Ok (Checking inputs bytes)) end is ends = absurd is
+settled (Some (Make asked out)) (Ok (Planning inputs)) end is ends = absurd is
+settled (Some (Make asked out)) (Ok (Making inputs stem)) end is ends = make_settled asked out inputs stem end ends
+settled (Some (Make asked out)) (Ok (Checking inputs bytes)) end is ends = absurd is
+settled (Some (Check asked log)) (Ok (Making inputs stem)) end is ends = absurd is
 settled (Some (Check asked log)) (Ok (Planning inputs)) end is ends = absurd is
 settled (Some (Check asked log)) (Ok (Checking inputs bytes)) end is ends = check_settled asked log inputs bytes end ends
 
@@ -50,31 +65,58 @@ settled (Some (Check asked log)) (Ok (Checking inputs bytes)) end is ends = chec
 pub not_read : (form : Option Form) → is_among (settled_of form) status.ReadFault ≡ false
 not_read None = refl
 not_read (Some (Plan asked)) = refl
+not_read (Some (Make asked out)) = refl
 not_read (Some (Check asked log)) = refl
 
 pub not_written : (form : Option Form) → is_among (settled_of form) status.WriteFault ≡ false
 not_written None = refl
 not_written (Some (Plan asked)) = refl
+not_written (Some (Make asked out)) = refl
 not_written (Some (Check asked log)) = refl
 
 pub not_short : (form : Option Form) → is_among (settled_of form) status.NoMemory ≡ false
 not_short None = refl
 not_short (Some (Plan asked)) = refl
+not_short (Some (Make asked out)) = refl
 not_short (Some (Check asked log)) = refl
 
 pub usage_alone : (form : Option Form) → is_among (settled_of form) status.Usage ≡ true → IsNone form
 usage_alone None h = refl
 usage_alone (Some (Plan asked)) h = cc
+usage_alone (Some (Make asked out)) h = cc
 usage_alone (Some (Check asked log)) h = cc
 
--- no command makes files
-pub no_files : (got : Result Material Refusal) (end : End) → EndsTo got end → end.files ≡ []
-no_files (Err e) end ends = rw ends refl
-no_files (Ok (Planning inputs)) end (Planned row log, h, is) = rw is refl
-no_files (Ok (Planning inputs)) end (Unfinished proved log, h, is) = rw is refl
-no_files (Ok (Checking inputs bytes)) end (Accepted gaps lemmas, h, is) = rw is refl
-no_files (Ok (Checking inputs bytes)) end (Misread f, h, is) = rw is refl
-no_files (Ok (Checking inputs bytes)) end (Rejected f, h, is) = rw is refl
+-- what was gathered for a form, or a refusal
+abbrev pub IsGatheredOrRefused : Option Form → Result Material Refusal → Type 0
+IsGatheredOrRefused form got = IsGathered form got ⊎ ((e : Refusal) × (got ≡ Err e))
+
+pub plan_alone : (inputs : Inputs) (end : End) → PlansTo inputs end → end.files ≡ []
+plan_alone inputs end (Planned row log, h, is) = rw is refl
+plan_alone inputs end (Unfinished proved log, h, is) = rw is refl
+
+pub check_alone : (inputs : Inputs) (bytes : List ℕ) (end : End) → ChecksTo inputs bytes end → end.files ≡ []
+check_alone inputs bytes end (Accepted gaps lemmas, h, is) = rw is refl
+check_alone inputs bytes end (Misread f, h, is) = rw is refl
+check_alone inputs bytes end (Rejected f, h, is) = rw is refl
+
+-- `make` alone makes files
+pub no_files : (form : Option Form) (got : Result Material Refusal) (end : End) → (IsMake form → ⊥) → IsGatheredOrRefused form got → EndsTo got end → end.files ≡ []
+no_files form (Err e) end other how ends = rw ends refl
+no_files form (Ok (Planning inputs)) end other how ends = plan_alone inputs end ends
+no_files form (Ok (Checking inputs bytes)) end other how ends = check_alone inputs bytes end ends
+no_files form (Ok (Making inputs stem)) end other (inr (e, is)) ends = cc
+no_files None (Ok (Making inputs stem)) end other (inl is) ends = absurd is
+no_files (Some (Plan asked)) (Ok (Making inputs stem)) end other (inl is) ends = absurd is
+no_files (Some (Make asked out)) (Ok (Making inputs stem)) end other (inl is) ends = absurd (other tt)
+no_files (Some (Check asked log)) (Ok (Making inputs stem)) end other (inl is) ends = absurd is
+
+-- how a call comes to what it gathers
+pub came_gathered : (old new : View) (form : Option Form) (got : Result Material Refusal) → MayCome old new (gathered form) got → IsGatheredOrRefused form got
+came_gathered old new form got (inr short) = inr (NoMemory, short)
+came_gathered old new form got (inl came) = elim (came_kept (MayRead old.given (Rose old.read_faults new.read_faults)) (λ source. Contains (read_by form) source) (IsGathered form) (gathered form) got (gathered_keeps form) came) [
+  | inl is ↦ inl is
+  | inr (source, there, e, may, is) ↦ inr (e, is)
+]
 
 -- ---- by a file
 

@@ -9,7 +9,7 @@ use Rattle.spice_net.specs.declared.subckt.Subckt.{Subckt}
 use Rattle.spice_net.specs.Subcircuit.{subcircuit}
 use Rattle.finger_fold.specs.Folding.{folded}
 use Rattle.cellgen.specs.declared.gather.Material.{Material}
-use Rattle.cellgen.specs.declared.gather.Material.TheVariants.{Planning, Checking}
+use Rattle.cellgen.specs.declared.gather.Material.TheVariants.{Planning, Making, Checking}
 use Rattle.cellgen.specs.declared.refusal.Refusal.{Refusal}
 use Rattle.cellgen.specs.declared.refusal.Refusal.TheVariants.{Words, Tech, Spice, Fold}
 use Rattle.cellgen.specs.declared.status.Status.TheVariants as status
@@ -18,7 +18,7 @@ use Rattle.cellgen.specs.Gather.{gathered, input_files, inputs_from, read_by, te
 use Rattle.cellgen.specs.Inputs.{inputs_in, inputs_of}
 use Rattle.cellgen.specs.Refusals.{as_refusal}
 use Rattle.cellgen.specs.Sources.{Source, TechFile, SpiceFile, LogFile}
-use Rattle.cellgen.specs.Words.{CellAsked, Form, Plan, Check}
+use Rattle.cellgen.specs.Words.{CellAsked, Form, Plan, Make, Check}
 use Rattle.cellgen.proofs.Reading.{Keeps, keeps_on}
 use Rattle.cellgen.proofs.Results.{err_behind}
 
@@ -60,6 +60,7 @@ inputs_keep May asked there =
 
 abbrev pub IsMaterialOf : Form → Material → Type 0
 IsMaterialOf (Plan asked) (Planning inputs) = Unit {0}
+IsMaterialOf (Make asked out) (Making inputs stem) = Unit {0}
 IsMaterialOf (Check asked log) (Checking inputs bytes) = Unit {0}
 IsMaterialOf _ _ = ⊥
 
@@ -78,6 +79,11 @@ gathered_keeps None = refl
 gathered_keeps (Some (Plan asked)) =
     keeps_on (λ source. Contains (read_by (Some (Plan asked))) source) IsInputs (IsGathered (Some (Plan asked))) (inputs_from asked) _
     (inputs_keep (λ source. Contains (read_by (Some (Plan asked))) source) asked (λ source there. there))
+    (λ inputs is. tt)
+    (λ e is. is)
+gathered_keeps (Some (Make asked out)) =
+    keeps_on (λ source. Contains (read_by (Some (Make asked out))) source) IsInputs (IsGathered (Some (Make asked out))) (inputs_from asked) _
+    (inputs_keep (λ source. Contains (read_by (Some (Make asked out))) source) asked (λ source there. there))
     (λ inputs is. tt)
     (λ e is. is)
 gathered_keeps (Some (Check asked log)) =

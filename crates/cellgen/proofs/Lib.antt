@@ -4,8 +4,14 @@ pub mod Delivered
 pub mod Desks
 pub mod Ends
 pub mod Gathered
+pub mod LeastLines
+pub mod MadeFiles
+pub mod MakeEnds
+pub mod MakeTold
+pub mod Makes
 pub mod Names
 pub mod Planned
+pub mod ReadBack
 pub mod Reading
 pub mod Results
 pub mod Telling

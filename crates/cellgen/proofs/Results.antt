@@ -1,10 +1,6 @@
 -- What holds of the answer of steps in order.
-use Rattle.std.proofs.Common.{Result, Ok, Err, IfOk, IfErr}
+use Rattle.std.proofs.Common.{Result, Ok, Err, IfErr}
 use Rattle.cell_num.specs.Steps.{◌>>=◌}
-
-pub ok_behind : {A B E : Type 0} (Is : B → Type 0) (first : Result A E) (next : A → Result B E) → ((x : A) → IfOk (next x) Is) → IfOk (first >>= next) Is
-ok_behind Is (Ok x) next each = each x
-ok_behind Is (Err e) next each = tt
 
 pub err_behind : {A B E : Type 0} (Is : E → Type 0) (first : Result A E) (next : A → Result B E) → IfErr first Is → ((x : A) → IfErr (next x) Is) → IfErr (first >>= next) Is
 err_behind Is (Ok x) next one each = each x

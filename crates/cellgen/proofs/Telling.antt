@@ -5,7 +5,7 @@ use Rattle.cell_io.specs.Desk.{Files, View, Both, ForSome, AddsPart, OnlyReads, 
 use Rattle.cellgen.specs.declared.end.End.{End}
 use Rattle.cellgen.specs.declared.end.Output.{Output}
 use Rattle.cellgen.specs.declared.gather.Material.{Material}
-use Rattle.cellgen.specs.declared.gather.Material.TheVariants.{Planning, Checking}
+use Rattle.cellgen.specs.declared.gather.Material.TheVariants.{Planning, Making, Checking}
 use Rattle.cellgen.specs.declared.refusal.Refusal.{Refusal}
 use Rattle.cellgen.specs.declared.refusal.Refusal.TheVariants.{Words, Unread, Long, Tech, Spice, Fold, NoMemory}
 use Rattle.cellgen.specs.declared.status.Status.{Status}
@@ -15,14 +15,16 @@ use Rattle.cellgen.specs.Check.{HoldsAcceptedLog, IsCheck}
 use Rattle.cellgen.specs.Deliver.{GivesUp, MakesAll, MakesSome, OnlyTells, Says, Tells, TellsSome, TellsWhole}
 use Rattle.cellgen.specs.Ends.{CallsFor, EndsTo, IsOfOutside, MayEnd, is_among, is_status_of, outside_of, refused, settled_of}
 use Rattle.cellgen.specs.Gather.{gathered, read_by}
+use Rattle.cellgen.specs.Inputs.{Inputs}
+use Rattle.cellgen.specs.Headline.{IsMake}
 use Rattle.cellgen.specs.Plan.{HasEnough}
 use Rattle.cellgen.specs.Reading.{called}
 use Rattle.cellgen.specs.Sources.{Lacks, held}
-use Rattle.cellgen.specs.Words.{Form, Plan, Check}
+use Rattle.cellgen.specs.Words.{Form, Plan, Make, Check}
 use Rattle.cellgen.proofs.Checked.{done_holds, holds_done}
 use Rattle.cellgen.proofs.Delivered.{none_begun, none_made}
 use Rattle.cellgen.proofs.Desks.{came_between}
-use Rattle.cellgen.proofs.Ends.{end_cases, end_told, file_outside, file_status, file_unread, no_files, not_read, not_short, not_written, usage_alone}
+use Rattle.cellgen.proofs.Ends.{came_gathered, end_cases, end_told, file_outside, file_status, file_unread, no_files, not_read, not_short, not_written, usage_alone}
 use Rattle.cellgen.proofs.Gathered.{IsGathered, gathered_keeps}
 use Rattle.cellgen.proofs.Planned.{enough_done}
 use Rattle.cellgen.proofs.Reading.{called_comes, came_kept}
@@ -173,11 +175,11 @@ memory_told a c form answer h = memory_cause a c form answer (cause_of a c form 
 pub status_told : (a c : View) (form : Option Form) (answer : Status) → Answers a c form answer → is_status_of form answer ≡ true
 status_told a c form answer h = status_cause a c form answer (cause_of a c form answer h)
 
--- no command makes files
-pub made_told : (a c : View) (form : Option Form) (answer : Status) → Answers a c form answer → c.made ≡ a.made
-made_told a c form answer (end, (got, came, ends), inl (is, made, said)) = none_made a.made c.made (subst (λ (files : List Output). Both (MakesAll files) a.made c.made) (no_files got end ends) made)
-made_told a c form answer (end, (got, came, ends), inr (up, inl (made, said))) = none_begun a.made c.made (subst (λ (files : List Output). Both (MakesSome files) a.made c.made) (no_files got end ends) made)
-made_told a c form answer (end, (got, came, ends), inr (up, inr (made, said))) = none_made a.made c.made (subst (λ (files : List Output). Both (MakesAll files) a.made c.made) (no_files got end ends) made)
+-- `make` alone makes files
+pub made_told : (a c : View) (form : Option Form) (answer : Status) → Answers a c form answer → (IsMake form → ⊥) → c.made ≡ a.made
+made_told a c form answer (end, (got, came, ends), inl (is, made, said)) other = none_made a.made c.made (subst (λ (files : List Output). Both (MakesAll files) a.made c.made) (no_files form got end other (came_gathered a c form got came) ends) made)
+made_told a c form answer (end, (got, came, ends), inr (up, inl (made, said))) other = none_begun a.made c.made (subst (λ (files : List Output). Both (MakesSome files) a.made c.made) (no_files form got end other (came_gathered a c form got came) ends) made)
+made_told a c form answer (end, (got, came, ends), inr (up, inr (made, said))) other = none_made a.made c.made (subst (λ (files : List Output). Both (MakesAll files) a.made c.made) (no_files form got end other (came_gathered a c form got came) ends) made)
 
 -- ---- by command
 
@@ -204,9 +206,9 @@ not_done (Spice f) end is done = cc
 not_done (Fold f) end is done = cc
 not_done NoMemory end is done = cc
 
--- what a check gathers, and a file that was refused
-gathered_check : (files : Files) (form : Option Form) (got : Result Material Refusal) → IsCheck form → called files (gathered form) ≡ got → IsGathered form got ⊎ ((e : Refusal) × (got ≡ Err e))
-gathered_check files form got check is =
+-- what a form gathers, and a file that was refused
+pub gathered_so : (files : Files) (form : Option Form) (got : Result Material Refusal) → called files (gathered form) ≡ got → IsGathered form got ⊎ ((e : Refusal) × (got ≡ Err e))
+gathered_so files form got is =
     elim (came_kept (λ source read. read ≡ held files source) (λ source. Contains (read_by form) source) (IsGathered form) (gathered form) (called files (gathered form)) (gathered_keeps form) (called_comes files (gathered form))) [
       | inl h ↦ inl (subst (IsGathered form) is h)
       | inr (source, there, e, may, refused) ↦ inr (e, sym is ∙ refused)
@@ -217,6 +219,8 @@ done_check files form end (Err e) check is how ends done = absurd (not_done e en
 done_check files form end (Ok material) check is (inr (e, wrong)) ends done = cc
 done_check files None end (Ok material) check is (inl h) ends done = absurd check
 done_check files (Some (Plan asked)) end (Ok material) check is (inl h) ends done = absurd check
+done_check files (Some (Make asked out)) end (Ok material) check is (inl h) ends done = absurd check
+done_check files (Some (Check asked log)) end (Ok (Making inputs stem)) check is (inl h) ends done = absurd h
 done_check files (Some (Check asked log)) end (Ok (Planning inputs)) check is (inl h) ends done = absurd h
 done_check files (Some (Check asked log)) end (Ok (Checking inputs bytes)) check is (inl h) ends done =
     let (gaps, lemmas, text) = done_holds inputs bytes end ends done in
@@ -226,6 +230,6 @@ pub checked_told : (a c : View) (form : Option Form) (answer : Status) (given : 
 checked_told a c form answer None told = tt
 checked_told a c form answer (Some files) (inl outside) = λ check. inl outside
 checked_told a c form answer (Some files) (inr (end, calls, whole)) = λ check. inr (
-  (λ done. done_check files form end (called files (gathered form)) check refl (gathered_check files form (called files (gathered form)) check refl) calls (sym whole.0 ∙ done)),
+  (λ done. done_check files form end (called files (gathered form)) check refl (gathered_so files form (called files (gathered form)) refl) calls (sym whole.0 ∙ done)),
   (λ (inputs, bytes, got, gaps, lemmas, text). whole.0 ∙ holds_done inputs bytes end gaps lemmas text (subst (λ (r : Result Material Refusal). EndsTo r end) got calls)),
 )

@@ -1,7 +1,7 @@
 -- What the forms read, in order, and what they then work on.
 use Rattle.std.specs.Prelude.{ℕ, List, [], ◌∷◌, ◌++◌, Option, Some, None, Ok, Err}
 use Rattle.cellgen.specs.declared.gather.Material.{Material}
-use Rattle.cellgen.specs.declared.gather.Material.TheVariants.{Planning, Checking}
+use Rattle.cellgen.specs.declared.gather.Material.TheVariants.{Planning, Making, Checking}
 use Rattle.cellgen.specs.declared.refusal.Refusal.TheVariants.{Words, Tech}
 use Rattle.cell_num.specs.Names.{lowered}
 use Rattle.tech_file.specs.Technology.{Technology, plain}
@@ -10,7 +10,7 @@ use Rattle.cellgen.specs.Inputs.{Inputs, inputs_in}
 use Rattle.cellgen.specs.Refusals.{as_refusal}
 use Rattle.cellgen.specs.Reading.{Reading, Ends, bytes_of, ◌>>=◌}
 use Rattle.cellgen.specs.Sources.{Source, TechFile, SpiceFile, LogFile}
-use Rattle.cellgen.specs.Words.{CellAsked, Form, Plan, Check}
+use Rattle.cellgen.specs.Words.{CellAsked, Form, Plan, Make, Check}
 
 abbrev pub technology_in : List ℕ → Reading Technology
 technology_in bytes = Ends (as_refusal Tech (technology bytes))
@@ -33,6 +33,9 @@ inputs_from asked = technology_from asked.tech >>= inputs_over asked
 abbrev pub planning : CellAsked → Reading Material
 planning asked = inputs_from asked >>= λ inputs. Ends (Ok (Planning inputs))
 
+abbrev pub making : CellAsked → List ℕ → Reading Material
+making asked out = inputs_from asked >>= λ inputs. Ends (Ok (Making inputs out))
+
 abbrev pub checking_over : List ℕ → Inputs → Reading Material
 checking_over log inputs = bytes_of (LogFile log) >>= λ bytes. Ends (Ok (Checking inputs bytes))
 
@@ -42,6 +45,7 @@ checking asked log = inputs_from asked >>= checking_over log
 abbrev pub gathered : Option Form → Reading Material
 gathered None = Ends (Err Words)
 gathered (Some (Plan asked)) = planning asked
+gathered (Some (Make asked out)) = making asked out
 gathered (Some (Check asked log)) = checking asked log
 
 -- the files that a form comes to read, in order
@@ -52,4 +56,5 @@ input_files (Some tech) spice = TechFile tech ∷ SpiceFile spice ∷ []
 abbrev pub read_by : Option Form → List Source
 read_by None = []
 read_by (Some (Plan asked)) = input_files asked.tech asked.spice
+read_by (Some (Make asked out)) = input_files asked.tech asked.spice
 read_by (Some (Check asked log)) = input_files asked.tech asked.spice ++ LogFile log ∷ []

@@ -6,7 +6,10 @@ pub mod Ends
 pub mod Faults
 pub mod Fields
 pub mod Gather
+pub mod Headline
 pub mod Inputs
+pub mod Make
+pub mod MakeReport
 pub mod Plan
 pub mod Read
 pub mod Reading

@@ -5,4 +5,5 @@ use Rattle.cellgen.specs.Words as words
 
 abbrev pub shown : Form → words.Form
 shown (read.Plan cell) = words.Plan cell
+shown (read.Make cell out) = words.Make cell out.now
 shown (read.Check cell log) = words.Check cell log.now

@@ -1,7 +1,7 @@
 -- The numbers of the statuses.
 use Rattle.std.specs.Prelude.{ℕ}
 use Rattle.cellgen.specs.declared.status.Status.{Status}
-use Rattle.cellgen.specs.declared.status.Status.TheVariants.{Done, Usage, ReadFault, WriteFault, Input, Cycle, Unfinished, Rejected, NoMemory, Layout, TooLong}
+use Rattle.cellgen.specs.declared.status.Status.TheVariants.{Done, Usage, ReadFault, WriteFault, Input, Cycle, Unfinished, Rejected, NoMemory, Layout, TooLong, TooTall}
 
 abbrev pub number_of : Status → ℕ
 number_of Done = 0
@@ -15,3 +15,4 @@ number_of Rejected = 7
 number_of NoMemory = 8
 number_of Layout = 9
 number_of TooLong = 10
+number_of TooTall = 11

@@ -13,9 +13,10 @@ pub record CellAsked : Type 0 where
   pub spice : List ℕ
   pub cell : List ℕ
 
--- what a call asks for: `plan TECH SPICE CELL` or `check TECH SPICE CELL LOG`
+-- what a call asks for: `plan TECH SPICE CELL`, `make TECH SPICE CELL OUT` or `check TECH SPICE CELL LOG`
 pub data Form : Type 0 where
   Plan : (cell : CellAsked) → Form
+  Make : (cell : CellAsked) (out : List ℕ) → Form
   Check : (cell : CellAsked) (log : List ℕ) → Form
 
 -- a letter, a digit, `_`, `$` or `?`
@@ -44,6 +45,10 @@ abbrev pub plan_of : List (List ℕ) → Option Form
 plan_of (tech ∷ spice ∷ cell ∷ []) = option_map (λ asked. Plan asked) (cell_of tech spice cell)
 plan_of _ = None
 
+abbrev pub make_of : List (List ℕ) → Option Form
+make_of (tech ∷ spice ∷ cell ∷ out ∷ []) = if is_file out then option_map (λ asked. Make asked out) (cell_of tech spice cell) else None
+make_of _ = None
+
 abbrev pub check_of : List (List ℕ) → Option Form
 check_of (tech ∷ spice ∷ cell ∷ log ∷ []) = if is_file log then option_map (λ asked. Check asked log) (cell_of tech spice cell) else None
 check_of _ = None
@@ -53,6 +58,7 @@ abbrev pub form_of : List (List ℕ) → Option Form
 form_of [] = None
 form_of (command ∷ rest) =
     if bytes_eq command (codes "plan") then plan_of rest
+    else if bytes_eq command (codes "make") then make_of rest
     else if bytes_eq command (codes "check") then check_of rest
     else None
 

@@ -1,8 +1,8 @@
-ghost use Rattle.std.specs.Prelude.{◌≡◌};
-ghost use Rattle.cellgen.specs.End.{says};
+ghost use Rattle.std.specs.Prelude.{◌≡◌, [], ◌∷◌, IfOk};
+ghost use Rattle.cellgen.specs.End.{says, leaves};
 
 use crate::status::Status;
-use cell_num::{Bytes, List};
+use cell_num::{Bytes, List, NoMemory};
 use std::alloc::Global;
 
 /// A file to make.
@@ -23,6 +23,44 @@ pub struct End {
 }
 
 impl End {
+    /// An end that makes a file.
+    pub fn makes_one(
+        alloc: Global,
+        status: Status,
+        file: Output,
+        report: Bytes,
+    ) -> Result<End, NoMemory>
+        ensures { IfOk result (λ end. end ≡ leaves status (file ∷ []) report) }
+    {
+        let mut files = OutputList::new(alloc);
+        files.push(file)?;
+        Ok(End {
+            status,
+            files,
+            report,
+        })
+    }
+
+    /// An end that makes two files in order.
+    pub fn makes_two(
+        alloc: Global,
+        status: Status,
+        first: Output,
+        second: Output,
+        report: Bytes,
+    ) -> Result<End, NoMemory>
+        ensures { IfOk result (λ end. end ≡ leaves status (first ∷ second ∷ []) report) }
+    {
+        let mut files = OutputList::new(alloc);
+        files.push(first)?;
+        files.push(second)?;
+        Ok(End {
+            status,
+            files,
+            report,
+        })
+    }
+
     /// An end without files.
     pub fn says(alloc: Global, status: Status, report: Bytes) -> End
         ensures { result ≡ says status report }

@@ -1,9 +1,9 @@
-ghost use Rattle.std.specs.Prelude.{◌≡◌, map, option_map, IfOk, string_bytes};
+ghost use Rattle.std.specs.Prelude.{◌≡◌, ◌≢◌, map, option_map, All, IfOk, string_bytes};
 ghost use Rattle.std.specs.List.{list_all};
 ghost use Rattle.cell_num.specs.Names.{lowered};
 ghost use Rattle.bound_log.specs.Fits.{IsLogName};
 ghost use Rattle.cellgen.specs.Shown.{shown};
-ghost use Rattle.cellgen.specs.Words.{texts, is_cell_byte, is_cell, is_file, tech_of, cell_of, plan_of, check_of, form_of, asked};
+ghost use Rattle.cellgen.specs.Words.{texts, is_cell_byte, is_cell, is_file, tech_of, cell_of, plan_of, make_of, check_of, form_of, asked};
 
 use cell_num::{Name, NoMemory, lower};
 use std::alloc::Global;
@@ -38,6 +38,7 @@ impl<'a> CellAsked<'a> {
     pub fn name(&self, alloc: Global) -> Result<Name, NoMemory>
         ensures lower { IfOk result (λ name. name ≡ lowered self.now.cell) }
         ensures line { IfOk result (λ name. IsLogName name) }
+        ensures whole { IfOk result (λ name. All (λ byte. byte ≢ 0) name) }
     {
         lower(alloc, self.cell.as_bytes())
     }
@@ -48,6 +49,8 @@ impl<'a> CellAsked<'a> {
 pub enum Form<'a> {
     /// The first least row of a cell.
     Plan { cell: CellAsked<'a> },
+    /// The drawing of a cell, in files whose names begin so.
+    Make { cell: CellAsked<'a>, out: &'a str },
     /// Whether a log certifies a row of a cell.
     Check { cell: CellAsked<'a>, log: &'a str },
 }
@@ -108,6 +111,25 @@ fn plan_of(words: &[String]) -> Option<Form<'_>>
     }
 }
 
+// The form of the words behind `make`.
+fn make_of(words: &[String]) -> Option<Form<'_>>
+    ensures { option_map shown result ≡ make_of (texts words.now) }
+{
+    let [tech, spice, cell, out] = words else {
+        return None;
+    };
+    if out.is_empty() {
+        return None;
+    }
+    match cell_of(tech.as_str(), spice.as_str(), cell.as_str()) {
+        Some(cell) => Some(Form::Make {
+            cell,
+            out: out.as_str(),
+        }),
+        None => None,
+    }
+}
+
 // The form of the words behind `check`.
 fn check_of(words: &[String]) -> Option<Form<'_>>
     ensures { option_map shown result ≡ check_of (texts words.now) }
@@ -134,6 +156,7 @@ pub fn form_of(words: &[String]) -> Option<Form<'_>>
     let (command, rest) = words.split_first()?;
     match command.as_str() {
         "plan" => plan_of(rest),
+        "make" => make_of(rest),
         "check" => check_of(rest),
         _ => None,
     }

@@ -1,6 +1,6 @@
 ghost use Rattle.std.specs.Prelude.{option_map};
 ghost use Rattle.cell_io.specs.Desk.{OnlyReads};
-ghost use Rattle.cellgen.specs.Gather.{gathered, planning, checking, checking_over};
+ghost use Rattle.cellgen.specs.Gather.{gathered, planning, making, checking, checking_over};
 ghost use Rattle.cellgen.specs.Reading.{MayCome};
 ghost use Rattle.cellgen.specs.Shown.{shown};
 
@@ -8,6 +8,7 @@ use crate::form::{CellAsked, Form};
 use crate::inputs::{Inputs, read_inputs};
 use crate::read::{FileBytes, Source, read_file};
 use crate::refusal::Refusal;
+use crate::stem::Stem;
 use cell_io::Desk;
 use std::alloc::Global;
 
@@ -15,6 +16,8 @@ use std::alloc::Global;
 #[derive(Drop)]
 pub enum Material {
     Planning(Inputs),
+    /// The inputs, and what the names of the files begin with.
+    Making(Inputs, Stem),
     /// The inputs, and the bytes of a log.
     Checking(Inputs, FileBytes),
 }
@@ -44,6 +47,20 @@ fn for_plan<D: Desk>(
     Ok(Material::Planning(inputs))
 }
 
+fn for_make<D: Desk>(
+    alloc: Global,
+    desk: &mut D,
+    asked: &CellAsked<'_>,
+    out: &str,
+) -> Result<Material, Refusal>
+    ensures comes { MayCome (D.view desk.old) (D.view desk.new) (making asked.now out.now) result }
+    ensures only { OnlyReads (D.view desk.old) (D.view desk.new) }
+{
+    let stem = Stem::new(alloc, out)?;
+    let inputs = read_inputs(alloc, desk, asked)?;
+    Ok(Material::Making(inputs, stem))
+}
+
 fn for_check<D: Desk>(
     alloc: Global,
     desk: &mut D,
@@ -68,6 +85,7 @@ pub fn gather<D: Desk>(
 {
     match form {
         Some(Form::Plan { cell }) => for_plan(alloc, desk, &cell),
+        Some(Form::Make { cell, out }) => for_make(alloc, desk, &cell, out),
         Some(Form::Check { cell, log }) => for_check(alloc, desk, &cell, log),
         None => Err(Refusal::Words),
     }

@@ -1,10 +1,10 @@
-ghost use Rattle.std.specs.Prelude.{◌≡◌, ◌≢◌, ◌≤◌, length, option_map, Some, Ok, Err, IfOk, IfErr};
+ghost use Rattle.std.specs.Prelude.{◌≡◌, ◌≢◌, ◌≤◌, length, option_map, Some, Ok, Err, All, IfOk, IfErr};
 ghost use Rattle.cell_io.specs.Desk.{OnlyReads};
 ghost use Rattle.tech_file.specs.Reading.{technology};
 ghost use Rattle.bound_log.specs.Fits.{IsLogName};
 ghost use Rattle.cellgen.specs.declared.refusal.Refusal.TheVariants as refused;
 ghost use Rattle.cellgen.specs.Gather.{technology_from, inputs_from, inputs_over};
-ghost use Rattle.cellgen.specs.Inputs.{AreInputs, inputs_in};
+ghost use Rattle.cellgen.specs.Inputs.{AreInputs, inputs_in, unit_nm};
 ghost use Rattle.cellgen.specs.Reading.{MayCome};
 ghost use Rattle.cellgen.specs.Refusals.{as_refusal};
 
@@ -54,6 +54,25 @@ impl Inputs {
         self.tech.show_limits();
         self.tech.budget
     }
+
+    /// The height of the cell, 0 for as little as it needs.
+    pub fn height(&self) -> u32
+        ensures is { result ≡ self.now.tech.height }
+        ensures few { result ≤ 4000 }
+    {
+        self.tech.show_limits();
+        self.tech.height
+    }
+
+    /// The nanometres of a grid unit, half a lambda.
+    pub fn unit_nm(&self) -> u32
+        ensures is { result ≡ unit_nm self.now.tech }
+        ensures least { 10 ≤ result }
+        ensures most { result ≤ 1000 }
+    {
+        self.tech.show_limits();
+        self.tech.lambda_nm / 2
+    }
 }
 
 fn technology_in(alloc: Global, bytes: &[u8]) -> Result<Tech, Refusal>
@@ -93,6 +112,7 @@ fn read_technology<D: Desk>(
 fn inputs_in(alloc: Global, bytes: &[u8], name: &Name, tech: Tech) -> Result<Inputs, Refusal>
     requires few { length bytes.now ≤ 1073741824 }
     requires name { IsLogName name.now }
+    requires whole { All (λ byte. byte ≢ 0) name.now }
     ensures inputs { IfOk result (λ inputs. inputs_in bytes.now name.now tech ≡ Ok inputs) }
     ensures refusal { IfErr result (λ e. e ≢ refused.NoMemory → inputs_in bytes.now name.now tech ≡ Err e) }
 {

@@ -3,12 +3,16 @@
 
 mod check;
 mod deliver;
+mod drawn;
 mod end;
 mod fault_line;
 mod faults;
 mod form;
 mod gather;
 mod inputs;
+mod make;
+mod make_end;
+mod make_report;
 mod plan;
 mod process;
 mod read;
@@ -16,6 +20,7 @@ mod refusal;
 mod report;
 mod run;
 mod status;
+mod stem;
 #[cfg(test)]
 mod tests;
 mod work;

@@ -4,7 +4,7 @@ ghost use Rattle.cellgen.specs.Report.{name_of, place_text, gate_text, column_te
 use cell_num::{Bytes, Name, Names, NetNo, NoMemory, put_count, put_number, put_text};
 use row_model::{Arrangement, Column, Placed, gaps};
 
-fn put_net(out: &mut Bytes, nets: &Names, net: NetNo) -> Result<(), NoMemory>
+pub fn put_net(out: &mut Bytes, nets: &Names, net: NetNo) -> Result<(), NoMemory>
     ensures { OnOk result (out.new ≡ out.old ++ name_of nets.now net) }
 {
     match nets.get(net.0 as usize) {

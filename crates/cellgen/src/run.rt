@@ -7,6 +7,7 @@ ghost use Rattle.cellgen.specs.Check.{HoldsAcceptedLog, IsCheck};
 ghost use Rattle.cellgen.specs.Deliver.{Tells, TellsWhole};
 ghost use Rattle.cellgen.specs.Ends.{CallsFor, IsOfOutside, MayEnd, is_status_of};
 ghost use Rattle.cellgen.specs.Gather.{read_by};
+ghost use Rattle.cellgen.specs.Headline.{CanBeDrawn, FromInputs, HasCycle, IsCyclicCell, IsMadeCell, IsMake, IsOrShort, IsSpentSearch, IsTallCell, IsTooHigh, MakesNone, OfFirstLeast, WhereMakeEnds};
 ghost use Rattle.cellgen.specs.Plan.{HasEnough};
 ghost use Rattle.cellgen.specs.Sources.{Lacks};
 ghost use Rattle.cellgen.specs.Words.{asked};
@@ -47,7 +48,8 @@ fn prepare<D: Desk>(alloc: Global, words: &[String], desk: &mut D) -> End
 /// Does what the words ask for, and says the report.
 ///
 /// `plan TECH SPICE CELL` finds the first least row of a cell: TECH is a technology file or `-` for the
-/// plain technology, SPICE a file, and CELL the name of one of its subcircuits. `check TECH SPICE CELL LOG`
+/// plain technology, SPICE a file, and CELL the name of one of its subcircuits. `make TECH SPICE CELL OUT`
+/// draws that row: it makes the log `OUT.clog` and then the GDSII library `OUT.gds`. `check TECH SPICE CELL LOG`
 /// tells whether the file LOG is the text of a log that certifies a row of that cell.
 ///
 /// All memory that is not the desk's own is taken before the first file is made.
@@ -87,8 +89,31 @@ pub fn run<D: Desk>(alloc: Global, words: &[String], desk: &mut D) -> Status
     ensures write_count { (D.view desk.old).write_faults ≤ (D.view desk.new).write_faults }
     ensures short_count { (D.view desk.old).shorts ≤ (D.view desk.new).shorts }
 
-    // No command makes files.
-    ensures made { (D.view desk.new).made ≡ (D.view desk.old).made }
+    // `make` alone makes files, and none where it ends with another status than its own, WriteFault or NoMemory.
+    ensures made { (IsMake (asked words.now) → ⊥) → (D.view desk.new).made ≡ (D.view desk.old).made }
+    ensures none { MakesNone result → (D.view desk.new).made ≡ (D.view desk.old).made }
+    ensures unmade { result ≡ status.NoMemory
+        → Rose (D.view desk.old).shorts (D.view desk.new).shorts
+        ⊎ ((D.view desk.new).made ≡ (D.view desk.old).made) }
+
+    // What `make` leaves behind: the drawing of the first least row, certified; or a cycle of that row; or the
+    // height that it needs; or the log of a search that spent its budget.
+    ensures drawn { IfSome (D.view desk.old).given (λ files. WhereMakeEnds files (asked words.now) result status.Done
+        (λ inputs out. IsMadeCell inputs out (D.view desk.old) (D.view desk.new))) }
+    ensures cyclic { IfSome (D.view desk.old).given (λ files. WhereMakeEnds files (asked words.now) result status.Cycle
+        (λ inputs out. IsCyclicCell inputs out (D.view desk.old) (D.view desk.new))) }
+    ensures tall { IfSome (D.view desk.old).given (λ files. WhereMakeEnds files (asked words.now) result status.TooTall
+        (λ inputs out. IsTallCell inputs out (D.view desk.old) (D.view desk.new))) }
+    ensures spent { IfSome (D.view desk.old).given (λ files. WhereMakeEnds files (asked words.now) result
+        status.Unfinished (λ inputs out. IsSpentSearch inputs out (D.view desk.old) (D.view desk.new))) }
+
+    // Where the budget is enough, it ends so exactly where the first least row calls for it, or memory ran out.
+    ensures draws { IfCalm (D.view desk.old) (D.view desk.new) (λ files.
+        FromInputs files (asked words.now) (OfFirstLeast CanBeDrawn) → IsOrShort status.Done result) }
+    ensures meets { IfCalm (D.view desk.old) (D.view desk.new) (λ files.
+        FromInputs files (asked words.now) (OfFirstLeast HasCycle) → IsOrShort status.Cycle result) }
+    ensures needs { IfCalm (D.view desk.old) (D.view desk.new) (λ files.
+        FromInputs files (asked words.now) (OfFirstLeast IsTooHigh) → IsOrShort status.TooTall result) }
 
     // A plan whose budget is enough is done, or memory ran out.
     ensures planned { IfCalm (D.view desk.old) (D.view desk.new) (λ files.

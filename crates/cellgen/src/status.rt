@@ -25,10 +25,12 @@ pub enum Status {
     Layout,
     /// A file has more bytes than its limit.
     TooLong,
+    /// The technology's height is below the one that the cell needs.
+    TooTall,
 }
 
 impl Status {
-    /// 0 to 10, in the order above.
+    /// 0 to 11, in the order above.
     pub fn number(&self) -> u8
         ensures { result ≡ number_of self.now }
     {
@@ -44,6 +46,7 @@ impl Status {
             Status::NoMemory => 8,
             Status::Layout => 9,
             Status::TooLong => 10,
+            Status::TooTall => 11,
         }
     }
 }

@@ -4,6 +4,7 @@ ghost use Rattle.cellgen.specs.Ends.{WorksTo};
 use crate::check::check;
 use crate::end::End;
 use crate::gather::Material;
+use crate::make::make;
 use crate::plan::plan;
 use cell_num::NoMemory;
 use std::alloc::Global;
@@ -14,6 +15,7 @@ pub fn work(alloc: Global, material: &Material) -> Result<End, NoMemory>
 {
     match material {
         Material::Planning(inputs) => plan(alloc, inputs),
+        Material::Making(inputs, stem) => make(alloc, inputs, stem),
         Material::Checking(inputs, log) => check(alloc, inputs, log.as_slice()),
     }
 }

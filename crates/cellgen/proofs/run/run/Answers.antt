@@ -1,5 +1,6 @@
 use Rattle.std.proofs.Common.{refl}
 use Rattle.cellgen.specs.Words.{asked}
+use Rattle.cellgen.proofs.MakeTold.{cyclic_told, drawn_told, draws_told, meets_told, needs_told, none_told, spent_told, tall_told, unmade_told}
 use Rattle.cellgen.proofs.Telling.{accepts_told, answers, called_for_told, checked_told, completes_told, made_told, memory_told, planned_told, read_told, status_told, usage_told, write_told}
 use Rattle.cellgen.proofs.run.run.Goals as goal
 
@@ -40,3 +41,30 @@ returns-clause-checked g c = checked_told (g.D.Desk.view c.args.desk.now) (g.D.D
 
 pub returns-clause-accepts : goal.returns-clause-accepts
 returns-clause-accepts g c = accepts_told (g.D.Desk.view c.args.desk.now) (g.D.Desk.view c.deliver.new.desk) (asked c.args.words.now) c.deliver.result (g.D.Desk.view c.args.desk.now).given (returns-clause-completes g c)
+
+pub returns-clause-none : goal.returns-clause-none
+returns-clause-none g c = none_told (g.D.Desk.view c.args.desk.now) (g.D.Desk.view c.deliver.new.desk) (asked c.args.words.now) c.deliver.result (returns-clause-ends g c)
+
+pub returns-clause-unmade : goal.returns-clause-unmade
+returns-clause-unmade g c = unmade_told (g.D.Desk.view c.args.desk.now) (g.D.Desk.view c.deliver.new.desk) (asked c.args.words.now) c.deliver.result (returns-clause-ends g c)
+
+pub returns-clause-drawn : goal.returns-clause-drawn
+returns-clause-drawn g c = drawn_told (g.D.Desk.view c.args.desk.now) (g.D.Desk.view c.deliver.new.desk) (asked c.args.words.now) c.deliver.result (g.D.Desk.view c.args.desk.now).given (returns-clause-called_for g c)
+
+pub returns-clause-cyclic : goal.returns-clause-cyclic
+returns-clause-cyclic g c = cyclic_told (g.D.Desk.view c.args.desk.now) (g.D.Desk.view c.deliver.new.desk) (asked c.args.words.now) c.deliver.result (g.D.Desk.view c.args.desk.now).given (returns-clause-called_for g c)
+
+pub returns-clause-tall : goal.returns-clause-tall
+returns-clause-tall g c = tall_told (g.D.Desk.view c.args.desk.now) (g.D.Desk.view c.deliver.new.desk) (asked c.args.words.now) c.deliver.result (g.D.Desk.view c.args.desk.now).given (returns-clause-called_for g c)
+
+pub returns-clause-spent : goal.returns-clause-spent
+returns-clause-spent g c = spent_told (g.D.Desk.view c.args.desk.now) (g.D.Desk.view c.deliver.new.desk) (asked c.args.words.now) c.deliver.result (g.D.Desk.view c.args.desk.now).given (returns-clause-called_for g c)
+
+pub returns-clause-draws : goal.returns-clause-draws
+returns-clause-draws g c = draws_told (g.D.Desk.view c.args.desk.now) (g.D.Desk.view c.deliver.new.desk) (asked c.args.words.now) c.deliver.result (g.D.Desk.view c.args.desk.now).given (returns-clause-completes g c)
+
+pub returns-clause-meets : goal.returns-clause-meets
+returns-clause-meets g c = meets_told (g.D.Desk.view c.args.desk.now) (g.D.Desk.view c.deliver.new.desk) (asked c.args.words.now) c.deliver.result (g.D.Desk.view c.args.desk.now).given (returns-clause-completes g c)
+
+pub returns-clause-needs : goal.returns-clause-needs
+returns-clause-needs g c = needs_told (g.D.Desk.view c.args.desk.now) (g.D.Desk.view c.deliver.new.desk) (asked c.args.words.now) c.deliver.result (g.D.Desk.view c.args.desk.now).given (returns-clause-completes g c)

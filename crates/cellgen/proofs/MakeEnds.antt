@@ -1,0 +1,40 @@
+-- An end of `make`, from its parts.
+use Rattle.std.proofs.Common.{ℕ, ◌≡◌, List, [], ◌∷◌, ◌++◌, Result, Ok, Err, IfOk, refl, sym, ap, ◌∙◌, subst, map, string_bytes}
+use Rattle.cell_num.specs.declared.list.NoMemory.{NoMemory}
+use Rattle.cellgen.specs.declared.end.End.{End}
+use Rattle.cellgen.specs.declared.end.Output.{Output}
+use Rattle.cellgen.specs.declared.status.Status.{Status}
+use Rattle.cellgen.specs.End.{leaves}
+use Rattle.cellgen.specs.Make.{IsEnd, named}
+
+pair_is : (a b c d : List ℕ) → a ≡ c → b ≡ d → ◌≡◌ {A = List ℕ × List ℕ} (a, b) (c, d)
+pair_is a b c d p q = cc
+
+file_is : (file : Output) (name bytes : List ℕ) → string_bytes file.name ≡ name → file.bytes ≡ bytes → named file ≡ (name, bytes)
+file_is file name bytes p q = pair_is (string_bytes file.name) file.bytes name bytes p q
+
+one_is : (file : Output) (a : List ℕ × List ℕ) → named file ≡ a → map named (file ∷ []) ≡ a ∷ []
+one_is file a p = ap (λ (x : List ℕ × List ℕ). x ∷ []) p
+
+two_are : (first second : Output) (a b : List ℕ × List ℕ) → named first ≡ a → named second ≡ b → map named (first ∷ second ∷ []) ≡ a ∷ b ∷ []
+two_are first second a b p q = ap (λ (x : List ℕ × List ℕ). x ∷ named second ∷ []) p ∙ ap (λ (x : List ℕ × List ℕ). a ∷ x ∷ []) q
+
+pub end_one : (status : Status) (file : Output) (name bytes text report : List ℕ) (r : Result End NoMemory) → string_bytes file.name ≡ name → file.bytes ≡ bytes → report ≡ text → IfOk r (λ end. end ≡ leaves status (file ∷ []) report) → IfOk r (IsEnd status ((name, bytes) ∷ []) text)
+end_one status file name bytes text report (Err e) p q t is = tt
+end_one status file name bytes text report (Ok end) p q t is = record {
+  status = ap (λ (x : End). x.status) is;
+  files = ap (λ (x : End). map named x.files) is ∙ one_is file (name, bytes) (file_is file name bytes p q);
+  report = ap (λ (x : End). x.report) is ∙ t;
+}
+
+pub end_two : (status : Status) (first second : Output) (name bytes other_name other_bytes text report : List ℕ) (r : Result End NoMemory) → string_bytes first.name ≡ name → first.bytes ≡ bytes → string_bytes second.name ≡ other_name → second.bytes ≡ other_bytes → report ≡ text → IfOk r (λ end. end ≡ leaves status (first ∷ second ∷ []) report) → IfOk r (IsEnd status ((name, bytes) ∷ (other_name, other_bytes) ∷ []) text)
+end_two status first second name bytes other_name other_bytes text report (Err e) p q s u t is = tt
+end_two status first second name bytes other_name other_bytes text report (Ok end) p q s u t is = record {
+  status = ap (λ (x : End). x.status) is;
+  files = ap (λ (x : End). map named x.files) is ∙ two_are first second (name, bytes) (other_name, other_bytes) (file_is first name bytes p q) (file_is second other_name other_bytes s u);
+  report = ap (λ (x : End). x.report) is ∙ t;
+}
+
+-- with the text that the report is
+pub end_said : (status : Status) (told : List (List ℕ × List ℕ)) (report text : List ℕ) (r : Result End NoMemory) → report ≡ text → IfOk r (IsEnd status told report) → IfOk r (IsEnd status told text)
+end_said status told report text r is ends = subst (λ (t : List ℕ). IfOk r (IsEnd status told t)) is ends

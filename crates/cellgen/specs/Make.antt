@@ -1,0 +1,131 @@
+-- What making a cell comes to: its drawing, a cycle of its least row, a height that is not enough, or the log of
+-- an unfinished search.
+use Rattle.std.specs.Prelude.{ℕ, ◌≡◌, ◌≤◌, ◌*◌, List, [], ◌∷◌, ◌++◌, codes, length, map, string_bytes}
+use Rattle.cell_num.specs.declared.net.Pins.{Pins}
+use Rattle.row_model.specs.declared.column.Column.{Column}
+use Rattle.row_state.specs.Parity.{parity_value}
+use Rattle.bound_log.specs.declared.log.Log.{Log}
+use Rattle.bound_log.specs.Text.{log_text}
+use Rattle.log_check.specs.Accepted.{WithKinds}
+use Rattle.row_search.specs.Ended.{IsSolved, IsSpent}
+use Rattle.row_search.specs.First.{IsFirstLeast}
+use Rattle.row_place.specs.declared.placement.Placement.{Placement}
+use Rattle.row_place.specs.Places.{placement_of}
+use Rattle.channel_route.specs.declared.routing.Above.{Above}
+use Rattle.channel_route.specs.declared.routing.Routing.{Routing}
+use Rattle.channel_route.specs.Cycle.{HasNoCycle}
+use Rattle.channel_route.specs.Routing.{IsLegal, IsTight}
+use Rattle.channel_route.specs.Told.{IsTold}
+use Rattle.row_compact.specs.Allowed.{AreAllowed, stretches_of}
+use Rattle.row_compact.specs.Solution.{x_of}
+use Rattle.scmos_rules.specs.Rules.{Obeys}
+use Rattle.scmos_rules.specs.declared.rules.Deck.TheVariants.{Plain}
+use Rattle.cell_draw.specs.declared.drawing.Drawing.{Drawing}
+use Rattle.cell_draw.specs.Drawings.{drawn_of}
+use Rattle.cell_draw.specs.Extracted.{ExtractsTo}
+use Rattle.cell_draw.specs.Frame.{needed_of, IsTooTall}
+use Rattle.cell_draw.specs.Shown.{ShowsRouting, ShowsRow}
+use Rattle.gds_write.specs.Written.{written}
+use Rattle.gds_read.specs.Decoding.{Decodes}
+use Rattle.spice_net.specs.declared.subckt.Subckt.{Subckt}
+use Rattle.cellgen.specs.declared.end.End.{End}
+use Rattle.cellgen.specs.declared.end.Output.{Output}
+use Rattle.cellgen.specs.declared.status.Status.{Status}
+use Rattle.cellgen.specs.declared.status.Status.TheVariants as status
+use Rattle.cellgen.specs.Inputs.{Inputs, unit_nm}
+use Rattle.cellgen.specs.MakeReport.{cycle_text, drawn_text, tall_text}
+use Rattle.cellgen.specs.Report.{plan_text, unfinished_text}
+
+-- ---- the parts
+
+-- A position for each line that the routed row allows, at every line at most every other such one.
+pub record AreLeastLines (placement : Placement) (pins : Pins) (routing : Routing) (xs : List ℕ) : Type 0 where
+  pub allowed : AreAllowed placement pins (stretches_of routing.trunks) xs
+  pub least : (other : List ℕ) → AreAllowed placement pins (stretches_of routing.trunks) other → (line : ℕ) → line ≤ 2 * length placement.units → x_of xs line ≤ x_of other line
+
+-- the first least row, with an accepted log that lists it and was found within the budget
+pub record IsFound (inputs : Inputs) (row : List Column) (log : Log) : Type 0 where
+  pub first : IsFirstLeast inputs.fingers row
+  pub solved : WithKinds inputs.fingers (λ k. IsSolved parity_value k inputs.fingers inputs.tech.budget row log)
+
+-- its channel, routed; no nets stand above each other in a ring
+pub record IsRouted (inputs : Inputs) (row : List Column) (routing : Routing) : Type 0 where
+  pub acyclic : HasNoCycle (placement_of row) inputs.cell.pins
+  pub legal : IsLegal (placement_of row) inputs.cell.pins routing
+  pub tight : IsTight (placement_of row) inputs.cell.pins routing
+
+abbrev pub drawing_in : Inputs → List Column → Routing → List ℕ → Drawing
+drawing_in inputs row routing xs = drawn_of inputs.cell.nets inputs.cell.pins (placement_of row) routing xs inputs.tech.height
+
+-- the bytes of a drawing
+abbrev pub library_of : Inputs → Drawing → List ℕ
+library_of inputs drawing = written inputs.cell.name drawing.shapes (unit_nm inputs.tech)
+
+-- What is said of a drawn cell. Its row is the first least arrangement of the fingers, and the log is accepted
+-- and lists it. Its channel is routed legally and tightly, its lines stand at the least places, and the height is
+-- enough. The shapes obey every rule, extract net by net to the fingers, and show the row and the routing; and the
+-- bytes decode, with the cell's name and the technology's lambda, to these shapes.
+pub record IsMade (inputs : Inputs) (row : List Column) (log : Log) (routing : Routing) (xs : List ℕ) : Type 0 where
+  pub found : IsFound inputs row log
+  pub routed : IsRouted inputs row routing
+  pub lines : AreLeastLines (placement_of row) inputs.cell.pins routing xs
+  pub fits : IsTooTall row routing.tracks inputs.tech.height → ⊥
+  pub obeys : Obeys Plain (drawing_in inputs row routing xs).shapes.rects
+  pub extracts : ExtractsTo inputs.cell.nets inputs.fingers (drawing_in inputs row routing xs).shapes
+  pub shows_row : ShowsRow inputs.cell.nets row (drawing_in inputs row routing xs).shapes
+  pub shows_routing : ShowsRouting inputs.cell.nets inputs.cell.pins (placement_of row) (drawing_in inputs row routing xs).shapes routing
+  pub decodes : Decodes (library_of inputs (drawing_in inputs row routing xs)) inputs.cell.name inputs.tech.lambda_nm (drawing_in inputs row routing xs).shapes
+
+-- ---- what it comes to
+
+pub data MakeAnswer : Type 0 where
+  Made : (row : List Column) (log : Log) (routing : Routing) (xs : List ℕ) → MakeAnswer
+  Cyclic : (row : List Column) (log : Log) (cycle : List Above) → MakeAnswer
+  Tall : (row : List Column) (log : Log) (routing : Routing) → MakeAnswer
+  Unfinished : (proved : ℕ) (log : Log) → MakeAnswer
+
+abbrev pub Makes : Inputs → MakeAnswer → Type 0
+Makes inputs (Made row log routing xs) = IsMade inputs row log routing xs
+Makes inputs (Cyclic row log cycle) = IsFound inputs row log × IsTold (placement_of row) inputs.cell.pins cycle
+Makes inputs (Tall row log routing) = IsFound inputs row log × IsRouted inputs row routing × IsTooTall row routing.tracks inputs.tech.height
+Makes inputs (Unfinished proved log) = WithKinds inputs.fingers (λ k. IsSpent parity_value k inputs.fingers inputs.tech.budget log proved)
+
+-- ---- how it is told
+
+-- a file by its name and bytes
+abbrev pub named : Output → List ℕ × List ℕ
+named file = (string_bytes file.name, file.bytes)
+
+pub record IsEnd (answer : Status) (told : List (List ℕ × List ℕ)) (text : List ℕ) (end : End) : Type 0 where
+  pub status : end.status ≡ answer
+  pub files : map named end.files ≡ told
+  pub report : end.report ≡ text
+
+abbrev pub log_file : Subckt → List ℕ → Log → List ℕ × List ℕ
+log_file cell out log = (out ++ codes ".clog", log_text cell.name log)
+
+abbrev pub gds_file : List ℕ → List ℕ → List ℕ × List ℕ
+gds_file out bytes = (out ++ codes ".gds", bytes)
+
+abbrev pub IsMadeEnd : Subckt → List ℕ → List Column → Log → ℕ → Drawing → ℕ → End → Type 0
+IsMadeEnd cell out row log tracks drawing unit =
+    IsEnd status.Done (log_file cell out log ∷ gds_file out (written cell.name drawing.shapes unit) ∷ [])
+    (codes "status 0 ok\n" ++ plan_text cell.name cell.nets row ++ drawn_text tracks drawing.width drawing.height (length log.lemmas))
+
+abbrev pub IsCycleEnd : Subckt → List ℕ → Log → List Above → End → Type 0
+IsCycleEnd cell out log cycle = IsEnd status.Cycle (log_file cell out log ∷ []) (codes "status 5 cycle\n" ++ cycle_text cell.nets cycle)
+
+abbrev pub IsTallEnd : Subckt → List ℕ → Log → ℕ → ℕ → End → Type 0
+IsTallEnd cell out log needed given = IsEnd status.TooTall (log_file cell out log ∷ []) (codes "status 11 tall\n" ++ tall_text needed given)
+
+abbrev pub IsUnfinishedEnd : Subckt → List ℕ → ℕ → Log → End → Type 0
+IsUnfinishedEnd cell out proved log = IsEnd status.Unfinished (log_file cell out log ∷ []) (codes "status 6 unfinished\n" ++ unfinished_text proved (length log.lemmas))
+
+abbrev pub IsMakeEnd : Inputs → List ℕ → MakeAnswer → End → Type 0
+IsMakeEnd inputs out (Made row log routing xs) = IsMadeEnd inputs.cell out row log routing.tracks (drawing_in inputs row routing xs) (unit_nm inputs.tech)
+IsMakeEnd inputs out (Cyclic row log cycle) = IsCycleEnd inputs.cell out log cycle
+IsMakeEnd inputs out (Tall row log routing) = IsTallEnd inputs.cell out log (needed_of row routing.tracks) inputs.tech.height
+IsMakeEnd inputs out (Unfinished proved log) = IsUnfinishedEnd inputs.cell out proved log
+
+abbrev pub MakesTo : Inputs → List ℕ → End → Type 0
+MakesTo inputs out end = (answer : MakeAnswer) × Makes inputs answer × IsMakeEnd inputs out answer end

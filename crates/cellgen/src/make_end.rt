@@ -1,0 +1,85 @@
+ghost use Rattle.std.specs.Prelude.{◌≡◌, ◌≤◌, [], ◌∷◌, ◌++◌, IfOk, codes, length, string_bytes};
+ghost use Rattle.bound_log.specs.Fits.{IsLogName};
+ghost use Rattle.bound_log.specs.Text.{log_text};
+ghost use Rattle.gds_read.specs.RoundTrip.{IsReadable};
+ghost use Rattle.gds_write.specs.Written.{written};
+ghost use Rattle.cellgen.specs.Make.{IsEnd, IsMadeEnd, log_file};
+
+use crate::end::{End, Output};
+use crate::make_report::made_report;
+use crate::status::Status;
+use crate::stem::Stem;
+use bound_log::{Log, write_log};
+use cell_draw::Drawing;
+use cell_num::{Bytes, NoMemory};
+use gds_write::write_cell;
+use row_model::Arrangement;
+use spice_net::Subckt;
+use std::alloc::Global;
+
+fn log_file(alloc: Global, cell: &Subckt, stem: &Stem, log: &Log) -> Result<Output, NoMemory>
+    requires name { IsLogName cell.now.name }
+    requires few { length log.now.lemmas ≤ 1073741824 }
+    ensures name { IfOk result (λ file. string_bytes file.name ≡ stem.now ++ codes ".clog") }
+    ensures bytes { IfOk result (λ file. file.bytes ≡ log_text cell.now.name log.now) }
+{
+    let name = stem.with(alloc, ".clog")?;
+    let bytes = Bytes::from_vec(write_log(alloc, &cell.name, log)?);
+    Ok(Output { name, bytes })
+}
+
+fn gds_file(
+    alloc: Global,
+    cell: &Subckt,
+    stem: &Stem,
+    drawing: &Drawing,
+    unit_nm: u32,
+) -> Result<Output, NoMemory>
+    requires { IsReadable cell.now.name drawing.now.shapes unit_nm }
+    ensures name { IfOk result (λ file. string_bytes file.name ≡ stem.now ++ codes ".gds") }
+    ensures bytes { IfOk result (λ file. file.bytes ≡ written cell.now.name drawing.now.shapes unit_nm) }
+{
+    let name = stem.with(alloc, ".gds")?;
+    let bytes = Bytes::from_vec(write_cell(alloc, &cell.name, &drawing.shapes, unit_nm)?);
+    Ok(Output { name, bytes })
+}
+
+/// The end of a drawn cell: its log, then its drawing.
+pub fn with_drawing(
+    alloc: Global,
+    cell: &Subckt,
+    stem: &Stem,
+    row: &Arrangement,
+    log: &Log,
+    tracks: u32,
+    drawing: &Drawing,
+    unit_nm: u32,
+) -> Result<End, NoMemory>
+    requires name { IsLogName cell.now.name }
+    requires few { length log.now.lemmas ≤ 1073741824 }
+    requires columns { length row.now ≤ 64 }
+    requires readable { IsReadable cell.now.name drawing.now.shapes unit_nm }
+    ensures { IfOk result (IsMadeEnd cell.now stem.now row.now log.now tracks drawing.now unit_nm) }
+{
+    let report = made_report(alloc, cell, row, tracks, drawing, log.lemmas.len() as u64)?;
+    let first = log_file(alloc, cell, stem, log)?;
+    let second = gds_file(alloc, cell, stem, drawing, unit_nm)?;
+    End::makes_two(alloc, Status::Done, first, second, report)
+}
+
+/// An end that leaves the log alone.
+pub fn with_log(
+    alloc: Global,
+    cell: &Subckt,
+    stem: &Stem,
+    log: &Log,
+    status: Status,
+    report: Bytes,
+) -> Result<End, NoMemory>
+    requires name { IsLogName cell.now.name }
+    requires few { length log.now.lemmas ≤ 1073741824 }
+    ensures { IfOk result (IsEnd status (log_file cell.now stem.now log.now ∷ []) report) }
+{
+    let file = log_file(alloc, cell, stem, log)?;
+    End::makes_one(alloc, status, file, report)
+}

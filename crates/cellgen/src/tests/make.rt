@@ -1,0 +1,175 @@
+use super::{INVERTER, INVERTERS, run_over};
+use crate::status::Status;
+use std::test::Fail;
+
+const NAND: &str = ".SUBCKT nand2 a b y vdd gnd
+M1 y a vdd vdd p W=3u L=0.6u
+M2 y b vdd vdd p W=3u L=0.6u
+M3 y a n1 gnd n W=3u L=0.6u
+M4 n1 b gnd gnd n W=3u L=0.6u
+.ENDS
+";
+
+const GATE: &str = ".SUBCKT tg a b c cn vdd gnd
+M1 a c b gnd n W=1.5u L=0.6u
+M2 a cn b vdd p W=3u L=0.6u
+.ENDS
+";
+
+const CROSS: &str = ".SUBCKT cross x y u v s t a b vdd gnd
+M1 x a u vdd p W=3u L=0.6u
+M2 y a v gnd n W=1.5u L=0.6u
+M3 y b s vdd p W=3u L=0.6u
+M4 x b t gnd n W=1.5u L=0.6u
+.ENDS
+";
+
+const LATCH: &str = ".GLOBAL vdd
+.SUBCKT latch e d q gnd
+M1 vdd e en vdd pmos W=3u L=0.6u AD=2p PD=1u
+M2 gnd e en gnd nmos W=1.5u L=0.6u
+M3 vdd d p1 vdd pmos W=3u L=0.6u
+M4 p1 en m vdd pmos W=3u L=0.6u
+M5 gnd d n1 gnd nmos W=1.5u L=0.6u
+M6 n1 e m gnd nmos W=1.5u L=0.6u
+M7 vdd m q vdd pmos W=3u L=0.6u
+M8 gnd m q gnd nmos W=1.5u L=0.6u
+M9 vdd q m vdd pmos W=0.9u L=0.6u
+M10 gnd q m gnd nmos W=0.9u L=0.6u
+.ENDS
+";
+
+const INVERTER_LOG: &str = "cellgen-log 1\ncell inv\ngaps 0\ncolumn 0 0 0 0 0\nend\n";
+
+// The end of the report, the log, and the length of the drawing's file.
+#[test]
+fn makes_a_cell(rt: HostRuntime) -> Result<(), Fail> {
+    for (tech, spice, words, status, said, log, bytes) in [
+        (
+            "",
+            INVERTER,
+            "make - c.sp INV out",
+            Status::Done,
+            "column 0 gate a p y vdd 20 n y gnd 10\ntracks 1\nsize 41 118\nlemmas 0\n",
+            INVERTER_LOG,
+            2122,
+        ),
+        (
+            "height = 118",
+            INVERTER,
+            "make t.toml c.sp inv out",
+            Status::Done,
+            "tracks 1\nsize 41 118\nlemmas 0\n",
+            INVERTER_LOG,
+            2122,
+        ),
+        (
+            "height = 130",
+            INVERTER,
+            "make t.toml c.sp inv out",
+            Status::Done,
+            "tracks 1\nsize 41 130\nlemmas 0\n",
+            INVERTER_LOG,
+            2122,
+        ),
+        (
+            "height = 117",
+            INVERTER,
+            "make t.toml c.sp inv out",
+            Status::TooTall,
+            "status 11 tall\nneeded 118\ngiven 117\n",
+            INVERTER_LOG,
+            0,
+        ),
+        (
+            "",
+            NAND,
+            "make - c.sp nand2 out",
+            Status::Done,
+            "column 1 gate b p vdd y 20 n n1 gnd 20\ntracks 2\nsize 60 144\nlemmas 0\n",
+            "cellgen-log 1\ncell nand2\ngaps 0\ncolumn 0 0 0 0 0\ncolumn 1 1 1 1 1\nend\n",
+            2968,
+        ),
+        (
+            "",
+            GATE,
+            "make - c.sp tg out",
+            Status::Done,
+            "column 1 gate cn p a b 20 n - - 0\ntracks 2\nsize 66 134\nlemmas 0\n",
+            "cellgen-log 1\ncell tg\ngaps 0\ncolumn 2 - 0 0 0\ncolumn 3 0 0 - 0\nend\n",
+            2964,
+        ),
+        (
+            "",
+            CROSS,
+            "make - c.sp cross out",
+            Status::Cycle,
+            "status 5 cycle\nx above y at line 0\ny above x at line 4\n",
+            "cellgen-log 1\ncell cross\nlemma 1 P 1,1 1,1 - -\ngaps 1\ncolumn 6 0 0 0 0\ncolumn 7 1 0 1 0\nend\n",
+            0,
+        ),
+        (
+            "budget = 1",
+            INVERTERS,
+            "make t.toml c.sp x3 out",
+            Status::Unfinished,
+            "status 6 unfinished\nproved 1\nlemmas 1\n",
+            "cellgen-log 1\ncell x3\nlemma 1 P 1,1,1 1,1,1 - -\nopen\nend\n",
+            0,
+        ),
+        (
+            "",
+            LATCH,
+            "make - c.sp latch out",
+            Status::Done,
+            "column 5 gate m p vdd q 20 n gnd q 10\ntracks 3\nsize 154 150\nlemmas 8\n",
+            "cellgen-log 1\ncell latch\nlemma 1 B 0,1,1,1,1 0,1,1,1,1 5 5\nlemma 1 B 0,1,1,1,1 0,1,1,1,1 5 3\nlemma 1 B 0,1,1,1,1 1,0,1,1,1 5 8\nlemma 1 B 0,1,1,1,1 1,0,1,1,1 5 7\nlemma 1 B 0,1,1,1,1 0,1,1,1,1 4 5\nlemma 1 P 0,0,0,1,1 0,0,0,0,1 7 3\nlemma 1 P 0,0,0,1,1 0,0,0,0,1 4 3\nlemma 1 N 0,0,0,0,1 0,0,0,0,1 4 7\ngaps 0\ncolumn 0 0 1 0 1\ncolumn 1 1 0 2 0\ncolumn 0 - 0 1 1\ncolumn 5 3 0 - 0\ncolumn 2 2 1 3 1\ncolumn 7 4 1 4 1\nend\n",
+            6986,
+        ),
+    ] {
+        let (got, desk) = run_over(rt.alloc(), words, [tech, spice, ""], &[])?;
+        assert!(rt; desk.all_said().ends_with(said.as_bytes()), "{said}");
+        assert_eq!(rt; got, status, "{said}");
+        assert_eq!(rt; desk.file("out.clog"), Some(log.as_bytes()), "{said}");
+        assert_eq!(rt;
+            desk.file("out.gds").map_or(0, |file| file.len()),
+            bytes,
+            "{said}"
+        );
+    }
+    Ok(())
+}
+
+// The SPICE file is read by the first two calls; then each file is made by a create and an append, and one call
+// says the report.
+#[test]
+fn leaves_earlier_files_whole(rt: HostRuntime) -> Result<(), Fail> {
+    for (call, status, log, bytes) in [
+        (0, Status::ReadFault, None, None),
+        (2, Status::WriteFault, None, None),
+        (3, Status::WriteFault, Some(0), None),
+        (4, Status::WriteFault, Some(51), None),
+        (5, Status::WriteFault, Some(51), Some(0)),
+        (6, Status::WriteFault, Some(51), Some(2122)),
+        (7, Status::Done, Some(51), Some(2122)),
+    ] {
+        let (got, desk) = run_over(
+            rt.alloc(),
+            "make - c.sp inv out",
+            ["", INVERTER, ""],
+            &[call],
+        )?;
+        assert_eq!(rt; got, status, "call {call}");
+        assert_eq!(rt;
+            desk.file("out.clog").map(|file| file.len()),
+            log,
+            "call {call}"
+        );
+        assert_eq!(rt;
+            desk.file("out.gds").map(|file| file.len()),
+            bytes,
+            "call {call}"
+        );
+    }
+    Ok(())
+}
