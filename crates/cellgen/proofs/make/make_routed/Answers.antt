@@ -23,7 +23,7 @@ with_drawing-requires-clause-columns c = omega (arith, few_columns c.args.inputs
 pub with_drawing-requires-clause-readable : goal.with_drawing-requires-clause-readable
 with_drawing-requires-clause-readable c =
     readable_so c.args.inputs.now (inputs_of c.inputs.inside.tech c.inputs.inside.cell c.inputs.inside.fingers) c.in-Ok.drawn.drawing.shapes c.unit_nm-unit_nm.result c.inputs.view_is c.show_limits.ensures c.unit_nm-unit_nm.ensures.least c.unit_nm-unit_nm.ensures.most
-    c.in-Ok.ensures.limits c.in-Ok.ensures.within c.in-Ok.ensures.named
+    c.in-Ok.ensures.few c.in-Ok.ensures.limits c.in-Ok.ensures.within c.in-Ok.ensures.named
 
 pub tall-requires-clause-name : goal.tall-requires-clause-name
 tall-requires-clause-name c = named_so c.args.inputs.now (inputs_of c.inputs.inside.tech c.inputs.inside.cell c.inputs.inside.fingers) c.inputs.view_is c.show_limits.ensures
@@ -45,7 +45,7 @@ returns-in-Ok c =
       routed = c.in-Ok.ensures.routed;
       readable =
           readable_so c.args.inputs.now (inputs_of c.inputs.inside.tech c.inputs.inside.cell c.inputs.inside.fingers) c.in-Ok.drawn.drawing.shapes c.unit_nm-unit_nm.result c.inputs.view_is c.show_limits.ensures c.unit_nm-unit_nm.ensures.least c.unit_nm-unit_nm.ensures.most
-          c.in-Ok.ensures.limits c.in-Ok.ensures.within c.in-Ok.ensures.named;
+          c.in-Ok.ensures.few c.in-Ok.ensures.limits c.in-Ok.ensures.within c.in-Ok.ensures.named;
     })
     c.with_drawing.ensures
 
