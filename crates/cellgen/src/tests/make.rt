@@ -130,7 +130,7 @@ fn makes_a_cell(rt: HostRuntime) -> Result<(), Fail> {
         let (got, desk) = run_over(rt.alloc(), words, [tech, spice, ""], &[])?;
         assert!(rt; desk.all_said().ends_with(said.as_bytes()), "{said}");
         assert_eq!(rt; got, status, "{said}");
-        assert_eq!(rt; desk.file("out.clog"), Some(log.as_bytes()), "{said}");
+        assert!(rt; desk.file("out.clog") == Some(log.as_bytes()), "{said}");
         assert_eq!(rt;
             desk.file("out.gds").map_or(0, |file| file.len()),
             bytes,
