@@ -185,14 +185,7 @@ cyclic_so inputs inside out row log placement cycle r same is found told ends =
 pub named_so : (inputs inside : Inputs) → inside ≡ inputs → AreInputs inputs → IsLogName inside.cell.name
 named_so inputs inside same are = subst (λ (i : Inputs). IsLogName i.cell.name) (sym same) are.name
 
-<<<<<<< HEAD
-pub readable_so : (inputs inside : Inputs) (shapes : Shapes) (unit : ℕ) → inside ≡ inputs → AreInputs inputs → 10 ≤ unit → unit ≤ 1000 → AreWithinLimits shapes.rects → AreWithin shapes → All (λ (l : Label). Contains inside.cell.nets l.name) shapes.labels → IsReadable inside.cell.name shapes unit
-readable_so inputs inside shapes unit same are least most limits within listed =
-    let seen : AreInputs inside = subst AreInputs (sym same) are in
-    readable inside.cell.nets inside.cell.name shapes unit seen.nets seen.name seen.whole least most limits within listed
-=======
 pub readable_so : (inputs inside : Inputs) (shapes : Shapes) (unit : ℕ) → inside ≡ inputs → AreInputs inputs → 10 ≤ unit → unit ≤ 1000 → length shapes.rects ≤ 2000 → AreWithinLimits shapes.rects → AreWithin shapes → All (λ (l : Label). Contains inside.cell.nets l.name) shapes.labels → IsReadable inside.cell.name shapes unit
 readable_so inputs inside shapes unit same are least most count limits within listed =
     let seen : AreInputs inside = subst AreInputs (sym same) are in
     readable inside.cell.nets inside.cell.name shapes unit seen.nets seen.name seen.whole least most count limits within listed
->>>>>>> c3912c445df012debdb24d4fef6745b53db83ee5

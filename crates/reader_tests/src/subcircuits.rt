@@ -129,13 +129,27 @@ fn reads_directions(rt: HostRuntime) -> Result<(), Fail> {
     for (front, inside, behind, want) in [
         ("", "*.PININFO a:I y:O vdd:B gnd:B\n", "", "IOBB"),
         ("*.pininfo a:o\n", "", "*.pininfo y:o\n", "IBBB"),
-        ("", " *.PinInfo y:B A:o VDD:i\n*.pininfo a:I x:o y:q y $ y:o\n", "", "IBIB"),
-        ("", "*.pininfo a:b:o y :o y:io\n* .pininfo a:o\n", "", "IBBB"),
+        (
+            "",
+            " *.PinInfo y:B A:o VDD:i\n*.pininfo a:I x:o y:q y $ y:o\n",
+            "",
+            "IBIB",
+        ),
+        (
+            "",
+            "*.pininfo a:b:o y :o y:io\n* .pininfo a:o\n",
+            "",
+            "IBBB",
+        ),
     ] {
         let text = format!(in rt.alloc();
             "{front}.SUBCKT c a y vdd gnd\n{inside}MP y a vdd vdd p W=3u L=0.6u\nMN y a gnd gnd n W=1.5u L=0.6u\n.ENDS\n{behind}"
         )?;
-        assert_eq!(rt; directed(rt.alloc(), text.as_bytes())?.as_str(), want, "{inside}");
+        assert_eq!(rt;
+            directed(rt.alloc(), text.as_bytes())?.as_str(),
+            want,
+            "{inside}"
+        );
     }
     Ok(())
 }

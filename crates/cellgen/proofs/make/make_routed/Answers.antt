@@ -23,11 +23,7 @@ with_drawing-requires-clause-columns c = omega (arith, few_columns c.args.inputs
 pub with_drawing-requires-clause-readable : goal.with_drawing-requires-clause-readable
 with_drawing-requires-clause-readable c =
     readable_so c.args.inputs.now (inputs_of c.inputs.inside.tech c.inputs.inside.cell c.inputs.inside.fingers) c.in-Ok.drawn.drawing.shapes c.unit_nm-unit_nm.result c.inputs.view_is c.show_limits.ensures c.unit_nm-unit_nm.ensures.least c.unit_nm-unit_nm.ensures.most
-<<<<<<< HEAD
-    c.in-Ok.ensures.limits c.in-Ok.ensures.within c.in-Ok.ensures.named
-=======
     c.in-Ok.ensures.few c.in-Ok.ensures.limits c.in-Ok.ensures.within c.in-Ok.ensures.named
->>>>>>> c3912c445df012debdb24d4fef6745b53db83ee5
 
 pub tall-requires-clause-name : goal.tall-requires-clause-name
 tall-requires-clause-name c = named_so c.args.inputs.now (inputs_of c.inputs.inside.tech c.inputs.inside.cell c.inputs.inside.fingers) c.inputs.view_is c.show_limits.ensures
@@ -49,11 +45,7 @@ returns-in-Ok c =
       routed = c.in-Ok.ensures.routed;
       readable =
           readable_so c.args.inputs.now (inputs_of c.inputs.inside.tech c.inputs.inside.cell c.inputs.inside.fingers) c.in-Ok.drawn.drawing.shapes c.unit_nm-unit_nm.result c.inputs.view_is c.show_limits.ensures c.unit_nm-unit_nm.ensures.least c.unit_nm-unit_nm.ensures.most
-<<<<<<< HEAD
-          c.in-Ok.ensures.limits c.in-Ok.ensures.within c.in-Ok.ensures.named;
-=======
           c.in-Ok.ensures.few c.in-Ok.ensures.limits c.in-Ok.ensures.within c.in-Ok.ensures.named;
->>>>>>> c3912c445df012debdb24d4fef6745b53db83ee5
     })
     c.with_drawing.ensures
 
