@@ -79,6 +79,23 @@ def checked(text, name, budget):
     return make
 
 
+def made(text, name, budget):
+    def make(folder, program):
+        words = planned(text, name, budget)(folder, program)
+        return ["make"] + words[1:] + [name]
+    return make
+
+
+def wide(name, columns):
+    """A chain of inverters, each wide enough for two fingers: a row without gaps."""
+    nets = [f"n{i}" for i in range(columns // 2 + 1)]
+    lines = [f".subckt {name} {nets[0]} {nets[-1]} vdd gnd"]
+    for i in range(columns // 2):
+        lines.append(f"mp{i} {nets[i + 1]} {nets[i]} vdd vdd pmos w=12u l=0.6u")
+        lines.append(f"mn{i} {nets[i + 1]} {nets[i]} gnd gnd nmos w=12u l=0.6u")
+    return "\n".join(lines + [".ends", ""])
+
+
 MEASURES = [
     ("plan: an inverter behind a library of 4 MiB", library),
     ("plan: 14 inverters", planned(inverters("row", 14), "row", 200000)),
@@ -86,4 +103,7 @@ MEASURES = [
     ("plan: a flip-flop, to 1,000,000 nodes", planned(FLIP_FLOP, "dff", 1000000)),
     ("plan: a random cell of 12 columns, to 1,000,000 nodes", planned(random_cell("any", 12, 9, 1), "any", 1000000)),
     ("check: the log of the flip-flop to 200,000 nodes", checked(FLIP_FLOP, "dff", 200000)),
+    ("make: an inverter", made(inverters("inv", 1), "inv", 200000)),
+    ("make: a flip-flop, to 1,000,000 nodes", made(FLIP_FLOP, "dff", 1000000)),
+    ("make: 32 columns", made(wide("wide", 32), "wide", 200000)),
 ]
