@@ -1,6 +1,5 @@
-ghost use Rattle.std.specs.Prelude.{◌≡◌, ◌≢◌, ℕ, Some, OnErr, OnOk, unwrap_or};
-ghost use Rattle.std.specs.Ordering.{nat_cmp};
-ghost use Rattle.std.specs.BTreeMap.{get};
+ghost use Rattle.std.specs.Prelude.{◌≡◌, ◌≢◌, ℕ, Some, OnErr, OnOk, nat_eq, unwrap_or};
+ghost use Rattle.std.specs.HashMap.{get};
 ghost use Rattle.row_state.specs.declared.kind.Kinds.{Kinds as KindsOf};
 ghost use Rattle.row_state.specs.declared.state.State.{State as StateOf};
 ghost use Rattle.row_state.specs.Code.{state_code};
@@ -11,25 +10,25 @@ ghost use Rattle.log_check.specs.Known.{best_known};
 use cell_num::NoMemory;
 use row_state::{Kinds, State, code};
 use std::alloc::Global;
-use std::collections::BTreeMap;
+use std::collections::HashMap;
 
 /// The best bound of each state that was noted, for the kinds that the states are of.
 #[derive(Drop)]
 pub struct Known {
     // By the number of the state.
-    bounds: BTreeMap<u128, u32>,
+    bounds: HashMap<u128, u32>,
 }
 
-fn kept(bounds: &BTreeMap<u128, u32>, number: u128) -> u32
-    ensures { result ≡ unwrap_or (get nat_cmp bounds.now number) 0 }
+fn kept(bounds: &HashMap<u128, u32>, number: u128) -> u32
+    ensures { result ≡ unwrap_or (get nat_eq bounds.now number) 0 }
 {
     bounds.get(&number).copied().unwrap_or(0)
 }
 
-fn keep(bounds: &mut BTreeMap<u128, u32>, number: u128, bound: u32) -> Result<(), NoMemory>
-    ensures kept { OnOk result (get nat_cmp bounds.new number ≡ Some bound) }
-    ensures others { OnOk result ((q : ℕ) → q ≢ number → get nat_cmp bounds.new q ≡ get nat_cmp bounds.old q) }
-    ensures unchanged { OnErr result ((q : ℕ) → get nat_cmp bounds.new q ≡ get nat_cmp bounds.old q) }
+fn keep(bounds: &mut HashMap<u128, u32>, number: u128, bound: u32) -> Result<(), NoMemory>
+    ensures kept { OnOk result (get nat_eq bounds.new number ≡ Some bound) }
+    ensures others { OnOk result ((q : ℕ) → q ≢ number → get nat_eq bounds.new q ≡ get nat_eq bounds.old q) }
+    ensures unchanged { OnErr result ((q : ℕ) → get nat_eq bounds.new q ≡ get nat_eq bounds.old q) }
 {
     match bounds.insert(number, bound) {
         Ok(_) => Ok(()),
@@ -42,7 +41,7 @@ impl Known {
         ensures { (k : KindsOf) (s : StateOf) → best_known result k s ≡ 0 }
     {
         Known {
-            bounds: BTreeMap::new(alloc),
+            bounds: HashMap::new(alloc),
         }
     }
 
