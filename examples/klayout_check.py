@@ -1,0 +1,90 @@
+"""Compares made cells with the SPICE file that they were made from, by KLayout's own extractor (0.28 or later, no window):
+
+    QT_QPA_PLATFORM=offscreen klayout -z -r examples/klayout_check.py -rd spice=lib.sp -rd folder=out [-rd lambda_nm=300]
+
+For each `folder/NAME.gds` the widths of all transistors on the same three nets are summed, in the drawing and in the SPICE
+file, where `*` and `+` lines, `$` comments and scales u, n and m are read. It prints a line a cell and ends with 1 where one differs.
+"""
+import collections
+import os
+import re
+import sys
+
+import pya
+
+UNIT = float(globals().get("lambda_nm", 300)) / 2000
+
+
+def micron(word):
+    number, scale = re.fullmatch(r"([0-9.]+(?:e[-+]?[0-9]+)?)([a-z]*)", word).groups()
+    return float(number) * {"u": 1.0, "n": 1e-3, "m": 1e3, "": 1e6}[scale[:1]]
+
+
+def wanted(text, name):
+    """The summed width in grid units for each kind and each set of nets."""
+    lines, sums, inside = [], collections.Counter(), False
+    for line in text.lower().splitlines():
+        line = re.sub(r"(^|\s)\$.*", "", line)
+        if line.lstrip().startswith("+") and lines:
+            lines[-1] += " " + line.lstrip()[1:]
+        elif line.strip() and not line.lstrip().startswith("*"):
+            lines.append(line)
+    for line in lines:
+        words = re.sub(r"\s*=\s*", "=", line).split()
+        if words[0] == ".subckt":
+            inside = words[1] == name
+        elif inside and words[0].startswith("m"):
+            drain, gate, source, kind = words[1], words[2], words[3], words[5][0]
+            width = micron(dict(word.split("=") for word in words[6:])["w"])
+            sums[kind, gate, *sorted((drain, source))] += round(width / UNIT)
+    return sums
+
+
+def drawn(path, name):
+    layout = pya.Layout()
+    layout.read(path)
+    found = pya.LayoutToNetlist(pya.RecursiveShapeIterator(layout, layout.cell(name), []))
+
+    def on(number):
+        return found.make_layer(layout.layer(number, 0), f"layer{number}")
+
+    well, active, poly, contact, metal1, via, metal2 = (on(n) for n in (42, 43, 46, 25, 49, 50, 51))
+    p_active, n_active = active & well, active - well
+    kinds = {}
+    for kind, area in (("p", p_active), ("n", n_active)):
+        ends = area - poly
+        found.register(ends, "ends_" + kind)
+        gate = area & poly
+        found.register(gate, "gate_" + kind)
+        found.extract_devices(pya.DeviceExtractorMOS3Transistor(kind), {"SD": ends, "G": gate, "P": poly})
+        kinds[kind] = ends
+    for layer in (poly, contact, metal1, via, metal2, *kinds.values()):
+        found.connect(layer)
+    for ends in kinds.values():
+        found.connect(ends, contact)
+    found.connect(poly, contact)
+    found.connect(contact, metal1)
+    found.connect(metal1, via)
+    found.connect(via, metal2)
+    for number, layers in ((43, kinds.values()), (46, [poly]), (49, [metal1]), (51, [metal2])):
+        texts = pya.Texts(layout.cell(name).shapes(layout.layer(number, 0)))
+        labels = found.make_text_layer(layout.layer(number, 0), f"labels{number}")
+        for layer in layers:
+            found.connect(layer, labels)
+    found.extract_netlist()
+    sums = collections.Counter()
+    for circuit in found.netlist().each_circuit():
+        for device in circuit.each_device():
+            nets = [device.net_for_terminal(t).expanded_name().lower() for t in ("S", "G", "D")]
+            sums[device.device_class().name, nets[1], *sorted((nets[0], nets[2]))] += round(device.parameter("W") / UNIT)
+    return sums
+
+
+text, bad = open(spice, encoding="latin-1").read(), 0
+for file in sorted(os.listdir(folder)):
+    if file.endswith(".gds"):
+        cell = file[:-4]
+        same = wanted(text, cell) == drawn(os.path.join(folder, file), cell)
+        bad += not same
+        print(f"{cell}: {'the same' if same else 'DIFFERS'}")
+sys.exit(1 if bad else 0)
