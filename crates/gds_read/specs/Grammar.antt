@@ -2,6 +2,7 @@
 -- allowed at which place, and the first record that is not right where it stands.
 use Rattle.std.specs.Prelude.{ℕ, ◌+◌, ◌%◌, ◌==◌, ◌||◌, ◌&&◌, not, nat_lt, is_some, Bool, true, false, List, [], ◌∷◌, length, get_or, drop, position, Option, Some, None, Result, Ok, Err, if◌then◌else◌}
 use Rattle.cell_num.specs.Steps.{◌>>=◌}
+use Rattle.gds_record.specs.declared.record.GdsRec.{GdsRec}
 use Rattle.gds_record.specs.declared.record.RecFault.{RecFault}
 use Rattle.gds_record.specs.declared.record.RecFault.TheVariants as record_fault
 use Rattle.gds_record.specs.declared.types.RecordType.{RecordType}
@@ -16,6 +17,10 @@ use Rattle.gds_read.specs.declared.grammar.Place.TheVariants.{Start, Opened, Lib
 use Rattle.gds_read.specs.declared.fault.GdsFault.{GdsFault}
 use Rattle.gds_read.specs.declared.fault.GdsFault.TheVariants as fault
 use Rattle.gds_read.specs.Real.{picometres_at}
+
+-- a record with its data
+abbrev pub item_with : GdsRec → List ℕ → Item
+item_with r content = record { at = r.at; code = r.code; form = r.form; content = content; next = r.next }
 
 -- the element that a record begins
 abbrev pub element_begun : RecordType → Option ElementKind

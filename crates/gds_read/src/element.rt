@@ -101,7 +101,8 @@ fn path(
     requires size { length bytes.now ≤ MOST_BYTES }
     requires place { rec.now.next ≤ length bytes.now }
     requires grid { 1 ≤ pen.now.grid.lambda_nm }
-    ensures { Puts result rects.new (put_all pen.now rects.old (path_areas_of pen.now.at (inside_of bytes.now rec.now))) }
+    ensures { Puts result rects.new
+        (put_all pen.now rects.old (path_areas_of pen.now.at (inside_of bytes.now rec.now))) }
 {
     let reach = match reach(bytes, rec) {
         Ok(reach) => reach,

@@ -22,7 +22,8 @@ ghost use Rattle.gds_read.specs.Drawn.{AreWalksOf, IsRunOf, IsBefore, IsFloor};
 pub fn accepted_libraries()
     ensures found { (bytes : List ℕ) (end : ℕ) → IsBytes bytes → first_pass_of bytes ≡ Ok end → IsLibrary bytes end }
     ensures only { (bytes : List ℕ) (end : ℕ) → IsLibrary bytes end → first_pass_of bytes ≡ Ok end }
-    ensures first_fault { (bytes : List ℕ) (f : GdsFault) → IsBytes bytes → first_pass_of bytes ≡ Err f → IsFirstFault bytes f }
+    ensures first_fault { (bytes : List ℕ) (f : GdsFault) → IsBytes bytes → first_pass_of bytes ≡ Err f
+        → IsFirstFault bytes f }
     ensures only_fault { (bytes : List ℕ) (f : GdsFault) → IsFirstFault bytes f → first_pass_of bytes ≡ Err f }
 {}
 
@@ -31,10 +32,14 @@ pub fn accepted_libraries()
 /// or that two have it; and where one has it, that of its first faulty element. It does nothing: its
 /// contract is the law.
 pub fn decoded_cells()
-    ensures cell { (bytes name : List ℕ) (lambda : ℕ) (shapes : Shapes) → IsBytes bytes → Decodes bytes name lambda shapes → IsCell bytes name lambda shapes }
-    ensures decoded { (bytes name : List ℕ) (lambda : ℕ) (shapes : Shapes) → IsCell bytes name lambda shapes → Decodes bytes name lambda shapes }
-    ensures fault { (bytes name : List ℕ) (lambda : ℕ) (f : GdsFault) → IsBytes bytes → GdsRefused bytes name lambda f → IsCellFault bytes name lambda f }
-    ensures refused { (bytes name : List ℕ) (lambda : ℕ) (f : GdsFault) → IsCellFault bytes name lambda f → GdsRefused bytes name lambda f }
+    ensures cell { (bytes name : List ℕ) (lambda : ℕ) (shapes : Shapes) → IsBytes bytes
+        → Decodes bytes name lambda shapes → IsCell bytes name lambda shapes }
+    ensures decoded { (bytes name : List ℕ) (lambda : ℕ) (shapes : Shapes) → IsCell bytes name lambda shapes
+        → Decodes bytes name lambda shapes }
+    ensures fault { (bytes name : List ℕ) (lambda : ℕ) (f : GdsFault) → IsBytes bytes → GdsRefused bytes name lambda f
+        → IsCellFault bytes name lambda f }
+    ensures refused { (bytes name : List ℕ) (lambda : ℕ) (f : GdsFault) → IsCellFault bytes name lambda f
+        → GdsRefused bytes name lambda f }
 {}
 
 /// The table of places accepts the words of the written grammar, and no others; the types of the records
@@ -57,5 +62,6 @@ pub fn drawn_elements()
     ensures cells { (points : List Point) (x y : ℤ) → Covers (boundary_rectangles points) x y ↔ IsInside points x y }
     ensures runs { (points : List Point) (r : Rectangle) → Contains (boundary_rectangles points) r → IsRunOf points r }
     ensures order { (points : List Point) → AllPairs IsBefore (boundary_rectangles points) }
-    ensures label { (grid : Grid) (value units : ℤ) → 1 ≤ grid.lambda_nm → floor_units_of grid value ≡ Some units → IsFloor grid value units }
+    ensures label { (grid : Grid) (value units : ℤ) → 1 ≤ grid.lambda_nm → floor_units_of grid value ≡ Some units
+        → IsFloor grid value units }
 {}

@@ -1,6 +1,6 @@
 ghost use Rattle.std.specs.Prelude.{position, not, ◌==◌, IfSome, ◌≡◌, ◌≤◌, ◌<◌, length, IsTrue, ◌↔◌, ◌+◌};
 ghost use Rattle.gds_record.specs.declared.types.RecordType.TheVariants as record_type;
-ghost use Rattle.gds_read.specs.Grammar.{is_wrong_unit, with_unit, known_step, step_of, zeros_behind, first_pass_of};
+ghost use Rattle.gds_read.specs.Grammar.{is_wrong_unit, item_with, with_unit, known_step, step_of, zeros_behind, first_pass_of};
 
 use crate::GdsFault;
 use crate::grammar::{Place, after, allowed, wrong_length};
@@ -22,7 +22,7 @@ fn behind_unit(
     next: Place,
 ) -> Result<Place, GdsFault>
     requires { kind ≡ record_type.Units → length content.now ≡ 16 }
-    ensures { result ≡ with_unit kind (record { at = rec.now.at; code = rec.now.code; form = rec.now.form; content = content.now; next = rec.now.next }) next }
+    ensures { result ≡ with_unit kind (item_with rec.now content.now) next }
 {
     if kind != RecordType::Units {
         return Ok(next);
@@ -35,7 +35,7 @@ fn behind_unit(
 }
 
 fn known(place: Place, kind: RecordType, rec: &GdsRec, content: &[u8]) -> Result<Place, GdsFault>
-    ensures { result ≡ known_step place (record { at = rec.now.at; code = rec.now.code; form = rec.now.form; content = content.now; next = rec.now.next }) kind }
+    ensures { result ≡ known_step place (item_with rec.now content.now) kind }
 {
     let at = rec.at;
     let code = rec.code;
@@ -52,7 +52,7 @@ fn known(place: Place, kind: RecordType, rec: &GdsRec, content: &[u8]) -> Result
 }
 
 fn step(place: Place, rec: &GdsRec, content: &[u8]) -> Result<Place, GdsFault>
-    ensures { result ≡ step_of place (record { at = rec.now.at; code = rec.now.code; form = rec.now.form; content = content.now; next = rec.now.next }) }
+    ensures { result ≡ step_of place (item_with rec.now content.now) }
 {
     let at = rec.at;
     let code = rec.code;

@@ -1,5 +1,6 @@
 ghost use Rattle.std.specs.Prelude.{◌≡◌, ◌≤◌, ◌<◌, ◌+◌, ◌==◌, not, length, Ok, IfOk, drop, take};
 ghost use Rattle.gds_record.specs.Records.{Item, item_of, records_from};
+ghost use Rattle.gds_read.specs.Grammar.{item_with};
 ghost use Rattle.gds_read.specs.Structure.{trimmed, is_named, Finds, IsWithin, found_in};
 
 use cell_num::MOST_BYTES;
@@ -30,7 +31,7 @@ pub fn trim(text: &[u8]) -> &[u8]
 }
 
 fn named(rec: &GdsRec, content: &[u8], name: &[u8]) -> bool
-    ensures { result ≡ is_named name.now (record { at = rec.now.at; code = rec.now.code; form = rec.now.form; content = content.now; next = rec.now.next }) }
+    ensures { result ≡ is_named name.now (item_with rec.now content.now) }
 {
     rec.code == RecordType::StrName.number() && trim(content) == name
 }

@@ -7,9 +7,11 @@ use Rattle.box_geom.specs.declared.layer.Layer.{Layer}
 use Rattle.box_geom.specs.declared.layer.Layer.TheVariants.{Metal1, Metal2}
 use Rattle.box_geom.specs.declared.shape.Label.{Label}
 use Rattle.box_geom.specs.declared.shape.Shape.{Shape}
+use Rattle.cell_num.specs.declared.net.Pins.{Pins}
+use Rattle.channel_route.specs.declared.routing.Routing.{Routing}
 use Rattle.cell_draw.specs.declared.drawing.Drawing.{Drawing}
 use Rattle.lef_write.specs.declared.port.Port.{Port}
-use Rattle.lef_write.specs.Ports.{net_no, port_shapes, obstructions}
+use Rattle.lef_write.specs.Ports.{net_no, port_shapes, ports_of, obstructions}
 
 -- the shapes of a layer, in the order of the drawing
 abbrev pub shapes_on : Layer → List Shape → List Shape
@@ -22,6 +24,10 @@ pub record IsNamed (labels : List Label) (word : List ℕ) (s : Shape) : Type 0 
   pub name : label.name ≡ word
   pub layer : label.layer ≡ s.layer
   pub holds : Holds s.rect label.x label.y
+
+-- the ports of a routed cell
+abbrev pub ports_in : Pins → Routing → Drawing → List Port
+ports_in pins r d = ports_of pins r.trunks d.shapes.rects
 
 -- the pin has exactly one port, and the label of its name stands there
 pub record HasPort (names : List (List ℕ)) (ports : List Port) (d : Drawing) (n : ℕ) : Type 0 where

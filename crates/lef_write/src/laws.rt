@@ -6,14 +6,20 @@ ghost use Rattle.channel_route.specs.declared.routing.Routing.{Routing};
 ghost use Rattle.channel_route.specs.Routing.{IsLegal};
 ghost use Rattle.row_compact.specs.Allowed.{AreAllowed, stretches_of};
 ghost use Rattle.cell_draw.specs.Drawings.{drawn_of};
-ghost use Rattle.lef_write.specs.Drawn.{AreAllMetal, HasPort, IsSized};
-ghost use Rattle.lef_write.specs.Ports.{ports_of};
+ghost use Rattle.lef_write.specs.Drawn.{AreAllMetal, HasPort, IsSized, ports_in};
 
 /// In the drawing of a routed row each pin has exactly one port, on which the label of its name stands, so
 /// it is a shape of the pin's net; the obstructions are exactly the rest of its metal; and the macro's
 /// size is that of its metal1. It does nothing: its contract is the law.
 pub fn drawn_ports()
-    ensures ports { (names : List (List ℕ)) (pins : Pins) (p : Placement) (r : Routing) (xs : List ℕ) (height n : ℕ) → IsPlacement p → IsLegal p pins r → AreAllowed p pins (stretches_of r.trunks) xs → pins.pins ≤ length names → n < pins.pins → HasPort names (ports_of pins r.trunks (drawn_of names pins p r xs height).shapes.rects) (drawn_of names pins p r xs height) n }
-    ensures rest { (names : List (List ℕ)) (pins : Pins) (p : Placement) (r : Routing) (xs : List ℕ) (height : ℕ) → AreAllMetal (ports_of pins r.trunks (drawn_of names pins p r xs height).shapes.rects) (drawn_of names pins p r xs height).shapes.rects }
-    ensures size { (names : List (List ℕ)) (pins : Pins) (p : Placement) (r : Routing) (xs : List ℕ) (height : ℕ) → IsPlacement p → IsLegal p pins r → AreAllowed p pins (stretches_of r.trunks) xs → IsSized (drawn_of names pins p r xs height) }
+    ensures ports { (names : List (List ℕ)) (pins : Pins) (p : Placement) (r : Routing) (xs : List ℕ) (height n : ℕ)
+        → IsPlacement p → IsLegal p pins r → AreAllowed p pins (stretches_of r.trunks) xs → pins.pins ≤ length names
+        → n < pins.pins
+        → HasPort names (ports_in pins r (drawn_of names pins p r xs height)) (drawn_of names pins p r xs height) n }
+    ensures rest { (names : List (List ℕ)) (pins : Pins) (p : Placement) (r : Routing) (xs : List ℕ) (height : ℕ)
+        → AreAllMetal (ports_in pins r (drawn_of names pins p r xs height))
+        (drawn_of names pins p r xs height).shapes.rects }
+    ensures size { (names : List (List ℕ)) (pins : Pins) (p : Placement) (r : Routing) (xs : List ℕ) (height : ℕ)
+        → IsPlacement p → IsLegal p pins r → AreAllowed p pins (stretches_of r.trunks) xs
+        → IsSized (drawn_of names pins p r xs height) }
 {}

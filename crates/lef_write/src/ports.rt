@@ -86,7 +86,8 @@ fn ports_among(
     trunks: &[Trunk],
     metal: &[u32],
 ) -> Result<PortList, NoMemory>
-    ensures { IfOk result (λ ports. ports ≡ filter_map (port_of pins.now trunks.now metal.now) (range_with_len 0 pins.now.pins)) }
+    ensures { IfOk result (λ ports.
+        ports ≡ filter_map (port_of pins.now trunks.now metal.now) (range_with_len 0 pins.now.pins)) }
 {
     let mut ports = PortList::new(alloc);
     for pin in 0..pins.pins {
