@@ -5,7 +5,7 @@ use Rattle.std.specs.List.{enumerate_from, flat_map, range_with_len}
 use Rattle.cell_num.specs.declared.finger.Row.{Row}
 use Rattle.cell_num.specs.declared.finger.Row.TheVariants.{P, N}
 use Rattle.cell_bench.specs.declared.net.Net.{Net}
-use Rattle.cell_bench.specs.declared.net.Net.TheVariants.{Input, Select, Output, Inner, Vdd, Gnd}
+use Rattle.cell_bench.specs.declared.net.Net.TheVariants.{Input, Second, Output, Inner, Vdd, Gnd}
 use Rattle.cell_bench.specs.declared.stage.Stage.{Stage}
 use Rattle.cell_bench.specs.declared.stage.Stage.TheVariants.{Inverter, Nand2, Nor2}
 use Rattle.cell_bench.specs.declared.transistor.Transistor.{Transistor}
@@ -29,17 +29,17 @@ stages_of cell = map (stage_at cell) (range_with_len 0 (stage_count cell))
 
 -- ---- pins
 
--- the pins of a stage, which its place numbers: the second input, where it has one
+-- the second input of a stage at a place, where it has one
 abbrev pub second_inputs : ℕ × Stage → List Net
 second_inputs (stage, Inverter) = []
-second_inputs (stage, Nand2) = Select stage ∷ []
-second_inputs (stage, Nor2) = Select stage ∷ []
+second_inputs (stage, Nand2) = Second stage ∷ []
+second_inputs (stage, Nor2) = Second stage ∷ []
 
 -- the first input, the second ones in order, the last output and the rails
 abbrev pub pins_of : List Stage → List Net
 pins_of stages = Input ∷ flat_map second_inputs (enumerate_from 0 stages) ++ Output (length stages - 1) ∷ Vdd ∷ Gnd ∷ []
 
--- ---- transistors
+-- ---- transistors, stage by stage
 
 abbrev pub first_input : ℕ → Net
 first_input stage = if stage == 0 then Input else Output (stage - 1)
@@ -56,15 +56,15 @@ stage_transistors (stage, Inverter) =
     p_transistor (Output stage) (first_input stage) Vdd ∷ n_transistor (Output stage) (first_input stage) Gnd ∷ []
 stage_transistors (stage, Nand2) =
     p_transistor (Output stage) (first_input stage) Vdd
-    ∷ p_transistor (Output stage) (Select stage) Vdd
+    ∷ p_transistor (Output stage) (Second stage) Vdd
     ∷ n_transistor (Output stage) (first_input stage) (Inner stage)
-    ∷ n_transistor (Inner stage) (Select stage) Gnd
+    ∷ n_transistor (Inner stage) (Second stage) Gnd
     ∷ []
 stage_transistors (stage, Nor2) =
     p_transistor (Inner stage) (first_input stage) Vdd
-    ∷ p_transistor (Output stage) (Select stage) (Inner stage)
+    ∷ p_transistor (Output stage) (Second stage) (Inner stage)
     ∷ n_transistor (Output stage) (first_input stage) Gnd
-    ∷ n_transistor (Output stage) (Select stage) Gnd
+    ∷ n_transistor (Output stage) (Second stage) Gnd
     ∷ []
 
 abbrev pub transistors_of : List Stage → List Transistor

@@ -4,7 +4,7 @@ use Rattle.std.specs.List.{enumerate_from, flat_map, range_with_len}
 use Rattle.cell_num.specs.declared.finger.Row.{Row}
 use Rattle.cell_num.specs.declared.finger.Row.TheVariants.{P, N}
 use Rattle.cell_bench.specs.declared.net.Net.{Net}
-use Rattle.cell_bench.specs.declared.net.Net.TheVariants.{Input, Select, Output, Inner, Vdd, Gnd}
+use Rattle.cell_bench.specs.declared.net.Net.TheVariants.{Input, Second, Output, Inner, Vdd, Gnd}
 use Rattle.cell_bench.specs.declared.stage.Stage.{Stage}
 use Rattle.cell_bench.specs.declared.transistor.Transistor.{Transistor}
 use Rattle.cell_bench.specs.Cells.{pins_of, stages_of, transistors_of}
@@ -14,7 +14,7 @@ cell_name cell = codes "c" ++ decimal cell
 
 abbrev pub net_text : Net → List ℕ
 net_text Input = codes "i0"
-net_text (Select stage) = codes "s" ++ decimal stage
+net_text (Second stage) = codes "s" ++ decimal stage
 net_text (Output stage) = codes "o" ++ decimal stage
 net_text (Inner stage) = codes "t" ++ decimal stage
 net_text Vdd = codes "vdd"

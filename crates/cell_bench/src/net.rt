@@ -9,7 +9,7 @@ pub enum Net {
     /// The first input of the first stage.
     Input,
     /// The second input of a stage.
-    Select(usize),
+    Second(usize),
     /// The output of a stage, which is the first input of the next one.
     Output(usize),
     /// The net between the two transistors of a stage that stand in series.

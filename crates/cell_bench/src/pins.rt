@@ -12,7 +12,7 @@ fn add_second_input(pins: &mut NetList, place: usize, stage: Stage) -> Result<()
 {
     match stage {
         Stage::Inverter => Ok(()),
-        Stage::Nand2 | Stage::Nor2 => pins.push(Net::Select(place)),
+        Stage::Nand2 | Stage::Nor2 => pins.push(Net::Second(place)),
     }
 }
 

@@ -15,6 +15,7 @@ M5 t1 s1 gnd gnd n W=1.5u L=0.6u
 fn writes_cells(rt: HostRuntime) -> Result<(), Fail> {
     let alloc = rt.alloc();
     assert!(rt; bench_text(alloc, 1)?.as_slice() == FIRST);
+    // Length and sum of the bytes as another program wrote them by the same rules.
     let text = bench_text(alloc, 200)?;
     let sum = text.iter().map(|byte| u64::from(*byte)).sum::<u64>();
     assert!(rt; text.len() == 82_518 && sum == 5_598_576);

@@ -22,7 +22,7 @@ fn put_net(out: &mut Bytes, net: &Net) -> Result<(), NoMemory>
 {
     match net {
         Net::Input => out.extend(b"i0"),
-        Net::Select(stage) => put_stage_net(out, b"s", *stage),
+        Net::Second(stage) => put_stage_net(out, b"s", *stage),
         Net::Output(stage) => put_stage_net(out, b"o", *stage),
         Net::Inner(stage) => put_stage_net(out, b"t", *stage),
         Net::Vdd => out.extend(b"vdd"),

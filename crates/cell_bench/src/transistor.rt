@@ -43,7 +43,7 @@ fn add_stage(found: &mut TransistorList, place: usize, stage: Stage) -> Result<(
     ensures { OnOk result (found.new ≡ found.old ++ stage_transistors (place, stage)) }
 {
     let (vdd, gnd) = (Net::Vdd, Net::Gnd);
-    let (a, b) = (first_input(place), Net::Select(place));
+    let (a, b) = (first_input(place), Net::Second(place));
     let (out, inner) = (Net::Output(place), Net::Inner(place));
     match stage {
         Stage::Inverter => found.extend(&[p(out, a, vdd), n(out, a, gnd)]),
