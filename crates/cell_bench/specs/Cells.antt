@@ -2,7 +2,6 @@
 -- are numbered by stage.
 use Rattle.std.specs.Prelude.{ℕ, ◌+◌, ◌-◌, ◌%◌, ◌==◌, List, [], ◌∷◌, ◌++◌, length, map, if◌then◌else◌}
 use Rattle.std.specs.List.{enumerate_from, flat_map, range_with_len}
-use Rattle.cell_num.specs.declared.finger.Row.{Row}
 use Rattle.cell_num.specs.declared.finger.Row.TheVariants.{P, N}
 use Rattle.cell_bench.specs.declared.net.Net.{Net}
 use Rattle.cell_bench.specs.declared.net.Net.TheVariants.{Input, Second, Output, Inner, Vdd, Gnd}
