@@ -12,5 +12,5 @@ mod transistor;
 
 pub use net::{Net, NetList};
 pub use stage::{Stage, StageList};
-pub use text::{bench_text, cell_name};
+pub use text::{MOST_CELL_BYTES, bench_text, cell_name};
 pub use transistor::{Transistor, TransistorList};

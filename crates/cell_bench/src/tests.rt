@@ -11,13 +11,21 @@ M5 t1 s1 gnd gnd n W=1.5u L=0.6u
 .ENDS
 ";
 
+// A sum in which the order of the bytes counts.
+fn checksum(text: &[u8]) -> u32 {
+    let mut sum: u32 = 0;
+    for byte in text {
+        sum = sum.wrapping_mul(31).wrapping_add(u32::from(*byte));
+    }
+    sum
+}
+
 #[test]
 fn writes_cells(rt: HostRuntime) -> Result<(), Fail> {
     let alloc = rt.alloc();
     assert!(rt; bench_text(alloc, 1)?.as_slice() == FIRST);
-    // Length and sum of the bytes as another program wrote them by the same rules.
+    // The length and the checksum of what another program wrote by the same rules.
     let text = bench_text(alloc, 200)?;
-    let sum = text.iter().map(|byte| u64::from(*byte)).sum::<u64>();
-    assert!(rt; text.len() == 82_518 && sum == 5_598_576);
+    assert!(rt; text.len() == 82_518 && checksum(&text) == 4_129_721_220);
     Ok(())
 }

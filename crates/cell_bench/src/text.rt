@@ -1,4 +1,4 @@
-ghost use Rattle.std.specs.Prelude.{◌≡◌, ◌++◌, decimal, IfOk, OnOk};
+ghost use Rattle.std.specs.Prelude.{◌≡◌, ◌≤◌, ◌*◌, ◌++◌, decimal, length, IfOk, OnOk};
 ghost use Rattle.std.specs.List.{enumerate_from, flat_map};
 ghost use Rattle.cell_bench.specs.Cells.{pins_of, transistors_of};
 ghost use Rattle.cell_bench.specs.Text.{bench_text, cell_name, cell_text, chain_text, head_text, model_text, net_text, transistor_text, word_text};
@@ -113,9 +113,14 @@ fn put_cell(alloc: Global, out: &mut Bytes, cell: u32) -> Result<(), NoMemory>
     put_chain(alloc, out, cell, stages.as_slice())
 }
 
+/// The most bytes of a generated cell.
+pub const MOST_CELL_BYTES: usize = 800;
+
 /// The SPICE text of the generated cells numbered below `number`, each a subcircuit of its own.
+#[tactic(auto, using(crate::proofs::Lengths::bench_short))]
 pub fn bench_text(alloc: Global, number: u32) -> Result<Vec<u8>, NoMemory>
-    ensures { IfOk result (λ text. text.items ≡ bench_text number) }
+    ensures text { IfOk result (λ text. text.items ≡ bench_text number) }
+    ensures short { IfOk result (λ text. length text.items ≤ MOST_CELL_BYTES * number) }
 {
     let mut out = Bytes::new(alloc);
     for cell in 0..number {
