@@ -1,0 +1,3 @@
+mod Examples
+pub mod Drawn
+pub mod Lengths
