@@ -1,3 +1,4 @@
+pub mod Apart
 pub mod Bonds
 pub mod Carving
 pub mod Classing
@@ -7,9 +8,11 @@ pub mod Extracting
 pub mod Faults
 pub mod Filling
 pub mod Finding
+pub mod Forests
 pub mod Gating
 pub mod Labelling
 pub mod Linking
+pub mod Links
 pub mod Listing
 pub mod Merging
 pub mod Netting

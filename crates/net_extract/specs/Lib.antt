@@ -5,6 +5,7 @@ pub mod Devices
 pub mod Extraction
 pub mod GateNets
 pub mod Labels
+pub mod Links
 pub mod Lookups
 pub mod Meetings
 pub mod Naming

@@ -14,6 +14,7 @@ ghost use Rattle.net_extract.specs.Steps.{AreNamed};
 use crate::conductor::gate_pieces;
 use crate::fault::ExtractFault;
 use crate::gate::devices;
+use crate::layers::Layers;
 use crate::lookup::{all_held, check_strays};
 use crate::naming::net_names;
 use crate::netlist::{DrawnList, Netlist};
@@ -93,7 +94,10 @@ fn all_devices(alloc: Global, shapes: &Shapes, map: &NetMap) -> Result<DrawnList
     let Ok(gates) = gate_map(alloc, shapes.rects.as_slice()) else {
         return Err(ExtractFault::NoMemory);
     };
-    match devices(alloc, shapes.rects.as_slice(), map, &gates) {
+    let Ok(layers) = Layers::new(alloc, shapes.rects.as_slice()) else {
+        return Err(ExtractFault::NoMemory);
+    };
+    match devices(alloc, &layers, map, &gates) {
         Ok(devices) => Ok(devices),
         Err(fault) => Err(fault),
     }

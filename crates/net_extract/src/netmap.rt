@@ -1,13 +1,13 @@
 // The nets of a drawing: every piece of conductor with the number of its net.
 ghost use Rattle.std.specs.Prelude.{◌≡◌, ◌<◌, ◌≤◌, ◌++◌, ◌∷◌, [], ◌+◌, All, IsPermutation, IsSorted, length, get_or, IfOk, OnOk};
-ghost use Rattle.net_extract.specs.Classes.{AreHeads};
+ghost use Rattle.net_extract.specs.Classes.{AreHeads, AreLeast};
 ghost use Rattle.box_geom.specs.Rectangle.{IsProper};
 ghost use Rattle.net_extract.specs.NetMaps.{AreNumbered, AreWires, nets_of};
 ghost use Rattle.net_extract.specs.Parts.{AreDrawn};
-ghost use Rattle.net_extract.specs.Pieces.{rects_in, piece_cmp};
+ghost use Rattle.net_extract.specs.Pieces.{rect_of, rects_in, piece_cmp, Paired};
 
 use crate::class::least_labels;
-use crate::conductor::all_pieces;
+use crate::conductor::{all_links, all_pieces};
 use crate::piece::Piece;
 use box_geom::Shape;
 use cell_num::NoMemory;
@@ -107,6 +107,19 @@ fn ordered_pieces(alloc: Global, shapes: &[Shape]) -> Result<Vec<Piece>, NoMemor
     Ok(sorted(pieces.into_vec()))
 }
 
+// For each piece the number of the first one of its net.
+fn net_labels(alloc: Global, shapes: &[Shape], pieces: &[Piece]) -> Result<Vec<usize>, NoMemory>
+    requires proper { All (λ p. IsProper (rect_of p)) pieces.now }
+    requires sorted { IsSorted piece_cmp pieces.now }
+    ensures { IfOk result (λ labels. AreLeast (length pieces.now) (Paired shapes.now pieces.now) labels.items) }
+{
+    let links = all_links(alloc, shapes)?;
+    match least_labels(alloc, links.as_slice(), pieces) {
+        Ok(labels) => Ok(labels),
+        Err(NoMemory) => Err(NoMemory),
+    }
+}
+
 /// The nets of a drawing: pieces in the order of their first cells, with the numbers of their nets.
 #[tactic(auto, using(crate::proofs::Netting::net_rules))]
 pub(crate) fn net_map(alloc: Global, shapes: &[Shape]) -> Result<NetMap, NoMemory>
@@ -114,7 +127,7 @@ pub(crate) fn net_map(alloc: Global, shapes: &[Shape]) -> Result<NetMap, NoMemor
     ensures { IfOk result (λ m. AreWires shapes.now m.wires.items m.firsts.items) }
 {
     let pieces = ordered_pieces(alloc, shapes)?;
-    let labels = least_labels(alloc, shapes, pieces.as_slice())?;
+    let labels = net_labels(alloc, shapes, pieces.as_slice())?;
     match number_all(alloc, pieces.as_slice(), labels.as_slice()) {
         Ok(map) => Ok(map),
         Err(NoMemory) => Err(NoMemory),

@@ -1,7 +1,7 @@
 use Rattle.std.proofs.Common.{ℤ, ◌≤ℤ◌, ◌-ℤ◌, unsigned_abs}
 use Rattle.net_extract.specs.Areas.{cells_in}
 use Rattle.net_extract.proofs.Filling.{IsBuilt}
-use Rattle.net_extract.proofs.area.is_full.Given as goal
+use Rattle.net_extract.proofs.area.is_area_full.Given as goal
 
 abbrev pub invariant-rows : goal.invariant-rows
 invariant-rows l = IsBuilt l.shapes l.layer (cells_in l.area) l.y
