@@ -43,7 +43,7 @@ pub record IsKept (p q : Piece) : Type 0 where
   pub same : p ≡ q
   pub proper : IsProper (rect_of p)
 
-of_kept : (p q : Piece) → Contains (kept p) q → IsKept p q
+pub of_kept : (p q : Piece) → Contains (kept p) q → IsKept p q
 of_kept p q c = by (is_some_piece p) (some_decides p) c
   where
     by : (b : Bool) → Decides b (IsProper (rect_of p)) → Contains (if b then p ∷ [] else []) q → IsKept p q
@@ -199,7 +199,7 @@ shared_is : (r : Rectangle) (p q : Piece) → Contains (shared_part r p) q → I
 shared_is r p q c = let k = of_kept (common_part p r) q c in subst (IsShared r p) k.same (record { kind = refl; proper = k.proper; inside = λ x y h. omega (arith, ints, clamps); within = λ x y h. omega (arith, ints, clamps) })
 
 -- a piece that a shape of the layer shares
-record FromShape (layer : Layer) (ps : List Piece) (ss : List Shape) (q : Piece) : Type 0 where
+pub record FromShape (layer : Layer) (ps : List Piece) (ss : List Shape) (q : Piece) : Type 0 where
   pub shape : Shape
   pub there : Contains ss shape
   pub on : same_layer shape.layer layer ≡ true
@@ -207,7 +207,7 @@ record FromShape (layer : Layer) (ps : List Piece) (ss : List Shape) (q : Piece)
   pub listed : Contains ps of
   pub inside : Contains (shared_part shape.rect of) q
 
-from_shape : (layer : Layer) (ps : List Piece) (ss : List Shape) (q : Piece) → Contains (shared_all layer ps ss) q → FromShape layer ps ss q
+pub from_shape : (layer : Layer) (ps : List Piece) (ss : List Shape) (q : Piece) → Contains (shared_all layer ps ss) q → FromShape layer ps ss q
 from_shape layer ps ss q c = let i = in_flat (shared_once layer ps) ss q c in by i.of i.listed (same_layer i.of.layer layer) refl i.inside
   where
     by : (z : Shape) → Contains ss z → (b : Bool) → same_layer z.layer layer ≡ b → Contains (if b then flat_map (shared_part z.rect) ps else []) q → FromShape layer ps ss q
@@ -231,13 +231,13 @@ shared_are k P layer ps ss a = record {
 }
 
 -- a piece that is a shape of the layer
-record FromDrawn (k : Conductor) (layer : Layer) (ss : List Shape) (q : Piece) : Type 0 where
+pub record FromDrawn (k : Conductor) (layer : Layer) (ss : List Shape) (q : Piece) : Type 0 where
   pub shape : Shape
   pub there : Contains ss shape
   pub on : same_layer shape.layer layer ≡ true
   pub is : piece_of k shape.rect ≡ q
 
-from_drawn : (k : Conductor) (layer : Layer) (ss : List Shape) (q : Piece) → Contains (drawn_all k layer ss) q → FromDrawn k layer ss q
+pub from_drawn : (k : Conductor) (layer : Layer) (ss : List Shape) (q : Piece) → Contains (drawn_all k layer ss) q → FromDrawn k layer ss q
 from_drawn k layer ss q c = let i = in_flat (drawn_once k layer) ss q c in by i.of i.listed (same_layer i.of.layer layer) refl i.inside
   where
     by : (z : Shape) → Contains ss z → (b : Bool) → same_layer z.layer layer ≡ b → Contains (if b then piece_of k z.rect ∷ [] else []) q → FromDrawn k layer ss q

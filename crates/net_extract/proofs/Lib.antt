@@ -3,6 +3,8 @@ pub mod Bonds
 pub mod Carving
 pub mod Classing
 pub mod Conductors
+pub mod Cornering
+pub mod Counting
 pub mod Covering
 pub mod Extracting
 pub mod Faults

@@ -1,5 +1,6 @@
 pub mod Areas
 pub mod Classes
+pub mod Corners
 pub mod Cuts
 pub mod Devices
 pub mod Extraction
