@@ -19,11 +19,14 @@ use Rattle.net_extract.specs.Nets.{Kind, p_diffusion, n_diffusion, poly, metal1,
 use Rattle.net_extract.specs.Parts.{AreDrawn}
 use Rattle.net_extract.specs.Pieces.{kind_of, rect_of, rects_in}
 use Rattle.net_extract.specs.GateNets.{AreGates}
-use Rattle.net_extract.specs.Cuts.{is_some_piece, kept, left_part, right_part, low_part, high_part, around, common_part, shared_part, cut_once, cut_all, shared_once, shared_all, piece_of, drawn_once, drawn_all, diffusion_in, p_diffusion_in, n_diffusion_in, pieces_in, gates_in, poly_of}
+use Rattle.net_extract.specs.Meetings.{sharing_cell}
+use Rattle.net_extract.specs.Cuts.{is_some_piece, kept, left_part, right_part, low_part, high_part, around, carved, carved_once, left_of_piece, shapes_on, cut_all, common_part, shared_part, shared_once, shared_all, piece_of, drawn_once, drawn_all, p_diffusion_in, n_diffusion_in, pieces_in, gates_in, poly_of}
 use Rattle.net_extract.specs.declared.piece.Conductor.{Conductor}
 use Rattle.net_extract.specs.declared.piece.Conductor.TheVariants.{PDiffusion, NDiffusion, Poly, Metal1, Metal2}
 use Rattle.net_extract.specs.declared.piece.Piece.{Piece}
+use Rattle.net_extract.proofs.Covering.{cover_none, cover_first, cover_later, cover_split}
 use Rattle.net_extract.proofs.Finding.{Shows, shows, shown}
+use Rattle.net_extract.proofs.Linking.{cells_meet, cell_decides}
 use Rattle.net_extract.proofs.Listing.{Listed, listed_of, of_listed}
 
 -- a piece of the list holds the cell
@@ -40,7 +43,7 @@ pub record IsKept (p q : Piece) : Type 0 where
   pub same : p ≡ q
   pub proper : IsProper (rect_of p)
 
-of_kept : (p q : Piece) → Contains (kept p) q → IsKept p q
+pub of_kept : (p q : Piece) → Contains (kept p) q → IsKept p q
 of_kept p q c = by (is_some_piece p) (some_decides p) c
   where
     by : (b : Bool) → Decides b (IsProper (rect_of p)) → Contains (if b then p ∷ [] else []) q → IsKept p q
@@ -96,35 +99,95 @@ pub record ArePieces (k : Conductor) (P : ℤ → ℤ → Type 0) (ps : List Pie
 pub pieces_like : (k : Conductor) (P Q : ℤ → ℤ → Type 0) (ps : List Piece) → ((x y : ℤ) → P x y → Q x y) → ((x y : ℤ) → Q x y → P x y) → ArePieces k P ps → ArePieces k Q ps
 pieces_like k P Q ps f g a = record { kinds = a.kinds; proper = a.proper; sound = λ x y h. f x y (a.sound x y h); all = λ x y q. a.all x y (g x y q) }
 
-cut_once_are : (k : Conductor) (P : ℤ → ℤ → Type 0) (layer : Layer) (ps : List Piece) (s : Shape) → ArePieces k P ps → ArePieces k (λ x y. P x y × (same_layer s.layer layer ≡ true → Holds s.rect x y → ⊥)) (cut_once layer ps s)
-cut_once_are k P layer ps s a = by (same_layer s.layer layer)
+-- two rectangles without a cell in common
+apart : (a b : Rectangle) → sharing_cell a b ≡ false → (x y : ℤ) → Holds a x y → Holds b x y → ⊥
+apart a b e x y h g = let t : sharing_cell a b ≡ true = (cell_decides a b).1 (cells_meet a b x y h g) in absurd (cc (sym e ∙ t))
+
+carved_is : (r : Rectangle) (p q : Piece) → IsProper (rect_of p) → Contains (carved r p) q → IsAround r p q
+carved_is r p q proper c = by (sharing_cell (rect_of p) r) refl c
   where
-    by : (b : Bool) → ArePieces k (λ x y. P x y × (b ≡ true → Holds s.rect x y → ⊥)) (if b then flat_map (around s.rect) ps else ps)
-    by true = record {
-      kinds = λ q c. let i = in_flat (around s.rect) ps q c in (around_is s.rect i.of q i.inside).kind ∙ a.kinds i.of i.listed;
-      proper = λ q c. let i = in_flat (around s.rect) ps q c in (around_is s.rect i.of q i.inside).proper;
-      sound = λ x y h. let i = in_flat (around s.rect) ps h.piece h.listed in let r = around_is s.rect i.of h.piece i.inside in (a.sound x y (record { piece = i.of; listed = i.listed; holds = r.inside x y h.holds }), λ e g. r.outside x y h.holds g);
-      all = λ x y q. let h = a.all x y q.0 in let r = around_has s.rect h.piece x y h.holds (q.1 refl) in record { piece = r.piece; listed = contains_flat (around s.rect) ps h.piece r.piece h.listed r.listed; holds = r.holds };
+    by : (b : Bool) → sharing_cell (rect_of p) r ≡ b → Contains (if b then around r p else p ∷ []) q → IsAround r p q
+    by true e d = around_is r p q d
+    by false e d = subst (IsAround r p) (contains_one p q d) (record { kind = refl; proper = proper; inside = λ x y h. h; outside = λ x y h g. apart (rect_of p) r e x y h g })
+
+carved_has : (r : Rectangle) (p : Piece) (x y : ℤ) → Holds (rect_of p) x y → (Holds r x y → ⊥) → Has (carved r p) x y
+carved_has r p x y h out = by (sharing_cell (rect_of p) r)
+  where
+    by : (b : Bool) → Has (if b then around r p else p ∷ []) x y
+    by true = around_has r p x y h out
+    by false = record { piece = p; listed = contains_here p []; holds = h }
+
+-- parts of a piece, whose cells are those of the piece in a set
+abbrev Parts : Piece → (ℤ → ℤ → Type 0) → List Piece → Type 0
+Parts p P ps = ArePieces p.kind (λ x y. P x y × Holds (rect_of p) x y) ps
+
+-- parts of a piece without one more shape
+carved_are : (p : Piece) (P : ℤ → ℤ → Type 0) (ps : List Piece) (s : Shape) → Parts p P ps → Parts p (λ x y. P x y × (Holds s.rect x y → ⊥)) (carved_once p ps s)
+carved_are p P ps s a = by (sharing_cell (rect_of p) s.rect) refl
+  where
+    by : (b : Bool) → sharing_cell (rect_of p) s.rect ≡ b → Parts p (λ x y. P x y × (Holds s.rect x y → ⊥)) (if b then flat_map (carved s.rect) ps else ps)
+    by true e = record {
+      kinds = λ q c. let i = in_flat (carved s.rect) ps q c in (carved_is s.rect i.of q (a.proper i.of i.listed) i.inside).kind ∙ a.kinds i.of i.listed;
+      proper = λ q c. let i = in_flat (carved s.rect) ps q c in (carved_is s.rect i.of q (a.proper i.of i.listed) i.inside).proper;
+      sound = λ x y h.
+          let i = in_flat (carved s.rect) ps h.piece h.listed in
+          let r = carved_is s.rect i.of h.piece (a.proper i.of i.listed) i.inside in
+          let t = a.sound x y (record { piece = i.of; listed = i.listed; holds = r.inside x y h.holds }) in
+          ((t.0, λ g. r.outside x y h.holds g), t.1);
+      all = λ x y q.
+          let h = a.all x y (q.0.0, q.1) in
+          let r = carved_has s.rect h.piece x y h.holds q.0.1 in
+          record { piece = r.piece; listed = contains_flat (carved s.rect) ps h.piece r.piece h.listed r.listed; holds = r.holds };
     }
-    by false = record { kinds = a.kinds; proper = a.proper; sound = λ x y h. (a.sound x y h, λ e g. absurd (cc e)); all = λ x y q. a.all x y q.0 }
+    by false e = record {
+      kinds = a.kinds;
+      proper = a.proper;
+      sound = λ x y h. let t = a.sound x y h in ((t.0, λ g. apart (rect_of p) s.rect e x y t.1 g), t.1);
+      all = λ x y q. a.all x y (q.0.0, q.1);
+    }
 
-abbrev Clear : Layer → List Shape → ℤ → ℤ → Type 0
-Clear layer ss x y = (z : Shape) → Contains ss z → same_layer z.layer layer ≡ true → Holds z.rect x y → ⊥
+abbrev rects : List Shape → List Rectangle
+rects ss = map (λ (z : Shape). z.rect) ss
 
-cut_list_are : (k : Conductor) (P : ℤ → ℤ → Type 0) (layer : Layer) (ps : List Piece) (ss : List Shape) → ArePieces k P ps → ArePieces k (λ x y. P x y × Clear layer ss x y) (cut_all layer ps ss)
-cut_list_are k P layer ps [] a = pieces_like k P (λ x y. P x y × Clear layer [] x y) ps (λ x y p. (p, λ z c e h. contains_none z c)) (λ x y q. q.0) a
-cut_list_are k P layer ps (s ∷ ss) a =
-    pieces_like k (λ x y. (P x y × (same_layer s.layer layer ≡ true → Holds s.rect x y → ⊥)) × Clear layer ss x y) (λ x y. P x y × Clear layer (s ∷ ss) x y) (cut_all layer (cut_once layer ps s) ss)
-    (λ x y q. (q.0.0, λ z c e h. elim (contains_cons s ss z c) [ inl same ↦ q.0.1 (subst (λ (w : Shape). same_layer w.layer layer ≡ true) (sym same) e) (subst (λ (w : Shape). Holds w.rect x y) (sym same) h) | inr later ↦ q.1 z later e h ]))
-    (λ x y q. ((q.0, q.1 s (contains_here s ss)), λ z c. q.1 z (contains_there s ss z c)))
-    (cut_list_are k (λ x y. P x y × (same_layer s.layer layer ≡ true → Holds s.rect x y → ⊥)) layer (cut_once layer ps s) ss (cut_once_are k P layer ps s a))
+parts_are : (p : Piece) (P : ℤ → ℤ → Type 0) (ps : List Piece) (ss : List Shape) → Parts p P ps → Parts p (λ x y. P x y × (Covers (rects ss) x y → ⊥)) (fold (carved_once p) ps ss)
+parts_are p P ps [] a = pieces_like p.kind (λ x y. P x y × Holds (rect_of p) x y) (λ x y. (P x y × (Covers [] x y → ⊥)) × Holds (rect_of p) x y) ps (λ x y q. ((q.0, λ c. cover_none x y c), q.1)) (λ x y q. (q.0.0, q.1)) a
+parts_are p P ps (s ∷ ss) a =
+    pieces_like p.kind (λ x y. ((P x y × (Holds s.rect x y → ⊥)) × (Covers (rects ss) x y → ⊥)) × Holds (rect_of p) x y) (λ x y. (P x y × (Covers (s.rect ∷ rects ss) x y → ⊥)) × Holds (rect_of p) x y) (fold (carved_once p) (carved_once p ps s) ss)
+    (λ x y q. ((q.0.0.0, λ c. elim (cover_split s.rect (rects ss) x y c) [ inl h ↦ q.0.0.1 h | inr later ↦ q.0.1 later ]), q.1))
+    (λ x y q. (((q.0.0, λ h. q.0.1 (cover_first s.rect (rects ss) x y h)), λ c. q.0.1 (cover_later s.rect (rects ss) x y c)), q.1))
+    (parts_are p (λ x y. P x y × (Holds s.rect x y → ⊥)) (carved_once p ps s) ss (carved_are p P ps s a))
+
+-- what is left of a piece
+piece_left : (ss : List Shape) (p : Piece) → IsProper (rect_of p) → ArePieces p.kind (λ x y. Holds (rect_of p) x y × (Covers (rects ss) x y → ⊥)) (left_of_piece ss p)
+piece_left ss p proper =
+    pieces_like p.kind (λ x y. (Holds (rect_of p) x y × (Covers (rects ss) x y → ⊥)) × Holds (rect_of p) x y) (λ x y. Holds (rect_of p) x y × (Covers (rects ss) x y → ⊥)) (left_of_piece ss p)
+    (λ x y q. q.0) (λ x y q. (q, q.0))
+    (parts_are p (Holds (rect_of p)) (p ∷ []) ss (record {
+      kinds = λ q c. ap (λ (z : Piece). z.kind) (sym (contains_one p q c));
+      proper = λ q c. subst (λ (z : Piece). IsProper (rect_of z)) (contains_one p q c) proper;
+      sound = λ x y h. let here : Holds (rect_of p) x y = subst (λ (z : Piece). Holds (rect_of z) x y) (sym (contains_one p h.piece h.listed)) h.holds in (here, here);
+      all = λ x y q. record { piece = p; listed = contains_here p []; holds = q.1 };
+    }))
 
 pub cut_are : (k : Conductor) (P : ℤ → ℤ → Type 0) (layer : Layer) (ps : List Piece) (ss : List Shape) → ArePieces k P ps → ArePieces k (λ x y. P x y × (On layer ss x y → ⊥)) (cut_all layer ps ss)
-cut_are k P layer ps ss a =
-    pieces_like k (λ x y. P x y × Clear layer ss x y) (λ x y. P x y × (On layer ss x y → ⊥)) (cut_all layer ps ss)
-    (λ x y q. (q.0, λ on. let w = shows ss layer x y on in q.1 w.shape w.listed w.on w.holds))
-    (λ x y q. (q.0, λ z c e h. q.1 (shown ss layer z x y c e h)))
-    (cut_list_are k P layer ps ss a)
+cut_are k P layer ps ss a = record {
+  kinds = λ q c. let i = in_flat left ps q c in (left_are i.of i.listed).kinds q i.inside ∙ a.kinds i.of i.listed;
+  proper = λ q c. let i = in_flat left ps q c in (left_are i.of i.listed).proper q i.inside;
+  sound = λ x y h.
+      let i = in_flat left ps h.piece h.listed in
+      let t = (left_are i.of i.listed).sound x y (record { piece = h.piece; listed = i.inside; holds = h.holds }) in
+      (a.sound x y (record { piece = i.of; listed = i.listed; holds = t.0 }), t.1);
+  all = λ x y q.
+      let h = a.all x y q.0 in
+      let r = (left_are h.piece h.listed).all x y (h.holds, q.1) in
+      record { piece = r.piece; listed = contains_flat left ps h.piece r.piece h.listed r.listed; holds = r.holds };
+}
+  where
+    left : Piece → List Piece
+    left = left_of_piece (shapes_on layer ss)
+
+    left_are : (p : Piece) → Contains ps p → ArePieces p.kind (λ x y. Holds (rect_of p) x y × (On layer ss x y → ⊥)) (left_of_piece (shapes_on layer ss) p)
+    left_are p c = piece_left (shapes_on layer ss) p (a.proper p c)
 
 record IsShared (r : Rectangle) (p q : Piece) : Type 0 where
   pub kind : q.kind ≡ p.kind
@@ -136,7 +199,7 @@ shared_is : (r : Rectangle) (p q : Piece) → Contains (shared_part r p) q → I
 shared_is r p q c = let k = of_kept (common_part p r) q c in subst (IsShared r p) k.same (record { kind = refl; proper = k.proper; inside = λ x y h. omega (arith, ints, clamps); within = λ x y h. omega (arith, ints, clamps) })
 
 -- a piece that a shape of the layer shares
-record FromShape (layer : Layer) (ps : List Piece) (ss : List Shape) (q : Piece) : Type 0 where
+pub record FromShape (layer : Layer) (ps : List Piece) (ss : List Shape) (q : Piece) : Type 0 where
   pub shape : Shape
   pub there : Contains ss shape
   pub on : same_layer shape.layer layer ≡ true
@@ -144,7 +207,7 @@ record FromShape (layer : Layer) (ps : List Piece) (ss : List Shape) (q : Piece)
   pub listed : Contains ps of
   pub inside : Contains (shared_part shape.rect of) q
 
-from_shape : (layer : Layer) (ps : List Piece) (ss : List Shape) (q : Piece) → Contains (shared_all layer ps ss) q → FromShape layer ps ss q
+pub from_shape : (layer : Layer) (ps : List Piece) (ss : List Shape) (q : Piece) → Contains (shared_all layer ps ss) q → FromShape layer ps ss q
 from_shape layer ps ss q c = let i = in_flat (shared_once layer ps) ss q c in by i.of i.listed (same_layer i.of.layer layer) refl i.inside
   where
     by : (z : Shape) → Contains ss z → (b : Bool) → same_layer z.layer layer ≡ b → Contains (if b then flat_map (shared_part z.rect) ps else []) q → FromShape layer ps ss q
@@ -168,13 +231,13 @@ shared_are k P layer ps ss a = record {
 }
 
 -- a piece that is a shape of the layer
-record FromDrawn (k : Conductor) (layer : Layer) (ss : List Shape) (q : Piece) : Type 0 where
+pub record FromDrawn (k : Conductor) (layer : Layer) (ss : List Shape) (q : Piece) : Type 0 where
   pub shape : Shape
   pub there : Contains ss shape
   pub on : same_layer shape.layer layer ≡ true
   pub is : piece_of k shape.rect ≡ q
 
-from_drawn : (k : Conductor) (layer : Layer) (ss : List Shape) (q : Piece) → Contains (drawn_all k layer ss) q → FromDrawn k layer ss q
+pub from_drawn : (k : Conductor) (layer : Layer) (ss : List Shape) (q : Piece) → Contains (drawn_all k layer ss) q → FromDrawn k layer ss q
 from_drawn k layer ss q c = let i = in_flat (drawn_once k layer) ss q c in by i.of i.listed (same_layer i.of.layer layer) refl i.inside
   where
     by : (z : Shape) → Contains ss z → (b : Bool) → same_layer z.layer layer ≡ b → Contains (if b then piece_of k z.rect ∷ [] else []) q → FromDrawn k layer ss q
@@ -216,10 +279,16 @@ first_kind : (k : Conductor) (P : ℤ → ℤ → Type 0) (qs : List Piece) → 
 first_kind k P qs a x y p = let h = a.all x y p in record { rect = rect_of h.piece; listed = of_listed qs h.piece (kind_of k) h.listed (ap kind_of (a.kinds h.piece h.listed)); holds = h.holds }
 
 p_are : (s : List Shape) → All (λ (z : Shape). IsProper z.rect) s → ArePieces PDiffusion (Are s p_diffusion) (p_diffusion_in s)
-p_are s proper = shared_are PDiffusion (λ x y. On Active s x y × (On PolyLayer s x y → ⊥)) Well (diffusion_in PDiffusion s) s (cut_are PDiffusion (On Active s) PolyLayer (drawn_all PDiffusion Active s) s (drawn_are PDiffusion Active s proper))
+p_are s proper =
+    pieces_like PDiffusion (λ x y. (On Active s x y × On Well s x y) × (On PolyLayer s x y → ⊥)) (Are s p_diffusion) (p_diffusion_in s)
+    (λ x y q. ((q.0.0, q.1), q.0.1)) (λ x y q. ((q.0.0, q.1), q.0.1))
+    (cut_are PDiffusion (λ x y. On Active s x y × On Well s x y) PolyLayer (shared_all Well (drawn_all PDiffusion Active s) s) s (shared_are PDiffusion (On Active s) Well (drawn_all PDiffusion Active s) s (drawn_are PDiffusion Active s proper)))
 
 n_are : (s : List Shape) → All (λ (z : Shape). IsProper z.rect) s → ArePieces NDiffusion (Are s n_diffusion) (n_diffusion_in s)
-n_are s proper = cut_are NDiffusion (λ x y. On Active s x y × (On PolyLayer s x y → ⊥)) Well (diffusion_in NDiffusion s) s (cut_are NDiffusion (On Active s) PolyLayer (drawn_all NDiffusion Active s) s (drawn_are NDiffusion Active s proper))
+n_are s proper =
+    pieces_like NDiffusion (λ x y. (On Active s x y × (On Well s x y → ⊥)) × (On PolyLayer s x y → ⊥)) (Are s n_diffusion) (n_diffusion_in s)
+    (λ x y q. ((q.0.0, q.1), q.0.1)) (λ x y q. ((q.0.0, q.1), q.0.1))
+    (cut_are NDiffusion (λ x y. On Active s x y × (On Well s x y → ⊥)) PolyLayer (cut_all Well (drawn_all NDiffusion Active s) s) s (cut_are NDiffusion (On Active s) Well (drawn_all NDiffusion Active s) s (drawn_are NDiffusion Active s proper)))
 
 pub pieces_drawn : (s : List Shape) → All (λ (z : Shape). IsProper z.rect) s → AreDrawn s (rects_in (pieces_in s))
 pieces_drawn s proper = record { covered = covered; conducts = conducts; proper = λ k. all_from_contains IsProper (rects_in (pieces_in s) k) (λ r c. let l = listed_of (pieces_in s) k r c in subst IsProper l.rect (whole.proper l.piece l.listed)) }

@@ -160,3 +160,16 @@ less_left x a b l m = omega (arith, ints)
 
 pub moved_on : {y at top : ℤ} (s : List Shape) (layer : Layer) (area : Rectangle) (at' : ℤ) (r : Rectangle) → IsCovered s layer area y at top → at <ℤ area.x2 → holder s layer at y ≡ Some r → at' ≡ int_min r.x2 area.x2 → at <ℤ at'
 moved_on {y} {at} {top} s layer area at' r was l e ea = let f = finds s layer at y r e in let h = f.holds in omega (arith, ints, clamps)
+
+-- ---- drawings with the same rectangles on a layer
+pub full_like : (s t : List Shape) (layer : Layer) (area : Rectangle) (b : Bool) → rects_on layer t ≡ rects_on layer s → IsTrue b ↔ IsFull t layer area → IsTrue b ↔ IsFull s layer area
+full_like s t layer area b e d = (
+  λ h. record { full = λ x y k. subst (λ rs. Covers rs x y) e ((d.0 h).full x y k) },
+  λ f. d.1 (record { full = λ x y k. subst (λ rs. Covers rs x y) (sym e) (f.full x y k) }),
+)
+
+pub free_like : (s t : List Shape) (layer : Layer) (area : Rectangle) (b : Bool) → rects_on layer t ≡ rects_on layer s → IsTrue b ↔ IsFree t layer area → IsTrue b ↔ IsFree s layer area
+free_like s t layer area b e d = (
+  λ h. record { free = λ x y k on. (d.0 h).free x y k (subst (λ rs. Covers rs x y) (sym e) on) },
+  λ f. d.1 (record { free = λ x y k on. f.free x y k (subst (λ rs. Covers rs x y) e on) }),
+)

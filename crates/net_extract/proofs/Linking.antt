@@ -65,13 +65,13 @@ links_decide (s ∷ ss) layer a b = step (same_layer s.layer layer) (links_decid
     step true rest = Decides-like (crossing a b s.rect || linking ss layer a b) (λ e. elim e [ inl m ↦ record { x = m.x; y = m.y; in_a = m.in_a; in_b = m.in_b; is = cover_first s.rect (rects_on layer ss) m.x m.y m.is } | inr m ↦ record { x = m.x; y = m.y; in_a = m.in_a; in_b = m.in_b; is = cover_later s.rect (rects_on layer ss) m.x m.y m.is } ]) (meet_split s.rect (rects_on layer ss) a b) (Decides-or (crossing a b s.rect) (linking ss layer a b) (cross_decides a b s.rect) rest)
     step false rest = rest
 
-abbrev Overlapping : Rectangle → Rectangle → Type 0
+abbrev pub Overlapping : Rectangle → Rectangle → Type 0
 Overlapping a b = ((a.x1 <ℤ b.x2) × (b.x1 <ℤ a.x2)) × ((a.y1 <ℤ b.y2) × (b.y1 <ℤ a.y2))
 
-cells_meet : (a b : Rectangle) (x y : ℤ) → Holds a x y → Holds b x y → Overlapping a b
+pub cells_meet : (a b : Rectangle) (x y : ℤ) → Holds a x y → Holds b x y → Overlapping a b
 cells_meet a b x y h k = ((omega (arith, ints), omega (arith, ints)), (omega (arith, ints), omega (arith, ints)))
 
-cell_decides : (a b : Rectangle) → Decides (sharing_cell a b) (Overlapping a b)
+pub cell_decides : (a b : Rectangle) → Decides (sharing_cell a b) (Overlapping a b)
 cell_decides a b = Decides-and (overlapping a.x1 a.x2 b.x1 b.x2) (overlapping a.y1 a.y2 b.y1 b.y2) (overlap_decides a.x1 a.x2 b.x1 b.x2) (overlap_decides a.y1 a.y2 b.y1 b.y2)
 
 linked_decides : (shapes : List Shape) (o : Option Layer) (a b : Rectangle) → Decides (linking_by shapes o a b) (Meet (OnLink o shapes) a b)

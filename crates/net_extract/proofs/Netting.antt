@@ -1,17 +1,19 @@
 -- Pieces, labels and numbers together are the nets of a drawing.
-use Rattle.std.proofs.Common.{◌≡◌, ℕ, List, length, sym, subst, IsPermutation, IsSorted}
+use Rattle.std.proofs.Common.{◌≡◌, ℕ, ◌≤◌, List, length, sym, subst, IsPermutation, IsSorted}
 use Rattle.std.specs.List.{All}
 use Rattle.box_geom.specs.Rectangle.{IsProper}
 use Rattle.box_geom.specs.declared.shape.Shape.{Shape}
 use Rattle.net_extract.specs.Classes.{AreLeast, AreHeads}
 use Rattle.net_extract.specs.Cuts.{pieces_in}
-use Rattle.net_extract.specs.NetMaps.{AreWires, AreNumbered}
+use Rattle.net_extract.specs.Corners.{HaveFewCorners}
+use Rattle.net_extract.specs.NetMaps.{AreWires, AreNumbered, heads_below}
 use Rattle.net_extract.specs.Parts.{AreDrawn}
 use Rattle.net_extract.specs.Pieces.{rect_of, rects_in, piece_cmp, Paired}
 use Rattle.net_extract.specs.declared.netmap.Wire.{Wire}
 use Rattle.net_extract.specs.declared.piece.Piece.{Piece}
 use Rattle.net_extract.proofs.Carving.{pieces_drawn}
 use Rattle.net_extract.proofs.Classing.{least_heads}
+use Rattle.net_extract.proofs.Cornering.{few_heads}
 use Rattle.net_extract.proofs.Listing.{drawn_permuted, all_proper}
 use Rattle.net_extract.proofs.Wiring.{wires_are}
 
@@ -36,3 +38,12 @@ heads_from s ps qs rs ls ms eq er em least = subst (λ zs. AreHeads (length zs) 
 
 pub net_from : (s : List Shape) (ps qs rs : List Piece) (ls ms : List ℕ) (wires : List Wire) (firsts : List Piece) → qs ≡ ps → rs ≡ ps → ms ≡ ls → AreDrawn s (rects_in ps) → IsSorted piece_cmp ps → AreLeast (length qs) (Paired s qs) ls → AreNumbered rs ms (length rs) wires firsts → AreWires s wires firsts
 net_from s ps qs rs ls ms wires firsts eq er em d up least n = net_is s ps ls wires firsts d up (subst (λ zs. AreLeast (length zs) (Paired s zs) ls) eq least) (subst (λ zs. AreNumbered zs ls (length zs) wires firsts) er (subst (λ zs. AreNumbered rs zs (length rs) wires firsts) em n))
+
+pub few_from : (s : List Shape) (ps qs rs : List Piece) (ls ms : List ℕ) → qs ≡ ps → rs ≡ ps → ms ≡ ls → AreDrawn s (rects_in ps) → IsSorted piece_cmp ps → HaveFewCorners ps → AreLeast (length qs) (Paired s qs) ls → length (heads_below rs ms (length rs)) ≤ 2000000000
+few_from s ps qs rs ls ms eq er em d up few least =
+    let mine : AreLeast (length ps) (Paired s ps) ls = subst (λ zs. AreLeast (length zs) (Paired s zs) ls) eq least in
+    let here : length (heads_below ps ls (length ps)) ≤ 2000000000 = few_heads s ps ls (record { drawn = d; sorted = up; least = mine }) few in
+    subst (λ zs. length (heads_below zs ms (length zs)) ≤ 2000000000) (sym er) (subst (λ zs. length (heads_below ps zs (length ps)) ≤ 2000000000) (sym em) here)
+
+pub few_numbered : (rs : List Piece) (ms : List ℕ) (wires : List Wire) (firsts : List Piece) → length (heads_below rs ms (length rs)) ≤ 2000000000 → AreNumbered rs ms (length rs) wires firsts → length firsts ≤ 2000000000
+few_numbered rs ms wires firsts few n = subst (λ zs. length zs ≤ 2000000000) (sym n.heads) few

@@ -46,7 +46,7 @@ pub record Numbered (ps : List Piece) (p : Piece) : Type 0 where
 pub number_of : (ps : List Piece) (p : Piece) → Contains ps p → Numbered ps p
 number_of ps p (k, l, e) = record { at = k; within = l; is = at_blank ps p k l e }
 
-listed_at : (ps : List Piece) (i : ℕ) → i < length ps → Contains ps (get_or ps i blank)
+pub listed_at : (ps : List Piece) (i : ℕ) → i < length ps → Contains ps (get_or ps i blank)
 listed_at ps i l = contains_get ps i (get_or ps i blank) (slice_get-get_or ps i blank l)
 
 abbrev part_at : List Piece → ℕ → Part
@@ -185,7 +185,7 @@ pairs_one R x = λ i j d lt l. absurd (omega (arith, lt, l))
 suc_one : (k : ℕ) → ◌≡◌ {A = ℕ} (k + 1) (suc k)
 suc_one k = omega arith
 
-heads_ascend : (s : List Shape) (ps : List Piece) (ls : List ℕ) → AreSet s ps ls → (k : ℕ) → k ≤ length ps → AllPairs IsBefore (firsts_of (heads_below ps ls k))
+pub heads_ascend : (s : List Shape) (ps : List Piece) (ls : List ℕ) → AreSet s ps ls → (k : ℕ) → k ≤ length ps → AllPairs IsBefore (firsts_of (heads_below ps ls k))
 heads_ascend s ps ls z zero le = pairs_none IsBefore
 heads_ascend s ps ls z (suc k) le =
     elim (cases_eq (get_or ls k 0) k) [

@@ -1,10 +1,12 @@
 pub mod Areas
 pub mod Classes
+pub mod Corners
 pub mod Cuts
 pub mod Devices
 pub mod Extraction
 pub mod GateNets
 pub mod Labels
+pub mod Links
 pub mod Lookups
 pub mod Meetings
 pub mod Naming

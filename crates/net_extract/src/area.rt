@@ -5,6 +5,7 @@ ghost use Rattle.box_geom.specs.Rectangle.{IsProper};
 ghost use Rattle.net_extract.specs.Areas.{cells_in, holder, meeting_across, meeting_upward, meeting, meeting_any, IsFull, IsFree, AreRows};
 
 use crate::bond::is_on;
+use crate::layers::Layers;
 use crate::lookup::is_within;
 use box_geom::{Layer, Rect, Shape};
 
@@ -65,9 +66,8 @@ fn does_meet(shapes: &[Shape], layer: Layer, area: &Area) -> bool
         .any(|shape| is_on(shape, layer) && meets(area, &shape.rect))
 }
 
-/// Whether no cell of the area is covered on the layer.
 #[tactic(auto, using(crate::proofs::Filling::free_decides))]
-pub(crate) fn is_free(shapes: &[Shape], layer: Layer, area: &Area) -> bool
+fn is_area_free(shapes: &[Shape], layer: Layer, area: &Area) -> bool
     requires area { IsProper (cells_in area.now) }
     requires shapes { All (λ s. IsProper s.rect) shapes.now }
     ensures { IsTrue result ↔ IsFree shapes.now layer (cells_in area.now) }
@@ -97,8 +97,7 @@ fn covered_rows(shapes: &[Shape], layer: Layer, area: &Area, y: i64) -> Option<i
     Some(top)
 }
 
-/// Whether all cells of the area are covered on the layer.
-pub(crate) fn is_full(shapes: &[Shape], layer: Layer, area: &Area) -> bool
+fn is_area_full(shapes: &[Shape], layer: Layer, area: &Area) -> bool
     requires { IsProper (cells_in area.now) }
     ensures { IsTrue result ↔ IsFull shapes.now layer (cells_in area.now) }
 {
@@ -110,4 +109,22 @@ pub(crate) fn is_full(shapes: &[Shape], layer: Layer, area: &Area) -> bool
         }
     }
     true
+}
+
+/// Whether no cell of the area is covered on the layer.
+pub(crate) fn is_free(shapes: &Layers, layer: Layer, area: &Area) -> bool
+    requires area { IsProper (cells_in area.now) }
+    requires shapes { All (λ s. IsProper s.rect) shapes.now }
+    ensures { IsTrue result ↔ IsFree shapes.now layer (cells_in area.now) }
+{
+    is_area_free(shapes.on(layer), layer, area)
+}
+
+/// Whether all cells of the area are covered on the layer.
+#[tactic(auto, using(crate::proofs::Filling::full_like))]
+pub(crate) fn is_full(shapes: &Layers, layer: Layer, area: &Area) -> bool
+    requires { IsProper (cells_in area.now) }
+    ensures { IsTrue result ↔ IsFull shapes.now layer (cells_in area.now) }
+{
+    is_area_full(shapes.on(layer), layer, area)
 }

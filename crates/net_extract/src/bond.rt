@@ -12,7 +12,7 @@ use box_geom::{Layer, Rect, Shape};
 
 // Whether two spans have a place in common.
 #[tactic(auto, unfolding(box_geom::specs::Comparisons::overlapping))]
-fn overlap(a: i32, b: i32, c: i32, d: i32) -> bool
+pub(crate) fn overlap(a: i32, b: i32, c: i32, d: i32) -> bool
     ensures { result ≡ overlapping a b c d }
 {
     a < d && c < b

@@ -1,59 +1,113 @@
-// Classes of pieces: each is labelled by the number of its first piece.
-ghost use Rattle.std.specs.Prelude.{◌≡◌, ◌<◌, length, IfOk, All};
+// Classes of pieces: each is labelled by the number of its first piece. Pieces that are bonded come into one
+// tree, whose root is its least number; a piece is tried with those behind it up to the first that begins above it.
+ghost use Rattle.std.specs.Prelude.{◌≡◌, ◌<◌, ◌≤◌, length, get_or, int_lt, IfOk, All, IsSorted};
 ghost use Rattle.std.specs.List.{range_with_len};
 ghost use Rattle.box_geom.specs.Rectangle.{IsProper};
-ghost use Rattle.net_extract.specs.Classes.{joined_at, AreSound, AreLeast, AreTried, IsTried};
-ghost use Rattle.net_extract.specs.Pieces.{rect_of, Paired};
+ghost use Rattle.net_extract.specs.Classes.{AreLow, IsRoot, hung, raised, IsJoined, AreRoots, AreSound, AreTrees, AreLeast, AreTried, IsTried};
+ghost use Rattle.net_extract.specs.Pieces.{rect_of, piece_cmp, Paired};
 
 use crate::bond::are_bonded;
-use crate::label::{numbers, rename};
+use crate::label::numbers;
 use crate::piece::Piece;
 use box_geom::Shape;
 use cell_num::NoMemory;
 use std::alloc::Global;
 
-fn join(labels: &mut Vec<usize>, one: usize, other: usize)
-    requires one { one < length labels.old.items }
-    requires other { other < length labels.old.items }
-    ensures { labels.new.items ≡ joined_at one other labels.old.items }
+// The root of the tree of a number.
+fn root(parents: &[usize], of: usize) -> usize
+    requires of { of < length parents.now }
+    requires low { AreLow parents.now }
+    ensures low { result ≤ of }
+    ensures root { IsRoot parents.now of result }
 {
-    let (a, b) = (labels[one], labels[other]);
-    rename(labels.as_mut_slice(), a.max(b), a.min(b));
+    let mut at = of;
+    'up: while parents[at] != at {
+        at = parents[at];
+    }
+    at
 }
 
-fn try_join(labels: &mut Vec<usize>, shapes: &[Shape], pieces: &[Piece], at: usize, earlier: usize)
-    requires sound { AreSound (length pieces.now) (Paired shapes.now pieces.now) labels.old.items }
+fn hang(parents: &mut Vec<usize>, one: usize, other: usize)
+    requires one { one < length parents.old.items }
+    requires other { other < length parents.old.items }
+    ensures { parents.new.items ≡ hung one other parents.old.items }
+{
+    parents[one.max(other)] = one.min(other);
+}
+
+#[tactic(auto, using(crate::proofs::Forests::joined_is))]
+fn join(parents: &mut Vec<usize>, one: usize, other: usize)
+    requires one { one < length parents.old.items }
+    requires other { other < length parents.old.items }
+    requires low { AreLow parents.old.items }
+    ensures { IsJoined one other parents.old.items parents.new.items }
+{
+    let first = root(parents.as_slice(), one);
+    let second = root(parents.as_slice(), other);
+    hang(parents, first, second);
+}
+
+fn try_join(parents: &mut Vec<usize>, shapes: &[Shape], pieces: &[Piece], at: usize, later: usize)
+    requires sound { AreSound (length pieces.now) (Paired shapes.now pieces.now) parents.old.items }
     requires proper { All (λ p. IsProper (rect_of p)) pieces.now }
     requires at { at < length pieces.now }
-    requires earlier { earlier < length pieces.now }
-    ensures { IsTried (length pieces.now) (Paired shapes.now pieces.now) at earlier labels.old.items labels.new.items }
+    requires later { later < length pieces.now }
+    ensures { IsTried (length pieces.now) (Paired shapes.now pieces.now) at later parents.old.items parents.new.items }
 {
-    if labels[at] == labels[earlier] {
-        return;
-    }
-    if are_bonded(shapes, &pieces[at], &pieces[earlier]) {
-        join(labels, at, earlier);
+    if are_bonded(shapes, &pieces[at], &pieces[later]) {
+        join(parents, at, later);
     }
 }
 
-fn join_earlier(labels: &mut Vec<usize>, shapes: &[Shape], pieces: &[Piece], at: usize)
-    requires sound { AreSound (length pieces.now) (Paired shapes.now pieces.now) labels.old.items }
+fn is_below(piece: &Piece, later: &Piece) -> bool
+    ensures { result ≡ int_lt piece.now.top later.now.low }
+{
+    piece.top < later.low
+}
+
+fn join_later(parents: &mut Vec<usize>, shapes: &[Shape], pieces: &[Piece], at: usize)
+    requires sound { AreSound (length pieces.now) (Paired shapes.now pieces.now) parents.old.items }
     requires proper { All (λ p. IsProper (rect_of p)) pieces.now }
+    requires sorted { IsSorted piece_cmp pieces.now }
     requires at { at < length pieces.now }
-    ensures { AreTried (length pieces.now) (Paired shapes.now pieces.now) at at labels.old.items labels.new.items }
+    ensures { AreTried (length pieces.now) (Paired shapes.now pieces.now) at (length pieces.now) parents.old.items
+        parents.new.items }
 {
-    for earlier in 0..at {
-        try_join(labels, shapes, pieces, at, earlier);
+    for later in at + 1..pieces.len() {
+        if is_below(&pieces[at], &pieces[later]) {
+            return;
+        }
+        try_join(parents, shapes, pieces, at, later);
     }
 }
 
-fn join_all(labels: &mut Vec<usize>, shapes: &[Shape], pieces: &[Piece])
-    requires first { labels.old.items ≡ range_with_len 0 (length pieces.now) }
+fn join_all(parents: &mut Vec<usize>, shapes: &[Shape], pieces: &[Piece])
+    requires first { parents.old.items ≡ range_with_len 0 (length pieces.now) }
     requires proper { All (λ p. IsProper (rect_of p)) pieces.now }
-    ensures { AreLeast (length pieces.now) (Paired shapes.now pieces.now) labels.new.items }
+    requires sorted { IsSorted piece_cmp pieces.now }
+    ensures { AreTrees (length pieces.now) (Paired shapes.now pieces.now) parents.new.items }
 {
     for at in 0..pieces.len() {
-        join_earlier(labels, shapes, pieces, at);
+        join_later(parents, shapes, pieces, at);
+    }
+}
+
+fn raise(parents: &mut Vec<usize>, at: usize)
+    requires at { at < length parents.old.items }
+    requires up { get_or parents.old.items at 0 < length parents.old.items }
+    ensures { parents.new.items ≡ raised at parents.old.items }
+{
+    let up = parents[at];
+    parents[at] = parents[up];
+}
+
+// Puts the root in place of each parent.
+fn raise_all(parents: &mut Vec<usize>)
+    requires { AreLow parents.old.items }
+    ensures { AreRoots parents.old.items parents.new.items }
+{
+    for at in 0..parents.len() {
+        raise(parents, at);
     }
 }
 
@@ -63,10 +117,12 @@ pub(crate) fn least_labels(
     shapes: &[Shape],
     pieces: &[Piece],
 ) -> Result<Vec<usize>, NoMemory>
-    requires { All (λ p. IsProper (rect_of p)) pieces.now }
+    requires proper { All (λ p. IsProper (rect_of p)) pieces.now }
+    requires sorted { IsSorted piece_cmp pieces.now }
     ensures { IfOk result (λ labels. AreLeast (length pieces.now) (Paired shapes.now pieces.now) labels.items) }
 {
     let mut labels = numbers(alloc, pieces.len())?;
     join_all(&mut labels, shapes, pieces);
+    raise_all(&mut labels);
     Ok(labels)
 }

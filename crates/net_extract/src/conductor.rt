@@ -1,32 +1,49 @@
-// All conductor of a drawing as pieces, and its gates.
+// All conductor of a drawing as pieces, its gates, contacts and vias.
 ghost use Rattle.std.specs.Prelude.{◌≡◌, ◌++◌, IfOk, OnOk};
-ghost use Rattle.net_extract.specs.Cuts.{drawn_all, diffusion_in, p_diffusion_in, n_diffusion_in, pieces_in, gates_in};
+ghost use Rattle.net_extract.specs.Cuts.{drawn_all, p_diffusion_in, n_diffusion_in, pieces_in, gates_in};
+ghost use Rattle.net_extract.specs.Links.{is_linking, links_in};
 
-use crate::cut::{drawn, within, without};
+use crate::bond::is_on;
+use crate::cut::without;
 use crate::piece::{Conductor, Piece};
+use crate::shared::{drawn, within};
 use box_geom::{Layer, Shape};
 use cell_num::{List, NoMemory};
 use std::alloc::Global;
 
-fn diffusion(alloc: Global, shapes: &[Shape], kind: Conductor) -> Result<List<Piece>, NoMemory>
-    ensures { IfOk result (λ ps. ps ≡ diffusion_in kind shapes.now) }
-{
-    let active = drawn(alloc, shapes, Layer::Active, kind)?;
-    without(alloc, active, shapes, Layer::Poly)
-}
-
 fn p_diffusion(alloc: Global, shapes: &[Shape]) -> Result<List<Piece>, NoMemory>
     ensures { IfOk result (λ ps. ps ≡ p_diffusion_in shapes.now) }
 {
-    let diffusion = diffusion(alloc, shapes, Conductor::PDiffusion)?;
-    within(alloc, diffusion.as_slice(), shapes, Layer::Well)
+    let active = drawn(alloc, shapes, Layer::Active, Conductor::PDiffusion)?;
+    let inside = within(alloc, active.as_slice(), shapes, Layer::Well)?;
+    without(alloc, inside.as_slice(), shapes, Layer::Poly)
 }
 
 fn n_diffusion(alloc: Global, shapes: &[Shape]) -> Result<List<Piece>, NoMemory>
     ensures { IfOk result (λ ps. ps ≡ n_diffusion_in shapes.now) }
 {
-    let diffusion = diffusion(alloc, shapes, Conductor::NDiffusion)?;
-    without(alloc, diffusion, shapes, Layer::Well)
+    let active = drawn(alloc, shapes, Layer::Active, Conductor::NDiffusion)?;
+    let outside = without(alloc, active.as_slice(), shapes, Layer::Well)?;
+    without(alloc, outside.as_slice(), shapes, Layer::Poly)
+}
+
+fn is_link(shape: &Shape) -> bool
+    ensures { result ≡ is_linking shape.now.layer }
+{
+    is_on(shape, Layer::Contact) || is_on(shape, Layer::Via)
+}
+
+/// The contacts and the vias.
+pub(crate) fn all_links(alloc: Global, shapes: &[Shape]) -> Result<List<Shape>, NoMemory>
+    ensures { IfOk result (λ ss. ss ≡ links_in shapes.now) }
+{
+    let mut out = List::new(alloc);
+    for shape in shapes {
+        if is_link(shape) {
+            out.push(*shape)?;
+        }
+    }
+    Ok(out)
 }
 
 fn add_layer(

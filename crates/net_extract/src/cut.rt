@@ -1,10 +1,13 @@
-// Pieces of the shapes of a layer, cut by the shapes of others.
-ghost use Rattle.std.specs.Prelude.{◌≡◌, ◌++◌, IfOk, OnOk};
+// Pieces without the shapes of a layer.
+ghost use Rattle.std.specs.Prelude.{◌≡◌, ◌++◌, ◌∷◌, [], IfOk, OnOk};
 ghost use Rattle.std.specs.List.{flat_map};
-ghost use Rattle.net_extract.specs.Cuts.{is_some_piece, kept, left_part, right_part, low_part, high_part, around, common_part, shared_part, cut_once, cut_all, shared_once, shared_all, piece_of, drawn_once, drawn_all};
+ghost use Rattle.net_extract.specs.Cuts.{is_some_piece, kept, left_part, right_part, low_part, high_part, around, carved, carved_once, left_of_piece, left_of_pieces, cut_all};
+ghost use Rattle.net_extract.specs.Meetings.{sharing_cell};
+ghost use Rattle.net_extract.specs.Pieces.{rect_of};
 
-use crate::bond::is_on;
-use crate::piece::{Conductor, Piece};
+use crate::bond::overlap;
+use crate::layers::on_layer;
+use crate::piece::Piece;
 use box_geom::{Layer, Rect, Shape};
 use cell_num::{List, NoMemory};
 use std::alloc::Global;
@@ -15,7 +18,7 @@ fn has_cells(piece: &Piece) -> bool
     piece.left < piece.right && piece.low < piece.top
 }
 
-fn keep(out: &mut List<Piece>, piece: Piece) -> Result<(), NoMemory>
+pub(crate) fn keep(out: &mut List<Piece>, piece: Piece) -> Result<(), NoMemory>
     ensures { OnOk result (out.new ≡ out.old ++ kept piece) }
 {
     if has_cells(&piece) {
@@ -65,18 +68,6 @@ fn above(piece: &Piece, rect: &Rect) -> Piece
     }
 }
 
-fn common(piece: &Piece, rect: &Rect) -> Piece
-    ensures { result ≡ common_part piece.now rect.now }
-{
-    Piece {
-        low: piece.low.max(rect.y1),
-        left: piece.left.max(rect.x1),
-        kind: piece.kind,
-        top: piece.top.min(rect.y2),
-        right: piece.right.min(rect.x2),
-    }
-}
-
 fn keep_around(out: &mut List<Piece>, piece: &Piece, rect: &Rect) -> Result<(), NoMemory>
     ensures { OnOk result (out.new ≡ out.old ++ around rect.now piece.now) }
 {
@@ -86,126 +77,102 @@ fn keep_around(out: &mut List<Piece>, piece: &Piece, rect: &Rect) -> Result<(), 
     keep(out, above(piece, rect))
 }
 
-fn cut_by(alloc: Global, pieces: &[Piece], rect: &Rect) -> Result<List<Piece>, NoMemory>
-    ensures { IfOk result (λ ps. ps ≡ flat_map (around rect.now) pieces.now) }
+// Whether a piece and a rectangle have a cell in common.
+fn meets(piece: &Piece, rect: &Rect) -> bool
+    ensures { result ≡ sharing_cell (rect_of piece.now) rect.now }
+{
+    overlap(piece.left, piece.right, rect.x1, rect.x2)
+        && overlap(piece.low, piece.top, rect.y1, rect.y2)
+}
+
+fn keep_carved(out: &mut List<Piece>, piece: &Piece, rect: &Rect) -> Result<(), NoMemory>
+    ensures { OnOk result (out.new ≡ out.old ++ carved rect.now piece.now) }
+{
+    if meets(piece, rect) {
+        keep_around(out, piece, rect)
+    } else {
+        out.push(*piece)
+    }
+}
+
+fn cut_by(alloc: Global, parts: &[Piece], rect: &Rect) -> Result<List<Piece>, NoMemory>
+    ensures { IfOk result (λ ps. ps ≡ flat_map (carved rect.now) parts.now) }
 {
     let mut out = List::new(alloc);
-    for piece in pieces {
-        keep_around(&mut out, piece, rect)?;
+    for part in parts {
+        keep_carved(&mut out, part, rect)?;
     }
     Ok(out)
 }
 
-fn cut_by_shape(
+// The parts of a piece without one more shape.
+fn cut_once(
     alloc: Global,
-    pieces: List<Piece>,
-    layer: Layer,
+    parts: List<Piece>,
+    piece: &Piece,
     shape: &Shape,
 ) -> Result<List<Piece>, NoMemory>
-    ensures { IfOk result (λ ps. ps ≡ cut_once layer pieces shape.now) }
+    ensures { IfOk result (λ ps. ps ≡ carved_once piece.now parts shape.now) }
 {
-    if is_on(shape, layer) {
-        cut_by(alloc, pieces.as_slice(), &shape.rect)
+    if meets(piece, &shape.rect) {
+        cut_by(alloc, parts.as_slice(), &shape.rect)
     } else {
-        Ok(pieces)
+        Ok(parts)
     }
+}
+
+fn only(alloc: Global, piece: &Piece) -> Result<List<Piece>, NoMemory>
+    ensures { IfOk result (λ ps. ps ≡ piece.now ∷ []) }
+{
+    let mut out = List::new(alloc);
+    out.push(*piece)?;
+    Ok(out)
+}
+
+fn cut_piece(alloc: Global, piece: &Piece, shapes: &[Shape]) -> Result<List<Piece>, NoMemory>
+    ensures { IfOk result (λ ps. ps ≡ left_of_piece shapes.now piece.now) }
+{
+    let mut parts = only(alloc, piece)?;
+    for shape in shapes {
+        parts = cut_once(alloc, parts, piece, shape)?;
+    }
+    Ok(parts)
+}
+
+fn keep_left(
+    alloc: Global,
+    out: &mut List<Piece>,
+    piece: &Piece,
+    shapes: &[Shape],
+) -> Result<(), NoMemory>
+    ensures { OnOk result (out.new ≡ out.old ++ left_of_piece shapes.now piece.now) }
+{
+    let parts = cut_piece(alloc, piece, shapes)?;
+    out.extend(parts.as_slice())
+}
+
+fn cut_pieces(alloc: Global, pieces: &[Piece], shapes: &[Shape]) -> Result<List<Piece>, NoMemory>
+    ensures { IfOk result (λ ps. ps ≡ left_of_pieces shapes.now pieces.now) }
+{
+    let mut out = List::new(alloc);
+    for piece in pieces {
+        keep_left(alloc, &mut out, piece, shapes)?;
+    }
+    Ok(out)
 }
 
 /// What is left of pieces without the shapes of a layer.
 pub(crate) fn without(
     alloc: Global,
-    pieces: List<Piece>,
-    shapes: &[Shape],
-    layer: Layer,
-) -> Result<List<Piece>, NoMemory>
-    ensures { IfOk result (λ ps. ps ≡ cut_all layer pieces shapes.now) }
-{
-    let mut left = pieces;
-    for shape in shapes {
-        left = cut_by_shape(alloc, left, layer, shape)?;
-    }
-    Ok(left)
-}
-
-fn keep_common(out: &mut List<Piece>, pieces: &[Piece], rect: &Rect) -> Result<(), NoMemory>
-    ensures { OnOk result (out.new ≡ out.old ++ flat_map (shared_part rect.now) pieces.now) }
-{
-    for piece in pieces {
-        keep(out, common(piece, rect))?;
-    }
-    Ok(())
-}
-
-fn keep_shared(
-    out: &mut List<Piece>,
-    pieces: &[Piece],
-    layer: Layer,
-    shape: &Shape,
-) -> Result<(), NoMemory>
-    ensures { OnOk result (out.new ≡ out.old ++ shared_once layer pieces.now shape.now) }
-{
-    if is_on(shape, layer) {
-        keep_common(out, pieces, &shape.rect)
-    } else {
-        Ok(())
-    }
-}
-
-/// What pieces have in common with the shapes of a layer.
-pub(crate) fn within(
-    alloc: Global,
     pieces: &[Piece],
     shapes: &[Shape],
     layer: Layer,
 ) -> Result<List<Piece>, NoMemory>
-    ensures { IfOk result (λ ps. ps ≡ shared_all layer pieces.now shapes.now) }
+    ensures { IfOk result (λ ps. ps ≡ cut_all layer pieces.now shapes.now) }
 {
-    let mut out = List::new(alloc);
-    for shape in shapes {
-        keep_shared(&mut out, pieces, layer, shape)?;
+    let shapes = on_layer(alloc, shapes, layer)?;
+    match cut_pieces(alloc, pieces, shapes.as_slice()) {
+        Ok(left) => Ok(left),
+        Err(NoMemory) => Err(NoMemory),
     }
-    Ok(out)
-}
-
-fn piece(kind: Conductor, rect: &Rect) -> Piece
-    ensures { result ≡ piece_of kind rect.now }
-{
-    Piece {
-        low: rect.y1,
-        left: rect.x1,
-        kind,
-        top: rect.y2,
-        right: rect.x2,
-    }
-}
-
-fn add_drawn(
-    out: &mut List<Piece>,
-    kind: Conductor,
-    layer: Layer,
-    shape: &Shape,
-) -> Result<(), NoMemory>
-    ensures { OnOk result (out.new ≡ out.old ++ drawn_once kind layer shape.now) }
-{
-    if is_on(shape, layer) {
-        out.push(piece(kind, &shape.rect))
-    } else {
-        Ok(())
-    }
-}
-
-/// The shapes of a layer as pieces of a kind.
-pub(crate) fn drawn(
-    alloc: Global,
-    shapes: &[Shape],
-    layer: Layer,
-    kind: Conductor,
-) -> Result<List<Piece>, NoMemory>
-    ensures { IfOk result (λ ps. ps ≡ drawn_all kind layer shapes.now) }
-{
-    let mut out = List::new(alloc);
-    for shape in shapes {
-        add_drawn(&mut out, kind, layer, shape)?;
-    }
-    Ok(out)
 }

@@ -12,16 +12,17 @@ ghost use Rattle.net_extract.specs.Lookups.{net_in};
 ghost use Rattle.net_extract.specs.declared.piece.Conductor.TheVariants.{Poly};
 
 use crate::area::{Area, do_overlap, is_free, is_full};
+use crate::layers::Layers;
 use crate::lookup::net_of_cell;
 use crate::netlist::Drawn;
 use crate::netmap::{NetMap, Wire};
 use crate::piece::{Conductor, Piece};
 use crate::side::{Current, drain, high_side, low_side, source, whole};
-use box_geom::{Layer, Shape};
+use box_geom::Layer;
 use cell_num::Row;
 
 #[tactic(auto, using(crate::proofs::Siding::row_rules))]
-fn is_in_row(shapes: &[Shape], row: Row, area: &Area) -> bool
+fn is_in_row(shapes: &Layers, row: Row, area: &Area) -> bool
     requires area { IsProper (cells_in area.now) }
     requires shapes { All (λ s. IsProper s.rect) shapes.now }
     ensures { IsTrue result ↔ IsInRow shapes.now row (cells_in area.now) }
@@ -33,7 +34,7 @@ fn is_in_row(shapes: &[Shape], row: Row, area: &Area) -> bool
 }
 
 #[tactic(auto, using(crate::proofs::Siding::diffusion_rules))]
-fn is_diffusion(shapes: &[Shape], row: Row, area: &Area) -> bool
+fn is_diffusion(shapes: &Layers, row: Row, area: &Area) -> bool
     requires area { IsProper (cells_in area.now) }
     requires shapes { All (λ s. IsProper s.rect) shapes.now }
     ensures { IsTrue result ↔ IsDiffusion shapes.now row (cells_in area.now) }
@@ -86,11 +87,12 @@ fn conductor(row: Row) -> Conductor
 }
 
 // The net along an area of diffusion of the row; None where it is no such area or of more than one net.
-fn side_net(shapes: &[Shape], map: &NetMap, row: Row, area: &Area) -> Option<u32>
+fn side_net(shapes: &Layers, map: &NetMap, row: Row, area: &Area) -> Option<u32>
     requires area { IsProper (cells_in area.now) }
     requires shapes { All (λ s. IsProper s.rect) shapes.now }
     requires map { AreWires shapes.now map.now.wires.items map.now.firsts.items }
-    ensures some { IfSome result (λ n. IsSideNet shapes.now (firsts_of map.now.firsts.items) row (cells_in area.now) n) }
+    ensures some { IfSome result (λ n. IsSideNet shapes.now (firsts_of map.now.firsts.items) row
+        (cells_in area.now) n) }
     ensures none { result ≡ None → (a : Site) → IsSide shapes.now (diffusion_of row) (cells_in area.now) a → ⊥ }
 {
     if !is_diffusion(shapes, row, area) {
@@ -109,7 +111,7 @@ fn side_net(shapes: &[Shape], map: &NetMap, row: Row, area: &Area) -> Option<u32
     }
 }
 
-fn are_ends_closed(shapes: &[Shape], gate: &Piece, current: Current) -> bool
+fn are_ends_closed(shapes: &Layers, gate: &Piece, current: Current) -> bool
     requires gate { IsProper (rect_of gate.now) }
     requires shapes { All (λ s. IsProper s.rect) shapes.now }
     ensures { IsTrue result ↔ AreClosed shapes.now (flow_of current) (rect_of gate.now) }
@@ -149,7 +151,7 @@ fn gate_net(wires: &[Wire], gate: &Piece) -> Option<u32>
 
 // The nets along the two sides that the current flows through.
 fn side_nets(
-    shapes: &[Shape],
+    shapes: &Layers,
     map: &NetMap,
     row: Row,
     gate: &Piece,
@@ -173,7 +175,7 @@ fn side_nets(
 
 // The device of a gate with the current in one direction; None where it is none.
 fn device_along(
-    shapes: &[Shape],
+    shapes: &Layers,
     map: &NetMap,
     row: Row,
     gate: &Piece,
@@ -198,7 +200,7 @@ fn device_along(
     }
 }
 
-fn device_in_row(shapes: &[Shape], map: &NetMap, row: Row, gate: &Piece) -> Option<Drawn>
+fn device_in_row(shapes: &Layers, map: &NetMap, row: Row, gate: &Piece) -> Option<Drawn>
     requires gate { IsGateBox shapes.now (rect_of gate.now) }
     requires shapes { All (λ s. IsProper s.rect) shapes.now }
     requires map { AreWires shapes.now map.now.wires.items map.now.firsts.items }
@@ -213,7 +215,7 @@ fn device_in_row(shapes: &[Shape], map: &NetMap, row: Row, gate: &Piece) -> Opti
 }
 
 /// The device of a gate box; None where it is none.
-pub(crate) fn device_of(shapes: &[Shape], map: &NetMap, gate: &Piece) -> Option<Drawn>
+pub(crate) fn device_of(shapes: &Layers, map: &NetMap, gate: &Piece) -> Option<Drawn>
     requires gate { IsGateBox shapes.now (rect_of gate.now) }
     requires shapes { All (λ s. IsProper s.rect) shapes.now }
     requires map { AreWires shapes.now map.now.wires.items map.now.firsts.items }

@@ -1,9 +1,10 @@
 // The netlist of a drawing.
-ghost use Rattle.std.specs.Prelude.{◌≡◌, All, IfOk, IfErr, OnOk, None, map};
+ghost use Rattle.std.specs.Prelude.{◌≡◌, ◌≤◌, length, All, IfOk, IfErr, OnOk, None, map};
 ghost use Rattle.std.specs.List.{find};
 ghost use Rattle.net_extract.specs.Lookups.{is_lost};
 ghost use Rattle.box_geom.specs.Layers.{AreWithinLimits};
 ghost use Rattle.box_geom.specs.Rectangle.{IsRectangle};
+ghost use Rattle.net_extract.specs.Corners.{HaveFewSides};
 ghost use Rattle.net_extract.specs.Cuts.{poly_of};
 ghost use Rattle.net_extract.specs.Extraction.{AreFew, AreRegular, Extracts, ExtractRefused};
 ghost use Rattle.net_extract.specs.GateNets.{AreGateNets, AreFound};
@@ -14,6 +15,7 @@ ghost use Rattle.net_extract.specs.Steps.{AreNamed};
 use crate::conductor::gate_pieces;
 use crate::fault::ExtractFault;
 use crate::gate::devices;
+use crate::layers::Layers;
 use crate::lookup::{all_held, check_strays};
 use crate::naming::net_names;
 use crate::netlist::{DrawnList, Netlist};
@@ -75,7 +77,8 @@ fn gate_shapes(alloc: Global, pieces: &[Piece]) -> Result<Vec<Shape>, NoMemory>
 
 // The classes of gate cells, as the nets of a drawing of the gates alone.
 fn gate_map(alloc: Global, shapes: &[Shape]) -> Result<NetMap, NoMemory>
-    requires { All (λ s. IsRectangle s.rect) shapes.now }
+    requires limits { All (λ s. IsRectangle s.rect) shapes.now }
+    requires few { HaveFewSides shapes.now }
     ensures { IfOk result (λ m. AreGateNets shapes.now m.wires.items m.firsts.items) }
 {
     let pieces = gate_pieces(alloc, shapes)?;
@@ -93,7 +96,10 @@ fn all_devices(alloc: Global, shapes: &Shapes, map: &NetMap) -> Result<DrawnList
     let Ok(gates) = gate_map(alloc, shapes.rects.as_slice()) else {
         return Err(ExtractFault::NoMemory);
     };
-    match devices(alloc, shapes.rects.as_slice(), map, &gates) {
+    let Ok(layers) = Layers::new(alloc, shapes.rects.as_slice()) else {
+        return Err(ExtractFault::NoMemory);
+    };
+    match devices(alloc, &layers, map, &gates) {
         Ok(devices) => Ok(devices),
         Err(fault) => Err(fault),
     }
@@ -103,15 +109,14 @@ fn names_by_labels(alloc: Global, shapes: &Shapes, map: &NetMap) -> Result<Names
     requires regular { AreRegular shapes.now }
     requires map { AreWires shapes.now.rects map.now.wires.items map.now.firsts.items }
     requires held { find (is_lost map.now.wires.items) shapes.now.labels ≡ None }
+    requires few { length map.now.firsts.items ≤ 2000000000 }
     ensures ok { IfOk result (AreNamed shapes.now (firsts_of map.now.firsts.items)) }
     ensures refused { IfErr result (λ f. ExtractRefused shapes.now f) }
 {
     let Ok(held) = all_held(alloc, map.wires.as_slice(), shapes.labels.as_slice()) else {
         return Err(ExtractFault::NoMemory);
     };
-    let Ok(count) = count_of(map.firsts.as_slice()) else {
-        return Err(ExtractFault::NoMemory);
-    };
+    let count = count_of(map.firsts.as_slice());
     match net_names(alloc, held.as_slice(), count) {
         Ok(names) => Ok(names),
         Err(fault) => Err(fault),
@@ -121,6 +126,7 @@ fn names_by_labels(alloc: Global, shapes: &Shapes, map: &NetMap) -> Result<Names
 fn all_names(alloc: Global, shapes: &Shapes, map: &NetMap) -> Result<Names, ExtractFault>
     requires regular { AreRegular shapes.now }
     requires map { AreWires shapes.now.rects map.now.wires.items map.now.firsts.items }
+    requires few { length map.now.firsts.items ≤ 2000000000 }
     ensures ok { IfOk result (AreNamed shapes.now (firsts_of map.now.firsts.items)) }
     ensures refused { IfErr result (λ f. ExtractRefused shapes.now f) }
 {

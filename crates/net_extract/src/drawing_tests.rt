@@ -1,6 +1,6 @@
 use crate::{Drawn, ExtractFault, Netlist, extract};
 use box_geom::{Label, LabelList, Layer, Rect, Shape, ShapeList, Shapes};
-use cell_num::{Row, copy};
+use cell_num::{Name, Row, copy};
 use std::alloc::Global;
 use std::test::Fail;
 
@@ -8,7 +8,7 @@ type Sides = [i32; 4];
 
 fn shape(layer: Layer, sides: Sides) -> Option<Shape> {
     let [x1, y1, x2, y2] = sides;
-    if -1000 < x1 && x1 < x2 && x2 < 1000 && -1000 < y1 && y1 < y2 && y2 < 1000 {
+    if 0 <= x1 && x1 < x2 && x2 < 100 && 0 <= y1 && y1 < y2 && y2 < 100 {
         let rect = Rect { x1, y1, x2, y2 };
         Some(Shape { layer, rect })
     } else {
@@ -16,10 +16,11 @@ fn shape(layer: Layer, sides: Sides) -> Option<Shape> {
     }
 }
 
+// Names are single letters.
 fn drawing(
     alloc: Global,
     shapes: &[(Layer, Sides)],
-    labels: &[(&[u8], i32, i32)],
+    labels: &[(u8, Layer, i32, i32)],
 ) -> Result<Shapes, Fail> {
     let mut rects = ShapeList::new(alloc);
     for (layer, sides) in shapes {
@@ -28,12 +29,12 @@ fn drawing(
         }
     }
     let mut list = LabelList::new(alloc);
-    for (name, x, y) in labels {
+    for (letter, layer, x, y) in labels {
         list.push(Label {
-            layer: Layer::Metal1,
+            layer: *layer,
             x: *x,
             y: *y,
-            name: copy(alloc, name)?,
+            name: copy(alloc, &[*letter])?,
         })?;
     }
     Ok(Shapes {
@@ -42,42 +43,30 @@ fn drawing(
     })
 }
 
-const INVERTER: [(Layer, Sides); 29] = [
-    (Layer::Well, [-10, 62, 54, 118]),
-    (Layer::PSelect, [-2, 70, 46, 98]),
-    (Layer::NSelect, [-2, 20, 46, 38]),
-    (Layer::Metal1, [0, 0, 44, 16]),
-    (Layer::Metal1, [0, 102, 44, 118]),
-    (Layer::Active, [8, 24, 36, 34]),
-    (Layer::Active, [8, 74, 36, 94]),
-    (Layer::Active, [3, 24, 13, 34]),
-    (Layer::Contact, [6, 27, 10, 31]),
-    (Layer::Metal1, [4, 25, 12, 44]),
-    (Layer::Via, [6, 38, 10, 42]),
-    (Layer::Metal2, [4, 36, 12, 58]),
-    (Layer::Active, [3, 74, 13, 84]),
-    (Layer::Contact, [6, 77, 10, 81]),
-    (Layer::Metal1, [4, 64, 12, 83]),
-    (Layer::Via, [6, 66, 10, 70]),
-    (Layer::Metal2, [4, 50, 12, 72]),
-    (Layer::Active, [31, 24, 41, 34]),
-    (Layer::Contact, [34, 27, 38, 31]),
-    (Layer::Metal1, [32, 16, 40, 33]),
-    (Layer::Active, [31, 74, 41, 84]),
-    (Layer::Contact, [34, 77, 38, 81]),
-    (Layer::Metal1, [32, 75, 40, 102]),
-    (Layer::Poly, [20, 20, 24, 98]),
-    (Layer::Poly, [17, 49, 27, 59]),
-    (Layer::Contact, [20, 52, 24, 56]),
-    (Layer::Metal1, [18, 50, 26, 58]),
-    (Layer::Metal1, [4, 50, 12, 58]),
-    (Layer::Via, [6, 52, 10, 56]),
+// Two gates on one line of poly, their right sides joined over metal2.
+const INVERTER: [(Layer, Sides); 16] = [
+    (Layer::Well, [0, 20, 30, 44]),
+    (Layer::Active, [2, 2, 22, 12]),
+    (Layer::Active, [2, 24, 22, 38]),
+    (Layer::Poly, [10, 0, 14, 40]),
+    (Layer::Contact, [4, 4, 8, 8]),
+    (Layer::Contact, [16, 4, 20, 8]),
+    (Layer::Contact, [4, 26, 8, 30]),
+    (Layer::Contact, [16, 26, 20, 30]),
+    (Layer::Metal1, [3, 3, 9, 9]),
+    (Layer::Metal1, [15, 3, 21, 9]),
+    (Layer::Metal1, [3, 25, 9, 31]),
+    (Layer::Metal1, [15, 25, 21, 31]),
+    (Layer::Via, [16, 4, 20, 8]),
+    (Layer::Via, [16, 26, 20, 30]),
+    (Layer::Metal2, [15, 3, 21, 31]),
+    (Layer::PSelect, [0, 22, 24, 40]),
 ];
 
-fn is_named(netlist: &Netlist, net: usize, name: &[u8]) -> bool {
-    match netlist.names.get(net) {
-        Some(found) => found.as_slice() == name,
-        None => false,
+fn letter(netlist: &Netlist, net: usize) -> Option<u8> {
+    match netlist.names.get(net).map(|name| name.as_slice()) {
+        Some([letter]) => Some(*letter),
+        _ => None,
     }
 }
 
@@ -85,66 +74,68 @@ fn is_named(netlist: &Netlist, net: usize, name: &[u8]) -> bool {
 #[test]
 fn an_inverter(rt: HostRuntime) -> Result<(), Fail> {
     let alloc = rt.alloc();
-    let labels: [(&[u8], i32, i32); 4] = [
-        (b"a", 22, 54),
-        (b"y", 8, 54),
-        (b"vdd", 8, 110),
-        (b"gnd", 8, 8),
+    let labels = [
+        (b'v', Layer::Metal1, 3, 25),
+        (b'y', Layer::Metal2, 15, 3),
+        (b'g', Layer::Metal1, 3, 3),
+        (b'a', Layer::Poly, 10, 0),
     ];
     let shapes = drawing(alloc, &INVERTER, &labels)?;
     let Ok(netlist) = extract(alloc, &shapes) else {
         return Err(Fail::from("refused"));
     };
     assert_eq!(rt; netlist.names.len(), 4);
-    assert_eq!(rt; is_named(&netlist, 0, b"gnd"), true);
-    assert_eq!(rt; is_named(&netlist, 1, b"a"), true);
-    assert_eq!(rt; is_named(&netlist, 2, b"y"), true);
-    assert_eq!(rt; is_named(&netlist, 3, b"vdd"), true);
-    let devices = [
-        Drawn {
-            row: Row::N,
-            gate: 1,
-            lo: 0,
-            hi: 2,
-            width: 10,
-            length: 4,
-        },
-        Drawn {
-            row: Row::P,
-            gate: 1,
-            lo: 2,
-            hi: 3,
-            width: 20,
-            length: 4,
-        },
-    ];
-    assert_eq!(rt; netlist.devices.as_slice(), devices.as_slice());
+    assert_eq!(rt; letter(&netlist, 0), Some(b'a'));
+    assert_eq!(rt; letter(&netlist, 1), Some(b'g'));
+    assert_eq!(rt; letter(&netlist, 2), Some(b'y'));
+    assert_eq!(rt; letter(&netlist, 3), Some(b'v'));
+    let lower = Drawn {
+        row: Row::N,
+        gate: 0,
+        lo: 1,
+        hi: 2,
+        width: 10,
+        length: 4,
+    };
+    let upper = Drawn {
+        row: Row::P,
+        lo: 2,
+        hi: 3,
+        width: 14,
+        ..lower
+    };
+    assert_eq!(rt; netlist.devices.as_slice(), [lower, upper].as_slice());
     Ok(())
+}
+
+fn name(alloc: Global, letter: u8) -> Result<Name, Fail> {
+    Ok(copy(alloc, &[letter])?)
 }
 
 // One label in two nets, two labels in one, a label off the conductor, and a gate with an end on diffusion.
 #[test]
 fn refused_drawings(rt: HostRuntime) -> Result<(), Fail> {
     let alloc = rt.alloc();
-    let split = drawing(alloc, &INVERTER, &[(b"a", 22, 54), (b"a", 8, 54)])?;
-    let name = copy(alloc, b"a")?;
-    assert_eq!(rt;
-        extract(alloc, &split).err(),
-        Some(ExtractFault::Split { name })
-    );
-    let short = drawing(alloc, &INVERTER, &[(b"y", 8, 54), (b"q", 8, 54)])?;
-    let one = copy(alloc, b"y")?;
-    let other = copy(alloc, b"q")?;
+    let (low, high) = ((Layer::Metal1, 15, 3), (Layer::Metal1, 15, 25));
+    let split = [(b'a', low.0, low.1, low.2), (b'a', Layer::Poly, 10, 0)];
+    let split = drawing(alloc, &INVERTER, &split)?;
+    let fault = ExtractFault::Split {
+        name: name(alloc, b'a')?,
+    };
+    assert_eq!(rt; extract(alloc, &split).err(), Some(fault));
+    let short = [(b'y', low.0, low.1, low.2), (b'q', high.0, high.1, high.2)];
+    let short = drawing(alloc, &INVERTER, &short)?;
+    let one = name(alloc, b'y')?;
+    let other = name(alloc, b'q')?;
     assert_eq!(rt;
         extract(alloc, &short).err(),
         Some(ExtractFault::Short { one, other })
     );
-    let stray = drawing(alloc, &INVERTER, &[(b"s", 60, 54)])?;
-    let name = copy(alloc, b"s")?;
-    assert_eq!(rt;
-        extract(alloc, &stray).err(),
-        Some(ExtractFault::Stray { name })
-    );
+    let stray = drawing(alloc, &INVERTER, &[(b's', Layer::Metal1, 60, 54)])?;
+    let fault = ExtractFault::Stray {
+        name: name(alloc, b's')?,
+    };
+    assert_eq!(rt; extract(alloc, &stray).err(), Some(fault));
     let odd = [
         (Layer::Active, [0, 0, 10, 10]),
         (Layer::Poly, [4, 2, 8, 12]),

@@ -11,11 +11,12 @@ ghost use Rattle.net_extract.specs.declared.fault.ExtractFault.TheVariants.{OddD
 use crate::area::is_full;
 use crate::device::device_of;
 use crate::fault::ExtractFault;
+use crate::layers::Layers;
 use crate::netlist::{Drawn, DrawnList};
 use crate::netmap::{NetMap, Wire};
 use crate::piece::Piece;
 use crate::side::whole;
-use box_geom::{Layer, Shape};
+use box_geom::Layer;
 use cell_num::NoMemory;
 use std::alloc::Global;
 
@@ -65,7 +66,7 @@ fn box_of_class(gates: &NetMap, net: usize) -> Piece
 }
 
 #[tactic(auto, using(crate::proofs::Gating::gate_rules))]
-fn is_gate(shapes: &[Shape], gate: &Piece) -> bool
+fn is_gate(shapes: &Layers, gate: &Piece) -> bool
     requires { IsProper (rect_of gate.now) }
     ensures { IsTrue result ↔ IsAllGate shapes.now (rect_of gate.now) }
 {
@@ -76,7 +77,7 @@ fn is_gate(shapes: &[Shape], gate: &Piece) -> bool
     }
 }
 
-fn device_of_class(shapes: &[Shape], map: &NetMap, gates: &NetMap, net: usize) -> Option<Drawn>
+fn device_of_class(shapes: &Layers, map: &NetMap, gates: &NetMap, net: usize) -> Option<Drawn>
     requires net { net < length gates.now.firsts.items }
     requires shapes { All (λ s. IsProper s.rect) shapes.now }
     requires map { AreWires shapes.now map.now.wires.items map.now.firsts.items }
@@ -106,7 +107,7 @@ fn odd(first: Piece) -> ExtractFault
 /// The devices of all classes of gate cells, by their first cells; the first class that is none is refused.
 pub(crate) fn devices(
     alloc: Global,
-    shapes: &[Shape],
+    shapes: &Layers,
     map: &NetMap,
     gates: &NetMap,
 ) -> Result<DrawnList, ExtractFault>

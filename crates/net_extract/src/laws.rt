@@ -13,11 +13,14 @@ ghost use Rattle.net_extract.specs.Parts.{AreDrawn, Part, Bonded, IsPart, IsIn};
 /// exactly where rectangles that hold them are joined by a chain in which neighbours are of one kind and
 /// touch, or have a cell in common that a contact or a via links.
 pub fn rectangle_nets()
-    ensures { (s : List Shape) (rs : Kind → List Rectangle) (p q : Part) (a b : Site) → AreDrawn s rs → IsPart rs p → IsPart rs q → IsIn p a → IsIn q b → SameNet s a b ↔ Chain (Bonded s rs) p q }
+    ensures { (s : List Shape) (rs : Kind → List Rectangle) (p q : Part) (a b : Site) → AreDrawn s rs →
+        IsPart rs p → IsPart rs q → IsIn p a → IsIn q b → SameNet s a b ↔ Chain (Bonded s rs) p q }
 {}
 
 /// The nets of a drawing have one numbering, and a conductor cell has one net.
 pub fn one_numbering()
-    ensures list { (s : List Shape) (firsts others : List Site) → AreNets s firsts → AreNets s others → firsts ≡ others }
-    ensures cell { (s : List Shape) (firsts : List Site) (m n : ℕ) (a : Site) → AreNets s firsts → IsInNet s firsts m a → IsInNet s firsts n a → m ≡ n }
+    ensures list { (s : List Shape) (firsts others : List Site) → AreNets s firsts → AreNets s others →
+        firsts ≡ others }
+    ensures cell { (s : List Shape) (firsts : List Site) (m n : ℕ) (a : Site) → AreNets s firsts →
+        IsInNet s firsts m a → IsInNet s firsts n a → m ≡ n }
 {}

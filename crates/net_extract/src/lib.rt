@@ -14,11 +14,13 @@ pub mod fault;
 mod gate;
 pub mod label;
 pub mod laws;
+mod layers;
 mod lookup;
 pub mod naming;
 pub mod netlist;
 mod netmap;
 mod piece;
+mod shared;
 mod side;
 #[cfg(test)]
 mod tests;

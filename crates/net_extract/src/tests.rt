@@ -3,11 +3,12 @@ use cell_num::copy;
 use std::alloc::Global;
 use std::test::Fail;
 
-fn held(alloc: Global, labels: [(&[u8], u32); 3]) -> Result<Vec<Held>, Fail> {
+// Names are single letters.
+fn held(alloc: Global, labels: [(u8, u32); 3]) -> Result<Vec<Held>, Fail> {
     let mut held = Vec::new(alloc);
-    for (name, net) in labels {
+    for (letter, net) in labels {
         held.push(Held {
-            name: copy(alloc, name)?,
+            name: copy(alloc, &[letter])?,
             net,
         })?;
     }
@@ -18,31 +19,24 @@ fn held(alloc: Global, labels: [(&[u8], u32); 3]) -> Result<Vec<Held>, Fail> {
 #[test]
 fn names_of_nets(rt: HostRuntime) -> Result<(), Fail> {
     let alloc = rt.alloc();
-    let labels = held(alloc, [(b"y", 2), (b"vdd", 1), (b"vdd", 1)])?;
+    let labels = held(alloc, [(b'y', 2), (b'v', 1), (b'v', 1)])?;
     let names = net_names(alloc, labels.as_slice(), 3)?;
     assert_eq!(rt; names.len(), 3);
-    assert_eq!(rt;
-        names.get(0).map(|name| name.as_slice()),
-        Some(b"_0".as_slice())
-    );
-    assert_eq!(rt;
-        names.get(1).map(|name| name.as_slice()),
-        Some(b"vdd".as_slice())
-    );
-    assert_eq!(rt;
-        names.get(2).map(|name| name.as_slice()),
-        Some(b"y".as_slice())
-    );
-    let labels = held(alloc, [(b"a", 1), (b"b", 0), (b"c", 1)])?;
+    let first = names.get(0).map(|name| name.as_slice());
+    assert_eq!(rt; first, Some([b'_', b'0'].as_slice()));
+    let second = names.get(1).map(|name| name.as_slice());
+    assert_eq!(rt; second, Some([b'v'].as_slice()));
+    let third = names.get(2).map(|name| name.as_slice());
+    assert_eq!(rt; third, Some([b'y'].as_slice()));
+    let labels = held(alloc, [(b'a', 1), (b'b', 0), (b'c', 1)])?;
     let short = ExtractFault::Short {
-        one: copy(alloc, b"a")?,
-        other: copy(alloc, b"c")?,
+        one: copy(alloc, &[b'a'])?,
+        other: copy(alloc, &[b'c'])?,
     };
     assert_eq!(rt; net_names(alloc, labels.as_slice(), 2).err(), Some(short));
-    let labels = held(alloc, [(b"b", 2), (b"a", 0), (b"a", 1)])?;
-    let split = ExtractFault::Split {
-        name: copy(alloc, b"a")?,
-    };
+    let labels = held(alloc, [(b'b', 2), (b'a', 0), (b'a', 1)])?;
+    let name = copy(alloc, &[b'a'])?;
+    let split = ExtractFault::Split { name };
     assert_eq!(rt; net_names(alloc, labels.as_slice(), 3).err(), Some(split));
     Ok(())
 }

@@ -4,4 +4,4 @@ use Rattle.net_extract.proofs.Classing.{AreSettled}
 use Rattle.net_extract.proofs.class.join_all.Given as goal
 
 abbrev pub invariant-loop-at : goal.invariant-loop-at
-invariant-loop-at l = AreSettled (length l.pieces) (Paired l.shapes l.pieces) l.at l.labels.items
+invariant-loop-at l = AreSettled (length l.pieces) (Paired l.shapes l.pieces) l.at l.parents.items

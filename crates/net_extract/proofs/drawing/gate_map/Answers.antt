@@ -1,6 +1,7 @@
 use Rattle.std.proofs.Common.{◌≡◌, List, map, sym, subst, All, ap, ◌∙◌}
 use Rattle.box_geom.specs.Rectangle.{IsProper, IsRectangle}
 use Rattle.box_geom.specs.declared.shape.Shape.{Shape}
+use Rattle.net_extract.specs.Corners.{HaveFewSides}
 use Rattle.net_extract.specs.Cuts.{poly_of}
 use Rattle.net_extract.specs.GateNets.{AreGateNets}
 use Rattle.net_extract.specs.NetMaps.{AreWires}
@@ -8,14 +9,18 @@ use Rattle.net_extract.specs.Pieces.{rect_of}
 use Rattle.net_extract.specs.declared.netmap.NetMap.{NetMap}
 use Rattle.net_extract.specs.declared.piece.Piece.{Piece}
 use Rattle.net_extract.proofs.Carving.{all_gates_limited, gate_shapes_proper}
+use Rattle.net_extract.proofs.Cornering.{gates_sides}
 use Rattle.net_extract.proofs.Extracting.{if_ok, gate_nets}
 use Rattle.net_extract.proofs.drawing.gate_map.Goals as goal
 
 pub gate_shapes-requires : goal.gate_shapes-requires
-gate_shapes-requires c = subst (λ ps. All (λ p. IsRectangle (rect_of p)) ps) (sym (c.as_slice.ensures ∙ c.in_ok-pieces.ensures)) (all_gates_limited c.args.shapes.now c.requires)
+gate_shapes-requires c = subst (λ ps. All (λ p. IsRectangle (rect_of p)) ps) (sym (c.as_slice.ensures ∙ c.in_ok-pieces.ensures)) (all_gates_limited c.args.shapes.now c.requires.limits)
 
-pub net_map-requires : goal.net_map-requires
-net_map-requires c = subst (λ zs. All (λ (z : Shape). IsProper z.rect) zs) (sym (c.as_slice-2.ensures.value ∙ c.in_ok-gates.ensures)) (gate_shapes_proper c.as_slice.result.now (subst (λ ps. All (λ p. IsRectangle (rect_of p)) ps) (sym (c.as_slice.ensures ∙ c.in_ok-pieces.ensures)) (all_gates_limited c.args.shapes.now c.requires)))
+pub net_map-requires-clause-proper : goal.net_map-requires-clause-proper
+net_map-requires-clause-proper c = subst (λ zs. All (λ (z : Shape). IsProper z.rect) zs) (sym (c.as_slice-2.ensures.value ∙ c.in_ok-gates.ensures)) (gate_shapes_proper c.as_slice.result.now (subst (λ ps. All (λ p. IsRectangle (rect_of p)) ps) (sym (c.as_slice.ensures ∙ c.in_ok-pieces.ensures)) (all_gates_limited c.args.shapes.now c.requires.limits)))
 
 pub returns : goal.returns
-returns c = if_ok (λ (m : NetMap). AreWires c.as_slice-2.result.now m.wires.items m.firsts.items) (λ (m : NetMap). AreGateNets c.args.shapes.now m.wires.items m.firsts.items) c.net_map.result (λ m h. gate_nets c.args.shapes.now c.as_slice-2.result.now m.wires.items m.firsts.items c.requires (c.as_slice-2.ensures.value ∙ c.in_ok-gates.ensures ∙ ap (λ (ps : List Piece). map poly_of ps) (c.as_slice.ensures ∙ c.in_ok-pieces.ensures)) h) c.net_map.ensures
+returns c = if_ok (λ (m : NetMap). AreWires c.as_slice-2.result.now m.wires.items m.firsts.items) (λ (m : NetMap). AreGateNets c.args.shapes.now m.wires.items m.firsts.items) c.net_map.result (λ m h. gate_nets c.args.shapes.now c.as_slice-2.result.now m.wires.items m.firsts.items c.requires.limits (c.as_slice-2.ensures.value ∙ c.in_ok-gates.ensures ∙ ap (λ (ps : List Piece). map poly_of ps) (c.as_slice.ensures ∙ c.in_ok-pieces.ensures)) h) c.net_map.ensures.wires
+
+pub net_map-requires-clause-few : goal.net_map-requires-clause-few
+net_map-requires-clause-few c = subst HaveFewSides (sym (c.as_slice-2.ensures.value ∙ c.in_ok-gates.ensures ∙ ap (λ (ps : List Piece). map poly_of ps) (c.as_slice.ensures ∙ c.in_ok-pieces.ensures))) (gates_sides c.args.shapes.now c.requires.few)

@@ -9,11 +9,11 @@ returns-in-Ok-net_names-clause-ok c =
     let b = c.as_slice-2.ensures in
     let h = c.in-Ok.ensures in
     let d = c.as_slice-3.ensures.value in
-    let n = c.in-Ok-count_of.ensures in
+    let n = c.count_of-count.ensures in
     let f = c.as_slice-4.ensures.value in
     let eh : c.as_slice-4.result.now ≡ held_in c.args.map.now.wires.items c.args.shapes.now.labels = grind (arith) in
-    let ec : c.in-Ok-count_of.count ≡ length c.args.map.now.firsts.items = grind (arith) in
-    named_are c.args.shapes.now c.args.map.now.wires.items c.args.map.now.firsts.items c.as_slice-4.result.now c.in-Ok-count_of.count c.in-Ok-net_names.names c.requires.map c.requires.held eh ec c.in-Ok-net_names.ensures.no_short c.in-Ok-net_names.ensures.no_split c.in-Ok-net_names.ensures.names
+    let ec : c.count_of-count.result ≡ length c.args.map.now.firsts.items = grind (arith) in
+    named_are c.args.shapes.now c.args.map.now.wires.items c.args.map.now.firsts.items c.as_slice-4.result.now c.count_of-count.result c.in-Ok-net_names.names c.requires.map c.requires.held eh ec c.in-Ok-net_names.ensures.no_short c.in-Ok-net_names.ensures.no_split c.in-Ok-net_names.ensures.names
 
 pub returns-clause-refused : goal.returns-clause-refused
 returns-clause-refused c =
@@ -21,8 +21,8 @@ returns-clause-refused c =
     let b = c.as_slice-2.ensures in
     let h = c.in-Ok.ensures in
     let d = c.as_slice-3.ensures.value in
-    let n = c.in-Ok-count_of.ensures in
+    let n = c.count_of-count.ensures in
     let f = c.as_slice-4.ensures.value in
     let eh : c.as_slice-4.result.now ≡ held_in c.args.map.now.wires.items c.args.shapes.now.labels = grind (arith) in
-    let ec : c.in-Ok-count_of.count ≡ length c.args.map.now.firsts.items = grind (arith) in
-    name_refused c.args.shapes.now c.args.map.now.wires.items c.args.map.now.firsts.items c.as_slice-4.result.now c.in-Ok-count_of.count c.in-Err.fault c.requires.regular c.requires.map c.requires.held eh ec c.in-Err.ensures.refused
+    let ec : c.count_of-count.result ≡ length c.args.map.now.firsts.items = grind (arith) in
+    name_refused c.args.shapes.now c.args.map.now.wires.items c.args.map.now.firsts.items c.as_slice-4.result.now c.count_of-count.result c.in-Err.fault c.requires.regular c.requires.map c.requires.held eh ec c.in-Err.ensures.refused

@@ -1,6 +1,8 @@
-use Rattle.std.proofs.Common.{◌≡◌, ℕ, List, length, get_or, refl, arith, ◌∙◌, sym, ap}
-use Rattle.net_extract.specs.NetMaps.{blank, nets_of}
+use Rattle.std.proofs.Common.{◌≡◌, ℕ, ◌≤◌, List, length, get_or, refl, arith, ◌∙◌, sym, ap}
+use Rattle.net_extract.specs.NetMaps.{blank, nets_of, heads_below}
 use Rattle.net_extract.specs.declared.netmap.Wire.{Wire}
+use Rattle.net_extract.specs.declared.piece.Piece.{Piece}
+use Rattle.net_extract.proofs.Cornering.{heads_fewer}
 use Rattle.net_extract.proofs.Numbering.{more_numbered, as_many, on_ok}
 use Rattle.net_extract.proofs.netmap.number_piece.Goals as goal
 
@@ -16,3 +18,11 @@ returns c =
       later = λ l. c.in_ok-net.ensures.later (omega (arith, l, many));
       old = λ l. c.in_ok-net.ensures.old (omega (arith, l, many)) ∙ ap (λ (z : List Wire). get_or (nets_of z) (get_or c.args.labels.now c.args.at 0) 0) same;
     }))
+
+pub number_of-requires-clause-few : goal.number_of-requires-clause-few
+number_of-requires-clause-few c =
+    let at = c.requires.at in
+    let few = c.requires.few in
+    let e : length c.args.firsts.now.items ≡ length (heads_below c.args.pieces.now c.args.labels.now c.args.at) = ap (λ (z : List Piece). length z) c.requires.before.heads in
+    let h = heads_fewer c.args.pieces.now c.args.labels.now c.args.at (length c.args.pieces.now) (omega (arith, at)) in
+    omega (arith, e, h, few)

@@ -1,0 +1,7 @@
+use Rattle.std.proofs.Common.{length}
+use Rattle.net_extract.specs.Classes.{AreTried}
+use Rattle.net_extract.specs.Pieces.{Paired}
+use Rattle.net_extract.proofs.class.join_later.Given as goal
+
+abbrev pub invariant-loop-later : goal.invariant-loop-later
+invariant-loop-later l = AreTried (length l.pieces) (Paired l.shapes l.pieces) l.at l.later l.fn.parents.items l.parents.items
