@@ -3,4 +3,5 @@ pub mod Host
 pub mod Mem
 pub mod Output
 pub mod Reading
+pub mod Sink
 pub mod Whole

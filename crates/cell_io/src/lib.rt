@@ -6,6 +6,7 @@ pub mod host;
 pub mod mem;
 pub mod output;
 mod reading;
+pub mod sink;
 pub mod steady;
 pub mod whole;
 
@@ -13,8 +14,9 @@ pub use desk::{Desk, DeskAnswer};
 pub use host::HostDesk;
 pub use mem::{CallList, File, FileList, MemDesk};
 pub use output::{WriteFault, append_all, say_all, write_all};
+pub use sink::Sink;
 pub use steady::SteadyDesk;
-pub use whole::{ReadFault, read_all};
+pub use whole::{ReadFault, read_all, read_into};
 
 #[cfg(test)]
 mod tests {

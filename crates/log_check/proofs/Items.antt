@@ -1,6 +1,6 @@
 -- A log checked item by item is checked whole.
-use Rattle.std.proofs.Common.{ℕ, zero, suc, ◌≡◌, ◌<◌, ◌≤◌, ◌+◌, List, [], ◌∷◌, ◌++◌, Option, Some, None, length, take, get_or, inl, inr, refl, sym, ap, subst, arith, ◌∙◌}
-use Rattle.std.specs.Prelude.{true, false, option_map, Result, Ok, Err, OnErr}
+use Rattle.std.proofs.Common.{ℕ, zero, suc, ◌≡◌, ◌<◌, ◌+◌, List, [], ◌∷◌, ◌++◌, Option, Some, None, length, take, get_or, inl, inr, refl, sym, ap, subst, arith, ◌∙◌}
+use Rattle.std.specs.Prelude.{true, false, option_map}
 use Rattle.std.specs.Option.{is_some}
 use Rattle.std.proofs.Math.Seq.{take-length}
 use Rattle.std.proofs.lemmas.Bool.{cases_lt}
@@ -16,13 +16,12 @@ use Rattle.bound_log.specs.declared.log.Lemma.{Lemma}
 use Rattle.bound_log.specs.declared.log.LogStep.{LogStep}
 use Rattle.bound_log.specs.declared.log.Best.{Best}
 use Rattle.bound_log.specs.declared.log.Log.{Log}
-use Rattle.log_check.specs.declared.known.Known.{Known}
 use Rattle.log_check.specs.declared.refused.Refused.{Refused}
 use Rattle.log_check.specs.declared.refused.Refused.TheVariants as because
 use Rattle.log_check.specs.Accepted.{AreJustified, BestPasses, IsAccepted, IsJustified, best_of, better, raised}
 use Rattle.log_check.specs.Items.{AreBest, Checked, HasSeen, IsFound, empty_log, more_steps, with_columns, with_gaps, with_lemmas}
-use Rattle.log_check.specs.Known.{best_known}
-use Rattle.log_check.specs.Refusal.{BestRefuses, IsFirstUnjustified, LemmasRefuse, Refuses}
+use Rattle.log_check.specs.Known.{best_noted}
+use Rattle.log_check.specs.Refusal.{BestRefuses, IsFirstUnjustified, Refuses}
 use Rattle.log_check.proofs.Branches.{same_best}
 
 -- ---- one lemma at the end of a list
@@ -94,20 +93,20 @@ one_longer lemmas x n e = omega (arith, e, length-append lemmas (x ∷ []))
 
 -- ---- a checker
 
-abbrev pub checked : Fingers → Kinds → Known → ℕ → Option ℕ → Option Best → Checked
+abbrev pub checked : Fingers → Kinds → List (ℕ × ℕ) → ℕ → Option ℕ → Option Best → Checked
 checked f k known n unproved row = record { fingers = f; kinds = k; known = known; lemmas = n; unproved = unproved; row = row }
 
 -- nothing yet
-pub seen_none : (value : Row → State → Kinds → ℕ) (f : Fingers) (k : Kinds) (known : Known) → ((k : Kinds) (s : State) → best_known known k s ≡ 0) → HasSeen value (checked f k known 0 None None) empty_log
+pub seen_none : (value : Row → State → Kinds → ℕ) (f : Fingers) (k : Kinds) (known : List (ℕ × ℕ)) → ((k : Kinds) (s : State) → best_noted known k s ≡ 0) → HasSeen value (checked f k known 0 None None) empty_log
 seen_none value f k known none =
     record { counted = refl; found = (λ i d within. absurd (omega (arith, within)), λ s state. none k s); row = refl }
 
 -- behind the first lemma that was not justified
-more_refused : (value : Row → State → Kinds → ℕ) (f : Fingers) (k : Kinds) (known : Known) (n : ℕ) (unproved : Option ℕ) (row : Option Best) (lemmas : List Lemma) (x : Lemma) → is_some unproved ≡ true → IsFound value (checked f k known n unproved row) unproved lemmas → IsFound value (checked f k known (n + 1) unproved row) unproved (lemmas ++ x ∷ [])
+more_refused : (value : Row → State → Kinds → ℕ) (f : Fingers) (k : Kinds) (known : List (ℕ × ℕ)) (n : ℕ) (unproved : Option ℕ) (row : Option Best) (lemmas : List Lemma) (x : Lemma) → is_some unproved ≡ true → IsFound value (checked f k known n unproved row) unproved lemmas → IsFound value (checked f k known (n + 1) unproved row) unproved (lemmas ++ x ∷ [])
 more_refused value f k known n None row lemmas x is found = absurd cc
 more_refused value f k known n (Some line) row lemmas x is found = (found.0, still_unjustified value k lemmas x found.0 found.1, found.2)
 
-pub seen_unproved : (value : Row → State → Kinds → ℕ) (c : Checked) (f : Fingers) (k : Kinds) (known : Known) (n : ℕ) (unproved : Option ℕ) (row : Option Best) (log : Log) (x : Lemma) → c ≡ checked f k known n unproved row → is_some unproved ≡ true → HasSeen value c log → HasSeen value (checked f k known (n + 1) unproved row) (with_lemmas log (x ∷ []))
+pub seen_unproved : (value : Row → State → Kinds → ℕ) (c : Checked) (f : Fingers) (k : Kinds) (known : List (ℕ × ℕ)) (n : ℕ) (unproved : Option ℕ) (row : Option Best) (log : Log) (x : Lemma) → c ≡ checked f k known n unproved row → is_some unproved ≡ true → HasSeen value c log → HasSeen value (checked f k known (n + 1) unproved row) (with_lemmas log (x ∷ []))
 seen_unproved value c f k known n unproved row log x same is seen =
     let h : HasSeen value (checked f k known n unproved row) log = subst (λ (d : Checked). HasSeen value d log) same seen in
     record { counted = one_longer log.lemmas x n h.counted; found = more_refused value f k known n unproved row log.lemmas x is h.found; row = h.row }
@@ -117,56 +116,45 @@ none_is None h = refl
 none_is (Some x) h = absurd cc
 
 -- where all were justified so far
-all_right : (value : Row → State → Kinds → ℕ) (f : Fingers) (k : Kinds) (known : Known) (n : ℕ) (unproved : Option ℕ) (row : Option Best) (lemmas : List Lemma) → is_some unproved ≡ false → IsFound value (checked f k known n unproved row) unproved lemmas → AreJustified value k lemmas × AreBest k (best_known known k) lemmas
+all_right : (value : Row → State → Kinds → ℕ) (f : Fingers) (k : Kinds) (known : List (ℕ × ℕ)) (n : ℕ) (unproved : Option ℕ) (row : Option Best) (lemmas : List Lemma) → is_some unproved ≡ false → IsFound value (checked f k known n unproved row) unproved lemmas → AreJustified value k lemmas × AreBest k (best_noted known k) lemmas
 all_right value f k known n None row lemmas is found = found
 all_right value f k known n (Some line) row lemmas is found = absurd cc
 
 -- the first lemma that is not justified
-pub seen_refused : (value : Row → State → Kinds → ℕ) (c : Checked) (f : Fingers) (k : Kinds) (known : Known) (n : ℕ) (unproved : Option ℕ) (row : Option Best) (log : Log) (x : Lemma) → c ≡ checked f k known n unproved row → is_some unproved ≡ false → AreSomeKinds k → (IsJustified value k (best_known known k) x → ⊥) → HasSeen value c log → HasSeen value (checked f k known (n + 1) (Some (n + 3)) row) (with_lemmas log (x ∷ []))
+pub seen_refused : (value : Row → State → Kinds → ℕ) (c : Checked) (f : Fingers) (k : Kinds) (known : List (ℕ × ℕ)) (n : ℕ) (unproved : Option ℕ) (row : Option Best) (log : Log) (x : Lemma) → c ≡ checked f k known n unproved row → is_some unproved ≡ false → AreSomeKinds k → (IsJustified value k (best_noted known k) x → ⊥) → HasSeen value c log → HasSeen value (checked f k known (n + 1) (Some (n + 3)) row) (with_lemmas log (x ∷ []))
 seen_refused value c f k known n unproved row log x same is some wrong seen =
     let h : HasSeen value (checked f k known n unproved row) log = subst (λ (d : Checked). HasSeen value d log) same seen in
     let found = all_right value f k known n unproved row log.lemmas is h.found in
     record {
       counted = one_longer log.lemmas x n h.counted;
-      found = (length log.lemmas, first_unjustified value k log.lemmas x (best_known known k) some found.0 found.1 wrong, omega (arith, h.counted));
+      found = (length log.lemmas, first_unjustified value k log.lemmas x (best_noted known k) some found.0 found.1 wrong, omega (arith, h.counted));
       row = h.row;
     }
 
 -- a lemma that is justified
-pub seen_more : (value : Row → State → Kinds → ℕ) (c : Checked) (f : Fingers) (k : Kinds) (known new : Known) (n : ℕ) (unproved : Option ℕ) (row : Option Best) (log : Log) (x : Lemma) → c ≡ checked f k known n unproved row → is_some unproved ≡ false → AreSomeKinds k → IsJustified value k (best_known known k) x → ((s : State) → IsState k s → best_known new k s ≡ raised x.state x.bound s (best_known known k s)) → HasSeen value c log → HasSeen value (checked f k new (n + 1) unproved row) (with_lemmas log (x ∷ []))
+pub seen_more : (value : Row → State → Kinds → ℕ) (c : Checked) (f : Fingers) (k : Kinds) (known new : List (ℕ × ℕ)) (n : ℕ) (unproved : Option ℕ) (row : Option Best) (log : Log) (x : Lemma) → c ≡ checked f k known n unproved row → is_some unproved ≡ false → AreSomeKinds k → IsJustified value k (best_noted known k) x → ((s : State) → IsState k s → best_noted new k s ≡ raised x.state x.bound s (best_noted known k s)) → HasSeen value c log → HasSeen value (checked f k new (n + 1) unproved row) (with_lemmas log (x ∷ []))
 seen_more value c f k known new n unproved row log x same is some right noted seen =
     let h : HasSeen value (checked f k known n unproved row) log = subst (λ (d : Checked). HasSeen value d log) same seen in
     let found = all_right value f k known n unproved row log.lemmas is h.found in
     record {
       counted = one_longer log.lemmas x n h.counted;
       found = subst (λ (o : Option ℕ). IsFound value (checked f k new (n + 1) unproved row) o (log.lemmas ++ x ∷ [])) (sym (none_is unproved is))
-          (are_justified_more value k log.lemmas x (best_known known k) some found.0 found.1 right, are_best_more k log.lemmas x (best_known known k) (best_known new k) found.1 noted);
-      row = h.row;
-    }
-
--- nothing more
-pub seen_same : (value : Row → State → Kinds → ℕ) (c : Checked) (f : Fingers) (k : Kinds) (known new : Known) (n : ℕ) (unproved : Option ℕ) (row : Option Best) (log : Log) → c ≡ checked f k known n unproved row → is_some unproved ≡ false → ((k : Kinds) (s : State) → best_known new k s ≡ best_known known k s) → HasSeen value c log → HasSeen value (checked f k new n unproved row) log
-seen_same value c f k known new n unproved row log same is best seen =
-    let h : HasSeen value (checked f k known n unproved row) log = subst (λ (d : Checked). HasSeen value d log) same seen in
-    let found = all_right value f k known n unproved row log.lemmas is h.found in
-    record {
-      counted = h.counted;
-      found = subst (λ (o : Option ℕ). IsFound value (checked f k new n unproved row) o log.lemmas) (sym (none_is unproved is)) (found.0, λ s state. best k s ∙ found.1 s state);
+          (are_justified_more value k log.lemmas x (best_noted known k) some found.0 found.1 right, are_best_more k log.lemmas x (best_noted known k) (best_noted new k) found.1 noted);
       row = h.row;
     }
 
 -- ---- columns
 
-same_found : (value : Row → State → Kinds → ℕ) (f : Fingers) (k : Kinds) (known : Known) (n : ℕ) (unproved : Option ℕ) (row new : Option Best) (lemmas : List Lemma) → IsFound value (checked f k known n unproved row) unproved lemmas → IsFound value (checked f k known n unproved new) unproved lemmas
+same_found : (value : Row → State → Kinds → ℕ) (f : Fingers) (k : Kinds) (known : List (ℕ × ℕ)) (n : ℕ) (unproved : Option ℕ) (row new : Option Best) (lemmas : List Lemma) → IsFound value (checked f k known n unproved row) unproved lemmas → IsFound value (checked f k known n unproved new) unproved lemmas
 same_found value f k known n None row new lemmas h = h
 same_found value f k known n (Some line) row new lemmas h = h
 
-pub seen_gaps : (value : Row → State → Kinds → ℕ) (c : Checked) (f : Fingers) (k : Kinds) (known : Known) (n : ℕ) (unproved : Option ℕ) (row : Option Best) (log : Log) (gaps : ℕ) → c ≡ checked f k known n unproved row → HasSeen value c log → HasSeen value (checked f k known n unproved (Some (record { gaps = gaps; steps = [] }))) (with_gaps log gaps)
+pub seen_gaps : (value : Row → State → Kinds → ℕ) (c : Checked) (f : Fingers) (k : Kinds) (known : List (ℕ × ℕ)) (n : ℕ) (unproved : Option ℕ) (row : Option Best) (log : Log) (gaps : ℕ) → c ≡ checked f k known n unproved row → HasSeen value c log → HasSeen value (checked f k known n unproved (Some (record { gaps = gaps; steps = [] }))) (with_gaps log gaps)
 seen_gaps value c f k known n unproved row log gaps same seen =
     let h : HasSeen value (checked f k known n unproved row) log = subst (λ (d : Checked). HasSeen value d log) same seen in
     record { counted = h.counted; found = same_found value f k known n unproved row (Some (record { gaps = gaps; steps = [] })) log.lemmas h.found; row = refl }
 
-pub seen_columns : (value : Row → State → Kinds → ℕ) (c : Checked) (f : Fingers) (k : Kinds) (known : Known) (n : ℕ) (unproved : Option ℕ) (row new : Option Best) (log : Log) (steps : List LogStep) → c ≡ checked f k known n unproved row → new ≡ option_map (more_steps steps) row → HasSeen value c log → HasSeen value (checked f k known n unproved new) (with_columns log steps)
+pub seen_columns : (value : Row → State → Kinds → ℕ) (c : Checked) (f : Fingers) (k : Kinds) (known : List (ℕ × ℕ)) (n : ℕ) (unproved : Option ℕ) (row new : Option Best) (log : Log) (steps : List LogStep) → c ≡ checked f k known n unproved row → new ≡ option_map (more_steps steps) row → HasSeen value c log → HasSeen value (checked f k known n unproved new) (with_columns log steps)
 seen_columns value c f k known n unproved row new log steps same is seen =
     let h : HasSeen value (checked f k known n unproved row) log = subst (λ (d : Checked). HasSeen value d log) same seen in
     record { counted = h.counted; found = same_found value f k known n unproved row new log.lemmas h.found; row = is ∙ ap (option_map (more_steps steps)) h.row }
@@ -176,10 +164,10 @@ seen_columns value c f k known n unproved row new log steps same is seen =
 pub answer_unproved : (value : Row → State → Kinds → ℕ) (c : Checked) (line : ℕ) (log : Log) → c.unproved ≡ Some line → HasSeen value c log → Refuses value c.kinds c.fingers log (because.Unproved line)
 answer_unproved value c line log is h = subst (λ (o : Option ℕ). IsFound value c o log.lemmas) is h.found
 
-found_all : (value : Row → State → Kinds → ℕ) (c : Checked) (log : Log) → c.unproved ≡ None → HasSeen value c log → AreJustified value c.kinds log.lemmas × AreBest c.kinds (best_known c.known c.kinds) log.lemmas
+found_all : (value : Row → State → Kinds → ℕ) (c : Checked) (log : Log) → c.unproved ≡ None → HasSeen value c log → AreJustified value c.kinds log.lemmas × AreBest c.kinds (best_noted c.known c.kinds) log.lemmas
 found_all value c log none h = subst (λ (o : Option ℕ). IsFound value c o log.lemmas) none h.found
 
-pub answer_accepted : (value : Row → State → Kinds → ℕ) (c : Checked) (least gaps : ℕ) (log : Log) → c.unproved ≡ None → IsState c.kinds (start_of c.kinds) → least ≡ best_known c.known c.kinds (start_of c.kinds) → BestPasses c.kinds c.fingers least c.row gaps → HasSeen value c log → IsAccepted value c.kinds c.fingers log gaps
+pub answer_accepted : (value : Row → State → Kinds → ℕ) (c : Checked) (least gaps : ℕ) (log : Log) → c.unproved ≡ None → IsState c.kinds (start_of c.kinds) → least ≡ best_noted c.known c.kinds (start_of c.kinds) → BestPasses c.kinds c.fingers least c.row gaps → HasSeen value c log → IsAccepted value c.kinds c.fingers log gaps
 answer_accepted value c least gaps log none start is passes h =
     let found = found_all value c log none h in
     record {
@@ -199,7 +187,7 @@ from_best value k f log (because.Gaps said counted) all h = (all, h)
 from_best value k f log (because.NotLeast proved said) all h = (all, h)
 from_best value k f log because.NoMemory all h = tt
 
-pub answer_refused : (value : Row → State → Kinds → ℕ) (c : Checked) (f : Fingers) (k : Kinds) (known : Known) (n : ℕ) (unproved : Option ℕ) (row : Option Best) (least : ℕ) (fault : Refused) (log : Log) → c ≡ checked f k known n unproved row → unproved ≡ None → least ≡ best_known known k (start_of k) → BestRefuses k f least row fault → HasSeen value c log → Refuses value c.kinds c.fingers log fault
+pub answer_refused : (value : Row → State → Kinds → ℕ) (c : Checked) (f : Fingers) (k : Kinds) (known : List (ℕ × ℕ)) (n : ℕ) (unproved : Option ℕ) (row : Option Best) (least : ℕ) (fault : Refused) (log : Log) → c ≡ checked f k known n unproved row → unproved ≡ None → least ≡ best_noted known k (start_of k) → BestRefuses k f least row fault → HasSeen value c log → Refuses value c.kinds c.fingers log fault
 answer_refused value c f k known n unproved row least fault log same none is refuses seen =
     subst (λ (d : Checked). Refuses value d.kinds d.fingers log fault) (sym same) (by_row (subst (λ (d : Checked). HasSeen value d log) same seen))
   where
@@ -208,10 +196,6 @@ answer_refused value c f k known n unproved row least fault log same none is ref
         let found = found_all value (checked f k known n unproved row) log none h in
         from_best value k f log fault found.0
         (subst (λ (row : Option Best). BestRefuses k f (best_of (start_of k) log.lemmas) row fault) h.row (subst (λ (n : ℕ). BestRefuses k f n row fault) (is ∙ found.1 (start_of k) (start_valid k)) refuses))
-
-pub on_err : {A E : Type 0} (r : Result A E) (P : Type 0) → P → OnErr r P
-on_err (Ok a) P h = tt
-on_err (Err e) P h = h
 
 -- ---- one item after the other
 

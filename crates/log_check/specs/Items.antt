@@ -1,5 +1,5 @@
 -- A log checked item by item.
-use Rattle.std.specs.Prelude.{ℕ, ◌≡◌, List, [], ◌∷◌, ◌++◌, Option, Some, None, length, option_map}
+use Rattle.std.specs.Prelude.{ℕ, ◌≡◌, List, [], ◌++◌, Option, Some, None, length, option_map}
 use Rattle.cell_num.specs.declared.finger.Row.{Row}
 use Rattle.cell_num.specs.declared.finger.Fingers.{Fingers}
 use Rattle.row_state.specs.declared.kind.Kinds.{Kinds}
@@ -9,18 +9,17 @@ use Rattle.bound_log.specs.declared.log.Lemma.{Lemma}
 use Rattle.bound_log.specs.declared.log.LogStep.{LogStep}
 use Rattle.bound_log.specs.declared.log.Best.{Best}
 use Rattle.bound_log.specs.declared.log.Log.{Log}
-use Rattle.log_check.specs.declared.known.Known.{Known}
 use Rattle.log_check.specs.declared.refused.Refused.TheVariants as because
 use Rattle.log_check.specs.Accepted.{AreJustified, best_of}
-use Rattle.log_check.specs.Known.{best_known}
+use Rattle.log_check.specs.Known.{best_noted}
 use Rattle.log_check.specs.Refusal.{LemmasRefuse}
 
 -- What a checker of logs for these fingers, with their kinds, has come to.
 pub record Checked : Type 0 where
   pub fingers : Fingers
   pub kinds : Kinds
-  -- the best bounds of states so far
-  pub known : Known
+  -- the best bounds so far, by the numbers of states
+  pub known : List (ℕ × ℕ)
   -- how many lemmas came, and the line of the first that was not justified
   pub lemmas : ℕ
   pub unproved : Option ℕ
@@ -33,7 +32,7 @@ AreBest k best lemmas = (s : State) → IsState k s → best s ≡ best_of s lem
 
 -- all lemmas are justified, and their best bounds are known; or the first that is not stands at the line
 abbrev pub IsFound : (Row → State → Kinds → ℕ) → Checked → Option ℕ → List Lemma → Type 0
-IsFound value c None lemmas = AreJustified value c.kinds lemmas × AreBest c.kinds (best_known c.known c.kinds) lemmas
+IsFound value c None lemmas = AreJustified value c.kinds lemmas × AreBest c.kinds (best_noted c.known c.kinds) lemmas
 IsFound value c (Some line) lemmas = LemmasRefuse value c.kinds lemmas (because.Unproved line)
 
 -- the items of this log came, where this is the bound of a row

@@ -1,6 +1,7 @@
 -- Best bounds of states, as they are kept.
 use Rattle.std.specs.Prelude.{ℕ, ◌≡◌, List, Option, nat_eq, unwrap_or}
 use Rattle.std.specs.HashMap.{get}
+use Rattle.std.specs.Map.{lookup}
 use Rattle.row_state.specs.declared.kind.Kinds.{Kinds}
 use Rattle.row_state.specs.declared.state.State.{State}
 use Rattle.row_state.specs.Code.{state_code}
@@ -16,6 +17,13 @@ bound_in table k s = unwrap_or (table (state_code k s)) 0
 -- what is kept is a function: for some kinds, from states to their best bounds so far
 abbrev pub best_known : Known → Kinds → State → ℕ
 best_known known = bound_in (get nat_eq known.bounds)
+
+-- the numbers of states with their best bounds, in the order in which they are kept
+abbrev pub noted : Known → List (ℕ × ℕ)
+noted known = known.bounds.entries
+
+abbrev pub best_noted : List (ℕ × ℕ) → Kinds → State → ℕ
+best_noted bounds = bound_in (λ number. lookup (nat_eq number) bounds)
 
 -- what is kept of each valid state is its best bound in the lemmas
 abbrev pub Knows : Kinds → Known → List Lemma → Type 0

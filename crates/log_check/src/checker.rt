@@ -36,7 +36,14 @@ impl<B: RowBound + Drop> Checker<B> {
         })
     }
 
-    /// One lemma more; at most [`MOST_BYTES`] in all. After NoMemory the items are those before.
+    /// How many lemmas came.
+    pub fn count(&self) -> u32
+        ensures { result ≡ self.now.seen.lemmas }
+    {
+        self.seen.count()
+    }
+
+    /// One lemma more; at most [`MOST_BYTES`] in all. After NoMemory the checker is as before.
     pub fn lemma(&mut self, lemma: &Lemma) -> Result<(), NoMemory>
         requires few { self.old.seen.lemmas < MOST_BYTES }
         ensures fingers { self.new.seen.fingers ≡ self.old.seen.fingers }
@@ -44,8 +51,7 @@ impl<B: RowBound + Drop> Checker<B> {
         ensures count { OnOk result (self.new.seen.lemmas ≡ self.old.seen.lemmas + 1) }
         ensures seen { OnOk result (ForSeen (B.value self.old.bound) self.old.seen (λ log.
             HasSeen (B.value self.old.bound) self.new.seen (with_lemmas log (lemma.now ∷ [])))) }
-        ensures unchanged { OnErr result (ForSeen (B.value self.old.bound) self.old.seen
-            (HasSeen (B.value self.old.bound) self.new.seen)) }
+        ensures unchanged { OnErr result (self.new ≡ self.old) }
     {
         self.seen.lemma(&self.bound, lemma)?;
         Ok(())

@@ -5,7 +5,7 @@ ghost use Rattle.row_state.specs.declared.state.State.{State as StateOf};
 ghost use Rattle.row_state.specs.Code.{state_code};
 ghost use Rattle.row_state.specs.Start.{AreSomeKinds, IsState};
 ghost use Rattle.log_check.specs.Accepted.{raised};
-ghost use Rattle.log_check.specs.Known.{best_known};
+ghost use Rattle.log_check.specs.Known.{best_known, noted};
 
 use cell_num::NoMemory;
 use row_state::{Kinds, State, code};
@@ -28,7 +28,7 @@ fn kept(bounds: &HashMap<u128, u32>, number: u128) -> u32
 fn keep(bounds: &mut HashMap<u128, u32>, number: u128, bound: u32) -> Result<(), NoMemory>
     ensures kept { OnOk result (get nat_eq bounds.new number ≡ Some bound) }
     ensures others { OnOk result ((q : ℕ) → q ≢ number → get nat_eq bounds.new q ≡ get nat_eq bounds.old q) }
-    ensures unchanged { OnErr result ((q : ℕ) → get nat_eq bounds.new q ≡ get nat_eq bounds.old q) }
+    ensures unchanged { OnErr result (bounds.new.entries ≡ bounds.old.entries) }
 {
     match bounds.insert(number, bound) {
         Ok(_) => Ok(()),
@@ -65,6 +65,7 @@ impl Known {
     pub fn note_at(&mut self, number: u128, bound: u32) -> Result<(), NoMemory>
         ensures raised { OnOk result ((k : KindsOf) (x : StateOf) → IsState k x → state_code k x ≡ number → (s : StateOf) → IsState k s → best_known self.new k s ≡ raised x bound s (best_known self.old k s)) }
         ensures unchanged { OnErr result ((k : KindsOf) (s : StateOf) → best_known self.new k s ≡ best_known self.old k s) }
+        ensures same { OnErr result (noted self.new ≡ noted self.old) }
     {
         let most = kept(&self.bounds, number).max(bound);
         keep(&mut self.bounds, number, most)?;
@@ -77,6 +78,7 @@ impl Known {
         requires state { IsState kinds.now state.now }
         ensures raised { OnOk result ((s : StateOf) → IsState kinds.now s → best_known self.new kinds.now s ≡ raised state.now bound s (best_known self.old kinds.now s)) }
         ensures unchanged { OnErr result ((k : KindsOf) (s : StateOf) → best_known self.new k s ≡ best_known self.old k s) }
+        ensures same { OnErr result (noted self.new ≡ noted self.old) }
     {
         self.note_at(code(state, kinds), bound)?;
         Ok(())

@@ -4,7 +4,7 @@ use cell_num::NoMemory;
 use thiserror::Error;
 
 /// Why a log is refused, in the order of looking.
-#[derive(Debug, Drop, Error)]
+#[derive(Debug, PartialEq, Eq, Drop, Error)]
 pub enum Refused {
     /// The first lemma that is not justified, by its line in the text of the log.
     #[error("Unproved")]

@@ -88,18 +88,15 @@ impl Model for Seen {
     ghost use Rattle.cell_num.specs.Fingers.{AreFingers};
     ghost use Rattle.row_state.specs.Candidates.{AreCandidates};
     ghost use Rattle.row_state.specs.Start.{AreKinds, AreSomeKinds};
-    ghost use Rattle.std.specs.Coded.{codes};
-    ghost use Rattle.log_check.specs.contracts.known.Known as known_row;
     ghost use Rattle.log_check.specs.Items.{Checked};
+    ghost use Rattle.log_check.specs.Known.{noted};
 
     ghost Value = { Checked };
-
-    ghost coded = { Prim.hlevel (codes, known_row.the_row.coded) };
 
     ghost view = { λ c. record {
       fingers = c.fingers;
       kinds = c.kinds;
-      known = c.known;
+      known = noted c.known;
       lemmas = c.lemmas;
       unproved = c.unproved;
       row = c.row;
@@ -132,13 +129,19 @@ impl Seen {
         })
     }
 
+    pub(crate) fn count(&self) -> u32
+        ensures { result ≡ self.now.lemmas }
+    {
+        self.lemmas
+    }
+
     pub(crate) fn lemma<B: RowBound>(&mut self, bound: &B, lemma: &Lemma) -> Result<(), NoMemory>
         requires few { self.old.lemmas < MOST_BYTES }
         ensures fingers { self.new.fingers ≡ self.old.fingers }
         ensures count { OnOk result (self.new.lemmas ≡ self.old.lemmas + 1) }
         ensures seen { OnOk result (ForSeen (B.value bound.now) self.old (λ log.
             HasSeen (B.value bound.now) self.new (with_lemmas log (lemma.now ∷ [])))) }
-        ensures unchanged { OnErr result (ForSeen (B.value bound.now) self.old (HasSeen (B.value bound.now) self.new)) }
+        ensures unchanged { OnErr result (self.new ≡ self.old) }
     {
         let count = self.lemmas + 1;
         if self.unproved.is_some() {

@@ -1,6 +1,6 @@
 use Rattle.std.proofs.Common.{rules, subst, ◌∙◌}
 use Rattle.bound_log.specs.declared.log.Log.{Log}
-use Rattle.log_check.specs.Items.{HasSeen, with_lemmas}
+use Rattle.log_check.specs.Items.{HasSeen}
 use Rattle.log_check.proofs.Items.{lemmas_again}
 use Rattle.log_check.proofs.check.add_lemmas.Goals as goal
 

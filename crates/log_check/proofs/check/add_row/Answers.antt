@@ -1,8 +1,7 @@
-use Rattle.std.proofs.Common.{List, ◌≡◌, ◌∙◌, [], ap, subst, sym, Option, Some, None}
+use Rattle.std.proofs.Common.{List, ◌≡◌, ◌∙◌, ap, subst, sym, Option, Some, None}
 use Rattle.bound_log.specs.declared.log.LogStep.{LogStep}
 use Rattle.bound_log.specs.declared.log.Best.{Best}
-use Rattle.bound_log.specs.declared.log.Log.{Log}
-use Rattle.log_check.specs.Items.{HasSeen, with_columns, with_gaps}
+use Rattle.log_check.specs.Items.{HasSeen, with_gaps}
 use Rattle.log_check.proofs.check.add_row.Goals as goal
 
 pub returns-clause-seen : goal.returns-clause-seen

@@ -1,5 +1,5 @@
 use Rattle.std.proofs.Common.{refl}
-use Rattle.std.proofs.lemmas.List.Elements.{All-contains, All-more}
+use Rattle.std.proofs.lemmas.List.Elements.{All-more}
 use Rattle.row_state.specs.declared.candidate.Candidate.{Candidate}
 use Rattle.log_check.specs.Known.{best_known}
 use Rattle.log_check.proofs.Branches.{Passes, branch_end}
