@@ -1,4 +1,5 @@
-use Rattle.std.proofs.Common.{arith, common_steps}
+use Rattle.std.proofs.Common.{arith}
+use Rattle.std.proofs.lemmas.Grind.{common_steps}
 use Rattle.std.proofs.lemmas.Int.{to_z-of_z}
 use Rattle.cell_report.proofs.violations.put_place.Goals as goal
 
