@@ -9,7 +9,7 @@ use Rattle.cell_num.proofs.Lists.{contains_none}
 use Rattle.cell_num.specs.declared.list.NoMemory.{NoMemory}
 use Rattle.gds_read.specs.declared.fault.GdsFault.{GdsFault}
 use Rattle.gds_read.specs.declared.fault.GdsFault.TheVariants as gds
-use Rattle.gds_read.specs.Decoding.{GdsRefused, IsRefused, decoded}
+use Rattle.gds_read.specs.Decoding.{Decodes, GdsRefused, IsRefused, decoded}
 use Rattle.scmos_rules.specs.declared.number.RuleNo.{RuleNo}
 use Rattle.scmos_rules.specs.declared.rules.Deck.{Deck}
 use Rattle.scmos_rules.specs.declared.rules.Deck.TheVariants as deck
@@ -126,19 +126,19 @@ one_drawing : (name : List ℕ) (shapes : Shapes) (a b : ExtractAnswer) → IsDr
 one_drawing name shapes (Unread f) b x y = absurd x
 one_drawing name shapes a (Unread f) x y = absurd y
 one_drawing name shapes (Extracted n) (Extracted m) x y = refl
-one_drawing name shapes (Extracted n) (Broken vs) x y = absurd (disobeys shapes.rects vs y.2.0 y.1 y.2.1 x.0)
-one_drawing name shapes (Extracted n) (Unchecked f) x y = absurd (not_many shapes.rects f x.1.few.rects y.1 y.0)
-one_drawing name shapes (Extracted n) (Refused f) x y = absurd (not_refused shapes n f x.1 y.3 y.0)
-one_drawing name shapes (Broken vs) (Extracted n) x y = absurd (disobeys shapes.rects vs x.2.0 x.1 x.2.1 y.0)
+one_drawing name shapes (Extracted n) (Broken vs) (obeys, extracts) (small, are, v, c) = absurd (disobeys shapes.rects vs v are c obeys)
+one_drawing name shapes (Extracted n) (Unchecked f) (obeys, extracts) (other, is) = absurd (not_many shapes.rects f extracts.few.rects is other)
+one_drawing name shapes (Extracted n) (Refused f) (obeys, extracts) (other, small, also, is) = absurd (not_refused shapes n f extracts is other)
+one_drawing name shapes (Broken vs) (Extracted n) (small, are, v, c) (obeys, extracts) = absurd (disobeys shapes.rects vs v are c obeys)
 one_drawing name shapes (Broken vs) (Broken ws) x y = refl
-one_drawing name shapes (Broken vs) (Unchecked f) x y = absurd (not_many shapes.rects f x.0 y.1 y.0)
-one_drawing name shapes (Broken vs) (Refused f) x y = absurd (disobeys shapes.rects vs x.2.0 x.1 x.2.1 y.2)
-one_drawing name shapes (Unchecked f) (Extracted n) x y = absurd (not_many shapes.rects f y.1.few.rects x.1 x.0)
-one_drawing name shapes (Unchecked f) (Broken vs) x y = absurd (not_many shapes.rects f y.0 x.1 x.0)
+one_drawing name shapes (Broken vs) (Unchecked f) (small, are, v, c) (other, is) = absurd (not_many shapes.rects f small is other)
+one_drawing name shapes (Broken vs) (Refused f) (small, are, v, c) (other, also, obeys, is) = absurd (disobeys shapes.rects vs v are c obeys)
+one_drawing name shapes (Unchecked f) (Extracted n) (other, is) (obeys, extracts) = absurd (not_many shapes.rects f extracts.few.rects is other)
+one_drawing name shapes (Unchecked f) (Broken vs) (other, is) (small, are, v, c) = absurd (not_many shapes.rects f small is other)
 one_drawing name shapes (Unchecked f) (Unchecked g) x y = refl
 one_drawing name shapes (Unchecked f) (Refused g) x y = refl
-one_drawing name shapes (Refused f) (Extracted n) x y = absurd (not_refused shapes n f y.1 x.3 x.0)
-one_drawing name shapes (Refused f) (Broken vs) x y = absurd (disobeys shapes.rects vs y.2.0 y.1 y.2.1 x.2)
+one_drawing name shapes (Refused f) (Extracted n) (other, small, also, is) (obeys, extracts) = absurd (not_refused shapes n f extracts is other)
+one_drawing name shapes (Refused f) (Broken vs) (other, also, obeys, is) (small, are, v, c) = absurd (disobeys shapes.rects vs v are c obeys)
 one_drawing name shapes (Refused f) (Unchecked g) x y = refl
 one_drawing name shapes (Refused f) (Refused g) x y = refl
 
@@ -147,7 +147,7 @@ abbrev IsUnread : GdsCell → ExtractAnswer → Type 0
 IsUnread cell answer = (f : GdsFault) × (answer ≡ Unread f) × GdsRefused cell.bytes cell.name cell.tech.lambda_nm f
 
 by_drawing : (cell : GdsCell) (answer : ExtractAnswer) → IsCellAnswer cell answer → IsUnread cell answer ⊎ IsOfDrawing cell answer
-by_drawing cell (Unread f) x = inl (f, refl, x.1)
+by_drawing cell (Unread f) (other, is) = inl (f, refl, is)
 by_drawing cell (Extracted n) x = inr x
 by_drawing cell (Broken vs) x = inr x
 by_drawing cell (Unchecked f) x = inr x
@@ -188,11 +188,11 @@ pub refuses_where : (cell : GdsCell) (end : End) → HasLayoutFault cell → Ext
 refuses_where cell end (answer, fault, is) to = told_status cell end answer is to ∙ fault_status cell.name answer fault
 
 broken_status : (name : List ℕ) (shapes : Shapes) (rule : RuleNo) (x y : ℤ) (answer : ExtractAnswer) → IsSmall shapes → InDeck deck.Plain rule → Fails deck.Plain rule shapes.rects x y → IsDrawingAnswer shapes answer → status_of name answer ≡ status.Rejected
-broken_status name shapes rule x y (Extracted n) small listed fails is = absurd (is.0.none rule listed x y fails)
+broken_status name shapes rule x y (Extracted n) small listed fails (obeys, extracts) = absurd (obeys.none rule listed x y fails)
 broken_status name shapes rule x y (Broken vs) small listed fails is = refl
 broken_status name shapes rule x y (Unread f) small listed fails is = absurd is
-broken_status name shapes rule x y (Unchecked f) small listed fails is = absurd (not_many shapes.rects f small is.1 is.0)
-broken_status name shapes rule x y (Refused f) small listed fails is = absurd (is.2.none rule listed x y fails)
+broken_status name shapes rule x y (Unchecked f) small listed fails (other, is) = absurd (not_many shapes.rects f small is other)
+broken_status name shapes rule x y (Refused f) small listed fails (other, also, obeys, is) = absurd (obeys.none rule listed x y fails)
 
 pub breaks_where : (cell : GdsCell) (end : End) → BreaksRule cell → ExtractsTo cell end → end.status ≡ status.Rejected
 breaks_where cell end breaks (answer, is, same) = ap (λ (e : End). e.status) same ∙ by (by_drawing cell answer is)
@@ -219,8 +219,8 @@ unread_is bytes name lambda (gds.Reference at) other is = is
 unread_is bytes name lambda gds.NoMemory other is = absurd (other refl)
 unread_is bytes name lambda (gds.Wide at) other is = is
 
-pub unread_answers : (cell : GdsCell) (f : GdsFault) (r : Result ExtractAnswer NoMemory) → IsRefused cell.bytes cell.name cell.tech.lambda_nm f → IfOk r (λ told. (f ≢ gds.NoMemory) × (told ≡ Unread f)) → IfOk r (IsCellAnswer cell)
-unread_answers cell f r is = IfOk-weaker r (λ told. (f ≢ gds.NoMemory) × (told ≡ Unread f)) (IsCellAnswer cell) (λ told (other, same). subst (IsCellAnswer cell) (sym same) (other, unread_is cell.bytes cell.name cell.tech.lambda_nm f other is))
+pub unread_answers : (cell : GdsCell) (bytes : List ℕ) (lambda : ℕ) (f : GdsFault) (r : Result ExtractAnswer NoMemory) → bytes ≡ cell.bytes → lambda ≡ cell.tech.lambda_nm → IsRefused bytes cell.name lambda f → IfOk r (λ (told : ExtractAnswer). (f ≢ gds.NoMemory) × (told ≡ Unread f)) → IfOk r (IsCellAnswer cell)
+unread_answers cell bytes lambda f r same also is = IfOk-weaker r (λ (told : ExtractAnswer). (f ≢ gds.NoMemory) × (told ≡ Unread f)) (IsCellAnswer cell) (λ told (other, outcome). subst (IsCellAnswer cell) (sym outcome) (other, subst (λ (b : List ℕ). GdsRefused b cell.name cell.tech.lambda_nm f) same (subst (λ (n : ℕ). GdsRefused bytes cell.name n f) also (unread_is bytes cell.name lambda f other is))))
 
 of_drawing : (cell : GdsCell) (shapes : Shapes) (answer : ExtractAnswer) → IsDrawingOf cell shapes → IsDrawingAnswer shapes answer → IsCellAnswer cell answer
 of_drawing cell shapes (Unread f) some is = absurd is
@@ -229,14 +229,16 @@ of_drawing cell shapes (Broken vs) some is = (shapes, some, is)
 of_drawing cell shapes (Unchecked f) some is = (shapes, some, is)
 of_drawing cell shapes (Refused f) some is = (shapes, some, is)
 
-pub drawing_answers : (cell : GdsCell) (shapes : Shapes) (r : Result ExtractAnswer NoMemory) → IsDrawingOf cell shapes → IfOk r (IsDrawingAnswer shapes) → IfOk r (IsCellAnswer cell)
-drawing_answers cell shapes r some = IfOk-weaker r (IsDrawingAnswer shapes) (IsCellAnswer cell) (λ answer is. of_drawing cell shapes answer some is)
+pub drawing_answers : (cell : GdsCell) (bytes : List ℕ) (lambda : ℕ) (shapes : Shapes) (r : Result ExtractAnswer NoMemory) → bytes ≡ cell.bytes → lambda ≡ cell.tech.lambda_nm → Decodes bytes cell.name lambda shapes → IfOk r (IsDrawingAnswer shapes) → IfOk r (IsCellAnswer cell)
+drawing_answers cell bytes lambda shapes r same also some =
+    let decodes : IsDrawingOf cell shapes = subst (λ (b : List ℕ). Decodes b cell.name cell.tech.lambda_nm shapes) same (subst (λ (n : ℕ). Decodes bytes cell.name n shapes) also some) in
+    IfOk-weaker r (IsDrawingAnswer shapes) (IsCellAnswer cell) (λ answer is. of_drawing cell shapes answer decodes is)
 
-pub unchecked_answers : (shapes : Shapes) (f : RuleFault) (r : Result ExtractAnswer NoMemory) → IsFaultOf shapes.rects f → IfOk r (λ told. (f ≢ rules.NoMemory) × (told ≡ Unchecked f)) → IfOk r (IsDrawingAnswer shapes)
-unchecked_answers shapes f r is = IfOk-weaker r (λ told. (f ≢ rules.NoMemory) × (told ≡ Unchecked f)) (IsDrawingAnswer shapes) (λ told (other, same). subst (IsDrawingAnswer shapes) (sym same) (other, is))
+pub unchecked_answers : (shapes : Shapes) (f : RuleFault) (r : Result ExtractAnswer NoMemory) → IsFaultOf shapes.rects f → IfOk r (λ (told : ExtractAnswer). (f ≢ rules.NoMemory) × (told ≡ Unchecked f)) → IfOk r (IsDrawingAnswer shapes)
+unchecked_answers shapes f r is = IfOk-weaker r (λ (told : ExtractAnswer). (f ≢ rules.NoMemory) × (told ≡ Unchecked f)) (IsDrawingAnswer shapes) (λ told (other, same). subst (IsDrawingAnswer shapes) (sym same) (other, is))
 
-pub refused_answers : (shapes : Shapes) (f : ExtractFault) (r : Result ExtractAnswer NoMemory) → IsSmall shapes → Obeys deck.Plain shapes.rects → ExtractRefused shapes f → IfOk r (λ told. (f ≢ no_netlist.NoMemory) × (told ≡ Refused f)) → IfOk r (IsDrawingAnswer shapes)
-refused_answers shapes f r small obeys is = IfOk-weaker r (λ told. (f ≢ no_netlist.NoMemory) × (told ≡ Refused f)) (IsDrawingAnswer shapes) (λ told (other, same). subst (IsDrawingAnswer shapes) (sym same) (other, small, obeys, is))
+pub refused_answers : (shapes : Shapes) (f : ExtractFault) (r : Result ExtractAnswer NoMemory) → IsSmall shapes → Obeys deck.Plain shapes.rects → ExtractRefused shapes f → IfOk r (λ (told : ExtractAnswer). (f ≢ no_netlist.NoMemory) × (told ≡ Refused f)) → IfOk r (IsDrawingAnswer shapes)
+refused_answers shapes f r small obeys is = IfOk-weaker r (λ (told : ExtractAnswer). (f ≢ no_netlist.NoMemory) × (told ≡ Refused f)) (IsDrawingAnswer shapes) (λ told (other, same). subst (IsDrawingAnswer shapes) (sym same) (other, small, obeys, is))
 
 pub some_listed : (found : List Violation) → 0 < length found → (v : Violation) × Contains found v
 some_listed [] some = absurd (omega (arith, some))

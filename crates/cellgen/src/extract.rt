@@ -4,7 +4,7 @@ ghost use Rattle.scmos_rules.specs.Rules.{Obeys};
 ghost use Rattle.scmos_rules.specs.declared.rules.Deck.TheVariants as deck;
 ghost use Rattle.scmos_rules.specs.declared.violation.RuleFault.TheVariants as rules;
 ghost use Rattle.net_extract.specs.declared.fault.ExtractFault.TheVariants as no_netlist;
-ghost use Rattle.cellgen.specs.declared.extract.ExtractAnswer.TheVariants as answer;
+ghost use Rattle.cellgen.specs.declared.extract.ExtractAnswer.TheVariants as outcome;
 ghost use Rattle.cellgen.specs.Extract.{ExtractsTo, IsCellAnswer, IsDrawingAnswer, extract_end};
 
 use crate::end::End;
@@ -34,7 +34,7 @@ pub enum ExtractAnswer {
 }
 
 fn unread(fault: GdsFault) -> Result<ExtractAnswer, NoMemory>
-    ensures { IfOk result (λ told. (fault ≢ gds.NoMemory) × (told ≡ answer.Unread fault)) }
+    ensures { IfOk result (λ told. (fault ≢ gds.NoMemory) × (told ≡ outcome.Unread fault)) }
 {
     match fault {
         GdsFault::NoMemory => Err(NoMemory),
@@ -43,7 +43,7 @@ fn unread(fault: GdsFault) -> Result<ExtractAnswer, NoMemory>
 }
 
 fn unchecked(fault: RuleFault) -> Result<ExtractAnswer, NoMemory>
-    ensures { IfOk result (λ told. (fault ≢ rules.NoMemory) × (told ≡ answer.Unchecked fault)) }
+    ensures { IfOk result (λ told. (fault ≢ rules.NoMemory) × (told ≡ outcome.Unchecked fault)) }
 {
     match fault {
         RuleFault::NoMemory => Err(NoMemory),
@@ -52,7 +52,7 @@ fn unchecked(fault: RuleFault) -> Result<ExtractAnswer, NoMemory>
 }
 
 fn refused(fault: ExtractFault) -> Result<ExtractAnswer, NoMemory>
-    ensures { IfOk result (λ told. (fault ≢ no_netlist.NoMemory) × (told ≡ answer.Refused fault)) }
+    ensures { IfOk result (λ told. (fault ≢ no_netlist.NoMemory) × (told ≡ outcome.Refused fault)) }
 {
     match fault {
         ExtractFault::NoMemory => Err(NoMemory),
@@ -61,6 +61,7 @@ fn refused(fault: ExtractFault) -> Result<ExtractAnswer, NoMemory>
 }
 
 // The netlist of a drawing that obeys all rules, or why it has none.
+#[tactic(auto, using(crate::proofs::Extracted::refused_answers))]
 fn extract_legal(alloc: Global, shapes: &Shapes) -> Result<ExtractAnswer, NoMemory>
     requires small { length shapes.now.rects ≤ 10000 }
     requires obeys { Obeys deck.Plain shapes.now.rects }
@@ -72,6 +73,7 @@ fn extract_legal(alloc: Global, shapes: &Shapes) -> Result<ExtractAnswer, NoMemo
     }
 }
 
+#[tactic(auto, using(crate::proofs::Extracted::unchecked_answers, crate::proofs::Extracted::none_listed, crate::proofs::Extracted::some_listed))]
 fn drawing_answer(alloc: Global, shapes: &Shapes) -> Result<ExtractAnswer, NoMemory>
     ensures { IfOk result (IsDrawingAnswer shapes.now) }
 {
@@ -85,16 +87,11 @@ fn drawing_answer(alloc: Global, shapes: &Shapes) -> Result<ExtractAnswer, NoMem
     Ok(ExtractAnswer::Broken(found))
 }
 
+#[tactic(auto, using(crate::proofs::Extracted::unread_answers, crate::proofs::Extracted::drawing_answers))]
 fn cell_answer(alloc: Global, cell: &GdsCell) -> Result<ExtractAnswer, NoMemory>
     ensures { IfOk result (IsCellAnswer cell.now) }
 {
-    cell.tech.show_limits();
-    match read_cell(
-        alloc,
-        cell.bytes.as_slice(),
-        &cell.name,
-        cell.tech.lambda_nm,
-    ) {
+    match read_cell(alloc, cell.bytes.as_slice(), &cell.name, cell.lambda_nm()) {
         Ok(shapes) => drawing_answer(alloc, &shapes),
         Err(fault) => unread(fault),
     }

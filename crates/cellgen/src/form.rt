@@ -170,14 +170,15 @@ fn extract_of(words: &[String]) -> Option<Form<'_>>
     let [tech, gds, cell] = words else {
         return None;
     };
-    if tech.is_empty() || gds.is_empty() || !is_cell(cell.as_str()) {
-        return None;
+    if !tech.is_empty() && !gds.is_empty() && is_cell(cell.as_str()) {
+        Some(Form::Extract {
+            tech: tech_of(tech.as_str()),
+            gds: gds.as_str(),
+            cell: cell.as_str(),
+        })
+    } else {
+        None
     }
-    Some(Form::Extract {
-        tech: tech_of(tech.as_str()),
-        gds: gds.as_str(),
-        cell: cell.as_str(),
-    })
 }
 
 /// The form of the words, told by the command first, or None where they have none of the listed forms.

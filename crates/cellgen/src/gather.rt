@@ -1,4 +1,4 @@
-ghost use Rattle.std.specs.Prelude.{option_map};
+ghost use Rattle.std.specs.Prelude.{◌≡◌, ◌≤◌, option_map};
 ghost use Rattle.cell_io.specs.Desk.{OnlyReads};
 ghost use Rattle.cellgen.specs.Gather.{gathered, planning, making, checking, checking_over, extracting, extracting_over};
 ghost use Rattle.cellgen.specs.Reading.{MayCome};
@@ -20,6 +20,17 @@ pub struct GdsCell {
     pub tech: Tech,
     pub name: Name,
     pub bytes: FileBytes,
+}
+
+impl GdsCell {
+    /// Lambda in nanometres.
+    pub fn lambda_nm(&self) -> u32
+        ensures is { result ≡ self.now.tech.lambda_nm }
+        ensures some { 1 ≤ result }
+    {
+        self.tech.show_limits();
+        self.tech.lambda_nm
+    }
 }
 
 /// What a command works on.
