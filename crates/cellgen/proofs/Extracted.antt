@@ -126,19 +126,19 @@ one_drawing : (name : List ℕ) (shapes : Shapes) (a b : ExtractAnswer) → IsDr
 one_drawing name shapes (Unread f) b x y = absurd x
 one_drawing name shapes a (Unread f) x y = absurd y
 one_drawing name shapes (Extracted n) (Extracted m) x y = refl
-one_drawing name shapes (Extracted n) (Broken vs) (obeys, extracts) (small, are, v, c) = absurd (disobeys shapes.rects vs v are c obeys)
+one_drawing name shapes (Extracted n) (Broken vs) (obeys, extracts) (small, are, (v, c)) = absurd (disobeys shapes.rects vs v are c obeys)
 one_drawing name shapes (Extracted n) (Unchecked f) (obeys, extracts) (other, is) = absurd (not_many shapes.rects f extracts.few.rects is other)
 one_drawing name shapes (Extracted n) (Refused f) (obeys, extracts) (other, small, also, is) = absurd (not_refused shapes n f extracts is other)
-one_drawing name shapes (Broken vs) (Extracted n) (small, are, v, c) (obeys, extracts) = absurd (disobeys shapes.rects vs v are c obeys)
+one_drawing name shapes (Broken vs) (Extracted n) (small, are, (v, c)) (obeys, extracts) = absurd (disobeys shapes.rects vs v are c obeys)
 one_drawing name shapes (Broken vs) (Broken ws) x y = refl
-one_drawing name shapes (Broken vs) (Unchecked f) (small, are, v, c) (other, is) = absurd (not_many shapes.rects f small is other)
-one_drawing name shapes (Broken vs) (Refused f) (small, are, v, c) (other, also, obeys, is) = absurd (disobeys shapes.rects vs v are c obeys)
+one_drawing name shapes (Broken vs) (Unchecked f) (small, are, (v, c)) (other, is) = absurd (not_many shapes.rects f small is other)
+one_drawing name shapes (Broken vs) (Refused f) (small, are, (v, c)) (other, also, obeys, is) = absurd (disobeys shapes.rects vs v are c obeys)
 one_drawing name shapes (Unchecked f) (Extracted n) (other, is) (obeys, extracts) = absurd (not_many shapes.rects f extracts.few.rects is other)
-one_drawing name shapes (Unchecked f) (Broken vs) (other, is) (small, are, v, c) = absurd (not_many shapes.rects f small is other)
+one_drawing name shapes (Unchecked f) (Broken vs) (other, is) (small, are, (v, c)) = absurd (not_many shapes.rects f small is other)
 one_drawing name shapes (Unchecked f) (Unchecked g) x y = refl
 one_drawing name shapes (Unchecked f) (Refused g) x y = refl
 one_drawing name shapes (Refused f) (Extracted n) (other, small, also, is) (obeys, extracts) = absurd (not_refused shapes n f extracts is other)
-one_drawing name shapes (Refused f) (Broken vs) (other, also, obeys, is) (small, are, v, c) = absurd (disobeys shapes.rects vs v are c obeys)
+one_drawing name shapes (Refused f) (Broken vs) (other, also, obeys, is) (small, are, (v, c)) = absurd (disobeys shapes.rects vs v are c obeys)
 one_drawing name shapes (Refused f) (Unchecked g) x y = refl
 one_drawing name shapes (Refused f) (Refused g) x y = refl
 
@@ -242,4 +242,4 @@ refused_answers shapes f r small obeys is = IfOk-weaker r (λ (told : ExtractAns
 
 pub some_listed : (found : List Violation) → 0 < length found → (v : Violation) × Contains found v
 some_listed [] some = absurd (omega (arith, some))
-some_listed (v ∷ vs) some = (v, 0, omega arith, refl)
+some_listed (v ∷ vs) some = (v, (0, omega arith, refl))
