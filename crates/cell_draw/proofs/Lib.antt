@@ -21,7 +21,7 @@ mod Halves
 mod Inverter
 mod LabelPieces
 mod LabelsPlaced
-mod Names
+pub mod Names
 mod NamesPlaced
 mod NetsApart
 mod NetsBridge

@@ -2,8 +2,10 @@
 use Rattle.std.proofs.Common.{ℕ, ◌≡◌, ◌⊎◌, Bool, true, false, nat_le, if◌then◌else◌, length, arith, List, [], Option, Some, None, Result, Ok, Err, IsNone, Contains, inl, inr, refl, sym, ap, ◌∙◌, subst}
 use Rattle.cell_io.specs.Desk.{Files, View, Rose}
 use Rattle.cellgen.specs.declared.end.End.{End}
+use Rattle.cellgen.specs.declared.extract.ExtractAnswer.TheVariants as answer
+use Rattle.cellgen.specs.declared.gather.GdsCell.{GdsCell}
 use Rattle.cellgen.specs.declared.gather.Material.{Material}
-use Rattle.cellgen.specs.declared.gather.Material.TheVariants.{Planning, Making, Checking}
+use Rattle.cellgen.specs.declared.gather.Material.TheVariants.{Planning, Making, Checking, Extracting}
 use Rattle.cellgen.specs.declared.refusal.Refusal.{Refusal}
 use Rattle.cellgen.specs.declared.refusal.Refusal.TheVariants.{Unread, Long, NoMemory}
 use Rattle.cellgen.specs.declared.status.Status.{Status}
@@ -12,6 +14,7 @@ use Rattle.cellgen.specs.declared.check.CheckAnswer.TheVariants.{Accepted, Misre
 use Rattle.cellgen.specs.Check.{ChecksTo}
 use Rattle.cellgen.specs.End.{says}
 use Rattle.cellgen.specs.Ends.{CallsFor, EndsTo, MayEnd, is_among, outside_of, refusal_status, refused, settled_of}
+use Rattle.cellgen.specs.Extract.{ExtractsTo}
 use Rattle.cellgen.specs.Gather.{gathered, read_by}
 use Rattle.cellgen.specs.Inputs.{Inputs}
 use Rattle.cellgen.specs.Headline.{IsMake}
@@ -20,7 +23,7 @@ use Rattle.cellgen.specs.Make as made
 use Rattle.cellgen.specs.Plan.{PlansTo, Planned, Unfinished}
 use Rattle.cellgen.specs.Reading.{Comes, MayCome}
 use Rattle.cellgen.specs.Sources.{Source, MayRead, Lacks, file_name, most_bytes, within}
-use Rattle.cellgen.specs.Words.{CellAsked, Form, Plan, Make, Check}
+use Rattle.cellgen.specs.Words.{CellAsked, Form, Plan, Make, Check, Extract}
 use Rattle.cellgen.proofs.Gathered.{IsGathered, gathered_keeps}
 use Rattle.cellgen.proofs.Reading.{came_kept, came_told}
 
@@ -41,10 +44,18 @@ check_settled asked log inputs bytes end (Accepted gaps lemmas, h, is) = rw is r
 check_settled asked log inputs bytes end (Misread f, h, is) = rw is refl
 check_settled asked log inputs bytes end (Rejected f, h, is) = rw is refl
 
+extract_settled : (tech : Option (List ℕ)) (gds name : List ℕ) (cell : GdsCell) (end : End) → ExtractsTo cell end → is_among (settled_of (Some (Extract tech gds name))) end.status ≡ true
+extract_settled tech gds name cell end (answer.Extracted netlist, h, is) = rw is refl
+extract_settled tech gds name cell end (answer.Broken found, h, is) = rw is refl
+extract_settled tech gds name cell end (answer.Unread f, h, is) = rw is refl
+extract_settled tech gds name cell end (answer.Unchecked f, h, is) = rw is refl
+extract_settled tech gds name cell end (answer.Refused f, h, is) = rw is refl
+
 input_settled : (form : Form) → is_among (settled_of (Some form)) status.Input ≡ true
 input_settled (Plan asked) = refl
 input_settled (Make asked out) = refl
 input_settled (Check asked log) = refl
+input_settled (Extract tech gds cell) = refl
 
 -- what was gathered, or refused by its form, ends so
 settled : (form : Option Form) (got : Result Material Refusal) (end : End) → IsGathered form got → EndsTo got end → is_among (settled_of form) end.status ≡ true
@@ -54,12 +65,19 @@ settled (Some form) (Err e) end is ends = subst (λ (s : Status). is_among (sett
 settled (Some (Plan asked)) (Ok (Planning inputs)) end is ends = plan_settled asked inputs end ends
 settled (Some (Plan asked)) (Ok (Making inputs stem)) end is ends = absurd is
 settled (Some (Plan asked)) (Ok (Checking inputs bytes)) end is ends = absurd is
+settled (Some (Plan asked)) (Ok (Extracting cell)) end is ends = absurd is
 settled (Some (Make asked out)) (Ok (Planning inputs)) end is ends = absurd is
 settled (Some (Make asked out)) (Ok (Making inputs stem)) end is ends = make_settled asked out inputs stem end ends
 settled (Some (Make asked out)) (Ok (Checking inputs bytes)) end is ends = absurd is
+settled (Some (Make asked out)) (Ok (Extracting cell)) end is ends = absurd is
 settled (Some (Check asked log)) (Ok (Making inputs stem)) end is ends = absurd is
 settled (Some (Check asked log)) (Ok (Planning inputs)) end is ends = absurd is
 settled (Some (Check asked log)) (Ok (Checking inputs bytes)) end is ends = check_settled asked log inputs bytes end ends
+settled (Some (Check asked log)) (Ok (Extracting cell)) end is ends = absurd is
+settled (Some (Extract tech gds name)) (Ok (Planning inputs)) end is ends = absurd is
+settled (Some (Extract tech gds name)) (Ok (Making inputs stem)) end is ends = absurd is
+settled (Some (Extract tech gds name)) (Ok (Checking inputs bytes)) end is ends = absurd is
+settled (Some (Extract tech gds name)) (Ok (Extracting cell)) end is ends = extract_settled tech gds name cell end ends
 
 -- no form settles for a status of the desk, and the words alone are told as usage
 pub not_read : (form : Option Form) → is_among (settled_of form) status.ReadFault ≡ false
@@ -67,24 +85,28 @@ not_read None = refl
 not_read (Some (Plan asked)) = refl
 not_read (Some (Make asked out)) = refl
 not_read (Some (Check asked log)) = refl
+not_read (Some (Extract tech gds cell)) = refl
 
 pub not_written : (form : Option Form) → is_among (settled_of form) status.WriteFault ≡ false
 not_written None = refl
 not_written (Some (Plan asked)) = refl
 not_written (Some (Make asked out)) = refl
 not_written (Some (Check asked log)) = refl
+not_written (Some (Extract tech gds cell)) = refl
 
 pub not_short : (form : Option Form) → is_among (settled_of form) status.NoMemory ≡ false
 not_short None = refl
 not_short (Some (Plan asked)) = refl
 not_short (Some (Make asked out)) = refl
 not_short (Some (Check asked log)) = refl
+not_short (Some (Extract tech gds cell)) = refl
 
 pub usage_alone : (form : Option Form) → is_among (settled_of form) status.Usage ≡ true → IsNone form
 usage_alone None h = refl
 usage_alone (Some (Plan asked)) h = cc
 usage_alone (Some (Make asked out)) h = cc
 usage_alone (Some (Check asked log)) h = cc
+usage_alone (Some (Extract tech gds cell)) h = cc
 
 -- what was gathered for a form, or a refusal
 abbrev pub IsGatheredOrRefused : Option Form → Result Material Refusal → Type 0
@@ -99,16 +121,25 @@ check_alone inputs bytes end (Accepted gaps lemmas, h, is) = rw is refl
 check_alone inputs bytes end (Misread f, h, is) = rw is refl
 check_alone inputs bytes end (Rejected f, h, is) = rw is refl
 
+pub extract_alone : (cell : GdsCell) (end : End) → ExtractsTo cell end → end.files ≡ []
+extract_alone cell end (answer.Extracted netlist, h, is) = rw is refl
+extract_alone cell end (answer.Broken found, h, is) = rw is refl
+extract_alone cell end (answer.Unread f, h, is) = rw is refl
+extract_alone cell end (answer.Unchecked f, h, is) = rw is refl
+extract_alone cell end (answer.Refused f, h, is) = rw is refl
+
 -- `make` alone makes files
 pub no_files : (form : Option Form) (got : Result Material Refusal) (end : End) → (IsMake form → ⊥) → IsGatheredOrRefused form got → EndsTo got end → end.files ≡ []
 no_files form (Err e) end other how ends = rw ends refl
 no_files form (Ok (Planning inputs)) end other how ends = plan_alone inputs end ends
 no_files form (Ok (Checking inputs bytes)) end other how ends = check_alone inputs bytes end ends
+no_files form (Ok (Extracting cell)) end other how ends = extract_alone cell end ends
 no_files form (Ok (Making inputs stem)) end other (inr (e, is)) ends = cc
 no_files None (Ok (Making inputs stem)) end other (inl is) ends = absurd is
 no_files (Some (Plan asked)) (Ok (Making inputs stem)) end other (inl is) ends = absurd is
 no_files (Some (Make asked out)) (Ok (Making inputs stem)) end other (inl is) ends = absurd (other tt)
 no_files (Some (Check asked log)) (Ok (Making inputs stem)) end other (inl is) ends = absurd is
+no_files (Some (Extract tech gds cell)) (Ok (Making inputs stem)) end other (inl is) ends = absurd is
 
 -- how a call comes to what it gathers
 pub came_gathered : (old new : View) (form : Option Form) (got : Result Material Refusal) → MayCome old new (gathered form) got → IsGatheredOrRefused form got

@@ -9,16 +9,16 @@ use Rattle.spice_net.specs.declared.subckt.Subckt.{Subckt}
 use Rattle.spice_net.specs.Subcircuit.{subcircuit}
 use Rattle.finger_fold.specs.Folding.{folded}
 use Rattle.cellgen.specs.declared.gather.Material.{Material}
-use Rattle.cellgen.specs.declared.gather.Material.TheVariants.{Planning, Making, Checking}
+use Rattle.cellgen.specs.declared.gather.Material.TheVariants.{Planning, Making, Checking, Extracting}
 use Rattle.cellgen.specs.declared.refusal.Refusal.{Refusal}
 use Rattle.cellgen.specs.declared.refusal.Refusal.TheVariants.{Words, Tech, Spice, Fold}
 use Rattle.cellgen.specs.declared.status.Status.TheVariants as status
 use Rattle.cellgen.specs.Ends.{refusal_status}
-use Rattle.cellgen.specs.Gather.{gathered, input_files, inputs_from, read_by, technology_from}
+use Rattle.cellgen.specs.Gather.{extracting_over, gathered, input_files, inputs_from, read_by, tech_files, technology_from}
 use Rattle.cellgen.specs.Inputs.{inputs_in, inputs_of}
 use Rattle.cellgen.specs.Refusals.{as_refusal}
-use Rattle.cellgen.specs.Sources.{Source, TechFile, SpiceFile, LogFile}
-use Rattle.cellgen.specs.Words.{CellAsked, Form, Plan, Make, Check}
+use Rattle.cellgen.specs.Sources.{Source, TechFile, SpiceFile, LogFile, GdsFile}
+use Rattle.cellgen.specs.Words.{CellAsked, Form, Plan, Make, Check, Extract}
 use Rattle.cellgen.proofs.Reading.{Keeps, keeps_on}
 use Rattle.cellgen.proofs.Results.{err_behind}
 
@@ -62,6 +62,7 @@ abbrev pub IsMaterialOf : Form → Material → Type 0
 IsMaterialOf (Plan asked) (Planning inputs) = Unit {0}
 IsMaterialOf (Make asked out) (Making inputs stem) = Unit {0}
 IsMaterialOf (Check asked log) (Checking inputs bytes) = Unit {0}
+IsMaterialOf (Extract tech gds name) (Extracting cell) = Unit {0}
 IsMaterialOf _ _ = ⊥
 
 abbrev pub IsGathered : Option Form → Result Material Refusal → Type 0
@@ -73,6 +74,13 @@ IsGathered (Some form) (Err e) = IsInputFault e
 log_there : (file : Option (List ℕ)) (spice log : List ℕ) → Contains (input_files file spice ++ LogFile log ∷ []) (LogFile log)
 log_there None spice log = (1, omega arith, refl)
 log_there (Some name) spice log = (2, omega arith, refl)
+
+gds_tech_there : (file : Option (List ℕ)) (gds name : List ℕ) → file ≡ Some name → Contains (tech_files file ++ GdsFile gds ∷ []) (TechFile name)
+gds_tech_there file gds name is = rw is (0, omega arith, refl)
+
+gds_there : (file : Option (List ℕ)) (gds : List ℕ) → Contains (tech_files file ++ GdsFile gds ∷ []) (GdsFile gds)
+gds_there None gds = (0, omega arith, refl)
+gds_there (Some name) gds = (1, omega arith, refl)
 
 pub gathered_keeps : (form : Option Form) → Keeps (λ source. Contains (read_by form) source) (IsGathered form) (gathered form)
 gathered_keeps None = refl
@@ -90,4 +98,9 @@ gathered_keeps (Some (Check asked log)) =
     keeps_on (λ source. Contains (read_by (Some (Check asked log))) source) IsInputs (IsGathered (Some (Check asked log))) (inputs_from asked) _
     (inputs_keep (λ source. Contains (read_by (Some (Check asked log))) source) asked (λ source there. Contains-append_left (input_files asked.tech asked.spice) (LogFile log ∷ []) source there))
     (λ inputs is. (log_there asked.tech asked.spice log, λ bytes. tt))
+    (λ e is. is)
+gathered_keeps (Some (Extract tech gds name)) =
+    keeps_on (λ source. Contains (read_by (Some (Extract tech gds name))) source) IsInputs (IsGathered (Some (Extract tech gds name))) (technology_from tech) (extracting_over gds name)
+    (tech_keeps (λ source. Contains (read_by (Some (Extract tech gds name))) source) tech (gds_tech_there tech gds))
+    (λ read is. (gds_there tech gds, λ bytes. tt))
     (λ e is. is)

@@ -3,6 +3,8 @@ pub mod Checked
 pub mod Delivered
 pub mod Desks
 pub mod Ends
+pub mod ExtractTold
+pub mod Extracted
 pub mod Gathered
 pub mod LeastLines
 pub mod MadeFiles

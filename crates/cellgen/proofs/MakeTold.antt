@@ -12,7 +12,7 @@ use Rattle.row_model.specs.declared.column.Column.{Column}
 use Rattle.channel_route.proofs.Stuck.{cycle_is}
 use Rattle.cellgen.specs.declared.end.End.{End}
 use Rattle.cellgen.specs.declared.gather.Material.{Material}
-use Rattle.cellgen.specs.declared.gather.Material.TheVariants.{Planning, Making, Checking}
+use Rattle.cellgen.specs.declared.gather.Material.TheVariants.{Planning, Making, Checking, Extracting}
 use Rattle.cellgen.specs.declared.refusal.Refusal.{Refusal}
 use Rattle.cellgen.specs.declared.refusal.Refusal.TheVariants.{Words, Unread, Long, Tech, Spice, Fold, NoMemory}
 use Rattle.cellgen.specs.declared.status.Status.{Status}
@@ -27,9 +27,9 @@ use Rattle.cellgen.specs.Inputs.{Inputs}
 use Rattle.cellgen.specs.Make.{MakesTo}
 use Rattle.cellgen.specs.Make as made
 use Rattle.cellgen.specs.Reading.{called}
-use Rattle.cellgen.specs.Words.{Form, Plan, Make, Check}
+use Rattle.cellgen.specs.Words.{Form, Plan, Make, Check, Extract}
 use Rattle.cellgen.proofs.Delivered.{none_made}
-use Rattle.cellgen.proofs.Ends.{check_alone, plan_alone}
+use Rattle.cellgen.proofs.Ends.{check_alone, extract_alone, plan_alone}
 use Rattle.cellgen.proofs.Gathered.{IsGathered}
 use Rattle.cellgen.proofs.MadeFiles.{both_made, log_made}
 use Rattle.cellgen.proofs.Telling.{Answers, Completes, gathered_so}
@@ -80,8 +80,10 @@ make_gathered : (form : Option Form) (material : Material) → IsMake form → I
 make_gathered None material make h = absurd make
 make_gathered (Some (Plan asked)) material make h = absurd make
 make_gathered (Some (Check asked log)) material make h = absurd make
+make_gathered (Some (Extract tech gds name)) material make h = absurd make
 make_gathered (Some (Make asked out)) (Planning inputs) make h = absurd h
 make_gathered (Some (Make asked out)) (Checking inputs bytes) make h = absurd h
+make_gathered (Some (Make asked out)) (Extracting cell) make h = absurd h
 make_gathered (Some (Make asked out)) (Making inputs stem) make h = (inputs, stem, refl)
 
 told_so : (files : Files) (form : Option Form) (end : End) (answer : Status) (old new : View) (got : Result Material Refusal) → IsMake form → IsOfMake answer → called files (gathered form) ≡ got → IsGathered form got ⊎ ((e : Refusal) × (got ≡ Err e)) → EndsTo got end → TellsWhole end answer old new → IsMakeTold files form answer old new
@@ -306,6 +308,7 @@ alone : (got : Result Material Refusal) (end : End) → EndsTo got end → Makes
 alone (Err e) end ends none = ap (λ (x : End). x.files) ends
 alone (Ok (Planning inputs)) end ends none = plan_alone inputs end ends
 alone (Ok (Checking inputs bytes)) end ends none = check_alone inputs bytes end ends
+alone (Ok (Extracting cell)) end ends none = extract_alone cell end ends
 alone (Ok (Making inputs out)) end ends none = absurd (make_makes inputs out end ends none)
 
 no_made : (a c : View) (end : End) → end.files ≡ [] → Both (MakesAll end.files) a.made c.made → c.made ≡ a.made

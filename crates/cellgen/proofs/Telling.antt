@@ -5,7 +5,7 @@ use Rattle.cell_io.specs.Desk.{Files, View, Both, ForSome, AddsPart, OnlyReads, 
 use Rattle.cellgen.specs.declared.end.End.{End}
 use Rattle.cellgen.specs.declared.end.Output.{Output}
 use Rattle.cellgen.specs.declared.gather.Material.{Material}
-use Rattle.cellgen.specs.declared.gather.Material.TheVariants.{Planning, Making, Checking}
+use Rattle.cellgen.specs.declared.gather.Material.TheVariants.{Planning, Making, Checking, Extracting}
 use Rattle.cellgen.specs.declared.refusal.Refusal.{Refusal}
 use Rattle.cellgen.specs.declared.refusal.Refusal.TheVariants.{Words, Unread, Long, Tech, Spice, Fold, NoMemory}
 use Rattle.cellgen.specs.declared.status.Status.{Status}
@@ -20,7 +20,7 @@ use Rattle.cellgen.specs.Headline.{IsMake}
 use Rattle.cellgen.specs.Plan.{HasEnough}
 use Rattle.cellgen.specs.Reading.{called}
 use Rattle.cellgen.specs.Sources.{Lacks, held}
-use Rattle.cellgen.specs.Words.{Form, Plan, Make, Check}
+use Rattle.cellgen.specs.Words.{Form, Plan, Make, Check, Extract}
 use Rattle.cellgen.proofs.Checked.{done_holds, holds_done}
 use Rattle.cellgen.proofs.Delivered.{none_begun, none_made}
 use Rattle.cellgen.proofs.Desks.{came_between}
@@ -220,6 +220,8 @@ done_check files form end (Ok material) check is (inr (e, wrong)) ends done = cc
 done_check files None end (Ok material) check is (inl h) ends done = absurd check
 done_check files (Some (Plan asked)) end (Ok material) check is (inl h) ends done = absurd check
 done_check files (Some (Make asked out)) end (Ok material) check is (inl h) ends done = absurd check
+done_check files (Some (Extract tech gds name)) end (Ok material) check is (inl h) ends done = absurd check
+done_check files (Some (Check asked log)) end (Ok (Extracting cell)) check is (inl h) ends done = absurd h
 done_check files (Some (Check asked log)) end (Ok (Making inputs stem)) check is (inl h) ends done = absurd h
 done_check files (Some (Check asked log)) end (Ok (Planning inputs)) check is (inl h) ends done = absurd h
 done_check files (Some (Check asked log)) end (Ok (Checking inputs bytes)) check is (inl h) ends done =

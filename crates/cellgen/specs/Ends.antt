@@ -4,13 +4,14 @@ use Rattle.std.specs.List.{list_any}
 use Rattle.cell_io.specs.Desk.{Files, View}
 use Rattle.cellgen.specs.declared.end.End.{End}
 use Rattle.cellgen.specs.declared.gather.Material.{Material}
-use Rattle.cellgen.specs.declared.gather.Material.TheVariants.{Planning, Making, Checking}
+use Rattle.cellgen.specs.declared.gather.Material.TheVariants.{Planning, Making, Checking, Extracting}
 use Rattle.cellgen.specs.declared.refusal.Refusal.{Refusal}
 use Rattle.cellgen.specs.declared.refusal.Refusal.TheVariants.{Words, Unread, Long, Tech, Spice, Fold, NoMemory}
 use Rattle.cellgen.specs.declared.status.Status.{Status}
 use Rattle.cellgen.specs.declared.status.Status.TheVariants as status
 use Rattle.cellgen.specs.Check.{ChecksTo}
 use Rattle.cellgen.specs.End.{says}
+use Rattle.cellgen.specs.Extract.{ExtractsTo}
 use Rattle.cellgen.specs.Faults.{fault_line, tech_fault, spice_fault, fold_fault}
 use Rattle.cellgen.specs.Gather.{gathered}
 use Rattle.cell_num.specs.Lines.{text_line}
@@ -18,7 +19,7 @@ use Rattle.cellgen.specs.Make.{MakesTo}
 use Rattle.cellgen.specs.Plan.{PlansTo}
 use Rattle.cellgen.specs.Reading.{called, MayCome}
 use Rattle.cellgen.specs.Status.{number_of}
-use Rattle.cellgen.specs.Words.{Form, Plan, Make, Check}
+use Rattle.cellgen.specs.Words.{Form, Plan, Make, Check, Extract}
 
 -- ---- a step that refuses
 
@@ -32,7 +33,9 @@ refusal_status (Fold f) = status.Input
 refusal_status NoMemory = status.NoMemory
 
 abbrev pub refusal_text : Refusal → List ℕ
-refusal_text Words = codes "status 1 usage\nplan TECH SPICE CELL\nmake TECH SPICE CELL OUT\ncheck TECH SPICE CELL LOG\n"
+refusal_text Words =
+    codes "status 1 usage\nplan TECH SPICE CELL\nmake TECH SPICE CELL OUT\n"
+    ++ codes "check TECH SPICE CELL LOG\nextract TECH GDS CELL\n"
 refusal_text (Unread name) = text_line (codes "status 2 read ") name
 refusal_text (Long name) = text_line (codes "status 10 long ") name
 refusal_text (Tech f) = codes "status 4 input\n" ++ fault_line (codes "tech") (tech_fault f)
@@ -50,6 +53,7 @@ abbrev pub WorksTo : Material → End → Type 0
 WorksTo (Planning inputs) end = PlansTo inputs end
 WorksTo (Making inputs out) end = MakesTo inputs out end
 WorksTo (Checking inputs log) end = ChecksTo inputs log end
+WorksTo (Extracting cell) end = ExtractsTo cell end
 
 -- it was gathered, or a step refused
 abbrev pub EndsTo : Result Material Refusal → End → Type 0
@@ -69,13 +73,14 @@ MayEnd old new form end = (got : Result Material Refusal) × MayCome old new (ga
 abbrev pub is_among : List Status → Status → Bool
 is_among listed answer = list_any (λ other. number_of other == number_of answer) listed
 
--- what the words or the files call for: a search alone is unfinished, a log alone is rejected, and a drawing alone
--- meets a cycle or is too tall
+-- what the words or the files call for: a search alone is unfinished, a making alone meets a cycle or is too tall,
+-- a log or a layout alone is rejected, and a GDSII file alone holds no netlist
 abbrev pub settled_of : Option Form → List Status
 settled_of None = status.Usage ∷ []
 settled_of (Some (Plan asked)) = status.Done ∷ status.Input ∷ status.Unfinished ∷ []
 settled_of (Some (Make asked out)) = status.Done ∷ status.Input ∷ status.Cycle ∷ status.Unfinished ∷ status.TooTall ∷ []
 settled_of (Some (Check asked log)) = status.Done ∷ status.Input ∷ status.Rejected ∷ []
+settled_of (Some (Extract tech gds cell)) = status.Done ∷ status.Input ∷ status.Rejected ∷ status.Layout ∷ []
 
 -- what a file or the desk may bring about
 abbrev pub outside_of : Option Form → List Status

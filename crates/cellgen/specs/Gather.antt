@@ -1,7 +1,8 @@
 -- What the forms read, in order, and what they then work on.
 use Rattle.std.specs.Prelude.{ℕ, List, [], ◌∷◌, ◌++◌, Option, Some, None, Ok, Err}
+use Rattle.cellgen.specs.declared.gather.GdsCell.{GdsCell}
 use Rattle.cellgen.specs.declared.gather.Material.{Material}
-use Rattle.cellgen.specs.declared.gather.Material.TheVariants.{Planning, Making, Checking}
+use Rattle.cellgen.specs.declared.gather.Material.TheVariants.{Planning, Making, Checking, Extracting}
 use Rattle.cellgen.specs.declared.refusal.Refusal.TheVariants.{Words, Tech}
 use Rattle.cell_num.specs.Names.{lowered}
 use Rattle.tech_file.specs.Technology.{Technology, plain}
@@ -9,8 +10,8 @@ use Rattle.tech_file.specs.Reading.{technology}
 use Rattle.cellgen.specs.Inputs.{Inputs, inputs_in}
 use Rattle.cellgen.specs.Refusals.{as_refusal}
 use Rattle.cellgen.specs.Reading.{Reading, Ends, bytes_of, ◌>>=◌}
-use Rattle.cellgen.specs.Sources.{Source, TechFile, SpiceFile, LogFile}
-use Rattle.cellgen.specs.Words.{CellAsked, Form, Plan, Make, Check}
+use Rattle.cellgen.specs.Sources.{Source, TechFile, SpiceFile, LogFile, GdsFile}
+use Rattle.cellgen.specs.Words.{CellAsked, Form, Plan, Make, Check, Extract}
 
 abbrev pub technology_in : List ℕ → Reading Technology
 technology_in bytes = Ends (as_refusal Tech (technology bytes))
@@ -42,13 +43,28 @@ checking_over log inputs = bytes_of (LogFile log) >>= λ bytes. Ends (Ok (Checki
 abbrev pub checking : CellAsked → List ℕ → Reading Material
 checking asked log = inputs_from asked >>= checking_over log
 
+abbrev pub gds_cell : Technology → List ℕ → List ℕ → GdsCell
+gds_cell tech name bytes = record { tech = tech; name = name; bytes = bytes }
+
+abbrev pub extracting_over : List ℕ → List ℕ → Technology → Reading Material
+extracting_over gds cell tech = bytes_of (GdsFile gds) >>= λ bytes. Ends (Ok (Extracting (gds_cell tech cell bytes)))
+
+-- the technology, and then the GDSII file
+abbrev pub extracting : Option (List ℕ) → List ℕ → List ℕ → Reading Material
+extracting tech gds cell = technology_from tech >>= extracting_over gds cell
+
 abbrev pub gathered : Option Form → Reading Material
 gathered None = Ends (Err Words)
 gathered (Some (Plan asked)) = planning asked
 gathered (Some (Make asked out)) = making asked out
 gathered (Some (Check asked log)) = checking asked log
+gathered (Some (Extract tech gds cell)) = extracting tech gds cell
 
 -- the files that a form comes to read, in order
+abbrev pub tech_files : Option (List ℕ) → List Source
+tech_files None = []
+tech_files (Some tech) = TechFile tech ∷ []
+
 abbrev pub input_files : Option (List ℕ) → List ℕ → List Source
 input_files None spice = SpiceFile spice ∷ []
 input_files (Some tech) spice = TechFile tech ∷ SpiceFile spice ∷ []
@@ -58,3 +74,4 @@ read_by None = []
 read_by (Some (Plan asked)) = input_files asked.tech asked.spice
 read_by (Some (Make asked out)) = input_files asked.tech asked.spice
 read_by (Some (Check asked log)) = input_files asked.tech asked.spice ++ LogFile log ∷ []
+read_by (Some (Extract tech gds cell)) = tech_files tech ++ GdsFile gds ∷ []

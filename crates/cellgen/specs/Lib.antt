@@ -3,11 +3,13 @@ pub mod Check
 pub mod Deliver
 pub mod End
 pub mod Ends
+pub mod Extract
 pub mod Faults
 pub mod Fields
 pub mod Gather
 pub mod Headline
 pub mod Inputs
+pub mod LayoutFaults
 pub mod Make
 pub mod MakeReport
 pub mod Plan

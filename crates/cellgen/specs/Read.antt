@@ -5,13 +5,14 @@ use Rattle.cellgen.specs.declared.read.Source.{Source as Asked}
 use Rattle.cellgen.specs.declared.read.Source.TheVariants as asked
 use Rattle.cellgen.specs.declared.refusal.Refusal.{Refusal}
 use Rattle.cellgen.specs.declared.refusal.Refusal.TheVariants.{NoMemory}
-use Rattle.cellgen.specs.Sources.{Source, TechFile, SpiceFile, LogFile, MayRead}
+use Rattle.cellgen.specs.Sources.{Source, TechFile, SpiceFile, LogFile, GdsFile, MayRead}
 
 -- the program's source, by its text
 abbrev pub named : Asked → Source
 named (asked.Tech name) = TechFile name.now
 named (asked.Spice name) = SpiceFile name.now
 named (asked.Log name) = LogFile name.now
+named (asked.Gds name) = GdsFile name.now
 
 -- it was read so, or memory ran out
 abbrev pub IsRead : View → View → Source → Result (List ℕ) Refusal → Type 0

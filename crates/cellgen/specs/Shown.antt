@@ -1,4 +1,5 @@
 -- The program's form of a call, by its texts.
+use Rattle.std.specs.Prelude.{option_map}
 use Rattle.cellgen.specs.declared.form.Form.{Form}
 use Rattle.cellgen.specs.declared.form.Form.TheVariants as read
 use Rattle.cellgen.specs.Words as words
@@ -7,3 +8,4 @@ abbrev pub shown : Form → words.Form
 shown (read.Plan cell) = words.Plan cell
 shown (read.Make cell out) = words.Make cell out.now
 shown (read.Check cell log) = words.Check cell log.now
+shown (read.Extract tech gds cell) = words.Extract (option_map (λ name. name.now) tech) gds.now cell.now

@@ -13,11 +13,13 @@ pub record CellAsked : Type 0 where
   pub spice : List ℕ
   pub cell : List ℕ
 
--- what a call asks for: `plan TECH SPICE CELL`, `make TECH SPICE CELL OUT` or `check TECH SPICE CELL LOG`
+-- what a call asks for: `plan TECH SPICE CELL`, `make TECH SPICE CELL OUT`, `check TECH SPICE CELL LOG`, or
+-- `extract TECH GDS CELL`, whose technology is none for the plain one
 pub data Form : Type 0 where
   Plan : (cell : CellAsked) → Form
   Make : (cell : CellAsked) (out : List ℕ) → Form
   Check : (cell : CellAsked) (log : List ℕ) → Form
+  Extract : (tech : Option (List ℕ)) (gds cell : List ℕ) → Form
 
 -- a letter, a digit, `_`, `$` or `?`
 abbrev pub is_cell_byte : ℕ → Bool
@@ -53,6 +55,10 @@ abbrev pub check_of : List (List ℕ) → Option Form
 check_of (tech ∷ spice ∷ cell ∷ log ∷ []) = if is_file log then option_map (λ asked. Check asked log) (cell_of tech spice cell) else None
 check_of _ = None
 
+abbrev pub extract_of : List (List ℕ) → Option Form
+extract_of (tech ∷ gds ∷ cell ∷ []) = if is_file tech && is_file gds && is_cell cell then Some (Extract (tech_of tech) gds cell) else None
+extract_of _ = None
+
 -- the form of some words, told by the command first; None where they have none
 abbrev pub form_of : List (List ℕ) → Option Form
 form_of [] = None
@@ -60,6 +66,7 @@ form_of (command ∷ rest) =
     if bytes_eq command (codes "plan") then plan_of rest
     else if bytes_eq command (codes "make") then make_of rest
     else if bytes_eq command (codes "check") then check_of rest
+    else if bytes_eq command (codes "extract") then extract_of rest
     else None
 
 abbrev pub asked : List (String Global) → Option Form

@@ -3,7 +3,7 @@ ghost use Rattle.std.specs.List.{list_all};
 ghost use Rattle.cell_num.specs.Names.{lowered};
 ghost use Rattle.bound_log.specs.Fits.{IsLogName};
 ghost use Rattle.cellgen.specs.Shown.{shown};
-ghost use Rattle.cellgen.specs.Words.{texts, is_cell_byte, is_cell, is_file, tech_of, cell_of, plan_of, make_of, check_of, form_of, asked};
+ghost use Rattle.cellgen.specs.Words.{texts, is_cell_byte, is_cell, is_file, tech_of, cell_of, plan_of, make_of, check_of, extract_of, form_of, asked};
 
 use cell_num::{Name, NoMemory, lower};
 use std::alloc::Global;
@@ -48,11 +48,25 @@ impl<'a> CellAsked<'a> {
 #[derive(Drop)]
 pub enum Form<'a> {
     /// The first least row of a cell.
-    Plan { cell: CellAsked<'a> },
+    Plan {
+        cell: CellAsked<'a>,
+    },
     /// The drawing of a cell, in files whose names begin so.
-    Make { cell: CellAsked<'a>, out: &'a str },
+    Make {
+        cell: CellAsked<'a>,
+        out: &'a str,
+    },
     /// Whether a log certifies a row of a cell.
-    Check { cell: CellAsked<'a>, log: &'a str },
+    Check {
+        cell: CellAsked<'a>,
+        log: &'a str,
+    },
+    /// The netlist of a cell of a GDSII file; no technology's file is the plain technology.
+    Extract {
+        tech: Option<&'a str>,
+        gds: &'a str,
+        cell: &'a str,
+    },
 }
 
 /// The most bytes of a cell's name.
@@ -149,6 +163,24 @@ fn check_of(words: &[String]) -> Option<Form<'_>>
     }
 }
 
+// The form of the words behind `extract`.
+fn extract_of(words: &[String]) -> Option<Form<'_>>
+    ensures { option_map shown result ≡ extract_of (texts words.now) }
+{
+    let [tech, gds, cell] = words else {
+        return None;
+    };
+    if !tech.is_empty() && !gds.is_empty() && is_cell(cell.as_str()) {
+        Some(Form::Extract {
+            tech: tech_of(tech.as_str()),
+            gds: gds.as_str(),
+            cell: cell.as_str(),
+        })
+    } else {
+        None
+    }
+}
+
 /// The form of the words, told by the command first, or None where they have none of the listed forms.
 pub fn form_of(words: &[String]) -> Option<Form<'_>>
     ensures { option_map shown result ≡ asked words.now }
@@ -158,6 +190,7 @@ pub fn form_of(words: &[String]) -> Option<Form<'_>>
         "plan" => plan_of(rest),
         "make" => make_of(rest),
         "check" => check_of(rest),
+        "extract" => extract_of(rest),
         _ => None,
     }
 }

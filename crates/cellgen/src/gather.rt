@@ -1,16 +1,37 @@
-ghost use Rattle.std.specs.Prelude.{option_map};
+ghost use Rattle.std.specs.Prelude.{◌≡◌, ◌≤◌, option_map};
 ghost use Rattle.cell_io.specs.Desk.{OnlyReads};
-ghost use Rattle.cellgen.specs.Gather.{gathered, planning, making, checking, checking_over};
+ghost use Rattle.cellgen.specs.Gather.{gathered, planning, making, checking, checking_over, extracting, extracting_over};
 ghost use Rattle.cellgen.specs.Reading.{MayCome};
 ghost use Rattle.cellgen.specs.Shown.{shown};
 
 use crate::form::{CellAsked, Form};
-use crate::inputs::{Inputs, read_inputs};
+use crate::inputs::{Inputs, read_inputs, read_technology};
 use crate::read::{FileBytes, Source, read_file};
 use crate::refusal::Refusal;
 use crate::stem::Stem;
 use cell_io::Desk;
+use cell_num::{Name, copy};
 use std::alloc::Global;
+use tech_file::Tech;
+
+/// A cell of a GDSII file: the technology, the cell's name as it stands there, and the file's bytes.
+#[derive(Drop)]
+pub struct GdsCell {
+    pub tech: Tech,
+    pub name: Name,
+    pub bytes: FileBytes,
+}
+
+impl GdsCell {
+    /// Lambda in nanometres.
+    pub fn lambda_nm(&self) -> u32
+        ensures is { result ≡ self.now.tech.lambda_nm }
+        ensures some { 1 ≤ result }
+    {
+        self.tech.show_limits();
+        self.tech.lambda_nm
+    }
+}
 
 /// What a command works on.
 #[derive(Drop)]
@@ -20,6 +41,7 @@ pub enum Material {
     Making(Inputs, Stem),
     /// The inputs, and the bytes of a log.
     Checking(Inputs, FileBytes),
+    Extracting(GdsCell),
 }
 
 fn with_log<D: Desk>(
@@ -74,6 +96,36 @@ fn for_check<D: Desk>(
     with_log(alloc, desk, inputs, log)
 }
 
+fn with_gds<D: Desk>(
+    alloc: Global,
+    desk: &mut D,
+    tech: Tech,
+    gds: &str,
+    cell: &str,
+) -> Result<Material, Refusal>
+    ensures comes { MayCome (D.view desk.old) (D.view desk.new) (extracting_over gds.now cell.now tech) result }
+    ensures only { OnlyReads (D.view desk.old) (D.view desk.new) }
+{
+    let name = copy(alloc, cell.as_bytes())?;
+    let bytes = read_file(alloc, desk, Source::Gds(gds))?;
+    Ok(Material::Extracting(GdsCell { tech, name, bytes }))
+}
+
+fn for_extract<D: Desk>(
+    alloc: Global,
+    desk: &mut D,
+    tech: Option<&str>,
+    gds: &str,
+    cell: &str,
+) -> Result<Material, Refusal>
+    ensures comes { MayCome (D.view desk.old) (D.view desk.new)
+        (extracting (option_map (λ name. name.now) tech.entry) gds.now cell.now) result }
+    ensures only { OnlyReads (D.view desk.old) (D.view desk.new) }
+{
+    let tech = read_technology(alloc, desk, tech)?;
+    with_gds(alloc, desk, tech, gds, cell)
+}
+
 /// Reads what the form asks for, up to the first step that refuses.
 pub fn gather<D: Desk>(
     alloc: Global,
@@ -87,6 +139,7 @@ pub fn gather<D: Desk>(
         Some(Form::Plan { cell }) => for_plan(alloc, desk, &cell),
         Some(Form::Make { cell, out }) => for_make(alloc, desk, &cell, out),
         Some(Form::Check { cell, log }) => for_check(alloc, desk, &cell, log),
+        Some(Form::Extract { tech, gds, cell }) => for_extract(alloc, desk, tech, gds, cell),
         None => Err(Refusal::Words),
     }
 }

@@ -92,8 +92,8 @@ fn read_tech_file<D: Desk>(alloc: Global, desk: &mut D, name: &str) -> Result<Te
     technology_in(alloc, bytes.as_slice())
 }
 
-// The technology of a file, or the plain one.
-fn read_technology<D: Desk>(
+/// The technology of a file, or the plain one.
+pub fn read_technology<D: Desk>(
     alloc: Global,
     desk: &mut D,
     file: Option<&str>,

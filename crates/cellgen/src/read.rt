@@ -40,13 +40,14 @@ pub enum Source<'a> {
     Tech(&'a str),
     Spice(&'a str),
     Log(&'a str),
+    Gds(&'a str),
 }
 
 fn file_name(source: Source<'_>) -> &str
     ensures { result.now ≡ file_name (named source.entry) }
 {
     match source {
-        Source::Tech(name) | Source::Spice(name) | Source::Log(name) => name,
+        Source::Tech(name) | Source::Spice(name) | Source::Log(name) | Source::Gds(name) => name,
     }
 }
 
@@ -57,6 +58,7 @@ fn most_bytes(source: Source<'_>) -> u64
     match source {
         Source::Tech(_) | Source::Spice(_) => 4_194_304,
         Source::Log(_) => 536_870_912,
+        Source::Gds(_) => 67_108_864,
     }
 }
 

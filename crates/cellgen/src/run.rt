@@ -6,6 +6,7 @@ ghost use Rattle.cellgen.specs.Calm.{IfCalm, IsDoneOrShort};
 ghost use Rattle.cellgen.specs.Check.{HoldsAcceptedLog, IsCheck};
 ghost use Rattle.cellgen.specs.Deliver.{Tells, TellsWhole};
 ghost use Rattle.cellgen.specs.Ends.{CallsFor, IsOfOutside, MayEnd, is_status_of};
+ghost use Rattle.cellgen.specs.Extract.{BreaksRule, HasLayoutFault, HasNetlist, IsBrokenCell, IsExtractedCell, IsRefusedCell, OfGdsCell, WhereExtractEnds};
 ghost use Rattle.cellgen.specs.Gather.{read_by};
 ghost use Rattle.cellgen.specs.Headline.{CanBeDrawn, FromInputs, HasCycle, IsCyclicCell, IsMadeCell, IsMake, IsOrShort, IsSpentSearch, IsTallCell, IsTooHigh, MakesNone, OfFirstLeast, WhereMakeEnds};
 ghost use Rattle.cellgen.specs.Plan.{HasEnough};
@@ -50,7 +51,8 @@ fn prepare<D: Desk>(alloc: Global, words: &[String], desk: &mut D) -> End
 /// `plan TECH SPICE CELL` finds the first least row of a cell: TECH is a technology file or `-` for the
 /// plain technology, SPICE a file, and CELL the name of one of its subcircuits. `make TECH SPICE CELL OUT`
 /// draws that row: it makes the log `OUT.clog` and then the GDSII library `OUT.gds`. `check TECH SPICE CELL LOG`
-/// tells whether the file LOG is the text of a log that certifies a row of that cell.
+/// tells whether the file LOG is the text of a log that certifies a row of that cell. `extract TECH GDS CELL` tells
+/// the netlist of a cell of the GDSII file GDS, or the rules that it breaks.
 ///
 /// All memory that is not the desk's own is taken before the first file is made.
 pub fn run<D: Desk>(alloc: Global, words: &[String], desk: &mut D) -> Status
@@ -125,6 +127,23 @@ pub fn run<D: Desk>(alloc: Global, words: &[String], desk: &mut D) -> Status
         → IsOfOutside result ⊎ (result ≡ status.Done ↔ HoldsAcceptedLog files (asked words.now))) }
     ensures accepts { IfCalm (D.view desk.old) (D.view desk.new) (λ files.
         HoldsAcceptedLog files (asked words.now) → IsDoneOrShort result) }
+
+    // What `extract` tells: the netlist of a cell that obeys all rules; or all rules that it breaks; or why the file
+    // has no cell to check, or the cell no netlist.
+    ensures extracted { IfSome (D.view desk.old).given (λ files. WhereExtractEnds files (asked words.now) result
+        status.Done (λ cell. IsExtractedCell cell (D.view desk.old) (D.view desk.new))) }
+    ensures broken { IfSome (D.view desk.old).given (λ files. WhereExtractEnds files (asked words.now) result
+        status.Rejected (λ cell. IsBrokenCell cell (D.view desk.old) (D.view desk.new))) }
+    ensures refused { IfSome (D.view desk.old).given (λ files. WhereExtractEnds files (asked words.now) result
+        status.Layout (λ cell. IsRefusedCell cell (D.view desk.old) (D.view desk.new))) }
+
+    // Where neither reading nor writing failed, it ends so exactly where the cell calls for it, or memory ran out.
+    ensures extracts { IfCalm (D.view desk.old) (D.view desk.new) (λ files.
+        OfGdsCell files (asked words.now) HasNetlist → IsOrShort status.Done result) }
+    ensures breaks { IfCalm (D.view desk.old) (D.view desk.new) (λ files.
+        OfGdsCell files (asked words.now) BreaksRule → IsOrShort status.Rejected result) }
+    ensures refuses { IfCalm (D.view desk.old) (D.view desk.new) (λ files.
+        OfGdsCell files (asked words.now) HasLayoutFault → IsOrShort status.Layout result) }
 {
     let end = prepare(alloc, words, desk);
     deliver(desk, &end)

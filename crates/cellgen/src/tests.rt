@@ -1,4 +1,5 @@
 mod cells;
+mod extract;
 mod make;
 
 use crate::deliver::deliver;
@@ -20,8 +21,12 @@ MN y a gnd gnd n W=1.5u L=0.6u
 const ROW: &str =
     "status 0 ok\ncell inv\ncolumns 1\ngaps 0\nwidth 1\ncolumn 0 gate a p y vdd 20 n y gnd 10\n";
 
-const USAGE: &str =
-    "status 1 usage\nplan TECH SPICE CELL\nmake TECH SPICE CELL OUT\ncheck TECH SPICE CELL LOG\n";
+const USAGE: &str = "status 1 usage
+plan TECH SPICE CELL
+make TECH SPICE CELL OUT
+check TECH SPICE CELL LOG
+extract TECH GDS CELL
+";
 
 fn name_of(alloc: Global, text: &str) -> Result<Name, Fail> {
     Ok(List::from_vec(text.as_bytes().to_vec(alloc)?))

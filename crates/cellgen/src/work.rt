@@ -3,6 +3,7 @@ ghost use Rattle.cellgen.specs.Ends.{WorksTo};
 
 use crate::check::check;
 use crate::end::End;
+use crate::extract::extract;
 use crate::gather::Material;
 use crate::make::make;
 use crate::plan::plan;
@@ -17,5 +18,6 @@ pub fn work(alloc: Global, material: &Material) -> Result<End, NoMemory>
         Material::Planning(inputs) => plan(alloc, inputs),
         Material::Making(inputs, stem) => make(alloc, inputs, stem),
         Material::Checking(inputs, log) => check(alloc, inputs, log.as_slice()),
+        Material::Extracting(cell) => extract(alloc, cell),
     }
 }

@@ -13,7 +13,7 @@ use Rattle.box_geom.specs.declared.shape.Shape.{Shape}
 use Rattle.scmos_rules.specs.Failing.{IsEmpty}
 use Rattle.scmos_rules.specs.Regions.{AreCells}
 use Rattle.scmos_rules.specs.Rules.{Fails}
-use Rattle.scmos_rules.specs.Violations.{StandsBefore, AreBroken, IsVerdict}
+use Rattle.scmos_rules.specs.Violations.{StandsBefore, AreBroken, IsVerdict, Lists}
 use Rattle.std.proofs.lemmas.List.{take_more, append-nil}
 use Rattle.scmos_rules.specs.declared.number.RuleNo.{RuleNo}
 use Rattle.scmos_rules.specs.declared.number.RuleNo.TheVariants.{N1_1}
@@ -39,7 +39,7 @@ one_first P x y s t f g =
     record { across = omega (arith, ints); upward = omega (arith, ints) }
 
 pub none_broken : (d : Deck) (s : List Shape) → AreBroken d s [] []
-none_broken d s = record { listed = λ v. (λ c. absurd (contains_none v c), λ (c, f). absurd (contains_none v.rule c)); order = pairs_none (λ (v w : Violation). StandsBefore [] v.rule w.rule) }
+none_broken d s = record { listed = λ v. (λ c. absurd (contains_none v c), λ (c, f). absurd (contains_none v.rule c)); order = pairs_none (λ (v w : Violation). StandsBefore [] v.rule w.rule); each = λ rule c. absurd (contains_none rule c) }
 
 get_left : (xs ys : List RuleNo) (i : ℕ) (x : RuleNo) → slice_get xs i ≡ Some x → slice_get (xs ++ ys) i ≡ Some x
 get_left [] ys i x e = absurd (cc e)
@@ -67,8 +67,12 @@ pairs_more : (rules : List RuleNo) (r : RuleNo) (vs : List Violation) → AllPai
 pairs_more rules r vs p i j d lt within = more_before rules r _ _ (p i j d lt within)
 
 kept : (d : Deck) (s : List Shape) (rules : List RuleNo) (r : RuleNo) (vs : List Violation) → AreBroken d s rules vs → IsEmpty (Fails d r s) → AreBroken d s (rules ++ r ∷ []) vs
-kept d s rules r vs b none = record { listed = λ v. (λ c. let k = (b.listed v).0 c in (Contains-append_left rules (r ∷ []) v.rule k.0, k.1), λ (c, f). back v f (Contains-append_cases rules (r ∷ []) v.rule c)); order = pairs_more rules r vs b.order }
+kept d s rules r vs b none = record { listed = λ v. (λ c. let k = (b.listed v).0 c in (Contains-append_left rules (r ∷ []) v.rule k.0, k.1), λ (c, f). back v f (Contains-append_cases rules (r ∷ []) v.rule c)); order = pairs_more rules r vs b.order; each = λ rule c. more rule (Contains-append_cases rules (r ∷ []) rule c) }
   where
+    more : (rule : RuleNo) → Contains rules rule ⊎ Contains (r ∷ []) rule → Lists vs rule ⊎ IsEmpty (Fails d rule s)
+    more rule (inl c) = b.each rule c
+    more rule (inr c) = inr (subst (λ z. IsEmpty (Fails d z s)) (contains_one r rule c) none)
+
     back : (v : Violation) → IsFirst (Fails d v.rule s) v.x v.y → Contains rules v.rule ⊎ Contains (r ∷ []) v.rule → Contains vs v
     back v f (inl c) = (b.listed v).1 (c, f)
     back v f (inr c) = let e : r ≡ v.rule = contains_one r v.rule c in absurd (none v.x v.y (subst (λ z. Fails d z s v.x v.y) (sym e) f.covered))
@@ -84,8 +88,16 @@ unfolding make
 same_violation a b e f g = made a.rule b.rule a.x a.y b.x b.y e f g
 
 found : (d : Deck) (s : List Shape) (rules : List RuleNo) (r : RuleNo) (vs : List Violation) (new : Violation) → AreBroken d s rules vs → new.rule ≡ r → IsFirst (Fails d r s) new.x new.y → AreBroken d s (rules ++ r ∷ []) (vs ++ new ∷ [])
-found d s rules r vs new b is first = record { listed = λ v. (λ c. there v (Contains-append_cases vs (new ∷ []) v c), λ (c, g). back v g (Contains-append_cases rules (r ∷ []) v.rule c)); order = pairs_append Before vs (new ∷ []) (pairs_more rules r vs b.order) (pairs_one Before new) (all_from_contains (λ v. All (Before v) (new ∷ [])) vs (λ v c. all_one (Before v) new (last v c))) }
+found d s rules r vs new b is first = record { listed = λ v. (λ c. there v (Contains-append_cases vs (new ∷ []) v c), λ (c, g). back v g (Contains-append_cases rules (r ∷ []) v.rule c)); order = pairs_append Before vs (new ∷ []) (pairs_more rules r vs b.order) (pairs_one Before new) (all_from_contains (λ v. All (Before v) (new ∷ [])) vs (λ v c. all_one (Before v) new (last v c))); each = λ rule c. more rule (Contains-append_cases rules (r ∷ []) rule c) }
   where
+    kept_listed : (rule : RuleNo) → Lists vs rule ⊎ IsEmpty (Fails d rule s) → Lists (vs ++ new ∷ []) rule ⊎ IsEmpty (Fails d rule s)
+    kept_listed rule (inl (v, c, e)) = inl (v, Contains-append_left vs (new ∷ []) v c, e)
+    kept_listed rule (inr empty) = inr empty
+
+    more : (rule : RuleNo) → Contains rules rule ⊎ Contains (r ∷ []) rule → Lists (vs ++ new ∷ []) rule ⊎ IsEmpty (Fails d rule s)
+    more rule (inl c) = kept_listed rule (b.each rule c)
+    more rule (inr c) = inl (new, Contains-push vs new, is ∙ contains_one r rule c)
+
     Before : Violation → Violation → Type 0
     Before v w = StandsBefore (rules ++ r ∷ []) v.rule w.rule
 

@@ -1,5 +1,5 @@
 -- The broken rules of a layout.
-use Rattle.std.specs.Prelude.{◌≡◌, ◌↔◌, ℕ, ◌<◌, ◌≤◌, List, length, Option, Some, None, slice_get}
+use Rattle.std.specs.Prelude.{◌≡◌, ◌↔◌, ◌⊎◌, ℕ, ◌<◌, ◌≤◌, List, length, Option, Some, None, slice_get}
 use Rattle.std.specs.List.{Contains, AllPairs}
 use Rattle.box_geom.specs.Regions.{IsFirst}
 use Rattle.box_geom.specs.declared.shape.Shape.{Shape}
@@ -20,11 +20,16 @@ pub record StandsBefore {X : Type 0} (xs : List X) (a b : X) : Type 0 where
   pub first : slice_get xs i ≡ Some a
   pub second : slice_get xs j ≡ Some b
 
+-- one of the violations is of the rule
+abbrev pub Lists : List Violation → RuleNo → Type 0
+Lists vs rule = (v : Violation) × Contains vs v × (v.rule ≡ rule)
+
 -- The violations list each of the rules that some cell fails, with the first cell that fails it, and no other
--- rule, in the order of the rules.
+-- rule, in the order of the rules. A rule that they do not list is failed by no cell.
 pub record AreBroken (d : Deck) (s : List Shape) (rules : List RuleNo) (vs : List Violation) : Type 0 where
   pub listed : (v : Violation) → Contains vs v ↔ (Contains rules v.rule × IsFirst (Fails d v.rule s) v.x v.y)
   pub order : AllPairs (λ (v w : Violation). StandsBefore rules v.rule w.rule) vs
+  pub each : (rule : RuleNo) → Contains rules rule → Lists vs rule ⊎ IsEmpty (Fails d rule s)
 
 -- the violation of one rule, where some cell fails it
 pub record IsViolation (d : Deck) (s : List Shape) (number : RuleNo) (v : Violation) : Type 0 where

@@ -1,5 +1,6 @@
 use Rattle.std.proofs.Common.{refl}
 use Rattle.cellgen.specs.Words.{asked}
+use Rattle.cellgen.proofs.ExtractTold.{breaks_told, broken_told, extracted_told, extracts_told, refused_told, refuses_told}
 use Rattle.cellgen.proofs.MakeTold.{cyclic_told, drawn_told, draws_told, meets_told, needs_told, none_told, spent_told, tall_told, unmade_told}
 use Rattle.cellgen.proofs.Telling.{accepts_told, answers, called_for_told, checked_told, completes_told, made_told, memory_told, planned_told, read_told, status_told, usage_told, write_told}
 use Rattle.cellgen.proofs.run.run.Goals as goal
@@ -68,3 +69,21 @@ returns-clause-meets g c = meets_told (g.D.Desk.view c.args.desk.now) (g.D.Desk.
 
 pub returns-clause-needs : goal.returns-clause-needs
 returns-clause-needs g c = needs_told (g.D.Desk.view c.args.desk.now) (g.D.Desk.view c.deliver.new.desk) (asked c.args.words.now) c.deliver.result (g.D.Desk.view c.args.desk.now).given (returns-clause-completes g c)
+
+pub returns-clause-extracted : goal.returns-clause-extracted
+returns-clause-extracted g c = extracted_told (g.D.Desk.view c.args.desk.now) (g.D.Desk.view c.deliver.new.desk) (asked c.args.words.now) c.deliver.result (g.D.Desk.view c.args.desk.now).given (returns-clause-called_for g c)
+
+pub returns-clause-broken : goal.returns-clause-broken
+returns-clause-broken g c = broken_told (g.D.Desk.view c.args.desk.now) (g.D.Desk.view c.deliver.new.desk) (asked c.args.words.now) c.deliver.result (g.D.Desk.view c.args.desk.now).given (returns-clause-called_for g c)
+
+pub returns-clause-refused : goal.returns-clause-refused
+returns-clause-refused g c = refused_told (g.D.Desk.view c.args.desk.now) (g.D.Desk.view c.deliver.new.desk) (asked c.args.words.now) c.deliver.result (g.D.Desk.view c.args.desk.now).given (returns-clause-called_for g c)
+
+pub returns-clause-extracts : goal.returns-clause-extracts
+returns-clause-extracts g c = extracts_told (g.D.Desk.view c.args.desk.now) (g.D.Desk.view c.deliver.new.desk) (asked c.args.words.now) c.deliver.result (g.D.Desk.view c.args.desk.now).given (returns-clause-completes g c)
+
+pub returns-clause-breaks : goal.returns-clause-breaks
+returns-clause-breaks g c = breaks_told (g.D.Desk.view c.args.desk.now) (g.D.Desk.view c.deliver.new.desk) (asked c.args.words.now) c.deliver.result (g.D.Desk.view c.args.desk.now).given (returns-clause-completes g c)
+
+pub returns-clause-refuses : goal.returns-clause-refuses
+returns-clause-refuses g c = refuses_told (g.D.Desk.view c.args.desk.now) (g.D.Desk.view c.deliver.new.desk) (asked c.args.words.now) c.deliver.result (g.D.Desk.view c.args.desk.now).given (returns-clause-completes g c)
