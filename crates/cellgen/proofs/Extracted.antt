@@ -1,5 +1,5 @@
 -- A cell of a GDSII file calls for one end of its extraction.
-use Rattle.std.proofs.Common.{ℕ, ℤ, ◌≡◌, ◌≢◌, ◌≤◌, ◌<◌, ◌⊎◌, List, [], ◌∷◌, ◌++◌, length, Option, Some, None, Result, Ok, Err, IfOk, inl, inr, refl, sym, ap, ◌∙◌, subst, arith}
+use Rattle.std.proofs.Common.{ℕ, ℤ, ◌≡◌, ◌≢◌, ◌==◌, IsTrue, ◌≤◌, ◌<◌, ◌⊎◌, List, [], ◌∷◌, ◌++◌, length, Option, Some, None, Result, Ok, Err, IfOk, inl, inr, refl, sym, ap, ◌∙◌, subst, arith}
 use Rattle.std.specs.List.{AllZip, Contains}
 use Rattle.std.proofs.lemmas.Result.{IfOk-weaker}
 use Rattle.box_geom.specs.declared.shape.Label.{Label}
@@ -37,6 +37,12 @@ use Rattle.cellgen.specs.declared.gather.GdsCell.{GdsCell}
 use Rattle.cellgen.specs.declared.status.Status.{Status}
 use Rattle.cellgen.specs.declared.status.Status.TheVariants as status
 use Rattle.cellgen.specs.Extract.{BreaksRule, ExtractsTo, HasLayoutFault, HasNetlist, IsCellAnswer, IsDrawingAnswer, IsDrawingOf, IsLayoutFault, IsOfDrawing, IsSmall, extract_end}
+
+-- ---- no rule is listed
+
+pub no_items : {X : Type 0} → (xs : List X) → IsTrue (length xs == 0) → xs ≡ []
+no_items [] is = refl
+no_items (x ∷ xs) is = absurd is
 
 -- ---- a drawing that has a netlist is not refused
 
