@@ -31,7 +31,7 @@ use Rattle.cellgen.specs.Words.{Form, Plan, Make, Check}
 use Rattle.cellgen.proofs.Delivered.{none_made}
 use Rattle.cellgen.proofs.Ends.{check_alone, plan_alone}
 use Rattle.cellgen.proofs.Gathered.{IsGathered}
-use Rattle.cellgen.proofs.MadeFiles.{both_made, log_made}
+use Rattle.cellgen.proofs.MadeFiles.{cell_made, log_made}
 use Rattle.cellgen.proofs.Telling.{Answers, Completes, gathered_so}
 
 -- ---- the end of a call of `make`
@@ -139,8 +139,11 @@ drawn_so inputs out end answer old new (made.Made row log routing xs, h, is) don
   extracts = h.extracts;
   shows_row = h.shows_row;
   shows_routing = h.shows_routing;
+  ports = h.ports;
+  obstructs = h.obstructs;
+  sized = h.sized;
   decodes = h.decodes;
-  files = both_made out _ _ end.files old.made new.made is.files whole.1;
+  files = cell_made out _ _ _ end.files old.made new.made is.files whole.1;
   says = said_so _ end.report old.said new.said is.report whole.2;
 }
 drawn_so inputs out end answer old new (made.Cyclic row log cycle, h, is) done whole =
