@@ -1,4 +1,5 @@
 pub mod Accepted
+pub mod Alone
 pub mod Checked
 pub mod Delivered
 pub mod Desks

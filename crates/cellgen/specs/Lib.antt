@@ -18,4 +18,5 @@ pub mod Report
 pub mod Shown
 pub mod Sources
 pub mod Status
+pub mod Structures
 pub mod Words
