@@ -1,5 +1,4 @@
 pub mod Accepted
-pub mod Alone
 pub mod Checked
 pub mod Delivered
 pub mod Desks

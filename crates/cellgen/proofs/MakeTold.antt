@@ -144,7 +144,6 @@ drawn_so inputs out end answer old new (made.Made row log routing xs, h, is) don
   obstructs = h.obstructs;
   sized = h.sized;
   decodes = h.decodes;
-  alone = h.alone;
   files = cell_made out (log_text inputs.cell.name log) (library_of inputs (drawing_in inputs row routing xs)) (abstract_of inputs routing (drawing_in inputs row routing xs)) end.files old.made new.made is.files whole.1;
   says = said_so _ end.report old.said new.said is.report whole.2;
 }

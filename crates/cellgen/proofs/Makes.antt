@@ -46,7 +46,6 @@ use Rattle.gds_read.specs.Decoding.{Decodes}
 use Rattle.gds_read.proofs.RoundTrip.{round_trip}
 use Rattle.cellgen.specs.declared.end.End.{End}
 use Rattle.cellgen.specs.Inputs.{Inputs, AreInputs, unit_nm}
-use Rattle.cellgen.proofs.Alone.{written_alone}
 use Rattle.cellgen.proofs.ReadBack.{readable}
 use Rattle.cellgen.specs.Make.{AreLeastLines, IsFound, IsRouted, IsMade, Made, Cyclic, Tall, Unfinished, MakesTo, IsMadeEnd, IsCycleEnd, IsTallEnd, IsUnfinishedEnd, drawing_in, library_of, ports_in}
 
@@ -135,7 +134,6 @@ is_made inputs row log routing xs drawing are found routed lines fits is sound =
       obstructs = drawn.obstructs;
       sized = drawn.sized;
       decodes = decodes_so inputs (drawing_in inputs row routing xs) are drawn.readable;
-      alone = written_alone inputs.cell.name (drawing_in inputs row routing xs).shapes (unit_nm inputs.tech) drawn.readable.named drawn.readable.labels;
     }
 
 made_to : (inputs : Inputs) (out : List ℕ) (row : List Column) (log : Log) (routing : Routing) (xs : List ℕ) (drawing : Drawing) (r : Result End NoMemory) → IsMade inputs row log routing xs → drawing ≡ drawing_in inputs row routing xs → IfOk r (IsMadeEnd inputs.cell out row log routing drawing (unit_nm inputs.tech)) → IfOk r (MakesTo inputs out)

@@ -18,5 +18,4 @@ pub mod Report
 pub mod Shown
 pub mod Sources
 pub mod Status
-pub mod Structures
 pub mod Words

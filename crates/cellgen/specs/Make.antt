@@ -39,7 +39,6 @@ use Rattle.cellgen.specs.declared.status.Status.TheVariants as status
 use Rattle.cellgen.specs.Inputs.{Inputs, unit_nm}
 use Rattle.cellgen.specs.MakeReport.{cycle_text, drawn_text, tall_text}
 use Rattle.cellgen.specs.Report.{plan_text, unfinished_text}
-use Rattle.cellgen.specs.Structures.{HasOneStructure}
 
 -- ---- the parts
 
@@ -77,7 +76,7 @@ abstract_of inputs routing drawing = cell_text inputs.cell routing drawing (unit
 -- What is said of a drawn cell. Its row is the first least arrangement of the fingers, and the log is accepted
 -- and lists it. Its channel is routed legally and tightly, its lines stand at the least places, and the height is
 -- enough. The shapes obey every rule, extract net by net to the fingers, and show the row and the routing; and the
--- bytes, which have no other structure, decode with the cell's name and the technology's lambda to these shapes. Each
+-- bytes decode with the cell's name and the technology's lambda to these shapes. Each
 -- pin has a port, all other metal obstructs, and the size is that of metal1.
 pub record IsMade (inputs : Inputs) (row : List Column) (log : Log) (routing : Routing) (xs : List ℕ) : Type 0 where
   pub found : IsFound inputs row log
@@ -92,7 +91,6 @@ pub record IsMade (inputs : Inputs) (row : List Column) (log : Log) (routing : R
   pub obstructs : AreAllMetal (ports_in inputs routing (drawing_in inputs row routing xs)) (drawing_in inputs row routing xs).shapes.rects
   pub sized : IsSized (drawing_in inputs row routing xs)
   pub decodes : Decodes (library_of inputs (drawing_in inputs row routing xs)) inputs.cell.name inputs.tech.lambda_nm (drawing_in inputs row routing xs).shapes
-  pub alone : HasOneStructure (library_of inputs (drawing_in inputs row routing xs))
 
 -- ---- what it comes to
 
