@@ -10,14 +10,17 @@ use Rattle.cellgen.specs.Make.{IsEnd, named}
 pair_is : (a b c d : List ℕ) → a ≡ c → b ≡ d → ◌≡◌ {A = List ℕ × List ℕ} (a, b) (c, d)
 pair_is a b c d p q = cc
 
-file_is : (file : Output) (name bytes : List ℕ) → string_bytes file.name ≡ name → file.bytes ≡ bytes → named file ≡ (name, bytes)
+pub file_is : (file : Output) (name bytes : List ℕ) → string_bytes file.name ≡ name → file.bytes ≡ bytes → named file ≡ (name, bytes)
 file_is file name bytes p q = pair_is (string_bytes file.name) file.bytes name bytes p q
 
 one_is : (file : Output) (a : List ℕ × List ℕ) → named file ≡ a → map named (file ∷ []) ≡ a ∷ []
 one_is file a p = ap (λ (x : List ℕ × List ℕ). x ∷ []) p
 
-two_are : (first second : Output) (a b : List ℕ × List ℕ) → named first ≡ a → named second ≡ b → map named (first ∷ second ∷ []) ≡ a ∷ b ∷ []
-two_are first second a b p q = ap (λ (x : List ℕ × List ℕ). x ∷ named second ∷ []) p ∙ ap (λ (x : List ℕ × List ℕ). a ∷ x ∷ []) q
+three_are : (first second third : Output) (a b c : List ℕ × List ℕ) → named first ≡ a → named second ≡ b → named third ≡ c → map named (first ∷ second ∷ third ∷ []) ≡ a ∷ b ∷ c ∷ []
+three_are first second third a b c p q s =
+    ap (λ (x : List ℕ × List ℕ). x ∷ named second ∷ named third ∷ []) p
+    ∙ (ap (λ (x : List ℕ × List ℕ). a ∷ x ∷ named third ∷ []) q
+    ∙ ap (λ (x : List ℕ × List ℕ). a ∷ b ∷ x ∷ []) s)
 
 pub end_one : (status : Status) (file : Output) (name bytes text report : List ℕ) (r : Result End NoMemory) → string_bytes file.name ≡ name → file.bytes ≡ bytes → report ≡ text → IfOk r (λ end. end ≡ leaves status (file ∷ []) report) → IfOk r (IsEnd status ((name, bytes) ∷ []) text)
 end_one status file name bytes text report (Err e) p q t is = tt
@@ -27,11 +30,11 @@ end_one status file name bytes text report (Ok end) p q t is = record {
   report = ap (λ (x : End). x.report) is ∙ t;
 }
 
-pub end_two : (status : Status) (first second : Output) (name bytes other_name other_bytes text report : List ℕ) (r : Result End NoMemory) → string_bytes first.name ≡ name → first.bytes ≡ bytes → string_bytes second.name ≡ other_name → second.bytes ≡ other_bytes → report ≡ text → IfOk r (λ end. end ≡ leaves status (first ∷ second ∷ []) report) → IfOk r (IsEnd status ((name, bytes) ∷ (other_name, other_bytes) ∷ []) text)
-end_two status first second name bytes other_name other_bytes text report (Err e) p q s u t is = tt
-end_two status first second name bytes other_name other_bytes text report (Ok end) p q s u t is = record {
+pub end_three : (status : Status) (first second third : Output) (a b c : List ℕ × List ℕ) (text report : List ℕ) (r : Result End NoMemory) → named first ≡ a → named second ≡ b → named third ≡ c → report ≡ text → IfOk r (λ end. end ≡ leaves status (first ∷ second ∷ third ∷ []) report) → IfOk r (IsEnd status (a ∷ b ∷ c ∷ []) text)
+end_three status first second third a b c text report (Err e) p q s t is = tt
+end_three status first second third a b c text report (Ok end) p q s t is = record {
   status = ap (λ (x : End). x.status) is;
-  files = ap (λ (x : End). map named x.files) is ∙ two_are first second (name, bytes) (other_name, other_bytes) (file_is first name bytes p q) (file_is second other_name other_bytes s u);
+  files = ap (λ (x : End). map named x.files) is ∙ three_are first second third a b c p q s;
   report = ap (λ (x : End). x.report) is ∙ t;
 }
 

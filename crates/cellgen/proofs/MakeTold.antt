@@ -4,6 +4,7 @@ use Rattle.cell_io.specs.Desk.{Files, View, Both, Rose}
 use Rattle.row_state.specs.Parity.{parity_value}
 use Rattle.log_check.specs.Accepted.{ForKinds, WithKinds}
 use Rattle.bound_log.specs.declared.log.Log.{Log}
+use Rattle.bound_log.specs.Text.{log_text}
 use Rattle.row_search.specs.Ended.{IsSpent}
 use Rattle.row_search.specs.Enough.{enough}
 use Rattle.row_search.specs.First.{IsFirstLeast}
@@ -24,14 +25,14 @@ use Rattle.cellgen.specs.Ends.{CallsFor, EndsTo, IsOfOutside, refused, refusal_s
 use Rattle.cellgen.specs.Gather.{gathered}
 use Rattle.cellgen.specs.Headline.{CanBeDrawn, FromInputs, HasCycle, IsCyclicCell, IsMadeCell, IsMake, IsOrShort, IsSpentSearch, IsTallCell, IsTooHigh, MakesNone, OfFirstLeast, WhereMakeEnds}
 use Rattle.cellgen.specs.Inputs.{Inputs}
-use Rattle.cellgen.specs.Make.{MakesTo}
+use Rattle.cellgen.specs.Make.{MakesTo, abstract_of, drawing_in, library_of}
 use Rattle.cellgen.specs.Make as made
 use Rattle.cellgen.specs.Reading.{called}
 use Rattle.cellgen.specs.Words.{Form, Plan, Make, Check, Extract}
 use Rattle.cellgen.proofs.Delivered.{none_made}
 use Rattle.cellgen.proofs.Ends.{check_alone, extract_alone, plan_alone}
 use Rattle.cellgen.proofs.Gathered.{IsGathered}
-use Rattle.cellgen.proofs.MadeFiles.{both_made, log_made}
+use Rattle.cellgen.proofs.MadeFiles.{cell_made, log_made}
 use Rattle.cellgen.proofs.Telling.{Answers, Completes, gathered_so}
 
 -- ---- the end of a call of `make`
@@ -141,8 +142,11 @@ drawn_so inputs out end answer old new (made.Made row log routing xs, h, is) don
   extracts = h.extracts;
   shows_row = h.shows_row;
   shows_routing = h.shows_routing;
+  ports = h.ports;
+  obstructs = h.obstructs;
+  sized = h.sized;
   decodes = h.decodes;
-  files = both_made out _ _ end.files old.made new.made is.files whole.1;
+  files = cell_made out (log_text inputs.cell.name log) (library_of inputs (drawing_in inputs row routing xs)) (abstract_of inputs routing (drawing_in inputs row routing xs)) end.files old.made new.made is.files whole.1;
   says = said_so _ end.report old.said new.said is.report whole.2;
 }
 drawn_so inputs out end answer old new (made.Cyclic row log cycle, h, is) done whole =

@@ -1,5 +1,5 @@
 -- What making a cell comes to, from what its steps answered.
-use Rattle.std.proofs.Common.{ℕ, ◌≡◌, ◌≤◌, ◌/◌, ◌*◌, ◌+◌, ◌%◌, List, Result, Ok, Err, IfOk, All, Contains, length, refl, sym, ap, subst, arith, ◌∙◌}
+use Rattle.std.proofs.Common.{ℕ, ◌≡◌, ◌<◌, ◌≤◌, ◌/◌, ◌*◌, ◌+◌, ◌%◌, List, Result, Ok, Err, IfOk, All, Contains, length, refl, sym, ap, subst, arith, ◌∙◌}
 use Rattle.std.proofs.lemmas.Result.{IfOk-weaker}
 use Rattle.std.proofs.Math.Nat.{div-add-mod}
 use Rattle.cell_num.specs.declared.finger.Fingers.{Fingers}
@@ -18,7 +18,7 @@ use Rattle.bound_log.specs.Fits.{IsLogName}
 use Rattle.log_check.specs.Accepted.{WithKinds}
 use Rattle.row_search.specs.Ended.{IsSolved, IsSpent}
 use Rattle.row_place.specs.declared.placement.Placement.{Placement}
-use Rattle.row_place.specs.Places.{placement_of}
+use Rattle.row_place.specs.Places.{IsPlacement, placement_of}
 use Rattle.row_place.specs.Trunks.{HasPins}
 use Rattle.channel_route.specs.declared.routing.Above.{Above}
 use Rattle.channel_route.specs.declared.routing.Routing.{Routing}
@@ -37,13 +37,17 @@ use Rattle.cell_draw.specs.Faults.{IsCause}
 use Rattle.cell_draw.specs.Frame.{needed_of, IsTooTall}
 use Rattle.cell_draw.specs.Shown.{ShowsColumns, ShowsRouting, ShowsRow}
 use Rattle.cell_draw.specs.Sound.{IsSoundRow}
+use Rattle.lef_write.specs.Drawn.{AreAllMetal, HasPort, IsSized}
+use Rattle.lef_write.proofs.Apart.{metal}
+use Rattle.lef_write.proofs.Named.{has_port}
+use Rattle.lef_write.proofs.Sized.{sized}
 use Rattle.gds_read.specs.RoundTrip.{IsReadable}
 use Rattle.gds_read.specs.Decoding.{Decodes}
 use Rattle.gds_read.proofs.RoundTrip.{round_trip}
 use Rattle.cellgen.specs.declared.end.End.{End}
 use Rattle.cellgen.specs.Inputs.{Inputs, AreInputs, unit_nm}
 use Rattle.cellgen.proofs.ReadBack.{readable}
-use Rattle.cellgen.specs.Make.{AreLeastLines, IsFound, IsRouted, IsMade, Made, Cyclic, Tall, Unfinished, MakesTo, IsMadeEnd, IsCycleEnd, IsTallEnd, IsUnfinishedEnd, drawing_in, library_of}
+use Rattle.cellgen.specs.Make.{AreLeastLines, IsFound, IsRouted, IsMade, Made, Cyclic, Tall, Unfinished, MakesTo, IsMadeEnd, IsCycleEnd, IsTallEnd, IsUnfinishedEnd, drawing_in, library_of, ports_in}
 
 -- ---- what the steps ask; they see the inputs from inside
 
@@ -109,6 +113,9 @@ pub record IsSoundDrawing (inputs : Inputs) (row : List Column) (routing : Routi
   pub extracts : ExtractsTo inputs.cell.nets inputs.fingers drawing.shapes
   pub shows_row : ShowsRow inputs.cell.nets row drawing.shapes
   pub shows_routing : ShowsRouting inputs.cell.nets inputs.cell.pins (placement_of row) drawing.shapes routing
+  pub ports : (n : ℕ) → n < inputs.cell.pins.pins → HasPort inputs.cell.nets (ports_in inputs routing drawing) drawing n
+  pub obstructs : AreAllMetal (ports_in inputs routing drawing) drawing.shapes.rects
+  pub sized : IsSized drawing
   pub readable : IsReadable inputs.cell.name drawing.shapes (unit_nm inputs.tech)
 
 is_made : (inputs : Inputs) (row : List Column) (log : Log) (routing : Routing) (xs : List ℕ) (drawing : Drawing) → AreInputs inputs → IsFound inputs row log → IsRouted inputs row routing → AreLeastLines (placement_of row) inputs.cell.pins routing xs → (IsTooTall row routing.tracks inputs.tech.height → ⊥) → drawing ≡ drawing_in inputs row routing xs → IsSoundDrawing inputs row routing drawing → IsMade inputs row log routing xs
@@ -123,12 +130,15 @@ is_made inputs row log routing xs drawing are found routed lines fits is sound =
       extracts = drawn.extracts;
       shows_row = drawn.shows_row;
       shows_routing = drawn.shows_routing;
+      ports = drawn.ports;
+      obstructs = drawn.obstructs;
+      sized = drawn.sized;
       decodes = decodes_so inputs (drawing_in inputs row routing xs) are drawn.readable;
     }
 
-made_to : (inputs : Inputs) (out : List ℕ) (row : List Column) (log : Log) (routing : Routing) (xs : List ℕ) (drawing : Drawing) (r : Result End NoMemory) → IsMade inputs row log routing xs → drawing ≡ drawing_in inputs row routing xs → IfOk r (IsMadeEnd inputs.cell out row log routing.tracks drawing (unit_nm inputs.tech)) → IfOk r (MakesTo inputs out)
+made_to : (inputs : Inputs) (out : List ℕ) (row : List Column) (log : Log) (routing : Routing) (xs : List ℕ) (drawing : Drawing) (r : Result End NoMemory) → IsMade inputs row log routing xs → drawing ≡ drawing_in inputs row routing xs → IfOk r (IsMadeEnd inputs.cell out row log routing drawing (unit_nm inputs.tech)) → IfOk r (MakesTo inputs out)
 made_to inputs out row log routing xs drawing r made is ends =
-    IfOk-weaker r (IsMadeEnd inputs.cell out row log routing.tracks drawing (unit_nm inputs.tech)) (MakesTo inputs out) (λ end e. (Made row log routing xs, made, subst (λ (d : Drawing). IsMadeEnd inputs.cell out row log routing.tracks d (unit_nm inputs.tech) end) is e)) ends
+    IfOk-weaker r (IsMadeEnd inputs.cell out row log routing drawing (unit_nm inputs.tech)) (MakesTo inputs out) (λ end e. (Made row log routing xs, made, subst (λ (d : Drawing). IsMadeEnd inputs.cell out row log routing d (unit_nm inputs.tech) end) is e)) ends
 
 -- ---- the same, from what the steps see
 
@@ -151,22 +161,40 @@ seen_so inputs inside row placement routing lines drawing height unit same is hi
     (subst (λ n. IsDrawnSo inside row placement routing lines drawing n (unit_nm inputs.tech)) high
     (subst (λ u. IsDrawnSo inside row placement routing lines drawing height u) nm h)))
 
-sound_drawing : (inputs : Inputs) (row : List Column) (log : Log) (routing : Routing) (lines : List ℕ) (drawing : Drawing) → AreInputs inputs → IsFound inputs row log → IsDrawnSo inputs row (placement_of row) routing lines drawing inputs.tech.height (unit_nm inputs.tech) → IsSoundDrawing inputs row routing drawing
-sound_drawing inputs row log routing lines drawing are found h = record {
+-- the ports and the obstructions of the drawing of a routed row
+has_ports : (inputs : Inputs) (row : List Column) (routing : Routing) (lines : List ℕ) (drawing : Drawing) → AreInputs inputs → IsPlacement (placement_of row) → IsRouted inputs row routing → AreLeastLines (placement_of row) inputs.cell.pins routing lines → drawing ≡ drawing_in inputs row routing lines → (n : ℕ) → n < inputs.cell.pins.pins → HasPort inputs.cell.nets (ports_in inputs routing drawing) drawing n
+has_ports inputs row routing lines drawing are placed routed least is n lt =
+    subst (λ (d : Drawing). HasPort inputs.cell.nets (ports_in inputs routing d) d n) (sym is)
+    (has_port inputs.cell.nets inputs.cell.pins (placement_of row) routing lines inputs.tech.height n placed routed.legal least.allowed are.pins.named lt)
+
+has_metal : (inputs : Inputs) (row : List Column) (routing : Routing) (lines : List ℕ) (drawing : Drawing) → drawing ≡ drawing_in inputs row routing lines → AreAllMetal (ports_in inputs routing drawing) drawing.shapes.rects
+has_metal inputs row routing lines drawing is =
+    subst (λ (d : Drawing). AreAllMetal (ports_in inputs routing d) d.shapes.rects) (sym is)
+    (metal inputs.cell.nets inputs.cell.pins (placement_of row) routing lines inputs.tech.height)
+
+has_size : (inputs : Inputs) (row : List Column) (routing : Routing) (lines : List ℕ) (drawing : Drawing) → IsPlacement (placement_of row) → IsRouted inputs row routing → AreLeastLines (placement_of row) inputs.cell.pins routing lines → drawing ≡ drawing_in inputs row routing lines → IsSized drawing
+has_size inputs row routing lines drawing placed routed least is =
+    subst IsSized (sym is) (sized inputs.cell.nets inputs.cell.pins (placement_of row) routing lines inputs.tech.height placed routed.legal least.allowed)
+
+sound_drawing : (inputs : Inputs) (row : List Column) (log : Log) (routing : Routing) (lines : List ℕ) (drawing : Drawing) → AreInputs inputs → IsFound inputs row log → IsPlacement (placement_of row) → IsRouted inputs row routing → IsDrawnSo inputs row (placement_of row) routing lines drawing inputs.tech.height (unit_nm inputs.tech) → IsSoundDrawing inputs row routing drawing
+sound_drawing inputs row log routing lines drawing are found placed routed h = record {
   obeys = h.obeys;
   extracts = h.extracts.to are.pins inputs.fingers (record { sound = are.sound; arranged = found.first.arranges });
   shows_row = h.shows.shown are.pins;
   shows_routing = h.routed;
+  ports = has_ports inputs row routing lines drawing are placed routed h.least h.exact;
+  obstructs = has_metal inputs row routing lines drawing h.exact;
+  sized = has_size inputs row routing lines drawing placed routed h.least h.exact;
   readable = h.readable;
 }
 
-pub drawn_to : (inputs inside : Inputs) (out : List ℕ) (row : List Column) (log : Log) (placement : Placement) (routing : Routing) (lines : List ℕ) (drawing : Drawing) (height unit : ℕ) (r : Result End NoMemory) → inside ≡ inputs → placement ≡ placement_of row → height ≡ inputs.tech.height → unit ≡ unit_nm inputs.tech → AreInputs inputs → IsFound inputs row log → IsRouted inputs row routing → IsDrawnSo inside row placement routing lines drawing height unit → IfOk r (IsMadeEnd inside.cell out row log routing.tracks drawing unit) → IfOk r (MakesTo inputs out)
-drawn_to inputs inside out row log placement routing lines drawing height unit r same is high nm are found routed h ends =
+pub drawn_to : (inputs inside : Inputs) (out : List ℕ) (row : List Column) (log : Log) (placement : Placement) (routing : Routing) (lines : List ℕ) (drawing : Drawing) (height unit : ℕ) (r : Result End NoMemory) → inside ≡ inputs → placement ≡ placement_of row → height ≡ inputs.tech.height → unit ≡ unit_nm inputs.tech → AreInputs inputs → IsFound inputs row log → IsPlacement placement → IsRouted inputs row routing → IsDrawnSo inside row placement routing lines drawing height unit → IfOk r (IsMadeEnd inside.cell out row log routing drawing unit) → IfOk r (MakesTo inputs out)
+drawn_to inputs inside out row log placement routing lines drawing height unit r same is high nm are found placed routed h ends =
     let seen = seen_so inputs inside row placement routing lines drawing height unit same is high nm h in
     made_to inputs out row log routing lines drawing r
-    (is_made inputs row log routing lines drawing are found routed seen.least seen.fits seen.exact (sound_drawing inputs row log routing lines drawing are found seen))
+    (is_made inputs row log routing lines drawing are found routed seen.least seen.fits seen.exact (sound_drawing inputs row log routing lines drawing are found (subst IsPlacement is placed) routed seen))
     seen.exact
-    (subst (λ (i : Inputs). IfOk r (IsMadeEnd i.cell out row log routing.tracks drawing (unit_nm inputs.tech))) same (subst (λ u. IfOk r (IsMadeEnd inside.cell out row log routing.tracks drawing u)) nm ends))
+    (subst (λ (i : Inputs). IfOk r (IsMadeEnd i.cell out row log routing drawing (unit_nm inputs.tech))) same (subst (λ u. IfOk r (IsMadeEnd inside.cell out row log routing drawing u)) nm ends))
 
 needed_is : (needed given least height : ℕ) → ◌≡◌ {A = DrawFault} (TooTall needed given) (TooTall least height) → (needed ≡ least) × (given ≡ height)
 needed_is needed given least height e = (cc, cc)
@@ -185,7 +213,17 @@ cyclic_so inputs inside out row log placement cycle r same is found told ends =
 pub named_so : (inputs inside : Inputs) → inside ≡ inputs → AreInputs inputs → IsLogName inside.cell.name
 named_so inputs inside same are = subst (λ (i : Inputs). IsLogName i.cell.name) (sym same) are.name
 
-pub readable_so : (inputs inside : Inputs) (shapes : Shapes) (unit : ℕ) → inside ≡ inputs → AreInputs inputs → 10 ≤ unit → unit ≤ 1000 → length shapes.rects ≤ 2000 → AreWithinLimits shapes.rects → AreWithin shapes → All (λ (l : Label). Contains inside.cell.nets l.name) shapes.labels → IsReadable inside.cell.name shapes unit
+pub readable_so : (inputs inside : Inputs) (shapes : Shapes) (unit : ℕ) → inside ≡ inputs → AreInputs inputs → 10 ≤ unit → unit ≤ 1000 → length shapes.rects ≤ 1999 → AreWithinLimits shapes.rects → AreWithin shapes → All (λ (l : Label). Contains inside.cell.nets l.name) shapes.labels → IsReadable inside.cell.name shapes unit
 readable_so inputs inside shapes unit same are least most count limits within listed =
     let seen : AreInputs inside = subst AreInputs (sym same) are in
     readable inside.cell.nets inside.cell.name shapes unit seen.nets seen.name seen.whole least most count limits within listed
+
+pub pins_so : (inputs inside : Inputs) → inside ≡ inputs → AreInputs inputs → inside.cell.pins.pins ≤ length inside.cell.nets
+pins_so inputs inside same are =
+    let seen : AreInputs inside = subst AreInputs (sym same) are in
+    seen.pins.named
+
+pub directions_so : (inputs inside : Inputs) → inside ≡ inputs → AreInputs inputs → length inside.cell.directions ≡ inside.cell.pins.pins
+directions_so inputs inside same are =
+    let seen : AreInputs inside = subst AreInputs (sym same) are in
+    seen.directions

@@ -61,7 +61,7 @@ label_fits unit l few w name = record { x = fits unit l.x w.x few; y = fits unit
 labels_fit : (unit : ℕ) (labels : List Label) → unit ≤ 1000 → All IsLabelWithin labels → All (λ (l : Label). IsSpelled l.name) labels → All (IsWritableLabel unit) labels
 labels_fit unit labels few near names = all_from_contains (IsWritableLabel unit) labels (λ l there. label_fits unit l few (All-contains IsLabelWithin labels l near there) (All-contains (λ (x : Label). IsSpelled x.name) labels l names there))
 
-pub readable : (nets : List (List ℕ)) (name : List ℕ) (shapes : Shapes) (unit : ℕ) → AreNames nets → IsLogName name → All (λ b. b ≢ 0) name → 10 ≤ unit → unit ≤ 1000 → length shapes.rects ≤ 2000 → AreWithinLimits shapes.rects → AreWithin shapes → All (λ (l : Label). Contains nets l.name) shapes.labels → IsReadable name shapes unit
+pub readable : (nets : List (List ℕ)) (name : List ℕ) (shapes : Shapes) (unit : ℕ) → AreNames nets → IsLogName name → All (λ b. b ≢ 0) name → 10 ≤ unit → unit ≤ 1000 → length shapes.rects ≤ 1999 → AreWithinLimits shapes.rects → AreWithin shapes → All (λ (l : Label). Contains nets l.name) shapes.labels → IsReadable name shapes unit
 readable nets name shapes unit names named whole least few count limits within listed =
     let all : All (λ (l : Label). IsSpelled l.name) shapes.labels = All-weaker (λ (l : Label). Contains nets l.name) (λ (l : Label). IsSpelled l.name) (λ l there. label_name nets l names there) shapes.labels listed in
     record {

@@ -1,6 +1,6 @@
 -- What a call of `make` leaves behind: the drawing of a cell with its evidence, or the evidence of why there is
 -- none. Files and what was said are told where the desk tells them.
-use Rattle.std.specs.Prelude.{ℕ, ◌≡◌, ◌≢◌, ◌≤◌, ◌⊎◌, List, ◌++◌, codes, length, Option, Some, Ok}
+use Rattle.std.specs.Prelude.{ℕ, ◌≡◌, ◌≢◌, ◌<◌, ◌≤◌, ◌⊎◌, List, ◌++◌, codes, length, Option, Some, Ok}
 use Rattle.cell_io.specs.Desk.{Files, View, Both}
 use Rattle.row_model.specs.declared.column.Column.{Column}
 use Rattle.row_state.specs.Parity.{parity_value}
@@ -22,13 +22,14 @@ use Rattle.cell_draw.specs.Extracted.{ExtractsTo}
 use Rattle.cell_draw.specs.Frame.{needed_of, IsTooTall}
 use Rattle.cell_draw.specs.Shown.{ShowsRouting, ShowsRow}
 use Rattle.gds_read.specs.Decoding.{Decodes}
+use Rattle.lef_write.specs.Drawn.{AreAllMetal, HasPort, IsSized}
 use Rattle.cellgen.specs.declared.gather.Material.TheVariants.{Making}
 use Rattle.cellgen.specs.declared.status.Status.{Status}
 use Rattle.cellgen.specs.declared.status.Status.TheVariants as status
 use Rattle.cellgen.specs.Deliver.{Says}
 use Rattle.cellgen.specs.Gather.{gathered}
 use Rattle.cellgen.specs.Inputs.{Inputs}
-use Rattle.cellgen.specs.Make.{AreLeastLines, IsRouted, drawing_in, library_of}
+use Rattle.cellgen.specs.Make.{AreLeastLines, IsRouted, abstract_of, drawing_in, library_of, ports_in}
 use Rattle.cellgen.specs.MakeReport.{cycle_text, drawn_text, tall_text}
 use Rattle.cellgen.specs.Reading.{called}
 use Rattle.cellgen.specs.Report.{plan_text, unfinished_text}
@@ -48,11 +49,13 @@ WhereMakeEnds files form answer settled Says = IsMake form → answer ≡ settle
 
 -- ---- files
 
--- the text of the log and the bytes of the drawing are there, and all other files are as before
-pub record HasLogAndDrawing (out text bytes : List ℕ) (old new : Files) : Type 0 where
+-- the text of the log, the bytes of the drawing and the text of its abstract are there, and all other files are
+-- as before
+pub record HasCell (out text bytes summary : List ℕ) (old new : Files) : Type 0 where
   pub log : new (out ++ codes ".clog") ≡ Some text
   pub drawing : new (out ++ codes ".gds") ≡ Some bytes
-  pub others : (name : List ℕ) → name ≢ out ++ codes ".clog" → name ≢ out ++ codes ".gds" → new name ≡ old name
+  pub lef : new (out ++ codes ".lef") ≡ Some summary
+  pub others : (name : List ℕ) → name ≢ out ++ codes ".clog" → name ≢ out ++ codes ".gds" → name ≢ out ++ codes ".lef" → new name ≡ old name
 
 -- the text of the log is there, and all other files are as before
 pub record HasLog (out text : List ℕ) (old new : Files) : Type 0 where
@@ -92,8 +95,15 @@ pub record IsMadeCell (inputs : Inputs) (out : List ℕ) (old new : View) : Type
   pub shows_routing : ShowsRouting inputs.cell.nets inputs.cell.pins (placement_of row) (drawing_in inputs row routing lines).shapes routing
   -- The bytes are a library with one cell of that name, and these are its shapes and labels.
   pub decodes : Decodes (library_of inputs (drawing_in inputs row routing lines)) inputs.cell.name inputs.tech.lambda_nm (drawing_in inputs row routing lines).shapes
-  -- They stand in `OUT.gds`, and the text of the log in `OUT.clog`.
-  pub files : Both (HasLogAndDrawing out (log_text inputs.cell.name log) (library_of inputs (drawing_in inputs row routing lines))) old.made new.made
+  -- Each pin has exactly one port: one of these shapes, on which the label of the pin's name stands.
+  pub ports : (n : ℕ) → n < inputs.cell.pins.pins → HasPort inputs.cell.nets (ports_in inputs routing (drawing_in inputs row routing lines)) (drawing_in inputs row routing lines) n
+  -- Ports and obstructions are all metal of these shapes, each shape once.
+  pub obstructs : AreAllMetal (ports_in inputs routing (drawing_in inputs row routing lines)) (drawing_in inputs row routing lines).shapes.rects
+  -- The width and the height are the greatest x and the greatest y of metal1.
+  pub sized : IsSized (drawing_in inputs row routing lines)
+  -- The library stands in `OUT.gds`, the text of the log in `OUT.clog`, and in `OUT.lef` the macro of the cell with
+  -- these ports, obstructions and this size.
+  pub files : Both (HasCell out (log_text inputs.cell.name log) (library_of inputs (drawing_in inputs row routing lines)) (abstract_of inputs routing (drawing_in inputs row routing lines))) old.made new.made
   -- The report says the columns, the tracks, the width and height, and how many lemmas the log has.
   pub says : Both (Says (codes "status 0 ok\n" ++ plan_text inputs.cell.name inputs.cell.nets row ++ drawn_text routing.tracks (drawing_in inputs row routing lines).width (drawing_in inputs row routing lines).height (length log.lemmas))) old.said new.said
 

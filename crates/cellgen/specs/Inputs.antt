@@ -1,5 +1,5 @@
 -- What the commands on a cell of a SPICE file work on: the technology, the subcircuit and its fingers.
-use Rattle.std.specs.Prelude.{ℕ, ◌≢◌, ◌/◌, List, length, All, Result, Ok}
+use Rattle.std.specs.Prelude.{ℕ, ◌≡◌, ◌≢◌, ◌/◌, List, length, All, Result, Ok}
 use Rattle.cell_num.specs.Fingers.{AreFingers, AreSound}
 use Rattle.cell_num.specs.Pins.{ArePins}
 use Rattle.cell_num.specs.Steps.{◌>>=◌}
@@ -26,6 +26,7 @@ pub record AreInputs (inputs : Inputs) : Type 0 where
   pub whole : All (λ byte. byte ≢ 0) inputs.cell.name
   pub nets : AreNames inputs.cell.nets
   pub pins : ArePins (length inputs.cell.nets) inputs.cell.pins
+  pub directions : length inputs.cell.directions ≡ inputs.cell.pins.pins
   pub fingers : AreFingers inputs.fingers
   pub sound : AreSound inputs.cell.nets inputs.cell.pins inputs.fingers
 

@@ -1,6 +1,6 @@
 -- What making a cell comes to: its drawing, a cycle of its least row, a height that is not enough, or the log of
 -- an unfinished search.
-use Rattle.std.specs.Prelude.{ℕ, ◌≡◌, ◌≤◌, ◌*◌, List, [], ◌∷◌, ◌++◌, codes, length, map, string_bytes}
+use Rattle.std.specs.Prelude.{ℕ, ◌≡◌, ◌<◌, ◌≤◌, ◌*◌, List, [], ◌∷◌, ◌++◌, codes, length, map, string_bytes}
 use Rattle.cell_num.specs.declared.net.Pins.{Pins}
 use Rattle.row_model.specs.declared.column.Column.{Column}
 use Rattle.row_state.specs.Parity.{parity_value}
@@ -26,6 +26,10 @@ use Rattle.cell_draw.specs.Extracted.{ExtractsTo}
 use Rattle.cell_draw.specs.Frame.{needed_of, IsTooTall}
 use Rattle.cell_draw.specs.Shown.{ShowsRouting, ShowsRow}
 use Rattle.gds_write.specs.Written.{written}
+use Rattle.lef_write.specs.declared.port.Port.{Port}
+use Rattle.lef_write.specs.Drawn.{AreAllMetal, HasPort, IsSized}
+use Rattle.lef_write.specs.Lef.{cell_text}
+use Rattle.lef_write.specs.Ports.{ports_of}
 use Rattle.gds_read.specs.Decoding.{Decodes}
 use Rattle.spice_net.specs.declared.subckt.Subckt.{Subckt}
 use Rattle.cellgen.specs.declared.end.End.{End}
@@ -61,10 +65,19 @@ drawing_in inputs row routing xs = drawn_of inputs.cell.nets inputs.cell.pins (p
 abbrev pub library_of : Inputs → Drawing → List ℕ
 library_of inputs drawing = written inputs.cell.name drawing.shapes (unit_nm inputs.tech)
 
+-- the ports of a drawing
+abbrev pub ports_in : Inputs → Routing → Drawing → List Port
+ports_in inputs routing drawing = ports_of inputs.cell.pins routing.trunks drawing.shapes.rects
+
+-- the text of its abstract
+abbrev pub abstract_of : Inputs → Routing → Drawing → List ℕ
+abstract_of inputs routing drawing = cell_text inputs.cell routing drawing (unit_nm inputs.tech)
+
 -- What is said of a drawn cell. Its row is the first least arrangement of the fingers, and the log is accepted
 -- and lists it. Its channel is routed legally and tightly, its lines stand at the least places, and the height is
 -- enough. The shapes obey every rule, extract net by net to the fingers, and show the row and the routing; and the
--- bytes decode, with the cell's name and the technology's lambda, to these shapes.
+-- bytes decode with the cell's name and the technology's lambda to these shapes. Each
+-- pin has a port, all other metal obstructs, and the size is that of metal1.
 pub record IsMade (inputs : Inputs) (row : List Column) (log : Log) (routing : Routing) (xs : List ℕ) : Type 0 where
   pub found : IsFound inputs row log
   pub routed : IsRouted inputs row routing
@@ -74,6 +87,9 @@ pub record IsMade (inputs : Inputs) (row : List Column) (log : Log) (routing : R
   pub extracts : ExtractsTo inputs.cell.nets inputs.fingers (drawing_in inputs row routing xs).shapes
   pub shows_row : ShowsRow inputs.cell.nets row (drawing_in inputs row routing xs).shapes
   pub shows_routing : ShowsRouting inputs.cell.nets inputs.cell.pins (placement_of row) (drawing_in inputs row routing xs).shapes routing
+  pub ports : (n : ℕ) → n < inputs.cell.pins.pins → HasPort inputs.cell.nets (ports_in inputs routing (drawing_in inputs row routing xs)) (drawing_in inputs row routing xs) n
+  pub obstructs : AreAllMetal (ports_in inputs routing (drawing_in inputs row routing xs)) (drawing_in inputs row routing xs).shapes.rects
+  pub sized : IsSized (drawing_in inputs row routing xs)
   pub decodes : Decodes (library_of inputs (drawing_in inputs row routing xs)) inputs.cell.name inputs.tech.lambda_nm (drawing_in inputs row routing xs).shapes
 
 -- ---- what it comes to
@@ -107,10 +123,13 @@ log_file cell out log = (out ++ codes ".clog", log_text cell.name log)
 abbrev pub gds_file : List ℕ → List ℕ → List ℕ × List ℕ
 gds_file out bytes = (out ++ codes ".gds", bytes)
 
-abbrev pub IsMadeEnd : Subckt → List ℕ → List Column → Log → ℕ → Drawing → ℕ → End → Type 0
-IsMadeEnd cell out row log tracks drawing unit =
-    IsEnd status.Done (log_file cell out log ∷ gds_file out (written cell.name drawing.shapes unit) ∷ [])
-    (codes "status 0 ok\n" ++ plan_text cell.name cell.nets row ++ drawn_text tracks drawing.width drawing.height (length log.lemmas))
+abbrev pub lef_file : List ℕ → List ℕ → List ℕ × List ℕ
+lef_file out bytes = (out ++ codes ".lef", bytes)
+
+abbrev pub IsMadeEnd : Subckt → List ℕ → List Column → Log → Routing → Drawing → ℕ → End → Type 0
+IsMadeEnd cell out row log routing drawing unit =
+    IsEnd status.Done (log_file cell out log ∷ gds_file out (written cell.name drawing.shapes unit) ∷ lef_file out (cell_text cell routing drawing unit) ∷ [])
+    (codes "status 0 ok\n" ++ plan_text cell.name cell.nets row ++ drawn_text routing.tracks drawing.width drawing.height (length log.lemmas))
 
 abbrev pub IsCycleEnd : Subckt → List ℕ → Log → List Above → End → Type 0
 IsCycleEnd cell out log cycle = IsEnd status.Cycle (log_file cell out log ∷ []) (codes "status 5 cycle\n" ++ cycle_text cell.nets cycle)
@@ -122,7 +141,7 @@ abbrev pub IsUnfinishedEnd : Subckt → List ℕ → ℕ → Log → End → Typ
 IsUnfinishedEnd cell out proved log = IsEnd status.Unfinished (log_file cell out log ∷ []) (codes "status 6 unfinished\n" ++ unfinished_text proved (length log.lemmas))
 
 abbrev pub IsMakeEnd : Inputs → List ℕ → MakeAnswer → End → Type 0
-IsMakeEnd inputs out (Made row log routing xs) = IsMadeEnd inputs.cell out row log routing.tracks (drawing_in inputs row routing xs) (unit_nm inputs.tech)
+IsMakeEnd inputs out (Made row log routing xs) = IsMadeEnd inputs.cell out row log routing (drawing_in inputs row routing xs) (unit_nm inputs.tech)
 IsMakeEnd inputs out (Cyclic row log cycle) = IsCycleEnd inputs.cell out log cycle
 IsMakeEnd inputs out (Tall row log routing) = IsTallEnd inputs.cell out log (needed_of row routing.tracks) inputs.tech.height
 IsMakeEnd inputs out (Unfinished proved log) = IsUnfinishedEnd inputs.cell out proved log

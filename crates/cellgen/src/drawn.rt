@@ -70,7 +70,7 @@ pub fn draw_routed(
     ensures shows { IfOk result (λ d. ShowsColumns cell.now.nets cell.now.pins placement.now.row d.drawing.shapes) }
     ensures routed { IfOk result (λ d.
         ShowsRouting cell.now.nets cell.now.pins placement.now d.drawing.shapes routing.now) }
-    ensures few { IfOk result (λ d. length d.drawing.shapes.rects ≤ 2000) }
+    ensures few { IfOk result (λ d. length d.drawing.shapes.rects ≤ 1999) }
     ensures limits { IfOk result (λ d. AreWithinLimits d.drawing.shapes.rects) }
     ensures within { IfOk result (λ d. AreWithin d.drawing.shapes) }
     ensures named { IfOk result (λ d.

@@ -41,19 +41,21 @@ impl End {
         })
     }
 
-    /// An end that makes two files in order.
-    pub fn makes_two(
+    /// An end that makes three files in order.
+    pub fn makes_three(
         alloc: Global,
         status: Status,
         first: Output,
         second: Output,
+        third: Output,
         report: Bytes,
     ) -> Result<End, NoMemory>
-        ensures { IfOk result (λ end. end ≡ leaves status (first ∷ second ∷ []) report) }
+        ensures { IfOk result (λ end. end ≡ leaves status (first ∷ second ∷ third ∷ []) report) }
     {
         let mut files = OutputList::new(alloc);
         files.push(first)?;
         files.push(second)?;
+        files.push(third)?;
         Ok(End {
             status,
             files,

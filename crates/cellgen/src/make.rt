@@ -93,7 +93,7 @@ fn make_routed(
             stem,
             row,
             log,
-            routing.tracks,
+            routing,
             &drawn.drawing,
             unit_nm,
         ),

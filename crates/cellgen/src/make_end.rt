@@ -3,6 +3,7 @@ ghost use Rattle.bound_log.specs.Fits.{IsLogName};
 ghost use Rattle.bound_log.specs.Text.{log_text};
 ghost use Rattle.gds_read.specs.RoundTrip.{IsReadable};
 ghost use Rattle.gds_write.specs.Written.{written};
+ghost use Rattle.lef_write.specs.Lef.{cell_text};
 ghost use Rattle.cellgen.specs.Make.{IsEnd, IsMadeEnd, log_file};
 
 use crate::end::{End, Output};
@@ -12,7 +13,9 @@ use crate::stem::Stem;
 use bound_log::{Log, write_log};
 use cell_draw::Drawing;
 use cell_num::{Bytes, NoMemory};
+use channel_route::Routing;
 use gds_write::write_cell;
+use lef_write::lef_text;
 use row_model::Arrangement;
 use spice_net::Subckt;
 use std::alloc::Global;
@@ -44,27 +47,51 @@ fn gds_file(
     Ok(Output { name, bytes })
 }
 
-/// The end of a drawn cell: its log, then its drawing.
+fn lef_file(
+    alloc: Global,
+    cell: &Subckt,
+    stem: &Stem,
+    routing: &Routing,
+    drawing: &Drawing,
+    unit_nm: u32,
+) -> Result<Output, NoMemory>
+    requires pins { cell.now.pins.pins ≤ length cell.now.nets }
+    requires directions { length cell.now.directions ≡ cell.now.pins.pins }
+    requires few { length drawing.now.shapes.rects ≤ 1999 }
+    ensures name { IfOk result (λ file. string_bytes file.name ≡ stem.now ++ codes ".lef") }
+    ensures bytes { IfOk result (λ file. file.bytes ≡ cell_text cell.now routing.now drawing.now unit_nm) }
+{
+    let name = stem.with(alloc, ".lef")?;
+    let bytes = Bytes::from_vec(lef_text(alloc, cell, routing, drawing, unit_nm)?);
+    Ok(Output { name, bytes })
+}
+
+/// The end of a drawn cell: its log, then its drawing, then its abstract.
 pub fn with_drawing(
     alloc: Global,
     cell: &Subckt,
     stem: &Stem,
     row: &Arrangement,
     log: &Log,
-    tracks: u32,
+    routing: &Routing,
     drawing: &Drawing,
     unit_nm: u32,
 ) -> Result<End, NoMemory>
     requires name { IsLogName cell.now.name }
     requires few { length log.now.lemmas ≤ 1073741824 }
     requires columns { length row.now ≤ 64 }
+    requires pins { cell.now.pins.pins ≤ length cell.now.nets }
+    requires directions { length cell.now.directions ≡ cell.now.pins.pins }
+    requires shapes { length drawing.now.shapes.rects ≤ 1999 }
     requires readable { IsReadable cell.now.name drawing.now.shapes unit_nm }
-    ensures { IfOk result (IsMadeEnd cell.now stem.now row.now log.now tracks drawing.now unit_nm) }
+    ensures { IfOk result (IsMadeEnd cell.now stem.now row.now log.now routing.now drawing.now unit_nm) }
 {
-    let report = made_report(alloc, cell, row, tracks, drawing, log.lemmas.len() as u64)?;
+    let lemmas = log.lemmas.len() as u64;
+    let report = made_report(alloc, cell, row, routing.tracks, drawing, lemmas)?;
     let first = log_file(alloc, cell, stem, log)?;
     let second = gds_file(alloc, cell, stem, drawing, unit_nm)?;
-    End::makes_two(alloc, Status::Done, first, second, report)
+    let third = lef_file(alloc, cell, stem, routing, drawing, unit_nm)?;
+    End::makes_three(alloc, Status::Done, first, second, third, report)
 }
 
 /// An end that leaves the log alone.

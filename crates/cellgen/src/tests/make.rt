@@ -41,10 +41,10 @@ M10 gnd q m gnd nmos W=0.9u L=0.6u
 
 const INVERTER_LOG: &str = "cellgen-log 1\ncell inv\ngaps 0\ncolumn 0 0 0 0 0\nend\n";
 
-// The end of the report, the log, and the length of the drawing's file.
+// The end of the report, the log, and the lengths of the drawing's and of the abstract's file.
 #[test]
 fn makes_a_cell(rt: HostRuntime) -> Result<(), Fail> {
-    for (tech, spice, words, status, said, log, bytes) in [
+    for (tech, spice, words, status, said, log, bytes, lef) in [
         (
             "",
             INVERTER,
@@ -53,6 +53,7 @@ fn makes_a_cell(rt: HostRuntime) -> Result<(), Fail> {
             "column 0 gate a p y vdd 20 n y gnd 10\ntracks 1\nsize 41 118\nlemmas 0\n",
             INVERTER_LOG,
             2122,
+            997,
         ),
         (
             "height = 118",
@@ -62,6 +63,7 @@ fn makes_a_cell(rt: HostRuntime) -> Result<(), Fail> {
             "tracks 1\nsize 41 118\nlemmas 0\n",
             INVERTER_LOG,
             2122,
+            997,
         ),
         (
             "height = 130",
@@ -71,6 +73,7 @@ fn makes_a_cell(rt: HostRuntime) -> Result<(), Fail> {
             "tracks 1\nsize 41 130\nlemmas 0\n",
             INVERTER_LOG,
             2122,
+            998,
         ),
         (
             "height = 117",
@@ -79,6 +82,7 @@ fn makes_a_cell(rt: HostRuntime) -> Result<(), Fail> {
             Status::TooTall,
             "status 11 tall\nneeded 118\ngiven 117\n",
             INVERTER_LOG,
+            0,
             0,
         ),
         (
@@ -89,6 +93,7 @@ fn makes_a_cell(rt: HostRuntime) -> Result<(), Fail> {
             "column 1 gate b p vdd y 20 n n1 gnd 20\ntracks 2\nsize 60 144\nlemmas 0\n",
             "cellgen-log 1\ncell nand2\ngaps 0\ncolumn 0 0 0 0 0\ncolumn 1 1 1 1 1\nend\n",
             2968,
+            1210,
         ),
         (
             "",
@@ -98,6 +103,7 @@ fn makes_a_cell(rt: HostRuntime) -> Result<(), Fail> {
             "column 1 gate cn p a b 20 n - - 0\ntracks 2\nsize 66 134\nlemmas 0\n",
             "cellgen-log 1\ncell tg\ngaps 0\ncolumn 2 - 0 0 0\ncolumn 3 0 0 - 0\nend\n",
             2964,
+            1331,
         ),
         (
             "",
@@ -106,6 +112,7 @@ fn makes_a_cell(rt: HostRuntime) -> Result<(), Fail> {
             Status::Cycle,
             "status 5 cycle\nx above y at line 0\ny above x at line 4\n",
             "cellgen-log 1\ncell cross\nlemma 1 P 1,1 1,1 - -\ngaps 1\ncolumn 6 0 0 0 0\ncolumn 7 1 0 1 0\nend\n",
+            0,
             0,
         ),
         (
@@ -116,6 +123,7 @@ fn makes_a_cell(rt: HostRuntime) -> Result<(), Fail> {
             "status 6 unfinished\nproved 1\nlemmas 1\n",
             "cellgen-log 1\ncell x3\nlemma 1 P 1,1,1 1,1,1 - -\nopen\nend\n",
             0,
+            0,
         ),
         (
             "",
@@ -125,6 +133,7 @@ fn makes_a_cell(rt: HostRuntime) -> Result<(), Fail> {
             "column 5 gate m p vdd q 20 n gnd q 10\ntracks 3\nsize 154 150\nlemmas 8\n",
             "cellgen-log 1\ncell latch\nlemma 1 B 0,1,1,1,1 0,1,1,1,1 5 5\nlemma 1 B 0,1,1,1,1 0,1,1,1,1 5 3\nlemma 1 B 0,1,1,1,1 1,0,1,1,1 5 8\nlemma 1 B 0,1,1,1,1 1,0,1,1,1 5 7\nlemma 1 B 0,1,1,1,1 0,1,1,1,1 4 5\nlemma 1 P 0,0,0,1,1 0,0,0,0,1 7 3\nlemma 1 P 0,0,0,1,1 0,0,0,0,1 4 3\nlemma 1 N 0,0,0,0,1 0,0,0,0,1 4 7\ngaps 0\ncolumn 0 0 1 0 1\ncolumn 1 1 0 2 0\ncolumn 0 - 0 1 1\ncolumn 5 3 0 - 0\ncolumn 2 2 1 3 1\ncolumn 7 4 1 4 1\nend\n",
             6986,
+            1858,
         ),
     ] {
         let (got, desk) = run_over(rt.alloc(), words, [tech, spice, ""], &[])?;
@@ -136,6 +145,11 @@ fn makes_a_cell(rt: HostRuntime) -> Result<(), Fail> {
             bytes,
             "{said}"
         );
+        assert_eq!(rt;
+            desk.file("out.lef").map_or(0, |file| file.len()),
+            lef,
+            "{said}"
+        );
     }
     Ok(())
 }
@@ -144,14 +158,16 @@ fn makes_a_cell(rt: HostRuntime) -> Result<(), Fail> {
 // says the report.
 #[test]
 fn leaves_earlier_files_whole(rt: HostRuntime) -> Result<(), Fail> {
-    for (call, status, log, bytes) in [
-        (0, Status::ReadFault, None, None),
-        (2, Status::WriteFault, None, None),
-        (3, Status::WriteFault, Some(0), None),
-        (4, Status::WriteFault, Some(51), None),
-        (5, Status::WriteFault, Some(51), Some(0)),
-        (6, Status::WriteFault, Some(51), Some(2122)),
-        (7, Status::Done, Some(51), Some(2122)),
+    for (call, status, log, bytes, lef) in [
+        (0, Status::ReadFault, None, None, None),
+        (2, Status::WriteFault, None, None, None),
+        (3, Status::WriteFault, Some(0), None, None),
+        (4, Status::WriteFault, Some(51), None, None),
+        (5, Status::WriteFault, Some(51), Some(0), None),
+        (6, Status::WriteFault, Some(51), Some(2122), None),
+        (7, Status::WriteFault, Some(51), Some(2122), Some(0)),
+        (8, Status::WriteFault, Some(51), Some(2122), Some(997)),
+        (9, Status::Done, Some(51), Some(2122), Some(997)),
     ] {
         let (got, desk) = run_over(
             rt.alloc(),
@@ -168,6 +184,11 @@ fn leaves_earlier_files_whole(rt: HostRuntime) -> Result<(), Fail> {
         assert_eq!(rt;
             desk.file("out.gds").map(|file| file.len()),
             bytes,
+            "call {call}"
+        );
+        assert_eq!(rt;
+            desk.file("out.lef").map(|file| file.len()),
+            lef,
             "call {call}"
         );
     }

@@ -10,6 +10,7 @@ invariant_of-result c = record {
   whole = subst (λ (name : List ℕ). All (λ byte. byte ≢ 0) name) (sym c.in_ok-cell.ensures.name) c.requires.whole;
   nets = c.in_ok-cell.ensures.named;
   pins = c.in_ok-cell.ensures.pins;
+  directions = c.in_ok-cell.ensures.directions;
   fingers = c.in_ok-fingers.ensures.asked;
   sound = c.in_ok-fingers.ensures.sound;
 }
