@@ -1,6 +1,7 @@
 -- A cell of a GDSII file calls for one end of its extraction.
-use Rattle.std.proofs.Common.{ℕ, ℤ, ◌≡◌, ◌≢◌, ◌==◌, IsTrue, ◌≤◌, ◌<◌, ◌⊎◌, List, [], ◌∷◌, ◌++◌, length, Option, Some, None, Result, Ok, Err, IfOk, inl, inr, refl, sym, ap, ◌∙◌, subst, arith}
+use Rattle.std.proofs.Common.{ℕ, ℤ, suc, ◌≡◌, ◌≢◌, ◌==◌, IsTrue, ◌≤◌, ◌<◌, ◌⊎◌, List, [], ◌∷◌, ◌++◌, length, Option, Some, None, Result, Ok, Err, IfOk, inl, inr, refl, sym, ap, ◌∙◌, subst, arith}
 use Rattle.std.specs.List.{AllZip, Contains}
+use Rattle.std.proofs.lemmas.Bool.Decides.{Decides-eqb}
 use Rattle.std.proofs.lemmas.Result.{IfOk-weaker}
 use Rattle.box_geom.specs.declared.shape.Label.{Label}
 use Rattle.box_geom.specs.declared.shape.Shape.{Shape}
@@ -42,7 +43,7 @@ use Rattle.cellgen.specs.Extract.{BreaksRule, ExtractsTo, HasLayoutFault, HasNet
 
 pub no_items : {X : Type 0} → (xs : List X) → IsTrue (length xs == 0) → xs ≡ []
 no_items [] is = refl
-no_items (x ∷ xs) is = absurd is
+no_items (x ∷ xs) is = absurd (let k : suc (length xs) ≡ 0 = (Decides-eqb (suc (length xs)) 0).0 is in omega arith)
 
 -- ---- a drawing that has a netlist is not refused
 
