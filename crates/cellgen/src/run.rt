@@ -50,9 +50,9 @@ fn prepare<D: Desk>(alloc: Global, words: &[String], desk: &mut D) -> End
 ///
 /// `plan TECH SPICE CELL` finds the first least row of a cell: TECH is a technology file or `-` for the
 /// plain technology, SPICE a file, and CELL the name of one of its subcircuits. `make TECH SPICE CELL OUT`
-/// draws that row: it makes the log `OUT.clog` and then the GDSII library `OUT.gds`. `check TECH SPICE CELL LOG`
-/// tells whether the file LOG is the text of a log that certifies a row of that cell. `extract TECH GDS CELL` tells
-/// the netlist of a cell of the GDSII file GDS, or the rules that it breaks.
+/// draws that row: it makes the log `OUT.clog`, the GDSII library `OUT.gds` and then the abstract `OUT.lef`.
+/// `check TECH SPICE CELL LOG` tells whether the file LOG is the text of a log that certifies a row of that cell.
+/// `extract TECH GDS CELL` tells the netlist of a cell of the GDSII file GDS, or the rules that it breaks.
 ///
 /// All memory that is not the desk's own is taken before the first file is made.
 pub fn run<D: Desk>(alloc: Global, words: &[String], desk: &mut D) -> Status
