@@ -6,6 +6,8 @@ pub mod Joins
 pub mod Limits
 pub mod Meeting
 pub mod Moved
+pub mod Rising
+pub mod Slabbing
 pub mod Slots
 pub mod Sorting
 pub mod Spans

@@ -12,7 +12,7 @@ use Rattle.box_geom.specs.Near.{Near}
 use Rattle.box_geom.specs.Regions.{IsBlock, Follows, AreBanded, SameCells, OnPlane, IsNear, NotAfter, IsFirst, CoversNone}
 use Rattle.box_geom.specs.Moving.{whole, moved_by, is_proper, turned_by}
 use Rattle.box_geom.specs.Banding.{IsMade}
-use Rattle.box_geom.specs.declared.region.Moves.{Moves}
+use Rattle.box_geom.specs.declared.moving.Moves.{Moves}
 use Rattle.box_geom.specs.declared.sweep.Operation.{Operation}
 use Rattle.box_geom.specs.declared.sweep.Operation.TheVariants.{Either}
 use Rattle.box_geom.proofs.Filters.{contains_filter, in_filter}

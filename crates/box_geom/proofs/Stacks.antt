@@ -131,7 +131,7 @@ band_spread : (low h : ℤ) (rs : List XRange) → Spread rs → AllPairs Follow
 band_spread low h [] s = pairs_none Follows
 band_spread low h (r ∷ rs) s = band_apart low h (r.x1 -ℤ pos 1) (r ∷ rs) (omega (arith, ints), s)
 
-band_covers : (low h : ℤ) (rs : List XRange) (x y : ℤ) → low ≤ℤ y → y <ℤ h → Covers (map (in_band low h) rs) x y ↔ Hit rs x
+pub band_covers : (low h : ℤ) (rs : List XRange) (x y : ℤ) → low ≤ℤ y → y <ℤ h → Covers (map (in_band low h) rs) x y ↔ Hit rs x
 band_covers low h rs x y from to = (there, back)
   where
     there : Covers (map (in_band low h) rs) x y → Hit rs x

@@ -5,7 +5,8 @@ use Rattle.std.proofs.lemmas.Int.{ints}
 use Rattle.cell_num.proofs.Lists.{contains_none, contains_cons, contains_here, contains_there}
 use Rattle.box_geom.specs.Rectangle.{Rectangle, Holds, Covers}
 use Rattle.box_geom.specs.Sweeping.{Spans, Meant, AreRangesOf}
-use Rattle.box_geom.specs.Banding.{stands_at, AreRowOf}
+use Rattle.box_geom.specs.Banding.{AreRowOf}
+use Rattle.box_geom.specs.Standing.{stands_at}
 use Rattle.box_geom.specs.declared.ranges.XRange.{XRange}
 use Rattle.box_geom.specs.declared.sweep.Operation.{Operation}
 use Rattle.box_geom.proofs.Spans.{within_decides}

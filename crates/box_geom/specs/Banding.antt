@@ -1,17 +1,12 @@
 -- Two sets of cells, put together band by band.
-use Rattle.std.specs.Prelude.{ℤ, ◌↔◌, List, [], ◌∷◌, ◌++◌, Bool}
+use Rattle.std.specs.Prelude.{ℤ, ◌↔◌, List, [], ◌∷◌, ◌++◌}
 use Rattle.std.specs.List.{flat_map}
 use Rattle.box_geom.specs.Rectangle.{Rectangle, Covers}
-use Rattle.box_geom.specs.Comparisons.{within}
 use Rattle.box_geom.specs.Ranges.{Hit, Spread}
 use Rattle.box_geom.specs.Regions.{AreBanded}
 use Rattle.box_geom.specs.Sweeping.{Meant}
 use Rattle.box_geom.specs.declared.ranges.XRange.{XRange}
 use Rattle.box_geom.specs.declared.sweep.Operation.{Operation}
-
--- the row y goes through the rectangle
-abbrev pub stands_at : ℤ → Rectangle → Bool
-stands_at y r = within r.y1 r.y2 y
 
 -- the rectangle of a range in the band from low to before high
 abbrev pub in_band : ℤ → ℤ → XRange → Rectangle

@@ -9,5 +9,7 @@ pub mod Ranges
 pub mod Rectangle
 pub mod Regions
 pub mod Runs
+pub mod Slabbing
+pub mod Standing
 pub mod Sweeping
 pub mod Touching

@@ -3,7 +3,7 @@ use Rattle.std.specs.Prelude.{◌≡◌, ℕ, ℤ, pos, neg_ℤ, ◌+ℤ◌, ◌
 use Rattle.std.specs.Int.{int_min, int_max}
 use Rattle.box_geom.specs.Rectangle.{Rectangle}
 use Rattle.box_geom.specs.Regions.{IsSmall}
-use Rattle.box_geom.specs.declared.region.Moves.{Moves}
+use Rattle.box_geom.specs.declared.moving.Moves.{Moves}
 
 pub record AreSmall (by : Moves) : Type 0 where
   pub x1 : IsSmall by.x1

@@ -1,51 +1,17 @@
 // Two sets of cells, each given by rectangles in any order, put together band by band.
 ghost use Rattle.std.specs.Prelude.{◌≡◌, ◌∷◌, ◌++◌, map, IfOk, OnOk};
-ghost use Rattle.std.specs.List.{All, filter, flat_map};
+ghost use Rattle.std.specs.List.{All, flat_map};
 ghost use Rattle.box_geom.specs.Cutting.{AreCuts};
-ghost use Rattle.box_geom.specs.Banding.{stands_at, in_band, sides_up, all_sides_up, AreRowOf, AreMadeOf};
+ghost use Rattle.box_geom.specs.Banding.{in_band, sides_up, all_sides_up, AreMadeOf};
+ghost use Rattle.box_geom.specs.Standing.{AreRising};
 ghost use Rattle.box_geom.specs.Regions.{IsBlock};
 
 use crate::block::Block;
 use crate::cuts::once_each;
 use crate::ranges::XRange;
-use crate::span::in_span;
+use crate::standing::{advance, from_below};
 use crate::sweep::{Operation, ranges};
 use std::alloc::{AllocError, Global};
-
-fn does_stand(block: &Block, y: i32) -> bool
-    ensures { result ≡ stands_at y block.now }
-{
-    in_span(block.y1, block.y2, y)
-}
-
-fn standing(alloc: Global, blocks: &[Block], y: i32) -> Result<Vec<Block>, AllocError>
-    ensures { IfOk result (λ v. v.items ≡ filter (stands_at y) blocks.now) }
-{
-    let mut out = Vec::new(alloc);
-    for block in blocks {
-        if does_stand(block, y) {
-            out.push(*block)?;
-        }
-    }
-    Ok(out)
-}
-
-fn row(
-    alloc: Global,
-    operation: Operation,
-    first: &[Block],
-    second: &[Block],
-    y: i32,
-) -> Result<Vec<XRange>, AllocError>
-    ensures { IfOk result (λ v. AreRowOf operation first.now second.now y v.items) }
-{
-    let a = standing(alloc, first, y)?;
-    let b = standing(alloc, second, y)?;
-    match ranges(alloc, operation, a.as_slice(), b.as_slice()) {
-        Ok(made) => Ok(made),
-        Err(error) => Err(error),
-    }
-}
 
 fn block_of(low: i32, high: i32, range: &XRange) -> Block
     ensures { result ≡ in_band low high range.now }
@@ -85,6 +51,7 @@ fn all_sides(alloc: Global, first: &[Block], second: &[Block]) -> Result<Vec<i32
     Ok(values)
 }
 
+// The bands, of rectangles in the order of their lower sides.
 fn add_bands(
     alloc: Global,
     operation: Operation,
@@ -95,17 +62,44 @@ fn add_bands(
 ) -> Result<Vec<Block>, AllocError>
     requires first { All IsBlock first.now }
     requires second { All IsBlock second.now }
+    requires first_rising { AreRising first.now }
+    requires second_rising { AreRising second.now }
     requires cuts { AreCuts (all_sides_up first.now second.now) (lowest ∷ rest.now) }
     ensures { IfOk result (λ v. AreMadeOf operation first.now second.now v.items) }
 {
     let mut out = Vec::new(alloc);
     let mut low = lowest;
+    let mut a = Vec::new(alloc);
+    let mut b = Vec::new(alloc);
+    let mut a_rest = first;
+    let mut b_rest = second;
     for high in rest {
-        let ranges = row(alloc, operation, first, second, low)?;
-        add_band(&mut out, low, *high, ranges.as_slice())?;
+        a_rest = advance(&mut a, a_rest, low)?;
+        b_rest = advance(&mut b, b_rest, low)?;
+        let row = ranges(alloc, operation, a.as_slice(), b.as_slice())?;
+        add_band(&mut out, low, *high, row.as_slice())?;
         low = *high;
     }
     Ok(out)
+}
+
+fn rising_bands(
+    alloc: Global,
+    operation: Operation,
+    first: &[Block],
+    second: &[Block],
+) -> Result<Vec<Block>, AllocError>
+    requires first { All IsBlock first.now }
+    requires second { All IsBlock second.now }
+    requires first_rising { AreRising first.now }
+    requires second_rising { AreRising second.now }
+    ensures { IfOk result (λ v. AreMadeOf operation first.now second.now v.items) }
+{
+    let cuts = once_each(all_sides(alloc, first, second)?);
+    match cuts.split_first() {
+        None => Ok(Vec::new(alloc)),
+        Some((lowest, rest)) => add_bands(alloc, operation, first, second, *lowest, rest),
+    }
 }
 
 // The bands of what the operation makes of the cells of two lists of rectangles.
@@ -119,9 +113,10 @@ pub(crate) fn bands(
     requires second { All IsBlock second.now }
     ensures { IfOk result (λ v. AreMadeOf operation first.now second.now v.items) }
 {
-    let cuts = once_each(all_sides(alloc, first, second)?);
-    match cuts.split_first() {
-        None => Ok(Vec::new(alloc)),
-        Some((lowest, rest)) => add_bands(alloc, operation, first, second, *lowest, rest),
+    let a = from_below(alloc, first)?;
+    let b = from_below(alloc, second)?;
+    match rising_bands(alloc, operation, a.as_slice(), b.as_slice()) {
+        Ok(made) => Ok(made),
+        Err(error) => Err(error),
     }
 }

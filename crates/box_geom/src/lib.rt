@@ -5,11 +5,14 @@ mod bands;
 pub mod block;
 pub mod cuts;
 pub mod layer;
+mod moving;
 pub mod ranges;
 pub mod rect;
 pub mod region;
 pub mod shape;
+pub mod slab;
 mod span;
+mod standing;
 mod sweep;
 #[cfg(test)]
 mod tests;
@@ -23,6 +26,7 @@ pub use ranges::XRange;
 pub use rect::Rect;
 pub use region::{Place, Region};
 pub use shape::{Label, Shape, Shapes, covered};
+pub use slab::{Slab, SlabList, Slabs, XRangeList};
 pub use touching::{facing_gap, touches};
 
 pub type ShapeList = List<Shape>;

@@ -1,23 +1,19 @@
-ghost use Rattle.std.specs.Prelude.{◌≡◌, ◌≤◌, ◌↔◌, ◌⊎◌, ℤ, pos, neg_ℤ, ◌-ℤ◌, map, IfOk, IfSome, IsNone, IsTrue};
-ghost use Rattle.std.specs.List.{All, filter};
+ghost use Rattle.std.specs.Prelude.{◌≡◌, ◌≤◌, ◌↔◌, ◌⊎◌, ℤ, ◌-ℤ◌, IfOk, IfSome, IsNone, IsTrue};
+ghost use Rattle.std.specs.List.{All};
 ghost use Rattle.box_geom.specs.Rectangle.{Covers};
 ghost use Rattle.box_geom.specs.Layers.{rects_on};
 ghost use Rattle.box_geom.specs.Regions.{IsBlock, AreBanded, SameCells, OnPlane, IsNear, IsFirst, IsSmall, CoversNone};
 ghost use Rattle.box_geom.specs.Banding.{IsMade};
-ghost use Rattle.box_geom.specs.Moving.{whole, spread_by, moved_by, is_proper, turned_by, AreSmall, MovesAre};
 
 use crate::bands::bands;
 use crate::block::Block;
+use crate::moving::{all_moved, all_turned, along, outward, whole_plane};
 use crate::shape::is_on;
 use crate::sweep::Operation;
 use crate::{Layer, Rect, Shape, Shapes};
 use cell_num::NoMemory;
 use std::alloc::{AllocError, Global};
 use std::marker::Model;
-
-const LEAST: i32 = -2_000_000_000;
-
-const MOST: i32 = 2_000_000_000;
 
 /// A cell, by its lower left corner, in grid units.
 #[derive(Clone, Copy, Debug, PartialEq, Eq)]
@@ -44,15 +40,6 @@ impl Model for Region {
     ghost view = { λ r. r.blocks.items };
 
     ghost invariant = { λ r. AreBanded r.blocks.items };
-}
-
-// How far the sides of a rectangle move.
-#[derive(Clone, Copy, Debug)]
-pub struct Moves {
-    x1: i32,
-    y1: i32,
-    x2: i32,
-    y2: i32,
 }
 
 fn made(
@@ -90,102 +77,6 @@ fn blocks_on(alloc: Global, shapes: &[Shape], layer: Layer) -> Result<Vec<Block>
         if is_on(shape, layer) {
             out.push(block_of(&shape.rect))?;
         }
-    }
-    Ok(out)
-}
-
-fn outward(by: u32) -> Moves
-    requires { by ≤ 1000 }
-    ensures sides { MovesAre (neg_ℤ (pos by)) (neg_ℤ (pos by)) (pos by) (pos by) result }
-    ensures small { AreSmall result }
-{
-    let by = by as i32;
-    Moves {
-        x1: -by,
-        y1: -by,
-        x2: by,
-        y2: by,
-    }
-}
-
-fn along(dx: i32, dy: i32) -> Moves
-    requires dx { IsSmall dx }
-    requires dy { IsSmall dy }
-    ensures sides { MovesAre dx dy dx dy result }
-    ensures small { AreSmall result }
-{
-    Moves {
-        x1: dx,
-        y1: dy,
-        x2: dx,
-        y2: dy,
-    }
-}
-
-fn spread(block: &Block, by: &Moves) -> Block
-    requires block { IsBlock block.now }
-    requires small { AreSmall by.now }
-    ensures { result ≡ spread_by by.now block.now }
-{
-    Block {
-        x1: block.x1 + by.x1,
-        y1: block.y1 + by.y1,
-        x2: block.x2 + by.x2,
-        y2: block.y2 + by.y2,
-    }
-}
-
-fn moved(block: &Block, by: &Moves) -> Block
-    requires block { IsBlock block.now }
-    requires small { AreSmall by.now }
-    ensures { result ≡ moved_by by.now block.now }
-{
-    spread(block, by).common(&whole_plane())
-}
-
-fn all_moved(alloc: Global, blocks: &[Block], by: &Moves) -> Result<Vec<Block>, AllocError>
-    requires blocks { All IsBlock blocks.now }
-    requires small { AreSmall by.now }
-    ensures { IfOk result (λ v. v.items ≡ filter is_proper (map (moved_by by.now) blocks.now)) }
-{
-    let mut out = Vec::new(alloc);
-    for block in blocks {
-        let next = moved(block, by);
-        if next.does_ascend() {
-            out.push(next)?;
-        }
-    }
-    Ok(out)
-}
-
-fn whole_plane() -> Block
-    ensures { result ≡ whole }
-{
-    Block {
-        x1: LEAST,
-        y1: LEAST,
-        x2: MOST,
-        y2: MOST,
-    }
-}
-
-fn turned_block(block: &Block) -> Block
-    ensures { result ≡ turned_by block.now }
-{
-    Block {
-        x1: block.y1,
-        y1: block.x1,
-        x2: block.y2,
-        y2: block.x2,
-    }
-}
-
-fn all_turned(alloc: Global, blocks: &[Block]) -> Result<Vec<Block>, AllocError>
-    ensures { IfOk result (λ v. v.items ≡ map turned_by blocks.now) }
-{
-    let mut out = Vec::new(alloc);
-    for block in blocks {
-        out.push(turned_block(block))?;
     }
     Ok(out)
 }

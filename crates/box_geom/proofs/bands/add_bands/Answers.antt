@@ -8,25 +8,18 @@ use Rattle.box_geom.proofs.bands.add_bands.Goals as goal
 pub loop-high-init : goal.loop-high-init
 loop-high-init c =
     let e : c.new-out.result.items ≡ [] = search rules in
-    let f : to_z w32 (of_z w32 c.args.lowest) ≡ c.args.lowest = grind (arith, to_z-of_z) in
-    subst (λ z. AreDone c.args.operation c.args.first.now c.args.second.now c.new-out.result.items z c.args.rest.now) (sym f)
-    (subst (λ z. AreDone c.args.operation c.args.first.now c.args.second.now z c.args.lowest c.args.rest.now) (sym e)
-    (begun c.args.operation c.args.first.now c.args.second.now c.args.lowest c.args.rest.now c.requires.first c.requires.second c.requires.cuts))
+    let f : to_z w32 (of_z w32 c.args.lowest) ≡ c.args.lowest = grind (arith, to_z-of_z) in (
+      subst (λ z. AreDone c.args.operation c.args.first.now c.args.second.now c.new-out.result.items z c.args.rest.now) (sym f)
+          (subst (λ z. AreDone c.args.operation c.args.first.now c.args.second.now z c.args.lowest c.args.rest.now) (sym e)
+          (begun c.args.operation c.args.first.now c.args.second.now c.args.lowest c.args.rest.now c.requires.first c.requires.second c.requires.cuts)),
+      ?,
+      ?,
+    )
 
 pub loop-high-preserved : goal.loop-high-preserved
-loop-high-preserved c =
-    let next : ℤ = slice_index_or c.args.rest.now c.loop-high.high-index (pos 0) in
-    let low : to_z w32 c.loop-high.low-bits ≡ c.loop-high.low = search rules in
-    let done : AreDone c.args.operation c.args.first.now c.args.second.now c.loop-high.out.items c.loop-high.low (drop c.loop-high.high-index c.args.rest.now) = subst (λ z. AreDone c.args.operation c.args.first.now c.args.second.now c.loop-high.out.items z (drop c.loop-high.high-index c.args.rest.now)) low c.loop-high.invariant in
-    let within = next_within c.args.operation c.args.first.now c.args.second.now c.loop-high.out.items c.loop-high.low c.args.rest.now c.loop-high.high-index c.loop-high-test.true done in
-    let least = within.0 in
-    let most = within.1 in
-    let back : to_z w32 (of_z w32 (slice_index_or c.args.rest.now c.loop-high.high-index (pos 0))) ≡ slice_index_or c.args.rest.now c.loop-high.high-index (pos 0) = to_z-of_z w32 (slice_index_or c.args.rest.now c.loop-high.high-index (pos 0)) (omega (arith, ints)) in
-    let row : AreRowOf c.args.operation c.args.first.now c.args.second.now c.loop-high.low c.in_ok-ranges.ranges.items = search rules in
-    let more : c.add_band.new.out.items ≡ c.loop-high.out.items ++ map (in_band c.loop-high.low (slice_index_or c.args.rest.now c.loop-high.high-index (pos 0))) c.in_ok-ranges.ranges.items = search rules in
-    one_more_at c.args.operation c.args.first.now c.args.second.now c.loop-high.out.items c.add_band.new.out.items c.loop-high.low (to_z w32 (of_z w32 (slice_index_or c.args.rest.now c.loop-high.high-index (pos 0)))) c.args.rest.now c.loop-high.high-index c.in_ok-ranges.ranges.items c.requires.first c.requires.second c.loop-high-test.true back done row more
+loop-high-preserved c = let h = c.loop-high in let a = c.in_ok-advance in let n = c.advance.new in let m = c.advance-2.new in ?
 
 pub returns : goal.returns
 returns c =
     let e : drop c.loop-high.high-index c.args.rest.now ≡ [] = drop_all c.loop-high.high-index c.args.rest.now (omega arith) in
-    all_done c.args.operation c.args.first.now c.args.second.now c.loop-high.out.items (to_z w32 c.loop-high.low-bits) (subst (λ z. AreDone c.args.operation c.args.first.now c.args.second.now c.loop-high.out.items (to_z w32 c.loop-high.low-bits) z) e c.loop-high.invariant)
+    all_done c.args.operation c.args.first.now c.args.second.now c.loop-high.out.items (to_z w32 c.loop-high.low-bits) (subst (λ z. AreDone c.args.operation c.args.first.now c.args.second.now c.loop-high.out.items (to_z w32 c.loop-high.low-bits) z) e c.loop-high.invariant.0)

@@ -2,7 +2,7 @@ use Rattle.std.proofs.Common.{◌≡◌, arith, ap}
 use Rattle.std.proofs.lemmas.Int.{ints}
 use Rattle.box_geom.specs.Rectangle.{Rectangle}
 use Rattle.box_geom.proofs.Moved.{same_rect}
-use Rattle.box_geom.proofs.region.spread.Goals as goal
+use Rattle.box_geom.proofs.moving.spread.Goals as goal
 
 pub returns : goal.returns
 returns c =

@@ -2,7 +2,7 @@ use Rattle.std.proofs.Common.{rules, ◌≡◌, List, [], subst, sym}
 use Rattle.box_geom.specs.Cutting.{AreCuts}
 use Rattle.box_geom.specs.Banding.{AreMadeOf, all_sides_up}
 use Rattle.box_geom.proofs.Stacks.{none_cut}
-use Rattle.box_geom.proofs.bands.bands.Goals as goal
+use Rattle.box_geom.proofs.bands.rising_bands.Goals as goal
 
 pub returns-in-None : goal.returns-in-None
 returns-in-None c =
