@@ -1,6 +1,6 @@
 -- The events of two lists of rectangles, in order, give the ranges of what the operation makes of their columns.
-use Rattle.std.proofs.Common.{◌≡◌, ◌↔◌, ℕ, zero, suc, ◌+◌, ◌<◌, ◌≤◌, ℤ, ◌≤ℤ◌, ◌<ℤ◌, List, [], ◌∷◌, ◌++◌, length, Bool, true, false, int_lt, get_or, IsPermutation, arith, inl, inr, ◌⊎◌, refl, sym, subst}
-use Rattle.std.specs.List.{All, Contains, flat_map}
+use Rattle.std.proofs.Common.{◌≡◌, ◌↔◌, suc, ◌+◌, ℤ, ◌≤ℤ◌, ◌<ℤ◌, List, [], ◌∷◌, Bool, true, false, int_lt, get_or, IsPermutation, arith, inl, inr, ◌⊎◌, refl, sym, subst}
+use Rattle.std.specs.List.{Contains, flat_map}
 use Rattle.std.specs.List.Sorted.{IsSorted}
 use Rattle.std.specs.Ordering.{is_lt}
 use Rattle.std.proofs.lemmas.Int.{ints, by_lt_z}
@@ -8,7 +8,7 @@ use Rattle.std.proofs.lemmas.List.Elements.{Contains-append_left, Contains-appen
 use Rattle.std.proofs.lemmas.List.Sorted.{Contains-permutation, IsPermutation-sym}
 use Rattle.cell_num.proofs.In.{In, From, contains_in, in_contains, in_append, in_pieces, contains_flat}
 use Rattle.box_geom.specs.Rectangle.{Rectangle}
-use Rattle.box_geom.specs.Ranges.{Hit, Spread, all_joined}
+use Rattle.box_geom.specs.Ranges.{Hit, all_joined}
 use Rattle.box_geom.specs.Sweeping.{Meant, Spans, AreRangesOf, events_of, all_events, event_cmp, slots, all_slots}
 use Rattle.box_geom.specs.declared.ranges.XRange.{XRange}
 use Rattle.box_geom.specs.declared.sweep.Event.{Event}

@@ -1,5 +1,5 @@
 -- What ranges in order join to: the same numbers, with room between the ranges.
-use Rattle.std.proofs.Common.{◌≡◌, ◌↔◌, ℤ, pos, ◌≤ℤ◌, ◌<ℤ◌, ◌+ℤ◌, ◌-ℤ◌, ℕ, List, [], ◌∷◌, Bool, true, false, if◌then◌else◌, cond, int_le, arith, inl, inr, ◌⊎◌, refl, sym, subst, ap}
+use Rattle.std.proofs.Common.{◌≡◌, ◌↔◌, ℤ, pos, ◌≤ℤ◌, ◌<ℤ◌, ◌-ℤ◌, List, [], ◌∷◌, Bool, true, false, if◌then◌else◌, arith, inl, inr, ◌⊎◌, refl}
 use Rattle.std.proofs.lemmas.Int.{ints, clamps, by_lt_z}
 use Rattle.box_geom.specs.declared.ranges.XRange.{XRange}
 use Rattle.box_geom.specs.Ranges.{meets, wider, join, all_joined, IsInRange, Hit, Rising, Apart, Spread}

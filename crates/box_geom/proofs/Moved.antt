@@ -1,14 +1,13 @@
 -- What regions cover whose rectangles were moved, grown or turned.
-use Rattle.std.proofs.Common.{◌≡◌, ◌↔◌, ℕ, ℤ, pos, neg_ℤ, ◌≤ℤ◌, ◌<ℤ◌, ◌+ℤ◌, ◌-ℤ◌, List, [], ◌∷◌, map, Bool, true, false, int_lt, ◌&&◌, IsTrue, arith, inl, inr, ◌⊎◌, refl, sym, subst, ◌∙◌, suc, length, ◌==◌, slice_get, Option, Some, None}
-use Rattle.std.specs.List.{All, AllPairs, Contains, filter}
+use Rattle.std.proofs.Common.{◌≡◌, ◌↔◌, ℕ, ℤ, pos, neg_ℤ, ◌≤ℤ◌, ◌<ℤ◌, ◌+ℤ◌, ◌-ℤ◌, List, [], ◌∷◌, map, true, int_lt, IsTrue, arith, inl, inr, ◌⊎◌, refl, sym, subst, ◌∙◌, suc, length, ◌==◌, slice_get, Some, None}
+use Rattle.std.specs.List.{All, Contains, filter}
 use Rattle.std.proofs.lemmas.Int.{ints, clamps, by_lt_z}
 use Rattle.std.proofs.lemmas.List.Elements.{All-contains}
 use Rattle.std.proofs.lemmas.Bool.Decides.{Decides-and, Decides-eqb}
 use Rattle.cell_num.proofs.In.{in_map, contains_map}
-use Rattle.cell_num.proofs.Lists.{some_same, contains_none, contains_cons, contains_here, contains_there, all_from_contains}
+use Rattle.cell_num.proofs.Lists.{some_same, contains_none, contains_cons, contains_here, all_from_contains}
 use Rattle.cell_num.proofs.Pairs.{pairs_head}
-use Rattle.box_geom.specs.Rectangle.{Rectangle, IsRectangle, IsProper, Holds, Covers}
-use Rattle.box_geom.specs.Near.{Near}
+use Rattle.box_geom.specs.Rectangle.{Rectangle, IsRectangle, Holds, Covers}
 use Rattle.box_geom.specs.Regions.{IsBlock, Follows, AreBanded, SameCells, OnPlane, IsNear, NotAfter, IsFirst, CoversNone}
 use Rattle.box_geom.specs.Moving.{whole, moved_by, is_proper, turned_by}
 use Rattle.box_geom.specs.Banding.{IsMade}

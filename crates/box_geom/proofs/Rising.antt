@@ -1,6 +1,6 @@
 -- Rectangles in the order of their lower sides, and those that a row goes through, from row to row upward.
-use Rattle.std.proofs.Common.{◌≡◌, ◌↔◌, ℕ, zero, suc, ◌+◌, ◌<◌, ◌≤◌, ℤ, ◌≤ℤ◌, ◌<ℤ◌, List, [], ◌∷◌, ◌++◌, length, Bool, true, false, cond, int_lt, int_le, get_or, arith, inl, inr, ◌⊎◌, refl, sym, subst, ap, ◌∙◌, true≢false, IsPermutation, take, drop}
-use Rattle.std.specs.List.{All, AllPairs, AllWithin, Contains, filter}
+use Rattle.std.proofs.Common.{◌≡◌, ◌↔◌, ℕ, suc, ◌+◌, ◌<◌, ◌≤◌, ℤ, ◌≤ℤ◌, ◌<ℤ◌, List, [], ◌∷◌, ◌++◌, length, Bool, true, false, cond, int_lt, int_le, get_or, arith, inl, inr, ◌⊎◌, refl, sym, subst, ap, ◌∙◌, true≢false, IsPermutation, take, drop}
+use Rattle.std.specs.List.{All, AllWithin, Contains, filter}
 use Rattle.std.specs.List.Sorted.{IsSortedByKey, IsPartitionedBy, IsPartitionPoint}
 use Rattle.std.specs.Ordering.{is_lt, int_cmp}
 use Rattle.std.proofs.lemmas.Bool.{cases_eq}
@@ -87,13 +87,13 @@ pub low_part : (y : ℤ) (rs : List Rectangle) (n : ℕ) → n ≤ length rs →
 low_part y rs n le all k d lt = subst (IsLow y) (sym (get_or-take n rs k d (inside k lt))) (let e : int_le (get_or rs k d).y1 y ≡ true = all k d (omega arith) (inside k lt) in omega (arith, ints))
   where
     inside : (k : ℕ) → k < length (take n rs) → k < n
-    inside k lt = omega (arith, lt, length-take n rs)
+    inside k lt = omega (arith, lt, le, length-take n rs)
 
 pub high_part : (y : ℤ) (rs : List Rectangle) (n : ℕ) → n ≤ length rs → AllWithin (λ (r : Rectangle). begins_by y r ≡ false) rs n (length rs) → All (IsHigh y) (drop n rs)
 high_part y rs n le all k d lt = subst (IsHigh y) (sym (get_or-drop n rs k d)) (let e : int_le (get_or rs (n + k) d).y1 y ≡ false = all (n + k) d (omega arith) (inside k lt) in omega (arith, ints))
   where
     inside : (k : ℕ) → k < length (drop n rs) → n + k < length rs
-    inside k lt = omega (arith, lt, length-drop n rs)
+    inside k lt = omega (arith, lt, le, length-drop n rs)
 
 -- ---- what stands
 alike : (a b : Bool) → (a ≡ true → b ≡ true) → (b ≡ true → a ≡ true) → a ≡ b
@@ -164,6 +164,7 @@ up_to_next all rest standing new after y u s = record {
     low = All-append (IsLow y) u.old s.begun u.begun s.low
 
 pub standing_here : (all rest standing new after : List Rectangle) (y : ℤ) → IsUpTo all rest standing y → IsAdvanced rest standing y new after → new ≡ filter (stands_at y) all
+unfolding up_to_next
 standing_here all rest standing new after y u s =
     let next = up_to_next all rest standing new after y u s in
     began all rest standing new after y u s
@@ -180,6 +181,10 @@ advanced_is rest standing dropped new begun after y n le parts front back gone a
   high = subst (All (IsHigh y)) (sym back) (high_part y rest n le parts.1);
   made = add ∙ ap (λ xs. xs ++ filter (stands_at y) begun) gone;
 }
+
+-- one row further up
+pub one_row_up : (all rest standing new after : List Rectangle) (y z : ℤ) → y ≤ℤ z → IsUpTo all rest standing y → IsAdvanced rest standing y new after → IsUpTo all after new z
+one_row_up all rest standing new after y z le u s = up_higher all after new y z le (up_to_next all rest standing new after y u s)
 
 -- ---- the order of a list plays no part
 covers_moved : (xs ys : List Rectangle) (x y : ℤ) → IsPermutation xs ys → Covers xs x y → Covers ys x y

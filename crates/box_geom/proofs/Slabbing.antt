@@ -1,16 +1,16 @@
 -- The bands of a region as slabs, and the slabs of all layers.
-use Rattle.std.proofs.Common.{◌≡◌, ◌↔◌, ℕ, zero, suc, ◌+◌, ◌<◌, ◌≤◌, ℤ, ◌≤ℤ◌, ◌<ℤ◌, List, [], ◌∷◌, ◌++◌, map, length, Bool, true, false, int_le, get_or, take, drop, arith, inl, inr, ◌⊎◌, refl, sym, subst, ap, ◌∙◌}
-use Rattle.std.specs.List.{All, AllPairs, Contains, flat_map}
+use Rattle.std.proofs.Common.{◌≡◌, ◌↔◌, ℕ, zero, suc, ◌+◌, ◌<◌, ◌≤◌, ℤ, ◌≤ℤ◌, ◌<ℤ◌, List, [], ◌∷◌, ◌++◌, map, length, true, false, get_or, take, drop, arith, inl, inr, ◌⊎◌, refl, sym, subst, ap, ◌∙◌}
+use Rattle.std.specs.List.{All, AllPairs, Contains}
 use Rattle.std.specs.List.Sorted.{IsPartitionPoint}
 use Rattle.std.proofs.lemmas.Bool.{cases_lt}
 use Rattle.std.proofs.lemmas.Int.{ints}
-use Rattle.std.proofs.lemmas.List.{take-append-drop, length-map, length-take, length-drop}
+use Rattle.std.proofs.lemmas.List.{take-append-drop, length-map}
 use Rattle.std.proofs.lemmas.List.Elements.{All-nil, All-head, All-tail, All-append, All-contains, Contains-append_cases, Contains-append_left, Contains-append_right}
 use Rattle.std.proofs.lemmas.List.Kept.{AllPairs-cons}
 use Rattle.cell_num.proofs.Lists.{contains_none, contains_one, contains_cons, contains_here, all_from_contains, all_imply, all_one}
 use Rattle.cell_num.proofs.Pairs.{pairs_none, pairs_one, pairs_head, pairs_tail, pairs_append, cross}
-use Rattle.box_geom.specs.Rectangle.{Rectangle, Holds, Covers}
-use Rattle.box_geom.specs.Ranges.{Hit, Apart, Spread}
+use Rattle.box_geom.specs.Rectangle.{Rectangle, Covers}
+use Rattle.box_geom.specs.Ranges.{Apart, Spread}
 use Rattle.box_geom.specs.Regions.{IsBlock, Follows, AreBanded}
 use Rattle.box_geom.specs.Banding.{in_band}
 use Rattle.box_geom.specs.Layers.{layer_no, rects_on}
@@ -179,7 +179,7 @@ one_more_slab on rs tail band after f slabs b cut parts = record {
     banded = banded_band band after (subst AreBanded parts.whole b)
 
     is_slab : IsSlab new
-    is_slab = let real : IsBlock f = All-head IsBlock f tail b.blocks in let n = parts.some in record { high = real.proper.high; spread = band_spread f band banded parts.one; some = omega (arith, length-map across band) }
+    is_slab = let real : IsBlock f = All-head IsBlock f tail b.blocks in let n = parts.some in record { high = real.proper.high; spread = band_spread f band banded parts.one; some = omega (arith, length-map band across) }
 
     there : (x y : ℤ) → SlabsCover (slabs ++ new ∷ []) on x y → Covers (cut.old ++ band) x y
     there x y c = by (Contains-append_cases slabs (new ∷ []) c.slab c.listed)
@@ -199,7 +199,7 @@ one_more_slab on rs tail band after f slabs b cut parts = record {
     below s r (inl c) d = cut.below s r c (subst (λ z. Contains z r) (sym parts.whole) (Contains-append_right band after r d))
     below s r (inr c) d = subst (λ (t : Slab). t.y2 ≤ℤ r.y1) (contains_one new s c) (All-contains (λ (t : Rectangle). f.y2 ≤ℤ t.y1) after r parts.above d)
 
-pub next_slab : (on : Layer) (rs rest tail band after : List Rectangle) (f : Rectangle) (slabs new : List Slab) (n : ℕ) → AreBanded rs → AreCut on rs rest slabs → rest ≡ f ∷ tail → n ≤ length rest → IsPartitionPoint (λ r. begins_by f.y1 r ≡ true) (λ r. begins_by f.y1 r ≡ false) rest n → band ≡ take n rest → after ≡ drop n rest → new ≡ slabs ++ slab_of on f band ∷ [] → AreCut on rs after new
+next_slab : (on : Layer) (rs rest tail band after : List Rectangle) (f : Rectangle) (slabs new : List Slab) (n : ℕ) → AreBanded rs → AreCut on rs rest slabs → rest ≡ f ∷ tail → n ≤ length rest → IsPartitionPoint (λ r. begins_by f.y1 r ≡ true) (λ r. begins_by f.y1 r ≡ false) rest n → band ≡ take n rest → after ≡ drop n rest → new ≡ slabs ++ slab_of on f band ∷ [] → AreCut on rs after new
 next_slab on rs rest tail band after f slabs new n b cut is le parts front back more =
     let whole : f ∷ tail ≡ band ++ after = sym is ∙ sym (take-append-drop n rest) ∙ ap (λ xs. xs ++ drop n rest) (sym front) ∙ ap (λ xs. band ++ xs) (sym back) in
     let here : AreBanded (f ∷ tail) = subst AreBanded is (cut_banded on rs rest slabs b cut) in
@@ -207,15 +207,12 @@ next_slab on rs rest tail band after f slabs new n b cut is le parts front back 
     (one_more_slab on rs tail band after f slabs here (subst (λ z. AreCut on rs z slabs) is cut)
     (parted f tail band after here whole (subst (All (λ (r : Rectangle). r.y1 ≤ℤ f.y1)) (sym front) (low_part f.y1 rest n le parts.0)) (subst (All (λ (r : Rectangle). f.y1 <ℤ r.y1)) (sym back) (high_part f.y1 rest n le parts.1))))
 
-pub fewer_left : (f : Rectangle) (rest tail after : List Rectangle) (n : ℕ) → rest ≡ f ∷ tail → n ≤ length rest → IsPartitionPoint (λ r. begins_by f.y1 r ≡ true) (λ r. begins_by f.y1 r ≡ false) rest n → after ≡ drop n rest → length after < length rest
-fewer_left f rest tail after n is le parts back =
-    let band : List Rectangle = take n rest in
-    let whole : f ∷ tail ≡ take n rest ++ after = sym is ∙ sym (take-append-drop n rest) ∙ ap (λ xs. take n rest ++ xs) (sym back) in
-    let some = first_in f tail (take n rest) after whole (subst (All (λ (r : Rectangle). f.y1 <ℤ r.y1)) (sym back) (high_part f.y1 rest n le parts.1)) in
-    omega (arith, some, ap length back, length-take n rest, length-drop n rest)
+pub next_slab_at : (on : Layer) (rs rest band after : List Rectangle) (f : Rectangle) (slabs new : List Slab) (n : ℕ) → AreBanded rs → AreCut on rs rest slabs → 1 ≤ length rest → f ≡ get_or rest 0 f → n ≤ length rest → IsPartitionPoint (λ r. begins_by f.y1 r ≡ true) (λ r. begins_by f.y1 r ≡ false) rest n → band ≡ take n rest → after ≡ drop n rest → new ≡ slabs ++ slab_of on f band ∷ [] → AreCut on rs after new
+next_slab_at on rs [] band after f slabs new n b cut some at le parts front back more = absurd (omega (arith, some))
+next_slab_at on rs (g ∷ gs) band after f slabs new n b cut some at le parts front back more = next_slab on rs (g ∷ gs) gs band after f slabs new n b cut (ap (λ z. z ∷ gs) (sym at)) le parts front back more
 
 -- ---- layer by layer
-layer_at : ℕ → Layer
+abbrev layer_at : ℕ → Layer
 layer_at n = get_or all_layers n Well
 
 pub numbered : (i : ℕ) → i < 9 → layer_no (get_or all_layers i Well) ≡ i

@@ -1,13 +1,13 @@
 -- Bands, put together from cut to cut: what is done below a cut, and what one more band adds.
-use Rattle.std.proofs.Common.{◌≡◌, ◌↔◌, ℕ, zero, suc, ◌+◌, ◌<◌, ℤ, pos, neg_ℤ, ◌≤ℤ◌, ◌<ℤ◌, ◌-ℤ◌, List, [], ◌∷◌, ◌++◌, map, length, Bool, true, false, slice_index_or, get_or, IsTrue, arith, inl, inr, ◌⊎◌, refl, sym, subst, drop}
-use Rattle.std.specs.List.{All, AllPairs, Contains, filter, flat_map}
+use Rattle.std.proofs.Common.{◌≡◌, ◌↔◌, ℕ, zero, suc, ◌+◌, ◌<◌, ℤ, pos, neg_ℤ, ◌≤ℤ◌, ◌<ℤ◌, ◌-ℤ◌, List, [], ◌∷◌, ◌++◌, map, length, get_or, arith, inl, inr, ◌⊎◌, refl, sym, subst, drop}
+use Rattle.std.specs.List.{All, AllPairs, Contains, flat_map}
 use Rattle.std.proofs.lemmas.Int.{ints, by_lt_z}
 use Rattle.std.proofs.lemmas.List.Elements.{All-contains, All-append, Contains-append_cases, Contains-append_left, Contains-append_right}
 use Rattle.std.proofs.lemmas.List.Kept.{AllPairs-cons}
-use Rattle.cell_num.proofs.In.{In, From, contains_in, in_contains, in_append, in_pieces, in_map, contains_map, contains_flat}
+use Rattle.cell_num.proofs.In.{In, contains_in, in_contains, in_pieces, in_map, contains_map, contains_flat}
 use Rattle.cell_num.proofs.Lists.{contains_none, contains_cons, contains_here, contains_there, all_from_contains}
-use Rattle.cell_num.proofs.Pairs.{pairs_none, pairs_tail, pairs_head, pairs_append, cross}
-use Rattle.box_geom.specs.Rectangle.{Rectangle, IsProper, Holds, Covers}
+use Rattle.cell_num.proofs.Pairs.{pairs_none, pairs_tail, pairs_head, pairs_append}
+use Rattle.box_geom.specs.Rectangle.{Rectangle, Holds, Covers}
 use Rattle.box_geom.specs.Cutting.{AreCuts}
 use Rattle.box_geom.specs.Ranges.{IsInRange, Hit, Apart, Spread}
 use Rattle.box_geom.specs.Regions.{IsBlock, Follows, AreBanded}
@@ -289,6 +289,10 @@ next_within op a b out low cuts i lt done =
     let l = d.lowest in
     let c = d.climb.0 in
     (omega (arith, ints), d.highest (get_or cuts i (pos 0)) (inl refl))
+
+-- the next cut lies above
+pub next_above : (op : Operation) (a b out : List Rectangle) (low : ℤ) (cuts : List ℤ) (i : ℕ) → i < length cuts → AreDone op a b out low (drop i cuts) → low <ℤ get_or cuts i (pos 0)
+next_above op a b out low cuts i lt done = (subst (AreDone op a b out low) (drop_next cuts i lt) done).climb.0
 
 pub none_cut : (op : Operation) (a b : List Rectangle) (cuts : List ℤ) → length cuts ≡ 0 → AreCuts (all_sides_up a b) cuts → AreMadeOf op a b []
 none_cut op a b [] e cuts = none_done op a b cuts

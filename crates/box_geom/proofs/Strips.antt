@@ -1,10 +1,9 @@
 -- The row of a list of rectangles: the columns of those that stand at it.
-use Rattle.std.proofs.Common.{◌≡◌, ◌↔◌, ℤ, ◌≤ℤ◌, ◌<ℤ◌, List, [], ◌∷◌, Bool, true, false, cond, IsTrue, arith, inl, inr, ◌⊎◌, refl, sym, subst, true≢false, ◌∙◌}
-use Rattle.std.specs.List.{Contains, filter}
-use Rattle.std.proofs.lemmas.Int.{ints}
+use Rattle.std.proofs.Common.{◌≡◌, ◌↔◌, ℤ, ◌≤ℤ◌, ◌<ℤ◌, List, [], ◌∷◌, Bool, true, false, cond, inl, inr, ◌⊎◌, refl, sym, subst, true≢false, ◌∙◌}
+use Rattle.std.specs.List.{filter}
 use Rattle.cell_num.proofs.Lists.{contains_none, contains_cons, contains_here, contains_there}
 use Rattle.box_geom.specs.Rectangle.{Rectangle, Holds, Covers}
-use Rattle.box_geom.specs.Sweeping.{Spans, Meant, AreRangesOf}
+use Rattle.box_geom.specs.Sweeping.{Spans, AreRangesOf}
 use Rattle.box_geom.specs.Banding.{AreRowOf}
 use Rattle.box_geom.specs.Standing.{stands_at}
 use Rattle.box_geom.specs.declared.ranges.XRange.{XRange}

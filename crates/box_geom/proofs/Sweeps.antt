@@ -1,5 +1,5 @@
 -- The slots between events in order hold what the operation makes of the two sets.
-use Rattle.std.proofs.Common.{◌≡◌, ◌↔◌, ℤ, pos, ◌≤ℤ◌, ◌<ℤ◌, List, [], ◌∷◌, Bool, true, false, not, ◌&&◌, ◌||◌, if◌then◌else◌, int_lt, arith, inl, inr, ◌⊎◌, refl, sym, subst, ap, ◌∙◌, true≢false}
+use Rattle.std.proofs.Common.{◌≡◌, ◌↔◌, ℤ, ◌≤ℤ◌, ◌<ℤ◌, List, [], ◌∷◌, Bool, true, false, ◌&&◌, if◌then◌else◌, int_lt, arith, inl, inr, ◌⊎◌, refl, sym, subst, ◌∙◌, true≢false}
 use Rattle.std.proofs.lemmas.Int.{ints, clamps, by_lt_z}
 use Rattle.cell_num.proofs.In.{In}
 use Rattle.box_geom.specs.declared.ranges.XRange.{XRange}
@@ -8,7 +8,7 @@ use Rattle.box_geom.specs.declared.sweep.Operation.{Operation}
 use Rattle.box_geom.specs.declared.sweep.Operation.TheVariants.{Both, Either, Minus}
 use Rattle.box_geom.specs.declared.sweep.Side.{Side}
 use Rattle.box_geom.specs.declared.sweep.Side.TheVariants.{First, Second}
-use Rattle.box_geom.specs.Ranges.{IsInRange, Hit, Rising}
+use Rattle.box_geom.specs.Ranges.{Hit, Rising}
 use Rattle.box_geom.specs.Sweeping.{Meant, applied, is_held, has_slot, after, slots}
 
 -- how far the event lets a set reach

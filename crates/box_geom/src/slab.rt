@@ -74,15 +74,15 @@ fn slab_of(alloc: Global, layer: Layer, first: &Block, band: &[Block]) -> Result
     })
 }
 
-fn slabs_on(alloc: Global, layer: Layer, region: &Region) -> Result<Vec<Slab>, NoMemory>
-    ensures { IfOk result (λ v. AreSlabsOf layer region.now v.items) }
+fn slabs_on(alloc: Global, layer: Layer, region: &Region) -> Result<SlabList, NoMemory>
+    ensures { IfOk result (λ list. AreSlabsOf layer region.now list) }
 {
-    let mut slabs = Vec::new(alloc);
+    let mut slabs = SlabList::new(alloc);
     let mut rest = region.blocks();
     while let [first, ..] = rest {
         let (band, after) = rest.split_at(count_begun(rest, first.y1));
         let slab = slab_of(alloc, layer, first, band)?;
-        slabs.push(slab).map_err(|_| NoMemory)?;
+        slabs.push(slab)?;
         rest = after;
     }
     Ok(slabs)
@@ -94,7 +94,7 @@ fn all_slabs(alloc: Global, shapes: &Shapes) -> Result<Vec<Slab>, NoMemory>
     let mut slabs = Vec::new(alloc);
     for layer in layers() {
         let region = Region::of(alloc, shapes, *layer)?;
-        let mut more = slabs_on(alloc, *layer, &region)?;
+        let mut more = slabs_on(alloc, *layer, &region)?.into_vec();
         slabs.append(&mut more)?;
     }
     Ok(slabs)

@@ -102,9 +102,10 @@ fn near_others(alloc: Global, set: &Region, by: u32) -> Result<Region, NoMemory>
     requires small { by ≤ 1000 }
     ensures { IfOk result (λ r. AreCells (FailsApart (Covers set.now) by) r) }
 {
-    let parts = parts_of(alloc, set.blocks())?;
+    let blocks = set.blocks();
+    let parts = parts_of(alloc, blocks)?;
     let links = all_links(alloc, parts.as_slice())?;
-    let labels = classes(alloc, parts.len(), links.as_slice())?;
+    let labels = classes(alloc, blocks.len(), links.as_slice())?;
     let hits = all_hits(alloc, parts.as_slice(), labels.as_slice(), by)?;
     match Region::from_blocks(alloc, hits.as_slice()) {
         Ok(region) => Ok(region),

@@ -1,4 +1,4 @@
-use Rattle.std.proofs.Common.{rules, ◌≡◌, List, [], subst, sym}
+use Rattle.std.proofs.Common.{◌≡◌, [], subst, sym}
 use Rattle.box_geom.specs.Cutting.{AreCuts}
 use Rattle.box_geom.specs.Banding.{AreMadeOf, all_sides_up}
 use Rattle.box_geom.proofs.Stacks.{none_cut}

@@ -1,4 +1,4 @@
-use Rattle.std.proofs.Common.{rules, ◌≡◌, ap, ◌∙◌, subst, sym, IsPermutation}
+use Rattle.std.proofs.Common.{rules, ◌≡◌, IsPermutation}
 use Rattle.box_geom.specs.Ranges.{all_joined}
 use Rattle.box_geom.specs.Sweeping.{all_slots, all_events}
 use Rattle.box_geom.proofs.Events.{ranges_are}

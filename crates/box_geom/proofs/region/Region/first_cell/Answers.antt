@@ -1,6 +1,5 @@
-use Rattle.std.proofs.Common.{rules, ◌≡◌, ℤ, slice_get, Some, sym, subst, ◌∙◌, ap, arith, w32, to_z, of_z}
-use Rattle.std.specs.Option.{option_copied}
-use Rattle.std.proofs.lemmas.Int.{to_z-of_z, ints}
+use Rattle.std.proofs.Common.{rules, ◌≡◌, slice_get, Some, sym, subst, ap, arith, w32, to_z, of_z}
+use Rattle.std.proofs.lemmas.Int.{to_z-of_z}
 use Rattle.box_geom.specs.Rectangle.{Rectangle, Covers}
 use Rattle.box_geom.specs.Regions.{IsFirst}
 use Rattle.box_geom.proofs.Moved.{first_of_blocks, not_none}

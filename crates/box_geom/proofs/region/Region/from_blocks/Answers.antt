@@ -1,6 +1,4 @@
 use Rattle.std.proofs.Common.{rules}
-use Rattle.box_geom.specs.Banding.{IsMade}
-use Rattle.box_geom.specs.declared.sweep.Operation.TheVariants.{Either}
 use Rattle.box_geom.proofs.Moved.{either_alone}
 use Rattle.box_geom.proofs.region.Region.from_blocks.Goals as goal
 

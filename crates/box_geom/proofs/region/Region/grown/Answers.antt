@@ -1,4 +1,4 @@
-use Rattle.std.proofs.Common.{◌≡◌, map, sym, subst, ◌∙◌, ap}
+use Rattle.std.proofs.Common.{map, sym, subst, ◌∙◌, ap}
 use Rattle.std.specs.List.{All, filter}
 use Rattle.box_geom.specs.Moving.{moved_by, is_proper}
 use Rattle.box_geom.specs.Regions.{IsBlock}

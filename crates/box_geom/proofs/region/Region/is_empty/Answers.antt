@@ -1,6 +1,5 @@
-use Rattle.std.proofs.Common.{◌≡◌, length, ◌==◌, IsTrue, sym, subst, ◌∙◌, ap, ◌↔◌}
+use Rattle.std.proofs.Common.{length, ◌==◌, IsTrue, sym, subst, ◌∙◌, ap, ◌↔◌}
 use Rattle.box_geom.specs.Regions.{CoversNone}
-use Rattle.box_geom.specs.Rectangle.{Rectangle}
 use Rattle.box_geom.proofs.Moved.{empty_decides}
 use Rattle.box_geom.proofs.region.Region.is_empty.Goals as goal
 

@@ -1,4 +1,4 @@
-use Rattle.std.proofs.Common.{rules, ◌≡◌, sym, subst, ◌∙◌}
+use Rattle.std.proofs.Common.{rules, ◌≡◌, sym, subst}
 use Rattle.std.specs.List.{All}
 use Rattle.box_geom.specs.Layers.{rects_on}
 use Rattle.box_geom.specs.Regions.{IsBlock, SameCells}

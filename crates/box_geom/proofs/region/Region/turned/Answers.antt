@@ -1,7 +1,7 @@
-use Rattle.std.proofs.Common.{rules, ◌≡◌, map, sym, subst, ◌∙◌, ap}
+use Rattle.std.proofs.Common.{◌≡◌, map, sym, subst, ◌∙◌, ap}
 use Rattle.std.specs.List.{All}
 use Rattle.box_geom.specs.Moving.{turned_by}
-use Rattle.box_geom.specs.Regions.{IsBlock, SameCells}
+use Rattle.box_geom.specs.Regions.{IsBlock}
 use Rattle.box_geom.proofs.Moved.{turned_blocks, turned_covers}
 use Rattle.box_geom.proofs.region.Region.turned.Goals as goal
 
