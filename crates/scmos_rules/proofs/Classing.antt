@@ -26,7 +26,7 @@ use Rattle.scmos_rules.specs.Regions.{AreCells}
 use Rattle.scmos_rules.specs.declared.linking.Link.{Link}
 use Rattle.scmos_rules.proofs.Chains.{none, one, joined, inside, meet, flip_edge}
 use Rattle.scmos_rules.proofs.Lengths.{swap}
-use Rattle.scmos_rules.proofs.Nearing.{AreClose, IsPair, pair_of, pair_found, IsAt, number_at, numbered_there, parts_up, put_left, put_right}
+use Rattle.scmos_rules.proofs.Nearing.{AreClose, IsPair, pair_of, pair_found, IsAt, number_at, numbered_there, part_at, parts_up, put_left, put_right}
 
 -- where an element stands
 record Seat (rs : List Rectangle) (r : Rectangle) : Type 0 where
@@ -42,22 +42,25 @@ same_seat : (rs : List Rectangle) (i : ℕ) (a b : Rectangle) → slice_get rs i
 same_seat rs i a b p q = some_same a b (sym p ∙ q)
 
 -- ---- the links of a list
-link_inside : (a b : Part) (l : Link) → In (link_of a b) l → (touching a.block b.block ≡ true) × (record { one = a.number; other = b.number } ≡ l)
+abbrev link_at : ℕ → ℕ → Link
+link_at i j = record { one = i; other = j }
+
+link_inside : (a b : Part) (l : Link) → In (link_of a b) l → (touching a.block b.block ≡ true) × (link_at a.number b.number ≡ l)
 link_inside a b l i = by (touching a.block b.block) refl i
   where
-    by : (t : Bool) → touching a.block b.block ≡ t → In (if t then record { one = a.number; other = b.number } ∷ [] else []) l → (touching a.block b.block ≡ true) × (record { one = a.number; other = b.number } ≡ l)
+    by : (t : Bool) → touching a.block b.block ≡ t → In (if t then link_at a.number b.number ∷ [] else []) l → (touching a.block b.block ≡ true) × (link_at a.number b.number ≡ l)
     by true e (inl same) = (e, same)
     by true e (inr none) = absurd none
     by false e none = absurd none
 
-link_there : (a b : Part) → touching a.block b.block ≡ true → In (link_of a b) (record { one = a.number; other = b.number })
+link_there : (a b : Part) → touching a.block b.block ≡ true → In (link_of a b) (link_at a.number b.number)
 link_there a b e = by (touching a.block b.block) refl
   where
-    by : (t : Bool) → touching a.block b.block ≡ t → In (if t then record { one = a.number; other = b.number } ∷ [] else []) (record { one = a.number; other = b.number })
+    by : (t : Bool) → touching a.block b.block ≡ t → In (if t then link_at a.number b.number ∷ [] else []) (link_at a.number b.number)
     by true f = inl refl
     by false f = absurd (cc (e, f))
 
-there_at : (rs : List Rectangle) (i : ℕ) (r : Rectangle) → slice_get rs i ≡ Some r → In (numbered 0 rs) (record { number = i; block = r })
+there_at : (rs : List Rectangle) (i : ℕ) (r : Rectangle) → slice_get rs i ≡ Some r → In (numbered 0 rs) (part_at i r)
 there_at rs i r is = numbered_there 0 rs i r i is (omega arith)
 
 close_touch : (a b : Rectangle) → Touch a b → AreClose 1 a b
@@ -105,10 +108,10 @@ links_are rs links banded e = record {
 
     tied : (i j : ℕ) (a b : Rectangle) → slice_get rs i ≡ Some a → slice_get rs j ≡ Some b → Touch a b → Chain (Tied links) i j
     tied i j a b p q t =
-        elim (pair_found 1 link_of (numbered 0 rs) (record { number = i; block = a }) (record { number = j; block = b }) (parts_up rs banded) (there_at rs i a p) (there_at rs j b q) (close_touch a b t)) [
+        elim (pair_found 1 link_of (numbered 0 rs) (part_at i a) (part_at j b) (parts_up rs banded) (there_at rs i a p) (there_at rs j b q) (close_touch a b t)) [
           | inl same ↦ none (Tied links) i j (ap (λ (z : Part). z.number) same)
-          | inr (inl w) ↦ one (Tied links) i j (record { link = record { one = i; other = j }; listed = listed (record { one = i; other = j }) (w (record { one = i; other = j }) (link_there (record { number = i; block = a }) (record { number = j; block = b }) ((touch_decides a b pa pb).1 t))); ends = inl (refl, refl) })
-          | inr (inr w) ↦ one (Tied links) i j (record { link = record { one = j; other = i }; listed = listed (record { one = j; other = i }) (w (record { one = j; other = i }) (link_there (record { number = j; block = b }) (record { number = i; block = a }) ((touch_decides b a pb pa).1 (flip_touch a b t)))); ends = inr (refl, refl) })
+          | inr (inl w) ↦ one (Tied links) i j (record { link = link_at i j; listed = listed (link_at i j) (w (link_at i j) (link_there (part_at i a) (part_at j b) ((touch_decides a b pa pb).1 t))); ends = inl (refl, refl) })
+          | inr (inr w) ↦ one (Tied links) i j (record { link = link_at j i; listed = listed (link_at j i) (w (link_at j i) (link_there (part_at j b) (part_at i a) ((touch_decides b a pb pa).1 (flip_touch a b t)))); ends = inr (refl, refl) })
         ]
       where
         pa : IsProper a
@@ -216,10 +219,10 @@ hits_there d labels a b q e i = by (slice_index labels a.number == slice_index l
 
 hit_found : (d : ℕ) (labels : List ℕ) (rs : List Rectangle) → AreBanded rs → (i j : ℕ) (a b q : Rectangle) → slice_get rs i ≡ Some a → slice_get rs j ≡ Some b → (slice_index labels j == slice_index labels i) ≡ false → AreClose d a b → In (some_part d a b) q → In (near_over d (hits_of d labels) (numbered 0 rs)) q
 hit_found d labels rs banded i j a b q p r e close part =
-    elim (pair_found d (hits_of d labels) (numbered 0 rs) (record { number = i; block = a }) (record { number = j; block = b }) (parts_up rs banded) (there_at rs i a p) (there_at rs j b r) close) [
+    elim (pair_found d (hits_of d labels) (numbered 0 rs) (part_at i a) (part_at j b) (parts_up rs banded) (there_at rs i a p) (there_at rs j b r) close) [
       | inl same ↦ absurd (let f : j ≡ i = sym (ap (λ (z : Part). z.number) same) in let g : (slice_index labels j == slice_index labels i) ≡ true = (Decides-eqb (slice_index labels j) (slice_index labels i)).1 (ap (λ n. slice_index labels n) f) in cc (g, e))
-      | inr (inl w) ↦ w q (hits_there d labels (record { number = i; block = a }) (record { number = j; block = b }) q (turned_test (slice_index labels j) (slice_index labels i) e) (inl part))
-      | inr (inr w) ↦ w q (hits_there d labels (record { number = j; block = b }) (record { number = i; block = a }) q e (inr part))
+      | inr (inl w) ↦ w q (hits_there d labels (part_at i a) (part_at j b) q (turned_test (slice_index labels j) (slice_index labels i) e) (inl part))
+      | inr (inr w) ↦ w q (hits_there d labels (part_at j b) (part_at i a) q e (inr part))
     ]
 
 near_close : (d : ℕ) (a b : Rectangle) (x y s t : ℤ) → Holds a x y → Near d x y s t → Holds b s t → AreClose d a b

@@ -9,6 +9,10 @@ use Rattle.scmos_rules.specs.declared.parts.Part.{Part}
 unfoldable pub closer : ℕ → ℤ → ℤ → Bool
 closer d end begin = int_lt begin end || nat_lt (unsigned_abs (begin -ℤ end)) d
 
+-- the gap from a up to b is below d, or b begins before the end of a
+abbrev pub close_upward : ℕ → Rectangle → Rectangle → Bool
+close_upward d a b = closer d a.y2 b.y1
+
 -- the gap in x is below d
 abbrev pub close_across : ℕ → Rectangle → Rectangle → Bool
 close_across d a b = closer d a.x2 b.x1 && closer d b.x2 a.x1
@@ -18,10 +22,13 @@ abbrev pub numbered : ℕ → List Rectangle → List Part
 numbered k [] = []
 numbered k (r ∷ rs) = record { number = k; block = r } ∷ numbered (k + 1) rs
 
--- the parts behind a with gaps below d to it, up to the first with a gap in y that is not
+abbrev pub some_close : ℕ → Part → Part → List Part
+some_close d a b = if close_across d a.block b.block then b ∷ [] else []
+
+-- the parts behind a with gaps below d to it, up to the first with a gap upward that is not
 abbrev pub near_from : ℕ → Part → List Part → List Part
 near_from d a [] = []
-near_from d a (b ∷ bs) = if closer d a.block.y2 b.block.y1 then (if close_across d a.block b.block then b ∷ near_from d a bs else near_from d a bs) else []
+near_from d a (b ∷ bs) = if close_upward d a.block b.block then some_close d a b ++ near_from d a bs else []
 
 -- what a function gives for each part and those near behind it
 abbrev pub near_over : {X : Type 0} → ℕ → (Part → Part → List X) → List Part → List X

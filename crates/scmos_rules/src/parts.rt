@@ -1,6 +1,6 @@
 // The rectangles of a set with their places in the list, and which of them lie near one.
-ghost use Rattle.std.specs.Prelude.{◌≡◌, IfOk};
-ghost use Rattle.scmos_rules.specs.Near.{closer, close_across, numbered, near_from};
+ghost use Rattle.std.specs.Prelude.{◌≡◌, ◌++◌, IfOk, OnOk};
+ghost use Rattle.scmos_rules.specs.Near.{closer, close_upward, close_across, some_close, numbered, near_from};
 
 use box_geom::Block;
 use std::alloc::{AllocError, Global};
@@ -33,10 +33,25 @@ fn is_closer(end: i32, begin: i32, by: u32) -> bool
     begin < end || begin.abs_diff(end) < by
 }
 
+fn is_close_upward(block: &Block, other: &Block, by: u32) -> bool
+    ensures { result ≡ close_upward by block.now other.now }
+{
+    is_closer(block.y2, other.y1, by)
+}
+
 fn is_close_across(block: &Block, other: &Block, by: u32) -> bool
     ensures { result ≡ close_across by block.now other.now }
 {
     is_closer(block.x2, other.x1, by) && is_closer(other.x2, block.x1, by)
+}
+
+fn add_close(near: &mut Vec<Part>, part: &Part, other: &Part, by: u32) -> Result<(), AllocError>
+    ensures { OnOk result (near.new.items ≡ near.old.items ++ some_close by part.now other.now) }
+{
+    if is_close_across(&part.block, &other.block, by) {
+        near.push(*other)?;
+    }
+    Ok(())
 }
 
 // Those of the parts behind one that lie within a distance of it, where the lower sides ascend: the
@@ -51,12 +66,10 @@ pub(crate) fn near_behind(
 {
     let mut near = Vec::new(alloc);
     for other in behind {
-        if !is_closer(part.block.y2, other.block.y1, by) {
+        if !is_close_upward(&part.block, &other.block, by) {
             return Ok(near);
         }
-        if is_close_across(&part.block, &other.block, by) {
-            near.push(*other)?;
-        }
+        add_close(&mut near, part, other, by)?;
     }
     Ok(near)
 }

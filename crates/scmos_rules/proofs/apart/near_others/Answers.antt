@@ -1,4 +1,4 @@
-use Rattle.std.proofs.Common.{rules, ◌≡◌, List, length, sym, subst, ◌∙◌}
+use Rattle.std.proofs.Common.{rules, ◌≡◌, List, length, refl, sym, subst, ◌∙◌}
 use Rattle.std.specs.List.{All}
 use Rattle.box_geom.specs.Rectangle.{Rectangle, Covers}
 use Rattle.box_geom.specs.Regions.{AreBanded}
@@ -15,11 +15,10 @@ pub classes-requires : goal.classes-requires
 classes-requires c =
     let banded : AreBanded c.blocks-blocks.result.now = subst AreBanded (sym c.blocks-blocks.ensures.all) c.blocks-blocks.ensures.banded in
     let links : c.as_slice-2.result.now ≡ near_over 1 link_of (numbered 0 c.blocks-blocks.result.now) = search rules in
-    let count : c.len.result ≡ length c.blocks-blocks.result.now = search rules in
-    links_inside c.blocks-blocks.result.now c.as_slice-2.result.now c.len.result banded links count
+    links_inside c.blocks-blocks.result.now c.as_slice-2.result.now (length c.blocks-blocks.result.now) banded links refl
 
-pub all_hits-requires-parts : goal.all_hits-requires-parts
-all_hits-requires-parts c =
+pub all_hits-requires-clause-parts : goal.all_hits-requires-clause-parts
+all_hits-requires-clause-parts c =
     let banded : AreBanded c.blocks-blocks.result.now = subst AreBanded (sym c.blocks-blocks.ensures.all) c.blocks-blocks.ensures.banded in
     let parts : c.as_slice-3.result.now ≡ numbered 0 c.blocks-blocks.result.now = search rules in
     let count : length c.as_slice-4.result.now ≡ length c.blocks-blocks.result.now = search rules in
@@ -35,7 +34,6 @@ pub returns-in-Ok : goal.returns-in-Ok
 returns-in-Ok c =
     let banded : AreBanded c.blocks-blocks.result.now = subst AreBanded (sym c.blocks-blocks.ensures.all) c.blocks-blocks.ensures.banded in
     let links : c.as_slice-2.result.now ≡ near_over 1 link_of (numbered 0 c.blocks-blocks.result.now) = search rules in
-    let count : c.len.result ≡ length c.blocks-blocks.result.now = search rules in
     let hits : c.as_slice-5.result.now ≡ near_over c.args.by (hits_of c.args.by c.as_slice-4.result.now) (numbered 0 c.blocks-blocks.result.now) = search rules in
-    let apart : Separates c.len.result c.as_slice-2.result.now c.as_slice-4.result.now = subst (λ ls. Separates c.len.result c.as_slice-2.result.now ls) (sym c.as_slice-4.ensures.value) c.in_ok-labels.ensures.same in
-    subst (λ (z : List Rectangle). AreCells (FailsApart (Covers z) c.args.by) c.in-Ok.region) c.blocks-blocks.ensures.all (apart_is c.blocks-blocks.result.now c.as_slice-2.result.now c.len.result c.as_slice-4.result.now c.as_slice-5.result.now c.in-Ok.region c.args.by banded links count apart hits c.in-Ok.ensures)
+    let apart : Separates (length c.blocks-blocks.result.now) c.as_slice-2.result.now c.as_slice-4.result.now = subst (λ ls. Separates (length c.blocks-blocks.result.now) c.as_slice-2.result.now ls) (sym c.as_slice-4.ensures.value) c.in_ok-labels.ensures.same in
+    subst (λ (z : List Rectangle). AreCells (FailsApart (Covers z) c.args.by) c.in-Ok.region) c.blocks-blocks.ensures.all (apart_is c.blocks-blocks.result.now c.as_slice-2.result.now (length c.blocks-blocks.result.now) c.as_slice-4.result.now c.as_slice-5.result.now c.in-Ok.region c.args.by banded links refl apart hits c.in-Ok.ensures)
