@@ -1,14 +1,14 @@
 -- Classes of cells by the rectangles that touch, and the cells near another class.
-use Rattle.std.proofs.Common.{◌≡◌, ◌↔◌, ℕ, zero, suc, ◌+◌, ◌<◌, ◌≤◌, ◌==◌, ℤ, pos, ◌≤ℤ◌, ◌<ℤ◌, ◌+ℤ◌, ◌-ℤ◌, List, [], ◌∷◌, ◌++◌, length, Bool, true, false, int_lt, ◌&&◌, if◌then◌else◌, Option, Some, None, slice_get, slice_index, IsTrue, arith, inl, inr, ◌⊎◌, refl, sym, subst, ap, ◌∙◌}
+use Rattle.std.proofs.Common.{◌≡◌, ◌↔◌, ℕ, zero, suc, ◌==◌, ℤ, pos, ◌-ℤ◌, List, [], ◌∷◌, ◌++◌, length, Bool, true, false, if◌then◌else◌, Some, slice_get, slice_index, arith, inl, inr, ◌⊎◌, refl, sym, subst, ap, ◌∙◌}
 use Rattle.std.specs.List.{All, Contains}
-use Rattle.std.proofs.lemmas.Int.{ints, clamps, by_lt_z}
-use Rattle.std.proofs.lemmas.Bool.Decides.{Decides-and, Decides-eqb}
+use Rattle.std.proofs.lemmas.Int.{ints, clamps}
+use Rattle.std.proofs.lemmas.Bool.Decides.{Decides-eqb}
 use Rattle.std.proofs.lemmas.List.Elements.{All-contains}
 use Rattle.std.proofs.lemmas.Option.{slice_get_within}
 use Rattle.cell_num.proofs.In.{In, contains_in, in_contains, in_append}
 use Rattle.cell_num.proofs.Lists.{some_same, contains_get, all_from_contains}
 use Rattle.box_geom.specs.Rectangle.{Rectangle, IsProper, Holds, Covers}
-use Rattle.box_geom.specs.Touching.{Cell, Edge, Touch}
+use Rattle.box_geom.specs.Touching.{Cell, Touch}
 use Rattle.box_geom.specs.Chains.{Steps, Chain, Linked}
 use Rattle.box_geom.specs.Comparisons.{touching}
 use Rattle.box_geom.specs.Moving.{is_proper, near_part}
@@ -20,7 +20,6 @@ use Rattle.scmos_rules.specs.Apart.{link_of, some_part, hits_of}
 use Rattle.scmos_rules.specs.Near.{numbered, near_over}
 use Rattle.scmos_rules.specs.declared.parts.Part.{Part}
 use Rattle.scmos_rules.specs.Classes.{IsLink, Tied, Separates}
-use Rattle.scmos_rules.specs.Conditions.{Joint}
 use Rattle.scmos_rules.specs.Failing.{FailsOpen, FailsApart, FailsSpacing, SameClass}
 use Rattle.scmos_rules.specs.Regions.{AreCells}
 use Rattle.scmos_rules.specs.declared.linking.Link.{Link}

@@ -1,18 +1,18 @@
 -- The rectangles of a region are the runs of its rows.
-use Rattle.std.proofs.Common.{◌≡◌, ◌↔◌, ℕ, zero, suc, ℤ, pos, neg_ℤ, ◌≤◌, ◌<◌, ◌≤ℤ◌, ◌<ℤ◌, ◌+ℤ◌, ◌-ℤ◌, List, [], ◌∷◌, Bool, true, false, not, nat_lt, ◌==◌, unsigned_abs, IsTrue, arith, inl, inr, ◌⊎◌, refl, sym, subst, ◌∙◌}
+use Rattle.std.proofs.Common.{◌≡◌, ◌↔◌, ℕ, ℤ, pos, neg_ℤ, ◌≤◌, ◌<◌, ◌≤ℤ◌, ◌<ℤ◌, ◌+ℤ◌, ◌-ℤ◌, List, [], ◌∷◌, Bool, true, false, not, ◌==◌, arith, inl, inr, ◌⊎◌, refl, sym, subst, ◌∙◌}
 use Rattle.std.specs.List.{All, AllPairs, Contains, filter}
-use Rattle.std.proofs.lemmas.Int.{ints, clamps, by_lt_z}
+use Rattle.std.proofs.lemmas.Int.{ints, by_lt_z}
 use Rattle.std.proofs.lemmas.Bool.Decides.{Decides-ltb, Decides-eqb}
 use Rattle.std.proofs.lemmas.List.Elements.{All-contains}
-use Rattle.cell_num.proofs.Lists.{contains_none, contains_cons, contains_here, all_from_contains}
+use Rattle.cell_num.proofs.Lists.{contains_none, contains_cons, all_from_contains}
 use Rattle.cell_num.proofs.Pairs.{pairs_head, pairs_tail}
 use Rattle.box_geom.specs.Rectangle.{Rectangle, Holds, Covers}
-use Rattle.box_geom.specs.Runs.{IsRun, IsShort, IsOff, IsNotch}
+use Rattle.box_geom.specs.Runs.{IsRun, IsShort, IsNotch}
 use Rattle.box_geom.specs.Regions.{IsBlock, Follows, AreBanded, SameCells, OnPlane}
 use Rattle.box_geom.proofs.Filters.{contains_filter, in_filter}
 use Rattle.box_geom.proofs.Strips.{covers_first, covers_later, covers_split}
 use Rattle.scmos_rules.specs.Failing.{FailsWidth, FailsSize, FailsOpen}
-use Rattle.scmos_rules.specs.Regions.{AreCells, AreInner, IsInner, IsWrong, FailsRun, is_wrong, width_of}
+use Rattle.scmos_rules.specs.Regions.{AreCells, AreInner, IsWrong, FailsRun, is_wrong, width_of}
 use Rattle.scmos_rules.specs.declared.runs.Measure.{Measure}
 use Rattle.scmos_rules.specs.declared.runs.Measure.TheVariants.{Width, Size}
 

@@ -1,4 +1,4 @@
-use Rattle.std.proofs.Common.{◌≡◌, length, [], sym, subst, arith, take}
+use Rattle.std.proofs.Common.{◌≡◌, [], sym, subst, arith, take}
 use Rattle.scmos_rules.specs.Classes.{AreJoined}
 use Rattle.scmos_rules.proofs.Merging.{at_first, one_more}
 use Rattle.std.proofs.lemmas.List.{take_all}

@@ -1,5 +1,4 @@
 use Rattle.std.proofs.Common.{◌≤◌, slice_index, arith, refl}
-use Rattle.box_geom.specs.Chains.{Chain}
 use Rattle.scmos_rules.specs.Classes.{Points}
 use Rattle.scmos_rules.proofs.Chains.{one, joined}
 use Rattle.scmos_rules.proofs.linking.root.Goals as goal

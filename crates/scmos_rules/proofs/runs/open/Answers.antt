@@ -1,4 +1,3 @@
-use Rattle.std.proofs.Common.{rules}
 use Rattle.scmos_rules.proofs.Lengths.{open_is, rest_turned}
 use Rattle.scmos_rules.proofs.runs.open.Goals as goal
 

@@ -1,4 +1,3 @@
-use Rattle.std.proofs.Common.{rules}
 use Rattle.scmos_rules.proofs.Lengths.{runs_wrong}
 use Rattle.scmos_rules.proofs.runs.wrong_runs.Goals as goal
 
