@@ -1,5 +1,5 @@
 -- Rules on the cells that follow outward, by regions that shift.
-use Rattle.std.proofs.Common.{◌≡◌, ◌↔◌, ℕ, zero, suc, ◌+◌, ℤ, pos, neg_ℤ, ◌≤◌, ◌<◌, ◌≤ℤ◌, ◌<ℤ◌, ◌+ℤ◌, ◌-ℤ◌, List, arith, inl, inr, ◌⊎◌, refl, sym, subst}
+use Rattle.std.proofs.Common.{◌≡◌, ◌↔◌, ℕ, zero, suc, ◌+◌, ℤ, pos, ◌≤◌, ◌<◌, ◌+ℤ◌, ◌-ℤ◌, List, arith, inl, inr, ◌⊎◌, sym, subst}
 use Rattle.std.proofs.lemmas.Int.{ints}
 use Rattle.std.proofs.lemmas.Bool.{cases_lt}
 use Rattle.box_geom.specs.Rectangle.{Rectangle, Covers}
@@ -9,7 +9,7 @@ use Rattle.box_geom.specs.declared.layer.Layer.TheVariants.{Active, Poly}
 use Rattle.scmos_rules.specs.Layout.{On, Gate, Diffusion, FieldPoly, Bare}
 use Rattle.scmos_rules.specs.Gates.{Way, right, left, up, down, Ahead, FailsPolyEnd, FailsActiveEnd, FailsFieldPoly}
 use Rattle.scmos_rules.specs.Outward.{shift_across, shift_upward, EndsEarly, StandsEarly, MeetsEarly, AreOneOf}
-use Rattle.scmos_rules.specs.Regions.{AreCells, AreInner, IsInner, Lacks, way_of}
+use Rattle.scmos_rules.specs.Regions.{AreCells, AreInner, Lacks, way_of}
 use Rattle.scmos_rules.specs.declared.gates.Heading.{Heading}
 use Rattle.scmos_rules.specs.declared.gates.Heading.TheVariants.{Right, Left, Up, Down}
 use Rattle.scmos_rules.proofs.Distances.{inner_plane}

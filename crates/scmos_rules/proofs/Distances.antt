@@ -1,5 +1,5 @@
 -- Rules on distances, by regions that grow.
-use Rattle.std.proofs.Common.{◌≡◌, ◌↔◌, ℕ, ℤ, pos, neg_ℤ, ◌≤◌, ◌≤ℤ◌, ◌<ℤ◌, ◌+ℤ◌, List, arith, inl, inr, ◌⊎◌}
+use Rattle.std.proofs.Common.{◌↔◌, ℕ, ℤ, ◌≤◌, List, arith}
 use Rattle.std.proofs.lemmas.Int.{ints}
 use Rattle.box_geom.specs.Rectangle.{Rectangle, Covers}
 use Rattle.box_geom.specs.Near.{Near}

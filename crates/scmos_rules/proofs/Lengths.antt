@@ -1,18 +1,18 @@
 -- The rectangles of a region are the runs of its rows.
-use Rattle.std.proofs.Common.{◌≡◌, ◌↔◌, ℕ, zero, suc, ℤ, pos, neg_ℤ, ◌≤◌, ◌<◌, ◌≤ℤ◌, ◌<ℤ◌, ◌+ℤ◌, ◌-ℤ◌, List, [], ◌∷◌, Bool, true, false, not, nat_lt, ◌==◌, unsigned_abs, IsTrue, arith, inl, inr, ◌⊎◌, refl, sym, subst, ◌∙◌}
+use Rattle.std.proofs.Common.{◌≡◌, ◌↔◌, ℕ, ℤ, pos, neg_ℤ, ◌≤◌, ◌<◌, ◌≤ℤ◌, ◌<ℤ◌, ◌+ℤ◌, ◌-ℤ◌, List, [], ◌∷◌, Bool, true, false, not, ◌==◌, arith, inl, inr, ◌⊎◌, refl, sym, subst, ◌∙◌}
 use Rattle.std.specs.List.{All, AllPairs, Contains, filter}
-use Rattle.std.proofs.lemmas.Int.{ints, clamps, by_lt_z}
+use Rattle.std.proofs.lemmas.Int.{ints, by_lt_z}
 use Rattle.std.proofs.lemmas.Bool.Decides.{Decides-ltb, Decides-eqb}
 use Rattle.std.proofs.lemmas.List.Elements.{All-contains}
-use Rattle.cell_num.proofs.Lists.{contains_none, contains_cons, contains_here, all_from_contains}
+use Rattle.cell_num.proofs.Lists.{contains_none, contains_cons, all_from_contains}
 use Rattle.cell_num.proofs.Pairs.{pairs_head, pairs_tail}
 use Rattle.box_geom.specs.Rectangle.{Rectangle, Holds, Covers}
-use Rattle.box_geom.specs.Runs.{IsRun, IsShort, IsOff, IsNotch}
+use Rattle.box_geom.specs.Runs.{IsRun, IsShort, IsNotch}
 use Rattle.box_geom.specs.Regions.{IsBlock, Follows, AreBanded, SameCells, OnPlane}
 use Rattle.box_geom.proofs.Filters.{contains_filter, in_filter}
 use Rattle.box_geom.proofs.Strips.{covers_first, covers_later, covers_split}
 use Rattle.scmos_rules.specs.Failing.{FailsWidth, FailsSize, FailsOpen}
-use Rattle.scmos_rules.specs.Regions.{AreCells, AreInner, IsInner, IsWrong, FailsRun, is_wrong, width_of}
+use Rattle.scmos_rules.specs.Regions.{AreCells, AreInner, IsWrong, FailsRun, is_wrong, width_of}
 use Rattle.scmos_rules.specs.declared.runs.Measure.{Measure}
 use Rattle.scmos_rules.specs.declared.runs.Measure.TheVariants.{Width, Size}
 
@@ -266,3 +266,16 @@ open_is v set plane rest r small inner whole minus f = record { same = λ x y. (
             let s = rest_of_notch (λ z. Covers set x z) v y (bound_column x) n in
             let short = wrong_like Width (Rest (λ z. Covers set x z)) (λ z. Covers rest x z) v y (λ z. swap (column x y line z)) s in
             record { covered = short.run.all y short.run.from short.run.to; short = inr short }
+
+-- what the turned set leaves free is what the set leaves free, turned
+pub rest_turned : (set plane rest turned turned_rest : List Rectangle) → ((x y : ℤ) → Covers plane x y ↔ OnPlane x y) → ((x y : ℤ) → Covers rest x y ↔ (Covers plane x y × (Covers set x y → ⊥))) → ((x y : ℤ) → Covers turned x y ↔ Covers set y x) → ((x y : ℤ) → Covers turned_rest x y ↔ (Covers plane x y × (Covers turned x y → ⊥))) → (x y : ℤ) → Covers turned_rest x y ↔ Covers rest y x
+rest_turned set plane rest turned turned_rest whole minus turn turned_minus x y = (there, back)
+  where
+    flip : (s t : ℤ) → Covers plane s t → Covers plane t s
+    flip s t c = let o = (whole s t).0 c in (whole t s).1 (record { left = o.low; right = o.high; low = o.left; high = o.right })
+
+    there : Covers turned_rest x y → Covers rest y x
+    there c = let m = (turned_minus x y).0 c in (minus y x).1 (flip x y m.0, λ d. m.1 ((turn x y).1 d))
+
+    back : Covers rest y x → Covers turned_rest x y
+    back c = let m = (minus y x).0 c in (turned_minus x y).1 (flip y x m.0, λ d. m.1 ((turn x y).0 d))

@@ -7,6 +7,7 @@ pub mod Lengths
 pub mod Listing
 pub mod Merging
 pub mod Unions
+pub mod Nearing
 pub mod Sizes
 pub mod Spacings
 pub mod Widths

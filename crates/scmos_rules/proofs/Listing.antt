@@ -1,5 +1,5 @@
 -- The list of broken rules, rule by rule.
-use Rattle.std.proofs.Common.{◌≡◌, ◌↔◌, ℕ, zero, suc, ◌+◌, ◌<◌, ℤ, ◌≤ℤ◌, ◌<ℤ◌, List, [], ◌∷◌, ◌++◌, length, take, Option, Some, None, option_to_list, slice_get, get_or, arith, inl, inr, ◌⊎◌, refl, sym, subst, ap, ◌∙◌}
+use Rattle.std.proofs.Common.{◌≡◌, ◌↔◌, ℕ, zero, suc, ◌+◌, ◌<◌, ℤ, List, [], ◌∷◌, ◌++◌, length, take, Option, Some, None, option_to_list, slice_get, get_or, arith, inl, inr, ◌⊎◌, refl, sym, subst, ap, ◌∙◌}
 use Rattle.std.specs.List.{All, AllPairs, Contains}
 use Rattle.std.proofs.lemmas.Int.{ints}
 use Rattle.std.proofs.lemmas.List.Elements.{Contains-append_left, Contains-append_cases, Contains-push}
@@ -8,7 +8,7 @@ use Rattle.cell_num.proofs.In.{In, contains_in}
 use Rattle.cell_num.proofs.Lists.{contains_none, contains_one, all_from_contains, all_one}
 use Rattle.cell_num.proofs.Pairs.{pairs_none, pairs_one, pairs_append}
 use Rattle.box_geom.specs.Rectangle.{Rectangle, Covers}
-use Rattle.box_geom.specs.Regions.{NotAfter, IsFirst, CoversNone}
+use Rattle.box_geom.specs.Regions.{IsFirst}
 use Rattle.box_geom.specs.declared.shape.Shape.{Shape}
 use Rattle.scmos_rules.specs.Failing.{IsEmpty}
 use Rattle.scmos_rules.specs.Regions.{AreCells}

@@ -1,7 +1,6 @@
 -- Regions put together show what the sets put together hold.
-use Rattle.std.proofs.Common.{◌≡◌, ◌↔◌, ℤ, ◌≤ℤ◌, List, ◌⊎◌, inl, inr, arith}
+use Rattle.std.proofs.Common.{◌↔◌, ℤ, List, ◌⊎◌, inl, inr, arith}
 use Rattle.std.proofs.lemmas.Int.{ints}
-use Rattle.std.specs.List.{All, Contains}
 use Rattle.std.proofs.lemmas.List.Elements.{All-contains}
 use Rattle.box_geom.specs.Rectangle.{Rectangle, IsRectangle, Covers}
 use Rattle.box_geom.specs.Layers.{rects_on, AreWithinLimits}

@@ -5,6 +5,7 @@ pub mod Failing
 pub mod Gates
 pub mod Laws
 pub mod Layout
+pub mod Near
 pub mod Numbers
 pub mod Outward
 pub mod Regions

@@ -1,5 +1,5 @@
 -- Regions as sets of cells, and how failing sets are made of them.
-use Rattle.std.specs.Prelude.{ℤ, pos, neg_ℤ, ◌≤ℤ◌, ◌-ℤ◌, ◌↔◌, ℕ, ◌≤◌, ◌==◌, List, ◌⊎◌, Bool, not, nat_lt, int_lt, ◌&&◌, unsigned_abs}
+use Rattle.std.specs.Prelude.{ℤ, pos, neg_ℤ, ◌≤ℤ◌, ◌-ℤ◌, ◌↔◌, ℕ, ◌≤◌, ◌==◌, List, ◌⊎◌, Bool, not, nat_lt, unsigned_abs}
 use Rattle.box_geom.specs.Rectangle.{Rectangle, Covers}
 use Rattle.box_geom.specs.Runs.{IsShort, IsOff}
 use Rattle.scmos_rules.specs.Failing.{FailsWidth, FailsSize}

@@ -1,67 +1,77 @@
 // Cells of a set near cells of the set that no chain of shared edges leads to.
 ghost use Rattle.std.specs.Prelude.{◌≡◌, ◌≤◌, ◌++◌, length, IfOk, OnOk};
-ghost use Rattle.std.specs.List.{All};
+ghost use Rattle.std.specs.List.{All, flat_map};
 ghost use Rattle.box_geom.specs.Rectangle.{Covers};
 ghost use Rattle.box_geom.specs.Regions.{IsBlock};
-ghost use Rattle.scmos_rules.specs.Apart.{links_from, links_over, hits_from, hits_over};
-ghost use Rattle.scmos_rules.specs.Classes.{IsLink};
+ghost use Rattle.scmos_rules.specs.Apart.{link_of, some_part, hits_of};
 ghost use Rattle.scmos_rules.specs.Failing.{FailsApart, FailsSpacing};
 ghost use Rattle.scmos_rules.specs.Layout.{On};
+ghost use Rattle.scmos_rules.specs.Near.{IsPart, near_over};
 ghost use Rattle.scmos_rules.specs.Regions.{AreCells};
 
 use crate::linking::{Link, classes};
+use crate::parts::{Part, near_behind, parts_of};
 use crate::runs::open;
 use crate::sets::on;
 use box_geom::{Block, Layer, Region, Shapes};
 use cell_num::NoMemory;
 use std::alloc::{AllocError, Global};
 
-fn add_links(
-    links: &mut Vec<Link>,
-    one: usize,
-    block: &Block,
-    blocks: &[Block],
-) -> Result<(), AllocError>
-    ensures { OnOk result (links.new.items ≡ links.old.items ++ links_from one block.now 0 blocks.now) }
+fn add_links(links: &mut Vec<Link>, part: &Part, near: &[Part]) -> Result<(), AllocError>
+    ensures { OnOk result (links.new.items ≡ links.old.items ++ flat_map (link_of part.now) near.now) }
 {
-    for (other, next) in blocks.iter().enumerate() {
-        if block.does_touch(next) {
-            links.push(Link { one, other })?;
+    for other in near {
+        if part.block.does_touch(&other.block) {
+            links.push(Link {
+                one: part.number,
+                other: other.number,
+            })?;
         }
     }
     Ok(())
 }
 
-fn all_links(alloc: Global, blocks: &[Block]) -> Result<Vec<Link>, AllocError>
-    ensures { IfOk result (λ v. v.items ≡ links_over blocks.now 0 blocks.now) }
+fn all_links(alloc: Global, parts: &[Part]) -> Result<Vec<Link>, AllocError>
+    ensures { IfOk result (λ v. v.items ≡ near_over 1 link_of parts.now) }
 {
     let mut links = Vec::new(alloc);
-    for (one, block) in blocks.iter().enumerate() {
-        add_links(&mut links, one, block, blocks)?;
+    let mut rest = parts;
+    while let [part, behind @ ..] = rest {
+        let near = near_behind(alloc, part, behind, 1)?;
+        add_links(&mut links, part, near.as_slice())?;
+        rest = behind;
     }
     Ok(links)
 }
 
+fn add_part(out: &mut Vec<Block>, block: &Block, other: &Block, by: u32) -> Result<(), AllocError>
+    requires other { IsBlock other.now }
+    requires small { by ≤ 1000 }
+    ensures { OnOk result (out.new.items ≡ out.old.items ++ some_part by block.now other.now) }
+{
+    let part = block.part_near(other, by);
+    if part.does_ascend() {
+        out.push(part)?;
+    }
+    Ok(())
+}
+
 fn add_hits(
     out: &mut Vec<Block>,
-    label: usize,
-    block: &Block,
-    blocks: &[Block],
+    part: &Part,
+    near: &[Part],
     labels: &[usize],
     by: u32,
 ) -> Result<(), AllocError>
-    requires block { IsBlock block.now }
-    requires blocks { All IsBlock blocks.now }
-    requires labels { length labels.now ≡ length blocks.now }
+    requires part { IsPart (length labels.now) part.now }
+    requires near { All (IsPart (length labels.now)) near.now }
     requires small { by ≤ 1000 }
-    ensures { OnOk result (out.new.items ≡ out.old.items ++ hits_from by label block.now labels.now 0 blocks.now) }
+    ensures { OnOk result (out.new.items ≡ out.old.items ++ flat_map (hits_of by labels.now part.now) near.now) }
 {
-    for (at, other) in blocks.iter().enumerate() {
-        if labels[at] != label {
-            let part = block.part_near(other, by);
-            if part.does_ascend() {
-                out.push(part)?;
-            }
+    for other in near {
+        if labels[part.number] != labels[other.number] {
+            add_part(out, &part.block, &other.block, by)?;
+            add_part(out, &other.block, &part.block, by)?;
         }
     }
     Ok(())
@@ -69,18 +79,20 @@ fn add_hits(
 
 fn all_hits(
     alloc: Global,
-    blocks: &[Block],
+    parts: &[Part],
     labels: &[usize],
     by: u32,
 ) -> Result<Vec<Block>, AllocError>
-    requires blocks { All IsBlock blocks.now }
-    requires labels { length labels.now ≡ length blocks.now }
+    requires parts { All (IsPart (length labels.now)) parts.now }
     requires small { by ≤ 1000 }
-    ensures { IfOk result (λ v. v.items ≡ hits_over by labels.now blocks.now 0 blocks.now) }
+    ensures { IfOk result (λ v. v.items ≡ near_over by (hits_of by labels.now) parts.now) }
 {
     let mut out = Vec::new(alloc);
-    for (at, block) in blocks.iter().enumerate() {
-        add_hits(&mut out, labels[at], block, blocks, labels, by)?;
+    let mut rest = parts;
+    while let [part, behind @ ..] = rest {
+        let near = near_behind(alloc, part, behind, by)?;
+        add_hits(&mut out, part, near.as_slice(), labels, by)?;
+        rest = behind;
     }
     Ok(out)
 }
@@ -90,10 +102,11 @@ fn near_others(alloc: Global, set: &Region, by: u32) -> Result<Region, NoMemory>
     requires small { by ≤ 1000 }
     ensures { IfOk result (λ r. AreCells (FailsApart (Covers set.now) by) r) }
 {
-    let parts = set.blocks();
-    let links = all_links(alloc, parts)?;
-    let labels = classes(alloc, parts.len(), links.as_slice())?;
-    let hits = all_hits(alloc, parts, labels.as_slice(), by)?;
+    let blocks = set.blocks();
+    let parts = parts_of(alloc, blocks)?;
+    let links = all_links(alloc, parts.as_slice())?;
+    let labels = classes(alloc, blocks.len(), links.as_slice())?;
+    let hits = all_hits(alloc, parts.as_slice(), labels.as_slice(), by)?;
     match Region::from_blocks(alloc, hits.as_slice()) {
         Ok(region) => Ok(region),
         Err(error) => Err(error),

@@ -10,6 +10,7 @@ pub mod laws;
 pub mod linking;
 mod nearby;
 pub mod number;
+mod parts;
 pub mod rules;
 mod runs;
 mod sets;

@@ -1,6 +1,7 @@
-ghost use Rattle.std.specs.Prelude.{◌≡◌, length, map, IfOk};
+// Classes of numbers that links chain, as trees that are merged by their roots.
+ghost use Rattle.std.specs.Prelude.{◌≡◌, ◌<◌, ◌≤◌, length, IfOk};
 ghost use Rattle.std.specs.List.{All, range_with_len};
-ghost use Rattle.scmos_rules.specs.Classes.{IsLink, renamed, merged, Separates};
+ghost use Rattle.scmos_rules.specs.Classes.{IsLink, AreDown, IsRoot, IsMerge, label_by, AreRoots, AreJoined, Separates};
 
 use cell_num::NoMemory;
 use std::alloc::Global;
@@ -12,29 +13,30 @@ pub struct Link {
     pub other: usize,
 }
 
-fn renamed_label(from: usize, to: usize, label: usize) -> usize
-    ensures { result ≡ renamed from to label }
+// The number that the parents lead to, which is its own parent.
+fn root(parents: &[usize], from: usize) -> usize
+    requires down { AreDown parents.now }
+    requires from { from < length parents.now }
+    ensures root { IsRoot parents.now from result }
+    ensures bound { result < length parents.now }
 {
-    if label == from { to } else { label }
+    let mut at = from;
+    'parents: while parents[at] != at {
+        at = parents[at];
+    }
+    at
 }
 
-fn rename(labels: &mut [usize], from: usize, to: usize)
-    ensures { labels.new ≡ map (renamed from to) labels.old }
+fn merge(parents: &mut Vec<usize>, link: &Link)
+    requires link { IsLink (length parents.old.items) link.now }
+    requires down { AreDown parents.old.items }
+    ensures { IsMerge link.now parents.old.items parents.new.items }
 {
-    for label in labels.iter_mut() {
-        *label = renamed_label(from, to, *label);
-    }
-}
-
-fn merge(labels: &mut Vec<usize>, link: &Link)
-    requires { IsLink (length labels.old.items) link.now }
-    ensures { labels.new.items ≡ merged link.now labels.old.items }
-{
-    let from = labels[link.other];
-    let to = labels[link.one];
-    if from != to {
-        rename(labels.as_mut_slice(), from, to);
-    }
+    let one = root(parents.as_slice(), link.one);
+    let other = root(parents.as_slice(), link.other);
+    let low = one.min(other);
+    parents[one] = low;
+    parents[other] = low;
 }
 
 fn numbers(alloc: Global, count: usize) -> Result<Vec<usize>, NoMemory>
@@ -47,15 +49,38 @@ fn numbers(alloc: Global, count: usize) -> Result<Vec<usize>, NoMemory>
     Ok(labels)
 }
 
-fn merge_all(labels: &mut Vec<usize>, count: usize, links: &[Link])
-    requires first { labels.old.items ≡ range_with_len 0 count }
+fn merge_all(parents: &mut Vec<usize>, count: usize, links: &[Link])
+    requires first { parents.old.items ≡ range_with_len 0 count }
     requires links { All (IsLink count) links.now }
-    ensures length { length labels.new.items ≡ count }
-    ensures same { Separates count links.now labels.new.items }
+    ensures { AreJoined count links.now parents.new.items }
 {
     for link in links {
-        merge(labels, link);
+        merge(parents, link);
     }
+}
+
+fn label_of(labels: &[usize], number: usize, parent: usize) -> usize
+    requires { number ≤ length labels.now }
+    ensures { result ≡ label_by labels.now number parent }
+{
+    if parent < number {
+        labels[parent]
+    } else {
+        number
+    }
+}
+
+// The roots of all numbers. A parent that is lower has its root before.
+fn roots(alloc: Global, parents: &[usize]) -> Result<Vec<usize>, NoMemory>
+    requires { AreDown parents.now }
+    ensures { IfOk result (λ labels. AreRoots parents.now labels.items) }
+{
+    let mut labels = Vec::new(alloc);
+    for (number, parent) in parents.iter().enumerate() {
+        let label = label_of(labels.as_slice(), number, *parent);
+        labels.push(label).map_err(|_| NoMemory)?;
+    }
+    Ok(labels)
 }
 
 /// A label for each number below the count: two labels are equal exactly where links chain the numbers.
@@ -64,7 +89,10 @@ pub fn classes(alloc: Global, count: usize, links: &[Link]) -> Result<Vec<usize>
     ensures length { IfOk result (λ labels. length labels.items ≡ count) }
     ensures same { IfOk result (λ labels. Separates count links.now labels.items) }
 {
-    let mut labels = numbers(alloc, count)?;
-    merge_all(&mut labels, count, links);
-    Ok(labels)
+    let mut parents = numbers(alloc, count)?;
+    merge_all(&mut parents, count, links);
+    match roots(alloc, parents.as_slice()) {
+        Ok(labels) => Ok(labels),
+        Err(error) => Err(error),
+    }
 }

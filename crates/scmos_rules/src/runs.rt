@@ -1,5 +1,5 @@
 // Rules on the lengths of covered and of uncovered runs.
-ghost use Rattle.std.specs.Prelude.{◌≡◌, ◌≤◌, ℤ, IfOk};
+ghost use Rattle.std.specs.Prelude.{◌≡◌, ◌≤◌, ◌↔◌, ℤ, IfOk};
 ghost use Rattle.std.specs.List.{All, filter};
 ghost use Rattle.box_geom.specs.Rectangle.{Covers};
 ghost use Rattle.scmos_rules.specs.Failing.{FailsWidth, FailsSize, FailsOpen};
@@ -57,18 +57,20 @@ fn wrong_rows(alloc: Global, set: &Region, measure: Measure, value: u32) -> Resu
     }
 }
 
-// The cells of a set whose run along the row or along the column has not the length.
-pub(crate) fn wrong_runs(
+// The cells of a set whose run along the row or along the column has not the length. The set is given
+// as it is, and with x and y exchanged.
+fn wrong_runs(
     alloc: Global,
     set: &Region,
+    turned: &Region,
     measure: Measure,
     value: u32,
 ) -> Result<Region, NoMemory>
+    requires turned { (x y : ℤ) → Covers turned.now x y ↔ Covers set.now y x }
     ensures { IfOk result (λ r. AreCells (FailsRun measure (Covers set.now) value) r) }
 {
     let rows = wrong_rows(alloc, set, measure, value)?;
-    let turned = set.turned(alloc)?;
-    let across = wrong_rows(alloc, &turned, measure, value)?;
+    let across = wrong_rows(alloc, turned, measure, value)?;
     let columns = across.turned(alloc)?;
     match rows.either(alloc, &columns) {
         Ok(region) => Ok(region),
@@ -85,7 +87,8 @@ pub(crate) fn width(
     ensures { IfOk result (λ r. AreCells (FailsWidth (On layer shapes.now.rects) value) r) }
 {
     let set = on(alloc, shapes, layer)?;
-    match wrong_runs(alloc, &set, Measure::Width, value) {
+    let turned = set.turned(alloc)?;
+    match wrong_runs(alloc, &set, &turned, Measure::Width, value) {
         Ok(region) => Ok(region),
         Err(error) => Err(error),
     }
@@ -100,13 +103,15 @@ pub(crate) fn size(
     ensures { IfOk result (λ r. AreCells (FailsSize (On layer shapes.now.rects) value) r) }
 {
     let set = on(alloc, shapes, layer)?;
-    match wrong_runs(alloc, &set, Measure::Size, value) {
+    let turned = set.turned(alloc)?;
+    match wrong_runs(alloc, &set, &turned, Measure::Size, value) {
         Ok(region) => Ok(region),
         Err(error) => Err(error),
     }
 }
 
-// The cells of the gaps below a value in a set. A gap is a run of the cells that are not in the set.
+// The cells of the gaps below a value in a set. A gap is a run of the cells that are not in the set. Their
+// columns are the rows of what the turned set leaves free, which has few rectangles in each band.
 pub(crate) fn open(alloc: Global, set: &Region, value: u32) -> Result<Region, NoMemory>
     requires inner { AreInner set.now }
     requires small { value ≤ 1000 }
@@ -114,7 +119,9 @@ pub(crate) fn open(alloc: Global, set: &Region, value: u32) -> Result<Region, No
 {
     let plane = Region::plane(alloc)?;
     let rest = plane.minus(alloc, set)?;
-    match wrong_runs(alloc, &rest, Measure::Width, value) {
+    let turned = set.turned(alloc)?;
+    let turned_rest = plane.minus(alloc, &turned)?;
+    match wrong_runs(alloc, &rest, &turned_rest, Measure::Width, value) {
         Ok(region) => Ok(region),
         Err(error) => Err(error),
     }

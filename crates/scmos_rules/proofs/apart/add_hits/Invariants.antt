@@ -1,6 +1,7 @@
-use Rattle.std.proofs.Common.{◌≡◌, ◌++◌, drop}
-use Rattle.scmos_rules.specs.Apart.{hits_from}
+use Rattle.std.proofs.Common.{◌≡◌, ◌++◌, take}
+use Rattle.std.specs.List.{flat_map}
+use Rattle.scmos_rules.specs.Apart.{hits_of}
 use Rattle.scmos_rules.proofs.apart.add_hits.Given as goal
 
-abbrev pub invariant-loop-at : goal.invariant-loop-at
-invariant-loop-at l = l.out.items ++ hits_from l.by l.label l.block l.labels l.at (drop l.at l.blocks) ≡ l.fn.out.items ++ hits_from l.by l.label l.block l.labels 0 l.blocks
+abbrev pub invariant-loop-other : goal.invariant-loop-other
+invariant-loop-other l = l.out.items ≡ l.fn.out.items ++ flat_map (hits_of l.by l.labels l.part) (take l.other-index l.near)

@@ -1,6 +1,11 @@
-use Rattle.std.proofs.Common.{◌≡◌, ◌++◌, drop}
-use Rattle.scmos_rules.specs.Apart.{hits_over}
+use Rattle.std.proofs.Common.{◌≡◌, ◌++◌, length}
+use Rattle.std.specs.List.{All}
+use Rattle.scmos_rules.specs.Apart.{hits_of}
+use Rattle.scmos_rules.specs.Near.{IsPart, near_over}
 use Rattle.scmos_rules.proofs.apart.all_hits.Given as goal
 
-abbrev pub invariant-loop-at : goal.invariant-loop-at
-invariant-loop-at l = l.out.items ++ hits_over l.by l.labels l.blocks l.at (drop l.at l.blocks) ≡ hits_over l.by l.labels l.blocks 0 l.blocks
+abbrev pub invariant-loop-rest : goal.invariant-loop-rest
+invariant-loop-rest l = (l.out.items ++ near_over l.by (hits_of l.by l.labels) l.rest ≡ near_over l.by (hits_of l.by l.labels) l.parts) × All (IsPart (length l.labels)) l.rest
+
+abbrev pub decreases-loop-rest : goal.decreases-loop-rest
+decreases-loop-rest l = length l.rest

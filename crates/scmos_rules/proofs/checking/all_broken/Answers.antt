@@ -1,8 +1,6 @@
-use Rattle.std.proofs.Common.{rules, ◌≡◌, slice_index_or, sym, ap}
+use Rattle.std.proofs.Common.{rules, slice_index_or, ap}
 use Rattle.scmos_rules.specs.Numbers.{numbers_of}
-use Rattle.scmos_rules.specs.Violations.{AreBroken, IsVerdict}
 use Rattle.scmos_rules.specs.declared.number.RuleNo.TheVariants.{N1_1}
-use Rattle.scmos_rules.specs.declared.rules.Deck.TheVariants.{Plain}
 use Rattle.scmos_rules.proofs.Listing.{one_more_rule}
 use Rattle.scmos_rules.proofs.checking.all_broken.Goals as goal
 

@@ -1,6 +1,5 @@
-use Rattle.box_geom.specs.declared.layer.Layer.TheVariants.{Well, Active, PSelect, NSelect, Poly, Contact, Metal1, Via, Metal2}
-use Rattle.scmos_rules.specs.Layout.{On, Gate, Diffusion, FieldPoly, PActive, NActive, PolyContact, DiffusionContact, BareContact}
-use Rattle.scmos_rules.specs.declared.rules.Deck.TheVariants.{Plain}
+use Rattle.box_geom.specs.declared.layer.Layer.TheVariants.{Contact}
+use Rattle.scmos_rules.specs.Layout.{On, Gate}
 use Rattle.scmos_rules.proofs.Distances.{like_away}
 use Rattle.scmos_rules.proofs.composite.gate_distance.Goals as goal
 

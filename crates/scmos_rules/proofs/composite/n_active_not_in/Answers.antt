@@ -1,5 +1,5 @@
-use Rattle.box_geom.specs.declared.layer.Layer.TheVariants.{Well, Active, PSelect, NSelect, Poly, Contact, Metal1, Via, Metal2}
-use Rattle.scmos_rules.specs.Layout.{On, Gate, Diffusion, FieldPoly, PActive, NActive, PolyContact, DiffusionContact, BareContact}
+use Rattle.box_geom.specs.declared.layer.Layer.TheVariants.{NSelect}
+use Rattle.scmos_rules.specs.Layout.{On, NActive}
 use Rattle.scmos_rules.specs.declared.rules.Deck.TheVariants.{Plain}
 use Rattle.scmos_rules.proofs.Distances.{like_surround}
 use Rattle.scmos_rules.proofs.composite.n_active_not_in.Goals as goal

@@ -1,7 +1,7 @@
-use Rattle.box_geom.specs.declared.layer.Layer.TheVariants.{Well, Active, PSelect, NSelect, Poly, Contact, Metal1, Via, Metal2}
-use Rattle.scmos_rules.specs.Layout.{On, Gate, Diffusion, FieldPoly, PActive, NActive, PolyContact, DiffusionContact, BareContact}
+use Rattle.box_geom.specs.declared.layer.Layer.TheVariants.{PSelect, NSelect}
+use Rattle.scmos_rules.specs.Layout.{On, PActive, NActive}
 use Rattle.scmos_rules.specs.declared.rules.Deck.TheVariants.{Plain}
-use Rattle.scmos_rules.specs.Failing.{FailsSurround, FailsAway, FailsPartly}
+use Rattle.scmos_rules.specs.Failing.{FailsSurround}
 use Rattle.scmos_rules.proofs.Unions.{either_cells}
 use Rattle.scmos_rules.proofs.composite.select_edge.Goals as goal
 

@@ -1,7 +1,6 @@
-use Rattle.box_geom.specs.declared.layer.Layer.TheVariants.{Well, Active, PSelect, NSelect, Poly, Contact, Metal1, Via, Metal2}
-use Rattle.scmos_rules.specs.Layout.{On, Gate, Diffusion, FieldPoly, PActive, NActive, PolyContact, DiffusionContact, BareContact}
-use Rattle.scmos_rules.specs.declared.rules.Deck.TheVariants.{Plain}
-use Rattle.scmos_rules.specs.Failing.{FailsSurround, FailsAway, FailsPartly}
+use Rattle.box_geom.specs.declared.layer.Layer.TheVariants.{Active, Poly, Via}
+use Rattle.scmos_rules.specs.Layout.{On}
+use Rattle.scmos_rules.specs.Failing.{FailsPartly}
 use Rattle.scmos_rules.proofs.Unions.{either_cells}
 use Rattle.scmos_rules.proofs.composite.via_over_edge.Goals as goal
 

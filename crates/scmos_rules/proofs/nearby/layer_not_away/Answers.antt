@@ -1,4 +1,4 @@
-use Rattle.scmos_rules.specs.Layout.{On, Gate, Diffusion, FieldPoly, PActive, NActive, PolyContact, DiffusionContact, BareContact}
+use Rattle.scmos_rules.specs.Layout.{On}
 use Rattle.scmos_rules.proofs.Distances.{like_away}
 use Rattle.scmos_rules.proofs.nearby.layer_not_away.Goals as goal
 

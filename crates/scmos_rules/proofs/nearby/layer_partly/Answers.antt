@@ -1,5 +1,5 @@
-use Rattle.scmos_rules.specs.Layout.{On, Gate, Diffusion, FieldPoly, PActive, NActive, PolyContact, DiffusionContact, BareContact}
-use Rattle.scmos_rules.specs.Failing.{FailsSurround, FailsAway, FailsPartly}
+use Rattle.scmos_rules.specs.Layout.{On}
+use Rattle.scmos_rules.specs.Failing.{FailsSurround, FailsAway}
 use Rattle.scmos_rules.proofs.Unions.{both_cells}
 use Rattle.scmos_rules.proofs.nearby.layer_partly.Goals as goal
 

@@ -1,6 +1,5 @@
-use Rattle.std.proofs.Common.{rules}
 use Rattle.scmos_rules.proofs.Lengths.{runs_wrong}
 use Rattle.scmos_rules.proofs.runs.wrong_runs.Goals as goal
 
 pub returns-in-Ok : goal.returns-in-Ok
-returns-in-Ok c = runs_wrong c.args.measure c.args.value c.args.set.now c.in_ok-rows.rows c.in_ok-turned.turned c.in_ok-across.across c.in_ok-columns.columns c.in-Ok.region c.in_ok-rows.ensures c.in_ok-turned.ensures c.in_ok-across.ensures c.in_ok-columns.ensures c.in-Ok.ensures
+returns-in-Ok c = runs_wrong c.args.measure c.args.value c.args.set.now c.in_ok-rows.rows c.args.turned.now c.in_ok-across.across c.in_ok-columns.columns c.in-Ok.region c.in_ok-rows.ensures c.requires.turned c.in_ok-across.ensures c.in_ok-columns.ensures c.in-Ok.ensures

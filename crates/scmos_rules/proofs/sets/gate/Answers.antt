@@ -1,5 +1,5 @@
-use Rattle.box_geom.specs.declared.layer.Layer.TheVariants.{Well, Active, PSelect, NSelect, Poly, Contact, Metal1, Via, Metal2}
-use Rattle.scmos_rules.specs.Layout.{On, Gate, Diffusion, FieldPoly, PActive, NActive, PolyContact, DiffusionContact, BareContact}
+use Rattle.box_geom.specs.declared.layer.Layer.TheVariants.{Active, Poly}
+use Rattle.scmos_rules.specs.Layout.{On}
 use Rattle.scmos_rules.proofs.Unions.{both_cells, both_inner}
 use Rattle.scmos_rules.proofs.sets.gate.Goals as goal
 

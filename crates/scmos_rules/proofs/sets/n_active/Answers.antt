@@ -1,5 +1,5 @@
-use Rattle.box_geom.specs.declared.layer.Layer.TheVariants.{Well, Active, PSelect, NSelect, Poly, Contact, Metal1, Via, Metal2}
-use Rattle.scmos_rules.specs.Layout.{On, Gate, Diffusion, FieldPoly, PActive, NActive, PolyContact, DiffusionContact, BareContact}
+use Rattle.box_geom.specs.declared.layer.Layer.TheVariants.{Well, Active}
+use Rattle.scmos_rules.specs.Layout.{On}
 use Rattle.scmos_rules.proofs.Unions.{minus_cells, minus_inner}
 use Rattle.scmos_rules.proofs.sets.n_active.Goals as goal
 
