@@ -1,6 +1,6 @@
 -- The files of an end of `make`, once they are made.
 use Rattle.std.proofs.Common.{ℕ, ◌≡◌, ◌≢◌, ◌+◌, List, [], ◌∷◌, ◌++◌, Option, Some, None, Bool, true, false, if◌then◌else◌, codes, length, length-append, map, string_bytes, refl, sym, ap, ◌∙◌, subst, arith}
-use Rattle.std.specs.Prelude.{bytes_eq}
+use Rattle.std.specs.Prelude.{bytes_eq, get_or}
 use Rattle.std.proofs.lemmas.Bool.{false_from_ne_true}
 use Rattle.std.proofs.lemmas.List.{append_cancel_left}
 use Rattle.std.proofs.lemmas.Slice.Eq.{bytes_eq-Decides}
@@ -21,7 +21,8 @@ clog_is_no_gds out e =
 gds_is_no_lef : (out : List ℕ) → out ++ codes ".gds" ≢ out ++ codes ".lef"
 gds_is_no_lef out e =
     let same : codes ".gds" ≡ codes ".lef" = append_cancel_left out (codes ".gds") (codes ".lef") e in
-    cc
+    let g_is_l : 103 ≡ 108 = ap (λ (name : List ℕ). get_or name 1 0) same in
+    absurd (omega (arith, g_is_l))
 
 clog_is_no_lef : (out : List ℕ) → out ++ codes ".clog" ≢ out ++ codes ".lef"
 clog_is_no_lef out e =
