@@ -23,4 +23,4 @@ returns-clause-comes g c =
     (only_refl (g.D.Desk.view c.read_file.new.desk))
     (came_bytes (g.D.Desk.view c.args.desk.now) (g.D.Desk.view c.read_file.new.desk) (GdsFile c.args.gds.now) c.read_file.result c.read_file.ensures.reads)
     c.in_ok-bytes.was
-    (inl (ap (λ (name : List ℕ). Ok (Extracting (gds_cell c.args.tech name c.in_ok-bytes.bytes))) (c.in_ok-name.ensures ∙ c.as_bytes.ensures)))
+    (inl (ap (λ (name : List ℕ). Ok (Extracting (gds_cell c.args.tech name c.in_ok-bytes.bytes))) (c.in_ok-name.ensures ∙ c.as_bytes.ensures.value)))
