@@ -1,5 +1,6 @@
 """The inputs of the measures: each makes its files in a folder and gives the words of the call."""
 import random
+import struct
 import subprocess
 
 FLIP_FLOP = """\
@@ -55,7 +56,7 @@ def random_cell(name, columns, nets, seed):
     return "\n".join(lines + [".ends", ""])
 
 
-def library(folder, program):
+def behind_a_library(folder, program):
     text = [inverters(f"c{i}", 8) for i in range(4600)]
     (folder / "library.sp").write_text("".join(text)[: 4 * 1024 * 1024 - 400] + "\n.ends\n" + inverters("last", 1))
     return ["plan", "-", "library.sp", "last"]
@@ -96,8 +97,76 @@ def wide(name, columns):
     return "\n".join(lines + [".ends", ""])
 
 
+METAL1 = 49
+UNIT_NM = 150
+
+
+def record(kind, form, content=b""):
+    return struct.pack(">HBB", len(content) + 4, kind, form) + content
+
+
+def boundary(layer, x1, y1, x2, y2):
+    """A rectangle in file units of a nanometre, taken round."""
+    corners = struct.pack(">10i", x1, y1, x1, y2, x2, y2, x2, y1, x1, y1)
+    return (record(8, 0) + record(13, 2, struct.pack(">h", layer)) + record(14, 2, b"\0\0")
+            + record(16, 3, corners) + record(17, 0))
+
+
+def structure(name, elements):
+    return record(5, 2, bytes(24)) + record(6, 6, name.encode() + b"\0" * (len(name) % 2)) + elements + record(7, 0)
+
+
+def library(structures):
+    """A GDSII library with a unit of a nanometre: 10^-3 user units, 10^-9 metres, as excess-64 reals."""
+    units = bytes.fromhex("3e4189374bc6a7f03944b82fa09b5a54")
+    return (record(0, 2, b"\2\x58") + record(1, 2, bytes(24)) + record(2, 6, b"lib\0") + record(3, 5, units)
+            + structures + record(4, 0))
+
+
+def drawn(places):
+    """Metal1 rectangles, ten units wide and high, whose lower left corners stand at these places in units."""
+    return b"".join(boundary(METAL1, x * UNIT_NM, y * UNIT_NM, (x + 10) * UNIT_NM, (y + 10) * UNIT_NM) for x, y in places)
+
+
+def extracted(elements, others=b""):
+    def make(folder, program):
+        (folder / "cell.gds").write_bytes(library(others + structure("top", elements)))
+        return ["extract", "-", "cell.gds", "top"]
+    return make
+
+
+def boundaries_of(data):
+    """The layers and sides of the boundaries of a file that `make` wrote."""
+    at, layer = 0, 0
+    while at < len(data):
+        length, kind = struct.unpack(">HB", data[at:at + 3])
+        if kind == 13:
+            layer = struct.unpack(">h", data[at + 4:at + 6])[0]
+        if kind == 16 and length == 44:
+            values = struct.unpack(">10i", data[at + 4:at + 44])
+            yield layer, min(values[::2]), min(values[1::2]), max(values[::2]), max(values[1::2])
+        at += length
+
+
+def side_by_side(text, name, most):
+    """As many copies of a made cell as have so many rectangles, far enough apart to obey the rules, without labels."""
+    def make(folder, program):
+        subprocess.run([program] + made(text, name, 200000)(folder, program), cwd=folder, capture_output=True, check=True)
+        shapes = list(boundaries_of((folder / f"{name}.gds").read_bytes()))
+        step = max(x2 for _, _, _, x2, _ in shapes) + 40 * UNIT_NM
+        copies = range(most // len(shapes))
+        return extracted(b"".join(boundary(layer, x1 + i * step, y1, x2 + i * step, y2)
+                                  for i in copies for layer, x1, y1, x2, y2 in shapes))(folder, program)
+    return make
+
+
+def large_file(folder, program):
+    other = structure("other", drawn((16 * (i % 1000), 16 * (i // 1000)) for i in range(1000000)))
+    return extracted(drawn([(0, 0)]), other)(folder, program)
+
+
 MEASURES = [
-    ("plan: an inverter behind a library of 4 MiB", library),
+    ("plan: an inverter behind a library of 4 MiB", behind_a_library),
     ("plan: 14 inverters", planned(inverters("row", 14), "row", 200000)),
     ("plan: a flip-flop, to 200,000 nodes", planned(FLIP_FLOP, "dff", 200000)),
     ("plan: a flip-flop, to 1,000,000 nodes", planned(FLIP_FLOP, "dff", 1000000)),
@@ -105,5 +174,11 @@ MEASURES = [
     ("check: the log of the flip-flop to 200,000 nodes", checked(FLIP_FLOP, "dff", 200000)),
     ("make: an inverter", made(inverters("inv", 1), "inv", 200000)),
     ("make: a flip-flop, to 1,000,000 nodes", made(FLIP_FLOP, "dff", 1000000)),
+    ("extract: an inverter", side_by_side(inverters("inv", 1), "inv", 29)),
+    ("extract: 10,000 metal1 rectangles on a diagonal", extracted(drawn((16 * i, 16 * i) for i in range(10000)))),
+    ("extract: 10,000 metal1 rectangles that touch, 100 by 100",
+     extracted(drawn((10 * (i % 100), 10 * (i // 100)) for i in range(10000)))),
+    ("extract: cells of 8 columns side by side, 10,000 rectangles", side_by_side(wide("eight", 8), "eight", 10000)),
+    ("extract: a small cell in a file of a million rectangles", large_file),
     ("make: 32 columns", made(wide("wide", 32), "wide", 200000)),
 ]
