@@ -1,5 +1,4 @@
 mod cells;
-mod extract;
 mod make;
 
 use crate::deliver::deliver;
