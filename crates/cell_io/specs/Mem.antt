@@ -28,6 +28,10 @@ said_bytes desk = desk.said
 abbrev pub failing_calls : MemDesk → List ℕ
 failing_calls desk = desk.fail
 
+-- how many bytes a call moves at most
+abbrev pub most_of : MemDesk → ℕ
+most_of desk = desk.most
+
 -- the number of the next call
 abbrev pub next_call : MemDesk → ℕ
 next_call desk = desk.calls
@@ -63,15 +67,16 @@ abbrev pub CountsShort : {T : Type 0} → Result T DeskAnswer → ℕ → ℕ �
 CountsShort (Err NoMemory) old new = new ≡ one_more old
 CountsShort _ old new = new ≡ old
 
--- what each call does: it takes the next number, and neither the given files nor the list of failing calls change
+-- what each call does: it takes the next number, and neither the given files, nor the list of failing calls, nor the most bytes of a call change
 pub record IsAfterCall (old new : MemDesk) : Type 0 where
   pub number : next_call new ≡ one_more (next_call old)
   pub failing : failing_calls new ≡ failing_calls old
+  pub most : most_of new ≡ most_of old
   pub given : given_files new ≡ given_files old
 
--- as many bytes of the file from a place on as there are and fit were copied to the front of the buffer, and the rest of it is as it was
-pub record IsCopied (from : ℕ) (old new : List ℕ) (count : ℕ) (file : List ℕ) : Type 0 where
-  pub most : count ≡ min (length file - from) (length old)
+-- as many bytes of the file from a place on as there are and fit, but no more than the most, were copied to the front of the buffer, and the rest of it is as it was
+pub record IsCopied (from most : ℕ) (old new : List ℕ) (count : ℕ) (file : List ℕ) : Type 0 where
+  pub many : count ≡ min (min (length file - from) (length old)) most
   pub bytes : take count new ≡ take count (drop from file)
   pub rest : drop count new ≡ drop count old
 

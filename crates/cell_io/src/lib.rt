@@ -2,8 +2,10 @@
 #![tactic(auto)]
 
 pub mod desk;
+mod files;
 pub mod host;
 pub mod mem;
+mod most;
 pub mod output;
 mod reading;
 pub mod sink;

@@ -1,9 +1,10 @@
-ghost use Rattle.std.specs.Prelude.{◌≡◌, ◌<◌, ◌+◌, ◌++◌, ◌-◌, min, [], Contains, ℕ, List as Sequence, None, option_map, Some, length, take, IsTrue, IsNone, IsSome, IfSome, IfOk, IsErrOf, ◌↔◌, OnOk, OnErr};
-ghost use Rattle.std.specs.BTreeMap.{get_by_text};
-ghost use Rattle.cell_io.specs.Desk.{ReadsPart, IsHeld, AppendedIn, CreatedIn, OnlyReads, OnlyMakes, OnlySays, ReadingFailed};
-ghost use Rattle.cell_io.specs.Mem.{mem_view, CountsFailed, CountsShort, files_of, given_files, made_files, said_bytes, failing_calls, next_call, read_faults_of, write_faults_of, shorts_of, IsToFail, IsAfterCall, IsCopied, one_more};
+ghost use Rattle.std.specs.Prelude.{◌≡◌, ◌<◌, ◌≤◌, ◌+◌, ◌++◌, ◌-◌, ◌^◌, min, [], Contains, ℕ, List as Sequence, None, option_map, Some, length, take, IsTrue, IsNone, IsSome, IfSome, IfOk, IsErrOf, ◌↔◌, OnOk, OnErr};
+ghost use Rattle.cell_io.specs.Desk.{IsHeld, AppendedIn, CreatedIn, OnlyReads, OnlyMakes, OnlySays, ReadingFailed};
+ghost use Rattle.cell_io.specs.Mem.{mem_view, CountsFailed, CountsShort, files_of, given_files, made_files, said_bytes, failing_calls, most_of, next_call, read_faults_of, write_faults_of, shorts_of, IsToFail, IsAfterCall, IsCopied, one_more};
 ghost use Rattle.cell_io.specs.declared.desk.DeskAnswer.TheVariants as answer;
 
+use crate::files::{append_to, copy_part, create_in, find_file};
+use crate::most::Most;
 use crate::{Desk, DeskAnswer};
 use cell_num::{Bytes, List, Name, NoMemory};
 use std::alloc::Global;
@@ -20,8 +21,8 @@ pub type FileList = List<File>;
 
 pub type CallList = List<u64>;
 
-/// A desk in memory, which tells all that it holds and fails at the calls of a list. The calls are
-/// numbered from 0, those that answer Missing too.
+/// A desk in memory, which tells all that it holds, fails at the calls of a list and can be told to move few bytes
+/// a call. The calls are numbered from 0, those that answer Missing too.
 #[derive(Drop)]
 pub struct MemDesk {
     alloc: Global,
@@ -29,67 +30,17 @@ pub struct MemDesk {
     made: BTreeMap<String, Bytes>,
     said: Bytes,
     fail: CallList,
+    most: Most,
     calls: u64,
     read_faults: u64,
     write_faults: u64,
     shorts: u64,
 }
 
-// Copies as many bytes of the file, from a place on, as there are and fit.
-pub(crate) fn copy_part(file: &[u8], from: u64, into: &mut [u8]) -> usize
-    ensures part { ReadsPart file.now from into.new result }
-    ensures copied { IsCopied from into.old into.new result file.now }
-{
-    if from >= file.len() as u64 {
-        return 0;
-    }
-    let rest = &file[from as usize..];
-    let count = rest.len().min(into.len());
-    into[..count].copy_from_slice(&rest[..count]);
-    count
-}
-
-pub(crate) fn find_file<'a>(files: &'a [File], name: &[u8]) -> Option<&'a [u8]>
-    ensures { option_map (λ b. b.now) result ≡ files_of files.now name.now }
-{
-    files
-        .iter()
-        .find(|file| file.name.as_slice() == name)
-        .map(|file| file.bytes.as_slice())
-}
-
 fn has_call(calls: &[u64], call: u64) -> bool
     ensures { IsTrue result ↔ Contains calls.now call }
 {
     calls.contains(&call)
-}
-
-// Puts the part at the end of the file.
-fn append_to(files: &mut BTreeMap<String, Bytes>, name: &str, part: &[u8]) -> Result<(), NoMemory>
-    requires { IsHeld (get_by_text files.old) name.now }
-    ensures ok { OnOk result
-        (AppendedIn name.now part.now (length part.now) (get_by_text files.old) (get_by_text files.new)) }
-    ensures err { OnErr result ((q : Sequence ℕ) → get_by_text files.new q ≡ get_by_text files.old q) }
-{
-    let Some(bytes) = files.get_mut(name) else {
-        unreachable!()
-    };
-    match bytes.extend(part) {
-        Ok(()) => Ok(()),
-        Err(error) => Err(error),
-    }
-}
-
-// Makes an empty file.
-fn create_in(alloc: Global, files: &mut BTreeMap<String, Bytes>, name: &str) -> Result<(), NoMemory>
-    ensures ok { OnOk result (CreatedIn name.now (get_by_text files.old) (get_by_text files.new)) }
-    ensures err { OnErr result ((q : Sequence ℕ) → get_by_text files.new q ≡ get_by_text files.old q) }
-{
-    let key = String::from_str(alloc, name)?;
-    match files.insert(key, List::new(alloc)) {
-        Ok(_) => Ok(()),
-        Err(_) => Err(NoMemory),
-    }
 }
 
 impl MemDesk {
@@ -100,6 +51,7 @@ impl MemDesk {
         ensures made { (name : Sequence ℕ) → IsNone (made_files result name) }
         ensures said { said_bytes result ≡ [] }
         ensures failing { failing_calls result ≡ fail }
+        ensures most { most_of result ≡ 2 ^ 64 - 1 }
         ensures number { next_call result ≡ 0 }
         ensures read_count { read_faults_of result ≡ 0 }
         ensures write_count { write_faults_of result ≡ 0 }
@@ -111,11 +63,20 @@ impl MemDesk {
             made: BTreeMap::new(alloc),
             said: List::new(alloc),
             fail,
+            most: Most::all(),
             calls: 0,
             read_faults: 0,
             write_faults: 0,
             shorts: 0,
         }
+    }
+
+    /// From now on each call moves at most so many bytes.
+    pub fn cut(&mut self, most: u32)
+        requires { 1 ≤ most }
+        ensures { self.new ≡ record self.old { most = most } }
+    {
+        self.most = Most::new(most);
     }
 
     /// The bytes of a file that was made.
@@ -156,13 +117,15 @@ impl Desk for MemDesk {
             ↔ (IsSome (given_files self.old name.now) × IsToFail self.old) }
         ensures memory { result ≡ Err answer.NoMemory → ⊥ }
         ensures bytes { IfOk result (λ count.
-            IfSome (given_files self.old name.now) (IsCopied from into.old into.new count)) }
+            IfSome (given_files self.old name.now) (IsCopied from (most_of self.old) into.old into.new count)) }
+        ensures some { 1 ≤ most_of self.old }
         ensures refused { OnErr result (into.new ≡ into.old) }
         ensures counted { CountsFailed result (read_faults_of self.old) (read_faults_of self.new) }
         ensures rose { IsErrOf result answer.Failed → ReadingFailed (mem_view self.old) (mem_view self.new) }
         ensures only { OnlyReads (mem_view self.old) (mem_view self.new) }
         ensures quiet { OnOk result (mem_view self.new ≡ mem_view self.old) }
     {
+        let most = self.most.bytes();
         let fails = self.fails();
         let Some(bytes) = find_file(self.given.as_slice(), name.as_bytes()) else {
             return Err(DeskAnswer::Missing);
@@ -171,7 +134,7 @@ impl Desk for MemDesk {
             self.read_faults = self.read_faults.saturating_add(1);
             return Err(DeskAnswer::Failed);
         }
-        Ok(copy_part(bytes, from, into))
+        Ok(copy_part(bytes, from, into, most))
     }
 
     fn create(&mut self, name: &str) -> Result<(), DeskAnswer>
@@ -202,20 +165,22 @@ impl Desk for MemDesk {
         ensures call { IsAfterCall self.old self.new }
         ensures failed { IsErrOf result answer.Failed ↔ IsToFail self.old }
         ensures missing { result ≡ Err answer.Missing → ⊥ }
-        ensures all { IfOk result (λ count. count ≡ length part.now) }
-        ensures made { OnOk result
-            (AppendedIn name.now part.now (length part.now) (made_files self.old) (made_files self.new)) }
+        ensures all { IfOk result (λ count. count ≡ min (length part.now) (most_of self.old)) }
+        ensures some { 1 ≤ most_of self.old }
+        ensures made { IfOk result (λ count.
+            AppendedIn name.now part.now count (made_files self.old) (made_files self.new)) }
         ensures refused { OnErr result (made_files self.new ≡ made_files self.old) }
         ensures counted { CountsFailed result (write_faults_of self.old) (write_faults_of self.new) }
         ensures short_counted { CountsShort result (shorts_of self.old) (shorts_of self.new) }
         ensures only { OnlyMakes (mem_view self.old) (mem_view self.new) }
     {
+        let count = self.most.of(part.len());
         if self.fails() {
             self.write_faults = self.write_faults.saturating_add(1);
             return Err(DeskAnswer::Failed);
         }
-        match append_to(&mut self.made, name, part) {
-            Ok(()) => Ok(part.len()),
+        match append_to(&mut self.made, name, part, count) {
+            Ok(()) => Ok(count),
             Err(_) => {
                 self.shorts = self.shorts.saturating_add(1);
                 Err(DeskAnswer::NoMemory)
@@ -227,19 +192,21 @@ impl Desk for MemDesk {
         ensures call { IsAfterCall self.old self.new }
         ensures failed { IsErrOf result answer.Failed ↔ IsToFail self.old }
         ensures missing { result ≡ Err answer.Missing → ⊥ }
-        ensures all { IfOk result (λ count. count ≡ length part.now) }
-        ensures said { OnOk result (said_bytes self.new ≡ said_bytes self.old ++ part.now) }
+        ensures all { IfOk result (λ count. count ≡ min (length part.now) (most_of self.old)) }
+        ensures some { 1 ≤ most_of self.old }
+        ensures said { IfOk result (λ count. said_bytes self.new ≡ said_bytes self.old ++ take count part.now) }
         ensures refused { OnErr result (said_bytes self.new ≡ said_bytes self.old) }
         ensures counted { CountsFailed result (write_faults_of self.old) (write_faults_of self.new) }
         ensures short_counted { CountsShort result (shorts_of self.old) (shorts_of self.new) }
         ensures only { OnlySays (mem_view self.old) (mem_view self.new) }
     {
+        let count = self.most.of(part.len());
         if self.fails() {
             self.write_faults = self.write_faults.saturating_add(1);
             return Err(DeskAnswer::Failed);
         }
-        match self.said.extend(part) {
-            Ok(()) => Ok(part.len()),
+        match self.said.extend(&part[..count]) {
+            Ok(()) => Ok(count),
             Err(_) => {
                 self.shorts = self.shorts.saturating_add(1);
                 Err(DeskAnswer::NoMemory)

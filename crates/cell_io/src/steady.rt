@@ -2,7 +2,7 @@ ghost use Rattle.std.specs.Prelude.{◌≡◌, ◌<◌, ◌+◌, ◌-◌, ◌^�
 ghost use Rattle.cell_io.specs.Mem.{steady_view, files_of, steady_files, bytes_written, bytes_said, IsCopied};
 ghost use Rattle.cell_io.specs.declared.desk.DeskAnswer.TheVariants.{Missing, Failed, NoMemory};
 
-use crate::mem::{copy_part, find_file};
+use crate::files::{copy_part, find_file};
 use crate::{Desk, DeskAnswer, FileList};
 
 /// A desk that reads from memory and takes all that is written and said. It counts those bytes and
@@ -50,12 +50,12 @@ impl Desk for SteadyDesk {
         ensures failed { result ≡ Err Failed → ⊥ }
         ensures memory { result ≡ Err NoMemory → ⊥ }
         ensures bytes { IfOk result (λ count.
-            IfSome (steady_files self.old name.now) (IsCopied from into.old into.new count)) }
+            IfSome (steady_files self.old name.now) (IsCopied from (2 ^ 64 - 1) into.old into.new count)) }
         ensures refused { OnErr result (into.new ≡ into.old) }
         ensures same { self.new ≡ self.old }
     {
         match find_file(self.given.as_slice(), name.as_bytes()) {
-            Some(bytes) => Ok(copy_part(bytes, from, into)),
+            Some(bytes) => Ok(copy_part(bytes, from, into, usize::MAX)),
             None => Err(DeskAnswer::Missing),
         }
     }
