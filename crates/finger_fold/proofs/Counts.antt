@@ -1,6 +1,7 @@
 -- How many fingers a transistor and a row have.
-use Rattle.std.proofs.Common.{ℕ, ◌≡◌, ◌+◌, ◌-◌, ◌*◌, ◌/◌, ◌%◌, ◌≤◌, ◌<◌, List, [], ◌∷◌, ◌++◌, length, filter, flat_map, refl, ap, ◌∙◌, arith, replicate, All, inl, inr}
-use Rattle.std.proofs.Math.Nat.{mod-lt}
+use Rattle.std.proofs.Common.{ℕ, zero, suc, ◌≡◌, ◌+◌, ◌-◌, ◌*◌, ◌/◌, ◌%◌, ◌≤◌, ◌<◌, List, [], ◌∷◌, ◌++◌, length, filter, flat_map, refl, ap, ◌∙◌, arith, replicate, All, inl, inr}
+use Rattle.std.specs.Int.{div_ceil}
+use Rattle.std.proofs.Math.Nat.{mod-lt, mul-le-mul}
 use Rattle.std.proofs.lemmas.Bool.{cases_eq}
 use Rattle.std.proofs.lemmas.Grind.{div_ceil_times, flat_map-append}
 use Rattle.std.proofs.lemmas.List.{length-replicate, length-append, append-nil}
@@ -23,16 +24,37 @@ pub most_widest : (tech : Technology) (row : Row) → IsTechnology tech → wide
 most_widest tech P limits = limits.wmax_p_most
 most_widest tech N limits = limits.wmax_n_most
 
--- the widest fingers hold all units, and one finger fewer does not
-pub enough : (tech : Technology) (d : Device) → IsTechnology tech → (d.width ≤ count_of tech d * widest tech d.row) × (count_of tech d * widest tech d.row < d.width + widest tech d.row)
-enough tech d limits =
+-- as few of the widest fingers as hold all units; one fewer does not
+abbrev few : Technology → Device → ℕ
+few tech d = div_ceil d.width (widest tech d.row)
+
+few_hold : (tech : Technology) (d : Device) → IsTechnology tech → (d.width ≤ few tech d * widest tech d.row) × (few tech d * widest tech d.row < d.width + widest tech d.row)
+few_hold tech d limits =
     let least : 12 ≤ widest tech d.row = least_widest tech d.row limits in
     div_ceil_times d.width (widest tech d.row) (omega (arith, least))
+
+pub enough : (tech : Technology) (d : Device) → IsTechnology tech → d.width ≤ count_of tech d * widest tech d.row
+enough tech d limits =
+    let all : d.width ≤ few tech d * widest tech d.row = (few_hold tech d limits).0 in
+    let more : few tech d * widest tech d.row ≤ count_of tech d * widest tech d.row = mul-le-mul (omega arith) (omega arith) in
+    omega (arith, all, more)
+
+-- w units have at least 6 for each of the fewest fingers of m units that hold them
+six_in_each : (w m k : ℕ) → 12 ≤ m → 6 ≤ w → k * m < w + m → 6 * k ≤ w
+six_in_each w m zero least units fewest = omega arith
+six_in_each w m (suc j) least units fewest =
+    let more : j * 12 ≤ j * m = mul-le-mul (omega arith) least in
+    omega (arith, more, units, fewest)
+
+-- and so for each of those that are asked for
+pub six_units : (tech : Technology) (d : Device) → IsTechnology tech → 6 ≤ d.width → 6 * d.fingers ≤ d.width → 6 * count_of tech d ≤ d.width
+six_units tech d limits units asked =
+    omega (arith, asked, six_in_each d.width (widest tech d.row) (few tech d) (least_widest tech d.row limits) units (few_hold tech d limits).1)
 
 pub count_positive : (tech : Technology) (d : Device) → IsTechnology tech → 0 < d.width → 0 < count_of tech d
 count_positive tech d limits some = elim (cases_eq (count_of tech d) 0) [
   | inl none ↦
-      let all : d.width ≤ count_of tech d * widest tech d.row = (enough tech d limits).0 in
+      let all : d.width ≤ count_of tech d * widest tech d.row = enough tech d limits in
       let product : count_of tech d * widest tech d.row ≡ 0 = rw none (omega arith) in
       omega (arith, some, all, product)
   | inr other ↦ omega (arith, other)
@@ -45,7 +67,7 @@ length_shared d k small =
 remainder : (tech : Technology) (d : Device) → IsTechnology tech → d.width % count_of tech d ≤ count_of tech d
 remainder tech d limits = elim (cases_eq (count_of tech d) 0) [
   | inl none ↦
-      let all : d.width ≤ count_of tech d * widest tech d.row = (enough tech d limits).0 in
+      let all : d.width ≤ count_of tech d * widest tech d.row = enough tech d limits in
       let product : count_of tech d * widest tech d.row ≡ 0 = rw none (omega arith) in
       let empty : d.width ≡ 0 = omega (arith, all, product) in
       rw (none, empty) (omega arith)

@@ -1,30 +1,26 @@
 -- The widths of a transistor's fingers.
-use Rattle.std.proofs.Common.{ℕ, zero, suc, ◌≡◌, ◌+◌, ◌*◌, ◌/◌, ◌%◌, ◌≤◌, ◌<◌, arith, inl, inr}
+use Rattle.std.proofs.Common.{ℕ, ◌≡◌, ◌+◌, ◌*◌, ◌/◌, ◌%◌, ◌≤◌, ◌<◌, arith, inl, inr}
 use Rattle.std.proofs.Math.Nat.{mul-le-mul, mod-lt, div-add-mod'}
 use Rattle.std.proofs.lemmas.Bool.{cases_lt}
 use Rattle.spice_net.specs.declared.subckt.Device.{Device}
 use Rattle.tech_file.specs.Technology.{Technology, IsTechnology}
 use Rattle.finger_fold.specs.Folding.{widest, count_of}
-use Rattle.finger_fold.proofs.Counts.{enough, count_positive, least_widest, most_widest}
+use Rattle.finger_fold.proofs.Counts.{enough, six_units, count_positive, most_widest}
 
 -- w units over k fingers, q and sometimes one more to each, where k fingers of m units are enough and
--- one fewer is not
+-- there are 6 units for each
 record AreShares (w m k q r : ℕ) : Type 0 where
-  pub least : 12 ≤ m
   pub most : m ≤ 400
-  pub units : 6 ≤ w
+  pub units : 6 * k ≤ w
   pub enough : w ≤ k * m
-  pub fewest : k * m < w + m
   pub whole : q * k + r ≡ w
   pub rest : r < k
 
 share_least : (w m k q r : ℕ) → AreShares w m k q r → 6 ≤ q
-share_least w m zero q r h = omega (arith, h.rest)
-share_least w m (suc j) q r h = elim (cases_lt q 6) [
+share_least w m k q r h = elim (cases_lt q 6) [
   | inl few ↦
-      let less : q * suc j ≤ 5 * suc j = mul-le-mul (omega (arith, few)) (omega arith) in
-      let more : j * 12 ≤ j * m = mul-le-mul (omega arith) h.least in
-      omega (arith, less, more, h.units, h.fewest, h.whole, h.rest)
+      let less : q * k ≤ 5 * k = mul-le-mul (omega (arith, few)) (omega arith) in
+      omega (arith, less, h.units, h.whole, h.rest)
   | inr enough ↦ enough
 ]
 
@@ -51,15 +47,13 @@ pub record HasWidths (q r : ℕ) : Type 0 where
   pub most : q ≤ 400
   pub more : 0 < r → q + 1 ≤ 400
 
-pub widths : (tech : Technology) (d : Device) → IsTechnology tech → 6 ≤ d.width → HasWidths (d.width / count_of tech d) (d.width % count_of tech d)
-widths tech d limits units =
+pub widths : (tech : Technology) (d : Device) → IsTechnology tech → 6 ≤ d.width → 6 * d.fingers ≤ d.width → HasWidths (d.width / count_of tech d) (d.width % count_of tech d)
+widths tech d limits units asked =
     let positive : 0 < count_of tech d = count_positive tech d limits (omega (arith, units)) in
     let shares : AreShares d.width (widest tech d.row) (count_of tech d) (d.width / count_of tech d) (d.width % count_of tech d) = record {
-      least = least_widest tech d.row limits;
       most = most_widest tech d.row limits;
-      units = units;
-      enough = (enough tech d limits).0;
-      fewest = (enough tech d limits).1;
+      units = six_units tech d limits units asked;
+      enough = enough tech d limits;
       whole = div-add-mod' d.width (count_of tech d);
       rest = mod-lt d.width positive;
     } in

@@ -80,7 +80,7 @@ Any-shared Q d k positive holds =
 
 device_cut : (nets : ℕ) (pins : Pins) (tech : Technology) (d : Device) → IsTechnology tech → IsDevice nets pins d → All (IsCut nets pins d.row) (fingers_of tech d)
 device_cut nets pins tech d limits h =
-    let w : HasWidths (d.width / count_of tech d) (d.width % count_of tech d) = widths tech d limits h.least in
+    let w : HasWidths (d.width / count_of tech d) (d.width % count_of tech d) = widths tech d limits h.least h.wide_enough in
     All-shared (IsCut nets pins d.row) d (count_of tech d)
     (λ some. cut nets pins d (d.width / count_of tech d + 1) h (omega (arith, w.least)) (w.more some))
     (cut nets pins d (d.width / count_of tech d) h w.least w.most)

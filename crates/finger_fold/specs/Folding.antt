@@ -1,5 +1,5 @@
--- The fingers of a subcircuit: each transistor is cut into as few fingers as its row's greatest width
--- allows, whose widths differ by one unit at most.
+-- The fingers of a subcircuit: each transistor is cut into as few fingers as its row's greatest width and
+-- the number that is asked for allow, whose widths differ by one unit at most.
 use Rattle.std.specs.Prelude.{ℕ, ◌+◌, ◌-◌, ◌/◌, ◌%◌, ◌^◌, nat_le, List, ◌++◌, length, min, max, filter, flat_map, replicate, Result, Ok}
 use Rattle.std.specs.Int.{div_ceil}
 use Rattle.cell_num.specs.declared.finger.Row.{Row}
@@ -20,9 +20,9 @@ abbrev pub widest : Technology → Row → ℕ
 widest tech P = tech.wmax_p
 widest tech N = tech.wmax_n
 
--- how many fingers a transistor has: as few as the widest finger allows
+-- how many fingers a transistor has: as few as the widest finger allows, and at least as many as are asked for
 abbrev pub count_of : Technology → Device → ℕ
-count_of tech d = div_ceil d.width (widest tech d.row)
+count_of tech d = max (div_ceil d.width (widest tech d.row)) d.fingers
 
 -- a finger of a transistor, with its lower-numbered end net first
 abbrev pub finger_of : Device → ℕ → Finger

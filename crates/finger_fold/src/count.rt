@@ -21,7 +21,10 @@ pub fn count_of(tech: &Tech, device: &Device) -> u32
     ensures positive { 0 < device.now.width → 0 < result }
 {
     tech.show_limits();
-    device.width.div_ceil(widest(tech, device.row))
+    device
+        .width
+        .div_ceil(widest(tech, device.row))
+        .max(device.fingers)
 }
 
 // How many of a transistor's fingers are in this row.

@@ -71,7 +71,8 @@ fn few_in_rows(cell: &Subckt, tech: &Tech) -> Result<(), FoldFault>
 }
 
 /// The fingers of a subcircuit: each transistor is cut into as few fingers as the technology's widest
-/// finger of its row allows. The answer is sound for the subcircuit's nets and pins.
+/// finger of its row allows, and at least into as many as it asks for. The answer is sound for the
+/// subcircuit's nets and pins.
 #[tactic(auto, using(crate::proofs::Sound::asked, crate::proofs::Told::never_folded))]
 pub fn fold(alloc: Global, cell: &Subckt, tech: &Tech) -> Result<Fingers, FoldFault>
     requires { IsSubckt cell.now }

@@ -5,8 +5,14 @@ use std::alloc::{AllocError, Global};
 use std::test::Fail;
 use tech_file::read_tech;
 
-// The fingers of an inverter whose P and N transistors are so many grid units wide.
-fn folded(alloc: Global, limits: &str, widths: (u32, u32)) -> Result<Fingers, FoldFault> {
+// The fingers of an inverter whose P and N transistors are so many grid units wide; `more` stands behind
+// the line of the P transistor.
+fn folded(
+    alloc: Global,
+    limits: &str,
+    widths: (u32, u32),
+    more: &str,
+) -> Result<Fingers, FoldFault> {
     let limits = limits.as_bytes();
     let Ok(tech) = read_tech(alloc, &limits[..limits.len().min(1000)]) else {
         return Err(FoldFault::NoMemory);
@@ -14,7 +20,7 @@ fn folded(alloc: Global, limits: &str, widths: (u32, u32)) -> Result<Fingers, Fo
     let p = 150 * u64::from(widths.0);
     let n = 150 * u64::from(widths.1);
     let Ok(text) = format!(in alloc;
-        ".subckt inv a y vdd gnd\nmp y a vdd vdd p w={p}n l=600n\nmn y a gnd gnd n w={n}n l=600n\n.ends\n"
+        ".subckt inv a y vdd gnd\nmp y a vdd vdd p w={p}n l=600n {more}\nmn y a gnd gnd n w={n}n l=600n\n.ends\n"
     ) else {
         return Err(FoldFault::NoMemory);
     };
@@ -35,8 +41,8 @@ fn widths_of(alloc: Global, row: &str, fingers: &FingerList) -> Result<String, A
     Ok(out)
 }
 
-fn told(alloc: Global, limits: &str, widths: (u32, u32)) -> Result<String, AllocError> {
-    match folded(alloc, limits, widths) {
+fn told(alloc: Global, limits: &str, widths: (u32, u32), more: &str) -> Result<String, AllocError> {
+    match folded(alloc, limits, widths, more) {
         Ok(fingers) => {
             let p = widths_of(alloc, "P", &fingers.p)?;
             let n = widths_of(alloc, "N", &fingers.n)?;
@@ -65,9 +71,31 @@ fn cuts_transistors(rt: HostRuntime) -> Result<(), Fail> {
         ),
     ] {
         assert_eq!(rt;
-            told(rt.alloc(), limits, widths)?.as_str(),
+            told(rt.alloc(), limits, widths, "")?.as_str(),
             want,
             "{limits} {widths:?}"
+        );
+    }
+    Ok(())
+}
+
+#[test]
+fn cuts_into_the_fingers_that_are_asked_for(rt: HostRuntime) -> Result<(), Fail> {
+    for (limits, width, more, want) in [
+        ("", 20, "nf=3", "P 7 7 6 N 10"),
+        ("wmax_p = 20", 41, "nf=2", "P 14 14 13 N 10"),
+        ("wmax_p = 20", 41, "nf=4", "P 11 10 10 10 N 10"),
+        ("", 12, "nf=2", "P 6 6 N 10"),
+        ("", 20, "m=2", "P 20 20 N 10"),
+        ("", 20, "m=2 nf=3", "P 7 7 6 7 7 6 N 10"),
+        ("", 41, "m=3", "P 21 20 21 20 21 20 N 10"),
+        ("", 20, "m=33", "TooManyColumns { count: 33 }"),
+        ("", 20, "m=22 nf=3", "TooManyFingers { count: 66 }"),
+    ] {
+        assert_eq!(rt;
+            told(rt.alloc(), limits, (width, 10), more)?.as_str(),
+            want,
+            "{limits} {width} {more}"
         );
     }
     Ok(())

@@ -23,15 +23,15 @@ fn told(alloc: Global, text: &[u8]) -> Result<String, Fail> {
     for device in cell.devices.as_slice() {
         let row = if device.row == Row::P { "P" } else { "N" };
         let text = format!(in alloc;
-            ", {row} {} {} {} {}",
-            device.drain.0, device.gate.0, device.source.0, device.width
+            ", {row} {} {} {} {} {}",
+            device.drain.0, device.gate.0, device.source.0, device.width, device.fingers
         )?;
         told.push_str(text.as_str())?;
     }
     Ok(told)
 }
 
-const INVERTER: &str = "4 2 3 a y vdd gnd, P 1 0 2 20, N 1 0 3 10";
+const INVERTER: &str = "4 2 3 a y vdd gnd, P 1 0 2 20 1, N 1 0 3 10 1";
 
 #[test]
 fn reads_subcircuits(rt: HostRuntime) -> Result<(), Fail> {
@@ -50,7 +50,7 @@ fn reads_subcircuits(rt: HostRuntime) -> Result<(), Fail> {
         ),
         (
             b".global gnd vdd\n.subckt c a y\n.global\nMP y a vdd vdd p W=3u L=0.6u\nmn y a t gnd n w=1.575u l=.6u\nmn2 t a gnd gnd nch w=0.825u l=600n\n.ENDS\n",
-            "4 2 3 a y vdd gnd t, P 1 0 2 20, N 1 0 4 11, N 4 0 3 6",
+            "4 2 3 a y vdd gnd t, P 1 0 2 20 1, N 1 0 4 11 1, N 4 0 3 6 1",
         ),
         (b"", "NoCell"),
         (
@@ -70,6 +70,54 @@ fn reads_subcircuits(rt: HostRuntime) -> Result<(), Fail> {
         ),
     ] {
         assert_eq!(rt; told(rt.alloc(), text)?.as_str(), want);
+    }
+    Ok(())
+}
+
+// an inverter whose lines have more words behind them
+fn inverter(alloc: Global, p: &str, n: &str) -> Result<String, Fail> {
+    let text = format!(in alloc;
+        ".subckt c a y vdd gnd\nmp y a vdd vdd p w=3u l=.6u {p}\nmn y a gnd gnd n w=1.5u l=.6u {n}\n.ends\n"
+    )?;
+    told(alloc, text.as_bytes())
+}
+
+#[test]
+fn reads_copies_and_fingers(rt: HostRuntime) -> Result<(), Fail> {
+    for (p, n, want) in [
+        (
+            "m=2",
+            "M = 2",
+            "4 2 3 a y vdd gnd, P 1 0 2 20 1, P 1 0 2 20 1, N 1 0 3 10 1, N 1 0 3 10 1",
+        ),
+        ("nf=3", "", "4 2 3 a y vdd gnd, P 1 0 2 20 3, N 1 0 3 10 1"),
+        (
+            "nf=.03e2 m=2000m",
+            "m=0 nf=9 m=10e-1 nf=1",
+            "4 2 3 a y vdd gnd, P 1 0 2 20 3, P 1 0 2 20 3, N 1 0 3 10 1",
+        ),
+        (
+            "w=57.6u nf=64",
+            "",
+            "4 2 3 a y vdd gnd, P 1 0 2 384 64, N 1 0 3 10 1",
+        ),
+        ("", "nf=3", "Narrow { line: 3, units: 10 }"),
+        ("w=57.45u nf=64", "", "Narrow { line: 2, units: 383 }"),
+        ("m=0", "", "Multiple { line: 2 }"),
+        ("m=1.5", "", "Multiple { line: 2 }"),
+        ("m=65", "", "Multiple { line: 2 }"),
+        ("nf=0", "", "Multiple { line: 2 }"),
+        ("nf=65", "", "Multiple { line: 2 }"),
+        ("nf=3.5", "", "Multiple { line: 2 }"),
+        ("nf=1e40", "", "Multiple { line: 2 }"),
+        ("m=64", "m=65", "Multiple { line: 3 }"),
+        (
+            "m=60",
+            "m=64\nmo y a gnd gnd n w=1.5u l=.6u m=5",
+            "TooMany { what: Devices, count: 129 }",
+        ),
+    ] {
+        assert_eq!(rt; inverter(rt.alloc(), p, n)?.as_str(), want, "{p} {n}");
     }
     Ok(())
 }
@@ -95,9 +143,14 @@ fn refuses_the_first_fault_of_a_line(rt: HostRuntime) -> Result<(), Fail> {
             "Narrow { line: 2, units: 5 }",
         ),
         ("MN y vdd gnd vdd n w=1.5u l=.6u", "Body { line: 2 }"),
-        ("MN y vdd gnd gnd n w=1.5u l=.6u m=2", "Rail { line: 2 }"),
+        ("MN y vdd gnd gnd n w=1.5u l=.6u m=0", "Rail { line: 2 }"),
+        (
+            "MN y vdd gnd vdd n w=1.5u l=.6u nf=2",
+            "Narrow { line: 2, units: 10 }",
+        ),
+        ("MN y vdd gnd vdd n w=1.5u l=.6u nf=65", "Body { line: 2 }"),
         ("MN y a vdd gnd n w=1.5u l=.6u", "Rail { line: 2 }"),
-        ("MN y a gnd gnd n w=1.5u l=.6u m=2", "Multiple { line: 2 }"),
+        ("MN y a gnd gnd n w=1.5u l=.6u m=0", "Multiple { line: 2 }"),
     ] {
         let text = format!(in rt.alloc(); ".subckt c a y vdd gnd\n{line}\nR2\n.ends\n")?;
         assert_eq!(rt; told(rt.alloc(), text.as_bytes())?.as_str(), want, "{line}");

@@ -1,3 +1,4 @@
+pub mod Copies
 pub mod LineFacts
 pub mod NetFacts
 pub mod Parameters

@@ -4,7 +4,7 @@ use Rattle.std.specs.Prelude.{All, Any, nat_le, bytes_eq, Option, Some, None, Re
 use Rattle.std.specs.List.{list_all}
 use Rattle.std.proofs.lemmas.List.{length-map}
 use Rattle.std.proofs.lemmas.Bool.{cases_Bool, false≢true, and_parts, and_cases, or_cases, or_parts, or_left, or_right, not-true, not-false, leb-true, eqb-true}
-use Rattle.std.proofs.lemmas.List.Elements.{All-cons, All-map, All-nil}
+use Rattle.std.proofs.lemmas.List.Elements.{All-cons, All-map, All-nil, All-weaker}
 use Rattle.std.proofs.lemmas.List.Folds.{list_any-append}
 use Rattle.std.proofs.lemmas.Slice.Eq.{bytes_eq-Decides}
 use Rattle.cell_num.specs.declared.net.NetNo.{NetNo}
@@ -23,7 +23,7 @@ use Rattle.spice_net.specs.Transistors.{Transistor}
 use Rattle.spice_net.specs.Chosen.{has_name, is_global, chosen_in, without_comments, lines_in}
 use Rattle.spice_net.specs.Transistors.{is_rail, other_rail, transistors_of}
 use Rattle.spice_net.specs.Directions.{direction_of}
-use Rattle.spice_net.specs.Nets.{distinct, named_nets, nets_of, number_of, net_of, device_of}
+use Rattle.spice_net.specs.Nets.{distinct, named_nets, nets_of, number_of, net_of, device_of, with_copies}
 use Rattle.cell_num.specs.Steps.{require}
 use Rattle.spice_net.specs.Subcircuit.{pins_of, with_rail, with_rails, idle_pin, none_idle, few_enough, subckt_with, subckt_of, subckt_in, subcircuit}
 use Rattle.spice_net.specs.Subckts.{far_rail, IsDevice, Joins, IsSubckt}
@@ -31,6 +31,7 @@ use Rattle.spice_net.proofs.NetFacts.{one_name, nets_differ}
 use Rattle.spice_net.proofs.SoundNets.{has_distinct, has_itself, numbered, same_numbered, number_at, first_numbered, distinct_longer, distinct_push}
 use Rattle.cell_num.proofs.Steps.{granted_step, granted_require}
 use Rattle.spice_net.proofs.SoundLines.{IsRight, all_right}
+use Rattle.spice_net.proofs.Copies.{all_copies, any_copies}
 
 -- ---- the pins
 
@@ -56,7 +57,7 @@ pub record IsAccepted (tech : Technology) (pins : List (List ℕ)) (ts : List Tr
   pub gnd : has_name pins tech.gnd ≡ true
   pub none_idle : idle_pin tech pins ts ≡ None
   pub few_pins : length pins ≤ 64
-  pub few_devices : length ts ≤ 128
+  pub few_devices : length (with_copies ts) ≤ 128
   pub few_nets : length (nets_of pins ts) ≤ 256
 
 required : (b : Bool) (g : SpiceFault) (u : Unit {0}) → require b g ≡ Ok u → b ≡ true
@@ -74,14 +75,14 @@ accepted name tech lines pins ts cell e =
     let some = granted_require (not (length ts == 0)) fault.Empty _ cell idle.2 in
     let few = granted_step (few_enough pins ts) _ cell some.1 in
     let few_pins = granted_require (nat_le (length pins) 64) (fault.TooMany what.Pins (length pins)) _ few.0 few.1 in
-    let few_devices = granted_require (nat_le (length ts) 128) (fault.TooMany what.Devices (length ts)) _ few.0 few_pins.1 in
+    let few_devices = granted_require (nat_le (length (with_copies ts)) 128) (fault.TooMany what.Devices (length (with_copies ts))) _ few.0 few_pins.1 in
     let both = and_parts (has_name pins tech.vdd) (has_name pins tech.gnd) rails.0 in (
       record {
         vdd = both.0;
         gnd = both.1;
         none_idle = none_there (idle_pin tech pins ts) idle.0 idle.1;
         few_pins = leb-true (length pins) 64 few_pins.0;
-        few_devices = leb-true (length ts) 128 few_devices.0;
+        few_devices = leb-true (length (with_copies ts)) 128 few_devices.0;
         few_nets = leb-true (length (nets_of pins ts)) 256 (required (nat_le (length (nets_of pins ts)) 256) (fault.TooMany what.Nets (length (nets_of pins ts))) few.0 few_devices.1);
       },
       ok_is (subckt_with name tech lines pins ts) cell few.2,
@@ -138,6 +139,9 @@ is_device nets tech count t right named =
       source = numbered t.source nets named.source;
       least = right.least;
       most = right.most;
+      some_fingers = right.fingers.0;
+      few_fingers = right.fingers.1;
+      wide_enough = right.wide_enough;
       gate_no_rail = no_rail rails.0 rails.1;
       drain_allowed = λ same. apart nets t.drain (other_rail tech t.row) named.drain (rail_named nets tech t t.row named) right.drain (same ∙ other_is_far nets tech count t.row);
       source_allowed = λ same. apart nets t.source (other_rail tech t.row) named.source (rail_named nets tech t t.row named) right.source (same ∙ other_is_far nets tech count t.row);
@@ -241,12 +245,15 @@ is_met tech pins ts count net none lt no_rail = met_by_name tech pins ts count (
 
 -- ---- the whole
 
+some_copies : (tech : Technology) (ts : List Transistor) → All (IsRight tech) ts → All (λ (t : Transistor). 1 ≤ t.copies) ts
+some_copies tech ts right = All-weaker (IsRight tech) (λ (t : Transistor). 1 ≤ t.copies) (λ t h. h.copies.0) ts right
+
 sound_with : (name : List ℕ) (tech : Technology) (lines : List Line) (pins : List (List ℕ)) (ts : List Transistor) → IsAccepted tech pins ts → All (IsRight tech) ts → IsSubckt (subckt_with name tech lines pins ts)
 sound_with name tech lines pins ts ok right = record {
   few_nets = ok.few_nets;
   names_differ = nets_differ pins ts (nets_of pins ts) refl;
-  devices = are_devices (nets_of pins ts) tech (length pins) ts right (all_named (nets_of pins ts) tech ts (all_among pins ts) (pin_named pins ts tech.vdd ok.vdd) (pin_named pins ts tech.gnd ok.gnd));
-  met = λ net lt no_rail. is_met tech pins ts (length pins) net ok.none_idle lt no_rail;
+  devices = are_devices (nets_of pins ts) tech (length pins) (with_copies ts) (all_copies (IsRight tech) ts right) (all_copies (AreNamed (nets_of pins ts) tech) ts (all_named (nets_of pins ts) tech ts (all_among pins ts) (pin_named pins ts tech.vdd ok.vdd) (pin_named pins ts tech.gnd ok.gnd)));
+  met = λ net lt no_rail. any_copies (Joins net) (device_of (nets_of pins ts)) ts (some_copies tech ts right) (is_met tech pins ts (length pins) net ok.none_idle lt no_rail);
 }
 
 pins_with : (name : List ℕ) (tech : Technology) (lines : List Line) (pins : List (List ℕ)) (ts : List Transistor) → IsTechnology tech → IsAccepted tech pins ts → length pins ≤ length (distinct pins) → ArePins (length (subckt_with name tech lines pins ts).nets) (subckt_with name tech lines pins ts).pins
@@ -300,7 +307,7 @@ few_pins bytes name tech cell e =
 pub few_devices : (bytes name : List ℕ) (tech : Technology) (cell : Subckt) → subcircuit bytes name tech ≡ Ok cell → length cell.devices ≤ 128
 few_devices bytes name tech cell e =
     let read = is_read bytes name tech cell e in
-    subst (λ (c : Subckt). length c.devices ≤ 128) read.3.made (omega (arith, read.3.accepted.few_devices, length-map read.2 (device_of (nets_of read.1 read.2))))
+    subst (λ (c : Subckt). length c.devices ≤ 128) read.3.made (omega (arith, read.3.accepted.few_devices, length-map (with_copies read.2) (device_of (nets_of read.1 read.2))))
 
 -- each pin has a direction
 pub all_directed : (bytes name : List ℕ) (tech : Technology) (cell : Subckt) → subcircuit bytes name tech ≡ Ok cell → length cell.directions ≡ cell.pins.pins

@@ -17,9 +17,10 @@ use Rattle.spice_net.specs.declared.subckt.Subckt.{Subckt}
 use Rattle.spice_net.specs.Chosen.{first_is, has_name, is_global, chosen_in, without_comments, lines_in}
 use Rattle.spice_net.specs.Nets.{distinct, named_nets, nets_of}
 use Rattle.spice_net.specs.Subcircuit.{pins_of, with_rail, with_rails, subckt_in, subckt_of, subckt_with, subcircuit}
+use Rattle.spice_net.specs.Reader.{transistor_as}
 use Rattle.spice_net.specs.Subckts.{AreNames}
-use Rattle.spice_net.specs.declared.transistor.Sizes.{Sizes}
-use Rattle.spice_net.specs.Transistors.{Fields, Transistor, fields_of, is_one, is_parameter, is_transistor, own_rail, rails_allowed, row_of, sizes_of, transistor_of, transistor_with, transistors_of, value_of, with_line}
+use Rattle.spice_net.specs.declared.sizes.Sizes.{Sizes}
+use Rattle.spice_net.specs.Transistors.{Fields, Transistor, fields_of, is_parameter, is_transistor, least_width, own_rail, rails_allowed, row_of, sizes_of, transistor_of, transistor_with, transistors_of, value_of, with_line}
 use Rattle.spice_net.proofs.Sound.{accepted}
 use Rattle.spice_net.proofs.SoundLines.{ok_is, oks_are}
 
@@ -66,14 +67,15 @@ names_with tech line fields t names e =
     let row = granted_option (row_of tech fields.model) (fault.Model line) _ t e in
     let sizes = granted_step (sizes_of tech line fields) _ t row.2 in
     let channel = granted_require (sizes.0.channel == 4) (fault.Length line sizes.0.channel) _ t sizes.2 in
-    let wide = granted_require (nat_le 6 sizes.0.width) (fault.Narrow line sizes.0.width) _ t channel.1 in
+    let wide = granted_require (nat_le (least_width sizes.0.fingers) sizes.0.width) (fault.Narrow line sizes.0.width) _ t channel.1 in
     let bulk = granted_require (bytes_eq fields.bulk (own_rail tech row.0)) (fault.Body line) _ t wide.1 in
     let rails = granted_require (rails_allowed tech row.0 fields) (fault.Rail line) _ t bulk.1 in
-    let one = granted_require (is_one sizes.0.m && is_one sizes.0.nf) (fault.Multiple line) _ t rails.1 in
-    made row.0 sizes.0 one.1
+    let copies = granted_option sizes.0.copies (fault.Multiple line) _ t rails.1 in
+    let fingers = granted_option sizes.0.fingers (fault.Multiple line) _ t copies.2 in
+    made row.0 sizes.0 copies.0 fingers.0 fingers.2
   where
-    made : (row : Row) (sizes : Sizes) → ◌≡◌ {A = Result Transistor SpiceFault} (Ok (record { row = row; drain = fields.drain; gate = fields.gate; source = fields.source; width = sizes.width })) (Ok t) → AreNames (t.drain ∷ t.gate ∷ t.source ∷ [])
-    made row sizes is = subst (λ (u : Transistor). AreNames (u.drain ∷ u.gate ∷ u.source ∷ [])) (ok_is (record { row = row; drain = fields.drain; gate = fields.gate; source = fields.source; width = sizes.width }) t is) (three_names fields names)
+    made : (row : Row) (sizes : Sizes) (copies fingers : ℕ) → ◌≡◌ {A = Result Transistor SpiceFault} (Ok (transistor_as (record { copies = copies; row = row; width = sizes.width; fingers = fingers }) fields)) (Ok t) → AreNames (t.drain ∷ t.gate ∷ t.source ∷ [])
+    made row sizes copies fingers is = subst (λ (u : Transistor). AreNames (u.drain ∷ u.gate ∷ u.source ∷ [])) (ok_is (transistor_as (record { copies = copies; row = row; width = sizes.width; fingers = fingers }) fields) t is) (three_names fields names)
 
 names_of : (tech : Technology) (line : ℕ) (words : List (List ℕ)) (t : Transistor) → transistor_of tech line words ≡ Ok t → AreTransistorNames t
 names_of tech line words t e =

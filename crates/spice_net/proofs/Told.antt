@@ -18,8 +18,8 @@ use Rattle.spice_net.specs.declared.fault.What.TheVariants as what
 use Rattle.spice_net.specs.declared.fault.SpiceFault.{SpiceFault}
 use Rattle.spice_net.specs.declared.fault.SpiceFault.TheVariants as fault
 use Rattle.spice_net.specs.Chosen.{first_is, has_name, begins, ends, from_first, chosen_at, chosen_in, without_comments, of_text, lines_in}
-use Rattle.spice_net.specs.Transistors.{Fields, Transistor, is_parameter, value_of, fields_of, units_of, sizes_of, is_one, row_of, own_rail, rails_allowed, transistor_with, transistor_of, is_transistor, with_line, transistors_of}
-use Rattle.spice_net.specs.Nets.{distinct, nets_of}
+use Rattle.spice_net.specs.Transistors.{Fields, Transistor, is_parameter, value_of, fields_of, units_of, sizes_of, least_width, row_of, own_rail, rails_allowed, transistor_with, transistor_of, is_transistor, with_line, transistors_of}
+use Rattle.spice_net.specs.Nets.{distinct, nets_of, with_copies}
 use Rattle.spice_net.specs.Subcircuit.{pins_of, with_rails, idle_pin, none_idle, at_most, few_enough, subckt_of, subckt_in, subcircuit}
 
 abbrev Never : {A : Type 0} → Result A SpiceFault → Type 0
@@ -70,10 +70,11 @@ never_with tech line f =
     there (row_of tech f.model) (fault.Model line) _ (λ q. cc) (λ row.
     never_step fault.NoMemory (sizes_of tech line f) _ (never_sizes tech line f) (λ sizes.
     required (sizes.channel == 4) (fault.Length line sizes.channel) _ (λ q. cc) (λ u1.
-    required (nat_le 6 sizes.width) (fault.Narrow line sizes.width) _ (λ q. cc) (λ u2.
+    required (nat_le (least_width sizes.fingers) sizes.width) (fault.Narrow line sizes.width) _ (λ q. cc) (λ u2.
     required (bytes_eq f.bulk (own_rail tech row)) (fault.Body line) _ (λ q. cc) (λ u3.
     required (rails_allowed tech row f) (fault.Rail line) _ (λ q. cc) (λ u4.
-    required (is_one sizes.m && is_one sizes.nf) (fault.Multiple line) _ (λ q. cc) (λ u5 q. cc)))))))
+    there sizes.copies (fault.Multiple line) _ (λ q. cc) (λ copies.
+    there sizes.fingers (fault.Multiple line) _ (λ q. cc) (λ fingers q. cc))))))))
 
 never_line : (tech : Technology) (line : Line) (behind : Result (List Transistor) SpiceFault) → Never behind → Never (with_line tech line behind)
 never_line tech line behind rest h =
@@ -104,7 +105,7 @@ never_most most w count = never_require fault.NoMemory (nat_le count most) (faul
 never_few : (pins : List (List ℕ)) (ts : List Transistor) → Never (few_enough pins ts)
 never_few pins ts =
     never_step fault.NoMemory (at_most 64 what.Pins (length pins)) _ (never_most 64 what.Pins (length pins)) (λ u.
-    never_step fault.NoMemory (at_most 128 what.Devices (length ts)) _ (never_most 128 what.Devices (length ts)) (λ v. never_most 256 what.Nets (length (nets_of pins ts))))
+    never_step fault.NoMemory (at_most 128 what.Devices (length (with_copies ts))) _ (never_most 128 what.Devices (length (with_copies ts))) (λ v. never_most 256 what.Nets (length (nets_of pins ts))))
 
 never_whole : (name : List ℕ) (tech : Technology) (lines : List Line) (pins : List (List ℕ)) (ts : List Transistor) → Never (subckt_of name tech lines pins ts)
 never_whole name tech lines pins ts =

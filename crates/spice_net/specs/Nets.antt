@@ -1,5 +1,5 @@
--- Nets and their numbers.
-use Rattle.std.specs.Prelude.{ℕ, not, List, [], ◌∷◌, ◌++◌, filter, flat_map, bytes_eq}
+-- Nets and their numbers, and the transistors over them.
+use Rattle.std.specs.Prelude.{ℕ, not, List, [], ◌∷◌, ◌++◌, filter, flat_map, map, replicate, bytes_eq}
 use Rattle.std.specs.List.{position_or_len}
 use Rattle.cell_num.specs.declared.net.NetNo.{NetNo}
 use Rattle.spice_net.specs.Transistors.{Transistor}
@@ -27,4 +27,18 @@ net_of nets name = record { 0 = number_of nets name }
 
 abbrev pub device_of : List (List ℕ) → Transistor → Device
 device_of nets t =
-    record { row = t.row; drain = net_of nets t.drain; gate = net_of nets t.gate; source = net_of nets t.source; width = t.width }
+    record {
+      row = t.row;
+      drain = net_of nets t.drain;
+      gate = net_of nets t.gate;
+      source = net_of nets t.source;
+      width = t.width;
+      fingers = t.fingers;
+    }
+
+-- each line's transistor as often as the line stands for it
+abbrev pub with_copies : List Transistor → List Transistor
+with_copies transistors = flat_map (λ t. replicate t.copies t) transistors
+
+abbrev pub devices_of : List (List ℕ) → List Transistor → List Device
+devices_of nets transistors = map (device_of nets) (with_copies transistors)

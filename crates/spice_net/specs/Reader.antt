@@ -3,15 +3,24 @@ use Rattle.std.specs.Borrow.{Bor}
 use Rattle.std.specs.List.{list_any}
 use Rattle.std.specs.Prelude.{[], ◌∷◌, map, fold, bytes_eq, List, ◌++◌, if◌then◌else◌, ℕ, Option, Some, None, Result, Ok}
 use Rattle.spice_net.specs.declared.fault.SpiceFault.{SpiceFault}
-use Rattle.cell_num.specs.declared.finger.Row.{Row}
 use Rattle.spice_net.specs.Transistors.{Fields, Transistor, with_line}
+use Rattle.spice_net.specs.declared.transistor.Judged.{Judged}
 use Rattle.spice_text.specs.declared.logical.Line.{Line}
 use Rattle.tech_file.specs.Technology.{Technology}
 use Rattle.cell_num.specs.Steps.{◌>>=◌}
 
--- the transistor of some fields, where its row and its width are known
-abbrev pub transistor_as : Row → ℕ → Fields → Transistor
-transistor_as row width f = record { row = row; drain = f.drain; gate = f.gate; source = f.source; width = width }
+-- the transistor of some fields, by what their judge found
+abbrev pub transistor_as : Judged → Fields → Transistor
+transistor_as judged f =
+    record {
+      copies = judged.copies;
+      row = judged.row;
+      drain = f.drain;
+      gate = f.gate;
+      source = f.source;
+      width = judged.width;
+      fingers = judged.fingers;
+    }
 
 -- the later of two values, where it is there
 abbrev pub last_there : {X : Type 0} → Option X → Option X → Option X

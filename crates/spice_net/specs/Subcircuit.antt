@@ -1,5 +1,5 @@
 -- The subcircuit of a name in a file, or the first fault.
-use Rattle.std.specs.Prelude.{ℕ, ◌==◌, ◌&&◌, not, nat_le, Bool, List, [], ◌∷◌, ◌++◌, length, drop, map, find, Option, Some, None, Result, Ok, Err, if◌then◌else◌}
+use Rattle.std.specs.Prelude.{ℕ, ◌==◌, ◌&&◌, not, nat_le, Bool, List, [], ◌∷◌, ◌++◌, length, drop, find, Option, Some, None, Result, Ok, Err, if◌then◌else◌}
 use Rattle.std.specs.List.{list_all}
 use Rattle.cell_num.specs.Names.{is_name}
 use Rattle.spice_text.specs.declared.logical.Line.{Line}
@@ -13,7 +13,7 @@ use Rattle.spice_net.specs.Transistors.{Transistor}
 use Rattle.spice_net.specs.Chosen.{has_name, is_global, chosen_in, without_comments, lines_in}
 use Rattle.spice_net.specs.Transistors.{is_rail, transistors_of}
 use Rattle.spice_net.specs.Directions.{directions_of}
-use Rattle.spice_net.specs.Nets.{distinct, named_nets, nets_of, net_of, device_of}
+use Rattle.spice_net.specs.Nets.{distinct, named_nets, nets_of, net_of, with_copies, devices_of}
 use Rattle.cell_num.specs.Steps.{require, ◌>>=◌}
 
 -- the pins that the first line of a subcircuit lists: names, none of them twice
@@ -58,7 +58,7 @@ at_most most what count = require (nat_le count most) (fault.TooMany what count)
 abbrev pub few_enough : List (List ℕ) → List Transistor → Result (Unit {0}) SpiceFault
 few_enough pins transistors = do
   _ ← at_most most_pins what.Pins (length pins)
-  _ ← at_most most_devices what.Devices (length transistors)
+  _ ← at_most most_devices what.Devices (length (with_copies transistors))
   at_most most_nets what.Nets (length (nets_of pins transistors))
 
 abbrev pub subckt_with : List ℕ → Technology → List Line → List (List ℕ) → List Transistor → Subckt
@@ -67,7 +67,7 @@ subckt_with name tech lines pins transistors =
       name = name;
       pins = record { pins = length pins; vdd = net_of (nets_of pins transistors) tech.vdd; gnd = net_of (nets_of pins transistors) tech.gnd };
       nets = nets_of pins transistors;
-      devices = map (device_of (nets_of pins transistors)) transistors;
+      devices = devices_of (nets_of pins transistors) transistors;
       directions = directions_of tech lines pins transistors;
     }
 

@@ -1,7 +1,6 @@
 -- What a line inside a subcircuit says: a transistor, or its first fault.
-use Rattle.std.specs.Prelude.{ℕ, pos, ◌*◌, ◌==◌, ◌&&◌, ◌||◌, not, nat_eq, nat_le, Bool, false, List, [], ◌∷◌, length, drop, filter_map, codes, bytes_eq, Option, Some, None, option_and_then, unwrap_or, Result, Ok, Err, if◌then◌else◌}
+use Rattle.std.specs.Prelude.{ℕ, ℤ, pos, negsuc, ◌+◌, ◌*◌, ◌/◌, ◌%◌, ◌^◌, ◌==◌, ◌&&◌, ◌||◌, not, nat_eq, nat_le, Bool, false, List, [], ◌∷◌, length, drop, filter_map, codes, bytes_eq, Option, Some, None, option_and_then, unwrap_or, Result, Ok, Err, if◌then◌else◌}
 use Rattle.std.specs.List.{starts_with, list_all, list_any}
-use Rattle.std.specs.Ordering.{int_eq}
 use Rattle.cell_num.specs.declared.length.Fixed.{Fixed}
 use Rattle.cell_num.specs.declared.finger.Row.{Row}
 use Rattle.cell_num.specs.declared.finger.Row.TheVariants.{P, N}
@@ -90,12 +89,28 @@ channel_units = 4
 abbrev pub units_of : Technology → List ℕ → Option ℕ
 units_of tech value = option_and_then (λ metres. units_up_to most_units metres (unit_pm tech)) (fixed_of value)
 
--- the channel's width and its length in units, `m` and `nf`
+-- the whole number that digits * 10^ten is, where it is one; `negsuc n` is -(n + 1)
+abbrev pub whole_of : ℕ → ℤ → Option ℕ
+whole_of digits (pos ten) = Some (digits * 10 ^ ten)
+whole_of digits (negsuc n) = if digits % 10 ^ (n + 1) == 0 then Some (digits / 10 ^ (n + 1)) else None
+
+-- the most equal transistors that a line stands for, and the most fingers that it asks for
+abbrev pub most_counted : ℕ
+most_counted = 64
+
+abbrev pub counted : ℕ → Option ℕ
+counted number = if nat_le 1 number && nat_le number most_counted then Some number else None
+
+-- the whole number from 1 to 64 that a number is, where it is one
+abbrev pub count_of : Fixed → Option ℕ
+count_of number = option_and_then counted (whole_of number.digits number.ten)
+
+-- the channel's width and its length in units, and the counts that `m` and `nf` are
 pub record Sizes : Type 0 where
   pub width : ℕ
   pub channel : ℕ
-  pub m : Fixed
-  pub nf : Fixed
+  pub copies : Option ℕ
+  pub fingers : Option ℕ
 
 abbrev pub sizes_of : Technology → ℕ → Fields → Result Sizes SpiceFault
 sizes_of tech line fields = do
@@ -103,20 +118,24 @@ sizes_of tech line fields = do
   channel ← or_fault (units_of tech fields.channel) (fault.Number line)
   m ← or_fault (fixed_of fields.m) (fault.Number line)
   nf ← or_fault (fixed_of fields.nf) (fault.Number line)
-  Ok (record { width = width; channel = channel; m = m; nf = nf })
+  Ok (record { width = width; channel = channel; copies = count_of m; fingers = count_of nf })
 
-abbrev pub is_one : Fixed → Bool
-is_one number = (number.digits == 1) && int_eq number.ten (pos 0)
+-- the least width of a transistor that is cut into so many fingers: that of one, where `nf` is no count
+abbrev pub least_width : Option ℕ → ℕ
+least_width fingers = least_units * unwrap_or fingers 1
 
 -- ---- the transistor
 
--- a transistor with its nets by their names, its width in units
+-- A line's transistor with its nets by their names, its width in units, and at least how many fingers it
+-- is cut into. The line stands for so many equal ones.
 pub record Transistor : Type 0 where
+  pub copies : ℕ
   pub row : Row
   pub drain : List ℕ
   pub gate : List ℕ
   pub source : List ℕ
   pub width : ℕ
+  pub fingers : ℕ
 
 -- the row of a model
 abbrev pub row_of : Technology → List ℕ → Option Row
@@ -142,18 +161,27 @@ abbrev pub rails_allowed : Technology → Row → Fields → Bool
 rails_allowed tech row fields =
     not (is_rail tech fields.gate) && not (bytes_eq fields.drain (other_rail tech row)) && not (bytes_eq fields.source (other_rail tech row))
 
--- The transistor of some fields, its channel 4 units long and at least 6 wide; or the first of its
--- faults, in this order.
+-- The transistor of some fields, its channel 4 units long and at least 6 wide for each finger; or the
+-- first of its faults, in this order.
 abbrev pub transistor_with : Technology → ℕ → Fields → Result Transistor SpiceFault
 transistor_with tech line fields = do
   row ← or_fault (row_of tech fields.model) (fault.Model line)
   sizes ← sizes_of tech line fields
   _ ← require (sizes.channel == channel_units) (fault.Length line sizes.channel)
-  _ ← require (nat_le least_units sizes.width) (fault.Narrow line sizes.width)
+  _ ← require (nat_le (least_width sizes.fingers) sizes.width) (fault.Narrow line sizes.width)
   _ ← require (bytes_eq fields.bulk (own_rail tech row)) (fault.Body line)
   _ ← require (rails_allowed tech row fields) (fault.Rail line)
-  _ ← require (is_one sizes.m && is_one sizes.nf) (fault.Multiple line)
-  Ok (record { row = row; drain = fields.drain; gate = fields.gate; source = fields.source; width = sizes.width })
+  copies ← or_fault sizes.copies (fault.Multiple line)
+  fingers ← or_fault sizes.fingers (fault.Multiple line)
+  Ok (record {
+    copies = copies;
+    row = row;
+    drain = fields.drain;
+    gate = fields.gate;
+    source = fields.source;
+    width = sizes.width;
+    fingers = fingers;
+  })
 
 abbrev pub transistor_of : Technology → ℕ → List (List ℕ) → Result Transistor SpiceFault
 transistor_of tech line words = fields_of line words >>= transistor_with tech line

@@ -40,7 +40,7 @@ pub enum SpiceFault {
     /// The length is not 4 units.
     #[error("Length")]
     Length { line: u32, units: u32 },
-    /// The width is below 6 units.
+    /// The width is below 6 units, or below 6 for each finger that `nf` asks for.
     #[error("Narrow")]
     Narrow { line: u32, units: u32 },
     /// The bulk is not vdd of a P or gnd of an N transistor.
@@ -58,10 +58,10 @@ pub enum SpiceFault {
     /// There is no transistor.
     #[error("Empty")]
     Empty,
-    /// More than 64 pins, 128 devices or 256 nets.
+    /// More than 64 pins, 128 devices with all their copies or 256 nets.
     #[error("TooMany")]
     TooMany { what: What, count: u64 },
-    /// `m` or `nf` is a number other than 1.
+    /// `m` or `nf` is a number, but no whole number from 1 to 64.
     #[error("Multiple")]
     Multiple { line: u32 },
     #[error("NoMemory")]

@@ -8,6 +8,7 @@ mod fields;
 mod nets;
 mod pins;
 mod read;
+mod sizes;
 mod subckt;
 mod transistor;
 

@@ -1,6 +1,7 @@
-ghost use Rattle.std.specs.Prelude.{◌≡◌, ◌≤◌, [], ◌∷◌, length, map, IfOk, OnOk};
+ghost use Rattle.std.specs.Prelude.{◌≡◌, ◌≤◌, [], ◌∷◌, ◌++◌, length, replicate, All, IfOk, OnOk};
 ghost use Rattle.indexmap.specs.IndexSet.{index_set_len};
-ghost use Rattle.spice_net.specs.Nets.{distinct, named_nets, nets_of, number_of, net_of, device_of};
+ghost use Rattle.spice_net.specs.Nets.{distinct, named_nets, nets_of, number_of, net_of, device_of, with_copies, devices_of};
+ghost use Rattle.spice_net.specs.Transistors.{most_counted};
 ghost use Rattle.spice_net.specs.Reader.{names_of, with_name, with_names};
 
 use crate::subckt::{Device, DeviceList};
@@ -116,21 +117,45 @@ fn device(nets: &IndexSet<&[u8]>, transistor: &Transistor) -> Device
         gate: net(nets, transistor.gate.as_slice()),
         source: net(nets, transistor.source.as_slice()),
         width: transistor.width,
+        fingers: transistor.fingers,
     }
 }
 
-/// The transistors, their nets by their numbers in a set.
+fn add_copies(out: &mut DeviceList, count: u32, device: Device) -> Result<(), NoMemory>
+    ensures { OnOk result (out.new ≡ out.old ++ replicate count device) }
+{
+    for _ in 0..count {
+        out.push(device)?;
+    }
+    Ok(())
+}
+
+/// How many transistors there are with all copies.
+#[tactic(auto, using(crate::proofs::Copies::one_more_counted))]
+pub fn count_copies(transistors: &[Transistor]) -> usize
+    requires { All (λ t. t.copies ≤ most_counted) transistors.now }
+    ensures { result ≡ length (with_copies transistors.now) }
+{
+    let mut count = 0;
+    for transistor in transistors {
+        count += transistor.copies as usize;
+    }
+    count
+}
+
+/// The transistors with all copies, their nets by their numbers in a set.
+#[tactic(auto, using(crate::proofs::Copies::one_more_device))]
 pub fn devices(
     alloc: Global,
     nets: &IndexSet<&[u8]>,
     transistors: &[Transistor],
 ) -> Result<DeviceList, NoMemory>
     requires { index_set_len nets.now ≤ MOST_NETS }
-    ensures { IfOk result (λ ds. ds ≡ map (device_of (names_of nets.now.keys)) transistors.now) }
+    ensures { IfOk result (λ ds. ds ≡ devices_of (names_of nets.now.keys) transistors.now) }
 {
     let mut found = DeviceList::new(alloc);
     for transistor in transistors {
-        found.push(device(nets, transistor))?;
+        add_copies(&mut found, transistor.copies, device(nets, transistor))?;
     }
     Ok(found)
 }

@@ -1,4 +1,4 @@
-ghost use Rattle.std.specs.Prelude.{◌≡◌, ◌≢◌, ◌≤◌, ◌++◌, length, Ok, Err, IfOk, IfErr, OnOk, List, ℕ, Result};
+ghost use Rattle.std.specs.Prelude.{◌≡◌, ◌≢◌, ◌≤◌, ◌++◌, length, Ok, Err, All, IfOk, IfErr, OnOk, List, ℕ, Result};
 ghost use Rattle.cell_num.specs.Pins.{ArePins};
 ghost use Rattle.indexmap.specs.IndexSet.{index_set_len};
 ghost use Rattle.spice_text.specs.declared.logical.Line.{Line as LineOf};
@@ -9,14 +9,14 @@ ghost use Rattle.spice_net.specs.Chosen.{without_comments, lines_in};
 ghost use Rattle.spice_net.specs.Directions.{directions_of as directions_in};
 ghost use Rattle.spice_net.specs.Nets.{distinct, nets_of};
 ghost use Rattle.spice_net.specs.Reader.{names_of, with_shown, in_front};
-ghost use Rattle.spice_net.specs.Transistors.{Transistor as TransistorOf, transistors_of};
+ghost use Rattle.spice_net.specs.Transistors.{Transistor as TransistorOf, most_counted, transistors_of};
 ghost use Rattle.spice_net.specs.Subcircuit.{at_most, subckt_with, numbered, subckt_of, subckt_in, subcircuit};
 ghost use Rattle.spice_net.specs.Subckts.{AreNames, IsSubckt};
 
 use crate::chosen::{choose, first_is};
 use crate::directions::directions_of;
 use crate::fault::{SpiceFault, What};
-use crate::nets::{copies, count, devices, net, net_set};
+use crate::nets::{copies, count, count_copies, devices, net, net_set};
 use crate::pins::{check_pins, has_rails, read_pins, with_rails};
 use crate::subckt::{DirectionList, MOST_DEVICES, MOST_PINS, Subckt};
 use crate::transistor::{Transistor, TransistorList, is_transistor, read_transistor};
@@ -114,12 +114,13 @@ fn number_all<'a>(
     pins: IndexSet<&'a [u8]>,
     transistors: &'a [Transistor],
 ) -> Result<Subckt, SpiceFault>
-    requires { distinct (names_of pins.keys) ≡ names_of pins.keys }
+    requires once { distinct (names_of pins.keys) ≡ names_of pins.keys }
+    requires few { All (λ t. t.copies ≤ most_counted) transistors.now }
     ensures cell { IfOk result (λ cell. numbered name.now tech.now lines.now (names_of pins.entry.keys) transistors.now ≡ Ok cell) }
     ensures fault { IfErr result (λ f. f ≢ fault.NoMemory → numbered name.now tech.now lines.now (names_of pins.entry.keys) transistors.now ≡ Err f) }
 {
     limit(MOST_PINS, What::Pins, count(&pins))?;
-    limit(MOST_DEVICES, What::Devices, transistors.len())?;
+    limit(MOST_DEVICES, What::Devices, count_copies(transistors))?;
     let directions = directions_of(alloc, tech, lines, pins.as_slice(), transistors)?;
     let nets = net_set(pins, transistors)?;
     limit(MOST_NETS as usize, What::Nets, count(&nets))?;
@@ -136,7 +137,8 @@ fn join<'a>(
     pins: IndexSet<&'a [u8]>,
     transistors: &'a [Transistor],
 ) -> Result<Subckt, SpiceFault>
-    requires { distinct (names_of pins.keys) ≡ names_of pins.keys }
+    requires once { distinct (names_of pins.keys) ≡ names_of pins.keys }
+    requires few { All (λ t. t.copies ≤ most_counted) transistors.now }
     ensures cell { IfOk result (λ cell. subckt_of name.now tech.now lines.now (names_of pins.entry.keys) transistors.now ≡ Ok cell) }
     ensures fault { IfErr result (λ f. f ≢ fault.NoMemory → subckt_of name.now tech.now lines.now (names_of pins.entry.keys) transistors.now ≡ Err f) }
 {
@@ -151,6 +153,7 @@ fn join<'a>(
     Ok(cell)
 }
 
+#[tactic(auto, using(crate::proofs::SoundLines::few_copies))]
 fn read_lines(alloc: Global, name: &Name, tech: &Tech, lines: &[Line]) -> Result<Subckt, SpiceFault>
     ensures cell { IfOk result (λ cell. subckt_in name.now tech.now lines.now ≡ Ok cell) }
     ensures fault { IfErr result (λ f. f ≢ fault.NoMemory → subckt_in name.now tech.now lines.now ≡ Err f) }

@@ -3,7 +3,7 @@ use cell_num::{List, Name, Names, NetNo, Pins, Row};
 /// The most pins of a subcircuit, rails that are added to them counted.
 pub const MOST_PINS: usize = 64;
 
-/// The most transistors of a subcircuit.
+/// The most transistors of a subcircuit, each copy of one counted.
 pub const MOST_DEVICES: usize = 128;
 
 /// A transistor, its nets by their numbers.
@@ -15,6 +15,8 @@ pub struct Device {
     pub source: NetNo,
     /// In grid units.
     pub width: u32,
+    /// Into how many fingers it is cut at least.
+    pub fingers: u32,
 }
 
 pub type DeviceList = List<Device>;
@@ -30,7 +32,7 @@ pub enum Direction {
 pub type DirectionList = List<Direction>;
 
 /// A subcircuit: its nets by their numbers, the pins first, its transistors in the order of the file,
-/// and the direction of each pin.
+/// with the copies of one behind each other, and the direction of each pin.
 #[derive(Debug, Drop)]
 pub struct Subckt {
     pub name: Name,
