@@ -1,2 +1,5 @@
+pub mod Cycles
+pub mod Names
 pub mod Netlists
+pub mod Rows
 pub mod Violations

@@ -1,15 +1,12 @@
 -- The lines of a netlist. Widths and lengths are in grid units.
-use Rattle.std.specs.Prelude.{ℕ, List, [], ◌++◌, length, slice_get, unwrap_or, flat_map, codes, decimal}
+use Rattle.std.specs.Prelude.{ℕ, List, ◌++◌, length, flat_map, codes, decimal}
 use Rattle.std.specs.List.{enumerate_from}
 use Rattle.cell_num.specs.Lines.{text_line, count_line, pair_line}
 use Rattle.cell_num.specs.declared.finger.Row.{Row}
 use Rattle.cell_num.specs.declared.finger.Row.TheVariants.{P, N}
 use Rattle.net_extract.specs.declared.netlist.Drawn.{Drawn}
 use Rattle.net_extract.specs.declared.netlist.Netlist.{Netlist}
-
--- a net by its name
-abbrev pub name_of : List (List ℕ) → ℕ → List ℕ
-name_of nets net = unwrap_or (slice_get nets net) []
+use Rattle.cell_report.specs.Names.{name_of}
 
 abbrev pub row_text : Row → List ℕ
 row_text P = codes "p"

@@ -1,8 +1,13 @@
-// The lines that are told of a layout: its broken rules, and its netlist.
+// The lines that are told of a row and of a layout.
 #![tactic(auto)]
 
+mod cycle;
+mod names;
 mod netlist;
+mod row;
 mod violations;
 
+pub use cycle::cycle_text;
 pub use netlist::netlist_text;
+pub use row::{plan_text, put_row};
 pub use violations::violation_text;

@@ -1,18 +1,10 @@
 ghost use Rattle.std.specs.Prelude.{◌≡◌, ◌++◌, IfOk, OnOk, codes, decimal};
-ghost use Rattle.cell_report.specs.Netlists.{name_of, row_text, nets_text, device_line, net_lines, device_lines, netlist_text};
+ghost use Rattle.cell_report.specs.Netlists.{row_text, nets_text, device_line, net_lines, device_lines, netlist_text};
 
+use crate::names::put_net;
 use cell_num::{Bytes, Name, Names, NoMemory, Row, put_count, put_number, put_pair, put_text};
 use net_extract::{Drawn, Netlist};
 use std::alloc::Global;
-
-fn put_net(out: &mut Bytes, nets: &Names, net: u32) -> Result<(), NoMemory>
-    ensures { OnOk result (out.new ≡ out.old ++ name_of nets.now net) }
-{
-    match nets.get(net as usize) {
-        Some(name) => out.extend(name.as_slice()),
-        None => Ok(()),
-    }
-}
 
 fn put_row(out: &mut Bytes, row: Row) -> Result<(), NoMemory>
     ensures { OnOk result (out.new ≡ out.old ++ row_text row) }
