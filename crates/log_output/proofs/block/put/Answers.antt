@@ -1,0 +1,14 @@
+use Rattle.std.proofs.Common.{Some}
+use Rattle.cell_io.specs.Desk.{View, Both, ForSome, AppendedIn}
+use Rattle.cell_io.proofs.Puts.{refused_so}
+use Rattle.log_output.specs.Giving.{GivesSome}
+use Rattle.log_output.proofs.Giving.{appended_some}
+use Rattle.log_output.proofs.block.put.Goals as goal
+
+pub returns-in-Some-clause-some : goal.returns-in-Some-clause-some
+returns-in-Some-clause-some g c =
+    let before : View = g.D.Desk.view c.args.desk.now in
+    let after : View = g.D.Desk.view c.append_all.new.desk in
+    rw c.in-Some.is
+    (refused_so c.append_all.result (Both (ForSome c.args.bytes.now (AppendedIn c.in-Some.name.now c.args.bytes.now)) before.made after.made) (GivesSome (Some c.in-Some.name.now) c.args.bytes.now before after)
+    (λ some. appended_some c.in-Some.name.now c.args.bytes.now before after some c.append_all.ensures.only) c.append_all.ensures.err)

@@ -1,0 +1,17 @@
+-- How a text goes to its place in pieces: lines gather in a block, whose bytes go there together.
+use Rattle.std.specs.Prelude.{ℕ, ◌≡◌, List, ◌++◌, length, Some, None}
+use Rattle.cell_io.specs.Desk.{View, OnlyMakes, OnlySays}
+use Rattle.cell_io.specs.Output.{Place, Puts}
+
+-- a front of the bytes went there, and the rest is left
+abbrev pub Gives : Place → List ℕ → List ℕ → View → View → Type 0
+Gives place bytes left old new = (front : List ℕ) × (bytes ≡ front ++ left) × Puts place front (length front) old new
+
+-- some front of the bytes went there
+abbrev pub GivesSome : Place → List ℕ → View → View → Type 0
+GivesSome place bytes old new = (left : List ℕ) × Gives place bytes left old new
+
+-- nothing changed but that place, and the counts of failed writes and of short memory, which did not fall
+abbrev pub OnlyPuts : Place → View → View → Type 0
+OnlyPuts None old new = OnlySays old new
+OnlyPuts (Some name) old new = OnlyMakes old new

@@ -1,0 +1,73 @@
+ghost use Rattle.std.specs.Prelude.{◌≡◌, ◌≤◌, [], ◌++◌, IsErrOf, OnErr, OnOk, option_map};
+ghost use Rattle.cell_io.specs.Desk.{Rose};
+ghost use Rattle.cell_io.specs.Output.{CanPut};
+ghost use Rattle.cell_io.specs.declared.output.WriteFault.TheVariants.{Failed, NoMemory};
+ghost use Rattle.log_output.specs.Giving.{Gives, GivesSome, OnlyPuts};
+
+use crate::block::put;
+use crate::log_text::LogText;
+use cell_io::{Desk, WriteFault};
+use cell_num::Bytes;
+use std::alloc::Global;
+use std::marker::Model;
+
+/// What a file holds or a report says: bytes, and behind them the text of a log, where there is one. Contracts
+/// see it as all its bytes.
+#[derive(Drop)]
+pub struct Content {
+    bytes: Bytes,
+    log: Option<LogText>,
+}
+
+impl Model for Content {
+    ghost use Rattle.std.specs.Prelude.{ℕ, List as Sequence, [], ◌++◌, unwrap_or};
+
+    ghost Value = { Sequence ℕ };
+
+    ghost view = { λ c. c.bytes ++ unwrap_or c.log [] };
+}
+
+impl Content {
+    pub fn of_bytes(bytes: Bytes) -> Content
+        ensures { result ≡ bytes }
+    {
+        Content { bytes, log: None }
+    }
+
+    pub fn of_log(alloc: Global, log: LogText) -> Content
+        ensures { result ≡ log }
+    {
+        Content::with_log(Bytes::new(alloc), log)
+    }
+
+    /// Bytes, and behind them the text of a log.
+    pub fn with_log(bytes: Bytes, log: LogText) -> Content
+        ensures { result ≡ bytes ++ log }
+    {
+        Content {
+            bytes,
+            log: Some(log),
+        }
+    }
+
+    /// Puts all of it at the end of the file, or, where none is named, says it.
+    #[tactic(auto, using(crate::proofs::Giving::some_wider, crate::proofs::Giving::some_more, crate::proofs::Giving::gives_more, crate::proofs::Giving::can_still, crate::proofs::Giving::only_more, crate::proofs::Giving::failed_behind, crate::proofs::Giving::short_behind))]
+    pub fn give<D: Desk>(self, desk: &mut D, file: Option<&str>) -> Result<(), WriteFault>
+        requires { CanPut (option_map (λ name. name.now) file) (D.view desk.old) }
+        ensures all { OnOk result
+            (Gives (option_map (λ name. name.now) file.entry) self [] (D.view desk.old) (D.view desk.new)) }
+        ensures some { OnErr result
+            (GivesSome (option_map (λ name. name.now) file.entry) self (D.view desk.old) (D.view desk.new)) }
+        ensures failed { IsErrOf result Failed
+            → Rose (D.view desk.old).write_faults (D.view desk.new).write_faults }
+        ensures memory { IsErrOf result NoMemory → Rose (D.view desk.old).shorts (D.view desk.new).shorts }
+        ensures only { OnlyPuts (option_map (λ name. name.now) file.entry) (D.view desk.old) (D.view desk.new) }
+    {
+        let Content { bytes, log } = self;
+        put(desk, file, bytes.as_slice())?;
+        match log {
+            Some(log) => log.give(desk, file),
+            None => Ok(()),
+        }
+    }
+}

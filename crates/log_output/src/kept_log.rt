@@ -1,0 +1,47 @@
+ghost use Rattle.std.specs.Prelude.{◌≡◌, length};
+ghost use Rattle.row_search.specs.Ended.{log_with, log_without};
+
+use bound_log::Best;
+use row_search::Kept;
+use std::marker::Model;
+
+/// A log whose lemmas are as the search kept them. Contracts see it as the log.
+#[derive(Drop)]
+pub struct KeptLog {
+    pub(crate) kept: Kept,
+    pub(crate) best: Option<Best>,
+}
+
+impl Model for KeptLog {
+    ghost use Rattle.bound_log.specs.declared.log.Log.{Log};
+
+    ghost Value = { Log };
+
+    ghost view = { λ l. record { lemmas = l.kept; best = l.best } };
+}
+
+impl KeptLog {
+    /// The log that lists a row.
+    pub fn with_row(kept: Kept, best: Best) -> KeptLog
+        ensures { result ≡ log_with kept best }
+    {
+        KeptLog {
+            kept,
+            best: Some(best),
+        }
+    }
+
+    /// The log that lists none.
+    pub fn without_row(kept: Kept) -> KeptLog
+        ensures { result ≡ log_without kept }
+    {
+        KeptLog { kept, best: None }
+    }
+
+    /// How many lemmas it has.
+    pub fn count(&self) -> u64
+        ensures { result ≡ length self.now.lemmas }
+    {
+        self.kept.len()
+    }
+}

@@ -1,0 +1,188 @@
+ghost use Rattle.std.specs.Prelude.{◌≡◌, ◌≤◌, [], ◌++◌, All, IfOk, IfSome, IsErrOf, OnErr, OnOk, option_map};
+ghost use Rattle.std.specs.List.{flat_map};
+ghost use Rattle.cell_io.specs.Desk.{Rose};
+ghost use Rattle.cell_io.specs.Output.{CanPut};
+ghost use Rattle.cell_io.specs.declared.output.WriteFault.TheVariants.{Failed, NoMemory as Short};
+ghost use Rattle.bound_log.specs.Fits.{BestFits, Fits, ForSome, IsLogName, LemmaFits, StepFits};
+ghost use Rattle.bound_log.specs.Text.{best_text, column_line, lemma_line, log_text};
+ghost use Rattle.row_search.specs.Kept.{HasRoom};
+ghost use Rattle.log_output.specs.Giving.{Gives, GivesSome, OnlyPuts};
+
+use crate::block::Block;
+use crate::kept_log::KeptLog;
+use bound_log::{Best, Lemma, LineWriter, LogStep};
+use cell_io::{Desk, WriteFault};
+use cell_num::{Name, NoMemory, copy};
+use row_search::Kept;
+use std::alloc::Global;
+use std::marker::Model;
+
+/// The text of a log, which is never whole in memory: its lines are spelled as they are given, in memory that was
+/// taken before. Contracts see it as the text.
+#[derive(Drop)]
+pub struct LogText {
+    name: Name,
+    log: KeptLog,
+    lemma: Lemma,
+    lines: LineWriter,
+    block: Block,
+}
+
+impl Model for LogText {
+    ghost use Rattle.std.specs.Prelude.{ℕ, List as Sequence};
+    ghost use Rattle.bound_log.specs.Text.{log_text};
+    ghost use Rattle.log_output.specs.Ready.{CanBeGiven};
+
+    ghost Value = { Sequence ℕ };
+
+    ghost view = { λ t. log_text t.name t.log };
+
+    ghost invariant = { λ t. CanBeGiven t.name t.log t.lemma t.block };
+}
+
+#[tactic(auto, using(crate::proofs::Fitting::lemma_fits, crate::proofs::Giving::can_still, crate::proofs::Giving::only_none, crate::proofs::Giving::only_more, crate::proofs::Giving::failed_behind, crate::proofs::Giving::short_behind))]
+fn give_lemmas<D: Desk>(
+    desk: &mut D,
+    file: Option<&str>,
+    block: &mut Block,
+    lines: &mut LineWriter,
+    kept: &Kept,
+    lemma: &mut Lemma,
+) -> Result<(), WriteFault>
+    requires place { CanPut (option_map (λ name. name.now) file) (D.view desk.old) }
+    requires fits { ForSome (λ k. All (LemmaFits k) kept.now) }
+    requires room { All (HasRoom lemma.old) kept.now }
+    ensures all { OnOk result (Gives (option_map (λ name. name.now) file.entry)
+        (block.old ++ flat_map lemma_line kept.now) block.new (D.view desk.old) (D.view desk.new)) }
+    ensures some { OnErr result (GivesSome (option_map (λ name. name.now) file.entry)
+        (block.old ++ flat_map lemma_line kept.now) (D.view desk.old) (D.view desk.new)) }
+    ensures failed { IsErrOf result Failed → Rose (D.view desk.old).write_faults (D.view desk.new).write_faults }
+    ensures memory { IsErrOf result Short → Rose (D.view desk.old).shorts (D.view desk.new).shorts }
+    ensures only { OnlyPuts (option_map (λ name. name.now) file.entry) (D.view desk.old) (D.view desk.new) }
+{
+    'lemmas: for at in 0..kept.len() {
+        kept.fetch(at, lemma);
+        block.add(desk, file, lines.lemma(lemma))?;
+    }
+    Ok(())
+}
+
+#[tactic(auto, using(crate::proofs::Fitting::step_fits, crate::proofs::Giving::can_still, crate::proofs::Giving::only_none, crate::proofs::Giving::only_more, crate::proofs::Giving::failed_behind, crate::proofs::Giving::short_behind))]
+fn give_columns<D: Desk>(
+    desk: &mut D,
+    file: Option<&str>,
+    block: &mut Block,
+    lines: &mut LineWriter,
+    steps: &[LogStep],
+) -> Result<(), WriteFault>
+    requires place { CanPut (option_map (λ name. name.now) file) (D.view desk.old) }
+    requires fits { ForSome (λ k. All (StepFits k) steps.now) }
+    ensures all { OnOk result (Gives (option_map (λ name. name.now) file.entry)
+        (block.old ++ flat_map column_line steps.now) block.new (D.view desk.old) (D.view desk.new)) }
+    ensures some { OnErr result (GivesSome (option_map (λ name. name.now) file.entry)
+        (block.old ++ flat_map column_line steps.now) (D.view desk.old) (D.view desk.new)) }
+    ensures failed { IsErrOf result Failed → Rose (D.view desk.old).write_faults (D.view desk.new).write_faults }
+    ensures memory { IsErrOf result Short → Rose (D.view desk.old).shorts (D.view desk.new).shorts }
+    ensures only { OnlyPuts (option_map (λ name. name.now) file.entry) (D.view desk.old) (D.view desk.new) }
+{
+    'steps: for step in steps {
+        block.add(desk, file, lines.column(step))?;
+    }
+    Ok(())
+}
+
+#[tactic(auto, using(crate::proofs::Fitting::few_gaps, crate::proofs::Fitting::steps_fit, crate::proofs::Giving::can_still, crate::proofs::Giving::only_none, crate::proofs::Giving::only_more, crate::proofs::Giving::failed_behind, crate::proofs::Giving::short_behind))]
+fn give_best<D: Desk>(
+    desk: &mut D,
+    file: Option<&str>,
+    block: &mut Block,
+    lines: &mut LineWriter,
+    best: &Option<Best>,
+) -> Result<(), WriteFault>
+    requires place { CanPut (option_map (λ name. name.now) file) (D.view desk.old) }
+    requires fits { ForSome (λ k. IfSome best.now (BestFits k)) }
+    ensures all { OnOk result (Gives (option_map (λ name. name.now) file.entry)
+        (block.old ++ best_text best.now) block.new (D.view desk.old) (D.view desk.new)) }
+    ensures some { OnErr result (GivesSome (option_map (λ name. name.now) file.entry)
+        (block.old ++ best_text best.now) (D.view desk.old) (D.view desk.new)) }
+    ensures failed { IsErrOf result Failed → Rose (D.view desk.old).write_faults (D.view desk.new).write_faults }
+    ensures memory { IsErrOf result Short → Rose (D.view desk.old).shorts (D.view desk.new).shorts }
+    ensures only { OnlyPuts (option_map (λ name. name.now) file.entry) (D.view desk.old) (D.view desk.new) }
+{
+    let Some(best) = best else {
+        return block.add(desk, file, lines.unfinished());
+    };
+    block.add(desk, file, lines.best(best.gaps))?;
+    give_columns(desk, file, block, lines, best.steps.as_slice())
+}
+
+#[tactic(auto, using(crate::proofs::Fitting::lemmas_fit, crate::proofs::Fitting::best_fits, crate::proofs::Giving::can_still, crate::proofs::Giving::only_none, crate::proofs::Giving::only_more, crate::proofs::Giving::failed_behind, crate::proofs::Giving::short_behind))]
+fn give_lines<D: Desk>(
+    desk: &mut D,
+    file: Option<&str>,
+    block: &mut Block,
+    lines: &mut LineWriter,
+    lemma: &mut Lemma,
+    name: &Name,
+    log: &KeptLog,
+) -> Result<(), WriteFault>
+    requires place { CanPut (option_map (λ name. name.now) file) (D.view desk.old) }
+    requires name { IsLogName name.now }
+    requires fits { ForSome (λ k. Fits k log.now) }
+    requires room { All (HasRoom lemma.old) log.now.lemmas }
+    ensures all { OnOk result (Gives (option_map (λ name. name.now) file.entry)
+        (block.old ++ log_text name.now log.now) block.new (D.view desk.old) (D.view desk.new)) }
+    ensures some { OnErr result (GivesSome (option_map (λ name. name.now) file.entry)
+        (block.old ++ log_text name.now log.now) (D.view desk.old) (D.view desk.new)) }
+    ensures failed { IsErrOf result Failed → Rose (D.view desk.old).write_faults (D.view desk.new).write_faults }
+    ensures memory { IsErrOf result Short → Rose (D.view desk.old).shorts (D.view desk.new).shorts }
+    ensures only { OnlyPuts (option_map (λ name. name.now) file.entry) (D.view desk.old) (D.view desk.new) }
+{
+    block.add(desk, file, lines.head(name))?;
+    give_lemmas(desk, file, block, lines, &log.kept, lemma)?;
+    give_best(desk, file, block, lines, &log.best)?;
+    block.add(desk, file, lines.last())
+}
+
+impl LogText {
+    /// The text of a log for the cell of that name.
+    pub fn new(alloc: Global, name: &Name, log: KeptLog) -> Result<LogText, NoMemory>
+        requires name { IsLogName name.now }
+        requires fits { ForSome (λ k. Fits k log) }
+        ensures { IfOk result (λ text. text ≡ log_text name.now log) }
+    {
+        let lemma = log.kept.room(alloc)?;
+        Ok(LogText {
+            name: copy(alloc, name.as_slice())?,
+            log,
+            lemma,
+            lines: LineWriter::new(alloc)?,
+            block: Block::new(alloc)?,
+        })
+    }
+
+    /// Puts the text at the end of the file, or, where none is named, says it. It takes no memory but what the
+    /// desk itself takes.
+    #[tactic(auto, using(crate::proofs::Giving::can_still, crate::proofs::Giving::only_none, crate::proofs::Giving::only_more, crate::proofs::Giving::failed_behind, crate::proofs::Giving::short_behind))]
+    pub fn give<D: Desk>(self, desk: &mut D, file: Option<&str>) -> Result<(), WriteFault>
+        requires { CanPut (option_map (λ name. name.now) file) (D.view desk.old) }
+        ensures all { OnOk result
+            (Gives (option_map (λ name. name.now) file.entry) self [] (D.view desk.old) (D.view desk.new)) }
+        ensures some { OnErr result
+            (GivesSome (option_map (λ name. name.now) file.entry) self (D.view desk.old) (D.view desk.new)) }
+        ensures failed { IsErrOf result Failed
+            → Rose (D.view desk.old).write_faults (D.view desk.new).write_faults }
+        ensures memory { IsErrOf result Short → Rose (D.view desk.old).shorts (D.view desk.new).shorts }
+        ensures only { OnlyPuts (option_map (λ name. name.now) file.entry) (D.view desk.old) (D.view desk.new) }
+    {
+        let LogText {
+            name,
+            log,
+            mut lemma,
+            mut lines,
+            mut block,
+        } = self;
+        give_lines(desk, file, &mut block, &mut lines, &mut lemma, &name, &log)?;
+        block.flush(desk, file)
+    }
+}
