@@ -1,0 +1,11 @@
+pub mod Cells
+pub mod Chains
+pub mod Choice
+pub mod Digits
+pub mod Head
+pub mod Lines
+pub mod Names
+pub mod Pairs
+pub mod Tests
+pub mod Texts
+pub mod Whole
