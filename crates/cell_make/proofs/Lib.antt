@@ -1,0 +1,4 @@
+pub mod Alone
+pub mod LeastLines
+pub mod Makes
+pub mod ReadBack

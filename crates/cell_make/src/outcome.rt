@@ -1,0 +1,123 @@
+ghost use Rattle.std.specs.Prelude.{◌≡◌, IfOk};
+ghost use Rattle.row_place.specs.Places.{IsPlacement, placement_of};
+ghost use Rattle.cell_make.specs.Making.{CanBeWritten, ComesTo, IsFound, IsRouted};
+
+use crate::drawn::{Drawn, draw_routed};
+use crate::inputs::Inputs;
+use cell_draw::DrawFault;
+use cell_num::NoMemory;
+use channel_route::{CycleList, RouteStop, Routing, route};
+use log_output::KeptLog;
+use row_model::Arrangement;
+use row_place::{Placement, place};
+use row_search::{StopKept, search_kept};
+use row_state::Parity;
+use std::alloc::Global;
+
+/// What making a cell comes to.
+#[derive(Drop)]
+pub enum Outcome {
+    /// The first least row, drawn.
+    Made {
+        row: Arrangement,
+        log: KeptLog,
+        routing: Routing,
+        drawn: Drawn,
+    },
+    /// Nets of that row stand above each other in a ring.
+    Cyclic {
+        row: Arrangement,
+        log: KeptLog,
+        cycle: CycleList,
+    },
+    /// The given height is below the one that the routed row needs.
+    Tall {
+        row: Arrangement,
+        log: KeptLog,
+        routing: Routing,
+        needed: u32,
+        given: u32,
+    },
+    /// The search spent its budget.
+    Unfinished {
+        log: KeptLog,
+        proved: u32,
+    },
+}
+
+// Draws the routed row.
+fn of_routed(
+    alloc: Global,
+    inputs: &Inputs,
+    row: Arrangement,
+    log: KeptLog,
+    placement: &Placement,
+    routing: Routing,
+) -> Result<Outcome, NoMemory>
+    requires found { IsFound inputs.now row log }
+    requires placement { placement.now ≡ placement_of row }
+    requires places { IsPlacement placement.now }
+    requires routed { IsRouted inputs.now row routing }
+    ensures comes { IfOk result (ComesTo inputs.now) }
+    ensures written { IfOk result (CanBeWritten inputs.now) }
+{
+    inputs.show_limits();
+    match draw_routed(alloc, &inputs.cell, placement, &routing, inputs.height()) {
+        Ok(drawn) => Ok(Outcome::Made {
+            row,
+            log,
+            routing,
+            drawn,
+        }),
+        Err(DrawFault::TooTall { needed, given }) => Ok(Outcome::Tall {
+            row,
+            log,
+            routing,
+            needed,
+            given,
+        }),
+        Err(DrawFault::NoMemory) => Err(NoMemory),
+    }
+}
+
+// Places and routes the row.
+fn of_row(
+    alloc: Global,
+    inputs: &Inputs,
+    row: Arrangement,
+    log: KeptLog,
+) -> Result<Outcome, NoMemory>
+    requires { IsFound inputs.now row log }
+    ensures comes { IfOk result (ComesTo inputs.now) }
+    ensures written { IfOk result (CanBeWritten inputs.now) }
+{
+    inputs.show_limits();
+    let placement = place(alloc, &row)?;
+    match route(alloc, &placement, &inputs.cell.pins) {
+        Ok(routing) => of_routed(alloc, inputs, row, log, &placement, routing),
+        Err(RouteStop::Cycle(cycle)) => Ok(Outcome::Cyclic { row, log, cycle }),
+        Err(RouteStop::NoMemory) => Err(NoMemory),
+    }
+}
+
+impl Outcome {
+    /// The drawing of the first least row with its log; or the log, with a cycle of the row, with a height that
+    /// is not enough, or of a search that spent its budget. A drawing can be written.
+    pub fn of(alloc: Global, inputs: &Inputs) -> Result<Outcome, NoMemory>
+        ensures comes { IfOk result (ComesTo inputs.now) }
+        ensures written { IfOk result (CanBeWritten inputs.now) }
+    {
+        inputs.show_limits();
+        match search_kept(alloc, &inputs.fingers, &Parity, inputs.budget()) {
+            Ok(found) => {
+                let log = KeptLog::with_row(found.kept, found.best);
+                of_row(alloc, inputs, found.row, log)
+            }
+            Err(StopKept::Unfinished { kept, proved }) => {
+                let log = KeptLog::without_row(kept);
+                Ok(Outcome::Unfinished { log, proved })
+            }
+            Err(StopKept::NoMemory) => Err(NoMemory),
+        }
+    }
+}
