@@ -1,0 +1,5 @@
+pub mod Counted
+pub mod Ended
+pub mod Held
+pub mod Sizes
+pub mod Tallied

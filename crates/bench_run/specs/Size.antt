@@ -1,0 +1,20 @@
+-- Drawings of a few bytes.
+use Rattle.std.specs.Prelude.{ℕ, ◌≤◌, List, All, length, sum_by}
+use Rattle.box_geom.specs.declared.shape.Label.{Label}
+use Rattle.box_geom.specs.declared.shape.Shapes.{Shapes}
+use Rattle.library_size.specs.Size.{label_size}
+
+-- a label whose name has at most 64 bytes
+abbrev pub IsShort : Label → Type 0
+IsShort label = length label.name ≤ 64
+
+-- the bytes of labels
+abbrev pub labels_size : List Label → ℕ
+labels_size labels = sum_by (λ (l : Label). label_size l.name) labels
+
+-- the name and the shapes of a cell, few and with short names
+pub record IsSmall (name : List ℕ) (shapes : Shapes) : Type 0 where
+  pub named : length name ≤ 64
+  pub rects : length shapes.rects ≤ 1999
+  pub labels : length shapes.labels ≤ 256
+  pub short : All IsShort shapes.labels

@@ -1,0 +1,15 @@
+// Making the generated cells, and counting what comes out.
+#![tactic(auto)]
+
+mod cells;
+mod count;
+mod laws;
+mod read;
+mod size;
+pub mod tally;
+#[cfg(test)]
+mod tests;
+
+pub use cells::bench;
+pub use laws::one_length;
+pub use tally::Tally;
