@@ -23,7 +23,7 @@ use Rattle.cellgen.specs.declared.check.CheckAnswer.TheVariants.{Accepted, Misre
 use Rattle.cellgen.specs.declared.end.End.{End}
 use Rattle.cellgen.specs.declared.status.Status.TheVariants as status
 use Rattle.cellgen.specs.Check.{Checks, ChecksTo, IsTextOfAccepted, misread_answer, rejected_answer}
-use Rattle.cellgen.specs.Inputs.{Inputs}
+use Rattle.cell_make.specs.Inputs.{Inputs}
 use Rattle.cellgen.proofs.Accepted.{not_both}
 
 pub accepted : (inputs : Inputs) (bytes : List ℕ) (k : Kinds) (log : Log) (gaps lemmas : ℕ) → AreKinds inputs.fingers k → AreSomeKinds k → Fits k log → bytes ≡ log_text inputs.cell.name log → WithKinds inputs.fingers (λ j. IsAccepted parity_value j inputs.fingers log gaps) → ((other : List Column) → IsArrangement other inputs.fingers → gaps ≤ gaps_of other) → lemmas ≡ length log.lemmas → Checks inputs bytes (Accepted gaps lemmas)

@@ -1,9 +1,13 @@
 -- Files made in order, from what each call of the desk did.
-use Rattle.std.proofs.Common.{ℕ, ◌≡◌, ◌⊎◌, List, [], ◌∷◌, Option, Some, None, ◌+◌, ◌<◌, drop, get_or, Result, Ok, Err, OnErr, length, string_bytes, inl, inr, refl, sym, ap, ◌∙◌, arith}
+use Rattle.std.proofs.Common.{ℕ, ◌≡◌, ◌⊎◌, List, [], ◌∷◌, Option, Some, None, ◌+◌, ◌<◌, drop, get_or, Result, Ok, Err, OnErr, length, string_bytes, inl, inr, refl, sym, ap, ◌∙◌, arith, subst}
 use Rattle.std.proofs.lemmas.List.{drop_more}
-use Rattle.cell_io.specs.Desk.{Files, View, Both, ForSome, WrittenIn, OnlyMakes}
+use Rattle.cell_io.specs.Desk.{Files, View, Both, ForSome, AddsPart, WrittenIn, OnlyMakes}
 use Rattle.cellgen.specs.declared.end.Output.{Output}
-use Rattle.cellgen.specs.Deliver.{Makes, MakesAll, MakesSome}
+use Rattle.cellgen.specs.declared.end.End.{End}
+use Rattle.cellgen.specs.declared.status.Status.{Status}
+use Rattle.cellgen.specs.Deliver.{GivesUp, Makes, MakesAll, MakesSome, Tells}
+use Rattle.log_output.specs.Giving.{GivesSome, OnlyPuts}
+use Rattle.log_output.proofs.Giving.{said_some}
 
 -- ---- files
 
@@ -60,3 +64,10 @@ none_begun (Some x) None h = absurd h
 
 pub makes_trans : (a b c : View) → OnlyMakes a b → OnlyMakes b c → OnlyMakes a c
 makes_trans a b c x y = record { given = y.given ∙ x.given; said = y.said ∙ x.said; reads = y.reads ∙ x.reads; writes = omega (arith, x.writes, y.writes); shorts = omega (arith, x.shorts, y.shorts) }
+
+-- all files are made, but only a front of the report is said
+pub report_some : (end : End) (answer : Status) (a b c : View) → OnlyMakes a b → Both (MakesAll end.files) a.made b.made → OnlyPuts None b c → GivesSome None end.report b c → GivesUp answer a c → Tells end answer a c
+report_some end answer a b c makes all only some gives =
+    let made : Both (MakesAll end.files) a.made c.made = subst (λ (files : Option Files). Both (MakesAll end.files) a.made files) (sym only.made) all in
+    let said : Both (ForSome end.report (AddsPart end.report)) a.said c.said = subst (λ (text : Option (List ℕ)). Both (ForSome end.report (AddsPart end.report)) text c.said) makes.said (said_some end.report b c some) in
+    inr (gives, inr (made, said))

@@ -1,29 +1,29 @@
 -- What a call comes to, from what it gathered: by form, and by the refusal of a file.
-use Rattle.std.proofs.Common.{ℕ, ◌≡◌, ◌⊎◌, Bool, true, false, nat_le, if◌then◌else◌, length, arith, List, [], Option, Some, None, Result, Ok, Err, IsNone, Contains, inl, inr, refl, sym, ap, ◌∙◌, subst}
+use Rattle.std.proofs.Common.{ℕ, ◌≡◌, ◌⊎◌, Bool, true, false, nat_le, if◌then◌else◌, length, arith, List, [], ◌∷◌, Option, Some, None, Result, Ok, Err, IsNone, Contains, inl, inr, refl, sym, ap, ◌∙◌, subst}
 use Rattle.cell_io.specs.Desk.{Files, View, Rose}
 use Rattle.cellgen.specs.declared.end.End.{End}
 use Rattle.cellgen.specs.declared.extract.ExtractAnswer.TheVariants as answer
 use Rattle.cellgen.specs.declared.gather.GdsCell.{GdsCell}
-use Rattle.cellgen.specs.declared.gather.Material.{Material}
-use Rattle.cellgen.specs.declared.gather.Material.TheVariants.{Planning, Making, Checking, Extracting}
+use Rattle.cellgen.specs.Material.{Material, Planning, Making, Checking, Extracting, Benching}
 use Rattle.cellgen.specs.declared.refusal.Refusal.{Refusal}
 use Rattle.cellgen.specs.declared.refusal.Refusal.TheVariants.{Unread, Long, NoMemory}
 use Rattle.cellgen.specs.declared.status.Status.{Status}
 use Rattle.cellgen.specs.declared.status.Status.TheVariants as status
 use Rattle.cellgen.specs.declared.check.CheckAnswer.TheVariants.{Accepted, Misread, Rejected}
+use Rattle.cellgen.specs.Bench.{BenchesTo}
 use Rattle.cellgen.specs.Check.{ChecksTo}
 use Rattle.cellgen.specs.End.{says}
 use Rattle.cellgen.specs.Ends.{CallsFor, EndsTo, MayEnd, is_among, outside_of, refusal_status, refused, settled_of}
 use Rattle.cellgen.specs.Extract.{ExtractsTo}
 use Rattle.cellgen.specs.Gather.{gathered, read_by}
-use Rattle.cellgen.specs.Inputs.{Inputs}
+use Rattle.cell_make.specs.Inputs.{Inputs}
 use Rattle.cellgen.specs.Headline.{IsMake}
 use Rattle.cellgen.specs.Make.{MakesTo}
-use Rattle.cellgen.specs.Make as made
+use Rattle.cell_make.specs.Making as made
 use Rattle.cellgen.specs.Plan.{PlansTo, Planned, Unfinished}
 use Rattle.cellgen.specs.Reading.{Comes, MayCome}
 use Rattle.cellgen.specs.Sources.{Source, MayRead, Lacks, file_name, most_bytes, within}
-use Rattle.cellgen.specs.Words.{CellAsked, Form, Plan, Make, Check, Extract}
+use Rattle.cellgen.specs.Words.{CellAsked, Form, Plan, Make, Check, Extract, Bench}
 use Rattle.cellgen.proofs.Gathered.{IsGathered, gathered_keeps}
 use Rattle.cellgen.proofs.Reading.{came_kept, came_told}
 
@@ -51,33 +51,47 @@ extract_settled tech gds name cell end (answer.Unread f, h, is) = rw is refl
 extract_settled tech gds name cell end (answer.Unchecked f, h, is) = rw is refl
 extract_settled tech gds name cell end (answer.Refused f, h, is) = rw is refl
 
-input_settled : (form : Form) → is_among (settled_of (Some form)) status.Input ≡ true
-input_settled (Plan asked) = refl
-input_settled (Make asked out) = refl
-input_settled (Check asked log) = refl
-input_settled (Extract tech gds cell) = refl
+bench_settled : (number many : ℕ) (end : End) → BenchesTo many end → is_among (settled_of (Some (Bench number))) end.status ≡ true
+bench_settled number many end (tally, h, is) = rw is refl
+
+-- the technology, the SPICE file or the folding is refused
+input_settled : (form : Form) (e : Refusal) (end : End) → IsGathered (Some form) (Err e) → end ≡ refused e → is_among (settled_of (Some form)) end.status ≡ true
+input_settled (Plan asked) e end is ends = rw (ends, is) refl
+input_settled (Make asked out) e end is ends = rw (ends, is) refl
+input_settled (Check asked log) e end is ends = rw (ends, is) refl
+input_settled (Extract tech gds cell) e end is ends = rw (ends, is) refl
+input_settled (Bench number) e end is ends = absurd is
 
 -- what was gathered, or refused by its form, ends so
 settled : (form : Option Form) (got : Result Material Refusal) (end : End) → IsGathered form got → EndsTo got end → is_among (settled_of form) end.status ≡ true
 settled None (Ok material) end is ends = absurd is
 settled None (Err e) end is ends = rw (ends, is) refl
-settled (Some form) (Err e) end is ends = subst (λ (s : Status). is_among (settled_of (Some form)) s ≡ true) (sym (ap (λ (x : End). x.status) ends ∙ is)) (input_settled form)
+settled (Some form) (Err e) end is ends = input_settled form e end is ends
 settled (Some (Plan asked)) (Ok (Planning inputs)) end is ends = plan_settled asked inputs end ends
 settled (Some (Plan asked)) (Ok (Making inputs stem)) end is ends = absurd is
 settled (Some (Plan asked)) (Ok (Checking inputs bytes)) end is ends = absurd is
 settled (Some (Plan asked)) (Ok (Extracting cell)) end is ends = absurd is
+settled (Some (Plan asked)) (Ok (Benching many)) end is ends = absurd is
 settled (Some (Make asked out)) (Ok (Planning inputs)) end is ends = absurd is
 settled (Some (Make asked out)) (Ok (Making inputs stem)) end is ends = make_settled asked out inputs stem end ends
 settled (Some (Make asked out)) (Ok (Checking inputs bytes)) end is ends = absurd is
 settled (Some (Make asked out)) (Ok (Extracting cell)) end is ends = absurd is
+settled (Some (Make asked out)) (Ok (Benching many)) end is ends = absurd is
 settled (Some (Check asked log)) (Ok (Making inputs stem)) end is ends = absurd is
 settled (Some (Check asked log)) (Ok (Planning inputs)) end is ends = absurd is
 settled (Some (Check asked log)) (Ok (Checking inputs bytes)) end is ends = check_settled asked log inputs bytes end ends
 settled (Some (Check asked log)) (Ok (Extracting cell)) end is ends = absurd is
+settled (Some (Check asked log)) (Ok (Benching many)) end is ends = absurd is
 settled (Some (Extract tech gds name)) (Ok (Planning inputs)) end is ends = absurd is
 settled (Some (Extract tech gds name)) (Ok (Making inputs stem)) end is ends = absurd is
 settled (Some (Extract tech gds name)) (Ok (Checking inputs bytes)) end is ends = absurd is
 settled (Some (Extract tech gds name)) (Ok (Extracting cell)) end is ends = extract_settled tech gds name cell end ends
+settled (Some (Extract tech gds name)) (Ok (Benching many)) end is ends = absurd is
+settled (Some (Bench number)) (Ok (Planning inputs)) end is ends = absurd is
+settled (Some (Bench number)) (Ok (Making inputs stem)) end is ends = absurd is
+settled (Some (Bench number)) (Ok (Checking inputs bytes)) end is ends = absurd is
+settled (Some (Bench number)) (Ok (Extracting cell)) end is ends = absurd is
+settled (Some (Bench number)) (Ok (Benching many)) end is ends = bench_settled number many end ends
 
 -- no form settles for a status of the desk, and the words alone are told as usage
 pub not_read : (form : Option Form) → is_among (settled_of form) status.ReadFault ≡ false
@@ -86,6 +100,7 @@ not_read (Some (Plan asked)) = refl
 not_read (Some (Make asked out)) = refl
 not_read (Some (Check asked log)) = refl
 not_read (Some (Extract tech gds cell)) = refl
+not_read (Some (Bench number)) = refl
 
 pub not_written : (form : Option Form) → is_among (settled_of form) status.WriteFault ≡ false
 not_written None = refl
@@ -93,6 +108,7 @@ not_written (Some (Plan asked)) = refl
 not_written (Some (Make asked out)) = refl
 not_written (Some (Check asked log)) = refl
 not_written (Some (Extract tech gds cell)) = refl
+not_written (Some (Bench number)) = refl
 
 pub not_short : (form : Option Form) → is_among (settled_of form) status.NoMemory ≡ false
 not_short None = refl
@@ -100,6 +116,7 @@ not_short (Some (Plan asked)) = refl
 not_short (Some (Make asked out)) = refl
 not_short (Some (Check asked log)) = refl
 not_short (Some (Extract tech gds cell)) = refl
+not_short (Some (Bench number)) = refl
 
 pub usage_alone : (form : Option Form) → is_among (settled_of form) status.Usage ≡ true → IsNone form
 usage_alone None h = refl
@@ -107,6 +124,7 @@ usage_alone (Some (Plan asked)) h = cc
 usage_alone (Some (Make asked out)) h = cc
 usage_alone (Some (Check asked log)) h = cc
 usage_alone (Some (Extract tech gds cell)) h = cc
+usage_alone (Some (Bench number)) h = cc
 
 -- what was gathered for a form, or a refusal
 abbrev pub IsGatheredOrRefused : Option Form → Result Material Refusal → Type 0
@@ -128,18 +146,23 @@ extract_alone cell end (answer.Unread f, h, is) = rw is refl
 extract_alone cell end (answer.Unchecked f, h, is) = rw is refl
 extract_alone cell end (answer.Refused f, h, is) = rw is refl
 
+pub bench_alone : (number : ℕ) (end : End) → BenchesTo number end → end.files ≡ []
+bench_alone number end (tally, h, is) = rw is refl
+
 -- `make` alone makes files
 pub no_files : (form : Option Form) (got : Result Material Refusal) (end : End) → (IsMake form → ⊥) → IsGatheredOrRefused form got → EndsTo got end → end.files ≡ []
 no_files form (Err e) end other how ends = rw ends refl
 no_files form (Ok (Planning inputs)) end other how ends = plan_alone inputs end ends
 no_files form (Ok (Checking inputs bytes)) end other how ends = check_alone inputs bytes end ends
 no_files form (Ok (Extracting cell)) end other how ends = extract_alone cell end ends
+no_files form (Ok (Benching many)) end other how ends = bench_alone many end ends
 no_files form (Ok (Making inputs stem)) end other (inr (e, is)) ends = cc
 no_files None (Ok (Making inputs stem)) end other (inl is) ends = absurd is
 no_files (Some (Plan asked)) (Ok (Making inputs stem)) end other (inl is) ends = absurd is
 no_files (Some (Make asked out)) (Ok (Making inputs stem)) end other (inl is) ends = absurd (other tt)
 no_files (Some (Check asked log)) (Ok (Making inputs stem)) end other (inl is) ends = absurd is
 no_files (Some (Extract tech gds cell)) (Ok (Making inputs stem)) end other (inl is) ends = absurd is
+no_files (Some (Bench number)) (Ok (Making inputs stem)) end other (inl is) ends = absurd is
 
 -- how a call comes to what it gathers
 pub came_gathered : (old new : View) (form : Option Form) (got : Result Material Refusal) → MayCome old new (gathered form) got → IsGatheredOrRefused form got
@@ -221,12 +244,18 @@ file_status old new form end h = elim (file_fault old.given (Rose old.read_fault
 pub file_unread : (old new : View) (form : Option Form) (end : End) → IsByFile old new form end → end.status ≡ status.ReadFault → Rose old.read_faults new.read_faults ⊎ Lacks old.given (read_by form)
 file_unread old new form end h read = file_cause old.given (Rose old.read_faults new.read_faults) (read_by form) h.source h.e h.there h.may (sym (ap (λ (x : End). x.status) h.ends) ∙ read)
 
+-- a file that is not read, or is too long, is of the outside where files are read
+by_files : (answer : Status) → (answer ≡ status.ReadFault) ⊎ (answer ≡ status.TooLong) → is_among (status.ReadFault ∷ status.WriteFault ∷ status.NoMemory ∷ status.TooLong ∷ []) answer ≡ true
+by_files answer (inl read) = rw read refl
+by_files answer (inr long) = rw long refl
+
 pub file_outside : (old new : View) (form : Option Form) (end : End) → IsByFile old new form end → is_among (outside_of form) end.status ≡ true
 file_outside old new None end h = absurd (omega (arith, h.there.1))
-file_outside old new (Some form) end h = elim (file_status old new (Some form) end h) [
-  | inl read ↦ rw read refl
-  | inr long ↦ rw long refl
-]
+file_outside old new (Some (Bench number)) end h = absurd (omega (arith, h.there.1))
+file_outside old new (Some (Plan asked)) end h = by_files end.status (file_status old new (Some (Plan asked)) end h)
+file_outside old new (Some (Make asked out)) end h = by_files end.status (file_status old new (Some (Make asked out)) end h)
+file_outside old new (Some (Check asked log)) end h = by_files end.status (file_status old new (Some (Check asked log)) end h)
+file_outside old new (Some (Extract tech gds cell)) end h = by_files end.status (file_status old new (Some (Extract tech gds cell)) end h)
 
 -- over told files: what they call for, or reading failed, or memory ran out
 pub end_told : (files : Files) (old new : View) (form : Option Form) (end : End) → old.given ≡ Some files → MayEnd old new form end → CallsFor files form end ⊎ (Rose old.read_faults new.read_faults × (end.status ≡ status.ReadFault)) ⊎ (end.status ≡ status.NoMemory)

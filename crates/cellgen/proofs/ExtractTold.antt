@@ -5,8 +5,7 @@ use Rattle.cellgen.specs.declared.end.End.{End}
 use Rattle.cellgen.specs.declared.extract.ExtractAnswer.{ExtractAnswer}
 use Rattle.cellgen.specs.declared.extract.ExtractAnswer.TheVariants.{Extracted, Broken, Unread, Unchecked, Refused}
 use Rattle.cellgen.specs.declared.gather.GdsCell.{GdsCell}
-use Rattle.cellgen.specs.declared.gather.Material.{Material}
-use Rattle.cellgen.specs.declared.gather.Material.TheVariants.{Planning, Making, Checking, Extracting}
+use Rattle.cellgen.specs.Material.{Material, Planning, Making, Checking, Extracting, Benching}
 use Rattle.cellgen.specs.declared.refusal.Refusal.{Refusal}
 use Rattle.cellgen.specs.declared.refusal.Refusal.TheVariants.{Words, Unread as UnreadFile, Long, Tech, Spice, Fold, NoMemory}
 use Rattle.cellgen.specs.declared.status.Status.{Status}
@@ -18,7 +17,7 @@ use Rattle.cellgen.specs.Extract.{BreaksRule, ExtractsTo, HasLayoutFault, HasNet
 use Rattle.cellgen.specs.Gather.{gathered}
 use Rattle.cellgen.specs.Headline.{IsOrShort}
 use Rattle.cellgen.specs.Reading.{called}
-use Rattle.cellgen.specs.Words.{Form, Plan, Make, Check, Extract}
+use Rattle.cellgen.specs.Words.{Form, Plan, Make, Check, Extract, Bench}
 use Rattle.cellgen.proofs.Extracted.{breaks_where, extracts_where, refuses_where}
 use Rattle.cellgen.proofs.Gathered.{IsGathered}
 use Rattle.cellgen.proofs.MakeTold.{IsAnswered}
@@ -69,7 +68,9 @@ extract_gathered None material extract h = absurd extract
 extract_gathered (Some (Plan asked)) material extract h = absurd extract
 extract_gathered (Some (Make asked out)) material extract h = absurd extract
 extract_gathered (Some (Check asked log)) material extract h = absurd extract
+extract_gathered (Some (Bench number)) material extract h = absurd extract
 extract_gathered (Some (Extract tech gds name)) (Planning inputs) extract h = absurd h
+extract_gathered (Some (Extract tech gds name)) (Benching many) extract h = absurd h
 extract_gathered (Some (Extract tech gds name)) (Making inputs stem) extract h = absurd h
 extract_gathered (Some (Extract tech gds name)) (Checking inputs bytes) extract h = absurd h
 extract_gathered (Some (Extract tech gds name)) (Extracting cell) extract h = (cell, refl)

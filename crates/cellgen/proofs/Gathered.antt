@@ -8,17 +8,17 @@ use Rattle.tech_file.specs.Reading.{technology}
 use Rattle.spice_net.specs.declared.subckt.Subckt.{Subckt}
 use Rattle.spice_net.specs.Subcircuit.{subcircuit}
 use Rattle.finger_fold.specs.Folding.{folded}
-use Rattle.cellgen.specs.declared.gather.Material.{Material}
-use Rattle.cellgen.specs.declared.gather.Material.TheVariants.{Planning, Making, Checking, Extracting}
+use Rattle.cellgen.specs.Material.{Material, Planning, Making, Checking, Extracting, Benching}
 use Rattle.cellgen.specs.declared.refusal.Refusal.{Refusal}
 use Rattle.cellgen.specs.declared.refusal.Refusal.TheVariants.{Words, Tech, Spice, Fold}
 use Rattle.cellgen.specs.declared.status.Status.TheVariants as status
 use Rattle.cellgen.specs.Ends.{refusal_status}
 use Rattle.cellgen.specs.Gather.{extracting_over, gathered, input_files, inputs_from, read_by, tech_files, technology_from}
-use Rattle.cellgen.specs.Inputs.{inputs_in, inputs_of}
+use Rattle.cell_make.specs.Inputs.{inputs_of}
+use Rattle.cellgen.specs.Inputs.{inputs_in}
 use Rattle.cellgen.specs.Refusals.{as_refusal}
 use Rattle.cellgen.specs.Sources.{Source, TechFile, SpiceFile, LogFile, GdsFile}
-use Rattle.cellgen.specs.Words.{CellAsked, Form, Plan, Make, Check, Extract}
+use Rattle.cellgen.specs.Words.{CellAsked, Form, Plan, Make, Check, Extract, Bench}
 use Rattle.cellgen.proofs.Reading.{Keeps, keeps_on}
 use Rattle.cellgen.proofs.Results.{err_behind}
 
@@ -63,12 +63,14 @@ IsMaterialOf (Plan asked) (Planning inputs) = Unit {0}
 IsMaterialOf (Make asked out) (Making inputs stem) = Unit {0}
 IsMaterialOf (Check asked log) (Checking inputs bytes) = Unit {0}
 IsMaterialOf (Extract tech gds name) (Extracting cell) = Unit {0}
+IsMaterialOf (Bench number) (Benching many) = many ≡ number
 IsMaterialOf _ _ = ⊥
 
 abbrev pub IsGathered : Option Form → Result Material Refusal → Type 0
 IsGathered None (Ok material) = ⊥
 IsGathered None (Err e) = e ≡ Words
 IsGathered (Some form) (Ok material) = IsMaterialOf form material
+IsGathered (Some (Bench number)) (Err e) = ⊥
 IsGathered (Some form) (Err e) = IsInputFault e
 
 log_there : (file : Option (List ℕ)) (spice log : List ℕ) → Contains (input_files file spice ++ LogFile log ∷ []) (LogFile log)
@@ -104,3 +106,4 @@ gathered_keeps (Some (Extract tech gds name)) =
     (tech_keeps (λ source. Contains (read_by (Some (Extract tech gds name))) source) tech (gds_tech_there tech gds))
     (λ read is. (gds_there tech gds, λ bytes. tt))
     (λ e is. is)
+gathered_keeps (Some (Bench number)) = refl

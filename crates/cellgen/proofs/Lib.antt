@@ -1,4 +1,5 @@
 pub mod Accepted
+pub mod BenchTold
 pub mod Checked
 pub mod Delivered
 pub mod Desks
@@ -6,14 +7,18 @@ pub mod Ends
 pub mod ExtractTold
 pub mod Extracted
 pub mod Gathered
-pub mod LeastLines
+pub mod Keeping
+pub mod LogItems
+pub mod LogLines
+pub mod LogReads
 pub mod MadeFiles
 pub mod MakeEnds
 pub mod MakeTold
-pub mod Makes
 pub mod Names
+pub mod Outcomes
+pub mod Numbers
 pub mod Planned
-pub mod ReadBack
 pub mod Reading
+pub mod WholeFiles
 pub mod Results
 pub mod Telling

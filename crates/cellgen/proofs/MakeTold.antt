@@ -12,8 +12,7 @@ use Rattle.row_place.specs.Places.{placement_of}
 use Rattle.row_model.specs.declared.column.Column.{Column}
 use Rattle.channel_route.proofs.Stuck.{cycle_is}
 use Rattle.cellgen.specs.declared.end.End.{End}
-use Rattle.cellgen.specs.declared.gather.Material.{Material}
-use Rattle.cellgen.specs.declared.gather.Material.TheVariants.{Planning, Making, Checking, Extracting}
+use Rattle.cellgen.specs.Material.{Material, Planning, Making, Checking, Extracting, Benching}
 use Rattle.cellgen.specs.declared.refusal.Refusal.{Refusal}
 use Rattle.cellgen.specs.declared.refusal.Refusal.TheVariants.{Words, Unread, Long, Tech, Spice, Fold, NoMemory}
 use Rattle.cellgen.specs.declared.status.Status.{Status}
@@ -24,13 +23,14 @@ use Rattle.cellgen.specs.Deliver.{MakesAll, Says, TellsWhole}
 use Rattle.cellgen.specs.Ends.{CallsFor, EndsTo, IsOfOutside, refused, refusal_status}
 use Rattle.cellgen.specs.Gather.{gathered}
 use Rattle.cellgen.specs.Headline.{CanBeDrawn, FromInputs, HasCycle, IsCyclicCell, IsMadeCell, IsMake, IsOrShort, IsSpentSearch, IsTallCell, IsTooHigh, MakesNone, OfFirstLeast, WhereMakeEnds}
-use Rattle.cellgen.specs.Inputs.{Inputs}
-use Rattle.cellgen.specs.Make.{MakesTo, abstract_of, drawing_in, library_of}
-use Rattle.cellgen.specs.Make as made
+use Rattle.cell_make.specs.Inputs.{Inputs}
+use Rattle.cell_make.specs.Making.{abstract_of, drawing_in, library_of}
+use Rattle.cell_make.specs.Making as made
+use Rattle.cellgen.specs.Make.{IsMakeEnd, MakesTo}
 use Rattle.cellgen.specs.Reading.{called}
-use Rattle.cellgen.specs.Words.{Form, Plan, Make, Check, Extract}
+use Rattle.cellgen.specs.Words.{Form, Plan, Make, Check, Extract, Bench}
 use Rattle.cellgen.proofs.Delivered.{none_made}
-use Rattle.cellgen.proofs.Ends.{check_alone, extract_alone, plan_alone}
+use Rattle.cellgen.proofs.Ends.{bench_alone, check_alone, extract_alone, plan_alone}
 use Rattle.cellgen.proofs.Gathered.{IsGathered}
 use Rattle.cellgen.proofs.MadeFiles.{cell_made, log_made}
 use Rattle.cellgen.proofs.Telling.{Answers, Completes, gathered_so}
@@ -82,7 +82,9 @@ make_gathered None material make h = absurd make
 make_gathered (Some (Plan asked)) material make h = absurd make
 make_gathered (Some (Check asked log)) material make h = absurd make
 make_gathered (Some (Extract tech gds name)) material make h = absurd make
+make_gathered (Some (Bench number)) material make h = absurd make
 make_gathered (Some (Make asked out)) (Planning inputs) make h = absurd h
+make_gathered (Some (Make asked out)) (Benching many) make h = absurd h
 make_gathered (Some (Make asked out)) (Checking inputs bytes) make h = absurd h
 make_gathered (Some (Make asked out)) (Extracting cell) make h = absurd h
 make_gathered (Some (Make asked out)) (Making inputs stem) make h = (inputs, stem, refl)
@@ -146,6 +148,7 @@ drawn_so inputs out end answer old new (made.Made row log routing xs, h, is) don
   obstructs = h.obstructs;
   sized = h.sized;
   decodes = h.decodes;
+  alone = h.alone;
   files = cell_made out (log_text inputs.cell.name log) (library_of inputs (drawing_in inputs row routing xs)) (abstract_of inputs routing (drawing_in inputs row routing xs)) end.files old.made new.made is.files whole.1;
   says = said_so _ end.report old.said new.said is.report whole.2;
 }
@@ -290,7 +293,7 @@ needs_told a c form answer given told = settles a c form status.TooTall answer (
 make_makes : (inputs : Inputs) (out : List ℕ) (end : End) → MakesTo inputs out end → MakesNone end.status ⊎ (end.status ≡ status.NoMemory) → ⊥
 make_makes inputs out end (answer, h, is) none = by answer is none
   where
-    by : (answer : made.MakeAnswer) → made.IsMakeEnd inputs out answer end → MakesNone end.status ⊎ (end.status ≡ status.NoMemory) → ⊥
+    by : (answer : made.MakeAnswer) → IsMakeEnd inputs out answer end → MakesNone end.status ⊎ (end.status ≡ status.NoMemory) → ⊥
     by (made.Made row log routing xs) is (inl none) = subst MakesNone is.status none
     by (made.Cyclic row log cycle) is (inl none) = subst MakesNone is.status none
     by (made.Tall row log routing) is (inl none) = subst MakesNone is.status none
@@ -313,6 +316,7 @@ alone (Err e) end ends none = ap (λ (x : End). x.files) ends
 alone (Ok (Planning inputs)) end ends none = plan_alone inputs end ends
 alone (Ok (Checking inputs bytes)) end ends none = check_alone inputs bytes end ends
 alone (Ok (Extracting cell)) end ends none = extract_alone cell end ends
+alone (Ok (Benching many)) end ends none = bench_alone many end ends
 alone (Ok (Making inputs out)) end ends none = absurd (make_makes inputs out end ends none)
 
 no_made : (a c : View) (end : End) → end.files ≡ [] → Both (MakesAll end.files) a.made c.made → c.made ≡ a.made

@@ -1,18 +1,24 @@
 -- What a plan comes to, from what the search answered.
-use Rattle.std.proofs.Common.{ℕ, ◌≡◌, ◌≤◌, List, Result, IfOk, refl, arith}
+use Rattle.std.proofs.Common.{ℕ, ◌≡◌, ◌≤◌, List, ◌++◌, Result, IfOk, ap, codes, length, refl, ◌∙◌, arith}
 use Rattle.std.proofs.lemmas.Result.{IfOk-weaker}
 use Rattle.cell_num.specs.declared.list.NoMemory.{NoMemory}
 use Rattle.row_model.specs.declared.column.Column.{Column}
 use Rattle.row_state.specs.Parity.{parity_value}
 use Rattle.bound_log.specs.declared.log.Log.{Log}
+use Rattle.bound_log.specs.Fits.{Fits, ForSome}
+use Rattle.bound_log.specs.Text.{log_text}
+use Rattle.cell_num.specs.declared.finger.Fingers.{Fingers}
 use Rattle.row_search.specs.Ended.{IsSolved, IsSpent}
 use Rattle.row_search.specs.First.{IsFirstLeast}
 use Rattle.log_check.specs.Accepted.{ForKinds, WithKinds}
 use Rattle.row_search.specs.Enough.{enough}
+use Rattle.spice_net.specs.declared.subckt.Subckt.{Subckt}
+use Rattle.cell_make.specs.Inputs.{Inputs}
 use Rattle.cellgen.specs.declared.end.End.{End}
 use Rattle.cellgen.specs.declared.status.Status.TheVariants as status
-use Rattle.cellgen.specs.Inputs.{Inputs}
+use Rattle.cellgen.specs.End.{says}
 use Rattle.cellgen.specs.Plan.{PlansTo, Planned, Unfinished, planned_end, unfinished_end}
+use Rattle.cellgen.specs.Report.{unfinished_text}
 
 pub planned_to : (inputs : Inputs) (row : List Column) (log : Log) (r : Result End NoMemory) → IsFirstLeast inputs.fingers row → WithKinds inputs.fingers (λ k. IsSolved parity_value k inputs.fingers inputs.tech.budget row log) → IfOk r (λ end. end ≡ planned_end inputs.cell row) → IfOk r (PlansTo inputs)
 planned_to inputs row log r first solved is = IfOk-weaker r (λ (end : End). end ≡ planned_end inputs.cell row) (PlansTo inputs) (λ end same. (Planned row log, (first, solved), same)) is
@@ -23,3 +29,16 @@ unfinished_to inputs proved log r spent is = IfOk-weaker r (λ (end : End). end 
 pub enough_done : (inputs : Inputs) (end : End) → ForKinds inputs.fingers (λ k. enough k ≤ inputs.tech.budget) → PlansTo inputs end → end.status ≡ status.Done
 enough_done inputs end much (Planned row log, h, is) = rw is refl
 enough_done inputs end much (Unfinished proved log, (k, of_k, some_k, spent), is) = absurd (omega (arith, spent.short, much k of_k some_k))
+
+-- a text can hold the log of a search
+pub spent_fits : (f : Fingers) (budget proved : ℕ) (log : Log) → WithKinds f (λ k. IsSpent parity_value k f budget log proved) → ForSome (λ k. Fits k log)
+spent_fits f budget proved log (k, of_k, some_k, spent) = (k, some_k, spent.searched.fits)
+
+pub solved_fits : (f : Fingers) (budget : ℕ) (row : List Column) (log : Log) → WithKinds f (λ k. IsSolved parity_value k f budget row log) → ForSome (λ k. Fits k log)
+solved_fits f budget row log (k, of_k, some_k, solved) = (k, some_k, solved.searched.fits)
+
+-- the counts in front of the text of the log
+pub spent_end : (cell : Subckt) (proved count : ℕ) (log : Log) (front text report : List ℕ) (end : End) → count ≡ length log.lemmas → front ≡ codes "status 6 unfinished\n" ++ unfinished_text proved count → text ≡ log_text cell.name log → report ≡ front ++ text → end ≡ says status.Unfinished report → end ≡ unfinished_end cell proved log
+spent_end cell proved count log front text report end counted begun written joined said =
+    let begins : front ≡ codes "status 6 unfinished\n" ++ unfinished_text proved (length log.lemmas) = begun ∙ ap (λ (n : ℕ). codes "status 6 unfinished\n" ++ unfinished_text proved n) counted in
+    said ∙ ap (λ (bytes : List ℕ). says status.Unfinished bytes) (joined ∙ ap (λ (behind : List ℕ). front ++ behind) written ∙ ap (λ (before : List ℕ). before ++ log_text cell.name log) begins)

@@ -4,8 +4,7 @@ use Rattle.std.proofs.lemmas.List.{append-nil}
 use Rattle.cell_io.specs.Desk.{Files, View, Both, ForSome, AddsPart, OnlyReads, Rose}
 use Rattle.cellgen.specs.declared.end.End.{End}
 use Rattle.cellgen.specs.declared.end.Output.{Output}
-use Rattle.cellgen.specs.declared.gather.Material.{Material}
-use Rattle.cellgen.specs.declared.gather.Material.TheVariants.{Planning, Making, Checking, Extracting}
+use Rattle.cellgen.specs.Material.{Material, Planning, Making, Checking, Extracting, Benching}
 use Rattle.cellgen.specs.declared.refusal.Refusal.{Refusal}
 use Rattle.cellgen.specs.declared.refusal.Refusal.TheVariants.{Words, Unread, Long, Tech, Spice, Fold, NoMemory}
 use Rattle.cellgen.specs.declared.status.Status.{Status}
@@ -15,12 +14,12 @@ use Rattle.cellgen.specs.Check.{HoldsAcceptedLog, IsCheck}
 use Rattle.cellgen.specs.Deliver.{GivesUp, MakesAll, MakesSome, OnlyTells, Says, Tells, TellsSome, TellsWhole}
 use Rattle.cellgen.specs.Ends.{CallsFor, EndsTo, IsOfOutside, MayEnd, is_among, is_status_of, outside_of, refused, settled_of}
 use Rattle.cellgen.specs.Gather.{gathered, read_by}
-use Rattle.cellgen.specs.Inputs.{Inputs}
+use Rattle.cell_make.specs.Inputs.{Inputs}
 use Rattle.cellgen.specs.Headline.{IsMake}
 use Rattle.cellgen.specs.Plan.{HasEnough}
 use Rattle.cellgen.specs.Reading.{called}
 use Rattle.cellgen.specs.Sources.{Lacks, held}
-use Rattle.cellgen.specs.Words.{Form, Plan, Make, Check, Extract}
+use Rattle.cellgen.specs.Words.{Form, Plan, Make, Check, Extract, Bench}
 use Rattle.cellgen.proofs.Checked.{done_holds, holds_done}
 use Rattle.cellgen.proofs.Delivered.{none_begun, none_made}
 use Rattle.cellgen.proofs.Desks.{came_between}
@@ -91,11 +90,19 @@ or_true false = refl
 
 written_outside : (form : Option Form) → is_among (outside_of form) status.WriteFault ≡ true
 written_outside None = refl
-written_outside (Some form) = refl
+written_outside (Some (Plan asked)) = refl
+written_outside (Some (Make asked out)) = refl
+written_outside (Some (Check asked log)) = refl
+written_outside (Some (Extract tech gds cell)) = refl
+written_outside (Some (Bench number)) = refl
 
 short_outside : (form : Option Form) → is_among (outside_of form) status.NoMemory ≡ true
 short_outside None = refl
-short_outside (Some form) = refl
+short_outside (Some (Plan asked)) = refl
+short_outside (Some (Make asked out)) = refl
+short_outside (Some (Check asked log)) = refl
+short_outside (Some (Extract tech gds cell)) = refl
+short_outside (Some (Bench number)) = refl
 
 -- why a call answers as it does: its form settles it, a file was refused, writing failed, or memory ran out
 data Cause (a c : View) (form : Option Form) (answer : Status) : Type 0 where
@@ -221,7 +228,9 @@ done_check files None end (Ok material) check is (inl h) ends done = absurd chec
 done_check files (Some (Plan asked)) end (Ok material) check is (inl h) ends done = absurd check
 done_check files (Some (Make asked out)) end (Ok material) check is (inl h) ends done = absurd check
 done_check files (Some (Extract tech gds name)) end (Ok material) check is (inl h) ends done = absurd check
+done_check files (Some (Bench number)) end (Ok material) check is (inl h) ends done = absurd check
 done_check files (Some (Check asked log)) end (Ok (Extracting cell)) check is (inl h) ends done = absurd h
+done_check files (Some (Check asked log)) end (Ok (Benching many)) check is (inl h) ends done = absurd h
 done_check files (Some (Check asked log)) end (Ok (Making inputs stem)) check is (inl h) ends done = absurd h
 done_check files (Some (Check asked log)) end (Ok (Planning inputs)) check is (inl h) ends done = absurd h
 done_check files (Some (Check asked log)) end (Ok (Checking inputs bytes)) check is (inl h) ends done =

@@ -19,12 +19,12 @@ use Rattle.log_check.specs.Refusal.{Refuses}
 use Rattle.cellgen.specs.declared.check.CheckAnswer.{CheckAnswer}
 use Rattle.cellgen.specs.declared.check.CheckAnswer.TheVariants.{Accepted, Misread, Rejected}
 use Rattle.cellgen.specs.declared.end.End.{End}
-use Rattle.cellgen.specs.declared.gather.Material.TheVariants.{Checking}
+use Rattle.cellgen.specs.Material.{Checking}
 use Rattle.cellgen.specs.declared.status.Status.TheVariants as status
 use Rattle.cellgen.specs.End.{says}
 use Rattle.cellgen.specs.Faults.{fault_line, log_fault, check_fault}
 use Rattle.cellgen.specs.Gather.{gathered}
-use Rattle.cellgen.specs.Inputs.{Inputs}
+use Rattle.cell_make.specs.Inputs.{Inputs}
 use Rattle.cellgen.specs.Reading.{called}
 use Rattle.cellgen.specs.Report.{checked_text}
 use Rattle.cellgen.specs.Words as words

@@ -3,12 +3,12 @@ use Rattle.std.specs.Prelude.{ℕ, ◌≡◌, Bool, ◌==◌, ◌||◌, List, []
 use Rattle.std.specs.List.{list_any}
 use Rattle.cell_io.specs.Desk.{Files, View}
 use Rattle.cellgen.specs.declared.end.End.{End}
-use Rattle.cellgen.specs.declared.gather.Material.{Material}
-use Rattle.cellgen.specs.declared.gather.Material.TheVariants.{Planning, Making, Checking, Extracting}
+use Rattle.cellgen.specs.Material.{Material, Planning, Making, Checking, Extracting, Benching}
 use Rattle.cellgen.specs.declared.refusal.Refusal.{Refusal}
 use Rattle.cellgen.specs.declared.refusal.Refusal.TheVariants.{Words, Unread, Long, Tech, Spice, Fold, NoMemory}
 use Rattle.cellgen.specs.declared.status.Status.{Status}
 use Rattle.cellgen.specs.declared.status.Status.TheVariants as status
+use Rattle.cellgen.specs.Bench.{BenchesTo}
 use Rattle.cellgen.specs.Check.{ChecksTo}
 use Rattle.cellgen.specs.End.{says}
 use Rattle.cellgen.specs.Extract.{ExtractsTo}
@@ -19,7 +19,7 @@ use Rattle.cellgen.specs.Make.{MakesTo}
 use Rattle.cellgen.specs.Plan.{PlansTo}
 use Rattle.cellgen.specs.Reading.{called, MayCome}
 use Rattle.cellgen.specs.Status.{number_of}
-use Rattle.cellgen.specs.Words.{Form, Plan, Make, Check, Extract}
+use Rattle.cellgen.specs.Words.{Form, Plan, Make, Check, Extract, Bench}
 
 -- ---- a step that refuses
 
@@ -35,7 +35,7 @@ refusal_status NoMemory = status.NoMemory
 abbrev pub refusal_text : Refusal → List ℕ
 refusal_text Words =
     codes "status 1 usage\nplan TECH SPICE CELL\nmake TECH SPICE CELL OUT\n"
-    ++ codes "check TECH SPICE CELL LOG\nextract TECH GDS CELL\n"
+    ++ codes "check TECH SPICE CELL LOG\nextract TECH GDS CELL\nbench NUMBER\n"
 refusal_text (Unread name) = text_line (codes "status 2 read ") name
 refusal_text (Long name) = text_line (codes "status 10 long ") name
 refusal_text (Tech f) = codes "status 4 input\n" ++ fault_line (codes "tech") (tech_fault f)
@@ -54,6 +54,7 @@ WorksTo (Planning inputs) end = PlansTo inputs end
 WorksTo (Making inputs out) end = MakesTo inputs out end
 WorksTo (Checking inputs log) end = ChecksTo inputs log end
 WorksTo (Extracting cell) end = ExtractsTo cell end
+WorksTo (Benching number) end = BenchesTo number end
 
 -- it was gathered, or a step refused
 abbrev pub EndsTo : Result Material Refusal → End → Type 0
@@ -81,10 +82,12 @@ settled_of (Some (Plan asked)) = status.Done ∷ status.Input ∷ status.Unfinis
 settled_of (Some (Make asked out)) = status.Done ∷ status.Input ∷ status.Cycle ∷ status.Unfinished ∷ status.TooTall ∷ []
 settled_of (Some (Check asked log)) = status.Done ∷ status.Input ∷ status.Rejected ∷ []
 settled_of (Some (Extract tech gds cell)) = status.Done ∷ status.Input ∷ status.Rejected ∷ status.Layout ∷ []
+settled_of (Some (Bench number)) = status.Done ∷ []
 
--- what a file or the desk may bring about
+-- what a file or the desk may bring about; a bench reads no file
 abbrev pub outside_of : Option Form → List Status
 outside_of None = status.WriteFault ∷ status.NoMemory ∷ []
+outside_of (Some (Bench number)) = status.WriteFault ∷ status.NoMemory ∷ []
 outside_of (Some form) = status.ReadFault ∷ status.WriteFault ∷ status.NoMemory ∷ status.TooLong ∷ []
 
 abbrev pub is_status_of : Option Form → Status → Bool

@@ -20,7 +20,7 @@ use Rattle.cellgen.specs.declared.end.End.{End}
 use Rattle.cellgen.specs.declared.extract.ExtractAnswer.{ExtractAnswer}
 use Rattle.cellgen.specs.declared.extract.ExtractAnswer.TheVariants.{Extracted, Broken, Unread, Unchecked, Refused}
 use Rattle.cellgen.specs.declared.gather.GdsCell.{GdsCell}
-use Rattle.cellgen.specs.declared.gather.Material.TheVariants.{Extracting}
+use Rattle.cellgen.specs.Material.{Extracting}
 use Rattle.cellgen.specs.declared.status.Status.{Status}
 use Rattle.cellgen.specs.declared.status.Status.TheVariants as status
 use Rattle.cellgen.specs.Deliver.{Says}

@@ -1,17 +1,17 @@
 -- What the forms read, in order, and what they then work on.
 use Rattle.std.specs.Prelude.{ℕ, List, [], ◌∷◌, ◌++◌, Option, Some, None, Ok, Err}
 use Rattle.cellgen.specs.declared.gather.GdsCell.{GdsCell}
-use Rattle.cellgen.specs.declared.gather.Material.{Material}
-use Rattle.cellgen.specs.declared.gather.Material.TheVariants.{Planning, Making, Checking, Extracting}
+use Rattle.cellgen.specs.Material.{Material, Planning, Making, Checking, Extracting, Benching}
 use Rattle.cellgen.specs.declared.refusal.Refusal.TheVariants.{Words, Tech}
 use Rattle.cell_num.specs.Names.{lowered}
 use Rattle.tech_file.specs.Technology.{Technology, plain}
 use Rattle.tech_file.specs.Reading.{technology}
-use Rattle.cellgen.specs.Inputs.{Inputs, inputs_in}
+use Rattle.cell_make.specs.Inputs.{Inputs}
+use Rattle.cellgen.specs.Inputs.{inputs_in}
 use Rattle.cellgen.specs.Refusals.{as_refusal}
 use Rattle.cellgen.specs.Reading.{Reading, Ends, bytes_of, ◌>>=◌}
 use Rattle.cellgen.specs.Sources.{Source, TechFile, SpiceFile, LogFile, GdsFile}
-use Rattle.cellgen.specs.Words.{CellAsked, Form, Plan, Make, Check, Extract}
+use Rattle.cellgen.specs.Words.{CellAsked, Form, Plan, Make, Check, Extract, Bench}
 
 abbrev pub technology_in : List ℕ → Reading Technology
 technology_in bytes = Ends (as_refusal Tech (technology bytes))
@@ -59,6 +59,7 @@ gathered (Some (Plan asked)) = planning asked
 gathered (Some (Make asked out)) = making asked out
 gathered (Some (Check asked log)) = checking asked log
 gathered (Some (Extract tech gds cell)) = extracting tech gds cell
+gathered (Some (Bench number)) = Ends (Ok (Benching number))
 
 -- the files that a form comes to read, in order
 abbrev pub tech_files : Option (List ℕ) → List Source
@@ -75,3 +76,4 @@ read_by (Some (Plan asked)) = input_files asked.tech asked.spice
 read_by (Some (Make asked out)) = input_files asked.tech asked.spice
 read_by (Some (Check asked log)) = input_files asked.tech asked.spice ++ LogFile log ∷ []
 read_by (Some (Extract tech gds cell)) = tech_files tech ++ GdsFile gds ∷ []
+read_by (Some (Bench number)) = []

@@ -23,16 +23,19 @@ use Rattle.cell_draw.specs.Frame.{needed_of, IsTooTall}
 use Rattle.cell_draw.specs.Shown.{ShowsRouting, ShowsRow}
 use Rattle.gds_read.specs.Decoding.{Decodes}
 use Rattle.lef_write.specs.Drawn.{AreAllMetal, HasPort, IsSized}
-use Rattle.cellgen.specs.declared.gather.Material.TheVariants.{Making}
+use Rattle.cellgen.specs.Material.{Making}
 use Rattle.cellgen.specs.declared.status.Status.{Status}
 use Rattle.cellgen.specs.declared.status.Status.TheVariants as status
 use Rattle.cellgen.specs.Deliver.{Says}
 use Rattle.cellgen.specs.Gather.{gathered}
-use Rattle.cellgen.specs.Inputs.{Inputs}
-use Rattle.cellgen.specs.Make.{AreLeastLines, IsRouted, abstract_of, drawing_in, library_of, ports_in}
-use Rattle.cellgen.specs.MakeReport.{cycle_text, drawn_text, tall_text}
+use Rattle.cell_make.specs.Inputs.{Inputs}
+use Rattle.cell_make.specs.Making.{AreLeastLines, IsRouted, abstract_of, drawing_in, library_of, ports_in}
+use Rattle.cell_report.specs.Cycles.{cycle_text}
+use Rattle.cellgen.specs.MakeReport.{drawn_text, tall_text}
 use Rattle.cellgen.specs.Reading.{called}
-use Rattle.cellgen.specs.Report.{plan_text, unfinished_text}
+use Rattle.cell_report.specs.Rows.{plan_text}
+use Rattle.cellgen.specs.Report.{unfinished_text}
+use Rattle.cell_make.specs.Structures.{HasOneStructure}
 use Rattle.cellgen.specs.Words as words
 
 abbrev pub IsMake : Option words.Form → Type 0
@@ -93,8 +96,9 @@ pub record IsMadeCell (inputs : Inputs) (out : List ℕ) (old new : View) : Type
   pub shows_row : ShowsRow inputs.cell.nets row (drawing_in inputs row routing lines).shapes
   -- The labels of trunks stand on the tracks of the routing.
   pub shows_routing : ShowsRouting inputs.cell.nets inputs.cell.pins (placement_of row) (drawing_in inputs row routing lines).shapes routing
-  -- The bytes are a library with one cell of that name, and these are its shapes and labels.
+  -- The bytes are a library with one cell of that name and no other, and these are its shapes and labels.
   pub decodes : Decodes (library_of inputs (drawing_in inputs row routing lines)) inputs.cell.name inputs.tech.lambda_nm (drawing_in inputs row routing lines).shapes
+  pub alone : HasOneStructure (library_of inputs (drawing_in inputs row routing lines))
   -- Each pin has exactly one port: one of these shapes, on which the label of the pin's name stands.
   pub ports : (n : ℕ) → n < inputs.cell.pins.pins → HasPort inputs.cell.nets (ports_in inputs routing (drawing_in inputs row routing lines)) (drawing_in inputs row routing lines) n
   -- Ports and obstructions are all metal of these shapes, each shape once.

@@ -1,3 +1,4 @@
+pub mod Bench
 pub mod Calm
 pub mod Check
 pub mod Deliver
@@ -9,9 +10,12 @@ pub mod Fields
 pub mod Gather
 pub mod Headline
 pub mod Inputs
+pub mod Kept
 pub mod LayoutFaults
+pub mod LogRead
 pub mod Make
 pub mod MakeReport
+pub mod Material
 pub mod Plan
 pub mod Read
 pub mod Reading

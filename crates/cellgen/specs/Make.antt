@@ -1,112 +1,25 @@
--- What making a cell comes to: its drawing, a cycle of its least row, a height that is not enough, or the log of
--- an unfinished search.
-use Rattle.std.specs.Prelude.{ℕ, ◌≡◌, ◌<◌, ◌≤◌, ◌*◌, List, [], ◌∷◌, ◌++◌, codes, length, map, string_bytes}
-use Rattle.cell_num.specs.declared.net.Pins.{Pins}
+-- How `make` tells what making a cell comes to: its files, and its report.
+use Rattle.std.specs.Prelude.{ℕ, ◌≡◌, List, [], ◌∷◌, ◌++◌, codes, length, map, string_bytes}
 use Rattle.row_model.specs.declared.column.Column.{Column}
-use Rattle.row_state.specs.Parity.{parity_value}
 use Rattle.bound_log.specs.declared.log.Log.{Log}
 use Rattle.bound_log.specs.Text.{log_text}
-use Rattle.log_check.specs.Accepted.{WithKinds}
-use Rattle.row_search.specs.Ended.{IsSolved, IsSpent}
-use Rattle.row_search.specs.First.{IsFirstLeast}
-use Rattle.row_place.specs.declared.placement.Placement.{Placement}
-use Rattle.row_place.specs.Places.{placement_of}
 use Rattle.channel_route.specs.declared.routing.Above.{Above}
 use Rattle.channel_route.specs.declared.routing.Routing.{Routing}
-use Rattle.channel_route.specs.Cycle.{HasNoCycle}
-use Rattle.channel_route.specs.Routing.{IsLegal, IsTight}
-use Rattle.channel_route.specs.Told.{IsTold}
-use Rattle.row_compact.specs.Allowed.{AreAllowed, stretches_of}
-use Rattle.row_compact.specs.Solution.{x_of}
-use Rattle.scmos_rules.specs.Rules.{Obeys}
-use Rattle.scmos_rules.specs.declared.rules.Deck.TheVariants.{Plain}
 use Rattle.cell_draw.specs.declared.drawing.Drawing.{Drawing}
-use Rattle.cell_draw.specs.Drawings.{drawn_of}
-use Rattle.cell_draw.specs.Extracted.{ExtractsTo}
-use Rattle.cell_draw.specs.Frame.{needed_of, IsTooTall}
-use Rattle.cell_draw.specs.Shown.{ShowsRouting, ShowsRow}
+use Rattle.cell_draw.specs.Frame.{needed_of}
 use Rattle.gds_write.specs.Written.{written}
-use Rattle.lef_write.specs.declared.port.Port.{Port}
-use Rattle.lef_write.specs.Drawn.{AreAllMetal, HasPort, IsSized}
 use Rattle.lef_write.specs.Lef.{cell_text}
-use Rattle.lef_write.specs.Ports.{ports_of}
-use Rattle.gds_read.specs.Decoding.{Decodes}
 use Rattle.spice_net.specs.declared.subckt.Subckt.{Subckt}
+use Rattle.cell_make.specs.Inputs.{Inputs, unit_nm}
+use Rattle.cell_make.specs.Making.{MakeAnswer, Made, Cyclic, Tall, Unfinished, Makes, drawing_in}
 use Rattle.cellgen.specs.declared.end.End.{End}
 use Rattle.cellgen.specs.declared.end.Output.{Output}
 use Rattle.cellgen.specs.declared.status.Status.{Status}
 use Rattle.cellgen.specs.declared.status.Status.TheVariants as status
-use Rattle.cellgen.specs.Inputs.{Inputs, unit_nm}
-use Rattle.cellgen.specs.MakeReport.{cycle_text, drawn_text, tall_text}
-use Rattle.cellgen.specs.Report.{plan_text, unfinished_text}
-
--- ---- the parts
-
--- A position for each line that the routed row allows, at every line at most every other such one.
-pub record AreLeastLines (placement : Placement) (pins : Pins) (routing : Routing) (xs : List ℕ) : Type 0 where
-  pub allowed : AreAllowed placement pins (stretches_of routing.trunks) xs
-  pub least : (other : List ℕ) → AreAllowed placement pins (stretches_of routing.trunks) other → (line : ℕ) → line ≤ 2 * length placement.units → x_of xs line ≤ x_of other line
-
--- the first least row, with an accepted log that lists it and was found within the budget
-pub record IsFound (inputs : Inputs) (row : List Column) (log : Log) : Type 0 where
-  pub first : IsFirstLeast inputs.fingers row
-  pub solved : WithKinds inputs.fingers (λ k. IsSolved parity_value k inputs.fingers inputs.tech.budget row log)
-
--- its channel, routed; no nets stand above each other in a ring
-pub record IsRouted (inputs : Inputs) (row : List Column) (routing : Routing) : Type 0 where
-  pub acyclic : HasNoCycle (placement_of row) inputs.cell.pins
-  pub legal : IsLegal (placement_of row) inputs.cell.pins routing
-  pub tight : IsTight (placement_of row) inputs.cell.pins routing
-
-abbrev pub drawing_in : Inputs → List Column → Routing → List ℕ → Drawing
-drawing_in inputs row routing xs = drawn_of inputs.cell.nets inputs.cell.pins (placement_of row) routing xs inputs.tech.height
-
--- the bytes of a drawing
-abbrev pub library_of : Inputs → Drawing → List ℕ
-library_of inputs drawing = written inputs.cell.name drawing.shapes (unit_nm inputs.tech)
-
--- the ports of a drawing
-abbrev pub ports_in : Inputs → Routing → Drawing → List Port
-ports_in inputs routing drawing = ports_of inputs.cell.pins routing.trunks drawing.shapes.rects
-
--- the text of its abstract
-abbrev pub abstract_of : Inputs → Routing → Drawing → List ℕ
-abstract_of inputs routing drawing = cell_text inputs.cell routing drawing (unit_nm inputs.tech)
-
--- What is said of a drawn cell. Its row is the first least arrangement of the fingers, and the log is accepted
--- and lists it. Its channel is routed legally and tightly, its lines stand at the least places, and the height is
--- enough. The shapes obey every rule, extract net by net to the fingers, and show the row and the routing; and the
--- bytes decode with the cell's name and the technology's lambda to these shapes. Each
--- pin has a port, all other metal obstructs, and the size is that of metal1.
-pub record IsMade (inputs : Inputs) (row : List Column) (log : Log) (routing : Routing) (xs : List ℕ) : Type 0 where
-  pub found : IsFound inputs row log
-  pub routed : IsRouted inputs row routing
-  pub lines : AreLeastLines (placement_of row) inputs.cell.pins routing xs
-  pub fits : IsTooTall row routing.tracks inputs.tech.height → ⊥
-  pub obeys : Obeys Plain (drawing_in inputs row routing xs).shapes.rects
-  pub extracts : ExtractsTo inputs.cell.nets inputs.fingers (drawing_in inputs row routing xs).shapes
-  pub shows_row : ShowsRow inputs.cell.nets row (drawing_in inputs row routing xs).shapes
-  pub shows_routing : ShowsRouting inputs.cell.nets inputs.cell.pins (placement_of row) (drawing_in inputs row routing xs).shapes routing
-  pub ports : (n : ℕ) → n < inputs.cell.pins.pins → HasPort inputs.cell.nets (ports_in inputs routing (drawing_in inputs row routing xs)) (drawing_in inputs row routing xs) n
-  pub obstructs : AreAllMetal (ports_in inputs routing (drawing_in inputs row routing xs)) (drawing_in inputs row routing xs).shapes.rects
-  pub sized : IsSized (drawing_in inputs row routing xs)
-  pub decodes : Decodes (library_of inputs (drawing_in inputs row routing xs)) inputs.cell.name inputs.tech.lambda_nm (drawing_in inputs row routing xs).shapes
-
--- ---- what it comes to
-
-pub data MakeAnswer : Type 0 where
-  Made : (row : List Column) (log : Log) (routing : Routing) (xs : List ℕ) → MakeAnswer
-  Cyclic : (row : List Column) (log : Log) (cycle : List Above) → MakeAnswer
-  Tall : (row : List Column) (log : Log) (routing : Routing) → MakeAnswer
-  Unfinished : (proved : ℕ) (log : Log) → MakeAnswer
-
-abbrev pub Makes : Inputs → MakeAnswer → Type 0
-Makes inputs (Made row log routing xs) = IsMade inputs row log routing xs
-Makes inputs (Cyclic row log cycle) = IsFound inputs row log × IsTold (placement_of row) inputs.cell.pins cycle
-Makes inputs (Tall row log routing) = IsFound inputs row log × IsRouted inputs row routing × IsTooTall row routing.tracks inputs.tech.height
-Makes inputs (Unfinished proved log) = WithKinds inputs.fingers (λ k. IsSpent parity_value k inputs.fingers inputs.tech.budget log proved)
-
--- ---- how it is told
+use Rattle.cell_report.specs.Cycles.{cycle_text}
+use Rattle.cellgen.specs.MakeReport.{drawn_text, tall_text}
+use Rattle.cell_report.specs.Rows.{plan_text}
+use Rattle.cellgen.specs.Report.{unfinished_text}
 
 -- a file by its name and bytes
 abbrev pub named : Output → List ℕ × List ℕ

@@ -11,13 +11,14 @@ use Rattle.row_search.specs.Ended.{IsSolved, IsSpent}
 use Rattle.row_search.specs.Enough.{enough}
 use Rattle.row_search.specs.First.{IsFirstLeast}
 use Rattle.cellgen.specs.declared.end.End.{End}
-use Rattle.cellgen.specs.declared.gather.Material.TheVariants.{Planning}
+use Rattle.cellgen.specs.Material.{Planning}
 use Rattle.cellgen.specs.declared.status.Status.TheVariants as status
 use Rattle.cellgen.specs.End.{says}
 use Rattle.cellgen.specs.Gather.{gathered}
-use Rattle.cellgen.specs.Inputs.{Inputs}
+use Rattle.cell_make.specs.Inputs.{Inputs}
 use Rattle.cellgen.specs.Reading.{called}
-use Rattle.cellgen.specs.Report.{plan_text, unfinished_text}
+use Rattle.cell_report.specs.Rows.{plan_text}
+use Rattle.cellgen.specs.Report.{unfinished_text}
 use Rattle.cellgen.specs.Words.{Form}
 
 pub data PlanAnswer : Type 0 where

@@ -1,6 +1,6 @@
 -- The words of a call of the program.
-use Rattle.std.specs.Prelude.{ℕ, ◌==◌, ◌&&◌, ◌||◌, nat_le, Bool, List, [], ◌∷◌, Option, Some, None, length, map, option_map, codes, bytes_eq, String, string_bytes, if◌then◌else◌}
-use Rattle.std.specs.List.{list_all}
+use Rattle.std.specs.Prelude.{ℕ, ◌==◌, ◌&&◌, ◌||◌, nat_le, Bool, List, [], ◌∷◌, Option, Some, None, length, map, find, option_map, codes, bytes_eq, decimal, String, string_bytes, if◌then◌else◌}
+use Rattle.std.specs.List.{list_all, range_with_len}
 use Rattle.std.specs.declared.alloc.Global.{Global}
 
 -- the words as bytes
@@ -13,13 +13,14 @@ pub record CellAsked : Type 0 where
   pub spice : List ℕ
   pub cell : List ℕ
 
--- what a call asks for: `plan TECH SPICE CELL`, `make TECH SPICE CELL OUT`, `check TECH SPICE CELL LOG`, or
--- `extract TECH GDS CELL`, whose technology is none for the plain one
+-- what a call asks for: `plan TECH SPICE CELL`, `make TECH SPICE CELL OUT`, `check TECH SPICE CELL LOG`,
+-- `extract TECH GDS CELL`, whose technology is none for the plain one, or `bench NUMBER`
 pub data Form : Type 0 where
   Plan : (cell : CellAsked) → Form
   Make : (cell : CellAsked) (out : List ℕ) → Form
   Check : (cell : CellAsked) (log : List ℕ) → Form
   Extract : (tech : Option (List ℕ)) (gds cell : List ℕ) → Form
+  Bench : (number : ℕ) → Form
 
 -- a letter, a digit, `_`, `$` or `?`
 abbrev pub is_cell_byte : ℕ → Bool
@@ -59,6 +60,14 @@ abbrev pub extract_of : List (List ℕ) → Option Form
 extract_of (tech ∷ gds ∷ cell ∷ []) = if is_file tech && is_file gds && is_cell cell then Some (Extract (tech_of tech) gds cell) else None
 extract_of _ = None
 
+-- a number of generated cells, 1 to 200, in decimal digits
+unfoldable pub bench_number : List ℕ → Option ℕ
+bench_number word = find (λ n. bytes_eq (decimal n) word) (range_with_len 1 200)
+
+abbrev pub bench_of : List (List ℕ) → Option Form
+bench_of (word ∷ []) = option_map (λ number. Bench number) (bench_number word)
+bench_of _ = None
+
 -- the form of some words, told by the command first; None where they have none
 abbrev pub form_of : List (List ℕ) → Option Form
 form_of [] = None
@@ -67,6 +76,7 @@ form_of (command ∷ rest) =
     else if bytes_eq command (codes "make") then make_of rest
     else if bytes_eq command (codes "check") then check_of rest
     else if bytes_eq command (codes "extract") then extract_of rest
+    else if bytes_eq command (codes "bench") then bench_of rest
     else None
 
 abbrev pub asked : List (String Global) → Option Form

@@ -1,15 +1,17 @@
-ghost use Rattle.std.specs.Prelude.{◌≡◌, ◌≤◌, IfOk, Some, length};
+ghost use Rattle.std.specs.Prelude.{◌≡◌, ℕ, List as Sequence, IfOk, Ok, Some};
+ghost use Rattle.bound_log.specs.Pieces.{ended};
 ghost use Rattle.cellgen.specs.Check.{Checks, ChecksTo, check_end, misread_answer, rejected_answer};
+ghost use Rattle.cellgen.specs.LogRead.{AreBehindAll};
 
+use crate::checked_log::CheckedLog;
 use crate::end::End;
 use crate::faults::{put_log, put_refused};
-use crate::inputs::Inputs;
 use crate::report::put_checked;
 use crate::status::Status;
-use bound_log::{LogFault, read_log};
+use bound_log::LogFault;
+use cell_make::Inputs;
 use cell_num::{Bytes, NoMemory, columns_of};
-use log_check::{Refused, check_log};
-use row_state::{Parity, kinds};
+use log_check::Refused;
 use std::alloc::Global;
 
 /// What a check of some bytes came to.
@@ -41,22 +43,30 @@ fn rejected(cause: Refused) -> Result<CheckAnswer, NoMemory>
     }
 }
 
-fn answer(alloc: Global, inputs: &Inputs, bytes: &[u8]) -> Result<CheckAnswer, NoMemory>
-    requires { length bytes.now ≤ 1073741824 }
-    ensures { IfOk result (Checks inputs.now bytes.now) }
+// Where the text has no fault.
+fn judge(alloc: Global, inputs: &Inputs, log: &CheckedLog) -> Result<CheckAnswer, NoMemory>
+    requires { ended log.now.reader.fault log.now.reader.place (tt {0}) ≡ Ok (tt {0}) }
+    ensures { IfOk result (λ answer. (bytes : Sequence ℕ) →
+        AreBehindAll inputs.now bytes log.now.reader log.now.checker.seen → Checks inputs.now bytes answer) }
 {
     inputs.show_limits();
-    let kinds = kinds(alloc, &inputs.fingers)?;
-    let log = match read_log(alloc, bytes, &inputs.cell.name, &kinds) {
-        Ok(log) => log,
-        Err(fault) => return misread(fault),
-    };
-    match check_log(alloc, &inputs.fingers, &log, &Parity) {
+    match log.checker.finish(alloc) {
         Ok(gaps) => Ok(CheckAnswer::Accepted {
             gaps,
-            lemmas: log.lemmas.len() as u64,
+            lemmas: log.checker.count() as u64,
         }),
         Err(cause) => rejected(cause),
+    }
+}
+
+fn answer(alloc: Global, inputs: &Inputs, log: &CheckedLog) -> Result<CheckAnswer, NoMemory>
+    ensures { IfOk result (λ answer. (bytes : Sequence ℕ) →
+        AreBehindAll inputs.now bytes log.now.reader log.now.checker.seen → Checks inputs.now bytes answer) }
+{
+    inputs.show_limits();
+    match log.reader.finish() {
+        Ok(()) => judge(alloc, inputs, log),
+        Err(fault) => misread(fault),
     }
 }
 
@@ -85,11 +95,11 @@ fn end_of(alloc: Global, inputs: &Inputs, answer: &CheckAnswer) -> Result<End, N
     }
 }
 
-/// Whether the bytes are the text of a log that is accepted for the inputs.
-pub fn check(alloc: Global, inputs: &Inputs, bytes: &[u8]) -> Result<End, NoMemory>
-    requires { length bytes.now ≤ 1073741824 }
-    ensures { IfOk result (ChecksTo inputs.now bytes.now) }
+/// Whether the bytes that were read are the text of a log that is accepted for the inputs.
+pub fn check(alloc: Global, inputs: &Inputs, log: &CheckedLog) -> Result<End, NoMemory>
+    ensures { IfOk result (λ end. (bytes : Sequence ℕ) →
+        AreBehindAll inputs.now bytes log.now.reader log.now.checker.seen → ChecksTo inputs.now bytes end) }
 {
-    let answer = answer(alloc, inputs, bytes)?;
+    let answer = answer(alloc, inputs, log)?;
     end_of(alloc, inputs, &answer)
 }

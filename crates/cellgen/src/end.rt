@@ -3,13 +3,14 @@ ghost use Rattle.cellgen.specs.End.{says, leaves};
 
 use crate::status::Status;
 use cell_num::{Bytes, List, NoMemory};
+use log_output::Content;
 use std::alloc::Global;
 
 /// A file to make.
-#[derive(Debug, Drop)]
+#[derive(Drop)]
 pub struct Output {
     pub name: String,
-    pub bytes: Bytes,
+    pub bytes: Content,
 }
 
 pub type OutputList = List<Output>;
@@ -19,7 +20,7 @@ pub type OutputList = List<Output>;
 pub struct End {
     pub status: Status,
     pub files: OutputList,
-    pub report: Bytes,
+    pub report: Content,
 }
 
 impl End {
@@ -37,7 +38,7 @@ impl End {
         Ok(End {
             status,
             files,
-            report,
+            report: Content::of_bytes(report),
         })
     }
 
@@ -59,12 +60,19 @@ impl End {
         Ok(End {
             status,
             files,
-            report,
+            report: Content::of_bytes(report),
         })
     }
 
     /// An end without files.
     pub fn says(alloc: Global, status: Status, report: Bytes) -> End
+        ensures { result ≡ says status report }
+    {
+        End::tells(alloc, status, Content::of_bytes(report))
+    }
+
+    /// The same with a report that may hold the text of a log.
+    pub fn tells(alloc: Global, status: Status, report: Content) -> End
         ensures { result ≡ says status report }
     {
         End {

@@ -1,11 +1,12 @@
-ghost use Rattle.std.specs.Prelude.{◌≡◌, ◌≢◌, map, option_map, All, IfOk, string_bytes};
+ghost use Rattle.std.specs.Prelude.{◌≡◌, ◌≢◌, ◌≤◌, map, option_map, All, IfOk, bytes_eq, decimal, string_bytes};
 ghost use Rattle.std.specs.List.{list_all};
 ghost use Rattle.cell_num.specs.Names.{lowered};
 ghost use Rattle.bound_log.specs.Fits.{IsLogName};
 ghost use Rattle.cellgen.specs.Shown.{shown};
-ghost use Rattle.cellgen.specs.Words.{texts, is_cell_byte, is_cell, is_file, tech_of, cell_of, plan_of, make_of, check_of, extract_of, form_of, asked};
+ghost use Rattle.cellgen.specs.Words.{texts, is_cell_byte, is_cell, is_file, tech_of, cell_of, plan_of, make_of, check_of, extract_of, bench_number, bench_of, form_of, asked};
 
 use cell_num::{Name, NoMemory, lower};
+use itoa::Buffer;
 use std::alloc::Global;
 use std::marker::Model;
 
@@ -44,6 +45,51 @@ impl<'a> CellAsked<'a> {
     }
 }
 
+/// A number of generated cells: 1 to 200.
+#[derive(Drop)]
+pub struct CellCount {
+    number: u32,
+}
+
+impl Model for CellCount {
+    ghost use Rattle.std.specs.Prelude.{ℕ, ◌≤◌};
+
+    ghost Value = { ℕ };
+
+    ghost view = { λ c. c.number };
+
+    ghost invariant = { λ c. (1 ≤ c.number) × (c.number ≤ 200) };
+}
+
+impl CellCount {
+    // The number that a word spells in decimal digits.
+    #[tactic(auto, using(crate::proofs::Numbers::none_spelled, crate::proofs::Numbers::none_more, crate::proofs::Numbers::number_is, crate::proofs::Numbers::no_number))]
+    fn spelled(word: &str) -> Option<CellCount>
+        ensures { result ≡ bench_number word.now }
+    {
+        'numbers: for number in 1..201 {
+            if is_spelled(number, word) {
+                return Some(CellCount { number });
+            }
+        }
+        None
+    }
+
+    pub fn number(&self) -> u32
+        ensures is { result ≡ self.now }
+        ensures some { 1 ≤ result }
+        ensures few { result ≤ 200 }
+    {
+        self.number
+    }
+}
+
+fn is_spelled(number: u32, word: &str) -> bool
+    ensures { result ≡ bytes_eq (decimal number) word.now }
+{
+    Buffer::new().format(number).as_bytes() == word.as_bytes()
+}
+
 /// What a call of the program asks for.
 #[derive(Drop)]
 pub enum Form<'a> {
@@ -66,6 +112,10 @@ pub enum Form<'a> {
         tech: Option<&'a str>,
         gds: &'a str,
         cell: &'a str,
+    },
+    /// What making so many generated cells comes to.
+    Bench {
+        number: CellCount,
     },
 }
 
@@ -181,6 +231,19 @@ fn extract_of(words: &[String]) -> Option<Form<'_>>
     }
 }
 
+// The form of the words behind `bench`.
+fn bench_of(words: &[String]) -> Option<Form<'_>>
+    ensures { option_map shown result ≡ bench_of (texts words.now) }
+{
+    let [word] = words else {
+        return None;
+    };
+    match CellCount::spelled(word.as_str()) {
+        Some(number) => Some(Form::Bench { number }),
+        None => None,
+    }
+}
+
 /// The form of the words, told by the command first, or None where they have none of the listed forms.
 pub fn form_of(words: &[String]) -> Option<Form<'_>>
     ensures { option_map shown result ≡ asked words.now }
@@ -191,6 +254,7 @@ pub fn form_of(words: &[String]) -> Option<Form<'_>>
         "make" => make_of(rest),
         "check" => check_of(rest),
         "extract" => extract_of(rest),
+        "bench" => bench_of(rest),
         _ => None,
     }
 }

@@ -1,15 +1,17 @@
 ghost use Rattle.std.specs.Prelude.{◌≡◌, ◌≤◌, option_map};
 ghost use Rattle.cell_io.specs.Desk.{OnlyReads};
 ghost use Rattle.cellgen.specs.Gather.{gathered, planning, making, checking, checking_over, extracting, extracting_over};
-ghost use Rattle.cellgen.specs.Reading.{MayCome};
+ghost use Rattle.cellgen.specs.Kept.{MayKeep};
 ghost use Rattle.cellgen.specs.Shown.{shown};
 
-use crate::form::{CellAsked, Form};
-use crate::inputs::{Inputs, read_inputs, read_technology};
-use crate::read::{FileBytes, Source, read_file};
+use crate::checked_log::CheckedLog;
+use crate::form::{CellAsked, CellCount, Form};
+use crate::inputs::{read_inputs, read_technology};
+use crate::read::{FileBytes, Source, read_file, read_to};
 use crate::refusal::Refusal;
 use crate::stem::Stem;
 use cell_io::Desk;
+use cell_make::Inputs;
 use cell_num::{Name, copy};
 use std::alloc::Global;
 use tech_file::Tech;
@@ -33,15 +35,16 @@ impl GdsCell {
     }
 }
 
-/// What a command works on.
+/// What a command works on, as it is kept in memory.
 #[derive(Drop)]
 pub enum Material {
     Planning(Inputs),
     /// The inputs, and what the names of the files begin with.
     Making(Inputs, Stem),
-    /// The inputs, and the bytes of a log.
-    Checking(Inputs, FileBytes),
+    /// The inputs, and a log behind all its bytes.
+    Checking(Inputs, CheckedLog),
     Extracting(GdsCell),
+    Benching(CellCount),
 }
 
 fn with_log<D: Desk>(
@@ -50,11 +53,12 @@ fn with_log<D: Desk>(
     inputs: Inputs,
     log: &str,
 ) -> Result<Material, Refusal>
-    ensures comes { MayCome (D.view desk.old) (D.view desk.new) (checking_over log.now inputs) result }
+    ensures comes { MayKeep (D.view desk.old) (D.view desk.new) (checking_over log.now inputs) result }
     ensures only { OnlyReads (D.view desk.old) (D.view desk.new) }
 {
-    let bytes = read_file(alloc, desk, Source::Log(log))?;
-    Ok(Material::Checking(inputs, bytes))
+    let mut checked = CheckedLog::new(alloc, &inputs)?;
+    read_to(alloc, desk, Source::Log(log), &mut checked)?;
+    Ok(Material::Checking(inputs, checked))
 }
 
 fn for_plan<D: Desk>(
@@ -62,7 +66,7 @@ fn for_plan<D: Desk>(
     desk: &mut D,
     asked: &CellAsked<'_>,
 ) -> Result<Material, Refusal>
-    ensures comes { MayCome (D.view desk.old) (D.view desk.new) (planning asked.now) result }
+    ensures comes { MayKeep (D.view desk.old) (D.view desk.new) (planning asked.now) result }
     ensures only { OnlyReads (D.view desk.old) (D.view desk.new) }
 {
     let inputs = read_inputs(alloc, desk, asked)?;
@@ -75,7 +79,7 @@ fn for_make<D: Desk>(
     asked: &CellAsked<'_>,
     out: &str,
 ) -> Result<Material, Refusal>
-    ensures comes { MayCome (D.view desk.old) (D.view desk.new) (making asked.now out.now) result }
+    ensures comes { MayKeep (D.view desk.old) (D.view desk.new) (making asked.now out.now) result }
     ensures only { OnlyReads (D.view desk.old) (D.view desk.new) }
 {
     let stem = Stem::new(alloc, out)?;
@@ -89,7 +93,7 @@ fn for_check<D: Desk>(
     asked: &CellAsked<'_>,
     log: &str,
 ) -> Result<Material, Refusal>
-    ensures comes { MayCome (D.view desk.old) (D.view desk.new) (checking asked.now log.now) result }
+    ensures comes { MayKeep (D.view desk.old) (D.view desk.new) (checking asked.now log.now) result }
     ensures only { OnlyReads (D.view desk.old) (D.view desk.new) }
 {
     let inputs = read_inputs(alloc, desk, asked)?;
@@ -103,7 +107,7 @@ fn with_gds<D: Desk>(
     gds: &str,
     cell: &str,
 ) -> Result<Material, Refusal>
-    ensures comes { MayCome (D.view desk.old) (D.view desk.new) (extracting_over gds.now cell.now tech) result }
+    ensures comes { MayKeep (D.view desk.old) (D.view desk.new) (extracting_over gds.now cell.now tech) result }
     ensures only { OnlyReads (D.view desk.old) (D.view desk.new) }
 {
     let name = copy(alloc, cell.as_bytes())?;
@@ -118,7 +122,7 @@ fn for_extract<D: Desk>(
     gds: &str,
     cell: &str,
 ) -> Result<Material, Refusal>
-    ensures comes { MayCome (D.view desk.old) (D.view desk.new)
+    ensures comes { MayKeep (D.view desk.old) (D.view desk.new)
         (extracting (option_map (λ name. name.now) tech.entry) gds.now cell.now) result }
     ensures only { OnlyReads (D.view desk.old) (D.view desk.new) }
 {
@@ -132,7 +136,7 @@ pub fn gather<D: Desk>(
     desk: &mut D,
     form: Option<Form<'_>>,
 ) -> Result<Material, Refusal>
-    ensures comes { MayCome (D.view desk.old) (D.view desk.new) (gathered (option_map shown form.entry)) result }
+    ensures comes { MayKeep (D.view desk.old) (D.view desk.new) (gathered (option_map shown form.entry)) result }
     ensures only { OnlyReads (D.view desk.old) (D.view desk.new) }
 {
     match form {
@@ -140,6 +144,7 @@ pub fn gather<D: Desk>(
         Some(Form::Make { cell, out }) => for_make(alloc, desk, &cell, out),
         Some(Form::Check { cell, log }) => for_check(alloc, desk, &cell, log),
         Some(Form::Extract { tech, gds, cell }) => for_extract(alloc, desk, tech, gds, cell),
+        Some(Form::Bench { number }) => Ok(Material::Benching(number)),
         None => Err(Refusal::Words),
     }
 }

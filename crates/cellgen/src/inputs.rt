@@ -4,7 +4,7 @@ ghost use Rattle.tech_file.specs.Reading.{technology};
 ghost use Rattle.bound_log.specs.Fits.{IsLogName};
 ghost use Rattle.cellgen.specs.declared.refusal.Refusal.TheVariants as refused;
 ghost use Rattle.cellgen.specs.Gather.{technology_from, inputs_from, inputs_over};
-ghost use Rattle.cellgen.specs.Inputs.{AreInputs, inputs_in, unit_nm};
+ghost use Rattle.cellgen.specs.Inputs.{inputs_in};
 ghost use Rattle.cellgen.specs.Reading.{MayCome};
 ghost use Rattle.cellgen.specs.Refusals.{as_refusal};
 
@@ -12,68 +12,12 @@ use crate::form::CellAsked;
 use crate::read::{Source, read_file};
 use crate::refusal::Refusal;
 use cell_io::Desk;
-use cell_num::{Fingers, Name};
+use cell_make::Inputs;
+use cell_num::Name;
 use finger_fold::fold;
-use spice_net::{Subckt, read_cell};
+use spice_net::read_cell;
 use std::alloc::Global;
-use std::marker::Model;
 use tech_file::{Tech, read_tech};
-
-/// What the commands on a cell of a SPICE file work on: the technology, the subcircuit, whose name has 1 to 32
-/// bytes, and its fingers.
-#[derive(Drop)]
-pub struct Inputs {
-    pub tech: Tech,
-    pub cell: Subckt,
-    pub fingers: Fingers,
-}
-
-impl Model for Inputs {
-    ghost use Rattle.cellgen.specs.Inputs.{Inputs as InputsOf, AreInputs, inputs_of};
-
-    ghost Value = { InputsOf };
-
-    ghost view = { λ i. inputs_of i.tech i.cell i.fingers };
-
-    ghost invariant = { λ i. AreInputs (inputs_of i.tech i.cell i.fingers) };
-}
-
-impl Inputs {
-    /// Shows a caller's proof what holds of all inputs; it does nothing.
-    pub fn show_limits(&self)
-        ensures { AreInputs self.now }
-    {
-        let _ = &self.fingers;
-    }
-
-    /// The most nodes of a search, at most 1,000,000.
-    pub fn budget(&self) -> u64
-        ensures is { result ≡ self.now.tech.budget }
-        ensures few { result ≤ 1000000 }
-    {
-        self.tech.show_limits();
-        self.tech.budget
-    }
-
-    /// The height of the cell, 0 for as little as it needs.
-    pub fn height(&self) -> u32
-        ensures is { result ≡ self.now.tech.height }
-        ensures few { result ≤ 4000 }
-    {
-        self.tech.show_limits();
-        self.tech.height
-    }
-
-    /// The nanometres of a grid unit, half a lambda.
-    pub fn unit_nm(&self) -> u32
-        ensures is { result ≡ unit_nm self.now.tech }
-        ensures least { 10 ≤ result }
-        ensures most { result ≤ 1000 }
-    {
-        self.tech.show_limits();
-        self.tech.lambda_nm / 2
-    }
-}
 
 fn technology_in(alloc: Global, bytes: &[u8]) -> Result<Tech, Refusal>
     requires { length bytes.now ≤ 1073741824 }

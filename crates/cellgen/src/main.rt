@@ -1,9 +1,10 @@
 // Makes standard cells from SPICE subcircuits.
 #![tactic(auto)]
 
+mod bench;
 mod check;
+mod checked_log;
 mod deliver;
-mod drawn;
 mod end;
 mod extract;
 mod fault_line;
@@ -32,12 +33,14 @@ use process::{exit_code, words_after_name};
 use run::run;
 use status::Status;
 use std::env;
+use std::io::ErrorKind;
 use std::process::ExitCode;
 
 fn main(rt: HostRuntime) -> ExitCode {
-    // Arguments that can't be had are wrong words, and are told so.
+    // Arguments that are no text are wrong words, and are told so.
     let words = match env::args(&rt) {
         Ok(args) => words_after_name(rt.alloc(), args),
+        Err(error) if error.kind() == ErrorKind::OutOfMemory => return exit_code(Status::NoMemory),
         Err(_) => Ok(Vec::new(rt.alloc())),
     };
     let Ok(words) = words else {

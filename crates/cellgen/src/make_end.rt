@@ -1,5 +1,5 @@
 ghost use Rattle.std.specs.Prelude.{◌≡◌, ◌≤◌, [], ◌∷◌, ◌++◌, IfOk, codes, length, string_bytes};
-ghost use Rattle.bound_log.specs.Fits.{IsLogName};
+ghost use Rattle.bound_log.specs.Fits.{Fits, ForSome, IsLogName};
 ghost use Rattle.bound_log.specs.Text.{log_text};
 ghost use Rattle.gds_read.specs.RoundTrip.{IsReadable};
 ghost use Rattle.gds_write.specs.Written.{written};
@@ -10,24 +10,25 @@ use crate::end::{End, Output};
 use crate::make_report::made_report;
 use crate::status::Status;
 use crate::stem::Stem;
-use bound_log::{Log, write_log};
 use cell_draw::Drawing;
 use cell_num::{Bytes, NoMemory};
 use channel_route::Routing;
 use gds_write::write_cell;
 use lef_write::lef_text;
+use log_output::{Content, KeptLog, LogText};
 use row_model::Arrangement;
 use spice_net::Subckt;
 use std::alloc::Global;
 
-fn log_file(alloc: Global, cell: &Subckt, stem: &Stem, log: &Log) -> Result<Output, NoMemory>
+fn log_file(alloc: Global, cell: &Subckt, stem: &Stem, log: KeptLog) -> Result<Output, NoMemory>
     requires name { IsLogName cell.now.name }
-    requires few { length log.now.lemmas ≤ 1073741824 }
+    requires fits { ForSome (λ k. Fits k log) }
     ensures name { IfOk result (λ file. string_bytes file.name ≡ stem.now ++ codes ".clog") }
-    ensures bytes { IfOk result (λ file. file.bytes ≡ log_text cell.now.name log.now) }
+    ensures bytes { IfOk result (λ file. file.bytes ≡ log_text cell.now.name log) }
 {
     let name = stem.with(alloc, ".clog")?;
-    let bytes = Bytes::from_vec(write_log(alloc, &cell.name, log)?);
+    let text = LogText::new(alloc, &cell.name, log)?;
+    let bytes = Content::of_log(alloc, text);
     Ok(Output { name, bytes })
 }
 
@@ -43,7 +44,8 @@ fn gds_file(
     ensures bytes { IfOk result (λ file. file.bytes ≡ written cell.now.name drawing.now.shapes unit_nm) }
 {
     let name = stem.with(alloc, ".gds")?;
-    let bytes = Bytes::from_vec(write_cell(alloc, &cell.name, &drawing.shapes, unit_nm)?);
+    let library = write_cell(alloc, &cell.name, &drawing.shapes, unit_nm)?;
+    let bytes = Content::of_bytes(Bytes::from_vec(library));
     Ok(Output { name, bytes })
 }
 
@@ -62,7 +64,8 @@ fn lef_file(
     ensures bytes { IfOk result (λ file. file.bytes ≡ cell_text cell.now routing.now drawing.now unit_nm) }
 {
     let name = stem.with(alloc, ".lef")?;
-    let bytes = Bytes::from_vec(lef_text(alloc, cell, routing, drawing, unit_nm)?);
+    let text = lef_text(alloc, cell, routing, drawing, unit_nm)?;
+    let bytes = Content::of_bytes(Bytes::from_vec(text));
     Ok(Output { name, bytes })
 }
 
@@ -72,21 +75,21 @@ pub fn with_drawing(
     cell: &Subckt,
     stem: &Stem,
     row: &Arrangement,
-    log: &Log,
+    log: KeptLog,
     routing: &Routing,
     drawing: &Drawing,
     unit_nm: u32,
 ) -> Result<End, NoMemory>
     requires name { IsLogName cell.now.name }
-    requires few { length log.now.lemmas ≤ 1073741824 }
+    requires fits { ForSome (λ k. Fits k log) }
     requires columns { length row.now ≤ 64 }
     requires pins { cell.now.pins.pins ≤ length cell.now.nets }
     requires directions { length cell.now.directions ≡ cell.now.pins.pins }
     requires shapes { length drawing.now.shapes.rects ≤ 1999 }
     requires readable { IsReadable cell.now.name drawing.now.shapes unit_nm }
-    ensures { IfOk result (IsMadeEnd cell.now stem.now row.now log.now routing.now drawing.now unit_nm) }
+    ensures { IfOk result (IsMadeEnd cell.now stem.now row.now log routing.now drawing.now unit_nm) }
 {
-    let lemmas = log.lemmas.len() as u64;
+    let lemmas = log.count();
     let report = made_report(alloc, cell, row, routing.tracks, drawing, lemmas)?;
     let first = log_file(alloc, cell, stem, log)?;
     let second = gds_file(alloc, cell, stem, drawing, unit_nm)?;
@@ -99,13 +102,13 @@ pub fn with_log(
     alloc: Global,
     cell: &Subckt,
     stem: &Stem,
-    log: &Log,
+    log: KeptLog,
     status: Status,
     report: Bytes,
 ) -> Result<End, NoMemory>
     requires name { IsLogName cell.now.name }
-    requires few { length log.now.lemmas ≤ 1073741824 }
-    ensures { IfOk result (IsEnd status (log_file cell.now stem.now log.now ∷ []) report) }
+    requires fits { ForSome (λ k. Fits k log) }
+    ensures { IfOk result (IsEnd status (log_file cell.now stem.now log ∷ []) report) }
 {
     let file = log_file(alloc, cell, stem, log)?;
     End::makes_one(alloc, status, file, report)

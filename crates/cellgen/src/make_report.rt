@@ -1,70 +1,17 @@
-ghost use Rattle.std.specs.Prelude.{◌≡◌, ◌<◌, ◌≤◌, ◌++◌, codes, IfOk, OnOk, length, slice_get};
-ghost use Rattle.cellgen.specs.MakeReport.{below, entry_text, nets_text, above_text, cycle_text, drawn_text, tall_text};
-ghost use Rattle.cellgen.specs.Report.{plan_text, unfinished_text};
+ghost use Rattle.std.specs.Prelude.{◌≡◌, ◌≤◌, ◌++◌, codes, IfOk, OnOk, length};
+ghost use Rattle.cell_report.specs.Cycles.{cycle_text};
+ghost use Rattle.cell_report.specs.Rows.{plan_text};
+ghost use Rattle.cellgen.specs.MakeReport.{drawn_text, tall_text};
+ghost use Rattle.cellgen.specs.Report.{unfinished_text};
 
-use crate::report::{put_net, put_plan, put_unfinished};
+use crate::report::put_unfinished;
 use cell_draw::Drawing;
-use cell_num::{Bytes, Names, NoMemory, put_count, put_number, put_pair};
-use channel_route::Above;
+use cell_num::{Bytes, Names, NoMemory, put_count, put_pair};
+use cell_report::{cycle_text, plan_text};
+use channel_route::CycleList;
 use row_model::Arrangement;
 use spice_net::Subckt;
 use std::alloc::Global;
-
-fn below(count: usize, at: usize) -> usize
-    requires { at < count }
-    ensures { result ≡ below count at }
-{
-    if at + 1 < count { at + 1 } else { 0 }
-}
-
-fn put_entry(out: &mut Bytes, nets: &Names, cycle: &[Above], at: usize) -> Result<(), NoMemory>
-    ensures { OnOk result (out.new ≡ out.old ++ entry_text nets.now (slice_get cycle.now at)) }
-{
-    match cycle.get(at) {
-        Some(above) => put_net(out, nets, above.net),
-        None => Ok(()),
-    }
-}
-
-fn put_nets(
-    out: &mut Bytes,
-    nets: &Names,
-    cycle: &[Above],
-    at: usize,
-    above: &Above,
-) -> Result<(), NoMemory>
-    requires { at < length cycle.now }
-    ensures { OnOk result (out.new ≡ out.old ++ nets_text nets.now cycle.now (at, above.now)) }
-{
-    put_net(out, nets, above.net)?;
-    out.extend(b" above ")?;
-    put_entry(out, nets, cycle, below(cycle.len(), at))
-}
-
-fn put_above(
-    out: &mut Bytes,
-    nets: &Names,
-    cycle: &[Above],
-    at: usize,
-    above: &Above,
-) -> Result<(), NoMemory>
-    requires { at < length cycle.now }
-    ensures { OnOk result (out.new ≡ out.old ++ above_text nets.now cycle.now (at, above.now)) }
-{
-    put_nets(out, nets, cycle, at, above)?;
-    out.extend(b" at line ")?;
-    put_number(out, u64::from(above.line))?;
-    out.extend(b"\n")
-}
-
-fn put_cycle(out: &mut Bytes, nets: &Names, cycle: &[Above]) -> Result<(), NoMemory>
-    ensures { OnOk result (out.new ≡ out.old ++ cycle_text nets.now cycle.now) }
-{
-    'entries: for (at, above) in cycle.iter().enumerate() {
-        put_above(out, nets, cycle, at, above)?;
-    }
-    Ok(())
-}
 
 fn put_drawn(
     out: &mut Bytes,
@@ -102,18 +49,18 @@ pub fn made_report(
 {
     let mut report = Bytes::new(alloc);
     report.extend(b"status 0 ok\n")?;
-    put_plan(&mut report, &cell.name, &cell.nets, row)?;
+    report.extend(&plan_text(alloc, &cell.name, &cell.nets, row)?)?;
     put_drawn(&mut report, tracks, drawing.width, drawing.height, lemmas)?;
     Ok(report)
 }
 
 /// The report of a cycle of nets.
-pub fn cycle_report(alloc: Global, nets: &Names, cycle: &[Above]) -> Result<Bytes, NoMemory>
+pub fn cycle_report(alloc: Global, nets: &Names, cycle: &CycleList) -> Result<Bytes, NoMemory>
     ensures { IfOk result (λ report. report ≡ codes "status 5 cycle\n" ++ cycle_text nets.now cycle.now) }
 {
     let mut report = Bytes::new(alloc);
     report.extend(b"status 5 cycle\n")?;
-    put_cycle(&mut report, nets, cycle)?;
+    report.extend(&cycle_text(alloc, nets, cycle)?)?;
     Ok(report)
 }
 

@@ -1,15 +1,16 @@
 ghost use Rattle.std.specs.Prelude.{◌≡◌, ◌≤◌, IfOk, length};
-ghost use Rattle.bound_log.specs.Fits.{IsLogName};
+ghost use Rattle.bound_log.specs.Fits.{Fits, ForSome, IsLogName};
 ghost use Rattle.cellgen.specs.Plan.{PlansTo, planned_end, unfinished_end};
 
 use crate::end::End;
-use crate::inputs::Inputs;
-use crate::report::{put_plan, put_unfinished};
+use crate::make_report::spent_report;
 use crate::status::Status;
-use bound_log::{Log, write_log};
+use cell_make::Inputs;
 use cell_num::{Bytes, NoMemory};
+use cell_report::plan_text;
+use log_output::{Content, KeptLog, LogText};
 use row_model::Arrangement;
-use row_search::{Stop, search};
+use row_search::{StopKept, search_kept};
 use row_state::Parity;
 use spice_net::Subckt;
 use std::alloc::Global;
@@ -20,21 +21,19 @@ fn planned(alloc: Global, cell: &Subckt, row: &Arrangement) -> Result<End, NoMem
 {
     let mut report = Bytes::new(alloc);
     report.extend(b"status 0 ok\n")?;
-    put_plan(&mut report, &cell.name, &cell.nets, row)?;
+    report.extend(&plan_text(alloc, &cell.name, &cell.nets, row)?)?;
     Ok(End::says(alloc, Status::Done, report))
 }
 
-fn unfinished(alloc: Global, cell: &Subckt, log: &Log, proved: u32) -> Result<End, NoMemory>
+fn unfinished(alloc: Global, cell: &Subckt, log: KeptLog, proved: u32) -> Result<End, NoMemory>
     requires name { IsLogName cell.now.name }
-    requires few { length log.now.lemmas ≤ 1073741824 }
-    ensures { IfOk result (λ end. end ≡ unfinished_end cell.now proved log.now) }
+    requires fits { ForSome (λ k. Fits k log) }
+    ensures { IfOk result (λ end. end ≡ unfinished_end cell.now proved log) }
 {
-    let text = write_log(alloc, &cell.name, log)?;
-    let mut report = Bytes::new(alloc);
-    report.extend(b"status 6 unfinished\n")?;
-    put_unfinished(&mut report, proved, log.lemmas.len() as u64)?;
-    report.extend(&text)?;
-    Ok(End::says(alloc, Status::Unfinished, report))
+    let front = spent_report(alloc, proved, log.count())?;
+    let text = LogText::new(alloc, &cell.name, log)?;
+    let report = Content::with_log(front, text);
+    Ok(End::tells(alloc, Status::Unfinished, report))
 }
 
 /// The first least row of the inputs, or the log of a search that spent its budget.
@@ -42,9 +41,11 @@ pub fn plan(alloc: Global, inputs: &Inputs) -> Result<End, NoMemory>
     ensures { IfOk result (PlansTo inputs.now) }
 {
     inputs.show_limits();
-    match search(alloc, &inputs.fingers, &Parity, inputs.budget()) {
+    match search_kept(alloc, &inputs.fingers, &Parity, inputs.budget()) {
         Ok(found) => planned(alloc, &inputs.cell, &found.row),
-        Err(Stop::Unfinished { log, proved }) => unfinished(alloc, &inputs.cell, &log, proved),
-        Err(Stop::NoMemory) => Err(NoMemory),
+        Err(StopKept::Unfinished { kept, proved }) => {
+            unfinished(alloc, &inputs.cell, KeptLog::without_row(kept), proved)
+        }
+        Err(StopKept::NoMemory) => Err(NoMemory),
     }
 }

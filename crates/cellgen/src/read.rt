@@ -1,10 +1,10 @@
-ghost use Rattle.std.specs.Prelude.{◌≡◌, ◌≤◌, length};
+ghost use Rattle.std.specs.Prelude.{◌≡◌, ◌≤◌, ℕ, List as Sequence, Err, IfErr, Ok, OnOk, length};
 ghost use Rattle.cell_io.specs.Desk.{OnlyReads};
 ghost use Rattle.cellgen.specs.Read.{named, IsRead};
 ghost use Rattle.cellgen.specs.Sources.{file_name, most_bytes};
 
 use crate::refusal::Refusal;
-use cell_io::{Desk, ReadFault, read_all};
+use cell_io::{Desk, ReadFault, Sink, read_into};
 use cell_num::copy;
 use std::alloc::Global;
 use std::marker::Model;
@@ -62,6 +62,33 @@ fn most_bytes(source: Source<'_>) -> u64
     }
 }
 
+/// Gives the sink all bytes of a file that is there and within its limit.
+pub fn read_to<D: Desk, S: Sink>(
+    alloc: Global,
+    desk: &mut D,
+    source: Source<'_>,
+    sink: &mut S,
+) -> Result<(), Refusal>
+    requires { (count : ℕ) → count ≤ most_bytes (named source) → S.may sink.old count }
+    ensures bytes { OnOk result ((bytes : Sequence ℕ) × S.took sink.old bytes sink.new
+        × (length bytes ≤ most_bytes (named source.entry))
+        × IsRead (D.view desk.old) (D.view desk.new) (named source.entry) (Ok bytes)) }
+    ensures refused { IfErr result (λ e. IsRead (D.view desk.old) (D.view desk.new) (named source.entry) (Err e)) }
+    ensures only { OnlyReads (D.view desk.old) (D.view desk.new) }
+{
+    let name = file_name(source);
+    match read_into(alloc, desk, name, most_bytes(source), sink) {
+        Ok(()) => Ok(()),
+        Err(ReadFault::Missing | ReadFault::Failed) => Err(Refusal::Unread {
+            name: copy(alloc, name.as_bytes())?,
+        }),
+        Err(ReadFault::TooLong) => Err(Refusal::Long {
+            name: copy(alloc, name.as_bytes())?,
+        }),
+        Err(ReadFault::NoMemory) => Err(Refusal::NoMemory),
+    }
+}
+
 /// The bytes of a file that is there and within its limit.
 pub fn read_file<D: Desk>(
     alloc: Global,
@@ -71,15 +98,7 @@ pub fn read_file<D: Desk>(
     ensures reads { IsRead (D.view desk.old) (D.view desk.new) (named source.entry) result }
     ensures only { OnlyReads (D.view desk.old) (D.view desk.new) }
 {
-    let name = file_name(source);
-    match read_all(alloc, desk, name, most_bytes(source)) {
-        Ok(bytes) => Ok(FileBytes { bytes }),
-        Err(ReadFault::Missing | ReadFault::Failed) => Err(Refusal::Unread {
-            name: copy(alloc, name.as_bytes())?,
-        }),
-        Err(ReadFault::TooLong) => Err(Refusal::Long {
-            name: copy(alloc, name.as_bytes())?,
-        }),
-        Err(ReadFault::NoMemory) => Err(Refusal::NoMemory),
-    }
+    let mut bytes = Vec::new(alloc);
+    read_to(alloc, desk, source, &mut bytes)?;
+    Ok(FileBytes { bytes })
 }

@@ -2,6 +2,7 @@ ghost use Rattle.std.specs.Prelude.{◌≡◌, ◌≤◌, ◌↔◌, ◌⊎◌, 
 ghost use Rattle.cell_io.specs.Desk.{OnlyReads, Rose};
 ghost use Rattle.cellgen.specs.declared.end.End.{End as EndOf};
 ghost use Rattle.cellgen.specs.declared.status.Status.TheVariants as status;
+ghost use Rattle.cellgen.specs.Bench.{IsBench, IsBenchTold, WhereBenchEnds};
 ghost use Rattle.cellgen.specs.Calm.{IfCalm, IsDoneOrShort};
 ghost use Rattle.cellgen.specs.Check.{HoldsAcceptedLog, IsCheck};
 ghost use Rattle.cellgen.specs.Deliver.{Tells, TellsWhole};
@@ -53,6 +54,7 @@ fn prepare<D: Desk>(alloc: Global, words: &[String], desk: &mut D) -> End
 /// draws that row: it makes the log `OUT.clog`, the GDSII library `OUT.gds` and then the abstract `OUT.lef`.
 /// `check TECH SPICE CELL LOG` tells whether the file LOG is the text of a log that certifies a row of that cell.
 /// `extract TECH GDS CELL` tells the netlist of a cell of the GDSII file GDS, or the rules that it breaks.
+/// `bench NUMBER` makes so many generated cells in memory, 1 to 200, and tells what came out.
 ///
 /// All memory that is not the desk's own is taken before the first file is made.
 pub fn run<D: Desk>(alloc: Global, words: &[String], desk: &mut D) -> Status
@@ -144,7 +146,14 @@ pub fn run<D: Desk>(alloc: Global, words: &[String], desk: &mut D) -> Status
         OfGdsCell files (asked words.now) BreaksRule → IsOrShort status.Rejected result) }
     ensures refuses { IfCalm (D.view desk.old) (D.view desk.new) (λ files.
         OfGdsCell files (asked words.now) HasLayoutFault → IsOrShort status.Layout result) }
+
+    // What `bench` tells: the counts of what making each generated cell comes to. It is done, or writing failed, or
+    // memory ran out.
+    ensures benched { WhereBenchEnds (asked words.now) result
+        (λ number. IsBenchTold number (D.view desk.old) (D.view desk.new)) }
+    ensures benches { IsBench (asked words.now)
+        → Rose (D.view desk.old).write_faults (D.view desk.new).write_faults ⊎ IsDoneOrShort result }
 {
     let end = prepare(alloc, words, desk);
-    deliver(desk, &end)
+    deliver(desk, end)
 }

@@ -1,4 +1,7 @@
 mod cells;
+mod desks;
+mod extract;
+mod logs;
 mod make;
 
 use crate::deliver::deliver;
@@ -7,6 +10,7 @@ use crate::run::run;
 use crate::status::Status;
 use cell_io::{CallList, File, FileList, MemDesk};
 use cell_num::{List, Name};
+use log_output::Content;
 use std::alloc::Global;
 use std::test::Fail;
 
@@ -25,6 +29,18 @@ plan TECH SPICE CELL
 make TECH SPICE CELL OUT
 check TECH SPICE CELL LOG
 extract TECH GDS CELL
+bench NUMBER
+";
+
+const BENCH: &str = "status 0 ok
+bench 1
+made 1
+cycle 0
+unfinished 0
+columns 3
+gaps 0
+fingers 6
+bytes 3962
 ";
 
 fn name_of(alloc: Global, text: &str) -> Result<Name, Fail> {
@@ -108,6 +124,12 @@ fn says_what_the_words_ask_for(rt: HostRuntime) -> Result<(), Fail> {
         ("plan - c.sp inv l.clog", Status::Usage, USAGE),
         ("check - c.sp inv", Status::Usage, USAGE),
         ("plan - c.sp a-b", Status::Usage, USAGE),
+        ("bench", Status::Usage, USAGE),
+        ("bench 0", Status::Usage, USAGE),
+        ("bench 201", Status::Usage, USAGE),
+        ("bench 01", Status::Usage, USAGE),
+        ("bench +1", Status::Usage, USAGE),
+        ("bench 1", Status::Done, BENCH),
     ] {
         let (got, desk) = run_over(rt.alloc(), words, ["", INVERTER, ""], &[])?;
         assert_eq!(rt; desk.all_said(), said.as_bytes());
@@ -132,42 +154,6 @@ const HEAD: &str = "cellgen-log 1\ncell x3\n";
 const LEMMA: &str = "lemma 1 P 1,1,1 1,1,1 - -\n";
 
 const LISTED: &str = "gaps 1\ncolumn 0 0 0 0 0\ncolumn 1 1 0 1 0\ncolumn 2 2 1 2 1\nend\n";
-
-// Each call of the desk fails in turn. A file is read by two calls, its bytes and its end, and the files are
-// opened in the order of the words.
-#[test]
-fn ends_by_failed_calls(rt: HostRuntime) -> Result<(), Fail> {
-    let log = format!(in rt.alloc(); "{HEAD}{LEMMA}{LISTED}")?;
-    let files = ["budget = 9\n", INVERTERS, log.as_str()];
-    for (words, opened) in [
-        (
-            "plan t.toml c.sp x3",
-            ["t.toml", "t.toml", "c.sp", "c.sp"].as_slice(),
-        ),
-        (
-            "check t.toml c.sp X3 l.clog",
-            ["t.toml", "t.toml", "c.sp", "c.sp", "l.clog", "l.clog"].as_slice(),
-        ),
-    ] {
-        for (call, name) in opened.iter().enumerate() {
-            let said = format!(in rt.alloc(); "status 2 read {name}\n")?;
-            let (got, desk) = run_over(rt.alloc(), words, files, &[call as u64])?;
-            assert_eq!(rt; desk.all_said(), said.as_bytes(), "call {call}");
-            assert_eq!(rt; got, Status::ReadFault, "call {call}");
-        }
-        let calls = opened.len() as u64;
-        let (got, desk) = run_over(rt.alloc(), words, files, &[calls])?;
-        assert!(rt; desk.all_said().is_empty());
-        assert_eq!(rt; got, Status::WriteFault);
-        let (got, desk) = run_over(rt.alloc(), words, files, &[calls + 1])?;
-        assert!(rt;
-            desk.all_said()
-                .starts_with(b"status 0 ok\ncell x3\ncolumns 3\ngaps 1\nwidth 4\n")
-        );
-        assert_eq!(rt; got, Status::Done);
-    }
-    Ok(())
-}
 
 #[test]
 fn refuses_long_files(rt: HostRuntime) -> Result<(), Fail> {
@@ -202,21 +188,24 @@ fn refuses_long_files(rt: HostRuntime) -> Result<(), Fail> {
     Ok(())
 }
 
+fn end_with_files(alloc: Global) -> Result<End, Fail> {
+    let mut files = OutputList::new(alloc);
+    for (name, text) in [("x.clog", "log"), ("x.gds", "shapes")] {
+        let name = String::from_str(alloc, name)?;
+        let bytes = Content::of_bytes(name_of(alloc, text)?);
+        files.push(Output { name, bytes })?;
+    }
+    Ok(End {
+        status: Status::Unfinished,
+        files,
+        report: Content::of_bytes(name_of(alloc, "told")?),
+    })
+}
+
 // A call is a create, an append for each file, and a saying.
 #[test]
 fn delivers_files_in_order(rt: HostRuntime) -> Result<(), Fail> {
     let alloc = rt.alloc();
-    let mut files = OutputList::new(alloc);
-    for (name, text) in [("x.clog", "log"), ("x.gds", "shapes")] {
-        let name = String::from_str(alloc, name)?;
-        let bytes = name_of(alloc, text)?;
-        files.push(Output { name, bytes })?;
-    }
-    let end = End {
-        status: Status::Unfinished,
-        files,
-        report: name_of(alloc, "told")?,
-    };
     for (call, status, log, shapes, said) in [
         (0, Status::WriteFault, None, None, ""),
         (1, Status::WriteFault, Some(""), None, ""),
@@ -228,7 +217,11 @@ fn delivers_files_in_order(rt: HostRuntime) -> Result<(), Fail> {
         let mut calls = CallList::new(alloc);
         calls.push(call)?;
         let mut desk = MemDesk::new(alloc, FileList::new(alloc), calls);
-        assert_eq!(rt; deliver(&mut desk, &end), status, "call {call}");
+        assert_eq!(rt;
+            deliver(&mut desk, end_with_files(alloc)?),
+            status,
+            "call {call}"
+        );
         assert!(rt;
             desk.file("x.clog") == log.map(|text| text.as_bytes()),
             "call {call}"

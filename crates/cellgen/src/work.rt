@@ -1,6 +1,9 @@
 ghost use Rattle.std.specs.Prelude.{IfOk};
 ghost use Rattle.cellgen.specs.Ends.{WorksTo};
+ghost use Rattle.cellgen.specs.Kept.{IsKept};
+ghost use Rattle.cellgen.specs.Material.{Material as MaterialOf};
 
+use crate::bench::bench;
 use crate::check::check;
 use crate::end::End;
 use crate::extract::extract;
@@ -11,13 +14,15 @@ use cell_num::NoMemory;
 use std::alloc::Global;
 
 /// Does the work of a command on what was gathered. It reads, makes and says nothing.
+#[tactic(auto, using(crate::proofs::Keeping::plan_kept, crate::proofs::Keeping::make_kept, crate::proofs::Keeping::check_kept, crate::proofs::Keeping::extract_kept, crate::proofs::Keeping::bench_kept))]
 pub fn work(alloc: Global, material: &Material) -> Result<End, NoMemory>
-    ensures { IfOk result (WorksTo material.now) }
+    ensures { IfOk result (λ end. (wanted : MaterialOf) → IsKept wanted material.now → WorksTo wanted end) }
 {
     match material {
         Material::Planning(inputs) => plan(alloc, inputs),
         Material::Making(inputs, stem) => make(alloc, inputs, stem),
-        Material::Checking(inputs, log) => check(alloc, inputs, log.as_slice()),
+        Material::Checking(inputs, log) => check(alloc, inputs, log),
         Material::Extracting(cell) => extract(alloc, cell),
+        Material::Benching(number) => bench(alloc, number),
     }
 }

@@ -35,6 +35,16 @@ fn plans_the_least_row(rt: HostRuntime) -> Result<(), Fail> {
             ".GLOBAL gnd\n.SUBCKT x a y vdd\nMP y a vdd vdd p W=3u L=0.6u\nMn Y a\n+ GND gnd NMOS w=1.5UM $ width\n+ L = 600N AD=2p\n.ENDS\n",
             "columns 1\ngaps 0\nwidth 1\ncolumn 0 gate a p y vdd 20 n y gnd 10\n",
         ),
+        (
+            "",
+            ".SUBCKT x a y vdd gnd\nMP y a vdd vdd p W=3u L=0.6u m=2\nMN y a gnd gnd n W=1.5u L=0.6u m=2\n.ENDS\n",
+            "columns 2\ngaps 0\nwidth 2\ncolumn 0 gate a p y vdd 20 n y gnd 10\ncolumn 1 gate a p vdd y 20 n gnd y 10\n",
+        ),
+        (
+            "",
+            ".SUBCKT x a y vdd gnd\nMP y a vdd vdd p W=3u L=0.6u nf=3\nMN y a gnd gnd n W=1.5u L=0.6u\n.ENDS\n",
+            "columns 3\ngaps 0\nwidth 3\ncolumn 0 gate a p y vdd 6 n y gnd 10\ncolumn 1 gate a p vdd y 7 n - - 0\ncolumn 2 gate a p y vdd 7 n - - 0\n",
+        ),
     ] {
         let said = format!(in rt.alloc(); "status 0 ok\ncell x\n{said}")?;
         let (got, desk) = run_over(rt.alloc(), "plan t.toml c.sp x", [tech, spice, ""], &[])?;
@@ -91,7 +101,13 @@ fn rejects_logs(rt: HostRuntime) -> Result<(), Fail> {
         (HEAD, LEMMA, two, "Gaps said 2 counted 1"),
         (HEAD, "", LISTED, "NotLeast best 0 said 1"),
         (HEAD, "lemma 1 P 1,1 1,1,1 - -\n", LISTED, "Line line 3"),
+        (HEAD, "lemma 64 P 1,1,1 1,1,1 - -\n", LISTED, "Line line 3"),
+        (HEAD, "lemma 1 P 1,1,2 1,1,1 - -\n", LISTED, "Line line 3"),
+        (HEAD, "lemma 1 P 1,1,1 1,1,0 - -\n", LISTED, "Line line 3"),
+        (HEAD, "", "gaps 0\nend\n\n", "Line line 5"),
+        ("", "", "", "Cut"),
         (HEAD, LEMMA, "open\n", "Cut"),
+        (HEAD, "lemma 2 P 1,1,1 1,1,1 - -\n", "open\n", "Cut"),
         ("cellgen-log 2\ncell x3\n", LEMMA, LISTED, "Version"),
         ("cellgen-log 1\ncell X3\n", LEMMA, LISTED, "Cell"),
     ] {
@@ -141,7 +157,12 @@ fn names_the_fault_of_a_subcircuit(rt: HostRuntime) -> Result<(), Fail> {
         ),
         (
             "a y vdd gnd",
-            "MP y a vdd vdd p W=3u L=0.6u\nMN y a gnd gnd n W=1.5u L=0.6u m=2\n",
+            "*.PININFO a:I y:O\nMP y a vdd vdd p W=3u L=0.6u\nMN y a gnd gnd n W=1.5u L=0.6u nf=3\n",
+            "spice Narrow line 4 units 10\n",
+        ),
+        (
+            "a y vdd gnd",
+            "*.PININFO a:I y:O\nMP y a vdd vdd p W=3u L=0.6u m=1.5\nMN y a gnd gnd n W=1.5u L=0.6u\n",
             "spice Multiple line 3\n",
         ),
         (

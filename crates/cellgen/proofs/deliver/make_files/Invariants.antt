@@ -1,4 +1,5 @@
-use Rattle.std.proofs.Common.{Option, drop}
+use Rattle.std.proofs.Common.{Option, drop, length}
+use Rattle.std.specs.Vec.Iter.{into_iter_items}
 use Rattle.cell_io.specs.Desk.{Files, Both, OnlyMakes}
 use Rattle.cellgen.specs.Deliver.{MakesAll, MakesSome}
 use Rattle.cellgen.proofs.deliver.make_files.Given as goal
@@ -6,6 +7,6 @@ use Rattle.cellgen.proofs.deliver.make_files.Given as goal
 -- all that is left, made from here on, makes all; and so a part of it
 abbrev pub invariant-files : goal.invariant-files
 invariant-files g l =
-    ((last : Option Files) → Both (MakesAll (drop l.file-index l.files)) (g.D.Desk.view l.desk).made last → Both (MakesAll l.fn.files) (g.D.Desk.view l.fn.desk).made last)
-    × ((last : Option Files) → Both (MakesSome (drop l.file-index l.files)) (g.D.Desk.view l.desk).made last → Both (MakesSome l.fn.files) (g.D.Desk.view l.fn.desk).made last)
+    ((last : Option Files) → Both (MakesAll (drop (length l.yielded) l.fn.files)) (g.D.Desk.view l.desk).made last → Both (MakesAll l.fn.files) (g.D.Desk.view l.fn.desk).made last)
+    × ((last : Option Files) → Both (MakesSome (drop (length l.yielded) l.fn.files)) (g.D.Desk.view l.desk).made last → Both (MakesSome l.fn.files) (g.D.Desk.view l.fn.desk).made last)
     × OnlyMakes (g.D.Desk.view l.fn.desk) (g.D.Desk.view l.desk)

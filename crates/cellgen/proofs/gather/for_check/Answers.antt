@@ -1,10 +1,11 @@
 use Rattle.cellgen.specs.Gather.{checking_over, inputs_from}
-use Rattle.cellgen.proofs.Desks.{only_refl, refused, taken}
+use Rattle.cellgen.proofs.Desks.{only_refl}
+use Rattle.cellgen.proofs.Keeping.{keeps_behind, keeps_refusal}
 use Rattle.cellgen.proofs.gather.for_check.Goals as goal
 
 pub returns-in_err-inputs-clause-comes : goal.returns-in_err-inputs-clause-comes
 returns-in_err-inputs-clause-comes g c =
-    refused (g.D.Desk.view c.args.desk.now) (g.D.Desk.view c.read_inputs.new.desk) (g.D.Desk.view c.read_inputs.new.desk)
+    keeps_refusal (g.D.Desk.view c.args.desk.now) (g.D.Desk.view c.read_inputs.new.desk) (g.D.Desk.view c.read_inputs.new.desk)
     (inputs_from c.args.asked.now) (checking_over c.args.log.now) c.read_inputs.result c.in_err-inputs.field-0.0 c.from_residual.result
     (only_refl (g.D.Desk.view c.read_inputs.new.desk))
     c.read_inputs.ensures.comes
@@ -13,7 +14,7 @@ returns-in_err-inputs-clause-comes g c =
 
 pub returns-clause-comes : goal.returns-clause-comes
 returns-clause-comes g c =
-    taken (g.D.Desk.view c.args.desk.now) (g.D.Desk.view c.read_inputs.new.desk) (g.D.Desk.view c.with_log.new.desk)
+    keeps_behind (g.D.Desk.view c.args.desk.now) (g.D.Desk.view c.read_inputs.new.desk) (g.D.Desk.view c.with_log.new.desk)
     (inputs_from c.args.asked.now) (checking_over c.args.log.now) c.read_inputs.result c.in_ok-inputs.inputs c.with_log.result
     c.read_inputs.ensures.only
     c.with_log.ensures.only

@@ -1,14 +1,15 @@
 use Rattle.std.proofs.Common.{Ok, inl, refl}
-use Rattle.cellgen.specs.declared.gather.Material.TheVariants.{Planning}
 use Rattle.cellgen.specs.Gather.{inputs_from}
-use Rattle.cellgen.specs.Inputs.{Inputs}
+use Rattle.cell_make.specs.Inputs.{Inputs}
+use Rattle.cellgen.specs.Material.{Planning}
 use Rattle.cellgen.specs.Reading.{Ends}
-use Rattle.cellgen.proofs.Desks.{only_refl, refused, taken}
+use Rattle.cellgen.proofs.Desks.{only_refl}
+use Rattle.cellgen.proofs.Keeping.{keeps_behind, keeps_refusal}
 use Rattle.cellgen.proofs.gather.for_plan.Goals as goal
 
 pub returns-in_err-inputs-clause-comes : goal.returns-in_err-inputs-clause-comes
 returns-in_err-inputs-clause-comes g c =
-    refused (g.D.Desk.view c.args.desk.now) (g.D.Desk.view c.read_inputs.new.desk) (g.D.Desk.view c.read_inputs.new.desk)
+    keeps_refusal (g.D.Desk.view c.args.desk.now) (g.D.Desk.view c.read_inputs.new.desk) (g.D.Desk.view c.read_inputs.new.desk)
     (inputs_from c.args.asked.now) (λ (inputs : Inputs). Ends (Ok (Planning inputs))) c.read_inputs.result c.in_err-inputs.field-0.0 c.from_residual.result
     (only_refl (g.D.Desk.view c.read_inputs.new.desk))
     c.read_inputs.ensures.comes
@@ -17,10 +18,10 @@ returns-in_err-inputs-clause-comes g c =
 
 pub returns-clause-comes : goal.returns-clause-comes
 returns-clause-comes g c =
-    taken (g.D.Desk.view c.args.desk.now) (g.D.Desk.view c.read_inputs.new.desk) (g.D.Desk.view c.read_inputs.new.desk)
-    (inputs_from c.args.asked.now) (λ (inputs : Inputs). Ends (Ok (Planning inputs))) c.read_inputs.result c.in_ok-inputs.inputs (Ok (Planning c.in_ok-inputs.inputs))
+    keeps_behind (g.D.Desk.view c.args.desk.now) (g.D.Desk.view c.read_inputs.new.desk) (g.D.Desk.view c.read_inputs.new.desk)
+    (inputs_from c.args.asked.now) (λ (inputs : Inputs). Ends (Ok (Planning inputs))) c.read_inputs.result c.in_ok-inputs.inputs (Ok _)
     c.read_inputs.ensures.only
     (only_refl (g.D.Desk.view c.read_inputs.new.desk))
     c.read_inputs.ensures.comes
     c.in_ok-inputs.was
-    (inl refl)
+    (Ok (Planning c.in_ok-inputs.inputs), inl refl, refl)

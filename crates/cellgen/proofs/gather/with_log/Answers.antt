@@ -1,25 +1,21 @@
-use Rattle.std.proofs.Common.{ℕ, List, Ok, inl, refl}
-use Rattle.cellgen.specs.declared.gather.Material.TheVariants.{Checking}
-use Rattle.cellgen.specs.Reading.{bytes_of, Ends}
-use Rattle.cellgen.specs.Sources.{LogFile}
-use Rattle.cellgen.proofs.Desks.{came_bytes, only_refl, refused, taken}
+use Rattle.cellgen.specs.Gather.{checking_over}
+use Rattle.cellgen.proofs.Keeping.{keeps_read, keeps_short, keeps_unread}
+use Rattle.cellgen.proofs.LogReads.{room_begun}
 use Rattle.cellgen.proofs.gather.with_log.Goals as goal
 
-pub returns-in_err-bytes-clause-comes : goal.returns-in_err-bytes-clause-comes
-returns-in_err-bytes-clause-comes g c =
-    refused (g.D.Desk.view c.args.desk.now) (g.D.Desk.view c.read_file.new.desk) (g.D.Desk.view c.read_file.new.desk)
-    (bytes_of (LogFile c.args.log.now)) (λ (bytes : List ℕ). Ends (Ok (Checking c.args.inputs bytes))) c.read_file.result c.in_err-bytes.field-0.0 c.from_residual.result
-    (only_refl (g.D.Desk.view c.read_file.new.desk))
-    (came_bytes (g.D.Desk.view c.args.desk.now) (g.D.Desk.view c.read_file.new.desk) (LogFile c.args.log.now) c.read_file.result c.read_file.ensures.reads)
-    c.in_err-bytes.was
-    c.from_residual.ensures
+pub read_to-requires : goal.read_to-requires
+read_to-requires g c = room_begun c.args.inputs c.in_ok-checked.checked.reader c.in_ok-checked.checked.checker.seen c.in_ok-checked.ensures
+
+pub returns-in_err-checked-clause-comes : goal.returns-in_err-checked-clause-comes
+returns-in_err-checked-clause-comes g c =
+    keeps_short (g.D.Desk.view c.args.desk.now) (g.D.Desk.view c.args.desk.now) (checking_over c.args.log.now c.args.inputs) c.from_residual.result c.from_residual.ensures
+
+pub returns-in_err-read_to-clause-comes : goal.returns-in_err-read_to-clause-comes
+returns-in_err-read_to-clause-comes g c =
+    keeps_unread (g.D.Desk.view c.args.desk.now) (g.D.Desk.view c.read_to.new.desk) c.args.log.now c.args.inputs c.in_err-read_to.field-0.0 c.from_residual-in_err-read_to.result
+    c.in_err-read_to.ensures.refused
+    c.from_residual-in_err-read_to.ensures
 
 pub returns-clause-comes : goal.returns-clause-comes
 returns-clause-comes g c =
-    taken (g.D.Desk.view c.args.desk.now) (g.D.Desk.view c.read_file.new.desk) (g.D.Desk.view c.read_file.new.desk)
-    (bytes_of (LogFile c.args.log.now)) (λ (bytes : List ℕ). Ends (Ok (Checking c.args.inputs bytes))) c.read_file.result c.in_ok-bytes.bytes (Ok (Checking c.args.inputs c.in_ok-bytes.bytes))
-    c.read_file.ensures.only
-    (only_refl (g.D.Desk.view c.read_file.new.desk))
-    (came_bytes (g.D.Desk.view c.args.desk.now) (g.D.Desk.view c.read_file.new.desk) (LogFile c.args.log.now) c.read_file.result c.read_file.ensures.reads)
-    c.in_ok-bytes.was
-    (inl refl)
+    keeps_read (g.D.Desk.view c.args.desk.now) (g.D.Desk.view c.read_to.new.desk) c.args.log.now c.args.inputs c.in_ok-checked.checked c.read_to.new.sink c.in_ok-checked.ensures c.read_to.ensures.only c.in_ok-read_to.ensures.bytes

@@ -1,5 +1,5 @@
 use Rattle.std.proofs.Common.{◌≡◌, ◌++◌, codes, rules}
-use Rattle.cellgen.specs.MakeReport.{cycle_text}
+use Rattle.cell_report.specs.Cycles.{cycle_text}
 use Rattle.cellgen.specs.declared.status.Status.TheVariants as status
 use Rattle.cellgen.proofs.MakeEnds.{end_said}
 use Rattle.cellgen.proofs.make.cyclic.Goals as goal

@@ -6,5 +6,5 @@ use Rattle.cellgen.proofs.make.unfinished.Goals as goal
 
 pub returns : goal.returns
 returns c =
-    let told : c.in_ok-report.report ≡ codes "status 6 unfinished\n" ++ unfinished_text c.args.proved (length c.args.log.now.lemmas) = search rules in
+    let told : c.in_ok-report.report ≡ codes "status 6 unfinished\n" ++ unfinished_text c.args.proved (length c.args.log.lemmas) = search rules in
     end_said status.Unfinished _ c.in_ok-report.report _ c.with_log.result told c.with_log.ensures

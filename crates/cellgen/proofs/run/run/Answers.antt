@@ -1,5 +1,6 @@
 use Rattle.std.proofs.Common.{refl}
 use Rattle.cellgen.specs.Words.{asked}
+use Rattle.cellgen.proofs.BenchTold.{benched_told, benches_told}
 use Rattle.cellgen.proofs.ExtractTold.{breaks_told, broken_told, extracted_told, extracts_told, refused_told, refuses_told}
 use Rattle.cellgen.proofs.MakeTold.{cyclic_told, drawn_told, draws_told, meets_told, needs_told, none_told, spent_told, tall_told, unmade_told}
 use Rattle.cellgen.proofs.Telling.{accepts_told, answers, called_for_told, checked_told, completes_told, made_told, memory_told, planned_told, read_told, status_told, usage_told, write_told}
@@ -87,3 +88,9 @@ returns-clause-breaks g c = breaks_told (g.D.Desk.view c.args.desk.now) (g.D.Des
 
 pub returns-clause-refuses : goal.returns-clause-refuses
 returns-clause-refuses g c = refuses_told (g.D.Desk.view c.args.desk.now) (g.D.Desk.view c.deliver.new.desk) (asked c.args.words.now) c.deliver.result (g.D.Desk.view c.args.desk.now).given (returns-clause-completes g c)
+
+pub returns-clause-benched : goal.returns-clause-benched
+returns-clause-benched g c = benched_told (g.D.Desk.view c.args.desk.now) (g.D.Desk.view c.deliver.new.desk) (asked c.args.words.now) c.deliver.result (returns-clause-ends g c)
+
+pub returns-clause-benches : goal.returns-clause-benches
+returns-clause-benches g c = benches_told (g.D.Desk.view c.args.desk.now) (g.D.Desk.view c.deliver.new.desk) (asked c.args.words.now) c.deliver.result (returns-clause-ends g c)
