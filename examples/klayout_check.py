@@ -3,7 +3,8 @@
     QT_QPA_PLATFORM=offscreen klayout -z -r examples/klayout_check.py -rd spice=lib.sp -rd folder=out [-rd lambda_nm=300]
 
 For each `folder/NAME.gds` the widths of all transistors on the same three nets are summed, in the drawing and in the SPICE
-file, where `*` and `+` lines, `$` comments and scales u, n and m are read. It prints a line a cell and ends with 1 where one differs.
+file, where `*` and `+` lines, `$` comments, `m=` and scales u, n and m are read; and where there is `folder/NAME.lef`, its ports and
+obstructions have to be the metal of the drawing. It prints a line a cell and ends with 1 where one differs.
 """
 import collections
 import os
@@ -35,8 +36,9 @@ def wanted(text, name):
             inside = words[1] == name
         elif inside and words[0].startswith("m"):
             drain, gate, source, kind = words[1], words[2], words[3], words[5][0]
-            width = micron(dict(word.split("=") for word in words[6:])["w"])
-            sums[kind, gate, *sorted((drain, source))] += round(width / UNIT)
+            values = dict(word.split("=", 1) for word in words[6:])
+            copies = round(micron(values.get("m", "1")) / 1e6)
+            sums[kind, gate, *sorted((drain, source))] += copies * round(micron(values["w"]) / UNIT)
     return sums
 
 
@@ -80,11 +82,34 @@ def drawn(path, name):
     return sums
 
 
+def metal(layout, cell, names):
+    """What these layers of the cell cover."""
+    found = pya.Region()
+    for at in layout.layer_indexes():
+        if str(layout.get_info(at)).split(" ")[0] in names:
+            found += pya.Region(layout.cell(cell).begin_shapes_rec(at))
+    return found.merged()
+
+
+def has_same_metal(path, name):
+    """Whether the abstract beside the drawing, where there is one, has its metal."""
+    if not os.path.exists(path[:-3] + "lef"):
+        return True
+    shapes, abstract = pya.Layout(), pya.Layout()
+    shapes.read(path)
+    abstract.read(path[:-3] + "lef")
+    return all(
+        (metal(shapes, name, [f"{number}/0"]) ^ metal(abstract, name, [f"{layer}.PIN", f"{layer}.OBS"])).is_empty()
+        for number, layer in ((49, "metal1"), (51, "metal2"))
+    )
+
+
 text, bad = open(spice, encoding="latin-1").read(), 0
 for file in sorted(os.listdir(folder)):
     if file.endswith(".gds"):
         cell = file[:-4]
-        same = wanted(text, cell) == drawn(os.path.join(folder, file), cell)
+        path = os.path.join(folder, file)
+        same = wanted(text, cell) == drawn(path, cell) and has_same_metal(path, cell)
         bad += not same
         print(f"{cell}: {'the same' if same else 'DIFFERS'}")
 sys.exit(1 if bad else 0)
