@@ -1,5 +1,7 @@
-"""The inputs of the measures: each makes its files in a folder and gives the words of the call."""
+"""The inputs of the measures: each makes its files in a folder and gives the words of its calls."""
+import pathlib
 import random
+import re
 import struct
 import subprocess
 
@@ -59,31 +61,30 @@ def random_cell(name, columns, nets, seed):
 def behind_a_library(folder, program):
     text = [inverters(f"c{i}", 8) for i in range(4600)]
     (folder / "library.sp").write_text("".join(text)[: 4 * 1024 * 1024 - 400] + "\n.ends\n" + inverters("last", 1))
-    return ["plan", "-", "library.sp", "last"]
+    return [["plan", "-", "library.sp", "last"]]
 
 
 def planned(text, name, budget):
     def make(folder, program):
         (folder / f"{name}.sp").write_text(text)
         (folder / f"{name}.toml").write_text(f"budget = {budget}\n")
-        return ["plan", f"{name}.toml", f"{name}.sp", name]
+        return [["plan", f"{name}.toml", f"{name}.sp", name]]
     return make
 
 
 def checked(text, name, budget):
-    """The log of an unfinished search: what `plan` says behind its first three lines."""
+    """The log that `make` writes: of the least row, or of a search that spent its budget."""
     def make(folder, program):
-        words = planned(text, name, budget)(folder, program)
-        said = subprocess.run([program] + words, cwd=folder, capture_output=True, check=False).stdout
-        (folder / f"{name}.clog").write_bytes(said.split(b"\n", 3)[3])
-        return ["check", f"{name}.toml", f"{name}.sp", name, f"{name}.clog"]
+        words = made(text, name, budget)(folder, program)[0]
+        subprocess.run([program] + words, cwd=folder, capture_output=True, check=False)
+        return [["check"] + words[1:4] + [f"{name}.clog"]]
     return make
 
 
 def made(text, name, budget):
     def make(folder, program):
-        words = planned(text, name, budget)(folder, program)
-        return ["make"] + words[1:] + [name]
+        words = planned(text, name, budget)(folder, program)[0]
+        return [["make"] + words[1:] + [name]]
     return make
 
 
@@ -131,7 +132,7 @@ def drawn(places):
 def extracted(elements, others=b""):
     def make(folder, program):
         (folder / "cell.gds").write_bytes(library(others + structure("top", elements)))
-        return ["extract", "-", "cell.gds", "top"]
+        return [["extract", "-", "cell.gds", "top"]]
     return make
 
 
@@ -151,13 +152,25 @@ def boundaries_of(data):
 def side_by_side(text, name, most):
     """As many copies of a made cell as have so many rectangles, far enough apart to obey the rules, without labels."""
     def make(folder, program):
-        subprocess.run([program] + made(text, name, 200000)(folder, program), cwd=folder, capture_output=True, check=True)
+        subprocess.run([program] + made(text, name, 200000)(folder, program)[0], cwd=folder, capture_output=True, check=True)
         shapes = list(boundaries_of((folder / f"{name}.gds").read_bytes()))
         step = max(x2 for _, _, _, x2, _ in shapes) + 40 * UNIT_NM
         copies = range(most // len(shapes))
         return extracted(b"".join(boundary(layer, x1 + i * step, y1, x2 + i * step, y2)
                                   for i in copies for layer, x1, y1, x2, y2 in shapes))(folder, program)
     return make
+
+
+EXAMPLES = pathlib.Path(__file__).resolve().parent.parent / "examples"
+
+
+def all_examples(folder, program):
+    """A call for each subcircuit of the SPICE files in `examples/`."""
+    calls = []
+    for file in sorted(EXAMPLES.glob("*.sp")):
+        for name in re.findall(r"^\.subckt\s+(\S+)", file.read_text(), re.IGNORECASE | re.MULTILINE):
+            calls.append(["make", "-", str(file), name, name.lower()])
+    return calls
 
 
 def large_file(folder, program):
@@ -171,7 +184,12 @@ MEASURES = [
     ("plan: a flip-flop, to 200,000 nodes", planned(FLIP_FLOP, "dff", 200000)),
     ("plan: a flip-flop, to 1,000,000 nodes", planned(FLIP_FLOP, "dff", 1000000)),
     ("plan: a random cell of 12 columns, to 1,000,000 nodes", planned(random_cell("any", 12, 9, 1), "any", 1000000)),
+    ("plan: a random cell of 16 columns, to 1,000,000 nodes", planned(random_cell("any", 16, 12, 1), "any", 1000000)),
     ("check: the log of the flip-flop to 200,000 nodes", checked(FLIP_FLOP, "dff", 200000)),
+    ("check: the log of the flip-flop, 666,799 lemmas", checked(FLIP_FLOP, "dff", 1000000)),
+    ("check: a log of 999,994 lemmas, 80 MB", checked(random_cell("any", 16, 12, 1), "any", 1000000)),
+    ("make: all cells of examples/", all_examples),
+    ("bench: 200 generated cells", lambda folder, program: [["bench", "200"]]),
     ("make: an inverter", made(inverters("inv", 1), "inv", 200000)),
     ("make: a flip-flop, to 1,000,000 nodes", made(FLIP_FLOP, "dff", 1000000)),
     ("extract: an inverter", side_by_side(inverters("inv", 1), "inv", 29)),
