@@ -18,6 +18,10 @@ import time
 
 TOP = pathlib.Path(__file__).resolve().parent.parent
 PROGRAM = str(pathlib.Path(sys.argv[1] if len(sys.argv) > 1 else TOP / "crates/cellgen/out/cellgen").resolve())
+sys.dont_write_bytecode = True
+sys.path.insert(0, str(TOP / "benchmarks"))
+import inputs  # noqa: E402 (the benchmarks' cells)
+
 INVERTER = str(TOP / "examples/inv.sp")
 MAKE = ["make", "-", INVERTER, "inv", "out"]
 
@@ -35,16 +39,6 @@ def run(words, folder, limits=(), nobody=False, **more):
 
 def files(folder):
     return {file.name: file.read_bytes() for file in pathlib.Path(folder).iterdir() if file.name.startswith("out.")}
-
-
-def wide(columns):
-    """A row of so many columns: the deepest search."""
-    nets = [f"n{i}" for i in range(columns // 2 + 1)]
-    lines = [f".subckt wide {nets[0]} {nets[-1]} vdd gnd"]
-    for i in range(columns // 2):
-        lines.append(f"mp{i} {nets[i + 1]} {nets[i]} vdd vdd pmos w=12u l=0.6u")
-        lines.append(f"mn{i} {nets[i + 1]} {nets[i]} gnd gnd nmos w=12u l=0.6u")
-    return "\n".join(lines + [".ends", ""])
 
 
 def full_output(folder):
@@ -175,7 +169,7 @@ def each_allocation(folder):
 
 def small_stack(folder):
     """The deepest search in 256 KiB of stack."""
-    (pathlib.Path(folder) / "wide.sp").write_text(wide(32))
+    (pathlib.Path(folder) / "wide.sp").write_text(inputs.wide("wide", 32))
     ended = run(["plan", "-", "wide.sp", "wide"], folder, limits=[(resource.RLIMIT_STACK, 256 << 10)])
     return ended.returncode == 0 and b"columns 32" in ended.stdout
 
