@@ -1,5 +1,5 @@
 -- Each valid state has a number of its own, below the number of states there may be.
-use Rattle.std.proofs.Common.{ℕ, zero, suc, ◌≡◌, ◌+◌, ◌*◌, ◌^◌, ◌<◌, ◌≤◌, List, [], ◌∷◌, length, replicate, drop, get_or, refl, sym, ap, subst, arith, ◌∙◌, Option, Some, None, slice_get, slice_index, IfSome, mul-le-mul}
+use Rattle.std.proofs.Common.{ℕ, zero, suc, ◌≡◌, ◌+◌, ◌*◌, ◌^◌, ◌<◌, ◌≤◌, List, [], ◌∷◌, length, replicate, drop, get_or, refl, sym, ap, subst, arith, ◌∙◌, Option, Some, None, mul-le-mul}
 use Rattle.std.proofs.Math.Nat.{mul-le-mul_right, mul_assoc, mul_comm, pow-le-pow_right, two-pow-succ}
 use Rattle.std.proofs.lemmas.List.{length-append, length-replicate}
 use Rattle.std.proofs.lemmas.Nat.{mul-add-lt, pow-add, same_from_place}

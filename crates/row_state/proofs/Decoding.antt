@@ -1,12 +1,10 @@
 -- What a number of a state says of its parts.
-use Rattle.std.proofs.Common.{ℕ, zero, suc, ◌≡◌, ◌+◌, ◌*◌, ◌/◌, ◌%◌, ◌<◌, ◌≤◌, List, [], ◌∷◌, ◌++◌, length, take, drop, set, get_or, refl, sym, ap, subst, arith, ◌∙◌}
-use Rattle.std.proofs.Math.Nat.{div-le_self, mod-lt}
-use Rattle.std.proofs.lemmas.List.{append_assoc, append-nil, drop-set, take-append-drop, take_more_set}
+use Rattle.std.proofs.Common.{ℕ, zero, suc, ◌≡◌, ◌+◌, ◌/◌, ◌%◌, ◌<◌, List, [], ◌∷◌, ◌++◌, length, take, drop, set, get_or, refl, sym, ap, subst, arith, ◌∙◌}
+use Rattle.std.proofs.lemmas.List.{append_assoc, take_more_set}
 use Rattle.row_state.specs.declared.kind.Kind.{Kind}
 use Rattle.row_state.specs.declared.kind.Kinds.{Kinds}
-use Rattle.row_state.specs.declared.state.State.{State}
-use Rattle.row_state.specs.Code.{IsCode, count_lists, counts_of_code, rows_of_code, state_code, state_of}
-use Rattle.row_state.specs.Decoded.{decoded, rows_code, rows_found}
+use Rattle.row_state.specs.Code.{IsCode, counts_of_code, rows_of_code, state_code, state_of}
+use Rattle.row_state.specs.Decoded.{decoded, rows_found}
 use Rattle.row_state.specs.Start.{AreSomeKinds, IsState}
 use Rattle.row_state.proofs.Codes.{rows_few}
 

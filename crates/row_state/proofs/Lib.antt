@@ -1,6 +1,8 @@
+pub mod ComponentCode
 pub mod ParityCode
 pub mod StateAfter
 pub mod Fewest
+pub mod Gates
 pub mod Calls
 pub mod Digits
 pub mod Codes

@@ -104,10 +104,10 @@ pub empty_few : (row : Row) (k : Kinds) (s : State) (gate : ℕ) → AreSomeKind
 empty_few P k s gate some valid = omega (arith, (few_n k s gate some valid).1)
 empty_few N k s gate some valid = omega (arith, (few_p k s gate some valid).1)
 
-odd_net : (row : Row) (kinds : List Kind) (left : List ℕ) (u : ℕ) → is_odd_net kinds left u ≡ is_odd (fingers_left row kinds left) u
+pub odd_net : (row : Row) (kinds : List Kind) (left : List ℕ) (u : ℕ) → is_odd_net kinds left u ≡ is_odd (fingers_left row kinds left) u
 odd_net row kinds left u = parity_mod _ ∙ sym (odd_code row kinds left u)
 
-empty_is : (r q : Row) (xs ys : List Kind) (us vs : List ℕ) (nets : ℕ) → sum_below (λ g. gate_left ys vs g - gate_left xs us g) nets ≡ empty_left (fingers_left r xs us) (fingers_left q ys vs) nets
+pub empty_is : (r q : Row) (xs ys : List Kind) (us vs : List ℕ) (nets : ℕ) → sum_below (λ g. gate_left ys vs g - gate_left xs us g) nets ≡ empty_left (fingers_left r xs us) (fingers_left q ys vs) nets
 empty_is r q xs ys us vs nets = sum_below_same (λ g. gate_left ys vs g - gate_left xs us g) (λ g. on_gate g (fingers_left q ys vs) - on_gate g (fingers_left r xs us)) nets (λ g. rw (gate_code q ys vs g, gate_code r xs us g) refl)
 
 row_code : (r q : Row) (end : Option NetNo) (xs ys : List Kind) (us vs : List ℕ) (nets : ℕ) → halved end (size nets (is_odd_behind end xs us)) - sum_below (λ g. gate_left ys vs g - gate_left xs us g) nets ≡ parity_of nets end (fingers_left r xs us) (fingers_left q ys vs)

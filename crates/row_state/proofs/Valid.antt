@@ -1,6 +1,6 @@
 -- Fingers left on a gate, and which states are valid.
 use Rattle.std.specs.Prelude.{ℕ, zero, suc, ◌≡◌, ◌↔◌, ◌+◌, ◌<◌, ◌≤◌, true, ◌&&◌, ◌||◌, ◌==◌, ltb, leb, max, List, [], ◌∷◌, length, replicate, drop, get_or, Option, Some, None, All, IfSome, IsTrue, slice_get, slice_index}
-use Rattle.std.proofs.Common.{refl, ap, subst, arith, ◌∙◌, inl, inr}
+use Rattle.std.proofs.Common.{refl, subst, arith, ◌∙◌, inl, inr}
 use Rattle.std.specs.Bool.{Decides}
 use Rattle.std.specs.List.{list_all, list_any, zip}
 use Rattle.std.proofs.lemmas.Bool.{and_from, and_parts, cases_Bool, cases_lt, eq-eqb, eqb-true, le-leb, leb-true, lt-ltb, ltb-true, or_cases, or_left, or_right}
@@ -217,9 +217,6 @@ leads_from k s (suc n) h = and_from _ _ ((lead_decides k s n).1 (h n)) (leads_fr
 
 pub lead_is : (k : Kinds) (s : State) (on : OnGate) → IsOnGate k s on → ((ltb on.p.all on.n.all || leb on.n.left on.p.left) && (ltb on.n.all on.p.all || leb on.p.left on.n.left)) ≡ keeps_lead k s on.gate
 lead_is k s on h = rw (h.p.all, h.n.all, h.p.left, h.n.left) refl
-
-pub leads_more : (k : Kinds) (s : State) (n : ℕ) → leads_below k s (n + 1) ≡ (keeps_lead k s n && leads_below k s n)
-leads_more k s n = let e : n + 1 ≡ suc n = omega arith in ap (leads_below k s) e
 
 lead_beyond : (k : Kinds) (s : State) (gate : ℕ) → AreSomeKinds k → k.nets ≤ gate → KeepsLead k s gate
 lead_beyond k s gate some l =

@@ -1,7 +1,7 @@
 -- The columns that some state allows as its next one, and what each of them changes in the number of a state.
 use Rattle.std.specs.Prelude.{ℕ, zero, suc, Bool, ◌&&◌, ◌≡◌, ◌+◌, ◌-◌, ◌*◌, ◌<◌, List, [], ◌∷◌, Option, Some, None, All, length, map, take, slice_set, slice_index}
 use Rattle.std.specs.Option.{option_map}
-use Rattle.std.proofs.Common.{refl, sym, ap, arith, ◌∙◌}
+use Rattle.std.proofs.Common.{ap, arith, ◌∙◌}
 use Rattle.std.proofs.Math.Nat.{mul_assoc, mul_comm, add-mul}
 use Rattle.cell_num.specs.declared.finger.Row.TheVariants.{P, N}
 use Rattle.row_model.specs.Gaps.{right_net}

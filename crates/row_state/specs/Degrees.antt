@@ -42,13 +42,13 @@ placed_parity : (x : Finger) (flipped : Bool) (u n : ℕ) (c : Bool) → c ≡ p
 placed_parity x true u n c e = both_ways (u == x.hi.0) (u == x.lo.0) c ∙ ap (λ z. cond (u == x.lo.0) (not (cond (u == x.hi.0) (not z) z)) (cond (u == x.hi.0) (not z) z)) e ∙ step_parity (u == x.lo.0) (u == x.hi.0) n
 placed_parity x false u n c e = ap (λ z. cond (u == x.lo.0) (not (cond (u == x.hi.0) (not z) z)) (cond (u == x.hi.0) (not z) z)) e ∙ step_parity (u == x.lo.0) (u == x.hi.0) n
 
-pub fingers_of : List (Option Placed) → List Finger
+unfoldable pub fingers_of : List (Option Placed) → List Finger
 fingers_of [] = []
 fingers_of (None ∷ xs) = fingers_of xs
 fingers_of (Some x ∷ xs) = x.finger ∷ fingers_of xs
 
 -- the nets that a row meets an odd number of times are those of odd degree
-odd_degree : (xs : List (Option Placed)) (u : ℕ) → odd xs u ≡ parity (degree u (fingers_of xs))
+pub odd_degree : (xs : List (Option Placed)) (u : ℕ) → odd xs u ≡ parity (degree u (fingers_of xs))
 unfolding fingers_of
 odd_degree [] u = refl
 odd_degree (None ∷ xs) u = odd_degree xs u

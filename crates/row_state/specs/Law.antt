@@ -26,14 +26,14 @@ low_row nets None xs mine other cost same empty low =
     let size_is : size nets (odd xs) ≡ size nets (is_odd mine) = size_same nets (odd xs) (is_odd mine) (λ u l. same u) in
     omega (arith, b.free, size_is, empty, low)
 
-gates_left : (row : Row) (kinds : List Kind) (left : List ℕ) (nets : ℕ) → All (IsKind nets) kinds → All (λ (f : Finger). f.gate.0 < nets) (fingers_left row kinds left)
+pub gates_left : (row : Row) (kinds : List Kind) (left : List ℕ) (nets : ℕ) → All (IsKind nets) kinds → All (λ (f : Finger). f.gate.0 < nets) (fingers_left row kinds left)
 gates_left row [] left nets h = All-nil (λ (f : Finger). f.gate.0 < nets)
 gates_left row (k ∷ ks) [] nets h = All-nil (λ (f : Finger). f.gate.0 < nets)
 gates_left row (k ∷ ks) (c ∷ cs) nets h =
     let here : IsKind nets k = All-head (IsKind nets) k ks h in
     All-append (λ (f : Finger). f.gate.0 < nets) (replicate c (finger_of row k)) (fingers_left row ks cs) (All-replicate (λ (f : Finger). f.gate.0 < nets) c (finger_of row k) here.gate) (gates_left row ks cs nets (All-tail (IsKind nets) k ks h))
 
-most_turned : (xs ys : List Finger) (nets : ℕ) → most xs ys nets ≡ most ys xs nets
+pub most_turned : (xs ys : List Finger) (nets : ℕ) → most xs ys nets ≡ most ys xs nets
 most_turned xs ys nets = sum_below_same _ _ nets (λ g. omega arith)
 
 -- no completion has fewer further gaps

@@ -1,10 +1,18 @@
 pub mod Candidates
+pub mod Chained
+pub mod ClassBounds
+pub mod ClassSizes
+pub mod ClassSums
+pub mod Classes
 pub mod Code
 pub mod Completion
+pub mod Component
+pub mod ComponentLaw
 pub mod Decoded
 pub mod Degrees
 pub mod Gates
 pub mod Law
+pub mod LogBounds
 pub mod Order
 pub mod Parity
 pub mod Runs
@@ -12,3 +20,4 @@ pub mod Start
 pub mod Steps
 pub mod Tests
 pub mod Trails
+pub mod Versions

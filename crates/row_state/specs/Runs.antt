@@ -2,6 +2,7 @@
 use Rattle.std.specs.Prelude.{ℕ, ◌≡◌, ◌+◌, ◌≤◌, ◌<◌, List, length, get_or}
 use Rattle.row_state.specs.declared.kind.Kind.{Kind}
 use Rattle.row_state.specs.declared.kind.Kinds.{Kinds}
+use Rattle.row_state.specs.declared.gate.Cursor.{Cursor}
 use Rattle.row_state.specs.declared.gate.OnGate.{OnGate}
 use Rattle.row_state.specs.declared.gate.Run.{Run}
 use Rattle.row_state.specs.declared.state.State.{State}
@@ -25,3 +26,21 @@ pub record IsRun (kinds : List Kind) (counts : List ℕ) (gate : ℕ) (run : Run
 pub record IsOnGate (k : Kinds) (s : State) (on : OnGate) : Type 0 where
   pub p : IsRun k.p s.p_left on.gate on.p
   pub n : IsRun k.n s.n_left on.gate on.n
+
+-- the kinds of the gates from this one on begin here
+pub record IsCursor (k : Kinds) (cursor : Cursor) : Type 0 where
+  pub p : GatesFrom k.p cursor.gate cursor.p
+  pub n : GatesFrom k.n cursor.gate cursor.n
+  pub gate : cursor.gate ≤ k.nets
+
+-- the least gate of the kinds that follow
+pub record IsNext (k : Kinds) (cursor : Cursor) (gate : ℕ) : Type 0 where
+  pub p : GatesFrom k.p gate cursor.p
+  pub n : GatesFrom k.n gate cursor.n
+  pub from : cursor.gate ≤ gate
+  pub below : gate < k.nets
+
+-- no kind follows
+pub record IsLast (k : Kinds) (cursor : Cursor) : Type 0 where
+  pub p : GatesFrom k.p k.nets cursor.p
+  pub n : GatesFrom k.n k.nets cursor.n

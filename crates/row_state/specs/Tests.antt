@@ -1,5 +1,5 @@
 -- Counts, tests and lists that compute the facts of kinds, states and next columns.
-use Rattle.std.specs.Prelude.{ℕ, zero, suc, ◌≡◌, ◌+◌, ◌-◌, ◌/◌, ◌%◌, Bool, true, false, not, cond, ◌&&◌, ◌||◌, ◌==◌, ltb, leb, max, if◌then◌else◌, List, [], ◌∷◌, ◌++◌, Option, Some, None, length, map, sum_by, count_by, slice_get, slice_index}
+use Rattle.std.specs.Prelude.{ℕ, zero, suc, ◌≡◌, ◌+◌, ◌-◌, ◌/◌, ◌%◌, Bool, true, false, not, cond, ◌&&◌, ◌||◌, ◌==◌, ltb, leb, max, min, if◌then◌else◌, List, [], ◌∷◌, ◌++◌, Option, Some, None, length, map, sum_by, count_by, slice_get, slice_index, slice_index_or}
 use Rattle.std.specs.List.{zip, list_all, flat_map}
 use Rattle.std.specs.declared.cmp.Ordering.{Ordering}
 use Rattle.std.specs.Ordering.{nat_cmp, ordering_then}
@@ -16,6 +16,13 @@ use Rattle.row_state.specs.declared.step.Side.{Side}
 use Rattle.row_state.specs.declared.step.Step.{Step}
 use Rattle.row_state.specs.Start.{counts_of}
 use Rattle.row_state.specs.Trails.{end_of, size, toggle}
+
+-- what a table has at a place
+abbrev pub entry : List ℕ → ℕ → ℕ
+entry table at = slice_index_or table at 0
+
+abbrev pub flag : List Bool → ℕ → Bool
+flag table at = slice_index_or table at false
 
 -- the finger as a kind of its own
 abbrev pub single : Finger → Kind
@@ -112,6 +119,13 @@ columns_on k s gate = columns_from (sides_on k.p s.p_left gate) (sides_on k.n s.
 
 abbrev pub next_columns : Kinds → State → List Step
 next_columns k s = joined_below (columns_on k s) k.nets
+
+-- the lower gate of two kinds
+abbrev pub lower_gate : Option Kind → Option Kind → Option ℕ
+lower_gate (Some a) (Some b) = Some (min a.gate.0 b.gate.0)
+lower_gate (Some a) None = Some a.gate.0
+lower_gate None (Some b) = Some b.gate.0
+lower_gate None None = None
 
 -- the larger number of fingers that a row has on the gate
 abbrev pub columns_test : Kinds → ℕ → ℕ

@@ -56,10 +56,10 @@ size_same (suc n) f g same =
     let here : f n ≡ g n = same n (omega arith) in
     rw (before, here) refl
 
-toggle_other : (v : ℕ) (f : ℕ → Bool) (u : ℕ) → (u ≡ v → ⊥) → toggle v f u ≡ f u
+pub toggle_other : (v : ℕ) (f : ℕ → Bool) (u : ℕ) → (u ≡ v → ⊥) → toggle v f u ≡ f u
 toggle_other v f u other = rw (ne_eqb u v other) refl
 
-toggle_twice : (v : ℕ) (f : ℕ → Bool) (u : ℕ) → toggle v (toggle v f) u ≡ f u
+pub toggle_twice : (v : ℕ) (f : ℕ → Bool) (u : ℕ) → toggle v (toggle v f) u ≡ f u
 toggle_twice v f u =
     elim (cases_eq u v) [
       | inl same ↦ rw (eq-eqb u v same) (twice (f u))
@@ -71,7 +71,7 @@ toggle_twice v f u =
     twice false = refl
 
 -- one net more or less changes the size by one at most
-size_toggle : (n v : ℕ) (f : ℕ → Bool) → size n (toggle v f) ≤ size n f + 1
+pub size_toggle : (n v : ℕ) (f : ℕ → Bool) → size n (toggle v f) ≤ size n f + 1
 size_toggle zero v f = omega arith
 size_toggle (suc n) v f =
     elim (cases_eq n v) [
@@ -89,7 +89,7 @@ pub record Bounds (n : ℕ) (xs : List (Option Placed)) : Type 0 where
   pub after : (v : NetNo) → size n (toggle v.0 (odd xs)) ≤ 2 * (row_cost (Some v) xs + empties xs) + 1
   pub free : size n (odd xs) ≤ 2 * (row_cost None xs + empties xs) + 2
 
-size_none : (n : ℕ) → size n (λ u. false) ≡ 0
+pub size_none : (n : ℕ) → size n (λ u. false) ≡ 0
 size_none zero = refl
 size_none (suc n) = omega (arith, size_none n)
 

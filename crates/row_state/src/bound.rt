@@ -1,23 +1,43 @@
-ghost use Rattle.std.specs.Prelude.{◌≡◌, ◌≤◌, ℕ};
+ghost use Rattle.std.specs.Prelude.{◌≡◌, ℕ};
 ghost use Rattle.cell_num.specs.declared.finger.Row.{Row};
 ghost use Rattle.row_state.specs.declared.kind.Kinds.{Kinds};
 ghost use Rattle.row_state.specs.declared.state.State.{State};
 ghost use Rattle.row_state.specs.Completion.{Need};
 ghost use Rattle.row_state.specs.Start.{IsState, AreSomeKinds};
+ghost use Rattle.row_state.specs.Versions.{IsVersion, value_of};
 
 use crate::{Kinds, State};
 use cell_num::Row;
+
+/// The version of a log whose lemmas rest on the parity bound.
+pub const PARITY_LOG: u32 = 1;
+
+/// The version of a log whose lemmas rest on the component bound.
+pub const COMPONENT_LOG: u32 = 2;
 
 /// A bound on the gaps that every completion of a state still has.
 pub trait RowBound {
     /// The number that the bound answers.
     ghost value: { Self → Row → State → Kinds → ℕ };
 
+    /// The version of a log whose lemmas rest on the bound.
+    ghost version_of: { Self → ℕ };
+
     fn bound(&self, row: Row, state: &State, kinds: &Kinds) -> u32
         requires kinds { AreSomeKinds kinds.now }
         requires state { IsState kinds.now state.now }
         ensures { result ≡ value self.now row state.now kinds.now };
 
+    /// The version of a log whose lemmas rest on the bound.
+    fn version(&self) -> u32
+        ensures { result ≡ version_of self.now };
+
     /// Every completion has at least so many further gaps.
     ghost holds: { (b : Self) (row : Row) (s : State) (k : Kinds) → AreSomeKinds k → IsState k s → Need k s (value b row s k) };
+
+    /// Logs have such versions.
+    ghost known: { (b : Self) → IsVersion (version_of b) };
+
+    /// All bounds of a version answer alike.
+    ghost rests: { (b : Self) (row : Row) (s : State) (k : Kinds) → value b row s k ≡ value_of (version_of b) row s k };
 }

@@ -1,11 +1,13 @@
-ghost use Rattle.std.specs.Prelude.{◌≡◌, ◌≤◌, ◌+◌, AllPairs, IsTrue, length};
+ghost use Rattle.std.specs.Prelude.{◌≡◌, ◌≤◌, ◌+◌, AllPairs, IfSome, IsNone, IsTrue, length, slice_get};
+ghost use Rattle.row_state.specs.declared.kind.Kinds.{Kinds as KindsOf};
+ghost use Rattle.row_state.specs.declared.state.State.{State as StateOf};
 ghost use Rattle.row_state.specs.Order.{KindBefore};
-ghost use Rattle.row_state.specs.Runs.{GatesFrom, IsOnGate, IsRun};
+ghost use Rattle.row_state.specs.Runs.{GatesFrom, IsCursor, IsLast, IsNext, IsOnGate, IsRun};
 ghost use Rattle.row_state.specs.Start.{AreSomeKinds, counts_of};
-ghost use Rattle.row_state.specs.Tests.{counts_fit, gate_left};
+ghost use Rattle.row_state.specs.Tests.{counts_fit, gate_left, lower_gate};
 
 use crate::{Kind, Kinds, State};
-use cell_num::MOST_FINGERS;
+use cell_num::{MOST_FINGERS, MOST_NETS};
 
 // The kinds of one row on a gate, from `from` to below `to`, and how many fingers of them there are
 // and are left.
@@ -73,5 +75,66 @@ pub(crate) fn on_gate(
         gate,
         p: run_from(kinds.p.as_slice(), state.p_left.as_slice(), gate, p_from),
         n: run_from(kinds.n.as_slice(), state.n_left.as_slice(), gate, n_from),
+    }
+}
+
+// Where the kinds of a gate and of the higher ones begin in each row.
+#[derive(Clone, Copy)]
+pub(crate) struct Cursor {
+    pub gate: u32,
+    pub p: usize,
+    pub n: usize,
+}
+
+#[tactic(auto, using(crate::proofs::Gates::cursor_at_first))]
+pub(crate) fn first_gates() -> Cursor
+    ensures start { result.gate ≡ 0 }
+    ensures cursor { (k : KindsOf) → IsCursor k result }
+{
+    Cursor {
+        gate: 0,
+        p: 0,
+        n: 0,
+    }
+}
+
+fn next_gate(kinds: &Kinds, cursor: &Cursor) -> Option<u32>
+    ensures { result ≡ lower_gate (slice_get kinds.now.p cursor.now.p) (slice_get kinds.now.n cursor.now.n) }
+{
+    match (kinds.p.get(cursor.p), kinds.n.get(cursor.n)) {
+        (Some(p), Some(n)) => Some(p.gate.0.min(n.gate.0)),
+        (Some(p), None) => Some(p.gate.0),
+        (None, Some(n)) => Some(n.gate.0),
+        (None, None) => None,
+    }
+}
+
+// The kinds of the next gate that has kinds.
+#[tactic(auto, using(crate::proofs::Gates::next_is, crate::proofs::Gates::last_is))]
+pub(crate) fn next_on(state: &State, kinds: &Kinds, cursor: &Cursor) -> Option<OnGate>
+    requires kinds { AreSomeKinds kinds.now }
+    requires p_fits { IsTrue (counts_fit kinds.now.p state.now.p_left) }
+    requires n_fits { IsTrue (counts_fit kinds.now.n state.now.n_left) }
+    requires cursor { IsCursor kinds.now cursor.now }
+    ensures on { IfSome result (IsOnGate kinds.now state.now) }
+    ensures next { IfSome result (λ on. IsNext kinds.now cursor.now on.gate) }
+    ensures last { IsNone result → IsLast kinds.now cursor.now }
+{
+    match next_gate(kinds, cursor) {
+        Some(gate) => Some(on_gate(state, kinds, gate, cursor.p, cursor.n)),
+        None => None,
+    }
+}
+
+// The kinds behind those of a gate.
+pub(crate) fn behind(on: &OnGate) -> Cursor
+    requires { on.now.gate ≤ MOST_NETS }
+    ensures gate { result.gate ≡ on.now.gate + 1 }
+    ensures cursor { (k : KindsOf) (s : StateOf) → IsOnGate k s on.now → on.now.gate + 1 ≤ k.nets → IsCursor k result }
+{
+    Cursor {
+        gate: on.gate + 1,
+        p: on.p.to,
+        n: on.n.to,
     }
 }

@@ -5,21 +5,27 @@
 pub mod bound;
 pub mod candidate;
 pub mod coding;
+pub mod component;
 pub mod found;
 mod gate;
 pub mod kind;
+pub mod laws;
 pub mod listing;
+pub mod log_bound;
 pub mod numbered;
 pub mod parity;
 pub mod state;
 pub mod step;
 
-pub use bound::RowBound;
+pub use bound::{COMPONENT_LOG, PARITY_LOG, RowBound};
 pub use candidate::{Candidate, Candidates, candidates};
 pub use coding::{code, decode};
+pub use component::Component;
 pub use found::kinds;
 pub use kind::{Kind, KindList, Kinds};
+pub use laws::chained_classes;
 pub use listing::successors;
+pub use log_bound::LogBound;
 pub use numbered::Numbered;
 pub use parity::Parity;
 pub use state::{Counts, State, columns, has_fingers, is_state, start};

@@ -1,5 +1,5 @@
-ghost use Rattle.std.specs.Prelude.{◌<◌, All, IfSome, cond, false, not, slice_index_or, ◌≡◌, ◌≤◌, ◌+◌, ◌-◌, ◌/◌, ◌%◌, ◌==◌, if◌then◌else◌, ℕ, count_by, length};
-ghost use Rattle.std.specs.List.{zip};
+ghost use Rattle.std.specs.Prelude.{◌<◌, All, IfSome, cond, false, not, slice_index_or, ◌≡◌, ◌≤◌, ◌+◌, ◌-◌, ◌/◌, ◌%◌, ◌==◌, if◌then◌else◌, ℕ, length, refl};
+ghost use Rattle.std.proofs.Common.{inl};
 ghost use Rattle.cell_num.specs.Fingers.{sum_below};
 ghost use Rattle.row_state.specs.Law.{parity_holds};
 ghost use Rattle.row_state.specs.Parity.{parity_value};
@@ -7,15 +7,15 @@ ghost use Rattle.row_state.specs.declared.kind.Kinds.{Kinds as KindsOf};
 ghost use Rattle.row_state.specs.declared.state.State.{State as StateOf};
 ghost use Rattle.row_state.specs.Runs.{IsOnGate};
 ghost use Rattle.row_state.specs.Start.{AreSomeKinds, IsKind, IsState};
-ghost use Rattle.row_state.specs.Tests.{adds_odd, empty_test, gate_left, halved, is_odd_behind, is_odd_net, kinds_in, left_of, parity_test};
+ghost use Rattle.row_state.specs.Tests.{adds_odd, empty_test, halved, is_odd_behind, is_odd_net, kinds_in, left_of, parity_test};
 ghost use Rattle.row_state.specs.Trails.{end_of, size, toggle};
 
-use crate::gate::{OnGate, on_gate};
-use crate::{Kind, Kinds, RowBound, State};
+use crate::gate::{OnGate, behind, first_gates, next_on};
+use crate::{Kind, Kinds, PARITY_LOG, RowBound, State};
 use cell_num::{MOST_NETS, NetNo, Row};
 
 // A place for each net of a cell.
-const NETS: usize = MOST_NETS as usize;
+pub(crate) const NETS: usize = MOST_NETS as usize;
 
 /// The bound that counts the nets of odd degree: a walk through all fingers left of a row passes each
 /// net in pairs of ends but where it begins, ends or breaks.
@@ -61,7 +61,12 @@ fn odd_nets(kinds: &[Kind], left: &[u32], nets: u32) -> [bool; NETS]
 }
 
 // The nets of odd degree, with the net of an open end taken out, or put in.
-fn odd_behind(kinds: &[Kind], left: &[u32], end: &Option<NetNo>, nets: u32) -> [bool; NETS]
+pub(crate) fn odd_behind(
+    kinds: &[Kind],
+    left: &[u32],
+    end: &Option<NetNo>,
+    nets: u32,
+) -> [bool; NETS]
     requires few { nets ≤ MOST_NETS }
     requires kinds { All (IsKind nets) kinds.now }
     requires same { length left.now ≡ length kinds.now }
@@ -118,20 +123,17 @@ fn empty_on(row: Row, on: &OnGate) -> u32
     }
 }
 
-#[tactic(auto, using(cell_num::proofs::Sums::sum_below_more, crate::proofs::ParityCode::empty_few, crate::proofs::Runs::first_gates, crate::proofs::Valid::p_fits, crate::proofs::Valid::n_fits))]
-fn count_empty(row: Row, state: &State, kinds: &Kinds) -> u32
+#[tactic(auto, using(crate::proofs::ParityCode::empty_few, crate::proofs::Valid::p_fits, crate::proofs::Valid::n_fits))]
+pub(crate) fn count_empty(row: Row, state: &State, kinds: &Kinds) -> u32
     requires kinds { AreSomeKinds kinds.now }
     requires state { IsState kinds.now state.now }
     ensures { result ≡ sum_below (empty_test row state.now kinds.now) kinds.now.nets }
 {
     let mut empty = 0;
-    let mut p_from = 0;
-    let mut n_from = 0;
-    for gate in 0..kinds.nets {
-        let on = on_gate(state, kinds, gate, p_from, n_from);
+    let mut cursor = first_gates();
+    'gates: while let Some(on) = next_on(state, kinds, &cursor) {
         empty += empty_on(row, &on);
-        p_from = on.p.to;
-        n_from = on.n.to;
+        cursor = behind(&on);
     }
     empty
 }
@@ -182,12 +184,24 @@ fn row_bound(row: Row, state: &State, kinds: &Kinds) -> u32
 }
 
 impl RowBound for Parity {
+    ghost use Rattle.row_state.specs.declared.bound.TheConstants.{PARITY_LOG};
+
     ghost value = { λ b row s k. parity_value row s k };
 
+    ghost version_of = { λ b. PARITY_LOG };
+
     ghost holds = { λ b row s k some valid. parity_holds k s row some };
+
+    ghost known = { λ b. inl refl };
+
+    ghost rests = { λ b row s k. refl };
 
     #[tactic(auto, using(crate::proofs::ParityCode::parity_code))]
     fn bound(&self, row: Row, state: &State, kinds: &Kinds) -> u32 {
         row_bound(row, state, kinds)
+    }
+
+    fn version(&self) -> u32 {
+        PARITY_LOG
     }
 }

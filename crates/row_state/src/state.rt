@@ -1,4 +1,4 @@
-ghost use Rattle.std.specs.Prelude.{◌≡◌, ◌≤◌, ◌<◌, ◌↔◌, ◌||◌, ℕ, IfOk, IfSome, IsTrue, List as Sequence, length, map, max, leb, ltb};
+ghost use Rattle.std.specs.Prelude.{◌≡◌, ◌≤◌, ◌<◌, ◌↔◌, ◌||◌, IfOk, IsTrue, List as Sequence, map, max, leb, ltb};
 ghost use Rattle.std.specs.List.{list_all, list_any, zip};
 ghost use Rattle.row_model.specs.declared.column.Column.{Column};
 ghost use Rattle.row_model.specs.Gaps.{gaps_of};
@@ -6,10 +6,10 @@ ghost use Rattle.row_state.specs.declared.kind.Kinds.{Kinds as KindsOf};
 ghost use Rattle.row_state.specs.declared.state.State.{State as StateOf};
 ghost use Rattle.row_state.specs.Runs.{IsOnGate};
 ghost use Rattle.row_state.specs.Completion.{further_gaps};
-ghost use Rattle.row_state.specs.Start.{AreSomeKinds, HasFingers, IsState, KeepsLead, columns_left, counts_of, start_of};
+ghost use Rattle.row_state.specs.Start.{AreSomeKinds, HasFingers, IsState, columns_left, counts_of, start_of};
 ghost use Rattle.row_state.specs.Tests.{columns_test, counts_fit, end_fits, gate_left, keeps_lead, leads_below, left_of_kind, state_test};
 
-use crate::gate::{OnGate, on_gate};
+use crate::gate::{OnGate, behind, first_gates, next_on};
 use crate::{Kind, Kinds};
 use cell_num::{List, MOST_FINGERS, NetNo, NoMemory};
 use std::alloc::{AllocError, Global};
@@ -124,7 +124,6 @@ fn has_lead(on: &OnGate) -> bool
     (p.all < n.all || n.left <= p.left) && (n.all < p.all || p.left <= n.left)
 }
 
-#[tactic(auto, using(crate::proofs::Valid::leads_more, crate::proofs::Runs::first_gates))]
 fn has_leads(state: &State, kinds: &Kinds) -> bool
     requires kinds { AreSomeKinds kinds.now }
     requires p_fits { IsTrue (counts_fit kinds.now.p state.now.p_left) }
@@ -132,13 +131,10 @@ fn has_leads(state: &State, kinds: &Kinds) -> bool
     ensures { result ≡ leads_below kinds.now state.now kinds.now.nets }
 {
     let mut kept = true;
-    let mut p_from = 0;
-    let mut n_from = 0;
-    for gate in 0..kinds.nets {
-        let on = on_gate(state, kinds, gate, p_from, n_from);
+    let mut cursor = first_gates();
+    'gates: while let Some(on) = next_on(state, kinds, &cursor) {
         kept = has_lead(&on) && kept;
-        p_from = on.p.to;
-        n_from = on.n.to;
+        cursor = behind(&on);
     }
     kept
 }

@@ -1,4 +1,4 @@
-use Rattle.std.proofs.Common.{get_or, None}
+use Rattle.std.proofs.Common.{None}
 use Rattle.row_state.specs.declared.step.Step.{Step}
 use Rattle.row_state.proofs.Digits.{candidates_more}
 use Rattle.row_state.proofs.candidate.candidates.Goals as goal

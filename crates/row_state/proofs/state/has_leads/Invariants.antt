@@ -1,10 +1,10 @@
-use Rattle.std.proofs.Common.{◌≡◌}
-use Rattle.row_state.specs.Runs.{GatesFrom}
+use Rattle.std.proofs.Common.{◌≡◌, ◌-◌}
+use Rattle.row_state.specs.Runs.{IsCursor}
 use Rattle.row_state.specs.Tests.{leads_below}
 use Rattle.row_state.proofs.state.has_leads.Given as goal
 
-abbrev pub invariant-loop-gate : goal.invariant-loop-gate
-invariant-loop-gate l =
-    (l.kept ≡ leads_below l.kinds l.state l.gate)
-    × GatesFrom l.kinds.p l.gate l.p_from
-    × GatesFrom l.kinds.n l.gate l.n_from
+abbrev pub invariant-gates : goal.invariant-gates
+invariant-gates l = (l.kept ≡ leads_below l.kinds l.state l.cursor.gate) × IsCursor l.kinds l.cursor
+
+abbrev pub decreases-gates : goal.decreases-gates
+decreases-gates l = l.kinds.nets - l.cursor.gate
