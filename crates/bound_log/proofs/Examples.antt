@@ -8,7 +8,7 @@ use Rattle.bound_log.specs.declared.fault.LogFault.TheVariants as fault
 use Rattle.bound_log.specs.declared.log.Rule.TheVariants as by
 use Rattle.bound_log.specs.declared.log.LogStep.{LogStep}
 use Rattle.bound_log.specs.declared.log.Log.{Log}
-use Rattle.bound_log.specs.Line.{number_below}
+use Rattle.bound_log.specs.Line.{number_below, version_in}
 use Rattle.bound_log.specs.Reading.{behind, columns_at, lines_in, log_at, log_of}
 use Rattle.bound_log.specs.Text.{log_text}
 
@@ -25,6 +25,7 @@ column kind flipped = record { gate = record { 0 = kind }; step = record { p = S
 abbrev log : Log
 log =
     record {
+      version = 1;
       lemmas = record { state = record { p_left = 1 ∷ 1 ∷ 1 ∷ []; n_left = 1 ∷ 1 ∷ 1 ∷ []; p_end = None; n_end = None }; bound = 1; rule = by.P } ∷ [];
       best = Some (record { gaps = 1; steps = column 0 false ∷ column 1 false ∷ column 2 true ∷ [] });
     }
@@ -37,11 +38,11 @@ unfolding digits
 is_text = refl
 
 is_read : log_of (front ++ codes "end\n") (codes "x3") kinds ≡ Ok log
-unfolding behind columns_at digits lines_in log_at log_of number_below
+unfolding behind columns_at digits lines_in log_at log_of number_below version_in
 is_read = refl
 
 is_cut : log_of front (codes "x3") kinds ≡ Err fault.Cut
-unfolding behind columns_at digits lines_in log_at log_of number_below
+unfolding behind columns_at digits lines_in log_at log_of number_below version_in
 is_cut = refl
 
 -- a text of one lemma
@@ -49,25 +50,25 @@ lemma_of : List ℕ → List ℕ
 lemma_of fields = codes "cellgen-log 1\ncell x3\nlemma " ++ fields ++ codes "\n"
 
 too_few_counts : log_of (lemma_of (codes "1 P 1,1 1,1,1 - -")) (codes "x3") kinds ≡ Err (fault.Line 3)
-unfolding behind columns_at digits lemma_of lines_in log_at log_of number_below
+unfolding behind columns_at digits lemma_of lines_in log_at log_of number_below version_in
 too_few_counts = refl
 
 too_great_a_bound : log_of (lemma_of (codes "64 P 1,1,1 1,1,1 - -")) (codes "x3") kinds ≡ Err (fault.Line 3)
-unfolding behind columns_at digits lemma_of lines_in log_at log_of number_below
+unfolding behind columns_at digits lemma_of lines_in log_at log_of number_below version_in
 too_great_a_bound = refl
 
 zero_in_front : log_of (lemma_of (codes "01 P 1,1,1 1,1,1 - -")) (codes "x3") kinds ≡ Err (fault.Line 3)
-unfolding behind columns_at digits lemma_of lines_in log_at log_of number_below
+unfolding behind columns_at digits lemma_of lines_in log_at log_of number_below version_in
 zero_in_front = refl
 
 no_lead : log_of (lemma_of (codes "1 P 0,1,1 1,1,1 - -")) (codes "x3") kinds ≡ Err (fault.Line 3)
-unfolding behind columns_at digits lemma_of lines_in log_at log_of number_below
+unfolding behind columns_at digits lemma_of lines_in log_at log_of number_below version_in
 no_lead = refl
 
 other_name : log_of (codes "cellgen-log 1\ncell x3 \n") (codes "x3") kinds ≡ Err fault.Cell
-unfolding behind columns_at digits lines_in log_at log_of number_below
+unfolding behind columns_at digits lines_in log_at log_of number_below version_in
 other_name = refl
 
 behind_end : log_of (front ++ codes "end\n ") (codes "x3") kinds ≡ Err (fault.Line 9)
-unfolding behind columns_at digits lines_in log_at log_of number_below
+unfolding behind columns_at digits lines_in log_at log_of number_below version_in
 behind_end = refl

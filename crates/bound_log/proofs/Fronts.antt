@@ -51,46 +51,46 @@ columns_more k n lines rest front all line later after column h is same end some
 -- ---- lemmas
 
 abbrev pub with_lemmas : List Lemma → Result Log LogFault → Result Log LogFault
-with_lemmas front (Ok log) = Ok (record { lemmas = front ++ log.lemmas; best = log.best })
+with_lemmas front (Ok log) = Ok (record { version = log.version; lemmas = front ++ log.lemmas; best = log.best })
 with_lemmas front (Err f) = Err f
 
-pub log_cut : (k : Kinds) (n : ℕ) (lines : List (List ℕ)) (rest : List ℕ) (front : List Lemma) (all : Result Log LogFault) → with_lemmas front (log_at k n lines rest) ≡ all → lines ≡ [] → all ≡ Err fault.Cut
+pub log_cut : (version : ℕ) (k : Kinds) (n : ℕ) (lines : List (List ℕ)) (rest : List ℕ) (front : List Lemma) (all : Result Log LogFault) → with_lemmas front (log_at version k n lines rest) ≡ all → lines ≡ [] → all ≡ Err fault.Cut
 unfolding log_at
-log_cut k n lines rest front all h is = sym h ∙ ap (λ ls. with_lemmas front (log_at k n ls rest)) is
+log_cut version k n lines rest front all h is = sym h ∙ ap (λ ls. with_lemmas front (log_at version k n ls rest)) is
 
-pub log_wrong : (k : Kinds) (n : ℕ) (lines : List (List ℕ)) (rest : List ℕ) (front : List Lemma) (all : Result Log LogFault) (line : List ℕ) (later : List (List ℕ)) → with_lemmas front (log_at k n lines rest) ≡ all → lines ≡ line ∷ later → None ≡ entry_in k (words_in line) → all ≡ Err (fault.Line n)
+pub log_wrong : (version : ℕ) (k : Kinds) (n : ℕ) (lines : List (List ℕ)) (rest : List ℕ) (front : List Lemma) (all : Result Log LogFault) (line : List ℕ) (later : List (List ℕ)) → with_lemmas front (log_at version k n lines rest) ≡ all → lines ≡ line ∷ later → None ≡ entry_in k (words_in line) → all ≡ Err (fault.Line n)
 unfolding log_at
-log_wrong k n lines rest front all line later h is none = sym h ∙ (ap (λ ls. with_lemmas front (log_at k n ls rest)) is ∙ rw (sym none) refl)
+log_wrong version k n lines rest front all line later h is none = sym h ∙ (ap (λ ls. with_lemmas front (log_at version k n ls rest)) is ∙ rw (sym none) refl)
 
-one_lemma : (front : List Lemma) (lemma : Lemma) (r : Result Log LogFault) → with_lemmas front (r >>= λ later. Ok (record { lemmas = lemma ∷ later.lemmas; best = later.best })) ≡ with_lemmas (front ++ lemma ∷ []) r
-one_lemma front lemma (Ok later) = ap (λ ls. Ok (record { lemmas = ls; best = later.best })) (sym (append_assoc front (lemma ∷ []) later.lemmas))
+one_lemma : (front : List Lemma) (lemma : Lemma) (r : Result Log LogFault) → with_lemmas front (r >>= λ later. Ok (record { version = later.version; lemmas = lemma ∷ later.lemmas; best = later.best })) ≡ with_lemmas (front ++ lemma ∷ []) r
+one_lemma front lemma (Ok later) = ap (λ ls. Ok (record { version = later.version; lemmas = ls; best = later.best })) (sym (append_assoc front (lemma ∷ []) later.lemmas))
 one_lemma front lemma (Err f) = refl
 
-pub log_more : (k : Kinds) (n : ℕ) (lines : List (List ℕ)) (rest : List ℕ) (front : List Lemma) (all : Result Log LogFault) (line : List ℕ) (later : List (List ℕ)) (after : List ℕ) (lemma : Lemma) → with_lemmas front (log_at k n lines rest) ≡ all → lines ≡ line ∷ later → rest ≡ after → Some (entry.Lemma lemma) ≡ entry_in k (words_in line) → with_lemmas (front ++ lemma ∷ []) (log_at k (n + 1) later after) ≡ all
+pub log_more : (version : ℕ) (k : Kinds) (n : ℕ) (lines : List (List ℕ)) (rest : List ℕ) (front : List Lemma) (all : Result Log LogFault) (line : List ℕ) (later : List (List ℕ)) (after : List ℕ) (lemma : Lemma) → with_lemmas front (log_at version k n lines rest) ≡ all → lines ≡ line ∷ later → rest ≡ after → Some (entry.Lemma lemma) ≡ entry_in k (words_in line) → with_lemmas (front ++ lemma ∷ []) (log_at version k (n + 1) later after) ≡ all
 unfolding log_at
-log_more k n lines rest front all line later after lemma h is same some =
-    rw (sym same) (sym (one_lemma front lemma (log_at k (n + 1) later rest)) ∙ (sym (rw (sym some) refl) ∙ (ap (λ ls. with_lemmas front (log_at k n ls rest)) (sym is) ∙ h)))
+log_more version k n lines rest front all line later after lemma h is same some =
+    rw (sym same) (sym (one_lemma front lemma (log_at version k (n + 1) later rest)) ∙ (sym (rw (sym some) refl) ∙ (ap (λ ls. with_lemmas front (log_at version k n ls rest)) (sym is) ∙ h)))
 
-log_row : (k : Kinds) (n : ℕ) (lines : List (List ℕ)) (rest : List ℕ) (front : List Lemma) (all : Result Log LogFault) (line : List ℕ) (later : List (List ℕ)) (gaps : ℕ) → with_lemmas front (log_at k n lines rest) ≡ all → lines ≡ line ∷ later → Some (entry.Gaps gaps) ≡ entry_in k (words_in line) → with_lemmas front (columns_at k (n + 1) later rest >>= λ steps. Ok (record { lemmas = []; best = Some (record { gaps = gaps; steps = steps }) })) ≡ all
+log_row : (version : ℕ) (k : Kinds) (n : ℕ) (lines : List (List ℕ)) (rest : List ℕ) (front : List Lemma) (all : Result Log LogFault) (line : List ℕ) (later : List (List ℕ)) (gaps : ℕ) → with_lemmas front (log_at version k n lines rest) ≡ all → lines ≡ line ∷ later → Some (entry.Gaps gaps) ≡ entry_in k (words_in line) → with_lemmas front (columns_at k (n + 1) later rest >>= λ steps. Ok (record { version = version; lemmas = []; best = Some (record { gaps = gaps; steps = steps }) })) ≡ all
 unfolding log_at
-log_row k n lines rest front all line later gaps h is some = sym (rw (sym some) refl) ∙ (ap (λ ls. with_lemmas front (log_at k n ls rest)) (sym is) ∙ h)
+log_row version k n lines rest front all line later gaps h is some = sym (rw (sym some) refl) ∙ (ap (λ ls. with_lemmas front (log_at version k n ls rest)) (sym is) ∙ h)
 
-pub log_listed : (k : Kinds) (n : ℕ) (lines : List (List ℕ)) (rest : List ℕ) (front : List Lemma) (all : Result Log LogFault) (line : List ℕ) (later : List (List ℕ)) (after : List ℕ) (gaps : ℕ) (steps : List LogStep) → with_lemmas front (log_at k n lines rest) ≡ all → lines ≡ line ∷ later → rest ≡ after → Some (entry.Gaps gaps) ≡ entry_in k (words_in line) → columns_at k (n + 1) later after ≡ Ok steps → all ≡ Ok (record { lemmas = front; best = Some (record { gaps = gaps; steps = steps }) })
-log_listed k n lines rest front all line later after gaps steps h is same some read =
-    sym (log_row k n lines rest front all line later gaps h is some) ∙ rw (same, read) (ap (λ ls. Ok (record { lemmas = ls; best = Some (record { gaps = gaps; steps = steps }) })) (append-nil front))
+pub log_listed : (version : ℕ) (k : Kinds) (n : ℕ) (lines : List (List ℕ)) (rest : List ℕ) (front : List Lemma) (all : Result Log LogFault) (line : List ℕ) (later : List (List ℕ)) (after : List ℕ) (gaps : ℕ) (steps : List LogStep) → with_lemmas front (log_at version k n lines rest) ≡ all → lines ≡ line ∷ later → rest ≡ after → Some (entry.Gaps gaps) ≡ entry_in k (words_in line) → columns_at k (n + 1) later after ≡ Ok steps → all ≡ Ok (record { version = version; lemmas = front; best = Some (record { gaps = gaps; steps = steps }) })
+log_listed version k n lines rest front all line later after gaps steps h is same some read =
+    sym (log_row version k n lines rest front all line later gaps h is some) ∙ rw (same, read) (ap (λ ls. Ok (record { version = version; lemmas = ls; best = Some (record { gaps = gaps; steps = steps }) })) (append-nil front))
 
-pub log_unlisted : (k : Kinds) (n : ℕ) (lines : List (List ℕ)) (rest : List ℕ) (front : List Lemma) (all : Result Log LogFault) (line : List ℕ) (later : List (List ℕ)) (after : List ℕ) (gaps : ℕ) (f : LogFault) → with_lemmas front (log_at k n lines rest) ≡ all → lines ≡ line ∷ later → rest ≡ after → Some (entry.Gaps gaps) ≡ entry_in k (words_in line) → columns_at k (n + 1) later after ≡ Err f → all ≡ Err f
-log_unlisted k n lines rest front all line later after gaps f h is same some read =
-    sym (log_row k n lines rest front all line later gaps h is some) ∙ rw (same, read) refl
+pub log_unlisted : (version : ℕ) (k : Kinds) (n : ℕ) (lines : List (List ℕ)) (rest : List ℕ) (front : List Lemma) (all : Result Log LogFault) (line : List ℕ) (later : List (List ℕ)) (after : List ℕ) (gaps : ℕ) (f : LogFault) → with_lemmas front (log_at version k n lines rest) ≡ all → lines ≡ line ∷ later → rest ≡ after → Some (entry.Gaps gaps) ≡ entry_in k (words_in line) → columns_at k (n + 1) later after ≡ Err f → all ≡ Err f
+log_unlisted version k n lines rest front all line later after gaps f h is same some read =
+    sym (log_row version k n lines rest front all line later gaps h is some) ∙ rw (same, read) refl
 
-log_without : (k : Kinds) (n : ℕ) (lines : List (List ℕ)) (rest : List ℕ) (front : List Lemma) (all : Result Log LogFault) (line : List ℕ) (later : List (List ℕ)) → with_lemmas front (log_at k n lines rest) ≡ all → lines ≡ line ∷ later → Some entry.Open ≡ entry_in k (words_in line) → with_lemmas front (end_at (n + 1) later rest >>= λ _. Ok (record { lemmas = []; best = None })) ≡ all
+log_without : (version : ℕ) (k : Kinds) (n : ℕ) (lines : List (List ℕ)) (rest : List ℕ) (front : List Lemma) (all : Result Log LogFault) (line : List ℕ) (later : List (List ℕ)) → with_lemmas front (log_at version k n lines rest) ≡ all → lines ≡ line ∷ later → Some entry.Open ≡ entry_in k (words_in line) → with_lemmas front (end_at (n + 1) later rest >>= λ _. Ok (record { version = version; lemmas = []; best = None })) ≡ all
 unfolding log_at
-log_without k n lines rest front all line later h is some = sym (rw (sym some) refl) ∙ (ap (λ ls. with_lemmas front (log_at k n ls rest)) (sym is) ∙ h)
+log_without version k n lines rest front all line later h is some = sym (rw (sym some) refl) ∙ (ap (λ ls. with_lemmas front (log_at version k n ls rest)) (sym is) ∙ h)
 
-pub log_ended : (k : Kinds) (n : ℕ) (lines : List (List ℕ)) (rest : List ℕ) (front : List Lemma) (all : Result Log LogFault) (line : List ℕ) (later : List (List ℕ)) (after : List ℕ) → with_lemmas front (log_at k n lines rest) ≡ all → lines ≡ line ∷ later → rest ≡ after → Some entry.Open ≡ entry_in k (words_in line) → Ok tt ≡ end_at (n + 1) later after → all ≡ Ok (record { lemmas = front; best = None })
-log_ended k n lines rest front all line later after h is same some read =
-    sym (log_without k n lines rest front all line later h is some) ∙ rw (same, sym read) (ap (λ ls. Ok (record { lemmas = ls; best = None })) (append-nil front))
+pub log_ended : (version : ℕ) (k : Kinds) (n : ℕ) (lines : List (List ℕ)) (rest : List ℕ) (front : List Lemma) (all : Result Log LogFault) (line : List ℕ) (later : List (List ℕ)) (after : List ℕ) → with_lemmas front (log_at version k n lines rest) ≡ all → lines ≡ line ∷ later → rest ≡ after → Some entry.Open ≡ entry_in k (words_in line) → Ok tt ≡ end_at (n + 1) later after → all ≡ Ok (record { version = version; lemmas = front; best = None })
+log_ended version k n lines rest front all line later after h is same some read =
+    sym (log_without version k n lines rest front all line later h is some) ∙ rw (same, sym read) (ap (λ ls. Ok (record { version = version; lemmas = ls; best = None })) (append-nil front))
 
-pub log_unended : (k : Kinds) (n : ℕ) (lines : List (List ℕ)) (rest : List ℕ) (front : List Lemma) (all : Result Log LogFault) (line : List ℕ) (later : List (List ℕ)) (after : List ℕ) (f : LogFault) → with_lemmas front (log_at k n lines rest) ≡ all → lines ≡ line ∷ later → rest ≡ after → Some entry.Open ≡ entry_in k (words_in line) → Err f ≡ end_at (n + 1) later after → all ≡ Err f
-log_unended k n lines rest front all line later after f h is same some read =
-    sym (log_without k n lines rest front all line later h is some) ∙ rw (same, sym read) refl
+pub log_unended : (version : ℕ) (k : Kinds) (n : ℕ) (lines : List (List ℕ)) (rest : List ℕ) (front : List Lemma) (all : Result Log LogFault) (line : List ℕ) (later : List (List ℕ)) (after : List ℕ) (f : LogFault) → with_lemmas front (log_at version k n lines rest) ≡ all → lines ≡ line ∷ later → rest ≡ after → Some entry.Open ≡ entry_in k (words_in line) → Err f ≡ end_at (n + 1) later after → all ≡ Err f
+log_unended version k n lines rest front all line later after f h is same some read =
+    sym (log_without version k n lines rest front all line later h is some) ∙ rw (same, sym read) refl

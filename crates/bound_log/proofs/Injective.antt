@@ -20,13 +20,14 @@ use Rattle.bound_log.specs.declared.log.Log.{Log}
 use Rattle.bound_log.specs.Fits.{BestFits, Fits, LemmaFits, SideFits, StepFits}
 use Rattle.bound_log.specs.Line.{flip_in, parts_at, rule_in, words_in}
 use Rattle.bound_log.specs.Reading.{lines_in, log_of}
-use Rattle.bound_log.specs.Text.{best_text, column_line, counts_text, end_text, flip_text, lemma_line, log_text, rule_text}
+use Rattle.bound_log.specs.Text.{best_text, column_line, counts_text, end_text, flip_text, lemma_line, log_text, rule_text, version_line}
 use Rattle.bound_log.proofs.Again.{column_above, column_words_are, counts_parts, few_counts, few_each, flip_again, flip_word, kind_word, lemma_above, not_dash, rule_again, words_again, words_lack}
 use Rattle.bound_log.proofs.Decimals.{decimal_one}
 use Rattle.bound_log.proofs.Names.{same_behind}
 use Rattle.bound_log.proofs.Only.{read_only}
 use Rattle.bound_log.proofs.Spelled.{column_words, cons_same, lemma_words}
 use Rattle.bound_log.proofs.Splits.{IsAbove, Lacks, fed}
+use Rattle.bound_log.proofs.Versions.{version_lacks, version_one}
 use Rattle.bound_log.proofs.Whole.{columns_front, fed_first, gaps_above, gaps_front, lemmas_front}
 
 cons_parts : {X : Type 0} (x y : X) (xs ys : List X) → (x ∷ xs) ≡ (y ∷ ys) → (x ≡ y) × (xs ≡ ys)
@@ -178,15 +179,19 @@ rest_same k (x ∷ xs) (y ∷ ys) a b some fits best h =
 -- two logs, one of which fits, have different texts
 pub text_one : (name : List ℕ) (k : Kinds) (a b : Log) → AreSomeKinds k → Fits k b → log_text name a ≡ log_text name b → a ≡ b
 text_one name k a b some fits h =
-    let front = codes "cellgen-log 1\n" ++ codes "cell " ++ name ++ codes "\n" in
     let behind_a = flat_map lemma_line a.lemmas ++ (best_text a.best ++ codes "end\n") in
     let behind_b = flat_map lemma_line b.lemmas ++ (best_text b.best ++ codes "end\n") in
-    let rest : behind_a ≡ behind_b = same_behind front behind_a behind_b (sym (apart front a) ∙ (h ∙ apart front b)) in
-    let same = rest_same k a.lemmas b.lemmas a.best b.best some fits.lemmas fits.best rest in
-    λ i. record { lemmas = same.0 i; best = same.1 i }
+    let cell = codes "cell " ++ name ++ codes "\n" in
+    let lines = line_same (version_line a.version) (version_line b.version) (cell ++ behind_a) (cell ++ behind_b) (version_lacks a.version) (version_lacks b.version) (sym (apart a) ∙ (h ∙ apart b)) in
+    let version : a.version ≡ b.version = version_one a.version b.version fits.version lines.0 in
+    let same = rest_same k a.lemmas b.lemmas a.best b.best some fits.lemmas fits.best (same_behind cell behind_a behind_b lines.1) in
+    λ i. record { version = version i; lemmas = same.0 i; best = same.1 i }
   where
-    apart : (front : List ℕ) (log : Log) → front ++ flat_map lemma_line log.lemmas ++ best_text log.best ++ codes "end\n" ≡ front ++ (flat_map lemma_line log.lemmas ++ (best_text log.best ++ codes "end\n"))
-    apart front log = append_assoc (front ++ flat_map lemma_line log.lemmas) (best_text log.best) (codes "end\n") ∙ append_assoc front (flat_map lemma_line log.lemmas) (best_text log.best ++ codes "end\n")
+    parts_apart : (first cell ls best : List ℕ) → first ++ codes "\n" ++ codes "cell " ++ cell ++ codes "\n" ++ ls ++ best ++ codes "end\n" ≡ fed first ++ ((codes "cell " ++ cell ++ codes "\n") ++ (ls ++ (best ++ codes "end\n")))
+    parts_apart first cell ls best = simp append_assoc
+
+    apart : (log : Log) → log_text name log ≡ fed (version_line log.version) ++ ((codes "cell " ++ name ++ codes "\n") ++ (flat_map lemma_line log.lemmas ++ (best_text log.best ++ codes "end\n")))
+    apart log = parts_apart (version_line log.version) name (flat_map lemma_line log.lemmas) (best_text log.best)
 
 -- what is read is the text of no other log
 pub read_one : (bytes name : List ℕ) (k : Kinds) (log other : Log) → AreSomeKinds k → log_of bytes name k ≡ Ok log → log_text name other ≡ bytes → other ≡ log

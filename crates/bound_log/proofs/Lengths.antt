@@ -1,12 +1,13 @@
 -- How long the lines are.
 use Rattle.std.specs.Prelude.{ℕ, ◌≡◌, ◌+◌, ◌*◌, ◌<◌, ◌≤◌, Bool, true, false, List, [], ◌∷◌, ◌++◌, Option, Some, None, All, IfSome, length, codes, decimal}
-use Rattle.std.proofs.Common.{ap, arith}
+use Rattle.std.proofs.Common.{ap, arith, inl, inr}
 use Rattle.std.proofs.lemmas.Fmt.{length-decimal-le}
 use Rattle.std.proofs.lemmas.List.{length-append}
 use Rattle.std.proofs.lemmas.List.Elements.{All-head, All-tail}
 use Rattle.cell_num.specs.declared.net.NetNo.{NetNo}
 use Rattle.row_state.specs.declared.kind.Kind.{Kind}
 use Rattle.row_state.specs.declared.step.Side.{Side}
+use Rattle.row_state.specs.Versions.{IsVersion}
 use Rattle.row_state.proofs.Valid.{gates_few, kinds_few}
 use Rattle.bound_log.specs.declared.log.Rule.{Rule}
 use Rattle.bound_log.specs.declared.log.Rule.TheVariants as by
@@ -93,7 +94,13 @@ column_short listed (k, some, fits) =
 pub gaps_short : (gaps : ℕ) → gaps ≤ 63 → length (gaps_line gaps) ≤ 301
 gaps_short gaps few = let whole = both (codes "gaps " ++ decimal gaps) (codes "\n") 7 1 (both (codes "gaps ") (decimal gaps) 5 2 (omega arith) (two_digits gaps (omega (arith, few)))) (omega arith) in omega (arith, whole)
 
-pub head_short : (name : List ℕ) → IsLogName name → length (head_lines name) ≤ 301
-head_short name is =
-    let whole = both (codes "cellgen-log 1\n" ++ codes "cell " ++ name) (codes "\n") 51 1 (both (codes "cellgen-log 1\n" ++ codes "cell ") name 19 32 (omega arith) is.few) (omega arith) in
+lines_short : (version name : List ℕ) → length version ≤ 2 → length name ≤ 32 → length (codes "cellgen-log " ++ version ++ codes "\n" ++ codes "cell " ++ name ++ codes "\n") ≤ 301
+lines_short version name hv hn =
+    let front : length (codes "cellgen-log " ++ version ++ codes "\n" ++ codes "cell ") ≤ 20 = both (codes "cellgen-log " ++ version ++ codes "\n") (codes "cell ") 15 5 (both (codes "cellgen-log " ++ version) (codes "\n") 14 1 (both (codes "cellgen-log ") version 12 2 (omega arith) hv) (omega arith)) (omega arith) in
+    let whole = both (codes "cellgen-log " ++ version ++ codes "\n" ++ codes "cell " ++ name) (codes "\n") 52 1 (both (codes "cellgen-log " ++ version ++ codes "\n" ++ codes "cell ") name 20 32 front hn) (omega arith) in
     omega (arith, whole)
+
+pub head_short : (version : ℕ) (name : List ℕ) → IsVersion version → IsLogName name → length (head_lines version name) ≤ 301
+head_short version name known is =
+    let few : version < 100 = elim known [ inl e ↦ omega (arith, e) | inr e ↦ omega (arith, e) ] in
+    lines_short (decimal version) name (two_digits version few) is.few

@@ -1,8 +1,10 @@
 pub mod Again
 pub mod Counts
 pub mod Decimals
+pub mod Digits
 pub mod Examples
 pub mod Feeds
+pub mod Heads
 pub mod Injective
 pub mod Lengths
 pub mod Names
@@ -10,6 +12,7 @@ pub mod Numbers
 pub mod Only
 pub mod Parts
 pub mod Pieces
+pub mod Searches
 pub mod Spelled
 pub mod Splits
 pub mod Fronts
@@ -17,4 +20,5 @@ pub mod States
 pub mod Tales
 pub mod Texts
 pub mod Told
+pub mod Versions
 pub mod Whole

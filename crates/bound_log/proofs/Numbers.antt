@@ -1,9 +1,9 @@
 -- The number that a word is.
-use Rattle.std.specs.Prelude.{ℕ, zero, suc, ◌≡◌, ◌≢◌, ◌+◌, ◌-◌, ◌^◌, ◌<◌, ◌≤◌, Bool, true, false, cond, List, [], ◌∷◌, Some, None, find, get_or, length, decimal}
+use Rattle.std.specs.Prelude.{ℕ, zero, suc, ◌≡◌, ◌≢◌, ◌+◌, ◌^◌, ◌<◌, ◌≤◌, Bool, true, false, cond, List, Some, None, find, decimal}
 use Rattle.std.proofs.Common.{refl, sym, ap, arith, ◌∙◌, ◌⊎◌, inl, inr}
 use Rattle.std.specs.List.{range_with_len}
 use Rattle.std.proofs.lemmas.Bool.{cases_Bool, cases_eq}
-use Rattle.std.proofs.lemmas.Fmt.{decimal_digit, decimal_injective}
+use Rattle.std.proofs.lemmas.Fmt.{decimal_injective}
 use Rattle.std.proofs.lemmas.Option.{none-some, same_Some}
 use Rattle.std.proofs.lemmas.Slice.Eq.{bytes_eq-Decides}
 use Rattle.bound_log.specs.Line.{is_word, number_below}
@@ -54,15 +54,6 @@ pub not_below : (limit : ℕ) (word : List ℕ) (n : ℕ) → word ≡ decimal n
 unfolding number_below
 not_below limit word n e l few = none_in word 0 limit (λ m low high d. let same : m ≡ n = decimal_injective m n (omega (arith, high, l, few)) (omega (arith, few)) (sym d ∙ e) in omega (arith, same, high, l))
 
-pub no_number : (limit : ℕ) (word : List ℕ) → ((n : ℕ) → n < 4294967296 → word ≢ decimal n) → limit ≤ 4294967296 → number_below limit word ≡ None
+pub no_number : (limit : ℕ) (word : List ℕ) → ((n : ℕ) → n < 1000 → word ≢ decimal n) → limit ≤ 1000 → number_below limit word ≡ None
 unfolding number_below
 no_number limit word h few = none_in word 0 limit (λ m low high. h m (omega (arith, high, few)))
-
--- one digit
-pub one_digit : (word : List ℕ) (d : ℕ) → length word ≡ 1 → 48 ≤ get_or word 0 d → get_or word 0 d ≤ 57 → word ≡ decimal (get_or word 0 d - 48)
-one_digit [] d one low high = absurd (omega (arith, one))
-one_digit (b ∷ c ∷ cs) d one low high = absurd (omega (arith, one))
-one_digit (b ∷ []) d one low high =
-    let few : b - 48 < 10 = omega (arith, high) in
-    let same : b ≡ 48 + (b - 48) = omega (arith, low) in
-    ap (λ (c : ℕ). c ∷ []) same ∙ sym (decimal_digit (b - 48) few)

@@ -11,6 +11,7 @@ use Rattle.cell_num.specs.Steps.{◌>>=◌, require, or_fault}
 use Rattle.row_state.specs.declared.kind.Kinds.{Kinds}
 use Rattle.row_state.specs.declared.step.Side.{Side}
 use Rattle.row_state.specs.Start.{AreSomeKinds}
+use Rattle.row_state.specs.Versions.{IsVersion}
 use Rattle.bound_log.specs.declared.fault.LogFault.TheVariants as fault
 use Rattle.bound_log.specs.declared.log.Lemma.{Lemma}
 use Rattle.bound_log.specs.declared.log.LogStep.{LogStep}
@@ -18,12 +19,13 @@ use Rattle.bound_log.specs.declared.log.Log.{Log}
 use Rattle.bound_log.specs.declared.log.Entry.{Entry}
 use Rattle.bound_log.specs.declared.log.Entry.TheVariants as entry
 use Rattle.bound_log.specs.Fits.{Fits, LemmaFits, StepFits}
-use Rattle.bound_log.specs.Line.{entry_in, gaps_in, is_word, lemma_in, column_in, words_in}
+use Rattle.bound_log.specs.Line.{entry_in, gaps_in, is_word, lemma_in, column_in, version_in, words_in}
 use Rattle.bound_log.specs.Reading.{begun_by, behind, columns_at, end_at, lines_in, log_at, log_of, named_at, text_at}
-use Rattle.bound_log.specs.Text.{best_text, column_line, lemma_line, log_text}
+use Rattle.bound_log.specs.Text.{best_text, column_line, lemma_line, log_text, version_line}
 use Rattle.bound_log.proofs.Numbers.{chosen, found_below, same_words}
 use Rattle.bound_log.proofs.Spelled.{column_joined, step_spelled, column_words, cons_same, is_provided, lemma_joined, lemma_spelled, lemma_words, mapped, side_words}
 use Rattle.bound_log.proofs.Splits.{bytes_again, fed, lines_text}
+use Rattle.bound_log.proofs.Versions.{version_spelled}
 
 pub err-ok : {A E : Type 0} (e : E) (a : A) → ◌≡◌ {A = Result A E} (Err e) (Ok a) → ⊥
 err-ok e a h = absurd cc
@@ -59,9 +61,9 @@ EntrySpelled k words (entry.Lemma lemma) = (words ≡ codes "lemma" ∷ lemma_wo
 EntrySpelled k words (entry.Gaps gaps) = (words ≡ codes "gaps" ∷ decimal gaps ∷ []) × (gaps < 64)
 EntrySpelled k words entry.Open = words ≡ codes "open" ∷ []
 
-no_words : (words : List (List ℕ)) → (length words == 0) ≡ true → words ≡ []
-no_words [] h = refl
-no_words (w ∷ ws) h = absurd (omega (arith, eqb-true (length (w ∷ ws)) 0 h))
+no_more : {X : Type 0} (xs : List X) → (length xs == 0) ≡ true → xs ≡ []
+no_more [] h = refl
+no_more (x ∷ xs) h = absurd (omega (arith, eqb-true (length (x ∷ xs)) 0 h))
 
 pub entry_spelled : (k : Kinds) (words : List (List ℕ)) (e : Entry) → AreSomeKinds k → entry_in k words ≡ Some e → EntrySpelled k words e
 unfolding EntrySpelled
@@ -80,7 +82,7 @@ entry_spelled k (word ∷ words) e some h =
         | inr last ↦ elim (chosen (is_word word (codes "open")) _ _ _ last.1) [
           | inl y ↦
               let alone : ((length words == 0) ≡ true) × (Some entry.Open ≡ Some e) = is_provided (length words == 0) (λ _. Some entry.Open) e y.1 in
-              subst (EntrySpelled k (word ∷ words)) (same_Some entry.Open e alone.1) (cons_same _ _ _ _ (same_words word (codes "open") y.0) (no_words words alone.0))
+              subst (EntrySpelled k (word ∷ words)) (same_Some entry.Open e alone.1) (cons_same _ _ _ _ (same_words word (codes "open") y.0) (no_more words alone.0))
           | inr none ↦ absurd (none-some e none.1)
         ]
       ]
@@ -135,10 +137,6 @@ text_cons line lines rest = append_assoc (fed line) (flat_map fed lines) rest
 
 -- ---- the lines of a log
 
-no_bytes : (rest : List ℕ) → (length rest == 0) ≡ true → rest ≡ []
-no_bytes [] h = refl
-no_bytes (b ∷ bs) h = absurd (omega (arith, eqb-true (length (b ∷ bs)) 0 h))
-
 end_only : (n : ℕ) (lines : List (List ℕ)) (rest : List ℕ) (u : Unit {0}) → end_at n lines rest ≡ Ok u → lines_text lines rest ≡ codes "end\n"
 unfolding lines_text
 end_only n [] rest u h = absurd (err-ok fault.Cut u h)
@@ -146,7 +144,7 @@ end_only n (line ∷ lines) rest u h =
     let one = required (is_word line (codes "end")) (fault.Line n) _ u h in
     let last : (length lines == 0 && length rest == 0) ≡ true = require_ok (length lines == 0 && length rest == 0) (fault.Line (n + 1)) u one.1 in
     let both : ((length lines == 0) ≡ true) × ((length rest == 0) ≡ true) = and_parts _ _ last in
-    rw (same_words line (codes "end") one.0, no_words lines both.0, no_bytes rest both.1) refl
+    rw (same_words line (codes "end") one.0, no_more lines both.0, no_more rest both.1) refl
 
 columns_only : (k : Kinds) (n : ℕ) (lines : List (List ℕ)) (rest : List ℕ) (steps : List LogStep) → columns_at k n lines rest ≡ Ok steps → (lines_text lines rest ≡ flat_map column_line steps ++ codes "end\n") × All (StepFits k) steps
 unfolding columns_at
@@ -172,70 +170,75 @@ columns_only k n (line ∷ lines) rest steps h =
 
 -- ---- the whole log
 
-RestSpelled : Kinds → List (List ℕ) → List ℕ → Log → Type 0
-RestSpelled k lines rest log = (lines_text lines rest ≡ flat_map lemma_line log.lemmas ++ (best_text log.best ++ codes "end\n")) × Fits k log
+RestSpelled : ℕ → Kinds → List (List ℕ) → List ℕ → Log → Type 0
+RestSpelled version k lines rest log = (lines_text lines rest ≡ flat_map lemma_line log.lemmas ++ (best_text log.best ++ codes "end\n")) × Fits k log × (log.version ≡ version)
 
-lemma_before : (k : Kinds) (line : List ℕ) (lines : List (List ℕ)) (rest : List ℕ) (lemma : Lemma) (log : Log) → EntrySpelled k (words_in line) (entry.Lemma lemma) → RestSpelled k lines rest log → RestSpelled k (line ∷ lines) rest (record { lemmas = lemma ∷ log.lemmas; best = log.best })
+lemma_before : (version : ℕ) (k : Kinds) (line : List ℕ) (lines : List (List ℕ)) (rest : List ℕ) (lemma : Lemma) (log : Log) → EntrySpelled k (words_in line) (entry.Lemma lemma) → RestSpelled version k lines rest log → RestSpelled version k (line ∷ lines) rest (record { version = log.version; lemmas = lemma ∷ log.lemmas; best = log.best })
 unfolding EntrySpelled RestSpelled
-lemma_before k line lines rest lemma log one later =
+lemma_before version k line lines rest lemma log one later =
     let here : fed line ≡ lemma_line lemma = line_of_words line (codes "lemma" ∷ lemma_words lemma) one.0 ∙ lemma_joined lemma in (
       text_cons line lines rest ∙ (ap (λ (bs : List ℕ). bs ++ lines_text lines rest) here ∙ (ap (λ (bs : List ℕ). lemma_line lemma ++ bs) later.0 ∙ sym (append_assoc (lemma_line lemma) (flat_map lemma_line log.lemmas) (best_text log.best ++ codes "end\n")))),
-      record { lemmas = All-cons (LemmaFits k) lemma log.lemmas one.1 later.1.lemmas; best = later.1.best },
+      record { version = later.1.version; lemmas = All-cons (LemmaFits k) lemma log.lemmas one.1 later.1.lemmas; best = later.1.best },
+      later.2,
     )
 
-gaps_before : (k : Kinds) (line : List ℕ) (lines : List (List ℕ)) (rest : List ℕ) (gaps : ℕ) (steps : List LogStep) → EntrySpelled k (words_in line) (entry.Gaps gaps) → (lines_text lines rest ≡ flat_map column_line steps ++ codes "end\n") × All (StepFits k) steps → RestSpelled k (line ∷ lines) rest (record { lemmas = []; best = Some (record { gaps = gaps; steps = steps }) })
+gaps_before : (version : ℕ) (k : Kinds) (line : List ℕ) (lines : List (List ℕ)) (rest : List ℕ) (gaps : ℕ) (steps : List LogStep) → IsVersion version → EntrySpelled k (words_in line) (entry.Gaps gaps) → (lines_text lines rest ≡ flat_map column_line steps ++ codes "end\n") × All (StepFits k) steps → RestSpelled version k (line ∷ lines) rest (record { version = version; lemmas = []; best = Some (record { gaps = gaps; steps = steps }) })
 unfolding EntrySpelled RestSpelled
-gaps_before k line lines rest gaps steps one later =
+gaps_before version k line lines rest gaps steps known one later =
     let here : fed line ≡ codes "gaps " ++ (decimal gaps ++ codes "\n") = line_of_words line (codes "gaps" ∷ decimal gaps ∷ []) one.0 in (
       text_cons line lines rest ∙ (ap (λ (bs : List ℕ). bs ++ lines_text lines rest) here ∙ (ap (λ (bs : List ℕ). (codes "gaps " ++ (decimal gaps ++ codes "\n")) ++ bs) later.0 ∙ gaps_apart (decimal gaps) (flat_map column_line steps))),
-      record { lemmas = All-nil (LemmaFits k); best = record { few = omega (arith, one.1); steps = later.1 } },
+      record { version = known; lemmas = All-nil (LemmaFits k); best = record { few = omega (arith, one.1); steps = later.1 } },
+      refl,
     )
   where
     gaps_apart : (g cs : List ℕ) → (codes "gaps " ++ (g ++ codes "\n")) ++ (cs ++ codes "end\n") ≡ (codes "gaps " ++ g ++ codes "\n" ++ cs) ++ codes "end\n"
     gaps_apart g cs = simp append_assoc
 
-open_before : (k : Kinds) (line : List ℕ) (lines : List (List ℕ)) (rest : List ℕ) → EntrySpelled k (words_in line) entry.Open → lines_text lines rest ≡ codes "end\n" → RestSpelled k (line ∷ lines) rest (record { lemmas = []; best = None })
+open_before : (version : ℕ) (k : Kinds) (line : List ℕ) (lines : List (List ℕ)) (rest : List ℕ) → IsVersion version → EntrySpelled k (words_in line) entry.Open → lines_text lines rest ≡ codes "end\n" → RestSpelled version k (line ∷ lines) rest (record { version = version; lemmas = []; best = None })
 unfolding EntrySpelled RestSpelled
-open_before k line lines rest one later = (
+open_before version k line lines rest known one later = (
   text_cons line lines rest ∙ (ap (λ (bs : List ℕ). bs ++ lines_text lines rest) (line_of_words line (codes "open" ∷ []) one) ∙ ap (λ (bs : List ℕ). codes "open\n" ++ bs) later),
-  record { lemmas = All-nil (LemmaFits k); best = tt },
+  record { version = known; lemmas = All-nil (LemmaFits k); best = tt },
+  refl,
 )
 
-log_only : (k : Kinds) (n : ℕ) (lines : List (List ℕ)) (rest : List ℕ) (log : Log) → AreSomeKinds k → log_at k n lines rest ≡ Ok log → RestSpelled k lines rest log
+log_only : (version : ℕ) (k : Kinds) (n : ℕ) (lines : List (List ℕ)) (rest : List ℕ) (log : Log) → IsVersion version → AreSomeKinds k → log_at version k n lines rest ≡ Ok log → RestSpelled version k lines rest log
 unfolding log_at
-log_only k n [] rest log some h = absurd (err-ok fault.Cut log h)
-log_only k n (line ∷ lines) rest log some h =
+log_only version k n [] rest log known some h = absurd (err-ok fault.Cut log h)
+log_only version k n (line ∷ lines) rest log known some h =
     let first = bound_ok (or_fault (entry_in k (words_in line)) (fault.Line n)) _ log h in
-    by_entry first.0 first.2 (entry_spelled k (words_in line) first.0 some (there (entry_in k (words_in line)) (fault.Line n) first.0 first.1)) (λ later read. log_only k (n + 1) lines rest later some read)
+    by_entry first.0 first.2 (entry_spelled k (words_in line) first.0 some (there (entry_in k (words_in line)) (fault.Line n) first.0 first.1)) (λ later read. log_only version k (n + 1) lines rest later known some read)
   where
-    by_entry : (e : Entry) → begun_by e (log_at k (n + 1) lines rest) (columns_at k (n + 1) lines rest) (end_at (n + 1) lines rest) ≡ Ok log → EntrySpelled k (words_in line) e → ((later : Log) → log_at k (n + 1) lines rest ≡ Ok later → RestSpelled k lines rest later) → RestSpelled k (line ∷ lines) rest log
+    by_entry : (e : Entry) → begun_by version e (log_at version k (n + 1) lines rest) (columns_at k (n + 1) lines rest) (end_at (n + 1) lines rest) ≡ Ok log → EntrySpelled k (words_in line) e → ((later : Log) → log_at version k (n + 1) lines rest ≡ Ok later → RestSpelled version k lines rest later) → RestSpelled version k (line ∷ lines) rest log
     by_entry (entry.Lemma lemma) read spelled more =
-        let later = bound_ok (log_at k (n + 1) lines rest) _ log read in
-        subst (RestSpelled k (line ∷ lines) rest) (same_Ok _ log later.2) (lemma_before k line lines rest lemma later.0 spelled (more later.0 later.1))
+        let later = bound_ok (log_at version k (n + 1) lines rest) _ log read in
+        subst (RestSpelled version k (line ∷ lines) rest) (same_Ok _ log later.2) (lemma_before version k line lines rest lemma later.0 spelled (more later.0 later.1))
     by_entry (entry.Gaps gaps) read spelled more =
         let steps = bound_ok (columns_at k (n + 1) lines rest) _ log read in
-        subst (RestSpelled k (line ∷ lines) rest) (same_Ok _ log steps.2) (gaps_before k line lines rest gaps steps.0 spelled (columns_only k (n + 1) lines rest steps.0 steps.1))
+        subst (RestSpelled version k (line ∷ lines) rest) (same_Ok _ log steps.2) (gaps_before version k line lines rest gaps steps.0 known spelled (columns_only k (n + 1) lines rest steps.0 steps.1))
     by_entry entry.Open read spelled more =
         let end = bound_ok (end_at (n + 1) lines rest) _ log read in
-        subst (RestSpelled k (line ∷ lines) rest) (same_Ok _ log end.2) (open_before k line lines rest spelled (end_only (n + 1) lines rest end.0 end.1))
+        subst (RestSpelled version k (line ∷ lines) rest) (same_Ok _ log end.2) (open_before version k line lines rest known spelled (end_only (n + 1) lines rest end.0 end.1))
 
-named_only : (name : List ℕ) (k : Kinds) (lines : List (List ℕ)) (rest : List ℕ) (log : Log) → AreSomeKinds k → named_at name k lines rest ≡ Ok log → (lines_text lines rest ≡ fed (codes "cell " ++ name) ++ (flat_map lemma_line log.lemmas ++ (best_text log.best ++ codes "end\n"))) × Fits k log
+named_only : (name : List ℕ) (k : Kinds) (version : ℕ) (lines : List (List ℕ)) (rest : List ℕ) (log : Log) → IsVersion version → AreSomeKinds k → named_at name k version lines rest ≡ Ok log → (lines_text lines rest ≡ fed (codes "cell " ++ name) ++ (flat_map lemma_line log.lemmas ++ (best_text log.best ++ codes "end\n"))) × Fits k log × (log.version ≡ version)
 unfolding RestSpelled
-named_only name k [] rest log some h = absurd (err-ok fault.Cut log h)
-named_only name k (line ∷ lines) rest log some h =
+named_only name k version [] rest log known some h = absurd (err-ok fault.Cut log h)
+named_only name k version (line ∷ lines) rest log known some h =
     let one = required (is_word line (codes "cell " ++ name)) fault.Cell _ log h in
-    let later : RestSpelled k lines rest log = log_only k 3 lines rest log some one.1 in
-    (text_cons line lines rest ∙ (ap (λ (bs : List ℕ). bs ++ lines_text lines rest) (ap fed (same_words line (codes "cell " ++ name) one.0)) ∙ ap (λ (bs : List ℕ). fed (codes "cell " ++ name) ++ bs) later.0), later.1)
+    let later : RestSpelled version k lines rest log = log_only version k 3 lines rest log known some one.1 in
+    (text_cons line lines rest ∙ (ap (λ (bs : List ℕ). bs ++ lines_text lines rest) (ap fed (same_words line (codes "cell " ++ name) one.0)) ∙ ap (λ (bs : List ℕ). fed (codes "cell " ++ name) ++ bs) later.0), later.1, later.2)
 
 text_only : (name : List ℕ) (k : Kinds) (lines : List (List ℕ)) (rest : List ℕ) (log : Log) → AreSomeKinds k → text_at name k lines rest ≡ Ok log → (lines_text lines rest ≡ log_text name log) × Fits k log
 text_only name k [] rest log some h = absurd (err-ok fault.Cut log h)
 text_only name k (line ∷ lines) rest log some h =
-    let one = required (is_word line (codes "cellgen-log 1")) fault.Version _ log h in
-    let later = named_only name k lines rest log some one.1 in
-    (text_cons line lines rest ∙ (ap (λ (bs : List ℕ). bs ++ lines_text lines rest) (ap fed (same_words line (codes "cellgen-log 1") one.0)) ∙ (ap (λ (bs : List ℕ). fed (codes "cellgen-log 1") ++ bs) later.0 ∙ text_apart name (flat_map lemma_line log.lemmas) (best_text log.best))), later.1)
+    let first = bound_ok (or_fault (version_in line) fault.Version) _ log h in
+    let spelled : (line ≡ version_line first.0) × IsVersion first.0 = version_spelled line first.0 (there (version_in line) fault.Version first.0 first.1) in
+    let later = named_only name k first.0 lines rest log spelled.1 some first.2 in
+    let here : line ≡ version_line log.version = spelled.0 ∙ ap version_line (sym later.2) in
+    (text_cons line lines rest ∙ (ap (λ (bs : List ℕ). bs ++ lines_text lines rest) (ap fed here) ∙ (ap (λ (bs : List ℕ). fed (version_line log.version) ++ bs) later.0 ∙ text_apart (version_line log.version) name (flat_map lemma_line log.lemmas) (best_text log.best))), later.1)
   where
-    text_apart : (name ls best : List ℕ) → fed (codes "cellgen-log 1") ++ (fed (codes "cell " ++ name) ++ (ls ++ (best ++ codes "end\n"))) ≡ codes "cellgen-log 1\n" ++ codes "cell " ++ name ++ codes "\n" ++ ls ++ best ++ codes "end\n"
-    text_apart name ls best = simp append_assoc
+    text_apart : (first name ls best : List ℕ) → fed first ++ (fed (codes "cell " ++ name) ++ (ls ++ (best ++ codes "end\n"))) ≡ first ++ codes "\n" ++ codes "cell " ++ name ++ codes "\n" ++ ls ++ best ++ codes "end\n"
+    text_apart first name ls best = simp append_assoc
 
 -- what is read fits, and its text is what was read
 pub read_only : (bytes name : List ℕ) (k : Kinds) (log : Log) → AreSomeKinds k → log_of bytes name k ≡ Ok log → Fits k log × (bytes ≡ log_text name log)

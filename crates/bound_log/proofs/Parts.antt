@@ -1,14 +1,14 @@
 -- The parts of a text, one after the other.
-use Rattle.std.specs.Prelude.{ℕ, ◌≡◌, ◌+◌, ◌-◌, ◌<◌, ◌≤◌, ◌==◌, nat_lt, true, false, List, [], ◌∷◌, ◌++◌, Some, None, length, map, take, drop, position}
+use Rattle.std.specs.Prelude.{ℕ, ◌≡◌, ◌≢◌, ◌+◌, ◌-◌, ◌<◌, ◌≤◌, ◌==◌, nat_lt, true, false, List, [], ◌∷◌, ◌++◌, Some, None, length, map, take, drop, get_or, position}
 use Rattle.std.proofs.Common.{refl, sym, ap, arith, ◌∙◌, inl, inr}
 use Rattle.std.specs.Borrow.{Bor}
-use Rattle.std.specs.List.{position_or_len}
+use Rattle.std.specs.List.{onto_first, position_or_len}
 use Rattle.std.proofs.Math.Seq.{take-length}
-use Rattle.std.proofs.lemmas.Bool.{cases_Bool, ltb-false, ltb-true}
+use Rattle.std.proofs.lemmas.Bool.{cases_Bool, eq-eqb, ltb-false, ltb-true, ne_eqb}
 use Rattle.std.proofs.lemmas.List.{append-nil, length-append, length-drop, length-map}
 use Rattle.std.proofs.lemmas.List.Elements.{All-from_get_or}
 use Rattle.std.proofs.lemmas.List.Sums.{fails_before_first}
-use Rattle.std.proofs.lemmas.List.Splits.{length-slice_split, slice_split_first, slice_split_none}
+use Rattle.std.proofs.lemmas.List.Splits.{length-slice_split, slice_split-cons_no, slice_split-cons_yes, slice_split_first, slice_split_none}
 use Rattle.std.proofs.lemmas.Option.{cond_some, none-some}
 use Rattle.bound_log.specs.Line.{parts_at}
 
@@ -31,8 +31,21 @@ found_within c text at e =
 pub all_behind : (text : List ℕ) (n : ℕ) → take (length text - n) (drop n text) ≡ drop n text
 all_behind text n = rw (sym (length-drop n text)) (take-length (drop n text))
 
-some_part : (c : ℕ) (text : List ℕ) → 0 < length (parts_at c text)
+pub some_part : (c : ℕ) (text : List ℕ) → 0 < length (parts_at c text)
 some_part c text = omega (arith, length-slice_split (λ b. b == c) text)
+
+-- the first part, and the text behind the byte that ends it
+pub first_cut : (c : ℕ) (text : List ℕ) (at : ℕ) → Some at ≡ position (λ b. b == c) text → parts_at c text ≡ take at text ∷ parts_at c (take (length text - (at + 1)) (drop (at + 1) text))
+first_cut c text at found = cut_at c text at found ∙ ap (λ (rest : List ℕ). take at text ∷ parts_at c rest) (sym (all_behind text (at + 1)))
+
+-- the same, where the second byte ends the first part
+pub second_cut : (c : ℕ) (text : List ℕ) (d e : ℕ) → 2 ≤ length text → get_or text 0 d ≢ c → get_or text 1 e ≡ c → parts_at c text ≡ take 1 text ∷ parts_at c (take (length text - 2) (drop 2 text))
+second_cut c [] d e long other same = absurd (omega (arith, long))
+second_cut c (a ∷ []) d e long other same = absurd (omega (arith, long))
+second_cut c (a ∷ b ∷ rest) d e long other same =
+    slice_split-cons_no (λ x. x == c) a (b ∷ rest) (ne_eqb a c other)
+    ∙ (ap (onto_first a) (slice_split-cons_yes (λ x. x == c) b rest (eq-eqb b c same))
+    ∙ ap (λ (l : List ℕ). (a ∷ []) ∷ parts_at c l) (sym (all_behind (a ∷ b ∷ rest) 2)))
 
 -- ---- the parts so far, and the rest
 

@@ -17,8 +17,8 @@ use Rattle.bound_log.specs.declared.log.Log.{Log}
 use Rattle.bound_log.specs.declared.log.Entry.{Entry}
 use Rattle.bound_log.specs.declared.log.Entry.TheVariants as entry
 use Rattle.bound_log.specs.Fits.{IsLogName}
-use Rattle.bound_log.specs.Line.{column_in, entry_in, is_word, words_in}
-use Rattle.bound_log.specs.Pieces.{begun, column_says, columns_told, entry_says, item_if, line_tale, log_read, log_told, tale_of, then_tale}
+use Rattle.bound_log.specs.Line.{column_in, entry_in, is_word, version_in, words_in}
+use Rattle.bound_log.specs.Pieces.{begun, column_says, columns_told, entry_says, line_tale, log_read, log_told, said_if, tale_of, then_tale, version_says, with_version}
 use Rattle.bound_log.specs.Reading.{begun_by, behind, columns_at, end_at, lines_in, log_at, log_of, named_at, text_at}
 use Rattle.bound_log.proofs.Only.{text_cons}
 use Rattle.bound_log.proofs.Splits.{Lacks, behind_lacks, bytes_again, fed, lines_lack, lines_text}
@@ -64,7 +64,7 @@ at_end f name k n (line ∷ lines) rest is some lack last =
     ∙ (ap (read_as f) (ahead name k place.End n line text is some (λ e. cc) (All-head (Lacks 10) line lines lack))
     ∙ by_word (is_word line (codes "end")))
   where
-    by_word : (end : Bool) → read_as f (then_tale (line_tale (at_line name k place.End n) (item_if end item.End (fault.Line n))) (λ s. tale_of s (lines_text lines rest))) ≡ ((require end (fault.Line n) >>= λ _. require (length lines == 0 && length rest == 0) (fault.Line (n + 1))) >>= λ _. Ok (f (item.End ∷ [])))
+    by_word : (end : Bool) → read_as f (then_tale (line_tale (at_line name k place.End n) (said_if end item.End place.Behind (fault.Line n))) (λ s. tale_of s (lines_text lines rest))) ≡ ((require end (fault.Line n) >>= λ _. require (length lines == 0 && length rest == 0) (fault.Line (n + 1))) >>= λ _. Ok (f (item.End ∷ [])))
     by_word true = at_behind (λ items. f (item.End ∷ items)) name k (n + 1) lines rest
     by_word false = wrong f (at_line name k place.End n) (fault.Line n) (lines_text lines rest)
 
@@ -102,57 +102,61 @@ at_columns name k n (line ∷ lines) rest is some lack last =
 
 -- ---- lemmas
 
-no_lemmas : (k : Kinds) (n : ℕ) (rest : List ℕ) → log_at k n [] rest ≡ Err fault.Cut
+no_lemmas : (version : ℕ) (k : Kinds) (n : ℕ) (rest : List ℕ) → log_at version k n [] rest ≡ Err fault.Cut
 unfolding log_at
-no_lemmas k n rest = refl
+no_lemmas version k n rest = refl
 
-entry_first : (k : Kinds) (n : ℕ) (line : List ℕ) (lines : List (List ℕ)) (rest : List ℕ) → log_at k n (line ∷ lines) rest ≡ (or_fault (entry_in k (words_in line)) (fault.Line n) >>= λ first. begun_by first (log_at k (n + 1) lines rest) (columns_at k (n + 1) lines rest) (end_at (n + 1) lines rest))
+entry_first : (version : ℕ) (k : Kinds) (n : ℕ) (line : List ℕ) (lines : List (List ℕ)) (rest : List ℕ) → log_at version k n (line ∷ lines) rest ≡ (or_fault (entry_in k (words_in line)) (fault.Line n) >>= λ first. begun_by version first (log_at version k (n + 1) lines rest) (columns_at k (n + 1) lines rest) (end_at (n + 1) lines rest))
 unfolding log_at
-entry_first k n line lines rest = refl
+entry_first version k n line lines rest = refl
 
-at_lemmas : (name : List ℕ) (k : Kinds) (n : ℕ) (lines : List (List ℕ)) (rest : List ℕ) → IsLogName name → AreSomeKinds k → All (Lacks 10) lines → Lacks 10 rest → read_as log_told (tale_of (at_line name k place.Lemmas n) (lines_text lines rest)) ≡ log_at k n lines rest
-at_lemmas name k n [] rest is some lack last =
-    ap (λ (t : List ℕ). read_as log_told (tale_of (at_line name k place.Lemmas n) t)) (no_line rest) ∙ (cut log_told name k place.Lemmas n rest (λ e. cc) last ∙ sym (no_lemmas k n rest))
-at_lemmas name k n (line ∷ lines) rest is some lack last =
-    ap (λ (t : List ℕ). read_as log_told (tale_of (at_line name k place.Lemmas n) t)) (text_cons line lines rest)
-    ∙ (ap (read_as log_told) (ahead name k place.Lemmas n line (lines_text lines rest) is some (λ e. cc) (All-head (Lacks 10) line lines lack))
-    ∙ (by_entry (entry_in k (words_in line)) (at_lemmas name k (n + 1) lines rest is some (All-tail (Lacks 10) line lines lack) last) ∙ sym (entry_first k n line lines rest)))
+-- the log told behind a head of that version
+abbrev of_version : ℕ → List LogItem → Log
+of_version version items = with_version version (log_told items)
+
+at_lemmas : (version : ℕ) (name : List ℕ) (k : Kinds) (n : ℕ) (lines : List (List ℕ)) (rest : List ℕ) → IsLogName name → AreSomeKinds k → All (Lacks 10) lines → Lacks 10 rest → read_as (of_version version) (tale_of (at_line name k place.Lemmas n) (lines_text lines rest)) ≡ log_at version k n lines rest
+at_lemmas version name k n [] rest is some lack last =
+    ap (λ (t : List ℕ). read_as (of_version version) (tale_of (at_line name k place.Lemmas n) t)) (no_line rest) ∙ (cut (of_version version) name k place.Lemmas n rest (λ e. cc) last ∙ sym (no_lemmas version k n rest))
+at_lemmas version name k n (line ∷ lines) rest is some lack last =
+    ap (λ (t : List ℕ). read_as (of_version version) (tale_of (at_line name k place.Lemmas n) t)) (text_cons line lines rest)
+    ∙ (ap (read_as (of_version version)) (ahead name k place.Lemmas n line (lines_text lines rest) is some (λ e. cc) (All-head (Lacks 10) line lines lack))
+    ∙ (by_entry (entry_in k (words_in line)) (at_lemmas version name k (n + 1) lines rest is some (All-tail (Lacks 10) line lines lack) last) ∙ sym (entry_first version k n line lines rest)))
   where
-    by_entry : (o : Option Entry) → read_as log_told (tale_of (at_line name k place.Lemmas (n + 1)) (lines_text lines rest)) ≡ log_at k (n + 1) lines rest → read_as log_told (then_tale (line_tale (at_line name k place.Lemmas n) (entry_says o (fault.Line n))) (λ s. tale_of s (lines_text lines rest))) ≡ (or_fault o (fault.Line n) >>= λ first. begun_by first (log_at k (n + 1) lines rest) (columns_at k (n + 1) lines rest) (end_at (n + 1) lines rest))
-    by_entry None later = wrong log_told (at_line name k place.Lemmas n) (fault.Line n) (lines_text lines rest)
+    by_entry : (o : Option Entry) → read_as (of_version version) (tale_of (at_line name k place.Lemmas (n + 1)) (lines_text lines rest)) ≡ log_at version k (n + 1) lines rest → read_as (of_version version) (then_tale (line_tale (at_line name k place.Lemmas n) (entry_says o (fault.Line n))) (λ s. tale_of s (lines_text lines rest))) ≡ (or_fault o (fault.Line n) >>= λ first. begun_by version first (log_at version k (n + 1) lines rest) (columns_at k (n + 1) lines rest) (end_at (n + 1) lines rest))
+    by_entry None later = wrong (of_version version) (at_line name k place.Lemmas n) (fault.Line n) (lines_text lines rest)
     by_entry (Some (entry.Lemma lemma)) later =
         let tale = tale_of (at_line name k place.Lemmas (n + 1)) (lines_text lines rest) in
-        ended_more tale.reader.fault tale.reader.place (λ (log : Log). record { lemmas = lemma ∷ log.lemmas; best = log.best }) (log_told tale.items)
-        ∙ ap (λ (r : Result Log LogFault). r >>= λ log. Ok (record { lemmas = lemma ∷ log.lemmas; best = log.best })) later
+        ended_more tale.reader.fault tale.reader.place (λ (log : Log). record { version = log.version; lemmas = lemma ∷ log.lemmas; best = log.best }) (of_version version tale.items)
+        ∙ ap (λ (r : Result Log LogFault). r >>= λ log. Ok (record { version = log.version; lemmas = lemma ∷ log.lemmas; best = log.best })) later
     by_entry (Some (entry.Gaps gaps)) later =
         let tale = tale_of (at_line name k place.Columns (n + 1)) (lines_text lines rest) in
-        ended_more tale.reader.fault tale.reader.place (λ (steps : List LogStep). record { lemmas = []; best = Some (record { gaps = gaps; steps = steps }) }) (columns_told tale.items)
-        ∙ ap (λ (r : Result (List LogStep) LogFault). r >>= λ steps. Ok (record { lemmas = []; best = Some (record { gaps = gaps; steps = steps }) })) (at_columns name k (n + 1) lines rest is some (All-tail (Lacks 10) line lines lack) last)
-    by_entry (Some entry.Open) later = at_end (λ items. log_told (item.Open ∷ items)) name k (n + 1) lines rest is some (All-tail (Lacks 10) line lines lack) last
+        ended_more tale.reader.fault tale.reader.place (λ (steps : List LogStep). record { version = version; lemmas = []; best = Some (record { gaps = gaps; steps = steps }) }) (columns_told tale.items)
+        ∙ ap (λ (r : Result (List LogStep) LogFault). r >>= λ steps. Ok (record { version = version; lemmas = []; best = Some (record { gaps = gaps; steps = steps }) })) (at_columns name k (n + 1) lines rest is some (All-tail (Lacks 10) line lines lack) last)
+    by_entry (Some entry.Open) later = at_end (λ items. of_version version (item.Open ∷ items)) name k (n + 1) lines rest is some (All-tail (Lacks 10) line lines lack) last
 
 -- ---- the first two lines
 
-at_cell : (name : List ℕ) (k : Kinds) (lines : List (List ℕ)) (rest : List ℕ) → IsLogName name → AreSomeKinds k → All (Lacks 10) lines → Lacks 10 rest → read_as log_told (tale_of (at_line name k place.Cell 2) (lines_text lines rest)) ≡ named_at name k lines rest
-at_cell name k [] rest is some lack last = ap (λ (t : List ℕ). read_as log_told (tale_of (at_line name k place.Cell 2) t)) (no_line rest) ∙ cut log_told name k place.Cell 2 rest (λ e. cc) last
-at_cell name k (line ∷ lines) rest is some lack last =
-    ap (λ (t : List ℕ). read_as log_told (tale_of (at_line name k place.Cell 2) t)) (text_cons line lines rest)
-    ∙ (ap (read_as log_told) (ahead name k place.Cell 2 line (lines_text lines rest) is some (λ e. cc) (All-head (Lacks 10) line lines lack))
+at_cell : (version : ℕ) (name : List ℕ) (k : Kinds) (lines : List (List ℕ)) (rest : List ℕ) → IsLogName name → AreSomeKinds k → All (Lacks 10) lines → Lacks 10 rest → read_as log_told (tale_of (at_line name k (place.Cell version) 2) (lines_text lines rest)) ≡ named_at name k version lines rest
+at_cell version name k [] rest is some lack last = ap (λ (t : List ℕ). read_as log_told (tale_of (at_line name k (place.Cell version) 2) t)) (no_line rest) ∙ cut log_told name k (place.Cell version) 2 rest (λ e. cc) last
+at_cell version name k (line ∷ lines) rest is some lack last =
+    ap (λ (t : List ℕ). read_as log_told (tale_of (at_line name k (place.Cell version) 2) t)) (text_cons line lines rest)
+    ∙ (ap (read_as log_told) (ahead name k (place.Cell version) 2 line (lines_text lines rest) is some (λ e. cc) (All-head (Lacks 10) line lines lack))
     ∙ by_word (is_word line (codes "cell " ++ name)))
   where
-    by_word : (same : Bool) → read_as log_told (then_tale (line_tale (at_line name k place.Cell 2) (item_if same item.Head fault.Cell)) (λ s. tale_of s (lines_text lines rest))) ≡ (require same fault.Cell >>= λ _. log_at k 3 lines rest)
-    by_word true = at_lemmas name k 3 lines rest is some (All-tail (Lacks 10) line lines lack) last
-    by_word false = wrong log_told (at_line name k place.Cell 2) fault.Cell (lines_text lines rest)
+    by_word : (same : Bool) → read_as log_told (then_tale (line_tale (at_line name k (place.Cell version) 2) (said_if same (item.Head version) place.Lemmas fault.Cell)) (λ s. tale_of s (lines_text lines rest))) ≡ (require same fault.Cell >>= λ _. log_at version k 3 lines rest)
+    by_word true = at_lemmas version name k 3 lines rest is some (All-tail (Lacks 10) line lines lack) last
+    by_word false = wrong log_told (at_line name k (place.Cell version) 2) fault.Cell (lines_text lines rest)
 
 at_version : (name : List ℕ) (k : Kinds) (lines : List (List ℕ)) (rest : List ℕ) → IsLogName name → AreSomeKinds k → All (Lacks 10) lines → Lacks 10 rest → read_as log_told (tale_of (begun name k) (lines_text lines rest)) ≡ text_at name k lines rest
 at_version name k [] rest is some lack last = ap (λ (t : List ℕ). read_as log_told (tale_of (begun name k) t)) (no_line rest) ∙ cut log_told name k place.Version 1 rest (λ e. cc) last
 at_version name k (line ∷ lines) rest is some lack last =
     ap (λ (t : List ℕ). read_as log_told (tale_of (begun name k) t)) (text_cons line lines rest)
     ∙ (ap (read_as log_told) (ahead name k place.Version 1 line (lines_text lines rest) is some (λ e. cc) (All-head (Lacks 10) line lines lack))
-    ∙ by_word (is_word line (codes "cellgen-log 1")))
+    ∙ by_version (version_in line))
   where
-    by_word : (same : Bool) → read_as log_told (then_tale (line_tale (begun name k) (item_if same item.More fault.Version)) (λ s. tale_of s (lines_text lines rest))) ≡ (require same fault.Version >>= λ _. named_at name k lines rest)
-    by_word true = at_cell name k lines rest is some (All-tail (Lacks 10) line lines lack) last
-    by_word false = wrong log_told (begun name k) fault.Version (lines_text lines rest)
+    by_version : (o : Option ℕ) → read_as log_told (then_tale (line_tale (begun name k) (version_says o)) (λ s. tale_of s (lines_text lines rest))) ≡ (or_fault o fault.Version >>= λ version. named_at name k version lines rest)
+    by_version (Some version) = at_cell version name k lines rest is some (All-tail (Lacks 10) line lines lack) last
+    by_version None = wrong log_told (begun name k) fault.Version (lines_text lines rest)
 
 -- whatever the pieces are
 pub read_whole : (name : List ℕ) (k : Kinds) (bytes : List ℕ) → IsLogName name → AreSomeKinds k → log_of bytes name k ≡ log_read (tale_of (begun name k) bytes)

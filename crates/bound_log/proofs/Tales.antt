@@ -14,6 +14,7 @@ use Rattle.bound_log.specs.declared.item.LogItem.{LogItem}
 use Rattle.bound_log.specs.declared.item.LogItem.TheVariants as item
 use Rattle.bound_log.specs.declared.item.LogPlace.{LogPlace}
 use Rattle.bound_log.specs.declared.item.LogPlace.TheVariants as place
+use Rattle.bound_log.specs.declared.said.Said.{Said}
 use Rattle.bound_log.specs.Pieces.{IsShort, Reader, Tale, behind_line, byte_tale, line_bytes, line_tale, longer, next_tale, refused, tale_of, then_tale, told, whole_says, with_line}
 use Rattle.bound_log.proofs.Splits.{Lacks}
 
@@ -53,7 +54,7 @@ is_behind r (b ∷ bs) h p some =
 
 not_behind : (p : LogPlace) (r : Reader) (b : ℕ) → p ≢ place.Behind → next_tale None p r b ≡ byte_tale r b
 not_behind place.Version r b h = refl
-not_behind place.Cell r b h = refl
+not_behind (place.Cell v) r b h = refl
 not_behind place.Lemmas r b h = refl
 not_behind place.Columns r b h = refl
 not_behind place.End r b h = refl
@@ -108,7 +109,7 @@ same_says : (r : Reader) (line whole : Option (List ℕ)) → whole_says (with_l
 same_says r line None = refl
 same_says r line (Some whole) = refl
 
-same_tale : (r : Reader) (line : Option (List ℕ)) (said : Result LogItem LogFault) → line_tale (with_line r line) said ≡ line_tale r said
+same_tale : (r : Reader) (line : Option (List ℕ)) (said : Result Said LogFault) → line_tale (with_line r line) said ≡ line_tale r said
 same_tale r line (Ok i) = refl
 same_tale r line (Err f) = refl
 
@@ -166,11 +167,11 @@ behind_end r bytes h p some = ap (λ (t : Tale). t.reader) (is_behind r (take (l
 pub no_feed : (r : Reader) (bytes : List ℕ) → None ≡ position (λ b. b == 10) bytes → r.fault ≡ None → r.place ≢ place.Behind → IsShort r.line → tale_of r (take (length bytes) bytes) ≡ record { items = told item.More; reader = with_line r (longer r.line bytes) }
 no_feed r bytes e h p short = rw (take-length bytes) (quiet r bytes h p short (lacks_all bytes e))
 
-pub whole_line : (r : Reader) (bytes : List ℕ) (at : ℕ) (said : Result LogItem LogFault) → Some at ≡ position (λ b. b == 10) bytes → r.fault ≡ None → r.place ≢ place.Behind → IsShort r.line → whole_says r (longer r.line (take at bytes)) ≡ said → tale_of r (take (at + 1) bytes) ≡ line_tale r said
+pub whole_line : (r : Reader) (bytes : List ℕ) (at : ℕ) (said : Result Said LogFault) → Some at ≡ position (λ b. b == 10) bytes → r.fault ≡ None → r.place ≢ place.Behind → IsShort r.line → whole_says r (longer r.line (take at bytes)) ≡ said → tale_of r (take (at + 1) bytes) ≡ line_tale r said
 whole_line r bytes at said e h p short is = ap (tale_of r) (line_front bytes at e) ∙ (feeds r (take at bytes) h p short (lacks_before bytes at e) ∙ ap (line_tale r) is)
 
-pub one_line : (r : Reader) (bytes : List ℕ) (at : ℕ) (i : LogItem) → Some at ≡ position (λ b. b == 10) bytes → r.fault ≡ None → r.place ≢ place.Behind → IsShort r.line → whole_says r (longer r.line (take at bytes)) ≡ Ok i → tale_of r (take (at + 1) bytes) ≡ record { items = told i; reader = behind_line r (Ok i) }
-one_line r bytes at i e h p short is = whole_line r bytes at (Ok i) e h p short is
+pub one_line : (r : Reader) (bytes : List ℕ) (at : ℕ) (said : Said) → Some at ≡ position (λ b. b == 10) bytes → r.fault ≡ None → r.place ≢ place.Behind → IsShort r.line → whole_says r (longer r.line (take at bytes)) ≡ Ok said → tale_of r (take (at + 1) bytes) ≡ record { items = told said.item; reader = behind_line r (Ok said) }
+one_line r bytes at said e h p short is = whole_line r bytes at (Ok said) e h p short is
 
 pub one_fault : (r : Reader) (bytes : List ℕ) (at : ℕ) (f : LogFault) → Some at ≡ position (λ b. b == 10) bytes → r.fault ≡ None → r.place ≢ place.Behind → IsShort r.line → whole_says r (longer r.line (take at bytes)) ≡ Err f → (tale_of r (take (line_bytes bytes) bytes)).reader ≡ refused r f
 one_fault r bytes at f e h p short is = rw (sym e) (ap (λ (t : Tale). t.reader) (whole_line r bytes at (Err f) e h p short is))

@@ -1,12 +1,14 @@
 -- The lines of a log, told one by one, are the log.
-use Rattle.std.specs.Prelude.{ℕ, ◌≡◌, ◌≢◌, ◌+◌, ◌<◌, ◌≤◌, leb, false, List, [], ◌∷◌, ◌++◌, Option, Some, None, Result, Ok, Err, length, codes}
+use Rattle.std.specs.Prelude.{ℕ, ◌≡◌, ◌≢◌, ◌+◌, ◌<◌, ◌≤◌, leb, false, List, [], ◌∷◌, ◌++◌, Option, Some, None, Result, Ok, Err, length, codes, decimal}
 use Rattle.std.proofs.Common.{refl, sym, ap, arith, ◌∙◌, inl, inr}
 use Rattle.std.specs.List.{join_with_byte}
 use Rattle.std.proofs.lemmas.Bool.{cases_Bool, leb-false}
+use Rattle.std.proofs.lemmas.Fmt.{length-decimal-le}
 use Rattle.std.proofs.lemmas.List.{length-append}
 use Rattle.cell_num.specs.Steps.{◌>>=◌}
 use Rattle.row_state.specs.declared.kind.Kinds.{Kinds}
 use Rattle.row_state.specs.Start.{AreSomeKinds}
+use Rattle.row_state.specs.Versions.{IsVersion}
 use Rattle.bound_log.specs.declared.fault.LogFault.{LogFault}
 use Rattle.bound_log.specs.declared.fault.LogFault.TheVariants as fault
 use Rattle.bound_log.specs.declared.item.LogItem.{LogItem}
@@ -18,13 +20,14 @@ use Rattle.bound_log.specs.declared.log.Entry.TheVariants as entry
 use Rattle.bound_log.specs.Fits.{IsLogName}
 use Rattle.bound_log.specs.Line.{column_in, entry_in, is_word, words_in}
 use Rattle.bound_log.specs.Pieces.{Reader, Tale, ended, line_says, line_tale, longer, refused, tale_of, then_tale, whole_says, wrong_at}
-use Rattle.bound_log.specs.Text.{gaps_line}
+use Rattle.bound_log.specs.Text.{gaps_line, version_line}
 use Rattle.bound_log.proofs.Lengths.{column_short, gaps_short, lemma_short}
 use Rattle.bound_log.proofs.Numbers.{is_other}
 use Rattle.bound_log.proofs.Only.{EntrySpelled, column_spelled, entry_spelled, line_of_words}
 use Rattle.bound_log.proofs.Spelled.{column_joined, lemma_joined}
 use Rattle.bound_log.proofs.Splits.{Lacks, fed}
 use Rattle.bound_log.proofs.Tales.{feeds, quiet, stays, tale_append}
+use Rattle.bound_log.proofs.Versions.{version_missing, version_small}
 
 -- ---- lines that are too long
 
@@ -60,12 +63,16 @@ long_column k line some many = by_column (column_in k (words_in line)) refl
 long_word : (line word : List ℕ) → length word ≤ 300 → 300 < length line → is_word line word ≡ false
 long_word line word few many = is_other line word (λ e. omega (arith, few, many, ap length e))
 
+long_version : (line : List ℕ) (v : ℕ) → IsVersion v → 300 < length line → line ≢ version_line v
+long_version line v known many same =
+    omega (arith, many, ap length same, length-append (codes "cellgen-log ") (decimal v), length-decimal-le 2 v (omega arith) (omega (arith, version_small v known)) (omega (arith, version_small v known)))
+
 name_few : (name : List ℕ) → IsLogName name → length (codes "cell " ++ name) ≤ 300
 name_few name is = omega (arith, is.few, length-append (codes "cell ") name)
 
 long_says : (name : List ℕ) (k : Kinds) (p : LogPlace) (n : ℕ) (line : List ℕ) → IsLogName name → AreSomeKinds k → 300 < length line → line_says name k p n line ≡ Err (wrong_at p n)
-long_says name k place.Version n line is some many = rw (long_word line (codes "cellgen-log 1") (omega arith) many) refl
-long_says name k place.Cell n line is some many = rw (long_word line (codes "cell " ++ name) (name_few name is) many) refl
+long_says name k place.Version n line is some many = rw (version_missing line (λ v known. long_version line v known many)) refl
+long_says name k (place.Cell v) n line is some many = rw (long_word line (codes "cell " ++ name) (name_few name is) many) refl
 long_says name k place.Lemmas n line is some many = rw (long_entry k line some many) refl
 long_says name k place.Columns n line is some many = rw (long_word line (codes "end") (omega arith) many, long_column k line some many) refl
 long_says name k place.End n line is some many = rw (long_word line (codes "end") (omega arith) many) refl
@@ -95,7 +102,7 @@ read_as f tale = ended tale.reader.fault tale.reader.place (f tale.items)
 
 cut_at : {A : Type 0} (p : LogPlace) (a : A) → p ≢ place.Behind → ended None p a ≡ Err fault.Cut
 cut_at place.Version a h = refl
-cut_at place.Cell a h = refl
+cut_at (place.Cell v) a h = refl
 cut_at place.Lemmas a h = refl
 cut_at place.Columns a h = refl
 cut_at place.End a h = refl
@@ -111,7 +118,7 @@ wrong f r e text = ap (read_as f) (stays (refused r e) e text refl)
 pub ended_more : {A B : Type 0} (o : Option LogFault) (p : LogPlace) (g : A → B) (a : A) → ended o p (g a) ≡ (ended o p a >>= λ x. Ok (g x))
 ended_more (Some f) p g a = refl
 ended_more None place.Version g a = refl
-ended_more None place.Cell g a = refl
+ended_more None (place.Cell v) g a = refl
 ended_more None place.Lemmas g a = refl
 ended_more None place.Columns g a = refl
 ended_more None place.End g a = refl

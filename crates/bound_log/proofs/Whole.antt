@@ -7,6 +7,7 @@ use Rattle.std.proofs.lemmas.List.{append_assoc, length-append}
 use Rattle.std.proofs.lemmas.List.Elements.{All-append, All-cons, All-head, All-nil, All-tail}
 use Rattle.row_state.specs.declared.kind.Kinds.{Kinds}
 use Rattle.row_state.specs.Start.{AreSomeKinds}
+use Rattle.row_state.specs.Versions.{IsVersion}
 use Rattle.bound_log.specs.declared.fault.LogFault.{LogFault}
 use Rattle.bound_log.specs.declared.log.Lemma.{Lemma}
 use Rattle.bound_log.specs.declared.log.LogStep.{LogStep}
@@ -17,13 +18,14 @@ use Rattle.bound_log.specs.declared.log.Entry.TheVariants as entry
 use Rattle.bound_log.specs.Fits.{BestFits, Fits, IsLogName, LemmaFits, StepFits}
 use Rattle.bound_log.specs.Line.{entry_in, is_word, column_in, words_in}
 use Rattle.bound_log.specs.Reading.{begun_by, behind, columns_at, end_at, lines_in, log_at, log_of, named_at, text_at}
-use Rattle.bound_log.specs.Text.{best_text, column_line, lemma_line, log_text}
+use Rattle.bound_log.specs.Text.{best_text, column_line, head_lines, lemma_line, log_text, version_line}
 use Rattle.bound_log.proofs.Again.{by_test, column_above, column_again, lemma_above, lemma_again, words_again, words_lack}
 use Rattle.bound_log.proofs.Decimals.{above_decimal}
 use Rattle.bound_log.proofs.Numbers.{is_below, is_same}
 use Rattle.bound_log.proofs.Only.{err-ok}
 use Rattle.bound_log.proofs.Spelled.{column_joined, column_words, lemma_joined, lemma_words}
 use Rattle.bound_log.proofs.Splits.{IsAbove, Lacks, above_lacks, above_more, fed, line_behind, line_first}
+use Rattle.bound_log.proofs.Versions.{version_found, version_lacks}
 
 column_step : (k : Kinds) (n : ℕ) (line : List ℕ) (lines : List (List ℕ)) (rest : List ℕ) (step : LogStep) (steps : List LogStep) → is_word line (codes "end") ≡ false → column_in k (words_in line) ≡ Some step → columns_at k (n + 1) lines rest ≡ Ok steps → columns_at k n (line ∷ lines) rest ≡ Ok (step ∷ steps)
 unfolding columns_at
@@ -60,14 +62,14 @@ columns_again k n (step ∷ steps) some h =
     ap (λ (t : List ℕ). columns_at k n (lines_in t) (behind t)) whole
     ∙ (rw (fed_first line text lack, fed_behind line text lack) (column_step k n line (lines_in text) (behind text) step steps (not_end step) words (columns_again k (n + 1) steps some (All-tail (StepFits k) step steps h))))
 
-log_step : (k : Kinds) (n : ℕ) (line : List ℕ) (lines : List (List ℕ)) (rest : List ℕ) (e : Entry) → entry_in k (words_in line) ≡ Some e → log_at k n (line ∷ lines) rest ≡ begun_by e (log_at k (n + 1) lines rest) (columns_at k (n + 1) lines rest) (end_at (n + 1) lines rest)
+log_step : (version : ℕ) (k : Kinds) (n : ℕ) (line : List ℕ) (lines : List (List ℕ)) (rest : List ℕ) (e : Entry) → entry_in k (words_in line) ≡ Some e → log_at version k n (line ∷ lines) rest ≡ begun_by version e (log_at version k (n + 1) lines rest) (columns_at k (n + 1) lines rest) (end_at (n + 1) lines rest)
 unfolding log_at
-log_step k n line lines rest e some = rw some refl
+log_step version k n line lines rest e some = rw some refl
 
 -- the line behind the lemmas, and all that follows
-open_again : (k : Kinds) (n : ℕ) → log_at k n (lines_in (codes "open\n" ++ codes "end\n")) (behind (codes "open\n" ++ codes "end\n")) ≡ Ok (record { lemmas = []; best = None })
+open_again : (version : ℕ) (k : Kinds) (n : ℕ) → log_at version k n (lines_in (codes "open\n" ++ codes "end\n")) (behind (codes "open\n" ++ codes "end\n")) ≡ Ok (record { version = version; lemmas = []; best = None })
 unfolding log_at lines_in behind
-open_again k n = refl
+open_again version k n = refl
 
 pub gaps_above : (gaps : ℕ) → All (IsAbove 32) (codes "gaps" ∷ decimal gaps ∷ [])
 gaps_above gaps =
@@ -83,24 +85,24 @@ gaps_front best rest = apart (decimal best.gaps) (flat_map column_line best.step
     apart : (g cs : List ℕ) → (codes "gaps " ++ g ++ codes "\n" ++ cs) ++ rest ≡ fed (codes "gaps " ++ g) ++ (cs ++ rest)
     apart g cs = simp append_assoc
 
-best_again : (k : Kinds) (n : ℕ) (best : Option Best) → AreSomeKinds k → IfSome best (BestFits k) → log_at k n (lines_in (best_text best ++ codes "end\n")) (behind (best_text best ++ codes "end\n")) ≡ Ok (record { lemmas = []; best = best })
-best_again k n None some h = open_again k n
-best_again k n (Some best) some h =
+best_again : (version : ℕ) (k : Kinds) (n : ℕ) (best : Option Best) → AreSomeKinds k → IfSome best (BestFits k) → log_at version k n (lines_in (best_text best ++ codes "end\n")) (behind (best_text best ++ codes "end\n")) ≡ Ok (record { version = version; lemmas = []; best = best })
+best_again version k n None some h = open_again version k n
+best_again version k n (Some best) some h =
     let line = codes "gaps " ++ decimal best.gaps in
     let text = flat_map column_line best.steps ++ codes "end\n" in
     let above : All (IsAbove 32) (codes "gaps" ∷ decimal best.gaps ∷ []) = gaps_above best.gaps in
     let lack : Lacks 10 line = words_lack (codes "gaps" ∷ decimal best.gaps ∷ []) above in
     let whole : best_text (Some best) ++ codes "end\n" ≡ fed line ++ text = gaps_front best (codes "end\n") in
     let words : entry_in k (words_in line) ≡ Some (entry.Gaps best.gaps) = ap (entry_in k) (words_again (codes "gaps") (decimal best.gaps ∷ []) above) ∙ gaps_again k best.gaps h.few in
-    ap (λ (t : List ℕ). log_at k n (lines_in t) (behind t)) whole
-    ∙ (rw (fed_first line text lack, fed_behind line text lack) (log_step k n line (lines_in text) (behind text) (entry.Gaps best.gaps) words ∙ rw (columns_again k (n + 1) best.steps some h.steps) refl))
+    ap (λ (t : List ℕ). log_at version k n (lines_in t) (behind t)) whole
+    ∙ (rw (fed_first line text lack, fed_behind line text lack) (log_step version k n line (lines_in text) (behind text) (entry.Gaps best.gaps) words ∙ rw (columns_again k (n + 1) best.steps some h.steps) refl))
 
 pub lemmas_front : (lemma : Lemma) (lemmas : List Lemma) (rest : List ℕ) → flat_map lemma_line (lemma ∷ lemmas) ++ rest ≡ fed (join_with_byte 32 (codes "lemma" ∷ lemma_words lemma)) ++ (flat_map lemma_line lemmas ++ rest)
 lemmas_front lemma lemmas rest = append_assoc (lemma_line lemma) (flat_map lemma_line lemmas) rest ∙ ap (λ (bs : List ℕ). bs ++ (flat_map lemma_line lemmas ++ rest)) (sym (lemma_joined lemma))
 
-log_again : (k : Kinds) (n : ℕ) (lemmas : List Lemma) (best : Option Best) → AreSomeKinds k → All (LemmaFits k) lemmas → IfSome best (BestFits k) → log_at k n (lines_in (flat_map lemma_line lemmas ++ (best_text best ++ codes "end\n"))) (behind (flat_map lemma_line lemmas ++ (best_text best ++ codes "end\n"))) ≡ Ok (record { lemmas = lemmas; best = best })
-log_again k n [] best some h b = best_again k n best some b
-log_again k n (lemma ∷ lemmas) best some h b =
+log_again : (version : ℕ) (k : Kinds) (n : ℕ) (lemmas : List Lemma) (best : Option Best) → AreSomeKinds k → All (LemmaFits k) lemmas → IfSome best (BestFits k) → log_at version k n (lines_in (flat_map lemma_line lemmas ++ (best_text best ++ codes "end\n"))) (behind (flat_map lemma_line lemmas ++ (best_text best ++ codes "end\n"))) ≡ Ok (record { version = version; lemmas = lemmas; best = best })
+log_again version k n [] best some h b = best_again version k n best some b
+log_again version k n (lemma ∷ lemmas) best some h b =
     let line = join_with_byte 32 (codes "lemma" ∷ lemma_words lemma) in
     let text = flat_map lemma_line lemmas ++ (best_text best ++ codes "end\n") in
     let fits : LemmaFits k lemma = All-head (LemmaFits k) lemma lemmas h in
@@ -108,34 +110,35 @@ log_again k n (lemma ∷ lemmas) best some h b =
     let lack : Lacks 10 line = words_lack (codes "lemma" ∷ lemma_words lemma) above in
     let whole : flat_map lemma_line (lemma ∷ lemmas) ++ (best_text best ++ codes "end\n") ≡ fed line ++ text = lemmas_front lemma lemmas (best_text best ++ codes "end\n") in
     let words : entry_in k (words_in line) ≡ Some (entry.Lemma lemma) = ap (entry_in k) (words_again (codes "lemma") (lemma_words lemma) above) ∙ lemma_again k lemma some fits in
-    ap (λ (t : List ℕ). log_at k n (lines_in t) (behind t)) whole
-    ∙ (rw (fed_first line text lack, fed_behind line text lack) (log_step k n line (lines_in text) (behind text) (entry.Lemma lemma) words ∙ rw (log_again k (n + 1) lemmas best some (All-tail (LemmaFits k) lemma lemmas h) b) refl))
+    ap (λ (t : List ℕ). log_at version k n (lines_in t) (behind t)) whole
+    ∙ (rw (fed_first line text lack, fed_behind line text lack) (log_step version k n line (lines_in text) (behind text) (entry.Lemma lemma) words ∙ rw (log_again version k (n + 1) lemmas best some (All-tail (LemmaFits k) lemma lemmas h) b) refl))
 
 other_lack : (text : List ℕ) → All (λ byte. byte ≢ 10) text → Lacks 10 text
 other_lack [] h = All-nil (λ b. (b == 10) ≡ false)
 other_lack (b ∷ bs) h = All-cons (λ b. (b == 10) ≡ false) b bs (ne_eqb b 10 (All-head (λ byte. byte ≢ 10) b bs h)) (other_lack bs (All-tail (λ byte. byte ≢ 10) b bs h))
 
-named_step : (name : List ℕ) (k : Kinds) (line : List ℕ) (lines : List (List ℕ)) (rest : List ℕ) → line ≡ codes "cell " ++ name → named_at name k (line ∷ lines) rest ≡ log_at k 3 lines rest
-named_step name k line lines rest is = rw (is_same line (codes "cell " ++ name) is) refl
+named_step : (name : List ℕ) (k : Kinds) (version : ℕ) (line : List ℕ) (lines : List (List ℕ)) (rest : List ℕ) → line ≡ codes "cell " ++ name → named_at name k version (line ∷ lines) rest ≡ log_at version k 3 lines rest
+named_step name k version line lines rest is = rw (is_same line (codes "cell " ++ name) is) refl
 
-text_step : (name : List ℕ) (k : Kinds) (lines : List (List ℕ)) (rest : List ℕ) → text_at name k (codes "cellgen-log 1" ∷ lines) rest ≡ named_at name k lines rest
-text_step name k lines rest = refl
+text_step : (name : List ℕ) (k : Kinds) (version : ℕ) (lines : List (List ℕ)) (rest : List ℕ) → IsVersion version → text_at name k (version_line version ∷ lines) rest ≡ named_at name k version lines rest
+text_step name k version lines rest known = rw (version_found (version_line version) version known refl) refl
 
 -- what fits is read again
 pub read_again : (name : List ℕ) (k : Kinds) (log : Log) → IsLogName name → AreSomeKinds k → Fits k log → log_of (log_text name log) name k ≡ Ok log
 unfolding log_of
 read_again name k log is_name some fits =
+    let first = version_line log.version in
     let later = flat_map lemma_line log.lemmas ++ (best_text log.best ++ codes "end\n") in
-    let version : Lacks 10 (codes "cellgen-log 1") = above_lacks 31 10 (codes "cellgen-log 1") (omega arith) (by_test 31 (codes "cellgen-log 1") refl) in
+    let version : Lacks 10 first = version_lacks log.version in
     let front : Lacks 10 (codes "cell ") = above_lacks 31 10 (codes "cell ") (omega arith) (by_test 31 (codes "cell ") refl) in
     let named : Lacks 10 (codes "cell " ++ name) = All-append (λ b. (b == 10) ≡ false) (codes "cell ") name front (other_lack name is_name.line) in
-    let whole : log_text name log ≡ fed (codes "cellgen-log 1") ++ (fed (codes "cell " ++ name) ++ later) = apart name (flat_map lemma_line log.lemmas) (best_text log.best) in
+    let whole : log_text name log ≡ fed first ++ (fed (codes "cell " ++ name) ++ later) = apart first name (flat_map lemma_line log.lemmas) (best_text log.best) in
     ap (λ (t : List ℕ). text_at name k (lines_in t) (behind t)) whole
-    ∙ (rw (fed_first (codes "cellgen-log 1") (fed (codes "cell " ++ name) ++ later) version, fed_behind (codes "cellgen-log 1") (fed (codes "cell " ++ name) ++ later) version, fed_first (codes "cell " ++ name) later named, fed_behind (codes "cell " ++ name) later named)
-    (text_step name k ((codes "cell " ++ name) ∷ lines_in later) (behind later) ∙ (named_step name k (codes "cell " ++ name) (lines_in later) (behind later) refl ∙ log_again k 3 log.lemmas log.best some fits.lemmas fits.best)))
+    ∙ (rw (fed_first first (fed (codes "cell " ++ name) ++ later) version, fed_behind first (fed (codes "cell " ++ name) ++ later) version, fed_first (codes "cell " ++ name) later named, fed_behind (codes "cell " ++ name) later named)
+    (text_step name k log.version ((codes "cell " ++ name) ∷ lines_in later) (behind later) fits.version ∙ (named_step name k log.version (codes "cell " ++ name) (lines_in later) (behind later) refl ∙ log_again log.version k 3 log.lemmas log.best some fits.lemmas fits.best)))
   where
-    apart : (name ls best : List ℕ) → codes "cellgen-log 1\n" ++ codes "cell " ++ name ++ codes "\n" ++ ls ++ best ++ codes "end\n" ≡ fed (codes "cellgen-log 1") ++ (fed (codes "cell " ++ name) ++ (ls ++ (best ++ codes "end\n")))
-    apart name ls best = simp append_assoc
+    apart : (first name ls best : List ℕ) → first ++ codes "\n" ++ codes "cell " ++ name ++ codes "\n" ++ ls ++ best ++ codes "end\n" ≡ fed first ++ (fed (codes "cell " ++ name) ++ (ls ++ (best ++ codes "end\n")))
+    apart first name ls best = simp append_assoc
 
 -- no log that fits has a text that is refused
 pub refused : (bytes name : List ℕ) (k : Kinds) (f : LogFault) (log : Log) → IsLogName name → AreSomeKinds k → log_of bytes name k ≡ Err f → Fits k log → log_text name log ≢ bytes
@@ -150,7 +153,7 @@ lines_most (lemma ∷ lemmas) = omega (arith, some_line lemma, lines_most lemmas
 
 lemmas_within : (name : List ℕ) (log : Log) → length log.lemmas ≤ length (log_text name log)
 lemmas_within name log =
-    let front = codes "cellgen-log 1\n" ++ codes "cell " ++ name ++ codes "\n" in
+    let front = head_lines log.version name in
     let lines = flat_map lemma_line log.lemmas in
     omega (arith, lines_most log.lemmas, length-append ((front ++ lines) ++ best_text log.best) (codes "end\n"), length-append (front ++ lines) (best_text log.best), length-append front lines)
 

@@ -5,6 +5,7 @@ use Rattle.row_state.specs.declared.kind.Kinds.{Kinds}
 use Rattle.row_state.specs.declared.step.Side.{Side}
 use Rattle.row_state.specs.declared.step.Step.{Step}
 use Rattle.row_state.specs.Start.{AreSomeKinds, IsState}
+use Rattle.row_state.specs.Versions.{IsVersion}
 use Rattle.bound_log.specs.declared.log.Lemma.{Lemma}
 use Rattle.bound_log.specs.declared.log.LogStep.{LogStep}
 use Rattle.bound_log.specs.declared.log.Best.{Best}
@@ -41,6 +42,7 @@ pub record BestFits (k : Kinds) (best : Best) : Type 0 where
   pub steps : All (StepFits k) best.steps
 
 pub record Fits (k : Kinds) (log : Log) : Type 0 where
+  pub version : IsVersion log.version
   pub lemmas : All (LemmaFits k) log.lemmas
   pub best : IfSome log.best (BestFits k)
 

@@ -1,9 +1,11 @@
 -- What one line of a log holds, by its words.
-use Rattle.std.specs.Prelude.{ℕ, Bool, true, false, ◌+◌, ◌||◌, ◌==◌, leb, List, [], ◌∷◌, Option, Some, None, length, find, codes, decimal, option_map, if◌then◌else◌}
+use Rattle.std.specs.Prelude.{ℕ, Bool, true, false, ◌≤◌, ◌+◌, ◌||◌, ◌==◌, leb, All, List, [], ◌∷◌, Option, Some, None, length, find, codes, decimal, option_map, if◌then◌else◌}
+use Rattle.std.specs.Borrow.{Bor}
 use Rattle.std.specs.List.{slice_split, range_with_len}
 use Rattle.std.specs.Option.{is_some}
 use Rattle.std.specs.Str.{bytes_eq}
 use Rattle.cell_num.specs.declared.net.NetNo.{NetNo}
+use Rattle.row_state.specs.declared.bound.TheConstants.{PARITY_LOG, COMPONENT_LOG}
 use Rattle.row_state.specs.declared.kind.Kind.{Kind}
 use Rattle.row_state.specs.declared.kind.Kinds.{Kinds}
 use Rattle.row_state.specs.declared.state.State.{State}
@@ -15,6 +17,7 @@ use Rattle.bound_log.specs.declared.log.Lemma.{Lemma}
 use Rattle.bound_log.specs.declared.log.LogStep.{LogStep}
 use Rattle.bound_log.specs.declared.log.Entry.{Entry}
 use Rattle.bound_log.specs.declared.log.Entry.TheVariants as entry
+use Rattle.bound_log.specs.Text.{version_line}
 
 -- steps that may each find nothing
 infixl 10 ◌>>=◌
@@ -35,6 +38,11 @@ is_word word other = bytes_eq word other
 abbrev pub parts_at : ℕ → List ℕ → List (List ℕ)
 parts_at byte text = slice_split (λ b. b == byte) text
 
+-- the parts of what is left of a text, if anything is
+abbrev pub parts_left : ℕ → Option (Bor (List ℕ)) → List (List ℕ)
+parts_left byte None = []
+parts_left byte (Some text) = parts_at byte text.now
+
 -- the words of a line, between its spaces
 abbrev pub words_in : List ℕ → List (List ℕ)
 words_in line = parts_at 32 line
@@ -43,12 +51,20 @@ words_in line = parts_at 32 line
 unfoldable pub number_below : ℕ → List ℕ → Option ℕ
 number_below limit word = find (λ n. is_word word (decimal n)) (range_with_len 0 limit)
 
+-- the version of which this is the first line of a log
+unfoldable pub version_in : List ℕ → Option ℕ
+version_in line = find (λ version. is_word line (version_line version)) (PARITY_LOG ∷ COMPONENT_LOG ∷ [])
+
 abbrev pub rule_in : List ℕ → Option Rule
 rule_in word =
     if is_word word (codes "P") then Some by.P else
     if is_word word (codes "N") then Some by.N else
     if is_word word (codes "B") then Some by.Branch else
     None
+
+-- no kind has more fingers than a row of a cell
+abbrev pub FewOfEach : List Kind → Type 0
+FewOfEach kinds = All (λ (kind : Kind). kind.count ≤ 64) kinds
 
 -- one count for each kind, none above how many fingers are of the kind
 abbrev pub counts_each : List Kind → List (List ℕ) → Option (List ℕ)

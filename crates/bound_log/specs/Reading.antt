@@ -8,7 +8,7 @@ use Rattle.bound_log.specs.declared.log.LogStep.{LogStep}
 use Rattle.bound_log.specs.declared.log.Log.{Log}
 use Rattle.bound_log.specs.declared.log.Entry.{Entry}
 use Rattle.bound_log.specs.declared.log.Entry.TheVariants as entry
-use Rattle.bound_log.specs.Line.{entry_in, is_word, column_in, parts_at, words_in}
+use Rattle.bound_log.specs.Line.{entry_in, is_word, column_in, parts_at, version_in, words_in}
 
 abbrev pub without_last : List (List ℕ) → List (List ℕ)
 without_last [] = []
@@ -47,31 +47,31 @@ columns_at k n (line ∷ lines) rest =
       Ok (column ∷ columns))
 
 -- a lemma before those of a log, or the line behind the lemmas and what it asks for
-abbrev pub begun_by : Entry → Result Log LogFault → Result (List LogStep) LogFault → Result (Unit {0}) LogFault → Result Log LogFault
-begun_by (entry.Lemma lemma) log columns end = log >>= λ later. Ok (record { lemmas = lemma ∷ later.lemmas; best = later.best })
-begun_by (entry.Gaps gaps) log columns end = columns >>= λ steps. Ok (record { lemmas = []; best = Some (record { gaps = gaps; steps = steps }) })
-begun_by entry.Open log columns end = end >>= λ _. Ok (record { lemmas = []; best = None })
+abbrev pub begun_by : ℕ → Entry → Result Log LogFault → Result (List LogStep) LogFault → Result (Unit {0}) LogFault → Result Log LogFault
+begun_by version (entry.Lemma lemma) log columns end = log >>= λ later. Ok (record { version = later.version; lemmas = lemma ∷ later.lemmas; best = later.best })
+begun_by version (entry.Gaps gaps) log columns end = columns >>= λ steps. Ok (record { version = version; lemmas = []; best = Some (record { gaps = gaps; steps = steps }) })
+begun_by version entry.Open log columns end = end >>= λ _. Ok (record { version = version; lemmas = []; best = None })
 
--- lemmas, then either gaps and columns or `open`, then `end`
-unfoldable pub log_at : Kinds → ℕ → List (List ℕ) → List ℕ → Result Log LogFault
-log_at k n [] rest = Err fault.Cut
-log_at k n (line ∷ lines) rest = do
+-- of a log of that version: lemmas, then either gaps and columns or `open`, then `end`
+unfoldable pub log_at : ℕ → Kinds → ℕ → List (List ℕ) → List ℕ → Result Log LogFault
+log_at version k n [] rest = Err fault.Cut
+log_at version k n (line ∷ lines) rest = do
   first ← or_fault (entry_in k (words_in line)) (fault.Line n)
-  begun_by first (log_at k (n + 1) lines rest) (columns_at k (n + 1) lines rest) (end_at (n + 1) lines rest)
+  begun_by version first (log_at version k (n + 1) lines rest) (columns_at k (n + 1) lines rest) (end_at (n + 1) lines rest)
 
--- the line of the name, and the log behind it
-abbrev pub named_at : List ℕ → Kinds → List (List ℕ) → List ℕ → Result Log LogFault
-named_at name k [] rest = Err fault.Cut
-named_at name k (line ∷ lines) rest = do
+-- the line of the name, and the log of that version behind it
+abbrev pub named_at : List ℕ → Kinds → ℕ → List (List ℕ) → List ℕ → Result Log LogFault
+named_at name k version [] rest = Err fault.Cut
+named_at name k version (line ∷ lines) rest = do
   _ ← require (is_word line (codes "cell " ++ name)) fault.Cell
-  log_at k 3 lines rest
+  log_at version k 3 lines rest
 
 -- the line of the version, and the line of the name behind it
 abbrev pub text_at : List ℕ → Kinds → List (List ℕ) → List ℕ → Result Log LogFault
 text_at name k [] rest = Err fault.Cut
 text_at name k (line ∷ lines) rest = do
-  _ ← require (is_word line (codes "cellgen-log 1")) fault.Version
-  named_at name k lines rest
+  version ← or_fault (version_in line) fault.Version
+  named_at name k version lines rest
 
 -- the log of the bytes, or their first fault
 unfoldable pub log_of : List ℕ → List ℕ → Kinds → Result Log LogFault

@@ -56,9 +56,13 @@ side_text (Some side) = decimal side.kind ++ codes " " ++ flip_text side.flipped
 abbrev pub column_line : LogStep → List ℕ
 column_line listed = codes "column " ++ decimal listed.gate.0 ++ codes " " ++ side_text listed.step.p ++ codes " " ++ side_text listed.step.n ++ codes "\n"
 
+-- the first line, without its line feed
+abbrev pub version_line : ℕ → List ℕ
+version_line version = codes "cellgen-log " ++ decimal version
+
 -- the first two lines, of the version and the name
-abbrev pub head_lines : List ℕ → List ℕ
-head_lines name = codes "cellgen-log 1\n" ++ codes "cell " ++ name ++ codes "\n"
+abbrev pub head_lines : ℕ → List ℕ → List ℕ
+head_lines version name = version_line version ++ codes "\n" ++ codes "cell " ++ name ++ codes "\n"
 
 abbrev pub gaps_line : ℕ → List ℕ
 gaps_line gaps = codes "gaps " ++ decimal gaps ++ codes "\n"
@@ -76,4 +80,4 @@ best_text None = open_line
 best_text (Some best) = gaps_line best.gaps ++ flat_map column_line best.steps
 
 abbrev pub log_text : List ℕ → Log → List ℕ
-log_text name log = head_lines name ++ flat_map lemma_line log.lemmas ++ best_text log.best ++ last_line
+log_text name log = head_lines log.version name ++ flat_map lemma_line log.lemmas ++ best_text log.best ++ last_line

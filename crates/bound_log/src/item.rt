@@ -1,11 +1,11 @@
 use crate::{Lemma, LogStep};
 
-/// What a piece of a log says, up to the end of a line: nothing yet, or the line of the name, a lemma,
-/// the gaps of the row that is listed behind, one of its columns, that no row is listed, or the end.
+/// What a piece of a log says, up to the end of a line: nothing yet, or with the line of the name the version,
+/// a lemma, the gaps of the row that is listed behind, one of its columns, that no row is listed, or the end.
 #[derive(Debug, Drop)]
 pub enum LogItem {
     More,
-    Head,
+    Head { version: u32 },
     Lemma(Lemma),
     Gaps(u32),
     Column(LogStep),
@@ -13,12 +13,12 @@ pub enum LogItem {
     End,
 }
 
-/// What line of a log comes next: the first or the second line, one of the lemmas or the line behind
-/// them, a column or the last line, the last line alone, or none, behind it.
+/// What line of a log comes next: the first line, or the second of a log of some version, one of the lemmas or
+/// the line behind them, a column or the last line, the last line alone, or none, behind it.
 #[derive(Clone, Copy, Debug, PartialEq, Eq)]
 pub enum LogPlace {
     Version,
-    Cell,
+    Cell { version: u32 },
     Lemmas,
     Columns,
     End,

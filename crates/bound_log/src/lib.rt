@@ -2,6 +2,7 @@
 #![tactic(auto)]
 
 mod fault;
+mod head;
 mod item;
 mod law;
 mod line;
@@ -23,8 +24,6 @@ pub use log::{Best, Entry, Lemma, LemmaList, Log, LogStep, LogSteps, MOST_GAPS, 
 pub use out::MOST_LINE_BYTES;
 pub use read::read_log;
 pub use reader::LogReader;
+pub use said::Said;
 pub use write::write_log;
 pub use writer::LineWriter;
-
-#[cfg(test)]
-mod tests;

@@ -1,45 +1,36 @@
-ghost use Rattle.std.specs.Prelude.{◌≡◌, ◌≤◌, ◌+◌, [], IfOk, length, map};
+ghost use Rattle.std.specs.Prelude.{◌≡◌, [], IfOk, map};
 ghost use Rattle.row_state.specs.Start.{AreSomeKinds};
 ghost use Rattle.row_state.specs.Tests.{state_test};
-ghost use Rattle.bound_log.specs.Line.{column_in, counts_each, counts_in, entry_in, gaps_in, lemma_in, parts_at, state_in, step_in, words_in};
+ghost use Rattle.bound_log.specs.Line.{FewOfEach, column_in, counts_each, counts_in, entry_in, gaps_in, lemma_in, parts_at, state_in, step_in, words_in};
 
-use crate::word::{end, is_word, number_below, parts, rule, side};
+use crate::word::{end, first_part, is_word, number_below, parts, rule, side};
 use crate::{Entry, Lemma, LogStep, MOST_GAPS};
 use cell_num::{NetNo, NoMemory};
 use row_state::{Counts, Kind, Kinds, State, Step, is_state};
 use std::alloc::Global;
 
-#[tactic(auto, using(crate::proofs::Counts::next_count, crate::proofs::Counts::bad_count, crate::proofs::Counts::all_counts))]
-fn counts_of_words(
-    alloc: Global,
-    kinds: &[Kind],
-    words: &[&[u8]],
-) -> Result<Option<Counts>, NoMemory>
-    requires { length words.now ≡ length kinds.now }
-    ensures { IfOk result (λ counts. counts ≡ counts_each kinds.now (map (λ word. word.now) words.now)) }
+#[tactic(auto, using(crate::proofs::Counts::few_here, crate::proofs::Counts::no_part, crate::proofs::Counts::bad_count, crate::proofs::Counts::next_count, crate::proofs::Counts::too_many, crate::proofs::Counts::all_counts))]
+fn some_counts(alloc: Global, kinds: &[Kind], word: &[u8]) -> Result<Option<Counts>, NoMemory>
+    requires { FewOfEach kinds.now }
+    ensures { IfOk result (λ counts. counts ≡ counts_each kinds.now (parts_at 44 word.now)) }
 {
     let mut counts = Counts::from_vec(Vec::with_capacity(alloc, kinds.len())?);
+    let mut rest = Some(word);
     for at in 0..kinds.len() {
-        let Some(count) = number_below(words[at], u64::from(kinds[at].count) + 1) else {
+        let Some(text) = rest else {
+            return Ok(None);
+        };
+        let first = first_part(text, b',');
+        let Some(count) = number_below(first.part, kinds[at].count + 1) else {
             return Ok(None);
         };
         counts.push(count)?;
+        rest = first.after;
     }
-    Ok(Some(counts))
-}
-
-#[tactic(auto, using(crate::proofs::Counts::not_as_many, crate::proofs::Counts::too_many))]
-fn some_counts(alloc: Global, kinds: &[Kind], word: &[u8]) -> Result<Option<Counts>, NoMemory>
-    requires { length kinds.now ≤ 32 }
-    ensures { IfOk result (λ counts. counts ≡ counts_each kinds.now (parts_at 44 word.now)) }
-{
-    let Some(words) = parts::<32>(word, b',') else {
-        return Ok(None);
-    };
-    if words.len() != kinds.len() {
-        return Ok(None);
+    match rest {
+        Some(_) => Ok(None),
+        None => Ok(Some(counts)),
     }
-    counts_of_words(alloc, kinds, words.as_slice())
 }
 
 fn no_counts(alloc: Global, word: &[u8]) -> Option<Counts>
@@ -53,7 +44,7 @@ fn no_counts(alloc: Global, word: &[u8]) -> Option<Counts>
 }
 
 fn counts(alloc: Global, kinds: &[Kind], word: &[u8]) -> Result<Option<Counts>, NoMemory>
-    requires { length kinds.now ≤ 32 }
+    requires { FewOfEach kinds.now }
     ensures { IfOk result (λ counts. counts ≡ counts_in kinds.now word.now) }
 {
     match kinds {
@@ -70,7 +61,7 @@ fn is_valid(state: &State, kinds: &Kinds) -> bool
     is_state(state, kinds)
 }
 
-#[tactic(auto, using(row_state::proofs::Valid::kinds_few))]
+#[tactic(auto, using(crate::proofs::Counts::few_of_each))]
 fn state(
     alloc: Global,
     kinds: &Kinds,
@@ -114,7 +105,7 @@ fn lemma(alloc: Global, kinds: &Kinds, words: &[&[u8]]) -> Result<Option<Lemma>,
     let [bound, reason, p_left, n_left, p_end, n_end] = words else {
         return Ok(None);
     };
-    let Some(bound) = number_below(bound, MOST_GAPS + 1) else {
+    let Some(bound) = number_below(bound, MOST_GAPS as u32 + 1) else {
         return Ok(None);
     };
     if bound < 1 {
@@ -133,7 +124,7 @@ fn gaps(words: &[&[u8]]) -> Option<u32>
     ensures { result ≡ gaps_in (map (λ word. word.now) words.now) }
 {
     match words {
-        [gaps] => number_below(gaps, MOST_GAPS + 1),
+        [gaps] => number_below(gaps, MOST_GAPS as u32 + 1),
         _ => None,
     }
 }
@@ -146,7 +137,7 @@ fn step(kinds: &Kinds, words: &[&[u8]]) -> Option<LogStep>
     let [gate, p_kind, p_flip, n_kind, n_flip] = words else {
         return None;
     };
-    let gate = number_below(gate, u64::from(kinds.nets))?;
+    let gate = number_below(gate, kinds.nets)?;
     let p = side(kinds.p.as_slice(), p_kind, p_flip)?;
     let n = side(kinds.n.as_slice(), n_kind, n_flip)?;
     if p.is_none() && n.is_none() {

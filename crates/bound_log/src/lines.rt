@@ -10,6 +10,7 @@ pub(crate) struct Line<'a> {
     pub(crate) after: &'a [u8],
 }
 
+/// Where the first line ends.
 pub(crate) fn find_feed(bytes: &[u8]) -> Option<usize>
     ensures { result ≡ position (λ b. b == 10) bytes.now }
 {

@@ -47,9 +47,12 @@ pub struct Best {
     pub steps: LogSteps,
 }
 
-/// Lemmas on states, and the row that they certify, where the search found one.
+/// Lemmas on states, and the row that they certify, where the search found one. The version names the
+/// bound that the lemmas rest on: [`PARITY_LOG`](row_state::PARITY_LOG) or
+/// [`COMPONENT_LOG`](row_state::COMPONENT_LOG).
 #[derive(Debug, Drop)]
 pub struct Log {
+    pub version: u32,
     pub lemmas: LemmaList,
     pub best: Option<Best>,
 }

@@ -1,12 +1,12 @@
-ghost use Rattle.std.specs.Prelude.{◌≡◌, ◌≢◌, ◌≤◌, ◌+◌, ◌++◌, ℕ, IfOk, IfErr, IfSome, IfNone, Ok, Err, List as Sequence, codes, length};
+ghost use Rattle.std.specs.Prelude.{◌≡◌, ◌≢◌, ◌≤◌, ◌+◌, IfOk, IfErr, Ok, Err, length};
 ghost use Rattle.row_state.specs.Start.{AreSomeKinds};
 ghost use Rattle.bound_log.specs.declared.fault.LogFault.TheVariants as fault;
 ghost use Rattle.bound_log.specs.declared.log.Log.{Log as LogOf};
 ghost use Rattle.bound_log.specs.Fits.{Fits, IsLogName};
-ghost use Rattle.bound_log.specs.Line.{is_word};
 ghost use Rattle.bound_log.specs.Reading.{behind, columns_at, end_at, lines_in, log_at, log_of, named_at};
 ghost use Rattle.bound_log.specs.Text.{log_text};
 
+use crate::head::{is_named, version};
 use crate::line::{read_column, read_entry};
 use crate::lines::first_line;
 use crate::word::is_word;
@@ -63,14 +63,21 @@ fn read_columns(alloc: Global, kinds: &Kinds, bytes: &[u8], from: u32) -> Result
     }
 }
 
-// The lemmas, and behind them the row that they certify, or `open`.
+// The lemmas of a log of that version, and behind them the row that they certify, or `open`.
 #[tactic(auto, using(crate::proofs::Fronts::log_cut, crate::proofs::Fronts::log_wrong, crate::proofs::Fronts::log_more, crate::proofs::Fronts::log_listed, crate::proofs::Fronts::log_unlisted, crate::proofs::Fronts::log_ended, crate::proofs::Fronts::log_unended))]
-fn read_lemmas(alloc: Global, kinds: &Kinds, bytes: &[u8], from: u32) -> Result<Log, LogFault>
+fn read_lemmas(
+    alloc: Global,
+    version: u32,
+    kinds: &Kinds,
+    bytes: &[u8],
+    from: u32,
+) -> Result<Log, LogFault>
     requires kinds { AreSomeKinds kinds.now }
     requires few { length bytes.now + from ≤ 2000000000 }
-    ensures log { IfOk result (λ log. log_at kinds.now from (lines_in bytes.now) (behind bytes.now) ≡ Ok log) }
+    ensures log { IfOk result (λ log.
+        log_at version kinds.now from (lines_in bytes.now) (behind bytes.now) ≡ Ok log) }
     ensures fault { IfErr result (λ f. f ≢ fault.NoMemory →
-        log_at kinds.now from (lines_in bytes.now) (behind bytes.now) ≡ Err f) }
+        log_at version kinds.now from (lines_in bytes.now) (behind bytes.now) ≡ Err f) }
 {
     let mut lemmas = LemmaList::new(alloc);
     let mut rest = bytes;
@@ -84,13 +91,18 @@ fn read_lemmas(alloc: Global, kinds: &Kinds, bytes: &[u8], from: u32) -> Result<
             Some(Entry::Gaps(gaps)) => {
                 let steps = read_columns(alloc, kinds, first.after, number + 1)?;
                 return Ok(Log {
+                    version,
                     lemmas,
                     best: Some(Best { gaps, steps }),
                 });
             }
             Some(Entry::Open) => {
                 read_end(first.after, number + 1)?;
-                return Ok(Log { lemmas, best: None });
+                return Ok(Log {
+                    version,
+                    lemmas,
+                    best: None,
+                });
             }
             None => return Err(LogFault::Line { line: number }),
         }
@@ -99,30 +111,19 @@ fn read_lemmas(alloc: Global, kinds: &Kinds, bytes: &[u8], from: u32) -> Result<
     }
 }
 
-fn behind_cell(line: &[u8]) -> Option<&[u8]>
-    ensures some { IfSome result (λ rest. line.now ≡ codes "cell " ++ rest.now) }
-    ensures none { IfNone result ((rest : Sequence ℕ) → line.now ≢ codes "cell " ++ rest) }
-{
-    line.strip_prefix(b"cell ")
-}
-
-#[tactic(auto, using(crate::proofs::Names::behind_front, crate::proofs::Names::no_front))]
-pub(crate) fn is_named(line: &[u8], name: &Name) -> bool
-    ensures { result ≡ is_word line.now (codes "cell " ++ name.now) }
-{
-    match behind_cell(line) {
-        Some(rest) => is_word(rest, name.as_slice()),
-        None => false,
-    }
-}
-
-fn read_named(alloc: Global, bytes: &[u8], name: &Name, kinds: &Kinds) -> Result<Log, LogFault>
+fn read_named(
+    alloc: Global,
+    version: u32,
+    bytes: &[u8],
+    name: &Name,
+    kinds: &Kinds,
+) -> Result<Log, LogFault>
     requires few { length bytes.now ≤ MOST_BYTES }
     requires kinds { AreSomeKinds kinds.now }
     ensures log { IfOk result (λ log.
-        named_at name.now kinds.now (lines_in bytes.now) (behind bytes.now) ≡ Ok log) }
+        named_at name.now kinds.now version (lines_in bytes.now) (behind bytes.now) ≡ Ok log) }
     ensures fault { IfErr result (λ f. f ≢ fault.NoMemory →
-        named_at name.now kinds.now (lines_in bytes.now) (behind bytes.now) ≡ Err f) }
+        named_at name.now kinds.now version (lines_in bytes.now) (behind bytes.now) ≡ Err f) }
 {
     let Some(first) = first_line(bytes) else {
         return Err(LogFault::Cut);
@@ -130,7 +131,7 @@ fn read_named(alloc: Global, bytes: &[u8], name: &Name, kinds: &Kinds) -> Result
     if !is_named(first.line, name) {
         return Err(LogFault::Cell);
     }
-    let log = read_lemmas(alloc, kinds, first.after, 3)?;
+    let log = read_lemmas(alloc, version, kinds, first.after, 3)?;
     Ok(log)
 }
 
@@ -144,10 +145,10 @@ fn read_text(alloc: Global, bytes: &[u8], name: &Name, kinds: &Kinds) -> Result<
     let Some(first) = first_line(bytes) else {
         return Err(LogFault::Cut);
     };
-    if !is_word(first.line, b"cellgen-log 1") {
+    let Some(version) = version(first.line) else {
         return Err(LogFault::Version);
-    }
-    let log = read_named(alloc, first.after, name, kinds)?;
+    };
+    let log = read_named(alloc, version, first.after, name, kinds)?;
     Ok(log)
 }
 

@@ -3,11 +3,11 @@ ghost use Rattle.std.specs.Option.{is_some};
 ghost use Rattle.row_state.specs.Start.{AreSomeKinds};
 ghost use Rattle.bound_log.specs.declared.fault.LogFault.TheVariants as fault;
 ghost use Rattle.bound_log.specs.Fits.{IsLogName};
-ghost use Rattle.bound_log.specs.Pieces.{IsShort, begun, behind_line, ended, line_bytes, longer, refused, tale_of, told, whole_says, with_line};
+ghost use Rattle.bound_log.specs.Pieces.{HeadFits, IsShort, PlaceFits, SaidFits, begun, behind_line, ended, line_bytes, longer, passed, refused, tale_of, told, whole_says, with_line};
 
 use crate::lines::find_feed;
 use crate::out::LineRoom;
-use crate::said::{place_behind, say_line, wrong_at};
+use crate::said::{Said, say_line, wrong_at};
 use crate::{LogFault, LogItem, LogPlace, MOST_LINE_BYTES};
 use cell_num::{MOST_BYTES, Name, NoMemory, copy};
 use row_state::Kinds;
@@ -43,7 +43,7 @@ pub struct LogReader {
 impl Model for LogReader {
     ghost use Rattle.std.specs.Prelude.{◌≤◌, None, Some, if◌then◌else◌, length};
     ghost use Rattle.row_state.specs.Start.{AreSomeKinds};
-    ghost use Rattle.bound_log.specs.Pieces.{Reader};
+    ghost use Rattle.bound_log.specs.Pieces.{PlaceFits, Reader};
 
     ghost Value = { Reader };
 
@@ -56,7 +56,7 @@ impl Model for LogReader {
       fault = r.fault;
     } };
 
-    ghost invariant = { λ r. AreSomeKinds r.kinds × (length r.line ≤ 300) };
+    ghost invariant = { λ r. AreSomeKinds r.kinds × (length r.line ≤ 300) × PlaceFits r.place };
 }
 
 impl LogReader {
@@ -98,28 +98,41 @@ impl LogReader {
         }
     }
 
-    // What the line says that ends behind these bytes.
-    fn say(&mut self, part: &[u8]) -> Result<LogItem, LogFault>
-        ensures same { self.new ≡ self.old }
-        ensures short { IsShort self.old.line }
-        ensures item { IfOk result (λ item. whole_says self.old (longer self.old.line part.now) ≡ Ok item) }
-        ensures fault { IfErr result (λ f.
-            f ≢ fault.NoMemory → whole_says self.old (longer self.old.line part.now) ≡ Err f) }
+    // What the line says that these bytes are.
+    fn say_whole(&self, line: &[u8]) -> Result<Said, LogFault>
+        ensures said { IfOk result (λ said. whole_says self.now (Some line.now) ≡ Ok said) }
+        ensures fits { IfOk result SaidFits }
+        ensures fault { IfErr result (λ f. f ≢ fault.NoMemory → whole_says self.now (Some line.now) ≡ Err f) }
     {
-        if !self.fits(part) {
-            return Err(wrong_at(self.place, self.number));
-        }
-        self.whole.clear();
-        self.whole.extend(self.line.as_slice());
-        self.whole.extend(part);
         say_line(
             self.alloc,
             &self.name,
             &self.kinds,
             self.place,
             self.number,
-            self.whole.as_slice(),
+            line,
         )
+    }
+
+    // What the line says that ends behind these bytes.
+    fn say(&mut self, part: &[u8]) -> Result<Said, LogFault>
+        ensures same { self.new ≡ self.old }
+        ensures short { IsShort self.old.line }
+        ensures said { IfOk result (λ said. whole_says self.old (longer self.old.line part.now) ≡ Ok said) }
+        ensures fits { IfOk result SaidFits }
+        ensures fault { IfErr result (λ f.
+            f ≢ fault.NoMemory → whole_says self.old (longer self.old.line part.now) ≡ Err f) }
+    {
+        if !self.fits(part) {
+            return Err(wrong_at(self.place, self.number));
+        }
+        if self.line.as_slice().is_empty() {
+            return self.say_whole(part);
+        }
+        self.whole.clear();
+        self.whole.extend(self.line.as_slice());
+        self.whole.extend(part);
+        self.say_whole(self.whole.as_slice())
     }
 
     fn refuse(&mut self, fault: LogFault)
@@ -130,33 +143,35 @@ impl LogReader {
         self.fault = Some(fault);
     }
 
-    fn pass(&mut self, item: &LogItem)
+    fn pass(&mut self, next: LogPlace)
         requires fault { self.old.fault ≡ None }
         requires few { self.old.number ≤ 2000000000 }
-        ensures { self.new ≡ behind_line self.old (Ok item.now) }
+        requires fits { PlaceFits next }
+        ensures { self.new ≡ passed self.old next }
     {
-        self.place = place_behind(item);
+        self.place = next;
         self.number += 1;
         self.line.clear();
         self.is_long = false;
     }
 
     // The line feed behind these bytes.
-    fn end_line(&mut self, part: &[u8]) -> Result<LogItem, LogFault>
+    fn end_line(&mut self, part: &[u8]) -> Result<Said, LogFault>
         requires fault { self.old.fault ≡ None }
         requires few { self.old.number ≤ 2000000000 }
         ensures short { IsShort self.old.line }
-        ensures item { IfOk result (λ item. whole_says self.old (longer self.old.line part.now) ≡ Ok item) }
-        ensures behind { IfOk result (λ item. self.new ≡ behind_line self.old (Ok item)) }
+        ensures said { IfOk result (λ said. whole_says self.old (longer self.old.line part.now) ≡ Ok said) }
+        ensures fits { IfOk result SaidFits }
+        ensures behind { IfOk result (λ said. self.new ≡ behind_line self.old (Ok said)) }
         ensures fault { IfErr result (λ f.
             f ≢ fault.NoMemory → whole_says self.old (longer self.old.line part.now) ≡ Err f) }
         ensures refused { IfErr result (λ f. f ≢ fault.NoMemory → self.new ≡ refused self.old f) }
         ensures memory { IfErr result (λ f. f ≡ fault.NoMemory → self.new ≡ self.old) }
     {
         match self.say(part) {
-            Ok(item) => {
-                self.pass(&item);
-                Ok(item)
+            Ok(said) => {
+                self.pass(said.next);
+                Ok(said)
             }
             Err(LogFault::NoMemory) => Err(LogFault::NoMemory),
             Err(fault) => {
@@ -176,6 +191,7 @@ impl LogReader {
         ensures used { IfOk result (λ took. took.0 ≡ line_bytes part.now) }
         ensures item { IfOk result (λ took.
             tale_of self.old (take took.0 part.now) ≡ record { items = told took.1; reader = self.new }) }
+        ensures version { IfOk result (λ took. HeadFits took.1) }
         ensures sound { OnOk result (self.new.fault ≡ None) }
         ensures few { IfOk result (λ took. self.new.number ≤ self.old.number + took.0) }
         ensures within { IfOk result (λ took. (0 < took.0) × (took.0 ≤ length part.now)) }
@@ -196,8 +212,8 @@ impl LogReader {
             self.add(part);
             return Ok((part.len(), LogItem::More));
         };
-        let item = self.end_line(&part[..at])?;
-        Ok((at + 1, item))
+        let said = self.end_line(&part[..at])?;
+        Ok((at + 1, said.item))
     }
 
     /// Whether the log is whole: a fault again, or `Cut` where the last line did not come.

@@ -1,64 +1,103 @@
 ghost use Rattle.std.specs.Prelude.{◌≡◌, ◌≢◌, Err, IfErr, IfOk, Ok};
 ghost use Rattle.row_state.specs.Start.{AreSomeKinds};
 ghost use Rattle.bound_log.specs.declared.fault.LogFault.TheVariants as fault;
-ghost use Rattle.bound_log.specs.Line.{entry_in, words_in};
-ghost use Rattle.bound_log.specs.Pieces.{column_says, columns_say, entry_says, item_if, line_says, place_behind, wrong_at};
+ghost use Rattle.bound_log.specs.Line.{entry_in, version_in, words_in};
+ghost use Rattle.bound_log.specs.Pieces.{column_says, columns_say, entry_says, line_says, said_if, version_says, wrong_at};
 
+use crate::head::{is_named, version};
 use crate::line::{read_column, read_entry};
-use crate::read::is_named;
 use crate::word::is_word;
 use crate::{Entry, LogFault, LogItem, LogPlace, LogStep};
 use cell_num::Name;
 use row_state::Kinds;
 use std::alloc::Global;
 
-fn item_if(holds: bool, item: LogItem, fault: LogFault) -> Result<LogItem, LogFault>
-    ensures { result ≡ item_if holds item fault }
-{
-    if holds { Ok(item) } else { Err(fault) }
+/// What a line says, and what line comes behind it.
+#[derive(Drop)]
+pub struct Said {
+    pub item: LogItem,
+    pub next: LogPlace,
 }
 
-fn entry_item(entry: Option<Entry>, fault: LogFault) -> Result<LogItem, LogFault>
+fn said_if(holds: bool, item: LogItem, next: LogPlace, fault: LogFault) -> Result<Said, LogFault>
+    ensures { result ≡ said_if holds item next fault }
+{
+    if holds {
+        Ok(Said { item, next })
+    } else {
+        Err(fault)
+    }
+}
+
+fn say_version(line: &[u8]) -> Result<Said, LogFault>
+    ensures { result ≡ version_says (version_in line.now) }
+{
+    match version(line) {
+        Some(version) => Ok(Said {
+            item: LogItem::More,
+            next: LogPlace::Cell { version },
+        }),
+        None => Err(LogFault::Version),
+    }
+}
+
+fn entry_said(entry: Option<Entry>, fault: LogFault) -> Result<Said, LogFault>
     ensures { result ≡ entry_says entry fault }
 {
     match entry {
-        Some(Entry::Lemma(lemma)) => Ok(LogItem::Lemma(lemma)),
-        Some(Entry::Gaps(gaps)) => Ok(LogItem::Gaps(gaps)),
-        Some(Entry::Open) => Ok(LogItem::Open),
+        Some(Entry::Lemma(lemma)) => Ok(Said {
+            item: LogItem::Lemma(lemma),
+            next: LogPlace::Lemmas,
+        }),
+        Some(Entry::Gaps(gaps)) => Ok(Said {
+            item: LogItem::Gaps(gaps),
+            next: LogPlace::Columns,
+        }),
+        Some(Entry::Open) => Ok(Said {
+            item: LogItem::Open,
+            next: LogPlace::End,
+        }),
         None => Err(fault),
     }
 }
 
-fn say_entry(alloc: Global, kinds: &Kinds, number: u32, line: &[u8]) -> Result<LogItem, LogFault>
+fn say_entry(alloc: Global, kinds: &Kinds, number: u32, line: &[u8]) -> Result<Said, LogFault>
     requires { AreSomeKinds kinds.now }
-    ensures item { IfOk result (λ item.
-        entry_says (entry_in kinds.now (words_in line.now)) (fault.Line number) ≡ Ok item) }
+    ensures said { IfOk result (λ said.
+        entry_says (entry_in kinds.now (words_in line.now)) (fault.Line number) ≡ Ok said) }
     ensures fault { IfErr result (λ f. f ≢ fault.NoMemory →
         entry_says (entry_in kinds.now (words_in line.now)) (fault.Line number) ≡ Err f) }
 {
     let entry = read_entry(alloc, kinds, line)?;
-    entry_item(entry, LogFault::Line { line: number })
+    entry_said(entry, LogFault::Line { line: number })
 }
 
-fn column_item(column: Option<LogStep>, fault: LogFault) -> Result<LogItem, LogFault>
+fn column_said(column: Option<LogStep>, fault: LogFault) -> Result<Said, LogFault>
     ensures { result ≡ column_says column fault }
 {
     match column {
-        Some(column) => Ok(LogItem::Column(column)),
+        Some(column) => Ok(Said {
+            item: LogItem::Column(column),
+            next: LogPlace::Columns,
+        }),
         None => Err(fault),
     }
 }
 
-fn say_column(kinds: &Kinds, number: u32, line: &[u8]) -> Result<LogItem, LogFault>
+fn say_column(kinds: &Kinds, number: u32, line: &[u8]) -> Result<Said, LogFault>
     requires { AreSomeKinds kinds.now }
     ensures { result ≡ columns_say kinds.now number line.now }
 {
     if is_word(line, b"end") {
-        return Ok(LogItem::End);
+        return Ok(Said {
+            item: LogItem::End,
+            next: LogPlace::Behind,
+        });
     }
-    column_item(read_column(kinds, line), LogFault::Line { line: number })
+    column_said(read_column(kinds, line), LogFault::Line { line: number })
 }
 
+/// What the line of that number says there.
 pub(crate) fn say_line(
     alloc: Global,
     name: &Name,
@@ -66,24 +105,26 @@ pub(crate) fn say_line(
     place: LogPlace,
     number: u32,
     line: &[u8],
-) -> Result<LogItem, LogFault>
+) -> Result<Said, LogFault>
     requires { AreSomeKinds kinds.now }
-    ensures item { IfOk result (λ item. line_says name.now kinds.now place number line.now ≡ Ok item) }
+    ensures said { IfOk result (λ said. line_says name.now kinds.now place number line.now ≡ Ok said) }
     ensures fault { IfErr result (λ f. f ≢ fault.NoMemory →
         line_says name.now kinds.now place number line.now ≡ Err f) }
 {
     match place {
-        LogPlace::Version => item_if(
-            is_word(line, b"cellgen-log 1"),
-            LogItem::More,
-            LogFault::Version,
+        LogPlace::Version => say_version(line),
+        LogPlace::Cell { version } => said_if(
+            is_named(line, name),
+            LogItem::Head { version },
+            LogPlace::Lemmas,
+            LogFault::Cell,
         ),
-        LogPlace::Cell => item_if(is_named(line, name), LogItem::Head, LogFault::Cell),
         LogPlace::Lemmas => say_entry(alloc, kinds, number, line),
         LogPlace::Columns => say_column(kinds, number, line),
-        LogPlace::End => item_if(
+        LogPlace::End => said_if(
             is_word(line, b"end"),
             LogItem::End,
+            LogPlace::Behind,
             LogFault::Line { line: number },
         ),
         LogPlace::Behind => Err(LogFault::Line { line: number }),
@@ -95,23 +136,9 @@ pub(crate) fn wrong_at(place: LogPlace, number: u32) -> LogFault
 {
     match place {
         LogPlace::Version => LogFault::Version,
-        LogPlace::Cell => LogFault::Cell,
+        LogPlace::Cell { .. } => LogFault::Cell,
         LogPlace::Lemmas | LogPlace::Columns | LogPlace::End | LogPlace::Behind => {
             LogFault::Line { line: number }
         }
-    }
-}
-
-pub(crate) fn place_behind(item: &LogItem) -> LogPlace
-    ensures { result ≡ place_behind item.now }
-{
-    match item {
-        LogItem::More => LogPlace::Cell,
-        LogItem::Head => LogPlace::Lemmas,
-        LogItem::Lemma(_) => LogPlace::Lemmas,
-        LogItem::Gaps(_) => LogPlace::Columns,
-        LogItem::Column(_) => LogPlace::Columns,
-        LogItem::Open => LogPlace::End,
-        LogItem::End => LogPlace::Behind,
     }
 }

@@ -116,11 +116,13 @@ pub(crate) fn put_column<O: Out>(out: &mut O, listed: &LogStep) -> Result<(), No
     Ok(())
 }
 
-pub(crate) fn put_head<O: Out>(out: &mut O, name: &Name) -> Result<(), NoMemory>
-    ensures text { OnOk result (O.text out.new ≡ O.text out.old ++ head_lines name.now) }
-    ensures full { OnErr result (O.room out.old < length (head_lines name.now)) }
+pub(crate) fn put_head<O: Out>(out: &mut O, version: u32, name: &Name) -> Result<(), NoMemory>
+    ensures text { OnOk result (O.text out.new ≡ O.text out.old ++ head_lines version name.now) }
+    ensures full { OnErr result (O.room out.old < length (head_lines version name.now)) }
 {
-    out.put(b"cellgen-log 1\n")?;
+    out.put(b"cellgen-log ")?;
+    put_number(out, version)?;
+    out.put(b"\n")?;
     out.put(b"cell ")?;
     out.put(name.as_slice())?;
     out.put(b"\n")?;

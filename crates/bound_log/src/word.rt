@@ -1,18 +1,51 @@
-ghost use Rattle.std.specs.Prelude.{◌==◌, ◌≡◌, ◌≢◌, ◌≤◌, ◌<◌, ◌^◌, ◌↔◌, ℕ, Some, None, if◌then◌else◌, decimal, length, map, option_map, position, IfSome, IfNone, IsTrue};
-ghost use Rattle.bound_log.specs.Line.{end_in, flip_in, is_word, number_below, parts_at, place_in, rule_in, side_in};
+ghost use Rattle.std.specs.Prelude.{◌==◌, ◌≡◌, ◌≢◌, ◌≤◌, ◌<◌, ◌+◌, ◌↔◌, ◌∷◌, ℕ, Some, None, if◌then◌else◌, decimal, length, map, option_map, position, IfSome, IfNone, IsTrue};
+ghost use Rattle.bound_log.specs.Line.{end_in, flip_in, is_word, number_below, parts_at, parts_left, place_in, rule_in, side_in};
 
 use crate::Rule;
 use arrayvec::ArrayVec;
-use cell_num::{MOST_COLUMNS, NetNo};
-use itoa::Buffer;
+use cell_num::{MOST_COLUMNS, MOST_NETS, NetNo};
+use memchr::memchr;
 use row_state::{Kind, Side};
 
-#[tactic(auto, using(crate::proofs::Parts::found_within))]
+#[inline(never)]
+#[tactic(auto, using(crate::proofs::Searches::first_byte, crate::proofs::Parts::found_within))]
 pub(crate) fn find_byte(text: &[u8], byte: u8) -> Option<usize>
     ensures at { result ≡ position (λ b. b == byte) text.now }
     ensures within { IfSome result (λ at. at < length text.now) }
 {
-    text.iter().position(|b| *b == byte)
+    memchr(byte, text)
+}
+
+/// The first part of a text, and what stands behind the byte that ends it.
+#[derive(Clone, Copy)]
+pub(crate) struct Part<'a> {
+    pub(crate) part: &'a [u8],
+    pub(crate) after: Option<&'a [u8]>,
+}
+
+#[tactic(auto, using(crate::proofs::Parts::second_cut, crate::proofs::Parts::first_cut, crate::proofs::Parts::not_cut))]
+pub(crate) fn first_part(text: &[u8], byte: u8) -> Part<'_>
+    ensures { parts_at byte text.now ≡ result.part.now ∷ parts_left byte result.after }
+{
+    // Most counts have one digit.
+    if let [first, next, after @ ..] = text {
+        if *first != byte && *next == byte {
+            return Part {
+                part: &text[..1],
+                after: Some(after),
+            };
+        }
+    }
+    let Some(at) = find_byte(text, byte) else {
+        return Part {
+            part: text,
+            after: None,
+        };
+    };
+    Part {
+        part: &text[..at],
+        after: Some(&text[at + 1..]),
+    }
 }
 
 /// The parts of a text between one byte and the next of its kind, where they are at most `N`.
@@ -43,68 +76,61 @@ pub(crate) fn is_word(word: &[u8], other: &[u8]) -> bool
     word == other
 }
 
-// The number of a word of one digit.
-#[tactic(auto, using(crate::proofs::Numbers::one_digit))]
-fn digit(word: &[u8]) -> Option<u32>
-    ensures { IfSome result (λ n. word.now ≡ decimal n) }
+fn digit(byte: u8) -> Option<u32>
+    ensures some { IfSome result (λ d. (byte ≡ 48 + d) × (d < 10)) }
+    ensures none { IfNone result ((d : ℕ) → d < 10 → byte ≢ 48 + d) }
 {
-    let [byte] = word else {
-        return None;
-    };
-    if *byte < b'0' {
-        return None;
-    }
-    if b'9' < *byte {
-        return None;
-    }
-    Some(u32::from(*byte - b'0'))
-}
-
-// The number of which the word is the decimal, of however many digits.
-fn long_number(word: &[u8]) -> Option<u32>
-    ensures some { IfSome result (λ n. word.now ≡ decimal n) }
-    ensures none { IfNone result ((n : ℕ) → n < 2 ^ 32 → word.now ≢ decimal n) }
-{
-    let Ok(text) = str::from_utf8(word) else {
-        return None;
-    };
-    let Ok(value) = text.parse::<u32>() else {
-        return None;
-    };
-    let mut buffer = Buffer::new();
-    let written = buffer.format(value);
-    // Not a number with a sign or with zeros in front, which parse takes too.
-    if is_word(written.as_bytes(), word) {
-        Some(value)
+    let digit = byte.wrapping_sub(b'0');
+    if digit < 10 {
+        Some(u32::from(digit))
     } else {
         None
     }
 }
 
-// The number of which the word is the decimal.
+// The number below 1000 of which the word is the decimal.
+#[tactic(auto, using(crate::proofs::Digits::one_read, crate::proofs::Digits::two_digits, crate::proofs::Digits::three_digits, crate::proofs::Digits::one_unread, crate::proofs::Digits::not_two_front, crate::proofs::Digits::not_two_back, crate::proofs::Digits::not_three_front, crate::proofs::Digits::not_three_middle, crate::proofs::Digits::not_three_back, crate::proofs::Digits::not_zero, crate::proofs::Digits::not_long))]
 fn number(word: &[u8]) -> Option<u32>
     ensures some { IfSome result (λ n. word.now ≡ decimal n) }
-    ensures none { IfNone result ((n : ℕ) → n < 2 ^ 32 → word.now ≢ decimal n) }
+    ensures none { IfNone result ((n : ℕ) → n < 1000 → word.now ≢ decimal n) }
 {
-    if let Some(value) = digit(word) {
-        return Some(value);
+    match word {
+        [ones] => digit(*ones),
+        [b'0', ..] => None,
+        [tens, ones] => {
+            let Some(tens) = digit(*tens) else {
+                return None;
+            };
+            let Some(ones) = digit(*ones) else {
+                return None;
+            };
+            Some(10 * tens + ones)
+        }
+        [hundreds, tens, ones] => {
+            let Some(hundreds) = digit(*hundreds) else {
+                return None;
+            };
+            let Some(tens) = digit(*tens) else {
+                return None;
+            };
+            let Some(ones) = digit(*ones) else {
+                return None;
+            };
+            Some(100 * hundreds + 10 * tens + ones)
+        }
+        _ => None,
     }
-    long_number(word)
 }
 
 #[tactic(auto, using(crate::proofs::Numbers::is_below, crate::proofs::Numbers::not_below, crate::proofs::Numbers::no_number))]
-pub(crate) fn number_below(word: &[u8], limit: u64) -> Option<u32>
-    requires { limit ≤ 4294967296 }
+pub(crate) fn number_below(word: &[u8], limit: u32) -> Option<u32>
+    requires { limit ≤ 1000 }
     ensures { result ≡ number_below limit word.now }
 {
     let Some(value) = number(word) else {
         return None;
     };
-    if u64::from(value) < limit {
-        Some(value)
-    } else {
-        None
-    }
+    if value < limit { Some(value) } else { None }
 }
 
 pub(crate) fn rule(word: &[u8]) -> Option<Rule>
@@ -122,12 +148,13 @@ pub(crate) fn rule(word: &[u8]) -> Option<Rule>
 }
 
 pub(crate) fn end(word: &[u8], nets: u32) -> Option<Option<NetNo>>
+    requires { nets ≤ MOST_NETS }
     ensures { result ≡ end_in nets word.now }
 {
     if is_word(word, b"-") {
         return Some(None);
     }
-    match number_below(word, u64::from(nets)) {
+    match number_below(word, nets) {
         Some(net) => Some(Some(NetNo(net))),
         None => None,
     }
@@ -155,7 +182,7 @@ fn some_side(word: &[u8], kinds: usize, flipped: bool) -> Option<Option<Side>>
     requires { kinds ≤ MOST_COLUMNS }
     ensures { result ≡ option_map (λ n. Some (record { kind = n; flipped = flipped })) (number_below kinds word.now) }
 {
-    match number_below(word, kinds as u64) {
+    match number_below(word, kinds as u32) {
         Some(kind) => Some(Some(Side { kind, flipped })),
         None => None,
     }

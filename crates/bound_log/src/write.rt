@@ -45,7 +45,7 @@ fn text(alloc: Global, name: &Name, log: &Log) -> Result<Bytes, NoMemory>
     ensures { IfOk result (λ text. text ≡ log_text name.now log.now) }
 {
     let mut out = Bytes::new(alloc);
-    put_head(&mut out, name)?;
+    put_head(&mut out, log.version, name)?;
     put_lemmas(&mut out, log.lemmas.as_slice())?;
     put_best(&mut out, &log.best)?;
     out.put(b"end\n")?;

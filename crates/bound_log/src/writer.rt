@@ -1,4 +1,5 @@
 ghost use Rattle.std.specs.Prelude.{◌≡◌, ◌≤◌};
+ghost use Rattle.row_state.specs.Versions.{IsVersion};
 ghost use Rattle.bound_log.specs.Fits.{ForSome, IsLogName, LemmaFits, StepFits};
 ghost use Rattle.bound_log.specs.Text.{column_line, gaps_line, head_lines, last_line, lemma_line, open_line};
 
@@ -23,14 +24,16 @@ impl LineWriter {
         })
     }
 
-    /// The first two lines, for the cell of that name, which has 1 to 32 bytes and no line feed.
+    /// The first two lines, for a log of that version and the cell of that name, which has 1 to 32 bytes and
+    /// no line feed.
     #[tactic(auto, using(crate::proofs::Lengths::head_short))]
-    pub fn head(&mut self, name: &Name) -> &[u8]
-        requires { IsLogName name.now }
-        ensures { result.now ≡ head_lines name.now }
+    pub fn head(&mut self, version: u32, name: &Name) -> &[u8]
+        requires version { IsVersion version }
+        requires name { IsLogName name.now }
+        ensures { result.now ≡ head_lines version name.now }
     {
         self.line.clear();
-        match put_head(&mut self.line, name) {
+        match put_head(&mut self.line, version, name) {
             Ok(()) => {}
             Err(_) => unreachable!(),
         }

@@ -10,14 +10,14 @@ pub returns-in_err-steps-in-Some-Gaps-clause-fault : goal.returns-in_err-steps-i
 returns-in_err-steps-in-Some-Gaps-clause-fault c =
     let p = err_from_is_err_and c.from_residual-in_err-steps-in-Some-Gaps.result c.from_residual-in_err-steps-in-Some-Gaps.ensures.1 in
     let some : Some (entry.Gaps c.in-Some-Gaps.gaps) ≡ entry_in c.args.kinds.now (words_in c.in-Some.first.line.now) = search rules in
-    rw (p.1, p.2) (λ told. log_unlisted c.args.kinds.now c.lemmas.number (lines_in c.lemmas.rest.now) (behind c.lemmas.rest.now) c.lemmas.lemmas (log_at c.args.kinds.now c.args.from (lines_in c.args.bytes.now) (behind c.args.bytes.now)) c.in-Some.first.line.now (lines_in c.in-Some.first.after.now) (behind c.in-Some.first.after.now) c.in-Some-Gaps.gaps c.in_err-steps-in-Some-Gaps.field-0.0 c.lemmas.invariant.1 c.in-Some.ensures.line c.in-Some.ensures.behind some (c.in_err-steps-in-Some-Gaps.ensures.fault told))
+    rw (p.1, p.2) (λ told. log_unlisted c.args.version c.args.kinds.now c.lemmas.number (lines_in c.lemmas.rest.now) (behind c.lemmas.rest.now) c.lemmas.lemmas (log_at c.args.version c.args.kinds.now c.args.from (lines_in c.args.bytes.now) (behind c.args.bytes.now)) c.in-Some.first.line.now (lines_in c.in-Some.first.after.now) (behind c.in-Some.first.after.now) c.in-Some-Gaps.gaps c.in_err-steps-in-Some-Gaps.field-0.0 c.lemmas.invariant.1 c.in-Some.ensures.line c.in-Some.ensures.behind some (c.in_err-steps-in-Some-Gaps.ensures.fault told))
 
 pub returns-in-None-clause-fault : goal.returns-in-None-clause-fault
 returns-in-None-clause-fault c = λ _.
-    log_wrong c.args.kinds.now c.lemmas.number (lines_in c.lemmas.rest.now) (behind c.lemmas.rest.now) c.lemmas.lemmas (log_at c.args.kinds.now c.args.from (lines_in c.args.bytes.now) (behind c.args.bytes.now)) c.in-Some.first.line.now (lines_in c.in-Some.first.after.now) c.lemmas.invariant.1 c.in-Some.ensures.line (sym c.in-None.is ∙ c.in_ok-lemma.ensures)
+    log_wrong c.args.version c.args.kinds.now c.lemmas.number (lines_in c.lemmas.rest.now) (behind c.lemmas.rest.now) c.lemmas.lemmas (log_at c.args.version c.args.kinds.now c.args.from (lines_in c.args.bytes.now) (behind c.args.bytes.now)) c.in-Some.first.line.now (lines_in c.in-Some.first.after.now) c.lemmas.invariant.1 c.in-Some.ensures.line (sym c.in-None.is ∙ c.in_ok-lemma.ensures)
 
 pub lemmas-preserved : goal.lemmas-preserved
 lemmas-preserved c =
     let some : Some (entry.Lemma c.in-Some-Lemma.lemma) ≡ entry_in c.args.kinds.now (words_in c.in-Some.first.line.now) = search rules in
     let few : length c.in-Some.first.after.now + (c.lemmas.number + 1) ≤ 2000000000 = omega (arith, c.in-Some.ensures.less, c.lemmas.invariant.0) in
-    (few, rw c.in_ok-push-in-Some-Lemma.ensures.ok (log_more c.args.kinds.now c.lemmas.number (lines_in c.lemmas.rest.now) (behind c.lemmas.rest.now) c.lemmas.lemmas (log_at c.args.kinds.now c.args.from (lines_in c.args.bytes.now) (behind c.args.bytes.now)) c.in-Some.first.line.now (lines_in c.in-Some.first.after.now) (behind c.in-Some.first.after.now) c.in-Some-Lemma.lemma c.lemmas.invariant.1 c.in-Some.ensures.line c.in-Some.ensures.behind some))
+    (few, rw c.in_ok-push-in-Some-Lemma.ensures.ok (log_more c.args.version c.args.kinds.now c.lemmas.number (lines_in c.lemmas.rest.now) (behind c.lemmas.rest.now) c.lemmas.lemmas (log_at c.args.version c.args.kinds.now c.args.from (lines_in c.args.bytes.now) (behind c.args.bytes.now)) c.in-Some.first.line.now (lines_in c.in-Some.first.after.now) (behind c.in-Some.first.after.now) c.in-Some-Lemma.lemma c.lemmas.invariant.1 c.in-Some.ensures.line c.in-Some.ensures.behind some))

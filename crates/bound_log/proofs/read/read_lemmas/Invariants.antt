@@ -6,7 +6,7 @@ use Rattle.bound_log.proofs.read.read_lemmas.Given as goal
 abbrev pub invariant-lemmas : goal.invariant-lemmas
 invariant-lemmas l =
     (length l.rest + l.number ≤ 2000000000)
-    × (with_lemmas l.lemmas (log_at l.kinds l.number (lines_in l.rest) (behind l.rest)) ≡ log_at l.kinds l.from (lines_in l.bytes) (behind l.bytes))
+    × (with_lemmas l.lemmas (log_at l.version l.kinds l.number (lines_in l.rest) (behind l.rest)) ≡ log_at l.version l.kinds l.from (lines_in l.bytes) (behind l.bytes))
 
 abbrev pub decreases-lemmas : goal.decreases-lemmas
 decreases-lemmas l = length l.rest

@@ -1,0 +1,55 @@
+ghost use Rattle.std.specs.Prelude.{◌≡◌, ◌≢◌, ◌↔◌, ◌++◌, ℕ, IfSome, IfNone, IsTrue, List as Sequence, codes};
+ghost use Rattle.row_state.specs.Versions.{IsVersion};
+ghost use Rattle.bound_log.specs.Line.{is_word, version_in};
+
+use crate::word::{is_word, number_below};
+use cell_num::Name;
+use row_state::{COMPONENT_LOG, PARITY_LOG};
+
+fn behind_log(line: &[u8]) -> Option<&[u8]>
+    ensures some { IfSome result (λ rest. line.now ≡ codes "cellgen-log " ++ rest.now) }
+    ensures none { IfNone result ((rest : Sequence ℕ) → line.now ≢ codes "cellgen-log " ++ rest) }
+{
+    line.strip_prefix(b"cellgen-log ")
+}
+
+fn is_version(version: u32) -> bool
+    ensures { IsTrue result ↔ IsVersion version }
+{
+    version == PARITY_LOG || version == COMPONENT_LOG
+}
+
+/// The version of the log of which this is the first line.
+#[tactic(auto, using(crate::proofs::Versions::no_front, crate::proofs::Versions::no_version, crate::proofs::Versions::other_version, crate::proofs::Versions::known_version))]
+pub(crate) fn version(line: &[u8]) -> Option<u32>
+    ensures { result ≡ version_in line.now }
+{
+    let Some(rest) = behind_log(line) else {
+        return None;
+    };
+    let Some(version) = number_below(rest, COMPONENT_LOG + 1) else {
+        return None;
+    };
+    if is_version(version) {
+        Some(version)
+    } else {
+        None
+    }
+}
+
+fn behind_cell(line: &[u8]) -> Option<&[u8]>
+    ensures some { IfSome result (λ rest. line.now ≡ codes "cell " ++ rest.now) }
+    ensures none { IfNone result ((rest : Sequence ℕ) → line.now ≢ codes "cell " ++ rest) }
+{
+    line.strip_prefix(b"cell ")
+}
+
+#[tactic(auto, using(crate::proofs::Names::behind_front, crate::proofs::Names::no_front))]
+pub(crate) fn is_named(line: &[u8], name: &Name) -> bool
+    ensures { result ≡ is_word line.now (codes "cell " ++ name.now) }
+{
+    match behind_cell(line) {
+        Some(rest) => is_word(rest, name.as_slice()),
+        None => false,
+    }
+}
