@@ -93,71 +93,73 @@ one_longer lemmas x n e = omega (arith, e, length-append lemmas (x ∷ []))
 
 -- ---- a checker
 
-abbrev pub checked : Fingers → Kinds → List (ℕ × ℕ) → ℕ → Option ℕ → Option Best → Checked
-checked f k known n unproved row = record { fingers = f; kinds = k; known = known; lemmas = n; unproved = unproved; row = row }
+abbrev pub checked : ℕ → Fingers → Kinds → List (ℕ × ℕ) → ℕ → Option ℕ → Option Best → Checked
+checked v f k known n unproved row = record { version = v; fingers = f; kinds = k; known = known; lemmas = n; unproved = unproved; row = row }
 
 -- nothing yet
-pub seen_none : (value : Row → State → Kinds → ℕ) (f : Fingers) (k : Kinds) (known : List (ℕ × ℕ)) → ((k : Kinds) (s : State) → best_noted known k s ≡ 0) → HasSeen value (checked f k known 0 None None) empty_log
-seen_none value f k known none =
-    record { counted = refl; found = (λ i d within. absurd (omega (arith, within)), λ s state. none k s); row = refl }
+pub seen_none : (value : Row → State → Kinds → ℕ) (v : ℕ) (f : Fingers) (k : Kinds) (known : List (ℕ × ℕ)) → ((k : Kinds) (s : State) → best_noted known k s ≡ 0) → HasSeen value (checked v f k known 0 None None) (empty_log v)
+seen_none value v f k known none =
+    record { version = refl; counted = refl; found = (λ i d within. absurd (omega (arith, within)), λ s state. none k s); row = refl }
 
 -- behind the first lemma that was not justified
-more_refused : (value : Row → State → Kinds → ℕ) (f : Fingers) (k : Kinds) (known : List (ℕ × ℕ)) (n : ℕ) (unproved : Option ℕ) (row : Option Best) (lemmas : List Lemma) (x : Lemma) → is_some unproved ≡ true → IsFound value (checked f k known n unproved row) unproved lemmas → IsFound value (checked f k known (n + 1) unproved row) unproved (lemmas ++ x ∷ [])
-more_refused value f k known n None row lemmas x is found = absurd cc
-more_refused value f k known n (Some line) row lemmas x is found = (found.0, still_unjustified value k lemmas x found.0 found.1, found.2)
+more_refused : (value : Row → State → Kinds → ℕ) (v : ℕ) (f : Fingers) (k : Kinds) (known : List (ℕ × ℕ)) (n : ℕ) (unproved : Option ℕ) (row : Option Best) (lemmas : List Lemma) (x : Lemma) → is_some unproved ≡ true → IsFound value (checked v f k known n unproved row) unproved lemmas → IsFound value (checked v f k known (n + 1) unproved row) unproved (lemmas ++ x ∷ [])
+more_refused value v f k known n None row lemmas x is found = absurd cc
+more_refused value v f k known n (Some line) row lemmas x is found = (found.0, still_unjustified value k lemmas x found.0 found.1, found.2)
 
-pub seen_unproved : (value : Row → State → Kinds → ℕ) (c : Checked) (f : Fingers) (k : Kinds) (known : List (ℕ × ℕ)) (n : ℕ) (unproved : Option ℕ) (row : Option Best) (log : Log) (x : Lemma) → c ≡ checked f k known n unproved row → is_some unproved ≡ true → HasSeen value c log → HasSeen value (checked f k known (n + 1) unproved row) (with_lemmas log (x ∷ []))
-seen_unproved value c f k known n unproved row log x same is seen =
-    let h : HasSeen value (checked f k known n unproved row) log = subst (λ (d : Checked). HasSeen value d log) same seen in
-    record { counted = one_longer log.lemmas x n h.counted; found = more_refused value f k known n unproved row log.lemmas x is h.found; row = h.row }
+pub seen_unproved : (value : Row → State → Kinds → ℕ) (c : Checked) (v : ℕ) (f : Fingers) (k : Kinds) (known : List (ℕ × ℕ)) (n : ℕ) (unproved : Option ℕ) (row : Option Best) (log : Log) (x : Lemma) → c ≡ checked v f k known n unproved row → is_some unproved ≡ true → HasSeen value c log → HasSeen value (checked v f k known (n + 1) unproved row) (with_lemmas log (x ∷ []))
+seen_unproved value c v f k known n unproved row log x same is seen =
+    let h : HasSeen value (checked v f k known n unproved row) log = subst (λ (d : Checked). HasSeen value d log) same seen in
+    record { version = h.version; counted = one_longer log.lemmas x n h.counted; found = more_refused value v f k known n unproved row log.lemmas x is h.found; row = h.row }
 
 none_is : {X : Type 0} (o : Option X) → is_some o ≡ false → o ≡ None
 none_is None h = refl
 none_is (Some x) h = absurd cc
 
 -- where all were justified so far
-all_right : (value : Row → State → Kinds → ℕ) (f : Fingers) (k : Kinds) (known : List (ℕ × ℕ)) (n : ℕ) (unproved : Option ℕ) (row : Option Best) (lemmas : List Lemma) → is_some unproved ≡ false → IsFound value (checked f k known n unproved row) unproved lemmas → AreJustified value k lemmas × AreBest k (best_noted known k) lemmas
-all_right value f k known n None row lemmas is found = found
-all_right value f k known n (Some line) row lemmas is found = absurd cc
+all_right : (value : Row → State → Kinds → ℕ) (v : ℕ) (f : Fingers) (k : Kinds) (known : List (ℕ × ℕ)) (n : ℕ) (unproved : Option ℕ) (row : Option Best) (lemmas : List Lemma) → is_some unproved ≡ false → IsFound value (checked v f k known n unproved row) unproved lemmas → AreJustified value k lemmas × AreBest k (best_noted known k) lemmas
+all_right value v f k known n None row lemmas is found = found
+all_right value v f k known n (Some line) row lemmas is found = absurd cc
 
 -- the first lemma that is not justified
-pub seen_refused : (value : Row → State → Kinds → ℕ) (c : Checked) (f : Fingers) (k : Kinds) (known : List (ℕ × ℕ)) (n : ℕ) (unproved : Option ℕ) (row : Option Best) (log : Log) (x : Lemma) → c ≡ checked f k known n unproved row → is_some unproved ≡ false → AreSomeKinds k → (IsJustified value k (best_noted known k) x → ⊥) → HasSeen value c log → HasSeen value (checked f k known (n + 1) (Some (n + 3)) row) (with_lemmas log (x ∷ []))
-seen_refused value c f k known n unproved row log x same is some wrong seen =
-    let h : HasSeen value (checked f k known n unproved row) log = subst (λ (d : Checked). HasSeen value d log) same seen in
-    let found = all_right value f k known n unproved row log.lemmas is h.found in
+pub seen_refused : (value : Row → State → Kinds → ℕ) (c : Checked) (v : ℕ) (f : Fingers) (k : Kinds) (known : List (ℕ × ℕ)) (n : ℕ) (unproved : Option ℕ) (row : Option Best) (log : Log) (x : Lemma) → c ≡ checked v f k known n unproved row → is_some unproved ≡ false → AreSomeKinds k → (IsJustified value k (best_noted known k) x → ⊥) → HasSeen value c log → HasSeen value (checked v f k known (n + 1) (Some (n + 3)) row) (with_lemmas log (x ∷ []))
+seen_refused value c v f k known n unproved row log x same is some wrong seen =
+    let h : HasSeen value (checked v f k known n unproved row) log = subst (λ (d : Checked). HasSeen value d log) same seen in
+    let found = all_right value v f k known n unproved row log.lemmas is h.found in
     record {
+      version = h.version;
       counted = one_longer log.lemmas x n h.counted;
       found = (length log.lemmas, first_unjustified value k log.lemmas x (best_noted known k) some found.0 found.1 wrong, omega (arith, h.counted));
       row = h.row;
     }
 
 -- a lemma that is justified
-pub seen_more : (value : Row → State → Kinds → ℕ) (c : Checked) (f : Fingers) (k : Kinds) (known new : List (ℕ × ℕ)) (n : ℕ) (unproved : Option ℕ) (row : Option Best) (log : Log) (x : Lemma) → c ≡ checked f k known n unproved row → is_some unproved ≡ false → AreSomeKinds k → IsJustified value k (best_noted known k) x → ((s : State) → IsState k s → best_noted new k s ≡ raised x.state x.bound s (best_noted known k s)) → HasSeen value c log → HasSeen value (checked f k new (n + 1) unproved row) (with_lemmas log (x ∷ []))
-seen_more value c f k known new n unproved row log x same is some right noted seen =
-    let h : HasSeen value (checked f k known n unproved row) log = subst (λ (d : Checked). HasSeen value d log) same seen in
-    let found = all_right value f k known n unproved row log.lemmas is h.found in
+pub seen_more : (value : Row → State → Kinds → ℕ) (c : Checked) (v : ℕ) (f : Fingers) (k : Kinds) (known new : List (ℕ × ℕ)) (n : ℕ) (unproved : Option ℕ) (row : Option Best) (log : Log) (x : Lemma) → c ≡ checked v f k known n unproved row → is_some unproved ≡ false → AreSomeKinds k → IsJustified value k (best_noted known k) x → ((s : State) → IsState k s → best_noted new k s ≡ raised x.state x.bound s (best_noted known k s)) → HasSeen value c log → HasSeen value (checked v f k new (n + 1) unproved row) (with_lemmas log (x ∷ []))
+seen_more value c v f k known new n unproved row log x same is some right noted seen =
+    let h : HasSeen value (checked v f k known n unproved row) log = subst (λ (d : Checked). HasSeen value d log) same seen in
+    let found = all_right value v f k known n unproved row log.lemmas is h.found in
     record {
+      version = h.version;
       counted = one_longer log.lemmas x n h.counted;
-      found = subst (λ (o : Option ℕ). IsFound value (checked f k new (n + 1) unproved row) o (log.lemmas ++ x ∷ [])) (sym (none_is unproved is))
+      found = subst (λ (o : Option ℕ). IsFound value (checked v f k new (n + 1) unproved row) o (log.lemmas ++ x ∷ [])) (sym (none_is unproved is))
           (are_justified_more value k log.lemmas x (best_noted known k) some found.0 found.1 right, are_best_more k log.lemmas x (best_noted known k) (best_noted new k) found.1 noted);
       row = h.row;
     }
 
 -- ---- columns
 
-same_found : (value : Row → State → Kinds → ℕ) (f : Fingers) (k : Kinds) (known : List (ℕ × ℕ)) (n : ℕ) (unproved : Option ℕ) (row new : Option Best) (lemmas : List Lemma) → IsFound value (checked f k known n unproved row) unproved lemmas → IsFound value (checked f k known n unproved new) unproved lemmas
-same_found value f k known n None row new lemmas h = h
-same_found value f k known n (Some line) row new lemmas h = h
+same_found : (value : Row → State → Kinds → ℕ) (v : ℕ) (f : Fingers) (k : Kinds) (known : List (ℕ × ℕ)) (n : ℕ) (unproved : Option ℕ) (row new : Option Best) (lemmas : List Lemma) → IsFound value (checked v f k known n unproved row) unproved lemmas → IsFound value (checked v f k known n unproved new) unproved lemmas
+same_found value v f k known n None row new lemmas h = h
+same_found value v f k known n (Some line) row new lemmas h = h
 
-pub seen_gaps : (value : Row → State → Kinds → ℕ) (c : Checked) (f : Fingers) (k : Kinds) (known : List (ℕ × ℕ)) (n : ℕ) (unproved : Option ℕ) (row : Option Best) (log : Log) (gaps : ℕ) → c ≡ checked f k known n unproved row → HasSeen value c log → HasSeen value (checked f k known n unproved (Some (record { gaps = gaps; steps = [] }))) (with_gaps log gaps)
-seen_gaps value c f k known n unproved row log gaps same seen =
-    let h : HasSeen value (checked f k known n unproved row) log = subst (λ (d : Checked). HasSeen value d log) same seen in
-    record { counted = h.counted; found = same_found value f k known n unproved row (Some (record { gaps = gaps; steps = [] })) log.lemmas h.found; row = refl }
+pub seen_gaps : (value : Row → State → Kinds → ℕ) (c : Checked) (v : ℕ) (f : Fingers) (k : Kinds) (known : List (ℕ × ℕ)) (n : ℕ) (unproved : Option ℕ) (row : Option Best) (log : Log) (gaps : ℕ) → c ≡ checked v f k known n unproved row → HasSeen value c log → HasSeen value (checked v f k known n unproved (Some (record { gaps = gaps; steps = [] }))) (with_gaps log gaps)
+seen_gaps value c v f k known n unproved row log gaps same seen =
+    let h : HasSeen value (checked v f k known n unproved row) log = subst (λ (d : Checked). HasSeen value d log) same seen in
+    record { version = h.version; counted = h.counted; found = same_found value v f k known n unproved row (Some (record { gaps = gaps; steps = [] })) log.lemmas h.found; row = refl }
 
-pub seen_columns : (value : Row → State → Kinds → ℕ) (c : Checked) (f : Fingers) (k : Kinds) (known : List (ℕ × ℕ)) (n : ℕ) (unproved : Option ℕ) (row new : Option Best) (log : Log) (steps : List LogStep) → c ≡ checked f k known n unproved row → new ≡ option_map (more_steps steps) row → HasSeen value c log → HasSeen value (checked f k known n unproved new) (with_columns log steps)
-seen_columns value c f k known n unproved row new log steps same is seen =
-    let h : HasSeen value (checked f k known n unproved row) log = subst (λ (d : Checked). HasSeen value d log) same seen in
-    record { counted = h.counted; found = same_found value f k known n unproved row new log.lemmas h.found; row = is ∙ ap (option_map (more_steps steps)) h.row }
+pub seen_columns : (value : Row → State → Kinds → ℕ) (c : Checked) (v : ℕ) (f : Fingers) (k : Kinds) (known : List (ℕ × ℕ)) (n : ℕ) (unproved : Option ℕ) (row new : Option Best) (log : Log) (steps : List LogStep) → c ≡ checked v f k known n unproved row → new ≡ option_map (more_steps steps) row → HasSeen value c log → HasSeen value (checked v f k known n unproved new) (with_columns log steps)
+seen_columns value c v f k known n unproved row new log steps same is seen =
+    let h : HasSeen value (checked v f k known n unproved row) log = subst (λ (d : Checked). HasSeen value d log) same seen in
+    record { version = h.version; counted = h.counted; found = same_found value v f k known n unproved row new log.lemmas h.found; row = is ∙ ap (option_map (more_steps steps)) h.row }
 
 -- ---- the end
 
@@ -187,13 +189,13 @@ from_best value k f log (because.Gaps said counted) all h = (all, h)
 from_best value k f log (because.NotLeast proved said) all h = (all, h)
 from_best value k f log because.NoMemory all h = tt
 
-pub answer_refused : (value : Row → State → Kinds → ℕ) (c : Checked) (f : Fingers) (k : Kinds) (known : List (ℕ × ℕ)) (n : ℕ) (unproved : Option ℕ) (row : Option Best) (least : ℕ) (fault : Refused) (log : Log) → c ≡ checked f k known n unproved row → unproved ≡ None → least ≡ best_noted known k (start_of k) → BestRefuses k f least row fault → HasSeen value c log → Refuses value c.kinds c.fingers log fault
-answer_refused value c f k known n unproved row least fault log same none is refuses seen =
+pub answer_refused : (value : Row → State → Kinds → ℕ) (c : Checked) (v : ℕ) (f : Fingers) (k : Kinds) (known : List (ℕ × ℕ)) (n : ℕ) (unproved : Option ℕ) (row : Option Best) (least : ℕ) (fault : Refused) (log : Log) → c ≡ checked v f k known n unproved row → unproved ≡ None → least ≡ best_noted known k (start_of k) → BestRefuses k f least row fault → HasSeen value c log → Refuses value c.kinds c.fingers log fault
+answer_refused value c v f k known n unproved row least fault log same none is refuses seen =
     subst (λ (d : Checked). Refuses value d.kinds d.fingers log fault) (sym same) (by_row (subst (λ (d : Checked). HasSeen value d log) same seen))
   where
-    by_row : HasSeen value (checked f k known n unproved row) log → Refuses value k f log fault
+    by_row : HasSeen value (checked v f k known n unproved row) log → Refuses value k f log fault
     by_row h =
-        let found = found_all value (checked f k known n unproved row) log none h in
+        let found = found_all value (checked v f k known n unproved row) log none h in
         from_best value k f log fault found.0
         (subst (λ (row : Option Best). BestRefuses k f (best_of (start_of k) log.lemmas) row fault) h.row (subst (λ (n : ℕ). BestRefuses k f n row fault) (is ∙ found.1 (start_of k) (start_valid k)) refuses))
 
@@ -201,7 +203,7 @@ answer_refused value c f k known n unproved row least fault log same none is ref
 
 pub lemmas_again : (log : Log) (lemmas : List Lemma) (at : ℕ) (x : Lemma) → x ≡ get_or lemmas at x → at < length lemmas → with_lemmas (with_lemmas log (take at lemmas)) (x ∷ []) ≡ with_lemmas log (take (at + 1) lemmas)
 lemmas_again log lemmas at x is within =
-    ap (λ (all : List Lemma). record { lemmas = all; best = log.best })
+    ap (λ (all : List Lemma). record { version = log.version; lemmas = all; best = log.best })
     (append_assoc log.lemmas (take at lemmas) (x ∷ []) ∙ (ap (λ (y : Lemma). log.lemmas ++ (take at lemmas ++ y ∷ [])) is ∙ ap (λ (all : List Lemma). log.lemmas ++ all) (sym (take_more lemmas at x within))))
 
 row_again : (row : Option Best) (steps : List LogStep) (at : ℕ) (d : LogStep) → at < length steps → option_map (more_steps (get_or steps at d ∷ [])) (option_map (more_steps (take at steps)) row) ≡ option_map (more_steps (take (at + 1) steps)) row
@@ -211,14 +213,14 @@ row_again (Some row) steps at d within =
     (append_assoc row.steps (take at steps) (get_or steps at d ∷ []) ∙ ap (λ (all : List LogStep). row.steps ++ all) (sym (take_more steps at d within)))
 
 pub columns_again : (log : Log) (steps : List LogStep) (at : ℕ) (d : LogStep) → at < length steps → with_columns (with_columns log (take at steps)) (get_or steps at d ∷ []) ≡ with_columns log (take (at + 1) steps)
-columns_again log steps at d within = ap (λ (row : Option Best). record { lemmas = log.lemmas; best = row }) (row_again log.best steps at d within)
+columns_again log steps at d within = ap (λ (row : Option Best). record { version = log.version; lemmas = log.lemmas; best = row }) (row_again log.best steps at d within)
 
 no_steps : (row : Option Best) → option_map (more_steps []) row ≡ row
 no_steps None = refl
 no_steps (Some row) = ap (λ (all : List LogStep). Some (record { gaps = row.gaps; steps = all })) (append-nil row.steps)
 
 pub no_columns : (log : Log) → with_columns log [] ≡ log
-no_columns log = ap (λ (row : Option Best). record { lemmas = log.lemmas; best = row }) (no_steps log.best)
+no_columns log = ap (λ (row : Option Best). record { version = log.version; lemmas = log.lemmas; best = row }) (no_steps log.best)
 
 pub no_lemmas : (log : Log) → with_lemmas log [] ≡ log
-no_lemmas log = ap (λ (all : List Lemma). record { lemmas = all; best = log.best }) (append-nil log.lemmas)
+no_lemmas log = ap (λ (all : List Lemma). record { version = log.version; lemmas = all; best = log.best }) (append-nil log.lemmas)

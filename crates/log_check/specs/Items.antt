@@ -16,6 +16,8 @@ use Rattle.log_check.specs.Refusal.{LemmasRefuse}
 
 -- What a checker of logs for these fingers, with their kinds, has come to.
 pub record Checked : Type 0 where
+  -- the version of the log
+  pub version : ℕ
   pub fingers : Fingers
   pub kinds : Kinds
   -- the best bounds so far, by the numbers of states
@@ -37,24 +39,26 @@ IsFound value c (Some line) lemmas = LemmasRefuse value c.kinds lemmas (because.
 
 -- the items of this log came, where this is the bound of a row
 pub record HasSeen (value : Row → State → Kinds → ℕ) (c : Checked) (log : Log) : Type 0 where
+  pub version : c.version ≡ log.version
   pub counted : c.lemmas ≡ length log.lemmas
   pub found : IsFound value c c.unproved log.lemmas
   pub row : c.row ≡ log.best
 
-abbrev pub empty_log : Log
-empty_log = record { lemmas = []; best = None }
+-- of this version, before its first item
+abbrev pub empty_log : ℕ → Log
+empty_log version = record { version = version; lemmas = []; best = None }
 
 abbrev pub with_lemmas : Log → List Lemma → Log
-with_lemmas log lemmas = record { lemmas = log.lemmas ++ lemmas; best = log.best }
+with_lemmas log lemmas = record { version = log.version; lemmas = log.lemmas ++ lemmas; best = log.best }
 
 abbrev pub with_gaps : Log → ℕ → Log
-with_gaps log gaps = record { lemmas = log.lemmas; best = Some (record { gaps = gaps; steps = [] }) }
+with_gaps log gaps = record { version = log.version; lemmas = log.lemmas; best = Some (record { gaps = gaps; steps = [] }) }
 
 abbrev pub more_steps : List LogStep → Best → Best
 more_steps steps row = record { gaps = row.gaps; steps = row.steps ++ steps }
 
 abbrev pub with_columns : Log → List LogStep → Log
-with_columns log steps = record { lemmas = log.lemmas; best = option_map (more_steps steps) log.best }
+with_columns log steps = record { version = log.version; lemmas = log.lemmas; best = option_map (more_steps steps) log.best }
 
 -- so it is of each log whose items came
 abbrev pub ForSeen : (Row → State → Kinds → ℕ) → Checked → (Log → Type 0) → Type 0

@@ -43,9 +43,9 @@ fn add_columns(seen: &mut Seen, steps: &[LogStep]) -> Result<(), NoMemory>
 
 fn add_row(seen: &mut Seen, row: &Option<Best>) -> Result<(), NoMemory>
     ensures fingers { seen.new.fingers ≡ seen.old.fingers }
-    ensures seen { OnOk result ((value : RowOf → StateOf → KindsOf → ℕ) (lemmas : Sequence LemmaOf) →
-        HasSeen value seen.old (record { lemmas = lemmas; best = None }) →
-        HasSeen value seen.new (record { lemmas = lemmas; best = row.now })) }
+    ensures seen { OnOk result ((value : RowOf → StateOf → KindsOf → ℕ) (version : ℕ) (lemmas : Sequence LemmaOf) →
+        HasSeen value seen.old (record { version = version; lemmas = lemmas; best = None }) →
+        HasSeen value seen.new (record { version = version; lemmas = lemmas; best = row.now })) }
 {
     let Some(row) = row else {
         return Ok(());
@@ -67,7 +67,7 @@ fn see_all<B: RowBound>(
     ensures fingers { IfOk result (λ c. c.fingers ≡ fingers.now) }
     ensures seen { IfOk result (λ c. HasSeen (B.value bound.now) c log.now) }
 {
-    let mut seen = Seen::new(alloc, fingers)?;
+    let mut seen = Seen::new(alloc, fingers, log.version)?;
     add_lemmas(&mut seen, bound, log.lemmas.as_slice())?;
     add_row(&mut seen, &log.best)?;
     Ok(seen)

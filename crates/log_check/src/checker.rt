@@ -14,7 +14,8 @@ use cell_num::{Fingers, MOST_BYTES, NoMemory};
 use row_state::RowBound;
 use std::alloc::Global;
 
-/// A log checked item by item, in the order of its lines: each lemma, then the gaps said and each column.
+/// A log of the bound's version, checked item by item in the order of its lines: each lemma, then the gaps said
+/// and each column.
 #[derive(Drop)]
 pub struct Checker<B: RowBound + Drop> {
     seen: Seen,
@@ -27,13 +28,27 @@ impl<B: RowBound + Drop> Checker<B> {
         requires fingers { AreFingers fingers.now }
         ensures fingers { IfOk result (λ c. c.seen.fingers ≡ fingers.now) }
         ensures bound { IfOk result (λ c. c.bound ≡ bound) }
+        ensures version { IfOk result (λ c. c.seen.version ≡ B.version_of bound) }
         ensures count { IfOk result (λ c. c.seen.lemmas ≡ 0) }
-        ensures seen { IfOk result (λ c. HasSeen (B.value bound) c.seen empty_log) }
+        ensures seen { IfOk result (λ c. HasSeen (B.value bound) c.seen (empty_log (B.version_of bound))) }
     {
+        let version = bound.version();
         Ok(Checker {
-            seen: Seen::new(alloc, fingers)?,
+            seen: Seen::new(alloc, fingers, version)?,
             bound,
         })
+    }
+
+    /// A log of this bound's version begins: nothing of it has come. It takes no memory.
+    pub fn begin(&mut self, bound: B)
+        ensures fingers { self.new.seen.fingers ≡ self.old.seen.fingers }
+        ensures bound { self.new.bound ≡ bound }
+        ensures version { self.new.seen.version ≡ B.version_of bound }
+        ensures count { self.new.seen.lemmas ≡ 0 }
+        ensures seen { HasSeen (B.value bound) self.new.seen (empty_log (B.version_of bound)) }
+    {
+        self.seen.begin(bound.version());
+        self.bound = bound;
     }
 
     /// How many lemmas came.
@@ -48,6 +63,7 @@ impl<B: RowBound + Drop> Checker<B> {
         requires few { self.old.seen.lemmas < MOST_BYTES }
         ensures fingers { self.new.seen.fingers ≡ self.old.seen.fingers }
         ensures bound { self.new.bound ≡ self.old.bound }
+        ensures version { self.new.seen.version ≡ self.old.seen.version }
         ensures count { OnOk result (self.new.seen.lemmas ≡ self.old.seen.lemmas + 1) }
         ensures seen { OnOk result (ForSeen (B.value self.old.bound) self.old.seen (λ log.
             HasSeen (B.value self.old.bound) self.new.seen (with_lemmas log (lemma.now ∷ [])))) }
@@ -61,6 +77,7 @@ impl<B: RowBound + Drop> Checker<B> {
     pub fn gaps(&mut self, said: u32)
         ensures fingers { self.new.seen.fingers ≡ self.old.seen.fingers }
         ensures bound { self.new.bound ≡ self.old.bound }
+        ensures version { self.new.seen.version ≡ self.old.seen.version }
         ensures count { self.new.seen.lemmas ≡ self.old.seen.lemmas }
         ensures seen { ForSeen (B.value self.old.bound) self.old.seen (λ log.
             HasSeen (B.value self.old.bound) self.new.seen (with_gaps log said)) }
@@ -73,6 +90,7 @@ impl<B: RowBound + Drop> Checker<B> {
     pub fn column(&mut self, step: &LogStep) -> Result<(), NoMemory>
         ensures fingers { self.new.seen.fingers ≡ self.old.seen.fingers }
         ensures bound { self.new.bound ≡ self.old.bound }
+        ensures version { self.new.seen.version ≡ self.old.seen.version }
         ensures count { self.new.seen.lemmas ≡ self.old.seen.lemmas }
         ensures seen { OnOk result (ForSeen (B.value self.old.bound) self.old.seen (λ log.
             HasSeen (B.value self.old.bound) self.new.seen (with_columns log (step.now ∷ [])))) }

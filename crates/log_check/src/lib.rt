@@ -14,6 +14,3 @@ pub use checker::Checker;
 pub use known::Known;
 pub use refused::Refused;
 pub use seen::Seen;
-
-#[cfg(test)]
-mod tests;

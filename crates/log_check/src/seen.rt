@@ -73,6 +73,8 @@ fn add_column(row: &mut Option<Best>, step: &LogStep) -> Result<(), NoMemory>
 #[derive(Drop)]
 pub struct Seen {
     alloc: Global,
+    // The version of the log.
+    version: u32,
     fingers: Fingers,
     kinds: Kinds,
     // All columns that may ever come next.
@@ -94,6 +96,7 @@ impl Model for Seen {
     ghost Value = { Checked };
 
     ghost view = { λ c. record {
+      version = c.version;
       fingers = c.fingers;
       kinds = c.kinds;
       known = noted c.known;
@@ -108,17 +111,19 @@ impl Model for Seen {
 
 impl Seen {
     #[tactic(auto, using(crate::proofs::Items::seen_none))]
-    pub(crate) fn new(alloc: Global, fingers: &Fingers) -> Result<Seen, NoMemory>
+    pub(crate) fn new(alloc: Global, fingers: &Fingers, version: u32) -> Result<Seen, NoMemory>
         requires { AreFingers fingers.now }
         ensures fingers { IfOk result (λ c. c.fingers ≡ fingers.now) }
+        ensures version { IfOk result (λ c. c.version ≡ version) }
         ensures count { IfOk result (λ c. c.lemmas ≡ 0) }
-        ensures seen { IfOk result (λ c. (value : RowOf → StateOf → KindsOf → ℕ) → HasSeen value c empty_log) }
+        ensures seen { IfOk result (λ c. (value : RowOf → StateOf → KindsOf → ℕ) → HasSeen value c (empty_log version)) }
     {
         let own = copied(fingers)?;
         let kinds = kinds(alloc, fingers)?;
         let candidates = candidates(alloc, &kinds)?;
         Ok(Seen {
             alloc,
+            version,
             fingers: own,
             kinds,
             candidates,
@@ -127,6 +132,21 @@ impl Seen {
             unproved: None,
             row: None,
         })
+    }
+
+    // Another log begins.
+    #[tactic(auto, using(crate::proofs::Items::seen_none))]
+    pub(crate) fn begin(&mut self, version: u32)
+        ensures fingers { self.new.fingers ≡ self.old.fingers }
+        ensures version { self.new.version ≡ version }
+        ensures count { self.new.lemmas ≡ 0 }
+        ensures seen { (value : RowOf → StateOf → KindsOf → ℕ) → HasSeen value self.new (empty_log version) }
+    {
+        self.version = version;
+        self.known = Known::new(self.alloc);
+        self.lemmas = 0;
+        self.unproved = None;
+        self.row = None;
     }
 
     pub(crate) fn count(&self) -> u32
@@ -138,6 +158,7 @@ impl Seen {
     pub(crate) fn lemma<B: RowBound>(&mut self, bound: &B, lemma: &Lemma) -> Result<(), NoMemory>
         requires few { self.old.lemmas < MOST_BYTES }
         ensures fingers { self.new.fingers ≡ self.old.fingers }
+        ensures version { self.new.version ≡ self.old.version }
         ensures count { OnOk result (self.new.lemmas ≡ self.old.lemmas + 1) }
         ensures seen { OnOk result (ForSeen (B.value bound.now) self.old (λ log.
             HasSeen (B.value bound.now) self.new (with_lemmas log (lemma.now ∷ [])))) }
@@ -161,6 +182,7 @@ impl Seen {
     #[tactic(auto, using(crate::proofs::Items::seen_gaps))]
     pub(crate) fn gaps(&mut self, said: u32)
         ensures fingers { self.new.fingers ≡ self.old.fingers }
+        ensures version { self.new.version ≡ self.old.version }
         ensures count { self.new.lemmas ≡ self.old.lemmas }
         ensures seen { (value : RowOf → StateOf → KindsOf → ℕ) →
             ForSeen value self.old (λ log. HasSeen value self.new (with_gaps log said)) }
@@ -174,6 +196,7 @@ impl Seen {
     #[tactic(auto, using(crate::proofs::Items::seen_columns))]
     pub(crate) fn column(&mut self, step: &LogStep) -> Result<(), NoMemory>
         ensures fingers { self.new.fingers ≡ self.old.fingers }
+        ensures version { self.new.version ≡ self.old.version }
         ensures count { self.new.lemmas ≡ self.old.lemmas }
         ensures seen { OnOk result ((value : RowOf → StateOf → KindsOf → ℕ) →
             ForSeen value self.old (λ log. HasSeen value self.new (with_columns log (step.now ∷ [])))) }

@@ -1,6 +1,7 @@
 -- What the lines of a log ask for, one by one.
 use Rattle.std.proofs.Common.{ℕ, ◌≡◌, ◌≤◌, List, Some, All, IfSome, slice_get}
 use Rattle.cell_num.proofs.Lists.{all_at}
+use Rattle.row_state.specs.Versions.{IsVersion}
 use Rattle.bound_log.specs.declared.log.Best.{Best}
 use Rattle.bound_log.specs.declared.log.Lemma.{Lemma}
 use Rattle.bound_log.specs.declared.log.Log.{Log}
@@ -18,6 +19,9 @@ few_gaps best (k, kinds, fits) = fits.few
 
 pub steps_fit : (best : Best) → ForSome (λ k. BestFits k best) → ForSome (λ k. All (StepFits k) best.steps)
 steps_fit best (k, kinds, fits) = (k, kinds, fits.steps)
+
+pub version_fits : (log : Log) → ForSome (λ k. Fits k log) → IsVersion log.version
+version_fits log (k, kinds, fits) = fits.version
 
 pub lemmas_fit : (log : Log) → ForSome (λ k. Fits k log) → ForSome (λ k. All (LemmaFits k) log.lemmas)
 lemmas_fit log (k, kinds, fits) = (k, kinds, fits.lemmas)

@@ -8,6 +8,7 @@ use std::marker::Model;
 /// A log whose lemmas are as the search kept them. Contracts see it as the log.
 #[derive(Drop)]
 pub struct KeptLog {
+    pub(crate) version: u32,
     pub(crate) kept: Kept,
     pub(crate) best: Option<Best>,
 }
@@ -17,25 +18,30 @@ impl Model for KeptLog {
 
     ghost Value = { Log };
 
-    ghost view = { λ l. record { lemmas = l.kept; best = l.best } };
+    ghost view = { λ l. record { version = l.version; lemmas = l.kept; best = l.best } };
 }
 
 impl KeptLog {
-    /// The log that lists a row.
-    pub fn with_row(kept: Kept, best: Best) -> KeptLog
-        ensures { result ≡ log_with kept best }
+    /// The log of this version that lists a row.
+    pub fn with_row(version: u32, kept: Kept, best: Best) -> KeptLog
+        ensures { result ≡ log_with version kept best }
     {
         KeptLog {
+            version,
             kept,
             best: Some(best),
         }
     }
 
-    /// The log that lists none.
-    pub fn without_row(kept: Kept) -> KeptLog
-        ensures { result ≡ log_without kept }
+    /// The log of this version that lists none.
+    pub fn without_row(version: u32, kept: Kept) -> KeptLog
+        ensures { result ≡ log_without version kept }
     {
-        KeptLog { kept, best: None }
+        KeptLog {
+            version,
+            kept,
+            best: None,
+        }
     }
 
     /// How many lemmas it has.

@@ -116,7 +116,7 @@ fn give_best<D: Desk>(
     give_columns(desk, file, block, lines, best.steps.as_slice())
 }
 
-#[tactic(auto, using(crate::proofs::Fitting::lemmas_fit, crate::proofs::Fitting::best_fits, crate::proofs::Giving::can_still, crate::proofs::Giving::only_none, crate::proofs::Giving::only_more, crate::proofs::Giving::failed_behind, crate::proofs::Giving::short_behind))]
+#[tactic(auto, using(crate::proofs::Fitting::version_fits, crate::proofs::Fitting::lemmas_fit, crate::proofs::Fitting::best_fits, crate::proofs::Giving::can_still, crate::proofs::Giving::only_none, crate::proofs::Giving::only_more, crate::proofs::Giving::failed_behind, crate::proofs::Giving::short_behind))]
 fn give_lines<D: Desk>(
     desk: &mut D,
     file: Option<&str>,
@@ -138,7 +138,7 @@ fn give_lines<D: Desk>(
     ensures memory { IsErrOf result Short → Rose (D.view desk.old).shorts (D.view desk.new).shorts }
     ensures only { OnlyPuts (option_map (λ name. name.now) file.entry) (D.view desk.old) (D.view desk.new) }
 {
-    block.add(desk, file, lines.head(name))?;
+    block.add(desk, file, lines.head(log.version, name))?;
     give_lemmas(desk, file, block, lines, &log.kept, lemma)?;
     give_best(desk, file, block, lines, &log.best)?;
     block.add(desk, file, lines.last())

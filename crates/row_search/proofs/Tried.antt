@@ -1,5 +1,5 @@
 -- The ways in which the trial of the limits ends.
-use Rattle.std.proofs.Common.{ℕ, ◌≡◌, ◌+◌, ◌<◌, ◌≤◌, List, [], length, refl, sym, ap, subst, arith, All, ◌∙◌}
+use Rattle.std.proofs.Common.{ℕ, ◌≡◌, ◌+◌, ◌<◌, ◌≤◌, List, [], length, sym, ap, subst, arith, All, ◌∙◌}
 use Rattle.std.proofs.lemmas.List.Elements.{All-nil}
 use Rattle.cell_num.specs.declared.finger.Row.{Row}
 use Rattle.row_state.specs.declared.kind.Kinds.{Kinds}

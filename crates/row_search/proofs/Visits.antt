@@ -1,5 +1,5 @@
 -- The ways in which a visit ends, over what it begins with and what it comes to.
-use Rattle.std.proofs.Common.{ℕ, ◌≡◌, ◌+◌, ◌-◌, ◌<◌, ◌≤◌, Bool, true, false, List, [], ◌∷◌, ◌++◌, length, length-append, take, take_all, get_or, refl, sym, ap, subst, arith, All, ◌∙◌, ◌↔◌, IsTrue, Option, Some, None}
+use Rattle.std.proofs.Common.{ℕ, ◌≡◌, ◌+◌, ◌-◌, ◌<◌, ◌≤◌, Bool, true, false, List, [], ◌∷◌, ◌++◌, length, length-append, take, take_all, get_or, sym, ap, subst, arith, All, ◌∙◌, ◌↔◌, IsTrue, Option, Some, None}
 use Rattle.std.proofs.lemmas.List.Elements.{All-contains, All-more, All-push, All-nil}
 use Rattle.std.proofs.lemmas.List.{get_or-map, length-map, take-map}
 use Rattle.cell_num.proofs.Lists.{all_map}
@@ -12,7 +12,7 @@ use Rattle.row_state.specs.declared.step.Step.{Step}
 use Rattle.row_state.specs.Completion.{cost_of}
 use Rattle.row_state.specs.Start.{AreSomeKinds, GatesAreNets, IsState, HasFingers, columns_left}
 use Rattle.row_state.specs.declared.candidate.Candidate.{Candidate}
-use Rattle.row_state.specs.Candidates.{AreCandidates, IsCandidate, candidate_steps}
+use Rattle.row_state.specs.Candidates.{AreCandidates, candidate_steps}
 use Rattle.row_state.specs.Code.{state_code}
 use Rattle.row_state.specs.Steps.{IsLeft, IsPossible, column_of, state_after}
 use Rattle.row_state.proofs.Calls.{fewer_after, valid_after}

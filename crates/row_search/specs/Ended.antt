@@ -36,13 +36,13 @@ abbrev pub IfOpen : Result FoundKept StopKept → (List Lemma → ℕ → Type 0
 IfOpen (Err (stopped.Unfinished kept proved)) Says = Says kept proved
 IfOpen _ Says = Unit {0}
 
--- the log of kept lemmas that lists a row
-abbrev pub log_with : List Lemma → Best → Log
-log_with kept best = record { lemmas = kept; best = Some best }
+-- the log of kept lemmas, of this version, that lists a row
+abbrev pub log_with : ℕ → List Lemma → Best → Log
+log_with version kept best = record { version = version; lemmas = kept; best = Some best }
 
 -- and one that lists none
-abbrev pub log_without : List Lemma → Log
-log_without kept = record { lemmas = kept; best = None }
+abbrev pub log_without : ℕ → List Lemma → Log
+log_without version kept = record { version = version; lemmas = kept; best = None }
 
 -- no two lemmas have one state and one bound
 abbrev pub AreDistinct : List Lemma → Type 0

@@ -13,6 +13,3 @@ pub use found::{Found, FoundKept, Stop, StopKept};
 pub use kept::Kept;
 pub use limits::search_kept;
 pub use whole::search;
-
-#[cfg(test)]
-mod tests;

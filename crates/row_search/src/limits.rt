@@ -92,8 +92,9 @@ fn try_limits<B: RowBound>(task: &Task<B>) -> Result<FoundKept, StopKept>
     unreachable!()
 }
 
-/// The first least arrangement of the fingers, and lemmas that prove that none has fewer gaps; or what is proved when the
-/// budget of nodes is spent. A node is a visit of a state of which no kept lemma says that it fails.
+/// The first least arrangement of the fingers, and the lemmas of a log of the bound's version that prove that none
+/// has fewer gaps; or what is proved when the budget of nodes is spent. A node is a visit of a state of which no kept
+/// lemma says that it fails.
 pub fn search_kept<B: RowBound>(
     alloc: Global,
     fingers: &Fingers,
@@ -102,11 +103,12 @@ pub fn search_kept<B: RowBound>(
 ) -> Result<FoundKept, StopKept>
     requires { AreFingers fingers.now }
     ensures row { IfOk result (λ found. IsFirstLeast fingers.now found.row) }
-    ensures solved { IfOk result (λ found.
-        WithKinds fingers.now (λ k. IsSolved (B.value bound.now) k fingers.now budget found.row (log_with found.kept found.best))) }
+    ensures solved { IfOk result (λ found. WithKinds fingers.now (λ k.
+        IsSolved (B.value bound.now) k fingers.now budget found.row
+        (log_with (B.version_of bound.now) found.kept found.best))) }
     ensures nodes { IfOk result (λ found. found.nodes ≡ length found.kept + columns_of fingers.now + 1) }
-    ensures spent { IfOpen result (λ kept proved.
-        WithKinds fingers.now (λ k. IsSpent (B.value bound.now) k fingers.now budget (log_without kept) proved)) }
+    ensures spent { IfOpen result (λ kept proved. WithKinds fingers.now (λ k.
+        IsSpent (B.value bound.now) k fingers.now budget (log_without (B.version_of bound.now) kept) proved)) }
 {
     let kinds = kinds(alloc, fingers)?;
     let candidates = candidates(alloc, &kinds)?;

@@ -23,8 +23,9 @@ fn unpacked(alloc: Global, kept: &Kept) -> Result<LemmaList, NoMemory>
     Ok(lemmas)
 }
 
-/// The first least arrangement of the fingers, and a log that proves that none has fewer gaps; or what is proved when the
-/// budget of nodes is spent. A node is a visit of a state of which no kept lemma says that it fails.
+/// The first least arrangement of the fingers, and a log of the bound's version that proves that none has fewer gaps;
+/// or what is proved when the budget of nodes is spent. A node is a visit of a state of which no kept lemma says that
+/// it fails.
 pub fn search<B: RowBound>(
     alloc: Global,
     fingers: &Fingers,
@@ -35,16 +36,20 @@ pub fn search<B: RowBound>(
     ensures row { IfOk result (λ found. IsFirstLeast fingers.now found.row) }
     ensures solved { IfOk result (λ found.
         WithKinds fingers.now (λ k. IsSolved (B.value bound.now) k fingers.now budget found.row found.log)) }
+    ensures version { IfOk result (λ found. found.log.version ≡ B.version_of bound.now) }
     ensures nodes { IfOk result (λ found. found.nodes ≡ length found.log.lemmas + columns_of fingers.now + 1) }
     ensures spent { IfUnfinished result (λ log proved.
         WithKinds fingers.now (λ k. IsSpent (B.value bound.now) k fingers.now budget log proved)) }
+    ensures version_spent { IfUnfinished result (λ log proved. log.version ≡ B.version_of bound.now) }
 {
+    let version = bound.version();
     match search_kept(alloc, fingers, bound, budget) {
         Ok(found) => {
             let lemmas = unpacked(alloc, &found.kept)?;
             Ok(Found {
                 row: found.row,
                 log: Log {
+                    version,
                     lemmas,
                     best: Some(found.best),
                 },
@@ -54,7 +59,11 @@ pub fn search<B: RowBound>(
         Err(StopKept::Unfinished { kept, proved }) => {
             let lemmas = unpacked(alloc, &kept)?;
             Err(Stop::Unfinished {
-                log: Log { lemmas, best: None },
+                log: Log {
+                    version,
+                    lemmas,
+                    best: None,
+                },
                 proved,
             })
         }

@@ -6,17 +6,15 @@ use Rattle.cell_num.specs.declared.finger.Fingers.{Fingers}
 use Rattle.cell_num.specs.declared.finger.Row.{Row}
 use Rattle.row_state.specs.declared.kind.Kinds.{Kinds}
 use Rattle.row_state.specs.declared.state.State.{State}
-use Rattle.row_state.specs.Law.{parity_holds}
-use Rattle.row_state.specs.Parity.{parity_value}
 use Rattle.row_state.specs.Start.{AreKinds, AreSomeKinds, IsState}
 use Rattle.bound_log.specs.declared.log.Lemma.{Lemma}
 use Rattle.bound_log.specs.declared.log.Log.{Log}
 use Rattle.log_check.specs.Accepted.{IsTrueOf}
-use Rattle.log_check.proofs.Sound.{Holds, sound}
+use Rattle.log_check.proofs.Sound.{sound}
 use Rattle.row_search.specs.Ended.{AreDistinct, IsSpent}
 use Rattle.row_search.proofs.Few.{few_numbers}
 use Rattle.row_search.proofs.Least.{states_of}
-use Rattle.search_laws.specs.Paired.{ArePaired, nodes_enough}
+use Rattle.search_laws.specs.Paired.{ArePaired, IsBound, nodes_enough}
 use Rattle.search_laws.proofs.Coded.{code_of}
 use Rattle.search_laws.proofs.Codes.{IsCode, code_below, same_code}
 use Rattle.search_laws.proofs.Pairs.{HasPairs, has_pairs}
@@ -66,7 +64,7 @@ few_lemmas k lemmas pairs distinct h = omega (arith, coded_length k lemmas h, fe
     below : All (λ (c : Coded k). c.code < 184330) (coded k lemmas h)
     below i d within = let c = get_or (coded k lemmas h) i d in code_below k c.lemma c.code pairs c.valid c.is
 
-pub never_spent : (value : Row → State → Kinds → ℕ) (f : Fingers) (k : Kinds) (budget proved : ℕ) (log : Log) → Holds value k → ArePaired f → AreKinds f k → AreSomeKinds k → nodes_enough ≤ budget → IsSpent value k f budget log proved → ⊥
+pub never_spent : (value : Row → State → Kinds → ℕ) (f : Fingers) (k : Kinds) (budget proved : ℕ) (log : Log) → IsBound value k → ArePaired f → AreKinds f k → AreSomeKinds k → nodes_enough ≤ budget → IsSpent value k f budget log proved → ⊥
 never_spent value f k budget proved log law paired kinds some enough spent =
     let pairs : HasPairs k = has_pairs f k paired kinds some in
     let searched = spent.searched in
@@ -78,6 +76,3 @@ never_spent value f k budget proved log law paired kinds some enough spent =
     let code = code_of k lemma reached.prefix reached.rest pairs some (valid i d within) (true_of i d within) (searched.range i d within).0 reached.completes reached.state in
     (code.0, valid i d within, code.1) in
     absurd (omega (arith, spent.many, few_lemmas k log.lemmas pairs searched.distinct codes, paired.few, enough))
-
-pub parity_suffices : (f : Fingers) (k : Kinds) (budget proved : ℕ) (log : Log) → ArePaired f → AreKinds f k → AreSomeKinds k → nodes_enough ≤ budget → IsSpent parity_value k f budget log proved → ⊥
-parity_suffices f k budget proved log paired kinds some enough spent = never_spent parity_value f k budget proved log (λ row s valid. parity_holds k s row some) paired kinds some enough spent

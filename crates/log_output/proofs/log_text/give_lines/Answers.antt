@@ -14,14 +14,15 @@ returns-in_err-add-clause-some g c =
     let place : Place = option_map (λ name. name.now) c.args.file in
     let before : View = g.D.Desk.view c.args.desk.now in
     let after : View = g.D.Desk.view c.add.new.desk in
-    let head : List ℕ = head_lines c.args.name.now in
-    let lemmas : List ℕ = flat_map lemma_line c.args.log.now.lemmas in
-    let best : List ℕ = best_text c.args.log.now.best in
+    let head : List ℕ = head_lines c.log.inside.version c.args.name.now in
+    let lemmas : List ℕ = flat_map lemma_line c.log.inside.kept in
+    let best : List ℕ = best_text c.log.inside.best in
     on_err c.from_residual.result (GivesSome place (c.args.block.now ++ log_text c.args.name.now c.args.log.now) before after)
+    (subst (λ (log : Log). GivesSome place (c.args.block.now ++ log_text c.args.name.now log) before after) c.log.view_is
     (text_wider place c.args.block.now ((head ++ lemmas) ++ best) last_line before after
     (text_wider place c.args.block.now (head ++ lemmas) best before after
     (text_wider place c.args.block.now head lemmas before after
-    (subst (λ (line : List ℕ). GivesSome place (c.args.block.now ++ line) before after) c.head.ensures c.in_err-add.ensures.some))))
+    (subst (λ (line : List ℕ). GivesSome place (c.args.block.now ++ line) before after) c.head.ensures c.in_err-add.ensures.some)))))
 
 pub give_lemmas-requires-clause-place : goal.give_lemmas-requires-clause-place
 give_lemmas-requires-clause-place g c =
@@ -33,7 +34,7 @@ returns-in_err-give_lemmas-clause-some g c =
     let before : View = g.D.Desk.view c.args.desk.now in
     let mid : View = g.D.Desk.view c.add.new.desk in
     let after : View = g.D.Desk.view c.give_lemmas.new.desk in
-    let head : List ℕ = head_lines c.args.name.now in
+    let head : List ℕ = head_lines c.log.inside.version c.args.name.now in
     let lemmas : List ℕ = flat_map lemma_line c.log.inside.kept in
     let best : List ℕ = best_text c.log.inside.best in
     let first : Gives place (c.args.block.now ++ head) c.add.new.self before mid = subst (λ (line : List ℕ). Gives place (c.args.block.now ++ line) c.add.new.self before mid) c.head.ensures c.in_ok-add.ensures.all in
@@ -59,7 +60,7 @@ returns-in_err-give_best-clause-some g c =
     let one : View = g.D.Desk.view c.add.new.desk in
     let two : View = g.D.Desk.view c.give_lemmas.new.desk in
     let after : View = g.D.Desk.view c.give_best.new.desk in
-    let head : List ℕ = head_lines c.args.name.now in
+    let head : List ℕ = head_lines c.log.inside.version c.args.name.now in
     let lemmas : List ℕ = flat_map lemma_line c.log.inside.kept in
     let best : List ℕ = best_text c.log.inside.best in
     let first : Gives place (c.args.block.now ++ head) c.add.new.self before one = subst (λ (line : List ℕ). Gives place (c.args.block.now ++ line) c.add.new.self before one) c.head.ensures c.in_ok-add.ensures.all in
@@ -88,7 +89,7 @@ returns-clause-all g c =
     let two : View = g.D.Desk.view c.give_lemmas.new.desk in
     let three : View = g.D.Desk.view c.give_best.new.desk in
     let after : View = g.D.Desk.view c.add-2.new.desk in
-    let head : List ℕ = head_lines c.args.name.now in
+    let head : List ℕ = head_lines c.log.inside.version c.args.name.now in
     let lemmas : List ℕ = flat_map lemma_line c.log.inside.kept in
     let best : List ℕ = best_text c.log.inside.best in
     let first : Gives place (c.args.block.now ++ head) c.add.new.self before one = subst (λ (line : List ℕ). Gives place (c.args.block.now ++ line) c.add.new.self before one) c.head.ensures c.in_ok-add.ensures.all in
@@ -107,7 +108,7 @@ returns-clause-some g c =
     let two : View = g.D.Desk.view c.give_lemmas.new.desk in
     let three : View = g.D.Desk.view c.give_best.new.desk in
     let after : View = g.D.Desk.view c.add-2.new.desk in
-    let head : List ℕ = head_lines c.args.name.now in
+    let head : List ℕ = head_lines c.log.inside.version c.args.name.now in
     let lemmas : List ℕ = flat_map lemma_line c.log.inside.kept in
     let best : List ℕ = best_text c.log.inside.best in
     let first : Gives place (c.args.block.now ++ head) c.add.new.self before one = subst (λ (line : List ℕ). Gives place (c.args.block.now ++ line) c.add.new.self before one) c.head.ensures c.in_ok-add.ensures.all in

@@ -1,4 +1,4 @@
-use Rattle.std.proofs.Common.{◌≡◌, All, ap, refl, subst, sym, ◌∙◌}
+use Rattle.std.proofs.Common.{All, ap, refl, subst, sym, ◌∙◌}
 use Rattle.row_state.specs.Code.{IsCode}
 use Rattle.row_search.specs.declared.kept.Packed.{Packed}
 use Rattle.row_search.specs.SoFar.{SoFar}
