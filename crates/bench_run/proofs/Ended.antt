@@ -1,8 +1,10 @@
 -- Each generated cell is made or has a cycle.
 use Rattle.std.proofs.Common.{ℕ, ◌≤◌, List, refl, ap, subst, arith}
 use Rattle.tech_file.specs.Technology.{Technology}
+use Rattle.row_state.specs.Component.{component_value}
+use Rattle.row_state.specs.ComponentLaw.{component_holds}
 use Rattle.search_laws.specs.Paired.{ArePaired}
-use Rattle.search_laws.proofs.Whole.{parity_suffices}
+use Rattle.search_laws.proofs.Whole.{never_spent}
 use Rattle.cell_make.specs.Inputs.{Inputs}
 use Rattle.cell_make.specs.Making.{MakeAnswer, Made, Cyclic, Tall, Unfinished, Makes}
 use Rattle.bench_run.specs.Bench.{AreInputsOf, HoldsCell, counted_as}
@@ -19,6 +21,6 @@ pub cell_ends : (text : List ℕ) (cell : ℕ) (inputs : Inputs) (answer : MakeA
 cell_ends text cell inputs (Made row log routing xs) held are makes = record { none_unfinished = refl; sum = refl }
 cell_ends text cell inputs (Cyclic row log cycle) held are makes = record { none_unfinished = refl; sum = refl }
 cell_ends text cell inputs (Tall row log routing) held are makes = absurd (makes.2.0 (ap (λ (t : Technology). t.height) are.tech))
-cell_ends text cell inputs (Unfinished proved log) held are (k, kinds, some, spent) =
+cell_ends text cell inputs (Unfinished proved log) held are (version, (k, kinds, some, spent)) =
     let budget : 184341 ≤ inputs.tech.budget = omega (arith, ap (λ (t : Technology). t.budget) are.tech) in
-    absurd (parity_suffices inputs.fingers k inputs.tech.budget proved log (paired_cell text cell inputs held are) kinds some budget spent)
+    absurd (never_spent component_value inputs.fingers k inputs.tech.budget proved log (λ row s valid. component_holds k s row some) (paired_cell text cell inputs held are) kinds some budget spent)

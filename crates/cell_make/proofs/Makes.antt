@@ -10,10 +10,7 @@ use Rattle.box_geom.specs.declared.shape.Shapes.{Shapes}
 use Rattle.box_geom.specs.Layers.{AreWithinLimits}
 use Rattle.row_model.specs.declared.column.Column.{Column}
 use Rattle.row_model.specs.Arrangement.{IsArrangement}
-use Rattle.row_state.specs.Parity.{parity_value}
 use Rattle.bound_log.specs.declared.log.Log.{Log}
-use Rattle.log_check.specs.Accepted.{WithKinds}
-use Rattle.row_search.specs.Ended.{IsSpent}
 use Rattle.row_place.specs.declared.placement.Placement.{Placement}
 use Rattle.row_place.specs.Places.{IsPlacement, placement_of}
 use Rattle.row_place.specs.Trunks.{HasPins}
@@ -45,6 +42,7 @@ use Rattle.cell_make.specs.declared.drawn.Drawn.{Drawn}
 use Rattle.cell_make.specs.declared.outcome.Outcome.TheVariants as outcome
 use Rattle.cell_make.specs.Inputs.{Inputs, AreInputs, unit_nm}
 use Rattle.cell_make.specs.Making.{AreLeastLines, ComesTo, IsFound, IsMade, IsRouted, drawing_in, library_of, ports_in}
+use Rattle.cell_make.specs.Searched.{IsUnfinished}
 use Rattle.cell_make.proofs.Alone.{written_alone}
 use Rattle.cell_make.proofs.ReadBack.{readable}
 
@@ -199,5 +197,5 @@ tall_so inputs row log placement routing height needed given is high found route
 pub cyclic_so : (inputs inside : Inputs) (row : List Column) (log : Log) (placement : Placement) (cycle : List Above) → inside ≡ inputs → placement ≡ placement_of row → IsFound inputs row log → IsTold placement inside.cell.pins cycle → ComesTo inputs (outcome.Cyclic row log cycle)
 cyclic_so inputs inside row log placement cycle same is found told = ((found, told_so inputs inside row placement cycle same is told), tt)
 
-pub spent_so : (inputs : Inputs) (proved : ℕ) (log : Log) → WithKinds inputs.fingers (λ k. IsSpent parity_value k inputs.fingers inputs.tech.budget log proved) → ComesTo inputs (outcome.Unfinished log proved)
+pub spent_so : (inputs : Inputs) (proved : ℕ) (log : Log) → IsUnfinished inputs proved log → ComesTo inputs (outcome.Unfinished log proved)
 spent_so inputs proved log spent = (spent, tt)

@@ -1,3 +1,4 @@
 pub mod Inputs
 pub mod Making
+pub mod Searched
 pub mod Structures

@@ -3,10 +3,7 @@
 use Rattle.std.specs.Prelude.{ℕ, ◌≡◌, ◌<◌, ◌≤◌, ◌*◌, List, length}
 use Rattle.cell_num.specs.declared.net.Pins.{Pins}
 use Rattle.row_model.specs.declared.column.Column.{Column}
-use Rattle.row_state.specs.Parity.{parity_value}
 use Rattle.bound_log.specs.declared.log.Log.{Log}
-use Rattle.log_check.specs.Accepted.{WithKinds}
-use Rattle.row_search.specs.Ended.{IsSolved, IsSpent}
 use Rattle.row_search.specs.First.{IsFirstLeast}
 use Rattle.row_place.specs.declared.placement.Placement.{Placement}
 use Rattle.row_place.specs.Places.{placement_of}
@@ -34,6 +31,7 @@ use Rattle.lef_write.specs.Ports.{ports_of}
 use Rattle.cell_make.specs.declared.outcome.Outcome.{Outcome}
 use Rattle.cell_make.specs.declared.outcome.Outcome.TheVariants as outcome
 use Rattle.cell_make.specs.Inputs.{Inputs, unit_nm}
+use Rattle.cell_make.specs.Searched.{IsCertified, IsUnfinished}
 use Rattle.cell_make.specs.Structures.{HasOneStructure}
 
 -- ---- the parts
@@ -46,7 +44,7 @@ pub record AreLeastLines (placement : Placement) (pins : Pins) (routing : Routin
 -- the first least row, with an accepted log that lists it and was found within the budget
 pub record IsFound (inputs : Inputs) (row : List Column) (log : Log) : Type 0 where
   pub first : IsFirstLeast inputs.fingers row
-  pub solved : WithKinds inputs.fingers (λ k. IsSolved parity_value k inputs.fingers inputs.tech.budget row log)
+  pub certified : IsCertified inputs row log
 
 -- its channel, routed; no nets stand above each other in a ring
 pub record IsRouted (inputs : Inputs) (row : List Column) (routing : Routing) : Type 0 where
@@ -101,7 +99,7 @@ abbrev pub Makes : Inputs → MakeAnswer → Type 0
 Makes inputs (Made row log routing xs) = IsMade inputs row log routing xs
 Makes inputs (Cyclic row log cycle) = IsFound inputs row log × IsTold (placement_of row) inputs.cell.pins cycle
 Makes inputs (Tall row log routing) = IsFound inputs row log × IsRouted inputs row routing × IsTooTall row routing.tracks inputs.tech.height
-Makes inputs (Unfinished proved log) = WithKinds inputs.fingers (λ k. IsSpent parity_value k inputs.fingers inputs.tech.budget log proved)
+Makes inputs (Unfinished proved log) = IsUnfinished inputs proved log
 
 -- ---- as the code answers it
 

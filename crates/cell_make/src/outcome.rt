@@ -11,7 +11,7 @@ use log_output::KeptLog;
 use row_model::Arrangement;
 use row_place::{Placement, place};
 use row_search::{StopKept, search_kept};
-use row_state::Parity;
+use row_state::{COMPONENT_LOG, Component};
 use std::alloc::Global;
 
 /// What making a cell comes to.
@@ -108,13 +108,13 @@ impl Outcome {
         ensures written { IfOk result (CanBeWritten inputs.now) }
     {
         inputs.show_limits();
-        match search_kept(alloc, &inputs.fingers, &Parity, inputs.budget()) {
+        match search_kept(alloc, &inputs.fingers, &Component, inputs.budget()) {
             Ok(found) => {
-                let log = KeptLog::with_row(found.kept, found.best);
+                let log = KeptLog::with_row(COMPONENT_LOG, found.kept, found.best);
                 of_row(alloc, inputs, found.row, log)
             }
             Err(StopKept::Unfinished { kept, proved }) => {
-                let log = KeptLog::without_row(kept);
+                let log = KeptLog::without_row(COMPONENT_LOG, kept);
                 Ok(Outcome::Unfinished { log, proved })
             }
             Err(StopKept::NoMemory) => Err(NoMemory),
