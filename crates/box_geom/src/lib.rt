@@ -14,8 +14,6 @@ pub mod slab;
 mod span;
 mod standing;
 mod sweep;
-#[cfg(test)]
-mod tests;
 pub mod touching;
 
 pub use block::Block;

@@ -5,8 +5,6 @@ mod draws;
 mod net;
 mod pins;
 mod stage;
-#[cfg(test)]
-mod tests;
 mod text;
 mod transistor;
 

@@ -2,8 +2,6 @@
 #![tactic(auto)]
 
 pub mod area;
-#[cfg(test)]
-mod drawn_tests;
 pub mod element;
 pub mod even_odd;
 pub mod fault;
@@ -18,8 +16,6 @@ pub mod read;
 pub mod real;
 pub mod round_trip;
 pub mod structure;
-#[cfg(test)]
-mod tests;
 pub mod units;
 
 pub use fault::GdsFault;

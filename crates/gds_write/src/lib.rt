@@ -4,8 +4,6 @@
 mod element;
 pub mod laws;
 mod put;
-#[cfg(test)]
-mod tests;
 mod write;
 
 pub use laws::written_records;

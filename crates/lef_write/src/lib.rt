@@ -8,8 +8,6 @@ mod pins;
 pub mod port;
 mod ports;
 mod shapes;
-#[cfg(test)]
-mod tests;
 mod write;
 
 pub use laws::drawn_ports;

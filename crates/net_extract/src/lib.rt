@@ -8,8 +8,6 @@ mod conductor;
 mod cut;
 mod device;
 mod drawing;
-#[cfg(test)]
-mod drawing_tests;
 pub mod fault;
 mod gate;
 pub mod label;
@@ -22,8 +20,6 @@ mod netmap;
 mod piece;
 mod shared;
 mod side;
-#[cfg(test)]
-mod tests;
 
 pub use drawing::extract;
 pub use fault::ExtractFault;

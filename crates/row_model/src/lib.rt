@@ -8,6 +8,3 @@ pub mod gap;
 pub use arrange::is_arrangement;
 pub use column::{Arrangement, Column, Placed};
 pub use gap::{gaps, has_gap};
-
-#[cfg(test)]
-mod tests;

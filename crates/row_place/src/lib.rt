@@ -12,6 +12,3 @@ pub use placement::{
     UnitList,
 };
 pub use places::{place, seats};
-
-#[cfg(test)]
-mod tests;

@@ -14,8 +14,6 @@ mod parts;
 pub mod rules;
 mod runs;
 mod sets;
-#[cfg(test)]
-mod tests;
 pub mod violation;
 
 pub use checking::violations;

@@ -1,61 +1,12 @@
-ghost use Rattle.std.specs.Prelude.{◌≡◌, ◌≤◌, All, length};
-ghost use Rattle.row_model.specs.Arrangement.{IsPlaced, IsColumn};
+ghost use Rattle.std.specs.Prelude.{◌≤◌, All, length};
+ghost use Rattle.row_model.specs.Arrangement.{IsColumn};
 
-use crate::{Placement, UnitKind, place};
-use cell_num::{Finger, MOST_COLUMNS, NetNo, NoMemory, Row};
-use row_model::{Arrangement, Column, Placed};
+use crate::columns::{both, n_alone, p_alone};
+use cell_num::{MOST_COLUMNS, NetNo, NoMemory, Row};
+use row_model::{Arrangement, Column};
+use row_place::{Placement, UnitKind, place};
 use std::alloc::Global;
 use std::test::Fail;
-
-// A finger with the nets at its ends from left to right; it is flipped where they fall.
-fn standing(row: Row, gate: u32, left: u32, right: u32) -> Placed
-    ensures gate { result.finger.gate.0 ≡ gate }
-    ensures placed { IsPlaced result }
-{
-    let flipped = right < left;
-    let (lo, hi) = if flipped {
-        (right, left)
-    } else {
-        (left, right)
-    };
-    Placed {
-        finger: Finger {
-            row,
-            gate: NetNo(gate),
-            lo: NetNo(lo),
-            hi: NetNo(hi),
-            width: 20,
-        },
-        flipped,
-    }
-}
-
-fn both(gate: u32, p: (u32, u32), n: (u32, u32)) -> Column
-    ensures { IsColumn result }
-{
-    Column {
-        p: Some(standing(Row::P, gate, p.0, p.1)),
-        n: Some(standing(Row::N, gate, n.0, n.1)),
-    }
-}
-
-fn p_alone(gate: u32, p: (u32, u32)) -> Column
-    ensures { IsColumn result }
-{
-    Column {
-        p: Some(standing(Row::P, gate, p.0, p.1)),
-        n: None,
-    }
-}
-
-fn n_alone(gate: u32, n: (u32, u32)) -> Column
-    ensures { IsColumn result }
-{
-    Column {
-        p: None,
-        n: Some(standing(Row::N, gate, n.0, n.1)),
-    }
-}
 
 fn placed(alloc: Global, columns: &[Column]) -> Result<Placement, NoMemory>
     requires columns { All IsColumn columns.now }

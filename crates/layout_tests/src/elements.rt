@@ -1,10 +1,10 @@
 // Boundaries and paths with any points, and what they draw.
-ghost use Rattle.std.specs.Prelude.{◌≡◌, ◌≤◌, []};
+ghost use Rattle.std.specs.Prelude.{◌≤◌};
 
-use crate::{GdsFault, read_cell};
-use box_geom::{LabelList, Layer, Rect, Shape, ShapeList, Shapes};
-use cell_num::Name;
-use gds_write::write_cell;
+use crate::drawings::{Sides, shapes_of};
+use crate::libraries::{library, read};
+use box_geom::Layer;
+use gds_read::GdsFault;
 use std::alloc::Global;
 use std::test::Fail;
 
@@ -57,77 +57,22 @@ fn element(
     Ok(out)
 }
 
-fn empty(alloc: Global) -> Shapes
-    ensures rects { result.rects ≡ [] }
-    ensures labels { result.labels ≡ [] }
-{
-    Shapes {
-        rects: ShapeList::new(alloc),
-        labels: LabelList::new(alloc),
-    }
-}
-
-// The bytes of a written library up to its first element.
-fn head(bytes: &[u8]) -> &[u8] {
-    if bytes.len() < 102 {
-        return bytes;
-    }
-    &bytes[..102]
-}
-
-// Those behind its elements, where it has none.
-fn tail(bytes: &[u8]) -> &[u8] {
-    if bytes.len() < 102 {
-        return &[];
-    }
-    &bytes[102..]
-}
-
-// What is read of a library whose structure has this element alone, in grid units of half a lambda.
-fn drawn(alloc: Global, element: &[u8], lambda_nm: u32) -> Result<Result<Shapes, GdsFault>, Fail>
+// Whether an element draws these rectangles, in grid units of half a lambda.
+fn draws(
+    alloc: Global,
+    element: &[u8],
+    lambda_nm: u32,
+    rects: &[(Layer, Sides)],
+) -> Result<bool, Fail>
     requires { 1 ≤ lambda_nm }
 {
-    let mut name = Name::new(alloc);
-    name.extend(b"inv")?;
-    let frame = write_cell(alloc, &name, &empty(alloc), 1)?;
-    let mut bytes = Vec::new(alloc);
-    bytes.extend_from_slice(head(&frame))?;
-    bytes.extend_from_slice(element)?;
-    bytes.extend_from_slice(tail(&frame))?;
-    if bytes.len() > 200_000 {
-        return Err(Fail::from("a long file"));
-    }
-    Ok(read_cell(alloc, &bytes, &name, lambda_nm))
-}
-
-fn metal(alloc: Global, table: &[[i32; 4]]) -> Result<Result<Shapes, GdsFault>, Fail> {
-    let mut shapes = empty(alloc);
-    for sides in table {
-        let [x1, y1, x2, y2] = *sides;
-        if x1 < x2 && y1 < y2 && -1000 < x1 && x2 < 1000 && -1000 < y1 && y2 < 1000 {
-            shapes.rects.push(Shape {
-                layer: Layer::Metal1,
-                rect: Rect { x1, y1, x2, y2 },
-            })?;
-        } else {
-            return Err(Fail::from("no small rectangle"));
-        }
-    }
-    Ok(Ok(shapes))
-}
-
-// Whether an element draws these rectangles.
-fn draws(alloc: Global, element: &[u8], lambda_nm: u32, sides: &[[i32; 4]]) -> Result<bool, Fail>
-    requires { 1 ≤ lambda_nm }
-{
-    let read = drawn(alloc, element, lambda_nm)?;
-    let told = metal(alloc, sides)?;
-    Ok(read == told)
+    let read = read(alloc, &library(alloc, element)?, b"inv", lambda_nm)?;
+    Ok(read == Ok(shapes_of(alloc, rects)?))
 }
 
 // Whether an element has this fault, with two nanometres to a lambda.
 fn refuses(alloc: Global, element: &[u8], fault: GdsFault) -> Result<bool, Fail> {
-    let read = drawn(alloc, element, 2)?;
+    let read = read(alloc, &library(alloc, element)?, b"inv", 2)?;
     Ok(read == Err(fault))
 }
 
@@ -145,25 +90,36 @@ const RING: [[i32; 2]; 10] = [
     [6, 0],
 ];
 
+const RING_RECTS: [(Layer, Sides); 4] = [
+    (Layer::Metal1, [0, 0, 6, 2]),
+    (Layer::Metal1, [0, 2, 2, 4]),
+    (Layer::Metal1, [4, 2, 6, 4]),
+    (Layer::Metal1, [0, 4, 6, 6]),
+];
+
 #[test]
 fn boundaries(rt: HostRuntime) -> Result<(), Fail> {
     let alloc = rt.alloc();
     let ring = element(alloc, BOUNDARY, &RING, None, None)?;
-    let sides = [[0, 0, 6, 2], [0, 2, 2, 4], [4, 2, 6, 4], [0, 4, 6, 6]];
-    assert!(rt; draws(alloc, &ring, 2, &sides)?);
+    assert!(rt; draws(alloc, &ring, 2, &RING_RECTS)?);
     let slant = element(alloc, BOUNDARY, &[[0, 0], [0, 4], [2, 4]], None, None)?;
     assert!(rt; refuses(alloc, &slant, GdsFault::Slant { at: 118 })?);
     Ok(())
 }
+
+const BEND_RECTS: [(Layer, Sides); 2] = [
+    (Layer::Metal1, [-2, -2, 12, 2]),
+    (Layer::Metal1, [8, -2, 12, 12]),
+];
 
 #[test]
 fn paths(rt: HostRuntime) -> Result<(), Fail> {
     let alloc = rt.alloc();
     let bend = [[0, 0], [10, 0], [10, 10]];
     let square = element(alloc, PATH, &bend, Some(-4), Some(2))?;
-    assert!(rt; draws(alloc, &square, 2, &[[-2, -2, 12, 2], [8, -2, 12, 12]])?);
+    assert!(rt; draws(alloc, &square, 2, &BEND_RECTS)?);
     let odd = element(alloc, PATH, &[[0, 0], [10, 0]], Some(3), Some(0))?;
-    assert!(rt; draws(alloc, &odd, 1, &[[0, -3, 20, 3]])?);
+    assert!(rt; draws(alloc, &odd, 1, &[(Layer::Metal1, [0, -3, 20, 3])])?);
     Ok(())
 }
 
@@ -172,13 +128,8 @@ fn refused_paths(rt: HostRuntime) -> Result<(), Fail> {
     let alloc = rt.alloc();
     let round = element(alloc, PATH, &[[0, 0], [3, 4]], Some(2), Some(1))?;
     assert!(rt; refuses(alloc, &round, GdsFault::Kind { at: 118, code: 33 })?);
-    let wide = element(
-        alloc,
-        PATH,
-        &[[0, 0], [i32::MAX, 0]],
-        Some(i32::MIN),
-        Some(2),
-    )?;
+    let ends = [[0, 0], [i32::MAX, 0]];
+    let wide = element(alloc, PATH, &ends, Some(i32::MIN), Some(2))?;
     assert!(rt; refuses(alloc, &wide, GdsFault::Grid { at: 132 })?);
     Ok(())
 }

@@ -1,0 +1,182 @@
+use crate::drawings::{Sides, shapes_of};
+use box_geom::Layer;
+use cell_draw::{Drawing, MOST_SHAPES};
+use cell_num::{Names, NetNo, NoMemory, Pins, copy};
+use channel_route::{Routing, Trunk, TrunkList};
+use lef_write::lef_text;
+use spice_net::{DeviceList, Direction, DirectionList, Subckt};
+use std::alloc::Global;
+use std::test::Fail;
+
+// An inverter on its least lines, but for its metal2.
+const INVERTER: [(Layer, Sides); 27] = [
+    (Layer::Well, [-10, 62, 51, 118]),
+    (Layer::PSelect, [-2, 70, 43, 98]),
+    (Layer::NSelect, [-2, 20, 43, 38]),
+    (Layer::Metal1, [0, 0, 41, 16]),
+    (Layer::Metal1, [0, 102, 41, 118]),
+    (Layer::Active, [8, 24, 33, 34]),
+    (Layer::Active, [8, 74, 33, 94]),
+    (Layer::Active, [3, 24, 13, 34]),
+    (Layer::Contact, [6, 27, 10, 31]),
+    (Layer::Metal1, [4, 25, 12, 44]),
+    (Layer::Via, [6, 38, 10, 42]),
+    (Layer::Active, [3, 74, 13, 84]),
+    (Layer::Contact, [6, 77, 10, 81]),
+    (Layer::Metal1, [4, 64, 12, 83]),
+    (Layer::Via, [6, 66, 10, 70]),
+    (Layer::Active, [28, 24, 38, 34]),
+    (Layer::Contact, [31, 27, 35, 31]),
+    (Layer::Metal1, [29, 16, 37, 33]),
+    (Layer::Active, [28, 74, 38, 84]),
+    (Layer::Contact, [31, 77, 35, 81]),
+    (Layer::Metal1, [29, 75, 37, 102]),
+    (Layer::Poly, [20, 20, 24, 98]),
+    (Layer::Poly, [17, 49, 27, 59]),
+    (Layer::Contact, [20, 52, 24, 56]),
+    (Layer::Metal1, [18, 50, 26, 58]),
+    (Layer::Metal1, [4, 50, 12, 58]),
+    (Layer::Via, [6, 52, 10, 56]),
+];
+
+const METAL2: [(Layer, Sides); 2] = [
+    (Layer::Metal2, [4, 36, 12, 58]),
+    (Layer::Metal2, [4, 50, 12, 72]),
+];
+
+const TEXT: &[u8] = b"VERSION 5.8 ;
+BUSBITCHARS \"[]\" ;
+DIVIDERCHAR \"/\" ;
+UNITS
+  DATABASE MICRONS 1000 ;
+END UNITS
+MACRO inv
+  CLASS CORE ;
+  ORIGIN 0.000 0.000 ;
+  SIZE 6.150 BY 17.700 ;
+  SYMMETRY X Y ;
+  PIN a
+    DIRECTION INPUT ;
+    USE SIGNAL ;
+    PORT
+      LAYER metal1 ;
+      RECT 2.700 7.500 3.900 8.700 ;
+    END
+  END a
+  PIN y
+    DIRECTION OUTPUT ;
+    USE SIGNAL ;
+    PORT
+      LAYER metal1 ;
+      RECT 0.600 7.500 1.800 8.700 ;
+    END
+  END y
+  PIN vdd
+    DIRECTION INOUT ;
+    USE POWER ;
+    PORT
+      LAYER metal1 ;
+      RECT 0.000 15.300 6.150 17.700 ;
+    END
+  END vdd
+  PIN gnd
+    DIRECTION INOUT ;
+    USE GROUND ;
+    PORT
+      LAYER metal1 ;
+      RECT 0.000 0.000 6.150 2.400 ;
+    END
+  END gnd
+  OBS
+    LAYER metal1 ;
+    RECT 0.600 3.750 1.800 6.600 ;
+    RECT 0.600 9.600 1.800 12.450 ;
+    RECT 4.350 2.400 5.550 4.950 ;
+    RECT 4.350 11.250 5.550 15.300 ;
+";
+
+const METAL2_TEXT: &[u8] = b"    LAYER metal2 ;
+    RECT 0.600 5.400 1.800 8.700 ;
+    RECT 0.600 7.500 1.800 10.800 ;
+";
+
+const END_TEXT: &[u8] = b"  END
+END inv
+END LIBRARY
+";
+
+fn cell(alloc: Global) -> Result<Subckt, NoMemory> {
+    let mut nets = Names::new(alloc);
+    for word in [b"a".as_slice(), b"y", b"vdd", b"gnd"] {
+        nets.push(copy(alloc, word)?)?;
+    }
+    let mut directions = DirectionList::new(alloc);
+    directions.extend(&[
+        Direction::Input,
+        Direction::Output,
+        Direction::Inout,
+        Direction::Inout,
+    ])?;
+    Ok(Subckt {
+        name: copy(alloc, b"inv")?,
+        pins: Pins {
+            pins: 4,
+            vdd: NetNo(2),
+            gnd: NetNo(3),
+        },
+        nets,
+        devices: DeviceList::new(alloc),
+        directions,
+    })
+}
+
+fn trunk(net: u32, line: u32) -> Trunk {
+    Trunk {
+        net: NetNo(net),
+        left: line,
+        right: line,
+        track: 0,
+    }
+}
+
+fn routing(alloc: Global) -> Result<Routing, NoMemory> {
+    let mut trunks = TrunkList::new(alloc);
+    trunks.extend(&[trunk(0, 1), trunk(1, 0)])?;
+    Ok(Routing { tracks: 1, trunks })
+}
+
+fn drawing(alloc: Global, metal2: &[(Layer, Sides)]) -> Result<Drawing, Fail> {
+    let mut shapes = shapes_of(alloc, &INVERTER)?;
+    let upper = shapes_of(alloc, metal2)?;
+    shapes.rects.extend(upper.rects.as_slice())?;
+    Ok(Drawing {
+        shapes,
+        width: 41,
+        height: 118,
+    })
+}
+
+// Whether the inverter with this metal2 is written with these lines before the last ones.
+fn is_written(alloc: Global, metal2: &[(Layer, Sides)], lines: &[u8]) -> Result<bool, Fail> {
+    let mut want = Vec::new(alloc);
+    want.extend_from_slice(TEXT)?;
+    want.extend_from_slice(lines)?;
+    want.extend_from_slice(END_TEXT)?;
+    let cell = cell(alloc)?;
+    let drawing = drawing(alloc, metal2)?;
+    if cell.pins.pins as usize > cell.nets.len()
+        || cell.directions.len() != cell.pins.pins as usize
+        || drawing.shapes.rects.len() >= MOST_SHAPES
+    {
+        return Ok(false);
+    }
+    let text = lef_text(alloc, &cell, &routing(alloc)?, &drawing, 150)?;
+    Ok(text == want)
+}
+
+#[test]
+fn writes_an_inverter(rt: HostRuntime) -> Result<(), Fail> {
+    assert!(rt; is_written(rt.alloc(), &METAL2, METAL2_TEXT)?);
+    assert!(rt; is_written(rt.alloc(), &[], b"")?);
+    Ok(())
+}

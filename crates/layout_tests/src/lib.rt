@@ -1,0 +1,21 @@
+// Worked examples of layouts and their files. They stand here, since a crate with tests is proved twice.
+#![tactic(auto)]
+
+#[cfg(test)]
+mod abstracts;
+#[cfg(test)]
+mod benchmarks;
+#[cfg(test)]
+mod drawings;
+#[cfg(test)]
+mod elements;
+#[cfg(test)]
+mod geometry;
+#[cfg(test)]
+mod libraries;
+#[cfg(test)]
+mod nets;
+#[cfg(test)]
+mod records;
+#[cfg(test)]
+mod rules;

@@ -1,0 +1,127 @@
+use crate::drawings::{Sides, shapes_of};
+use box_geom::{Label, Layer, Shapes};
+use cell_num::{Name, Row, copy};
+use net_extract::{Drawn, ExtractFault, extract};
+use std::alloc::Global;
+use std::test::Fail;
+
+// Names are single letters.
+fn named(alloc: Global, letter: u8) -> Result<Name, Fail> {
+    Ok(copy(alloc, &[letter])?)
+}
+
+fn drawing(
+    alloc: Global,
+    table: &[(Layer, Sides)],
+    labels: &[(u8, Layer, i32, i32)],
+) -> Result<Shapes, Fail> {
+    let mut shapes = shapes_of(alloc, table)?;
+    for (letter, layer, x, y) in labels {
+        shapes.labels.push(Label {
+            layer: *layer,
+            x: *x,
+            y: *y,
+            name: named(alloc, *letter)?,
+        })?;
+    }
+    Ok(shapes)
+}
+
+// Two gates on one line of poly, their right sides joined over metal2.
+const INVERTER: [(Layer, Sides); 16] = [
+    (Layer::Well, [0, 20, 30, 44]),
+    (Layer::Active, [2, 2, 22, 12]),
+    (Layer::Active, [2, 24, 22, 38]),
+    (Layer::Poly, [10, 0, 14, 40]),
+    (Layer::Contact, [4, 4, 8, 8]),
+    (Layer::Contact, [16, 4, 20, 8]),
+    (Layer::Contact, [4, 26, 8, 30]),
+    (Layer::Contact, [16, 26, 20, 30]),
+    (Layer::Metal1, [3, 3, 9, 9]),
+    (Layer::Metal1, [15, 3, 21, 9]),
+    (Layer::Metal1, [3, 25, 9, 31]),
+    (Layer::Metal1, [15, 25, 21, 31]),
+    (Layer::Via, [16, 4, 20, 8]),
+    (Layer::Via, [16, 26, 20, 30]),
+    (Layer::Metal2, [15, 3, 21, 31]),
+    (Layer::PSelect, [0, 22, 24, 40]),
+];
+
+fn are_names(names: &[Name], want: &[&[u8]]) -> bool {
+    names.len() == want.len()
+        && names
+            .iter()
+            .zip(want.iter())
+            .all(|(name, want)| name.as_slice() == *want)
+}
+
+// The drawing of an inverter: its two devices between four nets, of which the gate has no label.
+#[test]
+fn an_inverter(rt: HostRuntime) -> Result<(), Fail> {
+    let alloc = rt.alloc();
+    let labels = [
+        (b'v', Layer::Metal1, 3, 25),
+        (b'y', Layer::Metal2, 15, 3),
+        (b'g', Layer::Metal1, 3, 3),
+    ];
+    let Ok(netlist) = extract(alloc, &drawing(alloc, &INVERTER, &labels)?) else {
+        return Err(Fail::from("refused"));
+    };
+    assert!(rt; are_names(netlist.names.as_slice(), &[b"_0", b"g", b"y", b"v"]));
+    let lower = Drawn {
+        row: Row::N,
+        gate: 0,
+        lo: 1,
+        hi: 2,
+        width: 10,
+        length: 4,
+    };
+    let upper = Drawn {
+        row: Row::P,
+        lo: 2,
+        hi: 3,
+        width: 14,
+        ..lower
+    };
+    assert!(rt; netlist.devices.as_slice() == [lower, upper].as_slice());
+    Ok(())
+}
+
+fn refuses(
+    alloc: Global,
+    table: &[(Layer, Sides)],
+    labels: &[(u8, Layer, i32, i32)],
+    fault: ExtractFault,
+) -> Result<bool, Fail> {
+    let shapes = drawing(alloc, table, labels)?;
+    Ok(extract(alloc, &shapes).err() == Some(fault))
+}
+
+// One label in two nets, two labels in one, a label off the conductor, and a gate with an end on diffusion.
+#[test]
+fn refused_drawings(rt: HostRuntime) -> Result<(), Fail> {
+    let alloc = rt.alloc();
+    let name = named(alloc, b'a')?;
+    let labels = [(b'a', Layer::Metal1, 15, 3), (b'a', Layer::Poly, 10, 0)];
+    assert!(rt; refuses(alloc, &INVERTER, &labels, ExtractFault::Split { name })?);
+    let one = named(alloc, b'y')?;
+    let other = named(alloc, b'q')?;
+    let labels = [(b'y', Layer::Metal1, 15, 3), (b'q', Layer::Metal1, 15, 25)];
+    assert!(rt;
+        refuses(
+            alloc,
+            &INVERTER,
+            &labels,
+            ExtractFault::Short { one, other }
+        )?
+    );
+    let name = named(alloc, b's')?;
+    let labels = [(b's', Layer::Metal1, 60, 54)];
+    assert!(rt; refuses(alloc, &INVERTER, &labels, ExtractFault::Stray { name })?);
+    let gate = [
+        (Layer::Active, [0, 0, 10, 10]),
+        (Layer::Poly, [4, 2, 8, 12]),
+    ];
+    assert!(rt; refuses(alloc, &gate, &[], ExtractFault::OddDevice { x: 4, y: 2 })?);
+    Ok(())
+}

@@ -1,0 +1,17 @@
+// Worked examples of rows, their logs and their search. They stand here, since a crate with tests is proved twice.
+#![tactic(auto)]
+
+#[cfg(test)]
+mod checks;
+#[cfg(test)]
+mod columns;
+#[cfg(test)]
+mod gaps;
+#[cfg(test)]
+mod logs;
+#[cfg(test)]
+mod places;
+#[cfg(test)]
+mod rows;
+#[cfg(test)]
+mod searches;

@@ -1,0 +1,102 @@
+use crate::rows::{INVERTER, INVERTERS, Pair, fingers};
+use bound_log::{Log, write_log};
+use cell_num::copy;
+use row_search::{Stop, search};
+use row_state::Parity;
+use std::alloc::Global;
+use std::test::Fail;
+
+// The log of a search, and the bound that is proved where its budget is spent.
+fn ended(
+    alloc: Global,
+    nets: u32,
+    pairs: &[Pair],
+    budget: u64,
+) -> Result<(Log, Option<u32>), Fail> {
+    let rows = fingers(alloc, nets, pairs)?;
+    match search(alloc, &rows, &Parity, budget) {
+        Ok(found) => Ok((found.log, None)),
+        Err(Stop::Unfinished { log, proved }) => Ok((log, Some(proved))),
+        Err(Stop::NoMemory) => Err(Fail::from("no memory")),
+    }
+}
+
+// Whether a search within that budget ends so, with these lines behind the first two.
+fn ends(
+    alloc: Global,
+    nets: u32,
+    pairs: &[Pair],
+    budget: u64,
+    proved: Option<u32>,
+    lines: &[u8],
+) -> Result<bool, Fail> {
+    let (log, told) = ended(alloc, nets, pairs, budget)?;
+    if log.lemmas.len() > 1000 {
+        return Err(Fail::from("a long log"));
+    }
+    let text = write_log(alloc, &copy(alloc, b"c")?, &log)?;
+    let mut want = Vec::new(alloc);
+    want.extend_from_slice(b"cellgen-log 1\ncell c\n")?;
+    want.extend_from_slice(lines)?;
+    Ok(told == proved && text == want)
+}
+
+// Fingers of the P row begin and end on one net.
+const RINGS: [Pair; 3] = [(0, 4, 4, 5), (1, 3, 3, 5), (2, 4, 4, 5)];
+
+#[test]
+fn finds_rows(rt: HostRuntime) -> Result<(), Fail> {
+    let alloc = rt.alloc();
+    assert!(rt; ends(alloc, 4, &INVERTER, 1, Some(0), b"open\nend\n")?);
+    assert!(rt;
+        ends(
+            alloc,
+            4,
+            &INVERTER,
+            2,
+            None,
+            b"gaps 0\ncolumn 0 0 0 0 0\nend\n"
+        )?
+    );
+    let two = [(0, 2, 4, 5), (1, 3, 4, 5)];
+    let row = b"gaps 0\ncolumn 0 0 0 0 0\ncolumn 1 1 1 1 1\nend\n";
+    assert!(rt; ends(alloc, 6, &two, 3, None, row)?);
+    let lemma = b"lemma 1 P 1,1,1 1,1,1 - -\nopen\nend\n";
+    assert!(rt; ends(alloc, 8, &INVERTERS, 4, Some(1), lemma)?);
+    let row =
+        b"lemma 1 P 1,1,1 1,1,1 - -\ngaps 1\ncolumn 0 0 0 0 0\ncolumn 1 1 0 1 0\ncolumn 2 2 1 2 1\nend\n";
+    assert!(rt; ends(alloc, 8, &INVERTERS, 5, None, row)?);
+    Ok(())
+}
+
+// A state whose bound is kept takes no node, so that the last node is left for another.
+#[test]
+fn looks_before_it_counts(rt: HostRuntime) -> Result<(), Fail> {
+    let lemmas = b"lemma 1 N 0,1,1 0,1,1 4 5
+lemma 1 B 0,1,0 0,1,0 4 5
+lemma 1 B 0,1,1 0,1,1 4 4
+lemma 1 B 1,0,1 1,0,1 3 5
+lemma 1 B 1,0,1 1,0,1 3 3
+lemma 1 N 1,1,0 1,1,0 4 5
+lemma 1 B 1,1,0 1,1,0 4 4
+lemma 1 B 1,1,1 1,1,1 - -
+open
+end
+";
+    assert!(rt; ends(rt.alloc(), 6, &RINGS, 8, Some(1), lemmas)?);
+    Ok(())
+}
+
+// Twelve pairs between two nets and two between two others need a gap, and no parity tells it.
+#[test]
+fn searches_long(rt: HostRuntime) -> Result<(), Fail> {
+    let alloc = rt.alloc();
+    let mut pairs = [(0, 14, 15, 15); 14];
+    for gate in 0..14 {
+        let ends = if gate < 12 { (14, 15) } else { (16, 17) };
+        pairs[gate] = (gate as u32, ends.0, ends.1, ends.1);
+    }
+    let (log, proved) = ended(alloc, 18, &pairs, 200_000)?;
+    assert!(rt; proved.is_none() && log.lemmas.len() == 16_393);
+    Ok(())
+}
