@@ -1,37 +1,11 @@
 // Makes standard cells from SPICE subcircuits.
 #![tactic(auto)]
 
-mod bench;
-mod check;
-mod checked_log;
-mod deliver;
-mod end;
-mod extract;
-mod fault_line;
-mod faults;
-mod form;
-mod gather;
-mod inputs;
-mod layout_faults;
-mod make;
-mod make_end;
-mod make_report;
-mod plan;
 mod process;
-mod read;
-mod refusal;
-mod report;
-mod run;
-mod status;
-mod stem;
-#[cfg(test)]
-mod tests;
-mod work;
 
 use cell_io::HostDesk;
+use cell_run::{Status, run};
 use process::{exit_code, words_after_name};
-use run::run;
-use status::Status;
 use std::env;
 use std::io::ErrorKind;
 use std::process::ExitCode;

@@ -1,9 +1,9 @@
 ghost use Rattle.std.specs.Prelude.{◌≡◌, IfOk, drop};
 ghost use Rattle.std.specs.Process.{exit_status};
 ghost use Rattle.std.specs.Vec.Iter.{into_iter_items};
-ghost use Rattle.cellgen.specs.Status.{number_of};
+ghost use Rattle.cell_run.specs.Status.{number_of};
 
-use crate::status::Status;
+use cell_run::Status;
 use std::alloc::{AllocError, Global};
 use std::env::Args;
 use std::process::ExitCode;

@@ -1,0 +1,175 @@
+-- What a call comes to, from what it gathered: which files it makes, and the refusal of a file.
+use Rattle.std.proofs.Common.{ℕ, ◌≡◌, ◌⊎◌, Bool, true, false, nat_le, if◌then◌else◌, length, arith, List, [], ◌∷◌, Option, Some, None, Result, Ok, Err, Contains, inl, inr, refl, sym, ap, ◌∙◌, subst}
+use Rattle.cell_io.specs.Desk.{Files, View, Rose}
+use Rattle.cell_run.specs.declared.end.End.{End}
+use Rattle.cell_run.specs.declared.extract.ExtractAnswer.TheVariants as answer
+use Rattle.cell_run.specs.declared.gather.GdsCell.{GdsCell}
+use Rattle.cell_run.specs.Material.{Material, Planning, Making, Checking, Extracting, Benching}
+use Rattle.cell_run.specs.declared.refusal.Refusal.{Refusal}
+use Rattle.cell_run.specs.declared.refusal.Refusal.TheVariants.{Unread, Long, NoMemory}
+use Rattle.cell_run.specs.declared.status.Status.{Status}
+use Rattle.cell_run.specs.declared.status.Status.TheVariants as status
+use Rattle.cell_run.specs.declared.check.CheckAnswer.TheVariants.{Accepted, Misread, Rejected}
+use Rattle.cell_run.specs.Bench.{BenchesTo}
+use Rattle.cell_run.specs.Check.{ChecksTo}
+use Rattle.cell_run.specs.End.{says}
+use Rattle.cell_run.specs.Ends.{CallsFor, EndsTo, MayEnd, is_among, outside_of, refusal_status, refused, settled_of}
+use Rattle.cell_run.specs.Extract.{ExtractsTo}
+use Rattle.cell_run.specs.Gather.{gathered, read_by}
+use Rattle.cell_make.specs.Inputs.{Inputs}
+use Rattle.cell_run.specs.Headline.{IsMake}
+use Rattle.cell_run.specs.Plan.{PlansTo, Planned, Unfinished}
+use Rattle.cell_run.specs.Reading.{Comes, MayCome}
+use Rattle.cell_run.specs.Sources.{Source, MayRead, Lacks, file_name, most_bytes, within}
+use Rattle.cell_run.specs.Words.{Form, Plan, Make, Check, Extract, Bench}
+use Rattle.cell_run.proofs.Gathered.{IsGathered, gathered_keeps}
+use Rattle.cell_run.proofs.Reading.{came_kept, came_told}
+use Rattle.cell_run.proofs.Settled.{settled}
+
+-- what was gathered for a form, or a refusal
+abbrev pub IsGatheredOrRefused : Option Form → Result Material Refusal → Type 0
+IsGatheredOrRefused form got = IsGathered form got ⊎ ((e : Refusal) × (got ≡ Err e))
+
+pub plan_alone : (inputs : Inputs) (end : End) → PlansTo inputs end → end.files ≡ []
+plan_alone inputs end (Planned row log, h, is) = rw is refl
+plan_alone inputs end (Unfinished proved log, h, is) = rw is refl
+
+pub check_alone : (inputs : Inputs) (bytes : List ℕ) (end : End) → ChecksTo inputs bytes end → end.files ≡ []
+check_alone inputs bytes end (Accepted gaps lemmas, h, is) = rw is refl
+check_alone inputs bytes end (Misread f, h, is) = rw is refl
+check_alone inputs bytes end (Rejected f, h, is) = rw is refl
+
+pub extract_alone : (cell : GdsCell) (end : End) → ExtractsTo cell end → end.files ≡ []
+extract_alone cell end (answer.Extracted netlist, h, is) = rw is refl
+extract_alone cell end (answer.Broken found, h, is) = rw is refl
+extract_alone cell end (answer.Unread f, h, is) = rw is refl
+extract_alone cell end (answer.Unchecked f, h, is) = rw is refl
+extract_alone cell end (answer.Refused f, h, is) = rw is refl
+
+pub bench_alone : (number : ℕ) (end : End) → BenchesTo number end → end.files ≡ []
+bench_alone number end (tally, h, is) = rw is refl
+
+-- `make` alone makes files
+pub no_files : (form : Option Form) (got : Result Material Refusal) (end : End) → (IsMake form → ⊥) → IsGatheredOrRefused form got → EndsTo got end → end.files ≡ []
+no_files form (Err e) end other how ends = rw ends refl
+no_files form (Ok (Planning inputs)) end other how ends = plan_alone inputs end ends
+no_files form (Ok (Checking inputs bytes)) end other how ends = check_alone inputs bytes end ends
+no_files form (Ok (Extracting cell)) end other how ends = extract_alone cell end ends
+no_files form (Ok (Benching many)) end other how ends = bench_alone many end ends
+no_files form (Ok (Making inputs stem)) end other (inr (e, is)) ends = cc
+no_files None (Ok (Making inputs stem)) end other (inl is) ends = absurd is
+no_files (Some (Plan asked)) (Ok (Making inputs stem)) end other (inl is) ends = absurd is
+no_files (Some (Make asked out)) (Ok (Making inputs stem)) end other (inl is) ends = absurd (other tt)
+no_files (Some (Check asked log)) (Ok (Making inputs stem)) end other (inl is) ends = absurd is
+no_files (Some (Extract tech gds cell)) (Ok (Making inputs stem)) end other (inl is) ends = absurd is
+no_files (Some (Bench number)) (Ok (Making inputs stem)) end other (inl is) ends = absurd is
+
+-- how a call comes to what it gathers
+pub came_gathered : (old new : View) (form : Option Form) (got : Result Material Refusal) → MayCome old new (gathered form) got → IsGatheredOrRefused form got
+came_gathered old new form got (inr short) = inr (NoMemory, short)
+came_gathered old new form got (inl came) = elim (came_kept (MayRead old.given (Rose old.read_faults new.read_faults)) (λ source. Contains (read_by form) source) (IsGathered form) (gathered form) got (gathered_keeps form) came) [
+  | inl is ↦ inl is
+  | inr (source, there, e, may, is) ↦ inr (e, is)
+]
+
+-- ---- by a file
+
+abbrev pub IsFileFault : Refusal → Type 0
+IsFileFault e = (refusal_status e ≡ status.ReadFault) ⊎ (refusal_status e ≡ status.TooLong)
+
+within_fault : (name : List ℕ) (most : ℕ) (content : Option (List ℕ)) (e : Refusal) → Err e ≡ within name most content → IsFileFault e
+within_fault name most None e is =
+    let same : e ≡ Unread name = cc in
+    inl (rw same refl)
+within_fault name most (Some bytes) e is = by (nat_le (length bytes) most) is
+  where
+    by : (few : Bool) → ◌≡◌ {A = Result (List ℕ) Refusal} (Err e) (if few then Ok bytes else Err (Long name)) → IsFileFault e
+    by true is = cc
+    by false is =
+        let same : e ≡ Long name = cc in
+        inr (rw same refl)
+
+file_fault : (given : Option Files) (failed : Type 0) (source : Source) (e : Refusal) → MayRead given failed source (Err e) → IsFileFault e
+file_fault None failed source e (inl is) = inr (rw is refl)
+file_fault None failed source e (inr (faulty, is)) = inl (rw is refl)
+file_fault (Some files) failed source e (inl is) = within_fault (file_name source) (most_bytes source) (files (file_name source)) e is
+file_fault (Some files) failed source e (inr (faulty, is)) =
+    let same : e ≡ Unread (file_name source) = cc in
+    inl (rw same refl)
+
+held_cause : (sources : List Source) (files : Files) (source : Source) (content : Option (List ℕ)) (e : Refusal) → Contains sources source → files (file_name source) ≡ content → Err e ≡ within (file_name source) (most_bytes source) content → refusal_status e ≡ status.ReadFault → Lacks (Some files) sources
+held_cause sources files source None e there lacks is read = (source, there, rw lacks refl)
+held_cause sources files source (Some bytes) e there holds is read = by (nat_le (length bytes) (most_bytes source)) is
+  where
+    by : (few : Bool) → ◌≡◌ {A = Result (List ℕ) Refusal} (Err e) (if few then Ok bytes else Err (Long (file_name source))) → Lacks (Some files) sources
+    by true is = cc
+    by false is =
+        let same : e ≡ Long (file_name source) = cc in
+        let long : status.ReadFault ≡ status.TooLong = sym read ∙ ap refusal_status same in
+        cc
+
+-- a file is unread because reading failed, or because it is not there
+file_cause : (given : Option Files) (failed : Type 0) (sources : List Source) (source : Source) (e : Refusal) → Contains sources source → MayRead given failed source (Err e) → refusal_status e ≡ status.ReadFault → failed ⊎ Lacks given sources
+file_cause None failed sources source e there (inl is) read =
+    let long : status.ReadFault ≡ status.TooLong = sym read ∙ ap refusal_status is in
+    cc
+file_cause None failed sources source e there (inr (faulty, is)) read = inl faulty
+file_cause (Some files) failed sources source e there (inr (faulty, is)) read = inl faulty
+file_cause (Some files) failed sources source e there (inl is) read = inr (held_cause sources files source (files (file_name source)) e there refl is read)
+
+-- ---- the end of a call
+
+-- a file of the form was refused
+pub record IsByFile (old new : View) (form : Option Form) (end : End) : Type 0 where
+  pub source : Source
+  pub e : Refusal
+  pub there : Contains (read_by form) source
+  pub may : MayRead old.given (Rose old.read_faults new.read_faults) source (Err e)
+  pub ends : end ≡ refused e
+
+pub end_cases : (old new : View) (form : Option Form) (end : End) → MayEnd old new form end → (is_among (settled_of form) end.status ≡ true) ⊎ IsByFile old new form end ⊎ (end ≡ refused NoMemory)
+end_cases old new form end (got, inr short, ends) = inr (inr (subst (λ (r : Result Material Refusal). EndsTo r end) short ends))
+end_cases old new form end (got, inl came, ends) =
+    elim (came_kept (MayRead old.given (Rose old.read_faults new.read_faults)) (λ source. Contains (read_by form) source) (IsGathered form) (gathered form) got (gathered_keeps form) came) [
+      | inl is ↦ inl (settled form got end is ends)
+      | inr (source, there, e, may, is) ↦ inr (inl (record { source = source; e = e; there = there; may = may; ends = subst (λ (r : Result Material Refusal). EndsTo r end) is ends }))
+    ]
+
+pub file_status : (old new : View) (form : Option Form) (end : End) → IsByFile old new form end → (end.status ≡ status.ReadFault) ⊎ (end.status ≡ status.TooLong)
+file_status old new form end h = elim (file_fault old.given (Rose old.read_faults new.read_faults) h.source h.e h.may) [
+  | inl read ↦ inl (ap (λ (x : End). x.status) h.ends ∙ read)
+  | inr long ↦ inr (ap (λ (x : End). x.status) h.ends ∙ long)
+]
+
+pub file_unread : (old new : View) (form : Option Form) (end : End) → IsByFile old new form end → end.status ≡ status.ReadFault → Rose old.read_faults new.read_faults ⊎ Lacks old.given (read_by form)
+file_unread old new form end h read = file_cause old.given (Rose old.read_faults new.read_faults) (read_by form) h.source h.e h.there h.may (sym (ap (λ (x : End). x.status) h.ends) ∙ read)
+
+-- a file that is not read, or is too long, is of the outside where files are read
+by_files : (answer : Status) → (answer ≡ status.ReadFault) ⊎ (answer ≡ status.TooLong) → is_among (status.ReadFault ∷ status.WriteFault ∷ status.NoMemory ∷ status.TooLong ∷ []) answer ≡ true
+by_files answer (inl read) = rw read refl
+by_files answer (inr long) = rw long refl
+
+pub file_outside : (old new : View) (form : Option Form) (end : End) → IsByFile old new form end → is_among (outside_of form) end.status ≡ true
+file_outside old new None end h = absurd (omega (arith, h.there.1))
+file_outside old new (Some (Bench number)) end h = absurd (omega (arith, h.there.1))
+file_outside old new (Some (Plan asked)) end h = by_files end.status (file_status old new (Some (Plan asked)) end h)
+file_outside old new (Some (Make asked out)) end h = by_files end.status (file_status old new (Some (Make asked out)) end h)
+file_outside old new (Some (Check asked log)) end h = by_files end.status (file_status old new (Some (Check asked log)) end h)
+file_outside old new (Some (Extract tech gds cell)) end h = by_files end.status (file_status old new (Some (Extract tech gds cell)) end h)
+
+-- over told files: what they call for, or reading failed, or memory ran out
+pub end_told : (files : Files) (old new : View) (form : Option Form) (end : End) → old.given ≡ Some files → MayEnd old new form end → CallsFor files form end ⊎ (Rose old.read_faults new.read_faults × (end.status ≡ status.ReadFault)) ⊎ (end.status ≡ status.NoMemory)
+end_told files old new form end told (got, inr short, ends) =
+    let none : end ≡ refused NoMemory = subst (λ (r : Result Material Refusal). EndsTo r end) short ends in
+    inr (inr (ap (λ (x : End). x.status) none))
+end_told files old new form end told (got, inl came, ends) =
+    elim (came_told files (Rose old.read_faults new.read_faults) (gathered form) got (subst (λ (given : Option Files). Comes (MayRead given (Rose old.read_faults new.read_faults)) (gathered form) got) told came)) [
+      | inl same ↦ inl (subst (λ (r : Result Material Refusal). EndsTo r end) same ends)
+      | inr (failed, (name, is)) ↦
+          let unread : end ≡ refused (Unread name) = subst (λ (r : Result Material Refusal). EndsTo r end) is ends in
+          inr (inl (failed, ap (λ (x : End). x.status) unread))
+    ]
+
+-- where memory ran out, the call ends without a word
+pub short_end : (old new : View) (form : Option Form) (end : End) → end ≡ says status.NoMemory [] → MayEnd old new form end
+short_end old new form end is = (Err NoMemory, inr refl, is)

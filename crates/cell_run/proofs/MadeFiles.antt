@@ -1,0 +1,139 @@
+-- The files of an end of `make`, once they are made.
+use Rattle.std.proofs.Common.{ℕ, ◌≡◌, ◌≢◌, List, [], ◌∷◌, ◌++◌, Option, Some, None, Bool, if◌then◌else◌, codes, length, length-append, map, string_bytes, refl, sym, ap, ◌∙◌, subst, arith}
+use Rattle.std.specs.Prelude.{bytes_eq, get_or}
+use Rattle.std.proofs.lemmas.Bool.{false_from_ne_true}
+use Rattle.std.proofs.lemmas.List.{append_cancel_left}
+use Rattle.std.proofs.lemmas.Slice.Eq.{bytes_eq-Decides}
+use Rattle.cell_io.specs.Desk.{Files, Both, Sets}
+use Rattle.cell_run.specs.declared.end.Output.{Output}
+use Rattle.cell_run.specs.Deliver.{MakesAll}
+use Rattle.cell_run.specs.Headline.{HasCell, HasLog}
+use Rattle.cell_run.specs.Make.{named}
+
+-- ---- names
+
+clog_is_no_gds : (out : List ℕ) → out ++ codes ".clog" ≢ out ++ codes ".gds"
+clog_is_no_gds out e =
+    let five : length (codes ".clog") ≡ 5 = refl in
+    let four : length (codes ".gds") ≡ 4 = refl in
+    absurd (omega (arith, five, four, ap (λ (name : List ℕ). length name) e, length-append out (codes ".clog"), length-append out (codes ".gds")))
+
+gds_is_no_lef : (out : List ℕ) → out ++ codes ".gds" ≢ out ++ codes ".lef"
+gds_is_no_lef out e =
+    let same : codes ".gds" ≡ codes ".lef" = append_cancel_left out (codes ".gds") (codes ".lef") e in
+    let g_is_l : 103 ≡ 108 = ap (λ (name : List ℕ). get_or name 1 0) same in
+    absurd (omega (arith, g_is_l))
+
+clog_is_no_lef : (out : List ℕ) → out ++ codes ".clog" ≢ out ++ codes ".lef"
+clog_is_no_lef out e =
+    let five : length (codes ".clog") ≡ 5 = refl in
+    let four : length (codes ".lef") ≡ 4 = refl in
+    absurd (omega (arith, five, four, ap (λ (name : List ℕ). length name) e, length-append out (codes ".clog"), length-append out (codes ".lef")))
+
+-- ---- one file
+
+set_here : (name : List ℕ) (content : Option (List ℕ)) (old new : Files) → Sets name content old new → new name ≡ content
+set_here name content old new sets = sets name ∙ ap (λ (b : Bool). if b then content else old name) ((bytes_eq-Decides name name).1 refl)
+
+set_elsewhere : (name other : List ℕ) (content : Option (List ℕ)) (old new : Files) → Sets name content old new → other ≢ name → new other ≡ old other
+set_elsewhere name other content old new sets differ =
+    sets other ∙ ap (λ (b : Bool). if b then content else old other) (false_from_ne_true (bytes_eq other name) (λ e. differ ((bytes_eq-Decides other name).0 e)))
+
+name_is : (file : Output) (name bytes : List ℕ) → named file ≡ (name, bytes) → string_bytes file.name ≡ name
+name_is file name bytes is = ap (λ (x : List ℕ × List ℕ). x.0) is
+
+bytes_are : (file : Output) (name bytes : List ℕ) → named file ≡ (name, bytes) → file.bytes ≡ bytes
+bytes_are file name bytes is = ap (λ (x : List ℕ × List ℕ). x.1) is
+
+set_so : (file : Output) (name bytes : List ℕ) (old new : Files) → named file ≡ (name, bytes) → Sets (string_bytes file.name) (Some file.bytes) old new → Sets name (Some bytes) old new
+set_so file name bytes old new is sets =
+    subst (λ (n : List ℕ). Sets n (Some bytes) old new) (name_is file name bytes is) (subst (λ (b : List ℕ). Sets (string_bytes file.name) (Some b) old new) (bytes_are file name bytes is) sets)
+
+-- ---- all of them
+
+first_is : (a b : List ℕ × List ℕ) (xs ys : List (List ℕ × List ℕ)) → a ∷ xs ≡ b ∷ ys → a ≡ b
+first_is a b xs ys e = cc
+
+rest_are : (a b : List ℕ × List ℕ) (xs ys : List (List ℕ × List ℕ)) → a ∷ xs ≡ b ∷ ys → xs ≡ ys
+rest_are a b xs ys e = cc
+
+one_made : (out log : List ℕ) (files : List Output) (old new : Files) → map named files ≡ (out ++ codes ".clog", log) ∷ [] → MakesAll files old new → HasLog out log old new
+one_made out log [] old new is made = cc
+one_made out log (file ∷ []) old new is (mid, sets, same) =
+    let set : Sets (out ++ codes ".clog") (Some log) old new = subst (λ (files : Files). Sets (out ++ codes ".clog") (Some log) old files) (sym same) (set_so file (out ++ codes ".clog") log old mid (first_is (named file) (out ++ codes ".clog", log) [] [] is) sets) in
+    record {
+      log = set_here (out ++ codes ".clog") (Some log) old new set;
+      others = λ name differ. set_elsewhere (out ++ codes ".clog") name (Some log) old new set differ;
+    }
+one_made out log (file ∷ other ∷ more) old new is made =
+    let none : named other ∷ map named more ≡ [] = rest_are (named file) (out ++ codes ".clog", log) (named other ∷ map named more) [] is in
+    cc
+
+-- the files of a cell, each made where the one before it was
+pub record AreSet (out text bytes summary : List ℕ) (old one two new : Files) : Type 0 where
+  pub first : Sets (out ++ codes ".clog") (Some text) old one
+  pub second : Sets (out ++ codes ".gds") (Some bytes) one two
+  pub third : Sets (out ++ codes ".lef") (Some summary) two new
+
+cell_set : (out text bytes summary : List ℕ) (old one two new : Files) → AreSet out text bytes summary old one two new → HasCell out text bytes summary old new
+cell_set out text bytes summary old one two new s = record {
+  log =
+      set_elsewhere (out ++ codes ".lef") (out ++ codes ".clog") (Some summary) two new s.third (clog_is_no_lef out)
+      ∙ (set_elsewhere (out ++ codes ".gds") (out ++ codes ".clog") (Some bytes) one two s.second (clog_is_no_gds out)
+      ∙ set_here (out ++ codes ".clog") (Some text) old one s.first);
+  drawing =
+      set_elsewhere (out ++ codes ".lef") (out ++ codes ".gds") (Some summary) two new s.third (gds_is_no_lef out)
+      ∙ set_here (out ++ codes ".gds") (Some bytes) one two s.second;
+  lef = set_here (out ++ codes ".lef") (Some summary) two new s.third;
+  others = λ name no_log no_drawing no_lef.
+      set_elsewhere (out ++ codes ".lef") name (Some summary) two new s.third no_lef
+      ∙ (set_elsewhere (out ++ codes ".gds") name (Some bytes) one two s.second no_drawing
+      ∙ set_elsewhere (out ++ codes ".clog") name (Some text) old one s.first no_log);
+}
+
+-- three files are these
+three_are : (files : List Output) (a b c : List ℕ × List ℕ) → map named files ≡ a ∷ b ∷ c ∷ [] → (first second third : Output) × (files ≡ first ∷ second ∷ third ∷ []) × (named first ≡ a) × (named second ≡ b) × (named third ≡ c)
+three_are [] a b c is = cc
+three_are (x ∷ []) a b c is =
+    let none : [] ≡ b ∷ c ∷ [] = rest_are (named x) a [] (b ∷ c ∷ []) is in
+    cc
+three_are (x ∷ y ∷ []) a b c is =
+    let rest : named y ∷ [] ≡ b ∷ c ∷ [] = rest_are (named x) a (named y ∷ []) (b ∷ c ∷ []) is in
+    let none : [] ≡ c ∷ [] = rest_are (named y) b [] (c ∷ []) rest in
+    cc
+three_are (x ∷ y ∷ z ∷ []) a b c is =
+    let rest : named y ∷ named z ∷ [] ≡ b ∷ c ∷ [] = rest_are (named x) a (named y ∷ named z ∷ []) (b ∷ c ∷ []) is in
+    let last : named z ∷ [] ≡ c ∷ [] = rest_are (named y) b (named z ∷ []) (c ∷ []) rest in
+    (x, y, z, refl, first_is (named x) a (named y ∷ named z ∷ []) (b ∷ c ∷ []) is, first_is (named y) b (named z ∷ []) (c ∷ []) rest, first_is (named z) c [] [] last)
+three_are (x ∷ y ∷ z ∷ w ∷ more) a b c is =
+    let rest : named y ∷ named z ∷ named w ∷ map named more ≡ b ∷ c ∷ [] = rest_are (named x) a (named y ∷ named z ∷ named w ∷ map named more) (b ∷ c ∷ []) is in
+    let last : named z ∷ named w ∷ map named more ≡ c ∷ [] = rest_are (named y) b (named z ∷ named w ∷ map named more) (c ∷ []) rest in
+    let none : named w ∷ map named more ≡ [] = rest_are (named z) c (named w ∷ map named more) [] last in
+    cc
+
+three_set : (out text bytes summary : List ℕ) (first second third : Output) (old new : Files) → named first ≡ (out ++ codes ".clog", text) → named second ≡ (out ++ codes ".gds", bytes) → named third ≡ (out ++ codes ".lef", summary) → MakesAll (first ∷ second ∷ third ∷ []) old new → HasCell out text bytes summary old new
+three_set out text bytes summary first second third old new p q r (one, a, (two, b, (last, c, same))) =
+    cell_set out text bytes summary old one two new (record {
+      first = set_so first (out ++ codes ".clog") text old one p a;
+      second = set_so second (out ++ codes ".gds") bytes one two q b;
+      third = subst (λ (files : Files). Sets (out ++ codes ".lef") (Some summary) two files) (sym same) (set_so third (out ++ codes ".lef") summary two last r c);
+    })
+
+cell_made_in : (out text bytes summary : List ℕ) (files : List Output) (old new : Files) → map named files ≡ (out ++ codes ".clog", text) ∷ (out ++ codes ".gds", bytes) ∷ (out ++ codes ".lef", summary) ∷ [] → MakesAll files old new → HasCell out text bytes summary old new
+cell_made_in out text bytes summary files old new is made =
+    let (first, second, third, same, p, q, r) = three_are files (out ++ codes ".clog", text) (out ++ codes ".gds", bytes) (out ++ codes ".lef", summary) is in
+    three_set out text bytes summary first second third old new p q r (subst (λ (fs : List Output). MakesAll fs old new) same made)
+
+-- ---- where they are told
+
+both_so : {X : Type 0} (R S : X → X → Type 0) → ((x y : X) → R x y → S x y) → (a b : Option X) → Both R a b → Both S a b
+both_so R S f None None h = tt
+both_so R S f (Some x) (Some y) h = f x y h
+both_so R S f None (Some y) h = absurd h
+both_so R S f (Some x) None h = absurd h
+
+pub log_made : (out log : List ℕ) (files : List Output) (old new : Option Files) → map named files ≡ (out ++ codes ".clog", log) ∷ [] → Both (MakesAll files) old new → Both (HasLog out log) old new
+log_made out log files old new is made = both_so (MakesAll files) (HasLog out log) (λ x y h. one_made out log files x y is h) old new made
+
+pub cell_made : (out text bytes summary : List ℕ) (files : List Output) (old new : Option Files) → map named files ≡ (out ++ codes ".clog", text) ∷ (out ++ codes ".gds", bytes) ∷ (out ++ codes ".lef", summary) ∷ [] → Both (MakesAll files) old new → Both (HasCell out text bytes summary) old new
+cell_made out text bytes summary files old new is made = both_so (MakesAll files) (HasCell out text bytes summary) (λ x y h. cell_made_in out text bytes summary files x y is h) old new made

@@ -1,0 +1,246 @@
+-- What the top call owes of its answer, from the end that it came to and how this was told.
+use Rattle.std.proofs.Common.{ℕ, ◌≡◌, ◌⊎◌, ◌↔◌, ◌||◌, Bool, true, false, List, [], Option, Some, None, Result, Ok, Err, IfSome, IsNone, Contains, inl, inr, refl, sym, ap, ◌∙◌, subst, arith}
+use Rattle.std.proofs.lemmas.List.{append-nil}
+use Rattle.cell_io.specs.Desk.{Files, View, Both, ForSome, AddsPart, OnlyReads, Rose}
+use Rattle.cell_run.specs.declared.end.End.{End}
+use Rattle.cell_run.specs.declared.end.Output.{Output}
+use Rattle.cell_run.specs.Material.{Material, Planning, Making, Checking, Extracting, Benching}
+use Rattle.cell_run.specs.declared.refusal.Refusal.{Refusal}
+use Rattle.cell_run.specs.declared.refusal.Refusal.TheVariants.{Words, Unread, Long, Tech, Spice, Fold, NoMemory}
+use Rattle.cell_run.specs.declared.status.Status.{Status}
+use Rattle.cell_run.specs.declared.status.Status.TheVariants as status
+use Rattle.cell_run.specs.Calm.{IsCalm, IsDoneOrShort}
+use Rattle.cell_run.specs.Check.{HoldsAcceptedLog, IsCheck}
+use Rattle.cell_run.specs.Deliver.{GivesUp, MakesAll, MakesSome, OnlyTells, Says, Tells, TellsSome, TellsWhole}
+use Rattle.cell_run.specs.Ends.{CallsFor, EndsTo, IsOfOutside, MayEnd, is_among, is_status_of, outside_of, refused, settled_of}
+use Rattle.cell_run.specs.Gather.{gathered, read_by}
+use Rattle.cell_run.specs.Headline.{IsMake}
+use Rattle.cell_run.specs.Plan.{HasEnough}
+use Rattle.cell_run.specs.Reading.{called}
+use Rattle.cell_run.specs.Sources.{Lacks, held}
+use Rattle.cell_run.specs.Words.{Form, Plan, Make, Check, Extract, Bench}
+use Rattle.cell_run.proofs.Checked.{done_holds, holds_done}
+use Rattle.cell_run.proofs.Delivered.{none_begun, none_made}
+use Rattle.cell_run.proofs.Desks.{came_between}
+use Rattle.cell_run.proofs.Ends.{came_gathered, end_cases, end_told, file_outside, file_status, file_unread, no_files}
+use Rattle.cell_run.proofs.Settled.{not_read, not_short, not_written, usage_alone}
+use Rattle.cell_run.proofs.Gathered.{IsGathered, gathered_keeps}
+use Rattle.cell_run.proofs.Planned.{enough_done}
+use Rattle.cell_run.proofs.Reading.{called_comes, came_kept}
+
+-- ---- the whole call
+
+-- it came to some end, and this was told
+abbrev pub Answers : View → View → Option Form → Status → Type 0
+Answers old new form answer = (end : End) × MayEnd old new form end × Tells end answer old new
+
+tells_before : (end : End) (answer : Status) (a b c : View) → OnlyReads a b → Tells end answer b c → Tells end answer a c
+tells_before end answer a b c x (inl (is, made, said)) =
+    inl (is, subst (λ (m : Option Files). Both (MakesAll end.files) m c.made) x.made made, subst (λ (s : Option (List ℕ)). Both (Says end.report) s c.said) x.said said)
+tells_before end answer a b c x (inr (up, some)) = inr (gives up, tells some)
+  where
+    gives : GivesUp answer b c → GivesUp answer a c
+    gives (inl (is, rose)) = inl (is, subst (λ n. Rose n c.write_faults) x.writes rose)
+    gives (inr (is, rose)) = inr (is, subst (λ n. Rose n c.shorts) x.shorts rose)
+
+    tells : TellsSome end b c → TellsSome end a c
+    tells (inl (made, same)) = inl (subst (λ (m : Option Files). Both (MakesSome end.files) m c.made) x.made made, same ∙ x.said)
+    tells (inr (made, said)) = inr (subst (λ (m : Option Files). Both (MakesAll end.files) m c.made) x.made made, subst (λ (s : Option (List ℕ)). Both (ForSome end.report (AddsPart end.report)) s c.said) x.said said)
+
+pub answers : (a b c : View) (form : Option Form) (end : End) (answer : Status) → OnlyReads a b → OnlyTells b c → MayEnd a b form end → Tells end answer b c → Answers a c form answer
+answers a b c form end answer x y (got, inl came, ends) tells =
+    (end, (got, inl (came_between a a b c (gathered form) got refl (omega arith) (omega (arith, y.reads)) came), ends), tells_before end answer a b c x tells)
+answers a b c form end answer x y (got, inr short, ends) tells = (end, (got, inr short, ends), tells_before end answer a b c x tells)
+
+-- ---- files that are told
+
+pub called_for_told : (a c : View) (form : Option Form) (answer : Status) (given : Option Files) → a.given ≡ given → Answers a c form answer → IfSome given (λ files. IsOfOutside answer ⊎ ((end : End) × CallsFor files form end × TellsWhole end answer a c))
+called_for_told a c form answer None is h = tt
+called_for_told a c form answer (Some files) is (end, may, inr (inl (told, rose), some)) = inl (rw told tt)
+called_for_told a c form answer (Some files) is (end, may, inr (inr (told, rose), some)) = inl (rw told tt)
+called_for_told a c form answer (Some files) is (end, may, inl whole) = elim (end_told files a c form end is may) [
+  | inl calls ↦ inr (end, calls, whole)
+  | inr (inl (rose, read)) ↦
+      let same : answer ≡ status.ReadFault = whole.0 ∙ read in
+      inl (rw same tt)
+  | inr (inr short) ↦
+      let same : answer ≡ status.NoMemory = whole.0 ∙ short in
+      inl (rw same tt)
+]
+
+-- the status of an end that the files call for, or memory ran out
+abbrev pub Completes : Option Form → Files → Status → Type 0
+Completes form files answer = ((end : End) × CallsFor files form end × (answer ≡ end.status)) ⊎ (answer ≡ status.NoMemory)
+
+pub completes_told : (a c : View) (form : Option Form) (answer : Status) (given : Option Files) → a.given ≡ given → Answers a c form answer → IfSome given (λ files. IsCalm a c → Completes form files answer)
+completes_told a c form answer None is h = tt
+completes_told a c form answer (Some files) is (end, may, inr (inl (told, rose), some)) = λ calm. absurd (calm.writes rose)
+completes_told a c form answer (Some files) is (end, may, inr (inr (told, rose), some)) = λ calm. inr told
+completes_told a c form answer (Some files) is (end, may, inl whole) = λ calm. elim (end_told files a c form end is may) [
+  | inl calls ↦ inl (end, calls, whole.0)
+  | inr (inl (rose, read)) ↦ absurd (calm.reads rose)
+  | inr (inr short) ↦ inr (whole.0 ∙ short)
+]
+
+-- ---- causes
+
+or_true : (x : Bool) → (x || true) ≡ true
+or_true true = refl
+or_true false = refl
+
+written_outside : (form : Option Form) → is_among (outside_of form) status.WriteFault ≡ true
+written_outside None = refl
+written_outside (Some (Plan asked)) = refl
+written_outside (Some (Make asked out)) = refl
+written_outside (Some (Check asked log)) = refl
+written_outside (Some (Extract tech gds cell)) = refl
+written_outside (Some (Bench number)) = refl
+
+short_outside : (form : Option Form) → is_among (outside_of form) status.NoMemory ≡ true
+short_outside None = refl
+short_outside (Some (Plan asked)) = refl
+short_outside (Some (Make asked out)) = refl
+short_outside (Some (Check asked log)) = refl
+short_outside (Some (Extract tech gds cell)) = refl
+short_outside (Some (Bench number)) = refl
+
+-- why a call answers as it does: its form settles it, a file was refused, writing failed, or memory ran out
+data Cause (a c : View) (form : Option Form) (answer : Status) : Type 0 where
+  Settled : is_among (settled_of form) answer ≡ true → Cause a c form answer
+  ByFile : is_among (outside_of form) answer ≡ true → (answer ≡ status.ReadFault) ⊎ (answer ≡ status.TooLong) → (answer ≡ status.ReadFault → Rose a.read_faults c.read_faults ⊎ Lacks a.given (read_by form)) → Cause a c form answer
+  ByWriting : answer ≡ status.WriteFault → Rose a.write_faults c.write_faults → Cause a c form answer
+  ByMemory : answer ≡ status.NoMemory → Rose a.shorts c.shorts ⊎ (c.said ≡ a.said) → Cause a c form answer
+
+nothing_said : (before after : Option (List ℕ)) → Both (Says []) before after → after ≡ before
+nothing_said None None h = refl
+nothing_said (Some x) (Some y) h = ap (λ (t : List ℕ). Some t) (h ∙ append-nil x)
+nothing_said None (Some y) h = absurd h
+nothing_said (Some x) None h = absurd h
+
+cause_of : (a c : View) (form : Option Form) (answer : Status) → Answers a c form answer → Cause a c form answer
+cause_of a c form answer (end, may, inr (inl (told, rose), some)) = ByWriting told rose
+cause_of a c form answer (end, may, inr (inr (told, rose), some)) = ByMemory told (inl rose)
+cause_of a c form answer (end, may, inl (is, made, said)) = elim (end_cases a c form end may) [
+  | inl h ↦ Settled (subst (λ (s : Status). is_among (settled_of form) s ≡ true) (sym is) h)
+  | inr (inl file) ↦
+      ByFile (subst (λ (s : Status). is_among (outside_of form) s ≡ true) (sym is) (file_outside a c form end file))
+      (subst (λ (s : Status). (s ≡ status.ReadFault) ⊎ (s ≡ status.TooLong)) (sym is) (file_status a c form end file))
+      (λ read. file_unread a c form end file (sym is ∙ read))
+  | inr (inr none) ↦ ByMemory (is ∙ ap (λ (x : End). x.status) none) (inr (nothing_said a.said c.said (subst (λ (x : End). Both (Says x.report) a.said c.said) none said)))
+]
+
+not_settled : (form : Option Form) (answer other : Status) → is_among (settled_of form) answer ≡ true → answer ≡ other → is_among (settled_of form) other ≡ false → ⊥
+not_settled form answer other h is never =
+    let yes : is_among (settled_of form) other ≡ true = subst (λ (s : Status). is_among (settled_of form) s ≡ true) is h in
+    cc
+
+usage_cause : (a c : View) (form : Option Form) (answer : Status) → Cause a c form answer → answer ≡ status.Usage → IsNone form
+usage_cause a c form answer (Settled h) is = usage_alone form (subst (λ (s : Status). is_among (settled_of form) s ≡ true) is h)
+usage_cause a c form answer (ByFile h (inl read) cause) is = cc
+usage_cause a c form answer (ByFile h (inr long) cause) is = cc
+usage_cause a c form answer (ByWriting told rose) is = cc
+usage_cause a c form answer (ByMemory told why) is = cc
+
+read_cause : (a c : View) (form : Option Form) (answer : Status) → Cause a c form answer → answer ≡ status.ReadFault → Rose a.read_faults c.read_faults ⊎ Lacks a.given (read_by form)
+read_cause a c form answer (Settled h) is = absurd (not_settled form answer status.ReadFault h is (not_read form))
+read_cause a c form answer (ByFile h kind cause) is = cause is
+read_cause a c form answer (ByWriting told rose) is = cc
+read_cause a c form answer (ByMemory told why) is = cc
+
+write_cause : (a c : View) (form : Option Form) (answer : Status) → Cause a c form answer → answer ≡ status.WriteFault → Rose a.write_faults c.write_faults
+write_cause a c form answer (Settled h) is = absurd (not_settled form answer status.WriteFault h is (not_written form))
+write_cause a c form answer (ByFile h (inl read) cause) is = cc
+write_cause a c form answer (ByFile h (inr long) cause) is = cc
+write_cause a c form answer (ByWriting told rose) is = rose
+write_cause a c form answer (ByMemory told why) is = cc
+
+memory_cause : (a c : View) (form : Option Form) (answer : Status) → Cause a c form answer → answer ≡ status.NoMemory → Rose a.shorts c.shorts ⊎ (c.said ≡ a.said)
+memory_cause a c form answer (Settled h) is = absurd (not_settled form answer status.NoMemory h is (not_short form))
+memory_cause a c form answer (ByFile h (inl read) cause) is = cc
+memory_cause a c form answer (ByFile h (inr long) cause) is = cc
+memory_cause a c form answer (ByWriting told rose) is = cc
+memory_cause a c form answer (ByMemory told why) is = why
+
+status_cause : (a c : View) (form : Option Form) (answer : Status) → Cause a c form answer → is_status_of form answer ≡ true
+status_cause a c form answer (Settled h) = rw h refl
+status_cause a c form answer (ByFile h kind cause) = rw h (or_true (is_among (settled_of form) answer))
+status_cause a c form answer (ByWriting told rose) = rw told (rw (written_outside form) (or_true (is_among (settled_of form) status.WriteFault)))
+status_cause a c form answer (ByMemory told why) = rw told (rw (short_outside form) (or_true (is_among (settled_of form) status.NoMemory)))
+
+pub usage_told : (a c : View) (form : Option Form) (answer : Status) → Answers a c form answer → answer ≡ status.Usage → IsNone form
+usage_told a c form answer h = usage_cause a c form answer (cause_of a c form answer h)
+
+pub read_told : (a c : View) (form : Option Form) (answer : Status) → Answers a c form answer → answer ≡ status.ReadFault → Rose a.read_faults c.read_faults ⊎ Lacks a.given (read_by form)
+read_told a c form answer h = read_cause a c form answer (cause_of a c form answer h)
+
+pub write_told : (a c : View) (form : Option Form) (answer : Status) → Answers a c form answer → answer ≡ status.WriteFault → Rose a.write_faults c.write_faults
+write_told a c form answer h = write_cause a c form answer (cause_of a c form answer h)
+
+pub memory_told : (a c : View) (form : Option Form) (answer : Status) → Answers a c form answer → answer ≡ status.NoMemory → Rose a.shorts c.shorts ⊎ (c.said ≡ a.said)
+memory_told a c form answer h = memory_cause a c form answer (cause_of a c form answer h)
+
+pub status_told : (a c : View) (form : Option Form) (answer : Status) → Answers a c form answer → is_status_of form answer ≡ true
+status_told a c form answer h = status_cause a c form answer (cause_of a c form answer h)
+
+-- `make` alone makes files
+pub made_told : (a c : View) (form : Option Form) (answer : Status) → Answers a c form answer → (IsMake form → ⊥) → c.made ≡ a.made
+made_told a c form answer (end, (got, came, ends), inl (is, made, said)) other = none_made a.made c.made (subst (λ (files : List Output). Both (MakesAll files) a.made c.made) (no_files form got end other (came_gathered a c form got came) ends) made)
+made_told a c form answer (end, (got, came, ends), inr (up, inl (made, said))) other = none_begun a.made c.made (subst (λ (files : List Output). Both (MakesSome files) a.made c.made) (no_files form got end other (came_gathered a c form got came) ends) made)
+made_told a c form answer (end, (got, came, ends), inr (up, inr (made, said))) other = none_made a.made c.made (subst (λ (files : List Output). Both (MakesAll files) a.made c.made) (no_files form got end other (came_gathered a c form got came) ends) made)
+
+-- ---- by command
+
+pub planned_told : (a c : View) (form : Option Form) (answer : Status) (given : Option Files) → IfSome given (λ files. IsCalm a c → Completes form files answer) → IfSome given (λ files. IsCalm a c → HasEnough files form → IsDoneOrShort answer)
+planned_told a c form answer None told = tt
+planned_told a c form answer (Some files) told = λ calm (inputs, got, much). elim (told calm) [
+  | inl (end, calls, is) ↦ inl (is ∙ enough_done inputs end much (subst (λ (r : Result Material Refusal). EndsTo r end) got calls))
+  | inr short ↦ inr short
+]
+
+pub accepts_told : (a c : View) (form : Option Form) (answer : Status) (given : Option Files) → IfSome given (λ files. IsCalm a c → Completes form files answer) → IfSome given (λ files. IsCalm a c → HoldsAcceptedLog files form → IsDoneOrShort answer)
+accepts_told a c form answer None told = tt
+accepts_told a c form answer (Some files) told = λ calm (inputs, bytes, got, gaps, lemmas, text). elim (told calm) [
+  | inl (end, calls, is) ↦ inl (is ∙ holds_done inputs bytes end gaps lemmas text (subst (λ (r : Result Material Refusal). EndsTo r end) got calls))
+  | inr short ↦ inr short
+]
+
+not_done : (e : Refusal) (end : End) → end ≡ refused e → end.status ≡ status.Done → ⊥
+not_done Words end is done = cc
+not_done (Unread name) end is done = cc
+not_done (Long name) end is done = cc
+not_done (Tech f) end is done = cc
+not_done (Spice f) end is done = cc
+not_done (Fold f) end is done = cc
+not_done NoMemory end is done = cc
+
+-- what a form gathers, and a file that was refused
+pub gathered_so : (files : Files) (form : Option Form) (got : Result Material Refusal) → called files (gathered form) ≡ got → IsGathered form got ⊎ ((e : Refusal) × (got ≡ Err e))
+gathered_so files form got is =
+    elim (came_kept (λ source read. read ≡ held files source) (λ source. Contains (read_by form) source) (IsGathered form) (gathered form) (called files (gathered form)) (gathered_keeps form) (called_comes files (gathered form))) [
+      | inl h ↦ inl (subst (IsGathered form) is h)
+      | inr (source, there, e, may, refused) ↦ inr (e, sym is ∙ refused)
+    ]
+
+done_check : (files : Files) (form : Option Form) (end : End) (got : Result Material Refusal) → IsCheck form → called files (gathered form) ≡ got → IsGathered form got ⊎ ((e : Refusal) × (got ≡ Err e)) → EndsTo got end → end.status ≡ status.Done → HoldsAcceptedLog files form
+done_check files form end (Err e) check is how ends done = absurd (not_done e end ends done)
+done_check files form end (Ok material) check is (inr (e, wrong)) ends done = cc
+done_check files None end (Ok material) check is (inl h) ends done = absurd check
+done_check files (Some (Plan asked)) end (Ok material) check is (inl h) ends done = absurd check
+done_check files (Some (Make asked out)) end (Ok material) check is (inl h) ends done = absurd check
+done_check files (Some (Extract tech gds name)) end (Ok material) check is (inl h) ends done = absurd check
+done_check files (Some (Bench number)) end (Ok material) check is (inl h) ends done = absurd check
+done_check files (Some (Check asked log)) end (Ok (Extracting cell)) check is (inl h) ends done = absurd h
+done_check files (Some (Check asked log)) end (Ok (Benching many)) check is (inl h) ends done = absurd h
+done_check files (Some (Check asked log)) end (Ok (Making inputs stem)) check is (inl h) ends done = absurd h
+done_check files (Some (Check asked log)) end (Ok (Planning inputs)) check is (inl h) ends done = absurd h
+done_check files (Some (Check asked log)) end (Ok (Checking inputs bytes)) check is (inl h) ends done =
+    let (gaps, lemmas, text) = done_holds inputs bytes end ends done in
+    (inputs, bytes, is, gaps, lemmas, text)
+
+pub checked_told : (a c : View) (form : Option Form) (answer : Status) (given : Option Files) → IfSome given (λ files. IsOfOutside answer ⊎ ((end : End) × CallsFor files form end × TellsWhole end answer a c)) → IfSome given (λ files. IsCheck form → IsOfOutside answer ⊎ (answer ≡ status.Done ↔ HoldsAcceptedLog files form))
+checked_told a c form answer None told = tt
+checked_told a c form answer (Some files) (inl outside) = λ check. inl outside
+checked_told a c form answer (Some files) (inr (end, calls, whole)) = λ check. inr (
+  (λ done. done_check files form end (called files (gathered form)) check refl (gathered_so files form (called files (gathered form)) refl) calls (sym whole.0 ∙ done)),
+  (λ (inputs, bytes, got, gaps, lemmas, text). whole.0 ∙ holds_done inputs bytes end gaps lemmas text (subst (λ (r : Result Material Refusal). EndsTo r end) got calls)),
+)

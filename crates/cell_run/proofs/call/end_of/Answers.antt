@@ -1,0 +1,20 @@
+use Rattle.std.proofs.Common.{Option, subst}
+use Rattle.cell_run.specs.Gather.{gathered}
+use Rattle.cell_run.specs.Kept.{MayKeep}
+use Rattle.cell_run.specs.Words.{Form, asked}
+use Rattle.cell_run.proofs.Keeping.{ends_refused, ends_work}
+use Rattle.cell_run.proofs.call.end_of.Goals as goal
+
+pub returns-in-Ok-clause-ends : goal.returns-in-Ok-clause-ends
+returns-in-Ok-clause-ends g c =
+    ends_work (g.D.Desk.view c.args.desk.now) (g.D.Desk.view c.gather.new.desk) (asked c.args.words.now) c.gather.result c.in-Ok.material c.work.result
+    (subst (λ (form : Option Form). MayKeep (g.D.Desk.view c.args.desk.now) (g.D.Desk.view c.gather.new.desk) (gathered form) c.gather.result) c.form_of.ensures c.gather.ensures.comes)
+    c.in-Ok.is
+    c.work.ensures
+
+pub returns-in-Err-clause-ends : goal.returns-in-Err-clause-ends
+returns-in-Err-clause-ends g c =
+    ends_refused (g.D.Desk.view c.args.desk.now) (g.D.Desk.view c.gather.new.desk) (asked c.args.words.now) c.gather.result c.in-Err.refusal c.refused.result
+    (subst (λ (form : Option Form). MayKeep (g.D.Desk.view c.args.desk.now) (g.D.Desk.view c.gather.new.desk) (gathered form) c.gather.result) c.form_of.ensures c.gather.ensures.comes)
+    c.in-Err.is
+    c.refused.ensures

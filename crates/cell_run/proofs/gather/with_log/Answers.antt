@@ -1,0 +1,21 @@
+use Rattle.cell_run.specs.Gather.{checking_over}
+use Rattle.cell_run.proofs.Keeping.{keeps_read, keeps_short, keeps_unread}
+use Rattle.cell_run.proofs.LogReads.{room_begun}
+use Rattle.cell_run.proofs.gather.with_log.Goals as goal
+
+pub read_to-requires : goal.read_to-requires
+read_to-requires g c = room_begun c.args.inputs c.in_ok-checked.checked.reader c.in_ok-checked.checked.checker c.in_ok-checked.ensures
+
+pub returns-in_err-checked-clause-comes : goal.returns-in_err-checked-clause-comes
+returns-in_err-checked-clause-comes g c =
+    keeps_short (g.D.Desk.view c.args.desk.now) (g.D.Desk.view c.args.desk.now) (checking_over c.args.log.now c.args.inputs) c.from_residual.result c.from_residual.ensures
+
+pub returns-in_err-read_to-clause-comes : goal.returns-in_err-read_to-clause-comes
+returns-in_err-read_to-clause-comes g c =
+    keeps_unread (g.D.Desk.view c.args.desk.now) (g.D.Desk.view c.read_to.new.desk) c.args.log.now c.args.inputs c.in_err-read_to.field-0.0 c.from_residual-in_err-read_to.result
+    c.in_err-read_to.ensures.refused
+    c.from_residual-in_err-read_to.ensures
+
+pub returns-clause-comes : goal.returns-clause-comes
+returns-clause-comes g c =
+    keeps_read (g.D.Desk.view c.args.desk.now) (g.D.Desk.view c.read_to.new.desk) c.args.log.now c.args.inputs c.in_ok-checked.checked c.read_to.new.sink c.in_ok-checked.ensures c.read_to.ensures.only c.in_ok-read_to.ensures.bytes

@@ -1,0 +1,16 @@
+-- Calls whose reading and writing did not fail.
+use Rattle.std.specs.Prelude.{◌≡◌, ◌⊎◌, IfSome}
+use Rattle.cell_io.specs.Desk.{Files, View, Rose}
+use Rattle.cell_run.specs.declared.status.Status.{Status}
+use Rattle.cell_run.specs.declared.status.Status.TheVariants.{Done, NoMemory}
+
+pub record IsCalm (old new : View) : Type 0 where
+  pub reads : Rose old.read_faults new.read_faults → ⊥
+  pub writes : Rose old.write_faults new.write_faults → ⊥
+
+-- so it is of the files, where they are told and the call was calm
+abbrev pub IfCalm : View → View → (Files → Type 0) → Type 0
+IfCalm old new Says = IfSome old.given (λ files. IsCalm old new → Says files)
+
+abbrev pub IsDoneOrShort : Status → Type 0
+IsDoneOrShort answer = (answer ≡ Done) ⊎ (answer ≡ NoMemory)

@@ -1,0 +1,206 @@
+-- What a call of `make` leaves behind: the drawing of a cell with its evidence, or the evidence of why there is
+-- none. Files and what was said are told where the desk tells them.
+use Rattle.std.specs.Prelude.{ℕ, ◌≡◌, ◌≢◌, ◌<◌, ◌≤◌, ◌⊎◌, List, ◌++◌, codes, length, Option, Some, Ok}
+use Rattle.cell_io.specs.Desk.{Files, View, Both}
+use Rattle.row_model.specs.declared.column.Column.{Column}
+use Rattle.bound_log.specs.declared.log.Log.{Log}
+use Rattle.bound_log.specs.Text.{log_text}
+use Rattle.log_check.specs.Accepted.{ForKinds}
+use Rattle.row_search.specs.Enough.{enough}
+use Rattle.row_search.specs.First.{IsFirstLeast}
+use Rattle.row_place.specs.Places.{placement_of}
+use Rattle.channel_route.specs.declared.routing.Above.{Above}
+use Rattle.channel_route.specs.declared.routing.Routing.{Routing}
+use Rattle.channel_route.specs.Cycle.{HasNoCycle, IsCycle}
+use Rattle.channel_route.specs.Routing.{IsLegal, IsTight}
+use Rattle.channel_route.specs.Told.{IsTold}
+use Rattle.scmos_rules.specs.Rules.{Obeys}
+use Rattle.scmos_rules.specs.declared.rules.Deck.TheVariants.{Plain}
+use Rattle.cell_draw.specs.Extracted.{ExtractsTo}
+use Rattle.cell_draw.specs.Frame.{needed_of, IsTooTall}
+use Rattle.cell_draw.specs.Shown.{ShowsRouting, ShowsRow}
+use Rattle.gds_read.specs.Decoding.{Decodes}
+use Rattle.lef_write.specs.Drawn.{AreAllMetal, HasPort, IsSized}
+use Rattle.cell_run.specs.Material.{Making}
+use Rattle.cell_run.specs.declared.status.Status.{Status}
+use Rattle.cell_run.specs.declared.status.Status.TheVariants as status
+use Rattle.cell_run.specs.Deliver.{Says}
+use Rattle.cell_run.specs.Gather.{gathered}
+use Rattle.cell_make.specs.Inputs.{Inputs}
+use Rattle.cell_make.specs.Making.{AreLeastLines, IsRouted, abstract_of, drawing_in, library_of, ports_in}
+use Rattle.cell_report.specs.Cycles.{cycle_text}
+use Rattle.cell_run.specs.MakeReport.{drawn_text, tall_text}
+use Rattle.cell_run.specs.Reading.{called}
+use Rattle.cell_report.specs.Rows.{plan_text}
+use Rattle.cell_run.specs.Report.{unfinished_text}
+use Rattle.cell_make.specs.Searched.{IsCertified, IsUnfinished}
+use Rattle.cell_make.specs.Structures.{HasOneStructure}
+use Rattle.cell_run.specs.Words as words
+
+abbrev pub IsMake : Option words.Form → Type 0
+IsMake (Some (words.Make asked out)) = Unit {0}
+IsMake _ = ⊥
+
+-- so it is of the inputs of a drawing and of what the names of its files begin with, which are there and accepted
+abbrev pub FromInputs : Files → Option words.Form → (Inputs → List ℕ → Type 0) → Type 0
+FromInputs files form Says =
+    (inputs : Inputs) × (out : List ℕ) × (called files (gathered form) ≡ Ok (Making inputs out)) × Says inputs out
+
+-- so it is where `make` ends with this status
+abbrev pub WhereMakeEnds : Files → Option words.Form → Status → Status → (Inputs → List ℕ → Type 0) → Type 0
+WhereMakeEnds files form answer settled Says = IsMake form → answer ≡ settled → FromInputs files form Says
+
+-- ---- files
+
+-- the text of the log, the bytes of the drawing and the text of its abstract are there, and all other files are
+-- as before
+pub record HasCell (out text bytes summary : List ℕ) (old new : Files) : Type 0 where
+  pub log : new (out ++ codes ".clog") ≡ Some text
+  pub drawing : new (out ++ codes ".gds") ≡ Some bytes
+  pub lef : new (out ++ codes ".lef") ≡ Some summary
+  pub others : (name : List ℕ)
+      → name ≢ out ++ codes ".clog" → name ≢ out ++ codes ".gds" → name ≢ out ++ codes ".lef"
+      → new name ≡ old name
+
+-- the text of the log is there, and all other files are as before
+pub record HasLog (out text : List ℕ) (old new : Files) : Type 0 where
+  pub log : new (out ++ codes ".clog") ≡ Some text
+  pub others : (name : List ℕ) → name ≢ out ++ codes ".clog" → new name ≡ old name
+
+-- ---- a cell that was drawn
+
+-- `row` is the row of the cell, `log` its log, `routing` its channel, and `lines` has a position for each line.
+pub record IsMadeCell (inputs : Inputs) (out : List ℕ) (old new : View) : Type 0 where
+  pub row : List Column
+  pub log : Log
+  pub routing : Routing
+  pub lines : List ℕ
+  -- Over all orders, flips and pairings with the fewest columns, no row has fewer gaps, and of those with as few
+  -- this one comes first.
+  pub first_least : IsFirstLeast inputs.fingers row
+  -- The checker accepts the log by the bound of its version, and the row that it lists is this one.
+  pub certified : IsCertified inputs row log
+  -- No nets stand above each other in a ring.
+  pub acyclic : HasNoCycle (placement_of row) inputs.cell.pins
+  -- Each net that needs a trunk has one, trunks of one track are apart, and each stands on the least track that is
+  -- free for it.
+  pub legal : IsLegal (placement_of row) inputs.cell.pins routing
+  pub tight : IsTight (placement_of row) inputs.cell.pins routing
+  -- The lines keep their distances, each of them as far left as any other such lines.
+  pub least_lines : AreLeastLines (placement_of row) inputs.cell.pins routing lines
+  -- The height of the technology, where it has one, is enough.
+  pub fits : IsTooTall row routing.tracks inputs.tech.height → ⊥
+  -- The shapes obey every rule of the profile.
+  pub obeys : Obeys Plain (drawing_in inputs row routing lines).shapes.rects
+  -- Its devices, one for each class of gate cells, are the fingers of the folded subcircuit, net by net.
+  pub extracts : ExtractsTo inputs.cell.nets inputs.fingers (drawing_in inputs row routing lines).shapes
+  -- They stand in the columns of the row, and neighbours without a gap abut in each row that both fill.
+  pub shows_row : ShowsRow inputs.cell.nets row (drawing_in inputs row routing lines).shapes
+  -- The labels of trunks stand on the tracks of the routing.
+  pub shows_routing :
+      ShowsRouting inputs.cell.nets inputs.cell.pins (placement_of row)
+      (drawing_in inputs row routing lines).shapes routing
+  -- The bytes are a library with one cell of that name and no other, and these are its shapes and labels.
+  pub decodes :
+      Decodes (library_of inputs (drawing_in inputs row routing lines)) inputs.cell.name inputs.tech.lambda_nm
+      (drawing_in inputs row routing lines).shapes
+  pub alone : HasOneStructure (library_of inputs (drawing_in inputs row routing lines))
+  -- Each pin has exactly one port: one of these shapes, on which the label of the pin's name stands.
+  pub ports : (n : ℕ) → n < inputs.cell.pins.pins
+      → HasPort inputs.cell.nets (ports_in inputs routing (drawing_in inputs row routing lines))
+      (drawing_in inputs row routing lines) n
+  -- Ports and obstructions are all metal of these shapes, each shape once.
+  pub obstructs :
+      AreAllMetal (ports_in inputs routing (drawing_in inputs row routing lines))
+      (drawing_in inputs row routing lines).shapes.rects
+  -- The width and the height are the greatest x and the greatest y of metal1.
+  pub sized : IsSized (drawing_in inputs row routing lines)
+  -- The library stands in `OUT.gds`, the text of the log in `OUT.clog`, and in `OUT.lef` the macro of the cell with
+  -- these ports, obstructions and this size.
+  pub files :
+      Both (HasCell out (log_text inputs.cell.name log)
+      (library_of inputs (drawing_in inputs row routing lines))
+      (abstract_of inputs routing (drawing_in inputs row routing lines))) old.made new.made
+  -- The report says the columns, the tracks, the width and height, and how many lemmas the log has.
+  pub says :
+      Both (Says (codes "status 0 ok\n" ++ plan_text inputs.cell.name inputs.cell.nets row
+      ++ drawn_text routing.tracks (drawing_in inputs row routing lines).width
+      (drawing_in inputs row routing lines).height (length log.lemmas))) old.said new.said
+
+-- ---- why there is none
+
+-- In the first least row nets stand above each other in a ring, which the report says. The log of that row is
+-- written all the same.
+pub record IsCyclicCell (inputs : Inputs) (out : List ℕ) (old new : View) : Type 0 where
+  pub row : List Column
+  pub log : Log
+  pub cycle : List Above
+  pub first_least : IsFirstLeast inputs.fingers row
+  pub certified : IsCertified inputs row log
+  pub is_cycle : IsCycle (placement_of row) inputs.cell.pins cycle
+  pub is_told : IsTold (placement_of row) inputs.cell.pins cycle
+  pub files : Both (HasLog out (log_text inputs.cell.name log)) old.made new.made
+  pub says : Both (Says (codes "status 5 cycle\n" ++ cycle_text inputs.cell.nets cycle)) old.said new.said
+
+-- The first least row, legally and tightly routed, needs more than the height of the technology, and the report
+-- says both heights.
+pub record IsTallCell (inputs : Inputs) (out : List ℕ) (old new : View) : Type 0 where
+  pub row : List Column
+  pub log : Log
+  pub routing : Routing
+  pub first_least : IsFirstLeast inputs.fingers row
+  pub certified : IsCertified inputs row log
+  pub acyclic : HasNoCycle (placement_of row) inputs.cell.pins
+  pub legal : IsLegal (placement_of row) inputs.cell.pins routing
+  pub tight : IsTight (placement_of row) inputs.cell.pins routing
+  pub tall : IsTooTall row routing.tracks inputs.tech.height
+  pub files : Both (HasLog out (log_text inputs.cell.name log)) old.made new.made
+  pub says :
+      Both (Says (codes "status 11 tall\n" ++ tall_text (needed_of row routing.tracks) inputs.tech.height))
+      old.said new.said
+
+-- The search spent its budget: the log proves that no row has fewer gaps than the report says.
+pub record IsSpentSearch (inputs : Inputs) (out : List ℕ) (old new : View) : Type 0 where
+  pub log : Log
+  pub proved : ℕ
+  pub spent : IsUnfinished inputs proved log
+  pub files : Both (HasLog out (log_text inputs.cell.name log)) old.made new.made
+  pub says : Both (Says (codes "status 6 unfinished\n" ++ unfinished_text proved (length log.lemmas))) old.said new.said
+
+-- ---- how `make` has to end
+
+-- the budget is enough for the fingers, and so it is of their first least row
+abbrev pub OfFirstLeast : (Inputs → List Column → Type 0) → Inputs → List ℕ → Type 0
+OfFirstLeast Says inputs out =
+    ForKinds inputs.fingers (λ k. enough k ≤ inputs.tech.budget)
+    × ((row : List Column) → IsFirstLeast inputs.fingers row → Says inputs row)
+
+-- no nets of the row stand above each other in a ring, and its height is enough
+pub record CanBeDrawn (inputs : Inputs) (row : List Column) : Type 0 where
+  pub acyclic : HasNoCycle (placement_of row) inputs.cell.pins
+  pub fits : (routing : Routing) → IsRouted inputs row routing → IsTooTall row routing.tracks inputs.tech.height → ⊥
+
+-- some do
+abbrev pub HasCycle : Inputs → List Column → Type 0
+HasCycle inputs row = (cycle : List Above) × IsCycle (placement_of row) inputs.cell.pins cycle
+
+-- none do, but the row needs more than the height
+pub record IsTooHigh (inputs : Inputs) (row : List Column) : Type 0 where
+  pub acyclic : HasNoCycle (placement_of row) inputs.cell.pins
+  pub tall : (routing : Routing) → IsRouted inputs row routing → IsTooTall row routing.tracks inputs.tech.height
+
+-- with this status, or memory ran out
+abbrev pub IsOrShort : Status → Status → Type 0
+IsOrShort settled answer = (answer ≡ settled) ⊎ (answer ≡ status.NoMemory)
+
+-- ---- calls that make no file
+
+-- the statuses of calls that make none
+abbrev pub MakesNone : Status → Type 0
+MakesNone status.Usage = Unit {0}
+MakesNone status.ReadFault = Unit {0}
+MakesNone status.Input = Unit {0}
+MakesNone status.Rejected = Unit {0}
+MakesNone status.Layout = Unit {0}
+MakesNone status.TooLong = Unit {0}
+MakesNone _ = ⊥

@@ -1,0 +1,159 @@
+ghost use Rattle.std.specs.Prelude.{◌≡◌, ◌≤◌, ◌↔◌, ◌⊎◌, IfOk, IfSome, IsNone, IsTrue};
+ghost use Rattle.cell_io.specs.Desk.{OnlyReads, Rose};
+ghost use Rattle.cell_run.specs.declared.end.End.{End as EndOf};
+ghost use Rattle.cell_run.specs.declared.status.Status.TheVariants as status;
+ghost use Rattle.cell_run.specs.Bench.{IsBench, IsBenchTold, WhereBenchEnds};
+ghost use Rattle.cell_run.specs.Calm.{IfCalm, IsDoneOrShort};
+ghost use Rattle.cell_run.specs.Check.{HoldsAcceptedLog, IsCheck};
+ghost use Rattle.cell_run.specs.Deliver.{Tells, TellsWhole};
+ghost use Rattle.cell_run.specs.Ends.{CallsFor, IsOfOutside, MayEnd, is_status_of};
+ghost use Rattle.cell_run.specs.Extract.{BreaksRule, HasLayoutFault, HasNetlist, IsBrokenCell, IsExtractedCell, IsRefusedCell, OfGdsCell, WhereExtractEnds};
+ghost use Rattle.cell_run.specs.Gather.{read_by};
+ghost use Rattle.cell_run.specs.Headline.{CanBeDrawn, FromInputs, HasCycle, IsCyclicCell, IsMadeCell, IsMake, IsOrShort, IsSpentSearch, IsTallCell, IsTooHigh, MakesNone, OfFirstLeast, WhereMakeEnds};
+ghost use Rattle.cell_run.specs.Plan.{HasEnough};
+ghost use Rattle.cell_run.specs.Sources.{Lacks};
+ghost use Rattle.cell_run.specs.Words.{asked};
+
+use crate::deliver::deliver;
+use crate::end::End;
+use crate::form::form_of;
+use crate::gather::gather;
+use crate::refusal::refused;
+use crate::status::Status;
+use crate::work::work;
+use cell_io::Desk;
+use cell_num::{Bytes, NoMemory};
+use std::alloc::Global;
+
+// Gathers what the words ask for and does the work on it.
+fn end_of<D: Desk>(alloc: Global, words: &[String], desk: &mut D) -> Result<End, NoMemory>
+    ensures ends { IfOk result (MayEnd (D.view desk.old) (D.view desk.new) (asked words.now)) }
+    ensures only { OnlyReads (D.view desk.old) (D.view desk.new) }
+{
+    match gather(alloc, desk, form_of(words)) {
+        Ok(material) => work(alloc, &material),
+        Err(refusal) => refused(alloc, &refusal),
+    }
+}
+
+// The same, with an end that says nothing where memory ran out.
+fn prepare<D: Desk>(alloc: Global, words: &[String], desk: &mut D) -> End
+    ensures ends { MayEnd (D.view desk.old) (D.view desk.new) (asked words.now) result }
+    ensures only { OnlyReads (D.view desk.old) (D.view desk.new) }
+{
+    match end_of(alloc, words, desk) {
+        Ok(end) => end,
+        Err(NoMemory) => End::says(alloc, Status::NoMemory, Bytes::new(alloc)),
+    }
+}
+
+/// Does what the words ask for, and says the report.
+///
+/// `plan TECH SPICE CELL` finds the first least row of a cell: TECH is a technology file or `-` for the
+/// plain technology, SPICE a file, and CELL the name of one of its subcircuits. `make TECH SPICE CELL OUT`
+/// draws that row: it makes the log `OUT.clog`, the GDSII library `OUT.gds` and then the abstract `OUT.lef`.
+/// `check TECH SPICE CELL LOG` tells whether the file LOG is the text of a log that certifies a row of that cell.
+/// `extract TECH GDS CELL` tells the netlist of a cell of the GDSII file GDS, or the rules that it breaks.
+/// `bench NUMBER` makes so many generated cells in memory, 1 to 200, and tells what came out.
+///
+/// All memory that is not the desk's own is taken before the first file is made.
+pub fn run<D: Desk>(alloc: Global, words: &[String], desk: &mut D) -> Status
+    // The call came to such an end, and it was told: whole, or up to where writing failed or the desk found no
+    // memory. Where memory ran out before, the end is to say nothing.
+    ensures ends { (end : EndOf)
+        × MayEnd (D.view desk.old) (D.view desk.new) (asked words.now) end
+        × Tells end result (D.view desk.old) (D.view desk.new) }
+
+    // Over files that are told, an end that they call for is told whole, but for ReadFault, WriteFault and
+    // NoMemory.
+    ensures called_for { IfSome (D.view desk.old).given (λ files. IsOfOutside result ⊎ ((end : EndOf)
+        × CallsFor files (asked words.now) end
+        × TellsWhole end result (D.view desk.old) (D.view desk.new))) }
+
+    // Over such files, where neither reading nor writing failed, the status is of an end that they call for,
+    // or memory ran out.
+    ensures completes { IfCalm (D.view desk.old) (D.view desk.new) (λ files.
+        ((end : EndOf) × CallsFor files (asked words.now) end × (result ≡ end.status))
+        ⊎ (result ≡ status.NoMemory)) }
+
+    // Each fault of the outside has its cause.
+    ensures usage { result ≡ status.Usage → IsNone (asked words.now) }
+    ensures read { result ≡ status.ReadFault
+        → Rose (D.view desk.old).read_faults (D.view desk.new).read_faults
+        ⊎ Lacks (D.view desk.old).given (read_by (asked words.now)) }
+    ensures write { result ≡ status.WriteFault
+        → Rose (D.view desk.old).write_faults (D.view desk.new).write_faults }
+    ensures memory { result ≡ status.NoMemory
+        → Rose (D.view desk.old).shorts (D.view desk.new).shorts
+        ⊎ ((D.view desk.new).said ≡ (D.view desk.old).said) }
+    ensures other { IsTrue (is_status_of (asked words.now) result) }
+
+    ensures given { (D.view desk.new).given ≡ (D.view desk.old).given }
+    ensures read_count { (D.view desk.old).read_faults ≤ (D.view desk.new).read_faults }
+    ensures write_count { (D.view desk.old).write_faults ≤ (D.view desk.new).write_faults }
+    ensures short_count { (D.view desk.old).shorts ≤ (D.view desk.new).shorts }
+
+    // `make` alone makes files, and none where it ends with another status than its own, WriteFault or NoMemory.
+    ensures made { (IsMake (asked words.now) → ⊥) → (D.view desk.new).made ≡ (D.view desk.old).made }
+    ensures none { MakesNone result → (D.view desk.new).made ≡ (D.view desk.old).made }
+    ensures unmade { result ≡ status.NoMemory
+        → Rose (D.view desk.old).shorts (D.view desk.new).shorts
+        ⊎ ((D.view desk.new).made ≡ (D.view desk.old).made) }
+
+    // What `make` leaves behind: the drawing of the first least row, certified; or a cycle of that row; or the
+    // height that it needs; or the log of a search that spent its budget.
+    ensures drawn { IfSome (D.view desk.old).given (λ files. WhereMakeEnds files (asked words.now) result status.Done
+        (λ inputs out. IsMadeCell inputs out (D.view desk.old) (D.view desk.new))) }
+    ensures cyclic { IfSome (D.view desk.old).given (λ files. WhereMakeEnds files (asked words.now) result status.Cycle
+        (λ inputs out. IsCyclicCell inputs out (D.view desk.old) (D.view desk.new))) }
+    ensures tall { IfSome (D.view desk.old).given (λ files. WhereMakeEnds files (asked words.now) result status.TooTall
+        (λ inputs out. IsTallCell inputs out (D.view desk.old) (D.view desk.new))) }
+    ensures spent { IfSome (D.view desk.old).given (λ files. WhereMakeEnds files (asked words.now) result
+        status.Unfinished (λ inputs out. IsSpentSearch inputs out (D.view desk.old) (D.view desk.new))) }
+
+    // Where the budget is enough, it ends so exactly where the first least row calls for it, or memory ran out.
+    ensures draws { IfCalm (D.view desk.old) (D.view desk.new) (λ files.
+        FromInputs files (asked words.now) (OfFirstLeast CanBeDrawn) → IsOrShort status.Done result) }
+    ensures meets { IfCalm (D.view desk.old) (D.view desk.new) (λ files.
+        FromInputs files (asked words.now) (OfFirstLeast HasCycle) → IsOrShort status.Cycle result) }
+    ensures needs { IfCalm (D.view desk.old) (D.view desk.new) (λ files.
+        FromInputs files (asked words.now) (OfFirstLeast IsTooHigh) → IsOrShort status.TooTall result) }
+
+    // A plan whose budget is enough is done, or memory ran out.
+    ensures planned { IfCalm (D.view desk.old) (D.view desk.new) (λ files.
+        HasEnough files (asked words.now) → IsDoneOrShort result) }
+
+    // A check is done exactly where the log file is the text of an accepted log, but for ReadFault, WriteFault
+    // and NoMemory; and where neither reading nor writing failed it is done there, or memory ran out.
+    ensures checked { IfSome (D.view desk.old).given (λ files. IsCheck (asked words.now)
+        → IsOfOutside result ⊎ (result ≡ status.Done ↔ HoldsAcceptedLog files (asked words.now))) }
+    ensures accepts { IfCalm (D.view desk.old) (D.view desk.new) (λ files.
+        HoldsAcceptedLog files (asked words.now) → IsDoneOrShort result) }
+
+    // What `extract` tells: the netlist of a cell that obeys all rules; or all rules that it breaks; or why the file
+    // has no cell to check, or the cell no netlist.
+    ensures extracted { IfSome (D.view desk.old).given (λ files. WhereExtractEnds files (asked words.now) result
+        status.Done (λ cell. IsExtractedCell cell (D.view desk.old) (D.view desk.new))) }
+    ensures broken { IfSome (D.view desk.old).given (λ files. WhereExtractEnds files (asked words.now) result
+        status.Rejected (λ cell. IsBrokenCell cell (D.view desk.old) (D.view desk.new))) }
+    ensures refused { IfSome (D.view desk.old).given (λ files. WhereExtractEnds files (asked words.now) result
+        status.Layout (λ cell. IsRefusedCell cell (D.view desk.old) (D.view desk.new))) }
+
+    // Where neither reading nor writing failed, it ends so exactly where the cell calls for it, or memory ran out.
+    ensures extracts { IfCalm (D.view desk.old) (D.view desk.new) (λ files.
+        OfGdsCell files (asked words.now) HasNetlist → IsOrShort status.Done result) }
+    ensures breaks { IfCalm (D.view desk.old) (D.view desk.new) (λ files.
+        OfGdsCell files (asked words.now) BreaksRule → IsOrShort status.Rejected result) }
+    ensures refuses { IfCalm (D.view desk.old) (D.view desk.new) (λ files.
+        OfGdsCell files (asked words.now) HasLayoutFault → IsOrShort status.Layout result) }
+
+    // What `bench` tells: the counts of what making each generated cell comes to. It is done, or writing failed, or
+    // memory ran out.
+    ensures benched { WhereBenchEnds (asked words.now) result
+        (λ number. IsBenchTold number (D.view desk.old) (D.view desk.new)) }
+    ensures benches { IsBench (asked words.now)
+        → Rose (D.view desk.old).write_faults (D.view desk.new).write_faults ⊎ IsDoneOrShort result }
+{
+    let end = prepare(alloc, words, desk);
+    deliver(desk, end)
+}

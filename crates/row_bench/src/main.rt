@@ -1,0 +1,36 @@
+// Searches the least row of a cell by the bound of a log's version, and says what that took: for benchmarks/.
+#![tactic(auto)]
+
+mod inputs;
+mod took;
+
+use cell_io::{HostDesk, say_all};
+use inputs::{Asked, fingers_of};
+use row_search::search_kept;
+use std::alloc::Global;
+use std::env;
+use std::process::ExitCode;
+use took::Took;
+
+// The report, or nothing where a word is wrong, a file is refused or memory ends.
+fn report(alloc: Global, words: &[String], desk: &mut HostDesk<'_, HostRuntime>) -> Option<String> {
+    let asked = Asked::from_words(words)?;
+    let (fingers, budget) = fingers_of(alloc, &asked, desk)?;
+    let took = Took::of(search_kept(alloc, &fingers, &asked.bound, budget))?;
+    took.report(alloc).ok()
+}
+
+fn main(rt: HostRuntime) -> ExitCode {
+    let mut desk = HostDesk::new(&rt);
+    let Ok(args) = env::args(&rt) else {
+        return ExitCode::FAILURE;
+    };
+    let Ok(words) = args.skip(1).collect(rt.alloc()) else {
+        return ExitCode::FAILURE;
+    };
+    let words: Vec<String> = words;
+    match report(rt.alloc(), &words, &mut desk) {
+        Some(text) if say_all(&mut desk, text.as_bytes()).is_ok() => ExitCode::SUCCESS,
+        _ => ExitCode::FAILURE,
+    }
+}

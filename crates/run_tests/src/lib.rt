@@ -1,0 +1,21 @@
+// Worked examples of whole calls. They stand here, since a crate with tests is proved twice.
+#![tactic(auto)]
+
+#[cfg(test)]
+mod cells;
+#[cfg(test)]
+mod damaged;
+#[cfg(test)]
+mod desks;
+#[cfg(test)]
+mod extract;
+#[cfg(test)]
+mod logs;
+#[cfg(test)]
+mod make;
+#[cfg(test)]
+mod setup;
+#[cfg(test)]
+mod versions;
+#[cfg(test)]
+mod words;

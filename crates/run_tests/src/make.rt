@@ -1,0 +1,193 @@
+use crate::setup::{INVERTER, INVERTERS, run_over};
+use cell_run::Status;
+use std::test::Fail;
+
+const NAND: &str = ".SUBCKT nand2 a b y vdd gnd
+M1 y a vdd vdd p W=3u L=0.6u
+M2 y b vdd vdd p W=3u L=0.6u
+M3 y a n1 gnd n W=3u L=0.6u
+M4 n1 b gnd gnd n W=3u L=0.6u
+.ENDS
+";
+
+const GATE: &str = ".SUBCKT tg a b c cn vdd gnd
+M1 a c b gnd n W=1.5u L=0.6u
+M2 a cn b vdd p W=3u L=0.6u
+.ENDS
+";
+
+const CROSS: &str = ".SUBCKT cross x y u v s t a b vdd gnd
+M1 x a u vdd p W=3u L=0.6u
+M2 y a v gnd n W=1.5u L=0.6u
+M3 y b s vdd p W=3u L=0.6u
+M4 x b t gnd n W=1.5u L=0.6u
+.ENDS
+";
+
+const LATCH: &str = ".GLOBAL vdd
+.SUBCKT latch e d q gnd
+M1 vdd e en vdd pmos W=3u L=0.6u AD=2p PD=1u
+M2 gnd e en gnd nmos W=1.5u L=0.6u
+M3 vdd d p1 vdd pmos W=3u L=0.6u
+M4 p1 en m vdd pmos W=3u L=0.6u
+M5 gnd d n1 gnd nmos W=1.5u L=0.6u
+M6 n1 e m gnd nmos W=1.5u L=0.6u
+M7 vdd m q vdd pmos W=3u L=0.6u
+M8 gnd m q gnd nmos W=1.5u L=0.6u
+M9 vdd q m vdd pmos W=0.9u L=0.6u
+M10 gnd q m gnd nmos W=0.9u L=0.6u
+.ENDS
+";
+
+const INVERTER_LOG: &str = "cellgen-log 2\ncell inv\ngaps 0\ncolumn 0 0 0 0 0\nend\n";
+
+// The end of the report, the log, and the lengths of the drawing's and of the abstract's file.
+#[test]
+fn makes_a_cell(rt: HostRuntime) -> Result<(), Fail> {
+    for (tech, spice, words, status, said, log, bytes, lef) in [
+        (
+            "",
+            INVERTER,
+            "make - c.sp INV out",
+            Status::Done,
+            "column 0 gate a p y vdd 20 n y gnd 10\ntracks 1\nsize 41 118\nlemmas 0\n",
+            INVERTER_LOG,
+            2122,
+            997,
+        ),
+        (
+            "height = 118",
+            INVERTER,
+            "make t.toml c.sp inv out",
+            Status::Done,
+            "tracks 1\nsize 41 118\nlemmas 0\n",
+            INVERTER_LOG,
+            2122,
+            997,
+        ),
+        (
+            "height = 130",
+            INVERTER,
+            "make t.toml c.sp inv out",
+            Status::Done,
+            "tracks 1\nsize 41 130\nlemmas 0\n",
+            INVERTER_LOG,
+            2122,
+            998,
+        ),
+        (
+            "height = 117",
+            INVERTER,
+            "make t.toml c.sp inv out",
+            Status::TooTall,
+            "status 11 tall\nneeded 118\ngiven 117\n",
+            INVERTER_LOG,
+            0,
+            0,
+        ),
+        (
+            "",
+            NAND,
+            "make - c.sp nand2 out",
+            Status::Done,
+            "column 1 gate b p vdd y 20 n n1 gnd 20\ntracks 2\nsize 60 144\nlemmas 0\n",
+            "cellgen-log 2\ncell nand2\ngaps 0\ncolumn 0 0 0 0 0\ncolumn 1 1 1 1 1\nend\n",
+            2968,
+            1210,
+        ),
+        (
+            "",
+            GATE,
+            "make - c.sp tg out",
+            Status::Done,
+            "column 1 gate cn p a b 20 n - - 0\ntracks 2\nsize 66 134\nlemmas 0\n",
+            "cellgen-log 2\ncell tg\ngaps 0\ncolumn 2 - 0 0 0\ncolumn 3 0 0 - 0\nend\n",
+            2964,
+            1331,
+        ),
+        (
+            "",
+            CROSS,
+            "make - c.sp cross out",
+            Status::Cycle,
+            "status 5 cycle\nx above y at line 0\ny above x at line 4\n",
+            "cellgen-log 2\ncell cross\nlemma 1 P 1,1 1,1 - -\ngaps 1\ncolumn 6 0 0 0 0\ncolumn 7 1 0 1 0\nend\n",
+            0,
+            0,
+        ),
+        (
+            "budget = 1",
+            INVERTERS,
+            "make t.toml c.sp x3 out",
+            Status::Unfinished,
+            "status 6 unfinished\nproved 1\nlemmas 1\n",
+            "cellgen-log 2\ncell x3\nlemma 1 P 1,1,1 1,1,1 - -\nopen\nend\n",
+            0,
+            0,
+        ),
+        (
+            "",
+            LATCH,
+            "make - c.sp latch out",
+            Status::Done,
+            "column 5 gate m p vdd q 20 n gnd q 10\ntracks 3\nsize 154 150\nlemmas 8\n",
+            "cellgen-log 2\ncell latch\nlemma 1 B 0,1,1,1,1 0,1,1,1,1 5 5\nlemma 1 B 0,1,1,1,1 0,1,1,1,1 5 3\nlemma 1 B 0,1,1,1,1 1,0,1,1,1 5 8\nlemma 1 B 0,1,1,1,1 1,0,1,1,1 5 7\nlemma 1 B 0,1,1,1,1 0,1,1,1,1 4 5\nlemma 1 P 0,0,0,1,1 0,0,0,0,1 7 3\nlemma 1 P 0,0,0,1,1 0,0,0,0,1 4 3\nlemma 1 N 0,0,0,0,1 0,0,0,0,1 4 7\ngaps 0\ncolumn 0 0 1 0 1\ncolumn 1 1 0 2 0\ncolumn 0 - 0 1 1\ncolumn 5 3 0 - 0\ncolumn 2 2 1 3 1\ncolumn 7 4 1 4 1\nend\n",
+            6986,
+            1858,
+        ),
+    ] {
+        let (got, desk) = run_over(rt.alloc(), words, [tech, spice, ""], &[])?;
+        assert!(rt; desk.all_said().ends_with(said.as_bytes()), "{said}");
+        assert_eq!(rt; got, status, "{said}");
+        assert!(rt; desk.file("out.clog") == Some(log.as_bytes()), "{said}");
+        assert_eq!(rt;
+            desk.file("out.gds").map_or(0, |file| file.len()),
+            bytes,
+            "{said}"
+        );
+        assert_eq!(rt;
+            desk.file("out.lef").map_or(0, |file| file.len()),
+            lef,
+            "{said}"
+        );
+    }
+    Ok(())
+}
+
+// The subcircuit's file is read by two calls; each file is then made by one and filled by one, and the report said.
+#[test]
+fn makes_files_in_order(rt: HostRuntime) -> Result<(), Fail> {
+    for (call, log, shapes, lef) in [
+        (2, None, None, None),
+        (3, Some(""), None, None),
+        (4, Some(INVERTER_LOG), None, None),
+        (5, Some(INVERTER_LOG), Some(0), None),
+        (6, Some(INVERTER_LOG), Some(2122), None),
+        (7, Some(INVERTER_LOG), Some(2122), Some(0)),
+        (8, Some(INVERTER_LOG), Some(2122), Some(997)),
+    ] {
+        let (got, desk) = run_over(
+            rt.alloc(),
+            "make - c.sp inv out",
+            ["", INVERTER, ""],
+            &[call],
+        )?;
+        assert_eq!(rt; got, Status::WriteFault, "call {call}");
+        assert!(rt;
+            desk.file("out.clog") == log.map(|text| text.as_bytes()),
+            "call {call}"
+        );
+        assert_eq!(rt;
+            desk.file("out.gds").map(|file| file.len()),
+            shapes,
+            "call {call}"
+        );
+        assert_eq!(rt;
+            desk.file("out.lef").map(|file| file.len()),
+            lef,
+            "call {call}"
+        );
+        assert!(rt; desk.all_said().is_empty(), "call {call}");
+    }
+    Ok(())
+}

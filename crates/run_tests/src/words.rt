@@ -1,0 +1,105 @@
+use crate::setup::{INVERTER, call, desk_with, run_over};
+use cell_num::{List, Name};
+use cell_run::Status;
+use std::test::Fail;
+
+const ROW: &str =
+    "status 0 ok\ncell inv\ncolumns 1\ngaps 0\nwidth 1\ncolumn 0 gate a p y vdd 20 n y gnd 10\n";
+
+const USAGE: &str = "status 1 usage
+plan TECH SPICE CELL
+make TECH SPICE CELL OUT
+check TECH SPICE CELL LOG
+extract TECH GDS CELL
+bench NUMBER
+";
+
+const BENCH: &str = "status 0 ok
+bench 1
+made 1
+cycle 0
+unfinished 0
+columns 3
+gaps 0
+fingers 6
+bytes 3962
+";
+
+#[test]
+fn says_what_the_words_ask_for(rt: HostRuntime) -> Result<(), Fail> {
+    for (words, status, said) in [
+        ("plan - c.sp INV", Status::Done, ROW),
+        ("plan t.toml c.sp inv", Status::Done, ROW),
+        ("plan - d.sp inv", Status::ReadFault, "status 2 read d.sp\n"),
+        (
+            "plan d.toml d.sp inv",
+            Status::ReadFault,
+            "status 2 read d.toml\n",
+        ),
+        (
+            "plan c.sp d.sp inv",
+            Status::Input,
+            "status 4 input\ntech Text\n",
+        ),
+        (
+            "check - c.sp inv d.clog",
+            Status::ReadFault,
+            "status 2 read d.clog\n",
+        ),
+        (
+            "check - c.sp inw d.clog",
+            Status::Input,
+            "status 4 input\nspice NoCell\n",
+        ),
+        ("", Status::Usage, USAGE),
+        ("make", Status::Usage, USAGE),
+        ("plan - c.sp", Status::Usage, USAGE),
+        ("plan - c.sp inv l.clog", Status::Usage, USAGE),
+        ("check - c.sp inv", Status::Usage, USAGE),
+        ("plan - c.sp a-b", Status::Usage, USAGE),
+        ("bench", Status::Usage, USAGE),
+        ("bench 0", Status::Usage, USAGE),
+        ("bench 201", Status::Usage, USAGE),
+        ("bench 01", Status::Usage, USAGE),
+        ("bench +1", Status::Usage, USAGE),
+        ("bench 1", Status::Done, BENCH),
+    ] {
+        let (got, desk) = run_over(rt.alloc(), words, ["", INVERTER, ""], &[])?;
+        assert_eq!(rt; desk.all_said(), said.as_bytes());
+        assert_eq!(rt; got, status, "{said}");
+    }
+    Ok(())
+}
+
+#[test]
+fn refuses_long_files(rt: HostRuntime) -> Result<(), Fail> {
+    let alloc = rt.alloc();
+    for (tech, spice, status, said) in [
+        (
+            0,
+            4_194_304,
+            Status::Input,
+            "status 4 input\nspice NoCell\n",
+        ),
+        (
+            4_194_304,
+            4_194_305,
+            Status::TooLong,
+            "status 10 long c.sp\n",
+        ),
+        (
+            4_194_305,
+            4_194_305,
+            Status::TooLong,
+            "status 10 long t.toml\n",
+        ),
+    ] {
+        let comment = List::from_vec(vec![in alloc; b'#'; tech]?);
+        let stars = List::from_vec(vec![in alloc; b'*'; spice]?);
+        let mut desk = desk_with(alloc, comment, stars, Name::new(alloc), &[])?;
+        let got = call(alloc, "plan t.toml c.sp inv", &mut desk)?;
+        assert_eq!(rt; got, status, "{said}");
+        assert_eq!(rt; desk.all_said(), said.as_bytes(), "{said}");
+    }
+    Ok(())
+}
