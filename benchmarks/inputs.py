@@ -35,6 +35,40 @@ mnc qb q gnd gnd nmos w=1.5u l=0.6u
 .ends
 """
 
+OSU_FLIP_FLOP = """\
+* a flip-flop of 22 transistors, wired as the DFFPOSX1 of the OSU standard cells
+.subckt posdff d clk q vdd gnd
+m0 vdd clk a1 vdd pmos w=3u l=0.6u
+m1 a_17_74 d vdd vdd pmos w=1.5u l=0.6u
+m2 a_22_6 a1 a_17_74 vdd pmos w=1.5u l=0.6u
+m3 a_31_74 clk a_22_6 vdd pmos w=1.5u l=0.6u
+m4 vdd a_34_4 a_31_74 vdd pmos w=1.5u l=0.6u
+m5 a_34_4 a_22_6 vdd vdd pmos w=1.5u l=0.6u
+m6 a_61_74 a_34_4 vdd vdd pmos w=1.5u l=0.6u
+m7 a_66_6 clk a_61_74 vdd pmos w=1.5u l=0.6u
+m8 a_76_84 a1 a_66_6 vdd pmos w=0.9u l=0.6u
+m9 vdd q a_76_84 vdd pmos w=0.9u l=0.6u
+m10 q a_66_6 vdd vdd pmos w=3u l=0.6u
+m11 gnd clk a1 gnd nmos w=1.5u l=0.6u
+m12 a_17_6 d gnd gnd nmos w=0.9u l=0.6u
+m13 a_22_6 clk a_17_6 gnd nmos w=0.9u l=0.6u
+m14 a_31_6 a1 a_22_6 gnd nmos w=0.9u l=0.6u
+m15 gnd a_34_4 a_31_6 gnd nmos w=0.9u l=0.6u
+m16 a_34_4 a_22_6 gnd gnd nmos w=0.9u l=0.6u
+m17 a_61_6 a_34_4 gnd gnd nmos w=0.9u l=0.6u
+m18 a_66_6 a1 a_61_6 gnd nmos w=0.9u l=0.6u
+m19 a_76_6 clk a_66_6 gnd nmos w=0.9u l=0.6u
+m20 gnd q a_76_6 gnd nmos w=0.9u l=0.6u
+m21 q a_66_6 gnd gnd nmos w=1.5u l=0.6u
+.ends
+"""
+
+# a second output for the flip-flop
+SECOND_OUTPUT = """\
+mpd q2 qb vdd vdd pmos w=6u l=0.6u
+mnd q2 qb gnd gnd nmos w=3u l=0.6u
+"""
+
 
 def inverters(name, count):
     """A subcircuit of inverters that share nothing but the rails."""
@@ -43,6 +77,17 @@ def inverters(name, count):
     for i in range(count):
         lines.append(f"mp{i} y{i} a{i} vdd vdd pmos w=3u l=0.6u")
         lines.append(f"mn{i} y{i} a{i} gnd gnd nmos w=1.5u l=0.6u")
+    return "\n".join(lines + [".ends", ""])
+
+
+def rings(name, count):
+    """Pairs of gates that switch between two nets of their own: no net has an odd number of ends."""
+    pins = " ".join(f"a{i} b{i} x{i} y{i}" for i in range(count))
+    lines = [f".subckt {name} {pins} vdd gnd"]
+    for i in range(count):
+        for gate in (f"a{i}", f"b{i}"):
+            lines.append(f"mp{gate} x{i} {gate} y{i} vdd pmos w=3u l=0.6u")
+            lines.append(f"mn{gate} x{i} {gate} y{i} gnd nmos w=1.5u l=0.6u")
     return "\n".join(lines + [".ends", ""])
 
 
@@ -186,8 +231,8 @@ MEASURES = [
     ("plan: a random cell of 12 columns, to 1,000,000 nodes", planned(random_cell("any", 12, 9, 1), "any", 1000000)),
     ("plan: a random cell of 16 columns, to 1,000,000 nodes", planned(random_cell("any", 16, 12, 1), "any", 1000000)),
     ("check: the log of the flip-flop to 200,000 nodes", checked(FLIP_FLOP, "dff", 200000)),
-    ("check: the log of the flip-flop, 666,799 lemmas", checked(FLIP_FLOP, "dff", 1000000)),
-    ("check: a log of 999,994 lemmas, 80 MB", checked(random_cell("any", 16, 12, 1), "any", 1000000)),
+    ("check: the log of the flip-flop, 666,776 lemmas", checked(FLIP_FLOP, "dff", 1000000)),
+    ("check: a log of 999,992 lemmas, 80 MB", checked(random_cell("any", 16, 12, 1), "any", 1000000)),
     ("make: all cells of examples/", all_examples),
     ("bench: 200 generated cells", lambda folder, program: [["bench", "200"]]),
     ("make: an inverter", made(inverters("inv", 1), "inv", 200000)),
