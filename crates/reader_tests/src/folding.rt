@@ -1,55 +1,88 @@
-use cell_num::{FingerList, Fingers, NoMemory, copy};
+ghost use Rattle.std.specs.Prelude.{IfOk};
+ghost use Rattle.spice_net.specs.Subckts.{IsSubckt};
+
+use cell_num::{FingerList, Fingers, copy};
 use finger_fold::{FoldFault, fold};
-use spice_net::read_cell;
+use spice_net::{Subckt, read_cell};
 use std::alloc::{AllocError, Global};
 use std::test::Fail;
-use tech_file::read_tech;
+use tech_file::{Tech, read_tech};
 
-// The fingers of an inverter whose P and N transistors are so many grid units wide; `more` stands behind
-// the line of the P transistor.
-fn folded(
-    alloc: Global,
-    limits: &str,
-    widths: (u32, u32),
-    more: &str,
-) -> Result<Fingers, FoldFault> {
+fn tech_of(alloc: Global, limits: &str) -> Result<Tech, FoldFault> {
     let limits = limits.as_bytes();
-    let Ok(tech) = read_tech(alloc, &limits[..limits.len().min(1000)]) else {
-        return Err(FoldFault::NoMemory);
-    };
-    let p = 150 * u64::from(widths.0);
-    let n = 150 * u64::from(widths.1);
-    let Ok(text) = format!(in alloc;
-        ".subckt inv a y vdd gnd\nmp y a vdd vdd p w={p}n l=600n {more}\nmn y a gnd gnd n w={n}n l=600n\n.ends\n"
-    ) else {
-        return Err(FoldFault::NoMemory);
-    };
-    let text = text.as_bytes();
-    let name = copy(alloc, b"inv")?;
-    match read_cell(alloc, &text[..text.len().min(1000)], &name, &tech) {
-        Ok(cell) => fold(alloc, &cell, &tech),
+    match read_tech(alloc, &limits[..limits.len().min(1000)]) {
+        Ok(tech) => Ok(tech),
         Err(_) => Err(FoldFault::NoMemory),
     }
 }
 
-fn widths_of(alloc: Global, row: &str, fingers: &FingerList) -> Result<String, AllocError> {
-    let mut out = String::from_str(alloc, row)?;
-    for finger in fingers.as_slice() {
-        let width = format!(in alloc; " {}", finger.width)?;
-        out.push_str(width.as_str())?;
-    }
-    Ok(out)
+// An inverter whose P and N transistors are so many grid units wide; `more` stands behind the line of the P
+// transistor.
+fn inverter(alloc: Global, widths: (u32, u32), more: &str) -> Result<String, AllocError> {
+    let p = 150 * u64::from(widths.0);
+    let n = 150 * u64::from(widths.1);
+    format!(in alloc;
+        ".subckt inv a y vdd gnd\nmp y a vdd vdd p w={p}n l=600n {more}\nmn y a gnd gnd n w={n}n l=600n\n.ends\n"
+    )
 }
 
-fn told(alloc: Global, limits: &str, widths: (u32, u32), more: &str) -> Result<String, AllocError> {
-    match folded(alloc, limits, widths, more) {
-        Ok(fingers) => {
-            let p = widths_of(alloc, "P", &fingers.p)?;
-            let n = widths_of(alloc, "N", &fingers.n)?;
-            format!(in alloc; "{p} {n}")
-        }
-        Err(fault) => format!(in alloc; "{fault:?}"),
+fn cell_of(alloc: Global, text: &[u8], tech: &Tech) -> Result<Subckt, FoldFault>
+    ensures { IfOk result IsSubckt }
+{
+    let name = copy(alloc, b"inv")?;
+    match read_cell(alloc, &text[..text.len().min(1000)], &name, tech) {
+        Ok(cell) => Ok(cell),
+        Err(_) => Err(FoldFault::NoMemory),
     }
+}
+
+// The fingers of the text's inverter.
+fn folded(alloc: Global, limits: &str, text: &[u8]) -> Result<Fingers, FoldFault> {
+    let tech = tech_of(alloc, limits)?;
+    let cell = cell_of(alloc, text, &tech)?;
+    fold(alloc, &cell, &tech)
+}
+
+fn put_widths(
+    alloc: Global,
+    told: &mut Vec<u8>,
+    row: u8,
+    fingers: &FingerList,
+) -> Result<(), AllocError> {
+    told.push(row)?;
+    for finger in fingers.as_slice() {
+        let width = format!(in alloc; " {}", finger.width)?;
+        told.extend_from_slice(width.as_bytes())?;
+    }
+    Ok(())
+}
+
+fn put_fingers(alloc: Global, told: &mut Vec<u8>, fingers: &Fingers) -> Result<(), AllocError> {
+    put_widths(alloc, told, b'P', &fingers.p)?;
+    told.push(b' ')?;
+    put_widths(alloc, told, b'N', &fingers.n)
+}
+
+fn put_fault(alloc: Global, told: &mut Vec<u8>, fault: &FoldFault) -> Result<(), AllocError> {
+    let text = format!(in alloc; "{fault:?}")?;
+    told.extend_from_slice(text.as_bytes())
+}
+
+// Whether the widths of the fingers, or the fault, are told so.
+fn tells(
+    alloc: Global,
+    limits: &str,
+    widths: (u32, u32),
+    more: &str,
+    want: &str,
+) -> Result<bool, Fail> {
+    let text = inverter(alloc, widths, more)?;
+    let mut told = Vec::new(alloc);
+    match folded(alloc, limits, text.as_bytes()) {
+        Ok(fingers) => put_fingers(alloc, &mut told, &fingers)?,
+        Err(fault) => put_fault(alloc, &mut told, &fault)?,
+    }
+    Ok(told.as_slice() == want.as_bytes())
 }
 
 #[test]
@@ -70,11 +103,7 @@ fn cuts_transistors(rt: HostRuntime) -> Result<(), Fail> {
             "TooManyFingers { count: 8334 }",
         ),
     ] {
-        assert_eq!(rt;
-            told(rt.alloc(), limits, widths, "")?.as_str(),
-            want,
-            "{limits} {widths:?}"
-        );
+        assert!(rt; tells(rt.alloc(), limits, widths, "", want)?, "{want}");
     }
     Ok(())
 }
@@ -92,9 +121,8 @@ fn cuts_into_the_fingers_that_are_asked_for(rt: HostRuntime) -> Result<(), Fail>
         ("", 20, "m=33", "TooManyColumns { count: 33 }"),
         ("", 20, "m=22 nf=3", "TooManyFingers { count: 66 }"),
     ] {
-        assert_eq!(rt;
-            told(rt.alloc(), limits, (width, 10), more)?.as_str(),
-            want,
+        assert!(rt;
+            tells(rt.alloc(), limits, (width, 10), more, want)?,
             "{limits} {width} {more}"
         );
     }

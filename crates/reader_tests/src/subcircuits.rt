@@ -1,34 +1,65 @@
-use cell_num::{Row, copy};
-use spice_net::{Direction, read_cell};
-use std::alloc::Global;
+use cell_num::{Names, Pins, Row, copy};
+use spice_net::{Device, DeviceList, Direction, SpiceFault, Subckt, read_cell};
+use std::alloc::{AllocError, Global};
 use std::test::Fail;
 use tech_file::Tech;
 
-// the pins, the rails, the nets and each device of the cell `c`; or the fault
-fn told(alloc: Global, text: &[u8]) -> Result<String, Fail> {
+// The cell `c` of a text. It has no clauses, so that the reader's stay out of the tests' proofs.
+fn read(alloc: Global, text: &[u8]) -> Result<Result<Subckt, SpiceFault>, Fail> {
     let name = copy(alloc, b"c")?;
     let tech = Tech::plain(alloc)?;
-    let cell = match read_cell(alloc, &text[..text.len().min(1000)], &name, &tech) {
-        Ok(cell) => cell,
-        Err(fault) => return Ok(format!(in alloc; "{fault:?}")?),
-    };
-    let mut told = format!(in alloc;
-        "{} {} {}",
-        cell.pins.pins, cell.pins.vdd.0, cell.pins.gnd.0
-    )?;
-    for net in cell.nets.as_slice() {
-        told.push(' ')?;
-        told.push_str(str::from_utf8(net.as_slice()).unwrap_or("?"))?;
+    Ok(read_cell(alloc, &text[..text.len().min(1000)], &name, &tech))
+}
+
+fn put_nets(told: &mut Vec<u8>, nets: &Names) -> Result<(), AllocError> {
+    for net in nets.as_slice() {
+        told.push(b' ')?;
+        told.extend_from_slice(net.as_slice())?;
     }
-    for device in cell.devices.as_slice() {
-        let row = if device.row == Row::P { "P" } else { "N" };
-        let text = format!(in alloc;
-            ", {row} {} {} {} {} {}",
-            device.drain.0, device.gate.0, device.source.0, device.width, device.fingers
-        )?;
-        told.push_str(text.as_str())?;
+    Ok(())
+}
+
+fn device_text(alloc: Global, device: &Device) -> Result<String, AllocError> {
+    let row = if device.row == Row::P { "P" } else { "N" };
+    format!(in alloc;
+        ", {row} {} {} {} {} {}",
+        device.drain.0, device.gate.0, device.source.0, device.width, device.fingers
+    )
+}
+
+fn put_devices(alloc: Global, told: &mut Vec<u8>, devices: &DeviceList) -> Result<(), AllocError> {
+    for device in devices.as_slice() {
+        let text = device_text(alloc, device)?;
+        told.extend_from_slice(text.as_bytes())?;
     }
-    Ok(told)
+    Ok(())
+}
+
+fn pins_text(alloc: Global, pins: &Pins) -> Result<String, AllocError> {
+    format!(in alloc; "{} {} {}", pins.pins, pins.vdd.0, pins.gnd.0)
+}
+
+// the pins, the rails, the nets and each device
+fn put_cell(alloc: Global, told: &mut Vec<u8>, cell: &Subckt) -> Result<(), AllocError> {
+    let pins = pins_text(alloc, &cell.pins)?;
+    told.extend_from_slice(pins.as_bytes())?;
+    put_nets(told, &cell.nets)?;
+    put_devices(alloc, told, &cell.devices)
+}
+
+fn put_fault(alloc: Global, told: &mut Vec<u8>, fault: &SpiceFault) -> Result<(), AllocError> {
+    let text = format!(in alloc; "{fault:?}")?;
+    told.extend_from_slice(text.as_bytes())
+}
+
+// whether the cell `c`, or the fault, is told so
+fn tells(alloc: Global, text: &[u8], want: &str) -> Result<bool, Fail> {
+    let mut told = Vec::new(alloc);
+    match read(alloc, text)? {
+        Ok(cell) => put_cell(alloc, &mut told, &cell)?,
+        Err(fault) => put_fault(alloc, &mut told, &fault)?,
+    }
+    Ok(told.as_slice() == want.as_bytes())
 }
 
 const INVERTER: &str = "4 2 3 a y vdd gnd, P 1 0 2 20 1, N 1 0 3 10 1";
@@ -69,17 +100,17 @@ fn reads_subcircuits(rt: HostRuntime) -> Result<(), Fail> {
             "IdlePin { name: List { items: [98] } }",
         ),
     ] {
-        assert_eq!(rt; told(rt.alloc(), text)?.as_str(), want);
+        assert!(rt; tells(rt.alloc(), text, want)?, "{want}");
     }
     Ok(())
 }
 
 // an inverter whose lines have more words behind them
-fn inverter(alloc: Global, p: &str, n: &str) -> Result<String, Fail> {
+fn inverter_tells(alloc: Global, p: &str, n: &str, want: &str) -> Result<bool, Fail> {
     let text = format!(in alloc;
         ".subckt c a y vdd gnd\nmp y a vdd vdd p w=3u l=.6u {p}\nmn y a gnd gnd n w=1.5u l=.6u {n}\n.ends\n"
     )?;
-    told(alloc, text.as_bytes())
+    tells(alloc, text.as_bytes(), want)
 }
 
 #[test]
@@ -117,9 +148,14 @@ fn reads_copies_and_fingers(rt: HostRuntime) -> Result<(), Fail> {
             "TooMany { what: Devices, count: 129 }",
         ),
     ] {
-        assert_eq!(rt; inverter(rt.alloc(), p, n)?.as_str(), want, "{p} {n}");
+        assert!(rt; inverter_tells(rt.alloc(), p, n, want)?, "{p} {n}");
     }
     Ok(())
+}
+
+fn line_tells(alloc: Global, line: &str, want: &str) -> Result<bool, Fail> {
+    let text = format!(in alloc; ".subckt c a y vdd gnd\n{line}\nR2\n.ends\n")?;
+    tells(alloc, text.as_bytes(), want)
 }
 
 #[test]
@@ -152,29 +188,47 @@ fn refuses_the_first_fault_of_a_line(rt: HostRuntime) -> Result<(), Fail> {
         ("MN y a vdd gnd n w=1.5u l=.6u", "Rail { line: 2 }"),
         ("MN y a gnd gnd n w=1.5u l=.6u m=0", "Multiple { line: 2 }"),
     ] {
-        let text = format!(in rt.alloc(); ".subckt c a y vdd gnd\n{line}\nR2\n.ends\n")?;
-        assert_eq!(rt; told(rt.alloc(), text.as_bytes())?.as_str(), want, "{line}");
+        assert!(rt; line_tells(rt.alloc(), line, want)?, "{line}");
     }
     Ok(())
 }
 
-// the directions of the pins of the cell `c`, a letter each
-fn directed(alloc: Global, text: &[u8]) -> Result<String, Fail> {
-    let name = copy(alloc, b"c")?;
-    let tech = Tech::plain(alloc)?;
-    let cell = match read_cell(alloc, &text[..text.len().min(1000)], &name, &tech) {
-        Ok(cell) => cell,
-        Err(fault) => return Ok(format!(in alloc; "{fault:?}")?),
-    };
-    let mut told = String::new(alloc);
-    for direction in cell.directions.as_slice() {
-        told.push(match direction {
-            Direction::Input => 'I',
-            Direction::Output => 'O',
-            Direction::Inout => 'B',
-        })?;
+fn letter(direction: Direction) -> u8 {
+    match direction {
+        Direction::Input => b'I',
+        Direction::Output => b'O',
+        Direction::Inout => b'B',
     }
-    Ok(told)
+}
+
+fn put_directions(told: &mut Vec<u8>, directions: &[Direction]) -> Result<(), AllocError> {
+    for direction in directions {
+        told.push(letter(*direction))?;
+    }
+    Ok(())
+}
+
+// whether the directions of the pins of the cell `c` are these, a letter each
+fn directs(alloc: Global, text: &[u8], want: &str) -> Result<bool, Fail> {
+    let mut told = Vec::new(alloc);
+    match read(alloc, text)? {
+        Ok(cell) => put_directions(&mut told, cell.directions.as_slice())?,
+        Err(fault) => put_fault(alloc, &mut told, &fault)?,
+    }
+    Ok(told.as_slice() == want.as_bytes())
+}
+
+fn directs_with(
+    alloc: Global,
+    front: &str,
+    inside: &str,
+    behind: &str,
+    want: &str,
+) -> Result<bool, Fail> {
+    let text = format!(in alloc;
+        "{front}.SUBCKT c a y vdd gnd\n{inside}MP y a vdd vdd p W=3u L=0.6u\nMN y a gnd gnd n W=1.5u L=0.6u\n.ENDS\n{behind}"
+    )?;
+    directs(alloc, text.as_bytes(), want)
 }
 
 #[test]
@@ -195,12 +249,8 @@ fn reads_directions(rt: HostRuntime) -> Result<(), Fail> {
             "IBBB",
         ),
     ] {
-        let text = format!(in rt.alloc();
-            "{front}.SUBCKT c a y vdd gnd\n{inside}MP y a vdd vdd p W=3u L=0.6u\nMN y a gnd gnd n W=1.5u L=0.6u\n.ENDS\n{behind}"
-        )?;
-        assert_eq!(rt;
-            directed(rt.alloc(), text.as_bytes())?.as_str(),
-            want,
+        assert!(rt;
+            directs_with(rt.alloc(), front, inside, behind, want)?,
             "{inside}"
         );
     }
