@@ -218,13 +218,8 @@ fn directs(alloc: Global, text: &[u8], want: &str) -> Result<bool, Fail> {
     Ok(told.as_slice() == want.as_bytes())
 }
 
-fn directs_with(
-    alloc: Global,
-    front: &str,
-    inside: &str,
-    behind: &str,
-    want: &str,
-) -> Result<bool, Fail> {
+fn directs_with(alloc: Global, comments: [&str; 3], want: &str) -> Result<bool, Fail> {
+    let [front, inside, behind] = comments;
     let text = format!(in alloc;
         "{front}.SUBCKT c a y vdd gnd\n{inside}MP y a vdd vdd p W=3u L=0.6u\nMN y a gnd gnd n W=1.5u L=0.6u\n.ENDS\n{behind}"
     )?;
@@ -233,26 +228,15 @@ fn directs_with(
 
 #[test]
 fn reads_directions(rt: HostRuntime) -> Result<(), Fail> {
-    for (front, inside, behind, want) in [
-        ("", "*.PININFO a:I y:O vdd:B gnd:B\n", "", "IOBB"),
-        ("*.pininfo a:o\n", "", "*.pininfo y:o\n", "IBBB"),
-        (
-            "",
-            " *.PinInfo y:B A:o VDD:i\n*.pininfo a:I x:o y:q y $ y:o\n",
-            "",
-            "IBIB",
-        ),
-        (
-            "",
-            "*.pininfo a:b:o y :o y:io\n* .pininfo a:o\n",
-            "",
-            "IBBB",
-        ),
+    let spread = " *.PinInfo y:B A:o VDD:i\n*.pininfo a:I x:o y:q y $ y:o\n";
+    let wrong = "*.pininfo a:b:o y :o y:io\n* .pininfo a:o\n";
+    for (comments, want) in [
+        (["", "*.PININFO a:I y:O vdd:B gnd:B\n", ""], "IOBB"),
+        (["*.pininfo a:o\n", "", "*.pininfo y:o\n"], "IBBB"),
+        (["", spread, ""], "IBIB"),
+        (["", wrong, ""], "IBBB"),
     ] {
-        assert!(rt;
-            directs_with(rt.alloc(), front, inside, behind, want)?,
-            "{inside}"
-        );
+        assert!(rt; directs_with(rt.alloc(), comments, want)?, "{want}");
     }
     Ok(())
 }
