@@ -106,7 +106,8 @@ impl Slabs {
     pub fn new(alloc: Global, shapes: &Shapes) -> Result<Slabs, NoMemory>
         ensures slabs { IfOk result (λ s. All IsSlab s.list) }
         ensures order { IfOk result (λ s. AllPairs StandsBelow s.list) }
-        ensures cells { IfOk result (λ s. (layer : Layer) (x y : ℤ) → SlabsCover s.list layer x y ↔ Covers (rects_on layer shapes.now.rects) x y) }
+        ensures cells { IfOk result (λ s. (layer : Layer) (x y : ℤ) → SlabsCover s.list layer x y ↔
+            Covers (rects_on layer shapes.now.rects) x y) }
     {
         let slabs = all_slabs(alloc, shapes)?;
         Ok(Slabs {

@@ -78,7 +78,8 @@ pub fn contacts(
 ) -> Result<List<Contact>, NoMemory>
     requires frame { IsSmallFrame frame.now }
     requires trunks { All (λ trunk. trunk.track ≤ 1000) trunks.now }
-    ensures { IfOk result (λ contacts. contacts ≡ filter_map (contact_of frame.now pins.now trunks.now xs.now) nodes.now) }
+    ensures { IfOk result (λ contacts. contacts ≡ filter_map
+        (contact_of frame.now pins.now trunks.now xs.now) nodes.now) }
 {
     let mut contacts = List::new(alloc);
     for node in nodes {

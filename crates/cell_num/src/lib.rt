@@ -19,7 +19,7 @@ pub use length::{Fixed, MOST_UNITS, snap};
 pub use limits::{MOST_BYTES, MOST_COLUMNS, MOST_FINGERS, MOST_NETS};
 pub use lines::{put_count, put_number, put_pair, put_text};
 pub use list::{List, NoMemory};
-pub use name::{MOST_NAME_BYTES, copy, is_name, lower};
+pub use name::{MOST_CELL_BYTES, MOST_NAME_BYTES, copy, is_cell, is_name, lower};
 pub use net::{NetNo, Pins};
 pub use room::Room;
 

@@ -49,7 +49,8 @@ fn saturated(count: u128) -> u64
 fn few_in(row: Row, cell: &Subckt, tech: &Tech) -> Result<(), FoldFault>
     ensures ok { OnOk result (length (fingers_in row tech.now cell.now.devices) ≤ 64) }
     ensures many { IfErr result (λ _. 64 < length (fingers_in row tech.now cell.now.devices)) }
-    ensures err { IfErr result (λ e. e ≡ fault.TooManyFingers (saturated (length (fingers_in row tech.now cell.now.devices)))) }
+    ensures err { IfErr result (λ e. e ≡ fault.TooManyFingers (saturated (length
+        (fingers_in row tech.now cell.now.devices)))) }
 {
     let count = count_in(row, tech, cell.devices.as_slice());
     if count > MOST_IN_A_ROW {

@@ -14,7 +14,8 @@ use gds_record::{GdsRec, RecordType, layers, next_record};
 pub fn field(bytes: &[u8], from: u64, end: RecordType, kind: RecordType) -> Option<GdsRec>
     requires size { length bytes.now ≤ MOST_BYTES }
     requires place { from ≤ length bytes.now }
-    ensures found { option_map (item_of bytes.now) result ≡ find (is_type kind) (until end (items_from bytes.now from)) }
+    ensures found { option_map (item_of bytes.now) result ≡ find (is_type kind) (until end
+        (items_from bytes.now from)) }
     ensures within { IfSome result (λ r. (r.at + 4 ≤ r.next) × (r.next ≤ length bytes.now)) }
 {
     let mut at = from;

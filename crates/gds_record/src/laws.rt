@@ -10,8 +10,11 @@ ghost use Rattle.gds_record.specs.Records.{Raw, IsRaw, IsBytes, IsSpelled, spell
 /// is the one that has it: no two types have one number, and no other number is read as a type. It does
 /// nothing: its contract is the law.
 pub fn spelled_records()
-    ensures written { (before after : List ℕ) (r : Raw) → IsRaw r → record_at (before ++ (spelled r ++ after)) (length before) ≡ Ok (record { at = length before; code = r.code; form = r.form; next = length before + (length r.content + 4) }) }
-    ensures only { (bytes : List ℕ) (at : ℕ) (r : GdsRec) → IsBytes bytes → record_at bytes at ≡ Ok r → IsSpelled bytes at r }
+    ensures written { (before after : List ℕ) (r : Raw) → IsRaw r →
+        record_at (before ++ (spelled r ++ after)) (length before) ≡ Ok (record
+        { at = length before; code = r.code; form = r.form; next = length before + (length r.content + 4) }) }
+    ensures only { (bytes : List ℕ) (at : ℕ) (r : GdsRec) → IsBytes bytes → record_at bytes at ≡ Ok r →
+        IsSpelled bytes at r }
     ensures numbers { (t : RecordType) → type_numbered (number_of t) ≡ Some t }
     ensures numbered_only { (n : ℕ) (t : RecordType) → type_numbered n ≡ Some t → number_of t ≡ n }
 {}

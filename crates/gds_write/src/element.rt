@@ -12,7 +12,8 @@ use gds_record::{RecordType, layers};
 use std::alloc::AllocError;
 
 fn put_layer(out: &mut Vec<u8>, layer: Layer) -> Result<(), AllocError>
-    ensures { OnOk result (out.new.items ≡ out.old.items ++ spelled (raw record_type.Layer (short (layer_number layer)))) }
+    ensures { OnOk result (out.new.items ≡ out.old.items ++ spelled (raw record_type.Layer (short
+        (layer_number layer)))) }
 {
     put(out, RecordType::Layer, &layers::number(layer).to_be_bytes())?;
     Ok(())
@@ -34,7 +35,8 @@ fn put_corners(out: &mut Vec<u8>, shape: &Shape, unit: u32) -> Result<(), AllocE
 
 fn put_boundary_points(out: &mut Vec<u8>, shape: &Shape, unit: u32) -> Result<(), AllocError>
     requires { IsWritableShape unit shape.now }
-    ensures { OnOk result (out.new.items ≡ out.old.items ++ spelled (raw record_type.Xy (corners unit shape.now.rect))) }
+    ensures { OnOk result (out.new.items ≡ out.old.items ++ spelled (raw record_type.Xy
+        (corners unit shape.now.rect))) }
 {
     put_header(out, RecordType::Xy, 40)?;
     put_corners(out, shape, unit)?;
@@ -43,7 +45,8 @@ fn put_boundary_points(out: &mut Vec<u8>, shape: &Shape, unit: u32) -> Result<()
 
 fn put_label_point(out: &mut Vec<u8>, label: &Label, unit: u32) -> Result<(), AllocError>
     requires { IsWritableLabel unit label.now }
-    ensures { OnOk result (out.new.items ≡ out.old.items ++ spelled (raw record_type.Xy (point unit label.now.x label.now.y))) }
+    ensures { OnOk result (out.new.items ≡ out.old.items ++ spelled (raw record_type.Xy
+        (point unit label.now.x label.now.y))) }
 {
     put_header(out, RecordType::Xy, 8)?;
     put_point(out, label.x, label.y, unit)?;

@@ -7,5 +7,7 @@ ghost use Rattle.gds_write.specs.Written.{library_records, written, IsWritableNa
 /// The records that are found in a written library are the ones that were meant, and nothing stands
 /// behind them. It does nothing: its contract is the law.
 pub fn written_records()
-    ensures { (name : List ℕ) (shapes : Shapes) (unit : ℕ) → IsWritableName name → All (IsWritableLabel unit) shapes.labels → records_from (written name shapes unit) 0 ≡ record { items = placed 0 (library_records name shapes unit); fault = Cut (length (written name shapes unit)) } }
+    ensures { (name : List ℕ) (shapes : Shapes) (unit : ℕ) → IsWritableName name →
+        All (IsWritableLabel unit) shapes.labels → records_from (written name shapes unit) 0 ≡ record
+        { items = placed 0 (library_records name shapes unit); fault = Cut (length (written name shapes unit)) } }
 {}

@@ -11,7 +11,8 @@ use std::alloc::AllocError;
 /// The header of a record: its length, its type and its data type.
 pub fn put_header(out: &mut Vec<u8>, kind: RecordType, content: u16) -> Result<(), AllocError>
     requires { content ≤ 1000 }
-    ensures { OnOk result (out.new.items ≡ out.old.items ++ (to_be_bytes w16 (content + 4) ++ number_of kind ∷ data_number_of (data_type_of kind) ∷ [])) }
+    ensures { OnOk result (out.new.items ≡ out.old.items ++ (to_be_bytes w16 (content + 4) ++
+        number_of kind ∷ data_number_of (data_type_of kind) ∷ [])) }
 {
     let [high, low] = (content + 4).to_be_bytes();
     out.extend_from_slice(&[high, low, kind.number(), kind.data_type().number()])

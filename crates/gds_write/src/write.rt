@@ -34,7 +34,8 @@ fn put_head(out: &mut Vec<u8>, name: &[u8]) -> Result<(), AllocError>
 
 fn put_rectangles(out: &mut Vec<u8>, shapes: &[Shape], unit: u32) -> Result<(), AllocError>
     requires { All (IsWritableShape unit) shapes.now }
-    ensures { OnOk result (out.new.items ≡ out.old.items ++ flat_map (λ s. spelling (rectangle_records unit s)) shapes.now) }
+    ensures { OnOk result (out.new.items ≡ out.old.items ++ flat_map (λ s.
+        spelling (rectangle_records unit s)) shapes.now) }
 {
     for shape in shapes {
         put_rectangle(out, shape, unit)?;
@@ -44,7 +45,8 @@ fn put_rectangles(out: &mut Vec<u8>, shapes: &[Shape], unit: u32) -> Result<(), 
 
 fn put_labels(out: &mut Vec<u8>, labels: &[Label], unit: u32) -> Result<(), AllocError>
     requires { All (IsWritableLabel unit) labels.now }
-    ensures { OnOk result (out.new.items ≡ out.old.items ++ flat_map (λ l. spelling (label_records unit l)) labels.now) }
+    ensures { OnOk result (out.new.items ≡ out.old.items ++ flat_map (λ l.
+        spelling (label_records unit l)) labels.now) }
 {
     for label in labels {
         put_label(out, label, unit)?;

@@ -83,11 +83,16 @@ pub fn check_log<B: RowBound>(
 ) -> Result<u32, Refused>
     requires fingers { AreFingers fingers.now }
     requires few { length log.now.lemmas ≤ MOST_BYTES }
-    ensures accepted { IfOk result (λ gaps. WithKinds fingers.now (λ k. IsAccepted (B.value bound.now) k fingers.now log.now gaps)) }
-    ensures refused { IfErr result (λ fault. fault ≢ because.NoMemory → WithKinds fingers.now (λ k. Refuses (B.value bound.now) k fingers.now log.now fault)) }
-    ensures arranges { IfOk result (λ gaps. WithKinds fingers.now (λ k. Lists k log.now.best (λ row. IsArrangement row fingers.now × (gaps ≡ gaps_of row)))) }
-    ensures least { IfOk result (λ gaps. (other : Sequence Column) → IsArrangement other fingers.now → gaps ≤ gaps_of other) }
-    ensures low { IfErr result (Proves (λ best. (other : Sequence Column) → IsArrangement other fingers.now → best ≤ gaps_of other)) }
+    ensures accepted { IfOk result (λ gaps. WithKinds fingers.now (λ k.
+        IsAccepted (B.value bound.now) k fingers.now log.now gaps)) }
+    ensures refused { IfErr result (λ fault. fault ≢ because.NoMemory → WithKinds fingers.now (λ k.
+        Refuses (B.value bound.now) k fingers.now log.now fault)) }
+    ensures arranges { IfOk result (λ gaps. WithKinds fingers.now (λ k. Lists k log.now.best (λ row.
+        IsArrangement row fingers.now × (gaps ≡ gaps_of row)))) }
+    ensures least { IfOk result (λ gaps. (other : Sequence Column) → IsArrangement other fingers.now →
+        gaps ≤ gaps_of other) }
+    ensures low { IfErr result (Proves (λ best. (other : Sequence Column) → IsArrangement other fingers.now →
+        best ≤ gaps_of other)) }
     ensures lemmas { IfOk result (λ _. WithKinds fingers.now (λ k. All (IsTrueOf k) log.now.lemmas)) }
 {
     let seen = see_all(alloc, fingers, log, bound)?;

@@ -63,8 +63,10 @@ impl Known {
 
     /// One bound more of the state with the number. What was noted is as before where the memory is refused.
     pub fn note_at(&mut self, number: u128, bound: u32) -> Result<(), NoMemory>
-        ensures raised { OnOk result ((k : KindsOf) (x : StateOf) → IsState k x → state_code k x ≡ number → (s : StateOf) → IsState k s → best_known self.new k s ≡ raised x bound s (best_known self.old k s)) }
-        ensures unchanged { OnErr result ((k : KindsOf) (s : StateOf) → best_known self.new k s ≡ best_known self.old k s) }
+        ensures raised { OnOk result ((k : KindsOf) (x : StateOf) → IsState k x → state_code k x ≡ number →
+            (s : StateOf) → IsState k s → best_known self.new k s ≡ raised x bound s (best_known self.old k s)) }
+        ensures unchanged { OnErr result ((k : KindsOf) (s : StateOf) →
+            best_known self.new k s ≡ best_known self.old k s) }
         ensures same { OnErr result (noted self.new ≡ noted self.old) }
     {
         let most = kept(&self.bounds, number).max(bound);
@@ -76,8 +78,10 @@ impl Known {
     pub fn note(&mut self, kinds: &Kinds, state: &State, bound: u32) -> Result<(), NoMemory>
         requires kinds { AreSomeKinds kinds.now }
         requires state { IsState kinds.now state.now }
-        ensures raised { OnOk result ((s : StateOf) → IsState kinds.now s → best_known self.new kinds.now s ≡ raised state.now bound s (best_known self.old kinds.now s)) }
-        ensures unchanged { OnErr result ((k : KindsOf) (s : StateOf) → best_known self.new k s ≡ best_known self.old k s) }
+        ensures raised { OnOk result ((s : StateOf) → IsState kinds.now s →
+            best_known self.new kinds.now s ≡ raised state.now bound s (best_known self.old kinds.now s)) }
+        ensures unchanged { OnErr result ((k : KindsOf) (s : StateOf) →
+            best_known self.new k s ≡ best_known self.old k s) }
         ensures same { OnErr result (noted self.new ≡ noted self.old) }
     {
         self.note_at(code(state, kinds), bound)?;

@@ -116,7 +116,8 @@ impl Seen {
         ensures fingers { IfOk result (λ c. c.fingers ≡ fingers.now) }
         ensures version { IfOk result (λ c. c.version ≡ version) }
         ensures count { IfOk result (λ c. c.lemmas ≡ 0) }
-        ensures seen { IfOk result (λ c. (value : RowOf → StateOf → KindsOf → ℕ) → HasSeen value c (empty_log version)) }
+        ensures seen { IfOk result (λ c. (value : RowOf → StateOf → KindsOf → ℕ) →
+            HasSeen value c (empty_log version)) }
     {
         let own = copied(fingers)?;
         let kinds = kinds(alloc, fingers)?;

@@ -72,7 +72,8 @@ fn add_units(
     trunks: &[Trunk],
 ) -> Result<(), NoMemory>
     requires { length placement.now.units ≤ 64 }
-    ensures { OnOk result (list.new ≡ list.old ++ units_from (is_wide pins.now trunks.now placement.now.nodes) 0 placement.now.units) }
+    ensures { OnOk result (list.new ≡ list.old ++ units_from
+        (is_wide pins.now trunks.now placement.now.nodes) 0 placement.now.units) }
 {
     let mut unit = 0;
     for kind in placement.units.as_slice() {

@@ -43,7 +43,8 @@ fn count(fingers: &[Finger], finger: &Finger) -> usize
 
 // Each finger of the list is in the row as often as in the list.
 fn has_counts(columns: &[Column], row: Row, fingers: &[Finger]) -> bool
-    ensures { result ≡ list_all (λ x. count_by (same_finger x) (fingers_in row columns.now) == count_by (same_finger x) fingers.now) fingers.now }
+    ensures { result ≡ list_all (λ x. count_by (same_finger x) (fingers_in row columns.now) == count_by
+        (same_finger x) fingers.now) fingers.now }
 {
     fingers.iter().all(|finger| count_in_row(columns, row, finger) == count(fingers, finger))
 }

@@ -15,9 +15,9 @@ pub fn rows_on_lines()
     ensures seats { (row : List Column) (at : ℕ) (column : Column) → slice_get row at ≡ Some column
         → slice_get (seats_of row) at ≡ Some (record { column = column; unit = unit_of row at }) }
     ensures columns { (row : List Column) → length (seats_of row) ≡ length row }
-    ensures next { (row : List Column) (at : ℕ) (a b : Column) → slice_get row at ≡ Some a → slice_get row (at + 1) ≡ Some b
-        → unit_of row (at + 1)
-        ≡ unit_of row at + length (gap_between (Some a) b) + 1 }
+    ensures next { (row : List Column) (at : ℕ) (a b : Column)
+        → slice_get row at ≡ Some a → slice_get row (at + 1) ≡ Some b
+        → unit_of row (at + 1) ≡ unit_of row at + length (gap_between (Some a) b) + 1 }
     ensures nodes_apart { (row : List Column) (a b : NodePlace) → IsNode row a → IsNode row b
         → a.line < b.line → a.line + 2 ≤ b.line }
     ensures gates_apart { (row : List Column) (a b : GatePlace) → IsGate row a → IsGate row b

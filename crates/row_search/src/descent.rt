@@ -48,7 +48,8 @@ fn row_rule<B: RowBound>(task: &Task<B>, state: &State, allowed: u32) -> Option<
     requires kinds { AreSomeKinds task.now.kinds.now }
     requires state { IsState task.now.kinds.now state.now }
     ensures some { IfSome result (RowReaches (B.value task.now.bound.now) task.now.kinds.now state.now (allowed + 1)) }
-    ensures none { IfNone result (IsFirstRule (B.value task.now.bound.now) task.now.kinds.now state.now (allowed + 1) Branch) }
+    ensures none { IfNone result (IsFirstRule (B.value task.now.bound.now) task.now.kinds.now state.now
+        (allowed + 1) Branch) }
 {
     if task.bound.bound(Row::P, state, task.kinds) > allowed {
         return Some(Rule::P);
@@ -75,10 +76,14 @@ pub(crate) fn visit<B: RowBound>(
     requires lemmas { AreKept (B.value task.now.bound.now) task.now.kinds.now progress.old.lemmas }
     requires knows { KnowsAll task.now.kinds.now progress.old }
     requires low { best_of at.now.state progress.old.lemmas ≤ allowed }
-    ensures further { IsFurther (B.value task.now.bound.now) task.now.kinds.now task.now.budget (columns_left task.now.kinds.now at.now.state + 1) at.now.state allowed progress.old progress.new }
-    ensures failed { IfOk result (λ r. IfNone r (HasFailed task.now.kinds.now at.now.state allowed progress.old progress.new)) }
-    ensures found { IfOk result (λ r. IfSome r (λ steps. HasFound task.now.kinds.now at.now.state allowed steps progress.old progress.new)) }
-    ensures spent { IfErr result (λ halt. halt ≡ Spent → HasSpent task.now.kinds.now task.now.budget at.now.state progress.old progress.new) }
+    ensures further { IsFurther (B.value task.now.bound.now) task.now.kinds.now task.now.budget
+        (columns_left task.now.kinds.now at.now.state + 1) at.now.state allowed progress.old progress.new }
+    ensures failed { IfOk result (λ r. IfNone r (HasFailed task.now.kinds.now at.now.state allowed progress.old
+        progress.new)) }
+    ensures found { IfOk result (λ r. IfSome r (λ steps.
+        HasFound task.now.kinds.now at.now.state allowed steps progress.old progress.new)) }
+    ensures spent { IfErr result (λ halt. halt ≡ Spent →
+        HasSpent task.now.kinds.now task.now.budget at.now.state progress.old progress.new) }
 {
     if progress.nodes() == task.budget {
         return Err(Halt::Spent);

@@ -27,7 +27,8 @@ pub(crate) fn lists(kinds: &[Kind]) -> u64
 fn counts_number(kinds: &[Kind], left: &[u32]) -> u64
     requires few { count_lists kinds.now ≤ 4294967296 }
     requires same { length left.now ≡ length kinds.now }
-    requires within { (i : ℕ) (kind : KindOf) → slice_get kinds.now i ≡ Some kind → slice_index left.now i ≤ kind.count }
+    requires within { (i : ℕ) (kind : KindOf) → slice_get kinds.now i ≡ Some kind →
+        slice_index left.now i ≤ kind.count }
     ensures { result ≡ counts_code kinds.now left.now }
 {
     let mut number = 0;
@@ -67,7 +68,8 @@ pub fn code(state: &State, kinds: &Kinds) -> u128
     requires state { IsState kinds.now state.now }
     ensures code { result ≡ state_code kinds.now state.now }
     ensures below { result < most_states kinds.now }
-    ensures own { (other : StateOf) → IsState kinds.now other → state_code kinds.now other ≡ result → other ≡ state.now }
+    ensures own { (other : StateOf) → IsState kinds.now other → state_code kinds.now other ≡ result →
+        other ≡ state.now }
 {
     let ends = u128::from(kinds.nets) + 1;
     let rows = u128::from(rows_number(state, kinds));

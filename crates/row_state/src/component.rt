@@ -33,7 +33,8 @@ fn own_classes(nets: u32) -> [u8; NETS]
 
 fn rename(classes: &mut [u8; NETS], high: u8, low: u8, nets: u32)
     requires { nets ≤ MOST_NETS }
-    ensures { (u : ℕ) → u < nets → entry classes.new u ≡ (if entry classes.old u == high then low else entry classes.old u) }
+    ensures { (u : ℕ) → u < nets → entry classes.new u ≡
+        (if entry classes.old u == high then low else entry classes.old u) }
 {
     for net in 0..nets as usize {
         classes[net] = if classes[net] == high {

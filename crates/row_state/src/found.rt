@@ -53,7 +53,8 @@ fn is_same(a: &Kind, b: &Kind) -> bool
 fn join(kinds: &mut KindList, current: &mut Kind, kind: &Kind) -> Result<(), NoMemory>
     requires few { current.old.count ≤ MOST_FINGERS }
     requires one { kind.now.count ≤ 1 }
-    ensures joined { OnOk result ((rest : Sequence Kind) → kinds.new ++ merged current.new rest ≡ kinds.old ++ merged current.old (kind.now ∷ rest)) }
+    ensures joined { OnOk result ((rest : Sequence Kind) →
+        kinds.new ++ merged current.new rest ≡ kinds.old ++ merged current.old (kind.now ∷ rest)) }
     ensures count { OnOk result (current.new.count ≤ current.old.count + 1) }
 {
     if is_same(current, kind) {
@@ -94,7 +95,8 @@ fn merge_all(alloc: Global, kinds: &[Kind]) -> Result<KindList, NoMemory>
 
 fn kinds_of(alloc: Global, fingers: &[Finger]) -> Result<KindList, NoMemory>
     requires few { length fingers.now ≤ MOST_COLUMNS }
-    ensures { IfOk result (λ kinds. (row : Row) (nets : ℕ) → All (IsFinger row nets) fingers.now → AreKindsOf row nets fingers.now kinds) }
+    ensures { IfOk result (λ kinds. (row : Row) (nets : ℕ) → All (IsFinger row nets) fingers.now →
+        AreKindsOf row nets fingers.now kinds) }
 {
     let singles = sorted_singles(alloc, fingers)?;
     let kinds = merge_all(alloc, &singles)?;
@@ -120,7 +122,8 @@ pub fn kinds(alloc: Global, fingers: &Fingers) -> Result<Kinds, NoMemory>
     ensures kinds { IfOk result (λ k. AreKinds fingers.now k) }
     ensures sound { IfOk result (λ k. AreSomeKinds k) }
     ensures only { IfOk result (λ k. (other : KindsOf) → AreKinds fingers.now other → AreSomeKinds other → other ≡ k) }
-    ensures arranges { IfOk result (λ k. (row : Sequence Column) → IsArrangement row fingers.now ↔ Completes k (start_of k) row) }
+    ensures arranges { IfOk result (λ k. (row : Sequence Column) → IsArrangement row fingers.now ↔
+        Completes k (start_of k) row) }
 {
     let kinds = kinds_of_rows(alloc, fingers)?;
     Ok(kinds)

@@ -74,7 +74,8 @@ fn push_side(
     requires kinds { AreSomeKinds kinds.now }
     requires state { IsState kinds.now state.now }
     requires on { IsOnGate kinds.now state.now on.now }
-    ensures { OnOk result (steps.new ≡ steps.old ++ with_side (sides_on kinds.now.n state.now.n_left on.now.gate) (ltb on.now.n.left on.now.p.left) p) }
+    ensures { OnOk result (steps.new ≡ steps.old ++ with_side (sides_on kinds.now.n state.now.n_left on.now.gate)
+        (ltb on.now.n.left on.now.p.left) p) }
 {
     let n_kinds = kinds.n.as_slice();
     let n_left = state.n_left.as_slice();
@@ -101,7 +102,9 @@ fn push_kind(
     requires kinds { AreSomeKinds kinds.now }
     requires state { IsState kinds.now state.now }
     requires on { IsOnGate kinds.now state.now on.now }
-    ensures { OnOk result (steps.new ≡ steps.old ++ flat_map (with_side (sides_on kinds.now.n state.now.n_left on.now.gate) (ltb on.now.n.left on.now.p.left)) (turns_left at kind.now count)) }
+    ensures { OnOk result (steps.new ≡ steps.old ++ flat_map (with_side
+        (sides_on kinds.now.n state.now.n_left on.now.gate) (ltb on.now.n.left on.now.p.left))
+        (turns_left at kind.now count)) }
 {
     if count == 0 {
         return Ok(());
@@ -127,7 +130,9 @@ fn push_filled(steps: &mut Steps, state: &State, kinds: &Kinds, on: &OnGate) -> 
     requires kinds { AreSomeKinds kinds.now }
     requires state { IsState kinds.now state.now }
     requires on { IsOnGate kinds.now state.now on.now }
-    ensures { OnOk result (steps.new ≡ steps.old ++ flat_map (with_side (sides_on kinds.now.n state.now.n_left on.now.gate) (ltb on.now.n.left on.now.p.left)) (sides_on kinds.now.p state.now.p_left on.now.gate)) }
+    ensures { OnOk result (steps.new ≡ steps.old ++ flat_map (with_side
+        (sides_on kinds.now.n state.now.n_left on.now.gate) (ltb on.now.n.left on.now.p.left))
+        (sides_on kinds.now.p state.now.p_left on.now.gate)) }
 {
     let p_kinds = kinds.p.as_slice();
     let p_left = state.p_left.as_slice();
@@ -143,7 +148,8 @@ fn push_alone(steps: &mut Steps, state: &State, kinds: &Kinds, on: &OnGate) -> R
     requires kinds { AreSomeKinds kinds.now }
     requires state { IsState kinds.now state.now }
     requires on { IsOnGate kinds.now state.now on.now }
-    ensures { OnOk result (steps.new ≡ steps.old ++ (if ltb on.now.p.left on.now.n.left then with_each None (sides_on kinds.now.n state.now.n_left on.now.gate) else [])) }
+    ensures { OnOk result (steps.new ≡ steps.old ++ (if ltb on.now.p.left on.now.n.left then with_each None
+        (sides_on kinds.now.n state.now.n_left on.now.gate) else [])) }
 {
     if on.p.left < on.n.left {
         let n_kinds = kinds.n.as_slice();

@@ -54,7 +54,8 @@ fn half_stands(state: &State, kinds: &Kinds, next: &Candidate) -> bool
     requires kinds { AreSomeKinds kinds.now }
     requires state { IsState kinds.now state.now }
     requires next { IsCandidate kinds.now next.now }
-    ensures { result ≡ half_test next.now.column.p next.now.column.n (gate_left kinds.now.p state.now.p_left (gate_of_candidate next.now)) (gate_left kinds.now.n state.now.n_left (gate_of_candidate next.now)) }
+    ensures { result ≡ half_test next.now.column.p next.now.column.n (gate_left kinds.now.p state.now.p_left
+        (gate_of_candidate next.now)) (gate_left kinds.now.n state.now.n_left (gate_of_candidate next.now)) }
 {
     match (&next.column.p, &next.column.n) {
         (Some(_), None) => {

@@ -37,7 +37,8 @@ fn toggle_net(set: &mut [bool; NETS], net: u32)
 fn toggle_ends(set: &mut [bool; NETS], kind: &Kind, count: u32)
     requires lo { kind.now.lo.0 < MOST_NETS }
     requires hi { kind.now.hi.0 < MOST_NETS }
-    ensures { (u : ℕ) → slice_index_or set.new u false ≡ cond (adds_odd u (kind.now, count)) (not (slice_index_or set.old u false)) (slice_index_or set.old u false) }
+    ensures { (u : ℕ) → slice_index_or set.new u false ≡
+        cond (adds_odd u (kind.now, count)) (not (slice_index_or set.old u false)) (slice_index_or set.old u false) }
 {
     if count % 2 == 1 {
         toggle_net(set, kind.lo.0);
@@ -141,7 +142,8 @@ pub(crate) fn count_empty(row: Row, state: &State, kinds: &Kinds) -> u32
 fn count_odd_in(row: Row, state: &State, kinds: &Kinds) -> u32
     requires kinds { AreSomeKinds kinds.now }
     requires state { IsState kinds.now state.now }
-    ensures { result ≡ size kinds.now.nets (is_odd_behind (end_of row state.now) (kinds_in row kinds.now) (left_of row state.now)) }
+    ensures { result ≡ size kinds.now.nets (is_odd_behind (end_of row state.now) (kinds_in row kinds.now)
+        (left_of row state.now)) }
 {
     match row {
         Row::P => count_odd(

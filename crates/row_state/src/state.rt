@@ -172,7 +172,8 @@ fn some_left(left: &[u32]) -> bool
 }
 
 fn any_left(state: &State) -> bool
-    ensures { result ≡ (list_any (λ count. ltb 0 count) state.now.p_left || list_any (λ count. ltb 0 count) state.now.n_left) }
+    ensures { result ≡ (list_any (λ count. ltb 0 count) state.now.p_left || list_any (λ count.
+        ltb 0 count) state.now.n_left) }
 {
     some_left(state.p_left.as_slice()) || some_left(state.n_left.as_slice())
 }

@@ -90,7 +90,8 @@ pub fn step_cost(state: &State, step: &Step, kinds: &Kinds) -> u32
     requires state { IsState kinds.now state.now }
     requires step { IsPossible kinds.now state.now step.now }
     ensures cost { result ≡ cost_of state.now (column_of kinds.now step.now) }
-    ensures adds { (rest : Sequence Column) → further_gaps state.now (column_of kinds.now step.now ∷ rest) ≡ result + further_gaps (state_after kinds.now state.now step.now) rest }
+    ensures adds { (rest : Sequence Column) → further_gaps state.now (column_of kinds.now step.now ∷ rest) ≡
+        result + further_gaps (state_after kinds.now state.now step.now) rest }
 {
     column_cost(state, &column(step, kinds))
 }
@@ -152,7 +153,8 @@ pub fn after(alloc: Global, state: &State, step: &Step, kinds: &Kinds) -> Result
     ensures state { IfOk result (λ s. s ≡ state_after kinds.now state.now step.now) }
     ensures valid { IfOk result (λ s. IsState kinds.now s) }
     ensures fewer { IfOk result (λ s. columns_left kinds.now state.now ≡ columns_left kinds.now s + 1) }
-    ensures completes { IfOk result (λ s. (rest : Sequence Column) → Completes kinds.now s rest → Completes kinds.now state.now (column_of kinds.now step.now ∷ rest)) }
+    ensures completes { IfOk result (λ s. (rest : Sequence Column) → Completes kinds.now s rest →
+        Completes kinds.now state.now (column_of kinds.now step.now ∷ rest)) }
 {
     let next = stepped(alloc, state, step, kinds)?;
     Ok(next)

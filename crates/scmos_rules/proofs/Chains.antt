@@ -28,6 +28,14 @@ turned_steps S flip (suc n) a b (m, s, r) = joined S b m a (turned_steps S flip 
 pub turned : {X : Type 0} (S : X → X → Type 0) → ((a b : X) → S a b → S b a) → (a b : X) → Chain S a b → Chain S b a
 turned S flip a b k = turned_steps S flip k.count a b k.steps
 
+-- a chain is followed by one of other things, where each step is
+pub followed : {X Y : Type 0} (S : X → X → Type 0) (T : Y → Y → Type 0) (R : X → Y → Type 0) → ((a b : X) (p : Y) → S a b → R a p → (q : Y) × R b q × Chain T p q) → (n : ℕ) (a b : X) (p : Y) → Steps S n a b → R a p → (q : Y) × R b q × Chain T p q
+followed S T R step zero a b p e r = (p, subst (λ z. R z p) e r, none T p p refl)
+followed S T R step (suc n) a b p (m, s, rest) r =
+    let next = step a m p s r in
+    let more = followed S T R step n m b next.0 rest next.1 in
+    (more.0, more.1, joined T p next.0 more.0 next.2 more.2)
+
 pub flip_edge : (a b : Cell) → Edge a b → Edge b a
 flip_edge a b (to_right e f) = to_left e (sym f)
 flip_edge a b (to_left e f) = to_right e (sym f)
@@ -66,7 +74,7 @@ record Rise (x s : ℤ) : Type 0 where
 rise : (x s : ℤ) → x ≤ℤ s → Rise x s
 rise x s le = record { count = unsigned_abs (s -ℤ x); is = omega (arith, ints) }
 
-in_row : (P : ℤ → ℤ → Type 0) (x s y : ℤ) → x ≤ℤ s → ((z : ℤ) → x ≤ℤ z → z ≤ℤ s → P z y) → Chain (Linked P) (at x y) (at s y)
+pub in_row : (P : ℤ → ℤ → Type 0) (x s y : ℤ) → x ≤ℤ s → ((z : ℤ) → x ≤ℤ z → z ≤ℤ s → P z y) → Chain (Linked P) (at x y) (at s y)
 in_row P x s y le all =
     let w = rise x s le in
     subst (λ z. Chain (Linked P) (at x y) (at z y)) (sym w.is) (along P w.count x y (λ z l h. all z (omega (arith, ints)) (omega (arith, ints))))

@@ -2,6 +2,9 @@ pub mod Around
 pub mod Chains
 pub mod Classing
 pub mod Directions
+pub mod Families
+pub mod FamilyGates
+pub mod Rails
 pub mod Distances
 pub mod Lengths
 pub mod Listing

@@ -18,11 +18,7 @@ use Rattle.std.proofs.lemmas.List.{take_more, append-nil}
 use Rattle.scmos_rules.specs.declared.number.RuleNo.{RuleNo}
 use Rattle.scmos_rules.specs.declared.number.RuleNo.TheVariants.{N1_1}
 use Rattle.scmos_rules.specs.declared.rules.Deck.{Deck}
-use Rattle.scmos_rules.specs.declared.rules.Deck.TheVariants.{Plain}
 use Rattle.scmos_rules.specs.declared.violation.Violation.{Violation}
-
-pub only_plain : (d : Deck) → Plain ≡ d
-only_plain Plain = refl
 
 first_like : (P Q : ℤ → ℤ → Type 0) (x y : ℤ) → ((s t : ℤ) → P s t ↔ Q s t) → IsFirst P x y → IsFirst Q x y
 first_like P Q x y e f = record { covered = (e x y).0 f.covered; first = λ s t q. f.first s t ((e s t).1 q) }
@@ -119,15 +115,15 @@ found d s rules r vs new b is first = record { listed = λ v. (λ c. there v (Co
         record { i = q.at; j = length rules; before = slice_get_within rules q.at v.rule q.is; first = get_left rules (r ∷ []) q.at v.rule q.is; second = subst (λ z. slice_get (rules ++ r ∷ []) (length rules) ≡ Some z) (sym is) (get_last rules r) }
 
 -- the first cell of the region of failing cells
-pub first_failing : (s : List Shape) (r : RuleNo) (region : List Rectangle) (x y u v : ℤ) → AreCells (Fails Plain r s) region → IsFirst (Covers region) u v → x ≡ u → y ≡ v → IsFirst (Fails Plain r s) x y
-first_failing s r region x y u v cells f e g = subst (λ z. IsFirst (Fails Plain r s) z y) (sym e) (subst (IsFirst (Fails Plain r s) u) (sym g) (first_like (Covers region) (Fails Plain r s) u v cells.same f))
+pub first_failing : (d : Deck) (s : List Shape) (r : RuleNo) (region : List Rectangle) (x y u v : ℤ) → AreCells (Fails d r s) region → IsFirst (Covers region) u v → x ≡ u → y ≡ v → IsFirst (Fails d r s) x y
+first_failing d s r region x y u v cells f e g = subst (λ z. IsFirst (Fails d r s) z y) (sym e) (subst (IsFirst (Fails d r s) u) (sym g) (first_like (Covers region) (Fails d r s) u v cells.same f))
 
-pub one_more_rule : (d : Deck) (s : List Shape) (all : List RuleNo) (i : ℕ) (r : RuleNo) (vs new : List Violation) (o : Option Violation) → i < length all → r ≡ get_or all i N1_1 → AreBroken d s (take i all) vs → IsVerdict Plain s r o → new ≡ vs ++ option_to_list o → AreBroken d s (take (i + 1) all) new
+pub one_more_rule : (d : Deck) (s : List Shape) (all : List RuleNo) (i : ℕ) (r : RuleNo) (vs new : List Violation) (o : Option Violation) → i < length all → r ≡ get_or all i N1_1 → AreBroken d s (take i all) vs → IsVerdict d s r o → new ≡ vs ++ option_to_list o → AreBroken d s (take (i + 1) all) new
 one_more_rule d s all i r vs new o lt is b verdict e =
     subst (λ z. AreBroken d s z new) (sym (take_more all i N1_1 lt))
     (subst (λ z. AreBroken d s (take i all ++ z ∷ []) new) is
-    (subst (AreBroken d s (take i all ++ r ∷ [])) (sym e) (by d o (only_plain d) b verdict)))
+    (subst (AreBroken d s (take i all ++ r ∷ [])) (sym e) (by o b verdict)))
   where
-    by : (d : Deck) (o : Option Violation) → Plain ≡ d → AreBroken d s (take i all) vs → IsVerdict Plain s r o → AreBroken d s (take i all ++ r ∷ []) (vs ++ option_to_list o)
-    by Plain None p broken none = subst (AreBroken Plain s (take i all ++ r ∷ [])) (sym (append-nil vs)) (kept Plain s (take i all) r vs broken none)
-    by Plain (Some v) p broken some = found Plain s (take i all) r vs v broken some.rule some.first
+    by : (o : Option Violation) → AreBroken d s (take i all) vs → IsVerdict d s r o → AreBroken d s (take i all ++ r ∷ []) (vs ++ option_to_list o)
+    by None broken none = subst (AreBroken d s (take i all ++ r ∷ [])) (sym (append-nil vs)) (kept d s (take i all) r vs broken none)
+    by (Some v) broken some = found d s (take i all) r vs v broken some.rule some.first

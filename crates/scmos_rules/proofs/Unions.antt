@@ -34,6 +34,9 @@ minus_inner a b r i m = record { inner = λ x y c. i.inner x y ((m x y).0 c).0 }
 pub either_cells : (P Q : ℤ → ℤ → Type 0) (a b r : List Rectangle) → AreCells P a → AreCells Q b → ((x y : ℤ) → Covers r x y ↔ (Covers a x y ⊎ Covers b x y)) → AreCells (λ x y. P x y ⊎ Q x y) r
 either_cells P Q a b r p q m = record { same = λ x y. (λ c. elim ((m x y).0 c) [ inl d ↦ inl ((p.same x y).0 d) | inr d ↦ inr ((q.same x y).0 d) ], λ d. (m x y).1 (elim d [ inl e ↦ inl ((p.same x y).1 e) | inr e ↦ inr ((q.same x y).1 e) ])) }
 
+pub either_inner : (a b r : List Rectangle) → AreInner a → AreInner b → ((x y : ℤ) → Covers r x y ↔ (Covers a x y ⊎ Covers b x y)) → AreInner r
+either_inner a b r i j m = record { inner = λ x y c. elim ((m x y).0 c) [ inl d ↦ i.inner x y d | inr d ↦ j.inner x y d ] }
+
 pub bare_cells : (P Q R : ℤ → ℤ → Type 0) (a b c m r : List Rectangle) → AreCells P a → AreCells Q b → AreCells R c → ((x y : ℤ) → Covers m x y ↔ (Covers a x y × (Covers b x y → ⊥))) → ((x y : ℤ) → Covers r x y ↔ (Covers m x y × (Covers c x y → ⊥))) → AreCells (λ x y. P x y × ((Q x y → ⊥) × (R x y → ⊥))) r
 bare_cells P Q R a b c m r p q s f g = record {
   same = λ x y. (

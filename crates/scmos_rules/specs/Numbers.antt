@@ -1,15 +1,16 @@
 -- The numbers of the rules: how they are printed, and which of them a deck has, in the table's order.
 use Rattle.std.specs.Prelude.{ℕ, List, [], ◌∷◌, codes}
 use Rattle.scmos_rules.specs.declared.number.RuleNo.{RuleNo}
-use Rattle.scmos_rules.specs.declared.number.RuleNo.TheVariants.{N1_1, N2_1, N2_2, N2_3, N3_1, N3_2, N3_3, N3_4, N3_5, N4_2, N5_1, N5_2, N5_3, N5_4, N6_2, N7_1, N7_2, N7_3, N8_1, N8_2, N8_3, N8_4, N8_5, N9_1, N9_2, N9_3}
+use Rattle.scmos_rules.specs.declared.number.RuleNo.TheVariants.{N1_1, N2_1, N2_2, N2_3, N2_4, N3_1, N3_2, N3_3, N3_4, N3_5, N4_2, N5_1, N5_2, N5_3, N5_4, N6_2, N7_1, N7_2, N7_3, N8_1, N8_2, N8_3, N8_4, N8_5, N9_1, N9_2, N9_3}
 use Rattle.scmos_rules.specs.declared.rules.Deck.{Deck}
-use Rattle.scmos_rules.specs.declared.rules.Deck.TheVariants.{Plain}
+use Rattle.scmos_rules.specs.declared.rules.Deck.TheVariants.{Plain, Taps}
 
 abbrev pub text_of : RuleNo → List ℕ
 text_of N1_1 = codes "1.1"
 text_of N2_1 = codes "2.1"
 text_of N2_2 = codes "2.2"
 text_of N2_3 = codes "2.3"
+text_of N2_4 = codes "2.4"
 text_of N3_1 = codes "3.1"
 text_of N3_2 = codes "3.2"
 text_of N3_3 = codes "3.3"
@@ -37,6 +38,17 @@ abbrev pub numbers_of : Deck → List RuleNo
 numbers_of Plain =
     N1_1
     ∷ N2_1 ∷ N2_2 ∷ N2_3
+    ∷ N3_1 ∷ N3_2 ∷ N3_3 ∷ N3_4 ∷ N3_5
+    ∷ N4_2
+    ∷ N5_1 ∷ N5_2 ∷ N5_3 ∷ N5_4
+    ∷ N6_2
+    ∷ N7_1 ∷ N7_2 ∷ N7_3
+    ∷ N8_1 ∷ N8_2 ∷ N8_3 ∷ N8_4 ∷ N8_5
+    ∷ N9_1 ∷ N9_2 ∷ N9_3
+    ∷ []
+numbers_of Taps =
+    N1_1
+    ∷ N2_1 ∷ N2_2 ∷ N2_3 ∷ N2_4
     ∷ N3_1 ∷ N3_2 ∷ N3_3 ∷ N3_4 ∷ N3_5
     ∷ N4_2
     ∷ N5_1 ∷ N5_2 ∷ N5_3 ∷ N5_4

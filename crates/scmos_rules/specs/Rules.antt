@@ -5,11 +5,11 @@ use Rattle.box_geom.specs.declared.shape.Shape.{Shape}
 use Rattle.box_geom.specs.declared.layer.Layer.TheVariants.{Well, Active, PSelect, NSelect, Poly, Contact, Metal1, Via, Metal2}
 use Rattle.scmos_rules.specs.Failing.{IsEmpty, FailsWidth, FailsSpacing, FailsSize, FailsSurround, FailsAway, FailsPartly}
 use Rattle.scmos_rules.specs.Gates.{FailsPolyEnd, FailsActiveEnd, FailsFieldPoly}
-use Rattle.scmos_rules.specs.Layout.{On, Gate, PActive, NActive, PSelected, NSelected, PolyContact, DiffusionContact, BareContact}
+use Rattle.scmos_rules.specs.Layout.{On, Gate, PActive, NActive, PSelected, NSelected, WellTap, SubstrateTap, PolyContact, DiffusionContact, BareContact}
 use Rattle.scmos_rules.specs.Numbers.{numbers_of}
 use Rattle.scmos_rules.specs.declared.rules.Deck.{Deck}
 use Rattle.scmos_rules.specs.declared.number.RuleNo.{RuleNo}
-use Rattle.scmos_rules.specs.declared.number.RuleNo.TheVariants.{N1_1, N2_1, N2_2, N2_3, N3_1, N3_2, N3_3, N3_4, N3_5, N4_2, N5_1, N5_2, N5_3, N5_4, N6_2, N7_1, N7_2, N7_3, N8_1, N8_2, N8_3, N8_4, N8_5, N9_1, N9_2, N9_3}
+use Rattle.scmos_rules.specs.declared.number.RuleNo.TheVariants.{N1_1, N2_1, N2_2, N2_3, N2_4, N3_1, N3_2, N3_3, N3_4, N3_5, N4_2, N5_1, N5_2, N5_3, N5_4, N6_2, N7_1, N7_2, N7_3, N8_1, N8_2, N8_3, N8_4, N8_5, N9_1, N9_2, N9_3}
 
 -- the cells of a layout at which a rule of a deck fails
 abbrev pub Fails : Deck → RuleNo → List Shape → ℤ → ℤ → Type 0
@@ -17,6 +17,7 @@ Fails d N1_1 s x y = FailsWidth (On Well s) 24 x y
 Fails d N2_1 s x y = FailsWidth (On Active s) 6 x y
 Fails d N2_2 s x y = FailsSpacing (On Active s) 6 x y
 Fails d N2_3 s x y = FailsSurround (PActive d s) (On Well s) 12 x y ⊎ FailsAway (NActive d s) (On Well s) 12 x y
+Fails d N2_4 s x y = FailsSurround (WellTap s) (On Well s) 6 x y ⊎ FailsAway (SubstrateTap s) (On Well s) 6 x y
 Fails d N3_1 s x y = FailsWidth (On Poly s) 4 x y
 Fails d N3_2 s x y = FailsSpacing (On Poly s) 6 x y
 Fails d N3_3 s x y = FailsPolyEnd s 4 x y

@@ -2,14 +2,14 @@ ghost use Rattle.std.specs.Prelude.{◌≡◌, ◌≤◌, ◌++◌, length, opti
 ghost use Rattle.scmos_rules.specs.Regions.{AreCells};
 ghost use Rattle.scmos_rules.specs.Rules.{Fails};
 ghost use Rattle.scmos_rules.specs.Violations.{IsVerdict, AreViolations, IsFaultOf};
-ghost use Rattle.scmos_rules.specs.declared.rules.Deck.TheVariants.{Plain};
 
 use crate::apart::spacing;
 use crate::composite::{
-    contact_edge, diffusion_edge, gate_distance, select_edge, via_over_edge, well_edge,
+    contact_edge, diffusion_edge, gate_distance, select_edge, tap_edge, via_over_edge, well_edge,
 };
 use crate::gates::{active_end, field_distance, poly_end};
 use crate::nearby::{layer_not_away, layer_not_surrounded};
+use crate::rules::Deck;
 use crate::runs::{size, width};
 use crate::{RuleFault, RuleNo, Rules, Violation, Violations};
 use box_geom::{Layer, Region, Shapes};
@@ -17,20 +17,21 @@ use cell_num::NoMemory;
 use std::alloc::Global;
 
 // The cells that fail a rule.
-fn failing(alloc: Global, shapes: &Shapes, rule: RuleNo) -> Result<Region, NoMemory>
-    ensures { IfOk result (λ r. AreCells (Fails Plain rule shapes.now.rects) r) }
+fn failing(alloc: Global, shapes: &Shapes, deck: Deck, rule: RuleNo) -> Result<Region, NoMemory>
+    ensures { IfOk result (λ r. AreCells (Fails deck rule shapes.now.rects) r) }
 {
     match rule {
         RuleNo::N1_1 => width(alloc, shapes, Layer::Well, 24),
         RuleNo::N2_1 => width(alloc, shapes, Layer::Active, 6),
         RuleNo::N2_2 => spacing(alloc, shapes, Layer::Active, 6),
-        RuleNo::N2_3 => well_edge(alloc, shapes),
+        RuleNo::N2_3 => well_edge(alloc, shapes, deck),
+        RuleNo::N2_4 => tap_edge(alloc, shapes),
         RuleNo::N3_1 => width(alloc, shapes, Layer::Poly, 4),
         RuleNo::N3_2 => spacing(alloc, shapes, Layer::Poly, 6),
         RuleNo::N3_3 => poly_end(alloc, shapes),
         RuleNo::N3_4 => active_end(alloc, shapes),
         RuleNo::N3_5 => field_distance(alloc, shapes),
-        RuleNo::N4_2 => select_edge(alloc, shapes),
+        RuleNo::N4_2 => select_edge(alloc, shapes, deck),
         RuleNo::N5_1 => size(alloc, shapes, Layer::Contact, 4),
         RuleNo::N5_2 => contact_edge(alloc, shapes),
         RuleNo::N5_3 => spacing(alloc, shapes, Layer::Contact, 6),
@@ -51,10 +52,15 @@ fn failing(alloc: Global, shapes: &Shapes, rule: RuleNo) -> Result<Region, NoMem
 }
 
 // The violation of a rule, where some cell fails it.
-fn verdict(alloc: Global, shapes: &Shapes, rule: RuleNo) -> Result<Option<Violation>, NoMemory>
-    ensures { IfOk result (IsVerdict Plain shapes.now.rects rule) }
+fn verdict(
+    alloc: Global,
+    shapes: &Shapes,
+    deck: Deck,
+    rule: RuleNo,
+) -> Result<Option<Violation>, NoMemory>
+    ensures { IfOk result (IsVerdict deck shapes.now.rects rule) }
 {
-    let region = failing(alloc, shapes, rule)?;
+    let region = failing(alloc, shapes, deck, rule)?;
     match region.first_cell() {
         Some(place) => Ok(Some(Violation {
             rule,
@@ -79,7 +85,7 @@ fn all_broken(alloc: Global, shapes: &Shapes, rules: &Rules) -> Result<Violation
 {
     let mut found = Violations::new(alloc);
     for rule in rules.numbers() {
-        let violation = verdict(alloc, shapes, *rule)?;
+        let violation = verdict(alloc, shapes, rules.deck(), *rule)?;
         add(&mut found, violation)?;
     }
     Ok(found)

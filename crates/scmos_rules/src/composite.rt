@@ -2,48 +2,34 @@
 ghost use Rattle.std.specs.Prelude.{◌≤◌, IfOk};
 ghost use Rattle.box_geom.specs.declared.layer.Layer.TheVariants.{Well, Active, PSelect, NSelect, Poly, Contact, Via};
 ghost use Rattle.scmos_rules.specs.Failing.{FailsSurround, FailsAway, FailsPartly};
-ghost use Rattle.scmos_rules.specs.Layout.{On, Gate, PActive, NActive, PolyContact, DiffusionContact, BareContact};
+ghost use Rattle.scmos_rules.specs.Layout.{On, Gate, WellTap, SubstrateTap, PActive, NActive, PSelected, NSelected, PolyContact, DiffusionContact, BareContact};
 ghost use Rattle.scmos_rules.specs.Regions.{AreCells, EitherOf};
-ghost use Rattle.scmos_rules.specs.declared.rules.Deck.TheVariants.{Plain};
 
 use crate::nearby::{layer_partly, not_away, not_surrounded};
-use crate::sets::{bare_contact, diffusion_contact, gate, n_active, on, p_active, poly_contact};
+use crate::rules::Deck;
+use crate::sets::{
+    bare_contact, diffusion_contact, gate, n_active, n_selected, on, p_active, p_selected,
+    poly_contact, substrate_tap, well_tap,
+};
 use box_geom::{Layer, Region, Shapes};
 use cell_num::NoMemory;
 use std::alloc::Global;
 
-fn p_active_not_in(
-    alloc: Global,
-    shapes: &Shapes,
-    layer: Layer,
-    by: u32,
-) -> Result<Region, NoMemory>
-    requires small { by ≤ 1000 }
-    ensures { IfOk result (λ r. AreCells (FailsSurround (PActive Plain shapes.now.rects) (On layer shapes.now.rects) by) r) }
+fn p_active_not_in_well(alloc: Global, shapes: &Shapes, deck: Deck) -> Result<Region, NoMemory>
+    ensures { IfOk result (λ r. AreCells (FailsSurround (PActive deck shapes.now.rects) (On Well shapes.now.rects) 12) r) }
 {
-    let active = p_active(alloc, shapes)?;
-    let around = on(alloc, shapes, layer)?;
-    match not_surrounded(alloc, &active, &around, by) {
+    let active = p_active(alloc, shapes, deck)?;
+    let well = on(alloc, shapes, Layer::Well)?;
+    match not_surrounded(alloc, &active, &well, 12) {
         Ok(region) => Ok(region),
         Err(error) => Err(error),
     }
 }
 
-fn n_active_not_in(alloc: Global, shapes: &Shapes) -> Result<Region, NoMemory>
-    ensures { IfOk result (λ r. AreCells (FailsSurround (NActive Plain shapes.now.rects) (On NSelect shapes.now.rects) 4) r) }
+fn n_active_near_well(alloc: Global, shapes: &Shapes, deck: Deck) -> Result<Region, NoMemory>
+    ensures { IfOk result (λ r. AreCells (FailsAway (NActive deck shapes.now.rects) (On Well shapes.now.rects) 12) r) }
 {
-    let active = n_active(alloc, shapes)?;
-    let around = on(alloc, shapes, Layer::NSelect)?;
-    match not_surrounded(alloc, &active, &around, 4) {
-        Ok(region) => Ok(region),
-        Err(error) => Err(error),
-    }
-}
-
-fn n_active_near_well(alloc: Global, shapes: &Shapes) -> Result<Region, NoMemory>
-    ensures { IfOk result (λ r. AreCells (FailsAway (NActive Plain shapes.now.rects) (On Well shapes.now.rects) 12) r) }
-{
-    let active = n_active(alloc, shapes)?;
+    let active = n_active(alloc, shapes, deck)?;
     let well = on(alloc, shapes, Layer::Well)?;
     match not_away(alloc, &active, &well, 12) {
         Ok(region) => Ok(region),
@@ -52,23 +38,79 @@ fn n_active_near_well(alloc: Global, shapes: &Shapes) -> Result<Region, NoMemory
 }
 
 // P active too near the end of the well, and N active too near the well.
-pub(crate) fn well_edge(alloc: Global, shapes: &Shapes) -> Result<Region, NoMemory>
-    ensures { IfOk result (λ r. AreCells (EitherOf (FailsSurround (PActive Plain shapes.now.rects) (On Well shapes.now.rects) 12) (FailsAway (NActive Plain shapes.now.rects) (On Well shapes.now.rects) 12)) r) }
+pub(crate) fn well_edge(alloc: Global, shapes: &Shapes, deck: Deck) -> Result<Region, NoMemory>
+    ensures { IfOk result (λ r. AreCells (EitherOf (FailsSurround (PActive deck shapes.now.rects) (On Well shapes.now.rects) 12) (FailsAway (NActive deck shapes.now.rects) (On Well shapes.now.rects) 12)) r) }
 {
-    let inside = p_active_not_in(alloc, shapes, Layer::Well, 12)?;
-    let outside = n_active_near_well(alloc, shapes)?;
+    let inside = p_active_not_in_well(alloc, shapes, deck)?;
+    let outside = n_active_near_well(alloc, shapes, deck)?;
     match inside.either(alloc, &outside) {
         Ok(region) => Ok(region),
         Err(error) => Err(error),
     }
 }
 
-// Active that its select does not surround.
-pub(crate) fn select_edge(alloc: Global, shapes: &Shapes) -> Result<Region, NoMemory>
-    ensures { IfOk result (λ r. AreCells (EitherOf (FailsSurround (PActive Plain shapes.now.rects) (On PSelect shapes.now.rects) 4) (FailsSurround (NActive Plain shapes.now.rects) (On NSelect shapes.now.rects) 4)) r) }
+fn well_tap_not_in_well(alloc: Global, shapes: &Shapes) -> Result<Region, NoMemory>
+    ensures { IfOk result (λ r. AreCells (FailsSurround (WellTap shapes.now.rects) (On Well shapes.now.rects) 6) r) }
 {
-    let p = p_active_not_in(alloc, shapes, Layer::PSelect, 4)?;
-    let n = n_active_not_in(alloc, shapes)?;
+    let taps = well_tap(alloc, shapes)?;
+    let well = on(alloc, shapes, Layer::Well)?;
+    match not_surrounded(alloc, &taps, &well, 6) {
+        Ok(region) => Ok(region),
+        Err(error) => Err(error),
+    }
+}
+
+fn substrate_tap_near_well(alloc: Global, shapes: &Shapes) -> Result<Region, NoMemory>
+    ensures { IfOk result (λ r. AreCells (FailsAway (SubstrateTap shapes.now.rects) (On Well shapes.now.rects) 6) r) }
+{
+    let taps = substrate_tap(alloc, shapes)?;
+    let well = on(alloc, shapes, Layer::Well)?;
+    match not_away(alloc, &taps, &well, 6) {
+        Ok(region) => Ok(region),
+        Err(error) => Err(error),
+    }
+}
+
+// Taps too near the end of the well.
+pub(crate) fn tap_edge(alloc: Global, shapes: &Shapes) -> Result<Region, NoMemory>
+    ensures { IfOk result (λ r. AreCells (EitherOf (FailsSurround (WellTap shapes.now.rects) (On Well shapes.now.rects) 6) (FailsAway (SubstrateTap shapes.now.rects) (On Well shapes.now.rects) 6)) r) }
+{
+    let inside = well_tap_not_in_well(alloc, shapes)?;
+    let outside = substrate_tap_near_well(alloc, shapes)?;
+    match inside.either(alloc, &outside) {
+        Ok(region) => Ok(region),
+        Err(error) => Err(error),
+    }
+}
+
+fn not_in_p_select(alloc: Global, shapes: &Shapes, deck: Deck) -> Result<Region, NoMemory>
+    ensures { IfOk result (λ r. AreCells (FailsSurround (PSelected deck shapes.now.rects) (On PSelect shapes.now.rects) 4) r) }
+{
+    let active = p_selected(alloc, shapes, deck)?;
+    let select = on(alloc, shapes, Layer::PSelect)?;
+    match not_surrounded(alloc, &active, &select, 4) {
+        Ok(region) => Ok(region),
+        Err(error) => Err(error),
+    }
+}
+
+fn not_in_n_select(alloc: Global, shapes: &Shapes, deck: Deck) -> Result<Region, NoMemory>
+    ensures { IfOk result (λ r. AreCells (FailsSurround (NSelected deck shapes.now.rects) (On NSelect shapes.now.rects) 4) r) }
+{
+    let active = n_selected(alloc, shapes, deck)?;
+    let select = on(alloc, shapes, Layer::NSelect)?;
+    match not_surrounded(alloc, &active, &select, 4) {
+        Ok(region) => Ok(region),
+        Err(error) => Err(error),
+    }
+}
+
+// Active that its select does not surround.
+pub(crate) fn select_edge(alloc: Global, shapes: &Shapes, deck: Deck) -> Result<Region, NoMemory>
+    ensures { IfOk result (λ r. AreCells (EitherOf (FailsSurround (PSelected deck shapes.now.rects) (On PSelect shapes.now.rects) 4) (FailsSurround (NSelected deck shapes.now.rects) (On NSelect shapes.now.rects) 4)) r) }
+{
+    let p = not_in_p_select(alloc, shapes, deck)?;
+    let n = not_in_n_select(alloc, shapes, deck)?;
     match p.either(alloc, &n) {
         Ok(region) => Ok(region),
         Err(error) => Err(error),

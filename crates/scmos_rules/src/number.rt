@@ -13,6 +13,8 @@ pub enum RuleNo {
     N2_2,
     /// The well around P active, and its distance to N active.
     N2_3,
+    /// Distances of taps to the end of the well.
+    N2_4,
     /// Width of poly.
     N3_1,
     /// Spacing of poly.
@@ -69,6 +71,7 @@ impl RuleNo {
             RuleNo::N2_1 => b"2.1",
             RuleNo::N2_2 => b"2.2",
             RuleNo::N2_3 => b"2.3",
+            RuleNo::N2_4 => b"2.4",
             RuleNo::N3_1 => b"3.1",
             RuleNo::N3_2 => b"3.2",
             RuleNo::N3_3 => b"3.3",

@@ -1,9 +1,10 @@
 // The sets of cells of a layout that the rules speak of, as regions.
 ghost use Rattle.std.specs.Prelude.{IfOk};
-ghost use Rattle.scmos_rules.specs.Layout.{On, Gate, Diffusion, FieldPoly, PActive, NActive, PolyContact, DiffusionContact, BareContact};
+ghost use Rattle.scmos_rules.specs.Layout.{On, Gate, Diffusion, FieldPoly, InWell, OutOfWell, WellTap, SubstrateTap, PActive, NActive, PSelected, NSelected, PolyContact, DiffusionContact, BareContact};
 ghost use Rattle.scmos_rules.specs.Regions.{AreCells, AreInner};
-ghost use Rattle.scmos_rules.specs.declared.rules.Deck.TheVariants.{Plain};
+ghost use Rattle.scmos_rules.specs.declared.rules.Deck.TheVariants.{Taps};
 
+use crate::rules::Deck;
 use box_geom::{Layer, Region, Shapes};
 use cell_num::NoMemory;
 use std::alloc::Global;
@@ -55,8 +56,8 @@ pub(crate) fn field_poly(alloc: Global, shapes: &Shapes) -> Result<Region, NoMem
     }
 }
 
-pub(crate) fn p_active(alloc: Global, shapes: &Shapes) -> Result<Region, NoMemory>
-    ensures cells { IfOk result (λ r. AreCells (PActive Plain shapes.now.rects) r) }
+fn in_well(alloc: Global, shapes: &Shapes) -> Result<Region, NoMemory>
+    ensures cells { IfOk result (λ r. AreCells (InWell shapes.now.rects) r) }
     ensures inner { IfOk result (λ r. AreInner r) }
 {
     let active = on(alloc, shapes, Layer::Active)?;
@@ -67,8 +68,8 @@ pub(crate) fn p_active(alloc: Global, shapes: &Shapes) -> Result<Region, NoMemor
     }
 }
 
-pub(crate) fn n_active(alloc: Global, shapes: &Shapes) -> Result<Region, NoMemory>
-    ensures cells { IfOk result (λ r. AreCells (NActive Plain shapes.now.rects) r) }
+fn out_of_well(alloc: Global, shapes: &Shapes) -> Result<Region, NoMemory>
+    ensures cells { IfOk result (λ r. AreCells (OutOfWell shapes.now.rects) r) }
     ensures inner { IfOk result (λ r. AreInner r) }
 {
     let active = on(alloc, shapes, Layer::Active)?;
@@ -76,6 +77,120 @@ pub(crate) fn n_active(alloc: Global, shapes: &Shapes) -> Result<Region, NoMemor
     match active.minus(alloc, &well) {
         Ok(region) => Ok(region),
         Err(error) => Err(error),
+    }
+}
+
+pub(crate) fn well_tap(alloc: Global, shapes: &Shapes) -> Result<Region, NoMemory>
+    ensures cells { IfOk result (λ r. AreCells (WellTap shapes.now.rects) r) }
+    ensures inner { IfOk result (λ r. AreInner r) }
+{
+    let active = in_well(alloc, shapes)?;
+    let select = on(alloc, shapes, Layer::NSelect)?;
+    match active.both(alloc, &select) {
+        Ok(region) => Ok(region),
+        Err(error) => Err(error),
+    }
+}
+
+pub(crate) fn substrate_tap(alloc: Global, shapes: &Shapes) -> Result<Region, NoMemory>
+    ensures cells { IfOk result (λ r. AreCells (SubstrateTap shapes.now.rects) r) }
+    ensures inner { IfOk result (λ r. AreInner r) }
+{
+    let active = out_of_well(alloc, shapes)?;
+    let select = on(alloc, shapes, Layer::PSelect)?;
+    match active.both(alloc, &select) {
+        Ok(region) => Ok(region),
+        Err(error) => Err(error),
+    }
+}
+
+fn p_active_beside_taps(alloc: Global, shapes: &Shapes) -> Result<Region, NoMemory>
+    ensures cells { IfOk result (λ r. AreCells (PActive Taps shapes.now.rects) r) }
+    ensures inner { IfOk result (λ r. AreInner r) }
+{
+    let active = in_well(alloc, shapes)?;
+    let select = on(alloc, shapes, Layer::NSelect)?;
+    match active.minus(alloc, &select) {
+        Ok(region) => Ok(region),
+        Err(error) => Err(error),
+    }
+}
+
+fn n_active_beside_taps(alloc: Global, shapes: &Shapes) -> Result<Region, NoMemory>
+    ensures cells { IfOk result (λ r. AreCells (NActive Taps shapes.now.rects) r) }
+    ensures inner { IfOk result (λ r. AreInner r) }
+{
+    let active = out_of_well(alloc, shapes)?;
+    let select = on(alloc, shapes, Layer::PSelect)?;
+    match active.minus(alloc, &select) {
+        Ok(region) => Ok(region),
+        Err(error) => Err(error),
+    }
+}
+
+pub(crate) fn p_active(alloc: Global, shapes: &Shapes, deck: Deck) -> Result<Region, NoMemory>
+    ensures cells { IfOk result (λ r. AreCells (PActive deck shapes.now.rects) r) }
+    ensures inner { IfOk result (λ r. AreInner r) }
+{
+    match deck {
+        Deck::Plain => in_well(alloc, shapes),
+        Deck::Taps => p_active_beside_taps(alloc, shapes),
+    }
+}
+
+pub(crate) fn n_active(alloc: Global, shapes: &Shapes, deck: Deck) -> Result<Region, NoMemory>
+    ensures cells { IfOk result (λ r. AreCells (NActive deck shapes.now.rects) r) }
+    ensures inner { IfOk result (λ r. AreInner r) }
+{
+    match deck {
+        Deck::Plain => out_of_well(alloc, shapes),
+        Deck::Taps => n_active_beside_taps(alloc, shapes),
+    }
+}
+
+fn p_active_and_taps(alloc: Global, shapes: &Shapes) -> Result<Region, NoMemory>
+    ensures cells { IfOk result (λ r. AreCells (PSelected Taps shapes.now.rects) r) }
+    ensures inner { IfOk result (λ r. AreInner r) }
+{
+    let active = p_active_beside_taps(alloc, shapes)?;
+    let taps = substrate_tap(alloc, shapes)?;
+    match active.either(alloc, &taps) {
+        Ok(region) => Ok(region),
+        Err(error) => Err(error),
+    }
+}
+
+fn n_active_and_taps(alloc: Global, shapes: &Shapes) -> Result<Region, NoMemory>
+    ensures cells { IfOk result (λ r. AreCells (NSelected Taps shapes.now.rects) r) }
+    ensures inner { IfOk result (λ r. AreInner r) }
+{
+    let active = n_active_beside_taps(alloc, shapes)?;
+    let taps = well_tap(alloc, shapes)?;
+    match active.either(alloc, &taps) {
+        Ok(region) => Ok(region),
+        Err(error) => Err(error),
+    }
+}
+
+// What P select must surround.
+pub(crate) fn p_selected(alloc: Global, shapes: &Shapes, deck: Deck) -> Result<Region, NoMemory>
+    ensures cells { IfOk result (λ r. AreCells (PSelected deck shapes.now.rects) r) }
+    ensures inner { IfOk result (λ r. AreInner r) }
+{
+    match deck {
+        Deck::Plain => in_well(alloc, shapes),
+        Deck::Taps => p_active_and_taps(alloc, shapes),
+    }
+}
+
+// What N select must surround.
+pub(crate) fn n_selected(alloc: Global, shapes: &Shapes, deck: Deck) -> Result<Region, NoMemory>
+    ensures cells { IfOk result (λ r. AreCells (NSelected deck shapes.now.rects) r) }
+    ensures inner { IfOk result (λ r. AreInner r) }
+{
+    match deck {
+        Deck::Plain => out_of_well(alloc, shapes),
+        Deck::Taps => n_active_and_taps(alloc, shapes),
     }
 }
 

@@ -96,7 +96,8 @@ fn find_end(lines: &[Line]) -> Option<usize>
 
 /// The lines of the subcircuit of a name.
 pub fn choose<'a>(lines: &'a [Line], name: &[u8]) -> Result<Block<'a>, SpiceFault>
-    ensures lines { IfOk result (λ b. chosen_in name.now lines.now ≡ Ok (record { head = b.head.now; inside = b.lines.now })) }
+    ensures lines { IfOk result (λ b. chosen_in name.now lines.now ≡ Ok (record
+        { head = b.head.now; inside = b.lines.now })) }
     ensures fault { IfErr result (λ f. chosen_in name.now lines.now ≡ Err f) }
 {
     let [head, behind @ ..] = from_begin(lines, name) else {

@@ -52,7 +52,8 @@ pub fn are_names(words: &[Name]) -> bool
 
 // a word's value for a key, or the one that was found before
 fn value_or_before<'a>(key: &[u8], word: &'a [u8], before: Option<&'a [u8]>) -> Option<&'a [u8]>
-    ensures { option_map (λ v. v.now) result ≡ last_there (value_in key.now word.now) (option_map (λ v. v.now) before.entry) }
+    ensures { option_map (λ v. v.now) result ≡ last_there (value_in key.now word.now) (option_map (λ v.
+        v.now) before.entry) }
 {
     match word.strip_prefix(key) {
         Some(value) => Some(value),

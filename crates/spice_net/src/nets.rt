@@ -34,7 +34,8 @@ pub fn distinct_names<'a>(alloc: Global, names: &'a [Name]) -> Result<IndexSet<&
 
 // adds the nets that a transistor names
 fn add_nets<'a>(nets: &mut IndexSet<&'a [u8]>, transistor: &'a Transistor) -> Result<(), NoMemory>
-    ensures { OnOk result (names_of nets.new.keys ≡ with_names (names_of nets.old.keys) (named_nets (transistor.now ∷ []))) }
+    ensures { OnOk result (names_of nets.new.keys ≡ with_names (names_of nets.old.keys) (named_nets
+        (transistor.now ∷ []))) }
 {
     add(nets, transistor.drain.as_slice())?;
     add(nets, transistor.gate.as_slice())?;
@@ -48,7 +49,8 @@ pub fn with_nets<'a>(
     names: IndexSet<&'a [u8]>,
     transistors: &'a [Transistor],
 ) -> Result<IndexSet<&'a [u8]>, NoMemory>
-    ensures { IfOk result (λ nets. names_of nets.keys ≡ with_names (names_of names.entry.keys) (named_nets transistors.now)) }
+    ensures { IfOk result (λ nets. names_of nets.keys ≡ with_names (names_of names.entry.keys)
+        (named_nets transistors.now)) }
 {
     let mut nets = names;
     for transistor in transistors {

@@ -65,7 +65,8 @@ pub fn with_rails<'a>(
     tech: &'a Tech,
 ) -> Result<IndexSet<&'a [u8]>, NoMemory>
     ensures pins { IfOk result (λ all. names_of all.keys ≡ with_rails tech.now lines.now (names_of pins.entry.keys)) }
-    ensures distinct { IfOk result (λ all. distinct (names_of pins.entry.keys) ≡ names_of pins.entry.keys → distinct (names_of all.keys) ≡ names_of all.keys) }
+    ensures distinct { IfOk result (λ all. distinct (names_of pins.entry.keys) ≡ names_of pins.entry.keys →
+        distinct (names_of all.keys) ≡ names_of all.keys) }
 {
     let mut all = pins;
     add_rail(&mut all, lines, tech.vdd.as_slice())?;
@@ -82,7 +83,8 @@ fn holds(names: &IndexSet<&[u8]>, name: &[u8]) -> bool
 
 /// Whether both rails are among the pins.
 pub fn has_rails(tech: &Tech, pins: &IndexSet<&[u8]>) -> bool
-    ensures { result ≡ (has_name (names_of pins.now.keys) tech.now.vdd && has_name (names_of pins.now.keys) tech.now.gnd) }
+    ensures { result ≡ (has_name (names_of pins.now.keys) tech.now.vdd && has_name
+        (names_of pins.now.keys) tech.now.gnd) }
 {
     holds(pins, tech.vdd.as_slice()) && holds(pins, tech.gnd.as_slice())
 }
@@ -94,7 +96,8 @@ fn is_idle(tech: &Tech, named: &IndexSet<&[u8]>, pin: &[u8]) -> bool
 }
 
 fn find_idle<'a>(tech: &Tech, named: &IndexSet<&[u8]>, pins: &[&'a [u8]]) -> Option<&'a [u8]>
-    ensures { option_map (λ pin. pin.now) result ≡ find (is_idle tech.now (names_of named.now.keys)) (names_of pins.now) }
+    ensures { option_map (λ pin. pin.now) result ≡ find (is_idle tech.now (names_of named.now.keys))
+        (names_of pins.now) }
 {
     for pin in pins {
         if is_idle(tech, named, pin) {
@@ -113,7 +116,8 @@ pub fn check_pins(
     transistors: &[Transistor],
 ) -> Result<(), SpiceFault>
     ensures right { OnOk result (none_idle (idle_pin tech.now (names_of pins.now.keys) transistors.now) ≡ Ok tt) }
-    ensures fault { IfErr result (λ f. f ≢ fault.NoMemory → none_idle (idle_pin tech.now (names_of pins.now.keys) transistors.now) ≡ Err f) }
+    ensures fault { IfErr result (λ f. f ≢ fault.NoMemory →
+        none_idle (idle_pin tech.now (names_of pins.now.keys) transistors.now) ≡ Err f) }
 {
     let named = with_nets(IndexSet::new(alloc), transistors)?;
     match find_idle(tech, &named, pins.as_slice()) {

@@ -32,8 +32,10 @@ fn take_line(
     line: &Line,
     found: &mut TransistorList,
 ) -> Result<(), SpiceFault>
-    ensures taken { OnOk result ((rest : Result (List TransistorOf) FaultOf) → in_front found.new rest ≡ in_front found.old (with_shown tech.now line.now rest)) }
-    ensures fault { IfErr result (λ f. f ≢ fault.NoMemory → (rest : Result (List TransistorOf) FaultOf) → with_shown tech.now line.now rest ≡ Err f) }
+    ensures taken { OnOk result ((rest : Result (List TransistorOf) FaultOf) →
+        in_front found.new rest ≡ in_front found.old (with_shown tech.now line.now rest)) }
+    ensures fault { IfErr result (λ f. f ≢ fault.NoMemory → (rest : Result (List TransistorOf) FaultOf) →
+        with_shown tech.now line.now rest ≡ Err f) }
 {
     if line.info {
         return Ok(());
@@ -57,7 +59,8 @@ fn read_transistors(
     lines: &[Line],
 ) -> Result<TransistorList, SpiceFault>
     ensures all { IfOk result (λ ts. transistors_of tech.now (without_comments lines.now) ≡ Ok ts) }
-    ensures fault { IfErr result (λ f. f ≢ fault.NoMemory → transistors_of tech.now (without_comments lines.now) ≡ Err f) }
+    ensures fault { IfErr result (λ f. f ≢ fault.NoMemory →
+        transistors_of tech.now (without_comments lines.now) ≡ Err f) }
 {
     let mut found = TransistorList::new(alloc);
     for line in lines {
@@ -89,7 +92,10 @@ fn number_nets(
 ) -> Result<Subckt, NoMemory>
     requires few { index_set_len nets.now ≤ MOST_NETS }
     requires pins { length directions ≤ 64 }
-    ensures { IfOk result (λ cell. (lines : List LineOf) → (names : List (List ℕ)) → directions ≡ directions_in tech.now lines names transistors.now → names_of nets.now.keys ≡ nets_of names transistors.now → cell ≡ subckt_with name.now tech.now lines names transistors.now) }
+    ensures { IfOk result (λ cell. (lines : List LineOf) → (names : List (List ℕ)) →
+        directions ≡ directions_in tech.now lines names transistors.now →
+        names_of nets.now.keys ≡ nets_of names transistors.now →
+        cell ≡ subckt_with name.now tech.now lines names transistors.now) }
 {
     let pins = Pins {
         pins: directions.len() as u32,
@@ -116,8 +122,10 @@ fn number_all<'a>(
 ) -> Result<Subckt, SpiceFault>
     requires once { distinct (names_of pins.keys) ≡ names_of pins.keys }
     requires few { All (λ t. t.copies ≤ most_counted) transistors.now }
-    ensures cell { IfOk result (λ cell. numbered name.now tech.now lines.now (names_of pins.entry.keys) transistors.now ≡ Ok cell) }
-    ensures fault { IfErr result (λ f. f ≢ fault.NoMemory → numbered name.now tech.now lines.now (names_of pins.entry.keys) transistors.now ≡ Err f) }
+    ensures cell { IfOk result (λ cell. numbered name.now tech.now lines.now (names_of pins.entry.keys) transistors.now
+        ≡ Ok cell) }
+    ensures fault { IfErr result (λ f. f ≢ fault.NoMemory →
+        numbered name.now tech.now lines.now (names_of pins.entry.keys) transistors.now ≡ Err f) }
 {
     limit(MOST_PINS, What::Pins, count(&pins))?;
     limit(MOST_DEVICES, What::Devices, count_copies(transistors))?;
@@ -139,8 +147,10 @@ fn join<'a>(
 ) -> Result<Subckt, SpiceFault>
     requires once { distinct (names_of pins.keys) ≡ names_of pins.keys }
     requires few { All (λ t. t.copies ≤ most_counted) transistors.now }
-    ensures cell { IfOk result (λ cell. subckt_of name.now tech.now lines.now (names_of pins.entry.keys) transistors.now ≡ Ok cell) }
-    ensures fault { IfErr result (λ f. f ≢ fault.NoMemory → subckt_of name.now tech.now lines.now (names_of pins.entry.keys) transistors.now ≡ Err f) }
+    ensures cell { IfOk result (λ cell. subckt_of name.now tech.now lines.now
+        (names_of pins.entry.keys) transistors.now ≡ Ok cell) }
+    ensures fault { IfErr result (λ f. f ≢ fault.NoMemory →
+        subckt_of name.now tech.now lines.now (names_of pins.entry.keys) transistors.now ≡ Err f) }
 {
     if !has_rails(tech, &pins) {
         return Err(SpiceFault::NoRail);

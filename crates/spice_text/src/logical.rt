@@ -146,7 +146,8 @@ fn add_comment(alloc: Global, number: u32, line: &[u8], behind: Lines) -> Result
 // takes a physical line without its comment
 #[tactic(auto, using(crate::proofs::Groups::went_on, crate::proofs::Groups::began, crate::proofs::Groups::commented, crate::proofs::Groups::skipped))]
 fn take_line(alloc: Global, number: u32, line: &[u8], state: State) -> Result<State, NoMemory>
-    ensures { IfOk result (λ new. (g : Group) → finish new.done new.last new.behind g ≡ finish state.done state.last state.behind (grouped number line.now g)) }
+    ensures { IfOk result (λ new. (g : Group) → finish new.done new.last new.behind g ≡
+        finish state.done state.last state.behind (grouped number line.now g)) }
 {
     match behind_blanks(line) {
         [] => Ok(state),

@@ -35,7 +35,8 @@ fn known(key: &str) -> bool
 
 // The first unknown key in the order of a table, whose keys ascend by their bytes.
 fn first_unknown(table: &Table) -> Option<&String>
-    ensures first { option_map (λ key. key.now) result ≡ find (λ key. not (is_known (string_bytes key))) (keys table.now) }
+    ensures first { option_map (λ key. key.now) result ≡ find (λ key.
+        not (is_known (string_bytes key))) (keys table.now) }
     ensures ordered { IsOrdered string_cmp table.now }
 {
     table.keys().find(|key| !known(key.as_str()))

@@ -60,7 +60,8 @@ fn listed_at(
     usual: &[&str],
 ) -> Result<Option<Names>, NoMemory>
     requires { as_models (array (texts (map (λ text. text.now) usual.now))) ≡ Some (map (λ text. text.now) usual.now) }
-    ensures { IfOk result (λ ns. ns ≡ as_models (value_at key.now (array (texts (map (λ text. text.now) usual.now))) (table_view table.now))) }
+    ensures { IfOk result (λ ns. ns ≡ as_models (value_at key.now (array (texts (map (λ text.
+        text.now) usual.now))) (table_view table.now))) }
 {
     match value_of(table, key) {
         Some(value) => as_models(alloc, value),
@@ -73,8 +74,10 @@ fn listed_at(
 
 fn models_at(alloc: Global, table: &Table, key: &str, usual: &[&str]) -> Result<Names, TechFault>
     requires { as_models (array (texts (map (λ text. text.now) usual.now))) ≡ Some (map (λ text. text.now) usual.now) }
-    ensures names { IfOk result (λ ns. models_at key.now (map (λ text. text.now) usual.now) (table_view table.now) ≡ Ok ns) }
-    ensures fault { IfErr result (λ f. f ≢ fault.NoMemory → models_at key.now (map (λ text. text.now) usual.now) (table_view table.now) ≡ Err f) }
+    ensures names { IfOk result (λ ns. models_at key.now (map (λ text.
+        text.now) usual.now) (table_view table.now) ≡ Ok ns) }
+    ensures fault { IfErr result (λ f. f ≢ fault.NoMemory → models_at key.now (map (λ text.
+        text.now) usual.now) (table_view table.now) ≡ Err f) }
 {
     match listed_at(alloc, table, key, usual)? {
         Some(names) => Ok(names),

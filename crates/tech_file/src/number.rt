@@ -74,7 +74,8 @@ fn integer_at(table: &Table, key: &str, plain: u32) -> Option<i64>
 fn number_at(alloc: Global, table: &Table, key: &str, limits: &Limits) -> Result<u32, TechFault>
     requires { 0 < limits.now.step }
     ensures number { IfOk result (λ n. number_at key.now limits.now (table_view table.now) ≡ Ok n) }
-    ensures fault { IfErr result (λ f. f ≢ fault.NoMemory → number_at key.now limits.now (table_view table.now) ≡ Err f) }
+    ensures fault { IfErr result (λ f. f ≢ fault.NoMemory →
+        number_at key.now limits.now (table_view table.now) ≡ Err f) }
 {
     let Some(value) = integer_at(table, key, limits.plain) else {
         return Err(bad_form(alloc, key));

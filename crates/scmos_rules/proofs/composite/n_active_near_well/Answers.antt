@@ -1,8 +1,7 @@
 use Rattle.box_geom.specs.declared.layer.Layer.TheVariants.{Well}
 use Rattle.scmos_rules.specs.Layout.{On, NActive}
-use Rattle.scmos_rules.specs.declared.rules.Deck.TheVariants.{Plain}
 use Rattle.scmos_rules.proofs.Distances.{like_away}
 use Rattle.scmos_rules.proofs.composite.n_active_near_well.Goals as goal
 
 pub returns-in-Ok : goal.returns-in-Ok
-returns-in-Ok c = like_away (NActive Plain c.args.shapes.now.rects) (On Well c.args.shapes.now.rects) c.in_ok-active.active c.in_ok-well.well c.in-Ok.region 12 c.in_ok-active.ensures.cells c.in_ok-well.ensures.cells c.in-Ok.ensures
+returns-in-Ok c = like_away (NActive c.args.deck c.args.shapes.now.rects) (On Well c.args.shapes.now.rects) c.in_ok-active.active c.in_ok-well.well c.in-Ok.region 12 c.in_ok-active.ensures.cells c.in_ok-well.ensures.cells c.in-Ok.ensures

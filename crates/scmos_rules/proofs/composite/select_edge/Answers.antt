@@ -1,9 +1,8 @@
 use Rattle.box_geom.specs.declared.layer.Layer.TheVariants.{PSelect, NSelect}
-use Rattle.scmos_rules.specs.Layout.{On, PActive, NActive}
-use Rattle.scmos_rules.specs.declared.rules.Deck.TheVariants.{Plain}
+use Rattle.scmos_rules.specs.Layout.{On, PSelected, NSelected}
 use Rattle.scmos_rules.specs.Failing.{FailsSurround}
 use Rattle.scmos_rules.proofs.Unions.{either_cells}
 use Rattle.scmos_rules.proofs.composite.select_edge.Goals as goal
 
 pub returns-in-Ok : goal.returns-in-Ok
-returns-in-Ok c = either_cells (FailsSurround (PActive Plain c.args.shapes.now.rects) (On PSelect c.args.shapes.now.rects) 4) (FailsSurround (NActive Plain c.args.shapes.now.rects) (On NSelect c.args.shapes.now.rects) 4) c.in_ok-p.p c.in_ok-n.n c.in-Ok.region c.in_ok-p.ensures c.in_ok-n.ensures c.in-Ok.ensures
+returns-in-Ok c = either_cells (FailsSurround (PSelected c.args.deck c.args.shapes.now.rects) (On PSelect c.args.shapes.now.rects) 4) (FailsSurround (NSelected c.args.deck c.args.shapes.now.rects) (On NSelect c.args.shapes.now.rects) 4) c.in_ok-p.p c.in_ok-n.n c.in-Ok.region c.in_ok-p.ensures c.in_ok-n.ensures c.in-Ok.ensures

@@ -1,7 +1,7 @@
 use Rattle.box_geom.specs.declared.layer.Layer.TheVariants.{Well, Active}
 use Rattle.scmos_rules.specs.Layout.{On}
 use Rattle.scmos_rules.proofs.Unions.{both_cells, both_inner}
-use Rattle.scmos_rules.proofs.sets.p_active.Goals as goal
+use Rattle.scmos_rules.proofs.sets.in_well.Goals as goal
 
 pub returns-in-Ok-clause-cells : goal.returns-in-Ok-clause-cells
 returns-in-Ok-clause-cells c = both_cells (On Active c.args.shapes.now.rects) (On Well c.args.shapes.now.rects) c.in_ok-active.active c.in_ok-well.well c.in-Ok.region c.in_ok-active.ensures.cells c.in_ok-well.ensures.cells c.in-Ok.ensures
