@@ -4,3 +4,4 @@ pub mod Routing
 pub mod Told
 pub mod Turn
 pub mod Wires
+pub mod Wiring
