@@ -3,6 +3,7 @@ mod Crossing
 mod Density
 mod Down
 mod Legal
+pub mod LegalWiring
 pub mod OneRouting
 pub mod OneTold
 pub mod Stuck
