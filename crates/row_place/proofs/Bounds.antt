@@ -1,5 +1,6 @@
 -- How many units, lines and places a placement has.
-use Rattle.std.proofs.Common.{ℕ, zero, suc, ◌≡◌, ◌+◌, ◌*◌, ◌<◌, ◌≤◌, ◌⊎◌, List, [], ◌∷◌, Option, Some, None, length, inl, inr, ap, arith, All, AllPairs, Contains, get_or, length-append}
+use Rattle.std.proofs.Common.{ℕ, zero, suc, ◌≡◌, ◌+◌, ◌*◌, ◌<◌, ◌≤◌, ◌⊎◌, List, [], ◌∷◌, Option, Some, None, length, filter_map, inl, inr, refl, sym, ap, subst, arith, All, AllPairs, Contains, get_or, length-append}
+use Rattle.std.specs.List.{cons_option}
 use Rattle.std.proofs.lemmas.Bool.{cases_Bool}
 use Rattle.cell_num.specs.declared.finger.Row.{Row}
 use Rattle.cell_num.specs.declared.finger.Row.TheVariants.{P, N}
@@ -9,10 +10,14 @@ use Rattle.row_place.specs.declared.placement.UnitKind.TheVariants.{Column as Co
 use Rattle.row_place.specs.declared.placement.NodePlace.{NodePlace}
 use Rattle.row_place.specs.declared.placement.GatePlace.{GatePlace}
 use Rattle.row_place.specs.declared.placement.Placement.{Placement}
-use Rattle.row_place.specs.Units.{gap_between, units_behind, units_of, unit_of}
+use Rattle.row_place.specs.Units.{gap_between, units_behind, units_of, unit_of, seats_of}
 use Rattle.row_place.specs.Places.{IsNode, IsGate, StandsBefore, IsPlacement}
+use Rattle.row_place.specs.Steps.{gate_of}
 use Rattle.cell_num.proofs.Lists.{all_from_contains}
 use Rattle.row_place.proofs.Units.{unit_below}
+use Rattle.row_place.proofs.Apart.{nodes_apart}
+use Rattle.row_place.proofs.Seated.{seat_count}
+use Rattle.row_place.proofs.Placed.{only_placement}
 
 at_most_one : (before : Option Column) (c : Column) → length (gap_between before c) ≤ 1
 at_most_one None c = omega arith
@@ -59,31 +64,43 @@ length_from_rising f (x ∷ xs) n up below =
     let top : f (get_or (x ∷ xs) (length xs) x) < n = below (length xs) x (omega arith) in
     omega (arith, last, top)
 
--- the order of node places as a number
+-- the order of node places as a number: node lines are even, so the place over one is counted at the line behind it
 side : Row → ℕ
 side N = 0
 side P = 1
 
 abbrev rank : NodePlace → ℕ
-rank node = 2 * node.line + side node.row
+rank node = node.line + side node.row
 
 side_below : (row : Row) → side row < 2
 unfolding side
 side_below N = omega arith
 side_below P = omega arith
 
-rank_rises : (a b : NodePlace) → StandsBefore a b → rank a < rank b
+rank_rises : (row : List Column) (a b : NodePlace) → IsNode row a → IsNode row b → StandsBefore a b → rank a < rank b
 unfolding side
-rank_rises a b (inl less) = omega (arith, less, side_below a.row, side_below b.row)
-rank_rises a b (inr (same, n, p)) =
+rank_rises row a b ha hb (inl less) = omega (arith, nodes_apart row a b ha hb less, side_below a.row, side_below b.row)
+rank_rises row a b ha hb (inr (same, n, p)) =
     let zero_side : side a.row ≡ 0 = ap side n in
     let one_side : side b.row ≡ 1 = ap side p in
     omega (arith, same, zero_side, one_side)
 
-pub few_nodes : (p : Placement) → IsPlacement p → length p.nodes ≤ 254
-few_nodes p is = length_from_rising rank p.nodes 254 (λ i j d less short. rank_rises (get_or p.nodes i d) (get_or p.nodes j d) (is.node_order i j d less short))
-    (all_from_contains (λ node. rank node < 254) p.nodes (λ node there. omega (arith, node_line p is node there, side_below node.row, few_units p.row is.few, ap length is.units)))
+pub few_nodes : (p : Placement) → IsPlacement p → length p.nodes ≤ 128
+few_nodes p is = length_from_rising rank p.nodes 128 (λ i j d less short. rank_rises p.row (get_or p.nodes i d) (get_or p.nodes j d) (all i d (omega (arith, less, short))) (all j d short) (is.node_order i j d less short))
+    (all_from_contains (λ node. rank node < 128) p.nodes (λ node there. omega (arith, node_line p is node there, side_below node.row, few_units p.row is.few, ap length is.units)))
+  where
+    all : All (IsNode p.row) p.nodes
+    all = all_from_contains (IsNode p.row) p.nodes (λ node there. (is.nodes node).0 there)
 
-pub few_gates : (p : Placement) → IsPlacement p → length p.gates ≤ 126
-few_gates p is = length_from_rising (λ (g : GatePlace). g.line) p.gates 126 is.gate_order
-    (all_from_contains (λ (g : GatePlace). g.line < 126) p.gates (λ gate there. omega (arith, gate_line p is gate there, few_units p.row is.few, ap length is.units)))
+-- what a map that may give nothing gives is at most as much
+length_kept : {X Y : Type 0} (f : X → Option Y) (xs : List X) → length (filter_map f xs) ≤ length xs
+length_kept f [] = omega arith
+length_kept {X} {Y} f (x ∷ xs) = by (f x) refl (length_kept f xs)
+  where
+    by : (o : Option Y) → f x ≡ o → length (filter_map f xs) ≤ length xs → length (filter_map f (x ∷ xs)) ≤ length (x ∷ xs)
+    by None e rest = subst (λ z. length (cons_option z (filter_map f xs)) ≤ length (x ∷ xs)) (sym e) (omega (arith, rest))
+    by (Some y) e rest = subst (λ z. length (cons_option z (filter_map f xs)) ≤ length (x ∷ xs)) (sym e) (omega (arith, rest))
+
+-- a column has one gate at most
+pub few_gates : (p : Placement) → IsPlacement p → length p.gates ≤ 32
+few_gates p is = omega (arith, ap (λ (q : Placement). length q.gates) (only_placement p is), length_kept gate_of (seats_of p.row), seat_count p.row, is.few)

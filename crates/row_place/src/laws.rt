@@ -7,6 +7,7 @@ ghost use Rattle.row_place.specs.declared.placement.Placement.{Placement};
 ghost use Rattle.row_place.specs.Units.{gap_between, units_of, unit_of, seats_of};
 ghost use Rattle.row_place.specs.Places.{IsNode, IsGate, IsPlacement, placement_of};
 
+use crate::MOST_NODES;
 use cell_num::MOST_COLUMNS;
 
 /// Each column of a row has the unit that its place gives; node lines and gate lines alternate. It does
@@ -26,10 +27,15 @@ pub fn rows_on_lines()
         → IsNode row node → IsGate row gate → node.line ≢ gate.line }
 {}
 
-/// A row of at most `MOST_COLUMNS` columns has one placement. It does nothing: its contract is the law.
+/// A row of at most `MOST_COLUMNS` columns has one placement, with few places. It does nothing: its contract is
+/// the law.
 pub fn one_placement()
     ensures is { (row : List Column) → All IsColumn row → length row ≤ MOST_COLUMNS
         → IsPlacement (placement_of row) }
     ensures only { (placement : Placement) → IsPlacement placement
         → placement ≡ placement_of placement.row }
+    ensures few_nodes { (placement : Placement) → IsPlacement placement
+        → length placement.nodes ≤ MOST_NODES }
+    ensures few_gates { (placement : Placement) → IsPlacement placement
+        → length placement.gates ≤ MOST_COLUMNS }
 {}

@@ -8,7 +8,7 @@ mod seat;
 
 pub use laws::{one_placement, rows_on_lines};
 pub use placement::{
-    GateList, GatePlace, MOST_UNITS, NodeList, NodePlace, Placement, Seat, SeatList, UnitKind,
-    UnitList,
+    GateList, GatePlace, MOST_NODES, MOST_UNITS, NodeList, NodePlace, Placement, Seat, SeatList,
+    UnitKind, UnitList,
 };
 pub use places::{place, seats};

@@ -4,6 +4,9 @@ use row_model::{Arrangement, Column};
 /// More units than a row has: before each of its columns there is at most one gap.
 pub const MOST_UNITS: usize = 2 * MOST_COLUMNS;
 
+/// The most node places of a row: one in each of the two rows at each node line.
+pub const MOST_NODES: usize = 2 * MOST_UNITS;
+
 /// What a unit of a row is. Unit `u` has the node lines `2u` and `2u + 2` and the gate line `2u + 1`.
 #[derive(Clone, Copy, Debug, PartialEq, Eq)]
 pub enum UnitKind {
