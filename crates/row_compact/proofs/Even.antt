@@ -1,5 +1,5 @@
 -- Lines at even distances are spread, and every legal routing allows them.
-use Rattle.std.proofs.Common.{ℕ, ◌≡◌, ◌+◌, ◌*◌, ◌<◌, ◌≤◌, List, Some, map, get_or, length, ap, ◌∙◌, arith, Contains}
+use Rattle.std.proofs.Common.{ℕ, ◌≡◌, ◌+◌, ◌*◌, ◌<◌, ◌≤◌, List, map, get_or, length, ap, ◌∙◌, arith, Contains}
 use Rattle.std.specs.List.{range_with_len}
 use Rattle.std.proofs.lemmas.List.{length-map}
 use Rattle.std.proofs.lemmas.List.FromFn.{length-range_with_len, get_or-map-range_with_len}
@@ -9,12 +9,12 @@ use Rattle.cell_num.proofs.In.{Image, in_map}
 use Rattle.row_place.specs.declared.placement.Placement.{Placement}
 use Rattle.row_place.specs.declared.placement.UnitKind.TheVariants.{Column}
 use Rattle.row_place.specs.Places.{IsPlacement}
-use Rattle.channel_route.specs.declared.routing.Trunk.{Trunk}
 use Rattle.channel_route.specs.declared.routing.Routing.{Routing}
 use Rattle.channel_route.specs.Routing.{IsLegal}
+use Rattle.channel_route.proofs.LegalWiring.{legal_wiring}
 use Rattle.row_compact.specs.Allowed.{Stretch, stretch_of, stretches_of, AreAllowed}
 use Rattle.row_compact.specs.Solution.{x_of, AreSpread}
-use Rattle.row_compact.proofs.Within.{trunk_left}
+use Rattle.row_compact.proofs.Within.{wired_left}
 
 even_x : (lines : ℕ) (xs : List ℕ) → xs ≡ map (λ line. 8 + 14 * line) (range_with_len 0 lines) → (line : ℕ) → line < lines → x_of xs line ≡ 8 + 14 * line
 even_x lines xs e line short = ap (λ (ys : List ℕ). get_or ys line 0) e ∙ get_or-map-range_with_len (λ n. 8 + 14 * n) 0 lines line line 0 short (omega arith)
@@ -43,5 +43,5 @@ even_allowed lines xs e p pins r is legal count = record {
     apart a b la lb same less =
         let j : Image stretch_of r.trunks b = in_map stretch_of r.trunks b lb in
         let left' : j.of.left ≡ b.left = ap (λ (z : Stretch). z.left) j.is in
-        let last : j.of.left ≤ 2 * length p.units = trunk_left p pins r is legal j.of j.listed in
+        let last : j.of.left ≤ 2 * length p.units = wired_left p pins r is (legal_wiring p pins r legal) j.of j.listed in
         omega (arith, less, at a.right (omega (arith, last, left', less, count)), at b.left (omega (arith, last, left', count)))

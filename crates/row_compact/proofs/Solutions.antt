@@ -1,5 +1,5 @@
 -- The solutions of the distances are exactly the positions that the row allows.
-use Rattle.std.proofs.Common.{ℕ, zero, suc, ◌≡◌, ◌↔◌, ◌+◌, ◌*◌, ◌<◌, ◌≤◌, ◌==◌, ◌&&◌, ◌⊎◌, ltb, Bool, true, false, cond, List, [], ◌∷◌, ◌++◌, Some, None, length, map, inl, inr, refl, sym, ap, subst, ◌∙◌, arith, All, Contains, filter_map, slice_get, get_or}
+use Rattle.std.proofs.Common.{ℕ, zero, suc, ◌≡◌, ◌↔◌, ◌+◌, ◌*◌, ◌<◌, ◌≤◌, ◌==◌, ◌&&◌, ◌⊎◌, ltb, Bool, true, false, cond, List, [], ◌∷◌, ◌++◌, Some, None, length, inl, inr, refl, sym, ap, subst, ◌∙◌, arith, All, Contains, filter_map, slice_get}
 use Rattle.std.proofs.lemmas.Bool.{and_parts, and_from, eqb-true, eq-eqb, ltb-true, lt-ltb}
 use Rattle.std.proofs.lemmas.List.Elements.{All-nil, All-cons, All-head, All-tail, All-append, All-contains, Contains-append_left, Contains-append_right}
 use Rattle.std.proofs.lemmas.Option.{slice_get_within}
@@ -11,7 +11,7 @@ use Rattle.row_place.specs.Places.{IsPlacement}
 use Rattle.cell_num.proofs.Lists.{some_same, all_from_contains, Kept, kept_from, contains_filter_map}
 use Rattle.channel_route.specs.declared.routing.Trunk.{Trunk}
 use Rattle.channel_route.specs.declared.routing.Routing.{Routing}
-use Rattle.channel_route.specs.Routing.{IsLegal}
+use Rattle.channel_route.specs.Wiring.{IsWiring}
 use Rattle.row_compact.specs.declared.distance.Distance.{Distance}
 use Rattle.row_compact.specs.declared.distance.Distances.{Distances}
 use Rattle.row_compact.specs.Solution.{x_of, IsEntry, IsKept, IsSolution}
@@ -19,7 +19,7 @@ use Rattle.row_compact.specs.Allowed.{Stretch, stretch_of, stretches_of, HasCont
 use Rattle.row_compact.specs.Entries.{entry, is_wide, least_in, units_from, pair_entry, pairs_of, entries_of}
 use Rattle.row_compact.proofs.Decide.{wide_decides}
 use Rattle.cell_num.proofs.In.{Image, in_map, contains_map, Piece, in_flat, contains_flat}
-use Rattle.row_compact.proofs.Within.{trunk_left}
+use Rattle.row_compact.proofs.Within.{wired_left}
 
 -- the distances of a unit are kept
 record KeepsUnit (xs : List ℕ) (wide : ℕ → Bool) (unit : ℕ) (kind : UnitKind) : Type 0 where
@@ -111,8 +111,8 @@ half_of (suc line) = next (half_of line)
     next (u, inr e) = (u + 1, inl (omega (arith, e)))
 
 -- from the solutions to the allowed positions
-solution_allowed : (p : Placement) (pins : Pins) (r : Routing) (d : Distances) → IsLegal p pins r → d.lines ≡ 2 * length p.units + 1 → d.list ≡ entries_of p pins r.trunks → (xs : List ℕ) → IsSolution d xs → AreAllowed p pins (stretches_of r.trunks) xs
-solution_allowed p pins r d legal lines list xs s = record {
+solution_allowed : (p : Placement) (pins : Pins) (r : Routing) (d : Distances) → IsWiring p pins r → d.lines ≡ 2 * length p.units + 1 → d.list ≡ entries_of p pins r.trunks → (xs : List ℕ) → IsSolution d xs → AreAllowed p pins (stretches_of r.trunks) xs
+solution_allowed p pins r d wiring lines list xs s = record {
   lines = s.lines ∙ lines;
   first = s.first;
   next = next;
@@ -150,13 +150,13 @@ solution_allowed p pins r d legal lines list xs s = record {
     left : (unit : ℕ) → slice_get p.units unit ≡ Some Column → HasContact p pins (2 * unit) → x_of xs (2 * unit) + 11 ≤ x_of xs (2 * unit + 1)
     left unit e h =
         let k : KeepsUnit xs (is_wide pins r.trunks p.nodes) unit Column = in_unit unit Column e in
-        let w : is_wide pins r.trunks p.nodes (2 * unit) ≡ true = (wide_decides p pins r legal (2 * unit)).1 h in
+        let w : is_wide pins r.trunks p.nodes (2 * unit) ≡ true = (wide_decides p pins r wiring (2 * unit)).1 h in
         subst (λ b. x_of xs (2 * unit) + least_in Column b ≤ x_of xs (2 * unit + 1)) w k.before
 
     right : (unit : ℕ) → slice_get p.units unit ≡ Some Column → HasContact p pins (2 * unit + 2) → x_of xs (2 * unit + 1) + 11 ≤ x_of xs (2 * unit + 2)
     right unit e h =
         let k : KeepsUnit xs (is_wide pins r.trunks p.nodes) unit Column = in_unit unit Column e in
-        let w : is_wide pins r.trunks p.nodes (2 * unit + 2) ≡ true = (wide_decides p pins r legal (2 * unit + 2)).1 h in
+        let w : is_wide pins r.trunks p.nodes (2 * unit + 2) ≡ true = (wide_decides p pins r wiring (2 * unit + 2)).1 h in
         subst (λ b. x_of xs (2 * unit + 1) + least_in Column b ≤ x_of xs (2 * unit + 2)) w k.behind
 
     apart : (a b : Stretch) → Contains (stretches_of r.trunks) a → Contains (stretches_of r.trunks) b → a.track ≡ b.track → a.right < b.left → x_of xs a.right + 14 ≤ x_of xs b.left
@@ -171,15 +171,15 @@ solution_allowed p pins r d legal lines list xs s = record {
         omega (arith, kept, ap (λ n. x_of xs n) right', ap (λ n. x_of xs n) left')
 
 -- and back
-allowed_solution : (p : Placement) (pins : Pins) (r : Routing) (d : Distances) → IsLegal p pins r → d.lines ≡ 2 * length p.units + 1 → d.list ≡ entries_of p pins r.trunks → (xs : List ℕ) → AreAllowed p pins (stretches_of r.trunks) xs → IsSolution d xs
-allowed_solution p pins r d legal lines list xs a = record {
+allowed_solution : (p : Placement) (pins : Pins) (r : Routing) (d : Distances) → IsWiring p pins r → d.lines ≡ 2 * length p.units + 1 → d.list ≡ entries_of p pins r.trunks → (xs : List ℕ) → AreAllowed p pins (stretches_of r.trunks) xs → IsSolution d xs
+allowed_solution p pins r d wiring lines list xs a = record {
   lines = a.lines ∙ sym lines;
   first = a.first;
   kept = subst (λ z. All (IsKept xs) z) (sym list) (All-append (IsKept xs) (units_from (is_wide pins r.trunks p.nodes) 0 p.units) (pairs_of r.trunks) (units_kept xs (is_wide pins r.trunks p.nodes) 0 p.units in_unit) (all_from_contains (IsKept xs) (pairs_of r.trunks) pair));
 }
   where
     before : (u : ℕ) (kind : UnitKind) (w : Bool) → is_wide pins r.trunks p.nodes (2 * u) ≡ w → slice_get p.units u ≡ Some kind → x_of xs (2 * u) + least_in kind w ≤ x_of xs (2 * u + 1)
-    before u Column true e is = a.left u is ((wide_decides p pins r legal (2 * u)).0 e)
+    before u Column true e is = a.left u is ((wide_decides p pins r wiring (2 * u)).0 e)
     before u Column false e is = a.next (2 * u) (omega (arith, slice_get_within p.units u Column is))
     before u Gap w e is = a.next (2 * u) (omega (arith, slice_get_within p.units u Gap is))
 
@@ -189,7 +189,7 @@ allowed_solution p pins r d legal lines list xs a = record {
         omega (arith, a.next (2 * u + 1) short, ap (λ n. x_of xs n) e)
 
     behind : (u : ℕ) (kind : UnitKind) (w : Bool) → is_wide pins r.trunks p.nodes (2 * u + 2) ≡ w → slice_get p.units u ≡ Some kind → x_of xs (2 * u + 1) + least_in kind w ≤ x_of xs (2 * u + 2)
-    behind u Column true e is = a.right u is ((wide_decides p pins r legal (2 * u + 2)).0 e)
+    behind u Column true e is = a.right u is ((wide_decides p pins r wiring (2 * u + 2)).0 e)
     behind u Column false e is = further_on u (omega (arith, slice_get_within p.units u Column is))
     behind u Gap w e is = further_on u (omega (arith, slice_get_within p.units u Gap is))
 
@@ -203,8 +203,8 @@ allowed_solution p pins r d legal lines list xs a = record {
         let f : FromPair r.trunks d = from_pair r.trunks d there in
         subst (λ z. IsKept xs z) (sym f.pair.is) (a.apart (stretch_of f.left) (stretch_of f.right) (contains_map stretch_of r.trunks f.left f.left_there) (contains_map stretch_of r.trunks f.right f.right_there) f.pair.track f.pair.apart)
 
-pub solutions : (p : Placement) (pins : Pins) (r : Routing) (d : Distances) → IsLegal p pins r → d.lines ≡ 2 * length p.units + 1 → d.list ≡ entries_of p pins r.trunks → (xs : List ℕ) → IsSolution d xs ↔ AreAllowed p pins (stretches_of r.trunks) xs
-solutions p pins r d legal lines list xs = (solution_allowed p pins r d legal lines list xs, allowed_solution p pins r d legal lines list xs)
+pub solutions : (p : Placement) (pins : Pins) (r : Routing) (d : Distances) → IsWiring p pins r → d.lines ≡ 2 * length p.units + 1 → d.list ≡ entries_of p pins r.trunks → (xs : List ℕ) → IsSolution d xs ↔ AreAllowed p pins (stretches_of r.trunks) xs
+solutions p pins r d wiring lines list xs = (solution_allowed p pins r d wiring lines list xs, allowed_solution p pins r d wiring lines list xs)
 
 -- entries ascend, within the lines
 modest : (kind : UnitKind) (wide : Bool) → least_in kind wide ≤ 1000
@@ -219,12 +219,12 @@ units_ascend lines wide start (kind ∷ kinds) short =
     (All-cons (IsEntry lines) (entry (2 * start + 1) (2 * start + 2) (least_in kind (wide (2 * start + 2)))) (units_from wide (start + 1) kinds) (record { ascends = omega arith; within = omega (arith, short); modest = modest kind (wide (2 * start + 2)) })
     (units_ascend lines wide (start + 1) kinds (omega (arith, short))))
 
-pub ascending : (p : Placement) (pins : Pins) (r : Routing) (d : Distances) → IsPlacement p → IsLegal p pins r → d.lines ≡ 2 * length p.units + 1 → d.list ≡ entries_of p pins r.trunks → All (IsEntry d.lines) d.list
-ascending p pins r d is legal lines list = subst (λ z. All (IsEntry d.lines) z) (sym list) (All-append (IsEntry d.lines) (units_from (is_wide pins r.trunks p.nodes) 0 p.units) (pairs_of r.trunks) (units_ascend d.lines (is_wide pins r.trunks p.nodes) 0 p.units (omega (arith, lines))) (all_from_contains (IsEntry d.lines) (pairs_of r.trunks) pair))
+pub ascending : (p : Placement) (pins : Pins) (r : Routing) (d : Distances) → IsPlacement p → IsWiring p pins r → d.lines ≡ 2 * length p.units + 1 → d.list ≡ entries_of p pins r.trunks → All (IsEntry d.lines) d.list
+ascending p pins r d is wiring lines list = subst (λ z. All (IsEntry d.lines) z) (sym list) (All-append (IsEntry d.lines) (units_from (is_wide pins r.trunks p.nodes) 0 p.units) (pairs_of r.trunks) (units_ascend d.lines (is_wide pins r.trunks p.nodes) 0 p.units (omega (arith, lines))) (all_from_contains (IsEntry d.lines) (pairs_of r.trunks) pair))
   where
     pair : (z : Distance) → Contains (pairs_of r.trunks) z → IsEntry d.lines z
     pair z there =
         let f : FromPair r.trunks z = from_pair r.trunks z there in
-        let last : f.right.left ≤ 2 * length p.units = trunk_left p pins r is legal f.right f.right_there in
+        let last : f.right.left ≤ 2 * length p.units = wired_left p pins r is wiring f.right f.right_there in
         let apart : f.left.right < f.right.left = f.pair.apart in
         subst (λ e. IsEntry d.lines e) (sym f.pair.is) (record { ascends = apart; within = omega (arith, last, lines); modest = omega arith })

@@ -1,4 +1,4 @@
--- The lines of a legal routing are lines of the placement.
+-- The lines of a wiring are lines of the placement.
 use Rattle.std.proofs.Common.{ℕ, ◌*◌, ◌≤◌, ◌==◌, length, map, filter, ap, arith, All, Contains}
 use Rattle.std.proofs.lemmas.List.Elements.{All-append, All-map, All-filter, All-contains}
 use Rattle.cell_num.specs.declared.net.NetNo.{NetNo}
@@ -7,12 +7,14 @@ use Rattle.row_place.specs.declared.placement.NodePlace.{NodePlace}
 use Rattle.row_place.specs.declared.placement.GatePlace.{GatePlace}
 use Rattle.row_place.specs.declared.placement.Placement.{Placement}
 use Rattle.row_place.specs.Places.{IsPlacement}
-use Rattle.row_place.specs.Trunks.{lines_of, IsSpan}
+use Rattle.row_place.specs.Trunks.{lines_of}
 use Rattle.cell_num.proofs.Lists.{all_from_contains}
 use Rattle.row_place.proofs.Bounds.{few_units, node_line, gate_line}
 use Rattle.channel_route.specs.declared.routing.Trunk.{Trunk}
 use Rattle.channel_route.specs.declared.routing.Routing.{Routing}
 use Rattle.channel_route.specs.Routing.{IsLegal}
+use Rattle.channel_route.specs.Wiring.{AreEnds, IsWiring}
+use Rattle.channel_route.proofs.LegalWiring.{legal_wiring}
 
 pub few : (p : Placement) → IsPlacement p → length p.units ≤ 63
 few p is = omega (arith, few_units p.row is.few, ap length is.units)
@@ -25,12 +27,14 @@ net_lines p is net = All-append (λ line. line ≤ 2 * length p.units) (map (λ 
 pub net_line : (p : Placement) → IsPlacement p → (net : NetNo) (line : ℕ) → Contains (lines_of p net) line → line ≤ 2 * length p.units
 net_line p is net line there = All-contains (λ z. z ≤ 2 * length p.units) (lines_of p net) line (net_lines p is net) there
 
-pub trunk_line : (p : Placement) (pins : Pins) (r : Routing) → IsPlacement p → IsLegal p pins r → (t : Trunk) → Contains r.trunks t → t.right ≤ 2 * length p.units
-trunk_line p pins r is legal t there =
-    let span : IsSpan p t.net t.left t.right = All-contains (λ (u : Trunk). IsSpan p u.net u.left u.right) r.trunks t legal.spans there in
-    net_line p is t.net t.right span.ends
+ends : (p : Placement) (pins : Pins) (r : Routing) → IsWiring p pins r → (t : Trunk) → Contains r.trunks t → AreEnds p t
+ends p pins r wiring t there = All-contains (AreEnds p) r.trunks t wiring.ends there
 
-pub trunk_left : (p : Placement) (pins : Pins) (r : Routing) → IsPlacement p → IsLegal p pins r → (t : Trunk) → Contains r.trunks t → t.left ≤ 2 * length p.units
-trunk_left p pins r is legal t there =
-    let span : IsSpan p t.net t.left t.right = All-contains (λ (u : Trunk). IsSpan p u.net u.left u.right) r.trunks t legal.spans there in
-    net_line p is t.net t.left span.begins
+pub wired_right : (p : Placement) (pins : Pins) (r : Routing) → IsPlacement p → IsWiring p pins r → (t : Trunk) → Contains r.trunks t → t.right ≤ 2 * length p.units
+wired_right p pins r is wiring t there = let e : AreEnds p t = ends p pins r wiring t there in net_line p is t.net t.right e.right
+
+pub wired_left : (p : Placement) (pins : Pins) (r : Routing) → IsPlacement p → IsWiring p pins r → (t : Trunk) → Contains r.trunks t → t.left ≤ 2 * length p.units
+wired_left p pins r is wiring t there = let e : AreEnds p t = ends p pins r wiring t there in net_line p is t.net t.left e.left
+
+pub trunk_line : (p : Placement) (pins : Pins) (r : Routing) → IsPlacement p → IsLegal p pins r → (t : Trunk) → Contains r.trunks t → t.right ≤ 2 * length p.units
+trunk_line p pins r is legal t there = wired_right p pins r is (legal_wiring p pins r legal) t there

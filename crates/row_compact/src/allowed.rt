@@ -4,7 +4,7 @@ ghost use Rattle.std.specs.Prelude.{◌≡◌, ◌≤◌, ◌+◌, ◌*◌, ◌+
 ghost use Rattle.row_place.specs.Places.{IsPlacement};
 ghost use Rattle.channel_route.specs.Routing.{IsLegal};
 ghost use Rattle.row_compact.specs.Solution.{IsEntry};
-ghost use Rattle.row_compact.specs.Allowed.{AreDistances, stretches_of};
+ghost use Rattle.row_compact.specs.Allowed.{AreWiring, AreDistances, stretches_of};
 ghost use Rattle.row_compact.specs.Entries.{is_rail, has_trunk, is_contacted, is_wide, least_in, two_entries, units_from, pair_entry, pairs_of, entries_of};
 
 use crate::{Distance, DistanceList, Distances, MOST_LINES};
@@ -141,6 +141,26 @@ pub fn lines_of(placement: &Placement) -> u32
     lines_of_units(placement.units.len())
 }
 
+/// The distances that the lines of a placement keep under a wiring of these trunks. Their solutions are
+/// exactly the positions that the row allows.
+pub fn wiring_distances(
+    alloc: Global,
+    placement: &Placement,
+    trunks: &[Trunk],
+    pins: &Pins,
+) -> Result<Distances, NoMemory>
+    requires placement { IsPlacement placement.now }
+    requires wiring { AreWiring placement.now pins.now trunks.now }
+    ensures solutions { IfOk result (AreDistances placement.now pins.now (stretches_of trunks.now)) }
+    ensures lines { IfOk result (λ d. d.lines ≡ 2 * length placement.now.units + 1) }
+    ensures few { IfOk result (λ d. d.lines ≤ MOST_LINES) }
+    ensures ascending { IfOk result (λ d. All (IsEntry d.lines) d.list) }
+{
+    let list = entries(alloc, placement, pins, trunks)?;
+    let lines = lines_of(placement);
+    Ok(Distances { lines, list })
+}
+
 /// The distances that the lines of a placement keep under a legal routing. Their solutions are exactly
 /// the positions that the row allows.
 pub fn distances(
@@ -156,7 +176,5 @@ pub fn distances(
     ensures few { IfOk result (λ d. d.lines ≤ MOST_LINES) }
     ensures ascending { IfOk result (λ d. All (IsEntry d.lines) d.list) }
 {
-    let list = entries(alloc, placement, pins, routing.trunks.as_slice())?;
-    let lines = lines_of(placement);
-    Ok(Distances { lines, list })
+    wiring_distances(alloc, placement, routing.trunks.as_slice(), pins)
 }

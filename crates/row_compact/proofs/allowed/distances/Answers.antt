@@ -1,23 +1,10 @@
-use Rattle.std.proofs.Common.{◌≡◌, ◌+◌, ◌*◌, length, arith, rules}
-use Rattle.row_compact.specs.declared.distance.Distances.{Distances}
-use Rattle.row_compact.specs.Entries.{entries_of}
-use Rattle.row_compact.proofs.Solutions.{solutions, ascending}
-use Rattle.row_compact.proofs.Within.{few}
+use Rattle.std.proofs.Common.{◌≡◌, sym, subst, rules}
+use Rattle.channel_route.proofs.LegalWiring.{legal_wiring}
+use Rattle.row_compact.specs.Allowed.{AreWiring}
 use Rattle.row_compact.proofs.allowed.distances.Goals as goal
 
-pub entries-requires : goal.entries-requires
-entries-requires c = omega (arith, few c.args.placement.now c.requires.placement)
-
-pub returns-clause-solutions : goal.returns-clause-solutions
-returns-clause-solutions c =
-    let list : c.in_ok-list.list ≡ entries_of c.args.placement.now c.args.pins.now c.args.routing.now.trunks = search rules in
-    let lines : c.lines_of-lines.result ≡ 2 * length c.args.placement.now.units + 1 = search rules in
-    let d : Distances = record { lines = c.lines_of-lines.result; list = c.in_ok-list.list } in
-    solutions c.args.placement.now c.args.pins.now c.args.routing.now d c.requires.routing lines list
-
-pub returns-clause-ascending : goal.returns-clause-ascending
-returns-clause-ascending c =
-    let list : c.in_ok-list.list ≡ entries_of c.args.placement.now c.args.pins.now c.args.routing.now.trunks = search rules in
-    let lines : c.lines_of-lines.result ≡ 2 * length c.args.placement.now.units + 1 = search rules in
-    let d : Distances = record { lines = c.lines_of-lines.result; list = c.in_ok-list.list } in
-    ascending c.args.placement.now c.args.pins.now c.args.routing.now d c.requires.placement c.requires.routing lines list
+pub wiring_distances-requires-clause-wiring : goal.wiring_distances-requires-clause-wiring
+wiring_distances-requires-clause-wiring c =
+    let same : c.as_slice.result.now ≡ c.args.routing.now.trunks = search rules in
+    subst (λ trunks. AreWiring c.args.placement.now c.args.pins.now trunks) (sym same)
+    (record { tracks = c.args.routing.now.tracks; wiring = legal_wiring c.args.placement.now c.args.pins.now c.args.routing.now c.requires.routing })
