@@ -1,3 +1,4 @@
+pub mod BareCells
 pub mod Covering
 pub mod Events
 pub mod Facing

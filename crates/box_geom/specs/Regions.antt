@@ -49,9 +49,17 @@ pub record IsFirst (P : ℤ → ℤ → Type 0) (x y : ℤ) : Type 0 where
   pub covered : P x y
   pub first : (s t : ℤ) → P s t → NotAfter x y s t
 
+-- the set has no cell
+abbrev pub IsEmpty : (ℤ → ℤ → Type 0) → Type 0
+IsEmpty P = (x y : ℤ) → P x y → ⊥
+
 -- the list covers no cell
 abbrev pub CoversNone : List Rectangle → Type 0
-CoversNone rs = (x y : ℤ) → Covers rs x y → ⊥
+CoversNone rs = IsEmpty (Covers rs)
+
+-- the first list covers the cell, and the second one does not
+abbrev pub Bare : List Rectangle → List Rectangle → ℤ → ℤ → Type 0
+Bare first second x y = Covers first x y × (Covers second x y → ⊥)
 
 -- a way of at most 1,000
 pub record IsSmall (d : ℤ) : Type 0 where

@@ -158,7 +158,7 @@ pub(crate) fn ranges(
     ensures { IfOk result (λ v. AreRangesOf operation first.now second.now v.items) }
 {
     let mut events = events_of_both(alloc, first, second)?;
-    events.sort_unstable();
+    events.sort()?;
     let spans = all_slots(alloc, operation, events.as_slice())?;
     match joined(alloc, spans.as_slice()) {
         Ok(made) => Ok(made),

@@ -8,8 +8,8 @@ pub returns-in-Ok : goal.returns-in-Ok
 returns-in-Ok c =
     let a = c.args.first.now in
     let b = c.args.second.now in
-    let sorted = c.sort_unstable.new.self.items in
+    let sorted = c.sort.new.self.items in
     let moved : IsPermutation (all_events a b) sorted = search rules in
     let spans : c.in_ok-spans.spans.items ≡ all_slots c.args.operation sorted = search rules in
     let made : c.in-Ok.made.items ≡ all_joined c.in_ok-spans.spans.items = search rules in
-    ranges_are c.args.operation a b sorted c.in_ok-spans.spans.items c.in-Ok.made.items moved c.sort_unstable.ensures.sorted spans made
+    ranges_are c.args.operation a b sorted c.in_ok-spans.spans.items c.in-Ok.made.items moved c.in_ok-sort.ensures.sorted spans made
