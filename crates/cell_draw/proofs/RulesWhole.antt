@@ -1,13 +1,18 @@
 -- The shapes of a layout obey the rules.
-use Rattle.std.proofs.Common.{◌≡◌, ℕ, ◌≤◌, arith}
+use Rattle.std.proofs.Common.{◌≡◌, ℕ, ◌≤◌, Bool, true, false, refl, arith}
+use Rattle.std.specs.List.{Contains}
+use Rattle.std.proofs.lemmas.Bool.{false≢true}
 use Rattle.std.proofs.lemmas.Int.{ints}
+use Rattle.std.proofs.lemmas.List.Elements.{All-contains}
+use Rattle.std.proofs.lemmas.List.Sums.{AllPass-from_list_all}
 use Rattle.box_geom.specs.Rectangle.{Rectangle, IsProper}
 use Rattle.box_geom.specs.Layers.{rects_on}
 use Rattle.box_geom.specs.declared.layer.Layer.TheVariants.{Well, Active, Poly, Contact as ContactCut, Metal1, Via, Metal2}
 use Rattle.scmos_rules.specs.declared.rules.Deck.TheVariants.{Plain}
 use Rattle.scmos_rules.specs.declared.number.RuleNo.{RuleNo}
-use Rattle.scmos_rules.specs.declared.number.RuleNo.TheVariants.{N1_1, N2_1, N2_2, N2_3, N3_1, N3_2, N3_3, N3_4, N3_5, N4_2, N5_1, N5_2, N5_3, N5_4, N6_2, N7_1, N7_2, N7_3, N8_1, N8_2, N8_3, N8_4, N8_5, N9_1, N9_2, N9_3}
+use Rattle.scmos_rules.specs.declared.number.RuleNo.TheVariants.{N1_1, N2_1, N2_2, N2_3, N2_4, N3_1, N3_2, N3_3, N3_4, N3_5, N4_2, N5_1, N5_2, N5_3, N5_4, N6_2, N7_1, N7_2, N7_3, N8_1, N8_2, N8_3, N8_4, N8_5, N9_1, N9_2, N9_3}
 use Rattle.scmos_rules.specs.Failing.{IsEmpty}
+use Rattle.scmos_rules.specs.Numbers.{numbers_of}
 use Rattle.scmos_rules.specs.Rules.{Fails, Obeys}
 use Rattle.scmos_rules.specs.Conditions.{IsWide, IsSquare}
 use Rattle.scmos_rules.proofs.Widths.{width}
@@ -91,34 +96,44 @@ n9_2 l w =
     let rs = rects_on Metal2 (shapes_of l) in
     spacing_by_touch rs 8 (touching (IsSignal l) (branch_rect l) over.SameNet 8 rs (on_metal2 l) (λ a h. proper 6 (branch_rect l a) (omega arith) (branch_wide l w a h)) (branch_pairs l w))
 
-each : (l : Layout) (w : IsLaid l) (rule : RuleNo) → IsEmpty (Fails Plain rule (shapes_of l))
-each l w N1_1 = n1_1 l w
-each l w N2_1 = n2_1 l w
-each l w N2_2 = n2_2 l w
-each l w N2_3 = n2_3 l w
-each l w N3_1 = n3_1 l w
-each l w N3_2 = n3_2 l w
-each l w N3_3 = n3_3 l w
-each l w N3_4 = n3_4 l w
-each l w N3_5 = n3_5 l w
-each l w N4_2 = n4_2 l w
-each l w N5_1 = n5_1 l w
-each l w N5_2 = n5_2 l w
-each l w N5_3 = n5_3 l w
-each l w N5_4 = n5_4 l w
-each l w N6_2 = n6_2 l w
-each l w N7_1 = n7_1 l w
-each l w N7_2 = n7_2 l w
-each l w N7_3 = n7_3 l w
-each l w N8_1 = n8_1 l w
-each l w N8_2 = n8_2 l w
-each l w N8_3 = n8_3 l w
-each l w N8_4 = n8_4 l w
-each l w N8_5 = n8_5 l w
-each l w N9_1 = n9_1 l w
-each l w N9_2 = n9_2 l w
-each l w N9_3 = n9_3 l w
+-- every rule but the one on taps
+abbrev is_plain : RuleNo → Bool
+is_plain N2_4 = false
+is_plain rule = true
+
+plain_rules : (rule : RuleNo) → Contains (numbers_of Plain) rule → is_plain rule ≡ true
+plain_rules rule listed =
+    All-contains (λ r. is_plain r ≡ true) (numbers_of Plain) rule (AllPass-from_list_all is_plain (numbers_of Plain) refl) listed
+
+each : (l : Layout) (w : IsLaid l) (rule : RuleNo) → Contains (numbers_of Plain) rule → IsEmpty (Fails Plain rule (shapes_of l))
+each l w N1_1 listed = n1_1 l w
+each l w N2_1 listed = n2_1 l w
+each l w N2_2 listed = n2_2 l w
+each l w N2_3 listed = n2_3 l w
+each l w N2_4 listed = absurd (false≢true (plain_rules N2_4 listed))
+each l w N3_1 listed = n3_1 l w
+each l w N3_2 listed = n3_2 l w
+each l w N3_3 listed = n3_3 l w
+each l w N3_4 listed = n3_4 l w
+each l w N3_5 listed = n3_5 l w
+each l w N4_2 listed = n4_2 l w
+each l w N5_1 listed = n5_1 l w
+each l w N5_2 listed = n5_2 l w
+each l w N5_3 listed = n5_3 l w
+each l w N5_4 listed = n5_4 l w
+each l w N6_2 listed = n6_2 l w
+each l w N7_1 listed = n7_1 l w
+each l w N7_2 listed = n7_2 l w
+each l w N7_3 listed = n7_3 l w
+each l w N8_1 listed = n8_1 l w
+each l w N8_2 listed = n8_2 l w
+each l w N8_3 listed = n8_3 l w
+each l w N8_4 listed = n8_4 l w
+each l w N8_5 listed = n8_5 l w
+each l w N9_1 listed = n9_1 l w
+each l w N9_2 listed = n9_2 l w
+each l w N9_3 listed = n9_3 l w
 
 -- Every layout that is laid as asked obeys the rules.
 pub obeys : (l : Layout) → IsLaid l → Obeys Plain (shapes_of l)
-obeys l w = record { none = λ rule listed. each l w rule }
+obeys l w = record { none = λ rule listed. each l w rule listed }
