@@ -5,16 +5,17 @@ use Rattle.std.proofs.Math.Nat.{mod-lt, mul-le-mul}
 use Rattle.std.proofs.lemmas.Bool.{cases_eq}
 use Rattle.std.proofs.lemmas.Grind.{div_ceil_times, flat_map-append}
 use Rattle.std.proofs.lemmas.List.{length-replicate, length-append, append-nil}
-use Rattle.std.proofs.lemmas.List.Elements.{filter-append, All-weaker}
+use Rattle.std.proofs.lemmas.List.Elements.{filter-append, All-head, All-weaker}
 use Rattle.std.proofs.lemmas.List.Concat.{flat_map-cons}
 use Rattle.cell_num.specs.declared.finger.Row.{Row}
 use Rattle.cell_num.specs.declared.finger.Row.TheVariants.{P, N}
+use Rattle.cell_num.specs.declared.finger.Fingers.{Fingers}
 use Rattle.cell_num.specs.Tests.{same_row}
 use Rattle.spice_net.specs.declared.subckt.Device.{Device}
 use Rattle.spice_net.specs.declared.subckt.Subckt.{Subckt}
 use Rattle.spice_net.specs.Subckts.{IsSubckt, IsDevice}
 use Rattle.tech_file.specs.Technology.{Technology, IsTechnology}
-use Rattle.finger_fold.specs.Folding.{widest, count_of, finger_of, shared_out, fingers_of, fingers_in}
+use Rattle.finger_fold.specs.Folding.{widest, count_of, finger_of, shared_out, fingers_of, fingers_in, all_fingers}
 
 pub least_widest : (tech : Technology) (row : Row) → IsTechnology tech → 12 ≤ widest tech row
 least_widest tech P limits = limits.wmax_p_least
@@ -97,3 +98,16 @@ length_more row tech xs ys = ap length (fingers_append row tech xs ys) ∙ lengt
 
 pub some_width : (cell : Subckt) → IsSubckt cell → All (λ (d : Device). 0 < d.width) cell.devices
 some_width cell holds = All-weaker (IsDevice (length cell.nets) cell.pins) (λ (d : Device). 0 < d.width) (λ d h. omega (arith, h.least)) cell.devices holds.devices
+
+-- ---- a subcircuit has a finger
+
+first_some : (tech : Technology) (d : Device) (ds : List Device) (own : Row) → d.row ≡ own → IsTechnology tech → 0 < d.width → 1 ≤ length (fingers_in P tech (d ∷ ds)) + length (fingers_in N tech (d ∷ ds))
+first_some tech d ds P e limits units = omega (arith, length_more P tech (d ∷ []) ds, length_in_row P tech d limits e, count_positive tech d limits units)
+first_some tech d ds N e limits units = omega (arith, length_more N tech (d ∷ []) ds, length_in_row N tech d limits e, count_positive tech d limits units)
+
+some_in_rows : (tech : Technology) (ds : List Device) → IsTechnology tech → 1 ≤ length ds → All (λ (d : Device). 0 < d.width) ds → 1 ≤ length (fingers_in P tech ds) + length (fingers_in N tech ds)
+some_in_rows tech [] limits some units = absurd (omega (arith, some))
+some_in_rows tech (d ∷ ds) limits some units = first_some tech d ds d.row refl limits (All-head (λ (d : Device). 0 < d.width) d ds units)
+
+pub some_fingers : (tech : Technology) (cell : Subckt) (f : Fingers) → IsTechnology tech → IsSubckt cell → f ≡ all_fingers tech cell → 1 ≤ length f.p + length f.n
+some_fingers tech cell f limits h e = rw e (some_in_rows tech cell.devices limits h.some (some_width cell h))

@@ -1,4 +1,4 @@
-ghost use Rattle.std.specs.Prelude.{◌≡◌, ◌≢◌, ◌<◌, ◌≤◌, length, Ok, Err, OnOk, IfOk, IfErr};
+ghost use Rattle.std.specs.Prelude.{◌≡◌, ◌≢◌, ◌+◌, ◌<◌, ◌≤◌, length, Ok, Err, OnOk, IfOk, IfErr};
 ghost use Rattle.cell_num.specs.declared.finger.Row.TheVariants.{P, N};
 ghost use Rattle.cell_num.specs.Fingers.{AreFingers, AreSound};
 ghost use Rattle.spice_net.specs.Subckts.{IsSubckt};
@@ -84,8 +84,9 @@ pub fn fold(alloc: Global, cell: &Subckt, tech: &Tech) -> Result<Fingers, FoldFa
     // Memory alone makes it NoMemory: the definition never answers so.
     ensures told { folded tech.now cell.now ≢ Err fault.NoMemory }
 
-    // What the layers above ask of fingers, and that these are the cell's.
+    // What the layers above ask of fingers, and that these are the cell's. There is one in a row at least.
     ensures asked { IfOk result (λ f. AreFingers f) }
+    ensures some { IfOk result (λ f. 1 ≤ length f.p + length f.n) }
     ensures few_p { IfOk result (λ f. length f.p ≤ 64) }
     ensures few_n { IfOk result (λ f. length f.n ≤ 64) }
     ensures sound { IfOk result (λ f. AreSound cell.now.nets cell.now.pins f) }

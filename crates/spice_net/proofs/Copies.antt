@@ -40,6 +40,12 @@ all_copies P [] all = all
 all_copies P (t ∷ ts) all =
     subst (λ (us : List Transistor). All P us) (sym (first_copies t ts)) (All-append P (replicate t.copies t) (with_copies ts) (All-replicate P t.copies t (All-head P t ts all)) (all_copies P ts (All-tail P t ts all)))
 
+-- each line stands for some transistor, so there are no fewer transistors than lines
+pub copies_no_fewer : (ts : List Transistor) → All (λ (t : Transistor). 1 ≤ t.copies) ts → length ts ≤ length (with_copies ts)
+copies_no_fewer [] some = omega arith
+copies_no_fewer (t ∷ ts) some =
+    omega (arith, All-head (λ (t : Transistor). 1 ≤ t.copies) t ts some, copies_no_fewer ts (All-tail (λ (t : Transistor). 1 ≤ t.copies) t ts some), ap length (first_copies t ts), length-append (replicate t.copies t) (with_copies ts), length-replicate t.copies t)
+
 any_replicate : (Q : Device → Type 0) (n : ℕ) (d : Device) → 1 ≤ n → Q d → Any Q (replicate n d)
 any_replicate Q n d some q = (0, d, omega (arith, some, length-replicate n d), get_or-replicate n 0 d d (omega (arith, some)), q)
 

@@ -31,7 +31,7 @@ use Rattle.spice_net.proofs.NetFacts.{one_name, nets_differ}
 use Rattle.spice_net.proofs.SoundNets.{has_distinct, has_itself, numbered, same_numbered, number_at, first_numbered, distinct_longer, distinct_push}
 use Rattle.cell_num.proofs.Steps.{granted_step, granted_require}
 use Rattle.spice_net.proofs.SoundLines.{IsRight, all_right}
-use Rattle.spice_net.proofs.Copies.{all_copies, any_copies}
+use Rattle.spice_net.proofs.Copies.{all_copies, any_copies, copies_no_fewer}
 
 -- ---- the pins
 
@@ -56,6 +56,7 @@ pub record IsAccepted (tech : Technology) (pins : List (List ℕ)) (ts : List Tr
   pub vdd : has_name pins tech.vdd ≡ true
   pub gnd : has_name pins tech.gnd ≡ true
   pub none_idle : idle_pin tech pins ts ≡ None
+  pub some : 1 ≤ length ts
   pub few_pins : length pins ≤ 64
   pub few_devices : length (with_copies ts) ≤ 128
   pub few_nets : length (nets_of pins ts) ≤ 256
@@ -67,6 +68,10 @@ required false g u e = absurd cc
 none_there : (o : Option (List ℕ)) (u : Unit {0}) → none_idle o ≡ Ok u → o ≡ None
 none_there None u e = refl
 none_there (Some pin) u e = absurd cc
+
+some_there : (ts : List Transistor) → not (length ts == 0) ≡ true → 1 ≤ length ts
+some_there [] e = absurd cc
+some_there (t ∷ ts) e = omega arith
 
 pub accepted : (name : List ℕ) (tech : Technology) (lines : List Line) (pins : List (List ℕ)) (ts : List Transistor) (cell : Subckt) → subckt_of name tech lines pins ts ≡ Ok cell → IsAccepted tech pins ts × (subckt_with name tech lines pins ts ≡ cell)
 accepted name tech lines pins ts cell e =
@@ -81,6 +86,7 @@ accepted name tech lines pins ts cell e =
         vdd = both.0;
         gnd = both.1;
         none_idle = none_there (idle_pin tech pins ts) idle.0 idle.1;
+        some = some_there ts some.0;
         few_pins = leb-true (length pins) 64 few_pins.0;
         few_devices = leb-true (length (with_copies ts)) 128 few_devices.0;
         few_nets = leb-true (length (nets_of pins ts)) 256 (required (nat_le (length (nets_of pins ts)) 256) (fault.TooMany what.Nets (length (nets_of pins ts))) few.0 few_devices.1);
@@ -253,6 +259,7 @@ sound_with name tech lines pins ts ok right = record {
   few_nets = ok.few_nets;
   names_differ = nets_differ pins ts (nets_of pins ts) refl;
   devices = are_devices (nets_of pins ts) tech (length pins) (with_copies ts) (all_copies (IsRight tech) ts right) (all_copies (AreNamed (nets_of pins ts) tech) ts (all_named (nets_of pins ts) tech ts (all_among pins ts) (pin_named pins ts tech.vdd ok.vdd) (pin_named pins ts tech.gnd ok.gnd)));
+  some = omega (arith, ok.some, copies_no_fewer ts (some_copies tech ts right), length-map (with_copies ts) (device_of (nets_of pins ts)));
   met = λ net lt no_rail. any_copies (Joins net) (device_of (nets_of pins ts)) ts (some_copies tech ts right) (is_met tech pins ts (length pins) net ok.none_idle lt no_rail);
 }
 
