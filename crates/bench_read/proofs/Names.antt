@@ -1,13 +1,13 @@
 -- The name of a generated cell is one word in lower case, and no other cell's.
-use Rattle.std.specs.Prelude.{ℕ, ◌≡◌, ◌≢◌, ◌<◌, ◌≤◌, ◌^◌, ◌==◌, ◌&&◌, nat_le, Bool, true, false, List, [], ◌∷◌, bytes_eq, decimal, drop, length, All}
+use Rattle.std.specs.Prelude.{ℕ, ◌≡◌, ◌≢◌, ◌<◌, ◌≤◌, ◌^◌, ◌==◌, ◌&&◌, nat_le, Bool, true, false, List, [], ◌∷◌, bytes_eq, decimal, drop, length, All, IsTrue}
 use Rattle.std.specs.Char.{to_ascii_lowercase}
 use Rattle.std.specs.List.{list_all}
 use Rattle.std.proofs.Common.{refl, ap, arith}
-use Rattle.std.proofs.lemmas.Bool.{and_parts, eqb-true, false_from_ne_true, leb-true}
+use Rattle.std.proofs.lemmas.Bool.{and_from, and_parts, eqb-true, false_from_ne_true, le-leb, leb-true}
 use Rattle.std.proofs.lemmas.Fmt.{decimal_injective, length-decimal-le}
 use Rattle.std.proofs.lemmas.List.Elements.{All-cons, All-nil}
 use Rattle.std.proofs.lemmas.Slice.Eq.{bytes_eq-Decides}
-use Rattle.cell_num.specs.Names.{lowered}
+use Rattle.cell_num.specs.Names.{lowered, is_cell, is_cell_byte}
 use Rattle.cell_bench.specs.Text.{cell_name}
 use Rattle.bench_read.specs.Read.{IsCellName}
 use Rattle.bench_read.proofs.Digits.{digits_pass}
@@ -49,6 +49,14 @@ pub name_fits : (cell : ℕ) → cell < 2 ^ 64 → IsCellName (cell_name cell)
 name_fits cell small =
     let few : length (decimal cell) ≤ 20 = length-decimal-le 20 cell (omega arith) (omega (arith, small)) small in
     record { some = omega arith; few = omega (arith, few); printable = all_printable (cell_name cell) (digits_pass is_printable refl cell) }
+
+pub name_is_cell : (cell : ℕ) → cell < 2 ^ 64 → IsTrue (is_cell (cell_name cell))
+name_is_cell cell small =
+    let fits = name_fits cell small in
+    let some : nat_le 1 (length (cell_name cell)) ≡ true = le-leb 1 (length (cell_name cell)) fits.some in
+    let few : nat_le (length (cell_name cell)) 32 ≡ true = le-leb (length (cell_name cell)) 32 (omega (arith, fits.few)) in
+    and_from (nat_le 1 (length (cell_name cell)) && nat_le (length (cell_name cell)) 32) (list_all is_cell_byte (cell_name cell))
+    (and_from (nat_le 1 (length (cell_name cell))) (nat_le (length (cell_name cell)) 32) some few) (digits_pass is_cell_byte refl cell)
 
 pub names_differ : (one other : ℕ) → one < 2 ^ 64 → other < 2 ^ 64 → one ≢ other → bytes_eq (cell_name one) (cell_name other) ≡ false
 names_differ one other first second differ =

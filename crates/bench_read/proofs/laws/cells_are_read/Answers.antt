@@ -1,4 +1,4 @@
-use Rattle.bench_read.proofs.Names.{name_fits}
+use Rattle.bench_read.proofs.Names.{name_fits, name_is_cell}
 use Rattle.bench_read.proofs.Whole.{cell_is_read}
 use Rattle.bench_read.proofs.laws.cells_are_read.Goals as goal
 
@@ -7,3 +7,6 @@ returns-clause-read c = cell_is_read
 
 pub returns-clause-name : goal.returns-clause-name
 returns-clause-name c = name_fits
+
+pub returns-clause-cell : goal.returns-clause-cell
+returns-clause-cell c = name_is_cell
