@@ -11,6 +11,7 @@ use Rattle.channel_route.specs.declared.routing.Routing.{Routing}
 use Rattle.channel_route.specs.declared.routing.Trunk.{Trunk}
 use Rattle.channel_route.specs.Routing.{IsLegal}
 use Rattle.channel_route.specs.Wiring.{IsWiring}
+use Rattle.row_compact.specs.declared.measure.TheConstants.{SIDE_SPACE, LINE_SPACE, CONTACT_SPACE, STRETCH_SPACE}
 use Rattle.row_compact.specs.declared.distance.Distances.{Distances}
 use Rattle.row_compact.specs.Solution.{x_of, IsSolution}
 
@@ -43,11 +44,11 @@ pub record HasContact (placement : Placement) (pins : Pins) (line : ℕ) : Type 
 -- track keep 14 between them.
 pub record AreAllowed (placement : Placement) (pins : Pins) (stretches : List Stretch) (xs : List ℕ) : Type 0 where
   pub lines : length xs ≡ 2 * length placement.units + 1
-  pub first : 8 ≤ x_of xs 0
-  pub next : (line : ℕ) → line < 2 * length placement.units → x_of xs line + 8 ≤ x_of xs (line + 1)
-  pub left : (unit : ℕ) → slice_get placement.units unit ≡ Some Column → HasContact placement pins (2 * unit) → x_of xs (2 * unit) + 11 ≤ x_of xs (2 * unit + 1)
-  pub right : (unit : ℕ) → slice_get placement.units unit ≡ Some Column → HasContact placement pins (2 * unit + 2) → x_of xs (2 * unit + 1) + 11 ≤ x_of xs (2 * unit + 2)
-  pub apart : (a b : Stretch) → Contains stretches a → Contains stretches b → a.track ≡ b.track → a.right < b.left → x_of xs a.right + 14 ≤ x_of xs b.left
+  pub first : SIDE_SPACE ≤ x_of xs 0
+  pub next : (line : ℕ) → line < 2 * length placement.units → x_of xs line + LINE_SPACE ≤ x_of xs (line + 1)
+  pub left : (unit : ℕ) → slice_get placement.units unit ≡ Some Column → HasContact placement pins (2 * unit) → x_of xs (2 * unit) + CONTACT_SPACE ≤ x_of xs (2 * unit + 1)
+  pub right : (unit : ℕ) → slice_get placement.units unit ≡ Some Column → HasContact placement pins (2 * unit + 2) → x_of xs (2 * unit + 1) + CONTACT_SPACE ≤ x_of xs (2 * unit + 2)
+  pub apart : (a b : Stretch) → Contains stretches a → Contains stretches b → a.track ≡ b.track → a.right < b.left → x_of xs a.right + STRETCH_SPACE ≤ x_of xs b.left
 
 -- the solutions of the distances are exactly the positions that the row allows
 abbrev pub AreDistances : Placement → Pins → List Stretch → Distances → Type 0

@@ -8,6 +8,7 @@ use Rattle.row_place.specs.declared.placement.Placement.{Placement}
 use Rattle.row_place.specs.declared.placement.UnitKind.{UnitKind}
 use Rattle.row_place.specs.declared.placement.UnitKind.TheVariants.{Column, Gap}
 use Rattle.channel_route.specs.declared.routing.Trunk.{Trunk}
+use Rattle.row_compact.specs.declared.measure.TheConstants.{LINE_SPACE, CONTACT_SPACE, STRETCH_SPACE}
 use Rattle.row_compact.specs.declared.distance.Distance.{Distance}
 
 abbrev pub entry : ℕ → ℕ → ℕ → Distance
@@ -28,9 +29,9 @@ is_wide pins trunks nodes line = list_any (λ node. (node.line == line) && is_co
 
 -- between a node line, wide or not, and the other line of a unit
 abbrev pub least_in : UnitKind → Bool → ℕ
-least_in Gap wide = 8
-least_in Column true = 11
-least_in Column false = 8
+least_in Gap wide = LINE_SPACE
+least_in Column true = CONTACT_SPACE
+least_in Column false = LINE_SPACE
 
 -- from the left node line of a unit to its gate line, and on to the right one
 abbrev pub two_entries : ℕ → ℕ → ℕ → List Distance
@@ -46,7 +47,7 @@ units_from wide unit (kind ∷ kinds) = unit_entries wide unit kind ++ units_fro
 
 -- the distance of two trunks of one track, the first to the left of the second
 abbrev pub pair_entry : Trunk → Trunk → Option Distance
-pair_entry a b = cond ((a.track == b.track) && ltb a.right b.left) (Some (entry a.right b.left 14)) None
+pair_entry a b = cond ((a.track == b.track) && ltb a.right b.left) (Some (entry a.right b.left STRETCH_SPACE)) None
 
 abbrev pub pairs_of : List Trunk → List Distance
 pairs_of trunks = flat_map (λ a. filter_map (pair_entry a) trunks) trunks

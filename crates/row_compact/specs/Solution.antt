@@ -1,6 +1,7 @@
 -- The solutions of a list of distances, and the least of them.
 use Rattle.std.specs.Prelude.{ℕ, ◌≡◌, ◌+◌, ◌≤◌, ◌<◌, List, length, get_or}
 use Rattle.std.specs.List.{All}
+use Rattle.row_compact.specs.declared.measure.TheConstants.{SIDE_SPACE, LINE_SPACE}
 use Rattle.row_compact.specs.declared.distance.Distance.{Distance}
 use Rattle.row_compact.specs.declared.distance.Distances.{Distances}
 
@@ -21,7 +22,7 @@ IsKept xs d = x_of xs d.from + d.least ≤ x_of xs d.to
 -- a position for each line: line 0 at 8 or more, and each distance is kept
 pub record IsSolution (d : Distances) (xs : List ℕ) : Type 0 where
   pub lines : length xs ≡ d.lines
-  pub first : 8 ≤ x_of xs 0
+  pub first : SIDE_SPACE ≤ x_of xs 0
   pub kept : All (IsKept xs) d.list
 
 -- a solution that is at every line at most every other one
@@ -32,5 +33,5 @@ pub record IsLeast (d : Distances) (xs : List ℕ) : Type 0 where
 -- so many lines, the first at 8 or more and each other one 8 or more behind the line before
 pub record AreSpread (lines : ℕ) (xs : List ℕ) : Type 0 where
   pub count : length xs ≡ lines
-  pub first : 0 < lines → 8 ≤ x_of xs 0
-  pub next : (line : ℕ) → line + 1 < lines → x_of xs line + 8 ≤ x_of xs (line + 1)
+  pub first : 0 < lines → SIDE_SPACE ≤ x_of xs 0
+  pub next : (line : ℕ) → line + 1 < lines → x_of xs line + LINE_SPACE ≤ x_of xs (line + 1)

@@ -7,7 +7,9 @@ ghost use Rattle.row_compact.specs.Solution.{IsEntry};
 ghost use Rattle.row_compact.specs.Allowed.{AreWiring, AreDistances, stretches_of};
 ghost use Rattle.row_compact.specs.Entries.{is_rail, has_trunk, is_contacted, is_wide, least_in, two_entries, units_from, pair_entry, pairs_of, entries_of};
 
-use crate::{Distance, DistanceList, Distances, MOST_LINES};
+use crate::{
+    CONTACT_SPACE, Distance, DistanceList, Distances, LINE_SPACE, MOST_LINES, STRETCH_SPACE,
+};
 use cell_num::{NetNo, NoMemory, Pins};
 use channel_route::{Routing, Trunk};
 use row_place::{Placement, UnitKind};
@@ -43,8 +45,8 @@ fn least_in(kind: UnitKind, is_wide: bool) -> u32
     ensures { result ≡ least_in kind is_wide }
 {
     match (kind, is_wide) {
-        (UnitKind::Column, true) => 11,
-        _ => 8,
+        (UnitKind::Column, true) => CONTACT_SPACE,
+        _ => LINE_SPACE,
     }
 }
 
@@ -94,7 +96,7 @@ fn add_pairs(list: &mut DistanceList, left: &Trunk, trunks: &[Trunk]) -> Result<
             list.push(Distance {
                 from: left.right,
                 to: right.left,
-                least: 14,
+                least: STRETCH_SPACE,
             })?;
         }
     }

@@ -7,7 +7,7 @@ ghost use Rattle.row_compact.specs.Solution.{AreSpread, IsEntry, IsLeast, x_of a
 ghost use Rattle.row_compact.specs.Allowed.{AreAlwaysAllowed};
 ghost use Rattle.row_compact.specs.Entries.{reach_from};
 
-use crate::{Distance, Distances, LineXs, MOST_LINES, x_of};
+use crate::{Distance, Distances, LineXs, MOST_LINES, SIDE_SPACE, STRETCH_SPACE, x_of};
 use cell_num::NoMemory;
 use std::alloc::Global;
 
@@ -20,7 +20,7 @@ pub fn even_lines(alloc: Global, lines: u32) -> Result<LineXs, NoMemory>
 {
     let mut xs = LineXs::new(alloc);
     for line in 0..lines {
-        xs.push(8 + 14 * line)?;
+        xs.push(SIDE_SPACE + STRETCH_SPACE * line)?;
     }
     Ok(xs)
 }
@@ -52,7 +52,7 @@ pub fn least_lines(alloc: Global, distances: &Distances) -> Result<LineXs, NoMem
     ensures low { IfOk result (λ xs. (line : ℕ) → x_at xs line ≤ 127008) }
 {
     let mut xs = LineXs::new(alloc);
-    xs.push(8)?;
+    xs.push(SIDE_SPACE)?;
     for line in 1..distances.lines {
         let x = least_x(distances.list.as_slice(), xs.as_slice(), line);
         xs.push(x)?;
