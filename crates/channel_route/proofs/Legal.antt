@@ -1,14 +1,11 @@
 -- What the filled tracks are for the placement: legal, tight, and proof that no cycle exists.
-use Rattle.std.proofs.Common.{ℕ, ◌≡◌, ◌≢◌, ◌<◌, ◌≤◌, ◌++◌, ◌==◌, Bool, true, false, List, [], ◌∷◌, map, length, inl, inr, refl, sym, ap, subst, arith, Contains, count_by, IsPermutation, IsSorted, append-nil}
+use Rattle.std.proofs.Common.{ℕ, ◌≡◌, ◌≢◌, ◌<◌, ◌⊎◌, ◌==◌, true, false, List, [], ◌∷◌, map, length, inl, inr, refl, sym, ap, subst, arith, Contains, IsPermutation, IsSorted}
 use Rattle.std.specs.Ordering.{is_lt}
 use Rattle.std.proofs.lemmas.Bool.{cases_eq, cases_order}
-use Rattle.std.proofs.lemmas.List.Elements.{All-contains}
 use Rattle.std.proofs.lemmas.List.Sorted.{Contains-permutation, IsPermutation-sym}
 use Rattle.cell_num.specs.declared.net.NetNo.{NetNo}
 use Rattle.cell_num.specs.declared.net.Pins.{Pins}
-use Rattle.row_model.proofs.Decide.{net_decides}
 use Rattle.cell_num.proofs.In.{Image, in_map, contains_map}
-use Rattle.cell_num.proofs.Permutations.{count_cons}
 use Rattle.row_place.specs.declared.placement.Placement.{Placement}
 use Rattle.row_place.specs.Trunks.{HasTrunk, IsSpan, IsAbove}
 use Rattle.cell_num.proofs.Lists.{all_from_contains}
@@ -16,60 +13,65 @@ use Rattle.channel_route.specs.declared.routing.Trunk.{Trunk}
 use Rattle.channel_route.specs.declared.routing.Routing.{Routing}
 use Rattle.channel_route.specs.declared.routing.Above.{Above}
 use Rattle.channel_route.specs.declared.wire.Wire.{Wire}
-use Rattle.channel_route.specs.declared.constraint.Constraint.{Constraint}
+use Rattle.channel_route.specs.declared.wire.PlacedWire.{PlacedWire}
 use Rattle.channel_route.specs.Routing.{AreApart, IsLegal, IsEarlier, IsFree, IsTight}
-use Rattle.channel_route.specs.Cycle.{next_net, StandAbove, HasNoCycle}
-use Rattle.channel_route.specs.Graph.{wire_of, IsBefore, IsBlocked, HasTrunkBelow, IsFilled}
+use Rattle.channel_route.specs.Cycle.{nets, by_number, HasNoCycle}
+use Rattle.channel_route.specs.Walk.{next_key, IsWalk}
+use Rattle.channel_route.specs.Graph.{trunk_of, IsBefore, IsFilled}
+use Rattle.channel_route.specs.Turn.{IsOver}
 use Rattle.channel_route.specs.Wires.{IsWire, AreWires, constraints_of, trunk_cmp}
-use Rattle.cell_num.proofs.Pairs.{Some', some_from_any, any_at, test_finds, OneEach, one_each_permutation, one_each_same, pairs_from_sorted}
-use Rattle.channel_route.proofs.Constraints.{constraint_is, constraint_there}
-use Rattle.channel_route.proofs.Wires.{cmp_less}
+use Rattle.cell_num.proofs.Pairs.{Some', some_from_any, any_at, OneEach, one_each_permutation, one_each_same, pairs_from_sorted}
+use Rattle.channel_route.proofs.FilledTracks.{IsFull, IsFreeFor, count_map, placed_wire, wire_placed, same_placed, one_each_placed, one_each_like, tracks_above, not_lower}
+use Rattle.channel_route.proofs.NetWires.{cmp_less}
+use Rattle.channel_route.proofs.TrunkChannel.{net_of, is_wire, net_is, wire_of_net, channel, constraint_is, constraint_there}
 
 -- the tracks of a placement, filled
-pub record IsDone (p : Placement) (pins : Pins) (wires : List Wire) (filled trunks : List Trunk) (tracks : ℕ) : Type 0 where
+pub record IsDone (p : Placement) (pins : Pins) (wires : List Wire) (placed : List PlacedWire) (trunks : List Trunk) (tracks : ℕ) : Type 0 where
   pub wired : AreWires p pins wires
-  pub filled' : IsFilled wires (constraints_of wires p.nodes) filled [] tracks
-  pub moved : IsPermutation filled trunks
+  pub filled : IsFilled wires (constraints_of wires p.nodes) placed [] tracks
+  pub moved : IsPermutation (map trunk_of placed) trunks
   pub sorted : IsSorted trunk_cmp trunks
 
 abbrev pub routing_of : List Trunk → ℕ → Routing
 routing_of trunks tracks = record { tracks = tracks; trunks = trunks }
 
-count_map : {X Y : Type 0} (f : X → Y) (p : Y → Bool) (xs : List X) → count_by p (map f xs) ≡ count_by (λ x. p (f x)) xs
-count_map f p [] = refl
-count_map f p (x ∷ xs) = omega (arith, count_cons p (f x) (map f xs), count_cons (λ x. p (f x)) x xs, count_map f p xs)
+pub full_of : (p : Placement) (pins : Pins) (wires : List Wire) (placed : List PlacedWire) (trunks : List Trunk) (tracks : ℕ) → IsDone p pins wires placed trunks tracks → IsFull wires (constraints_of wires p.nodes) placed tracks
+full_of p pins wires placed trunks tracks d = record { channel = channel p pins wires d.wired; filled = d.filled }
 
--- to and from the sorted list
-pub to_sorted : (p : Placement) (pins : Pins) (wires : List Wire) (filled trunks : List Trunk) (tracks : ℕ) → IsDone p pins wires filled trunks tracks → (t : Trunk) → Contains filled t → Contains trunks t
-to_sorted p pins wires filled trunks tracks d t there = Contains-permutation filled trunks t d.moved there
+-- to and from the sorted list of trunks
+pub to_sorted : (p : Placement) (pins : Pins) (wires : List Wire) (placed : List PlacedWire) (trunks : List Trunk) (tracks : ℕ) → IsDone p pins wires placed trunks tracks → (t : PlacedWire) → Contains placed t → Contains trunks (trunk_of t)
+to_sorted p pins wires placed trunks tracks d t there = Contains-permutation (map trunk_of placed) trunks (trunk_of t) d.moved (contains_map trunk_of placed t there)
 
-pub from_sorted : (p : Placement) (pins : Pins) (wires : List Wire) (filled trunks : List Trunk) (tracks : ℕ) → IsDone p pins wires filled trunks tracks → (t : Trunk) → Contains trunks t → Contains filled t
-from_sorted p pins wires filled trunks tracks d t there = Contains-permutation trunks filled t (IsPermutation-sym filled trunks d.moved) there
+pub from_sorted : (p : Placement) (pins : Pins) (wires : List Wire) (placed : List PlacedWire) (trunks : List Trunk) (tracks : ℕ) → IsDone p pins wires placed trunks tracks → (t : Trunk) → Contains trunks t → Image trunk_of placed t
+from_sorted p pins wires placed trunks tracks d t there = in_map trunk_of placed t (Contains-permutation trunks (map trunk_of placed) t (IsPermutation-sym (map trunk_of placed) trunks d.moved) there)
+
+pub placed_is : (p : Placement) (pins : Pins) (wires : List Wire) (placed : List PlacedWire) (trunks : List Trunk) (tracks : ℕ) → IsDone p pins wires placed trunks tracks → (t : PlacedWire) → Contains placed t → IsWire p pins t.wire
+placed_is p pins wires placed trunks tracks d t there = is_wire p pins wires d.wired t.wire (placed_wire wires (constraints_of wires p.nodes) placed tracks (full_of p pins wires placed trunks tracks d) t there)
 
 -- one trunk a net
-one_each_filled : (p : Placement) (pins : Pins) (wires : List Wire) (filled trunks : List Trunk) (tracks : ℕ) → IsDone p pins wires filled trunks tracks → OneEach (λ (t : Trunk). t.net.0) filled
-one_each_filled p pins wires filled trunks tracks d n =
-    let whole : count_by (λ (w : Wire). w.net.0 == n) (map wire_of filled ++ []) ≤ 1 = one_each_permutation (λ (w : Wire). w.net.0) wires (map wire_of filled ++ []) d.filled'.part.all d.wired.found.distinct n in
-    let mapped : count_by (λ (w : Wire). w.net.0 == n) (map wire_of filled) ≤ 1 = subst (λ ws. count_by (λ (w : Wire). w.net.0 == n) ws ≤ 1) (append-nil (map wire_of filled)) whole in
-    omega (arith, mapped, count_map wire_of (λ (w : Wire). w.net.0 == n) filled)
+same_net : (p : Placement) (pins : Pins) (wires : List Wire) (placed : List PlacedWire) (trunks : List Trunk) (tracks : ℕ) → IsDone p pins wires placed trunks tracks → (a b : PlacedWire) → Contains placed a → Contains placed b → a.wire.net ≡ b.wire.net → a ≡ b
+same_net p pins wires placed trunks tracks d a b ha hb e =
+    same_placed wires (constraints_of wires p.nodes) placed tracks (full_of p pins wires placed trunks tracks d) a b ha hb
+    (omega (arith, (placed_is p pins wires placed trunks tracks d a ha).key, (placed_is p pins wires placed trunks tracks d b hb).key, ap (λ (n : NetNo). n.0) e))
 
-pub one_each_sorted : (p : Placement) (pins : Pins) (wires : List Wire) (filled trunks : List Trunk) (tracks : ℕ) → IsDone p pins wires filled trunks tracks → OneEach (λ (t : Trunk). t.net.0) trunks
-one_each_sorted p pins wires filled trunks tracks d = one_each_permutation (λ (t : Trunk). t.net.0) filled trunks d.moved (one_each_filled p pins wires filled trunks tracks d)
+pub one_each_sorted : (p : Placement) (pins : Pins) (wires : List Wire) (placed : List PlacedWire) (trunks : List Trunk) (tracks : ℕ) → IsDone p pins wires placed trunks tracks → OneEach (λ (t : Trunk). t.net.0) trunks
+one_each_sorted p pins wires placed trunks tracks d = one_each_permutation (λ (t : Trunk). t.net.0) (map trunk_of placed) trunks d.moved (λ n. omega (arith, one n, count_map trunk_of (λ (t : Trunk). t.net.0 == n) placed))
+  where
+    one : OneEach (λ (t : PlacedWire). t.wire.net.0) placed
+    one = one_each_like (λ (t : PlacedWire). t.wire.key) (λ (t : PlacedWire). t.wire.net.0) placed (λ t there. (placed_is p pins wires placed trunks tracks d t there).key) (one_each_placed wires (constraints_of wires p.nodes) placed tracks (full_of p pins wires placed trunks tracks d))
 
 -- a trunk is of a wire, and each net with a trunk has one
-pub trunk_wire : (p : Placement) (pins : Pins) (wires : List Wire) (filled trunks : List Trunk) (tracks : ℕ) → IsDone p pins wires filled trunks tracks → (t : Trunk) → Contains trunks t → IsWire p pins (wire_of t)
-trunk_wire p pins wires filled trunks tracks d t there =
-    let mapped : Contains (map wire_of filled ++ []) (wire_of t) = subst (λ ws. Contains ws (wire_of t)) (sym (append-nil (map wire_of filled))) (contains_map wire_of filled t (from_sorted p pins wires filled trunks tracks d t there)) in
-    All-contains (IsWire p pins) wires (wire_of t) d.wired.found.each (Contains-permutation (map wire_of filled ++ []) wires (wire_of t) (IsPermutation-sym wires (map wire_of filled ++ []) d.filled'.part.all) mapped)
+pub trunk_span : (p : Placement) (pins : Pins) (wires : List Wire) (placed : List PlacedWire) (trunks : List Trunk) (tracks : ℕ) → IsDone p pins wires placed trunks tracks → (t : Trunk) → Contains trunks t → HasTrunk p pins t.net × IsSpan p t.net t.left t.right
+trunk_span p pins wires placed trunks tracks d t there =
+    let of : Image trunk_of placed t = from_sorted p pins wires placed trunks tracks d t there in
+    let is : IsWire p pins of.of.wire = placed_is p pins wires placed trunks tracks d of.of of.listed in
+    subst (λ (z : Trunk). HasTrunk p pins z.net × IsSpan p z.net z.left z.right) of.is (is.trunk, is.span)
 
-pub net_trunk : (p : Placement) (pins : Pins) (wires : List Wire) (filled trunks : List Trunk) (tracks : ℕ) → IsDone p pins wires filled trunks tracks → (net : NetNo) → HasTrunk p pins net → Some' (λ (t : Trunk). t.net ≡ net) trunks
-net_trunk p pins wires filled trunks tracks d net trunk =
-    let w : Some' (λ (w : Wire). (w.net.0 == net.0) ≡ true) wires = test_finds (λ (w : Wire). w.net.0 == net.0) wires (d.wired.all net trunk) in
-    let placed : Contains (map wire_of filled) w.it = subst (λ ws. Contains ws w.it) (append-nil (map wire_of filled)) (Contains-permutation wires (map wire_of filled ++ []) w.it d.filled'.part.all w.there) in
-    let of : Image wire_of filled w.it = in_map wire_of filled w.it placed in
-    let same : of.of.net ≡ w.it.net = ap (λ (w : Wire). w.net) of.is in
-    let is : w.it.net ≡ net = (net_decides w.it.net net).0 w.holds in
-    record { it = of.of; there = to_sorted p pins wires filled trunks tracks d of.of of.listed; holds = subst (λ n. of.of.net ≡ n) is same }
+pub net_placed : (p : Placement) (pins : Pins) (wires : List Wire) (placed : List PlacedWire) (trunks : List Trunk) (tracks : ℕ) → IsDone p pins wires placed trunks tracks → (net : NetNo) → HasTrunk p pins net → Some' (λ (t : PlacedWire). t.wire.net ≡ net) placed
+net_placed p pins wires placed trunks tracks d net has =
+    let w : Some' (λ (w : Wire). w.net ≡ net) wires = wire_of_net p pins wires d.wired net has in
+    let t : Some' (λ (t : PlacedWire). t.wire ≡ w.it) placed = wire_placed wires (constraints_of wires p.nodes) placed tracks (full_of p pins wires placed trunks tracks d) w.it w.there in
+    record { it = t.it; there = t.there; holds = subst (λ (z : Wire). z.net ≡ net) (sym t.holds) w.holds }
 
 net_less : (a b c : Trunk) → a.net.0 < b.net.0 → b.net.0 < c.net.0 → a.net.0 < c.net.0
 net_less a b c e f = omega (arith, e, f)
@@ -84,74 +86,80 @@ less_from_cmp a b e differ =
     wrong : b.net.0 < a.net.0 → ⊥
     wrong h = let lt : is_lt (trunk_cmp b a) ≡ true = rw (cmp_less b.net.0 a.net.0 h) refl in cc
 
--- trunks of one net are one
-pub same_trunk : (p : Placement) (pins : Pins) (wires : List Wire) (filled trunks : List Trunk) (tracks : ℕ) → IsDone p pins wires filled trunks tracks → (a b : Trunk) → Contains filled a → Contains filled b → a.net ≡ b.net → a ≡ b
-same_trunk p pins wires filled trunks tracks d a b ha hb e = one_each_same (λ (t : Trunk). t.net.0) filled a b (one_each_filled p pins wires filled trunks tracks d) ha hb (ap (λ (n : NetNo). n.0) e)
+-- where one net stands above another, so do their wires
+over_of : (p : Placement) (pins : Pins) (wires : List Wire) (placed : List PlacedWire) (trunks : List Trunk) (tracks : ℕ) → IsDone p pins wires placed trunks tracks → (a b : PlacedWire) → Contains placed a → Contains placed b → (line : ℕ) → IsAbove p pins a.wire.net b.wire.net line → IsOver (constraints_of wires p.nodes) a.wire.key b.wire.key line
+over_of p pins wires placed trunks tracks d a b ha hb line over =
+    subst (λ n. IsOver (constraints_of wires p.nodes) n b.wire.key line) (sym (placed_is p pins wires placed trunks tracks d a ha).key)
+    (subst (λ n. IsOver (constraints_of wires p.nodes) a.wire.net.0 n line) (sym (placed_is p pins wires placed trunks tracks d b hb).key)
+    (constraint_there p pins wires d.wired a.wire.net b.wire.net line over))
 
-pub legal : (p : Placement) (pins : Pins) (wires : List Wire) (filled trunks : List Trunk) (tracks : ℕ) → IsDone p pins wires filled trunks tracks → IsLegal p pins (routing_of trunks tracks)
-legal p pins wires filled trunks tracks d = record {
+-- and the other way
+above_of : (p : Placement) (pins : Pins) (wires : List Wire) (placed : List PlacedWire) (trunks : List Trunk) (tracks : ℕ) → IsDone p pins wires placed trunks tracks → (a b : PlacedWire) → Contains placed a → Contains placed b → (line : ℕ) → IsOver (constraints_of wires p.nodes) a.wire.key b.wire.key line → IsAbove p pins a.wire.net b.wire.net line
+above_of p pins wires placed trunks tracks d a b ha hb line over =
+    subst (λ n. IsAbove p pins n b.wire.net line) (sym (net_is p pins a.wire (placed_is p pins wires placed trunks tracks d a ha)))
+    (subst (λ n. IsAbove p pins (net_of a.wire.key) n line) (sym (net_is p pins b.wire (placed_is p pins wires placed trunks tracks d b hb)))
+    (constraint_is p pins wires d.wired (record { upper = a.wire.key; lower = b.wire.key; line = line }) over))
+
+pub legal : (p : Placement) (pins : Pins) (wires : List Wire) (placed : List PlacedWire) (trunks : List Trunk) (tracks : ℕ) → IsDone p pins wires placed trunks tracks → IsLegal p pins (routing_of trunks tracks)
+legal p pins wires placed trunks tracks d = record {
   nets = λ net. (
-    λ trunk. let t : Some' (λ (t : Trunk). t.net ≡ net) trunks = net_trunk p pins wires filled trunks tracks d net trunk in any_at (λ (t : Trunk). t.net ≡ net) trunks t.it t.there t.holds,
-    λ any. let t : Some' (λ (t : Trunk). t.net ≡ net) trunks = some_from_any (λ (t : Trunk). t.net ≡ net) trunks any in subst (λ n. HasTrunk p pins n) t.holds (trunk_wire p pins wires filled trunks tracks d t.it t.there).trunk,
+    λ has. let t : Some' (λ (t : PlacedWire). t.wire.net ≡ net) placed = net_placed p pins wires placed trunks tracks d net has in any_at (λ (t : Trunk). t.net ≡ net) trunks (trunk_of t.it) (to_sorted p pins wires placed trunks tracks d t.it t.there) t.holds,
+    λ any. let t : Some' (λ (t : Trunk). t.net ≡ net) trunks = some_from_any (λ (t : Trunk). t.net ≡ net) trunks any in subst (λ n. HasTrunk p pins n) t.holds (trunk_span p pins wires placed trunks tracks d t.it t.there).0,
   );
-  order = pairs_from_sorted (λ a b. is_lt (trunk_cmp a b)) (λ (t : Trunk). t.net.0) (λ (a b : Trunk). a.net.0 < b.net.0) net_less less_from_cmp trunks d.sorted (one_each_sorted p pins wires filled trunks tracks d);
-  spans = all_from_contains (λ (t : Trunk). IsSpan p t.net t.left t.right) trunks (λ t there. (trunk_wire p pins wires filled trunks tracks d t there).span);
-  apart = λ a b ha hb differ same. d.filled'.part.apart a b (from_sorted p pins wires filled trunks tracks d a ha) (from_sorted p pins wires filled trunks tracks d b hb) differ same;
-  above = above;
-  tracks = all_from_contains (λ (t : Trunk). t.track < tracks) trunks (λ t there. d.filled'.low t (from_sorted p pins wires filled trunks tracks d t there));
-  full = λ track below. let t : Some' (λ (t : Trunk). t.track ≡ track) filled = some_from_any (λ (t : Trunk). t.track ≡ track) filled (d.filled'.part.full track below) in any_at (λ (t : Trunk). t.track ≡ track) trunks t.it (to_sorted p pins wires filled trunks tracks d t.it t.there) t.holds;
+  order = pairs_from_sorted (λ a b. is_lt (trunk_cmp a b)) (λ (t : Trunk). t.net.0) (λ (a b : Trunk). a.net.0 < b.net.0) net_less less_from_cmp trunks d.sorted (one_each_sorted p pins wires placed trunks tracks d);
+  spans = all_from_contains (λ (t : Trunk). IsSpan p t.net t.left t.right) trunks (λ t there. (trunk_span p pins wires placed trunks tracks d t there).1);
+  apart = λ a b ha hb. apart a b (from_sorted p pins wires placed trunks tracks d a ha) (from_sorted p pins wires placed trunks tracks d b hb);
+  above = λ a b ha hb line over. above a b line (from_sorted p pins wires placed trunks tracks d a ha) (from_sorted p pins wires placed trunks tracks d b hb) over;
+  tracks = all_from_contains (λ (t : Trunk). t.track < tracks) trunks (λ t there. let of : Image trunk_of placed t = from_sorted p pins wires placed trunks tracks d t there in subst (λ (z : Trunk). z.track < tracks) of.is (d.filled.low of.of of.listed));
+  full = λ track below. let t : Some' (λ (t : PlacedWire). t.track ≡ track) placed = some_from_any (λ (t : PlacedWire). t.track ≡ track) placed (d.filled.part.full track below) in any_at (λ (t : Trunk). t.track ≡ track) trunks (trunk_of t.it) (to_sorted p pins wires placed trunks tracks d t.it t.there) t.holds;
 }
   where
-    above : (a b : Trunk) → Contains trunks a → Contains trunks b → (line : ℕ) → IsAbove p pins a.net b.net line → b.track < a.track
-    above a b ha hb line over =
-        let c : Constraint = record { upper = a.net; lower = b.net; line = line } in
-        let low : HasTrunkBelow filled b.net a.track = d.filled'.part.above a (from_sorted p pins wires filled trunks tracks d a ha) c (constraint_there p pins wires d.wired a.net b.net line over) refl in
-        let same : low.trunk ≡ b = same_trunk p pins wires filled trunks tracks d low.trunk b low.there (from_sorted p pins wires filled trunks tracks d b hb) low.is in
-        subst (λ (t : Trunk). t.track < a.track) same low.low
+    apart : (a b : Trunk) → Image trunk_of placed a → Image trunk_of placed b → a.net ≢ b.net → a.track ≡ b.track → AreApart a b
+    apart a b x y =
+        subst (λ (u : Trunk). u.net ≢ b.net → u.track ≡ b.track → AreApart u b) x.is
+        (subst (λ (v : Trunk). (trunk_of x.of).net ≢ v.net → (trunk_of x.of).track ≡ v.track → AreApart (trunk_of x.of) v) y.is (λ differ same. d.filled.part.apart x.of y.of x.listed y.listed differ same))
 
-pub tight : (p : Placement) (pins : Pins) (wires : List Wire) (filled trunks : List Trunk) (tracks : ℕ) → IsDone p pins wires filled trunks tracks → IsTight p pins (routing_of trunks tracks)
-tight p pins wires filled trunks tracks d t there = (record { above = λ b hb line over. (legal p pins wires filled trunks tracks d).above t b there hb line over; clear = clear }, not_lower)
+    above : (a b : Trunk) (line : ℕ) → Image trunk_of placed a → Image trunk_of placed b → IsAbove p pins a.net b.net line → b.track < a.track
+    above a b line x y =
+        subst (λ (u : Trunk). IsAbove p pins u.net b.net line → b.track < u.track) x.is
+        (subst (λ (v : Trunk). IsAbove p pins (trunk_of x.of).net v.net line → v.track < (trunk_of x.of).track) y.is
+        (λ over. tracks_above wires (constraints_of wires p.nodes) placed tracks (full_of p pins wires placed trunks tracks d) x.of y.of x.listed y.listed line (over_of p pins wires placed trunks tracks d x.of y.of x.listed y.listed line over)))
+
+-- on keys as on nets
+before_of : (p : Placement) (pins : Pins) (a b : Wire) → IsWire p pins a → IsWire p pins b → IsBefore a b → (a.left < b.left) ⊎ ((a.left ≡ b.left) × (a.net.0 < b.net.0))
+before_of p pins a b ia ib (inl less) = inl less
+before_of p pins a b ia ib (inr (same, less)) = inr (same, omega (arith, less, ia.key, ib.key))
+
+pub tight : (p : Placement) (pins : Pins) (wires : List Wire) (placed : List PlacedWire) (trunks : List Trunk) (tracks : ℕ) → IsDone p pins wires placed trunks tracks → IsTight p pins (routing_of trunks tracks)
+tight p pins wires placed trunks tracks d t there = (record { above = λ b hb line over. l.above t b there hb line over; clear = clear }, λ track below free. not_lower' (from_sorted p pins wires placed trunks tracks d t there) track below free)
   where
+    l : IsLegal p pins (routing_of trunks tracks)
+    l = legal p pins wires placed trunks tracks d
+
     clear : (o : Trunk) → Contains trunks o → o.track ≡ t.track → IsEarlier o t → AreApart o t
     clear o ho same early =
         elim (cases_eq o.net.0 t.net.0) [
-          | inl one ↦ absurd (itself early (same_trunk p pins wires filled trunks tracks d o t (from_sorted p pins wires filled trunks tracks d o ho) (from_sorted p pins wires filled trunks tracks d t there) (ap (λ (n : ℕ). let r : NetNo = record { 0 = n } in r) one)))
-          | inr other ↦ (legal p pins wires filled trunks tracks d).apart o t ho there (λ e. other (ap (λ (n : NetNo). n.0) e)) same
+          | inl one ↦ absurd (never t (subst (λ x. IsEarlier x t) (one_each_same (λ (t : Trunk). t.net.0) trunks o t (one_each_sorted p pins wires placed trunks tracks d) ho there one) early))
+          | inr other ↦ l.apart o t ho there (λ e. other (ap (λ (n : NetNo). n.0) e)) same
         ]
       where
-        not_self : (x : Trunk) → IsEarlier x x → ⊥
-        not_self x (inl e) = omega (arith, e)
-        not_self x (inr (_, e)) = omega (arith, e)
+        never : (x : Trunk) → IsEarlier x x → ⊥
+        never x (inl e) = omega (arith, e)
+        never x (inr (_, e)) = omega (arith, e)
 
-        itself : IsEarlier o t → o ≡ t → ⊥
-        itself e one = not_self t (subst (λ x. IsEarlier x t) one e)
-
-    not_lower : (track : ℕ) → track < t.track → IsFree p pins trunks t track → ⊥
-    not_lower track below free = blocked (d.filled'.part.tight t (from_sorted p pins wires filled trunks tracks d t there) track below)
+    not_lower' : Image trunk_of placed t → (track : ℕ) → track < t.track → IsFree p pins trunks t track → ⊥
+    not_lower' x track below free =
+        not_lower wires (constraints_of wires p.nodes) placed tracks (full_of p pins wires placed trunks tracks d) x.of x.listed track (subst (λ (z : Trunk). track < z.track) (sym x.is) below)
+        (free_of x track (subst (λ (z : Trunk). IsFree p pins trunks z track) (sym x.is) free))
       where
-        apart : (o : Trunk) → IsBefore (wire_of o) (wire_of t) → t.left ≤ o.right → AreApart o t → ⊥
-        apart o (inl e) r (inl f) = omega (arith, r, f)
-        apart o (inr (e, _)) r (inl f) = omega (arith, r, f)
-        apart o (inl e) r (inr f) = wide (omega (arith, e, f))
-          where
-            wide : t.right < t.left → ⊥
-            wide g = let is : IsWire p pins (wire_of t) = trunk_wire p pins wires filled trunks tracks d t there in let low : t.left ≤ t.right = All-contains (λ line. line ≤ t.right) _ t.left is.span.none_behind is.span.begins in omega (arith, low, g)
-        apart o (inr (e, _)) r (inr f) = wide (omega (arith, e, f))
-          where
-            wide : t.right < t.left → ⊥
-            wide g = let is : IsWire p pins (wire_of t) = trunk_wire p pins wires filled trunks tracks d t there in let low : t.left ≤ t.right = All-contains (λ line. line ≤ t.right) _ t.left is.span.none_behind is.span.begins in omega (arith, low, g)
-
-        blocked : IsBlocked (constraints_of wires p.nodes) filled (wire_of t) track → ⊥
-        blocked (inl c) = apart c.trunk c.before c.reaches (free.clear c.trunk (to_sorted p pins wires filled trunks tracks d c.trunk c.there) c.on c.before)
-        blocked (inr h) =
-            let over : IsAbove p pins h.constraint.upper h.constraint.lower h.constraint.line = constraint_is p pins wires d.wired h.constraint h.there in
-            let b : Some' (λ (b : Trunk). b.net ≡ h.constraint.lower) trunks = net_trunk p pins wires filled trunks tracks d h.constraint.lower over.lower_trunk in
-            let high : track ≤ b.it.track = h.not_below b.it (from_sorted p pins wires filled trunks tracks d b.it b.there) b.holds in
-            let low : b.it.track < track = free.above b.it b.there h.constraint.line (subst (λ n. IsAbove p pins t.net n h.constraint.line) (sym b.holds) (subst (λ n. IsAbove p pins n h.constraint.lower h.constraint.line) h.upper over)) in
-            omega (arith, high, low)
+        free_of : (x : Image trunk_of placed t) (track : ℕ) → IsFree p pins trunks (trunk_of x.of) track → IsFreeFor (constraints_of wires p.nodes) placed x.of track
+        free_of x track f = record {
+          above = λ b hb line over. f.above (trunk_of b) (to_sorted p pins wires placed trunks tracks d b hb) line (above_of p pins wires placed trunks tracks d x.of b x.listed hb line over);
+          clear = λ o ho same before _. f.clear (trunk_of o) (to_sorted p pins wires placed trunks tracks d o ho) same (before_of p pins o.wire x.of.wire (placed_is p pins wires placed trunks tracks d o ho) (placed_is p pins wires placed trunks tracks d x.of x.listed) before);
+        }
 
 -- along a walk the tracks fall
-falls : (p : Placement) (pins : Pins) (routing : Routing) → IsLegal p pins routing → (walk : List Above) (back : NetNo) (t b : Trunk) → 0 < length walk → StandAbove (IsAbove p pins) walk back → Contains routing.trunks t → t.net ≡ next_net walk back → Contains routing.trunks b → b.net ≡ back → b.track < t.track
+falls : (p : Placement) (pins : Pins) (routing : Routing) → IsLegal p pins routing → (walk : List Above) (back : NetNo) (t b : Trunk) → 0 < length walk → IsWalk nets (by_number (IsAbove p pins)) walk back.0 → Contains routing.trunks t → t.net ≡ net_of (next_key nets walk back.0) → Contains routing.trunks b → b.net ≡ back → b.track < t.track
 falls p pins routing l [] back t b some h ht et hb eb = absurd (omega (arith, some))
 falls p pins routing l (a ∷ []) back t b some h ht et hb eb = l.above t b ht hb a.line (subst (λ n. IsAbove p pins n b.net a.line) (sym et) (subst (λ n. IsAbove p pins a.net n a.line) (sym eb) h.0))
 falls p pins routing l (a ∷ c ∷ more) back t b some h ht et hb eb =

@@ -1,13 +1,19 @@
-mod Constraints
+pub mod ConstraintsOf
+pub mod Counts
 mod Crossing
 mod Density
 mod Down
+pub mod FilledTracks
+mod Filling
 mod Legal
 pub mod LegalWiring
+pub mod NetWires
+pub mod OneCycle
 pub mod OneRouting
 pub mod OneTold
 pub mod Stuck
-mod Sweep
-mod Turns
+pub mod StuckKeys
+pub mod TrunkChannel
+pub mod Turns
 pub mod Unique
-mod Wires
+mod WalkNets

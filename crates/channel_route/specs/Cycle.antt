@@ -1,5 +1,5 @@
 -- Cycles of nets that stand above each other.
-use Rattle.std.specs.Prelude.{ℕ, ◌≡◌, ◌≢◌, ◌<◌, List, [], ◌∷◌, length, All, AllPairs, Contains}
+use Rattle.std.specs.Prelude.{ℕ, ◌≡◌, List, Contains}
 use Rattle.std.specs.Bool.{⊤}
 use Rattle.cell_num.specs.declared.net.NetNo.{NetNo}
 use Rattle.cell_num.specs.declared.net.Pins.{Pins}
@@ -9,39 +9,24 @@ use Rattle.row_place.specs.Trunks.{HasTrunk, IsAbove}
 use Rattle.channel_route.specs.declared.routing.Above.{Above}
 use Rattle.channel_route.specs.declared.routing.RouteStop.{RouteStop}
 use Rattle.channel_route.specs.declared.routing.RouteStop.TheVariants.{Cycle, NoMemory}
+use Rattle.channel_route.specs.Walk.{Entries, IsKeyCycle, IsKeyCycleBelow}
 
--- the net of the first entry, or the one behind all
-abbrev pub next_net : List Above → NetNo → NetNo
-next_net [] back = back
-next_net (a ∷ more) back = a.net
+-- a net of a walk is told by its number
+abbrev pub nets : Entries Above
+nets = record { key = λ a. a.net.0; line = λ a. a.line }
 
--- each net stands above the next one at its line, and the last one above `back`
-abbrev pub StandAbove : (NetNo → NetNo → ℕ → Type 0) → List Above → NetNo → Type 0
-StandAbove Over [] back = ⊤
-StandAbove Over (a ∷ more) back = Over a.net (next_net more back) a.line × StandAbove Over more back
+-- a relation between nets as one between their numbers
+abbrev pub by_number : (NetNo → NetNo → ℕ → Type 0) → ℕ → ℕ → ℕ → Type 0
+by_number Over upper lower line = Over (record { 0 = upper }) (record { 0 = lower }) line
 
 -- At least two nets, pairwise different, each above the next and the last above the first, which has
 -- the least number.
-pub record IsCycleFrom (Over : NetNo → NetNo → ℕ → Type 0) (first : Above) (rest : List Above) : Type 0 where
-  pub two : 0 < length rest
-  pub differ : AllPairs (λ a b. a.net ≢ b.net) (first ∷ rest)
-  pub above : StandAbove Over (first ∷ rest) first.net
-  pub least : All (λ a. first.net.0 < a.net.0) rest
-
 abbrev pub IsCycleOf : (NetNo → NetNo → ℕ → Type 0) → List Above → Type 0
-IsCycleOf Over [] = ⊥
-IsCycleOf Over (first ∷ rest) = IsCycleFrom Over first rest
-
--- a walk from one net down to another
-pub record ComesTo (Over : NetNo → NetNo → ℕ → Type 0) (start net : NetNo) : Type 0 where
-  pub path : List Above
-  pub walk : StandAbove Over path net
-  pub begins : next_net path net ≡ start
+IsCycleOf Over cycle = IsKeyCycle nets (by_number Over) cycle
 
 -- a cycle that a walk from a net comes to
 abbrev pub IsCycleBelow : (NetNo → NetNo → ℕ → Type 0) → NetNo → List Above → Type 0
-IsCycleBelow Over start [] = ⊥
-IsCycleBelow Over start (first ∷ rest) = IsCycleFrom Over first rest × ComesTo Over start first.net
+IsCycleBelow Over start cycle = IsKeyCycleBelow nets (by_number Over) start.0 cycle
 
 abbrev pub IsCycle : Placement → Pins → List Above → Type 0
 IsCycle placement pins cycle = IsCycleOf (IsAbove placement pins) cycle

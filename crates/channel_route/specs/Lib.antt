@@ -3,5 +3,6 @@ pub mod Graph
 pub mod Routing
 pub mod Told
 pub mod Turn
+pub mod Walk
 pub mod Wires
 pub mod Wiring

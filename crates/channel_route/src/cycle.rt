@@ -1,117 +1,143 @@
 // Finds a cycle where each wire that is left stands above another one.
 
 ghost use Rattle.std.specs.Prelude.{ℕ, ◌≡◌, ◌≢◌, ◌≤◌, ◌<◌, ◌==◌, true, All};
-ghost use Rattle.std.specs.Prelude.{Contains, IfOk, IfSome, IsSome, length, get_or, count_by, slice_index_or};
-ghost use Rattle.channel_route.specs.declared.routing.Above.{Above as AnAbove};
+ghost use Rattle.std.specs.Prelude.{Contains, IfOk, length, slice_index_or};
 ghost use Rattle.channel_route.specs.declared.constraint.Constraint.{Constraint as AConstraint};
-ghost use Rattle.channel_route.specs.Cycle.{StandAbove, IsCycleBelow};
-ghost use Rattle.channel_route.specs.Graph.{has_net, waits};
-ghost use Rattle.channel_route.specs.Turn.{waits_at, AreInOrder, IsDown, passes, IsTurn};
+ghost use Rattle.channel_route.specs.declared.cycle.Step.{Step as AStep};
+ghost use Rattle.channel_route.specs.Graph.{has_key, waits};
+ghost use Rattle.channel_route.specs.Turn.{steps, leads, waits_at, AreInOrder, IsDown, passes, IsTurn};
+ghost use Rattle.channel_route.specs.Walk.{IsKeyCycleBelow};
 
 use crate::constraint::Constraint;
-use crate::fill::holds_net;
-use crate::wire::Wire;
-use crate::{Above, CycleList};
-use cell_num::{List, NetNo};
+use crate::wire::{Wire, holds_key};
 use std::alloc::{AllocError, Global};
 
-fn is_passed(path: &[Above], net: NetNo) -> bool
-    ensures { result ≡ passes path.now net }
-{
-    path.iter().any(|above| above.net.0 == net.0)
+/// A wire of a walk, which stands above the next one at a line.
+#[derive(Clone, Copy, Debug, PartialEq, Eq)]
+pub struct Step {
+    pub wire: Wire,
+    pub line: u32,
 }
 
-// The first constraint of the net over a wire that is left.
-fn next_below(left: &[Wire], constraints: &[Constraint], net: NetNo) -> Constraint
-    requires waits { waits_at left.now net constraints.now ≡ true }
+fn is_passed(path: &[Step], key: u32) -> bool
+    ensures { result ≡ passes steps path.now key }
+{
+    path.iter().any(|step| step.wire.key == key)
+}
+
+fn leads_on(constraint: &Constraint, left: &[Wire], key: u32) -> bool
+    ensures { result ≡ leads left.now key constraint.now }
+{
+    constraint.upper == key && holds_key(left, constraint.lower)
+}
+
+// The first constraint of the key over a wire that is left.
+fn next_below(left: &[Wire], constraints: &[Constraint], key: u32) -> Constraint
+    requires waits { waits_at left.now key constraints.now ≡ true }
     requires order { AreInOrder constraints.now }
-    ensures { IsDown left.now constraints.now net result.lower result.line }
+    ensures { IsDown left.now constraints.now key result.lower result.line }
 {
     for constraint in constraints {
-        if constraint.upper.0 == net.0 && holds_net(left, constraint.lower) {
+        if leads_on(constraint, left, key) {
             return *constraint;
         }
     }
     unreachable!()
 }
 
-// The first place of a net that a path passes.
-fn place_in(path: &[Above], net: NetNo) -> usize
-    requires { passes path.now net ≡ true }
+fn wire_of_key(left: &[Wire], key: u32) -> Wire
+    requires { has_key left.now key ≡ true }
+    ensures there { Contains left.now result }
+    ensures is { result.key ≡ key }
+{
+    for wire in left {
+        if wire.key == key {
+            return *wire;
+        }
+    }
+    unreachable!()
+}
+
+// The first place of a key that a path passes.
+fn place_in(path: &[Step], key: u32) -> usize
+    requires { passes steps path.now key ≡ true }
     ensures below { result < length path.now }
-    ensures is { (d : AnAbove) → (slice_index_or path.now result d).net ≡ net }
+    ensures is { (d : AStep) → (slice_index_or path.now result d).wire.key ≡ key }
 {
     for at in 0..path.len() {
-        if path[at].net.0 == net.0 {
+        if path[at].wire.key == key {
             return at;
         }
     }
     unreachable!()
 }
 
-// Goes down from a net until it comes to a net again, and gives the walk from there on.
+// Goes down from a wire until it comes to one again, and gives the walk from there on.
 fn turn(
     alloc: Global,
     left: &[Wire],
     constraints: &[Constraint],
-    start: NetNo,
-) -> Result<Vec<Above>, AllocError>
+    start: Wire,
+) -> Result<Vec<Step>, AllocError>
     requires stuck { All (λ w. waits left.now constraints.now w ≡ true) left.now }
     requires order { AreInOrder constraints.now }
-    requires start { has_net left.now start ≡ true }
-    ensures { IfOk result (λ turn. IsTurn (IsDown left.now constraints.now) start turn.items) }
+    requires start { Contains left.now start }
+    ensures turn { IfOk result (λ turn. IsTurn steps (IsDown left.now constraints.now) start.key turn.items) }
+    ensures wires { IfOk result (λ turn. All (λ step. Contains left.now step.wire) turn.items) }
 {
     let mut path = Vec::new(alloc);
     let mut here = start;
-    while !is_passed(&path, here) {
-        let next = next_below(left, constraints, here);
-        path.push(Above {
-            net: here,
+    while !is_passed(&path, here.key) {
+        let next = next_below(left, constraints, here.key);
+        path.push(Step {
+            wire: here,
             line: next.line,
         })?;
-        here = next.lower;
+        here = wire_of_key(left, next.lower);
     }
-    let at = place_in(&path, here);
+    let at = place_in(&path, here.key);
     let mut turn = Vec::new(alloc);
     turn.extend_from_slice(&path[at..])?;
     Ok(turn)
 }
 
-fn least_net(turn: &[Above]) -> NetNo
+fn least_key(turn: &[Step]) -> u32
     requires { 0 < length turn.now }
-    ensures there { passes turn.now result ≡ true }
-    ensures least { All (λ a. result.0 ≤ a.net.0) turn.now }
+    ensures there { passes steps turn.now result ≡ true }
+    ensures least { All (λ a. result ≤ a.wire.key) turn.now }
 {
-    let mut least = turn[0].net;
-    for above in turn {
-        if above.net.0 < least.0 {
-            least = above.net;
+    let mut least = turn[0].wire.key;
+    for step in turn {
+        if step.wire.key < least {
+            least = step.wire.key;
         }
     }
     least
 }
 
-// The place of the least net.
-fn least_place(turn: &[Above]) -> usize
+// The place of the least key.
+fn least_place(turn: &[Step]) -> usize
     requires { 0 < length turn.now }
     ensures below { result < length turn.now }
-    ensures least { (d : AnAbove) → All (λ a. (slice_index_or turn.now result d).net.0 ≤ a.net.0) turn.now }
+    ensures least { (d : AStep) → All (λ a. (slice_index_or turn.now result d).wire.key ≤ a.wire.key) turn.now }
 {
-    place_in(turn, least_net(turn))
+    place_in(turn, least_key(turn))
 }
 
-/// The cycle to which the walk down from a net comes, its least net first.
+/// The cycle to which the walk down from a wire comes, the wire of the least key first.
 pub fn find_cycle(
     alloc: Global,
     left: &[Wire],
     constraints: &[Constraint],
-    start: NetNo,
-) -> Result<CycleList, AllocError>
+    start: Wire,
+) -> Result<Vec<Step>, AllocError>
     requires stuck { All (λ w. waits left.now constraints.now w ≡ true) left.now }
     requires order { AreInOrder constraints.now }
-    requires start { has_net left.now start ≡ true }
+    requires start { Contains left.now start }
     requires differ { (c : AConstraint) → Contains constraints.now c → c.upper ≢ c.lower }
-    ensures { IfOk result (IsCycleBelow (IsDown left.now constraints.now) start) }
+    ensures cycle { IfOk result (λ cycle.
+        IsKeyCycleBelow steps (IsDown left.now constraints.now) start.key cycle.items) }
+    ensures wires { IfOk result (λ cycle. All (λ step. Contains left.now step.wire) cycle.items) }
 {
     let turn = turn(alloc, left, constraints, start)?;
     if turn.is_empty() {
@@ -121,5 +147,5 @@ pub fn find_cycle(
     let mut cycle = Vec::new(alloc);
     cycle.extend_from_slice(&turn[at..])?;
     cycle.extend_from_slice(&turn[..at])?;
-    Ok(List::from_vec(cycle))
+    Ok(cycle)
 }

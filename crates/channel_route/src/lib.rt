@@ -2,16 +2,22 @@
 #![tactic(auto)]
 
 pub mod channel;
-mod constraint;
-mod cycle;
-mod fill;
+pub mod constraint;
+pub mod cycle;
 pub mod laws;
 pub mod routing;
-mod wire;
+pub mod sweep;
+pub mod wire;
 
 pub use channel::route;
+pub use constraint::{Constraint, constraints};
+pub use cycle::{Step, find_cycle};
 pub use laws::{no_cycle, one_routing, one_told};
-pub use routing::{Above, CycleList, RouteStop, Routing, Trunk, TrunkList};
+pub use routing::{
+    Above, CycleList, RouteStop, Routing, Trunk, TrunkList, WireAbove, WireCycleList,
+};
+pub use sweep::{Filled, fill};
+pub use wire::{MOST_TRUNKS, MOST_WIRES, PlacedWire, Wire, wires};
 
 #[cfg(test)]
 mod tests;

@@ -29,6 +29,16 @@ pub struct Above {
 
 pub type CycleList = List<Above>;
 
+/// A wire, told by its net and its first line, that stands above the next one of a cycle at a line.
+#[derive(Clone, Copy, Debug, PartialEq, Eq)]
+pub struct WireAbove {
+    pub net: NetNo,
+    pub left: u32,
+    pub line: u32,
+}
+
+pub type WireCycleList = List<WireAbove>;
+
 /// Why a channel has no routing.
 #[derive(Debug, Drop)]
 pub enum RouteStop {

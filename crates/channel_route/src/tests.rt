@@ -145,9 +145,8 @@ fn is_cycle(answer: &Result<Routing, RouteStop>, entries: &[(u32, u32)]) -> bool
 
 fn are_above(constraints: &[Constraint], want: &[(u32, u32, u32)]) -> bool {
     constraints.len() == want.len()
-        && constraints.iter().zip(want.iter()).all(|(constraint, want)| constraint.upper
-            == NetNo(want.0)
-            && constraint.lower == NetNo(want.1)
+        && constraints.iter().zip(want.iter()).all(|(constraint, want)| constraint.upper == want.0
+            && constraint.lower == want.1
             && constraint.line == want.2)
 }
 

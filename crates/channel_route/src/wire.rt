@@ -1,30 +1,45 @@
-// The nets that need a trunk.
+// The wires of a channel, and those of the nets that need a trunk.
 
-ghost use Rattle.std.specs.Prelude.{◌≡◌, ◌+◌, ◌≤◌, ◌<◌, ◌⊎◌, ◌↔◌, true, All};
+ghost use Rattle.std.specs.Prelude.{ℕ, ◌≡◌, ◌+◌, ◌≤◌, ◌<◌, ◌⊎◌, ◌↔◌, true, All};
 ghost use Rattle.std.specs.Prelude.{Contains, IfOk, OnOk, IfSome, IfNone, IsTrue, IsPermutation, IsSorted, length};
-ghost use Rattle.cell_num.specs.declared.net.NetNo.{NetNo as ANet};
 ghost use Rattle.cell_num.specs.Pins.{IsRail};
 ghost use Rattle.row_place.specs.Places.{IsPlacement};
 ghost use Rattle.row_place.specs.Trunks.{lines_of, HasPins, HasTrunk};
-ghost use Rattle.channel_route.specs.Graph.{has_net};
+ghost use Rattle.channel_route.specs.Graph.{has_key};
 ghost use Rattle.channel_route.specs.Wires.{IsWire, AreFound, AreWires, wire_cmp};
 
-use crate::fill::holds_net;
 use cell_num::{NetNo, Pins};
 use row_place::Placement;
 use std::alloc::{AllocError, Global};
 
-/// A net with a trunk, and the first and the last line of its places. Wires are in order of first
-/// line, then net.
+/// A stretch of a net that needs a track: from its first to its last line. No other wire of a channel
+/// has its key. Wires are in order of first line, then key.
 #[derive(Clone, Copy, Debug, PartialEq, Eq, PartialOrd, Ord)]
 pub struct Wire {
     pub left: u32,
-    pub net: NetNo,
+    pub key: u32,
     pub right: u32,
+    pub net: NetNo,
 }
 
-/// More wires than a row has places.
-pub const MOST_WIRES: usize = 1024;
+/// A wire on its track.
+#[derive(Clone, Copy, Debug, PartialEq, Eq)]
+pub struct PlacedWire {
+    pub wire: Wire,
+    pub track: u32,
+}
+
+/// The most wires that a channel may have.
+pub const MOST_WIRES: usize = 1_000_000;
+
+/// More trunks than a row has places.
+pub const MOST_TRUNKS: usize = 1024;
+
+pub fn holds_key(wires: &[Wire], key: u32) -> bool
+    ensures { result ≡ has_key wires.now key }
+{
+    wires.iter().any(|wire| wire.key == key)
+}
 
 // The lines of the places of a net.
 pub fn lines(alloc: Global, placement: &Placement, net: NetNo) -> Result<Vec<u32>, AllocError>
@@ -95,8 +110,9 @@ fn wire_of(
     }
     Ok(Some(Wire {
         left: least(&lines),
-        net,
+        key: net.0,
         right: greatest(&lines),
+        net,
     }))
 }
 
@@ -111,12 +127,12 @@ fn add_wire(
     requires pins { HasPins placement.now pins.now }
     requires found { AreFound placement.now pins.now wires.old.items }
     ensures found { OnOk result (AreFound placement.now pins.now wires.new.items) }
-    ensures there { OnOk result (HasTrunk placement.now pins.now net → has_net wires.new.items net ≡ true) }
-    ensures kept { OnOk result ((other : ANet) → has_net wires.old.items other ≡ true
-        → has_net wires.new.items other ≡ true) }
+    ensures there { OnOk result (HasTrunk placement.now pins.now net → has_key wires.new.items net.0 ≡ true) }
+    ensures kept { OnOk result ((key : ℕ) → has_key wires.old.items key ≡ true
+        → has_key wires.new.items key ≡ true) }
     ensures more { OnOk result (length wires.new.items ≤ length wires.old.items + 1) }
 {
-    if holds_net(wires.as_slice(), net) {
+    if holds_key(wires.as_slice(), net.0) {
         return Ok(());
     }
     match wire_of(alloc, placement, pins, net)? {
@@ -135,12 +151,13 @@ fn sort(wires: &mut Vec<Wire>)
     wires.sort_unstable();
 }
 
-/// A wire for each net with a trunk, in order of first line, then net.
+/// A wire for each net with a trunk, from the first to the last line of its places, in order of first
+/// line, then net. Its key is the number of its net.
 pub fn wires(alloc: Global, placement: &Placement, pins: &Pins) -> Result<Vec<Wire>, AllocError>
     requires placement { IsPlacement placement.now }
     requires pins { HasPins placement.now pins.now }
     ensures wires { IfOk result (λ wires. AreWires placement.now pins.now wires.items) }
-    ensures few { IfOk result (λ wires. length wires.items ≤ MOST_WIRES) }
+    ensures few { IfOk result (λ wires. length wires.items ≤ MOST_TRUNKS) }
 {
     let mut wires = Vec::new(alloc);
     for node in placement.nodes.as_slice() {

@@ -1,6 +1,6 @@
 use Rattle.std.proofs.Common.{ℕ, ◌+◌, ◌≤◌, ◌<◌, List, All, Contains, take, take_all, get_or, subst, sym, arith, rules}
 use Rattle.std.proofs.lemmas.List.Elements.{Contains-get_or}
-use Rattle.channel_route.proofs.Wires.{high_more}
+use Rattle.channel_route.proofs.NetWires.{high_more}
 use Rattle.channel_route.proofs.wire.greatest.Goals as goal
 use Rattle.channel_route.proofs.wire.greatest.Goals.{then-line-greatest, else-line-greatest}
 

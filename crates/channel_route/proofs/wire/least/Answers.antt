@@ -1,6 +1,6 @@
 use Rattle.std.proofs.Common.{ℕ, ◌+◌, ◌≤◌, ◌<◌, List, All, Contains, take, take_all, get_or, subst, sym, arith, rules}
 use Rattle.std.proofs.lemmas.List.Elements.{Contains-get_or}
-use Rattle.channel_route.proofs.Wires.{low_more}
+use Rattle.channel_route.proofs.NetWires.{low_more}
 use Rattle.channel_route.proofs.wire.least.Goals as goal
 use Rattle.channel_route.proofs.wire.least.Goals.{then-line-least, else-line-least}
 

@@ -1,13 +1,12 @@
-use Rattle.std.proofs.Common.{◌≡◌, ◌≤◌, ◌<◌, true, List, length, get_or, subst, arith, rules}
+use Rattle.std.proofs.Common.{ℕ, ◌≡◌, ◌≤◌, ◌<◌, true, List, length, get_or, subst, arith, rules}
 use Rattle.std.proofs.lemmas.List.Sorted.{length_permutation}
-use Rattle.cell_num.specs.declared.net.NetNo.{NetNo}
 use Rattle.cell_num.specs.declared.finger.Row.TheVariants.{P}
 use Rattle.row_place.specs.declared.placement.NodePlace.{NodePlace}
 use Rattle.row_place.specs.declared.placement.GatePlace.{GatePlace}
 use Rattle.row_place.specs.Trunks.{HasTrunk}
 use Rattle.row_place.proofs.Bounds.{few_nodes, few_gates}
-use Rattle.channel_route.specs.Graph.{has_net}
-use Rattle.channel_route.proofs.Wires.{nets_more, nets_same, nets_all, wires_sorted}
+use Rattle.channel_route.specs.Graph.{has_key}
+use Rattle.channel_route.proofs.NetWires.{nets_more, nets_same, nets_all, wires_sorted}
 use Rattle.channel_route.proofs.wire.wires.Goals as goal
 
 abbrev no_node : NodePlace
@@ -19,8 +18,8 @@ no_gate = record { line = 0; net = record { 0 = 0 } }
 pub loop-node-preserved : goal.loop-node-preserved
 loop-node-preserved c =
     let short : c.loop-node.node-index < length c.args.placement.now.nodes = search rules in
-    let kept : (n : NetNo) → has_net c.loop-node.wires.items n ≡ true → has_net c.add_wire.new.wires.items n ≡ true = c.in_ok-add_wire.ensures.kept in
-    let there : HasTrunk c.args.placement.now c.args.pins.now (get_or c.args.placement.now.nodes c.loop-node.node-index no_node).net → has_net c.add_wire.new.wires.items (get_or c.args.placement.now.nodes c.loop-node.node-index no_node).net ≡ true = search rules in (
+    let kept : (key : ℕ) → has_key c.loop-node.wires.items key ≡ true → has_key c.add_wire.new.wires.items key ≡ true = c.in_ok-add_wire.ensures.kept in
+    let there : HasTrunk c.args.placement.now c.args.pins.now (get_or c.args.placement.now.nodes c.loop-node.node-index no_node).net → has_key c.add_wire.new.wires.items (get_or c.args.placement.now.nodes c.loop-node.node-index no_node).net.0 ≡ true = search rules in (
       c.in_ok-add_wire.ensures.found,
       nets_more (λ (node : NodePlace). node.net) c.args.placement.now c.args.pins.now c.args.placement.now.nodes c.loop-node.node-index no_node c.loop-node.wires.items c.add_wire.new.wires.items short kept there c.loop-node.invariant.1,
       omega (arith, c.in_ok-add_wire.ensures.more, c.loop-node.invariant.2),
@@ -39,9 +38,9 @@ loop-gate-init c =
 pub loop-gate-preserved : goal.loop-gate-preserved
 loop-gate-preserved c =
     let short : c.loop-gate.gate-index < length c.args.placement.now.gates = search rules in
-    let kept : (n : NetNo) → has_net c.loop-gate.wires.items n ≡ true → has_net c.add_wire-in-loop-gate.new.wires.items n ≡ true = c.in_ok-add_wire-2.ensures.kept in
+    let kept : (key : ℕ) → has_key c.loop-gate.wires.items key ≡ true → has_key c.add_wire-in-loop-gate.new.wires.items key ≡ true = c.in_ok-add_wire-2.ensures.kept in
     let same : c.as_slice-gate-items.result.now ≡ c.args.placement.now.gates = search rules in
-    let there : HasTrunk c.args.placement.now c.args.pins.now (get_or c.args.placement.now.gates c.loop-gate.gate-index no_gate).net → has_net c.add_wire-in-loop-gate.new.wires.items (get_or c.args.placement.now.gates c.loop-gate.gate-index no_gate).net ≡ true = subst (λ (gates : List GatePlace). HasTrunk c.args.placement.now c.args.pins.now (get_or gates c.loop-gate.gate-index no_gate).net → has_net c.add_wire-in-loop-gate.new.wires.items (get_or gates c.loop-gate.gate-index no_gate).net ≡ true) same c.in_ok-add_wire-2.ensures.there in (
+    let there : HasTrunk c.args.placement.now c.args.pins.now (get_or c.args.placement.now.gates c.loop-gate.gate-index no_gate).net → has_key c.add_wire-in-loop-gate.new.wires.items (get_or c.args.placement.now.gates c.loop-gate.gate-index no_gate).net.0 ≡ true = subst (λ (gates : List GatePlace). HasTrunk c.args.placement.now c.args.pins.now (get_or gates c.loop-gate.gate-index no_gate).net → has_key c.add_wire-in-loop-gate.new.wires.items (get_or gates c.loop-gate.gate-index no_gate).net.0 ≡ true) same c.in_ok-add_wire-2.ensures.there in (
       c.in_ok-add_wire-2.ensures.found,
       nets_same (λ (node : NodePlace). node.net) c.args.placement.now c.args.pins.now c.args.placement.now.nodes c.loop-gate.wires.items c.add_wire-in-loop-gate.new.wires.items kept c.loop-gate.invariant.1,
       nets_more (λ (gate : GatePlace). gate.net) c.args.placement.now c.args.pins.now c.args.placement.now.gates c.loop-gate.gate-index no_gate c.loop-gate.wires.items c.add_wire-in-loop-gate.new.wires.items short kept there c.loop-gate.invariant.2,

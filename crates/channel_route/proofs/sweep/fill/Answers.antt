@@ -1,6 +1,6 @@
 use Rattle.std.proofs.Common.{◌≡◌, ◌<◌, length, ap, subst, arith, rules}
 use Rattle.channel_route.specs.Graph.{IsFilled}
-use Rattle.channel_route.proofs.fill.fill.Goals as goal
+use Rattle.channel_route.proofs.sweep.fill.Goals as goal
 
 pub loop-alloc-preserved : goal.loop-alloc-preserved
 loop-alloc-preserved c =

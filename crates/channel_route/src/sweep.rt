@@ -1,51 +1,44 @@
 // Fills the channel track by track: on each one the wires that stand above no wire that is left are
-// put in order, each that begins behind the one put before it.
+// put in order, each that begins behind the one put before it, or where that one of its own net ends.
 
 ghost use Rattle.std.specs.Prelude.{◌≡◌, ◌≤◌, ◌<◌, ◌+◌, ◌⊎◌, true, All, IfOk, List, length};
 ghost use Rattle.std.specs.List.{list_any};
 ghost use Rattle.channel_route.specs.declared.wire.Wire.{Wire as AWire};
-ghost use Rattle.channel_route.specs.Graph.{IsChannel, IsFilled, IsOutcome, has_net, waits, starts_behind, has_room};
+ghost use Rattle.channel_route.specs.Graph.{IsChannel, IsFilled, IsOutcome, has_key, waits, starts_behind, has_room};
 
-use crate::Trunk;
 use crate::constraint::Constraint;
-use crate::wire::{MOST_WIRES, Wire};
-use cell_num::NetNo;
+use crate::wire::{MOST_WIRES, PlacedWire, Wire, holds_key};
 use std::alloc::{AllocError, Global};
 
-/// The trunks of all wires and the number of their tracks, or wires of which each stands above another
-/// one.
+/// All wires on their tracks and the number of these, or wires of which each stands above another one.
 #[derive(Drop)]
 pub enum Filled {
-    Done(Vec<Trunk>, u32),
+    Done(Vec<PlacedWire>, u32),
     Stuck(Vec<Wire>),
-}
-
-pub fn holds_net(wires: &[Wire], net: NetNo) -> bool
-    ensures { result ≡ has_net wires.now net }
-{
-    wires.iter().any(|wire| wire.net.0 == net.0)
 }
 
 fn is_held(wire: &Wire, left: &[Wire], constraints: &[Constraint]) -> bool
     ensures { result ≡ waits left.now constraints.now wire.now }
 {
-    constraints.iter().any(|constraint| constraint.upper.0 == wire.net.0
-        && holds_net(left, constraint.lower))
+    constraints.iter().any(|constraint| constraint.upper == wire.key
+        && holds_key(left, constraint.lower))
 }
 
-fn is_behind(reach: Option<u32>, line: u32) -> bool
-    ensures { result ≡ starts_behind reach line }
+fn is_behind(last: Option<Wire>, wire: &Wire) -> bool
+    ensures { result ≡ starts_behind last wire.now }
 {
-    match reach {
+    match last {
         None => true,
-        Some(reach) => reach < line,
+        Some(last) => {
+            last.right < wire.left || (last.right == wire.left && last.net.0 == wire.net.0)
+        }
     }
 }
 
-fn fits(wire: &Wire, left: &[Wire], constraints: &[Constraint], reach: Option<u32>) -> bool
-    ensures { result ≡ has_room left.now constraints.now reach wire.now }
+fn fits(wire: &Wire, left: &[Wire], constraints: &[Constraint], last: Option<Wire>) -> bool
+    ensures { result ≡ has_room left.now constraints.now last wire.now }
 {
-    !is_held(wire, left, constraints) && is_behind(reach, wire.left)
+    !is_held(wire, left, constraints) && is_behind(last, wire)
 }
 
 // Fills one track, and gives the wires that are left behind it, in order.
@@ -54,7 +47,7 @@ fn fill_track(
     left: &[Wire],
     constraints: &[Constraint],
     track: u32,
-    placed: &mut Vec<Trunk>,
+    placed: &mut Vec<PlacedWire>,
 ) -> Result<Vec<Wire>, AllocError>
     ensures filled { IfOk result (λ still. (wires : List AWire) → IsChannel wires constraints.now
         → IsFilled wires constraints.now placed.old.items left.now track → length still.items < length left.now
@@ -64,16 +57,11 @@ fn fill_track(
         → All (λ w. waits left.now constraints.now w ≡ true) left.now) }
 {
     let mut still = Vec::new(alloc);
-    let mut reach = None;
+    let mut last = None;
     for wire in left {
-        if fits(wire, left, constraints, reach) {
-            placed.push(Trunk {
-                net: wire.net,
-                left: wire.left,
-                right: wire.right,
-                track,
-            })?;
-            reach = Some(wire.right);
+        if fits(wire, left, constraints, last) {
+            placed.push(PlacedWire { wire: *wire, track })?;
+            last = Some(*wire);
         } else {
             still.push(*wire)?;
         }

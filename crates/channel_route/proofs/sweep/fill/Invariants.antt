@@ -1,6 +1,6 @@
 use Rattle.std.proofs.Common.{◌+◌, ◌≤◌, length}
 use Rattle.channel_route.specs.Graph.{IsFilled}
-use Rattle.channel_route.proofs.fill.fill.Given as goal
+use Rattle.channel_route.proofs.sweep.fill.Given as goal
 
 -- the tracks so far are full
 abbrev pub invariant-loop-alloc : goal.invariant-loop-alloc
