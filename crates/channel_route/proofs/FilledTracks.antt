@@ -25,7 +25,7 @@ pub record IsFull (wires : List Wire) (cs : List Constraint) (placed : List Plac
 
 -- on the track the wire would stand above each that it has to, and would share no line with an earlier one
 -- of another net
-pub record IsFreeFor (cs : List Constraint) (placed : List PlacedWire) (t : PlacedWire) (track : ℕ) : Type 0 where
+pub record IsFreeWire (cs : List Constraint) (placed : List PlacedWire) (t : PlacedWire) (track : ℕ) : Type 0 where
   pub above : (b : PlacedWire) → Contains placed b → (line : ℕ) → IsOver cs t.wire.key b.wire.key line → b.track < track
   pub clear : (o : PlacedWire) → Contains placed o → o.track ≡ track → IsBefore o.wire t.wire → o.wire.net ≢ t.wire.net → AreApart (trunk_of o) (trunk_of t)
 
@@ -80,7 +80,7 @@ above_at wires nodes placed tracks h a b ha hb line top bottom differ hold_a hol
     (pair_there wires nodes a.wire b.wire line (placed_wire wires (constraints_of wires nodes) placed tracks h a ha) (placed_wire wires (constraints_of wires nodes) placed tracks h b hb) top bottom differ hold_a hold_b)
 
 -- no wire could stand lower
-pub not_lower : (wires : List Wire) (cs : List Constraint) (placed : List PlacedWire) (tracks : ℕ) → IsFull wires cs placed tracks → (t : PlacedWire) → Contains placed t → (track : ℕ) → track < t.track → IsFreeFor cs placed t track → ⊥
+pub not_lower : (wires : List Wire) (cs : List Constraint) (placed : List PlacedWire) (tracks : ℕ) → IsFull wires cs placed tracks → (t : PlacedWire) → Contains placed t → (track : ℕ) → track < t.track → IsFreeWire cs placed t track → ⊥
 not_lower wires cs placed tracks h t there track below free = blocked (h.filled.part.tight t there track below)
   where
     apart : (o : PlacedWire) → IsBefore o.wire t.wire → t.wire.left ≤ o.wire.right → AreApart (trunk_of o) (trunk_of t) → ⊥

@@ -21,7 +21,7 @@ use Rattle.channel_route.specs.Graph.{trunk_of, IsBefore, IsFilled}
 use Rattle.channel_route.specs.Turn.{IsOver}
 use Rattle.channel_route.specs.Wires.{IsWire, AreWires, constraints_of, trunk_cmp}
 use Rattle.cell_num.proofs.Pairs.{Some', some_from_any, any_at, OneEach, one_each_permutation, one_each_same, pairs_from_sorted}
-use Rattle.channel_route.proofs.FilledTracks.{IsFull, IsFreeFor, count_map, placed_wire, wire_placed, same_placed, one_each_placed, one_each_like, tracks_above, not_lower}
+use Rattle.channel_route.proofs.FilledTracks.{IsFull, IsFreeWire, count_map, placed_wire, wire_placed, same_placed, one_each_placed, one_each_like, tracks_above, not_lower}
 use Rattle.channel_route.proofs.NetWires.{cmp_less}
 use Rattle.channel_route.proofs.TrunkChannel.{net_of, is_wire, net_is, wire_of_net, channel, constraint_is, constraint_there}
 
@@ -152,7 +152,7 @@ tight p pins wires placed trunks tracks d t there = (record { above = λ b hb li
         not_lower wires (constraints_of wires p.nodes) placed tracks (full_of p pins wires placed trunks tracks d) x.of x.listed track (subst (λ (z : Trunk). track < z.track) (sym x.is) below)
         (free_of x track (subst (λ (z : Trunk). IsFree p pins trunks z track) (sym x.is) free))
       where
-        free_of : (x : Image trunk_of placed t) (track : ℕ) → IsFree p pins trunks (trunk_of x.of) track → IsFreeFor (constraints_of wires p.nodes) placed x.of track
+        free_of : (x : Image trunk_of placed t) (track : ℕ) → IsFree p pins trunks (trunk_of x.of) track → IsFreeWire (constraints_of wires p.nodes) placed x.of track
         free_of x track f = record {
           above = λ b hb line over. f.above (trunk_of b) (to_sorted p pins wires placed trunks tracks d b hb) line (above_of p pins wires placed trunks tracks d x.of b x.listed hb line over);
           clear = λ o ho same before _. f.clear (trunk_of o) (to_sorted p pins wires placed trunks tracks d o ho) same (before_of p pins o.wire x.of.wire (placed_is p pins wires placed trunks tracks d o ho) (placed_is p pins wires placed trunks tracks d x.of x.listed) before);

@@ -2,12 +2,12 @@
 #![tactic(auto)]
 
 pub mod channel;
-pub mod constraint;
-pub mod cycle;
+mod constraint;
+mod cycle;
 pub mod laws;
 pub mod routing;
-pub mod sweep;
-pub mod wire;
+mod sweep;
+mod wire;
 
 pub use channel::route;
 pub use constraint::{Constraint, constraints};
