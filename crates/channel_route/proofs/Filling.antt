@@ -1,20 +1,19 @@
 -- One track is filled in a sweep over the wires that are left.
-use Rattle.std.proofs.Common.{ℕ, zero, suc, ◌≡◌, ◌≢◌, ◌+◌, ◌<◌, ◌≤◌, ◌⊎◌, ◌++◌, ◌==◌, ◌&&◌, ◌||◌, not, ltb, Bool, true, false, List, [], ◌∷◌, Option, Some, None, map, length, inl, inr, refl, sym, ap, subst, arith, All, AllPairs, Any, Contains, IsPermutation, append-nil, length-append, take_all, drop, get_or, add-one}
-use Rattle.std.proofs.Math.Seq.{drop-cons}
+use Rattle.std.proofs.Common.{ℕ, ◌≡◌, ◌≢◌, ◌+◌, ◌<◌, ◌≤◌, ◌++◌, ◌==◌, true, false, List, [], ◌∷◌, Option, Some, None, map, inl, inr, refl, sym, ap, subst, arith, AllPairs, Any, Contains, IsPermutation, append-nil}
 use Rattle.std.specs.Bool.{⊤}
-use Rattle.std.proofs.lemmas.Bool.{cases_Bool, cases_order, and_parts, ltb-true, lt-ltb, eq-eqb, eqb-true}
+use Rattle.std.proofs.lemmas.Bool.{cases_order, eq-eqb}
 use Rattle.std.proofs.lemmas.List.{append_assoc, map-append}
-use Rattle.std.proofs.lemmas.List.Elements.{All-contains, All-more, Contains-append_left, Contains-append_right, Contains-append_cases, Contains-push, Contains-push_cases}
+use Rattle.std.proofs.lemmas.List.Elements.{All-contains, Contains-append_left, Contains-append_right, Contains-append_cases, Contains-push, Contains-push_cases}
 use Rattle.std.proofs.lemmas.List.Sorted.{IsPermutation-append_right, IsPermutation-middle, IsPermutation-sym, IsPermutation-trans, Contains-permutation}
-use Rattle.cell_num.specs.declared.net.NetNo.{NetNo}
 use Rattle.cell_num.proofs.In.{Image, in_map, contains_map}
 use Rattle.cell_num.proofs.Lists.{contains_none, contains_here, contains_there}
 use Rattle.channel_route.specs.declared.wire.PlacedWire.{PlacedWire}
 use Rattle.channel_route.specs.declared.wire.Wire.{Wire}
 use Rattle.channel_route.specs.declared.constraint.Constraint.{Constraint}
 use Rattle.channel_route.specs.Routing.{AreApart}
-use Rattle.channel_route.specs.Graph.{wire_of, trunk_of, IsBefore, IsChannel, IsCrossed, IsHeld, IsBlocked, HasWireBelow, IsPartial, IsFilled, has_key, waits, starts_behind, has_room, HasMoved}
-use Rattle.cell_num.proofs.Pairs.{Some', some_from_any, any_at, any_append_left, test_finds, test_there, test_fails, pairs_without, pairs_behind, OneEach, one_each_permutation, parts_differ}
+use Rattle.channel_route.specs.Graph.{wire_of, trunk_of, IsBefore, IsChannel, IsCrossed, IsHeld, IsBlocked, HasWireBelow, IsPartial, IsFilled, has_key, waits, starts_behind, has_room}
+use Rattle.cell_num.proofs.Pairs.{Some', some_from_any, any_at, any_append_left, test_there, pairs_without, pairs_behind, OneEach, one_each_permutation, parts_differ}
+use Rattle.channel_route.proofs.Room.{begins_at, not_behind, room_parts, no_room, not_waiting, WaitsFor, waiting}
 
 -- lines that a track is filled to
 abbrev pub Reaches : Option Wire → ℕ → Type 0
@@ -54,86 +53,6 @@ blocked_push cs trunks new w i high (inr held) = inr (held_push cs trunks new w 
 
 below_push : (trunks : List PlacedWire) (new : PlacedWire) (key : ℕ) (i : ℕ) → HasWireBelow trunks key i → HasWireBelow (trunks ++ new ∷ []) key i
 below_push trunks new key i h = record { one = h.one; there = Contains-append_left trunks (new ∷ []) h.one h.there; is = h.is; low = h.low }
-
--- a wire begins behind another one, or where it ends and is of its net
-pub or_cases : (a b : Bool) → (a || b) ≡ true → (a ≡ true) ⊎ (b ≡ true)
-or_cases a b e =
-    elim (cases_Bool a) [
-      | inl yes' ↦ inl yes'
-      | inr no' ↦ inr (grind (arith, no', e))
-    ]
-
-or_fails : (a b : Bool) → (a || b) ≡ false → (a ≡ false) × (b ≡ false)
-or_fails a b e = grind (arith, e)
-
-net_same : (a b : NetNo) → (a.0 == b.0) ≡ true → a ≡ b
-net_same a b e = ap (λ (n : ℕ). let r : NetNo = record { 0 = n } in r) (eqb-true a.0 b.0 e)
-
-net_test : (a b : NetNo) → a ≡ b → (a.0 == b.0) ≡ true
-net_test a b e = eq-eqb a.0 b.0 (ap (λ (n : NetNo). n.0) e)
-
--- where the next wire begins
-pub begins_at : (last w : Wire) → starts_behind (Some last) w ≡ true → (last.right < w.left) ⊎ ((last.right ≡ w.left) × (last.net ≡ w.net))
-begins_at last w e =
-    elim (or_cases (ltb last.right w.left) ((last.right == w.left) && (last.net.0 == w.net.0)) e) [
-      | inl far ↦ inl (ltb-true last.right w.left far)
-      | inr near ↦ let parts : ((last.right == w.left) ≡ true) × ((last.net.0 == w.net.0) ≡ true) = and_parts _ _ near in inr (eqb-true last.right w.left parts.0, net_same last.net w.net parts.1)
-    ]
-
--- a wire that does not
-pub not_behind : (last w : Wire) → starts_behind (Some last) w ≡ false → (w.left ≤ last.right) × ((last.right ≡ w.left) → (last.net ≡ w.net) → ⊥)
-not_behind last w e =
-    let parts : (ltb last.right w.left ≡ false) × (((last.right == w.left) && (last.net.0 == w.net.0)) ≡ false) = or_fails _ _ e in
-    (reached parts.0, λ same net. both parts.1 (eq-eqb last.right w.left same) (net_test last.net w.net net))
-  where
-    reached : ltb last.right w.left ≡ false → w.left ≤ last.right
-    reached f =
-        elim (cases_order last.right w.left) [
-          | inl same ↦ omega (arith, same)
-          | inr other ↦ elim other [
-            | inl less ↦ absurd (let wrong : ltb last.right w.left ≡ true = lt-ltb last.right w.left less in cc)
-            | inr more ↦ omega (arith, more)
-          ]
-        ]
-
-    both : ((last.right == w.left) && (last.net.0 == w.net.0)) ≡ false → (last.right == w.left) ≡ true → (last.net.0 == w.net.0) ≡ true → ⊥
-    both f a b = let wrong : ((last.right == w.left) && (last.net.0 == w.net.0)) ≡ true = rw a (rw b refl) in cc
-
-room_parts : (a b : Bool) → (not a && b) ≡ true → (a ≡ false) × (b ≡ true)
-room_parts a b e = grind (arith, e)
-
-no_room : (a b : Bool) → (not a && b) ≡ false → (a ≡ true) ⊎ (b ≡ false)
-no_room a b e =
-    elim (cases_Bool a) [
-      | inl held ↦ inl held
-      | inr not_held ↦ inr (grind (arith, not_held, e))
-    ]
-
--- a wire that does not wait stands above no wire that is left
-not_waiting : (left : List Wire) (cs : List Constraint) (w : Wire) (c : Constraint) → waits left cs w ≡ false → Contains cs c → c.upper ≡ w.key → has_key left c.lower ≡ false
-not_waiting left cs w c e there upper = go (test_fails (λ (z : Constraint). (z.upper == w.key) && has_key left z.lower) cs c e there)
-  where
-    same : (c.upper == w.key) ≡ true
-    same = eq-eqb c.upper w.key upper
-
-    go : ((c.upper == w.key) && has_key left c.lower) ≡ false → has_key left c.lower ≡ false
-    go f = grind (arith, same, f)
-
--- what a waiting wire waits for
-pub record WaitsFor (left : List Wire) (cs : List Constraint) (w : Wire) : Type 0 where
-  pub constraint : Constraint
-  pub there : Contains cs constraint
-  pub upper : constraint.upper ≡ w.key
-  pub lower : Wire
-  pub left_there : Contains left lower
-  pub is : lower.key ≡ constraint.lower
-
-pub waiting : (left : List Wire) (cs : List Constraint) (w : Wire) → waits left cs w ≡ true → WaitsFor left cs w
-waiting left cs w e =
-    let c : Some' (λ (z : Constraint). ((z.upper == w.key) && has_key left z.lower) ≡ true) cs = test_finds (λ (z : Constraint). (z.upper == w.key) && has_key left z.lower) cs e in
-    let parts : ((c.it.upper == w.key) ≡ true) × (has_key left c.it.lower ≡ true) = and_parts _ _ c.holds in
-    let x : Some' (λ (z : Wire). (z.key == c.it.lower) ≡ true) left = test_finds (λ (z : Wire). z.key == c.it.lower) left parts.1 in
-    record { constraint = c.it; there = c.there; upper = eqb-true c.it.upper w.key parts.0; lower = x.it; left_there = x.there; is = eqb-true x.it.key c.it.lower x.holds }
 
 -- the first sweep over what is left
 pub begun : (wires : List Wire) (cs : List Constraint) (left : List Wire) (trunks : List PlacedWire) (track : ℕ) → IsChannel wires cs → IsFilled wires cs trunks left track → IsSweep wires cs left trunks [] left track None
@@ -324,74 +243,3 @@ ended wires cs left trunks still track reach s = record {
   };
   low = λ t there. omega (arith, s.low t there);
 }
-
--- progress
-pub moved_put : (left : List Wire) (cs : List Constraint) (at : ℕ) (still : List Wire) (reach : Option Wire) (line : Wire) → HasMoved left cs at still reach → HasMoved left cs (at + 1) still (Some line)
-moved_put left cs at still None line h = omega (arith, h.0)
-moved_put left cs at still (Some r) line h = omega (arith, h)
-
-pub moved_skip : (left : List Wire) (cs : List Constraint) (at : ℕ) (still : List Wire) (reach : Option Wire) (w d : Wire) → at < length left → get_or left at d ≡ w → has_room left cs reach w ≡ false → HasMoved left cs at still reach → HasMoved left cs (at + 1) (still ++ w ∷ []) reach
-moved_skip left cs at still (Some r) w d short is full h = omega (arith, h, length-append still (w ∷ []))
-moved_skip left cs at still None w d short is full h =
-    (omega (arith, h.0, length-append still (w ∷ [])), All-more (λ z. waits left cs z ≡ true) left at d short h.1 (subst (λ z. waits left cs z ≡ true) (sym is) held))
-  where
-    held : waits left cs w ≡ true
-    held = elim (no_room (waits left cs w) true full) [ inl yes' ↦ yes' | inr no' ↦ absurd (let wrong : ◌≡◌ {A = Bool} true false = no' in cc) ]
-
-pub ended_some : (wires : List Wire) (cs : List Constraint) (left : List Wire) (trunks : List PlacedWire) (still : List Wire) (track : ℕ) (reach : Option Wire) → HasMoved left cs (length left) still reach → length still < length left → IsSweep wires cs left trunks still [] track reach → IsFilled wires cs trunks still (track + 1)
-ended_some wires cs left trunks still track None moved fewer s = absurd (omega (arith, moved.0, fewer))
-ended_some wires cs left trunks still track (Some reach) moved fewer s = ended wires cs left trunks still track reach s
-
-pub moved_fewer : (left : List Wire) (cs : List Constraint) (at : ℕ) (still : List Wire) (reach : Option Wire) → HasMoved left cs at still reach → length still ≤ at
-moved_fewer left cs at still None h = omega (arith, h.0)
-moved_fewer left cs at still (Some r) h = omega (arith, h)
-
-pub moved_stuck : (left : List Wire) (cs : List Constraint) (still : List Wire) (reach : Option Wire) → HasMoved left cs (length left) still reach → length still ≡ length left → All (λ z. waits left cs z ≡ true) left
-moved_stuck left cs still None h e = subst (λ ws. All (λ z. waits left cs z ≡ true) ws) (take_all (length left) left (omega arith)) h.1
-moved_stuck left cs still (Some r) h e = absurd (omega (arith, h, e))
-
--- the loop over the wires
-abbrev pub Sweeps : List Constraint → List Wire → List PlacedWire → List PlacedWire → List Wire → ℕ → Option Wire → ℕ → Type 0
-Sweeps cs left before trunks still track reach at =
-    ((wires : List Wire) → IsChannel wires cs → IsFilled wires cs before left track → IsSweep wires cs left trunks still (drop at left) track reach)
-    × HasMoved left cs at still reach
-
-drop_more : (left : List Wire) (at : ℕ) (w d : Wire) → at < length left → get_or left at d ≡ w → drop at left ≡ w ∷ drop (at + 1) left
-drop_more left at w d short is = rw (add-one at) (subst (λ z. drop at left ≡ z ∷ drop (suc at) left) is (drop-cons left at d short))
-
-pub sweeps_begin : (cs : List Constraint) (left : List Wire) (trunks : List PlacedWire) (still : List Wire) (track : ℕ) → still ≡ [] → Sweeps cs left trunks trunks still track None 0
-sweeps_begin cs left trunks still track none = (
-  λ wires channel filled. subst (λ ws. IsSweep wires cs left trunks ws left track None) (sym none) (begun wires cs left trunks track channel filled),
-  (ap length none, λ k d short. absurd (omega (arith, short))),
-)
-
-pub sweeps_put : (cs : List Constraint) (left : List Wire) (before trunks trunks' : List PlacedWire) (still still' : List Wire) (track : ℕ) (reach reach' : Option Wire) (at : ℕ) (w d : Wire) → at < length left → get_or left at d ≡ w → has_room left cs reach w ≡ true → trunks' ≡ trunks ++ (let t : PlacedWire = record { wire = w; track = track } in t) ∷ [] → still' ≡ still → reach' ≡ Some w → Sweeps cs left before trunks still track reach at → Sweeps cs left before trunks' still' track reach' (at + 1)
-sweeps_put cs left before trunks trunks' still still' track reach reach' at w d short is room pushed same now h =
-    subst (λ r. Sweeps cs left before trunks' still' track r (at + 1)) (sym now)
-    (subst (λ ws. Sweeps cs left before trunks' ws track (Some w) (at + 1)) (sym same)
-    (subst (λ ts. Sweeps cs left before ts still track (Some w) (at + 1)) (sym pushed) (
-      λ wires channel filled. put wires cs left trunks still w (drop (at + 1) left) track reach channel (subst (λ ws. IsSweep wires cs left trunks still ws track reach) (drop_more left at w d short is) (h.0 wires channel filled)) room,
-      moved_put left cs at still reach w h.1,
-    )))
-
-pub sweeps_skip : (cs : List Constraint) (left : List Wire) (before trunks trunks' : List PlacedWire) (still still' : List Wire) (track : ℕ) (reach reach' : Option Wire) (at : ℕ) (w d : Wire) → at < length left → get_or left at d ≡ w → has_room left cs reach w ≡ false → trunks' ≡ trunks → still' ≡ still ++ w ∷ [] → reach' ≡ reach → Sweeps cs left before trunks still track reach at → Sweeps cs left before trunks' still' track reach' (at + 1)
-sweeps_skip cs left before trunks trunks' still still' track reach reach' at w d short is full same pushed now h =
-    subst (λ r. Sweeps cs left before trunks' still' track r (at + 1)) (sym now)
-    (subst (λ ws. Sweeps cs left before trunks' ws track reach (at + 1)) (sym pushed)
-    (subst (λ ts. Sweeps cs left before ts (still ++ w ∷ []) track reach (at + 1)) (sym same) (
-      λ wires channel filled. skip wires cs left trunks still w (drop (at + 1) left) track reach channel (subst (λ ws. IsSweep wires cs left trunks still ws track reach) (drop_more left at w d short is) (h.0 wires channel filled)) full,
-      moved_skip left cs at still reach w d short is full h.1,
-    )))
-
-drop_all : (left : List Wire) (at : ℕ) → length left ≤ at → drop at left ≡ []
-drop_all [] zero h = refl
-drop_all [] (suc at) h = refl
-drop_all (x ∷ xs) zero h = absurd (omega (arith, h))
-drop_all (x ∷ xs) (suc at) h = drop_all xs at (omega (arith, h))
-
-pub sweeps_end : (cs : List Constraint) (left : List Wire) (before trunks : List PlacedWire) (still : List Wire) (track : ℕ) (reach : Option Wire) (at : ℕ) → at ≡ length left → Sweeps cs left before trunks still track reach at → (wires : List Wire) → IsChannel wires cs → IsFilled wires cs before left track → length still < length left → IsFilled wires cs trunks still (track + 1)
-sweeps_end cs left before trunks still track reach at end h wires channel filled fewer =
-    ended_some wires cs left trunks still track reach (subst (λ n. HasMoved left cs n still reach) end h.1) fewer (subst (λ ws. IsSweep wires cs left trunks still ws track reach) (drop_all left at (omega (arith, end))) (h.0 wires channel filled))
-
-pub sweeps_stuck : (cs : List Constraint) (left : List Wire) (before trunks : List PlacedWire) (still : List Wire) (track : ℕ) (reach : Option Wire) (at : ℕ) → at ≡ length left → Sweeps cs left before trunks still track reach at → length still ≡ length left → All (λ z. waits left cs z ≡ true) left
-sweeps_stuck cs left before trunks still track reach at end h same = moved_stuck left cs still reach (subst (λ n. HasMoved left cs n still reach) end h.1) same

@@ -11,8 +11,11 @@ pub mod NetWires
 pub mod OneCycle
 pub mod OneRouting
 pub mod OneTold
+mod Room
+pub mod SameRouting
 pub mod Stuck
 pub mod StuckKeys
+mod Sweeps
 pub mod TrunkChannel
 pub mod Turns
 pub mod Unique

@@ -7,12 +7,12 @@ use Rattle.cell_num.specs.declared.net.NetNo.{NetNo}
 use Rattle.cell_num.specs.declared.net.Pins.{Pins}
 use Rattle.row_place.specs.declared.placement.Placement.{Placement}
 use Rattle.row_place.specs.Trunks.{lines_of, HasTrunk, IsSpan, IsAbove}
-use Rattle.row_place.proofs.Order.{same_list}
 use Rattle.channel_route.specs.declared.routing.Trunk.{Trunk}
 use Rattle.channel_route.specs.declared.routing.Routing.{Routing}
 use Rattle.channel_route.specs.Routing.{AreApart, IsLegal, IsEarlier, IsFree, IsTight}
 use Rattle.cell_num.proofs.Pairs.{Some', some_from_any, any_at}
-use Rattle.channel_route.proofs.Unique.{IsTightFor, one_track}
+use Rattle.channel_route.proofs.SameRouting.{SameSpan, HaveSpans, IsKeyed, same_routing}
+use Rattle.channel_route.proofs.Unique.{IsTightFor}
 
 -- a net with a trunk
 abbrev Key : Placement → Pins → Type 0
@@ -56,25 +56,27 @@ one_a_net trunks up a b ha hb e =
     same : a.net.0 ≡ b.net.0
     same = ap (λ (n : NetNo). n.0) e
 
-pub record SameSpan (a b : Trunk) : Type 0 where
-  pub net : a.net ≡ b.net
-  pub left : a.left ≡ b.left
-  pub right : a.right ≡ b.right
+-- the trunk of a net, over the span of the net
+abbrev Of : (p : Placement) (pins : Pins) → Key p pins → Trunk → Type 0
+Of p pins k t = (t.net ≡ k.0) × IsSpan p k.0 t.left t.right
 
-same_span : (p : Placement) (pins : Pins) (r s : Routing) (lr : IsLegal p pins r) (ls : IsLegal p pins s) (k : Key p pins) → SameSpan (trunk p pins r lr k) (trunk p pins s ls k)
-same_span p pins r s lr ls k =
-    let a = found p pins r lr k in
-    let b = found p pins s ls k in
-    let sa : IsSpan p k.0 a.it.left a.it.right = subst (λ n. IsSpan p n a.it.left a.it.right) a.holds (All-contains (λ (t : Trunk). IsSpan p t.net t.left t.right) r.trunks a.it lr.spans a.there) in
-    let sb : IsSpan p k.0 b.it.left b.it.right = subst (λ n. IsSpan p n b.it.left b.it.right) b.holds (All-contains (λ (t : Trunk). IsSpan p t.net t.left t.right) s.trunks b.it ls.spans b.there) in
-    record {
-      net = cc;
-      left = both (All-contains (λ line. a.it.left ≤ line) (lines_of p k.0) b.it.left sa.none_before sb.begins) (All-contains (λ line. b.it.left ≤ line) (lines_of p k.0) a.it.left sb.none_before sa.begins);
-      right = both (All-contains (λ line. line ≤ b.it.right) (lines_of p k.0) a.it.right sb.none_behind sa.ends) (All-contains (λ line. line ≤ a.it.right) (lines_of p k.0) b.it.right sa.none_behind sb.ends);
-    }
+spans : (p : Placement) (pins : Pins) → HaveSpans (Of p pins)
+spans p pins k a b (na, sa) (nb, sb) = record {
+  net = cc;
+  left = both (All-contains (λ line. a.left ≤ line) (lines_of p k.0) b.left sa.none_before sb.begins) (All-contains (λ line. b.left ≤ line) (lines_of p k.0) a.left sb.none_before sa.begins);
+  right = both (All-contains (λ line. line ≤ b.right) (lines_of p k.0) a.right sb.none_behind sa.ends) (All-contains (λ line. line ≤ a.right) (lines_of p k.0) b.right sa.none_behind sb.ends);
+}
   where
     both : {m n : ℕ} → m ≤ n → n ≤ m → m ≡ n
     both e f = omega (arith, e, f)
+
+is_of : (p : Placement) (pins : Pins) (r : Routing) (l : IsLegal p pins r) (k : Key p pins) → Of p pins k (trunk p pins r l k)
+is_of p pins r l k =
+    let t : Some' (λ (t : Trunk). t.net ≡ k.0) r.trunks = found p pins r l k in
+    (t.holds, subst (λ n. IsSpan p n t.it.left t.it.right) t.holds (All-contains (λ (t : Trunk). IsSpan p t.net t.left t.right) r.trunks t.it l.spans t.there))
+
+same_span : (p : Placement) (pins : Pins) (r s : Routing) (lr : IsLegal p pins r) (ls : IsLegal p pins s) (k : Key p pins) → SameSpan (trunk p pins r lr k) (trunk p pins s ls k)
+same_span p pins r s lr ls k = spans p pins k (trunk p pins r lr k) (trunk p pins s ls k) (is_of p pins r lr k) (is_of p pins s ls k)
 
 earlier_same : (a b c d : Trunk) → SameSpan a c → SameSpan b d → IsEarlier a b → IsEarlier c d
 earlier_same a b c d e f (inl less) = inl (omega (arith, less, e.left, f.left))
@@ -169,53 +171,18 @@ from_earliest p pins r l P step x = by_left (suc (trunk p pins r l x).left) x (o
     by_left zero x h = absurd (omega (arith, h))
     by_left (suc n) x h = by_net n (by_left n) (suc (trunk p pins r l x).net.0) x h (omega arith)
 
-make_trunk : NetNo → ℕ → ℕ → ℕ → Trunk
-make_trunk net left right track = record { net = net; left = left; right = right; track = track }
-
-made_trunk : {n m : NetNo} {a b c d e f : ℕ} → n ≡ m → a ≡ b → c ≡ d → e ≡ f → make_trunk n a c e ≡ make_trunk m b d f
-made_trunk en ea ec ee = cc
-
-trunk_same : (a b : Trunk) → SameSpan a b → a.track ≡ b.track → a ≡ b
-unfolding make_trunk
-trunk_same a b e f = made_trunk e.net e.left e.right f
-
--- each trunk of one is in the other
-there_too : (p : Placement) (pins : Pins) (r s : Routing) → IsLegal p pins r → IsTight p pins r → IsLegal p pins s → IsTight p pins s → (t : Trunk) → Contains r.trunks t → Contains s.trunks t
-there_too p pins r s lr tr ls ts t there =
-    let has : HasTrunk p pins t.net = (lr.nets t.net).1 (any_at (λ (z : Trunk). z.net ≡ t.net) r.trunks t there refl) in
-    let k : Key p pins = (t.net, has) in
-    let mine : trunk p pins r lr k ≡ t = one_a_net r.trunks lr.order (found p pins r lr k).it t (found p pins r lr k).there there (found p pins r lr k).holds in
-    let same : track p pins r lr k ≡ track p pins s ls k = one_track (Over p pins) (Early p pins r lr) (track p pins r lr) (track p pins s ls) (from_earliest p pins r lr) (tight_keys p pins r r lr lr tr) (tight_keys p pins r s lr ls ts) k in
-    subst (λ z. Contains s.trunks z) mine (subst (λ z. Contains s.trunks z) (sym (trunk_same (trunk p pins r lr k) (trunk p pins s ls k) (same_span p pins r s lr ls k) same)) (found p pins s ls k).there)
-
--- no more tracks
-no_more : (p : Placement) (pins : Pins) (r s : Routing) → IsLegal p pins r → IsLegal p pins s → ((t : Trunk) → Contains s.trunks t → Contains r.trunks t) → r.tracks < s.tracks → ⊥
-no_more p pins r s lr ls back less =
-    let t : Some' (λ (t : Trunk). t.track ≡ r.tracks) s.trunks = some_from_any (λ (t : Trunk). t.track ≡ r.tracks) s.trunks (ls.full r.tracks less) in
-    let low : t.it.track < r.tracks = All-contains (λ (t : Trunk). t.track < r.tracks) r.trunks t.it lr.tracks (back t.it t.there) in
-    omega (arith, low, t.holds)
-
-make : ℕ → List Trunk → Routing
-make tracks trunks = record { tracks = tracks; trunks = trunks }
-
-made : {m n : ℕ} {xs ys : List Trunk} → m ≡ n → xs ≡ ys → make m xs ≡ make n ys
-made e f = cc
+-- the routing q, where r tells what is earlier
+keyed : (p : Placement) (pins : Pins) (r q : Routing) (l : IsLegal p pins r) (m : IsLegal p pins q) → IsTight p pins q → IsKeyed (Of p pins) (Over p pins) (Early p pins r l) (λ a b. a.net.0 < b.net.0) q
+keyed p pins r q l m tight = record {
+  each = λ k. record { it = trunk p pins q m k; there = (found p pins q m k).there; holds = is_of p pins q m k };
+  key = λ t there. ((t.net, (m.nets t.net).1 (any_at (λ (z : Trunk). z.net ≡ t.net) q.trunks t there refl)), (refl, All-contains (λ (t : Trunk). IsSpan p t.net t.left t.right) q.trunks t m.spans there));
+  one = λ k t there of. one_a_net q.trunks m.order (trunk p pins q m k) t (found p pins q m k).there there (let e : (trunk p pins q m k).net ≡ k.0 = (found p pins q m k).holds in let f : t.net ≡ k.0 = of.0 in cc);
+  tight = tight_keys p pins r q l m tight;
+  order = m.order;
+  tracks = m.tracks;
+  full = m.full;
+}
 
 pub one_routing : (p : Placement) (pins : Pins) (r s : Routing) → IsLegal p pins r → IsTight p pins r → IsLegal p pins s → IsTight p pins s → r ≡ s
-unfolding make
-one_routing p pins r s lr tr ls ts = made tracks trunks
-  where
-    there : (t : Trunk) → Contains r.trunks t → Contains s.trunks t
-    there = there_too p pins r s lr tr ls ts
-
-    back : (t : Trunk) → Contains s.trunks t → Contains r.trunks t
-    back = there_too p pins s r ls ts lr tr
-
-    trunks : r.trunks ≡ s.trunks
-    trunks = same_list (λ (a b : Trunk). a.net.0 < b.net.0) (λ a b e f. omega (arith, e, f)) r.trunks s.trunks lr.order ls.order there back
-
-    tracks : r.tracks ≡ s.tracks
-    tracks = elim (cases_order r.tracks s.tracks) [
-      | inl same ↦ same
-      | inr other ↦ elim other [ inl less ↦ absurd (no_more p pins r s lr ls back less) | inr more ↦ absurd (no_more p pins s r ls lr there more) ]
-    ]
+one_routing p pins r s lr tr ls ts =
+    same_routing (Of p pins) (Over p pins) (Early p pins r lr) (λ a b. a.net.0 < b.net.0) r s (from_earliest p pins r lr) (spans p pins) (λ a b e f. omega (arith, e, f)) (keyed p pins r r lr lr tr) (keyed p pins r s lr ls ts)

@@ -2,7 +2,7 @@ use Rattle.std.proofs.Common.{◌≡◌, ◌++◌, ◌∷◌, [], true, false, g
 use Rattle.channel_route.specs.declared.wire.PlacedWire.{PlacedWire}
 use Rattle.channel_route.specs.declared.wire.Wire.{Wire}
 use Rattle.channel_route.specs.Graph.{has_room}
-use Rattle.channel_route.proofs.Filling.{sweeps_begin, sweeps_put, sweeps_skip, sweeps_end, sweeps_stuck}
+use Rattle.channel_route.proofs.Sweeps.{sweeps_begin, sweeps_put, sweeps_skip, sweeps_end, sweeps_stuck}
 use Rattle.channel_route.proofs.sweep.fill_track.Goals as goal
 use Rattle.channel_route.proofs.sweep.fill_track.Goals.{then-fits+in_ok-push, else-fits+in_ok-push-2}
 

@@ -1,4 +1,4 @@
-use Rattle.channel_route.proofs.Filling.{Sweeps}
+use Rattle.channel_route.proofs.Sweeps.{Sweeps}
 use Rattle.channel_route.proofs.sweep.fill_track.Given as goal
 
 -- the sweep goes on, and a wire was put on the track or all so far wait
