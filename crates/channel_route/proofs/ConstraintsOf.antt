@@ -94,8 +94,7 @@ pair_is wires nodes c there =
     let upper = when_there (holds_place p.of u.of) (under wires n.of u.of) c u.inside in
     let l : Piece (λ lower. cond (holds_place n.of lower) (between n.of.line u.of lower ∷ []) []) wires c = in_flat (λ lower. cond (holds_place n.of lower) (between n.of.line u.of lower ∷ []) []) wires c upper.1 in
     let lower = when_there (holds_place n.of l.of) (between n.of.line u.of l.of ∷ []) c l.inside in
-    subst (λ z. IsPairOver wires nodes z) (contains_one (between n.of.line u.of l.of) c lower.1)
-    (built p.of n.of u.of l.of p.listed n.listed (over_parts p.of n.of place.0) u.listed l.listed (holds_parts p.of u.of upper.0) (holds_parts n.of l.of lower.0))
+    told p.of n.of u.of l.of p.listed n.listed (over_parts p.of n.of place.0) u.listed l.listed (holds_parts p.of u.of upper.0) (holds_parts n.of l.of lower.0) lower.1
   where
     built : (p n : NodePlace) (u l : Wire) → Contains nodes p → Contains nodes n → Parts p n → Contains wires u → Contains wires l → (u.net ≡ p.net) × Holds u p.line → (l.net ≡ n.net) × Holds l n.line → IsPairOver wires nodes (between n.line u l)
     built p n u l hp hn parts hu hl hold_u hold_l = record {
@@ -111,6 +110,9 @@ pair_is wires nodes c there =
       n = subst (λ m. Contains nodes (record { row = N; line = n.line; net = m })) (sym hold_l.0) (subst (λ r. Contains nodes (record { row = r; line = n.line; net = n.net })) parts.n_row hn);
       differ = λ same. parts.differ (let a : u.net ≡ p.net = hold_u.0 in let b : l.net ≡ n.net = hold_l.0 in let c : u.net ≡ l.net = same in cc);
     }
+
+    told : (p n : NodePlace) (u l : Wire) → Contains nodes p → Contains nodes n → Parts p n → Contains wires u → Contains wires l → (u.net ≡ p.net) × Holds u p.line → (l.net ≡ n.net) × Holds l n.line → Contains (between n.line u l ∷ []) c → IsPairOver wires nodes c
+    told p n u l hp hn parts hu hl hold_u hold_l is = subst (λ z. IsPairOver wires nodes z) (contains_one (between n.line u l) c is) (built p n u l hp hn parts hu hl hold_u hold_l)
 
 pub pair_there : (wires : List Wire) (nodes : List NodePlace) (u l : Wire) (line : ℕ) → Contains wires u → Contains wires l → Contains nodes (record { row = P; line = line; net = u.net }) → Contains nodes (record { row = N; line = line; net = l.net }) → u.net ≢ l.net → Holds u line → Holds l line → Contains (constraints_of wires nodes) (between line u l)
 pair_there wires nodes u l line hu hl hp hn differ hold_u hold_l =
