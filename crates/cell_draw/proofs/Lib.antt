@@ -17,6 +17,9 @@ mod Draws
 mod Extracts
 mod FingersPlaced
 mod Found
+mod Framed
+mod FramedDrawn
+mod FramedTags
 mod Halves
 mod Inverter
 mod LabelPieces

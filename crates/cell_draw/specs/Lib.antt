@@ -3,6 +3,7 @@ pub mod Drawings
 pub mod Extracted
 pub mod Faults
 pub mod Frame
+pub mod Framed
 pub mod Laid
 pub mod Layouts
 pub mod Named

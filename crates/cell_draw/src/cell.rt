@@ -13,6 +13,7 @@ ghost use Rattle.cell_draw.specs.Drawings.{drawing_of, drawn_of, base_drawn_of, 
 ghost use Rattle.cell_draw.specs.Extracted.{ExtractsToRow};
 ghost use Rattle.cell_draw.specs.Faults.{IsCause, SaysTooTall};
 ghost use Rattle.cell_draw.specs.Frame.{IsTooTall, frame_of};
+ghost use Rattle.cell_draw.specs.Framed.{BeginsWith, IsFramed};
 ghost use Rattle.cell_draw.specs.Layouts.{width_of};
 ghost use Rattle.cell_draw.specs.Shown.{ShowsColumns, ShowsRouting};
 ghost use Rattle.cell_draw.specs.Small.{IsSmall, IsSmallFrame, HasWidths};
@@ -140,6 +141,11 @@ pub fn draw(
     ensures height { IfOk result (λ d. d.height ≡ height_given placement.now.row routing.now.tracks height) }
     ensures few { IfOk result (λ d. length d.shapes.rects < MOST_SHAPES) }
     ensures within { IfOk result (λ d. AreWithin d.shapes) }
+    ensures framed { IfOk result (IsFramed (frame_of placement.now.row routing.now.tracks height
+        (width_of placement.now xs.now)) xs.now) }
+    // it begins with the drawing of the rows alone
+    ensures begins { IfOk result (λ d. BeginsWith
+        (base_drawn_of pins.now placement.now routing.now.tracks xs.now height).shapes.rects d.shapes.rects) }
     ensures named { IfOk result (λ d. All (λ (l : SomeLabel). Contains names.now l.name) d.shapes.labels) }
     ensures extracts { IfOk result (λ d. ExtractsToRow names.now pins.now placement.now.row d.shapes) }
     ensures shows { IfOk result (λ d. ShowsColumns names.now pins.now placement.now.row d.shapes) }
@@ -201,6 +207,8 @@ pub fn draw_base(
     ensures width { IfOk result (λ d. d.width ≡ x_at xs.now (2 * length placement.now.units) + 8) }
     ensures height { IfOk result (λ d. d.height ≡ height_given placement.now.row tracks height) }
     ensures within { IfOk result (λ d. AreWithin d.shapes) }
+    ensures framed { IfOk result (IsFramed (frame_of placement.now.row tracks height
+        (width_of placement.now xs.now)) xs.now) }
     ensures fits { IfOk result (λ d. IsTooTall placement.now.row tracks height → ⊥) }
     ensures tall { SaysTooTall placement.now.row tracks height result }
     ensures cause { IfErr result (IsCause placement.now.row tracks height) }

@@ -3,6 +3,7 @@ use Rattle.cell_draw.specs.declared.drawing.Drawing.{Drawing}
 use Rattle.cell_draw.proofs.BridgeCount.{few_drawn}
 use Rattle.cell_draw.proofs.DrawnNets.{drawn_extracts, drawn_shows, drawn_routing}
 use Rattle.cell_draw.proofs.Draws.{drawing_obeys, drawing_named}
+use Rattle.cell_draw.proofs.FramedDrawn.{drawn_framed, drawn_begins}
 use Rattle.cell_draw.proofs.cell.draw.Goals as goal
 
 pub returns-in-Ok-clause-obeys : goal.returns-in-Ok-clause-obeys
@@ -22,3 +23,9 @@ returns-in-Ok-clause-shows c = drawn_shows c.in-Ok.drawing c.args.names.now c.ar
 
 pub returns-in-Ok-clause-routed : goal.returns-in-Ok-clause-routed
 returns-in-Ok-clause-routed c = drawn_routing c.in-Ok.drawing c.args.names.now c.args.pins.now c.args.placement.now c.args.routing.now c.args.xs.now c.args.height c.in-Ok.ensures.exact c.requires.placement c.requires.row c.requires.routing c.requires.lines
+
+pub returns-in-Ok-clause-framed : goal.returns-in-Ok-clause-framed
+returns-in-Ok-clause-framed c = drawn_framed c.args.names.now c.args.pins.now c.args.placement.now c.args.routing.now c.args.xs.now c.args.height c.in-Ok.drawing c.in-Ok.ensures.exact c.requires.placement c.requires.row c.requires.routing c.requires.lines
+
+pub returns-in-Ok-clause-begins : goal.returns-in-Ok-clause-begins
+returns-in-Ok-clause-begins c = drawn_begins c.args.names.now c.args.pins.now c.args.placement.now c.args.routing.now c.args.xs.now c.args.height c.in-Ok.drawing c.in-Ok.ensures.exact

@@ -1,0 +1,70 @@
+-- What a drawing shows of its frame, whatever its row is: well, selects and rails come first, and all that follows stays clear
+-- of them and of the cell's sides.
+use Rattle.std.specs.Prelude.{ℕ, ◌≡◌, ◌≢◌, ◌+◌, ◌-◌, ◌≤◌, ◌⊎◌, ◌++◌, List, length, All, ℤ, pos, ◌+ℤ◌, ◌≤ℤ◌}
+use Rattle.box_geom.specs.declared.layer.Layer.{Layer}
+use Rattle.box_geom.specs.declared.layer.Layer.TheVariants.{Well, Active, PSelect, NSelect, Metal1, Metal2}
+use Rattle.box_geom.specs.declared.rect.Rect.{Rect}
+use Rattle.box_geom.specs.declared.shape.Shape.{Shape}
+use Rattle.box_geom.specs.declared.shape.Label.{Label}
+use Rattle.row_compact.specs.Solution.{x_of}
+use Rattle.cell_draw.specs.declared.layout.Frame.{Frame}
+use Rattle.cell_draw.specs.declared.drawing.Drawing.{Drawing}
+use Rattle.cell_draw.specs.Shapes.{cell_height, frame_shapes}
+
+-- the list begins with the other one
+pub record BeginsWith (first shapes : List Shape) : Type 0 where
+  pub others : List Shape
+  pub is : shapes ≡ first ++ others
+
+-- The distance to the left and to the right side of the cell: at least half of the spacing that the rules ask on the layer, so
+-- that cells may stand side by side.
+abbrev pub side_of : Layer → ℕ
+side_of Metal1 = 4
+side_of Metal2 = 4
+side_of _ = 3
+
+-- The distance to the lower and to the upper end: metal1 goes up to the rails, the other layers keep 4 more.
+abbrev pub end_of : Layer → ℕ
+end_of Metal1 = 16
+end_of _ = 20
+
+-- so far or further from both sides and from both ends of the cell
+pub record KeepsFrom (f : Frame) (side end : ℕ) (r : Rect) : Type 0 where
+  pub left : pos side ≤ℤ r.x1
+  pub right : (r.x2 +ℤ pos side) ≤ℤ pos f.width
+  pub low : pos end ≤ℤ r.y1
+  pub high : (r.y2 +ℤ pos end) ≤ℤ pos (cell_height f)
+
+-- below the channel or above it
+abbrev pub IsInRow : Frame → Rect → Type 0
+IsInRow f r = (r.y2 ≤ℤ pos f.yn) ⊎ (pos f.yp ≤ℤ r.y1)
+
+-- no well and no select, clear of the cell's sides and ends, and in one of the rows where it is active
+pub record IsInFrame (f : Frame) (s : Shape) : Type 0 where
+  pub no_well : s.layer ≢ Well
+  pub no_p_select : s.layer ≢ PSelect
+  pub no_n_select : s.layer ≢ NSelect
+  pub clear : KeepsFrom f (side_of s.layer) (end_of s.layer) s.rect
+  pub active : s.layer ≡ Active → IsInRow f s.rect
+
+-- between the cell's sides, 8 from each
+pub record IsLabelInFrame (f : Frame) (l : Label) : Type 0 where
+  pub left : pos 8 ≤ℤ l.x
+  pub right : (l.x +ℤ pos 8) ≤ℤ pos f.width
+
+-- A drawing on these lines, in this frame.
+pub record IsFramed (f : Frame) (xs : List ℕ) (d : Drawing) : Type 0 where
+  -- the first line stands at 8 or further, the last 8 before the right side
+  pub first : 8 ≤ x_of xs 0
+  pub last : f.width ≡ x_of xs (length xs - 1) + 8
+  -- upward: the rail of 16, 8 between, the N row, the channel, the P row, 8 between, the rail of 16
+  pub n_edge : f.yn ≡ 24 + f.hn
+  pub p_edge : f.yn + 40 ≤ f.yp
+  pub n_row : 10 ≤ f.hn
+  pub p_row : 10 ≤ f.hp
+  pub width : d.width ≡ f.width
+  pub height : d.height ≡ f.yp + f.hp + 24
+  -- well, selects and rails, then the rest, and the labels
+  pub frame : BeginsWith (frame_shapes f) d.shapes.rects
+  pub others : All (IsInFrame f) frame.others
+  pub labels : All (IsLabelInFrame f) d.shapes.labels
