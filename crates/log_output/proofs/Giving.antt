@@ -4,10 +4,12 @@ use Rattle.std.proofs.Math.Seq.{take-length, take-append_seam, drop-append_seam}
 use Rattle.std.specs.List.{flat_map}
 use Rattle.std.proofs.lemmas.Grind.{flat_map-append}
 use Rattle.std.proofs.lemmas.List.{flat_map_more, take-append-drop, take_all, take_more}
-use Rattle.cell_io.specs.Desk.{View, Files, Rose, Both, ForSome, AddsPart, AppendedIn, WrittenIn, Sets, IsHeld, OnlyMakes}
+use Rattle.cell_io.specs.Desk.{View, Files, Rose, Both, ForSome, AddsPart, AppendedIn, WrittenIn, Sets, IsHeld, OnlyMakes, IsQuiet, MemoryFailed, WritingFailed}
 use Rattle.cell_io.specs.Output.{Place, CanPut, Puts}
-use Rattle.cell_io.proofs.Puts.{appends_some, can_put_still, created_held_told, makes_more, puts_none, puts_rest, says_some, written_some, written_whole}
-use Rattle.log_output.specs.Giving.{Gives, GivesSome, OnlyPuts}
+use Rattle.cell_io.specs.declared.output.WriteFault.{WriteFault}
+use Rattle.cell_io.specs.declared.output.WriteFault.TheVariants.{Failed, NoMemory}
+use Rattle.cell_io.proofs.Puts.{appends_some, can_put_still, created_held_told, makes_more, puts_none, puts_rest, quiet_more, says_some, written_some, written_whole}
+use Rattle.log_output.specs.Giving.{Gives, GivesSome, KeepsUntold, OnlyPuts}
 
 -- ---- parts
 
@@ -152,6 +154,22 @@ failed_behind (Some name) a b c only rose = omega (arith, only.writes, rose)
 pub short_behind : (place : Place) (a b c : View) → OnlyPuts place a b → Rose b.shorts c.shorts → Rose a.shorts c.shorts
 short_behind None a b c only rose = omega (arith, only.shorts, rose)
 short_behind (Some name) a b c only rose = omega (arith, only.shorts, rose)
+
+-- ---- the counts of faults
+
+pub quiet_none : (a : View) → IsQuiet a a
+quiet_none a = record { writes = refl; shorts = refl }
+
+-- from what the calls of a desk say of each answer
+pub keeps_untold : {X : Type 0} (r : Result X WriteFault) (a b : View) → (r ≡ Err Failed → WritingFailed a b) → (r ≡ Err NoMemory → MemoryFailed a b) → OnOk r (IsQuiet a b) → KeepsUntold r a b
+keeps_untold (Ok x) a b failed memory quiet = quiet
+keeps_untold (Err Failed) a b failed memory quiet = (failed refl).shorts
+keeps_untold (Err NoMemory) a b failed memory quiet = (memory refl).writes
+
+pub untold_behind : {X : Type 0} (r : Result X WriteFault) (a b c : View) → IsQuiet a b → KeepsUntold r b c → KeepsUntold r a c
+untold_behind (Ok x) a b c before after = quiet_more a b c before after
+untold_behind (Err Failed) a b c before after = after ∙ before.shorts
+untold_behind (Err NoMemory) a b c before after = after ∙ before.writes
 
 -- ---- a file that is made and then filled
 

@@ -1,7 +1,9 @@
 -- How a text goes to its place in pieces: lines gather in a block, whose bytes go there together.
-use Rattle.std.specs.Prelude.{ℕ, ◌≡◌, List, ◌++◌, length, Some, None}
-use Rattle.cell_io.specs.Desk.{View, OnlyMakes, OnlySays}
+use Rattle.std.specs.Prelude.{ℕ, ◌≡◌, List, ◌++◌, length, Some, None, Result, Ok, Err}
+use Rattle.cell_io.specs.Desk.{View, IsQuiet, OnlyMakes, OnlySays}
 use Rattle.cell_io.specs.Output.{Place, Puts}
+use Rattle.cell_io.specs.declared.output.WriteFault.{WriteFault}
+use Rattle.cell_io.specs.declared.output.WriteFault.TheVariants.{Failed, NoMemory}
 
 -- a front of the bytes went there, and the rest is left
 abbrev pub Gives : Place → List ℕ → List ℕ → View → View → Type 0
@@ -15,3 +17,9 @@ GivesSome place bytes old new = (left : List ℕ) × Gives place bytes left old 
 abbrev pub OnlyPuts : Place → View → View → Type 0
 OnlyPuts None old new = OnlySays old new
 OnlyPuts (Some name) old new = OnlyMakes old new
+
+-- no call of the desk failed but the one that the answer tells of
+abbrev pub KeepsUntold : {X : Type 0} → Result X WriteFault → View → View → Type 0
+KeepsUntold (Ok x) old new = IsQuiet old new
+KeepsUntold (Err Failed) old new = new.shorts ≡ old.shorts
+KeepsUntold (Err NoMemory) old new = new.write_faults ≡ old.write_faults

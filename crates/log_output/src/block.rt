@@ -2,7 +2,7 @@ ghost use Rattle.std.specs.Prelude.{◌≡◌, ◌≤◌, ◌+◌, [], ◌++◌,
 ghost use Rattle.cell_io.specs.Desk.{Rose};
 ghost use Rattle.cell_io.specs.Output.{CanPut};
 ghost use Rattle.cell_io.specs.declared.output.WriteFault.TheVariants.{Failed, NoMemory as Short};
-ghost use Rattle.log_output.specs.Giving.{Gives, GivesSome, OnlyPuts};
+ghost use Rattle.log_output.specs.Giving.{Gives, GivesSome, KeepsUntold, OnlyPuts};
 
 use cell_io::{Desk, WriteFault, append_all, say_all};
 use cell_num::{NoMemory, Room};
@@ -30,7 +30,7 @@ impl Model for Block {
 }
 
 // Puts all the bytes there.
-#[tactic(auto, using(crate::proofs::Giving::gives_all, crate::proofs::Giving::gives_some))]
+#[tactic(auto, using(crate::proofs::Giving::gives_all, crate::proofs::Giving::gives_some, crate::proofs::Giving::keeps_untold))]
 pub fn put<D: Desk>(desk: &mut D, file: Option<&str>, bytes: &[u8]) -> Result<(), WriteFault>
     requires { CanPut (option_map (λ name. name.now) file) (D.view desk.old) }
     ensures all { OnOk result
@@ -39,6 +39,7 @@ pub fn put<D: Desk>(desk: &mut D, file: Option<&str>, bytes: &[u8]) -> Result<()
         (GivesSome (option_map (λ name. name.now) file.entry) bytes.now (D.view desk.old) (D.view desk.new)) }
     ensures failed { IsErrOf result Failed → Rose (D.view desk.old).write_faults (D.view desk.new).write_faults }
     ensures memory { IsErrOf result Short → Rose (D.view desk.old).shorts (D.view desk.new).shorts }
+    ensures counts { KeepsUntold result (D.view desk.old) (D.view desk.new) }
     ensures only { OnlyPuts (option_map (λ name. name.now) file.entry) (D.view desk.old) (D.view desk.new) }
 {
     match file {
@@ -82,6 +83,7 @@ impl Block {
         ensures failed { IsErrOf result Failed
             → Rose (D.view desk.old).write_faults (D.view desk.new).write_faults }
         ensures memory { IsErrOf result Short → Rose (D.view desk.old).shorts (D.view desk.new).shorts }
+        ensures counts { KeepsUntold result (D.view desk.old) (D.view desk.new) }
         ensures only { OnlyPuts (option_map (λ name. name.now) file.entry) (D.view desk.old) (D.view desk.new) }
     {
         put(desk, file, self.bytes.as_slice())?;
@@ -90,7 +92,7 @@ impl Block {
     }
 
     /// Adds a line: it gathers here, behind what goes there first where it would not fit.
-    #[tactic(auto, using(crate::proofs::Giving::some_wider, crate::proofs::Giving::some_more, crate::proofs::Giving::gives_none, crate::proofs::Giving::gives_more, crate::proofs::Giving::can_still, crate::proofs::Giving::only_none, crate::proofs::Giving::only_more, crate::proofs::Giving::failed_behind, crate::proofs::Giving::short_behind))]
+    #[tactic(auto, using(crate::proofs::Giving::some_wider, crate::proofs::Giving::some_more, crate::proofs::Giving::gives_none, crate::proofs::Giving::gives_more, crate::proofs::Giving::can_still, crate::proofs::Giving::only_none, crate::proofs::Giving::only_more, crate::proofs::Giving::failed_behind, crate::proofs::Giving::short_behind, crate::proofs::Giving::untold_behind, crate::proofs::Giving::quiet_none))]
     pub fn add<D: Desk>(
         &mut self,
         desk: &mut D,
@@ -105,6 +107,7 @@ impl Block {
         ensures failed { IsErrOf result Failed
             → Rose (D.view desk.old).write_faults (D.view desk.new).write_faults }
         ensures memory { IsErrOf result Short → Rose (D.view desk.old).shorts (D.view desk.new).shorts }
+        ensures counts { KeepsUntold result (D.view desk.old) (D.view desk.new) }
         ensures only { OnlyPuts (option_map (λ name. name.now) file.entry) (D.view desk.old) (D.view desk.new) }
     {
         if self.has_room(line) {

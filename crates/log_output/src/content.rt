@@ -2,7 +2,7 @@ ghost use Rattle.std.specs.Prelude.{◌≡◌, ◌≤◌, [], ◌++◌, IsErrOf,
 ghost use Rattle.cell_io.specs.Desk.{Rose};
 ghost use Rattle.cell_io.specs.Output.{CanPut};
 ghost use Rattle.cell_io.specs.declared.output.WriteFault.TheVariants.{Failed, NoMemory};
-ghost use Rattle.log_output.specs.Giving.{Gives, GivesSome, OnlyPuts};
+ghost use Rattle.log_output.specs.Giving.{Gives, GivesSome, KeepsUntold, OnlyPuts};
 
 use crate::block::put;
 use crate::log_text::LogText;
@@ -51,7 +51,7 @@ impl Content {
     }
 
     /// Puts all of it at the end of the file, or, where none is named, says it.
-    #[tactic(auto, using(crate::proofs::Giving::some_wider, crate::proofs::Giving::some_more, crate::proofs::Giving::gives_more, crate::proofs::Giving::can_still, crate::proofs::Giving::only_more, crate::proofs::Giving::failed_behind, crate::proofs::Giving::short_behind))]
+    #[tactic(auto, using(crate::proofs::Giving::some_wider, crate::proofs::Giving::some_more, crate::proofs::Giving::gives_more, crate::proofs::Giving::can_still, crate::proofs::Giving::only_more, crate::proofs::Giving::failed_behind, crate::proofs::Giving::short_behind, crate::proofs::Giving::untold_behind, crate::proofs::Giving::quiet_none))]
     pub fn give<D: Desk>(self, desk: &mut D, file: Option<&str>) -> Result<(), WriteFault>
         requires { CanPut (option_map (λ name. name.now) file) (D.view desk.old) }
         ensures all { OnOk result
@@ -61,6 +61,7 @@ impl Content {
         ensures failed { IsErrOf result Failed
             → Rose (D.view desk.old).write_faults (D.view desk.new).write_faults }
         ensures memory { IsErrOf result NoMemory → Rose (D.view desk.old).shorts (D.view desk.new).shorts }
+        ensures counts { KeepsUntold result (D.view desk.old) (D.view desk.new) }
         ensures only { OnlyPuts (option_map (λ name. name.now) file.entry) (D.view desk.old) (D.view desk.new) }
     {
         let Content { bytes, log } = self;

@@ -6,7 +6,7 @@ ghost use Rattle.cell_io.specs.declared.output.WriteFault.TheVariants.{Failed, N
 ghost use Rattle.bound_log.specs.Fits.{BestFits, Fits, ForSome, IsLogName, LemmaFits, StepFits};
 ghost use Rattle.bound_log.specs.Text.{best_text, column_line, lemma_line, log_text};
 ghost use Rattle.row_search.specs.Kept.{HasRoom};
-ghost use Rattle.log_output.specs.Giving.{Gives, GivesSome, OnlyPuts};
+ghost use Rattle.log_output.specs.Giving.{Gives, GivesSome, KeepsUntold, OnlyPuts};
 
 use crate::block::Block;
 use crate::kept_log::KeptLog;
@@ -40,7 +40,7 @@ impl Model for LogText {
     ghost invariant = { λ t. CanBeGiven t.name t.log t.lemma t.block };
 }
 
-#[tactic(auto, using(crate::proofs::Fitting::lemma_fits, crate::proofs::Giving::can_still, crate::proofs::Giving::only_none, crate::proofs::Giving::only_more, crate::proofs::Giving::failed_behind, crate::proofs::Giving::short_behind))]
+#[tactic(auto, using(crate::proofs::Fitting::lemma_fits, crate::proofs::Giving::can_still, crate::proofs::Giving::only_none, crate::proofs::Giving::only_more, crate::proofs::Giving::failed_behind, crate::proofs::Giving::short_behind, crate::proofs::Giving::untold_behind, crate::proofs::Giving::quiet_none))]
 fn give_lemmas<D: Desk>(
     desk: &mut D,
     file: Option<&str>,
@@ -58,6 +58,7 @@ fn give_lemmas<D: Desk>(
         (block.old ++ flat_map lemma_line kept.now) (D.view desk.old) (D.view desk.new)) }
     ensures failed { IsErrOf result Failed → Rose (D.view desk.old).write_faults (D.view desk.new).write_faults }
     ensures memory { IsErrOf result Short → Rose (D.view desk.old).shorts (D.view desk.new).shorts }
+    ensures counts { KeepsUntold result (D.view desk.old) (D.view desk.new) }
     ensures only { OnlyPuts (option_map (λ name. name.now) file.entry) (D.view desk.old) (D.view desk.new) }
 {
     'lemmas: for at in 0..kept.len() {
@@ -67,7 +68,7 @@ fn give_lemmas<D: Desk>(
     Ok(())
 }
 
-#[tactic(auto, using(crate::proofs::Fitting::step_fits, crate::proofs::Giving::can_still, crate::proofs::Giving::only_none, crate::proofs::Giving::only_more, crate::proofs::Giving::failed_behind, crate::proofs::Giving::short_behind))]
+#[tactic(auto, using(crate::proofs::Fitting::step_fits, crate::proofs::Giving::can_still, crate::proofs::Giving::only_none, crate::proofs::Giving::only_more, crate::proofs::Giving::failed_behind, crate::proofs::Giving::short_behind, crate::proofs::Giving::untold_behind, crate::proofs::Giving::quiet_none))]
 fn give_columns<D: Desk>(
     desk: &mut D,
     file: Option<&str>,
@@ -83,6 +84,7 @@ fn give_columns<D: Desk>(
         (block.old ++ flat_map column_line steps.now) (D.view desk.old) (D.view desk.new)) }
     ensures failed { IsErrOf result Failed → Rose (D.view desk.old).write_faults (D.view desk.new).write_faults }
     ensures memory { IsErrOf result Short → Rose (D.view desk.old).shorts (D.view desk.new).shorts }
+    ensures counts { KeepsUntold result (D.view desk.old) (D.view desk.new) }
     ensures only { OnlyPuts (option_map (λ name. name.now) file.entry) (D.view desk.old) (D.view desk.new) }
 {
     'steps: for step in steps {
@@ -91,7 +93,7 @@ fn give_columns<D: Desk>(
     Ok(())
 }
 
-#[tactic(auto, using(crate::proofs::Fitting::few_gaps, crate::proofs::Fitting::steps_fit, crate::proofs::Giving::can_still, crate::proofs::Giving::only_none, crate::proofs::Giving::only_more, crate::proofs::Giving::failed_behind, crate::proofs::Giving::short_behind))]
+#[tactic(auto, using(crate::proofs::Fitting::few_gaps, crate::proofs::Fitting::steps_fit, crate::proofs::Giving::can_still, crate::proofs::Giving::only_none, crate::proofs::Giving::only_more, crate::proofs::Giving::failed_behind, crate::proofs::Giving::short_behind, crate::proofs::Giving::untold_behind, crate::proofs::Giving::quiet_none))]
 fn give_best<D: Desk>(
     desk: &mut D,
     file: Option<&str>,
@@ -107,6 +109,7 @@ fn give_best<D: Desk>(
         (block.old ++ best_text best.now) (D.view desk.old) (D.view desk.new)) }
     ensures failed { IsErrOf result Failed → Rose (D.view desk.old).write_faults (D.view desk.new).write_faults }
     ensures memory { IsErrOf result Short → Rose (D.view desk.old).shorts (D.view desk.new).shorts }
+    ensures counts { KeepsUntold result (D.view desk.old) (D.view desk.new) }
     ensures only { OnlyPuts (option_map (λ name. name.now) file.entry) (D.view desk.old) (D.view desk.new) }
 {
     let Some(best) = best else {
@@ -116,7 +119,7 @@ fn give_best<D: Desk>(
     give_columns(desk, file, block, lines, best.steps.as_slice())
 }
 
-#[tactic(auto, using(crate::proofs::Fitting::version_fits, crate::proofs::Fitting::lemmas_fit, crate::proofs::Fitting::best_fits, crate::proofs::Giving::can_still, crate::proofs::Giving::only_none, crate::proofs::Giving::only_more, crate::proofs::Giving::failed_behind, crate::proofs::Giving::short_behind))]
+#[tactic(auto, using(crate::proofs::Fitting::version_fits, crate::proofs::Fitting::lemmas_fit, crate::proofs::Fitting::best_fits, crate::proofs::Giving::can_still, crate::proofs::Giving::only_none, crate::proofs::Giving::only_more, crate::proofs::Giving::failed_behind, crate::proofs::Giving::short_behind, crate::proofs::Giving::untold_behind, crate::proofs::Giving::quiet_none))]
 fn give_lines<D: Desk>(
     desk: &mut D,
     file: Option<&str>,
@@ -136,6 +139,7 @@ fn give_lines<D: Desk>(
         (block.old ++ log_text name.now log.now) (D.view desk.old) (D.view desk.new)) }
     ensures failed { IsErrOf result Failed → Rose (D.view desk.old).write_faults (D.view desk.new).write_faults }
     ensures memory { IsErrOf result Short → Rose (D.view desk.old).shorts (D.view desk.new).shorts }
+    ensures counts { KeepsUntold result (D.view desk.old) (D.view desk.new) }
     ensures only { OnlyPuts (option_map (λ name. name.now) file.entry) (D.view desk.old) (D.view desk.new) }
 {
     block.add(desk, file, lines.head(log.version, name))?;
@@ -163,7 +167,7 @@ impl LogText {
 
     /// Puts the text at the end of the file, or, where none is named, says it. It takes no memory but what the
     /// desk itself takes.
-    #[tactic(auto, using(crate::proofs::Giving::can_still, crate::proofs::Giving::only_none, crate::proofs::Giving::only_more, crate::proofs::Giving::failed_behind, crate::proofs::Giving::short_behind))]
+    #[tactic(auto, using(crate::proofs::Giving::can_still, crate::proofs::Giving::only_none, crate::proofs::Giving::only_more, crate::proofs::Giving::failed_behind, crate::proofs::Giving::short_behind, crate::proofs::Giving::untold_behind, crate::proofs::Giving::quiet_none))]
     pub fn give<D: Desk>(self, desk: &mut D, file: Option<&str>) -> Result<(), WriteFault>
         requires { CanPut (option_map (λ name. name.now) file) (D.view desk.old) }
         ensures all { OnOk result
@@ -173,6 +177,7 @@ impl LogText {
         ensures failed { IsErrOf result Failed
             → Rose (D.view desk.old).write_faults (D.view desk.new).write_faults }
         ensures memory { IsErrOf result Short → Rose (D.view desk.old).shorts (D.view desk.new).shorts }
+        ensures counts { KeepsUntold result (D.view desk.old) (D.view desk.new) }
         ensures only { OnlyPuts (option_map (λ name. name.now) file.entry) (D.view desk.old) (D.view desk.new) }
     {
         let LogText {

@@ -3,6 +3,7 @@ use Rattle.std.specs.List.{flat_map}
 use Rattle.std.proofs.lemmas.Option.{get_or_from_slice_get, slice_get-get_or}
 use Rattle.cell_io.specs.Desk.{View}
 use Rattle.cell_io.specs.Output.{Place}
+use Rattle.cell_io.proofs.Puts.{quiet_more}
 use Rattle.bound_log.specs.declared.log.LogStep.{LogStep}
 use Rattle.bound_log.specs.Text.{column_line}
 use Rattle.log_output.specs.Giving.{Gives, GivesSome}
@@ -37,4 +38,5 @@ steps-preserved g c =
           c.steps-test.true (there c.args.steps.now c.steps.step-index c.steps-test.true) c.steps.invariant.1
           (subst (λ (line : List ℕ). Gives place (c.steps.block ++ line) c.add.new.self mid after) c.column.ensures c.in_ok-add.ensures.all),
       only_more place before mid after c.steps.invariant.2 c.in_ok-add.ensures.only,
+      quiet_more before mid after c.steps.invariant.3 c.in_ok-add.ensures.counts,
     )

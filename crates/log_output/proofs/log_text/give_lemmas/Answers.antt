@@ -3,6 +3,7 @@ use Rattle.std.specs.List.{flat_map}
 use Rattle.std.proofs.lemmas.Option.{get_or_from_slice_get, slice_get_within}
 use Rattle.cell_io.specs.Desk.{View}
 use Rattle.cell_io.specs.Output.{Place}
+use Rattle.cell_io.proofs.Puts.{quiet_more}
 use Rattle.bound_log.specs.Text.{lemma_line}
 use Rattle.log_output.specs.Giving.{Gives, GivesSome}
 use Rattle.log_output.proofs.Giving.{can_still, lines_more, lines_stop, on_err, only_more}
@@ -35,4 +36,5 @@ lemmas-preserved g c =
           c.lemmas.invariant.2
           (subst (λ (line : List ℕ). Gives place (c.lemmas.block ++ line) c.add.new.self mid after) c.lemma.ensures c.in_ok-add.ensures.all),
       only_more place before mid after c.lemmas.invariant.3 c.in_ok-add.ensures.only,
+      quiet_more before mid after c.lemmas.invariant.4 c.in_ok-add.ensures.counts,
     )
