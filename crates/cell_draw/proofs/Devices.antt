@@ -5,6 +5,7 @@ use Rattle.std.proofs.lemmas.Int.{ints}
 use Rattle.cell_num.specs.declared.finger.Row.{Row}
 use Rattle.cell_num.specs.declared.finger.Row.TheVariants.{P, N}
 use Rattle.box_geom.specs.Rectangle.{Rectangle, IsProper, Holds}
+use Rattle.scmos_rules.specs.declared.rules.Deck.TheVariants.{Plain}
 use Rattle.net_extract.specs.Nets.{poly, Site, site_at}
 use Rattle.net_extract.specs.Devices.{IsGateBox, diffusion_of, left_of, right_of, below, above, IsSide, IsClosed, rightward, IsSize, IsDevice}
 use Rattle.cell_draw.specs.declared.layout.Frame.{Frame}
@@ -35,7 +36,7 @@ right_side f N s z a x y h = omega (arith, ints)
 right_side f P s z a x y h = omega (arith, ints)
 
 -- cells of one half are in one net
-half_side : (l : Layout) (w : IsLaid l) (n : IsNetted l) (s : Strip) (e : End) → Contains l.strips s → (strip : Rectangle) (u v : ℤ) → ((x y : ℤ) → Holds strip x y → Holds (half_rect l n s e) x y) → Holds strip u v → IsSide (shapes_of l) (diffusion_of s.row) strip (site_at (diffusion_of s.row) u v)
+half_side : (l : Layout) (w : IsLaid l) (n : IsNetted l) (s : Strip) (e : End) → Contains l.strips s → (strip : Rectangle) (u v : ℤ) → ((x y : ℤ) → Holds strip x y → Holds (half_rect l n s e) x y) → Holds strip u v → IsSide Plain (shapes_of l) (diffusion_of s.row) strip (site_at (diffusion_of s.row) u v)
 half_side l w n s e there strip u v sub first = record {
   conducts = conducts l w n (half s e) there u v (sub u v first);
   side = λ x y h. (
@@ -147,7 +148,7 @@ right_site_in l w n s there = right_side l.frame s.row s (n.over s).x (n.gated s
 
 -- a device whose current flows to the right
 pub record FlowsRight (l : Layout) (n : IsNetted l) (s : Strip) : Type 0 where
-  pub is : IsDevice (shapes_of l) (box_of l n s) s.row (gate_site l n s) (side_site l n s left_end) (side_site l n s right_end) s.width 4
+  pub is : IsDevice Plain (shapes_of l) (box_of l n s) s.row (gate_site l n s) (side_site l n s left_end) (side_site l n s right_end) s.width 4
   pub flow : is.flow ≡ rightward
 
 -- each finger with its gate is a device
@@ -156,7 +157,7 @@ right_device l w n s there =
     let b : Rectangle = box_of l n s in
     let o = n.gated s there in
     let c : IsGateBox (shapes_of l) b = gate_box l w n s there in
-    let d : IsDevice (shapes_of l) (box_of l n s) s.row (gate_site l n s) (side_site l n s left_end) (side_site l n s right_end) s.width 4 = record {
+    let d : IsDevice Plain (shapes_of l) (box_of l n s) s.row (gate_site l n s) (side_site l n s left_end) (side_site l n s right_end) s.width 4 = record {
       flow = rightward;
       class = c;
       of_row = λ x y h. side_well l w s.row x y (strip_side l w s there x y (box_finger l n s there x y h));
@@ -169,5 +170,5 @@ right_device l w n s there =
     } in
     record { is = d; flow = refl }
 
-pub device : (l : Layout) (w : IsLaid l) (n : IsNetted l) (s : Strip) → Contains l.strips s → IsDevice (shapes_of l) (box_of l n s) s.row (gate_site l n s) (side_site l n s left_end) (side_site l n s right_end) s.width 4
+pub device : (l : Layout) (w : IsLaid l) (n : IsNetted l) (s : Strip) → Contains l.strips s → IsDevice Plain (shapes_of l) (box_of l n s) s.row (gate_site l n s) (side_site l n s left_end) (side_site l n s right_end) s.width 4
 device l w n s there = (right_device l w n s there).is

@@ -16,6 +16,7 @@ use Rattle.channel_route.specs.declared.routing.Routing.{Routing}
 use Rattle.row_compact.specs.Solution.{x_of}
 use Rattle.box_geom.specs.Rectangle.{Rectangle, IsProper, Holds}
 use Rattle.box_geom.specs.declared.shape.Shape.{Shape}
+use Rattle.scmos_rules.specs.declared.rules.Deck.TheVariants.{Plain}
 use Rattle.net_extract.specs.Devices.{IsGateBox, InRow, IsSomeDevice}
 use Rattle.cell_draw.specs.declared.layout.Frame.{Frame}
 use Rattle.cell_draw.specs.declared.layout.Strip.{Strip}
@@ -73,7 +74,7 @@ one_side s P P x y h k = refl
 one_side s N P x y h k = absurd (h k)
 one_side s P N x y h k = absurd (k h)
 
-pub device_seat : (names : List (List ℕ)) (pins : Pins) (p : Placement) (r : Routing) (xs : List ℕ) (f : Frame) (w : IsWired names pins p r xs f) → (box : Rectangle) (d : IsSomeDevice (shapes names pins p r xs f).rects box) → DeviceSeat names pins p r xs f w box d.row
+pub device_seat : (names : List (List ℕ)) (pins : Pins) (p : Placement) (r : Routing) (xs : List ℕ) (f : Frame) (w : IsWired names pins p r xs f) → (box : Rectangle) (d : IsSomeDevice Plain (shapes names pins p r xs f).rects box) → DeviceSeat names pins p r xs f w box d.row
 device_seat names pins p r xs f w box d =
     let first : Holds box box.x1 box.y1 = corner d.is.class.proper in
     let i : InBox (layout names pins p r xs f) w.has.netted box.x1 box.y1 = in_box (layout names pins p r xs f) w.laid w.has.netted box.x1 box.y1 (d.is.class.gate box.x1 box.y1 first) in

@@ -8,6 +8,7 @@ use Rattle.row_place.specs.Places.{IsPlacement}
 use Rattle.channel_route.specs.declared.routing.Routing.{Routing}
 use Rattle.channel_route.specs.Routing.{IsLegal}
 use Rattle.row_compact.specs.Allowed.{AreAllowed, stretches_of}
+use Rattle.scmos_rules.specs.declared.rules.Deck.TheVariants.{Plain}
 use Rattle.cell_draw.specs.declared.drawing.Drawing.{Drawing}
 use Rattle.cell_draw.specs.declared.layout.Frame.{Frame}
 use Rattle.cell_draw.specs.Drawings.{drawn_of}
@@ -31,14 +32,14 @@ wired names pins p r xs height is row legal allowed differ =
     let drawn : IsDrawn names pins p r xs f = drawn_is names pins p r xs height is row legal allowed in
     record { drawn = drawn; laid = laid names pins p r xs f (length names) drawn; has = has_nets names pins p r xs f (length names) drawn differ }
 
-pub drawn_extracts : (d : Drawing) (names : List (List ℕ)) (pins : Pins) (p : Placement) (r : Routing) (xs : List ℕ) (height : ℕ) → d ≡ drawn_of names pins p r xs height → IsPlacement p → IsSoundRow names pins p.row → IsLegal p pins r → AreAllowed p pins (stretches_of r.trunks) xs → ExtractsToRow names pins p.row d.shapes
+pub drawn_extracts : (d : Drawing) (names : List (List ℕ)) (pins : Pins) (p : Placement) (r : Routing) (xs : List ℕ) (height : ℕ) → d ≡ drawn_of names pins p r xs height → IsPlacement p → IsSoundRow names pins p.row → IsLegal p pins r → AreAllowed p pins (stretches_of r.trunks) xs → ExtractsToRow Plain names pins p.row d.shapes
 drawn_extracts d names pins p r xs height e is row legal allowed = record { to = to }
   where
-    to : ArePins (length names) pins → (fingers : Fingers) → Arranges names pins p.row fingers → ExtractsTo names fingers d.shapes
-    to are fingers a = subst (λ (z : Drawing). ExtractsTo names fingers z.shapes) (sym e) (extracts names pins p r xs (frame_of p.row r.tracks height (width_of p xs)) (wired names pins p r xs height is row legal allowed are.differ) are fingers a.arranged)
+    to : ArePins (length names) pins → (fingers : Fingers) → Arranges names pins p.row fingers → ExtractsTo Plain names fingers d.shapes
+    to are fingers a = subst (λ (z : Drawing). ExtractsTo Plain names fingers z.shapes) (sym e) (extracts names pins p r xs (frame_of p.row r.tracks height (width_of p xs)) (wired names pins p r xs height is row legal allowed are.differ) are fingers a.arranged)
 
-pub drawn_shows : (d : Drawing) (names : List (List ℕ)) (pins : Pins) (p : Placement) (r : Routing) (xs : List ℕ) (height : ℕ) → d ≡ drawn_of names pins p r xs height → IsPlacement p → IsSoundRow names pins p.row → IsLegal p pins r → AreAllowed p pins (stretches_of r.trunks) xs → ShowsColumns names pins p.row d.shapes
-drawn_shows d names pins p r xs height e is row legal allowed = record { shown = λ are. subst (λ (z : Drawing). ShowsRow names p.row z.shapes) (sym e) (shows_row names pins p r xs (frame_of p.row r.tracks height (width_of p xs)) (wired names pins p r xs height is row legal allowed are.differ) are) }
+pub drawn_shows : (d : Drawing) (names : List (List ℕ)) (pins : Pins) (p : Placement) (r : Routing) (xs : List ℕ) (height : ℕ) → d ≡ drawn_of names pins p r xs height → IsPlacement p → IsSoundRow names pins p.row → IsLegal p pins r → AreAllowed p pins (stretches_of r.trunks) xs → ShowsColumns Plain names pins p.row d.shapes
+drawn_shows d names pins p r xs height e is row legal allowed = record { shown = λ are. subst (λ (z : Drawing). ShowsRow Plain names p.row z.shapes) (sym e) (shows_row names pins p r xs (frame_of p.row r.tracks height (width_of p xs)) (wired names pins p r xs height is row legal allowed are.differ) are) }
 
 pub drawn_routing : (d : Drawing) (names : List (List ℕ)) (pins : Pins) (p : Placement) (r : Routing) (xs : List ℕ) (height : ℕ) → d ≡ drawn_of names pins p r xs height → IsPlacement p → IsSoundRow names pins p.row → IsLegal p pins r → AreAllowed p pins (stretches_of r.trunks) xs → ShowsRouting names pins p d.shapes r
 drawn_routing d names pins p r xs height e is row legal allowed = subst (λ (z : Drawing). ShowsRouting names pins p z.shapes r) (sym e) (shows_routing names pins p r xs (frame_of p.row r.tracks height (width_of p xs)) (drawn_is names pins p r xs height is row legal allowed) refl)

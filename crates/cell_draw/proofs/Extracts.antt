@@ -24,6 +24,7 @@ use Rattle.channel_route.specs.declared.routing.Routing.{Routing}
 use Rattle.row_compact.specs.Solution.{x_of}
 use Rattle.box_geom.specs.Rectangle.{Rectangle, Holds}
 use Rattle.scmos_rules.specs.Layout.{Gate as GateCell}
+use Rattle.scmos_rules.specs.declared.rules.Deck.TheVariants.{Plain}
 use Rattle.cell_draw.specs.declared.layout.Frame.{Frame}
 use Rattle.cell_draw.specs.declared.layout.Strip.{Strip}
 use Rattle.cell_draw.specs.Extracted.{IsFingerAt, ExtractsTo}
@@ -49,14 +50,14 @@ box_at names pins p r xs f w side seat = box_if names pins p r xs f w seat.unit 
 abbrev boxes : (names : List (List ℕ)) (pins : Pins) (p : Placement) (r : Routing) (xs : List ℕ) (f : Frame) (w : IsWired names pins p r xs f) → Row → List Rectangle
 boxes names pins p r xs f w side = flat_map (box_at names pins p r xs f w side) (seats_of p.row)
 
-zipped : (names : List (List ℕ)) (pins : Pins) (p : Placement) (r : Routing) (xs : List ℕ) (f : Frame) (w : IsWired names pins p r xs f) → ArePins (length names) pins → (side : Row) (unit : ℕ) (before : Option Column) (row : List Column) → ((s : Seat) → Contains (seats_from unit before row) s → Contains (seats_of p.row) s) → AllZip (IsFingerAt names (shapes names pins p r xs f)) (flat_map (box_at names pins p r xs f w side) (seats_from unit before row)) (fingers_in side row)
+zipped : (names : List (List ℕ)) (pins : Pins) (p : Placement) (r : Routing) (xs : List ℕ) (f : Frame) (w : IsWired names pins p r xs f) → ArePins (length names) pins → (side : Row) (unit : ℕ) (before : Option Column) (row : List Column) → ((s : Seat) → Contains (seats_from unit before row) s → Contains (seats_of p.row) s) → AllZip (IsFingerAt Plain names (shapes names pins p r xs f)) (flat_map (box_at names pins p r xs f w side) (seats_from unit before row)) (fingers_in side row)
 zipped names pins p r xs f w are side unit before [] sub = tt
 zipped names pins p r xs f w are side unit before (c ∷ row) sub = by (place side c) refl (zipped names pins p r xs f w are side (unit + length (gap_between before c) + 1) (Some c) row (λ s there. sub s (contains_there seat (seats_from (unit + length (gap_between before c) + 1) (Some c) row) s there)))
   where
     seat : Seat
     seat = record { column = c; unit = unit + length (gap_between before c) }
 
-    by : (o : Option Placed) → place side c ≡ o → AllZip (IsFingerAt names (shapes names pins p r xs f)) (flat_map (box_at names pins p r xs f w side) (seats_from (unit + length (gap_between before c) + 1) (Some c) row)) (fingers_in side row) → AllZip (IsFingerAt names (shapes names pins p r xs f)) (box_if names pins p r xs f w (unit + length (gap_between before c)) side o ++ flat_map (box_at names pins p r xs f w side) (seats_from (unit + length (gap_between before c) + 1) (Some c) row)) (cons_option (option_map (λ (z : Placed). z.finger) o) (fingers_in side row))
+    by : (o : Option Placed) → place side c ≡ o → AllZip (IsFingerAt Plain names (shapes names pins p r xs f)) (flat_map (box_at names pins p r xs f w side) (seats_from (unit + length (gap_between before c) + 1) (Some c) row)) (fingers_in side row) → AllZip (IsFingerAt Plain names (shapes names pins p r xs f)) (box_if names pins p r xs f w (unit + length (gap_between before c)) side o ++ flat_map (box_at names pins p r xs f w side) (seats_from (unit + length (gap_between before c) + 1) (Some c) row)) (cons_option (option_map (λ (z : Placed). z.finger) o) (fingers_in side row))
     by None e rest = rest
     by (Some x) e rest = (finger_at names pins p r xs f w are (record { column = c; unit = unit + length (gap_between before c) }) side x (seated p xs (record { column = c; unit = unit + length (gap_between before c) }) side x (sub (record { column = c; unit = unit + length (gap_between before c) }) (contains_here (record { column = c; unit = unit + length (gap_between before c) }) (seats_from (unit + length (gap_between before c) + 1) (Some c) row))) e), rest)
 
@@ -144,7 +145,7 @@ boxes_all names pins p r xs f w x y g =
     listed N at c z stands filled = Contains-append_right (boxes names pins p r xs f w P) (boxes names pins p r xs f w N) (box_of (layout names pins p r xs f) w.has.netted (strip_with xs (unit_of p.row at) N z)) (in_row N at c z stands filled)
 
 -- a drawn row extracts to its fingers
-pub extracts : (names : List (List ℕ)) (pins : Pins) (p : Placement) (r : Routing) (xs : List ℕ) (f : Frame) (w : IsWired names pins p r xs f) → ArePins (length names) pins → (fingers : Fingers) → IsArrangement p.row fingers → ExtractsTo names fingers (shapes names pins p r xs f)
+pub extracts : (names : List (List ℕ)) (pins : Pins) (p : Placement) (r : Routing) (xs : List ℕ) (f : Frame) (w : IsWired names pins p r xs f) → ArePins (length names) pins → (fingers : Fingers) → IsArrangement p.row fingers → ExtractsTo Plain names fingers (shapes names pins p r xs f)
 extracts names pins p r xs f w are fingers arranged = record {
   nets = are_named names pins p r xs f w are;
   boxes = boxes names pins p r xs f w P ++ boxes names pins p r xs f w N;
@@ -153,7 +154,7 @@ extracts names pins p r xs f w are fingers arranged = record {
     all = boxes_all names pins p r xs f w;
   };
   drawn = fingers_in P p.row ++ fingers_in N p.row;
-  devices = zip_append (IsFingerAt names (shapes names pins p r xs f)) (boxes names pins p r xs f w P) (boxes names pins p r xs f w N) (fingers_in P p.row) (fingers_in N p.row) (zipped names pins p r xs f w are P 0 None p.row (λ s there. there)) (zipped names pins p r xs f w are N 0 None p.row (λ s there. there));
+  devices = zip_append (IsFingerAt Plain names (shapes names pins p r xs f)) (boxes names pins p r xs f w P) (boxes names pins p r xs f w N) (fingers_in P p.row) (fingers_in N p.row) (zipped names pins p r xs f w are P 0 None p.row (λ s there. there)) (zipped names pins p r xs f w are N 0 None p.row (λ s there. there));
   permuted = IsPermutation-append fingers.p (fingers_in P p.row) fingers.n (fingers_in N p.row) arranged.p arranged.n;
 }
   where

@@ -21,13 +21,15 @@ use Rattle.row_place.specs.Units.{seats_of, unit_of}
 use Rattle.row_place.proofs.Units.{SitsAt, seat_at}
 use Rattle.channel_route.specs.declared.routing.Routing.{Routing}
 use Rattle.row_compact.specs.Solution.{x_of}
+use Rattle.scmos_rules.specs.declared.rules.Deck.TheVariants.{Plain}
 use Rattle.net_extract.specs.Devices.{IsDevice}
+use Rattle.net_extract.specs.Labels.{IsNamed}
 use Rattle.cell_draw.specs.declared.layout.Frame.{Frame}
 use Rattle.cell_draw.specs.declared.layout.Strip.{Strip}
 use Rattle.cell_draw.specs.declared.layout.Gate.{Gate}
 use Rattle.cell_draw.specs.Extracted.{IsFingerAt}
 use Rattle.cell_draw.specs.Layouts.{strips_at}
-use Rattle.cell_draw.specs.Named.{name_of, IsNamed}
+use Rattle.cell_draw.specs.Named.{name_of}
 use Rattle.cell_draw.specs.Sound.{IsSoundRow}
 use Rattle.cell_draw.proofs.BridgeFrom.{StripFrom, GateFrom, gate_from}
 use Rattle.cell_draw.proofs.BridgeRow.{p_finger, n_finger}
@@ -103,9 +105,9 @@ finger_row names pins row s P c x there e = (All-contains (IsFinger P s.fingers.
 
 -- the gate and the two ends of a finger by their names
 pub record NamedAt (names : List (List ℕ)) (pins : Pins) (p : Placement) (r : Routing) (xs : List ℕ) (f : Frame) (w : IsWired names pins p r xs f) (t : Strip) (x : Placed) : Type 0 where
-  pub gate_named : IsNamed (shapes names pins p r xs f) (name_of names x.finger.gate) (gate_site (layout names pins p r xs f) w.has.netted t)
-  pub left_named : IsNamed (shapes names pins p r xs f) (name_of names (left_net x)) (side_site (layout names pins p r xs f) w.has.netted t left_end)
-  pub right_named : IsNamed (shapes names pins p r xs f) (name_of names (right_net x)) (side_site (layout names pins p r xs f) w.has.netted t right_end)
+  pub gate_named : IsNamed Plain (shapes names pins p r xs f) (name_of names x.finger.gate) (gate_site (layout names pins p r xs f) w.has.netted t)
+  pub left_named : IsNamed Plain (shapes names pins p r xs f) (name_of names (left_net x)) (side_site (layout names pins p r xs f) w.has.netted t left_end)
+  pub right_named : IsNamed Plain (shapes names pins p r xs f) (name_of names (right_net x)) (side_site (layout names pins p r xs f) w.has.netted t right_end)
 
 pub named_at : (names : List (List ℕ)) (pins : Pins) (p : Placement) (r : Routing) (xs : List ℕ) (f : Frame) (w : IsWired names pins p r xs f) → ArePins (length names) pins → (seat : Seat) (side : Row) (x : Placed) (s : IsSeated p xs seat side x) → NamedAt names pins p r xs f w (strip_with xs seat.unit side x) x
 named_at names pins p r xs f w are seat side x s =
@@ -114,16 +116,16 @@ named_at names pins p r xs f w are seat side x s =
     let o = n.gated t s.listed in
     let b : StripFrom p.row xs t = from_seat p xs seat side x s in
     record {
-      gate_named = subst (λ z. IsNamed (shapes names pins p r xs f) (name_of names z) (gate_site (layout names pins p r xs f) n t)) (over_seat names pins p r xs f w seat side x s).net
+      gate_named = subst (λ z. IsNamed Plain (shapes names pins p r xs f) (name_of names z) (gate_site (layout names pins p r xs f) n t)) (over_seat names pins p r xs f w seat side x s).net
           (piece_named names pins p r xs f w are (gate (strip_of (n.over t))) (gate_site (layout names pins p r xs f) n t) o.0 (record { kind = refl; holds = gate_site_in (layout names pins p r xs f) w.laid n t s.listed }));
-      left_named = subst (λ z. IsNamed (shapes names pins p r xs f) (name_of names z) (side_site (layout names pins p r xs f) n t left_end)) (w.has.at_end t left_end s.listed b)
+      left_named = subst (λ z. IsNamed Plain (shapes names pins p r xs f) (name_of names z) (side_site (layout names pins p r xs f) n t left_end)) (w.has.at_end t left_end s.listed b)
           (piece_named names pins p r xs f w are (half t left_end) (side_site (layout names pins p r xs f) n t left_end) s.listed (record { kind = refl; holds = left_site_in (layout names pins p r xs f) w.laid n t s.listed }));
-      right_named = subst (λ z. IsNamed (shapes names pins p r xs f) (name_of names z) (side_site (layout names pins p r xs f) n t right_end)) (w.has.at_end t right_end s.listed b)
+      right_named = subst (λ z. IsNamed Plain (shapes names pins p r xs f) (name_of names z) (side_site (layout names pins p r xs f) n t right_end)) (w.has.at_end t right_end s.listed b)
           (piece_named names pins p r xs f w are (half t right_end) (side_site (layout names pins p r xs f) n t right_end) s.listed (record { kind = refl; holds = right_site_in (layout names pins p r xs f) w.laid n t s.listed }));
     }
 
 -- a finger that stands is the device of its box
-pub finger_at : (names : List (List ℕ)) (pins : Pins) (p : Placement) (r : Routing) (xs : List ℕ) (f : Frame) (w : IsWired names pins p r xs f) → ArePins (length names) pins → (seat : Seat) (side : Row) (x : Placed) → IsSeated p xs seat side x → IsFingerAt names (shapes names pins p r xs f) (box_of (layout names pins p r xs f) w.has.netted (strip_with xs seat.unit side x)) x.finger
+pub finger_at : (names : List (List ℕ)) (pins : Pins) (p : Placement) (r : Routing) (xs : List ℕ) (f : Frame) (w : IsWired names pins p r xs f) → ArePins (length names) pins → (seat : Seat) (side : Row) (x : Placed) → IsSeated p xs seat side x → IsFingerAt Plain names (shapes names pins p r xs f) (box_of (layout names pins p r xs f) w.has.netted (strip_with xs seat.unit side x)) x.finger
 finger_at names pins p r xs f w are seat side x s =
     let l = layout names pins p r xs f in
     let n : IsNetted (layout names pins p r xs f) = w.has.netted in
@@ -134,13 +136,13 @@ finger_at names pins p r xs f w are seat side x s =
       gate = gate_site (layout names pins p r xs f) n t;
       left = side_site (layout names pins p r xs f) n t left_end;
       right = side_site (layout names pins p r xs f) n t right_end;
-      is = subst (λ z. IsDevice (shapes names pins p r xs f).rects (box_of (layout names pins p r xs f) n t) z (gate_site (layout names pins p r xs f) n t) (side_site (layout names pins p r xs f) n t left_end) (side_site (layout names pins p r xs f) n t right_end) x.finger.width 4) (sym row) (device (layout names pins p r xs f) w.laid n t s.listed);
+      is = subst (λ z. IsDevice Plain (shapes names pins p r xs f).rects (box_of (layout names pins p r xs f) n t) z (gate_site (layout names pins p r xs f) n t) (side_site (layout names pins p r xs f) n t left_end) (side_site (layout names pins p r xs f) n t right_end) x.finger.width 4) (sym row) (device (layout names pins p r xs f) w.laid n t s.listed);
       gate_net = m.gate_named;
       ends = ends x m;
     }
   where
-    ends : (x : Placed) {t : Strip} → NamedAt names pins p r xs f w t x → (IsNamed (shapes names pins p r xs f) (name_of names x.finger.lo) (side_site (layout names pins p r xs f) w.has.netted t left_end) × IsNamed (shapes names pins p r xs f) (name_of names x.finger.hi) (side_site (layout names pins p r xs f) w.has.netted t right_end)) ⊎ (IsNamed (shapes names pins p r xs f) (name_of names x.finger.hi) (side_site (layout names pins p r xs f) w.has.netted t left_end) × IsNamed (shapes names pins p r xs f) (name_of names x.finger.lo) (side_site (layout names pins p r xs f) w.has.netted t right_end))
+    ends : (x : Placed) {t : Strip} → NamedAt names pins p r xs f w t x → (IsNamed Plain (shapes names pins p r xs f) (name_of names x.finger.lo) (side_site (layout names pins p r xs f) w.has.netted t left_end) × IsNamed Plain (shapes names pins p r xs f) (name_of names x.finger.hi) (side_site (layout names pins p r xs f) w.has.netted t right_end)) ⊎ (IsNamed Plain (shapes names pins p r xs f) (name_of names x.finger.hi) (side_site (layout names pins p r xs f) w.has.netted t left_end) × IsNamed Plain (shapes names pins p r xs f) (name_of names x.finger.lo) (side_site (layout names pins p r xs f) w.has.netted t right_end))
     ends x {t} m = elim (cases_Bool x.flipped) [
-      | inl turned ↦ inr (subst (λ b. IsNamed (shapes names pins p r xs f) (name_of names (if b then x.finger.hi else x.finger.lo)) (side_site (layout names pins p r xs f) w.has.netted t left_end)) turned m.left_named, subst (λ b. IsNamed (shapes names pins p r xs f) (name_of names (if b then x.finger.lo else x.finger.hi)) (side_site (layout names pins p r xs f) w.has.netted t right_end)) turned m.right_named)
-      | inr straight ↦ inl (subst (λ b. IsNamed (shapes names pins p r xs f) (name_of names (if b then x.finger.hi else x.finger.lo)) (side_site (layout names pins p r xs f) w.has.netted t left_end)) straight m.left_named, subst (λ b. IsNamed (shapes names pins p r xs f) (name_of names (if b then x.finger.lo else x.finger.hi)) (side_site (layout names pins p r xs f) w.has.netted t right_end)) straight m.right_named)
+      | inl turned ↦ inr (subst (λ b. IsNamed Plain (shapes names pins p r xs f) (name_of names (if b then x.finger.hi else x.finger.lo)) (side_site (layout names pins p r xs f) w.has.netted t left_end)) turned m.left_named, subst (λ b. IsNamed Plain (shapes names pins p r xs f) (name_of names (if b then x.finger.lo else x.finger.hi)) (side_site (layout names pins p r xs f) w.has.netted t right_end)) turned m.right_named)
+      | inr straight ↦ inl (subst (λ b. IsNamed Plain (shapes names pins p r xs f) (name_of names (if b then x.finger.hi else x.finger.lo)) (side_site (layout names pins p r xs f) w.has.netted t left_end)) straight m.left_named, subst (λ b. IsNamed Plain (shapes names pins p r xs f) (name_of names (if b then x.finger.lo else x.finger.hi)) (side_site (layout names pins p r xs f) w.has.netted t right_end)) straight m.right_named)
     ]

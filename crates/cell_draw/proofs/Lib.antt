@@ -24,7 +24,6 @@ mod Halves
 mod Inverter
 mod LabelPieces
 mod LabelsPlaced
-pub mod Names
 mod NamesPlaced
 mod NetsApart
 mod NetsBridge

@@ -18,19 +18,20 @@ use Rattle.row_place.proofs.Placed.{only_placement}
 use Rattle.channel_route.specs.declared.routing.Routing.{Routing}
 use Rattle.box_geom.specs.declared.shape.Label.{Label}
 use Rattle.box_geom.specs.declared.shape.Shapes.{Shapes}
+use Rattle.scmos_rules.specs.declared.rules.Deck.TheVariants.{Plain}
 use Rattle.net_extract.specs.Nets.{Site, Conducts, SameNet}
-use Rattle.net_extract.specs.Labels.{Belongs}
+use Rattle.net_extract.specs.Labels.{Belongs, IsNamed}
 use Rattle.cell_draw.specs.declared.layout.Frame.{Frame}
 use Rattle.cell_draw.specs.declared.layout.Gate.{Gate}
 use Rattle.cell_draw.specs.declared.layout.Tag.{Tag}
 use Rattle.cell_draw.specs.Drawings.{label_of, drawing_of}
-use Rattle.cell_draw.specs.Named.{name_of, IsNamed, AreNamed}
+use Rattle.cell_draw.specs.Named.{name_of, AreNamed}
 use Rattle.cell_draw.specs.Layouts.{tag_of, tags_of, net_no, gates_on}
 use Rattle.cell_draw.specs.Shapes.{shapes_of}
 use Rattle.cell_draw.proofs.BridgeLines.{At, some_at, standing}
 use Rattle.cell_draw.proofs.LabelsPlaced.{IsWired, layout, tag_label}
 use Rattle.cell_draw.proofs.LabelPieces.{LabelOn}
-use Rattle.cell_draw.proofs.Names.{one_site}
+use Rattle.net_extract.proofs.Belonging.{one_site}
 use Rattle.cell_draw.proofs.NetsWhole.{IsOf, nets, PieceOf, piece_of}
 use Rattle.cell_draw.proofs.NetsWires.{Wire, net_of, IsWire}
 use Rattle.cell_draw.proofs.Tags.{tag_from, tag_net, number_below, labels_named}
@@ -100,7 +101,7 @@ same_net names differ a b la lb e =
     ]
 
 -- a cell of a piece is in the net that goes by the name of the piece's net
-pub piece_named : (names : List (List ℕ)) (pins : Pins) (p : Placement) (r : Routing) (xs : List ℕ) (f : Frame) (w : IsWired names pins p r xs f) → ArePins (length names) pins → (a : Wire) (s : Site) → IsWire (layout names pins p r xs f) a → IsOf (layout names pins p r xs f) w.has.netted a s → IsNamed (shapes names pins p r xs f) (name_of names (net_of (layout names pins p r xs f) w.has.netted a)) s
+pub piece_named : (names : List (List ℕ)) (pins : Pins) (p : Placement) (r : Routing) (xs : List ℕ) (f : Frame) (w : IsWired names pins p r xs f) → ArePins (length names) pins → (a : Wire) (s : Site) → IsWire (layout names pins p r xs f) a → IsOf (layout names pins p r xs f) w.has.netted a s → IsNamed Plain (shapes names pins p r xs f) (name_of names (net_of (layout names pins p r xs f) w.has.netted a)) s
 piece_named names pins p r xs f w are a s h i =
     let net : NetNo = net_of (layout names pins p r xs f) w.has.netted a in
     let l : NetLabel names pins p r xs f w net = net_label names pins p r xs f w are net (wire_low names pins p r xs f w are a h) in
@@ -114,7 +115,7 @@ piece_named names pins p r xs f w are a s h i =
       same = (nets (layout names pins p r xs f) w.laid w.has.netted on.wire a on.site s on.listed h on.holds i).1 on.of;
     }
 
-labels_apart : (names : List (List ℕ)) (pins : Pins) (p : Placement) (r : Routing) (xs : List ℕ) (f : Frame) (w : IsWired names pins p r xs f) → (l m : Label) (a b : Site) → Contains (shapes names pins p r xs f).labels l → Contains (shapes names pins p r xs f).labels m → Belongs (shapes names pins p r xs f).rects l a → Belongs (shapes names pins p r xs f).rects m b → SameNet (shapes names pins p r xs f).rects a b ↔ l.name ≡ m.name
+labels_apart : (names : List (List ℕ)) (pins : Pins) (p : Placement) (r : Routing) (xs : List ℕ) (f : Frame) (w : IsWired names pins p r xs f) → (l m : Label) (a b : Site) → Contains (shapes names pins p r xs f).labels l → Contains (shapes names pins p r xs f).labels m → Belongs (shapes names pins p r xs f).rects l a → Belongs (shapes names pins p r xs f).rects m b → SameNet Plain (shapes names pins p r xs f).rects a b ↔ l.name ≡ m.name
 labels_apart names pins p r xs f w l m a b hl hm ba bb =
     let s = label_for names pins p r xs f w l hl in
     let t = label_for names pins p r xs f w m hm in
@@ -123,14 +124,14 @@ labels_apart names pins p r xs f w l m a b hl hm ba bb =
     let ea : u.site ≡ a = one_site (shapes_of (layout names pins p r xs f)) l u.site a u.belongs ba in
     let eb : v.site ≡ b = one_site (shapes_of (layout names pins p r xs f)) m v.site b v.belongs bb in
     let law = nets (layout names pins p r xs f) w.laid w.has.netted u.wire v.wire u.site v.site u.listed v.listed u.holds v.holds in (
-      λ same. s.1.reads ∙ (ap (λ z. name_of names z) (sym u.of ∙ (law.0 (subst (λ z. SameNet (shapes_of (layout names pins p r xs f)) z v.site) (sym ea) (subst (λ z. SameNet (shapes_of (layout names pins p r xs f)) a z) (sym eb) same)) ∙ v.of)) ∙ sym t.1.reads),
+      λ same. s.1.reads ∙ (ap (λ z. name_of names z) (sym u.of ∙ (law.0 (subst (λ z. SameNet Plain (shapes_of (layout names pins p r xs f)) z v.site) (sym ea) (subst (λ z. SameNet Plain (shapes_of (layout names pins p r xs f)) a z) (sym eb) same)) ∙ v.of)) ∙ sym t.1.reads),
       λ e.
           let one : s.0 ≡ t.0 = same_net names w.drawn.row.sound.names_differ s.0 t.0 s.1.low t.1.low (sym s.1.reads ∙ (e ∙ t.1.reads)) in
-          subst (λ z. SameNet (shapes_of (layout names pins p r xs f)) z b) ea (subst (λ z. SameNet (shapes_of (layout names pins p r xs f)) u.site z) eb (law.1 (u.of ∙ (one ∙ sym v.of)))),
+          subst (λ z. SameNet Plain (shapes_of (layout names pins p r xs f)) z b) ea (subst (λ z. SameNet Plain (shapes_of (layout names pins p r xs f)) u.site z) eb (law.1 (u.of ∙ (one ∙ sym v.of)))),
     )
 
 -- the labels of a routed row name its nets
-pub are_named : (names : List (List ℕ)) (pins : Pins) (p : Placement) (r : Routing) (xs : List ℕ) (f : Frame) (w : IsWired names pins p r xs f) → ArePins (length names) pins → AreNamed names (shapes names pins p r xs f)
+pub are_named : (names : List (List ℕ)) (pins : Pins) (p : Placement) (r : Routing) (xs : List ℕ) (f : Frame) (w : IsWired names pins p r xs f) → ArePins (length names) pins → AreNamed Plain names (shapes names pins p r xs f)
 are_named names pins p r xs f w are = record {
   belong = λ l there. let s = label_for names pins p r xs f w l there in record { site = s.1.on.site; belongs = s.1.on.belongs };
   known = λ l there. All-contains (λ (z : Label). Contains names z.name) (shapes names pins p r xs f).labels l (labels_named names pins f p.nodes r.trunks xs (gates_on f r.trunks xs (seats_of p.row)) (shapes names pins p r xs f).labels refl) there;
@@ -145,7 +146,7 @@ are_named names pins p r xs f w are = record {
         let l : NetLabel names pins p r xs f w (net_no k.0) = net_label names pins p r xs f w are (net_no k.0) (slice_get_within names k.0 name k.1) in
         any_at (λ (l : Label). l.name ≡ name) (shapes names pins p r xs f).labels l.label l.listed (l.is.reads ∙ get_or_from_slice_get names k.0 name [] k.1)
 
-    every : (a : Site) → Conducts (shapes names pins p r xs f).rects a → (name : List ℕ) × IsNamed (shapes names pins p r xs f) name a
+    every : (a : Site) → Conducts (shapes names pins p r xs f).rects a → (name : List ℕ) × IsNamed Plain (shapes names pins p r xs f) name a
     every a c =
         let q : PieceOf (layout names pins p r xs f) w.has.netted a = piece_of (layout names pins p r xs f) w.laid w.has.netted a c in
         (name_of names (net_of (layout names pins p r xs f) w.has.netted q.wire), piece_named names pins p r xs f w are q.wire a q.listed q.holds)

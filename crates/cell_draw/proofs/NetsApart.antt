@@ -3,8 +3,9 @@ use Rattle.std.proofs.Common.{◌≡◌, ℕ, zero, suc, ℤ, arith, inl, inr, �
 use Rattle.std.proofs.lemmas.Int.{ints}
 use Rattle.box_geom.specs.Rectangle.{Rectangle, Holds}
 use Rattle.box_geom.specs.Chains.{Steps, Chain}
+use Rattle.scmos_rules.specs.declared.rules.Deck.TheVariants.{Plain}
 use Rattle.net_extract.specs.Nets.{Kind, p_diffusion, n_diffusion, poly, metal1, metal2, IsLower, of_p, of_n, of_poly, Are, Joins, by_contact, by_via}
-use Rattle.net_extract.specs.Parts.{Part, Bond, touching, joining, Bonded}
+use Rattle.net_extract.specs.Parts.{Part, Bond, touching, joining, tying, Bonded}
 use Rattle.cell_draw.specs.declared.layout.Layout.{Layout}
 use Rattle.cell_draw.specs.Shapes.{shapes_of}
 use Rattle.cell_draw.specs.Laid.{IsLaid}
@@ -61,8 +62,9 @@ joined_net l w n a b h k x y i j (by_via up low on) =
 abbrev pub part_of : (l : Layout) → IsNetted l → Wire → Part
 part_of l n a = record { kind = kind_of a; rect = rect_of l n a }
 
-bond_net : (l : Layout) (w : IsLaid l) (n : IsNetted l) (a b : Wire) → IsWire l a → IsWire l b → Bond (shapes_of l) (part_of l n a) (part_of l n b) → net_of l n a ≡ net_of l n b
+bond_net : (l : Layout) (w : IsLaid l) (n : IsNetted l) (a b : Wire) → IsWire l a → IsWire l b → Bond Plain (shapes_of l) (part_of l n a) (part_of l n b) → net_of l n a ≡ net_of l n b
 bond_net l w n a b h k (touching e t) = touching_net l w n a b h k e t
+bond_net l w n a b h k (tying d z) = absurd (cc d)
 bond_net l w n a b h k (joining j) = by j.through
   where
     by : Joins (shapes_of l) j.x j.y (kind_of a) (kind_of b) ⊎ Joins (shapes_of l) j.x j.y (kind_of b) (kind_of a) → net_of l n a ≡ net_of l n b
@@ -75,7 +77,7 @@ part_is l n m f = made (kind_of f.wire) m.kind (rect_of l n f.wire) m.rect f.kin
     made : (j k : Kind) (r s : Rectangle) → j ≡ k → r ≡ s → (let p : Part = record { kind = j; rect = r } in p) ≡ (let q : Part = record { kind = k; rect = s } in q)
     made j k r s e g = cc
 
-steps_net : (l : Layout) (w : IsLaid l) (n : IsNetted l) (count : ℕ) (a b : Wire) → IsWire l a → IsWire l b → Steps (Bonded (shapes_of l) (parts l n)) count (part_of l n a) (part_of l n b) → net_of l n a ≡ net_of l n b
+steps_net : (l : Layout) (w : IsLaid l) (n : IsNetted l) (count : ℕ) (a b : Wire) → IsWire l a → IsWire l b → Steps (Bonded Plain (shapes_of l) (parts l n)) count (part_of l n a) (part_of l n b) → net_of l n a ≡ net_of l n b
 steps_net l w n zero a b h k e =
     let p = proper l w n a h in
     let r = rect_of l n a in
@@ -84,9 +86,9 @@ steps_net l w n zero a b h k e =
 steps_net l w n (suc count) a b h k (m, s, rest) =
     let f : WireFrom l n m.kind m.rect = wire_from l n m.kind m.rect s.to in
     let is : part_of l n f.wire ≡ m = part_is l n m f in
-    bond_net l w n a f.wire h f.listed (subst (λ p. Bond (shapes_of l) (part_of l n a) p) (sym is) s.bond)
-    ∙ steps_net l w n count f.wire b f.listed k (subst (λ p. Steps (Bonded (shapes_of l) (parts l n)) count p (part_of l n b)) (sym is) rest)
+    bond_net l w n a f.wire h f.listed (subst (λ p. Bond Plain (shapes_of l) (part_of l n a) p) (sym is) s.bond)
+    ∙ steps_net l w n count f.wire b f.listed k (subst (λ p. Steps (Bonded Plain (shapes_of l) (parts l n)) count p (part_of l n b)) (sym is) rest)
 
 -- Pieces that are chained are of one net.
-pub chained_net : (l : Layout) (w : IsLaid l) (n : IsNetted l) (a b : Wire) → IsWire l a → IsWire l b → Chain (Bonded (shapes_of l) (parts l n)) (part_of l n a) (part_of l n b) → net_of l n a ≡ net_of l n b
+pub chained_net : (l : Layout) (w : IsLaid l) (n : IsNetted l) (a b : Wire) → IsWire l a → IsWire l b → Chain (Bonded Plain (shapes_of l) (parts l n)) (part_of l n a) (part_of l n b) → net_of l n a ≡ net_of l n b
 chained_net l w n a b h k c = steps_net l w n c.count a b h k c.steps

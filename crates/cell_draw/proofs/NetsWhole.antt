@@ -5,6 +5,7 @@ use Rattle.cell_num.specs.declared.finger.Row.{Row}
 use Rattle.cell_num.specs.declared.finger.Row.TheVariants.{P, N}
 use Rattle.box_geom.specs.Rectangle.{Holds}
 use Rattle.scmos_rules.proofs.Chains.{none}
+use Rattle.scmos_rules.specs.declared.rules.Deck.TheVariants.{Plain}
 use Rattle.net_extract.specs.Nets.{Site, SameNet, Conducts}
 use Rattle.net_extract.specs.Parts.{Bonded, IsIn}
 use Rattle.net_extract.proofs.Bonds.{one_net}
@@ -54,7 +55,7 @@ record ToHub (l : Layout) (n : IsNetted l) (a : Wire) : Type 0 where
   chain : Together l n a (hub_wire hub)
 
 self : (l : Layout) (n : IsNetted l) (a b : Wire) → a ≡ b → Together l n a b
-self l n a b e = none (Bonded (shapes_of l) (parts l n)) (part_of l n a) (part_of l n b) (ap (λ z. part_of l n z) e)
+self l n a b e = none (Bonded Plain (shapes_of l) (parts l n)) (part_of l n a) (part_of l n b) (ap (λ z. part_of l n z) e)
 
 hubbed : (l : Layout) (n : IsNetted l) (h : Hub) → IsHub l n h → ToHub l n (hub_wire h)
 hubbed l n h is = record { hub = h; is = is; net = refl; chain = self l n (hub_wire h) (hub_wire h) refl }
@@ -185,9 +186,9 @@ net_chained l w n a b h k e =
 abbrev pub IsOf : (l : Layout) → IsNetted l → Wire → Site → Type 0
 IsOf l n a s = IsIn (part_of l n a) s
 
-pub nets : (l : Layout) (w : IsLaid l) (n : IsNetted l) (a b : Wire) (s t : Site) → IsWire l a → IsWire l b → IsOf l n a s → IsOf l n b t → SameNet (shapes_of l) s t ↔ net_of l n a ≡ net_of l n b
+pub nets : (l : Layout) (w : IsLaid l) (n : IsNetted l) (a b : Wire) (s t : Site) → IsWire l a → IsWire l b → IsOf l n a s → IsOf l n b t → SameNet Plain (shapes_of l) s t ↔ net_of l n a ≡ net_of l n b
 nets l w n a b s t h k i j =
-    let law : SameNet (shapes_of l) s t ↔ Together l n a b = one_net (shapes_of l) (parts l n) (part_of l n a) (part_of l n b) s t (are_drawn l w n) (wire_listed l n a h) (wire_listed l n b k) i j in
+    let law : SameNet Plain (shapes_of l) s t ↔ Together l n a b = one_net Plain (shapes_of l) (parts l n) (part_of l n a) (part_of l n b) s t (are_drawn l w n) (wire_listed l n a h) (wire_listed l n b k) i j in
     (λ same. chained_net l w n a b h k (law.0 same), λ e. law.1 (net_chained l w n a b h k e))
 
 -- the piece that a conductor cell is of

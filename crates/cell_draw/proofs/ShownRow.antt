@@ -23,6 +23,7 @@ use Rattle.row_compact.specs.Solution.{x_of}
 use Rattle.box_geom.specs.Rectangle.{Rectangle, Holds}
 use Rattle.box_geom.specs.declared.layer.Layer.TheVariants.{Active}
 use Rattle.scmos_rules.specs.Layout.{On}
+use Rattle.scmos_rules.specs.declared.rules.Deck.TheVariants.{Plain}
 use Rattle.net_extract.specs.Devices.{IsSomeDevice}
 use Rattle.cell_draw.specs.declared.layout.Frame.{Frame}
 use Rattle.cell_draw.specs.declared.layout.Strip.{Strip}
@@ -62,7 +63,7 @@ record OfSeat (names : List (List ℕ)) (pins : Pins) (p : Placement) (r : Routi
   is : IsSeated p xs seat side placed
   same : box ≡ box_of (layout names pins p r xs f) w.has.netted (strip_with xs seat.unit side placed)
 
-of_seat : (names : List (List ℕ)) (pins : Pins) (p : Placement) (r : Routing) (xs : List ℕ) (f : Frame) (w : IsWired names pins p r xs f) → (seat : Seat) → Contains (seats_of p.row) seat → (side : Row) (box : Rectangle) → IsInRow (shapes names pins p r xs f).rects side (span_of xs seat) box → OfSeat names pins p r xs f w seat side box
+of_seat : (names : List (List ℕ)) (pins : Pins) (p : Placement) (r : Routing) (xs : List ℕ) (f : Frame) (w : IsWired names pins p r xs f) → (seat : Seat) → Contains (seats_of p.row) seat → (side : Row) (box : Rectangle) → IsInRow Plain (shapes names pins p r xs f).rects side (span_of xs seat) box → OfSeat names pins p r xs f w seat side box
 of_seat names pins p r xs f w seat there side box h =
     let d : DeviceSeat names pins p r xs f w box side = subst (λ z. DeviceSeat names pins p r xs f w box z) h.of_side (device_seat names pins p r xs f w box h.device) in
     let i : IsIn (span_of xs d.seat) (box_of (layout names pins p r xs f) w.has.netted (strip_with xs d.seat.unit side d.placed)) = box_in_span names pins p r xs f w d.seat side d.placed d.is in
@@ -72,7 +73,7 @@ of_seat names pins p r xs f w seat there side box h =
     let one : d.seat ≡ seat = one_seat p xs w.drawn.placement (lines_of_allowed p pins r xs w.drawn.allowed) d.seat seat d.listed there line in
     subst (λ z. OfSeat names pins p r xs f w z side box) one (record { placed = d.placed; is = d.is; same = d.same })
 
-place_shown : (names : List (List ℕ)) (pins : Pins) (p : Placement) (r : Routing) (xs : List ℕ) (f : Frame) (w : IsWired names pins p r xs f) → ArePins (length names) pins → (seat : Seat) → Contains (seats_of p.row) seat → (side : Row) (o : Option Placed) → place side seat.column ≡ o → IsPlace names (shapes names pins p r xs f) side (span_of xs seat) o
+place_shown : (names : List (List ℕ)) (pins : Pins) (p : Placement) (r : Routing) (xs : List ℕ) (f : Frame) (w : IsWired names pins p r xs f) → ArePins (length names) pins → (seat : Seat) → Contains (seats_of p.row) seat → (side : Row) (o : Option Placed) → place side seat.column ≡ o → IsPlace Plain names (shapes names pins p r xs f) side (span_of xs seat) o
 place_shown names pins p r xs f w are seat there side None e = λ box h. absurd (let d = of_seat names pins p r xs f w seat there side box h in let wrong : None ≡ Some d.placed = sym e ∙ d.is.filled in cc)
 place_shown names pins p r xs f w are seat there side (Some x) e =
     let s : IsSeated p xs seat side x = seated p xs seat side x there e in
@@ -97,7 +98,7 @@ place_shown names pins p r xs f w are seat there side (Some x) e =
           d.same ∙ ap (λ z. box_of (layout names pins p r xs f) w.has.netted (strip_with xs seat.unit side z)) same;
     }
 
-columns_shown : (names : List (List ℕ)) (pins : Pins) (p : Placement) (r : Routing) (xs : List ℕ) (f : Frame) (w : IsWired names pins p r xs f) → ArePins (length names) pins → (unit : ℕ) (before : Option Column) (row : List Column) → ((s : Seat) → Contains (seats_from unit before row) s → Contains (seats_of p.row) s) → AllZip (IsShownColumn names (shapes names pins p r xs f)) (spans_of xs (seats_from unit before row)) row
+columns_shown : (names : List (List ℕ)) (pins : Pins) (p : Placement) (r : Routing) (xs : List ℕ) (f : Frame) (w : IsWired names pins p r xs f) → ArePins (length names) pins → (unit : ℕ) (before : Option Column) (row : List Column) → ((s : Seat) → Contains (seats_from unit before row) s → Contains (seats_of p.row) s) → AllZip (IsShownColumn Plain names (shapes names pins p r xs f)) (spans_of xs (seats_from unit before row)) row
 columns_shown names pins p r xs f w are unit before [] sub = tt
 columns_shown names pins p r xs f w are unit before (c ∷ row) sub =
     let seat : Seat = record { column = c; unit = unit + length (gap_between before c) } in
@@ -157,7 +158,7 @@ no_gap : (a b : Column) → is_gap (a, b) ≡ false → length (gap_between (Som
 no_gap a b e = rw e refl
 
 -- a drawn row shows its columns
-pub shows_row : (names : List (List ℕ)) (pins : Pins) (p : Placement) (r : Routing) (xs : List ℕ) (f : Frame) (w : IsWired names pins p r xs f) → ArePins (length names) pins → ShowsRow names p.row (shapes names pins p r xs f)
+pub shows_row : (names : List (List ℕ)) (pins : Pins) (p : Placement) (r : Routing) (xs : List ℕ) (f : Frame) (w : IsWired names pins p r xs f) → ArePins (length names) pins → ShowsRow Plain names p.row (shapes names pins p r xs f)
 shows_row names pins p r xs f w are = record {
   spans = spans_of xs (seats_of p.row);
   ascending = pairs_map (λ (a b : Seat). a.unit < b.unit) (Contains (seats_of p.row)) (λ (a b : Span). a.right ≤ℤ b.left) (span_of xs) (seats_of p.row) ascend (all_from_contains (Contains (seats_of p.row)) (seats_of p.row) (λ s there. there)) (seats_ascend 0 None p.row);
@@ -176,12 +177,12 @@ shows_row names pins p r xs f w are = record {
         let gap : x_of xs (2 * s.unit + 1) + 8 * 2 ≤ x_of xs (2 * t.unit + 1) = behind p xs lines (2 * s.unit + 1) (2 * t.unit + 1) 2 (omega (arith, less)) (omega (arith, last, at.unit)) in
         omega (arith, ints, gap)
 
-    all : (box : Rectangle) → IsSomeDevice (shapes names pins p r xs f).rects box → Any (λ (span : Span). IsIn span box) (spans_of xs (seats_of p.row))
+    all : (box : Rectangle) → IsSomeDevice Plain (shapes names pins p r xs f).rects box → Any (λ (span : Span). IsIn span box) (spans_of xs (seats_of p.row))
     all box d =
         let s : DeviceSeat names pins p r xs f w box d.row = device_seat names pins p r xs f w box d in
         any_at (λ (span : Span). IsIn span box) (spans_of xs (seats_of p.row)) (span_of xs s.seat) (contains_map (span_of xs) (seats_of p.row) s.seat s.listed) (subst (λ z. IsIn (span_of xs s.seat) z) (sym s.same) (box_in_span names pins p r xs f w s.seat d.row s.placed s.is))
 
-    abut : (a b : Column) (one other : Span) → AreNeighbours p.row (spans_of xs (seats_of p.row)) a b one other → is_gap (a, b) ≡ false → (side : Row) (left right : Rectangle) → IsInRow (shapes names pins p r xs f).rects side one left → IsInRow (shapes names pins p r xs f).rects side other right → IsJoined (shapes names pins p r xs f).rects side left right
+    abut : (a b : Column) (one other : Span) → AreNeighbours p.row (spans_of xs (seats_of p.row)) a b one other → is_gap (a, b) ≡ false → (side : Row) (left right : Rectangle) → IsInRow Plain (shapes names pins p r xs f).rects side one left → IsInRow Plain (shapes names pins p r xs f).rects side other right → IsJoined (shapes names pins p r xs f).rects side left right
     abut a b one other h none side left right hl hr =
         let s : Seat = record { column = a; unit = unit_of p.row h.at } in
         let t : Seat = record { column = b; unit = unit_of p.row (h.at + 1) } in
@@ -190,6 +191,6 @@ shows_row names pins p r xs f w are = record {
         let after : ◌≡◌ {A = ℕ} (h.at + 1) (suc h.at) = omega arith in
         let next : unit_of p.row (suc h.at) ≡ unit_of p.row h.at + length (gap_between (Some a) b) + 1 = unit_next p.row h.at a b h.before (subst (λ n. slice_get p.row n ≡ Some b) after h.behind) in
         let unit : t.unit ≡ s.unit + 1 = omega (arith, ap (λ n. unit_of p.row n) after, next, no_gap a b none) in
-        let d = of_seat names pins p r xs f w s (seat_from p.row s h.at h.before refl) side left (subst (λ z. IsInRow (shapes names pins p r xs f).rects side z left) es hl) in
-        let e = of_seat names pins p r xs f w t (seat_from p.row t (h.at + 1) h.behind refl) side right (subst (λ z. IsInRow (shapes names pins p r xs f).rects side z right) et hr) in
+        let d = of_seat names pins p r xs f w s (seat_from p.row s h.at h.before refl) side left (subst (λ z. IsInRow Plain (shapes names pins p r xs f).rects side z left) es hl) in
+        let e = of_seat names pins p r xs f w t (seat_from p.row t (h.at + 1) h.behind refl) side right (subst (λ z. IsInRow Plain (shapes names pins p r xs f).rects side z right) et hr) in
         subst (λ z. IsJoined (shapes names pins p r xs f).rects side z right) (sym d.same) (subst (λ z. IsJoined (shapes names pins p r xs f).rects side (box_of (layout names pins p r xs f) w.has.netted (strip_with xs s.unit side d.placed)) z) (sym e.same) (joined_by names pins p r xs f w s t side d.placed e.placed d.is e.is unit))

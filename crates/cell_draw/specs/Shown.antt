@@ -19,10 +19,12 @@ use Rattle.box_geom.specs.declared.shape.Label.{Label}
 use Rattle.box_geom.specs.declared.shape.Shapes.{Shapes}
 use Rattle.box_geom.specs.declared.layer.Layer.TheVariants.{Active, Metal1}
 use Rattle.scmos_rules.specs.Layout.{On}
+use Rattle.scmos_rules.specs.declared.rules.Deck.{Deck}
 use Rattle.net_extract.specs.Nets.{Site}
 use Rattle.net_extract.specs.Devices.{rightward, IsDevice, IsSomeDevice}
+use Rattle.net_extract.specs.Labels.{IsNamed}
 use Rattle.cell_draw.specs.Frame.{channel_edge}
-use Rattle.cell_draw.specs.Named.{name_of, IsNamed}
+use Rattle.cell_draw.specs.Named.{name_of}
 
 -- where the gates of a column stand
 pub record Span : Type 0 where
@@ -35,37 +37,37 @@ pub record IsIn (span : Span) (box : Rectangle) : Type 0 where
   pub right : box.x2 ≡ span.right
 
 -- a device of the row stands in the column
-pub record IsInRow (s : List Shape) (side : Row) (span : Span) (box : Rectangle) : Type 0 where
+pub record IsInRow (deck : Deck) (s : List Shape) (side : Row) (span : Span) (box : Rectangle) : Type 0 where
   pub inside : IsIn span box
-  pub device : IsSomeDevice s box
+  pub device : IsSomeDevice deck s box
   pub of_side : device.row ≡ side
 
 -- the device, with its nets from left to right
-pub record IsPlacedAt (names : List (List ℕ)) (shapes : Shapes) (side : Row) (box : Rectangle) (x : Placed) : Type 0 where
+pub record IsPlacedAt (deck : Deck) (names : List (List ℕ)) (shapes : Shapes) (side : Row) (box : Rectangle) (x : Placed) : Type 0 where
   pub gate : Site
   pub left : Site
   pub right : Site
-  pub is : IsDevice shapes.rects box side gate left right x.finger.width 4
+  pub is : IsDevice deck shapes.rects box side gate left right x.finger.width 4
   pub flow : is.flow ≡ rightward
-  pub gate_net : IsNamed shapes (name_of names x.finger.gate) gate
-  pub left_end : IsNamed shapes (name_of names (left_net x)) left
-  pub right_end : IsNamed shapes (name_of names (right_net x)) right
+  pub gate_net : IsNamed deck shapes (name_of names x.finger.gate) gate
+  pub left_end : IsNamed deck shapes (name_of names (left_net x)) left
+  pub right_end : IsNamed deck shapes (name_of names (right_net x)) right
 
 -- exactly one device of the row stands in the column, and is the finger
-pub record IsOneIn (names : List (List ℕ)) (shapes : Shapes) (side : Row) (span : Span) (x : Placed) : Type 0 where
+pub record IsOneIn (deck : Deck) (names : List (List ℕ)) (shapes : Shapes) (side : Row) (span : Span) (x : Placed) : Type 0 where
   pub box : Rectangle
   pub inside : IsIn span box
-  pub placed : IsPlacedAt names shapes side box x
-  pub only : (other : Rectangle) → IsInRow shapes.rects side span other → other ≡ box
+  pub placed : IsPlacedAt deck names shapes side box x
+  pub only : (other : Rectangle) → IsInRow deck shapes.rects side span other → other ≡ box
 
 -- what stands in a row of a column is the finger of a filled place, and nothing in an empty one
-abbrev pub IsPlace : List (List ℕ) → Shapes → Row → Span → Option Placed → Type 0
-IsPlace names shapes side span None = (box : Rectangle) → IsInRow shapes.rects side span box → ⊥
-IsPlace names shapes side span (Some x) = IsOneIn names shapes side span x
+abbrev pub IsPlace : Deck → List (List ℕ) → Shapes → Row → Span → Option Placed → Type 0
+IsPlace deck names shapes side span None = (box : Rectangle) → IsInRow deck shapes.rects side span box → ⊥
+IsPlace deck names shapes side span (Some x) = IsOneIn deck names shapes side span x
 
-pub record IsShownColumn (names : List (List ℕ)) (shapes : Shapes) (span : Span) (column : Column) : Type 0 where
-  pub p : IsPlace names shapes P span column.p
-  pub n : IsPlace names shapes N span column.n
+pub record IsShownColumn (deck : Deck) (names : List (List ℕ)) (shapes : Shapes) (span : Span) (column : Column) : Type 0 where
+  pub p : IsPlace deck names shapes P span column.p
+  pub n : IsPlace deck names shapes N span column.n
 
 -- the cells between two gates of a row are active, along the row's edge to the channel
 abbrev pub IsJoined : List Shape → Row → Rectangle → Rectangle → Type 0
@@ -82,16 +84,16 @@ pub record AreNeighbours (row : List Column) (spans : List Span) (a b : Column) 
 
 -- The columns stand in order, each device in one of them. Neighbours without a gap abut in each row that
 -- both fill.
-pub record ShowsRow (names : List (List ℕ)) (row : List Column) (shapes : Shapes) : Type 0 where
+pub record ShowsRow (deck : Deck) (names : List (List ℕ)) (row : List Column) (shapes : Shapes) : Type 0 where
   pub spans : List Span
   pub ascending : AllPairs (λ (a b : Span). a.right ≤ℤ b.left) spans
-  pub columns : AllZip (IsShownColumn names shapes) spans row
-  pub all : (box : Rectangle) → IsSomeDevice shapes.rects box → Any (λ (span : Span). IsIn span box) spans
-  pub abut : (a b : Column) (one other : Span) → AreNeighbours row spans a b one other → is_gap (a, b) ≡ false → (side : Row) (left right : Rectangle) → IsInRow shapes.rects side one left → IsInRow shapes.rects side other right → IsJoined shapes.rects side left right
+  pub columns : AllZip (IsShownColumn deck names shapes) spans row
+  pub all : (box : Rectangle) → IsSomeDevice deck shapes.rects box → Any (λ (span : Span). IsIn span box) spans
+  pub abut : (a b : Column) (one other : Span) → AreNeighbours row spans a b one other → is_gap (a, b) ≡ false → (side : Row) (left right : Rectangle) → IsInRow deck shapes.rects side one left → IsInRow deck shapes.rects side other right → IsJoined shapes.rects side left right
 
 -- The drawing shows the row; the rails are two of the pins.
-pub record ShowsColumns (names : List (List ℕ)) (pins : Pins) (row : List Column) (shapes : Shapes) : Type 0 where
-  pub shown : ArePins (length names) pins → ShowsRow names row shapes
+pub record ShowsColumns (deck : Deck) (names : List (List ℕ)) (pins : Pins) (row : List Column) (shapes : Shapes) : Type 0 where
+  pub shown : ArePins (length names) pins → ShowsRow deck names row shapes
 
 -- the net's label stands on the track, where the channel begins at this height
 pub record ShowsTrack (names : List (List ℕ)) (yn : ℕ) (shapes : Shapes) (t : Trunk) : Type 0 where

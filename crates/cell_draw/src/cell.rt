@@ -147,8 +147,8 @@ pub fn draw(
     ensures begins { IfOk result (λ d. BeginsWith
         (base_drawn_of pins.now placement.now routing.now.tracks xs.now height).shapes.rects d.shapes.rects) }
     ensures named { IfOk result (λ d. All (λ (l : SomeLabel). Contains names.now l.name) d.shapes.labels) }
-    ensures extracts { IfOk result (λ d. ExtractsToRow names.now pins.now placement.now.row d.shapes) }
-    ensures shows { IfOk result (λ d. ShowsColumns names.now pins.now placement.now.row d.shapes) }
+    ensures extracts { IfOk result (λ d. ExtractsToRow Plain names.now pins.now placement.now.row d.shapes) }
+    ensures shows { IfOk result (λ d. ShowsColumns Plain names.now pins.now placement.now.row d.shapes) }
     ensures routed { IfOk result (λ d. ShowsRouting names.now pins.now placement.now d.shapes routing.now) }
     ensures fits { IfOk result (λ d. IsTooTall placement.now.row routing.now.tracks height → ⊥) }
     ensures tall { SaysTooTall placement.now.row routing.now.tracks height result }

@@ -91,8 +91,8 @@ decodes_so inputs drawing are readable = subst (λ lambda. Decodes (library_of i
 -- what is said of the shapes of a drawing
 pub record IsSoundDrawing (inputs : Inputs) (row : List Column) (routing : Routing) (drawing : Drawing) : Type 0 where
   pub obeys : Obeys Plain drawing.shapes.rects
-  pub extracts : ExtractsTo inputs.cell.nets inputs.fingers drawing.shapes
-  pub shows_row : ShowsRow inputs.cell.nets row drawing.shapes
+  pub extracts : ExtractsTo Plain inputs.cell.nets inputs.fingers drawing.shapes
+  pub shows_row : ShowsRow Plain inputs.cell.nets row drawing.shapes
   pub shows_routing : ShowsRouting inputs.cell.nets inputs.cell.pins (placement_of row) drawing.shapes routing
   pub ports : (n : ℕ) → n < inputs.cell.pins.pins → HasPort inputs.cell.nets (ports_in inputs routing drawing) drawing n
   pub obstructs : AreAllMetal (ports_in inputs routing drawing) drawing.shapes.rects
@@ -126,8 +126,8 @@ pub record IsDrawnSo (inside : Inputs) (row : List Column) (placement : Placemen
   pub fits : IsTooTall placement.row routing.tracks height → ⊥
   pub exact : drawing ≡ drawn_of inside.cell.nets inside.cell.pins placement routing lines height
   pub obeys : Obeys Plain drawing.shapes.rects
-  pub extracts : ExtractsToRow inside.cell.nets inside.cell.pins placement.row drawing.shapes
-  pub shows : ShowsColumns inside.cell.nets inside.cell.pins placement.row drawing.shapes
+  pub extracts : ExtractsToRow Plain inside.cell.nets inside.cell.pins placement.row drawing.shapes
+  pub shows : ShowsColumns Plain inside.cell.nets inside.cell.pins placement.row drawing.shapes
   pub routed : ShowsRouting inside.cell.nets inside.cell.pins placement drawing.shapes routing
 
 -- the same of the inputs and the row themselves

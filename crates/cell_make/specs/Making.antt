@@ -78,8 +78,8 @@ pub record IsMade (inputs : Inputs) (row : List Column) (log : Log) (routing : R
   pub lines : AreLeastLines (placement_of row) inputs.cell.pins routing xs
   pub fits : IsTooTall row routing.tracks inputs.tech.height → ⊥
   pub obeys : Obeys Plain (drawing_in inputs row routing xs).shapes.rects
-  pub extracts : ExtractsTo inputs.cell.nets inputs.fingers (drawing_in inputs row routing xs).shapes
-  pub shows_row : ShowsRow inputs.cell.nets row (drawing_in inputs row routing xs).shapes
+  pub extracts : ExtractsTo Plain inputs.cell.nets inputs.fingers (drawing_in inputs row routing xs).shapes
+  pub shows_row : ShowsRow Plain inputs.cell.nets row (drawing_in inputs row routing xs).shapes
   pub shows_routing : ShowsRouting inputs.cell.nets inputs.cell.pins (placement_of row) (drawing_in inputs row routing xs).shapes routing
   pub ports : (n : ℕ) → n < inputs.cell.pins.pins → HasPort inputs.cell.nets (ports_in inputs routing (drawing_in inputs row routing xs)) (drawing_in inputs row routing xs) n
   pub obstructs : AreAllMetal (ports_in inputs routing (drawing_in inputs row routing xs)) (drawing_in inputs row routing xs).shapes.rects

@@ -66,8 +66,10 @@ pub fn draw_routed(
     ensures exact { IfOk result (λ d. d.drawing
         ≡ drawn_of cell.now.nets cell.now.pins placement.now routing.now d.lines height) }
     ensures obeys { IfOk result (λ d. Obeys Plain d.drawing.shapes.rects) }
-    ensures extracts { IfOk result (λ d. ExtractsToRow cell.now.nets cell.now.pins placement.now.row d.drawing.shapes) }
-    ensures shows { IfOk result (λ d. ShowsColumns cell.now.nets cell.now.pins placement.now.row d.drawing.shapes) }
+    ensures extracts { IfOk result (λ d. ExtractsToRow Plain cell.now.nets cell.now.pins placement.now.row
+        d.drawing.shapes) }
+    ensures shows { IfOk result (λ d. ShowsColumns Plain cell.now.nets cell.now.pins placement.now.row
+        d.drawing.shapes) }
     ensures routed { IfOk result (λ d.
         ShowsRouting cell.now.nets cell.now.pins placement.now d.drawing.shapes routing.now) }
     ensures few { IfOk result (λ d. length d.drawing.shapes.rects ≤ 1999) }

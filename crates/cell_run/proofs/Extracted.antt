@@ -1,9 +1,8 @@
 -- A cell of a GDSII file calls for one end of its extraction.
-use Rattle.std.proofs.Common.{ℕ, ℤ, suc, ◌≡◌, ◌≢◌, ◌==◌, IsTrue, ◌≤◌, ◌<◌, ◌⊎◌, List, [], ◌∷◌, ◌++◌, length, Option, Some, None, Result, Ok, Err, IfOk, inl, inr, refl, sym, ap, ◌∙◌, subst, arith}
-use Rattle.std.specs.List.{AllZip, Contains}
+use Rattle.std.proofs.Common.{ℕ, ℤ, suc, ◌≡◌, ◌≢◌, ◌==◌, IsTrue, ◌≤◌, ◌<◌, ◌⊎◌, List, [], ◌∷◌, length, Result, Ok, Err, IfOk, inl, inr, refl, sym, ap, ◌∙◌, subst, arith}
+use Rattle.std.specs.List.{Contains}
 use Rattle.std.proofs.lemmas.Bool.Decides.{Decides-eqb}
 use Rattle.std.proofs.lemmas.Result.{IfOk-weaker}
-use Rattle.box_geom.specs.declared.shape.Label.{Label}
 use Rattle.box_geom.specs.declared.shape.Shape.{Shape}
 use Rattle.box_geom.specs.declared.shape.Shapes.{Shapes}
 use Rattle.cell_num.proofs.Lists.{contains_none}
@@ -21,16 +20,8 @@ use Rattle.scmos_rules.specs.Rules.{Fails, InDeck, Obeys}
 use Rattle.scmos_rules.specs.Violations.{AreViolations, IsFaultOf}
 use Rattle.net_extract.specs.declared.fault.ExtractFault.{ExtractFault}
 use Rattle.net_extract.specs.declared.fault.ExtractFault.TheVariants as no_netlist
-use Rattle.net_extract.specs.declared.naming.Held.{Held}
-use Rattle.net_extract.specs.declared.netlist.Netlist.{Netlist}
-use Rattle.net_extract.specs.Extraction.{Extracts, ExtractRefused, IsLabelled}
-use Rattle.net_extract.specs.Labels.{AreHeld, IsHeld, wiring_labels}
-use Rattle.net_extract.specs.Naming.{short_net, split_name}
-use Rattle.net_extract.specs.Nets.{Site}
-use Rattle.net_extract.specs.Numbering.{AreNets, IsInNet}
-use Rattle.net_extract.proofs.Numbers.{one_number}
-use Rattle.net_extract.proofs.Orders.{same_numbering}
-use Rattle.cell_draw.proofs.Names.{one_site}
+use Rattle.net_extract.specs.Extraction.{ExtractRefused}
+use Rattle.net_extract.proofs.Netlists.{only_memory}
 use Rattle.cell_run.specs.declared.end.End.{End}
 use Rattle.cell_run.specs.declared.extract.ExtractAnswer.{ExtractAnswer}
 use Rattle.cell_run.specs.declared.extract.ExtractAnswer.TheVariants.{Extracted, Broken, Unread, Unchecked, Refused}
@@ -44,66 +35,6 @@ use Rattle.cell_run.specs.Extract.{BreaksRule, ExtractsTo, HasLayoutFault, HasNe
 pub no_items : {X : Type 0} → (xs : List X) → IsTrue (length xs == 0) → xs ≡ []
 no_items [] is = refl
 no_items (x ∷ xs) is = absurd (let k : suc (length xs) ≡ 0 = (Decides-eqb (suc (length xs)) 0).0 is in omega arith)
-
--- ---- a drawing that has a netlist is not refused
-
-held : List ℕ → ℕ → Held
-held name net = record { name = name; net = net }
-
-held_same : (name other : List ℕ) (m n : ℕ) → name ≡ other → m ≡ n → held name m ≡ held other n
-held_same name other m n a b = cc
-
-same_held : (h k : Held) → h.name ≡ k.name → h.net ≡ k.net → h ≡ k
-unfolding held
-same_held h k a b = held_same h.name k.name h.net k.net a b
-
-one_held : (s : List Shape) (firsts : List Site) (l : Label) (h k : Held) → AreNets s firsts → IsHeld s firsts l h → IsHeld s firsts l k → h ≡ k
-one_held s firsts l h k nets a b =
-    let site : a.site ≡ b.site = one_site s l a.site b.site a.belongs b.belongs in
-    same_held h k (a.name ∙ sym b.name) (one_number s firsts h.net k.net a.site nets a.net (subst (IsInNet s firsts k.net) (sym site) b.net))
-
-all_held : (s : List Shape) (firsts : List Site) (ls : List Label) (hs ks : List Held) → AreNets s firsts → AllZip (IsHeld s firsts) ls hs → AllZip (IsHeld s firsts) ls ks → hs ≡ ks
-all_held s firsts [] [] [] nets a b = refl
-all_held s firsts [] [] (k ∷ ks) nets a b = absurd b
-all_held s firsts [] (h ∷ hs) ks nets a b = absurd a
-all_held s firsts (l ∷ ls) [] ks nets a b = absurd a
-all_held s firsts (l ∷ ls) (h ∷ hs) [] nets a b = absurd b
-all_held s firsts (l ∷ ls) (h ∷ hs) (k ∷ ks) nets a b =
-    let first : h ≡ k = one_held s firsts l h k nets a.0 b.0 in
-    let rest : hs ≡ ks = all_held s firsts ls hs ks nets a.1 b.1 in
-    cc
-
-one_labelling : (shapes : Shapes) (firsts others : List Site) (hs ks : List Held) → IsLabelled shapes firsts hs → IsLabelled shapes others ks → (firsts ≡ others) × (hs ≡ ks)
-one_labelling shapes firsts others hs ks a b =
-    let same : firsts ≡ others = same_numbering shapes.rects firsts others a.nets b.nets in
-    (same, all_held shapes.rects firsts (wiring_labels shapes.labels) hs ks a.nets a.labels (subst (λ (z : List Site). AreHeld shapes.rects z shapes.labels ks) (sym same) b.labels))
-
-zip_middle : {X Y : Type 0} (R : X → Y → Type 0) (before : List X) (x : X) (after : List X) (ys : List Y) → AllZip R (before ++ x ∷ after) ys → (y : Y) × R x y
-zip_middle R [] x after [] h = absurd h
-zip_middle R [] x after (y ∷ ys) h = (y, h.0)
-zip_middle R (b ∷ bs) x after [] h = absurd h
-zip_middle R (b ∷ bs) x after (y ∷ ys) h = zip_middle R bs x after ys h.1
-
-none_some : {X : Type 0} (o p : Option X) (x : X) → o ≡ None → p ≡ Some x → o ≡ p → ⊥
-none_some o p x a b e = cc
-
-pub not_refused : (shapes : Shapes) (n : Netlist) (f : ExtractFault) → Extracts shapes n → ExtractRefused shapes f → f ≢ no_netlist.NoMemory → ⊥
-not_refused shapes n (no_netlist.TooMany count) e r other = elim r.which [
-  | inl (many, is) ↦ absurd (omega (arith, many, e.few.rects))
-  | inr (few, many, is) ↦ absurd (omega (arith, many, e.few.labels))
-]
-not_refused shapes n (no_netlist.OddDevice x y) e r other = e.devices.none_odd x y r.odd.odd
-not_refused shapes n (no_netlist.Stray name) e r other =
-    let (h, is) = zip_middle (IsHeld shapes.rects e.firsts) r.stray.before r.stray.label r.stray.after e.held (subst (λ (ls : List Label). AllZip (IsHeld shapes.rects e.firsts) ls e.held) r.stray.split e.labelled.labels) in
-    r.stray.stray is.site is.belongs
-not_refused shapes n (no_netlist.Short one another) e r other =
-    let (firsts, hs) = one_labelling shapes e.firsts r.firsts e.held r.held e.labelled r.labelled in
-    none_some (short_net e.held (length e.firsts)) (short_net r.held (length r.firsts)) r.short.net e.agreed.no_short r.short.short
-    (ap (λ (z : List Held). short_net z (length e.firsts)) hs ∙ ap (λ (z : List Site). short_net r.held (length z)) firsts)
-not_refused shapes n (no_netlist.Split name) e r other =
-    let (firsts, hs) = one_labelling shapes e.firsts r.firsts e.held r.held e.labelled r.labelled in
-    none_some (split_name e.held) (split_name r.held) name e.agreed.no_split r.split.split (ap split_name hs)
-not_refused shapes n no_netlist.NoMemory e r other = other refl
 
 -- ---- rules
 
@@ -135,7 +66,7 @@ one_drawing name shapes a (Unread f) x y = absurd y
 one_drawing name shapes (Extracted n) (Extracted m) x y = refl
 one_drawing name shapes (Extracted n) (Broken vs) (obeys, extracts) (small, are, (v, c)) = absurd (disobeys shapes.rects vs v are c obeys)
 one_drawing name shapes (Extracted n) (Unchecked f) (obeys, extracts) (other, is) = absurd (not_many shapes.rects f extracts.few.rects is other)
-one_drawing name shapes (Extracted n) (Refused f) (obeys, extracts) (other, small, also, is) = absurd (not_refused shapes n f extracts is other)
+one_drawing name shapes (Extracted n) (Refused f) (obeys, extracts) (other, small, also, is) = absurd (other (only_memory deck.Plain shapes n f extracts is))
 one_drawing name shapes (Broken vs) (Extracted n) (small, are, (v, c)) (obeys, extracts) = absurd (disobeys shapes.rects vs v are c obeys)
 one_drawing name shapes (Broken vs) (Broken ws) x y = refl
 one_drawing name shapes (Broken vs) (Unchecked f) (small, are, (v, c)) (other, is) = absurd (not_many shapes.rects f small is other)
@@ -144,7 +75,7 @@ one_drawing name shapes (Unchecked f) (Extracted n) (other, is) (obeys, extracts
 one_drawing name shapes (Unchecked f) (Broken vs) (other, is) (small, are, (v, c)) = absurd (not_many shapes.rects f small is other)
 one_drawing name shapes (Unchecked f) (Unchecked g) x y = refl
 one_drawing name shapes (Unchecked f) (Refused g) x y = refl
-one_drawing name shapes (Refused f) (Extracted n) (other, small, also, is) (obeys, extracts) = absurd (not_refused shapes n f extracts is other)
+one_drawing name shapes (Refused f) (Extracted n) (other, small, also, is) (obeys, extracts) = absurd (other (only_memory deck.Plain shapes n f extracts is))
 one_drawing name shapes (Refused f) (Broken vs) (other, also, obeys, is) (small, are, (v, c)) = absurd (disobeys shapes.rects vs v are c obeys)
 one_drawing name shapes (Refused f) (Unchecked g) x y = refl
 one_drawing name shapes (Refused f) (Refused g) x y = refl
@@ -244,7 +175,7 @@ drawing_answers cell bytes lambda shapes r same also some =
 pub unchecked_answers : (shapes : Shapes) (f : RuleFault) (r : Result ExtractAnswer NoMemory) → IsFaultOf shapes.rects f → IfOk r (λ (told : ExtractAnswer). (f ≢ rules.NoMemory) × (told ≡ Unchecked f)) → IfOk r (IsDrawingAnswer shapes)
 unchecked_answers shapes f r is = IfOk-weaker r (λ (told : ExtractAnswer). (f ≢ rules.NoMemory) × (told ≡ Unchecked f)) (IsDrawingAnswer shapes) (λ told (other, same). subst (IsDrawingAnswer shapes) (sym same) (other, is))
 
-pub refused_answers : (shapes : Shapes) (f : ExtractFault) (r : Result ExtractAnswer NoMemory) → IsSmall shapes → Obeys deck.Plain shapes.rects → ExtractRefused shapes f → IfOk r (λ (told : ExtractAnswer). (f ≢ no_netlist.NoMemory) × (told ≡ Refused f)) → IfOk r (IsDrawingAnswer shapes)
+pub refused_answers : (shapes : Shapes) (f : ExtractFault) (r : Result ExtractAnswer NoMemory) → IsSmall shapes → Obeys deck.Plain shapes.rects → ExtractRefused deck.Plain shapes f → IfOk r (λ (told : ExtractAnswer). (f ≢ no_netlist.NoMemory) × (told ≡ Refused f)) → IfOk r (IsDrawingAnswer shapes)
 refused_answers shapes f r small obeys is = IfOk-weaker r (λ (told : ExtractAnswer). (f ≢ no_netlist.NoMemory) × (told ≡ Refused f)) (IsDrawingAnswer shapes) (λ told (other, same). subst (IsDrawingAnswer shapes) (sym same) (other, small, obeys, is))
 
 pub some_listed : (found : List Violation) → 0 < length found → (v : Violation) × Contains found v

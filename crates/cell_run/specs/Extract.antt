@@ -42,13 +42,13 @@ IsSmall shapes = length shapes.rects ≤ 10000
 -- A drawing obeys all rules, and this is its netlist; or these are the rules that it breaks; or it has too many
 -- rectangles; or it obeys all rules, and this is why it has no netlist.
 abbrev pub IsDrawingAnswer : Shapes → ExtractAnswer → Type 0
-IsDrawingAnswer shapes (Extracted netlist) = Obeys deck.Plain shapes.rects × Extracts shapes netlist
+IsDrawingAnswer shapes (Extracted netlist) = Obeys deck.Plain shapes.rects × Extracts deck.Plain shapes netlist
 IsDrawingAnswer shapes (Broken found) =
     IsSmall shapes × AreViolations deck.Plain shapes.rects found × ((v : Violation) × Contains found v)
 IsDrawingAnswer shapes (Unread f) = ⊥
 IsDrawingAnswer shapes (Unchecked f) = (f ≢ rules.NoMemory) × IsFaultOf shapes.rects f
 IsDrawingAnswer shapes (Refused f) =
-    (f ≢ no_netlist.NoMemory) × IsSmall shapes × Obeys deck.Plain shapes.rects × ExtractRefused shapes f
+    (f ≢ no_netlist.NoMemory) × IsSmall shapes × Obeys deck.Plain shapes.rects × ExtractRefused deck.Plain shapes f
 
 abbrev pub IsOfDrawing : GdsCell → ExtractAnswer → Type 0
 IsOfDrawing cell answer = (shapes : Shapes) × IsDrawingOf cell shapes × IsDrawingAnswer shapes answer

@@ -93,9 +93,9 @@ pub record IsMadeCell (inputs : Inputs) (out : List ℕ) (old new : View) : Type
   -- The shapes obey every rule of the profile.
   pub obeys : Obeys Plain (drawing_in inputs row routing lines).shapes.rects
   -- Its devices, one for each class of gate cells, are the fingers of the folded subcircuit, net by net.
-  pub extracts : ExtractsTo inputs.cell.nets inputs.fingers (drawing_in inputs row routing lines).shapes
+  pub extracts : ExtractsTo Plain inputs.cell.nets inputs.fingers (drawing_in inputs row routing lines).shapes
   -- They stand in the columns of the row, and neighbours without a gap abut in each row that both fill.
-  pub shows_row : ShowsRow inputs.cell.nets row (drawing_in inputs row routing lines).shapes
+  pub shows_row : ShowsRow Plain inputs.cell.nets row (drawing_in inputs row routing lines).shapes
   -- The labels of trunks stand on the tracks of the routing.
   pub shows_routing :
       ShowsRouting inputs.cell.nets inputs.cell.pins (placement_of row)

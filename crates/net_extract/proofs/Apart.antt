@@ -2,7 +2,7 @@
 use Rattle.std.proofs.Common.{◌≡◌, cond, Bool, true, false, List, [], ◌∷◌, map, filter, inl, inr, refl, sym, subst, ap, ◌∙◌}
 use Rattle.std.specs.List.{All, Contains}
 use Rattle.std.proofs.lemmas.List.Elements.{All-contains}
-use Rattle.cell_num.proofs.Lists.{contains_none, contains_cons, contains_here, contains_there, all_from_contains}
+use Rattle.cell_num.proofs.Lists.{contains_cons, contains_here, contains_there, all_from_contains}
 use Rattle.box_geom.specs.Rectangle.{IsProper}
 use Rattle.box_geom.specs.Layers.{rects_on, same_layer}
 use Rattle.box_geom.specs.declared.shape.Shape.{Shape}

@@ -1,15 +1,14 @@
 -- Pieces that are cut cover what is left, and what they have in common.
-use Rattle.std.proofs.Common.{◌≡◌, ◌↔◌, ℕ, ℤ, pos, neg_ℤ, ◌≤ℤ◌, ◌<ℤ◌, int_lt, Bool, true, false, ◌&&◌, if◌then◌else◌, List, [], ◌∷◌, ◌++◌, map, fold, arith, inl, inr, ◌⊎◌, refl, sym, subst, ap, ◌∙◌}
-use Rattle.std.specs.Int.{int_max, int_min}
+use Rattle.std.proofs.Common.{◌≡◌, ℤ, int_lt, Bool, true, false, if◌then◌else◌, List, [], ◌∷◌, ◌++◌, map, fold, arith, inl, inr, refl, sym, subst, ap, ◌∙◌}
 use Rattle.std.specs.Bool.{Decides}
 use Rattle.std.specs.List.{All, Contains, flat_map}
 use Rattle.std.proofs.lemmas.Int.{ints, clamps, by_lt_z}
 use Rattle.std.proofs.lemmas.Bool.Decides.{Decides-and, Decides-like}
 use Rattle.std.proofs.lemmas.List.Elements.{All-contains, Contains-append_cases, Contains-append_left, Contains-append_right}
-use Rattle.cell_num.proofs.Lists.{contains_none, contains_one, contains_cons, contains_here, contains_there, all_from_contains}
-use Rattle.cell_num.proofs.In.{Piece as InPiece, in_flat, contains_flat, Image, in_map, contains_map}
+use Rattle.cell_num.proofs.Lists.{contains_none, contains_one, contains_here, all_from_contains}
+use Rattle.cell_num.proofs.In.{in_flat, contains_flat, in_map, contains_map}
 use Rattle.box_geom.specs.Rectangle.{Rectangle, IsProper, IsRectangle, Holds, Covers}
-use Rattle.box_geom.specs.Layers.{same_layer, rects_on}
+use Rattle.box_geom.specs.Layers.{same_layer}
 use Rattle.box_geom.specs.declared.shape.Shape.{Shape}
 use Rattle.box_geom.specs.declared.layer.Layer.{Layer}
 use Rattle.box_geom.specs.declared.layer.Layer.TheVariants.{Well, Active, Poly as PolyLayer, Metal1 as Metal1Layer, Metal2 as Metal2Layer}
@@ -25,9 +24,9 @@ use Rattle.net_extract.specs.declared.piece.Conductor.{Conductor}
 use Rattle.net_extract.specs.declared.piece.Conductor.TheVariants.{PDiffusion, NDiffusion, Poly, Metal1, Metal2}
 use Rattle.net_extract.specs.declared.piece.Piece.{Piece}
 use Rattle.net_extract.proofs.Covering.{cover_none, cover_first, cover_later, cover_split}
-use Rattle.net_extract.proofs.Finding.{Shows, shows, shown}
+use Rattle.net_extract.proofs.Finding.{shows, shown}
 use Rattle.net_extract.proofs.Linking.{cells_meet, cell_decides}
-use Rattle.net_extract.proofs.Listing.{Listed, listed_of, of_listed}
+use Rattle.net_extract.proofs.Listing.{listed_of, of_listed}
 
 -- a piece of the list holds the cell
 pub record Has (ps : List Piece) (x y : ℤ) : Type 0 where

@@ -1,9 +1,9 @@
 -- Numbers are tried with those behind them, and come into the trees of their classes.
-use Rattle.std.proofs.Common.{◌≡◌, ℕ, zero, suc, ◌+◌, ◌<◌, ◌≤◌, ◌==◌, max, min, Bool, true, false, if◌then◌else◌, List, [], ◌∷◌, map, length, get_or, arith, refl, sym, subst, ap, ◌∙◌, inl, inr, ◌⊎◌}
+use Rattle.std.proofs.Common.{◌≡◌, ℕ, zero, suc, ◌+◌, ◌<◌, ◌≤◌, max, min, List, get_or, arith, sym, subst, ap, ◌∙◌, inl, inr, ◌⊎◌}
 use Rattle.std.specs.List.{range_with_len}
 use Rattle.std.proofs.lemmas.List.FromFn.{length-range_with_len, get_or-range_with_len}
 use Rattle.std.proofs.lemmas.Bool.{cases_eq, cases_lt, cases_order}
-use Rattle.scmos_rules.proofs.Chains.{none, one, joined, turned}
+use Rattle.scmos_rules.proofs.Chains.{none, joined, turned}
 use Rattle.box_geom.specs.Chains.{Chain, Steps}
 use Rattle.net_extract.proofs.Bonds.{carried_steps}
 use Rattle.net_extract.specs.Classes.{AreKin, InTree, AreSound, AreTrees, Keeps, AreLeast, AreTried, IsTried, AreHeads}

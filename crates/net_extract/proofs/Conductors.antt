@@ -1,11 +1,10 @@
 -- The kinds of conductor, and the layers that link two of them.
-use Rattle.std.proofs.Common.{◌≡◌, ℕ, ℤ, Bool, true, false, Option, Some, None, List, inl, inr, ◌⊎◌, refl, sym}
+use Rattle.std.proofs.Common.{◌≡◌, ℤ, Option, Some, None, List, inl, inr, ◌⊎◌, refl}
 use Rattle.box_geom.specs.declared.shape.Shape.{Shape}
 use Rattle.box_geom.specs.declared.layer.Layer.{Layer}
-use Rattle.box_geom.specs.declared.layer.Layer.TheVariants.{Contact, Via}
 use Rattle.scmos_rules.specs.Layout.{On}
 use Rattle.net_extract.specs.Nets.{Kind, p_diffusion, n_diffusion, poly, metal1, metal2, IsLower, of_p, of_n, of_poly, Joins, by_contact, by_via, Through}
-use Rattle.net_extract.specs.Pieces.{kind_of, place, link_layer, is_of}
+use Rattle.net_extract.specs.Pieces.{kind_of, place, link_layer}
 use Rattle.net_extract.specs.declared.piece.Conductor.{Conductor}
 use Rattle.net_extract.specs.declared.piece.Conductor.TheVariants.{PDiffusion, NDiffusion, Poly, Metal1, Metal2}
 

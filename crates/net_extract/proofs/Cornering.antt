@@ -1,20 +1,21 @@
 -- The corners of pieces lie on sides of shapes.
-use Rattle.std.proofs.Common.{◌≡◌, ℕ, zero, suc, ◌*◌, ◌==◌, ◌≤◌, ◌<◌, ℤ, Bool, true, false, if◌then◌else◌, cond, List, [], ◌∷◌, ◌++◌, map, filter, fold, length, get_or, arith, refl, sym, subst, ap, ◌∙◌, inl, inr, ◌⊎◌, IsPermutation, length-append}
+use Rattle.std.proofs.Common.{◌≡◌, ℕ, zero, suc, ◌*◌, ◌==◌, ◌≤◌, ℤ, Bool, true, false, if◌then◌else◌, List, [], ◌∷◌, ◌++◌, map, fold, length, get_or, arith, refl, sym, subst, inl, inr, IsPermutation, length-append}
 use Rattle.std.specs.Int.{int_max, int_min}
-use Rattle.std.specs.List.{All, Contains, flat_map}
+use Rattle.std.specs.List.{Contains, flat_map}
 use Rattle.std.proofs.lemmas.Bool.{cases_eq}
 use Rattle.std.proofs.lemmas.Int.{ints, clamps, by_lt_z}
 use Rattle.std.proofs.lemmas.List.Elements.{Contains-append_cases}
 use Rattle.std.proofs.lemmas.List.Sorted.{Contains-permutation, IsPermutation-sym}
-use Rattle.cell_num.proofs.Lists.{contains_none, contains_one, contains_cons, contains_here, contains_there}
-use Rattle.cell_num.proofs.In.{Piece as InPiece, in_flat, contains_flat, Image, in_map}
+use Rattle.cell_num.proofs.Lists.{contains_one, contains_here, contains_there}
+use Rattle.cell_num.proofs.In.{in_flat, contains_flat, in_map}
 use Rattle.box_geom.specs.Rectangle.{Rectangle}
 use Rattle.box_geom.specs.Layers.{same_layer}
 use Rattle.box_geom.specs.declared.shape.Shape.{Shape}
 use Rattle.box_geom.specs.declared.layer.Layer.{Layer}
 use Rattle.box_geom.specs.declared.layer.Layer.TheVariants.{Well, Active, Poly as PolyLayer, Metal1 as Metal1Layer, Metal2 as Metal2Layer}
-use Rattle.net_extract.specs.Corners.{HasSides, HasCorner, AreSides, HaveFewSides, HaveFewCorners}
-use Rattle.net_extract.specs.Cuts.{kept, left_part, right_part, low_part, high_part, around, carved, carved_once, left_of_piece, shapes_on, cut_all, common_part, shared_part, shared_all, piece_of, drawn_all, p_diffusion_in, n_diffusion_in, pieces_in, gates_in, poly_of}
+use Rattle.scmos_rules.specs.declared.rules.Deck.{Deck}
+use Rattle.net_extract.specs.Corners.{HasSides, HasCorner, HaveFewSides, HaveFewCorners}
+use Rattle.net_extract.specs.Cuts.{kept, left_part, right_part, low_part, high_part, around, carved, carved_once, left_of_piece, shapes_on, cut_all, common_part, shared_all, drawn_all, p_diffusion_in, n_diffusion_in, pieces_in, gates_in, poly_of}
 use Rattle.net_extract.specs.Meetings.{sharing_cell}
 use Rattle.net_extract.specs.NetMaps.{blank, heads_below}
 use Rattle.net_extract.specs.Pieces.{rect_of}
@@ -22,9 +23,9 @@ use Rattle.net_extract.specs.declared.piece.Conductor.{Conductor}
 use Rattle.net_extract.specs.declared.piece.Conductor.TheVariants.{PDiffusion, NDiffusion, Poly, Metal1, Metal2}
 use Rattle.net_extract.specs.declared.piece.Piece.{Piece}
 use Rattle.net_extract.proofs.Apart.{in_filter}
-use Rattle.net_extract.proofs.Carving.{IsKept, of_kept, FromShape, from_shape, FromDrawn, from_drawn}
+use Rattle.net_extract.proofs.Carving.{of_kept, from_shape, from_drawn}
 use Rattle.net_extract.proofs.Counting.{few_firsts}
-use Rattle.net_extract.proofs.Numbering.{IsHead, head_of}
+use Rattle.net_extract.proofs.Numbering.{head_of}
 use Rattle.net_extract.proofs.Wiring.{AreSet, heads_ascend, listed_at}
 
 greater_in : (xs : List ℤ) (a b : ℤ) → Contains xs a → Contains xs b → Contains xs (int_max a b)
@@ -167,9 +168,9 @@ few_sides s few = record {
 }
 
 -- ---- the first pieces of all nets
-pub few_heads : (s : List Shape) (ps : List Piece) (ls : List ℕ) → AreSet s ps ls → HaveFewCorners ps → length (heads_below ps ls (length ps)) ≤ 2000000000
-few_heads s ps ls z h =
-    few_firsts (heads_below ps ls (length ps)) (heads_ascend s ps ls z (length ps) (omega arith)) (record {
+pub few_heads : (deck : Deck) (s : List Shape) (ps : List Piece) (ls : List ℕ) → AreSet deck s ps ls → HaveFewCorners ps → length (heads_below ps ls (length ps)) ≤ 2000000000
+few_heads deck s ps ls z h =
+    few_firsts (heads_below ps ls (length ps)) (heads_ascend deck s ps ls z (length ps) (omega arith)) (record {
       xs = h.xs;
       ys = h.ys;
       few = h.few;

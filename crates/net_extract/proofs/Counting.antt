@@ -1,17 +1,11 @@
 -- A drawing has fewer nets than 32 bits can count: each begins at a corner of two sides.
-use Rattle.std.proofs.Common.{◌≡◌, ℕ, zero, suc, ◌+◌, ◌*◌, ◌<◌, ◌≤◌, ◌==◌, ℤ, Bool, true, false, if◌then◌else◌, List, [], ◌∷◌, ◌++◌, map, fold, length, get_or, arith, refl, sym, subst, ap, ◌∙◌, inl, inr, ◌⊎◌, length-append, IsPermutation}
-use Rattle.std.specs.Int.{int_max, int_min}
-use Rattle.std.specs.List.{All, AllPairs, Contains, flat_map}
-use Rattle.std.proofs.lemmas.Int.{ints, clamps, by_lt_z}
-use Rattle.std.proofs.lemmas.List.Elements.{All-contains, Contains-append_cases, Contains-append_left, Contains-append_right}
-use Rattle.cell_num.proofs.Lists.{contains_none, contains_one, contains_cons, contains_here, contains_there}
+use Rattle.std.proofs.Common.{◌≡◌, suc, ◌*◌, ◌≤◌, ℤ, List, [], ◌∷◌, ◌++◌, map, length, arith, refl, sym, subst, ◌∙◌, inl, inr, length-append}
+use Rattle.std.specs.List.{AllPairs, Contains, flat_map}
+use Rattle.std.proofs.lemmas.List.Elements.{All-contains, Contains-append_left, Contains-append_right}
+use Rattle.cell_num.proofs.Lists.{contains_none, contains_cons, contains_here, contains_there}
 use Rattle.cell_num.proofs.Pairs.{pairs_head, pairs_tail}
-use Rattle.cell_num.proofs.In.{Piece as InPiece, in_flat, contains_flat, Image, in_map, contains_map}
-use Rattle.box_geom.specs.Rectangle.{Rectangle}
-use Rattle.box_geom.specs.Layers.{same_layer}
-use Rattle.box_geom.specs.declared.shape.Shape.{Shape}
-use Rattle.box_geom.specs.declared.layer.Layer.{Layer}
-use Rattle.net_extract.specs.Corners.{HasSides, HasCorner, AreSides, HaveFewSides, HaveFewCorners}
+use Rattle.cell_num.proofs.In.{contains_flat, in_map, contains_map}
+use Rattle.net_extract.specs.Corners.{AreSides, HaveFewCorners}
 use Rattle.net_extract.specs.Nets.{Kind, p_diffusion, n_diffusion, poly, metal1, metal2, Site, site_at}
 use Rattle.net_extract.specs.Numbering.{NotBehind, IsBefore}
 use Rattle.net_extract.specs.Pieces.{corner_of}

@@ -1,6 +1,5 @@
 -- Members of lists of rectangles, and rectangles of a drawing that is put together.
-use Rattle.std.proofs.Common.{◌≡◌, ℤ, List, [], ◌∷◌, ◌⊎◌, inl, inr, sym, subst}
-use Rattle.std.specs.List.{Contains}
+use Rattle.std.proofs.Common.{ℤ, List, [], ◌∷◌, ◌⊎◌, inl, inr, sym, subst}
 use Rattle.cell_num.proofs.Lists.{contains_none, contains_cons, contains_here, contains_there}
 use Rattle.box_geom.specs.Rectangle.{Rectangle, Holds, Covers}
 

@@ -1,16 +1,16 @@
 -- The steps of extraction give the netlist, or the fault.
-use Rattle.std.proofs.Common.{◌≡◌, ℕ, ◌≤◌, ◌<◌, List, [], ◌∷◌, map, length, Option, Some, None, Result, Ok, Err, IfOk, arith, inl, inr, ◌⊎◌, refl, sym, subst, ap, ◌∙◌}
-use Rattle.std.specs.List.{All, AllZip, find}
-use Rattle.box_geom.specs.Layers.{AreWithinLimits}
+use Rattle.std.proofs.Common.{◌≡◌, ℕ, ◌≤◌, ◌<◌, List, [], ◌∷◌, map, length, Option, Some, None, Result, Ok, Err, IfOk, arith, inl, inr, refl, sym, subst, ◌∙◌}
+use Rattle.std.specs.List.{All, find}
 use Rattle.box_geom.specs.declared.shape.Shape.{Shape}
 use Rattle.box_geom.specs.declared.shape.Label.{Label}
 use Rattle.box_geom.specs.declared.shape.Shapes.{Shapes}
+use Rattle.scmos_rules.specs.declared.rules.Deck.{Deck}
+use Rattle.scmos_rules.specs.declared.rules.Deck.TheVariants.{Plain}
 use Rattle.net_extract.specs.Nets.{Site}
-use Rattle.net_extract.specs.Devices.{AreDevices, IsFirstOdd}
-use Rattle.net_extract.specs.Extraction.{AreFew, AreRegular, IsLabelled, Extracts, IsTooMany, IsOddDevice, IsStrayLabel, IsShortDrawing, IsSplitDrawing, ExtractRefused}
+use Rattle.net_extract.specs.Extraction.{AreFew, AreRegular, IsLabelled, Extracts, IsTooMany, ExtractRefused}
 use Rattle.net_extract.specs.Naming.{IsAgreed, names_of, short_net, split_name, IsNameFault}
-use Rattle.net_extract.specs.Labels.{AreHeld, IsFirstStray}
-use Rattle.net_extract.specs.Lookups.{is_lost, held_in, IsStrayOf, IsLostBy}
+use Rattle.net_extract.specs.Labels.{IsFirstStray}
+use Rattle.net_extract.specs.Lookups.{is_lost, held_in, IsLostBy}
 use Rattle.net_extract.specs.GateNets.{AreGates, AreGateNets, AreFound, IsOddFault}
 use Rattle.net_extract.specs.NetMaps.{firsts_of, AreWires}
 use Rattle.net_extract.specs.Steps.{AreNamed}
@@ -37,50 +37,50 @@ few_are shapes r l = record { rects = r; labels = l }
 
 pub ruleset count_rules = (many_rects, many_labels, few_are)
 
-pub odd_refused : (shapes : Shapes) (f : ExtractFault) → AreFew shapes → IsOddFault shapes.rects f → ExtractRefused shapes f
-odd_refused shapes (OddDevice x y) few o = record { few = few; odd = o }
-odd_refused shapes NoMemory few o = tt
-odd_refused shapes (TooMany n) few o = absurd o
-odd_refused shapes (Stray n) few o = absurd o
-odd_refused shapes (Short a b) few o = absurd o
-odd_refused shapes (Split n) few o = absurd o
+pub odd_refused : (deck : Deck) (shapes : Shapes) (f : ExtractFault) → AreFew shapes → IsOddFault deck shapes.rects f → ExtractRefused deck shapes f
+odd_refused deck shapes (OddDevice x y) few o = record { few = few; odd = o }
+odd_refused deck shapes NoMemory few o = tt
+odd_refused deck shapes (TooMany n) few o = absurd o
+odd_refused deck shapes (Stray n) few o = absurd o
+odd_refused deck shapes (Short a b) few o = absurd o
+odd_refused deck shapes (Split n) few o = absurd o
 
-stray_at : (shapes : Shapes) (wires : List Wire) (firsts : List Piece) → AreRegular shapes → AreWires shapes.rects wires firsts → (o : Option Label) → find (is_lost wires) shapes.labels ≡ o → (f : ExtractFault) → IsLostBy o f → ExtractRefused shapes f
-stray_at shapes wires firsts regular m None q f s = absurd s
-stray_at shapes wires firsts regular m (Some l) q (Stray name) s = record { regular = regular; stray = subst (IsFirstStray shapes.rects shapes.labels) (sym s) (stray_is shapes.rects wires firsts m shapes.labels l q) }
-stray_at shapes wires firsts regular m (Some l) q NoMemory s = tt
-stray_at shapes wires firsts regular m (Some l) q (TooMany n) s = absurd s
-stray_at shapes wires firsts regular m (Some l) q (OddDevice x y) s = absurd s
-stray_at shapes wires firsts regular m (Some l) q (Short a b) s = absurd s
-stray_at shapes wires firsts regular m (Some l) q (Split n) s = absurd s
+stray_at : (deck : Deck) (shapes : Shapes) (wires : List Wire) (firsts : List Piece) → AreRegular deck shapes → AreWires deck shapes.rects wires firsts → (o : Option Label) → find (is_lost wires) shapes.labels ≡ o → (f : ExtractFault) → IsLostBy o f → ExtractRefused deck shapes f
+stray_at deck shapes wires firsts regular m None q f s = absurd s
+stray_at deck shapes wires firsts regular m (Some l) q (Stray name) s = record { regular = regular; stray = subst (IsFirstStray shapes.rects shapes.labels) (sym s) (stray_is deck shapes.rects wires firsts m shapes.labels l q) }
+stray_at deck shapes wires firsts regular m (Some l) q NoMemory s = tt
+stray_at deck shapes wires firsts regular m (Some l) q (TooMany n) s = absurd s
+stray_at deck shapes wires firsts regular m (Some l) q (OddDevice x y) s = absurd s
+stray_at deck shapes wires firsts regular m (Some l) q (Short a b) s = absurd s
+stray_at deck shapes wires firsts regular m (Some l) q (Split n) s = absurd s
 
-pub stray_refused : (shapes : Shapes) (wires ws : List Wire) (labels : List Label) (firsts : List Piece) (f : ExtractFault) → AreRegular shapes → AreWires shapes.rects wires firsts → ws ≡ wires → labels ≡ shapes.labels → IsLostBy (find (is_lost ws) labels) f → ExtractRefused shapes f
-stray_refused shapes wires ws labels firsts f regular m ew el e = stray_at shapes wires firsts regular m (find (is_lost wires) shapes.labels) refl f (subst (λ z. IsLostBy (find (is_lost z) shapes.labels) f) ew (subst (λ z. IsLostBy (find (is_lost ws) z) f) el e))
+pub stray_refused : (deck : Deck) (shapes : Shapes) (wires ws : List Wire) (labels : List Label) (firsts : List Piece) (f : ExtractFault) → AreRegular deck shapes → AreWires deck shapes.rects wires firsts → ws ≡ wires → labels ≡ shapes.labels → IsLostBy (find (is_lost ws) labels) f → ExtractRefused deck shapes f
+stray_refused deck shapes wires ws labels firsts f regular m ew el e = stray_at deck shapes wires firsts regular m (find (is_lost wires) shapes.labels) refl f (subst (λ z. IsLostBy (find (is_lost z) shapes.labels) f) ew (subst (λ z. IsLostBy (find (is_lost ws) z) f) el e))
 
 many_firsts : (firsts : List Piece) → length (firsts_of firsts) ≡ length firsts
 many_firsts [] = refl
 many_firsts (p ∷ ps) = omega (arith, many_firsts ps)
 
-labelled : (shapes : Shapes) (wires : List Wire) (firsts : List Piece) → AreWires shapes.rects wires firsts → find (is_lost wires) shapes.labels ≡ None → IsLabelled shapes (firsts_of firsts) (held_in wires shapes.labels)
-labelled shapes wires firsts m e = record { nets = m.nets; labels = labels_held shapes.rects wires firsts m shapes.labels e }
+labelled : (deck : Deck) (shapes : Shapes) (wires : List Wire) (firsts : List Piece) → AreWires deck shapes.rects wires firsts → find (is_lost wires) shapes.labels ≡ None → IsLabelled deck shapes (firsts_of firsts) (held_in wires shapes.labels)
+labelled deck shapes wires firsts m e = record { nets = m.nets; labels = labels_held deck shapes.rects wires firsts m shapes.labels e }
 
-pub named_are : (shapes : Shapes) (wires : List Wire) (firsts : List Piece) (held : List Held) (count : ℕ) (names : List (List ℕ)) → AreWires shapes.rects wires firsts → find (is_lost wires) shapes.labels ≡ None → held ≡ held_in wires shapes.labels → count ≡ length firsts → short_net held count ≡ None → split_name held ≡ None → names ≡ names_of held count → AreNamed shapes (firsts_of firsts) names
-named_are shapes wires firsts held count names m e eh ec ss sp en =
+pub named_are : (deck : Deck) (shapes : Shapes) (wires : List Wire) (firsts : List Piece) (held : List Held) (count : ℕ) (names : List (List ℕ)) → AreWires deck shapes.rects wires firsts → find (is_lost wires) shapes.labels ≡ None → held ≡ held_in wires shapes.labels → count ≡ length firsts → short_net held count ≡ None → split_name held ≡ None → names ≡ names_of held count → AreNamed deck shapes (firsts_of firsts) names
+named_are deck shapes wires firsts held count names m e eh ec ss sp en =
     let same : count ≡ length (firsts_of firsts) = ec ∙ sym (many_firsts firsts) in
     record {
       held = held;
-      labelled = subst (IsLabelled shapes (firsts_of firsts)) (sym eh) (labelled shapes wires firsts m e);
+      labelled = subst (IsLabelled deck shapes (firsts_of firsts)) (sym eh) (labelled deck shapes wires firsts m e);
       agreed = subst (IsAgreed held) same (record { no_short = ss; no_split = sp });
       are = subst (λ n. names ≡ names_of held n) same en;
     }
 
-pub name_refused : (shapes : Shapes) (wires : List Wire) (firsts : List Piece) (held : List Held) (count : ℕ) (f : ExtractFault) → AreRegular shapes → AreWires shapes.rects wires firsts → find (is_lost wires) shapes.labels ≡ None → held ≡ held_in wires shapes.labels → count ≡ length firsts → IsNameFault held count f → ExtractRefused shapes f
-name_refused shapes wires firsts held count f regular m e eh ec is = by f (subst (λ n. IsNameFault held n f) (ec ∙ sym (many_firsts firsts)) is)
+pub name_refused : (deck : Deck) (shapes : Shapes) (wires : List Wire) (firsts : List Piece) (held : List Held) (count : ℕ) (f : ExtractFault) → AreRegular deck shapes → AreWires deck shapes.rects wires firsts → find (is_lost wires) shapes.labels ≡ None → held ≡ held_in wires shapes.labels → count ≡ length firsts → IsNameFault held count f → ExtractRefused deck shapes f
+name_refused deck shapes wires firsts held count f regular m e eh ec is = by f (subst (λ n. IsNameFault held n f) (ec ∙ sym (many_firsts firsts)) is)
   where
-    lab : IsLabelled shapes (firsts_of firsts) held
-    lab = subst (IsLabelled shapes (firsts_of firsts)) (sym eh) (labelled shapes wires firsts m e)
+    lab : IsLabelled deck shapes (firsts_of firsts) held
+    lab = subst (IsLabelled deck shapes (firsts_of firsts)) (sym eh) (labelled deck shapes wires firsts m e)
 
-    by : (g : ExtractFault) → IsNameFault held (length (firsts_of firsts)) g → ExtractRefused shapes g
+    by : (g : ExtractFault) → IsNameFault held (length (firsts_of firsts)) g → ExtractRefused deck shapes g
     by (Short a b) s = record { regular = regular; firsts = firsts_of firsts; held = held; labelled = lab; short = s }
     by (Split n) s = record { regular = regular; firsts = firsts_of firsts; held = held; labelled = lab; split = s }
     by NoMemory s = tt
@@ -88,11 +88,11 @@ name_refused shapes wires firsts held count f regular m e eh ec is = by f (subst
     by (OddDevice x y) s = absurd s
     by (Stray n) s = absurd s
 
-pub regular_of : (shapes : Shapes) (firsts : List Site) (devices : List Drawn) → AreFew shapes → AreFound shapes.rects firsts devices → AreRegular shapes
-regular_of shapes firsts devices few found = record { few = few; none_odd = found.are.none_odd }
+pub regular_of : (deck : Deck) (shapes : Shapes) (firsts : List Site) (devices : List Drawn) → AreFew shapes → AreFound deck shapes.rects firsts devices → AreRegular deck shapes
+regular_of deck shapes firsts devices few found = record { few = few; none_odd = found.are.none_odd }
 
-pub extracts : (shapes : Shapes) (firsts : List Site) (n : Netlist) → AreFew shapes → AreFound shapes.rects firsts n.devices → AreNamed shapes firsts n.names → Extracts shapes n
-extracts shapes firsts n few found named = record {
+pub extracts : (deck : Deck) (shapes : Shapes) (firsts : List Site) (n : Netlist) → AreFew shapes → AreFound deck shapes.rects firsts n.devices → AreNamed deck shapes firsts n.names → Extracts deck shapes n
+extracts deck shapes firsts n few found named = record {
   few = few;
   firsts = firsts;
   held = named.held;
@@ -108,5 +108,5 @@ pub if_ok : {X E : Type 0} (A B : X → Type 0) (r : Result X E) → ((x : X) �
 if_ok A B (Ok x) f h = f x h
 if_ok A B (Err e) f h = tt
 
-pub gate_nets : (s g : List Shape) (wires : List Wire) (firsts : List Piece) → All (λ (z : Shape). IsRectangle z.rect) s → g ≡ map poly_of (gates_in s) → AreWires g wires firsts → AreGateNets s wires firsts
+pub gate_nets : (s g : List Shape) (wires : List Wire) (firsts : List Piece) → All (λ (z : Shape). IsRectangle z.rect) s → g ≡ map poly_of (gates_in s) → AreWires Plain g wires firsts → AreGateNets s wires firsts
 gate_nets s g wires firsts limits e m = record { gates = g; are = subst (AreGates s) (sym e) (gates_drawn s (proper_of_limits s limits)); nets = m }

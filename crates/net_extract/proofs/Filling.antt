@@ -1,22 +1,22 @@
 -- Walks over an area, row by row and in a row from rectangle to rectangle.
-use Rattle.std.proofs.Common.{◌≡◌, ◌↔◌, IsTrue, map, cond, not, ℤ, pos, ◌-ℤ◌, unsigned_abs, ◌<◌, ◌≤ℤ◌, ◌<ℤ◌, Bool, true, false, ◌&&◌, ◌||◌, Option, Some, None, List, [], ◌∷◌, arith, inl, inr, ◌⊎◌, refl, sym, subst, ap, ◌∙◌}
-use Rattle.std.specs.List.{All, Contains, filter, find, list_any}
+use Rattle.std.proofs.Common.{◌≡◌, ◌↔◌, IsTrue, not, ℤ, ◌-ℤ◌, unsigned_abs, ◌<◌, ◌≤ℤ◌, ◌<ℤ◌, Bool, true, false, ◌&&◌, Option, Some, None, List, arith, refl, sym, subst, ◌∙◌}
+use Rattle.std.specs.List.{All, Contains, find}
 use Rattle.std.specs.Option.{option_map}
 use Rattle.std.specs.Bool.{Decides}
 use Rattle.std.specs.Int.{int_max, int_min}
 use Rattle.std.proofs.lemmas.Int.{ints, clamps, by_lt_z}
-use Rattle.std.proofs.lemmas.Bool.Decides.{Decides-and, Decides-or, Decides-like}
+use Rattle.std.proofs.lemmas.Bool.Decides.{Decides-and, Decides-like}
 use Rattle.std.proofs.lemmas.List.Elements.{All-contains}
 use Rattle.cell_num.proofs.Lists.{some_same}
 use Rattle.box_geom.specs.Rectangle.{Rectangle, IsProper, Holds, Covers}
 use Rattle.box_geom.specs.Layers.{rects_on, same_layer}
-use Rattle.box_geom.specs.Comparisons.{within, holding, overlapping}
+use Rattle.box_geom.specs.Comparisons.{within, holding}
 use Rattle.box_geom.specs.declared.shape.Shape.{Shape}
 use Rattle.box_geom.specs.declared.layer.Layer.{Layer}
 use Rattle.box_geom.proofs.Spans.{within_decides, overlap_decides}
 use Rattle.scmos_rules.specs.Layout.{On}
 use Rattle.net_extract.specs.Areas.{holder, meeting_across, meeting_upward, meeting, meeting_any, IsFull, IsFree, AreRows}
-use Rattle.net_extract.proofs.Finding.{Passes, found, found_none, any_of, of_any, Shows, shows, shown}
+use Rattle.net_extract.proofs.Finding.{found, found_none, any_of, of_any, shows, shown}
 
 -- in the row y and up to before top, the cells before `at` are covered
 pub record IsCovered (s : List Shape) (layer : Layer) (area : Rectangle) (y at top : ℤ) : Type 0 where

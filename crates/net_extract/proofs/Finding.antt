@@ -1,8 +1,8 @@
 -- What is found in a list by a test, and what shapes cover.
-use Rattle.std.proofs.Common.{◌≡◌, IsTrue, cond, map, ℤ, Bool, true, false, ◌||◌, Option, Some, None, List, [], ◌∷◌, inl, inr, ◌⊎◌, refl, sym, subst, ◌∙◌}
+use Rattle.std.proofs.Common.{◌≡◌, cond, map, ℤ, Bool, true, false, ◌||◌, Some, None, List, [], ◌∷◌, inl, inr, refl, sym, subst, ◌∙◌}
 use Rattle.std.specs.List.{Contains, filter, find, list_any}
 use Rattle.cell_num.proofs.Lists.{some_same, contains_none, contains_cons, contains_here, contains_there}
-use Rattle.box_geom.specs.Rectangle.{Rectangle, Holds, Covers}
+use Rattle.box_geom.specs.Rectangle.{Holds, Covers}
 use Rattle.box_geom.specs.Layers.{rects_on, same_layer}
 use Rattle.box_geom.specs.declared.shape.Shape.{Shape}
 use Rattle.box_geom.specs.declared.layer.Layer.{Layer}

@@ -1,10 +1,10 @@
 -- Trees of numbers in which each number hangs on one that is none above it.
-use Rattle.std.proofs.Common.{◌≡◌, ℕ, zero, suc, ◌+◌, ◌<◌, ◌≤◌, max, min, List, length, get_or, set, arith, refl, sym, subst, ap, ◌∙◌, inl, inr, ◌⊎◌}
+use Rattle.std.proofs.Common.{◌≡◌, ℕ, zero, suc, ◌+◌, ◌<◌, ◌≤◌, max, min, List, length, get_or, set, arith, refl, sym, subst, ap, ◌∙◌, inl, inr}
 use Rattle.std.proofs.lemmas.List.{length-set, get_or-set_same, get_or-set_other}
 use Rattle.std.proofs.lemmas.Bool.{cases_eq}
 use Rattle.box_geom.specs.Chains.{Chain, Steps}
 use Rattle.scmos_rules.proofs.Chains.{none, one, joined, turned}
-use Rattle.net_extract.specs.Classes.{IsParent, AreKin, InTree, AreLow, IsRoot, hung, IsJoined, AreRoots, AreSound, AreTrees, AreLeast, Keeps, IsTried}
+use Rattle.net_extract.specs.Classes.{IsParent, AreKin, InTree, AreLow, IsRoot, hung, IsJoined, AreRoots, AreSound, AreTrees, AreLeast, IsTried}
 use Rattle.net_extract.proofs.Classing.{GoesBack, ends}
 
 -- ---- chains whose steps are chains

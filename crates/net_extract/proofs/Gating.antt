@@ -1,45 +1,45 @@
 -- Classes of gate cells as the nets of the drawing of the gates.
-use Rattle.std.proofs.Common.{◌≡◌, ◌↔◌, IsTrue, ℕ, zero, suc, ◌+◌, ◌<◌, ◌≤◌, ◌==◌, ℤ, pos, ◌+ℤ◌, ◌-ℤ◌, ◌≤ℤ◌, ◌<ℤ◌, Bool, true, false, if◌then◌else◌, Option, Some, None, List, [], ◌∷◌, ◌++◌, length, get_or, slice_get, map, fold, arith, add-one, inl, inr, ◌⊎◌, refl, sym, subst, ap, ◌∙◌}
-use Rattle.std.specs.Int.{int_max, int_min}
+use Rattle.std.proofs.Common.{◌≡◌, ◌↔◌, IsTrue, ℕ, zero, suc, ◌+◌, ◌<◌, ◌≤◌, ◌==◌, ℤ, pos, ◌-ℤ◌, ◌≤ℤ◌, Bool, true, false, Some, List, [], ◌∷◌, ◌++◌, length, get_or, slice_get, fold, arith, add-one, inl, inr, refl, sym, subst, ap, ◌∙◌}
 use Rattle.std.specs.List.{All, AllPairs, Contains, AllZip}
 use Rattle.std.specs.Option.{option_map}
-use Rattle.std.proofs.lemmas.Int.{ints, clamps, by_lt_z}
+use Rattle.std.proofs.lemmas.Int.{ints, clamps}
 use Rattle.std.proofs.lemmas.Bool.{cases_eq, eq-eqb, ne_eqb, cases_order}
-use Rattle.std.proofs.lemmas.Option.{slice_get-map, slice_get-get_or, get_or_from_slice_get, slice_get_within}
+use Rattle.std.proofs.lemmas.Option.{slice_get-map, slice_get-get_or, slice_get_within}
 use Rattle.std.proofs.lemmas.List.Elements.{Contains-append_cases, Contains-append_left, Contains-push}
 use Rattle.cell_num.proofs.Lists.{contains_none, contains_one, contains_cons, contains_here, contains_there, contains_get, all_from_contains, all_one}
 use Rattle.cell_num.proofs.Pairs.{pairs_append, pairs_at}
-use Rattle.cell_num.proofs.In.{Image, in_map, contains_map}
+use Rattle.cell_num.proofs.In.{contains_map}
 use Rattle.box_geom.specs.Rectangle.{Rectangle, IsProper, Holds, Covers}
 use Rattle.box_geom.specs.Touching.{Cell, Edge}
 use Rattle.box_geom.specs.Chains.{Steps, Chain, Linked}
 use Rattle.box_geom.specs.declared.shape.Shape.{Shape}
 use Rattle.box_geom.specs.declared.layer.Layer.{Layer}
-use Rattle.box_geom.specs.declared.layer.Layer.TheVariants.{Well, Active, PSelect, NSelect, Poly, Contact, Metal1, Via, Metal2}
+use Rattle.box_geom.specs.declared.layer.Layer.TheVariants.{Active, Poly, Contact, Metal1, Via, Metal2}
 use Rattle.box_geom.specs.Layers.{same_layer, layer_no}
 use Rattle.scmos_rules.specs.Failing.{SameClass}
 use Rattle.scmos_rules.specs.Layout.{On, Gate}
-use Rattle.scmos_rules.proofs.Chains.{none, one, joined, turned, flip_linked, inside}
-use Rattle.net_extract.specs.Nets.{Kind, p_diffusion, n_diffusion, poly, metal1, metal2, IsLower, Joins, by_contact, by_via, Site, site_at, Are, Conducts, Meets, along, through, Wired, SameNet}
-use Rattle.net_extract.specs.Numbering.{rank, NotBehind, IsFirstOfNet, IsBefore, AreNets, IsInNet}
+use Rattle.scmos_rules.proofs.Chains.{none, joined, inside}
+use Rattle.scmos_rules.specs.declared.rules.Deck.{Deck}
+use Rattle.scmos_rules.specs.declared.rules.Deck.TheVariants.{Plain}
+use Rattle.net_extract.specs.Nets.{Kind, p_diffusion, n_diffusion, poly, metal1, metal2, Joins, by_contact, by_via, Site, site_at, Are, Conducts, Meets, along, through, tied, Wired, SameNet}
+use Rattle.net_extract.specs.Numbering.{rank, NotBehind, IsFirstOfNet, IsBefore, IsInNet}
 use Rattle.net_extract.specs.Parts.{IsIn}
-use Rattle.net_extract.specs.Devices.{IsGateBox, IsDevice, IsSomeDevice, NotBehindCell, IsOdd, IsFirstOdd, BeginsBefore, AreDevices}
+use Rattle.net_extract.specs.Devices.{IsGateBox, IsSomeDevice, NotBehindCell, IsOdd, IsFirstOdd, BeginsBefore}
 use Rattle.net_extract.specs.Extraction.{IsDrawn}
-use Rattle.net_extract.specs.Pieces.{kind_of, rect_of, part_of, corner_of, rects_in}
-use Rattle.net_extract.specs.NetMaps.{firsts_of, pieces_of, AreWires, blank}
+use Rattle.net_extract.specs.Pieces.{kind_of, rect_of, part_of, corner_of}
+use Rattle.net_extract.specs.NetMaps.{firsts_of, AreWires, blank}
 use Rattle.net_extract.specs.Areas.{IsFull}
 use Rattle.net_extract.specs.GateNets.{AreGates, AreGateNets, wider, point_of, box_of, boxes_below, IsAllGate, AreFound}
 use Rattle.net_extract.specs.declared.netlist.Drawn.{Drawn}
 use Rattle.net_extract.specs.declared.piece.Piece.{Piece}
 use Rattle.net_extract.specs.declared.netmap.Wire.{Wire}
 use Rattle.net_extract.proofs.Bonds.{carried_steps}
-use Rattle.net_extract.proofs.Finding.{Shows, shows}
+use Rattle.net_extract.proofs.Finding.{shows}
 use Rattle.net_extract.proofs.Labelling.{wire_net}
-use Rattle.net_extract.proofs.Listing.{piece_proper, corner_in}
 use Rattle.net_extract.proofs.Numbers.{one_number}
 use Rattle.net_extract.proofs.Ranking.{not_behind_self, not_behind_both}
-use Rattle.net_extract.proofs.Siding.{InWire, in_wire, wire_proper, corner_held, in_first, move_net}
-use Rattle.net_extract.proofs.Wiring.{net_back, net_both, net_self, end_conducts, pairs_none, pairs_one}
+use Rattle.net_extract.proofs.Siding.{in_wire, wire_proper, corner_held, in_first, move_net}
+use Rattle.net_extract.proofs.Wiring.{net_self, end_conducts, pairs_none, pairs_one}
 
 -- ---- the drawing of the gates has poly alone
 layer_same : (l k : Layer) → same_layer l k ≡ true → layer_no l ≡ layer_no k
@@ -65,28 +65,29 @@ no_joins : (s g : List Shape) → AreGates s g → (x y : ℤ) (k l : Kind) → 
 no_joins s g are x y k l (by_contact e low on) = let f = only_poly s g are Contact x y on in omega (arith, f)
 no_joins s g are x y k l (by_via e f on) = let h = only_poly s g are Via x y on in omega (arith, h)
 
-gate_link : (s g : List Shape) → AreGates s g → (a b : Site) → Wired g a b → Linked (Gate s) a.cell b.cell
+gate_link : (s g : List Shape) → AreGates s g → (a b : Site) → Wired Plain g a b → Linked (Gate s) a.cell b.cell
 gate_link s g are a b w = record { from = gate_there s g are a.kind a.cell.x a.cell.y w.from; to = gate_there s g are b.kind b.cell.x b.cell.y w.to; edge = edge_of w.meets }
   where
-    edge_of : Meets g a b → Edge a.cell b.cell
+    edge_of : Meets Plain g a b → Edge a.cell b.cell
     edge_of (along e edge) = edge
     edge_of (through e (inl j)) = absurd (no_joins s g are a.cell.x a.cell.y a.kind b.kind j)
     edge_of (through e (inr j)) = absurd (no_joins s g are a.cell.x a.cell.y b.kind a.kind j)
+    edge_of (tied e t) = absurd (cc e)
 
 abbrev poly_at : Cell → Site
 poly_at c = record { kind = poly; cell = c }
 
-link_gate : (s g : List Shape) → AreGates s g → (c d : Cell) → Linked (Gate s) c d → Wired g (poly_at c) (poly_at d)
+link_gate : (s g : List Shape) → AreGates s g → (c d : Cell) → Linked (Gate s) c d → Wired Plain g (poly_at c) (poly_at d)
 link_gate s g are c d l = record { from = (are.poly c.x c.y).1 l.from; to = (are.poly d.x d.y).1 l.to; meets = along refl l.edge }
 
 abbrev cell : ℤ → ℤ → Cell
 cell x y = record { x = x; y = y }
 
-class_of_net : (s g : List Shape) → AreGates s g → (x y u v : ℤ) → SameNet g (site_at poly x y) (site_at poly u v) → SameClass (Gate s) x y u v
-class_of_net s g are x y u v n = carried_steps (Wired g) (Linked (Gate s)) (λ (a : Site). a.cell) (gate_link s g are) n.chain.count (site_at poly x y) (site_at poly u v) n.chain.steps
+class_of_net : (s g : List Shape) → AreGates s g → (x y u v : ℤ) → SameNet Plain g (site_at poly x y) (site_at poly u v) → SameClass (Gate s) x y u v
+class_of_net s g are x y u v n = carried_steps (Wired Plain g) (Linked (Gate s)) (λ (a : Site). a.cell) (gate_link s g are) n.chain.count (site_at poly x y) (site_at poly u v) n.chain.steps
 
-net_of_class : (s g : List Shape) → AreGates s g → (x y u v : ℤ) → Gate s x y → SameClass (Gate s) x y u v → SameNet g (site_at poly x y) (site_at poly u v)
-net_of_class s g are x y u v here c = record { conducts = (are.poly x y).1 here; chain = carried_steps (Linked (Gate s)) (Wired g) poly_at (link_gate s g are) c.count (cell x y) (cell u v) c.steps }
+net_of_class : (s g : List Shape) → AreGates s g → (x y u v : ℤ) → Gate s x y → SameClass (Gate s) x y u v → SameNet Plain g (site_at poly x y) (site_at poly u v)
+net_of_class s g are x y u v here c = record { conducts = (are.poly x y).1 here; chain = carried_steps (Linked (Gate s)) (Wired Plain g) poly_at (link_gate s g are) c.count (cell x y) (cell u v) c.steps }
 
 -- ---- bounds
 pub record Lies (p : Piece) (r : Rectangle) : Type 0 where
@@ -139,7 +140,7 @@ bounds_are n start (w ∷ ws) =
 -- ---- what is known of the gates
 pub record Gates (s g : List Shape) (wires : List Wire) (firsts : List Piece) : Type 0 where
   pub are : AreGates s g
-  pub nets : AreWires g wires firsts
+  pub nets : AreWires Plain g wires firsts
 
 abbrev first_at : List Piece → ℕ → Piece
 first_at firsts n = get_or firsts n blank
@@ -154,29 +155,29 @@ site_poly : (a : Site) → a.kind ≡ poly → a ≡ site_at poly a.cell.x a.cel
 site_poly a e = subst (λ k. a ≡ record { kind = k; cell = a.cell }) e refl
 
 -- the first cell of class n
-first_is : (s g : List Shape) (wires : List Wire) (firsts : List Piece) → Gates s g wires firsts → (n : ℕ) → n < length firsts → IsFirstOfNet g (site_at poly (first_at firsts n).left (first_at firsts n).low)
+first_is : (s g : List Shape) (wires : List Wire) (firsts : List Piece) → Gates s g wires firsts → (n : ℕ) → n < length firsts → IsFirstOfNet Plain g (site_at poly (first_at firsts n).left (first_at firsts n).low)
 first_is s g wires firsts z n l =
-    let f : IsFirstOfNet g (corner_of (first_at firsts n)) = z.nets.nets.sound (corner_of (first_at firsts n)) (first_listed firsts n l) in
-    subst (IsFirstOfNet g) (site_poly (corner_of (first_at firsts n)) (poly_site s g z.are (kind_of (first_at firsts n).kind) (first_at firsts n).left (first_at firsts n).low f.conducts)) f
+    let f : IsFirstOfNet Plain g (corner_of (first_at firsts n)) = z.nets.nets.sound (corner_of (first_at firsts n)) (first_listed firsts n l) in
+    subst (IsFirstOfNet Plain g) (site_poly (corner_of (first_at firsts n)) (poly_site s g z.are (kind_of (first_at firsts n).kind) (first_at firsts n).left (first_at firsts n).low f.conducts)) f
 
-in_own : (s g : List Shape) (wires : List Wire) (firsts : List Piece) → Gates s g wires firsts → (n : ℕ) → n < length firsts → IsInNet g (firsts_of firsts) n (site_at poly (first_at firsts n).left (first_at firsts n).low)
+in_own : (s g : List Shape) (wires : List Wire) (firsts : List Piece) → Gates s g wires firsts → (n : ℕ) → n < length firsts → IsInNet Plain g (firsts_of firsts) n (site_at poly (first_at firsts n).left (first_at firsts n).low)
 in_own s g wires firsts z n l =
     let f = first_is s g wires firsts z n l in
     let e : corner_of (first_at firsts n) ≡ site_at poly (first_at firsts n).left (first_at firsts n).low = site_poly (corner_of (first_at firsts n)) (poly_site s g z.are (kind_of (first_at firsts n).kind) (first_at firsts n).left (first_at firsts n).low (z.nets.nets.sound (corner_of (first_at firsts n)) (first_listed firsts n l)).conducts) in
-    record { first = corner_of (first_at firsts n); numbered = first_numbered firsts n l; same = subst (λ a. SameNet g a (site_at poly (first_at firsts n).left (first_at firsts n).low)) (sym e) (net_self g (site_at poly (first_at firsts n).left (first_at firsts n).low) f.conducts) }
+    record { first = corner_of (first_at firsts n); numbered = first_numbered firsts n l; same = subst (λ a. SameNet Plain g a (site_at poly (first_at firsts n).left (first_at firsts n).low)) (sym e) (net_self Plain g (site_at poly (first_at firsts n).left (first_at firsts n).low) f.conducts) }
 
 -- a gate cell lies in a wire of its class
 record Classed (g : List Shape) (wires : List Wire) (firsts : List Piece) (x y : ℤ) : Type 0 where
   pub wire : Wire
   pub listed : Contains wires wire
   pub holds : Holds (rect_of wire.piece) x y
-  pub net : IsInNet g (firsts_of firsts) wire.net (site_at poly x y)
+  pub net : IsInNet Plain g (firsts_of firsts) wire.net (site_at poly x y)
   pub below : wire.net < length firsts
 
 classed : (s g : List Shape) (wires : List Wire) (firsts : List Piece) → Gates s g wires firsts → (x y : ℤ) → Gate s x y → Classed g wires firsts x y
 classed s g wires firsts z x y gate =
-    let w = in_wire g wires firsts z.nets (site_at poly x y) ((z.are.poly x y).1 gate) in
-    let n = wire_net g wires firsts z.nets w.wire w.listed (site_at poly x y) w.inside in
+    let w = in_wire Plain g wires firsts z.nets (site_at poly x y) ((z.are.poly x y).1 gate) in
+    let n = wire_net Plain g wires firsts z.nets w.wire w.listed (site_at poly x y) w.inside in
     record { wire = w.wire; listed = w.listed; holds = w.inside.holds; net = n; below = subst (λ k. w.wire.net < k) (length_map firsts) (slice_get_within (firsts_of firsts) w.wire.net n.first n.numbered) }
   where
     length_map : (ps : List Piece) → length (firsts_of ps) ≡ length ps
@@ -188,8 +189,8 @@ class_number : (s g : List Shape) (wires : List Wire) (firsts : List Piece) → 
 class_number s g wires firsts z n l x y c same =
     let f = first_is s g wires firsts z n l in
     let start : Gate s (first_at firsts n).left (first_at firsts n).low = (z.are.poly (first_at firsts n).left (first_at firsts n).low).0 f.conducts in
-    let net : SameNet g (site_at poly (first_at firsts n).left (first_at firsts n).low) (site_at poly x y) = net_of_class s g z.are (first_at firsts n).left (first_at firsts n).low x y start same in
-    one_number g (firsts_of firsts) c.wire.net n (site_at poly x y) z.nets.nets c.net (move_net g (firsts_of firsts) n (site_at poly (first_at firsts n).left (first_at firsts n).low) (site_at poly x y) (in_own s g wires firsts z n l) net)
+    let net : SameNet Plain g (site_at poly (first_at firsts n).left (first_at firsts n).low) (site_at poly x y) = net_of_class s g z.are (first_at firsts n).left (first_at firsts n).low x y start same in
+    one_number Plain g (firsts_of firsts) c.wire.net n (site_at poly x y) z.nets.nets c.net (move_net Plain g (firsts_of firsts) n (site_at poly (first_at firsts n).left (first_at firsts n).low) (site_at poly x y) (in_own s g wires firsts z n l) net)
 
 abbrev box : List Wire → List Piece → ℕ → Rectangle
 box wires firsts n = rect_of (box_of wires firsts n)
@@ -286,16 +287,16 @@ box_in_class s g wires firsts z n l r gate at = (bounds_of wires firsts n).least
     cell_in : (w : Wire) → Contains wires w → w.net ≡ n → (u v : ℤ) → Holds (rect_of w.piece) u v → Holds r u v
     cell_in w c e u v h =
         let site : IsIn (part_of w.piece) (site_at (kind_of w.piece.kind) u v) = record { kind = refl; holds = h } in
-        let k : IsInNet g (firsts_of firsts) w.net (site_at (kind_of w.piece.kind) u v) = wire_net g wires firsts z.nets w c (site_at (kind_of w.piece.kind) u v) site in
-        let conducts : Conducts g (site_at (kind_of w.piece.kind) u v) = end_conducts g k.first (site_at (kind_of w.piece.kind) u v) k.same in
+        let k : IsInNet Plain g (firsts_of firsts) w.net (site_at (kind_of w.piece.kind) u v) = wire_net Plain g wires firsts z.nets w c (site_at (kind_of w.piece.kind) u v) site in
+        let conducts : Conducts g (site_at (kind_of w.piece.kind) u v) = end_conducts Plain g k.first (site_at (kind_of w.piece.kind) u v) k.same in
         let is_poly : kind_of w.piece.kind ≡ poly = poly_site s g z.are (kind_of w.piece.kind) u v conducts in
-        let m : IsInNet g (firsts_of firsts) n (site_at poly u v) = subst (λ j. IsInNet g (firsts_of firsts) n (site_at j u v)) is_poly (subst (λ j. IsInNet g (firsts_of firsts) j (site_at (kind_of w.piece.kind) u v)) e k) in
-        let net : SameNet g (site_at poly (first_at firsts n).left (first_at firsts n).low) (site_at poly u v) = in_first g (firsts_of firsts) n (site_at poly (first_at firsts n).left (first_at firsts n).low) (site_at poly u v) (in_own s g wires firsts z n l) m in
+        let m : IsInNet Plain g (firsts_of firsts) n (site_at poly u v) = subst (λ j. IsInNet Plain g (firsts_of firsts) n (site_at j u v)) is_poly (subst (λ j. IsInNet Plain g (firsts_of firsts) j (site_at (kind_of w.piece.kind) u v)) e k) in
+        let net : SameNet Plain g (site_at poly (first_at firsts n).left (first_at firsts n).low) (site_at poly u v) = in_first Plain g (firsts_of firsts) n (site_at poly (first_at firsts n).left (first_at firsts n).low) (site_at poly u v) (in_own s g wires firsts z n l) m in
         (gate.class (first_at firsts n).left (first_at firsts n).low u v at).0 (class_of_net s g z.are (first_at firsts n).left (first_at firsts n).low u v net)
 
     wire_in : (w : Wire) → Contains wires w → w.net ≡ n → Lies w.piece r
     wire_in w c e =
-        let p = wire_proper g wires firsts z.nets w c in
+        let p = wire_proper Plain g wires firsts z.nets w c in
         let b = box_within (rect_of w.piece) r p (λ u v h. cell_in w c e u v h) in
         let b0 = b.0.0 in let b1 = b.0.1 in let b2 = b.1.0 in let b3 = b.1.1 in
         record { left = b0; right = b2; low = b1; high = b3 }
@@ -317,27 +318,27 @@ class_first s g wires firsts z n l u v c =
     let b = f.first (site_at poly u v) (net_of_class s g z.are (first_at firsts n).left (first_at firsts n).low u v start c) in
     record { row = b.row; column = b.column }
 
-pub odd_is : (s g : List Shape) (wires : List Wire) (firsts : List Piece) → Gates s g wires firsts → (n : ℕ) → n < length firsts → ((r : Rectangle) → Holds r (first_at firsts n).left (first_at firsts n).low → IsSomeDevice s r → ⊥) → IsOdd s (first_at firsts n).left (first_at firsts n).low
-odd_is s g wires firsts z n l out = record {
+pub odd_is : (deck : Deck) (s g : List Shape) (wires : List Wire) (firsts : List Piece) → Gates s g wires firsts → (n : ℕ) → n < length firsts → ((r : Rectangle) → Holds r (first_at firsts n).left (first_at firsts n).low → IsSomeDevice deck s r → ⊥) → IsOdd deck s (first_at firsts n).left (first_at firsts n).low
+odd_is deck s g wires firsts z n l out = record {
   gate = (z.are.poly (first_at firsts n).left (first_at firsts n).low).0 (first_is s g wires firsts z n l).conducts;
   first = class_first s g wires firsts z n l;
   odd = out;
 }
 
 -- a class that does not fill its box
-pub odd_unfilled : (s g : List Shape) (wires : List Wire) (firsts : List Piece) → Gates s g wires firsts → (n : ℕ) → n < length firsts → (IsAllGate s (box wires firsts n) → ⊥) → IsOdd s (first_at firsts n).left (first_at firsts n).low
-odd_unfilled s g wires firsts z n l out = odd_is s g wires firsts z n l (λ r h d. out (not_odd_box s g wires firsts z n l r d.is.class h))
+pub odd_unfilled : (deck : Deck) (s g : List Shape) (wires : List Wire) (firsts : List Piece) → Gates s g wires firsts → (n : ℕ) → n < length firsts → (IsAllGate s (box wires firsts n) → ⊥) → IsOdd deck s (first_at firsts n).left (first_at firsts n).low
+odd_unfilled deck s g wires firsts z n l out = odd_is deck s g wires firsts z n l (λ r h d. out (not_odd_box s g wires firsts z n l r d.is.class h))
 
 -- a box of gates that is no device
-pub odd_box : (s g : List Shape) (wires : List Wire) (firsts : List Piece) → Gates s g wires firsts → (n : ℕ) → n < length firsts → IsGateBox s (box wires firsts n) → (IsSomeDevice s (box wires firsts n) → ⊥) → IsOdd s (first_at firsts n).left (first_at firsts n).low
-odd_box s g wires firsts z n l gate out = odd_is s g wires firsts z n l (λ r h d.
+pub odd_box : (deck : Deck) (s g : List Shape) (wires : List Wire) (firsts : List Piece) → Gates s g wires firsts → (n : ℕ) → n < length firsts → IsGateBox s (box wires firsts n) → (IsSomeDevice deck s (box wires firsts n) → ⊥) → IsOdd deck s (first_at firsts n).left (first_at firsts n).low
+odd_box deck s g wires firsts z n l gate out = odd_is deck s g wires firsts z n l (λ r h d.
     let e : r ≡ box wires firsts n = same_box s r (box wires firsts n) d.is.class gate (first_at firsts n).left (first_at firsts n).low h (box_corner s g wires firsts z n l) in
-    out (subst (IsSomeDevice s) e d))
+    out (subst (IsSomeDevice deck s) e d))
 
 -- ---- all classes
-pub record AreDone (s : List Shape) (wires : List Wire) (firsts : List Piece) (sites : List Site) (k : ℕ) (devices : List Drawn) : Type 0 where
-  pub drawn : AllZip (IsDrawn s sites) (boxes_below wires firsts k) devices
-  pub each : (n : ℕ) → n < k → IsSomeDevice s (box wires firsts n)
+pub record AreDone (deck : Deck) (s : List Shape) (wires : List Wire) (firsts : List Piece) (sites : List Site) (k : ℕ) (devices : List Drawn) : Type 0 where
+  pub drawn : AllZip (IsDrawn deck s sites) (boxes_below wires firsts k) devices
+  pub each : (n : ℕ) → n < k → IsSomeDevice deck s (box wires firsts n)
 
 zip_push : {X Y : Type 0} (R : X → Y → Type 0) (xs : List X) (ys : List Y) (x : X) (y : Y) → AllZip R xs ys → R x y → AllZip R (xs ++ x ∷ []) (ys ++ y ∷ [])
 zip_push R [] [] x y z r = (r, tt)
@@ -345,17 +346,17 @@ zip_push R [] (b ∷ bs) x y z r = absurd z
 zip_push R (a ∷ cs) [] x y z r = absurd z
 zip_push R (a ∷ cs) (b ∷ bs) x y z r = (z.0, zip_push R cs bs x y z.1 r)
 
-some_device : (s : List Shape) (sites : List Site) (r : Rectangle) (d : Drawn) → IsDrawn s sites r d → IsSomeDevice s r
-some_device s sites r d is = record { row = d.row; gate = is.gate; left = is.left; right = is.right; width = d.width; length = d.length; is = is.is }
+some_device : (deck : Deck) (s : List Shape) (sites : List Site) (r : Rectangle) (d : Drawn) → IsDrawn deck s sites r d → IsSomeDevice deck s r
+some_device deck s sites r d is = record { row = d.row; gate = is.gate; left = is.left; right = is.right; width = d.width; length = d.length; is = is.is }
 
-pub none_done : (s : List Shape) (wires : List Wire) (firsts : List Piece) (sites : List Site) → AreDone s wires firsts sites 0 []
-none_done s wires firsts sites = record { drawn = tt; each = λ n l. absurd (omega (arith, l)) }
+pub none_done : (deck : Deck) (s : List Shape) (wires : List Wire) (firsts : List Piece) (sites : List Site) → AreDone deck s wires firsts sites 0 []
+none_done deck s wires firsts sites = record { drawn = tt; each = λ n l. absurd (omega (arith, l)) }
 
-pub more_done : (s : List Shape) (wires : List Wire) (firsts : List Piece) (sites : List Site) (k : ℕ) (devices made : List Drawn) (d : Drawn) → AreDone s wires firsts sites k devices → IsDrawn s sites (box wires firsts k) d → made ≡ devices ++ d ∷ [] → AreDone s wires firsts sites (k + 1) made
-more_done s wires firsts sites k devices made d was is e = subst (AreDone s wires firsts sites (k + 1)) (sym e) (record {
-  drawn = rw add-one (zip_push (IsDrawn s sites) (boxes_below wires firsts k) devices (box wires firsts k) d was.drawn is);
+pub more_done : (deck : Deck) (s : List Shape) (wires : List Wire) (firsts : List Piece) (sites : List Site) (k : ℕ) (devices made : List Drawn) (d : Drawn) → AreDone deck s wires firsts sites k devices → IsDrawn deck s sites (box wires firsts k) d → made ≡ devices ++ d ∷ [] → AreDone deck s wires firsts sites (k + 1) made
+more_done deck s wires firsts sites k devices made d was is e = subst (AreDone deck s wires firsts sites (k + 1)) (sym e) (record {
+  drawn = rw add-one (zip_push (IsDrawn deck s sites) (boxes_below wires firsts k) devices (box wires firsts k) d was.drawn is);
   each = λ n l. elim (cases_eq n k) [
-    | inl same ↦ subst (λ m. IsSomeDevice s (box wires firsts m)) (sym same) (some_device s sites (box wires firsts k) d is)
+    | inl same ↦ subst (λ m. IsSomeDevice deck s (box wires firsts m)) (sym same) (some_device deck s sites (box wires firsts k) d is)
     | inr ne ↦ was.each n (omega (arith, l, ne))
   ];
 })
@@ -409,9 +410,9 @@ begins s g wires firsts z i j less l gi gj =
           b.other (record { row = omega (arith, ints); column = λ h. let q = back.column (omega (arith, ints)) in omega (arith, ints); layer = λ h k. subst (λ a. rank a ≤ rank (kind_of (first_at firsts i).kind)) (sym kj) (subst (λ a. rank poly ≤ rank a) (sym ki) (omega arith)) });
     }
 
-boxes_ascend : (s g : List Shape) (wires : List Wire) (firsts : List Piece) → Gates s g wires firsts → (k : ℕ) → k ≤ length firsts → ((n : ℕ) → n < k → IsSomeDevice s (box wires firsts n)) → AllPairs BeginsBefore (boxes_below wires firsts k)
-boxes_ascend s g wires firsts z zero le each = pairs_none BeginsBefore
-boxes_ascend s g wires firsts z (suc k) le each = pairs_append BeginsBefore (boxes_below wires firsts k) (box wires firsts k ∷ []) (boxes_ascend s g wires firsts z k (omega (arith, le)) (λ n l. each n (omega (arith, l)))) (pairs_one BeginsBefore (box wires firsts k)) (all_from_contains (λ a. All (BeginsBefore a) (box wires firsts k ∷ [])) (boxes_below wires firsts k) (λ a c. all_one (BeginsBefore a) (box wires firsts k) (before a c)))
+boxes_ascend : (deck : Deck) (s g : List Shape) (wires : List Wire) (firsts : List Piece) → Gates s g wires firsts → (k : ℕ) → k ≤ length firsts → ((n : ℕ) → n < k → IsSomeDevice deck s (box wires firsts n)) → AllPairs BeginsBefore (boxes_below wires firsts k)
+boxes_ascend deck s g wires firsts z zero le each = pairs_none BeginsBefore
+boxes_ascend deck s g wires firsts z (suc k) le each = pairs_append BeginsBefore (boxes_below wires firsts k) (box wires firsts k ∷ []) (boxes_ascend deck s g wires firsts z k (omega (arith, le)) (λ n l. each n (omega (arith, l)))) (pairs_one BeginsBefore (box wires firsts k)) (all_from_contains (λ a. All (BeginsBefore a) (box wires firsts k ∷ [])) (boxes_below wires firsts k) (λ a c. all_one (BeginsBefore a) (box wires firsts k) (before a c)))
   where
     before : (a : Rectangle) → Contains (boxes_below wires firsts k) a → BeginsBefore a (box wires firsts k)
     before a c =
@@ -423,12 +424,12 @@ boxes_ascend s g wires firsts z (suc k) le each = pairs_append BeginsBefore (box
 cell_in_box : (s g : List Shape) (wires : List Wire) (firsts : List Piece) → Gates s g wires firsts → (x y : ℤ) (c : Classed g wires firsts x y) → Holds (box wires firsts c.wire.net) x y
 cell_in_box s g wires firsts z x y c = lies_holds c.wire.piece (box wires firsts c.wire.net) x y ((bounds_of wires firsts c.wire.net).all c.wire c.listed refl) c.holds
 
-pub all_done : (s g : List Shape) (wires : List Wire) (firsts : List Piece) (sites : List Site) (k : ℕ) (devices : List Drawn) → Gates s g wires firsts → k ≡ length firsts → AreDone s wires firsts sites k devices → AreFound s sites devices
-all_done s g wires firsts sites k devices z e done = record {
+pub all_done : (deck : Deck) (s g : List Shape) (wires : List Wire) (firsts : List Piece) (sites : List Site) (k : ℕ) (devices : List Drawn) → Gates s g wires firsts → k ≡ length firsts → AreDone deck s wires firsts sites k devices → AreFound deck s sites devices
+all_done deck s g wires firsts sites k devices z e done = record {
   boxes = boxes_below wires firsts k;
   are = record {
-    ascending = boxes_ascend s g wires firsts z k (omega (arith, e)) done.each;
-    devices = λ r c. let i = of_boxes wires firsts k r c in subst (IsSomeDevice s) i.is (done.each i.at i.below);
+    ascending = boxes_ascend deck s g wires firsts z k (omega (arith, e)) done.each;
+    devices = λ r c. let i = of_boxes wires firsts k r c in subst (IsSomeDevice deck s) i.is (done.each i.at i.below);
     all = λ r d.
         let h = corner_held r d.is.class.proper in
         let c = classed s g wires firsts z r.x1 r.y1 (d.is.class.gate r.x1 r.y1 h) in
@@ -445,10 +446,10 @@ all_done s g wires firsts sites k devices z e done = record {
 }
 
 -- the first class that is no device
-pub first_odd : (s g : List Shape) (wires : List Wire) (firsts : List Piece) (sites : List Site) (k : ℕ) (devices : List Drawn) → Gates s g wires firsts → k < length firsts → AreDone s wires firsts sites k devices → IsOdd s (first_at firsts k).left (first_at firsts k).low → IsFirstOdd s (first_at firsts k).left (first_at firsts k).low
-first_odd s g wires firsts sites k devices z lk done odd = record { odd = odd; first = first }
+pub first_odd : (deck : Deck) (s g : List Shape) (wires : List Wire) (firsts : List Piece) (sites : List Site) (k : ℕ) (devices : List Drawn) → Gates s g wires firsts → k < length firsts → AreDone deck s wires firsts sites k devices → IsOdd deck s (first_at firsts k).left (first_at firsts k).low → IsFirstOdd deck s (first_at firsts k).left (first_at firsts k).low
+first_odd deck s g wires firsts sites k devices z lk done odd = record { odd = odd; first = first }
   where
-    first : (u v : ℤ) → IsOdd s u v → NotBehindCell (first_at firsts k).left (first_at firsts k).low u v
+    first : (u v : ℤ) → IsOdd deck s u v → NotBehindCell (first_at firsts k).left (first_at firsts k).low u v
     first u v o =
         let c = classed s g wires firsts z u v o.gate in
         elim (cases_order c.wire.net k) [
@@ -459,7 +460,7 @@ first_odd s g wires firsts sites k devices z lk done odd = record { odd = odd; f
       where
         behind : (u v : ℤ) (c : Classed g wires firsts u v) → NotBehind (corner_of (first_at firsts k)) (corner_of (first_at firsts c.wire.net)) → NotBehindCell (first_at firsts k).left (first_at firsts k).low u v
         behind u v c up =
-            let n : SameNet g (corner_of (first_at firsts c.wire.net)) (site_at poly u v) = in_first g (firsts_of firsts) c.wire.net (corner_of (first_at firsts c.wire.net)) (site_at poly u v) (record { first = corner_of (first_at firsts c.wire.net); numbered = first_numbered firsts c.wire.net c.below; same = net_self g (corner_of (first_at firsts c.wire.net)) (z.nets.nets.sound (corner_of (first_at firsts c.wire.net)) (first_listed firsts c.wire.net c.below)).conducts }) c.net in
+            let n : SameNet Plain g (corner_of (first_at firsts c.wire.net)) (site_at poly u v) = in_first Plain g (firsts_of firsts) c.wire.net (corner_of (first_at firsts c.wire.net)) (site_at poly u v) (record { first = corner_of (first_at firsts c.wire.net); numbered = first_numbered firsts c.wire.net c.below; same = net_self Plain g (corner_of (first_at firsts c.wire.net)) (z.nets.nets.sound (corner_of (first_at firsts c.wire.net)) (first_listed firsts c.wire.net c.below)).conducts }) c.net in
             let f : NotBehind (corner_of (first_at firsts c.wire.net)) (site_at poly u v) = (z.nets.nets.sound (corner_of (first_at firsts c.wire.net)) (first_listed firsts c.wire.net c.below)).first (site_at poly u v) n in
             let b = not_behind_both (corner_of (first_at firsts k)) (corner_of (first_at firsts c.wire.net)) (site_at poly u v) up f in
             record { row = b.row; column = b.column }

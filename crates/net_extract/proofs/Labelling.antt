@@ -1,27 +1,27 @@
 -- The nets that are looked up are those of the drawing.
-use Rattle.std.proofs.Common.{◌≡◌, ℕ, ℤ, pos, ◌-ℤ◌, Bool, true, false, ◌&&◌, ◌==◌, not, if◌then◌else◌, cond, Option, Some, None, is_some, List, [], ◌∷◌, ◌++◌, inl, inr, ◌⊎◌, refl, sym, subst, ap, ◌∙◌, arith, filter, filter_map, option_to_list}
-use Rattle.std.specs.List.{All, Contains, AllZip, find, cons_option}
+use Rattle.std.proofs.Common.{◌≡◌, ℕ, ℤ, pos, ◌-ℤ◌, Bool, true, false, ◌&&◌, ◌==◌, not, if◌then◌else◌, cond, Option, Some, None, is_some, List, [], ◌∷◌, ◌++◌, inl, inr, ◌⊎◌, refl, sym, subst, ap, ◌∙◌, filter_map, option_to_list}
+use Rattle.std.specs.List.{Contains, AllZip, find, cons_option}
 use Rattle.std.specs.Option.{option_map}
 use Rattle.std.proofs.lemmas.List.Elements.{All-contains}
 use Rattle.std.proofs.lemmas.Bool.{cases_eq, eq-eqb, ne_eqb}
 use Rattle.cell_num.proofs.Lists.{some_same, contains_none, contains_cons, contains_here, contains_there}
-use Rattle.cell_num.proofs.In.{Image, in_map, contains_map}
+use Rattle.cell_num.proofs.In.{in_map, contains_map}
 use Rattle.box_geom.specs.Comparisons.{holding}
-use Rattle.box_geom.specs.Rectangle.{Rectangle, Holds}
+use Rattle.box_geom.specs.Rectangle.{Holds}
 use Rattle.box_geom.specs.Touching.{Cell}
 use Rattle.box_geom.specs.declared.shape.Shape.{Shape}
 use Rattle.box_geom.specs.declared.shape.Label.{Label}
 use Rattle.box_geom.specs.declared.layer.Layer.{Layer}
 use Rattle.box_geom.specs.declared.layer.Layer.TheVariants.{Well, Active, PSelect, NSelect, Poly as PolyLayer, Contact, Metal1 as Metal1Layer, Via, Metal2 as Metal2Layer}
 use Rattle.scmos_rules.proofs.Chains.{none}
+use Rattle.scmos_rules.specs.declared.rules.Deck.{Deck}
 use Rattle.net_extract.specs.Nets.{Kind, p_diffusion, n_diffusion, poly, metal1, metal2, layer_of, Site, site_at, Conducts, SameNet}
 use Rattle.net_extract.specs.Numbering.{IsInNet}
 use Rattle.net_extract.specs.Parts.{AreDrawn, Bonded, IsIn}
-use Rattle.net_extract.specs.Labels.{is_wiring, wiring_labels, cells_round, IsConductorAt, IsFirstConductor, Belongs, IsStray, IsHeld, AreHeld, IsFirstStray}
+use Rattle.net_extract.specs.Labels.{is_wiring, wiring_labels, cells_round, IsConductorAt, IsFirstConductor, IsHeld, AreHeld, IsFirstStray}
 use Rattle.net_extract.specs.Pieces.{kind_of, place, rect_of, part_of, corner_of, rects_in}
 use Rattle.net_extract.specs.NetMaps.{firsts_of, pieces_of, AreWires, IsFound}
-use Rattle.net_extract.specs.Lookups.{is_at, net_in, or_else, net_on, net_round, net_of_label, is_lost, held_of, held_in}
-use Rattle.net_extract.specs.declared.naming.Held.{Held}
+use Rattle.net_extract.specs.Lookups.{is_at, net_in, or_else, net_on, net_round, net_of_label, is_lost, held_in}
 use Rattle.net_extract.specs.declared.piece.Conductor.{Conductor}
 use Rattle.net_extract.specs.declared.piece.Conductor.TheVariants.{PDiffusion, NDiffusion, Poly, Metal1, Metal2}
 use Rattle.net_extract.specs.declared.piece.Piece.{Piece}
@@ -29,16 +29,16 @@ use Rattle.net_extract.specs.declared.netmap.Wire.{Wire}
 use Rattle.net_extract.proofs.Bonds.{one_net}
 use Rattle.net_extract.proofs.Conductors.{same_place, same_kind_place}
 use Rattle.net_extract.proofs.Filling.{holds_decides, and_parts, and_true}
-use Rattle.net_extract.proofs.Finding.{Passes, found, found_none}
-use Rattle.net_extract.proofs.Listing.{part_listed, piece_proper, corner_in, Held as HeldCell, held as held_cell, inside_conducts}
+use Rattle.net_extract.proofs.Finding.{found, found_none}
+use Rattle.net_extract.proofs.Listing.{part_listed, piece_proper, corner_in, held as held_cell, inside_conducts}
 use Rattle.net_extract.proofs.Wiring.{net_both}
 
 eq_of_eqb : (a b : ℕ) → (a == b) ≡ true → a ≡ b
 eq_of_eqb a b e = elim (cases_eq a b) [ inl same ↦ same | inr ne ↦ absurd (let f : (a == b) ≡ false = ne_eqb a b ne in cc (sym f ∙ e)) ]
 
 -- two cells of one piece
-pub piece_net : (s : List Shape) (ps : List Piece) → AreDrawn s (rects_in ps) → (p : Piece) → Contains ps p → (a b : Site) → IsIn (part_of p) a → IsIn (part_of p) b → SameNet s a b
-piece_net s ps d p c a b ia ib = (one_net s (rects_in ps) (part_of p) (part_of p) a b d (part_listed ps p c) (part_listed ps p c) ia ib).1 (none (Bonded s (rects_in ps)) (part_of p) (part_of p) refl)
+pub piece_net : (deck : Deck) (s : List Shape) (ps : List Piece) → AreDrawn s (rects_in ps) → (p : Piece) → Contains ps p → (a b : Site) → IsIn (part_of p) a → IsIn (part_of p) b → SameNet deck s a b
+piece_net deck s ps d p c a b ia ib = (one_net deck s (rects_in ps) (part_of p) (part_of p) a b d (part_listed ps p c) (part_listed ps p c) ia ib).1 (none (Bonded deck s (rects_in ps)) (part_of p) (part_of p) refl)
 
 wire_listed : (wires : List Wire) (w : Wire) → Contains wires w → Contains (pieces_of wires) w.piece
 wire_listed wires w c = contains_map (λ (z : Wire). z.piece) wires w c
@@ -46,17 +46,17 @@ wire_listed wires w c = contains_map (λ (z : Wire). z.piece) wires w c
 abbrev at_cell : Conductor → ℤ → ℤ → Wire → Bool
 at_cell k x y w = is_at w.piece k x y
 
-pub wire_net : (s : List Shape) (wires : List Wire) (firsts : List Piece) → AreWires s wires firsts → (w : Wire) → Contains wires w → (a : Site) → IsIn (part_of w.piece) a → IsInNet s (firsts_of firsts) w.net a
-wire_net s wires firsts m w c a i =
-    let n : IsInNet s (firsts_of firsts) w.net (corner_of w.piece) = All-contains (λ (z : Wire). IsInNet s (firsts_of firsts) z.net (corner_of z.piece)) wires w m.numbers c in
+pub wire_net : (deck : Deck) (s : List Shape) (wires : List Wire) (firsts : List Piece) → AreWires deck s wires firsts → (w : Wire) → Contains wires w → (a : Site) → IsIn (part_of w.piece) a → IsInNet deck s (firsts_of firsts) w.net a
+wire_net deck s wires firsts m w c a i =
+    let n : IsInNet deck s (firsts_of firsts) w.net (corner_of w.piece) = All-contains (λ (z : Wire). IsInNet deck s (firsts_of firsts) z.net (corner_of z.piece)) wires w m.numbers c in
     let listed : Contains (pieces_of wires) w.piece = wire_listed wires w c in
     let corner : IsIn (part_of w.piece) (corner_of w.piece) = corner_in w.piece (piece_proper s (pieces_of wires) m.drawn w.piece listed) in
-    record { first = n.first; numbered = n.numbered; same = net_both s n.first (corner_of w.piece) a n.same (piece_net s (pieces_of wires) m.drawn w.piece listed (corner_of w.piece) a corner i) }
+    record { first = n.first; numbered = n.numbered; same = net_both deck s n.first (corner_of w.piece) a n.same (piece_net deck s (pieces_of wires) m.drawn w.piece listed (corner_of w.piece) a corner i) }
 
-pub net_in_some : (s : List Shape) (wires : List Wire) (firsts : List Piece) → AreWires s wires firsts → (k : Conductor) (x y : ℤ) (n : ℕ) → net_in wires k x y ≡ Some n → IsFound s (firsts_of firsts) (kind_of k) x y n
-net_in_some s wires firsts m k x y n e = by (find (at_cell k x y) wires) refl e
+pub net_in_some : (deck : Deck) (s : List Shape) (wires : List Wire) (firsts : List Piece) → AreWires deck s wires firsts → (k : Conductor) (x y : ℤ) (n : ℕ) → net_in wires k x y ≡ Some n → IsFound deck s (firsts_of firsts) (kind_of k) x y n
+net_in_some deck s wires firsts m k x y n e = by (find (at_cell k x y) wires) refl e
   where
-    by : (o : Option Wire) → find (at_cell k x y) wires ≡ o → option_map (λ (w : Wire). w.net) o ≡ Some n → IsFound s (firsts_of firsts) (kind_of k) x y n
+    by : (o : Option Wire) → find (at_cell k x y) wires ≡ o → option_map (λ (w : Wire). w.net) o ≡ Some n → IsFound deck s (firsts_of firsts) (kind_of k) x y n
     by None f g = absurd (cc g)
     by (Some w) f g =
         let p = found (at_cell k x y) wires w f in
@@ -66,11 +66,11 @@ net_in_some s wires firsts m k x y n e = by (find (at_cell k x y) wires) refl e
         let same : w.net ≡ n = some_same w.net n g in
         record {
           conducts = inside_conducts s (pieces_of wires) m.drawn w.piece (wire_listed wires w p.listed) (site_at (kind_of k) x y) inside;
-          net = subst (λ z. IsInNet s (firsts_of firsts) z (site_at (kind_of k) x y)) same (wire_net s wires firsts m w p.listed (site_at (kind_of k) x y) inside);
+          net = subst (λ z. IsInNet deck s (firsts_of firsts) z (site_at (kind_of k) x y)) same (wire_net deck s wires firsts m w p.listed (site_at (kind_of k) x y) inside);
         }
 
-pub net_in_none : (s : List Shape) (wires : List Wire) (firsts : List Piece) → AreWires s wires firsts → (k : Conductor) (x y : ℤ) → net_in wires k x y ≡ None → Conducts s (site_at (kind_of k) x y) → ⊥
-net_in_none s wires firsts m k x y e c = by (find (at_cell k x y) wires) refl e
+pub net_in_none : (deck : Deck) (s : List Shape) (wires : List Wire) (firsts : List Piece) → AreWires deck s wires firsts → (k : Conductor) (x y : ℤ) → net_in wires k x y ≡ None → Conducts s (site_at (kind_of k) x y) → ⊥
+net_in_none deck s wires firsts m k x y e c = by (find (at_cell k x y) wires) refl e
   where
     by : (o : Option Wire) → find (at_cell k x y) wires ≡ o → option_map (λ (w : Wire). w.net) o ≡ None → ⊥
     by (Some w) f g = absurd (cc g)
@@ -85,30 +85,30 @@ abbrev cell : ℤ → ℤ → Cell
 cell x y = record { x = x; y = y }
 
 -- a conductor cell with its net
-record Hit (s : List Shape) (firsts : List Site) (P : Site → Type 0) (n : ℕ) : Type 0 where
+record Hit (deck : Deck) (s : List Shape) (firsts : List Site) (P : Site → Type 0) (n : ℕ) : Type 0 where
   pub site : Site
   pub is : P site
-  pub net : IsInNet s firsts n site
+  pub net : IsInNet deck s firsts n site
 
 -- an answer is the net of a site of the set, or there is none
-record Answers (s : List Shape) (firsts : List Site) (P : Site → Type 0) (o : Option ℕ) : Type 0 where
-  pub some : (n : ℕ) → o ≡ Some n → Hit s firsts P n
+record Answers (deck : Deck) (s : List Shape) (firsts : List Site) (P : Site → Type 0) (o : Option ℕ) : Type 0 where
+  pub some : (n : ℕ) → o ≡ Some n → Hit deck s firsts P n
   pub none : o ≡ None → (a : Site) → P a → ⊥
 
 site_of : (a : Site) (j : Kind) (z : Cell) → a.kind ≡ j → a.cell ≡ z → a ≡ record { kind = j; cell = z }
 site_of a j z e f = subst (λ k. a ≡ record { kind = k; cell = z }) e (subst (λ c. a ≡ record { kind = a.kind; cell = c }) f refl)
 
-answers_kind : (s : List Shape) (wires : List Wire) (firsts : List Piece) → AreWires s wires firsts → (k : Conductor) (layer : Layer) (x y : ℤ) → layer_of (kind_of k) ≡ layer → ((a : Site) → IsConductorAt s layer (cell x y) a → a.kind ≡ kind_of k) → Answers s (firsts_of firsts) (IsConductorAt s layer (cell x y)) (net_in wires k x y)
-answers_kind s wires firsts m k layer x y on only = record {
-  some = λ n e. let f = net_in_some s wires firsts m k x y n e in record { site = site_at (kind_of k) x y; is = record { cell = refl; on_layer = on; conducts = f.conducts }; net = f.net };
-  none = λ e a c. net_in_none s wires firsts m k x y e (subst (Conducts s) (site_is a (kind_of k) (cell x y) (only a c) c.cell) c.conducts);
+answers_kind : (deck : Deck) (s : List Shape) (wires : List Wire) (firsts : List Piece) → AreWires deck s wires firsts → (k : Conductor) (layer : Layer) (x y : ℤ) → layer_of (kind_of k) ≡ layer → ((a : Site) → IsConductorAt s layer (cell x y) a → a.kind ≡ kind_of k) → Answers deck s (firsts_of firsts) (IsConductorAt s layer (cell x y)) (net_in wires k x y)
+answers_kind deck s wires firsts m k layer x y on only = record {
+  some = λ n e. let f = net_in_some deck s wires firsts m k x y n e in record { site = site_at (kind_of k) x y; is = record { cell = refl; on_layer = on; conducts = f.conducts }; net = f.net };
+  none = λ e a c. net_in_none deck s wires firsts m k x y e (subst (Conducts s) (site_is a (kind_of k) (cell x y) (only a c) c.cell) c.conducts);
 }
   where
     site_is : (a : Site) (j : Kind) (z : Cell) → a.kind ≡ j → a.cell ≡ z → a ≡ record { kind = j; cell = z }
     site_is a j z e f = site_of a j z e f
 
-answers_never : (s : List Shape) (firsts : List Site) (P : Site → Type 0) → ((a : Site) → P a → ⊥) → Answers s firsts P None
-answers_never s firsts P no' = record { some = λ n e. absurd (cc e); none = λ e a p. no' a p }
+answers_never : (deck : Deck) (s : List Shape) (firsts : List Site) (P : Site → Type 0) → ((a : Site) → P a → ⊥) → Answers deck s firsts P None
+answers_never deck s firsts P no' = record { some = λ n e. absurd (cc e); none = λ e a p. no' a p }
 
 kind_on_poly : (k : Kind) → layer_of k ≡ PolyLayer → k ≡ poly
 kind_on_poly p_diffusion e = absurd (cc e)
@@ -145,40 +145,40 @@ no_kind poly layer w e = let f : is_wiring PolyLayer ≡ false = subst (λ l. is
 no_kind metal1 layer w e = let f : is_wiring Metal1Layer ≡ false = subst (λ l. is_wiring l ≡ false) (sym e) w in cc f
 no_kind metal2 layer w e = let f : is_wiring Metal2Layer ≡ false = subst (λ l. is_wiring l ≡ false) (sym e) w in cc f
 
-answers_active : (s : List Shape) (wires : List Wire) (firsts : List Piece) → AreWires s wires firsts → (x y : ℤ) → Answers s (firsts_of firsts) (IsConductorAt s Active (cell x y)) (or_else (net_in wires PDiffusion x y) (net_in wires NDiffusion x y))
-answers_active s wires firsts m x y = by (net_in wires PDiffusion x y) refl
+answers_active : (deck : Deck) (s : List Shape) (wires : List Wire) (firsts : List Piece) → AreWires deck s wires firsts → (x y : ℤ) → Answers deck s (firsts_of firsts) (IsConductorAt s Active (cell x y)) (or_else (net_in wires PDiffusion x y) (net_in wires NDiffusion x y))
+answers_active deck s wires firsts m x y = by (net_in wires PDiffusion x y) refl
   where
-    by : (o : Option ℕ) → net_in wires PDiffusion x y ≡ o → Answers s (firsts_of firsts) (IsConductorAt s Active (cell x y)) (or_else o (net_in wires NDiffusion x y))
+    by : (o : Option ℕ) → net_in wires PDiffusion x y ≡ o → Answers deck s (firsts_of firsts) (IsConductorAt s Active (cell x y)) (or_else o (net_in wires NDiffusion x y))
     by (Some k) e = record {
-      some = λ n f. let g = net_in_some s wires firsts m PDiffusion x y n (e ∙ f) in record { site = site_at p_diffusion x y; is = record { cell = refl; on_layer = refl; conducts = g.conducts }; net = g.net };
+      some = λ n f. let g = net_in_some deck s wires firsts m PDiffusion x y n (e ∙ f) in record { site = site_at p_diffusion x y; is = record { cell = refl; on_layer = refl; conducts = g.conducts }; net = g.net };
       none = λ f a p. absurd (cc f);
     }
     by None e = record {
-      some = λ n f. let g = net_in_some s wires firsts m NDiffusion x y n f in record { site = site_at n_diffusion x y; is = record { cell = refl; on_layer = refl; conducts = g.conducts }; net = g.net };
+      some = λ n f. let g = net_in_some deck s wires firsts m NDiffusion x y n f in record { site = site_at n_diffusion x y; is = record { cell = refl; on_layer = refl; conducts = g.conducts }; net = g.net };
       none = λ f a p. elim (kind_on_active a.kind p.on_layer) [
-        | inl q ↦ net_in_none s wires firsts m PDiffusion x y e (subst (Conducts s) (site_of a p_diffusion (cell x y) q p.cell) p.conducts)
-        | inr q ↦ net_in_none s wires firsts m NDiffusion x y f (subst (Conducts s) (site_of a n_diffusion (cell x y) q p.cell) p.conducts)
+        | inl q ↦ net_in_none deck s wires firsts m PDiffusion x y e (subst (Conducts s) (site_of a p_diffusion (cell x y) q p.cell) p.conducts)
+        | inr q ↦ net_in_none deck s wires firsts m NDiffusion x y f (subst (Conducts s) (site_of a n_diffusion (cell x y) q p.cell) p.conducts)
       ];
     }
 
-answers_layer : (s : List Shape) (wires : List Wire) (firsts : List Piece) → AreWires s wires firsts → (layer : Layer) (x y : ℤ) → Answers s (firsts_of firsts) (IsConductorAt s layer (cell x y)) (net_on wires layer x y)
-answers_layer s wires firsts m Active x y = answers_active s wires firsts m x y
-answers_layer s wires firsts m PolyLayer x y = answers_kind s wires firsts m Poly PolyLayer x y refl (λ a c. kind_on_poly a.kind c.on_layer)
-answers_layer s wires firsts m Metal1Layer x y = answers_kind s wires firsts m Metal1 Metal1Layer x y refl (λ a c. kind_on_metal1 a.kind c.on_layer)
-answers_layer s wires firsts m Metal2Layer x y = answers_kind s wires firsts m Metal2 Metal2Layer x y refl (λ a c. kind_on_metal2 a.kind c.on_layer)
-answers_layer s wires firsts m Well x y = answers_never s (firsts_of firsts) (IsConductorAt s Well (cell x y)) (λ a c. no_kind a.kind Well refl c.on_layer)
-answers_layer s wires firsts m PSelect x y = answers_never s (firsts_of firsts) (IsConductorAt s PSelect (cell x y)) (λ a c. no_kind a.kind PSelect refl c.on_layer)
-answers_layer s wires firsts m NSelect x y = answers_never s (firsts_of firsts) (IsConductorAt s NSelect (cell x y)) (λ a c. no_kind a.kind NSelect refl c.on_layer)
-answers_layer s wires firsts m Contact x y = answers_never s (firsts_of firsts) (IsConductorAt s Contact (cell x y)) (λ a c. no_kind a.kind Contact refl c.on_layer)
-answers_layer s wires firsts m Via x y = answers_never s (firsts_of firsts) (IsConductorAt s Via (cell x y)) (λ a c. no_kind a.kind Via refl c.on_layer)
+answers_layer : (deck : Deck) (s : List Shape) (wires : List Wire) (firsts : List Piece) → AreWires deck s wires firsts → (layer : Layer) (x y : ℤ) → Answers deck s (firsts_of firsts) (IsConductorAt s layer (cell x y)) (net_on wires layer x y)
+answers_layer deck s wires firsts m Active x y = answers_active deck s wires firsts m x y
+answers_layer deck s wires firsts m PolyLayer x y = answers_kind deck s wires firsts m Poly PolyLayer x y refl (λ a c. kind_on_poly a.kind c.on_layer)
+answers_layer deck s wires firsts m Metal1Layer x y = answers_kind deck s wires firsts m Metal1 Metal1Layer x y refl (λ a c. kind_on_metal1 a.kind c.on_layer)
+answers_layer deck s wires firsts m Metal2Layer x y = answers_kind deck s wires firsts m Metal2 Metal2Layer x y refl (λ a c. kind_on_metal2 a.kind c.on_layer)
+answers_layer deck s wires firsts m Well x y = answers_never deck s (firsts_of firsts) (IsConductorAt s Well (cell x y)) (λ a c. no_kind a.kind Well refl c.on_layer)
+answers_layer deck s wires firsts m PSelect x y = answers_never deck s (firsts_of firsts) (IsConductorAt s PSelect (cell x y)) (λ a c. no_kind a.kind PSelect refl c.on_layer)
+answers_layer deck s wires firsts m NSelect x y = answers_never deck s (firsts_of firsts) (IsConductorAt s NSelect (cell x y)) (λ a c. no_kind a.kind NSelect refl c.on_layer)
+answers_layer deck s wires firsts m Contact x y = answers_never deck s (firsts_of firsts) (IsConductorAt s Contact (cell x y)) (λ a c. no_kind a.kind Contact refl c.on_layer)
+answers_layer deck s wires firsts m Via x y = answers_never deck s (firsts_of firsts) (IsConductorAt s Via (cell x y)) (λ a c. no_kind a.kind Via refl c.on_layer)
 
 -- the first of some cells
-answers_first : (s : List Shape) (firsts : List Site) (layer : Layer) (c : Cell) (cs : List Cell) (o p : Option ℕ) → Answers s firsts (IsConductorAt s layer c) o → Answers s firsts (IsFirstConductor s layer cs) p → Answers s firsts (IsFirstConductor s layer (c ∷ cs)) (or_else o p)
-answers_first s firsts layer c cs (Some k) p here rest = record {
+answers_first : (deck : Deck) (s : List Shape) (firsts : List Site) (layer : Layer) (c : Cell) (cs : List Cell) (o p : Option ℕ) → Answers deck s firsts (IsConductorAt s layer c) o → Answers deck s firsts (IsFirstConductor s layer cs) p → Answers deck s firsts (IsFirstConductor s layer (c ∷ cs)) (or_else o p)
+answers_first deck s firsts layer c cs (Some k) p here rest = record {
   some = λ n e. let h = here.some n e in record { site = h.site; is = inl h.is; net = h.net };
   none = λ e a q. absurd (cc e);
 }
-answers_first s firsts layer c cs None p here rest = record {
+answers_first deck s firsts layer c cs None p here rest = record {
   some = λ n e. let h = rest.some n e in record { site = h.site; is = inr (here.none refl, h.is); net = h.net };
   none = λ e a q. elim q [ inl at ↦ here.none refl a at | inr later ↦ rest.none e a later.1 ];
 }
@@ -190,31 +190,31 @@ or_both None None (Some n) d = refl
 or_both None None None (Some n) = refl
 or_both None None None None = refl
 
-answers_round : (s : List Shape) (wires : List Wire) (firsts : List Piece) → AreWires s wires firsts → (layer : Layer) (x y : ℤ) → Answers s (firsts_of firsts) (IsFirstConductor s layer (cells_round x y)) (net_round wires layer x y)
-answers_round s wires firsts m layer x y =
+answers_round : (deck : Deck) (s : List Shape) (wires : List Wire) (firsts : List Piece) → AreWires deck s wires firsts → (layer : Layer) (x y : ℤ) → Answers deck s (firsts_of firsts) (IsFirstConductor s layer (cells_round x y)) (net_round wires layer x y)
+answers_round deck s wires firsts m layer x y =
     let l : ℤ = x -ℤ pos 1 in
     let b : ℤ = y -ℤ pos 1 in
     let fs : List Site = firsts_of firsts in
-    let last : Answers s (firsts_of firsts) (IsFirstConductor s layer (cell (x -ℤ pos 1) (y -ℤ pos 1) ∷ [])) (or_else (net_on wires layer (x -ℤ pos 1) (y -ℤ pos 1)) None) = answers_first s (firsts_of firsts) layer (cell (x -ℤ pos 1) (y -ℤ pos 1)) [] (net_on wires layer (x -ℤ pos 1) (y -ℤ pos 1)) None (answers_layer s wires firsts m layer (x -ℤ pos 1) (y -ℤ pos 1)) (answers_never s (firsts_of firsts) (IsFirstConductor s layer []) (λ a p. absurd p)) in
-    let third = answers_first s (firsts_of firsts) layer (cell x (y -ℤ pos 1)) (cell (x -ℤ pos 1) (y -ℤ pos 1) ∷ []) (net_on wires layer x (y -ℤ pos 1)) (or_else (net_on wires layer (x -ℤ pos 1) (y -ℤ pos 1)) None) (answers_layer s wires firsts m layer x (y -ℤ pos 1)) last in
-    let second = answers_first s (firsts_of firsts) layer (cell (x -ℤ pos 1) y) (cell x (y -ℤ pos 1) ∷ cell (x -ℤ pos 1) (y -ℤ pos 1) ∷ []) (net_on wires layer (x -ℤ pos 1) y) (or_else (net_on wires layer x (y -ℤ pos 1)) (or_else (net_on wires layer (x -ℤ pos 1) (y -ℤ pos 1)) None)) (answers_layer s wires firsts m layer (x -ℤ pos 1) y) third in
-    let whole = answers_first s (firsts_of firsts) layer (cell x y) (cell (x -ℤ pos 1) y ∷ cell x (y -ℤ pos 1) ∷ cell (x -ℤ pos 1) (y -ℤ pos 1) ∷ []) (net_on wires layer x y) (or_else (net_on wires layer (x -ℤ pos 1) y) (or_else (net_on wires layer x (y -ℤ pos 1)) (or_else (net_on wires layer (x -ℤ pos 1) (y -ℤ pos 1)) None))) (answers_layer s wires firsts m layer x y) second in
-    subst (Answers s (firsts_of firsts) (IsFirstConductor s layer (cells_round x y))) (or_both (net_on wires layer x y) (net_on wires layer (x -ℤ pos 1) y) (net_on wires layer x (y -ℤ pos 1)) (net_on wires layer (x -ℤ pos 1) (y -ℤ pos 1))) whole
+    let last : Answers deck s (firsts_of firsts) (IsFirstConductor s layer (cell (x -ℤ pos 1) (y -ℤ pos 1) ∷ [])) (or_else (net_on wires layer (x -ℤ pos 1) (y -ℤ pos 1)) None) = answers_first deck s (firsts_of firsts) layer (cell (x -ℤ pos 1) (y -ℤ pos 1)) [] (net_on wires layer (x -ℤ pos 1) (y -ℤ pos 1)) None (answers_layer deck s wires firsts m layer (x -ℤ pos 1) (y -ℤ pos 1)) (answers_never deck s (firsts_of firsts) (IsFirstConductor s layer []) (λ a p. absurd p)) in
+    let third = answers_first deck s (firsts_of firsts) layer (cell x (y -ℤ pos 1)) (cell (x -ℤ pos 1) (y -ℤ pos 1) ∷ []) (net_on wires layer x (y -ℤ pos 1)) (or_else (net_on wires layer (x -ℤ pos 1) (y -ℤ pos 1)) None) (answers_layer deck s wires firsts m layer x (y -ℤ pos 1)) last in
+    let second = answers_first deck s (firsts_of firsts) layer (cell (x -ℤ pos 1) y) (cell x (y -ℤ pos 1) ∷ cell (x -ℤ pos 1) (y -ℤ pos 1) ∷ []) (net_on wires layer (x -ℤ pos 1) y) (or_else (net_on wires layer x (y -ℤ pos 1)) (or_else (net_on wires layer (x -ℤ pos 1) (y -ℤ pos 1)) None)) (answers_layer deck s wires firsts m layer (x -ℤ pos 1) y) third in
+    let whole = answers_first deck s (firsts_of firsts) layer (cell x y) (cell (x -ℤ pos 1) y ∷ cell x (y -ℤ pos 1) ∷ cell (x -ℤ pos 1) (y -ℤ pos 1) ∷ []) (net_on wires layer x y) (or_else (net_on wires layer (x -ℤ pos 1) y) (or_else (net_on wires layer x (y -ℤ pos 1)) (or_else (net_on wires layer (x -ℤ pos 1) (y -ℤ pos 1)) None))) (answers_layer deck s wires firsts m layer x y) second in
+    subst (Answers deck s (firsts_of firsts) (IsFirstConductor s layer (cells_round x y))) (or_both (net_on wires layer x y) (net_on wires layer (x -ℤ pos 1) y) (net_on wires layer x (y -ℤ pos 1)) (net_on wires layer (x -ℤ pos 1) (y -ℤ pos 1))) whole
 
 -- ---- all labels
 none_or : {X : Type 0} (o : Option X) → is_some o ≡ false → o ≡ None
 none_or None e = refl
 none_or (Some x) e = absurd (cc e)
 
-pub held_zip : (s : List Shape) (wires : List Wire) (firsts : List Piece) → AreWires s wires firsts → (labels : List Label) → ((l : Label) → Contains labels l → is_lost wires l ≡ true → ⊥) → AreHeld s (firsts_of firsts) labels (held_in wires labels)
-held_zip s wires firsts m [] ok = tt
-held_zip s wires firsts m (l ∷ ls) ok = by (is_wiring l.layer) refl (net_of_label wires l) refl (held_zip s wires firsts m ls (λ k c e. ok k (contains_there l ls k c) e))
+pub held_zip : (deck : Deck) (s : List Shape) (wires : List Wire) (firsts : List Piece) → AreWires deck s wires firsts → (labels : List Label) → ((l : Label) → Contains labels l → is_lost wires l ≡ true → ⊥) → AreHeld deck s (firsts_of firsts) labels (held_in wires labels)
+held_zip deck s wires firsts m [] ok = tt
+held_zip deck s wires firsts m (l ∷ ls) ok = by (is_wiring l.layer) refl (net_of_label wires l) refl (held_zip deck s wires firsts m ls (λ k c e. ok k (contains_there l ls k c) e))
   where
-    by : (w : Bool) → is_wiring l.layer ≡ w → (o : Option ℕ) → net_of_label wires l ≡ o → AreHeld s (firsts_of firsts) ls (held_in wires ls) → AllZip (IsHeld s (firsts_of firsts)) (cond w (l ∷ wiring_labels ls) (wiring_labels ls)) (cons_option (if w then option_map (λ n. record { name = l.name; net = n }) o else None) (held_in wires ls))
+    by : (w : Bool) → is_wiring l.layer ≡ w → (o : Option ℕ) → net_of_label wires l ≡ o → AreHeld deck s (firsts_of firsts) ls (held_in wires ls) → AllZip (IsHeld deck s (firsts_of firsts)) (cond w (l ∷ wiring_labels ls) (wiring_labels ls)) (cons_option (if w then option_map (λ n. record { name = l.name; net = n }) o else None) (held_in wires ls))
     by false e o f rest = rest
     by true e None f rest = absurd (ok l (contains_here l ls) (rw e (rw f refl)))
     by true e (Some n) f rest =
-        let h = (answers_round s wires firsts m l.layer l.x l.y).some n f in
+        let h = (answers_round deck s wires firsts m l.layer l.x l.y).some n f in
         (record { name = refl; site = h.site; belongs = h.is; net = h.net }, rest)
 
 -- the first label without a net, and those before it
@@ -247,8 +247,8 @@ some_is : (o : Option ℕ) → is_some o ≡ true → (n : ℕ) × (o ≡ Some n
 some_is (Some n) e = (n, refl)
 some_is None e = absurd (cc e)
 
-pub stray_is : (s : List Shape) (wires : List Wire) (firsts : List Piece) → AreWires s wires firsts → (labels : List Label) (l : Label) → find (is_lost wires) labels ≡ Some l → IsFirstStray s labels l.name
-stray_is s wires firsts m labels l e =
+pub stray_is : (deck : Deck) (s : List Shape) (wires : List Wire) (firsts : List Piece) → AreWires deck s wires firsts → (labels : List Label) (l : Label) → find (is_lost wires) labels ≡ Some l → IsFirstStray s labels l.name
+stray_is deck s wires firsts m labels l e =
     let p = found (is_lost wires) labels l e in
     let t = lost_parts (is_wiring l.layer) (is_some (net_of_label wires l)) p.passes in
     let b = before_lost wires labels l e in
@@ -257,13 +257,13 @@ stray_is s wires firsts m labels l e =
       label = l;
       after = b.after;
       split = b.split;
-      fine = λ k c stray. let h = some_is (net_of_label wires k) (b.fine k c) in let g = (answers_round s wires firsts m k.layer k.x k.y).some h.0 h.1 in stray g.site g.is;
-      stray = (answers_round s wires firsts m l.layer l.x l.y).none (none_or (net_of_label wires l) t.1);
+      fine = λ k c stray. let h = some_is (net_of_label wires k) (b.fine k c) in let g = (answers_round deck s wires firsts m k.layer k.x k.y).some h.0 h.1 in stray g.site g.is;
+      stray = (answers_round deck s wires firsts m l.layer l.x l.y).none (none_or (net_of_label wires l) t.1);
       named = refl;
     }
 
-pub labels_held : (s : List Shape) (wires : List Wire) (firsts : List Piece) → AreWires s wires firsts → (labels : List Label) → find (is_lost wires) labels ≡ None → AreHeld s (firsts_of firsts) labels (held_in wires labels)
-labels_held s wires firsts m labels e = held_zip s wires firsts m labels (λ l c t. found_none (is_lost wires) labels e l c t)
+pub labels_held : (deck : Deck) (s : List Shape) (wires : List Wire) (firsts : List Piece) → AreWires deck s wires firsts → (labels : List Label) → find (is_lost wires) labels ≡ None → AreHeld deck s (firsts_of firsts) labels (held_in wires labels)
+labels_held deck s wires firsts m labels e = held_zip deck s wires firsts m labels (λ l c t. found_none (is_lost wires) labels e l c t)
 
 pub filter_map_push : {X Y : Type 0} (h : X → Option Y) (xs : List X) (x : X) → filter_map h (xs ++ x ∷ []) ≡ filter_map h xs ++ option_to_list (h x)
 filter_map_push {X} {Y} h [] x = one (h x)

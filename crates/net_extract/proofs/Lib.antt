@@ -1,4 +1,6 @@
+pub mod Agreeing
 pub mod Apart
+pub mod Belonging
 pub mod Bonds
 pub mod Carving
 pub mod Classing
@@ -17,6 +19,7 @@ pub mod Linking
 pub mod Links
 pub mod Listing
 pub mod Merging
+pub mod Netlists
 pub mod Netting
 pub mod Numbering
 pub mod Numbers

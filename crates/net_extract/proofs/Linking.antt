@@ -1,6 +1,6 @@
 -- Whether two pieces are bonded.
-use Rattle.std.proofs.Common.{◌≡◌, ◌↔◌, IsTrue, cond, map, ℕ, ℤ, ◌≤ℤ◌, ◌<ℤ◌, int_lt, Bool, true, false, ◌&&◌, ◌||◌, ◌==◌, if◌then◌else◌, Option, Some, None, List, [], ◌∷◌, arith, inl, inr, ◌⊎◌, refl, sym, subst, ap}
-use Rattle.std.specs.List.{Contains, filter}
+use Rattle.std.proofs.Common.{◌≡◌, ◌↔◌, IsTrue, cond, map, ℤ, ◌<ℤ◌, Bool, true, false, ◌&&◌, ◌||◌, Option, Some, None, List, [], ◌∷◌, arith, inl, inr, ◌⊎◌}
+use Rattle.std.specs.List.{filter}
 use Rattle.std.specs.Bool.{Decides}
 use Rattle.std.specs.Int.{int_max, int_min}
 use Rattle.std.proofs.lemmas.Int.{ints, clamps}
@@ -12,12 +12,10 @@ use Rattle.box_geom.specs.Touching.{Touch}
 use Rattle.box_geom.specs.Comparisons.{overlapping, touching}
 use Rattle.box_geom.specs.declared.shape.Shape.{Shape}
 use Rattle.box_geom.specs.declared.layer.Layer.{Layer}
-use Rattle.box_geom.specs.declared.layer.Layer.TheVariants.{Contact, Via}
 use Rattle.box_geom.proofs.Spans.{int_lt_decides, overlap_decides}
 use Rattle.box_geom.proofs.Meeting.{touch_decides}
-use Rattle.scmos_rules.specs.Layout.{On}
-use Rattle.net_extract.specs.Nets.{Kind, p_diffusion, n_diffusion, poly, metal1, metal2, IsLower, of_p, of_n, of_poly, Joins, by_contact, by_via, Through}
-use Rattle.net_extract.specs.Parts.{Part, AreJoined, Bond, touching as by_touch, joining}
+use Rattle.scmos_rules.specs.declared.rules.Deck.TheVariants.{Plain}
+use Rattle.net_extract.specs.Parts.{AreJoined, Bond, touching as by_touch, joining, tying}
 use Rattle.net_extract.specs.Pieces.{kind_of, place, rect_of, part_of, link_layer}
 use Rattle.net_extract.specs.Meetings.{sharing, crossing, linking, sharing_cell, linking_by, bonding}
 use Rattle.net_extract.specs.declared.piece.Conductor.{Conductor}
@@ -118,17 +116,19 @@ unjoined s a b e j = by a.kind b.kind (same_place a.kind b.kind e) (link_through
     by Metal2 Metal1 f o = absurd (cc f)
     by Metal2 Metal2 f o = o
 
-pub bond_decides : (s : List Shape) (a b : Piece) → IsProper (rect_of a) → IsProper (rect_of b) → IsTrue (bonding s a b) ↔ Bond s (part_of a) (part_of b)
+pub bond_decides : (s : List Shape) (a b : Piece) → IsProper (rect_of a) → IsProper (rect_of b) → IsTrue (bonding s a b) ↔ Bond Plain s (part_of a) (part_of b)
 bond_decides s a b pa pb =
     elim (cases_eq (place a.kind) (place b.kind)) [
       | inl e ↦ rw (eq-eqb (place a.kind) (place b.kind) e) (Decides-like (touching (rect_of a) (rect_of b)) (by_touch (same_kind_place a.kind b.kind e)) (of_touch e) (touch_decides (rect_of a) (rect_of b) pa pb))
       | inr ne ↦ rw (ne_eqb (place a.kind) (place b.kind) ne) (Decides-like (linking_by s (link_layer a.kind b.kind) (rect_of a) (rect_of b)) joining (of_joint ne) (joint_decides s a b))
     ]
   where
-    of_touch : place a.kind ≡ place b.kind → Bond s (part_of a) (part_of b) → Touch (rect_of a) (rect_of b)
+    of_touch : place a.kind ≡ place b.kind → Bond Plain s (part_of a) (part_of b) → Touch (rect_of a) (rect_of b)
     of_touch e (by_touch k t) = t
     of_touch e (joining j) = absurd (unjoined s a b (same_kind_place a.kind b.kind e) j)
+    of_touch e (tying d z) = absurd (cc d)
 
-    of_joint : (place a.kind ≡ place b.kind → ⊥) → Bond s (part_of a) (part_of b) → AreJoined s (part_of a) (part_of b)
+    of_joint : (place a.kind ≡ place b.kind → ⊥) → Bond Plain s (part_of a) (part_of b) → AreJoined s (part_of a) (part_of b)
     of_joint ne (by_touch k t) = absurd (ne (same_place a.kind b.kind k))
     of_joint ne (joining j) = j
+    of_joint ne (tying d z) = absurd (cc d)

@@ -1,16 +1,17 @@
 -- Bonds are fixed by the contacts and vias of a drawing, and reach no further up than a piece.
-use Rattle.std.proofs.Common.{◌≡◌, IsTrue, cond, ℕ, ℤ, pos, ◌+ℤ◌, ◌≤ℤ◌, ◌<ℤ◌, ◌<◌, ◌≤◌, int_lt, Bool, true, false, ◌||◌, List, [], ◌∷◌, map, filter, length, get_or, arith, inl, inr, refl, sym, subst, ap, ◌∙◌, IsSorted}
+use Rattle.std.proofs.Common.{◌≡◌, ℕ, ℤ, pos, ◌+ℤ◌, ◌≤ℤ◌, ◌<◌, ◌≤◌, int_lt, Bool, true, false, ◌||◌, List, map, length, get_or, arith, inl, inr, refl, sym, subst, ap, ◌∙◌, IsSorted}
 use Rattle.std.proofs.lemmas.Int.{ints}
-use Rattle.box_geom.specs.Rectangle.{Rectangle, Holds, Covers}
+use Rattle.box_geom.specs.Rectangle.{Rectangle, Covers}
 use Rattle.box_geom.specs.Layers.{rects_on, same_layer}
 use Rattle.box_geom.specs.Touching.{Cell, Edge, to_right, to_left, upward, downward, Touch}
 use Rattle.box_geom.specs.declared.shape.Shape.{Shape}
 use Rattle.box_geom.specs.declared.layer.Layer.{Layer}
 use Rattle.box_geom.specs.declared.layer.Layer.TheVariants.{Contact, Via}
+use Rattle.scmos_rules.specs.declared.rules.Deck.TheVariants.{Plain}
 use Rattle.net_extract.specs.Classes.{AreLeast, AreTried}
-use Rattle.net_extract.specs.Nets.{Kind, Joins, by_contact, by_via, Through}
+use Rattle.net_extract.specs.Nets.{Kind, Joins, by_contact, by_via}
 use Rattle.net_extract.specs.NetMaps.{blank}
-use Rattle.net_extract.specs.Parts.{Part, AreJoined, Bond, touching, joining}
+use Rattle.net_extract.specs.Parts.{Part, Bond, touching, joining, tying}
 use Rattle.net_extract.specs.Links.{is_linking, links_in}
 use Rattle.net_extract.specs.Pieces.{part_of, piece_cmp, Paired}
 use Rattle.net_extract.specs.declared.piece.Piece.{Piece}
@@ -41,19 +42,20 @@ joins_like : (s t : List Shape) → SameLinks s t → (x y : ℤ) (k l : Kind) �
 joins_like s t e x y k l (by_contact u low on) = by_contact u low (subst (λ rs. Covers rs x y) e.contacts on)
 joins_like s t e x y k l (by_via u v on) = by_via u v (subst (λ rs. Covers rs x y) e.vias on)
 
-bond_like : (s t : List Shape) → SameLinks s t → (p q : Part) → Bond s p q → Bond t p q
+bond_like : (s t : List Shape) → SameLinks s t → (p q : Part) → Bond Plain s p q → Bond Plain t p q
 bond_like s t e p q (touching k h) = touching k h
 bond_like s t e p q (joining j) = joining (record { x = j.x; y = j.y; in_p = j.in_p; in_q = j.in_q; through = elim j.through [ inl a ↦ inl (joins_like s t e j.x j.y p.kind q.kind a) | inr a ↦ inr (joins_like s t e j.x j.y q.kind p.kind a) ] })
+bond_like s t e p q (tying d z) = absurd (cc d)
 
-pair_like : (s t : List Shape) → SameLinks s t → (ps : List Piece) (i j : ℕ) → Paired s ps i j → Paired t ps i j
+pair_like : (s t : List Shape) → SameLinks s t → (ps : List Piece) (i j : ℕ) → Paired Plain s ps i j → Paired Plain t ps i j
 pair_like s t e ps i j p = record { one = p.one; other = p.other; at_one = p.at_one; at_other = p.at_other; bond = bond_like s t e (part_of p.one) (part_of p.other) p.bond }
 
-pub least_of_links : (s ts us : List Shape) (ps : List Piece) (ls : List ℕ) → ts ≡ links_in s → us ≡ ts → AreLeast (length ps) (Paired us ps) ls → AreLeast (length ps) (Paired s ps) ls
+pub least_of_links : (s ts us : List Shape) (ps : List Piece) (ls : List ℕ) → ts ≡ links_in s → us ≡ ts → AreLeast (length ps) (Paired Plain us ps) ls → AreLeast (length ps) (Paired Plain s ps) ls
 least_of_links s ts us ps ls et eu is =
-    let mine : AreLeast (length ps) (Paired (links_in s) ps) ls = subst (λ z. AreLeast (length ps) (Paired z ps) ls) (eu ∙ et) is in
+    let mine : AreLeast (length ps) (Paired Plain (links_in s) ps) ls = subst (λ z. AreLeast (length ps) (Paired Plain z ps) ls) (eu ∙ et) is in
     let there : SameLinks (links_in s) s = record { contacts = links_on Contact contact_links s; vias = links_on Via via_links s } in
     let back : SameLinks s (links_in s) = record { contacts = sym there.contacts; vias = sym there.vias } in
-    least_like (length ps) (Paired (links_in s) ps) (Paired s ps) (pair_like (links_in s) s there ps) (pair_like s (links_in s) back ps) ls mine
+    least_like (length ps) (Paired Plain (links_in s) ps) (Paired Plain s ps) (pair_like (links_in s) s there ps) (pair_like s (links_in s) back ps) ls mine
 
 -- ---- how far up a bond reaches
 edge_up : (a b : Cell) → Edge a b → b.y ≤ℤ (a.y +ℤ pos 1)
@@ -69,16 +71,17 @@ touch_up p q t =
     let near : t.other.y ≤ℤ (t.one.y +ℤ pos 1) = elim t.meet [ inl e ↦ (let f : t.one.y ≡ t.other.y = ap (λ (c : Cell). c.y) e in omega (arith, ints, f)) | inr e ↦ edge_up t.one t.other e ] in
     omega (arith, ints)
 
-bond_up : (s : List Shape) (p q : Part) → Bond s p q → q.rect.y1 ≤ℤ p.rect.y2
+bond_up : (s : List Shape) (p q : Part) → Bond Plain s p q → q.rect.y1 ≤ℤ p.rect.y2
 bond_up s p q (touching e t) = touch_up p.rect q.rect t
 bond_up s p q (joining j) = let h = j.in_p in let k = j.in_q in omega (arith, ints)
+bond_up s p q (tying d z) = absurd (cc d)
 
 -- pieces from one on that begins above a piece are not bonded with it
-pub none_above : (s : List Shape) (ps : List Piece) → IsSorted piece_cmp ps → (i k : ℕ) → k < length ps → int_lt (get_or ps i blank).top (get_or ps k blank).low ≡ true → (j : ℕ) → k ≤ j → j < length ps → Paired s ps i j → ⊥
+pub none_above : (s : List Shape) (ps : List Piece) → IsSorted piece_cmp ps → (i k : ℕ) → k < length ps → int_lt (get_or ps i blank).top (get_or ps k blank).low ≡ true → (j : ℕ) → k ≤ j → j < length ps → Paired Plain s ps i j → ⊥
 none_above s ps up i k lk above j le lj p =
-    let b : (get_or ps j blank).low ≤ℤ (get_or ps i blank).top = bond_up s (part_of (get_or ps i blank)) (part_of (get_or ps j blank)) (bond_of_pair s ps i j blank p) in
+    let b : (get_or ps j blank).low ≤ℤ (get_or ps i blank).top = bond_up s (part_of (get_or ps i blank)) (part_of (get_or ps j blank)) (bond_of_pair Plain s ps i j blank p) in
     let o : (get_or ps k blank).low ≤ℤ (get_or ps j blank).low = (ordered ps blank up k j le lj).row in
     omega (arith, ints, above)
 
-pub tried_below : (s : List Shape) (ps : List Piece) → IsSorted piece_cmp ps → (i k : ℕ) (old new : List ℕ) → k < length ps → int_lt (get_or ps i blank).top (get_or ps k blank).low ≡ true → AreTried (length ps) (Paired s ps) i k old new → AreTried (length ps) (Paired s ps) i (length ps) old new
-tried_below s ps up i k old new lk above was = cut_short (length ps) (Paired s ps) i k old new (none_above s ps up i k lk above) was
+pub tried_below : (s : List Shape) (ps : List Piece) → IsSorted piece_cmp ps → (i k : ℕ) (old new : List ℕ) → k < length ps → int_lt (get_or ps i blank).top (get_or ps k blank).low ≡ true → AreTried (length ps) (Paired Plain s ps) i k old new → AreTried (length ps) (Paired Plain s ps) i (length ps) old new
+tried_below s ps up i k old new lk above was = cut_short (length ps) (Paired Plain s ps) i k old new (none_above s ps up i k lk above) was

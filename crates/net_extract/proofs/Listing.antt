@@ -1,14 +1,14 @@
 -- Pieces by kind, and conductor cells by the pieces that hold them.
-use Rattle.std.proofs.Common.{◌≡◌, ℕ, ◌<◌, ℤ, ◌≤ℤ◌, ◌<ℤ◌, Bool, true, false, if◌then◌else◌, List, [], ◌∷◌, arith, refl, sym, subst, ap, inl, inr, ◌⊎◌, IsPermutation}
+use Rattle.std.proofs.Common.{◌≡◌, Bool, true, false, if◌then◌else◌, List, [], ◌∷◌, arith, refl, sym, subst, inl, inr, IsPermutation}
 use Rattle.std.specs.List.{All, Contains}
 use Rattle.std.proofs.lemmas.Int.{ints}
 use Rattle.std.proofs.lemmas.List.Elements.{All-contains}
 use Rattle.std.proofs.lemmas.List.Sorted.{Contains-permutation, IsPermutation-sym}
 use Rattle.cell_num.proofs.Lists.{contains_none, contains_cons, contains_here, contains_there, all_from_contains}
-use Rattle.box_geom.specs.Rectangle.{Rectangle, IsProper, Holds, Covers}
+use Rattle.box_geom.specs.Rectangle.{Rectangle, IsProper, Holds}
 use Rattle.box_geom.specs.declared.shape.Shape.{Shape}
-use Rattle.net_extract.specs.Nets.{Kind, p_diffusion, n_diffusion, poly, metal1, metal2, Site, site_at, Are, Conducts}
-use Rattle.net_extract.specs.Parts.{AreDrawn, Part, IsPart, IsIn}
+use Rattle.net_extract.specs.Nets.{Kind, p_diffusion, n_diffusion, poly, metal1, metal2, Site, Conducts}
+use Rattle.net_extract.specs.Parts.{AreDrawn, IsPart, IsIn}
 use Rattle.net_extract.specs.Pieces.{kind_of, is_of, rect_of, part_of, corner_of, rects_in}
 use Rattle.net_extract.specs.declared.piece.Conductor.{Conductor}
 use Rattle.net_extract.specs.declared.piece.Conductor.TheVariants.{PDiffusion, NDiffusion, Poly, Metal1, Metal2}

@@ -3,6 +3,7 @@ use Rattle.std.proofs.Common.{◌≡◌, ℕ, ◌≤◌, List, length, sym, subs
 use Rattle.std.specs.List.{All}
 use Rattle.box_geom.specs.Rectangle.{IsProper}
 use Rattle.box_geom.specs.declared.shape.Shape.{Shape}
+use Rattle.scmos_rules.specs.declared.rules.Deck.{Deck}
 use Rattle.net_extract.specs.Classes.{AreLeast, AreHeads}
 use Rattle.net_extract.specs.Cuts.{pieces_in}
 use Rattle.net_extract.specs.Corners.{HaveFewCorners}
@@ -25,24 +26,24 @@ pub ruleset piece_rules = (sorted_drawn)
 pub pieces_proper : (s : List Shape) (ps : List Piece) → AreDrawn s (rects_in ps) → All (λ p. IsProper (rect_of p)) ps
 pieces_proper = all_proper
 
-pub labels_head : (s : List Shape) (ps : List Piece) (ls : List ℕ) → AreLeast (length ps) (Paired s ps) ls → AreHeads (length ps) ls
-labels_head s ps ls is = least_heads (length ps) (Paired s ps) ls is
+pub labels_head : (deck : Deck) (s : List Shape) (ps : List Piece) (ls : List ℕ) → AreLeast (length ps) (Paired deck s ps) ls → AreHeads (length ps) ls
+labels_head deck s ps ls is = least_heads (length ps) (Paired deck s ps) ls is
 
-pub net_is : (s : List Shape) (ps : List Piece) (ls : List ℕ) (wires : List Wire) (firsts : List Piece) → AreDrawn s (rects_in ps) → IsSorted piece_cmp ps → AreLeast (length ps) (Paired s ps) ls → AreNumbered ps ls (length ps) wires firsts → AreWires s wires firsts
-net_is s ps ls wires firsts d up least n = wires_are s ps ls wires firsts (record { drawn = d; sorted = up; least = least }) n
+pub net_is : (deck : Deck) (s : List Shape) (ps : List Piece) (ls : List ℕ) (wires : List Wire) (firsts : List Piece) → AreDrawn s (rects_in ps) → IsSorted piece_cmp ps → AreLeast (length ps) (Paired deck s ps) ls → AreNumbered ps ls (length ps) wires firsts → AreWires deck s wires firsts
+net_is deck s ps ls wires firsts d up least n = wires_are deck s ps ls wires firsts (record { drawn = d; sorted = up; least = least }) n
 
 pub ruleset net_rules = (pieces_proper, labels_head, net_is)
 
-pub heads_from : (s : List Shape) (ps qs rs : List Piece) (ls ms : List ℕ) → qs ≡ ps → rs ≡ ps → ms ≡ ls → AreLeast (length qs) (Paired s qs) ls → AreHeads (length rs) ms
-heads_from s ps qs rs ls ms eq er em least = subst (λ zs. AreHeads (length zs) ms) (sym er) (subst (AreHeads (length ps)) (sym em) (labels_head s ps ls (subst (λ zs. AreLeast (length zs) (Paired s zs) ls) eq least)))
+pub heads_from : (deck : Deck) (s : List Shape) (ps qs rs : List Piece) (ls ms : List ℕ) → qs ≡ ps → rs ≡ ps → ms ≡ ls → AreLeast (length qs) (Paired deck s qs) ls → AreHeads (length rs) ms
+heads_from deck s ps qs rs ls ms eq er em least = subst (λ zs. AreHeads (length zs) ms) (sym er) (subst (AreHeads (length ps)) (sym em) (labels_head deck s ps ls (subst (λ zs. AreLeast (length zs) (Paired deck s zs) ls) eq least)))
 
-pub net_from : (s : List Shape) (ps qs rs : List Piece) (ls ms : List ℕ) (wires : List Wire) (firsts : List Piece) → qs ≡ ps → rs ≡ ps → ms ≡ ls → AreDrawn s (rects_in ps) → IsSorted piece_cmp ps → AreLeast (length qs) (Paired s qs) ls → AreNumbered rs ms (length rs) wires firsts → AreWires s wires firsts
-net_from s ps qs rs ls ms wires firsts eq er em d up least n = net_is s ps ls wires firsts d up (subst (λ zs. AreLeast (length zs) (Paired s zs) ls) eq least) (subst (λ zs. AreNumbered zs ls (length zs) wires firsts) er (subst (λ zs. AreNumbered rs zs (length rs) wires firsts) em n))
+pub net_from : (deck : Deck) (s : List Shape) (ps qs rs : List Piece) (ls ms : List ℕ) (wires : List Wire) (firsts : List Piece) → qs ≡ ps → rs ≡ ps → ms ≡ ls → AreDrawn s (rects_in ps) → IsSorted piece_cmp ps → AreLeast (length qs) (Paired deck s qs) ls → AreNumbered rs ms (length rs) wires firsts → AreWires deck s wires firsts
+net_from deck s ps qs rs ls ms wires firsts eq er em d up least n = net_is deck s ps ls wires firsts d up (subst (λ zs. AreLeast (length zs) (Paired deck s zs) ls) eq least) (subst (λ zs. AreNumbered zs ls (length zs) wires firsts) er (subst (λ zs. AreNumbered rs zs (length rs) wires firsts) em n))
 
-pub few_from : (s : List Shape) (ps qs rs : List Piece) (ls ms : List ℕ) → qs ≡ ps → rs ≡ ps → ms ≡ ls → AreDrawn s (rects_in ps) → IsSorted piece_cmp ps → HaveFewCorners ps → AreLeast (length qs) (Paired s qs) ls → length (heads_below rs ms (length rs)) ≤ 2000000000
-few_from s ps qs rs ls ms eq er em d up few least =
-    let mine : AreLeast (length ps) (Paired s ps) ls = subst (λ zs. AreLeast (length zs) (Paired s zs) ls) eq least in
-    let here : length (heads_below ps ls (length ps)) ≤ 2000000000 = few_heads s ps ls (record { drawn = d; sorted = up; least = mine }) few in
+pub few_from : (deck : Deck) (s : List Shape) (ps qs rs : List Piece) (ls ms : List ℕ) → qs ≡ ps → rs ≡ ps → ms ≡ ls → AreDrawn s (rects_in ps) → IsSorted piece_cmp ps → HaveFewCorners ps → AreLeast (length qs) (Paired deck s qs) ls → length (heads_below rs ms (length rs)) ≤ 2000000000
+few_from deck s ps qs rs ls ms eq er em d up few least =
+    let mine : AreLeast (length ps) (Paired deck s ps) ls = subst (λ zs. AreLeast (length zs) (Paired deck s zs) ls) eq least in
+    let here : length (heads_below ps ls (length ps)) ≤ 2000000000 = few_heads deck s ps ls (record { drawn = d; sorted = up; least = mine }) few in
     subst (λ zs. length (heads_below zs ms (length zs)) ≤ 2000000000) (sym er) (subst (λ zs. length (heads_below ps zs (length ps)) ≤ 2000000000) (sym em) here)
 
 pub few_numbered : (rs : List Piece) (ms : List ℕ) (wires : List Wire) (firsts : List Piece) → length (heads_below rs ms (length rs)) ≤ 2000000000 → AreNumbered rs ms (length rs) wires firsts → length firsts ≤ 2000000000

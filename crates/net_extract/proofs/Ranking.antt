@@ -1,5 +1,5 @@
 -- The order of first cells.
-use Rattle.std.proofs.Common.{◌≡◌, ℕ, zero, suc, ◌+◌, ◌<◌, ◌≤◌, ℤ, ◌≤ℤ◌, ◌<ℤ◌, true, false, List, [], ◌∷◌, length, get_or, arith, refl, sym, subst, ap, inl, inr, ◌⊎◌, IsSorted}
+use Rattle.std.proofs.Common.{◌≡◌, ℕ, zero, suc, ◌+◌, ◌<◌, ◌≤◌, ℤ, ◌<ℤ◌, false, List, length, get_or, arith, refl, sym, subst, IsSorted}
 use Rattle.std.specs.declared.cmp.Ordering.{Ordering}
 use Rattle.std.specs.declared.cmp.Ordering.TheVariants.{Less, Equal, Greater}
 use Rattle.std.specs.Ordering.{int_cmp, nat_cmp, ordering_then, is_lt, MatchOrdering}
@@ -7,11 +7,10 @@ use Rattle.std.proofs.lemmas.Int.{ints}
 use Rattle.std.proofs.lemmas.Cmp.{int_ranked, ranked}
 use Rattle.box_geom.specs.Touching.{Cell}
 use Rattle.box_geom.specs.declared.shape.Shape.{Shape}
-use Rattle.box_geom.specs.Rectangle.{Holds}
-use Rattle.net_extract.specs.Nets.{Kind, p_diffusion, n_diffusion, poly, metal1, metal2, Site, site_at, Are, Conducts}
-use Rattle.net_extract.specs.Numbering.{rank, NotBehind, IsBefore}
+use Rattle.net_extract.specs.Nets.{Kind, p_diffusion, n_diffusion, poly, metal1, metal2, Site, Are, Conducts}
+use Rattle.net_extract.specs.Numbering.{rank, NotBehind}
 use Rattle.net_extract.specs.Parts.{IsIn}
-use Rattle.net_extract.specs.Pieces.{kind_of, place, rect_of, part_of, corner_of, piece_cmp}
+use Rattle.net_extract.specs.Pieces.{kind_of, place, part_of, corner_of, piece_cmp}
 use Rattle.net_extract.specs.declared.piece.Conductor.{Conductor}
 use Rattle.net_extract.specs.declared.piece.Conductor.TheVariants.{PDiffusion, NDiffusion, Poly, Metal1, Metal2}
 use Rattle.net_extract.specs.declared.piece.Piece.{Piece}
@@ -40,7 +39,7 @@ corner_first p a i =
     let h = i.holds in
     record { row = omega (arith, ints); column = λ u. omega (arith, ints); layer = λ u v. subst (λ k. rank (kind_of p.kind) ≤ rank k) i.kind (omega arith) }
 
-site_same : (a b : Site) → a.kind ≡ b.kind → a.cell ≡ b.cell → a ≡ b
+pub site_same : (a b : Site) → a.kind ≡ b.kind → a.cell ≡ b.cell → a ≡ b
 site_same a b e f = subst (λ k. a ≡ record { kind = k; cell = b.cell }) e (subst (λ c. a ≡ record { kind = a.kind; cell = c }) f refl)
 
 -- two conductor cells in one place whose layers are one are of one kind

@@ -1,23 +1,23 @@
 -- The sides of a gate, the net along each, and the device between them.
-use Rattle.std.proofs.Common.{◌≡◌, ◌↔◌, IsTrue, IfSome, ℕ, ◌≤◌, ◌<◌, min, max, ℤ, pos, ◌+ℤ◌, ◌-ℤ◌, ◌≤ℤ◌, ◌<ℤ◌, unsigned_abs, Bool, true, false, not, ◌&&◌, ◌||◌, ◌==◌, Option, Some, None, List, [], ◌∷◌, slice_get, arith, inl, inr, ◌⊎◌, refl, sym, subst, ap, ◌∙◌}
-use Rattle.std.specs.List.{All, Contains, list_all}
-use Rattle.std.specs.Bool.{Decides}
-use Rattle.std.proofs.lemmas.Int.{ints, clamps}
+use Rattle.std.proofs.Common.{◌≡◌, ◌↔◌, IsTrue, IfSome, ℕ, min, max, ℤ, Bool, true, false, not, ◌&&◌, ◌||◌, ◌==◌, Option, Some, None, List, [], ◌∷◌, slice_get, arith, inl, inr, ◌⊎◌, refl, sym, subst, ap, ◌∙◌}
+use Rattle.std.specs.List.{Contains, list_all}
+use Rattle.std.proofs.lemmas.Int.{ints}
 use Rattle.std.proofs.lemmas.Bool.{cases_eq, eq-eqb, ne_eqb, cases_order}
 use Rattle.cell_num.proofs.Lists.{some_same, contains_none, contains_cons, contains_here, contains_there}
-use Rattle.cell_num.proofs.In.{Image, in_map, contains_map}
+use Rattle.cell_num.proofs.In.{in_map, contains_map}
 use Rattle.cell_num.specs.declared.finger.Row.{Row}
 use Rattle.cell_num.specs.declared.finger.Row.TheVariants.{P, N}
-use Rattle.box_geom.specs.Rectangle.{Rectangle, IsProper, Holds, Covers}
+use Rattle.box_geom.specs.Rectangle.{Rectangle, IsProper, Holds}
 use Rattle.box_geom.specs.declared.shape.Shape.{Shape}
 use Rattle.box_geom.specs.declared.layer.Layer.TheVariants.{Well, Active, Poly as PolyLayer}
-use Rattle.scmos_rules.specs.Layout.{On, Gate}
-use Rattle.net_extract.specs.Nets.{Kind, p_diffusion, n_diffusion, poly, Site, site_at, Conducts, SameNet}
-use Rattle.net_extract.specs.Numbering.{AreNets, IsInNet}
-use Rattle.net_extract.specs.Parts.{AreDrawn, IsIn}
+use Rattle.scmos_rules.specs.Layout.{On}
+use Rattle.scmos_rules.specs.declared.rules.Deck.{Deck}
+use Rattle.net_extract.specs.Nets.{poly, Site, site_at, Conducts, SameNet}
+use Rattle.net_extract.specs.Numbering.{IsInNet}
+use Rattle.net_extract.specs.Parts.{IsIn}
 use Rattle.net_extract.specs.Devices.{InRow, diffusion_of, IsSide, IsClosed, IsSize, Flow, rightward, upward, source_side, drain_side, low_end, high_end, IsGateBox, IsDevice, IsSomeDevice}
 use Rattle.net_extract.specs.Extraction.{IsDrawn}
-use Rattle.net_extract.specs.Pieces.{kind_of, place, rect_of, part_of, rects_in}
+use Rattle.net_extract.specs.Pieces.{kind_of, place, rect_of, part_of}
 use Rattle.net_extract.specs.NetMaps.{firsts_of, pieces_of, AreWires, IsFound}
 use Rattle.net_extract.specs.Lookups.{net_in}
 use Rattle.net_extract.specs.Areas.{meeting, IsFull, IsFree}
@@ -25,14 +25,13 @@ use Rattle.net_extract.specs.Sides.{flow_of, conductor_of, IsInRow, IsDiffusion,
 use Rattle.net_extract.specs.declared.side.Current.{Current}
 use Rattle.net_extract.specs.declared.side.Current.TheVariants.{Rightward, Upward}
 use Rattle.net_extract.specs.declared.netlist.Drawn.{Drawn}
-use Rattle.net_extract.specs.declared.piece.Conductor.{Conductor}
-use Rattle.net_extract.specs.declared.piece.Conductor.TheVariants.{PDiffusion, NDiffusion, Poly}
+use Rattle.net_extract.specs.declared.piece.Conductor.TheVariants.{Poly}
 use Rattle.net_extract.specs.declared.piece.Piece.{Piece}
 use Rattle.net_extract.specs.declared.netmap.Wire.{Wire}
 use Rattle.net_extract.proofs.Conductors.{same_place, same_kind_place}
-use Rattle.net_extract.proofs.Filling.{Common, meeting_decides, and_parts, and_true}
+use Rattle.net_extract.proofs.Filling.{meeting_decides, and_parts, and_true}
 use Rattle.net_extract.proofs.Labelling.{net_in_some, net_in_none, wire_net}
-use Rattle.net_extract.proofs.Listing.{piece_proper, Held as HeldCell, held as held_cell}
+use Rattle.net_extract.proofs.Listing.{piece_proper, held as held_cell}
 use Rattle.net_extract.proofs.Numbers.{one_number}
 use Rattle.net_extract.proofs.Wiring.{net_back, net_both, net_self}
 
@@ -69,13 +68,19 @@ is_diffused s row area a p r da ea dp ep dr = (
 pub ruleset diffusion_rules = (no_active, some_poly, is_diffused)
 
 -- ---- the net along a side
-pub in_first : (s : List Shape) (firsts : List Site) (n : ℕ) (a b : Site) → IsInNet s firsts n a → IsInNet s firsts n b → SameNet s a b
-in_first s firsts n a b x y =
+pub in_first : (deck : Deck) (s : List Shape) (firsts : List Site) (n : ℕ) (a b : Site) → IsInNet deck s firsts n a → IsInNet deck s firsts n b → SameNet deck s a b
+in_first deck s firsts n a b x y =
     let same : x.first ≡ y.first = some_same x.first y.first (sym x.numbered ∙ y.numbered) in
-    net_both s a x.first b (net_back s x.first a x.same) (subst (λ z. SameNet s z b) (sym same) y.same)
+    net_both deck s a x.first b (net_back deck s x.first a x.same) (subst (λ z. SameNet deck s z b) (sym same) y.same)
 
-pub move_net : (s : List Shape) (firsts : List Site) (n : ℕ) (a b : Site) → IsInNet s firsts n a → SameNet s a b → IsInNet s firsts n b
-move_net s firsts n a b x ab = record { first = x.first; numbered = x.numbered; same = net_both s x.first a b x.same ab }
+pub move_net : (deck : Deck) (s : List Shape) (firsts : List Site) (n : ℕ) (a b : Site) → IsInNet deck s firsts n a → SameNet deck s a b → IsInNet deck s firsts n b
+move_net deck s firsts n a b x ab = record { first = x.first; numbered = x.numbered; same = net_both deck s x.first a b x.same ab }
+
+-- two sites of one net
+pub same_number : (deck : Deck) (s : List Shape) (firsts : List Site) (m n : ℕ) (a b : Site) → m ≡ n → IsInNet deck s firsts m a → IsInNet deck s firsts n b → SameNet deck s a b
+same_number deck s firsts m n a b e x y =
+    let same : x.first ≡ y.first = some_same x.first y.first (sym x.numbered ∙ (ap (λ k. slice_get firsts k) e ∙ y.numbered)) in
+    net_both deck s a x.first b (net_back deck s x.first a x.same) (subst (λ z. SameNet deck s z b) (sym same) y.same)
 
 all_of : {X : Type 0} (p : X → Bool) (xs : List X) → list_all p xs ≡ true → (x : X) → Contains xs x → p x ≡ true
 all_of p [] e x c = absurd (contains_none x c)
@@ -113,61 +118,61 @@ pub record InWire (wires : List Wire) (a : Site) : Type 0 where
   pub listed : Contains wires wire
   pub inside : IsIn (part_of wire.piece) a
 
-pub in_wire : (s : List Shape) (wires : List Wire) (firsts : List Piece) → AreWires s wires firsts → (a : Site) → Conducts s a → InWire wires a
-in_wire s wires firsts m a c =
+pub in_wire : (deck : Deck) (s : List Shape) (wires : List Wire) (firsts : List Piece) → AreWires deck s wires firsts → (a : Site) → Conducts s a → InWire wires a
+in_wire deck s wires firsts m a c =
     let h = held_cell s (pieces_of wires) m.drawn a c in
     let i = in_map (λ (z : Wire). z.piece) wires h.piece h.listed in
     record { wire = i.of; listed = i.listed; inside = subst (λ p. IsIn (part_of p) a) (sym i.is) h.inside }
 
-pub wire_proper : (s : List Shape) (wires : List Wire) (firsts : List Piece) → AreWires s wires firsts → (w : Wire) → Contains wires w → IsProper (rect_of w.piece)
-wire_proper s wires firsts m w c = piece_proper s (pieces_of wires) m.drawn w.piece (contains_map (λ (z : Wire). z.piece) wires w c)
+pub wire_proper : (deck : Deck) (s : List Shape) (wires : List Wire) (firsts : List Piece) → AreWires deck s wires firsts → (w : Wire) → Contains wires w → IsProper (rect_of w.piece)
+wire_proper deck s wires firsts m w c = piece_proper s (pieces_of wires) m.drawn w.piece (contains_map (λ (z : Wire). z.piece) wires w c)
 
-pub side_some : (s : List Shape) (wires : List Wire) (firsts : List Piece) → AreWires s wires firsts → (row : Row) (area : Rectangle) (n : ℕ) → IsProper area → IsDiffusion s row area → net_in wires (conductor_of row) area.x1 area.y1 ≡ Some n → all_agree wires (conductor_of row) area n ≡ true → IsSideNet s (firsts_of firsts) row area n
-side_some s wires firsts m row area n p d e agree =
-    let f : IsFound s (firsts_of firsts) (kind_of (conductor_of row)) area.x1 area.y1 n = net_in_some s wires firsts m (conductor_of row) area.x1 area.y1 n e in
-    let at : IsInNet s (firsts_of firsts) n (site_at (diffusion_of row) area.x1 area.y1) = subst (λ k. IsInNet s (firsts_of firsts) n (site_at k area.x1 area.y1)) (kind_row row) f.net in
+pub side_some : (deck : Deck) (s : List Shape) (wires : List Wire) (firsts : List Piece) → AreWires deck s wires firsts → (row : Row) (area : Rectangle) (n : ℕ) → IsProper area → IsDiffusion s row area → net_in wires (conductor_of row) area.x1 area.y1 ≡ Some n → all_agree wires (conductor_of row) area n ≡ true → IsSideNet deck s (firsts_of firsts) row area n
+side_some deck s wires firsts m row area n p d e agree =
+    let f : IsFound deck s (firsts_of firsts) (kind_of (conductor_of row)) area.x1 area.y1 n = net_in_some deck s wires firsts m (conductor_of row) area.x1 area.y1 n e in
+    let at : IsInNet deck s (firsts_of firsts) n (site_at (diffusion_of row) area.x1 area.y1) = subst (λ k. IsInNet deck s (firsts_of firsts) n (site_at k area.x1 area.y1)) (kind_row row) f.net in
     record {
       site = site_at (diffusion_of row) area.x1 area.y1;
       side = record {
         conducts = d.all area.x1 area.y1 (corner_held area p);
-        side = λ x y h. (d.all x y h, in_first s (firsts_of firsts) n (site_at (diffusion_of row) area.x1 area.y1) (site_at (diffusion_of row) x y) at (net_there x y h));
+        side = λ x y h. (d.all x y h, in_first deck s (firsts_of firsts) n (site_at (diffusion_of row) area.x1 area.y1) (site_at (diffusion_of row) x y) at (net_there x y h));
       };
       net = at;
     }
   where
-    net_there : (x y : ℤ) → Holds area x y → IsInNet s (firsts_of firsts) n (site_at (diffusion_of row) x y)
+    net_there : (x y : ℤ) → Holds area x y → IsInNet deck s (firsts_of firsts) n (site_at (diffusion_of row) x y)
     net_there x y h =
-        let w = in_wire s wires firsts m (site_at (diffusion_of row) x y) (d.all x y h) in
+        let w = in_wire deck s wires firsts m (site_at (diffusion_of row) x y) (d.all x y h) in
         let t : agrees (conductor_of row) area n w.wire ≡ true = all_of (agrees (conductor_of row) area n) wires agree w.wire w.listed in
         let kinds : place w.wire.piece.kind ≡ place (conductor_of row) = same_place w.wire.piece.kind (conductor_of row) (w.inside.kind ∙ sym (kind_row row)) in
-        let met : meeting area (rect_of w.wire.piece) ≡ true = (meeting_decides area (rect_of w.wire.piece) p (wire_proper s wires firsts m w.wire w.listed)).1 (record { x = x; y = y; in_a = h; in_b = w.inside.holds }) in
+        let met : meeting area (rect_of w.wire.piece) ≡ true = (meeting_decides area (rect_of w.wire.piece) p (wire_proper deck s wires firsts m w.wire w.listed)).1 (record { x = x; y = y; in_a = h; in_b = w.inside.holds }) in
         let same : w.wire.net ≡ n = eq_of w.wire.net n (agree_net (place w.wire.piece.kind == place (conductor_of row)) (meeting area (rect_of w.wire.piece)) (w.wire.net == n) t (eq-eqb (place w.wire.piece.kind) (place (conductor_of row)) kinds) met) in
-        subst (λ z. IsInNet s (firsts_of firsts) z (site_at (diffusion_of row) x y)) same (wire_net s wires firsts m w.wire w.listed (site_at (diffusion_of row) x y) w.inside)
+        subst (λ z. IsInNet deck s (firsts_of firsts) z (site_at (diffusion_of row) x y)) same (wire_net deck s wires firsts m w.wire w.listed (site_at (diffusion_of row) x y) w.inside)
 
-pub side_not_diffusion : (s : List Shape) (row : Row) (area : Rectangle) → (IsDiffusion s row area → ⊥) → (a : Site) → IsSide s (diffusion_of row) area a → ⊥
-side_not_diffusion s row area out a side = out (record { all = λ x y h. (side.side x y h).0 })
+pub side_not_diffusion : (deck : Deck) (s : List Shape) (row : Row) (area : Rectangle) → (IsDiffusion s row area → ⊥) → (a : Site) → IsSide deck s (diffusion_of row) area a → ⊥
+side_not_diffusion deck s row area out a side = out (record { all = λ x y h. (side.side x y h).0 })
 
-pub side_no_net : (s : List Shape) (wires : List Wire) (firsts : List Piece) → AreWires s wires firsts → (row : Row) (area : Rectangle) → IsProper area → net_in wires (conductor_of row) area.x1 area.y1 ≡ None → (a : Site) → IsSide s (diffusion_of row) area a → ⊥
-side_no_net s wires firsts m row area p e a side = net_in_none s wires firsts m (conductor_of row) area.x1 area.y1 e (subst (λ k. Conducts s (site_at k area.x1 area.y1)) (sym (kind_row row)) (side.side area.x1 area.y1 (corner_held area p)).0)
+pub side_no_net : (deck : Deck) (s : List Shape) (wires : List Wire) (firsts : List Piece) → AreWires deck s wires firsts → (row : Row) (area : Rectangle) → IsProper area → net_in wires (conductor_of row) area.x1 area.y1 ≡ None → (a : Site) → IsSide deck s (diffusion_of row) area a → ⊥
+side_no_net deck s wires firsts m row area p e a side = net_in_none deck s wires firsts m (conductor_of row) area.x1 area.y1 e (subst (λ k. Conducts s (site_at k area.x1 area.y1)) (sym (kind_row row)) (side.side area.x1 area.y1 (corner_held area p)).0)
 
-pub side_two_nets : (s : List Shape) (wires : List Wire) (firsts : List Piece) → AreWires s wires firsts → (row : Row) (area : Rectangle) (n : ℕ) → IsProper area → net_in wires (conductor_of row) area.x1 area.y1 ≡ Some n → all_agree wires (conductor_of row) area n ≡ false → (a : Site) → IsSide s (diffusion_of row) area a → ⊥
-side_two_nets s wires firsts m row area n p e no' a side =
+pub side_two_nets : (deck : Deck) (s : List Shape) (wires : List Wire) (firsts : List Piece) → AreWires deck s wires firsts → (row : Row) (area : Rectangle) (n : ℕ) → IsProper area → net_in wires (conductor_of row) area.x1 area.y1 ≡ Some n → all_agree wires (conductor_of row) area n ≡ false → (a : Site) → IsSide deck s (diffusion_of row) area a → ⊥
+side_two_nets deck s wires firsts m row area n p e no' a side =
     let all : all_agree wires (conductor_of row) area n ≡ true = of_all (agrees (conductor_of row) area n) wires one_by_one in
     absurd (cc (sym no' ∙ all))
   where
-    at : IsInNet s (firsts_of firsts) n (site_at (diffusion_of row) area.x1 area.y1)
-    at = subst (λ k. IsInNet s (firsts_of firsts) n (site_at k area.x1 area.y1)) (kind_row row) (net_in_some s wires firsts m (conductor_of row) area.x1 area.y1 n e).net
+    at : IsInNet deck s (firsts_of firsts) n (site_at (diffusion_of row) area.x1 area.y1)
+    at = subst (λ k. IsInNet deck s (firsts_of firsts) n (site_at k area.x1 area.y1)) (kind_row row) (net_in_some deck s wires firsts m (conductor_of row) area.x1 area.y1 n e).net
 
     one_by_one : (w : Wire) → Contains wires w → agrees (conductor_of row) area n w ≡ true
     one_by_one w c = net_agrees (place w.piece.kind == place (conductor_of row)) (meeting area (rect_of w.piece)) (w.net == n) (λ k met.
-        let there = (meeting_decides area (rect_of w.piece) p (wire_proper s wires firsts m w c)).0 met in
+        let there = (meeting_decides area (rect_of w.piece) p (wire_proper deck s wires firsts m w c)).0 met in
         let kinds : kind_of w.piece.kind ≡ diffusion_of row = same_kind_place w.piece.kind (conductor_of row) (eq_of (place w.piece.kind) (place (conductor_of row)) k) ∙ kind_row row in
-        let mine : IsInNet s (firsts_of firsts) w.net (site_at (diffusion_of row) there.x there.y) = wire_net s wires firsts m w c (site_at (diffusion_of row) there.x there.y) (record { kind = kinds; holds = there.in_b }) in
-        let first : SameNet s a (site_at (diffusion_of row) area.x1 area.y1) = (side.side area.x1 area.y1 (corner_held area p)).1 in
-        let second : SameNet s a (site_at (diffusion_of row) there.x there.y) = (side.side there.x there.y there.in_a).1 in
-        let link : SameNet s (site_at (diffusion_of row) area.x1 area.y1) (site_at (diffusion_of row) there.x there.y) = net_both s (site_at (diffusion_of row) area.x1 area.y1) a (site_at (diffusion_of row) there.x there.y) (net_back s a (site_at (diffusion_of row) area.x1 area.y1) first) second in
-        let moved : IsInNet s (firsts_of firsts) n (site_at (diffusion_of row) there.x there.y) = move_net s (firsts_of firsts) n (site_at (diffusion_of row) area.x1 area.y1) (site_at (diffusion_of row) there.x there.y) at link in
-        eq-eqb w.net n (one_number s (firsts_of firsts) w.net n (site_at (diffusion_of row) there.x there.y) m.nets mine moved))
+        let mine : IsInNet deck s (firsts_of firsts) w.net (site_at (diffusion_of row) there.x there.y) = wire_net deck s wires firsts m w c (site_at (diffusion_of row) there.x there.y) (record { kind = kinds; holds = there.in_b }) in
+        let first : SameNet deck s a (site_at (diffusion_of row) area.x1 area.y1) = (side.side area.x1 area.y1 (corner_held area p)).1 in
+        let second : SameNet deck s a (site_at (diffusion_of row) there.x there.y) = (side.side there.x there.y there.in_a).1 in
+        let link : SameNet deck s (site_at (diffusion_of row) area.x1 area.y1) (site_at (diffusion_of row) there.x there.y) = net_both deck s (site_at (diffusion_of row) area.x1 area.y1) a (site_at (diffusion_of row) there.x there.y) (net_back deck s a (site_at (diffusion_of row) area.x1 area.y1) first) second in
+        let moved : IsInNet deck s (firsts_of firsts) n (site_at (diffusion_of row) there.x there.y) = move_net deck s (firsts_of firsts) n (site_at (diffusion_of row) area.x1 area.y1) (site_at (diffusion_of row) there.x there.y) at link in
+        eq-eqb w.net n (one_number deck s (firsts_of firsts) w.net n (site_at (diffusion_of row) there.x there.y) m.nets mine moved))
 
 -- ---- the four sides of a gate
 pub source_proper : (flow : Flow) (r a : Rectangle) → IsProper r → a ≡ source_side flow r → IsProper a
@@ -206,10 +211,10 @@ ends_of one other = elim (cases_order one other) [
   | inr r ↦ elim r [ inl l ↦ inl (omega (arith, l), omega (arith, l)) | inr g ↦ inr (omega (arith, g), omega (arith, g)) ]
 ]
 
-pub along_is : (s : List Shape) (wires : List Wire) (firsts : List Piece) → AreWires s wires firsts → (p : Piece) (row : Row) (current : Current) (gate one other : ℕ) (d : Drawn) → IsProper (rect_of p) → AreClosed s (flow_of current) (rect_of p) → net_in wires Poly p.left p.low ≡ Some gate → IsSideNet s (firsts_of firsts) row (source_side (flow_of current) (rect_of p)) one → IsSideNet s (firsts_of firsts) row (drain_side (flow_of current) (rect_of p)) other → d ≡ drawn_as row gate (one, other) p current → IsAlong s (firsts_of firsts) (rect_of p) row (flow_of current) d
-along_is s wires firsts m p row current gate one other d proper closed e source drain is = subst (IsAlong s (firsts_of firsts) (rect_of p) row (flow_of current)) (sym is) (record {
+pub along_is : (deck : Deck) (s : List Shape) (wires : List Wire) (firsts : List Piece) → AreWires deck s wires firsts → (p : Piece) (row : Row) (current : Current) (gate one other : ℕ) (d : Drawn) → IsProper (rect_of p) → AreClosed s (flow_of current) (rect_of p) → net_in wires Poly p.left p.low ≡ Some gate → IsSideNet deck s (firsts_of firsts) row (source_side (flow_of current) (rect_of p)) one → IsSideNet deck s (firsts_of firsts) row (drain_side (flow_of current) (rect_of p)) other → d ≡ drawn_as row gate (one, other) p current → IsAlong deck s (firsts_of firsts) (rect_of p) row (flow_of current) d
+along_is deck s wires firsts m p row current gate one other d proper closed e source drain is = subst (IsAlong deck s (firsts_of firsts) (rect_of p) row (flow_of current)) (sym is) (record {
   of_row = refl;
-  gate = (net_in_some s wires firsts m Poly p.left p.low gate e).net;
+  gate = (net_in_some deck s wires firsts m Poly p.left p.low gate e).net;
   one = one;
   other = other;
   source = source;
@@ -221,16 +226,16 @@ along_is s wires firsts m p row current gate one other d proper closed e source 
   size = size_of current p proper;
 })
 
-pub along_drawn : (s : List Shape) (firsts : List Site) (r : Rectangle) (row : Row) (flow : Flow) (d : Drawn) → IsGateBox s r → IsInRow s row r → IsAlong s firsts r row flow d → IsDrawn s firsts r d
-along_drawn s firsts r row flow d box in_row a = record {
+pub along_drawn : (deck : Deck) (s : List Shape) (firsts : List Site) (r : Rectangle) (row : Row) (flow : Flow) (d : Drawn) → IsGateBox s r → IsInRow s row r → IsAlong deck s firsts r row flow d → IsDrawn deck s firsts r d
+along_drawn deck s firsts r row flow d box in_row a = record {
   gate = site_at poly r.x1 r.y1;
   left = a.source.site;
   right = a.drain.site;
-  is = subst (λ w. IsDevice s r w (site_at poly r.x1 r.y1) a.source.site a.drain.site d.width d.length) (sym a.of_row) (record {
+  is = subst (λ w. IsDevice deck s r w (site_at poly r.x1 r.y1) a.source.site a.drain.site d.width d.length) (sym a.of_row) (record {
     flow = flow;
     class = box;
     of_row = in_row.all;
-    gate_net = net_self s (site_at poly r.x1 r.y1) (box.gate r.x1 r.y1 (corner_held r box.proper)).1;
+    gate_net = net_self deck s (site_at poly r.x1 r.y1) (box.gate r.x1 r.y1 (corner_held r box.proper)).1;
     left_side = a.source.side;
     right_side = a.drain.side;
     low = a.low;
@@ -239,34 +244,34 @@ along_drawn s firsts r row flow d box in_row a = record {
   });
   gate_net = a.gate;
   sides = elim a.ends [
-    | inl e ↦ inl (subst (λ n. IsInNet s firsts n a.source.site) (sym e.0) a.source.net, subst (λ n. IsInNet s firsts n a.drain.site) (sym e.1) a.drain.net)
-    | inr e ↦ inr (subst (λ n. IsInNet s firsts n a.drain.site) (sym e.0) a.drain.net, subst (λ n. IsInNet s firsts n a.source.site) (sym e.1) a.source.net)
+    | inl e ↦ inl (subst (λ n. IsInNet deck s firsts n a.source.site) (sym e.0) a.source.net, subst (λ n. IsInNet deck s firsts n a.drain.site) (sym e.1) a.drain.net)
+    | inr e ↦ inr (subst (λ n. IsInNet deck s firsts n a.drain.site) (sym e.0) a.drain.net, subst (λ n. IsInNet deck s firsts n a.source.site) (sym e.1) a.source.net)
   ];
   order = a.order;
 }
 
 -- a cell is in one row
-row_one : (s : List Shape) (a b : Row) (x y : ℤ) → InRow a s x y → InRow b s x y → a ≡ b
+pub row_one : (s : List Shape) (a b : Row) (x y : ℤ) → InRow a s x y → InRow b s x y → a ≡ b
 row_one s P P x y u v = refl
 row_one s P N x y u v = absurd (v u)
 row_one s N P x y u v = absurd (u v)
 row_one s N N x y u v = refl
 
-pub no_device : (s : List Shape) (r : Rectangle) (row : Row) → IsProper r → IsInRow s row r → IsNotAlong s r row rightward → IsNotAlong s r row upward → IsSomeDevice s r → ⊥
-no_device s r row p in_row across up d =
+pub no_device : (deck : Deck) (s : List Shape) (r : Rectangle) (row : Row) → IsProper r → IsInRow s row r → IsNotAlong deck s r row rightward → IsNotAlong deck s r row upward → IsSomeDevice deck s r → ⊥
+no_device deck s r row p in_row across up d =
     let c = corner_held r p in
     let same : d.row ≡ row = row_one s d.row row r.x1 r.y1 (d.is.of_row r.x1 r.y1 c) (in_row.all r.x1 r.y1 c) in
-    by (subst (λ w. IsDevice s r w d.gate d.left d.right d.width d.length) same d.is)
+    by (subst (λ w. IsDevice deck s r w d.gate d.left d.right d.width d.length) same d.is)
   where
-    at : (f : Flow) → IsSide s (diffusion_of row) (source_side f r) d.left → IsSide s (diffusion_of row) (drain_side f r) d.right → IsClosed s (low_end f r) → IsClosed s (high_end f r) → ⊥
+    at : (f : Flow) → IsSide deck s (diffusion_of row) (source_side f r) d.left → IsSide deck s (diffusion_of row) (drain_side f r) d.right → IsClosed s (low_end f r) → IsClosed s (high_end f r) → ⊥
     at rightward a b l h = across.never d.left d.right a b l h
     at upward a b l h = up.never d.left d.right a b l h
 
-    by : IsDevice s r row d.gate d.left d.right d.width d.length → ⊥
+    by : IsDevice deck s r row d.gate d.left d.right d.width d.length → ⊥
     by is = at is.flow is.left_side is.right_side is.low is.high
 
-pub no_row : (s : List Shape) (r : Rectangle) → (IsInRow s P r → ⊥) → (IsInRow s N r → ⊥) → IsSomeDevice s r → ⊥
-no_row s r p n d = by d.row d.is.of_row
+pub no_row : (deck : Deck) (s : List Shape) (r : Rectangle) → (IsInRow s P r → ⊥) → (IsInRow s N r → ⊥) → IsSomeDevice deck s r → ⊥
+no_row deck s r p n d = by d.row d.is.of_row
   where
     by : (row : Row) → ((x y : ℤ) → Holds r x y → InRow row s x y) → ⊥
     by P h = p (record { all = h })

@@ -1,5 +1,5 @@
 -- Areas of cells, and how far they are covered.
-use Rattle.std.specs.Prelude.{◌≡◌, ℤ, pos, ◌≤ℤ◌, ◌<ℤ◌, Bool, ◌&&◌, Option, List}
+use Rattle.std.specs.Prelude.{ℤ, ◌≤ℤ◌, ◌<ℤ◌, Bool, ◌&&◌, Option, List}
 use Rattle.std.specs.Option.{option_map}
 use Rattle.std.specs.List.{find, list_any}
 use Rattle.box_geom.specs.Comparisons.{holding, overlapping}

@@ -1,5 +1,5 @@
 -- Devices: rectangles of gate cells between two sides of diffusion.
-use Rattle.std.specs.Prelude.{◌≡◌, ℤ, pos, ◌+ℤ◌, ◌-ℤ◌, ◌≤ℤ◌, ◌<ℤ◌, ◌↔◌, ℕ, List, ◌⊎◌}
+use Rattle.std.specs.Prelude.{◌≡◌, ℤ, pos, ◌+ℤ◌, ◌-ℤ◌, ◌≤ℤ◌, ◌↔◌, ℕ, List}
 use Rattle.std.specs.List.{AllPairs, Contains}
 use Rattle.box_geom.specs.Rectangle.{Rectangle, IsProper, Holds}
 use Rattle.box_geom.specs.declared.shape.Shape.{Shape}
@@ -8,6 +8,7 @@ use Rattle.cell_num.specs.declared.finger.Row.{Row}
 use Rattle.cell_num.specs.declared.finger.Row.TheVariants.{P, N}
 use Rattle.scmos_rules.specs.Failing.{SameClass}
 use Rattle.scmos_rules.specs.Layout.{On, Gate}
+use Rattle.scmos_rules.specs.declared.rules.Deck.{Deck}
 use Rattle.net_extract.specs.Nets.{Kind, p_diffusion, n_diffusion, poly, Site, site_at, Conducts, SameNet}
 
 -- the cells of the box are gate cells, and are all that are chained to one of them by shared edges
@@ -39,9 +40,9 @@ abbrev pub above : Rectangle → Rectangle
 above r = record { x1 = r.x1; y1 = r.y2; x2 = r.x2; y2 = r.y2 +ℤ pos 1 }
 
 -- every cell of the strip is of the kind and in the net of site a
-pub record IsSide (s : List Shape) (k : Kind) (strip : Rectangle) (a : Site) : Type 0 where
+pub record IsSide (deck : Deck) (s : List Shape) (k : Kind) (strip : Rectangle) (a : Site) : Type 0 where
   pub conducts : Conducts s a
-  pub side : (x y : ℤ) → Holds strip x y → Conducts s (site_at k x y) × SameNet s a (site_at k x y)
+  pub side : (x y : ℤ) → Holds strip x y → Conducts s (site_at k x y) × SameNet deck s a (site_at k x y)
 
 -- no cell of the strip is active
 pub record IsClosed (s : List Shape) (strip : Rectangle) : Type 0 where
@@ -74,26 +75,26 @@ pub record IsSize (flow : Flow) (r : Rectangle) (width length : ℕ) : Type 0 wh
   pub upright : flow ≡ upward → (r.x2 ≡ r.x1 +ℤ pos width) × (r.y2 ≡ r.y1 +ℤ pos length)
 
 -- a device by cells: its gate and its sides are given by any site of their nets
-pub record IsDevice (s : List Shape) (box : Rectangle) (row : Row) (gate left right : Site) (width length : ℕ) : Type 0 where
+pub record IsDevice (deck : Deck) (s : List Shape) (box : Rectangle) (row : Row) (gate left right : Site) (width length : ℕ) : Type 0 where
   pub flow : Flow
   pub class : IsGateBox s box
   pub of_row : (x y : ℤ) → Holds box x y → InRow row s x y
-  pub gate_net : SameNet s gate (site_at poly box.x1 box.y1)
-  pub left_side : IsSide s (diffusion_of row) (source_side flow box) left
-  pub right_side : IsSide s (diffusion_of row) (drain_side flow box) right
+  pub gate_net : SameNet deck s gate (site_at poly box.x1 box.y1)
+  pub left_side : IsSide deck s (diffusion_of row) (source_side flow box) left
+  pub right_side : IsSide deck s (diffusion_of row) (drain_side flow box) right
   pub low : IsClosed s (low_end flow box)
   pub high : IsClosed s (high_end flow box)
   pub size : IsSize flow box width length
 
 -- the box is a device, whatever its row, nets and size
-pub record IsSomeDevice (s : List Shape) (box : Rectangle) : Type 0 where
+pub record IsSomeDevice (deck : Deck) (s : List Shape) (box : Rectangle) : Type 0 where
   pub row : Row
   pub gate : Site
   pub left : Site
   pub right : Site
   pub width : ℕ
   pub length : ℕ
-  pub is : IsDevice s box row gate left right width length
+  pub is : IsDevice deck s box row gate left right width length
 
 -- the cell (x, y) does not come behind (u, v): by row from below, then from the left
 pub record NotBehindCell (x y u v : ℤ) : Type 0 where
@@ -101,15 +102,15 @@ pub record NotBehindCell (x y u v : ℤ) : Type 0 where
   pub column : v ≤ℤ y → x ≤ℤ u
 
 -- the first cell of a class of gate cells that is no device
-pub record IsOdd (s : List Shape) (x y : ℤ) : Type 0 where
+pub record IsOdd (deck : Deck) (s : List Shape) (x y : ℤ) : Type 0 where
   pub gate : Gate s x y
   pub first : (u v : ℤ) → SameClass (Gate s) x y u v → NotBehindCell x y u v
-  pub odd : (box : Rectangle) → Holds box x y → IsSomeDevice s box → ⊥
+  pub odd : (box : Rectangle) → Holds box x y → IsSomeDevice deck s box → ⊥
 
 -- the first class of gate cells that is no device begins here
-pub record IsFirstOdd (s : List Shape) (x y : ℤ) : Type 0 where
-  pub odd : IsOdd s x y
-  pub first : (u v : ℤ) → IsOdd s u v → NotBehindCell x y u v
+pub record IsFirstOdd (deck : Deck) (s : List Shape) (x y : ℤ) : Type 0 where
+  pub odd : IsOdd deck s x y
+  pub first : (u v : ℤ) → IsOdd deck s u v → NotBehindCell x y u v
 
 -- one box begins before another
 pub record BeginsBefore (a b : Rectangle) : Type 0 where
@@ -117,8 +118,8 @@ pub record BeginsBefore (a b : Rectangle) : Type 0 where
   pub other : NotBehindCell b.x1 b.y1 a.x1 a.y1 → ⊥
 
 -- all classes of gate cells, each a device, by their first cells
-pub record AreDevices (s : List Shape) (boxes : List Rectangle) : Type 0 where
+pub record AreDevices (deck : Deck) (s : List Shape) (boxes : List Rectangle) : Type 0 where
   pub ascending : AllPairs BeginsBefore boxes
-  pub devices : (box : Rectangle) → Contains boxes box → IsSomeDevice s box
-  pub all : (box : Rectangle) → IsSomeDevice s box → Contains boxes box
-  pub none_odd : (x y : ℤ) → IsOdd s x y → ⊥
+  pub devices : (box : Rectangle) → Contains boxes box → IsSomeDevice deck s box
+  pub all : (box : Rectangle) → IsSomeDevice deck s box → Contains boxes box
+  pub none_odd : (x y : ℤ) → IsOdd deck s x y → ⊥

@@ -1,18 +1,20 @@
 -- The gate cells of a drawing as a drawing of their own, whose nets are the classes of gate cells.
-use Rattle.std.specs.Prelude.{◌≡◌, ◌↔◌, ℕ, zero, suc, ◌<◌, ◌==◌, ℤ, if◌then◌else◌, List, [], ◌∷◌, ◌++◌, get_or, fold, length}
+use Rattle.std.specs.Prelude.{◌≡◌, ◌↔◌, ℕ, zero, suc, ◌==◌, ℤ, if◌then◌else◌, List, [], ◌∷◌, ◌++◌, get_or, fold}
 use Rattle.std.specs.Int.{int_max, int_min}
 use Rattle.std.specs.List.{Contains, AllZip}
 use Rattle.box_geom.specs.Rectangle.{Rectangle, Holds}
 use Rattle.box_geom.specs.declared.shape.Shape.{Shape}
 use Rattle.box_geom.specs.declared.layer.Layer.TheVariants.{Poly}
 use Rattle.scmos_rules.specs.Layout.{On, Gate}
-use Rattle.net_extract.specs.Devices.{IsOdd, IsFirstOdd, AreDevices}
+use Rattle.scmos_rules.specs.declared.rules.Deck.{Deck}
+use Rattle.scmos_rules.specs.declared.rules.Deck.TheVariants.{Plain}
+use Rattle.net_extract.specs.Devices.{IsFirstOdd, AreDevices}
 use Rattle.net_extract.specs.Extraction.{IsDrawn}
 use Rattle.net_extract.specs.Nets.{Site}
 use Rattle.net_extract.specs.NetMaps.{AreWires, blank}
 use Rattle.net_extract.specs.Pieces.{rect_of}
 use Rattle.net_extract.specs.declared.fault.ExtractFault.{ExtractFault}
-use Rattle.net_extract.specs.declared.fault.ExtractFault.TheVariants.{TooMany, OddDevice, Stray, Short, Split, NoMemory}
+use Rattle.net_extract.specs.declared.fault.ExtractFault.TheVariants.{OddDevice, NoMemory}
 use Rattle.net_extract.specs.declared.netlist.Drawn.{Drawn}
 use Rattle.net_extract.specs.declared.piece.Piece.{Piece}
 use Rattle.net_extract.specs.declared.netmap.Wire.{Wire}
@@ -26,7 +28,7 @@ pub record AreGates (s gates : List Shape) : Type 0 where
 pub record AreGateNets (s : List Shape) (wires : List Wire) (firsts : List Piece) : Type 0 where
   pub gates : List Shape
   pub are : AreGates s gates
-  pub nets : AreWires gates wires firsts
+  pub nets : AreWires Plain gates wires firsts
 
 -- the piece widened to a wire of the net
 abbrev pub wider : ℕ → Piece → Wire → Piece
@@ -49,12 +51,12 @@ pub record IsAllGate (s : List Shape) (box : Rectangle) : Type 0 where
   pub all : (x y : ℤ) → Holds box x y → Gate s x y
 
 -- all classes of gates are devices, and these are listed
-pub record AreFound (s : List Shape) (firsts : List Site) (devices : List Drawn) : Type 0 where
+pub record AreFound (deck : Deck) (s : List Shape) (firsts : List Site) (devices : List Drawn) : Type 0 where
   pub boxes : List Rectangle
-  pub are : AreDevices s boxes
-  pub drawn : AllZip (IsDrawn s firsts) boxes devices
+  pub are : AreDevices deck s boxes
+  pub drawn : AllZip (IsDrawn deck s firsts) boxes devices
 
-abbrev pub IsOddFault : List Shape → ExtractFault → Type 0
-IsOddFault s (OddDevice x y) = IsFirstOdd s x y
-IsOddFault s NoMemory = Unit {0}
-IsOddFault s _ = ⊥
+abbrev pub IsOddFault : Deck → List Shape → ExtractFault → Type 0
+IsOddFault deck s (OddDevice x y) = IsFirstOdd deck s x y
+IsOddFault deck s NoMemory = Unit {0}
+IsOddFault deck s _ = ⊥

@@ -1,15 +1,16 @@
 -- Labels and the conductor cells that they belong to.
-use Rattle.std.specs.Prelude.{◌≡◌, ℤ, pos, ◌-ℤ◌, ℕ, Bool, true, false, not, ◌&&◌, ◌||◌, ◌==◌, if◌then◌else◌, Option, Some, None, IsNone, List, [], ◌∷◌, ◌++◌, map, ◌⊎◌, IsTrue, length, codes, decimal}
-use Rattle.std.specs.List.{filter, AllZip, Contains, range_with_len}
-use Rattle.std.specs.Str.{bytes_eq}
+use Rattle.std.specs.Prelude.{◌≡◌, ℤ, pos, ◌-ℤ◌, ℕ, Bool, ◌||◌, List, [], ◌∷◌, ◌++◌, ◌⊎◌}
+use Rattle.std.specs.List.{filter, AllZip, Contains}
 use Rattle.box_geom.specs.Touching.{Cell}
 use Rattle.box_geom.specs.Layers.{same_layer}
 use Rattle.box_geom.specs.declared.shape.Shape.{Shape}
 use Rattle.box_geom.specs.declared.shape.Label.{Label}
+use Rattle.box_geom.specs.declared.shape.Shapes.{Shapes}
 use Rattle.box_geom.specs.declared.layer.Layer.{Layer}
 use Rattle.box_geom.specs.declared.layer.Layer.TheVariants.{Active, Poly, Metal1, Metal2}
+use Rattle.scmos_rules.specs.declared.rules.Deck.{Deck}
 use Rattle.net_extract.specs.declared.naming.Held.{Held}
-use Rattle.net_extract.specs.Nets.{Kind, layer_of, Site, Conducts}
+use Rattle.net_extract.specs.Nets.{layer_of, Site, Conducts, SameNet}
 use Rattle.net_extract.specs.Numbering.{IsInNet}
 
 -- labels on the layers of conductors; all others are ignored
@@ -49,15 +50,15 @@ abbrev pub IsStray : List Shape → Label → Type 0
 IsStray s l = (a : Site) → Belongs s l a → ⊥
 
 -- the label's name and the number of its net
-pub record IsHeld (s : List Shape) (firsts : List Site) (l : Label) (h : Held) : Type 0 where
+pub record IsHeld (deck : Deck) (s : List Shape) (firsts : List Site) (l : Label) (h : Held) : Type 0 where
   pub name : h.name ≡ l.name
   pub site : Site
   pub belongs : Belongs s l site
-  pub net : IsInNet s firsts h.net site
+  pub net : IsInNet deck s firsts h.net site
 
 -- every label on a layer of conductors in the order of the list, with its net
-abbrev pub AreHeld : List Shape → List Site → List Label → List Held → Type 0
-AreHeld s firsts labels held = AllZip (IsHeld s firsts) (wiring_labels labels) held
+abbrev pub AreHeld : Deck → List Shape → List Site → List Label → List Held → Type 0
+AreHeld deck s firsts labels held = AllZip (IsHeld deck s firsts) (wiring_labels labels) held
 
 -- the first label that is stray, and the labels before it
 pub record IsFirstStray (s : List Shape) (labels : List Label) (name : List ℕ) : Type 0 where
@@ -68,3 +69,12 @@ pub record IsFirstStray (s : List Shape) (labels : List Label) (name : List ℕ)
   pub fine : (l : Label) → Contains before l → IsStray s l → ⊥
   pub stray : IsStray s label
   pub named : label.name ≡ name
+
+-- a label of this name belongs to a conductor cell of the site's net
+pub record IsNamed (deck : Deck) (shapes : Shapes) (name : List ℕ) (a : Site) : Type 0 where
+  pub label : Label
+  pub listed : Contains shapes.labels label
+  pub reads : label.name ≡ name
+  pub at : Site
+  pub belongs : Belongs shapes.rects label at
+  pub same : SameNet deck shapes.rects at a

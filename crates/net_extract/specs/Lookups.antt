@@ -1,5 +1,5 @@
 -- Where the code finds the net of a place and of a label.
-use Rattle.std.specs.Prelude.{◌≡◌, ℕ, ℤ, pos, ◌-ℤ◌, Bool, true, false, ◌&&◌, ◌==◌, if◌then◌else◌, Option, Some, None, is_some, not, List, [], ◌∷◌, map}
+use Rattle.std.specs.Prelude.{◌≡◌, ℕ, ℤ, pos, ◌-ℤ◌, Bool, ◌&&◌, ◌==◌, if◌then◌else◌, Option, Some, None, is_some, not, List}
 use Rattle.std.specs.Option.{option_map}
 use Rattle.std.specs.List.{find, filter_map}
 use Rattle.box_geom.specs.Comparisons.{holding}
@@ -10,7 +10,7 @@ use Rattle.net_extract.specs.Labels.{is_wiring}
 use Rattle.net_extract.specs.Pieces.{place, rect_of}
 use Rattle.net_extract.specs.declared.naming.Held.{Held}
 use Rattle.net_extract.specs.declared.fault.ExtractFault.{ExtractFault}
-use Rattle.net_extract.specs.declared.fault.ExtractFault.TheVariants.{TooMany, OddDevice, Stray, Short, Split, NoMemory}
+use Rattle.net_extract.specs.declared.fault.ExtractFault.TheVariants.{Stray, NoMemory}
 use Rattle.net_extract.specs.declared.piece.Conductor.{Conductor}
 use Rattle.net_extract.specs.declared.piece.Conductor.TheVariants.{PDiffusion, NDiffusion, Poly, Metal1, Metal2}
 use Rattle.net_extract.specs.declared.piece.Piece.{Piece}

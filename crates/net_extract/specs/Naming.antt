@@ -6,7 +6,7 @@ use Rattle.std.specs.List.{find, list_any, range_with_len}
 use Rattle.std.specs.Str.{bytes_eq}
 use Rattle.net_extract.specs.declared.naming.Held.{Held}
 use Rattle.net_extract.specs.declared.fault.ExtractFault.{ExtractFault}
-use Rattle.net_extract.specs.declared.fault.ExtractFault.TheVariants.{TooMany, OddDevice, Stray, Short, Split, NoMemory}
+use Rattle.net_extract.specs.declared.fault.ExtractFault.TheVariants.{Short, Split, NoMemory}
 
 -- the first label of a net
 abbrev pub label_of : ℕ → List Held → Option (List ℕ)

@@ -1,7 +1,8 @@
 -- The nets of a drawing as the code keeps them: each piece of conductor with its net's number.
-use Rattle.std.specs.Prelude.{◌≡◌, ℕ, zero, suc, ◌+◌, ◌<◌, ◌==◌, ℤ, pos, if◌then◌else◌, List, [], ◌∷◌, ◌++◌, map, length, get_or, slice_get, Some, take, Option, None}
+use Rattle.std.specs.Prelude.{◌≡◌, ℕ, zero, suc, ◌<◌, ◌==◌, ℤ, pos, if◌then◌else◌, List, [], ◌∷◌, ◌++◌, map, get_or, slice_get, Some, take}
 use Rattle.std.specs.List.{All}
 use Rattle.box_geom.specs.declared.shape.Shape.{Shape}
+use Rattle.scmos_rules.specs.declared.rules.Deck.{Deck}
 use Rattle.net_extract.specs.Nets.{Kind, Site, site_at, Conducts}
 use Rattle.net_extract.specs.Parts.{AreDrawn}
 use Rattle.net_extract.specs.Numbering.{AreNets, IsInNet}
@@ -21,15 +22,15 @@ abbrev pub nets_of : List Wire → List ℕ
 nets_of wires = map (λ (w : Wire). w.net) wires
 
 -- the pieces are the conductor, the firsts are the first pieces of all nets, and each piece has its net's number
-pub record AreWires (s : List Shape) (wires : List Wire) (firsts : List Piece) : Type 0 where
+pub record AreWires (deck : Deck) (s : List Shape) (wires : List Wire) (firsts : List Piece) : Type 0 where
   pub drawn : AreDrawn s (rects_in (pieces_of wires))
-  pub nets : AreNets s (firsts_of firsts)
-  pub numbers : All (λ (w : Wire). IsInNet s (firsts_of firsts) w.net (corner_of w.piece)) wires
+  pub nets : AreNets deck s (firsts_of firsts)
+  pub numbers : All (λ (w : Wire). IsInNet deck s (firsts_of firsts) w.net (corner_of w.piece)) wires
 
 -- the conductor cell at a place and its number
-pub record IsFound (s : List Shape) (firsts : List Site) (k : Kind) (x y : ℤ) (n : ℕ) : Type 0 where
+pub record IsFound (deck : Deck) (s : List Shape) (firsts : List Site) (k : Kind) (x y : ℤ) (n : ℕ) : Type 0 where
   pub conducts : Conducts s (site_at k x y)
-  pub net : IsInNet s firsts n (site_at k x y)
+  pub net : IsInNet deck s firsts n (site_at k x y)
 
 abbrev pub blank : Piece
 blank = record { low = pos 0; left = pos 0; kind = PDiffusion; top = pos 0; right = pos 0 }

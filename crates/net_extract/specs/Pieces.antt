@@ -1,11 +1,12 @@
 -- Rectangles of conductor as the code lists them.
-use Rattle.std.specs.Prelude.{◌≡◌, ℕ, ℤ, Bool, true, false, if◌then◌else◌, Some, Option, None, slice_get, List, [], ◌∷◌, map}
+use Rattle.std.specs.Prelude.{◌≡◌, ℕ, Bool, true, false, if◌then◌else◌, Some, Option, None, slice_get, List, [], ◌∷◌}
 use Rattle.std.specs.declared.cmp.Ordering.{Ordering}
 use Rattle.std.specs.Ordering.{nat_cmp, int_cmp, ordering_then}
 use Rattle.box_geom.specs.Rectangle.{Rectangle}
 use Rattle.box_geom.specs.declared.shape.Shape.{Shape}
 use Rattle.box_geom.specs.declared.layer.Layer.{Layer}
 use Rattle.box_geom.specs.declared.layer.Layer.TheVariants.{Contact, Via}
+use Rattle.scmos_rules.specs.declared.rules.Deck.{Deck}
 use Rattle.net_extract.specs.Nets.{Kind, p_diffusion, n_diffusion, poly, metal1, metal2, Site, site_at}
 use Rattle.net_extract.specs.Parts.{Part, Bond}
 use Rattle.net_extract.specs.declared.piece.Conductor.{Conductor}
@@ -67,9 +68,9 @@ link_layer Metal2 Metal1 = Some Via
 link_layer _ _ = None
 
 -- pieces number i and j are bonded
-pub record Paired (s : List Shape) (ps : List Piece) (i j : ℕ) : Type 0 where
+pub record Paired (deck : Deck) (s : List Shape) (ps : List Piece) (i j : ℕ) : Type 0 where
   pub one : Piece
   pub other : Piece
   pub at_one : slice_get ps i ≡ Some one
   pub at_other : slice_get ps j ≡ Some other
-  pub bond : Bond s (part_of one) (part_of other)
+  pub bond : Bond deck s (part_of one) (part_of other)

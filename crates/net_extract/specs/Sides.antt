@@ -5,7 +5,8 @@ use Rattle.box_geom.specs.Rectangle.{Rectangle, Holds}
 use Rattle.box_geom.specs.declared.shape.Shape.{Shape}
 use Rattle.cell_num.specs.declared.finger.Row.{Row}
 use Rattle.cell_num.specs.declared.finger.Row.TheVariants.{P, N}
-use Rattle.net_extract.specs.Nets.{Kind, poly, Site, site_at, Conducts, SameNet}
+use Rattle.scmos_rules.specs.declared.rules.Deck.{Deck}
+use Rattle.net_extract.specs.Nets.{poly, Site, site_at, Conducts}
 use Rattle.net_extract.specs.Numbering.{IsInNet}
 use Rattle.net_extract.specs.Devices.{InRow, diffusion_of, IsSide, IsClosed, IsSize, Flow, rightward, upward, source_side, drain_side, low_end, high_end}
 use Rattle.net_extract.specs.Pieces.{place, rect_of}
@@ -42,19 +43,19 @@ abbrev pub all_agree : List Wire → Conductor → Rectangle → ℕ → Bool
 all_agree wires k area n = list_all (agrees k area n) wires
 
 -- the area is a side of diffusion whose net has the number
-pub record IsSideNet (s : List Shape) (firsts : List Site) (row : Row) (area : Rectangle) (n : ℕ) : Type 0 where
+pub record IsSideNet (deck : Deck) (s : List Shape) (firsts : List Site) (row : Row) (area : Rectangle) (n : ℕ) : Type 0 where
   pub site : Site
-  pub side : IsSide s (diffusion_of row) area site
-  pub net : IsInNet s firsts n site
+  pub side : IsSide deck s (diffusion_of row) area site
+  pub net : IsInNet deck s firsts n site
 
 -- the device of a gate box for one direction of the current
-pub record IsAlong (s : List Shape) (firsts : List Site) (box : Rectangle) (row : Row) (flow : Flow) (d : Drawn) : Type 0 where
+pub record IsAlong (deck : Deck) (s : List Shape) (firsts : List Site) (box : Rectangle) (row : Row) (flow : Flow) (d : Drawn) : Type 0 where
   pub of_row : d.row ≡ row
-  pub gate : IsInNet s firsts d.gate (site_at poly box.x1 box.y1)
+  pub gate : IsInNet deck s firsts d.gate (site_at poly box.x1 box.y1)
   pub one : ℕ
   pub other : ℕ
-  pub source : IsSideNet s firsts row (source_side flow box) one
-  pub drain : IsSideNet s firsts row (drain_side flow box) other
+  pub source : IsSideNet deck s firsts row (source_side flow box) one
+  pub drain : IsSideNet deck s firsts row (drain_side flow box) other
   pub ends : ((d.lo ≡ one) × (d.hi ≡ other)) ⊎ ((d.lo ≡ other) × (d.hi ≡ one))
   pub order : d.lo ≤ d.hi
   pub low : IsClosed s (low_end flow box)
@@ -62,8 +63,8 @@ pub record IsAlong (s : List Shape) (firsts : List Site) (box : Rectangle) (row 
   pub size : IsSize flow box d.width d.length
 
 -- no current flows so
-pub record IsNotAlong (s : List Shape) (box : Rectangle) (row : Row) (flow : Flow) : Type 0 where
-  pub never : (left right : Site) → IsSide s (diffusion_of row) (source_side flow box) left → IsSide s (diffusion_of row) (drain_side flow box) right → IsClosed s (low_end flow box) → IsClosed s (high_end flow box) → ⊥
+pub record IsNotAlong (deck : Deck) (s : List Shape) (box : Rectangle) (row : Row) (flow : Flow) : Type 0 where
+  pub never : (left right : Site) → IsSide deck s (diffusion_of row) (source_side flow box) left → IsSide deck s (diffusion_of row) (drain_side flow box) right → IsClosed s (low_end flow box) → IsClosed s (high_end flow box) → ⊥
 
 pub record AreClosed (s : List Shape) (flow : Flow) (box : Rectangle) : Type 0 where
   pub low : IsClosed s (low_end flow box)
@@ -81,6 +82,6 @@ abbrev pub drawn_as : Row → ℕ → ℕ × ℕ → Piece → Current → Drawn
 drawn_as row gate ends p current = record { row = row; gate = gate; lo = min ends.0 ends.1; hi = max ends.0 ends.1; width = width_of current p; length = length_of current p }
 
 -- the nets along the two sides that the current flows through
-pub record AreSideNets (s : List Shape) (firsts : List Site) (box : Rectangle) (row : Row) (flow : Flow) (ends : ℕ × ℕ) : Type 0 where
-  pub source : IsSideNet s firsts row (source_side flow box) ends.0
-  pub drain : IsSideNet s firsts row (drain_side flow box) ends.1
+pub record AreSideNets (deck : Deck) (s : List Shape) (firsts : List Site) (box : Rectangle) (row : Row) (flow : Flow) (ends : ℕ × ℕ) : Type 0 where
+  pub source : IsSideNet deck s firsts row (source_side flow box) ends.0
+  pub drain : IsSideNet deck s firsts row (drain_side flow box) ends.1

@@ -3,6 +3,7 @@ ghost use Rattle.std.specs.Prelude.{◌≡◌, ◌↔◌, IsTrue, IfSome};
 ghost use Rattle.box_geom.specs.Comparisons.{overlapping, reaching, beside, stacked, touching};
 ghost use Rattle.box_geom.specs.Layers.{same_layer};
 ghost use Rattle.box_geom.specs.Rectangle.{IsProper};
+ghost use Rattle.scmos_rules.specs.declared.rules.Deck.TheVariants.{Plain};
 ghost use Rattle.net_extract.specs.Meetings.{sharing, crossing_across, crossing_upward, crossing, linking, sharing_cell, linking_by, bonding};
 ghost use Rattle.net_extract.specs.Parts.{Bond};
 ghost use Rattle.net_extract.specs.Pieces.{place, rect_of, part_of, link_layer};
@@ -127,7 +128,7 @@ fn do_bond(shapes: &[Shape], a: &Piece, b: &Piece) -> bool
 pub(crate) fn are_bonded(shapes: &[Shape], a: &Piece, b: &Piece) -> bool
     requires one { IsProper (rect_of a.now) }
     requires other { IsProper (rect_of b.now) }
-    ensures { IsTrue result ↔ Bond shapes.now (part_of a.now) (part_of b.now) }
+    ensures { IsTrue result ↔ Bond Plain shapes.now (part_of a.now) (part_of b.now) }
 {
     do_bond(shapes, a, b)
 }

@@ -3,6 +3,7 @@
 ghost use Rattle.std.specs.Prelude.{◌≡◌, ◌<◌, ◌≤◌, length, get_or, int_lt, IfOk, All, IsSorted};
 ghost use Rattle.std.specs.List.{range_with_len};
 ghost use Rattle.box_geom.specs.Rectangle.{IsProper};
+ghost use Rattle.scmos_rules.specs.declared.rules.Deck.TheVariants.{Plain};
 ghost use Rattle.net_extract.specs.Classes.{AreLow, IsRoot, hung, raised, IsJoined, AreRoots, AreSound, AreTrees, AreLeast, AreTried, IsTried};
 ghost use Rattle.net_extract.specs.Pieces.{rect_of, piece_cmp, Paired};
 
@@ -48,11 +49,12 @@ fn join(parents: &mut Vec<usize>, one: usize, other: usize)
 }
 
 fn try_join(parents: &mut Vec<usize>, shapes: &[Shape], pieces: &[Piece], at: usize, later: usize)
-    requires sound { AreSound (length pieces.now) (Paired shapes.now pieces.now) parents.old.items }
+    requires sound { AreSound (length pieces.now) (Paired Plain shapes.now pieces.now) parents.old.items }
     requires proper { All (λ p. IsProper (rect_of p)) pieces.now }
     requires at { at < length pieces.now }
     requires later { later < length pieces.now }
-    ensures { IsTried (length pieces.now) (Paired shapes.now pieces.now) at later parents.old.items parents.new.items }
+    ensures { IsTried (length pieces.now) (Paired Plain shapes.now pieces.now) at later parents.old.items
+        parents.new.items }
 {
     if are_bonded(shapes, &pieces[at], &pieces[later]) {
         join(parents, at, later);
@@ -66,11 +68,11 @@ fn is_below(piece: &Piece, later: &Piece) -> bool
 }
 
 fn join_later(parents: &mut Vec<usize>, shapes: &[Shape], pieces: &[Piece], at: usize)
-    requires sound { AreSound (length pieces.now) (Paired shapes.now pieces.now) parents.old.items }
+    requires sound { AreSound (length pieces.now) (Paired Plain shapes.now pieces.now) parents.old.items }
     requires proper { All (λ p. IsProper (rect_of p)) pieces.now }
     requires sorted { IsSorted piece_cmp pieces.now }
     requires at { at < length pieces.now }
-    ensures { AreTried (length pieces.now) (Paired shapes.now pieces.now) at (length pieces.now) parents.old.items
+    ensures { AreTried (length pieces.now) (Paired Plain shapes.now pieces.now) at (length pieces.now) parents.old.items
         parents.new.items }
 {
     for later in at + 1..pieces.len() {
@@ -85,7 +87,7 @@ fn join_all(parents: &mut Vec<usize>, shapes: &[Shape], pieces: &[Piece])
     requires first { parents.old.items ≡ range_with_len 0 (length pieces.now) }
     requires proper { All (λ p. IsProper (rect_of p)) pieces.now }
     requires sorted { IsSorted piece_cmp pieces.now }
-    ensures { AreTrees (length pieces.now) (Paired shapes.now pieces.now) parents.new.items }
+    ensures { AreTrees (length pieces.now) (Paired Plain shapes.now pieces.now) parents.new.items }
 {
     for at in 0..pieces.len() {
         join_later(parents, shapes, pieces, at);
@@ -119,7 +121,7 @@ pub(crate) fn least_labels(
 ) -> Result<Vec<usize>, NoMemory>
     requires proper { All (λ p. IsProper (rect_of p)) pieces.now }
     requires sorted { IsSorted piece_cmp pieces.now }
-    ensures { IfOk result (λ labels. AreLeast (length pieces.now) (Paired shapes.now pieces.now) labels.items) }
+    ensures { IfOk result (λ labels. AreLeast (length pieces.now) (Paired Plain shapes.now pieces.now) labels.items) }
 {
     let mut labels = numbers(alloc, pieces.len())?;
     join_all(&mut labels, shapes, pieces);

@@ -1,6 +1,7 @@
 // The netlist of a drawing.
 ghost use Rattle.std.specs.Prelude.{◌≡◌, ◌≤◌, length, All, IfOk, IfErr, OnOk, None, map};
 ghost use Rattle.std.specs.List.{find};
+ghost use Rattle.scmos_rules.specs.declared.rules.Deck.TheVariants.{Plain};
 ghost use Rattle.net_extract.specs.Lookups.{is_lost};
 ghost use Rattle.box_geom.specs.Layers.{AreWithinLimits};
 ghost use Rattle.box_geom.specs.Rectangle.{IsRectangle};
@@ -32,7 +33,7 @@ const MOST_LABELS: usize = 2_000;
 #[tactic(auto, using(crate::proofs::Extracting::count_rules))]
 fn check_counts(shapes: &Shapes) -> Result<(), ExtractFault>
     ensures few { OnOk result (AreFew shapes.now) }
-    ensures many { IfErr result (λ f. ExtractRefused shapes.now f) }
+    ensures many { IfErr result (λ f. ExtractRefused Plain shapes.now f) }
 {
     let rects = shapes.rects.len();
     let labels = shapes.labels.len();
@@ -89,9 +90,9 @@ fn gate_map(alloc: Global, shapes: &[Shape]) -> Result<NetMap, NoMemory>
 fn all_devices(alloc: Global, shapes: &Shapes, map: &NetMap) -> Result<DrawnList, ExtractFault>
     requires few { AreFew shapes.now }
     requires limits { AreWithinLimits shapes.now.rects }
-    requires map { AreWires shapes.now.rects map.now.wires.items map.now.firsts.items }
-    ensures ok { IfOk result (AreFound shapes.now.rects (firsts_of map.now.firsts.items)) }
-    ensures refused { IfErr result (λ f. ExtractRefused shapes.now f) }
+    requires map { AreWires Plain shapes.now.rects map.now.wires.items map.now.firsts.items }
+    ensures ok { IfOk result (AreFound Plain shapes.now.rects (firsts_of map.now.firsts.items)) }
+    ensures refused { IfErr result (λ f. ExtractRefused Plain shapes.now f) }
 {
     let Ok(gates) = gate_map(alloc, shapes.rects.as_slice()) else {
         return Err(ExtractFault::NoMemory);
@@ -106,12 +107,12 @@ fn all_devices(alloc: Global, shapes: &Shapes, map: &NetMap) -> Result<DrawnList
 }
 
 fn names_by_labels(alloc: Global, shapes: &Shapes, map: &NetMap) -> Result<Names, ExtractFault>
-    requires regular { AreRegular shapes.now }
-    requires map { AreWires shapes.now.rects map.now.wires.items map.now.firsts.items }
+    requires regular { AreRegular Plain shapes.now }
+    requires map { AreWires Plain shapes.now.rects map.now.wires.items map.now.firsts.items }
     requires held { find (is_lost map.now.wires.items) shapes.now.labels ≡ None }
     requires few { length map.now.firsts.items ≤ 2000000000 }
-    ensures ok { IfOk result (AreNamed shapes.now (firsts_of map.now.firsts.items)) }
-    ensures refused { IfErr result (λ f. ExtractRefused shapes.now f) }
+    ensures ok { IfOk result (AreNamed Plain shapes.now (firsts_of map.now.firsts.items)) }
+    ensures refused { IfErr result (λ f. ExtractRefused Plain shapes.now f) }
 {
     let Ok(held) = all_held(alloc, map.wires.as_slice(), shapes.labels.as_slice()) else {
         return Err(ExtractFault::NoMemory);
@@ -124,11 +125,11 @@ fn names_by_labels(alloc: Global, shapes: &Shapes, map: &NetMap) -> Result<Names
 }
 
 fn all_names(alloc: Global, shapes: &Shapes, map: &NetMap) -> Result<Names, ExtractFault>
-    requires regular { AreRegular shapes.now }
-    requires map { AreWires shapes.now.rects map.now.wires.items map.now.firsts.items }
+    requires regular { AreRegular Plain shapes.now }
+    requires map { AreWires Plain shapes.now.rects map.now.wires.items map.now.firsts.items }
     requires few { length map.now.firsts.items ≤ 2000000000 }
-    ensures ok { IfOk result (AreNamed shapes.now (firsts_of map.now.firsts.items)) }
-    ensures refused { IfErr result (λ f. ExtractRefused shapes.now f) }
+    ensures ok { IfOk result (AreNamed Plain shapes.now (firsts_of map.now.firsts.items)) }
+    ensures refused { IfErr result (λ f. ExtractRefused Plain shapes.now f) }
 {
     match check_strays(alloc, map.wires.as_slice(), shapes.labels.as_slice()) {
         Ok(()) => names_by_labels(alloc, shapes, map),
@@ -139,8 +140,8 @@ fn all_names(alloc: Global, shapes: &Shapes, map: &NetMap) -> Result<Names, Extr
 fn extract_few(alloc: Global, shapes: &Shapes) -> Result<Netlist, ExtractFault>
     requires few { AreFew shapes.now }
     requires limits { AreWithinLimits shapes.now.rects }
-    ensures ok { IfOk result (λ n. Extracts shapes.now n) }
-    ensures refused { IfErr result (λ f. ExtractRefused shapes.now f) }
+    ensures ok { IfOk result (λ n. Extracts Plain shapes.now n) }
+    ensures refused { IfErr result (λ f. ExtractRefused Plain shapes.now f) }
 {
     let Ok(map) = net_map(alloc, shapes.rects.as_slice()) else {
         return Err(ExtractFault::NoMemory);
@@ -154,8 +155,8 @@ fn extract_few(alloc: Global, shapes: &Shapes) -> Result<Netlist, ExtractFault>
 /// and sides. It is refused above 10,000 rectangles or 2,000 labels, where a class of gate cells is no
 /// device, where a label belongs to no conductor cell, and where labels and nets do not agree.
 pub fn extract(alloc: Global, shapes: &Shapes) -> Result<Netlist, ExtractFault>
-    ensures ok { IfOk result (λ n. Extracts shapes.now n) }
-    ensures refused { IfErr result (λ f. ExtractRefused shapes.now f) }
+    ensures ok { IfOk result (λ n. Extracts Plain shapes.now n) }
+    ensures refused { IfErr result (λ f. ExtractRefused Plain shapes.now f) }
 {
     check_counts(shapes)?;
     shapes.show_limits();

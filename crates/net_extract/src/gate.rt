@@ -1,6 +1,7 @@
 // Classes of gate cells, and the device that each is.
 ghost use Rattle.std.specs.Prelude.{◌≡◌, ◌↔◌, ◌<◌, All, IsTrue, IfOk, IfErr, IfSome, None, length, get_or, fold};
 ghost use Rattle.box_geom.specs.Rectangle.{IsProper};
+ghost use Rattle.scmos_rules.specs.declared.rules.Deck.TheVariants.{Plain};
 ghost use Rattle.net_extract.specs.Devices.{IsOdd};
 ghost use Rattle.net_extract.specs.Extraction.{IsDrawn};
 ghost use Rattle.net_extract.specs.GateNets.{AreGateNets, wider, point_of, box_of, IsAllGate, AreFound, IsOddFault};
@@ -80,11 +81,11 @@ fn is_gate(shapes: &Layers, gate: &Piece) -> bool
 fn device_of_class(shapes: &Layers, map: &NetMap, gates: &NetMap, net: usize) -> Option<Drawn>
     requires net { net < length gates.now.firsts.items }
     requires shapes { All (λ s. IsProper s.rect) shapes.now }
-    requires map { AreWires shapes.now map.now.wires.items map.now.firsts.items }
+    requires map { AreWires Plain shapes.now map.now.wires.items map.now.firsts.items }
     requires gates { AreGateNets shapes.now gates.now.wires.items gates.now.firsts.items }
-    ensures some { IfSome result (λ d. IsDrawn shapes.now (firsts_of map.now.firsts.items)
+    ensures some { IfSome result (λ d. IsDrawn Plain shapes.now (firsts_of map.now.firsts.items)
         (rect_of (box_of gates.now.wires.items gates.now.firsts.items net)) d) }
-    ensures none { result ≡ None → IsOdd shapes.now (get_or gates.now.firsts.items net blank).left
+    ensures none { result ≡ None → IsOdd Plain shapes.now (get_or gates.now.firsts.items net blank).left
         (get_or gates.now.firsts.items net blank).low }
 {
     let gate = box_of_class(gates, net);
@@ -112,10 +113,10 @@ pub(crate) fn devices(
     gates: &NetMap,
 ) -> Result<DrawnList, ExtractFault>
     requires shapes { All (λ s. IsProper s.rect) shapes.now }
-    requires map { AreWires shapes.now map.now.wires.items map.now.firsts.items }
+    requires map { AreWires Plain shapes.now map.now.wires.items map.now.firsts.items }
     requires gates { AreGateNets shapes.now gates.now.wires.items gates.now.firsts.items }
-    ensures ok { IfOk result (AreFound shapes.now (firsts_of map.now.firsts.items)) }
-    ensures odd { IfErr result (IsOddFault shapes.now) }
+    ensures ok { IfOk result (AreFound Plain shapes.now (firsts_of map.now.firsts.items)) }
+    ensures odd { IfErr result (IsOddFault Plain shapes.now) }
 {
     let mut devices = DrawnList::new(alloc);
     for net in 0..gates.firsts.len() {

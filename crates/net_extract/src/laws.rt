@@ -5,22 +5,37 @@ ghost use Rattle.box_geom.specs.Rectangle.{Rectangle, Holds};
 ghost use Rattle.box_geom.specs.Chains.{Chain};
 ghost use Rattle.box_geom.specs.Touching.{Cell};
 ghost use Rattle.box_geom.specs.declared.shape.Shape.{Shape};
+ghost use Rattle.box_geom.specs.declared.shape.Shapes.{Shapes};
+ghost use Rattle.scmos_rules.specs.declared.rules.Deck.{Deck};
+ghost use Rattle.net_extract.specs.declared.fault.ExtractFault.{ExtractFault};
+ghost use Rattle.net_extract.specs.declared.fault.ExtractFault.TheVariants.{NoMemory};
+ghost use Rattle.net_extract.specs.declared.netlist.Netlist.{Netlist};
+ghost use Rattle.net_extract.specs.Extraction.{Extracts, ExtractRefused};
 ghost use Rattle.net_extract.specs.Nets.{Kind, Site, SameNet};
 ghost use Rattle.net_extract.specs.Numbering.{AreNets, IsInNet};
 ghost use Rattle.net_extract.specs.Parts.{AreDrawn, Part, Bonded, IsPart, IsIn};
 
 /// Where the conductor cells of each kind are the cells of a list of rectangles, two cells are in one net
 /// exactly where rectangles that hold them are joined by a chain in which neighbours are of one kind and
-/// touch, or have a cell in common that a contact or a via links.
+/// touch, or have a cell in common that a contact or a via links, or hold taps that a deck ties.
 pub fn rectangle_nets()
-    ensures { (s : List Shape) (rs : Kind → List Rectangle) (p q : Part) (a b : Site) → AreDrawn s rs →
-        IsPart rs p → IsPart rs q → IsIn p a → IsIn q b → SameNet s a b ↔ Chain (Bonded s rs) p q }
+    ensures { (deck : Deck) (s : List Shape) (rs : Kind → List Rectangle) (p q : Part) (a b : Site) →
+        AreDrawn s rs → IsPart rs p → IsPart rs q → IsIn p a → IsIn q b →
+        SameNet deck s a b ↔ Chain (Bonded deck s rs) p q }
 {}
 
 /// The nets of a drawing have one numbering, and a conductor cell has one net.
 pub fn one_numbering()
-    ensures list { (s : List Shape) (firsts others : List Site) → AreNets s firsts → AreNets s others →
-        firsts ≡ others }
-    ensures cell { (s : List Shape) (firsts : List Site) (m n : ℕ) (a : Site) → AreNets s firsts →
-        IsInNet s firsts m a → IsInNet s firsts n a → m ≡ n }
+    ensures list { (deck : Deck) (s : List Shape) (firsts others : List Site) → AreNets deck s firsts →
+        AreNets deck s others → firsts ≡ others }
+    ensures cell { (deck : Deck) (s : List Shape) (firsts : List Site) (m n : ℕ) (a : Site) →
+        AreNets deck s firsts → IsInNet deck s firsts m a → IsInNet deck s firsts n a → m ≡ n }
+{}
+
+/// A drawing has one netlist, and where it has one it is refused for want of memory alone.
+pub fn one_netlist()
+    ensures same { (deck : Deck) (shapes : Shapes) (n m : Netlist) → Extracts deck shapes n →
+        Extracts deck shapes m → n ≡ m }
+    ensures refused { (deck : Deck) (shapes : Shapes) (n : Netlist) (f : ExtractFault) → Extracts deck shapes n →
+        ExtractRefused deck shapes f → f ≡ NoMemory }
 {}

@@ -24,6 +24,6 @@ mod side;
 pub use drawing::extract;
 pub use fault::ExtractFault;
 pub use label::{Link, classes};
-pub use laws::{one_numbering, rectangle_nets};
+pub use laws::{one_netlist, one_numbering, rectangle_nets};
 pub use naming::{Held, net_names};
 pub use netlist::{Drawn, DrawnList, Netlist};

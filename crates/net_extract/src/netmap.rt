@@ -1,5 +1,6 @@
 // The nets of a drawing: every piece of conductor with the number of its net.
 ghost use Rattle.std.specs.Prelude.{◌≡◌, ◌<◌, ◌≤◌, ◌++◌, ◌∷◌, [], ◌+◌, All, IsPermutation, IsSorted, length, get_or, IfOk, OnOk};
+ghost use Rattle.scmos_rules.specs.declared.rules.Deck.TheVariants.{Plain};
 ghost use Rattle.net_extract.specs.Classes.{AreHeads, AreLeast};
 ghost use Rattle.box_geom.specs.Rectangle.{IsProper};
 ghost use Rattle.net_extract.specs.Corners.{HaveFewSides, HaveFewCorners};
@@ -120,7 +121,7 @@ fn ordered_pieces(alloc: Global, shapes: &[Shape]) -> Result<Vec<Piece>, NoMemor
 fn net_labels(alloc: Global, shapes: &[Shape], pieces: &[Piece]) -> Result<Vec<usize>, NoMemory>
     requires proper { All (λ p. IsProper (rect_of p)) pieces.now }
     requires sorted { IsSorted piece_cmp pieces.now }
-    ensures { IfOk result (λ labels. AreLeast (length pieces.now) (Paired shapes.now pieces.now) labels.items) }
+    ensures { IfOk result (λ labels. AreLeast (length pieces.now) (Paired Plain shapes.now pieces.now) labels.items) }
 {
     let links = all_links(alloc, shapes)?;
     match least_labels(alloc, links.as_slice(), pieces) {
@@ -134,7 +135,7 @@ fn net_labels(alloc: Global, shapes: &[Shape], pieces: &[Piece]) -> Result<Vec<u
 pub(crate) fn net_map(alloc: Global, shapes: &[Shape]) -> Result<NetMap, NoMemory>
     requires proper { All (λ s. IsProper s.rect) shapes.now }
     requires few { HaveFewSides shapes.now }
-    ensures wires { IfOk result (λ m. AreWires shapes.now m.wires.items m.firsts.items) }
+    ensures wires { IfOk result (λ m. AreWires Plain shapes.now m.wires.items m.firsts.items) }
     ensures few { IfOk result (λ m. length m.firsts.items ≤ 2000000000) }
 {
     let pieces = ordered_pieces(alloc, shapes)?;

@@ -14,3 +14,5 @@ pub mod Nearing
 pub mod Sizes
 pub mod Spacings
 pub mod Widths
+pub mod OneList
+pub mod Orders

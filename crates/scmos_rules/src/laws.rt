@@ -1,5 +1,10 @@
-// Laws that turn rules on cells into conditions on rectangles. The calls do nothing: the contracts are
-// the laws.
+// Laws that turn rules on cells into conditions on rectangles, and one on the list of broken rules. The calls do
+// nothing: the contracts are the laws.
+ghost use Rattle.std.specs.Prelude.{◌≡◌, List};
+ghost use Rattle.box_geom.specs.declared.shape.Shape.{Shape};
+ghost use Rattle.scmos_rules.specs.declared.rules.Deck.{Deck};
+ghost use Rattle.scmos_rules.specs.declared.violation.Violation.{Violation};
+ghost use Rattle.scmos_rules.specs.Violations.{AreViolations};
 ghost use Rattle.scmos_rules.specs.Laws.{WidthLaw, SpacingLaw, TouchingLaw, SizeLaw, SurroundLaw, MarkedSurroundLaw, AwayLaw, MarkedAwayLaw};
 
 /// Where both sides of every rectangle are at least v, no cell fails width v.
@@ -33,4 +38,10 @@ pub fn surround_law()
 pub fn away_law()
     ensures covered { AwayLaw }
     ensures marked { MarkedAwayLaw }
+{}
+
+/// A layout has one list of broken rules, by each deck.
+pub fn one_list()
+    ensures { (deck : Deck) (s : List Shape) (vs ws : List Violation) → AreViolations deck s vs →
+        AreViolations deck s ws → vs ≡ ws }
 {}

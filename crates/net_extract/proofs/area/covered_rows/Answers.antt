@@ -1,4 +1,4 @@
-use Rattle.std.proofs.Common.{arith, ◌≡◌, ℤ, ◌<ℤ◌, ◌≤ℤ◌, to_z, of_z, w64, ap, sym}
+use Rattle.std.proofs.Common.{arith, ◌≡◌, to_z, of_z, w64, ap, sym}
 use Rattle.std.specs.Int.{int_min}
 use Rattle.std.proofs.lemmas.Int.{ints, clamps}
 use Rattle.box_geom.specs.Rectangle.{Rectangle}

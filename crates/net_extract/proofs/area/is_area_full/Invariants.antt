@@ -1,4 +1,4 @@
-use Rattle.std.proofs.Common.{ℤ, ◌≤ℤ◌, ◌-ℤ◌, unsigned_abs}
+use Rattle.std.proofs.Common.{◌-ℤ◌, unsigned_abs}
 use Rattle.net_extract.specs.Areas.{cells_in}
 use Rattle.net_extract.proofs.Filling.{IsBuilt}
 use Rattle.net_extract.proofs.area.is_area_full.Given as goal

@@ -1,4 +1,4 @@
-use Rattle.std.proofs.Common.{ℕ, ◌≤◌}
+use Rattle.std.proofs.Common.{◌≤◌}
 use Rattle.net_extract.specs.Classes.{InTree}
 use Rattle.net_extract.proofs.class.root.Given as goal
 

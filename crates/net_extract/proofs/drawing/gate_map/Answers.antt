@@ -1,6 +1,7 @@
-use Rattle.std.proofs.Common.{◌≡◌, List, map, sym, subst, All, ap, ◌∙◌}
+use Rattle.std.proofs.Common.{List, map, sym, subst, All, ap, ◌∙◌}
 use Rattle.box_geom.specs.Rectangle.{IsProper, IsRectangle}
 use Rattle.box_geom.specs.declared.shape.Shape.{Shape}
+use Rattle.scmos_rules.specs.declared.rules.Deck.TheVariants.{Plain}
 use Rattle.net_extract.specs.Corners.{HaveFewSides}
 use Rattle.net_extract.specs.Cuts.{poly_of}
 use Rattle.net_extract.specs.GateNets.{AreGateNets}
@@ -20,7 +21,7 @@ pub net_map-requires-clause-proper : goal.net_map-requires-clause-proper
 net_map-requires-clause-proper c = subst (λ zs. All (λ (z : Shape). IsProper z.rect) zs) (sym (c.as_slice-2.ensures.value ∙ c.in_ok-gates.ensures)) (gate_shapes_proper c.as_slice.result.now (subst (λ ps. All (λ p. IsRectangle (rect_of p)) ps) (sym (c.as_slice.ensures ∙ c.in_ok-pieces.ensures)) (all_gates_limited c.args.shapes.now c.requires.limits)))
 
 pub returns : goal.returns
-returns c = if_ok (λ (m : NetMap). AreWires c.as_slice-2.result.now m.wires.items m.firsts.items) (λ (m : NetMap). AreGateNets c.args.shapes.now m.wires.items m.firsts.items) c.net_map.result (λ m h. gate_nets c.args.shapes.now c.as_slice-2.result.now m.wires.items m.firsts.items c.requires.limits (c.as_slice-2.ensures.value ∙ c.in_ok-gates.ensures ∙ ap (λ (ps : List Piece). map poly_of ps) (c.as_slice.ensures ∙ c.in_ok-pieces.ensures)) h) c.net_map.ensures.wires
+returns c = if_ok (λ (m : NetMap). AreWires Plain c.as_slice-2.result.now m.wires.items m.firsts.items) (λ (m : NetMap). AreGateNets c.args.shapes.now m.wires.items m.firsts.items) c.net_map.result (λ m h. gate_nets c.args.shapes.now c.as_slice-2.result.now m.wires.items m.firsts.items c.requires.limits (c.as_slice-2.ensures.value ∙ c.in_ok-gates.ensures ∙ ap (λ (ps : List Piece). map poly_of ps) (c.as_slice.ensures ∙ c.in_ok-pieces.ensures)) h) c.net_map.ensures.wires
 
 pub net_map-requires-clause-few : goal.net_map-requires-clause-few
 net_map-requires-clause-few c = subst HaveFewSides (sym (c.as_slice-2.ensures.value ∙ c.in_ok-gates.ensures ∙ ap (λ (ps : List Piece). map poly_of ps) (c.as_slice.ensures ∙ c.in_ok-pieces.ensures))) (gates_sides c.args.shapes.now c.requires.few)

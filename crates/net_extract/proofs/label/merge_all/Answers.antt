@@ -1,6 +1,4 @@
-use Rattle.std.proofs.Common.{◌≡◌, ℕ, ◌<◌, length, List, [], sym, subst, arith, get_or, slice_index_or, refl, take, ◌≤◌}
-use Rattle.std.specs.List.{All}
-use Rattle.net_extract.specs.Classes.{IsLink, merged}
+use Rattle.std.proofs.Common.{◌≡◌, [], sym, subst, arith, take}
 use Rattle.net_extract.proofs.Merging.{AreLabels, at_first, one_more, decided}
 use Rattle.std.proofs.lemmas.List.{take_all}
 use Rattle.net_extract.proofs.label.merge_all.Goals as goal

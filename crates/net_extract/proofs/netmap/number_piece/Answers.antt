@@ -1,4 +1,4 @@
-use Rattle.std.proofs.Common.{◌≡◌, ℕ, ◌≤◌, List, length, get_or, refl, arith, ◌∙◌, sym, ap}
+use Rattle.std.proofs.Common.{◌≡◌, List, length, get_or, refl, arith, ◌∙◌, sym, ap}
 use Rattle.net_extract.specs.NetMaps.{blank, nets_of, heads_below}
 use Rattle.net_extract.specs.declared.netmap.Wire.{Wire}
 use Rattle.net_extract.specs.declared.piece.Piece.{Piece}

@@ -6,6 +6,7 @@ use Rattle.box_geom.specs.declared.shape.Shape.{Shape}
 use Rattle.box_geom.specs.declared.shape.Label.{Label}
 use Rattle.net_extract.specs.Nets.{Kind, p_diffusion, n_diffusion, poly, metal1, metal2, Are, layer_of, Site}
 use Rattle.net_extract.specs.Labels.{IsConductorAt, IsFirstConductor, cells_round, Belongs}
+use Rattle.net_extract.proofs.Ranking.{site_same}
 
 -- in one cell a layer has one kind of conductor
 one_kind : (s : List Shape) (j k : Kind) (x y : ℤ) → layer_of j ≡ layer_of k → Are s j x y → Are s k x y → j ≡ k
@@ -35,21 +36,11 @@ one_kind s metal2 poly x y e c d = absurd cc
 one_kind s metal2 metal1 x y e c d = absurd cc
 one_kind s metal2 metal2 x y e c d = refl
 
-make : Kind → Cell → Site
-make kind cell = record { kind = kind; cell = cell }
-
-made : {j k : Kind} {c d : Cell} → j ≡ k → c ≡ d → make j c ≡ make k d
-made ek ec = cc
-
-same_site : (a b : Site) → a.kind ≡ b.kind → a.cell ≡ b.cell → a ≡ b
-unfolding make
-same_site a b k c = made k c
-
 one_conductor : (s : List Shape) (layer : Layer) (c : Cell) (a b : Site) → IsConductorAt s layer c a → IsConductorAt s layer c b → a ≡ b
 one_conductor s layer c a b p q =
     let cells : a.cell ≡ b.cell = p.cell ∙ sym q.cell in
     let other : Are s b.kind a.cell.x a.cell.y = subst (λ (z : Cell). Are s b.kind z.x z.y) (sym cells) q.conducts in
-    same_site a b (one_kind s a.kind b.kind a.cell.x a.cell.y (p.on_layer ∙ sym q.on_layer) p.conducts other) cells
+    site_same a b (one_kind s a.kind b.kind a.cell.x a.cell.y (p.on_layer ∙ sym q.on_layer) p.conducts other) cells
 
 one_first : (s : List Shape) (layer : Layer) (cells : List Cell) (a b : Site) → IsFirstConductor s layer cells a → IsFirstConductor s layer cells b → a ≡ b
 one_first s layer [] a b p q = absurd p
