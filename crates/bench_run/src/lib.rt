@@ -7,8 +7,6 @@ mod laws;
 mod read;
 mod size;
 pub mod tally;
-#[cfg(test)]
-mod tests;
 
 pub use cells::bench;
 pub use laws::one_length;

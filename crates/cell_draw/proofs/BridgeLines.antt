@@ -11,13 +11,9 @@ use Rattle.row_place.specs.declared.placement.UnitKind.TheVariants.{Column as Co
 use Rattle.row_place.specs.Units.{gap_between, units_behind, units_of, unit_of}
 use Rattle.row_place.proofs.Seated.{unit_next}
 use Rattle.row_place.proofs.Units.{gaps_upto, gaps_upto_is}
-use Rattle.row_compact.specs.Solution.{x_of, AreSpread}
+use Rattle.row_compact.specs.Solution.{x_of}
 use Rattle.cell_draw.specs.Layouts.{width_of}
 use Rattle.cell_draw.specs.Sound.{AreLines}
-
--- lines that are spread are lines of a placement with so many
-pub spread_lines : (p : Placement) (xs : List ℕ) (lines : ℕ) → lines ≡ 2 * length p.units + 1 → AreSpread lines xs → AreLines p xs
-spread_lines p xs lines e s = record { lines = s.count ∙ e; first = s.first (omega (arith, e)); next = λ line short. s.next line (omega (arith, e, short)) }
 
 spaced : (p : Placement) (xs : List ℕ) → AreLines p xs → (d i : ℕ) → i + d ≤ 2 * length p.units → x_of xs i + 8 * d ≤ x_of xs (i + d)
 spaced p xs lines zero i h = let e : ◌≡◌ {A = ℕ} (i + 0) i = omega arith in omega (arith, ap (λ n. x_of xs n) e)

@@ -20,8 +20,6 @@ mod Found
 mod Framed
 mod FramedDrawn
 mod FramedTags
-mod Halves
-mod Inverter
 mod LabelPieces
 mod LabelsPlaced
 mod NamesPlaced

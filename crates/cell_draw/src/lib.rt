@@ -19,6 +19,3 @@ pub use cell::{MOST_SHAPES, draw, draw_base};
 pub use drawing::{DrawFault, Drawing};
 pub use frame::{Edges, MOST_HEIGHT, MOST_TRACKS, MOST_X, channel_edges};
 pub use layout::{Bar, Contact, Frame, Gate, Layout, Strip, Tag};
-
-#[cfg(test)]
-mod tests;

@@ -4,13 +4,23 @@
 #[cfg(test)]
 mod abstracts;
 #[cfg(test)]
+mod bases;
+#[cfg(test)]
 mod benchmarks;
+#[cfg(test)]
+mod cells;
+#[cfg(test)]
+mod counts;
 #[cfg(test)]
 mod drawings;
 #[cfg(test)]
 mod elements;
 #[cfg(test)]
 mod geometry;
+#[cfg(test)]
+mod half_columns;
+#[cfg(test)]
+mod inverters;
 #[cfg(test)]
 mod libraries;
 #[cfg(test)]

@@ -152,3 +152,17 @@ fn changed_bytes_are_refused(rt: HostRuntime) -> Result<(), Fail> {
     assert!(rt; refuses(alloc, &cut, b"inv", 300, GdsFault::Cut { at: 208 })?);
     Ok(())
 }
+
+// The structure and its end stand once more behind the first ones.
+#[test]
+fn a_second_structure_is_refused(rt: HostRuntime) -> Result<(), Fail> {
+    let alloc = rt.alloc();
+    let mut bytes = Vec::new(alloc);
+    bytes.extend_from_slice(&HEAD)?;
+    bytes.extend_from_slice(&TAIL[..4])?;
+    bytes.extend_from_slice(&HEAD[66..])?;
+    bytes.extend_from_slice(&TAIL)?;
+    let name = copy(alloc, b"inv")?;
+    assert!(rt; refuses(alloc, &bytes, b"inv", 300, GdsFault::Twice { name })?);
+    Ok(())
+}

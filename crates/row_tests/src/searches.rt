@@ -100,3 +100,48 @@ fn searches_long(rt: HostRuntime) -> Result<(), Fail> {
     assert!(rt; proved.is_none() && log.lemmas.len() == 16_393);
     Ok(())
 }
+
+// Six inverters on nets of their own, whose rails and outputs ask for two gaps at the start.
+const SIX: [Pair; 6] = [
+    (0, 6, 12, 13),
+    (1, 7, 12, 13),
+    (2, 8, 12, 13),
+    (3, 9, 12, 13),
+    (4, 10, 12, 13),
+    (5, 11, 12, 13),
+];
+
+const SIX_LEMMAS: &[u8] = b"lemma 1 P 1,1,1,1,1,1 1,1,1,1,1,1 - -
+lemma 2 P 1,1,1,1,1,1 1,1,1,1,1,1 - -
+lemma 2 P 0,0,1,1,1,1 0,0,1,1,1,1 12 13
+lemma 2 P 0,0,1,1,1,1 0,0,1,1,1,1 12 7
+lemma 2 P 0,0,1,1,1,1 0,0,1,1,1,1 7 13
+lemma 1 P 0,0,0,0,1,1 0,0,0,0,1,1 12 13
+";
+
+const SIX_MORE: &[u8] = b"lemma 1 P 0,0,0,0,1,1 0,0,0,0,1,1 12 9
+lemma 1 P 0,0,0,0,1,1 0,0,0,0,1,1 9 13
+gaps 2
+column 0 0 0 0 0
+column 1 1 1 1 1
+column 2 2 0 2 0
+column 3 3 1 3 1
+column 4 4 0 4 0
+column 5 5 1 5 1
+end
+";
+
+// The row takes 15 nodes. A budget of ten is spent within the last limit.
+#[test]
+fn starts_above_one(rt: HostRuntime) -> Result<(), Fail> {
+    let alloc = rt.alloc();
+    let mut whole = Vec::new(alloc);
+    whole.extend_from_slice(SIX_LEMMAS)?;
+    whole.extend_from_slice(SIX_MORE)?;
+    assert!(rt; ends(alloc, 14, &SIX, 15, None, &whole)?);
+    let mut spent = Vec::new(alloc);
+    spent.extend_from_slice(SIX_LEMMAS)?;
+    spent.extend_from_slice(b"open\nend\n")?;
+    assert!(rt; ends(alloc, 14, &SIX, 10, Some(2), &spent)?);
+    Ok(())
+}

@@ -2,6 +2,8 @@
 #![tactic(auto)]
 
 #[cfg(test)]
+mod benches;
+#[cfg(test)]
 mod cells;
 #[cfg(test)]
 mod damaged;
@@ -15,6 +17,8 @@ mod logs;
 mod make;
 #[cfg(test)]
 mod setup;
+#[cfg(test)]
+mod sizes;
 #[cfg(test)]
 mod versions;
 #[cfg(test)]

@@ -1,6 +1,6 @@
 use Rattle.std.proofs.Common.{subst, sym}
 use Rattle.cell_num.specs.Pins.{ArePins}
-use Rattle.cell_draw.proofs.tests.drawn.Goals as goal
+use Rattle.layout_tests.proofs.cells.drawn.Goals as goal
 
 pub route-requires-clause-pins : goal.route-requires-clause-pins
 route-requires-clause-pins c =

@@ -1,4 +1,4 @@
-use super::*;
+use bench_run::{Tally, bench};
 use std::test::Fail;
 
 // The counts that another program came to by the same rules.

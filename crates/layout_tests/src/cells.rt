@@ -6,12 +6,8 @@ ghost use Rattle.channel_route.specs.Routing.{IsLegal};
 ghost use Rattle.row_compact.specs.Allowed.{AreAllowed, stretches_of};
 ghost use Rattle.cell_draw.specs.Sound.{IsSoundRow};
 
-mod base;
-mod half_columns;
-mod inverter;
-
-use crate::{DrawFault, Drawing, MOST_HEIGHT, MOST_X, draw};
 use box_geom::{Label, Layer, Shape};
+use cell_draw::{DrawFault, Drawing, MOST_HEIGHT, MOST_X, draw};
 use cell_num::{Finger, Names, NetNo, NoMemory, Pins, Row};
 use channel_route::{Routing, route};
 use row_compact::{LineXs, distances, even_lines, least_lines, lines_of, x_of};
@@ -21,13 +17,13 @@ use std::alloc::Global;
 use std::test::Fail;
 
 #[derive(Drop)]
-struct Cell {
-    names: Names,
-    pins: Pins,
-    row: Arrangement,
+pub struct Cell {
+    pub names: Names,
+    pub pins: Pins,
+    pub row: Arrangement,
 }
 
-const P_FINGER: Placed = Placed {
+pub const P_FINGER: Placed = Placed {
     finger: Finger {
         row: Row::P,
         gate: NetNo(0),
@@ -38,7 +34,7 @@ const P_FINGER: Placed = Placed {
     flipped: false,
 };
 
-const N_FINGER: Finger = Finger {
+pub const N_FINGER: Finger = Finger {
     row: Row::N,
     gate: NetNo(0),
     lo: NetNo(1),
@@ -47,7 +43,7 @@ const N_FINGER: Finger = Finger {
 };
 
 // The inverter's column.
-const COLUMN: Column = Column {
+pub const COLUMN: Column = Column {
     p: Some(P_FINGER),
     n: Some(Placed {
         finger: N_FINGER,
@@ -55,24 +51,24 @@ const COLUMN: Column = Column {
     }),
 };
 
-const PINS: Pins = Pins {
+pub const PINS: Pins = Pins {
     pins: 4,
     vdd: NetNo(2),
     gnd: NetNo(3),
 };
 
-fn sides(shape: &Shape) -> [i32; 4] {
+pub fn sides(shape: &Shape) -> [i32; 4] {
     [shape.rect.x1, shape.rect.y1, shape.rect.x2, shape.rect.y2]
 }
 
-fn are_shapes(rects: &[Shape], want: &[(Layer, [i32; 4])]) -> bool {
+pub fn are_shapes(rects: &[Shape], want: &[(Layer, [i32; 4])]) -> bool {
     rects.len() == want.len()
         && rects.iter().zip(want.iter()).all(|pair| pair.0.layer == pair.1.0
             && sides(pair.0) == pair.1.1)
 }
 
 // Labels on metal1.
-fn are_labels(labels: &[Label], want: &[(&[u8], [i32; 2])]) -> bool {
+pub fn are_labels(labels: &[Label], want: &[(&[u8], [i32; 2])]) -> bool {
     labels.len() == want.len()
         && labels.iter().zip(want.iter()).all(|pair| {
             pair.0.layer == Layer::Metal1
@@ -101,7 +97,7 @@ fn lines(
 }
 
 // A cell on its least or on even lines, of this height.
-fn drawn(
+pub fn drawn(
     alloc: Global,
     cell: &Cell,
     are_least: bool,

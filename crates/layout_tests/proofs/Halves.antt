@@ -15,7 +15,7 @@ use Rattle.cell_num.proofs.Pairs.{any_at, pairs_one, pairs_append}
 use Rattle.row_model.specs.declared.column.Column.{Column}
 use Rattle.row_model.specs.Arrangement.{IsColumn, IsArrangement}
 use Rattle.cell_draw.specs.Sound.{IsSoundRow}
-use Rattle.cell_draw.proofs.Inverter.{net, finger, names as four_names, differ, other_net, other_name, met}
+use Rattle.layout_tests.proofs.Inverter.{net, finger, names as four_names, differ, other_net, other_name, met}
 
 abbrev n_finger : Finger
 n_finger = record { row = N; gate = net 4; lo = net 1; hi = net 3; width = 10 }

@@ -1,6 +1,6 @@
 use Rattle.std.proofs.Common.{◌≡◌, replicate, rules}
-use Rattle.cell_draw.proofs.Inverter.{column, many_columns, many_widths}
-use Rattle.cell_draw.proofs.tests.base.wide.Goals as goal
+use Rattle.layout_tests.proofs.Inverter.{column, many_columns, many_widths}
+use Rattle.layout_tests.proofs.bases.wide.Goals as goal
 
 pub returns-clause-columns : goal.returns-clause-columns
 returns-clause-columns c = many_columns c.extend.new.self (search rules)

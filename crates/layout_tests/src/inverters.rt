@@ -2,9 +2,9 @@ ghost use Rattle.std.specs.Prelude.{◌≤◌, IfOk, length};
 ghost use Rattle.cell_num.specs.Pins.{ArePins};
 ghost use Rattle.cell_draw.specs.Sound.{IsSoundRow};
 
-use super::{COLUMN, Cell, PINS, are_labels, are_shapes, drawn, sides};
-use crate::DrawFault;
+use crate::cells::{COLUMN, Cell, PINS, are_labels, are_shapes, drawn, sides};
 use box_geom::{Layer, Shape};
+use cell_draw::DrawFault;
 use cell_num::{Names, NoMemory, copy};
 use row_model::Arrangement;
 use std::alloc::Global;

@@ -2,7 +2,7 @@ ghost use Rattle.std.specs.Prelude.{◌≤◌, IfOk, length};
 ghost use Rattle.cell_num.specs.Pins.{ArePins};
 ghost use Rattle.cell_draw.specs.Sound.{IsSoundRow};
 
-use super::{Cell, N_FINGER, P_FINGER, are_labels, are_shapes, drawn};
+use crate::cells::{Cell, N_FINGER, P_FINGER, are_labels, are_shapes, drawn};
 use box_geom::Layer;
 use cell_num::{Finger, Names, NetNo, NoMemory, Pins, copy};
 use row_model::{Arrangement, Column, Placed};

@@ -2,8 +2,8 @@ ghost use Rattle.std.specs.Prelude.{◌≤◌, All, IfOk, length};
 ghost use Rattle.row_model.specs.Arrangement.{IsColumn};
 ghost use Rattle.cell_draw.specs.Small.{HasWidths};
 
-use super::{COLUMN, PINS, sides};
-use crate::{DrawFault, Drawing, MOST_X, draw_base};
+use crate::cells::{COLUMN, PINS, sides};
+use cell_draw::{DrawFault, Drawing, MOST_X, draw_base};
 use cell_num::NoMemory;
 use row_compact::{even_lines, lines_of, x_of};
 use row_model::Arrangement;
@@ -23,7 +23,7 @@ fn wide(alloc: Global) -> Result<Arrangement, NoMemory>
 }
 
 // Its rows alone on even lines, with room for 26 tracks.
-#[tactic(auto, using(crate::proofs::BridgeLines::spread_lines))]
+#[tactic(auto, using(crate::proofs::Spread::spread_lines))]
 fn base(alloc: Global) -> Result<Result<Drawing, DrawFault>, Fail> {
     let row = wide(alloc)?;
     let placement = place(alloc, &row)?;
