@@ -68,7 +68,7 @@ one_each_like f g xs same one n = omega (arith, one n, count_like f g xs n same)
         omega (arith, head, count_cons (λ y. g y == n) x xs, count_cons (λ y. f y == n) x xs, count_like f g xs n (λ y there. same y (contains_there x xs y there)))
 
 -- a wire is above each that a constraint puts below it
-pub tracks_above : (wires : List Wire) (cs : List Constraint) (placed : List PlacedWire) (tracks : ℕ) → IsFull wires cs placed tracks → (a b : PlacedWire) → Contains placed a → Contains placed b → (line : ℕ) → IsOver cs a.wire.key b.wire.key line → b.track < a.track
+tracks_above : (wires : List Wire) (cs : List Constraint) (placed : List PlacedWire) (tracks : ℕ) → IsFull wires cs placed tracks → (a b : PlacedWire) → Contains placed a → Contains placed b → (line : ℕ) → IsOver cs a.wire.key b.wire.key line → b.track < a.track
 tracks_above wires cs placed tracks h a b ha hb line over =
     let low : HasWireBelow placed b.wire.key a.track = h.filled.part.above a ha (record { upper = a.wire.key; lower = b.wire.key; line = line }) over refl in
     subst (λ (t : PlacedWire). t.track < a.track) (same_placed wires cs placed tracks h low.one b low.there hb low.is) low.low

@@ -5,6 +5,7 @@ use Rattle.std.proofs.lemmas.Bool.{cases_eq, cases_order}
 use Rattle.std.proofs.lemmas.List.Sorted.{Contains-permutation, IsPermutation-sym}
 use Rattle.cell_num.specs.declared.net.NetNo.{NetNo}
 use Rattle.cell_num.specs.declared.net.Pins.{Pins}
+use Rattle.cell_num.specs.declared.finger.Row.TheVariants.{P, N}
 use Rattle.cell_num.proofs.In.{Image, in_map, contains_map}
 use Rattle.row_place.specs.declared.placement.Placement.{Placement}
 use Rattle.row_place.specs.Trunks.{HasTrunk, IsSpan, IsAbove}
@@ -21,9 +22,9 @@ use Rattle.channel_route.specs.Graph.{trunk_of, IsBefore, IsFilled}
 use Rattle.channel_route.specs.Turn.{IsOver}
 use Rattle.channel_route.specs.Wires.{IsWire, AreWires, constraints_of, trunk_cmp}
 use Rattle.cell_num.proofs.Pairs.{Some', some_from_any, any_at, OneEach, one_each_permutation, one_each_same, pairs_from_sorted}
-use Rattle.channel_route.proofs.FilledTracks.{IsFull, IsFreeWire, count_map, placed_wire, wire_placed, same_placed, one_each_placed, one_each_like, tracks_above, not_lower}
+use Rattle.channel_route.proofs.FilledTracks.{IsFull, IsFreeWire, count_map, placed_wire, wire_placed, same_placed, one_each_placed, one_each_like, above_at, not_lower}
 use Rattle.channel_route.proofs.NetWires.{cmp_less}
-use Rattle.channel_route.proofs.TrunkChannel.{net_of, is_wire, net_is, wire_of_net, channel, constraint_is, constraint_there}
+use Rattle.channel_route.proofs.TrunkChannel.{net_of, is_wire, net_is, wire_of_net, holds_node, channel, constraint_is}
 
 -- the tracks of a placement, filled
 pub record IsDone (p : Placement) (pins : Pins) (wires : List Wire) (placed : List PlacedWire) (trunks : List Trunk) (tracks : ℕ) : Type 0 where
@@ -86,14 +87,7 @@ less_from_cmp a b e differ =
     wrong : b.net.0 < a.net.0 → ⊥
     wrong h = let lt : is_lt (trunk_cmp b a) ≡ true = rw (cmp_less b.net.0 a.net.0 h) refl in cc
 
--- where one net stands above another, so do their wires
-over_of : (p : Placement) (pins : Pins) (wires : List Wire) (placed : List PlacedWire) (trunks : List Trunk) (tracks : ℕ) → IsDone p pins wires placed trunks tracks → (a b : PlacedWire) → Contains placed a → Contains placed b → (line : ℕ) → IsAbove p pins a.wire.net b.wire.net line → IsOver (constraints_of wires p.nodes) a.wire.key b.wire.key line
-over_of p pins wires placed trunks tracks d a b ha hb line over =
-    subst (λ n. IsOver (constraints_of wires p.nodes) n b.wire.key line) (sym (placed_is p pins wires placed trunks tracks d a ha).key)
-    (subst (λ n. IsOver (constraints_of wires p.nodes) a.wire.net.0 n line) (sym (placed_is p pins wires placed trunks tracks d b hb).key)
-    (constraint_there p pins wires d.wired a.wire.net b.wire.net line over))
-
--- and the other way
+-- where a wire stands above another, so do their nets
 above_of : (p : Placement) (pins : Pins) (wires : List Wire) (placed : List PlacedWire) (trunks : List Trunk) (tracks : ℕ) → IsDone p pins wires placed trunks tracks → (a b : PlacedWire) → Contains placed a → Contains placed b → (line : ℕ) → IsOver (constraints_of wires p.nodes) a.wire.key b.wire.key line → IsAbove p pins a.wire.net b.wire.net line
 above_of p pins wires placed trunks tracks d a b ha hb line over =
     subst (λ n. IsAbove p pins n b.wire.net line) (sym (net_is p pins a.wire (placed_is p pins wires placed trunks tracks d a ha)))
@@ -123,7 +117,9 @@ legal p pins wires placed trunks tracks d = record {
     above a b line x y =
         subst (λ (u : Trunk). IsAbove p pins u.net b.net line → b.track < u.track) x.is
         (subst (λ (v : Trunk). IsAbove p pins (trunk_of x.of).net v.net line → v.track < (trunk_of x.of).track) y.is
-        (λ over. tracks_above wires (constraints_of wires p.nodes) placed tracks (full_of p pins wires placed trunks tracks d) x.of y.of x.listed y.listed line (over_of p pins wires placed trunks tracks d x.of y.of x.listed y.listed line over)))
+        (λ over. above_at wires p.nodes placed tracks (full_of p pins wires placed trunks tracks d) x.of y.of x.listed y.listed line over.p over.n over.differ
+        (holds_node p pins x.of.wire (placed_is p pins wires placed trunks tracks d x.of x.listed) (record { row = P; line = line; net = x.of.wire.net }) over.p refl)
+        (holds_node p pins y.of.wire (placed_is p pins wires placed trunks tracks d y.of y.listed) (record { row = N; line = line; net = y.of.wire.net }) over.n refl)))
 
 -- on keys as on nets
 before_of : (p : Placement) (pins : Pins) (a b : Wire) → IsWire p pins a → IsWire p pins b → IsBefore a b → (a.left < b.left) ⊎ ((a.left ≡ b.left) × (a.net.0 < b.net.0))

@@ -26,10 +26,6 @@ pub ended_some : (wires : List Wire) (cs : List Constraint) (left : List Wire) (
 ended_some wires cs left trunks still track None moved fewer s = absurd (omega (arith, moved.0, fewer))
 ended_some wires cs left trunks still track (Some reach) moved fewer s = ended wires cs left trunks still track reach s
 
-pub moved_fewer : (left : List Wire) (cs : List Constraint) (at : ℕ) (still : List Wire) (reach : Option Wire) → HasMoved left cs at still reach → length still ≤ at
-moved_fewer left cs at still None h = omega (arith, h.0)
-moved_fewer left cs at still (Some r) h = omega (arith, h)
-
 pub moved_stuck : (left : List Wire) (cs : List Constraint) (still : List Wire) (reach : Option Wire) → HasMoved left cs (length left) still reach → length still ≡ length left → All (λ z. waits left cs z ≡ true) left
 moved_stuck left cs still None h e = subst (λ ws. All (λ z. waits left cs z ≡ true) ws) (take_all (length left) left (omega arith)) h.1
 moved_stuck left cs still (Some r) h e = absurd (omega (arith, h, e))

@@ -160,10 +160,6 @@ rotated_at {X} named Over start turn at d below differ closed least =
     let parts : turn ≡ take at turn ++ y ∷ drop (suc at) turn = subst (λ zs. turn ≡ take at turn ++ zs) split (sym (take-append-drop at turn)) in
     subst (λ zs. IsKeyCycleBelow named Over start (zs ++ take at turn)) (sym split) (rotated named Over start (take at turn) y (drop (suc at) turn) differ (subst (λ t. IsTurn named Over start t) parts closed) (subst (λ t. All (λ (a : X). named.key y ≤ named.key a) t) parts least))
 
-pub turn_some : {X : Type 0} (named : Entries X) (Over : ℕ → ℕ → ℕ → Type 0) (start : ℕ) (turn : List X) → IsTurn named Over start turn → 0 < length turn
-turn_some named Over start [] h = absurd h
-turn_some named Over start (x ∷ xs) h = omega arith
-
 -- the least key so far
 pub least_more : {X : Type 0} (key : X → ℕ) (turn : List X) (at : ℕ) (d : X) (least now : ℕ) → at < length turn → now ≤ least → now ≤ key (get_or turn at d) → All (λ a. least ≤ key a) (take at turn) → All (λ a. now ≤ key a) (take (at + 1) turn)
 least_more key turn at d least now short lower here h =
