@@ -2,7 +2,9 @@ pub mod Apart
 pub mod Members
 pub mod Named
 pub mod Own
+pub mod PinShapes
 pub mod Placed
+pub mod PortPlaces
 pub mod Ranges
 pub mod Rest
 pub mod Shown

@@ -1,5 +1,5 @@
--- The label of a pin's name stands on its port.
-use Rattle.std.proofs.Common.{ℕ, zero, suc, ◌≡◌, ◌+◌, ◌*◌, ◌-◌, ◌<◌, ◌≤◌, ◌==◌, Bool, true, List, [], ◌∷◌, length, refl, subst, ap, ◌∙◌, inl, inr, arith, Contains}
+-- The label of a pin's name stands on the first of its ports.
+use Rattle.std.proofs.Common.{ℕ, zero, suc, ◌≡◌, ◌+◌, ◌*◌, ◌-◌, ◌<◌, ◌≤◌, ◌==◌, Bool, true, List, [], ◌∷◌, length, map, get_or, refl, subst, ap, ◌∙◌, inl, inr, arith, Contains}
 use Rattle.std.specs.Prelude.{Option, Some, find}
 use Rattle.std.specs.List.{list_any, range_with_len}
 use Rattle.std.proofs.lemmas.Bool.{cases_Bool, cases_eq, eq-eqb, ne_eqb}
@@ -8,18 +8,20 @@ use Rattle.std.proofs.lemmas.List.Elements.{All-contains}
 use Rattle.cell_num.specs.declared.net.NetNo.{NetNo}
 use Rattle.cell_num.specs.declared.net.Pins.{Pins}
 use Rattle.cell_num.specs.Pins.{IsRail}
-use Rattle.cell_num.proofs.Lists.{contains_here, contains_there, contains_get, contains_filter_map}
+use Rattle.cell_num.proofs.Lists.{contains_here, contains_there, contains_get, contains_filter_map, all_one, all_map}
 use Rattle.cell_num.proofs.In.{contains_map}
 use Rattle.cell_num.proofs.Pairs.{Some', some_from_any, test_there}
 use Rattle.row_place.specs.declared.placement.Placement.{Placement}
 use Rattle.row_place.specs.Places.{IsPlacement}
-use Rattle.row_place.specs.Trunks.{lines_of, IsSpan}
+use Rattle.box_geom.specs.declared.shape.Shape.{Shape}
 use Rattle.channel_route.specs.declared.routing.Trunk.{Trunk}
 use Rattle.channel_route.specs.declared.routing.Routing.{Routing}
 use Rattle.channel_route.specs.Routing.{IsLegal}
+use Rattle.channel_route.specs.Wiring.{AreEnds, IsWiring}
+use Rattle.channel_route.proofs.LegalWiring.{legal_wiring}
 use Rattle.row_compact.specs.Allowed.{AreAllowed, stretches_of}
 use Rattle.row_compact.specs.Solution.{x_of}
-use Rattle.row_compact.proofs.Within.{trunk_line}
+use Rattle.row_compact.proofs.Within.{wired_right}
 use Rattle.cell_draw.specs.declared.layout.Layout.{Layout}
 use Rattle.cell_draw.specs.declared.layout.Tag.{Tag}
 use Rattle.cell_draw.specs.Drawings.{label_of, drawn_of}
@@ -28,8 +30,9 @@ use Rattle.cell_draw.specs.Layouts.{width_of, trunk_of, bar_of, metal_tag, tag_o
 use Rattle.cell_draw.specs.Shapes.{gnd_rail, vdd_rail, bar_metal}
 use Rattle.row_place.specs.Units.{seats_of}
 use Rattle.lef_write.specs.Ports.{net_no, ports_of}
-use Rattle.lef_write.specs.Drawn.{HasPort}
-use Rattle.lef_write.proofs.Own.{found_first, trunk_at, gnd_at, vdd_at, signal_at, pin_shapes}
+use Rattle.lef_write.specs.Drawn.{IsNamed, IsMetal1, HasPort, HasPorts}
+use Rattle.lef_write.proofs.Own.{found_first, pin_shapes, gnd_shapes, vdd_shapes, signal_shapes, trunk_shape}
+use Rattle.lef_write.proofs.PinShapes.{FirstKept, first_kept}
 
 -- ---- lines ascend
 
@@ -58,9 +61,9 @@ find_some {X} p (x ∷ xs) e = elim (cases_Bool (p x)) [
   | inr fails ↦ let rest = find_some p xs (rw fails at e) in (rest.0, rw fails rest.1)
 ]
 
-pub pin_trunk : (p : Placement) (pins : Pins) (r : Routing) (n : ℕ) → IsLegal p pins r → n < pins.pins → (n ≡ pins.gnd.0 → ⊥) → (n ≡ pins.vdd.0 → ⊥) → (t : Trunk) × (trunk_of r.trunks (net_no n) ≡ Some t)
-pin_trunk p pins r n legal lt no_gnd no_vdd =
-    let some : Some' (λ (t : Trunk). t.net ≡ net_no n) r.trunks = some_from_any (λ (t : Trunk). t.net ≡ net_no n) r.trunks ((legal.nets (net_no n)).0 (no_rail, inr lt)) in
+pub pin_trunk : (p : Placement) (pins : Pins) (r : Routing) (n : ℕ) → IsWiring p pins r → n < pins.pins → (n ≡ pins.gnd.0 → ⊥) → (n ≡ pins.vdd.0 → ⊥) → (t : Trunk) × (trunk_of r.trunks (net_no n) ≡ Some t)
+pin_trunk p pins r n wiring lt no_gnd no_vdd =
+    let some : Some' (λ (t : Trunk). t.net ≡ net_no n) r.trunks = some_from_any (λ (t : Trunk). t.net ≡ net_no n) r.trunks ((wiring.nets (net_no n)).0 (no_rail, inr lt)) in
     find_some (λ (t : Trunk). t.net.0 == n) r.trunks (test_there (λ (t : Trunk). t.net.0 == n) r.trunks some.it some.there (eq-eqb some.it.net.0 n (ap (λ (z : NetNo). z.0) some.holds)))
   where
     no_rail : IsRail pins (net_no n) → ⊥
@@ -88,68 +91,89 @@ tagged names pins p r xs height n tag lt e = contains_map (label_of names) (layo
 
 record Given (names : List (List ℕ)) (pins : Pins) (p : Placement) (r : Routing) (xs : List ℕ) (n : ℕ) : Type 0 where
   placed : IsPlacement p
-  legal : IsLegal p pins r
+  wiring : IsWiring p pins r
   allowed : AreAllowed p pins (stretches_of r.trunks) xs
   pin : n < pins.pins
   net : n < length names
 
-gnd_port : (names : List (List ℕ)) (pins : Pins) (p : Placement) (r : Routing) (xs : List ℕ) (height n : ℕ) → Given names pins p r xs n → n ≡ pins.gnd.0 → HasPort names (ports_of pins r.trunks (drawn_of names pins p r xs height).shapes.rects) (drawn_of names pins p r xs height) n
-gnd_port names pins p r xs height n g e =
-    let l : Layout = layout_of (length names) pins p r xs height in
+-- the label of a pin stands on the shape
+abbrev IsLabelled : List (List ℕ) → Pins → Placement → Routing → List ℕ → ℕ → ℕ → Shape → Type 0
+IsLabelled names pins p r xs height n s = IsNamed (drawn_of names pins p r xs height).shapes.labels (get_or names n []) s
+
+gnd_named : (names : List (List ℕ)) (pins : Pins) (p : Placement) (r : Routing) (xs : List ℕ) (height n : ℕ) → Given names pins p r xs n → n ≡ pins.gnd.0 → IsLabelled names pins p r xs height n (gnd_rail (layout_of (length names) pins p r xs height).frame)
+gnd_named names pins p r xs height n g e =
     let far : 16 ≤ width_of p xs = wide p pins r xs g.allowed in
     record {
-      shape = gnd_rail (layout_of (length names) pins p r xs height).frame;
-      one = pin_shapes (layout_of (length names) pins p r xs height) pins r.trunks n _ g.pin (gnd_at (layout_of (length names) pins p r xs height) pins r.trunks (net_no n) e);
-      named = record {
-        label = label_of names (metal_tag 8 8 (net_at n));
-        listed = tagged names pins p r xs height n (metal_tag 8 8 (net_at n)) g.net (rw (eq-eqb n pins.gnd.0 e) refl);
-        name = refl;
-        layer = refl;
-        holds = record { left = omega (arith, ints); right = omega (arith, ints, far); low = omega (arith, ints); high = omega (arith, ints) };
-      };
+      label = label_of names (metal_tag 8 8 (net_at n));
+      listed = tagged names pins p r xs height n (metal_tag 8 8 (net_at n)) g.net (rw (eq-eqb n pins.gnd.0 e) refl);
+      name = refl;
+      layer = refl;
+      holds = record { left = omega (arith, ints); right = omega (arith, ints, far); low = omega (arith, ints); high = omega (arith, ints) };
     }
 
-vdd_port : (names : List (List ℕ)) (pins : Pins) (p : Placement) (r : Routing) (xs : List ℕ) (height n : ℕ) → Given names pins p r xs n → (n ≡ pins.gnd.0 → ⊥) → n ≡ pins.vdd.0 → HasPort names (ports_of pins r.trunks (drawn_of names pins p r xs height).shapes.rects) (drawn_of names pins p r xs height) n
-vdd_port names pins p r xs height n g other e =
+vdd_named : (names : List (List ℕ)) (pins : Pins) (p : Placement) (r : Routing) (xs : List ℕ) (height n : ℕ) → Given names pins p r xs n → (n ≡ pins.gnd.0 → ⊥) → n ≡ pins.vdd.0 → IsLabelled names pins p r xs height n (vdd_rail (layout_of (length names) pins p r xs height).frame)
+vdd_named names pins p r xs height n g other e =
     let far : 16 ≤ width_of p xs = wide p pins r xs g.allowed in
     record {
-      shape = vdd_rail (layout_of (length names) pins p r xs height).frame;
-      one = pin_shapes (layout_of (length names) pins p r xs height) pins r.trunks n _ g.pin (vdd_at (layout_of (length names) pins p r xs height) pins r.trunks (net_no n) other e);
-      named = record {
-        label = label_of names (metal_tag 8 ((layout_of (length names) pins p r xs height).frame.yp + (layout_of (length names) pins p r xs height).frame.hp + 16) (net_at n));
-        listed = tagged names pins p r xs height n _ g.net (rw (ne_eqb n pins.gnd.0 other, eq-eqb n pins.vdd.0 e) refl);
-        name = refl;
-        layer = refl;
-        holds = record { left = omega (arith, ints); right = omega (arith, ints, far); low = omega (arith, ints); high = omega (arith, ints) };
-      };
+      label = label_of names (metal_tag 8 ((layout_of (length names) pins p r xs height).frame.yp + (layout_of (length names) pins p r xs height).frame.hp + 16) (net_at n));
+      listed = tagged names pins p r xs height n _ g.net (rw (ne_eqb n pins.gnd.0 other, eq-eqb n pins.vdd.0 e) refl);
+      name = refl;
+      layer = refl;
+      holds = record { left = omega (arith, ints); right = omega (arith, ints, far); low = omega (arith, ints); high = omega (arith, ints) };
     }
 
-trunk_port : (names : List (List ℕ)) (pins : Pins) (p : Placement) (r : Routing) (xs : List ℕ) (height n : ℕ) (t : Trunk) → Given names pins p r xs n → (n ≡ pins.gnd.0 → ⊥) → (n ≡ pins.vdd.0 → ⊥) → trunk_of r.trunks (net_no n) ≡ Some t → HasPort names (ports_of pins r.trunks (drawn_of names pins p r xs height).shapes.rects) (drawn_of names pins p r xs height) n
-trunk_port names pins p r xs height n t g no_gnd no_vdd found =
+trunk_named : (names : List (List ℕ)) (pins : Pins) (p : Placement) (r : Routing) (xs : List ℕ) (height n : ℕ) (t : Trunk) → Given names pins p r xs n → (n ≡ pins.gnd.0 → ⊥) → (n ≡ pins.vdd.0 → ⊥) → trunk_of r.trunks (net_no n) ≡ Some t → IsLabelled names pins p r xs height n (bar_metal (bar_of (layout_of (length names) pins p r xs height).frame p.nodes xs t))
+trunk_named names pins p r xs height n t g no_gnd no_vdd found =
     let there : Contains r.trunks t = contains_get r.trunks _ t (found_first (λ (u : Trunk). u.net.0 == n) r.trunks t found) in
-    let span : IsSpan p t.net t.left t.right = All-contains (λ (u : Trunk). IsSpan p u.net u.left u.right) r.trunks t g.legal.spans there in
-    let ordered : t.left ≤ t.right = All-contains (λ line. t.left ≤ line) (lines_of p t.net) t.right span.none_before span.ends in
-    let ascends : x_of xs t.left ≤ x_of xs t.right = rising p pins r xs g.allowed t.left t.right ordered (trunk_line p pins r g.placed g.legal t there) in
+    let ends : AreEnds p t = All-contains (AreEnds p) r.trunks t g.wiring.ends there in
+    let ascends : x_of xs t.left ≤ x_of xs t.right = rising p pins r xs g.allowed t.left t.right ends.ascending (wired_right p pins r g.placed g.wiring t there) in
     record {
-      shape = bar_metal (bar_of (layout_of (length names) pins p r xs height).frame p.nodes xs t);
-      one = pin_shapes (layout_of (length names) pins p r xs height) pins r.trunks n _ g.pin (signal_at (layout_of (length names) pins p r xs height) pins r.trunks (net_no n) no_gnd no_vdd ∙ trunk_at (layout_of (length names) pins p r xs height) r.trunks (bar_of (layout_of (length names) pins p r xs height).frame p.nodes xs) (net_no n) t refl found);
-      named = record {
-        label = label_of names (metal_tag (x_of xs t.left) (track_y (layout_of (length names) pins p r xs height).frame t.track) (net_at n));
-        listed = tagged names pins p r xs height n _ g.net (rw (ne_eqb n pins.gnd.0 no_gnd, ne_eqb n pins.vdd.0 no_vdd, found) refl);
-        name = refl;
-        layer = refl;
-        holds = record { left = omega (arith, ints); right = omega (arith, ints, ascends); low = omega (arith, ints); high = omega (arith, ints) };
-      };
+      label = label_of names (metal_tag (x_of xs t.left) (track_y (layout_of (length names) pins p r xs height).frame t.track) (net_at n));
+      listed = tagged names pins p r xs height n _ g.net (rw (ne_eqb n pins.gnd.0 no_gnd, ne_eqb n pins.vdd.0 no_vdd, found) refl);
+      name = refl;
+      layer = refl;
+      holds = record { left = omega (arith, ints); right = omega (arith, ints, ascends); low = omega (arith, ints); high = omega (arith, ints) };
     }
 
--- each pin of a drawn cell has one port, which holds the label of its name
+-- ---- all pins
+
+-- each pin of a drawn cell has ports, and the first holds the label of its name
+pub has_ports : (names : List (List ℕ)) (pins : Pins) (p : Placement) (r : Routing) (xs : List ℕ) (height n : ℕ) → IsPlacement p → IsWiring p pins r → AreAllowed p pins (stretches_of r.trunks) xs → pins.pins ≤ length names → n < pins.pins → HasPorts names (ports_of pins r.trunks (drawn_of names pins p r xs height).shapes.rects) (drawn_of names pins p r xs height) n
+has_ports names pins p r xs height n placed wiring allowed few lt =
+    let g : Given names pins p r xs n = record { placed = placed; wiring = wiring; allowed = allowed; pin = lt; net = omega (arith, few, lt) } in
+    let l : Layout = layout_of (length names) pins p r xs height in
+    elim (cases_eq n pins.gnd.0) [
+      | inl gnd ↦ record { first = gnd_rail l.frame; others = []; are = pin_shapes l pins r.trunks n lt ∙ gnd_shapes l pins r.trunks n gnd; metal = all_one IsMetal1 (gnd_rail l.frame) refl; named = gnd_named names pins p r xs height n g gnd }
+      | inr no_gnd ↦ elim (cases_eq n pins.vdd.0) [
+        | inl vdd ↦ record { first = vdd_rail l.frame; others = []; are = pin_shapes l pins r.trunks n lt ∙ vdd_shapes l pins r.trunks n no_gnd vdd; metal = all_one IsMetal1 (vdd_rail l.frame) refl; named = vdd_named names pins p r xs height n g no_gnd vdd }
+        | inr no_vdd ↦
+            let trunk = pin_trunk p pins r n wiring lt no_gnd no_vdd in
+            let rest : FirstKept n r.trunks trunk.0 = first_kept n r.trunks trunk.0 trunk.1 in
+            record {
+              first = bar_metal (bar_of l.frame p.nodes xs trunk.0);
+              others = map (λ t. bar_metal (bar_of l.frame p.nodes xs t)) rest.others;
+              are = pin_shapes l pins r.trunks n lt ∙ (signal_shapes l pins r.trunks (bar_of l.frame p.nodes xs) n refl no_gnd no_vdd ∙ ap (λ ts. map (λ (t : Trunk). bar_metal (bar_of l.frame p.nodes xs t)) ts) rest.is);
+              metal = all_map (λ (t : Trunk). Unit {0}) IsMetal1 (λ t. bar_metal (bar_of l.frame p.nodes xs t)) (trunk.0 ∷ rest.others) (λ t any. refl) (λ k d short. tt);
+              named = trunk_named names pins p r xs height n trunk.0 g no_gnd no_vdd trunk.1;
+            }
+      ]
+    ]
+
+-- one port under a legal routing
 pub has_port : (names : List (List ℕ)) (pins : Pins) (p : Placement) (r : Routing) (xs : List ℕ) (height n : ℕ) → IsPlacement p → IsLegal p pins r → AreAllowed p pins (stretches_of r.trunks) xs → pins.pins ≤ length names → n < pins.pins → HasPort names (ports_of pins r.trunks (drawn_of names pins p r xs height).shapes.rects) (drawn_of names pins p r xs height) n
 has_port names pins p r xs height n placed legal allowed few lt =
-    let given : Given names pins p r xs n = record { placed = placed; legal = legal; allowed = allowed; pin = lt; net = omega (arith, few, lt) } in
+    let g : Given names pins p r xs n = record { placed = placed; wiring = legal_wiring p pins r legal; allowed = allowed; pin = lt; net = omega (arith, few, lt) } in
+    let l : Layout = layout_of (length names) pins p r xs height in
     elim (cases_eq n pins.gnd.0) [
-      | inl gnd ↦ gnd_port names pins p r xs height n given gnd
+      | inl gnd ↦ record { shape = gnd_rail l.frame; one = pin_shapes l pins r.trunks n lt ∙ gnd_shapes l pins r.trunks n gnd; named = gnd_named names pins p r xs height n g gnd }
       | inr no_gnd ↦ elim (cases_eq n pins.vdd.0) [
-        | inl vdd ↦ vdd_port names pins p r xs height n given no_gnd vdd
-        | inr no_vdd ↦ let trunk = pin_trunk p pins r n legal lt no_gnd no_vdd in trunk_port names pins p r xs height n trunk.0 given no_gnd no_vdd trunk.1
+        | inl vdd ↦ record { shape = vdd_rail l.frame; one = pin_shapes l pins r.trunks n lt ∙ vdd_shapes l pins r.trunks n no_gnd vdd; named = vdd_named names pins p r xs height n g no_gnd vdd }
+        | inr no_vdd ↦
+            let trunk = pin_trunk p pins r n g.wiring lt no_gnd no_vdd in
+            record {
+              shape = bar_metal (bar_of l.frame p.nodes xs trunk.0);
+              one = pin_shapes l pins r.trunks n lt ∙ trunk_shape l pins r.trunks (bar_of l.frame p.nodes xs) n trunk.0 legal.order refl no_gnd no_vdd trunk.1;
+              named = trunk_named names pins p r xs height n trunk.0 g no_gnd no_vdd trunk.1;
+            }
       ]
     ]

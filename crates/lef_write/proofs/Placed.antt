@@ -1,18 +1,19 @@
 -- Ports stand on metal1.
-use Rattle.std.proofs.Common.{ℕ, zero, suc, ◌≡◌, ◌+◌, ◌-◌, ◌==◌, length, Bool, true, false, cond, List, [], ◌∷◌, get_or, drop, refl, sym, ap, ◌∙◌, inl, inr, arith, All, Contains}
-use Rattle.std.specs.Prelude.{Option, Some, None, slice_get, position, option_map, option_and_then}
-use Rattle.std.specs.List.{enumerate_from, range_with_len}
+use Rattle.std.proofs.Common.{ℕ, suc, ◌≡◌, ◌+◌, Bool, true, cond, List, [], ◌∷◌, get_or, refl, sym, ap, ◌∙◌, inl, inr, arith, All, Contains}
+use Rattle.std.specs.Prelude.{Option, Some, None, slice_get}
+use Rattle.std.specs.List.{enumerate_from, flat_map, range_with_len}
 use Rattle.std.proofs.lemmas.Bool.{cases_Bool, eqb-true}
-use Rattle.cell_num.specs.declared.net.NetNo.{NetNo}
 use Rattle.cell_num.specs.declared.net.Pins.{Pins}
-use Rattle.cell_num.proofs.Lists.{some_same, contains_none, contains_cons, contains_there, contains_get, all_from_contains, kept_from}
+use Rattle.cell_num.proofs.Lists.{some_same, contains_none, contains_cons, contains_get, all_from_contains, kept_from}
+use Rattle.cell_num.proofs.In.{Piece, in_flat}
 use Rattle.box_geom.specs.declared.layer.Layer.{Layer}
 use Rattle.box_geom.specs.declared.layer.Layer.TheVariants.{Well, Active, PSelect, NSelect, Poly, Contact, Metal1, Via, Metal2}
 use Rattle.box_geom.specs.declared.shape.Shape.{Shape}
 use Rattle.box_geom.specs.Layers.{layer_no, same_layer}
 use Rattle.channel_route.specs.declared.routing.Trunk.{Trunk}
 use Rattle.lef_write.specs.declared.port.Port.{Port}
-use Rattle.lef_write.specs.Ports.{place_on, places_on, last_ones, place_of_trunk, place_of_net, net_no, port_with, port_of, ports_of, IsOn, IsPort}
+use Rattle.lef_write.specs.Ports.{place_on, places_on, ports_on, ports_of, IsOn, IsPort}
+use Rattle.lef_write.proofs.PortPlaces.{Stands, stands}
 
 -- ---- a layer is told by its number
 
@@ -68,45 +69,12 @@ place_is_on layer rects place there =
 
 -- ---- ports
 
-in_drop : {X : Type 0} (k : ℕ) (xs : List X) (x : X) → Contains (drop k xs) x → Contains xs x
-in_drop zero xs x there = there
-in_drop (suc k) [] x there = there
-in_drop (suc k) (y ∷ ys) x there = contains_there y ys x (in_drop k ys x there)
-
-nothing : {X : Type 0} (x : X) → ◌≡◌ {A = Option X} None (Some x) → ⊥
-nothing x e = absurd cc
-
-at_position : (metal : List ℕ) (count place : ℕ) (at : Option ℕ) → option_and_then (slice_get (last_ones count metal)) at ≡ Some place → Contains metal place
-at_position metal count place None e = absurd (nothing place e)
-at_position metal count place (Some at) e = in_drop (length metal - count) metal place (contains_get (last_ones count metal) at place e)
-
-in_metal : (pins : Pins) (trunks : List Trunk) (metal : List ℕ) (net : NetNo) (place : ℕ) → place_of_net pins trunks metal net ≡ Some place → Contains metal place
-in_metal pins trunks metal net place e = elim (cases_Bool (net.0 == pins.gnd.0)) [
-  | inl gnd ↦ contains_get metal 0 place (sym (ap (λ (b : Bool). cond b (slice_get metal 0) other) gnd) ∙ e)
-  | inr signal ↦ elim (cases_Bool (net.0 == pins.vdd.0)) [
-    | inl vdd ↦ contains_get metal 1 place (sym (ap (λ (b : Bool). cond b (slice_get metal 1) trunk) vdd) ∙ behind signal)
-    | inr inner ↦ at_position metal (length trunks) place (position (λ t. t.net.0 == net.0) trunks) (sym (ap (λ (b : Bool). cond b (slice_get metal 1) trunk) inner) ∙ behind signal)
-  ]
-]
-  where
-    trunk : Option ℕ
-    trunk = place_of_trunk trunks metal net
-
-    other : Option ℕ
-    other = cond (net.0 == pins.vdd.0) (slice_get metal 1) trunk
-
-    behind : (net.0 == pins.gnd.0) ≡ false → other ≡ Some place
-    behind signal = sym (ap (λ (b : Bool). cond b (slice_get metal 0) other) signal) ∙ e
-
-pub port_in_metal : (pins : Pins) (trunks : List Trunk) (metal : List ℕ) (n : ℕ) (port : Port) → port_of pins trunks metal n ≡ Some port → Contains metal port.shape
-port_in_metal pins trunks metal n port e = by_place (place_of_net pins trunks metal (net_no n)) refl e
-  where
-    by_place : (o : Option ℕ) → place_of_net pins trunks metal (net_no n) ≡ o → option_map (port_with (net_no n)) o ≡ Some port → Contains metal port.shape
-    by_place None is e = absurd (nothing port e)
-    by_place (Some place) is e = in_metal pins trunks metal (net_no n) port.shape (is ∙ ap (λ (p : Port). Some p.shape) (some_same (port_with (net_no n) place) port e))
+pub port_in_metal : (pins : Pins) (trunks : List Trunk) (metal : List ℕ) (port : Port) → Contains (flat_map (ports_on pins trunks metal) (range_with_len 0 pins.pins)) port → Contains metal port.shape
+port_in_metal pins trunks metal port there =
+    let piece : Piece (ports_on pins trunks metal) (range_with_len 0 pins.pins) port = in_flat (ports_on pins trunks metal) (range_with_len 0 pins.pins) port there in
+    let s : Stands pins trunks metal piece.of port = stands pins trunks metal piece.of port piece.inside in
+    contains_get metal s.at port.shape s.there
 
 -- each port of a cell stands on metal1
 pub ports_are : (pins : Pins) (trunks : List Trunk) (rects : List Shape) → All (IsPort rects) (ports_of pins trunks rects)
-ports_are pins trunks rects = all_from_contains (IsPort rects) (ports_of pins trunks rects) (λ port there.
-    let kept = kept_from (port_of pins trunks (places_on Metal1 rects)) (range_with_len 0 pins.pins) port there in
-    place_is_on Metal1 rects port.shape (port_in_metal pins trunks (places_on Metal1 rects) kept.from port kept.gives))
+ports_are pins trunks rects = all_from_contains (IsPort rects) (ports_of pins trunks rects) (λ port there. place_is_on Metal1 rects port.shape (port_in_metal pins trunks (places_on Metal1 rects) port there))

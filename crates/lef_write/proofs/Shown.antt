@@ -1,5 +1,5 @@
 -- The metal1 shapes of a layout, and their places.
-use Rattle.std.proofs.Common.{ℕ, zero, suc, ◌≡◌, ◌+◌, ◌-◌, List, [], ◌∷◌, ◌++◌, length, drop, map, refl, sym, ap, ◌∙◌, inl, inr, length-append, arith}
+use Rattle.std.proofs.Common.{ℕ, zero, suc, ◌≡◌, ◌+◌, ◌-◌, List, [], ◌∷◌, ◌++◌, length, map, refl, sym, ap, ◌∙◌, inl, inr, length-append, arith}
 use Rattle.std.specs.Prelude.{Some, filter_map, flat_map, slice_get, option_and_then}
 use Rattle.std.specs.List.{enumerate_from}
 use Rattle.std.proofs.lemmas.Bool.{cases_Bool}
@@ -14,6 +14,7 @@ use Rattle.cell_draw.specs.declared.layout.Layout.{Layout}
 use Rattle.cell_draw.specs.Shapes.{gnd_rail, vdd_rail, frame_shapes, finger, contact_shapes, gate_shapes, bar_metal, via_shapes, bar_shapes, shapes_of}
 use Rattle.lef_write.specs.Drawn.{shapes_on}
 use Rattle.lef_write.specs.Ports.{place_on, places_on, last_ones}
+use Rattle.lef_write.proofs.PortPlaces.{drop_get}
 
 -- ---- the shape at a place
 
@@ -68,11 +69,6 @@ pub metal_of : (l : Layout) → shapes_on Metal1 (shapes_of l) ≡ front l ++ ma
 metal_of l = filter-append (λ (s : Shape). same_layer s.layer Metal1) (frame_shapes l.frame ++ flat_map (λ s. finger l.frame s ∷ []) l.strips ++ flat_map (contact_shapes l.frame) l.contacts ++ flat_map (gate_shapes l.frame) l.gates) (flat_map bar_shapes l.bars) ∙ rw (bars_metal l.bars) refl
 
 -- ---- the last of them
-
-pub drop_get : {X : Type 0} (k : ℕ) (xs : List X) (i : ℕ) → slice_get (drop k xs) i ≡ slice_get xs (k + i)
-drop_get zero xs i = let e : 0 + i ≡ i = omega arith in sym (ap (λ m. slice_get xs m) e)
-drop_get (suc k) [] i = refl
-drop_get (suc k) (x ∷ xs) i = let e : suc k + i ≡ suc (k + i) = omega arith in drop_get k xs i ∙ sym (ap (λ m. slice_get (x ∷ xs) m) e)
 
 get_behind : {X : Type 0} (xs ys : List X) (i : ℕ) → slice_get (xs ++ ys) (length xs + i) ≡ slice_get ys i
 get_behind [] ys i = let e : 0 + i ≡ i = omega arith in ap (λ m. slice_get ys m) e

@@ -18,11 +18,11 @@ use Rattle.row_place.specs.Places.{IsPlacement}
 use Rattle.row_place.proofs.Bounds.{node_line}
 use Rattle.channel_route.specs.declared.routing.Trunk.{Trunk}
 use Rattle.channel_route.specs.declared.routing.Routing.{Routing}
-use Rattle.channel_route.specs.Routing.{IsLegal}
+use Rattle.channel_route.specs.Wiring.{IsWiring}
 use Rattle.row_compact.specs.Allowed.{AreAllowed, stretches_of}
 use Rattle.row_compact.specs.Entries.{is_rail}
 use Rattle.row_compact.specs.Solution.{x_of}
-use Rattle.row_compact.proofs.Within.{trunk_line}
+use Rattle.row_compact.proofs.Within.{wired_right}
 use Rattle.cell_draw.specs.declared.layout.Bar.{Bar}
 use Rattle.cell_draw.specs.declared.layout.Contact.{Contact}
 use Rattle.cell_draw.specs.declared.layout.Frame.{Frame}
@@ -128,17 +128,17 @@ contacts_fit names pins p r xs height placed allowed = all_from_contains (FitsCo
     let at : c.x ≡ x_of xs kept.from.line = contact_x (layout_of (length names) pins p r xs height).frame pins r.trunks xs kept.from c kept.gives in
     record { right = omega (arith, at, rising p pins r xs allowed kept.from.line (2 * length p.units) (node_line p placed kept.from kept.there) (omega arith)) })
 
-bars_fit : (names : List (List ℕ)) (pins : Pins) (p : Placement) (r : Routing) (xs : List ℕ) (height : ℕ) → IsPlacement p → IsLegal p pins r → AreAllowed p pins (stretches_of r.trunks) xs → All (FitsBar (layout_of (length names) pins p r xs height).frame) (layout_of (length names) pins p r xs height).bars
-bars_fit names pins p r xs height placed legal allowed = All-map (FitsBar (layout_of (length names) pins p r xs height).frame) (bar_of (layout_of (length names) pins p r xs height).frame p.nodes xs) r.trunks (all_from_contains (λ (t : Trunk). FitsBar (layout_of (length names) pins p r xs height).frame (bar_of (layout_of (length names) pins p r xs height).frame p.nodes xs t)) r.trunks (λ t there.
-    let low : t.track < r.tracks = All-contains (λ (u : Trunk). u.track < r.tracks) r.trunks t legal.tracks there in
+bars_fit : (names : List (List ℕ)) (pins : Pins) (p : Placement) (r : Routing) (xs : List ℕ) (height : ℕ) → IsPlacement p → IsWiring p pins r → AreAllowed p pins (stretches_of r.trunks) xs → All (FitsBar (layout_of (length names) pins p r xs height).frame) (layout_of (length names) pins p r xs height).bars
+bars_fit names pins p r xs height placed wiring allowed = All-map (FitsBar (layout_of (length names) pins p r xs height).frame) (bar_of (layout_of (length names) pins p r xs height).frame p.nodes xs) r.trunks (all_from_contains (λ (t : Trunk). FitsBar (layout_of (length names) pins p r xs height).frame (bar_of (layout_of (length names) pins p r xs height).frame p.nodes xs t)) r.trunks (λ t there.
+    let low : t.track < r.tracks = All-contains (λ (u : Trunk). u.track < r.tracks) r.trunks t wiring.tracks there in
     record {
-      right = omega (arith, rising p pins r xs allowed t.right (2 * length p.units) (trunk_line p pins r placed legal t there) (omega arith));
+      right = omega (arith, rising p pins r xs allowed t.right (2 * length p.units) (wired_right p pins r placed wiring t there) (omega arith));
       top = omega (arith, low);
     }))
 
 -- the size of a drawn cell is that of its metal1
-pub sized : (names : List (List ℕ)) (pins : Pins) (p : Placement) (r : Routing) (xs : List ℕ) (height : ℕ) → IsPlacement p → IsLegal p pins r → AreAllowed p pins (stretches_of r.trunks) xs → IsSized (drawn_of names pins p r xs height)
-sized names pins p r xs height placed legal allowed = record {
-  most = within names (layout_of (length names) pins p r xs height) (shapes_of (layout_of (length names) pins p r xs height)) (all_fit (layout_of (length names) pins p r xs height) (omega arith) (contacts_fit names pins p r xs height placed allowed) (bars_fit names pins p r xs height placed legal allowed));
+pub sized : (names : List (List ℕ)) (pins : Pins) (p : Placement) (r : Routing) (xs : List ℕ) (height : ℕ) → IsPlacement p → IsWiring p pins r → AreAllowed p pins (stretches_of r.trunks) xs → IsSized (drawn_of names pins p r xs height)
+sized names pins p r xs height placed wiring allowed = record {
+  most = within names (layout_of (length names) pins p r xs height) (shapes_of (layout_of (length names) pins p r xs height)) (all_fit (layout_of (length names) pins p r xs height) (omega arith) (contacts_fit names pins p r xs height placed allowed) (bars_fit names pins p r xs height placed wiring allowed));
   there = at_end names (layout_of (length names) pins p r xs height);
 }

@@ -35,6 +35,17 @@ pub record HasPort (names : List (List ℕ)) (ports : List Port) (d : Drawing) (
   pub one : port_shapes ports d.shapes.rects (net_no n) ≡ shape ∷ []
   pub named : IsNamed d.shapes.labels (get_or names n []) shape
 
+abbrev pub IsMetal1 : Shape → Type 0
+IsMetal1 s = s.layer ≡ Metal1
+
+-- the pin has these ports, all of metal1, and the label of its name stands on the first
+pub record HasPorts (names : List (List ℕ)) (ports : List Port) (d : Drawing) (n : ℕ) : Type 0 where
+  pub first : Shape
+  pub others : List Shape
+  pub are : port_shapes ports d.shapes.rects (net_no n) ≡ first ∷ others
+  pub metal : All IsMetal1 (first ∷ others)
+  pub named : IsNamed d.shapes.labels (get_or names n []) first
+
 -- the shapes at all ports
 abbrev pub all_port_shapes : List Port → List Shape → List Shape
 all_port_shapes ports rects = filter_map (λ (port : Port). slice_get rects port.shape) ports

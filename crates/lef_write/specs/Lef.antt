@@ -130,6 +130,6 @@ library_text cell ports drawing unit =
     ++ text_line (codes "END ") cell.name
     ++ codes "END LIBRARY\n"
 
--- the same with each pin's rail or trunk as its port
+-- the same with each pin's rail, or the trunks of its net, as its port
 abbrev pub cell_text : Subckt → Routing → Drawing → ℕ → List ℕ
 cell_text cell routing drawing unit = library_text cell (ports_of cell.pins routing.trunks drawing.shapes.rects) drawing unit

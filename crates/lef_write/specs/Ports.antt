@@ -1,6 +1,6 @@
 -- The ports and the obstructions of a cell: which shapes of its drawing are which.
-use Rattle.std.specs.Prelude.{ℕ, ◌≡◌, ◌-◌, ◌==◌, ◌&&◌, not, Bool, List, ◌++◌, length, filter_map, drop, slice_get, position, Option, Some, None, option_map, option_and_then, if◌then◌else◌}
-use Rattle.std.specs.List.{list_any, enumerate_from, range_with_len}
+use Rattle.std.specs.Prelude.{ℕ, ◌≡◌, ◌-◌, ◌==◌, ◌&&◌, not, Bool, List, ◌++◌, length, filter_map, drop, slice_get, Option, Some, None, option_map, option_to_list, if◌then◌else◌}
+use Rattle.std.specs.List.{flat_map, list_any, enumerate_from, range_with_len, zip}
 use Rattle.cell_num.specs.declared.net.NetNo.{NetNo}
 use Rattle.cell_num.specs.declared.net.Pins.{Pins}
 use Rattle.box_geom.specs.declared.layer.Layer.{Layer}
@@ -24,30 +24,38 @@ places_on layer rects = filter_map (place_on layer) (enumerate_from 0 rects)
 abbrev pub last_ones : {X : Type 0} → ℕ → List X → List X
 last_ones count xs = drop (length xs - count) xs
 
--- Of the metal1 shapes of a drawing the first is the gnd rail, the second the vdd rail, and the last are
--- the trunks of its routing, in their order.
-abbrev pub place_of_trunk : List Trunk → List ℕ → NetNo → Option ℕ
-place_of_trunk trunks metal net = option_and_then (slice_get (last_ones (length trunks) metal)) (position (λ t. t.net.0 == net.0) trunks)
-
--- a net's rail, or else its trunk
-abbrev pub place_of_net : Pins → List Trunk → List ℕ → NetNo → Option ℕ
-place_of_net pins trunks metal net =
-    if net.0 == pins.gnd.0 then slice_get metal 0 else
-    if net.0 == pins.vdd.0 then slice_get metal 1 else
-    place_of_trunk trunks metal net
-
 abbrev pub net_no : ℕ → NetNo
 net_no n = record { 0 = n }
 
 abbrev pub port_with : NetNo → ℕ → Port
 port_with pin place = record { pin = pin; shape = place }
 
-abbrev pub port_of : Pins → List Trunk → List ℕ → ℕ → Option Port
-port_of pins trunks metal n = option_map (port_with (net_no n)) (place_of_net pins trunks metal (net_no n))
+-- a rail, where it stands
+abbrev pub rail_port : NetNo → Option ℕ → List Port
+rail_port pin place = option_to_list (option_map (port_with pin) place)
+
+-- a trunk and its place, where it is of the pin's net
+abbrev pub trunk_port : NetNo → Trunk × ℕ → Option Port
+trunk_port pin placed = if placed.0.net.0 == pin.0 then Some (port_with pin placed.1) else None
+
+-- the trunks of the pin's net, which stand at these places
+abbrev pub trunk_ports : NetNo → List Trunk → List ℕ → List Port
+trunk_ports pin trunks places = filter_map (trunk_port pin) (zip trunks places)
+
+-- A pin's rail, or else all trunks of its net. Of the metal1 shapes of a drawing the first is the gnd rail, the second the vdd
+-- rail, and the last are the trunks of its wiring, in their order.
+abbrev pub pin_ports : Pins → List Trunk → List ℕ → NetNo → List Port
+pin_ports pins trunks metal pin =
+    if pin.0 == pins.gnd.0 then rail_port pin (slice_get metal 0) else
+    if pin.0 == pins.vdd.0 then rail_port pin (slice_get metal 1) else
+    trunk_ports pin trunks (last_ones (length trunks) metal)
+
+abbrev pub ports_on : Pins → List Trunk → List ℕ → ℕ → List Port
+ports_on pins trunks metal n = pin_ports pins trunks metal (net_no n)
 
 -- the ports of a cell, pin by pin
 abbrev pub ports_of : Pins → List Trunk → List Shape → List Port
-ports_of pins trunks rects = filter_map (port_of pins trunks (places_on Metal1 rects)) (range_with_len 0 pins.pins)
+ports_of pins trunks rects = flat_map (ports_on pins trunks (places_on Metal1 rects)) (range_with_len 0 pins.pins)
 
 -- ---- what ports and obstructions are
 

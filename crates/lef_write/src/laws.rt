@@ -4,9 +4,10 @@ ghost use Rattle.row_place.specs.declared.placement.Placement.{Placement};
 ghost use Rattle.row_place.specs.Places.{IsPlacement};
 ghost use Rattle.channel_route.specs.declared.routing.Routing.{Routing};
 ghost use Rattle.channel_route.specs.Routing.{IsLegal};
+ghost use Rattle.channel_route.specs.Wiring.{IsWiring};
 ghost use Rattle.row_compact.specs.Allowed.{AreAllowed, stretches_of};
 ghost use Rattle.cell_draw.specs.Drawings.{drawn_of};
-ghost use Rattle.lef_write.specs.Drawn.{AreAllMetal, HasPort, IsSized, ports_in};
+ghost use Rattle.lef_write.specs.Drawn.{AreAllMetal, HasPort, HasPorts, IsSized, ports_in};
 
 /// In the drawing of a routed row each pin has exactly one port, on which the label of its name stands, so
 /// it is a shape of the pin's net; the obstructions are exactly the rest of its metal; and the macro's
@@ -21,5 +22,17 @@ pub fn drawn_ports()
         (drawn_of names pins p r xs height).shapes.rects }
     ensures size { (names : List (List ℕ)) (pins : Pins) (p : Placement) (r : Routing) (xs : List ℕ) (height : ℕ)
         → IsPlacement p → IsLegal p pins r → AreAllowed p pins (stretches_of r.trunks) xs
+        → IsSized (drawn_of names pins p r xs height) }
+{}
+
+/// In the drawing of a wired row each pin has one port or more, all of metal1, and the label of its name stands
+/// on the first; the macro's size is that of its metal1. It does nothing: its contract is the law.
+pub fn wired_ports()
+    ensures ports { (names : List (List ℕ)) (pins : Pins) (p : Placement) (r : Routing) (xs : List ℕ) (height n : ℕ)
+        → IsPlacement p → IsWiring p pins r → AreAllowed p pins (stretches_of r.trunks) xs → pins.pins ≤ length names
+        → n < pins.pins
+        → HasPorts names (ports_in pins r (drawn_of names pins p r xs height)) (drawn_of names pins p r xs height) n }
+    ensures size { (names : List (List ℕ)) (pins : Pins) (p : Placement) (r : Routing) (xs : List ℕ) (height : ℕ)
+        → IsPlacement p → IsWiring p pins r → AreAllowed p pins (stretches_of r.trunks) xs
         → IsSized (drawn_of names pins p r xs height) }
 {}

@@ -10,6 +10,6 @@ mod ports;
 mod shapes;
 mod write;
 
-pub use laws::drawn_ports;
+pub use laws::{drawn_ports, wired_ports};
 pub use port::{Port, PortList};
 pub use write::{lef_ports, lef_text};

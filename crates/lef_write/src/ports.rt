@@ -1,8 +1,8 @@
 // Which shapes of a drawing are ports, and which are obstructions.
-ghost use Rattle.std.specs.Prelude.{◌≡◌, ◌<◌, ◌==◌, ◌++◌, length, position, filter_map, option_to_list, IfOk, OnOk};
-ghost use Rattle.std.specs.List.{range_with_len};
+ghost use Rattle.std.specs.Prelude.{◌≡◌, ◌<◌, ◌++◌, length, IfOk, OnOk};
+ghost use Rattle.std.specs.List.{flat_map, range_with_len};
 ghost use Rattle.box_geom.specs.Layers.{same_layer};
-ghost use Rattle.lef_write.specs.Ports.{places_on, last_ones, place_of_trunk, place_of_net, port_of, ports_of, shape_of, port_shapes, is_taken, obstructions_on};
+ghost use Rattle.lef_write.specs.Ports.{places_on, last_ones, trunk_port, trunk_ports, rail_port, pin_ports, ports_on, ports_of, shape_of, port_shapes, is_taken, obstructions_on};
 
 use crate::{Port, PortList};
 use box_geom::{Layer, Shape, ShapeList};
@@ -36,47 +36,69 @@ fn last_ones(count: usize, places: &[u32]) -> &[u32]
     &places[places.len().saturating_sub(count)..]
 }
 
-fn find_trunk(trunks: &[Trunk], net: NetNo) -> Option<usize>
-    ensures { result ≡ position (λ t. t.net.0 == net.0) trunks.now }
+fn trunk_port(pin: NetNo, trunk: &Trunk, place: u32) -> Option<Port>
+    ensures { result ≡ trunk_port pin (trunk.now, place) }
 {
-    trunks.iter().position(|trunk| trunk.net == net)
-}
-
-fn place_of_trunk(trunks: &[Trunk], metal: &[u32], net: NetNo) -> Option<u32>
-    ensures { result ≡ place_of_trunk trunks.now metal.now net }
-{
-    match find_trunk(trunks, net) {
-        Some(at) => last_ones(trunks.len(), metal).get(at).copied(),
-        None => None,
-    }
-}
-
-fn place_of_net(pins: &Pins, trunks: &[Trunk], metal: &[u32], net: NetNo) -> Option<u32>
-    ensures { result ≡ place_of_net pins.now trunks.now metal.now net }
-{
-    if net == pins.gnd {
-        metal.get(0).copied()
-    } else if net == pins.vdd {
-        metal.get(1).copied()
+    if trunk.net == pin {
+        Some(Port { pin, shape: place })
     } else {
-        place_of_trunk(trunks, metal, net)
+        None
     }
 }
 
-fn port_of(pins: &Pins, trunks: &[Trunk], metal: &[u32], pin: u32) -> Option<Port>
-    ensures { result ≡ port_of pins.now trunks.now metal.now pin }
+fn trunk_ports(
+    alloc: Global,
+    pin: NetNo,
+    trunks: &[Trunk],
+    places: &[u32],
+) -> Result<Vec<Port>, AllocError>
+    ensures { IfOk result (λ ports. ports.items ≡ trunk_ports pin trunks.now places.now) }
 {
-    let pin = NetNo(pin);
-    let shape = place_of_net(pins, trunks, metal, pin)?;
-    Some(Port { pin, shape })
+    trunks
+        .iter()
+        .zip(places.iter())
+        .filter_map(|pair| trunk_port(pin, pair.0, *pair.1))
+        .collect(alloc)
 }
 
-fn add_port(ports: &mut PortList, port: Option<Port>) -> Result<(), NoMemory>
-    ensures { OnOk result (ports.new ≡ ports.old ++ option_to_list port) }
+fn add_rail(ports: &mut PortList, pin: NetNo, place: Option<u32>) -> Result<(), NoMemory>
+    ensures { OnOk result (ports.new ≡ ports.old ++ rail_port pin place) }
 {
-    match port {
-        Some(port) => ports.push(port),
+    match place {
+        Some(shape) => ports.push(Port { pin, shape }),
         None => Ok(()),
+    }
+}
+
+fn add_trunks(
+    alloc: Global,
+    ports: &mut PortList,
+    pin: NetNo,
+    trunks: &[Trunk],
+    places: &[u32],
+) -> Result<(), NoMemory>
+    ensures { OnOk result (ports.new ≡ ports.old ++ trunk_ports pin trunks.now places.now) }
+{
+    let found = trunk_ports(alloc, pin, trunks, places)?;
+    ports.extend(&found)
+}
+
+fn add_ports(
+    alloc: Global,
+    ports: &mut PortList,
+    pins: &Pins,
+    trunks: &[Trunk],
+    metal: &[u32],
+    pin: NetNo,
+) -> Result<(), NoMemory>
+    ensures { OnOk result (ports.new ≡ ports.old ++ pin_ports pins.now trunks.now metal.now pin) }
+{
+    if pin == pins.gnd {
+        add_rail(ports, pin, metal.get(0).copied())
+    } else if pin == pins.vdd {
+        add_rail(ports, pin, metal.get(1).copied())
+    } else {
+        add_trunks(alloc, ports, pin, trunks, last_ones(trunks.len(), metal))
     }
 }
 
@@ -87,16 +109,16 @@ fn ports_among(
     metal: &[u32],
 ) -> Result<PortList, NoMemory>
     ensures { IfOk result (λ ports.
-        ports ≡ filter_map (port_of pins.now trunks.now metal.now) (range_with_len 0 pins.now.pins)) }
+        ports ≡ flat_map (ports_on pins.now trunks.now metal.now) (range_with_len 0 pins.now.pins)) }
 {
     let mut ports = PortList::new(alloc);
     for pin in 0..pins.pins {
-        add_port(&mut ports, port_of(pins, trunks, metal, pin))?;
+        add_ports(alloc, &mut ports, pins, trunks, metal, NetNo(pin))?;
     }
     Ok(ports)
 }
 
-/// The ports of a cell's pins in a drawing of it: each pin's rail or trunk.
+/// The ports of a cell's pins in a drawing of it: each pin's rail or the trunks of its net.
 pub fn ports_of(
     alloc: Global,
     pins: &Pins,

@@ -81,7 +81,7 @@ pub fn lef_ports(
 }
 
 /// The LEF library of a cell, by the LEF/DEF 5.8 Language Reference: one macro, each pin's port is its
-/// rail or its trunk, and all other metal obstructs. The routing and the drawing are the cell's own. A
+/// rail or all trunks of its net, and all other metal obstructs. The routing and the drawing are the cell's own. A
 /// grid unit has `unit_nm` nanometres.
 #[tactic(auto, using(crate::proofs::Placed::ports_are))]
 pub fn lef_text(
