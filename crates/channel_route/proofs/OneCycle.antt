@@ -69,15 +69,15 @@ round {X} named Over (a ∷ more) back y h there =
       | inr rest ↦ round named Over more back y h.1 rest
     ]
 
-least_inside : {X : Type 0} (named : Entries X) (Over : ℕ → ℕ → ℕ → Type 0) (f : X) (r : List X) (key : ℕ) → IsCycleFrom named Over f r → Inside named (f ∷ r) key → (named.key f) ≤ key
+least_inside : {X : Type 0} (named : Entries X) (Over : ℕ → ℕ → ℕ → Type 0) (f : X) (r : List X) (key : ℕ) → IsCycleFrom named Over f r → Inside named (f ∷ r) key → named.key f ≤ key
 least_inside {X} named Over f r key c i =
-    subst (λ (n : ℕ). (named.key f) ≤ n) i.holds (elim (contains_cons f r i.it i.there) [
-      | inl same ↦ let e : (named.key f) ≡ (named.key i.it) = ap (λ (z : X). (named.key z)) same in omega (arith, e)
-      | inr rest ↦ let less : (named.key f) < (named.key i.it) = All-contains (λ (z : X). (named.key f) < (named.key z)) r i.it c.least rest in omega (arith, less)
+    subst (λ (n : ℕ). named.key f ≤ n) i.holds (elim (contains_cons f r i.it i.there) [
+      | inl same ↦ let e : named.key f ≡ named.key i.it = ap (λ (z : X). named.key z) same in omega (arith, e)
+      | inr rest ↦ let less : named.key f < named.key i.it = All-contains (λ (z : X). named.key f < named.key z) r i.it c.least rest in omega (arith, less)
     ])
 
 -- so one cycle leads to the other and back, and their least keys are one
-heads : {X : Type 0} (named : Entries X) (Over : ℕ → ℕ → ℕ → Type 0) → Determined Over → (f : X) (r : List X) (g : X) (s : List X) → IsCycleFrom named Over f r → IsCycleFrom named Over g s → ComesTo named Over (named.key f) (named.key g) → (named.key f) ≡ (named.key g)
+heads : {X : Type 0} (named : Entries X) (Over : ℕ → ℕ → ℕ → Type 0) → Determined Over → (f : X) (r : List X) (g : X) (s : List X) → IsCycleFrom named Over f r → IsCycleFrom named Over g s → ComesTo named Over (named.key f) (named.key g) → named.key f ≡ named.key g
 heads named Over det f r g s c d w =
     let there : Inside named (f ∷ r) (named.key g) = stays named Over det f r c.above w.path (named.key g) w.walk (record { it = f; there = contains_here f r; holds = sym w.begins }) in
     let home : ComesTo named Over (named.key g) (named.key f) = subst (λ n. ComesTo named Over n (named.key f)) there.holds (round named Over (f ∷ r) (named.key f) there.it c.above there.there) in
@@ -87,20 +87,20 @@ heads named Over det f r g s c d w =
 pub cons_same : {X : Type 0} (a b : X) (xs ys : List X) → a ≡ b → xs ≡ ys → a ∷ xs ≡ b ∷ ys
 cons_same a b xs ys e f = cc
 
-same_rest : {X : Type 0} (named : Entries X) (Over : ℕ → ℕ → ℕ → Type 0) → Determined Over → Faithful named → (back : ℕ) (r s : List X) → IsWalk named Over r back → IsWalk named Over s back → next_key named r back ≡ next_key named s back → All (λ a. back < (named.key a)) r → All (λ a. back < (named.key a)) s → r ≡ s
+same_rest : {X : Type 0} (named : Entries X) (Over : ℕ → ℕ → ℕ → Type 0) → Determined Over → Faithful named → (back : ℕ) (r s : List X) → IsWalk named Over r back → IsWalk named Over s back → next_key named r back ≡ next_key named s back → All (λ a. back < named.key a) r → All (λ a. back < named.key a) s → r ≡ s
 same_rest {X} named Over det one back [] [] h g e low high = refl
-same_rest {X} named Over det one back [] (b ∷ s) h g e low high = absurd (let less : back < (named.key b) = All-head (λ (a : X). back < (named.key a)) b s high in omega (arith, less, ap (λ (n : ℕ). n) e))
-same_rest {X} named Over det one back (a ∷ r) [] h g e low high = absurd (let less : back < (named.key a) = All-head (λ (a : X). back < (named.key a)) a r low in omega (arith, less, ap (λ (n : ℕ). n) e))
+same_rest {X} named Over det one back [] (b ∷ s) h g e low high = absurd (let less : back < named.key b = All-head (λ (a : X). back < named.key a) b s high in omega (arith, less, ap (λ (n : ℕ). n) e))
+same_rest {X} named Over det one back (a ∷ r) [] h g e low high = absurd (let less : back < named.key a = All-head (λ (a : X). back < named.key a) a r low in omega (arith, less, ap (λ (n : ℕ). n) e))
 same_rest {X} named Over det one back (a ∷ r) (b ∷ s) h g e low high =
-    let next : ((named.line a) ≡ (named.line b)) × (next_key named r back ≡ next_key named s back) = next_same Over det (named.key a) (named.key b) (next_key named r back) (next_key named s back) (named.line a) (named.line b) e h.0 g.0 in
-    cons_same a b r s (one a b e next.0) (same_rest named Over det one back r s h.1 g.1 next.1 (All-tail (λ (a : X). back < (named.key a)) a r low) (All-tail (λ (a : X). back < (named.key a)) b s high))
+    let next : (named.line a ≡ named.line b) × (next_key named r back ≡ next_key named s back) = next_same Over det (named.key a) (named.key b) (next_key named r back) (next_key named s back) (named.line a) (named.line b) e h.0 g.0 in
+    cons_same a b r s (one a b e next.0) (same_rest named Over det one back r s h.1 g.1 next.1 (All-tail (λ (a : X). back < named.key a) a r low) (All-tail (λ (a : X). back < named.key a) b s high))
 
 pub one_cycle : {X : Type 0} (named : Entries X) (Over : ℕ → ℕ → ℕ → Type 0) → Determined Over → Faithful named → (start : ℕ) (c d : List X) → IsKeyCycleBelow named Over start c → IsKeyCycleBelow named Over start d → c ≡ d
 one_cycle {X} named Over det one start [] d hc hd = absurd hc
 one_cycle {X} named Over det one start (f ∷ r) [] hc hd = absurd hd
 one_cycle {X} named Over det one start (f ∷ r) (g ∷ s) (c, v) (d, w) = same
   where
-    first : (named.key f) ≡ (named.key g)
+    first : named.key f ≡ named.key g
     first =
         elim (meets named Over det v.path w.path (named.key f) (named.key g) v.walk w.walk (let e : next_key named v.path (named.key f) ≡ next_key named w.path (named.key g) = subst (λ n. next_key named v.path (named.key f) ≡ n) (sym w.begins) v.begins in e)) [
           | inl on ↦ heads named Over det f r g s c d on
@@ -110,10 +110,10 @@ one_cycle {X} named Over det one start (f ∷ r) (g ∷ s) (c, v) (d, w) = same
     above : IsWalk named Over (g ∷ s) (named.key f)
     above = subst (λ n. IsWalk named Over (g ∷ s) n) (sym first) d.above
 
-    least : All (λ a. (named.key f) < (named.key a)) s
-    least = subst (λ (n : ℕ). All (λ (a : X). n < (named.key a)) s) (sym first) d.least
+    least : All (λ a. named.key f < named.key a) s
+    least = subst (λ (n : ℕ). All (λ (a : X). n < named.key a) s) (sym first) d.least
 
-    next : ((named.line f) ≡ (named.line g)) × (next_key named r (named.key f) ≡ next_key named s (named.key f))
+    next : (named.line f ≡ named.line g) × (next_key named r (named.key f) ≡ next_key named s (named.key f))
     next = next_same Over det (named.key f) (named.key g) (next_key named r (named.key f)) (next_key named s (named.key f)) (named.line f) (named.line g) first c.above.0 above.0
 
     same : f ∷ r ≡ g ∷ s

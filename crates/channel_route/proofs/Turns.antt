@@ -101,14 +101,14 @@ turn_ends {X} named Over path here start at d below is walk one begins =
     parts : take at path ++ drop at path ≡ path
     parts = take-append-drop at path
 
-    ends : (xs : List X) (y : X) (ys : List X) → (named.key y) ≡ here → IsWalk named Over (xs ++ y ∷ ys) here → OneEach named.key (xs ++ y ∷ ys) → next_key named (xs ++ y ∷ ys) here ≡ start → IsTurn named Over start (y ∷ ys)
+    ends : (xs : List X) (y : X) (ys : List X) → named.key y ≡ here → IsWalk named Over (xs ++ y ∷ ys) here → OneEach named.key (xs ++ y ∷ ys) → next_key named (xs ++ y ∷ ys) here ≡ start → IsTurn named Over start (y ∷ ys)
     ends xs y ys same h one from = (
       subst (λ n. IsWalk named Over (y ∷ ys) n) (sym same) (walk_behind named Over xs (y ∷ ys) here h),
       one_each_behind named.key xs (y ∷ ys) one,
       record { path = xs; walk = walk_before named Over xs y ys here h; begins = subst (λ n. n ≡ start) (begins_join named xs y ys here) from },
     )
 
-    closed : (xs turn : List X) (y : X) (ys : List X) → turn ≡ y ∷ ys → (named.key y) ≡ here → IsWalk named Over (xs ++ turn) here → OneEach named.key (xs ++ turn) → next_key named (xs ++ turn) here ≡ start → IsTurn named Over start turn
+    closed : (xs turn : List X) (y : X) (ys : List X) → turn ≡ y ∷ ys → named.key y ≡ here → IsWalk named Over (xs ++ turn) here → OneEach named.key (xs ++ turn) → next_key named (xs ++ turn) here ≡ start → IsTurn named Over start turn
     closed xs turn y ys e same h one from = subst (λ t. IsTurn named Over start t) (sym e) (ends xs y ys same (subst (λ t. IsWalk named Over (xs ++ t) here) e h) (subst (λ t. OneEach named.key (xs ++ t)) e one) (subst (λ t. next_key named (xs ++ t) here ≡ start) e from))
 
 -- the cycle from its least key on

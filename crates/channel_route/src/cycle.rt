@@ -1,6 +1,6 @@
 // Finds a cycle where each wire that is left stands above another one.
 
-ghost use Rattle.std.specs.Prelude.{ℕ, ◌≡◌, ◌≢◌, ◌≤◌, ◌<◌, ◌==◌, true, All};
+ghost use Rattle.std.specs.Prelude.{◌≡◌, ◌≢◌, ◌≤◌, ◌<◌, true, All};
 ghost use Rattle.std.specs.Prelude.{Contains, IfOk, length, slice_index_or};
 ghost use Rattle.channel_route.specs.declared.constraint.Constraint.{Constraint as AConstraint};
 ghost use Rattle.channel_route.specs.declared.cycle.Step.{Step as AStep};

@@ -1,10 +1,9 @@
 // Fills the channel track by track: on each one the wires that stand above no wire that is left are
 // put in order, each that begins behind the one put before it, or where that one of its own net ends.
 
-ghost use Rattle.std.specs.Prelude.{◌≡◌, ◌≤◌, ◌<◌, ◌+◌, ◌⊎◌, true, All, IfOk, List, length};
-ghost use Rattle.std.specs.List.{list_any};
+ghost use Rattle.std.specs.Prelude.{◌≡◌, ◌≤◌, ◌<◌, ◌+◌, true, All, IfOk, List, length};
 ghost use Rattle.channel_route.specs.declared.wire.Wire.{Wire as AWire};
-ghost use Rattle.channel_route.specs.Graph.{IsChannel, IsFilled, IsOutcome, has_key, waits, starts_behind, has_room};
+ghost use Rattle.channel_route.specs.Graph.{IsChannel, IsFilled, IsOutcome, waits, starts_behind, has_room};
 
 use crate::constraint::Constraint;
 use crate::wire::{MOST_WIRES, PlacedWire, Wire, holds_key};
