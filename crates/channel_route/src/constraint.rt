@@ -1,10 +1,11 @@
 // Which wires stand above which.
 
 ghost use Rattle.std.specs.Prelude.{◌≡◌, ◌++◌, IfOk, OnOk, flat_map};
+ghost use Rattle.channel_route.specs.Turn.{leads};
 ghost use Rattle.channel_route.specs.Wires.{holds_place, stands_over, is_over, under, pairs_over, over};
 ghost use Rattle.channel_route.specs.Wires.{constraints_of};
 
-use crate::wire::Wire;
+use crate::wire::{Wire, holds_key};
 use cell_num::Row;
 use row_place::NodePlace;
 use std::alloc::{AllocError, Global};
@@ -15,6 +16,13 @@ pub struct Constraint {
     pub upper: u32,
     pub lower: u32,
     pub line: u32,
+}
+
+// Whether the constraint puts the wire of the key above one that is left.
+pub fn leads_on(constraint: &Constraint, left: &[Wire], key: u32) -> bool
+    ensures { result ≡ leads left.now key constraint.now }
+{
+    constraint.upper == key && holds_key(left, constraint.lower)
 }
 
 fn are_p_and_n(p: Row, n: Row) -> bool

@@ -5,11 +5,11 @@ ghost use Rattle.std.specs.Prelude.{Contains, IfOk, length, slice_index_or};
 ghost use Rattle.channel_route.specs.declared.constraint.Constraint.{Constraint as AConstraint};
 ghost use Rattle.channel_route.specs.declared.cycle.Step.{Step as AStep};
 ghost use Rattle.channel_route.specs.Graph.{has_key, waits};
-ghost use Rattle.channel_route.specs.Turn.{steps, leads, waits_at, AreInOrder, IsDown, passes, IsTurn};
+ghost use Rattle.channel_route.specs.Turn.{steps, waits_at, AreInOrder, IsDown, passes, IsTurn};
 ghost use Rattle.channel_route.specs.Walk.{IsKeyCycleBelow};
 
-use crate::constraint::Constraint;
-use crate::wire::{Wire, holds_key};
+use crate::constraint::{Constraint, leads_on};
+use crate::wire::Wire;
 use std::alloc::{AllocError, Global};
 
 /// A wire of a walk, which stands above the next one at a line.
@@ -23,12 +23,6 @@ fn is_passed(path: &[Step], key: u32) -> bool
     ensures { result ≡ passes steps path.now key }
 {
     path.iter().any(|step| step.wire.key == key)
-}
-
-fn leads_on(constraint: &Constraint, left: &[Wire], key: u32) -> bool
-    ensures { result ≡ leads left.now key constraint.now }
-{
-    constraint.upper == key && holds_key(left, constraint.lower)
 }
 
 // The first constraint of the key over a wire that is left.

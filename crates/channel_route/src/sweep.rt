@@ -5,8 +5,8 @@ ghost use Rattle.std.specs.Prelude.{◌≡◌, ◌≤◌, ◌<◌, ◌+◌, true
 ghost use Rattle.channel_route.specs.declared.wire.Wire.{Wire as AWire};
 ghost use Rattle.channel_route.specs.Graph.{IsChannel, IsFilled, IsOutcome, waits, starts_behind, has_room};
 
-use crate::constraint::Constraint;
-use crate::wire::{MOST_WIRES, PlacedWire, Wire, holds_key};
+use crate::constraint::{Constraint, leads_on};
+use crate::wire::{MOST_WIRES, PlacedWire, Wire};
 use std::alloc::{AllocError, Global};
 
 /// All wires on their tracks and the number of these, or wires of which each stands above another one.
@@ -19,8 +19,9 @@ pub enum Filled {
 fn is_held(wire: &Wire, left: &[Wire], constraints: &[Constraint]) -> bool
     ensures { result ≡ waits left.now constraints.now wire.now }
 {
-    constraints.iter().any(|constraint| constraint.upper == wire.key
-        && holds_key(left, constraint.lower))
+    constraints
+        .iter()
+        .any(|constraint| leads_on(constraint, left, wire.key))
 }
 
 fn is_behind(last: Option<Wire>, wire: &Wire) -> bool
