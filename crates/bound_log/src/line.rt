@@ -1,5 +1,4 @@
 ghost use Rattle.std.specs.Prelude.{◌≡◌, [], IfOk, map};
-ghost use Rattle.row_state.specs.Start.{AreSomeKinds};
 ghost use Rattle.row_state.specs.Tests.{state_test};
 ghost use Rattle.bound_log.specs.Line.{FewOfEach, column_in, counts_each, counts_in, entry_in, gaps_in, lemma_in, parts_at, state_in, step_in, words_in};
 
@@ -55,9 +54,9 @@ fn counts(alloc: Global, kinds: &[Kind], word: &[u8]) -> Result<Option<Counts>, 
 
 #[tactic(auto, using(crate::proofs::States::is_tested))]
 fn is_valid(state: &State, kinds: &Kinds) -> bool
-    requires { AreSomeKinds kinds.now }
     ensures { result ≡ state_test kinds.now state.now }
 {
+    kinds.show_limits();
     is_state(state, kinds)
 }
 
@@ -70,7 +69,6 @@ fn state(
     p_end: &[u8],
     n_end: &[u8],
 ) -> Result<Option<State>, NoMemory>
-    requires { AreSomeKinds kinds.now }
     ensures { IfOk result (λ state. state ≡ state_in kinds.now p_left.now n_left.now p_end.now n_end.now) }
 {
     let Some(p_left) = counts(alloc, kinds.p.as_slice(), p_left)? else {
@@ -99,7 +97,6 @@ fn state(
 }
 
 fn lemma(alloc: Global, kinds: &Kinds, words: &[&[u8]]) -> Result<Option<Lemma>, NoMemory>
-    requires { AreSomeKinds kinds.now }
     ensures { IfOk result (λ lemma. lemma ≡ lemma_in kinds.now (map (λ word. word.now) words.now)) }
 {
     let [bound, reason, p_left, n_left, p_end, n_end] = words else {
@@ -129,9 +126,7 @@ fn gaps(words: &[&[u8]]) -> Option<u32>
     }
 }
 
-#[tactic(auto, using(row_state::proofs::Valid::kinds_few))]
 fn step(kinds: &Kinds, words: &[&[u8]]) -> Option<LogStep>
-    requires { AreSomeKinds kinds.now }
     ensures { result ≡ step_in kinds.now (map (λ word. word.now) words.now) }
 {
     let [gate, p_kind, p_flip, n_kind, n_flip] = words else {
@@ -150,7 +145,6 @@ fn step(kinds: &Kinds, words: &[&[u8]]) -> Option<LogStep>
 }
 
 fn entry_of_words(alloc: Global, kinds: &Kinds, words: &[&[u8]]) -> Result<Option<Entry>, NoMemory>
-    requires { AreSomeKinds kinds.now }
     ensures { IfOk result (λ entry. entry ≡ entry_in kinds.now (map (λ word. word.now) words.now)) }
 {
     let [word, rest @ ..] = words else {
@@ -169,7 +163,6 @@ fn entry_of_words(alloc: Global, kinds: &Kinds, words: &[&[u8]]) -> Result<Optio
 }
 
 fn column_of_words(kinds: &Kinds, words: &[&[u8]]) -> Option<LogStep>
-    requires { AreSomeKinds kinds.now }
     ensures { result ≡ column_in kinds.now (map (λ word. word.now) words.now) }
 {
     let [word, rest @ ..] = words else {
@@ -188,9 +181,9 @@ pub(crate) fn read_entry(
     kinds: &Kinds,
     line: &[u8],
 ) -> Result<Option<Entry>, NoMemory>
-    requires { AreSomeKinds kinds.now }
     ensures { IfOk result (λ entry. entry ≡ entry_in kinds.now (words_in line.now)) }
 {
+    kinds.show_limits();
     let Some(words) = parts::<7>(line, b' ') else {
         return Ok(None);
     };
@@ -200,7 +193,6 @@ pub(crate) fn read_entry(
 
 #[tactic(auto, using(crate::proofs::Only::long_column))]
 pub(crate) fn read_column(kinds: &Kinds, line: &[u8]) -> Option<LogStep>
-    requires { AreSomeKinds kinds.now }
     ensures { result ≡ column_in kinds.now (words_in line.now) }
 {
     let words = parts::<6>(line, b' ')?;

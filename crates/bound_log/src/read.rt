@@ -1,5 +1,4 @@
 ghost use Rattle.std.specs.Prelude.{◌≡◌, ◌≢◌, ◌≤◌, ◌+◌, IfOk, IfErr, Ok, Err, length};
-ghost use Rattle.row_state.specs.Start.{AreSomeKinds};
 ghost use Rattle.bound_log.specs.declared.fault.LogFault.TheVariants as fault;
 ghost use Rattle.bound_log.specs.declared.log.Log.{Log as LogOf};
 ghost use Rattle.bound_log.specs.Fits.{Fits, IsLogName};
@@ -36,7 +35,6 @@ fn read_end(bytes: &[u8], number: u32) -> Result<(), LogFault>
 // The columns up to the line `end`, the last.
 #[tactic(auto, using(crate::proofs::Fronts::columns_cut, crate::proofs::Fronts::columns_done, crate::proofs::Fronts::columns_open, crate::proofs::Fronts::columns_wrong, crate::proofs::Fronts::columns_more))]
 fn read_columns(alloc: Global, kinds: &Kinds, bytes: &[u8], from: u32) -> Result<LogSteps, LogFault>
-    requires kinds { AreSomeKinds kinds.now }
     requires few { length bytes.now + from ≤ 2000000000 }
     ensures steps { IfOk result (λ steps.
         columns_at kinds.now from (lines_in bytes.now) (behind bytes.now) ≡ Ok steps) }
@@ -72,7 +70,6 @@ fn read_lemmas(
     bytes: &[u8],
     from: u32,
 ) -> Result<Log, LogFault>
-    requires kinds { AreSomeKinds kinds.now }
     requires few { length bytes.now + from ≤ 2000000000 }
     ensures log { IfOk result (λ log.
         log_at version kinds.now from (lines_in bytes.now) (behind bytes.now) ≡ Ok log) }
@@ -119,7 +116,6 @@ fn read_named(
     kinds: &Kinds,
 ) -> Result<Log, LogFault>
     requires few { length bytes.now ≤ MOST_BYTES }
-    requires kinds { AreSomeKinds kinds.now }
     ensures log { IfOk result (λ log.
         named_at name.now kinds.now version (lines_in bytes.now) (behind bytes.now) ≡ Ok log) }
     ensures fault { IfErr result (λ f. f ≢ fault.NoMemory →
@@ -138,7 +134,6 @@ fn read_named(
 #[tactic(auto, unfolding(crate::specs::Reading::log_of))]
 fn read_text(alloc: Global, bytes: &[u8], name: &Name, kinds: &Kinds) -> Result<Log, LogFault>
     requires few { length bytes.now ≤ MOST_BYTES }
-    requires kinds { AreSomeKinds kinds.now }
     ensures log { IfOk result (λ log. log_of bytes.now name.now kinds.now ≡ Ok log) }
     ensures fault { IfErr result (λ f. f ≢ fault.NoMemory → log_of bytes.now name.now kinds.now ≡ Err f) }
 {
@@ -157,7 +152,6 @@ fn read_text(alloc: Global, bytes: &[u8], name: &Name, kinds: &Kinds) -> Result<
 pub fn read_log(alloc: Global, bytes: &[u8], name: &Name, kinds: &Kinds) -> Result<Log, LogFault>
     requires name { IsLogName name.now }
     requires few { length bytes.now ≤ MOST_BYTES }
-    requires kinds { AreSomeKinds kinds.now }
     // The log of the definition, or its first fault; memory may run out.
     ensures log { IfOk result (λ log. log_of bytes.now name.now kinds.now ≡ Ok log) }
     ensures fault { IfErr result (λ f. f ≢ fault.NoMemory → log_of bytes.now name.now kinds.now ≡ Err f) }
@@ -170,6 +164,7 @@ pub fn read_log(alloc: Global, bytes: &[u8], name: &Name, kinds: &Kinds) -> Resu
     ensures none { IfErr result (λ f. f ≢ fault.NoMemory →
         (log : LogOf) → Fits kinds.now log → log_text name.now log ≢ bytes.now) }
 {
+    kinds.show_limits();
     let log = read_text(alloc, bytes, name, kinds)?;
     Ok(log)
 }

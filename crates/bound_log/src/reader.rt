@@ -1,6 +1,5 @@
 ghost use Rattle.std.specs.Prelude.{◌≡◌, ◌≢◌, ◌≤◌, ◌<◌, ◌+◌, Err, IfErr, IfOk, None, Ok, OnOk, Some, length, take};
 ghost use Rattle.std.specs.Option.{is_some};
-ghost use Rattle.row_state.specs.Start.{AreSomeKinds};
 ghost use Rattle.bound_log.specs.declared.fault.LogFault.TheVariants as fault;
 ghost use Rattle.bound_log.specs.Fits.{IsLogName};
 ghost use Rattle.bound_log.specs.Pieces.{HeadFits, IsShort, PlaceFits, SaidFits, begun, behind_line, ended, line_bytes, longer, passed, refused, tale_of, told, whole_says, with_line};
@@ -11,18 +10,8 @@ use crate::said::{Said, say_line, wrong_at};
 use crate::{LogFault, LogItem, LogPlace, MOST_LINE_BYTES};
 use cell_num::{MOST_BYTES, Name, NoMemory, copy};
 use row_state::Kinds;
-use std::alloc::{AllocError, Global};
+use std::alloc::Global;
 use std::marker::Model;
-
-fn copy_kinds(kinds: &Kinds) -> Result<Kinds, AllocError>
-    ensures { IfOk result (λ copied. copied ≡ kinds.now) }
-{
-    Ok(Kinds {
-        nets: kinds.nets,
-        p: kinds.p.clone()?,
-        n: kinds.n.clone()?,
-    })
-}
 
 /// A log that comes in pieces: what each line says, in memory for one line. A piece may end anywhere.
 #[derive(Drop)]
@@ -42,7 +31,6 @@ pub struct LogReader {
 
 impl Model for LogReader {
     ghost use Rattle.std.specs.Prelude.{◌≤◌, None, Some, if◌then◌else◌, length};
-    ghost use Rattle.row_state.specs.Start.{AreSomeKinds};
     ghost use Rattle.bound_log.specs.Pieces.{PlaceFits, Reader};
 
     ghost Value = { Reader };
@@ -56,7 +44,7 @@ impl Model for LogReader {
       fault = r.fault;
     } };
 
-    ghost invariant = { λ r. AreSomeKinds r.kinds × (length r.line ≤ 300) × PlaceFits r.place };
+    ghost invariant = { λ r. (length r.line ≤ 300) × PlaceFits r.place };
 }
 
 impl LogReader {
@@ -64,13 +52,12 @@ impl LogReader {
     /// bytes and no line feed.
     pub fn new(alloc: Global, name: &Name, kinds: &Kinds) -> Result<LogReader, NoMemory>
         requires name { IsLogName name.now }
-        requires kinds { AreSomeKinds kinds.now }
         ensures { IfOk result (λ reader. reader ≡ begun name.now kinds.now) }
     {
         Ok(LogReader {
             alloc,
             name: copy(alloc, name.as_slice())?,
-            kinds: copy_kinds(kinds)?,
+            kinds: kinds.clone()?,
             place: LogPlace::Version,
             number: 1,
             line: LineRoom::new(alloc)?,

@@ -1,5 +1,4 @@
 ghost use Rattle.std.specs.Prelude.{◌≡◌, ◌≢◌, Err, IfErr, IfOk, Ok};
-ghost use Rattle.row_state.specs.Start.{AreSomeKinds};
 ghost use Rattle.bound_log.specs.declared.fault.LogFault.TheVariants as fault;
 ghost use Rattle.bound_log.specs.Line.{entry_in, version_in, words_in};
 ghost use Rattle.bound_log.specs.Pieces.{column_says, columns_say, entry_says, line_says, said_if, version_says, wrong_at};
@@ -62,7 +61,6 @@ fn entry_said(entry: Option<Entry>, fault: LogFault) -> Result<Said, LogFault>
 }
 
 fn say_entry(alloc: Global, kinds: &Kinds, number: u32, line: &[u8]) -> Result<Said, LogFault>
-    requires { AreSomeKinds kinds.now }
     ensures said { IfOk result (λ said.
         entry_says (entry_in kinds.now (words_in line.now)) (fault.Line number) ≡ Ok said) }
     ensures fault { IfErr result (λ f. f ≢ fault.NoMemory →
@@ -85,7 +83,6 @@ fn column_said(column: Option<LogStep>, fault: LogFault) -> Result<Said, LogFaul
 }
 
 fn say_column(kinds: &Kinds, number: u32, line: &[u8]) -> Result<Said, LogFault>
-    requires { AreSomeKinds kinds.now }
     ensures { result ≡ columns_say kinds.now number line.now }
 {
     if is_word(line, b"end") {
@@ -106,7 +103,6 @@ pub(crate) fn say_line(
     number: u32,
     line: &[u8],
 ) -> Result<Said, LogFault>
-    requires { AreSomeKinds kinds.now }
     ensures said { IfOk result (λ said. line_says name.now kinds.now place number line.now ≡ Ok said) }
     ensures fault { IfErr result (λ f. f ≢ fault.NoMemory →
         line_says name.now kinds.now place number line.now ≡ Err f) }

@@ -1,8 +1,7 @@
 -- All next columns of a list are all next columns.
 use Rattle.std.proofs.Common.{ℕ, ◌≡◌, ◌<◌, ◌≤◌, List, [], ◌∷◌, length, take, get_or, All, subst, sym, arith, take_all, ◌↔◌}
 use Rattle.std.proofs.lemmas.List.Elements.{All-cons, All-contains, All-get_or, All-head, All-nil, All-tail}
-use Rattle.std.proofs.Common.{inl, inr, ◌+◌, ◌∙◌}
-use Rattle.std.proofs.lemmas.Bool.{cases_lt}
+use Rattle.std.proofs.Common.{◌+◌, ◌∙◌}
 use Rattle.std.proofs.lemmas.List.{get_or_default}
 use Rattle.cell_num.specs.declared.finger.Row.{Row}
 use Rattle.row_state.specs.declared.kind.Kinds.{Kinds}
@@ -66,12 +65,3 @@ first_is value k lemmas at x best some before same is within wrong =
       before = before;
       unproved = λ d h. wrong (same_best value k x (λ s. best_of s (take at lemmas)) best some (λ s state. sym (same s state)) ((here_is value k lemmas at x d (λ s. best_of s (take at lemmas)) is within).1 h));
     }
-
-pub justified_more : (value : Row → State → Kinds → ℕ) (k : Kinds) (lemmas : List Lemma) (at : ℕ) (x : Lemma) (best : State → ℕ) → AreSomeKinds k → ((i : ℕ) (d : Lemma) → i < at → IsJustified value k (λ s. best_of s (take i lemmas)) (get_or lemmas i d)) → x ≡ get_or lemmas at x → at < length lemmas → ((s : State) → IsState k s → best s ≡ best_of s (take at lemmas)) → IsJustified value k best x → (i : ℕ) (d : Lemma) → i < at + 1 → IsJustified value k (λ s. best_of s (take i lemmas)) (get_or lemmas i d)
-justified_more value k lemmas at x best some before is within same here i d below =
-    elim (cases_lt i at) [
-      | inl less ↦ before i d less
-      | inr more ↦
-          let e : at ≡ i = omega arith in
-          subst (λ n. IsJustified value k (λ s. best_of s (take n lemmas)) (get_or lemmas n d)) e ((here_is value k lemmas at x d (λ s. best_of s (take at lemmas)) is within).0 (same_best value k x best (λ s. best_of s (take at lemmas)) some same here))
-    ]

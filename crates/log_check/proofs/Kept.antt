@@ -1,8 +1,7 @@
 -- What is kept by number is the best bound of each valid state.
-use Rattle.std.proofs.Common.{ℕ, ◌≡◌, ◌≢◌, ◌<◌, ◌+◌, true, false, cond, List, [], ◌∷◌, ◌++◌, Option, Some, length, max, take, get_or, inl, inr, sym, ap, subst, ◌∙◌}
+use Rattle.std.proofs.Common.{ℕ, ◌≡◌, ◌≢◌, true, false, cond, List, [], ◌∷◌, ◌++◌, Option, Some, max, inl, inr, sym, ap, ◌∙◌}
 use Rattle.std.specs.Prelude.{unwrap_or}
 use Rattle.std.proofs.lemmas.Bool.{cases_Bool, cases_eq}
-use Rattle.std.proofs.lemmas.List.{take_more}
 use Rattle.std.proofs.lemmas.List.Sums.{fold-append}
 use Rattle.row_state.specs.declared.kind.Kinds.{Kinds}
 use Rattle.row_state.specs.declared.state.State.{State}
@@ -35,16 +34,7 @@ one_raised k old new x bound number best valid is most here others s state =
           ∙ ap (λ b. cond b (max (bound_in old k s) bound) (bound_in old k s)) (sym other)
     ]
 
--- nothing was noted, and there are no lemmas
-pub knows_none : (k : Kinds) (known : Known) → ((k : Kinds) (s : State) → best_known known k s ≡ 0) → Knows k known []
-knows_none k known none s state = none k s
-
 -- one lemma more
 pub knows_more : (k : Kinds) (old new : Known) (lemmas : List Lemma) (x : Lemma) → Knows k old lemmas → ((s : State) → IsState k s → best_known new k s ≡ raised x.state x.bound s (best_known old k s)) → Knows k new (lemmas ++ x ∷ [])
 knows_more k old new lemmas x before noted s state =
     noted s state ∙ ap (λ best. raised x.state x.bound s best) (before s state) ∙ sym (fold-append (better s) 0 lemmas (x ∷ []))
-
-pub knows_at : (k : Kinds) (old new : Known) (lemmas : List Lemma) (at : ℕ) (x : Lemma) → Knows k old (take at lemmas) → ((s : State) → IsState k s → best_known new k s ≡ raised x.state x.bound s (best_known old k s)) → x ≡ get_or lemmas at x → at < length lemmas → Knows k new (take (at + 1) lemmas)
-knows_at k old new lemmas at x before noted is within =
-    let all : take at lemmas ++ x ∷ [] ≡ take (at + 1) lemmas = ap (λ (y : Lemma). take at lemmas ++ y ∷ []) is ∙ sym (take_more lemmas at x within) in
-    subst (Knows k new) all (knows_more k old new (take at lemmas) x before noted)

@@ -3,7 +3,7 @@ ghost use Rattle.std.specs.HashMap.{get};
 ghost use Rattle.row_state.specs.declared.kind.Kinds.{Kinds as KindsOf};
 ghost use Rattle.row_state.specs.declared.state.State.{State as StateOf};
 ghost use Rattle.row_state.specs.Code.{state_code};
-ghost use Rattle.row_state.specs.Start.{AreSomeKinds, IsState};
+ghost use Rattle.row_state.specs.Start.{IsState};
 ghost use Rattle.log_check.specs.Accepted.{raised};
 ghost use Rattle.log_check.specs.Known.{best_known, noted};
 
@@ -54,7 +54,6 @@ impl Known {
 
     /// The best bound noted of the state, 0 if none.
     pub fn best(&self, kinds: &Kinds, state: &State) -> u32
-        requires kinds { AreSomeKinds kinds.now }
         requires state { IsState kinds.now state.now }
         ensures { result ≡ best_known self.now kinds.now state.now }
     {
@@ -76,7 +75,6 @@ impl Known {
 
     /// One bound more of the state. What was noted is as before where the memory is refused.
     pub fn note(&mut self, kinds: &Kinds, state: &State, bound: u32) -> Result<(), NoMemory>
-        requires kinds { AreSomeKinds kinds.now }
         requires state { IsState kinds.now state.now }
         ensures raised { OnOk result ((s : StateOf) → IsState kinds.now s →
             best_known self.new kinds.now s ≡ raised state.now bound s (best_known self.old kinds.now s)) }

@@ -1,6 +1,6 @@
 ghost use Rattle.std.specs.Prelude.{◌≡◌, ◌↔◌, IsTrue, IfOk};
 ghost use Rattle.row_state.specs.Candidates.{AreCandidates, IsCandidate, IsNumbered};
-ghost use Rattle.row_state.specs.Start.{AreSomeKinds, IsState};
+ghost use Rattle.row_state.specs.Start.{IsState};
 ghost use Rattle.row_state.specs.Steps.{IsPossible};
 ghost use Rattle.log_check.specs.Accepted.{BranchReaches, IsJustified, StepReaches};
 ghost use Rattle.log_check.specs.Known.{best_known};
@@ -12,7 +12,6 @@ use row_state::{Candidate, Candidates, Kinds, Numbered, RowBound, State, has_fin
 
 // Whether the column's cost and the best earlier bound behind it reach the bound.
 fn step_reaches(kinds: &Kinds, known: &Known, from: &Numbered, next: &Candidate, bound: u32) -> bool
-    requires kinds { AreSomeKinds kinds.now }
     requires numbered { IsNumbered kinds.now from.now }
     requires next { IsCandidate kinds.now next.now }
     requires step { IsPossible kinds.now from.now.state next.now.step }
@@ -25,7 +24,6 @@ fn step_reaches(kinds: &Kinds, known: &Known, from: &Numbered, next: &Candidate,
 
 // Whether the column reaches the bound, if it may come next.
 fn passes(kinds: &Kinds, known: &Known, from: &Numbered, next: &Candidate, bound: u32) -> bool
-    requires kinds { AreSomeKinds kinds.now }
     requires numbered { IsNumbered kinds.now from.now }
     requires next { IsCandidate kinds.now next.now }
     ensures { IsTrue result ↔
@@ -46,7 +44,6 @@ fn branch_reaches(
     from: &Numbered,
     bound: u32,
 ) -> bool
-    requires kinds { AreSomeKinds kinds.now }
     requires candidates { AreCandidates kinds.now candidates.now }
     requires numbered { IsNumbered kinds.now from.now }
     ensures { IsTrue result ↔
@@ -74,7 +71,6 @@ fn branch_holds(
     state: &State,
     bound: u32,
 ) -> Result<bool, NoMemory>
-    requires kinds { AreSomeKinds kinds.now }
     requires candidates { AreCandidates kinds.now candidates.now }
     requires state { IsState kinds.now state.now }
     ensures { IfOk result (λ yes. IsTrue yes ↔
@@ -93,7 +89,6 @@ pub(crate) fn is_justified<B: RowBound>(
     lemma: &Lemma,
     bound: &B,
 ) -> Result<bool, NoMemory>
-    requires kinds { AreSomeKinds kinds.now }
     requires candidates { AreCandidates kinds.now candidates.now }
     ensures { IfOk result (λ yes. IsTrue yes ↔
         IsJustified (B.value bound.now) kinds.now (best_known known.now kinds.now) lemma.now) }

@@ -34,7 +34,6 @@ fn copied(fingers: &Fingers) -> Result<Fingers, AllocError>
 }
 
 fn start_best(alloc: Global, kinds: &Kinds, known: &Known) -> Result<u32, NoMemory>
-    requires kinds { AreSomeKinds kinds.now }
     ensures { IfOk result (λ best. best ≡ best_known known.now kinds.now (start_of kinds.now)) }
 {
     let first = start(alloc, kinds)?;
@@ -89,7 +88,7 @@ pub struct Seen {
 impl Model for Seen {
     ghost use Rattle.cell_num.specs.Fingers.{AreFingers};
     ghost use Rattle.row_state.specs.Candidates.{AreCandidates};
-    ghost use Rattle.row_state.specs.Start.{AreKinds, AreSomeKinds};
+    ghost use Rattle.row_state.specs.Start.{AreKinds};
     ghost use Rattle.log_check.specs.Items.{Checked};
     ghost use Rattle.log_check.specs.Known.{noted};
 
@@ -106,7 +105,7 @@ impl Model for Seen {
     } };
 
     ghost invariant = { λ c.
-        AreFingers c.fingers × AreKinds c.fingers c.kinds × AreSomeKinds c.kinds × AreCandidates c.kinds c.candidates };
+        AreFingers c.fingers × AreKinds c.fingers c.kinds × AreCandidates c.kinds c.candidates };
 }
 
 impl Seen {
@@ -165,6 +164,7 @@ impl Seen {
             HasSeen (B.value bound.now) self.new (with_lemmas log (lemma.now ∷ [])))) }
         ensures unchanged { OnErr result (self.new ≡ self.old) }
     {
+        self.kinds.show_limits();
         let count = self.lemmas + 1;
         if self.unproved.is_some() {
             self.lemmas = count;
@@ -217,6 +217,7 @@ impl Seen {
         ensures refused { IfErr result (λ fault. (value : RowOf → StateOf → KindsOf → ℕ) →
             ForSeen value self.now (λ log. Refuses value self.now.kinds self.now.fingers log fault)) }
     {
+        self.kinds.show_limits();
         if let Some(line) = self.unproved {
             return Err(Refused::Unproved { line });
         }

@@ -35,13 +35,6 @@ grown_trans k n xs ys zs g h = record { more = g.more ++ h.more; is = h.is ∙ a
 pub grown_weaker : (k : Kinds) (m n : ℕ) (xs ys : List Lemma) → m ≤ n → IsGrown k m xs ys → IsGrown k n xs ys
 grown_weaker k m n xs ys le g = record { more = g.more; is = g.is; below = All-weaker (λ lemma. columns_left k lemma.state < m) (λ lemma. columns_left k lemma.state < n) (λ x l. omega (arith, l, le)) g.more g.below }
 
--- what a visit added is at most what its caller may add
-pub grown_wider : (k : Kinds) (s : State) (xs ys : List Lemma) → IsGrown k (columns_left k s) xs ys → IsGrown k (columns_left k s + 1) xs ys
-grown_wider k s xs ys g = grown_weaker k (columns_left k s) (columns_left k s + 1) xs ys (omega arith) g
-
-pub grown_child : (k : Kinds) (s after : State) (xs ys zs : List Lemma) → columns_left k after < columns_left k s → IsGrown k (columns_left k s) xs ys → IsGrown k (columns_left k after + 1) ys zs → IsGrown k (columns_left k s) xs zs
-grown_child k s after xs ys zs l g h = grown_trans k (columns_left k s) xs ys zs g (grown_weaker k (columns_left k after + 1) (columns_left k s) ys zs (omega (arith, l)) h)
-
 fold_ge : (s : State) (best : ℕ) (xs : List Lemma) → best ≤ fold (better s) best xs
 fold_ge s best [] = omega arith
 fold_ge s best (x ∷ xs) =

@@ -145,9 +145,6 @@ row_reaches value k best s n by.Branch h = absurd h
 pub some_left : {X : Type 0} {b : Bool} → (IsTrue b ↔ X) → b ≡ true → X
 some_left tells e = tells.0 e
 
-pub budget_spent : (k : Kinds) (budget : ℕ) (s : State) (p : SoFar) → KnowsAll k p → p.nodes ≡ budget → HasSpent k budget s p p
-budget_spent k budget s p knows e = record { nodes = e; knows = knows; most = omega arith }
-
 pub spent_behind : (value : Row → State → Kinds → ℕ) (k : Kinds) (budget : ℕ) (s after : State) (allowed : ℕ) (step : Step) (p q r : SoFar) → AreSomeKinds k → IsPossible k s step → after ≡ state_after k s step → HasTried value k budget s allowed p q → HasSpent k budget after q r → HasSpent k budget s p r
 spent_behind value k budget s after allowed step p q r some possible ea h spent =
     let fewer_left : columns_left k s ≡ columns_left k after + 1 = fewer_after k s step some possible ∙ ap (λ (z : State). columns_left k z + 1) (sym ea) in

@@ -1,6 +1,6 @@
 ghost use Rattle.std.specs.Prelude.{◌≡◌, ◌≤◌, ◌<◌, ◌+◌, IfOk, IfErr, IfSome, IfNone};
 ghost use Rattle.row_state.specs.Candidates.{AreCandidates, IsNumbered};
-ghost use Rattle.row_state.specs.Start.{AreSomeKinds, IsState, columns_left};
+ghost use Rattle.row_state.specs.Start.{IsState, columns_left};
 ghost use Rattle.bound_log.specs.declared.log.Rule.TheVariants.{Branch};
 ghost use Rattle.row_search.specs.declared.descent.Halt.TheVariants.{Spent, NoMemory};
 ghost use Rattle.log_check.specs.Accepted.{best_of};
@@ -45,7 +45,6 @@ impl From<NoMemory> for Halt {
 
 // The rule by which the bound of one row alone is above what is allowed.
 fn row_rule<B: RowBound>(task: &Task<B>, state: &State, allowed: u32) -> Option<Rule>
-    requires kinds { AreSomeKinds task.now.kinds.now }
     requires state { IsState task.now.kinds.now state.now }
     ensures some { IfSome result (RowReaches (B.value task.now.bound.now) task.now.kinds.now state.now (allowed + 1)) }
     ensures none { IfNone result (IsFirstRule (B.value task.now.bound.now) task.now.kinds.now state.now
@@ -68,7 +67,6 @@ pub(crate) fn visit<B: RowBound>(
     at: &Numbered,
     allowed: u32,
 ) -> Result<Option<Steps>, Halt>
-    requires kinds { AreSomeKinds task.now.kinds.now }
     requires candidates { AreCandidates task.now.kinds.now task.now.candidates.now }
     requires numbered { IsNumbered task.now.kinds.now at.now }
     requires few { allowed ≤ MOST_COLUMNS }
@@ -85,6 +83,7 @@ pub(crate) fn visit<B: RowBound>(
     ensures spent { IfErr result (λ halt. halt ≡ Spent →
         HasSpent task.now.kinds.now task.now.budget at.now.state progress.old progress.new) }
 {
+    task.kinds.show_limits();
     if progress.nodes() == task.budget {
         return Err(Halt::Spent);
     }

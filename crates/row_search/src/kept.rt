@@ -26,14 +26,13 @@ impl Model for Kept {
     ghost use Rattle.std.specs.Prelude.{All, List as Sequence, map};
     ghost use Rattle.bound_log.specs.declared.log.Lemma.{Lemma as LemmaOf};
     ghost use Rattle.row_state.specs.Code.{IsCode};
-    ghost use Rattle.row_state.specs.Start.{AreSomeKinds};
     ghost use Rattle.row_search.specs.Kept.{numbered_lemma};
 
     ghost Value = { Sequence LemmaOf };
 
     ghost view = { λ kept. map (λ x. numbered_lemma kept.kinds x.state x.bound x.rule) kept.packed };
 
-    ghost invariant = { λ kept. AreSomeKinds kept.kinds × All (λ x. IsCode kept.kinds x.state) kept.packed };
+    ghost invariant = { λ kept. All (λ x. IsCode kept.kinds x.state) kept.packed };
 }
 
 impl Kept {

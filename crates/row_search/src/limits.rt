@@ -1,11 +1,10 @@
-ghost use Rattle.std.specs.Prelude.{◌≡◌, ◌≤◌, ◌<◌, ◌+◌, [], IfOk, IfErr, length};
+ghost use Rattle.std.specs.Prelude.{◌≡◌, ◌≤◌, ◌<◌, ◌+◌, IfOk, IfErr, length};
 ghost use Rattle.cell_num.specs.Fingers.{AreFingers, columns_of};
 ghost use Rattle.row_state.specs.Candidates.{AreCandidates, IsNumbered};
-ghost use Rattle.row_state.specs.Start.{AreSomeKinds, start_of};
+ghost use Rattle.row_state.specs.Start.{start_of};
 ghost use Rattle.log_check.specs.Accepted.{WithKinds};
 ghost use Rattle.row_search.specs.Ended.{IfOpen, IsSolved, IsSpent, log_with, log_without};
 ghost use Rattle.row_search.specs.First.{IsFirstLeast};
-ghost use Rattle.row_search.specs.SoFar.{KnowsAll};
 ghost use Rattle.row_search.specs.Limits.{IsFound, StopsWell, found_of};
 
 use crate::descent::{Halt, Task, visit};
@@ -39,38 +38,21 @@ fn finish(
 }
 
 fn numbered_start(alloc: Global, kinds: &Kinds) -> Result<Numbered, NoMemory>
-    requires { AreSomeKinds kinds.now }
     ensures state { IfOk result (λ first. first.state ≡ start_of kinds.now) }
     ensures numbered { IfOk result (IsNumbered kinds.now) }
 {
     Ok(Numbered::new(start(alloc, kinds)?, kinds))
 }
 
-fn copied(kinds: &Kinds) -> Result<Kinds, NoMemory>
-    ensures { IfOk result (λ copy. copy ≡ kinds.now) }
-{
-    Ok(kinds.clone()?)
-}
-
-fn no_progress(alloc: Global, kinds: &Kinds) -> Result<Progress, NoMemory>
-    requires { AreSomeKinds kinds.now }
-    ensures nodes { IfOk result (λ progress. progress.nodes ≡ 0) }
-    ensures lemmas { IfOk result (λ progress. progress.lemmas ≡ []) }
-    ensures knows { IfOk result (KnowsAll kinds.now) }
-{
-    let own = copied(kinds)?;
-    Ok(Progress::new(alloc, own))
-}
-
 // Tries the limits in turn, from 0 on.
 fn try_limits<B: RowBound>(task: &Task<B>) -> Result<FoundKept, StopKept>
-    requires kinds { AreSomeKinds task.now.kinds.now }
     requires candidates { AreCandidates task.now.kinds.now task.now.candidates.now }
     ensures found { IfOk result (IsFound (B.value task.now.bound.now) task.now.kinds.now task.now.budget) }
     ensures stopped { IfErr result (StopsWell (B.value task.now.bound.now) task.now.kinds.now task.now.budget) }
 {
+    task.kinds.show_limits();
     let first = numbered_start(task.alloc, task.kinds)?;
-    let mut progress = no_progress(task.alloc, task.kinds)?;
+    let mut progress = Progress::new(task.alloc, task.kinds)?;
     for limit in 0..columns(task.kinds) + 1 {
         if progress.best_at(first.code) > limit {
             continue;

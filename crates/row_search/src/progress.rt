@@ -1,9 +1,8 @@
-ghost use Rattle.std.specs.Prelude.{◌≡◌, ◌<◌, ◌+◌, ◌++◌, ◌∷◌, [], ℕ, OnOk, OnErr};
+ghost use Rattle.std.specs.Prelude.{◌≡◌, ◌<◌, ◌+◌, ◌++◌, ◌∷◌, [], ℕ, IfOk, OnOk, OnErr};
 ghost use Rattle.row_state.specs.declared.kind.Kinds.{Kinds as KindsOf};
 ghost use Rattle.row_state.specs.declared.state.State.{State as StateOf};
 ghost use Rattle.row_state.specs.Candidates.{IsNumbered};
 ghost use Rattle.row_state.specs.Code.{state_code};
-ghost use Rattle.row_state.specs.Start.{AreSomeKinds};
 ghost use Rattle.log_check.specs.Known.{best_known};
 ghost use Rattle.row_search.specs.SoFar.{KnowsAll, one_node};
 ghost use Rattle.row_search.specs.Visit.{lemma_of};
@@ -30,7 +29,6 @@ pub(crate) struct Progress {
 impl Model for Progress {
     ghost use Rattle.std.specs.Prelude.{All, map};
     ghost use Rattle.row_state.specs.Code.{IsCode};
-    ghost use Rattle.row_state.specs.Start.{AreSomeKinds};
     ghost use Rattle.row_search.specs.Kept.{numbered_lemma};
     ghost use Rattle.row_search.specs.SoFar.{SoFar};
     ghost use Rattle.log_check.specs.contracts.known.Known.{the_row as known_row};
@@ -42,22 +40,21 @@ impl Model for Progress {
 
     ghost view = { λ p. record { nodes = p.nodes; known = p.known; kinds = p.kinds; lemmas = map (λ x. numbered_lemma p.kinds x.state x.bound x.rule) p.packed } };
 
-    ghost invariant = { λ p. AreSomeKinds p.kinds × All (λ x. IsCode p.kinds x.state) p.packed };
+    ghost invariant = { λ p. All (λ x. IsCode p.kinds x.state) p.packed };
 }
 
 impl Progress {
-    pub(crate) fn new(alloc: Global, kinds: Kinds) -> Progress
-        requires { AreSomeKinds kinds }
-        ensures nodes { result.nodes ≡ 0 }
-        ensures lemmas { result.lemmas ≡ [] }
-        ensures knows { KnowsAll kinds result }
+    pub(crate) fn new(alloc: Global, kinds: &Kinds) -> Result<Progress, NoMemory>
+        ensures nodes { IfOk result (λ progress. progress.nodes ≡ 0) }
+        ensures lemmas { IfOk result (λ progress. progress.lemmas ≡ []) }
+        ensures knows { IfOk result (KnowsAll kinds.now) }
     {
-        Progress {
+        Ok(Progress {
             nodes: 0,
             known: Known::new(alloc),
-            kinds,
+            kinds: kinds.clone()?,
             packed: List::new(alloc),
-        }
+        })
     }
 
     pub(crate) fn nodes(&self) -> u64

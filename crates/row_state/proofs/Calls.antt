@@ -1,5 +1,5 @@
 -- What the calls on next columns promise, from what every call that takes kinds asks.
-use Rattle.std.specs.Prelude.{ℕ, ◌≡◌, ◌+◌, ◌<◌, List, ◌∷◌, length, IfSome, Option, Some, None, ltb, get_or, slice_index}
+use Rattle.std.specs.Prelude.{ℕ, ◌≡◌, ◌+◌, ◌<◌, List, ◌∷◌, length, IfSome, Option, Some, None, ltb, slice_index}
 use Rattle.std.proofs.Common.{refl, arith}
 use Rattle.row_model.specs.declared.column.Column.{Column}
 use Rattle.row_state.specs.declared.kind.Kind.{Kind}
@@ -34,10 +34,6 @@ fewer_after k s step some possible = omega (arith, columns_after k s step (gates
 
 pub completes_after : (k : Kinds) (s : State) (step : Step) → AreSomeKinds k → IsPossible k s step → (rest : List Column) → Completes k (state_after k s step) rest → Completes k s (column_of k step ∷ rest)
 completes_after k s step some possible rest h = unfold_from k s step rest (gates_are_nets k some) possible h
-
--- each step of the next columns is possible
-pub possible_at : (k : Kinds) (s : State) (steps : List Step) (i : ℕ) (d : Step) → AreSuccessors k s steps → i < length steps → IsPossible k s (get_or steps i d)
-possible_at k s steps i d h l = h.possible i d l
 
 pub next_succeed : (k : Kinds) (s : State) → AreSomeKinds k → AreSuccessors k s (next_columns k s)
 next_succeed k s some = next_are k s some (gates_are_nets k some)

@@ -19,18 +19,19 @@ use Rattle.row_state.specs.declared.step.Side.{Side}
 use Rattle.row_state.specs.declared.step.Step.{Step}
 use Rattle.row_state.specs.declared.candidate.Candidate.{Candidate}
 use Rattle.row_state.specs.declared.numbered.Numbered.{Numbered}
-use Rattle.row_state.specs.Candidates.{AreCandidates, IsCandidate, IsNumbered, candidate_steps, digit_of, ends_of_step, gate_of_candidate, may_stand, rows_of_step, rows_taken, two_digits}
+use Rattle.row_state.specs.Candidates.{AreCandidates, HaveEachNext, IsCandidate, IsNumbered, candidate_steps, digit_of, ends_of_step, gate_of_candidate, may_stand, rows_of_step, rows_taken, two_digits}
 use Rattle.row_state.specs.Code.{count_lists, end_code, state_code}
 use Rattle.row_state.specs.Completion.{cost_of, fingers_left}
 use Rattle.row_state.specs.Decoded.{Within, end_below, rows_code}
 use Rattle.row_state.specs.Order.{gate_key}
 use Rattle.row_state.specs.Start.{AreSomeKinds, IsState, counts_of, start_of}
-use Rattle.row_state.specs.Steps.{HalfMayStand, IsLeft, IsPossible, column_of, placed_of, state_after}
+use Rattle.row_state.specs.Steps.{HalfMayStand, IsLeft, IsPossible, Unfolds, column_of, placed_of, state_after}
 use Rattle.row_state.specs.Tests.{gate_left, half_test, side_left}
 use Rattle.row_state.proofs.Calls.{valid_after}
 use Rattle.row_state.proofs.Codes.{lists_some, rows_few}
 use Rattle.row_state.proofs.Numbers.{gate_code}
 use Rattle.row_state.proofs.StateAfter.{placed_end}
+use Rattle.row_state.proofs.Unfold.{Next, unfold_to}
 use Rattle.row_state.proofs.Valid.{ends_are_nets, start_valid}
 
 pub lists_take : (kinds : List Kind) (n : ℕ) → count_lists (take n kinds) ≤ count_lists kinds
@@ -155,9 +156,6 @@ code_from k s c counts h e =
     ∙ ap (λ n. rows_code k (state_after k s c.step) * ((k.nets + 1) * (k.nets + 1)) + n) h.ends
     ∙ sym (two_digits (rows_code k (state_after k s c.step)) (k.nets + 1) (end_code (option_map right_net (placed_of P k.p c.step.p))) (end_code (option_map right_net (placed_of N k.n c.step.n))))
 
-make_numbered : State → ℕ → ℕ → Numbered
-make_numbered s counts code = record { state = s; counts = counts; code = code }
-
 pub numbered_behind : (k : Kinds) (s next : State) (step : Step) (counts code : ℕ) → AreSomeKinds k → IsState k s → IsPossible k s step → next ≡ state_after k s step → counts ≡ rows_code k (state_after k s step) → code ≡ state_code k (state_after k s step) → IsNumbered k (record { state = next; counts = counts; code = code })
 numbered_behind k s next step counts code some valid possible e counted coded =
     record {
@@ -195,6 +193,15 @@ possible_first k s step valid h =
 -- so each possible next column is among the candidates
 pub among_candidates : (k : Kinds) (all : List Candidate) (s : State) (step : Step) → AreCandidates k all → IsState k s → IsPossible k s step → Contains (candidate_steps all) step
 among_candidates k all s step are valid possible = are.steps.all step (possible_first k s step valid possible)
+
+pub each_next : (k : Kinds) (all : List Candidate) → AreCandidates k all → HaveEachNext k (candidate_steps all)
+each_next k all are s step = among_candidates k all s step are
+
+-- and each completion of a valid state begins with one
+pub candidates_unfold : (k : Kinds) (all : List Candidate) → AreCandidates k all → (s : State) → IsState k s → Unfolds k s (candidate_steps all)
+candidates_unfold k all are s valid c cs h =
+    let next : Next k s c cs = unfold_to k s c cs h in
+    (next.step, among_candidates k all s next.step are valid next.possible, next.is, next.rest)
 
 -- one candidate more
 pub candidates_more : (k : Kinds) (all more : List Candidate) (c : Candidate) (items : List Step) (i : ℕ) (d : Step) → All (IsCandidate k) all × (candidate_steps all ≡ take i items) → more ≡ all ++ c ∷ [] → IsCandidate k c → c.step ≡ get_or items i d → i < length items → All (IsCandidate k) more × (candidate_steps more ≡ take (i + 1) items)

@@ -87,15 +87,8 @@ number_in (x ∷ xs) (suc i) = number_in xs i
 abbrev net_in : List ℕ → ℕ → NetNo
 net_in key i = record { 0 = number_in key i }
 
-finger_from : Row → List ℕ → Finger
-finger_from row key = record { row = row; gate = net_in key 0; lo = net_in key 1; hi = net_in key 2; width = number_in key 3 }
-
 kind_from : List ℕ → ℕ → Kind
 kind_from key count = record { gate = net_in key 0; lo = net_in key 1; hi = net_in key 2; width = number_in key 3; count = count }
-
-same_finger_of : (row : Row) (a b : Kind) → kind_key a ≡ kind_key b → finger_of row a ≡ finger_of row b
-unfolding finger_from number_in
-same_finger_of row a b e = ap (finger_from row) e
 
 same_kind_from : (a b : Kind) → kind_key a ≡ kind_key b → a.count ≡ b.count → a ≡ b
 unfolding kind_from number_in

@@ -44,18 +44,6 @@ start_valid k =
       lead = λ gate. ((λ h. h), (λ h. h));
     }
 
--- the fingers left on a gate of one kind and of the later ones
-gate_left_next : (kinds : List Kind) (left : List ℕ) (gate i : ℕ) (k : Kind) (c : ℕ) → i < length kinds → length left ≡ length kinds → gate_left (drop i kinds) (drop i left) gate ≡ left_of_kind gate (get_or kinds i k, get_or left i c) + gate_left (drop (suc i) kinds) (drop (suc i) left) gate
-gate_left_next [] left gate i k c l same = absurd (omega (arith, l))
-gate_left_next (x ∷ xs) [] gate i k c l same = absurd (omega (arith, same))
-gate_left_next (x ∷ xs) (y ∷ ys) gate zero k c l same = sum_by-cons (left_of_kind gate) (x, y) (zip xs ys)
-gate_left_next (x ∷ xs) (y ∷ ys) gate (suc i) k c l same = gate_left_next xs ys gate i k c (omega (arith, l)) (omega (arith, same))
-
-pub gate_left_step : (kinds : List Kind) (left : List ℕ) (gate i : ℕ) (k : Kind) (c : ℕ) → i < length kinds → length left ≡ length kinds → gate_left (drop i kinds) (drop i left) gate ≡ left_of_kind gate (get_or kinds i k, get_or left i c) + gate_left (drop (i + 1) kinds) (drop (i + 1) left) gate
-gate_left_step kinds left gate i k c l same =
-    let e : suc i ≡ i + 1 = omega arith in
-    subst (λ n. gate_left (drop i kinds) (drop i left) gate ≡ left_of_kind gate (get_or kinds i k, get_or left i c) + gate_left (drop n kinds) (drop n left) gate) e (gate_left_next kinds left gate i k c l same)
-
 gate_all_next : (kinds : List Kind) (gate i : ℕ) (k : Kind) → i < length kinds → gate_left (drop i kinds) (counts_of (drop i kinds)) gate ≡ left_of_kind gate (get_or kinds i k, (get_or kinds i k).count) + gate_left (drop (suc i) kinds) (counts_of (drop (suc i) kinds)) gate
 gate_all_next [] gate i k l = absurd (omega (arith, l))
 gate_all_next (x ∷ xs) gate zero k l = sum_by-cons (left_of_kind gate) (x, x.count) (zip xs (counts_of xs))

@@ -1,5 +1,5 @@
 -- The columns that some state allows as its next one, and what each of them changes in the number of a state.
-use Rattle.std.specs.Prelude.{ℕ, zero, suc, Bool, ◌&&◌, ◌≡◌, ◌+◌, ◌-◌, ◌*◌, ◌<◌, List, [], ◌∷◌, Option, Some, None, All, length, map, take, slice_set, slice_index}
+use Rattle.std.specs.Prelude.{ℕ, zero, suc, Bool, ◌&&◌, ◌≡◌, ◌+◌, ◌-◌, ◌*◌, ◌<◌, List, [], ◌∷◌, Option, Some, None, All, Contains, length, map, take, slice_set, slice_index}
 use Rattle.std.specs.Option.{option_map}
 use Rattle.std.proofs.Common.{ap, arith, ◌∙◌}
 use Rattle.std.proofs.Math.Nat.{mul_assoc, mul_comm, add-mul}
@@ -53,7 +53,11 @@ may_stand k s c = side_left s.p_left c.step.p && side_left s.n_left c.step.n && 
 abbrev pub candidate_steps : List Candidate → List Step
 candidate_steps all = map (λ (c : Candidate). c.step) all
 
--- all columns that may come first, in order: no state allows another one
+-- no valid state allows a next column that is not among these
+abbrev pub HaveEachNext : Kinds → List Step → Type 0
+HaveEachNext k steps = (s : State) (step : Step) → IsState k s → IsPossible k s step → Contains steps step
+
+-- all columns that may come first, in order
 pub record AreCandidates (k : Kinds) (all : List Candidate) : Type 0 where
   pub each : All (IsCandidate k) all
   pub steps : AreSuccessors k (start_of k) (candidate_steps all)

@@ -12,7 +12,7 @@ use Rattle.cell_num.specs.Fingers.{on_gate, sum_below}
 use Rattle.row_model.specs.Arrangement.{place, fingers_in}
 use Rattle.row_model.specs.Gaps.{left_net, right_net}
 use Rattle.row_state.specs.Parity.{parity, ends_on}
-use Rattle.row_state.specs.Trails.{odd, toggle, empties, places}
+use Rattle.row_state.specs.Trails.{odd, empties, places}
 use Rattle.row_state.specs.Gates.{most, one_differs, OneDiffers, gate_here, gate_other}
 
 abbrev pub bit_of : Bool → ℕ
@@ -24,9 +24,6 @@ degree u fs = sum_by (ends_on u) fs
 pub parity_bit : (b : Bool) (n : ℕ) → parity (bit_of b + n) ≡ cond b (not (parity n)) (parity n)
 parity_bit true n = let e : 1 + n ≡ suc n = omega arith in ap parity e
 parity_bit false n = let e : 0 + n ≡ n = omega arith in ap parity e
-
-toggle_is : (v : ℕ) (f : ℕ → Bool) (u : ℕ) → toggle v f u ≡ cond (u == v) (not (f u)) (f u)
-toggle_is v f u = refl
 
 both_ways : (a b c : Bool) → cond a (not (cond b (not c) c)) (cond b (not c) c) ≡ cond b (not (cond a (not c) c)) (cond a (not c) c)
 both_ways true true c = refl

@@ -11,6 +11,7 @@ pub mod ComponentLaw
 pub mod Decoded
 pub mod Degrees
 pub mod Gates
+pub mod Kinds
 pub mod Law
 pub mod LogBounds
 pub mod Order

@@ -4,7 +4,7 @@ ghost use Rattle.row_state.specs.declared.kind.Kinds.{Kinds};
 ghost use Rattle.row_state.specs.declared.state.State.{State};
 ghost use Rattle.row_state.specs.Completion.{Need};
 ghost use Rattle.row_state.specs.Start.{IsState, AreSomeKinds};
-ghost use Rattle.row_state.specs.Versions.{IsVersion, value_of};
+ghost use Rattle.row_state.specs.Versions.{IsVersion};
 
 use crate::{Kinds, State};
 use cell_num::Row;
@@ -24,7 +24,6 @@ pub trait RowBound {
     ghost version_of: { Self → ℕ };
 
     fn bound(&self, row: Row, state: &State, kinds: &Kinds) -> u32
-        requires kinds { AreSomeKinds kinds.now }
         requires state { IsState kinds.now state.now }
         ensures { result ≡ value self.now row state.now kinds.now };
 
@@ -37,7 +36,4 @@ pub trait RowBound {
 
     /// Logs have such versions.
     ghost known: { (b : Self) → IsVersion (version_of b) };
-
-    /// All bounds of a version answer alike.
-    ghost rests: { (b : Self) (row : Row) (s : State) (k : Kinds) → value b row s k ≡ value_of (version_of b) row s k };
 }

@@ -1,10 +1,11 @@
 ghost use Rattle.std.specs.Prelude.{◌≡◌, ◌≤◌, ◌<◌, IfOk, IfSome, AllPairs, length};
-ghost use Rattle.row_state.specs.Candidates.{AreCandidates, IsCandidate, digit_of, ends_of_step, rows_of_step};
+ghost use Rattle.row_state.specs.declared.state.State.{State as StateOf};
+ghost use Rattle.row_state.specs.Candidates.{AreCandidates, HaveEachNext, IsCandidate, candidate_steps, digit_of, ends_of_step, rows_of_step};
 ghost use Rattle.row_state.specs.Code.{count_lists};
 ghost use Rattle.row_state.specs.Order.{KindBefore, gate_key};
 ghost use Rattle.row_state.specs.Runs.{GatesFrom};
-ghost use Rattle.row_state.specs.Start.{AreSomeKinds, start_of};
-ghost use Rattle.row_state.specs.Steps.{IsPossible, column_of};
+ghost use Rattle.row_state.specs.Start.{IsState, start_of};
+ghost use Rattle.row_state.specs.Steps.{IsPossible, Unfolds, column_of};
 
 use crate::coding::{end_number, lists};
 use crate::step::right;
@@ -45,7 +46,6 @@ fn digit(kinds: &[Kind], side: &Option<Side>) -> u64
 
 #[tactic(auto, using(crate::proofs::Codes::lists_few_p, crate::proofs::Codes::lists_few_n, crate::proofs::Digits::first_within, crate::proofs::Digits::rows_fit))]
 fn rows(step: &Step, kinds: &Kinds) -> u64
-    requires kinds { AreSomeKinds kinds.now }
     requires step { IsPossible kinds.now (start_of kinds.now) step.now }
     ensures { result ≡ rows_of_step kinds.now step.now }
 {
@@ -55,10 +55,10 @@ fn rows(step: &Step, kinds: &Kinds) -> u64
 
 #[tactic(auto, using(crate::proofs::Digits::ends_fit, crate::proofs::Digits::ends_are))]
 fn ends(step: &Step, column: &Column, kinds: &Kinds) -> u32
-    requires kinds { AreSomeKinds kinds.now }
     requires column { column.now ≡ column_of kinds.now step.now }
     ensures { result ≡ ends_of_step kinds.now step.now }
 {
+    kinds.show_limits();
     let nets = u128::from(kinds.nets) + 1;
     (end_number(&right(&column.p)) * nets + end_number(&right(&column.n))) as u32
 }
@@ -89,7 +89,6 @@ pub(crate) fn gate(column: &Column) -> u32
 }
 
 fn of_step(step: &Step, kinds: &Kinds) -> Candidate
-    requires kinds { AreSomeKinds kinds.now }
     requires step { IsPossible kinds.now (start_of kinds.now) step.now }
     ensures step { result.step ≡ step.now }
     ensures candidate { IsCandidate kinds.now result }
@@ -106,9 +105,8 @@ fn of_step(step: &Step, kinds: &Kinds) -> Candidate
     }
 }
 
-/// All columns that the states of the kinds may allow, in order.
-pub fn candidates(alloc: Global, kinds: &Kinds) -> Result<Candidates, NoMemory>
-    requires kinds { AreSomeKinds kinds.now }
+// The columns that may come first.
+fn list(alloc: Global, kinds: &Kinds) -> Result<Candidates, NoMemory>
     ensures { IfOk result (AreCandidates kinds.now) }
 {
     let first = start(alloc, kinds)?;
@@ -117,5 +115,18 @@ pub fn candidates(alloc: Global, kinds: &Kinds) -> Result<Candidates, NoMemory>
     for step in steps.as_slice() {
         all.push(of_step(step, kinds))?;
     }
+    Ok(all)
+}
+
+/// All columns that the valid states of the kinds allow as their next ones, in order.
+#[tactic(auto, using(crate::proofs::Digits::candidates_unfold))]
+pub fn candidates(alloc: Global, kinds: &Kinds) -> Result<Candidates, NoMemory>
+    ensures candidates { IfOk result (AreCandidates kinds.now) }
+    // No valid state allows a column that is not among them, and each completion of one begins with one of them.
+    ensures every { IfOk result (λ all. HaveEachNext kinds.now (candidate_steps all)) }
+    ensures unfolds { IfOk result (λ all. (s : StateOf) → IsState kinds.now s →
+        Unfolds kinds.now s (candidate_steps all)) }
+{
+    let all = list(alloc, kinds)?;
     Ok(all)
 }

@@ -3,7 +3,7 @@ ghost use Rattle.row_state.specs.declared.kind.Kind.{Kind as KindOf};
 ghost use Rattle.row_state.specs.declared.state.State.{State as StateOf};
 ghost use Rattle.row_state.specs.Code.{IsCode, count_lists, counts_code, counts_of_code, end_code, end_of_code, most_states, rows_of_code, state_code, state_of};
 ghost use Rattle.row_state.specs.Decoded.{rows_code};
-ghost use Rattle.row_state.specs.Start.{AreSomeKinds, IsState};
+ghost use Rattle.row_state.specs.Start.{IsState};
 
 use crate::{Kind, Kinds, State};
 use cell_num::NetNo;
@@ -50,7 +50,6 @@ pub(crate) fn end_number(end: &Option<NetNo>) -> u128
 // The counts of both rows as one number.
 #[tactic(auto, using(crate::proofs::Codes::lists_few_p, crate::proofs::Codes::lists_few_n, crate::proofs::Codes::rows_few))]
 pub(crate) fn rows_number(state: &State, kinds: &Kinds) -> u64
-    requires kinds { AreSomeKinds kinds.now }
     requires state { IsState kinds.now state.now }
     ensures { result ≡ rows_code kinds.now state.now }
 {
@@ -64,7 +63,6 @@ pub(crate) fn rows_number(state: &State, kinds: &Kinds) -> u64
 /// The number of a state among those of its kinds: no other has it.
 #[tactic(auto, using(crate::proofs::Codes::ends_below, crate::proofs::Codes::digits_fit, crate::proofs::Codes::state_below, crate::proofs::Codes::state_same))]
 pub fn code(state: &State, kinds: &Kinds) -> u128
-    requires kinds { AreSomeKinds kinds.now }
     requires state { IsState kinds.now state.now }
     ensures code { result ≡ state_code kinds.now state.now }
     ensures below { result < most_states kinds.now }
@@ -103,7 +101,6 @@ fn end_numbered(number: u128) -> Option<NetNo>
 
 #[tactic(auto, using(crate::proofs::Codes::lists_few_n))]
 fn put_state(code: u128, kinds: &Kinds, into: &mut State)
-    requires kinds { AreSomeKinds kinds.now }
     requires few { rows_of_code kinds.now code < 18446744073709551616 }
     requires p_room { length into.old.p_left ≡ length kinds.now.p }
     requires n_room { length into.old.n_left ≡ length kinds.now.n }
@@ -123,7 +120,6 @@ fn put_state(code: u128, kinds: &Kinds, into: &mut State)
 /// The state that has the number, in the place of one with as many kinds.
 #[tactic(auto, using(crate::proofs::Decoding::code_few, crate::proofs::Decoding::code_valid, crate::proofs::Decoding::code_again))]
 pub fn decode(code: u128, kinds: &Kinds, into: &mut State)
-    requires kinds { AreSomeKinds kinds.now }
     requires code { IsCode kinds.now code }
     requires p_room { length into.old.p_left ≡ length kinds.now.p }
     requires n_room { length into.old.n_left ≡ length kinds.now.n }
@@ -131,5 +127,6 @@ pub fn decode(code: u128, kinds: &Kinds, into: &mut State)
     ensures code { state_code kinds.now into.new ≡ code }
     ensures value { into.new ≡ state_of kinds.now code }
 {
+    kinds.show_limits();
     put_state(code, kinds, into);
 }

@@ -6,7 +6,7 @@ ghost use Rattle.row_state.specs.Classes.{joined, least_chained};
 ghost use Rattle.row_state.specs.Completion.{fingers_left};
 ghost use Rattle.row_state.specs.Component.{component_value, fewest_trails, further_trails, has_finger, size_in};
 ghost use Rattle.row_state.specs.ComponentLaw.{component_holds};
-ghost use Rattle.row_state.specs.Start.{AreSomeKinds, IsKind, IsState};
+ghost use Rattle.row_state.specs.Start.{IsKind, IsState};
 ghost use Rattle.row_state.specs.Tests.{entry, flag, kinds_in, left_of};
 ghost use Rattle.row_state.specs.Trails.{end_of};
 
@@ -149,7 +149,6 @@ fn count_trails(kinds: &[Kind], left: &[u32], end: &Option<NetNo>, nets: u32) ->
 }
 
 fn count_trails_in(row: Row, state: &State, kinds: &Kinds) -> u32
-    requires kinds { AreSomeKinds kinds.now }
     requires state { IsState kinds.now state.now }
     ensures { (at : RowOf) → result ≡ further_trails kinds.now.nets (end_of row state.now)
         (fingers_left at (kinds_in row kinds.now) (left_of row state.now)) }
@@ -172,7 +171,6 @@ fn count_trails_in(row: Row, state: &State, kinds: &Kinds) -> u32
 
 #[tactic(auto, using(crate::proofs::ComponentCode::component_code))]
 fn row_bound(row: Row, state: &State, kinds: &Kinds) -> u32
-    requires kinds { AreSomeKinds kinds.now }
     requires state { IsState kinds.now state.now }
     ensures { result ≡ component_value row state.now kinds.now }
 {
@@ -191,8 +189,6 @@ impl RowBound for Component {
     ghost holds = { λ b row s k some valid. component_holds k s row some };
 
     ghost known = { λ b. inr refl };
-
-    ghost rests = { λ b row s k. refl };
 
     fn bound(&self, row: Row, state: &State, kinds: &Kinds) -> u32 {
         row_bound(row, state, kinds)

@@ -3,7 +3,7 @@ ghost use Rattle.row_state.specs.declared.kind.Kinds.{Kinds as KindsOf};
 ghost use Rattle.row_state.specs.declared.state.State.{State as StateOf};
 ghost use Rattle.row_state.specs.Order.{KindBefore};
 ghost use Rattle.row_state.specs.Runs.{GatesFrom, IsCursor, IsLast, IsNext, IsOnGate, IsRun};
-ghost use Rattle.row_state.specs.Start.{AreSomeKinds, counts_of};
+ghost use Rattle.row_state.specs.Start.{counts_of};
 ghost use Rattle.row_state.specs.Tests.{counts_fit, gate_left, lower_gate};
 
 use crate::{Kind, Kinds, State};
@@ -63,7 +63,6 @@ pub(crate) fn on_gate(
     p_from: usize,
     n_from: usize,
 ) -> OnGate
-    requires kinds { AreSomeKinds kinds.now }
     requires p_fits { IsTrue (counts_fit kinds.now.p state.now.p_left) }
     requires n_fits { IsTrue (counts_fit kinds.now.n state.now.n_left) }
     requires p_from { GatesFrom kinds.now.p gate p_from }
@@ -112,7 +111,6 @@ fn next_gate(kinds: &Kinds, cursor: &Cursor) -> Option<u32>
 // The kinds of the next gate that has kinds.
 #[tactic(auto, using(crate::proofs::Gates::next_is, crate::proofs::Gates::last_is))]
 pub(crate) fn next_on(state: &State, kinds: &Kinds, cursor: &Cursor) -> Option<OnGate>
-    requires kinds { AreSomeKinds kinds.now }
     requires p_fits { IsTrue (counts_fit kinds.now.p state.now.p_left) }
     requires n_fits { IsTrue (counts_fit kinds.now.n state.now.n_left) }
     requires cursor { IsCursor kinds.now cursor.now }
@@ -120,6 +118,7 @@ pub(crate) fn next_on(state: &State, kinds: &Kinds, cursor: &Cursor) -> Option<O
     ensures next { IfSome result (λ on. IsNext kinds.now cursor.now on.gate) }
     ensures last { IsNone result → IsLast kinds.now cursor.now }
 {
+    kinds.show_limits();
     match next_gate(kinds, cursor) {
         Some(gate) => Some(on_gate(state, kinds, gate, cursor.p, cursor.n)),
         None => None,

@@ -1,6 +1,6 @@
 ghost use Rattle.std.specs.Prelude.{None, [], if◌then◌else◌, ◌≡◌, ◌≤◌, ◌++◌, ltb, Some, IfOk, OnOk, length};
 ghost use Rattle.std.specs.List.{flat_map};
-ghost use Rattle.row_state.specs.Start.{AreSomeKinds, IsState};
+ghost use Rattle.row_state.specs.Start.{IsState};
 ghost use Rattle.row_state.specs.Steps.{AreSuccessors, Unfolds};
 ghost use Rattle.row_state.specs.Runs.{IsOnGate, IsRun};
 ghost use Rattle.row_state.specs.Tests.{columns_on, next_columns, sides_on, turns_left, with_each, with_side};
@@ -71,7 +71,6 @@ fn push_side(
     kinds: &Kinds,
     on: &OnGate,
 ) -> Result<(), NoMemory>
-    requires kinds { AreSomeKinds kinds.now }
     requires state { IsState kinds.now state.now }
     requires on { IsOnGate kinds.now state.now on.now }
     ensures { OnOk result (steps.new ≡ steps.old ++ with_side (sides_on kinds.now.n state.now.n_left on.now.gate)
@@ -99,7 +98,6 @@ fn push_kind(
     kinds: &Kinds,
     on: &OnGate,
 ) -> Result<(), NoMemory>
-    requires kinds { AreSomeKinds kinds.now }
     requires state { IsState kinds.now state.now }
     requires on { IsOnGate kinds.now state.now on.now }
     ensures { OnOk result (steps.new ≡ steps.old ++ flat_map (with_side
@@ -127,7 +125,6 @@ fn push_kind(
 // The columns with a P finger on the gate.
 #[tactic(auto, using(crate::proofs::Valid::kinds_few_p))]
 fn push_filled(steps: &mut Steps, state: &State, kinds: &Kinds, on: &OnGate) -> Result<(), NoMemory>
-    requires kinds { AreSomeKinds kinds.now }
     requires state { IsState kinds.now state.now }
     requires on { IsOnGate kinds.now state.now on.now }
     ensures { OnOk result (steps.new ≡ steps.old ++ flat_map (with_side
@@ -145,7 +142,6 @@ fn push_filled(steps: &mut Steps, state: &State, kinds: &Kinds, on: &OnGate) -> 
 // The columns with an N finger alone: they may stand where the gate has more fingers left in the N row.
 #[tactic(auto, using(crate::proofs::Valid::kinds_few_n))]
 fn push_alone(steps: &mut Steps, state: &State, kinds: &Kinds, on: &OnGate) -> Result<(), NoMemory>
-    requires kinds { AreSomeKinds kinds.now }
     requires state { IsState kinds.now state.now }
     requires on { IsOnGate kinds.now state.now on.now }
     ensures { OnOk result (steps.new ≡ steps.old ++ (if ltb on.now.p.left on.now.n.left then with_each None
@@ -166,7 +162,6 @@ fn push_on_gate(
     kinds: &Kinds,
     on: &OnGate,
 ) -> Result<(), NoMemory>
-    requires kinds { AreSomeKinds kinds.now }
     requires state { IsState kinds.now state.now }
     requires on { IsOnGate kinds.now state.now on.now }
     ensures { OnOk result (steps.new ≡ steps.old ++ columns_on kinds.now state.now on.now.gate) }
@@ -178,7 +173,6 @@ fn push_on_gate(
 
 #[tactic(auto, using(crate::proofs::Runs::first_gates, crate::proofs::Valid::p_fits, crate::proofs::Valid::n_fits))]
 fn list_next(alloc: Global, state: &State, kinds: &Kinds) -> Result<Steps, NoMemory>
-    requires kinds { AreSomeKinds kinds.now }
     requires state { IsState kinds.now state.now }
     ensures { IfOk result (λ steps. steps ≡ next_columns kinds.now state.now) }
 {
@@ -198,11 +192,11 @@ fn list_next(alloc: Global, state: &State, kinds: &Kinds) -> Result<Steps, NoMem
 /// empty place behind all kinds and unflipped before flipped.
 #[tactic(auto, using(crate::proofs::Calls::next_succeed, crate::proofs::Calls::next_unfold))]
 pub fn successors(alloc: Global, state: &State, kinds: &Kinds) -> Result<Steps, NoMemory>
-    requires kinds { AreSomeKinds kinds.now }
     requires state { IsState kinds.now state.now }
     ensures steps { IfOk result (λ steps. AreSuccessors kinds.now state.now steps) }
     ensures unfolds { IfOk result (λ steps. Unfolds kinds.now state.now steps) }
 {
+    kinds.show_limits();
     let steps = list_next(alloc, state, kinds)?;
     Ok(steps)
 }

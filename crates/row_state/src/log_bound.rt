@@ -37,8 +37,6 @@ impl RowBound for LogBound {
 
     ghost known = { λ b. log_bound_known b };
 
-    ghost rests = { λ b row s k. refl };
-
     fn bound(&self, row: Row, state: &State, kinds: &Kinds) -> u32 {
         match self {
             LogBound::One => Parity.bound(row, state, kinds),

@@ -5,7 +5,7 @@ ghost use Rattle.row_state.specs.Code.{state_code};
 ghost use Rattle.row_state.specs.Completion.{cost_of};
 ghost use Rattle.row_state.specs.Decoded.{rows_code};
 ghost use Rattle.row_state.specs.declared.kind.Kinds.{Kinds as KindsOf};
-ghost use Rattle.row_state.specs.Start.{AreSomeKinds, IsState};
+ghost use Rattle.row_state.specs.Start.{IsState};
 ghost use Rattle.row_state.specs.Steps.{IsPossible, column_of, state_after};
 ghost use Rattle.row_state.specs.Tests.{gate_left, half_test, side_left};
 
@@ -40,7 +40,6 @@ fn is_left(left: &[u32], side: &Option<Side>) -> bool
 // The kinds on the gate of the column.
 #[tactic(auto, using(crate::proofs::Valid::p_fits, crate::proofs::Valid::n_fits))]
 fn on_its_gate(state: &State, kinds: &Kinds, next: &Candidate) -> OnGate
-    requires kinds { AreSomeKinds kinds.now }
     requires state { IsState kinds.now state.now }
     requires next { IsCandidate kinds.now next.now }
     ensures p { result.p.left ≡ gate_left kinds.now.p state.now.p_left (gate_of_candidate next.now) }
@@ -51,7 +50,6 @@ fn on_its_gate(state: &State, kinds: &Kinds, next: &Candidate) -> OnGate
 
 // Whether a half column has more fingers left on its gate in its row than in the other.
 fn half_stands(state: &State, kinds: &Kinds, next: &Candidate) -> bool
-    requires kinds { AreSomeKinds kinds.now }
     requires state { IsState kinds.now state.now }
     requires next { IsCandidate kinds.now next.now }
     ensures { result ≡ half_test next.now.column.p next.now.column.n (gate_left kinds.now.p state.now.p_left
@@ -72,7 +70,6 @@ fn half_stands(state: &State, kinds: &Kinds, next: &Candidate) -> bool
 
 #[tactic(auto, using(crate::proofs::Digits::sides_within))]
 fn stands(state: &State, kinds: &Kinds, next: &Candidate) -> bool
-    requires kinds { AreSomeKinds kinds.now }
     requires state { IsState kinds.now state.now }
     requires next { IsCandidate kinds.now next.now }
     ensures { result ≡ may_stand_in kinds.now state.now next.now }
@@ -84,7 +81,6 @@ fn stands(state: &State, kinds: &Kinds, next: &Candidate) -> bool
 
 impl Numbered {
     pub fn new(state: State, kinds: &Kinds) -> Numbered
-        requires kinds { AreSomeKinds kinds.now }
         requires state { IsState kinds.now state }
         ensures state { result.state ≡ state }
         ensures numbered { IsNumbered kinds.now result }
@@ -101,7 +97,6 @@ impl Numbered {
     /// Whether the column may come next.
     #[tactic(auto, using(crate::proofs::Digits::stands_decide))]
     pub fn allows(&self, kinds: &Kinds, next: &Candidate) -> bool
-        requires kinds { AreSomeKinds kinds.now }
         requires numbered { IsNumbered kinds.now self.now }
         requires next { IsCandidate kinds.now next.now }
         ensures { IsTrue result ↔ IsPossible kinds.now self.now.state next.now.step }
@@ -131,7 +126,6 @@ impl Numbered {
     /// The number of the state behind a column that may come next.
     #[tactic(auto, using(crate::proofs::Digits::code_from, crate::proofs::Digits::code_fits, crate::proofs::Digits::nets_few, crate::proofs::Digits::ends_few))]
     pub fn code_behind(&self, kinds: &Kinds, next: &Candidate) -> u128
-        requires kinds { AreSomeKinds kinds.now }
         requires numbered { IsNumbered kinds.now self.now }
         requires next { IsCandidate kinds.now next.now }
         requires step { IsPossible kinds.now self.now.state next.now.step }
@@ -150,13 +144,13 @@ impl Numbered {
         kinds: &Kinds,
         next: &Candidate,
     ) -> Result<Numbered, NoMemory>
-        requires kinds { AreSomeKinds kinds.now }
         requires numbered { IsNumbered kinds.now self.now }
         requires next { IsCandidate kinds.now next.now }
         requires step { IsPossible kinds.now self.now.state next.now.step }
         ensures state { IfOk result (λ behind. behind.state ≡ state_after kinds.now self.now.state next.now.step) }
         ensures numbered { IfOk result (IsNumbered kinds.now) }
     {
+        kinds.show_limits();
         Ok(Numbered {
             state: after(alloc, &self.state, &next.step, kinds)?,
             counts: self.counts_behind(kinds, next),

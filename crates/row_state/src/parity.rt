@@ -6,7 +6,7 @@ ghost use Rattle.row_state.specs.Parity.{parity_value};
 ghost use Rattle.row_state.specs.declared.kind.Kinds.{Kinds as KindsOf};
 ghost use Rattle.row_state.specs.declared.state.State.{State as StateOf};
 ghost use Rattle.row_state.specs.Runs.{IsOnGate};
-ghost use Rattle.row_state.specs.Start.{AreSomeKinds, IsKind, IsState};
+ghost use Rattle.row_state.specs.Start.{IsKind, IsState};
 ghost use Rattle.row_state.specs.Tests.{adds_odd, empty_test, halved, is_odd_behind, is_odd_net, kinds_in, left_of, parity_test};
 ghost use Rattle.row_state.specs.Trails.{end_of, size, toggle};
 
@@ -126,10 +126,10 @@ fn empty_on(row: Row, on: &OnGate) -> u32
 
 #[tactic(auto, using(crate::proofs::ParityCode::empty_few, crate::proofs::Valid::p_fits, crate::proofs::Valid::n_fits))]
 pub(crate) fn count_empty(row: Row, state: &State, kinds: &Kinds) -> u32
-    requires kinds { AreSomeKinds kinds.now }
     requires state { IsState kinds.now state.now }
     ensures { result ≡ sum_below (empty_test row state.now kinds.now) kinds.now.nets }
 {
+    kinds.show_limits();
     let mut empty = 0;
     let mut cursor = first_gates();
     'gates: while let Some(on) = next_on(state, kinds, &cursor) {
@@ -140,7 +140,6 @@ pub(crate) fn count_empty(row: Row, state: &State, kinds: &Kinds) -> u32
 }
 
 fn count_odd_in(row: Row, state: &State, kinds: &Kinds) -> u32
-    requires kinds { AreSomeKinds kinds.now }
     requires state { IsState kinds.now state.now }
     ensures { result ≡ size kinds.now.nets (is_odd_behind (end_of row state.now) (kinds_in row kinds.now)
         (left_of row state.now)) }
@@ -176,7 +175,6 @@ fn halve(row: Row, state: &State, odd: u32) -> u32
 }
 
 fn row_bound(row: Row, state: &State, kinds: &Kinds) -> u32
-    requires kinds { AreSomeKinds kinds.now }
     requires state { IsState kinds.now state.now }
     ensures { result ≡ parity_test row state.now kinds.now }
 {
@@ -195,8 +193,6 @@ impl RowBound for Parity {
     ghost holds = { λ b row s k some valid. parity_holds k s row some };
 
     ghost known = { λ b. inl refl };
-
-    ghost rests = { λ b row s k. refl };
 
     #[tactic(auto, using(crate::proofs::ParityCode::parity_code))]
     fn bound(&self, row: Row, state: &State, kinds: &Kinds) -> u32 {

@@ -6,7 +6,7 @@ ghost use Rattle.row_state.specs.declared.kind.Kinds.{Kinds as KindsOf};
 ghost use Rattle.row_state.specs.declared.state.State.{State as StateOf};
 ghost use Rattle.row_state.specs.Runs.{IsOnGate};
 ghost use Rattle.row_state.specs.Completion.{further_gaps};
-ghost use Rattle.row_state.specs.Start.{AreSomeKinds, HasFingers, IsState, columns_left, counts_of, start_of};
+ghost use Rattle.row_state.specs.Start.{HasFingers, IsState, columns_left, counts_of, start_of};
 ghost use Rattle.row_state.specs.Tests.{columns_test, counts_fit, end_fits, gate_left, keeps_lead, leads_below, left_of_kind, state_test};
 
 use crate::gate::{OnGate, behind, first_gates, next_on};
@@ -34,7 +34,6 @@ fn counts(alloc: Global, kinds: &[Kind]) -> Result<Vec<u32>, AllocError>
 /// The state before the first column: all fingers are left, and no end is open.
 #[tactic(auto, using(crate::proofs::Valid::start_valid, crate::proofs::Unfold::gaps_from_start))]
 pub fn start(alloc: Global, kinds: &Kinds) -> Result<State, NoMemory>
-    requires kinds { AreSomeKinds kinds.now }
     ensures state { IfOk result (λ s. s ≡ start_of kinds.now) }
     ensures valid { IfOk result (λ s. IsState kinds.now s) }
     ensures gaps { IfOk result (λ s. (row : Sequence Column) → further_gaps s row ≡ gaps_of row) }
@@ -68,10 +67,10 @@ fn count_all(kinds: &[Kind], gate: u32) -> u32
 
 #[tactic(auto, using(crate::proofs::Valid::gates_few))]
 fn columns_on_gate(kinds: &Kinds, gate: u32) -> u32
-    requires { AreSomeKinds kinds.now }
     ensures value { result ≡ columns_test kinds.now gate }
     ensures few { result ≤ MOST_FINGERS }
 {
+    kinds.show_limits();
     let p = count_all(kinds.p.as_slice(), gate);
     let n = count_all(kinds.n.as_slice(), gate);
     p.max(n)
@@ -80,7 +79,6 @@ fn columns_on_gate(kinds: &Kinds, gate: u32) -> u32
 /// How many columns the fingers of the kinds need.
 #[tactic(auto, using(cell_num::proofs::Sums::sum_below_more, crate::proofs::Valid::columns_are))]
 pub fn columns(kinds: &Kinds) -> u32
-    requires { AreSomeKinds kinds.now }
     ensures { result ≡ columns_left kinds.now (start_of kinds.now) }
 {
     let mut total = 0;
@@ -125,11 +123,11 @@ fn has_lead(on: &OnGate) -> bool
 }
 
 fn has_leads(state: &State, kinds: &Kinds) -> bool
-    requires kinds { AreSomeKinds kinds.now }
     requires p_fits { IsTrue (counts_fit kinds.now.p state.now.p_left) }
     requires n_fits { IsTrue (counts_fit kinds.now.n state.now.n_left) }
     ensures { result ≡ leads_below kinds.now state.now kinds.now.nets }
 {
+    kinds.show_limits();
     let mut kept = true;
     let mut cursor = first_gates();
     'gates: while let Some(on) = next_on(state, kinds, &cursor) {
@@ -140,7 +138,6 @@ fn has_leads(state: &State, kinds: &Kinds) -> bool
 }
 
 fn passes(state: &State, kinds: &Kinds) -> bool
-    requires kinds { AreSomeKinds kinds.now }
     ensures { result ≡ state_test kinds.now state.now }
 {
     if !fits(kinds.p.as_slice(), state.p_left.as_slice()) {
@@ -159,9 +156,9 @@ fn passes(state: &State, kinds: &Kinds) -> bool
 /// with no more on it.
 #[tactic(auto, using(crate::proofs::Valid::state_decides))]
 pub fn is_state(state: &State, kinds: &Kinds) -> bool
-    requires kinds { AreSomeKinds kinds.now }
     ensures { IsTrue result ↔ IsState kinds.now state.now }
 {
+    kinds.show_limits();
     passes(state, kinds)
 }
 

@@ -2,7 +2,7 @@ ghost use Rattle.std.specs.Prelude.{◌≡◌, ◌<◌, ◌+◌, ◌∷◌, IfOk
 ghost use Rattle.row_model.specs.declared.column.Column.{Column};
 ghost use Rattle.row_model.specs.Gaps.{right_net};
 ghost use Rattle.row_state.specs.Completion.{Completes, cost_of, end_differs, further_gaps};
-ghost use Rattle.row_state.specs.Start.{AreSomeKinds, IsState, columns_left};
+ghost use Rattle.row_state.specs.Start.{IsState, columns_left};
 ghost use Rattle.row_state.specs.Steps.{IsPossible, column_of, left_after, oriented_of, placed_of, state_after};
 
 use crate::{Counts, Kind, Kinds, State};
@@ -86,7 +86,6 @@ pub(crate) fn column_cost(state: &State, column: &Column) -> u32
 /// 1 where in some row an end is open and the next column fills that row with another net, else 0.
 #[tactic(auto, using(crate::proofs::Unfold::further_step))]
 pub fn step_cost(state: &State, step: &Step, kinds: &Kinds) -> u32
-    requires kinds { AreSomeKinds kinds.now }
     requires state { IsState kinds.now state.now }
     requires step { IsPossible kinds.now state.now step.now }
     ensures cost { result ≡ cost_of state.now (column_of kinds.now step.now) }
@@ -147,7 +146,6 @@ fn stepped(alloc: Global, state: &State, step: &Step, kinds: &Kinds) -> Result<S
 /// The state after a next column. A row whose place it leaves empty has no open end then.
 #[tactic(auto, using(crate::proofs::Calls::valid_after, crate::proofs::Calls::fewer_after, crate::proofs::Calls::completes_after))]
 pub fn after(alloc: Global, state: &State, step: &Step, kinds: &Kinds) -> Result<State, NoMemory>
-    requires kinds { AreSomeKinds kinds.now }
     requires state { IsState kinds.now state.now }
     requires step { IsPossible kinds.now state.now step.now }
     ensures state { IfOk result (λ s. s ≡ state_after kinds.now state.now step.now) }
@@ -156,6 +154,7 @@ pub fn after(alloc: Global, state: &State, step: &Step, kinds: &Kinds) -> Result
     ensures completes { IfOk result (λ s. (rest : Sequence Column) → Completes kinds.now s rest →
         Completes kinds.now state.now (column_of kinds.now step.now ∷ rest)) }
 {
+    kinds.show_limits();
     let next = stepped(alloc, state, step, kinds)?;
     Ok(next)
 }

@@ -4,7 +4,7 @@ use Rattle.bound_log.proofs.Counts.{few_of_each}
 use Rattle.bound_log.proofs.line.state.Goals as goal
 
 pub counts-requires : goal.counts-requires
-counts-requires c = subst FewOfEach (sym c.as_slice.ensures) (few_of_each c.args.kinds.now c.requires).0
+counts-requires c = subst FewOfEach (sym c.as_slice.ensures) (few_of_each _ c.kinds.invariant).0
 
 pub counts-requires-2 : goal.counts-requires-2
-counts-requires-2 c = subst FewOfEach (sym c.as_slice-2.ensures) (few_of_each c.args.kinds.now c.requires).1
+counts-requires-2 c = subst FewOfEach (sym c.as_slice-2.ensures) (few_of_each _ c.kinds.invariant).1

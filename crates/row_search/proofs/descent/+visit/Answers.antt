@@ -49,7 +49,7 @@ loop-next-preserved-then-allowed-cost g t c = (c.loop-next.invariant.0, step_dea
 
 pub loop-next-preserved-then-best_at-allowed : goal.loop-next-preserved-then-best_at-allowed
 unfolding blank
-loop-next-preserved-then-best_at-allowed g t c = (c.loop-next.invariant.0, step_known c.args.task.now.kinds.now c.args.at.now.state c.args.allowed c.cost-cost.result c.best_at.result c.loop-next.progress.lemmas c.args.task.now.candidates.now c.loop-next.next-index blank c.loop-next.invariant.1 c.loop-next-test.true (c.cost-cost.ensures c.args.task.now.kinds.now (c.requires.candidates.each c.loop-next.next-index blank c.loop-next-test.true)) (known_behind c.args.task.now.kinds.now c.loop-next.progress c.args.at.now.state (get_or c.args.task.now.candidates.now c.loop-next.next-index blank).step c.code_behind.result c.best_at.result c.requires.kinds c.loop-next.invariant.0.knows c.requires.numbered.valid (some_left c.allows.ensures c.if-not-allows.false) c.code_behind.ensures c.best_at.ensures) c.if-best_at-allowed.true)
+loop-next-preserved-then-best_at-allowed g t c = (c.loop-next.invariant.0, step_known c.args.task.now.kinds.now c.args.at.now.state c.args.allowed c.cost-cost.result c.best_at.result c.loop-next.progress.lemmas c.args.task.now.candidates.now c.loop-next.next-index blank c.loop-next.invariant.1 c.loop-next-test.true (c.cost-cost.ensures c.args.task.now.kinds.now (c.requires.candidates.each c.loop-next.next-index blank c.loop-next-test.true)) (known_behind c.args.task.now.kinds.now c.loop-next.progress c.args.at.now.state (get_or c.args.task.now.candidates.now c.loop-next.next-index blank).step c.code_behind.result c.best_at.result c.show_limits.ensures c.loop-next.invariant.0.knows c.requires.numbered.valid (some_left c.allows.ensures c.if-not-allows.false) c.code_behind.ensures c.best_at.ensures) c.if-best_at-allowed.true)
 
 pub returns-in_err-behind-clause-further : goal.returns-in_err-behind-clause-further
 returns-in_err-behind-clause-further g t c = further_wider (g.B.RowBound.value c.args.task.now.bound.now) c.args.task.now.kinds.now c.args.task.now.budget c.args.at.now.state c.args.allowed c.args.progress.now c.loop-next.progress c.loop-next.invariant.0.further
@@ -57,9 +57,9 @@ returns-in_err-behind-clause-further g t c = further_wider (g.B.RowBound.value c
 pub visit-requires : goal.visit-requires
 unfolding blank
 visit-requires g t c κs within =
-    let fewer : columns_left c.args.task.now.kinds.now c.args.at.now.state ≡ columns_left c.args.task.now.kinds.now c.in_ok-behind.behind.state + 1 = fewer_after c.args.task.now.kinds.now c.args.at.now.state (get_or c.args.task.now.candidates.now c.loop-next.next-index blank).step c.requires.kinds (some_left c.allows.ensures c.if-not-allows.false) ∙ ap (λ (z : State). columns_left c.args.task.now.kinds.now z + 1) (sym c.in_ok-behind.ensures.state) in
+    let fewer : columns_left c.args.task.now.kinds.now c.args.at.now.state ≡ columns_left c.args.task.now.kinds.now c.in_ok-behind.behind.state + 1 = fewer_after c.args.task.now.kinds.now c.args.at.now.state (get_or c.args.task.now.candidates.now c.loop-next.next-index blank).step c.show_limits.ensures (some_left c.allows.ensures c.if-not-allows.false) ∙ ap (λ (z : State). columns_left c.args.task.now.kinds.now z + 1) (sym c.in_ok-behind.ensures.state) in
     let less : columns_left c.args.task.now.kinds.now c.in_ok-behind.behind.state < columns_left c.args.task.now.kinds.now c.args.at.now.state = omega (arith, fewer) in
-    let told : c.best_at.result ≡ best_of c.in_ok-behind.behind.state c.loop-next.progress.lemmas = (known_behind c.args.task.now.kinds.now c.loop-next.progress c.args.at.now.state (get_or c.args.task.now.candidates.now c.loop-next.next-index blank).step c.code_behind.result c.best_at.result c.requires.kinds c.loop-next.invariant.0.knows c.requires.numbered.valid (some_left c.allows.ensures c.if-not-allows.false) c.code_behind.ensures c.best_at.ensures) ∙ ap (λ (z : State). best_of z c.loop-next.progress.lemmas) (sym c.in_ok-behind.ensures.state) in
+    let told : c.best_at.result ≡ best_of c.in_ok-behind.behind.state c.loop-next.progress.lemmas = (known_behind c.args.task.now.kinds.now c.loop-next.progress c.args.at.now.state (get_or c.args.task.now.candidates.now c.loop-next.next-index blank).step c.code_behind.result c.best_at.result c.show_limits.ensures c.loop-next.invariant.0.knows c.requires.numbered.valid (some_left c.allows.ensures c.if-not-allows.false) c.code_behind.ensures c.best_at.ensures) ∙ ap (λ (z : State). best_of z c.loop-next.progress.lemmas) (sym c.in_ok-behind.ensures.state) in
     let low : best_of c.in_ok-behind.behind.state c.loop-next.progress.lemmas ≤ c.args.allowed - c.cost-cost.result = omega (arith, told, c.if-best_at-allowed.false) in
     let kept : AreKept (g.B.RowBound.value c.args.task.now.bound.now) c.args.task.now.kinds.now c.loop-next.progress.lemmas = c.loop-next.invariant.0.further.lemmas in
     let nodes : c.loop-next.progress.nodes ≤ c.args.task.now.budget = c.loop-next.invariant.0.further.nodes in
@@ -69,28 +69,28 @@ visit-requires g t c κs within =
 
 pub returns-in-Err-clause-further : goal.returns-in-Err-clause-further
 unfolding blank
-returns-in-Err-clause-further g t c = further_wider (g.B.RowBound.value c.args.task.now.bound.now) c.args.task.now.kinds.now c.args.task.now.budget c.args.at.now.state c.args.allowed c.args.progress.now c.visit.new.progress (further_behind (g.B.RowBound.value c.args.task.now.bound.now) c.args.task.now.kinds.now c.args.task.now.budget c.args.at.now.state c.in_ok-behind.behind.state c.args.allowed c.cost-cost.result (get_or c.args.task.now.candidates.now c.loop-next.next-index blank).step c.args.progress.now c.loop-next.progress c.visit.new.progress c.requires.kinds (some_left c.allows.ensures c.if-not-allows.false) (c.cost-cost.ensures c.args.task.now.kinds.now (c.requires.candidates.each c.loop-next.next-index blank c.loop-next-test.true)) c.if-allowed-cost.false c.in_ok-behind.ensures.state c.loop-next.invariant.0.further c.in-Err.ensures.further)
+returns-in-Err-clause-further g t c = further_wider (g.B.RowBound.value c.args.task.now.bound.now) c.args.task.now.kinds.now c.args.task.now.budget c.args.at.now.state c.args.allowed c.args.progress.now c.visit.new.progress (further_behind (g.B.RowBound.value c.args.task.now.bound.now) c.args.task.now.kinds.now c.args.task.now.budget c.args.at.now.state c.in_ok-behind.behind.state c.args.allowed c.cost-cost.result (get_or c.args.task.now.candidates.now c.loop-next.next-index blank).step c.args.progress.now c.loop-next.progress c.visit.new.progress c.show_limits.ensures (some_left c.allows.ensures c.if-not-allows.false) (c.cost-cost.ensures c.args.task.now.kinds.now (c.requires.candidates.each c.loop-next.next-index blank c.loop-next-test.true)) c.if-allowed-cost.false c.in_ok-behind.ensures.state c.loop-next.invariant.0.further c.in-Err.ensures.further)
 
 pub returns-in_err-push-clause-further : goal.returns-in_err-push-clause-further
 unfolding blank
-returns-in_err-push-clause-further g t c = further_wider (g.B.RowBound.value c.args.task.now.bound.now) c.args.task.now.kinds.now c.args.task.now.budget c.args.at.now.state c.args.allowed c.args.progress.now c.visit.new.progress (further_behind (g.B.RowBound.value c.args.task.now.bound.now) c.args.task.now.kinds.now c.args.task.now.budget c.args.at.now.state c.in_ok-behind.behind.state c.args.allowed c.cost-cost.result (get_or c.args.task.now.candidates.now c.loop-next.next-index blank).step c.args.progress.now c.loop-next.progress c.visit.new.progress c.requires.kinds (some_left c.allows.ensures c.if-not-allows.false) (c.cost-cost.ensures c.args.task.now.kinds.now (c.requires.candidates.each c.loop-next.next-index blank c.loop-next-test.true)) c.if-allowed-cost.false c.in_ok-behind.ensures.state c.loop-next.invariant.0.further c.in-Ok.ensures.further)
+returns-in_err-push-clause-further g t c = further_wider (g.B.RowBound.value c.args.task.now.bound.now) c.args.task.now.kinds.now c.args.task.now.budget c.args.at.now.state c.args.allowed c.args.progress.now c.visit.new.progress (further_behind (g.B.RowBound.value c.args.task.now.bound.now) c.args.task.now.kinds.now c.args.task.now.budget c.args.at.now.state c.in_ok-behind.behind.state c.args.allowed c.cost-cost.result (get_or c.args.task.now.candidates.now c.loop-next.next-index blank).step c.args.progress.now c.loop-next.progress c.visit.new.progress c.show_limits.ensures (some_left c.allows.ensures c.if-not-allows.false) (c.cost-cost.ensures c.args.task.now.kinds.now (c.requires.candidates.each c.loop-next.next-index blank c.loop-next-test.true)) c.if-allowed-cost.false c.in_ok-behind.ensures.state c.loop-next.invariant.0.further c.in-Ok.ensures.further)
 
 pub returns-in-Some-tried-clause-further : goal.returns-in-Some-tried-clause-further
 unfolding blank
-returns-in-Some-tried-clause-further g t c = further_wider (g.B.RowBound.value c.args.task.now.bound.now) c.args.task.now.kinds.now c.args.task.now.budget c.args.at.now.state c.args.allowed c.args.progress.now c.visit.new.progress (further_behind (g.B.RowBound.value c.args.task.now.bound.now) c.args.task.now.kinds.now c.args.task.now.budget c.args.at.now.state c.in_ok-behind.behind.state c.args.allowed c.cost-cost.result (get_or c.args.task.now.candidates.now c.loop-next.next-index blank).step c.args.progress.now c.loop-next.progress c.visit.new.progress c.requires.kinds (some_left c.allows.ensures c.if-not-allows.false) (c.cost-cost.ensures c.args.task.now.kinds.now (c.requires.candidates.each c.loop-next.next-index blank c.loop-next-test.true)) c.if-allowed-cost.false c.in_ok-behind.ensures.state c.loop-next.invariant.0.further c.in-Ok.ensures.further)
+returns-in-Some-tried-clause-further g t c = further_wider (g.B.RowBound.value c.args.task.now.bound.now) c.args.task.now.kinds.now c.args.task.now.budget c.args.at.now.state c.args.allowed c.args.progress.now c.visit.new.progress (further_behind (g.B.RowBound.value c.args.task.now.bound.now) c.args.task.now.kinds.now c.args.task.now.budget c.args.at.now.state c.in_ok-behind.behind.state c.args.allowed c.cost-cost.result (get_or c.args.task.now.candidates.now c.loop-next.next-index blank).step c.args.progress.now c.loop-next.progress c.visit.new.progress c.show_limits.ensures (some_left c.allows.ensures c.if-not-allows.false) (c.cost-cost.ensures c.args.task.now.kinds.now (c.requires.candidates.each c.loop-next.next-index blank c.loop-next-test.true)) c.if-allowed-cost.false c.in_ok-behind.ensures.state c.loop-next.invariant.0.further c.in-Ok.ensures.further)
 
 pub returns-in-Some-tried-clause-found : goal.returns-in-Some-tried-clause-found
 unfolding blank
 returns-in-Some-tried-clause-found g t c =
     let inner : HasFound c.args.task.now.kinds.now c.in_ok-behind.behind.state (c.args.allowed - c.cost-cost.result) c.in-Some-tried.rest c.loop-next.progress c.visit.new.progress = rw c.in-Some-tried.is at c.in-Ok.ensures.found in
     found_behind (g.B.RowBound.value c.args.task.now.bound.now) c.args.task.now.kinds.now c.args.task.now.budget c.args.at.now.state c.in_ok-behind.behind.state c.args.allowed c.cost-cost.result c.args.task.now.candidates.now c.args.task.now.candidates.now c.loop-next.next-index blank c.in-Some-tried.rest c.push.new.self c.args.progress.now c.loop-next.progress c.visit.new.progress
-    (λ row s valid. g.met.B.RowBound.holds c.args.task.now.bound.now row s c.args.task.now.kinds.now c.requires.kinds valid) c.requires.kinds (some_left (c.has_fingers.ensures c.args.task.now.kinds.now c.requires.numbered.valid) c.if-not-has_fingers.false) c.requires.candidates c.requires.numbered.valid refl c.loop-next-test.true (some_left c.allows.ensures c.if-not-allows.false) c.loop-next.invariant.1 (c.cost-cost.ensures c.args.task.now.kinds.now (c.requires.candidates.each c.loop-next.next-index blank c.loop-next-test.true)) c.if-allowed-cost.false c.in_ok-behind.ensures.state c.loop-next.invariant.0 inner c.in_ok-push.ensures.ok
+    (λ row s valid. g.met.B.RowBound.holds c.args.task.now.bound.now row s c.args.task.now.kinds.now c.show_limits.ensures valid) c.show_limits.ensures (some_left (c.has_fingers.ensures c.args.task.now.kinds.now c.requires.numbered.valid) c.if-not-has_fingers.false) c.requires.candidates c.requires.numbered.valid refl c.loop-next-test.true (some_left c.allows.ensures c.if-not-allows.false) c.loop-next.invariant.1 (c.cost-cost.ensures c.args.task.now.kinds.now (c.requires.candidates.each c.loop-next.next-index blank c.loop-next-test.true)) c.if-allowed-cost.false c.in_ok-behind.ensures.state c.loop-next.invariant.0 inner c.in_ok-push.ensures.ok
 
 pub loop-next-preserved : goal.loop-next-preserved
 unfolding blank
 loop-next-preserved g t c =
     let failed : HasFailed c.args.task.now.kinds.now c.in_ok-behind.behind.state (c.args.allowed - c.cost-cost.result) c.loop-next.progress c.visit.new.progress = rw c.in_default-tried.is at c.in-Ok.ensures.failed in
-    (tried_more (g.B.RowBound.value c.args.task.now.bound.now) c.args.task.now.kinds.now c.args.task.now.budget c.args.at.now.state c.in_ok-behind.behind.state c.args.allowed c.cost-cost.result (get_or c.args.task.now.candidates.now c.loop-next.next-index blank).step c.args.progress.now c.loop-next.progress c.visit.new.progress c.requires.kinds (some_left c.allows.ensures c.if-not-allows.false) (c.cost-cost.ensures c.args.task.now.kinds.now (c.requires.candidates.each c.loop-next.next-index blank c.loop-next-test.true)) c.if-allowed-cost.false c.in_ok-behind.ensures.state c.loop-next.invariant.0 c.in-Ok.ensures.further failed, step_fails c.args.task.now.kinds.now (columns_left c.args.task.now.kinds.now c.in_ok-behind.behind.state + 1) c.args.at.now.state c.in_ok-behind.behind.state c.args.allowed c.cost-cost.result c.loop-next.progress.lemmas c.visit.new.progress.lemmas c.args.task.now.candidates.now c.loop-next.next-index blank c.in-Ok.ensures.further.grown c.loop-next.invariant.1 c.loop-next-test.true (c.cost-cost.ensures c.args.task.now.kinds.now (c.requires.candidates.each c.loop-next.next-index blank c.loop-next-test.true)) c.in_ok-behind.ensures.state failed.proves)
+    (tried_more (g.B.RowBound.value c.args.task.now.bound.now) c.args.task.now.kinds.now c.args.task.now.budget c.args.at.now.state c.in_ok-behind.behind.state c.args.allowed c.cost-cost.result (get_or c.args.task.now.candidates.now c.loop-next.next-index blank).step c.args.progress.now c.loop-next.progress c.visit.new.progress c.show_limits.ensures (some_left c.allows.ensures c.if-not-allows.false) (c.cost-cost.ensures c.args.task.now.kinds.now (c.requires.candidates.each c.loop-next.next-index blank c.loop-next-test.true)) c.if-allowed-cost.false c.in_ok-behind.ensures.state c.loop-next.invariant.0 c.in-Ok.ensures.further failed, step_fails c.args.task.now.kinds.now (columns_left c.args.task.now.kinds.now c.in_ok-behind.behind.state + 1) c.args.at.now.state c.in_ok-behind.behind.state c.args.allowed c.cost-cost.result c.loop-next.progress.lemmas c.visit.new.progress.lemmas c.args.task.now.candidates.now c.loop-next.next-index blank c.in-Ok.ensures.further.grown c.loop-next.invariant.1 c.loop-next-test.true (c.cost-cost.ensures c.args.task.now.kinds.now (c.requires.candidates.each c.loop-next.next-index blank c.loop-next-test.true)) c.in_ok-behind.ensures.state failed.proves)
 
 pub returns-in_err-keep-2-clause-further : goal.returns-in_err-keep-2-clause-further
 returns-in_err-keep-2-clause-further g t c = further_still (g.B.RowBound.value c.args.task.now.bound.now) c.args.task.now.kinds.now c.args.task.now.budget (columns_left c.args.task.now.kinds.now c.args.at.now.state + 1) c.args.at.now.state c.args.allowed c.args.progress.now c.loop-next.progress c.keep-2.new.self c.in_err-keep-2.ensures.err c.in_err-keep-2.ensures.nodes (further_wider (g.B.RowBound.value c.args.task.now.bound.now) c.args.task.now.kinds.now c.args.task.now.budget c.args.at.now.state c.args.allowed c.args.progress.now c.loop-next.progress c.loop-next.invariant.0.further)
@@ -103,4 +103,4 @@ returns-clause-failed g t c = failed_kept (g.B.RowBound.value c.args.task.now.bo
 
 pub returns-in-Err-clause-spent : goal.returns-in-Err-clause-spent
 unfolding blank
-returns-in-Err-clause-spent g t c = λ e. spent_behind (g.B.RowBound.value c.args.task.now.bound.now) c.args.task.now.kinds.now c.args.task.now.budget c.args.at.now.state c.in_ok-behind.behind.state c.args.allowed (get_or c.args.task.now.candidates.now c.loop-next.next-index blank).step c.args.progress.now c.loop-next.progress c.visit.new.progress c.requires.kinds (some_left c.allows.ensures c.if-not-allows.false) c.in_ok-behind.ensures.state c.loop-next.invariant.0 (c.in-Err.ensures.spent e)
+returns-in-Err-clause-spent g t c = λ e. spent_behind (g.B.RowBound.value c.args.task.now.bound.now) c.args.task.now.kinds.now c.args.task.now.budget c.args.at.now.state c.in_ok-behind.behind.state c.args.allowed (get_or c.args.task.now.candidates.now c.loop-next.next-index blank).step c.args.progress.now c.loop-next.progress c.visit.new.progress c.show_limits.ensures (some_left c.allows.ensures c.if-not-allows.false) c.in_ok-behind.ensures.state c.loop-next.invariant.0 (c.in-Err.ensures.spent e)

@@ -6,4 +6,4 @@ use Rattle.row_state.proofs.gate.next_on.Goals as goal
 pub returns-in-Some-clause-next : goal.returns-in-Some-clause-next
 returns-in-Some-clause-next c =
     subst (IsNext c.args.kinds.now c.args.cursor.now) (sym c.on_gate.ensures.gate)
-    (next_is c.args.kinds.now c.args.cursor.now c.in-Some.gate c.requires.kinds c.requires.cursor (sym c.next_gate.ensures ∙ c.in-Some.is))
+    (next_is c.args.kinds.now c.args.cursor.now c.in-Some.gate c.show_limits.ensures c.requires.cursor (sym c.next_gate.ensures ∙ c.in-Some.is))

@@ -1,7 +1,8 @@
-use Rattle.std.proofs.Common.{List, ltb, refl}
+use Rattle.std.proofs.Common.{List, ltb, refl, ap, ◌∙◌}
 use Rattle.std.specs.List.{flat_map}
 use Rattle.std.proofs.lemmas.Grind.{flat_map-append}
 use Rattle.row_state.specs.declared.kind.Kind.{Kind}
+use Rattle.row_state.specs.declared.kind.Kinds.{Kinds}
 use Rattle.row_state.specs.declared.step.Side.{Side}
 use Rattle.row_state.specs.declared.step.Step.{Step}
 use Rattle.row_state.specs.Tests.{sides_on, with_side}
@@ -17,7 +18,7 @@ pub loop-at-preserved : goal.loop-at-preserved
 loop-at-preserved c =
     let blank : Kind = record { gate = record { 0 = 0 }; lo = record { 0 = 0 }; hi = record { 0 = 0 }; width = 0; count = 0 } in
     let one : Side → List Step = with_side (sides_on c.args.kinds.now.n c.args.state.now.n_left c.args.on.now.gate) (ltb c.args.on.now.n.left c.args.on.now.p.left) in
-    given_more (flat_map one) c.args.steps.now c.loop-at.steps c.push_kind.new.steps c.args.kinds.now.p c.as_slice-p_kinds.result.now c.args.state.now.p_left c.as_slice-p_left.result.now c.args.on.now.gate c.loop-at.at c.args.on.now.p blank 0 (λ xs ys. flat_map-append one xs ys) c.requires.on.p c.requires.state.p_kinds c.loop-at.auto.at c.loop-at-test.true c.as_slice-p_kinds.ensures c.as_slice-p_left.ensures c.loop-at.invariant c.in_ok-push_kind.ensures
+    given_more (flat_map one) c.args.steps.now c.loop-at.steps c.push_kind.new.steps c.args.kinds.now.p c.as_slice-p_kinds.result.now c.args.state.now.p_left c.as_slice-p_left.result.now c.args.on.now.gate c.loop-at.at c.args.on.now.p blank 0 (λ xs ys. flat_map-append one xs ys) c.requires.on.p c.requires.state.p_kinds c.loop-at.auto.at c.loop-at-test.true (c.as_slice-p_kinds.ensures ∙ ap (λ (k : Kinds). k.p) c.kinds.view_is) c.as_slice-p_left.ensures c.loop-at.invariant c.in_ok-push_kind.ensures
 
 pub returns : goal.returns
 returns c =

@@ -8,7 +8,7 @@ blank = record { state = 0; bound = 0; rule = by.P }
 
 pub decode-requires-clause-code : goal.decode-requires-clause-code
 unfolding blank
-decode-requires-clause-code c = code_at c.self.inside.kinds c.self.inside.packed c.as_slice.result.now c.args.self.now c.args.at blank c.self.view_is c.self.invariant.1 c.as_slice.ensures c.requires.place
+decode-requires-clause-code c = code_at c.self.inside.kinds c.self.inside.packed c.as_slice.result.now c.args.self.now c.args.at blank c.self.view_is c.self.invariant c.as_slice.ensures c.requires.place
 
 pub decode-requires-clause-p_room : goal.decode-requires-clause-p_room
 decode-requires-clause-p_room c = (room_at c.self.inside.kinds c.self.inside.packed c.args.self.now c.args.into.now c.args.at c.self.view_is c.requires.room c.requires.place).0

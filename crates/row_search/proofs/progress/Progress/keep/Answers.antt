@@ -6,10 +6,10 @@ use Rattle.row_search.proofs.Keeping.{codes_more, lemmas_more, table_more}
 use Rattle.row_search.proofs.progress.Progress.keep.Goals as goal
 
 pub invariant_of-self-in_err-push : goal.invariant_of-self-in_err-push
-invariant_of-self-in_err-push c = (c.self.invariant.0, subst (All (λ (y : Packed). IsCode c.self.inside.kinds y.state)) (sym c.in_err-push.ensures.err) c.self.invariant.1)
+invariant_of-self-in_err-push c = subst (All (λ (y : Packed). IsCode c.self.inside.kinds y.state)) (sym c.in_err-push.ensures.err) c.self.invariant
 
 pub invariant_of-self-2 : goal.invariant_of-self-2
-invariant_of-self-2 c = (c.self.invariant.0, codes_more c.args.self.now.kinds c.self.inside.kinds c.self.inside.packed c.push.new.self (record { state = c.args.at.now.code; bound = c.args.bound; rule = c.args.rule }) c.args.at.now (ap (λ (z : SoFar). z.kinds) c.self.view_is) c.requires refl c.self.invariant.1 c.in_ok-push.ensures.ok)
+invariant_of-self-2 c = codes_more c.args.self.now.kinds c.self.inside.kinds c.self.inside.packed c.push.new.self (record { state = c.args.at.now.code; bound = c.args.bound; rule = c.args.rule }) c.args.at.now (ap (λ (z : SoFar). z.kinds) c.self.view_is) c.requires refl c.self.invariant c.in_ok-push.ensures.ok
 
 pub returns-clause-ok : goal.returns-clause-ok
 returns-clause-ok c = lemmas_more c.args.self.now.kinds c.self.inside.kinds c.self.inside.packed c.push.new.self c.args.self.now.lemmas (record { state = c.args.at.now.code; bound = c.args.bound; rule = c.args.rule }) c.args.at.now (ap (λ (z : SoFar). z.kinds) c.self.view_is) c.requires refl (ap (λ (z : SoFar). z.lemmas) c.self.view_is) c.in_ok-push.ensures.ok
