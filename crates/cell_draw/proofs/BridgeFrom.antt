@@ -1,5 +1,5 @@
 -- Where each element of a layout comes from.
-use Rattle.std.proofs.Common.{ℕ, ◌≡◌, ◌+◌, ◌*◌, ◌==◌, Bool, true, false, if◌then◌else◌, List, Option, Some, None, inl, inr, refl, sym, ap, subst, ◌∙◌, Contains, filter_map, flat_map, option_map, slice_get}
+use Rattle.std.proofs.Common.{ℕ, ◌≡◌, ◌+◌, ◌*◌, ◌==◌, Bool, true, false, if◌then◌else◌, List, Option, Some, None, inl, inr, refl, sym, ap, subst, ◌∙◌, Contains, filter_map, find, flat_map, option_map, slice_get}
 use Rattle.std.proofs.lemmas.List.Elements.{Contains-append_cases}
 use Rattle.cell_num.specs.declared.net.NetNo.{NetNo}
 use Rattle.cell_num.specs.declared.net.Pins.{Pins}
@@ -22,7 +22,7 @@ use Rattle.row_place.proofs.Units.{SitsAt, seat_at}
 use Rattle.cell_num.proofs.Lists.{contains_filter_map}
 use Rattle.channel_route.specs.declared.routing.Trunk.{Trunk}
 use Rattle.channel_route.specs.declared.routing.Routing.{Routing}
-use Rattle.channel_route.specs.Routing.{IsLegal}
+use Rattle.channel_route.specs.Wiring.{HoldsLine, IsWiring}
 use Rattle.row_compact.specs.Solution.{x_of}
 use Rattle.row_compact.specs.Allowed.{AreAllowed, stretches_of}
 use Rattle.cell_draw.specs.declared.layout.Frame.{Frame}
@@ -33,8 +33,9 @@ use Rattle.cell_draw.specs.Frame.{track_y, height_of}
 use Rattle.cell_draw.specs.Laid.{IsFrame}
 use Rattle.cell_draw.specs.Sound.{IsSoundRow}
 use Rattle.row_compact.specs.Entries.{is_rail}
-use Rattle.cell_draw.specs.Layouts.{strip_of, strips_at, trunk_of, reach_of, contact_with, contact_of, finger_width, gate_with, gate_at, gates_on, width_of}
+use Rattle.cell_draw.specs.Layouts.{strip_of, strips_at, trunk_of, holds, far, reach_of, gate_reach, contact_with, contact_of, finger_width, gate_with, gate_at, gates_on, width_of}
 use Rattle.cell_draw.proofs.Found.{found_all, found_is}
+use Rattle.cell_draw.proofs.Wirings.{IsFar, is_far, holds_it}
 
 -- a strip is a finger of a column
 pub record StripFrom (row : List Column) (xs : List ℕ) (s : Strip) : Type 0 where
@@ -71,7 +72,7 @@ strip_from row xs s there = by (in_flat (strips_at xs) (seats_of row) s there)
           | inr c ↦ one piece.of at P piece.of.column.p refl c
         ]
 
--- the trunk that a net's reach is of
+-- the first trunk of a net
 pub record TrunkFrom (trunks : List Trunk) (net : NetNo) (t : Trunk) : Type 0 where
   pub listed : Contains trunks t
   pub of : t.net ≡ net
@@ -82,23 +83,46 @@ trunk_from trunks net t e = record {
   of = (net_decides t.net net).0 (found_is (λ (u : Trunk). u.net.0 == net.0) trunks t e);
 }
 
-pub record ReachFrom (f : Frame) (trunks : List Trunk) (net : NetNo) (y : ℕ) : Type 0 where
+-- the track that a place's metal2 goes to
+pub record ReachFrom (f : Frame) (trunks : List Trunk) (node : NodePlace) (y : ℕ) : Type 0 where
+  pub track : ℕ
+  pub far : IsFar trunks node track
+  pub is : y ≡ track_y f track
+
+pub reach_from : (f : Frame) (trunks : List Trunk) (node : NodePlace) (y : ℕ) → reach_of f trunks node ≡ Some y → ReachFrom f trunks node y
+reach_from f trunks node y e = by (far trunks node) refl e
+  where
+    by : (o : Option ℕ) → far trunks node ≡ o → option_map (track_y f) o ≡ Some y → ReachFrom f trunks node y
+    by None is g = absurd cc
+    by (Some k) is g = record { track = k; far = is_far trunks node k is; is = sym (some_same (track_y f k) y g) }
+
+-- the trunk that a gate's pad is on
+pub record PadFrom (f : Frame) (trunks : List Trunk) (place : GatePlace) (y : ℕ) : Type 0 where
   pub trunk : Trunk
-  pub found : trunk_of trunks net ≡ Some trunk
-  pub from : TrunkFrom trunks net trunk
+  pub listed : Contains trunks trunk
+  pub of : trunk.net ≡ place.net
+  pub on : HoldsLine trunk place.line
   pub is : y ≡ track_y f trunk.track
 
-pub reach_from : (f : Frame) (trunks : List Trunk) (net : NetNo) (y : ℕ) → reach_of f trunks net ≡ Some y → ReachFrom f trunks net y
-reach_from f trunks net y e = by (trunk_of trunks net) refl e
+pub pad_from : (f : Frame) (trunks : List Trunk) (place : GatePlace) (y : ℕ) → gate_reach f trunks place ≡ Some y → PadFrom f trunks place y
+pad_from f trunks place y e = by (find (holds place.net place.line) trunks) refl e
   where
-    by : (o : Option Trunk) → trunk_of trunks net ≡ o → option_map (λ (t : Trunk). track_y f t.track) o ≡ Some y → ReachFrom f trunks net y
+    by : (o : Option Trunk) → find (holds place.net place.line) trunks ≡ o → option_map (λ (t : Trunk). track_y f t.track) o ≡ Some y → PadFrom f trunks place y
     by None is g = absurd cc
-    by (Some t) is g = record { trunk = t; found = is; from = trunk_from trunks net t is; is = sym (some_same (track_y f t.track) y g) }
+    by (Some t) is g =
+        let h = holds_it place.net place.line t (found_is (holds place.net place.line) trunks t is) in
+        record {
+          trunk = t;
+          listed = found_all (λ (u : Trunk). Contains trunks u) (holds place.net place.line) trunks t (all_from_contains (λ (u : Trunk). Contains trunks u) trunks (λ u there. there)) is;
+          of = h.0;
+          on = h.1;
+          is = sym (some_same (track_y f t.track) y g);
+        }
 
 -- a contact is a node place of a rail, or of a net with a trunk
-pub data Kind (f : Frame) (pins : Pins) (trunks : List Trunk) (net : NetNo) (reach : Option ℕ) : Type 0 where
-  rail : is_rail pins net ≡ true → reach ≡ None → Kind f pins trunks net reach
-  signal : is_rail pins net ≡ false → reach ≡ reach_of f trunks net → (y : ℕ) → reach ≡ Some y → Kind f pins trunks net reach
+pub data Kind (f : Frame) (pins : Pins) (trunks : List Trunk) (node : NodePlace) (reach : Option ℕ) : Type 0 where
+  rail : is_rail pins node.net ≡ true → reach ≡ None → Kind f pins trunks node reach
+  signal : is_rail pins node.net ≡ false → reach ≡ reach_of f trunks node → (y : ℕ) → reach ≡ Some y → Kind f pins trunks node reach
 
 pub record ContactFrom (f : Frame) (pins : Pins) (trunks : List Trunk) (xs : List ℕ) (nodes : List NodePlace) (c : Contact) : Type 0 where
   pub node : NodePlace
@@ -107,12 +131,12 @@ pub record ContactFrom (f : Frame) (pins : Pins) (trunks : List Trunk) (xs : Lis
   pub row : c.row ≡ node.row
   pub x : c.x ≡ x_of xs node.line
   pub net : c.net ≡ node.net
-  pub kind : Kind f pins trunks node.net c.reach
+  pub kind : Kind f pins trunks node c.reach
 
 pub contact_from : (f : Frame) (pins : Pins) (trunks : List Trunk) (xs : List ℕ) (nodes : List NodePlace) (c : Contact) → Contains (filter_map (contact_of f pins trunks xs) nodes) c → ContactFrom f pins trunks xs nodes c
 contact_from f pins trunks xs nodes c there = by (kept_from (contact_of f pins trunks xs) nodes c there)
   where
-    make : (node : NodePlace) → Contains nodes node → contact_of f pins trunks xs node ≡ Some c → (reach : Option ℕ) → contact_with xs node reach ≡ c → Kind f pins trunks node.net reach → ContactFrom f pins trunks xs nodes c
+    make : (node : NodePlace) → Contains nodes node → contact_of f pins trunks xs node ≡ Some c → (reach : Option ℕ) → contact_with xs node reach ≡ c → Kind f pins trunks node reach → ContactFrom f pins trunks xs nodes c
     make node stands gives reach is kind = record {
       node = node;
       there = stands;
@@ -120,16 +144,16 @@ contact_from f pins trunks xs nodes c there = by (kept_from (contact_of f pins t
       row = sym (ap (λ (z : Contact). z.row) is);
       x = sym (ap (λ (z : Contact). z.x) is);
       net = sym (ap (λ (z : Contact). z.net) is);
-      kind = subst (λ r. Kind f pins trunks node.net r) (ap (λ (z : Contact). z.reach) is) kind;
+      kind = subst (λ r. Kind f pins trunks node r) (ap (λ (z : Contact). z.reach) is) kind;
     }
 
-    reached : (node : NodePlace) → Contains nodes node → contact_of f pins trunks xs node ≡ Some c → is_rail pins node.net ≡ false → (o : Option ℕ) → reach_of f trunks node.net ≡ o → option_map (λ reach. contact_with xs node (Some reach)) o ≡ Some c → ContactFrom f pins trunks xs nodes c
+    reached : (node : NodePlace) → Contains nodes node → contact_of f pins trunks xs node ≡ Some c → is_rail pins node.net ≡ false → (o : Option ℕ) → reach_of f trunks node ≡ o → option_map (λ reach. contact_with xs node (Some reach)) o ≡ Some c → ContactFrom f pins trunks xs nodes c
     reached node stands gives other None e g = absurd cc
     reached node stands gives other (Some y) e g = make node stands gives (Some y) (some_same (contact_with xs node (Some y)) c g) (signal other (sym e) y refl)
 
-    tested : (node : NodePlace) → Contains nodes node → contact_of f pins trunks xs node ≡ Some c → (b : Bool) → is_rail pins node.net ≡ b → (if b then Some (contact_with xs node None) else option_map (λ reach. contact_with xs node (Some reach)) (reach_of f trunks node.net)) ≡ Some c → ContactFrom f pins trunks xs nodes c
+    tested : (node : NodePlace) → Contains nodes node → contact_of f pins trunks xs node ≡ Some c → (b : Bool) → is_rail pins node.net ≡ b → (if b then Some (contact_with xs node None) else option_map (λ reach. contact_with xs node (Some reach)) (reach_of f trunks node)) ≡ Some c → ContactFrom f pins trunks xs nodes c
     tested node stands gives true e g = make node stands gives None (some_same (contact_with xs node None) c g) (rail e refl)
-    tested node stands gives false e g = reached node stands gives e (reach_of f trunks node.net) refl g
+    tested node stands gives false e g = reached node stands gives e (reach_of f trunks node) refl g
 
     by : Kept (contact_of f pins trunks xs) nodes c → ContactFrom f pins trunks xs nodes c
     by k = tested k.from k.there k.gives (is_rail pins k.from.net) refl k.gives
@@ -149,7 +173,7 @@ pub record GateFrom (row : List Column) (f : Frame) (trunks : List Trunk) (xs : 
   pub gate : gate_in seat.column.p seat.column.n ≡ Some place.net
   pub n : g.n ≡ finger_width seat.column.n
   pub p : g.p ≡ finger_width seat.column.p
-  pub track : g.track ≡ reach_of f trunks place.net
+  pub track : g.track ≡ gate_reach f trunks place
 
 record PlaceOf (seat : Seat) (place : GatePlace) : Type 0 where
   line : place.line ≡ 2 * seat.unit + 1
@@ -198,7 +222,7 @@ gate_from row f trunks xs g there = by (kept_from (gate_at f trunks xs) (seats_o
 pub record IsDrawn (names : List (List ℕ)) (pins : Pins) (p : Placement) (r : Routing) (xs : List ℕ) (f : Frame) : Type 0 where
   pub placement : IsPlacement p
   pub row : IsSoundRow names pins p.row
-  pub legal : IsLegal p pins r
+  pub wiring : IsWiring p pins r
   pub allowed : AreAllowed p pins (stretches_of r.trunks) xs
   pub frame : IsFrame f r.tracks
   pub width : f.width ≡ width_of p xs

@@ -21,7 +21,7 @@ use Rattle.row_place.proofs.Bounds.{node_line}
 use Rattle.row_place.proofs.Units.{same_seat}
 use Rattle.channel_route.specs.declared.routing.Routing.{Routing}
 use Rattle.channel_route.specs.declared.routing.Trunk.{Trunk}
-use Rattle.channel_route.specs.Routing.{IsLegal}
+use Rattle.channel_route.specs.Wiring.{IsWiring}
 use Rattle.cell_num.proofs.Pairs.{any_at}
 use Rattle.row_compact.specs.Solution.{x_of}
 use Rattle.row_compact.specs.Allowed.{AreAllowed, HasContact, stretches_of}
@@ -81,23 +81,23 @@ gate_spread p xs f trunks is lines g h a b = elim (cases_lt a.at b.at) [
 ]
 
 -- the place of a contact is contacted
-contacted : (p : Placement) (xs : List ℕ) (f : Frame) (pins : Pins) (r : Routing) → IsLegal p pins r → (c : Contact) (a : ContactFrom f pins r.trunks xs p.nodes c) → IsContacted p pins a.node
-contacted p xs f pins r legal c a = by c.reach a.kind
+contacted : (p : Placement) (xs : List ℕ) (f : Frame) (pins : Pins) (r : Routing) → IsWiring p pins r → (c : Contact) (a : ContactFrom f pins r.trunks xs p.nodes c) → IsContacted p pins a.node
+contacted p xs f pins r wiring c a = by c.reach a.kind
   where
-    by : (reach : Option ℕ) → Kind f pins r.trunks a.node.net reach → IsContacted p pins a.node
+    by : (reach : Option ℕ) → Kind f pins r.trunks a.node reach → IsContacted p pins a.node
     by reach (rail is none) = inl ((rail_decides pins a.node.net).0 is)
     by reach (signal not is y e) =
-        let from : ReachFrom f r.trunks a.node.net y = reach_from f r.trunks a.node.net y (sym is ∙ e) in
-        inr ((legal.nets a.node.net).1 (any_at (λ (t : Trunk). t.net ≡ a.node.net) r.trunks from.trunk from.from.listed from.from.of))
+        let from : ReachFrom f r.trunks a.node y = reach_from f r.trunks a.node y (sym is ∙ e) in
+        inr ((wiring.nets a.node.net).1 (any_at (λ (t : Trunk). t.net ≡ a.node.net) r.trunks from.far.trunk from.far.listed from.far.of))
 
-pub beside : (p : Placement) (xs : List ℕ) (f : Frame) (pins : Pins) (r : Routing) → IsPlacement p → IsLegal p pins r → AreAllowed p pins (stretches_of r.trunks) xs → AreLines p xs → (c : Contact) (g : Gate) → ContactFrom f pins r.trunks xs p.nodes c → GateFrom p.row f r.trunks xs g → AreFar 11 c.x g.x
-beside p xs f pins r is legal allowed lines c g a b = by (even_node p.row a.node ((is.nodes a.node).0 a.there))
+pub beside : (p : Placement) (xs : List ℕ) (f : Frame) (pins : Pins) (r : Routing) → IsPlacement p → IsWiring p pins r → AreAllowed p pins (stretches_of r.trunks) xs → AreLines p xs → (c : Contact) (g : Gate) → ContactFrom f pins r.trunks xs p.nodes c → GateFrom p.row f r.trunks xs g → AreFar 11 c.x g.x
+beside p xs f pins r is wiring allowed lines c g a b = by (even_node p.row a.node ((is.nodes a.node).0 a.there))
   where
     unit : slice_get p.units (unit_of p.row b.at) ≡ Some ColumnUnit
     unit = subst (λ z. slice_get z (unit_of p.row b.at) ≡ Some ColumnUnit) (sym is.units) (column_unit p.row b.at b.seat.column b.stands)
 
     contact : (line : ℕ) → a.node.line ≡ line → HasContact p pins line
-    contact line e = record { node = a.node; there = a.there; at = e; contacted = contacted p xs f pins r legal c a }
+    contact line e = record { node = a.node; there = a.there; at = e; contacted = contacted p xs f pins r wiring c a }
 
     by : (half : ℕ) × (a.node.line ≡ 2 * half) → AreFar 11 c.x g.x
     by (half, even) = elim (cases_eq a.node.line (2 * unit_of p.row b.at)) [

@@ -1,5 +1,5 @@
 -- Lines that ascend, and the units of columns.
-use Rattle.std.proofs.Common.{ℕ, zero, suc, ◌≡◌, ◌+◌, ◌*◌, ◌-◌, ◌<◌, ◌≤◌, List, [], ◌∷◌, ◌++◌, Option, Some, None, length, slice_get, ap, sym, refl, subst, ◌∙◌, inl, inr, arith, AllPairs, Contains}
+use Rattle.std.proofs.Common.{ℕ, zero, suc, ◌≡◌, ◌+◌, ◌*◌, ◌-◌, ◌<◌, ◌≤◌, List, [], ◌∷◌, ◌++◌, Option, Some, None, length, slice_get, ap, sym, refl, subst, ◌∙◌, inl, inr, ◌⊎◌, arith, AllPairs, Contains}
 use Rattle.std.proofs.lemmas.Bool.{cases_eq, cases_lt}
 use Rattle.std.proofs.lemmas.List.{get_or_past}
 use Rattle.std.proofs.lemmas.Option.{slice_get_within}
@@ -98,17 +98,25 @@ standing (y ∷ ys) x there = elim (contains_cons y ys x there) [
   | inr rest ↦ let k = standing ys x rest in (suc k.0, k.1)
 ]
 
--- in a list in order two elements that neither way stand in order are one
-pub one_in_order : {X : Type 0} (R : X → X → Type 0) (xs : List X) (a b : X) → AllPairs R xs → Contains xs a → Contains xs b → (R a b → ⊥) → (R b a → ⊥) → a ≡ b
-one_in_order {X} R xs a b pairs la lb not_before not_behind = by (standing xs a la) (standing xs b lb)
+-- in a list in order two elements are one, or stand in order
+pub cases_in_order : {X : Type 0} (R : X → X → Type 0) (xs : List X) (a b : X) → AllPairs R xs → Contains xs a → Contains xs b → (a ≡ b) ⊎ (R a b ⊎ R b a)
+cases_in_order {X} R xs a b pairs la lb = by (standing xs a la) (standing xs b lb)
   where
-    by : (k : ℕ) × (slice_get xs k ≡ Some a) → (k : ℕ) × (slice_get xs k ≡ Some b) → a ≡ b
+    by : (k : ℕ) × (slice_get xs k ≡ Some a) → (k : ℕ) × (slice_get xs k ≡ Some b) → (a ≡ b) ⊎ (R a b ⊎ R b a)
     by (i, is) (j, at) = elim (cases_lt i j) [
-      | inl less ↦ absurd (not_before (pairs_at R xs i j a b pairs less is at))
+      | inl less ↦ inr (inl (pairs_at R xs i j a b pairs less is at))
       | inr le ↦ elim (cases_lt j i) [
-        | inl less ↦ absurd (not_behind (pairs_at R xs j i b a pairs less at is))
+        | inl less ↦ inr (inr (pairs_at R xs j i b a pairs less at is))
         | inr ge ↦
             let same : i ≡ j = omega (arith, le, ge) in
-            some_same a b (sym is ∙ ap (λ n. slice_get xs n) same ∙ at)
+            inl (some_same a b (sym is ∙ ap (λ n. slice_get xs n) same ∙ at))
       ]
     ]
+
+-- and one where they stand in order neither way
+pub one_in_order : {X : Type 0} (R : X → X → Type 0) (xs : List X) (a b : X) → AllPairs R xs → Contains xs a → Contains xs b → (R a b → ⊥) → (R b a → ⊥) → a ≡ b
+one_in_order R xs a b pairs la lb not_before not_behind = elim (cases_in_order R xs a b pairs la lb) [
+  | inl same ↦ same
+  | inr (inl before) ↦ absurd (not_before before)
+  | inr (inr behind) ↦ absurd (not_behind behind)
+]

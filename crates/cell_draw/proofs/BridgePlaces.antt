@@ -205,6 +205,6 @@ ends p xs f pins r is lines c s a b = by (even_node p.row a.node ((is.nodes a.no
 pub rails : (names : List (List ℕ)) (xs : List ℕ) (f : Frame) (pins : Pins) (p : Placement) (r : Routing) (l : Layout) → IsPlacement p → IsSoundRow names pins p.row → l.gnd ≡ pins.gnd → l.vdd ≡ pins.vdd → (c : Contact) → ContactFrom f pins r.trunks xs p.nodes c → c.reach ≡ None → c.net ≡ rail_in c.row l
 rails names xs f pins p r l is sound gnd vdd c a none = by c.reach a.kind none
   where
-    by : (reach : Option ℕ) → Kind f pins r.trunks a.node.net reach → reach ≡ None → c.net ≡ rail_in c.row l
+    by : (reach : Option ℕ) → Kind f pins r.trunks a.node reach → reach ≡ None → c.net ≡ rail_in c.row l
     by reach (rail e n) none' = a.net ∙ own_rail l pins gnd vdd a.node.row a.node.net ((rail_decides pins a.node.net).0 e) (not_other names pins p is sound a.node a.there) ∙ ap (λ side. rail_in side l) (sym a.row)
     by reach (signal other is y e) none' = absurd (let wrong : Some y ≡ None = sym e ∙ none' in cc)

@@ -20,10 +20,10 @@ abbrev layout : (pins : Pins) (p : Placement) (r : Routing) (xs : List ℕ) (f :
 layout pins p r xs f nets = laid_out f nets pins p r.trunks xs
 
 routed : (names : List (List ℕ)) (pins : Pins) (p : Placement) (r : Routing) (xs : List ℕ) (f : Frame) → IsDrawn names pins p r xs f → IsRouted p pins r xs
-routed names pins p r xs f d = record { placed = d.placement; legal = d.legal; allowed = d.allowed }
+routed names pins p r xs f d = record { placed = d.placement; wiring = d.wiring; allowed = d.allowed }
 
 pub reaches : (names : List (List ℕ)) (pins : Pins) (p : Placement) (r : Routing) (xs : List ℕ) (f : Frame) (nets : ℕ) → IsDrawn names pins p r xs f → (c : Contact) (y : ℕ) → Contains (layout pins p r xs f nets).contacts c → c.reach ≡ Some y → IsTrack f r.tracks y
-reaches names pins p r xs f nets d c y there e = track.reaches p pins r d.legal f xs c y (contact_from f pins r.trunks xs p.nodes c there) e
+reaches names pins p r xs f nets d c y there e = track.reaches p pins r d.wiring f xs c y (contact_from f pins r.trunks xs p.nodes c there) e
 
 pub clear : (names : List (List ℕ)) (pins : Pins) (p : Placement) (r : Routing) (xs : List ℕ) (f : Frame) (nets : ℕ) → IsDrawn names pins p r xs f → (a b : Contact) (n q : ℕ) → Contains (layout pins p r xs f nets).contacts a → Contains (layout pins p r xs f nets).contacts b → a.row ≡ N → b.row ≡ P → a.x ≡ b.x → a.reach ≡ Some n → b.reach ≡ Some q → KeepClear a b n q
 clear names pins p r xs f nets d a b n q la lb = keep_clear p pins r xs (routed names pins p r xs f d) f a b n q (contact_from f pins r.trunks xs p.nodes a la) (contact_from f pins r.trunks xs p.nodes b lb)

@@ -13,8 +13,7 @@ use Rattle.row_place.specs.Units.{seats_of}
 use Rattle.row_place.proofs.Bounds.{node_line}
 use Rattle.channel_route.specs.declared.routing.Trunk.{Trunk}
 use Rattle.channel_route.specs.declared.routing.Routing.{Routing}
-use Rattle.channel_route.specs.Routing.{IsLegal}
-use Rattle.channel_route.proofs.LegalWiring.{legal_wiring}
+use Rattle.channel_route.specs.Wiring.{IsWiring}
 use Rattle.row_compact.specs.Allowed.{AreAllowed, stretches_of}
 use Rattle.row_compact.specs.Solution.{x_of}
 use Rattle.row_compact.proofs.Within.{wired_left, wired_right}
@@ -57,8 +56,8 @@ framed names l xs last w bars tags first lines width = record {
   labels = all_map (λ (t : Tag). IsInside l.frame t.x) (IsLabelInFrame l.frame) (label_of names) l.tags (label_in names l.frame) tags;
 }
 
-pub drawn_framed : (names : List (List ℕ)) (pins : Pins) (p : Placement) (r : Routing) (xs : List ℕ) (height : ℕ) (d : Drawing) → d ≡ drawn_of names pins p r xs height → IsPlacement p → IsSoundRow names pins p.row → IsLegal p pins r → AreAllowed p pins (stretches_of r.trunks) xs → IsFramed (frame_of p.row r.tracks height (width_of p xs)) xs d
-drawn_framed names pins p r xs height d e is row legal allowed =
+pub drawn_framed : (names : List (List ℕ)) (pins : Pins) (p : Placement) (r : Routing) (xs : List ℕ) (height : ℕ) (d : Drawing) → d ≡ drawn_of names pins p r xs height → IsPlacement p → IsSoundRow names pins p.row → IsWiring p pins r → AreAllowed p pins (stretches_of r.trunks) xs → IsFramed (frame_of p.row r.tracks height (width_of p xs)) xs d
+drawn_framed names pins p r xs height d e is row wiring allowed =
     subst (λ z. IsFramed f xs z) (sym e) (framed names (layout_of (length names) pins p r xs height) xs (2 * length p.units) whole bars tags lines.first lines.lines refl)
   where
     f : Frame
@@ -71,16 +70,16 @@ drawn_framed names pins p r xs height d e is row legal allowed =
     at line most = inside p xs f is lines refl line most (x_of xs line) refl
 
     whole : IsLaid (layout_of (length names) pins p r xs height)
-    whole = laid names pins p r xs f (length names) (drawn_is names pins p r xs height is row legal allowed)
+    whole = laid names pins p r xs f (length names) (drawn_is names pins p r xs height is row wiring allowed)
 
     left : (t : Trunk) → Contains r.trunks t → IsInside f (x_of xs t.left)
-    left t there = at t.left (wired_left p pins r is (legal_wiring p pins r legal) t there)
+    left t there = at t.left (wired_left p pins r is wiring t there)
 
     right : (t : Trunk) → Contains r.trunks t → IsInside f (x_of xs t.right)
-    right t there = at t.right (wired_right p pins r is (legal_wiring p pins r legal) t there)
+    right t there = at t.right (wired_right p pins r is wiring t there)
 
-    bars : All (IsBarInside f) (map (bar_of f p.nodes xs) r.trunks)
-    bars = all_map (λ (t : Trunk). Contains r.trunks t) (IsBarInside f) (bar_of f p.nodes xs) r.trunks
+    bars : All (IsBarInside f) (map (bar_of f p.nodes r.trunks xs) r.trunks)
+    bars = all_map (λ (t : Trunk). Contains r.trunks t) (IsBarInside f) (bar_of f p.nodes r.trunks xs) r.trunks
         (λ t there. record { left = (left t there).left; right = (right t there).right })
         (all_from_contains (λ (t : Trunk). Contains r.trunks t) r.trunks (λ t there. there))
 

@@ -1,5 +1,5 @@
 -- The label of each net of a routed row belongs to a piece of that net.
-use Rattle.std.proofs.Common.{ℕ, ◌≡◌, ◌+◌, ◌≤◌, ◌==◌, pos, ◌-ℤ◌, List, [], Option, Some, None, inl, inr, refl, sym, ap, subst, ◌∙◌, arith, Contains, find, length, get_or, option_map}
+use Rattle.std.proofs.Common.{ℕ, ◌≡◌, ◌+◌, ◌≤◌, ◌==◌, pos, ◌-ℤ◌, List, [], Option, Some, None, inl, inr, refl, sym, ap, subst, ◌∙◌, arith, Contains, find, length, get_or}
 use Rattle.std.proofs.lemmas.Int.{ints}
 use Rattle.std.proofs.lemmas.Bool.{eq-eqb, eqb-true, and_parts, and_from}
 use Rattle.cell_num.specs.declared.net.NetNo.{NetNo}
@@ -11,6 +11,8 @@ use Rattle.cell_num.proofs.Decide.{row_decides}
 use Rattle.cell_num.proofs.In.{contains_map}
 use Rattle.cell_num.proofs.Lists.{all_from_contains}
 use Rattle.row_place.specs.declared.placement.NodePlace.{NodePlace}
+use Rattle.row_place.specs.declared.placement.GatePlace.{GatePlace}
+use Rattle.row_model.proofs.Decide.{net_decides}
 use Rattle.row_place.specs.declared.placement.Placement.{Placement}
 use Rattle.row_place.specs.Places.{IsNode}
 use Rattle.row_place.specs.Units.{seats_of, unit_of}
@@ -32,10 +34,9 @@ use Rattle.scmos_rules.specs.Layout.{On}
 use Rattle.cell_draw.specs.Drawings.{label_of}
 use Rattle.cell_draw.specs.Frame.{track_y}
 use Rattle.cell_draw.specs.Laid.{IsFrame, HasFinger, rail_in, IsLaid}
-use Rattle.cell_draw.specs.Layouts.{gate_y, reach_of, bar_of as bar_from, trunk_of, gates_on, laid_out}
-use Rattle.cell_draw.proofs.BridgeFrom.{IsDrawn, GateFrom, gate_from, trunk_from}
-use Rattle.cell_draw.proofs.BridgeTracks.{none_found}
-use Rattle.cell_draw.proofs.Found.{found_all, found_is}
+use Rattle.cell_draw.specs.Layouts.{gate_y, gate_reach, bar_of as bar_from, trunk_of, gates_on, laid_out}
+use Rattle.cell_draw.proofs.BridgeFrom.{IsDrawn, GateFrom, gate_from, trunk_from, PadFrom, pad_from}
+use Rattle.cell_draw.proofs.Found.{found_all, found_is, none_found}
 use Rattle.cell_draw.proofs.LabelPieces.{LabelOn, direct, beside, on_diffusion, node_y, left_corner, right_corner, active_at, NoneBegins, end_bare, begins}
 use Rattle.cell_draw.proofs.NetsBridge.{HasNets}
 use Rattle.cell_draw.proofs.NetsFacts.{left_end, right_end, IsOver, Reaches, IsNetted}
@@ -89,7 +90,7 @@ node_free names pins p r xs f w node there bare c listed row x = by c.reach refl
     by None e = rail c.row (w.laid.rails c listed e)
     by (Some y) e =
         let m : Reaches (layout names pins p r xs f) c y = w.has.netted.signals c y listed e in
-        no_bar p pins r w.drawn.legal f xs node.net bare m.bar m.listed (m.net ∙ net)
+        no_bar p pins r f xs node.net bare m.bar m.listed (m.net ∙ net)
 
 node_label : (names : List (List ℕ)) (pins : Pins) (p : Placement) (r : Routing) (xs : List ℕ) (f : Frame) (w : IsWired names pins p r xs f) → (node : NodePlace) → Contains p.nodes node → IsBare pins r node.net → (name : List ℕ) → LabelOn (layout names pins p r xs f) w.has.netted (record { layer = Active; x = pos (x_of xs node.line); y = pos (node_y f node.row); name = name }) node.net
 node_label names pins p r xs f w node there bare name = by ((w.drawn.placement.nodes node).0 there)
@@ -123,8 +124,15 @@ node_label names pins p r xs f w node there bare name = by ((w.drawn.placement.n
       | inr right ↦ searched (strip_with xs (unit_of p.row is.at) node.row is.finger) (strip_listed p.row xs is.at is.column node.row is.finger is.stands is.filled) refl (ap (λ z. x_of xs z) (sym right.0)) (find (begins node.row (x_of xs node.line)) (layout names pins p r xs f).strips) refl
     ]
 
-no_reach : (f : Frame) (trunks : List Trunk) (net : NetNo) → trunk_of trunks net ≡ None → reach_of f trunks net ≡ None
-no_reach f trunks net e = ap (λ o. option_map (λ (t : Trunk). track_y f t.track) o) e
+-- a net without a trunk has none for the pad of a gate
+no_pad : (f : Frame) (trunks : List Trunk) (place : GatePlace) → trunk_of trunks place.net ≡ None → gate_reach f trunks place ≡ None
+no_pad f trunks place e = by (gate_reach f trunks place) refl
+  where
+    by : (o : Option ℕ) → gate_reach f trunks place ≡ o → gate_reach f trunks place ≡ None
+    by None is = is
+    by (Some y) is =
+        let pad : PadFrom f trunks place y = pad_from f trunks place y is in
+        absurd (none_found (λ (t : Trunk). t.net.0 == place.net.0) trunks pad.trunk pad.listed ((net_decides pad.trunk.net place.net).1 pad.of) e)
 
 -- the label of a net belongs to a piece of the net
 pub tag_label : (names : List (List ℕ)) (pins : Pins) (p : Placement) (r : Routing) (xs : List ℕ) (f : Frame) (w : IsWired names pins p r xs f) → (net : NetNo) (t : Tag) → TagFrom pins f p.nodes r.trunks xs (gates_on f r.trunks xs (seats_of p.row)) net t → LabelOn (layout names pins p r xs f) w.has.netted (label_of names t) net
@@ -132,8 +140,8 @@ tag_label names pins p r xs f w net t (on_gnd e is) = subst (λ z. LabelOn (layo
 tag_label names pins p r xs f w net t (on_vdd e is) = subst (λ z. LabelOn (layout names pins p r xs f) w.has.netted (label_of names z) net) is (direct (layout names pins p r xs f) w.laid w.has.netted (metal vdd) Metal1 8 (f.yp + f.hp + 16) (get_or names net.0 []) net tt (sym e) refl (vdd_holds f r.tracks w.drawn.frame))
 tag_label names pins p r xs f w net t (on_trunk u found is) =
     let from = trunk_from r.trunks net u found in
-    let b : Bar = bar_from f p.nodes xs u in
-    let listed : Contains (layout names pins p r xs f).bars b = contains_map (bar_from f p.nodes xs) r.trunks u from.listed in
+    let b : Bar = bar_from f p.nodes r.trunks xs u in
+    let listed : Contains (layout names pins p r xs f).bars b = contains_map (bar_from f p.nodes r.trunks xs) r.trunks u from.listed in
     let ends : b.left ≤ b.right = (w.laid.bars b listed).0 in
     subst (λ z. LabelOn (layout names pins p r xs f) w.has.netted (label_of names z) net) is (direct (layout names pins p r xs f) w.laid w.has.netted (metal (bar_of b)) Metal1 (x_of xs u.left) (track_y f u.track) (get_or names net.0 []) net listed from.of refl (omega (arith, ints)))
 tag_label names pins p r xs f w net t (at_node signal none m found of is) =
@@ -144,5 +152,5 @@ tag_label names pins p r xs f w net t (at_node signal none m found of is) =
 tag_label names pins p r xs f w net t (at_gate none g found of is) =
     let there : Contains (layout names pins p r xs f).gates g = found_all (λ z. Contains (gates_on f r.trunks xs (seats_of p.row)) z) (λ (z : Gate). z.net.0 == net.0) (gates_on f r.trunks xs (seats_of p.row)) g (all_from_contains (λ z. Contains (gates_on f r.trunks xs (seats_of p.row)) z) (gates_on f r.trunks xs (seats_of p.row)) (λ z c. c)) found in
     let a : GateFrom p.row f r.trunks xs g = gate_from p.row f r.trunks xs g there in
-    let track : g.track ≡ None = a.track ∙ no_reach f r.trunks a.place.net (ap (λ z. trunk_of r.trunks z) (sym a.net ∙ of) ∙ none) in
+    let track : g.track ≡ None = a.track ∙ no_pad f r.trunks a.place (ap (λ z. trunk_of r.trunks z) (sym a.net ∙ of) ∙ none) in
     subst (λ z. LabelOn (layout names pins p r xs f) w.has.netted (label_of names z) net) is (direct (layout names pins p r xs f) w.laid w.has.netted (gate (strip_of g)) Poly g.x (gate_y f g.n) (get_or names g.net.0 []) net there of refl (gate_holds f r.tracks w.drawn.frame g.x g.n g.p g.track (gate_is (layout names pins p r xs f) w.laid g there).finger track))

@@ -24,6 +24,7 @@ mod LabelPieces
 mod LabelsPlaced
 mod NamesPlaced
 mod NetsApart
+mod NetsBars
 mod NetsBridge
 mod NetsDrawn
 mod NetsFacts
@@ -58,3 +59,5 @@ mod Sizes
 mod Smalls
 mod Tags
 mod TagsFound
+mod TrunkCount
+mod Wirings

@@ -1,5 +1,5 @@
 -- The layout of a routed row has the nets of its placement.
-use Rattle.std.proofs.Common.{ℕ, ◌≡◌, ◌≢◌, ◌+◌, ◌*◌, Bool, true, false, List, Option, Some, None, inl, inr, ◌⊎◌, refl, sym, ap, subst, ◌∙◌, arith, Contains, option_map}
+use Rattle.std.proofs.Common.{ℕ, ◌≡◌, ◌≢◌, ◌+◌, ◌*◌, Bool, true, false, List, Option, Some, None, inl, inr, ◌⊎◌, refl, sym, ap, subst, ◌∙◌, arith, Contains}
 use Rattle.std.proofs.lemmas.List.Elements.{All-contains}
 use Rattle.cell_num.specs.declared.net.NetNo.{NetNo}
 use Rattle.cell_num.specs.declared.net.Pins.{Pins}
@@ -17,8 +17,8 @@ use Rattle.row_place.specs.Places.{IsNode, IsPlacement}
 use Rattle.row_place.specs.Steps.{gate_in, gates_of}
 use Rattle.row_place.specs.Units.{seats_of, unit_of}
 use Rattle.row_place.proofs.Placed.{only_placement}
-use Rattle.channel_route.specs.declared.routing.Trunk.{Trunk}
 use Rattle.channel_route.specs.declared.routing.Routing.{Routing}
+use Rattle.channel_route.specs.Wiring.{IsWiring}
 use Rattle.row_compact.specs.Entries.{is_rail}
 use Rattle.row_compact.specs.Solution.{x_of}
 use Rattle.row_compact.proofs.Decide.{rail_decides}
@@ -29,7 +29,7 @@ use Rattle.cell_draw.specs.declared.layout.Gate.{Gate}
 use Rattle.cell_draw.specs.declared.layout.Layout.{Layout}
 use Rattle.cell_draw.specs.Frame.{track_y}
 use Rattle.cell_draw.specs.Laid.{width_in}
-use Rattle.cell_draw.specs.Layouts.{trunk_of, reach_of, contact_with, contact_of, gates_on, laid_out}
+use Rattle.cell_draw.specs.Layouts.{far, contact_with, contact_of, gates_on, laid_out}
 use Rattle.cell_draw.specs.Sound.{IsSoundRow, AreLines}
 use Rattle.cell_draw.proofs.BridgeFrom.{StripFrom, strip_from, ContactFrom, contact_from, GateFrom, gate_from, IsDrawn}
 use Rattle.cell_draw.proofs.BridgeGates.{gate_spread}
@@ -37,7 +37,8 @@ use Rattle.cell_draw.proofs.BridgeRow.{p_finger, n_finger}
 use Rattle.cell_draw.proofs.BridgeWhole.{lines_of_allowed}
 use Rattle.cell_draw.proofs.NetsFacts.{End, left_end, right_end, end_x, HasContact, IsLone, IsLoneGate, HasStrip, IsNetted}
 use Rattle.cell_draw.proofs.NetsPlaces.{net_at, net_at_node, gate_over, strip_gate, only_gate, gate_strip}
-use Rattle.cell_draw.proofs.NetsRouted.{signal_meets, IsBare, one_node_alone, one_gate_alone, node_or_gate, no_bar, bar_signal, bar_alone}
+use Rattle.cell_draw.proofs.NetsBars.{signal_meets, joined}
+use Rattle.cell_draw.proofs.NetsRouted.{IsBare, one_node_alone, one_gate_alone, node_or_gate, no_bar, bar_signal, bare_node, bare_gate}
 
 -- ---- the node at an end of a finger
 abbrev pub end_net : Placed → End → NetNo
@@ -86,26 +87,19 @@ gate_placed : (p : Placement) → IsPlacement p → (gate : GatePlace) → Conta
 gate_placed p is gate there = subst (λ zs. Contains zs gate) (sym (ap (λ (z : Placement). z.gates) (only_placement p is))) there
 
 -- a node place has a contact, or its net no trunk
-contact_or_bare : (pins : Pins) (p : Placement) (r : Routing) (xs : List ℕ) (f : Frame) (nets : ℕ) (node : NodePlace) → Contains p.nodes node → HasContact (layout pins p r xs f nets) node.row (x_of xs node.line) ⊎ IsBare pins r node.net
-contact_or_bare pins p r xs f nets node there = by (is_rail pins node.net) refl
+contact_or_bare : (pins : Pins) (p : Placement) (r : Routing) → IsWiring p pins r → (xs : List ℕ) (f : Frame) (nets : ℕ) (node : NodePlace) → Contains p.nodes node → HasContact (layout pins p r xs f nets) node.row (x_of xs node.line) ⊎ IsBare pins r node.net
+contact_or_bare pins p r wiring xs f nets node there = by (is_rail pins node.net) refl
   where
     contacted : (reach : Option ℕ) → contact_of f pins r.trunks xs node ≡ Some (contact_with xs node reach) → HasContact (layout pins p r xs f nets) node.row (x_of xs node.line)
     contacted reach gives = record { contact = contact_with xs node reach; listed = contains_filter_map (contact_of f pins r.trunks xs) p.nodes node (contact_with xs node reach) there gives; in_row = refl; at_x = refl }
 
-    signal : is_rail pins node.net ≡ false → (o : Option Trunk) → trunk_of r.trunks node.net ≡ o → HasContact (layout pins p r xs f nets) node.row (x_of xs node.line) ⊎ IsBare pins r node.net
-    signal other None e = inr (record { signal = λ rail. (let wrong : true ≡ false = sym ((rail_decides pins node.net).1 rail) ∙ other in cc); bare = e })
-    signal other (Some t) e = inl (contacted (Some (track_y f t.track)) (rw other (rw e refl)))
+    signal : is_rail pins node.net ≡ false → (o : Option ℕ) → far r.trunks node ≡ o → HasContact (layout pins p r xs f nets) node.row (x_of xs node.line) ⊎ IsBare pins r node.net
+    signal other None e = inr (record { signal = λ rail. (let wrong : true ≡ false = sym ((rail_decides pins node.net).1 rail) ∙ other in cc); bare = bare_node p pins r wiring node there e })
+    signal other (Some k) e = inl (contacted (Some (track_y f k)) (rw other (rw e refl)))
 
     by : (b : Bool) → is_rail pins node.net ≡ b → HasContact (layout pins p r xs f nets) node.row (x_of xs node.line) ⊎ IsBare pins r node.net
     by true e = inl (contacted None (rw e refl))
-    by false e = signal e (trunk_of r.trunks node.net) refl
-
-no_reach : (f : Frame) (trunks : List Trunk) (net : NetNo) → reach_of f trunks net ≡ None → trunk_of trunks net ≡ None
-no_reach f trunks net e = by (trunk_of trunks net) refl e
-  where
-    by : (o : Option Trunk) → trunk_of trunks net ≡ o → option_map (λ (t : Trunk). track_y f t.track) o ≡ None → trunk_of trunks net ≡ None
-    by None is g = is
-    by (Some t) is g = absurd cc
+    by false e = signal e (far r.trunks node) refl
 
 -- the nets of a layout are those of the nodes of its placement
 pub record HasNets (pins : Pins) (p : Placement) (r : Routing) (xs : List ℕ) (f : Frame) (nets : ℕ) : Type 0 where
@@ -125,9 +119,9 @@ has_nets names pins p r xs f nets d differ =
       fingered = fingered;
       contacts = contacts;
       signals = λ c y there e. signal_meets p pins r xs f nets c y (contact_from f pins r.trunks xs p.nodes c there) e;
-      bars = λ b there. (λ e. bar_signal p pins r d.legal f xs b there (inr e), λ e. bar_signal p pins r d.legal f xs b there (inl e));
+      bars = λ b there. (λ e. bar_signal p pins r d.wiring f xs b there (inr e), λ e. bar_signal p pins r d.wiring f xs b there (inl e));
       gates = λ g there. (λ e. gate_signal g there (inr e), λ e. gate_signal g there (inl e));
-      one_bar = λ a b la lb e. bar_alone p pins r d.legal f xs a b la lb e;
+      joined = λ a b la lb e. joined p pins r xs (record { placed = d.placement; wiring = d.wiring; allowed = d.allowed }) f nets a b la lb e;
       ends = ends;
       lone = lone;
     } in
@@ -174,20 +168,20 @@ has_nets names pins p r xs f nets d differ =
         record {
           no_gnd = λ h. bare.signal (inr (sym q ∙ h));
           no_vdd = λ h. bare.signal (inl (sym q ∙ h));
-          no_bar = λ b listed h. no_bar p pins r d.legal f xs n.node.net bare b listed (h ∙ q);
+          no_bar = λ b listed h. no_bar p pins r f xs n.node.net bare b listed (h ∙ q);
           no_gate = λ g listed h.
               let a : GateFrom p.row f r.trunks xs g = gate_from p.row f r.trunks xs g listed in
-              node_or_gate p pins r d.legal n.node.net n.node a.place n.there (gate_of_net g listed a) bare refl (sym a.net ∙ (h ∙ q));
+              node_or_gate p pins r d.wiring n.node.net n.node a.place n.there (gate_of_net g listed a) bare refl (sym a.net ∙ (h ∙ q));
           here = λ t k listed h.
               let m = end_of t k listed in
-              let same : m.node ≡ n.node = one_node_alone p pins r d.legal n.node m.node n.there m.there bare (sym (net_of_end t k listed) ∙ (h ∙ q)) in
+              let same : m.node ≡ n.node = one_node_alone p pins r d.wiring n.node m.node n.there m.there bare (sym (net_of_end t k listed) ∙ (h ∙ q)) in
               (sym m.row ∙ (ap (λ (z : NodePlace). z.row) same ∙ n.row), sym m.x ∙ (ap (λ (z : NodePlace). x_of xs z.line) same ∙ n.x));
         }
 
     ends : (s : Strip) (e : End) → Contains (layout pins p r xs f nets).strips s → HasContact (layout pins p r xs f nets) s.row (end_x e s) ⊎ IsLone (layout pins p r xs f nets) (net_at p.nodes xs) s.row (end_x e s)
     ends s e there =
         let n = end_of s e there in
-        elim (contact_or_bare pins p r xs f nets n.node n.there) [
+        elim (contact_or_bare pins p r d.wiring xs f nets n.node n.there) [
           | inl c ↦ inl (record { contact = c.contact; listed = c.listed; in_row = c.in_row ∙ n.row; at_x = c.at_x ∙ n.x })
           | inr bare ↦ inr (lone_end s e there bare)
         ]
@@ -195,12 +189,12 @@ has_nets names pins p r xs f nets d differ =
     lone : (g : Gate) → Contains (layout pins p r xs f nets).gates g → g.track ≡ None → IsLoneGate (layout pins p r xs f nets) (net_at p.nodes xs) g
     lone g there e =
         let a : GateFrom p.row f r.trunks xs g = gate_from p.row f r.trunks xs g there in
-        let bare : IsBare pins r a.place.net = record { signal = λ rail. gate_signal g there (subst (IsRail pins) (sym a.net) rail); bare = no_reach f r.trunks a.place.net (sym a.track ∙ e) } in
+        let bare : IsBare pins r a.place.net = record { signal = λ rail. gate_signal g there (subst (IsRail pins) (sym a.net) rail); bare = bare_gate p pins r d.wiring f a.place (gate_of_net g there a) (sym a.track ∙ e) } in
         record {
-          no_bar = λ b listed h. no_bar p pins r d.legal f xs a.place.net bare b listed (h ∙ a.net);
+          no_bar = λ b listed h. no_bar p pins r f xs a.place.net bare b listed (h ∙ a.net);
           here = λ h listed k.
               let b : GateFrom p.row f r.trunks xs h = gate_from p.row f r.trunks xs h listed in
-              let same : b.place ≡ a.place = one_gate_alone p pins r d.legal a.place b.place (gate_of_net g there a) (gate_of_net h listed b) bare (sym b.net ∙ (k ∙ a.net)) in
+              let same : b.place ≡ a.place = one_gate_alone p pins r d.wiring a.place b.place (gate_of_net g there a) (gate_of_net h listed b) bare (sym b.net ∙ (k ∙ a.net)) in
               let x : h.x ≡ g.x = b.x ∙ (ap (λ n. x_of xs n) (sym b.line ∙ (ap (λ (z : GatePlace). z.line) same ∙ a.line)) ∙ sym a.x) in
               elim (gate_spread p xs f r.trunks is lines h g b a) [
                 | inl is_one ↦ is_one
@@ -209,5 +203,5 @@ has_nets names pins p r xs f nets d differ =
               ];
           no_end = λ s k listed h.
               let n = end_of s k listed in
-              node_or_gate p pins r d.legal a.place.net n.node a.place n.there (gate_of_net g there a) bare (sym (net_of_end s k listed) ∙ (h ∙ a.net)) refl;
+              node_or_gate p pins r d.wiring a.place.net n.node a.place n.there (gate_of_net g there a) bare (sym (net_of_end s k listed) ∙ (h ∙ a.net)) refl;
         }

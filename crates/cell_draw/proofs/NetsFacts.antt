@@ -3,6 +3,7 @@ use Rattle.std.proofs.Common.{◌≡◌, ◌≢◌, ℕ, ◌+◌, ◌≤◌, Som
 use Rattle.std.specs.List.{Contains}
 use Rattle.cell_num.specs.declared.net.NetNo.{NetNo}
 use Rattle.cell_num.specs.declared.finger.Row.{Row}
+use Rattle.box_geom.specs.Chains.{Chain}
 use Rattle.cell_draw.specs.declared.layout.Strip.{Strip}
 use Rattle.cell_draw.specs.declared.layout.Contact.{Contact}
 use Rattle.cell_draw.specs.declared.layout.Gate.{Gate}
@@ -31,6 +32,11 @@ pub record Reaches (l : Layout) (c : Contact) (y : ℕ) : Type 0 where
   pub net : bar.net ≡ c.net
   pub via : Contains bar.vias c.x
   pub goes : GoesTo c.row y bar.y
+
+-- Two bars of one net overlap on one track, or a contact's metal2 goes to both and meets each in a via.
+pub data AreNeighbours (l : Layout) (a b : Bar) : Type 0 where
+  overlap : Contains l.bars a → Contains l.bars b → a.net ≡ b.net → a.y ≡ b.y → a.left ≤ b.right → b.left ≤ a.right → AreNeighbours l a b
+  crossed : (c : Contact) (y : ℕ) → Contains l.contacts c → c.reach ≡ Some y → (to : Reaches l c y) → to.bar ≡ a → (also : Reaches l c y) → also.bar ≡ b → AreNeighbours l a b
 
 -- a contact at the line in the row
 pub record HasContact (l : Layout) (row : Row) (x : ℕ) : Type 0 where
@@ -73,10 +79,10 @@ pub record IsNetted (l : Layout) : Type 0 where
   -- contacts are of the net at their line; signals meet a bar of their net
   pub contacts : (c : Contact) → Contains l.contacts c → c.net ≡ nets c.row c.x
   pub signals : (c : Contact) (y : ℕ) → Contains l.contacts c → c.reach ≡ Some y → Reaches l c y
-  -- the rails have neither bars nor gates; a net has one bar
+  -- the rails have neither bars nor gates; the bars of a net hang together
   pub bars : (b : Bar) → Contains l.bars b → (b.net ≢ l.gnd) × (b.net ≢ l.vdd)
   pub gates : (g : Gate) → Contains l.gates g → (g.net ≢ l.gnd) × (g.net ≢ l.vdd)
-  pub one_bar : (a b : Bar) → Contains l.bars a → Contains l.bars b → a.net ≡ b.net → a ≡ b
+  pub joined : (a b : Bar) → Contains l.bars a → Contains l.bars b → a.net ≡ b.net → Chain (AreNeighbours l) a b
   -- what meets no bar and no rail stands alone
   pub ends : (s : Strip) (e : End) → Contains l.strips s → HasContact l s.row (end_x e s) ⊎ IsLone l nets s.row (end_x e s)
   pub lone : (g : Gate) → Contains l.gates g → g.track ≡ None → IsLoneGate l nets g

@@ -46,7 +46,7 @@ linked : (l : Layout) (n : IsNetted l) (a b : Wire) → IsWire l a → IsWire l 
 linked l n a b h k bond = one (Bonded Plain (shapes_of l) (parts l n)) (part_of l n a) (part_of l n b) (record { from = wire_listed l n a h; to = wire_listed l n b k; bond = bond })
 
 -- pieces of one kind with a common cell
-shared : (l : Layout) (n : IsNetted l) (a b : Wire) → IsWire l a → IsWire l b → kind_of a ≡ kind_of b → (x y : ℤ) → Holds (rect_of l n a) x y → Holds (rect_of l n b) x y → Together l n a b
+pub shared : (l : Layout) (n : IsNetted l) (a b : Wire) → IsWire l a → IsWire l b → kind_of a ≡ kind_of b → (x y : ℤ) → Holds (rect_of l n a) x y → Holds (rect_of l n b) x y → Together l n a b
 shared l n a b h k e x y i j = linked l n a b h k (touching e (record { one = record { x = x; y = y }; other = record { x = x; y = y }; in_a = i; in_b = j; meet = inl refl }))
 
 -- pieces of one kind, the second above the first

@@ -12,7 +12,7 @@ use Rattle.cell_draw.specs.declared.layout.Gate.{Gate}
 use Rattle.cell_draw.specs.declared.layout.Bar.{Bar}
 use Rattle.cell_draw.specs.Layouts.{bar_of as bar_from}
 use Rattle.cell_draw.proofs.BridgeFrom.{ContactFrom, contact_from, StripFrom, strip_from, GateFrom, gate_from}
-use Rattle.cell_draw.proofs.BridgeTracks.{span_of}
+use Rattle.cell_draw.proofs.BridgeTracks.{ends_of}
 use Rattle.cell_draw.proofs.LabelsPlaced.{IsWired, layout}
 use Rattle.cell_draw.proofs.NetsBridge.{EndNode, end_node, end_net}
 use Rattle.cell_draw.proofs.NetsFacts.{end_x}
@@ -34,9 +34,9 @@ piece_low names pins p r xs f w g there =
 
 bar_low : (names : List (List ℕ)) (pins : Pins) (p : Placement) (r : Routing) (xs : List ℕ) (f : Frame) (w : IsWired names pins p r xs f) → (b : Bar) → Contains (layout names pins p r xs f).bars b → b.net.0 < length names
 bar_low names pins p r xs f w b there =
-    let i : Image (bar_from f p.nodes xs) r.trunks b = in_map (bar_from f p.nodes xs) r.trunks b there in
-    let span = span_of p pins r w.drawn.legal i.of i.listed in
-    omega (arith, number i.of.net b.net (ap (λ (z : Bar). z.net) i.is), place_low names pins p w.drawn.placement w.drawn.row i.of.net i.of.left span.begins)
+    let i : Image (bar_from f p.nodes r.trunks xs) r.trunks b = in_map (bar_from f p.nodes r.trunks xs) r.trunks b there in
+    let ends = ends_of p pins r w.drawn.wiring i.of i.listed in
+    omega (arith, number i.of.net b.net (ap (λ (z : Bar). z.net) i.is), place_low names pins p w.drawn.placement w.drawn.row i.of.net i.of.left ends.left)
 
 pub wire_low : (names : List (List ℕ)) (pins : Pins) (p : Placement) (r : Routing) (xs : List ℕ) (f : Frame) (w : IsWired names pins p r xs f) → ArePins (length names) pins → (a : Wire) → IsWire (layout names pins p r xs f) a → (net_of (layout names pins p r xs f) w.has.netted a).0 < length names
 wire_low names pins p r xs f w are (metal gnd) h = omega (arith, are.gnd, are.named)

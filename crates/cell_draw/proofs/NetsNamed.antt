@@ -21,7 +21,7 @@ use Rattle.row_place.specs.Trunks.{lines_of}
 use Rattle.cell_draw.specs.Sound.{IsSoundRow}
 use Rattle.cell_draw.proofs.BridgePlaces.{EndOf, end_of}
 use Rattle.cell_draw.proofs.BridgeRow.{p_finger, n_finger}
-use Rattle.cell_draw.proofs.BridgeBars.{Passed, filtered}
+use Rattle.cell_draw.proofs.Found.{Passed, filtered}
 
 -- the nets of a finger are named
 record AreLow (names : List (List ℕ)) (x : Finger) : Type 0 where

@@ -33,8 +33,7 @@ use Rattle.cell_draw.specs.Sound.{AreLines}
 use Rattle.cell_draw.proofs.BridgeFrom.{StripFrom, GateFrom, gate_from}
 use Rattle.cell_draw.proofs.BridgeLines.{behind, same_line, units_rise}
 use Rattle.cell_draw.proofs.BridgePlaces.{unit_last, one_node}
-use Rattle.cell_draw.proofs.BridgeTracks.{none_found}
-use Rattle.cell_draw.proofs.Found.{found_all, found_is}
+use Rattle.cell_draw.proofs.Found.{found_all, found_is, none_found}
 use Rattle.cell_draw.proofs.NetsFacts.{IsOver}
 
 -- ---- the net at a line of a row

@@ -1,8 +1,11 @@
 -- Two conductor cells of a drawing are in one net exactly where their pieces are of one net.
-use Rattle.std.proofs.Common.{◌≡◌, ◌↔◌, ℕ, Option, Some, None, arith, inl, inr, ◌⊎◌, refl, sym, ap, subst, ◌∙◌}
+use Rattle.std.proofs.Common.{◌≡◌, ◌↔◌, ℕ, zero, suc, ◌≤◌, pos, Option, Some, None, arith, inl, inr, ◌⊎◌, refl, sym, ap, subst, ◌∙◌}
 use Rattle.std.specs.List.{Contains}
+use Rattle.std.proofs.lemmas.Bool.{cases_lt}
+use Rattle.std.proofs.lemmas.Int.{ints}
 use Rattle.cell_num.specs.declared.finger.Row.{Row}
 use Rattle.cell_num.specs.declared.finger.Row.TheVariants.{P, N}
+use Rattle.box_geom.specs.Chains.{Steps}
 use Rattle.box_geom.specs.Rectangle.{Holds}
 use Rattle.scmos_rules.proofs.Chains.{none}
 use Rattle.scmos_rules.specs.declared.rules.Deck.TheVariants.{Plain}
@@ -18,8 +21,8 @@ use Rattle.cell_draw.specs.Shapes.{shapes_of}
 use Rattle.cell_draw.specs.Laid.{Follows, IsStrip, IsOnBar, rail_in, IsLaid}
 use Rattle.cell_draw.proofs.NetsApart.{part_of, chained_net}
 use Rattle.cell_draw.proofs.NetsDrawn.{are_drawn}
-use Rattle.cell_draw.proofs.NetsFacts.{End, left_end, right_end, end_x, Reaches, HasContact, IsLone, IsNetted}
-use Rattle.cell_draw.proofs.NetsJoined.{Together, together, back, pad_strap, strap_branch, branch_bar, strip_pad, pad_bar, gnd_strap, vdd_strap, half_pad, next_halves}
+use Rattle.cell_draw.proofs.NetsFacts.{End, left_end, right_end, end_x, Reaches, HasContact, IsLone, AreNeighbours, overlap, crossed, IsNetted}
+use Rattle.cell_draw.proofs.NetsJoined.{Together, together, back, shared, pad_strap, strap_branch, branch_bar, strip_pad, pad_bar, gnd_strap, vdd_strap, half_pad, next_halves}
 use Rattle.cell_draw.proofs.NetsWires.{Wire, metal, branch, gate, half, pad, net_of, IsWire, parts, WireFrom, wire_from, wire_listed}
 use Rattle.cell_draw.proofs.RulesActive.{strip_is}
 use Rattle.cell_draw.proofs.RulesMetal1.{gnd, vdd, strap_of, bar_of}
@@ -144,6 +147,26 @@ one_place l w n s t e g hs ht rows at = by (w.ordered s t hs ht rows) e g at
     by (inr (inr (inl z))) right_end right_end x = absurd (omega (arith, a.wide, z, x))
     by (inr (inr (inr z))) right_end right_end x = absurd (omega (arith, a.wide, z, x))
 
+-- ---- bars of one net
+neighbours : (l : Layout) (w : IsLaid l) (n : IsNetted l) (a b : Bar) → AreNeighbours l a b → Together l n (metal (bar_of a)) (metal (bar_of b))
+neighbours l w n a b (overlap ha hb net y left right) = elim (cases_lt a.left b.left) [
+  | inl less ↦
+      let wide : b.left ≤ b.right = (w.bars b hb).0 in
+      shared l n (metal (bar_of a)) (metal (bar_of b)) ha hb refl (pos b.left) (pos b.y) (omega (arith, ints)) (omega (arith, ints))
+  | inr more ↦
+      let wide : a.left ≤ a.right = (w.bars a ha).0 in
+      shared l n (metal (bar_of a)) (metal (bar_of b)) ha hb refl (pos a.left) (pos a.y) (omega (arith, ints)) (omega (arith, ints))
+]
+neighbours l w n a b (crossed c y there e to is also same) =
+    let s : Signal = record { contact = c; reach = y } in
+    let k : IsSignal l s = record { listed = there; signal = e } in
+    subst (λ z. Together l n (metal (bar_of z)) (metal (bar_of b))) is (subst (λ z. Together l n (metal (bar_of to.bar)) (metal (bar_of z))) same
+    (together l n (metal (bar_of to.bar)) (branch s) (metal (bar_of also.bar)) (back l n (branch s) (metal (bar_of to.bar)) (branch_bar l w n s k to)) (branch_bar l w n s k also)))
+
+bars_together : (l : Layout) (w : IsLaid l) (n : IsNetted l) (count : ℕ) (a b : Bar) → Steps (AreNeighbours l) count a b → Together l n (metal (bar_of a)) (metal (bar_of b))
+bars_together l w n zero a b e = self l n (metal (bar_of a)) (metal (bar_of b)) (ap (λ z. metal (bar_of z)) e)
+bars_together l w n (suc count) a b (c, first, more) = together l n (metal (bar_of a)) (metal (bar_of c)) (metal (bar_of b)) (neighbours l w n a c first) (bars_together l w n count c b more)
+
 -- a net has one hub
 one_hub : (l : Layout) (w : IsLaid l) (n : IsNetted l) (h k : Hub) → IsHub l n h → IsHub l n k → net_of l n (hub_wire h) ≡ net_of l n (hub_wire k) → Together l n (hub_wire h) (hub_wire k)
 one_hub l w n on_gnd on_gnd i j e = self l n (metal gnd) (metal gnd) refl
@@ -158,7 +181,7 @@ one_hub l w n on_vdd (at_end s g) i j e = absurd (j.1.no_vdd (sym e))
 one_hub l w n on_vdd (at_gate g) i j e = absurd ((n.gates g j.0).1 (sym e))
 one_hub l w n (on_bar b) on_gnd i j e = absurd ((n.bars b i).0 e)
 one_hub l w n (on_bar b) on_vdd i j e = absurd ((n.bars b i).1 e)
-one_hub l w n (on_bar a) (on_bar b) i j e = self l n (metal (bar_of a)) (metal (bar_of b)) (ap (λ z. metal (bar_of z)) (n.one_bar a b i j e))
+one_hub l w n (on_bar a) (on_bar b) i j e = let chain = n.joined a b i j e in bars_together l w n chain.count a b chain.steps
 one_hub l w n (on_bar b) (at_end s g) i j e = absurd (j.1.no_bar b i e)
 one_hub l w n (on_bar b) (at_gate g) i j e = absurd ((n.lone g j.0 j.1).no_bar b i e)
 one_hub l w n (at_end s g) on_gnd i j e = absurd (i.1.no_gnd e)

@@ -23,9 +23,8 @@ use Rattle.row_compact.specs.Solution.{x_of}
 use Rattle.cell_draw.specs.Frame.{track_y}
 use Rattle.cell_draw.specs.Layouts.{tag_of, net_tag, node_tag, gate_tag, metal_tag, or_else, place_tag, trunk_of, gates_on, gate_at, gate_with}
 use Rattle.cell_draw.specs.Sound.{IsSoundRow}
-use Rattle.cell_draw.proofs.Found.{found_all, found_is}
+use Rattle.cell_draw.proofs.Found.{found_all, found_is, none_found}
 use Rattle.cell_draw.proofs.NetsRouted.{places}
-use Rattle.cell_draw.proofs.BridgeTracks.{none_found}
 
 -- ---- each net is met by a place
 -- where every net counts as a pin

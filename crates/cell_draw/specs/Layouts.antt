@@ -1,6 +1,6 @@
 -- The layout of a routed row on its lines.
-use Rattle.std.specs.Prelude.{ℕ, ◌+◌, ◌*◌, ◌-◌, ◌==◌, ◌&&◌, not, Bool, true, false, if◌then◌else◌, List, [], ◌∷◌, ◌++◌, map, filter, length, Option, Some, None, option_map, filter_map, find}
-use Rattle.std.specs.List.{flat_map, list_any, range_with_len}
+use Rattle.std.specs.Prelude.{ℕ, ◌+◌, ◌*◌, ◌-◌, ◌==◌, ◌&&◌, ltb, leb, min, max, not, Bool, true, false, if◌then◌else◌, List, [], ◌∷◌, ◌++◌, map, filter, length, Option, Some, None, option_map, filter_map, find}
+use Rattle.std.specs.List.{flat_map, list_any, range_with_len, reduce}
 use Rattle.cell_num.specs.declared.net.NetNo.{NetNo}
 use Rattle.cell_num.specs.declared.net.Pins.{Pins}
 use Rattle.cell_num.specs.declared.finger.Row.{Row}
@@ -38,13 +38,30 @@ strip_of xs unit row (Some x) = record { row = row; left = x_of xs (2 * unit); r
 abbrev pub strips_at : List ℕ → Seat → List Strip
 strips_at xs seat = strip_of xs seat.unit N seat.column.n ++ strip_of xs seat.unit P seat.column.p
 
--- the trunk of a net
+-- the first trunk of a net
 abbrev pub trunk_of : List Trunk → NetNo → Option Trunk
 trunk_of trunks net = find (λ t. t.net.0 == net.0) trunks
 
--- the height of the track of a net's trunk
-abbrev pub reach_of : Frame → List Trunk → NetNo → Option ℕ
-reach_of f trunks net = option_map (λ t. track_y f t.track) (trunk_of trunks net)
+-- the trunk is of the net and holds the line
+abbrev pub holds : NetNo → ℕ → Trunk → Bool
+holds net line t = (t.net.0 == net.0) && leb t.left line && leb line t.right
+
+-- the tracks of the trunks of a net that hold a line
+abbrev pub tracks_at : List Trunk → NetNo → ℕ → List ℕ
+tracks_at trunks net line = map (λ t. t.track) (filter (holds net line) trunks)
+
+-- of two tracks the one farther from the row
+abbrev pub farther : Row → ℕ → ℕ → ℕ
+farther N a b = max a b
+farther P a b = min a b
+
+-- the farthest track of the trunks of a place's net that hold its line
+abbrev pub far : List Trunk → NodePlace → Option ℕ
+far trunks node = reduce (farther node.row) (tracks_at trunks node.net node.line)
+
+-- the height of that track
+abbrev pub reach_of : Frame → List Trunk → NodePlace → Option ℕ
+reach_of f trunks node = option_map (track_y f) (far trunks node)
 
 abbrev pub contact_with : List ℕ → NodePlace → Option ℕ → Contact
 contact_with xs node reach = record { row = node.row; x = x_of xs node.line; net = node.net; reach = reach }
@@ -53,10 +70,14 @@ contact_with xs node reach = record { row = node.row; x = x_of xs node.line; net
 abbrev pub contact_of : Frame → Pins → List Trunk → List ℕ → NodePlace → Option Contact
 contact_of f pins trunks xs node =
     if is_rail pins node.net then Some (contact_with xs node None)
-    else option_map (λ reach. contact_with xs node (Some reach)) (reach_of f trunks node.net)
+    else option_map (λ reach. contact_with xs node (Some reach)) (reach_of f trunks node)
 
 abbrev pub finger_width : Option Placed → Option ℕ
 finger_width placed = option_map (λ (x : Placed). x.finger.width) placed
+
+-- the height of the track of the first trunk of a gate's net that holds its line
+abbrev pub gate_reach : Frame → List Trunk → GatePlace → Option ℕ
+gate_reach f trunks place = option_map (λ t. track_y f t.track) (find (holds place.net place.line) trunks)
 
 abbrev pub gate_with : Frame → List Trunk → List ℕ → Seat → GatePlace → Gate
 gate_with f trunks xs seat place = record {
@@ -64,7 +85,7 @@ gate_with f trunks xs seat place = record {
   net = place.net;
   n = finger_width seat.column.n;
   p = finger_width seat.column.p;
-  track = reach_of f trunks place.net;
+  track = gate_reach f trunks place;
 }
 
 abbrev pub gate_at : Frame → List Trunk → List ℕ → Seat → Option Gate
@@ -82,20 +103,28 @@ is_over node other = not (is_p other.row) && (other.line == node.line) && (other
 abbrev pub has_own_via : List NodePlace → NodePlace → Bool
 has_own_via nodes node = not (is_p node.row && list_any (is_over node) nodes)
 
--- the node lines where a net has a place, each once, ascending
-abbrev pub vias_of : List NodePlace → List ℕ → NetNo → List ℕ
-vias_of nodes xs net = map (λ node. x_of xs node.line) (filter (λ node. (node.net.0 == net.0) && has_own_via nodes node) nodes)
+-- a trunk of the same net on the same track holds the line and begins before this one
+abbrev pub begins_before : Trunk → ℕ → Trunk → Bool
+begins_before t line other = holds t.net line other && (other.track == t.track) && ltb other.left t.left
 
-abbrev pub bar_of : Frame → List NodePlace → List ℕ → Trunk → Bar
-bar_of f nodes xs t = record {
+-- the trunk has the via at the line of the place
+abbrev pub has_via : List NodePlace → List Trunk → Trunk → NodePlace → Bool
+has_via nodes trunks t node = holds node.net node.line t && has_own_via nodes node && not (list_any (begins_before t node.line) trunks)
+
+-- the node lines of a trunk where its net has a place, each once, ascending
+abbrev pub vias_of : List NodePlace → List Trunk → List ℕ → Trunk → List ℕ
+vias_of nodes trunks xs t = map (λ node. x_of xs node.line) (filter (has_via nodes trunks t) nodes)
+
+abbrev pub bar_of : Frame → List NodePlace → List Trunk → List ℕ → Trunk → Bar
+bar_of f nodes trunks xs t = record {
   left = x_of xs t.left;
   right = x_of xs t.right;
   y = track_y f t.track;
   net = t.net;
-  vias = vias_of nodes xs t.net;
+  vias = vias_of nodes trunks xs t;
 }
 
--- A net's name stands on its rail, on its trunk, or else at its only place.
+-- A net's name stands on its rail, on its first trunk, or else at its only place.
 abbrev pub node_tag : Frame → List ℕ → NodePlace → Tag
 node_tag f xs node = record { layer = Active; x = x_of xs node.line; y = if is_p node.row then f.yp + 4 else f.yn - 4; net = node.net }
 
@@ -117,7 +146,7 @@ or_else (Some tag) other = Some tag
 abbrev pub place_tag : Frame → List NodePlace → List ℕ → List Gate → NetNo → Option Tag
 place_tag f nodes xs gates net = or_else (option_map (node_tag f xs) (find (λ node. node.net.0 == net.0) nodes)) (option_map (gate_tag f) (find (λ g. g.net.0 == net.0) gates))
 
--- on the trunk of a net, or else at its first place
+-- on the first trunk of a net, or else at its first place
 abbrev pub net_tag : Frame → List NodePlace → List Trunk → List ℕ → List Gate → NetNo → Option Tag
 net_tag f nodes trunks xs gates net = or_else (option_map (λ t. metal_tag (x_of xs t.left) (track_y f t.track) net) (trunk_of trunks net)) (place_tag f nodes xs gates net)
 
@@ -145,7 +174,7 @@ laid_out f nets pins placement trunks xs = record {
   strips = flat_map (strips_at xs) (seats_of placement.row);
   contacts = filter_map (contact_of f pins trunks xs) placement.nodes;
   gates = gates_on f trunks xs (seats_of placement.row);
-  bars = map (bar_of f placement.nodes xs) trunks;
+  bars = map (bar_of f placement.nodes trunks xs) trunks;
   tags = tags_of pins f nets placement.nodes trunks xs (gates_on f trunks xs (seats_of placement.row));
 }
 

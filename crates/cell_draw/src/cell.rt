@@ -22,7 +22,8 @@ ghost use Rattle.cell_draw.specs.Sound.{IsSoundRow, AreLines};
 use crate::frame::{frame, needed};
 use crate::groups::shapes;
 use crate::labels::labels;
-use crate::plan::{base, layout};
+use crate::plan::base;
+use crate::wiring::draw_wiring;
 use crate::{DrawFault, Drawing, Frame, Layout, MOST_HEIGHT, MOST_TRACKS, MOST_X};
 use box_geom::Shapes;
 use cell_num::{Name, Names, NoMemory, Pins};
@@ -34,7 +35,8 @@ use std::alloc::Global;
 /// A drawing has fewer rectangles than this.
 pub const MOST_SHAPES: usize = 2_000;
 
-fn drawing(alloc: Global, names: &[Name], layout: &Layout) -> Result<Drawing, NoMemory>
+/// The shapes and the labels of a layout.
+pub fn drawing(alloc: Global, names: &[Name], layout: &Layout) -> Result<Drawing, NoMemory>
     requires { IsSmall layout.now }
     ensures exact { IfOk result (λ d. d ≡ drawing_of names.now layout.now) }
     ensures within { IfOk result (λ d. AreWithin d.shapes) }
@@ -48,9 +50,9 @@ fn drawing(alloc: Global, names: &[Name], layout: &Layout) -> Result<Drawing, No
     })
 }
 
-// The frame of a cell, unless it is too tall.
+/// The frame of a cell, unless it is too tall.
 #[tactic(auto, using(crate::proofs::BridgeLines::wide_enough))]
-fn fitting_frame(
+pub fn fitting_frame(
     placement: &Placement,
     tracks: u32,
     xs: &[u32],
@@ -78,43 +80,6 @@ fn fitting_frame(
     }
     let last = lines_of(placement) - 1;
     Ok(frame(columns, tracks, height, x_of(xs, last) + 8))
-}
-
-// The drawing of a routed row, exactly.
-fn drawn(
-    alloc: Global,
-    names: &Names,
-    pins: &Pins,
-    placement: &Placement,
-    routing: &Routing,
-    xs: &LineXs,
-    height: u32,
-) -> Result<Drawing, DrawFault>
-    requires placement { IsPlacement placement.now }
-    requires row { IsSoundRow names.now pins.now placement.now.row }
-    requires routing { IsLegal placement.now pins.now routing.now }
-    requires lines { AreAllowed placement.now pins.now (stretches_of routing.now.trunks) xs.now }
-    requires last { x_at xs.now (2 * length placement.now.units) ≤ MOST_X }
-    requires height { height ≤ MOST_HEIGHT }
-    ensures exact { IfOk result (λ d. d ≡ drawn_of names.now pins.now placement.now routing.now xs.now height) }
-    ensures within { IfOk result (λ d. AreWithin d.shapes) }
-    ensures fits { IfOk result (λ d. IsTooTall placement.now.row routing.now.tracks height → ⊥) }
-    ensures tall { SaysTooTall placement.now.row routing.now.tracks height result }
-    ensures cause { IfErr result (IsCause placement.now.row routing.now.tracks height) }
-{
-    let xs = xs.as_slice();
-    let frame = fitting_frame(placement, routing.tracks, xs, height)?;
-    let nets = names.len() as u32;
-    let layout = layout(
-        alloc,
-        &frame,
-        nets,
-        pins,
-        placement,
-        routing.trunks.as_slice(),
-        xs,
-    )?;
-    Ok(drawing(alloc, names.as_slice(), &layout)?)
 }
 
 /// Draws a row of sound fingers on lines that its distances allow, in a cell of the given height, or of
@@ -154,7 +119,16 @@ pub fn draw(
     ensures tall { SaysTooTall placement.now.row routing.now.tracks height result }
     ensures cause { IfErr result (IsCause placement.now.row routing.now.tracks height) }
 {
-    match drawn(alloc, names, pins, placement, routing, xs, height) {
+    match draw_wiring(
+        alloc,
+        names,
+        pins,
+        placement,
+        routing.tracks,
+        &routing.trunks,
+        xs,
+        height,
+    ) {
         Ok(drawing) => Ok(drawing),
         Err(fault) => Err(fault),
     }

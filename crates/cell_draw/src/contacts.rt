@@ -1,14 +1,14 @@
 // The contacted node places of a layout.
 
-ghost use Rattle.std.specs.Prelude.{◌≡◌, ◌≤◌, ◌<◌, ◌==◌, ◌||◌, All, IfOk, filter_map};
+ghost use Rattle.std.specs.Prelude.{◌≡◌, ◌≤◌, ◌<◌, ◌==◌, ◌||◌, All, IfOk, IfSome, filter_map};
 ghost use Rattle.std.specs.Option.{option_copied};
-ghost use Rattle.cell_draw.specs.Layouts.{trunk_of, reach_of, contact_of};
+ghost use Rattle.cell_draw.specs.Layouts.{trunk_of, holds, farther, far, reach_of, contact_of};
 ghost use Rattle.row_compact.specs.Entries.{is_rail};
 ghost use Rattle.cell_draw.specs.Small.{IsSmallFrame};
 
 use crate::frame::track_y;
 use crate::{Contact, Frame};
-use cell_num::{List, NetNo, NoMemory, Pins};
+use cell_num::{List, NetNo, NoMemory, Pins, Row};
 use channel_route::Trunk;
 use row_compact::x_of;
 use row_place::NodePlace;
@@ -26,15 +26,49 @@ pub fn trunk_of(trunks: &[Trunk], net: NetNo) -> Option<&Trunk>
     trunks.iter().find(|trunk| trunk.net.0 == net.0)
 }
 
-// The height of the track of a net's trunk.
-#[tactic(auto, using(crate::proofs::Found::found_track))]
-pub fn reach_of(frame: &Frame, trunks: &[Trunk], net: NetNo) -> Option<u32>
+/// Whether the trunk is of the net and holds the line.
+pub fn holds(net: NetNo, line: u32, trunk: &Trunk) -> bool
+    ensures { result ≡ holds net line trunk.now }
+{
+    trunk.net.0 == net.0 && trunk.left <= line && line <= trunk.right
+}
+
+// Of two tracks the one farther from the row.
+fn farther(row: Row, one: u32, other: u32) -> u32
+    ensures { result ≡ farther row one other }
+{
+    match row {
+        Row::N => one.max(other),
+        Row::P => one.min(other),
+    }
+}
+
+// The farthest track of the trunks of a place's net that hold its line.
+#[tactic(auto, using(crate::proofs::Wirings::far_ends))]
+fn far(trunks: &[Trunk], node: &NodePlace) -> Option<u32>
+    ensures { result ≡ far trunks.now node.now }
+{
+    let mut far = None;
+    for trunk in trunks {
+        if holds(node.net, node.line, trunk) {
+            far = match far {
+                Some(other) => Some(farther(node.row, other, trunk.track)),
+                None => Some(trunk.track),
+            };
+        }
+    }
+    far
+}
+
+// The height of that track.
+#[tactic(auto, using(crate::proofs::Wirings::far_low))]
+fn reach_of(frame: &Frame, trunks: &[Trunk], node: &NodePlace) -> Option<u32>
     requires frame { IsSmallFrame frame.now }
     requires trunks { All (λ trunk. trunk.track ≤ 1000) trunks.now }
-    ensures { result ≡ reach_of frame.now trunks.now net }
+    ensures { result ≡ reach_of frame.now trunks.now node.now }
 {
-    match trunk_of(trunks, net) {
-        Some(trunk) => Some(track_y(frame, trunk.track)),
+    match far(trunks, node) {
+        Some(track) => Some(track_y(frame, track)),
         None => None,
     }
 }
@@ -59,7 +93,7 @@ fn contact_of(
     if is_rail(pins, node.net) {
         return Some(contact);
     }
-    match reach_of(frame, trunks, node.net) {
+    match reach_of(frame, trunks, node) {
         Some(reach) => Some(Contact {
             reach: Some(reach),
             ..contact

@@ -14,8 +14,10 @@ pub mod layout;
 mod plan;
 mod row_shapes;
 mod shape;
+mod wiring;
 
 pub use cell::{MOST_SHAPES, draw, draw_base};
 pub use drawing::{DrawFault, Drawing};
 pub use frame::{Edges, MOST_HEIGHT, MOST_TRACKS, MOST_X, channel_edges};
 pub use layout::{Bar, Contact, Frame, Gate, Layout, Strip, Tag};
+pub use wiring::draw_wiring;

@@ -37,4 +37,4 @@ drawn_metal l pins trunks bar bars =
 
 -- the same for a routed row
 pub metal : (names : List (List ℕ)) (pins : Pins) (p : Placement) (r : Routing) (xs : List ℕ) (height : ℕ) → AreAllMetal (ports_of pins r.trunks (drawn_of names pins p r xs height).shapes.rects) (drawn_of names pins p r xs height).shapes.rects
-metal names pins p r xs height = drawn_metal (layout_of (length names) pins p r xs height) pins r.trunks (bar_of (layout_of (length names) pins p r xs height).frame p.nodes xs) refl
+metal names pins p r xs height = drawn_metal (layout_of (length names) pins p r xs height) pins r.trunks (bar_of (layout_of (length names) pins p r xs height).frame p.nodes r.trunks xs) refl

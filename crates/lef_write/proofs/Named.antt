@@ -122,7 +122,7 @@ vdd_named names pins p r xs height n g other e =
       holds = record { left = omega (arith, ints); right = omega (arith, ints, far); low = omega (arith, ints); high = omega (arith, ints) };
     }
 
-trunk_named : (names : List (List ℕ)) (pins : Pins) (p : Placement) (r : Routing) (xs : List ℕ) (height n : ℕ) (t : Trunk) → Given names pins p r xs n → (n ≡ pins.gnd.0 → ⊥) → (n ≡ pins.vdd.0 → ⊥) → trunk_of r.trunks (net_no n) ≡ Some t → IsLabelled names pins p r xs height n (bar_metal (bar_of (layout_of (length names) pins p r xs height).frame p.nodes xs t))
+trunk_named : (names : List (List ℕ)) (pins : Pins) (p : Placement) (r : Routing) (xs : List ℕ) (height n : ℕ) (t : Trunk) → Given names pins p r xs n → (n ≡ pins.gnd.0 → ⊥) → (n ≡ pins.vdd.0 → ⊥) → trunk_of r.trunks (net_no n) ≡ Some t → IsLabelled names pins p r xs height n (bar_metal (bar_of (layout_of (length names) pins p r xs height).frame p.nodes r.trunks xs t))
 trunk_named names pins p r xs height n t g no_gnd no_vdd found =
     let there : Contains r.trunks t = contains_get r.trunks _ t (found_first (λ (u : Trunk). u.net.0 == n) r.trunks t found) in
     let ends : AreEnds p t = All-contains (AreEnds p) r.trunks t g.wiring.ends there in
@@ -150,10 +150,10 @@ has_ports names pins p r xs height n placed wiring allowed few lt =
             let trunk = pin_trunk p pins r n wiring lt no_gnd no_vdd in
             let rest : FirstKept n r.trunks trunk.0 = first_kept n r.trunks trunk.0 trunk.1 in
             record {
-              first = bar_metal (bar_of l.frame p.nodes xs trunk.0);
-              others = map (λ t. bar_metal (bar_of l.frame p.nodes xs t)) rest.others;
-              are = pin_shapes l pins r.trunks n lt ∙ (signal_shapes l pins r.trunks (bar_of l.frame p.nodes xs) n refl no_gnd no_vdd ∙ ap (λ ts. map (λ (t : Trunk). bar_metal (bar_of l.frame p.nodes xs t)) ts) rest.is);
-              metal = all_map (λ (t : Trunk). Unit {0}) IsMetal1 (λ t. bar_metal (bar_of l.frame p.nodes xs t)) (trunk.0 ∷ rest.others) (λ t any. refl) (λ k d short. tt);
+              first = bar_metal (bar_of l.frame p.nodes r.trunks xs trunk.0);
+              others = map (λ t. bar_metal (bar_of l.frame p.nodes r.trunks xs t)) rest.others;
+              are = pin_shapes l pins r.trunks n lt ∙ (signal_shapes l pins r.trunks (bar_of l.frame p.nodes r.trunks xs) n refl no_gnd no_vdd ∙ ap (λ ts. map (λ (t : Trunk). bar_metal (bar_of l.frame p.nodes r.trunks xs t)) ts) rest.is);
+              metal = all_map (λ (t : Trunk). Unit {0}) IsMetal1 (λ t. bar_metal (bar_of l.frame p.nodes r.trunks xs t)) (trunk.0 ∷ rest.others) (λ t any. refl) (λ k d short. tt);
               named = trunk_named names pins p r xs height n trunk.0 g no_gnd no_vdd trunk.1;
             }
       ]
@@ -171,8 +171,8 @@ has_port names pins p r xs height n placed legal allowed few lt =
         | inr no_vdd ↦
             let trunk = pin_trunk p pins r n g.wiring lt no_gnd no_vdd in
             record {
-              shape = bar_metal (bar_of l.frame p.nodes xs trunk.0);
-              one = pin_shapes l pins r.trunks n lt ∙ trunk_shape l pins r.trunks (bar_of l.frame p.nodes xs) n trunk.0 legal.order refl no_gnd no_vdd trunk.1;
+              shape = bar_metal (bar_of l.frame p.nodes r.trunks xs trunk.0);
+              one = pin_shapes l pins r.trunks n lt ∙ trunk_shape l pins r.trunks (bar_of l.frame p.nodes r.trunks xs) n trunk.0 legal.order refl no_gnd no_vdd trunk.1;
               named = trunk_named names pins p r xs height n trunk.0 g no_gnd no_vdd trunk.1;
             }
       ]

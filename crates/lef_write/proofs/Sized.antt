@@ -115,7 +115,7 @@ at_end names l = any_at (IsAtEnd (drawing_of names l)) (shapes_on Metal1 (shapes
 contact_x : (f : Frame) (pins : Pins) (trunks : List Trunk) (xs : List ℕ) (node : NodePlace) (c : Contact) → contact_of f pins trunks xs node ≡ Some c → c.x ≡ x_of xs node.line
 contact_x f pins trunks xs node c e = elim (cases_Bool (is_rail pins node.net)) [
   | inl rail ↦ sym (ap (λ (d : Contact). d.x) (some_same (contact_with xs node None) c (rw rail at e)))
-  | inr signal ↦ by_reach (reach_of f trunks node.net) (rw signal at e)
+  | inr signal ↦ by_reach (reach_of f trunks node) (rw signal at e)
 ]
   where
     by_reach : (o : Option ℕ) → option_map (λ reach. contact_with xs node (Some reach)) o ≡ Some c → c.x ≡ x_of xs node.line
@@ -129,7 +129,7 @@ contacts_fit names pins p r xs height placed allowed = all_from_contains (FitsCo
     record { right = omega (arith, at, rising p pins r xs allowed kept.from.line (2 * length p.units) (node_line p placed kept.from kept.there) (omega arith)) })
 
 bars_fit : (names : List (List ℕ)) (pins : Pins) (p : Placement) (r : Routing) (xs : List ℕ) (height : ℕ) → IsPlacement p → IsWiring p pins r → AreAllowed p pins (stretches_of r.trunks) xs → All (FitsBar (layout_of (length names) pins p r xs height).frame) (layout_of (length names) pins p r xs height).bars
-bars_fit names pins p r xs height placed wiring allowed = All-map (FitsBar (layout_of (length names) pins p r xs height).frame) (bar_of (layout_of (length names) pins p r xs height).frame p.nodes xs) r.trunks (all_from_contains (λ (t : Trunk). FitsBar (layout_of (length names) pins p r xs height).frame (bar_of (layout_of (length names) pins p r xs height).frame p.nodes xs t)) r.trunks (λ t there.
+bars_fit names pins p r xs height placed wiring allowed = All-map (FitsBar (layout_of (length names) pins p r xs height).frame) (bar_of (layout_of (length names) pins p r xs height).frame p.nodes r.trunks xs) r.trunks (all_from_contains (λ (t : Trunk). FitsBar (layout_of (length names) pins p r xs height).frame (bar_of (layout_of (length names) pins p r xs height).frame p.nodes r.trunks xs t)) r.trunks (λ t there.
     let low : t.track < r.tracks = All-contains (λ (u : Trunk). u.track < r.tracks) r.trunks t wiring.tracks there in
     record {
       right = omega (arith, rising p pins r xs allowed t.right (2 * length p.units) (wired_right p pins r placed wiring t there) (omega arith));
