@@ -41,7 +41,7 @@ pub record AreKindsOf (row : Row) (nets : ℕ) (each : List Finger) (kinds : Lis
   pub sound : All (IsKind nets) kinds
   pub order : AllPairs KindBefore kinds
 
--- what every call that takes kinds asks: they are in order, no two of a row agree, and they are the
+-- what holds of all kinds, by their type: they are in order, no two of a row agree, and they are the
 -- kinds of fingers that the calls of the workspace take
 pub record AreSomeKinds (k : Kinds) : Type 0 where
   pub p : All (IsKind k.nets) k.p
