@@ -38,6 +38,7 @@ mod NetsPlaces
 mod NetsRouted
 mod NetsWhole
 mod NetsWires
+pub mod Refusals
 mod RulesActive
 mod RulesAround
 mod RulesContacts

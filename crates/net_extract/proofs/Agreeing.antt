@@ -102,6 +102,9 @@ of_filter {X} p (y ∷ ys) x c = by (p y) c (of_filter p ys x)
     ]
     by false d rest = contains_there y ys x (rest d)
 
+pub wiring_label : (labels : List Label) (l : Label) → Contains (wiring_labels labels) l → Contains labels l
+wiring_label labels l c = of_filter (λ (z : Label). is_wiring z.layer) labels l c
+
 -- the one that stands opposite
 opposite : {X Y : Type 0} (R : X → Y → Type 0) (xs : List X) (ys : List Y) (y : Y) → AllZip R xs ys → Contains ys y → (x : X) × Contains xs x × R x y
 opposite R xs [] y z c = absurd (contains_none y c)
@@ -112,8 +115,17 @@ opposite R (x ∷ xs) (w ∷ ws) y z c =
       | inr later ↦ let (u, listed, r) = opposite R xs ws y z.1 later in (u, contains_there x xs u listed, r)
     ]
 
+pub facing : {X Y : Type 0} (R : X → Y → Type 0) (xs : List X) (ys : List Y) (x : X) → AllZip R xs ys → Contains xs x → (y : Y) × R x y
+facing R [] ys x z c = absurd (contains_none x c)
+facing R (w ∷ ws) [] x z c = absurd z
+facing R (w ∷ ws) (y ∷ ys) x z c =
+    elim (contains_cons w ws x c) [
+      | inl e ↦ (y, subst (λ v. R v y) e z.0)
+      | inr later ↦ facing R ws ys x z.1 later
+    ]
+
 -- a held label is one of the drawing's
 pub label_held : (deck : Deck) (s : List Shape) (firsts : List Site) (labels : List Label) (held : List Held) (h : Held) → AreHeld deck s firsts labels held → Contains held h → (l : Label) × Contains labels l × IsHeld deck s firsts l h
 label_held deck s firsts labels held h all c =
     let (l, listed, is) = opposite (IsHeld deck s firsts) (wiring_labels labels) held h all c in
-    (l, of_filter (λ (z : Label). is_wiring z.layer) labels l listed, is)
+    (l, wiring_label labels l listed, is)

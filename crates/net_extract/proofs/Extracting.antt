@@ -1,5 +1,5 @@
 -- The steps of extraction give the netlist, or the fault.
-use Rattle.std.proofs.Common.{◌≡◌, ℕ, ◌≤◌, ◌<◌, List, [], ◌∷◌, map, length, Option, Some, None, Result, Ok, Err, IfOk, arith, inl, inr, refl, sym, subst, ◌∙◌}
+use Rattle.std.proofs.Common.{◌≡◌, ℕ, ◌≤◌, ◌<◌, List, [], ◌∷◌, map, length, Option, Some, None, Result, Ok, Err, IfOk, arith, inl, inr, refl, sym, subst, ap, ◌∙◌}
 use Rattle.std.specs.List.{All, find}
 use Rattle.box_geom.specs.declared.shape.Shape.{Shape}
 use Rattle.box_geom.specs.declared.shape.Label.{Label}
@@ -7,7 +7,7 @@ use Rattle.box_geom.specs.declared.shape.Shapes.{Shapes}
 use Rattle.scmos_rules.specs.declared.rules.Deck.{Deck}
 use Rattle.scmos_rules.specs.declared.rules.Deck.TheVariants.{Plain}
 use Rattle.net_extract.specs.Nets.{Site}
-use Rattle.net_extract.specs.Extraction.{AreFew, AreRegular, IsLabelled, Extracts, IsTooMany, ExtractRefused}
+use Rattle.net_extract.specs.Extraction.{AreFew, AreRegular, IsLabelled, Extracts, IsTooMany, SaysTooMany, ExtractRefused}
 use Rattle.net_extract.specs.Naming.{IsAgreed, names_of, short_net, split_name, IsNameFault}
 use Rattle.net_extract.specs.Labels.{IsFirstStray}
 use Rattle.net_extract.specs.Lookups.{is_lost, held_in, IsLostBy}
@@ -35,7 +35,37 @@ many_labels shapes r l = record { which = inr (r, l, refl) }
 pub few_are : (shapes : Shapes) → length shapes.rects ≤ 10000 → length shapes.labels ≤ 2000 → AreFew shapes
 few_are shapes r l = record { rects = r; labels = l }
 
-pub ruleset count_rules = (many_rects, many_labels, few_are)
+-- ---- too many shapes are told as that
+pub not_many : (shapes : Shapes) (count : ℕ) → AreFew shapes → IsTooMany shapes count → ⊥
+not_many shapes count few r = elim r.which [
+  | inl (many, is) ↦ absurd (omega (arith, many, few.rects))
+  | inr (low, many, is) ↦ absurd (omega (arith, many, few.labels))
+]
+
+pub says_rects : {X : Type 0} (shapes : Shapes) → 10000 < length shapes.rects → SaysTooMany {X = X} shapes (Err (TooMany (length shapes.rects)))
+says_rects shapes many count r = elim r.which [
+  | inl (above, is) ↦ ap (λ n. Err (TooMany n)) (sym is)
+  | inr (low, above, is) ↦ absurd (omega (arith, many, low))
+]
+
+pub says_labels : {X : Type 0} (shapes : Shapes) → length shapes.rects ≤ 10000 → 2000 < length shapes.labels → SaysTooMany {X = X} shapes (Err (TooMany (length shapes.labels)))
+says_labels shapes few many count r = elim r.which [
+  | inl (above, is) ↦ absurd (omega (arith, few, above))
+  | inr (low, above, is) ↦ ap (λ n. Err (TooMany n)) (sym is)
+]
+
+pub says_few : {X : Type 0} (shapes : Shapes) (answer : Result X ExtractFault) → AreFew shapes → SaysTooMany shapes answer
+says_few shapes answer few count r = absurd (not_many shapes count few r)
+
+err_same : {X : Type 0} (r : Result X ExtractFault) (f g : ExtractFault) → r ≡ Err f → r ≡ Err g → f ≡ g
+err_same r f g a b = cc
+
+pub says_on : {X Y : Type 0} (shapes : Shapes) (f : ExtractFault) → SaysTooMany {X = X} shapes (Err f) → SaysTooMany {X = Y} shapes (Err f)
+says_on {X} {Y} shapes f says count r =
+    let answer : Result X ExtractFault = Err f in
+    ap (λ g. Err g) (err_same answer f (TooMany count) refl (says count r))
+
+pub ruleset count_rules = (many_rects, many_labels, few_are, says_rects, says_labels, says_few)
 
 pub odd_refused : (deck : Deck) (shapes : Shapes) (f : ExtractFault) → AreFew shapes → IsOddFault deck shapes.rects f → ExtractRefused deck shapes f
 odd_refused deck shapes (OddDevice x y) few o = record { few = few; odd = o }

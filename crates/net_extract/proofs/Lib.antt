@@ -18,13 +18,13 @@ pub mod Labelling
 pub mod Linking
 pub mod Links
 pub mod Listing
-pub mod Merging
 pub mod Netlists
 pub mod Netting
 pub mod Numbering
 pub mod Numbers
 pub mod Orders
 pub mod Pairing
+pub mod Ranges
 pub mod Ranking
 pub mod Siding
 pub mod Wiring

@@ -18,12 +18,13 @@ use Rattle.net_extract.specs.declared.naming.Held.{Held}
 use Rattle.net_extract.specs.declared.netlist.Drawn.{Drawn}
 use Rattle.net_extract.specs.declared.netlist.Netlist.{Netlist}
 use Rattle.net_extract.specs.Devices.{diffusion_of, IsSide, IsClosed, Flow, rightward, upward, left_of, below, source_side, drain_side, low_end, IsSize, BeginsBefore, AreDevices}
-use Rattle.net_extract.specs.Extraction.{AreFew, IsDrawn, IsLabelled, IsTooMany, Extracts, ExtractRefused}
+use Rattle.net_extract.specs.Extraction.{IsDrawn, IsLabelled, Extracts, ExtractRefused}
 use Rattle.net_extract.specs.Labels.{AreHeld, IsHeld, wiring_labels}
 use Rattle.net_extract.specs.Naming.{names_of, short_net, split_name}
 use Rattle.net_extract.specs.Nets.{poly, Site, site_at, Conducts}
 use Rattle.net_extract.specs.Numbering.{AreNets, IsInNet}
 use Rattle.net_extract.proofs.Belonging.{one_site}
+use Rattle.net_extract.proofs.Extracting.{not_many}
 use Rattle.net_extract.proofs.Numbers.{one_number}
 use Rattle.net_extract.proofs.Orders.{same_numbering}
 use Rattle.net_extract.proofs.Siding.{corner_held, source_proper, drain_proper, move_net, row_one}
@@ -190,12 +191,6 @@ zip_middle R (b ∷ bs) x after (y ∷ ys) h = zip_middle R bs x after ys h.1
 
 none_some : {X : Type 0} (o p : Option X) (x : X) → o ≡ None → p ≡ Some x → o ≡ p → ⊥
 none_some o p x a b e = cc
-
-pub not_many : (shapes : Shapes) (count : ℕ) → AreFew shapes → IsTooMany shapes count → ⊥
-not_many shapes count few r = elim r.which [
-  | inl (many, is) ↦ absurd (omega (arith, many, few.rects))
-  | inr (low, many, is) ↦ absurd (omega (arith, many, few.labels))
-]
 
 pub only_memory : (deck : Deck) (shapes : Shapes) (n : Netlist) (f : ExtractFault) → Extracts deck shapes n → ExtractRefused deck shapes f → f ≡ NoMemory
 only_memory deck shapes n (TooMany count) e r = absurd (not_many shapes count e.few r)

@@ -1,31 +1,6 @@
--- Classes of numbers that links chain.
-use Rattle.std.specs.Prelude.{◌↔◌, ◌≡◌, ℕ, ◌<◌, List, map, slice_index, get_or, if◌then◌else◌, ◌==◌, length, ◌⊎◌, ◌≤◌, max, min, set}
-use Rattle.std.specs.List.{Contains}
+-- Classes of numbers that a relation chains, and trees of numbers.
+use Rattle.std.specs.Prelude.{◌≡◌, ℕ, ◌<◌, List, get_or, length, ◌⊎◌, ◌≤◌, max, min, set}
 use Rattle.box_geom.specs.Chains.{Chain}
-use Rattle.net_extract.specs.declared.label.Link.{Link}
-
--- both ends are below n
-pub record IsLink (n : ℕ) (link : Link) : Type 0 where
-  pub one : link.one < n
-  pub other : link.other < n
-
--- a link of the list joins the two, in one order or the other
-pub record Tied (links : List Link) (i j : ℕ) : Type 0 where
-  pub link : Link
-  pub listed : Contains links link
-  pub ends : ((link.one ≡ i) × (link.other ≡ j)) ⊎ ((link.one ≡ j) × (link.other ≡ i))
-
--- labels are equal exactly where links chain the numbers
-pub record Separates (n : ℕ) (links : List Link) (labels : List ℕ) : Type 0 where
-  pub same : (i j : ℕ) → i < n → j < n → (slice_index labels i ≡ slice_index labels j ↔ Chain (Tied links) i j)
-
--- one label in place of another
-abbrev pub renamed : ℕ → ℕ → ℕ → ℕ
-renamed from to label = if label == from then to else label
-
--- the labels after one more link
-abbrev pub merged : Link → List ℕ → List ℕ
-merged link labels = map (renamed (slice_index labels link.other) (slice_index labels link.one)) labels
 
 -- number j is the parent of number i
 pub record IsParent (parents : List ℕ) (i j : ℕ) : Type 0 where

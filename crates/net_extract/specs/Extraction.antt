@@ -1,5 +1,5 @@
 -- What a drawing is extracted to, and why it is refused.
-use Rattle.std.specs.Prelude.{◌≡◌, ℕ, ◌≤◌, ◌<◌, ℤ, List, length, ◌⊎◌}
+use Rattle.std.specs.Prelude.{◌≡◌, ℕ, ◌≤◌, ◌<◌, ℤ, Result, Err, List, length, ◌⊎◌}
 use Rattle.std.specs.List.{AllZip}
 use Rattle.box_geom.specs.Rectangle.{Rectangle}
 use Rattle.box_geom.specs.declared.shape.Shape.{Shape}
@@ -86,3 +86,7 @@ ExtractRefused deck shapes (Stray name) = IsStrayLabel deck shapes name
 ExtractRefused deck shapes (Short one other) = IsShortDrawing deck shapes one other
 ExtractRefused deck shapes (Split name) = IsSplitDrawing deck shapes name
 ExtractRefused deck shapes NoMemory = Unit {0}
+
+-- where a drawing has too many shapes, the answer says so
+abbrev pub SaysTooMany : {X : Type 0} → Shapes → Result X ExtractFault → Type 0
+SaysTooMany shapes answer = (count : ℕ) → IsTooMany shapes count → answer ≡ Err (TooMany count)

@@ -8,11 +8,20 @@ ghost use Rattle.net_extract.specs.Classes.{AreLow, IsRoot, hung, raised, IsJoin
 ghost use Rattle.net_extract.specs.Pieces.{rect_of, piece_cmp, Paired};
 
 use crate::bond::are_bonded;
-use crate::label::numbers;
 use crate::piece::Piece;
 use box_geom::Shape;
 use cell_num::NoMemory;
 use std::alloc::Global;
+
+fn numbers(alloc: Global, count: usize) -> Result<Vec<usize>, NoMemory>
+    ensures { IfOk result (λ labels. labels.items ≡ range_with_len 0 count) }
+{
+    let mut labels = Vec::new(alloc);
+    for number in 0..count {
+        labels.push(number).map_err(|_| NoMemory)?;
+    }
+    Ok(labels)
+}
 
 // The root of the tree of a number.
 fn root(parents: &[usize], of: usize) -> usize

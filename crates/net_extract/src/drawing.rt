@@ -7,7 +7,7 @@ ghost use Rattle.box_geom.specs.Layers.{AreWithinLimits};
 ghost use Rattle.box_geom.specs.Rectangle.{IsRectangle};
 ghost use Rattle.net_extract.specs.Corners.{HaveFewSides};
 ghost use Rattle.net_extract.specs.Cuts.{poly_of};
-ghost use Rattle.net_extract.specs.Extraction.{AreFew, AreRegular, Extracts, ExtractRefused};
+ghost use Rattle.net_extract.specs.Extraction.{AreFew, AreRegular, Extracts, ExtractRefused, SaysTooMany};
 ghost use Rattle.net_extract.specs.GateNets.{AreGateNets, AreFound};
 ghost use Rattle.net_extract.specs.NetMaps.{AreWires, firsts_of};
 ghost use Rattle.net_extract.specs.Pieces.{rect_of};
@@ -34,6 +34,7 @@ const MOST_LABELS: usize = 2_000;
 fn check_counts(shapes: &Shapes) -> Result<(), ExtractFault>
     ensures few { OnOk result (AreFew shapes.now) }
     ensures many { IfErr result (λ f. ExtractRefused Plain shapes.now f) }
+    ensures says { SaysTooMany shapes.now result }
 {
     let rects = shapes.rects.len();
     let labels = shapes.labels.len();
@@ -154,9 +155,11 @@ fn extract_few(alloc: Global, shapes: &Shapes) -> Result<Netlist, ExtractFault>
 /// The nets and devices of a drawing: nets by number with their names, devices by the nets at their gates
 /// and sides. It is refused above 10,000 rectangles or 2,000 labels, where a class of gate cells is no
 /// device, where a label belongs to no conductor cell, and where labels and nets do not agree.
+#[tactic(auto, using(crate::proofs::Extracting::count_rules))]
 pub fn extract(alloc: Global, shapes: &Shapes) -> Result<Netlist, ExtractFault>
     ensures ok { IfOk result (λ n. Extracts Plain shapes.now n) }
     ensures refused { IfErr result (λ f. ExtractRefused Plain shapes.now f) }
+    ensures many { SaysTooMany shapes.now result }
 {
     check_counts(shapes)?;
     shapes.show_limits();

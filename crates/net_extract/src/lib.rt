@@ -10,7 +10,6 @@ mod device;
 mod drawing;
 pub mod fault;
 mod gate;
-pub mod label;
 pub mod laws;
 mod layers;
 mod lookup;
@@ -23,7 +22,6 @@ mod side;
 
 pub use drawing::extract;
 pub use fault::ExtractFault;
-pub use label::{Link, classes};
 pub use laws::{one_netlist, one_numbering, rectangle_nets};
 pub use naming::{Held, net_names};
 pub use netlist::{Drawn, DrawnList, Netlist};

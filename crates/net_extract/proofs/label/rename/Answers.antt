@@ -1,8 +1,0 @@
-use Rattle.std.proofs.Common.{arith}
-use Rattle.std.proofs.lemmas.Grind.{common_steps}
-use Rattle.std.proofs.lemmas.List.Edits.{map_over_more}
-use Rattle.net_extract.specs.Classes.{renamed}
-use Rattle.net_extract.proofs.label.rename.Goals as goal
-
-pub loop-label-preserved : goal.loop-label-preserved
-loop-label-preserved c = grind (arith, common_steps, map_over_more (renamed c.args.from c.args.to))

@@ -1,6 +1,0 @@
-use Rattle.std.proofs.Common.{◌≡◌, map, take, drop, ◌++◌}
-use Rattle.net_extract.specs.Classes.{renamed}
-use Rattle.net_extract.proofs.label.rename.Given as goal
-
-abbrev pub invariant-loop-label : goal.invariant-loop-label
-invariant-loop-label l = l.labels ≡ map (renamed l.from l.to) (take l.label-index l.fn.labels) ++ drop l.label-index l.fn.labels
