@@ -18,7 +18,9 @@ use Rattle.row_place.specs.Places.{IsPlacement}
 use Rattle.row_place.proofs.Bounds.{node_line}
 use Rattle.channel_route.specs.declared.routing.Trunk.{Trunk}
 use Rattle.channel_route.specs.declared.routing.Routing.{Routing}
+use Rattle.channel_route.specs.Routing.{IsLegal}
 use Rattle.channel_route.specs.Wiring.{IsWiring}
+use Rattle.channel_route.proofs.LegalWiring.{legal_wiring}
 use Rattle.row_compact.specs.Allowed.{AreAllowed, stretches_of}
 use Rattle.row_compact.specs.Entries.{is_rail}
 use Rattle.row_compact.specs.Solution.{x_of}
@@ -137,8 +139,12 @@ bars_fit names pins p r xs height placed wiring allowed = All-map (FitsBar (layo
     }))
 
 -- the size of a drawn cell is that of its metal1
-pub sized : (names : List (List ℕ)) (pins : Pins) (p : Placement) (r : Routing) (xs : List ℕ) (height : ℕ) → IsPlacement p → IsWiring p pins r → AreAllowed p pins (stretches_of r.trunks) xs → IsSized (drawn_of names pins p r xs height)
-sized names pins p r xs height placed wiring allowed = record {
+pub wired_sized : (names : List (List ℕ)) (pins : Pins) (p : Placement) (r : Routing) (xs : List ℕ) (height : ℕ) → IsPlacement p → IsWiring p pins r → AreAllowed p pins (stretches_of r.trunks) xs → IsSized (drawn_of names pins p r xs height)
+wired_sized names pins p r xs height placed wiring allowed = record {
   most = within names (layout_of (length names) pins p r xs height) (shapes_of (layout_of (length names) pins p r xs height)) (all_fit (layout_of (length names) pins p r xs height) (omega arith) (contacts_fit names pins p r xs height placed allowed) (bars_fit names pins p r xs height placed wiring allowed));
   there = at_end names (layout_of (length names) pins p r xs height);
 }
+
+-- the same for a routed row
+pub sized : (names : List (List ℕ)) (pins : Pins) (p : Placement) (r : Routing) (xs : List ℕ) (height : ℕ) → IsPlacement p → IsLegal p pins r → AreAllowed p pins (stretches_of r.trunks) xs → IsSized (drawn_of names pins p r xs height)
+sized names pins p r xs height placed legal allowed = wired_sized names pins p r xs height placed (legal_wiring p pins r legal) allowed

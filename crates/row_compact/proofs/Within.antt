@@ -12,9 +12,7 @@ use Rattle.cell_num.proofs.Lists.{all_from_contains}
 use Rattle.row_place.proofs.Bounds.{few_units, node_line, gate_line}
 use Rattle.channel_route.specs.declared.routing.Trunk.{Trunk}
 use Rattle.channel_route.specs.declared.routing.Routing.{Routing}
-use Rattle.channel_route.specs.Routing.{IsLegal}
 use Rattle.channel_route.specs.Wiring.{AreEnds, IsWiring}
-use Rattle.channel_route.proofs.LegalWiring.{legal_wiring}
 
 pub few : (p : Placement) → IsPlacement p → length p.units ≤ 63
 few p is = omega (arith, few_units p.row is.few, ap length is.units)
@@ -35,6 +33,3 @@ wired_right p pins r is wiring t there = let e : AreEnds p t = ends p pins r wir
 
 pub wired_left : (p : Placement) (pins : Pins) (r : Routing) → IsPlacement p → IsWiring p pins r → (t : Trunk) → Contains r.trunks t → t.left ≤ 2 * length p.units
 wired_left p pins r is wiring t there = let e : AreEnds p t = ends p pins r wiring t there in net_line p is t.net t.left e.left
-
-pub trunk_line : (p : Placement) (pins : Pins) (r : Routing) → IsPlacement p → IsLegal p pins r → (t : Trunk) → Contains r.trunks t → t.right ≤ 2 * length p.units
-trunk_line p pins r is legal t there = wired_right p pins r is (legal_wiring p pins r legal) t there

@@ -1,4 +1,3 @@
-use Rattle.channel_route.proofs.LegalWiring.{legal_wiring}
 use Rattle.lef_write.proofs.Apart.{metal}
 use Rattle.lef_write.proofs.Named.{has_port}
 use Rattle.lef_write.proofs.Sized.{sized}
@@ -11,4 +10,4 @@ pub returns-clause-rest : goal.returns-clause-rest
 returns-clause-rest c = metal
 
 pub returns-clause-size : goal.returns-clause-size
-returns-clause-size c = λ names pins p r xs height placed legal allowed. sized names pins p r xs height placed (legal_wiring p pins r legal) allowed
+returns-clause-size c = sized

@@ -1,9 +1,9 @@
 use Rattle.lef_write.proofs.Named.{has_ports}
-use Rattle.lef_write.proofs.Sized.{sized}
+use Rattle.lef_write.proofs.Sized.{wired_sized}
 use Rattle.lef_write.proofs.laws.wired_ports.Goals as goal
 
 pub returns-clause-ports : goal.returns-clause-ports
 returns-clause-ports c = has_ports
 
 pub returns-clause-size : goal.returns-clause-size
-returns-clause-size c = sized
+returns-clause-size c = wired_sized
