@@ -1,6 +1,5 @@
 -- A generated cell is read from its text.
-use Rattle.std.proofs.Common.{ℕ, ◌≡◌, ◌≢◌, ◌≤◌, ◌<◌, ◌^◌, List, Result, Ok, Err, All, sym, subst, arith, ◌∙◌}
-use Rattle.std.proofs.lemmas.List.Elements.{All-weaker}
+use Rattle.std.proofs.Common.{ℕ, ◌≡◌, ◌<◌, ◌^◌, List, Result, Ok, Err, IsTrue, sym, subst, arith, ◌∙◌}
 use Rattle.tech_file.specs.Technology.{Technology, plain}
 use Rattle.spice_net.specs.declared.fault.SpiceFault.{SpiceFault}
 use Rattle.spice_net.specs.declared.subckt.Subckt.{Subckt}
@@ -8,10 +7,10 @@ use Rattle.spice_net.specs.Subcircuit.{subcircuit}
 use Rattle.finger_fold.specs.declared.folding.FoldFault.{FoldFault}
 use Rattle.finger_fold.specs.Folding.{folded}
 use Rattle.cell_num.specs.declared.finger.Fingers.{Fingers}
-use Rattle.bound_log.specs.Fits.{IsLogName}
+use Rattle.cell_num.specs.Names.{is_cell}
 use Rattle.cell_bench.specs.Text.{cell_name}
 use Rattle.bench_read.specs.Read.{IsRead}
-use Rattle.bench_read.proofs.Names.{name_fits}
+use Rattle.bench_read.proofs.Names.{name_is_cell as bench_name}
 use Rattle.bench_read.proofs.Whole.{cell_is_read}
 use Rattle.cell_make.specs.Inputs.{Inputs}
 use Rattle.bench_run.specs.Bench.{AreInputsOf, HoldsCell}
@@ -55,15 +54,5 @@ own_fingers text cell inputs held are =
 
 -- ---- the name of the cell
 
-seen : (byte : ℕ) → (33 ≤ byte) × (byte ≤ 126) → (byte ≢ 10) × (byte ≢ 0)
-seen byte (low, high) = (λ e. omega (arith, e, low), λ e. omega (arith, e, low))
-
-pub log_name : (name : List ℕ) (cell : ℕ) → cell < 2 ^ 32 → name ≡ cell_name cell → IsLogName name
-log_name name cell few is =
-    let fits = name_fits cell (omega (arith, few)) in
-    subst IsLogName (sym is) (record { some = fits.some; few = omega (arith, fits.few); line = All-weaker (λ b. (33 ≤ b) × (b ≤ 126)) (λ b. b ≢ 10) (λ b h. (seen b h).0) (cell_name cell) fits.printable })
-
-pub whole_name : (name : List ℕ) (cell : ℕ) → cell < 2 ^ 32 → name ≡ cell_name cell → All (λ byte. byte ≢ 0) name
-whole_name name cell few is =
-    let fits = name_fits cell (omega (arith, few)) in
-    subst (All (λ byte. byte ≢ 0)) (sym is) (All-weaker (λ b. (33 ≤ b) × (b ≤ 126)) (λ b. b ≢ 0) (λ b h. (seen b h).1) (cell_name cell) fits.printable)
+pub name_is_cell : (name : List ℕ) (cell : ℕ) → cell < 2 ^ 32 → name ≡ cell_name cell → IsTrue (is_cell name)
+name_is_cell name cell few is = subst (λ (n : List ℕ). IsTrue (is_cell n)) (sym is) (bench_name cell (omega (arith, few)))

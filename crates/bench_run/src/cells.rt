@@ -7,12 +7,12 @@ use crate::read::bench_inputs;
 use crate::tally::Tally;
 use cell_bench::bench_text;
 use cell_make::Outcome;
-use cell_num::NoMemory;
+use cell_num::{MOST_BYTES, NoMemory};
 use std::alloc::Global;
 
 // The tally of one cell.
 fn count_cell(alloc: Global, text: &[u8], cell: u32) -> Result<Tally, NoMemory>
-    requires few { length text.now ≤ 1073741824 }
+    requires few { length text.now ≤ MOST_BYTES }
     requires holds { HoldsCell text.now cell }
     ensures counted { IfOk result (IsCountOf text.now cell) }
     ensures ended { IfOk result (AreAllEnded 1) }

@@ -3,7 +3,7 @@ ghost use Rattle.bench_run.specs.Bench.{AreInputsOf, HoldsCell};
 
 use cell_bench::cell_name;
 use cell_make::Inputs;
-use cell_num::{Fingers, Name, NoMemory};
+use cell_num::{MOST_BYTES, NoMemory};
 use finger_fold::{FoldFault, fold};
 use spice_net::{SpiceFault, Subckt, read_cell};
 use std::alloc::Global;
@@ -11,7 +11,7 @@ use tech_file::Tech;
 
 /// The cell of that number from the text of the generated cells, and its fingers.
 pub(crate) fn bench_inputs(alloc: Global, text: &[u8], cell: u32) -> Result<Inputs, NoMemory>
-    requires few { length text.now ≤ 1073741824 }
+    requires few { length text.now ≤ MOST_BYTES }
     requires holds { HoldsCell text.now cell }
     ensures { IfOk result (AreInputsOf text.now cell) }
 {

@@ -1,4 +1,5 @@
 pub mod Alone
 pub mod LeastLines
 pub mod Makes
+pub mod Names
 pub mod ReadBack

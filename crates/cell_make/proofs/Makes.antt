@@ -176,7 +176,7 @@ unit_most n most = omega (arith, most, div-add-mod n 2)
 
 pub readable_so : (inputs inside : Inputs) (shapes : Shapes) → inside ≡ inputs → AreInputs inputs → length shapes.rects ≤ 1999 → AreWithinLimits shapes.rects → AreWithin shapes → All (λ (l : Label). Contains inside.cell.nets l.name) shapes.labels → IsReadable inputs.cell.name shapes (unit_nm inputs.tech)
 readable_so inputs inside shapes same are few limits within listed =
-    readable inputs.cell.nets inputs.cell.name shapes (unit_nm inputs.tech) are.nets are.name are.whole (unit_least inputs.tech.lambda_nm are.tech.lambda_least) (unit_most inputs.tech.lambda_nm are.tech.lambda_most)
+    readable inputs.cell.nets inputs.cell.name shapes (unit_nm inputs.tech) are.nets are.cell (unit_least inputs.tech.lambda_nm are.tech.lambda_least) (unit_most inputs.tech.lambda_nm are.tech.lambda_most)
     few limits within (subst (λ (i : Inputs). All (λ (l : Label). Contains i.cell.nets l.name) shapes.labels) same listed)
 
 pub made_so : (inputs inside : Inputs) (row : List Column) (log : Log) (placement : Placement) (routing : Routing) (drawn : Drawn) (height : ℕ) → inside ≡ inputs → placement ≡ placement_of row → height ≡ inputs.tech.height → AreInputs inputs → IsFound inputs row log → IsPlacement placement → IsRouted inputs row routing → IsDrawnSo inside row placement routing drawn.lines drawn.drawing height → IsReadable inputs.cell.name drawn.drawing.shapes (unit_nm inputs.tech) → ComesTo inputs (outcome.Made row log routing drawn)

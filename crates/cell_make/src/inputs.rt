@@ -6,7 +6,8 @@ use spice_net::Subckt;
 use std::marker::Model;
 use tech_file::Tech;
 
-/// What a cell is made of: the technology, the subcircuit, whose name has 1 to 32 bytes, and its fingers.
+/// What a cell is made of: the technology, the subcircuit, whose name is one that
+/// [`is_cell`](cell_num::is_cell) takes, and its fingers, of which there is at least one.
 #[derive(Drop)]
 pub struct Inputs {
     pub tech: Tech,

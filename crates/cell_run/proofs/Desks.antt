@@ -3,7 +3,7 @@ use Rattle.std.proofs.Common.{ℕ, ◌≡◌, ◌≢◌, ◌≤◌, ◌⊎◌, L
 use Rattle.cell_io.specs.Desk.{Files, View, Rose, OnlyReads}
 use Rattle.cell_run.specs.declared.refusal.Refusal.{Refusal}
 use Rattle.cell_run.specs.declared.refusal.Refusal.TheVariants.{Words, Unread, Long, Tech, Spice, Fold, NoMemory}
-use Rattle.cell_run.specs.Read.{IsRead}
+use Rattle.cell_run.specs.Read.{IsRead, KeepsReads, KeepsReadsBut}
 use Rattle.cell_run.specs.Reading.{Reading, Ends, ◌>>=◌, bytes_of, Comes, MayCome}
 use Rattle.cell_run.specs.Sources.{Source, MayRead}
 use Rattle.cell_run.proofs.Reading.{came_on, came_refused, came_wider}
@@ -90,3 +90,36 @@ ended_so a b answer (Err e) found bad = elim (memory_or e) [
   | inl short ↦ inr (ap (λ (x : Refusal). Err x) short)
   | inr other ↦ inl (sym (bad other))
 ]
+
+-- ---- readings that failed
+
+reads_told : (e : Refusal) (a b c : View) → b.read_faults ≡ a.read_faults → KeepsReadsBut e b c → KeepsReadsBut e a c
+reads_told (Unread name) a b c one two = tt
+reads_told NoMemory a b c one two = tt
+reads_told Words a b c one two = two ∙ one
+reads_told (Long name) a b c one two = two ∙ one
+reads_told (Tech f) a b c one two = two ∙ one
+reads_told (Spice f) a b c one two = two ∙ one
+reads_told (Fold f) a b c one two = two ∙ one
+
+reads_none : (e : Refusal) (a : View) → KeepsReadsBut e a a
+reads_none (Unread name) a = tt
+reads_none NoMemory a = tt
+reads_none Words a = refl
+reads_none (Long name) a = refl
+reads_none (Tech f) a = refl
+reads_none (Spice f) a = refl
+reads_none (Fold f) a = refl
+
+-- behind a reading that did not fail
+pub reads_behind : {A : Type 0} (r : Result A Refusal) (a b c : View) → b.read_faults ≡ a.read_faults → KeepsReads r b c → KeepsReads r a c
+reads_behind (Ok x) a b c one two = two ∙ one
+reads_behind (Err e) a b c one two = reads_told e a b c one two
+
+-- a step without a desk
+pub reads_same : {A : Type 0} (r : Result A Refusal) (a b : View) → b.read_faults ≡ a.read_faults → KeepsReads r a b
+reads_same (Ok x) a b one = one
+reads_same (Err e) a b one = reads_told e a b b one (reads_none e b)
+
+pub reads_handed : {A : Type 0} (told : Result A Refusal) (e : Refusal) (a b : View) → IsHanded told e → KeepsReadsBut e a b → KeepsReads told a b
+reads_handed told e a b hands kept = subst (λ r. KeepsReads r a b) (sym (handed told e hands)) kept

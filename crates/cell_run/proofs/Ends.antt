@@ -13,7 +13,7 @@ use Rattle.cell_run.specs.declared.check.CheckAnswer.TheVariants.{Accepted, Misr
 use Rattle.cell_run.specs.Bench.{BenchesTo}
 use Rattle.cell_run.specs.Check.{ChecksTo}
 use Rattle.cell_run.specs.End.{says}
-use Rattle.cell_run.specs.Ends.{CallsFor, EndsTo, MayEnd, is_among, outside_of, refusal_status, refused, settled_of}
+use Rattle.cell_run.specs.Ends.{CallsFor, EndsTo, KeepsReadsOf, MayEnd, is_among, outside_of, refusal_status, refused, settled_of}
 use Rattle.cell_run.specs.Extract.{ExtractsTo}
 use Rattle.cell_run.specs.Gather.{gathered, read_by}
 use Rattle.cell_make.specs.Inputs.{Inputs}
@@ -173,3 +173,6 @@ end_told files old new form end told (got, inl came, ends) =
 -- where memory ran out, the call ends without a word
 pub short_end : (old new : View) (form : Option Form) (end : End) → end ≡ says status.NoMemory [] → MayEnd old new form end
 short_end old new form end is = (Err NoMemory, inr refl, is)
+
+pub short_reads : (old new : View) (end : End) → end ≡ says status.NoMemory [] → KeepsReadsOf old new end
+short_reads old new end is = λ other. absurd (other (rw is tt))

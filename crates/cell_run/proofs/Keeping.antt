@@ -8,10 +8,10 @@ use Rattle.cell_run.specs.declared.gather.GdsCell.{GdsCell}
 use Rattle.cell_run.specs.declared.gather.Material.{Material as Own}
 use Rattle.cell_run.specs.declared.gather.Material.TheVariants as held
 use Rattle.cell_run.specs.declared.refusal.Refusal.{Refusal}
-use Rattle.cell_run.specs.declared.refusal.Refusal.TheVariants.{NoMemory}
+use Rattle.cell_run.specs.declared.refusal.Refusal.TheVariants.{Words, Unread, Long, Tech, Spice, Fold, NoMemory}
 use Rattle.cell_run.specs.Bench.{BenchesTo}
 use Rattle.cell_run.specs.Check.{ChecksTo}
-use Rattle.cell_run.specs.Ends.{MayEnd, WorksTo, refused as refusal_end}
+use Rattle.cell_run.specs.Ends.{KeepsReadsOf, MayEnd, WorksTo, refused as refusal_end}
 use Rattle.cell_run.specs.Extract.{ExtractsTo}
 use Rattle.cell_run.specs.Gather.{checking_over, gathered}
 use Rattle.cell_make.specs.Inputs.{Inputs}
@@ -20,7 +20,7 @@ use Rattle.cell_run.specs.LogRead.{AreBegun, AreBehind, AreBehindAll}
 use Rattle.cell_run.specs.Make.{MakesTo}
 use Rattle.cell_run.specs.Material.{Benching, Checking, Extracting, Making, Material, Planning}
 use Rattle.cell_run.specs.Plan.{PlansTo}
-use Rattle.cell_run.specs.Read.{IsRead}
+use Rattle.cell_run.specs.Read.{IsRead, KeepsReads, KeepsReadsBut}
 use Rattle.cell_run.specs.Reading.{Reading, Ends, ◌>>=◌, MayCome, bytes_of}
 use Rattle.cell_run.specs.Sources.{LogFile, most_bytes}
 use Rattle.cell_run.specs.Words.{Bench, Form}
@@ -56,6 +56,25 @@ ends_refused old new form got e (Ok end) (Err wanted, came, kept) is told =
     let same : e ≡ wanted = subst (AreKept (Err wanted)) is kept in
     (Err wanted, came, subst (λ (x : Refusal). end ≡ refusal_end x) same told)
 ends_refused old new form got e (Ok end) (Ok wanted, came, kept) is told = absurd (subst (AreKept (Ok wanted)) is kept)
+
+-- ---- readings that failed
+
+reads_of : (e : Refusal) (a b : View) (end : End) → end ≡ refusal_end e → KeepsReadsBut e a b → KeepsReadsOf a b end
+reads_of (Unread name) a b end is kept = λ other. absurd (other (rw is tt))
+reads_of NoMemory a b end is kept = λ other. absurd (other (rw is tt))
+reads_of Words a b end is kept = λ other. kept
+reads_of (Long name) a b end is kept = λ other. kept
+reads_of (Tech f) a b end is kept = λ other. kept
+reads_of (Spice f) a b end is kept = λ other. kept
+reads_of (Fold f) a b end is kept = λ other. kept
+
+pub reads_worked : (a b : View) (got : Result Own Refusal) (own : Own) (r : Result End Short) → KeepsReads got a b → got ≡ Ok own → IfOk r (KeepsReadsOf a b)
+reads_worked a b got own (Err e) kept is = tt
+reads_worked a b got own (Ok end) kept is = λ other. subst (λ (x : Result Own Refusal). KeepsReads x a b) is kept
+
+pub reads_refused : (a b : View) (got : Result Own Refusal) (e : Refusal) (r : Result End Short) → KeepsReads got a b → got ≡ Err e → IfOk r (λ end. end ≡ refusal_end e) → IfOk r (KeepsReadsOf a b)
+reads_refused a b got e (Err f) kept is told = tt
+reads_refused a b got e (Ok end) kept is told = reads_of e a b end told (subst (λ (x : Result Own Refusal). KeepsReads x a b) is kept)
 
 -- ---- the log of a check
 

@@ -15,7 +15,6 @@ pub mod MadeFiles
 pub mod MakeEnds
 pub mod MakeSettled
 pub mod MakeTold
-pub mod Names
 pub mod Numbers
 pub mod Outcomes
 pub mod Planned

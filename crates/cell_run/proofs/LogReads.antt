@@ -30,6 +30,7 @@ use Rattle.cell_run.specs.declared.check.CheckAnswer.TheVariants.{Accepted}
 use Rattle.cell_run.specs.declared.end.End.{End}
 use Rattle.cell_run.specs.Check.{Checks, ChecksTo, check_end, misread_answer, rejected_answer}
 use Rattle.cell_make.specs.Inputs.{AreInputs, Inputs}
+use Rattle.cell_make.proofs.Names.{log_name}
 use Rattle.cell_run.specs.LogRead.{AreBegun, AreBehind, AreBehindAll, ForSeenLog, HasSeenLog, HaveRoom, IsBehindAll, no_log, with_items}
 use Rattle.cell_run.proofs.Checked.{accepted, misread_checks, rejected_checks}
 use Rattle.cell_run.proofs.LogItems.{log_again}
@@ -97,7 +98,7 @@ unit = tt
 -- the log of the bytes is what the reader's items tell, or its fault
 text_is : (inputs : Inputs) (bytes : List ℕ) (k : Kinds) (r : Reader) → AreInputs inputs → AreSomeKinds k → r ≡ (tale_of (begun inputs.cell.name k) bytes).reader → log_of bytes inputs.cell.name k ≡ ended r.fault r.place (log_told (tale_of (begun inputs.cell.name k) bytes).items)
 text_is inputs bytes k r are some_k is =
-    pieces.read_whole inputs.cell.name k bytes are.name some_k
+    pieces.read_whole inputs.cell.name k bytes (log_name inputs.cell.name are.cell) some_k
     ∙ ap (λ (q : Reader). ended q.fault q.place (log_told (tale_of (begun inputs.cell.name k) bytes).items)) (sym is)
 
 -- so it is of all bytes that may have come
@@ -110,7 +111,7 @@ misread_one inputs r c f result bytes are told is behind = by_kinds behind.log
     by_kinds : WithKinds inputs.fingers (IsBehindAll inputs bytes r c) → IfOk result (Checks inputs bytes)
     by_kinds (k, of_k, some_k, (at, seen)) =
         let wrong : log_of bytes inputs.cell.name k ≡ Err f = text_is inputs bytes k r are some_k at ∙ ended_err r.fault r.place unit (log_told (tale_of (begun inputs.cell.name k) bytes).items) f told in
-        misread_checks inputs bytes k f result of_k some_k (λ other. wrong) (λ other log fits. whole.refused bytes inputs.cell.name k f log are.name some_k wrong fits) is
+        misread_checks inputs bytes k f result of_k some_k (λ other. wrong) (λ other log fits. whole.refused bytes inputs.cell.name k f log (log_name inputs.cell.name are.cell) some_k wrong fits) is
 
 each_answer : (result : Result CheckAnswer NoMemory) (Says : List ℕ → CheckAnswer → Type 0) (May : List ℕ → Type 0) → ((bytes : List ℕ) → May bytes → IfOk result (Says bytes)) → IfOk result (λ answer. (bytes : List ℕ) → May bytes → Says bytes answer)
 each_answer (Ok answer) Says May each = each

@@ -12,7 +12,7 @@ use Rattle.cell_run.specs.declared.status.Status.TheVariants as status
 use Rattle.cell_run.specs.Calm.{IsCalm, IsDoneOrShort}
 use Rattle.cell_run.specs.Check.{HoldsAcceptedLog, IsCheck}
 use Rattle.cell_run.specs.Deliver.{GivesUp, MakesAll, MakesSome, OnlyTells, Says, Tells, TellsSome, TellsWhole}
-use Rattle.cell_run.specs.Ends.{CallsFor, EndsTo, IsOfOutside, MayEnd, is_among, is_status_of, outside_of, refused, settled_of}
+use Rattle.cell_run.specs.Ends.{CallsFor, EndsTo, IsOfOutside, KeepsReadsOf, MayEnd, is_among, is_status_of, outside_of, refused, settled_of}
 use Rattle.cell_run.specs.Gather.{gathered, read_by}
 use Rattle.cell_run.specs.Headline.{IsMake}
 use Rattle.cell_run.specs.Plan.{HasEnough}
@@ -51,6 +51,12 @@ pub answers : (a b c : View) (form : Option Form) (end : End) (answer : Status) 
 answers a b c form end answer x y (got, inl came, ends) tells =
     (end, (got, inl (came_between a a b c (gathered form) got refl (omega arith) (omega (arith, y.reads)) came), ends), tells_before end answer a b c x tells)
 answers a b c form end answer x y (got, inr short, ends) tells = (end, (got, inr short, ends), tells_before end answer a b c x tells)
+
+-- no reading failed, nor does telling the end read
+pub same_reads_told : (a b c : View) (end : End) (answer : Status) → KeepsReadsOf a b end → OnlyTells b c → Tells end answer b c → (IsOfOutside answer → ⊥) → c.read_faults ≡ a.read_faults
+same_reads_told a b c end answer kept only (inl (is, made, said)) other = only.reads ∙ kept (λ outside. other (subst IsOfOutside (sym is) outside))
+same_reads_told a b c end answer kept only (inr (inl (is, rose), some)) other = absurd (other (rw is tt))
+same_reads_told a b c end answer kept only (inr (inr (is, rose), some)) other = absurd (other (rw is tt))
 
 -- ---- files that are told
 

@@ -99,3 +99,7 @@ IsOfOutside status.ReadFault = Unit {0}
 IsOfOutside status.WriteFault = Unit {0}
 IsOfOutside status.NoMemory = Unit {0}
 IsOfOutside _ = ⊥
+
+-- no reading failed before an end with another status than these
+abbrev pub KeepsReadsOf : View → View → End → Type 0
+KeepsReadsOf old new end = (IsOfOutside end.status → ⊥) → new.read_faults ≡ old.read_faults

@@ -1,7 +1,8 @@
 -- The words of a call of the program.
-use Rattle.std.specs.Prelude.{ℕ, ◌==◌, ◌&&◌, ◌||◌, nat_le, Bool, List, [], ◌∷◌, Option, Some, None, length, map, find, option_map, codes, bytes_eq, decimal, String, string_bytes, if◌then◌else◌}
-use Rattle.std.specs.List.{list_all, range_with_len}
+use Rattle.std.specs.Prelude.{ℕ, ◌&&◌, nat_le, Bool, List, [], ◌∷◌, Option, Some, None, length, map, find, option_map, codes, bytes_eq, decimal, String, string_bytes, if◌then◌else◌}
+use Rattle.std.specs.List.{range_with_len}
 use Rattle.std.specs.declared.alloc.Global.{Global}
+use Rattle.cell_num.specs.Names.{is_cell}
 
 -- the words as bytes
 abbrev pub texts : List (String Global) → List (List ℕ)
@@ -21,16 +22,6 @@ pub data Form : Type 0 where
   Check : (cell : CellAsked) (log : List ℕ) → Form
   Extract : (tech : Option (List ℕ)) (gds cell : List ℕ) → Form
   Bench : (number : ℕ) → Form
-
--- a letter, a digit, `_`, `$` or `?`
-abbrev pub is_cell_byte : ℕ → Bool
-is_cell_byte b =
-    (nat_le 97 b && nat_le b 122) || (nat_le 65 b && nat_le b 90) || (nat_le 48 b && nat_le b 57)
-    || b == 95 || b == 36 || b == 63
-
--- the name of a cell: 1 to 32 such bytes
-abbrev pub is_cell : List ℕ → Bool
-is_cell name = nat_le 1 (length name) && nat_le (length name) 32 && list_all is_cell_byte name
 
 -- the name of a file: not empty
 abbrev pub is_file : List ℕ → Bool

@@ -1,4 +1,4 @@
-ghost use Rattle.std.specs.Prelude.{◌≡◌, ◌≤◌, ◌↔◌, ◌⊎◌, IfOk, IfSome, IsNone, IsTrue};
+ghost use Rattle.std.specs.Prelude.{◌≡◌, ◌≢◌, ◌≤◌, ◌↔◌, ◌⊎◌, IfOk, IfSome, IsNone, IsTrue};
 ghost use Rattle.cell_io.specs.Desk.{OnlyReads, Rose};
 ghost use Rattle.cell_run.specs.declared.end.End.{End as EndOf};
 ghost use Rattle.cell_run.specs.declared.status.Status.TheVariants as status;
@@ -6,7 +6,7 @@ ghost use Rattle.cell_run.specs.Bench.{IsBench, IsBenchTold, WhereBenchEnds};
 ghost use Rattle.cell_run.specs.Calm.{IfCalm, IsDoneOrShort};
 ghost use Rattle.cell_run.specs.Check.{HoldsAcceptedLog, IsCheck};
 ghost use Rattle.cell_run.specs.Deliver.{Tells, TellsWhole};
-ghost use Rattle.cell_run.specs.Ends.{CallsFor, IsOfOutside, MayEnd, is_status_of};
+ghost use Rattle.cell_run.specs.Ends.{CallsFor, IsOfOutside, KeepsReadsOf, MayEnd, is_status_of};
 ghost use Rattle.cell_run.specs.Extract.{BreaksRule, HasLayoutFault, HasNetlist, IsBrokenCell, IsExtractedCell, IsRefusedCell, OfGdsCell, WhereExtractEnds};
 ghost use Rattle.cell_run.specs.Gather.{read_by};
 ghost use Rattle.cell_run.specs.Headline.{CanBeDrawn, FromInputs, HasCycle, IsCyclicCell, IsMadeCell, IsMake, IsOrShort, IsSpentSearch, IsTallCell, IsTooHigh, MakesNone, OfFirstLeast, WhereMakeEnds};
@@ -28,6 +28,7 @@ use std::alloc::Global;
 // Gathers what the words ask for and does the work on it.
 fn end_of<D: Desk>(alloc: Global, words: &[String], desk: &mut D) -> Result<End, NoMemory>
     ensures ends { IfOk result (MayEnd (D.view desk.old) (D.view desk.new) (asked words.now)) }
+    ensures quiet { IfOk result (KeepsReadsOf (D.view desk.old) (D.view desk.new)) }
     ensures only { OnlyReads (D.view desk.old) (D.view desk.new) }
 {
     match gather(alloc, desk, form_of(words)) {
@@ -39,6 +40,7 @@ fn end_of<D: Desk>(alloc: Global, words: &[String], desk: &mut D) -> Result<End,
 // The same, with an end that says nothing where memory ran out.
 fn prepare<D: Desk>(alloc: Global, words: &[String], desk: &mut D) -> End
     ensures ends { MayEnd (D.view desk.old) (D.view desk.new) (asked words.now) result }
+    ensures quiet { KeepsReadsOf (D.view desk.old) (D.view desk.new) result }
     ensures only { OnlyReads (D.view desk.old) (D.view desk.new) }
 {
     match end_of(alloc, words, desk) {
@@ -87,6 +89,14 @@ pub fn run<D: Desk>(alloc: Global, words: &[String], desk: &mut D) -> Status
         → Rose (D.view desk.old).shorts (D.view desk.new).shorts
         ⊎ ((D.view desk.new).said ≡ (D.view desk.old).said) }
     ensures other { IsTrue (is_status_of (asked words.now) result) }
+
+    // A failing call of the desk ends the call: a count is as before wherever the status tells of no such failure.
+    // Behind a failed read, telling of it may fail in turn, or find no memory.
+    ensures same_reads { (IsOfOutside result → ⊥)
+        → (D.view desk.new).read_faults ≡ (D.view desk.old).read_faults }
+    ensures same_writes { result ≢ status.WriteFault
+        → (D.view desk.new).write_faults ≡ (D.view desk.old).write_faults }
+    ensures same_shorts { result ≢ status.NoMemory → (D.view desk.new).shorts ≡ (D.view desk.old).shorts }
 
     ensures given { (D.view desk.new).given ≡ (D.view desk.old).given }
     ensures read_count { (D.view desk.old).read_faults ≤ (D.view desk.new).read_faults }

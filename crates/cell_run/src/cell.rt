@@ -1,14 +1,12 @@
-ghost use Rattle.std.specs.Prelude.{◌≡◌, ◌≢◌, option_map, All, IfOk};
-ghost use Rattle.std.specs.List.{list_all};
-ghost use Rattle.cell_num.specs.Names.{lowered};
-ghost use Rattle.bound_log.specs.Fits.{IsLogName};
-ghost use Rattle.cell_run.specs.Words.{is_cell_byte, is_cell, tech_of, cell_of};
+ghost use Rattle.std.specs.Prelude.{◌≡◌, option_map, IfOk, IsTrue};
+ghost use Rattle.cell_num.specs.Names.{lowered, is_cell};
+ghost use Rattle.cell_run.specs.Words.{tech_of, cell_of};
 
-use cell_num::{Name, NoMemory, lower};
+use cell_num::{Name, NoMemory, is_cell, lower};
 use std::alloc::Global;
 use std::marker::Model;
 
-/// A cell that is asked for. Its name has 1 to 32 letters, digits, `_`, `$` or `?`.
+/// A cell that is asked for. Its name is one that [`is_cell`](cell_num::is_cell) takes.
 #[derive(Drop)]
 pub struct CellAsked<'a> {
     /// The technology's file; None is the plain technology.
@@ -19,7 +17,8 @@ pub struct CellAsked<'a> {
 
 impl<'a> Model for CellAsked<'a> {
     ghost use Rattle.std.specs.Prelude.{option_map, IsTrue};
-    ghost use Rattle.cell_run.specs.Words.{CellAsked as Asked, is_cell};
+    ghost use Rattle.cell_num.specs.Names.{is_cell};
+    ghost use Rattle.cell_run.specs.Words.{CellAsked as Asked};
 
     ghost Value = { Asked };
 
@@ -36,34 +35,10 @@ impl<'a> CellAsked<'a> {
     /// The cell's name in lower case.
     pub fn name(&self, alloc: Global) -> Result<Name, NoMemory>
         ensures lower { IfOk result (λ name. name ≡ lowered self.now.cell) }
-        ensures line { IfOk result (λ name. IsLogName name) }
-        ensures whole { IfOk result (λ name. All (λ byte. byte ≢ 0) name) }
+        ensures cell { IfOk result (λ name. IsTrue (is_cell name)) }
     {
         lower(alloc, self.cell.as_bytes())
     }
-}
-
-/// The most bytes of a cell's name.
-const MOST_CELL_BYTES: usize = 32;
-
-fn is_cell_byte(byte: u8) -> bool
-    ensures { result ≡ is_cell_byte byte }
-{
-    byte.is_ascii_alphanumeric() || byte == b'_' || byte == b'$' || byte == b'?'
-}
-
-fn are_cell_bytes(bytes: &[u8]) -> bool
-    ensures { result ≡ list_all is_cell_byte bytes.now }
-{
-    bytes.iter().all(|byte| is_cell_byte(*byte))
-}
-
-/// Whether a word can be the name of a cell.
-pub fn is_cell(name: &str) -> bool
-    ensures { result ≡ is_cell name.now }
-{
-    let bytes = name.as_bytes();
-    !bytes.is_empty() && bytes.len() <= MOST_CELL_BYTES && are_cell_bytes(bytes)
 }
 
 /// The technology's file, or None for the plain one.
@@ -77,7 +52,7 @@ pub fn tech_of(word: &str) -> Option<&str>
 pub fn cell_of<'a>(tech: &'a str, spice: &'a str, cell: &'a str) -> Option<CellAsked<'a>>
     ensures { result ≡ cell_of tech.now spice.now cell.now }
 {
-    if !tech.is_empty() && !spice.is_empty() && is_cell(cell) {
+    if !tech.is_empty() && !spice.is_empty() && is_cell(cell.as_bytes()) {
         Some(CellAsked {
             tech: tech_of(tech),
             spice,

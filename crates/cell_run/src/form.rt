@@ -2,8 +2,9 @@ ghost use Rattle.std.specs.Prelude.{◌≡◌, option_map};
 ghost use Rattle.cell_run.specs.Shown.{shown};
 ghost use Rattle.cell_run.specs.Words.{texts, plan_of, make_of, check_of, extract_of, bench_of, asked};
 
-use crate::cell::{CellAsked, cell_of, is_cell, tech_of};
+use crate::cell::{CellAsked, cell_of, tech_of};
 use crate::count::CellCount;
+use cell_num::is_cell;
 
 /// What a call of the program asks for.
 #[derive(Drop)]
@@ -92,7 +93,7 @@ fn extract_of(words: &[String]) -> Option<Form<'_>>
     let [tech, gds, cell] = words else {
         return None;
     };
-    if !tech.is_empty() && !gds.is_empty() && is_cell(cell.as_str()) {
+    if !tech.is_empty() && !gds.is_empty() && is_cell(cell.as_bytes()) {
         Some(Form::Extract {
             tech: tech_of(tech.as_str()),
             gds: gds.as_str(),

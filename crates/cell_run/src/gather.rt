@@ -2,6 +2,7 @@ ghost use Rattle.std.specs.Prelude.{◌≡◌, ◌≤◌, option_map};
 ghost use Rattle.cell_io.specs.Desk.{OnlyReads};
 ghost use Rattle.cell_run.specs.Gather.{gathered, planning, making, checking, checking_over, extracting, extracting_over};
 ghost use Rattle.cell_run.specs.Kept.{MayKeep};
+ghost use Rattle.cell_run.specs.Read.{KeepsReads};
 ghost use Rattle.cell_run.specs.Shown.{shown};
 
 use crate::cell::CellAsked;
@@ -56,6 +57,7 @@ fn with_log<D: Desk>(
     log: &str,
 ) -> Result<Material, Refusal>
     ensures comes { MayKeep (D.view desk.old) (D.view desk.new) (checking_over log.now inputs) result }
+    ensures quiet { KeepsReads result (D.view desk.old) (D.view desk.new) }
     ensures only { OnlyReads (D.view desk.old) (D.view desk.new) }
 {
     let mut checked = CheckedLog::new(alloc, &inputs)?;
@@ -69,6 +71,7 @@ fn for_plan<D: Desk>(
     asked: &CellAsked<'_>,
 ) -> Result<Material, Refusal>
     ensures comes { MayKeep (D.view desk.old) (D.view desk.new) (planning asked.now) result }
+    ensures quiet { KeepsReads result (D.view desk.old) (D.view desk.new) }
     ensures only { OnlyReads (D.view desk.old) (D.view desk.new) }
 {
     let inputs = read_inputs(alloc, desk, asked)?;
@@ -82,6 +85,7 @@ fn for_make<D: Desk>(
     out: &str,
 ) -> Result<Material, Refusal>
     ensures comes { MayKeep (D.view desk.old) (D.view desk.new) (making asked.now out.now) result }
+    ensures quiet { KeepsReads result (D.view desk.old) (D.view desk.new) }
     ensures only { OnlyReads (D.view desk.old) (D.view desk.new) }
 {
     let stem = Stem::new(alloc, out)?;
@@ -96,6 +100,7 @@ fn for_check<D: Desk>(
     log: &str,
 ) -> Result<Material, Refusal>
     ensures comes { MayKeep (D.view desk.old) (D.view desk.new) (checking asked.now log.now) result }
+    ensures quiet { KeepsReads result (D.view desk.old) (D.view desk.new) }
     ensures only { OnlyReads (D.view desk.old) (D.view desk.new) }
 {
     let inputs = read_inputs(alloc, desk, asked)?;
@@ -110,6 +115,7 @@ fn with_gds<D: Desk>(
     cell: &str,
 ) -> Result<Material, Refusal>
     ensures comes { MayKeep (D.view desk.old) (D.view desk.new) (extracting_over gds.now cell.now tech) result }
+    ensures quiet { KeepsReads result (D.view desk.old) (D.view desk.new) }
     ensures only { OnlyReads (D.view desk.old) (D.view desk.new) }
 {
     let name = copy(alloc, cell.as_bytes())?;
@@ -126,6 +132,7 @@ fn for_extract<D: Desk>(
 ) -> Result<Material, Refusal>
     ensures comes { MayKeep (D.view desk.old) (D.view desk.new)
         (extracting (option_map (λ name. name.now) tech.entry) gds.now cell.now) result }
+    ensures quiet { KeepsReads result (D.view desk.old) (D.view desk.new) }
     ensures only { OnlyReads (D.view desk.old) (D.view desk.new) }
 {
     let tech = read_technology(alloc, desk, tech)?;
@@ -139,6 +146,7 @@ pub fn gather<D: Desk>(
     form: Option<Form<'_>>,
 ) -> Result<Material, Refusal>
     ensures comes { MayKeep (D.view desk.old) (D.view desk.new) (gathered (option_map shown form.entry)) result }
+    ensures quiet { KeepsReads result (D.view desk.old) (D.view desk.new) }
     ensures only { OnlyReads (D.view desk.old) (D.view desk.new) }
 {
     match form {

@@ -1,10 +1,11 @@
-ghost use Rattle.std.specs.Prelude.{◌≡◌, ◌≢◌, ◌≤◌, length, option_map, Some, Ok, Err, All, IfOk, IfErr};
+ghost use Rattle.std.specs.Prelude.{◌≡◌, ◌≢◌, ◌≤◌, length, option_map, Some, Ok, Err, IfOk, IfErr, IsTrue};
 ghost use Rattle.cell_io.specs.Desk.{OnlyReads};
+ghost use Rattle.cell_num.specs.Names.{is_cell};
 ghost use Rattle.tech_file.specs.Reading.{technology};
-ghost use Rattle.bound_log.specs.Fits.{IsLogName};
 ghost use Rattle.cell_run.specs.declared.refusal.Refusal.TheVariants as refused;
 ghost use Rattle.cell_run.specs.Gather.{technology_from, inputs_from, inputs_over};
 ghost use Rattle.cell_run.specs.Inputs.{inputs_in};
+ghost use Rattle.cell_run.specs.Read.{KeepsReads};
 ghost use Rattle.cell_run.specs.Reading.{MayCome};
 ghost use Rattle.cell_run.specs.Refusals.{as_refusal};
 
@@ -13,14 +14,14 @@ use crate::read::{Source, read_file};
 use crate::refusal::Refusal;
 use cell_io::Desk;
 use cell_make::Inputs;
-use cell_num::Name;
+use cell_num::{MOST_BYTES, Name};
 use finger_fold::fold;
 use spice_net::read_cell;
 use std::alloc::Global;
 use tech_file::{Tech, read_tech};
 
 fn technology_in(alloc: Global, bytes: &[u8]) -> Result<Tech, Refusal>
-    requires { length bytes.now ≤ 1073741824 }
+    requires { length bytes.now ≤ MOST_BYTES }
     ensures technology { IfOk result (λ tech. as_refusal refused.Tech (technology bytes.now) ≡ Ok tech) }
     ensures refusal { IfErr result
         (λ e. e ≢ refused.NoMemory → as_refusal refused.Tech (technology bytes.now) ≡ Err e) }
@@ -30,6 +31,7 @@ fn technology_in(alloc: Global, bytes: &[u8]) -> Result<Tech, Refusal>
 
 fn read_tech_file<D: Desk>(alloc: Global, desk: &mut D, name: &str) -> Result<Tech, Refusal>
     ensures comes { MayCome (D.view desk.old) (D.view desk.new) (technology_from (Some name.now)) result }
+    ensures quiet { KeepsReads result (D.view desk.old) (D.view desk.new) }
     ensures only { OnlyReads (D.view desk.old) (D.view desk.new) }
 {
     let bytes = read_file(alloc, desk, Source::Tech(name))?;
@@ -44,6 +46,7 @@ pub fn read_technology<D: Desk>(
 ) -> Result<Tech, Refusal>
     ensures comes { MayCome (D.view desk.old) (D.view desk.new)
         (technology_from (option_map (λ name. name.now) file.entry)) result }
+    ensures quiet { KeepsReads result (D.view desk.old) (D.view desk.new) }
     ensures only { OnlyReads (D.view desk.old) (D.view desk.new) }
 {
     match file {
@@ -54,9 +57,8 @@ pub fn read_technology<D: Desk>(
 
 // The subcircuit of a name in the bytes of a SPICE file, and its fingers.
 fn inputs_in(alloc: Global, bytes: &[u8], name: &Name, tech: Tech) -> Result<Inputs, Refusal>
-    requires few { length bytes.now ≤ 1073741824 }
-    requires name { IsLogName name.now }
-    requires whole { All (λ byte. byte ≢ 0) name.now }
+    requires few { length bytes.now ≤ MOST_BYTES }
+    requires cell { IsTrue (is_cell name.now) }
     ensures inputs { IfOk result (λ inputs. inputs_in bytes.now name.now tech ≡ Ok inputs) }
     ensures refusal { IfErr result (λ e. e ≢ refused.NoMemory → inputs_in bytes.now name.now tech ≡ Err e) }
 {
@@ -78,6 +80,7 @@ fn inputs_over<D: Desk>(
     tech: Tech,
 ) -> Result<Inputs, Refusal>
     ensures comes { MayCome (D.view desk.old) (D.view desk.new) (inputs_over asked.now tech) result }
+    ensures quiet { KeepsReads result (D.view desk.old) (D.view desk.new) }
     ensures only { OnlyReads (D.view desk.old) (D.view desk.new) }
 {
     let bytes = read_file(alloc, desk, Source::Spice(asked.spice))?;
@@ -92,6 +95,7 @@ pub fn read_inputs<D: Desk>(
     asked: &CellAsked<'_>,
 ) -> Result<Inputs, Refusal>
     ensures comes { MayCome (D.view desk.old) (D.view desk.new) (inputs_from asked.now) result }
+    ensures quiet { KeepsReads result (D.view desk.old) (D.view desk.new) }
     ensures only { OnlyReads (D.view desk.old) (D.view desk.new) }
 {
     let tech = read_technology(alloc, desk, asked.tech)?;

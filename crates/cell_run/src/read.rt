@@ -1,11 +1,11 @@
 ghost use Rattle.std.specs.Prelude.{◌≡◌, ◌≤◌, ℕ, List as Sequence, Err, IfErr, Ok, OnOk, length};
 ghost use Rattle.cell_io.specs.Desk.{OnlyReads};
-ghost use Rattle.cell_run.specs.Read.{named, IsRead};
+ghost use Rattle.cell_run.specs.Read.{named, IsRead, KeepsReads};
 ghost use Rattle.cell_run.specs.Sources.{file_name, most_bytes};
 
 use crate::refusal::Refusal;
 use cell_io::{Desk, ReadFault, Sink, read_into};
-use cell_num::copy;
+use cell_num::{MOST_BYTES, copy};
 use std::alloc::Global;
 use std::marker::Model;
 
@@ -17,18 +17,19 @@ pub struct FileBytes {
 
 impl Model for FileBytes {
     ghost use Rattle.std.specs.Prelude.{ℕ, ◌≤◌, List, length};
+    ghost use Rattle.cell_num.specs.declared.limits.TheConstants.{MOST_BYTES};
 
     ghost Value = { List ℕ };
 
     ghost view = { λ b. b.bytes.items };
 
-    ghost invariant = { λ b. length b.bytes.items ≤ 1073741824 };
+    ghost invariant = { λ b. length b.bytes.items ≤ MOST_BYTES };
 }
 
 impl FileBytes {
     pub fn as_slice(&self) -> &[u8]
         ensures bytes { result.now ≡ self.now }
-        ensures few { length result.now ≤ 1073741824 }
+        ensures few { length result.now ≤ MOST_BYTES }
     {
         self.bytes.as_slice()
     }
@@ -53,7 +54,7 @@ fn file_name(source: Source<'_>) -> &str
 
 fn most_bytes(source: Source<'_>) -> u64
     ensures is { result ≡ most_bytes (named source.entry) }
-    ensures few { result ≤ 1073741824 }
+    ensures few { result ≤ MOST_BYTES }
 {
     match source {
         Source::Tech(_) | Source::Spice(_) => 4_194_304,
@@ -74,6 +75,7 @@ pub fn read_to<D: Desk, S: Sink>(
         × (length bytes ≤ most_bytes (named source.entry))
         × IsRead (D.view desk.old) (D.view desk.new) (named source.entry) (Ok bytes)) }
     ensures refused { IfErr result (λ e. IsRead (D.view desk.old) (D.view desk.new) (named source.entry) (Err e)) }
+    ensures quiet { KeepsReads result (D.view desk.old) (D.view desk.new) }
     ensures only { OnlyReads (D.view desk.old) (D.view desk.new) }
 {
     let name = file_name(source);
@@ -96,6 +98,7 @@ pub fn read_file<D: Desk>(
     source: Source<'_>,
 ) -> Result<FileBytes, Refusal>
     ensures reads { IsRead (D.view desk.old) (D.view desk.new) (named source.entry) result }
+    ensures quiet { KeepsReads result (D.view desk.old) (D.view desk.new) }
     ensures only { OnlyReads (D.view desk.old) (D.view desk.new) }
 {
     let mut bytes = Vec::new(alloc);

@@ -1,2 +1,3 @@
 pub mod Giving
 pub mod Ready
+pub mod Targets

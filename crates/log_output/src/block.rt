@@ -1,9 +1,11 @@
-ghost use Rattle.std.specs.Prelude.{◌≡◌, ◌≤◌, ◌+◌, [], ◌++◌, IfOk, IsErrOf, IsTrue, OnErr, OnOk, length, option_map};
+ghost use Rattle.std.specs.Prelude.{◌≡◌, ◌≤◌, ◌+◌, [], ◌++◌, IfOk, IsErrOf, IsTrue, OnErr, OnOk, length};
 ghost use Rattle.cell_io.specs.Desk.{Rose};
 ghost use Rattle.cell_io.specs.Output.{CanPut};
 ghost use Rattle.cell_io.specs.declared.output.WriteFault.TheVariants.{Failed, NoMemory as Short};
 ghost use Rattle.log_output.specs.Giving.{Gives, GivesSome, KeepsUntold, OnlyPuts};
+ghost use Rattle.log_output.specs.Targets.{place_of};
 
+use crate::target::Target;
 use cell_io::{Desk, WriteFault, append_all, say_all};
 use cell_num::{NoMemory, Room};
 use std::alloc::Global;
@@ -12,8 +14,8 @@ use std::marker::Model;
 /// The most bytes of a block.
 const MOST_BLOCK_BYTES: usize = 65_536;
 
-/// Lines on their way to a file, or, where none is named, to what is said. They gather here in memory that was
-/// taken before, since a desk may open and close the file for each piece that it is given.
+/// Lines on their way to a file or to what is said. They gather here in memory that was taken before, since a desk
+/// may open and close the file for each piece that it is given.
 #[derive(Drop)]
 pub struct Block {
     bytes: Room<u8>,
@@ -31,20 +33,18 @@ impl Model for Block {
 
 // Puts all the bytes there.
 #[tactic(auto, using(crate::proofs::Giving::gives_all, crate::proofs::Giving::gives_some, crate::proofs::Giving::keeps_untold))]
-pub fn put<D: Desk>(desk: &mut D, file: Option<&str>, bytes: &[u8]) -> Result<(), WriteFault>
-    requires { CanPut (option_map (λ name. name.now) file) (D.view desk.old) }
-    ensures all { OnOk result
-        (Gives (option_map (λ name. name.now) file.entry) bytes.now [] (D.view desk.old) (D.view desk.new)) }
-    ensures some { OnErr result
-        (GivesSome (option_map (λ name. name.now) file.entry) bytes.now (D.view desk.old) (D.view desk.new)) }
+pub fn put<D: Desk>(desk: &mut D, target: Target<'_>, bytes: &[u8]) -> Result<(), WriteFault>
+    requires { CanPut (place_of target) (D.view desk.old) }
+    ensures all { OnOk result (Gives (place_of target.entry) bytes.now [] (D.view desk.old) (D.view desk.new)) }
+    ensures some { OnErr result (GivesSome (place_of target.entry) bytes.now (D.view desk.old) (D.view desk.new)) }
     ensures failed { IsErrOf result Failed → Rose (D.view desk.old).write_faults (D.view desk.new).write_faults }
     ensures memory { IsErrOf result Short → Rose (D.view desk.old).shorts (D.view desk.new).shorts }
     ensures counts { KeepsUntold result (D.view desk.old) (D.view desk.new) }
-    ensures only { OnlyPuts (option_map (λ name. name.now) file.entry) (D.view desk.old) (D.view desk.new) }
+    ensures only { OnlyPuts (place_of target.entry) (D.view desk.old) (D.view desk.new) }
 {
-    match file {
-        Some(name) => append_all(desk, name, bytes),
-        None => say_all(desk, bytes),
+    match target {
+        Target::File(name) => append_all(desk, name, bytes),
+        Target::Report => say_all(desk, bytes),
     }
 }
 
@@ -73,20 +73,19 @@ impl Block {
     }
 
     /// Puts what has gathered there, and is empty.
-    pub fn flush<D: Desk>(&mut self, desk: &mut D, file: Option<&str>) -> Result<(), WriteFault>
-        requires { CanPut (option_map (λ name. name.now) file) (D.view desk.old) }
+    pub fn flush<D: Desk>(&mut self, desk: &mut D, target: Target<'_>) -> Result<(), WriteFault>
+        requires { CanPut (place_of target) (D.view desk.old) }
         ensures all { OnOk result
-            (Gives (option_map (λ name. name.now) file.entry) self.old self.new (D.view desk.old) (D.view desk.new)) }
+            (Gives (place_of target.entry) self.old self.new (D.view desk.old) (D.view desk.new)) }
         ensures empty { OnOk result (self.new ≡ []) }
-        ensures some { OnErr result
-            (GivesSome (option_map (λ name. name.now) file.entry) self.old (D.view desk.old) (D.view desk.new)) }
+        ensures some { OnErr result (GivesSome (place_of target.entry) self.old (D.view desk.old) (D.view desk.new)) }
         ensures failed { IsErrOf result Failed
             → Rose (D.view desk.old).write_faults (D.view desk.new).write_faults }
         ensures memory { IsErrOf result Short → Rose (D.view desk.old).shorts (D.view desk.new).shorts }
         ensures counts { KeepsUntold result (D.view desk.old) (D.view desk.new) }
-        ensures only { OnlyPuts (option_map (λ name. name.now) file.entry) (D.view desk.old) (D.view desk.new) }
+        ensures only { OnlyPuts (place_of target.entry) (D.view desk.old) (D.view desk.new) }
     {
-        put(desk, file, self.bytes.as_slice())?;
+        put(desk, target, self.bytes.as_slice())?;
         self.bytes.clear();
         Ok(())
     }
@@ -96,29 +95,29 @@ impl Block {
     pub fn add<D: Desk>(
         &mut self,
         desk: &mut D,
-        file: Option<&str>,
+        target: Target<'_>,
         line: &[u8],
     ) -> Result<(), WriteFault>
-        requires { CanPut (option_map (λ name. name.now) file) (D.view desk.old) }
-        ensures all { OnOk result (Gives (option_map (λ name. name.now) file.entry) (self.old ++ line.now) self.new
+        requires { CanPut (place_of target) (D.view desk.old) }
+        ensures all { OnOk result (Gives (place_of target.entry) (self.old ++ line.now) self.new
             (D.view desk.old) (D.view desk.new)) }
-        ensures some { OnErr result (GivesSome (option_map (λ name. name.now) file.entry) (self.old ++ line.now)
+        ensures some { OnErr result (GivesSome (place_of target.entry) (self.old ++ line.now)
             (D.view desk.old) (D.view desk.new)) }
         ensures failed { IsErrOf result Failed
             → Rose (D.view desk.old).write_faults (D.view desk.new).write_faults }
         ensures memory { IsErrOf result Short → Rose (D.view desk.old).shorts (D.view desk.new).shorts }
         ensures counts { KeepsUntold result (D.view desk.old) (D.view desk.new) }
-        ensures only { OnlyPuts (option_map (λ name. name.now) file.entry) (D.view desk.old) (D.view desk.new) }
+        ensures only { OnlyPuts (place_of target.entry) (D.view desk.old) (D.view desk.new) }
     {
         if self.has_room(line) {
             self.gather(line);
             return Ok(());
         }
-        self.flush(desk, file)?;
+        self.flush(desk, target)?;
         if self.has_room(line) {
             self.gather(line);
             return Ok(());
         }
-        put(desk, file, line)
+        put(desk, target, line)
     }
 }

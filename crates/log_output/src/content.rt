@@ -1,11 +1,13 @@
-ghost use Rattle.std.specs.Prelude.{◌≡◌, ◌≤◌, [], ◌++◌, IsErrOf, OnErr, OnOk, option_map};
+ghost use Rattle.std.specs.Prelude.{◌≡◌, ◌≤◌, [], ◌++◌, IsErrOf, OnErr, OnOk};
 ghost use Rattle.cell_io.specs.Desk.{Rose};
 ghost use Rattle.cell_io.specs.Output.{CanPut};
 ghost use Rattle.cell_io.specs.declared.output.WriteFault.TheVariants.{Failed, NoMemory};
 ghost use Rattle.log_output.specs.Giving.{Gives, GivesSome, KeepsUntold, OnlyPuts};
+ghost use Rattle.log_output.specs.Targets.{place_of};
 
 use crate::block::put;
 use crate::log_text::LogText;
+use crate::target::Target;
 use cell_io::{Desk, WriteFault};
 use cell_num::Bytes;
 use std::alloc::Global;
@@ -50,24 +52,22 @@ impl Content {
         }
     }
 
-    /// Puts all of it at the end of the file, or, where none is named, says it.
+    /// Puts all of it at the end of the file, or says it.
     #[tactic(auto, using(crate::proofs::Giving::some_wider, crate::proofs::Giving::some_more, crate::proofs::Giving::gives_more, crate::proofs::Giving::can_still, crate::proofs::Giving::only_more, crate::proofs::Giving::failed_behind, crate::proofs::Giving::short_behind, crate::proofs::Giving::untold_behind, crate::proofs::Giving::quiet_none))]
-    pub fn give<D: Desk>(self, desk: &mut D, file: Option<&str>) -> Result<(), WriteFault>
-        requires { CanPut (option_map (λ name. name.now) file) (D.view desk.old) }
-        ensures all { OnOk result
-            (Gives (option_map (λ name. name.now) file.entry) self [] (D.view desk.old) (D.view desk.new)) }
-        ensures some { OnErr result
-            (GivesSome (option_map (λ name. name.now) file.entry) self (D.view desk.old) (D.view desk.new)) }
+    pub fn give<D: Desk>(self, desk: &mut D, target: Target<'_>) -> Result<(), WriteFault>
+        requires { CanPut (place_of target) (D.view desk.old) }
+        ensures all { OnOk result (Gives (place_of target.entry) self [] (D.view desk.old) (D.view desk.new)) }
+        ensures some { OnErr result (GivesSome (place_of target.entry) self (D.view desk.old) (D.view desk.new)) }
         ensures failed { IsErrOf result Failed
             → Rose (D.view desk.old).write_faults (D.view desk.new).write_faults }
         ensures memory { IsErrOf result NoMemory → Rose (D.view desk.old).shorts (D.view desk.new).shorts }
         ensures counts { KeepsUntold result (D.view desk.old) (D.view desk.new) }
-        ensures only { OnlyPuts (option_map (λ name. name.now) file.entry) (D.view desk.old) (D.view desk.new) }
+        ensures only { OnlyPuts (place_of target.entry) (D.view desk.old) (D.view desk.new) }
     {
         let Content { bytes, log } = self;
-        put(desk, file, bytes.as_slice())?;
+        put(desk, target, bytes.as_slice())?;
         match log {
-            Some(log) => log.give(desk, file),
+            Some(log) => log.give(desk, target),
             None => Ok(()),
         }
     }

@@ -5,10 +5,12 @@ mod block;
 mod content;
 mod kept_log;
 mod log_text;
+mod target;
 
 pub use content::Content;
 pub use kept_log::KeptLog;
 pub use log_text::LogText;
+pub use target::Target;
 
 #[cfg(test)]
 mod tests;

@@ -1,4 +1,4 @@
-ghost use Rattle.std.specs.Prelude.{◌≡◌, ◌≤◌, [], ◌++◌, All, IfOk, IfSome, IsErrOf, OnErr, OnOk, option_map};
+ghost use Rattle.std.specs.Prelude.{◌≡◌, ◌≤◌, [], ◌++◌, All, IfOk, IfSome, IsErrOf, OnErr, OnOk};
 ghost use Rattle.std.specs.List.{flat_map};
 ghost use Rattle.cell_io.specs.Desk.{Rose};
 ghost use Rattle.cell_io.specs.Output.{CanPut};
@@ -7,9 +7,11 @@ ghost use Rattle.bound_log.specs.Fits.{BestFits, Fits, ForSome, IsLogName, Lemma
 ghost use Rattle.bound_log.specs.Text.{best_text, column_line, lemma_line, log_text};
 ghost use Rattle.row_search.specs.Kept.{HasRoom};
 ghost use Rattle.log_output.specs.Giving.{Gives, GivesSome, KeepsUntold, OnlyPuts};
+ghost use Rattle.log_output.specs.Targets.{place_of};
 
 use crate::block::Block;
 use crate::kept_log::KeptLog;
+use crate::target::Target;
 use bound_log::{Best, Lemma, LineWriter, LogStep};
 use cell_io::{Desk, WriteFault};
 use cell_num::{Name, NoMemory, copy};
@@ -43,27 +45,27 @@ impl Model for LogText {
 #[tactic(auto, using(crate::proofs::Fitting::lemma_fits, crate::proofs::Giving::can_still, crate::proofs::Giving::only_none, crate::proofs::Giving::only_more, crate::proofs::Giving::failed_behind, crate::proofs::Giving::short_behind, crate::proofs::Giving::untold_behind, crate::proofs::Giving::quiet_none))]
 fn give_lemmas<D: Desk>(
     desk: &mut D,
-    file: Option<&str>,
+    target: Target<'_>,
     block: &mut Block,
     lines: &mut LineWriter,
     kept: &Kept,
     lemma: &mut Lemma,
 ) -> Result<(), WriteFault>
-    requires place { CanPut (option_map (λ name. name.now) file) (D.view desk.old) }
+    requires place { CanPut (place_of target) (D.view desk.old) }
     requires fits { ForSome (λ k. All (LemmaFits k) kept.now) }
     requires room { All (HasRoom lemma.old) kept.now }
-    ensures all { OnOk result (Gives (option_map (λ name. name.now) file.entry)
+    ensures all { OnOk result (Gives (place_of target.entry)
         (block.old ++ flat_map lemma_line kept.now) block.new (D.view desk.old) (D.view desk.new)) }
-    ensures some { OnErr result (GivesSome (option_map (λ name. name.now) file.entry)
+    ensures some { OnErr result (GivesSome (place_of target.entry)
         (block.old ++ flat_map lemma_line kept.now) (D.view desk.old) (D.view desk.new)) }
     ensures failed { IsErrOf result Failed → Rose (D.view desk.old).write_faults (D.view desk.new).write_faults }
     ensures memory { IsErrOf result Short → Rose (D.view desk.old).shorts (D.view desk.new).shorts }
     ensures counts { KeepsUntold result (D.view desk.old) (D.view desk.new) }
-    ensures only { OnlyPuts (option_map (λ name. name.now) file.entry) (D.view desk.old) (D.view desk.new) }
+    ensures only { OnlyPuts (place_of target.entry) (D.view desk.old) (D.view desk.new) }
 {
     'lemmas: for at in 0..kept.len() {
         kept.fetch(at, lemma);
-        block.add(desk, file, lines.lemma(lemma))?;
+        block.add(desk, target, lines.lemma(lemma))?;
     }
     Ok(())
 }
@@ -71,24 +73,24 @@ fn give_lemmas<D: Desk>(
 #[tactic(auto, using(crate::proofs::Fitting::step_fits, crate::proofs::Giving::can_still, crate::proofs::Giving::only_none, crate::proofs::Giving::only_more, crate::proofs::Giving::failed_behind, crate::proofs::Giving::short_behind, crate::proofs::Giving::untold_behind, crate::proofs::Giving::quiet_none))]
 fn give_columns<D: Desk>(
     desk: &mut D,
-    file: Option<&str>,
+    target: Target<'_>,
     block: &mut Block,
     lines: &mut LineWriter,
     steps: &[LogStep],
 ) -> Result<(), WriteFault>
-    requires place { CanPut (option_map (λ name. name.now) file) (D.view desk.old) }
+    requires place { CanPut (place_of target) (D.view desk.old) }
     requires fits { ForSome (λ k. All (StepFits k) steps.now) }
-    ensures all { OnOk result (Gives (option_map (λ name. name.now) file.entry)
+    ensures all { OnOk result (Gives (place_of target.entry)
         (block.old ++ flat_map column_line steps.now) block.new (D.view desk.old) (D.view desk.new)) }
-    ensures some { OnErr result (GivesSome (option_map (λ name. name.now) file.entry)
+    ensures some { OnErr result (GivesSome (place_of target.entry)
         (block.old ++ flat_map column_line steps.now) (D.view desk.old) (D.view desk.new)) }
     ensures failed { IsErrOf result Failed → Rose (D.view desk.old).write_faults (D.view desk.new).write_faults }
     ensures memory { IsErrOf result Short → Rose (D.view desk.old).shorts (D.view desk.new).shorts }
     ensures counts { KeepsUntold result (D.view desk.old) (D.view desk.new) }
-    ensures only { OnlyPuts (option_map (λ name. name.now) file.entry) (D.view desk.old) (D.view desk.new) }
+    ensures only { OnlyPuts (place_of target.entry) (D.view desk.old) (D.view desk.new) }
 {
     'steps: for step in steps {
-        block.add(desk, file, lines.column(step))?;
+        block.add(desk, target, lines.column(step))?;
     }
     Ok(())
 }
@@ -96,56 +98,56 @@ fn give_columns<D: Desk>(
 #[tactic(auto, using(crate::proofs::Fitting::few_gaps, crate::proofs::Fitting::steps_fit, crate::proofs::Giving::can_still, crate::proofs::Giving::only_none, crate::proofs::Giving::only_more, crate::proofs::Giving::failed_behind, crate::proofs::Giving::short_behind, crate::proofs::Giving::untold_behind, crate::proofs::Giving::quiet_none))]
 fn give_best<D: Desk>(
     desk: &mut D,
-    file: Option<&str>,
+    target: Target<'_>,
     block: &mut Block,
     lines: &mut LineWriter,
     best: &Option<Best>,
 ) -> Result<(), WriteFault>
-    requires place { CanPut (option_map (λ name. name.now) file) (D.view desk.old) }
+    requires place { CanPut (place_of target) (D.view desk.old) }
     requires fits { ForSome (λ k. IfSome best.now (BestFits k)) }
-    ensures all { OnOk result (Gives (option_map (λ name. name.now) file.entry)
+    ensures all { OnOk result (Gives (place_of target.entry)
         (block.old ++ best_text best.now) block.new (D.view desk.old) (D.view desk.new)) }
-    ensures some { OnErr result (GivesSome (option_map (λ name. name.now) file.entry)
+    ensures some { OnErr result (GivesSome (place_of target.entry)
         (block.old ++ best_text best.now) (D.view desk.old) (D.view desk.new)) }
     ensures failed { IsErrOf result Failed → Rose (D.view desk.old).write_faults (D.view desk.new).write_faults }
     ensures memory { IsErrOf result Short → Rose (D.view desk.old).shorts (D.view desk.new).shorts }
     ensures counts { KeepsUntold result (D.view desk.old) (D.view desk.new) }
-    ensures only { OnlyPuts (option_map (λ name. name.now) file.entry) (D.view desk.old) (D.view desk.new) }
+    ensures only { OnlyPuts (place_of target.entry) (D.view desk.old) (D.view desk.new) }
 {
     let Some(best) = best else {
-        return block.add(desk, file, lines.unfinished());
+        return block.add(desk, target, lines.unfinished());
     };
-    block.add(desk, file, lines.best(best.gaps))?;
-    give_columns(desk, file, block, lines, best.steps.as_slice())
+    block.add(desk, target, lines.best(best.gaps))?;
+    give_columns(desk, target, block, lines, best.steps.as_slice())
 }
 
 #[tactic(auto, using(crate::proofs::Fitting::version_fits, crate::proofs::Fitting::lemmas_fit, crate::proofs::Fitting::best_fits, crate::proofs::Giving::can_still, crate::proofs::Giving::only_none, crate::proofs::Giving::only_more, crate::proofs::Giving::failed_behind, crate::proofs::Giving::short_behind, crate::proofs::Giving::untold_behind, crate::proofs::Giving::quiet_none))]
 fn give_lines<D: Desk>(
     desk: &mut D,
-    file: Option<&str>,
+    target: Target<'_>,
     block: &mut Block,
     lines: &mut LineWriter,
     lemma: &mut Lemma,
     name: &Name,
     log: &KeptLog,
 ) -> Result<(), WriteFault>
-    requires place { CanPut (option_map (λ name. name.now) file) (D.view desk.old) }
+    requires place { CanPut (place_of target) (D.view desk.old) }
     requires name { IsLogName name.now }
     requires fits { ForSome (λ k. Fits k log.now) }
     requires room { All (HasRoom lemma.old) log.now.lemmas }
-    ensures all { OnOk result (Gives (option_map (λ name. name.now) file.entry)
+    ensures all { OnOk result (Gives (place_of target.entry)
         (block.old ++ log_text name.now log.now) block.new (D.view desk.old) (D.view desk.new)) }
-    ensures some { OnErr result (GivesSome (option_map (λ name. name.now) file.entry)
+    ensures some { OnErr result (GivesSome (place_of target.entry)
         (block.old ++ log_text name.now log.now) (D.view desk.old) (D.view desk.new)) }
     ensures failed { IsErrOf result Failed → Rose (D.view desk.old).write_faults (D.view desk.new).write_faults }
     ensures memory { IsErrOf result Short → Rose (D.view desk.old).shorts (D.view desk.new).shorts }
     ensures counts { KeepsUntold result (D.view desk.old) (D.view desk.new) }
-    ensures only { OnlyPuts (option_map (λ name. name.now) file.entry) (D.view desk.old) (D.view desk.new) }
+    ensures only { OnlyPuts (place_of target.entry) (D.view desk.old) (D.view desk.new) }
 {
-    block.add(desk, file, lines.head(log.version, name))?;
-    give_lemmas(desk, file, block, lines, &log.kept, lemma)?;
-    give_best(desk, file, block, lines, &log.best)?;
-    block.add(desk, file, lines.last())
+    block.add(desk, target, lines.head(log.version, name))?;
+    give_lemmas(desk, target, block, lines, &log.kept, lemma)?;
+    give_best(desk, target, block, lines, &log.best)?;
+    block.add(desk, target, lines.last())
 }
 
 impl LogText {
@@ -165,20 +167,17 @@ impl LogText {
         })
     }
 
-    /// Puts the text at the end of the file, or, where none is named, says it. It takes no memory but what the
-    /// desk itself takes.
+    /// Puts the text at the end of the file, or says it. It takes no memory but what the desk itself takes.
     #[tactic(auto, using(crate::proofs::Giving::can_still, crate::proofs::Giving::only_none, crate::proofs::Giving::only_more, crate::proofs::Giving::failed_behind, crate::proofs::Giving::short_behind, crate::proofs::Giving::untold_behind, crate::proofs::Giving::quiet_none))]
-    pub fn give<D: Desk>(self, desk: &mut D, file: Option<&str>) -> Result<(), WriteFault>
-        requires { CanPut (option_map (λ name. name.now) file) (D.view desk.old) }
-        ensures all { OnOk result
-            (Gives (option_map (λ name. name.now) file.entry) self [] (D.view desk.old) (D.view desk.new)) }
-        ensures some { OnErr result
-            (GivesSome (option_map (λ name. name.now) file.entry) self (D.view desk.old) (D.view desk.new)) }
+    pub fn give<D: Desk>(self, desk: &mut D, target: Target<'_>) -> Result<(), WriteFault>
+        requires { CanPut (place_of target) (D.view desk.old) }
+        ensures all { OnOk result (Gives (place_of target.entry) self [] (D.view desk.old) (D.view desk.new)) }
+        ensures some { OnErr result (GivesSome (place_of target.entry) self (D.view desk.old) (D.view desk.new)) }
         ensures failed { IsErrOf result Failed
             → Rose (D.view desk.old).write_faults (D.view desk.new).write_faults }
         ensures memory { IsErrOf result Short → Rose (D.view desk.old).shorts (D.view desk.new).shorts }
         ensures counts { KeepsUntold result (D.view desk.old) (D.view desk.new) }
-        ensures only { OnlyPuts (option_map (λ name. name.now) file.entry) (D.view desk.old) (D.view desk.new) }
+        ensures only { OnlyPuts (place_of target.entry) (D.view desk.old) (D.view desk.new) }
     {
         let LogText {
             name,
@@ -187,7 +186,9 @@ impl LogText {
             mut lines,
             mut block,
         } = self;
-        give_lines(desk, file, &mut block, &mut lines, &mut lemma, &name, &log)?;
-        block.flush(desk, file)
+        give_lines(
+            desk, target, &mut block, &mut lines, &mut lemma, &name, &log,
+        )?;
+        block.flush(desk, target)
     }
 }

@@ -1,5 +1,5 @@
 use Rattle.std.proofs.Common.{◌∙◌}
-use Rattle.bench_run.proofs.Held.{log_name, never_refused, never_unfolded, whole_name}
+use Rattle.bench_run.proofs.Held.{name_is_cell, never_refused, never_unfolded}
 use Rattle.bench_run.proofs.read.bench_inputs.Goals as goal
 
 pub unreachable-requires : goal.unreachable-requires
@@ -11,11 +11,11 @@ unreachable-requires-in_default-fault c = never_unfolded c.args.text.now c.in_ok
 pub invariant_of-result : goal.invariant_of-result
 invariant_of-result c = record {
   tech = c.show_limits.ensures;
-  name = log_name c.in-Ok.subckt.name c.args.cell c.ranges.cell.fits (c.in-Ok.ensures.name ∙ c.in_ok-name.ensures);
-  whole = whole_name c.in-Ok.subckt.name c.args.cell c.ranges.cell.fits (c.in-Ok.ensures.name ∙ c.in_ok-name.ensures);
+  cell = name_is_cell c.in-Ok.subckt.name c.args.cell c.ranges.cell.fits (c.in-Ok.ensures.name ∙ c.in_ok-name.ensures);
   nets = c.in-Ok.ensures.named;
   pins = c.in-Ok.ensures.pins;
   directions = c.in-Ok.ensures.directions;
   fingers = c.in-Ok-fold.ensures.asked;
+  some = c.in-Ok-fold.ensures.some;
   sound = c.in-Ok-fold.ensures.sound;
 }

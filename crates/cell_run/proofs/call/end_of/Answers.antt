@@ -2,7 +2,7 @@ use Rattle.std.proofs.Common.{Option, subst}
 use Rattle.cell_run.specs.Gather.{gathered}
 use Rattle.cell_run.specs.Kept.{MayKeep}
 use Rattle.cell_run.specs.Words.{Form, asked}
-use Rattle.cell_run.proofs.Keeping.{ends_refused, ends_work}
+use Rattle.cell_run.proofs.Keeping.{ends_refused, ends_work, reads_refused, reads_worked}
 use Rattle.cell_run.proofs.call.end_of.Goals as goal
 
 pub returns-in-Ok-clause-ends : goal.returns-in-Ok-clause-ends
@@ -18,3 +18,11 @@ returns-in-Err-clause-ends g c =
     (subst (λ (form : Option Form). MayKeep (g.D.Desk.view c.args.desk.now) (g.D.Desk.view c.gather.new.desk) (gathered form) c.gather.result) c.form_of.ensures c.gather.ensures.comes)
     c.in-Err.is
     c.refused.ensures
+
+pub returns-in-Ok-clause-quiet : goal.returns-in-Ok-clause-quiet
+returns-in-Ok-clause-quiet g c =
+    reads_worked (g.D.Desk.view c.args.desk.now) (g.D.Desk.view c.gather.new.desk) c.gather.result c.in-Ok.material c.work.result c.gather.ensures.quiet c.in-Ok.is
+
+pub returns-in-Err-clause-quiet : goal.returns-in-Err-clause-quiet
+returns-in-Err-clause-quiet g c =
+    reads_refused (g.D.Desk.view c.args.desk.now) (g.D.Desk.view c.gather.new.desk) c.gather.result c.in-Err.refusal c.refused.result c.gather.ensures.quiet c.in-Err.is c.refused.ensures

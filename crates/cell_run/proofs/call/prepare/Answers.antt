@@ -2,9 +2,13 @@ use Rattle.std.proofs.Common.{◌∙◌, ap}
 use Rattle.cell_run.specs.declared.status.Status.TheVariants as status
 use Rattle.cell_run.specs.End.{says}
 use Rattle.cell_run.specs.Words.{asked}
-use Rattle.cell_run.proofs.Ends.{short_end}
+use Rattle.cell_run.proofs.Ends.{short_end, short_reads}
 use Rattle.cell_run.proofs.call.prepare.Goals as goal
 
 pub returns-in-Err-clause-ends : goal.returns-in-Err-clause-ends
 returns-in-Err-clause-ends g c =
     short_end (g.D.Desk.view c.args.desk.now) (g.D.Desk.view c.end_of.new.desk) (asked c.args.words.now) c.says.result (c.says.ensures ∙ ap (says status.NoMemory) c.new.ensures)
+
+pub returns-in-Err-clause-quiet : goal.returns-in-Err-clause-quiet
+returns-in-Err-clause-quiet g c =
+    short_reads (g.D.Desk.view c.args.desk.now) (g.D.Desk.view c.end_of.new.desk) c.says.result (c.says.ensures ∙ ap (says status.NoMemory) c.new.ensures)

@@ -1,10 +1,10 @@
-use Rattle.std.proofs.Common.{refl}
+use Rattle.std.proofs.Common.{refl, ◌∙◌}
 use Rattle.cell_run.specs.Words.{asked}
 use Rattle.cell_run.proofs.BenchTold.{benched_told, benches_told}
 use Rattle.cell_run.proofs.ExtractTold.{breaks_told, broken_told, extracted_told, extracts_told, refused_told, refuses_told}
 use Rattle.cell_run.proofs.MakeTold.{cyclic_told, drawn_told, draws_told, meets_told, needs_told, spent_told, tall_told}
 use Rattle.cell_run.proofs.Unmade.{none_told, unmade_told}
-use Rattle.cell_run.proofs.Telling.{accepts_told, answers, called_for_told, checked_told, completes_told, made_told, memory_told, planned_told, read_told, status_told, usage_told, write_told}
+use Rattle.cell_run.proofs.Telling.{accepts_told, answers, called_for_told, checked_told, completes_told, made_told, memory_told, planned_told, read_told, same_reads_told, status_told, usage_told, write_told}
 use Rattle.cell_run.proofs.call.run.Goals as goal
 
 pub returns-clause-ends : goal.returns-clause-ends
@@ -32,6 +32,17 @@ returns-clause-memory g c = memory_told (g.D.Desk.view c.args.desk.now) (g.D.Des
 
 pub returns-clause-other : goal.returns-clause-other
 returns-clause-other g c = status_told (g.D.Desk.view c.args.desk.now) (g.D.Desk.view c.deliver.new.desk) (asked c.args.words.now) c.deliver.result (returns-clause-ends g c)
+
+pub returns-clause-same_reads : goal.returns-clause-same_reads
+returns-clause-same_reads g c =
+    same_reads_told (g.D.Desk.view c.args.desk.now) (g.D.Desk.view c.prepare-end.new.desk) (g.D.Desk.view c.deliver.new.desk) c.prepare-end.result c.deliver.result
+    c.prepare-end.ensures.quiet c.deliver.ensures.only c.deliver.ensures.tells
+
+pub returns-clause-same_writes : goal.returns-clause-same_writes
+returns-clause-same_writes g c = λ other. c.deliver.ensures.same_writes other ∙ c.prepare-end.ensures.only.writes
+
+pub returns-clause-same_shorts : goal.returns-clause-same_shorts
+returns-clause-same_shorts g c = λ other. c.deliver.ensures.same_shorts other ∙ c.prepare-end.ensures.only.shorts
 
 pub returns-clause-made : goal.returns-clause-made
 returns-clause-made g c = made_told (g.D.Desk.view c.args.desk.now) (g.D.Desk.view c.deliver.new.desk) (asked c.args.words.now) c.deliver.result (returns-clause-ends g c)

@@ -6,6 +6,7 @@ use Rattle.std.proofs.lemmas.Iterator.Adapters.{YieldsList-from_vec}
 use Rattle.std.proofs.lemmas.Iterator.Consumers.{YieldsList-turn, YieldsList-end}
 use Rattle.std.proofs.lemmas.List.{length_push}
 use Rattle.cell_io.specs.Desk.{Both}
+use Rattle.cell_io.proofs.Puts.{quiet_more}
 use Rattle.cell_run.specs.declared.end.Output.{Output}
 use Rattle.cell_run.specs.Deliver.{MakesAll, MakesSome}
 use Rattle.cell_run.proofs.Delivered.{all_more, all_none, makes_trans, next_file, on_err, some_here, some_more}
@@ -40,6 +41,7 @@ files-preserved g c =
           (some_more c.in-Some.file later (g.D.Desk.view c.files.desk).made (g.D.Desk.view c.make_file.new.desk).made last c.in_ok-make_file.ensures.whole
           (subst (λ (files : List Output). Both (MakesSome files) (g.D.Desk.view c.make_file.new.desk).made last) behind more)))),
       makes_trans (g.D.Desk.view c.args.desk.now) (g.D.Desk.view c.files.desk) (g.D.Desk.view c.make_file.new.desk) c.files.invariant.2 c.make_file.ensures.only,
+      quiet_more (g.D.Desk.view c.args.desk.now) (g.D.Desk.view c.files.desk) (g.D.Desk.view c.make_file.new.desk) c.files.invariant.3 c.in_ok-make_file.ensures.counts,
     )
 
 pub returns-clause-all : goal.returns-clause-all

@@ -1,5 +1,5 @@
 use Rattle.std.proofs.Common.{Option, drop, length}
-use Rattle.cell_io.specs.Desk.{Files, Both, OnlyMakes}
+use Rattle.cell_io.specs.Desk.{Files, Both, IsQuiet, OnlyMakes}
 use Rattle.cell_run.specs.Deliver.{MakesAll, MakesSome}
 use Rattle.cell_run.proofs.deliver.make_files.Given as goal
 
@@ -9,3 +9,4 @@ invariant-files g l =
     ((last : Option Files) → Both (MakesAll (drop (length l.yielded) l.fn.files)) (g.D.Desk.view l.desk).made last → Both (MakesAll l.fn.files) (g.D.Desk.view l.fn.desk).made last)
     × ((last : Option Files) → Both (MakesSome (drop (length l.yielded) l.fn.files)) (g.D.Desk.view l.desk).made last → Both (MakesSome l.fn.files) (g.D.Desk.view l.fn.desk).made last)
     × OnlyMakes (g.D.Desk.view l.fn.desk) (g.D.Desk.view l.desk)
+    × IsQuiet (g.D.Desk.view l.fn.desk) (g.D.Desk.view l.desk)

@@ -1,4 +1,4 @@
-use Rattle.std.proofs.Common.{ℕ, ◌≡◌, ◌<◌, List, ◌++◌, None, get_or, length, option_map, subst}
+use Rattle.std.proofs.Common.{ℕ, ◌≡◌, ◌<◌, List, ◌++◌, None, get_or, length, subst}
 use Rattle.std.specs.List.{flat_map}
 use Rattle.std.proofs.lemmas.Option.{get_or_from_slice_get, slice_get-get_or}
 use Rattle.cell_io.specs.Desk.{View}
@@ -7,6 +7,7 @@ use Rattle.cell_io.proofs.Puts.{quiet_more}
 use Rattle.bound_log.specs.declared.log.LogStep.{LogStep}
 use Rattle.bound_log.specs.Text.{column_line}
 use Rattle.log_output.specs.Giving.{Gives, GivesSome}
+use Rattle.log_output.specs.Targets.{place_of}
 use Rattle.log_output.proofs.Giving.{can_still, lines_more, lines_stop, on_err, only_more}
 use Rattle.log_output.proofs.log_text.give_columns.Goals as goal
 
@@ -18,7 +19,7 @@ there steps at within = get_or_from_slice_get steps at (get_or steps at blank) (
 
 pub returns-in_err-add-clause-some : goal.returns-in_err-add-clause-some
 returns-in_err-add-clause-some g c =
-    let place : Place = option_map (λ name. name.now) c.args.file in
+    let place : Place = place_of c.args.target in
     let before : View = g.D.Desk.view c.args.desk.now in
     let mid : View = g.D.Desk.view c.steps.desk in
     let after : View = g.D.Desk.view c.add.new.desk in
@@ -29,7 +30,7 @@ returns-in_err-add-clause-some g c =
 
 pub steps-preserved : goal.steps-preserved
 steps-preserved g c =
-    let place : Place = option_map (λ name. name.now) c.args.file in
+    let place : Place = place_of c.args.target in
     let before : View = g.D.Desk.view c.args.desk.now in
     let mid : View = g.D.Desk.view c.steps.desk in
     let after : View = g.D.Desk.view c.add.new.desk in (

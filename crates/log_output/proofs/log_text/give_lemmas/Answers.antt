@@ -1,4 +1,4 @@
-use Rattle.std.proofs.Common.{ℕ, List, ◌++◌, option_map, subst}
+use Rattle.std.proofs.Common.{ℕ, List, ◌++◌, subst}
 use Rattle.std.specs.List.{flat_map}
 use Rattle.std.proofs.lemmas.Option.{get_or_from_slice_get, slice_get_within}
 use Rattle.cell_io.specs.Desk.{View}
@@ -6,12 +6,13 @@ use Rattle.cell_io.specs.Output.{Place}
 use Rattle.cell_io.proofs.Puts.{quiet_more}
 use Rattle.bound_log.specs.Text.{lemma_line}
 use Rattle.log_output.specs.Giving.{Gives, GivesSome}
+use Rattle.log_output.specs.Targets.{place_of}
 use Rattle.log_output.proofs.Giving.{can_still, lines_more, lines_stop, on_err, only_more}
 use Rattle.log_output.proofs.log_text.give_lemmas.Goals as goal
 
 pub returns-in_err-add-clause-some : goal.returns-in_err-add-clause-some
 returns-in_err-add-clause-some g c =
-    let place : Place = option_map (λ name. name.now) c.args.file in
+    let place : Place = place_of c.args.target in
     let before : View = g.D.Desk.view c.args.desk.now in
     let mid : View = g.D.Desk.view c.lemmas.desk in
     let after : View = g.D.Desk.view c.add.new.desk in
@@ -24,7 +25,7 @@ returns-in_err-add-clause-some g c =
 
 pub lemmas-preserved : goal.lemmas-preserved
 lemmas-preserved g c =
-    let place : Place = option_map (λ name. name.now) c.args.file in
+    let place : Place = place_of c.args.target in
     let before : View = g.D.Desk.view c.args.desk.now in
     let mid : View = g.D.Desk.view c.lemmas.desk in
     let after : View = g.D.Desk.view c.add.new.desk in (

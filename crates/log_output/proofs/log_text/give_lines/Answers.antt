@@ -1,4 +1,4 @@
-use Rattle.std.proofs.Common.{ℕ, List, ◌++◌, OnErr, OnOk, option_map, subst}
+use Rattle.std.proofs.Common.{ℕ, List, ◌++◌, OnErr, OnOk, subst}
 use Rattle.std.specs.List.{flat_map}
 use Rattle.cell_io.specs.Desk.{View}
 use Rattle.cell_io.specs.Output.{Place}
@@ -6,12 +6,13 @@ use Rattle.cell_io.proofs.Puts.{refused_so}
 use Rattle.bound_log.specs.declared.log.Log.{Log}
 use Rattle.bound_log.specs.Text.{best_text, head_lines, last_line, lemma_line, log_text}
 use Rattle.log_output.specs.Giving.{Gives, GivesSome}
+use Rattle.log_output.specs.Targets.{place_of}
 use Rattle.log_output.proofs.Giving.{can_still, ok_so, on_err, text_more, text_stop, text_wider}
 use Rattle.log_output.proofs.log_text.give_lines.Goals as goal
 
 pub returns-in_err-add-clause-some : goal.returns-in_err-add-clause-some
 returns-in_err-add-clause-some g c =
-    let place : Place = option_map (λ name. name.now) c.args.file in
+    let place : Place = place_of c.args.target in
     let before : View = g.D.Desk.view c.args.desk.now in
     let after : View = g.D.Desk.view c.add.new.desk in
     let head : List ℕ = head_lines c.log.inside.version c.args.name.now in
@@ -26,11 +27,11 @@ returns-in_err-add-clause-some g c =
 
 pub give_lemmas-requires-clause-place : goal.give_lemmas-requires-clause-place
 give_lemmas-requires-clause-place g c =
-    can_still (option_map (λ name. name.now) c.args.file) (c.args.block.now ++ c.head.result.now) c.add.new.self (g.D.Desk.view c.args.desk.now) (g.D.Desk.view c.add.new.desk) c.in_ok-add.ensures.all c.requires.place
+    can_still (place_of c.args.target) (c.args.block.now ++ c.head.result.now) c.add.new.self (g.D.Desk.view c.args.desk.now) (g.D.Desk.view c.add.new.desk) c.in_ok-add.ensures.all c.requires.place
 
 pub returns-in_err-give_lemmas-clause-some : goal.returns-in_err-give_lemmas-clause-some
 returns-in_err-give_lemmas-clause-some g c =
-    let place : Place = option_map (λ name. name.now) c.args.file in
+    let place : Place = place_of c.args.target in
     let before : View = g.D.Desk.view c.args.desk.now in
     let mid : View = g.D.Desk.view c.add.new.desk in
     let after : View = g.D.Desk.view c.give_lemmas.new.desk in
@@ -46,7 +47,7 @@ returns-in_err-give_lemmas-clause-some g c =
 
 pub give_best-requires-clause-place : goal.give_best-requires-clause-place
 give_best-requires-clause-place g c =
-    let place : Place = option_map (λ name. name.now) c.args.file in
+    let place : Place = place_of c.args.target in
     let before : View = g.D.Desk.view c.args.desk.now in
     let mid : View = g.D.Desk.view c.add.new.desk in
     let after : View = g.D.Desk.view c.give_lemmas.new.desk in
@@ -55,7 +56,7 @@ give_best-requires-clause-place g c =
 
 pub returns-in_err-give_best-clause-some : goal.returns-in_err-give_best-clause-some
 returns-in_err-give_best-clause-some g c =
-    let place : Place = option_map (λ name. name.now) c.args.file in
+    let place : Place = place_of c.args.target in
     let before : View = g.D.Desk.view c.args.desk.now in
     let one : View = g.D.Desk.view c.add.new.desk in
     let two : View = g.D.Desk.view c.give_lemmas.new.desk in
@@ -72,7 +73,7 @@ returns-in_err-give_best-clause-some g c =
 
 pub add-requires-2 : goal.add-requires-2
 add-requires-2 g c =
-    let place : Place = option_map (λ name. name.now) c.args.file in
+    let place : Place = place_of c.args.target in
     let before : View = g.D.Desk.view c.args.desk.now in
     let one : View = g.D.Desk.view c.add.new.desk in
     let two : View = g.D.Desk.view c.give_lemmas.new.desk in
@@ -83,7 +84,7 @@ add-requires-2 g c =
 
 pub returns-clause-all : goal.returns-clause-all
 returns-clause-all g c =
-    let place : Place = option_map (λ name. name.now) c.args.file in
+    let place : Place = place_of c.args.target in
     let before : View = g.D.Desk.view c.args.desk.now in
     let one : View = g.D.Desk.view c.add.new.desk in
     let two : View = g.D.Desk.view c.give_lemmas.new.desk in
@@ -102,7 +103,7 @@ returns-clause-all g c =
 
 pub returns-clause-some : goal.returns-clause-some
 returns-clause-some g c =
-    let place : Place = option_map (λ name. name.now) c.args.file in
+    let place : Place = place_of c.args.target in
     let before : View = g.D.Desk.view c.args.desk.now in
     let one : View = g.D.Desk.view c.add.new.desk in
     let two : View = g.D.Desk.view c.give_lemmas.new.desk in

@@ -1,9 +1,10 @@
-use Rattle.std.proofs.Common.{ℕ, ◌≡◌, List, [], ◌++◌, option_map, ap, subst, ◌∙◌}
+use Rattle.std.proofs.Common.{ℕ, ◌≡◌, List, [], ◌++◌, ap, subst, ◌∙◌}
 use Rattle.cell_io.specs.Desk.{View}
 use Rattle.cell_io.specs.Output.{Place}
 use Rattle.bound_log.specs.declared.log.Log.{Log}
 use Rattle.bound_log.specs.Text.{log_text}
 use Rattle.log_output.specs.Giving.{Gives, GivesSome}
+use Rattle.log_output.specs.Targets.{place_of}
 use Rattle.log_output.proofs.Giving.{can_still, on_err, rest_all, rest_some}
 use Rattle.log_output.proofs.log_text.LogText.give.Goals as goal
 
@@ -13,7 +14,7 @@ only_text block name log text empty is = ap (λ (front : List ℕ). front ++ log
 
 pub returns-in_err-give_lines-clause-some : goal.returns-in_err-give_lines-clause-some
 returns-in_err-give_lines-clause-some g c =
-    let place : Place = option_map (λ name. name.now) c.args.file in
+    let place : Place = place_of c.args.target in
     let before : View = g.D.Desk.view c.args.desk.now in
     let after : View = g.D.Desk.view c.give_lines.new.desk in
     on_err c.from_residual.result (GivesSome place c.args.self before after)
@@ -21,11 +22,11 @@ returns-in_err-give_lines-clause-some g c =
 
 pub flush-requires : goal.flush-requires
 flush-requires g c =
-    can_still (option_map (λ name. name.now) c.args.file) (c.self.inside.block ++ log_text c.self.inside.name c.self.inside.log) c.give_lines.new.block (g.D.Desk.view c.args.desk.now) (g.D.Desk.view c.give_lines.new.desk) c.in_ok-give_lines.ensures.all c.requires
+    can_still (place_of c.args.target) (c.self.inside.block ++ log_text c.self.inside.name c.self.inside.log) c.give_lines.new.block (g.D.Desk.view c.args.desk.now) (g.D.Desk.view c.give_lines.new.desk) c.in_ok-give_lines.ensures.all c.requires
 
 pub returns-clause-all : goal.returns-clause-all
 returns-clause-all g c =
-    let place : Place = option_map (λ name. name.now) c.args.file in
+    let place : Place = place_of c.args.target in
     let before : View = g.D.Desk.view c.args.desk.now in
     let mid : View = g.D.Desk.view c.give_lines.new.desk in
     let after : View = g.D.Desk.view c.flush.new.desk in
@@ -35,7 +36,7 @@ returns-clause-all g c =
 
 pub returns-clause-some : goal.returns-clause-some
 returns-clause-some g c =
-    let place : Place = option_map (λ name. name.now) c.args.file in
+    let place : Place = place_of c.args.target in
     let before : View = g.D.Desk.view c.args.desk.now in
     let mid : View = g.D.Desk.view c.give_lines.new.desk in
     let after : View = g.D.Desk.view c.flush.new.desk in
