@@ -25,6 +25,18 @@ fingers 6
 bytes 3962
 ";
 
+// What another program came to by the same rules.
+const ALL_BENCHED: &str = "status 0 ok
+bench 200
+made 200
+cycle 0
+unfinished 0
+columns 1165
+gaps 200
+fingers 2330
+bytes 1397094
+";
+
 #[test]
 fn says_what_the_words_ask_for(rt: HostRuntime) -> Result<(), Fail> {
     for (words, status, said) in [
@@ -63,6 +75,7 @@ fn says_what_the_words_ask_for(rt: HostRuntime) -> Result<(), Fail> {
         ("bench 01", Status::Usage, USAGE),
         ("bench +1", Status::Usage, USAGE),
         ("bench 1", Status::Done, BENCH),
+        ("bench 200", Status::Done, ALL_BENCHED),
     ] {
         let (got, desk) = run_over(rt.alloc(), words, ["", INVERTER, ""], &[])?;
         assert_eq!(rt; desk.all_said(), said.as_bytes());
