@@ -32,7 +32,7 @@ pub struct Contact {
     pub reach: Option<u32>,
 }
 
-/// The gate of a column over its fingers, which have these widths, and the track of its net's trunk.
+/// The gate of a column over its fingers, which have these widths, and the track of a trunk of its net.
 #[derive(Clone, Copy, Debug, PartialEq, Eq)]
 pub struct Gate {
     pub x: u32,
