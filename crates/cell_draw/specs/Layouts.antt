@@ -66,7 +66,7 @@ reach_of f trunks node = option_map (track_y f) (far trunks node)
 abbrev pub contact_with : List ℕ → NodePlace → Option ℕ → Contact
 contact_with xs node reach = record { row = node.row; x = x_of xs node.line; net = node.net; reach = reach }
 
--- a node place is contacted where its net is a rail or has a trunk
+-- a node place is contacted where its net is a rail or has a trunk that holds its line
 abbrev pub contact_of : Frame → Pins → List Trunk → List ℕ → NodePlace → Option Contact
 contact_of f pins trunks xs node =
     if is_rail pins node.net then Some (contact_with xs node None)
@@ -107,11 +107,12 @@ has_own_via nodes node = not (is_p node.row && list_any (is_over node) nodes)
 abbrev pub begins_before : Trunk → ℕ → Trunk → Bool
 begins_before t line other = holds t.net line other && (other.track == t.track) && ltb other.left t.left
 
--- the trunk has the via at the line of the place
+-- the trunk has the via of the place: no other of its net and track that holds the line begins before
 abbrev pub has_via : List NodePlace → List Trunk → Trunk → NodePlace → Bool
 has_via nodes trunks t node = holds node.net node.line t && has_own_via nodes node && not (list_any (begins_before t node.line) trunks)
 
--- the node lines of a trunk where its net has a place, each once, ascending
+-- Where the vias of a trunk stand, from left to right: at each node line of its net that it holds, but for those at which a
+-- trunk of the net on the same track begins before it and has the via.
 abbrev pub vias_of : List NodePlace → List Trunk → List ℕ → Trunk → List ℕ
 vias_of nodes trunks xs t = map (λ node. x_of xs node.line) (filter (has_via nodes trunks t) nodes)
 

@@ -1,4 +1,4 @@
--- Wirings of a channel: each net's span, cut at some of its node lines or at none.
+-- Wirings of a channel: each net's span, cut at some of its node lines, the last one among them, or at none.
 use Rattle.std.specs.Prelude.{ℕ, ◌≡◌, ◌≢◌, ◌<◌, ◌≤◌, ◌+◌, ◌⊎◌, ◌↔◌, List, Some, slice_get, All, AllPairs, Any, Contains}
 use Rattle.cell_num.specs.declared.net.NetNo.{NetNo}
 use Rattle.cell_num.specs.declared.net.Pins.{Pins}
@@ -40,9 +40,9 @@ pub record AreJoined (placement : Placement) (a b : Trunk) : Type 0 where
   pub net : node.net ≡ a.net
   pub line : node.line ≡ a.right
 
--- Each net that needs a trunk has one or more, which go from node line to node line of the net, each beginning
--- where the one before ends, and hold every line at which the net has a place; trunks of different nets on one
--- track have no line in common; where a net stands above another at a line, its trunks that hold the line have
+-- Each net that needs a trunk has one or more, which begin and end at lines of its places; each but the first begins where
+-- the one before ends, at a node line, and together they hold every line at which the net has a place. Trunks of different
+-- nets on one track have no line in common; where a net stands above another at a line, its trunks that hold the line have
 -- the higher tracks; every track has a trunk.
 pub record IsWiring (placement : Placement) (pins : Pins) (routing : Routing) : Type 0 where
   pub nets : (net : NetNo) → HasTrunk placement pins net ↔ Any (λ t. t.net ≡ net) routing.trunks
