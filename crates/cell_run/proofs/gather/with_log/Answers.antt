@@ -1,4 +1,5 @@
 use Rattle.cell_run.specs.Gather.{checking_over}
+use Rattle.cell_run.proofs.Desks.{reads_handed}
 use Rattle.cell_run.proofs.Keeping.{keeps_read, keeps_short, keeps_unread}
 use Rattle.cell_run.proofs.LogReads.{room_begun}
 use Rattle.cell_run.proofs.gather.with_log.Goals as goal
@@ -15,6 +16,12 @@ returns-in_err-read_to-clause-comes g c =
     keeps_unread (g.D.Desk.view c.args.desk.now) (g.D.Desk.view c.read_to.new.desk) c.args.log.now c.args.inputs c.in_err-read_to.field-0.0 c.from_residual-in_err-read_to.result
     c.in_err-read_to.ensures.refused
     c.from_residual-in_err-read_to.ensures
+
+pub returns-in_err-read_to-clause-quiet : goal.returns-in_err-read_to-clause-quiet
+returns-in_err-read_to-clause-quiet g c =
+    reads_handed c.from_residual-in_err-read_to.result c.in_err-read_to.field-0.0 (g.D.Desk.view c.args.desk.now) (g.D.Desk.view c.read_to.new.desk)
+    c.from_residual-in_err-read_to.ensures
+    c.in_err-read_to.ensures.quiet
 
 pub returns-clause-comes : goal.returns-clause-comes
 returns-clause-comes g c =
