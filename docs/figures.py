@@ -1,4 +1,4 @@
-"""Draws the five figures of docs/COURSE.md as SVG files in docs/figures/, from subcircuits and from what the program makes of them:
+"""Draws the figures of docs/COURSE.md as SVG files in docs/figures/, from subcircuits and what the program makes of them:
 
     python3 docs/figures.py [PROGRAM [WORD ..]]
 
@@ -19,7 +19,8 @@ PROGRAM = sys.argv[1:] or [os.path.join(DOCS, "..", "cellgen")]
 
 UNIT_NM = 150                    # a grid unit of the plain technology; the database unit is a nanometre
 WELL, ACTIVE, POLY, CONTACT, METAL1, VIA, METAL2 = 42, 43, 46, 25, 49, 50, 51
-COLOURS = {WELL: "none", ACTIVE: "#a5d6a7", POLY: "#e53935", METAL1: "#3f6fd1", METAL2: "#a64fc0", CONTACT: "#111111", VIA: "#f5d76e"}
+COLOURS = {WELL: "none", ACTIVE: "#a5d6a7", POLY: "#e53935", METAL1: "#3f6fd1", METAL2: "#a64fc0",
+           CONTACT: "#111111", VIA: "#f5d76e"}
 INK, PALE, ORANGE, TEAL = "#222222", "#bbbbbb", "#d9730d", "#00796b"
 
 
@@ -91,7 +92,7 @@ def read_gds(data):
 
 
 def line_xs(cell):
-    """Where the lines stand: the middles of contacts and of gates."""
+    """Where the lines of a cell without a gap stand: the middles of its contacts and of its gates."""
     middles = {(x1 + x2) // 2 for layer, x1, _, x2, _ in cell.shapes if layer in (CONTACT, POLY)}
     return sorted(middles)
 
@@ -126,13 +127,14 @@ class Picture:
 
     def __init__(self, width, height, title):
         self.size, self.parts, self.boxes = (width, height), [], []
-        self.parts.append(f'<svg xmlns="http://www.w3.org/2000/svg" viewBox="0 0 {width} {height}" width="{width}" height="{height}" '
-                          f'font-family="DejaVu Sans, Verdana, sans-serif">')
+        self.parts.append(f'<svg xmlns="http://www.w3.org/2000/svg" viewBox="0 0 {width} {height}" '
+                          f'width="{width}" height="{height}" font-family="DejaVu Sans, Verdana, sans-serif">')
         self.parts.append(f"<title>{escape(title)}</title>")
         self.rect(0, 0, width, height, "#ffffff")
 
     def rect(self, x1, y1, x2, y2, fill, stroke="none", extra=""):
-        self.parts.append(f'<rect x="{x1:g}" y="{y1:g}" width="{x2 - x1:g}" height="{y2 - y1:g}" fill="{fill}" stroke="{stroke}" {extra}/>')
+        self.parts.append(f'<rect x="{x1:g}" y="{y1:g}" width="{x2 - x1:g}" height="{y2 - y1:g}" '
+                          f'fill="{fill}" stroke="{stroke}" {extra}/>')
 
     def line(self, x1, y1, x2, y2, colour=INK, width=1.5, dash=""):
         self.parts.append(f'<path d="M{x1:g} {y1:g} L{x2:g} {y2:g}" stroke="{colour}" stroke-width="{width}" '
@@ -141,8 +143,8 @@ class Picture:
     def head(self, x, y, dx, dy, colour, long=10):
         """The head of an arrow: its tip at x, y, its direction dx, dy of length 1."""
         bx, by, half = x - long * dx, y - long * dy, long * 0.45
-        self.parts.append(f'<path d="M{x:g} {y:g} L{bx - half * dy:.1f} {by + half * dx:.1f} L{bx + half * dy:.1f} {by - half * dx:.1f} Z" '
-                          f'fill="{colour}"/>')
+        self.parts.append(f'<path d="M{x:g} {y:g} L{bx - half * dy:.1f} {by + half * dx:.1f} '
+                          f'L{bx + half * dy:.1f} {by - half * dx:.1f} Z" fill="{colour}"/>')
 
     def text(self, x, y, words, size=14, anchor="middle", colour=INK, bold=False):
         """Words whose middle has the height y."""
@@ -187,7 +189,8 @@ def draw_row(pic, row, x, y, step=52):
     for column in row:
         for name, one in (("p", column.p), ("n", column.n)):
             if one:
-                pic.rect(x + column.line * step - 24, edge[name], x + (column.line + 2) * step + 24, edge[name] + 56, COLOURS[ACTIVE])
+                left, right = x + column.line * step - 24, x + (column.line + 2) * step + 24
+                pic.rect(left, edge[name], right, edge[name] + 56, COLOURS[ACTIVE])
     for column in row:
         middle = x + (column.line + 1) * step
         pic.rect(middle - 6, y - 12, middle + 6, y + 172, COLOURS[POLY])
@@ -200,7 +203,7 @@ def draw_row(pic, row, x, y, step=52):
 
 
 def trail_numbers(row):
-    """The trail of each column: a gap begins a new one."""
+    """The number of the trail of each column: a gap begins a new one."""
     numbers, number = [], 1
     for before, column in zip([None] + row, row):
         if before and column.line - before.line == 4:
@@ -216,7 +219,8 @@ def draw_edge(pic, start, end, words, bend, colour):
     dx, dy = (x2 - x1) / far, (y2 - y1) / far
     mx, my = (x1 + x2) / 2 + bend * dy, (y1 + y2) / 2 - bend * dx
     cx, cy = 2 * mx - (x1 + x2) / 2, 2 * my - (y1 + y2) / 2
-    pic.parts.append(f'<path d="M{x1:g} {y1:g} Q{cx:.1f} {cy:.1f} {x2:g} {y2:g}" stroke="{colour}" stroke-width="2" fill="none"/>')
+    pic.parts.append(f'<path d="M{x1:g} {y1:g} Q{cx:.1f} {cy:.1f} {x2:g} {y2:g}" '
+                     f'stroke="{colour}" stroke-width="2" fill="none"/>')
     pic.head(mx + 5 * dx, my + 5 * dy, dx, dy, colour)
     side = 16 if bend >= 0 else -16
     pic.text(mx + side * dy, my - side * dx, words, colour=colour)
