@@ -4,9 +4,11 @@ COUNT := $(shell wc -l < cells)
 
 all: $(addprefix .made/,$(shell seq $(COUNT)))
 
-# A cell is made again where the inputs are newer than its line in the table.
+# A cell is made again where the inputs are newer than its line in the table. What an earlier run made of it goes first, so that
+# no file of a cell that is refused now is left.
 .made/%: inputs
 	@name=$$(sed -n '$*p' cells); \
+	rm -f "$$name.gds" "$$name.lef" "$$name.clog"; \
 	began=$$(date +%s.%N); \
 	"$$PROGRAM" make "$$TECH" "$$SPICE" "$$name" "$$name" > "$$name.txt"; status=$$?; \
 	seconds=$$(echo "$$began $$(date +%s.%N)" | awk '{ printf "%.2f", $$2 - $$1 }'); \

@@ -6,7 +6,7 @@ END {
     if (status == 0) { print line; exit }
     line = line more
     if (status == 4) line = line " (what each fault means: docs/MANUAL.md, Faults)"
-    if (status == 5) line = line " (nets stand above each other in a circle: turn a transistor round, or give the nets other gates)"
+    if (status == 5) line = line " (nets stand above each other in a ring: docs/MANUAL.md, Where no cell was made)"
     if (status == 6) line = line " (raise budget in the technology file)"
     if (status == 8) line = line " (memory ran out: make fewer cells side by side)"
     if (status == 11) line = line " (raise height in the technology file, or set it to 0)"
