@@ -1,7 +1,7 @@
 use crate::drawings::{Sides, shapes_of};
-use box_geom::{Label, Layer, Shapes};
+use box_geom::{Block, Label, Layer, Shapes};
 use cell_num::{Name, Row, copy};
-use net_extract::{Drawn, ExtractFault, extract};
+use net_extract::{Drawn, ExtractFault, NetMap, extract};
 use std::alloc::Global;
 use std::test::Fail;
 
@@ -84,6 +84,43 @@ fn an_inverter(rt: HostRuntime) -> Result<(), Fail> {
         ..lower
     };
     assert!(rt; netlist.devices.as_slice() == [lower, upper].as_slice());
+    Ok(())
+}
+
+// The nets of the same inverter by cells, by labels and by numbers. A name that is no label is not found.
+#[test]
+fn nets_of_an_inverter(rt: HostRuntime) -> Result<(), Fail> {
+    let alloc = rt.alloc();
+    let labels = [
+        (b'y', Layer::Metal2, 15, 3),
+        (b'g', Layer::Metal1, 3, 3),
+        (b'y', Layer::Metal1, 21, 9),
+    ];
+    let Ok(map) = NetMap::new(alloc, &drawing(alloc, &INVERTER, &labels)?) else {
+        return Err(Fail::from("refused"));
+    };
+    assert_eq!(rt; map.net_of(Layer::Metal2, 20, 30), Some(2));
+    assert_eq!(rt; map.net_of(Layer::Metal2, 21, 30), None);
+    assert_eq!(rt; map.net_of(Layer::Active, 2, 24), Some(3));
+    assert_eq!(rt; map.net_named(b"g"), Some(1));
+    assert_eq!(rt; map.net_named(b"_0"), None);
+    let Some(net) = map.net_of(Layer::Poly, 10, 0) else {
+        return Err(Fail::from("no net"));
+    };
+    assert!(rt; map.name(net).as_slice() == b"_0".as_slice());
+    let blocks = map.pieces(alloc, 2, Layer::Metal1)?;
+    let lower = Block {
+        x1: 15,
+        y1: 3,
+        x2: 21,
+        y2: 9,
+    };
+    let upper = Block {
+        y1: 25,
+        y2: 31,
+        ..lower
+    };
+    assert!(rt; blocks.as_slice() == [lower, upper].as_slice());
     Ok(())
 }
 

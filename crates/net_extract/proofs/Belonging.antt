@@ -36,7 +36,7 @@ one_kind s metal2 poly x y e c d = absurd cc
 one_kind s metal2 metal1 x y e c d = absurd cc
 one_kind s metal2 metal2 x y e c d = refl
 
-one_conductor : (s : List Shape) (layer : Layer) (c : Cell) (a b : Site) → IsConductorAt s layer c a → IsConductorAt s layer c b → a ≡ b
+pub one_conductor : (s : List Shape) (layer : Layer) (c : Cell) (a b : Site) → IsConductorAt s layer c a → IsConductorAt s layer c b → a ≡ b
 one_conductor s layer c a b p q =
     let cells : a.cell ≡ b.cell = p.cell ∙ sym q.cell in
     let other : Are s b.kind a.cell.x a.cell.y = subst (λ (z : Cell). Are s b.kind z.x z.y) (sym cells) q.conducts in

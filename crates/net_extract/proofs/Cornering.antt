@@ -17,7 +17,7 @@ use Rattle.scmos_rules.specs.declared.rules.Deck.{Deck}
 use Rattle.net_extract.specs.Corners.{HasSides, HasCorner, HaveFewSides, HaveFewCorners}
 use Rattle.net_extract.specs.Cuts.{kept, left_part, right_part, low_part, high_part, around, carved, carved_once, left_of_piece, shapes_on, cut_all, common_part, shared_all, drawn_all, p_diffusion_in, n_diffusion_in, pieces_in, gates_in, poly_of}
 use Rattle.net_extract.specs.Meetings.{sharing_cell}
-use Rattle.net_extract.specs.NetMaps.{blank, heads_below}
+use Rattle.net_extract.specs.Connections.{blank, heads_below}
 use Rattle.net_extract.specs.Pieces.{rect_of}
 use Rattle.net_extract.specs.declared.piece.Conductor.{Conductor}
 use Rattle.net_extract.specs.declared.piece.Conductor.TheVariants.{PDiffusion, NDiffusion, Poly, Metal1, Metal2}

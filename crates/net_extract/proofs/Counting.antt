@@ -9,7 +9,7 @@ use Rattle.net_extract.specs.Corners.{AreSides, HaveFewCorners}
 use Rattle.net_extract.specs.Nets.{Kind, p_diffusion, n_diffusion, poly, metal1, metal2, Site, site_at}
 use Rattle.net_extract.specs.Numbering.{NotBehind, IsBefore}
 use Rattle.net_extract.specs.Pieces.{corner_of}
-use Rattle.net_extract.specs.NetMaps.{firsts_of}
+use Rattle.net_extract.specs.Connections.{firsts_of}
 use Rattle.net_extract.specs.declared.piece.Piece.{Piece}
 use Rattle.net_extract.proofs.Ranking.{not_behind_self}
 

@@ -1,26 +1,28 @@
 -- The steps of extraction give the netlist, or the fault.
 use Rattle.std.proofs.Common.{◌≡◌, ℕ, ◌≤◌, ◌<◌, List, [], ◌∷◌, map, length, Option, Some, None, Result, Ok, Err, IfOk, arith, inl, inr, refl, sym, subst, ap, ◌∙◌}
-use Rattle.std.specs.List.{All, find}
+use Rattle.std.specs.List.{All, AllZip, find}
 use Rattle.box_geom.specs.declared.shape.Shape.{Shape}
 use Rattle.box_geom.specs.declared.shape.Label.{Label}
 use Rattle.box_geom.specs.declared.shape.Shapes.{Shapes}
 use Rattle.scmos_rules.specs.declared.rules.Deck.{Deck}
 use Rattle.scmos_rules.specs.declared.rules.Deck.TheVariants.{Plain}
 use Rattle.net_extract.specs.Nets.{Site}
-use Rattle.net_extract.specs.Extraction.{AreFew, AreRegular, IsLabelled, Extracts, IsTooMany, SaysTooMany, ExtractRefused}
+use Rattle.net_extract.specs.Extraction.{AreFew, AreRegular, IsLabelled, IsDrawn, Extracts, IsTooMany, SaysTooMany, ExtractRefused}
 use Rattle.net_extract.specs.Naming.{IsAgreed, names_of, short_net, split_name, IsNameFault}
 use Rattle.net_extract.specs.Labels.{IsFirstStray}
 use Rattle.net_extract.specs.Lookups.{is_lost, held_in, IsLostBy}
 use Rattle.net_extract.specs.GateNets.{AreGates, AreGateNets, AreFound, IsOddFault}
-use Rattle.net_extract.specs.NetMaps.{firsts_of, AreWires}
-use Rattle.net_extract.specs.Steps.{AreNamed}
+use Rattle.net_extract.specs.Connections.{firsts_of, AreWires}
+use Rattle.net_extract.specs.Steps.{AreNamed, IsMapped}
+use Rattle.net_extract.specs.declared.drawing.Mapped.{Mapped}
+use Rattle.net_extract.specs.declared.drawing.Named.{Named}
 use Rattle.net_extract.specs.declared.naming.Held.{Held}
 use Rattle.net_extract.specs.declared.netlist.Drawn.{Drawn}
 use Rattle.net_extract.specs.declared.netlist.Netlist.{Netlist}
 use Rattle.net_extract.specs.declared.fault.ExtractFault.{ExtractFault}
 use Rattle.net_extract.specs.declared.fault.ExtractFault.TheVariants.{TooMany, OddDevice, Stray, Short, Split, NoMemory}
 use Rattle.net_extract.specs.declared.piece.Piece.{Piece}
-use Rattle.net_extract.specs.declared.netmap.Wire.{Wire}
+use Rattle.net_extract.specs.declared.connections.Wire.{Wire}
 use Rattle.box_geom.specs.Rectangle.{IsRectangle}
 use Rattle.net_extract.specs.Cuts.{poly_of, gates_in}
 use Rattle.net_extract.proofs.Carving.{gates_drawn, proper_of_limits}
@@ -94,14 +96,13 @@ many_firsts (p ∷ ps) = omega (arith, many_firsts ps)
 labelled : (deck : Deck) (shapes : Shapes) (wires : List Wire) (firsts : List Piece) → AreWires deck shapes.rects wires firsts → find (is_lost wires) shapes.labels ≡ None → IsLabelled deck shapes (firsts_of firsts) (held_in wires shapes.labels)
 labelled deck shapes wires firsts m e = record { nets = m.nets; labels = labels_held deck shapes.rects wires firsts m shapes.labels e }
 
-pub named_are : (deck : Deck) (shapes : Shapes) (wires : List Wire) (firsts : List Piece) (held : List Held) (count : ℕ) (names : List (List ℕ)) → AreWires deck shapes.rects wires firsts → find (is_lost wires) shapes.labels ≡ None → held ≡ held_in wires shapes.labels → count ≡ length firsts → short_net held count ≡ None → split_name held ≡ None → names ≡ names_of held count → AreNamed deck shapes (firsts_of firsts) names
-named_are deck shapes wires firsts held count names m e eh ec ss sp en =
+pub named_are : (deck : Deck) (shapes : Shapes) (wires : List Wire) (firsts : List Piece) (held : List Held) (count : ℕ) (names : List (List ℕ)) → AreWires deck shapes.rects wires firsts → find (is_lost wires) shapes.labels ≡ None → held ≡ held_in wires shapes.labels → count ≡ length firsts → short_net held count ≡ None → split_name held ≡ None → names ≡ names_of held count → (named : Named) → named.held.items ≡ held → named.names ≡ names → AreNamed deck shapes (firsts_of firsts) named
+named_are deck shapes wires firsts held count names m e eh ec ss sp en named same_held same_names =
     let same : count ≡ length (firsts_of firsts) = ec ∙ sym (many_firsts firsts) in
     record {
-      held = held;
-      labelled = subst (IsLabelled deck shapes (firsts_of firsts)) (sym eh) (labelled deck shapes wires firsts m e);
-      agreed = subst (IsAgreed held) same (record { no_short = ss; no_split = sp });
-      are = subst (λ n. names ≡ names_of held n) same en;
+      labelled = subst (IsLabelled deck shapes (firsts_of firsts)) (sym (same_held ∙ eh)) (labelled deck shapes wires firsts m e);
+      agreed = subst (λ hs. IsAgreed hs (length (firsts_of firsts))) (sym same_held) (subst (IsAgreed held) same (record { no_short = ss; no_split = sp }));
+      are = same_names ∙ subst (λ n. names ≡ names_of held n) same en ∙ ap (λ hs. names_of hs (length (firsts_of firsts))) (sym same_held);
     }
 
 pub name_refused : (deck : Deck) (shapes : Shapes) (wires : List Wire) (firsts : List Piece) (held : List Held) (count : ℕ) (f : ExtractFault) → AreRegular deck shapes → AreWires deck shapes.rects wires firsts → find (is_lost wires) shapes.labels ≡ None → held ≡ held_in wires shapes.labels → count ≡ length firsts → IsNameFault held count f → ExtractRefused deck shapes f
@@ -121,17 +122,17 @@ name_refused deck shapes wires firsts held count f regular m e eh ec is = by f (
 pub regular_of : (deck : Deck) (shapes : Shapes) (firsts : List Site) (devices : List Drawn) → AreFew shapes → AreFound deck shapes.rects firsts devices → AreRegular deck shapes
 regular_of deck shapes firsts devices few found = record { few = few; none_odd = found.are.none_odd }
 
-pub extracts : (deck : Deck) (shapes : Shapes) (firsts : List Site) (n : Netlist) → AreFew shapes → AreFound deck shapes.rects firsts n.devices → AreNamed deck shapes firsts n.names → Extracts deck shapes n
-extracts deck shapes firsts n few found named = record {
-  few = few;
-  firsts = firsts;
-  held = named.held;
-  labelled = named.labelled;
-  agreed = named.agreed;
-  names = named.are;
-  boxes = found.boxes;
-  devices = found.are;
-  drawn = found.drawn;
+pub extracts : (deck : Deck) (shapes : Shapes) (m : Mapped) (n : Netlist) → IsMapped deck shapes m → n.names ≡ m.named.names → n.devices ≡ m.devices → Extracts deck shapes n
+extracts deck shapes m n map names devices = record {
+  few = map.few;
+  firsts = firsts_of m.connections.firsts.items;
+  held = m.named.held.items;
+  labelled = map.named.labelled;
+  agreed = map.named.agreed;
+  names = names ∙ map.named.are;
+  boxes = map.found.boxes;
+  devices = map.found.are;
+  drawn = subst (λ ds. AllZip (IsDrawn deck shapes.rects (firsts_of m.connections.firsts.items)) map.found.boxes ds) (sym devices) map.found.drawn;
 }
 
 pub if_ok : {X E : Type 0} (A B : X → Type 0) (r : Result X E) → ((x : X) → A x → B x) → IfOk r A → IfOk r B

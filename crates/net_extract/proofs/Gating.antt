@@ -27,12 +27,12 @@ use Rattle.net_extract.specs.Parts.{IsIn}
 use Rattle.net_extract.specs.Devices.{IsGateBox, IsSomeDevice, NotBehindCell, IsOdd, IsFirstOdd, BeginsBefore}
 use Rattle.net_extract.specs.Extraction.{IsDrawn}
 use Rattle.net_extract.specs.Pieces.{kind_of, rect_of, part_of, corner_of}
-use Rattle.net_extract.specs.NetMaps.{firsts_of, AreWires, blank}
+use Rattle.net_extract.specs.Connections.{firsts_of, AreWires, blank}
 use Rattle.net_extract.specs.Areas.{IsFull}
 use Rattle.net_extract.specs.GateNets.{AreGates, AreGateNets, wider, point_of, box_of, boxes_below, IsAllGate, AreFound}
 use Rattle.net_extract.specs.declared.netlist.Drawn.{Drawn}
 use Rattle.net_extract.specs.declared.piece.Piece.{Piece}
-use Rattle.net_extract.specs.declared.netmap.Wire.{Wire}
+use Rattle.net_extract.specs.declared.connections.Wire.{Wire}
 use Rattle.net_extract.proofs.Bonds.{carried_steps}
 use Rattle.net_extract.proofs.Finding.{shows}
 use Rattle.net_extract.proofs.Labelling.{wire_net}

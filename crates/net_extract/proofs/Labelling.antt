@@ -20,12 +20,12 @@ use Rattle.net_extract.specs.Numbering.{IsInNet}
 use Rattle.net_extract.specs.Parts.{AreDrawn, Bonded, IsIn}
 use Rattle.net_extract.specs.Labels.{is_wiring, wiring_labels, cells_round, IsConductorAt, IsFirstConductor, IsHeld, AreHeld, IsFirstStray}
 use Rattle.net_extract.specs.Pieces.{kind_of, place, rect_of, part_of, corner_of, rects_in}
-use Rattle.net_extract.specs.NetMaps.{firsts_of, pieces_of, AreWires, IsFound}
+use Rattle.net_extract.specs.Connections.{firsts_of, pieces_of, AreWires, IsFound}
 use Rattle.net_extract.specs.Lookups.{is_at, net_in, or_else, net_on, net_round, net_of_label, is_lost, held_in}
 use Rattle.net_extract.specs.declared.piece.Conductor.{Conductor}
 use Rattle.net_extract.specs.declared.piece.Conductor.TheVariants.{PDiffusion, NDiffusion, Poly, Metal1, Metal2}
 use Rattle.net_extract.specs.declared.piece.Piece.{Piece}
-use Rattle.net_extract.specs.declared.netmap.Wire.{Wire}
+use Rattle.net_extract.specs.declared.connections.Wire.{Wire}
 use Rattle.net_extract.proofs.Bonds.{one_net}
 use Rattle.net_extract.proofs.Conductors.{same_place, same_kind_place}
 use Rattle.net_extract.proofs.Filling.{holds_decides, and_parts, and_true}
@@ -33,14 +33,14 @@ use Rattle.net_extract.proofs.Finding.{found, found_none}
 use Rattle.net_extract.proofs.Listing.{part_listed, piece_proper, corner_in, held as held_cell, inside_conducts}
 use Rattle.net_extract.proofs.Wiring.{net_both}
 
-eq_of_eqb : (a b : ℕ) → (a == b) ≡ true → a ≡ b
+pub eq_of_eqb : (a b : ℕ) → (a == b) ≡ true → a ≡ b
 eq_of_eqb a b e = elim (cases_eq a b) [ inl same ↦ same | inr ne ↦ absurd (let f : (a == b) ≡ false = ne_eqb a b ne in cc (sym f ∙ e)) ]
 
 -- two cells of one piece
 pub piece_net : (deck : Deck) (s : List Shape) (ps : List Piece) → AreDrawn s (rects_in ps) → (p : Piece) → Contains ps p → (a b : Site) → IsIn (part_of p) a → IsIn (part_of p) b → SameNet deck s a b
 piece_net deck s ps d p c a b ia ib = (one_net deck s (rects_in ps) (part_of p) (part_of p) a b d (part_listed ps p c) (part_listed ps p c) ia ib).1 (none (Bonded deck s (rects_in ps)) (part_of p) (part_of p) refl)
 
-wire_listed : (wires : List Wire) (w : Wire) → Contains wires w → Contains (pieces_of wires) w.piece
+pub wire_listed : (wires : List Wire) (w : Wire) → Contains wires w → Contains (pieces_of wires) w.piece
 wire_listed wires w c = contains_map (λ (z : Wire). z.piece) wires w c
 
 abbrev at_cell : Conductor → ℤ → ℤ → Wire → Bool

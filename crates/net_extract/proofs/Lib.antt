@@ -2,6 +2,7 @@ pub mod Agreeing
 pub mod Apart
 pub mod Belonging
 pub mod Bonds
+pub mod ByName
 pub mod Carving
 pub mod Classing
 pub mod Conductors
@@ -18,6 +19,7 @@ pub mod Labelling
 pub mod Linking
 pub mod Links
 pub mod Listing
+pub mod NetMaps
 pub mod Netlists
 pub mod Netting
 pub mod Numbering

@@ -10,7 +10,7 @@ use Rattle.box_geom.specs.declared.layer.Layer.TheVariants.{Contact, Via}
 use Rattle.scmos_rules.specs.declared.rules.Deck.TheVariants.{Plain}
 use Rattle.net_extract.specs.Classes.{AreLeast, AreTried}
 use Rattle.net_extract.specs.Nets.{Kind, Joins, by_contact, by_via}
-use Rattle.net_extract.specs.NetMaps.{blank}
+use Rattle.net_extract.specs.Connections.{blank}
 use Rattle.net_extract.specs.Parts.{Part, Bond, touching, joining, tying}
 use Rattle.net_extract.specs.Links.{is_linking, links_in}
 use Rattle.net_extract.specs.Pieces.{part_of, piece_cmp, Paired}

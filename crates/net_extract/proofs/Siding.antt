@@ -18,7 +18,7 @@ use Rattle.net_extract.specs.Parts.{IsIn}
 use Rattle.net_extract.specs.Devices.{InRow, diffusion_of, IsSide, IsClosed, IsSize, Flow, rightward, upward, source_side, drain_side, low_end, high_end, IsGateBox, IsDevice, IsSomeDevice}
 use Rattle.net_extract.specs.Extraction.{IsDrawn}
 use Rattle.net_extract.specs.Pieces.{kind_of, place, rect_of, part_of}
-use Rattle.net_extract.specs.NetMaps.{firsts_of, pieces_of, AreWires, IsFound}
+use Rattle.net_extract.specs.Connections.{firsts_of, pieces_of, AreWires, IsFound}
 use Rattle.net_extract.specs.Lookups.{net_in}
 use Rattle.net_extract.specs.Areas.{meeting, IsFull, IsFree}
 use Rattle.net_extract.specs.Sides.{flow_of, conductor_of, IsInRow, IsDiffusion, agrees, all_agree, IsSideNet, IsAlong, IsNotAlong, AreClosed, width_of, length_of, drawn_as}
@@ -27,7 +27,7 @@ use Rattle.net_extract.specs.declared.side.Current.TheVariants.{Rightward, Upwar
 use Rattle.net_extract.specs.declared.netlist.Drawn.{Drawn}
 use Rattle.net_extract.specs.declared.piece.Conductor.TheVariants.{Poly}
 use Rattle.net_extract.specs.declared.piece.Piece.{Piece}
-use Rattle.net_extract.specs.declared.netmap.Wire.{Wire}
+use Rattle.net_extract.specs.declared.connections.Wire.{Wire}
 use Rattle.net_extract.proofs.Conductors.{same_place, same_kind_place}
 use Rattle.net_extract.proofs.Filling.{meeting_decides, and_parts, and_true}
 use Rattle.net_extract.proofs.Labelling.{net_in_some, net_in_none, wire_net}

@@ -20,9 +20,9 @@ use Rattle.net_extract.specs.Nets.{Site, Conducts, Wired, SameNet}
 use Rattle.net_extract.specs.Numbering.{NotBehind, IsFirstOfNet, IsBefore, AreNets, IsInNet}
 use Rattle.net_extract.specs.Parts.{AreDrawn, Part, Bond, touching, Bonded, IsPart, IsIn}
 use Rattle.net_extract.specs.Pieces.{rects_in, rect_of, part_of, corner_of, piece_cmp, Paired}
-use Rattle.net_extract.specs.NetMaps.{firsts_of, pieces_of, nets_of, AreWires, blank, heads_below, AreNumbered}
+use Rattle.net_extract.specs.Connections.{firsts_of, pieces_of, nets_of, AreWires, blank, heads_below, AreNumbered}
 use Rattle.net_extract.specs.declared.piece.Piece.{Piece}
-use Rattle.net_extract.specs.declared.netmap.Wire.{Wire}
+use Rattle.net_extract.specs.declared.connections.Wire.{Wire}
 use Rattle.net_extract.proofs.Bonds.{carried_steps, one_net}
 use Rattle.net_extract.proofs.Classing.{chained_same, same_chained, least_heads}
 use Rattle.net_extract.proofs.Listing.{listed_of, part_listed, piece_proper, corner_in, corner_conducts, held}

@@ -11,13 +11,13 @@ use Rattle.scmos_rules.specs.declared.rules.Deck.TheVariants.{Plain}
 use Rattle.net_extract.specs.Devices.{IsFirstOdd, AreDevices}
 use Rattle.net_extract.specs.Extraction.{IsDrawn}
 use Rattle.net_extract.specs.Nets.{Site}
-use Rattle.net_extract.specs.NetMaps.{AreWires, blank}
+use Rattle.net_extract.specs.Connections.{AreWires, blank}
 use Rattle.net_extract.specs.Pieces.{rect_of}
 use Rattle.net_extract.specs.declared.fault.ExtractFault.{ExtractFault}
 use Rattle.net_extract.specs.declared.fault.ExtractFault.TheVariants.{OddDevice, NoMemory}
 use Rattle.net_extract.specs.declared.netlist.Drawn.{Drawn}
 use Rattle.net_extract.specs.declared.piece.Piece.{Piece}
-use Rattle.net_extract.specs.declared.netmap.Wire.{Wire}
+use Rattle.net_extract.specs.declared.connections.Wire.{Wire}
 
 -- the shapes are poly and cover the gate cells of a drawing
 pub record AreGates (s gates : List Shape) : Type 0 where

@@ -1,5 +1,6 @@
 pub mod Areas
 pub mod Classes
+pub mod Connections
 pub mod Corners
 pub mod Cuts
 pub mod Devices
@@ -14,6 +15,6 @@ pub mod NetMaps
 pub mod Nets
 pub mod Numbering
 pub mod Parts
+pub mod Pieces
 pub mod Sides
 pub mod Steps
-pub mod Pieces

@@ -14,7 +14,7 @@ use Rattle.net_extract.specs.declared.fault.ExtractFault.TheVariants.{Stray, NoM
 use Rattle.net_extract.specs.declared.piece.Conductor.{Conductor}
 use Rattle.net_extract.specs.declared.piece.Conductor.TheVariants.{PDiffusion, NDiffusion, Poly, Metal1, Metal2}
 use Rattle.net_extract.specs.declared.piece.Piece.{Piece}
-use Rattle.net_extract.specs.declared.netmap.Wire.{Wire}
+use Rattle.net_extract.specs.declared.connections.Wire.{Wire}
 
 -- the piece is of the kind and holds the cell
 abbrev pub is_at : Piece → Conductor → ℤ → ℤ → Bool

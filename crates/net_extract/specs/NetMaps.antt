@@ -1,47 +1,98 @@
--- The nets of a drawing as the code keeps them: each piece of conductor with its net's number.
-use Rattle.std.specs.Prelude.{◌≡◌, ℕ, zero, suc, ◌<◌, ◌==◌, ℤ, pos, if◌then◌else◌, List, [], ◌∷◌, ◌++◌, map, get_or, slice_get, Some, take}
-use Rattle.std.specs.List.{All}
+-- The nets of a drawing as its callers look them up.
+use Rattle.std.specs.Prelude.{◌≡◌, ◌↔◌, ℕ, ◌<◌, ℤ, Bool, ◌&&◌, ◌==◌, Option, Some, List, map, length}
+use Rattle.std.specs.Cmp.Lexicographic.{slice_cmp}
+use Rattle.std.specs.List.{All, Contains, filter, find}
+use Rattle.std.specs.List.Sorted.{IsSortedByKey}
+use Rattle.std.specs.Option.{option_map}
+use Rattle.std.specs.Ordering.{nat_cmp}
+use Rattle.std.specs.Str.{bytes_eq}
+use Rattle.box_geom.specs.Comparisons.{holding}
+use Rattle.box_geom.specs.Layers.{same_layer}
+use Rattle.box_geom.specs.Rectangle.{Rectangle, Holds, Covers}
+use Rattle.box_geom.specs.Regions.{IsBlock}
+use Rattle.box_geom.specs.declared.layer.Layer.{Layer}
 use Rattle.box_geom.specs.declared.shape.Shape.{Shape}
+use Rattle.box_geom.specs.declared.shape.Shapes.{Shapes}
 use Rattle.scmos_rules.specs.declared.rules.Deck.{Deck}
-use Rattle.net_extract.specs.Nets.{Kind, Site, site_at, Conducts}
-use Rattle.net_extract.specs.Parts.{AreDrawn}
-use Rattle.net_extract.specs.Numbering.{AreNets, IsInNet}
-use Rattle.net_extract.specs.Pieces.{rects_in, corner_of}
-use Rattle.net_extract.specs.declared.piece.Conductor.TheVariants.{PDiffusion}
-use Rattle.net_extract.specs.declared.piece.Piece.{Piece}
-use Rattle.net_extract.specs.declared.netmap.Wire.{Wire}
+use Rattle.net_extract.specs.Extraction.{AreRegular, IsLabelled}
+use Rattle.net_extract.specs.Labels.{IsConductorAt}
+use Rattle.net_extract.specs.Naming.{IsAgreed, names_of}
+use Rattle.net_extract.specs.Nets.{layer_of, Site}
+use Rattle.net_extract.specs.Numbering.{IsInNet}
+use Rattle.net_extract.specs.Pieces.{kind_of, rect_of}
+use Rattle.net_extract.specs.declared.connections.Wire.{Wire}
+use Rattle.net_extract.specs.declared.naming.Held.{Held}
+use Rattle.net_extract.specs.declared.net_piece.NetPiece.{NetPiece}
 
--- the first cells of all nets
-abbrev pub firsts_of : List Piece → List Site
-firsts_of firsts = map corner_of firsts
+-- conductor by layers with the nets of its rectangles, labels with their nets, and the names of all nets by number
+pub record NetMap : Type 0 where
+  pub pieces : List NetPiece
+  pub labels : List Held
+  pub names : List (List ℕ)
 
-abbrev pub pieces_of : List Wire → List Piece
-pieces_of wires = map (λ (w : Wire). w.piece) wires
+-- the pieces are rectangles of the plane, and a cell of a layer lies in pieces of one net
+pub record AreOfNets (pieces : List NetPiece) : Type 0 where
+  pub blocks : All (λ (p : NetPiece). IsBlock p.block) pieces
+  pub one : (p q : NetPiece) → Contains pieces p → Contains pieces q → p.layer ≡ q.layer → (x y : ℤ) → Holds p.block x y → Holds q.block x y → p.net ≡ q.net
 
-abbrev pub nets_of : List Wire → List ℕ
-nets_of wires = map (λ (w : Wire). w.net) wires
+abbrev pub at_cell : Layer → ℤ → ℤ → NetPiece → Bool
+at_cell layer x y p = same_layer p.layer layer && holding p.block x y
 
--- the pieces are the conductor, the firsts are the first pieces of all nets, and each piece has its net's number
-pub record AreWires (deck : Deck) (s : List Shape) (wires : List Wire) (firsts : List Piece) : Type 0 where
-  pub drawn : AreDrawn s (rects_in (pieces_of wires))
-  pub nets : AreNets deck s (firsts_of firsts)
-  pub numbers : All (λ (w : Wire). IsInNet deck s (firsts_of firsts) w.net (corner_of w.piece)) wires
+abbrev pub net_in : List NetPiece → Layer → ℤ → ℤ → Option ℕ
+net_in pieces layer x y = option_map (λ (p : NetPiece). p.net) (find (at_cell layer x y) pieces)
 
--- the conductor cell at a place and its number
-pub record IsFound (deck : Deck) (s : List Shape) (firsts : List Site) (k : Kind) (x y : ℤ) (n : ℕ) : Type 0 where
-  pub conducts : Conducts s (site_at k x y)
-  pub net : IsInNet deck s firsts n (site_at k x y)
+-- the net of the conductor of a layer in a cell
+abbrev pub net_of : NetMap → Layer → ℤ → ℤ → Option ℕ
+net_of m layer x y = net_in m.pieces layer x y
 
-abbrev pub blank : Piece
-blank = record { low = pos 0; left = pos 0; kind = PDiffusion; top = pos 0; right = pos 0 }
+-- the rectangles have the cells of net n on the layer
+abbrev pub AreCellsOf : NetMap → ℕ → Layer → List Rectangle → Type 0
+AreCellsOf m n layer rs = (x y : ℤ) → Covers rs x y ↔ net_of m layer x y ≡ Some n
 
--- the pieces below number k that are labelled by their own numbers
-abbrev pub heads_below : List Piece → List ℕ → ℕ → List Piece
-heads_below ps labels zero = []
-heads_below ps labels (suc k) = heads_below ps labels k ++ (if get_or labels k 0 == k then get_or ps k blank ∷ [] else [])
+abbrev pub of_net : ℕ → Layer → NetPiece → Bool
+of_net n layer p = same_layer p.layer layer && (p.net == n)
 
--- the pieces below number k have their numbers
-pub record AreNumbered (ps : List Piece) (labels : List ℕ) (k : ℕ) (wires : List Wire) (firsts : List Piece) : Type 0 where
-  pub pieces : pieces_of wires ≡ take k ps
-  pub heads : firsts ≡ heads_below ps labels k
-  pub numbers : (i : ℕ) → i < k → slice_get firsts (get_or (nets_of wires) i 0) ≡ Some (get_or ps (get_or labels i 0) blank)
+abbrev pub blocks_of : ℕ → Layer → List NetPiece → List Rectangle
+blocks_of n layer pieces = map (λ (p : NetPiece). p.block) (filter (of_net n layer) pieces)
+
+-- the net of the first label of a name
+abbrev pub net_labelled : List Held → List ℕ → Option ℕ
+net_labelled held name = option_map (λ (h : Held). h.net) (find (λ (h : Held). bytes_eq h.name name) held)
+
+-- the net that a label stands in
+abbrev pub net_named : NetMap → List ℕ → Option ℕ
+net_named m name = net_labelled m.labels name
+
+-- the labels ascend by their names, and those of one name are of one net
+pub record AreByName (labels : List Held) : Type 0 where
+  pub sorted : IsSortedByKey (λ (h : Held). h.name) (slice_cmp nat_cmp) labels
+  pub one : (h k : Held) → Contains labels h → Contains labels k → h.name ≡ k.name → h.net ≡ k.net
+
+-- the nets of pieces and labels are numbers of names
+pub record HaveNames (ps : List NetPiece) (held : List Held) (names : List (List ℕ)) : Type 0 where
+  pub pieces : All (λ (p : NetPiece). p.net < length names) ps
+  pub labels : All (λ (h : Held). h.net < length names) held
+
+-- the cell is conductor of the layer, and in net n
+pub record IsNetAt (deck : Deck) (s : List Shape) (firsts : List Site) (layer : Layer) (x y : ℤ) (n : ℕ) : Type 0 where
+  pub site : Site
+  pub conductor : IsConductorAt s layer (record { x = x; y = y }) site
+  pub net : IsInNet deck s firsts n site
+
+-- the nets of a drawing that has a netlist, and their names as the netlist has them
+pub record Maps (deck : Deck) (shapes : Shapes) (map : NetMap) : Type 0 where
+  pub regular : AreRegular deck shapes
+  pub firsts : List Site
+  pub held : List Held
+  pub has : IsLabelled deck shapes firsts held
+  pub agreed : IsAgreed held (length firsts)
+  pub names : map.names ≡ names_of held (length firsts)
+  pub labels : (name : List ℕ) → net_named map name ≡ net_labelled held name
+  pub nets : (layer : Layer) (x y : ℤ) (n : ℕ) → net_of map layer x y ≡ Some n ↔ IsNetAt deck shapes.rects firsts layer x y n
+
+-- the connections of a drawing by layers
+abbrev pub net_piece : Wire → NetPiece
+net_piece w = record { layer = layer_of (kind_of w.piece.kind); block = rect_of w.piece; net = w.net }
+
+abbrev pub net_pieces : List Wire → List NetPiece
+net_pieces wires = map net_piece wires

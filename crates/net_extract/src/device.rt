@@ -5,7 +5,7 @@ ghost use Rattle.scmos_rules.specs.declared.rules.Deck.TheVariants.{Plain};
 ghost use Rattle.net_extract.specs.Areas.{cells_in, meeting_across, meeting_upward, meeting};
 ghost use Rattle.net_extract.specs.Devices.{IsSide, IsGateBox, IsSomeDevice, diffusion_of};
 ghost use Rattle.net_extract.specs.Extraction.{IsDrawn};
-ghost use Rattle.net_extract.specs.NetMaps.{AreWires, firsts_of};
+ghost use Rattle.net_extract.specs.Connections.{AreWires, firsts_of};
 ghost use Rattle.net_extract.specs.Nets.{Site};
 ghost use Rattle.net_extract.specs.Pieces.{rect_of};
 ghost use Rattle.net_extract.specs.Sides.{flow_of, conductor_of, IsInRow, IsDiffusion, agrees, all_agree, IsSideNet, IsAlong, IsNotAlong, AreClosed, AreSideNets, drawn_as};
@@ -13,10 +13,10 @@ ghost use Rattle.net_extract.specs.Lookups.{net_in};
 ghost use Rattle.net_extract.specs.declared.piece.Conductor.TheVariants.{Poly};
 
 use crate::area::{Area, do_overlap, is_free, is_full};
+use crate::connections::{Connections, Wire};
 use crate::layers::Layers;
 use crate::lookup::net_of_cell;
 use crate::netlist::Drawn;
-use crate::netmap::{NetMap, Wire};
 use crate::piece::{Conductor, Piece};
 use crate::side::{Current, drain, high_side, low_side, source, whole};
 use box_geom::Layer;
@@ -88,7 +88,7 @@ fn conductor(row: Row) -> Conductor
 }
 
 // The net along an area of diffusion of the row; None where it is no such area or of more than one net.
-fn side_net(shapes: &Layers, map: &NetMap, row: Row, area: &Area) -> Option<u32>
+fn side_net(shapes: &Layers, map: &Connections, row: Row, area: &Area) -> Option<u32>
     requires area { IsProper (cells_in area.now) }
     requires shapes { All (λ s. IsProper s.rect) shapes.now }
     requires map { AreWires Plain shapes.now map.now.wires.items map.now.firsts.items }
@@ -153,7 +153,7 @@ fn gate_net(wires: &[Wire], gate: &Piece) -> Option<u32>
 // The nets along the two sides that the current flows through.
 fn side_nets(
     shapes: &Layers,
-    map: &NetMap,
+    map: &Connections,
     row: Row,
     gate: &Piece,
     current: Current,
@@ -177,7 +177,7 @@ fn side_nets(
 // The device of a gate with the current in one direction; None where it is none.
 fn device_along(
     shapes: &Layers,
-    map: &NetMap,
+    map: &Connections,
     row: Row,
     gate: &Piece,
     current: Current,
@@ -201,7 +201,7 @@ fn device_along(
     }
 }
 
-fn device_in_row(shapes: &Layers, map: &NetMap, row: Row, gate: &Piece) -> Option<Drawn>
+fn device_in_row(shapes: &Layers, map: &Connections, row: Row, gate: &Piece) -> Option<Drawn>
     requires gate { IsGateBox shapes.now (rect_of gate.now) }
     requires shapes { All (λ s. IsProper s.rect) shapes.now }
     requires map { AreWires Plain shapes.now map.now.wires.items map.now.firsts.items }
@@ -216,7 +216,7 @@ fn device_in_row(shapes: &Layers, map: &NetMap, row: Row, gate: &Piece) -> Optio
 }
 
 /// The device of a gate box; None where it is none.
-pub(crate) fn device_of(shapes: &Layers, map: &NetMap, gate: &Piece) -> Option<Drawn>
+pub(crate) fn device_of(shapes: &Layers, map: &Connections, gate: &Piece) -> Option<Drawn>
     requires gate { IsGateBox shapes.now (rect_of gate.now) }
     requires shapes { All (λ s. IsProper s.rect) shapes.now }
     requires map { AreWires Plain shapes.now map.now.wires.items map.now.firsts.items }

@@ -9,18 +9,18 @@ ghost use Rattle.net_extract.specs.Corners.{HaveFewSides};
 ghost use Rattle.net_extract.specs.Cuts.{poly_of};
 ghost use Rattle.net_extract.specs.Extraction.{AreFew, AreRegular, Extracts, ExtractRefused, SaysTooMany};
 ghost use Rattle.net_extract.specs.GateNets.{AreGateNets, AreFound};
-ghost use Rattle.net_extract.specs.NetMaps.{AreWires, firsts_of};
+ghost use Rattle.net_extract.specs.Connections.{AreWires, firsts_of};
 ghost use Rattle.net_extract.specs.Pieces.{rect_of};
-ghost use Rattle.net_extract.specs.Steps.{AreNamed};
+ghost use Rattle.net_extract.specs.Steps.{AreNamed, IsMapped};
 
 use crate::conductor::gate_pieces;
+use crate::connections::{Connections, connections_of, count_of};
 use crate::fault::ExtractFault;
 use crate::gate::devices;
 use crate::layers::Layers;
 use crate::lookup::{all_held, check_strays};
-use crate::naming::net_names;
+use crate::naming::{Held, net_names};
 use crate::netlist::{DrawnList, Netlist};
-use crate::netmap::{NetMap, count_of, net_map};
 use crate::piece::Piece;
 use box_geom::{Layer, Rect, Shape, Shapes};
 use cell_num::{Names, NoMemory};
@@ -29,6 +29,21 @@ use std::alloc::Global;
 const MOST_RECTS: usize = 10_000;
 
 const MOST_LABELS: usize = 2_000;
+
+/// The labels on layers of conductors with their nets, and the names of all nets by them.
+#[derive(Drop)]
+pub struct Named {
+    pub held: Vec<Held>,
+    pub names: Names,
+}
+
+/// What a drawing that is not refused consists of: connections, devices and labels.
+#[derive(Drop)]
+pub struct Mapped {
+    pub connections: Connections,
+    pub devices: DrawnList,
+    pub named: Named,
+}
 
 #[tactic(auto, using(crate::proofs::Extracting::count_rules))]
 fn check_counts(shapes: &Shapes) -> Result<(), ExtractFault>
@@ -78,17 +93,17 @@ fn gate_shapes(alloc: Global, pieces: &[Piece]) -> Result<Vec<Shape>, NoMemory>
 }
 
 // The classes of gate cells, as the nets of a drawing of the gates alone.
-fn gate_map(alloc: Global, shapes: &[Shape]) -> Result<NetMap, NoMemory>
+fn gate_map(alloc: Global, shapes: &[Shape]) -> Result<Connections, NoMemory>
     requires limits { All (λ s. IsRectangle s.rect) shapes.now }
     requires few { HaveFewSides shapes.now }
     ensures { IfOk result (λ m. AreGateNets shapes.now m.wires.items m.firsts.items) }
 {
     let pieces = gate_pieces(alloc, shapes)?;
     let gates = gate_shapes(alloc, pieces.as_slice())?;
-    net_map(alloc, gates.as_slice())
+    connections_of(alloc, gates.as_slice())
 }
 
-fn all_devices(alloc: Global, shapes: &Shapes, map: &NetMap) -> Result<DrawnList, ExtractFault>
+fn all_devices(alloc: Global, shapes: &Shapes, map: &Connections) -> Result<DrawnList, ExtractFault>
     requires few { AreFew shapes.now }
     requires limits { AreWithinLimits shapes.now.rects }
     requires map { AreWires Plain shapes.now.rects map.now.wires.items map.now.firsts.items }
@@ -107,7 +122,7 @@ fn all_devices(alloc: Global, shapes: &Shapes, map: &NetMap) -> Result<DrawnList
     }
 }
 
-fn names_by_labels(alloc: Global, shapes: &Shapes, map: &NetMap) -> Result<Names, ExtractFault>
+fn named_by_labels(alloc: Global, shapes: &Shapes, map: &Connections) -> Result<Named, ExtractFault>
     requires regular { AreRegular Plain shapes.now }
     requires map { AreWires Plain shapes.now.rects map.now.wires.items map.now.firsts.items }
     requires held { find (is_lost map.now.wires.items) shapes.now.labels ≡ None }
@@ -120,12 +135,12 @@ fn names_by_labels(alloc: Global, shapes: &Shapes, map: &NetMap) -> Result<Names
     };
     let count = count_of(map.firsts.as_slice());
     match net_names(alloc, held.as_slice(), count) {
-        Ok(names) => Ok(names),
+        Ok(names) => Ok(Named { held, names }),
         Err(fault) => Err(fault),
     }
 }
 
-fn all_names(alloc: Global, shapes: &Shapes, map: &NetMap) -> Result<Names, ExtractFault>
+fn all_named(alloc: Global, shapes: &Shapes, map: &Connections) -> Result<Named, ExtractFault>
     requires regular { AreRegular Plain shapes.now }
     requires map { AreWires Plain shapes.now.rects map.now.wires.items map.now.firsts.items }
     requires few { length map.now.firsts.items ≤ 2000000000 }
@@ -133,23 +148,39 @@ fn all_names(alloc: Global, shapes: &Shapes, map: &NetMap) -> Result<Names, Extr
     ensures refused { IfErr result (λ f. ExtractRefused Plain shapes.now f) }
 {
     match check_strays(alloc, map.wires.as_slice(), shapes.labels.as_slice()) {
-        Ok(()) => names_by_labels(alloc, shapes, map),
+        Ok(()) => named_by_labels(alloc, shapes, map),
         Err(fault) => Err(fault),
     }
 }
 
-fn extract_few(alloc: Global, shapes: &Shapes) -> Result<Netlist, ExtractFault>
+fn map_few(alloc: Global, shapes: &Shapes) -> Result<Mapped, ExtractFault>
     requires few { AreFew shapes.now }
     requires limits { AreWithinLimits shapes.now.rects }
-    ensures ok { IfOk result (λ n. Extracts Plain shapes.now n) }
+    ensures ok { IfOk result (IsMapped Plain shapes.now) }
     ensures refused { IfErr result (λ f. ExtractRefused Plain shapes.now f) }
 {
-    let Ok(map) = net_map(alloc, shapes.rects.as_slice()) else {
+    let Ok(connections) = connections_of(alloc, shapes.rects.as_slice()) else {
         return Err(ExtractFault::NoMemory);
     };
-    let devices = all_devices(alloc, shapes, &map)?;
-    let names = all_names(alloc, shapes, &map)?;
-    Ok(Netlist { names, devices })
+    let devices = all_devices(alloc, shapes, &connections)?;
+    let named = all_named(alloc, shapes, &connections)?;
+    Ok(Mapped {
+        connections,
+        devices,
+        named,
+    })
+}
+
+/// All steps of extraction, in the order of the faults.
+#[tactic(auto, using(crate::proofs::Extracting::count_rules))]
+pub(crate) fn map_drawing(alloc: Global, shapes: &Shapes) -> Result<Mapped, ExtractFault>
+    ensures ok { IfOk result (IsMapped Plain shapes.now) }
+    ensures refused { IfErr result (λ f. ExtractRefused Plain shapes.now f) }
+    ensures many { SaysTooMany shapes.now result }
+{
+    check_counts(shapes)?;
+    shapes.show_limits();
+    map_few(alloc, shapes)
 }
 
 /// The nets and devices of a drawing: nets by number with their names, devices by the nets at their gates
@@ -161,7 +192,11 @@ pub fn extract(alloc: Global, shapes: &Shapes) -> Result<Netlist, ExtractFault>
     ensures refused { IfErr result (λ f. ExtractRefused Plain shapes.now f) }
     ensures many { SaysTooMany shapes.now result }
 {
-    check_counts(shapes)?;
-    shapes.show_limits();
-    extract_few(alloc, shapes)
+    match map_drawing(alloc, shapes) {
+        Ok(Mapped { devices, named, .. }) => Ok(Netlist {
+            names: named.names,
+            devices,
+        }),
+        Err(fault) => Err(fault),
+    }
 }

@@ -5,16 +5,16 @@ ghost use Rattle.scmos_rules.specs.declared.rules.Deck.TheVariants.{Plain};
 ghost use Rattle.net_extract.specs.Devices.{IsOdd};
 ghost use Rattle.net_extract.specs.Extraction.{IsDrawn};
 ghost use Rattle.net_extract.specs.GateNets.{AreGateNets, wider, point_of, box_of, IsAllGate, AreFound, IsOddFault};
-ghost use Rattle.net_extract.specs.NetMaps.{AreWires, firsts_of, blank};
+ghost use Rattle.net_extract.specs.Connections.{AreWires, firsts_of, blank};
 ghost use Rattle.net_extract.specs.Pieces.{rect_of};
 ghost use Rattle.net_extract.specs.declared.fault.ExtractFault.TheVariants.{OddDevice};
 
 use crate::area::is_full;
+use crate::connections::{Connections, Wire};
 use crate::device::device_of;
 use crate::fault::ExtractFault;
 use crate::layers::Layers;
 use crate::netlist::{Drawn, DrawnList};
-use crate::netmap::{NetMap, Wire};
 use crate::piece::Piece;
 use crate::side::whole;
 use box_geom::Layer;
@@ -59,7 +59,7 @@ fn bounds(wires: &[Wire], net: usize, first: Piece) -> Piece
     all
 }
 
-fn box_of_class(gates: &NetMap, net: usize) -> Piece
+fn box_of_class(gates: &Connections, net: usize) -> Piece
     requires { net < length gates.now.firsts.items }
     ensures { result ≡ box_of gates.now.wires.items gates.now.firsts.items net }
 {
@@ -78,7 +78,12 @@ fn is_gate(shapes: &Layers, gate: &Piece) -> bool
     }
 }
 
-fn device_of_class(shapes: &Layers, map: &NetMap, gates: &NetMap, net: usize) -> Option<Drawn>
+fn device_of_class(
+    shapes: &Layers,
+    map: &Connections,
+    gates: &Connections,
+    net: usize,
+) -> Option<Drawn>
     requires net { net < length gates.now.firsts.items }
     requires shapes { All (λ s. IsProper s.rect) shapes.now }
     requires map { AreWires Plain shapes.now map.now.wires.items map.now.firsts.items }
@@ -109,8 +114,8 @@ fn odd(first: Piece) -> ExtractFault
 pub(crate) fn devices(
     alloc: Global,
     shapes: &Layers,
-    map: &NetMap,
-    gates: &NetMap,
+    map: &Connections,
+    gates: &Connections,
 ) -> Result<DrawnList, ExtractFault>
     requires shapes { All (λ s. IsProper s.rect) shapes.now }
     requires map { AreWires Plain shapes.now map.now.wires.items map.now.firsts.items }

@@ -7,9 +7,9 @@ ghost use Rattle.net_extract.specs.Labels.{is_wiring};
 ghost use Rattle.net_extract.specs.Lookups.{is_at, net_in, net_on, or_else, net_round, net_of_label, is_lost, held_of, held_in, IsStrayOf, IsLostBy};
 ghost use Rattle.net_extract.specs.Pieces.{rect_of};
 
+use crate::connections::Wire;
 use crate::fault::ExtractFault;
 use crate::naming::Held;
-use crate::netmap::Wire;
 use crate::piece::{Conductor, Piece};
 use box_geom::{Label, Layer};
 use cell_num::{NoMemory, copy};

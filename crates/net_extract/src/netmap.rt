@@ -1,147 +1,93 @@
-// The nets of a drawing: every piece of conductor with the number of its net.
-ghost use Rattle.std.specs.Prelude.{◌≡◌, ◌<◌, ◌≤◌, ◌++◌, ◌∷◌, [], ◌+◌, All, IsPermutation, IsSorted, length, get_or, IfOk, OnOk};
+// The nets of a drawing, to be looked up by cell, by number and by label.
+ghost use Rattle.std.specs.Prelude.{◌≡◌, ◌<◌, [], length, get_or, IfOk, IfErr, IfSome};
+ghost use Rattle.std.specs.List.{All};
+ghost use Rattle.box_geom.specs.Regions.{IsBlock};
 ghost use Rattle.scmos_rules.specs.declared.rules.Deck.TheVariants.{Plain};
-ghost use Rattle.net_extract.specs.Classes.{AreHeads, AreLeast};
-ghost use Rattle.box_geom.specs.Rectangle.{IsProper};
-ghost use Rattle.net_extract.specs.Corners.{HaveFewSides, HaveFewCorners};
-ghost use Rattle.net_extract.specs.NetMaps.{AreNumbered, AreWires, nets_of, heads_below};
-ghost use Rattle.net_extract.specs.Parts.{AreDrawn};
-ghost use Rattle.net_extract.specs.Pieces.{rect_of, rects_in, piece_cmp, Paired};
+ghost use Rattle.net_extract.specs.Extraction.{ExtractRefused, SaysTooMany};
+ghost use Rattle.net_extract.specs.NetMaps.{AreCellsOf, Maps, net_named, net_of};
 
-use crate::class::least_labels;
-use crate::conductor::{all_links, all_pieces};
-use crate::piece::Piece;
-use box_geom::Shape;
-use cell_num::NoMemory;
+use crate::drawing::{Mapped, map_drawing};
+use crate::fault::ExtractFault;
+use crate::label_nets::{by_name, net_of_name};
+use crate::naming::Held;
+use crate::net_piece::{NetPiece, blocks_of, net_at, net_pieces};
+use box_geom::{Block, Layer, Shapes};
+use cell_num::{Name, Names, NoMemory};
 use std::alloc::Global;
+use std::marker::Model;
 
-/// A piece of conductor and the number of its net.
-#[derive(Clone, Copy, Debug)]
-pub struct Wire {
-    pub piece: Piece,
-    pub net: u32,
-}
-
-// The nets of a drawing, by number, and its pieces.
+/// The nets of a drawing by their numbers, which are those of its netlist. Contracts see the conductor of
+/// all layers with the nets of its rectangles, labels with their nets, and the names of all nets.
 #[derive(Debug, Drop)]
 pub struct NetMap {
-    pub wires: Vec<Wire>,
-    pub firsts: Vec<Piece>,
+    pieces: Vec<NetPiece>,
+    labels: Vec<Held>,
+    names: Names,
 }
 
-// A drawing of 10,000 rectangles has 20,000 sides across and as many upward, and the first cell of a net lies at one
-// of each: there are fewer nets than 32 bits can count.
-pub(crate) fn count_of(firsts: &[Piece]) -> u32
-    requires { length firsts.now ≤ 2000000000 }
-    ensures { result ≡ length firsts.now }
-{
-    firsts.len() as u32
+impl Model for NetMap {
+    ghost use Rattle.net_extract.specs.NetMaps.{NetMap as NetMapOf, AreByName, AreOfNets, HaveNames};
+
+    ghost Value = { NetMapOf };
+
+    ghost view = { λ m. record { pieces = m.pieces.items; labels = m.labels.items; names = m.names } };
+
+    ghost invariant = { λ m. AreOfNets m.pieces.items × AreByName m.labels.items
+        × HaveNames m.pieces.items m.labels.items m.names };
 }
 
-// The number of a piece: a new one where it is the first of its class.
-fn number_of(
-    firsts: &mut Vec<Piece>,
-    wires: &[Wire],
-    piece: Piece,
-    label: usize,
-) -> Result<u32, NoMemory>
-    requires label { label ≤ length wires.now }
-    requires few { length firsts.old.items ≤ 2000000000 }
-    ensures first { IfOk result (λ n. label ≡ length wires.now → firsts.new.items ≡ firsts.old.items ++ piece ∷ []) }
-    ensures new { IfOk result (λ n. label ≡ length wires.now → n ≡ length firsts.old.items) }
-    ensures later { IfOk result (λ n. label < length wires.now → firsts.new.items ≡ firsts.old.items) }
-    ensures old { IfOk result (λ n. label < length wires.now → n ≡ get_or (nets_of wires.now) label 0) }
-{
-    if label < wires.len() {
-        return Ok(wires[label].net);
+impl NetMap {
+    /// The nets of a drawing. It is refused where it has no netlist, for the same reason.
+    pub fn new(alloc: Global, shapes: &Shapes) -> Result<NetMap, ExtractFault>
+        ensures maps { IfOk result (λ m. Maps Plain shapes.now m) }
+        ensures refused { IfErr result (λ f. ExtractRefused Plain shapes.now f) }
+        ensures many { SaysTooMany shapes.now result }
+    {
+        let drawing = map_drawing(alloc, shapes)?;
+        let Ok(pieces) = net_pieces(alloc, drawing.connections.wires.as_slice()) else {
+            return Err(ExtractFault::NoMemory);
+        };
+        let Mapped { named, .. } = drawing;
+        Ok(NetMap {
+            pieces,
+            labels: by_name(named.held),
+            names: named.names,
+        })
     }
-    let number = count_of(firsts.as_slice());
-    firsts.push(piece).map_err(|_| NoMemory)?;
-    Ok(number)
-}
 
-fn add_wire(wires: &mut Vec<Wire>, piece: Piece, net: u32) -> Result<(), NoMemory>
-    ensures { OnOk result (wires.new.items ≡ wires.old.items ++ record { piece = piece; net = net } ∷ []) }
-{
-    wires.push(Wire { piece, net }).map_err(|_| NoMemory)
-}
-
-fn number_piece(
-    wires: &mut Vec<Wire>,
-    firsts: &mut Vec<Piece>,
-    pieces: &[Piece],
-    labels: &[usize],
-    at: usize,
-) -> Result<(), NoMemory>
-    requires at { at < length pieces.now }
-    requires labels { AreHeads (length pieces.now) labels.now }
-    requires before { AreNumbered pieces.now labels.now at wires.old.items firsts.old.items }
-    requires few { length (heads_below pieces.now labels.now (length pieces.now)) ≤ 2000000000 }
-    ensures { OnOk result (AreNumbered pieces.now labels.now (at + 1) wires.new.items firsts.new.items) }
-{
-    let net = number_of(firsts, wires.as_slice(), pieces[at], labels[at])?;
-    add_wire(wires, pieces[at], net)
-}
-
-// Numbers for all pieces, by their labels.
-fn number_all(alloc: Global, pieces: &[Piece], labels: &[usize]) -> Result<NetMap, NoMemory>
-    requires labels { AreHeads (length pieces.now) labels.now }
-    requires few { length (heads_below pieces.now labels.now (length pieces.now)) ≤ 2000000000 }
-    ensures { IfOk result (λ m. AreNumbered pieces.now labels.now (length pieces.now) m.wires.items m.firsts.items) }
-{
-    let mut wires = Vec::new(alloc);
-    let mut firsts = Vec::new(alloc);
-    for at in 0..pieces.len() {
-        number_piece(&mut wires, &mut firsts, pieces, labels, at)?;
+    /// The net of the conductor of a layer in the cell whose lower left corner is (x, y), in grid units;
+    /// None where there is no conductor of that layer.
+    pub fn net_of(&self, layer: Layer, x: i32, y: i32) -> Option<u32>
+        ensures net { result ≡ net_of self.now layer x y }
+        ensures within { IfSome result (λ n. n < length self.now.names) }
+    {
+        net_at(self.pieces.as_slice(), layer, i64::from(x), i64::from(y))
     }
-    Ok(NetMap { wires, firsts })
-}
 
-fn sorted(mut pieces: Vec<Piece>) -> Vec<Piece>
-    ensures moved { IsPermutation pieces.items result.items }
-    ensures sorted { IsSorted piece_cmp result.items }
-{
-    pieces.sort_unstable();
-    pieces
-}
-
-#[tactic(auto, using(crate::proofs::Netting::piece_rules))]
-fn ordered_pieces(alloc: Global, shapes: &[Shape]) -> Result<Vec<Piece>, NoMemory>
-    requires proper { All (λ s. IsProper s.rect) shapes.now }
-    requires few { HaveFewSides shapes.now }
-    ensures drawn { IfOk result (λ ps. AreDrawn shapes.now (rects_in ps.items)) }
-    ensures sorted { IfOk result (λ ps. IsSorted piece_cmp ps.items) }
-    ensures few { IfOk result (λ ps. HaveFewCorners ps.items) }
-{
-    let pieces = all_pieces(alloc, shapes)?;
-    Ok(sorted(pieces.into_vec()))
-}
-
-// For each piece the number of the first one of its net.
-fn net_labels(alloc: Global, shapes: &[Shape], pieces: &[Piece]) -> Result<Vec<usize>, NoMemory>
-    requires proper { All (λ p. IsProper (rect_of p)) pieces.now }
-    requires sorted { IsSorted piece_cmp pieces.now }
-    ensures { IfOk result (λ labels. AreLeast (length pieces.now) (Paired Plain shapes.now pieces.now) labels.items) }
-{
-    let links = all_links(alloc, shapes)?;
-    match least_labels(alloc, links.as_slice(), pieces) {
-        Ok(labels) => Ok(labels),
-        Err(NoMemory) => Err(NoMemory),
+    /// The name of a net: its label, or `_` and its number where it has none.
+    pub fn name(&self, net: u32) -> &Name
+        requires { net < length self.now.names }
+        ensures { result.now ≡ get_or self.now.names net [] }
+    {
+        &self.names.as_slice()[net as usize]
     }
-}
 
-/// The nets of a drawing: pieces in the order of their first cells, with the numbers of their nets.
-#[tactic(auto, using(crate::proofs::Netting::net_rules))]
-pub(crate) fn net_map(alloc: Global, shapes: &[Shape]) -> Result<NetMap, NoMemory>
-    requires proper { All (λ s. IsProper s.rect) shapes.now }
-    requires few { HaveFewSides shapes.now }
-    ensures wires { IfOk result (λ m. AreWires Plain shapes.now m.wires.items m.firsts.items) }
-    ensures few { IfOk result (λ m. length m.firsts.items ≤ 2000000000) }
-{
-    let pieces = ordered_pieces(alloc, shapes)?;
-    let labels = net_labels(alloc, shapes, pieces.as_slice())?;
-    match number_all(alloc, pieces.as_slice(), labels.as_slice()) {
-        Ok(map) => Ok(map),
-        Err(NoMemory) => Err(NoMemory),
+    /// The net that the labels of a name stand in; None where there is no such label.
+    pub fn net_named(&self, name: &[u8]) -> Option<u32>
+        ensures net { result ≡ net_named self.now name.now }
+        ensures within { IfSome result (λ n. n < length self.now.names) }
+    {
+        net_of_name(self.labels.as_slice(), name)
+    }
+
+    /// The cells of a net on a layer, as rectangles that may overlap.
+    pub fn pieces(&self, alloc: Global, net: u32, layer: Layer) -> Result<Vec<Block>, NoMemory>
+        ensures blocks { IfOk result (λ bs. All IsBlock bs.items) }
+        ensures cells { IfOk result (λ bs. AreCellsOf self.now net layer bs.items) }
+    {
+        match blocks_of(alloc, self.pieces.as_slice(), net, layer) {
+            Ok(blocks) => Ok(blocks),
+            Err(NoMemory) => Err(NoMemory),
+        }
     }
 }

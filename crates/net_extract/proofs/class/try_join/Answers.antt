@@ -1,7 +1,7 @@
 use Rattle.std.proofs.Common.{length}
 use Rattle.scmos_rules.specs.declared.rules.Deck.TheVariants.{Plain}
 use Rattle.net_extract.specs.Pieces.{Paired}
-use Rattle.net_extract.specs.NetMaps.{blank}
+use Rattle.net_extract.specs.Connections.{blank}
 use Rattle.net_extract.proofs.Classing.{apart_is}
 use Rattle.net_extract.proofs.Forests.{joining_is, sound_low}
 use Rattle.net_extract.proofs.Pairing.{paired_back, paired_of, bond_of_pair}

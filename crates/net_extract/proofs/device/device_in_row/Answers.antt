@@ -2,7 +2,7 @@ use Rattle.std.proofs.Common.{refl}
 use Rattle.scmos_rules.specs.declared.rules.Deck.TheVariants.{Plain}
 use Rattle.net_extract.specs.Devices.{rightward, upward}
 use Rattle.net_extract.specs.Extraction.{IsDrawn}
-use Rattle.net_extract.specs.NetMaps.{firsts_of}
+use Rattle.net_extract.specs.Connections.{firsts_of}
 use Rattle.net_extract.specs.Pieces.{rect_of}
 use Rattle.net_extract.specs.Sides.{IsAlong}
 use Rattle.net_extract.proofs.Siding.{along_drawn, no_device, if_some}

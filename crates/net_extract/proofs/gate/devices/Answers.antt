@@ -2,7 +2,7 @@ use Rattle.std.proofs.Common.{◌<◌, arith, length, sym, subst, refl}
 use Rattle.scmos_rules.specs.declared.rules.Deck.TheVariants.{Plain}
 use Rattle.net_extract.specs.Devices.{IsFirstOdd}
 use Rattle.net_extract.specs.GateNets.{IsOddFault}
-use Rattle.net_extract.specs.NetMaps.{firsts_of}
+use Rattle.net_extract.specs.Connections.{firsts_of}
 use Rattle.net_extract.specs.declared.piece.Piece.{Piece}
 use Rattle.net_extract.proofs.Gating.{gates_of, more_done, all_done, first_odd}
 use Rattle.net_extract.proofs.Wiring.{at_blank}

@@ -1,5 +1,5 @@
 use Rattle.scmos_rules.specs.declared.rules.Deck.TheVariants.{Plain}
-use Rattle.net_extract.specs.NetMaps.{firsts_of}
+use Rattle.net_extract.specs.Connections.{firsts_of}
 use Rattle.net_extract.proofs.Gating.{AreDone}
 use Rattle.net_extract.proofs.gate.devices.Given as goal
 

@@ -3,7 +3,7 @@ use Rattle.box_geom.specs.Rectangle.{IsProper}
 use Rattle.scmos_rules.specs.declared.rules.Deck.TheVariants.{Plain}
 use Rattle.net_extract.specs.Pieces.{rect_of}
 use Rattle.net_extract.proofs.Netting.{pieces_proper, heads_from, net_from, few_from, few_numbered}
-use Rattle.net_extract.proofs.netmap.net_map.Goals as goal
+use Rattle.net_extract.proofs.connections.connections_of.Goals as goal
 
 pub net_labels-requires-clause-proper : goal.net_labels-requires-clause-proper
 net_labels-requires-clause-proper c = subst (λ ps. All (λ p. IsProper (rect_of p)) ps) (sym c.as_slice.ensures.value) (pieces_proper c.args.shapes.now c.in_ok-pieces.pieces.items c.in_ok-pieces.ensures.drawn)

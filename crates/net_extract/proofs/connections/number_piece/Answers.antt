@@ -1,10 +1,10 @@
 use Rattle.std.proofs.Common.{◌≡◌, List, length, get_or, refl, arith, ◌∙◌, sym, ap}
-use Rattle.net_extract.specs.NetMaps.{blank, nets_of, heads_below}
-use Rattle.net_extract.specs.declared.netmap.Wire.{Wire}
+use Rattle.net_extract.specs.Connections.{blank, nets_of, heads_below}
+use Rattle.net_extract.specs.declared.connections.Wire.{Wire}
 use Rattle.net_extract.specs.declared.piece.Piece.{Piece}
 use Rattle.net_extract.proofs.Cornering.{heads_fewer}
 use Rattle.net_extract.proofs.Numbering.{more_numbered, as_many, on_ok}
-use Rattle.net_extract.proofs.netmap.number_piece.Goals as goal
+use Rattle.net_extract.proofs.connections.number_piece.Goals as goal
 
 pub returns : goal.returns
 returns c =

@@ -1,0 +1,147 @@
+// The nets of a drawing: every piece of conductor with the number of its net.
+ghost use Rattle.std.specs.Prelude.{◌≡◌, ◌<◌, ◌≤◌, ◌++◌, ◌∷◌, [], ◌+◌, All, IsPermutation, IsSorted, length, get_or, IfOk, OnOk};
+ghost use Rattle.scmos_rules.specs.declared.rules.Deck.TheVariants.{Plain};
+ghost use Rattle.net_extract.specs.Classes.{AreHeads, AreLeast};
+ghost use Rattle.box_geom.specs.Rectangle.{IsProper};
+ghost use Rattle.net_extract.specs.Corners.{HaveFewSides, HaveFewCorners};
+ghost use Rattle.net_extract.specs.Connections.{AreNumbered, AreWires, nets_of, heads_below};
+ghost use Rattle.net_extract.specs.Parts.{AreDrawn};
+ghost use Rattle.net_extract.specs.Pieces.{rect_of, rects_in, piece_cmp, Paired};
+
+use crate::class::least_labels;
+use crate::conductor::{all_links, all_pieces};
+use crate::piece::Piece;
+use box_geom::Shape;
+use cell_num::NoMemory;
+use std::alloc::Global;
+
+/// A piece of conductor and the number of its net.
+#[derive(Clone, Copy, Debug)]
+pub struct Wire {
+    pub piece: Piece,
+    pub net: u32,
+}
+
+// The nets of a drawing, by number, and its pieces.
+#[derive(Debug, Drop)]
+pub struct Connections {
+    pub wires: Vec<Wire>,
+    pub firsts: Vec<Piece>,
+}
+
+// A drawing of 10,000 rectangles has 20,000 sides across and as many upward, and the first cell of a net lies at one
+// of each: there are fewer nets than 32 bits can count.
+pub(crate) fn count_of(firsts: &[Piece]) -> u32
+    requires { length firsts.now ≤ 2000000000 }
+    ensures { result ≡ length firsts.now }
+{
+    firsts.len() as u32
+}
+
+// The number of a piece: a new one where it is the first of its class.
+fn number_of(
+    firsts: &mut Vec<Piece>,
+    wires: &[Wire],
+    piece: Piece,
+    label: usize,
+) -> Result<u32, NoMemory>
+    requires label { label ≤ length wires.now }
+    requires few { length firsts.old.items ≤ 2000000000 }
+    ensures first { IfOk result (λ n. label ≡ length wires.now → firsts.new.items ≡ firsts.old.items ++ piece ∷ []) }
+    ensures new { IfOk result (λ n. label ≡ length wires.now → n ≡ length firsts.old.items) }
+    ensures later { IfOk result (λ n. label < length wires.now → firsts.new.items ≡ firsts.old.items) }
+    ensures old { IfOk result (λ n. label < length wires.now → n ≡ get_or (nets_of wires.now) label 0) }
+{
+    if label < wires.len() {
+        return Ok(wires[label].net);
+    }
+    let number = count_of(firsts.as_slice());
+    firsts.push(piece).map_err(|_| NoMemory)?;
+    Ok(number)
+}
+
+fn add_wire(wires: &mut Vec<Wire>, piece: Piece, net: u32) -> Result<(), NoMemory>
+    ensures { OnOk result (wires.new.items ≡ wires.old.items ++ record { piece = piece; net = net } ∷ []) }
+{
+    wires.push(Wire { piece, net }).map_err(|_| NoMemory)
+}
+
+fn number_piece(
+    wires: &mut Vec<Wire>,
+    firsts: &mut Vec<Piece>,
+    pieces: &[Piece],
+    labels: &[usize],
+    at: usize,
+) -> Result<(), NoMemory>
+    requires at { at < length pieces.now }
+    requires labels { AreHeads (length pieces.now) labels.now }
+    requires before { AreNumbered pieces.now labels.now at wires.old.items firsts.old.items }
+    requires few { length (heads_below pieces.now labels.now (length pieces.now)) ≤ 2000000000 }
+    ensures { OnOk result (AreNumbered pieces.now labels.now (at + 1) wires.new.items firsts.new.items) }
+{
+    let net = number_of(firsts, wires.as_slice(), pieces[at], labels[at])?;
+    add_wire(wires, pieces[at], net)
+}
+
+// Numbers for all pieces, by their labels.
+fn number_all(alloc: Global, pieces: &[Piece], labels: &[usize]) -> Result<Connections, NoMemory>
+    requires labels { AreHeads (length pieces.now) labels.now }
+    requires few { length (heads_below pieces.now labels.now (length pieces.now)) ≤ 2000000000 }
+    ensures { IfOk result (λ m. AreNumbered pieces.now labels.now (length pieces.now) m.wires.items m.firsts.items) }
+{
+    let mut wires = Vec::new(alloc);
+    let mut firsts = Vec::new(alloc);
+    for at in 0..pieces.len() {
+        number_piece(&mut wires, &mut firsts, pieces, labels, at)?;
+    }
+    Ok(Connections { wires, firsts })
+}
+
+fn sorted(mut pieces: Vec<Piece>) -> Vec<Piece>
+    ensures moved { IsPermutation pieces.items result.items }
+    ensures sorted { IsSorted piece_cmp result.items }
+{
+    pieces.sort_unstable();
+    pieces
+}
+
+#[tactic(auto, using(crate::proofs::Netting::piece_rules))]
+fn ordered_pieces(alloc: Global, shapes: &[Shape]) -> Result<Vec<Piece>, NoMemory>
+    requires proper { All (λ s. IsProper s.rect) shapes.now }
+    requires few { HaveFewSides shapes.now }
+    ensures drawn { IfOk result (λ ps. AreDrawn shapes.now (rects_in ps.items)) }
+    ensures sorted { IfOk result (λ ps. IsSorted piece_cmp ps.items) }
+    ensures few { IfOk result (λ ps. HaveFewCorners ps.items) }
+{
+    let pieces = all_pieces(alloc, shapes)?;
+    Ok(sorted(pieces.into_vec()))
+}
+
+// For each piece the number of the first one of its net.
+fn net_labels(alloc: Global, shapes: &[Shape], pieces: &[Piece]) -> Result<Vec<usize>, NoMemory>
+    requires proper { All (λ p. IsProper (rect_of p)) pieces.now }
+    requires sorted { IsSorted piece_cmp pieces.now }
+    ensures { IfOk result (λ labels. AreLeast (length pieces.now) (Paired Plain shapes.now pieces.now) labels.items) }
+{
+    let links = all_links(alloc, shapes)?;
+    match least_labels(alloc, links.as_slice(), pieces) {
+        Ok(labels) => Ok(labels),
+        Err(NoMemory) => Err(NoMemory),
+    }
+}
+
+/// The nets of a drawing: pieces in the order of their first cells, with the numbers of their nets.
+#[tactic(auto, using(crate::proofs::Netting::net_rules))]
+pub(crate) fn connections_of(alloc: Global, shapes: &[Shape]) -> Result<Connections, NoMemory>
+    requires proper { All (λ s. IsProper s.rect) shapes.now }
+    requires few { HaveFewSides shapes.now }
+    ensures wires { IfOk result (λ m. AreWires Plain shapes.now m.wires.items m.firsts.items) }
+    ensures few { IfOk result (λ m. length m.firsts.items ≤ 2000000000) }
+{
+    let pieces = ordered_pieces(alloc, shapes)?;
+    let labels = net_labels(alloc, shapes, pieces.as_slice())?;
+    match number_all(alloc, pieces.as_slice(), labels.as_slice()) {
+        Ok(map) => Ok(map),
+        Err(NoMemory) => Err(NoMemory),
+    }
+}
