@@ -1,7 +1,9 @@
+-- What contracts of public calls cite, and what these definitions stand on.
 pub mod Desk
 pub mod Host
 pub mod Mem
 pub mod Output
-pub mod Reading
 pub mod Sink
 pub mod Whole
+-- What inner contracts and proofs alone cite.
+pub mod Reading

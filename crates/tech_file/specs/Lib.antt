@@ -1,2 +1,3 @@
-pub mod Technology
+-- What contracts of public calls cite, and what these definitions stand on.
 pub mod Reading
+pub mod Technology
