@@ -7,11 +7,16 @@ use cell_num::{Name, NetNo, NoMemory};
 use itoa::Buffer;
 use row_state::{Counts, Side};
 
+// Most numbers of a log have one digit.
+#[tactic(auto, using(std::proofs::lemmas::Fmt::decimal_digit))]
 fn put_number<O: Out>(out: &mut O, number: u32) -> Result<(), NoMemory>
     ensures text { OnOk result (O.text out.new ≡ O.text out.old ++ decimal number) }
     ensures left { OnOk result (O.room out.old ≤ O.room out.new + length (decimal number)) }
     ensures full { OnErr result (O.room out.old < length (decimal number)) }
 {
+    if number < 10 {
+        return out.put(&[b'0' + number as u8]);
+    }
     out.put(Buffer::new().format(number).as_bytes())
 }
 

@@ -9,7 +9,7 @@ use Rattle.box_geom.specs.Near.{Near}
 use Rattle.box_geom.specs.declared.layer.Layer.TheVariants.{Well, Active, Poly, Metal1, Metal2}
 use Rattle.scmos_rules.specs.declared.rules.Deck.TheVariants.{Plain}
 use Rattle.scmos_rules.specs.declared.number.RuleNo.TheVariants.{N2_3, N4_2, N5_2, N5_4, N6_2, N7_3, N8_3, N8_4, N8_5, N9_3}
-use Rattle.scmos_rules.specs.Failing.{IsEmpty}
+use Rattle.box_geom.specs.Regions.{IsEmpty}
 use Rattle.scmos_rules.specs.Rules.{Fails}
 use Rattle.scmos_rules.specs.Layout.{On}
 use Rattle.cell_draw.specs.declared.layout.Frame.{Frame}

@@ -9,7 +9,7 @@ use Rattle.box_geom.specs.Near.{Near}
 use Rattle.box_geom.specs.declared.layer.Layer.TheVariants.{Active, Poly}
 use Rattle.scmos_rules.specs.declared.rules.Deck.TheVariants.{Plain}
 use Rattle.scmos_rules.specs.declared.number.RuleNo.TheVariants.{N3_3, N3_4, N3_5}
-use Rattle.scmos_rules.specs.Failing.{IsEmpty}
+use Rattle.box_geom.specs.Regions.{IsEmpty}
 use Rattle.scmos_rules.specs.Rules.{Fails}
 use Rattle.scmos_rules.specs.Layout.{On}
 use Rattle.scmos_rules.specs.Gates.{Way, right, left, up, down, Ahead}

@@ -11,7 +11,7 @@ use Rattle.box_geom.specs.declared.layer.Layer.TheVariants.{Well, Active, Poly, 
 use Rattle.scmos_rules.specs.declared.rules.Deck.TheVariants.{Plain}
 use Rattle.scmos_rules.specs.declared.number.RuleNo.{RuleNo}
 use Rattle.scmos_rules.specs.declared.number.RuleNo.TheVariants.{N1_1, N2_1, N2_2, N2_3, N2_4, N3_1, N3_2, N3_3, N3_4, N3_5, N4_2, N5_1, N5_2, N5_3, N5_4, N6_2, N7_1, N7_2, N7_3, N8_1, N8_2, N8_3, N8_4, N8_5, N9_1, N9_2, N9_3}
-use Rattle.scmos_rules.specs.Failing.{IsEmpty}
+use Rattle.box_geom.specs.Regions.{IsEmpty}
 use Rattle.scmos_rules.specs.Numbers.{numbers_of}
 use Rattle.scmos_rules.specs.Rules.{Fails, Obeys}
 use Rattle.scmos_rules.specs.Conditions.{IsWide, IsSquare}

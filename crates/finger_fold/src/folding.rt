@@ -47,8 +47,8 @@ fn saturated(count: u128) -> u64
 }
 
 fn few_in(row: Row, cell: &Subckt, tech: &Tech) -> Result<(), FoldFault>
-    ensures ok { OnOk result (length (fingers_in row tech.now cell.now.devices) ≤ 64) }
-    ensures many { IfErr result (λ _. 64 < length (fingers_in row tech.now cell.now.devices)) }
+    ensures ok { OnOk result (length (fingers_in row tech.now cell.now.devices) ≤ MOST_IN_A_ROW) }
+    ensures many { IfErr result (λ _. MOST_IN_A_ROW < length (fingers_in row tech.now cell.now.devices)) }
     ensures err { IfErr result (λ e. e ≡ fault.TooManyFingers (saturated (length
         (fingers_in row tech.now cell.now.devices)))) }
 {
@@ -63,8 +63,8 @@ fn few_in(row: Row, cell: &Subckt, tech: &Tech) -> Result<(), FoldFault>
 
 // The P row is looked at first.
 fn few_in_rows(cell: &Subckt, tech: &Tech) -> Result<(), FoldFault>
-    ensures few_p { OnOk result (length (fingers_in P tech.now cell.now.devices) ≤ 64) }
-    ensures few_n { OnOk result (length (fingers_in N tech.now cell.now.devices) ≤ 64) }
+    ensures few_p { OnOk result (length (fingers_in P tech.now cell.now.devices) ≤ MOST_IN_A_ROW) }
+    ensures few_n { OnOk result (length (fingers_in N tech.now cell.now.devices) ≤ MOST_IN_A_ROW) }
     ensures fault { IfErr result (λ e. folded tech.now cell.now ≡ Err e) }
 {
     few_in(Row::P, cell, tech)?;
@@ -87,8 +87,8 @@ pub fn fold(alloc: Global, cell: &Subckt, tech: &Tech) -> Result<Fingers, FoldFa
     // What the layers above ask of fingers, and that these are the cell's. There is one in a row at least.
     ensures asked { IfOk result (λ f. AreFingers f) }
     ensures some { IfOk result (λ f. 1 ≤ length f.p + length f.n) }
-    ensures few_p { IfOk result (λ f. length f.p ≤ 64) }
-    ensures few_n { IfOk result (λ f. length f.n ≤ 64) }
+    ensures few_p { IfOk result (λ f. length f.p ≤ MOST_IN_A_ROW) }
+    ensures few_n { IfOk result (λ f. length f.n ≤ MOST_IN_A_ROW) }
     ensures sound { IfOk result (λ f. AreSound cell.now.nets cell.now.pins f) }
 {
     tech.show_limits();

@@ -50,10 +50,10 @@ fn row_rule<B: RowBound>(task: &Task<B>, state: &State, allowed: u32) -> Option<
     ensures none { IfNone result (IsFirstRule (B.value task.now.bound.now) task.now.kinds.now state.now
         (allowed + 1) Branch) }
 {
-    if task.bound.bound(Row::P, state, task.kinds) > allowed {
+    if task.bound.is_above(Row::P, state, task.kinds, allowed) {
         return Some(Rule::P);
     }
-    if task.bound.bound(Row::N, state, task.kinds) > allowed {
+    if task.bound.is_above(Row::N, state, task.kinds, allowed) {
         return Some(Rule::N);
     }
     None

@@ -1,7 +1,7 @@
 -- The component bound as it is computed.
-use Rattle.std.specs.Prelude.{ℕ, zero, suc, ◌≡◌, ◌+◌, ◌-◌, ◌/◌, ◌≤◌, ◌<◌, Bool, true, false, not, ◌&&◌, ◌||◌, ◌==◌, if◌then◌else◌, List, [], ◌∷◌, ◌++◌, Some, None, All, drop, get_or, length, replicate, slice_set}
+use Rattle.std.specs.Prelude.{ℕ, zero, suc, ◌≡◌, ◌+◌, ◌-◌, ◌/◌, ◌≤◌, ◌<◌, Bool, true, false, not, ◌&&◌, ◌||◌, ◌==◌, ltb, if◌then◌else◌, List, [], ◌∷◌, ◌++◌, Some, None, All, drop, get_or, length, replicate, slice_set}
 use Rattle.std.proofs.Common.{inl, inr, refl, sym, ap, arith, ◌∙◌}
-use Rattle.std.proofs.lemmas.Bool.{cases_eq, eq-eqb, ne_eqb}
+use Rattle.std.proofs.lemmas.Bool.{cases_eq, eq-eqb, le-ltb, ne_eqb}
 use Rattle.std.proofs.lemmas.List.{get_or-set_other, get_or-set_same}
 use Rattle.std.proofs.lemmas.List.Elements.{All-head, All-tail}
 use Rattle.cell_num.specs.Fingers.{sum_below}
@@ -197,3 +197,16 @@ component_code P s k trails empty is none =
     omega (arith, is P, none, empty_is P N k.p k.n s.p_left s.n_left k.nets)
 component_code N s k trails empty is none =
     omega (arith, is N, none, empty_is N P k.n k.p s.n_left s.p_left k.nets)
+
+-- without trails no place counts
+pub component_none : (row : Row) (s : State) (k : Kinds) (trails : ℕ) → ((at : Row) → trails ≡ further_trails k.nets (end_of row s) (fingers_left at (kinds_in row k) (left_of row s))) → trails ≡ 0 → 0 ≡ component_value row s k
+component_none row s k trails is none =
+    let whole = component_code row s k trails (sum_below (empty_test row s k) k.nets) is refl in
+    omega (arith, whole, none)
+
+-- the bound is at most the trails
+pub component_low : (row : Row) (s : State) (k : Kinds) (trails most : ℕ) → ((at : Row) → trails ≡ further_trails k.nets (end_of row s) (fingers_left at (kinds_in row k) (left_of row s))) → trails ≤ most → false ≡ ltb most (component_value row s k)
+component_low row s k trails most is low =
+    let whole = component_code row s k trails (sum_below (empty_test row s k) k.nets) is refl in
+    let few : component_value row s k ≤ most = omega (arith, whole, low) in
+    sym (le-ltb most (component_value row s k) few)

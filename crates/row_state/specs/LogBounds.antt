@@ -5,7 +5,7 @@ use Rattle.cell_num.specs.declared.finger.Row.{Row}
 use Rattle.row_state.specs.declared.bound.TheConstants.{PARITY_LOG, COMPONENT_LOG}
 use Rattle.row_state.specs.declared.kind.Kinds.{Kinds}
 use Rattle.row_state.specs.declared.log_bound.LogBound.{LogBound}
-use Rattle.row_state.specs.declared.log_bound.LogBound.TheVariants.{One, Two}
+use Rattle.row_state.specs.declared.log_bound.LogBound.TheVariants as by
 use Rattle.row_state.specs.declared.state.State.{State}
 use Rattle.row_state.specs.Completion.{Need}
 use Rattle.row_state.specs.ComponentLaw.{component_holds}
@@ -15,14 +15,14 @@ use Rattle.row_state.specs.Versions.{IsVersion, value_of}
 
 -- the version whose logs rest on the bound
 abbrev pub log_version : LogBound → ℕ
-log_version One = PARITY_LOG
-log_version Two = COMPONENT_LOG
+log_version by.Parity = PARITY_LOG
+log_version by.Component = COMPONENT_LOG
 
 pub log_bound_known : (b : LogBound) → IsVersion (log_version b)
-log_bound_known One = inl refl
-log_bound_known Two = inr refl
+log_bound_known by.Parity = inl refl
+log_bound_known by.Component = inr refl
 
 -- no completion has fewer further gaps
 pub log_bound_holds : (b : LogBound) (row : Row) (s : State) (k : Kinds) → AreSomeKinds k → Need k s (value_of (log_version b) row s k)
-log_bound_holds One row s k some = parity_holds k s row some
-log_bound_holds Two row s k some = component_holds k s row some
+log_bound_holds by.Parity row s k some = parity_holds k s row some
+log_bound_holds by.Component row s k some = component_holds k s row some

@@ -1,4 +1,4 @@
-ghost use Rattle.std.specs.Prelude.{◌≡◌, ℕ};
+ghost use Rattle.std.specs.Prelude.{◌≡◌, ltb, ℕ};
 ghost use Rattle.cell_num.specs.declared.finger.Row.{Row};
 ghost use Rattle.row_state.specs.declared.kind.Kinds.{Kinds};
 ghost use Rattle.row_state.specs.declared.state.State.{State};
@@ -26,6 +26,11 @@ pub trait RowBound {
     fn bound(&self, row: Row, state: &State, kinds: &Kinds) -> u32
         requires state { IsState kinds.now state.now }
         ensures { result ≡ value self.now row state.now kinds.now };
+
+    /// Whether the bound is above a number: where the parts of it tell so early, the others are not computed.
+    fn is_above(&self, row: Row, state: &State, kinds: &Kinds, most: u32) -> bool
+        requires state { IsState kinds.now state.now }
+        ensures { result ≡ ltb most (value self.now row state.now kinds.now) };
 
     /// The version of a log whose lemmas rest on the bound.
     fn version(&self) -> u32

@@ -1,4 +1,4 @@
-ghost use Rattle.std.specs.Prelude.{refl, ◌≡◌, ◌≤◌, ◌<◌, ◌==◌, if◌then◌else◌, ℕ, All, IfSome, length};
+ghost use Rattle.std.specs.Prelude.{refl, ◌≡◌, ◌≤◌, ◌<◌, ◌==◌, if◌then◌else◌, ltb, ℕ, All, IfSome, length};
 ghost use Rattle.std.proofs.Common.{inr};
 ghost use Rattle.cell_num.specs.declared.finger.Row.{Row as RowOf};
 ghost use Rattle.cell_num.specs.Fingers.{sum_below};
@@ -169,14 +169,30 @@ fn count_trails_in(row: Row, state: &State, kinds: &Kinds) -> u32
     }
 }
 
-#[tactic(auto, using(crate::proofs::ComponentCode::component_code))]
+#[tactic(auto, using(crate::proofs::ComponentCode::component_code, crate::proofs::ComponentCode::component_none))]
 fn row_bound(row: Row, state: &State, kinds: &Kinds) -> u32
     requires state { IsState kinds.now state.now }
     ensures { result ≡ component_value row state.now kinds.now }
 {
     let trails = count_trails_in(row, state, kinds);
+    if trails == 0 {
+        return 0;
+    }
     let empty = count_empty(row, state, kinds);
     trails.saturating_sub(empty)
+}
+
+// The bound is at most the trails.
+fn is_row_above(row: Row, state: &State, kinds: &Kinds, most: u32) -> bool
+    requires state { IsState kinds.now state.now }
+    ensures { result ≡ ltb most (component_value row state.now kinds.now) }
+{
+    let trails = count_trails_in(row, state, kinds);
+    if trails <= most {
+        return false;
+    }
+    let empty = count_empty(row, state, kinds);
+    most < trails.saturating_sub(empty)
 }
 
 impl RowBound for Component {
@@ -192,6 +208,10 @@ impl RowBound for Component {
 
     fn bound(&self, row: Row, state: &State, kinds: &Kinds) -> u32 {
         row_bound(row, state, kinds)
+    }
+
+    fn is_above(&self, row: Row, state: &State, kinds: &Kinds, most: u32) -> bool {
+        is_row_above(row, state, kinds, most)
     }
 
     fn version(&self) -> u32 {

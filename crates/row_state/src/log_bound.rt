@@ -8,10 +8,10 @@ use cell_num::Row;
 /// The bound that the logs of a version rest on.
 #[derive(Clone, Copy, Debug, PartialEq, Eq)]
 pub enum LogBound {
-    /// The parity bound, of `PARITY_LOG`.
-    One,
-    /// The component bound, of `COMPONENT_LOG`.
-    Two,
+    /// The one of `PARITY_LOG`.
+    Parity,
+    /// The one of `COMPONENT_LOG`.
+    Component,
 }
 
 impl LogBound {
@@ -21,8 +21,8 @@ impl LogBound {
         ensures unknown { IsNone result ↔ (IsVersion version → ⊥) }
     {
         match version {
-            PARITY_LOG => Some(LogBound::One),
-            COMPONENT_LOG => Some(LogBound::Two),
+            PARITY_LOG => Some(LogBound::Parity),
+            COMPONENT_LOG => Some(LogBound::Component),
             _ => None,
         }
     }
@@ -39,15 +39,22 @@ impl RowBound for LogBound {
 
     fn bound(&self, row: Row, state: &State, kinds: &Kinds) -> u32 {
         match self {
-            LogBound::One => Parity.bound(row, state, kinds),
-            LogBound::Two => Component.bound(row, state, kinds),
+            LogBound::Parity => Parity.bound(row, state, kinds),
+            LogBound::Component => Component.bound(row, state, kinds),
+        }
+    }
+
+    fn is_above(&self, row: Row, state: &State, kinds: &Kinds, most: u32) -> bool {
+        match self {
+            LogBound::Parity => Parity.is_above(row, state, kinds, most),
+            LogBound::Component => Component.is_above(row, state, kinds, most),
         }
     }
 
     fn version(&self) -> u32 {
         match self {
-            LogBound::One => PARITY_LOG,
-            LogBound::Two => COMPONENT_LOG,
+            LogBound::Parity => Parity.version(),
+            LogBound::Component => Component.version(),
         }
     }
 }

@@ -1,4 +1,4 @@
-ghost use Rattle.std.specs.Prelude.{◌<◌, All, IfSome, cond, false, not, slice_index_or, ◌≡◌, ◌≤◌, ◌+◌, ◌-◌, ◌/◌, ◌%◌, ◌==◌, if◌then◌else◌, ℕ, length, refl};
+ghost use Rattle.std.specs.Prelude.{◌<◌, All, IfSome, cond, false, not, slice_index_or, ◌≡◌, ◌≤◌, ◌+◌, ◌-◌, ◌/◌, ◌%◌, ◌==◌, if◌then◌else◌, ltb, ℕ, length, refl};
 ghost use Rattle.std.proofs.Common.{inl};
 ghost use Rattle.cell_num.specs.Fingers.{sum_below};
 ghost use Rattle.row_state.specs.Law.{parity_holds};
@@ -183,6 +183,20 @@ fn row_bound(row: Row, state: &State, kinds: &Kinds) -> u32
     halve(row, state, odd).saturating_sub(empty)
 }
 
+// The bound is at most half of the odd nets.
+#[tactic(auto, using(crate::proofs::ParityCode::parity_code))]
+fn is_row_above(row: Row, state: &State, kinds: &Kinds, most: u32) -> bool
+    requires state { IsState kinds.now state.now }
+    ensures { result ≡ ltb most (parity_value row state.now kinds.now) }
+{
+    let half = halve(row, state, count_odd_in(row, state, kinds));
+    if half <= most {
+        return false;
+    }
+    let empty = count_empty(row, state, kinds);
+    most < half.saturating_sub(empty)
+}
+
 impl RowBound for Parity {
     ghost use Rattle.row_state.specs.declared.bound.TheConstants.{PARITY_LOG};
 
@@ -197,6 +211,10 @@ impl RowBound for Parity {
     #[tactic(auto, using(crate::proofs::ParityCode::parity_code))]
     fn bound(&self, row: Row, state: &State, kinds: &Kinds) -> u32 {
         row_bound(row, state, kinds)
+    }
+
+    fn is_above(&self, row: Row, state: &State, kinds: &Kinds, most: u32) -> bool {
+        is_row_above(row, state, kinds, most)
     }
 
     fn version(&self) -> u32 {

@@ -5,7 +5,8 @@ use Rattle.std.proofs.lemmas.Int.{ints}
 use Rattle.std.proofs.lemmas.List.Elements.{All-contains}
 use Rattle.box_geom.specs.Rectangle.{Rectangle, Holds, Covers}
 use Rattle.box_geom.specs.Near.{Near}
-use Rattle.scmos_rules.specs.Failing.{IsEmpty, FailsSurround, FailsAway}
+use Rattle.box_geom.specs.Regions.{IsEmpty}
+use Rattle.scmos_rules.specs.Failing.{FailsSurround, FailsAway}
 use Rattle.scmos_rules.specs.Conditions.{IsIn, Clear, AreClear, IsBound}
 
 -- Where each rectangle of a list, grown by d, lies in one of another list, no cell fails.

@@ -18,7 +18,7 @@ use Rattle.box_geom.proofs.Meeting.{Beside, Stacked, touch_sides, touch_decides}
 use Rattle.box_geom.proofs.Moved.{proper_decides, nearest}
 use Rattle.scmos_rules.specs.Apart.{link_of, some_part, hits_of}
 use Rattle.scmos_rules.specs.Near.{numbered, near_over}
-use Rattle.scmos_rules.specs.declared.parts.Part.{Part}
+use Rattle.scmos_rules.specs.declared.parts.NumberedBlock.{NumberedBlock}
 use Rattle.scmos_rules.specs.Classes.{IsLink, Tied, Separates}
 use Rattle.scmos_rules.specs.Failing.{FailsOpen, FailsApart, FailsSpacing, SameClass}
 use Rattle.scmos_rules.specs.Regions.{AreCells}
@@ -44,7 +44,7 @@ same_seat rs i a b p q = some_same a b (sym p ∙ q)
 abbrev link_at : ℕ → ℕ → Link
 link_at i j = record { one = i; other = j }
 
-link_inside : (a b : Part) (l : Link) → In (link_of a b) l → (touching a.block b.block ≡ true) × (link_at a.number b.number ≡ l)
+link_inside : (a b : NumberedBlock) (l : Link) → In (link_of a b) l → (touching a.block b.block ≡ true) × (link_at a.number b.number ≡ l)
 link_inside a b l i = by (touching a.block b.block) refl i
   where
     by : (t : Bool) → touching a.block b.block ≡ t → In (if t then link_at a.number b.number ∷ [] else []) l → (touching a.block b.block ≡ true) × (link_at a.number b.number ≡ l)
@@ -52,7 +52,7 @@ link_inside a b l i = by (touching a.block b.block) refl i
     by true e (inr none) = absurd none
     by false e none = absurd none
 
-link_there : (a b : Part) → touching a.block b.block ≡ true → In (link_of a b) (link_at a.number b.number)
+link_there : (a b : NumberedBlock) → touching a.block b.block ≡ true → In (link_of a b) (link_at a.number b.number)
 link_there a b e = by (touching a.block b.block) refl
   where
     by : (t : Bool) → touching a.block b.block ≡ t → In (if t then link_at a.number b.number ∷ [] else []) (link_at a.number b.number)
@@ -108,7 +108,7 @@ links_are rs links banded e = record {
     tied : (i j : ℕ) (a b : Rectangle) → slice_get rs i ≡ Some a → slice_get rs j ≡ Some b → Touch a b → Chain (Tied links) i j
     tied i j a b p q t =
         elim (pair_found 1 link_of (numbered 0 rs) (part_at i a) (part_at j b) (parts_up rs banded) (there_at rs i a p) (there_at rs j b q) (close_touch a b t)) [
-          | inl same ↦ none (Tied links) i j (ap (λ (z : Part). z.number) same)
+          | inl same ↦ none (Tied links) i j (ap (λ (z : NumberedBlock). z.number) same)
           | inr (inl w) ↦ one (Tied links) i j (record { link = link_at i j; listed = listed (link_at i j) (w (link_at i j) (link_there (part_at i a) (part_at j b) ((touch_decides a b pa pb).1 t))); ends = inl (refl, refl) })
           | inr (inr w) ↦ one (Tied links) i j (record { link = link_at j i; listed = listed (link_at j i) (w (link_at j i) (link_there (part_at j b) (part_at i a) ((touch_decides b a pb pa).1 (flip_touch a b t)))); ends = inr (refl, refl) })
         ]
@@ -208,7 +208,7 @@ hit_of d labels rs q o = by (slice_index labels o.one.number == slice_index labe
           | inr p ↦ record { at = o.other.number; first = o.other.block; is = there; second = o.one.number; other = o.one.block; there = is; differ = e; part = p }
         ]
 
-hits_there : (d : ℕ) (labels : List ℕ) (a b : Part) (q : Rectangle) → (slice_index labels a.number == slice_index labels b.number) ≡ false → In (some_part d a.block b.block) q ⊎ In (some_part d b.block a.block) q → In (hits_of d labels a b) q
+hits_there : (d : ℕ) (labels : List ℕ) (a b : NumberedBlock) (q : Rectangle) → (slice_index labels a.number == slice_index labels b.number) ≡ false → In (some_part d a.block b.block) q ⊎ In (some_part d b.block a.block) q → In (hits_of d labels a b) q
 hits_there d labels a b q e i = by (slice_index labels a.number == slice_index labels b.number) refl i
   where
     by : (t : Bool) → (slice_index labels a.number == slice_index labels b.number) ≡ t → In (some_part d a.block b.block) q ⊎ In (some_part d b.block a.block) q → In (if t then [] else some_part d a.block b.block ++ some_part d b.block a.block) q
@@ -219,7 +219,7 @@ hits_there d labels a b q e i = by (slice_index labels a.number == slice_index l
 hit_found : (d : ℕ) (labels : List ℕ) (rs : List Rectangle) → AreBanded rs → (i j : ℕ) (a b q : Rectangle) → slice_get rs i ≡ Some a → slice_get rs j ≡ Some b → (slice_index labels j == slice_index labels i) ≡ false → AreClose d a b → In (some_part d a b) q → In (near_over d (hits_of d labels) (numbered 0 rs)) q
 hit_found d labels rs banded i j a b q p r e close part =
     elim (pair_found d (hits_of d labels) (numbered 0 rs) (part_at i a) (part_at j b) (parts_up rs banded) (there_at rs i a p) (there_at rs j b r) close) [
-      | inl same ↦ absurd (let f : j ≡ i = sym (ap (λ (z : Part). z.number) same) in let g : (slice_index labels j == slice_index labels i) ≡ true = (Decides-eqb (slice_index labels j) (slice_index labels i)).1 (ap (λ n. slice_index labels n) f) in cc (g, e))
+      | inl same ↦ absurd (let f : j ≡ i = sym (ap (λ (z : NumberedBlock). z.number) same) in let g : (slice_index labels j == slice_index labels i) ≡ true = (Decides-eqb (slice_index labels j) (slice_index labels i)).1 (ap (λ n. slice_index labels n) f) in cc (g, e))
       | inr (inl w) ↦ w q (hits_there d labels (part_at i a) (part_at j b) q (turned_test (slice_index labels j) (slice_index labels i) e) (inl part))
       | inr (inr w) ↦ w q (hits_there d labels (part_at j b) (part_at i a) q e (inr part))
     ]

@@ -5,7 +5,8 @@ use Rattle.box_geom.specs.Chains.{Steps, Chain, Linked}
 use Rattle.box_geom.specs.Near.{Near}
 use Rattle.box_geom.specs.Runs.{IsShort, IsOff, IsNotch}
 use Rattle.box_geom.specs.Touching.{Cell}
-use Rattle.scmos_rules.specs.Failing.{IsEmpty, FailsWidth, FailsSize, FailsSpacing, FailsSurround, FailsAway, FailsPartly}
+use Rattle.box_geom.specs.Regions.{IsEmpty}
+use Rattle.scmos_rules.specs.Failing.{FailsWidth, FailsSize, FailsSpacing, FailsSurround, FailsAway, FailsPartly}
 use Rattle.scmos_rules.proofs.Chains.{none, one, joined}
 
 -- a cell of one of the sets

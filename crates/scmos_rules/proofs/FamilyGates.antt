@@ -5,7 +5,7 @@ use Rattle.box_geom.specs.Near.{Near}
 use Rattle.box_geom.specs.declared.shape.Shape.{Shape}
 use Rattle.box_geom.specs.declared.layer.Layer.{Layer}
 use Rattle.box_geom.specs.declared.layer.Layer.TheVariants.{Active, Poly}
-use Rattle.scmos_rules.specs.Failing.{IsEmpty}
+use Rattle.box_geom.specs.Regions.{IsEmpty}
 use Rattle.scmos_rules.specs.Gates.{Way, right, left, up, down, Ahead, FailsPolyEnd, FailsActiveEnd, FailsFieldPoly}
 use Rattle.scmos_rules.specs.Layout.{On, Gate, Diffusion, Bare}
 use Rattle.scmos_rules.proofs.Families.{AnyOf, AreApart}

@@ -8,9 +8,8 @@ use Rattle.cell_num.proofs.In.{In, contains_in}
 use Rattle.cell_num.proofs.Lists.{contains_none, contains_one, all_from_contains, all_one}
 use Rattle.cell_num.proofs.Pairs.{pairs_none, pairs_one, pairs_append}
 use Rattle.box_geom.specs.Rectangle.{Rectangle, Covers}
-use Rattle.box_geom.specs.Regions.{IsFirst}
+use Rattle.box_geom.specs.Regions.{IsEmpty, IsFirst}
 use Rattle.box_geom.specs.declared.shape.Shape.{Shape}
-use Rattle.scmos_rules.specs.Failing.{IsEmpty}
 use Rattle.scmos_rules.specs.Regions.{AreCells}
 use Rattle.scmos_rules.specs.Rules.{Fails}
 use Rattle.scmos_rules.specs.Violations.{StandsBefore, AreBroken, IsVerdict, Lists}

@@ -4,7 +4,8 @@ use Rattle.std.proofs.lemmas.Int.{ints}
 use Rattle.box_geom.specs.Chains.{Chain, Linked}
 use Rattle.box_geom.specs.Near.{Near}
 use Rattle.box_geom.specs.Runs.{IsNotch}
-use Rattle.scmos_rules.specs.Failing.{IsEmpty, FailsSpacing}
+use Rattle.box_geom.specs.Regions.{IsEmpty}
+use Rattle.scmos_rules.specs.Failing.{FailsSpacing}
 use Rattle.scmos_rules.proofs.Chains.{joined, turned, flip_linked, in_row}
 use Rattle.scmos_rules.proofs.Families.{AnyOf, linked_any}
 

@@ -6,7 +6,8 @@ use Rattle.std.proofs.lemmas.List.Elements.{All-contains}
 use Rattle.box_geom.specs.Rectangle.{Rectangle, Holds, Covers}
 use Rattle.box_geom.specs.Touching.{Cell, Edge, to_right, to_left, upward, downward}
 use Rattle.box_geom.specs.Runs.{IsOff}
-use Rattle.scmos_rules.specs.Failing.{IsEmpty, FailsSize}
+use Rattle.box_geom.specs.Regions.{IsEmpty}
+use Rattle.scmos_rules.specs.Failing.{FailsSize}
 use Rattle.scmos_rules.specs.Conditions.{IsSquare, AreAlone}
 
 -- a covered cell that shares an edge with a cell of a lone rectangle is in that rectangle

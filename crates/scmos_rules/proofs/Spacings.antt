@@ -4,7 +4,8 @@ use Rattle.std.proofs.lemmas.Int.{ints, by_lt_z}
 use Rattle.box_geom.specs.Rectangle.{Rectangle, Holds, Covers}
 use Rattle.box_geom.specs.Touching.{Cell, Edge, to_right, to_left, upward, downward}
 use Rattle.box_geom.specs.Runs.{IsNotch}
-use Rattle.scmos_rules.specs.Failing.{IsEmpty, FailsApart, FailsSpacing}
+use Rattle.box_geom.specs.Regions.{IsEmpty}
+use Rattle.scmos_rules.specs.Failing.{FailsApart, FailsSpacing}
 use Rattle.scmos_rules.specs.Conditions.{Close, Joint, IsAcross, IsUpward, AreSpaced, AreTouching}
 use Rattle.scmos_rules.proofs.Chains.{cells_of_chain, one}
 

@@ -4,10 +4,10 @@ use Rattle.box_geom.specs.Rectangle.{Rectangle}
 use Rattle.box_geom.specs.Comparisons.{touching}
 use Rattle.box_geom.specs.Moving.{is_proper, near_part}
 use Rattle.scmos_rules.specs.declared.linking.Link.{Link}
-use Rattle.scmos_rules.specs.declared.parts.Part.{Part}
+use Rattle.scmos_rules.specs.declared.parts.NumberedBlock.{NumberedBlock}
 
 -- the link of two parts, where they touch
-abbrev pub link_of : Part → Part → List Link
+abbrev pub link_of : NumberedBlock → NumberedBlock → List Link
 link_of a b = if touching a.block b.block then record { one = a.number; other = b.number } ∷ [] else []
 
 -- the part of a within d of b
@@ -15,5 +15,5 @@ abbrev pub some_part : ℕ → Rectangle → Rectangle → List Rectangle
 some_part d a b = if is_proper (near_part d a b) then near_part d a b ∷ [] else []
 
 -- of two parts with different labels, what of each is within d of the other
-abbrev pub hits_of : ℕ → List ℕ → Part → Part → List Rectangle
+abbrev pub hits_of : ℕ → List ℕ → NumberedBlock → NumberedBlock → List Rectangle
 hits_of d labels a b = if slice_index labels a.number == slice_index labels b.number then [] else some_part d a.block b.block ++ some_part d b.block a.block

@@ -4,10 +4,6 @@ use Rattle.box_geom.specs.Runs.{IsShort, IsOff, IsNotch}
 use Rattle.box_geom.specs.Chains.{Chain, Linked}
 use Rattle.box_geom.specs.Near.{Near}
 
--- no cell is in the set
-abbrev pub IsEmpty : (ℤ → ℤ → Type 0) → Type 0
-IsEmpty P = (x y : ℤ) → P x y → ⊥
-
 -- a covered cell whose covered run along its row or along its column is shorter than v
 pub record FailsWidth (P : ℤ → ℤ → Type 0) (v : ℕ) (x y : ℤ) : Type 0 where
   pub covered : P x y

@@ -1,9 +1,8 @@
 -- The broken rules of a layout.
 use Rattle.std.specs.Prelude.{◌≡◌, ◌↔◌, ◌⊎◌, ℕ, ◌<◌, ◌≤◌, List, length, Option, Some, None, slice_get}
 use Rattle.std.specs.List.{Contains, AllPairs}
-use Rattle.box_geom.specs.Regions.{IsFirst}
+use Rattle.box_geom.specs.Regions.{IsEmpty, IsFirst}
 use Rattle.box_geom.specs.declared.shape.Shape.{Shape}
-use Rattle.scmos_rules.specs.Failing.{IsEmpty}
 use Rattle.scmos_rules.specs.Numbers.{numbers_of}
 use Rattle.scmos_rules.specs.Rules.{Fails}
 use Rattle.scmos_rules.specs.declared.number.RuleNo.{RuleNo}

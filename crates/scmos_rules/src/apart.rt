@@ -6,18 +6,22 @@ ghost use Rattle.box_geom.specs.Regions.{IsBlock};
 ghost use Rattle.scmos_rules.specs.Apart.{link_of, some_part, hits_of};
 ghost use Rattle.scmos_rules.specs.Failing.{FailsApart, FailsSpacing};
 ghost use Rattle.scmos_rules.specs.Layout.{On};
-ghost use Rattle.scmos_rules.specs.Near.{IsPart, near_over};
+ghost use Rattle.scmos_rules.specs.Near.{IsNumberedBlock, near_over};
 ghost use Rattle.scmos_rules.specs.Regions.{AreCells};
 
 use crate::linking::{Link, classes};
-use crate::parts::{Part, near_behind, parts_of};
+use crate::parts::{NumberedBlock, near_behind, parts_of};
 use crate::runs::open;
 use crate::sets::on;
 use box_geom::{Block, Layer, Region, Shapes};
 use cell_num::NoMemory;
 use std::alloc::{AllocError, Global};
 
-fn add_links(links: &mut Vec<Link>, part: &Part, near: &[Part]) -> Result<(), AllocError>
+fn add_links(
+    links: &mut Vec<Link>,
+    part: &NumberedBlock,
+    near: &[NumberedBlock],
+) -> Result<(), AllocError>
     ensures { OnOk result (links.new.items ≡ links.old.items ++ flat_map (link_of part.now) near.now) }
 {
     for other in near {
@@ -31,7 +35,7 @@ fn add_links(links: &mut Vec<Link>, part: &Part, near: &[Part]) -> Result<(), Al
     Ok(())
 }
 
-fn all_links(alloc: Global, parts: &[Part]) -> Result<Vec<Link>, AllocError>
+fn all_links(alloc: Global, parts: &[NumberedBlock]) -> Result<Vec<Link>, AllocError>
     ensures { IfOk result (λ v. v.items ≡ near_over 1 link_of parts.now) }
 {
     let mut links = Vec::new(alloc);
@@ -58,13 +62,13 @@ fn add_part(out: &mut Vec<Block>, block: &Block, other: &Block, by: u32) -> Resu
 
 fn add_hits(
     out: &mut Vec<Block>,
-    part: &Part,
-    near: &[Part],
+    part: &NumberedBlock,
+    near: &[NumberedBlock],
     labels: &[usize],
     by: u32,
 ) -> Result<(), AllocError>
-    requires part { IsPart (length labels.now) part.now }
-    requires near { All (IsPart (length labels.now)) near.now }
+    requires part { IsNumberedBlock (length labels.now) part.now }
+    requires near { All (IsNumberedBlock (length labels.now)) near.now }
     requires small { by ≤ 1000 }
     ensures { OnOk result (out.new.items ≡ out.old.items ++ flat_map (hits_of by labels.now part.now) near.now) }
 {
@@ -79,11 +83,11 @@ fn add_hits(
 
 fn all_hits(
     alloc: Global,
-    parts: &[Part],
+    parts: &[NumberedBlock],
     labels: &[usize],
     by: u32,
 ) -> Result<Vec<Block>, AllocError>
-    requires parts { All (IsPart (length labels.now)) parts.now }
+    requires parts { All (IsNumberedBlock (length labels.now)) parts.now }
     requires small { by ≤ 1000 }
     ensures { IfOk result (λ v. v.items ≡ near_over by (hits_of by labels.now) parts.now) }
 {
@@ -107,10 +111,8 @@ fn near_others(alloc: Global, set: &Region, by: u32) -> Result<Region, NoMemory>
     let links = all_links(alloc, parts.as_slice())?;
     let labels = classes(alloc, blocks.len(), links.as_slice())?;
     let hits = all_hits(alloc, parts.as_slice(), labels.as_slice(), by)?;
-    match Region::from_blocks(alloc, hits.as_slice()) {
-        Ok(region) => Ok(region),
-        Err(error) => Err(error),
-    }
+    let region = Region::from_blocks(alloc, hits.as_slice())?;
+    Ok(region)
 }
 
 // The cells of gaps below a value on a layer, and those within it of another class.
@@ -126,8 +128,6 @@ pub(crate) fn spacing(
     let set = on(alloc, shapes, layer)?;
     let gaps = open(alloc, &set, value)?;
     let near = near_others(alloc, &set, value)?;
-    match gaps.either(alloc, &near) {
-        Ok(region) => Ok(region),
-        Err(error) => Err(error),
-    }
+    let region = gaps.either(alloc, &near)?;
+    Ok(region)
 }

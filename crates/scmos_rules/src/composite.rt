@@ -16,14 +16,13 @@ use cell_num::NoMemory;
 use std::alloc::Global;
 
 fn p_active_not_in_well(alloc: Global, shapes: &Shapes, deck: Deck) -> Result<Region, NoMemory>
-    ensures { IfOk result (λ r. AreCells (FailsSurround (PActive deck shapes.now.rects) (On Well shapes.now.rects) 12) r) }
+    ensures { IfOk result (λ r. AreCells
+        (FailsSurround (PActive deck shapes.now.rects) (On Well shapes.now.rects) 12) r) }
 {
     let active = p_active(alloc, shapes, deck)?;
     let well = on(alloc, shapes, Layer::Well)?;
-    match not_surrounded(alloc, &active, &well, 12) {
-        Ok(region) => Ok(region),
-        Err(error) => Err(error),
-    }
+    let region = not_surrounded(alloc, &active, &well, 12)?;
+    Ok(region)
 }
 
 fn n_active_near_well(alloc: Global, shapes: &Shapes, deck: Deck) -> Result<Region, NoMemory>
@@ -31,22 +30,20 @@ fn n_active_near_well(alloc: Global, shapes: &Shapes, deck: Deck) -> Result<Regi
 {
     let active = n_active(alloc, shapes, deck)?;
     let well = on(alloc, shapes, Layer::Well)?;
-    match not_away(alloc, &active, &well, 12) {
-        Ok(region) => Ok(region),
-        Err(error) => Err(error),
-    }
+    let region = not_away(alloc, &active, &well, 12)?;
+    Ok(region)
 }
 
 // P active too near the end of the well, and N active too near the well.
 pub(crate) fn well_edge(alloc: Global, shapes: &Shapes, deck: Deck) -> Result<Region, NoMemory>
-    ensures { IfOk result (λ r. AreCells (EitherOf (FailsSurround (PActive deck shapes.now.rects) (On Well shapes.now.rects) 12) (FailsAway (NActive deck shapes.now.rects) (On Well shapes.now.rects) 12)) r) }
+    ensures { IfOk result (λ r. AreCells (EitherOf
+        (FailsSurround (PActive deck shapes.now.rects) (On Well shapes.now.rects) 12)
+        (FailsAway (NActive deck shapes.now.rects) (On Well shapes.now.rects) 12)) r) }
 {
     let inside = p_active_not_in_well(alloc, shapes, deck)?;
     let outside = n_active_near_well(alloc, shapes, deck)?;
-    match inside.either(alloc, &outside) {
-        Ok(region) => Ok(region),
-        Err(error) => Err(error),
-    }
+    let region = inside.either(alloc, &outside)?;
+    Ok(region)
 }
 
 fn well_tap_not_in_well(alloc: Global, shapes: &Shapes) -> Result<Region, NoMemory>
@@ -54,10 +51,8 @@ fn well_tap_not_in_well(alloc: Global, shapes: &Shapes) -> Result<Region, NoMemo
 {
     let taps = well_tap(alloc, shapes)?;
     let well = on(alloc, shapes, Layer::Well)?;
-    match not_surrounded(alloc, &taps, &well, 6) {
-        Ok(region) => Ok(region),
-        Err(error) => Err(error),
-    }
+    let region = not_surrounded(alloc, &taps, &well, 6)?;
+    Ok(region)
 }
 
 fn substrate_tap_near_well(alloc: Global, shapes: &Shapes) -> Result<Region, NoMemory>
@@ -65,91 +60,85 @@ fn substrate_tap_near_well(alloc: Global, shapes: &Shapes) -> Result<Region, NoM
 {
     let taps = substrate_tap(alloc, shapes)?;
     let well = on(alloc, shapes, Layer::Well)?;
-    match not_away(alloc, &taps, &well, 6) {
-        Ok(region) => Ok(region),
-        Err(error) => Err(error),
-    }
+    let region = not_away(alloc, &taps, &well, 6)?;
+    Ok(region)
 }
 
 // Taps too near the end of the well.
 pub(crate) fn tap_edge(alloc: Global, shapes: &Shapes) -> Result<Region, NoMemory>
-    ensures { IfOk result (λ r. AreCells (EitherOf (FailsSurround (WellTap shapes.now.rects) (On Well shapes.now.rects) 6) (FailsAway (SubstrateTap shapes.now.rects) (On Well shapes.now.rects) 6)) r) }
+    ensures { IfOk result (λ r. AreCells (EitherOf
+        (FailsSurround (WellTap shapes.now.rects) (On Well shapes.now.rects) 6)
+        (FailsAway (SubstrateTap shapes.now.rects) (On Well shapes.now.rects) 6)) r) }
 {
     let inside = well_tap_not_in_well(alloc, shapes)?;
     let outside = substrate_tap_near_well(alloc, shapes)?;
-    match inside.either(alloc, &outside) {
-        Ok(region) => Ok(region),
-        Err(error) => Err(error),
-    }
+    let region = inside.either(alloc, &outside)?;
+    Ok(region)
 }
 
 fn not_in_p_select(alloc: Global, shapes: &Shapes, deck: Deck) -> Result<Region, NoMemory>
-    ensures { IfOk result (λ r. AreCells (FailsSurround (PSelected deck shapes.now.rects) (On PSelect shapes.now.rects) 4) r) }
+    ensures { IfOk result (λ r. AreCells
+        (FailsSurround (PSelected deck shapes.now.rects) (On PSelect shapes.now.rects) 4) r) }
 {
     let active = p_selected(alloc, shapes, deck)?;
     let select = on(alloc, shapes, Layer::PSelect)?;
-    match not_surrounded(alloc, &active, &select, 4) {
-        Ok(region) => Ok(region),
-        Err(error) => Err(error),
-    }
+    let region = not_surrounded(alloc, &active, &select, 4)?;
+    Ok(region)
 }
 
 fn not_in_n_select(alloc: Global, shapes: &Shapes, deck: Deck) -> Result<Region, NoMemory>
-    ensures { IfOk result (λ r. AreCells (FailsSurround (NSelected deck shapes.now.rects) (On NSelect shapes.now.rects) 4) r) }
+    ensures { IfOk result (λ r. AreCells
+        (FailsSurround (NSelected deck shapes.now.rects) (On NSelect shapes.now.rects) 4) r) }
 {
     let active = n_selected(alloc, shapes, deck)?;
     let select = on(alloc, shapes, Layer::NSelect)?;
-    match not_surrounded(alloc, &active, &select, 4) {
-        Ok(region) => Ok(region),
-        Err(error) => Err(error),
-    }
+    let region = not_surrounded(alloc, &active, &select, 4)?;
+    Ok(region)
 }
 
 // Active that its select does not surround.
 pub(crate) fn select_edge(alloc: Global, shapes: &Shapes, deck: Deck) -> Result<Region, NoMemory>
-    ensures { IfOk result (λ r. AreCells (EitherOf (FailsSurround (PSelected deck shapes.now.rects) (On PSelect shapes.now.rects) 4) (FailsSurround (NSelected deck shapes.now.rects) (On NSelect shapes.now.rects) 4)) r) }
+    ensures { IfOk result (λ r. AreCells (EitherOf
+        (FailsSurround (PSelected deck shapes.now.rects) (On PSelect shapes.now.rects) 4)
+        (FailsSurround (NSelected deck shapes.now.rects) (On NSelect shapes.now.rects) 4)) r) }
 {
     let p = not_in_p_select(alloc, shapes, deck)?;
     let n = not_in_n_select(alloc, shapes, deck)?;
-    match p.either(alloc, &n) {
-        Ok(region) => Ok(region),
-        Err(error) => Err(error),
-    }
+    let region = p.either(alloc, &n)?;
+    Ok(region)
 }
 
 fn poly_contact_not_in(alloc: Global, shapes: &Shapes) -> Result<Region, NoMemory>
-    ensures { IfOk result (λ r. AreCells (FailsSurround (PolyContact shapes.now.rects) (On Poly shapes.now.rects) 3) r) }
+    ensures { IfOk result (λ r. AreCells
+        (FailsSurround (PolyContact shapes.now.rects) (On Poly shapes.now.rects) 3) r) }
 {
     let contact = poly_contact(alloc, shapes)?;
     let poly = on(alloc, shapes, Layer::Poly)?;
-    match not_surrounded(alloc, &contact, &poly, 3) {
-        Ok(region) => Ok(region),
-        Err(error) => Err(error),
-    }
+    let region = not_surrounded(alloc, &contact, &poly, 3)?;
+    Ok(region)
 }
 
 // Contacts on nothing, and contacts to poly too near its edge.
 pub(crate) fn contact_edge(alloc: Global, shapes: &Shapes) -> Result<Region, NoMemory>
-    ensures { IfOk result (λ r. AreCells (EitherOf (BareContact shapes.now.rects) (FailsSurround (PolyContact shapes.now.rects) (On Poly shapes.now.rects) 3)) r) }
+    ensures { IfOk result (λ r. AreCells (EitherOf
+        (BareContact shapes.now.rects)
+        (FailsSurround (PolyContact shapes.now.rects) (On Poly shapes.now.rects) 3)) r) }
 {
     let bare = bare_contact(alloc, shapes)?;
     let edge = poly_contact_not_in(alloc, shapes)?;
-    match bare.either(alloc, &edge) {
-        Ok(region) => Ok(region),
-        Err(error) => Err(error),
-    }
+    let region = bare.either(alloc, &edge)?;
+    Ok(region)
 }
 
 // Contacts to diffusion too near the edge of active.
 pub(crate) fn diffusion_edge(alloc: Global, shapes: &Shapes) -> Result<Region, NoMemory>
-    ensures { IfOk result (λ r. AreCells (FailsSurround (DiffusionContact shapes.now.rects) (On Active shapes.now.rects) 3) r) }
+    ensures { IfOk result (λ r. AreCells
+        (FailsSurround (DiffusionContact shapes.now.rects) (On Active shapes.now.rects) 3) r) }
 {
     let contact = diffusion_contact(alloc, shapes)?;
     let active = on(alloc, shapes, Layer::Active)?;
-    match not_surrounded(alloc, &contact, &active, 3) {
-        Ok(region) => Ok(region),
-        Err(error) => Err(error),
-    }
+    let region = not_surrounded(alloc, &contact, &active, 3)?;
+    Ok(region)
 }
 
 // Contacts too near a gate.
@@ -158,20 +147,18 @@ pub(crate) fn gate_distance(alloc: Global, shapes: &Shapes) -> Result<Region, No
 {
     let contact = on(alloc, shapes, Layer::Contact)?;
     let gates = gate(alloc, shapes)?;
-    match not_away(alloc, &contact, &gates, 4) {
-        Ok(region) => Ok(region),
-        Err(error) => Err(error),
-    }
+    let region = not_away(alloc, &contact, &gates, 4)?;
+    Ok(region)
 }
 
 // Vias too near an edge of poly or of active.
 pub(crate) fn via_over_edge(alloc: Global, shapes: &Shapes) -> Result<Region, NoMemory>
-    ensures { IfOk result (λ r. AreCells (EitherOf (FailsPartly (On Via shapes.now.rects) (On Poly shapes.now.rects) 4) (FailsPartly (On Via shapes.now.rects) (On Active shapes.now.rects) 4)) r) }
+    ensures { IfOk result (λ r. AreCells (EitherOf
+        (FailsPartly (On Via shapes.now.rects) (On Poly shapes.now.rects) 4)
+        (FailsPartly (On Via shapes.now.rects) (On Active shapes.now.rects) 4)) r) }
 {
     let poly = layer_partly(alloc, shapes, Layer::Via, Layer::Poly, 4)?;
     let active = layer_partly(alloc, shapes, Layer::Via, Layer::Active, 4)?;
-    match poly.either(alloc, &active) {
-        Ok(region) => Ok(region),
-        Err(error) => Err(error),
-    }
+    let region = poly.either(alloc, &active)?;
+    Ok(region)
 }

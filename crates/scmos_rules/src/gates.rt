@@ -49,14 +49,13 @@ fn upward(heading: Heading, distance: u32) -> i32
 // The cells whose cell at a distance in a direction is in the set.
 fn ahead(alloc: Global, set: &Region, heading: Heading, distance: u32) -> Result<Region, NoMemory>
     requires small { distance ≤ 1000 }
-    ensures { IfOk result (λ r. AreCells (λ x y. OnPlane x y × Ahead (Covers set.now) (way_of heading) distance x y) r) }
+    ensures { IfOk result (λ r. AreCells
+        (λ x y. OnPlane x y × Ahead (Covers set.now) (way_of heading) distance x y) r) }
 {
     let dx = across(heading, distance);
     let dy = upward(heading, distance);
-    match set.shifted(alloc, dx, dy) {
-        Ok(region) => Ok(region),
-        Err(error) => Err(error),
-    }
+    let region = set.shifted(alloc, dx, dy)?;
+    Ok(region)
 }
 
 // The cells of a set from which, in a direction, one of a number of cells is not in the other set.
@@ -69,7 +68,8 @@ fn lacking(
 ) -> Result<Region, NoMemory>
     requires inner { AreInner base.now }
     requires small { last ≤ 1000 }
-    ensures { IfOk result (λ r. AreCells (λ x y. Covers base.now x y × Lacks (Covers set.now) (way_of heading) last x y) r) }
+    ensures { IfOk result (λ r. AreCells
+        (λ x y. Covers base.now x y × Lacks (Covers set.now) (way_of heading) last x y) r) }
 {
     let mut found = Region::empty(alloc);
     for distance in 0..last {
@@ -92,10 +92,8 @@ fn together(
 {
     let across = right.either(alloc, left)?;
     let upward = up.either(alloc, down)?;
-    match across.either(alloc, &upward) {
-        Ok(region) => Ok(region),
-        Err(error) => Err(error),
-    }
+    let region = across.either(alloc, &upward)?;
+    Ok(region)
 }
 
 fn ending_early(alloc: Global, shapes: &Shapes, heading: Heading) -> Result<Region, NoMemory>
@@ -106,10 +104,8 @@ fn ending_early(alloc: Global, shapes: &Shapes, heading: Heading) -> Result<Regi
     let poly = on(alloc, shapes, Layer::Poly)?;
     let beyond = ahead(alloc, &active, heading, 1)?;
     let base = gates.minus(alloc, &beyond)?;
-    match lacking(alloc, &base, &poly, heading, 4) {
-        Ok(region) => Ok(region),
-        Err(error) => Err(error),
-    }
+    let region = lacking(alloc, &base, &poly, heading, 4)?;
+    Ok(region)
 }
 
 fn standing_early(alloc: Global, shapes: &Shapes, heading: Heading) -> Result<Region, NoMemory>
@@ -120,10 +116,8 @@ fn standing_early(alloc: Global, shapes: &Shapes, heading: Heading) -> Result<Re
     let bare = diffusion(alloc, shapes)?;
     let beside = ahead(alloc, &bare, heading, 1)?;
     let base = gates.both(alloc, &beside)?;
-    match lacking(alloc, &base, &active, heading, 6) {
-        Ok(region) => Ok(region),
-        Err(error) => Err(error),
-    }
+    let region = lacking(alloc, &base, &active, heading, 6)?;
+    Ok(region)
 }
 
 fn meeting_early(alloc: Global, shapes: &Shapes, heading: Heading) -> Result<Region, NoMemory>
@@ -136,10 +130,8 @@ fn meeting_early(alloc: Global, shapes: &Shapes, heading: Heading) -> Result<Reg
     let free = bare_ahead(alloc, shapes, &field, heading)?;
     let behind = ahead(alloc, &bare, heading, 2)?;
     let second = free.both(alloc, &behind)?;
-    match first.either(alloc, &second) {
-        Ok(region) => Ok(region),
-        Err(error) => Err(error),
-    }
+    let region = first.either(alloc, &second)?;
+    Ok(region)
 }
 
 // The cells of a set whose next cell in a direction is neither poly nor active.
@@ -150,17 +142,16 @@ fn bare_ahead(
     heading: Heading,
 ) -> Result<Region, NoMemory>
     requires inner { AreInner set.now }
-    ensures { IfOk result (λ r. AreCells (λ x y. Covers set.now x y × Ahead (Bare shapes.now.rects) (way_of heading) 1 x y) r) }
+    ensures { IfOk result (λ r. AreCells
+        (λ x y. Covers set.now x y × Ahead (Bare shapes.now.rects) (way_of heading) 1 x y) r) }
 {
     let poly = on(alloc, shapes, Layer::Poly)?;
     let active = on(alloc, shapes, Layer::Active)?;
     let poly_next = ahead(alloc, &poly, heading, 1)?;
     let active_next = ahead(alloc, &active, heading, 1)?;
     let no_poly = set.minus(alloc, &poly_next)?;
-    match no_poly.minus(alloc, &active_next) {
-        Ok(region) => Ok(region),
-        Err(error) => Err(error),
-    }
+    let region = no_poly.minus(alloc, &active_next)?;
+    Ok(region)
 }
 
 // Gate cells where poly ends too early past active.
@@ -171,10 +162,8 @@ pub(crate) fn poly_end(alloc: Global, shapes: &Shapes) -> Result<Region, NoMemor
     let left = ending_early(alloc, shapes, Heading::Left)?;
     let up = ending_early(alloc, shapes, Heading::Up)?;
     let down = ending_early(alloc, shapes, Heading::Down)?;
-    match together(alloc, &right, &left, &up, &down) {
-        Ok(region) => Ok(region),
-        Err(error) => Err(error),
-    }
+    let region = together(alloc, &right, &left, &up, &down)?;
+    Ok(region)
 }
 
 // Gate cells where active ends too early past poly.
@@ -185,10 +174,8 @@ pub(crate) fn active_end(alloc: Global, shapes: &Shapes) -> Result<Region, NoMem
     let left = standing_early(alloc, shapes, Heading::Left)?;
     let up = standing_early(alloc, shapes, Heading::Up)?;
     let down = standing_early(alloc, shapes, Heading::Down)?;
-    match together(alloc, &right, &left, &up, &down) {
-        Ok(region) => Ok(region),
-        Err(error) => Err(error),
-    }
+    let region = together(alloc, &right, &left, &up, &down)?;
+    Ok(region)
 }
 
 // Field poly cells too close to active.
@@ -199,8 +186,6 @@ pub(crate) fn field_distance(alloc: Global, shapes: &Shapes) -> Result<Region, N
     let left = meeting_early(alloc, shapes, Heading::Left)?;
     let up = meeting_early(alloc, shapes, Heading::Up)?;
     let down = meeting_early(alloc, shapes, Heading::Down)?;
-    match together(alloc, &right, &left, &up, &down) {
-        Ok(region) => Ok(region),
-        Err(error) => Err(error),
-    }
+    let region = together(alloc, &right, &left, &up, &down)?;
+    Ok(region)
 }

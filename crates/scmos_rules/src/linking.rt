@@ -91,8 +91,6 @@ pub fn classes(alloc: Global, count: usize, links: &[Link]) -> Result<Vec<usize>
 {
     let mut parents = numbers(alloc, count)?;
     merge_all(&mut parents, count, links);
-    match roots(alloc, parents.as_slice()) {
-        Ok(labels) => Ok(labels),
-        Err(error) => Err(error),
-    }
+    let labels = roots(alloc, parents.as_slice())?;
+    Ok(labels)
 }

@@ -24,10 +24,8 @@ pub(crate) fn not_surrounded(
     let around = inside.grown(alloc, by)?;
     let out = around.minus(alloc, outside)?;
     let near_out = out.grown(alloc, by)?;
-    match inside.both(alloc, &near_out) {
-        Ok(region) => Ok(region),
-        Err(error) => Err(error),
-    }
+    let region = inside.both(alloc, &near_out)?;
+    Ok(region)
 }
 
 // The cells of a set with a cell of the other set within a distance.
@@ -42,10 +40,8 @@ pub(crate) fn not_away(
     ensures { IfOk result (λ r. AreCells (FailsAway (Covers inside.now) (Covers outside.now) by) r) }
 {
     let near = outside.grown(alloc, by)?;
-    match inside.both(alloc, &near) {
-        Ok(region) => Ok(region),
-        Err(error) => Err(error),
-    }
+    let region = inside.both(alloc, &near)?;
+    Ok(region)
 }
 
 // The same for two layers.
@@ -57,14 +53,13 @@ pub(crate) fn layer_not_surrounded(
     by: u32,
 ) -> Result<Region, NoMemory>
     requires small { by ≤ 1000 }
-    ensures { IfOk result (λ r. AreCells (FailsSurround (On inside shapes.now.rects) (On outside shapes.now.rects) by) r) }
+    ensures { IfOk result (λ r. AreCells
+        (FailsSurround (On inside shapes.now.rects) (On outside shapes.now.rects) by) r) }
 {
     let a = on(alloc, shapes, inside)?;
     let b = on(alloc, shapes, outside)?;
-    match not_surrounded(alloc, &a, &b, by) {
-        Ok(region) => Ok(region),
-        Err(error) => Err(error),
-    }
+    let region = not_surrounded(alloc, &a, &b, by)?;
+    Ok(region)
 }
 
 pub(crate) fn layer_not_away(
@@ -79,10 +74,8 @@ pub(crate) fn layer_not_away(
 {
     let a = on(alloc, shapes, inside)?;
     let b = on(alloc, shapes, outside)?;
-    match not_away(alloc, &a, &b, by) {
-        Ok(region) => Ok(region),
-        Err(error) => Err(error),
-    }
+    let region = not_away(alloc, &a, &b, by)?;
+    Ok(region)
 }
 
 // The cells of a layer where the cells within a distance are partly of the other and partly not.
@@ -94,12 +87,11 @@ pub(crate) fn layer_partly(
     by: u32,
 ) -> Result<Region, NoMemory>
     requires small { by ≤ 1000 }
-    ensures { IfOk result (λ r. AreCells (FailsPartly (On inside shapes.now.rects) (On outside shapes.now.rects) by) r) }
+    ensures { IfOk result (λ r. AreCells
+        (FailsPartly (On inside shapes.now.rects) (On outside shapes.now.rects) by) r) }
 {
     let near = layer_not_away(alloc, shapes, inside, outside, by)?;
     let out = layer_not_surrounded(alloc, shapes, inside, outside, by)?;
-    match near.both(alloc, &out) {
-        Ok(region) => Ok(region),
-        Err(error) => Err(error),
-    }
+    let region = near.both(alloc, &out)?;
+    Ok(region)
 }

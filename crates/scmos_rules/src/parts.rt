@@ -7,17 +7,17 @@ use std::alloc::{AllocError, Global};
 
 /// A rectangle of a set, with its place in the list of the set's rectangles.
 #[derive(Clone, Copy, Debug)]
-pub struct Part {
+pub struct NumberedBlock {
     pub number: usize,
     pub block: Block,
 }
 
-pub(crate) fn parts_of(alloc: Global, blocks: &[Block]) -> Result<Vec<Part>, AllocError>
+pub(crate) fn parts_of(alloc: Global, blocks: &[Block]) -> Result<Vec<NumberedBlock>, AllocError>
     ensures { IfOk result (λ v. v.items ≡ numbered 0 blocks.now) }
 {
     let mut parts = Vec::new(alloc);
     for (number, block) in blocks.iter().enumerate() {
-        parts.push(Part {
+        parts.push(NumberedBlock {
             number,
             block: *block,
         })?;
@@ -45,7 +45,12 @@ fn is_close_across(block: &Block, other: &Block, by: u32) -> bool
     is_closer(block.x2, other.x1, by) && is_closer(other.x2, block.x1, by)
 }
 
-fn add_close(near: &mut Vec<Part>, part: &Part, other: &Part, by: u32) -> Result<(), AllocError>
+fn add_close(
+    near: &mut Vec<NumberedBlock>,
+    part: &NumberedBlock,
+    other: &NumberedBlock,
+    by: u32,
+) -> Result<(), AllocError>
     ensures { OnOk result (near.new.items ≡ near.old.items ++ some_close by part.now other.now) }
 {
     if is_close_across(&part.block, &other.block, by) {
@@ -58,10 +63,10 @@ fn add_close(near: &mut Vec<Part>, part: &Part, other: &Part, by: u32) -> Result
 // first that begins too high ends the search.
 pub(crate) fn near_behind(
     alloc: Global,
-    part: &Part,
-    behind: &[Part],
+    part: &NumberedBlock,
+    behind: &[NumberedBlock],
     by: u32,
-) -> Result<Vec<Part>, AllocError>
+) -> Result<Vec<NumberedBlock>, AllocError>
     ensures { IfOk result (λ v. v.items ≡ near_from by part.now behind.now) }
 {
     let mut near = Vec::new(alloc);

@@ -48,13 +48,12 @@ fn wrong_blocks(
 }
 
 fn wrong_rows(alloc: Global, set: &Region, measure: Measure, value: u32) -> Result<Region, NoMemory>
-    ensures { IfOk result (λ r. AreCells (λ x y. Covers set.now x y × IsWrong measure (λ z. Covers set.now z y) value x) r) }
+    ensures { IfOk result (λ r. AreCells
+        (λ x y. Covers set.now x y × IsWrong measure (λ z. Covers set.now z y) value x) r) }
 {
     let blocks = wrong_blocks(alloc, set.blocks(), measure, value)?;
-    match Region::from_blocks(alloc, blocks.as_slice()) {
-        Ok(region) => Ok(region),
-        Err(error) => Err(error),
-    }
+    let region = Region::from_blocks(alloc, blocks.as_slice())?;
+    Ok(region)
 }
 
 // The cells of a set whose run along the row or along the column has not the length. The set is given
@@ -72,10 +71,8 @@ fn wrong_runs(
     let rows = wrong_rows(alloc, set, measure, value)?;
     let across = wrong_rows(alloc, turned, measure, value)?;
     let columns = across.turned(alloc)?;
-    match rows.either(alloc, &columns) {
-        Ok(region) => Ok(region),
-        Err(error) => Err(error),
-    }
+    let region = rows.either(alloc, &columns)?;
+    Ok(region)
 }
 
 pub(crate) fn width(
@@ -88,10 +85,8 @@ pub(crate) fn width(
 {
     let set = on(alloc, shapes, layer)?;
     let turned = set.turned(alloc)?;
-    match wrong_runs(alloc, &set, &turned, Measure::Width, value) {
-        Ok(region) => Ok(region),
-        Err(error) => Err(error),
-    }
+    let region = wrong_runs(alloc, &set, &turned, Measure::Width, value)?;
+    Ok(region)
 }
 
 pub(crate) fn size(
@@ -104,10 +99,8 @@ pub(crate) fn size(
 {
     let set = on(alloc, shapes, layer)?;
     let turned = set.turned(alloc)?;
-    match wrong_runs(alloc, &set, &turned, Measure::Size, value) {
-        Ok(region) => Ok(region),
-        Err(error) => Err(error),
-    }
+    let region = wrong_runs(alloc, &set, &turned, Measure::Size, value)?;
+    Ok(region)
 }
 
 // The cells of the gaps below a value in a set. A gap is a run of the cells that are not in the set. Their
@@ -121,8 +114,6 @@ pub(crate) fn open(alloc: Global, set: &Region, value: u32) -> Result<Region, No
     let rest = plane.minus(alloc, set)?;
     let turned = set.turned(alloc)?;
     let turned_rest = plane.minus(alloc, &turned)?;
-    match wrong_runs(alloc, &rest, &turned_rest, Measure::Width, value) {
-        Ok(region) => Ok(region),
-        Err(error) => Err(error),
-    }
+    let region = wrong_runs(alloc, &rest, &turned_rest, Measure::Width, value)?;
+    Ok(region)
 }

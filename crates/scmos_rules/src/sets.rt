@@ -14,10 +14,8 @@ pub(crate) fn on(alloc: Global, shapes: &Shapes, layer: Layer) -> Result<Region,
     ensures inner { IfOk result (λ r. AreInner r) }
 {
     shapes.show_limits();
-    match Region::of(alloc, shapes, layer) {
-        Ok(region) => Ok(region),
-        Err(error) => Err(error),
-    }
+    let region = Region::of(alloc, shapes, layer)?;
+    Ok(region)
 }
 
 pub(crate) fn gate(alloc: Global, shapes: &Shapes) -> Result<Region, NoMemory>
@@ -26,10 +24,8 @@ pub(crate) fn gate(alloc: Global, shapes: &Shapes) -> Result<Region, NoMemory>
 {
     let active = on(alloc, shapes, Layer::Active)?;
     let poly = on(alloc, shapes, Layer::Poly)?;
-    match active.both(alloc, &poly) {
-        Ok(region) => Ok(region),
-        Err(error) => Err(error),
-    }
+    let region = active.both(alloc, &poly)?;
+    Ok(region)
 }
 
 pub(crate) fn diffusion(alloc: Global, shapes: &Shapes) -> Result<Region, NoMemory>
@@ -38,10 +34,8 @@ pub(crate) fn diffusion(alloc: Global, shapes: &Shapes) -> Result<Region, NoMemo
 {
     let active = on(alloc, shapes, Layer::Active)?;
     let poly = on(alloc, shapes, Layer::Poly)?;
-    match active.minus(alloc, &poly) {
-        Ok(region) => Ok(region),
-        Err(error) => Err(error),
-    }
+    let region = active.minus(alloc, &poly)?;
+    Ok(region)
 }
 
 pub(crate) fn field_poly(alloc: Global, shapes: &Shapes) -> Result<Region, NoMemory>
@@ -50,10 +44,8 @@ pub(crate) fn field_poly(alloc: Global, shapes: &Shapes) -> Result<Region, NoMem
 {
     let poly = on(alloc, shapes, Layer::Poly)?;
     let active = on(alloc, shapes, Layer::Active)?;
-    match poly.minus(alloc, &active) {
-        Ok(region) => Ok(region),
-        Err(error) => Err(error),
-    }
+    let region = poly.minus(alloc, &active)?;
+    Ok(region)
 }
 
 fn in_well(alloc: Global, shapes: &Shapes) -> Result<Region, NoMemory>
@@ -62,10 +54,8 @@ fn in_well(alloc: Global, shapes: &Shapes) -> Result<Region, NoMemory>
 {
     let active = on(alloc, shapes, Layer::Active)?;
     let well = on(alloc, shapes, Layer::Well)?;
-    match active.both(alloc, &well) {
-        Ok(region) => Ok(region),
-        Err(error) => Err(error),
-    }
+    let region = active.both(alloc, &well)?;
+    Ok(region)
 }
 
 fn out_of_well(alloc: Global, shapes: &Shapes) -> Result<Region, NoMemory>
@@ -74,10 +64,8 @@ fn out_of_well(alloc: Global, shapes: &Shapes) -> Result<Region, NoMemory>
 {
     let active = on(alloc, shapes, Layer::Active)?;
     let well = on(alloc, shapes, Layer::Well)?;
-    match active.minus(alloc, &well) {
-        Ok(region) => Ok(region),
-        Err(error) => Err(error),
-    }
+    let region = active.minus(alloc, &well)?;
+    Ok(region)
 }
 
 pub(crate) fn well_tap(alloc: Global, shapes: &Shapes) -> Result<Region, NoMemory>
@@ -86,10 +74,8 @@ pub(crate) fn well_tap(alloc: Global, shapes: &Shapes) -> Result<Region, NoMemor
 {
     let active = in_well(alloc, shapes)?;
     let select = on(alloc, shapes, Layer::NSelect)?;
-    match active.both(alloc, &select) {
-        Ok(region) => Ok(region),
-        Err(error) => Err(error),
-    }
+    let region = active.both(alloc, &select)?;
+    Ok(region)
 }
 
 pub(crate) fn substrate_tap(alloc: Global, shapes: &Shapes) -> Result<Region, NoMemory>
@@ -98,10 +84,8 @@ pub(crate) fn substrate_tap(alloc: Global, shapes: &Shapes) -> Result<Region, No
 {
     let active = out_of_well(alloc, shapes)?;
     let select = on(alloc, shapes, Layer::PSelect)?;
-    match active.both(alloc, &select) {
-        Ok(region) => Ok(region),
-        Err(error) => Err(error),
-    }
+    let region = active.both(alloc, &select)?;
+    Ok(region)
 }
 
 fn p_active_beside_taps(alloc: Global, shapes: &Shapes) -> Result<Region, NoMemory>
@@ -110,10 +94,8 @@ fn p_active_beside_taps(alloc: Global, shapes: &Shapes) -> Result<Region, NoMemo
 {
     let active = in_well(alloc, shapes)?;
     let select = on(alloc, shapes, Layer::NSelect)?;
-    match active.minus(alloc, &select) {
-        Ok(region) => Ok(region),
-        Err(error) => Err(error),
-    }
+    let region = active.minus(alloc, &select)?;
+    Ok(region)
 }
 
 fn n_active_beside_taps(alloc: Global, shapes: &Shapes) -> Result<Region, NoMemory>
@@ -122,10 +104,8 @@ fn n_active_beside_taps(alloc: Global, shapes: &Shapes) -> Result<Region, NoMemo
 {
     let active = out_of_well(alloc, shapes)?;
     let select = on(alloc, shapes, Layer::PSelect)?;
-    match active.minus(alloc, &select) {
-        Ok(region) => Ok(region),
-        Err(error) => Err(error),
-    }
+    let region = active.minus(alloc, &select)?;
+    Ok(region)
 }
 
 pub(crate) fn p_active(alloc: Global, shapes: &Shapes, deck: Deck) -> Result<Region, NoMemory>
@@ -154,10 +134,8 @@ fn p_active_and_taps(alloc: Global, shapes: &Shapes) -> Result<Region, NoMemory>
 {
     let active = p_active_beside_taps(alloc, shapes)?;
     let taps = substrate_tap(alloc, shapes)?;
-    match active.either(alloc, &taps) {
-        Ok(region) => Ok(region),
-        Err(error) => Err(error),
-    }
+    let region = active.either(alloc, &taps)?;
+    Ok(region)
 }
 
 fn n_active_and_taps(alloc: Global, shapes: &Shapes) -> Result<Region, NoMemory>
@@ -166,10 +144,8 @@ fn n_active_and_taps(alloc: Global, shapes: &Shapes) -> Result<Region, NoMemory>
 {
     let active = n_active_beside_taps(alloc, shapes)?;
     let taps = well_tap(alloc, shapes)?;
-    match active.either(alloc, &taps) {
-        Ok(region) => Ok(region),
-        Err(error) => Err(error),
-    }
+    let region = active.either(alloc, &taps)?;
+    Ok(region)
 }
 
 // What P select must surround.
@@ -200,10 +176,8 @@ pub(crate) fn poly_contact(alloc: Global, shapes: &Shapes) -> Result<Region, NoM
 {
     let contact = on(alloc, shapes, Layer::Contact)?;
     let poly = on(alloc, shapes, Layer::Poly)?;
-    match contact.both(alloc, &poly) {
-        Ok(region) => Ok(region),
-        Err(error) => Err(error),
-    }
+    let region = contact.both(alloc, &poly)?;
+    Ok(region)
 }
 
 pub(crate) fn diffusion_contact(alloc: Global, shapes: &Shapes) -> Result<Region, NoMemory>
@@ -212,10 +186,8 @@ pub(crate) fn diffusion_contact(alloc: Global, shapes: &Shapes) -> Result<Region
 {
     let contact = on(alloc, shapes, Layer::Contact)?;
     let diffusion = diffusion(alloc, shapes)?;
-    match contact.both(alloc, &diffusion) {
-        Ok(region) => Ok(region),
-        Err(error) => Err(error),
-    }
+    let region = contact.both(alloc, &diffusion)?;
+    Ok(region)
 }
 
 // Contacts without poly, and of these the ones without active.
@@ -226,8 +198,6 @@ pub(crate) fn bare_contact(alloc: Global, shapes: &Shapes) -> Result<Region, NoM
     let poly = on(alloc, shapes, Layer::Poly)?;
     let active = on(alloc, shapes, Layer::Active)?;
     let rest = contact.minus(alloc, &poly)?;
-    match rest.minus(alloc, &active) {
-        Ok(region) => Ok(region),
-        Err(error) => Err(error),
-    }
+    let region = rest.minus(alloc, &active)?;
+    Ok(region)
 }

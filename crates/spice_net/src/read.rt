@@ -91,7 +91,7 @@ fn number_nets(
     transistors: &[Transistor],
 ) -> Result<Subckt, NoMemory>
     requires few { index_set_len nets.now ≤ MOST_NETS }
-    requires pins { length directions ≤ 64 }
+    requires pins { length directions ≤ MOST_PINS }
     ensures { IfOk result (λ cell. (lines : List LineOf) → (names : List (List ℕ)) →
         directions ≡ directions_in tech.now lines names transistors.now →
         names_of nets.now.keys ≡ nets_of names transistors.now →
@@ -217,16 +217,13 @@ pub fn read_cell(
     // What holds of every one.
     ensures sound { IfOk result (λ cell. IsSubckt cell) }
     ensures pins { IfOk result (λ cell. ArePins (length cell.nets) cell.pins) }
-    ensures few_pins { IfOk result (λ cell. cell.pins.pins ≤ 64) }
-    ensures few_devices { IfOk result (λ cell. length cell.devices ≤ 128) }
+    ensures few_pins { IfOk result (λ cell. cell.pins.pins ≤ MOST_PINS) }
+    ensures few_devices { IfOk result (λ cell. length cell.devices ≤ MOST_DEVICES) }
     ensures directions { IfOk result (λ cell. length cell.directions ≡ cell.pins.pins) }
     ensures named { IfOk result (λ cell. AreNames cell.nets) }
     ensures name { IfOk result (λ cell. cell.name ≡ name.now) }
 {
-    // The limits of the technology are shown first; the match names the value for the prover.
     tech.show_limits();
-    match read_text(alloc, bytes, name, tech) {
-        Ok(cell) => Ok(cell),
-        Err(fault) => Err(fault),
-    }
+    let cell = read_text(alloc, bytes, name, tech)?;
+    Ok(cell)
 }

@@ -3,5 +3,5 @@ use Rattle.scmos_rules.specs.Layout.{On, NSelected}
 use Rattle.scmos_rules.proofs.Distances.{like_surround}
 use Rattle.scmos_rules.proofs.composite.not_in_n_select.Goals as goal
 
-pub returns-in-Ok : goal.returns-in-Ok
-returns-in-Ok c = like_surround (NSelected c.args.deck c.args.shapes.now.rects) (On NSelect c.args.shapes.now.rects) c.in_ok-active.active c.in_ok-select.select c.in-Ok.region 4 c.in_ok-active.ensures.cells c.in_ok-select.ensures.cells c.in-Ok.ensures
+pub returns : goal.returns
+returns c = like_surround (NSelected c.args.deck c.args.shapes.now.rects) (On NSelect c.args.shapes.now.rects) c.in_ok-active.active c.in_ok-select.select c.in_ok-region.region 4 c.in_ok-active.ensures.cells c.in_ok-select.ensures.cells c.in_ok-region.ensures

@@ -4,5 +4,5 @@ use Rattle.scmos_rules.specs.Failing.{FailsSurround}
 use Rattle.scmos_rules.proofs.Unions.{either_cells}
 use Rattle.scmos_rules.proofs.composite.select_edge.Goals as goal
 
-pub returns-in-Ok : goal.returns-in-Ok
-returns-in-Ok c = either_cells (FailsSurround (PSelected c.args.deck c.args.shapes.now.rects) (On PSelect c.args.shapes.now.rects) 4) (FailsSurround (NSelected c.args.deck c.args.shapes.now.rects) (On NSelect c.args.shapes.now.rects) 4) c.in_ok-p.p c.in_ok-n.n c.in-Ok.region c.in_ok-p.ensures c.in_ok-n.ensures c.in-Ok.ensures
+pub returns : goal.returns
+returns c = either_cells (FailsSurround (PSelected c.args.deck c.args.shapes.now.rects) (On PSelect c.args.shapes.now.rects) 4) (FailsSurround (NSelected c.args.deck c.args.shapes.now.rects) (On NSelect c.args.shapes.now.rects) 4) c.in_ok-p.p c.in_ok-n.n c.in_ok-region.region c.in_ok-p.ensures c.in_ok-n.ensures c.in_ok-region.ensures

@@ -3,5 +3,5 @@ use Rattle.scmos_rules.specs.Layout.{On, SubstrateTap}
 use Rattle.scmos_rules.proofs.Distances.{like_away}
 use Rattle.scmos_rules.proofs.composite.substrate_tap_near_well.Goals as goal
 
-pub returns-in-Ok : goal.returns-in-Ok
-returns-in-Ok c = like_away (SubstrateTap c.args.shapes.now.rects) (On Well c.args.shapes.now.rects) c.in_ok-taps.taps c.in_ok-well.well c.in-Ok.region 6 c.in_ok-taps.ensures.cells c.in_ok-well.ensures.cells c.in-Ok.ensures
+pub returns : goal.returns
+returns c = like_away (SubstrateTap c.args.shapes.now.rects) (On Well c.args.shapes.now.rects) c.in_ok-taps.taps c.in_ok-well.well c.in_ok-region.region 6 c.in_ok-taps.ensures.cells c.in_ok-well.ensures.cells c.in_ok-region.ensures

@@ -6,5 +6,5 @@ use Rattle.scmos_rules.proofs.gates.standing_early.Goals as goal
 pub lacking-requires-clause-inner : goal.lacking-requires-clause-inner
 lacking-requires-clause-inner c = both_inner c.in_ok-gates.gates c.in_ok-beside.beside c.in_ok-base.base c.in_ok-gates.ensures.inner c.in_ok-base.ensures
 
-pub returns-in-Ok : goal.returns-in-Ok
-returns-in-Ok c = stands_early c.args.shapes.now.rects 6 (way_of c.args.heading) c.in_ok-gates.gates c.in_ok-active.active c.in_ok-bare.bare c.in_ok-beside.beside c.in_ok-base.base c.in-Ok.region c.in_ok-gates.ensures.cells c.in_ok-gates.ensures.inner c.in_ok-active.ensures.cells c.in_ok-bare.ensures.cells c.in_ok-beside.ensures c.in_ok-base.ensures c.in-Ok.ensures
+pub returns : goal.returns
+returns c = stands_early c.args.shapes.now.rects 6 (way_of c.args.heading) c.in_ok-gates.gates c.in_ok-active.active c.in_ok-bare.bare c.in_ok-beside.beside c.in_ok-base.base c.in_ok-region.region c.in_ok-gates.ensures.cells c.in_ok-gates.ensures.inner c.in_ok-active.ensures.cells c.in_ok-bare.ensures.cells c.in_ok-beside.ensures c.in_ok-base.ensures c.in_ok-region.ensures

@@ -3,5 +3,5 @@ use Rattle.scmos_rules.specs.Classes.{AreRoots}
 use Rattle.scmos_rules.proofs.Merging.{decided}
 use Rattle.scmos_rules.proofs.linking.classes.Goals as goal
 
-pub returns-in-Ok-clause-same : goal.returns-in-Ok-clause-same
-returns-in-Ok-clause-same c = decided c.args.count c.args.links.now c.merge_all.new.parents.items c.in-Ok.labels.items c.merge_all.ensures (subst (λ z. AreRoots z c.in-Ok.labels.items) c.as_slice.ensures.value c.in-Ok.ensures)
+pub returns-clause-same : goal.returns-clause-same
+returns-clause-same c = decided c.args.count c.args.links.now c.merge_all.new.parents.items c.in_ok-labels.labels.items c.merge_all.ensures (subst (λ z. AreRoots z c.in_ok-labels.labels.items) c.as_slice.ensures.value c.in_ok-labels.ensures)

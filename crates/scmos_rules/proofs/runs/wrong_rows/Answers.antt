@@ -11,9 +11,9 @@ from_blocks-requires c =
     let e : c.as_slice.result.now ≡ filter (is_wrong c.args.measure c.args.value) c.args.set.now = search rules in
     some_blocks c.args.measure c.args.value c.args.set.now c.as_slice.result.now banded e
 
-pub returns-in-Ok : goal.returns-in-Ok
-returns-in-Ok c =
+pub returns : goal.returns
+returns c =
     let banded : AreBanded c.args.set.now = search rules in
     let e : c.as_slice.result.now ≡ filter (is_wrong c.args.measure c.args.value) c.args.set.now = search rules in
-    let same : SameCells c.in-Ok.region c.as_slice.result.now = search rules in
-    rows_wrong c.args.measure c.args.value c.args.set.now c.as_slice.result.now c.in-Ok.region banded e same
+    let same : SameCells c.in_ok-region.region c.as_slice.result.now = search rules in
+    rows_wrong c.args.measure c.args.value c.args.set.now c.as_slice.result.now c.in_ok-region.region banded e same

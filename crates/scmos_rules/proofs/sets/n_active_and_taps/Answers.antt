@@ -3,8 +3,8 @@ use Rattle.scmos_rules.specs.declared.rules.Deck.TheVariants.{Taps}
 use Rattle.scmos_rules.proofs.Unions.{either_cells, either_inner}
 use Rattle.scmos_rules.proofs.sets.n_active_and_taps.Goals as goal
 
-pub returns-in-Ok-clause-cells : goal.returns-in-Ok-clause-cells
-returns-in-Ok-clause-cells c = either_cells (NActive Taps c.args.shapes.now.rects) (WellTap c.args.shapes.now.rects) c.in_ok-active.active c.in_ok-taps.taps c.in-Ok.region c.in_ok-active.ensures.cells c.in_ok-taps.ensures.cells c.in-Ok.ensures
+pub returns-clause-cells : goal.returns-clause-cells
+returns-clause-cells c = either_cells (NActive Taps c.args.shapes.now.rects) (WellTap c.args.shapes.now.rects) c.in_ok-active.active c.in_ok-taps.taps c.in_ok-region.region c.in_ok-active.ensures.cells c.in_ok-taps.ensures.cells c.in_ok-region.ensures
 
-pub returns-in-Ok-clause-inner : goal.returns-in-Ok-clause-inner
-returns-in-Ok-clause-inner c = either_inner c.in_ok-active.active c.in_ok-taps.taps c.in-Ok.region c.in_ok-active.ensures.inner c.in_ok-taps.ensures.inner c.in-Ok.ensures
+pub returns-clause-inner : goal.returns-clause-inner
+returns-clause-inner c = either_inner c.in_ok-active.active c.in_ok-taps.taps c.in_ok-region.region c.in_ok-active.ensures.inner c.in_ok-taps.ensures.inner c.in_ok-region.ensures

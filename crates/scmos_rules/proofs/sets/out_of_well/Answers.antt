@@ -3,8 +3,8 @@ use Rattle.scmos_rules.specs.Layout.{On}
 use Rattle.scmos_rules.proofs.Unions.{minus_cells, minus_inner}
 use Rattle.scmos_rules.proofs.sets.out_of_well.Goals as goal
 
-pub returns-in-Ok-clause-cells : goal.returns-in-Ok-clause-cells
-returns-in-Ok-clause-cells c = minus_cells (On Active c.args.shapes.now.rects) (On Well c.args.shapes.now.rects) c.in_ok-active.active c.in_ok-well.well c.in-Ok.region c.in_ok-active.ensures.cells c.in_ok-well.ensures.cells c.in-Ok.ensures
+pub returns-clause-cells : goal.returns-clause-cells
+returns-clause-cells c = minus_cells (On Active c.args.shapes.now.rects) (On Well c.args.shapes.now.rects) c.in_ok-active.active c.in_ok-well.well c.in_ok-region.region c.in_ok-active.ensures.cells c.in_ok-well.ensures.cells c.in_ok-region.ensures
 
-pub returns-in-Ok-clause-inner : goal.returns-in-Ok-clause-inner
-returns-in-Ok-clause-inner c = minus_inner c.in_ok-active.active c.in_ok-well.well c.in-Ok.region c.in_ok-active.ensures.inner c.in-Ok.ensures
+pub returns-clause-inner : goal.returns-clause-inner
+returns-clause-inner c = minus_inner c.in_ok-active.active c.in_ok-well.well c.in_ok-region.region c.in_ok-active.ensures.inner c.in_ok-region.ensures
