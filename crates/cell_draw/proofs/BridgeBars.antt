@@ -78,8 +78,8 @@ trunks_spread p pins r xs w f t u lt lu = elim (cases_order t.track u.track) [
     of_one same (inl e) one = subst (λ z. AreClear xs t z) e (inr (wide p pins r xs w t lt, wide p pins r xs w t lt, refl))
     of_one same (inr (inl (inl less))) one = absurd (omega (arith, less, ap (λ (n : NetNo). n.0) one))
     of_one same (inr (inr (inl less))) one = absurd (omega (arith, less, ap (λ (n : NetNo). n.0) one))
-    of_one same (inr (inl (inr (net, left, le)))) one = elim (next t u lt lu same le) [ inl far ↦ inl (inl far) | inr meet ↦ inr (meet.0, meet.1, net) ]
-    of_one same (inr (inr (inr (net, left, le)))) one = elim (next u t lu lt (sym same) le) [ inl far ↦ inl (inr far) | inr meet ↦ inr (meet.1, meet.0, sym net) ]
+    of_one same (inr (inl (inr (net, left, le, ends)))) one = elim (next t u lt lu same le) [ inl far ↦ inl (inl far) | inr meet ↦ inr (meet.0, meet.1, net) ]
+    of_one same (inr (inr (inr (net, left, le, ends)))) one = elim (next u t lu lt (sym same) le) [ inl far ↦ inl (inr far) | inr meet ↦ inr (meet.1, meet.0, sym net) ]
 
 -- two bars are clear of each other
 pub bars_spread : (p : Placement) (pins : Pins) (r : Routing) (xs : List ℕ) → IsRouted p pins r xs → (f : Frame) (a b : Bar) → Contains (map (bar_of f p.nodes r.trunks xs) r.trunks) a → Contains (map (bar_of f p.nodes r.trunks xs) r.trunks) b → AreBars a b

@@ -158,7 +158,7 @@ nets_rise p pins r wiring k (suc d) t u is at = by (pairs_at AreInOrder r.trunks
   where
     by : AreInOrder t u → t.net.0 ≤ u.net.0
     by (inl less) = omega (arith, less)
-    by (inr (net, left, right)) = omega (arith, ap (λ (n : NetNo). n.0) net)
+    by (inr later) = omega (arith, ap (λ (n : NetNo). n.0) later.0)
 
 upward : (p : Placement) (pins : Pins) (r : Routing) (xs : List ℕ) → IsRouted p pins r xs → (f : Frame) (nets : ℕ) (d k : ℕ) (t u : Trunk) → slice_get r.trunks k ≡ Some t → slice_get r.trunks (k + d) ≡ Some u → t.net ≡ u.net → Chain (AreNeighbours (layout pins p r xs f nets)) (bar_at p r xs f t) (bar_at p r xs f u)
 upward p pins r xs w f nets zero k t u is at e =

@@ -110,7 +110,7 @@ few_trunks p pins r is wiring =
   where
     apart : (a b : Trunk) → AreInOrder a b → (s : Spot) → BeginsAt a s → BeginsAt b s → ⊥
     apart a b (inl less) s (na, la) (nb, lb) = omega (arith, less, ap (λ (n : NetNo). n.0) (sym na ∙ nb))
-    apart a b (inr (net, left, right)) s (na, la) (nb, lb) = omega (arith, left, la, lb)
+    apart a b (inr (net, left, right, ends)) s (na, la) (nb, lb) = omega (arith, left, la, lb)
 
 -- each track has a trunk
 pub few_tracks : (p : Placement) (pins : Pins) (r : Routing) → IsPlacement p → IsWiring p pins r → r.tracks ≤ 160

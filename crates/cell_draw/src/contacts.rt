@@ -7,7 +7,7 @@ ghost use Rattle.row_compact.specs.Entries.{is_rail};
 ghost use Rattle.cell_draw.specs.Small.{IsSmallFrame};
 
 use crate::frame::track_y;
-use crate::{Contact, Frame};
+use crate::{Contact, Frame, MOST_TRACKS};
 use cell_num::{List, NetNo, NoMemory, Pins, Row};
 use channel_route::Trunk;
 use row_compact::x_of;
@@ -64,7 +64,7 @@ fn far(trunks: &[Trunk], node: &NodePlace) -> Option<u32>
 #[tactic(auto, using(crate::proofs::Wirings::far_low))]
 fn reach_of(frame: &Frame, trunks: &[Trunk], node: &NodePlace) -> Option<u32>
     requires frame { IsSmallFrame frame.now }
-    requires trunks { All (λ trunk. trunk.track ≤ 1000) trunks.now }
+    requires trunks { All (λ trunk. trunk.track ≤ MOST_TRACKS) trunks.now }
     ensures { result ≡ reach_of frame.now trunks.now node.now }
 {
     match far(trunks, node) {
@@ -81,7 +81,7 @@ fn contact_of(
     node: &NodePlace,
 ) -> Option<Contact>
     requires frame { IsSmallFrame frame.now }
-    requires trunks { All (λ trunk. trunk.track ≤ 1000) trunks.now }
+    requires trunks { All (λ trunk. trunk.track ≤ MOST_TRACKS) trunks.now }
     ensures { result ≡ contact_of frame.now pins.now trunks.now xs.now node.now }
 {
     let contact = Contact {
@@ -111,7 +111,7 @@ pub fn contacts(
     nodes: &[NodePlace],
 ) -> Result<List<Contact>, NoMemory>
     requires frame { IsSmallFrame frame.now }
-    requires trunks { All (λ trunk. trunk.track ≤ 1000) trunks.now }
+    requires trunks { All (λ trunk. trunk.track ≤ MOST_TRACKS) trunks.now }
     ensures { IfOk result (λ contacts. contacts ≡ filter_map
         (contact_of frame.now pins.now trunks.now xs.now) nodes.now) }
 {
