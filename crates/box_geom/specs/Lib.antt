@@ -1,4 +1,4 @@
-pub mod Banding
+-- What contracts of public calls cite, and what these definitions stand on.
 pub mod Chains
 pub mod Comparisons
 pub mod Cutting
@@ -10,6 +10,8 @@ pub mod Rectangle
 pub mod Regions
 pub mod Runs
 pub mod Slabbing
+pub mod Touching
+-- What inner contracts and proofs alone cite.
+pub mod Banding
 pub mod Standing
 pub mod Sweeping
-pub mod Touching

@@ -1,13 +1,15 @@
-pub mod Apart
+-- What contracts of public calls cite, and what these definitions stand on.
 pub mod Classes
-pub mod Conditions
 pub mod Failing
 pub mod Gates
-pub mod Laws
 pub mod Layout
-pub mod Near
 pub mod Numbers
-pub mod Outward
-pub mod Regions
 pub mod Rules
 pub mod Violations
+-- What inner contracts and proofs alone cite.
+pub mod Apart
+pub mod Conditions
+pub mod Laws
+pub mod Near
+pub mod Outward
+pub mod Regions

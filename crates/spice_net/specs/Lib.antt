@@ -1,7 +1,9 @@
+-- What contracts of public calls cite, and what these definitions stand on.
 pub mod Chosen
 pub mod Directions
 pub mod Nets
-pub mod Reader
 pub mod Subcircuit
 pub mod Subckts
 pub mod Transistors
+-- What inner contracts and proofs alone cite.
+pub mod Reader
