@@ -1,17 +1,18 @@
 -- What the top call owes of `bench`, from the end that it came to and how this was told.
 use Rattle.std.proofs.Common.{ℕ, ◌≡◌, ◌⊎◌, Option, Some, None, Result, inl, inr, sym, ap, ◌∙◌, subst}
 use Rattle.cell_io.specs.Desk.{View, Both, Rose}
-use Rattle.cell_run.specs.declared.end.End.{End}
-use Rattle.cell_run.specs.declared.refusal.Refusal.{Refusal}
-use Rattle.cell_run.specs.declared.refusal.Refusal.TheVariants.{NoMemory}
-use Rattle.cell_run.specs.declared.status.Status.{Status}
-use Rattle.cell_run.specs.declared.status.Status.TheVariants as status
-use Rattle.cell_run.specs.Bench.{BenchesTo, IsBench, IsBenchTold, WhereBenchEnds}
+use Rattle.call_end.specs.declared.end.End.{End}
+use Rattle.call_read.specs.declared.refusal.Refusal.{Refusal}
+use Rattle.call_read.specs.declared.refusal.Refusal.TheVariants.{NoMemory}
+use Rattle.call_end.specs.declared.status.Status.{Status}
+use Rattle.call_end.specs.declared.status.Status.TheVariants as status
+use Rattle.call_work.specs.Bench.{BenchesTo}
+use Rattle.cell_run.specs.Bench.{IsBench, IsBenchTold, WhereBenchEnds}
 use Rattle.cell_run.specs.Calm.{IsDoneOrShort}
-use Rattle.cell_run.specs.Deliver.{Says, TellsWhole}
-use Rattle.cell_run.specs.Ends.{EndsTo, MayEnd, refused}
-use Rattle.cell_run.specs.Material.{Material}
-use Rattle.cell_run.specs.Words.{Form, Plan, Make, Check, Extract, Bench}
+use Rattle.call_end.specs.Deliver.{Says, TellsWhole}
+use Rattle.call_work.specs.Ends.{EndsTo, MayEnd, refused}
+use Rattle.call_gather.specs.Material.{Material}
+use Rattle.call_words.specs.Words.{Form, Plan, Make, Check, Extract, Bench}
 use Rattle.cell_run.proofs.Telling.{Answers}
 
 -- it came to the counts, or memory ran out

@@ -1,30 +1,30 @@
 -- What a call comes to, from what it gathered: which files it makes, and the refusal of a file.
 use Rattle.std.proofs.Common.{ℕ, ◌≡◌, ◌⊎◌, Bool, true, false, nat_le, if◌then◌else◌, length, arith, List, [], ◌∷◌, Option, Some, None, Result, Ok, Err, Contains, inl, inr, refl, sym, ap, ◌∙◌, subst}
 use Rattle.cell_io.specs.Desk.{Files, View, Rose}
-use Rattle.cell_run.specs.declared.end.End.{End}
-use Rattle.cell_run.specs.declared.extract.ExtractAnswer.TheVariants as answer
-use Rattle.cell_run.specs.declared.gather.GdsCell.{GdsCell}
-use Rattle.cell_run.specs.Material.{Material, Planning, Making, Checking, Extracting, Benching}
-use Rattle.cell_run.specs.declared.refusal.Refusal.{Refusal}
-use Rattle.cell_run.specs.declared.refusal.Refusal.TheVariants.{Unread, Long, NoMemory}
-use Rattle.cell_run.specs.declared.status.Status.{Status}
-use Rattle.cell_run.specs.declared.status.Status.TheVariants as status
-use Rattle.cell_run.specs.declared.check.CheckAnswer.TheVariants.{Accepted, Misread, Rejected}
-use Rattle.cell_run.specs.Bench.{BenchesTo}
-use Rattle.cell_run.specs.Check.{ChecksTo}
-use Rattle.cell_run.specs.End.{says}
-use Rattle.cell_run.specs.Ends.{CallsFor, EndsTo, KeepsReadsOf, MayEnd, is_among, outside_of, refusal_status, refused, settled_of}
-use Rattle.cell_run.specs.Extract.{ExtractsTo}
-use Rattle.cell_run.specs.Gather.{gathered, read_by}
+use Rattle.call_end.specs.declared.end.End.{End}
+use Rattle.layout_run.specs.declared.extraction.ExtractAnswer.TheVariants as answer
+use Rattle.layout_run.specs.declared.gds_cell.GdsCell.{GdsCell}
+use Rattle.call_gather.specs.Material.{Material, Planning, Making, Checking, Extracting, Benching}
+use Rattle.call_read.specs.declared.refusal.Refusal.{Refusal}
+use Rattle.call_read.specs.declared.refusal.Refusal.TheVariants.{Unread, Long, NoMemory}
+use Rattle.call_end.specs.declared.status.Status.{Status}
+use Rattle.call_end.specs.declared.status.Status.TheVariants as status
+use Rattle.check_run.specs.declared.verdict.CheckAnswer.TheVariants.{Accepted, Misread, Rejected}
+use Rattle.call_work.specs.Bench.{BenchesTo}
+use Rattle.check_run.specs.Check.{ChecksTo}
+use Rattle.call_end.specs.End.{says}
+use Rattle.call_work.specs.Ends.{CallsFor, EndsTo, KeepsReadsOf, MayEnd, is_among, outside_of, refusal_status, refused, settled_of}
+use Rattle.layout_run.specs.Extract.{ExtractsTo}
+use Rattle.call_gather.specs.Gather.{gathered, read_by}
 use Rattle.cell_make.specs.Inputs.{Inputs}
 use Rattle.cell_run.specs.Headline.{IsMake}
-use Rattle.cell_run.specs.Plan.{PlansTo, Planned, Unfinished}
-use Rattle.cell_run.specs.Reading.{Comes, MayCome}
-use Rattle.cell_run.specs.Sources.{Source, MayRead, Lacks, file_name, most_bytes, within}
-use Rattle.cell_run.specs.Words.{Form, Plan, Make, Check, Extract, Bench}
-use Rattle.cell_run.proofs.Gathered.{IsGathered, gathered_keeps}
-use Rattle.cell_run.proofs.Reading.{came_kept, came_told}
-use Rattle.cell_run.proofs.Settled.{settled}
+use Rattle.make_run.specs.Plan.{PlansTo, Planned, Unfinished}
+use Rattle.call_read.specs.Reading.{Comes, MayCome}
+use Rattle.call_read.specs.Sources.{Source, MayRead, Lacks, file_name, most_bytes, within}
+use Rattle.call_words.specs.Words.{Form, Plan, Make, Check, Extract, Bench}
+use Rattle.call_work.proofs.Gathered.{IsGathered, gathered_keeps}
+use Rattle.call_read.proofs.Reading.{came_kept, came_told}
+use Rattle.call_work.proofs.Settled.{settled}
 
 -- what was gathered for a form, or a refusal
 abbrev pub IsGatheredOrRefused : Option Form → Result Material Refusal → Type 0

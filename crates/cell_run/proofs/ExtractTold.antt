@@ -1,25 +1,26 @@
 -- What the top call owes of `extract`, from the end that the files call for and how it was told.
 use Rattle.std.proofs.Common.{◌≡◌, ◌⊎◌, Option, Some, None, Result, Ok, Err, IfSome, inl, inr, refl, sym, ap, ◌∙◌, subst}
 use Rattle.cell_io.specs.Desk.{Files, View, Both}
-use Rattle.cell_run.specs.declared.end.End.{End}
-use Rattle.cell_run.specs.declared.extract.ExtractAnswer.{ExtractAnswer}
-use Rattle.cell_run.specs.declared.extract.ExtractAnswer.TheVariants.{Extracted, Broken, Unread, Unchecked, Refused}
-use Rattle.cell_run.specs.declared.gather.GdsCell.{GdsCell}
-use Rattle.cell_run.specs.Material.{Material, Planning, Making, Checking, Extracting, Benching}
-use Rattle.cell_run.specs.declared.refusal.Refusal.{Refusal}
-use Rattle.cell_run.specs.declared.refusal.Refusal.TheVariants.{Words, Unread as UnreadFile, Long, Tech, Spice, Fold, NoMemory}
-use Rattle.cell_run.specs.declared.status.Status.{Status}
-use Rattle.cell_run.specs.declared.status.Status.TheVariants as status
+use Rattle.call_end.specs.declared.end.End.{End}
+use Rattle.layout_run.specs.declared.extraction.ExtractAnswer.{ExtractAnswer}
+use Rattle.layout_run.specs.declared.extraction.ExtractAnswer.TheVariants.{Extracted, Broken, Unread, Unchecked, Refused}
+use Rattle.layout_run.specs.declared.gds_cell.GdsCell.{GdsCell}
+use Rattle.call_gather.specs.Material.{Material, Planning, Making, Checking, Extracting, Benching}
+use Rattle.call_read.specs.declared.refusal.Refusal.{Refusal}
+use Rattle.call_read.specs.declared.refusal.Refusal.TheVariants.{Words, Unread as UnreadFile, Long, Tech, Spice, Fold, NoMemory}
+use Rattle.call_end.specs.declared.status.Status.{Status}
+use Rattle.call_end.specs.declared.status.Status.TheVariants as status
 use Rattle.cell_run.specs.Calm.{IsCalm}
-use Rattle.cell_run.specs.Deliver.{Says, TellsWhole}
-use Rattle.cell_run.specs.Ends.{EndsTo, IsOfOutside, refusal_status}
-use Rattle.cell_run.specs.Extract.{BreaksRule, ExtractsTo, HasLayoutFault, HasNetlist, IsBrokenCell, IsExtract, IsExtractedCell, IsRefusedCell, IsToldOf, OfGdsCell, WhereExtractEnds, extract_end}
-use Rattle.cell_run.specs.Gather.{gathered}
+use Rattle.call_end.specs.Deliver.{Says, TellsWhole}
+use Rattle.call_work.specs.Ends.{EndsTo, IsOfOutside, refusal_status}
+use Rattle.layout_run.specs.Extract.{BreaksRule, ExtractsTo, HasLayoutFault, HasNetlist, extract_end}
+use Rattle.cell_run.specs.Extract.{IsBrokenCell, IsExtract, IsExtractedCell, IsRefusedCell, IsToldOf, OfGdsCell, WhereExtractEnds}
+use Rattle.call_gather.specs.Gather.{gathered}
 use Rattle.cell_run.specs.Headline.{IsOrShort}
-use Rattle.cell_run.specs.Reading.{called}
-use Rattle.cell_run.specs.Words.{Form, Plan, Make, Check, Extract, Bench}
-use Rattle.cell_run.proofs.Extracted.{breaks_where, extracts_where, refuses_where}
-use Rattle.cell_run.proofs.Gathered.{IsGathered}
+use Rattle.call_read.specs.Reading.{called}
+use Rattle.call_words.specs.Words.{Form, Plan, Make, Check, Extract, Bench}
+use Rattle.layout_run.proofs.Extracted.{breaks_where, extracts_where, refuses_where}
+use Rattle.call_work.proofs.Gathered.{IsGathered}
 use Rattle.cell_run.proofs.MakeSettled.{IsAnswered}
 use Rattle.cell_run.proofs.Telling.{Completes, gathered_so}
 

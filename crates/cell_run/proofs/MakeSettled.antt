@@ -4,23 +4,23 @@ use Rattle.cell_io.specs.Desk.{Files, View, Both}
 use Rattle.bound_log.specs.Text.{log_text}
 use Rattle.row_place.specs.Places.{placement_of}
 use Rattle.channel_route.proofs.Stuck.{cycle_is}
-use Rattle.cell_run.specs.declared.end.End.{End}
-use Rattle.cell_run.specs.Material.{Material, Planning, Making, Checking, Extracting, Benching}
-use Rattle.cell_run.specs.declared.refusal.Refusal.{Refusal}
-use Rattle.cell_run.specs.declared.refusal.Refusal.TheVariants.{Words, Unread, Long, Tech, Spice, Fold, NoMemory}
-use Rattle.cell_run.specs.declared.status.Status.{Status}
-use Rattle.cell_run.specs.declared.status.Status.TheVariants as status
-use Rattle.cell_run.specs.Deliver.{Says, TellsWhole}
-use Rattle.cell_run.specs.Ends.{CallsFor, EndsTo, IsOfOutside, refusal_status}
-use Rattle.cell_run.specs.Gather.{gathered}
+use Rattle.call_end.specs.declared.end.End.{End}
+use Rattle.call_gather.specs.Material.{Material, Planning, Making, Checking, Extracting, Benching}
+use Rattle.call_read.specs.declared.refusal.Refusal.{Refusal}
+use Rattle.call_read.specs.declared.refusal.Refusal.TheVariants.{Words, Unread, Long, Tech, Spice, Fold, NoMemory}
+use Rattle.call_end.specs.declared.status.Status.{Status}
+use Rattle.call_end.specs.declared.status.Status.TheVariants as status
+use Rattle.call_end.specs.Deliver.{Says, TellsWhole}
+use Rattle.call_work.specs.Ends.{CallsFor, EndsTo, IsOfOutside, refusal_status}
+use Rattle.call_gather.specs.Gather.{gathered}
 use Rattle.cell_run.specs.Headline.{IsCyclicCell, IsMadeCell, IsMake, IsSpentSearch, IsTallCell}
 use Rattle.cell_make.specs.Inputs.{Inputs}
 use Rattle.cell_make.specs.Making.{abstract_of, drawing_in, library_of}
 use Rattle.cell_make.specs.Making as made
-use Rattle.cell_run.specs.Make.{MakesTo}
-use Rattle.cell_run.specs.Reading.{called}
-use Rattle.cell_run.specs.Words.{Form, Plan, Make, Check, Extract, Bench}
-use Rattle.cell_run.proofs.Gathered.{IsGathered}
+use Rattle.make_run.specs.Make.{MakesTo}
+use Rattle.call_read.specs.Reading.{called}
+use Rattle.call_words.specs.Words.{Form, Plan, Make, Check, Extract, Bench}
+use Rattle.call_work.proofs.Gathered.{IsGathered}
 use Rattle.cell_run.proofs.MadeFiles.{cell_made, log_made}
 use Rattle.cell_run.proofs.Telling.{gathered_so}
 

@@ -6,20 +6,20 @@ use Rattle.bound_log.specs.declared.log.Log.{Log}
 use Rattle.row_search.specs.Enough.{enough}
 use Rattle.row_place.specs.Places.{placement_of}
 use Rattle.channel_route.proofs.Stuck.{cycle_is}
-use Rattle.cell_run.specs.declared.end.End.{End}
-use Rattle.cell_run.specs.Material.{Material}
-use Rattle.cell_run.specs.declared.refusal.Refusal.{Refusal}
-use Rattle.cell_run.specs.declared.status.Status.{Status}
-use Rattle.cell_run.specs.declared.status.Status.TheVariants as status
+use Rattle.call_end.specs.declared.end.End.{End}
+use Rattle.call_gather.specs.Material.{Material}
+use Rattle.call_read.specs.declared.refusal.Refusal.{Refusal}
+use Rattle.call_end.specs.declared.status.Status.{Status}
+use Rattle.call_end.specs.declared.status.Status.TheVariants as status
 use Rattle.cell_run.specs.Calm.{IsCalm}
-use Rattle.cell_run.specs.Deliver.{Says}
-use Rattle.cell_run.specs.Ends.{EndsTo}
+use Rattle.call_end.specs.Deliver.{Says}
+use Rattle.call_work.specs.Ends.{EndsTo}
 use Rattle.cell_run.specs.Headline.{CanBeDrawn, FromInputs, HasCycle, IsCyclicCell, IsMadeCell, IsOrShort, IsSpentSearch, IsTallCell, IsTooHigh, OfFirstLeast, WhereMakeEnds}
 use Rattle.cell_make.specs.Inputs.{Inputs}
 use Rattle.cell_make.specs.Making as made
 use Rattle.cell_make.specs.Searched.{IsUnfinished}
-use Rattle.cell_run.specs.Make.{MakesTo}
-use Rattle.cell_run.specs.Words.{Form}
+use Rattle.make_run.specs.Make.{MakesTo}
+use Rattle.call_words.specs.Words.{Form}
 use Rattle.cell_run.proofs.Telling.{Completes}
 use Rattle.cell_run.proofs.MakeSettled.{IsAnswered, IsOfMake, cyclic_so, drawn_so, make_told, spent_so, tall_so}
 

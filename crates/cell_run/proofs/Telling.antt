@@ -2,31 +2,31 @@
 use Rattle.std.proofs.Common.{ℕ, ◌≡◌, ◌⊎◌, ◌↔◌, ◌||◌, Bool, true, false, List, [], Option, Some, None, Result, Ok, Err, IfSome, IsNone, Contains, inl, inr, refl, sym, ap, ◌∙◌, subst, arith}
 use Rattle.std.proofs.lemmas.List.{append-nil}
 use Rattle.cell_io.specs.Desk.{Files, View, Both, ForSome, AddsPart, OnlyReads, Rose}
-use Rattle.cell_run.specs.declared.end.End.{End}
-use Rattle.cell_run.specs.declared.end.Output.{Output}
-use Rattle.cell_run.specs.Material.{Material, Planning, Making, Checking, Extracting, Benching}
-use Rattle.cell_run.specs.declared.refusal.Refusal.{Refusal}
-use Rattle.cell_run.specs.declared.refusal.Refusal.TheVariants.{Words, Unread, Long, Tech, Spice, Fold, NoMemory}
-use Rattle.cell_run.specs.declared.status.Status.{Status}
-use Rattle.cell_run.specs.declared.status.Status.TheVariants as status
+use Rattle.call_end.specs.declared.end.End.{End}
+use Rattle.call_end.specs.declared.end.Output.{Output}
+use Rattle.call_gather.specs.Material.{Material, Planning, Making, Checking, Extracting, Benching}
+use Rattle.call_read.specs.declared.refusal.Refusal.{Refusal}
+use Rattle.call_read.specs.declared.refusal.Refusal.TheVariants.{Words, Unread, Long, Tech, Spice, Fold, NoMemory}
+use Rattle.call_end.specs.declared.status.Status.{Status}
+use Rattle.call_end.specs.declared.status.Status.TheVariants as status
 use Rattle.cell_run.specs.Calm.{IsCalm, IsDoneOrShort}
 use Rattle.cell_run.specs.Check.{HoldsAcceptedLog, IsCheck}
-use Rattle.cell_run.specs.Deliver.{GivesUp, MakesAll, MakesSome, OnlyTells, Says, Tells, TellsSome, TellsWhole}
-use Rattle.cell_run.specs.Ends.{CallsFor, EndsTo, IsOfOutside, KeepsReadsOf, MayEnd, is_among, is_status_of, outside_of, refused, settled_of}
-use Rattle.cell_run.specs.Gather.{gathered, read_by}
+use Rattle.call_end.specs.Deliver.{GivesUp, MakesAll, MakesSome, OnlyTells, Says, Tells, TellsSome, TellsWhole}
+use Rattle.call_work.specs.Ends.{CallsFor, EndsTo, IsOfOutside, KeepsReadsOf, MayEnd, is_among, is_status_of, outside_of, refused, settled_of}
+use Rattle.call_gather.specs.Gather.{gathered, read_by}
 use Rattle.cell_run.specs.Headline.{IsMake}
 use Rattle.cell_run.specs.Plan.{HasEnough}
-use Rattle.cell_run.specs.Reading.{called}
-use Rattle.cell_run.specs.Sources.{Lacks, held}
-use Rattle.cell_run.specs.Words.{Form, Plan, Make, Check, Extract, Bench}
-use Rattle.cell_run.proofs.Checked.{done_holds, holds_done}
-use Rattle.cell_run.proofs.Delivered.{none_begun, none_made}
-use Rattle.cell_run.proofs.Desks.{came_between}
+use Rattle.call_read.specs.Reading.{called}
+use Rattle.call_read.specs.Sources.{Lacks, held}
+use Rattle.call_words.specs.Words.{Form, Plan, Make, Check, Extract, Bench}
+use Rattle.check_run.proofs.Checked.{done_holds, holds_done}
+use Rattle.call_end.proofs.Delivered.{none_begun, none_made}
+use Rattle.call_read.proofs.Desks.{came_between}
 use Rattle.cell_run.proofs.Ends.{came_gathered, end_cases, end_told, file_outside, file_status, file_unread, no_files}
-use Rattle.cell_run.proofs.Settled.{not_read, not_short, not_written, usage_alone}
-use Rattle.cell_run.proofs.Gathered.{IsGathered, gathered_keeps}
-use Rattle.cell_run.proofs.Planned.{enough_done}
-use Rattle.cell_run.proofs.Reading.{called_comes, came_kept}
+use Rattle.call_work.proofs.Settled.{not_read, not_short, not_written, usage_alone}
+use Rattle.call_work.proofs.Gathered.{IsGathered, gathered_keeps}
+use Rattle.make_run.proofs.Planned.{enough_done}
+use Rattle.call_read.proofs.Reading.{called_comes, came_kept}
 
 -- ---- the whole call
 

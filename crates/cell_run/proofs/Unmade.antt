@@ -1,20 +1,20 @@
 -- Calls that make no file.
 use Rattle.std.proofs.Common.{ℕ, ◌≡◌, ◌⊎◌, List, [], Option, Result, Ok, Err, inl, inr, sym, ap, ◌∙◌, subst}
 use Rattle.cell_io.specs.Desk.{View, Both, Rose}
-use Rattle.cell_run.specs.declared.end.End.{End}
-use Rattle.cell_run.specs.Material.{Material, Planning, Making, Checking, Extracting, Benching}
-use Rattle.cell_run.specs.declared.refusal.Refusal.{Refusal}
-use Rattle.cell_run.specs.declared.status.Status.{Status}
-use Rattle.cell_run.specs.declared.status.Status.TheVariants as status
-use Rattle.cell_run.specs.declared.end.Output.{Output}
-use Rattle.cell_run.specs.Deliver.{MakesAll}
-use Rattle.cell_run.specs.Ends.{EndsTo}
+use Rattle.call_end.specs.declared.end.End.{End}
+use Rattle.call_gather.specs.Material.{Material, Planning, Making, Checking, Extracting, Benching}
+use Rattle.call_read.specs.declared.refusal.Refusal.{Refusal}
+use Rattle.call_end.specs.declared.status.Status.{Status}
+use Rattle.call_end.specs.declared.status.Status.TheVariants as status
+use Rattle.call_end.specs.declared.end.Output.{Output}
+use Rattle.call_end.specs.Deliver.{MakesAll}
+use Rattle.call_work.specs.Ends.{EndsTo}
 use Rattle.cell_run.specs.Headline.{MakesNone}
 use Rattle.cell_make.specs.Inputs.{Inputs}
 use Rattle.cell_make.specs.Making as made
-use Rattle.cell_run.specs.Make.{IsMakeEnd, MakesTo}
-use Rattle.cell_run.specs.Words.{Form}
-use Rattle.cell_run.proofs.Delivered.{none_made}
+use Rattle.make_run.specs.Make.{IsMakeEnd, MakesTo}
+use Rattle.call_words.specs.Words.{Form}
+use Rattle.call_end.proofs.Delivered.{none_made}
 use Rattle.cell_run.proofs.Ends.{bench_alone, check_alone, extract_alone, plan_alone}
 use Rattle.cell_run.proofs.Telling.{Answers}
 

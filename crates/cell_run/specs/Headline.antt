@@ -21,21 +21,21 @@ use Rattle.cell_draw.specs.Frame.{needed_of, IsTooTall}
 use Rattle.cell_draw.specs.Shown.{ShowsRouting, ShowsRow}
 use Rattle.gds_read.specs.Decoding.{Decodes}
 use Rattle.lef_write.specs.Drawn.{AreAllMetal, HasPort, IsSized}
-use Rattle.cell_run.specs.Material.{Making}
-use Rattle.cell_run.specs.declared.status.Status.{Status}
-use Rattle.cell_run.specs.declared.status.Status.TheVariants as status
-use Rattle.cell_run.specs.Deliver.{Says}
-use Rattle.cell_run.specs.Gather.{gathered}
+use Rattle.call_gather.specs.Material.{Making}
+use Rattle.call_end.specs.declared.status.Status.{Status}
+use Rattle.call_end.specs.declared.status.Status.TheVariants as status
+use Rattle.call_end.specs.Deliver.{Says}
+use Rattle.call_gather.specs.Gather.{gathered}
 use Rattle.cell_make.specs.Inputs.{Inputs}
 use Rattle.cell_make.specs.Making.{AreLeastLines, IsRouted, abstract_of, drawing_in, library_of, ports_in}
 use Rattle.cell_report.specs.Cycles.{cycle_text}
-use Rattle.cell_run.specs.MakeReport.{drawn_text, tall_text}
-use Rattle.cell_run.specs.Reading.{called}
+use Rattle.make_run.specs.MakeReport.{drawn_text, tall_text}
+use Rattle.call_read.specs.Reading.{called}
 use Rattle.cell_report.specs.Rows.{plan_text}
-use Rattle.cell_run.specs.Report.{unfinished_text}
+use Rattle.cell_report.specs.Logs.{unfinished_text}
 use Rattle.cell_make.specs.Searched.{IsCertified, IsUnfinished}
 use Rattle.cell_make.specs.Structures.{HasOneStructure}
-use Rattle.cell_run.specs.Words as words
+use Rattle.call_words.specs.Words as words
 
 abbrev pub IsMake : Option words.Form → Type 0
 IsMake (Some (words.Make asked out)) = Unit {0}
