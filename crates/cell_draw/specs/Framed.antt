@@ -1,6 +1,6 @@
 -- What a drawing shows of its frame, whatever its row is: well, selects and rails come first, and all that follows stays clear
 -- of them and of the cell's sides.
-use Rattle.std.specs.Prelude.{ℕ, ◌≡◌, ◌≢◌, ◌+◌, ◌-◌, ◌≤◌, ◌⊎◌, ◌++◌, List, length, All, ℤ, pos, ◌+ℤ◌, ◌≤ℤ◌}
+use Rattle.std.specs.Prelude.{ℕ, ◌≡◌, ◌≢◌, ◌+◌, ◌-◌, ◌≤◌, ◌⊎◌, ◌++◌, List, length, All, pos, ◌+ℤ◌, ◌≤ℤ◌}
 use Rattle.box_geom.specs.declared.layer.Layer.{Layer}
 use Rattle.box_geom.specs.declared.layer.Layer.TheVariants.{Well, Active, PSelect, NSelect, Metal1, Metal2}
 use Rattle.box_geom.specs.declared.rect.Rect.{Rect}

@@ -1,5 +1,5 @@
 -- The layout of a routed row on its lines.
-use Rattle.std.specs.Prelude.{ℕ, ◌+◌, ◌*◌, ◌-◌, ◌==◌, ◌&&◌, ltb, leb, min, max, not, Bool, true, false, if◌then◌else◌, List, [], ◌∷◌, ◌++◌, map, filter, length, Option, Some, None, option_map, filter_map, find}
+use Rattle.std.specs.Prelude.{ℕ, ◌+◌, ◌*◌, ◌-◌, ◌==◌, ◌&&◌, ltb, min, max, not, Bool, true, false, if◌then◌else◌, List, [], ◌∷◌, ◌++◌, map, filter, length, Option, Some, None, option_map, filter_map, find}
 use Rattle.std.specs.List.{flat_map, list_any, range_with_len, reduce}
 use Rattle.cell_num.specs.declared.net.NetNo.{NetNo}
 use Rattle.cell_num.specs.declared.net.Pins.{Pins}
@@ -15,6 +15,7 @@ use Rattle.row_place.specs.Units.{seats_of}
 use Rattle.row_place.specs.Steps.{gate_of}
 use Rattle.channel_route.specs.declared.routing.Trunk.{Trunk}
 use Rattle.channel_route.specs.declared.routing.Routing.{Routing}
+use Rattle.channel_route.specs.Routing.{holds_line}
 use Rattle.row_compact.specs.Entries.{is_rail}
 use Rattle.row_compact.specs.Solution.{x_of}
 use Rattle.row_compact.specs.declared.measure.TheConstants.{SIDE_SPACE}
@@ -46,7 +47,7 @@ trunk_of trunks net = find (λ t. t.net.0 == net.0) trunks
 
 -- the trunk is of the net and holds the line
 abbrev pub holds : NetNo → ℕ → Trunk → Bool
-holds net line t = (t.net.0 == net.0) && leb t.left line && leb line t.right
+holds net line t = (t.net.0 == net.0) && holds_line line t
 
 -- the tracks of the trunks of a net that hold a line
 abbrev pub tracks_at : List Trunk → NetNo → ℕ → List ℕ

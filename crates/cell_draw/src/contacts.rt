@@ -2,6 +2,7 @@
 
 ghost use Rattle.std.specs.Prelude.{◌≡◌, ◌≤◌, ◌<◌, ◌==◌, ◌||◌, All, IfOk, IfSome, filter_map};
 ghost use Rattle.std.specs.Option.{option_copied};
+ghost use Rattle.channel_route.specs.Routing.{holds_line};
 ghost use Rattle.cell_draw.specs.Layouts.{trunk_of, holds, farther, far, reach_of, contact_of};
 ghost use Rattle.row_compact.specs.Entries.{is_rail};
 ghost use Rattle.cell_draw.specs.Small.{IsSmallFrame};
@@ -26,11 +27,17 @@ pub fn trunk_of(trunks: &[Trunk], net: NetNo) -> Option<&Trunk>
     trunks.iter().find(|trunk| trunk.net.0 == net.0)
 }
 
+fn holds_line(line: u32, trunk: &Trunk) -> bool
+    ensures { result ≡ holds_line line trunk.now }
+{
+    trunk.left <= line && line <= trunk.right
+}
+
 /// Whether the trunk is of the net and holds the line.
 pub fn holds(net: NetNo, line: u32, trunk: &Trunk) -> bool
     ensures { result ≡ holds net line trunk.now }
 {
-    trunk.net.0 == net.0 && trunk.left <= line && line <= trunk.right
+    trunk.net.0 == net.0 && holds_line(line, trunk)
 }
 
 // Of two tracks the one farther from the row.
