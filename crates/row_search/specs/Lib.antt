@@ -3,6 +3,7 @@ pub mod Enough
 pub mod First
 pub mod Kept
 pub mod Limits
+pub mod Noted
 pub mod Reached
 pub mod SoFar
 pub mod Steps

@@ -1,17 +1,17 @@
-ghost use Rattle.std.specs.Prelude.{◌≡◌, ◌≤◌, ◌<◌, ◌+◌, IfOk, IfErr, IfSome, IfNone};
+ghost use Rattle.std.specs.Prelude.{◌≡◌, ◌≤◌, ◌<◌, ◌+◌, IfOk, IfErr, IfSome, IfNone, OnOk};
 ghost use Rattle.row_state.specs.Candidates.{AreCandidates, IsNumbered};
-ghost use Rattle.row_state.specs.Start.{IsState, columns_left};
-ghost use Rattle.bound_log.specs.declared.log.Rule.TheVariants.{Branch};
+ghost use Rattle.row_state.specs.Start.{columns_left};
 ghost use Rattle.row_search.specs.declared.descent.Halt.TheVariants.{Spent, NoMemory};
 ghost use Rattle.log_check.specs.Accepted.{best_of};
-ghost use Rattle.row_search.specs.Ended.{IsFirstRule};
+ghost use Rattle.row_search.specs.Noted.{AreNoted};
 ghost use Rattle.row_search.specs.SoFar.{KnowsAll};
-ghost use Rattle.row_search.specs.Visit.{AreKept, HasFailed, HasFound, HasSpent, IsFurther, RowReaches};
+ghost use Rattle.row_search.specs.Visit.{AreKept, HasFailed, HasFound, HasSpent, IsFurther};
 
 use crate::progress::Progress;
+use crate::trails::{Trails, row_rule};
 use bound_log::Rule;
-use cell_num::{MOST_COLUMNS, NoMemory, Row};
-use row_state::{Candidate, Kinds, Numbered, RowBound, State, Steps, has_fingers};
+use cell_num::{MOST_COLUMNS, NoMemory};
+use row_state::{Candidate, Kinds, Numbered, RowBound, Steps, has_fingers};
 use std::alloc::Global;
 
 /// What a search is given.
@@ -43,27 +43,12 @@ impl From<NoMemory> for Halt {
     }
 }
 
-// The rule by which the bound of one row alone is above what is allowed.
-fn row_rule<B: RowBound>(task: &Task<B>, state: &State, allowed: u32) -> Option<Rule>
-    requires state { IsState task.now.kinds.now state.now }
-    ensures some { IfSome result (RowReaches (B.value task.now.bound.now) task.now.kinds.now state.now (allowed + 1)) }
-    ensures none { IfNone result (IsFirstRule (B.value task.now.bound.now) task.now.kinds.now state.now
-        (allowed + 1) Branch) }
-{
-    if task.bound.is_above(Row::P, state, task.kinds, allowed) {
-        return Some(Rule::P);
-    }
-    if task.bound.is_above(Row::N, state, task.kinds, allowed) {
-        return Some(Rule::N);
-    }
-    None
-}
-
 /// The first completion of the state with as few gaps as are allowed, its last step first, or none;
 /// then a kept lemma proves it. No kept one does so far.
 pub(crate) fn visit<B: RowBound>(
     task: &Task<B>,
     progress: &mut Progress,
+    trails: &mut Trails,
     at: &Numbered,
     allowed: u32,
 ) -> Result<Option<Steps>, Halt>
@@ -74,6 +59,8 @@ pub(crate) fn visit<B: RowBound>(
     requires lemmas { AreKept (B.value task.now.bound.now) task.now.kinds.now progress.old.lemmas }
     requires knows { KnowsAll task.now.kinds.now progress.old }
     requires low { best_of at.now.state progress.old.lemmas ≤ allowed }
+    requires noted { AreNoted (B.trails_of task.now.bound.now) task.now.kinds.now trails.old }
+    ensures noted { OnOk result (AreNoted (B.trails_of task.now.bound.now) task.now.kinds.now trails.new) }
     ensures further { IsFurther (B.value task.now.bound.now) task.now.kinds.now task.now.budget
         (columns_left task.now.kinds.now at.now.state + 1) at.now.state allowed progress.old progress.new }
     ensures failed { IfOk result (λ r. IfNone r (HasFailed task.now.kinds.now at.now.state allowed progress.old
@@ -91,7 +78,8 @@ pub(crate) fn visit<B: RowBound>(
     if !has_fingers(&at.state) {
         return Ok(Some(Steps::new(task.alloc)));
     }
-    if let Some(rule) = row_rule(task, &at.state, allowed) {
+    let served = row_rule(task, trails, &at.state, allowed)?;
+    if let Some(rule) = served {
         progress.keep(at, allowed + 1, rule)?;
         return Ok(None);
     }
@@ -107,7 +95,7 @@ pub(crate) fn visit<B: RowBound>(
             continue;
         }
         let behind = at.behind(task.alloc, task.kinds, next)?;
-        let tried = match visit(task, progress, &behind, allowed - cost) {
+        let tried = match visit(task, progress, trails, &behind, allowed - cost) {
             Ok(tried) => tried,
             Err(halt) => return Err(halt),
         };

@@ -10,6 +10,7 @@ ghost use Rattle.row_search.specs.Limits.{IsFound, StopsWell, found_of};
 use crate::descent::{Halt, Task, visit};
 use crate::listed::{arrangement, log_steps};
 use crate::progress::Progress;
+use crate::trails::Trails;
 use crate::{FoundKept, StopKept};
 use bound_log::Best;
 use cell_num::{Fingers, NoMemory};
@@ -53,11 +54,12 @@ fn try_limits<B: RowBound>(task: &Task<B>) -> Result<FoundKept, StopKept>
     task.kinds.show_limits();
     let first = numbered_start(task.alloc, task.kinds)?;
     let mut progress = Progress::new(task.alloc, task.kinds)?;
+    let mut trails = Trails::new(task.alloc);
     for limit in 0..columns(task.kinds) + 1 {
         if progress.best_at(first.code) > limit {
             continue;
         }
-        match visit(task, &mut progress, &first, limit) {
+        match visit(task, &mut progress, &mut trails, &first, limit) {
             Ok(Some(steps)) => {
                 let found = finish(task.alloc, task.kinds, progress, limit, steps.as_slice())?;
                 return Ok(found);

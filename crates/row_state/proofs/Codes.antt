@@ -9,7 +9,9 @@ use Rattle.cell_num.specs.declared.net.NetNo.{NetNo}
 use Rattle.row_state.specs.declared.kind.Kind.{Kind}
 use Rattle.row_state.specs.declared.kind.Kinds.{Kinds}
 use Rattle.row_state.specs.declared.state.State.{State}
-use Rattle.row_state.specs.Code.{count_lists, counts_code, end_code, most_states, state_code}
+use Rattle.row_state.specs.Code.{count_lists, counts_code, end_code, most_states, row_code, state_code}
+use Rattle.row_state.specs.Tests.{left_of}
+use Rattle.row_state.specs.Trails.{end_of}
 use Rattle.row_state.specs.Decoded.{Within, counts_below, end_below, rows_code, same_fields}
 use Rattle.row_state.specs.Completion.{finger_of, fingers_left, left_in}
 use Rattle.row_state.specs.Start.{AreSomeKinds, IsState, counts_of, start_of}
@@ -63,6 +65,15 @@ state_same k a b ha hb e =
     let two : (rows_code k a ≡ rows_code k b) × (end_code a.p_end ≡ end_code b.p_end) = same_from_place _ _ _ _ (k.nets + 1) (end_below k.nets a.p_end ha.p_end) (end_below k.nets b.p_end hb.p_end) one.0 in
     let three : (counts_code k.p a.p_left ≡ counts_code k.p b.p_left) × (counts_code k.n a.n_left ≡ counts_code k.n b.n_left) = same_from_place _ _ _ _ (count_lists k.n) (counts_below k.n a.n_left ha.n_kinds ha.n_counts) (counts_below k.n b.n_left hb.n_kinds hb.n_counts) two.0 in
     same_fields a b (counts_same k.p a.p_left b.p_left ha.p_kinds hb.p_kinds ha.p_counts hb.p_counts three.0) (counts_same k.n a.n_left b.n_left ha.n_kinds hb.n_kinds ha.n_counts hb.n_counts three.1) (end_same a.p_end b.p_end two.1) (end_same a.n_end b.n_end one.1)
+
+-- of one number a row has the same left
+pub row_same : (row : Row) (k : Kinds) (a b : State) → IsState k a → IsState k b → row_code row k a ≡ row_code row k b → (left_of row a ≡ left_of row b) × (end_of row a ≡ end_of row b)
+row_same P k a b ha hb e =
+    let two : (counts_code k.p a.p_left ≡ counts_code k.p b.p_left) × (end_code a.p_end ≡ end_code b.p_end) = same_from_place _ _ _ _ (k.nets + 1) (end_below k.nets a.p_end ha.p_end) (end_below k.nets b.p_end hb.p_end) e in
+    (counts_same k.p a.p_left b.p_left ha.p_kinds hb.p_kinds ha.p_counts hb.p_counts two.0, end_same a.p_end b.p_end two.1)
+row_same N k a b ha hb e =
+    let two : (counts_code k.n a.n_left ≡ counts_code k.n b.n_left) × (end_code a.n_end ≡ end_code b.n_end) = same_from_place _ _ _ _ (k.nets + 1) (end_below k.nets a.n_end ha.n_end) (end_below k.nets b.n_end hb.n_end) e in
+    (counts_same k.n a.n_left b.n_left ha.n_kinds hb.n_kinds ha.n_counts hb.n_counts two.0, end_same a.n_end b.n_end two.1)
 
 -- of few fingers there are few lists of counts
 one_more_le : (n : ℕ) → n + 1 ≤ 2 ^ n
@@ -129,3 +140,11 @@ digits_fit nets rows p n few small first second =
     let below : rows * (nets + 1) + p < 4740813226943354765312 = omega (arith, one, few) in
     let two : (rows * (nets + 1) + p) * (nets + 1) + n < (nets + 1) * 4740813226943354765312 = mul-add-lt (rows * (nets + 1) + p) (nets + 1) n 4740813226943354765312 below second in
     (below, omega (arith, two, few))
+
+-- the digits of a row, where its counts and its end are in range
+pub row_fits : (nets lists counts end : ℕ) → nets ≤ 256 → lists ≤ 4294967296 → counts < lists → end < nets + 1 → counts * (nets + 1) + end < 1103806595072
+row_fits nets lists counts end few some within below =
+    let fewer : counts ≤ 4294967295 = omega (arith, some, within) in
+    let ends : nets + 1 ≤ 257 = omega (arith, few) in
+    let most : counts * (nets + 1) ≤ 4294967295 * 257 = mul-le-mul fewer ends in
+    omega (arith, most, below, few)

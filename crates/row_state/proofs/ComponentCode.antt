@@ -13,7 +13,7 @@ use Rattle.row_state.specs.Chained.{least_labels, least_le}
 use Rattle.row_state.specs.ClassSizes.{joined_alike, size_in_other, size_in_same}
 use Rattle.row_state.specs.Classes.{joined, least_chained}
 use Rattle.row_state.specs.Completion.{finger_of, fingers_left}
-use Rattle.row_state.specs.Component.{component_value, fewest_trails, further_trails, has_finger, size_in, trails_behind, trails_of}
+use Rattle.row_state.specs.Component.{component_trails, component_value, fewest_trails, further_trails, has_finger, size_in, trails_behind, trails_of}
 use Rattle.row_state.specs.ComponentLaw.{EndsBelow, ends_left}
 use Rattle.row_state.specs.Gates.{OneDiffers, one_differs, sum_below_same}
 use Rattle.row_state.specs.Parity.{is_odd}
@@ -191,21 +191,21 @@ pub odd_open : (row : Row) (kinds : List Kind) (left : List ℕ) (v : NetNo) (u 
 odd_open row kinds left v u = ap (λ b. if u == v.0 then not b else b) (odd_net row kinds left u)
 
 -- what is computed is the component bound
-pub component_code : (row : Row) (s : State) (k : Kinds) (trails empty : ℕ) → ((at : Row) → trails ≡ further_trails k.nets (end_of row s) (fingers_left at (kinds_in row k) (left_of row s))) → empty ≡ sum_below (empty_test row s k) k.nets → trails - empty ≡ component_value row s k
+pub component_code : (row : Row) (s : State) (k : Kinds) (trails empty : ℕ) → trails ≡ component_trails row (end_of row s) (left_of row s) k → empty ≡ sum_below (empty_test row s k) k.nets → trails - empty ≡ component_value row s k
 unfolding component_value
 component_code P s k trails empty is none =
-    omega (arith, is P, none, empty_is P N k.p k.n s.p_left s.n_left k.nets)
+    omega (arith, is, none, empty_is P N k.p k.n s.p_left s.n_left k.nets)
 component_code N s k trails empty is none =
-    omega (arith, is N, none, empty_is N P k.n k.p s.n_left s.p_left k.nets)
+    omega (arith, is, none, empty_is N P k.n k.p s.n_left s.p_left k.nets)
 
 -- without trails no place counts
-pub component_none : (row : Row) (s : State) (k : Kinds) (trails : ℕ) → ((at : Row) → trails ≡ further_trails k.nets (end_of row s) (fingers_left at (kinds_in row k) (left_of row s))) → trails ≡ 0 → 0 ≡ component_value row s k
+pub component_none : (row : Row) (s : State) (k : Kinds) (trails : ℕ) → trails ≡ component_trails row (end_of row s) (left_of row s) k → trails ≡ 0 → 0 ≡ component_value row s k
 component_none row s k trails is none =
     let whole = component_code row s k trails (sum_below (empty_test row s k) k.nets) is refl in
     omega (arith, whole, none)
 
 -- the bound is at most the trails
-pub component_low : (row : Row) (s : State) (k : Kinds) (trails most : ℕ) → ((at : Row) → trails ≡ further_trails k.nets (end_of row s) (fingers_left at (kinds_in row k) (left_of row s))) → trails ≤ most → false ≡ ltb most (component_value row s k)
+pub component_low : (row : Row) (s : State) (k : Kinds) (trails most : ℕ) → trails ≡ component_trails row (end_of row s) (left_of row s) k → trails ≤ most → false ≡ ltb most (component_value row s k)
 component_low row s k trails most is low =
     let whole = component_code row s k trails (sum_below (empty_test row s k) k.nets) is refl in
     let few : component_value row s k ≤ most = omega (arith, whole, low) in

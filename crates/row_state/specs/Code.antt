@@ -1,10 +1,13 @@
 -- Each valid state has a number of its own: its counts and ends as the digits of a number of mixed radix.
 use Rattle.std.specs.Prelude.{ℕ, zero, suc, ◌≡◌, ◌+◌, ◌*◌, ◌/◌, ◌%◌, List, [], ◌∷◌, Option, Some, None}
+use Rattle.cell_num.specs.declared.finger.Row.{Row}
 use Rattle.cell_num.specs.declared.net.NetNo.{NetNo}
 use Rattle.row_state.specs.declared.kind.Kind.{Kind}
 use Rattle.row_state.specs.declared.kind.Kinds.{Kinds}
 use Rattle.row_state.specs.declared.state.State.{State}
 use Rattle.row_state.specs.Start.{IsState}
+use Rattle.row_state.specs.Tests.{kinds_in, left_of}
+use Rattle.row_state.specs.Trails.{end_of}
 
 -- how many lists of counts there are: the product of (count + 1) over the kinds
 abbrev pub count_lists : List Kind → ℕ
@@ -26,6 +29,10 @@ end_code (Some v) = v.0 + 1
 
 abbrev pub state_code : Kinds → State → ℕ
 state_code k s = ((counts_code k.p s.p_left * count_lists k.n + counts_code k.n s.n_left) * (k.nets + 1) + end_code s.p_end) * (k.nets + 1) + end_code s.n_end
+
+-- the number of what a row has left: its counts, and behind them its open end
+abbrev pub row_code : Row → Kinds → State → ℕ
+row_code row k s = counts_code (kinds_in row k) (left_of row s) * (k.nets + 1) + end_code (end_of row s)
 
 -- the digits of a number are the counts
 abbrev pub counts_of_code : List Kind → ℕ → List ℕ

@@ -9,8 +9,9 @@ use Rattle.cell_num.specs.Fingers.{sum_below}
 use Rattle.row_state.specs.declared.kind.Kinds.{Kinds}
 use Rattle.row_state.specs.declared.state.State.{State}
 use Rattle.row_state.specs.Classes.{least_chained}
-use Rattle.row_state.specs.Completion.{left_in}
+use Rattle.row_state.specs.Completion.{fingers_left, left_in}
 use Rattle.row_state.specs.Parity.{empty_left, is_odd}
+use Rattle.row_state.specs.Tests.{kinds_in}
 use Rattle.row_state.specs.Trails.{size, toggle}
 
 -- how many nets of the set are in the class
@@ -50,3 +51,7 @@ component_of nets end mine other = further_trails nets end mine - empty_left min
 unfoldable pub component_value : Row → State → Kinds → ℕ
 component_value P s k = component_of k.nets s.p_end (left_in k s).p (left_in k s).n
 component_value N s k = component_of k.nets s.n_end (left_in k s).n (left_in k s).p
+
+-- the trails of a row by the counts that it has left
+abbrev pub component_trails : Row → Option NetNo → List ℕ → Kinds → ℕ
+component_trails row end left k = further_trails k.nets end (fingers_left row (kinds_in row k) left)

@@ -161,8 +161,12 @@ abbrev pub halved : Option NetNo → ℕ → ℕ
 halved (Some v) odd = odd / 2
 halved None odd = (odd - 1) / 2
 
+-- half of the odd nets of a row, by the counts that it has left
+abbrev pub parity_trails : Row → Option NetNo → List ℕ → Kinds → ℕ
+parity_trails row end left k = halved end (size k.nets (is_odd_behind end (kinds_in row k) left))
+
 abbrev pub parity_test : Row → State → Kinds → ℕ
-parity_test row s k = halved (end_of row s) (size k.nets (is_odd_behind (end_of row s) (kinds_in row k) (left_of row s))) - sum_below (empty_test row s k) k.nets
+parity_test row s k = parity_trails row (end_of row s) (left_of row s) k - sum_below (empty_test row s k) k.nets
 
 -- a finger of the side's kind is left
 abbrev pub side_left : List ℕ → Option Side → Bool

@@ -1,9 +1,12 @@
-ghost use Rattle.std.specs.Prelude.{◌≡◌, ltb, ℕ};
+ghost use Rattle.std.specs.Prelude.{◌≡◌, ltb, ℕ, List, Option};
 ghost use Rattle.cell_num.specs.declared.finger.Row.{Row};
+ghost use Rattle.cell_num.specs.declared.net.NetNo.{NetNo};
 ghost use Rattle.row_state.specs.declared.kind.Kinds.{Kinds};
 ghost use Rattle.row_state.specs.declared.state.State.{State};
 ghost use Rattle.row_state.specs.Completion.{Need};
 ghost use Rattle.row_state.specs.Start.{IsState, AreSomeKinds};
+ghost use Rattle.row_state.specs.Tests.{left_of};
+ghost use Rattle.row_state.specs.Trails.{end_of};
 ghost use Rattle.row_state.specs.Versions.{IsVersion};
 
 use crate::{Kinds, State};
@@ -20,6 +23,9 @@ pub trait RowBound {
     /// The number that the bound answers.
     ghost value: { Self → Row → State → Kinds → ℕ };
 
+    /// What the bound says of a row, by its open end and its counts, where none of its places stays empty.
+    ghost trails_of: { Self → Row → Option NetNo → List ℕ → Kinds → ℕ };
+
     /// The version of a log whose lemmas rest on the bound.
     ghost version_of: { Self → ℕ };
 
@@ -27,9 +33,16 @@ pub trait RowBound {
         requires state { IsState kinds.now state.now }
         ensures { result ≡ value self.now row state.now kinds.now };
 
-    /// Whether the bound is above a number: where the parts of it tell so early, the others are not computed.
-    fn is_above(&self, row: Row, state: &State, kinds: &Kinds, most: u32) -> bool
+    /// The trails that the fingers left of the row need beside one: they depend on that row alone.
+    fn trails(&self, row: Row, state: &State, kinds: &Kinds) -> u32
         requires state { IsState kinds.now state.now }
+        ensures { result ≡ trails_of self.now row (end_of row state.now) (left_of row state.now) kinds.now };
+
+    /// Whether the bound is above a number, where the trails of the row are told. Places that stay empty make the
+    /// bound lower, and are not counted where the trails are few.
+    fn is_above(&self, row: Row, state: &State, kinds: &Kinds, trails: u32, most: u32) -> bool
+        requires state { IsState kinds.now state.now }
+        requires trails { trails ≡ trails_of self.now row (end_of row state.now) (left_of row state.now) kinds.now }
         ensures { result ≡ ltb most (value self.now row state.now kinds.now) };
 
     /// The version of a log whose lemmas rest on the bound.

@@ -1,12 +1,14 @@
-ghost use Rattle.std.specs.Prelude.{◌≡◌, ◌≤◌, ◌<◌, ◌+◌, ◌*◌, ℕ, Some, length, slice_get, slice_index};
+ghost use Rattle.std.specs.Prelude.{◌≡◌, ◌≤◌, ◌<◌, ◌+◌, ◌*◌, ℕ, IfSome, Some, length, slice_get, slice_index};
 ghost use Rattle.row_state.specs.declared.kind.Kind.{Kind as KindOf};
 ghost use Rattle.row_state.specs.declared.state.State.{State as StateOf};
-ghost use Rattle.row_state.specs.Code.{IsCode, count_lists, counts_code, counts_of_code, end_code, end_of_code, most_states, rows_of_code, state_code, state_of};
+ghost use Rattle.row_state.specs.Code.{IsCode, count_lists, counts_code, counts_of_code, end_code, end_of_code, most_states, row_code, rows_of_code, state_code, state_of};
 ghost use Rattle.row_state.specs.Decoded.{rows_code};
 ghost use Rattle.row_state.specs.Start.{IsState};
+ghost use Rattle.row_state.specs.Tests.{left_of};
+ghost use Rattle.row_state.specs.Trails.{end_of};
 
 use crate::{Kind, Kinds, State};
-use cell_num::NetNo;
+use cell_num::{MOST_NETS, NetNo, Row};
 
 // How many lists of counts the kinds allow.
 #[tactic(auto, using(crate::proofs::Codes::lists_next, crate::proofs::Codes::lists_drop, crate::proofs::Codes::lists_some))]
@@ -72,6 +74,44 @@ pub fn code(state: &State, kinds: &Kinds) -> u128
     let ends = u128::from(kinds.nets) + 1;
     let rows = u128::from(rows_number(state, kinds));
     (rows * ends + end_number(&state.p_end)) * ends + end_number(&state.n_end)
+}
+
+// The counts of a row, and behind them its end.
+fn row_digits(kinds: &[Kind], left: &[u32], end: &Option<NetNo>, nets: u32) -> u64
+    requires nets { nets ≤ MOST_NETS }
+    requires few { count_lists kinds.now ≤ 4294967296 }
+    requires same { length left.now ≡ length kinds.now }
+    requires within { (i : ℕ) (kind : KindOf) → slice_get kinds.now i ≡ Some kind →
+        slice_index left.now i ≤ kind.count }
+    requires end { IfSome end.now (λ v. v.0 < nets) }
+    ensures { result ≡ counts_code kinds.now left.now * (nets + 1) + end_code end.now }
+{
+    counts_number(kinds, left) * (u64::from(nets) + 1) + end_number(end) as u64
+}
+
+/// The number of what a row of the state has left, its counts and its open end: no other has it.
+#[tactic(auto, using(crate::proofs::Codes::lists_few_p, crate::proofs::Codes::lists_few_n))]
+pub fn row_number(row: Row, state: &State, kinds: &Kinds) -> u64
+    requires state { IsState kinds.now state.now }
+    ensures number { result ≡ row_code row kinds.now state.now }
+    ensures own { (other : StateOf) → IsState kinds.now other → row_code row kinds.now other ≡ result →
+        (left_of row other ≡ left_of row state.now) × (end_of row other ≡ end_of row state.now) }
+{
+    kinds.show_limits();
+    match row {
+        Row::P => row_digits(
+            kinds.p.as_slice(),
+            state.p_left.as_slice(),
+            &state.p_end,
+            kinds.nets,
+        ),
+        Row::N => row_digits(
+            kinds.n.as_slice(),
+            state.n_left.as_slice(),
+            &state.n_end,
+            kinds.nets,
+        ),
+    }
 }
 
 // The digits of the number as counts.

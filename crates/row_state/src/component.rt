@@ -4,7 +4,7 @@ ghost use Rattle.cell_num.specs.declared.finger.Row.{Row as RowOf};
 ghost use Rattle.cell_num.specs.Fingers.{sum_below};
 ghost use Rattle.row_state.specs.Classes.{joined, least_chained};
 ghost use Rattle.row_state.specs.Completion.{fingers_left};
-ghost use Rattle.row_state.specs.Component.{component_value, fewest_trails, further_trails, has_finger, size_in};
+ghost use Rattle.row_state.specs.Component.{component_trails, component_value, fewest_trails, further_trails, has_finger, size_in};
 ghost use Rattle.row_state.specs.ComponentLaw.{component_holds};
 ghost use Rattle.row_state.specs.Start.{IsKind, IsState};
 ghost use Rattle.row_state.specs.Tests.{entry, flag, kinds_in, left_of};
@@ -150,8 +150,7 @@ fn count_trails(kinds: &[Kind], left: &[u32], end: &Option<NetNo>, nets: u32) ->
 
 fn count_trails_in(row: Row, state: &State, kinds: &Kinds) -> u32
     requires state { IsState kinds.now state.now }
-    ensures { (at : RowOf) → result ≡ further_trails kinds.now.nets (end_of row state.now)
-        (fingers_left at (kinds_in row kinds.now) (left_of row state.now)) }
+    ensures { result ≡ component_trails row (end_of row state.now) (left_of row state.now) kinds.now }
 {
     match row {
         Row::P => count_trails(
@@ -182,12 +181,11 @@ fn row_bound(row: Row, state: &State, kinds: &Kinds) -> u32
     trails.saturating_sub(empty)
 }
 
-// The bound is at most the trails.
-fn is_row_above(row: Row, state: &State, kinds: &Kinds, most: u32) -> bool
+fn is_row_above(row: Row, state: &State, kinds: &Kinds, trails: u32, most: u32) -> bool
     requires state { IsState kinds.now state.now }
+    requires trails { trails ≡ component_trails row (end_of row state.now) (left_of row state.now) kinds.now }
     ensures { result ≡ ltb most (component_value row state.now kinds.now) }
 {
-    let trails = count_trails_in(row, state, kinds);
     if trails <= most {
         return false;
     }
@@ -200,6 +198,8 @@ impl RowBound for Component {
 
     ghost value = { λ b row s k. component_value row s k };
 
+    ghost trails_of = { λ b row end left k. component_trails row end left k };
+
     ghost version_of = { λ b. COMPONENT_LOG };
 
     ghost holds = { λ b row s k some valid. component_holds k s row some };
@@ -210,8 +210,12 @@ impl RowBound for Component {
         row_bound(row, state, kinds)
     }
 
-    fn is_above(&self, row: Row, state: &State, kinds: &Kinds, most: u32) -> bool {
-        is_row_above(row, state, kinds, most)
+    fn trails(&self, row: Row, state: &State, kinds: &Kinds) -> u32 {
+        count_trails_in(row, state, kinds)
+    }
+
+    fn is_above(&self, row: Row, state: &State, kinds: &Kinds, trails: u32, most: u32) -> bool {
+        is_row_above(row, state, kinds, trails, most)
     }
 
     fn version(&self) -> u32 {

@@ -19,7 +19,7 @@ pub mod step;
 
 pub use bound::{COMPONENT_LOG, PARITY_LOG, RowBound};
 pub use candidate::{Candidate, Candidates, candidates};
-pub use coding::{code, decode};
+pub use coding::{code, decode, row_number};
 pub use component::Component;
 pub use found::kinds;
 pub use kind::{Kind, KindList, Kinds};

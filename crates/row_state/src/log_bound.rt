@@ -1,5 +1,5 @@
 ghost use Rattle.std.specs.Prelude.{refl, ◌≡◌, ◌↔◌, IfSome, IsNone};
-ghost use Rattle.row_state.specs.LogBounds.{log_bound_holds, log_bound_known, log_version};
+ghost use Rattle.row_state.specs.LogBounds.{log_bound_holds, log_bound_known, log_trails, log_version};
 ghost use Rattle.row_state.specs.Versions.{IsVersion, value_of};
 
 use crate::{COMPONENT_LOG, Component, Kinds, PARITY_LOG, Parity, RowBound, State};
@@ -31,6 +31,8 @@ impl LogBound {
 impl RowBound for LogBound {
     ghost value = { λ b. value_of (log_version b) };
 
+    ghost trails_of = { λ b row end left k. log_trails b row end left k };
+
     ghost version_of = { λ b. log_version b };
 
     ghost holds = { λ b row s k some valid. log_bound_holds b row s k some };
@@ -44,10 +46,17 @@ impl RowBound for LogBound {
         }
     }
 
-    fn is_above(&self, row: Row, state: &State, kinds: &Kinds, most: u32) -> bool {
+    fn trails(&self, row: Row, state: &State, kinds: &Kinds) -> u32 {
         match self {
-            LogBound::Parity => Parity.is_above(row, state, kinds, most),
-            LogBound::Component => Component.is_above(row, state, kinds, most),
+            LogBound::Parity => Parity.trails(row, state, kinds),
+            LogBound::Component => Component.trails(row, state, kinds),
+        }
+    }
+
+    fn is_above(&self, row: Row, state: &State, kinds: &Kinds, trails: u32, most: u32) -> bool {
+        match self {
+            LogBound::Parity => Parity.is_above(row, state, kinds, trails, most),
+            LogBound::Component => Component.is_above(row, state, kinds, trails, most),
         }
     }
 

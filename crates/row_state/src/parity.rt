@@ -7,7 +7,7 @@ ghost use Rattle.row_state.specs.declared.kind.Kinds.{Kinds as KindsOf};
 ghost use Rattle.row_state.specs.declared.state.State.{State as StateOf};
 ghost use Rattle.row_state.specs.Runs.{IsOnGate};
 ghost use Rattle.row_state.specs.Start.{IsKind, IsState};
-ghost use Rattle.row_state.specs.Tests.{adds_odd, empty_test, halved, is_odd_behind, is_odd_net, kinds_in, left_of, parity_test};
+ghost use Rattle.row_state.specs.Tests.{adds_odd, empty_test, halved, is_odd_behind, is_odd_net, kinds_in, left_of, parity_test, parity_trails};
 ghost use Rattle.row_state.specs.Trails.{end_of, size, toggle};
 
 use crate::gate::{OnGate, behind, first_gates, next_on};
@@ -174,33 +174,41 @@ fn halve(row: Row, state: &State, odd: u32) -> u32
     }
 }
 
+fn count_trails_in(row: Row, state: &State, kinds: &Kinds) -> u32
+    requires state { IsState kinds.now state.now }
+    ensures { result ≡ parity_trails row (end_of row state.now) (left_of row state.now) kinds.now }
+{
+    let odd = count_odd_in(row, state, kinds);
+    halve(row, state, odd)
+}
+
 fn row_bound(row: Row, state: &State, kinds: &Kinds) -> u32
     requires state { IsState kinds.now state.now }
     ensures { result ≡ parity_test row state.now kinds.now }
 {
-    let odd = count_odd_in(row, state, kinds);
     let empty = count_empty(row, state, kinds);
-    halve(row, state, odd).saturating_sub(empty)
+    count_trails_in(row, state, kinds).saturating_sub(empty)
 }
 
-// The bound is at most half of the odd nets.
 #[tactic(auto, using(crate::proofs::ParityCode::parity_code))]
-fn is_row_above(row: Row, state: &State, kinds: &Kinds, most: u32) -> bool
+fn is_row_above(row: Row, state: &State, kinds: &Kinds, trails: u32, most: u32) -> bool
     requires state { IsState kinds.now state.now }
+    requires trails { trails ≡ parity_trails row (end_of row state.now) (left_of row state.now) kinds.now }
     ensures { result ≡ ltb most (parity_value row state.now kinds.now) }
 {
-    let half = halve(row, state, count_odd_in(row, state, kinds));
-    if half <= most {
+    if trails <= most {
         return false;
     }
     let empty = count_empty(row, state, kinds);
-    most < half.saturating_sub(empty)
+    most < trails.saturating_sub(empty)
 }
 
 impl RowBound for Parity {
     ghost use Rattle.row_state.specs.declared.bound.TheConstants.{PARITY_LOG};
 
     ghost value = { λ b row s k. parity_value row s k };
+
+    ghost trails_of = { λ b row end left k. parity_trails row end left k };
 
     ghost version_of = { λ b. PARITY_LOG };
 
@@ -213,8 +221,12 @@ impl RowBound for Parity {
         row_bound(row, state, kinds)
     }
 
-    fn is_above(&self, row: Row, state: &State, kinds: &Kinds, most: u32) -> bool {
-        is_row_above(row, state, kinds, most)
+    fn trails(&self, row: Row, state: &State, kinds: &Kinds) -> u32 {
+        count_trails_in(row, state, kinds)
+    }
+
+    fn is_above(&self, row: Row, state: &State, kinds: &Kinds, trails: u32, most: u32) -> bool {
+        is_row_above(row, state, kinds, trails, most)
     }
 
     fn version(&self) -> u32 {

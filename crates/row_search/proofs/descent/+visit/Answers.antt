@@ -25,31 +25,34 @@ returns-then-not-has_fingers-clause-further g t c = further_counted (g.B.RowBoun
 pub returns-then-not-has_fingers-clause-found : goal.returns-then-not-has_fingers-clause-found
 returns-then-not-has_fingers-clause-found g t c = found_leaf c.args.task.now.kinds.now c.args.at.now.state c.args.allowed c.new.result c.has_fingers.result c.args.progress.now c.count_node.new.self c.count_node.ensures c.new.ensures (c.has_fingers.ensures c.args.task.now.kinds.now c.requires.numbered.valid) c.if-not-has_fingers.true
 
+pub returns-in_err-served-clause-further : goal.returns-in_err-served-clause-further
+returns-in_err-served-clause-further g t c = further_counted (g.B.RowBound.value c.args.task.now.bound.now) c.args.task.now.kinds.now c.args.task.now.budget (columns_left c.args.task.now.kinds.now c.args.at.now.state + 1) c.args.at.now.state c.args.allowed c.args.progress.now c.count_node.new.self c.count_node.ensures (omega (arith, c.requires.nodes, c.nodes.ensures, c.if-nodes-task.false)) c.requires.lemmas
+
 pub returns-in_err-keep-clause-further : goal.returns-in_err-keep-clause-further
 returns-in_err-keep-clause-further g t c = further_still (g.B.RowBound.value c.args.task.now.bound.now) c.args.task.now.kinds.now c.args.task.now.budget (columns_left c.args.task.now.kinds.now c.args.at.now.state + 1) c.args.at.now.state c.args.allowed c.args.progress.now c.count_node.new.self c.keep.new.self c.in_err-keep.ensures.err c.in_err-keep.ensures.nodes (further_counted (g.B.RowBound.value c.args.task.now.bound.now) c.args.task.now.kinds.now c.args.task.now.budget (columns_left c.args.task.now.kinds.now c.args.at.now.state + 1) c.args.at.now.state c.args.allowed c.args.progress.now c.count_node.new.self c.count_node.ensures (omega (arith, c.requires.nodes, c.nodes.ensures, c.if-nodes-task.false)) c.requires.lemmas)
 
 pub returns-in-Some-clause-further : goal.returns-in-Some-clause-further
 returns-in-Some-clause-further g t c =
-    let rule : RuleReaches (g.B.RowBound.value c.args.task.now.bound.now) c.args.task.now.kinds.now (λ z. best_of z c.count_node.new.self.lemmas) c.in-Some.rule c.args.at.now.state (c.args.allowed + 1) × IsLean (g.B.RowBound.value c.args.task.now.bound.now) c.args.task.now.kinds.now (lemma_of c.args.at.now.state (c.args.allowed + 1) c.in-Some.rule) = row_reaches (g.B.RowBound.value c.args.task.now.bound.now) c.args.task.now.kinds.now (λ z. best_of z c.count_node.new.self.lemmas) c.args.at.now.state (c.args.allowed + 1) c.in-Some.rule c.in-Some.ensures.some in
+    let rule : RuleReaches (g.B.RowBound.value c.args.task.now.bound.now) c.args.task.now.kinds.now (λ z. best_of z c.count_node.new.self.lemmas) c.in-Some.rule c.args.at.now.state (c.args.allowed + 1) × IsLean (g.B.RowBound.value c.args.task.now.bound.now) c.args.task.now.kinds.now (lemma_of c.args.at.now.state (c.args.allowed + 1) c.in-Some.rule) = row_reaches (g.B.RowBound.value c.args.task.now.bound.now) c.args.task.now.kinds.now (λ z. best_of z c.count_node.new.self.lemmas) c.args.at.now.state (c.args.allowed + 1) c.in-Some.rule (rw c.in-Some.is at c.in_ok-served.ensures.some) in
     further_kept (g.B.RowBound.value c.args.task.now.bound.now) c.args.task.now.kinds.now c.args.task.now.budget c.args.at.now.state c.args.allowed c.in-Some.rule c.args.progress.now c.count_node.new.self c.keep.new.self (tried_none (g.B.RowBound.value c.args.task.now.bound.now) c.args.task.now.kinds.now c.args.task.now.budget c.args.at.now.state c.args.allowed c.args.progress.now c.count_node.new.self c.count_node.ensures c.requires.lemmas c.requires.knows (omega (arith, c.requires.nodes, c.nodes.ensures, c.if-nodes-task.false))) c.in_ok-keep.ensures.nodes c.in_ok-keep.ensures.ok c.requires.numbered.valid rule.0 rule.1 c.requires.low
 
 pub returns-in-Some-clause-failed : goal.returns-in-Some-clause-failed
 returns-in-Some-clause-failed g t c = failed_kept (g.B.RowBound.value c.args.task.now.bound.now) c.args.task.now.kinds.now c.args.task.now.budget c.args.at.now.state c.args.allowed c.in-Some.rule c.args.progress.now c.count_node.new.self c.keep.new.self (tried_none (g.B.RowBound.value c.args.task.now.bound.now) c.args.task.now.kinds.now c.args.task.now.budget c.args.at.now.state c.args.allowed c.args.progress.now c.count_node.new.self c.count_node.ensures c.requires.lemmas c.requires.knows (omega (arith, c.requires.nodes, c.nodes.ensures, c.if-nodes-task.false))) c.in_ok-keep.ensures.nodes c.in_ok-keep.ensures.ok (c.in_ok-keep.ensures.knows c.args.task.now.kinds.now)
 
 pub loop-next-init : goal.loop-next-init
-loop-next-init g t c = ((tried_none (g.B.RowBound.value c.args.task.now.bound.now) c.args.task.now.kinds.now c.args.task.now.budget c.args.at.now.state c.args.allowed c.args.progress.now c.count_node.new.self c.count_node.ensures c.requires.lemmas c.requires.knows (omega (arith, c.requires.nodes, c.nodes.ensures, c.if-nodes-task.false))), All-nil (Reaches c.args.task.now.kinds.now (λ z. best_of z c.count_node.new.self.lemmas) c.args.at.now.state (c.args.allowed + 1)))
+loop-next-init g t c = ((tried_none (g.B.RowBound.value c.args.task.now.bound.now) c.args.task.now.kinds.now c.args.task.now.budget c.args.at.now.state c.args.allowed c.args.progress.now c.count_node.new.self c.count_node.ensures c.requires.lemmas c.requires.knows (omega (arith, c.requires.nodes, c.nodes.ensures, c.if-nodes-task.false))), All-nil (Reaches c.args.task.now.kinds.now (λ z. best_of z c.count_node.new.self.lemmas) c.args.at.now.state (c.args.allowed + 1)), c.in_ok-served.ensures.noted)
 
 pub loop-next-preserved-then-not-allows : goal.loop-next-preserved-then-not-allows
 unfolding blank
-loop-next-preserved-then-not-allows g t c = (c.loop-next.invariant.0, step_not c.args.task.now.kinds.now c.args.at.now.state (c.args.allowed + 1) (λ z. best_of z c.loop-next.progress.lemmas) c.args.task.now.candidates.now c.loop-next.next-index blank c.allows.result c.loop-next.invariant.1 c.loop-next-test.true c.allows.ensures c.if-not-allows.true)
+loop-next-preserved-then-not-allows g t c = (c.loop-next.invariant.0, step_not c.args.task.now.kinds.now c.args.at.now.state (c.args.allowed + 1) (λ z. best_of z c.loop-next.progress.lemmas) c.args.task.now.candidates.now c.loop-next.next-index blank c.allows.result c.loop-next.invariant.1 c.loop-next-test.true c.allows.ensures c.if-not-allows.true, c.loop-next.invariant.2)
 
 pub loop-next-preserved-then-allowed-cost : goal.loop-next-preserved-then-allowed-cost
 unfolding blank
-loop-next-preserved-then-allowed-cost g t c = (c.loop-next.invariant.0, step_dear c.args.task.now.kinds.now c.args.at.now.state c.args.allowed c.cost-cost.result (λ z. best_of z c.loop-next.progress.lemmas) c.args.task.now.candidates.now c.loop-next.next-index blank c.loop-next.invariant.1 c.loop-next-test.true (c.cost-cost.ensures c.args.task.now.kinds.now (c.requires.candidates.each c.loop-next.next-index blank c.loop-next-test.true)) c.if-allowed-cost.true)
+loop-next-preserved-then-allowed-cost g t c = (c.loop-next.invariant.0, step_dear c.args.task.now.kinds.now c.args.at.now.state c.args.allowed c.cost-cost.result (λ z. best_of z c.loop-next.progress.lemmas) c.args.task.now.candidates.now c.loop-next.next-index blank c.loop-next.invariant.1 c.loop-next-test.true (c.cost-cost.ensures c.args.task.now.kinds.now (c.requires.candidates.each c.loop-next.next-index blank c.loop-next-test.true)) c.if-allowed-cost.true, c.loop-next.invariant.2)
 
 pub loop-next-preserved-then-best_at-allowed : goal.loop-next-preserved-then-best_at-allowed
 unfolding blank
-loop-next-preserved-then-best_at-allowed g t c = (c.loop-next.invariant.0, step_known c.args.task.now.kinds.now c.args.at.now.state c.args.allowed c.cost-cost.result c.best_at.result c.loop-next.progress.lemmas c.args.task.now.candidates.now c.loop-next.next-index blank c.loop-next.invariant.1 c.loop-next-test.true (c.cost-cost.ensures c.args.task.now.kinds.now (c.requires.candidates.each c.loop-next.next-index blank c.loop-next-test.true)) (known_behind c.args.task.now.kinds.now c.loop-next.progress c.args.at.now.state (get_or c.args.task.now.candidates.now c.loop-next.next-index blank).step c.code_behind.result c.best_at.result c.show_limits.ensures c.loop-next.invariant.0.knows c.requires.numbered.valid (some_left c.allows.ensures c.if-not-allows.false) c.code_behind.ensures c.best_at.ensures) c.if-best_at-allowed.true)
+loop-next-preserved-then-best_at-allowed g t c = (c.loop-next.invariant.0, step_known c.args.task.now.kinds.now c.args.at.now.state c.args.allowed c.cost-cost.result c.best_at.result c.loop-next.progress.lemmas c.args.task.now.candidates.now c.loop-next.next-index blank c.loop-next.invariant.1 c.loop-next-test.true (c.cost-cost.ensures c.args.task.now.kinds.now (c.requires.candidates.each c.loop-next.next-index blank c.loop-next-test.true)) (known_behind c.args.task.now.kinds.now c.loop-next.progress c.args.at.now.state (get_or c.args.task.now.candidates.now c.loop-next.next-index blank).step c.code_behind.result c.best_at.result c.show_limits.ensures c.loop-next.invariant.0.knows c.requires.numbered.valid (some_left c.allows.ensures c.if-not-allows.false) c.code_behind.ensures c.best_at.ensures) c.if-best_at-allowed.true, c.loop-next.invariant.2)
 
 pub returns-in_err-behind-clause-further : goal.returns-in_err-behind-clause-further
 returns-in_err-behind-clause-further g t c = further_wider (g.B.RowBound.value c.args.task.now.bound.now) c.args.task.now.kinds.now c.args.task.now.budget c.args.at.now.state c.args.allowed c.args.progress.now c.loop-next.progress c.loop-next.invariant.0.further
@@ -65,6 +68,7 @@ visit-requires g t c κs within =
     let nodes : c.loop-next.progress.nodes ≤ c.args.task.now.budget = c.loop-next.invariant.0.further.nodes in
     let knows : KnowsAll c.args.task.now.kinds.now c.loop-next.progress = c.loop-next.invariant.0.knows in
     let few : c.args.allowed - c.cost-cost.result ≤ 32 = omega (arith, c.requires.few) in
+    let noted = c.loop-next.invariant.2 in
     search rules
 
 pub returns-in-Err-clause-further : goal.returns-in-Err-clause-further
@@ -90,13 +94,13 @@ pub loop-next-preserved : goal.loop-next-preserved
 unfolding blank
 loop-next-preserved g t c =
     let failed : HasFailed c.args.task.now.kinds.now c.in_ok-behind.behind.state (c.args.allowed - c.cost-cost.result) c.loop-next.progress c.visit.new.progress = rw c.in_default-tried.is at c.in-Ok.ensures.failed in
-    (tried_more (g.B.RowBound.value c.args.task.now.bound.now) c.args.task.now.kinds.now c.args.task.now.budget c.args.at.now.state c.in_ok-behind.behind.state c.args.allowed c.cost-cost.result (get_or c.args.task.now.candidates.now c.loop-next.next-index blank).step c.args.progress.now c.loop-next.progress c.visit.new.progress c.show_limits.ensures (some_left c.allows.ensures c.if-not-allows.false) (c.cost-cost.ensures c.args.task.now.kinds.now (c.requires.candidates.each c.loop-next.next-index blank c.loop-next-test.true)) c.if-allowed-cost.false c.in_ok-behind.ensures.state c.loop-next.invariant.0 c.in-Ok.ensures.further failed, step_fails c.args.task.now.kinds.now (columns_left c.args.task.now.kinds.now c.in_ok-behind.behind.state + 1) c.args.at.now.state c.in_ok-behind.behind.state c.args.allowed c.cost-cost.result c.loop-next.progress.lemmas c.visit.new.progress.lemmas c.args.task.now.candidates.now c.loop-next.next-index blank c.in-Ok.ensures.further.grown c.loop-next.invariant.1 c.loop-next-test.true (c.cost-cost.ensures c.args.task.now.kinds.now (c.requires.candidates.each c.loop-next.next-index blank c.loop-next-test.true)) c.in_ok-behind.ensures.state failed.proves)
+    (tried_more (g.B.RowBound.value c.args.task.now.bound.now) c.args.task.now.kinds.now c.args.task.now.budget c.args.at.now.state c.in_ok-behind.behind.state c.args.allowed c.cost-cost.result (get_or c.args.task.now.candidates.now c.loop-next.next-index blank).step c.args.progress.now c.loop-next.progress c.visit.new.progress c.show_limits.ensures (some_left c.allows.ensures c.if-not-allows.false) (c.cost-cost.ensures c.args.task.now.kinds.now (c.requires.candidates.each c.loop-next.next-index blank c.loop-next-test.true)) c.if-allowed-cost.false c.in_ok-behind.ensures.state c.loop-next.invariant.0 c.in-Ok.ensures.further failed, step_fails c.args.task.now.kinds.now (columns_left c.args.task.now.kinds.now c.in_ok-behind.behind.state + 1) c.args.at.now.state c.in_ok-behind.behind.state c.args.allowed c.cost-cost.result c.loop-next.progress.lemmas c.visit.new.progress.lemmas c.args.task.now.candidates.now c.loop-next.next-index blank c.in-Ok.ensures.further.grown c.loop-next.invariant.1 c.loop-next-test.true (c.cost-cost.ensures c.args.task.now.kinds.now (c.requires.candidates.each c.loop-next.next-index blank c.loop-next-test.true)) c.in_ok-behind.ensures.state failed.proves, c.in-Ok.ensures.noted)
 
 pub returns-in_err-keep-2-clause-further : goal.returns-in_err-keep-2-clause-further
 returns-in_err-keep-2-clause-further g t c = further_still (g.B.RowBound.value c.args.task.now.bound.now) c.args.task.now.kinds.now c.args.task.now.budget (columns_left c.args.task.now.kinds.now c.args.at.now.state + 1) c.args.at.now.state c.args.allowed c.args.progress.now c.loop-next.progress c.keep-2.new.self c.in_err-keep-2.ensures.err c.in_err-keep-2.ensures.nodes (further_wider (g.B.RowBound.value c.args.task.now.bound.now) c.args.task.now.kinds.now c.args.task.now.budget c.args.at.now.state c.args.allowed c.args.progress.now c.loop-next.progress c.loop-next.invariant.0.further)
 
 pub returns-clause-further : goal.returns-clause-further
-returns-clause-further g t c = further_kept (g.B.RowBound.value c.args.task.now.bound.now) c.args.task.now.kinds.now c.args.task.now.budget c.args.at.now.state c.args.allowed by.Branch c.args.progress.now c.loop-next.progress c.keep-2.new.self c.loop-next.invariant.0 c.in_ok-keep-2.ensures.nodes c.in_ok-keep-2.ensures.ok c.requires.numbered.valid ((some_left (c.has_fingers.ensures c.args.task.now.kinds.now c.requires.numbered.valid) c.if-not-has_fingers.false), branch_end c.args.task.now.kinds.now c.args.at.now.state c.args.task.now.candidates.now c.args.task.now.candidates.now c.loop-next.next-index (λ z. best_of z c.loop-next.progress.lemmas) (c.args.allowed + 1) c.requires.candidates c.requires.numbered.valid refl c.loop-next-test.false c.loop-next.invariant.1) c.in_default.ensures.none c.requires.low
+returns-clause-further g t c = further_kept (g.B.RowBound.value c.args.task.now.bound.now) c.args.task.now.kinds.now c.args.task.now.budget c.args.at.now.state c.args.allowed by.Branch c.args.progress.now c.loop-next.progress c.keep-2.new.self c.loop-next.invariant.0 c.in_ok-keep-2.ensures.nodes c.in_ok-keep-2.ensures.ok c.requires.numbered.valid ((some_left (c.has_fingers.ensures c.args.task.now.kinds.now c.requires.numbered.valid) c.if-not-has_fingers.false), branch_end c.args.task.now.kinds.now c.args.at.now.state c.args.task.now.candidates.now c.args.task.now.candidates.now c.loop-next.next-index (λ z. best_of z c.loop-next.progress.lemmas) (c.args.allowed + 1) c.requires.candidates c.requires.numbered.valid refl c.loop-next-test.false c.loop-next.invariant.1) (rw c.in_default.is at c.in_ok-served.ensures.none) c.requires.low
 
 pub returns-clause-failed : goal.returns-clause-failed
 returns-clause-failed g t c = failed_kept (g.B.RowBound.value c.args.task.now.bound.now) c.args.task.now.kinds.now c.args.task.now.budget c.args.at.now.state c.args.allowed by.Branch c.args.progress.now c.loop-next.progress c.keep-2.new.self c.loop-next.invariant.0 c.in_ok-keep-2.ensures.nodes c.in_ok-keep-2.ensures.ok (c.in_ok-keep-2.ensures.knows c.args.task.now.kinds.now)

@@ -1,6 +1,7 @@
 use Rattle.std.proofs.Common.{◌+◌, All, take}
 use Rattle.row_state.specs.Start.{columns_left}
 use Rattle.log_check.specs.Accepted.{best_of}
+use Rattle.row_search.specs.Noted.{AreNoted}
 use Rattle.row_search.proofs.Grown.{Reaches}
 use Rattle.row_search.proofs.Visits.{HasTried}
 use Rattle.row_search.proofs.descent.+visit.Given as goal
@@ -12,3 +13,4 @@ abbrev pub invariant-loop-next : goal.invariant-loop-next
 invariant-loop-next g l =
     HasTried (g.B.RowBound.value l.task.bound.now) l.task.kinds.now l.task.budget l.at.state l.allowed l.fn.progress l.progress
     × All (Reaches l.task.kinds.now (λ z. best_of z l.progress.lemmas) l.at.state (l.allowed + 1)) (take l.next-index l.next-items)
+    × AreNoted (g.B.RowBound.trails_of l.task.bound.now) l.task.kinds.now l.trails
