@@ -1,0 +1,6 @@
+mod Cutting
+mod Marks
+mod Numbers
+mod PieceChannel
+mod PieceLegal
+mod Wired

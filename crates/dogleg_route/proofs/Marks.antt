@@ -1,0 +1,274 @@
+-- Marks of nets, the piece that begins at each, and the piece that holds a line.
+use Rattle.std.proofs.Common.{ℕ, zero, suc, ◌≡◌, ◌+◌, ◌<◌, ◌≤◌, ◌⊎◌, ◌==◌, true, false, List, [], ◌∷◌, length, inl, inr, refl, sym, ap, subst, arith, All, Contains}
+use Rattle.std.proofs.lemmas.Bool.{cases_Bool, cases_lt, cases_order}
+use Rattle.std.proofs.lemmas.List.Elements.{All-nil, All-cons, All-contains, Contains-append_left}
+use Rattle.cell_num.specs.declared.net.NetNo.{NetNo}
+use Rattle.cell_num.specs.declared.net.Pins.{Pins}
+use Rattle.cell_num.proofs.Lists.{contains_none, contains_cons, contains_here, contains_there, all_imply}
+use Rattle.cell_num.proofs.Pairs.{Some'}
+use Rattle.row_model.proofs.Decide.{net_decides}
+use Rattle.row_place.specs.declared.placement.NodePlace.{NodePlace}
+use Rattle.row_place.specs.declared.placement.Placement.{Placement}
+use Rattle.row_place.specs.Trunks.{lines_of, HasTrunk, IsSpan}
+use Rattle.channel_route.proofs.NetWires.{line_kept}
+use Rattle.dogleg_route.specs.Pieces.{HasNode, IsFirst, IsLast, IsMark, IsRange, IsPiece}
+
+-- a mark is the line of a place
+pub node_place : (p : Placement) (net : NetNo) (line : ℕ) → HasNode p net line → Contains (lines_of p net) line
+node_place p net line h =
+    subst (λ z. Contains (lines_of p net) z) h.at (subst (λ n. Contains (lines_of p n) h.node.line) h.of (Contains-append_left _ _ h.node.line (line_kept (λ (z : NodePlace). z.net) (λ (z : NodePlace). z.line) p.nodes h.node h.there)))
+
+pub mark_place : (p : Placement) (net : NetNo) (line : ℕ) → IsMark p net line → Contains (lines_of p net) line
+mark_place p net line (inl first) = first.place
+mark_place p net line (inr (inl last)) = last.place
+mark_place p net line (inr (inr node)) = node_place p net line node
+
+-- the nearest node place of a net behind a line, or the last line
+pub record Behind (net : NetNo) (m last : ℕ) (nodes : List NodePlace) : Type 0 where
+  pub at : ℕ
+  pub beyond : m < at
+  pub low : at ≤ last
+  pub is : (at ≡ last) ⊎ Some' (λ (node : NodePlace). (node.net ≡ net) × (node.line ≡ at)) nodes
+  pub least : (node : NodePlace) → Contains nodes node → node.net ≡ net → m < node.line → at ≤ node.line
+
+behind : (net : NetNo) (m last : ℕ) (nodes : List NodePlace) → m < last → Behind net m last nodes
+behind net m last [] less = record { at = last; beyond = less; low = omega arith; is = inl refl; least = λ node there _ _. absurd (contains_none node there) }
+behind net m last (x ∷ xs) less = by (behind net m last xs less)
+  where
+    more : (at : ℕ) → (at ≡ last) ⊎ Some' (λ (node : NodePlace). (node.net ≡ net) × (node.line ≡ at)) xs → (at ≡ last) ⊎ Some' (λ (node : NodePlace). (node.net ≡ net) × (node.line ≡ at)) (x ∷ xs)
+    more at (inl e) = inl e
+    more at (inr s) = inr (record { it = s.it; there = contains_there x xs s.it s.there; holds = s.holds })
+
+    keep : (r : Behind net m last xs) → (x.net ≡ net → m < x.line → r.at ≤ x.line) → Behind net m last (x ∷ xs)
+    keep r here = record {
+      at = r.at;
+      beyond = r.beyond;
+      low = r.low;
+      is = more r.at r.is;
+      least = λ node there of far. elim (contains_cons x xs node there) [
+        | inl same ↦ subst (λ (z : NodePlace). z.net ≡ net → m < z.line → r.at ≤ z.line) same here of far
+        | inr rest ↦ r.least node rest of far
+      ];
+    }
+
+    nearer : (r : Behind net m last xs) → x.net ≡ net → m < x.line → x.line < r.at → Behind net m last (x ∷ xs)
+    nearer r of far near = record {
+      at = x.line;
+      beyond = far;
+      low = omega (arith, near, r.low);
+      is = inr (record { it = x; there = contains_here x xs; holds = (of, refl) });
+      least = λ node there of' far'. elim (contains_cons x xs node there) [
+        | inl same ↦ let e : x.line ≡ node.line = ap (λ (z : NodePlace). z.line) same in omega (arith, e)
+        | inr rest ↦ omega (arith, near, r.least node rest of' far')
+      ];
+    }
+
+    by : Behind net m last xs → Behind net m last (x ∷ xs)
+    by r =
+        elim (cases_Bool (x.net.0 == net.0)) [
+          | inr other ↦ keep r (λ same _. absurd (let wrong : (x.net.0 == net.0) ≡ true = (net_decides x.net net).1 same in cc))
+          | inl same ↦ elim (cases_lt m x.line) [
+            | inr low ↦ keep r (λ _ far. absurd (omega (arith, low, far)))
+            | inl far ↦ elim (cases_lt x.line r.at) [ inl near ↦ nearer r ((net_decides x.net net).0 same) far near | inr back ↦ keep r (λ _ _. back) ]
+          ]
+        ]
+
+-- the piece that begins at a mark before the last line
+pub record NextPiece (p : Placement) (pins : Pins) (net : NetNo) (m last : ℕ) : Type 0 where
+  pub at : ℕ
+  pub beyond : m < at
+  pub low : at ≤ last
+  pub piece : IsPiece p pins net m at
+
+pub next_piece : (p : Placement) (pins : Pins) (net : NetNo) (m last : ℕ) → HasTrunk p pins net → IsMark p net m → IsLast p net last → m < last → NextPiece p pins net m last
+next_piece p pins net m last trunk mark end less = record {
+  at = b.at;
+  beyond = b.beyond;
+  low = b.low;
+  piece = record { trunk = trunk; begins = mark; ends = ends b.is; range = inl b.beyond; none_between = none };
+}
+  where
+    b : Behind net m last p.nodes
+    b = behind net m last p.nodes less
+
+    ends : (b.at ≡ last) ⊎ Some' (λ (node : NodePlace). (node.net ≡ net) × (node.line ≡ b.at)) p.nodes → IsMark p net b.at
+    ends (inl e) = inr (inl (subst (λ z. IsLast p net z) (sym e) end))
+    ends (inr s) = inr (inr (record { node = s.it; there = s.there; of = s.holds.0; at = s.holds.1 }))
+
+    none : (line : ℕ) → IsMark p net line → m < line → line < b.at → ⊥
+    none line (inl first) low high = omega (arith, low, All-contains (λ z. line ≤ z) (lines_of p net) m first.none_before (mark_place p net m mark))
+    none line (inr (inl l)) low high = omega (arith, high, b.low, All-contains (λ z. z ≤ line) (lines_of p net) last l.none_behind end.place)
+    none line (inr (inr n)) low high =
+        let far : m < n.node.line = omega (arith, low, n.at) in
+        omega (arith, high, n.at, b.least n.node n.there n.of far)
+
+-- the only line of a net is all its lines
+pub one_line : (p : Placement) (net : NetNo) (line other : ℕ) → IsSpan p net line line → Contains (lines_of p net) other → other ≡ line
+one_line p net line other s there = omega (arith, All-contains (λ z. line ≤ z) (lines_of p net) other s.none_before there, All-contains (λ z. z ≤ line) (lines_of p net) other s.none_behind there)
+
+pub ascends : (p : Placement) (pins : Pins) (net : NetNo) (l r : ℕ) → IsPiece p pins net l r → l ≤ r
+ascends p pins net l r piece = by piece.range
+  where
+    by : IsRange p net l r → l ≤ r
+    by (inl less) = omega (arith, less)
+    by (inr (same, _)) = omega (arith, same)
+
+-- where one piece of a net begins before another, it ends before, and not behind the line where that begins
+pub record IsStacked (r k s : ℕ) : Type 0 where
+  pub ends : r ≤ k
+  pub rises : k < s
+
+pub stacked : (p : Placement) (pins : Pins) (net : NetNo) (l r k s : ℕ) → IsPiece p pins net l r → IsPiece p pins net k s → l < k → IsStacked r k s
+stacked p pins net l r k s a b less = record {
+  ends = elim (cases_lt k r) [ inl inside ↦ absurd (a.none_between k b.begins less inside) | inr e ↦ e ];
+  rises = by b.range;
+}
+  where
+    by : IsRange p net k s → k < s
+    by (inl e) = e
+    by (inr (same, span)) = absurd (omega (arith, less, one_line p net k l (subst (λ z. IsSpan p net k z) (sym same) span) (mark_place p net l a.begins)))
+
+-- a piece is known from where it begins
+pub one_right : (p : Placement) (pins : Pins) (net : NetNo) (l r s : ℕ) → IsPiece p pins net l r → IsPiece p pins net l s → r ≡ s
+one_right p pins net l r s a b = by a.range b.range
+  where
+    by : IsRange p net l r → IsRange p net l s → r ≡ s
+    by (inl e) (inl f) =
+        elim (cases_order r s) [
+          | inl same ↦ same
+          | inr other ↦ elim other [ inl less ↦ absurd (b.none_between r a.ends e less) | inr more ↦ absurd (a.none_between s b.ends f more) ]
+        ]
+    by (inr (same, span)) _ = let e : s ≡ l = one_line p net l s (subst (λ z. IsSpan p net l z) (sym same) span) (mark_place p net s b.ends) in omega (arith, e, same)
+    by (inl _) (inr (same, span)) = let e : r ≡ l = one_line p net l r (subst (λ z. IsSpan p net l z) (sym same) span) (mark_place p net r a.ends) in omega (arith, e, same)
+
+-- a piece holds a mark only where it ends
+pub ends_at : (p : Placement) (pins : Pins) (net : NetNo) (l r line : ℕ) → IsPiece p pins net l r → IsMark p net line → l ≤ line → line ≤ r → (l ≡ line) ⊎ (r ≡ line)
+ends_at p pins net l r line piece mark low high =
+    elim (cases_lt l line) [
+      | inr back ↦ inl (omega (arith, low, back))
+      | inl less ↦ elim (cases_lt line r) [ inl inside ↦ absurd (piece.none_between line mark less inside) | inr most ↦ inr (omega (arith, high, most)) ]
+    ]
+
+-- pieces of one net have at most an end line in common
+pub apart : (p : Placement) (pins : Pins) (net : NetNo) (l r k s : ℕ) → IsPiece p pins net l r → IsPiece p pins net k s → ((l ≡ k) × (r ≡ s)) ⊎ ((r ≤ k) ⊎ (s ≤ l))
+apart p pins net l r k s a b =
+    elim (cases_order l k) [
+      | inl same ↦ inl (same, one_right p pins net l r s a (subst (λ z. IsPiece p pins net z s) (sym same) b))
+      | inr other ↦ elim other [
+        | inl less ↦ let e : IsStacked r k s = stacked p pins net l r k s a b less in inr (inl e.ends)
+        | inr more ↦ let e : IsStacked s l r = stacked p pins net k s l r b a more in inr (inr e.ends)
+      ]
+    ]
+
+-- the ends of a list of lines
+pub record Ends (xs : List ℕ) : Type 0 where
+  pub first : ℕ
+  pub first_there : Contains xs first
+  pub none_before : All (λ z. first ≤ z) xs
+  pub last : ℕ
+  pub last_there : Contains xs last
+  pub none_behind : All (λ z. z ≤ last) xs
+
+ends_more : (x : ℕ) (xs : List ℕ) → Ends xs → Ends (x ∷ xs)
+ends_more x xs e = by (cases_lt x e.first) (cases_lt e.last x)
+  where
+    by : (x < e.first) ⊎ (e.first ≤ x) → (e.last < x) ⊎ (x ≤ e.last) → Ends (x ∷ xs)
+    by (inl low) (inl high) = absurd (omega (arith, low, high, All-contains (λ z. e.first ≤ z) xs e.last e.none_before e.last_there))
+    by (inl low) (inr in_front) = record {
+      first = x;
+      first_there = contains_here x xs;
+      none_before = All-cons (λ z. x ≤ z) x xs (omega arith) (all_imply (λ z. e.first ≤ z) (λ z. x ≤ z) xs (λ z f. omega (arith, f, low)) e.none_before);
+      last = e.last;
+      last_there = contains_there x xs e.last e.last_there;
+      none_behind = All-cons (λ z. z ≤ e.last) x xs in_front e.none_behind;
+    }
+    by (inr back) (inl high) = record {
+      first = e.first;
+      first_there = contains_there x xs e.first e.first_there;
+      none_before = All-cons (λ z. e.first ≤ z) x xs back e.none_before;
+      last = x;
+      last_there = contains_here x xs;
+      none_behind = All-cons (λ z. z ≤ x) x xs (omega arith) (all_imply (λ z. z ≤ e.last) (λ z. z ≤ x) xs (λ z f. omega (arith, f, high)) e.none_behind);
+    }
+    by (inr back) (inr in_front) = record {
+      first = e.first;
+      first_there = contains_there x xs e.first e.first_there;
+      none_before = All-cons (λ z. e.first ≤ z) x xs back e.none_before;
+      last = e.last;
+      last_there = contains_there x xs e.last e.last_there;
+      none_behind = All-cons (λ z. z ≤ e.last) x xs in_front e.none_behind;
+    }
+
+ends_of : (x : ℕ) (xs : List ℕ) → Ends (x ∷ xs)
+ends_of x [] = record {
+  first = x;
+  first_there = contains_here x [];
+  none_before = All-cons (λ z. x ≤ z) x [] (omega arith) (All-nil (λ z. x ≤ z));
+  last = x;
+  last_there = contains_here x [];
+  none_behind = All-cons (λ z. z ≤ x) x [] (omega arith) (All-nil (λ z. z ≤ x));
+}
+ends_of x (y ∷ ys) = ends_more x (y ∷ ys) (ends_of y ys)
+
+ends_at_all : (xs : List ℕ) (x : ℕ) → Contains xs x → Ends xs
+ends_at_all [] x there = absurd (contains_none x there)
+ends_at_all (y ∷ ys) x there = ends_of y ys
+
+-- the last line of a net that has a place at a line
+pub record LastOf (p : Placement) (net : NetNo) (line : ℕ) : Type 0 where
+  pub last : ℕ
+  pub is : IsLast p net last
+  pub low : line ≤ last
+
+pub last_of : (p : Placement) (net : NetNo) (line : ℕ) → Contains (lines_of p net) line → LastOf p net line
+last_of p net line there =
+    let e : Ends (lines_of p net) = ends_at_all (lines_of p net) line there in
+    record { last = e.last; is = record { place = e.last_there; none_behind = e.none_behind }; low = All-contains (λ z. z ≤ e.last) (lines_of p net) line e.none_behind there }
+
+-- the piece that holds a line
+pub record HeldBy (p : Placement) (pins : Pins) (net : NetNo) (line : ℕ) : Type 0 where
+  pub left : ℕ
+  pub right : ℕ
+  pub piece : IsPiece p pins net left right
+  pub begins : left ≤ line
+  pub ends : line ≤ right
+
+held_from : (p : Placement) (pins : Pins) (net : NetNo) (last line : ℕ) → HasTrunk p pins net → IsLast p net last → line ≤ last → (n m : ℕ) → IsMark p net m → m ≤ line → line < m + n → m < last → HeldBy p pins net line
+held_from p pins net last line trunk end within zero m mark low fuel less = absurd (omega (arith, low, fuel))
+held_from p pins net last line trunk end within (suc n) m mark low fuel less =
+    let next : NextPiece p pins net m last = next_piece p pins net m last trunk mark end less in
+    elim (cases_lt next.at line) [
+      | inr held ↦ record { left = m; right = next.at; piece = next.piece; begins = low; ends = held }
+      | inl more ↦ held_from p pins net last line trunk end within n next.at next.piece.ends (omega (arith, more)) (omega (arith, fuel, next.beyond)) (omega (arith, more, within))
+    ]
+
+pub piece_at : (p : Placement) (pins : Pins) (net : NetNo) (line : ℕ) → HasTrunk p pins net → Contains (lines_of p net) line → HeldBy p pins net line
+piece_at p pins net line trunk there = by (cases_lt e.first e.last)
+  where
+    e : Ends (lines_of p net)
+    e = ends_at_all (lines_of p net) line there
+
+    low : e.first ≤ line
+    low = All-contains (λ z. e.first ≤ z) (lines_of p net) line e.none_before there
+
+    high : line ≤ e.last
+    high = All-contains (λ z. z ≤ e.last) (lines_of p net) line e.none_behind there
+
+    by : (e.first < e.last) ⊎ (e.last ≤ e.first) → HeldBy p pins net line
+    by (inl less) =
+        held_from p pins net e.last line trunk (record { place = e.last_there; none_behind = e.none_behind }) high (suc line) e.first (inl (record { place = e.first_there; none_before = e.none_before })) low (omega arith) less
+    by (inr most) =
+        let one : e.last ≡ e.first = omega (arith, most, low, high) in
+        record {
+          left = e.first;
+          right = e.first;
+          piece = record {
+            trunk = trunk;
+            begins = inl (record { place = e.first_there; none_before = e.none_before });
+            ends = inl (record { place = e.first_there; none_before = e.none_before });
+            range = inr (refl, record { begins = e.first_there; ends = e.first_there; none_before = e.none_before; none_behind = subst (λ z. All (λ k. k ≤ z) (lines_of p net)) one e.none_behind });
+            none_between = λ k mark up down. absurd (omega (arith, up, down));
+          };
+          begins = low;
+          ends = omega (arith, high, one);
+        }

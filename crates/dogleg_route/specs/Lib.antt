@@ -1,0 +1,5 @@
+pub mod Cuts
+pub mod PieceCycles
+pub mod PieceWires
+pub mod Pieces
+pub mod Routings
