@@ -1,6 +1,12 @@
 mod Cutting
+mod Cycles
+mod Finds
+mod FirstLabels
 mod Marks
 mod Numbers
+mod OnePiecing
 mod PieceChannel
+mod PieceDensity
 mod PieceLegal
+mod PieceWalks
 mod Wired

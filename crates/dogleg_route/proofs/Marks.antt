@@ -23,6 +23,12 @@ mark_place p net line (inl first) = first.place
 mark_place p net line (inr (inl last)) = last.place
 mark_place p net line (inr (inr node)) = node_place p net line node
 
+-- a mark of the net between two lines of its places is a node line
+pub node_between : (p : Placement) (net : NetNo) (low line high : ℕ) → IsMark p net line → Contains (lines_of p net) low → Contains (lines_of p net) high → low < line → line < high → HasNode p net line
+node_between p net low line high (inl first) hl hh less more = absurd (omega (arith, less, All-contains (λ z. line ≤ z) (lines_of p net) low first.none_before hl))
+node_between p net low line high (inr (inl last)) hl hh less more = absurd (omega (arith, more, All-contains (λ z. z ≤ line) (lines_of p net) high last.none_behind hh))
+node_between p net low line high (inr (inr node)) hl hh less more = node
+
 -- the nearest node place of a net behind a line, or the last line
 pub record Behind (net : NetNo) (m last : ℕ) (nodes : List NodePlace) : Type 0 where
   pub at : ℕ
@@ -242,33 +248,32 @@ held_from p pins net last line trunk end within (suc n) m mark low fuel less =
       | inl more ↦ held_from p pins net last line trunk end within n next.at next.piece.ends (omega (arith, more)) (omega (arith, fuel, next.beyond)) (omega (arith, more, within))
     ]
 
-pub piece_at : (p : Placement) (pins : Pins) (net : NetNo) (line : ℕ) → HasTrunk p pins net → Contains (lines_of p net) line → HeldBy p pins net line
-piece_at p pins net line trunk there = by (cases_lt e.first e.last)
+-- of a line within the span of a net
+pub piece_over : (p : Placement) (pins : Pins) (net : NetNo) (first last line : ℕ) → HasTrunk p pins net → IsSpan p net first last → first ≤ line → line ≤ last → HeldBy p pins net line
+piece_over p pins net first last line trunk span low high = by (cases_lt first last)
   where
-    e : Ends (lines_of p net)
-    e = ends_at_all (lines_of p net) line there
-
-    low : e.first ≤ line
-    low = All-contains (λ z. e.first ≤ z) (lines_of p net) line e.none_before there
-
-    high : line ≤ e.last
-    high = All-contains (λ z. z ≤ e.last) (lines_of p net) line e.none_behind there
-
-    by : (e.first < e.last) ⊎ (e.last ≤ e.first) → HeldBy p pins net line
+    by : (first < last) ⊎ (last ≤ first) → HeldBy p pins net line
     by (inl less) =
-        held_from p pins net e.last line trunk (record { place = e.last_there; none_behind = e.none_behind }) high (suc line) e.first (inl (record { place = e.first_there; none_before = e.none_before })) low (omega arith) less
+        held_from p pins net last line trunk (record { place = span.ends; none_behind = span.none_behind }) high (suc line) first (inl (record { place = span.begins; none_before = span.none_before })) low (omega arith) less
     by (inr most) =
-        let one : e.last ≡ e.first = omega (arith, most, low, high) in
+        let one : last ≡ first = omega (arith, most, low, high) in
         record {
-          left = e.first;
-          right = e.first;
+          left = first;
+          right = first;
           piece = record {
             trunk = trunk;
-            begins = inl (record { place = e.first_there; none_before = e.none_before });
-            ends = inl (record { place = e.first_there; none_before = e.none_before });
-            range = inr (refl, record { begins = e.first_there; ends = e.first_there; none_before = e.none_before; none_behind = subst (λ z. All (λ k. k ≤ z) (lines_of p net)) one e.none_behind });
+            begins = inl (record { place = span.begins; none_before = span.none_before });
+            ends = inl (record { place = span.begins; none_before = span.none_before });
+            range = inr (refl, subst (λ z. IsSpan p net first z) one span);
             none_between = λ k mark up down. absurd (omega (arith, up, down));
           };
           begins = low;
           ends = omega (arith, high, one);
         }
+
+-- of a line of the places of a net
+pub piece_at : (p : Placement) (pins : Pins) (net : NetNo) (line : ℕ) → HasTrunk p pins net → Contains (lines_of p net) line → HeldBy p pins net line
+piece_at p pins net line trunk there =
+    let e : Ends (lines_of p net) = ends_at_all (lines_of p net) line there in
+    piece_over p pins net e.first e.last line trunk (record { begins = e.first_there; ends = e.last_there; none_before = e.none_before; none_behind = e.none_behind })
+    (All-contains (λ z. e.first ≤ z) (lines_of p net) line e.none_before there) (All-contains (λ z. z ≤ e.last) (lines_of p net) line e.none_behind there)

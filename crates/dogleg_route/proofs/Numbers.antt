@@ -1,12 +1,13 @@
 -- All cuts in order, and numbered.
-use Rattle.std.proofs.Common.{ℕ, suc, ◌≡◌, ◌≢◌, ◌+◌, ◌*◌, ◌<◌, ◌≤◌, ◌⊎◌, ◌==◌, ◌++◌, ltb, Bool, true, false, cond, List, [], ◌∷◌, map, inl, inr, refl, sym, ap, subst, arith, All, AllPairs, Any, Contains, get_or, IsPermutation, IsSorted, count_by, flat_map}
+use Rattle.std.proofs.Common.{ℕ, suc, ◌≡◌, ◌≢◌, ◌+◌, ◌*◌, ◌<◌, ◌≤◌, ◌⊎◌, ◌==◌, ◌++◌, ltb, Bool, true, false, cond, List, [], ◌∷◌, map, length, inl, inr, refl, sym, ap, subst, arith, All, AllPairs, Any, Contains, get_or, IsPermutation, IsSorted, count_by, flat_map}
 use Rattle.std.specs.declared.cmp.Ordering.TheVariants.{Equal}
 use Rattle.std.specs.Ordering.{is_lt, nat_cmp}
 use Rattle.std.proofs.lemmas.Bool.{cases_Bool, cases_eq, cases_order, eqb-true, eq-eqb, ltb-true}
+use Rattle.std.proofs.lemmas.Nat.{mul-le}
 use Rattle.std.proofs.lemmas.List.Elements.{All-nil, All-cons, All-contains}
 use Rattle.std.proofs.lemmas.List.Folds.{list_any_none}
 use Rattle.std.proofs.lemmas.List.Kept.{AllPairs-cons}
-use Rattle.std.proofs.lemmas.List.Sorted.{All-permutation, Contains-permutation, IsPermutation-sym}
+use Rattle.std.proofs.lemmas.List.Sorted.{All-permutation, Contains-permutation, length_permutation}
 use Rattle.cell_num.specs.declared.net.NetNo.{NetNo}
 use Rattle.cell_num.specs.declared.net.Pins.{Pins}
 use Rattle.cell_num.proofs.In.{Piece, in_flat, contains_flat}
@@ -17,6 +18,7 @@ use Rattle.row_place.specs.declared.placement.NodePlace.{NodePlace}
 use Rattle.row_place.specs.declared.placement.Placement.{Placement}
 use Rattle.row_place.specs.Places.{IsPlacement}
 use Rattle.row_place.specs.Trunks.{lines_of, HasTrunk}
+use Rattle.row_place.proofs.Bounds.{few_nodes}
 use Rattle.row_compact.proofs.Within.{few, net_line}
 use Rattle.channel_route.specs.declared.wire.Wire.{Wire}
 use Rattle.channel_route.specs.Wires.{IsWire, AreWires}
@@ -237,3 +239,17 @@ piece_wires p pins trunks sorted is h moved order = record {
 
     of_piece : (net : NetNo) (l r : ℕ) → IsPiece p pins net l r → Any (IsBetween net l r) wires
     of_piece net l r piece = let w : Some' (IsBetween net l r) wires = wire_of_piece net l r piece in any_at (IsBetween net l r) wires w.it w.there w.holds
+
+-- ---- how many
+few_cuts : (wires nodes stretches : ℕ) → wires ≤ 1024 → nodes ≤ 128 → stretches ≤ wires * (nodes + 1) → stretches ≤ 1000000
+few_cuts wires nodes stretches few low h = omega (arith, h, mul-le wires (nodes + 1) 1024 129 few (omega (arith, low)))
+
+pub few_sorted : (p : Placement) (trunks lent : List Wire) (nodes : List NodePlace) (cuts sorted shown : List Stretch) → IsPlacement p → lent ≡ trunks → nodes ≡ p.nodes → shown ≡ sorted → length trunks ≤ 1024 → length cuts ≤ length lent * (length nodes + 1) → IsPermutation cuts sorted → length shown ≤ 1000000
+few_sorted p trunks lent nodes cuts sorted shown is one two three few many moved =
+    let low : length nodes ≤ 128 = omega (arith, few_nodes p is, ap length two) in
+    let less : length lent ≤ 1024 = omega (arith, few, ap length one) in
+    omega (arith, few_cuts (length lent) (length nodes) (length cuts) less low many, length_permutation cuts sorted moved, ap length three)
+
+pub few_wires : (key : ℕ) (ss : List Stretch) → length (numbered_from key ss) ≡ length ss
+few_wires key [] = refl
+few_wires key (s ∷ more) = omega (arith, few_wires (key + 1) more)

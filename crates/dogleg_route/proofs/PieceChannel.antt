@@ -98,7 +98,7 @@ pub record IsWireAbove (p : Placement) (pins : Pins) (a b : Wire) (line : ℕ) :
 ends_on : (p : Placement) (pins : Pins) (w : Wire) (node : NodePlace) → IsPiece p pins w.net w.left w.right → Contains p.nodes node → node.net ≡ w.net → Holds w node.line → (w.left ≡ node.line) ⊎ (w.right ≡ node.line)
 ends_on p pins w node piece there of h = ends_at p pins w.net w.left w.right node.line piece (inr (inr (record { node = node; there = there; of = of; at = refl }))) h.0 h.1
 
-pair_above : (p : Placement) (pins : Pins) (wires : List Wire) → ArePieceWires p pins wires → (c : Constraint) (pair : IsPairOver wires p.nodes c) → IsWireAbove p pins pair.upper pair.lower c.line
+pub pair_above : (p : Placement) (pins : Pins) (wires : List Wire) → ArePieceWires p pins wires → (c : Constraint) (pair : IsPairOver wires p.nodes c) → IsWireAbove p pins pair.upper pair.lower c.line
 pair_above p pins wires h c pair =
     let upper : IsPiece p pins pair.upper.net pair.upper.left pair.upper.right = piece_of p pins wires h pair.upper pair.upper_there in
     let lower : IsPiece p pins pair.lower.net pair.lower.left pair.lower.right = piece_of p pins wires h pair.lower pair.lower_there in

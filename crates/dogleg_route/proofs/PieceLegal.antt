@@ -47,10 +47,10 @@ full_of : (p : Placement) (pins : Pins) (wires : List Wire) (placed : List Place
 full_of p pins wires placed pieces tracks d = record { channel = channel p pins wires d.wired; filled = d.filled }
 
 -- to and from the sorted list of pieces
-to_sorted : (p : Placement) (pins : Pins) (wires : List Wire) (placed : List PlacedWire) (pieces : List Trunk) (tracks : ℕ) → IsDone p pins wires placed pieces tracks → (t : PlacedWire) → Contains placed t → Contains pieces (trunk_of t)
+pub to_sorted : (p : Placement) (pins : Pins) (wires : List Wire) (placed : List PlacedWire) (pieces : List Trunk) (tracks : ℕ) → IsDone p pins wires placed pieces tracks → (t : PlacedWire) → Contains placed t → Contains pieces (trunk_of t)
 to_sorted p pins wires placed pieces tracks d t there = Contains-permutation (map trunk_of placed) pieces (trunk_of t) d.moved (contains_map trunk_of placed t there)
 
-from_sorted : (p : Placement) (pins : Pins) (wires : List Wire) (placed : List PlacedWire) (pieces : List Trunk) (tracks : ℕ) → IsDone p pins wires placed pieces tracks → (t : Trunk) → Contains pieces t → Image trunk_of placed t
+pub from_sorted : (p : Placement) (pins : Pins) (wires : List Wire) (placed : List PlacedWire) (pieces : List Trunk) (tracks : ℕ) → IsDone p pins wires placed pieces tracks → (t : Trunk) → Contains pieces t → Image trunk_of placed t
 from_sorted p pins wires placed pieces tracks d t there = in_map trunk_of placed t (Contains-permutation pieces (map trunk_of placed) t (IsPermutation-sym (map trunk_of placed) pieces d.moved) there)
 
 wire_there : (p : Placement) (pins : Pins) (wires : List Wire) (placed : List PlacedWire) (pieces : List Trunk) (tracks : ℕ) → IsDone p pins wires placed pieces tracks → (t : PlacedWire) → Contains placed t → Contains wires t.wire

@@ -14,9 +14,9 @@ use Rattle.row_place.specs.Trunks.{lines_of, HasTrunk, IsAbove}
 use Rattle.channel_route.specs.declared.routing.Trunk.{Trunk}
 use Rattle.channel_route.specs.Wiring.{HoldsLine, IsHeldAt, AreEnds, AreInOrder, AreJoined, IsWiring}
 use Rattle.dogleg_route.specs.declared.piece.PieceRouting.{PieceRouting}
-use Rattle.dogleg_route.specs.Pieces.{HasNode, IsFirst, IsLast, IsMark, IsRange, IsPiece}
+use Rattle.dogleg_route.specs.Pieces.{HasNode, IsRange, IsPiece}
 use Rattle.dogleg_route.specs.Routings.{GoesOver, EndsAt, StandsEarlier, IsPieceAbove, ArePiecesLegal, as_routing}
-use Rattle.dogleg_route.proofs.Marks.{NextPiece, IsStacked, HeldBy, LastOf, mark_place, next_piece, ascends, stacked, ends_at, piece_at, last_of}
+use Rattle.dogleg_route.proofs.Marks.{NextPiece, IsStacked, HeldBy, LastOf, mark_place, next_piece, ascends, stacked, ends_at, piece_at, last_of, node_between}
 
 -- each listed piece is one
 pub is_piece : (p : Placement) (pins : Pins) (r : PieceRouting) → ArePiecesLegal p pins r → (t : Trunk) → Contains r.pieces t → IsPiece p pins t.net t.left t.right
@@ -31,7 +31,7 @@ ends_of p pins r l t there =
     record { left = mark_place p t.net t.left piece.begins; right = mark_place p t.net t.right piece.ends; ascending = ascends p pins t.net t.left t.right piece }
 
 -- of two pieces of a net the one that begins first ends where the other begins, or before
-one_net : (p : Placement) (pins : Pins) (r : PieceRouting) → ArePiecesLegal p pins r → (a b : Trunk) → Contains r.pieces a → Contains r.pieces b → a.net ≡ b.net → a.left < b.left → IsStacked a.right b.left b.right
+pub one_net : (p : Placement) (pins : Pins) (r : PieceRouting) → ArePiecesLegal p pins r → (a b : Trunk) → Contains r.pieces a → Contains r.pieces b → a.net ≡ b.net → a.left < b.left → IsStacked a.right b.left b.right
 one_net p pins r l a b ha hb same less =
     stacked p pins a.net a.left a.right b.left b.right (is_piece p pins r l a ha) (subst (λ n. IsPiece p pins n b.left b.right) (sym same) (is_piece p pins r l b hb)) less
 
@@ -81,12 +81,6 @@ none_between p pins r l at a b t here next same (k, short, is) of low high =
     before : StandsEarlier t a → ⊥
     before (inl less) = omega (arith, less, ap (λ (n : NetNo). n.0) of)
     before (inr (_, less)) = omega (arith, less, low)
-
--- a mark of the net between two lines of its places is a node line
-node_between : (p : Placement) (net : NetNo) (low line high : ℕ) → IsMark p net line → Contains (lines_of p net) low → Contains (lines_of p net) high → low < line → line < high → HasNode p net line
-node_between p net low line high (inl first) hl hh less more = absurd (omega (arith, less, All-contains (λ z. line ≤ z) (lines_of p net) low first.none_before hl))
-node_between p net low line high (inr (inl last)) hl hh less more = absurd (omega (arith, more, All-contains (λ z. z ≤ line) (lines_of p net) high last.none_behind hh))
-node_between p net low line high (inr (inr node)) hl hh less more = node
 
 joined : (p : Placement) (pins : Pins) (r : PieceRouting) → ArePiecesLegal p pins r → (at : ℕ) (a b : Trunk) → slice_get r.pieces at ≡ Some a → slice_get r.pieces (at + 1) ≡ Some b → a.net ≡ b.net → AreJoined p a b
 joined p pins r l at a b here next same = record { meets = meets; node = node.node; there = node.there; net = node.of; line = node.at }

@@ -1,4 +1,5 @@
 pub mod Cuts
+pub mod Firsts
 pub mod PieceCycles
 pub mod PieceWires
 pub mod Pieces

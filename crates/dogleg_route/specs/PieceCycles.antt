@@ -1,5 +1,5 @@
 -- Cycles of pieces that stand above each other. A piece is told by its net and its first line.
-use Rattle.std.specs.Prelude.{ℕ, ◌≡◌, ◌≢◌, ◌<◌, ◌⊎◌, List, [], ◌∷◌, length, AllPairs}
+use Rattle.std.specs.Prelude.{ℕ, ◌≡◌, ◌≢◌, ◌<◌, ◌⊎◌, List, [], ◌∷◌, length, All, AllPairs}
 use Rattle.std.specs.Bool.{⊤}
 use Rattle.cell_num.specs.declared.net.Pins.{Pins}
 use Rattle.row_place.specs.declared.placement.Placement.{Placement}
@@ -38,11 +38,24 @@ abbrev pub IsPieceCycle : Placement → Pins → List WireAbove → Type 0
 IsPieceCycle placement pins [] = ⊥
 IsPieceCycle placement pins (first ∷ rest) = IsRound placement pins first rest
 
+-- the piece of the one entry comes before that of the other, in the order of first line, last line and net
+pub record IsEntryEarlier (placement : Placement) (pins : Pins) (a b : WireAbove) : Type 0 where
+  pub right : ℕ
+  pub piece : IsPiece placement pins a.net a.left right
+  pub other_right : ℕ
+  pub other : IsPiece placement pins b.net b.left other_right
+  pub earlier : (a.left < b.left) ⊎ ((a.left ≡ b.left) × ((right < other_right) ⊎ ((right ≡ other_right) × (a.net.0 < b.net.0))))
+
+-- the first entry comes before the others
+abbrev pub BeginsFirst : Placement → Pins → List WireAbove → Type 0
+BeginsFirst placement pins [] = ⊥
+BeginsFirst placement pins (first ∷ rest) = All (IsEntryEarlier placement pins first) rest
+
 -- no list is a cycle of pieces
 abbrev pub HasNoPieceCycle : Placement → Pins → Type 0
 HasNoPieceCycle placement pins = (cycle : List WireAbove) → IsPieceCycle placement pins cycle → ⊥
 
--- what stops the router
+-- what stops the router: a cycle of pieces, written from its first one on
 abbrev pub IsPieceCause : Placement → Pins → PieceStop → Type 0
-IsPieceCause placement pins (Cycle cycle) = IsPieceCycle placement pins cycle
+IsPieceCause placement pins (Cycle cycle) = IsPieceCycle placement pins cycle × BeginsFirst placement pins cycle
 IsPieceCause placement pins NoMemory = ⊤

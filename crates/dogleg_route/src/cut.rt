@@ -8,9 +8,6 @@ use channel_route::{MOST_WIRES, Wire};
 use row_place::NodePlace;
 use std::alloc::{AllocError, Global};
 
-/// More pieces than a row has.
-pub const MOST_PIECES: usize = 1_000_000;
-
 /// A part of a net from one line to another. Stretches are in order of first line, last line and net.
 #[derive(Clone, Copy, Debug, PartialEq, Eq, PartialOrd, Ord)]
 pub struct Stretch {

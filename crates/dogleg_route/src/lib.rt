@@ -2,9 +2,13 @@
 #![tactic(auto)]
 
 pub mod cut;
+pub mod drawn;
 pub mod laws;
 pub mod piece;
+pub mod router;
 
-pub use cut::{MOST_PIECES, Stretch};
-pub use laws::{pieces_apart, pieces_are_wired};
+pub use cut::Stretch;
+pub use drawn::{draw_pieces, piece_distances};
+pub use laws::{no_piece_cycle, one_piece_routing, pieces_apart, pieces_are_wired};
 pub use piece::{Piece, PieceAbove, PieceCycle, PieceList, PieceRouting, PieceStop};
+pub use router::route_pieces;
