@@ -1,9 +1,8 @@
 -- The cuts of a wire are the pieces of its net.
 use Rattle.std.proofs.Common.{ℕ, ◌≡◌, ◌<◌, ◌≤◌, ◌⊎◌, ◌==◌, ◌||◌, ltb, Bool, true, false, cond, List, [], ◌∷◌, inl, inr, refl, sym, ap, subst, arith, All, AllPairs, Contains}
-use Rattle.std.proofs.lemmas.Bool.{cases_Bool, cases_lt, cases_order, and_parts, and_from, ltb-true, lt-ltb, eqb-true, eq-eqb}
+use Rattle.std.proofs.lemmas.Bool.{cases_Bool, cases_lt, and_parts, and_from, ltb-true, lt-ltb, eqb-true, eq-eqb}
 use Rattle.std.proofs.lemmas.List.Elements.{All-nil, All-cons, All-contains}
 use Rattle.std.proofs.lemmas.List.Kept.{AllPairs-cons}
-use Rattle.cell_num.specs.declared.net.NetNo.{NetNo}
 use Rattle.cell_num.specs.declared.net.Pins.{Pins}
 use Rattle.cell_num.proofs.Lists.{contains_none, contains_cons, contains_here, contains_there, all_imply, all_one}
 use Rattle.cell_num.proofs.Pairs.{pairs_none, pairs_one, pairs_tail, pairs_head}
@@ -11,13 +10,13 @@ use Rattle.row_model.proofs.Decide.{net_decides}
 use Rattle.row_place.specs.declared.placement.NodePlace.{NodePlace}
 use Rattle.row_place.specs.declared.placement.Placement.{Placement}
 use Rattle.row_place.specs.Places.{StandsBefore, IsPlacement}
-use Rattle.row_place.specs.Trunks.{lines_of, HasTrunk, IsSpan}
+use Rattle.row_place.specs.Trunks.{lines_of, IsSpan}
 use Rattle.channel_route.specs.declared.wire.Wire.{Wire}
 use Rattle.channel_route.specs.Wires.{IsWire}
 use Rattle.dogleg_route.specs.declared.cut.Stretch.{Stretch}
-use Rattle.dogleg_route.specs.Cuts.{stretch, cuts_at, is_left, rest_of, cuts_from, cuts_of}
+use Rattle.dogleg_route.specs.Cuts.{stretch, cuts_at, is_left, cuts_from}
 use Rattle.dogleg_route.specs.Pieces.{HasNode, IsMark, IsRange, IsPiece}
-use Rattle.dogleg_route.proofs.Marks.{IsStacked, node_place, mark_place, one_line, ascends, stacked, one_right}
+use Rattle.dogleg_route.proofs.Marks.{IsStacked, node_place, mark_place, one_line, stacked, one_right}
 
 -- A wire is cut up to a mark: what its net has behind the mark stands ahead, in order.
 pub record AtCut (p : Placement) (pins : Pins) (w : Wire) (from : ℕ) (nodes : List NodePlace) : Type 0 where

@@ -1,11 +1,10 @@
 -- Where the trunks have no cycle the pieces have none: the nets of a cycle of pieces are a closed walk over
 -- nets, and where it comes back to a net for the first time there is a cycle.
-use Rattle.std.proofs.Common.{ℕ, ◌≡◌, ◌≢◌, ◌<◌, ◌≤◌, ◌⊎◌, ◌++◌, ◌==◌, Bool, true, false, List, [], ◌∷◌, map, length, drop, take, get_or, inl, inr, refl, sym, ap, subst, arith, All, Contains}
-use Rattle.std.proofs.lemmas.Bool.{cases_Bool, cases_lt, eqb-true, eq-eqb}
-use Rattle.std.proofs.lemmas.List.Elements.{All-nil, All-cons, All-contains, Contains-append_left, Contains-push}
-use Rattle.cell_num.specs.declared.net.NetNo.{NetNo}
+use Rattle.std.proofs.Common.{ℕ, ◌≡◌, ◌≢◌, ◌≤◌, ◌++◌, ◌==◌, Bool, true, false, List, [], ◌∷◌, map, drop, take, inl, inr, refl, sym, ap, subst, arith, All, Contains}
+use Rattle.std.proofs.lemmas.Bool.{cases_lt, eqb-true, eq-eqb}
+use Rattle.std.proofs.lemmas.List.Elements.{All-nil, All-cons, Contains-append_left}
 use Rattle.cell_num.specs.declared.net.Pins.{Pins}
-use Rattle.cell_num.proofs.Lists.{contains_none, contains_here, contains_there, all_imply}
+use Rattle.cell_num.proofs.Lists.{contains_here, contains_there, all_imply}
 use Rattle.cell_num.proofs.Pairs.{Some', test_finds, test_there, OneEach, one_each_push}
 use Rattle.row_place.specs.declared.placement.Placement.{Placement}
 use Rattle.row_place.specs.Trunks.{IsAbove}

@@ -1,5 +1,5 @@
 -- What is found in a list by a test.
-use Rattle.std.proofs.Common.{◌≡◌, ◌⊎◌, Bool, true, false, List, [], ◌∷◌, Option, Some, None, inl, inr, refl, sym, subst, ◌∙◌, AllPairs, Contains, find, filter}
+use Rattle.std.proofs.Common.{◌≡◌, ◌⊎◌, Bool, true, false, List, [], ◌∷◌, Some, None, inl, inr, refl, sym, subst, ◌∙◌, AllPairs, Contains, find, filter}
 use Rattle.std.proofs.lemmas.List.Elements.{All-contains}
 use Rattle.cell_num.proofs.Lists.{some_same, contains_none, contains_cons, contains_here, contains_there}
 use Rattle.cell_num.proofs.Pairs.{pairs_tail, pairs_head}

@@ -1,16 +1,12 @@
 -- The label of a net with pieces stands on the first of them.
-use Rattle.std.proofs.Common.{ℕ, ◌≡◌, ◌+◌, ◌<◌, ◌≤◌, ◌⊎◌, ◌==◌, Bool, true, false, if◌then◌else◌, List, [], ◌∷◌, Option, Some, None, inl, inr, refl, sym, ap, subst, ◌∙◌, arith, AllPairs, Contains, length, map, option_map, find}
+use Rattle.std.proofs.Common.{ℕ, ◌≡◌, ◌+◌, ◌<◌, ◌≤◌, ◌==◌, Bool, true, false, if◌then◌else◌, List, Option, Some, None, inl, inr, refl, sym, ap, subst, ◌∙◌, arith, Contains, length, option_map}
 use Rattle.std.specs.List.{range_with_len}
-use Rattle.std.proofs.lemmas.Bool.{cases_Bool}
-use Rattle.std.proofs.lemmas.List.Elements.{All-contains}
 use Rattle.std.proofs.lemmas.List.FromFn.{length-range_with_len, get_or-range_with_len}
-use Rattle.box_geom.specs.declared.shape.Shapes.{Shapes}
 use Rattle.cell_num.specs.declared.net.NetNo.{NetNo}
 use Rattle.cell_num.specs.declared.net.Pins.{Pins}
 use Rattle.cell_num.specs.Pins.{IsRail}
 use Rattle.cell_num.proofs.In.{contains_map}
-use Rattle.cell_num.proofs.Lists.{some_same, contains_none, contains_cons, contains_here, contains_there, contains_filter_map}
-use Rattle.cell_num.proofs.Pairs.{pairs_tail, pairs_head}
+use Rattle.cell_num.proofs.Lists.{some_same, contains_filter_map}
 use Rattle.row_model.proofs.Decide.{net_decides}
 use Rattle.row_place.specs.declared.placement.Placement.{Placement}
 use Rattle.row_place.specs.Places.{IsPlacement}
@@ -27,7 +23,7 @@ use Rattle.cell_draw.specs.Layouts.{width_of, metal_tag, or_else, place_tag, net
 use Rattle.cell_draw.specs.Sound.{IsSoundRow}
 use Rattle.cell_draw.proofs.NetsNamed.{place_low}
 use Rattle.dogleg_route.specs.declared.piece.PieceRouting.{PieceRouting}
-use Rattle.dogleg_route.specs.Firsts.{IsFirstPiece, ShowsPiece, ShowsFirsts}
+use Rattle.dogleg_route.specs.Firsts.{IsFirstPiece, ShowsFirsts}
 use Rattle.dogleg_route.specs.Pieces.{IsPiece}
 use Rattle.dogleg_route.specs.Routings.{StandsEarlier, ArePiecesLegal, as_routing}
 use Rattle.dogleg_route.proofs.Finds.{Found, found_there, found_first, none_found}

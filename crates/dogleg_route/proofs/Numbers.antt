@@ -1,23 +1,20 @@
 -- All cuts in order, and numbered.
-use Rattle.std.proofs.Common.{ℕ, suc, ◌≡◌, ◌≢◌, ◌+◌, ◌*◌, ◌<◌, ◌≤◌, ◌⊎◌, ◌==◌, ◌++◌, ltb, Bool, true, false, cond, List, [], ◌∷◌, map, length, inl, inr, refl, sym, ap, subst, arith, All, AllPairs, Any, Contains, get_or, IsPermutation, IsSorted, count_by, flat_map}
-use Rattle.std.specs.declared.cmp.Ordering.TheVariants.{Equal}
-use Rattle.std.specs.Ordering.{is_lt, nat_cmp}
-use Rattle.std.proofs.lemmas.Bool.{cases_Bool, cases_eq, cases_order, eqb-true, eq-eqb, ltb-true}
+use Rattle.std.proofs.Common.{ℕ, ◌≡◌, ◌≢◌, ◌+◌, ◌*◌, ◌<◌, ◌≤◌, ◌⊎◌, true, false, List, [], ◌∷◌, length, inl, inr, refl, sym, ap, subst, arith, All, AllPairs, Any, Contains, get_or, IsPermutation, IsSorted}
+use Rattle.std.specs.Ordering.{is_lt}
+use Rattle.std.proofs.lemmas.Bool.{cases_order}
 use Rattle.std.proofs.lemmas.Nat.{mul-le}
-use Rattle.std.proofs.lemmas.List.Elements.{All-nil, All-cons, All-contains}
-use Rattle.std.proofs.lemmas.List.Folds.{list_any_none}
+use Rattle.std.proofs.lemmas.List.Elements.{All-contains}
 use Rattle.std.proofs.lemmas.List.Kept.{AllPairs-cons}
 use Rattle.std.proofs.lemmas.List.Sorted.{All-permutation, Contains-permutation, length_permutation}
 use Rattle.cell_num.specs.declared.net.NetNo.{NetNo}
 use Rattle.cell_num.specs.declared.net.Pins.{Pins}
 use Rattle.cell_num.proofs.In.{Piece, in_flat, contains_flat}
 use Rattle.cell_num.proofs.Lists.{contains_none, contains_cons, contains_here, contains_there, all_imply, all_from_contains}
-use Rattle.cell_num.proofs.Pairs.{Some', any_at, OneEach, one_each_permutation, none_counted, pairs_none, pairs_tail, pairs_head, pairs_flat, pairs_differ, pairs_from_sorted}
-use Rattle.cell_num.proofs.Permutations.{count_cons}
+use Rattle.cell_num.proofs.Pairs.{Some', any_at, one_each_permutation, pairs_none, pairs_tail, pairs_head, pairs_flat, pairs_differ, pairs_from_sorted}
 use Rattle.row_place.specs.declared.placement.NodePlace.{NodePlace}
 use Rattle.row_place.specs.declared.placement.Placement.{Placement}
 use Rattle.row_place.specs.Places.{IsPlacement}
-use Rattle.row_place.specs.Trunks.{lines_of, HasTrunk}
+use Rattle.row_place.specs.Trunks.{lines_of}
 use Rattle.row_place.proofs.Bounds.{few_nodes}
 use Rattle.row_compact.proofs.Within.{few, net_line}
 use Rattle.channel_route.specs.declared.wire.Wire.{Wire}
@@ -25,40 +22,13 @@ use Rattle.channel_route.specs.Wires.{IsWire, AreWires}
 use Rattle.channel_route.proofs.NetWires.{cmp_less}
 use Rattle.channel_route.proofs.TrunkChannel.{is_wire, wire_of_net}
 use Rattle.dogleg_route.specs.declared.cut.Stretch.{Stretch}
-use Rattle.dogleg_route.specs.Cuts.{stretch, cuts_from, cuts_of, all_cuts, stretch_cmp, wire_at, numbered_from}
+use Rattle.dogleg_route.specs.Cuts.{stretch, cuts_of, all_cuts, stretch_cmp, wire_at, numbered_from}
 use Rattle.dogleg_route.specs.Pieces.{IsPiece}
 use Rattle.dogleg_route.specs.PieceWires.{IsPieceWire, IsBetween, ComesBefore, ArePieceWires}
-use Rattle.dogleg_route.proofs.Cutting.{AtCut, IsCut, Rises, above_left, sound, rising, complete, begun}
-use Rattle.dogleg_route.proofs.Marks.{HeldBy, mark_place, piece_at}
-
-pub cmp_same : (a b : ℕ) → a ≡ b → nat_cmp a b ≡ Equal
-cmp_same a b h = subst (λ n. nat_cmp a n ≡ Equal) h (rw (not_below a) (rw (eq-eqb a a refl) refl))
-  where
-    not_below : (n : ℕ) → ltb n n ≡ false
-    not_below n = elim (cases_Bool (ltb n n)) [ inl less ↦ absurd (let wrong : n < n = ltb-true n n less in omega (arith, wrong)) | inr fine ↦ fine ]
-
--- elements of pairwise different numbers
-pub one_each_from_pairs : {X : Type 0} (key : X → ℕ) (xs : List X) → AllPairs (λ a b. key a ≢ key b) xs → OneEach key xs
-one_each_from_pairs key [] h n = omega arith
-one_each_from_pairs {X} key (x ∷ xs) h n =
-    elim (cases_eq (key x) n) [
-      | inl same ↦
-          let one : ◌≡◌ {A = ℕ} (cond (key x == n) 1 0) 1 = rw (eq-eqb (key x) n same) refl in
-          let none : count_by (λ y. key y == n) xs ≡ 0 = none_counted (λ y. key y == n) xs (list_any_none (λ y. key y == n) xs (all_from_contains (λ y. (key y == n) ≡ false) xs (λ y there. other y same there))) in
-          omega (arith, one, none, count_cons (λ y. key y == n) x xs)
-      | inr differ ↦ omega (arith, at_most (key x == n) differ refl, one_each_from_pairs key xs (pairs_tail (λ a b. key a ≢ key b) x xs h) n, count_cons (λ y. key y == n) x xs)
-    ]
-  where
-    other : (y : X) → key x ≡ n → Contains xs y → (key y == n) ≡ false
-    other y same there =
-        elim (cases_Bool (key y == n)) [
-          | inr e ↦ e
-          | inl e ↦ absurd (All-contains (λ b. key x ≢ key b) xs y (pairs_head (λ a b. key a ≢ key b) x xs h) there (omega (arith, same, eqb-true (key y) n e)))
-        ]
-
-    at_most : (b : Bool) → key x ≢ n → (key x == n) ≡ b → ◌≡◌ {A = ℕ} (cond (key x == n) 1 0) 0
-    at_most true differ e = absurd (differ (eqb-true (key x) n e))
-    at_most false differ e = rw e refl
+use Rattle.dogleg_route.proofs.Cutting.{IsCut, Rises, above_left, sound, rising, complete, begun}
+use Rattle.dogleg_route.proofs.Holding.{HeldBy, piece_at}
+use Rattle.dogleg_route.proofs.Marks.{mark_place}
+use Rattle.dogleg_route.proofs.Sorting.{cmp_same, one_each_from_pairs}
 
 -- ---- all cuts
 -- a stretch that is a piece

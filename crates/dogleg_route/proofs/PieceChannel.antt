@@ -5,10 +5,10 @@ use Rattle.cell_num.specs.declared.net.NetNo.{NetNo}
 use Rattle.cell_num.specs.declared.net.Pins.{Pins}
 use Rattle.cell_num.specs.declared.finger.Row.TheVariants.{P, N}
 use Rattle.cell_num.proofs.Lists.{all_from_contains}
-use Rattle.cell_num.proofs.Pairs.{Some', some_from_any, any_at, one_each_same}
+use Rattle.cell_num.proofs.Pairs.{any_at, one_each_same}
 use Rattle.row_place.specs.declared.placement.NodePlace.{NodePlace}
 use Rattle.row_place.specs.declared.placement.Placement.{Placement}
-use Rattle.row_place.specs.Trunks.{HasTrunk, IsAbove}
+use Rattle.row_place.specs.Trunks.{IsAbove}
 use Rattle.channel_route.specs.declared.wire.Wire.{Wire}
 use Rattle.channel_route.specs.declared.constraint.Constraint.{Constraint}
 use Rattle.channel_route.specs.Graph.{IsBefore, AreDistinct, IsChannel}
@@ -16,10 +16,10 @@ use Rattle.channel_route.specs.Turn.{IsOver}
 use Rattle.channel_route.specs.Wires.{constraints_of}
 use Rattle.channel_route.proofs.ConstraintsOf.{Holds, IsPairOver, KeysAscend, pair_is}
 use Rattle.channel_route.proofs.OneRouting.{either}
-use Rattle.dogleg_route.specs.Pieces.{IsMark, IsPiece}
+use Rattle.dogleg_route.specs.Pieces.{IsPiece}
 use Rattle.dogleg_route.specs.PieceWires.{IsPieceWire, ComesBefore, ArePieceWires}
 use Rattle.dogleg_route.proofs.Marks.{IsStacked, ascends, stacked, one_right, ends_at}
-use Rattle.dogleg_route.proofs.Numbers.{one_each_from_pairs}
+use Rattle.dogleg_route.proofs.Sorting.{one_each_from_pairs}
 
 pub piece_of : (p : Placement) (pins : Pins) (wires : List Wire) → ArePieceWires p pins wires → (w : Wire) → Contains wires w → IsPiece p pins w.net w.left w.right
 piece_of p pins wires h w there = All-contains (IsPieceWire p pins) wires w h.each there

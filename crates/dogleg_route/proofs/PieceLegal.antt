@@ -12,7 +12,7 @@ use Rattle.cell_num.proofs.Pairs.{Some', some_from_any, any_at, OneEach, one_eac
 use Rattle.row_model.proofs.Decide.{net_decides}
 use Rattle.row_place.specs.declared.placement.Placement.{Placement}
 use Rattle.row_place.specs.Places.{IsPlacement}
-use Rattle.row_place.specs.Trunks.{HasTrunk, IsAbove}
+use Rattle.row_place.specs.Trunks.{HasTrunk}
 use Rattle.row_compact.proofs.Within.{few, net_line}
 use Rattle.channel_route.specs.declared.routing.Trunk.{Trunk}
 use Rattle.channel_route.specs.declared.wire.Wire.{Wire}
@@ -26,10 +26,10 @@ use Rattle.channel_route.proofs.FilledTracks.{IsFull, IsFreeWire, count_map, pla
 use Rattle.channel_route.proofs.NetWires.{cmp_less}
 use Rattle.dogleg_route.specs.declared.piece.PieceRouting.{PieceRouting}
 use Rattle.dogleg_route.specs.Pieces.{IsPiece}
-use Rattle.dogleg_route.specs.PieceWires.{IsBetween, ComesBefore, ArePieceWires}
+use Rattle.dogleg_route.specs.PieceWires.{IsBetween, ArePieceWires}
 use Rattle.dogleg_route.specs.Routings.{GoesOver, EndsAt, IsPieceAbove, StandsEarlier, ArePiecesLegal, IsPieceEarlier, IsPieceFree, ArePiecesTight}
 use Rattle.dogleg_route.proofs.Marks.{mark_place, ascends}
-use Rattle.dogleg_route.proofs.Numbers.{cmp_same, one_each_from_pairs}
+use Rattle.dogleg_route.proofs.Sorting.{cmp_same, one_each_from_pairs}
 use Rattle.dogleg_route.proofs.PieceChannel.{IsWireAbove, piece_of, same_wire, key_less, channel, wire_above}
 
 -- the tracks of the pieces of a placement, filled

@@ -1,6 +1,5 @@
 -- Cycles of pieces: none where a routing is legal, one where wires are left.
-use Rattle.std.proofs.Common.{ℕ, ◌≡◌, ◌≢◌, ◌<◌, ◌⊎◌, List, [], ◌∷◌, map, length, inl, inr, refl, sym, ap, subst, arith, All, Contains, AllPairs}
-use Rattle.std.specs.Bool.{⊤}
+use Rattle.std.proofs.Common.{ℕ, ◌≡◌, ◌≢◌, ◌<◌, ◌⊎◌, List, [], ◌∷◌, map, length, inl, inr, sym, ap, subst, arith, All, Contains}
 use Rattle.std.proofs.lemmas.Bool.{cases_eq}
 use Rattle.std.proofs.lemmas.List.Elements.{All-contains, All-head, All-tail}
 use Rattle.cell_num.specs.declared.net.NetNo.{NetNo}

@@ -1,5 +1,5 @@
 -- A legal routing of pieces is a wiring: the spans of the nets, cut at all their inner node lines.
-use Rattle.std.proofs.Common.{ℕ, ◌≡◌, ◌+◌, ◌<◌, ◌≤◌, ◌⊎◌, List, Some, slice_get, inl, inr, refl, sym, ap, subst, arith, Contains, Any, get_or}
+use Rattle.std.proofs.Common.{ℕ, ◌≡◌, ◌+◌, ◌<◌, ◌≤◌, Some, slice_get, inl, inr, refl, sym, ap, subst, arith, Contains, get_or}
 use Rattle.std.proofs.lemmas.Bool.{cases_lt, cases_order}
 use Rattle.std.proofs.lemmas.List.Elements.{All-contains, Contains-get_or}
 use Rattle.std.proofs.lemmas.Option.{slice_get_within, get_or_from_slice_get}
@@ -10,13 +10,14 @@ use Rattle.cell_num.proofs.Lists.{all_from_contains, contains_get}
 use Rattle.cell_num.proofs.Pairs.{Some', some_from_any, any_at, pairs_at}
 use Rattle.row_place.specs.declared.placement.NodePlace.{NodePlace}
 use Rattle.row_place.specs.declared.placement.Placement.{Placement}
-use Rattle.row_place.specs.Trunks.{lines_of, HasTrunk, IsAbove}
+use Rattle.row_place.specs.Trunks.{lines_of, HasTrunk}
 use Rattle.channel_route.specs.declared.routing.Trunk.{Trunk}
 use Rattle.channel_route.specs.Wiring.{HoldsLine, IsHeldAt, AreEnds, AreInOrder, AreJoined, IsWiring}
 use Rattle.dogleg_route.specs.declared.piece.PieceRouting.{PieceRouting}
 use Rattle.dogleg_route.specs.Pieces.{HasNode, IsRange, IsPiece}
-use Rattle.dogleg_route.specs.Routings.{GoesOver, EndsAt, StandsEarlier, IsPieceAbove, ArePiecesLegal, as_routing}
-use Rattle.dogleg_route.proofs.Marks.{NextPiece, IsStacked, HeldBy, LastOf, mark_place, next_piece, ascends, stacked, ends_at, piece_at, last_of, node_between}
+use Rattle.dogleg_route.specs.Routings.{GoesOver, EndsAt, StandsEarlier, ArePiecesLegal, as_routing}
+use Rattle.dogleg_route.proofs.Holding.{HeldBy, LastOf, piece_at, last_of}
+use Rattle.dogleg_route.proofs.Marks.{NextPiece, IsStacked, mark_place, next_piece, ascends, stacked, ends_at, node_between}
 
 -- each listed piece is one
 pub is_piece : (p : Placement) (pins : Pins) (r : PieceRouting) → ArePiecesLegal p pins r → (t : Trunk) → Contains r.pieces t → IsPiece p pins t.net t.left t.right

@@ -1,9 +1,8 @@
 -- The pieces of a placement as a list.
-use Rattle.std.specs.Prelude.{ℕ, ◌≡◌, ◌+◌, ◌<◌, ◌⊎◌, ◌&&◌, ◌||◌, ◌==◌, ltb, Bool, cond, List, [], ◌∷◌, flat_map}
+use Rattle.std.specs.Prelude.{ℕ, ◌+◌, ◌&&◌, ◌||◌, ◌==◌, ltb, Bool, cond, List, [], ◌∷◌, flat_map}
 use Rattle.std.specs.declared.cmp.Ordering.{Ordering}
 use Rattle.std.specs.Ordering.{nat_cmp, ordering_then}
 use Rattle.row_place.specs.declared.placement.NodePlace.{NodePlace}
-use Rattle.row_place.specs.declared.placement.Placement.{Placement}
 use Rattle.channel_route.specs.declared.routing.WireAbove.{WireAbove}
 use Rattle.channel_route.specs.declared.cycle.Step.{Step}
 use Rattle.channel_route.specs.declared.wire.Wire.{Wire}

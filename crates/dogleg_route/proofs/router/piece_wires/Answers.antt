@@ -1,4 +1,4 @@
-use Rattle.std.proofs.Common.{ℕ, ◌≡◌, ◌≤◌, List, length, arith, rules, sym, subst, IsPermutation}
+use Rattle.std.proofs.Common.{◌≡◌, ◌≤◌, List, length, arith, rules, sym, subst, IsPermutation}
 use Rattle.row_place.specs.declared.placement.NodePlace.{NodePlace}
 use Rattle.channel_route.specs.declared.wire.Wire.{Wire}
 use Rattle.dogleg_route.specs.declared.cut.Stretch.{Stretch}

@@ -1,4 +1,4 @@
-use Rattle.std.proofs.Common.{◌≡◌, ◌≢◌, List, [], All, Contains, IsPermutation, get_or, map, ap, rules, sym, subst}
+use Rattle.std.proofs.Common.{◌≡◌, ◌≢◌, List, [], All, Contains, IsPermutation, map, rules, sym, subst}
 use Rattle.channel_route.specs.declared.routing.Trunk.{Trunk}
 use Rattle.channel_route.specs.declared.routing.WireAbove.{WireAbove}
 use Rattle.channel_route.specs.declared.constraint.Constraint.{Constraint}
