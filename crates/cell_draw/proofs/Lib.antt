@@ -34,7 +34,7 @@ mod NetsJoined
 mod NetsKinds
 mod NetsLinks
 mod NetsLow
-mod NetsNamed
+pub mod NetsNamed
 mod NetsPlaces
 mod NetsRouted
 mod NetsWhole

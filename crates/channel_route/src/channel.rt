@@ -24,8 +24,8 @@ fn sort(trunks: &mut Vec<Trunk>)
     trunks.sort_unstable();
 }
 
-// The trunks of wires, in order of net.
-fn trunks_of(alloc: Global, placed: &[PlacedWire]) -> Result<Vec<Trunk>, AllocError>
+/// The trunks of wires on their tracks, in order of net, then first line.
+pub fn trunks_of(alloc: Global, placed: &[PlacedWire]) -> Result<Vec<Trunk>, AllocError>
     ensures moved { IfOk result (λ trunks. IsPermutation (map trunk_of placed.now) trunks.items) }
     ensures sorted { IfOk result (λ trunks. IsSorted trunk_cmp trunks.items) }
 {

@@ -9,7 +9,7 @@ pub mod routing;
 mod sweep;
 mod wire;
 
-pub use channel::route;
+pub use channel::{route, trunks_of};
 pub use constraint::{Constraint, constraints};
 pub use cycle::{Step, find_cycle};
 pub use laws::{no_cycle, one_routing, one_told};

@@ -1,3 +1,4 @@
 mod Halves
+mod HasPlaces
 mod Inverter
 mod Spread

@@ -12,7 +12,7 @@ use std::test::Fail;
 
 // The inverter, pins `a y vdd gnd`: its P finger is 20 wide, its N finger 10.
 #[tactic(auto, using(crate::proofs::Inverter::sound_if))]
-fn inverter(alloc: Global) -> Result<Cell, NoMemory>
+pub fn inverter(alloc: Global) -> Result<Cell, NoMemory>
     ensures sound { IfOk result (λ cell. IsSoundRow cell.names cell.pins cell.row) }
     ensures pins { IfOk result (λ cell. ArePins (length cell.names) cell.pins) }
     ensures few { IfOk result (λ cell. length cell.row ≤ 32) }

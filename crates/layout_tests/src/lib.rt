@@ -26,6 +26,8 @@ mod libraries;
 #[cfg(test)]
 mod nets;
 #[cfg(test)]
+mod pieces;
+#[cfg(test)]
 mod records;
 #[cfg(test)]
 mod rules;

@@ -1,0 +1,15 @@
+mod Cutting
+mod Cycles
+mod Finds
+mod FirstLabels
+mod Holding
+mod Marks
+mod NodeLines
+mod Numbers
+mod OnePiecing
+mod PieceChannel
+mod PieceDensity
+mod PieceLegal
+mod PieceWalks
+mod Sorting
+mod Wired

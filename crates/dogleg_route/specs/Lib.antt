@@ -1,0 +1,6 @@
+pub mod Cuts
+pub mod Firsts
+pub mod PieceCycles
+pub mod PieceWires
+pub mod Pieces
+pub mod Routings

@@ -1,0 +1,40 @@
+use channel_route::{Trunk, TrunkList, WireAbove, WireCycleList};
+use std::alloc::AllocError;
+
+/// The part of a net's trunk between neighbouring lines at which it may be cut, on a track of its own. It
+/// has a trunk's fields.
+pub type Piece = Trunk;
+
+pub type PieceList = TrunkList;
+
+/// A piece, told by its net and its first line, that stands above the next one of a cycle at a line.
+pub type PieceAbove = WireAbove;
+
+pub type PieceCycle = WireCycleList;
+
+/// The pieces of a channel, in order of net and first line.
+#[derive(Debug, PartialEq, Drop)]
+pub struct PieceRouting {
+    pub tracks: u32,
+    pub pieces: PieceList,
+}
+
+/// Why a channel has no routing of pieces.
+#[derive(Debug, Drop)]
+pub enum PieceStop {
+    /// Each piece stands above the next one, the last above the first.
+    Cycle(PieceCycle),
+    NoMemory,
+}
+
+impl From<AllocError> for PieceStop {
+    ghost use Rattle.std.specs.Prelude.{◌≡◌};
+    ghost use Rattle.dogleg_route.specs.declared.piece.PieceStop.{PieceStop as Stop};
+    ghost use Rattle.dogleg_route.specs.declared.piece.PieceStop.TheVariants.{NoMemory as OutOfMemory};
+
+    ghost from_gives = { λ _ e. e ≡ OutOfMemory };
+
+    fn from(_: AllocError) -> PieceStop {
+        PieceStop::NoMemory
+    }
+}
