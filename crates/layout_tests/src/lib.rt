@@ -8,6 +8,8 @@ mod bases;
 #[cfg(test)]
 mod benchmarks;
 #[cfg(test)]
+mod bodies;
+#[cfg(test)]
 mod cells;
 #[cfg(test)]
 mod counts;

@@ -10,7 +10,7 @@ fn named(alloc: Global, letter: u8) -> Result<Name, Fail> {
     Ok(copy(alloc, &[letter])?)
 }
 
-fn drawing(
+pub fn drawing(
     alloc: Global,
     table: &[(Layer, Sides)],
     labels: &[(u8, Layer, i32, i32)],

@@ -17,7 +17,7 @@ use Rattle.scmos_rules.specs.Layout.{On, Gate}
 use Rattle.net_extract.specs.Nets.{Kind, p_diffusion, n_diffusion, poly, metal1, metal2, Are}
 use Rattle.net_extract.specs.Parts.{AreDrawn}
 use Rattle.net_extract.specs.Pieces.{kind_of, rect_of, rects_in}
-use Rattle.net_extract.specs.GateNets.{AreGates}
+use Rattle.net_extract.specs.GateNets.{ArePolyOf}
 use Rattle.net_extract.specs.Meetings.{sharing_cell}
 use Rattle.net_extract.specs.Cuts.{is_some_piece, kept, left_part, right_part, low_part, high_part, around, carved, carved_once, left_of_piece, shapes_on, cut_all, common_part, shared_part, shared_once, shared_all, piece_of, drawn_once, drawn_all, p_diffusion_in, n_diffusion_in, pieces_in, gates_in, poly_of}
 use Rattle.net_extract.specs.declared.piece.Conductor.{Conductor}
@@ -339,14 +339,24 @@ pieces_drawn s proper = record { covered = covered; conducts = conducts; proper 
 gates_are : (s : List Shape) → All (λ (z : Shape). IsProper z.rect) s → ArePieces Poly (Gate s) (gates_in s)
 gates_are s proper = shared_are Poly (On Active s) PolyLayer (drawn_all Poly Active s) s (drawn_are Poly Active s proper)
 
-pub gates_drawn : (s : List Shape) → All (λ (z : Shape). IsProper z.rect) s → AreGates s (map poly_of (gates_in s))
-gates_drawn s proper = record {
+poly_drawn : (P : ℤ → ℤ → Type 0) (ps : List Piece) → ArePieces Poly P ps → ArePolyOf P (map poly_of ps)
+poly_drawn P ps are = record {
   poly = λ x y. (
-    λ on. let w = shows (map poly_of (gates_in s)) PolyLayer x y on in let i = in_map poly_of (gates_in s) w.shape w.listed in (gates_are s proper).sound x y (record { piece = i.of; listed = i.listed; holds = subst (λ (z : Shape). Holds z.rect x y) (sym i.is) w.holds }),
-    λ gate. let h = (gates_are s proper).all x y gate in shown (map poly_of (gates_in s)) PolyLayer (poly_of h.piece) x y (contains_map poly_of (gates_in s) h.piece h.listed) refl h.holds,
+    λ on. let w = shows (map poly_of ps) PolyLayer x y on in let i = in_map poly_of ps w.shape w.listed in are.sound x y (record { piece = i.of; listed = i.listed; holds = subst (λ (z : Shape). Holds z.rect x y) (sym i.is) w.holds }),
+    λ c. let h = are.all x y c in shown (map poly_of ps) PolyLayer (poly_of h.piece) x y (contains_map poly_of ps h.piece h.listed) refl h.holds,
   );
-  only = λ z c. let i = in_map poly_of (gates_in s) z c in sym (ap (λ (w : Shape). w.layer) i.is);
+  only = λ z c. let i = in_map poly_of ps z c in sym (ap (λ (w : Shape). w.layer) i.is);
 }
+
+pub gates_drawn : (s : List Shape) → All (λ (z : Shape). IsProper z.rect) s → ArePolyOf (Gate s) (map poly_of (gates_in s))
+gates_drawn s proper = poly_drawn (Gate s) (gates_in s) (gates_are s proper)
+
+-- the well drawn in poly
+pub wells_drawn : (s : List Shape) → All (λ (z : Shape). IsProper z.rect) s → ArePolyOf (On Well s) (map poly_of (drawn_all Poly Well s))
+wells_drawn s proper = poly_drawn (On Well s) (drawn_all Poly Well s) (drawn_are Poly Well s proper)
+
+pub all_wells_limited : (s : List Shape) → All (λ (z : Shape). IsRectangle z.rect) s → All (λ (p : Piece). IsRectangle (rect_of p)) (drawn_all Poly Well s)
+all_wells_limited s limits = all_from_contains (λ (p : Piece). IsRectangle (rect_of p)) (drawn_all Poly Well s) (λ p c. let f = from_drawn Poly Well s p c in subst (λ (q : Piece). IsRectangle (rect_of q)) f.is (All-contains (λ (z : Shape). IsRectangle z.rect) s f.shape limits f.there))
 
 -- gates lie within the limits
 gate_limits : (s : List Shape) → All (λ (z : Shape). IsRectangle z.rect) s → (p : Piece) → Contains (gates_in s) p → IsRectangle (rect_of p)

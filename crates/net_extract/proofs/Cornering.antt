@@ -143,6 +143,17 @@ gates_sides s h = record { xs = h.xs; ys = h.ys; few = h.few; sides = λ z c. le
           high = less_in h.ys f.of.top f.shape.rect.y2 a.high b.high;
         })
 
+pub wells_sides : (s : List Shape) → HaveFewSides s → HaveFewSides (map poly_of (drawn_all Poly Well s))
+wells_sides s h = record {
+  xs = h.xs;
+  ys = h.ys;
+  few = h.few;
+  sides = λ z c.
+      let i = in_map poly_of (drawn_all Poly Well s) z c in
+      let f = from_drawn Poly Well s i.of i.listed in
+      subst (λ (w : Shape). HasSides h.xs h.ys w.rect) i.is (subst (λ (q : Piece). HasSides h.xs h.ys (rect_of q)) f.is (h.sides f.shape f.there));
+}
+
 -- ---- the sides of 10,000 shapes
 abbrev across_of : Shape → List ℤ
 across_of z = z.rect.x1 ∷ z.rect.x2 ∷ []

@@ -5,27 +5,32 @@ use Rattle.box_geom.specs.declared.shape.Shape.{Shape}
 use Rattle.box_geom.specs.declared.shape.Label.{Label}
 use Rattle.box_geom.specs.declared.shape.Shapes.{Shapes}
 use Rattle.scmos_rules.specs.declared.rules.Deck.{Deck}
-use Rattle.scmos_rules.specs.declared.rules.Deck.TheVariants.{Plain}
+use Rattle.scmos_rules.specs.declared.rules.Deck.TheVariants.{Plain, Taps}
+use Rattle.net_extract.specs.Bodies.{AreBodies, ExtractsBodies}
 use Rattle.net_extract.specs.Nets.{Site}
 use Rattle.net_extract.specs.Extraction.{AreFew, AreRegular, IsLabelled, IsDrawn, Extracts, IsTooMany, SaysTooMany, ExtractRefused}
 use Rattle.net_extract.specs.Naming.{IsAgreed, names_of, short_net, split_name, IsNameFault}
 use Rattle.net_extract.specs.Labels.{IsFirstStray}
 use Rattle.net_extract.specs.Lookups.{is_lost, held_in, IsLostBy}
-use Rattle.net_extract.specs.GateNets.{AreGates, AreGateNets, AreFound, IsOddFault}
+use Rattle.net_extract.specs.GateNets.{ArePolyOf, AreGateNets, AreWellNets, AreFound, IsOddFault, boxes_of}
 use Rattle.net_extract.specs.Connections.{firsts_of, AreWires}
 use Rattle.net_extract.specs.Steps.{AreNamed, IsMapped}
 use Rattle.net_extract.specs.declared.drawing.Mapped.{Mapped}
 use Rattle.net_extract.specs.declared.drawing.Named.{Named}
 use Rattle.net_extract.specs.declared.naming.Held.{Held}
+use Rattle.net_extract.specs.declared.netlist.BodyNetlist.{BodyNetlist}
 use Rattle.net_extract.specs.declared.netlist.Drawn.{Drawn}
 use Rattle.net_extract.specs.declared.netlist.Netlist.{Netlist}
 use Rattle.net_extract.specs.declared.fault.ExtractFault.{ExtractFault}
 use Rattle.net_extract.specs.declared.fault.ExtractFault.TheVariants.{TooMany, OddDevice, Stray, Short, Split, NoMemory}
 use Rattle.net_extract.specs.declared.piece.Piece.{Piece}
 use Rattle.net_extract.specs.declared.connections.Wire.{Wire}
-use Rattle.box_geom.specs.Rectangle.{IsRectangle}
-use Rattle.net_extract.specs.Cuts.{poly_of, gates_in}
-use Rattle.net_extract.proofs.Carving.{gates_drawn, proper_of_limits}
+use Rattle.box_geom.specs.Rectangle.{Rectangle, IsRectangle}
+use Rattle.net_extract.specs.Cuts.{poly_of, gates_in, drawn_all}
+use Rattle.net_extract.specs.declared.piece.Conductor.TheVariants.{Poly}
+use Rattle.box_geom.specs.declared.layer.Layer.TheVariants.{Well}
+use Rattle.scmos_rules.specs.Layout.{On, Gate}
+use Rattle.net_extract.proofs.Carving.{gates_drawn, wells_drawn, proper_of_limits}
 use Rattle.net_extract.proofs.Labelling.{labels_held, stray_is}
 
 pub many_rects : (shapes : Shapes) → 10000 < length shapes.rects → IsTooMany shapes (length shapes.rects)
@@ -119,8 +124,8 @@ name_refused deck shapes wires firsts held count f regular m e eh ec is = by f (
     by (OddDevice x y) s = absurd s
     by (Stray n) s = absurd s
 
-pub regular_of : (deck : Deck) (shapes : Shapes) (firsts : List Site) (devices : List Drawn) → AreFew shapes → AreFound deck shapes.rects firsts devices → AreRegular deck shapes
-regular_of deck shapes firsts devices few found = record { few = few; none_odd = found.are.none_odd }
+pub regular_of : (deck : Deck) (shapes : Shapes) (firsts : List Site) (boxes : List Rectangle) (devices : List Drawn) → AreFew shapes → AreFound deck shapes.rects firsts boxes devices → AreRegular deck shapes
+regular_of deck shapes firsts boxes devices few found = record { few = few; none_odd = found.are.none_odd }
 
 pub extracts : (deck : Deck) (shapes : Shapes) (m : Mapped) (n : Netlist) → IsMapped deck shapes m → n.names ≡ m.named.names → n.devices ≡ m.devices → Extracts deck shapes n
 extracts deck shapes m n map names devices = record {
@@ -130,9 +135,25 @@ extracts deck shapes m n map names devices = record {
   labelled = map.named.labelled;
   agreed = map.named.agreed;
   names = names ∙ map.named.are;
-  boxes = map.found.boxes;
+  boxes = boxes_of m.gates.wires.items m.gates.firsts.items;
   devices = map.found.are;
-  drawn = subst (λ ds. AllZip (IsDrawn deck shapes.rects (firsts_of m.connections.firsts.items)) map.found.boxes ds) (sym devices) map.found.drawn;
+  drawn = subst (λ ds. AllZip (IsDrawn deck shapes.rects (firsts_of m.connections.firsts.items)) (boxes_of m.gates.wires.items m.gates.firsts.items) ds) (sym devices) map.found.drawn;
+}
+
+pub extracts_bodies : (shapes : Shapes) (m : Mapped) (b : BodyNetlist) → IsMapped Taps shapes m → b.netlist.names ≡ m.named.names → b.netlist.devices ≡ m.devices → AreBodies shapes.rects (firsts_of m.connections.firsts.items) (boxes_of m.gates.wires.items m.gates.firsts.items) m.devices b.bodies → ExtractsBodies shapes b
+extracts_bodies shapes m b map names devices bodies = record {
+  of = record {
+    few = map.few;
+    firsts = firsts_of m.connections.firsts.items;
+    held = m.named.held.items;
+    labelled = map.named.labelled;
+    agreed = map.named.agreed;
+    names = names ∙ map.named.are;
+    boxes = boxes_of m.gates.wires.items m.gates.firsts.items;
+    devices = map.found.are;
+    drawn = subst (λ ds. AllZip (IsDrawn Taps shapes.rects (firsts_of m.connections.firsts.items)) (boxes_of m.gates.wires.items m.gates.firsts.items) ds) (sym devices) map.found.drawn;
+  };
+  bodies = subst (λ ds. AreBodies shapes.rects (firsts_of m.connections.firsts.items) (boxes_of m.gates.wires.items m.gates.firsts.items) ds b.bodies) (sym devices) bodies;
 }
 
 pub if_ok : {X E : Type 0} (A B : X → Type 0) (r : Result X E) → ((x : X) → A x → B x) → IfOk r A → IfOk r B
@@ -140,4 +161,7 @@ if_ok A B (Ok x) f h = f x h
 if_ok A B (Err e) f h = tt
 
 pub gate_nets : (s g : List Shape) (wires : List Wire) (firsts : List Piece) → All (λ (z : Shape). IsRectangle z.rect) s → g ≡ map poly_of (gates_in s) → AreWires Plain g wires firsts → AreGateNets s wires firsts
-gate_nets s g wires firsts limits e m = record { gates = g; are = subst (AreGates s) (sym e) (gates_drawn s (proper_of_limits s limits)); nets = m }
+gate_nets s g wires firsts limits e m = record { shapes = g; are = subst (ArePolyOf (Gate s)) (sym e) (gates_drawn s (proper_of_limits s limits)); nets = m }
+
+pub well_nets : (s g : List Shape) (wires : List Wire) (firsts : List Piece) → All (λ (z : Shape). IsRectangle z.rect) s → g ≡ map poly_of (drawn_all Poly Well s) → AreWires Plain g wires firsts → AreWellNets s wires firsts
+well_nets s g wires firsts limits e m = record { shapes = g; are = subst (ArePolyOf (On Well s)) (sym e) (wells_drawn s (proper_of_limits s limits)); nets = m }

@@ -12,7 +12,7 @@ rechained_steps : {X : Type 0} (S T : X → X → Type 0) → ((a b : X) → S a
 rechained_steps S T f zero a b e = none T a b e
 rechained_steps S T f (suc n) a b (m, s, r) = joined T a m b (f a m s) (rechained_steps S T f n m b r)
 
-rechained : {X : Type 0} (S T : X → X → Type 0) → ((a b : X) → S a b → Chain T a b) → (a b : X) → Chain S a b → Chain T a b
+pub rechained : {X : Type 0} (S T : X → X → Type 0) → ((a b : X) → S a b → Chain T a b) → (a b : X) → Chain S a b → Chain T a b
 rechained S T f a b c = rechained_steps S T f c.count a b c.steps
 
 kin_back : (ls : List ℕ) (a b : ℕ) → AreKin ls a b → AreKin ls b a
@@ -51,7 +51,7 @@ hung_step : (ls : List ℕ) (r m : ℕ) → r < length ls → InTree (set ls r m
 hung_step ls r m l = one (AreKin (set ls r m)) r m (inl (record { below = (let c = length-set ls r m in omega (arith, l, c)); is = get_or-set_same ls r m 0 l }))
 
 -- numbers of one tree are of one class
-class_of_tree : (n : ℕ) (R : ℕ → ℕ → Type 0) → GoesBack R → (ls : List ℕ) → AreSound n R ls → (a b : ℕ) → InTree ls a b → Chain R a b
+pub class_of_tree : (n : ℕ) (R : ℕ → ℕ → Type 0) → GoesBack R → (ls : List ℕ) → AreSound n R ls → (a b : ℕ) → InTree ls a b → Chain R a b
 class_of_tree n R back ls is a b t = rechained (AreKin ls) R kin a b t
   where
     up : (i j : ℕ) → IsParent ls i j → Chain R i j

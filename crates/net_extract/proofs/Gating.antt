@@ -29,7 +29,7 @@ use Rattle.net_extract.specs.Extraction.{IsDrawn}
 use Rattle.net_extract.specs.Pieces.{kind_of, rect_of, part_of, corner_of}
 use Rattle.net_extract.specs.Connections.{firsts_of, AreWires, blank}
 use Rattle.net_extract.specs.Areas.{IsFull}
-use Rattle.net_extract.specs.GateNets.{AreGates, AreGateNets, wider, point_of, box_of, boxes_below, IsAllGate, AreFound}
+use Rattle.net_extract.specs.GateNets.{ArePolyOf, AreGateNets, wider, point_of, box_of, boxes_below, boxes_of, IsAllGate, AreFound}
 use Rattle.net_extract.specs.declared.netlist.Drawn.{Drawn}
 use Rattle.net_extract.specs.declared.piece.Piece.{Piece}
 use Rattle.net_extract.specs.declared.connections.Wire.{Wire}
@@ -37,57 +37,10 @@ use Rattle.net_extract.proofs.Bonds.{carried_steps}
 use Rattle.net_extract.proofs.Finding.{shows}
 use Rattle.net_extract.proofs.Labelling.{wire_net}
 use Rattle.net_extract.proofs.Numbers.{one_number}
+use Rattle.net_extract.proofs.PolyClasses.{cell, poly_site, class_of_net, net_of_class, same_class}
 use Rattle.net_extract.proofs.Ranking.{not_behind_self, not_behind_both}
 use Rattle.net_extract.proofs.Siding.{in_wire, wire_proper, corner_held, in_first, move_net}
 use Rattle.net_extract.proofs.Wiring.{net_self, end_conducts, pairs_none, pairs_one}
-
--- ---- the drawing of the gates has poly alone
-layer_same : (l k : Layer) → same_layer l k ≡ true → layer_no l ≡ layer_no k
-layer_same l k e = elim (cases_eq (layer_no l) (layer_no k)) [ inl same ↦ same | inr ne ↦ absurd (let f : (layer_no l == layer_no k) ≡ false = ne_eqb (layer_no l) (layer_no k) ne in cc (sym f ∙ e)) ]
-
-only_poly : (s g : List Shape) → AreGates s g → (layer : Layer) (x y : ℤ) → On layer g x y → 4 ≡ layer_no layer
-only_poly s g are layer x y on =
-    let w = shows g layer x y on in
-    let e : layer_no w.shape.layer ≡ layer_no layer = layer_same w.shape.layer layer w.on in
-    subst (λ l. layer_no l ≡ layer_no layer) (are.only w.shape w.listed) e
-
-poly_site : (s g : List Shape) → AreGates s g → (k : Kind) (x y : ℤ) → Are g k x y → k ≡ poly
-poly_site s g are p_diffusion x y c = absurd (let e = only_poly s g are Active x y c.0.0 in omega (arith, e))
-poly_site s g are n_diffusion x y c = absurd (let e = only_poly s g are Active x y c.0.0 in omega (arith, e))
-poly_site s g are poly x y c = refl
-poly_site s g are metal1 x y c = absurd (let e = only_poly s g are Metal1 x y c in omega (arith, e))
-poly_site s g are metal2 x y c = absurd (let e = only_poly s g are Metal2 x y c in omega (arith, e))
-
-gate_there : (s g : List Shape) → AreGates s g → (k : Kind) (x y : ℤ) → Are g k x y → Gate s x y
-gate_there s g are k x y c = (are.poly x y).0 (subst (λ j. Are g j x y) (poly_site s g are k x y c) c)
-
-no_joins : (s g : List Shape) → AreGates s g → (x y : ℤ) (k l : Kind) → Joins g x y k l → ⊥
-no_joins s g are x y k l (by_contact e low on) = let f = only_poly s g are Contact x y on in omega (arith, f)
-no_joins s g are x y k l (by_via e f on) = let h = only_poly s g are Via x y on in omega (arith, h)
-
-gate_link : (s g : List Shape) → AreGates s g → (a b : Site) → Wired Plain g a b → Linked (Gate s) a.cell b.cell
-gate_link s g are a b w = record { from = gate_there s g are a.kind a.cell.x a.cell.y w.from; to = gate_there s g are b.kind b.cell.x b.cell.y w.to; edge = edge_of w.meets }
-  where
-    edge_of : Meets Plain g a b → Edge a.cell b.cell
-    edge_of (along e edge) = edge
-    edge_of (through e (inl j)) = absurd (no_joins s g are a.cell.x a.cell.y a.kind b.kind j)
-    edge_of (through e (inr j)) = absurd (no_joins s g are a.cell.x a.cell.y b.kind a.kind j)
-    edge_of (tied e t) = absurd (cc e)
-
-abbrev poly_at : Cell → Site
-poly_at c = record { kind = poly; cell = c }
-
-link_gate : (s g : List Shape) → AreGates s g → (c d : Cell) → Linked (Gate s) c d → Wired Plain g (poly_at c) (poly_at d)
-link_gate s g are c d l = record { from = (are.poly c.x c.y).1 l.from; to = (are.poly d.x d.y).1 l.to; meets = along refl l.edge }
-
-abbrev cell : ℤ → ℤ → Cell
-cell x y = record { x = x; y = y }
-
-class_of_net : (s g : List Shape) → AreGates s g → (x y u v : ℤ) → SameNet Plain g (site_at poly x y) (site_at poly u v) → SameClass (Gate s) x y u v
-class_of_net s g are x y u v n = carried_steps (Wired Plain g) (Linked (Gate s)) (λ (a : Site). a.cell) (gate_link s g are) n.chain.count (site_at poly x y) (site_at poly u v) n.chain.steps
-
-net_of_class : (s g : List Shape) → AreGates s g → (x y u v : ℤ) → Gate s x y → SameClass (Gate s) x y u v → SameNet Plain g (site_at poly x y) (site_at poly u v)
-net_of_class s g are x y u v here c = record { conducts = (are.poly x y).1 here; chain = carried_steps (Linked (Gate s)) (Wired Plain g) poly_at (link_gate s g are) c.count (cell x y) (cell u v) c.steps }
 
 -- ---- bounds
 pub record Lies (p : Piece) (r : Rectangle) : Type 0 where
@@ -139,7 +92,7 @@ bounds_are n start (w ∷ ws) =
 
 -- ---- what is known of the gates
 pub record Gates (s g : List Shape) (wires : List Wire) (firsts : List Piece) : Type 0 where
-  pub are : AreGates s g
+  pub are : ArePolyOf (Gate s) g
   pub nets : AreWires Plain g wires firsts
 
 abbrev first_at : List Piece → ℕ → Piece
@@ -158,12 +111,12 @@ site_poly a e = subst (λ k. a ≡ record { kind = k; cell = a.cell }) e refl
 first_is : (s g : List Shape) (wires : List Wire) (firsts : List Piece) → Gates s g wires firsts → (n : ℕ) → n < length firsts → IsFirstOfNet Plain g (site_at poly (first_at firsts n).left (first_at firsts n).low)
 first_is s g wires firsts z n l =
     let f : IsFirstOfNet Plain g (corner_of (first_at firsts n)) = z.nets.nets.sound (corner_of (first_at firsts n)) (first_listed firsts n l) in
-    subst (IsFirstOfNet Plain g) (site_poly (corner_of (first_at firsts n)) (poly_site s g z.are (kind_of (first_at firsts n).kind) (first_at firsts n).left (first_at firsts n).low f.conducts)) f
+    subst (IsFirstOfNet Plain g) (site_poly (corner_of (first_at firsts n)) (poly_site (Gate s) g z.are (kind_of (first_at firsts n).kind) (first_at firsts n).left (first_at firsts n).low f.conducts)) f
 
 in_own : (s g : List Shape) (wires : List Wire) (firsts : List Piece) → Gates s g wires firsts → (n : ℕ) → n < length firsts → IsInNet Plain g (firsts_of firsts) n (site_at poly (first_at firsts n).left (first_at firsts n).low)
 in_own s g wires firsts z n l =
     let f = first_is s g wires firsts z n l in
-    let e : corner_of (first_at firsts n) ≡ site_at poly (first_at firsts n).left (first_at firsts n).low = site_poly (corner_of (first_at firsts n)) (poly_site s g z.are (kind_of (first_at firsts n).kind) (first_at firsts n).left (first_at firsts n).low (z.nets.nets.sound (corner_of (first_at firsts n)) (first_listed firsts n l)).conducts) in
+    let e : corner_of (first_at firsts n) ≡ site_at poly (first_at firsts n).left (first_at firsts n).low = site_poly (corner_of (first_at firsts n)) (poly_site (Gate s) g z.are (kind_of (first_at firsts n).kind) (first_at firsts n).left (first_at firsts n).low (z.nets.nets.sound (corner_of (first_at firsts n)) (first_listed firsts n l)).conducts) in
     record { first = corner_of (first_at firsts n); numbered = first_numbered firsts n l; same = subst (λ a. SameNet Plain g a (site_at poly (first_at firsts n).left (first_at firsts n).low)) (sym e) (net_self Plain g (site_at poly (first_at firsts n).left (first_at firsts n).low) f.conducts) }
 
 -- a gate cell lies in a wire of its class
@@ -189,7 +142,7 @@ class_number : (s g : List Shape) (wires : List Wire) (firsts : List Piece) → 
 class_number s g wires firsts z n l x y c same =
     let f = first_is s g wires firsts z n l in
     let start : Gate s (first_at firsts n).left (first_at firsts n).low = (z.are.poly (first_at firsts n).left (first_at firsts n).low).0 f.conducts in
-    let net : SameNet Plain g (site_at poly (first_at firsts n).left (first_at firsts n).low) (site_at poly x y) = net_of_class s g z.are (first_at firsts n).left (first_at firsts n).low x y start same in
+    let net : SameNet Plain g (site_at poly (first_at firsts n).left (first_at firsts n).low) (site_at poly x y) = net_of_class (Gate s) g z.are (first_at firsts n).left (first_at firsts n).low x y start same in
     one_number Plain g (firsts_of firsts) c.wire.net n (site_at poly x y) z.nets.nets c.net (move_net Plain g (firsts_of firsts) n (site_at poly (first_at firsts n).left (first_at firsts n).low) (site_at poly x y) (in_own s g wires firsts z n l) net)
 
 abbrev box : List Wire → List Piece → ℕ → Rectangle
@@ -222,12 +175,7 @@ box_corner s g wires firsts z n l = class_in_box s g wires firsts z n l (first_a
 
 -- two cells of a box of gate cells are of one class
 box_chain : (s : List Shape) (r : Rectangle) → IsAllGate s r → (x y u v : ℤ) → Holds r x y → Holds r u v → SameClass (Gate s) x y u v
-box_chain s r all x y u v h k =
-    let c : Chain (Linked (Covers (r ∷ []))) (cell x y) (cell u v) = inside (r ∷ []) r (contains_here r []) x y u v h k in
-    carried_steps (Linked (Covers (r ∷ []))) (Linked (Gate s)) (λ (d : Cell). d) (λ d e w. record { from = all.all d.x d.y (only w.from); to = all.all e.x e.y (only w.to); edge = w.edge }) c.count (cell x y) (cell u v) c.steps
-  where
-    only : {x y : ℤ} → Covers (r ∷ []) x y → Holds r x y
-    only {x} {y} c = elim (contains_cons r [] c.rect c.listed) [ inl e ↦ (let h = c.holds in subst (λ q. Holds q x y) (sym e) h) | inr l ↦ absurd (contains_none c.rect l) ]
+box_chain s r all = same_class (Gate s) r all.all
 
 end_gate_steps : (s : List Shape) (m : ℕ) (a b : Cell) → Gate s a.x a.y → Steps (Linked (Gate s)) m a b → Gate s b.x b.y
 end_gate_steps s zero a b ga e = subst (λ (c : Cell). Gate s c.x c.y) e ga
@@ -289,10 +237,10 @@ box_in_class s g wires firsts z n l r gate at = (bounds_of wires firsts n).least
         let site : IsIn (part_of w.piece) (site_at (kind_of w.piece.kind) u v) = record { kind = refl; holds = h } in
         let k : IsInNet Plain g (firsts_of firsts) w.net (site_at (kind_of w.piece.kind) u v) = wire_net Plain g wires firsts z.nets w c (site_at (kind_of w.piece.kind) u v) site in
         let conducts : Conducts g (site_at (kind_of w.piece.kind) u v) = end_conducts Plain g k.first (site_at (kind_of w.piece.kind) u v) k.same in
-        let is_poly : kind_of w.piece.kind ≡ poly = poly_site s g z.are (kind_of w.piece.kind) u v conducts in
+        let is_poly : kind_of w.piece.kind ≡ poly = poly_site (Gate s) g z.are (kind_of w.piece.kind) u v conducts in
         let m : IsInNet Plain g (firsts_of firsts) n (site_at poly u v) = subst (λ j. IsInNet Plain g (firsts_of firsts) n (site_at j u v)) is_poly (subst (λ j. IsInNet Plain g (firsts_of firsts) j (site_at (kind_of w.piece.kind) u v)) e k) in
         let net : SameNet Plain g (site_at poly (first_at firsts n).left (first_at firsts n).low) (site_at poly u v) = in_first Plain g (firsts_of firsts) n (site_at poly (first_at firsts n).left (first_at firsts n).low) (site_at poly u v) (in_own s g wires firsts z n l) m in
-        (gate.class (first_at firsts n).left (first_at firsts n).low u v at).0 (class_of_net s g z.are (first_at firsts n).left (first_at firsts n).low u v net)
+        (gate.class (first_at firsts n).left (first_at firsts n).low u v at).0 (class_of_net (Gate s) g z.are (first_at firsts n).left (first_at firsts n).low u v net)
 
     wire_in : (w : Wire) → Contains wires w → w.net ≡ n → Lies w.piece r
     wire_in w c e =
@@ -315,7 +263,7 @@ class_first : (s g : List Shape) (wires : List Wire) (firsts : List Piece) → G
 class_first s g wires firsts z n l u v c =
     let f = first_is s g wires firsts z n l in
     let start : Gate s (first_at firsts n).left (first_at firsts n).low = (z.are.poly (first_at firsts n).left (first_at firsts n).low).0 f.conducts in
-    let b = f.first (site_at poly u v) (net_of_class s g z.are (first_at firsts n).left (first_at firsts n).low u v start c) in
+    let b = f.first (site_at poly u v) (net_of_class (Gate s) g z.are (first_at firsts n).left (first_at firsts n).low u v start c) in
     record { row = b.row; column = b.column }
 
 pub odd_is : (deck : Deck) (s g : List Shape) (wires : List Wire) (firsts : List Piece) → Gates s g wires firsts → (n : ℕ) → n < length firsts → ((r : Rectangle) → Holds r (first_at firsts n).left (first_at firsts n).low → IsSomeDevice deck s r → ⊥) → IsOdd deck s (first_at firsts n).left (first_at firsts n).low
@@ -399,8 +347,8 @@ begins s g wires firsts z i j less l gi gj =
     let ci = corner_is s g wires firsts z i li gi in
     let cj = corner_is s g wires firsts z j l gj in
     let ix = ci.0 in let iy = ci.1 in let jx = cj.0 in let jy = cj.1 in
-    let ki : kind_of (first_at firsts i).kind ≡ poly = poly_site s g z.are (kind_of (first_at firsts i).kind) (first_at firsts i).left (first_at firsts i).low (z.nets.nets.sound (corner_of (first_at firsts i)) (first_listed firsts i li)).conducts in
-    let kj : kind_of (first_at firsts j).kind ≡ poly = poly_site s g z.are (kind_of (first_at firsts j).kind) (first_at firsts j).left (first_at firsts j).low (z.nets.nets.sound (corner_of (first_at firsts j)) (first_listed firsts j l)).conducts in
+    let ki : kind_of (first_at firsts i).kind ≡ poly = poly_site (Gate s) g z.are (kind_of (first_at firsts i).kind) (first_at firsts i).left (first_at firsts i).low (z.nets.nets.sound (corner_of (first_at firsts i)) (first_listed firsts i li)).conducts in
+    let kj : kind_of (first_at firsts j).kind ≡ poly = poly_site (Gate s) g z.are (kind_of (first_at firsts j).kind) (first_at firsts j).left (first_at firsts j).low (z.nets.nets.sound (corner_of (first_at firsts j)) (first_listed firsts j l)).conducts in
     let up = b.not_behind in
     let r = up.row in
     record {
@@ -424,26 +372,28 @@ boxes_ascend deck s g wires firsts z (suc k) le each = pairs_append BeginsBefore
 cell_in_box : (s g : List Shape) (wires : List Wire) (firsts : List Piece) → Gates s g wires firsts → (x y : ℤ) (c : Classed g wires firsts x y) → Holds (box wires firsts c.wire.net) x y
 cell_in_box s g wires firsts z x y c = lies_holds c.wire.piece (box wires firsts c.wire.net) x y ((bounds_of wires firsts c.wire.net).all c.wire c.listed refl) c.holds
 
-pub all_done : (deck : Deck) (s g : List Shape) (wires : List Wire) (firsts : List Piece) (sites : List Site) (k : ℕ) (devices : List Drawn) → Gates s g wires firsts → k ≡ length firsts → AreDone deck s wires firsts sites k devices → AreFound deck s sites devices
-all_done deck s g wires firsts sites k devices z e done = record {
-  boxes = boxes_below wires firsts k;
-  are = record {
-    ascending = boxes_ascend deck s g wires firsts z k (omega (arith, e)) done.each;
-    devices = λ r c. let i = of_boxes wires firsts k r c in subst (IsSomeDevice deck s) i.is (done.each i.at i.below);
-    all = λ r d.
-        let h = corner_held r d.is.class.proper in
-        let c = classed s g wires firsts z r.x1 r.y1 (d.is.class.gate r.x1 r.y1 h) in
-        let l = c.below in
-        let below : c.wire.net < k = omega (arith, e, l) in
-        let same : box wires firsts c.wire.net ≡ r = same_box s (box wires firsts c.wire.net) r (done.each c.wire.net below).is.class d.is.class r.x1 r.y1 (cell_in_box s g wires firsts z r.x1 r.y1 c) h in
-        subst (Contains (boxes_below wires firsts k)) same (to_boxes wires firsts k c.wire.net below);
-    none_odd = λ x y o.
-        let c = classed s g wires firsts z x y o.gate in
-        let l = c.below in
-        o.odd (box wires firsts c.wire.net) (cell_in_box s g wires firsts z x y c) (done.each c.wire.net (omega (arith, e, l)));
-  };
-  drawn = done.drawn;
-}
+pub all_done : (deck : Deck) (s g : List Shape) (wires : List Wire) (firsts : List Piece) (sites : List Site) (k : ℕ) (devices : List Drawn) → Gates s g wires firsts → k ≡ length firsts → AreDone deck s wires firsts sites k devices → AreFound deck s sites (boxes_of wires firsts) devices
+all_done deck s g wires firsts sites k devices z e done = subst (λ j. AreFound deck s sites (boxes_below wires firsts j) devices) e all
+  where
+    all : AreFound deck s sites (boxes_below wires firsts k) devices
+    all = record {
+      are = record {
+        ascending = boxes_ascend deck s g wires firsts z k (omega (arith, e)) done.each;
+        devices = λ r c. let i = of_boxes wires firsts k r c in subst (IsSomeDevice deck s) i.is (done.each i.at i.below);
+        all = λ r d.
+            let h = corner_held r d.is.class.proper in
+            let c = classed s g wires firsts z r.x1 r.y1 (d.is.class.gate r.x1 r.y1 h) in
+            let l = c.below in
+            let below : c.wire.net < k = omega (arith, e, l) in
+            let same : box wires firsts c.wire.net ≡ r = same_box s (box wires firsts c.wire.net) r (done.each c.wire.net below).is.class d.is.class r.x1 r.y1 (cell_in_box s g wires firsts z r.x1 r.y1 c) h in
+            subst (Contains (boxes_below wires firsts k)) same (to_boxes wires firsts k c.wire.net below);
+        none_odd = λ x y o.
+            let c = classed s g wires firsts z x y o.gate in
+            let l = c.below in
+            o.odd (box wires firsts c.wire.net) (cell_in_box s g wires firsts z x y c) (done.each c.wire.net (omega (arith, e, l)));
+      };
+      drawn = done.drawn;
+    }
 
 -- the first class that is no device
 pub first_odd : (deck : Deck) (s g : List Shape) (wires : List Wire) (firsts : List Piece) (sites : List Site) (k : ℕ) (devices : List Drawn) → Gates s g wires firsts → k < length firsts → AreDone deck s wires firsts sites k devices → IsOdd deck s (first_at firsts k).left (first_at firsts k).low → IsFirstOdd deck s (first_at firsts k).left (first_at firsts k).low
@@ -477,5 +427,5 @@ both_gate s r a z b t ea da eb ez dz = (
 
 pub ruleset gate_rules = (no_active_gate, both_gate)
 
-pub gates_of : (s : List Shape) (wires : List Wire) (firsts : List Piece) (z : AreGateNets s wires firsts) → Gates s z.gates wires firsts
+pub gates_of : (s : List Shape) (wires : List Wire) (firsts : List Piece) (z : AreGateNets s wires firsts) → Gates s z.shapes wires firsts
 gates_of s wires firsts z = record { are = z.are; nets = z.nets }

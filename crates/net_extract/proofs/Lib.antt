@@ -1,6 +1,7 @@
 pub mod Agreeing
 pub mod Apart
 pub mod Belonging
+pub mod Bodies
 pub mod Bonds
 pub mod ByName
 pub mod Carving
@@ -24,9 +25,13 @@ pub mod Netlists
 pub mod Netting
 pub mod Numbering
 pub mod Numbers
+pub mod OneBody
 pub mod Orders
 pub mod Pairing
+pub mod PolyClasses
 pub mod Ranges
 pub mod Ranking
 pub mod Siding
+pub mod Ties
+pub mod Tying
 pub mod Wiring

@@ -1,5 +1,5 @@
 -- Bonds are fixed by the contacts and vias of a drawing, and reach no further up than a piece.
-use Rattle.std.proofs.Common.{◌≡◌, ℕ, ℤ, pos, ◌+ℤ◌, ◌≤ℤ◌, ◌<◌, ◌≤◌, int_lt, Bool, true, false, ◌||◌, List, map, length, get_or, arith, inl, inr, refl, sym, subst, ap, ◌∙◌, IsSorted}
+use Rattle.std.proofs.Common.{◌≡◌, ℕ, ℤ, pos, ◌+ℤ◌, ◌≤ℤ◌, ◌<◌, ◌≤◌, int_lt, Bool, true, false, ◌||◌, Option, List, map, length, get_or, arith, inl, inr, refl, sym, subst, ap, ◌∙◌, IsSorted}
 use Rattle.std.proofs.lemmas.Int.{ints}
 use Rattle.box_geom.specs.Rectangle.{Rectangle, Covers}
 use Rattle.box_geom.specs.Layers.{rects_on, same_layer}
@@ -7,6 +7,7 @@ use Rattle.box_geom.specs.Touching.{Cell, Edge, to_right, to_left, upward, downw
 use Rattle.box_geom.specs.declared.shape.Shape.{Shape}
 use Rattle.box_geom.specs.declared.layer.Layer.{Layer}
 use Rattle.box_geom.specs.declared.layer.Layer.TheVariants.{Contact, Via}
+use Rattle.scmos_rules.specs.declared.rules.Deck.{Deck}
 use Rattle.scmos_rules.specs.declared.rules.Deck.TheVariants.{Plain}
 use Rattle.net_extract.specs.Classes.{AreLeast, AreTried}
 use Rattle.net_extract.specs.Nets.{Kind, Joins, by_contact, by_via}
@@ -14,6 +15,7 @@ use Rattle.net_extract.specs.Connections.{blank}
 use Rattle.net_extract.specs.Parts.{Part, Bond, touching, joining, tying}
 use Rattle.net_extract.specs.Links.{is_linking, links_in}
 use Rattle.net_extract.specs.Pieces.{part_of, piece_cmp, Paired}
+use Rattle.net_extract.specs.Ties.{PairedOrTied, AreTies}
 use Rattle.net_extract.specs.declared.piece.Piece.{Piece}
 use Rattle.net_extract.proofs.Apart.{filter_twice}
 use Rattle.net_extract.proofs.Classing.{least_like, cut_short}
@@ -50,12 +52,35 @@ bond_like s t e p q (tying d z) = absurd (cc d)
 pair_like : (s t : List Shape) → SameLinks s t → (ps : List Piece) (i j : ℕ) → Paired Plain s ps i j → Paired Plain t ps i j
 pair_like s t e ps i j p = record { one = p.one; other = p.other; at_one = p.at_one; at_other = p.at_other; bond = bond_like s t e (part_of p.one) (part_of p.other) p.bond }
 
-pub least_of_links : (s ts us : List Shape) (ps : List Piece) (ls : List ℕ) → ts ≡ links_in s → us ≡ ts → AreLeast (length ps) (Paired Plain us ps) ls → AreLeast (length ps) (Paired Plain s ps) ls
-least_of_links s ts us ps ls et eu is =
-    let mine : AreLeast (length ps) (Paired Plain (links_in s) ps) ls = subst (λ z. AreLeast (length ps) (Paired Plain z ps) ls) (eu ∙ et) is in
-    let there : SameLinks (links_in s) s = record { contacts = links_on Contact contact_links s; vias = links_on Via via_links s } in
-    let back : SameLinks s (links_in s) = record { contacts = sym there.contacts; vias = sym there.vias } in
-    least_like (length ps) (Paired Plain (links_in s) ps) (Paired Plain s ps) (pair_like (links_in s) s there ps) (pair_like s (links_in s) back ps) ls mine
+-- a deck knows the bonds of a plain one
+pair_of_plain : (deck : Deck) (s : List Shape) (ps : List Piece) (i j : ℕ) → Paired Plain s ps i j → Paired deck s ps i j
+pair_of_plain deck s ps i j p = record { one = p.one; other = p.other; at_one = p.at_one; at_other = p.at_other; bond = by p.bond }
+  where
+    by : Bond Plain s (part_of p.one) (part_of p.other) → Bond deck s (part_of p.one) (part_of p.other)
+    by (touching e t) = touching e t
+    by (joining b) = joining b
+    by (tying e z) = absurd (cc e)
+
+pub least_of_links : (deck : Deck) (s ts us : List Shape) (ps : List Piece) (ties : List (Option ℕ)) (ls : List ℕ) → ts ≡ links_in s → us ≡ ts → AreTies deck s ps ties → AreLeast (length ps) (PairedOrTied us ps ties) ls → AreLeast (length ps) (Paired deck s ps) ls
+least_of_links deck s ts us ps ties ls et eu tied is =
+    least_like (length ps) (PairedOrTied (links_in s) ps ties) (Paired deck s ps) onward backward ls (subst (λ z. AreLeast (length ps) (PairedOrTied z ps ties) ls) (eu ∙ et) is)
+  where
+    there : SameLinks (links_in s) s
+    there = record { contacts = links_on Contact contact_links s; vias = links_on Via via_links s }
+
+    back : SameLinks s (links_in s)
+    back = record { contacts = sym (links_on Contact contact_links s); vias = sym (links_on Via via_links s) }
+
+    onward : (i j : ℕ) → PairedOrTied (links_in s) ps ties i j → Paired deck s ps i j
+    onward i j (inl p) = pair_of_plain deck s ps i j (pair_like (links_in s) s there ps i j p)
+    onward i j (inr t) = tied.sound i j t
+
+    again : (i j : ℕ) → PairedOrTied s ps ties i j → PairedOrTied (links_in s) ps ties i j
+    again i j (inl p) = inl (pair_like s (links_in s) back ps i j p)
+    again i j (inr t) = inr t
+
+    backward : (i j : ℕ) → Paired deck s ps i j → PairedOrTied (links_in s) ps ties i j
+    backward i j p = again i j (tied.all i j p)
 
 -- ---- how far up a bond reaches
 edge_up : (a b : Cell) → Edge a b → b.y ≤ℤ (a.y +ℤ pos 1)

@@ -26,6 +26,7 @@ use Rattle.scmos_rules.specs.declared.rules.Deck.{Deck}
 use Rattle.net_extract.specs.Connections.{firsts_of, pieces_of, AreWires}
 use Rattle.net_extract.specs.NetMaps.{NetMap, HaveNames, net_named, AreCellsOf, AreOfNets, at_cell, net_of, of_net, blocks_of, IsNetAt, Maps, net_piece, net_pieces}
 use Rattle.net_extract.specs.Nets.{Kind, p_diffusion, n_diffusion, poly, metal1, metal2, Are, layer_of, Site, site_at}
+use Rattle.net_extract.specs.GateNets.{boxes_of}
 use Rattle.net_extract.specs.Naming.{name_of, names_of}
 use Rattle.net_extract.specs.Numbering.{IsInNet}
 use Rattle.net_extract.specs.Parts.{IsIn}
@@ -242,7 +243,7 @@ named_within m have name = by (find (λ (h : Held). bytes_eq h.name name) m.labe
 
 pub maps : (deck : Deck) (shapes : Shapes) (m : Mapped) (map : NetMap) → IsMapped deck shapes m → map.pieces ≡ net_pieces m.connections.wires.items → IsPermutation m.named.held.items map.labels → map.names ≡ m.named.names → Maps deck shapes map
 maps deck shapes m map is pieces moved names = record {
-  regular = regular_of deck shapes (firsts_of m.connections.firsts.items) m.devices is.few is.found;
+  regular = regular_of deck shapes (firsts_of m.connections.firsts.items) (boxes_of m.gates.wires.items m.gates.firsts.items) m.devices is.few is.found;
   firsts = firsts_of m.connections.firsts.items;
   held = m.named.held.items;
   has = is.named.labelled;

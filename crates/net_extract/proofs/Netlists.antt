@@ -65,7 +65,7 @@ one_labelling deck shapes firsts others hs ks a b =
 begins_strict : (a b : Rectangle) → BeginsBefore a b → BeginsBefore b a → ⊥
 begins_strict a b ab ba = ab.other ba.not_behind
 
-one_boxes : (deck : Deck) (s : List Shape) (xs ys : List Rectangle) → AreDevices deck s xs → AreDevices deck s ys → xs ≡ ys
+pub one_boxes : (deck : Deck) (s : List Shape) (xs ys : List Rectangle) → AreDevices deck s xs → AreDevices deck s ys → xs ≡ ys
 one_boxes deck s xs ys a b = ordered_same BeginsBefore begins_strict xs ys a.ascending b.ascending (λ z c. b.all z (a.devices z c)) (λ z c. a.all z (b.devices z c))
 
 diffusion_active : (s : List Shape) (row : Row) (x y : ℤ) → Conducts s (site_at (diffusion_of row) x y) → On Active s x y

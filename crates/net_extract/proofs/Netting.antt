@@ -34,17 +34,14 @@ net_is deck s ps ls wires firsts d up least n = wires_are deck s ps ls wires fir
 
 pub ruleset net_rules = (pieces_proper, labels_head, net_is)
 
-pub heads_from : (deck : Deck) (s : List Shape) (ps qs rs : List Piece) (ls ms : List ℕ) → qs ≡ ps → rs ≡ ps → ms ≡ ls → AreLeast (length qs) (Paired deck s qs) ls → AreHeads (length rs) ms
-heads_from deck s ps qs rs ls ms eq er em least = subst (λ zs. AreHeads (length zs) ms) (sym er) (subst (AreHeads (length ps)) (sym em) (labels_head deck s ps ls (subst (λ zs. AreLeast (length zs) (Paired deck s zs) ls) eq least)))
+pub heads_from : (deck : Deck) (s : List Shape) (ps : List Piece) (ls ms : List ℕ) → ms ≡ ls → AreLeast (length ps) (Paired deck s ps) ls → AreHeads (length ps) ms
+heads_from deck s ps ls ms em least = subst (AreHeads (length ps)) (sym em) (labels_head deck s ps ls least)
 
-pub net_from : (deck : Deck) (s : List Shape) (ps qs rs : List Piece) (ls ms : List ℕ) (wires : List Wire) (firsts : List Piece) → qs ≡ ps → rs ≡ ps → ms ≡ ls → AreDrawn s (rects_in ps) → IsSorted piece_cmp ps → AreLeast (length qs) (Paired deck s qs) ls → AreNumbered rs ms (length rs) wires firsts → AreWires deck s wires firsts
-net_from deck s ps qs rs ls ms wires firsts eq er em d up least n = net_is deck s ps ls wires firsts d up (subst (λ zs. AreLeast (length zs) (Paired deck s zs) ls) eq least) (subst (λ zs. AreNumbered zs ls (length zs) wires firsts) er (subst (λ zs. AreNumbered rs zs (length rs) wires firsts) em n))
+pub net_from : (deck : Deck) (s : List Shape) (ps : List Piece) (ls ms : List ℕ) (wires : List Wire) (firsts : List Piece) → ms ≡ ls → AreDrawn s (rects_in ps) → IsSorted piece_cmp ps → AreLeast (length ps) (Paired deck s ps) ls → AreNumbered ps ms (length ps) wires firsts → AreWires deck s wires firsts
+net_from deck s ps ls ms wires firsts em d up least n = net_is deck s ps ls wires firsts d up least (subst (λ zs. AreNumbered ps zs (length ps) wires firsts) em n)
 
-pub few_from : (deck : Deck) (s : List Shape) (ps qs rs : List Piece) (ls ms : List ℕ) → qs ≡ ps → rs ≡ ps → ms ≡ ls → AreDrawn s (rects_in ps) → IsSorted piece_cmp ps → HaveFewCorners ps → AreLeast (length qs) (Paired deck s qs) ls → length (heads_below rs ms (length rs)) ≤ 2000000000
-few_from deck s ps qs rs ls ms eq er em d up few least =
-    let mine : AreLeast (length ps) (Paired deck s ps) ls = subst (λ zs. AreLeast (length zs) (Paired deck s zs) ls) eq least in
-    let here : length (heads_below ps ls (length ps)) ≤ 2000000000 = few_heads deck s ps ls (record { drawn = d; sorted = up; least = mine }) few in
-    subst (λ zs. length (heads_below zs ms (length zs)) ≤ 2000000000) (sym er) (subst (λ zs. length (heads_below ps zs (length ps)) ≤ 2000000000) (sym em) here)
+pub few_from : (deck : Deck) (s : List Shape) (ps : List Piece) (ls ms : List ℕ) → ms ≡ ls → AreDrawn s (rects_in ps) → IsSorted piece_cmp ps → HaveFewCorners ps → AreLeast (length ps) (Paired deck s ps) ls → length (heads_below ps ms (length ps)) ≤ 2000000000
+few_from deck s ps ls ms em d up few least = subst (λ zs. length (heads_below ps zs (length ps)) ≤ 2000000000) (sym em) (few_heads deck s ps ls (record { drawn = d; sorted = up; least = least }) few)
 
 pub few_numbered : (rs : List Piece) (ms : List ℕ) (wires : List Wire) (firsts : List Piece) → length (heads_below rs ms (length rs)) ≤ 2000000000 → AreNumbered rs ms (length rs) wires firsts → length firsts ≤ 2000000000
 few_numbered rs ms wires firsts few n = subst (λ zs. length zs ≤ 2000000000) (sym n.heads) few

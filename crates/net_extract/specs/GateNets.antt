@@ -1,10 +1,10 @@
--- The gate cells of a drawing as a drawing of their own, whose nets are the classes of gate cells.
-use Rattle.std.specs.Prelude.{◌≡◌, ◌↔◌, ℕ, zero, suc, ◌==◌, ℤ, if◌then◌else◌, List, [], ◌∷◌, ◌++◌, get_or, fold}
+-- Sets of cells as drawings of their own, whose nets are the classes of their cells; the boxes of gates.
+use Rattle.std.specs.Prelude.{◌≡◌, ◌↔◌, ℕ, zero, suc, ◌==◌, ℤ, if◌then◌else◌, List, [], ◌∷◌, ◌++◌, get_or, length, fold}
 use Rattle.std.specs.Int.{int_max, int_min}
 use Rattle.std.specs.List.{Contains, AllZip}
 use Rattle.box_geom.specs.Rectangle.{Rectangle, Holds}
 use Rattle.box_geom.specs.declared.shape.Shape.{Shape}
-use Rattle.box_geom.specs.declared.layer.Layer.TheVariants.{Poly}
+use Rattle.box_geom.specs.declared.layer.Layer.TheVariants.{Well, Poly}
 use Rattle.scmos_rules.specs.Layout.{On, Gate}
 use Rattle.scmos_rules.specs.declared.rules.Deck.{Deck}
 use Rattle.scmos_rules.specs.declared.rules.Deck.TheVariants.{Plain}
@@ -19,16 +19,23 @@ use Rattle.net_extract.specs.declared.netlist.Drawn.{Drawn}
 use Rattle.net_extract.specs.declared.piece.Piece.{Piece}
 use Rattle.net_extract.specs.declared.connections.Wire.{Wire}
 
--- the shapes are poly and cover the gate cells of a drawing
-pub record AreGates (s gates : List Shape) : Type 0 where
-  pub poly : (x y : ℤ) → On Poly gates x y ↔ Gate s x y
-  pub only : (z : Shape) → Contains gates z → z.layer ≡ Poly
+-- the shapes are poly and cover the cells of a set
+pub record ArePolyOf (P : ℤ → ℤ → Type 0) (shapes : List Shape) : Type 0 where
+  pub poly : (x y : ℤ) → On Poly shapes x y ↔ P x y
+  pub only : (z : Shape) → Contains shapes z → z.layer ≡ Poly
 
--- the nets of the gates of a drawing
-pub record AreGateNets (s : List Shape) (wires : List Wire) (firsts : List Piece) : Type 0 where
-  pub gates : List Shape
-  pub are : AreGates s gates
-  pub nets : AreWires Plain gates wires firsts
+-- the classes of a set's cells, as the nets of the set drawn in poly
+pub record AreClassNets (P : ℤ → ℤ → Type 0) (wires : List Wire) (firsts : List Piece) : Type 0 where
+  pub shapes : List Shape
+  pub are : ArePolyOf P shapes
+  pub nets : AreWires Plain shapes wires firsts
+
+-- the classes of the gate cells of a drawing, and of its well cells
+abbrev pub AreGateNets : List Shape → List Wire → List Piece → Type 0
+AreGateNets s wires firsts = AreClassNets (Gate s) wires firsts
+
+abbrev pub AreWellNets : List Shape → List Wire → List Piece → Type 0
+AreWellNets s wires firsts = AreClassNets (On Well s) wires firsts
 
 -- the piece widened to a wire of the net
 abbrev pub wider : ℕ → Piece → Wire → Piece
@@ -50,9 +57,12 @@ boxes_below wires firsts (suc k) = boxes_below wires firsts k ++ rect_of (box_of
 pub record IsAllGate (s : List Shape) (box : Rectangle) : Type 0 where
   pub all : (x y : ℤ) → Holds box x y → Gate s x y
 
--- all classes of gates are devices, and these are listed
-pub record AreFound (deck : Deck) (s : List Shape) (firsts : List Site) (devices : List Drawn) : Type 0 where
-  pub boxes : List Rectangle
+-- the boxes of all classes
+abbrev pub boxes_of : List Wire → List Piece → List Rectangle
+boxes_of wires firsts = boxes_below wires firsts (length firsts)
+
+-- all classes of gates are devices, whose boxes are listed
+pub record AreFound (deck : Deck) (s : List Shape) (firsts : List Site) (boxes : List Rectangle) (devices : List Drawn) : Type 0 where
   pub are : AreDevices deck s boxes
   pub drawn : AllZip (IsDrawn deck s firsts) boxes devices
 

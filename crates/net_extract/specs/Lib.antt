@@ -1,4 +1,5 @@
 pub mod Areas
+pub mod Bodies
 pub mod Classes
 pub mod Connections
 pub mod Corners
@@ -18,3 +19,4 @@ pub mod Parts
 pub mod Pieces
 pub mod Sides
 pub mod Steps
+pub mod Ties

@@ -58,7 +58,8 @@ fn meets(area: &Area, rect: &Rect) -> bool
     meets_across(area, rect) && meets_upward(area, rect)
 }
 
-fn does_meet(shapes: &[Shape], layer: Layer, area: &Area) -> bool
+/// Whether the area has a cell in common with a shape of the layer.
+pub(crate) fn does_meet(shapes: &[Shape], layer: Layer, area: &Area) -> bool
     ensures { result ≡ meeting_any shapes.now layer (cells_in area.now) }
 {
     shapes

@@ -1,11 +1,13 @@
 // Classes of pieces: each is labelled by the number of its first piece. Pieces that are bonded come into one
 // tree, whose root is its least number; a piece is tried with those behind it up to the first that begins above it.
-ghost use Rattle.std.specs.Prelude.{◌≡◌, ◌<◌, ◌≤◌, length, get_or, int_lt, IfOk, All, IsSorted};
+// Then come the ties, which reach over any distance.
+ghost use Rattle.std.specs.Prelude.{◌≡◌, ◌<◌, ◌≤◌, ℕ, length, get_or, int_lt, IfOk, IfSome, None, All, IsSorted};
 ghost use Rattle.std.specs.List.{range_with_len};
 ghost use Rattle.box_geom.specs.Rectangle.{IsProper};
 ghost use Rattle.scmos_rules.specs.declared.rules.Deck.TheVariants.{Plain};
 ghost use Rattle.net_extract.specs.Classes.{AreLow, IsRoot, hung, raised, IsJoined, AreRoots, AreSound, AreTrees, AreLeast, AreTried, IsTried};
 ghost use Rattle.net_extract.specs.Pieces.{rect_of, piece_cmp, Paired};
+ghost use Rattle.net_extract.specs.Ties.{HaveOneTie, InTreeOrTied, PairedOrTied, is_one_tie};
 
 use crate::bond::are_bonded;
 use crate::piece::Piece;
@@ -103,6 +105,45 @@ fn join_all(parents: &mut Vec<usize>, shapes: &[Shape], pieces: &[Piece])
     }
 }
 
+fn is_one_tie(ties: &[Option<u64>], one: usize, other: usize) -> bool
+    requires one { one < length ties.now }
+    requires other { other < length ties.now }
+    ensures { result ≡ is_one_tie (get_or ties.now one None) (get_or ties.now other None) }
+{
+    match (ties[one], ties[other]) {
+        (Some(a), Some(b)) => a == b,
+        _ => false,
+    }
+}
+
+// An earlier number of the same tie.
+fn tied_before(ties: &[Option<u64>], at: usize) -> Option<usize>
+    requires { at < length ties.now }
+    ensures earlier { IfSome result (λ k. k < at) }
+    ensures tied { IfSome result (λ k. HaveOneTie ties.now at k) }
+    ensures none { result ≡ None → (k : ℕ) → k < at → HaveOneTie ties.now at k → ⊥ }
+{
+    for earlier in 0..at {
+        if is_one_tie(ties, at, earlier) {
+            return Some(earlier);
+        }
+    }
+    None
+}
+
+fn join_tied(parents: &mut Vec<usize>, ties: &[Option<u64>])
+    requires low { AreLow parents.old.items }
+    requires few { length ties.now ≤ length parents.old.items }
+    ensures { AreTrees (length parents.old.items) (InTreeOrTied parents.old.items ties.now) parents.new.items }
+{
+    for at in 0..ties.len() {
+        match tied_before(ties, at) {
+            Some(earlier) => join(parents, at, earlier),
+            None => {}
+        }
+    }
+}
+
 fn raise(parents: &mut Vec<usize>, at: usize)
     requires at { at < length parents.old.items }
     requires up { get_or parents.old.items at 0 < length parents.old.items }
@@ -122,18 +163,22 @@ fn raise_all(parents: &mut Vec<usize>)
     }
 }
 
-/// For each piece the number of the first one that bonds chain with it.
+/// For each piece the number of the first one that bonds and ties chain with it.
 pub(crate) fn least_labels(
     alloc: Global,
     shapes: &[Shape],
     pieces: &[Piece],
+    ties: &[Option<u64>],
 ) -> Result<Vec<usize>, NoMemory>
     requires proper { All (λ p. IsProper (rect_of p)) pieces.now }
     requires sorted { IsSorted piece_cmp pieces.now }
-    ensures { IfOk result (λ labels. AreLeast (length pieces.now) (Paired Plain shapes.now pieces.now) labels.items) }
+    requires ties { length ties.now ≤ length pieces.now }
+    ensures { IfOk result (λ labels. AreLeast (length pieces.now) (PairedOrTied shapes.now pieces.now ties.now)
+        labels.items) }
 {
     let mut labels = numbers(alloc, pieces.len())?;
     join_all(&mut labels, shapes, pieces);
+    join_tied(&mut labels, ties);
     raise_all(&mut labels);
     Ok(labels)
 }

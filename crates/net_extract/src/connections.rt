@@ -1,18 +1,22 @@
 // The nets of a drawing: every piece of conductor with the number of its net.
 ghost use Rattle.std.specs.Prelude.{◌≡◌, ◌<◌, ◌≤◌, ◌++◌, ◌∷◌, [], ◌+◌, All, IsPermutation, IsSorted, length, get_or, IfOk, OnOk};
-ghost use Rattle.scmos_rules.specs.declared.rules.Deck.TheVariants.{Plain};
+ghost use Rattle.scmos_rules.specs.declared.rules.Deck.TheVariants.{Plain, Taps};
 ghost use Rattle.net_extract.specs.Classes.{AreHeads, AreLeast};
-ghost use Rattle.box_geom.specs.Rectangle.{IsProper};
+ghost use Rattle.box_geom.specs.Rectangle.{IsProper, IsRectangle};
 ghost use Rattle.net_extract.specs.Corners.{HaveFewSides, HaveFewCorners};
 ghost use Rattle.net_extract.specs.Connections.{AreNumbered, AreWires, nets_of, heads_below};
 ghost use Rattle.net_extract.specs.Parts.{AreDrawn};
 ghost use Rattle.net_extract.specs.Pieces.{rect_of, rects_in, piece_cmp, Paired};
+ghost use Rattle.net_extract.specs.Ties.{AreTies};
 
 use crate::class::least_labels;
+use crate::class_map::well_map;
 use crate::conductor::{all_links, all_pieces};
 use crate::piece::Piece;
+use crate::tie::ties_of;
 use box_geom::Shape;
 use cell_num::NoMemory;
+use scmos_rules::Deck;
 use std::alloc::Global;
 
 /// A piece of conductor and the number of its net.
@@ -22,9 +26,10 @@ pub struct Wire {
     pub net: u32,
 }
 
-// The nets of a drawing, by number, and its pieces.
+// The nets of a drawing by the bonds of a deck: by number, and its pieces.
 #[derive(Debug, Drop)]
 pub struct Connections {
+    pub deck: Deck,
     pub wires: Vec<Wire>,
     pub firsts: Vec<Piece>,
 }
@@ -84,17 +89,28 @@ fn number_piece(
 }
 
 // Numbers for all pieces, by their labels.
-fn number_all(alloc: Global, pieces: &[Piece], labels: &[usize]) -> Result<Connections, NoMemory>
+fn number_all(
+    alloc: Global,
+    deck: Deck,
+    pieces: &[Piece],
+    labels: &[usize],
+) -> Result<Connections, NoMemory>
     requires labels { AreHeads (length pieces.now) labels.now }
     requires few { length (heads_below pieces.now labels.now (length pieces.now)) ≤ 2000000000 }
-    ensures { IfOk result (λ m. AreNumbered pieces.now labels.now (length pieces.now) m.wires.items m.firsts.items) }
+    ensures deck { IfOk result (λ m. m.deck ≡ deck) }
+    ensures numbered { IfOk result (λ m. AreNumbered pieces.now labels.now (length pieces.now) m.wires.items
+        m.firsts.items) }
 {
     let mut wires = Vec::new(alloc);
     let mut firsts = Vec::new(alloc);
     for at in 0..pieces.len() {
         number_piece(&mut wires, &mut firsts, pieces, labels, at)?;
     }
-    Ok(Connections { wires, firsts })
+    Ok(Connections {
+        deck,
+        wires,
+        firsts,
+    })
 }
 
 fn sorted(mut pieces: Vec<Piece>) -> Vec<Piece>
@@ -118,29 +134,90 @@ fn ordered_pieces(alloc: Global, shapes: &[Shape]) -> Result<Vec<Piece>, NoMemor
 }
 
 // For each piece the number of the first one of its net.
-fn net_labels(alloc: Global, shapes: &[Shape], pieces: &[Piece]) -> Result<Vec<usize>, NoMemory>
+fn net_labels(
+    alloc: Global,
+    deck: Deck,
+    shapes: &[Shape],
+    pieces: &[Piece],
+    ties: &[Option<u64>],
+) -> Result<Vec<usize>, NoMemory>
     requires proper { All (λ p. IsProper (rect_of p)) pieces.now }
     requires sorted { IsSorted piece_cmp pieces.now }
-    ensures { IfOk result (λ labels. AreLeast (length pieces.now) (Paired Plain shapes.now pieces.now) labels.items) }
+    requires ties { AreTies deck shapes.now pieces.now ties.now }
+    requires few { length ties.now ≤ length pieces.now }
+    ensures { IfOk result (λ labels. AreLeast (length pieces.now) (Paired deck shapes.now pieces.now) labels.items) }
 {
     let links = all_links(alloc, shapes)?;
-    match least_labels(alloc, links.as_slice(), pieces) {
+    match least_labels(alloc, links.as_slice(), pieces, ties) {
         Ok(labels) => Ok(labels),
         Err(NoMemory) => Err(NoMemory),
     }
 }
 
-/// The nets of a drawing: pieces in the order of their first cells, with the numbers of their nets.
-#[tactic(auto, using(crate::proofs::Netting::net_rules))]
+// The nets of pieces, with the ties that the deck knows.
+fn connect(
+    alloc: Global,
+    deck: Deck,
+    shapes: &[Shape],
+    pieces: &[Piece],
+    ties: &[Option<u64>],
+) -> Result<Connections, NoMemory>
+    requires drawn { AreDrawn shapes.now (rects_in pieces.now) }
+    requires sorted { IsSorted piece_cmp pieces.now }
+    requires corners { HaveFewCorners pieces.now }
+    requires ties { AreTies deck shapes.now pieces.now ties.now }
+    requires few { length ties.now ≤ length pieces.now }
+    ensures deck { IfOk result (λ m. m.deck ≡ deck) }
+    ensures wires { IfOk result (λ m. AreWires deck shapes.now m.wires.items m.firsts.items) }
+    ensures few { IfOk result (λ m. length m.firsts.items ≤ 2000000000) }
+{
+    let labels = net_labels(alloc, deck, shapes, pieces, ties)?;
+    match number_all(alloc, deck, pieces, labels.as_slice()) {
+        Ok(map) => Ok(map),
+        Err(NoMemory) => Err(NoMemory),
+    }
+}
+
+/// The nets of a drawing without ties: pieces in the order of their first cells, with the numbers of their nets.
 pub(crate) fn connections_of(alloc: Global, shapes: &[Shape]) -> Result<Connections, NoMemory>
     requires proper { All (λ s. IsProper s.rect) shapes.now }
     requires few { HaveFewSides shapes.now }
+    ensures deck { IfOk result (λ m. m.deck ≡ Plain) }
     ensures wires { IfOk result (λ m. AreWires Plain shapes.now m.wires.items m.firsts.items) }
     ensures few { IfOk result (λ m. length m.firsts.items ≤ 2000000000) }
 {
     let pieces = ordered_pieces(alloc, shapes)?;
-    let labels = net_labels(alloc, shapes, pieces.as_slice())?;
-    match number_all(alloc, pieces.as_slice(), labels.as_slice()) {
+    let ties = Vec::new(alloc);
+    match connect(
+        alloc,
+        Deck::Plain,
+        shapes,
+        pieces.as_slice(),
+        ties.as_slice(),
+    ) {
+        Ok(map) => Ok(map),
+        Err(NoMemory) => Err(NoMemory),
+    }
+}
+
+/// The nets of a drawing with taps.
+pub(crate) fn tapped_connections(alloc: Global, shapes: &[Shape]) -> Result<Connections, NoMemory>
+    requires limits { All (λ s. IsRectangle s.rect) shapes.now }
+    requires few { HaveFewSides shapes.now }
+    ensures deck { IfOk result (λ m. m.deck ≡ Taps) }
+    ensures wires { IfOk result (λ m. AreWires Taps shapes.now m.wires.items m.firsts.items) }
+    ensures few { IfOk result (λ m. length m.firsts.items ≤ 2000000000) }
+{
+    let pieces = ordered_pieces(alloc, shapes)?;
+    let wells = well_map(alloc, shapes)?;
+    let ties = ties_of(alloc, shapes, wells.wires.as_slice(), pieces.as_slice())?;
+    match connect(
+        alloc,
+        Deck::Taps,
+        shapes,
+        pieces.as_slice(),
+        ties.as_slice(),
+    ) {
         Ok(map) => Ok(map),
         Err(NoMemory) => Err(NoMemory),
     }

@@ -1,7 +1,6 @@
 // Devices: gates between two sides of diffusion.
 ghost use Rattle.std.specs.Prelude.{◌≡◌, ◌↔◌, All, IsTrue, IfSome, None};
 ghost use Rattle.box_geom.specs.Rectangle.{IsProper};
-ghost use Rattle.scmos_rules.specs.declared.rules.Deck.TheVariants.{Plain};
 ghost use Rattle.net_extract.specs.Areas.{cells_in, meeting_across, meeting_upward, meeting};
 ghost use Rattle.net_extract.specs.Devices.{IsSide, IsGateBox, IsSomeDevice, diffusion_of};
 ghost use Rattle.net_extract.specs.Extraction.{IsDrawn};
@@ -91,10 +90,11 @@ fn conductor(row: Row) -> Conductor
 fn side_net(shapes: &Layers, map: &Connections, row: Row, area: &Area) -> Option<u32>
     requires area { IsProper (cells_in area.now) }
     requires shapes { All (λ s. IsProper s.rect) shapes.now }
-    requires map { AreWires Plain shapes.now map.now.wires.items map.now.firsts.items }
-    ensures some { IfSome result (λ n. IsSideNet Plain shapes.now (firsts_of map.now.firsts.items) row
+    requires map { AreWires map.now.deck shapes.now map.now.wires.items map.now.firsts.items }
+    ensures some { IfSome result (λ n. IsSideNet map.now.deck shapes.now (firsts_of map.now.firsts.items) row
         (cells_in area.now) n) }
-    ensures none { result ≡ None → (a : Site) → IsSide Plain shapes.now (diffusion_of row) (cells_in area.now) a → ⊥ }
+    ensures none { result ≡ None → (a : Site) → IsSide map.now.deck shapes.now (diffusion_of row)
+        (cells_in area.now) a → ⊥ }
 {
     if !is_diffusion(shapes, row, area) {
         return None;
@@ -160,10 +160,10 @@ fn side_nets(
 ) -> Option<(u32, u32)>
     requires gate { IsProper (rect_of gate.now) }
     requires shapes { All (λ s. IsProper s.rect) shapes.now }
-    requires map { AreWires Plain shapes.now map.now.wires.items map.now.firsts.items }
-    ensures some { IfSome result (λ ends. AreSideNets Plain shapes.now (firsts_of map.now.firsts.items)
+    requires map { AreWires map.now.deck shapes.now map.now.wires.items map.now.firsts.items }
+    ensures some { IfSome result (λ ends. AreSideNets map.now.deck shapes.now (firsts_of map.now.firsts.items)
         (rect_of gate.now) row (flow_of current) ends) }
-    ensures none { result ≡ None → IsNotAlong Plain shapes.now (rect_of gate.now) row (flow_of current) }
+    ensures none { result ≡ None → IsNotAlong map.now.deck shapes.now (rect_of gate.now) row (flow_of current) }
 {
     match side_net(shapes, map, row, &source(gate, current)) {
         Some(one) => match side_net(shapes, map, row, &drain(gate, current)) {
@@ -184,10 +184,10 @@ fn device_along(
 ) -> Option<Drawn>
     requires gate { IsGateBox shapes.now (rect_of gate.now) }
     requires shapes { All (λ s. IsProper s.rect) shapes.now }
-    requires map { AreWires Plain shapes.now map.now.wires.items map.now.firsts.items }
-    ensures some { IfSome result (λ d. IsAlong Plain shapes.now (firsts_of map.now.firsts.items) (rect_of gate.now) row
-        (flow_of current) d) }
-    ensures none { result ≡ None → IsNotAlong Plain shapes.now (rect_of gate.now) row (flow_of current) }
+    requires map { AreWires map.now.deck shapes.now map.now.wires.items map.now.firsts.items }
+    ensures some { IfSome result (λ d. IsAlong map.now.deck shapes.now (firsts_of map.now.firsts.items)
+        (rect_of gate.now) row (flow_of current) d) }
+    ensures none { result ≡ None → IsNotAlong map.now.deck shapes.now (rect_of gate.now) row (flow_of current) }
 {
     if !are_ends_closed(shapes, gate, current) {
         return None;
@@ -204,10 +204,11 @@ fn device_along(
 fn device_in_row(shapes: &Layers, map: &Connections, row: Row, gate: &Piece) -> Option<Drawn>
     requires gate { IsGateBox shapes.now (rect_of gate.now) }
     requires shapes { All (λ s. IsProper s.rect) shapes.now }
-    requires map { AreWires Plain shapes.now map.now.wires.items map.now.firsts.items }
+    requires map { AreWires map.now.deck shapes.now map.now.wires.items map.now.firsts.items }
     requires row { IsInRow shapes.now row (rect_of gate.now) }
-    ensures some { IfSome result (λ d. IsDrawn Plain shapes.now (firsts_of map.now.firsts.items) (rect_of gate.now) d) }
-    ensures none { result ≡ None → IsSomeDevice Plain shapes.now (rect_of gate.now) → ⊥ }
+    ensures some { IfSome result (λ d. IsDrawn map.now.deck shapes.now (firsts_of map.now.firsts.items)
+        (rect_of gate.now) d) }
+    ensures none { result ≡ None → IsSomeDevice map.now.deck shapes.now (rect_of gate.now) → ⊥ }
 {
     match device_along(shapes, map, row, gate, Current::Rightward) {
         Some(device) => Some(device),
@@ -219,9 +220,10 @@ fn device_in_row(shapes: &Layers, map: &Connections, row: Row, gate: &Piece) -> 
 pub(crate) fn device_of(shapes: &Layers, map: &Connections, gate: &Piece) -> Option<Drawn>
     requires gate { IsGateBox shapes.now (rect_of gate.now) }
     requires shapes { All (λ s. IsProper s.rect) shapes.now }
-    requires map { AreWires Plain shapes.now map.now.wires.items map.now.firsts.items }
-    ensures some { IfSome result (λ d. IsDrawn Plain shapes.now (firsts_of map.now.firsts.items) (rect_of gate.now) d) }
-    ensures none { result ≡ None → IsSomeDevice Plain shapes.now (rect_of gate.now) → ⊥ }
+    requires map { AreWires map.now.deck shapes.now map.now.wires.items map.now.firsts.items }
+    ensures some { IfSome result (λ d. IsDrawn map.now.deck shapes.now (firsts_of map.now.firsts.items)
+        (rect_of gate.now) d) }
+    ensures none { result ≡ None → IsSomeDevice map.now.deck shapes.now (rect_of gate.now) → ⊥ }
 {
     if is_in_row(shapes, Row::P, &whole(gate)) {
         return device_in_row(shapes, map, Row::P, gate);

@@ -1,29 +1,30 @@
 // The netlist of a drawing.
-ghost use Rattle.std.specs.Prelude.{◌≡◌, ◌≤◌, length, All, IfOk, IfErr, OnOk, None, map};
+ghost use Rattle.std.specs.Prelude.{◌≡◌, ◌≤◌, length, All, IfOk, IfErr, OnOk, None};
 ghost use Rattle.std.specs.List.{find};
-ghost use Rattle.scmos_rules.specs.declared.rules.Deck.TheVariants.{Plain};
-ghost use Rattle.net_extract.specs.Lookups.{is_lost};
 ghost use Rattle.box_geom.specs.Layers.{AreWithinLimits};
 ghost use Rattle.box_geom.specs.Rectangle.{IsRectangle};
-ghost use Rattle.net_extract.specs.Corners.{HaveFewSides};
-ghost use Rattle.net_extract.specs.Cuts.{poly_of};
-ghost use Rattle.net_extract.specs.Extraction.{AreFew, AreRegular, Extracts, ExtractRefused, SaysTooMany};
-ghost use Rattle.net_extract.specs.GateNets.{AreGateNets, AreFound};
+ghost use Rattle.scmos_rules.specs.declared.rules.Deck.{Deck};
+ghost use Rattle.scmos_rules.specs.declared.rules.Deck.TheVariants.{Plain, Taps};
+ghost use Rattle.net_extract.specs.Bodies.{AreBodies, ExtractsBodies};
 ghost use Rattle.net_extract.specs.Connections.{AreWires, firsts_of};
-ghost use Rattle.net_extract.specs.Pieces.{rect_of};
+ghost use Rattle.net_extract.specs.Corners.{HaveFewSides};
+ghost use Rattle.net_extract.specs.Extraction.{AreFew, AreRegular, Extracts, ExtractRefused, SaysTooMany};
+ghost use Rattle.net_extract.specs.GateNets.{AreGateNets, AreFound, boxes_of};
+ghost use Rattle.net_extract.specs.Lookups.{is_lost};
 ghost use Rattle.net_extract.specs.Steps.{AreNamed, IsMapped};
 
-use crate::conductor::gate_pieces;
-use crate::connections::{Connections, connections_of, count_of};
+use crate::body::{bodies, taps};
+use crate::class_map::{gate_map, well_map};
+use crate::connections::{Connections, connections_of, count_of, tapped_connections};
 use crate::fault::ExtractFault;
 use crate::gate::devices;
 use crate::layers::Layers;
 use crate::lookup::{all_held, check_strays};
 use crate::naming::{Held, net_names};
-use crate::netlist::{DrawnList, Netlist};
-use crate::piece::Piece;
-use box_geom::{Layer, Rect, Shape, Shapes};
+use crate::netlist::{BodyList, BodyNetlist, DrawnList, Netlist};
+use box_geom::{Shape, Shapes};
 use cell_num::{Names, NoMemory};
+use scmos_rules::Deck;
 use std::alloc::Global;
 
 const MOST_RECTS: usize = 10_000;
@@ -37,10 +38,11 @@ pub struct Named {
     pub names: Names,
 }
 
-/// What a drawing that is not refused consists of: connections, devices and labels.
+/// What a drawing that is not refused consists of: connections, classes of gate cells, devices and labels.
 #[derive(Drop)]
 pub struct Mapped {
     pub connections: Connections,
+    pub gates: Connections,
     pub devices: DrawnList,
     pub named: Named,
 }
@@ -48,7 +50,7 @@ pub struct Mapped {
 #[tactic(auto, using(crate::proofs::Extracting::count_rules))]
 fn check_counts(shapes: &Shapes) -> Result<(), ExtractFault>
     ensures few { OnOk result (AreFew shapes.now) }
-    ensures many { IfErr result (λ f. ExtractRefused Plain shapes.now f) }
+    ensures many { IfErr result (λ f. (deck : Deck) → ExtractRefused deck shapes.now f) }
     ensures says { SaysTooMany shapes.now result }
 {
     let rects = shapes.rects.len();
@@ -66,69 +68,36 @@ fn check_counts(shapes: &Shapes) -> Result<(), ExtractFault>
     Ok(())
 }
 
-fn gate_shape(piece: &Piece) -> Shape
-    requires { IsRectangle (rect_of piece.now) }
-    ensures { result ≡ poly_of piece.now }
-{
-    Shape {
-        layer: Layer::Poly,
-        rect: Rect {
-            x1: piece.left,
-            y1: piece.low,
-            x2: piece.right,
-            y2: piece.top,
-        },
-    }
-}
-
-fn gate_shapes(alloc: Global, pieces: &[Piece]) -> Result<Vec<Shape>, NoMemory>
-    requires { All (λ p. IsRectangle (rect_of p)) pieces.now }
-    ensures { IfOk result (λ shapes. shapes.items ≡ map poly_of pieces.now) }
-{
-    let mut shapes = Vec::new(alloc);
-    for piece in pieces {
-        shapes.push(gate_shape(piece)).map_err(|_| NoMemory)?;
-    }
-    Ok(shapes)
-}
-
-// The classes of gate cells, as the nets of a drawing of the gates alone.
-fn gate_map(alloc: Global, shapes: &[Shape]) -> Result<Connections, NoMemory>
-    requires limits { All (λ s. IsRectangle s.rect) shapes.now }
-    requires few { HaveFewSides shapes.now }
-    ensures { IfOk result (λ m. AreGateNets shapes.now m.wires.items m.firsts.items) }
-{
-    let pieces = gate_pieces(alloc, shapes)?;
-    let gates = gate_shapes(alloc, pieces.as_slice())?;
-    connections_of(alloc, gates.as_slice())
-}
-
-fn all_devices(alloc: Global, shapes: &Shapes, map: &Connections) -> Result<DrawnList, ExtractFault>
+fn all_devices(
+    alloc: Global,
+    shapes: &Shapes,
+    map: &Connections,
+    gates: &Connections,
+) -> Result<DrawnList, ExtractFault>
     requires few { AreFew shapes.now }
     requires limits { AreWithinLimits shapes.now.rects }
-    requires map { AreWires Plain shapes.now.rects map.now.wires.items map.now.firsts.items }
-    ensures ok { IfOk result (AreFound Plain shapes.now.rects (firsts_of map.now.firsts.items)) }
-    ensures refused { IfErr result (λ f. ExtractRefused Plain shapes.now f) }
+    requires map { AreWires map.now.deck shapes.now.rects map.now.wires.items map.now.firsts.items }
+    requires gates { AreGateNets shapes.now.rects gates.now.wires.items gates.now.firsts.items }
+    ensures ok { IfOk result (AreFound map.now.deck shapes.now.rects (firsts_of map.now.firsts.items)
+        (boxes_of gates.now.wires.items gates.now.firsts.items)) }
+    ensures refused { IfErr result (λ f. ExtractRefused map.now.deck shapes.now f) }
 {
-    let Ok(gates) = gate_map(alloc, shapes.rects.as_slice()) else {
-        return Err(ExtractFault::NoMemory);
-    };
     let Ok(layers) = Layers::new(alloc, shapes.rects.as_slice()) else {
         return Err(ExtractFault::NoMemory);
     };
-    match devices(alloc, &layers, map, &gates) {
+    match devices(alloc, &layers, map, gates) {
         Ok(devices) => Ok(devices),
         Err(fault) => Err(fault),
     }
 }
 
 fn named_by_labels(alloc: Global, shapes: &Shapes, map: &Connections) -> Result<Named, ExtractFault>
-    requires regular { AreRegular Plain shapes.now }
-    requires map { AreWires Plain shapes.now.rects map.now.wires.items map.now.firsts.items }
+    requires regular { AreRegular map.now.deck shapes.now }
+    requires map { AreWires map.now.deck shapes.now.rects map.now.wires.items map.now.firsts.items }
     requires held { find (is_lost map.now.wires.items) shapes.now.labels ≡ None }
     requires few { length map.now.firsts.items ≤ 2000000000 }
-    ensures ok { IfOk result (AreNamed Plain shapes.now (firsts_of map.now.firsts.items)) }
-    ensures refused { IfErr result (λ f. ExtractRefused Plain shapes.now f) }
+    ensures ok { IfOk result (AreNamed map.now.deck shapes.now (firsts_of map.now.firsts.items)) }
+    ensures refused { IfErr result (λ f. ExtractRefused map.now.deck shapes.now f) }
 {
     let Ok(held) = all_held(alloc, map.wires.as_slice(), shapes.labels.as_slice()) else {
         return Err(ExtractFault::NoMemory);
@@ -141,11 +110,11 @@ fn named_by_labels(alloc: Global, shapes: &Shapes, map: &Connections) -> Result<
 }
 
 fn all_named(alloc: Global, shapes: &Shapes, map: &Connections) -> Result<Named, ExtractFault>
-    requires regular { AreRegular Plain shapes.now }
-    requires map { AreWires Plain shapes.now.rects map.now.wires.items map.now.firsts.items }
+    requires regular { AreRegular map.now.deck shapes.now }
+    requires map { AreWires map.now.deck shapes.now.rects map.now.wires.items map.now.firsts.items }
     requires few { length map.now.firsts.items ≤ 2000000000 }
-    ensures ok { IfOk result (AreNamed Plain shapes.now (firsts_of map.now.firsts.items)) }
-    ensures refused { IfErr result (λ f. ExtractRefused Plain shapes.now f) }
+    ensures ok { IfOk result (AreNamed map.now.deck shapes.now (firsts_of map.now.firsts.items)) }
+    ensures refused { IfErr result (λ f. ExtractRefused map.now.deck shapes.now f) }
 {
     match check_strays(alloc, map.wires.as_slice(), shapes.labels.as_slice()) {
         Ok(()) => named_by_labels(alloc, shapes, map),
@@ -153,34 +122,56 @@ fn all_named(alloc: Global, shapes: &Shapes, map: &Connections) -> Result<Named,
     }
 }
 
-fn map_few(alloc: Global, shapes: &Shapes) -> Result<Mapped, ExtractFault>
+// The nets of a drawing by the bonds of a deck.
+fn connections_by(alloc: Global, shapes: &[Shape], deck: Deck) -> Result<Connections, NoMemory>
+    requires limits { All (λ s. IsRectangle s.rect) shapes.now }
+    requires few { HaveFewSides shapes.now }
+    ensures deck { IfOk result (λ m. m.deck ≡ deck) }
+    ensures wires { IfOk result (λ m. AreWires m.deck shapes.now m.wires.items m.firsts.items) }
+    ensures few { IfOk result (λ m. length m.firsts.items ≤ 2000000000) }
+{
+    match deck {
+        Deck::Plain => connections_of(alloc, shapes),
+        Deck::Taps => tapped_connections(alloc, shapes),
+    }
+}
+
+fn map_few(alloc: Global, shapes: &Shapes, deck: Deck) -> Result<Mapped, ExtractFault>
     requires few { AreFew shapes.now }
     requires limits { AreWithinLimits shapes.now.rects }
-    ensures ok { IfOk result (IsMapped Plain shapes.now) }
-    ensures refused { IfErr result (λ f. ExtractRefused Plain shapes.now f) }
+    ensures ok { IfOk result (IsMapped deck shapes.now) }
+    ensures refused { IfErr result (λ f. ExtractRefused deck shapes.now f) }
 {
-    let Ok(connections) = connections_of(alloc, shapes.rects.as_slice()) else {
+    let Ok(connections) = connections_by(alloc, shapes.rects.as_slice(), deck) else {
         return Err(ExtractFault::NoMemory);
     };
-    let devices = all_devices(alloc, shapes, &connections)?;
+    let Ok(gates) = gate_map(alloc, shapes.rects.as_slice()) else {
+        return Err(ExtractFault::NoMemory);
+    };
+    let devices = all_devices(alloc, shapes, &connections, &gates)?;
     let named = all_named(alloc, shapes, &connections)?;
     Ok(Mapped {
         connections,
+        gates,
         devices,
         named,
     })
 }
 
-/// All steps of extraction, in the order of the faults.
+/// All steps of extraction by a deck, in the order of the faults.
 #[tactic(auto, using(crate::proofs::Extracting::count_rules))]
-pub(crate) fn map_drawing(alloc: Global, shapes: &Shapes) -> Result<Mapped, ExtractFault>
-    ensures ok { IfOk result (IsMapped Plain shapes.now) }
-    ensures refused { IfErr result (λ f. ExtractRefused Plain shapes.now f) }
+pub(crate) fn map_drawing(
+    alloc: Global,
+    shapes: &Shapes,
+    deck: Deck,
+) -> Result<Mapped, ExtractFault>
+    ensures ok { IfOk result (IsMapped deck shapes.now) }
+    ensures refused { IfErr result (λ f. ExtractRefused deck shapes.now f) }
     ensures many { SaysTooMany shapes.now result }
 {
     check_counts(shapes)?;
     shapes.show_limits();
-    map_few(alloc, shapes)
+    map_few(alloc, shapes, deck)
 }
 
 /// The nets and devices of a drawing: nets by number with their names, devices by the nets at their gates
@@ -192,11 +183,50 @@ pub fn extract(alloc: Global, shapes: &Shapes) -> Result<Netlist, ExtractFault>
     ensures refused { IfErr result (λ f. ExtractRefused Plain shapes.now f) }
     ensures many { SaysTooMany shapes.now result }
 {
-    match map_drawing(alloc, shapes) {
+    match map_drawing(alloc, shapes, Deck::Plain) {
         Ok(Mapped { devices, named, .. }) => Ok(Netlist {
             names: named.names,
             devices,
         }),
         Err(fault) => Err(fault),
     }
+}
+
+// The bodies of the devices of a drawing.
+fn all_bodies(alloc: Global, shapes: &Shapes, mapped: &Mapped) -> Result<BodyList, NoMemory>
+    requires { IsMapped Taps shapes.now mapped.now }
+    ensures { IfOk result (λ bs. AreBodies shapes.now.rects (firsts_of mapped.now.connections.firsts.items)
+        (boxes_of mapped.now.gates.wires.items mapped.now.gates.firsts.items) mapped.now.devices bs) }
+{
+    let rects = shapes.rects.as_slice();
+    let wires = mapped.connections.wires.as_slice();
+    let wells = well_map(alloc, rects)?;
+    let taps = taps(alloc, rects, wells.wires.as_slice(), wires)?;
+    bodies(
+        alloc,
+        taps.as_slice(),
+        wells.wires.as_slice(),
+        &mapped.gates,
+    )
+}
+
+/// The nets and devices of a drawing with taps, as `extract` gives them, where taps of the well tie the nets in one
+/// class of well cells, and taps of the substrate all nets that have one; and for each device the net of its body.
+pub fn extract_bodies(alloc: Global, shapes: &Shapes) -> Result<BodyNetlist, ExtractFault>
+    ensures ok { IfOk result (λ b. ExtractsBodies shapes.now b) }
+    ensures refused { IfErr result (λ f. ExtractRefused Taps shapes.now f) }
+    ensures many { SaysTooMany shapes.now result }
+{
+    let mapped = map_drawing(alloc, shapes, Deck::Taps)?;
+    let Ok(bodies) = all_bodies(alloc, shapes, &mapped) else {
+        return Err(ExtractFault::NoMemory);
+    };
+    let Mapped { devices, named, .. } = mapped;
+    Ok(BodyNetlist {
+        netlist: Netlist {
+            names: named.names,
+            devices,
+        },
+        bodies,
+    })
 }

@@ -1,10 +1,9 @@
 // Classes of gate cells, and the device that each is.
 ghost use Rattle.std.specs.Prelude.{◌≡◌, ◌↔◌, ◌<◌, All, IsTrue, IfOk, IfErr, IfSome, None, length, get_or, fold};
 ghost use Rattle.box_geom.specs.Rectangle.{IsProper};
-ghost use Rattle.scmos_rules.specs.declared.rules.Deck.TheVariants.{Plain};
 ghost use Rattle.net_extract.specs.Devices.{IsOdd};
 ghost use Rattle.net_extract.specs.Extraction.{IsDrawn};
-ghost use Rattle.net_extract.specs.GateNets.{AreGateNets, wider, point_of, box_of, IsAllGate, AreFound, IsOddFault};
+ghost use Rattle.net_extract.specs.GateNets.{AreGateNets, wider, point_of, box_of, IsAllGate, AreFound, boxes_of, IsOddFault};
 ghost use Rattle.net_extract.specs.Connections.{AreWires, firsts_of, blank};
 ghost use Rattle.net_extract.specs.Pieces.{rect_of};
 ghost use Rattle.net_extract.specs.declared.fault.ExtractFault.TheVariants.{OddDevice};
@@ -59,7 +58,8 @@ fn bounds(wires: &[Wire], net: usize, first: Piece) -> Piece
     all
 }
 
-fn box_of_class(gates: &Connections, net: usize) -> Piece
+/// The bounds of a class of gate cells.
+pub(crate) fn box_of_class(gates: &Connections, net: usize) -> Piece
     requires { net < length gates.now.firsts.items }
     ensures { result ≡ box_of gates.now.wires.items gates.now.firsts.items net }
 {
@@ -86,11 +86,11 @@ fn device_of_class(
 ) -> Option<Drawn>
     requires net { net < length gates.now.firsts.items }
     requires shapes { All (λ s. IsProper s.rect) shapes.now }
-    requires map { AreWires Plain shapes.now map.now.wires.items map.now.firsts.items }
+    requires map { AreWires map.now.deck shapes.now map.now.wires.items map.now.firsts.items }
     requires gates { AreGateNets shapes.now gates.now.wires.items gates.now.firsts.items }
-    ensures some { IfSome result (λ d. IsDrawn Plain shapes.now (firsts_of map.now.firsts.items)
+    ensures some { IfSome result (λ d. IsDrawn map.now.deck shapes.now (firsts_of map.now.firsts.items)
         (rect_of (box_of gates.now.wires.items gates.now.firsts.items net)) d) }
-    ensures none { result ≡ None → IsOdd Plain shapes.now (get_or gates.now.firsts.items net blank).left
+    ensures none { result ≡ None → IsOdd map.now.deck shapes.now (get_or gates.now.firsts.items net blank).left
         (get_or gates.now.firsts.items net blank).low }
 {
     let gate = box_of_class(gates, net);
@@ -118,10 +118,11 @@ pub(crate) fn devices(
     gates: &Connections,
 ) -> Result<DrawnList, ExtractFault>
     requires shapes { All (λ s. IsProper s.rect) shapes.now }
-    requires map { AreWires Plain shapes.now map.now.wires.items map.now.firsts.items }
+    requires map { AreWires map.now.deck shapes.now map.now.wires.items map.now.firsts.items }
     requires gates { AreGateNets shapes.now gates.now.wires.items gates.now.firsts.items }
-    ensures ok { IfOk result (AreFound Plain shapes.now (firsts_of map.now.firsts.items)) }
-    ensures odd { IfErr result (IsOddFault Plain shapes.now) }
+    ensures ok { IfOk result (AreFound map.now.deck shapes.now (firsts_of map.now.firsts.items)
+        (boxes_of gates.now.wires.items gates.now.firsts.items)) }
+    ensures odd { IfErr result (IsOddFault map.now.deck shapes.now) }
 {
     let mut devices = DrawnList::new(alloc);
     for net in 0..gates.firsts.len() {

@@ -7,9 +7,12 @@ ghost use Rattle.box_geom.specs.Touching.{Cell};
 ghost use Rattle.box_geom.specs.declared.shape.Shape.{Shape};
 ghost use Rattle.box_geom.specs.declared.shape.Shapes.{Shapes};
 ghost use Rattle.scmos_rules.specs.declared.rules.Deck.{Deck};
+ghost use Rattle.scmos_rules.specs.declared.rules.Deck.TheVariants.{Taps};
 ghost use Rattle.net_extract.specs.declared.fault.ExtractFault.{ExtractFault};
 ghost use Rattle.net_extract.specs.declared.fault.ExtractFault.TheVariants.{NoMemory};
 ghost use Rattle.net_extract.specs.declared.netlist.Netlist.{Netlist};
+ghost use Rattle.net_extract.specs.declared.netlist.BodyNetlist.{BodyNetlist};
+ghost use Rattle.net_extract.specs.Bodies.{ExtractsBodies};
 ghost use Rattle.net_extract.specs.Extraction.{Extracts, ExtractRefused};
 ghost use Rattle.net_extract.specs.Nets.{Kind, Site, SameNet};
 ghost use Rattle.net_extract.specs.Numbering.{AreNets, IsInNet};
@@ -38,4 +41,11 @@ pub fn one_netlist()
         Extracts deck shapes m → n ≡ m }
     ensures refused { (deck : Deck) (shapes : Shapes) (n : Netlist) (f : ExtractFault) → Extracts deck shapes n →
         ExtractRefused deck shapes f → f ≡ NoMemory }
+{}
+
+/// A drawing with taps has one netlist with bodies, and where it has one it is refused for want of memory alone.
+pub fn one_body_netlist()
+    ensures same { (shapes : Shapes) (b c : BodyNetlist) → ExtractsBodies shapes b → ExtractsBodies shapes c → b ≡ c }
+    ensures refused { (shapes : Shapes) (b : BodyNetlist) (f : ExtractFault) → ExtractsBodies shapes b →
+        ExtractRefused Taps shapes f → f ≡ NoMemory }
 {}

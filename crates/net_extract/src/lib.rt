@@ -2,8 +2,10 @@
 #![tactic(auto)]
 
 mod area;
+mod body;
 mod bond;
 mod class;
+mod class_map;
 mod conductor;
 mod connections;
 mod cut;
@@ -22,10 +24,11 @@ pub mod netmap;
 mod piece;
 mod shared;
 mod side;
+mod tie;
 
-pub use drawing::extract;
+pub use drawing::{extract, extract_bodies};
 pub use fault::ExtractFault;
-pub use laws::{one_netlist, one_numbering, rectangle_nets};
+pub use laws::{one_body_netlist, one_netlist, one_numbering, rectangle_nets};
 pub use naming::{Held, net_names};
-pub use netlist::{Drawn, DrawnList, Netlist};
+pub use netlist::{BodyList, BodyNetlist, Drawn, DrawnList, Netlist};
 pub use netmap::NetMap;

@@ -21,3 +21,13 @@ pub struct Netlist {
     pub names: Names,
     pub devices: DrawnList,
 }
+
+/// For each device the net of its body by number; None where its well, or the substrate, has no tap.
+pub type BodyList = List<Option<u32>>;
+
+/// A netlist and the bodies of its devices.
+#[derive(Debug, PartialEq, Eq, Drop)]
+pub struct BodyNetlist {
+    pub netlist: Netlist,
+    pub bodies: BodyList,
+}

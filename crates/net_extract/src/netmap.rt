@@ -13,6 +13,7 @@ use crate::naming::Held;
 use crate::net_piece::{NetPiece, blocks_of, net_at, net_pieces};
 use box_geom::{Block, Layer, Shapes};
 use cell_num::{Name, Names, NoMemory};
+use scmos_rules::Deck;
 use std::alloc::Global;
 use std::marker::Model;
 
@@ -43,7 +44,7 @@ impl NetMap {
         ensures refused { IfErr result (λ f. ExtractRefused Plain shapes.now f) }
         ensures many { SaysTooMany shapes.now result }
     {
-        let drawing = map_drawing(alloc, shapes)?;
+        let drawing = map_drawing(alloc, shapes, Deck::Plain)?;
         let Ok(pieces) = net_pieces(alloc, drawing.connections.wires.as_slice()) else {
             return Err(ExtractFault::NoMemory);
         };

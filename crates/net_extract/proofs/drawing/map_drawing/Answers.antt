@@ -6,3 +6,8 @@ pub returns-in_err-check_counts-clause-many : goal.returns-in_err-check_counts-c
 returns-in_err-check_counts-clause-many c =
     let p = err_from_is_err_and c.from_residual.result c.from_residual.ensures.1 in
     rw (p.1, p.2) (says_on c.args.shapes.now c.in_err-check_counts.field-0.0 c.in_err-check_counts.ensures.says)
+
+pub returns-in_err-check_counts-clause-refused : goal.returns-in_err-check_counts-clause-refused
+returns-in_err-check_counts-clause-refused c =
+    let p = err_from_is_err_and c.from_residual.result c.from_residual.ensures.1 in
+    rw (p.1, p.2) (c.in_err-check_counts.ensures.many c.args.deck)

@@ -1,5 +1,4 @@
 use Rattle.std.proofs.Common.{◌≡◌, arith, length, refl, sym}
-use Rattle.scmos_rules.specs.declared.rules.Deck.TheVariants.{Plain}
 use Rattle.net_extract.specs.Lookups.{held_in}
 use Rattle.net_extract.proofs.Extracting.{named_are, name_refused}
 use Rattle.net_extract.proofs.drawing.named_by_labels.Goals as goal
@@ -14,7 +13,7 @@ returns-in-Ok-net_names-clause-ok c =
     let f = c.as_slice-4.ensures.value in
     let eh : c.as_slice-4.result.now ≡ held_in c.args.map.now.wires.items c.args.shapes.now.labels = grind (arith) in
     let ec : c.count_of-count.result ≡ length c.args.map.now.firsts.items = grind (arith) in
-    named_are Plain c.args.shapes.now c.args.map.now.wires.items c.args.map.now.firsts.items c.as_slice-4.result.now c.count_of-count.result c.in-Ok-net_names.names c.requires.map c.requires.held eh ec c.in-Ok-net_names.ensures.no_short c.in-Ok-net_names.ensures.no_split c.in-Ok-net_names.ensures.names (record { held = c.in-Ok.held; names = c.in-Ok-net_names.names }) (sym f) refl
+    named_are c.args.map.now.deck c.args.shapes.now c.args.map.now.wires.items c.args.map.now.firsts.items c.as_slice-4.result.now c.count_of-count.result c.in-Ok-net_names.names c.requires.map c.requires.held eh ec c.in-Ok-net_names.ensures.no_short c.in-Ok-net_names.ensures.no_split c.in-Ok-net_names.ensures.names (record { held = c.in-Ok.held; names = c.in-Ok-net_names.names }) (sym f) refl
 
 pub returns-in-Err-clause-refused : goal.returns-in-Err-clause-refused
 returns-in-Err-clause-refused c =
@@ -26,4 +25,4 @@ returns-in-Err-clause-refused c =
     let f = c.as_slice-4.ensures.value in
     let eh : c.as_slice-4.result.now ≡ held_in c.args.map.now.wires.items c.args.shapes.now.labels = grind (arith) in
     let ec : c.count_of-count.result ≡ length c.args.map.now.firsts.items = grind (arith) in
-    name_refused Plain c.args.shapes.now c.args.map.now.wires.items c.args.map.now.firsts.items c.as_slice-4.result.now c.count_of-count.result c.in-Err.fault c.requires.regular c.requires.map c.requires.held eh ec c.in-Err.ensures.refused
+    name_refused c.args.map.now.deck c.args.shapes.now c.args.map.now.wires.items c.args.map.now.firsts.items c.as_slice-4.result.now c.count_of-count.result c.in-Err.fault c.requires.regular c.requires.map c.requires.held eh ec c.in-Err.ensures.refused

@@ -12,10 +12,10 @@ use Rattle.net_extract.specs.declared.piece.Piece.{Piece}
 use Rattle.net_extract.proofs.Carving.{all_gates_limited, gate_shapes_proper}
 use Rattle.net_extract.proofs.Cornering.{gates_sides}
 use Rattle.net_extract.proofs.Extracting.{if_ok, gate_nets}
-use Rattle.net_extract.proofs.drawing.gate_map.Goals as goal
+use Rattle.net_extract.proofs.class_map.gate_map.Goals as goal
 
-pub gate_shapes-requires : goal.gate_shapes-requires
-gate_shapes-requires c = subst (λ ps. All (λ p. IsRectangle (rect_of p)) ps) (sym (c.as_slice.ensures ∙ c.in_ok-pieces.ensures)) (all_gates_limited c.args.shapes.now c.requires.limits)
+pub poly_shapes-requires : goal.poly_shapes-requires
+poly_shapes-requires c = subst (λ ps. All (λ p. IsRectangle (rect_of p)) ps) (sym (c.as_slice.ensures ∙ c.in_ok-pieces.ensures)) (all_gates_limited c.args.shapes.now c.requires.limits)
 
 pub connections_of-requires-clause-proper : goal.connections_of-requires-clause-proper
 connections_of-requires-clause-proper c = subst (λ zs. All (λ (z : Shape). IsProper z.rect) zs) (sym (c.as_slice-2.ensures.value ∙ c.in_ok-gates.ensures)) (gate_shapes_proper c.as_slice.result.now (subst (λ ps. All (λ p. IsRectangle (rect_of p)) ps) (sym (c.as_slice.ensures ∙ c.in_ok-pieces.ensures)) (all_gates_limited c.args.shapes.now c.requires.limits)))

@@ -1,7 +1,0 @@
-use Rattle.std.proofs.Common.{sym, subst}
-use Rattle.net_extract.specs.Corners.{HaveFewSides}
-use Rattle.net_extract.proofs.Cornering.{few_sides}
-use Rattle.net_extract.proofs.drawing.all_devices.Goals as goal
-
-pub gate_map-requires-clause-few : goal.gate_map-requires-clause-few
-gate_map-requires-clause-few c = subst HaveFewSides (sym c.as_slice.ensures) (few_sides c.args.shapes.now.rects c.requires.few.rects)
