@@ -56,7 +56,7 @@ pub record IsLabelInFrame (f : Frame) (l : Label) : Type 0 where
 
 -- A drawing on these lines, in this frame.
 pub record IsFramed (f : Frame) (xs : List ℕ) (d : Drawing) : Type 0 where
-  -- the first line stands clear of the left side, the last as far from the right side as is needed
+  -- the first line stands so far from the left side or further, the last so far from the right side
   pub first : SIDE_SPACE ≤ x_of xs 0
   pub last : f.width ≡ x_of xs (length xs - 1) + SIDE_SPACE
   -- upward: a rail, its gap, the N row, the channel, the P row, a gap, a rail

@@ -1,5 +1,5 @@
-// The measures of a drawing, in grid units of half a lambda, each with the rule that asks for it, or as a choice of this
-// style. Those between lines are in `row_compact`.
+// The measures of a drawing, in grid units of half a lambda, each with the rule that asks for it, or as a choice of
+// this style. Those between lines are in `row_compact`.
 
 /// Half a contact or a via: rules 5.1 and 8.1 make each 4 wide.
 pub const HALF_CUT: u32 = 2;
@@ -14,8 +14,8 @@ pub const GATE_LENGTH: u32 = 4;
 /// and 6.2.
 pub const HALF_PAD: u32 = 5;
 
-/// Half the width of a strap, a trunk or a piece of metal2, and how far each goes past the centre of its last contact or
-/// via: half of that (2), and 2 around it by rules 7.3, 8.3 and 9.3. So metal is 8 wide; rules 7.1 and 9.1 ask 6.
+/// Half the width of a strap, a trunk or a piece of metal2, and how far each goes past the centre of its last contact
+/// or via: half of that (2), and 2 around it by rules 7.3, 8.3 and 9.3. So metal is 8 wide; rules 7.1 and 9.1 ask 6.
 pub const HALF_METAL: u32 = 4;
 
 /// Poly past the outer end of a finger: rule 3.3.
@@ -56,8 +56,8 @@ pub const EDGE_SPACE: u32 = 20;
 /// The least height of a channel: `EDGE_SPACE` on both sides of one track.
 pub const LEAST_CHANNEL: u32 = 40;
 
-/// Between two tracks. At one line metal2 may end on both: past each it goes 4 (8), and rule 9.2 is between (8). Pads on
-/// neighbouring tracks keep 6, as rule 3.2 asks, and trunks 8.
+/// Between two tracks. At one line metal2 may end on both: past each it goes 4 (8), and rule 9.2 is between (8). Pads
+/// on neighbouring tracks keep 6, as rule 3.2 asks, and trunks 8.
 pub const TRACK_PITCH: u32 = 16;
 
 /// A label's point on a finger, from its channel edge, a choice: fingers are 6 wide or wider.
