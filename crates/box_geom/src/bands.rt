@@ -115,8 +115,6 @@ pub(crate) fn bands(
 {
     let a = from_below(alloc, first)?;
     let b = from_below(alloc, second)?;
-    match rising_bands(alloc, operation, a.as_slice(), b.as_slice()) {
-        Ok(made) => Ok(made),
-        Err(error) => Err(error),
-    }
+    let made = rising_bands(alloc, operation, a.as_slice(), b.as_slice())?;
+    Ok(made)
 }

@@ -87,10 +87,8 @@ impl Region {
         requires { All IsBlock blocks.now }
         ensures { IfOk result (λ r. SameCells r blocks.now) }
     {
-        match made(alloc, Operation::Either, blocks, &[]) {
-            Ok(region) => Ok(region),
-            Err(error) => Err(error),
-        }
+        let region = made(alloc, Operation::Either, blocks, &[])?;
+        Ok(region)
     }
 
     /// No cell. It takes no memory.
@@ -107,10 +105,8 @@ impl Region {
         ensures { IfOk result (λ r. (x y : ℤ) → Covers r x y ↔ OnPlane x y) }
     {
         let whole = whole_plane();
-        match Region::from_blocks(alloc, &[whole]) {
-            Ok(region) => Ok(region),
-            Err(error) => Err(error),
-        }
+        let region = Region::from_blocks(alloc, &[whole])?;
+        Ok(region)
     }
 
     /// The cells that a layer covers.
@@ -119,10 +115,8 @@ impl Region {
     {
         shapes.show_limits();
         let blocks = blocks_on(alloc, shapes.rects.as_slice(), layer)?;
-        match Region::from_blocks(alloc, blocks.as_slice()) {
-            Ok(region) => Ok(region),
-            Err(error) => Err(error),
-        }
+        let region = Region::from_blocks(alloc, blocks.as_slice())?;
+        Ok(region)
     }
 
     /// The rectangles, band by band, in each by x.
@@ -137,30 +131,24 @@ impl Region {
     pub fn both(&self, alloc: Global, other: &Region) -> Result<Region, NoMemory>
         ensures { IfOk result (λ r. (x y : ℤ) → Covers r x y ↔ (Covers self.now x y × Covers other.now x y)) }
     {
-        match made(alloc, Operation::Both, self.blocks(), other.blocks()) {
-            Ok(region) => Ok(region),
-            Err(error) => Err(error),
-        }
+        let region = made(alloc, Operation::Both, self.blocks(), other.blocks())?;
+        Ok(region)
     }
 
     /// The cells of one or both of the regions.
     pub fn either(&self, alloc: Global, other: &Region) -> Result<Region, NoMemory>
         ensures { IfOk result (λ r. (x y : ℤ) → Covers r x y ↔ (Covers self.now x y ⊎ Covers other.now x y)) }
     {
-        match made(alloc, Operation::Either, self.blocks(), other.blocks()) {
-            Ok(region) => Ok(region),
-            Err(error) => Err(error),
-        }
+        let region = made(alloc, Operation::Either, self.blocks(), other.blocks())?;
+        Ok(region)
     }
 
     /// The cells of the region that are not cells of the other.
     pub fn minus(&self, alloc: Global, other: &Region) -> Result<Region, NoMemory>
         ensures { IfOk result (λ r. (x y : ℤ) → Covers r x y ↔ (Covers self.now x y × (Covers other.now x y → ⊥))) }
     {
-        match made(alloc, Operation::Minus, self.blocks(), other.blocks()) {
-            Ok(region) => Ok(region),
-            Err(error) => Err(error),
-        }
+        let region = made(alloc, Operation::Minus, self.blocks(), other.blocks())?;
+        Ok(region)
     }
 
     /// The cells within a distance of some cell of the region, as far as regions reach.
@@ -170,10 +158,8 @@ impl Region {
     {
         let moves = outward(by);
         let blocks = all_moved(alloc, self.blocks(), &moves)?;
-        match Region::from_blocks(alloc, blocks.as_slice()) {
-            Ok(region) => Ok(region),
-            Err(error) => Err(error),
-        }
+        let region = Region::from_blocks(alloc, blocks.as_slice())?;
+        Ok(region)
     }
 
     /// The cells of the region, each moved, as far as regions reach.
@@ -184,10 +170,8 @@ impl Region {
     {
         let moves = along(dx, dy);
         let blocks = all_moved(alloc, self.blocks(), &moves)?;
-        match Region::from_blocks(alloc, blocks.as_slice()) {
-            Ok(region) => Ok(region),
-            Err(error) => Err(error),
-        }
+        let region = Region::from_blocks(alloc, blocks.as_slice())?;
+        Ok(region)
     }
 
     /// The region with x and y exchanged.
@@ -195,10 +179,8 @@ impl Region {
         ensures { IfOk result (λ r. (x y : ℤ) → Covers r x y ↔ Covers self.now y x) }
     {
         let blocks = all_turned(alloc, self.blocks())?;
-        match Region::from_blocks(alloc, blocks.as_slice()) {
-            Ok(region) => Ok(region),
-            Err(error) => Err(error),
-        }
+        let region = Region::from_blocks(alloc, blocks.as_slice())?;
+        Ok(region)
     }
 
     /// Whether no cell is in the region.

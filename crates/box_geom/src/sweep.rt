@@ -160,8 +160,6 @@ pub(crate) fn ranges(
     let mut events = events_of_both(alloc, first, second)?;
     events.sort()?;
     let spans = all_slots(alloc, operation, events.as_slice())?;
-    match joined(alloc, spans.as_slice()) {
-        Ok(made) => Ok(made),
-        Err(error) => Err(error),
-    }
+    let made = joined(alloc, spans.as_slice())?;
+    Ok(made)
 }

@@ -8,5 +8,5 @@ use Rattle.box_geom.proofs.region.Region.grown.Goals as goal
 pub from_blocks-requires : goal.from_blocks-requires
 from_blocks-requires c = subst (All IsBlock) (sym (c.as_slice.ensures.value ∙ c.in_ok-blocks.ensures)) (moved_blocks c.outward-moves.result c.blocks-2.result.now)
 
-pub returns-in-Ok : goal.returns-in-Ok
-returns-in-Ok c = grown_covers c.outward-moves.result c.args.self.now c.as_slice.result.now c.in-Ok.region c.args.by c.blocks-2.ensures.banded.blocks c.outward-moves.ensures.sides.x1 c.outward-moves.ensures.sides.y1 c.outward-moves.ensures.sides.x2 c.outward-moves.ensures.sides.y2 (c.as_slice.ensures.value ∙ c.in_ok-blocks.ensures ∙ ap (λ z. filter is_proper (map (moved_by c.outward-moves.result) z)) c.blocks-2.ensures.all) c.in-Ok.ensures
+pub returns : goal.returns
+returns c = grown_covers c.outward-moves.result c.args.self.now c.as_slice.result.now c.in_ok-region.region c.args.by c.blocks-2.ensures.banded.blocks c.outward-moves.ensures.sides.x1 c.outward-moves.ensures.sides.y1 c.outward-moves.ensures.sides.x2 c.outward-moves.ensures.sides.y2 (c.as_slice.ensures.value ∙ c.in_ok-blocks.ensures ∙ ap (λ z. filter is_proper (map (moved_by c.outward-moves.result) z)) c.blocks-2.ensures.all) c.in_ok-region.ensures

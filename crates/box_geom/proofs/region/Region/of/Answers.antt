@@ -10,7 +10,7 @@ from_blocks-requires c =
     let e : c.as_slice-2.result.now ≡ rects_on c.args.layer c.args.shapes.now.rects = search rules in
     subst (All IsBlock) (sym e) (limits_blocks (rects_on c.args.layer c.args.shapes.now.rects) (c.show_limits.ensures.on c.args.layer))
 
-pub returns-in-Ok : goal.returns-in-Ok
-returns-in-Ok c =
+pub returns : goal.returns
+returns c =
     let e : c.as_slice-2.result.now ≡ rects_on c.args.layer c.args.shapes.now.rects = search rules in
-    subst (SameCells c.in-Ok.region) e c.in-Ok.ensures
+    subst (SameCells c.in_ok-region.region) e c.in_ok-region.ensures

@@ -10,7 +10,7 @@ from_blocks-requires c =
     let e : c.as_slice.result.now ≡ map turned_by c.args.self.now = c.as_slice.ensures.value ∙ c.in_ok-blocks.ensures ∙ ap (map turned_by) c.blocks-2.ensures.all in
     subst (All IsBlock) (sym e) (turned_blocks c.args.self.now c.blocks-2.ensures.banded.blocks)
 
-pub returns-in-Ok : goal.returns-in-Ok
-returns-in-Ok c =
+pub returns : goal.returns
+returns c =
     let e : c.as_slice.result.now ≡ map turned_by c.args.self.now = c.as_slice.ensures.value ∙ c.in_ok-blocks.ensures ∙ ap (map turned_by) c.blocks-2.ensures.all in
-    turned_covers c.args.self.now c.as_slice.result.now c.in-Ok.region e c.in-Ok.ensures
+    turned_covers c.args.self.now c.as_slice.result.now c.in_ok-region.region e c.in_ok-region.ensures
