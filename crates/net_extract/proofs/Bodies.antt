@@ -1,20 +1,20 @@
 -- The bodies that the code finds are those of the devices.
-use Rattle.std.proofs.Common.{◌≡◌, ℕ, ◌+◌, ◌==◌, ℤ, true, Option, Some, None, List, [], ◌∷◌, ◌++◌, map, length, arith, add-one, refl, sym, subst, ap, ◌∙◌}
+use Rattle.std.proofs.Common.{◌≡◌, ℕ, ◌+◌, ◌==◌, ℤ, Option, Some, None, List, [], ◌∷◌, ◌++◌, arith, add-one, refl, sym, subst, ap, ◌∙◌}
 use Rattle.std.specs.List.{All, AllZip, Contains, find}
 use Rattle.std.specs.Option.{option_map}
 use Rattle.std.proofs.lemmas.Bool.{eq-eqb}
 use Rattle.cell_num.proofs.Lists.{some_same, kept_from, contains_filter_map}
 use Rattle.cell_num.specs.declared.finger.Row.{Row}
 use Rattle.cell_num.specs.declared.finger.Row.TheVariants.{P, N}
-use Rattle.box_geom.specs.Rectangle.{Rectangle, IsProper, Holds}
+use Rattle.box_geom.specs.Rectangle.{Rectangle, IsProper}
 use Rattle.box_geom.specs.Chains.{Linked}
 use Rattle.box_geom.specs.declared.shape.Shape.{Shape}
-use Rattle.box_geom.specs.declared.layer.Layer.TheVariants.{Well, PSelect, NSelect}
+use Rattle.box_geom.specs.declared.layer.Layer.TheVariants.{Well}
 use Rattle.scmos_rules.specs.Failing.{SameClass}
 use Rattle.scmos_rules.specs.Layout.{On}
 use Rattle.scmos_rules.specs.declared.rules.Deck.TheVariants.{Taps}
 use Rattle.scmos_rules.proofs.Chains.{joined}
-use Rattle.net_extract.specs.Bodies.{IsTapFor, HasTapIn, IsBody, IsBodyOf, AreBodies}
+use Rattle.net_extract.specs.Bodies.{IsTapFor, HasTapIn, IsBody, AreBodies}
 use Rattle.net_extract.specs.Connections.{AreWires, firsts_of, pieces_of}
 use Rattle.net_extract.specs.Devices.{InRow}
 use Rattle.net_extract.specs.Extraction.{IsDrawn}
@@ -22,7 +22,7 @@ use Rattle.net_extract.specs.GateNets.{AreWellNets, box_of, boxes_below}
 use Rattle.net_extract.specs.Lookups.{net_in}
 use Rattle.net_extract.specs.Nets.{p_diffusion, n_diffusion, Site, site_at}
 use Rattle.net_extract.specs.Pieces.{kind_of, rect_of}
-use Rattle.net_extract.specs.Ties.{well_tie, tie_of, tap_of, taps_in, or_substrate, net_of_tie, body_in, bodies_in}
+use Rattle.net_extract.specs.Ties.{well_tie, tie_of, tap_of, taps_in, or_substrate, body_in, bodies_in}
 use Rattle.net_extract.specs.declared.body.Tap.{Tap}
 use Rattle.net_extract.specs.declared.connections.Wire.{Wire}
 use Rattle.net_extract.specs.declared.netlist.Drawn.{Drawn}

@@ -1,5 +1,5 @@
 -- Classes of gate cells as the nets of the drawing of the gates.
-use Rattle.std.proofs.Common.{◌≡◌, ◌↔◌, IsTrue, ℕ, zero, suc, ◌+◌, ◌<◌, ◌≤◌, ◌==◌, ℤ, pos, ◌-ℤ◌, ◌≤ℤ◌, Bool, true, false, Some, List, [], ◌∷◌, ◌++◌, length, get_or, slice_get, fold, arith, add-one, inl, inr, refl, sym, subst, ap, ◌∙◌}
+use Rattle.std.proofs.Common.{◌≡◌, ◌↔◌, IsTrue, ℕ, zero, suc, ◌+◌, ◌<◌, ◌≤◌, ℤ, pos, ◌-ℤ◌, ◌≤ℤ◌, Bool, true, false, Some, List, [], ◌∷◌, ◌++◌, length, get_or, slice_get, fold, arith, add-one, inl, inr, refl, sym, subst, ap, ◌∙◌}
 use Rattle.std.specs.List.{All, AllPairs, Contains, AllZip}
 use Rattle.std.specs.Option.{option_map}
 use Rattle.std.proofs.lemmas.Int.{ints, clamps}
@@ -9,19 +9,17 @@ use Rattle.std.proofs.lemmas.List.Elements.{Contains-append_cases, Contains-appe
 use Rattle.cell_num.proofs.Lists.{contains_none, contains_one, contains_cons, contains_here, contains_there, contains_get, all_from_contains, all_one}
 use Rattle.cell_num.proofs.Pairs.{pairs_append, pairs_at}
 use Rattle.cell_num.proofs.In.{contains_map}
-use Rattle.box_geom.specs.Rectangle.{Rectangle, IsProper, Holds, Covers}
-use Rattle.box_geom.specs.Touching.{Cell, Edge}
-use Rattle.box_geom.specs.Chains.{Steps, Chain, Linked}
+use Rattle.box_geom.specs.Rectangle.{Rectangle, IsProper, Holds}
+use Rattle.box_geom.specs.Touching.{Cell}
+use Rattle.box_geom.specs.Chains.{Steps, Linked}
 use Rattle.box_geom.specs.declared.shape.Shape.{Shape}
-use Rattle.box_geom.specs.declared.layer.Layer.{Layer}
-use Rattle.box_geom.specs.declared.layer.Layer.TheVariants.{Active, Poly, Contact, Metal1, Via, Metal2}
-use Rattle.box_geom.specs.Layers.{same_layer, layer_no}
+use Rattle.box_geom.specs.declared.layer.Layer.TheVariants.{Active, Poly}
 use Rattle.scmos_rules.specs.Failing.{SameClass}
-use Rattle.scmos_rules.specs.Layout.{On, Gate}
+use Rattle.scmos_rules.specs.Layout.{Gate}
 use Rattle.scmos_rules.proofs.Chains.{none, joined, inside}
 use Rattle.scmos_rules.specs.declared.rules.Deck.{Deck}
 use Rattle.scmos_rules.specs.declared.rules.Deck.TheVariants.{Plain}
-use Rattle.net_extract.specs.Nets.{Kind, p_diffusion, n_diffusion, poly, metal1, metal2, Joins, by_contact, by_via, Site, site_at, Are, Conducts, Meets, along, through, tied, Wired, SameNet}
+use Rattle.net_extract.specs.Nets.{poly, Site, site_at, Conducts, SameNet}
 use Rattle.net_extract.specs.Numbering.{rank, NotBehind, IsFirstOfNet, IsBefore, IsInNet}
 use Rattle.net_extract.specs.Parts.{IsIn}
 use Rattle.net_extract.specs.Devices.{IsGateBox, IsSomeDevice, NotBehindCell, IsOdd, IsFirstOdd, BeginsBefore}
@@ -33,8 +31,6 @@ use Rattle.net_extract.specs.GateNets.{ArePolyOf, AreGateNets, wider, point_of, 
 use Rattle.net_extract.specs.declared.netlist.Drawn.{Drawn}
 use Rattle.net_extract.specs.declared.piece.Piece.{Piece}
 use Rattle.net_extract.specs.declared.connections.Wire.{Wire}
-use Rattle.net_extract.proofs.Bonds.{carried_steps}
-use Rattle.net_extract.proofs.Finding.{shows}
 use Rattle.net_extract.proofs.Labelling.{wire_net}
 use Rattle.net_extract.proofs.Numbers.{one_number}
 use Rattle.net_extract.proofs.PolyClasses.{cell, poly_site, class_of_net, net_of_class, same_class}

@@ -1,12 +1,12 @@
 -- The nets of a set of cells drawn in poly are the classes of its cells.
-use Rattle.std.proofs.Common.{◌≡◌, ℕ, zero, suc, ◌==◌, ℤ, true, false, List, [], ◌∷◌, arith, inl, inr, refl, sym, subst, ◌∙◌}
+use Rattle.std.proofs.Common.{◌≡◌, ◌==◌, ℤ, true, false, List, [], ◌∷◌, arith, inl, inr, refl, sym, subst, ◌∙◌}
 use Rattle.std.proofs.lemmas.Bool.{cases_eq, ne_eqb}
 use Rattle.box_geom.specs.Rectangle.{Rectangle, Holds, Covers}
 use Rattle.box_geom.specs.Touching.{Cell, Edge}
-use Rattle.box_geom.specs.Chains.{Steps, Chain, Linked}
+use Rattle.box_geom.specs.Chains.{Chain, Linked}
 use Rattle.box_geom.specs.declared.shape.Shape.{Shape}
 use Rattle.box_geom.specs.declared.layer.Layer.{Layer}
-use Rattle.box_geom.specs.declared.layer.Layer.TheVariants.{Active, Poly, Contact, Metal1, Via, Metal2}
+use Rattle.box_geom.specs.declared.layer.Layer.TheVariants.{Active, Contact, Metal1, Via, Metal2}
 use Rattle.box_geom.specs.Layers.{same_layer, layer_no}
 use Rattle.scmos_rules.specs.Failing.{SameClass}
 use Rattle.scmos_rules.specs.Layout.{On}

@@ -1,5 +1,5 @@
 -- The ties that the code numbers are those of taps.
-use Rattle.std.proofs.Common.{◌≡◌, ◌↔◌, ℕ, ◌+◌, ◌<◌, ◌≤◌, ℤ, Bool, true, false, ◌&&◌, if◌then◌else◌, Option, Some, None, List, [], map, length, get_or, slice_get, arith, refl, sym, subst, ap, ◌∙◌, inl, inr}
+use Rattle.std.proofs.Common.{◌≡◌, ℕ, ◌+◌, ◌<◌, ◌≤◌, ℤ, Bool, true, false, ◌&&◌, if◌then◌else◌, Option, Some, None, List, [], length, get_or, slice_get, arith, refl, sym, subst, ap, ◌∙◌, inl, inr}
 use Rattle.std.specs.List.{All, Contains}
 use Rattle.std.specs.Option.{option_map}
 use Rattle.std.proofs.lemmas.List.{get_or-map, length-map}
@@ -20,9 +20,9 @@ use Rattle.net_extract.specs.Areas.{meeting, meeting_any}
 use Rattle.net_extract.specs.Connections.{blank, firsts_of, IsFound}
 use Rattle.net_extract.specs.GateNets.{AreWellNets}
 use Rattle.net_extract.specs.Lookups.{net_in}
-use Rattle.net_extract.specs.Nets.{Kind, p_diffusion, n_diffusion, poly, site_at, Are, Tied, by_well, by_substrate}
+use Rattle.net_extract.specs.Nets.{p_diffusion, n_diffusion, poly, site_at, Are, Tied, by_well, by_substrate}
 use Rattle.net_extract.specs.Parts.{AreDrawn, Bond, touching, joining, tying, AreTied}
-use Rattle.net_extract.specs.Pieces.{kind_of, rect_of, part_of, corner_of, rects_in, Paired}
+use Rattle.net_extract.specs.Pieces.{kind_of, rect_of, part_of, rects_in, Paired}
 use Rattle.net_extract.specs.Ties.{well_tie, tie_by, tie_of, ties_of, HaveOneTie, PairedOrTied, AreTies}
 use Rattle.net_extract.specs.declared.connections.Wire.{Wire}
 use Rattle.net_extract.specs.declared.piece.Conductor.{Conductor}

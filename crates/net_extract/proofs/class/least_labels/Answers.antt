@@ -1,4 +1,4 @@
-use Rattle.std.proofs.Common.{List, ℕ, length, subst}
+use Rattle.std.proofs.Common.{length, subst}
 use Rattle.scmos_rules.specs.declared.rules.Deck.TheVariants.{Plain}
 use Rattle.net_extract.specs.Classes.{AreTrees}
 use Rattle.net_extract.specs.Pieces.{Paired}
