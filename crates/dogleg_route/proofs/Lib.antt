@@ -6,10 +6,14 @@ mod Holding
 mod Marks
 mod NodeLines
 mod Numbers
+mod OnePieceTold
 mod OnePiecing
 mod PieceChannel
 mod PieceDensity
 mod PieceLegal
+mod PieceSteps
+mod PieceTelling
 mod PieceWalks
 mod Sorting
+mod StuckPieces
 mod Wired
