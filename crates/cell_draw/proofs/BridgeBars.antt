@@ -18,6 +18,7 @@ use Rattle.row_compact.specs.Entries.{is_rail}
 use Rattle.row_compact.specs.Solution.{x_of}
 use Rattle.row_compact.specs.Allowed.{stretch_of}
 use Rattle.row_compact.proofs.Decide.{rail_decides}
+use Rattle.box_geom.proofs.Filters.{IsKept, in_filter}
 use Rattle.cell_draw.specs.declared.layout.Frame.{Frame}
 use Rattle.cell_draw.specs.declared.layout.Gate.{Gate}
 use Rattle.cell_draw.specs.declared.layout.Bar.{Bar}
@@ -27,7 +28,6 @@ use Rattle.cell_draw.specs.Layouts.{holds, far, contact_with, contact_of, has_ow
 use Rattle.cell_draw.proofs.BridgeFrom.{PadFrom, pad_from, signal, ContactFrom, GateFrom}
 use Rattle.cell_draw.proofs.BridgeLines.{cases_in_order}
 use Rattle.cell_draw.proofs.BridgeTracks.{IsRouted, two_nets, has_trunk, on_track, ends_of, Between, between}
-use Rattle.cell_draw.proofs.Found.{Passed, filtered}
 use Rattle.cell_draw.proofs.Wirings.{holds_it, IsFar, is_far, none_far}
 
 -- a trunk ascends as places
@@ -78,8 +78,8 @@ trunks_spread p pins r xs w f t u lt lu = elim (cases_order t.track u.track) [
     of_one same (inl e) one = subst (λ z. AreClear xs t z) e (inr (wide p pins r xs w t lt, wide p pins r xs w t lt, refl))
     of_one same (inr (inl (inl less))) one = absurd (omega (arith, less, ap (λ (n : NetNo). n.0) one))
     of_one same (inr (inr (inl less))) one = absurd (omega (arith, less, ap (λ (n : NetNo). n.0) one))
-    of_one same (inr (inl (inr (net, left, le)))) one = elim (next t u lt lu same le) [ inl far ↦ inl (inl far) | inr meet ↦ inr (meet.0, meet.1, net) ]
-    of_one same (inr (inr (inr (net, left, le)))) one = elim (next u t lu lt (sym same) le) [ inl far ↦ inl (inr far) | inr meet ↦ inr (meet.1, meet.0, sym net) ]
+    of_one same (inr (inl (inr (net, left, le, ends)))) one = elim (next t u lt lu same le) [ inl far ↦ inl (inl far) | inr meet ↦ inr (meet.0, meet.1, net) ]
+    of_one same (inr (inr (inr (net, left, le, ends)))) one = elim (next u t lu lt (sym same) le) [ inl far ↦ inl (inr far) | inr meet ↦ inr (meet.1, meet.0, sym net) ]
 
 -- two bars are clear of each other
 pub bars_spread : (p : Placement) (pins : Pins) (r : Routing) (xs : List ℕ) → IsRouted p pins r xs → (f : Frame) (a b : Bar) → Contains (map (bar_of f p.nodes r.trunks xs) r.trunks) a → Contains (map (bar_of f p.nodes r.trunks xs) r.trunks) b → AreBars a b
@@ -171,7 +171,7 @@ vias_met p pins r xs w f nets b x there line =
     at t lt c =
         let test : NodePlace → Bool = has_via p.nodes r.trunks t in
         let j : Image (λ (node : NodePlace). x_of xs node.line) (filter test p.nodes) x = in_map (λ (node : NodePlace). x_of xs node.line) (filter test p.nodes) x c in
-        let k : Passed test p.nodes j.of = filtered test p.nodes j.of j.listed in
-        let both = and_parts (holds j.of.net j.of.line t && has_own_via p.nodes j.of) (not (list_any (begins_before t j.of.line) r.trunks)) k.is in
+        let k : IsKept test p.nodes j.of = in_filter test p.nodes j.of j.listed in
+        let both = and_parts (holds j.of.net j.of.line t && has_own_via p.nodes j.of) (not (list_any (begins_before t j.of.line) r.trunks)) k.passes in
         let held = holds_it j.of.net j.of.line t (and_parts (holds j.of.net j.of.line t) (has_own_via p.nodes j.of) both.0).0 in
-        subst (λ z. IsMet (laid_out f nets pins p r.trunks xs) (bar_of f p.nodes r.trunks xs t) z) j.is (via_met p pins r xs w f nets t j.of lt k.there held.0 held.1)
+        subst (λ z. IsMet (laid_out f nets pins p r.trunks xs) (bar_of f p.nodes r.trunks xs t) z) j.is (via_met p pins r xs w f nets t j.of lt k.listed held.0 held.1)

@@ -86,7 +86,7 @@ no_hits via node a (t ∷ ts) held of at order =
   where
     by : (t.net ≡ node.net) × HoldsLine t node.line → AreInOrder a t → ⊥
     by (net, on) (inl less) = omega (arith, less, ap (λ (n : NetNo). n.0) (of ∙ sym net))
-    by (net, on) (inr (same, left, right)) = omega (arith, left, at, on.begins)
+    by (net, on) (inr (same, left, right, ends)) = omega (arith, left, at, on.begins)
 
 -- behind one of the net that holds the line one more does at most
 one_hit : (via : Trunk → NodePlace → Bool) (node : NodePlace) (a : Trunk) (ts : List Trunk) → AreHeld via → a.net ≡ node.net → node.line ≤ a.right → All (AreInOrder a) ts → AllPairs AreInOrder ts → hits via node ts ≤ 1
@@ -102,7 +102,7 @@ one_hit via node a (t ∷ ts) held of on before order =
   where
     by : t.net ≡ node.net → AreInOrder a t → node.line ≤ t.left
     by net (inl less) = absurd (omega (arith, less, ap (λ (n : NetNo). n.0) (of ∙ sym net)))
-    by net (inr (same, left, right)) = omega (arith, on, right)
+    by net (inr (same, left, right, ends)) = omega (arith, on, right)
 
 two_hits : (via : Trunk → NodePlace → Bool) (node : NodePlace) (ts : List Trunk) → AreHeld via → AllPairs AreInOrder ts → hits via node ts ≤ 2
 unfolding hits AreHeld

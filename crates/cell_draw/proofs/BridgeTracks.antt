@@ -21,6 +21,7 @@ use Rattle.channel_route.specs.Wiring.{HoldsLine, IsHeldAt, AreEnds, IsWiring}
 use Rattle.row_compact.specs.Solution.{x_of}
 use Rattle.row_compact.specs.Allowed.{stretches_of, AreAllowed}
 use Rattle.row_compact.proofs.Within.{net_line}
+use Rattle.box_geom.proofs.Filters.{contains_filter}
 use Rattle.cell_draw.specs.declared.layout.Frame.{Frame}
 use Rattle.cell_draw.specs.declared.layout.Contact.{Contact}
 use Rattle.cell_draw.specs.Frame.{track_y}
@@ -28,7 +29,6 @@ use Rattle.cell_draw.specs.Laid.{IsTrack, KeepClear, GoesTo}
 use Rattle.cell_draw.specs.Sound.{AreLines}
 use Rattle.cell_draw.proofs.BridgeLines.{behind, same_line}
 use Rattle.cell_draw.proofs.BridgeFrom.{ReachFrom, reach_from, Kind, rail, signal, ContactFrom}
-use Rattle.cell_draw.proofs.Found.{passes}
 
 -- a wired placement on lines that it allows
 pub record IsRouted (p : Placement) (pins : Pins) (r : Routing) (xs : List ℕ) : Type 0 where
@@ -53,13 +53,13 @@ pub node_in_lines : (p : Placement) (node : NodePlace) (net : NetNo) → Contain
 node_in_lines p node net there e =
     Contains-append_left (map (λ (z : NodePlace). z.line) (filter (λ (z : NodePlace). z.net.0 == net.0) p.nodes)) (map (λ (z : GatePlace). z.line) (filter (λ (z : GatePlace). z.net.0 == net.0) p.gates)) node.line
     (contains_map (λ (z : NodePlace). z.line) (filter (λ (z : NodePlace). z.net.0 == net.0) p.nodes) node
-    (passes (λ (z : NodePlace). z.net.0 == net.0) p.nodes node there ((net_decides node.net net).1 e)))
+    (contains_filter (λ (z : NodePlace). z.net.0 == net.0) p.nodes node there ((net_decides node.net net).1 e)))
 
 pub gate_in_lines : (p : Placement) (gate : GatePlace) (net : NetNo) → Contains p.gates gate → gate.net ≡ net → Contains (lines_of p net) gate.line
 gate_in_lines p gate net there e =
     Contains-append_right (map (λ (z : NodePlace). z.line) (filter (λ (z : NodePlace). z.net.0 == net.0) p.nodes)) (map (λ (z : GatePlace). z.line) (filter (λ (z : GatePlace). z.net.0 == net.0) p.gates)) gate.line
     (contains_map (λ (z : GatePlace). z.line) (filter (λ (z : GatePlace). z.net.0 == net.0) p.gates) gate
-    (passes (λ (z : GatePlace). z.net.0 == net.0) p.gates gate there ((net_decides gate.net net).1 e)))
+    (contains_filter (λ (z : GatePlace). z.net.0 == net.0) p.gates gate there ((net_decides gate.net net).1 e)))
 
 -- a net with a trunk has one that holds the line of each of its places
 pub held_at : (p : Placement) (pins : Pins) (r : Routing) → IsWiring p pins r → (t : Trunk) (net : NetNo) (line : ℕ) → Contains r.trunks t → t.net ≡ net → Contains (lines_of p net) line → IsHeldAt r.trunks net line

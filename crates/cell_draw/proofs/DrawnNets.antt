@@ -28,7 +28,8 @@ use Rattle.cell_draw.proofs.NetsBridge.{has_nets}
 use Rattle.cell_draw.proofs.ShownRow.{shows_row}
 use Rattle.cell_draw.proofs.ShownTracks.{shows_routing}
 
-wired : (names : List (List ℕ)) (pins : Pins) (p : Placement) (r : Routing) (xs : List ℕ) (height : ℕ) → IsPlacement p → IsSoundRow names pins p.row → IsWiring p pins r → AreAllowed p pins (stretches_of r.trunks) xs → pins.vdd ≢ pins.gnd → IsWired names pins p r xs (frame_of p.row r.tracks height (width_of p xs))
+-- the row is drawn with its nets
+pub wired : (names : List (List ℕ)) (pins : Pins) (p : Placement) (r : Routing) (xs : List ℕ) (height : ℕ) → IsPlacement p → IsSoundRow names pins p.row → IsWiring p pins r → AreAllowed p pins (stretches_of r.trunks) xs → pins.vdd ≢ pins.gnd → IsWired names pins p r xs (frame_of p.row r.tracks height (width_of p xs))
 wired names pins p r xs height is row wiring allowed differ =
     let f : Frame = frame_of p.row r.tracks height (width_of p xs) in
     let drawn : IsDrawn names pins p r xs f = drawn_is names pins p r xs height is row wiring allowed in

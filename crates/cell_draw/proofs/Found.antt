@@ -1,8 +1,7 @@
--- What `find` finds in a list, and what `filter` leaves of it.
+-- What `find` finds in a list.
 use Rattle.std.proofs.Common.{ℕ, ◌≡◌, ◌≤◌, ◌==◌, Bool, true, false, List, [], ◌∷◌, Some, None, inl, inr, find, All, Contains, refl, sym, subst, ◌∙◌}
-use Rattle.std.specs.List.{filter}
 use Rattle.std.proofs.lemmas.List.Elements.{All-head, All-tail}
-use Rattle.cell_num.proofs.Lists.{contains_none, contains_cons, contains_here, contains_there}
+use Rattle.cell_num.proofs.Lists.{contains_none, contains_cons}
 use Rattle.cell_num.specs.declared.net.NetNo.{NetNo}
 use Rattle.channel_route.specs.declared.routing.Trunk.{Trunk}
 use Rattle.cell_draw.specs.Layouts.{trunk_of, holds}
@@ -43,44 +42,3 @@ found_track trunks net t all e = found_all (λ (u : Trunk). u.track ≤ 1000) (�
 
 pub held_track : (trunks : List Trunk) (net : NetNo) (line : ℕ) (t : Trunk) → All (λ (u : Trunk). u.track ≤ 1000) trunks → find (holds net line) trunks ≡ Some t → t.track ≤ 1000
 held_track trunks net line t all e = found_all (λ (u : Trunk). u.track ≤ 1000) (holds net line) trunks t all e
-
--- an element that passes a test
-pub record Passed {X : Type 0} (test : X → Bool) (xs : List X) (x : X) : Type 0 where
-  pub there : Contains xs x
-  pub is : test x ≡ true
-
-pub filtered : {X : Type 0} (test : X → Bool) (xs : List X) (x : X) → Contains (filter test xs) x → Passed test xs x
-filtered test [] x c = absurd (contains_none x c)
-filtered {X} test (y ∷ ys) x c = by (test y) refl (λ rest. filtered test ys x rest)
-  where
-    more : Passed test ys x → Passed test (y ∷ ys) x
-    more k = record { there = contains_there y ys x k.there; is = k.is }
-
-    by : (b : Bool) → test y ≡ b → (Contains (filter test ys) x → Passed test ys x) → Passed test (y ∷ ys) x
-    by true here later =
-        let all : filter test (y ∷ ys) ≡ y ∷ filter test ys = rw here refl in
-        elim (contains_cons y (filter test ys) x (subst (λ zs. Contains zs x) all c)) [
-          | inl same ↦ subst (λ z. Passed test (y ∷ ys) z) same (record { there = contains_here y ys; is = here })
-          | inr rest ↦ more (later rest)
-        ]
-    by false here later =
-        let all : filter test (y ∷ ys) ≡ filter test ys = rw here refl in
-        more (later (subst (λ zs. Contains zs x) all c))
-
-pub passes : {X : Type 0} (test : X → Bool) (xs : List X) (x : X) → Contains xs x → test x ≡ true → Contains (filter test xs) x
-passes test [] x c h = absurd (contains_none x c)
-passes {X} test (y ∷ ys) x c h = by (test y) refl (λ rest. passes test ys x rest h)
-  where
-    by : (b : Bool) → test y ≡ b → (Contains ys x → Contains (filter test ys) x) → Contains (filter test (y ∷ ys)) x
-    by true here later =
-        let all : filter test (y ∷ ys) ≡ y ∷ filter test ys = rw here refl in
-        subst (λ zs. Contains zs x) (sym all) (elim (contains_cons y ys x c) [
-          | inl same ↦ subst (λ z. Contains (y ∷ filter test ys) z) same (contains_here y (filter test ys))
-          | inr rest ↦ contains_there y (filter test ys) x (later rest)
-        ])
-    by false here later =
-        let all : filter test (y ∷ ys) ≡ filter test ys = rw here refl in
-        subst (λ zs. Contains zs x) (sym all) (elim (contains_cons y ys x c) [
-          | inl same ↦ absurd cc
-          | inr rest ↦ later rest
-        ])

@@ -1,5 +1,5 @@
 -- The shapes of a laid layout behind its frame are in the frame.
-use Rattle.std.proofs.Common.{ℕ, ◌≡◌, ◌+◌, ◌≤◌, ℤ, pos, ◌+ℤ◌, ◌≤ℤ◌, List, [], ◌∷◌, ◌++◌, Option, Some, None, inl, inr, subst, arith, All, Contains}
+use Rattle.std.proofs.Common.{ℕ, ◌≡◌, ◌+◌, ◌≤◌, pos, ◌+ℤ◌, ◌≤ℤ◌, List, [], ◌∷◌, ◌++◌, Option, Some, None, inl, inr, subst, arith, All, Contains}
 use Rattle.std.specs.List.{flat_map}
 use Rattle.std.proofs.lemmas.Int.{ints}
 use Rattle.std.proofs.lemmas.List.Elements.{All-nil, All-cons, All-append, All-contains}
@@ -15,7 +15,7 @@ use Rattle.cell_draw.specs.declared.layout.Contact.{Contact}
 use Rattle.cell_draw.specs.declared.layout.Gate.{Gate}
 use Rattle.cell_draw.specs.declared.layout.Bar.{Bar}
 use Rattle.cell_draw.specs.declared.layout.Layout.{Layout}
-use Rattle.cell_draw.specs.Framed.{side_of, end_of, KeepsFrom, IsInRow, IsInFrame}
+use Rattle.cell_draw.specs.Framed.{side_of, end_of, KeepsFrom, IsOutsideChannel, IsInFrame}
 use Rattle.cell_draw.specs.Laid.{IsFrame, IsInside, row_height, IsStrip, IsWidth, IsGate, IsOnBar, IsMet, IsLaid}
 use Rattle.cell_draw.specs.Shapes.{cell_height, around, finger, centre, landing, strap, branch, reach_shapes, contact_shapes, gate_low, gate_high, gate_strip, pad_shapes, gate_shapes, bar_metal, via_shapes, bar_shapes}
 use Rattle.cell_draw.specs.Small.{IsHeight, IsReach}
@@ -28,7 +28,7 @@ Inner PSelect = ⊥
 Inner NSelect = ⊥
 Inner layer = Unit {0}
 
-stands : (f : Frame) (s : Shape) → Inner s.layer → KeepsFrom f (side_of s.layer) (end_of s.layer) s.rect → (s.layer ≡ Active → IsInRow f s.rect) → IsInFrame f s
+stands : (f : Frame) (s : Shape) → Inner s.layer → KeepsFrom f (side_of s.layer) (end_of s.layer) s.rect → (s.layer ≡ Active → IsOutsideChannel f s.rect) → IsInFrame f s
 stands f s inner clear active = record {
   no_well = λ e. subst Inner e inner;
   no_p_select = λ e. subst Inner e inner;

@@ -22,6 +22,7 @@ mod FramedDrawn
 mod FramedTags
 mod LabelPieces
 mod LabelsPlaced
+pub mod MetalNamed
 mod NamesPlaced
 mod NetsApart
 mod NetsBars

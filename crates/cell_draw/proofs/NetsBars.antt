@@ -17,6 +17,7 @@ use Rattle.channel_route.specs.Wiring.{HoldsLine, AreEnds, AreInOrder, AreJoined
 use Rattle.row_compact.specs.Solution.{x_of}
 use Rattle.box_geom.specs.Chains.{Chain}
 use Rattle.scmos_rules.proofs.Chains.{none, one, turned, joined as chained}
+use Rattle.box_geom.proofs.Filters.{contains_filter}
 use Rattle.cell_draw.specs.declared.layout.Frame.{Frame}
 use Rattle.cell_draw.specs.declared.layout.Contact.{Contact}
 use Rattle.cell_draw.specs.declared.layout.Bar.{Bar}
@@ -28,7 +29,6 @@ use Rattle.cell_draw.proofs.BridgeBars.{Reached, reached, reached_from, goes_up}
 use Rattle.cell_draw.proofs.BridgeFrom.{ContactFrom, ReachFrom}
 use Rattle.cell_draw.proofs.BridgeLines.{At, some_at, standing}
 use Rattle.cell_draw.proofs.BridgeTracks.{IsRouted, ends_of, Between, between, reach_of_contact}
-use Rattle.cell_draw.proofs.Found.{passes}
 use Rattle.cell_draw.proofs.NetsFacts.{Reaches, AreNeighbours, overlap, crossed}
 use Rattle.cell_draw.proofs.Wirings.{it_holds, BeginsFirst, begins_first}
 
@@ -41,7 +41,7 @@ via_at : (nodes : List NodePlace) (trunks : List Trunk) (xs : List ℕ) (t : Tru
 via_at nodes trunks xs t node there of on first own =
     let last : not (list_any (begins_before t node.line) trunks) ≡ true = rw first refl in
     contains_map (λ (z : NodePlace). x_of xs z.line) (filter (has_via nodes trunks t) nodes) node
-    (passes (has_via nodes trunks t) nodes node there (and_from (holds node.net node.line t && has_own_via nodes node) (not (list_any (begins_before t node.line) trunks)) (and_from (holds node.net node.line t) (has_own_via nodes node) (it_holds node.net node.line t of on) own) last))
+    (contains_filter (has_via nodes trunks t) nodes node there (and_from (holds node.net node.line t && has_own_via nodes node) (not (list_any (begins_before t node.line) trunks)) (and_from (holds node.net node.line t) (has_own_via nodes node) (it_holds node.net node.line t of on) own) last))
 
 -- a place of the N row has its own via
 own_via : (nodes : List NodePlace) (node : NodePlace) → is_p node.row ≡ false → has_own_via nodes node ≡ true
@@ -158,7 +158,7 @@ nets_rise p pins r wiring k (suc d) t u is at = by (pairs_at AreInOrder r.trunks
   where
     by : AreInOrder t u → t.net.0 ≤ u.net.0
     by (inl less) = omega (arith, less)
-    by (inr (net, left, right)) = omega (arith, ap (λ (n : NetNo). n.0) net)
+    by (inr later) = omega (arith, ap (λ (n : NetNo). n.0) later.0)
 
 upward : (p : Placement) (pins : Pins) (r : Routing) (xs : List ℕ) → IsRouted p pins r xs → (f : Frame) (nets : ℕ) (d k : ℕ) (t u : Trunk) → slice_get r.trunks k ≡ Some t → slice_get r.trunks (k + d) ≡ Some u → t.net ≡ u.net → Chain (AreNeighbours (layout pins p r xs f nets)) (bar_at p r xs f t) (bar_at p r xs f u)
 upward p pins r xs w f nets zero k t u is at e =

@@ -18,10 +18,10 @@ use Rattle.row_place.specs.declared.placement.GatePlace.{GatePlace}
 use Rattle.row_place.specs.declared.placement.Placement.{Placement}
 use Rattle.row_place.specs.Places.{IsNode, IsGate, IsPlacement}
 use Rattle.row_place.specs.Trunks.{lines_of}
+use Rattle.box_geom.proofs.Filters.{IsKept, in_filter}
 use Rattle.cell_draw.specs.Sound.{IsSoundRow}
 use Rattle.cell_draw.proofs.BridgePlaces.{EndOf, end_of}
 use Rattle.cell_draw.proofs.BridgeRow.{p_finger, n_finger}
-use Rattle.cell_draw.proofs.Found.{Passed, filtered}
 
 -- the nets of a finger are named
 record AreLow (names : List (List ℕ)) (x : Finger) : Type 0 where
@@ -59,10 +59,10 @@ pub place_low : (names : List (List ℕ)) (pins : Pins) (p : Placement) → IsPl
 place_low names pins p is s net line there = elim (Contains-append_cases (map (λ (z : NodePlace). z.line) (filter (λ (z : NodePlace). z.net.0 == net.0) p.nodes)) (map (λ (z : GatePlace). z.line) (filter (λ (z : GatePlace). z.net.0 == net.0) p.gates)) line there) [
   | inl c ↦
       let i : Image (λ (z : NodePlace). z.line) (filter (λ (z : NodePlace). z.net.0 == net.0) p.nodes) line = in_map (λ (z : NodePlace). z.line) (filter (λ (z : NodePlace). z.net.0 == net.0) p.nodes) line c in
-      let k : Passed (λ (z : NodePlace). z.net.0 == net.0) p.nodes i.of = filtered (λ (z : NodePlace). z.net.0 == net.0) p.nodes i.of i.listed in
-      omega (arith, node_low names pins p s i.of ((is.nodes i.of).0 k.there), number i.of.net net ((net_decides i.of.net net).0 k.is))
+      let k : IsKept (λ (z : NodePlace). z.net.0 == net.0) p.nodes i.of = in_filter (λ (z : NodePlace). z.net.0 == net.0) p.nodes i.of i.listed in
+      omega (arith, node_low names pins p s i.of ((is.nodes i.of).0 k.listed), number i.of.net net ((net_decides i.of.net net).0 k.passes))
   | inr c ↦
       let i : Image (λ (z : GatePlace). z.line) (filter (λ (z : GatePlace). z.net.0 == net.0) p.gates) line = in_map (λ (z : GatePlace). z.line) (filter (λ (z : GatePlace). z.net.0 == net.0) p.gates) line c in
-      let k : Passed (λ (z : GatePlace). z.net.0 == net.0) p.gates i.of = filtered (λ (z : GatePlace). z.net.0 == net.0) p.gates i.of i.listed in
-      omega (arith, gate_low names pins p s i.of ((is.gates i.of).0 k.there), number i.of.net net ((net_decides i.of.net net).0 k.is))
+      let k : IsKept (λ (z : GatePlace). z.net.0 == net.0) p.gates i.of = in_filter (λ (z : GatePlace). z.net.0 == net.0) p.gates i.of i.listed in
+      omega (arith, gate_low names pins p s i.of ((is.gates i.of).0 k.listed), number i.of.net net ((net_decides i.of.net net).0 k.passes))
 ]

@@ -16,13 +16,14 @@ use Rattle.row_place.specs.Trunks.{lines_of}
 use Rattle.channel_route.specs.declared.routing.Trunk.{Trunk}
 use Rattle.channel_route.specs.declared.routing.Routing.{Routing}
 use Rattle.channel_route.specs.Wiring.{IsHeldAt, IsWiring}
+use Rattle.box_geom.proofs.Filters.{contains_filter}
 use Rattle.cell_draw.specs.declared.layout.Frame.{Frame}
 use Rattle.cell_draw.specs.declared.layout.Bar.{Bar}
 use Rattle.cell_draw.specs.Frame.{track_y}
 use Rattle.cell_draw.specs.Layouts.{trunk_of, holds, far, gate_reach, bar_of}
 use Rattle.cell_draw.proofs.BridgeFrom.{TrunkFrom, trunk_from}
 use Rattle.cell_draw.proofs.BridgeTracks.{has_trunk, held_at, node_in_lines, gate_in_lines}
-use Rattle.cell_draw.proofs.Found.{passes, none_found}
+use Rattle.cell_draw.proofs.Found.{none_found}
 use Rattle.cell_draw.proofs.Wirings.{it_holds, none_far}
 
 -- a short list has one item
@@ -63,10 +64,10 @@ one_line p pins r wiring net b = elim (cases_lt 1 (length (lines_of p net))) [
 ]
 
 on_net : (p : Placement) (net : NetNo) (node : NodePlace) → Contains p.nodes node → node.net ≡ net → Contains (nodes_on p net) node
-on_net p net node there e = passes (λ (z : NodePlace). z.net.0 == net.0) p.nodes node there ((net_decides node.net net).1 e)
+on_net p net node there e = contains_filter (λ (z : NodePlace). z.net.0 == net.0) p.nodes node there ((net_decides node.net net).1 e)
 
 gate_on_net : (p : Placement) (net : NetNo) (gate : GatePlace) → Contains p.gates gate → gate.net ≡ net → Contains (gates_at p net) gate
-gate_on_net p net gate there e = passes (λ (z : GatePlace). z.net.0 == net.0) p.gates gate there ((net_decides gate.net net).1 e)
+gate_on_net p net gate there e = contains_filter (λ (z : GatePlace). z.net.0 == net.0) p.gates gate there ((net_decides gate.net net).1 e)
 
 pub one_node_alone : (p : Placement) (pins : Pins) (r : Routing) → IsWiring p pins r → (a b : NodePlace) → Contains p.nodes a → Contains p.nodes b → IsBare pins r a.net → b.net ≡ a.net → b ≡ a
 one_node_alone p pins r wiring a b la lb bare e = only_item (nodes_on p a.net) b a (omega (arith, places p a.net, one_line p pins r wiring a.net bare)) (on_net p a.net b lb e) (on_net p a.net a la refl)

@@ -20,7 +20,7 @@ use Rattle.cell_draw.specs.declared.layout.Layout.{Layout}
 use Rattle.cell_draw.specs.Shapes.{well, p_select, n_select, strap, branch, bar_metal, shapes_of}
 use Rattle.cell_draw.specs.Laid.{IsFrame, GoesTo, IsLaid}
 use Rattle.cell_draw.proofs.RulesPlaces.{InChannel}
-use Rattle.cell_draw.proofs.RulesActive.{pad_in, area_rect}
+use Rattle.cell_draw.proofs.RulesActive.{pad_in}
 use Rattle.cell_draw.proofs.RulesActive as area
 use Rattle.cell_draw.proofs.RulesPoly.{IsPad}
 use Rattle.cell_draw.proofs.RulesPoly as poly

@@ -17,7 +17,7 @@ use Rattle.cell_draw.specs.Shapes.{shapes_of}
 use Rattle.cell_draw.specs.Laid.{IsFrame, IsInside, IsStrip, row_height, IsLaid}
 use Rattle.cell_draw.proofs.RulesActive.{Area, finger_of, finger_in, pad_in, IsArea, area_rect, strip_is}
 use Rattle.cell_draw.proofs.RulesActive as area
-use Rattle.cell_draw.proofs.RulesPoly.{Piece, strip_of, IsPad, IsPiece, piece_rect}
+use Rattle.cell_draw.proofs.RulesPoly.{Piece, strip_of, IsPiece, piece_rect}
 use Rattle.cell_draw.proofs.RulesPoly as poly
 use Rattle.cell_draw.proofs.RulesVias.{ViaPlace, landing_of, landing_in, meeting_of, IsViaPlace, via_rect, bar_in}
 use Rattle.cell_draw.proofs.RulesCovers.{area_held, poly_held, via_held}

@@ -19,8 +19,8 @@ use Rattle.row_place.proofs.Bounds.{few_nodes, few_gates}
 use Rattle.channel_route.specs.declared.routing.Trunk.{Trunk}
 use Rattle.channel_route.specs.declared.routing.Routing.{Routing}
 use Rattle.channel_route.specs.Wiring.{AreInOrder, IsWiring}
+use Rattle.box_geom.proofs.Filters.{IsKept, in_filter}
 use Rattle.cell_draw.proofs.BridgeTracks.{ends_of}
-use Rattle.cell_draw.proofs.Found.{Passed, filtered}
 
 split_there : {X : Type 0} (xs : List X) (x : X) → Contains xs x → Split x xs
 split_there [] x c = absurd (contains_none x c)
@@ -88,12 +88,12 @@ begins : (p : Placement) (net : NetNo) (line : ℕ) → Contains (lines_of p net
 begins p net line c = elim (Contains-append_cases (map (λ (z : NodePlace). z.line) (filter (λ (z : NodePlace). z.net.0 == net.0) p.nodes)) (map (λ (z : GatePlace). z.line) (filter (λ (z : GatePlace). z.net.0 == net.0) p.gates)) line c) [
   | inl c ↦
       let i : Image (λ (z : NodePlace). z.line) (filter (λ (z : NodePlace). z.net.0 == net.0) p.nodes) line = in_map (λ (z : NodePlace). z.line) (filter (λ (z : NodePlace). z.net.0 == net.0) p.nodes) line c in
-      let k : Passed (λ (z : NodePlace). z.net.0 == net.0) p.nodes i.of = filtered (λ (z : NodePlace). z.net.0 == net.0) p.nodes i.of i.listed in
-      record { it = node_spot i.of; there = Contains-append_left (map node_spot p.nodes) (map gate_spot p.gates) (node_spot i.of) (contains_map node_spot p.nodes i.of k.there); holds = ((net_decides i.of.net net).0 k.is, i.is) }
+      let k : IsKept (λ (z : NodePlace). z.net.0 == net.0) p.nodes i.of = in_filter (λ (z : NodePlace). z.net.0 == net.0) p.nodes i.of i.listed in
+      record { it = node_spot i.of; there = Contains-append_left (map node_spot p.nodes) (map gate_spot p.gates) (node_spot i.of) (contains_map node_spot p.nodes i.of k.listed); holds = ((net_decides i.of.net net).0 k.passes, i.is) }
   | inr c ↦
       let i : Image (λ (z : GatePlace). z.line) (filter (λ (z : GatePlace). z.net.0 == net.0) p.gates) line = in_map (λ (z : GatePlace). z.line) (filter (λ (z : GatePlace). z.net.0 == net.0) p.gates) line c in
-      let k : Passed (λ (z : GatePlace). z.net.0 == net.0) p.gates i.of = filtered (λ (z : GatePlace). z.net.0 == net.0) p.gates i.of i.listed in
-      record { it = gate_spot i.of; there = Contains-append_right (map node_spot p.nodes) (map gate_spot p.gates) (gate_spot i.of) (contains_map gate_spot p.gates i.of k.there); holds = ((net_decides i.of.net net).0 k.is, i.is) }
+      let k : IsKept (λ (z : GatePlace). z.net.0 == net.0) p.gates i.of = in_filter (λ (z : GatePlace). z.net.0 == net.0) p.gates i.of i.listed in
+      record { it = gate_spot i.of; there = Contains-append_right (map node_spot p.nodes) (map gate_spot p.gates) (gate_spot i.of) (contains_map gate_spot p.gates i.of k.listed); holds = ((net_decides i.of.net net).0 k.passes, i.is) }
 ]
 
 pub few_trunks : (p : Placement) (pins : Pins) (r : Routing) → IsPlacement p → IsWiring p pins r → length r.trunks ≤ 160
@@ -110,7 +110,7 @@ few_trunks p pins r is wiring =
   where
     apart : (a b : Trunk) → AreInOrder a b → (s : Spot) → BeginsAt a s → BeginsAt b s → ⊥
     apart a b (inl less) s (na, la) (nb, lb) = omega (arith, less, ap (λ (n : NetNo). n.0) (sym na ∙ nb))
-    apart a b (inr (net, left, right)) s (na, la) (nb, lb) = omega (arith, left, la, lb)
+    apart a b (inr (net, left, right, ends)) s (na, la) (nb, lb) = omega (arith, left, la, lb)
 
 -- each track has a trunk
 pub few_tracks : (p : Placement) (pins : Pins) (r : Routing) → IsPlacement p → IsWiring p pins r → r.tracks ≤ 160

@@ -13,20 +13,21 @@ use Rattle.cell_num.proofs.Pairs.{Some', test_finds}
 use Rattle.row_model.proofs.Decide.{net_decides}
 use Rattle.row_place.specs.declared.placement.NodePlace.{NodePlace}
 use Rattle.channel_route.specs.declared.routing.Trunk.{Trunk}
+use Rattle.channel_route.specs.Routing.{holds_line}
 use Rattle.channel_route.specs.Wiring.{HoldsLine}
+use Rattle.box_geom.proofs.Filters.{IsKept, in_filter, contains_filter}
 use Rattle.cell_draw.specs.Laid.{GoesTo}
 use Rattle.cell_draw.specs.Layouts.{holds, tracks_at, farther, far, begins_before}
-use Rattle.cell_draw.proofs.Found.{Passed, filtered, passes}
 
 -- ---- the test on a trunk
 pub it_holds : (net : NetNo) (line : ℕ) (t : Trunk) → t.net ≡ net → HoldsLine t line → holds net line t ≡ true
-it_holds net line t of on = and_from ((t.net.0 == net.0) && leb t.left line) (leb line t.right) (and_from (t.net.0 == net.0) (leb t.left line) ((net_decides t.net net).1 of) (le-leb t.left line on.begins)) (le-leb line t.right on.ends)
+it_holds net line t of on = and_from (t.net.0 == net.0) (holds_line line t) ((net_decides t.net net).1 of) (and_from (leb t.left line) (leb line t.right) (le-leb t.left line on.begins) (le-leb line t.right on.ends))
 
 pub holds_it : (net : NetNo) (line : ℕ) (t : Trunk) → holds net line t ≡ true → (t.net ≡ net) × HoldsLine t line
 holds_it net line t e =
-    let both = and_parts ((t.net.0 == net.0) && leb t.left line) (leb line t.right) e in
-    let more = and_parts (t.net.0 == net.0) (leb t.left line) both.0 in
-    ((net_decides t.net net).0 more.0, record { begins = leb-true t.left line more.1; ends = leb-true line t.right both.1 })
+    let both = and_parts (t.net.0 == net.0) (holds_line line t) e in
+    let ends = and_parts (leb t.left line) (leb line t.right) both.1 in
+    ((net_decides t.net net).0 both.0, record { begins = leb-true t.left line ends.0; ends = leb-true line t.right ends.1 })
 
 -- ---- the farthest of some tracks
 record IsFarthest (row : Row) (tracks : List ℕ) (k : ℕ) : Type 0 where
@@ -107,17 +108,17 @@ pub record IsFar (trunks : List Trunk) (node : NodePlace) (k : ℕ) : Type 0 whe
   pub most : (u : Trunk) → Contains trunks u → u.net ≡ node.net → HoldsLine u node.line → GoesTo node.row k u.track
 
 held_track : (trunks : List Trunk) (net : NetNo) (line : ℕ) (u : Trunk) → Contains trunks u → u.net ≡ net → HoldsLine u line → Contains (tracks_at trunks net line) u.track
-held_track trunks net line u there of on = contains_map (λ (t : Trunk). t.track) (filter (holds net line) trunks) u (passes (holds net line) trunks u there (it_holds net line u of on))
+held_track trunks net line u there of on = contains_map (λ (t : Trunk). t.track) (filter (holds net line) trunks) u (contains_filter (holds net line) trunks u there (it_holds net line u of on))
 
 pub is_far : (trunks : List Trunk) (node : NodePlace) (k : ℕ) → far trunks node ≡ Some k → IsFar trunks node k
 is_far trunks node k e =
     let f : IsFarthest node.row (tracks_at trunks node.net node.line) k = reduced node.row (tracks_at trunks node.net node.line) k e in
     let i : Image (λ (t : Trunk). t.track) (filter (holds node.net node.line) trunks) k = in_map (λ (t : Trunk). t.track) (filter (holds node.net node.line) trunks) k f.there in
-    let q : Passed (holds node.net node.line) trunks i.of = filtered (holds node.net node.line) trunks i.of i.listed in
-    let h = holds_it node.net node.line i.of q.is in
+    let q : IsKept (holds node.net node.line) trunks i.of = in_filter (holds node.net node.line) trunks i.of i.listed in
+    let h = holds_it node.net node.line i.of q.passes in
     record {
       trunk = i.of;
-      listed = q.there;
+      listed = q.listed;
       of = h.0;
       on = h.1;
       track = i.is;

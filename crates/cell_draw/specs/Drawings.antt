@@ -5,7 +5,6 @@ use Rattle.cell_num.specs.declared.net.Pins.{Pins}
 use Rattle.row_model.specs.declared.column.Column.{Column}
 use Rattle.row_place.specs.declared.placement.Placement.{Placement}
 use Rattle.row_place.specs.Units.{seats_of}
-use Rattle.channel_route.specs.declared.routing.Trunk.{Trunk}
 use Rattle.channel_route.specs.declared.routing.Routing.{Routing}
 use Rattle.cell_draw.specs.declared.layout.Frame.{Frame}
 use Rattle.cell_draw.specs.Frame.{needed_of, frame_of}
@@ -25,10 +24,6 @@ drawing_of names l = record { shapes = record { rects = shapes_of l; labels = ma
 -- the drawing of a routed row on lines at these places, in a cell of this height
 abbrev pub drawn_of : List (List ℕ) → Pins → Placement → Routing → List ℕ → ℕ → Drawing
 drawn_of names pins placement routing xs height = drawing_of names (layout_of (length names) pins placement routing xs height)
-
--- trunks on so many tracks
-abbrev pub wiring_of : ℕ → List Trunk → Routing
-wiring_of tracks trunks = record { tracks = tracks; trunks = trunks }
 
 -- well, selects, rails and fingers alone
 abbrev pub base_of : Frame → Pins → Placement → List ℕ → Layout

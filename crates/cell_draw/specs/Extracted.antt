@@ -16,6 +16,7 @@ use Rattle.scmos_rules.specs.declared.rules.Deck.{Deck}
 use Rattle.net_extract.specs.Nets.{Site}
 use Rattle.net_extract.specs.Devices.{IsDevice}
 use Rattle.net_extract.specs.Labels.{IsNamed}
+use Rattle.cell_draw.specs.declared.measure.TheConstants.{GATE_LENGTH}
 use Rattle.cell_draw.specs.Named.{name_of, AreNamed}
 
 -- all classes of gate cells, each once
@@ -23,13 +24,13 @@ pub record AreGates (s : List Shape) (boxes : List Rectangle) : Type 0 where
   pub differ : AllPairs (λ (a b : Rectangle). a ≢ b) boxes
   pub all : (x y : ℤ) → Gate s x y → Any (λ (box : Rectangle). Holds box x y) boxes
 
--- The device of the box is the finger: of its row, its width and the length 4, on its nets. It may be
+-- The device of the box is the finger: of its row, its width and the length of a gate, on its nets. It may be
 -- turned round.
 pub record IsFingerAt (deck : Deck) (names : List (List ℕ)) (shapes : Shapes) (box : Rectangle) (f : Finger) : Type 0 where
   pub gate : Site
   pub left : Site
   pub right : Site
-  pub is : IsDevice deck shapes.rects box f.row gate left right f.width 4
+  pub is : IsDevice deck shapes.rects box f.row gate left right f.width GATE_LENGTH
   pub gate_net : IsNamed deck shapes (name_of names f.gate) gate
   pub ends : (IsNamed deck shapes (name_of names f.lo) left × IsNamed deck shapes (name_of names f.hi) right) ⊎ (IsNamed deck shapes (name_of names f.hi) left × IsNamed deck shapes (name_of names f.lo) right)
 

@@ -1,12 +1,14 @@
 -- What a drawing shows of its frame, whatever its row is: well, selects and rails come first, and all that follows stays clear
 -- of them and of the cell's sides.
-use Rattle.std.specs.Prelude.{ℕ, ◌≡◌, ◌≢◌, ◌+◌, ◌-◌, ◌≤◌, ◌⊎◌, ◌++◌, List, length, All, ℤ, pos, ◌+ℤ◌, ◌≤ℤ◌}
+use Rattle.std.specs.Prelude.{ℕ, ◌≡◌, ◌≢◌, ◌+◌, ◌-◌, ◌≤◌, ◌⊎◌, ◌++◌, List, length, All, pos, ◌+ℤ◌, ◌≤ℤ◌}
 use Rattle.box_geom.specs.declared.layer.Layer.{Layer}
 use Rattle.box_geom.specs.declared.layer.Layer.TheVariants.{Well, Active, PSelect, NSelect, Metal1, Metal2}
 use Rattle.box_geom.specs.declared.rect.Rect.{Rect}
 use Rattle.box_geom.specs.declared.shape.Shape.{Shape}
 use Rattle.box_geom.specs.declared.shape.Label.{Label}
 use Rattle.row_compact.specs.Solution.{x_of}
+use Rattle.row_compact.specs.declared.measure.TheConstants.{SIDE_SPACE}
+use Rattle.cell_draw.specs.declared.measure.TheConstants.{END_CAP, RAIL, ROW_EDGE, LEAST_ROW, LEAST_CHANNEL}
 use Rattle.cell_draw.specs.declared.layout.Frame.{Frame}
 use Rattle.cell_draw.specs.declared.drawing.Drawing.{Drawing}
 use Rattle.cell_draw.specs.Shapes.{cell_height, frame_shapes}
@@ -23,10 +25,10 @@ side_of Metal1 = 4
 side_of Metal2 = 4
 side_of _ = 3
 
--- The distance to the lower and to the upper end: metal1 goes up to the rails, the other layers keep 4 more.
+-- The distance to the lower and to the upper end: metal1 goes up to the rails, poly, which comes next, past the fingers.
 abbrev pub end_of : Layer → ℕ
-end_of Metal1 = 16
-end_of _ = 20
+end_of Metal1 = RAIL
+end_of _ = ROW_EDGE - END_CAP
 
 -- so far or further from both sides and from both ends of the cell
 pub record KeepsFrom (f : Frame) (side end : ℕ) (r : Rect) : Type 0 where
@@ -36,8 +38,8 @@ pub record KeepsFrom (f : Frame) (side end : ℕ) (r : Rect) : Type 0 where
   pub high : (r.y2 +ℤ pos end) ≤ℤ pos (cell_height f)
 
 -- below the channel or above it
-abbrev pub IsInRow : Frame → Rect → Type 0
-IsInRow f r = (r.y2 ≤ℤ pos f.yn) ⊎ (pos f.yp ≤ℤ r.y1)
+abbrev pub IsOutsideChannel : Frame → Rect → Type 0
+IsOutsideChannel f r = (r.y2 ≤ℤ pos f.yn) ⊎ (pos f.yp ≤ℤ r.y1)
 
 -- no well and no select, clear of the cell's sides and ends, and in one of the rows where it is active
 pub record IsInFrame (f : Frame) (s : Shape) : Type 0 where
@@ -45,25 +47,25 @@ pub record IsInFrame (f : Frame) (s : Shape) : Type 0 where
   pub no_p_select : s.layer ≢ PSelect
   pub no_n_select : s.layer ≢ NSelect
   pub clear : KeepsFrom f (side_of s.layer) (end_of s.layer) s.rect
-  pub active : s.layer ≡ Active → IsInRow f s.rect
+  pub active : s.layer ≡ Active → IsOutsideChannel f s.rect
 
--- between the cell's sides, 8 from each
+-- between the first and the last place of a line
 pub record IsLabelInFrame (f : Frame) (l : Label) : Type 0 where
-  pub left : pos 8 ≤ℤ l.x
-  pub right : (l.x +ℤ pos 8) ≤ℤ pos f.width
+  pub left : pos SIDE_SPACE ≤ℤ l.x
+  pub right : (l.x +ℤ pos SIDE_SPACE) ≤ℤ pos f.width
 
 -- A drawing on these lines, in this frame.
 pub record IsFramed (f : Frame) (xs : List ℕ) (d : Drawing) : Type 0 where
-  -- the first line stands at 8 or further, the last 8 before the right side
-  pub first : 8 ≤ x_of xs 0
-  pub last : f.width ≡ x_of xs (length xs - 1) + 8
-  -- upward: the rail of 16, 8 between, the N row, the channel, the P row, 8 between, the rail of 16
-  pub n_edge : f.yn ≡ 24 + f.hn
-  pub p_edge : f.yn + 40 ≤ f.yp
-  pub n_row : 10 ≤ f.hn
-  pub p_row : 10 ≤ f.hp
+  -- the first line stands so far from the left side or further, the last so far from the right side
+  pub first : SIDE_SPACE ≤ x_of xs 0
+  pub last : f.width ≡ x_of xs (length xs - 1) + SIDE_SPACE
+  -- upward: a rail, its gap, the N row, the channel, the P row, a gap, a rail
+  pub n_edge : f.yn ≡ ROW_EDGE + f.hn
+  pub p_edge : f.yn + LEAST_CHANNEL ≤ f.yp
+  pub n_row : LEAST_ROW ≤ f.hn
+  pub p_row : LEAST_ROW ≤ f.hp
   pub width : d.width ≡ f.width
-  pub height : d.height ≡ f.yp + f.hp + 24
+  pub height : d.height ≡ f.yp + f.hp + ROW_EDGE
   -- well, selects and rails, then the rest, and the labels
   pub frame : BeginsWith (frame_shapes f) d.shapes.rects
   pub others : All (IsInFrame f) frame.others

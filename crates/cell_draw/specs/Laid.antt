@@ -4,6 +4,8 @@ use Rattle.std.specs.List.{All, Contains}
 use Rattle.cell_num.specs.declared.net.NetNo.{NetNo}
 use Rattle.cell_num.specs.declared.finger.Row.{Row}
 use Rattle.cell_num.specs.declared.finger.Row.TheVariants.{P, N}
+use Rattle.row_compact.specs.declared.measure.TheConstants.{SIDE_SPACE, LINE_SPACE, CONTACT_SPACE, STRETCH_SPACE}
+use Rattle.cell_draw.specs.declared.measure.TheConstants.{ROW_EDGE, LEAST_ROW, EDGE_SPACE, LEAST_CHANNEL, TRACK_PITCH}
 use Rattle.cell_draw.specs.declared.layout.Frame.{Frame}
 use Rattle.cell_draw.specs.declared.layout.Strip.{Strip}
 use Rattle.cell_draw.specs.declared.layout.Contact.{Contact}
@@ -11,26 +13,25 @@ use Rattle.cell_draw.specs.declared.layout.Gate.{Gate}
 use Rattle.cell_draw.specs.declared.layout.Bar.{Bar}
 use Rattle.cell_draw.specs.declared.layout.Layout.{Layout}
 
--- The channel has room for the tracks: 20 from each edge to the nearest one, 16 between two. It may be
--- higher than that.
+-- The channel has room for the tracks, one at least. It may be higher than that.
 pub record IsFrame (f : Frame) (tracks : ℕ) : Type 0 where
-  pub low : f.yn ≡ 24 + f.hn
-  pub channel : f.yn + 40 ≤ f.yp
-  pub room : f.yn + 24 + 16 * tracks ≤ f.yp
-  pub n_least : 10 ≤ f.hn
-  pub p_least : 10 ≤ f.hp
-  pub wide : 16 ≤ f.width
+  pub low : f.yn ≡ ROW_EDGE + f.hn
+  pub channel : f.yn + LEAST_CHANNEL ≤ f.yp
+  pub room : f.yn + LEAST_CHANNEL + TRACK_PITCH * tracks ≤ f.yp + TRACK_PITCH
+  pub n_least : LEAST_ROW ≤ f.hn
+  pub p_least : LEAST_ROW ≤ f.hp
+  pub wide : 2 * SIDE_SPACE ≤ f.width
 
 -- a height at which a track lies
 pub record IsTrack (f : Frame) (tracks y : ℕ) : Type 0 where
   pub number : ℕ
   pub below : number < tracks
-  pub is : y ≡ f.yn + 20 + 16 * number
+  pub is : y ≡ f.yn + EDGE_SPACE + TRACK_PITCH * number
 
 -- a line at which something stands is well inside the cell
 pub record IsInside (f : Frame) (x : ℕ) : Type 0 where
-  pub left : 8 ≤ x
-  pub right : x + 8 ≤ f.width
+  pub left : SIDE_SPACE ≤ x
+  pub right : x + SIDE_SPACE ≤ f.width
 
 abbrev pub row_height : Frame → Row → ℕ
 row_height f N = f.hn
@@ -49,23 +50,23 @@ abbrev pub AreFar : ℕ → ℕ → ℕ → Type 0
 AreFar by x z = (x + by ≤ z) ⊎ (z + by ≤ x)
 
 pub record IsStrip (f : Frame) (s : Strip) : Type 0 where
-  pub left : 8 ≤ s.left
-  pub wide : s.left + 16 ≤ s.right
-  pub right : s.right + 8 ≤ f.width
+  pub left : SIDE_SPACE ≤ s.left
+  pub wide : s.left + 2 * LINE_SPACE ≤ s.right
+  pub right : s.right + SIDE_SPACE ≤ f.width
   pub least : 6 ≤ s.width
   pub most : s.width ≤ row_height f s.row
 
 -- the next strip shares an end, or a gap stands between
 abbrev pub Follows : Strip → Strip → Type 0
-Follows a b = (a.right ≡ b.left) ⊎ (a.right + 16 ≤ b.left)
+Follows a b = (a.right ≡ b.left) ⊎ (a.right + 2 * LINE_SPACE ≤ b.left)
 
 -- a contact stands at an end of a strip of its row, or far from it
 abbrev pub MeetsEnd : Contact → Strip → Type 0
-MeetsEnd c s = (c.x ≡ s.left) ⊎ ((c.x ≡ s.right) ⊎ ((c.x + 16 ≤ s.left) ⊎ (s.right + 16 ≤ c.x)))
+MeetsEnd c s = (c.x ≡ s.left) ⊎ ((c.x ≡ s.right) ⊎ ((c.x + 2 * LINE_SPACE ≤ s.left) ⊎ (s.right + 2 * LINE_SPACE ≤ c.x)))
 
--- At a line a signal of the N row and one of the P row are one net and overlap, or keep 16 apart.
+-- At a line a signal of the N row and one of the P row are one net and overlap, or keep a track apart.
 abbrev pub KeepClear : Contact → Contact → ℕ → ℕ → Type 0
-KeepClear a b n p = ((p ≤ n) × (a.net ≡ b.net)) ⊎ (n + 16 ≤ p)
+KeepClear a b n p = ((p ≤ n) × (a.net ≡ b.net)) ⊎ (n + TRACK_PITCH ≤ p)
 
 -- where a row has a finger its width is one of a finger
 abbrev pub IsWidth : ℕ → Option ℕ → Type 0
@@ -85,11 +86,11 @@ pub record IsGate (f : Frame) (g : Gate) : Type 0 where
 
 -- a gate stands over the strip, as wide as it knows, or clear of it
 abbrev pub Crosses : Gate → Strip → Type 0
-Crosses g s = ((s.left + 8 ≤ g.x) × (g.x + 8 ≤ s.right) × (width_in s.row g ≡ Some s.width)) ⊎ ((g.x + 8 ≤ s.left) ⊎ (s.right + 8 ≤ g.x))
+Crosses g s = ((s.left + LINE_SPACE ≤ g.x) × (g.x + LINE_SPACE ≤ s.right) × (width_in s.row g ≡ Some s.width)) ⊎ ((g.x + LINE_SPACE ≤ s.left) ⊎ (s.right + LINE_SPACE ≤ g.x))
 
--- two bars lie on two tracks, or 14 apart on one, or overlap there and are of one net
+-- two bars lie on two tracks, or apart on one, or overlap there and are of one net
 abbrev pub AreBars : Bar → Bar → Type 0
-AreBars a b = AreFar 16 a.y b.y ⊎ ((a.y ≡ b.y) × (((a.right + 14 ≤ b.left) ⊎ (b.right + 14 ≤ a.left)) ⊎ ((a.left ≤ b.right) × (b.left ≤ a.right) × (a.net ≡ b.net))))
+AreBars a b = AreFar TRACK_PITCH a.y b.y ⊎ ((a.y ≡ b.y) × (((a.right + STRETCH_SPACE ≤ b.left) ⊎ (b.right + STRETCH_SPACE ≤ a.left)) ⊎ ((a.left ≤ b.right) × (b.left ≤ a.right) × (a.net ≡ b.net))))
 
 -- a place on a track lies on a bar of the net
 pub record IsOnBar (l : Layout) (net : NetNo) (x y : ℕ) : Type 0 where
@@ -123,18 +124,18 @@ pub record IsLaid (l : Layout) : Type 0 where
   -- fingers: of one row, each behind the next
   pub strips : All (IsStrip l.frame) l.strips
   pub ordered : (a b : Strip) → Contains l.strips a → Contains l.strips b → a.row ≡ b.row → (a ≡ b) ⊎ (Follows a b ⊎ Follows b a)
-  -- contacts: inside, at one line or 16 apart, one of a row at a line
+  -- contacts: inside, at one line or two lines apart, one of a row at a line
   pub inside : All (λ (c : Contact). IsInside l.frame c.x) l.contacts
-  pub spread : (a b : Contact) → Contains l.contacts a → Contains l.contacts b → (a.x ≡ b.x) ⊎ AreFar 16 a.x b.x
+  pub spread : (a b : Contact) → Contains l.contacts a → Contains l.contacts b → (a.x ≡ b.x) ⊎ AreFar (2 * LINE_SPACE) a.x b.x
   pub single : (a b : Contact) → Contains l.contacts a → Contains l.contacts b → a.row ≡ b.row → a.x ≡ b.x → a ≡ b
   pub rails : (c : Contact) → Contains l.contacts c → c.reach ≡ None → c.net ≡ rail_in c.row l
   pub reaches : (c : Contact) (y : ℕ) → Contains l.contacts c → c.reach ≡ Some y → IsTrack l.frame tracks y
   pub clear : (a b : Contact) (n p : ℕ) → Contains l.contacts a → Contains l.contacts b → a.row ≡ N → b.row ≡ P → a.x ≡ b.x → a.reach ≡ Some n → b.reach ≡ Some p → KeepClear a b n p
   pub ends : (c : Contact) (s : Strip) → Contains l.contacts c → Contains l.strips s → c.row ≡ s.row → MeetsEnd c s
-  -- gates: 16 apart, 11 from contacts, over the fingers of their columns
+  -- gates: two lines apart, clear of contacts, over the fingers of their columns
   pub gates : All (IsGate l.frame) l.gates
-  pub gate_spread : (a b : Gate) → Contains l.gates a → Contains l.gates b → (a ≡ b) ⊎ AreFar 16 a.x b.x
-  pub beside : (c : Contact) (g : Gate) → Contains l.contacts c → Contains l.gates g → AreFar 11 c.x g.x
+  pub gate_spread : (a b : Gate) → Contains l.gates a → Contains l.gates b → (a ≡ b) ⊎ AreFar (2 * LINE_SPACE) a.x b.x
+  pub beside : (c : Contact) (g : Gate) → Contains l.contacts c → Contains l.gates g → AreFar CONTACT_SPACE c.x g.x
   pub over : (g : Gate) (s : Strip) → Contains l.gates g → Contains l.strips s → Crosses g s
   pub pads : (g : Gate) (y : ℕ) → Contains l.gates g → g.track ≡ Some y → IsOnBar l g.net g.x y
   -- bars: on tracks, clear of each other, each via under a contact's metal2

@@ -1,5 +1,5 @@
 -- The layout of a routed row on its lines.
-use Rattle.std.specs.Prelude.{ℕ, ◌+◌, ◌*◌, ◌-◌, ◌==◌, ◌&&◌, ltb, leb, min, max, not, Bool, true, false, if◌then◌else◌, List, [], ◌∷◌, ◌++◌, map, filter, length, Option, Some, None, option_map, filter_map, find}
+use Rattle.std.specs.Prelude.{ℕ, ◌+◌, ◌*◌, ◌-◌, ◌==◌, ◌&&◌, ltb, min, max, not, Bool, true, false, if◌then◌else◌, List, [], ◌∷◌, ◌++◌, map, filter, length, Option, Some, None, option_map, filter_map, find}
 use Rattle.std.specs.List.{flat_map, list_any, range_with_len, reduce}
 use Rattle.cell_num.specs.declared.net.NetNo.{NetNo}
 use Rattle.cell_num.specs.declared.net.Pins.{Pins}
@@ -15,8 +15,11 @@ use Rattle.row_place.specs.Units.{seats_of}
 use Rattle.row_place.specs.Steps.{gate_of}
 use Rattle.channel_route.specs.declared.routing.Trunk.{Trunk}
 use Rattle.channel_route.specs.declared.routing.Routing.{Routing}
+use Rattle.channel_route.specs.Routing.{holds_line}
 use Rattle.row_compact.specs.Entries.{is_rail}
 use Rattle.row_compact.specs.Solution.{x_of}
+use Rattle.row_compact.specs.declared.measure.TheConstants.{SIDE_SPACE}
+use Rattle.cell_draw.specs.declared.measure.TheConstants.{LABEL_ON_FINGER, LABEL_ON_GATE, LABEL_ON_GND, LABEL_ON_VDD}
 use Rattle.cell_draw.specs.declared.layout.Frame.{Frame}
 use Rattle.cell_draw.specs.declared.layout.Strip.{Strip}
 use Rattle.cell_draw.specs.declared.layout.Contact.{Contact}
@@ -26,9 +29,9 @@ use Rattle.cell_draw.specs.declared.layout.Tag.{Tag}
 use Rattle.cell_draw.specs.declared.layout.Layout.{Layout}
 use Rattle.cell_draw.specs.Frame.{frame_of, track_y}
 
--- the last line plus 8
+-- to the last line, and the space at the side
 abbrev pub width_of : Placement → List ℕ → ℕ
-width_of placement xs = x_of xs (2 * length placement.units) + 8
+width_of placement xs = x_of xs (2 * length placement.units) + SIDE_SPACE
 
 -- a finger goes from the left node line of its column's unit to the right one
 abbrev pub strip_of : List ℕ → ℕ → Row → Option Placed → List Strip
@@ -44,7 +47,7 @@ trunk_of trunks net = find (λ t. t.net.0 == net.0) trunks
 
 -- the trunk is of the net and holds the line
 abbrev pub holds : NetNo → ℕ → Trunk → Bool
-holds net line t = (t.net.0 == net.0) && leb t.left line && leb line t.right
+holds net line t = (t.net.0 == net.0) && holds_line line t
 
 -- the tracks of the trunks of a net that hold a line
 abbrev pub tracks_at : List Trunk → NetNo → ℕ → List ℕ
@@ -127,11 +130,11 @@ bar_of f nodes trunks xs t = record {
 
 -- A net's name stands on its rail, on its first trunk, or else at its only place.
 abbrev pub node_tag : Frame → List ℕ → NodePlace → Tag
-node_tag f xs node = record { layer = Active; x = x_of xs node.line; y = if is_p node.row then f.yp + 4 else f.yn - 4; net = node.net }
+node_tag f xs node = record { layer = Active; x = x_of xs node.line; y = if is_p node.row then f.yp + LABEL_ON_FINGER else f.yn - LABEL_ON_FINGER; net = node.net }
 
 abbrev pub gate_y : Frame → Option ℕ → ℕ
-gate_y f None = f.yp - 2
-gate_y f (Some width) = f.yn + 2
+gate_y f None = f.yp - LABEL_ON_GATE
+gate_y f (Some width) = f.yn + LABEL_ON_GATE
 
 abbrev pub gate_tag : Frame → Gate → Tag
 gate_tag f g = record { layer = Poly; x = g.x; y = gate_y f g.n; net = g.net }
@@ -153,8 +156,8 @@ net_tag f nodes trunks xs gates net = or_else (option_map (λ t. metal_tag (x_of
 
 abbrev pub tag_of : Pins → Frame → List NodePlace → List Trunk → List ℕ → List Gate → NetNo → Option Tag
 tag_of pins f nodes trunks xs gates net =
-    if net.0 == pins.gnd.0 then Some (metal_tag 8 8 net)
-    else if net.0 == pins.vdd.0 then Some (metal_tag 8 (f.yp + f.hp + 16) net)
+    if net.0 == pins.gnd.0 then Some (metal_tag SIDE_SPACE LABEL_ON_GND net)
+    else if net.0 == pins.vdd.0 then Some (metal_tag SIDE_SPACE (f.yp + f.hp + LABEL_ON_VDD) net)
     else net_tag f nodes trunks xs gates net
 
 abbrev pub net_no : ℕ → NetNo

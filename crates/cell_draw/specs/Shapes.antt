@@ -7,6 +7,7 @@ use Rattle.cell_num.specs.declared.finger.Row.TheVariants.{P, N}
 use Rattle.box_geom.specs.declared.shape.Shape.{Shape}
 use Rattle.box_geom.specs.declared.layer.Layer.{Layer}
 use Rattle.box_geom.specs.declared.layer.Layer.TheVariants.{Well, Active, PSelect, NSelect, Poly, Contact as ContactCut, Metal1, Via, Metal2}
+use Rattle.cell_draw.specs.declared.measure.TheConstants.{HALF_CUT, HALF_GATE, HALF_PAD, HALF_METAL, END_CAP, WELL_PAST_ROW, WELL_PAST_SIDE, SELECT_PAST_ROW, SELECT_PAST_SIDE, RAIL, RAIL_GAP, ROW_EDGE, LANDING}
 use Rattle.cell_draw.specs.declared.layout.Frame.{Frame}
 use Rattle.cell_draw.specs.declared.layout.Strip.{Strip}
 use Rattle.cell_draw.specs.declared.layout.Contact.{Contact}
@@ -26,22 +27,22 @@ abbrev pub upright : Layer → ℕ → ℕ → ℤ → ℤ → Shape
 upright layer x by low high = box layer (pos x -ℤ pos by) low (pos x +ℤ pos by) high
 
 abbrev pub cell_height : Frame → ℕ
-cell_height f = f.yp + f.hp + 24
+cell_height f = f.yp + f.hp + ROW_EDGE
 
 abbrev pub well : Frame → Shape
-well f = box Well (pos 0 -ℤ pos 10) (pos f.yp -ℤ pos 12) (pos (f.width + 10)) (pos (cell_height f))
+well f = box Well (pos 0 -ℤ pos WELL_PAST_SIDE) (pos f.yp -ℤ pos WELL_PAST_ROW) (pos (f.width + WELL_PAST_SIDE)) (pos (cell_height f))
 
 abbrev pub p_select : Frame → Shape
-p_select f = box PSelect (pos 0 -ℤ pos 2) (pos f.yp -ℤ pos 4) (pos (f.width + 2)) (pos (f.yp + f.hp + 4))
+p_select f = box PSelect (pos 0 -ℤ pos SELECT_PAST_SIDE) (pos f.yp -ℤ pos SELECT_PAST_ROW) (pos (f.width + SELECT_PAST_SIDE)) (pos (f.yp + f.hp + SELECT_PAST_ROW))
 
 abbrev pub n_select : Frame → Shape
-n_select f = box NSelect (pos 0 -ℤ pos 2) (pos f.yn -ℤ pos (f.hn + 4)) (pos (f.width + 2)) (pos (f.yn + 4))
+n_select f = box NSelect (pos 0 -ℤ pos SELECT_PAST_SIDE) (pos f.yn -ℤ pos (f.hn + SELECT_PAST_ROW)) (pos (f.width + SELECT_PAST_SIDE)) (pos (f.yn + SELECT_PAST_ROW))
 
 abbrev pub gnd_rail : Frame → Shape
-gnd_rail f = box Metal1 (pos 0) (pos 0) (pos f.width) (pos 16)
+gnd_rail f = box Metal1 (pos 0) (pos 0) (pos f.width) (pos RAIL)
 
 abbrev pub vdd_rail : Frame → Shape
-vdd_rail f = box Metal1 (pos 0) (pos (f.yp + f.hp + 8)) (pos f.width) (pos (cell_height f))
+vdd_rail f = box Metal1 (pos 0) (pos (f.yp + f.hp + RAIL_GAP)) (pos f.width) (pos (cell_height f))
 
 -- well, selects and rails
 abbrev pub frame_shapes : Frame → List Shape
@@ -59,81 +60,81 @@ finger_high f P width = pos (f.yp + width)
 abbrev pub finger : Frame → Strip → Shape
 finger f s = box Active (pos s.left) (finger_low f s.row s.width) (pos s.right) (finger_high f s.row s.width)
 
--- the centre of a node's contact, 5 inside the row
+-- the centre of a node's contact, half a pad inside the row
 abbrev pub centre : Frame → Row → ℤ
-centre f N = pos f.yn -ℤ pos 5
-centre f P = pos (f.yp + 5)
+centre f N = pos f.yn -ℤ pos HALF_PAD
+centre f P = pos (f.yp + HALF_PAD)
 
--- the centre of a signal's landing via, 6 inside the channel
+-- the centre of a signal's landing via, inside the channel
 abbrev pub landing : Frame → Row → ℤ
-landing f N = pos (f.yn + 6)
-landing f P = pos f.yp -ℤ pos 6
+landing f N = pos (f.yn + LANDING)
+landing f P = pos f.yp -ℤ pos LANDING
 
--- A rail's strap goes from the rail's inner edge to 4 past the centre. A signal's goes from 4 past the
--- centre, away from the channel, to 4 past the landing via.
+-- A rail's strap goes from the rail's inner edge to past the centre. A signal's goes from past the centre, away from the
+-- channel, to past the landing via's.
 abbrev pub strap_low : Frame → Row → Option ℕ → ℤ
-strap_low f N None = pos 16
-strap_low f P None = centre f P -ℤ pos 4
-strap_low f N (Some reach) = centre f N -ℤ pos 4
-strap_low f P (Some reach) = landing f P -ℤ pos 4
+strap_low f N None = pos RAIL
+strap_low f P None = centre f P -ℤ pos HALF_METAL
+strap_low f N (Some reach) = centre f N -ℤ pos HALF_METAL
+strap_low f P (Some reach) = landing f P -ℤ pos HALF_METAL
 
 abbrev pub strap_high : Frame → Row → Option ℕ → ℤ
-strap_high f N None = centre f N +ℤ pos 4
-strap_high f P None = pos (f.yp + f.hp + 8)
-strap_high f N (Some reach) = landing f N +ℤ pos 4
-strap_high f P (Some reach) = centre f P +ℤ pos 4
+strap_high f N None = centre f N +ℤ pos HALF_METAL
+strap_high f P None = pos (f.yp + f.hp + RAIL_GAP)
+strap_high f N (Some reach) = landing f N +ℤ pos HALF_METAL
+strap_high f P (Some reach) = centre f P +ℤ pos HALF_METAL
 
 abbrev pub strap : Frame → Row → ℕ → Option ℕ → Shape
-strap f row x reach = upright Metal1 x 4 (strap_low f row reach) (strap_high f row reach)
+strap f row x reach = upright Metal1 x HALF_METAL (strap_low f row reach) (strap_high f row reach)
 
--- metal2 of a signal, from 4 past the landing via, toward the row, to 4 past the track that it reaches
+-- metal2 of a signal, from past the landing via, toward the row, to past the track that it reaches
 abbrev pub branch_low : Frame → Row → ℕ → ℤ
-branch_low f N reach = landing f N -ℤ pos 4
-branch_low f P reach = pos reach -ℤ pos 4
+branch_low f N reach = landing f N -ℤ pos HALF_METAL
+branch_low f P reach = pos reach -ℤ pos HALF_METAL
 
 abbrev pub branch_high : Frame → Row → ℕ → ℤ
-branch_high f N reach = pos reach +ℤ pos 4
-branch_high f P reach = landing f P +ℤ pos 4
+branch_high f N reach = pos reach +ℤ pos HALF_METAL
+branch_high f P reach = landing f P +ℤ pos HALF_METAL
 
 abbrev pub branch : Frame → Row → ℕ → ℕ → Shape
-branch f row x reach = upright Metal2 x 4 (branch_low f row reach) (branch_high f row reach)
+branch f row x reach = upright Metal2 x HALF_METAL (branch_low f row reach) (branch_high f row reach)
 
 -- what a signal's contact has besides: the landing via and metal2
 abbrev pub reach_shapes : Frame → Row → ℕ → Option ℕ → List Shape
 reach_shapes f row x None = []
-reach_shapes f row x (Some reach) = around Via x (landing f row) 2 ∷ branch f row x reach ∷ []
+reach_shapes f row x (Some reach) = around Via x (landing f row) HALF_CUT ∷ branch f row x reach ∷ []
 
 abbrev pub contact_shapes : Frame → Contact → List Shape
-contact_shapes f c = around Active c.x (centre f c.row) 5 ∷ around ContactCut c.x (centre f c.row) 2 ∷ strap f c.row c.x c.reach ∷ reach_shapes f c.row c.x c.reach
+contact_shapes f c = around Active c.x (centre f c.row) HALF_PAD ∷ around ContactCut c.x (centre f c.row) HALF_CUT ∷ strap f c.row c.x c.reach ∷ reach_shapes f c.row c.x c.reach
 
--- A gate's poly goes 4 past each finger's outer end. Where a row has no finger it ends at the track, or
--- without a trunk 4 past the other row's channel edge.
+-- A gate's poly goes past each finger's outer end. Where a row has no finger it ends at the track, or without a trunk past
+-- the other row's channel edge.
 abbrev pub gate_low : Frame → Option ℕ → Option ℕ → ℤ
-gate_low f (Some width) track = pos f.yn -ℤ pos (width + 4)
+gate_low f (Some width) track = pos f.yn -ℤ pos (width + END_CAP)
 gate_low f None (Some track) = pos track
-gate_low f None None = pos f.yp -ℤ pos 4
+gate_low f None None = pos f.yp -ℤ pos END_CAP
 
 abbrev pub gate_high : Frame → Option ℕ → Option ℕ → ℤ
-gate_high f (Some width) track = pos (f.yp + width + 4)
+gate_high f (Some width) track = pos (f.yp + width + END_CAP)
 gate_high f None (Some track) = pos track
-gate_high f None None = pos (f.yn + 4)
+gate_high f None None = pos (f.yn + END_CAP)
 
 abbrev pub gate_strip : Frame → Gate → Shape
-gate_strip f g = upright Poly g.x 2 (gate_low f g.n g.track) (gate_high f g.p g.track)
+gate_strip f g = upright Poly g.x HALF_GATE (gate_low f g.n g.track) (gate_high f g.p g.track)
 
 -- where the gate's net has a trunk: a pad on its track
 abbrev pub pad_shapes : ℕ → Option ℕ → List Shape
 pad_shapes x None = []
-pad_shapes x (Some track) = around Poly x (pos track) 5 ∷ around ContactCut x (pos track) 2 ∷ []
+pad_shapes x (Some track) = around Poly x (pos track) HALF_PAD ∷ around ContactCut x (pos track) HALF_CUT ∷ []
 
 abbrev pub gate_shapes : Frame → Gate → List Shape
 gate_shapes f g = gate_strip f g ∷ pad_shapes g.x g.track
 
 abbrev pub bar_metal : Bar → Shape
-bar_metal b = box Metal1 (pos b.left -ℤ pos 4) (pos b.y -ℤ pos 4) (pos b.right +ℤ pos 4) (pos b.y +ℤ pos 4)
+bar_metal b = box Metal1 (pos b.left -ℤ pos HALF_METAL) (pos b.y -ℤ pos HALF_METAL) (pos b.right +ℤ pos HALF_METAL) (pos b.y +ℤ pos HALF_METAL)
 
 abbrev pub via_shapes : ℕ → ℕ → List Shape
-via_shapes y x = around Via x (pos y) 2 ∷ []
+via_shapes y x = around Via x (pos y) HALF_CUT ∷ []
 
 abbrev pub bar_shapes : Bar → List Shape
 bar_shapes b = bar_metal b ∷ flat_map (via_shapes b.y) b.vias

@@ -23,6 +23,7 @@ use Rattle.scmos_rules.specs.declared.rules.Deck.{Deck}
 use Rattle.net_extract.specs.Nets.{Site}
 use Rattle.net_extract.specs.Devices.{rightward, IsDevice, IsSomeDevice}
 use Rattle.net_extract.specs.Labels.{IsNamed}
+use Rattle.cell_draw.specs.declared.measure.TheConstants.{GATE_LENGTH, EDGE_SPACE, TRACK_PITCH}
 use Rattle.cell_draw.specs.Frame.{channel_edge}
 use Rattle.cell_draw.specs.Named.{name_of}
 
@@ -47,7 +48,7 @@ pub record IsPlacedAt (deck : Deck) (names : List (List ℕ)) (shapes : Shapes) 
   pub gate : Site
   pub left : Site
   pub right : Site
-  pub is : IsDevice deck shapes.rects box side gate left right x.finger.width 4
+  pub is : IsDevice deck shapes.rects box side gate left right x.finger.width GATE_LENGTH
   pub flow : is.flow ≡ rightward
   pub gate_net : IsNamed deck shapes (name_of names x.finger.gate) gate
   pub left_end : IsNamed deck shapes (name_of names (left_net x)) left
@@ -101,7 +102,7 @@ pub record ShowsTrack (names : List (List ℕ)) (yn : ℕ) (shapes : Shapes) (t 
   pub listed : Contains shapes.labels label
   pub reads : label.name ≡ name_of names t.net
   pub layer : label.layer ≡ Metal1
-  pub height : label.y ≡ pos (yn + 20 + 16 * t.track)
+  pub height : label.y ≡ pos (yn + EDGE_SPACE + TRACK_PITCH * t.track)
 
 -- The routing that a drawing shows: for each net that needs one a trunk from its first to its last line,
 -- on the track of its label; and one track more than the highest of them, if there is one.

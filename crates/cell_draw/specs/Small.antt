@@ -1,8 +1,11 @@
 -- What keeps the coordinates of a layout in order and within their type.
-use Rattle.std.specs.Prelude.{ℕ, ◌≡◌, ◌+◌, ◌≤◌, ◌<◌, Option, Some, None}
+use Rattle.std.specs.Prelude.{ℕ, ◌≡◌, ◌+◌, ◌*◌, ◌≤◌, ◌<◌, Option, Some, None}
 use Rattle.std.specs.List.{All}
 use Rattle.row_model.specs.declared.column.Placed.{Placed}
 use Rattle.row_model.specs.declared.column.Column.{Column}
+use Rattle.row_compact.specs.declared.measure.TheConstants.{SIDE_SPACE}
+use Rattle.cell_draw.specs.declared.frame.TheConstants.{MOST_X, MOST_Y}
+use Rattle.cell_draw.specs.declared.measure.TheConstants.{ROW_EDGE, LEAST_ROW, EDGE_SPACE, LEAST_CHANNEL}
 use Rattle.cell_draw.specs.declared.layout.Frame.{Frame}
 use Rattle.cell_draw.specs.declared.layout.Strip.{Strip}
 use Rattle.cell_draw.specs.declared.layout.Contact.{Contact}
@@ -23,17 +26,17 @@ pub record HasWidths (c : Column) : Type 0 where
   pub p : IsFingerWidth c.p
 
 pub record IsSmallFrame (f : Frame) : Type 0 where
-  pub low : f.yn ≡ 24 + f.hn
-  pub channel : f.yn + 40 ≤ f.yp
-  pub n_least : 10 ≤ f.hn
-  pub p_least : 10 ≤ f.hp
+  pub low : f.yn ≡ ROW_EDGE + f.hn
+  pub channel : f.yn + LEAST_CHANNEL ≤ f.yp
+  pub n_least : LEAST_ROW ≤ f.hn
+  pub p_least : LEAST_ROW ≤ f.hp
   pub top : f.yp + f.hp ≤ 100000
-  pub wide : 16 ≤ f.width
-  pub right : f.width ≤ 1000008
+  pub wide : 2 * SIDE_SPACE ≤ f.width
+  pub right : f.width ≤ MOST_X + SIDE_SPACE
 
--- at least 20 from the edges of the channel
+-- the height lies where tracks may
 abbrev pub IsHeight : Frame → ℕ → Type 0
-IsHeight f y = (f.yn + 20 ≤ y) × (y + 20 ≤ f.yp)
+IsHeight f y = (f.yn + EDGE_SPACE ≤ y) × (y + EDGE_SPACE ≤ f.yp)
 
 abbrev pub IsReach : Frame → Option ℕ → Type 0
 IsReach f None = Unit {0}
@@ -41,16 +44,16 @@ IsReach f (Some y) = IsHeight f y
 
 pub record IsSmallStrip (f : Frame) (s : Strip) : Type 0 where
   pub ascends : s.left < s.right
-  pub right : s.right ≤ 1000000
+  pub right : s.right ≤ MOST_X
   pub least : 6 ≤ s.width
   pub most : s.width ≤ row_height f s.row
 
 pub record IsSmallContact (f : Frame) (c : Contact) : Type 0 where
-  pub right : c.x ≤ 1000000
+  pub right : c.x ≤ MOST_X
   pub reach : IsReach f c.reach
 
 pub record IsSmallGate (f : Frame) (g : Gate) : Type 0 where
-  pub right : g.x ≤ 1000000
+  pub right : g.x ≤ MOST_X
   pub n : IsWidth f.hn g.n
   pub p : IsWidth f.hp g.p
   pub finger : HasFinger g.n g.p
@@ -58,13 +61,13 @@ pub record IsSmallGate (f : Frame) (g : Gate) : Type 0 where
 
 pub record IsSmallBar (f : Frame) (b : Bar) : Type 0 where
   pub ascends : b.left ≤ b.right
-  pub right : b.right ≤ 1000000
+  pub right : b.right ≤ MOST_X
   pub height : IsHeight f b.y
-  pub vias : All (λ x. x ≤ 1000000) b.vias
+  pub vias : All (λ x. x ≤ MOST_X) b.vias
 
 pub record IsSmallTag (t : Tag) : Type 0 where
-  pub right : t.x ≤ 1000000
-  pub top : t.y ≤ 200000
+  pub right : t.x ≤ MOST_X
+  pub top : t.y ≤ MOST_Y
 
 pub record IsSmall (l : Layout) : Type 0 where
   pub frame : IsSmallFrame l.frame

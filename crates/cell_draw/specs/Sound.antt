@@ -7,6 +7,7 @@ use Rattle.row_model.specs.declared.column.Column.{Column}
 use Rattle.row_model.specs.Arrangement.{IsArrangement}
 use Rattle.row_place.specs.declared.placement.Placement.{Placement}
 use Rattle.row_compact.specs.Solution.{x_of}
+use Rattle.row_compact.specs.declared.measure.TheConstants.{SIDE_SPACE, LINE_SPACE}
 
 -- the row arranges fingers that are sound for the names and the pins, over at most 256 nets
 pub record IsSoundRow (names : List (List ℕ)) (pins : Pins) (row : List Column) : Type 0 where
@@ -15,9 +16,8 @@ pub record IsSoundRow (names : List (List ℕ)) (pins : Pins) (row : List Column
   pub few_nets : fingers.nets ≤ 256
   pub arranged : IsArrangement row fingers
 
--- A position for each line of the placement: the first 8 or more, each other one 8 or more behind the
--- line before.
+-- A position for each line of the placement, clear of the left side and of the line before.
 pub record AreLines (placement : Placement) (xs : List ℕ) : Type 0 where
   pub lines : length xs ≡ 2 * length placement.units + 1
-  pub first : 8 ≤ x_of xs 0
-  pub next : (line : ℕ) → line < 2 * length placement.units → x_of xs line + 8 ≤ x_of xs (line + 1)
+  pub first : SIDE_SPACE ≤ x_of xs 0
+  pub next : (line : ℕ) → line < 2 * length placement.units → x_of xs line + LINE_SPACE ≤ x_of xs (line + 1)

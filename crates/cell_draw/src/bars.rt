@@ -7,7 +7,7 @@ ghost use Rattle.cell_draw.specs.Small.{IsSmallFrame};
 
 use crate::contacts::holds;
 use crate::frame::track_y;
-use crate::{Bar, Frame};
+use crate::{Bar, Frame, MOST_TRACKS};
 use cell_num::{List, NoMemory, Row};
 use channel_route::Trunk;
 use row_compact::x_of;
@@ -91,7 +91,7 @@ fn bar_of(
     trunk: &Trunk,
 ) -> Result<Bar, NoMemory>
     requires frame { IsSmallFrame frame.now }
-    requires trunk { trunk.now.track ≤ 1000 }
+    requires trunk { trunk.now.track ≤ MOST_TRACKS }
     ensures { IfOk result (λ bar. bar ≡ bar_of frame.now nodes.now trunks.now xs.now trunk.now) }
 {
     let vias = vias(alloc, nodes, trunks, xs, trunk)?;
@@ -112,7 +112,7 @@ pub fn bars(
     trunks: &[Trunk],
 ) -> Result<List<Bar>, NoMemory>
     requires frame { IsSmallFrame frame.now }
-    requires trunks { All (λ trunk. trunk.track ≤ 1000) trunks.now }
+    requires trunks { All (λ trunk. trunk.track ≤ MOST_TRACKS) trunks.now }
     ensures { IfOk result (λ bars. bars ≡ map (bar_of frame.now nodes.now trunks.now xs.now) trunks.now) }
 {
     let mut bars = List::new(alloc);

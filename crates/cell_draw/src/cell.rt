@@ -24,11 +24,11 @@ use crate::groups::shapes;
 use crate::labels::labels;
 use crate::plan::base;
 use crate::wiring::draw_wiring;
-use crate::{DrawFault, Drawing, Frame, Layout, MOST_HEIGHT, MOST_TRACKS, MOST_X};
+use crate::{DrawFault, Drawing, Frame, Layout, MOST_HEIGHT, MOST_TRACKS, MOST_X, ROW_EDGE};
 use box_geom::Shapes;
 use cell_num::{Name, Names, NoMemory, Pins};
 use channel_route::Routing;
-use row_compact::{LineXs, lines_of, x_of};
+use row_compact::{LineXs, SIDE_SPACE, lines_of, x_of};
 use row_place::Placement;
 use std::alloc::Global;
 
@@ -46,7 +46,7 @@ pub fn drawing(alloc: Global, names: &[Name], layout: &Layout) -> Result<Drawing
     Ok(Drawing {
         shapes: Shapes { rects, labels },
         width: layout.frame.width,
-        height: layout.frame.yp + layout.frame.hp + 24,
+        height: layout.frame.yp + layout.frame.hp + ROW_EDGE,
     })
 }
 
@@ -79,7 +79,7 @@ pub fn fitting_frame(
         });
     }
     let last = lines_of(placement) - 1;
-    Ok(frame(columns, tracks, height, x_of(xs, last) + 8))
+    Ok(frame(columns, tracks, height, x_of(xs, last) + SIDE_SPACE))
 }
 
 /// Draws a row of sound fingers on lines that its distances allow, in a cell of the given height, or of

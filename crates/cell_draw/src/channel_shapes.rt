@@ -7,7 +7,7 @@ ghost use Rattle.cell_draw.specs.Shapes.{upright, finger, gate_low, gate_high, g
 ghost use Rattle.cell_draw.specs.Small.{IsSmallFrame, IsSmallGate, IsSmallBar, IsReach};
 
 use crate::shape::upright;
-use crate::{Bar, Frame, Gate};
+use crate::{Bar, END_CAP, Frame, Gate, HALF_GATE, HALF_METAL, MOST_Y};
 use box_geom::{Layer, Rect, Shape};
 
 // The lower end of a gate, by the finger of the N row.
@@ -16,13 +16,13 @@ fn gate_low(frame: &Frame, n: Option<u32>, track: Option<u32>) -> u32
     requires n { IsWidth frame.now.hn n }
     requires track { IsReach frame.now track }
     ensures value { pos result ≡ gate_low frame.now n track }
-    ensures most { result + 4 ≤ frame.now.yp }
+    ensures most { result + END_CAP ≤ frame.now.yp }
     ensures over { IfSome n (λ w. result ≤ frame.now.yn) }
 {
     match (n, track) {
-        (Some(width), _) => frame.yn - (width + 4),
+        (Some(width), _) => frame.yn - (width + END_CAP),
         (None, Some(track)) => track,
-        (None, None) => frame.yp - 4,
+        (None, None) => frame.yp - END_CAP,
     }
 }
 
@@ -32,14 +32,14 @@ fn gate_high(frame: &Frame, p: Option<u32>, track: Option<u32>) -> u32
     requires p { IsWidth frame.now.hp p }
     requires track { IsReach frame.now track }
     ensures value { pos result ≡ gate_high frame.now p track }
-    ensures least { frame.now.yn + 4 ≤ result }
+    ensures least { frame.now.yn + END_CAP ≤ result }
     ensures over { IfSome p (λ w. frame.now.yp ≤ result) }
-    ensures most { result ≤ 200000 }
+    ensures most { result ≤ MOST_Y }
 {
     match (p, track) {
-        (Some(width), _) => frame.yp + width + 4,
+        (Some(width), _) => frame.yp + width + END_CAP,
         (None, Some(track)) => track,
-        (None, None) => frame.yn + 4,
+        (None, None) => frame.yn + END_CAP,
     }
 }
 
@@ -51,7 +51,7 @@ pub fn gate_strip(frame: &Frame, gate: &Gate) -> Shape
 {
     let low = gate_low(frame, gate.n, gate.track);
     let high = gate_high(frame, gate.p, gate.track);
-    upright(Layer::Poly, gate.x, 2, low, high)
+    upright(Layer::Poly, gate.x, HALF_GATE, low, high)
 }
 
 pub fn bar_metal(frame: &Frame, bar: &Bar) -> Shape
@@ -59,13 +59,14 @@ pub fn bar_metal(frame: &Frame, bar: &Bar) -> Shape
     requires bar { IsSmallBar frame.now bar.now }
     ensures { result ≡ bar_metal bar.now }
 {
+    let past = HALF_METAL as i32;
     Shape {
         layer: Layer::Metal1,
         rect: Rect {
-            x1: bar.left as i32 - 4,
-            y1: bar.y as i32 - 4,
-            x2: bar.right as i32 + 4,
-            y2: bar.y as i32 + 4,
+            x1: bar.left as i32 - past,
+            y1: bar.y as i32 - past,
+            x2: bar.right as i32 + past,
+            y2: bar.y as i32 + past,
         },
     }
 }

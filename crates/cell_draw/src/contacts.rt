@@ -2,12 +2,13 @@
 
 ghost use Rattle.std.specs.Prelude.{◌≡◌, ◌≤◌, ◌<◌, ◌==◌, ◌||◌, All, IfOk, IfSome, filter_map};
 ghost use Rattle.std.specs.Option.{option_copied};
+ghost use Rattle.channel_route.specs.Routing.{holds_line};
 ghost use Rattle.cell_draw.specs.Layouts.{trunk_of, holds, farther, far, reach_of, contact_of};
 ghost use Rattle.row_compact.specs.Entries.{is_rail};
 ghost use Rattle.cell_draw.specs.Small.{IsSmallFrame};
 
 use crate::frame::track_y;
-use crate::{Contact, Frame};
+use crate::{Contact, Frame, MOST_TRACKS};
 use cell_num::{List, NetNo, NoMemory, Pins, Row};
 use channel_route::Trunk;
 use row_compact::x_of;
@@ -26,11 +27,17 @@ pub fn trunk_of(trunks: &[Trunk], net: NetNo) -> Option<&Trunk>
     trunks.iter().find(|trunk| trunk.net.0 == net.0)
 }
 
+fn holds_line(line: u32, trunk: &Trunk) -> bool
+    ensures { result ≡ holds_line line trunk.now }
+{
+    trunk.left <= line && line <= trunk.right
+}
+
 /// Whether the trunk is of the net and holds the line.
 pub fn holds(net: NetNo, line: u32, trunk: &Trunk) -> bool
     ensures { result ≡ holds net line trunk.now }
 {
-    trunk.net.0 == net.0 && trunk.left <= line && line <= trunk.right
+    trunk.net.0 == net.0 && holds_line(line, trunk)
 }
 
 // Of two tracks the one farther from the row.
@@ -64,7 +71,7 @@ fn far(trunks: &[Trunk], node: &NodePlace) -> Option<u32>
 #[tactic(auto, using(crate::proofs::Wirings::far_low))]
 fn reach_of(frame: &Frame, trunks: &[Trunk], node: &NodePlace) -> Option<u32>
     requires frame { IsSmallFrame frame.now }
-    requires trunks { All (λ trunk. trunk.track ≤ 1000) trunks.now }
+    requires trunks { All (λ trunk. trunk.track ≤ MOST_TRACKS) trunks.now }
     ensures { result ≡ reach_of frame.now trunks.now node.now }
 {
     match far(trunks, node) {
@@ -81,7 +88,7 @@ fn contact_of(
     node: &NodePlace,
 ) -> Option<Contact>
     requires frame { IsSmallFrame frame.now }
-    requires trunks { All (λ trunk. trunk.track ≤ 1000) trunks.now }
+    requires trunks { All (λ trunk. trunk.track ≤ MOST_TRACKS) trunks.now }
     ensures { result ≡ contact_of frame.now pins.now trunks.now xs.now node.now }
 {
     let contact = Contact {
@@ -111,7 +118,7 @@ pub fn contacts(
     nodes: &[NodePlace],
 ) -> Result<List<Contact>, NoMemory>
     requires frame { IsSmallFrame frame.now }
-    requires trunks { All (λ trunk. trunk.track ≤ 1000) trunks.now }
+    requires trunks { All (λ trunk. trunk.track ≤ MOST_TRACKS) trunks.now }
     ensures { IfOk result (λ contacts. contacts ≡ filter_map
         (contact_of frame.now pins.now trunks.now xs.now) nodes.now) }
 {

@@ -1,12 +1,13 @@
 // The heights of a cell.
 
-ghost use Rattle.std.specs.Prelude.{◌≡◌, ◌≤◌, ◌+◌, All};
+ghost use Rattle.std.specs.Prelude.{◌≡◌, ◌≤◌, ◌+◌, ◌*◌, All};
 ghost use Rattle.row_model.specs.Arrangement.{place};
 ghost use Rattle.cell_draw.specs.Frame.{wider, height_of, channel_of, needed_of, frame_of, track_y, IsTooTall};
 ghost use Rattle.cell_draw.specs.Small.{IsFingerWidth, HasWidths, IsSmallFrame};
 
-use crate::Frame;
+use crate::{EDGE_SPACE, Frame, LEAST_CHANNEL, LEAST_ROW, ROW_EDGE, TRACK_PITCH};
 use cell_num::Row;
+use row_compact::SIDE_SPACE;
 use row_model::{Column, Placed};
 use row_place::Placement;
 
@@ -18,6 +19,9 @@ pub const MOST_TRACKS: u32 = 1_000;
 
 /// Where the last line of a cell may stand, in grid units.
 pub const MOST_X: u32 = 1_000_000;
+
+/// No shape and no label stands higher than this, in grid units.
+pub const MOST_Y: u32 = 200_000;
 
 /// The channel edges of the N and of the P row, in grid units.
 #[derive(Clone, Copy, Debug, PartialEq, Eq)]
@@ -39,15 +43,15 @@ fn wider(most: u32, placed: &Option<Placed>) -> u32
     }
 }
 
-// The greatest finger width of a row, at least 10.
+// The greatest finger width of a row, at least that of a pad.
 #[tactic(auto, using(crate::proofs::Sizes::width_in))]
 fn height_of(row: Row, columns: &[Column]) -> u32
     requires { All HasWidths columns.now }
     ensures value { result ≡ height_of row columns.now }
-    ensures least { 10 ≤ result }
+    ensures least { LEAST_ROW ≤ result }
     ensures most { result ≤ 400 }
 {
-    let mut most = 10;
+    let mut most = LEAST_ROW;
     for column in columns {
         most = wider(most, &column.place(row));
     }
@@ -56,37 +60,41 @@ fn height_of(row: Row, columns: &[Column]) -> u32
 
 // The height of a channel of so many tracks.
 fn channel_of(tracks: u32) -> u32
-    requires { tracks ≤ 1000 }
+    requires { tracks ≤ MOST_TRACKS }
     ensures value { result ≡ channel_of tracks }
     ensures most { result ≤ 16040 }
 {
-    40 + 16 * tracks.saturating_sub(1)
+    LEAST_CHANNEL + TRACK_PITCH * tracks.saturating_sub(1)
 }
 
 /// The least height of a cell with so many tracks.
 pub fn needed(columns: &[Column], tracks: u32) -> u32
     requires widths { All HasWidths columns.now }
-    requires tracks { tracks ≤ 1000 }
+    requires tracks { tracks ≤ MOST_TRACKS }
     ensures value { result ≡ needed_of columns.now tracks }
     ensures most { result ≤ 20000 }
 {
-    24 + height_of(Row::N, columns) + channel_of(tracks) + height_of(Row::P, columns) + 24
+    ROW_EDGE
+        + height_of(Row::N, columns)
+        + channel_of(tracks)
+        + height_of(Row::P, columns)
+        + ROW_EDGE
 }
 
 /// The heights of a cell, which are the least ones where no height is given. The channel takes what a
 /// given height has to spare.
 pub fn frame(columns: &[Column], tracks: u32, height: u32, width: u32) -> Frame
     requires widths { All HasWidths columns.now }
-    requires tracks { tracks ≤ 1000 }
-    requires height { height ≤ 4000 }
-    requires wide { 16 ≤ width }
-    requires right { width ≤ 1000008 }
+    requires tracks { tracks ≤ MOST_TRACKS }
+    requires height { height ≤ MOST_HEIGHT }
+    requires wide { 2 * SIDE_SPACE ≤ width }
+    requires right { width ≤ MOST_X + SIDE_SPACE }
     ensures exact { result ≡ frame_of columns.now tracks height width }
     ensures small { IsSmallFrame result }
 {
     let hn = height_of(Row::N, columns);
     let hp = height_of(Row::P, columns);
-    let yn = 24 + hn;
+    let yn = ROW_EDGE + hn;
     let spare = height.saturating_sub(needed(columns, tracks));
     Frame {
         hn,
@@ -116,8 +124,8 @@ pub fn channel_edges(placement: &Placement, tracks: u32, height: u32) -> Edges
 /// The height of a track.
 pub fn track_y(frame: &Frame, track: u32) -> u32
     requires frame { IsSmallFrame frame.now }
-    requires track { track ≤ 1000 }
+    requires track { track ≤ MOST_TRACKS }
     ensures { result ≡ track_y frame.now track }
 {
-    frame.yn + 20 + 16 * track
+    frame.yn + EDGE_SPACE + TRACK_PITCH * track
 }

@@ -7,7 +7,7 @@ ghost use Rattle.cell_draw.specs.Small.{IsSmallFrame};
 
 use crate::contacts::holds;
 use crate::frame::track_y;
-use crate::{Frame, Gate};
+use crate::{Frame, Gate, MOST_TRACKS};
 use cell_num::{List, NoMemory};
 use channel_route::Trunk;
 use row_compact::x_of;
@@ -36,7 +36,7 @@ fn held_by<'a>(trunks: &'a [Trunk], place: &GatePlace) -> Option<&'a Trunk>
 #[tactic(auto, using(crate::proofs::Found::held_track))]
 fn gate_reach(frame: &Frame, trunks: &[Trunk], place: &GatePlace) -> Option<u32>
     requires frame { IsSmallFrame frame.now }
-    requires trunks { All (λ trunk. trunk.track ≤ 1000) trunks.now }
+    requires trunks { All (λ trunk. trunk.track ≤ MOST_TRACKS) trunks.now }
     ensures { result ≡ gate_reach frame.now trunks.now place.now }
 {
     match held_by(trunks, place) {
@@ -47,7 +47,7 @@ fn gate_reach(frame: &Frame, trunks: &[Trunk], place: &GatePlace) -> Option<u32>
 
 fn gate_at(frame: &Frame, trunks: &[Trunk], xs: &[u32], seat: &Seat) -> Option<Gate>
     requires frame { IsSmallFrame frame.now }
-    requires trunks { All (λ trunk. trunk.track ≤ 1000) trunks.now }
+    requires trunks { All (λ trunk. trunk.track ≤ MOST_TRACKS) trunks.now }
     requires seat { seat.now.unit ≤ 64 }
     ensures { result ≡ gate_at frame.now trunks.now xs.now seat.now }
 {
@@ -69,7 +69,7 @@ pub fn gates(
     seats: &[Seat],
 ) -> Result<List<Gate>, NoMemory>
     requires frame { IsSmallFrame frame.now }
-    requires trunks { All (λ trunk. trunk.track ≤ 1000) trunks.now }
+    requires trunks { All (λ trunk. trunk.track ≤ MOST_TRACKS) trunks.now }
     requires seats { All (λ seat. seat.unit ≤ 64) seats.now }
     ensures { IfOk result (λ gates. gates ≡ gates_on frame.now trunks.now xs.now seats.now) }
 {

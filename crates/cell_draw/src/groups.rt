@@ -5,7 +5,10 @@ ghost use Rattle.std.specs.List.{flat_map};
 ghost use Rattle.cell_draw.specs.Shapes.{frame_shapes, finger, reach_shapes, contact_shapes, pad_shapes, gate_shapes, via_shapes, bar_shapes, shapes_of};
 ghost use Rattle.cell_draw.specs.Small.{IsSmall, IsSmallFrame, IsSmallStrip, IsSmallContact, IsSmallGate, IsSmallBar, IsHeight, IsReach};
 
-use crate::{Bar, Contact, Frame, Gate, Layout, Strip, channel_shapes, row_shapes, shape};
+use crate::{
+    Bar, Contact, Frame, Gate, HALF_CUT, HALF_PAD, Layout, MOST_X, MOST_Y, Strip, channel_shapes,
+    row_shapes, shape,
+};
 use box_geom::{Layer, ShapeList};
 use cell_num::{NoMemory, Row};
 use std::alloc::Global;
@@ -41,14 +44,15 @@ fn add_reach(
     reach: Option<u32>,
 ) -> Result<(), NoMemory>
     requires frame { IsSmallFrame frame.now }
-    requires x { x ≤ 1000000 }
+    requires x { x ≤ MOST_X }
     requires reach { IsReach frame.now reach }
     ensures { OnOk result (out.new ≡ out.old ++ reach_shapes frame.now row x reach) }
 {
     let Some(reach) = reach else {
         return Ok(());
     };
-    out.push(shape::square(Layer::Via, x, row_shapes::landing(frame, row), 2))?;
+    let landing = row_shapes::landing(frame, row);
+    out.push(shape::square(Layer::Via, x, landing, HALF_CUT))?;
     out.push(row_shapes::branch(frame, row, x, reach))
 }
 
@@ -58,8 +62,8 @@ fn add_contact(out: &mut ShapeList, frame: &Frame, contact: &Contact) -> Result<
     ensures { OnOk result (out.new ≡ out.old ++ contact_shapes frame.now contact.now) }
 {
     let centre = row_shapes::centre(frame, contact.row);
-    out.push(shape::square(Layer::Active, contact.x, centre, 5))?;
-    out.push(shape::square(Layer::Contact, contact.x, centre, 2))?;
+    out.push(shape::square(Layer::Active, contact.x, centre, HALF_PAD))?;
+    out.push(shape::square(Layer::Contact, contact.x, centre, HALF_CUT))?;
     out.push(row_shapes::strap(frame, contact))?;
     add_reach(out, frame, contact.row, contact.x, contact.reach)
 }
@@ -77,15 +81,15 @@ fn add_contacts(out: &mut ShapeList, frame: &Frame, contacts: &[Contact]) -> Res
 
 fn add_pad(out: &mut ShapeList, x: u32, track: Option<u32>, frame: &Frame) -> Result<(), NoMemory>
     requires frame { IsSmallFrame frame.now }
-    requires x { x ≤ 1000000 }
+    requires x { x ≤ MOST_X }
     requires track { IsReach frame.now track }
     ensures { OnOk result (out.new ≡ out.old ++ pad_shapes x track) }
 {
     let Some(track) = track else {
         return Ok(());
     };
-    out.push(shape::square(Layer::Poly, x, track, 5))?;
-    out.push(shape::square(Layer::Contact, x, track, 2))
+    out.push(shape::square(Layer::Poly, x, track, HALF_PAD))?;
+    out.push(shape::square(Layer::Contact, x, track, HALF_CUT))
 }
 
 fn add_gate(out: &mut ShapeList, frame: &Frame, gate: &Gate) -> Result<(), NoMemory>
@@ -109,12 +113,12 @@ fn add_gates(out: &mut ShapeList, frame: &Frame, gates: &[Gate]) -> Result<(), N
 }
 
 fn add_vias(out: &mut ShapeList, y: u32, vias: &[u32]) -> Result<(), NoMemory>
-    requires y { y ≤ 200000 }
-    requires vias { All (λ x. x ≤ 1000000) vias.now }
+    requires y { y ≤ MOST_Y }
+    requires vias { All (λ x. x ≤ MOST_X) vias.now }
     ensures { OnOk result (out.new ≡ out.old ++ flat_map (via_shapes y) vias.now) }
 {
     for x in vias {
-        out.push(shape::square(Layer::Via, *x, y, 2))?;
+        out.push(shape::square(Layer::Via, *x, y, HALF_CUT))?;
     }
     Ok(())
 }

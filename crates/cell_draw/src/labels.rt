@@ -9,11 +9,13 @@ ghost use Rattle.cell_draw.specs.Small.{IsSmallFrame, IsSmallTag};
 
 use crate::contacts::trunk_of;
 use crate::frame::track_y;
-use crate::{Frame, Gate, Tag};
+use crate::{
+    Frame, Gate, LABEL_ON_FINGER, LABEL_ON_GATE, LABEL_ON_GND, LABEL_ON_VDD, MOST_TRACKS, Tag,
+};
 use box_geom::{Label, LabelList, Layer};
 use cell_num::{List, Name, NetNo, NoMemory, Pins, Row};
 use channel_route::Trunk;
-use row_compact::x_of;
+use row_compact::{SIDE_SPACE, x_of};
 use row_place::NodePlace;
 use std::alloc::Global;
 
@@ -22,8 +24,8 @@ fn node_tag(frame: &Frame, xs: &[u32], node: &NodePlace) -> Tag
     ensures { result ≡ node_tag frame.now xs.now node.now }
 {
     let y = match node.row {
-        Row::P => frame.yp + 4,
-        Row::N => frame.yn - 4,
+        Row::P => frame.yp + LABEL_ON_FINGER,
+        Row::N => frame.yn - LABEL_ON_FINGER,
     };
     Tag {
         layer: Layer::Active,
@@ -38,8 +40,8 @@ fn gate_y(frame: &Frame, n: Option<u32>) -> u32
     ensures { result ≡ gate_y frame.now n }
 {
     match n {
-        Some(_) => frame.yn + 2,
-        None => frame.yp - 2,
+        Some(_) => frame.yn + LABEL_ON_GATE,
+        None => frame.yp - LABEL_ON_GATE,
     }
 }
 
@@ -109,7 +111,7 @@ fn net_tag(
     net: NetNo,
 ) -> Option<Tag>
     requires frame { IsSmallFrame frame.now }
-    requires trunks { All (λ trunk. trunk.track ≤ 1000) trunks.now }
+    requires trunks { All (λ trunk. trunk.track ≤ MOST_TRACKS) trunks.now }
     ensures { result ≡ net_tag frame.now nodes.now trunks.now xs.now gates.now net }
 {
     match trunk_of(trunks, net) {
@@ -128,13 +130,14 @@ fn tag_of(
     net: NetNo,
 ) -> Option<Tag>
     requires frame { IsSmallFrame frame.now }
-    requires trunks { All (λ trunk. trunk.track ≤ 1000) trunks.now }
+    requires trunks { All (λ trunk. trunk.track ≤ MOST_TRACKS) trunks.now }
     ensures { result ≡ tag_of pins.now frame.now nodes.now trunks.now xs.now gates.now net }
 {
     if net.0 == pins.gnd.0 {
-        Some(metal_tag(8, 8, net))
+        Some(metal_tag(SIDE_SPACE, LABEL_ON_GND, net))
     } else if net.0 == pins.vdd.0 {
-        Some(metal_tag(8, frame.yp + frame.hp + 16, net))
+        let y = frame.yp + frame.hp + LABEL_ON_VDD;
+        Some(metal_tag(SIDE_SPACE, y, net))
     } else {
         net_tag(frame, nodes, trunks, xs, gates, net)
     }
@@ -161,7 +164,7 @@ pub fn tags(
     gates: &[Gate],
 ) -> Result<List<Tag>, NoMemory>
     requires frame { IsSmallFrame frame.now }
-    requires trunks { All (λ trunk. trunk.track ≤ 1000) trunks.now }
+    requires trunks { All (λ trunk. trunk.track ≤ MOST_TRACKS) trunks.now }
     ensures { IfOk result (λ tags. tags ≡ tags_of pins.now frame.now nets nodes.now trunks.now xs.now gates.now) }
 {
     let mut tags = List::new(alloc);

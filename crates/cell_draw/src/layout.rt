@@ -4,7 +4,7 @@ use cell_num::{List, NetNo, Row};
 /// The heights and the width of a cell, in grid units from its lower left corner.
 #[derive(Clone, Copy, Debug, PartialEq, Eq)]
 pub struct Frame {
-    /// The heights of the N and of the P row: at least 10 and at least each finger's width.
+    /// The heights of the N and of the P row: at least that of a pad and at least each finger's width.
     pub hn: u32,
     pub hp: u32,
     /// The channel edges of the N and of the P row.

@@ -10,7 +10,7 @@ use crate::bars::bars;
 use crate::contacts::contacts;
 use crate::gates::gates;
 use crate::labels::tags;
-use crate::{Frame, Layout, Strip};
+use crate::{Frame, Layout, MOST_TRACKS, Strip};
 use cell_num::{List, NoMemory, Pins, Row};
 use channel_route::Trunk;
 use row_compact::x_of;
@@ -70,7 +70,7 @@ pub fn layout(
 ) -> Result<Layout, NoMemory>
     requires frame { IsSmallFrame frame.now }
     requires few { length placement.now.row ≤ 32 }
-    requires trunks { All (λ trunk. trunk.track ≤ 1000) trunks.now }
+    requires trunks { All (λ trunk. trunk.track ≤ MOST_TRACKS) trunks.now }
     ensures { IfOk result (λ layout. layout ≡ laid_out frame.now nets pins.now placement.now trunks.now xs.now) }
 {
     let nodes = placement.nodes.as_slice();

@@ -2,14 +2,14 @@
 
 ghost use Rattle.std.specs.Prelude.{◌≡◌, ◌≤◌, ◌<◌, ◌+◌, ◌*◌, All, Contains, IfOk, IfErr, length};
 ghost use Rattle.row_place.specs.Places.{IsPlacement};
-ghost use Rattle.channel_route.specs.Wiring.{IsWiring};
+ghost use Rattle.channel_route.specs.Wiring.{IsWiring, wiring_of};
 ghost use Rattle.row_compact.specs.Allowed.{AreAllowed, stretches_of};
 ghost use Rattle.row_compact.specs.Solution.{x_of as x_at};
 ghost use Rattle.scmos_rules.specs.Rules.{Obeys};
 ghost use Rattle.scmos_rules.specs.declared.rules.Deck.TheVariants.{Plain};
 ghost use Rattle.box_geom.specs.declared.shape.Label.{Label as SomeLabel};
 ghost use Rattle.cell_draw.specs.Bounds.{AreWithin};
-ghost use Rattle.cell_draw.specs.Drawings.{drawn_of, wiring_of, base_drawn_of, height_given};
+ghost use Rattle.cell_draw.specs.Drawings.{drawn_of, base_drawn_of, height_given};
 ghost use Rattle.cell_draw.specs.Extracted.{ExtractsToRow};
 ghost use Rattle.cell_draw.specs.Faults.{IsCause, SaysTooTall};
 ghost use Rattle.cell_draw.specs.Frame.{IsTooTall, frame_of};

@@ -41,11 +41,12 @@ IsTight placement pins routing = (t : Trunk) → Contains routing.trunks t → I
 abbrev pub HasNoAbove : Placement → Pins → Type 0
 HasNoAbove placement pins = (upper lower : NetNo) (line : ℕ) → IsAbove placement pins upper lower line → ⊥
 
-abbrev pub covers : ℕ → Trunk → Bool
-covers line t = leb t.left line && leb line t.right
+-- the line lies between the ends of the trunk, or at one of them
+abbrev pub holds_line : ℕ → Trunk → Bool
+holds_line line t = leb t.left line && leb line t.right
 
--- the greatest number of trunks that cover one line
+-- the greatest number of trunks that hold one line
 pub record IsDensity (trunks : List Trunk) (density : ℕ) : Type 0 where
-  pub most : (line : ℕ) → count_by (covers line) trunks ≤ density
+  pub most : (line : ℕ) → count_by (holds_line line) trunks ≤ density
   pub line : ℕ
-  pub there : count_by (covers line) trunks ≡ density
+  pub there : count_by (holds_line line) trunks ≡ density

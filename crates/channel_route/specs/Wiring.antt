@@ -1,4 +1,4 @@
--- Wirings of a channel: each net's span, cut at some of its node lines, the last one among them, or at none.
+-- Wirings of a channel: each net's span, whole or cut at some of its node lines between the ends.
 use Rattle.std.specs.Prelude.{ℕ, ◌≡◌, ◌≢◌, ◌<◌, ◌≤◌, ◌+◌, ◌⊎◌, ◌↔◌, List, Some, slice_get, All, AllPairs, Any, Contains}
 use Rattle.cell_num.specs.declared.net.NetNo.{NetNo}
 use Rattle.cell_num.specs.declared.net.Pins.{Pins}
@@ -28,9 +28,9 @@ pub record AreEnds (placement : Placement) (t : Trunk) : Type 0 where
   pub ascending : t.left ≤ t.right
 
 -- the trunk of the lesser net comes first; of one net the one that begins first, and it ends where the other
--- begins or before
+-- begins or before, and before the other ends
 abbrev pub AreInOrder : Trunk → Trunk → Type 0
-AreInOrder a b = (a.net.0 < b.net.0) ⊎ ((a.net ≡ b.net) × (a.left < b.left) × (a.right ≤ b.left))
+AreInOrder a b = (a.net.0 < b.net.0) ⊎ ((a.net ≡ b.net) × (a.left < b.left) × (a.right ≤ b.left) × (a.right < b.right))
 
 -- one trunk ends where the next one of its net begins, at a node place of that net
 pub record AreJoined (placement : Placement) (a b : Trunk) : Type 0 where
@@ -54,3 +54,12 @@ pub record IsWiring (placement : Placement) (pins : Pins) (routing : Routing) : 
   pub above : (a b : Trunk) → Contains routing.trunks a → Contains routing.trunks b → (line : ℕ) → IsAbove placement pins a.net b.net line → HoldsLine a line → HoldsLine b line → b.track < a.track
   pub tracks : All (λ t. t.track < routing.tracks) routing.trunks
   pub full : (track : ℕ) → track < routing.tracks → Any (λ t. t.track ≡ track) routing.trunks
+
+-- trunks on so many tracks
+abbrev pub wiring_of : ℕ → List Trunk → Routing
+wiring_of tracks trunks = record { tracks = tracks; trunks = trunks }
+
+-- on some number of tracks these trunks wire the channel
+pub record AreWiring (placement : Placement) (pins : Pins) (trunks : List Trunk) : Type 0 where
+  pub tracks : ℕ
+  pub wiring : IsWiring placement pins (wiring_of tracks trunks)

@@ -1,6 +1,7 @@
 pub mod Apart
 pub mod Members
 pub mod Named
+pub mod NetPorts
 pub mod Own
 pub mod PinShapes
 pub mod Placed

@@ -1,6 +1,5 @@
 -- Lists of different numbers with the same members.
-use Rattle.std.proofs.Common.{ℕ, ◌≡◌, ◌≢◌, Bool, true, List, [], ◌∷◌, ◌++◌, filter, sym, subst, ap, ◌∙◌, inl, inr, ◌⊎◌, AllPairs, Contains, IsPermutation}
-use Rattle.std.proofs.lemmas.Bool.{cases_Bool}
+use Rattle.std.proofs.Common.{ℕ, ◌≡◌, ◌≢◌, List, [], ◌∷◌, ◌++◌, sym, subst, ap, inl, inr, ◌⊎◌, AllPairs, Contains, IsPermutation}
 use Rattle.std.proofs.lemmas.List.Elements.{All-contains, Contains-append_left, Contains-append_right, Contains-append_cases}
 use Rattle.std.proofs.lemmas.List.Sorted.{IsPermutation-refl, IsPermutation-sym, IsPermutation-cons, IsPermutation-middle, IsPermutation-trans}
 use Rattle.cell_num.proofs.Lists.{contains_none, contains_cons, contains_here, contains_there}
@@ -61,25 +60,3 @@ same_members (x ∷ xs) ys dx dy to from =
       | inr later ↦ later
     ]) in
     IsPermutation-trans (x ∷ xs) (x ∷ (s.before ++ s.after)) ys (IsPermutation-cons x xs (s.before ++ s.after) rest) (subst (λ zs. IsPermutation (x ∷ (s.before ++ s.after)) zs) (sym s.is) (IsPermutation-sym (s.before ++ x ∷ s.after) (x ∷ (s.before ++ s.after)) (IsPermutation-middle s.before x s.after)))
-
--- ---- what a test lets through
-
-pub filter_in : {X : Type 0} (p : X → Bool) (xs : List X) (x : X) → Contains xs x → p x ≡ true → Contains (filter p xs) x
-filter_in p [] x there e = there
-filter_in {X} p (y ∷ ys) x there e = elim (contains_cons y ys x there) [
-  | inl same ↦ let passes : p y ≡ true = ap p same ∙ e in rw passes (subst (λ z. Contains (y ∷ filter p ys) z) same (contains_here y (filter p ys)))
-  | inr later ↦ elim (cases_Bool (p y)) [
-    | inl passes ↦ rw passes (contains_there y (filter p ys) x (filter_in p ys x later e))
-    | inr fails ↦ rw fails (filter_in p ys x later e)
-  ]
-]
-
-pub filter_from : {X : Type 0} (p : X → Bool) (xs : List X) (x : X) → Contains (filter p xs) x → Contains xs x × (p x ≡ true)
-filter_from p [] x there = absurd (contains_none x there)
-filter_from {X} p (y ∷ ys) x there = elim (cases_Bool (p y)) [
-  | inl passes ↦ elim (contains_cons y (filter p ys) x (rw passes at there)) [
-    | inl same ↦ (subst (λ z. Contains (y ∷ ys) z) same (contains_here y ys), sym (ap p same) ∙ passes)
-    | inr later ↦ let rest = filter_from p ys x later in (contains_there y ys x rest.0, rest.1)
-  ]
-  | inr fails ↦ let rest = filter_from p ys x (rw fails at there) in (contains_there y ys x rest.0, rest.1)
-]

@@ -30,7 +30,7 @@ use Rattle.cell_draw.specs.Layouts.{width_of, trunk_of, bar_of, metal_tag, tag_o
 use Rattle.cell_draw.specs.Shapes.{gnd_rail, vdd_rail, bar_metal}
 use Rattle.row_place.specs.Units.{seats_of}
 use Rattle.lef_write.specs.Ports.{net_no, ports_of}
-use Rattle.lef_write.specs.Drawn.{IsNamed, IsMetal1, HasPort, HasPorts}
+use Rattle.lef_write.specs.Drawn.{IsLabelled, IsMetal1, HasPort, HasPorts}
 use Rattle.lef_write.proofs.Own.{found_first, pin_shapes, gnd_shapes, vdd_shapes, signal_shapes, trunk_shape}
 use Rattle.lef_write.proofs.PinShapes.{FirstKept, first_kept}
 
@@ -97,10 +97,10 @@ record Given (names : List (List ℕ)) (pins : Pins) (p : Placement) (r : Routin
   net : n < length names
 
 -- the label of a pin stands on the shape
-abbrev IsLabelled : List (List ℕ) → Pins → Placement → Routing → List ℕ → ℕ → ℕ → Shape → Type 0
-IsLabelled names pins p r xs height n s = IsNamed (drawn_of names pins p r xs height).shapes.labels (get_or names n []) s
+abbrev IsPinLabelled : List (List ℕ) → Pins → Placement → Routing → List ℕ → ℕ → ℕ → Shape → Type 0
+IsPinLabelled names pins p r xs height n s = IsLabelled (drawn_of names pins p r xs height).shapes.labels (get_or names n []) s
 
-gnd_named : (names : List (List ℕ)) (pins : Pins) (p : Placement) (r : Routing) (xs : List ℕ) (height n : ℕ) → Given names pins p r xs n → n ≡ pins.gnd.0 → IsLabelled names pins p r xs height n (gnd_rail (layout_of (length names) pins p r xs height).frame)
+gnd_named : (names : List (List ℕ)) (pins : Pins) (p : Placement) (r : Routing) (xs : List ℕ) (height n : ℕ) → Given names pins p r xs n → n ≡ pins.gnd.0 → IsPinLabelled names pins p r xs height n (gnd_rail (layout_of (length names) pins p r xs height).frame)
 gnd_named names pins p r xs height n g e =
     let far : 16 ≤ width_of p xs = wide p pins r xs g.allowed in
     record {
@@ -111,7 +111,7 @@ gnd_named names pins p r xs height n g e =
       holds = record { left = omega (arith, ints); right = omega (arith, ints, far); low = omega (arith, ints); high = omega (arith, ints) };
     }
 
-vdd_named : (names : List (List ℕ)) (pins : Pins) (p : Placement) (r : Routing) (xs : List ℕ) (height n : ℕ) → Given names pins p r xs n → (n ≡ pins.gnd.0 → ⊥) → n ≡ pins.vdd.0 → IsLabelled names pins p r xs height n (vdd_rail (layout_of (length names) pins p r xs height).frame)
+vdd_named : (names : List (List ℕ)) (pins : Pins) (p : Placement) (r : Routing) (xs : List ℕ) (height n : ℕ) → Given names pins p r xs n → (n ≡ pins.gnd.0 → ⊥) → n ≡ pins.vdd.0 → IsPinLabelled names pins p r xs height n (vdd_rail (layout_of (length names) pins p r xs height).frame)
 vdd_named names pins p r xs height n g other e =
     let far : 16 ≤ width_of p xs = wide p pins r xs g.allowed in
     record {
@@ -122,7 +122,7 @@ vdd_named names pins p r xs height n g other e =
       holds = record { left = omega (arith, ints); right = omega (arith, ints, far); low = omega (arith, ints); high = omega (arith, ints) };
     }
 
-trunk_named : (names : List (List ℕ)) (pins : Pins) (p : Placement) (r : Routing) (xs : List ℕ) (height n : ℕ) (t : Trunk) → Given names pins p r xs n → (n ≡ pins.gnd.0 → ⊥) → (n ≡ pins.vdd.0 → ⊥) → trunk_of r.trunks (net_no n) ≡ Some t → IsLabelled names pins p r xs height n (bar_metal (bar_of (layout_of (length names) pins p r xs height).frame p.nodes r.trunks xs t))
+trunk_named : (names : List (List ℕ)) (pins : Pins) (p : Placement) (r : Routing) (xs : List ℕ) (height n : ℕ) (t : Trunk) → Given names pins p r xs n → (n ≡ pins.gnd.0 → ⊥) → (n ≡ pins.vdd.0 → ⊥) → trunk_of r.trunks (net_no n) ≡ Some t → IsPinLabelled names pins p r xs height n (bar_metal (bar_of (layout_of (length names) pins p r xs height).frame p.nodes r.trunks xs t))
 trunk_named names pins p r xs height n t g no_gnd no_vdd found =
     let there : Contains r.trunks t = contains_get r.trunks _ t (found_first (λ (u : Trunk). u.net.0 == n) r.trunks t found) in
     let ends : AreEnds p t = All-contains (AreEnds p) r.trunks t g.wiring.ends there in

@@ -15,10 +15,11 @@ use Rattle.box_geom.specs.declared.layer.Layer.{Layer}
 use Rattle.box_geom.specs.declared.layer.Layer.TheVariants.{Metal1, Metal2}
 use Rattle.box_geom.specs.declared.shape.Shape.{Shape}
 use Rattle.box_geom.specs.Layers.{same_layer}
+use Rattle.box_geom.proofs.Filters.{in_filter, contains_filter}
 use Rattle.lef_write.specs.declared.port.Port.{Port}
 use Rattle.lef_write.specs.Drawn.{shapes_on, all_port_shapes, AreAllMetal}
 use Rattle.lef_write.specs.Ports.{place_on, places_on, is_taken, obstruction_on, obstructions_on, IsPort}
-use Rattle.lef_write.proofs.Members.{Differ, same_members, filter_in, filter_from}
+use Rattle.lef_write.proofs.Members.{Differ, same_members}
 use Rattle.lef_write.proofs.Placed.{one_layer}
 
 -- ---- the places of a layer are different
@@ -112,10 +113,10 @@ taken_are ports rects on differ =
     same_members (map (λ (p : Port). p.shape) ports) (filter (is_taken ports) (places_on Metal1 rects)) differ (AllPairs-filter (λ (a b : ℕ). a ≢ b) (is_taken ports) (places_on Metal1 rects) (different Metal1 rects 0))
     (λ z there.
     let image = in_map (λ (p : Port). p.shape) ports z there in
-    filter_in (is_taken ports) (places_on Metal1 rects) z (subst (λ k. Contains (places_on Metal1 rects) k) image.is (on image.of image.listed)) (test_there (λ (p : Port). p.shape == z) ports image.of image.listed (eq-eqb image.of.shape z image.is)))
+    contains_filter (is_taken ports) (places_on Metal1 rects) z (subst (λ k. Contains (places_on Metal1 rects) k) image.is (on image.of image.listed)) (test_there (λ (p : Port). p.shape == z) ports image.of image.listed (eq-eqb image.of.shape z image.is)))
     (λ z there.
-    let passed = filter_from (is_taken ports) (places_on Metal1 rects) z there in
-    let port = test_finds (λ (p : Port). p.shape == z) ports passed.1 in
+    let passed = in_filter (is_taken ports) (places_on Metal1 rects) z there in
+    let port = test_finds (λ (p : Port). p.shape == z) ports passed.passes in
     subst (λ k. Contains (map (λ (p : Port). p.shape) ports) k) (eqb-true port.it.shape z port.holds) (contains_map (λ (p : Port). p.shape) ports port.it port.there))
 
 pub all_metal : (ports : List Port) (rects : List Shape) (d : Shape) → All (IsPort rects) ports → ((p : Port) → Contains ports p → Contains (places_on Metal1 rects) p.shape) → Differ (map (λ (p : Port). p.shape) ports) → AreAllMetal ports rects

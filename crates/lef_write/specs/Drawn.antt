@@ -1,5 +1,5 @@
 -- What holds of the ports and of the size of a drawn cell.
-use Rattle.std.specs.Prelude.{ℕ, ◌≡◌, pos, ◌≤ℤ◌, List, [], ◌∷◌, ◌++◌, filter, filter_map, slice_get, get_or, IsPermutation}
+use Rattle.std.specs.Prelude.{ℕ, ◌≡◌, ℤ, pos, ◌≤ℤ◌, List, [], ◌∷◌, ◌++◌, filter, filter_map, slice_get, get_or, IsPermutation}
 use Rattle.std.specs.List.{All, Any, Contains}
 use Rattle.box_geom.specs.Layers.{same_layer}
 use Rattle.box_geom.specs.Rectangle.{Holds}
@@ -7,8 +7,12 @@ use Rattle.box_geom.specs.declared.layer.Layer.{Layer}
 use Rattle.box_geom.specs.declared.layer.Layer.TheVariants.{Metal1, Metal2}
 use Rattle.box_geom.specs.declared.shape.Label.{Label}
 use Rattle.box_geom.specs.declared.shape.Shape.{Shape}
+use Rattle.box_geom.specs.declared.shape.Shapes.{Shapes}
 use Rattle.cell_num.specs.declared.net.Pins.{Pins}
 use Rattle.channel_route.specs.declared.routing.Routing.{Routing}
+use Rattle.scmos_rules.specs.declared.rules.Deck.{Deck}
+use Rattle.net_extract.specs.Nets.{metal1, site_at}
+use Rattle.net_extract.specs.Labels.{IsNamed}
 use Rattle.cell_draw.specs.declared.drawing.Drawing.{Drawing}
 use Rattle.lef_write.specs.declared.port.Port.{Port}
 use Rattle.lef_write.specs.Ports.{net_no, port_shapes, ports_of, obstructions}
@@ -18,7 +22,7 @@ abbrev pub shapes_on : Layer → List Shape → List Shape
 shapes_on layer rects = filter (λ (s : Shape). same_layer s.layer layer) rects
 
 -- a label of this name stands on the shape
-pub record IsNamed (labels : List Label) (word : List ℕ) (s : Shape) : Type 0 where
+pub record IsLabelled (labels : List Label) (word : List ℕ) (s : Shape) : Type 0 where
   pub label : Label
   pub listed : Contains labels label
   pub name : label.name ≡ word
@@ -33,7 +37,7 @@ ports_in pins r d = ports_of pins r.trunks d.shapes.rects
 pub record HasPort (names : List (List ℕ)) (ports : List Port) (d : Drawing) (n : ℕ) : Type 0 where
   pub shape : Shape
   pub one : port_shapes ports d.shapes.rects (net_no n) ≡ shape ∷ []
-  pub named : IsNamed d.shapes.labels (get_or names n []) shape
+  pub named : IsLabelled d.shapes.labels (get_or names n []) shape
 
 abbrev pub IsMetal1 : Shape → Type 0
 IsMetal1 s = s.layer ≡ Metal1
@@ -44,7 +48,15 @@ pub record HasPorts (names : List (List ℕ)) (ports : List Port) (d : Drawing) 
   pub others : List Shape
   pub are : port_shapes ports d.shapes.rects (net_no n) ≡ first ∷ others
   pub metal : All IsMetal1 (first ∷ others)
-  pub named : IsNamed d.shapes.labels (get_or names n []) first
+  pub named : IsLabelled d.shapes.labels (get_or names n []) first
+
+-- every cell of the shape, which is of metal1, is in a net that the word names
+abbrev pub IsOfNet : Deck → List ℕ → Shapes → Shape → Type 0
+IsOfNet deck word shapes s = (x y : ℤ) → Holds s.rect x y → IsNamed deck shapes word (site_at metal1 x y)
+
+-- the pin's ports are of the net that its name names
+abbrev pub AreOfNet : Deck → List (List ℕ) → List Port → Drawing → ℕ → Type 0
+AreOfNet deck names ports d n = All (IsOfNet deck (get_or names n []) d.shapes) (port_shapes ports d.shapes.rects (net_no n))
 
 -- the shapes at all ports
 abbrev pub all_port_shapes : List Port → List Shape → List Shape

@@ -37,9 +37,6 @@ reach_most : (xs : List ℕ) (line best : ℕ) (ds : List Distance) (most : ℕ)
 reach_most xs line best [] most low h = low
 reach_most xs line best (d ∷ ds) most low h = reach_most xs line (further xs line best d) ds most (further_most xs line best d most low (h d (contains_here d ds))) (λ e there at. h e (contains_there d ds e there) at)
 
-pub low_reach : (xs : List ℕ) (line x : ℕ) (ds : List Distance) → x ≡ reach_from xs line 0 ds → All (λ d. d.least ≤ 1000) ds → ((at : ℕ) → x_of xs at ≤ 126008) → x ≤ 127008
-low_reach xs line x ds e modest low = omega (arith, e, reach_most xs line 0 ds 127008 (omega arith) (λ d there at. omega (arith, All-contains (λ (z : Distance). z.least ≤ 1000) ds d modest there, low d.from)))
-
 pub modest_entries : (lines : ℕ) (ds : List Distance) → All (IsEntry lines) ds → All (λ d. d.least ≤ 1000) ds
 modest_entries lines ds all = all_from_contains (λ (d : Distance). d.least ≤ 1000) ds (λ d there. (All-contains (IsEntry lines) ds d all there).modest)
 

@@ -10,7 +10,6 @@ use Rattle.row_place.specs.Trunks.{IsContacted}
 use Rattle.channel_route.specs.declared.routing.Routing.{Routing}
 use Rattle.channel_route.specs.declared.routing.Trunk.{Trunk}
 use Rattle.channel_route.specs.Routing.{IsLegal}
-use Rattle.channel_route.specs.Wiring.{IsWiring}
 use Rattle.row_compact.specs.declared.measure.TheConstants.{SIDE_SPACE, LINE_SPACE, CONTACT_SPACE, STRETCH_SPACE}
 use Rattle.row_compact.specs.declared.distance.Distances.{Distances}
 use Rattle.row_compact.specs.Solution.{x_of, IsSolution}
@@ -26,11 +25,6 @@ stretch_of t = record { left = t.left; right = t.right; track = t.track }
 
 abbrev pub stretches_of : List Trunk → List Stretch
 stretches_of trunks = map stretch_of trunks
-
--- on some number of tracks these trunks wire the channel
-pub record AreWiring (placement : Placement) (pins : Pins) (trunks : List Trunk) : Type 0 where
-  pub tracks : ℕ
-  pub wiring : IsWiring placement pins (record { tracks = tracks; trunks = trunks })
 
 -- in some row a contacted place stands at the node line
 pub record HasContact (placement : Placement) (pins : Pins) (line : ℕ) : Type 0 where

@@ -3,8 +3,9 @@
 ghost use Rattle.std.specs.Prelude.{◌≡◌, ◌≤◌, ◌+◌, ◌*◌, ◌++◌, All, IfOk, OnOk, filter_map, length};
 ghost use Rattle.row_place.specs.Places.{IsPlacement};
 ghost use Rattle.channel_route.specs.Routing.{IsLegal};
+ghost use Rattle.channel_route.specs.Wiring.{AreWiring};
 ghost use Rattle.row_compact.specs.Solution.{IsEntry};
-ghost use Rattle.row_compact.specs.Allowed.{AreWiring, AreDistances, stretches_of};
+ghost use Rattle.row_compact.specs.Allowed.{AreDistances, stretches_of};
 ghost use Rattle.row_compact.specs.Entries.{is_rail, has_trunk, is_contacted, is_wide, least_in, two_entries, units_from, pair_entry, pairs_of, entries_of};
 
 use crate::{

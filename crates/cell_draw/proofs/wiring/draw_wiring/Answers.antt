@@ -1,6 +1,6 @@
 use Rattle.std.proofs.Common.{ap}
 use Rattle.cell_draw.specs.declared.drawing.Drawing.{Drawing}
-use Rattle.cell_draw.specs.Drawings.{wiring_of}
+use Rattle.channel_route.specs.Wiring.{wiring_of}
 use Rattle.cell_draw.proofs.BridgeCount.{few_drawn}
 use Rattle.cell_draw.proofs.DrawnNets.{drawn_extracts, drawn_shows}
 use Rattle.cell_draw.proofs.Draws.{drawing_obeys, drawing_named}

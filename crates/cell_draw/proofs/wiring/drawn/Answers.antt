@@ -1,5 +1,6 @@
 use Rattle.std.proofs.Common.{◌≡◌, length, ap, ◌∙◌, arith, rules}
-use Rattle.cell_draw.specs.Drawings.{drawing_of, wiring_of}
+use Rattle.channel_route.specs.Wiring.{wiring_of}
+use Rattle.cell_draw.specs.Drawings.{drawing_of}
 use Rattle.cell_draw.specs.Frame.{frame_of}
 use Rattle.cell_draw.specs.Layouts.{width_of, laid_out}
 use Rattle.cell_draw.proofs.TrunkCount.{few_tracks}

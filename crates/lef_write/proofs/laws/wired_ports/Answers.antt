@@ -1,4 +1,5 @@
 use Rattle.lef_write.proofs.Named.{has_ports}
+use Rattle.lef_write.proofs.NetPorts.{of_net}
 use Rattle.lef_write.proofs.Sized.{wired_sized}
 use Rattle.lef_write.proofs.laws.wired_ports.Goals as goal
 
@@ -7,3 +8,6 @@ returns-clause-ports c = has_ports
 
 pub returns-clause-size : goal.returns-clause-size
 returns-clause-size c = wired_sized
+
+pub returns-clause-nets : goal.returns-clause-nets
+returns-clause-nets c = of_net

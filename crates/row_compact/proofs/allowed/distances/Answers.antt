@@ -1,6 +1,6 @@
 use Rattle.std.proofs.Common.{◌≡◌, sym, subst, rules}
 use Rattle.channel_route.proofs.LegalWiring.{legal_wiring}
-use Rattle.row_compact.specs.Allowed.{AreWiring}
+use Rattle.channel_route.specs.Wiring.{AreWiring}
 use Rattle.row_compact.proofs.allowed.distances.Goals as goal
 
 pub wiring_distances-requires-clause-wiring : goal.wiring_distances-requires-clause-wiring
