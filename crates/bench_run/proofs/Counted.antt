@@ -16,7 +16,7 @@ use Rattle.library_size.proofs.Whole.{few_labels, written_within}
 use Rattle.cell_make.specs.declared.drawn.Drawn.{Drawn}
 use Rattle.cell_make.specs.declared.outcome.Outcome.{Outcome}
 use Rattle.cell_make.specs.declared.outcome.Outcome.TheVariants as came
-use Rattle.cell_make.specs.Inputs.{AreInputs, Inputs, unit_nm}
+use Rattle.cell_inputs.specs.Inputs.{AreInputs, Inputs, unit_nm}
 use Rattle.cell_make.specs.Making.{CanBeWritten, ComesTo, IsFound, answer_of, drawing_in, library_of}
 use Rattle.bench_run.specs.Bench.{counted_as}
 use Rattle.bench_run.specs.Size.{IsSmall}

@@ -5,7 +5,7 @@ use Rattle.row_state.specs.Component.{component_value}
 use Rattle.row_state.specs.ComponentLaw.{component_holds}
 use Rattle.search_laws.specs.Paired.{ArePaired}
 use Rattle.search_laws.proofs.Whole.{never_spent}
-use Rattle.cell_make.specs.Inputs.{Inputs}
+use Rattle.cell_inputs.specs.Inputs.{Inputs}
 use Rattle.cell_make.specs.Making.{MakeAnswer, Made, Cyclic, Tall, Unfinished, Makes}
 use Rattle.bench_run.specs.Bench.{AreInputsOf, HoldsCell, counted_as}
 use Rattle.bench_run.specs.Tally.{AreAllEnded}

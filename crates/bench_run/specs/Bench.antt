@@ -6,7 +6,7 @@ use Rattle.row_model.specs.Gaps.{gaps_of}
 use Rattle.tech_file.specs.Technology.{plain}
 use Rattle.spice_net.specs.Subcircuit.{subcircuit}
 use Rattle.finger_fold.specs.Folding.{folded}
-use Rattle.cell_make.specs.Inputs.{Inputs}
+use Rattle.cell_inputs.specs.Inputs.{Inputs}
 use Rattle.cell_make.specs.Making.{MakeAnswer, Made, Cyclic, Tall, Unfinished, Makes, drawing_in, library_of}
 use Rattle.cell_bench.specs.Text.{bench_text, cell_name}
 use Rattle.bench_run.specs.declared.tally.Tally.{Tally}

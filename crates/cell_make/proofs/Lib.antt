@@ -1,5 +1,4 @@
 pub mod Alone
 pub mod LeastLines
 pub mod Makes
-pub mod Names
 pub mod ReadBack

@@ -1,4 +1,3 @@
-pub mod Inputs
 pub mod Making
 pub mod Searched
 pub mod Structures

@@ -30,7 +30,7 @@ use Rattle.lef_write.specs.Lef.{cell_text}
 use Rattle.lef_write.specs.Ports.{ports_of}
 use Rattle.cell_make.specs.declared.outcome.Outcome.{Outcome}
 use Rattle.cell_make.specs.declared.outcome.Outcome.TheVariants as outcome
-use Rattle.cell_make.specs.Inputs.{Inputs, unit_nm}
+use Rattle.cell_inputs.specs.Inputs.{Inputs, unit_nm}
 use Rattle.cell_make.specs.Searched.{IsCertified, IsUnfinished}
 use Rattle.cell_make.specs.Structures.{HasOneStructure}
 

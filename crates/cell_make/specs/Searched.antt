@@ -6,7 +6,7 @@ use Rattle.row_state.specs.Component.{component_value}
 use Rattle.bound_log.specs.declared.log.Log.{Log}
 use Rattle.log_check.specs.Accepted.{WithKinds}
 use Rattle.row_search.specs.Ended.{IsSolved, IsSpent}
-use Rattle.cell_make.specs.Inputs.{Inputs}
+use Rattle.cell_inputs.specs.Inputs.{Inputs}
 
 -- the log is accepted by the bound of its version, lists the row, and was found within the budget
 abbrev pub IsCertified : Inputs → List Column → Log → Type 0

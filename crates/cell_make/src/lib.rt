@@ -3,9 +3,8 @@
 #![tactic(auto)]
 
 pub mod drawn;
-pub mod inputs;
 pub mod outcome;
 
+pub use cell_inputs::Inputs;
 pub use drawn::Drawn;
-pub use inputs::Inputs;
 pub use outcome::Outcome;

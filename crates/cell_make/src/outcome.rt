@@ -3,8 +3,8 @@ ghost use Rattle.row_place.specs.Places.{IsPlacement, placement_of};
 ghost use Rattle.cell_make.specs.Making.{CanBeWritten, ComesTo, IsFound, IsRouted};
 
 use crate::drawn::{Drawn, draw_routed};
-use crate::inputs::Inputs;
 use cell_draw::DrawFault;
+use cell_inputs::Inputs;
 use cell_num::NoMemory;
 use channel_route::{CycleList, RouteStop, Routing, route};
 use log_output::KeptLog;

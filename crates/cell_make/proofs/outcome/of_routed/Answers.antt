@@ -1,4 +1,4 @@
-use Rattle.cell_make.specs.Inputs.{inputs_of}
+use Rattle.cell_inputs.specs.Inputs.{inputs_of}
 use Rattle.cell_make.proofs.Makes.{made_so, placed_legal, placed_row, readable_so}
 use Rattle.cell_make.proofs.outcome.of_routed.Goals as goal
 

@@ -3,7 +3,7 @@ use Rattle.channel_route.specs.declared.routing.Above.{Above}
 use Rattle.channel_route.specs.declared.routing.RouteStop.{RouteStop}
 use Rattle.channel_route.specs.Told.{TellsCycle}
 use Rattle.cell_make.specs.declared.outcome.Outcome.TheVariants as outcome
-use Rattle.cell_make.specs.Inputs.{inputs_of}
+use Rattle.cell_inputs.specs.Inputs.{inputs_of}
 use Rattle.cell_make.specs.Making.{ComesTo}
 use Rattle.cell_make.proofs.Makes.{all_pins, cyclic_so, few_columns, routed_so}
 use Rattle.cell_make.proofs.outcome.of_row.Goals as goal

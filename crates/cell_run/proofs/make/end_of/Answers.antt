@@ -1,7 +1,7 @@
 use Rattle.std.proofs.Common.{IfOk, subst, sym}
 use Rattle.cell_make.specs.declared.outcome.Outcome.{Outcome}
 use Rattle.cell_make.specs.declared.outcome.Outcome.TheVariants as outcome
-use Rattle.cell_make.specs.Inputs.{inputs_of}
+use Rattle.cell_inputs.specs.Inputs.{inputs_of}
 use Rattle.cell_make.specs.Making.{ComesTo, answer_of}
 use Rattle.cell_run.specs.Make.{IsMakeEnd}
 use Rattle.cell_run.proofs.Outcomes.{cyclic_ends, made_ends}

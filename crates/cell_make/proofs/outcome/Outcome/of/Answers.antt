@@ -8,7 +8,7 @@ use Rattle.row_search.specs.declared.found.StopKept.{StopKept}
 use Rattle.row_search.specs.Ended.{IfOpen, IsSolved, IsSpent, log_with, log_without}
 use Rattle.row_search.specs.First.{IsFirstLeast}
 use Rattle.cell_make.specs.declared.outcome.Outcome.TheVariants as outcome
-use Rattle.cell_make.specs.Inputs.{Inputs}
+use Rattle.cell_inputs.specs.Inputs.{Inputs}
 use Rattle.cell_make.specs.Making.{ComesTo, IsFound}
 use Rattle.cell_make.proofs.Makes.{spent_so}
 use Rattle.cell_make.proofs.outcome.Outcome.of.Goals as goal
