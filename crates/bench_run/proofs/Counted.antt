@@ -17,7 +17,8 @@ use Rattle.cell_make.specs.declared.drawn.Drawn.{Drawn}
 use Rattle.cell_make.specs.declared.outcome.Outcome.{Outcome}
 use Rattle.cell_make.specs.declared.outcome.Outcome.TheVariants as came
 use Rattle.cell_inputs.specs.Inputs.{AreInputs, Inputs, unit_nm}
-use Rattle.cell_make.specs.Making.{CanBeWritten, ComesTo, IsFound, answer_of, drawing_in, library_of}
+use Rattle.cell_make.specs.Making.{CanBeWritten, ComesTo, answer_of, drawing_in, library_of}
+use Rattle.cell_make.specs.Searched.{IsFound}
 use Rattle.bench_run.specs.Bench.{counted_as}
 use Rattle.bench_run.specs.Size.{IsSmall}
 use Rattle.bench_run.specs.Tally.{IsWithin}

@@ -41,8 +41,8 @@ use Rattle.gds_read.proofs.RoundTrip.{round_trip}
 use Rattle.cell_make.specs.declared.drawn.Drawn.{Drawn}
 use Rattle.cell_make.specs.declared.outcome.Outcome.TheVariants as outcome
 use Rattle.cell_inputs.specs.Inputs.{Inputs, AreInputs, unit_nm}
-use Rattle.cell_make.specs.Making.{AreLeastLines, ComesTo, IsFound, IsMade, IsRouted, drawing_in, library_of, ports_in}
-use Rattle.cell_make.specs.Searched.{IsUnfinished}
+use Rattle.cell_make.specs.Making.{AreLeastLines, ComesTo, IsMade, IsRouted, drawing_in, library_of, ports_in}
+use Rattle.cell_make.specs.Searched.{IsFound, IsUnfinished}
 use Rattle.cell_make.proofs.Alone.{written_alone}
 use Rattle.cell_make.proofs.ReadBack.{readable}
 

@@ -4,7 +4,6 @@ use Rattle.std.specs.Prelude.{ℕ, ◌≡◌, ◌<◌, ◌≤◌, ◌*◌, List,
 use Rattle.cell_num.specs.declared.net.Pins.{Pins}
 use Rattle.row_model.specs.declared.column.Column.{Column}
 use Rattle.bound_log.specs.declared.log.Log.{Log}
-use Rattle.row_search.specs.First.{IsFirstLeast}
 use Rattle.row_place.specs.declared.placement.Placement.{Placement}
 use Rattle.row_place.specs.Places.{placement_of}
 use Rattle.channel_route.specs.declared.routing.Above.{Above}
@@ -31,7 +30,7 @@ use Rattle.lef_write.specs.Ports.{ports_of}
 use Rattle.cell_make.specs.declared.outcome.Outcome.{Outcome}
 use Rattle.cell_make.specs.declared.outcome.Outcome.TheVariants as outcome
 use Rattle.cell_inputs.specs.Inputs.{Inputs, unit_nm}
-use Rattle.cell_make.specs.Searched.{IsCertified, IsUnfinished}
+use Rattle.cell_make.specs.Searched.{IsFound, IsUnfinished}
 use Rattle.cell_make.specs.Structures.{HasOneStructure}
 
 -- ---- the parts
@@ -40,11 +39,6 @@ use Rattle.cell_make.specs.Structures.{HasOneStructure}
 pub record AreLeastLines (placement : Placement) (pins : Pins) (routing : Routing) (xs : List ℕ) : Type 0 where
   pub allowed : AreAllowed placement pins (stretches_of routing.trunks) xs
   pub least : (other : List ℕ) → AreAllowed placement pins (stretches_of routing.trunks) other → (line : ℕ) → line ≤ 2 * length placement.units → x_of xs line ≤ x_of other line
-
--- the first least row, with an accepted log that lists it and was found within the budget
-pub record IsFound (inputs : Inputs) (row : List Column) (log : Log) : Type 0 where
-  pub first : IsFirstLeast inputs.fingers row
-  pub certified : IsCertified inputs row log
 
 -- its channel, routed; no nets stand above each other in a ring
 pub record IsRouted (inputs : Inputs) (row : List Column) (routing : Routing) : Type 0 where

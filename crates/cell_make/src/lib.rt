@@ -4,7 +4,9 @@
 
 pub mod drawn;
 pub mod outcome;
+pub mod planned;
 
 pub use cell_inputs::Inputs;
 pub use drawn::Drawn;
 pub use outcome::Outcome;
+pub use planned::Planned;

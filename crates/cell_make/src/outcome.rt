@@ -1,8 +1,10 @@
 ghost use Rattle.std.specs.Prelude.{◌≡◌, IfOk};
 ghost use Rattle.row_place.specs.Places.{IsPlacement, placement_of};
-ghost use Rattle.cell_make.specs.Making.{CanBeWritten, ComesTo, IsFound, IsRouted};
+ghost use Rattle.cell_make.specs.Making.{CanBeWritten, ComesTo, IsRouted};
+ghost use Rattle.cell_make.specs.Searched.{IsFound};
 
 use crate::drawn::{Drawn, draw_routed};
+use crate::planned::Planned;
 use cell_draw::DrawFault;
 use cell_inputs::Inputs;
 use cell_num::NoMemory;
@@ -10,8 +12,6 @@ use channel_route::{CycleList, RouteStop, Routing, route};
 use log_output::KeptLog;
 use row_model::Arrangement;
 use row_place::{Placement, place};
-use row_search::{StopKept, search_kept};
-use row_state::{COMPONENT_LOG, Component};
 use std::alloc::Global;
 
 /// What making a cell comes to.
@@ -107,17 +107,9 @@ impl Outcome {
         ensures comes { IfOk result (ComesTo inputs.now) }
         ensures written { IfOk result (CanBeWritten inputs.now) }
     {
-        inputs.show_limits();
-        match search_kept(alloc, &inputs.fingers, &Component, inputs.budget()) {
-            Ok(found) => {
-                let log = KeptLog::with_row(COMPONENT_LOG, found.kept, found.best);
-                of_row(alloc, inputs, found.row, log)
-            }
-            Err(StopKept::Unfinished { kept, proved }) => {
-                let log = KeptLog::without_row(COMPONENT_LOG, kept);
-                Ok(Outcome::Unfinished { log, proved })
-            }
-            Err(StopKept::NoMemory) => Err(NoMemory),
+        match Planned::of(alloc, inputs)? {
+            Planned::Found { row, log } => of_row(alloc, inputs, row, log),
+            Planned::Unfinished { log, proved } => Ok(Outcome::Unfinished { log, proved }),
         }
     }
 }
