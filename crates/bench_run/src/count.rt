@@ -47,7 +47,11 @@ pub(crate) fn counted(inputs: &Inputs, outcome: &Outcome) -> Tally
 {
     inputs.show_limits();
     match outcome {
-        Outcome::Made { row, drawn, .. } => made(inputs, row, &drawn.drawing.shapes),
+        Outcome::Made {
+            placement,
+            drawn,
+            ..
+        } => { made(inputs, &placement.row, &drawn.drawing.shapes) }
         Outcome::Cyclic { .. } => Tally {
             cycles: 1,
             ..Tally::nothing()

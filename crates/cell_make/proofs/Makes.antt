@@ -179,23 +179,23 @@ readable_so inputs inside shapes same are few limits within listed =
     readable inputs.cell.nets inputs.cell.name shapes (unit_nm inputs.tech) are.nets are.cell (unit_least inputs.tech.lambda_nm are.tech.lambda_least) (unit_most inputs.tech.lambda_nm are.tech.lambda_most)
     few limits within (subst (λ (i : Inputs). All (λ (l : Label). Contains i.cell.nets l.name) shapes.labels) same listed)
 
-pub made_so : (inputs inside : Inputs) (row : List Column) (log : Log) (placement : Placement) (routing : Routing) (drawn : Drawn) (height : ℕ) → inside ≡ inputs → placement ≡ placement_of row → height ≡ inputs.tech.height → AreInputs inputs → IsFound inputs row log → IsPlacement placement → IsRouted inputs row routing → IsDrawnSo inside row placement routing drawn.lines drawn.drawing height → IsReadable inputs.cell.name drawn.drawing.shapes (unit_nm inputs.tech) → ComesTo inputs (outcome.Made row log routing drawn)
-made_so inputs inside row log placement routing drawn height same is high are found placed routed h readable =
-    let seen = seen_so inputs inside row placement routing drawn.lines drawn.drawing height same is high h in
-    let sound = sound_drawing inputs row log routing drawn.lines drawn.drawing are found (subst IsPlacement is placed) routed seen readable in
-    (is_made inputs row log routing drawn.lines drawn.drawing are found routed seen.least seen.fits seen.exact sound, seen.exact)
+pub made_so : (inputs inside : Inputs) (log : Log) (placement : Placement) (routing : Routing) (drawn : Drawn) (height : ℕ) → inside ≡ inputs → placement ≡ placement_of placement.row → height ≡ inputs.tech.height → AreInputs inputs → IsFound inputs placement.row log → IsPlacement placement → IsRouted inputs placement.row routing → IsDrawnSo inside placement.row placement routing drawn.lines drawn.drawing height → IsReadable inputs.cell.name drawn.drawing.shapes (unit_nm inputs.tech) → ComesTo inputs (outcome.Made placement log routing drawn)
+made_so inputs inside log placement routing drawn height same is high are found placed routed h readable =
+    let seen = seen_so inputs inside placement.row placement routing drawn.lines drawn.drawing height same is high h in
+    let sound = sound_drawing inputs placement.row log routing drawn.lines drawn.drawing are found (subst IsPlacement is placed) routed seen readable in
+    (is_made inputs placement.row log routing drawn.lines drawn.drawing are found routed seen.least seen.fits seen.exact sound, seen.exact)
 
 needed_is : (needed given least height : ℕ) → ◌≡◌ {A = DrawFault} (TooTall needed given) (TooTall least height) → (needed ≡ least) × (given ≡ height)
 needed_is needed given least height e = (cc, cc)
 
-pub tall_so : (inputs : Inputs) (row : List Column) (log : Log) (placement : Placement) (routing : Routing) (height needed given : ℕ) → placement ≡ placement_of row → height ≡ inputs.tech.height → IsFound inputs row log → IsRouted inputs row routing → IsCause placement.row routing.tracks height (TooTall needed given) → ComesTo inputs (outcome.Tall row log routing needed given)
-tall_so inputs row log placement routing height needed given is high found routed cause =
-    let of_row : IsCause row routing.tracks height (TooTall needed given) = subst (λ (p : Placement). IsCause p.row routing.tracks height (TooTall needed given)) is cause in
-    let (least, asked) = needed_is needed given (needed_of row routing.tracks) height of_row.1 in
-    ((found, routed, subst (λ h. IsTooTall row routing.tracks h) high of_row.0), (least, asked ∙ high))
+pub tall_so : (inputs : Inputs) (log : Log) (placement : Placement) (routing : Routing) (height needed given : ℕ) → height ≡ inputs.tech.height → IsFound inputs placement.row log → IsRouted inputs placement.row routing → IsCause placement.row routing.tracks height (TooTall needed given) → ComesTo inputs (outcome.Tall placement log routing needed given)
+tall_so inputs log placement routing height needed given high found routed cause =
+    let (least, asked) = needed_is needed given (needed_of placement.row routing.tracks) height cause.1 in
+    ((found, routed, subst (λ h. IsTooTall placement.row routing.tracks h) high cause.0), (least, asked ∙ high))
 
-pub cyclic_so : (inputs inside : Inputs) (row : List Column) (log : Log) (placement : Placement) (cycle : List Above) → inside ≡ inputs → placement ≡ placement_of row → IsFound inputs row log → IsTold placement inside.cell.pins cycle → ComesTo inputs (outcome.Cyclic row log cycle)
-cyclic_so inputs inside row log placement cycle same is found told = ((found, told_so inputs inside row placement cycle same is told), tt)
+pub cyclic_so : (inputs inside : Inputs) (row : List Column) (log : Log) (placement : Placement) (cycle : List Above) → inside ≡ inputs → placement ≡ placement_of row → IsFound inputs row log → IsTold placement inside.cell.pins cycle → ComesTo inputs (outcome.Cyclic placement log cycle)
+cyclic_so inputs inside row log placement cycle same is found told =
+    subst (λ (p : Placement). ComesTo inputs (outcome.Cyclic p log cycle)) (sym is) ((found, told_so inputs inside row placement cycle same is told), tt)
 
 pub spent_so : (inputs : Inputs) (proved : ℕ) (log : Log) → IsUnfinished inputs proved log → ComesTo inputs (outcome.Unfinished log proved)
 spent_so inputs proved log spent = (spent, tt)

@@ -1,3 +1,4 @@
+pub mod Extent
 pub mod Making
 pub mod Searched
 pub mod Structures

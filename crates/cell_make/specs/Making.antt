@@ -98,18 +98,19 @@ Makes inputs (Unfinished proved log) = IsUnfinished inputs proved log
 -- ---- as the code answers it
 
 abbrev pub answer_of : Outcome → MakeAnswer
-answer_of (outcome.Made row log routing drawn) = Made row log routing drawn.lines
-answer_of (outcome.Cyclic row log cycle) = Cyclic row log cycle
-answer_of (outcome.Tall row log routing needed given) = Tall row log routing
+answer_of (outcome.Made placement log routing drawn) = Made placement.row log routing drawn.lines
+answer_of (outcome.Cyclic placement log cycle) = Cyclic placement.row log cycle
+answer_of (outcome.Tall placement log routing needed given) = Tall placement.row log routing
 answer_of (outcome.Unfinished log proved) = Unfinished proved log
 
 -- The drawing is that of the row, its routing and its lines, and the heights are the one that the row needs and the
 -- one of the technology.
 abbrev pub IsDrawnBy : Inputs → Outcome → Type 0
-IsDrawnBy inputs (outcome.Made row log routing drawn) = drawn.drawing ≡ drawing_in inputs row routing drawn.lines
-IsDrawnBy inputs (outcome.Cyclic row log cycle) = Unit {0}
-IsDrawnBy inputs (outcome.Tall row log routing needed given) =
-    (needed ≡ needed_of row routing.tracks) × (given ≡ inputs.tech.height)
+IsDrawnBy inputs (outcome.Made placement log routing drawn) =
+    drawn.drawing ≡ drawing_in inputs placement.row routing drawn.lines
+IsDrawnBy inputs (outcome.Cyclic placement log cycle) = Unit {0}
+IsDrawnBy inputs (outcome.Tall placement log routing needed given) =
+    (needed ≡ needed_of placement.row routing.tracks) × (given ≡ inputs.tech.height)
 IsDrawnBy inputs (outcome.Unfinished log proved) = Unit {0}
 
 abbrev pub ComesTo : Inputs → Outcome → Type 0
@@ -117,8 +118,8 @@ ComesTo inputs came = Makes inputs (answer_of came) × IsDrawnBy inputs came
 
 -- a drawing can be written as a library that is read back, and is small enough for an abstract
 abbrev pub CanBeWritten : Inputs → Outcome → Type 0
-CanBeWritten inputs (outcome.Made row log routing drawn) =
+CanBeWritten inputs (outcome.Made placement log routing drawn) =
     IsReadable inputs.cell.name drawn.drawing.shapes (unit_nm inputs.tech) × (length drawn.drawing.shapes.rects ≤ 1999)
-CanBeWritten inputs (outcome.Cyclic row log cycle) = Unit {0}
-CanBeWritten inputs (outcome.Tall row log routing needed given) = Unit {0}
+CanBeWritten inputs (outcome.Cyclic placement log cycle) = Unit {0}
+CanBeWritten inputs (outcome.Tall placement log routing needed given) = Unit {0}
 CanBeWritten inputs (outcome.Unfinished log proved) = Unit {0}

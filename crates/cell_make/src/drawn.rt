@@ -10,7 +10,9 @@ ghost use Rattle.cell_draw.specs.Bounds.{AreWithin};
 ghost use Rattle.cell_draw.specs.Drawings.{drawn_of};
 ghost use Rattle.cell_draw.specs.Extracted.{ExtractsToRow};
 ghost use Rattle.cell_draw.specs.Faults.{IsCause};
-ghost use Rattle.cell_draw.specs.Frame.{IsTooTall};
+ghost use Rattle.cell_draw.specs.Frame.{IsTooTall, frame_of};
+ghost use Rattle.cell_draw.specs.Framed.{IsFramed};
+ghost use Rattle.cell_draw.specs.Layouts.{width_of};
 ghost use Rattle.cell_draw.specs.Shown.{ShowsColumns, ShowsRouting};
 ghost use Rattle.cell_draw.specs.Sound.{IsSoundRow};
 ghost use Rattle.cell_make.specs.Making.{AreLeastLines};
@@ -22,6 +24,12 @@ use row_compact::{LineXs, distances, least_lines};
 use row_place::Placement;
 use spice_net::Subckt;
 use std::alloc::Global;
+
+/// A cell with a column is at least so many grid units wide: 8 before its first line, 8 between its three lines, 8 behind.
+pub const LEAST_WIDTH: u32 = 32;
+
+/// A drawn cell is at most so many grid units wide. The last line stands at 127,008 or less, the side 8 behind it.
+pub const MOST_WIDTH: u32 = 127_016;
 
 /// A drawn row, and the positions of its lines in grid units.
 #[derive(Drop)]
@@ -72,6 +80,10 @@ pub fn draw_routed(
         d.drawing.shapes) }
     ensures routed { IfOk result (λ d.
         ShowsRouting cell.now.nets cell.now.pins placement.now d.drawing.shapes routing.now) }
+    ensures framed { IfOk result (λ d. IsFramed (frame_of placement.now.row routing.now.tracks height
+        (width_of placement.now d.lines)) d.lines d.drawing) }
+    ensures width { IfOk result (λ d. d.drawing.width ≡ width_of placement.now d.lines) }
+    ensures narrow { IfOk result (λ d. d.drawing.width ≤ MOST_WIDTH) }
     ensures few { IfOk result (λ d. length d.drawing.shapes.rects ≤ 1999) }
     ensures limits { IfOk result (λ d. AreWithinLimits d.drawing.shapes.rects) }
     ensures within { IfOk result (λ d. AreWithin d.drawing.shapes) }

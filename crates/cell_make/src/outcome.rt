@@ -1,5 +1,6 @@
 ghost use Rattle.std.specs.Prelude.{◌≡◌, IfOk};
 ghost use Rattle.row_place.specs.Places.{IsPlacement, placement_of};
+ghost use Rattle.cell_make.specs.Extent.{IsOnItsLines, LiesInFrame};
 ghost use Rattle.cell_make.specs.Making.{CanBeWritten, ComesTo, IsRouted};
 ghost use Rattle.cell_make.specs.Searched.{IsFound};
 
@@ -17,22 +18,22 @@ use std::alloc::Global;
 /// What making a cell comes to.
 #[derive(Drop)]
 pub enum Outcome {
-    /// The first least row, drawn.
+    /// The first least row on its lines, drawn.
     Made {
-        row: Arrangement,
+        placement: Placement,
         log: KeptLog,
         routing: Routing,
         drawn: Drawn,
     },
     /// Nets of that row stand above each other in a ring.
     Cyclic {
-        row: Arrangement,
+        placement: Placement,
         log: KeptLog,
         cycle: CycleList,
     },
     /// The given height is below the one that the routed row needs.
     Tall {
-        row: Arrangement,
+        placement: Placement,
         log: KeptLog,
         routing: Routing,
         needed: u32,
@@ -49,28 +50,29 @@ pub enum Outcome {
 fn of_routed(
     alloc: Global,
     inputs: &Inputs,
-    row: Arrangement,
+    placement: Placement,
     log: KeptLog,
-    placement: &Placement,
     routing: Routing,
 ) -> Result<Outcome, NoMemory>
-    requires found { IsFound inputs.now row log }
-    requires placement { placement.now ≡ placement_of row }
-    requires places { IsPlacement placement.now }
-    requires routed { IsRouted inputs.now row routing }
+    requires found { IsFound inputs.now placement.row log }
+    requires placed { placement ≡ placement_of placement.row }
+    requires places { IsPlacement placement }
+    requires routed { IsRouted inputs.now placement.row routing }
     ensures comes { IfOk result (ComesTo inputs.now) }
     ensures written { IfOk result (CanBeWritten inputs.now) }
+    ensures placed { IfOk result IsOnItsLines }
+    ensures extent { IfOk result (LiesInFrame inputs.now) }
 {
     inputs.show_limits();
-    match draw_routed(alloc, &inputs.cell, placement, &routing, inputs.height()) {
+    match draw_routed(alloc, &inputs.cell, &placement, &routing, inputs.height()) {
         Ok(drawn) => Ok(Outcome::Made {
-            row,
+            placement,
             log,
             routing,
             drawn,
         }),
         Err(DrawFault::TooTall { needed, given }) => Ok(Outcome::Tall {
-            row,
+            placement,
             log,
             routing,
             needed,
@@ -90,12 +92,18 @@ fn of_row(
     requires { IsFound inputs.now row log }
     ensures comes { IfOk result (ComesTo inputs.now) }
     ensures written { IfOk result (CanBeWritten inputs.now) }
+    ensures placed { IfOk result IsOnItsLines }
+    ensures extent { IfOk result (LiesInFrame inputs.now) }
 {
     inputs.show_limits();
     let placement = place(alloc, &row)?;
     match route(alloc, &placement, &inputs.cell.pins) {
-        Ok(routing) => of_routed(alloc, inputs, row, log, &placement, routing),
-        Err(RouteStop::Cycle(cycle)) => Ok(Outcome::Cyclic { row, log, cycle }),
+        Ok(routing) => of_routed(alloc, inputs, placement, log, routing),
+        Err(RouteStop::Cycle(cycle)) => Ok(Outcome::Cyclic {
+            placement,
+            log,
+            cycle,
+        }),
         Err(RouteStop::NoMemory) => Err(NoMemory),
     }
 }
@@ -106,6 +114,9 @@ impl Outcome {
     pub fn of(alloc: Global, inputs: &Inputs) -> Result<Outcome, NoMemory>
         ensures comes { IfOk result (ComesTo inputs.now) }
         ensures written { IfOk result (CanBeWritten inputs.now) }
+        // the row stands on its lines
+        ensures placed { IfOk result IsOnItsLines }
+        ensures extent { IfOk result (LiesInFrame inputs.now) }
     {
         match Planned::of(alloc, inputs)? {
             Planned::Found { row, log } => of_row(alloc, inputs, row, log),

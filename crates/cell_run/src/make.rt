@@ -73,7 +73,7 @@ fn end_of(alloc: Global, inputs: &Inputs, stem: &Stem, outcome: Outcome) -> Resu
     let unit_nm = inputs.unit_nm();
     match outcome {
         Outcome::Made {
-            row,
+            placement,
             log,
             routing,
             drawn,
@@ -81,7 +81,7 @@ fn end_of(alloc: Global, inputs: &Inputs, stem: &Stem, outcome: Outcome) -> Resu
             alloc,
             cell,
             stem,
-            &row,
+            &placement.row,
             log,
             &routing,
             &drawn.drawing,
