@@ -17,7 +17,7 @@ use Rattle.cell_make.specs.declared.outcome.Outcome.TheVariants as outcome
 -- the placement is that of its row
 abbrev pub IsOnItsLines : Outcome → Type 0
 IsOnItsLines (outcome.Made placement log routing drawn) = placement ≡ placement_of placement.row
-IsOnItsLines (outcome.Cyclic placement log cycle) = placement ≡ placement_of placement.row
+IsOnItsLines (outcome.Cyclic placement log ring) = placement ≡ placement_of placement.row
 IsOnItsLines (outcome.Tall placement log routing needed given) = placement ≡ placement_of placement.row
 IsOnItsLines (outcome.Unfinished log proved) = Unit {0}
 
@@ -38,6 +38,6 @@ frame_in inputs row routing xs =
 abbrev pub LiesInFrame : Inputs → Outcome → Type 0
 LiesInFrame inputs (outcome.Made placement log routing drawn) =
     HasExtent (frame_in inputs placement.row routing drawn.lines) drawn.lines drawn.drawing
-LiesInFrame inputs (outcome.Cyclic placement log cycle) = Unit {0}
+LiesInFrame inputs (outcome.Cyclic placement log ring) = Unit {0}
 LiesInFrame inputs (outcome.Tall placement log routing needed given) = Unit {0}
 LiesInFrame inputs (outcome.Unfinished log proved) = Unit {0}

@@ -2,6 +2,7 @@
 // unfinished search.
 #![tactic(auto)]
 
+mod channel;
 pub mod drawn;
 pub mod outcome;
 pub mod planned;

@@ -4,12 +4,13 @@ ghost use Rattle.cell_make.specs.Extent.{IsOnItsLines, LiesInFrame};
 ghost use Rattle.cell_make.specs.Making.{CanBeWritten, ComesTo, IsRouted};
 ghost use Rattle.cell_make.specs.Searched.{IsFound};
 
+use crate::channel::{ChannelStop, route_by};
 use crate::drawn::{Drawn, draw_routed};
 use crate::planned::Planned;
 use cell_draw::DrawFault;
-use cell_inputs::Inputs;
+use cell_inputs::{Inputs, Style};
 use cell_num::NoMemory;
-use channel_route::{CycleList, RouteStop, Routing, route};
+use channel_route::{Ring, Routing};
 use log_output::KeptLog;
 use row_model::Arrangement;
 use row_place::{Placement, place};
@@ -25,11 +26,11 @@ pub enum Outcome {
         routing: Routing,
         drawn: Drawn,
     },
-    /// Nets of that row stand above each other in a ring.
+    /// Nets of that row, or parts of them, stand above each other in a ring.
     Cyclic {
         placement: Placement,
         log: KeptLog,
-        cycle: CycleList,
+        ring: Ring,
     },
     /// The given height is below the one that the routed row needs.
     Tall {
@@ -50,6 +51,7 @@ pub enum Outcome {
 fn of_routed(
     alloc: Global,
     inputs: &Inputs,
+    style: Style,
     placement: Placement,
     log: KeptLog,
     routing: Routing,
@@ -57,14 +59,21 @@ fn of_routed(
     requires found { IsFound inputs.now placement.row log }
     requires placed { placement ≡ placement_of placement.row }
     requires places { IsPlacement placement }
-    requires routed { IsRouted inputs.now placement.row routing }
-    ensures comes { IfOk result (ComesTo inputs.now) }
+    requires routed { IsRouted style inputs.now placement.row routing }
+    ensures comes { IfOk result (ComesTo style inputs.now) }
     ensures written { IfOk result (CanBeWritten inputs.now) }
     ensures placed { IfOk result IsOnItsLines }
     ensures extent { IfOk result (LiesInFrame inputs.now) }
 {
     inputs.show_limits();
-    match draw_routed(alloc, &inputs.cell, &placement, &routing, inputs.height()) {
+    match draw_routed(
+        alloc,
+        style,
+        &inputs.cell,
+        &placement,
+        &routing,
+        inputs.height(),
+    ) {
         Ok(drawn) => Ok(Outcome::Made {
             placement,
             log,
@@ -86,40 +95,41 @@ fn of_routed(
 fn of_row(
     alloc: Global,
     inputs: &Inputs,
+    style: Style,
     row: Arrangement,
     log: KeptLog,
 ) -> Result<Outcome, NoMemory>
     requires { IsFound inputs.now row log }
-    ensures comes { IfOk result (ComesTo inputs.now) }
+    ensures comes { IfOk result (ComesTo style inputs.now) }
     ensures written { IfOk result (CanBeWritten inputs.now) }
     ensures placed { IfOk result IsOnItsLines }
     ensures extent { IfOk result (LiesInFrame inputs.now) }
 {
     inputs.show_limits();
     let placement = place(alloc, &row)?;
-    match route(alloc, &placement, &inputs.cell.pins) {
-        Ok(routing) => of_routed(alloc, inputs, placement, log, routing),
-        Err(RouteStop::Cycle(cycle)) => Ok(Outcome::Cyclic {
+    match route_by(alloc, style.wiring, &placement, &inputs.cell.pins) {
+        Ok(routing) => of_routed(alloc, inputs, style, placement, log, routing),
+        Err(ChannelStop::Ring(ring)) => Ok(Outcome::Cyclic {
             placement,
             log,
-            cycle,
+            ring,
         }),
-        Err(RouteStop::NoMemory) => Err(NoMemory),
+        Err(ChannelStop::NoMemory) => Err(NoMemory),
     }
 }
 
 impl Outcome {
-    /// The drawing of the first least row with its log; or the log, with a cycle of the row, with a height that
+    /// The drawing of the first least row in this style with its log; or the log, with a ring of the row, with a height that
     /// is not enough, or of a search that spent its budget. A drawing can be written.
-    pub fn of(alloc: Global, inputs: &Inputs) -> Result<Outcome, NoMemory>
-        ensures comes { IfOk result (ComesTo inputs.now) }
+    pub fn of(alloc: Global, inputs: &Inputs, style: Style) -> Result<Outcome, NoMemory>
+        ensures comes { IfOk result (ComesTo style inputs.now) }
         ensures written { IfOk result (CanBeWritten inputs.now) }
         // the row stands on its lines
         ensures placed { IfOk result IsOnItsLines }
         ensures extent { IfOk result (LiesInFrame inputs.now) }
     {
         match Planned::of(alloc, inputs)? {
-            Planned::Found { row, log } => of_row(alloc, inputs, row, log),
+            Planned::Found { row, log } => of_row(alloc, inputs, style, row, log),
             Planned::Unfinished { log, proved } => Ok(Outcome::Unfinished { log, proved }),
         }
     }

@@ -7,11 +7,11 @@ pub draw_routed-requires-clause-row : goal.draw_routed-requires-clause-row
 draw_routed-requires-clause-row c = placed_row c.args.inputs.now (inputs_of c.inputs.inside.tech c.inputs.inside.cell c.inputs.inside.fingers) c.args.placement.row c.args.log c.args.placement c.inputs.view_is c.show_limits.ensures c.requires.found c.requires.placed
 
 pub draw_routed-requires-clause-routing : goal.draw_routed-requires-clause-routing
-draw_routed-requires-clause-routing c = placed_legal c.args.inputs.now (inputs_of c.inputs.inside.tech c.inputs.inside.cell c.inputs.inside.fingers) c.args.placement.row c.args.placement c.args.routing c.inputs.view_is c.requires.placed c.requires.routed
+draw_routed-requires-clause-routing c = placed_legal c.args.style c.args.inputs.now (inputs_of c.inputs.inside.tech c.inputs.inside.cell c.inputs.inside.fingers) c.args.placement.row c.args.placement c.args.routing c.inputs.view_is c.requires.placed c.requires.routed
 
 pub returns-in-Ok-clause-comes : goal.returns-in-Ok-clause-comes
 returns-in-Ok-clause-comes c =
-    made_so c.args.inputs.now (inputs_of c.inputs.inside.tech c.inputs.inside.cell c.inputs.inside.fingers) c.args.log c.args.placement c.args.routing c.in-Ok.drawn c.height.result
+    made_so c.args.style.wiring c.args.style.taps c.args.inputs.now (inputs_of c.inputs.inside.tech c.inputs.inside.cell c.inputs.inside.fingers) c.args.log c.args.placement c.args.routing c.in-Ok.drawn c.height.result
     c.inputs.view_is c.requires.placed c.height.ensures.is c.show_limits.ensures c.requires.found c.requires.places c.requires.routed
     (record {
       least = c.in-Ok.ensures.lines;
