@@ -39,7 +39,7 @@ pub record AreLeastLines (placement : Placement) (pins : Pins) (routing : Routin
   pub least : (other : List ℕ) → AreAllowed placement pins (stretches_of routing.trunks) other
       → (line : ℕ) → line ≤ 2 * length placement.units → x_of xs line ≤ x_of other line
 
--- its channel, routed; nothing stands above itself in a ring
+-- its channel, routed; no nets stand above each other in a ring
 pub record IsRouted (style : Style) (inputs : Inputs) (row : List Column) (routing : Routing) : Type 0 where
   pub acyclic : HasNoRing style.wiring (placement_of row) inputs.cell.pins
   pub legal : AreLegal style.wiring (placement_of row) inputs.cell.pins routing
