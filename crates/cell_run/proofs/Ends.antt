@@ -16,7 +16,7 @@ use Rattle.cell_run.specs.End.{says}
 use Rattle.cell_run.specs.Ends.{CallsFor, EndsTo, KeepsReadsOf, MayEnd, is_among, outside_of, refusal_status, refused, settled_of}
 use Rattle.cell_run.specs.Extract.{ExtractsTo}
 use Rattle.cell_run.specs.Gather.{gathered, read_by}
-use Rattle.cell_make.specs.Inputs.{Inputs}
+use Rattle.cell_inputs.specs.Inputs.{Inputs}
 use Rattle.cell_run.specs.Headline.{IsMake}
 use Rattle.cell_run.specs.Plan.{PlansTo, Planned, Unfinished}
 use Rattle.cell_run.specs.Reading.{Comes, MayCome}

@@ -14,7 +14,7 @@ use Rattle.cell_run.specs.declared.refusal.Refusal.TheVariants.{Words, Tech, Spi
 use Rattle.cell_run.specs.declared.status.Status.TheVariants as status
 use Rattle.cell_run.specs.Ends.{refusal_status}
 use Rattle.cell_run.specs.Gather.{extracting_over, gathered, input_files, inputs_from, read_by, tech_files, technology_from}
-use Rattle.cell_make.specs.Inputs.{inputs_of}
+use Rattle.cell_inputs.specs.Inputs.{inputs_of}
 use Rattle.cell_run.specs.Inputs.{inputs_in}
 use Rattle.cell_run.specs.Refusals.{as_refusal}
 use Rattle.cell_run.specs.Sources.{Source, TechFile, SpiceFile, LogFile, GdsFile}

@@ -14,7 +14,7 @@ use Rattle.cell_run.specs.Check.{ChecksTo}
 use Rattle.cell_run.specs.Ends.{KeepsReadsOf, MayEnd, WorksTo, refused as refusal_end}
 use Rattle.cell_run.specs.Extract.{ExtractsTo}
 use Rattle.cell_run.specs.Gather.{checking_over, gathered}
-use Rattle.cell_make.specs.Inputs.{Inputs}
+use Rattle.cell_inputs.specs.Inputs.{Inputs}
 use Rattle.cell_run.specs.Kept.{AreKept, IsKept, MayKeep}
 use Rattle.cell_run.specs.LogRead.{AreBegun, AreBehind, AreBehindAll}
 use Rattle.cell_run.specs.Make.{MakesTo}

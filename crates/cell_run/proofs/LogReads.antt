@@ -29,8 +29,8 @@ use Rattle.cell_run.specs.declared.check.CheckAnswer.{CheckAnswer}
 use Rattle.cell_run.specs.declared.check.CheckAnswer.TheVariants.{Accepted}
 use Rattle.cell_run.specs.declared.end.End.{End}
 use Rattle.cell_run.specs.Check.{Checks, ChecksTo, check_end, misread_answer, rejected_answer}
-use Rattle.cell_make.specs.Inputs.{AreInputs, Inputs}
-use Rattle.cell_make.proofs.Names.{log_name}
+use Rattle.cell_inputs.specs.Inputs.{AreInputs, Inputs}
+use Rattle.cell_inputs.proofs.Names.{log_name}
 use Rattle.cell_run.specs.LogRead.{AreBegun, AreBehind, AreBehindAll, ForSeenLog, HasSeenLog, HaveRoom, IsBehindAll, no_log, with_items}
 use Rattle.cell_run.proofs.Checked.{accepted, misread_checks, rejected_checks}
 use Rattle.cell_run.proofs.LogItems.{log_again}

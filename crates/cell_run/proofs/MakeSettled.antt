@@ -14,7 +14,7 @@ use Rattle.cell_run.specs.Deliver.{Says, TellsWhole}
 use Rattle.cell_run.specs.Ends.{CallsFor, EndsTo, IsOfOutside, refusal_status}
 use Rattle.cell_run.specs.Gather.{gathered}
 use Rattle.cell_run.specs.Headline.{IsCyclicCell, IsMadeCell, IsMake, IsSpentSearch, IsTallCell}
-use Rattle.cell_make.specs.Inputs.{Inputs}
+use Rattle.cell_inputs.specs.Inputs.{Inputs}
 use Rattle.cell_make.specs.Making.{abstract_of, drawing_in, library_of}
 use Rattle.cell_make.specs.Making as made
 use Rattle.cell_run.specs.Make.{MakesTo}

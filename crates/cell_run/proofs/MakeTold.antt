@@ -15,7 +15,7 @@ use Rattle.cell_run.specs.Calm.{IsCalm}
 use Rattle.cell_run.specs.Deliver.{Says}
 use Rattle.cell_run.specs.Ends.{EndsTo}
 use Rattle.cell_run.specs.Headline.{CanBeDrawn, FromInputs, HasCycle, IsCyclicCell, IsMadeCell, IsOrShort, IsSpentSearch, IsTallCell, IsTooHigh, OfFirstLeast, WhereMakeEnds}
-use Rattle.cell_make.specs.Inputs.{Inputs}
+use Rattle.cell_inputs.specs.Inputs.{Inputs}
 use Rattle.cell_make.specs.Making as made
 use Rattle.cell_make.specs.Searched.{IsUnfinished}
 use Rattle.cell_run.specs.Make.{MakesTo}

@@ -9,7 +9,7 @@ use Rattle.channel_route.specs.declared.routing.Routing.{Routing}
 use Rattle.cell_draw.specs.declared.drawing.Drawing.{Drawing}
 use Rattle.cell_make.specs.declared.drawn.Drawn.{Drawn}
 use Rattle.cell_make.specs.declared.outcome.Outcome.{Outcome}
-use Rattle.cell_make.specs.Inputs.{Inputs, unit_nm}
+use Rattle.cell_inputs.specs.Inputs.{Inputs, unit_nm}
 use Rattle.cell_make.specs.Making.{ComesTo, Made, Cyclic, answer_of, drawing_in}
 use Rattle.cell_run.specs.declared.end.End.{End}
 use Rattle.cell_run.specs.Make.{IsCycleEnd, IsMadeEnd, IsMakeEnd, MakesTo}

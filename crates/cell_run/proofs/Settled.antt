@@ -11,7 +11,7 @@ use Rattle.cell_run.specs.Bench.{BenchesTo}
 use Rattle.cell_run.specs.Check.{ChecksTo}
 use Rattle.cell_run.specs.Ends.{EndsTo, is_among, refused, settled_of}
 use Rattle.cell_run.specs.Extract.{ExtractsTo}
-use Rattle.cell_make.specs.Inputs.{Inputs}
+use Rattle.cell_inputs.specs.Inputs.{Inputs}
 use Rattle.cell_run.specs.Make.{MakesTo}
 use Rattle.cell_make.specs.Making as made
 use Rattle.cell_run.specs.Plan.{PlansTo, Planned, Unfinished}

@@ -10,7 +10,7 @@ use Rattle.cell_run.specs.declared.end.Output.{Output}
 use Rattle.cell_run.specs.Deliver.{MakesAll}
 use Rattle.cell_run.specs.Ends.{EndsTo}
 use Rattle.cell_run.specs.Headline.{MakesNone}
-use Rattle.cell_make.specs.Inputs.{Inputs}
+use Rattle.cell_inputs.specs.Inputs.{Inputs}
 use Rattle.cell_make.specs.Making as made
 use Rattle.cell_run.specs.Make.{IsMakeEnd, MakesTo}
 use Rattle.cell_run.specs.Words.{Form}

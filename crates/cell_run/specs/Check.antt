@@ -25,7 +25,7 @@ use Rattle.cell_run.specs.declared.status.Status.TheVariants as status
 use Rattle.cell_run.specs.End.{says}
 use Rattle.cell_run.specs.Faults.{fault_line, log_fault, check_fault}
 use Rattle.cell_run.specs.Gather.{gathered}
-use Rattle.cell_make.specs.Inputs.{Inputs}
+use Rattle.cell_inputs.specs.Inputs.{Inputs}
 use Rattle.cell_run.specs.Reading.{called}
 use Rattle.cell_run.specs.Report.{checked_text}
 use Rattle.cell_run.specs.Words as words

@@ -6,7 +6,7 @@ use Rattle.cell_run.specs.declared.refusal.Refusal.TheVariants.{Words, Tech}
 use Rattle.cell_num.specs.Names.{lowered}
 use Rattle.tech_file.specs.Technology.{Technology, plain}
 use Rattle.tech_file.specs.Reading.{technology}
-use Rattle.cell_make.specs.Inputs.{Inputs}
+use Rattle.cell_inputs.specs.Inputs.{Inputs}
 use Rattle.cell_run.specs.Inputs.{inputs_in}
 use Rattle.cell_run.specs.Refusals.{as_refusal}
 use Rattle.cell_run.specs.Reading.{Reading, Ends, bytes_of, ◌>>=◌}

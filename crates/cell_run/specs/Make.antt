@@ -10,7 +10,7 @@ use Rattle.cell_draw.specs.Frame.{needed_of}
 use Rattle.gds_write.specs.Written.{written}
 use Rattle.lef_write.specs.Lef.{cell_text}
 use Rattle.spice_net.specs.declared.subckt.Subckt.{Subckt}
-use Rattle.cell_make.specs.Inputs.{Inputs, unit_nm}
+use Rattle.cell_inputs.specs.Inputs.{Inputs, unit_nm}
 use Rattle.cell_make.specs.Making.{MakeAnswer, Made, Cyclic, Tall, Unfinished, Makes, drawing_in}
 use Rattle.cell_run.specs.declared.end.End.{End}
 use Rattle.cell_run.specs.declared.end.Output.{Output}

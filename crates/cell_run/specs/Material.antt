@@ -1,7 +1,7 @@
 -- What a command works on.
 use Rattle.std.specs.Prelude.{ℕ, List}
 use Rattle.cell_run.specs.declared.gather.GdsCell.{GdsCell}
-use Rattle.cell_make.specs.Inputs.{Inputs}
+use Rattle.cell_inputs.specs.Inputs.{Inputs}
 
 pub data Material : Type 0 where
   Planning : (inputs : Inputs) → Material

@@ -13,7 +13,7 @@ use Rattle.cell_run.specs.Material.{Planning}
 use Rattle.cell_run.specs.declared.status.Status.TheVariants as status
 use Rattle.cell_run.specs.End.{says}
 use Rattle.cell_run.specs.Gather.{gathered}
-use Rattle.cell_make.specs.Inputs.{Inputs}
+use Rattle.cell_inputs.specs.Inputs.{Inputs}
 use Rattle.cell_make.specs.Searched.{IsCertified, IsUnfinished}
 use Rattle.cell_run.specs.Reading.{called}
 use Rattle.cell_report.specs.Rows.{plan_text}

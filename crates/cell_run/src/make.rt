@@ -62,7 +62,7 @@ fn unfinished(
 }
 
 // Tells what making a cell came to.
-#[tactic(auto, using(cell_make::proofs::Names::log_name))]
+#[tactic(auto, using(cell_inputs::proofs::Names::log_name))]
 fn end_of(alloc: Global, inputs: &Inputs, stem: &Stem, outcome: Outcome) -> Result<End, NoMemory>
     requires comes { ComesTo inputs.now outcome }
     requires written { CanBeWritten inputs.now outcome }
@@ -73,7 +73,7 @@ fn end_of(alloc: Global, inputs: &Inputs, stem: &Stem, outcome: Outcome) -> Resu
     let unit_nm = inputs.unit_nm();
     match outcome {
         Outcome::Made {
-            row,
+            placement,
             log,
             routing,
             drawn,
@@ -81,7 +81,7 @@ fn end_of(alloc: Global, inputs: &Inputs, stem: &Stem, outcome: Outcome) -> Resu
             alloc,
             cell,
             stem,
-            &row,
+            &placement.row,
             log,
             &routing,
             &drawn.drawing,

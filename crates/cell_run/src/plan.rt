@@ -37,7 +37,7 @@ fn unfinished(alloc: Global, cell: &Subckt, log: KeptLog, proved: u32) -> Result
 }
 
 /// The first least row of the inputs, or the log of a search that spent its budget.
-#[tactic(auto, using(cell_make::proofs::Names::log_name))]
+#[tactic(auto, using(cell_inputs::proofs::Names::log_name))]
 pub fn plan(alloc: Global, inputs: &Inputs) -> Result<End, NoMemory>
     ensures { IfOk result (PlansTo inputs.now) }
 {

@@ -1,6 +1,6 @@
 use Rattle.std.proofs.Common.{Ok, inl, refl}
 use Rattle.cell_run.specs.Gather.{inputs_from, making}
-use Rattle.cell_make.specs.Inputs.{Inputs}
+use Rattle.cell_inputs.specs.Inputs.{Inputs}
 use Rattle.cell_run.specs.Material.{Making}
 use Rattle.cell_run.specs.Reading.{Ends}
 use Rattle.cell_run.proofs.Desks.{only_refl}

@@ -1,7 +1,7 @@
 use Rattle.std.proofs.Common.{ℕ, ◌≡◌, IsTrue, List, ap, sym, subst, ◌∙◌}
 use Rattle.std.proofs.lemmas.Result.{IfOk-weaker}
 use Rattle.cell_num.specs.Names.{is_cell, lowered}
-use Rattle.cell_make.proofs.Names.{lower_name}
+use Rattle.cell_inputs.proofs.Names.{lower_name}
 use Rattle.cell_run.specs.Words.{CellAsked}
 use Rattle.cell_run.proofs.cell.CellAsked.name.Goals as goal
 
