@@ -6,6 +6,8 @@ ghost use Rattle.cell_inputs.specs.Style.{plain_style};
 pub enum Wiring {
     /// A net that needs a trunk has one, from its first line to its last.
     Straight,
+    /// A trunk may change its track at each node line of its net between its first line and its last.
+    Doglegs,
 }
 
 /// Whether a cell has taps of its well and of the substrate.

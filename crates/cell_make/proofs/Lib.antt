@@ -3,3 +3,4 @@ pub mod Extent
 pub mod LeastLines
 pub mod Makes
 pub mod ReadBack
+mod Wirings

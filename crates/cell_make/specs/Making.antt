@@ -82,7 +82,7 @@ pub record IsMade (style : Style) (inputs : Inputs) (row : List Column) (log : L
       ExtractsTo (deck_of style.taps) inputs.cell.nets inputs.fingers (final_in style inputs row routing xs).shapes
   pub shows_row : ShowsRow (deck_of style.taps) inputs.cell.nets row (final_in style inputs row routing xs).shapes
   pub shows_routing :
-      ShowsWiring style.wiring inputs.cell.nets inputs.cell.pins (placement_of row)
+      ShowsWiring style.wiring inputs.cell.nets inputs.cell.pins (placement_of row) xs
       (final_in style inputs row routing xs).shapes routing
   pub ports : (n : ℕ) → n < inputs.cell.pins.pins
       → HasPinPort style.wiring inputs.cell.nets (ports_in inputs routing (drawing_in inputs row routing xs))

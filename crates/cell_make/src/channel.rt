@@ -7,6 +7,7 @@ ghost use Rattle.cell_make.specs.Style.{AreLegal, AreTight, HasNoRing};
 use cell_inputs::Wiring;
 use cell_num::Pins;
 use channel_route::{Ring, RouteStop, Routing, route};
+use dogleg_route::{PieceStop, route_pieces};
 use row_place::Placement;
 use std::alloc::Global;
 
@@ -18,6 +19,7 @@ pub enum ChannelStop {
 }
 
 /// Routes the channel of a placement by this wiring.
+#[tactic(auto, using(crate::proofs::Wirings::pieces_legal, crate::proofs::Wirings::pieces_tight, crate::proofs::Wirings::piece_ring))]
 pub fn route_by(
     alloc: Global,
     wiring: Wiring,
@@ -36,6 +38,14 @@ pub fn route_by(
             Ok(routing) => Ok(routing),
             Err(RouteStop::Cycle(cycle)) => Err(ChannelStop::Ring(Ring::OfNets(cycle))),
             Err(RouteStop::NoMemory) => Err(ChannelStop::NoMemory),
+        },
+        Wiring::Doglegs => match route_pieces(alloc, placement, pins) {
+            Ok(routing) => Ok(Routing {
+                tracks: routing.tracks,
+                trunks: routing.pieces,
+            }),
+            Err(PieceStop::Cycle(cycle)) => Err(ChannelStop::Ring(Ring::OfPieces(cycle))),
+            Err(PieceStop::NoMemory) => Err(ChannelStop::NoMemory),
         },
     }
 }

@@ -4,10 +4,12 @@
 mod cycle;
 mod names;
 mod netlist;
+mod ring;
 mod row;
 mod violations;
 
-pub use cycle::{cycle_text, ring_text};
+pub use cycle::cycle_text;
 pub use netlist::netlist_text;
+pub use ring::ring_text;
 pub use row::{plan_text, put_row};
 pub use violations::violation_text;

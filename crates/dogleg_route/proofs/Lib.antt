@@ -1,7 +1,7 @@
 mod Cutting
 mod Cycles
 mod Finds
-mod FirstLabels
+pub mod FirstLabels
 mod Holding
 mod Marks
 mod NodeLines
@@ -16,4 +16,4 @@ mod PieceTelling
 mod PieceWalks
 mod Sorting
 mod StuckPieces
-mod Wired
+pub mod Wired
