@@ -14,7 +14,7 @@ use Rattle.check_run.specs.Check.{ChecksTo}
 use Rattle.call_work.specs.Ends.{KeepsReadsOf, MayEnd, WorksTo, refused as refusal_end}
 use Rattle.layout_run.specs.Extract.{ExtractsTo}
 use Rattle.call_gather.specs.Gather.{gathered}
-use Rattle.cell_make.specs.Inputs.{Inputs}
+use Rattle.cell_inputs.specs.Inputs.{Inputs}
 use Rattle.call_gather.specs.Kept.{AreKept, IsKept, MayKeep}
 use Rattle.check_run.specs.LogRead.{AreBehindAll}
 use Rattle.make_run.specs.Make.{MakesTo}

@@ -17,7 +17,7 @@ use Rattle.call_end.specs.End.{says}
 use Rattle.call_work.specs.Ends.{CallsFor, EndsTo, KeepsReadsOf, MayEnd, WorksTo, file_statuses, is_among, outside_of, refusal_status, refused, settled_of}
 use Rattle.layout_run.specs.Extract.{ExtractsTo}
 use Rattle.call_gather.specs.Gather.{gathered, read_by}
-use Rattle.cell_make.specs.Inputs.{Inputs}
+use Rattle.cell_inputs.specs.Inputs.{Inputs}
 use Rattle.cell_make.specs.Making as made
 use Rattle.make_run.specs.Make.{MakesTo}
 use Rattle.cell_run.specs.Headline.{IsMake, fileless_statuses}
@@ -55,7 +55,7 @@ bench_alone number end (tally, h, is) = rw is refl
 
 make_status : (inputs : Inputs) (out : List ℕ) (end : End) → MakesTo inputs out end → is_among (status.Done ∷ status.Cycle ∷ status.Unfinished ∷ status.TooTall ∷ []) end.status ≡ true
 make_status inputs out end (made.Made row log routing xs, h, is) = rw is.status refl
-make_status inputs out end (made.Cyclic row log cycle, h, is) = rw is.status refl
+make_status inputs out end (made.Cyclic row log ring, h, is) = rw is.status refl
 make_status inputs out end (made.Tall row log routing, h, is) = rw is.status refl
 make_status inputs out end (made.Unfinished proved log, h, is) = rw is.status refl
 

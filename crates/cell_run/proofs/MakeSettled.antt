@@ -4,13 +4,14 @@ use Rattle.cell_io.specs.Desk.{View, Both}
 use Rattle.bound_log.specs.Text.{log_text}
 use Rattle.row_place.specs.Places.{placement_of}
 use Rattle.channel_route.proofs.Stuck.{cycle_is}
+use Rattle.channel_route.specs.declared.ring.Ring.TheVariants.{OfNets}
 use Rattle.call_end.specs.declared.end.End.{End}
 use Rattle.call_end.specs.declared.status.Status.{Status}
 use Rattle.call_end.specs.declared.status.Status.TheVariants as status
 use Rattle.call_end.specs.Deliver.{Says, TellsWhole}
 use Rattle.cell_run.specs.Headline.{IsCyclicCell, IsMadeCell, IsSpentSearch, IsTallCell}
 use Rattle.call_work.proofs.Statuses.{differ}
-use Rattle.cell_make.specs.Inputs.{Inputs}
+use Rattle.cell_inputs.specs.Inputs.{Inputs}
 use Rattle.cell_make.specs.Making.{abstract_of, drawing_in, library_of}
 use Rattle.cell_make.specs.Making as made
 use Rattle.make_run.specs.Make.{MakesTo}
@@ -46,7 +47,7 @@ drawn_so inputs out end answer old new (made.Made row log routing xs, h, is) don
   files = cell_made out (log_text inputs.cell.name log) (library_of inputs (drawing_in inputs row routing xs)) (abstract_of inputs routing (drawing_in inputs row routing xs)) end.files old.made new.made is.files whole.1;
   says = said_so _ end.report old.said new.said is.report whole.2;
 }
-drawn_so inputs out end answer old new (made.Cyclic row log cycle, h, is) done whole =
+drawn_so inputs out end answer old new (made.Cyclic row log (OfNets cycle), h, is) done whole =
     absurd (differ status.Done status.Cycle refl (sym done ∙ (whole.0 ∙ is.status)))
 drawn_so inputs out end answer old new (made.Tall row log routing, h, is) done whole =
     absurd (differ status.Done status.TooTall refl (sym done ∙ (whole.0 ∙ is.status)))
@@ -54,7 +55,7 @@ drawn_so inputs out end answer old new (made.Unfinished proved log, h, is) done 
     absurd (differ status.Done status.Unfinished refl (sym done ∙ (whole.0 ∙ is.status)))
 
 pub cyclic_so : (inputs : Inputs) (out : List ℕ) (end : End) (answer : Status) (old new : View) → MakesTo inputs out end → answer ≡ status.Cycle → TellsWhole end answer old new → IsCyclicCell inputs out old new
-cyclic_so inputs out end answer old new (made.Cyclic row log cycle, h, is) done whole = record {
+cyclic_so inputs out end answer old new (made.Cyclic row log (OfNets cycle), h, is) done whole = record {
   row = row;
   log = log;
   cycle = cycle;
@@ -88,7 +89,7 @@ tall_so inputs out end answer old new (made.Tall row log routing, h, is) done wh
 }
 tall_so inputs out end answer old new (made.Made row log routing xs, h, is) done whole =
     absurd (differ status.Done status.TooTall refl (sym (sym done ∙ (whole.0 ∙ is.status))))
-tall_so inputs out end answer old new (made.Cyclic row log cycle, h, is) done whole =
+tall_so inputs out end answer old new (made.Cyclic row log (OfNets cycle), h, is) done whole =
     absurd (differ status.Cycle status.TooTall refl (sym (sym done ∙ (whole.0 ∙ is.status))))
 tall_so inputs out end answer old new (made.Unfinished proved log, h, is) done whole =
     absurd (differ status.TooTall status.Unfinished refl (sym done ∙ (whole.0 ∙ is.status)))
@@ -103,7 +104,7 @@ spent_so inputs out end answer old new (made.Unfinished proved log, h, is) done 
 }
 spent_so inputs out end answer old new (made.Made row log routing xs, h, is) done whole =
     absurd (differ status.Done status.Unfinished refl (sym (sym done ∙ (whole.0 ∙ is.status))))
-spent_so inputs out end answer old new (made.Cyclic row log cycle, h, is) done whole =
+spent_so inputs out end answer old new (made.Cyclic row log (OfNets cycle), h, is) done whole =
     absurd (differ status.Cycle status.Unfinished refl (sym (sym done ∙ (whole.0 ∙ is.status))))
 spent_so inputs out end answer old new (made.Tall row log routing, h, is) done whole =
     absurd (differ status.TooTall status.Unfinished refl (sym (sym done ∙ (whole.0 ∙ is.status))))

@@ -6,6 +6,7 @@ use Rattle.bound_log.specs.declared.log.Log.{Log}
 use Rattle.row_search.specs.Enough.{enough}
 use Rattle.row_place.specs.Places.{placement_of}
 use Rattle.channel_route.proofs.Stuck.{cycle_is}
+use Rattle.channel_route.specs.declared.ring.Ring.TheVariants.{OfNets}
 use Rattle.call_end.specs.declared.end.End.{End}
 use Rattle.call_gather.specs.Kinds.{Making}
 use Rattle.call_gather.specs.Material.{Material}
@@ -16,7 +17,7 @@ use Rattle.cell_run.specs.Calm.{IsCalm}
 use Rattle.call_end.specs.Deliver.{Says}
 use Rattle.call_work.specs.Ends.{EndsTo}
 use Rattle.cell_run.specs.Headline.{CanBeDrawn, FromInputs, HasCycle, IsCyclicCell, IsMadeCell, IsOrShort, IsSpentSearch, IsTallCell, IsTooHigh, OfFirstLeast, WhereMakeEnds}
-use Rattle.cell_make.specs.Inputs.{Inputs}
+use Rattle.cell_inputs.specs.Inputs.{Inputs}
 use Rattle.cell_make.specs.Making as made
 use Rattle.cell_make.specs.Searched.{IsUnfinished}
 use Rattle.make_run.specs.Make.{MakesTo}
@@ -58,19 +59,19 @@ spends_less inputs log proved much (version, (k, are, some, spent)) = absurd (om
 
 drawn_where : (inputs : Inputs) (out : List ℕ) (end : End) → OfFirstLeast CanBeDrawn inputs out → MakesTo inputs out end → end.status ≡ status.Done
 drawn_where inputs out end (much, can) (made.Made row log routing xs, h, is) = is.status
-drawn_where inputs out end (much, can) (made.Cyclic row log cycle, h, is) = absurd ((can row h.0.first).acyclic cycle (cycle_is (placement_of row) inputs.cell.pins cycle h.1))
+drawn_where inputs out end (much, can) (made.Cyclic row log (OfNets cycle), h, is) = absurd ((can row h.0.first).acyclic cycle (cycle_is (placement_of row) inputs.cell.pins cycle h.1))
 drawn_where inputs out end (much, can) (made.Tall row log routing, h, is) = absurd ((can row h.0.first).fits routing h.1 h.2)
 drawn_where inputs out end (much, can) (made.Unfinished proved log, h, is) = absurd (spends_less inputs log proved much h)
 
 cyclic_where : (inputs : Inputs) (out : List ℕ) (end : End) → OfFirstLeast HasCycle inputs out → MakesTo inputs out end → end.status ≡ status.Cycle
 cyclic_where inputs out end (much, has) (made.Made row log routing xs, h, is) = absurd (h.routed.acyclic (has row h.found.first).0 (has row h.found.first).1)
-cyclic_where inputs out end (much, has) (made.Cyclic row log cycle, h, is) = is.status
+cyclic_where inputs out end (much, has) (made.Cyclic row log (OfNets cycle), h, is) = is.status
 cyclic_where inputs out end (much, has) (made.Tall row log routing, h, is) = absurd (h.1.acyclic (has row h.0.first).0 (has row h.0.first).1)
 cyclic_where inputs out end (much, has) (made.Unfinished proved log, h, is) = absurd (spends_less inputs log proved much h)
 
 tall_where : (inputs : Inputs) (out : List ℕ) (end : End) → OfFirstLeast IsTooHigh inputs out → MakesTo inputs out end → end.status ≡ status.TooTall
 tall_where inputs out end (much, high) (made.Made row log routing xs, h, is) = absurd (h.fits ((high row h.found.first).tall routing h.routed))
-tall_where inputs out end (much, high) (made.Cyclic row log cycle, h, is) = absurd ((high row h.0.first).acyclic cycle (cycle_is (placement_of row) inputs.cell.pins cycle h.1))
+tall_where inputs out end (much, high) (made.Cyclic row log (OfNets cycle), h, is) = absurd ((high row h.0.first).acyclic cycle (cycle_is (placement_of row) inputs.cell.pins cycle h.1))
 tall_where inputs out end (much, high) (made.Tall row log routing, h, is) = is.status
 tall_where inputs out end (much, high) (made.Unfinished proved log, h, is) = absurd (spends_less inputs log proved much h)
 
