@@ -1,6 +1,5 @@
-ghost use Rattle.std.specs.Prelude.{◌≡◌, ◌≤◌, ℕ, List, All, length};
+ghost use Rattle.std.specs.Prelude.{◌≡◌, ◌≤◌, ℕ, All, length};
 ghost use Rattle.gds_write.specs.Written.{padded, written};
-ghost use Rattle.library_size.specs.Size.{label_size, library_bytes, label_names};
 ghost use Rattle.bench_run.specs.Size.{IsShort, IsSmall, labels_size};
 
 use box_geom::{Label, Shapes};

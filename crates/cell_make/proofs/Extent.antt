@@ -12,7 +12,6 @@ use Rattle.row_place.specs.Units.{units_of}
 use Rattle.channel_route.specs.declared.routing.Routing.{Routing}
 use Rattle.row_compact.specs.Allowed.{AreAllowed, Stretch, stretches_of}
 use Rattle.row_compact.specs.Solution.{x_of}
-use Rattle.cell_draw.specs.declared.drawing.Drawing.{Drawing}
 use Rattle.cell_draw.specs.Bounds.{AreWithin}
 use Rattle.cell_draw.specs.Frame.{frame_of}
 use Rattle.cell_draw.specs.Framed.{IsFramed}
@@ -21,7 +20,7 @@ use Rattle.cell_inputs.specs.Inputs.{AreInputs, Inputs}
 use Rattle.cell_make.specs.declared.drawn.Drawn.{Drawn}
 use Rattle.cell_make.specs.declared.drawn.TheConstants.{MOST_WIDTH}
 use Rattle.cell_make.specs.declared.outcome.Outcome.TheVariants as outcome
-use Rattle.cell_make.specs.Extent.{HasExtent, IsOnItsLines, LiesInFrame, frame_in}
+use Rattle.cell_make.specs.Extent.{LiesInFrame}
 use Rattle.cell_make.specs.Making.{AreLeastLines}
 use Rattle.cell_make.specs.Searched.{IsFound}
 

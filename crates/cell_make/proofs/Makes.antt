@@ -1,5 +1,5 @@
 -- What making a cell comes to, from what its steps answered.
-use Rattle.std.proofs.Common.{ℕ, ◌≡◌, ◌<◌, ◌≤◌, ◌/◌, ◌*◌, ◌%◌, List, All, Contains, length, sym, subst, arith, ◌∙◌}
+use Rattle.std.proofs.Common.{ℕ, ◌≡◌, ◌<◌, ◌≤◌, ◌/◌, ◌*◌, ◌%◌, List, All, Contains, length, sym, subst, arith}
 use Rattle.std.proofs.Math.Nat.{div-add-mod, mod-lt}
 use Rattle.cell_num.specs.declared.finger.Fingers.{Fingers}
 use Rattle.cell_num.specs.declared.net.Pins.{Pins}
@@ -19,13 +19,10 @@ use Rattle.channel_route.specs.declared.routing.Routing.{Routing}
 use Rattle.scmos_rules.specs.Rules.{Obeys}
 use Rattle.scmos_rules.specs.declared.rules.Deck.TheVariants.{Plain}
 use Rattle.cell_draw.specs.declared.drawing.Drawing.{Drawing}
-use Rattle.cell_draw.specs.declared.drawing.DrawFault.{DrawFault}
-use Rattle.cell_draw.specs.declared.drawing.DrawFault.TheVariants.{TooTall}
 use Rattle.cell_draw.specs.Drawings.{drawn_of}
 use Rattle.cell_draw.specs.Bounds.{AreWithin}
 use Rattle.cell_draw.specs.Extracted.{ExtractsTo, ExtractsToRow}
-use Rattle.cell_draw.specs.Faults.{IsCause}
-use Rattle.cell_draw.specs.Frame.{needed_of, IsTooTall}
+use Rattle.cell_draw.specs.Frame.{IsTooTall}
 use Rattle.cell_draw.specs.Shown.{ShowsColumns, ShowsRouting, ShowsRow}
 use Rattle.cell_draw.specs.Sound.{IsSoundRow}
 use Rattle.lef_write.specs.Drawn.{AreAllMetal, HasPort, IsSized}
@@ -45,7 +42,7 @@ use Rattle.cell_inputs.specs.declared.style.Wiring.TheVariants.{Straight}
 use Rattle.cell_inputs.specs.Inputs.{Inputs, AreInputs, unit_nm}
 use Rattle.cell_inputs.specs.Style.{plain_style}
 use Rattle.cell_make.specs.Making.{AreLeastLines, ComesTo, IsMade, IsRouted, drawing_in, library_of, ports_in}
-use Rattle.cell_make.specs.Searched.{IsFound, IsUnfinished}
+use Rattle.cell_make.specs.Searched.{IsFound}
 use Rattle.cell_make.specs.Style.{AreLegal, AreTight, HasNoRing, IsToldRing, ShowsWiring, deck_of, final}
 use Rattle.cell_make.proofs.Alone.{written_alone}
 use Rattle.cell_make.proofs.ReadBack.{readable}
@@ -193,17 +190,6 @@ pub made_so : (wiring : Wiring) (taps : Taps) (inputs inside : Inputs) (log : Lo
 made_so Straight Without inputs inside log placement routing drawn height same is high are found placed routed h readable =
     made_plain inputs inside log placement routing drawn height same is high are found placed routed h readable
 
-needed_is : (needed given least height : ℕ) → ◌≡◌ {A = DrawFault} (TooTall needed given) (TooTall least height) → (needed ≡ least) × (given ≡ height)
-needed_is needed given least height e = (cc, cc)
-
-pub tall_so : (style : Style) (inputs : Inputs) (log : Log) (placement : Placement) (routing : Routing) (height needed given : ℕ) → height ≡ inputs.tech.height → IsFound inputs placement.row log → IsRouted style inputs placement.row routing → IsCause placement.row routing.tracks height (TooTall needed given) → ComesTo style inputs (outcome.Tall placement log routing needed given)
-tall_so style inputs log placement routing height needed given high found routed cause =
-    let (least, asked) = needed_is needed given (needed_of placement.row routing.tracks) height cause.1 in
-    ((found, routed, subst (λ h. IsTooTall placement.row routing.tracks h) high cause.0), (least, asked ∙ high))
-
 pub cyclic_so : (style : Style) (inputs inside : Inputs) (row : List Column) (log : Log) (placement : Placement) (ring : Ring) → inside ≡ inputs → placement ≡ placement_of row → IsFound inputs row log → IsToldRing style.wiring placement inside.cell.pins ring → ComesTo style inputs (outcome.Cyclic placement log ring)
 cyclic_so style inputs inside row log placement ring same is found told =
     subst (λ (p : Placement). ComesTo style inputs (outcome.Cyclic p log ring)) (sym is) ((found, told_so style inputs inside row placement ring same is told), tt)
-
-pub spent_so : (style : Style) (inputs : Inputs) (proved : ℕ) (log : Log) → IsUnfinished inputs proved log → ComesTo style inputs (outcome.Unfinished log proved)
-spent_so style inputs proved log spent = (spent, tt)

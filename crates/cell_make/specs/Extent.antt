@@ -21,8 +21,8 @@ IsOnItsLines (outcome.Cyclic placement log ring) = placement ≡ placement_of pl
 IsOnItsLines (outcome.Tall placement log routing needed given) = placement ≡ placement_of placement.row
 IsOnItsLines (outcome.Unfinished log proved) = Unit {0}
 
--- The drawing keeps to its frame, has room for a column, and is so narrow that sixteen of its kind lie side by side within
--- the coordinates of a file. No coordinate is beyond the limits of a drawing.
+-- The drawing keeps to its frame, has room for a column, and is so narrow that sixteen of its kind lie side by side
+-- within the coordinates of a file. No coordinate is beyond the limits of a drawing.
 pub record HasExtent (frame : Frame) (xs : List ℕ) (drawing : Drawing) : Type 0 where
   pub framed : IsFramed frame xs drawing
   pub least : LEAST_WIDTH ≤ drawing.width

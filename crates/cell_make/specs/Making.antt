@@ -36,9 +36,10 @@ use Rattle.cell_make.specs.Style.{AreLegal, AreTight, HasNoRing, HasPinPort, IsT
 -- A position for each line that the routed row allows, at every line at most every other such one.
 pub record AreLeastLines (placement : Placement) (pins : Pins) (routing : Routing) (xs : List ℕ) : Type 0 where
   pub allowed : AreAllowed placement pins (stretches_of routing.trunks) xs
-  pub least : (other : List ℕ) → AreAllowed placement pins (stretches_of routing.trunks) other → (line : ℕ) → line ≤ 2 * length placement.units → x_of xs line ≤ x_of other line
+  pub least : (other : List ℕ) → AreAllowed placement pins (stretches_of routing.trunks) other
+      → (line : ℕ) → line ≤ 2 * length placement.units → x_of xs line ≤ x_of other line
 
--- its channel, routed; nothing stands above itself in a ring
+-- its channel, routed; no nets stand above each other in a ring
 pub record IsRouted (style : Style) (inputs : Inputs) (row : List Column) (routing : Routing) : Type 0 where
   pub acyclic : HasNoRing style.wiring (placement_of row) inputs.cell.pins
   pub legal : AreLegal style.wiring (placement_of row) inputs.cell.pins routing
@@ -46,7 +47,8 @@ pub record IsRouted (style : Style) (inputs : Inputs) (row : List Column) (routi
 
 -- the drawing of the row and its channel
 abbrev pub drawing_in : Inputs → List Column → Routing → List ℕ → Drawing
-drawing_in inputs row routing xs = drawn_of inputs.cell.nets inputs.cell.pins (placement_of row) routing xs inputs.tech.height
+drawing_in inputs row routing xs =
+    drawn_of inputs.cell.nets inputs.cell.pins (placement_of row) routing xs inputs.tech.height
 
 -- the same as it is written
 abbrev pub final_in : Style → Inputs → List Column → Routing → List ℕ → Drawing
@@ -68,20 +70,30 @@ abstract_of inputs routing drawing = cell_text inputs.cell routing drawing (unit
 -- and lists it. Its channel is routed legally and tightly, its lines stand at the least places, and the height is
 -- enough. The shapes obey every rule, extract net by net to the fingers, and show the row and the routing; and the
 -- bytes, which have no other structure, decode with the cell's name and the technology's lambda to these shapes. Each
--- pin has a port, all other metal obstructs, and the size is that of metal1; these three are of the drawing without taps.
-pub record IsMade (style : Style) (inputs : Inputs) (row : List Column) (log : Log) (routing : Routing) (xs : List ℕ) : Type 0 where
+-- pin has a port, all other metal obstructs, and the size is that of metal1: these three without the taps.
+pub record IsMade (style : Style) (inputs : Inputs) (row : List Column) (log : Log) (routing : Routing)
+    (xs : List ℕ) : Type 0 where
   pub found : IsFound inputs row log
   pub routed : IsRouted style inputs row routing
   pub lines : AreLeastLines (placement_of row) inputs.cell.pins routing xs
   pub fits : IsTooTall row routing.tracks inputs.tech.height → ⊥
   pub obeys : Obeys (deck_of style.taps) (final_in style inputs row routing xs).shapes.rects
-  pub extracts : ExtractsTo (deck_of style.taps) inputs.cell.nets inputs.fingers (final_in style inputs row routing xs).shapes
+  pub extracts :
+      ExtractsTo (deck_of style.taps) inputs.cell.nets inputs.fingers (final_in style inputs row routing xs).shapes
   pub shows_row : ShowsRow (deck_of style.taps) inputs.cell.nets row (final_in style inputs row routing xs).shapes
-  pub shows_routing : ShowsWiring style.wiring inputs.cell.nets inputs.cell.pins (placement_of row) (final_in style inputs row routing xs).shapes routing
-  pub ports : (n : ℕ) → n < inputs.cell.pins.pins → HasPinPort style.wiring inputs.cell.nets (ports_in inputs routing (drawing_in inputs row routing xs)) (drawing_in inputs row routing xs) n
-  pub obstructs : AreAllMetal (ports_in inputs routing (drawing_in inputs row routing xs)) (drawing_in inputs row routing xs).shapes.rects
+  pub shows_routing :
+      ShowsWiring style.wiring inputs.cell.nets inputs.cell.pins (placement_of row)
+      (final_in style inputs row routing xs).shapes routing
+  pub ports : (n : ℕ) → n < inputs.cell.pins.pins
+      → HasPinPort style.wiring inputs.cell.nets (ports_in inputs routing (drawing_in inputs row routing xs))
+      (drawing_in inputs row routing xs) n
+  pub obstructs :
+      AreAllMetal (ports_in inputs routing (drawing_in inputs row routing xs))
+      (drawing_in inputs row routing xs).shapes.rects
   pub sized : IsSized (drawing_in inputs row routing xs)
-  pub decodes : Decodes (library_of inputs (final_in style inputs row routing xs)) inputs.cell.name inputs.tech.lambda_nm (final_in style inputs row routing xs).shapes
+  pub decodes :
+      Decodes (library_of inputs (final_in style inputs row routing xs)) inputs.cell.name inputs.tech.lambda_nm
+      (final_in style inputs row routing xs).shapes
   pub alone : HasOneStructure (library_of inputs (final_in style inputs row routing xs))
 
 -- ---- what it comes to
@@ -94,8 +106,10 @@ pub data MakeAnswer : Type 0 where
 
 abbrev pub Makes : Style → Inputs → MakeAnswer → Type 0
 Makes style inputs (Made row log routing xs) = IsMade style inputs row log routing xs
-Makes style inputs (Cyclic row log ring) = IsFound inputs row log × IsToldRing style.wiring (placement_of row) inputs.cell.pins ring
-Makes style inputs (Tall row log routing) = IsFound inputs row log × IsRouted style inputs row routing × IsTooTall row routing.tracks inputs.tech.height
+Makes style inputs (Cyclic row log ring) =
+    IsFound inputs row log × IsToldRing style.wiring (placement_of row) inputs.cell.pins ring
+Makes style inputs (Tall row log routing) =
+    IsFound inputs row log × IsRouted style inputs row routing × IsTooTall row routing.tracks inputs.tech.height
 Makes style inputs (Unfinished proved log) = IsUnfinished inputs proved log
 
 -- ---- as the code answers it

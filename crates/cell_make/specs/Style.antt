@@ -22,10 +22,11 @@ use Rattle.cell_inputs.specs.declared.style.Wiring.TheVariants.{Straight}
 
 -- ---- by the wiring
 
--- nothing stands above itself over others
+-- no nets stand above each other in a ring
 abbrev pub HasNoRing : Wiring → Placement → Pins → Type 0
 HasNoRing Straight placement pins = HasNoCycle placement pins
 
+-- the routing joins what it has to, and keeps the order of tracks
 abbrev pub AreLegal : Wiring → Placement → Pins → Routing → Type 0
 AreLegal Straight placement pins routing = IsLegal placement pins routing
 
@@ -33,7 +34,7 @@ AreLegal Straight placement pins routing = IsLegal placement pins routing
 abbrev pub AreTight : Wiring → Placement → Pins → Routing → Type 0
 AreTight Straight placement pins routing = IsTight placement pins routing
 
--- the ring below the first one that can't be placed
+-- the ring below the first net that can't be placed
 abbrev pub IsToldRing : Wiring → Placement → Pins → Ring → Type 0
 IsToldRing Straight placement pins (OfNets cycle) = IsTold placement pins cycle
 

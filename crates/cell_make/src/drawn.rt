@@ -26,7 +26,7 @@ use row_place::Placement;
 use spice_net::Subckt;
 use std::alloc::Global;
 
-/// A cell with a column is at least so many grid units wide: 8 before its first line, 8 between its three lines, 8 behind.
+/// A cell with a column is at least so many grid units wide: it has three lines, with 8 before, between and behind them.
 pub const LEAST_WIDTH: u32 = 32;
 
 /// A drawn cell is at most so many grid units wide. The last line stands at 127,008 or less, the side 8 behind it.

@@ -119,8 +119,8 @@ fn of_row(
 }
 
 impl Outcome {
-    /// The drawing of the first least row in this style with its log; or the log, with a ring of the row, with a height that
-    /// is not enough, or of a search that spent its budget. A drawing can be written.
+    /// The drawing of the first least row in this style, with its log; or the log, with a ring of the row, with a
+    /// height that is not enough, or of a search that spent its budget. A drawing can be written.
     pub fn of(alloc: Global, inputs: &Inputs, style: Style) -> Result<Outcome, NoMemory>
         ensures comes { IfOk result (ComesTo style inputs.now) }
         ensures written { IfOk result (CanBeWritten inputs.now) }
