@@ -11,21 +11,17 @@ use Rattle.call_read.specs.declared.refusal.Refusal.{Refusal}
 use Rattle.call_read.specs.declared.refusal.Refusal.TheVariants.{Words, Unread, Long, Tech, Spice, Fold, NoMemory}
 use Rattle.call_work.specs.Bench.{BenchesTo}
 use Rattle.check_run.specs.Check.{ChecksTo}
-use Rattle.call_work.specs.Ends.{KeepsReadsOf, MayEnd, WorksTo, refused as refusal_end}
+use Rattle.call_work.specs.Ends.{KeepsReadsOf, MayEnd, WorksFor, WorksTo, refused as refusal_end}
 use Rattle.layout_run.specs.Extract.{ExtractsTo}
 use Rattle.call_gather.specs.Gather.{gathered}
 use Rattle.cell_inputs.specs.Inputs.{Inputs}
-use Rattle.call_gather.specs.Kept.{AreKept, IsKept, MayKeep}
+use Rattle.call_gather.specs.Kept.{AreKept, MayKeep}
 use Rattle.check_run.specs.LogRead.{AreBehindAll}
 use Rattle.make_run.specs.Make.{MakesTo}
 use Rattle.call_gather.specs.Material.{Material}
 use Rattle.make_run.specs.Plan.{PlansTo}
 use Rattle.call_read.specs.Read.{KeepsReads, KeepsReadsBut}
 use Rattle.call_words.specs.Words.{Form}
-
--- an end of the work on any material that is kept so
-abbrev pub WorksFor : Own → End → Type 0
-WorksFor own end = (m : Material) → IsKept m own → WorksTo m.0 m.1 end
 
 pub ends_work : (old new : View) (form : Option Form) (got : Result Own Refusal) (own : Own) (r : Result End Short) → MayKeep old new (gathered form) got → got ≡ Ok own → IfOk r (WorksFor own) → IfOk r (MayEnd old new form)
 ends_work old new form got own (Err e) kept is works = tt
