@@ -1,4 +1,5 @@
 pub mod Cycles
+pub mod Logs
 pub mod Names
 pub mod Netlists
 pub mod Rows

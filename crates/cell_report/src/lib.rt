@@ -1,7 +1,8 @@
-// The lines that are told of a row and of a layout.
+// The lines that are told of a row, of a log, and of a layout.
 #![tactic(auto)]
 
 mod cycle;
+mod logs;
 mod names;
 mod netlist;
 mod ring;
@@ -9,6 +10,7 @@ mod row;
 mod violations;
 
 pub use cycle::cycle_text;
+pub use logs::{put_checked, put_unfinished};
 pub use netlist::netlist_text;
 pub use ring::ring_text;
 pub use row::{plan_text, put_row};

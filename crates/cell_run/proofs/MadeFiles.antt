@@ -5,10 +5,10 @@ use Rattle.std.proofs.lemmas.Bool.{false_from_ne_true}
 use Rattle.std.proofs.lemmas.List.{append_cancel_left}
 use Rattle.std.proofs.lemmas.Slice.Eq.{bytes_eq-Decides}
 use Rattle.cell_io.specs.Desk.{Files, Both, Sets}
-use Rattle.cell_run.specs.declared.end.Output.{Output}
-use Rattle.cell_run.specs.Deliver.{MakesAll}
+use Rattle.call_end.specs.declared.end.Output.{Output}
+use Rattle.call_end.specs.Deliver.{MakesAll}
 use Rattle.cell_run.specs.Headline.{HasCell, HasLog}
-use Rattle.cell_run.specs.Make.{named}
+use Rattle.make_run.specs.Make.{named}
 
 -- ---- names
 

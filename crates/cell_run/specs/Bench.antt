@@ -1,52 +1,15 @@
--- What a bench comes to, and what it tells.
-use Rattle.std.specs.Prelude.{ℕ, ◌≡◌, ◌+◌, List, ◌++◌, codes, Option, Some}
+-- What a call of `bench` tells.
+use Rattle.std.specs.Prelude.{ℕ, ◌≡◌, ◌++◌, codes, Option, Some}
 use Rattle.cell_io.specs.Desk.{View, Both}
-use Rattle.cell_num.specs.Lines.{count_line}
-use Rattle.bench_run.specs.Bench.{IsBenched}
 use Rattle.bench_run.specs.declared.tally.Tally.{Tally}
-use Rattle.cell_run.specs.declared.end.End.{End}
-use Rattle.cell_run.specs.declared.status.Status.{Status}
-use Rattle.cell_run.specs.declared.status.Status.TheVariants as status
-use Rattle.cell_run.specs.Deliver.{Says}
-use Rattle.cell_run.specs.End.{says}
-use Rattle.cell_run.specs.Words as words
+use Rattle.call_end.specs.declared.status.Status.{Status}
+use Rattle.call_end.specs.declared.status.Status.TheVariants as status
+use Rattle.call_work.specs.Bench.{IsCounted, bench_text}
+use Rattle.call_end.specs.Deliver.{Says}
+use Rattle.call_words.specs.Words.{Form, Bench}
 
--- the number of cells; how many of them were made, how many have a cycle and how many searches were unfinished
-abbrev pub cells_text : ℕ → Tally → List ℕ
-cells_text number t =
-    count_line (codes "bench ") number
-    ++ count_line (codes "made ") t.made
-    ++ count_line (codes "cycle ") t.cycles
-    ++ count_line (codes "unfinished ") t.unfinished
-
--- the columns, the gaps, the fingers and the bytes of the libraries of those that were made
-abbrev pub sums_text : Tally → List ℕ
-sums_text t =
-    count_line (codes "columns ") t.columns
-    ++ count_line (codes "gaps ") t.gaps
-    ++ count_line (codes "fingers ") t.fingers
-    ++ count_line (codes "bytes ") t.bytes
-
-abbrev pub bench_text : ℕ → Tally → List ℕ
-bench_text number t = cells_text number t ++ sums_text t
-
--- Each of so many generated cells is made or has a cycle, no search of one is unfinished, and these are the counts.
-pub record IsCounted (number : ℕ) (tally : Tally) : Type 0 where
-  pub benched : IsBenched number tally
-  pub sum : tally.made + tally.cycles ≡ number
-  pub finished : tally.unfinished ≡ 0
-
-abbrev pub bench_end : ℕ → Tally → End
-bench_end number tally = says status.Done (codes "status 0 ok\n" ++ bench_text number tally)
-
-abbrev pub BenchesTo : ℕ → End → Type 0
-BenchesTo number end = (tally : Tally) × IsCounted number tally × (end ≡ bench_end number tally)
-
--- ---- what a call of `bench` tells
-
-abbrev pub IsBench : Option words.Form → Type 0
-IsBench (Some (words.Bench number)) = Unit {0}
-IsBench _ = ⊥
+abbrev pub IsBench : Option Form → Type 0
+IsBench form = (number : ℕ) × (form ≡ Some (Bench number))
 
 -- the counts were told
 pub record IsBenchTold (number : ℕ) (old new : View) : Type 0 where
@@ -55,6 +18,5 @@ pub record IsBenchTold (number : ℕ) (old new : View) : Type 0 where
   pub says : Both (Says (codes "status 0 ok\n" ++ bench_text number tally)) old.said new.said
 
 -- where a call of `bench` is done, this holds of its number
-abbrev pub WhereBenchEnds : Option words.Form → Status → (ℕ → Type 0) → Type 0
-WhereBenchEnds (Some (words.Bench number)) answer Is = answer ≡ status.Done → Is number
-WhereBenchEnds _ answer Is = Unit {0}
+abbrev pub WhereBenchEnds : Option Form → Status → (ℕ → Type 0) → Type 0
+WhereBenchEnds form answer Is = (number : ℕ) → form ≡ Some (Bench number) → answer ≡ status.Done → Is number

@@ -1,8 +1,8 @@
 -- Calls whose reading and writing did not fail.
 use Rattle.std.specs.Prelude.{◌≡◌, ◌⊎◌, IfSome}
 use Rattle.cell_io.specs.Desk.{Files, View, Rose}
-use Rattle.cell_run.specs.declared.status.Status.{Status}
-use Rattle.cell_run.specs.declared.status.Status.TheVariants.{Done, NoMemory}
+use Rattle.call_end.specs.declared.status.Status.{Status}
+use Rattle.call_end.specs.declared.status.Status.TheVariants.{Done, NoMemory}
 
 pub record IsCalm (old new : View) : Type 0 where
   pub reads : Rose old.read_faults new.read_faults → ⊥

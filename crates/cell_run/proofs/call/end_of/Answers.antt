@@ -1,8 +1,8 @@
 use Rattle.std.proofs.Common.{Option, subst}
-use Rattle.cell_run.specs.Gather.{gathered}
-use Rattle.cell_run.specs.Kept.{MayKeep}
-use Rattle.cell_run.specs.Words.{Form, asked}
-use Rattle.cell_run.proofs.Keeping.{ends_refused, ends_work, reads_refused, reads_worked}
+use Rattle.call_gather.specs.Gather.{gathered}
+use Rattle.call_gather.specs.Kept.{MayKeep}
+use Rattle.call_words.specs.Words.{Form, asked}
+use Rattle.call_work.proofs.Works.{ends_refused, ends_work, reads_refused, reads_worked}
 use Rattle.cell_run.proofs.call.end_of.Goals as goal
 
 pub returns-in-Ok-clause-ends : goal.returns-in-Ok-clause-ends

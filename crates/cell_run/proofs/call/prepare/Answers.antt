@@ -1,7 +1,7 @@
 use Rattle.std.proofs.Common.{◌∙◌, ap}
-use Rattle.cell_run.specs.declared.status.Status.TheVariants as status
-use Rattle.cell_run.specs.End.{says}
-use Rattle.cell_run.specs.Words.{asked}
+use Rattle.call_end.specs.declared.status.Status.TheVariants as status
+use Rattle.call_end.specs.End.{says}
+use Rattle.call_words.specs.Words.{asked}
 use Rattle.cell_run.proofs.Ends.{short_end, short_reads}
 use Rattle.cell_run.proofs.call.prepare.Goals as goal
 

@@ -1,5 +1,5 @@
 use Rattle.std.proofs.Common.{refl, ◌∙◌}
-use Rattle.cell_run.specs.Words.{asked}
+use Rattle.call_words.specs.Words.{asked}
 use Rattle.cell_run.proofs.BenchTold.{benched_told, benches_told}
 use Rattle.cell_run.proofs.ExtractTold.{breaks_told, broken_told, extracted_told, extracts_told, refused_told, refuses_told}
 use Rattle.cell_run.proofs.MakeTold.{cyclic_told, drawn_told, draws_told, meets_told, needs_told, spent_told, tall_told}

@@ -1,0 +1,11 @@
+-- An end of a call, with files and without.
+use Rattle.std.specs.Prelude.{ℕ, List, []}
+use Rattle.call_end.specs.declared.end.End.{End}
+use Rattle.call_end.specs.declared.end.Output.{Output}
+use Rattle.call_end.specs.declared.status.Status.{Status}
+
+abbrev pub says : Status → List ℕ → End
+says status report = record { status = status; files = []; report = report }
+
+abbrev pub leaves : Status → List Output → List ℕ → End
+leaves status files report = record { status = status; files = files; report = report }

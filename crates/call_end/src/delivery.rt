@@ -1,0 +1,70 @@
+ghost use Rattle.std.specs.Prelude.{◌≡◌, ◌≢◌, ◌⊎◌, OnOk, OnErr, IsErrOf, string_bytes};
+ghost use Rattle.cell_io.specs.Desk.{Both, ForSome, OnlyMakes, Rose, WrittenIn};
+ghost use Rattle.cell_io.specs.declared.output.WriteFault.TheVariants.{Failed, NoMemory};
+ghost use Rattle.log_output.specs.Giving.{KeepsUntold};
+ghost use Rattle.call_end.specs.declared.status.Status.TheVariants as status;
+ghost use Rattle.call_end.specs.Deliver.{Makes, MakesAll, MakesSome, OnlyTells, Tells};
+
+use crate::end::{End, Output, OutputList};
+use crate::status::Status;
+use cell_io::{Desk, WriteFault, write_all};
+use log_output::Target;
+
+// Makes a file, empty, and puts what it holds there.
+#[tactic(auto, using(log_output::proofs::Giving::held_there, log_output::proofs::Giving::made_whole, log_output::proofs::Giving::made_some, log_output::proofs::Giving::made_none, crate::proofs::Delivered::makes_trans, crate::proofs::Delivered::rose_wider, log_output::proofs::Giving::keeps_untold, log_output::proofs::Giving::untold_behind))]
+fn make_file<D: Desk>(desk: &mut D, file: Output) -> Result<(), WriteFault>
+    ensures whole { OnOk result (Both (Makes file) (D.view desk.old).made (D.view desk.new).made) }
+    ensures some { OnErr result (((D.view desk.new).made ≡ (D.view desk.old).made)
+        ⊎ Both (ForSome file.bytes (WrittenIn (string_bytes file.name) file.bytes))
+        (D.view desk.old).made (D.view desk.new).made) }
+    ensures failed { IsErrOf result Failed → Rose (D.view desk.old).write_faults (D.view desk.new).write_faults }
+    ensures memory { IsErrOf result NoMemory → Rose (D.view desk.old).shorts (D.view desk.new).shorts }
+    ensures counts { KeepsUntold result (D.view desk.old) (D.view desk.new) }
+    ensures only { OnlyMakes (D.view desk.old) (D.view desk.new) }
+{
+    let Output { name, bytes } = file;
+    write_all(desk, name.as_str(), &[])?;
+    bytes.give(desk, Target::File(name.as_str()))
+}
+
+// Makes the files in order.
+#[tactic(auto, using(crate::proofs::Delivered::all_none, crate::proofs::Delivered::rose_wider, log_output::proofs::Giving::quiet_none, log_output::proofs::Giving::untold_behind))]
+fn make_files<D: Desk>(desk: &mut D, files: OutputList) -> Result<(), WriteFault>
+    ensures all { OnOk result (Both (MakesAll files) (D.view desk.old).made (D.view desk.new).made) }
+    ensures some { OnErr result (Both (MakesSome files) (D.view desk.old).made (D.view desk.new).made) }
+    ensures failed { IsErrOf result Failed → Rose (D.view desk.old).write_faults (D.view desk.new).write_faults }
+    ensures memory { IsErrOf result NoMemory → Rose (D.view desk.old).shorts (D.view desk.new).shorts }
+    ensures counts { KeepsUntold result (D.view desk.old) (D.view desk.new) }
+    ensures only { OnlyMakes (D.view desk.old) (D.view desk.new) }
+{
+    'files: for file in files.into_vec() {
+        make_file(desk, file)?;
+    }
+    Ok(())
+}
+
+/// Makes the files of an end in order, then says its report. It takes no memory but what the desk itself takes.
+pub fn deliver<D: Desk>(desk: &mut D, end: End) -> Status
+    ensures tells { Tells end result (D.view desk.old) (D.view desk.new) }
+    // A failing call of the desk ends it: a count is as before wherever the status tells of no such failure.
+    ensures same_writes { result ≢ status.WriteFault
+        → (D.view desk.new).write_faults ≡ (D.view desk.old).write_faults }
+    ensures same_shorts { result ≢ status.NoMemory → (D.view desk.new).shorts ≡ (D.view desk.old).shorts }
+    ensures only { OnlyTells (D.view desk.old) (D.view desk.new) }
+{
+    let End {
+        status,
+        files,
+        report,
+    } = end;
+    match make_files(desk, files) {
+        Ok(()) => (),
+        Err(WriteFault::Failed) => return Status::WriteFault,
+        Err(WriteFault::NoMemory) => return Status::NoMemory,
+    }
+    match report.give(desk, Target::Report) {
+        Ok(()) => status,
+        Err(WriteFault::Failed) => Status::WriteFault,
+        Err(WriteFault::NoMemory) => Status::NoMemory,
+    }
+}

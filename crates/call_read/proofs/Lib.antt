@@ -1,0 +1,4 @@
+pub mod Desks
+pub mod Reading
+pub mod Results
+pub mod WholeFiles

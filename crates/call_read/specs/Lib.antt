@@ -1,0 +1,6 @@
+pub mod InputFiles
+pub mod Inputs
+pub mod Read
+pub mod Reading
+pub mod Refusals
+pub mod Sources

@@ -1,0 +1,104 @@
+ghost use Rattle.std.specs.Prelude.{◌≡◌, ℕ, List as Sequence, IfOk, Ok, Some};
+ghost use Rattle.bound_log.specs.Pieces.{ended};
+ghost use Rattle.check_run.specs.Check.{Checks, ChecksTo, check_end, misread_answer, rejected_answer};
+ghost use Rattle.check_run.specs.LogRead.{AreBehindAll};
+
+use crate::checked_log::CheckedLog;
+use bound_log::LogFault;
+use call_end::{End, Status};
+use cell_inputs::Inputs;
+use cell_num::{Bytes, NoMemory, columns_of};
+use cell_report::put_checked;
+use fault_text::{put_log, put_refused};
+use log_check::Refused;
+use std::alloc::Global;
+
+/// What a check of some bytes came to.
+#[derive(Drop)]
+pub enum CheckAnswer {
+    /// They are the text of an accepted log, of so many gaps and lemmas.
+    Accepted { gaps: u32, lemmas: u64 },
+    /// They are no text of a log for the cell.
+    Misread(LogFault),
+    /// The log is not accepted.
+    Rejected(Refused),
+}
+
+fn misread(fault: LogFault) -> Result<CheckAnswer, NoMemory>
+    ensures { IfOk result (λ answer. Some answer ≡ misread_answer fault) }
+{
+    match fault {
+        LogFault::NoMemory => Err(NoMemory),
+        fault => Ok(CheckAnswer::Misread(fault)),
+    }
+}
+
+fn rejected(cause: Refused) -> Result<CheckAnswer, NoMemory>
+    ensures { IfOk result (λ answer. Some answer ≡ rejected_answer cause) }
+{
+    match cause {
+        Refused::NoMemory => Err(NoMemory),
+        cause => Ok(CheckAnswer::Rejected(cause)),
+    }
+}
+
+// Where the text has no fault.
+fn judge(alloc: Global, inputs: &Inputs, log: &CheckedLog) -> Result<CheckAnswer, NoMemory>
+    requires { ended log.now.reader.fault log.now.reader.place (tt {0}) ≡ Ok (tt {0}) }
+    ensures { IfOk result (λ answer. (bytes : Sequence ℕ) →
+        AreBehindAll inputs.now bytes log.now.reader log.now.checker → Checks inputs.now bytes answer) }
+{
+    inputs.show_limits();
+    match log.checker.finish(alloc) {
+        Ok(gaps) => Ok(CheckAnswer::Accepted {
+            gaps,
+            lemmas: log.checker.count() as u64,
+        }),
+        Err(cause) => rejected(cause),
+    }
+}
+
+fn answer(alloc: Global, inputs: &Inputs, log: &CheckedLog) -> Result<CheckAnswer, NoMemory>
+    ensures { IfOk result (λ answer. (bytes : Sequence ℕ) →
+        AreBehindAll inputs.now bytes log.now.reader log.now.checker → Checks inputs.now bytes answer) }
+{
+    inputs.show_limits();
+    match log.reader.finish() {
+        Ok(()) => judge(alloc, inputs, log),
+        Err(fault) => misread(fault),
+    }
+}
+
+fn end_of(alloc: Global, inputs: &Inputs, answer: &CheckAnswer) -> Result<End, NoMemory>
+    ensures { IfOk result (λ end. end ≡ check_end inputs.now answer.now) }
+{
+    inputs.show_limits();
+    let mut report = Bytes::new(alloc);
+    match answer {
+        CheckAnswer::Accepted { gaps, lemmas } => {
+            let columns = columns_of(&inputs.fingers) as u64;
+            report.extend(b"status 0 ok\n")?;
+            put_checked(&mut report, &inputs.cell.name, columns, *gaps, *lemmas)?;
+            Ok(End::says(alloc, Status::Done, report))
+        }
+        CheckAnswer::Misread(fault) => {
+            report.extend(b"status 7 rejected\n")?;
+            put_log(&mut report, fault)?;
+            Ok(End::says(alloc, Status::Rejected, report))
+        }
+        CheckAnswer::Rejected(cause) => {
+            report.extend(b"status 7 rejected\n")?;
+            put_refused(&mut report, cause)?;
+            Ok(End::says(alloc, Status::Rejected, report))
+        }
+    }
+}
+
+/// Whether the bytes that were read are the text of a log that is accepted for the inputs.
+pub fn check(alloc: Global, inputs: &Inputs, log: &CheckedLog) -> Result<End, NoMemory>
+    ensures { IfOk result (λ end. (bytes : Sequence ℕ) →
+        AreBehindAll inputs.now bytes log.now.reader log.now.checker → ChecksTo inputs.now bytes end) }
+{
+    let answer = answer(alloc, inputs, log)?;
+    end_of(alloc, inputs, &answer)
+}

@@ -1,0 +1,9 @@
+// The lines of faults.
+#![tactic(auto)]
+
+mod fault_line;
+mod faults;
+mod layout_faults;
+
+pub use faults::{put_fold, put_log, put_refused, put_spice, put_tech};
+pub use layout_faults::{put_extract, put_gds, put_rules};

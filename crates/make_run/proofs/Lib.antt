@@ -1,0 +1,3 @@
+pub mod MakeEnds
+pub mod Outcomes
+pub mod Planned

@@ -1,0 +1,24 @@
+use Rattle.std.proofs.Common.{◌≡◌, ◌++◌, codes, length, rules}
+use Rattle.bound_log.specs.Text.{log_text}
+use Rattle.gds_write.specs.Written.{written}
+use Rattle.lef_write.specs.Lef.{cell_text}
+use Rattle.make_run.specs.Make.{gds_file, lef_file, log_file}
+use Rattle.make_run.specs.MakeReport.{drawn_text}
+use Rattle.cell_report.specs.Rows.{plan_text}
+use Rattle.call_end.specs.declared.status.Status.TheVariants as status
+use Rattle.make_run.proofs.MakeEnds.{end_three, file_is}
+use Rattle.make_run.proofs.make_end.with_drawing.Goals as goal
+
+pub returns : goal.returns
+returns c =
+    let told : c.in_ok-report.report ≡ codes "status 0 ok\n" ++ plan_text c.args.cell.now.name c.args.cell.now.nets c.args.row.now ++ drawn_text c.args.routing.now.tracks c.args.drawing.now.width c.args.drawing.now.height (length c.args.log.lemmas) = search rules in
+    end_three status.Done c.in_ok-first.first c.in_ok-second.second c.in_ok-third.third
+    (log_file c.args.cell.now c.args.stem.now c.args.log)
+    (gds_file c.args.stem.now (written c.args.cell.now.name c.args.drawing.now.shapes c.args.unit_nm))
+    (lef_file c.args.stem.now (cell_text c.args.cell.now c.args.routing.now c.args.drawing.now c.args.unit_nm))
+    (codes "status 0 ok\n" ++ plan_text c.args.cell.now.name c.args.cell.now.nets c.args.row.now ++ drawn_text c.args.routing.now.tracks c.args.drawing.now.width c.args.drawing.now.height (length c.args.log.lemmas))
+    c.in_ok-report.report c.makes_three.result
+    (file_is c.in_ok-first.first (c.args.stem.now ++ codes ".clog") (log_text c.args.cell.now.name c.args.log) c.in_ok-first.ensures.name c.in_ok-first.ensures.bytes)
+    (file_is c.in_ok-second.second (c.args.stem.now ++ codes ".gds") (written c.args.cell.now.name c.args.drawing.now.shapes c.args.unit_nm) c.in_ok-second.ensures.name c.in_ok-second.ensures.bytes)
+    (file_is c.in_ok-third.third (c.args.stem.now ++ codes ".lef") (cell_text c.args.cell.now c.args.routing.now c.args.drawing.now c.args.unit_nm) c.in_ok-third.ensures.name c.in_ok-third.ensures.bytes)
+    told c.makes_three.ensures

@@ -1,0 +1,75 @@
+-- How `make` tells what making a cell comes to: its files, and its report.
+use Rattle.std.specs.Prelude.{ℕ, ◌≡◌, List, [], ◌∷◌, ◌++◌, codes, length, map, string_bytes}
+use Rattle.row_model.specs.declared.column.Column.{Column}
+use Rattle.bound_log.specs.declared.log.Log.{Log}
+use Rattle.bound_log.specs.Text.{log_text}
+use Rattle.channel_route.specs.declared.ring.Ring.{Ring}
+use Rattle.channel_route.specs.declared.routing.Routing.{Routing}
+use Rattle.cell_draw.specs.declared.drawing.Drawing.{Drawing}
+use Rattle.cell_draw.specs.Frame.{needed_of}
+use Rattle.gds_write.specs.Written.{written}
+use Rattle.lef_write.specs.Lef.{cell_text}
+use Rattle.spice_net.specs.declared.subckt.Subckt.{Subckt}
+use Rattle.cell_inputs.specs.Inputs.{Inputs, unit_nm}
+use Rattle.cell_inputs.specs.Style.{plain_style}
+use Rattle.cell_make.specs.Making.{MakeAnswer, Made, Cyclic, Tall, Unfinished, Makes, drawing_in}
+use Rattle.call_end.specs.declared.end.End.{End}
+use Rattle.call_end.specs.declared.end.Output.{Output}
+use Rattle.call_end.specs.declared.status.Status.{Status}
+use Rattle.call_end.specs.declared.status.Status.TheVariants as status
+use Rattle.cell_report.specs.Cycles.{ring_text}
+use Rattle.make_run.specs.MakeReport.{drawn_text, tall_text}
+use Rattle.cell_report.specs.Rows.{plan_text}
+use Rattle.cell_report.specs.Logs.{unfinished_text}
+
+-- a file by its name and bytes
+abbrev pub named : Output → List ℕ × List ℕ
+named file = (string_bytes file.name, file.bytes)
+
+pub record IsEnd (answer : Status) (told : List (List ℕ × List ℕ)) (text : List ℕ) (end : End) : Type 0 where
+  pub status : end.status ≡ answer
+  pub files : map named end.files ≡ told
+  pub report : end.report ≡ text
+
+abbrev pub log_file : Subckt → List ℕ → Log → List ℕ × List ℕ
+log_file cell out log = (out ++ codes ".clog", log_text cell.name log)
+
+abbrev pub gds_file : List ℕ → List ℕ → List ℕ × List ℕ
+gds_file out bytes = (out ++ codes ".gds", bytes)
+
+abbrev pub lef_file : List ℕ → List ℕ → List ℕ × List ℕ
+lef_file out bytes = (out ++ codes ".lef", bytes)
+
+abbrev pub IsMadeEnd : Subckt → List ℕ → List Column → Log → Routing → Drawing → ℕ → End → Type 0
+IsMadeEnd cell out row log routing drawing unit =
+    IsEnd status.Done
+    (log_file cell out log
+    ∷ gds_file out (written cell.name drawing.shapes unit)
+    ∷ lef_file out (cell_text cell routing drawing unit)
+    ∷ [])
+    (codes "status 0 ok\n" ++ plan_text cell.name cell.nets row
+    ++ drawn_text routing.tracks drawing.width drawing.height (length log.lemmas))
+
+abbrev pub IsCycleEnd : Subckt → List ℕ → Log → Ring → End → Type 0
+IsCycleEnd cell out log ring =
+    IsEnd status.Cycle (log_file cell out log ∷ []) (codes "status 5 cycle\n" ++ ring_text cell.nets ring)
+
+abbrev pub IsTallEnd : Subckt → List ℕ → Log → ℕ → ℕ → End → Type 0
+IsTallEnd cell out log needed given =
+    IsEnd status.TooTall (log_file cell out log ∷ []) (codes "status 11 tall\n" ++ tall_text needed given)
+
+abbrev pub IsUnfinishedEnd : Subckt → List ℕ → ℕ → Log → End → Type 0
+IsUnfinishedEnd cell out proved log =
+    IsEnd status.Unfinished (log_file cell out log ∷ [])
+    (codes "status 6 unfinished\n" ++ unfinished_text proved (length log.lemmas))
+
+abbrev pub IsMakeEnd : Inputs → List ℕ → MakeAnswer → End → Type 0
+IsMakeEnd inputs out (Made row log routing xs) =
+    IsMadeEnd inputs.cell out row log routing (drawing_in inputs row routing xs) (unit_nm inputs.tech)
+IsMakeEnd inputs out (Cyclic row log ring) = IsCycleEnd inputs.cell out log ring
+IsMakeEnd inputs out (Tall row log routing) =
+    IsTallEnd inputs.cell out log (needed_of row routing.tracks) inputs.tech.height
+IsMakeEnd inputs out (Unfinished proved log) = IsUnfinishedEnd inputs.cell out proved log
+
+abbrev pub MakesTo : Inputs → List ℕ → End → Type 0
+MakesTo inputs out end = (answer : MakeAnswer) × Makes plain_style inputs answer × IsMakeEnd inputs out answer end

@@ -1,0 +1,56 @@
+ghost use Rattle.std.specs.Prelude.{◌≡◌, ◌≤◌, IfOk, length};
+ghost use Rattle.bound_log.specs.Fits.{Fits, ForSome, IsLogName};
+ghost use Rattle.make_run.specs.Plan.{PlansTo, planned_end, unfinished_end};
+
+use crate::make_report::spent_report;
+use call_end::{End, Status};
+use cell_inputs::Inputs;
+use cell_num::{Bytes, NoMemory};
+use cell_report::plan_text;
+use log_output::{Content, KeptLog, LogText};
+use row_model::Arrangement;
+use row_search::{StopKept, search_kept};
+use row_state::{COMPONENT_LOG, Component};
+use spice_net::Subckt;
+use std::alloc::Global;
+
+fn planned(alloc: Global, cell: &Subckt, row: &Arrangement) -> Result<End, NoMemory>
+    requires { length row.now ≤ 64 }
+    ensures { IfOk result (λ end. end ≡ planned_end cell.now row.now) }
+{
+    let mut report = Bytes::new(alloc);
+    report.extend(b"status 0 ok\n")?;
+    report.extend(&plan_text(alloc, &cell.name, &cell.nets, row)?)?;
+    Ok(End::says(alloc, Status::Done, report))
+}
+
+fn unfinished(alloc: Global, cell: &Subckt, log: KeptLog, proved: u32) -> Result<End, NoMemory>
+    requires name { IsLogName cell.now.name }
+    requires fits { ForSome (λ k. Fits k log) }
+    ensures { IfOk result (λ end. end ≡ unfinished_end cell.now proved log) }
+{
+    let front = spent_report(alloc, proved, log.count())?;
+    let text = LogText::new(alloc, &cell.name, log)?;
+    let report = Content::with_log(front, text);
+    Ok(End::tells(alloc, Status::Unfinished, report))
+}
+
+/// The first least row of the inputs, or the log of a search that spent its budget.
+#[tactic(auto, using(cell_inputs::proofs::Names::log_name))]
+pub fn plan(alloc: Global, inputs: &Inputs) -> Result<End, NoMemory>
+    ensures { IfOk result (PlansTo inputs.now) }
+{
+    inputs.show_limits();
+    match search_kept(alloc, &inputs.fingers, &Component, inputs.budget()) {
+        Ok(found) => planned(alloc, &inputs.cell, &found.row),
+        Err(StopKept::Unfinished { kept, proved }) => {
+            unfinished(
+                alloc,
+                &inputs.cell,
+                KeptLog::without_row(COMPONENT_LOG, kept),
+                proved,
+            )
+        }
+        Err(StopKept::NoMemory) => Err(NoMemory),
+    }
+}
