@@ -6,11 +6,13 @@ use Rattle.call_gather.specs.declared.material.Material.{Material as Own}
 use Rattle.call_gather.specs.declared.material.Material.TheVariants as held
 use Rattle.call_read.specs.declared.refusal.Refusal.{Refusal}
 use Rattle.call_read.specs.declared.refusal.Refusal.TheVariants.{NoMemory}
-use Rattle.call_gather.specs.Gather.{checking_over, gathered}
-use Rattle.cell_make.specs.Inputs.{Inputs}
+use Rattle.call_gather.specs.Gather.{checking_over, gathered, gds_cell}
+use Rattle.cell_inputs.specs.Inputs.{Inputs}
 use Rattle.call_gather.specs.Kept.{AreKept, MayKeep}
 use Rattle.check_run.specs.LogRead.{AreBegun, AreBehind}
-use Rattle.call_gather.specs.Material.{Benching, Checking, Material}
+use Rattle.tech_file.specs.Technology.{Technology}
+use Rattle.call_gather.specs.Kinds.{Benching, Checking, Extracting, Making}
+use Rattle.call_gather.specs.Material.{Material}
 use Rattle.call_read.specs.Read.{IsRead}
 use Rattle.call_read.specs.Reading.{Reading, Ends, ◌>>=◌, MayCome, bytes_of}
 use Rattle.call_read.specs.Sources.{LogFile, most_bytes}
@@ -35,7 +37,7 @@ keeps_behind a b c first next r x own one two came is (got, rest, kept) = (got, 
 -- a log whose file was not read
 pub keeps_unread : (old new : View) (log : List ℕ) (inputs : Inputs) (e : Refusal) (own : Result Own Refusal) → IsRead old new (LogFile log) (Err e) → IsHanded own e → MayKeep old new (checking_over log inputs) own
 keeps_unread old new log inputs e own read told =
-    keeps_refusal old new new (bytes_of (LogFile log)) (λ (bytes : List ℕ). Ends (Ok (Checking inputs bytes))) (Err e) e own
+    keeps_refusal old new new (bytes_of (LogFile log)) (λ (bytes : List ℕ). Ends (Ok (Checking, (inputs, bytes)))) (Err e) e own
     (only_refl new)
     (came_bytes old new (LogFile log) (Err e) read)
     refl
@@ -44,17 +46,25 @@ keeps_unread old new log inputs e own read told =
 -- a log that is behind all bytes of its file
 pub keeps_read : (old new : View) (log : List ℕ) (inputs : Inputs) (before after : CheckedLog) → AreBegun inputs before.reader before.checker → OnlyReads old new → (bytes : List ℕ) × AreBehind before.reader before.checker bytes after.reader after.checker × (length bytes ≤ most_bytes (LogFile log)) × IsRead old new (LogFile log) (Ok bytes) → MayKeep old new (checking_over log inputs) (Ok (held.Checking inputs after))
 keeps_read old new log inputs before after begun only (bytes, behind, few, read) =
-    keeps_behind old new new (bytes_of (LogFile log)) (λ (b : List ℕ). Ends (Ok (Checking inputs b))) (Ok bytes) bytes (Ok (held.Checking inputs after))
+    keeps_behind old new new (bytes_of (LogFile log)) (λ (b : List ℕ). Ends (Ok (Checking, (inputs, b)))) (Ok bytes) bytes (Ok (held.Checking inputs after))
     only
     (only_refl new)
     (came_bytes old new (LogFile log) (Ok bytes) read)
     refl
-    (Ok (Checking inputs bytes), inl refl, (refl, behind_all inputs bytes before.reader after.reader before.checker after.checker begun behind))
+    (Ok (Checking, (inputs, bytes)), inl refl, (bytes, refl, behind_all inputs bytes before.reader after.reader before.checker after.checker begun behind))
 
 -- a bench reads no file
 pub keeps_bench : (old new : View) (number : ℕ) → MayKeep old new (gathered (Some (Bench number))) (Ok (held.Benching number))
-keeps_bench old new number = (Ok (Benching number), inl refl, refl)
+keeps_bench old new number = (Ok (Benching, number), inl refl, refl)
 
 -- memory ran out
 pub keeps_short : (old new : View) (reading : Reading Material) (own : Result Own Refusal) → IsHanded own NoMemory → MayKeep old new reading own
 keeps_short old new reading own told = (Err NoMemory, inr refl, handed_on NoMemory own told)
+
+-- ---- words that are kept
+
+pub same_out : (inputs : Inputs) (out stem : List ℕ) → stem ≡ out → ◌≡◌ {A = Material} (Making, (inputs, out)) (Making, (inputs, stem))
+same_out inputs out stem is = rw is refl
+
+pub same_cell : (tech : Technology) (name own bytes : List ℕ) → own ≡ name → ◌≡◌ {A = Material} (Extracting, gds_cell tech name bytes) (Extracting, gds_cell tech own bytes)
+same_cell tech name own bytes is = rw is refl

@@ -1,23 +1,24 @@
 -- What the forms read, in order, and what they then work on.
 use Rattle.std.specs.Prelude.{ℕ, List, [], ◌∷◌, ◌++◌, Option, Some, None, Ok, Err}
 use Rattle.layout_run.specs.declared.gds_cell.GdsCell.{GdsCell}
-use Rattle.call_gather.specs.Material.{Material, Planning, Making, Checking, Extracting, Benching}
+use Rattle.call_gather.specs.Kinds.{Planning, Making, Checking, Extracting, Benching}
+use Rattle.call_gather.specs.Material.{Material}
 use Rattle.call_read.specs.declared.refusal.Refusal.TheVariants.{Words}
 use Rattle.tech_file.specs.Technology.{Technology}
-use Rattle.cell_make.specs.Inputs.{Inputs}
+use Rattle.cell_inputs.specs.Inputs.{Inputs}
 use Rattle.call_read.specs.Reading.{Reading, Ends, bytes_of, ◌>>=◌}
 use Rattle.call_read.specs.Sources.{Source, LogFile, GdsFile}
 use Rattle.call_read.specs.InputFiles.{technology_from, inputs_from, tech_files, input_files}
 use Rattle.call_words.specs.Words.{CellAsked, Form, Plan, Make, Check, Extract, Bench}
 
 abbrev pub planning : CellAsked → Reading Material
-planning asked = inputs_from asked >>= λ inputs. Ends (Ok (Planning inputs))
+planning asked = inputs_from asked >>= λ inputs. Ends (Ok (Planning, inputs))
 
 abbrev pub making : CellAsked → List ℕ → Reading Material
-making asked out = inputs_from asked >>= λ inputs. Ends (Ok (Making inputs out))
+making asked out = inputs_from asked >>= λ inputs. Ends (Ok (Making, (inputs, out)))
 
 abbrev pub checking_over : List ℕ → Inputs → Reading Material
-checking_over log inputs = bytes_of (LogFile log) >>= λ bytes. Ends (Ok (Checking inputs bytes))
+checking_over log inputs = bytes_of (LogFile log) >>= λ bytes. Ends (Ok (Checking, (inputs, bytes)))
 
 abbrev pub checking : CellAsked → List ℕ → Reading Material
 checking asked log = inputs_from asked >>= checking_over log
@@ -26,7 +27,7 @@ abbrev pub gds_cell : Technology → List ℕ → List ℕ → GdsCell
 gds_cell tech name bytes = record { tech = tech; name = name; bytes = bytes }
 
 abbrev pub extracting_over : List ℕ → List ℕ → Technology → Reading Material
-extracting_over gds cell tech = bytes_of (GdsFile gds) >>= λ bytes. Ends (Ok (Extracting (gds_cell tech cell bytes)))
+extracting_over gds cell tech = bytes_of (GdsFile gds) >>= λ bytes. Ends (Ok (Extracting, gds_cell tech cell bytes))
 
 -- the technology, and then the GDSII file
 abbrev pub extracting : Option (List ℕ) → List ℕ → List ℕ → Reading Material
@@ -38,7 +39,7 @@ gathered (Some (Plan asked)) = planning asked
 gathered (Some (Make asked out)) = making asked out
 gathered (Some (Check asked log)) = checking asked log
 gathered (Some (Extract tech gds cell)) = extracting tech gds cell
-gathered (Some (Bench number)) = Ends (Ok (Benching number))
+gathered (Some (Bench number)) = Ends (Ok (Benching, number))
 
 -- the files that a form comes to read, in order
 abbrev pub read_by : Option Form → List Source

@@ -1,3 +1,4 @@
 pub mod Gather
 pub mod Kept
+pub mod Kinds
 pub mod Material

@@ -1,14 +1,17 @@
--- What a command works on.
+-- What a call works on.
 use Rattle.std.specs.Prelude.{ℕ, List}
+use Rattle.cell_inputs.specs.Inputs.{Inputs}
 use Rattle.layout_run.specs.declared.gds_cell.GdsCell.{GdsCell}
-use Rattle.cell_make.specs.Inputs.{Inputs}
+use Rattle.call_gather.specs.Kinds.{Kind, Planning, Making, Checking, Extracting, Benching}
 
-pub data Material : Type 0 where
-  Planning : (inputs : Inputs) → Material
-  -- the inputs, and what the names of the files begin with
-  Making : (inputs : Inputs) (out : List ℕ) → Material
-  -- the inputs, and the bytes of a log
-  Checking : (inputs : Inputs) (log : List ℕ) → Material
-  Extracting : (cell : GdsCell) → Material
-  -- a number of generated cells
-  Benching : (number : ℕ) → Material
+-- by its kind: the inputs of a plan; the inputs of a drawing, and what the names of its files begin with; the inputs
+-- of a check, and the bytes of its log; a cell of a GDSII file; a number of generated cells
+abbrev pub MaterialOf : Kind → Type 0
+MaterialOf Planning = Inputs
+MaterialOf Making = Inputs × List ℕ
+MaterialOf Checking = Inputs × List ℕ
+MaterialOf Extracting = GdsCell
+MaterialOf Benching = ℕ
+
+abbrev pub Material : Type 0
+Material = (kind : Kind) × MaterialOf kind

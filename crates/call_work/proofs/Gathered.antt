@@ -1,5 +1,5 @@
 -- Which files the forms read, and what they end with by themselves.
-use Rattle.std.proofs.Common.{ℕ, ◌≡◌, ◌++◌, List, [], ◌∷◌, Option, Some, None, Result, Ok, Err, IfErr, Contains, refl, arith}
+use Rattle.std.proofs.Common.{ℕ, ◌≡◌, ◌++◌, true, List, [], ◌∷◌, Option, Some, None, Result, Ok, Err, IfErr, Contains, refl, arith}
 use Rattle.std.proofs.lemmas.List.Elements.{Contains-append_left}
 use Rattle.cell_num.specs.Names.{lowered}
 use Rattle.cell_num.specs.declared.finger.Fingers.{Fingers}
@@ -8,14 +8,15 @@ use Rattle.tech_file.specs.Reading.{technology}
 use Rattle.spice_net.specs.declared.subckt.Subckt.{Subckt}
 use Rattle.spice_net.specs.Subcircuit.{subcircuit}
 use Rattle.finger_fold.specs.Folding.{folded}
-use Rattle.call_gather.specs.Material.{Material, Planning, Making, Checking, Extracting, Benching}
+use Rattle.call_gather.specs.Kinds.{kind_of}
+use Rattle.call_gather.specs.Material.{Material}
 use Rattle.call_read.specs.declared.refusal.Refusal.{Refusal}
 use Rattle.call_read.specs.declared.refusal.Refusal.TheVariants.{Words, Tech, Spice, Fold}
 use Rattle.call_end.specs.declared.status.Status.TheVariants as status
-use Rattle.call_work.specs.Ends.{refusal_status}
+use Rattle.call_work.specs.Ends.{is_among, refusal_status, settled_by}
 use Rattle.call_gather.specs.Gather.{extracting_over, gathered, read_by}
 use Rattle.call_read.specs.InputFiles.{input_files, inputs_from, tech_files, technology_from}
-use Rattle.cell_make.specs.Inputs.{inputs_of}
+use Rattle.cell_inputs.specs.Inputs.{inputs_of}
 use Rattle.call_read.specs.Inputs.{inputs_in}
 use Rattle.call_read.specs.Refusals.{as_refusal}
 use Rattle.call_read.specs.Sources.{Source, TechFile, SpiceFile, LogFile, GdsFile}
@@ -59,20 +60,12 @@ inputs_keep May asked there =
 
 -- ---- the forms
 
-abbrev pub IsMaterialOf : Form → Material → Type 0
-IsMaterialOf (Plan asked) (Planning inputs) = Unit {0}
-IsMaterialOf (Make asked out) (Making inputs stem) = Unit {0}
-IsMaterialOf (Check asked log) (Checking inputs bytes) = Unit {0}
-IsMaterialOf (Extract tech gds name) (Extracting cell) = Unit {0}
-IsMaterialOf (Bench number) (Benching many) = many ≡ number
-IsMaterialOf _ _ = ⊥
-
+-- a material of the form's kind, or a refusal that the kind settles for
 abbrev pub IsGathered : Option Form → Result Material Refusal → Type 0
-IsGathered None (Ok material) = ⊥
+IsGathered None (Ok m) = ⊥
 IsGathered None (Err e) = e ≡ Words
-IsGathered (Some form) (Ok material) = IsMaterialOf form material
-IsGathered (Some (Bench number)) (Err e) = ⊥
-IsGathered (Some form) (Err e) = IsInputFault e
+IsGathered (Some form) (Ok m) = m.0 ≡ kind_of form
+IsGathered (Some form) (Err e) = is_among (settled_by (kind_of form)) (refusal_status e) ≡ true
 
 log_there : (file : Option (List ℕ)) (spice log : List ℕ) → Contains (input_files file spice ++ LogFile log ∷ []) (LogFile log)
 log_there None spice log = (1, omega arith, refl)
@@ -90,21 +83,21 @@ gathered_keeps None = refl
 gathered_keeps (Some (Plan asked)) =
     keeps_on (λ source. Contains (read_by (Some (Plan asked))) source) IsInputs (IsGathered (Some (Plan asked))) (inputs_from asked) _
     (inputs_keep (λ source. Contains (read_by (Some (Plan asked))) source) asked (λ source there. there))
-    (λ inputs is. tt)
-    (λ e is. is)
+    (λ inputs is. refl)
+    (λ e is. rw is refl)
 gathered_keeps (Some (Make asked out)) =
     keeps_on (λ source. Contains (read_by (Some (Make asked out))) source) IsInputs (IsGathered (Some (Make asked out))) (inputs_from asked) _
     (inputs_keep (λ source. Contains (read_by (Some (Make asked out))) source) asked (λ source there. there))
-    (λ inputs is. tt)
-    (λ e is. is)
+    (λ inputs is. refl)
+    (λ e is. rw is refl)
 gathered_keeps (Some (Check asked log)) =
     keeps_on (λ source. Contains (read_by (Some (Check asked log))) source) IsInputs (IsGathered (Some (Check asked log))) (inputs_from asked) _
     (inputs_keep (λ source. Contains (read_by (Some (Check asked log))) source) asked (λ source there. Contains-append_left (input_files asked.tech asked.spice) (LogFile log ∷ []) source there))
-    (λ inputs is. (log_there asked.tech asked.spice log, λ bytes. tt))
-    (λ e is. is)
+    (λ inputs is. (log_there asked.tech asked.spice log, λ bytes. refl))
+    (λ e is. rw is refl)
 gathered_keeps (Some (Extract tech gds name)) =
     keeps_on (λ source. Contains (read_by (Some (Extract tech gds name))) source) IsInputs (IsGathered (Some (Extract tech gds name))) (technology_from tech) (extracting_over gds name)
     (tech_keeps (λ source. Contains (read_by (Some (Extract tech gds name))) source) tech (gds_tech_there tech gds))
-    (λ read is. (gds_there tech gds, λ bytes. tt))
-    (λ e is. is)
+    (λ read is. (gds_there tech gds, λ bytes. refl))
+    (λ e is. rw is refl)
 gathered_keeps (Some (Bench number)) = refl

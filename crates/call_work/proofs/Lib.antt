@@ -1,3 +1,4 @@
 pub mod Gathered
 pub mod Settled
+pub mod Statuses
 pub mod Works

@@ -1,5 +1,5 @@
 -- The work on what was gathered.
-use Rattle.std.proofs.Common.{ℕ, ◌≡◌, List, Option, Result, Ok, Err, IfOk, sym, subst}
+use Rattle.std.proofs.Common.{ℕ, ◌≡◌, List, Option, Result, Ok, Err, IfOk, refl, sym, subst}
 use Rattle.cell_io.specs.Desk.{View}
 use Rattle.cell_num.specs.declared.list.NoMemory.{NoMemory as Short}
 use Rattle.check_run.specs.declared.checked_log.CheckedLog.{CheckedLog}
@@ -11,21 +11,17 @@ use Rattle.call_read.specs.declared.refusal.Refusal.{Refusal}
 use Rattle.call_read.specs.declared.refusal.Refusal.TheVariants.{Words, Unread, Long, Tech, Spice, Fold, NoMemory}
 use Rattle.call_work.specs.Bench.{BenchesTo}
 use Rattle.check_run.specs.Check.{ChecksTo}
-use Rattle.call_work.specs.Ends.{KeepsReadsOf, MayEnd, WorksTo, refused as refusal_end}
+use Rattle.call_work.specs.Ends.{KeepsReadsOf, MayEnd, WorksFor, WorksTo, refused as refusal_end}
 use Rattle.layout_run.specs.Extract.{ExtractsTo}
 use Rattle.call_gather.specs.Gather.{gathered}
-use Rattle.cell_make.specs.Inputs.{Inputs}
-use Rattle.call_gather.specs.Kept.{AreKept, IsKept, MayKeep}
+use Rattle.cell_inputs.specs.Inputs.{Inputs}
+use Rattle.call_gather.specs.Kept.{AreKept, MayKeep}
 use Rattle.check_run.specs.LogRead.{AreBehindAll}
 use Rattle.make_run.specs.Make.{MakesTo}
-use Rattle.call_gather.specs.Material.{Benching, Checking, Extracting, Making, Material, Planning}
+use Rattle.call_gather.specs.Material.{Material}
 use Rattle.make_run.specs.Plan.{PlansTo}
 use Rattle.call_read.specs.Read.{KeepsReads, KeepsReadsBut}
 use Rattle.call_words.specs.Words.{Form}
-
--- an end of the work on any material that is kept so
-abbrev pub WorksFor : Own → End → Type 0
-WorksFor own end = (wanted : Material) → IsKept wanted own → WorksTo wanted end
 
 pub ends_work : (old new : View) (form : Option Form) (got : Result Own Refusal) (own : Own) (r : Result End Short) → MayKeep old new (gathered form) got → got ≡ Ok own → IfOk r (WorksFor own) → IfOk r (MayEnd old new form)
 ends_work old new form got own (Err e) kept is works = tt
@@ -42,8 +38,8 @@ ends_refused old new form got e (Ok end) (Ok wanted, came, kept) is told = absur
 -- ---- readings that failed
 
 reads_of : (e : Refusal) (a b : View) (end : End) → end ≡ refusal_end e → KeepsReadsBut e a b → KeepsReadsOf a b end
-reads_of (Unread name) a b end is kept = λ other. absurd (other (rw is tt))
-reads_of NoMemory a b end is kept = λ other. absurd (other (rw is tt))
+reads_of (Unread name) a b end is kept = λ other. absurd (other (rw is refl))
+reads_of NoMemory a b end is kept = λ other. absurd (other (rw is refl))
 reads_of Words a b end is kept = λ other. kept
 reads_of (Long name) a b end is kept = λ other. kept
 reads_of (Tech f) a b end is kept = λ other. kept
@@ -62,55 +58,20 @@ reads_refused a b got e (Ok end) kept is told = reads_of e a b end told (subst (
 
 pub plan_kept : (inputs : Inputs) (r : Result End Short) → IfOk r (PlansTo inputs) → IfOk r (WorksFor (held.Planning inputs))
 plan_kept inputs (Err e) plans = tt
-plan_kept inputs (Ok end) plans = works
-  where
-    works : WorksFor (held.Planning inputs) end
-    works (Planning wanted) is = subst (λ (i : Inputs). PlansTo i end) is plans
-    works (Making wanted out) is = absurd is
-    works (Checking wanted bytes) is = absurd is
-    works (Extracting cell) is = absurd is
-    works (Benching number) is = absurd is
+plan_kept inputs (Ok end) plans = λ m is. subst (λ (x : Material). WorksTo x.0 x.1 end) (sym is) plans
 
 pub make_kept : (inputs : Inputs) (out : List ℕ) (r : Result End Short) → IfOk r (MakesTo inputs out) → IfOk r (WorksFor (held.Making inputs out))
 make_kept inputs out (Err e) makes = tt
-make_kept inputs out (Ok end) makes = works
-  where
-    works : WorksFor (held.Making inputs out) end
-    works (Planning wanted) is = absurd is
-    works (Making wanted named) (is, same) = subst (λ (o : List ℕ). MakesTo wanted o end) same (subst (λ (i : Inputs). MakesTo i out end) is makes)
-    works (Checking wanted bytes) is = absurd is
-    works (Extracting cell) is = absurd is
-    works (Benching number) is = absurd is
+make_kept inputs out (Ok end) makes = λ m is. subst (λ (x : Material). WorksTo x.0 x.1 end) (sym is) makes
 
 pub check_kept : (inputs : Inputs) (log : CheckedLog) (r : Result End Short) → IfOk r (λ end. (bytes : List ℕ) → AreBehindAll inputs bytes log.reader log.checker → ChecksTo inputs bytes end) → IfOk r (WorksFor (held.Checking inputs log))
 check_kept inputs log (Err e) checks = tt
-check_kept inputs log (Ok end) checks = works
-  where
-    works : WorksFor (held.Checking inputs log) end
-    works (Planning wanted) is = absurd is
-    works (Making wanted out) is = absurd is
-    works (Checking wanted bytes) (is, behind) = subst (λ (i : Inputs). ChecksTo i bytes end) is (checks bytes (subst (λ (i : Inputs). AreBehindAll i bytes log.reader log.checker) (sym is) behind))
-    works (Extracting cell) is = absurd is
-    works (Benching number) is = absurd is
+check_kept inputs log (Ok end) checks = λ m (bytes, is, behind). subst (λ (x : Material). WorksTo x.0 x.1 end) (sym is) (checks bytes behind)
 
 pub extract_kept : (cell : GdsCell) (r : Result End Short) → IfOk r (ExtractsTo cell) → IfOk r (WorksFor (held.Extracting cell))
 extract_kept cell (Err e) extracts = tt
-extract_kept cell (Ok end) extracts = works
-  where
-    works : WorksFor (held.Extracting cell) end
-    works (Planning wanted) is = absurd is
-    works (Making wanted out) is = absurd is
-    works (Checking wanted bytes) is = absurd is
-    works (Extracting wanted) is = subst (λ (c : GdsCell). ExtractsTo c end) is extracts
-    works (Benching number) is = absurd is
+extract_kept cell (Ok end) extracts = λ m is. subst (λ (x : Material). WorksTo x.0 x.1 end) (sym is) extracts
 
 pub bench_kept : (number : ℕ) (r : Result End Short) → IfOk r (BenchesTo number) → IfOk r (WorksFor (held.Benching number))
 bench_kept number (Err e) benches = tt
-bench_kept number (Ok end) benches = works
-  where
-    works : WorksFor (held.Benching number) end
-    works (Planning wanted) is = absurd is
-    works (Making wanted out) is = absurd is
-    works (Checking wanted bytes) is = absurd is
-    works (Extracting cell) is = absurd is
-    works (Benching wanted) is = subst (λ n. BenchesTo n end) is benches
+bench_kept number (Ok end) benches = λ m is. subst (λ (x : Material). WorksTo x.0 x.1 end) (sym is) benches

@@ -1,9 +1,12 @@
 -- What a call comes to: its status, the files that it makes, and its report.
-use Rattle.std.specs.Prelude.{ℕ, ◌≡◌, Bool, ◌==◌, ◌||◌, List, [], ◌∷◌, ◌++◌, codes, Option, Some, None, Result, Ok, Err}
+use Rattle.std.specs.Prelude.{ℕ, ◌≡◌, Bool, ◌==◌, ◌||◌, IsTrue, List, [], ◌∷◌, ◌++◌, codes, Option, Some, None, Result, Ok, Err}
 use Rattle.std.specs.List.{list_any}
 use Rattle.cell_io.specs.Desk.{Files, View}
 use Rattle.call_end.specs.declared.end.End.{End}
-use Rattle.call_gather.specs.Material.{Material, Planning, Making, Checking, Extracting, Benching}
+use Rattle.call_gather.specs.Kinds.{Kind, Planning, Making, Checking, Extracting, Benching, kind_of}
+use Rattle.call_gather.specs.declared.material.Material.{Material as Kept}
+use Rattle.call_gather.specs.Kept.{IsKept}
+use Rattle.call_gather.specs.Material.{Material, MaterialOf}
 use Rattle.call_read.specs.declared.refusal.Refusal.{Refusal}
 use Rattle.call_read.specs.declared.refusal.Refusal.TheVariants.{Words, Unread, Long, Tech, Spice, Fold, NoMemory}
 use Rattle.call_end.specs.declared.status.Status.{Status}
@@ -13,13 +16,14 @@ use Rattle.check_run.specs.Check.{ChecksTo}
 use Rattle.call_end.specs.End.{says}
 use Rattle.layout_run.specs.Extract.{ExtractsTo}
 use Rattle.fault_text.specs.Faults.{fault_line, tech_fault, spice_fault, fold_fault}
-use Rattle.call_gather.specs.Gather.{gathered}
+use Rattle.call_gather.specs.Gather.{gathered, read_by}
 use Rattle.cell_num.specs.Lines.{text_line}
 use Rattle.make_run.specs.Make.{MakesTo}
 use Rattle.make_run.specs.Plan.{PlansTo}
 use Rattle.call_read.specs.Reading.{called, MayCome}
+use Rattle.call_read.specs.Sources.{Source}
 use Rattle.call_end.specs.Status.{number_of}
-use Rattle.call_words.specs.Words.{Form, Plan, Make, Check, Extract, Bench}
+use Rattle.call_words.specs.Words.{Form}
 
 -- ---- a step that refuses
 
@@ -48,17 +52,21 @@ refused e = says (refusal_status e) (refusal_text e)
 
 -- ---- the whole
 
--- the work on what was gathered may come to this end
-abbrev pub WorksTo : Material → End → Type 0
-WorksTo (Planning inputs) end = PlansTo inputs end
-WorksTo (Making inputs out) end = MakesTo inputs out end
-WorksTo (Checking inputs log) end = ChecksTo inputs log end
-WorksTo (Extracting cell) end = ExtractsTo cell end
-WorksTo (Benching number) end = BenchesTo number end
+-- the work on a material of the kind may come to this end
+abbrev pub WorksTo : (kind : Kind) → MaterialOf kind → End → Type 0
+WorksTo Planning inputs end = PlansTo inputs end
+WorksTo Making m end = MakesTo m.0 m.1 end
+WorksTo Checking m end = ChecksTo m.0 m.1 end
+WorksTo Extracting cell end = ExtractsTo cell end
+WorksTo Benching number end = BenchesTo number end
+
+-- so it is of each material that is kept so
+abbrev pub WorksFor : Kept → End → Type 0
+WorksFor kept end = (m : Material) → IsKept m kept → WorksTo m.0 m.1 end
 
 -- it was gathered, or a step refused
 abbrev pub EndsTo : Result Material Refusal → End → Type 0
-EndsTo (Ok material) end = WorksTo material end
+EndsTo (Ok m) end = WorksTo m.0 m.1 end
 EndsTo (Err e) end = end ≡ refused e
 
 -- a call of a form over files that are told
@@ -76,29 +84,35 @@ is_among listed answer = list_any (λ other. number_of other == number_of answer
 
 -- what the words or the files call for: a search alone is unfinished, a making alone meets a cycle or is too tall,
 -- a log or a layout alone is rejected, and a GDSII file alone holds no netlist
+abbrev pub settled_by : Kind → List Status
+settled_by Planning = status.Done ∷ status.Input ∷ status.Unfinished ∷ []
+settled_by Making = status.Done ∷ status.Input ∷ status.Cycle ∷ status.Unfinished ∷ status.TooTall ∷ []
+settled_by Checking = status.Done ∷ status.Input ∷ status.Rejected ∷ []
+settled_by Extracting = status.Done ∷ status.Input ∷ status.Rejected ∷ status.Layout ∷ []
+settled_by Benching = status.Done ∷ []
+
 abbrev pub settled_of : Option Form → List Status
 settled_of None = status.Usage ∷ []
-settled_of (Some (Plan asked)) = status.Done ∷ status.Input ∷ status.Unfinished ∷ []
-settled_of (Some (Make asked out)) = status.Done ∷ status.Input ∷ status.Cycle ∷ status.Unfinished ∷ status.TooTall ∷ []
-settled_of (Some (Check asked log)) = status.Done ∷ status.Input ∷ status.Rejected ∷ []
-settled_of (Some (Extract tech gds cell)) = status.Done ∷ status.Input ∷ status.Rejected ∷ status.Layout ∷ []
-settled_of (Some (Bench number)) = status.Done ∷ []
+settled_of (Some form) = settled_by (kind_of form)
 
--- what a file or the desk may bring about; a bench reads no file
+-- what a file may bring about, where files are read
+abbrev pub file_statuses : List Source → List Status
+file_statuses [] = []
+file_statuses (source ∷ sources) = status.ReadFault ∷ status.TooLong ∷ []
+
+-- what a file or the desk may bring about
 abbrev pub outside_of : Option Form → List Status
-outside_of None = status.WriteFault ∷ status.NoMemory ∷ []
-outside_of (Some (Bench number)) = status.WriteFault ∷ status.NoMemory ∷ []
-outside_of (Some form) = status.ReadFault ∷ status.WriteFault ∷ status.NoMemory ∷ status.TooLong ∷ []
+outside_of form = status.WriteFault ∷ status.NoMemory ∷ file_statuses (read_by form)
 
 abbrev pub is_status_of : Option Form → Status → Bool
 is_status_of form answer = is_among (settled_of form) answer || is_among (outside_of form) answer
 
 -- the statuses that tell of the desk or of memory
+abbrev pub desk_statuses : List Status
+desk_statuses = status.ReadFault ∷ status.WriteFault ∷ status.NoMemory ∷ []
+
 abbrev pub IsOfOutside : Status → Type 0
-IsOfOutside status.ReadFault = Unit {0}
-IsOfOutside status.WriteFault = Unit {0}
-IsOfOutside status.NoMemory = Unit {0}
-IsOfOutside _ = ⊥
+IsOfOutside answer = IsTrue (is_among desk_statuses answer)
 
 -- no reading failed before an end with another status than these
 abbrev pub KeepsReadsOf : View → View → End → Type 0

@@ -2,7 +2,8 @@ ghost use Rattle.std.specs.Prelude.{◌≡◌, ◌≤◌, ◌*◌, All, Contains
 ghost use Rattle.box_geom.specs.declared.shape.Label.{Label as SomeLabel};
 ghost use Rattle.box_geom.specs.Layers.{AreWithinLimits};
 ghost use Rattle.row_place.specs.Places.{IsPlacement};
-ghost use Rattle.channel_route.specs.Routing.{IsLegal};
+ghost use Rattle.channel_route.specs.Wiring.{IsWiring};
+ghost use Rattle.row_compact.specs.Allowed.{AreAllowed, stretches_of};
 ghost use Rattle.row_compact.specs.Solution.{x_of};
 ghost use Rattle.scmos_rules.specs.Rules.{Obeys};
 ghost use Rattle.scmos_rules.specs.declared.rules.Deck.TheVariants.{Plain};
@@ -10,18 +11,28 @@ ghost use Rattle.cell_draw.specs.Bounds.{AreWithin};
 ghost use Rattle.cell_draw.specs.Drawings.{drawn_of};
 ghost use Rattle.cell_draw.specs.Extracted.{ExtractsToRow};
 ghost use Rattle.cell_draw.specs.Faults.{IsCause};
-ghost use Rattle.cell_draw.specs.Frame.{IsTooTall};
-ghost use Rattle.cell_draw.specs.Shown.{ShowsColumns, ShowsRouting};
+ghost use Rattle.cell_draw.specs.Frame.{IsTooTall, frame_of};
+ghost use Rattle.cell_draw.specs.Framed.{IsFramed};
+ghost use Rattle.cell_draw.specs.Layouts.{width_of};
+ghost use Rattle.cell_draw.specs.Shown.{ShowsColumns};
 ghost use Rattle.cell_draw.specs.Sound.{IsSoundRow};
 ghost use Rattle.cell_make.specs.Making.{AreLeastLines};
+ghost use Rattle.cell_make.specs.Style.{AreLegal, ShowsWiring, deck_of, final};
 
-use cell_draw::{DrawFault, Drawing, draw};
+use cell_draw::{DrawFault, Drawing, MOST_HEIGHT, MOST_X, draw, draw_wiring};
+use cell_inputs::{Style, Taps, Wiring};
 use cell_num::{NoMemory, Pins};
 use channel_route::Routing;
-use row_compact::{LineXs, distances, least_lines};
+use row_compact::{LineXs, least_lines, wiring_distances};
 use row_place::Placement;
 use spice_net::Subckt;
 use std::alloc::Global;
+
+/// A cell with a column is at least so many grid units wide: it has three lines, with 8 before, between and behind them.
+pub const LEAST_WIDTH: u32 = 32;
+
+/// A drawn cell is at most so many grid units wide. The last line stands at 127,008 or less, the side 8 behind it.
+pub const MOST_WIDTH: u32 = 127_016;
 
 /// A drawn row, and the positions of its lines in grid units.
 #[derive(Drop)]
@@ -30,7 +41,7 @@ pub struct Drawn {
     pub drawing: Drawing,
 }
 
-// The least positions of the lines of a routed row.
+// The least positions of the lines of a wired row.
 #[tactic(auto, using(crate::proofs::LeastLines::least_are))]
 fn lines_of(
     alloc: Global,
@@ -39,20 +50,80 @@ fn lines_of(
     pins: &Pins,
 ) -> Result<LineXs, NoMemory>
     requires placement { IsPlacement placement.now }
-    requires routing { IsLegal placement.now pins.now routing.now }
+    requires wiring { IsWiring placement.now pins.now routing.now }
     ensures least { IfOk result (AreLeastLines placement.now pins.now routing.now) }
     ensures low { IfOk result (λ xs. x_of xs (2 * length placement.now.units) ≤ 127008) }
 {
-    let distances = distances(alloc, placement, routing, pins)?;
+    let distances = wiring_distances(alloc, placement, routing.trunks.as_slice(), pins)?;
     match least_lines(alloc, &distances) {
         Ok(xs) => Ok(xs),
         Err(NoMemory) => Err(NoMemory),
     }
 }
 
-/// Draws a routed row on its least lines, in a cell of the given height, or of the least where that is 0.
+// The drawing of a routed row on these lines, without taps.
+#[tactic(auto, using(crate::proofs::Wirings::straight_legal, crate::proofs::Wirings::wired_so, crate::proofs::Wirings::shows_straight, crate::proofs::Wirings::shows_doglegs))]
+fn drawing_by(
+    alloc: Global,
+    wiring: Wiring,
+    cell: &Subckt,
+    placement: &Placement,
+    routing: &Routing,
+    lines: &LineXs,
+    height: u32,
+) -> Result<Drawing, DrawFault>
+    requires placement { IsPlacement placement.now }
+    requires row { IsSoundRow cell.now.nets cell.now.pins placement.now.row }
+    requires routing { AreLegal wiring placement.now cell.now.pins routing.now }
+    requires lines { AreAllowed placement.now cell.now.pins (stretches_of routing.now.trunks) lines.now }
+    requires last { x_of lines.now (2 * length placement.now.units) ≤ MOST_X }
+    requires height { height ≤ MOST_HEIGHT }
+    ensures exact { IfOk result (λ d. d ≡ drawn_of cell.now.nets cell.now.pins placement.now routing.now
+        lines.now height) }
+    ensures obeys { IfOk result (λ d. Obeys Plain d.shapes.rects) }
+    ensures extracts { IfOk result (λ d. ExtractsToRow Plain cell.now.nets cell.now.pins
+        placement.now.row d.shapes) }
+    ensures shows { IfOk result (λ d. ShowsColumns Plain cell.now.nets cell.now.pins
+        placement.now.row d.shapes) }
+    ensures routed { IfOk result (λ d. ShowsWiring wiring cell.now.nets cell.now.pins placement.now
+        lines.now d.shapes routing.now) }
+    ensures framed { IfOk result (IsFramed (frame_of placement.now.row routing.now.tracks height
+        (width_of placement.now lines.now)) lines.now) }
+    ensures width { IfOk result (λ d. d.width ≡ width_of placement.now lines.now) }
+    ensures few { IfOk result (λ d. length d.shapes.rects ≤ 1999) }
+    ensures within { IfOk result (λ d. AreWithin d.shapes) }
+    ensures named { IfOk result (λ d. All (λ (l : SomeLabel). Contains cell.now.nets l.name) d.shapes.labels) }
+    ensures fits { IfOk result (λ d. IsTooTall placement.now.row routing.now.tracks height → ⊥) }
+    ensures cause { IfErr result (IsCause placement.now.row routing.now.tracks height) }
+{
+    match wiring {
+        Wiring::Straight => {
+            let drawing = draw(
+                alloc, &cell.nets, &cell.pins, placement, routing, lines, height,
+            )?;
+            Ok(drawing)
+        }
+        Wiring::Doglegs => {
+            let drawing = draw_wiring(
+                alloc,
+                &cell.nets,
+                &cell.pins,
+                placement,
+                routing.tracks,
+                &routing.trunks,
+                lines,
+                height,
+            )?;
+            Ok(drawing)
+        }
+    }
+}
+
+/// Draws a routed row in this style on its least lines, in a cell of the given height, or of the least where that is 0.
+#[tactic(auto, using(crate::proofs::Wirings::wired_by))]
 pub fn draw_routed(
     alloc: Global,
+    style: Style,
     cell: &Subckt,
     placement: &Placement,
     routing: &Routing,
@@ -60,18 +131,24 @@ pub fn draw_routed(
 ) -> Result<Drawn, DrawFault>
     requires placement { IsPlacement placement.now }
     requires row { IsSoundRow cell.now.nets cell.now.pins placement.now.row }
-    requires routing { IsLegal placement.now cell.now.pins routing.now }
+    requires routing { AreLegal style.wiring placement.now cell.now.pins routing.now }
     requires height { height ≤ 4000 }
     ensures lines { IfOk result (λ d. AreLeastLines placement.now cell.now.pins routing.now d.lines) }
     ensures exact { IfOk result (λ d. d.drawing
         ≡ drawn_of cell.now.nets cell.now.pins placement.now routing.now d.lines height) }
-    ensures obeys { IfOk result (λ d. Obeys Plain d.drawing.shapes.rects) }
-    ensures extracts { IfOk result (λ d. ExtractsToRow Plain cell.now.nets cell.now.pins placement.now.row
-        d.drawing.shapes) }
-    ensures shows { IfOk result (λ d. ShowsColumns Plain cell.now.nets cell.now.pins placement.now.row
-        d.drawing.shapes) }
+    ensures obeys { IfOk result (λ d. Obeys (deck_of style.taps)
+        (final style.taps d.drawing d.lines).shapes.rects) }
+    ensures extracts { IfOk result (λ d. ExtractsToRow (deck_of style.taps) cell.now.nets cell.now.pins
+        placement.now.row (final style.taps d.drawing d.lines).shapes) }
+    ensures shows { IfOk result (λ d. ShowsColumns (deck_of style.taps) cell.now.nets cell.now.pins
+        placement.now.row (final style.taps d.drawing d.lines).shapes) }
     ensures routed { IfOk result (λ d.
-        ShowsRouting cell.now.nets cell.now.pins placement.now d.drawing.shapes routing.now) }
+        ShowsWiring style.wiring cell.now.nets cell.now.pins placement.now d.lines
+        (final style.taps d.drawing d.lines).shapes routing.now) }
+    ensures framed { IfOk result (λ d. IsFramed (frame_of placement.now.row routing.now.tracks height
+        (width_of placement.now d.lines)) d.lines d.drawing) }
+    ensures width { IfOk result (λ d. d.drawing.width ≡ width_of placement.now d.lines) }
+    ensures narrow { IfOk result (λ d. d.drawing.width ≤ MOST_WIDTH) }
     ensures few { IfOk result (λ d. length d.drawing.shapes.rects ≤ 1999) }
     ensures limits { IfOk result (λ d. AreWithinLimits d.drawing.shapes.rects) }
     ensures within { IfOk result (λ d. AreWithin d.drawing.shapes) }
@@ -81,9 +158,17 @@ pub fn draw_routed(
     ensures cause { IfErr result (IsCause placement.now.row routing.now.tracks height) }
 {
     let lines = lines_of(alloc, placement, routing, &cell.pins)?;
-    let drawing = draw(
-        alloc, &cell.nets, &cell.pins, placement, routing, &lines, height,
+    let drawing = drawing_by(
+        alloc,
+        style.wiring,
+        cell,
+        placement,
+        routing,
+        &lines,
+        height,
     )?;
     drawing.shapes.show_limits();
-    Ok(Drawn { lines, drawing })
+    match style.taps {
+        Taps::Without => Ok(Drawn { lines, drawing }),
+    }
 }

@@ -6,7 +6,7 @@ use cell_num::{Bytes, Names, NoMemory, put_number};
 use channel_route::{Above, CycleList};
 use std::alloc::Global;
 
-fn below(count: usize, at: usize) -> usize
+pub fn below(count: usize, at: usize) -> usize
     requires { at < count }
     ensures { result ≡ below count at }
 {

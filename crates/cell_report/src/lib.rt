@@ -5,11 +5,13 @@ mod cycle;
 mod logs;
 mod names;
 mod netlist;
+mod ring;
 mod row;
 mod violations;
 
 pub use cycle::cycle_text;
 pub use logs::{put_checked, put_unfinished};
 pub use netlist::netlist_text;
+pub use ring::ring_text;
 pub use row::{plan_text, put_row};
 pub use violations::violation_text;

@@ -1,5 +1,5 @@
 -- What the top call owes of `bench`, from the end that it came to and how this was told.
-use Rattle.std.proofs.Common.{ℕ, ◌≡◌, ◌⊎◌, Option, Some, None, Result, inl, inr, sym, ap, ◌∙◌, subst}
+use Rattle.std.proofs.Common.{ℕ, ◌≡◌, ◌⊎◌, Option, Some, Result, inl, inr, sym, ap, ◌∙◌, subst}
 use Rattle.cell_io.specs.Desk.{View, Both, Rose}
 use Rattle.call_end.specs.declared.end.End.{End}
 use Rattle.call_read.specs.declared.refusal.Refusal.{Refusal}
@@ -12,7 +12,7 @@ use Rattle.cell_run.specs.Calm.{IsDoneOrShort}
 use Rattle.call_end.specs.Deliver.{Says, TellsWhole}
 use Rattle.call_work.specs.Ends.{EndsTo, MayEnd, refused}
 use Rattle.call_gather.specs.Material.{Material}
-use Rattle.call_words.specs.Words.{Form, Plan, Make, Check, Extract, Bench}
+use Rattle.call_words.specs.Words.{Form, Bench}
 use Rattle.cell_run.proofs.Telling.{Answers}
 
 -- it came to the counts, or memory ran out
@@ -35,18 +35,16 @@ failed_done answer is done = cc
 memory_done : (answer : Status) → answer ≡ status.NoMemory → answer ≡ status.Done → ⊥
 memory_done answer is done = cc
 
-pub benched_told : (old new : View) (form : Option Form) (answer : Status) → Answers old new form answer → WhereBenchEnds form answer (λ number. IsBenchTold number old new)
-benched_told old new None answer told = tt
-benched_told old new (Some (Plan asked)) answer told = tt
-benched_told old new (Some (Make asked out)) answer told = tt
-benched_told old new (Some (Check asked log)) answer told = tt
-benched_told old new (Some (Extract tech gds cell)) answer told = tt
-benched_told old new (Some (Bench number)) answer (end, may, inr (inl (failed, rose), some)) = λ done. absurd (failed_done answer failed done)
-benched_told old new (Some (Bench number)) answer (end, may, inr (inr (short, rose), some)) = λ done. absurd (memory_done answer short done)
-benched_told old new (Some (Bench number)) answer (end, may, inl whole) = λ done. elim (came old new number end may) [
+done_so : (old new : View) (number : ℕ) (answer : Status) → Answers old new (Some (Bench number)) answer → answer ≡ status.Done → IsBenchTold number old new
+done_so old new number answer (end, may, inr (inl (failed, rose), some)) done = absurd (failed_done answer failed done)
+done_so old new number answer (end, may, inr (inr (short, rose), some)) done = absurd (memory_done answer short done)
+done_so old new number answer (end, may, inl whole) done = elim (came old new number end may) [
   | inl benches ↦ told_so old new number end answer benches whole
   | inr short ↦ absurd (short_done end answer short whole.0 done)
 ]
+
+pub benched_told : (old new : View) (form : Option Form) (answer : Status) → Answers old new form answer → WhereBenchEnds form answer (λ number. IsBenchTold number old new)
+benched_told old new form answer told = λ number is done. done_so old new number answer (subst (λ (f : Option Form). Answers old new f answer) is told) done
 
 -- it is done, or writing failed, or memory ran out
 ends_so : (old new : View) (number : ℕ) (answer : Status) → Answers old new (Some (Bench number)) answer → Rose old.write_faults new.write_faults ⊎ IsDoneOrShort answer
@@ -58,9 +56,4 @@ ends_so old new number answer (end, may, inl whole) = elim (came old new number 
 ]
 
 pub benches_told : (old new : View) (form : Option Form) (answer : Status) → Answers old new form answer → IsBench form → Rose old.write_faults new.write_faults ⊎ IsDoneOrShort answer
-benches_told old new None answer told is = absurd is
-benches_told old new (Some (Plan asked)) answer told is = absurd is
-benches_told old new (Some (Make asked out)) answer told is = absurd is
-benches_told old new (Some (Check asked log)) answer told is = absurd is
-benches_told old new (Some (Extract tech gds cell)) answer told is = absurd is
-benches_told old new (Some (Bench number)) answer told is = ends_so old new number answer told
+benches_told old new form answer told (number, is) = ends_so old new number answer (subst (λ (f : Option Form). Answers old new f answer) is told)

@@ -4,7 +4,8 @@ use Rattle.cell_io.specs.Desk.{Files, View, Rose}
 use Rattle.call_end.specs.declared.end.End.{End}
 use Rattle.layout_run.specs.declared.extraction.ExtractAnswer.TheVariants as answer
 use Rattle.layout_run.specs.declared.gds_cell.GdsCell.{GdsCell}
-use Rattle.call_gather.specs.Material.{Material, Planning, Making, Checking, Extracting, Benching}
+use Rattle.call_gather.specs.Kinds.{Kind, Planning, Making, Checking, Extracting, Benching}
+use Rattle.call_gather.specs.Material.{Material, MaterialOf}
 use Rattle.call_read.specs.declared.refusal.Refusal.{Refusal}
 use Rattle.call_read.specs.declared.refusal.Refusal.TheVariants.{Unread, Long, NoMemory}
 use Rattle.call_end.specs.declared.status.Status.{Status}
@@ -13,18 +14,21 @@ use Rattle.check_run.specs.declared.verdict.CheckAnswer.TheVariants.{Accepted, M
 use Rattle.call_work.specs.Bench.{BenchesTo}
 use Rattle.check_run.specs.Check.{ChecksTo}
 use Rattle.call_end.specs.End.{says}
-use Rattle.call_work.specs.Ends.{CallsFor, EndsTo, KeepsReadsOf, MayEnd, is_among, outside_of, refusal_status, refused, settled_of}
+use Rattle.call_work.specs.Ends.{CallsFor, EndsTo, KeepsReadsOf, MayEnd, WorksTo, file_statuses, is_among, outside_of, refusal_status, refused, settled_of}
 use Rattle.layout_run.specs.Extract.{ExtractsTo}
 use Rattle.call_gather.specs.Gather.{gathered, read_by}
-use Rattle.cell_make.specs.Inputs.{Inputs}
-use Rattle.cell_run.specs.Headline.{IsMake}
+use Rattle.cell_inputs.specs.Inputs.{Inputs}
+use Rattle.cell_make.specs.Making as made
+use Rattle.make_run.specs.Make.{MakesTo}
+use Rattle.cell_run.specs.Headline.{IsMake, fileless_statuses}
 use Rattle.make_run.specs.Plan.{PlansTo, Planned, Unfinished}
 use Rattle.call_read.specs.Reading.{Comes, MayCome}
 use Rattle.call_read.specs.Sources.{Source, MayRead, Lacks, file_name, most_bytes, within}
-use Rattle.call_words.specs.Words.{Form, Plan, Make, Check, Extract, Bench}
+use Rattle.call_words.specs.Words.{Form}
 use Rattle.call_work.proofs.Gathered.{IsGathered, gathered_keeps}
 use Rattle.call_read.proofs.Reading.{came_kept, came_told}
 use Rattle.call_work.proofs.Settled.{settled}
+use Rattle.call_work.proofs.Statuses.{among_one}
 
 -- what was gathered for a form, or a refusal
 abbrev pub IsGatheredOrRefused : Option Form → Result Material Refusal → Type 0
@@ -49,20 +53,42 @@ extract_alone cell end (answer.Refused f, h, is) = rw is refl
 pub bench_alone : (number : ℕ) (end : End) → BenchesTo number end → end.files ≡ []
 bench_alone number end (tally, h, is) = rw is refl
 
--- `make` alone makes files
+make_status : (inputs : Inputs) (out : List ℕ) (end : End) → MakesTo inputs out end → is_among (status.Done ∷ status.Cycle ∷ status.Unfinished ∷ status.TooTall ∷ []) end.status ≡ true
+make_status inputs out end (made.Made row log routing xs, h, is) = rw is.status refl
+make_status inputs out end (made.Cyclic row log ring, h, is) = rw is.status refl
+make_status inputs out end (made.Tall row log routing, h, is) = rw is.status refl
+make_status inputs out end (made.Unfinished proved log, h, is) = rw is.status refl
+
+-- `make` alone makes files, and none where it ends with a status that is not its own
+abbrev pub HasNoFiles : Kind → End → Type 0
+HasNoFiles kind end =
+    (end.files ≡ []) ⊎ ((kind ≡ Making) × (is_among (status.Done ∷ status.Cycle ∷ status.Unfinished ∷ status.TooTall ∷ []) end.status ≡ true))
+
+files_by : (kind : Kind) (m : MaterialOf kind) (end : End) → WorksTo kind m end → HasNoFiles kind end
+files_by Planning m end works = inl (plan_alone m end works)
+files_by Making m end works = inr (refl, make_status m.0 m.1 end works)
+files_by Checking m end works = inl (check_alone m.0 m.1 end works)
+files_by Extracting m end works = inl (extract_alone m end works)
+files_by Benching m end works = inl (bench_alone m end works)
+
+not_made : (form : Option Form) (m : Material) → (IsMake form → ⊥) → IsGathered form (Ok m) → m.0 ≡ Making → ⊥
+not_made None m other is making = is
+not_made (Some form) m other is making = other (sym is ∙ making)
+
 pub no_files : (form : Option Form) (got : Result Material Refusal) (end : End) → (IsMake form → ⊥) → IsGatheredOrRefused form got → EndsTo got end → end.files ≡ []
 no_files form (Err e) end other how ends = rw ends refl
-no_files form (Ok (Planning inputs)) end other how ends = plan_alone inputs end ends
-no_files form (Ok (Checking inputs bytes)) end other how ends = check_alone inputs bytes end ends
-no_files form (Ok (Extracting cell)) end other how ends = extract_alone cell end ends
-no_files form (Ok (Benching many)) end other how ends = bench_alone many end ends
-no_files form (Ok (Making inputs stem)) end other (inr (e, is)) ends = cc
-no_files None (Ok (Making inputs stem)) end other (inl is) ends = absurd is
-no_files (Some (Plan asked)) (Ok (Making inputs stem)) end other (inl is) ends = absurd is
-no_files (Some (Make asked out)) (Ok (Making inputs stem)) end other (inl is) ends = absurd (other tt)
-no_files (Some (Check asked log)) (Ok (Making inputs stem)) end other (inl is) ends = absurd is
-no_files (Some (Extract tech gds cell)) (Ok (Making inputs stem)) end other (inl is) ends = absurd is
-no_files (Some (Bench number)) (Ok (Making inputs stem)) end other (inl is) ends = absurd is
+no_files form (Ok m) end other (inr (e, is)) ends = cc
+no_files form (Ok m) end other (inl is) ends = elim (files_by m.0 m.1 end ends) [
+  | inl none ↦ none
+  | inr (making, own) ↦ absurd (not_made form m other is making)
+]
+
+pub none_alone : (got : Result Material Refusal) (end : End) → EndsTo got end → is_among (status.NoMemory ∷ fileless_statuses) end.status ≡ true → end.files ≡ []
+none_alone (Err e) end ends none = ap (λ (x : End). x.files) ends
+none_alone (Ok m) end ends none = elim (files_by m.0 m.1 end ends) [
+  | inl alone ↦ alone
+  | inr (making, own) ↦ absurd (among_one (status.NoMemory ∷ fileless_statuses) (status.Done ∷ status.Cycle ∷ status.Unfinished ∷ status.TooTall ∷ []) end.status refl none own)
+]
 
 -- how a call comes to what it gathers
 pub came_gathered : (old new : View) (form : Option Form) (got : Result Material Refusal) → MayCome old new (gathered form) got → IsGatheredOrRefused form got
@@ -145,17 +171,13 @@ pub file_unread : (old new : View) (form : Option Form) (end : End) → IsByFile
 file_unread old new form end h read = file_cause old.given (Rose old.read_faults new.read_faults) (read_by form) h.source h.e h.there h.may (sym (ap (λ (x : End). x.status) h.ends) ∙ read)
 
 -- a file that is not read, or is too long, is of the outside where files are read
-by_files : (answer : Status) → (answer ≡ status.ReadFault) ⊎ (answer ≡ status.TooLong) → is_among (status.ReadFault ∷ status.WriteFault ∷ status.NoMemory ∷ status.TooLong ∷ []) answer ≡ true
-by_files answer (inl read) = rw read refl
-by_files answer (inr long) = rw long refl
+by_files : (sources : List Source) (source : Source) (answer : Status) → Contains sources source → (answer ≡ status.ReadFault) ⊎ (answer ≡ status.TooLong) → is_among (status.WriteFault ∷ status.NoMemory ∷ file_statuses sources) answer ≡ true
+by_files [] source answer there is = absurd (omega (arith, there.1))
+by_files (first ∷ later) source answer there (inl read) = rw read refl
+by_files (first ∷ later) source answer there (inr long) = rw long refl
 
 pub file_outside : (old new : View) (form : Option Form) (end : End) → IsByFile old new form end → is_among (outside_of form) end.status ≡ true
-file_outside old new None end h = absurd (omega (arith, h.there.1))
-file_outside old new (Some (Bench number)) end h = absurd (omega (arith, h.there.1))
-file_outside old new (Some (Plan asked)) end h = by_files end.status (file_status old new (Some (Plan asked)) end h)
-file_outside old new (Some (Make asked out)) end h = by_files end.status (file_status old new (Some (Make asked out)) end h)
-file_outside old new (Some (Check asked log)) end h = by_files end.status (file_status old new (Some (Check asked log)) end h)
-file_outside old new (Some (Extract tech gds cell)) end h = by_files end.status (file_status old new (Some (Extract tech gds cell)) end h)
+file_outside old new form end h = by_files (read_by form) h.source end.status h.there (file_status old new form end h)
 
 -- over told files: what they call for, or reading failed, or memory ran out
 pub end_told : (files : Files) (old new : View) (form : Option Form) (end : End) → old.given ≡ Some files → MayEnd old new form end → CallsFor files form end ⊎ (Rose old.read_faults new.read_faults × (end.status ≡ status.ReadFault)) ⊎ (end.status ≡ status.NoMemory)
@@ -175,4 +197,4 @@ pub short_end : (old new : View) (form : Option Form) (end : End) → end ≡ sa
 short_end old new form end is = (Err NoMemory, inr refl, is)
 
 pub short_reads : (old new : View) (end : End) → end ≡ says status.NoMemory [] → KeepsReadsOf old new end
-short_reads old new end is = λ other. absurd (other (rw is tt))
+short_reads old new end is = λ other. absurd (other (rw is refl))

@@ -6,3 +6,4 @@ pub mod MakeSettled
 pub mod MakeTold
 pub mod Telling
 pub mod Unmade
+pub mod Worked

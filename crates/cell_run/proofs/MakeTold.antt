@@ -1,12 +1,14 @@
 -- What the top call owes of `make`, from the end that the files call for and how it was told.
-use Rattle.std.proofs.Common.{ℕ, ◌≡◌, ◌≤◌, List, Option, Some, None, Result, IfSome, inl, inr, sym, ◌∙◌, subst, arith}
+use Rattle.std.proofs.Common.{ℕ, ◌≡◌, ◌≤◌, List, Option, Some, None, Result, IfSome, inl, inr, refl, ◌∙◌, subst, arith}
 use Rattle.cell_io.specs.Desk.{Files, View}
 use Rattle.log_check.specs.Accepted.{ForKinds}
 use Rattle.bound_log.specs.declared.log.Log.{Log}
 use Rattle.row_search.specs.Enough.{enough}
 use Rattle.row_place.specs.Places.{placement_of}
 use Rattle.channel_route.proofs.Stuck.{cycle_is}
+use Rattle.channel_route.specs.declared.ring.Ring.TheVariants.{OfNets}
 use Rattle.call_end.specs.declared.end.End.{End}
+use Rattle.call_gather.specs.Kinds.{Making}
 use Rattle.call_gather.specs.Material.{Material}
 use Rattle.call_read.specs.declared.refusal.Refusal.{Refusal}
 use Rattle.call_end.specs.declared.status.Status.{Status}
@@ -15,39 +17,40 @@ use Rattle.cell_run.specs.Calm.{IsCalm}
 use Rattle.call_end.specs.Deliver.{Says}
 use Rattle.call_work.specs.Ends.{EndsTo}
 use Rattle.cell_run.specs.Headline.{CanBeDrawn, FromInputs, HasCycle, IsCyclicCell, IsMadeCell, IsOrShort, IsSpentSearch, IsTallCell, IsTooHigh, OfFirstLeast, WhereMakeEnds}
-use Rattle.cell_make.specs.Inputs.{Inputs}
+use Rattle.cell_inputs.specs.Inputs.{Inputs}
 use Rattle.cell_make.specs.Making as made
 use Rattle.cell_make.specs.Searched.{IsUnfinished}
 use Rattle.make_run.specs.Make.{MakesTo}
 use Rattle.call_words.specs.Words.{Form}
 use Rattle.cell_run.proofs.Telling.{Completes}
-use Rattle.cell_run.proofs.MakeSettled.{IsAnswered, IsOfMake, cyclic_so, drawn_so, make_told, spent_so, tall_so}
+use Rattle.cell_run.proofs.MakeSettled.{cyclic_so, drawn_so, spent_so, tall_so}
+use Rattle.cell_run.proofs.Worked.{IsAnswered, worked}
 
 -- ---- the clauses
 
 pub drawn_told : (a c : View) (form : Option Form) (answer : Status) (given : Option Files) → IfSome given (IsAnswered form a c answer) → IfSome given (λ files. WhereMakeEnds files form answer status.Done (λ inputs out. IsMadeCell inputs out a c))
 drawn_told a c form answer None told = tt
 drawn_told a c form answer (Some files) told = λ make is.
-    let t = make_told files form answer a c make (subst IsOfMake (sym is) tt) told in
-    (t.inputs, t.out, t.comes, drawn_so t.inputs t.out t.end answer a c t.ends is t.whole)
+    let w = worked files form Making answer a c make (rw is refl) told in
+    (w.m.0, w.m.1, w.comes, drawn_so w.m.0 w.m.1 w.end answer a c w.works is w.whole)
 
 pub cyclic_told : (a c : View) (form : Option Form) (answer : Status) (given : Option Files) → IfSome given (IsAnswered form a c answer) → IfSome given (λ files. WhereMakeEnds files form answer status.Cycle (λ inputs out. IsCyclicCell inputs out a c))
 cyclic_told a c form answer None told = tt
 cyclic_told a c form answer (Some files) told = λ make is.
-    let t = make_told files form answer a c make (subst IsOfMake (sym is) tt) told in
-    (t.inputs, t.out, t.comes, cyclic_so t.inputs t.out t.end answer a c t.ends is t.whole)
+    let w = worked files form Making answer a c make (rw is refl) told in
+    (w.m.0, w.m.1, w.comes, cyclic_so w.m.0 w.m.1 w.end answer a c w.works is w.whole)
 
 pub tall_told : (a c : View) (form : Option Form) (answer : Status) (given : Option Files) → IfSome given (IsAnswered form a c answer) → IfSome given (λ files. WhereMakeEnds files form answer status.TooTall (λ inputs out. IsTallCell inputs out a c))
 tall_told a c form answer None told = tt
 tall_told a c form answer (Some files) told = λ make is.
-    let t = make_told files form answer a c make (subst IsOfMake (sym is) tt) told in
-    (t.inputs, t.out, t.comes, tall_so t.inputs t.out t.end answer a c t.ends is t.whole)
+    let w = worked files form Making answer a c make (rw is refl) told in
+    (w.m.0, w.m.1, w.comes, tall_so w.m.0 w.m.1 w.end answer a c w.works is w.whole)
 
 pub spent_told : (a c : View) (form : Option Form) (answer : Status) (given : Option Files) → IfSome given (IsAnswered form a c answer) → IfSome given (λ files. WhereMakeEnds files form answer status.Unfinished (λ inputs out. IsSpentSearch inputs out a c))
 spent_told a c form answer None told = tt
 spent_told a c form answer (Some files) told = λ make is.
-    let t = make_told files form answer a c make (subst IsOfMake (sym is) tt) told in
-    (t.inputs, t.out, t.comes, spent_so t.inputs t.out t.end answer a c t.ends is t.whole)
+    let w = worked files form Making answer a c make (rw is refl) told in
+    (w.m.0, w.m.1, w.comes, spent_so w.m.0 w.m.1 w.end answer a c w.works is w.whole)
 
 -- ---- completeness
 
@@ -56,19 +59,19 @@ spends_less inputs log proved much (version, (k, are, some, spent)) = absurd (om
 
 drawn_where : (inputs : Inputs) (out : List ℕ) (end : End) → OfFirstLeast CanBeDrawn inputs out → MakesTo inputs out end → end.status ≡ status.Done
 drawn_where inputs out end (much, can) (made.Made row log routing xs, h, is) = is.status
-drawn_where inputs out end (much, can) (made.Cyclic row log cycle, h, is) = absurd ((can row h.0.first).acyclic cycle (cycle_is (placement_of row) inputs.cell.pins cycle h.1))
+drawn_where inputs out end (much, can) (made.Cyclic row log (OfNets cycle), h, is) = absurd ((can row h.0.first).acyclic cycle (cycle_is (placement_of row) inputs.cell.pins cycle h.1))
 drawn_where inputs out end (much, can) (made.Tall row log routing, h, is) = absurd ((can row h.0.first).fits routing h.1 h.2)
 drawn_where inputs out end (much, can) (made.Unfinished proved log, h, is) = absurd (spends_less inputs log proved much h)
 
 cyclic_where : (inputs : Inputs) (out : List ℕ) (end : End) → OfFirstLeast HasCycle inputs out → MakesTo inputs out end → end.status ≡ status.Cycle
 cyclic_where inputs out end (much, has) (made.Made row log routing xs, h, is) = absurd (h.routed.acyclic (has row h.found.first).0 (has row h.found.first).1)
-cyclic_where inputs out end (much, has) (made.Cyclic row log cycle, h, is) = is.status
+cyclic_where inputs out end (much, has) (made.Cyclic row log (OfNets cycle), h, is) = is.status
 cyclic_where inputs out end (much, has) (made.Tall row log routing, h, is) = absurd (h.1.acyclic (has row h.0.first).0 (has row h.0.first).1)
 cyclic_where inputs out end (much, has) (made.Unfinished proved log, h, is) = absurd (spends_less inputs log proved much h)
 
 tall_where : (inputs : Inputs) (out : List ℕ) (end : End) → OfFirstLeast IsTooHigh inputs out → MakesTo inputs out end → end.status ≡ status.TooTall
 tall_where inputs out end (much, high) (made.Made row log routing xs, h, is) = absurd (h.fits ((high row h.found.first).tall routing h.routed))
-tall_where inputs out end (much, high) (made.Cyclic row log cycle, h, is) = absurd ((high row h.0.first).acyclic cycle (cycle_is (placement_of row) inputs.cell.pins cycle h.1))
+tall_where inputs out end (much, high) (made.Cyclic row log (OfNets cycle), h, is) = absurd ((high row h.0.first).acyclic cycle (cycle_is (placement_of row) inputs.cell.pins cycle h.1))
 tall_where inputs out end (much, high) (made.Tall row log routing, h, is) = is.status
 tall_where inputs out end (much, high) (made.Unfinished proved log, h, is) = absurd (spends_less inputs log proved much h)
 

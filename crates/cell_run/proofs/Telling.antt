@@ -1,32 +1,30 @@
 -- What the top call owes of its answer, from the end that it came to and how this was told.
-use Rattle.std.proofs.Common.{ℕ, ◌≡◌, ◌⊎◌, ◌↔◌, ◌||◌, Bool, true, false, List, [], Option, Some, None, Result, Ok, Err, IfSome, IsNone, Contains, inl, inr, refl, sym, ap, ◌∙◌, subst, arith}
+use Rattle.std.proofs.Common.{ℕ, ◌≡◌, ◌⊎◌, ◌↔◌, ◌||◌, Bool, true, false, List, [], Option, Some, None, Result, IfSome, IsNone, inl, inr, refl, sym, ap, ◌∙◌, subst, arith}
 use Rattle.std.proofs.lemmas.List.{append-nil}
 use Rattle.cell_io.specs.Desk.{Files, View, Both, ForSome, AddsPart, OnlyReads, Rose}
 use Rattle.call_end.specs.declared.end.End.{End}
 use Rattle.call_end.specs.declared.end.Output.{Output}
-use Rattle.call_gather.specs.Material.{Material, Planning, Making, Checking, Extracting, Benching}
+use Rattle.call_gather.specs.Kinds.{Checking}
+use Rattle.call_gather.specs.Material.{Material}
 use Rattle.call_read.specs.declared.refusal.Refusal.{Refusal}
-use Rattle.call_read.specs.declared.refusal.Refusal.TheVariants.{Words, Unread, Long, Tech, Spice, Fold, NoMemory}
 use Rattle.call_end.specs.declared.status.Status.{Status}
 use Rattle.call_end.specs.declared.status.Status.TheVariants as status
 use Rattle.cell_run.specs.Calm.{IsCalm, IsDoneOrShort}
 use Rattle.cell_run.specs.Check.{HoldsAcceptedLog, IsCheck}
 use Rattle.call_end.specs.Deliver.{GivesUp, MakesAll, MakesSome, OnlyTells, Says, Tells, TellsSome, TellsWhole}
-use Rattle.call_work.specs.Ends.{CallsFor, EndsTo, IsOfOutside, KeepsReadsOf, MayEnd, is_among, is_status_of, outside_of, refused, settled_of}
+use Rattle.call_work.specs.Ends.{CallsFor, EndsTo, IsOfOutside, KeepsReadsOf, MayEnd, desk_statuses, is_among, is_status_of, outside_of, settled_of}
 use Rattle.call_gather.specs.Gather.{gathered, read_by}
 use Rattle.cell_run.specs.Headline.{IsMake}
 use Rattle.cell_run.specs.Plan.{HasEnough}
-use Rattle.call_read.specs.Reading.{called}
-use Rattle.call_read.specs.Sources.{Lacks, held}
-use Rattle.call_words.specs.Words.{Form, Plan, Make, Check, Extract, Bench}
+use Rattle.call_read.specs.Sources.{Lacks}
+use Rattle.call_words.specs.Words.{Form}
 use Rattle.check_run.proofs.Checked.{done_holds, holds_done}
 use Rattle.call_end.proofs.Delivered.{none_begun, none_made}
 use Rattle.call_read.proofs.Desks.{came_between}
 use Rattle.cell_run.proofs.Ends.{came_gathered, end_cases, end_told, file_outside, file_status, file_unread, no_files}
-use Rattle.call_work.proofs.Settled.{not_read, not_short, not_written, usage_alone}
-use Rattle.call_work.proofs.Gathered.{IsGathered, gathered_keeps}
+use Rattle.call_work.proofs.Settled.{not_of_desk, usage_alone}
 use Rattle.make_run.proofs.Planned.{enough_done}
-use Rattle.call_read.proofs.Reading.{called_comes, came_kept}
+use Rattle.cell_run.proofs.Worked.{Works, worked}
 
 -- ---- the whole call
 
@@ -55,23 +53,23 @@ answers a b c form end answer x y (got, inr short, ends) tells = (end, (got, inr
 -- no reading failed, nor does telling the end read
 pub same_reads_told : (a b c : View) (end : End) (answer : Status) → KeepsReadsOf a b end → OnlyTells b c → Tells end answer b c → (IsOfOutside answer → ⊥) → c.read_faults ≡ a.read_faults
 same_reads_told a b c end answer kept only (inl (is, made, said)) other = only.reads ∙ kept (λ outside. other (subst IsOfOutside (sym is) outside))
-same_reads_told a b c end answer kept only (inr (inl (is, rose), some)) other = absurd (other (rw is tt))
-same_reads_told a b c end answer kept only (inr (inr (is, rose), some)) other = absurd (other (rw is tt))
+same_reads_told a b c end answer kept only (inr (inl (is, rose), some)) other = absurd (other (rw is refl))
+same_reads_told a b c end answer kept only (inr (inr (is, rose), some)) other = absurd (other (rw is refl))
 
 -- ---- files that are told
 
 pub called_for_told : (a c : View) (form : Option Form) (answer : Status) (given : Option Files) → a.given ≡ given → Answers a c form answer → IfSome given (λ files. IsOfOutside answer ⊎ ((end : End) × CallsFor files form end × TellsWhole end answer a c))
 called_for_told a c form answer None is h = tt
-called_for_told a c form answer (Some files) is (end, may, inr (inl (told, rose), some)) = inl (rw told tt)
-called_for_told a c form answer (Some files) is (end, may, inr (inr (told, rose), some)) = inl (rw told tt)
+called_for_told a c form answer (Some files) is (end, may, inr (inl (told, rose), some)) = inl (rw told refl)
+called_for_told a c form answer (Some files) is (end, may, inr (inr (told, rose), some)) = inl (rw told refl)
 called_for_told a c form answer (Some files) is (end, may, inl whole) = elim (end_told files a c form end is may) [
   | inl calls ↦ inr (end, calls, whole)
   | inr (inl (rose, read)) ↦
       let same : answer ≡ status.ReadFault = whole.0 ∙ read in
-      inl (rw same tt)
+      inl (rw same refl)
   | inr (inr short) ↦
       let same : answer ≡ status.NoMemory = whole.0 ∙ short in
-      inl (rw same tt)
+      inl (rw same refl)
 ]
 
 -- the status of an end that the files call for, or memory ran out
@@ -90,25 +88,9 @@ completes_told a c form answer (Some files) is (end, may, inl whole) = λ calm. 
 
 -- ---- causes
 
-or_true : (x : Bool) → (x || true) ≡ true
-or_true true = refl
-or_true false = refl
-
-written_outside : (form : Option Form) → is_among (outside_of form) status.WriteFault ≡ true
-written_outside None = refl
-written_outside (Some (Plan asked)) = refl
-written_outside (Some (Make asked out)) = refl
-written_outside (Some (Check asked log)) = refl
-written_outside (Some (Extract tech gds cell)) = refl
-written_outside (Some (Bench number)) = refl
-
-short_outside : (form : Option Form) → is_among (outside_of form) status.NoMemory ≡ true
-short_outside None = refl
-short_outside (Some (Plan asked)) = refl
-short_outside (Some (Make asked out)) = refl
-short_outside (Some (Check asked log)) = refl
-short_outside (Some (Extract tech gds cell)) = refl
-short_outside (Some (Bench number)) = refl
+pub or_so : (x y : Bool) → y ≡ true → (x || y) ≡ true
+or_so true y is = refl
+or_so false y is = is
 
 -- why a call answers as it does: its form settles it, a file was refused, writing failed, or memory ran out
 data Cause (a c : View) (form : Option Form) (answer : Status) : Type 0 where
@@ -135,10 +117,9 @@ cause_of a c form answer (end, may, inl (is, made, said)) = elim (end_cases a c 
   | inr (inr none) ↦ ByMemory (is ∙ ap (λ (x : End). x.status) none) (inr (nothing_said a.said c.said (subst (λ (x : End). Both (Says x.report) a.said c.said) none said)))
 ]
 
-not_settled : (form : Option Form) (answer other : Status) → is_among (settled_of form) answer ≡ true → answer ≡ other → is_among (settled_of form) other ≡ false → ⊥
-not_settled form answer other h is never =
-    let yes : is_among (settled_of form) other ≡ true = subst (λ (s : Status). is_among (settled_of form) s ≡ true) is h in
-    cc
+-- no form settles for a status of the desk
+not_settled : (form : Option Form) (answer other : Status) → is_among (settled_of form) answer ≡ true → answer ≡ other → is_among desk_statuses other ≡ true → ⊥
+not_settled form answer other settles is desk = not_of_desk form answer settles (subst (λ (s : Status). is_among desk_statuses s ≡ true) (sym is) desk)
 
 usage_cause : (a c : View) (form : Option Form) (answer : Status) → Cause a c form answer → answer ≡ status.Usage → IsNone form
 usage_cause a c form answer (Settled h) is = usage_alone form (subst (λ (s : Status). is_among (settled_of form) s ≡ true) is h)
@@ -148,20 +129,20 @@ usage_cause a c form answer (ByWriting told rose) is = cc
 usage_cause a c form answer (ByMemory told why) is = cc
 
 read_cause : (a c : View) (form : Option Form) (answer : Status) → Cause a c form answer → answer ≡ status.ReadFault → Rose a.read_faults c.read_faults ⊎ Lacks a.given (read_by form)
-read_cause a c form answer (Settled h) is = absurd (not_settled form answer status.ReadFault h is (not_read form))
+read_cause a c form answer (Settled h) is = absurd (not_settled form answer status.ReadFault h is refl)
 read_cause a c form answer (ByFile h kind cause) is = cause is
 read_cause a c form answer (ByWriting told rose) is = cc
 read_cause a c form answer (ByMemory told why) is = cc
 
 write_cause : (a c : View) (form : Option Form) (answer : Status) → Cause a c form answer → answer ≡ status.WriteFault → Rose a.write_faults c.write_faults
-write_cause a c form answer (Settled h) is = absurd (not_settled form answer status.WriteFault h is (not_written form))
+write_cause a c form answer (Settled h) is = absurd (not_settled form answer status.WriteFault h is refl)
 write_cause a c form answer (ByFile h (inl read) cause) is = cc
 write_cause a c form answer (ByFile h (inr long) cause) is = cc
 write_cause a c form answer (ByWriting told rose) is = rose
 write_cause a c form answer (ByMemory told why) is = cc
 
 memory_cause : (a c : View) (form : Option Form) (answer : Status) → Cause a c form answer → answer ≡ status.NoMemory → Rose a.shorts c.shorts ⊎ (c.said ≡ a.said)
-memory_cause a c form answer (Settled h) is = absurd (not_settled form answer status.NoMemory h is (not_short form))
+memory_cause a c form answer (Settled h) is = absurd (not_settled form answer status.NoMemory h is refl)
 memory_cause a c form answer (ByFile h (inl read) cause) is = cc
 memory_cause a c form answer (ByFile h (inr long) cause) is = cc
 memory_cause a c form answer (ByWriting told rose) is = cc
@@ -169,9 +150,9 @@ memory_cause a c form answer (ByMemory told why) is = why
 
 status_cause : (a c : View) (form : Option Form) (answer : Status) → Cause a c form answer → is_status_of form answer ≡ true
 status_cause a c form answer (Settled h) = rw h refl
-status_cause a c form answer (ByFile h kind cause) = rw h (or_true (is_among (settled_of form) answer))
-status_cause a c form answer (ByWriting told rose) = rw told (rw (written_outside form) (or_true (is_among (settled_of form) status.WriteFault)))
-status_cause a c form answer (ByMemory told why) = rw told (rw (short_outside form) (or_true (is_among (settled_of form) status.NoMemory)))
+status_cause a c form answer (ByFile h kind cause) = or_so (is_among (settled_of form) answer) (is_among (outside_of form) answer) h
+status_cause a c form answer (ByWriting told rose) = rw told (or_so (is_among (settled_of form) status.WriteFault) true refl)
+status_cause a c form answer (ByMemory told why) = rw told (or_so (is_among (settled_of form) status.NoMemory) true refl)
 
 pub usage_told : (a c : View) (form : Option Form) (answer : Status) → Answers a c form answer → answer ≡ status.Usage → IsNone form
 usage_told a c form answer h = usage_cause a c form answer (cause_of a c form answer h)
@@ -210,43 +191,16 @@ accepts_told a c form answer (Some files) told = λ calm (inputs, bytes, got, ga
   | inr short ↦ inr short
 ]
 
-not_done : (e : Refusal) (end : End) → end ≡ refused e → end.status ≡ status.Done → ⊥
-not_done Words end is done = cc
-not_done (Unread name) end is done = cc
-not_done (Long name) end is done = cc
-not_done (Tech f) end is done = cc
-not_done (Spice f) end is done = cc
-not_done (Fold f) end is done = cc
-not_done NoMemory end is done = cc
-
--- what a form gathers, and a file that was refused
-pub gathered_so : (files : Files) (form : Option Form) (got : Result Material Refusal) → called files (gathered form) ≡ got → IsGathered form got ⊎ ((e : Refusal) × (got ≡ Err e))
-gathered_so files form got is =
-    elim (came_kept (λ source read. read ≡ held files source) (λ source. Contains (read_by form) source) (IsGathered form) (gathered form) (called files (gathered form)) (gathered_keeps form) (called_comes files (gathered form))) [
-      | inl h ↦ inl (subst (IsGathered form) is h)
-      | inr (source, there, e, may, refused) ↦ inr (e, sym is ∙ refused)
-    ]
-
-done_check : (files : Files) (form : Option Form) (end : End) (got : Result Material Refusal) → IsCheck form → called files (gathered form) ≡ got → IsGathered form got ⊎ ((e : Refusal) × (got ≡ Err e)) → EndsTo got end → end.status ≡ status.Done → HoldsAcceptedLog files form
-done_check files form end (Err e) check is how ends done = absurd (not_done e end ends done)
-done_check files form end (Ok material) check is (inr (e, wrong)) ends done = cc
-done_check files None end (Ok material) check is (inl h) ends done = absurd check
-done_check files (Some (Plan asked)) end (Ok material) check is (inl h) ends done = absurd check
-done_check files (Some (Make asked out)) end (Ok material) check is (inl h) ends done = absurd check
-done_check files (Some (Extract tech gds name)) end (Ok material) check is (inl h) ends done = absurd check
-done_check files (Some (Bench number)) end (Ok material) check is (inl h) ends done = absurd check
-done_check files (Some (Check asked log)) end (Ok (Extracting cell)) check is (inl h) ends done = absurd h
-done_check files (Some (Check asked log)) end (Ok (Benching many)) check is (inl h) ends done = absurd h
-done_check files (Some (Check asked log)) end (Ok (Making inputs stem)) check is (inl h) ends done = absurd h
-done_check files (Some (Check asked log)) end (Ok (Planning inputs)) check is (inl h) ends done = absurd h
-done_check files (Some (Check asked log)) end (Ok (Checking inputs bytes)) check is (inl h) ends done =
-    let (gaps, lemmas, text) = done_holds inputs bytes end ends done in
-    (inputs, bytes, is, gaps, lemmas, text)
+-- a check that is done found an accepted log
+done_check : (files : Files) (form : Option Form) (answer : Status) (a c : View) → Works files form Checking answer a c → answer ≡ status.Done → HoldsAcceptedLog files form
+done_check files form answer a c w done =
+    let (gaps, lemmas, text) = done_holds w.m.0 w.m.1 w.end w.works (sym w.whole.0 ∙ done) in
+    (w.m.0, w.m.1, w.comes, gaps, lemmas, text)
 
 pub checked_told : (a c : View) (form : Option Form) (answer : Status) (given : Option Files) → IfSome given (λ files. IsOfOutside answer ⊎ ((end : End) × CallsFor files form end × TellsWhole end answer a c)) → IfSome given (λ files. IsCheck form → IsOfOutside answer ⊎ (answer ≡ status.Done ↔ HoldsAcceptedLog files form))
 checked_told a c form answer None told = tt
 checked_told a c form answer (Some files) (inl outside) = λ check. inl outside
 checked_told a c form answer (Some files) (inr (end, calls, whole)) = λ check. inr (
-  (λ done. done_check files form end (called files (gathered form)) check refl (gathered_so files form (called files (gathered form)) refl) calls (sym whole.0 ∙ done)),
+  (λ done. done_check files form answer a c (worked files form Checking answer a c check (rw done refl) (inr (end, calls, whole))) done),
   (λ (inputs, bytes, got, gaps, lemmas, text). whole.0 ∙ holds_done inputs bytes end gaps lemmas text (subst (λ (r : Result Material Refusal). EndsTo r end) got calls)),
 )

@@ -6,11 +6,10 @@ use Rattle.call_end.specs.declared.status.Status.{Status}
 use Rattle.call_end.specs.declared.status.Status.TheVariants as status
 use Rattle.call_work.specs.Bench.{IsCounted, bench_text}
 use Rattle.call_end.specs.Deliver.{Says}
-use Rattle.call_words.specs.Words as words
+use Rattle.call_words.specs.Words.{Form, Bench}
 
-abbrev pub IsBench : Option words.Form → Type 0
-IsBench (Some (words.Bench number)) = Unit {0}
-IsBench _ = ⊥
+abbrev pub IsBench : Option Form → Type 0
+IsBench form = (number : ℕ) × (form ≡ Some (Bench number))
 
 -- the counts were told
 pub record IsBenchTold (number : ℕ) (old new : View) : Type 0 where
@@ -19,6 +18,5 @@ pub record IsBenchTold (number : ℕ) (old new : View) : Type 0 where
   pub says : Both (Says (codes "status 0 ok\n" ++ bench_text number tally)) old.said new.said
 
 -- where a call of `bench` is done, this holds of its number
-abbrev pub WhereBenchEnds : Option words.Form → Status → (ℕ → Type 0) → Type 0
-WhereBenchEnds (Some (words.Bench number)) answer Is = answer ≡ status.Done → Is number
-WhereBenchEnds _ answer Is = Unit {0}
+abbrev pub WhereBenchEnds : Option Form → Status → (ℕ → Type 0) → Type 0
+WhereBenchEnds form answer Is = (number : ℕ) → form ≡ Some (Bench number) → answer ≡ status.Done → Is number

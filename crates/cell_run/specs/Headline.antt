@@ -1,6 +1,6 @@
 -- What a call of `make` leaves behind: the drawing of a cell with its evidence, or the evidence of why there is
 -- none. Files and what was said are told where the desk tells them.
-use Rattle.std.specs.Prelude.{ℕ, ◌≡◌, ◌≢◌, ◌<◌, ◌≤◌, ◌⊎◌, List, ◌++◌, codes, length, Option, Some, Ok}
+use Rattle.std.specs.Prelude.{ℕ, ◌≡◌, ◌≢◌, ◌<◌, ◌≤◌, ◌⊎◌, IsTrue, List, [], ◌∷◌, ◌++◌, codes, length, Option, Some, Ok}
 use Rattle.cell_io.specs.Desk.{Files, View, Both}
 use Rattle.row_model.specs.declared.column.Column.{Column}
 use Rattle.bound_log.specs.declared.log.Log.{Log}
@@ -16,17 +16,19 @@ use Rattle.channel_route.specs.Routing.{IsLegal, IsTight}
 use Rattle.channel_route.specs.Told.{IsTold}
 use Rattle.scmos_rules.specs.Rules.{Obeys}
 use Rattle.scmos_rules.specs.declared.rules.Deck.TheVariants.{Plain}
+use Rattle.cell_draw.specs.declared.drawing.Drawing.{Drawing}
 use Rattle.cell_draw.specs.Extracted.{ExtractsTo}
 use Rattle.cell_draw.specs.Frame.{needed_of, IsTooTall}
 use Rattle.cell_draw.specs.Shown.{ShowsRouting, ShowsRow}
 use Rattle.gds_read.specs.Decoding.{Decodes}
 use Rattle.lef_write.specs.Drawn.{AreAllMetal, HasPort, IsSized}
-use Rattle.call_gather.specs.Material.{Making}
+use Rattle.call_gather.specs.Kinds.{Making, IsOfKind}
 use Rattle.call_end.specs.declared.status.Status.{Status}
 use Rattle.call_end.specs.declared.status.Status.TheVariants as status
 use Rattle.call_end.specs.Deliver.{Says}
 use Rattle.call_gather.specs.Gather.{gathered}
-use Rattle.cell_make.specs.Inputs.{Inputs}
+use Rattle.cell_inputs.specs.Inputs.{Inputs}
+use Rattle.cell_inputs.specs.Style.{plain_style}
 use Rattle.cell_make.specs.Making.{AreLeastLines, IsRouted, abstract_of, drawing_in, library_of, ports_in}
 use Rattle.cell_report.specs.Cycles.{cycle_text}
 use Rattle.make_run.specs.MakeReport.{drawn_text, tall_text}
@@ -35,19 +37,19 @@ use Rattle.cell_report.specs.Rows.{plan_text}
 use Rattle.cell_report.specs.Logs.{unfinished_text}
 use Rattle.cell_make.specs.Searched.{IsCertified, IsUnfinished}
 use Rattle.cell_make.specs.Structures.{HasOneStructure}
-use Rattle.call_words.specs.Words as words
+use Rattle.call_words.specs.Words.{Form}
+use Rattle.call_work.specs.Ends.{is_among}
 
-abbrev pub IsMake : Option words.Form → Type 0
-IsMake (Some (words.Make asked out)) = Unit {0}
-IsMake _ = ⊥
+abbrev pub IsMake : Option Form → Type 0
+IsMake form = IsOfKind Making form
 
 -- so it is of the inputs of a drawing and of what the names of its files begin with, which are there and accepted
-abbrev pub FromInputs : Files → Option words.Form → (Inputs → List ℕ → Type 0) → Type 0
+abbrev pub FromInputs : Files → Option Form → (Inputs → List ℕ → Type 0) → Type 0
 FromInputs files form Says =
-    (inputs : Inputs) × (out : List ℕ) × (called files (gathered form) ≡ Ok (Making inputs out)) × Says inputs out
+    (inputs : Inputs) × (out : List ℕ) × (called files (gathered form) ≡ Ok (Making, (inputs, out))) × Says inputs out
 
 -- so it is where `make` ends with this status
-abbrev pub WhereMakeEnds : Files → Option words.Form → Status → Status → (Inputs → List ℕ → Type 0) → Type 0
+abbrev pub WhereMakeEnds : Files → Option Form → Status → Status → (Inputs → List ℕ → Type 0) → Type 0
 WhereMakeEnds files form answer settled Says = IsMake form → answer ≡ settled → FromInputs files form Says
 
 -- ---- files
@@ -90,42 +92,37 @@ pub record IsMadeCell (inputs : Inputs) (out : List ℕ) (old new : View) : Type
   pub least_lines : AreLeastLines (placement_of row) inputs.cell.pins routing lines
   -- The height of the technology, where it has one, is enough.
   pub fits : IsTooTall row routing.tracks inputs.tech.height → ⊥
+  -- This is the drawing of the row on these tracks and lines.
+  pub drawing : Drawing
+  pub drawn : drawing ≡ drawing_in inputs row routing lines
   -- The shapes obey every rule of the profile.
-  pub obeys : Obeys Plain (drawing_in inputs row routing lines).shapes.rects
+  pub obeys : Obeys Plain drawing.shapes.rects
   -- Its devices, one for each class of gate cells, are the fingers of the folded subcircuit, net by net.
-  pub extracts : ExtractsTo Plain inputs.cell.nets inputs.fingers (drawing_in inputs row routing lines).shapes
+  pub extracts : ExtractsTo Plain inputs.cell.nets inputs.fingers drawing.shapes
   -- They stand in the columns of the row, and neighbours without a gap abut in each row that both fill.
-  pub shows_row : ShowsRow Plain inputs.cell.nets row (drawing_in inputs row routing lines).shapes
+  pub shows_row : ShowsRow Plain inputs.cell.nets row drawing.shapes
   -- The labels of trunks stand on the tracks of the routing.
   pub shows_routing :
-      ShowsRouting inputs.cell.nets inputs.cell.pins (placement_of row)
-      (drawing_in inputs row routing lines).shapes routing
+      ShowsRouting inputs.cell.nets inputs.cell.pins (placement_of row) drawing.shapes routing
   -- The bytes are a library with one cell of that name and no other, and these are its shapes and labels.
-  pub decodes :
-      Decodes (library_of inputs (drawing_in inputs row routing lines)) inputs.cell.name inputs.tech.lambda_nm
-      (drawing_in inputs row routing lines).shapes
-  pub alone : HasOneStructure (library_of inputs (drawing_in inputs row routing lines))
+  pub decodes : Decodes (library_of inputs drawing) inputs.cell.name inputs.tech.lambda_nm drawing.shapes
+  pub alone : HasOneStructure (library_of inputs drawing)
   -- Each pin has exactly one port: one of these shapes, on which the label of the pin's name stands.
   pub ports : (n : ℕ) → n < inputs.cell.pins.pins
-      → HasPort inputs.cell.nets (ports_in inputs routing (drawing_in inputs row routing lines))
-      (drawing_in inputs row routing lines) n
+      → HasPort inputs.cell.nets (ports_in inputs routing drawing) drawing n
   -- Ports and obstructions are all metal of these shapes, each shape once.
-  pub obstructs :
-      AreAllMetal (ports_in inputs routing (drawing_in inputs row routing lines))
-      (drawing_in inputs row routing lines).shapes.rects
+  pub obstructs : AreAllMetal (ports_in inputs routing drawing) drawing.shapes.rects
   -- The width and the height are the greatest x and the greatest y of metal1.
-  pub sized : IsSized (drawing_in inputs row routing lines)
+  pub sized : IsSized drawing
   -- The library stands in `OUT.gds`, the text of the log in `OUT.clog`, and in `OUT.lef` the macro of the cell with
   -- these ports, obstructions and this size.
   pub files :
-      Both (HasCell out (log_text inputs.cell.name log)
-      (library_of inputs (drawing_in inputs row routing lines))
-      (abstract_of inputs routing (drawing_in inputs row routing lines))) old.made new.made
+      Both (HasCell out (log_text inputs.cell.name log) (library_of inputs drawing)
+      (abstract_of inputs routing drawing)) old.made new.made
   -- The report says the columns, the tracks, the width and height, and how many lemmas the log has.
   pub says :
       Both (Says (codes "status 0 ok\n" ++ plan_text inputs.cell.name inputs.cell.nets row
-      ++ drawn_text routing.tracks (drawing_in inputs row routing lines).width
-      (drawing_in inputs row routing lines).height (length log.lemmas))) old.said new.said
+      ++ drawn_text routing.tracks drawing.width drawing.height (length log.lemmas))) old.said new.said
 
 -- ---- why there is none
 
@@ -178,7 +175,8 @@ OfFirstLeast Says inputs out =
 -- no nets of the row stand above each other in a ring, and its height is enough
 pub record CanBeDrawn (inputs : Inputs) (row : List Column) : Type 0 where
   pub acyclic : HasNoCycle (placement_of row) inputs.cell.pins
-  pub fits : (routing : Routing) → IsRouted inputs row routing → IsTooTall row routing.tracks inputs.tech.height → ⊥
+  pub fits : (routing : Routing) → IsRouted plain_style inputs row routing
+      → IsTooTall row routing.tracks inputs.tech.height → ⊥
 
 -- some do
 abbrev pub HasCycle : Inputs → List Column → Type 0
@@ -187,7 +185,8 @@ HasCycle inputs row = (cycle : List Above) × IsCycle (placement_of row) inputs.
 -- none do, but the row needs more than the height
 pub record IsTooHigh (inputs : Inputs) (row : List Column) : Type 0 where
   pub acyclic : HasNoCycle (placement_of row) inputs.cell.pins
-  pub tall : (routing : Routing) → IsRouted inputs row routing → IsTooTall row routing.tracks inputs.tech.height
+  pub tall : (routing : Routing) → IsRouted plain_style inputs row routing
+      → IsTooTall row routing.tracks inputs.tech.height
 
 -- with this status, or memory ran out
 abbrev pub IsOrShort : Status → Status → Type 0
@@ -196,11 +195,15 @@ IsOrShort settled answer = (answer ≡ settled) ⊎ (answer ≡ status.NoMemory)
 -- ---- calls that make no file
 
 -- the statuses of calls that make none
+abbrev pub fileless_statuses : List Status
+fileless_statuses =
+    status.Usage
+    ∷ status.ReadFault
+    ∷ status.Input
+    ∷ status.Rejected
+    ∷ status.Layout
+    ∷ status.TooLong
+    ∷ []
+
 abbrev pub MakesNone : Status → Type 0
-MakesNone status.Usage = Unit {0}
-MakesNone status.ReadFault = Unit {0}
-MakesNone status.Input = Unit {0}
-MakesNone status.Rejected = Unit {0}
-MakesNone status.Layout = Unit {0}
-MakesNone status.TooLong = Unit {0}
-MakesNone _ = ⊥
+MakesNone answer = IsTrue (is_among fileless_statuses answer)

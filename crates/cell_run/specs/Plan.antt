@@ -3,8 +3,8 @@ use Rattle.std.specs.Prelude.{◌≡◌, ◌≤◌, Option, Ok}
 use Rattle.cell_io.specs.Desk.{Files}
 use Rattle.log_check.specs.Accepted.{ForKinds}
 use Rattle.row_search.specs.Enough.{enough}
-use Rattle.cell_make.specs.Inputs.{Inputs}
-use Rattle.call_gather.specs.Material.{Planning}
+use Rattle.cell_inputs.specs.Inputs.{Inputs}
+use Rattle.call_gather.specs.Kinds.{Planning}
 use Rattle.call_gather.specs.Gather.{gathered}
 use Rattle.call_read.specs.Reading.{called}
 use Rattle.call_words.specs.Words.{Form}
@@ -13,5 +13,5 @@ use Rattle.call_words.specs.Words.{Form}
 abbrev pub HasEnough : Files → Option Form → Type 0
 HasEnough files form =
     (inputs : Inputs)
-    × (called files (gathered form) ≡ Ok (Planning inputs))
+    × (called files (gathered form) ≡ Ok (Planning, inputs))
     × ForKinds inputs.fingers (λ k. enough k ≤ inputs.tech.budget)

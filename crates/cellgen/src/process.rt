@@ -1,7 +1,7 @@
 ghost use Rattle.std.specs.Prelude.{◌≡◌, IfOk, drop};
 ghost use Rattle.std.specs.Process.{exit_status};
 ghost use Rattle.std.specs.Vec.Iter.{into_iter_items};
-ghost use Rattle.cell_run.specs.Status.{number_of};
+ghost use Rattle.call_end.specs.Status.{number_of};
 
 use cell_run::Status;
 use std::alloc::{AllocError, Global};

@@ -1,15 +1,19 @@
 mod Cutting
 mod Cycles
 mod Finds
-mod FirstLabels
+pub mod FirstLabels
 mod Holding
 mod Marks
 mod NodeLines
 mod Numbers
+mod OnePieceTold
 mod OnePiecing
 mod PieceChannel
 mod PieceDensity
 mod PieceLegal
+mod PieceSteps
+mod PieceTelling
 mod PieceWalks
 mod Sorting
-mod Wired
+mod StuckPieces
+pub mod Wired

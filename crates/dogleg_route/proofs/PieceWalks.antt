@@ -75,7 +75,7 @@ acyclic p pins r l (first ∷ rest) c =
     omega (arith, wrong)
 
 -- ---- a walk down along constraints is one over pieces
-goes : (p : Placement) (pins : Pins) (wires left : List Wire) → ArePieceWires p pins wires → (a b : Step) → Contains wires a.wire → Contains wires b.wire → IsDown left (constraints_of wires p.nodes) a.wire.key b.wire.key a.line → GoesDown p pins (entry_of a) (entry_of b)
+pub goes : (p : Placement) (pins : Pins) (wires left : List Wire) → ArePieceWires p pins wires → (a b : Step) → Contains wires a.wire → Contains wires b.wire → IsDown left (constraints_of wires p.nodes) a.wire.key b.wire.key a.line → GoesDown p pins (entry_of a) (entry_of b)
 goes p pins wires left h a b ha hb d =
     let w : IsWireAbove p pins a.wire b.wire a.line = wire_above p pins wires h a.wire b.wire ha hb a.line d.over in
     record {

@@ -38,7 +38,7 @@ one_net p pins r l a b ha hb same less =
 
 in_order : (p : Placement) (pins : Pins) (r : PieceRouting) → ArePiecesLegal p pins r → (a b : Trunk) → Contains r.pieces a → Contains r.pieces b → StandsEarlier a b → AreInOrder a b
 in_order p pins r l a b ha hb (inl less) = inl less
-in_order p pins r l a b ha hb (inr (same, less)) = let s : IsStacked a.right b.left b.right = one_net p pins r l a b ha hb same less in inr (same, less, s.ends)
+in_order p pins r l a b ha hb (inr (same, less)) = let s : IsStacked a.right b.left b.right = one_net p pins r l a b ha hb same less in inr (same, less, s.ends, omega (arith, s.ends, s.rises))
 
 held_at : (p : Placement) (pins : Pins) (r : PieceRouting) → ArePiecesLegal p pins r → (net : NetNo) (line : ℕ) → HasTrunk p pins net → Contains (lines_of p net) line → IsHeldAt r.pieces net line
 held_at p pins r l net line has there =

@@ -1,8 +1,7 @@
--- What contracts of public calls cite, and what these definitions stand on.
+pub mod Cuts
 pub mod Firsts
 pub mod PieceCycles
+pub mod PieceTold
+pub mod PieceWires
 pub mod Pieces
 pub mod Routings
--- What inner contracts and proofs alone cite.
-pub mod Cuts
-pub mod PieceWires

@@ -1,11 +1,13 @@
-ghost use Rattle.std.specs.Prelude.{◌≡◌, ◌≤◌, ◌⊎◌, ℕ};
+ghost use Rattle.std.specs.Prelude.{◌≡◌, ◌≤◌, ◌⊎◌, ℕ, List};
 ghost use Rattle.cell_num.specs.declared.net.NetNo.{NetNo as Net};
 ghost use Rattle.cell_num.specs.declared.net.Pins.{Pins as SomePins};
 ghost use Rattle.row_place.specs.declared.placement.Placement.{Placement as APlacement};
+ghost use Rattle.channel_route.specs.declared.routing.WireAbove.{WireAbove};
 ghost use Rattle.channel_route.specs.Cycle.{HasNoCycle};
 ghost use Rattle.channel_route.specs.Wiring.{IsWiring};
 ghost use Rattle.dogleg_route.specs.declared.piece.PieceRouting.{PieceRouting as ARouting};
-ghost use Rattle.dogleg_route.specs.PieceCycles.{HasNoPieceCycle};
+ghost use Rattle.dogleg_route.specs.PieceCycles.{BeginsFirst, HasNoPieceCycle};
+ghost use Rattle.dogleg_route.specs.PieceTold.{IsPieceTold};
 ghost use Rattle.dogleg_route.specs.Pieces.{IsPiece};
 ghost use Rattle.dogleg_route.specs.Routings.{ArePiecesLegal, ArePiecesTight, as_routing};
 
@@ -33,4 +35,11 @@ pub fn one_piece_routing()
 /// Where no nets stand above each other in a cycle, no pieces do. It does nothing: its contract is the law.
 pub fn no_piece_cycle()
     ensures { (p : APlacement) (pins : SomePins) → HasNoCycle p pins → HasNoPieceCycle p pins }
+{}
+
+/// One cycle of pieces is told at most. It does nothing: its contract is the law.
+pub fn one_piece_told()
+    ensures { (p : APlacement) (pins : SomePins) (a b : List WireAbove)
+        → IsPieceTold p pins a → BeginsFirst p pins a
+        → IsPieceTold p pins b → BeginsFirst p pins b → a ≡ b }
 {}

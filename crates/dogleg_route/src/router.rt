@@ -8,6 +8,7 @@ ghost use Rattle.channel_route.specs.Routing.{IsLegal, IsDensity, HasNoAbove};
 ghost use Rattle.dogleg_route.specs.declared.piece.PieceStop.TheVariants.{Cycle as CycleOf};
 ghost use Rattle.dogleg_route.specs.Cuts.{entry_of};
 ghost use Rattle.dogleg_route.specs.PieceCycles.{HasNoPieceCycle, IsPieceCause};
+ghost use Rattle.dogleg_route.specs.PieceTold.{TellsPieces};
 ghost use Rattle.dogleg_route.specs.PieceWires.{ArePieceWires};
 ghost use Rattle.dogleg_route.specs.Routings.{ArePiecesLegal, ArePiecesTight};
 
@@ -50,7 +51,8 @@ fn piece_wires(alloc: Global, placement: &Placement, pins: &Pins) -> Result<Vec<
 /// Routes the channel between the rows of a placement in pieces, where each pin other than the rails has a place:
 /// the trunk of each net is cut at the node lines of the net between its first and its last one. Each piece
 /// stands on the least track that the pieces below it and the pieces of other nets before it allow. Cycle comes
-/// exactly where no routing of pieces is legal, and is written from its first piece on, by first line, last line, net.
+/// exactly where no routing of pieces is legal; of several cycles it tells the one below the first piece that can
+/// not be placed, written from its first piece on, by first line, last line and net.
 pub fn route_pieces(
     alloc: Global,
     placement: &Placement,
@@ -60,11 +62,12 @@ pub fn route_pieces(
     requires pins { HasPins placement.now pins.now }
     ensures legal { IfOk result (ArePiecesLegal placement.now pins.now) }
     ensures tight { IfOk result (ArePiecesTight placement.now pins.now) }
-    // where no net stands above another, the tracks are as many as trunks cover one line
+    // where no net stands above another, the tracks are as many as trunks hold one line
     ensures density { IfOk result (λ routing. HasNoAbove placement.now pins.now → (q : Trunks)
         → IsLegal placement.now pins.now q → IsDensity q.trunks routing.tracks) }
     ensures acyclic { IfOk result (λ routing. HasNoPieceCycle placement.now pins.now) }
     ensures cause { IfErr result (IsPieceCause placement.now pins.now) }
+    ensures told { IfErr result (TellsPieces placement.now pins.now) }
     // it comes only where the trunks have a cycle too
     ensures fewer { (c : List Entry) → result ≡ Err (CycleOf c) → HasNoCycle placement.now pins.now → ⊥ }
 {

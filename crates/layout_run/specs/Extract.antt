@@ -1,5 +1,5 @@
 -- What the extraction of a cell of a GDSII file comes to.
-use Rattle.std.specs.Prelude.{ℕ, ◌≡◌, ◌≢◌, ◌≤◌, ℤ, List, ◌++◌, codes, length, Option, Some, Ok}
+use Rattle.std.specs.Prelude.{ℕ, ◌≡◌, ◌≢◌, ◌≤◌, ℤ, List, ◌++◌, codes, length}
 use Rattle.std.specs.List.{Contains}
 use Rattle.box_geom.specs.declared.shape.Shapes.{Shapes}
 use Rattle.gds_read.specs.declared.fault.GdsFault.TheVariants as gds

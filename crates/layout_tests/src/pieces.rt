@@ -1,16 +1,19 @@
-ghost use Rattle.std.specs.Prelude.{◌≡◌, ◌≤◌, ◌<◌, true, All, IfOk, length};
+ghost use Rattle.std.specs.Prelude.{◌≡◌, ◌≤◌, ◌<◌, ◌==◌, ◌||◌, true, All, IfOk, length};
+ghost use Rattle.std.specs.List.{list_any};
 ghost use Rattle.cell_num.specs.Pins.{ArePins};
 ghost use Rattle.row_model.specs.Arrangement.{IsPlaced, IsColumn};
 ghost use Rattle.row_place.specs.Places.{IsPlacement};
-ghost use Rattle.row_place.specs.Trunks.{lines_of, HasPins};
+ghost use Rattle.row_place.specs.Trunks.{lines_of as lines_of_net, HasPins};
+ghost use Rattle.row_compact.specs.Allowed.{AreAllowed, stretches_of};
+ghost use Rattle.dogleg_route.specs.Routings.{ArePiecesLegal};
 ghost use Rattle.cell_draw.specs.Sound.{IsSoundRow};
 
 use crate::cells::{Cell, drawn};
 use crate::inverters::inverter;
 use cell_draw::{Drawing, MOST_X};
-use cell_num::{Finger, NetNo, NoMemory, Pins, Row};
+use cell_num::{Finger, MOST_COLUMNS, NetNo, NoMemory, Pins, Row};
 use dogleg_route::{Piece, PieceRouting, PieceStop, draw_pieces, piece_distances, route_pieces};
-use row_compact::{least_lines, lines_of as count_lines, x_of};
+use row_compact::{LineXs, least_lines, lines_of, x_of};
 use row_model::{Arrangement, Column, Placed};
 use row_place::{Placement, place};
 use std::alloc::Global;
@@ -48,21 +51,37 @@ fn both(gate: u32, p: (u32, u32), n: (u32, u32)) -> Column
     }
 }
 
-#[tactic(auto, using(crate::proofs::HasPlaces::has_line))]
-fn has_place(placement: &Placement, net: NetNo) -> bool
-    ensures { result ≡ true → 0 < length (lines_of placement.now net) }
+fn has_node(placement: &Placement, net: NetNo) -> bool
+    ensures { result ≡ list_any (λ node. node.net.0 == net.0) placement.now.nodes }
 {
-    let on_node = placement
+    placement
         .nodes
         .as_slice()
         .iter()
-        .any(|node| node.net.0 == net.0);
-    on_node
-        || placement
-            .gates
-            .as_slice()
-            .iter()
-            .any(|gate| gate.net.0 == net.0)
+        .any(|node| node.net.0 == net.0)
+}
+
+fn has_gate(placement: &Placement, net: NetNo) -> bool
+    ensures { result ≡ list_any (λ gate. gate.net.0 == net.0) placement.now.gates }
+{
+    placement
+        .gates
+        .as_slice()
+        .iter()
+        .any(|gate| gate.net.0 == net.0)
+}
+
+fn is_named(placement: &Placement, net: NetNo) -> bool
+    ensures { result ≡ (list_any (λ node. node.net.0 == net.0) placement.now.nodes
+        || list_any (λ gate. gate.net.0 == net.0) placement.now.gates) }
+{
+    has_node(placement, net) || has_gate(placement, net)
+}
+
+fn has_place(placement: &Placement, net: NetNo) -> bool
+    ensures { result ≡ true → 0 < length (lines_of_net placement.now net) }
+{
+    is_named(placement, net)
 }
 
 fn have_places(placement: &Placement, pins: &Pins) -> bool
@@ -77,28 +96,30 @@ fn have_places(placement: &Placement, pins: &Pins) -> bool
     true
 }
 
-// A pin without a place gives NoMemory, which no row of the tests expects.
-fn routed(alloc: Global, columns: &[Column], vdd: u32) -> Result<PieceRouting, PieceStop>
+fn placed(alloc: Global, columns: &[Column]) -> Result<Placement, NoMemory>
     requires columns { All IsColumn columns.now }
-    requires few { length columns.now ≤ 32 }
-    requires vdd { vdd ≤ 100 }
+    requires few { length columns.now ≤ MOST_COLUMNS }
+    ensures { IfOk result IsPlacement }
 {
     let mut row = Arrangement::new(alloc);
-    if row.extend(columns).is_err() {
-        return Err(PieceStop::NoMemory);
-    }
-    let Ok(placement) = place(alloc, &row) else {
-        return Err(PieceStop::NoMemory);
-    };
+    row.extend(columns)?;
+    place(alloc, &row)
+}
+
+// The rails stand behind the signals. A pin without a place gives NoMemory, which no row of the tests expects.
+fn routed(alloc: Global, placement: &Placement, vdd: u32) -> Result<PieceRouting, PieceStop>
+    requires placement { IsPlacement placement.now }
+    requires vdd { vdd ≤ 100 }
+{
     let pins = Pins {
         pins: vdd + 2,
         vdd: NetNo(vdd),
         gnd: NetNo(vdd + 1),
     };
-    if !have_places(&placement, &pins) {
+    if !have_places(placement, &pins) {
         return Err(PieceStop::NoMemory);
     }
-    route_pieces(alloc, &placement, &pins)
+    route_pieces(alloc, placement, &pins)
 }
 
 fn piece(net: u32, left: u32, right: u32, track: u32) -> Piece {
@@ -133,13 +154,13 @@ fn is_cycle(answer: &Result<PieceRouting, PieceStop>, entries: &[(u32, u32, u32)
 // Pins s0 s1 vdd gnd.
 #[test]
 fn routes_where_trunks_have_a_cycle(rt: HostRuntime) -> Result<(), Fail> {
+    let row = placed(
+        rt.alloc(),
+        &[both(1, (0, 0), (1, 0)), both(0, (0, 1), (0, 0))],
+    )?;
     assert!(rt;
         is_routing(
-            &routed(
-                rt.alloc(),
-                &[both(1, (0, 0), (1, 0)), both(0, (0, 1), (0, 0))],
-                2
-            ),
+            &routed(rt.alloc(), &row, 2),
             3,
             &[piece(0, 0, 2, 2), piece(0, 2, 4, 0), piece(1, 0, 4, 1)]
         )
@@ -150,13 +171,13 @@ fn routes_where_trunks_have_a_cycle(rt: HostRuntime) -> Result<(), Fail> {
 // At line 2 the N place of s0 goes up to track 1, its P place down to track 0.
 #[test]
 fn routes_in_two_pieces(rt: HostRuntime) -> Result<(), Fail> {
+    let row = placed(
+        rt.alloc(),
+        &[both(0, (0, 0), (1, 0)), both(0, (0, 2), (0, 3))],
+    )?;
     assert!(rt;
         is_routing(
-            &routed(
-                rt.alloc(),
-                &[both(0, (0, 0), (1, 0)), both(0, (0, 2), (0, 3))],
-                2
-            ),
+            &routed(rt.alloc(), &row, 2),
             2,
             &[piece(0, 0, 2, 1), piece(0, 2, 3, 0), piece(1, 0, 0, 0)]
         )
@@ -168,13 +189,13 @@ fn routes_in_two_pieces(rt: HostRuntime) -> Result<(), Fail> {
 #[test]
 fn routes_on_other_numbers_of_tracks(rt: HostRuntime) -> Result<(), Fail> {
     // pins s0 s1 s2 vdd gnd: trunks need 3
+    let fewer = placed(
+        rt.alloc(),
+        &[both(2, (2, 2), (0, 2)), both(2, (2, 1), (2, 2))],
+    )?;
     assert!(rt;
         is_routing(
-            &routed(
-                rt.alloc(),
-                &[both(2, (2, 2), (0, 2)), both(2, (2, 1), (2, 2))],
-                3
-            ),
+            &routed(rt.alloc(), &fewer, 3),
             2,
             &[
                 piece(0, 0, 0, 0),
@@ -186,13 +207,13 @@ fn routes_on_other_numbers_of_tracks(rt: HostRuntime) -> Result<(), Fail> {
         "fewer"
     );
     // pins s0 s1 vdd gnd: trunks need 2
+    let more = placed(
+        rt.alloc(),
+        &[both(0, (1, 1), (3, 1)), both(0, (2, 1), (1, 0))],
+    )?;
     assert!(rt;
         is_routing(
-            &routed(
-                rt.alloc(),
-                &[both(0, (1, 1), (3, 1)), both(0, (2, 1), (1, 0))],
-                2
-            ),
+            &routed(rt.alloc(), &more, 2),
             3,
             &[
                 piece(0, 1, 6, 1),
@@ -209,13 +230,13 @@ fn routes_on_other_numbers_of_tracks(rt: HostRuntime) -> Result<(), Fail> {
 // Pins s1 vdd gnd, and the inner net 3: no net stands above another, and net 3 is on two tracks.
 #[test]
 fn routes_with_nothing_above(rt: HostRuntime) -> Result<(), Fail> {
+    let row = placed(
+        rt.alloc(),
+        &[both(3, (1, 0), (0, 0)), both(3, (3, 1), (2, 2))],
+    )?;
     assert!(rt;
         is_routing(
-            &routed(
-                rt.alloc(),
-                &[both(3, (1, 0), (0, 0)), both(3, (3, 1), (2, 2))],
-                1
-            ),
+            &routed(rt.alloc(), &row, 1),
             2,
             &[piece(0, 0, 2, 0), piece(3, 1, 4, 1), piece(3, 4, 5, 0)]
         )
@@ -227,44 +248,56 @@ fn routes_with_nothing_above(rt: HostRuntime) -> Result<(), Fail> {
 #[test]
 fn finds_cycles_of_pieces(rt: HostRuntime) -> Result<(), Fail> {
     // it passes s0 twice
+    let twice = placed(
+        rt.alloc(),
+        &[
+            both(0, (1, 1), (1, 0)),
+            both(4, (0, 0), (4, 0)),
+            both(4, (0, 4), (1, 0)),
+        ],
+    )?;
     assert!(rt;
         is_cycle(
-            &routed(
-                rt.alloc(),
-                &[
-                    both(0, (1, 1), (1, 0)),
-                    both(4, (0, 0), (4, 0)),
-                    both(4, (0, 4), (1, 0))
-                ],
-                2
-            ),
+            &routed(rt.alloc(), &twice, 2),
             &[(0, 2, 4), (4, 4, 10), (0, 8, 8), (1, 2, 2)]
         ),
         "twice"
     );
+    let three = placed(
+        rt.alloc(),
+        &[both(4, (1, 4), (0, 1)), both(0, (2, 0), (1, 4))],
+    )?;
     assert!(rt;
         is_cycle(
-            &routed(
-                rt.alloc(),
-                &[both(4, (1, 4), (0, 1)), both(0, (2, 0), (1, 4))],
-                2
-            ),
+            &routed(rt.alloc(), &three, 2),
             &[(1, 0, 0), (0, 0, 6), (4, 2, 2)]
         ),
         "three"
     );
     // they meet at a right end
+    let one = placed(rt.alloc(), &[both(1, (1, 0), (0, 1))])?;
     assert!(rt;
-        is_cycle(
-            &routed(rt.alloc(), &[both(1, (1, 0), (0, 1))], 2),
-            &[(0, 0, 2), (1, 0, 0)]
-        ),
+        is_cycle(&routed(rt.alloc(), &one, 2), &[(0, 0, 2), (1, 0, 0)]),
         "one column"
     );
     Ok(())
 }
 
-// The inverter on its least lines. Its nets have no inner places, so it is drawn as with trunks.
+fn lines(
+    alloc: Global,
+    placement: &Placement,
+    routing: &PieceRouting,
+    pins: &Pins,
+) -> Result<LineXs, NoMemory>
+    requires placement { IsPlacement placement.now }
+    requires routing { ArePiecesLegal placement.now pins.now routing.now }
+    ensures { IfOk result (λ xs. AreAllowed placement.now pins.now (stretches_of routing.now.pieces) xs) }
+{
+    let distances = piece_distances(alloc, placement, routing, pins)?;
+    least_lines(alloc, &distances)
+}
+
+// A cell on its least lines. A cycle gives NoMemory, which no row of the tests expects.
 fn drawn_in_pieces(alloc: Global, cell: &Cell) -> Result<Drawing, Fail>
     requires sound { IsSoundRow cell.now.names cell.now.pins cell.now.row }
     requires pins { ArePins (length cell.now.names) cell.now.pins }
@@ -274,9 +307,8 @@ fn drawn_in_pieces(alloc: Global, cell: &Cell) -> Result<Drawing, Fail>
     let Ok(routing) = route_pieces(alloc, &placement, &cell.pins) else {
         return Err(Fail::from(NoMemory));
     };
-    let distances = piece_distances(alloc, &placement, &routing, &cell.pins)?;
-    let xs = least_lines(alloc, &distances)?;
-    if x_of(xs.as_slice(), count_lines(&placement) - 1) > MOST_X {
+    let xs = lines(alloc, &placement, &routing, &cell.pins)?;
+    if x_of(xs.as_slice(), lines_of(&placement) - 1) > MOST_X {
         return Err(Fail::from(NoMemory));
     }
     match draw_pieces(alloc, &cell.names, &cell.pins, &placement, &routing, &xs, 0) {
@@ -285,6 +317,7 @@ fn drawn_in_pieces(alloc: Global, cell: &Cell) -> Result<Drawing, Fail>
     }
 }
 
+// Its nets have no inner places, so it is drawn as with trunks.
 #[test]
 fn draws_the_inverter_in_pieces(rt: HostRuntime) -> Result<(), Fail> {
     let cell = inverter(rt.alloc())?;

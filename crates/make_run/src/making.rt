@@ -1,15 +1,17 @@
 ghost use Rattle.std.specs.Prelude.{IfOk};
 ghost use Rattle.bound_log.specs.Fits.{Fits, ForSome, IsLogName};
+ghost use Rattle.cell_inputs.specs.Style.{plain_style};
 ghost use Rattle.cell_make.specs.Making.{CanBeWritten, ComesTo, answer_of};
 ghost use Rattle.make_run.specs.Make.{IsCycleEnd, IsMakeEnd, IsTallEnd, IsUnfinishedEnd, MakesTo};
 
 use crate::make_end::{with_drawing, with_log};
-use crate::make_report::{cycle_report, spent_report, tall_report};
+use crate::make_report::{ring_report, spent_report, tall_report};
 use crate::stem::Stem;
 use call_end::{End, Status};
-use cell_make::{Inputs, Outcome};
+use cell_inputs::{Inputs, Style};
+use cell_make::Outcome;
 use cell_num::NoMemory;
-use channel_route::CycleList;
+use channel_route::Ring;
 use log_output::KeptLog;
 use spice_net::Subckt;
 use std::alloc::Global;
@@ -19,13 +21,13 @@ fn cyclic(
     cell: &Subckt,
     stem: &Stem,
     log: KeptLog,
-    cycle: &CycleList,
+    ring: &Ring,
 ) -> Result<End, NoMemory>
     requires name { IsLogName cell.now.name }
     requires fits { ForSome (λ k. Fits k log) }
-    ensures { IfOk result (IsCycleEnd cell.now stem.now log cycle.now) }
+    ensures { IfOk result (IsCycleEnd cell.now stem.now log ring.now) }
 {
-    let report = cycle_report(alloc, &cell.nets, cycle)?;
+    let report = ring_report(alloc, &cell.nets, ring)?;
     with_log(alloc, cell, stem, log, Status::Cycle, report)
 }
 
@@ -61,9 +63,9 @@ fn unfinished(
 }
 
 // Tells what making a cell came to.
-#[tactic(auto, using(cell_make::proofs::Names::log_name))]
+#[tactic(auto, using(cell_inputs::proofs::Names::log_name))]
 fn end_of(alloc: Global, inputs: &Inputs, stem: &Stem, outcome: Outcome) -> Result<End, NoMemory>
-    requires comes { ComesTo inputs.now outcome }
+    requires comes { ComesTo plain_style inputs.now outcome }
     requires written { CanBeWritten inputs.now outcome }
     ensures { IfOk result (IsMakeEnd inputs.now stem.now (answer_of outcome)) }
 {
@@ -72,7 +74,7 @@ fn end_of(alloc: Global, inputs: &Inputs, stem: &Stem, outcome: Outcome) -> Resu
     let unit_nm = inputs.unit_nm();
     match outcome {
         Outcome::Made {
-            row,
+            placement,
             log,
             routing,
             drawn,
@@ -80,13 +82,13 @@ fn end_of(alloc: Global, inputs: &Inputs, stem: &Stem, outcome: Outcome) -> Resu
             alloc,
             cell,
             stem,
-            &row,
+            &placement.row,
             log,
             &routing,
             &drawn.drawing,
             unit_nm,
         ),
-        Outcome::Cyclic { log, cycle, .. } => cyclic(alloc, cell, stem, log, &cycle),
+        Outcome::Cyclic { log, ring, .. } => cyclic(alloc, cell, stem, log, &ring),
         Outcome::Tall {
             log,
             needed,
@@ -102,6 +104,6 @@ fn end_of(alloc: Global, inputs: &Inputs, stem: &Stem, outcome: Outcome) -> Resu
 pub fn make(alloc: Global, inputs: &Inputs, stem: &Stem) -> Result<End, NoMemory>
     ensures { IfOk result (MakesTo inputs.now stem.now) }
 {
-    let outcome = Outcome::of(alloc, inputs)?;
+    let outcome = Outcome::of(alloc, inputs, Style::plain())?;
     end_of(alloc, inputs, stem, outcome)
 }

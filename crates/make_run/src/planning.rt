@@ -4,7 +4,7 @@ ghost use Rattle.make_run.specs.Plan.{PlansTo, planned_end, unfinished_end};
 
 use crate::make_report::spent_report;
 use call_end::{End, Status};
-use cell_make::Inputs;
+use cell_inputs::Inputs;
 use cell_num::{Bytes, NoMemory};
 use cell_report::plan_text;
 use log_output::{Content, KeptLog, LogText};
@@ -36,7 +36,7 @@ fn unfinished(alloc: Global, cell: &Subckt, log: KeptLog, proved: u32) -> Result
 }
 
 /// The first least row of the inputs, or the log of a search that spent its budget.
-#[tactic(auto, using(cell_make::proofs::Names::log_name))]
+#[tactic(auto, using(cell_inputs::proofs::Names::log_name))]
 pub fn plan(alloc: Global, inputs: &Inputs) -> Result<End, NoMemory>
     ensures { IfOk result (PlansTo inputs.now) }
 {

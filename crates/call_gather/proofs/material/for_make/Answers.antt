@@ -1,11 +1,11 @@
 use Rattle.std.proofs.Common.{Ok, inl, refl}
 use Rattle.call_read.specs.InputFiles.{inputs_from}
 use Rattle.call_gather.specs.Gather.{making}
-use Rattle.cell_make.specs.Inputs.{Inputs}
-use Rattle.call_gather.specs.Material.{Making}
+use Rattle.cell_inputs.specs.Inputs.{Inputs}
+use Rattle.call_gather.specs.Kinds.{Making}
 use Rattle.call_read.specs.Reading.{Ends}
 use Rattle.call_read.proofs.Desks.{only_refl}
-use Rattle.call_gather.proofs.Keeping.{keeps_behind, keeps_refusal, keeps_short}
+use Rattle.call_gather.proofs.Keeping.{keeps_behind, keeps_refusal, keeps_short, same_out}
 use Rattle.call_gather.proofs.material.for_make.Goals as goal
 
 pub returns-in_err-stem-clause-comes : goal.returns-in_err-stem-clause-comes
@@ -15,7 +15,7 @@ returns-in_err-stem-clause-comes g c =
 pub returns-in_err-inputs-clause-comes : goal.returns-in_err-inputs-clause-comes
 returns-in_err-inputs-clause-comes g c =
     keeps_refusal (g.D.Desk.view c.args.desk.now) (g.D.Desk.view c.read_inputs.new.desk) (g.D.Desk.view c.read_inputs.new.desk)
-    (inputs_from c.args.asked.now) (λ (inputs : Inputs). Ends (Ok (Making inputs c.args.out.now))) c.read_inputs.result c.in_err-inputs.field-0.0 c.from_residual-in_err-inputs.result
+    (inputs_from c.args.asked.now) (λ (inputs : Inputs). Ends (Ok (Making, (inputs, c.args.out.now)))) c.read_inputs.result c.in_err-inputs.field-0.0 c.from_residual-in_err-inputs.result
     (only_refl (g.D.Desk.view c.read_inputs.new.desk))
     c.read_inputs.ensures.comes
     c.in_err-inputs.was
@@ -24,9 +24,9 @@ returns-in_err-inputs-clause-comes g c =
 pub returns-clause-comes : goal.returns-clause-comes
 returns-clause-comes g c =
     keeps_behind (g.D.Desk.view c.args.desk.now) (g.D.Desk.view c.read_inputs.new.desk) (g.D.Desk.view c.read_inputs.new.desk)
-    (inputs_from c.args.asked.now) (λ (inputs : Inputs). Ends (Ok (Making inputs c.args.out.now))) c.read_inputs.result c.in_ok-inputs.inputs (Ok _)
+    (inputs_from c.args.asked.now) (λ (inputs : Inputs). Ends (Ok (Making, (inputs, c.args.out.now)))) c.read_inputs.result c.in_ok-inputs.inputs (Ok _)
     c.read_inputs.ensures.only
     (only_refl (g.D.Desk.view c.read_inputs.new.desk))
     c.read_inputs.ensures.comes
     c.in_ok-inputs.was
-    (Ok (Making c.in_ok-inputs.inputs c.args.out.now), inl refl, (refl, c.in_ok-stem.ensures))
+    (Ok (Making, (c.in_ok-inputs.inputs, c.args.out.now)), inl refl, same_out c.in_ok-inputs.inputs c.args.out.now c.in_ok-stem.stem c.in_ok-stem.ensures)

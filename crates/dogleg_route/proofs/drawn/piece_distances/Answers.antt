@@ -1,5 +1,5 @@
 use Rattle.std.proofs.Common.{◌≡◌, sym, subst, rules}
-use Rattle.row_compact.specs.Allowed.{AreWiring}
+use Rattle.channel_route.specs.Wiring.{AreWiring}
 use Rattle.dogleg_route.proofs.Wired.{wired}
 use Rattle.dogleg_route.proofs.drawn.piece_distances.Goals as goal
 

@@ -1,4 +1,4 @@
-use Rattle.std.proofs.Common.{◌≡◌, ◌≢◌, List, [], All, Contains, IsPermutation, map, rules, sym, subst}
+use Rattle.std.proofs.Common.{◌≡◌, ◌≢◌, List, [], All, Contains, IsPermutation, get_or, map, ap, rules, sym, subst}
 use Rattle.channel_route.specs.declared.routing.Trunk.{Trunk}
 use Rattle.channel_route.specs.declared.routing.WireAbove.{WireAbove}
 use Rattle.channel_route.specs.declared.constraint.Constraint.{Constraint}
@@ -15,11 +15,13 @@ use Rattle.channel_route.proofs.ConstraintsOf.{in_order}
 use Rattle.channel_route.proofs.StuckKeys.{AreLeft}
 use Rattle.dogleg_route.specs.Cuts.{entry_of}
 use Rattle.dogleg_route.specs.PieceCycles.{IsPieceCycle, BeginsFirst}
+use Rattle.dogleg_route.specs.PieceTold.{IsPieceTold}
 use Rattle.dogleg_route.specs.Routings.{ArePiecesLegal, ArePiecesTight}
 use Rattle.dogleg_route.proofs.Cycles.{no_piece_cycle}
 use Rattle.dogleg_route.proofs.PieceChannel.{distinct, channel, keys_ascend, upper_not_lower}
 use Rattle.dogleg_route.proofs.PieceDensity.{density}
 use Rattle.dogleg_route.proofs.PieceLegal.{IsDone, routing_of, legal, tight}
+use Rattle.dogleg_route.proofs.PieceTelling.{told}
 use Rattle.dogleg_route.proofs.PieceWalks.{acyclic, cycle_is}
 use Rattle.dogleg_route.proofs.router.route_pieces.Goals as goal
 
@@ -80,6 +82,26 @@ returns-clause-cause c =
     let inside : All (λ (s : Step). Contains left s.wire) cycle = subst (λ (ws : List Wire). All (λ (s : Step). Contains ws s.wire) cycle) lent c.in_ok-cycle-in-Stuck.ensures.wires in
     let entries : c.in_ok-entries_of-in-Stuck.field-0 ≡ map entry_of cycle = subst (λ (xs : List Step). c.in_ok-entries_of-in-Stuck.field-0 ≡ map entry_of xs) lent-2 c.in_ok-entries_of-in-Stuck.ensures in
     subst (λ (xs : List WireAbove). IsPieceCycle c.args.placement.now c.args.pins.now xs × BeginsFirst c.args.placement.now c.args.pins.now xs) (sym entries) (cycle_is c.args.placement.now c.args.pins.now wires left stuck.2 stuck.3 c.in_ok-wires.ensures.wires are first.key cycle down inside)
+
+pub returns-clause-told : goal.returns-clause-told
+returns-clause-told c =
+    let wires : List Wire = c.in_ok-wires.wires.items in
+    let left : List Wire = c.in-Stuck.left.items in
+    let first : Wire = c.index.result.now in
+    let cs : List Constraint = constraints_of wires c.args.placement.now.nodes in
+    let cycle : List Step = c.in_ok-cycle-in-Stuck.cycle.items in
+    let same : c.deref-2.result.now ≡ cs = search rules in
+    let same-2 : c.deref-in-Stuck-2.result.now ≡ cs = search rules in
+    let lent : c.deref-in-Stuck.result.now ≡ left = search rules in
+    let lent-2 : c.deref-in-Stuck-3.result.now ≡ cycle = search rules in
+    let stuck : IsOutcome wires cs (Stuck c.in-Stuck.left) = subst (λ (z : List Constraint). IsOutcome wires z (Stuck c.in-Stuck.left)) same (subst (λ (f : Filled). IsOutcome wires c.deref-2.result.now f) c.in-Stuck.is c.in_ok-placed.ensures) in
+    let are : AreLeft wires left cs stuck.2 stuck.3 = record { filled = stuck.4; stuck = stuck.1 } in
+    let down : IsKeyCycleBelow steps (IsDown left cs) first.key cycle = subst (λ (ws : List Wire). IsKeyCycleBelow steps (IsDown ws cs) first.key cycle) lent (subst (λ (z : List Constraint). IsKeyCycleBelow steps (IsDown c.deref-in-Stuck.result.now z) first.key cycle) same-2 c.in_ok-cycle-in-Stuck.ensures.cycle) in
+    let inside : All (λ (s : Step). Contains left s.wire) cycle = subst (λ (ws : List Wire). All (λ (s : Step). Contains ws s.wire) cycle) lent c.in_ok-cycle-in-Stuck.ensures.wires in
+    let entries : c.in_ok-entries_of-in-Stuck.field-0 ≡ map entry_of cycle = subst (λ (xs : List Step). c.in_ok-entries_of-in-Stuck.field-0 ≡ map entry_of xs) lent-2 c.in_ok-entries_of-in-Stuck.ensures in
+    let begins : first.key ≡ (get_or left 0 first).key = ap (λ (w : Wire). w.key) c.index.ensures in
+    let below : IsKeyCycleBelow steps (IsDown left cs) (get_or left 0 first).key cycle = subst (λ n. IsKeyCycleBelow steps (IsDown left cs) n cycle) begins down in
+    subst (λ (xs : List WireAbove). IsPieceTold c.args.placement.now c.args.pins.now xs) (sym entries) (told c.args.placement.now c.args.pins.now wires left stuck.2 stuck.3 c.in_ok-wires.ensures.wires are first stuck.0 cycle below inside)
 
 pub returns-clause-fewer : goal.returns-clause-fewer
 returns-clause-fewer c entries e none = no_piece_cycle c.args.placement.now c.args.pins.now none c.in_ok-entries_of-in-Stuck.field-0 (returns-clause-cause c).0

@@ -7,7 +7,7 @@ use Rattle.log_check.specs.Accepted.{WithKinds}
 use Rattle.row_search.specs.declared.found.StopKept.{StopKept}
 use Rattle.row_search.specs.Ended.{IfOpen, IsSolved, IsSpent, log_with, log_without}
 use Rattle.row_search.specs.First.{IsFirstLeast}
-use Rattle.cell_make.specs.Inputs.{Inputs}
+use Rattle.cell_inputs.specs.Inputs.{Inputs}
 use Rattle.make_run.specs.Plan.{planned_end, unfinished_end}
 use Rattle.make_run.proofs.Planned.{planned_to, spent_fits, unfinished_to}
 use Rattle.make_run.proofs.planning.plan.Goals as goal
