@@ -1,5 +1,6 @@
 use Rattle.std.proofs.Common.{rules, arith, sym, refl, ◌∙◌}
 use Rattle.lef_read.proofs.Flows.{at_exit, rect_layerless, rect_fails, other_fails, wires_fails, other_is, wires_are}
+use Rattle.lef_read.specs.Drafts.{block_shown}
 use Rattle.lef_read.proofs.block.rect.Goals as goal
 
 pub returns-in_err-sides-in-OtherLayer-clause-keeps : goal.returns-in_err-sides-in-OtherLayer-clause-keeps
@@ -15,4 +16,4 @@ pub returns-in_err-semicolon-in-Wires-clause-keeps : goal.returns-in_err-semicol
 returns-in_err-semicolon-in-Wires-clause-keeps c = at_exit c.from_residual-in_err-semicolon-in-Wires.result c.in_err-semicolon-in-Wires.field-0.0 _ _ c.from_residual-in_err-semicolon-in-Wires.ensures.1 (rw c.in-Wires.is (wires_fails _ _ _ _ _ _ _ _ _ _ c.in_ok-sides-in-Wires.ensures.steps c.in_ok-rect-in-Wires.ensures c.in_err-semicolon-in-Wires.ensures.steps))
 
 pub returns-in-NoLayer-clause-keeps : goal.returns-in-NoLayer-clause-keeps
-returns-in-NoLayer-clause-keeps c = rw c.in-NoLayer.is (rect_layerless _ _ _ _)
+returns-in-NoLayer-clause-keeps c = rw c.in-NoLayer.is (rect_layerless c.args.draft.now (block_shown c.args.block.now) c.args.line c.args.cursor.now)
