@@ -1,5 +1,5 @@
 -- The definition never tells of memory.
-use Rattle.std.proofs.Common.{ℕ, ℤ, ◌≡◌, Bool, true, false, List, [], ◌∷◌, ◌++◌, refl, subst}
+use Rattle.std.proofs.Common.{ℕ, ℤ, Bool, true, false, List, [], ◌∷◌, subst}
 use Rattle.std.specs.Prelude.{Option, Some, None, Result, Ok, Err, ◌≢◌, if◌then◌else◌, bytes_eq, codes, ◌&&◌, ◌==◌, unsigned_abs}
 use Rattle.std.specs.List.{find}
 use Rattle.cell_num.specs.Steps.{◌>>=◌, or_fault}
@@ -7,7 +7,7 @@ use Rattle.box_geom.specs.Rectangle.{Rectangle}
 use Rattle.lef_read.specs.Tokens.{Token, Word, Quoted, Semicolon, Torn, tokens_from}
 use Rattle.lef_read.specs.Numbers.{nanometres_of}
 use Rattle.lef_read.specs.Keywords.{is, keyword_of}
-use Rattle.lef_read.specs.Reading.{Item, Box, Block, Between, InLibrary, InMacro, InPin, InBlock, Place, At, Passing, Closing, Units, UnitsEnd, LibraryEnd, MacroName, MacroEnd, Width, By, Height, OriginX, OriginY, PinName, PinEnd, LayerName, X1, Y1, X2, Y2, Ended, Told, goes, begins, in_library, in_macro, in_pin, in_block, rect_begins, rect_told, ascending, then_number, at_word, at_semicolon, at_text, step_of, ended_at, with_items, then_read, read}
+use Rattle.lef_read.specs.Reading.{Item, Box, Block, Between, InLibrary, InMacro, InPin, InBlock, Place, At, Passing, Closing, Units, UnitsEnd, LibraryEnd, MacroName, MacroEnd, Width, By, Height, OriginX, OriginY, PinName, PinEnd, LayerName, X1, Y1, X2, Y2, Ended, Told, goes, begins, rect_begins, rect_told, ascending, then_number, at_word, step_of, ended_at, with_items, then_read, read}
 use Rattle.lef_read.specs.Macros.{items_of, is_off_grid, boxes_in, on_grid, macro_of, macro_named, macro_in}
 use Rattle.lef_read.specs.declared.block_kind.Current.{Current}
 use Rattle.lef_read.specs.declared.block_kind.Current.TheVariants.{NoLayer, OtherLayer, Wires}

@@ -1,14 +1,14 @@
 -- What a draft and the tokens to come will come to, from statement to statement.
-use Rattle.std.proofs.Common.{ℕ, ◌≡◌, Bool, true, false, List, [], ◌∷◌, ◌++◌, refl, sym, ap, ◌∙◌, arith, inl, inr, codes}
-use Rattle.std.specs.Prelude.{Option, Some, None, Result, Ok, Err, ◌≢◌}
+use Rattle.std.proofs.Common.{ℕ, ◌≡◌, false, List, [], ◌∷◌, refl, sym, ap, ◌∙◌, codes}
+use Rattle.std.specs.Prelude.{Result, Ok, Err, ◌≢◌}
 use Rattle.std.specs.Result.{IsErrAnd}
 use Rattle.cell_num.specs.Steps.{◌>>=◌}
 use Rattle.box_geom.specs.Rectangle.{Rectangle}
 use Rattle.box_geom.specs.declared.layer.Layer.{Layer}
 use Rattle.lef_read.specs.Tokens.{Token, Word, Quoted, Semicolon, Torn}
 use Rattle.lef_read.specs.Keywords.{keyword_of}
-use Rattle.lef_read.specs.Reading.{Item, Begins, Pin, Block, OfPin, OfMacro, Between, InLibrary, InMacro, InPin, InBlock, Place, At, Passing, Closing, Ended, MacroName, MacroEnd, Width, OriginX, PinName, PinEnd, LayerName, X1, Told, goes, in_library, in_macro, in_pin, in_block, rect_begins, rect_told, behind_block, item_of, with_items, then_read, read, ended_at}
-use Rattle.lef_read.specs.Statements.{LinedWord, Taken, Steps, word_in, semicolon_in, named_in, keyword_in, passed, units_passed, size_in, origin_in, rect_of, layer_in}
+use Rattle.lef_read.specs.Reading.{Item, Begins, Pin, Block, OfPin, OfMacro, Between, InLibrary, InMacro, InPin, InBlock, At, Passing, Closing, Ended, MacroName, PinName, goes, in_library, in_macro, in_pin, in_block, rect_begins, behind_block, item_of, with_items, then_read, read}
+use Rattle.lef_read.specs.Statements.{LinedWord, Taken, word_in, semicolon_in, named_in, keyword_in, passed, units_passed, size_in, origin_in, rect_of, layer_in}
 use Rattle.lef_read.specs.Drafts.{Draft, completed, outcome, Keeps}
 use Rattle.lef_read.specs.declared.block_kind.Current.{Current}
 use Rattle.lef_read.specs.declared.block_kind.Current.TheVariants.{NoLayer, OtherLayer, Wires}

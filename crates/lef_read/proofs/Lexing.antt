@@ -1,9 +1,9 @@
 -- The tokens of a text by the lengths of its words and texts.
 use Rattle.std.proofs.Common.{ℕ, suc, ◌≡◌, ◌+◌, ◌-◌, ◌<◌, ◌==◌, ◌||◌, not, Bool, true, false, List, [], ◌∷◌, length, take, drop, get_or, refl, sym, ap, subst, ◌∙◌, arith, inl, inr}
-use Rattle.std.specs.Prelude.{◌≢◌, Some, if◌then◌else◌}
+use Rattle.std.specs.Prelude.{◌≢◌, Some}
 use Rattle.std.proofs.lemmas.Bool.{cases_Bool, ne_eqb}
 use Rattle.std.proofs.lemmas.List.{take_rest}
-use Rattle.lef_read.specs.Tokens.{Token, Word, Quoted, Semicolon, Torn, AWord, AText, Nothing, Coming, coming, is_white, ends_word, line_behind, quoted, scan, tokens_from}
+use Rattle.lef_read.specs.Tokens.{Token, Word, Quoted, Semicolon, Torn, AWord, AText, is_white, ends_word, line_behind, quoted, scan, tokens_from}
 use Rattle.lef_read.specs.Statements.{Takes, begins_token, word_length, until_quote, line_at}
 use Rattle.lef_read.specs.declared.token.Token.{Token as TokenIn}
 use Rattle.lef_read.specs.declared.token.Token.TheVariants as token

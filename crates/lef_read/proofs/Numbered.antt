@@ -1,8 +1,7 @@
 -- The sides of a rectangle, number by number.
 use Rattle.std.proofs.Common.{ℕ, ℤ, ◌≡◌, ◌&&◌, Bool, true, false, List, int_lt, refl, arith}
-use Rattle.std.specs.Prelude.{Result, Ok, Err, ◌≤ℤ◌, ◌<ℤ◌}
+use Rattle.std.specs.Prelude.{Ok, Err, ◌≤ℤ◌, ◌<ℤ◌}
 use Rattle.std.proofs.lemmas.Int.{ints}
-use Rattle.box_geom.specs.Rectangle.{Rectangle}
 use Rattle.lef_read.specs.Tokens.{Token}
 use Rattle.lef_read.specs.Statements.{number_in, rect_of}
 use Rattle.lef_read.specs.declared.fault.LefFault.TheVariants.{Number}

@@ -1,5 +1,5 @@
 -- What the places of a library's text read, by the steps that take their tokens.
-use Rattle.std.proofs.Common.{ℕ, ℤ, ◌≡◌, Bool, true, false, List, [], ◌∷◌, ◌++◌, refl, sym, ap, ◌∙◌, arith, inl, inr, codes}
+use Rattle.std.proofs.Common.{ℕ, ℤ, ◌≡◌, Bool, true, false, List, [], ◌∷◌, refl, ◌∙◌, inl, inr, codes}
 use Rattle.std.specs.Prelude.{Option, Some, None, Result, Ok, Err, bytes_eq, if◌then◌else◌, ◌==◌, ◌&&◌, unsigned_abs}
 use Rattle.std.proofs.lemmas.Bool.{cases_Bool}
 use Rattle.cell_num.specs.Steps.{◌>>=◌, require, or_fault}
@@ -7,10 +7,9 @@ use Rattle.box_geom.specs.Rectangle.{Rectangle}
 use Rattle.lef_read.specs.Tokens.{Token, Word, Quoted, Semicolon, Torn}
 use Rattle.lef_read.specs.Numbers.{nanometres_of}
 use Rattle.lef_read.specs.Keywords.{is, keyword_of}
-use Rattle.lef_read.specs.Reading.{Item, Begins, Pin, Block, OfPin, OfMacro, Between, InLibrary, InMacro, InPin, InBlock, Place, At, Passing, Closing, Units, UnitsEnd, LibraryEnd, MacroName, MacroEnd, Width, By, Height, OriginX, OriginY, PinName, PinEnd, LayerName, X1, Y1, X2, Y2, Ended, Told, goes, tells, begins, in_library, in_macro, in_pin, in_block, rect_begins, rect_told, sides_told, origin_told, ascending, layer_named, then_number, step_of, ended_at, with_items, then_read, read}
-use Rattle.lef_read.specs.Statements.{LinedWord, Taken, word_in, number_in, semicolon_in, named_in, keyword_in, passed, units_passed, size_in, origin_in, ascending_sides, rect_of, layer_in}
+use Rattle.lef_read.specs.Reading.{Item, Begins, Pin, Block, Between, InLibrary, InMacro, InPin, InBlock, Place, At, Passing, Closing, Units, UnitsEnd, LibraryEnd, MacroName, MacroEnd, Width, By, Height, OriginX, OriginY, PinName, PinEnd, LayerName, X1, Y1, X2, Y2, Ended, Told, goes, tells, in_macro, in_pin, in_block, rect_told, sides_told, origin_told, ascending, layer_named, then_number, step_of, ended_at, with_items, then_read, read}
+use Rattle.lef_read.specs.Statements.{Taken, word_in, number_in, semicolon_in, named_in, keyword_in, passed, units_passed, size_in, origin_in, ascending_sides, rect_of, layer_in}
 use Rattle.lef_read.specs.declared.block_kind.Current.{Current}
-use Rattle.lef_read.specs.declared.block_kind.Current.TheVariants.{NoLayer, OtherLayer, Wires}
 use Rattle.lef_read.specs.declared.fault.LefFault.{LefFault}
 use Rattle.lef_read.specs.declared.fault.LefFault.TheVariants.{Statement, Number, Cut}
 

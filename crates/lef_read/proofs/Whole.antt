@@ -1,5 +1,5 @@
 -- The whole text: what the draft comes to is the macro of the definition.
-use Rattle.std.proofs.Common.{ℕ, ◌≡◌, List, [], ◌∷◌, refl, sym, ap, ◌∙◌}
+use Rattle.std.proofs.Common.{ℕ, ◌≡◌, List, [], refl, sym, ap, ◌∙◌}
 use Rattle.std.specs.Prelude.{Option, Some, None, Result, Ok, Err, ◌≢◌, IfErr}
 use Rattle.std.specs.Result.{IsErrAnd}
 use Rattle.cell_num.specs.Steps.{◌>>=◌, or_fault}

@@ -3,7 +3,7 @@ use Rattle.std.specs.Prelude.{ℕ, Bool, true, false, ◌≡◌, List, [], ◌�
 use Rattle.std.specs.List.{find, filter_map}
 use Rattle.std.specs.Option.{option_map}
 use Rattle.cell_num.specs.Steps.{◌>>=◌, or_fault}
-use Rattle.lef_read.specs.Reading.{Box, Item, Block, OfPin, OfMacro}
+use Rattle.lef_read.specs.Reading.{Item, Block, OfPin, OfMacro}
 use Rattle.lef_read.specs.Macros.{rect_in, up_to_next, ports_in, pins_in, obstructions_in, boxes_in, is_off_grid, items_of, on_grid}
 use Rattle.lef_read.specs.declared.block_kind.Block.{Block as BlockIn}
 use Rattle.lef_read.specs.declared.block_kind.Block.TheVariants as block

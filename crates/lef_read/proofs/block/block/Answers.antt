@@ -1,4 +1,4 @@
-use Rattle.std.proofs.Common.{rules, arith, sym, refl, ◌∙◌}
+use Rattle.std.proofs.Common.{arith, sym, ◌∙◌}
 use Rattle.lef_read.proofs.Flows.{at_exit, block_fails, block_layer_fails, block_rect_fails, block_rect_goes, block_class_fails, block_other}
 use Rattle.lef_read.proofs.block.block.Goals as goal
 

@@ -1,4 +1,3 @@
-use Rattle.std.proofs.Common.{rules, arith, sym, refl, ◌∙◌}
 use Rattle.lef_read.proofs.Flows.{at_exit, rect_layerless, rect_fails, other_fails, wires_fails, other_is, wires_are}
 use Rattle.lef_read.specs.Drafts.{block_shown}
 use Rattle.lef_read.proofs.block.rect.Goals as goal

@@ -1,5 +1,5 @@
 use Rattle.std.proofs.Common.{sym}
-use Rattle.lef_read.proofs.Gridding.{IsSide, sides_of}
+use Rattle.lef_read.proofs.Gridding.{sides_of}
 use Rattle.lef_read.proofs.grid.on_grid.Goals as goal
 
 pub invariant_of-result : goal.invariant_of-result

@@ -1,4 +1,4 @@
-use Rattle.std.proofs.Common.{rules, arith, sym, refl, ◌∙◌}
+use Rattle.std.proofs.Common.{refl}
 use Rattle.lef_read.proofs.Flows.{at_exit, macro_named, macro_body_fails}
 use Rattle.lef_read.proofs.library.cell.Goals as goal
 

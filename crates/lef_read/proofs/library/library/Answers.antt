@@ -1,4 +1,4 @@
-use Rattle.std.proofs.Common.{rules, arith, sym, refl, ◌∙◌}
+use Rattle.std.proofs.Common.{rules, sym, ◌∙◌}
 use Rattle.lef_read.proofs.Flows.{at_exit, library_fails, library_ends_goes, ended_there, library_macro_fails, library_other}
 use Rattle.lef_read.proofs.library.library.Goals as goal
 

@@ -1,4 +1,4 @@
-use Rattle.std.proofs.Common.{rules, arith, sym, refl, ◌∙◌}
+use Rattle.std.proofs.Common.{rules, sym, ◌∙◌}
 use Rattle.lef_read.proofs.Flows.{at_exit, macro_fails, macro_ends_fails, macro_size_fails, macro_origin_fails, macro_pin_fails, macro_obs_fails, macro_density, macro_other_fails}
 use Rattle.lef_read.proofs.library.statements.Goals as goal
 

@@ -1,4 +1,4 @@
-use Rattle.std.proofs.Common.{rules, arith, sym, refl, ◌∙◌}
+use Rattle.std.proofs.Common.{refl}
 use Rattle.lef_read.proofs.Flows.{at_exit, pin_named, pin_body_fails}
 use Rattle.lef_read.proofs.pin.pin.Goals as goal
 

@@ -1,4 +1,4 @@
-use Rattle.std.proofs.Common.{rules, arith, sym, refl, ◌∙◌}
+use Rattle.std.proofs.Common.{rules, sym, ◌∙◌}
 use Rattle.lef_read.proofs.Flows.{at_exit, pin_fails, pin_ends_fails, pin_port_fails, pin_other_fails}
 use Rattle.lef_read.proofs.pin.statements.Goals as goal
 

@@ -1,4 +1,4 @@
-use Rattle.std.proofs.Common.{◌≡◌, ◌≤◌, ◌+◌, ◌-◌, length, drop}
+use Rattle.std.proofs.Common.{◌≡◌, ◌≤◌, ◌+◌, drop}
 use Rattle.lef_read.specs.Tokens.{scan, tokens_from}
 use Rattle.lef_read.specs.Statements.{between_tokens}
 use Rattle.lef_read.proofs.scan.skip.Given as goal
