@@ -44,7 +44,7 @@ const METAL2: [(Layer, Sides); 2] = [
     (Layer::Metal2, [4, 50, 12, 72]),
 ];
 
-const TEXT: &[u8] = b"VERSION 5.8 ;
+pub const TEXT: &[u8] = b"VERSION 5.8 ;
 BUSBITCHARS \"[]\" ;
 DIVIDERCHAR \"/\" ;
 UNITS
@@ -95,12 +95,12 @@ MACRO inv
     RECT 4.350 11.250 5.550 15.300 ;
 ";
 
-const METAL2_TEXT: &[u8] = b"    LAYER metal2 ;
+pub const METAL2_TEXT: &[u8] = b"    LAYER metal2 ;
     RECT 0.600 5.400 1.800 8.700 ;
     RECT 0.600 7.500 1.800 10.800 ;
 ";
 
-const END_TEXT: &[u8] = b"  END
+pub const END_TEXT: &[u8] = b"  END
 END inv
 END LIBRARY
 ";

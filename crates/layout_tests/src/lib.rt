@@ -26,6 +26,8 @@ mod inverters;
 #[cfg(test)]
 mod libraries;
 #[cfg(test)]
+mod macros;
+#[cfg(test)]
 mod nets;
 #[cfg(test)]
 mod pieces;

@@ -1,0 +1,10 @@
+pub mod Skipping
+pub mod Lexing
+pub mod Digits
+pub mod Gridding
+pub mod Drafting
+pub mod Numbered
+pub mod Places
+pub mod Flows
+pub mod Whole
+pub mod Calm

@@ -1,0 +1,9 @@
+use Rattle.std.proofs.Common.{refl}
+use Rattle.lef_read.proofs.Flows.{at_exit, macro_named, macro_body_fails}
+use Rattle.lef_read.proofs.library.cell.Goals as goal
+
+pub returns-in_err-name-clause-keeps : goal.returns-in_err-name-clause-keeps
+returns-in_err-name-clause-keeps c = at_exit c.from_residual.result c.in_err-name.field-0.0 _ _ c.from_residual.ensures.1 (macro_named _ _ _ _ _ refl c.in_err-name.ensures.err)
+
+pub returns-in_err-statements-clause-keeps : goal.returns-in_err-statements-clause-keeps
+returns-in_err-statements-clause-keeps c = at_exit c.from_residual-in_err-statements.result c.in_err-statements.field-0.0 _ _ c.from_residual-in_err-statements.ensures.1 (macro_body_fails _ _ _ _ _ _ _ _ _ c.in_ok-name.ensures.ok c.begin.ensures c.in_err-statements.ensures.keeps)
