@@ -1,3 +1,5 @@
+-- What contracts of public calls cite, and what these definitions stand on.
 pub mod Faults
-pub mod Fields
 pub mod LayoutFaults
+-- What inner contracts and proofs alone cite.
+pub mod Fields

@@ -1,3 +1,4 @@
+-- What contracts of public calls cite, and what these definitions stand on.
 pub mod Areas
 pub mod Decoding
 pub mod Drawn
@@ -10,6 +11,7 @@ pub mod Points
 pub mod Real
 pub mod RoundTrip
 pub mod Structure
-pub mod Sweep
 pub mod Units
 pub mod Words
+-- What inner contracts and proofs alone cite.
+pub mod Sweep

@@ -1,7 +1,9 @@
-pub mod Tokens
-pub mod Numbers
+-- What contracts of public calls cite, and what these definitions stand on.
 pub mod Keywords
-pub mod Reading
 pub mod Macros
-pub mod Statements
+pub mod Numbers
+pub mod Reading
+pub mod Tokens
+-- What inner contracts and proofs alone cite.
 pub mod Drafts
+pub mod Statements

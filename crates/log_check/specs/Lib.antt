@@ -1,5 +1,7 @@
+-- What contracts of public calls cite, and what these definitions stand on.
 pub mod Accepted
 pub mod Items
 pub mod Known
 pub mod Refusal
+-- What inner contracts and proofs alone cite.
 pub mod Tests

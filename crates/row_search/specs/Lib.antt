@@ -1,10 +1,12 @@
+-- What contracts of public calls cite, and what these definitions stand on.
 pub mod Ended
 pub mod Enough
 pub mod First
 pub mod Kept
+pub mod Reached
+-- What inner contracts and proofs alone cite.
 pub mod Limits
 pub mod Noted
-pub mod Reached
 pub mod SoFar
 pub mod Steps
 pub mod Visit
