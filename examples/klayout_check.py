@@ -3,7 +3,7 @@
     QT_QPA_PLATFORM=offscreen klayout -z -r examples/klayout_check.py -rd spice=lib.sp -rd folder=out [-rd lambda_nm=300]
 
 For each `folder/NAME.gds` the widths of all transistors on the same three nets are summed, in the drawing and in the SPICE
-file, where `*` and `+` lines, `$` comments, `m=` and scales u, n and m are read; and where there is `folder/NAME.lef`, its ports and
+file, where `*` and `+` lines, `$` comments, `m=` and scales u, n, p and m are read, a model's kind by its first letter; and where there is `folder/NAME.lef`, its ports and
 obstructions have to be the metal of the drawing. It prints a line a cell and ends with 1 where one differs.
 """
 import collections
@@ -18,7 +18,7 @@ UNIT = float(globals().get("lambda_nm", 300)) / 2000
 
 def micron(word):
     number, scale = re.fullmatch(r"([0-9.]+(?:e[-+]?[0-9]+)?)([a-z]*)", word).groups()
-    return float(number) * {"u": 1.0, "n": 1e-3, "m": 1e3, "": 1e6}[scale[:1]]
+    return float(number) * {"u": 1.0, "n": 1e-3, "p": 1e-6, "m": 1e3, "": 1e6}[scale[:1]]
 
 
 def wanted(text, name):
