@@ -1,6 +1,6 @@
 ghost use Rattle.std.specs.Prelude.{IfOk};
 ghost use Rattle.bound_log.specs.Fits.{Fits, ForSome, IsLogName};
-ghost use Rattle.cell_inputs.specs.Style.{plain_style};
+ghost use Rattle.cell_inputs.specs.declared.style.Style.{Style as AStyle};
 ghost use Rattle.cell_make.specs.Making.{CanBeWritten, ComesTo, answer_of};
 ghost use Rattle.make_run.specs.Make.{IsCycleEnd, IsMakeEnd, IsTallEnd, IsUnfinishedEnd, MakesTo};
 
@@ -65,7 +65,7 @@ fn unfinished(
 // Tells what making a cell came to.
 #[tactic(auto, using(cell_inputs::proofs::Names::log_name))]
 fn end_of(alloc: Global, inputs: &Inputs, stem: &Stem, outcome: Outcome) -> Result<End, NoMemory>
-    requires comes { ComesTo plain_style inputs.now outcome }
+    requires comes { (style : AStyle) × ComesTo style inputs.now outcome }
     requires written { CanBeWritten inputs.now outcome }
     ensures { IfOk result (IsMakeEnd inputs.now stem.now (answer_of outcome)) }
 {
@@ -99,11 +99,11 @@ fn end_of(alloc: Global, inputs: &Inputs, stem: &Stem, outcome: Outcome) -> Resu
     }
 }
 
-/// The drawing of the first least row with its log; or the log, with a cycle of the row, with a height that
-/// is not enough, or of a search that spent its budget.
-pub fn make(alloc: Global, inputs: &Inputs, stem: &Stem) -> Result<End, NoMemory>
-    ensures { IfOk result (MakesTo inputs.now stem.now) }
+/// The drawing of the first least row in a style with its log; or the log, with a ring of the row, with a height
+/// that is not enough, or of a search that spent its budget.
+pub fn make(alloc: Global, inputs: &Inputs, stem: &Stem, style: Style) -> Result<End, NoMemory>
+    ensures { IfOk result (MakesTo style inputs.now stem.now) }
 {
-    let outcome = Outcome::of(alloc, inputs, Style::plain())?;
+    let outcome = Outcome::of(alloc, inputs, style)?;
     end_of(alloc, inputs, stem, outcome)
 }
