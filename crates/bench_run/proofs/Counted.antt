@@ -9,6 +9,7 @@ use Rattle.row_model.specs.Gaps.{gaps_of, is_gap}
 use Rattle.row_state.proofs.KindsOf.{few_fingers}
 use Rattle.bound_log.specs.declared.log.Log.{Log}
 use Rattle.channel_route.specs.declared.routing.Routing.{Routing}
+use Rattle.row_place.specs.declared.placement.Placement.{Placement}
 use Rattle.row_place.specs.Places.{placement_of}
 use Rattle.cell_draw.specs.declared.drawing.Drawing.{Drawing}
 use Rattle.gds_read.specs.RoundTrip.{IsReadable}
@@ -16,8 +17,11 @@ use Rattle.library_size.proofs.Whole.{few_labels, written_within}
 use Rattle.cell_make.specs.declared.drawn.Drawn.{Drawn}
 use Rattle.cell_make.specs.declared.outcome.Outcome.{Outcome}
 use Rattle.cell_make.specs.declared.outcome.Outcome.TheVariants as came
-use Rattle.cell_make.specs.Inputs.{AreInputs, Inputs, unit_nm}
-use Rattle.cell_make.specs.Making.{CanBeWritten, ComesTo, IsFound, answer_of, drawing_in, library_of}
+use Rattle.cell_inputs.specs.declared.style.Style.{Style}
+use Rattle.cell_inputs.specs.Inputs.{AreInputs, Inputs, unit_nm}
+use Rattle.cell_inputs.specs.Style.{plain_style}
+use Rattle.cell_make.specs.Making.{CanBeWritten, ComesTo, answer_of, drawing_in, library_of}
+use Rattle.cell_make.specs.Searched.{IsFound}
 use Rattle.bench_run.specs.Bench.{counted_as}
 use Rattle.bench_run.specs.Size.{IsSmall}
 use Rattle.bench_run.specs.Tally.{IsWithin}
@@ -34,11 +38,15 @@ small_drawing inputs row routing xs drawing are is readable rects =
     small_shapes inputs.cell.name drawing.shapes (unit_nm inputs.tech) readable rects (subst (λ (d : Drawing). length d.shapes.labels ≤ 256) (sym is) (few_tags inputs row routing xs are))
 
 -- the same of what making came to
-pub small_made : (inputs : Inputs) (outcome : Outcome) (row : List Column) (log : Log) (routing : Routing) (drawn : Drawn) → outcome ≡ came.Made row log routing drawn → AreInputs inputs → ComesTo inputs outcome → CanBeWritten inputs outcome → IsSmall inputs.cell.name drawn.drawing.shapes
-small_made inputs outcome row log routing drawn is are comes written =
-    let c : ComesTo inputs (came.Made row log routing drawn) = subst (ComesTo inputs) is comes in
-    let w : CanBeWritten inputs (came.Made row log routing drawn) = subst (CanBeWritten inputs) is written in
-    small_drawing inputs row routing drawn.lines drawn.drawing are c.1 w.0 w.1
+pub small_made : (inputs : Inputs) (outcome : Outcome) (placement : Placement) (log : Log) (routing : Routing) (drawn : Drawn) → outcome ≡ came.Made placement log routing drawn → AreInputs inputs → ComesTo plain_style inputs outcome → CanBeWritten inputs outcome → IsSmall inputs.cell.name drawn.drawing.shapes
+small_made inputs outcome placement log routing drawn is are comes written =
+    let c : ComesTo plain_style inputs (came.Made placement log routing drawn) = subst (ComesTo plain_style inputs) is comes in
+    let w : CanBeWritten inputs (came.Made placement log routing drawn) = subst (CanBeWritten inputs) is written in
+    small_drawing inputs placement.row routing drawn.lines drawn.drawing are c.1 w.0 w.1
+
+-- the style that the cells are made in
+pub plain_comes : (style : Style) (inputs : Inputs) (outcome : Outcome) → style ≡ plain_style → ComesTo style inputs outcome → ComesTo plain_style inputs outcome
+plain_comes style inputs outcome is comes = subst (λ (s : Style). ComesTo s inputs outcome) is comes
 
 -- ---- no count is large
 
@@ -60,18 +68,18 @@ few_bytes inputs row routing drawn are is readable rects =
     let within = written_within inputs.cell.name drawn.drawing.shapes (unit_nm inputs.tech) readable.named readable.labels in
     subst (λ (d : Drawing). length (library_of inputs d) ≤ 1000000) is (omega (arith, within, rects, labels, label_count))
 
-pub counted_within : (inputs : Inputs) (outcome : Outcome) → AreInputs inputs → ComesTo inputs outcome → CanBeWritten inputs outcome → IsWithin 1 (counted_as inputs (answer_of outcome))
-counted_within inputs (came.Made row log routing drawn) are comes written =
-    let columns = few_columns inputs row log are comes.0.found in
+pub counted_within : (inputs : Inputs) (outcome : Outcome) → AreInputs inputs → ComesTo plain_style inputs outcome → CanBeWritten inputs outcome → IsWithin 1 (counted_as inputs (answer_of outcome))
+counted_within inputs (came.Made placement log routing drawn) are comes written =
+    let columns = few_columns inputs placement.row log are comes.0.found in
     record {
       made = omega arith;
       cycles = omega arith;
       unfinished = omega arith;
       columns = omega (arith, columns);
-      gaps = omega (arith, columns, few_gaps row);
+      gaps = omega (arith, columns, few_gaps placement.row);
       fingers = omega (arith, few_sum inputs.fingers are.fingers);
-      bytes = omega (arith, few_bytes inputs row routing drawn are comes.1 written.0 written.1);
+      bytes = omega (arith, few_bytes inputs placement.row routing drawn are comes.1 written.0 written.1);
     }
-counted_within inputs (came.Cyclic row log cycle) are comes written = record { made = omega arith; cycles = omega arith; unfinished = omega arith; columns = omega arith; gaps = omega arith; fingers = omega arith; bytes = omega arith }
-counted_within inputs (came.Tall row log routing needed given) are comes written = record { made = omega arith; cycles = omega arith; unfinished = omega arith; columns = omega arith; gaps = omega arith; fingers = omega arith; bytes = omega arith }
+counted_within inputs (came.Cyclic placement log ring) are comes written = record { made = omega arith; cycles = omega arith; unfinished = omega arith; columns = omega arith; gaps = omega arith; fingers = omega arith; bytes = omega arith }
+counted_within inputs (came.Tall placement log routing needed given) are comes written = record { made = omega arith; cycles = omega arith; unfinished = omega arith; columns = omega arith; gaps = omega arith; fingers = omega arith; bytes = omega arith }
 counted_within inputs (came.Unfinished log proved) are comes written = record { made = omega arith; cycles = omega arith; unfinished = omega arith; columns = omega arith; gaps = omega arith; fingers = omega arith; bytes = omega arith }

@@ -5,7 +5,8 @@ use Rattle.row_state.specs.Component.{component_value}
 use Rattle.row_state.specs.ComponentLaw.{component_holds}
 use Rattle.search_laws.specs.Paired.{ArePaired}
 use Rattle.search_laws.proofs.Whole.{never_spent}
-use Rattle.cell_make.specs.Inputs.{Inputs}
+use Rattle.cell_inputs.specs.Inputs.{Inputs}
+use Rattle.cell_inputs.specs.Style.{plain_style}
 use Rattle.cell_make.specs.Making.{MakeAnswer, Made, Cyclic, Tall, Unfinished, Makes}
 use Rattle.bench_run.specs.Bench.{AreInputsOf, HoldsCell, counted_as}
 use Rattle.bench_run.specs.Tally.{AreAllEnded}
@@ -17,9 +18,9 @@ paired_cell text cell inputs held are =
     let own = is_read text cell held in
     subst ArePaired (own_fingers text cell inputs held are) (record { single = own.single; paired = own.paired; few = own.few })
 
-pub cell_ends : (text : List ℕ) (cell : ℕ) (inputs : Inputs) (answer : MakeAnswer) → HoldsCell text cell → AreInputsOf text cell inputs → Makes inputs answer → AreAllEnded 1 (counted_as inputs answer)
+pub cell_ends : (text : List ℕ) (cell : ℕ) (inputs : Inputs) (answer : MakeAnswer) → HoldsCell text cell → AreInputsOf text cell inputs → Makes plain_style inputs answer → AreAllEnded 1 (counted_as inputs answer)
 cell_ends text cell inputs (Made row log routing xs) held are makes = record { none_unfinished = refl; sum = refl }
-cell_ends text cell inputs (Cyclic row log cycle) held are makes = record { none_unfinished = refl; sum = refl }
+cell_ends text cell inputs (Cyclic row log ring) held are makes = record { none_unfinished = refl; sum = refl }
 cell_ends text cell inputs (Tall row log routing) held are makes = absurd (makes.2.0 (ap (λ (t : Technology). t.height) are.tech))
 cell_ends text cell inputs (Unfinished proved log) held are (version, (k, kinds, some, spent)) =
     let budget : 184341 ≤ inputs.tech.budget = omega (arith, ap (λ (t : Technology). t.budget) are.tech) in

@@ -12,7 +12,7 @@ use Rattle.cell_bench.specs.Text.{cell_name}
 use Rattle.bench_read.specs.Read.{IsRead}
 use Rattle.bench_read.proofs.Names.{name_is_cell as bench_name}
 use Rattle.bench_read.proofs.Whole.{cell_is_read}
-use Rattle.cell_make.specs.Inputs.{Inputs}
+use Rattle.cell_inputs.specs.Inputs.{Inputs}
 use Rattle.bench_run.specs.Bench.{AreInputsOf, HoldsCell}
 
 -- what is read of the cell

@@ -33,7 +33,7 @@ counted_is name shapes unit counted is = omega (arith, is, named shapes.labels, 
 pub small_shapes : (name : List ℕ) (shapes : Shapes) (unit : ℕ) → IsReadable name shapes unit → length shapes.rects ≤ 1999 → length shapes.labels ≤ 256 → IsSmall name shapes
 small_shapes name shapes unit is rects labels = record {
   named = omega (arith, is.named.most);
-  rects = rects;
+  rects = omega (arith, rects);
   labels = labels;
   short = All-weaker (IsWritableLabel unit) IsShort (λ l h. h.most) shapes.labels is.labels;
 }

@@ -6,7 +6,8 @@ use Rattle.row_model.specs.Gaps.{gaps_of}
 use Rattle.tech_file.specs.Technology.{plain}
 use Rattle.spice_net.specs.Subcircuit.{subcircuit}
 use Rattle.finger_fold.specs.Folding.{folded}
-use Rattle.cell_make.specs.Inputs.{Inputs}
+use Rattle.cell_inputs.specs.Inputs.{Inputs}
+use Rattle.cell_inputs.specs.Style.{plain_style}
 use Rattle.cell_make.specs.Making.{MakeAnswer, Made, Cyclic, Tall, Unfinished, Makes, drawing_in, library_of}
 use Rattle.cell_bench.specs.Text.{bench_text, cell_name}
 use Rattle.bench_run.specs.declared.tally.Tally.{Tally}
@@ -25,10 +26,10 @@ pub record AreInputsOf (text : List ℕ) (cell : ℕ) (inputs : Inputs) : Type 0
   pub read : subcircuit text (cell_name cell) plain ≡ Ok inputs.cell
   pub fold : folded plain inputs.cell ≡ Ok inputs.fingers
 
--- The cell of that number is read from the text, and made.
+-- The cell of that number is read from the text, and made in the plain style.
 pub record IsBenchCell (text : List ℕ) (cell : ℕ) (one : BenchCell) : Type 0 where
   pub read : AreInputsOf text cell one.inputs
-  pub makes : Makes one.inputs one.answer
+  pub makes : Makes plain_style one.inputs one.answer
 
 -- all cells of the text that are numbered below so many, in order
 pub record AreCellsOf (text : List ℕ) (number : ℕ) (cells : List BenchCell) : Type 0 where
@@ -62,7 +63,7 @@ made_tally fingers row library = record nothing {
 abbrev pub counted_as : Inputs → MakeAnswer → Tally
 counted_as inputs (Made row log routing xs) =
     made_tally inputs.fingers row (library_of inputs (drawing_in inputs row routing xs))
-counted_as inputs (Cyclic row log cycle) = record nothing { cycles = 1 }
+counted_as inputs (Cyclic row log ring) = record nothing { cycles = 1 }
 counted_as inputs (Tall row log routing) = nothing
 counted_as inputs (Unfinished proved log) = record nothing { unfinished = 1 }
 

@@ -6,6 +6,7 @@ use crate::count::counted;
 use crate::read::bench_inputs;
 use crate::tally::Tally;
 use cell_bench::bench_text;
+use cell_inputs::Style;
 use cell_make::Outcome;
 use cell_num::{MOST_BYTES, NoMemory};
 use std::alloc::Global;
@@ -20,7 +21,7 @@ fn count_cell(alloc: Global, text: &[u8], cell: u32) -> Result<Tally, NoMemory>
 {
     let inputs = bench_inputs(alloc, text, cell)?;
     inputs.show_limits();
-    let outcome = Outcome::of(alloc, &inputs)?;
+    let outcome = Outcome::of(alloc, &inputs, Style::plain())?;
     Ok(counted(&inputs, &outcome))
 }
 

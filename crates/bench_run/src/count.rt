@@ -1,6 +1,7 @@
 ghost use Rattle.std.specs.Prelude.{◌≡◌, ◌≤◌, ◌+◌, ℕ, length};
 ghost use Rattle.cell_num.specs.Fingers.{AreFingers};
 ghost use Rattle.gds_write.specs.Written.{written};
+ghost use Rattle.cell_inputs.specs.Style.{plain_style};
 ghost use Rattle.cell_make.specs.Making.{CanBeWritten, ComesTo, answer_of};
 ghost use Rattle.bench_run.specs.Bench.{counted_as, made_tally};
 ghost use Rattle.bench_run.specs.Size.{IsSmall};
@@ -8,7 +9,8 @@ ghost use Rattle.bench_run.specs.Size.{IsSmall};
 use crate::size::library_len;
 use crate::tally::Tally;
 use box_geom::Shapes;
-use cell_make::{Inputs, Outcome};
+use cell_inputs::Inputs;
+use cell_make::Outcome;
 use cell_num::Fingers;
 use row_model::{Arrangement, gaps};
 
@@ -39,15 +41,19 @@ fn made(inputs: &Inputs, row: &Arrangement, shapes: &Shapes) -> Tally
     }
 }
 
-/// The counts of a cell.
+/// The counts of a cell that was made in the plain style.
 pub(crate) fn counted(inputs: &Inputs, outcome: &Outcome) -> Tally
-    requires comes { ComesTo inputs.now outcome.now }
+    requires comes { ComesTo plain_style inputs.now outcome.now }
     requires written { CanBeWritten inputs.now outcome.now }
     ensures { result ≡ counted_as inputs.now (answer_of outcome.now) }
 {
     inputs.show_limits();
     match outcome {
-        Outcome::Made { row, drawn, .. } => made(inputs, row, &drawn.drawing.shapes),
+        Outcome::Made {
+            placement,
+            drawn,
+            ..
+        } => { made(inputs, &placement.row, &drawn.drawing.shapes) }
         Outcome::Cyclic { .. } => Tally {
             cycles: 1,
             ..Tally::nothing()

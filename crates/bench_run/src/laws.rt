@@ -1,7 +1,7 @@
 ghost use Rattle.std.specs.Prelude.{◌≡◌, ℕ, List, length};
 ghost use Rattle.row_model.specs.declared.column.Column.{Column};
 ghost use Rattle.channel_route.specs.declared.routing.Routing.{Routing};
-ghost use Rattle.cell_make.specs.Inputs.{Inputs};
+ghost use Rattle.cell_inputs.specs.Inputs.{Inputs};
 ghost use Rattle.cell_make.specs.Making.{drawing_in, library_of};
 
 /// The library of a made cell has as many bytes wherever its lines stand. It does nothing: its contract is the law.

@@ -1,8 +1,8 @@
-ghost use Rattle.std.specs.Prelude.{◌≡◌, ◌≤◌, IfOk, length};
+ghost use Rattle.std.specs.Prelude.{◌≤◌, IfOk, length};
 ghost use Rattle.bench_run.specs.Bench.{AreInputsOf, HoldsCell};
 
 use cell_bench::cell_name;
-use cell_make::Inputs;
+use cell_inputs::Inputs;
 use cell_num::{MOST_BYTES, NoMemory};
 use finger_fold::{FoldFault, fold};
 use spice_net::{SpiceFault, Subckt, read_cell};

@@ -1,10 +1,9 @@
-ghost use Rattle.std.specs.Prelude.{◌≡◌, ◌≤◌, ℕ, List, All, length};
+ghost use Rattle.std.specs.Prelude.{◌≡◌, ◌≤◌, ℕ, All, length};
 ghost use Rattle.gds_write.specs.Written.{padded, written};
-ghost use Rattle.library_size.specs.Size.{label_size, library_bytes, label_names};
 ghost use Rattle.bench_run.specs.Size.{IsShort, IsSmall, labels_size};
 
 use box_geom::{Label, Shapes};
-use cell_num::Name;
+use cell_num::{MOST_NETS, Name};
 
 // The bytes of a text that is filled up to an even number of them.
 #[tactic(auto, using(crate::proofs::Sizes::padded_few))]
@@ -21,7 +20,7 @@ fn padded_len(text: &[u8]) -> u64
 }
 
 fn labels_len(labels: &[Label]) -> u64
-    requires few { length labels.now ≤ 256 }
+    requires few { length labels.now ≤ MOST_NETS }
     requires short { All IsShort labels.now }
     ensures size { result ≡ labels_size labels.now }
     ensures few { result ≤ 25856 }

@@ -1,4 +1,4 @@
-ghost use Rattle.std.specs.Prelude.{◌≡◌, ◌≤◌};
+ghost use Rattle.std.specs.Prelude.{◌≡◌};
 ghost use Rattle.bench_run.specs.Tally.{IsWithin, added, nothing};
 
 /// What is counted of generated cells: those made, those whose row has a cycle and those with an unfinished search;

@@ -7,7 +7,7 @@ use Rattle.call_gather.specs.declared.material.Material.TheVariants as held
 use Rattle.call_read.specs.declared.refusal.Refusal.{Refusal}
 use Rattle.call_read.specs.declared.refusal.Refusal.TheVariants.{NoMemory}
 use Rattle.call_gather.specs.Gather.{checking_over, gathered, gds_cell}
-use Rattle.cell_make.specs.Inputs.{Inputs}
+use Rattle.cell_inputs.specs.Inputs.{Inputs}
 use Rattle.call_gather.specs.Kept.{AreKept, MayKeep}
 use Rattle.check_run.specs.LogRead.{AreBegun, AreBehind}
 use Rattle.tech_file.specs.Technology.{Technology}

@@ -5,7 +5,7 @@ use Rattle.call_gather.specs.Kinds.{Planning, Making, Checking, Extracting, Benc
 use Rattle.call_gather.specs.Material.{Material}
 use Rattle.call_read.specs.declared.refusal.Refusal.TheVariants.{Words}
 use Rattle.tech_file.specs.Technology.{Technology}
-use Rattle.cell_make.specs.Inputs.{Inputs}
+use Rattle.cell_inputs.specs.Inputs.{Inputs}
 use Rattle.call_read.specs.Reading.{Reading, Ends, bytes_of, ◌>>=◌}
 use Rattle.call_read.specs.Sources.{Source, LogFile, GdsFile}
 use Rattle.call_read.specs.InputFiles.{technology_from, inputs_from, tech_files, input_files}

@@ -1,6 +1,6 @@
 -- What a call works on.
 use Rattle.std.specs.Prelude.{ℕ, List}
-use Rattle.cell_make.specs.Inputs.{Inputs}
+use Rattle.cell_inputs.specs.Inputs.{Inputs}
 use Rattle.layout_run.specs.declared.gds_cell.GdsCell.{GdsCell}
 use Rattle.call_gather.specs.Kinds.{Kind, Planning, Making, Checking, Extracting, Benching}
 

@@ -3,7 +3,7 @@ use Rattle.std.specs.Prelude.{ℕ, List, [], ◌∷◌, Option, Some, None, Ok}
 use Rattle.cell_num.specs.Names.{lowered}
 use Rattle.tech_file.specs.Technology.{Technology, plain}
 use Rattle.tech_file.specs.Reading.{technology}
-use Rattle.cell_make.specs.Inputs.{Inputs}
+use Rattle.cell_inputs.specs.Inputs.{Inputs}
 use Rattle.call_read.specs.declared.refusal.Refusal.TheVariants.{Tech}
 use Rattle.call_read.specs.Inputs.{inputs_in}
 use Rattle.call_read.specs.Refusals.{as_refusal}

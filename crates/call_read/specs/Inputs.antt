@@ -4,7 +4,7 @@ use Rattle.cell_num.specs.Steps.{◌>>=◌}
 use Rattle.tech_file.specs.Technology.{Technology}
 use Rattle.spice_net.specs.Subcircuit.{subcircuit}
 use Rattle.finger_fold.specs.Folding.{folded}
-use Rattle.cell_make.specs.Inputs.{Inputs, inputs_of}
+use Rattle.cell_inputs.specs.Inputs.{Inputs, inputs_of}
 use Rattle.call_read.specs.declared.refusal.Refusal.{Refusal}
 use Rattle.call_read.specs.declared.refusal.Refusal.TheVariants.{Spice, Fold}
 use Rattle.call_read.specs.Refusals.{as_refusal}

@@ -16,7 +16,7 @@ use Rattle.call_end.specs.declared.status.Status.TheVariants as status
 use Rattle.call_work.specs.Ends.{is_among, refusal_status, settled_by}
 use Rattle.call_gather.specs.Gather.{extracting_over, gathered, read_by}
 use Rattle.call_read.specs.InputFiles.{input_files, inputs_from, tech_files, technology_from}
-use Rattle.cell_make.specs.Inputs.{inputs_of}
+use Rattle.cell_inputs.specs.Inputs.{inputs_of}
 use Rattle.call_read.specs.Inputs.{inputs_in}
 use Rattle.call_read.specs.Refusals.{as_refusal}
 use Rattle.call_read.specs.Sources.{Source, TechFile, SpiceFile, LogFile, GdsFile}

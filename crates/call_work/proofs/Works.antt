@@ -14,10 +14,11 @@ use Rattle.check_run.specs.Check.{ChecksTo}
 use Rattle.call_work.specs.Ends.{KeepsReadsOf, MayEnd, WorksTo, refused as refusal_end}
 use Rattle.layout_run.specs.Extract.{ExtractsTo}
 use Rattle.call_gather.specs.Gather.{gathered}
-use Rattle.cell_make.specs.Inputs.{Inputs}
+use Rattle.cell_inputs.specs.Inputs.{Inputs}
 use Rattle.call_gather.specs.Kept.{AreKept, IsKept, MayKeep}
 use Rattle.check_run.specs.LogRead.{AreBehindAll}
 use Rattle.make_run.specs.Make.{MakesTo}
+use Rattle.cell_inputs.specs.Style.{plain_style}
 use Rattle.call_gather.specs.Material.{Material}
 use Rattle.make_run.specs.Plan.{PlansTo}
 use Rattle.call_read.specs.Read.{KeepsReads, KeepsReadsBut}
@@ -64,7 +65,7 @@ pub plan_kept : (inputs : Inputs) (r : Result End Short) → IfOk r (PlansTo inp
 plan_kept inputs (Err e) plans = tt
 plan_kept inputs (Ok end) plans = λ m is. subst (λ (x : Material). WorksTo x.0 x.1 end) (sym is) plans
 
-pub make_kept : (inputs : Inputs) (out : List ℕ) (r : Result End Short) → IfOk r (MakesTo inputs out) → IfOk r (WorksFor (held.Making inputs out))
+pub make_kept : (inputs : Inputs) (out : List ℕ) (r : Result End Short) → IfOk r (MakesTo plain_style inputs out) → IfOk r (WorksFor (held.Making inputs out))
 make_kept inputs out (Err e) makes = tt
 make_kept inputs out (Ok end) makes = λ m is. subst (λ (x : Material). WorksTo x.0 x.1 end) (sym is) makes
 

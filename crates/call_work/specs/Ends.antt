@@ -17,6 +17,7 @@ use Rattle.fault_text.specs.Faults.{fault_line, tech_fault, spice_fault, fold_fa
 use Rattle.call_gather.specs.Gather.{gathered, read_by}
 use Rattle.cell_num.specs.Lines.{text_line}
 use Rattle.make_run.specs.Make.{MakesTo}
+use Rattle.cell_inputs.specs.Style.{plain_style}
 use Rattle.make_run.specs.Plan.{PlansTo}
 use Rattle.call_read.specs.Reading.{called, MayCome}
 use Rattle.call_read.specs.Sources.{Source}
@@ -53,7 +54,7 @@ refused e = says (refusal_status e) (refusal_text e)
 -- the work on a material of the kind may come to this end
 abbrev pub WorksTo : (kind : Kind) → MaterialOf kind → End → Type 0
 WorksTo Planning inputs end = PlansTo inputs end
-WorksTo Making m end = MakesTo m.0 m.1 end
+WorksTo Making m end = MakesTo plain_style m.0 m.1 end
 WorksTo Checking m end = ChecksTo m.0 m.1 end
 WorksTo Extracting cell end = ExtractsTo cell end
 WorksTo Benching number end = BenchesTo number end

@@ -1,5 +1,5 @@
 pub mod Alone
+pub mod Extent
 pub mod LeastLines
 pub mod Makes
-pub mod Names
 pub mod ReadBack

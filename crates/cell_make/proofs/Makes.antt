@@ -1,5 +1,5 @@
 -- What making a cell comes to, from what its steps answered.
-use Rattle.std.proofs.Common.{ℕ, ◌≡◌, ◌<◌, ◌≤◌, ◌/◌, ◌*◌, ◌%◌, List, All, Contains, length, sym, subst, arith, ◌∙◌}
+use Rattle.std.proofs.Common.{ℕ, ◌≡◌, ◌<◌, ◌≤◌, ◌/◌, ◌*◌, ◌%◌, List, All, Contains, length, sym, subst, arith}
 use Rattle.std.proofs.Math.Nat.{div-add-mod, mod-lt}
 use Rattle.cell_num.specs.declared.finger.Fingers.{Fingers}
 use Rattle.cell_num.specs.declared.net.Pins.{Pins}
@@ -14,21 +14,15 @@ use Rattle.bound_log.specs.declared.log.Log.{Log}
 use Rattle.row_place.specs.declared.placement.Placement.{Placement}
 use Rattle.row_place.specs.Places.{IsPlacement, placement_of}
 use Rattle.row_place.specs.Trunks.{HasPins}
-use Rattle.channel_route.specs.declared.routing.Above.{Above}
+use Rattle.channel_route.specs.declared.ring.Ring.{Ring}
 use Rattle.channel_route.specs.declared.routing.Routing.{Routing}
-use Rattle.channel_route.specs.Cycle.{HasNoCycle}
-use Rattle.channel_route.specs.Routing.{IsLegal, IsTight}
-use Rattle.channel_route.specs.Told.{IsTold}
 use Rattle.scmos_rules.specs.Rules.{Obeys}
 use Rattle.scmos_rules.specs.declared.rules.Deck.TheVariants.{Plain}
 use Rattle.cell_draw.specs.declared.drawing.Drawing.{Drawing}
-use Rattle.cell_draw.specs.declared.drawing.DrawFault.{DrawFault}
-use Rattle.cell_draw.specs.declared.drawing.DrawFault.TheVariants.{TooTall}
 use Rattle.cell_draw.specs.Drawings.{drawn_of}
 use Rattle.cell_draw.specs.Bounds.{AreWithin}
 use Rattle.cell_draw.specs.Extracted.{ExtractsTo, ExtractsToRow}
-use Rattle.cell_draw.specs.Faults.{IsCause}
-use Rattle.cell_draw.specs.Frame.{needed_of, IsTooTall}
+use Rattle.cell_draw.specs.Frame.{IsTooTall}
 use Rattle.cell_draw.specs.Shown.{ShowsColumns, ShowsRouting, ShowsRow}
 use Rattle.cell_draw.specs.Sound.{IsSoundRow}
 use Rattle.lef_write.specs.Drawn.{AreAllMetal, HasPort, IsSized}
@@ -40,9 +34,16 @@ use Rattle.gds_read.specs.Decoding.{Decodes}
 use Rattle.gds_read.proofs.RoundTrip.{round_trip}
 use Rattle.cell_make.specs.declared.drawn.Drawn.{Drawn}
 use Rattle.cell_make.specs.declared.outcome.Outcome.TheVariants as outcome
-use Rattle.cell_make.specs.Inputs.{Inputs, AreInputs, unit_nm}
-use Rattle.cell_make.specs.Making.{AreLeastLines, ComesTo, IsFound, IsMade, IsRouted, drawing_in, library_of, ports_in}
-use Rattle.cell_make.specs.Searched.{IsUnfinished}
+use Rattle.cell_inputs.specs.declared.style.Style.{Style}
+use Rattle.cell_inputs.specs.declared.style.Taps.{Taps}
+use Rattle.cell_inputs.specs.declared.style.Taps.TheVariants.{Without}
+use Rattle.cell_inputs.specs.declared.style.Wiring.{Wiring}
+use Rattle.cell_inputs.specs.declared.style.Wiring.TheVariants.{Straight}
+use Rattle.cell_inputs.specs.Inputs.{Inputs, AreInputs, unit_nm}
+use Rattle.cell_inputs.specs.Style.{plain_style}
+use Rattle.cell_make.specs.Making.{AreLeastLines, ComesTo, IsMade, IsRouted, drawing_in, library_of, ports_in}
+use Rattle.cell_make.specs.Searched.{IsFound}
+use Rattle.cell_make.specs.Style.{AreLegal, AreTight, HasNoRing, IsToldRing, ShowsWiring, deck_of, final}
 use Rattle.cell_make.proofs.Alone.{written_alone}
 use Rattle.cell_make.proofs.ReadBack.{readable}
 
@@ -58,25 +59,25 @@ pub placed_row : (inputs inside : Inputs) (row : List Column) (log : Log) (place
 placed_row inputs inside row log placement same are found is =
     subst (λ (p : Placement). IsSoundRow inside.cell.nets inside.cell.pins p.row) (sym is) (subst (λ (i : Inputs). IsSoundRow i.cell.nets i.cell.pins row) (sym same) (sound_row inputs row are found.first.arranges))
 
-pub placed_legal : (inputs inside : Inputs) (row : List Column) (placement : Placement) (routing : Routing) → inside ≡ inputs → placement ≡ placement_of row → IsRouted inputs row routing → IsLegal placement inside.cell.pins routing
-placed_legal inputs inside row placement routing same is routed =
-    subst (λ (p : Placement). IsLegal p inside.cell.pins routing) (sym is) (subst (λ (i : Inputs). IsLegal (placement_of row) i.cell.pins routing) (sym same) routed.legal)
+pub placed_legal : (style : Style) (inputs inside : Inputs) (row : List Column) (placement : Placement) (routing : Routing) → inside ≡ inputs → placement ≡ placement_of row → IsRouted style inputs row routing → AreLegal style.wiring placement inside.cell.pins routing
+placed_legal style inputs inside row placement routing same is routed =
+    subst (λ (p : Placement). AreLegal style.wiring p inside.cell.pins routing) (sym is) (subst (λ (i : Inputs). AreLegal style.wiring (placement_of row) i.cell.pins routing) (sym same) routed.legal)
 
 pub all_pins : (inputs inside : Inputs) (row : List Column) (log : Log) (placement : Placement) → inside ≡ inputs → AreInputs inputs → IsFound inputs row log → ((names : List (List ℕ)) (pins : Pins) (f : Fingers) → AreSound names pins f → ArePins f.nets pins → IsArrangement row f → HasPins placement pins) → HasPins placement inside.cell.pins
 all_pins inputs inside row log placement same are found has =
     subst (λ (i : Inputs). HasPins placement i.cell.pins) (sym same) (has inputs.cell.nets inputs.cell.pins inputs.fingers are.sound (subst (λ n. ArePins n inputs.cell.pins) (sym are.sound.named) are.pins) found.first.arranges)
 
-pub routed_so : (inputs inside : Inputs) (row : List Column) (placement : Placement) (routing : Routing) → inside ≡ inputs → placement ≡ placement_of row → HasNoCycle placement inside.cell.pins → IsLegal placement inside.cell.pins routing → IsTight placement inside.cell.pins routing → IsRouted inputs row routing
-routed_so inputs inside row placement routing same is acyclic legal tight =
-    subst (λ (i : Inputs). IsRouted i row routing) same (record {
-      acyclic = subst (λ (p : Placement). HasNoCycle p inside.cell.pins) is acyclic;
-      legal = subst (λ (p : Placement). IsLegal p inside.cell.pins routing) is legal;
-      tight = subst (λ (p : Placement). IsTight p inside.cell.pins routing) is tight;
+pub routed_so : (style : Style) (inputs inside : Inputs) (row : List Column) (placement : Placement) (routing : Routing) → inside ≡ inputs → placement ≡ placement_of row → HasNoRing style.wiring placement inside.cell.pins → AreLegal style.wiring placement inside.cell.pins routing → AreTight style.wiring placement inside.cell.pins routing → IsRouted style inputs row routing
+routed_so style inputs inside row placement routing same is acyclic legal tight =
+    subst (λ (i : Inputs). IsRouted style i row routing) same (record {
+      acyclic = subst (λ (p : Placement). HasNoRing style.wiring p inside.cell.pins) is acyclic;
+      legal = subst (λ (p : Placement). AreLegal style.wiring p inside.cell.pins routing) is legal;
+      tight = subst (λ (p : Placement). AreTight style.wiring p inside.cell.pins routing) is tight;
     })
 
-pub told_so : (inputs inside : Inputs) (row : List Column) (placement : Placement) (cycle : List Above) → inside ≡ inputs → placement ≡ placement_of row → IsTold placement inside.cell.pins cycle → IsTold (placement_of row) inputs.cell.pins cycle
-told_so inputs inside row placement cycle same is told =
-    subst (λ (i : Inputs). IsTold (placement_of row) i.cell.pins cycle) same (subst (λ (p : Placement). IsTold p inside.cell.pins cycle) is told)
+pub told_so : (style : Style) (inputs inside : Inputs) (row : List Column) (placement : Placement) (ring : Ring) → inside ≡ inputs → placement ≡ placement_of row → IsToldRing style.wiring placement inside.cell.pins ring → IsToldRing style.wiring (placement_of row) inputs.cell.pins ring
+told_so style inputs inside row placement ring same is told =
+    subst (λ (i : Inputs). IsToldRing style.wiring (placement_of row) i.cell.pins ring) same (subst (λ (p : Placement). IsToldRing style.wiring p inside.cell.pins ring) is told)
 
 -- ---- a drawing
 
@@ -99,7 +100,7 @@ pub record IsSoundDrawing (inputs : Inputs) (row : List Column) (routing : Routi
   pub sized : IsSized drawing
   pub readable : IsReadable inputs.cell.name drawing.shapes (unit_nm inputs.tech)
 
-is_made : (inputs : Inputs) (row : List Column) (log : Log) (routing : Routing) (xs : List ℕ) (drawing : Drawing) → AreInputs inputs → IsFound inputs row log → IsRouted inputs row routing → AreLeastLines (placement_of row) inputs.cell.pins routing xs → (IsTooTall row routing.tracks inputs.tech.height → ⊥) → drawing ≡ drawing_in inputs row routing xs → IsSoundDrawing inputs row routing drawing → IsMade inputs row log routing xs
+is_made : (inputs : Inputs) (row : List Column) (log : Log) (routing : Routing) (xs : List ℕ) (drawing : Drawing) → AreInputs inputs → IsFound inputs row log → IsRouted plain_style inputs row routing → AreLeastLines (placement_of row) inputs.cell.pins routing xs → (IsTooTall row routing.tracks inputs.tech.height → ⊥) → drawing ≡ drawing_in inputs row routing xs → IsSoundDrawing inputs row routing drawing → IsMade plain_style inputs row log routing xs
 is_made inputs row log routing xs drawing are found routed lines fits is sound =
     let drawn : IsSoundDrawing inputs row routing (drawing_in inputs row routing xs) = subst (λ (d : Drawing). IsSoundDrawing inputs row routing d) is sound in
     record {
@@ -121,24 +122,24 @@ is_made inputs row log routing xs drawing are found routed lines fits is sound =
 -- ---- the same, from what the steps see
 
 -- a drawing of a routed row, as the steps see it
-pub record IsDrawnSo (inside : Inputs) (row : List Column) (placement : Placement) (routing : Routing) (lines : List ℕ) (drawing : Drawing) (height : ℕ) : Type 0 where
+pub record IsDrawnSo (style : Style) (inside : Inputs) (row : List Column) (placement : Placement) (routing : Routing) (lines : List ℕ) (drawing : Drawing) (height : ℕ) : Type 0 where
   pub least : AreLeastLines placement inside.cell.pins routing lines
   pub fits : IsTooTall placement.row routing.tracks height → ⊥
   pub exact : drawing ≡ drawn_of inside.cell.nets inside.cell.pins placement routing lines height
-  pub obeys : Obeys Plain drawing.shapes.rects
-  pub extracts : ExtractsToRow Plain inside.cell.nets inside.cell.pins placement.row drawing.shapes
-  pub shows : ShowsColumns Plain inside.cell.nets inside.cell.pins placement.row drawing.shapes
-  pub routed : ShowsRouting inside.cell.nets inside.cell.pins placement drawing.shapes routing
+  pub obeys : Obeys (deck_of style.taps) (final style.taps drawing lines).shapes.rects
+  pub extracts : ExtractsToRow (deck_of style.taps) inside.cell.nets inside.cell.pins placement.row (final style.taps drawing lines).shapes
+  pub shows : ShowsColumns (deck_of style.taps) inside.cell.nets inside.cell.pins placement.row (final style.taps drawing lines).shapes
+  pub routed : ShowsWiring style.wiring inside.cell.nets inside.cell.pins placement (final style.taps drawing lines).shapes routing
 
 -- the same of the inputs and the row themselves
-seen_so : (inputs inside : Inputs) (row : List Column) (placement : Placement) (routing : Routing) (lines : List ℕ) (drawing : Drawing) (height : ℕ) → inside ≡ inputs → placement ≡ placement_of row → height ≡ inputs.tech.height → IsDrawnSo inside row placement routing lines drawing height → IsDrawnSo inputs row (placement_of row) routing lines drawing inputs.tech.height
+seen_so : (inputs inside : Inputs) (row : List Column) (placement : Placement) (routing : Routing) (lines : List ℕ) (drawing : Drawing) (height : ℕ) → inside ≡ inputs → placement ≡ placement_of row → height ≡ inputs.tech.height → IsDrawnSo plain_style inside row placement routing lines drawing height → IsDrawnSo plain_style inputs row (placement_of row) routing lines drawing inputs.tech.height
 seen_so inputs inside row placement routing lines drawing height same is high h =
-    subst (λ (i : Inputs). IsDrawnSo i row (placement_of row) routing lines drawing inputs.tech.height) same
-    (subst (λ (p : Placement). IsDrawnSo inside row p routing lines drawing inputs.tech.height) is
-    (subst (λ n. IsDrawnSo inside row placement routing lines drawing n) high h))
+    subst (λ (i : Inputs). IsDrawnSo plain_style i row (placement_of row) routing lines drawing inputs.tech.height) same
+    (subst (λ (p : Placement). IsDrawnSo plain_style inside row p routing lines drawing inputs.tech.height) is
+    (subst (λ n. IsDrawnSo plain_style inside row placement routing lines drawing n) high h))
 
 -- the ports and the obstructions of the drawing of a routed row
-has_ports : (inputs : Inputs) (row : List Column) (routing : Routing) (lines : List ℕ) (drawing : Drawing) → AreInputs inputs → IsPlacement (placement_of row) → IsRouted inputs row routing → AreLeastLines (placement_of row) inputs.cell.pins routing lines → drawing ≡ drawing_in inputs row routing lines → (n : ℕ) → n < inputs.cell.pins.pins → HasPort inputs.cell.nets (ports_in inputs routing drawing) drawing n
+has_ports : (inputs : Inputs) (row : List Column) (routing : Routing) (lines : List ℕ) (drawing : Drawing) → AreInputs inputs → IsPlacement (placement_of row) → IsRouted plain_style inputs row routing → AreLeastLines (placement_of row) inputs.cell.pins routing lines → drawing ≡ drawing_in inputs row routing lines → (n : ℕ) → n < inputs.cell.pins.pins → HasPort inputs.cell.nets (ports_in inputs routing drawing) drawing n
 has_ports inputs row routing lines drawing are placed routed least is n lt =
     subst (λ (d : Drawing). HasPort inputs.cell.nets (ports_in inputs routing d) d n) (sym is)
     (has_port inputs.cell.nets inputs.cell.pins (placement_of row) routing lines inputs.tech.height n placed routed.legal least.allowed are.pins.named lt)
@@ -148,11 +149,11 @@ has_metal inputs row routing lines drawing is =
     subst (λ (d : Drawing). AreAllMetal (ports_in inputs routing d) d.shapes.rects) (sym is)
     (metal inputs.cell.nets inputs.cell.pins (placement_of row) routing lines inputs.tech.height)
 
-has_size : (inputs : Inputs) (row : List Column) (routing : Routing) (lines : List ℕ) (drawing : Drawing) → IsPlacement (placement_of row) → IsRouted inputs row routing → AreLeastLines (placement_of row) inputs.cell.pins routing lines → drawing ≡ drawing_in inputs row routing lines → IsSized drawing
+has_size : (inputs : Inputs) (row : List Column) (routing : Routing) (lines : List ℕ) (drawing : Drawing) → IsPlacement (placement_of row) → IsRouted plain_style inputs row routing → AreLeastLines (placement_of row) inputs.cell.pins routing lines → drawing ≡ drawing_in inputs row routing lines → IsSized drawing
 has_size inputs row routing lines drawing placed routed least is =
     subst IsSized (sym is) (sized inputs.cell.nets inputs.cell.pins (placement_of row) routing lines inputs.tech.height placed routed.legal least.allowed)
 
-sound_drawing : (inputs : Inputs) (row : List Column) (log : Log) (routing : Routing) (lines : List ℕ) (drawing : Drawing) → AreInputs inputs → IsFound inputs row log → IsPlacement (placement_of row) → IsRouted inputs row routing → IsDrawnSo inputs row (placement_of row) routing lines drawing inputs.tech.height → IsReadable inputs.cell.name drawing.shapes (unit_nm inputs.tech) → IsSoundDrawing inputs row routing drawing
+sound_drawing : (inputs : Inputs) (row : List Column) (log : Log) (routing : Routing) (lines : List ℕ) (drawing : Drawing) → AreInputs inputs → IsFound inputs row log → IsPlacement (placement_of row) → IsRouted plain_style inputs row routing → IsDrawnSo plain_style inputs row (placement_of row) routing lines drawing inputs.tech.height → IsReadable inputs.cell.name drawing.shapes (unit_nm inputs.tech) → IsSoundDrawing inputs row routing drawing
 sound_drawing inputs row log routing lines drawing are found placed routed h readable = record {
   obeys = h.obeys;
   extracts = h.extracts.to are.pins inputs.fingers (record { sound = are.sound; arranged = found.first.arranges });
@@ -179,23 +180,16 @@ readable_so inputs inside shapes same are few limits within listed =
     readable inputs.cell.nets inputs.cell.name shapes (unit_nm inputs.tech) are.nets are.cell (unit_least inputs.tech.lambda_nm are.tech.lambda_least) (unit_most inputs.tech.lambda_nm are.tech.lambda_most)
     few limits within (subst (λ (i : Inputs). All (λ (l : Label). Contains i.cell.nets l.name) shapes.labels) same listed)
 
-pub made_so : (inputs inside : Inputs) (row : List Column) (log : Log) (placement : Placement) (routing : Routing) (drawn : Drawn) (height : ℕ) → inside ≡ inputs → placement ≡ placement_of row → height ≡ inputs.tech.height → AreInputs inputs → IsFound inputs row log → IsPlacement placement → IsRouted inputs row routing → IsDrawnSo inside row placement routing drawn.lines drawn.drawing height → IsReadable inputs.cell.name drawn.drawing.shapes (unit_nm inputs.tech) → ComesTo inputs (outcome.Made row log routing drawn)
-made_so inputs inside row log placement routing drawn height same is high are found placed routed h readable =
-    let seen = seen_so inputs inside row placement routing drawn.lines drawn.drawing height same is high h in
-    let sound = sound_drawing inputs row log routing drawn.lines drawn.drawing are found (subst IsPlacement is placed) routed seen readable in
-    (is_made inputs row log routing drawn.lines drawn.drawing are found routed seen.least seen.fits seen.exact sound, seen.exact)
+made_plain : (inputs inside : Inputs) (log : Log) (placement : Placement) (routing : Routing) (drawn : Drawn) (height : ℕ) → inside ≡ inputs → placement ≡ placement_of placement.row → height ≡ inputs.tech.height → AreInputs inputs → IsFound inputs placement.row log → IsPlacement placement → IsRouted plain_style inputs placement.row routing → IsDrawnSo plain_style inside placement.row placement routing drawn.lines drawn.drawing height → IsReadable inputs.cell.name drawn.drawing.shapes (unit_nm inputs.tech) → ComesTo plain_style inputs (outcome.Made placement log routing drawn)
+made_plain inputs inside log placement routing drawn height same is high are found placed routed h readable =
+    let seen = seen_so inputs inside placement.row placement routing drawn.lines drawn.drawing height same is high h in
+    let sound = sound_drawing inputs placement.row log routing drawn.lines drawn.drawing are found (subst IsPlacement is placed) routed seen readable in
+    (is_made inputs placement.row log routing drawn.lines drawn.drawing are found routed seen.least seen.fits seen.exact sound, seen.exact)
 
-needed_is : (needed given least height : ℕ) → ◌≡◌ {A = DrawFault} (TooTall needed given) (TooTall least height) → (needed ≡ least) × (given ≡ height)
-needed_is needed given least height e = (cc, cc)
+pub made_so : (wiring : Wiring) (taps : Taps) (inputs inside : Inputs) (log : Log) (placement : Placement) (routing : Routing) (drawn : Drawn) (height : ℕ) → inside ≡ inputs → placement ≡ placement_of placement.row → height ≡ inputs.tech.height → AreInputs inputs → IsFound inputs placement.row log → IsPlacement placement → IsRouted (record { wiring = wiring; taps = taps }) inputs placement.row routing → IsDrawnSo (record { wiring = wiring; taps = taps }) inside placement.row placement routing drawn.lines drawn.drawing height → IsReadable inputs.cell.name drawn.drawing.shapes (unit_nm inputs.tech) → ComesTo (record { wiring = wiring; taps = taps }) inputs (outcome.Made placement log routing drawn)
+made_so Straight Without inputs inside log placement routing drawn height same is high are found placed routed h readable =
+    made_plain inputs inside log placement routing drawn height same is high are found placed routed h readable
 
-pub tall_so : (inputs : Inputs) (row : List Column) (log : Log) (placement : Placement) (routing : Routing) (height needed given : ℕ) → placement ≡ placement_of row → height ≡ inputs.tech.height → IsFound inputs row log → IsRouted inputs row routing → IsCause placement.row routing.tracks height (TooTall needed given) → ComesTo inputs (outcome.Tall row log routing needed given)
-tall_so inputs row log placement routing height needed given is high found routed cause =
-    let of_row : IsCause row routing.tracks height (TooTall needed given) = subst (λ (p : Placement). IsCause p.row routing.tracks height (TooTall needed given)) is cause in
-    let (least, asked) = needed_is needed given (needed_of row routing.tracks) height of_row.1 in
-    ((found, routed, subst (λ h. IsTooTall row routing.tracks h) high of_row.0), (least, asked ∙ high))
-
-pub cyclic_so : (inputs inside : Inputs) (row : List Column) (log : Log) (placement : Placement) (cycle : List Above) → inside ≡ inputs → placement ≡ placement_of row → IsFound inputs row log → IsTold placement inside.cell.pins cycle → ComesTo inputs (outcome.Cyclic row log cycle)
-cyclic_so inputs inside row log placement cycle same is found told = ((found, told_so inputs inside row placement cycle same is told), tt)
-
-pub spent_so : (inputs : Inputs) (proved : ℕ) (log : Log) → IsUnfinished inputs proved log → ComesTo inputs (outcome.Unfinished log proved)
-spent_so inputs proved log spent = (spent, tt)
+pub cyclic_so : (style : Style) (inputs inside : Inputs) (row : List Column) (log : Log) (placement : Placement) (ring : Ring) → inside ≡ inputs → placement ≡ placement_of row → IsFound inputs row log → IsToldRing style.wiring placement inside.cell.pins ring → ComesTo style inputs (outcome.Cyclic placement log ring)
+cyclic_so style inputs inside row log placement ring same is found told =
+    subst (λ (p : Placement). ComesTo style inputs (outcome.Cyclic p log ring)) (sym is) ((found, told_so style inputs inside row placement ring same is told), tt)

@@ -15,7 +15,7 @@ use Rattle.cell_draw.specs.Bounds.{AreWithin, IsLabelWithin, IsShapeWithin}
 use Rattle.cell_draw.proofs.Bounds.{fits}
 use Rattle.gds_write.specs.Written.{IsWritableLabel, IsWritableShape}
 use Rattle.gds_read.specs.RoundTrip.{HasNoZeroEnd, IsReadable}
-use Rattle.cell_make.proofs.Names.{log_name, whole_name}
+use Rattle.cell_inputs.proofs.Names.{log_name, whole_name}
 
 abbrev HasNoZero : List ℕ → Type 0
 HasNoZero text = All (λ b. b ≢ 0) text

@@ -1,4 +1,6 @@
-pub mod Inputs
+pub mod Channel
+pub mod Extent
 pub mod Making
 pub mod Searched
 pub mod Structures
+pub mod Style

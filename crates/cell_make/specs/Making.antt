@@ -4,56 +4,55 @@ use Rattle.std.specs.Prelude.{ℕ, ◌≡◌, ◌<◌, ◌≤◌, ◌*◌, List,
 use Rattle.cell_num.specs.declared.net.Pins.{Pins}
 use Rattle.row_model.specs.declared.column.Column.{Column}
 use Rattle.bound_log.specs.declared.log.Log.{Log}
-use Rattle.row_search.specs.First.{IsFirstLeast}
 use Rattle.row_place.specs.declared.placement.Placement.{Placement}
 use Rattle.row_place.specs.Places.{placement_of}
-use Rattle.channel_route.specs.declared.routing.Above.{Above}
+use Rattle.channel_route.specs.declared.ring.Ring.{Ring}
 use Rattle.channel_route.specs.declared.routing.Routing.{Routing}
-use Rattle.channel_route.specs.Cycle.{HasNoCycle}
-use Rattle.channel_route.specs.Routing.{IsLegal, IsTight}
-use Rattle.channel_route.specs.Told.{IsTold}
 use Rattle.row_compact.specs.Allowed.{AreAllowed, stretches_of}
 use Rattle.row_compact.specs.Solution.{x_of}
 use Rattle.scmos_rules.specs.Rules.{Obeys}
-use Rattle.scmos_rules.specs.declared.rules.Deck.TheVariants.{Plain}
 use Rattle.cell_draw.specs.declared.drawing.Drawing.{Drawing}
 use Rattle.cell_draw.specs.Drawings.{drawn_of}
 use Rattle.cell_draw.specs.Extracted.{ExtractsTo}
 use Rattle.cell_draw.specs.Frame.{needed_of, IsTooTall}
-use Rattle.cell_draw.specs.Shown.{ShowsRouting, ShowsRow}
+use Rattle.cell_draw.specs.Shown.{ShowsRow}
 use Rattle.gds_write.specs.Written.{written}
 use Rattle.gds_read.specs.Decoding.{Decodes}
 use Rattle.gds_read.specs.RoundTrip.{IsReadable}
 use Rattle.lef_write.specs.declared.port.Port.{Port}
-use Rattle.lef_write.specs.Drawn.{AreAllMetal, HasPort, IsSized}
+use Rattle.lef_write.specs.Drawn.{AreAllMetal, IsSized}
 use Rattle.lef_write.specs.Lef.{cell_text}
 use Rattle.lef_write.specs.Ports.{ports_of}
 use Rattle.cell_make.specs.declared.outcome.Outcome.{Outcome}
 use Rattle.cell_make.specs.declared.outcome.Outcome.TheVariants as outcome
-use Rattle.cell_make.specs.Inputs.{Inputs, unit_nm}
-use Rattle.cell_make.specs.Searched.{IsCertified, IsUnfinished}
+use Rattle.cell_inputs.specs.declared.style.Style.{Style}
+use Rattle.cell_inputs.specs.Inputs.{Inputs, unit_nm}
+use Rattle.cell_make.specs.Searched.{IsFound, IsUnfinished}
 use Rattle.cell_make.specs.Structures.{HasOneStructure}
+use Rattle.cell_make.specs.Style.{AreLegal, AreTight, HasNoRing, HasPinPort, IsToldRing, ShowsWiring, deck_of, final}
 
 -- ---- the parts
 
 -- A position for each line that the routed row allows, at every line at most every other such one.
 pub record AreLeastLines (placement : Placement) (pins : Pins) (routing : Routing) (xs : List ℕ) : Type 0 where
   pub allowed : AreAllowed placement pins (stretches_of routing.trunks) xs
-  pub least : (other : List ℕ) → AreAllowed placement pins (stretches_of routing.trunks) other → (line : ℕ) → line ≤ 2 * length placement.units → x_of xs line ≤ x_of other line
-
--- the first least row, with an accepted log that lists it and was found within the budget
-pub record IsFound (inputs : Inputs) (row : List Column) (log : Log) : Type 0 where
-  pub first : IsFirstLeast inputs.fingers row
-  pub certified : IsCertified inputs row log
+  pub least : (other : List ℕ) → AreAllowed placement pins (stretches_of routing.trunks) other
+      → (line : ℕ) → line ≤ 2 * length placement.units → x_of xs line ≤ x_of other line
 
 -- its channel, routed; no nets stand above each other in a ring
-pub record IsRouted (inputs : Inputs) (row : List Column) (routing : Routing) : Type 0 where
-  pub acyclic : HasNoCycle (placement_of row) inputs.cell.pins
-  pub legal : IsLegal (placement_of row) inputs.cell.pins routing
-  pub tight : IsTight (placement_of row) inputs.cell.pins routing
+pub record IsRouted (style : Style) (inputs : Inputs) (row : List Column) (routing : Routing) : Type 0 where
+  pub acyclic : HasNoRing style.wiring (placement_of row) inputs.cell.pins
+  pub legal : AreLegal style.wiring (placement_of row) inputs.cell.pins routing
+  pub tight : AreTight style.wiring (placement_of row) inputs.cell.pins routing
 
+-- the drawing of the row and its channel
 abbrev pub drawing_in : Inputs → List Column → Routing → List ℕ → Drawing
-drawing_in inputs row routing xs = drawn_of inputs.cell.nets inputs.cell.pins (placement_of row) routing xs inputs.tech.height
+drawing_in inputs row routing xs =
+    drawn_of inputs.cell.nets inputs.cell.pins (placement_of row) routing xs inputs.tech.height
+
+-- the same as it is written
+abbrev pub final_in : Style → Inputs → List Column → Routing → List ℕ → Drawing
+final_in style inputs row routing xs = final style.taps (drawing_in inputs row routing xs) xs
 
 -- the bytes of a drawing
 abbrev pub library_of : Inputs → Drawing → List ℕ
@@ -71,60 +70,73 @@ abstract_of inputs routing drawing = cell_text inputs.cell routing drawing (unit
 -- and lists it. Its channel is routed legally and tightly, its lines stand at the least places, and the height is
 -- enough. The shapes obey every rule, extract net by net to the fingers, and show the row and the routing; and the
 -- bytes, which have no other structure, decode with the cell's name and the technology's lambda to these shapes. Each
--- pin has a port, all other metal obstructs, and the size is that of metal1.
-pub record IsMade (inputs : Inputs) (row : List Column) (log : Log) (routing : Routing) (xs : List ℕ) : Type 0 where
+-- pin has a port, all other metal obstructs, and the size is that of metal1: these three without the taps.
+pub record IsMade (style : Style) (inputs : Inputs) (row : List Column) (log : Log) (routing : Routing)
+    (xs : List ℕ) : Type 0 where
   pub found : IsFound inputs row log
-  pub routed : IsRouted inputs row routing
+  pub routed : IsRouted style inputs row routing
   pub lines : AreLeastLines (placement_of row) inputs.cell.pins routing xs
   pub fits : IsTooTall row routing.tracks inputs.tech.height → ⊥
-  pub obeys : Obeys Plain (drawing_in inputs row routing xs).shapes.rects
-  pub extracts : ExtractsTo Plain inputs.cell.nets inputs.fingers (drawing_in inputs row routing xs).shapes
-  pub shows_row : ShowsRow Plain inputs.cell.nets row (drawing_in inputs row routing xs).shapes
-  pub shows_routing : ShowsRouting inputs.cell.nets inputs.cell.pins (placement_of row) (drawing_in inputs row routing xs).shapes routing
-  pub ports : (n : ℕ) → n < inputs.cell.pins.pins → HasPort inputs.cell.nets (ports_in inputs routing (drawing_in inputs row routing xs)) (drawing_in inputs row routing xs) n
-  pub obstructs : AreAllMetal (ports_in inputs routing (drawing_in inputs row routing xs)) (drawing_in inputs row routing xs).shapes.rects
+  pub obeys : Obeys (deck_of style.taps) (final_in style inputs row routing xs).shapes.rects
+  pub extracts :
+      ExtractsTo (deck_of style.taps) inputs.cell.nets inputs.fingers (final_in style inputs row routing xs).shapes
+  pub shows_row : ShowsRow (deck_of style.taps) inputs.cell.nets row (final_in style inputs row routing xs).shapes
+  pub shows_routing :
+      ShowsWiring style.wiring inputs.cell.nets inputs.cell.pins (placement_of row)
+      (final_in style inputs row routing xs).shapes routing
+  pub ports : (n : ℕ) → n < inputs.cell.pins.pins
+      → HasPinPort style.wiring inputs.cell.nets (ports_in inputs routing (drawing_in inputs row routing xs))
+      (drawing_in inputs row routing xs) n
+  pub obstructs :
+      AreAllMetal (ports_in inputs routing (drawing_in inputs row routing xs))
+      (drawing_in inputs row routing xs).shapes.rects
   pub sized : IsSized (drawing_in inputs row routing xs)
-  pub decodes : Decodes (library_of inputs (drawing_in inputs row routing xs)) inputs.cell.name inputs.tech.lambda_nm (drawing_in inputs row routing xs).shapes
-  pub alone : HasOneStructure (library_of inputs (drawing_in inputs row routing xs))
+  pub decodes :
+      Decodes (library_of inputs (final_in style inputs row routing xs)) inputs.cell.name inputs.tech.lambda_nm
+      (final_in style inputs row routing xs).shapes
+  pub alone : HasOneStructure (library_of inputs (final_in style inputs row routing xs))
 
 -- ---- what it comes to
 
 pub data MakeAnswer : Type 0 where
   Made : (row : List Column) (log : Log) (routing : Routing) (xs : List ℕ) → MakeAnswer
-  Cyclic : (row : List Column) (log : Log) (cycle : List Above) → MakeAnswer
+  Cyclic : (row : List Column) (log : Log) (ring : Ring) → MakeAnswer
   Tall : (row : List Column) (log : Log) (routing : Routing) → MakeAnswer
   Unfinished : (proved : ℕ) (log : Log) → MakeAnswer
 
-abbrev pub Makes : Inputs → MakeAnswer → Type 0
-Makes inputs (Made row log routing xs) = IsMade inputs row log routing xs
-Makes inputs (Cyclic row log cycle) = IsFound inputs row log × IsTold (placement_of row) inputs.cell.pins cycle
-Makes inputs (Tall row log routing) = IsFound inputs row log × IsRouted inputs row routing × IsTooTall row routing.tracks inputs.tech.height
-Makes inputs (Unfinished proved log) = IsUnfinished inputs proved log
+abbrev pub Makes : Style → Inputs → MakeAnswer → Type 0
+Makes style inputs (Made row log routing xs) = IsMade style inputs row log routing xs
+Makes style inputs (Cyclic row log ring) =
+    IsFound inputs row log × IsToldRing style.wiring (placement_of row) inputs.cell.pins ring
+Makes style inputs (Tall row log routing) =
+    IsFound inputs row log × IsRouted style inputs row routing × IsTooTall row routing.tracks inputs.tech.height
+Makes style inputs (Unfinished proved log) = IsUnfinished inputs proved log
 
 -- ---- as the code answers it
 
 abbrev pub answer_of : Outcome → MakeAnswer
-answer_of (outcome.Made row log routing drawn) = Made row log routing drawn.lines
-answer_of (outcome.Cyclic row log cycle) = Cyclic row log cycle
-answer_of (outcome.Tall row log routing needed given) = Tall row log routing
+answer_of (outcome.Made placement log routing drawn) = Made placement.row log routing drawn.lines
+answer_of (outcome.Cyclic placement log ring) = Cyclic placement.row log ring
+answer_of (outcome.Tall placement log routing needed given) = Tall placement.row log routing
 answer_of (outcome.Unfinished log proved) = Unfinished proved log
 
 -- The drawing is that of the row, its routing and its lines, and the heights are the one that the row needs and the
 -- one of the technology.
 abbrev pub IsDrawnBy : Inputs → Outcome → Type 0
-IsDrawnBy inputs (outcome.Made row log routing drawn) = drawn.drawing ≡ drawing_in inputs row routing drawn.lines
-IsDrawnBy inputs (outcome.Cyclic row log cycle) = Unit {0}
-IsDrawnBy inputs (outcome.Tall row log routing needed given) =
-    (needed ≡ needed_of row routing.tracks) × (given ≡ inputs.tech.height)
+IsDrawnBy inputs (outcome.Made placement log routing drawn) =
+    drawn.drawing ≡ drawing_in inputs placement.row routing drawn.lines
+IsDrawnBy inputs (outcome.Cyclic placement log ring) = Unit {0}
+IsDrawnBy inputs (outcome.Tall placement log routing needed given) =
+    (needed ≡ needed_of placement.row routing.tracks) × (given ≡ inputs.tech.height)
 IsDrawnBy inputs (outcome.Unfinished log proved) = Unit {0}
 
-abbrev pub ComesTo : Inputs → Outcome → Type 0
-ComesTo inputs came = Makes inputs (answer_of came) × IsDrawnBy inputs came
+abbrev pub ComesTo : Style → Inputs → Outcome → Type 0
+ComesTo style inputs came = Makes style inputs (answer_of came) × IsDrawnBy inputs came
 
 -- a drawing can be written as a library that is read back, and is small enough for an abstract
 abbrev pub CanBeWritten : Inputs → Outcome → Type 0
-CanBeWritten inputs (outcome.Made row log routing drawn) =
+CanBeWritten inputs (outcome.Made placement log routing drawn) =
     IsReadable inputs.cell.name drawn.drawing.shapes (unit_nm inputs.tech) × (length drawn.drawing.shapes.rects ≤ 1999)
-CanBeWritten inputs (outcome.Cyclic row log cycle) = Unit {0}
-CanBeWritten inputs (outcome.Tall row log routing needed given) = Unit {0}
+CanBeWritten inputs (outcome.Cyclic placement log ring) = Unit {0}
+CanBeWritten inputs (outcome.Tall placement log routing needed given) = Unit {0}
 CanBeWritten inputs (outcome.Unfinished log proved) = Unit {0}

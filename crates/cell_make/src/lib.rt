@@ -2,10 +2,12 @@
 // unfinished search.
 #![tactic(auto)]
 
+mod channel;
 pub mod drawn;
-pub mod inputs;
 pub mod outcome;
+pub mod planned;
 
+pub use cell_inputs::Inputs;
 pub use drawn::Drawn;
-pub use inputs::Inputs;
 pub use outcome::Outcome;
+pub use planned::Planned;

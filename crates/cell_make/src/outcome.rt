@@ -1,38 +1,40 @@
 ghost use Rattle.std.specs.Prelude.{◌≡◌, IfOk};
 ghost use Rattle.row_place.specs.Places.{IsPlacement, placement_of};
-ghost use Rattle.cell_make.specs.Making.{CanBeWritten, ComesTo, IsFound, IsRouted};
+ghost use Rattle.cell_make.specs.Extent.{IsOnItsLines, LiesInFrame};
+ghost use Rattle.cell_make.specs.Making.{CanBeWritten, ComesTo, IsRouted};
+ghost use Rattle.cell_make.specs.Searched.{IsFound};
 
+use crate::channel::{ChannelStop, route_by};
 use crate::drawn::{Drawn, draw_routed};
-use crate::inputs::Inputs;
+use crate::planned::Planned;
 use cell_draw::DrawFault;
+use cell_inputs::{Inputs, Style};
 use cell_num::NoMemory;
-use channel_route::{CycleList, RouteStop, Routing, route};
+use channel_route::{Ring, Routing};
 use log_output::KeptLog;
 use row_model::Arrangement;
 use row_place::{Placement, place};
-use row_search::{StopKept, search_kept};
-use row_state::{COMPONENT_LOG, Component};
 use std::alloc::Global;
 
 /// What making a cell comes to.
 #[derive(Drop)]
 pub enum Outcome {
-    /// The first least row, drawn.
+    /// The first least row on its lines, drawn.
     Made {
-        row: Arrangement,
+        placement: Placement,
         log: KeptLog,
         routing: Routing,
         drawn: Drawn,
     },
-    /// Nets of that row stand above each other in a ring.
+    /// Nets of that row, or parts of them, stand above each other in a ring.
     Cyclic {
-        row: Arrangement,
+        placement: Placement,
         log: KeptLog,
-        cycle: CycleList,
+        ring: Ring,
     },
     /// The given height is below the one that the routed row needs.
     Tall {
-        row: Arrangement,
+        placement: Placement,
         log: KeptLog,
         routing: Routing,
         needed: u32,
@@ -49,28 +51,37 @@ pub enum Outcome {
 fn of_routed(
     alloc: Global,
     inputs: &Inputs,
-    row: Arrangement,
+    style: Style,
+    placement: Placement,
     log: KeptLog,
-    placement: &Placement,
     routing: Routing,
 ) -> Result<Outcome, NoMemory>
-    requires found { IsFound inputs.now row log }
-    requires placement { placement.now ≡ placement_of row }
-    requires places { IsPlacement placement.now }
-    requires routed { IsRouted inputs.now row routing }
-    ensures comes { IfOk result (ComesTo inputs.now) }
+    requires found { IsFound inputs.now placement.row log }
+    requires placed { placement ≡ placement_of placement.row }
+    requires places { IsPlacement placement }
+    requires routed { IsRouted style inputs.now placement.row routing }
+    ensures comes { IfOk result (ComesTo style inputs.now) }
     ensures written { IfOk result (CanBeWritten inputs.now) }
+    ensures placed { IfOk result IsOnItsLines }
+    ensures extent { IfOk result (LiesInFrame inputs.now) }
 {
     inputs.show_limits();
-    match draw_routed(alloc, &inputs.cell, placement, &routing, inputs.height()) {
+    match draw_routed(
+        alloc,
+        style,
+        &inputs.cell,
+        &placement,
+        &routing,
+        inputs.height(),
+    ) {
         Ok(drawn) => Ok(Outcome::Made {
-            row,
+            placement,
             log,
             routing,
             drawn,
         }),
         Err(DrawFault::TooTall { needed, given }) => Ok(Outcome::Tall {
-            row,
+            placement,
             log,
             routing,
             needed,
@@ -84,40 +95,42 @@ fn of_routed(
 fn of_row(
     alloc: Global,
     inputs: &Inputs,
+    style: Style,
     row: Arrangement,
     log: KeptLog,
 ) -> Result<Outcome, NoMemory>
     requires { IsFound inputs.now row log }
-    ensures comes { IfOk result (ComesTo inputs.now) }
+    ensures comes { IfOk result (ComesTo style inputs.now) }
     ensures written { IfOk result (CanBeWritten inputs.now) }
+    ensures placed { IfOk result IsOnItsLines }
+    ensures extent { IfOk result (LiesInFrame inputs.now) }
 {
     inputs.show_limits();
     let placement = place(alloc, &row)?;
-    match route(alloc, &placement, &inputs.cell.pins) {
-        Ok(routing) => of_routed(alloc, inputs, row, log, &placement, routing),
-        Err(RouteStop::Cycle(cycle)) => Ok(Outcome::Cyclic { row, log, cycle }),
-        Err(RouteStop::NoMemory) => Err(NoMemory),
+    match route_by(alloc, style.wiring, &placement, &inputs.cell.pins) {
+        Ok(routing) => of_routed(alloc, inputs, style, placement, log, routing),
+        Err(ChannelStop::Ring(ring)) => Ok(Outcome::Cyclic {
+            placement,
+            log,
+            ring,
+        }),
+        Err(ChannelStop::NoMemory) => Err(NoMemory),
     }
 }
 
 impl Outcome {
-    /// The drawing of the first least row with its log; or the log, with a cycle of the row, with a height that
-    /// is not enough, or of a search that spent its budget. A drawing can be written.
-    pub fn of(alloc: Global, inputs: &Inputs) -> Result<Outcome, NoMemory>
-        ensures comes { IfOk result (ComesTo inputs.now) }
+    /// The drawing of the first least row in this style, with its log; or the log, with a ring of the row, with a
+    /// height that is not enough, or of a search that spent its budget. A drawing can be written.
+    pub fn of(alloc: Global, inputs: &Inputs, style: Style) -> Result<Outcome, NoMemory>
+        ensures comes { IfOk result (ComesTo style inputs.now) }
         ensures written { IfOk result (CanBeWritten inputs.now) }
+        // the row stands on its lines
+        ensures placed { IfOk result IsOnItsLines }
+        ensures extent { IfOk result (LiesInFrame inputs.now) }
     {
-        inputs.show_limits();
-        match search_kept(alloc, &inputs.fingers, &Component, inputs.budget()) {
-            Ok(found) => {
-                let log = KeptLog::with_row(COMPONENT_LOG, found.kept, found.best);
-                of_row(alloc, inputs, found.row, log)
-            }
-            Err(StopKept::Unfinished { kept, proved }) => {
-                let log = KeptLog::without_row(COMPONENT_LOG, kept);
-                Ok(Outcome::Unfinished { log, proved })
-            }
-            Err(StopKept::NoMemory) => Err(NoMemory),
+        match Planned::of(alloc, inputs)? {
+            Planned::Found { row, log } => of_row(alloc, inputs, style, row, log),
+            Planned::Unfinished { log, proved } => Ok(Outcome::Unfinished { log, proved }),
         }
     }
 }

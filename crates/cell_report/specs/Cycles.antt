@@ -1,6 +1,8 @@
 -- The lines of a cycle of nets, each of which stands above the next, and the last above the first.
 use Rattle.std.specs.Prelude.{ℕ, ◌+◌, nat_lt, if◌then◌else◌, List, [], ◌++◌, length, slice_get, flat_map, codes, decimal, Option, Some, None}
 use Rattle.std.specs.List.{enumerate_from}
+use Rattle.channel_route.specs.declared.ring.Ring.{Ring}
+use Rattle.channel_route.specs.declared.ring.Ring.TheVariants.{OfNets}
 use Rattle.channel_route.specs.declared.routing.Above.{Above}
 use Rattle.cell_report.specs.Names.{name_of}
 
@@ -24,3 +26,6 @@ above_text nets cycle numbered =
 
 abbrev pub cycle_text : List (List ℕ) → List Above → List ℕ
 cycle_text nets cycle = flat_map (above_text nets cycle) (enumerate_from 0 cycle)
+
+abbrev pub ring_text : List (List ℕ) → Ring → List ℕ
+ring_text nets (OfNets cycle) = cycle_text nets cycle

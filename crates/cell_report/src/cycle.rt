@@ -1,9 +1,9 @@
 ghost use Rattle.std.specs.Prelude.{◌≡◌, ◌<◌, ◌++◌, IfOk, OnOk, length, slice_get};
-ghost use Rattle.cell_report.specs.Cycles.{below, entry_text, pair_text, above_text, cycle_text};
+ghost use Rattle.cell_report.specs.Cycles.{below, entry_text, pair_text, above_text, cycle_text, ring_text};
 
 use crate::names::put_net;
 use cell_num::{Bytes, Names, NoMemory, put_number};
-use channel_route::{Above, CycleList};
+use channel_route::{Above, CycleList, Ring};
 use std::alloc::Global;
 
 fn below(count: usize, at: usize) -> usize
@@ -63,4 +63,13 @@ pub fn cycle_text(alloc: Global, nets: &Names, cycle: &CycleList) -> Result<Vec<
         put_above(&mut out, nets, cycle.as_slice(), at, above)?;
     }
     Ok(out.into_vec())
+}
+
+/// The lines of a ring: those of its cycle.
+pub fn ring_text(alloc: Global, nets: &Names, ring: &Ring) -> Result<Vec<u8>, NoMemory>
+    ensures { IfOk result (λ text. text.items ≡ ring_text nets.now ring.now) }
+{
+    match ring {
+        Ring::OfNets(cycle) => cycle_text(alloc, nets, cycle),
+    }
 }

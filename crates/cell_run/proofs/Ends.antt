@@ -17,7 +17,7 @@ use Rattle.call_end.specs.End.{says}
 use Rattle.call_work.specs.Ends.{CallsFor, EndsTo, KeepsReadsOf, MayEnd, WorksTo, file_statuses, is_among, outside_of, refusal_status, refused, settled_of}
 use Rattle.layout_run.specs.Extract.{ExtractsTo}
 use Rattle.call_gather.specs.Gather.{gathered, read_by}
-use Rattle.cell_make.specs.Inputs.{Inputs}
+use Rattle.cell_inputs.specs.Inputs.{Inputs}
 use Rattle.cell_make.specs.Making as made
 use Rattle.make_run.specs.Make.{MakesTo}
 use Rattle.cell_run.specs.Headline.{IsMake, fileless_statuses}

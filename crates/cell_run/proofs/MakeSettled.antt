@@ -10,7 +10,7 @@ use Rattle.call_end.specs.declared.status.Status.TheVariants as status
 use Rattle.call_end.specs.Deliver.{Says, TellsWhole}
 use Rattle.cell_run.specs.Headline.{IsCyclicCell, IsMadeCell, IsSpentSearch, IsTallCell}
 use Rattle.call_work.proofs.Statuses.{differ}
-use Rattle.cell_make.specs.Inputs.{Inputs}
+use Rattle.cell_inputs.specs.Inputs.{Inputs}
 use Rattle.cell_make.specs.Making.{abstract_of, drawing_in, library_of}
 use Rattle.cell_make.specs.Making as made
 use Rattle.make_run.specs.Make.{MakesTo}

@@ -16,7 +16,7 @@ use Rattle.cell_run.specs.Calm.{IsCalm}
 use Rattle.call_end.specs.Deliver.{Says}
 use Rattle.call_work.specs.Ends.{EndsTo}
 use Rattle.cell_run.specs.Headline.{CanBeDrawn, FromInputs, HasCycle, IsCyclicCell, IsMadeCell, IsOrShort, IsSpentSearch, IsTallCell, IsTooHigh, OfFirstLeast, WhereMakeEnds}
-use Rattle.cell_make.specs.Inputs.{Inputs}
+use Rattle.cell_inputs.specs.Inputs.{Inputs}
 use Rattle.cell_make.specs.Making as made
 use Rattle.cell_make.specs.Searched.{IsUnfinished}
 use Rattle.make_run.specs.Make.{MakesTo}

@@ -1,7 +1,7 @@
 -- What a call of `check` tells.
 use Rattle.std.specs.Prelude.{ℕ, ◌≡◌, List, Option, Ok}
 use Rattle.cell_io.specs.Desk.{Files}
-use Rattle.cell_make.specs.Inputs.{Inputs}
+use Rattle.cell_inputs.specs.Inputs.{Inputs}
 use Rattle.check_run.specs.Check.{IsTextOfAccepted}
 use Rattle.call_gather.specs.Kinds.{Checking, IsOfKind}
 use Rattle.call_gather.specs.Gather.{gathered}

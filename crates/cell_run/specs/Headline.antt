@@ -27,7 +27,7 @@ use Rattle.call_end.specs.declared.status.Status.{Status}
 use Rattle.call_end.specs.declared.status.Status.TheVariants as status
 use Rattle.call_end.specs.Deliver.{Says}
 use Rattle.call_gather.specs.Gather.{gathered}
-use Rattle.cell_make.specs.Inputs.{Inputs}
+use Rattle.cell_inputs.specs.Inputs.{Inputs}
 use Rattle.cell_make.specs.Making.{AreLeastLines, IsRouted, abstract_of, drawing_in, library_of, ports_in}
 use Rattle.cell_report.specs.Cycles.{cycle_text}
 use Rattle.make_run.specs.MakeReport.{drawn_text, tall_text}

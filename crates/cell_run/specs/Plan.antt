@@ -3,7 +3,7 @@ use Rattle.std.specs.Prelude.{◌≡◌, ◌≤◌, Option, Ok}
 use Rattle.cell_io.specs.Desk.{Files}
 use Rattle.log_check.specs.Accepted.{ForKinds}
 use Rattle.row_search.specs.Enough.{enough}
-use Rattle.cell_make.specs.Inputs.{Inputs}
+use Rattle.cell_inputs.specs.Inputs.{Inputs}
 use Rattle.call_gather.specs.Kinds.{Planning}
 use Rattle.call_gather.specs.Gather.{gathered}
 use Rattle.call_read.specs.Reading.{called}

@@ -5,6 +5,7 @@ pub mod channel;
 mod constraint;
 mod cycle;
 pub mod laws;
+pub mod ring;
 pub mod routing;
 mod sweep;
 mod wire;
@@ -13,6 +14,7 @@ pub use channel::route;
 pub use constraint::{Constraint, constraints};
 pub use cycle::{Step, find_cycle};
 pub use laws::{no_cycle, one_routing, one_told};
+pub use ring::Ring;
 pub use routing::{
     Above, CycleList, RouteStop, Routing, Trunk, TrunkList, WireAbove, WireCycleList,
 };

@@ -23,7 +23,7 @@ use Rattle.check_run.specs.declared.verdict.CheckAnswer.TheVariants.{Accepted, M
 use Rattle.call_end.specs.declared.end.End.{End}
 use Rattle.call_end.specs.declared.status.Status.TheVariants as status
 use Rattle.check_run.specs.Check.{Checks, ChecksTo, IsTextOfAccepted, misread_answer, rejected_answer}
-use Rattle.cell_make.specs.Inputs.{Inputs}
+use Rattle.cell_inputs.specs.Inputs.{Inputs}
 use Rattle.check_run.proofs.Accepted.{not_both}
 
 pub accepted : (inputs : Inputs) (bytes : List ℕ) (k : Kinds) (log : Log) (gaps lemmas : ℕ) → AreKinds inputs.fingers k → AreSomeKinds k → Fits k log → bytes ≡ log_text inputs.cell.name log → WithKinds inputs.fingers (λ j. IsAccepted (value_of log.version) j inputs.fingers log gaps) → ((other : List Column) → IsArrangement other inputs.fingers → gaps ≤ gaps_of other) → lemmas ≡ length log.lemmas → Checks inputs bytes (Accepted gaps lemmas)

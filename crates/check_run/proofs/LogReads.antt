@@ -29,8 +29,8 @@ use Rattle.check_run.specs.declared.verdict.CheckAnswer.{CheckAnswer}
 use Rattle.check_run.specs.declared.verdict.CheckAnswer.TheVariants.{Accepted}
 use Rattle.call_end.specs.declared.end.End.{End}
 use Rattle.check_run.specs.Check.{Checks, ChecksTo, check_end, misread_answer, rejected_answer}
-use Rattle.cell_make.specs.Inputs.{AreInputs, Inputs}
-use Rattle.cell_make.proofs.Names.{log_name}
+use Rattle.cell_inputs.specs.Inputs.{AreInputs, Inputs}
+use Rattle.cell_inputs.proofs.Names.{log_name}
 use Rattle.check_run.specs.LogRead.{AreBegun, AreBehind, AreBehindAll, ForSeenLog, HasSeenLog, HaveRoom, IsBehindAll, no_log, with_items}
 use Rattle.check_run.proofs.Checked.{accepted, misread_checks, rejected_checks}
 use Rattle.check_run.proofs.LogItems.{log_again}

@@ -22,7 +22,7 @@ use Rattle.call_end.specs.declared.end.End.{End}
 use Rattle.call_end.specs.declared.status.Status.TheVariants as status
 use Rattle.call_end.specs.End.{says}
 use Rattle.fault_text.specs.Faults.{fault_line, log_fault, check_fault}
-use Rattle.cell_make.specs.Inputs.{Inputs}
+use Rattle.cell_inputs.specs.Inputs.{Inputs}
 use Rattle.cell_report.specs.Logs.{checked_text}
 
 -- the bytes are the text of a log that is accepted, with so many gaps and lemmas

@@ -13,7 +13,7 @@ use Rattle.bound_log.specs.Pieces.{Reader, Tale, begun, tale_of, then_tale}
 use Rattle.bound_log.proofs.Tales.{faulted, tale_append}
 use Rattle.log_check.specs.Accepted.{WithKinds}
 use Rattle.log_check.specs.Items.{Checked, HasSeen, empty_log, with_columns, with_gaps, with_lemmas}
-use Rattle.cell_make.specs.Inputs.{Inputs}
+use Rattle.cell_inputs.specs.Inputs.{Inputs}
 
 -- a log with one item more; its head begins it
 abbrev pub with_item : Log → LogItem → Log

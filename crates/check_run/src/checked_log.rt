@@ -30,7 +30,7 @@ fn pass_over(fault: LogFault, part: &[u8]) -> Result<usize, NoMemory>
 
 impl CheckedLog {
     /// A log for the inputs, before its first byte.
-    #[tactic(auto, using(cell_make::proofs::Names::log_name))]
+    #[tactic(auto, using(cell_inputs::proofs::Names::log_name))]
     pub fn new(alloc: Global, inputs: &Inputs) -> Result<CheckedLog, NoMemory>
         ensures { IfOk result (λ log. AreBegun inputs.now log.reader log.checker) }
     {

@@ -4,18 +4,19 @@ use Rattle.std.proofs.lemmas.Result.{IfOk-weaker}
 use Rattle.cell_num.specs.declared.list.NoMemory.{NoMemory}
 use Rattle.row_model.specs.declared.column.Column.{Column}
 use Rattle.bound_log.specs.declared.log.Log.{Log}
-use Rattle.channel_route.specs.declared.routing.Above.{Above}
+use Rattle.channel_route.specs.declared.ring.Ring.{Ring}
 use Rattle.channel_route.specs.declared.routing.Routing.{Routing}
 use Rattle.cell_draw.specs.declared.drawing.Drawing.{Drawing}
 use Rattle.cell_make.specs.declared.drawn.Drawn.{Drawn}
 use Rattle.cell_make.specs.declared.outcome.Outcome.{Outcome}
-use Rattle.cell_make.specs.Inputs.{Inputs, unit_nm}
+use Rattle.cell_inputs.specs.declared.style.Style.{Style}
+use Rattle.cell_inputs.specs.Inputs.{Inputs, unit_nm}
 use Rattle.cell_make.specs.Making.{ComesTo, Made, Cyclic, answer_of, drawing_in}
 use Rattle.call_end.specs.declared.end.End.{End}
 use Rattle.make_run.specs.Make.{IsCycleEnd, IsMadeEnd, IsMakeEnd, MakesTo}
 
-pub makes_to : (inputs : Inputs) (out : List ℕ) (came : Outcome) (r : Result End NoMemory) → ComesTo inputs came → IfOk r (IsMakeEnd inputs out (answer_of came)) → IfOk r (MakesTo inputs out)
-makes_to inputs out came r comes ends = IfOk-weaker r (IsMakeEnd inputs out (answer_of came)) (MakesTo inputs out) (λ end e. (answer_of came, comes.0, e)) ends
+pub makes_to : (style : Style) (inputs : Inputs) (out : List ℕ) (came : Outcome) (r : Result End NoMemory) → ComesTo style inputs came → IfOk r (IsMakeEnd inputs out (answer_of came)) → IfOk r (MakesTo style inputs out)
+makes_to style inputs out came r comes ends = IfOk-weaker r (IsMakeEnd inputs out (answer_of came)) (MakesTo style inputs out) (λ end e. (answer_of came, comes.0, e)) ends
 
 -- ---- the ends
 
@@ -25,5 +26,5 @@ made_ends inputs inside out row log routing drawn unit r same nm is ends =
     (subst (λ (i : Inputs). IfOk r (IsMadeEnd i.cell out row log routing drawn.drawing (unit_nm inputs.tech))) same
     (subst (λ u. IfOk r (IsMadeEnd inside.cell out row log routing drawn.drawing u)) nm ends))
 
-pub cyclic_ends : (inputs inside : Inputs) (out : List ℕ) (row : List Column) (log : Log) (cycle : List Above) (r : Result End NoMemory) → inside ≡ inputs → IfOk r (IsCycleEnd inside.cell out log cycle) → IfOk r (IsMakeEnd inputs out (Cyclic row log cycle))
-cyclic_ends inputs inside out row log cycle r same ends = subst (λ (i : Inputs). IfOk r (IsCycleEnd i.cell out log cycle)) same ends
+pub cyclic_ends : (inputs inside : Inputs) (out : List ℕ) (row : List Column) (log : Log) (ring : Ring) (r : Result End NoMemory) → inside ≡ inputs → IfOk r (IsCycleEnd inside.cell out log ring) → IfOk r (IsMakeEnd inputs out (Cyclic row log ring))
+cyclic_ends inputs inside out row log ring r same ends = subst (λ (i : Inputs). IfOk r (IsCycleEnd i.cell out log ring)) same ends

@@ -13,7 +13,7 @@ use Rattle.row_search.specs.First.{IsFirstLeast}
 use Rattle.log_check.specs.Accepted.{ForKinds, WithKinds}
 use Rattle.row_search.specs.Enough.{enough}
 use Rattle.spice_net.specs.declared.subckt.Subckt.{Subckt}
-use Rattle.cell_make.specs.Inputs.{Inputs}
+use Rattle.cell_inputs.specs.Inputs.{Inputs}
 use Rattle.cell_make.specs.Searched.{IsCertified, IsUnfinished}
 use Rattle.call_end.specs.declared.end.End.{End}
 use Rattle.call_end.specs.declared.status.Status.TheVariants as status

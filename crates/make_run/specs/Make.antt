@@ -3,20 +3,21 @@ use Rattle.std.specs.Prelude.{ℕ, ◌≡◌, List, [], ◌∷◌, ◌++◌, cod
 use Rattle.row_model.specs.declared.column.Column.{Column}
 use Rattle.bound_log.specs.declared.log.Log.{Log}
 use Rattle.bound_log.specs.Text.{log_text}
-use Rattle.channel_route.specs.declared.routing.Above.{Above}
+use Rattle.channel_route.specs.declared.ring.Ring.{Ring}
 use Rattle.channel_route.specs.declared.routing.Routing.{Routing}
 use Rattle.cell_draw.specs.declared.drawing.Drawing.{Drawing}
 use Rattle.cell_draw.specs.Frame.{needed_of}
 use Rattle.gds_write.specs.Written.{written}
 use Rattle.lef_write.specs.Lef.{cell_text}
 use Rattle.spice_net.specs.declared.subckt.Subckt.{Subckt}
-use Rattle.cell_make.specs.Inputs.{Inputs, unit_nm}
+use Rattle.cell_inputs.specs.declared.style.Style.{Style}
+use Rattle.cell_inputs.specs.Inputs.{Inputs, unit_nm}
 use Rattle.cell_make.specs.Making.{MakeAnswer, Made, Cyclic, Tall, Unfinished, Makes, drawing_in}
 use Rattle.call_end.specs.declared.end.End.{End}
 use Rattle.call_end.specs.declared.end.Output.{Output}
 use Rattle.call_end.specs.declared.status.Status.{Status}
 use Rattle.call_end.specs.declared.status.Status.TheVariants as status
-use Rattle.cell_report.specs.Cycles.{cycle_text}
+use Rattle.cell_report.specs.Cycles.{ring_text}
 use Rattle.make_run.specs.MakeReport.{drawn_text, tall_text}
 use Rattle.cell_report.specs.Rows.{plan_text}
 use Rattle.cell_report.specs.Logs.{unfinished_text}
@@ -49,9 +50,9 @@ IsMadeEnd cell out row log routing drawing unit =
     (codes "status 0 ok\n" ++ plan_text cell.name cell.nets row
     ++ drawn_text routing.tracks drawing.width drawing.height (length log.lemmas))
 
-abbrev pub IsCycleEnd : Subckt → List ℕ → Log → List Above → End → Type 0
-IsCycleEnd cell out log cycle =
-    IsEnd status.Cycle (log_file cell out log ∷ []) (codes "status 5 cycle\n" ++ cycle_text cell.nets cycle)
+abbrev pub IsCycleEnd : Subckt → List ℕ → Log → Ring → End → Type 0
+IsCycleEnd cell out log ring =
+    IsEnd status.Cycle (log_file cell out log ∷ []) (codes "status 5 cycle\n" ++ ring_text cell.nets ring)
 
 abbrev pub IsTallEnd : Subckt → List ℕ → Log → ℕ → ℕ → End → Type 0
 IsTallEnd cell out log needed given =
@@ -65,10 +66,11 @@ IsUnfinishedEnd cell out proved log =
 abbrev pub IsMakeEnd : Inputs → List ℕ → MakeAnswer → End → Type 0
 IsMakeEnd inputs out (Made row log routing xs) =
     IsMadeEnd inputs.cell out row log routing (drawing_in inputs row routing xs) (unit_nm inputs.tech)
-IsMakeEnd inputs out (Cyclic row log cycle) = IsCycleEnd inputs.cell out log cycle
+IsMakeEnd inputs out (Cyclic row log ring) = IsCycleEnd inputs.cell out log ring
 IsMakeEnd inputs out (Tall row log routing) =
     IsTallEnd inputs.cell out log (needed_of row routing.tracks) inputs.tech.height
 IsMakeEnd inputs out (Unfinished proved log) = IsUnfinishedEnd inputs.cell out proved log
 
-abbrev pub MakesTo : Inputs → List ℕ → End → Type 0
-MakesTo inputs out end = (answer : MakeAnswer) × Makes inputs answer × IsMakeEnd inputs out answer end
+-- in a style
+abbrev pub MakesTo : Style → Inputs → List ℕ → End → Type 0
+MakesTo style inputs out end = (answer : MakeAnswer) × Makes style inputs answer × IsMakeEnd inputs out answer end

@@ -8,7 +8,7 @@ use Rattle.row_search.specs.First.{IsFirstLeast}
 use Rattle.call_end.specs.declared.end.End.{End}
 use Rattle.call_end.specs.declared.status.Status.TheVariants as status
 use Rattle.call_end.specs.End.{says}
-use Rattle.cell_make.specs.Inputs.{Inputs}
+use Rattle.cell_inputs.specs.Inputs.{Inputs}
 use Rattle.cell_make.specs.Searched.{IsCertified, IsUnfinished}
 use Rattle.cell_report.specs.Rows.{plan_text}
 use Rattle.cell_report.specs.Logs.{unfinished_text}

@@ -1,13 +1,13 @@
 ghost use Rattle.std.specs.Prelude.{◌≡◌, ◌≤◌, ◌++◌, codes, IfOk, OnOk, length};
-ghost use Rattle.cell_report.specs.Cycles.{cycle_text};
+ghost use Rattle.cell_report.specs.Cycles.{ring_text};
 ghost use Rattle.cell_report.specs.Rows.{plan_text};
 ghost use Rattle.make_run.specs.MakeReport.{drawn_text, tall_text};
 ghost use Rattle.cell_report.specs.Logs.{unfinished_text};
 
 use cell_draw::Drawing;
 use cell_num::{Bytes, Names, NoMemory, put_count, put_pair};
-use cell_report::{cycle_text, plan_text, put_unfinished};
-use channel_route::CycleList;
+use cell_report::{plan_text, put_unfinished, ring_text};
+use channel_route::Ring;
 use row_model::Arrangement;
 use spice_net::Subckt;
 use std::alloc::Global;
@@ -53,13 +53,13 @@ pub fn made_report(
     Ok(report)
 }
 
-/// The report of a cycle of nets.
-pub fn cycle_report(alloc: Global, nets: &Names, cycle: &CycleList) -> Result<Bytes, NoMemory>
-    ensures { IfOk result (λ report. report ≡ codes "status 5 cycle\n" ++ cycle_text nets.now cycle.now) }
+/// The report of a ring of nets.
+pub fn cycle_report(alloc: Global, nets: &Names, ring: &Ring) -> Result<Bytes, NoMemory>
+    ensures { IfOk result (λ report. report ≡ codes "status 5 cycle\n" ++ ring_text nets.now ring.now) }
 {
     let mut report = Bytes::new(alloc);
     report.extend(b"status 5 cycle\n")?;
-    report.extend(&cycle_text(alloc, nets, cycle)?)?;
+    report.extend(&ring_text(alloc, nets, ring)?)?;
     Ok(report)
 }
 

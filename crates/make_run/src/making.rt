@@ -7,9 +7,10 @@ use crate::make_end::{with_drawing, with_log};
 use crate::make_report::{cycle_report, spent_report, tall_report};
 use crate::stem::Stem;
 use call_end::{End, Status};
+use cell_inputs::Style;
 use cell_make::{Inputs, Outcome};
 use cell_num::NoMemory;
-use channel_route::CycleList;
+use channel_route::Ring;
 use log_output::KeptLog;
 use spice_net::Subckt;
 use std::alloc::Global;
@@ -19,13 +20,13 @@ fn cyclic(
     cell: &Subckt,
     stem: &Stem,
     log: KeptLog,
-    cycle: &CycleList,
+    ring: &Ring,
 ) -> Result<End, NoMemory>
     requires name { IsLogName cell.now.name }
     requires fits { ForSome (λ k. Fits k log) }
-    ensures { IfOk result (IsCycleEnd cell.now stem.now log cycle.now) }
+    ensures { IfOk result (IsCycleEnd cell.now stem.now log ring.now) }
 {
-    let report = cycle_report(alloc, &cell.nets, cycle)?;
+    let report = cycle_report(alloc, &cell.nets, ring)?;
     with_log(alloc, cell, stem, log, Status::Cycle, report)
 }
 
@@ -61,9 +62,15 @@ fn unfinished(
 }
 
 // Tells what making a cell came to.
-#[tactic(auto, using(cell_make::proofs::Names::log_name))]
-fn end_of(alloc: Global, inputs: &Inputs, stem: &Stem, outcome: Outcome) -> Result<End, NoMemory>
-    requires comes { ComesTo inputs.now outcome }
+#[tactic(auto, using(cell_inputs::proofs::Names::log_name))]
+fn end_of(
+    alloc: Global,
+    inputs: &Inputs,
+    stem: &Stem,
+    style: Style,
+    outcome: Outcome,
+) -> Result<End, NoMemory>
+    requires comes { ComesTo style inputs.now outcome }
     requires written { CanBeWritten inputs.now outcome }
     ensures { IfOk result (IsMakeEnd inputs.now stem.now (answer_of outcome)) }
 {
@@ -72,7 +79,7 @@ fn end_of(alloc: Global, inputs: &Inputs, stem: &Stem, outcome: Outcome) -> Resu
     let unit_nm = inputs.unit_nm();
     match outcome {
         Outcome::Made {
-            row,
+            placement,
             log,
             routing,
             drawn,
@@ -80,13 +87,13 @@ fn end_of(alloc: Global, inputs: &Inputs, stem: &Stem, outcome: Outcome) -> Resu
             alloc,
             cell,
             stem,
-            &row,
+            &placement.row,
             log,
             &routing,
             &drawn.drawing,
             unit_nm,
         ),
-        Outcome::Cyclic { log, cycle, .. } => cyclic(alloc, cell, stem, log, &cycle),
+        Outcome::Cyclic { log, ring, .. } => cyclic(alloc, cell, stem, log, &ring),
         Outcome::Tall {
             log,
             needed,
@@ -97,11 +104,11 @@ fn end_of(alloc: Global, inputs: &Inputs, stem: &Stem, outcome: Outcome) -> Resu
     }
 }
 
-/// The drawing of the first least row with its log; or the log, with a cycle of the row, with a height that
+/// The drawing of the first least row with its log; or the log, with a ring of its nets, with a height that
 /// is not enough, or of a search that spent its budget.
-pub fn make(alloc: Global, inputs: &Inputs, stem: &Stem) -> Result<End, NoMemory>
-    ensures { IfOk result (MakesTo inputs.now stem.now) }
+pub fn make(alloc: Global, inputs: &Inputs, stem: &Stem, style: Style) -> Result<End, NoMemory>
+    ensures { IfOk result (MakesTo style inputs.now stem.now) }
 {
-    let outcome = Outcome::of(alloc, inputs)?;
-    end_of(alloc, inputs, stem, outcome)
+    let outcome = Outcome::of(alloc, inputs, style)?;
+    end_of(alloc, inputs, stem, style, outcome)
 }

@@ -1,6 +1,6 @@
 use Rattle.row_place.specs.Places.{placement_of}
 use Rattle.library_size.proofs.Whole.{same_bytes}
-use Rattle.cell_make.specs.Inputs.{unit_nm}
+use Rattle.cell_inputs.specs.Inputs.{unit_nm}
 use Rattle.bench_run.proofs.laws.one_length.Goals as goal
 
 pub returns : goal.returns

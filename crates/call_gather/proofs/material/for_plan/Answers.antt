@@ -1,6 +1,6 @@
 use Rattle.std.proofs.Common.{Ok, inl, refl}
 use Rattle.call_read.specs.InputFiles.{inputs_from}
-use Rattle.cell_make.specs.Inputs.{Inputs}
+use Rattle.cell_inputs.specs.Inputs.{Inputs}
 use Rattle.call_gather.specs.Kinds.{Planning}
 use Rattle.call_read.specs.Reading.{Ends}
 use Rattle.call_read.proofs.Desks.{only_refl}

@@ -1,17 +1,18 @@
-use Rattle.cell_make.specs.Inputs.{inputs_of}
+use Rattle.cell_inputs.specs.Inputs.{inputs_of}
+use Rattle.cell_make.proofs.Extent.{lies_so}
 use Rattle.cell_make.proofs.Makes.{made_so, placed_legal, placed_row, readable_so}
 use Rattle.cell_make.proofs.outcome.of_routed.Goals as goal
 
 pub draw_routed-requires-clause-row : goal.draw_routed-requires-clause-row
-draw_routed-requires-clause-row c = placed_row c.args.inputs.now (inputs_of c.inputs.inside.tech c.inputs.inside.cell c.inputs.inside.fingers) c.args.row c.args.log c.args.placement.now c.inputs.view_is c.show_limits.ensures c.requires.found c.requires.placement
+draw_routed-requires-clause-row c = placed_row c.args.inputs.now (inputs_of c.inputs.inside.tech c.inputs.inside.cell c.inputs.inside.fingers) c.args.placement.row c.args.log c.args.placement c.inputs.view_is c.show_limits.ensures c.requires.found c.requires.placed
 
 pub draw_routed-requires-clause-routing : goal.draw_routed-requires-clause-routing
-draw_routed-requires-clause-routing c = placed_legal c.args.inputs.now (inputs_of c.inputs.inside.tech c.inputs.inside.cell c.inputs.inside.fingers) c.args.row c.args.placement.now c.args.routing c.inputs.view_is c.requires.placement c.requires.routed
+draw_routed-requires-clause-routing c = placed_legal c.args.style c.args.inputs.now (inputs_of c.inputs.inside.tech c.inputs.inside.cell c.inputs.inside.fingers) c.args.placement.row c.args.placement c.args.routing c.inputs.view_is c.requires.placed c.requires.routed
 
 pub returns-in-Ok-clause-comes : goal.returns-in-Ok-clause-comes
 returns-in-Ok-clause-comes c =
-    made_so c.args.inputs.now (inputs_of c.inputs.inside.tech c.inputs.inside.cell c.inputs.inside.fingers) c.args.row c.args.log c.args.placement.now c.args.routing c.in-Ok.drawn c.height.result
-    c.inputs.view_is c.requires.placement c.height.ensures.is c.show_limits.ensures c.requires.found c.requires.places c.requires.routed
+    made_so c.args.style.wiring c.args.style.taps c.args.inputs.now (inputs_of c.inputs.inside.tech c.inputs.inside.cell c.inputs.inside.fingers) c.args.log c.args.placement c.args.routing c.in-Ok.drawn c.height.result
+    c.inputs.view_is c.requires.placed c.height.ensures.is c.show_limits.ensures c.requires.found c.requires.places c.requires.routed
     (record {
       least = c.in-Ok.ensures.lines;
       fits = c.in-Ok.ensures.fits;
@@ -28,3 +29,15 @@ returns-in-Ok-clause-written c = (
   readable_so c.args.inputs.now (inputs_of c.inputs.inside.tech c.inputs.inside.cell c.inputs.inside.fingers) c.in-Ok.drawn.drawing.shapes c.inputs.view_is c.show_limits.ensures c.in-Ok.ensures.few c.in-Ok.ensures.limits c.in-Ok.ensures.within c.in-Ok.ensures.named,
   c.in-Ok.ensures.few,
 )
+
+pub returns-in-Ok-clause-extent : goal.returns-in-Ok-clause-extent
+returns-in-Ok-clause-extent c =
+    lies_so c.args.inputs.now (inputs_of c.inputs.inside.tech c.inputs.inside.cell c.inputs.inside.fingers) c.args.log c.args.placement c.args.routing c.in-Ok.drawn c.height.result
+    c.inputs.view_is c.requires.placed c.height.ensures.is c.show_limits.ensures c.requires.found
+    (record {
+      lines = c.in-Ok.ensures.lines;
+      framed = c.in-Ok.ensures.framed;
+      width = c.in-Ok.ensures.width;
+      narrow = c.in-Ok.ensures.narrow;
+      within = c.in-Ok.ensures.within;
+    })

@@ -1,10 +1,10 @@
 use Rattle.std.proofs.Common.{◌≡◌, ◌++◌, codes, rules}
-use Rattle.cell_report.specs.Cycles.{cycle_text}
+use Rattle.cell_report.specs.Cycles.{ring_text}
 use Rattle.call_end.specs.declared.status.Status.TheVariants as status
 use Rattle.make_run.proofs.MakeEnds.{end_said}
 use Rattle.make_run.proofs.making.cyclic.Goals as goal
 
 pub returns : goal.returns
 returns c =
-    let told : c.in_ok-report.report ≡ codes "status 5 cycle\n" ++ cycle_text c.args.cell.now.nets c.args.cycle.now = search rules in
+    let told : c.in_ok-report.report ≡ codes "status 5 cycle\n" ++ ring_text c.args.cell.now.nets c.args.ring.now = search rules in
     end_said status.Cycle _ c.in_ok-report.report _ c.with_log.result told c.with_log.ensures

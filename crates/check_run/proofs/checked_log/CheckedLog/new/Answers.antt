@@ -1,5 +1,5 @@
 use Rattle.std.proofs.Common.{subst}
-use Rattle.cell_make.specs.Inputs.{Inputs, inputs_of}
+use Rattle.cell_inputs.specs.Inputs.{Inputs, inputs_of}
 use Rattle.check_run.specs.LogRead.{AreBegun}
 use Rattle.check_run.proofs.LogReads.{begun_for}
 use Rattle.check_run.proofs.checked_log.CheckedLog.new.Goals as goal

@@ -1,5 +1,5 @@
 ghost use Rattle.std.specs.Prelude.{◌≡◌, ◌≤◌};
-ghost use Rattle.cell_make.specs.Inputs.{AreInputs, unit_nm};
+ghost use Rattle.cell_inputs.specs.Inputs.{AreInputs, unit_nm};
 
 use cell_num::Fingers;
 use spice_net::Subckt;
@@ -16,7 +16,7 @@ pub struct Inputs {
 }
 
 impl Model for Inputs {
-    ghost use Rattle.cell_make.specs.Inputs.{Inputs as InputsOf, AreInputs, inputs_of};
+    ghost use Rattle.cell_inputs.specs.Inputs.{Inputs as InputsOf, AreInputs, inputs_of};
 
     ghost Value = { InputsOf };
 

@@ -7,15 +7,14 @@ use Rattle.log_check.specs.Accepted.{WithKinds}
 use Rattle.row_search.specs.declared.found.StopKept.{StopKept}
 use Rattle.row_search.specs.Ended.{IfOpen, IsSolved, IsSpent, log_with, log_without}
 use Rattle.row_search.specs.First.{IsFirstLeast}
-use Rattle.cell_make.specs.declared.outcome.Outcome.TheVariants as outcome
-use Rattle.cell_make.specs.Inputs.{Inputs}
-use Rattle.cell_make.specs.Making.{ComesTo, IsFound}
-use Rattle.cell_make.proofs.Makes.{spent_so}
-use Rattle.cell_make.proofs.outcome.Outcome.of.Goals as goal
+use Rattle.cell_inputs.specs.Inputs.{Inputs}
+use Rattle.cell_make.specs.declared.planned.Planned.TheVariants as planned
+use Rattle.cell_make.specs.Searched.{IsPlanned}
+use Rattle.cell_make.proofs.planned.Planned.of.Goals as goal
 
-pub of_row-requires : goal.of_row-requires
-of_row-requires c =
-    subst (λ (log : Log). IsFound c.args.inputs.now c.in-Ok.found.row log) (sym c.with_row-log.ensures)
+pub returns-in-Ok : goal.returns-in-Ok
+returns-in-Ok c =
+    subst (λ (log : Log). IsPlanned c.args.inputs.now (planned.Found c.in-Ok.found.row log)) (sym c.with_row-log.ensures)
     (record {
       first = subst (λ (inputs : Inputs). IsFirstLeast inputs.fingers c.in-Ok.found.row) c.inputs.view_is c.in-Ok.ensures.row;
       certified = (
@@ -25,14 +24,13 @@ of_row-requires c =
       );
     })
 
-pub returns-in-Err-Unfinished-clause-comes : goal.returns-in-Err-Unfinished-clause-comes
-returns-in-Err-Unfinished-clause-comes c =
-    subst (λ (proved : ℕ). ComesTo c.args.inputs.now (outcome.Unfinished c.without_row-log.result proved)) (sym c.in-Err-Unfinished.proved-is)
-    (subst (λ (log : Log). ComesTo c.args.inputs.now (outcome.Unfinished log c.in-Err-Unfinished.proved)) (sym c.without_row-log.ensures)
-    (subst (λ (kept : List Lemma). ComesTo c.args.inputs.now (outcome.Unfinished (log_without COMPONENT_LOG kept) c.in-Err-Unfinished.proved)) (sym c.in-Err-Unfinished.kept-is)
-    (spent_so c.args.inputs.now c.in-Err-Unfinished.proved (log_without COMPONENT_LOG c.in-Err-Unfinished.kept) (
+pub returns-in-Err-Unfinished : goal.returns-in-Err-Unfinished
+returns-in-Err-Unfinished c =
+    subst (λ (proved : ℕ). IsPlanned c.args.inputs.now (planned.Unfinished c.without_row-log.result proved)) (sym c.in-Err-Unfinished.proved-is)
+    (subst (λ (log : Log). IsPlanned c.args.inputs.now (planned.Unfinished log c.in-Err-Unfinished.proved)) (sym c.without_row-log.ensures)
+    (subst (λ (kept : List Lemma). IsPlanned c.args.inputs.now (planned.Unfinished (log_without COMPONENT_LOG kept) c.in-Err-Unfinished.proved)) (sym c.in-Err-Unfinished.kept-is) (
       refl,
       subst (λ (inputs : Inputs). WithKinds inputs.fingers (λ k. IsSpent component_value k inputs.fingers c.args.inputs.now.tech.budget (log_without COMPONENT_LOG c.in-Err-Unfinished.kept) c.in-Err-Unfinished.proved)) c.inputs.view_is
           (subst (λ (budget : ℕ). WithKinds c.inputs.inside.fingers (λ k. IsSpent component_value k c.inputs.inside.fingers budget (log_without COMPONENT_LOG c.in-Err-Unfinished.kept) c.in-Err-Unfinished.proved)) c.budget.ensures.is
           (subst (λ (why : StopKept). IfOpen (Err why) (λ kept proved. WithKinds c.inputs.inside.fingers (λ k. IsSpent component_value k c.inputs.inside.fingers c.budget.result (log_without COMPONENT_LOG kept) proved))) c.in-Err-Unfinished.field-0-is c.in-Err-Unfinished.ensures.spent)),
-    ))))
+    )))
