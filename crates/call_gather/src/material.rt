@@ -8,7 +8,7 @@ ghost use Rattle.call_words.specs.Shown.{shown};
 use call_read::{Refusal, Source, read_file, read_inputs, read_technology, read_to};
 use call_words::{CellAsked, CellCount, Form};
 use cell_io::Desk;
-use cell_make::Inputs;
+use cell_inputs::Inputs;
 use cell_num::copy;
 use check_run::CheckedLog;
 use layout_run::GdsCell;

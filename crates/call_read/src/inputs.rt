@@ -13,7 +13,7 @@ use crate::read::{Source, read_file};
 use crate::refusal::Refusal;
 use call_words::CellAsked;
 use cell_io::Desk;
-use cell_make::Inputs;
+use cell_inputs::Inputs;
 use cell_num::{MOST_BYTES, Name};
 use finger_fold::fold;
 use spice_net::read_cell;

@@ -20,7 +20,7 @@ works_settled : (kind : Kind) (m : MaterialOf kind) (end : End) → WorksTo kind
 works_settled Planning m end (Planned row log, h, is) = rw is refl
 works_settled Planning m end (Unfinished proved log, h, is) = rw is refl
 works_settled Making m end (made.Made row log routing xs, h, is) = rw is.status refl
-works_settled Making m end (made.Cyclic row log cycle, h, is) = rw is.status refl
+works_settled Making m end (made.Cyclic row log ring, h, is) = rw is.status refl
 works_settled Making m end (made.Tall row log routing, h, is) = rw is.status refl
 works_settled Making m end (made.Unfinished proved log, h, is) = rw is.status refl
 works_settled Checking m end (Accepted gaps lemmas, h, is) = rw is refl

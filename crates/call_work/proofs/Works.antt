@@ -11,22 +11,19 @@ use Rattle.call_read.specs.declared.refusal.Refusal.{Refusal}
 use Rattle.call_read.specs.declared.refusal.Refusal.TheVariants.{Words, Unread, Long, Tech, Spice, Fold, NoMemory}
 use Rattle.call_work.specs.Bench.{BenchesTo}
 use Rattle.check_run.specs.Check.{ChecksTo}
-use Rattle.call_work.specs.Ends.{KeepsReadsOf, MayEnd, WorksTo, refused as refusal_end}
+use Rattle.call_work.specs.Ends.{KeepsReadsOf, MayEnd, WorksFor, WorksTo, refused as refusal_end}
 use Rattle.layout_run.specs.Extract.{ExtractsTo}
 use Rattle.call_gather.specs.Gather.{gathered}
 use Rattle.cell_inputs.specs.Inputs.{Inputs}
-use Rattle.call_gather.specs.Kept.{AreKept, IsKept, MayKeep}
+use Rattle.call_gather.specs.Kept.{AreKept, MayKeep}
 use Rattle.check_run.specs.LogRead.{AreBehindAll}
 use Rattle.make_run.specs.Make.{MakesTo}
+use Rattle.cell_inputs.specs.declared.style.Style.{Style}
 use Rattle.cell_inputs.specs.Style.{plain_style}
 use Rattle.call_gather.specs.Material.{Material}
 use Rattle.make_run.specs.Plan.{PlansTo}
 use Rattle.call_read.specs.Read.{KeepsReads, KeepsReadsBut}
 use Rattle.call_words.specs.Words.{Form}
-
--- an end of the work on any material that is kept so
-abbrev pub WorksFor : Own → End → Type 0
-WorksFor own end = (m : Material) → IsKept m own → WorksTo m.0 m.1 end
 
 pub ends_work : (old new : View) (form : Option Form) (got : Result Own Refusal) (own : Own) (r : Result End Short) → MayKeep old new (gathered form) got → got ≡ Ok own → IfOk r (WorksFor own) → IfOk r (MayEnd old new form)
 ends_work old new form got own (Err e) kept is works = tt
@@ -64,6 +61,10 @@ reads_refused a b got e (Ok end) kept is told = reads_of e a b end told (subst (
 pub plan_kept : (inputs : Inputs) (r : Result End Short) → IfOk r (PlansTo inputs) → IfOk r (WorksFor (held.Planning inputs))
 plan_kept inputs (Err e) plans = tt
 plan_kept inputs (Ok end) plans = λ m is. subst (λ (x : Material). WorksTo x.0 x.1 end) (sym is) plans
+
+-- the style in which cells are made
+pub plain_makes : (style : Style) (inputs : Inputs) (out : List ℕ) (r : Result End Short) → style ≡ plain_style → IfOk r (MakesTo style inputs out) → IfOk r (MakesTo plain_style inputs out)
+plain_makes style inputs out r is makes = subst (λ (s : Style). IfOk r (MakesTo s inputs out)) is makes
 
 pub make_kept : (inputs : Inputs) (out : List ℕ) (r : Result End Short) → IfOk r (MakesTo plain_style inputs out) → IfOk r (WorksFor (held.Making inputs out))
 make_kept inputs out (Err e) makes = tt

@@ -4,6 +4,8 @@ use Rattle.std.specs.List.{list_any}
 use Rattle.cell_io.specs.Desk.{Files, View}
 use Rattle.call_end.specs.declared.end.End.{End}
 use Rattle.call_gather.specs.Kinds.{Kind, Planning, Making, Checking, Extracting, Benching, kind_of}
+use Rattle.call_gather.specs.declared.material.Material.{Material as Kept}
+use Rattle.call_gather.specs.Kept.{IsKept}
 use Rattle.call_gather.specs.Material.{Material, MaterialOf}
 use Rattle.call_read.specs.declared.refusal.Refusal.{Refusal}
 use Rattle.call_read.specs.declared.refusal.Refusal.TheVariants.{Words, Unread, Long, Tech, Spice, Fold, NoMemory}
@@ -58,6 +60,10 @@ WorksTo Making m end = MakesTo plain_style m.0 m.1 end
 WorksTo Checking m end = ChecksTo m.0 m.1 end
 WorksTo Extracting cell end = ExtractsTo cell end
 WorksTo Benching number end = BenchesTo number end
+
+-- so it is of each material that is kept so
+abbrev pub WorksFor : Kept → End → Type 0
+WorksFor kept end = (m : Material) → IsKept m kept → WorksTo m.0 m.1 end
 
 -- it was gathered, or a step refused
 abbrev pub EndsTo : Result Material Refusal → End → Type 0

@@ -1,11 +1,10 @@
 ghost use Rattle.std.specs.Prelude.{IfOk};
-ghost use Rattle.call_work.specs.Ends.{WorksTo};
-ghost use Rattle.call_gather.specs.Kept.{IsKept};
-ghost use Rattle.call_gather.specs.Material.{Material as Gathered};
+ghost use Rattle.call_work.specs.Ends.{WorksFor};
 
 use crate::bench::bench;
 use call_end::End;
 use call_gather::Material;
+use cell_inputs::Style;
 use cell_num::NoMemory;
 use check_run::check;
 use layout_run::extract;
@@ -13,9 +12,8 @@ use make_run::{make, plan};
 use std::alloc::Global;
 
 /// Does the work of a command on what was gathered. It reads, makes and says nothing.
-#[tactic(auto, using(crate::proofs::Works::plan_kept, crate::proofs::Works::make_kept, crate::proofs::Works::check_kept, crate::proofs::Works::extract_kept, crate::proofs::Works::bench_kept))]
 pub fn work(alloc: Global, material: &Material) -> Result<End, NoMemory>
-    ensures { IfOk result (λ end. (m : Gathered) → IsKept m material.now → WorksTo m.0 m.1 end) }
+    ensures { IfOk result (WorksFor material.now) }
 {
     match material {
         Material::Planning(inputs) => plan(alloc, inputs),

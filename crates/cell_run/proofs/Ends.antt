@@ -20,6 +20,7 @@ use Rattle.call_gather.specs.Gather.{gathered, read_by}
 use Rattle.cell_inputs.specs.Inputs.{Inputs}
 use Rattle.cell_make.specs.Making as made
 use Rattle.make_run.specs.Make.{MakesTo}
+use Rattle.cell_inputs.specs.Style.{plain_style}
 use Rattle.cell_run.specs.Headline.{IsMake, fileless_statuses}
 use Rattle.make_run.specs.Plan.{PlansTo, Planned, Unfinished}
 use Rattle.call_read.specs.Reading.{Comes, MayCome}
@@ -53,9 +54,9 @@ extract_alone cell end (answer.Refused f, h, is) = rw is refl
 pub bench_alone : (number : ℕ) (end : End) → BenchesTo number end → end.files ≡ []
 bench_alone number end (tally, h, is) = rw is refl
 
-make_status : (inputs : Inputs) (out : List ℕ) (end : End) → MakesTo inputs out end → is_among (status.Done ∷ status.Cycle ∷ status.Unfinished ∷ status.TooTall ∷ []) end.status ≡ true
+make_status : (inputs : Inputs) (out : List ℕ) (end : End) → MakesTo plain_style inputs out end → is_among (status.Done ∷ status.Cycle ∷ status.Unfinished ∷ status.TooTall ∷ []) end.status ≡ true
 make_status inputs out end (made.Made row log routing xs, h, is) = rw is.status refl
-make_status inputs out end (made.Cyclic row log cycle, h, is) = rw is.status refl
+make_status inputs out end (made.Cyclic row log ring, h, is) = rw is.status refl
 make_status inputs out end (made.Tall row log routing, h, is) = rw is.status refl
 make_status inputs out end (made.Unfinished proved log, h, is) = rw is.status refl
 

@@ -6,6 +6,7 @@ use Rattle.bound_log.specs.declared.log.Log.{Log}
 use Rattle.row_search.specs.Enough.{enough}
 use Rattle.row_place.specs.Places.{placement_of}
 use Rattle.channel_route.proofs.Stuck.{cycle_is}
+use Rattle.channel_route.specs.declared.ring.Ring.TheVariants.{OfNets}
 use Rattle.call_end.specs.declared.end.End.{End}
 use Rattle.call_gather.specs.Kinds.{Making}
 use Rattle.call_gather.specs.Material.{Material}
@@ -20,6 +21,7 @@ use Rattle.cell_inputs.specs.Inputs.{Inputs}
 use Rattle.cell_make.specs.Making as made
 use Rattle.cell_make.specs.Searched.{IsUnfinished}
 use Rattle.make_run.specs.Make.{MakesTo}
+use Rattle.cell_inputs.specs.Style.{plain_style}
 use Rattle.call_words.specs.Words.{Form}
 use Rattle.cell_run.proofs.Telling.{Completes}
 use Rattle.cell_run.proofs.MakeSettled.{cyclic_so, drawn_so, spent_so, tall_so}
@@ -56,25 +58,25 @@ spent_told a c form answer (Some files) told = λ make is.
 spends_less : (inputs : Inputs) (log : Log) (proved : ℕ) → ForKinds inputs.fingers (λ k. enough k ≤ inputs.tech.budget) → IsUnfinished inputs proved log → ⊥
 spends_less inputs log proved much (version, (k, are, some, spent)) = absurd (omega (arith, much k are some, spent.short))
 
-drawn_where : (inputs : Inputs) (out : List ℕ) (end : End) → OfFirstLeast CanBeDrawn inputs out → MakesTo inputs out end → end.status ≡ status.Done
+drawn_where : (inputs : Inputs) (out : List ℕ) (end : End) → OfFirstLeast CanBeDrawn inputs out → MakesTo plain_style inputs out end → end.status ≡ status.Done
 drawn_where inputs out end (much, can) (made.Made row log routing xs, h, is) = is.status
-drawn_where inputs out end (much, can) (made.Cyclic row log cycle, h, is) = absurd ((can row h.0.first).acyclic cycle (cycle_is (placement_of row) inputs.cell.pins cycle h.1))
+drawn_where inputs out end (much, can) (made.Cyclic row log (OfNets cycle), h, is) = absurd ((can row h.0.first).acyclic cycle (cycle_is (placement_of row) inputs.cell.pins cycle h.1))
 drawn_where inputs out end (much, can) (made.Tall row log routing, h, is) = absurd ((can row h.0.first).fits routing h.1 h.2)
 drawn_where inputs out end (much, can) (made.Unfinished proved log, h, is) = absurd (spends_less inputs log proved much h)
 
-cyclic_where : (inputs : Inputs) (out : List ℕ) (end : End) → OfFirstLeast HasCycle inputs out → MakesTo inputs out end → end.status ≡ status.Cycle
+cyclic_where : (inputs : Inputs) (out : List ℕ) (end : End) → OfFirstLeast HasCycle inputs out → MakesTo plain_style inputs out end → end.status ≡ status.Cycle
 cyclic_where inputs out end (much, has) (made.Made row log routing xs, h, is) = absurd (h.routed.acyclic (has row h.found.first).0 (has row h.found.first).1)
-cyclic_where inputs out end (much, has) (made.Cyclic row log cycle, h, is) = is.status
+cyclic_where inputs out end (much, has) (made.Cyclic row log (OfNets cycle), h, is) = is.status
 cyclic_where inputs out end (much, has) (made.Tall row log routing, h, is) = absurd (h.1.acyclic (has row h.0.first).0 (has row h.0.first).1)
 cyclic_where inputs out end (much, has) (made.Unfinished proved log, h, is) = absurd (spends_less inputs log proved much h)
 
-tall_where : (inputs : Inputs) (out : List ℕ) (end : End) → OfFirstLeast IsTooHigh inputs out → MakesTo inputs out end → end.status ≡ status.TooTall
+tall_where : (inputs : Inputs) (out : List ℕ) (end : End) → OfFirstLeast IsTooHigh inputs out → MakesTo plain_style inputs out end → end.status ≡ status.TooTall
 tall_where inputs out end (much, high) (made.Made row log routing xs, h, is) = absurd (h.fits ((high row h.found.first).tall routing h.routed))
-tall_where inputs out end (much, high) (made.Cyclic row log cycle, h, is) = absurd ((high row h.0.first).acyclic cycle (cycle_is (placement_of row) inputs.cell.pins cycle h.1))
+tall_where inputs out end (much, high) (made.Cyclic row log (OfNets cycle), h, is) = absurd ((high row h.0.first).acyclic cycle (cycle_is (placement_of row) inputs.cell.pins cycle h.1))
 tall_where inputs out end (much, high) (made.Tall row log routing, h, is) = is.status
 tall_where inputs out end (much, high) (made.Unfinished proved log, h, is) = absurd (spends_less inputs log proved much h)
 
-settles : (a c : View) (form : Option Form) (settled answer : Status) (Says : Inputs → List ℕ → Type 0) (given : Option Files) → ((inputs : Inputs) (out : List ℕ) (end : End) → Says inputs out → MakesTo inputs out end → end.status ≡ settled) → IfSome given (λ files. IsCalm a c → Completes form files answer) → IfSome given (λ files. IsCalm a c → FromInputs files form Says → IsOrShort settled answer)
+settles : (a c : View) (form : Option Form) (settled answer : Status) (Says : Inputs → List ℕ → Type 0) (given : Option Files) → ((inputs : Inputs) (out : List ℕ) (end : End) → Says inputs out → MakesTo plain_style inputs out end → end.status ≡ settled) → IfSome given (λ files. IsCalm a c → Completes form files answer) → IfSome given (λ files. IsCalm a c → FromInputs files form Says → IsOrShort settled answer)
 settles a c form settled answer Says None each told = tt
 settles a c form settled answer Says (Some files) each told = λ calm (inputs, out, got, says). elim (told calm) [
   | inl (end, calls, is) ↦ inl (is ∙ each inputs out end says (subst (λ (r : Result Material Refusal). EndsTo r end) got calls))

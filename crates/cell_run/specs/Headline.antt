@@ -28,6 +28,7 @@ use Rattle.call_end.specs.declared.status.Status.TheVariants as status
 use Rattle.call_end.specs.Deliver.{Says}
 use Rattle.call_gather.specs.Gather.{gathered}
 use Rattle.cell_inputs.specs.Inputs.{Inputs}
+use Rattle.cell_inputs.specs.Style.{plain_style}
 use Rattle.cell_make.specs.Making.{AreLeastLines, IsRouted, abstract_of, drawing_in, library_of, ports_in}
 use Rattle.cell_report.specs.Cycles.{cycle_text}
 use Rattle.make_run.specs.MakeReport.{drawn_text, tall_text}
@@ -174,7 +175,8 @@ OfFirstLeast Says inputs out =
 -- no nets of the row stand above each other in a ring, and its height is enough
 pub record CanBeDrawn (inputs : Inputs) (row : List Column) : Type 0 where
   pub acyclic : HasNoCycle (placement_of row) inputs.cell.pins
-  pub fits : (routing : Routing) → IsRouted inputs row routing → IsTooTall row routing.tracks inputs.tech.height → ⊥
+  pub fits : (routing : Routing) → IsRouted plain_style inputs row routing
+      → IsTooTall row routing.tracks inputs.tech.height → ⊥
 
 -- some do
 abbrev pub HasCycle : Inputs → List Column → Type 0
@@ -183,7 +185,8 @@ HasCycle inputs row = (cycle : List Above) × IsCycle (placement_of row) inputs.
 -- none do, but the row needs more than the height
 pub record IsTooHigh (inputs : Inputs) (row : List Column) : Type 0 where
   pub acyclic : HasNoCycle (placement_of row) inputs.cell.pins
-  pub tall : (routing : Routing) → IsRouted inputs row routing → IsTooTall row routing.tracks inputs.tech.height
+  pub tall : (routing : Routing) → IsRouted plain_style inputs row routing
+      → IsTooTall row routing.tracks inputs.tech.height
 
 -- with this status, or memory ran out
 abbrev pub IsOrShort : Status → Status → Type 0

@@ -5,7 +5,7 @@ ghost use Rattle.check_run.specs.LogRead.{AreBegun, AreBehind, HaveRoom};
 use crate::log_checker::LogChecker;
 use bound_log::{LogFault, LogReader};
 use cell_io::Sink;
-use cell_make::Inputs;
+use cell_inputs::Inputs;
 use cell_num::NoMemory;
 use row_state::kinds;
 use std::alloc::Global;

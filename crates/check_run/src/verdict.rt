@@ -6,7 +6,7 @@ ghost use Rattle.check_run.specs.LogRead.{AreBehindAll};
 use crate::checked_log::CheckedLog;
 use bound_log::LogFault;
 use call_end::{End, Status};
-use cell_make::Inputs;
+use cell_inputs::Inputs;
 use cell_num::{Bytes, NoMemory, columns_of};
 use cell_report::put_checked;
 use fault_text::{put_log, put_refused};
