@@ -8,7 +8,7 @@ mod netlist;
 mod row;
 mod violations;
 
-pub use cycle::cycle_text;
+pub use cycle::{cycle_text, ring_text};
 pub use logs::{put_checked, put_unfinished};
 pub use netlist::netlist_text;
 pub use row::{plan_text, put_row};
