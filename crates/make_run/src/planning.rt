@@ -4,13 +4,11 @@ ghost use Rattle.make_run.specs.Plan.{PlansTo, planned_end, unfinished_end};
 
 use crate::make_report::spent_report;
 use call_end::{End, Status};
-use cell_inputs::Inputs;
+use cell_make::{Inputs, Planned};
 use cell_num::{Bytes, NoMemory};
 use cell_report::plan_text;
 use log_output::{Content, KeptLog, LogText};
 use row_model::Arrangement;
-use row_search::{StopKept, search_kept};
-use row_state::{COMPONENT_LOG, Component};
 use spice_net::Subckt;
 use std::alloc::Global;
 
@@ -41,16 +39,9 @@ pub fn plan(alloc: Global, inputs: &Inputs) -> Result<End, NoMemory>
     ensures { IfOk result (PlansTo inputs.now) }
 {
     inputs.show_limits();
-    match search_kept(alloc, &inputs.fingers, &Component, inputs.budget()) {
-        Ok(found) => planned(alloc, &inputs.cell, &found.row),
-        Err(StopKept::Unfinished { kept, proved }) => {
-            unfinished(
-                alloc,
-                &inputs.cell,
-                KeptLog::without_row(COMPONENT_LOG, kept),
-                proved,
-            )
-        }
-        Err(StopKept::NoMemory) => Err(NoMemory),
+    let came = Planned::of(alloc, inputs)?;
+    match came {
+        Planned::Found { row, .. } => planned(alloc, &inputs.cell, &row),
+        Planned::Unfinished { log, proved } => unfinished(alloc, &inputs.cell, log, proved),
     }
 }

@@ -3,6 +3,3 @@ use Rattle.make_run.proofs.making.make.Goals as goal
 
 pub returns : goal.returns
 returns c = makes_to c.args.style c.args.inputs.now c.args.stem.now c.in_ok-outcome.outcome c.end_of.result c.in_ok-outcome.ensures.comes c.end_of.ensures
-
-pub end_of-requires-clause-comes : goal.end_of-requires-clause-comes
-end_of-requires-clause-comes c = (c.args.style, c.in_ok-outcome.ensures.comes)
