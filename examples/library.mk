@@ -5,13 +5,16 @@ COUNT := $(shell wc -l < cells)
 all: $(addprefix .made/,$(shell seq $(COUNT)))
 
 # A cell is made again where the inputs are newer than its line in the table. What an earlier run made of it goes first, so that
-# no file of a cell that is refused now is left.
+# no file of a cell that is refused now is left. A cell whose trunks stand above each other in a ring is made with `--dogleg`.
 .made/%: inputs
 	@name=$$(sed -n '$*p' cells); \
 	rm -f "$$name.gds" "$$name.lef" "$$name.clog"; \
 	began=$$(date +%s.%N); \
-	"$$PROGRAM" make "$$TECH" "$$SPICE" "$$name" "$$name" > "$$name.txt"; status=$$?; \
+	"$$PROGRAM" make "$$TECH" "$$SPICE" "$$name" "$$name" > "$$name.txt"; status=$$?; word=-; \
+	if [ $$status -eq 5 ]; then \
+		"$$PROGRAM" make "$$TECH" "$$SPICE" "$$name" "$$name" --dogleg > "$$name.txt"; status=$$?; word=--dogleg; \
+	fi; \
 	seconds=$$(echo "$$began $$(date +%s.%N)" | awk '{ printf "%.2f", $$2 - $$1 }'); \
-	awk -v name="$$name" -v status=$$status -v seconds=$$seconds -f "$(TOP)/row.awk" "$$name.txt" > .made/$*.new; \
+	awk -v name="$$name" -v status=$$status -v seconds=$$seconds -v word=$$word -f "$(TOP)/row.awk" "$$name.txt" > .made/$*.new; \
 	mv .made/$*.new .made/$*; \
 	awk -v name="$$name" -v status=$$status -v at=$* -v count=$(COUNT) -f "$(TOP)/told.awk" "$$name.txt"

@@ -3,5 +3,5 @@ $1 == "columns" || $1 == "gaps" || $1 == "tracks" || $1 == "lemmas" { at[$1] = $
 $1 == "size" { at["size"] = $2 " " $3 }
 function told(word) { return word in at ? at[word] : "-" }
 END {
-    print name, status, seconds, told("columns"), told("gaps"), told("tracks"), ("size" in at ? at["size"] : "- -"), told("lemmas")
+    print name, status, seconds, told("columns"), told("gaps"), told("tracks"), ("size" in at ? at["size"] : "- -"), told("lemmas"), word
 }

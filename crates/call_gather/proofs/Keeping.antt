@@ -7,6 +7,7 @@ use Rattle.call_gather.specs.declared.material.Material.TheVariants as held
 use Rattle.call_read.specs.declared.refusal.Refusal.{Refusal}
 use Rattle.call_read.specs.declared.refusal.Refusal.TheVariants.{NoMemory}
 use Rattle.call_gather.specs.Gather.{checking_over, gathered, gds_cell}
+use Rattle.cell_inputs.specs.declared.style.Style.{Style}
 use Rattle.cell_inputs.specs.Inputs.{Inputs}
 use Rattle.call_gather.specs.Kept.{AreKept, MayKeep}
 use Rattle.check_run.specs.LogRead.{AreBegun, AreBehind}
@@ -63,8 +64,8 @@ keeps_short old new reading own told = (Err NoMemory, inr refl, handed_on NoMemo
 
 -- ---- words that are kept
 
-pub same_out : (inputs : Inputs) (out stem : List ℕ) → stem ≡ out → ◌≡◌ {A = Material} (Making, (inputs, out)) (Making, (inputs, stem))
-same_out inputs out stem is = rw is refl
+pub same_out : (inputs : Inputs) (out stem : List ℕ) (style : Style) → stem ≡ out → ◌≡◌ {A = Material} (Making, (inputs, out, style)) (Making, (inputs, stem, style))
+same_out inputs out stem style is = rw is refl
 
 pub same_cell : (tech : Technology) (name own bytes : List ℕ) → own ≡ name → ◌≡◌ {A = Material} (Extracting, gds_cell tech name bytes) (Extracting, gds_cell tech own bytes)
 same_cell tech name own bytes is = rw is refl

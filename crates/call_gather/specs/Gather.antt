@@ -5,6 +5,7 @@ use Rattle.call_gather.specs.Kinds.{Planning, Making, Checking, Extracting, Benc
 use Rattle.call_gather.specs.Material.{Material}
 use Rattle.call_read.specs.declared.refusal.Refusal.TheVariants.{Words}
 use Rattle.tech_file.specs.Technology.{Technology}
+use Rattle.cell_inputs.specs.declared.style.Style.{Style}
 use Rattle.cell_inputs.specs.Inputs.{Inputs}
 use Rattle.call_read.specs.Reading.{Reading, Ends, bytes_of, ◌>>=◌}
 use Rattle.call_read.specs.Sources.{Source, LogFile, GdsFile}
@@ -14,8 +15,8 @@ use Rattle.call_words.specs.Words.{CellAsked, Form, Plan, Make, Check, Extract, 
 abbrev pub planning : CellAsked → Reading Material
 planning asked = inputs_from asked >>= λ inputs. Ends (Ok (Planning, inputs))
 
-abbrev pub making : CellAsked → List ℕ → Reading Material
-making asked out = inputs_from asked >>= λ inputs. Ends (Ok (Making, (inputs, out)))
+abbrev pub making : CellAsked → List ℕ → Style → Reading Material
+making asked out style = inputs_from asked >>= λ inputs. Ends (Ok (Making, (inputs, out, style)))
 
 abbrev pub checking_over : List ℕ → Inputs → Reading Material
 checking_over log inputs = bytes_of (LogFile log) >>= λ bytes. Ends (Ok (Checking, (inputs, bytes)))
@@ -36,7 +37,7 @@ extracting tech gds cell = technology_from tech >>= extracting_over gds cell
 abbrev pub gathered : Option Form → Reading Material
 gathered None = Ends (Err Words)
 gathered (Some (Plan asked)) = planning asked
-gathered (Some (Make asked out)) = making asked out
+gathered (Some (Make asked out style)) = making asked out style
 gathered (Some (Check asked log)) = checking asked log
 gathered (Some (Extract tech gds cell)) = extracting tech gds cell
 gathered (Some (Bench number)) = Ends (Ok (Benching, number))
@@ -45,7 +46,7 @@ gathered (Some (Bench number)) = Ends (Ok (Benching, number))
 abbrev pub read_by : Option Form → List Source
 read_by None = []
 read_by (Some (Plan asked)) = input_files asked.tech asked.spice
-read_by (Some (Make asked out)) = input_files asked.tech asked.spice
+read_by (Some (Make asked out style)) = input_files asked.tech asked.spice
 read_by (Some (Check asked log)) = input_files asked.tech asked.spice ++ LogFile log ∷ []
 read_by (Some (Extract tech gds cell)) = tech_files tech ++ GdsFile gds ∷ []
 read_by (Some (Bench number)) = []

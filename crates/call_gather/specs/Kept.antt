@@ -12,7 +12,7 @@ use Rattle.call_read.specs.Reading.{Reading, MayCome}
 -- it is kept so: in place of a log's bytes, what reading and checking them came to
 abbrev pub IsKept : Material → Kept → Type 0
 IsKept m (kept.Planning inputs) = m ≡ (Planning, inputs)
-IsKept m (kept.Making inputs stem) = m ≡ (Making, (inputs, stem))
+IsKept m (kept.Making inputs stem style) = m ≡ (Making, (inputs, stem, style))
 IsKept m (kept.Checking inputs log) =
     (bytes : List ℕ) × (m ≡ (Checking, (inputs, bytes))) × AreBehindAll inputs bytes log.reader log.checker
 IsKept m (kept.Extracting cell) = m ≡ (Extracting, cell)

@@ -11,7 +11,7 @@ pub data Kind : Type 0 where
 
 abbrev pub kind_of : Form → Kind
 kind_of (Plan cell) = Planning
-kind_of (Make cell out) = Making
+kind_of (Make cell out style) = Making
 kind_of (Check cell log) = Checking
 kind_of (Extract tech gds cell) = Extracting
 kind_of (Bench number) = Benching

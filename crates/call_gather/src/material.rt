@@ -7,7 +7,7 @@ ghost use Rattle.call_words.specs.Shown.{shown};
 
 use call_read::{Refusal, Source, read_file, read_inputs, read_technology, read_to};
 use call_words::{CellAsked, CellCount, Form};
-use cell_inputs::Inputs;
+use cell_inputs::{Inputs, Style};
 use cell_io::Desk;
 use cell_num::copy;
 use check_run::CheckedLog;
@@ -20,8 +20,8 @@ use tech_file::Tech;
 #[derive(Drop)]
 pub enum Material {
     Planning(Inputs),
-    /// The inputs, and what the names of the files begin with.
-    Making(Inputs, Stem),
+    /// The inputs, what the names of the files begin with, and the style.
+    Making(Inputs, Stem, Style),
     /// The inputs, and a log behind all its bytes.
     Checking(Inputs, CheckedLog),
     Extracting(GdsCell),
@@ -61,14 +61,15 @@ fn for_make<D: Desk>(
     desk: &mut D,
     asked: &CellAsked<'_>,
     out: &str,
+    style: Style,
 ) -> Result<Material, Refusal>
-    ensures comes { MayKeep (D.view desk.old) (D.view desk.new) (making asked.now out.now) result }
+    ensures comes { MayKeep (D.view desk.old) (D.view desk.new) (making asked.now out.now style) result }
     ensures quiet { KeepsReads result (D.view desk.old) (D.view desk.new) }
     ensures only { OnlyReads (D.view desk.old) (D.view desk.new) }
 {
     let stem = Stem::new(alloc, out)?;
     let inputs = read_inputs(alloc, desk, asked)?;
-    Ok(Material::Making(inputs, stem))
+    Ok(Material::Making(inputs, stem, style))
 }
 
 fn for_check<D: Desk>(
@@ -129,7 +130,7 @@ pub fn gather<D: Desk>(
 {
     match form {
         Some(Form::Plan { cell }) => for_plan(alloc, desk, &cell),
-        Some(Form::Make { cell, out }) => for_make(alloc, desk, &cell, out),
+        Some(Form::Make { cell, out, style }) => for_make(alloc, desk, &cell, out, style),
         Some(Form::Check { cell, log }) => for_check(alloc, desk, &cell, log),
         Some(Form::Extract { tech, gds, cell }) => for_extract(alloc, desk, tech, gds, cell),
         Some(Form::Bench { number }) => Ok(Material::Benching(number)),

@@ -6,7 +6,7 @@ use Rattle.call_words.specs.Words as words
 
 abbrev pub shown : Form → words.Form
 shown (read.Plan cell) = words.Plan cell
-shown (read.Make cell out) = words.Make cell out.now
+shown (read.Make cell out style) = words.Make cell out.now style
 shown (read.Check cell log) = words.Check cell log.now
 shown (read.Bench number) = words.Bench number
 shown (read.Extract tech gds cell) = words.Extract (option_map (λ name. name.now) tech) gds.now cell.now

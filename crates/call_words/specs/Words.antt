@@ -3,6 +3,8 @@ use Rattle.std.specs.Prelude.{ℕ, ◌&&◌, nat_le, Bool, List, [], ◌∷◌, 
 use Rattle.std.specs.List.{range_with_len}
 use Rattle.std.specs.declared.alloc.Global.{Global}
 use Rattle.cell_num.specs.Names.{is_cell}
+use Rattle.cell_inputs.specs.declared.style.Style.{Style}
+use Rattle.cell_inputs.specs.Style.{dogleg_style, plain_style}
 
 -- the words as bytes
 abbrev pub texts : List (String Global) → List (List ℕ)
@@ -14,11 +16,11 @@ pub record CellAsked : Type 0 where
   pub spice : List ℕ
   pub cell : List ℕ
 
--- what a call asks for: `plan TECH SPICE CELL`, `make TECH SPICE CELL OUT`, `check TECH SPICE CELL LOG`,
--- `extract TECH GDS CELL`, whose technology is none for the plain one, or `bench NUMBER`
+-- what a call asks for: `plan TECH SPICE CELL`, `make TECH SPICE CELL OUT`, which may end with `--dogleg`,
+-- `check TECH SPICE CELL LOG`, `extract TECH GDS CELL`, whose technology is none for the plain one, or `bench NUMBER`
 pub data Form : Type 0 where
   Plan : (cell : CellAsked) → Form
-  Make : (cell : CellAsked) (out : List ℕ) → Form
+  Make : (cell : CellAsked) (out : List ℕ) (style : Style) → Form
   Check : (cell : CellAsked) (log : List ℕ) → Form
   Extract : (tech : Option (List ℕ)) (gds cell : List ℕ) → Form
   Bench : (number : ℕ) → Form
@@ -43,9 +45,15 @@ abbrev pub plan_of : List (List ℕ) → Option Form
 plan_of (tech ∷ spice ∷ cell ∷ []) = option_map (λ asked. Plan asked) (cell_of tech spice cell)
 plan_of _ = None
 
+-- a drawing in a style, in files whose names begin so
+abbrev pub making_of : Style → List ℕ → List ℕ → List ℕ → List ℕ → Option Form
+making_of style tech spice cell out =
+    if is_file out then option_map (λ asked. Make asked out style) (cell_of tech spice cell) else None
+
 abbrev pub make_of : List (List ℕ) → Option Form
-make_of (tech ∷ spice ∷ cell ∷ out ∷ []) =
-    if is_file out then option_map (λ asked. Make asked out) (cell_of tech spice cell) else None
+make_of (tech ∷ spice ∷ cell ∷ out ∷ []) = making_of plain_style tech spice cell out
+make_of (tech ∷ spice ∷ cell ∷ out ∷ word ∷ []) =
+    if bytes_eq word (codes "--dogleg") then making_of dogleg_style tech spice cell out else None
 make_of _ = None
 
 abbrev pub check_of : List (List ℕ) → Option Form

@@ -1,9 +1,10 @@
 ghost use Rattle.std.specs.Prelude.{◌≡◌, option_map};
 ghost use Rattle.call_words.specs.Shown.{shown};
-ghost use Rattle.call_words.specs.Words.{texts, plan_of, make_of, check_of, extract_of, bench_of, asked};
+ghost use Rattle.call_words.specs.Words.{texts, plan_of, making_of, make_of, check_of, extract_of, bench_of, asked};
 
 use crate::cell::{CellAsked, cell_of, tech_of};
 use crate::count::CellCount;
+use cell_inputs::Style;
 use cell_num::is_cell;
 
 /// What a call of the program asks for.
@@ -13,10 +14,11 @@ pub enum Form<'a> {
     Plan {
         cell: CellAsked<'a>,
     },
-    /// The drawing of a cell, in files whose names begin so.
+    /// The drawing of a cell in a style, in files whose names begin so.
     Make {
         cell: CellAsked<'a>,
         out: &'a str,
+        style: Style,
     },
     /// Whether a log certifies a row of a cell.
     Check {
@@ -48,22 +50,45 @@ fn plan_of(words: &[String]) -> Option<Form<'_>>
     }
 }
 
+// A drawing in a style, in files whose names begin so.
+fn making_of<'a>(
+    style: Style,
+    tech: &'a str,
+    spice: &'a str,
+    cell: &'a str,
+    out: &'a str,
+) -> Option<Form<'a>>
+    ensures { option_map shown result ≡ making_of style tech.now spice.now cell.now out.now }
+{
+    if out.is_empty() {
+        return None;
+    }
+    match cell_of(tech, spice, cell) {
+        Some(cell) => Some(Form::Make { cell, out, style }),
+        None => None,
+    }
+}
+
 // The form of the words behind `make`.
 fn make_of(words: &[String]) -> Option<Form<'_>>
     ensures { option_map shown result ≡ make_of (texts words.now) }
 {
-    let [tech, spice, cell, out] = words else {
-        return None;
-    };
-    if out.is_empty() {
-        return None;
-    }
-    match cell_of(tech.as_str(), spice.as_str(), cell.as_str()) {
-        Some(cell) => Some(Form::Make {
-            cell,
-            out: out.as_str(),
-        }),
-        None => None,
+    match words {
+        [tech, spice, cell, out] => making_of(
+            Style::plain(),
+            tech.as_str(),
+            spice.as_str(),
+            cell.as_str(),
+            out.as_str(),
+        ),
+        [tech, spice, cell, out, word] if word.as_str() == "--dogleg" => making_of(
+            Style::dogleg(),
+            tech.as_str(),
+            spice.as_str(),
+            cell.as_str(),
+            out.as_str(),
+        ),
+        _ => None,
     }
 }
 

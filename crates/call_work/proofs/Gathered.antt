@@ -85,9 +85,9 @@ gathered_keeps (Some (Plan asked)) =
     (inputs_keep (λ source. Contains (read_by (Some (Plan asked))) source) asked (λ source there. there))
     (λ inputs is. refl)
     (λ e is. rw is refl)
-gathered_keeps (Some (Make asked out)) =
-    keeps_on (λ source. Contains (read_by (Some (Make asked out))) source) IsInputs (IsGathered (Some (Make asked out))) (inputs_from asked) _
-    (inputs_keep (λ source. Contains (read_by (Some (Make asked out))) source) asked (λ source there. there))
+gathered_keeps (Some (Make asked out style)) =
+    keeps_on (λ source. Contains (read_by (Some (Make asked out style))) source) IsInputs (IsGathered (Some (Make asked out style))) (inputs_from asked) _
+    (inputs_keep (λ source. Contains (read_by (Some (Make asked out style))) source) asked (λ source there. there))
     (λ inputs is. refl)
     (λ e is. rw is refl)
 gathered_keeps (Some (Check asked log)) =

@@ -14,6 +14,7 @@ use Rattle.check_run.specs.Check.{ChecksTo}
 use Rattle.call_work.specs.Ends.{KeepsReadsOf, MayEnd, WorksFor, WorksTo, refused as refusal_end}
 use Rattle.layout_run.specs.Extract.{ExtractsTo}
 use Rattle.call_gather.specs.Gather.{gathered}
+use Rattle.cell_inputs.specs.declared.style.Style.{Style}
 use Rattle.cell_inputs.specs.Inputs.{Inputs}
 use Rattle.call_gather.specs.Kept.{AreKept, MayKeep}
 use Rattle.check_run.specs.LogRead.{AreBehindAll}
@@ -60,9 +61,9 @@ pub plan_kept : (inputs : Inputs) (r : Result End Short) → IfOk r (PlansTo inp
 plan_kept inputs (Err e) plans = tt
 plan_kept inputs (Ok end) plans = λ m is. subst (λ (x : Material). WorksTo x.0 x.1 end) (sym is) plans
 
-pub make_kept : (inputs : Inputs) (out : List ℕ) (r : Result End Short) → IfOk r (MakesTo inputs out) → IfOk r (WorksFor (held.Making inputs out))
-make_kept inputs out (Err e) makes = tt
-make_kept inputs out (Ok end) makes = λ m is. subst (λ (x : Material). WorksTo x.0 x.1 end) (sym is) makes
+pub make_kept : (inputs : Inputs) (out : List ℕ) (style : Style) (r : Result End Short) → IfOk r (MakesTo style inputs out) → IfOk r (WorksFor (held.Making inputs out style))
+make_kept inputs out style (Err e) makes = tt
+make_kept inputs out style (Ok end) makes = λ m is. subst (λ (x : Material). WorksTo x.0 x.1 end) (sym is) makes
 
 pub check_kept : (inputs : Inputs) (log : CheckedLog) (r : Result End Short) → IfOk r (λ end. (bytes : List ℕ) → AreBehindAll inputs bytes log.reader log.checker → ChecksTo inputs bytes end) → IfOk r (WorksFor (held.Checking inputs log))
 check_kept inputs log (Err e) checks = tt

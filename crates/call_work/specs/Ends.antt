@@ -40,6 +40,7 @@ abbrev pub refusal_text : Refusal → List ℕ
 refusal_text Words =
     codes "status 1 usage\nplan TECH SPICE CELL\nmake TECH SPICE CELL OUT\n"
     ++ codes "check TECH SPICE CELL LOG\nextract TECH GDS CELL\nbench NUMBER\n"
+    ++ codes "make TECH SPICE CELL OUT --dogleg\n"
 refusal_text (Unread name) = text_line (codes "status 2 read ") name
 refusal_text (Long name) = text_line (codes "status 10 long ") name
 refusal_text (Tech f) = codes "status 4 input\n" ++ fault_line (codes "tech") (tech_fault f)
@@ -55,7 +56,7 @@ refused e = says (refusal_status e) (refusal_text e)
 -- the work on a material of the kind may come to this end
 abbrev pub WorksTo : (kind : Kind) → MaterialOf kind → End → Type 0
 WorksTo Planning inputs end = PlansTo inputs end
-WorksTo Making m end = MakesTo m.0 m.1 end
+WorksTo Making m end = MakesTo m.2 m.0 m.1 end
 WorksTo Checking m end = ChecksTo m.0 m.1 end
 WorksTo Extracting cell end = ExtractsTo cell end
 WorksTo Benching number end = BenchesTo number end

@@ -27,6 +27,7 @@ fn report_of(alloc: Global, refusal: &Refusal) -> Result<Bytes, NoMemory>
         Refusal::Words => {
             out.extend(b"status 1 usage\nplan TECH SPICE CELL\nmake TECH SPICE CELL OUT\n")?;
             out.extend(b"check TECH SPICE CELL LOG\nextract TECH GDS CELL\nbench NUMBER\n")?;
+            out.extend(b"make TECH SPICE CELL OUT --dogleg\n")?;
         }
         Refusal::Unread { name } => put_text(&mut out, b"status 2 read ", name.as_slice())?,
         Refusal::Long { name } => put_text(&mut out, b"status 10 long ", name.as_slice())?,

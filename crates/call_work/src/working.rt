@@ -16,7 +16,7 @@ pub fn work(alloc: Global, material: &Material) -> Result<End, NoMemory>
 {
     match material {
         Material::Planning(inputs) => plan(alloc, inputs),
-        Material::Making(inputs, stem) => make(alloc, inputs, stem),
+        Material::Making(inputs, stem, style) => make(alloc, inputs, stem, *style),
         Material::Checking(inputs, log) => check(alloc, inputs, log),
         Material::Extracting(cell) => extract(alloc, cell),
         Material::Benching(number) => bench(alloc, number),

@@ -3,4 +3,5 @@ pub mod Extent
 pub mod LeastLines
 pub mod Makes
 pub mod ReadBack
+pub mod Rings
 mod Wirings

@@ -7,7 +7,7 @@ use Rattle.channel_route.specs.declared.ring.Ring.{Ring}
 use Rattle.channel_route.specs.declared.ring.Ring.TheVariants.{OfNets, OfPieces}
 use Rattle.channel_route.specs.declared.routing.Routing.{Routing}
 use Rattle.channel_route.specs.declared.routing.WireAbove.{WireAbove}
-use Rattle.channel_route.specs.Cycle.{HasNoCycle}
+use Rattle.channel_route.specs.Cycle.{HasNoCycle, IsCycle}
 use Rattle.channel_route.specs.Routing.{IsLegal, IsTight}
 use Rattle.channel_route.specs.Told.{IsTold}
 use Rattle.scmos_rules.specs.declared.rules.Deck.{Deck}
@@ -46,6 +46,13 @@ AreLegal Doglegs placement pins routing = ArePiecesLegal placement pins (as_piec
 abbrev pub AreTight : Wiring → Placement → Pins → Routing → Type 0
 AreTight Straight placement pins routing = IsTight placement pins routing
 AreTight Doglegs placement pins routing = ArePiecesTight placement pins (as_pieces routing)
+
+-- nets, or pieces of nets, stand above each other in this ring
+abbrev pub IsRing : Wiring → Placement → Pins → Ring → Type 0
+IsRing Straight placement pins (OfNets cycle) = IsCycle placement pins cycle
+IsRing Straight placement pins (OfPieces cycle) = ⊥
+IsRing Doglegs placement pins (OfNets cycle) = ⊥
+IsRing Doglegs placement pins (OfPieces cycle) = IsPieceCycle placement pins cycle
 
 -- a ring of pieces, written from its first piece on, and the one below the first piece that can't be placed
 pub record IsPieceRing (placement : Placement) (pins : Pins) (cycle : List WireAbove) : Type 0 where

@@ -17,6 +17,7 @@ use Rattle.call_end.specs.End.{says}
 use Rattle.call_work.specs.Ends.{CallsFor, EndsTo, KeepsReadsOf, MayEnd, WorksTo, file_statuses, is_among, outside_of, refusal_status, refused, settled_of}
 use Rattle.layout_run.specs.Extract.{ExtractsTo}
 use Rattle.call_gather.specs.Gather.{gathered, read_by}
+use Rattle.cell_inputs.specs.declared.style.Style.{Style}
 use Rattle.cell_inputs.specs.Inputs.{Inputs}
 use Rattle.cell_make.specs.Making as made
 use Rattle.make_run.specs.Make.{MakesTo}
@@ -53,11 +54,11 @@ extract_alone cell end (answer.Refused f, h, is) = rw is refl
 pub bench_alone : (number : ℕ) (end : End) → BenchesTo number end → end.files ≡ []
 bench_alone number end (tally, h, is) = rw is refl
 
-make_status : (inputs : Inputs) (out : List ℕ) (end : End) → MakesTo inputs out end → is_among (status.Done ∷ status.Cycle ∷ status.Unfinished ∷ status.TooTall ∷ []) end.status ≡ true
-make_status inputs out end (made.Made row log routing xs, h, is) = rw is.status refl
-make_status inputs out end (made.Cyclic row log ring, h, is) = rw is.status refl
-make_status inputs out end (made.Tall row log routing, h, is) = rw is.status refl
-make_status inputs out end (made.Unfinished proved log, h, is) = rw is.status refl
+make_status : (style : Style) (inputs : Inputs) (out : List ℕ) (end : End) → MakesTo style inputs out end → is_among (status.Done ∷ status.Cycle ∷ status.Unfinished ∷ status.TooTall ∷ []) end.status ≡ true
+make_status style inputs out end (made.Made row log routing xs, h, is) = rw is.status refl
+make_status style inputs out end (made.Cyclic row log ring, h, is) = rw is.status refl
+make_status style inputs out end (made.Tall row log routing, h, is) = rw is.status refl
+make_status style inputs out end (made.Unfinished proved log, h, is) = rw is.status refl
 
 -- `make` alone makes files, and none where it ends with a status that is not its own
 abbrev pub HasNoFiles : Kind → End → Type 0
@@ -66,7 +67,7 @@ HasNoFiles kind end =
 
 files_by : (kind : Kind) (m : MaterialOf kind) (end : End) → WorksTo kind m end → HasNoFiles kind end
 files_by Planning m end works = inl (plan_alone m end works)
-files_by Making m end works = inr (refl, make_status m.0 m.1 end works)
+files_by Making m end works = inr (refl, make_status m.2 m.0 m.1 end works)
 files_by Checking m end works = inl (check_alone m.0 m.1 end works)
 files_by Extracting m end works = inl (extract_alone m end works)
 files_by Benching m end works = inl (bench_alone m end works)

@@ -3,15 +3,17 @@ use Rattle.std.proofs.Common.{ℕ, ◌≡◌, List, Option, refl, sym, ◌∙◌
 use Rattle.cell_io.specs.Desk.{View, Both}
 use Rattle.bound_log.specs.Text.{log_text}
 use Rattle.row_place.specs.Places.{placement_of}
-use Rattle.channel_route.proofs.Stuck.{cycle_is}
-use Rattle.channel_route.specs.declared.ring.Ring.TheVariants.{OfNets}
 use Rattle.call_end.specs.declared.end.End.{End}
 use Rattle.call_end.specs.declared.status.Status.{Status}
 use Rattle.call_end.specs.declared.status.Status.TheVariants as status
 use Rattle.call_end.specs.Deliver.{Says, TellsWhole}
 use Rattle.cell_run.specs.Headline.{IsCyclicCell, IsMadeCell, IsSpentSearch, IsTallCell}
 use Rattle.call_work.proofs.Statuses.{differ}
+use Rattle.cell_inputs.specs.declared.style.Taps.{Taps}
+use Rattle.cell_inputs.specs.declared.style.Taps.TheVariants.{Without}
+use Rattle.cell_inputs.specs.declared.style.Wiring.{Wiring}
 use Rattle.cell_inputs.specs.Inputs.{Inputs}
+use Rattle.cell_make.proofs.Rings.{ring_is}
 use Rattle.cell_make.specs.Making.{abstract_of, drawing_in, library_of}
 use Rattle.cell_make.specs.Making as made
 use Rattle.make_run.specs.Make.{MakesTo}
@@ -20,8 +22,8 @@ use Rattle.cell_run.proofs.MadeFiles.{cell_made, log_made}
 said_so : (text report : List ℕ) (old new : Option (List ℕ)) → report ≡ text → Both (Says report) old new → Both (Says text) old new
 said_so text report old new is said = subst (λ (t : List ℕ). Both (Says t) old new) is said
 
-pub drawn_so : (inputs : Inputs) (out : List ℕ) (end : End) (answer : Status) (old new : View) → MakesTo inputs out end → answer ≡ status.Done → TellsWhole end answer old new → IsMadeCell inputs out old new
-drawn_so inputs out end answer old new (made.Made row log routing xs, h, is) done whole = record {
+pub drawn_so : (wiring : Wiring) (taps : Taps) (inputs : Inputs) (out : List ℕ) (end : End) (answer : Status) (old new : View) → MakesTo (record { wiring = wiring; taps = taps }) inputs out end → answer ≡ status.Done → TellsWhole end answer old new → IsMadeCell (record { wiring = wiring; taps = taps }) inputs out old new
+drawn_so wiring Without inputs out end answer old new (made.Made row log routing xs, h, is) done whole = record {
   row = row;
   log = log;
   routing = routing;
@@ -47,34 +49,34 @@ drawn_so inputs out end answer old new (made.Made row log routing xs, h, is) don
   files = cell_made out (log_text inputs.cell.name log) (library_of inputs (drawing_in inputs row routing xs)) (abstract_of inputs routing (drawing_in inputs row routing xs)) end.files old.made new.made is.files whole.1;
   says = said_so _ end.report old.said new.said is.report whole.2;
 }
-drawn_so inputs out end answer old new (made.Cyclic row log (OfNets cycle), h, is) done whole =
+drawn_so wiring Without inputs out end answer old new (made.Cyclic row log ring, h, is) done whole =
     absurd (differ status.Done status.Cycle refl (sym done ∙ (whole.0 ∙ is.status)))
-drawn_so inputs out end answer old new (made.Tall row log routing, h, is) done whole =
+drawn_so wiring Without inputs out end answer old new (made.Tall row log routing, h, is) done whole =
     absurd (differ status.Done status.TooTall refl (sym done ∙ (whole.0 ∙ is.status)))
-drawn_so inputs out end answer old new (made.Unfinished proved log, h, is) done whole =
+drawn_so wiring Without inputs out end answer old new (made.Unfinished proved log, h, is) done whole =
     absurd (differ status.Done status.Unfinished refl (sym done ∙ (whole.0 ∙ is.status)))
 
-pub cyclic_so : (inputs : Inputs) (out : List ℕ) (end : End) (answer : Status) (old new : View) → MakesTo inputs out end → answer ≡ status.Cycle → TellsWhole end answer old new → IsCyclicCell inputs out old new
-cyclic_so inputs out end answer old new (made.Cyclic row log (OfNets cycle), h, is) done whole = record {
+pub cyclic_so : (wiring : Wiring) (taps : Taps) (inputs : Inputs) (out : List ℕ) (end : End) (answer : Status) (old new : View) → MakesTo (record { wiring = wiring; taps = taps }) inputs out end → answer ≡ status.Cycle → TellsWhole end answer old new → IsCyclicCell (record { wiring = wiring; taps = taps }) inputs out old new
+cyclic_so wiring Without inputs out end answer old new (made.Cyclic row log ring, h, is) done whole = record {
   row = row;
   log = log;
-  cycle = cycle;
+  ring = ring;
   first_least = h.0.first;
   certified = h.0.certified;
-  is_cycle = cycle_is (placement_of row) inputs.cell.pins cycle h.1;
+  is_ring = ring_is wiring (placement_of row) inputs.cell.pins ring h.1;
   is_told = h.1;
   files = log_made out _ end.files old.made new.made is.files whole.1;
   says = said_so _ end.report old.said new.said is.report whole.2;
 }
-cyclic_so inputs out end answer old new (made.Made row log routing xs, h, is) done whole =
+cyclic_so wiring Without inputs out end answer old new (made.Made row log routing xs, h, is) done whole =
     absurd (differ status.Done status.Cycle refl (sym (sym done ∙ (whole.0 ∙ is.status))))
-cyclic_so inputs out end answer old new (made.Tall row log routing, h, is) done whole =
+cyclic_so wiring Without inputs out end answer old new (made.Tall row log routing, h, is) done whole =
     absurd (differ status.Cycle status.TooTall refl (sym done ∙ (whole.0 ∙ is.status)))
-cyclic_so inputs out end answer old new (made.Unfinished proved log, h, is) done whole =
+cyclic_so wiring Without inputs out end answer old new (made.Unfinished proved log, h, is) done whole =
     absurd (differ status.Cycle status.Unfinished refl (sym done ∙ (whole.0 ∙ is.status)))
 
-pub tall_so : (inputs : Inputs) (out : List ℕ) (end : End) (answer : Status) (old new : View) → MakesTo inputs out end → answer ≡ status.TooTall → TellsWhole end answer old new → IsTallCell inputs out old new
-tall_so inputs out end answer old new (made.Tall row log routing, h, is) done whole = record {
+pub tall_so : (wiring : Wiring) (taps : Taps) (inputs : Inputs) (out : List ℕ) (end : End) (answer : Status) (old new : View) → MakesTo (record { wiring = wiring; taps = taps }) inputs out end → answer ≡ status.TooTall → TellsWhole end answer old new → IsTallCell (record { wiring = wiring; taps = taps }) inputs out old new
+tall_so wiring Without inputs out end answer old new (made.Tall row log routing, h, is) done whole = record {
   row = row;
   log = log;
   routing = routing;
@@ -87,24 +89,24 @@ tall_so inputs out end answer old new (made.Tall row log routing, h, is) done wh
   files = log_made out _ end.files old.made new.made is.files whole.1;
   says = said_so _ end.report old.said new.said is.report whole.2;
 }
-tall_so inputs out end answer old new (made.Made row log routing xs, h, is) done whole =
+tall_so wiring Without inputs out end answer old new (made.Made row log routing xs, h, is) done whole =
     absurd (differ status.Done status.TooTall refl (sym (sym done ∙ (whole.0 ∙ is.status))))
-tall_so inputs out end answer old new (made.Cyclic row log (OfNets cycle), h, is) done whole =
+tall_so wiring Without inputs out end answer old new (made.Cyclic row log ring, h, is) done whole =
     absurd (differ status.Cycle status.TooTall refl (sym (sym done ∙ (whole.0 ∙ is.status))))
-tall_so inputs out end answer old new (made.Unfinished proved log, h, is) done whole =
+tall_so wiring Without inputs out end answer old new (made.Unfinished proved log, h, is) done whole =
     absurd (differ status.TooTall status.Unfinished refl (sym done ∙ (whole.0 ∙ is.status)))
 
-pub spent_so : (inputs : Inputs) (out : List ℕ) (end : End) (answer : Status) (old new : View) → MakesTo inputs out end → answer ≡ status.Unfinished → TellsWhole end answer old new → IsSpentSearch inputs out old new
-spent_so inputs out end answer old new (made.Unfinished proved log, h, is) done whole = record {
+pub spent_so : (wiring : Wiring) (taps : Taps) (inputs : Inputs) (out : List ℕ) (end : End) (answer : Status) (old new : View) → MakesTo (record { wiring = wiring; taps = taps }) inputs out end → answer ≡ status.Unfinished → TellsWhole end answer old new → IsSpentSearch inputs out old new
+spent_so wiring Without inputs out end answer old new (made.Unfinished proved log, h, is) done whole = record {
   log = log;
   proved = proved;
   spent = h;
   files = log_made out _ end.files old.made new.made is.files whole.1;
   says = said_so _ end.report old.said new.said is.report whole.2;
 }
-spent_so inputs out end answer old new (made.Made row log routing xs, h, is) done whole =
+spent_so wiring Without inputs out end answer old new (made.Made row log routing xs, h, is) done whole =
     absurd (differ status.Done status.Unfinished refl (sym (sym done ∙ (whole.0 ∙ is.status))))
-spent_so inputs out end answer old new (made.Cyclic row log (OfNets cycle), h, is) done whole =
+spent_so wiring Without inputs out end answer old new (made.Cyclic row log ring, h, is) done whole =
     absurd (differ status.Cycle status.Unfinished refl (sym (sym done ∙ (whole.0 ∙ is.status))))
-spent_so inputs out end answer old new (made.Tall row log routing, h, is) done whole =
+spent_so wiring Without inputs out end answer old new (made.Tall row log routing, h, is) done whole =
     absurd (differ status.TooTall status.Unfinished refl (sym (sym done ∙ (whole.0 ∙ is.status))))

@@ -5,8 +5,6 @@ use Rattle.log_check.specs.Accepted.{ForKinds}
 use Rattle.bound_log.specs.declared.log.Log.{Log}
 use Rattle.row_search.specs.Enough.{enough}
 use Rattle.row_place.specs.Places.{placement_of}
-use Rattle.channel_route.proofs.Stuck.{cycle_is}
-use Rattle.channel_route.specs.declared.ring.Ring.TheVariants.{OfNets}
 use Rattle.call_end.specs.declared.end.End.{End}
 use Rattle.call_gather.specs.Kinds.{Making}
 use Rattle.call_gather.specs.Material.{Material}
@@ -17,7 +15,9 @@ use Rattle.cell_run.specs.Calm.{IsCalm}
 use Rattle.call_end.specs.Deliver.{Says}
 use Rattle.call_work.specs.Ends.{EndsTo}
 use Rattle.cell_run.specs.Headline.{CanBeDrawn, FromInputs, HasCycle, IsCyclicCell, IsMadeCell, IsOrShort, IsSpentSearch, IsTallCell, IsTooHigh, OfFirstLeast, WhereMakeEnds}
+use Rattle.cell_inputs.specs.declared.style.Style.{Style}
 use Rattle.cell_inputs.specs.Inputs.{Inputs}
+use Rattle.cell_make.proofs.Rings.{no_ring, ring_is}
 use Rattle.cell_make.specs.Making as made
 use Rattle.cell_make.specs.Searched.{IsUnfinished}
 use Rattle.make_run.specs.Make.{MakesTo}
@@ -28,57 +28,57 @@ use Rattle.cell_run.proofs.Worked.{IsAnswered, worked}
 
 -- ---- the clauses
 
-pub drawn_told : (a c : View) (form : Option Form) (answer : Status) (given : Option Files) → IfSome given (IsAnswered form a c answer) → IfSome given (λ files. WhereMakeEnds files form answer status.Done (λ inputs out. IsMadeCell inputs out a c))
+pub drawn_told : (a c : View) (form : Option Form) (answer : Status) (given : Option Files) → IfSome given (IsAnswered form a c answer) → IfSome given (λ files. WhereMakeEnds files form answer status.Done (λ style inputs out. IsMadeCell style inputs out a c))
 drawn_told a c form answer None told = tt
 drawn_told a c form answer (Some files) told = λ make is.
     let w = worked files form Making answer a c make (rw is refl) told in
-    (w.m.0, w.m.1, w.comes, drawn_so w.m.0 w.m.1 w.end answer a c w.works is w.whole)
+    (w.m.0, w.m.1, w.m.2, w.comes, drawn_so w.m.2.wiring w.m.2.taps w.m.0 w.m.1 w.end answer a c w.works is w.whole)
 
-pub cyclic_told : (a c : View) (form : Option Form) (answer : Status) (given : Option Files) → IfSome given (IsAnswered form a c answer) → IfSome given (λ files. WhereMakeEnds files form answer status.Cycle (λ inputs out. IsCyclicCell inputs out a c))
+pub cyclic_told : (a c : View) (form : Option Form) (answer : Status) (given : Option Files) → IfSome given (IsAnswered form a c answer) → IfSome given (λ files. WhereMakeEnds files form answer status.Cycle (λ style inputs out. IsCyclicCell style inputs out a c))
 cyclic_told a c form answer None told = tt
 cyclic_told a c form answer (Some files) told = λ make is.
     let w = worked files form Making answer a c make (rw is refl) told in
-    (w.m.0, w.m.1, w.comes, cyclic_so w.m.0 w.m.1 w.end answer a c w.works is w.whole)
+    (w.m.0, w.m.1, w.m.2, w.comes, cyclic_so w.m.2.wiring w.m.2.taps w.m.0 w.m.1 w.end answer a c w.works is w.whole)
 
-pub tall_told : (a c : View) (form : Option Form) (answer : Status) (given : Option Files) → IfSome given (IsAnswered form a c answer) → IfSome given (λ files. WhereMakeEnds files form answer status.TooTall (λ inputs out. IsTallCell inputs out a c))
+pub tall_told : (a c : View) (form : Option Form) (answer : Status) (given : Option Files) → IfSome given (IsAnswered form a c answer) → IfSome given (λ files. WhereMakeEnds files form answer status.TooTall (λ style inputs out. IsTallCell style inputs out a c))
 tall_told a c form answer None told = tt
 tall_told a c form answer (Some files) told = λ make is.
     let w = worked files form Making answer a c make (rw is refl) told in
-    (w.m.0, w.m.1, w.comes, tall_so w.m.0 w.m.1 w.end answer a c w.works is w.whole)
+    (w.m.0, w.m.1, w.m.2, w.comes, tall_so w.m.2.wiring w.m.2.taps w.m.0 w.m.1 w.end answer a c w.works is w.whole)
 
-pub spent_told : (a c : View) (form : Option Form) (answer : Status) (given : Option Files) → IfSome given (IsAnswered form a c answer) → IfSome given (λ files. WhereMakeEnds files form answer status.Unfinished (λ inputs out. IsSpentSearch inputs out a c))
+pub spent_told : (a c : View) (form : Option Form) (answer : Status) (given : Option Files) → IfSome given (IsAnswered form a c answer) → IfSome given (λ files. WhereMakeEnds files form answer status.Unfinished (λ style inputs out. IsSpentSearch inputs out a c))
 spent_told a c form answer None told = tt
 spent_told a c form answer (Some files) told = λ make is.
     let w = worked files form Making answer a c make (rw is refl) told in
-    (w.m.0, w.m.1, w.comes, spent_so w.m.0 w.m.1 w.end answer a c w.works is w.whole)
+    (w.m.0, w.m.1, w.m.2, w.comes, spent_so w.m.2.wiring w.m.2.taps w.m.0 w.m.1 w.end answer a c w.works is w.whole)
 
 -- ---- completeness
 
 spends_less : (inputs : Inputs) (log : Log) (proved : ℕ) → ForKinds inputs.fingers (λ k. enough k ≤ inputs.tech.budget) → IsUnfinished inputs proved log → ⊥
 spends_less inputs log proved much (version, (k, are, some, spent)) = absurd (omega (arith, much k are some, spent.short))
 
-drawn_where : (inputs : Inputs) (out : List ℕ) (end : End) → OfFirstLeast CanBeDrawn inputs out → MakesTo inputs out end → end.status ≡ status.Done
-drawn_where inputs out end (much, can) (made.Made row log routing xs, h, is) = is.status
-drawn_where inputs out end (much, can) (made.Cyclic row log (OfNets cycle), h, is) = absurd ((can row h.0.first).acyclic cycle (cycle_is (placement_of row) inputs.cell.pins cycle h.1))
-drawn_where inputs out end (much, can) (made.Tall row log routing, h, is) = absurd ((can row h.0.first).fits routing h.1 h.2)
-drawn_where inputs out end (much, can) (made.Unfinished proved log, h, is) = absurd (spends_less inputs log proved much h)
+drawn_where : (style : Style) (inputs : Inputs) (out : List ℕ) (end : End) → OfFirstLeast CanBeDrawn style inputs out → MakesTo style inputs out end → end.status ≡ status.Done
+drawn_where style inputs out end (much, can) (made.Made row log routing xs, h, is) = is.status
+drawn_where style inputs out end (much, can) (made.Cyclic row log ring, h, is) = absurd (no_ring style.wiring (placement_of row) inputs.cell.pins ring (can row h.0.first).acyclic (ring_is style.wiring (placement_of row) inputs.cell.pins ring h.1))
+drawn_where style inputs out end (much, can) (made.Tall row log routing, h, is) = absurd ((can row h.0.first).fits routing h.1 h.2)
+drawn_where style inputs out end (much, can) (made.Unfinished proved log, h, is) = absurd (spends_less inputs log proved much h)
 
-cyclic_where : (inputs : Inputs) (out : List ℕ) (end : End) → OfFirstLeast HasCycle inputs out → MakesTo inputs out end → end.status ≡ status.Cycle
-cyclic_where inputs out end (much, has) (made.Made row log routing xs, h, is) = absurd (h.routed.acyclic (has row h.found.first).0 (has row h.found.first).1)
-cyclic_where inputs out end (much, has) (made.Cyclic row log (OfNets cycle), h, is) = is.status
-cyclic_where inputs out end (much, has) (made.Tall row log routing, h, is) = absurd (h.1.acyclic (has row h.0.first).0 (has row h.0.first).1)
-cyclic_where inputs out end (much, has) (made.Unfinished proved log, h, is) = absurd (spends_less inputs log proved much h)
+cyclic_where : (style : Style) (inputs : Inputs) (out : List ℕ) (end : End) → OfFirstLeast HasCycle style inputs out → MakesTo style inputs out end → end.status ≡ status.Cycle
+cyclic_where style inputs out end (much, has) (made.Made row log routing xs, h, is) = absurd (no_ring style.wiring (placement_of row) inputs.cell.pins (has row h.found.first).0 h.routed.acyclic (has row h.found.first).1)
+cyclic_where style inputs out end (much, has) (made.Cyclic row log ring, h, is) = is.status
+cyclic_where style inputs out end (much, has) (made.Tall row log routing, h, is) = absurd (no_ring style.wiring (placement_of row) inputs.cell.pins (has row h.0.first).0 h.1.acyclic (has row h.0.first).1)
+cyclic_where style inputs out end (much, has) (made.Unfinished proved log, h, is) = absurd (spends_less inputs log proved much h)
 
-tall_where : (inputs : Inputs) (out : List ℕ) (end : End) → OfFirstLeast IsTooHigh inputs out → MakesTo inputs out end → end.status ≡ status.TooTall
-tall_where inputs out end (much, high) (made.Made row log routing xs, h, is) = absurd (h.fits ((high row h.found.first).tall routing h.routed))
-tall_where inputs out end (much, high) (made.Cyclic row log (OfNets cycle), h, is) = absurd ((high row h.0.first).acyclic cycle (cycle_is (placement_of row) inputs.cell.pins cycle h.1))
-tall_where inputs out end (much, high) (made.Tall row log routing, h, is) = is.status
-tall_where inputs out end (much, high) (made.Unfinished proved log, h, is) = absurd (spends_less inputs log proved much h)
+tall_where : (style : Style) (inputs : Inputs) (out : List ℕ) (end : End) → OfFirstLeast IsTooHigh style inputs out → MakesTo style inputs out end → end.status ≡ status.TooTall
+tall_where style inputs out end (much, high) (made.Made row log routing xs, h, is) = absurd (h.fits ((high row h.found.first).tall routing h.routed))
+tall_where style inputs out end (much, high) (made.Cyclic row log ring, h, is) = absurd (no_ring style.wiring (placement_of row) inputs.cell.pins ring (high row h.0.first).acyclic (ring_is style.wiring (placement_of row) inputs.cell.pins ring h.1))
+tall_where style inputs out end (much, high) (made.Tall row log routing, h, is) = is.status
+tall_where style inputs out end (much, high) (made.Unfinished proved log, h, is) = absurd (spends_less inputs log proved much h)
 
-settles : (a c : View) (form : Option Form) (settled answer : Status) (Says : Inputs → List ℕ → Type 0) (given : Option Files) → ((inputs : Inputs) (out : List ℕ) (end : End) → Says inputs out → MakesTo inputs out end → end.status ≡ settled) → IfSome given (λ files. IsCalm a c → Completes form files answer) → IfSome given (λ files. IsCalm a c → FromInputs files form Says → IsOrShort settled answer)
+settles : (a c : View) (form : Option Form) (settled answer : Status) (Says : Style → Inputs → List ℕ → Type 0) (given : Option Files) → ((style : Style) (inputs : Inputs) (out : List ℕ) (end : End) → Says style inputs out → MakesTo style inputs out end → end.status ≡ settled) → IfSome given (λ files. IsCalm a c → Completes form files answer) → IfSome given (λ files. IsCalm a c → FromInputs files form Says → IsOrShort settled answer)
 settles a c form settled answer Says None each told = tt
-settles a c form settled answer Says (Some files) each told = λ calm (inputs, out, got, says). elim (told calm) [
-  | inl (end, calls, is) ↦ inl (is ∙ each inputs out end says (subst (λ (r : Result Material Refusal). EndsTo r end) got calls))
+settles a c form settled answer Says (Some files) each told = λ calm (inputs, out, style, got, says). elim (told calm) [
+  | inl (end, calls, is) ↦ inl (is ∙ each style inputs out end says (subst (λ (r : Result Material Refusal). EndsTo r end) got calls))
   | inr short ↦ inr short
 ]
 

@@ -9,47 +9,47 @@ use Rattle.log_check.specs.Accepted.{ForKinds}
 use Rattle.row_search.specs.Enough.{enough}
 use Rattle.row_search.specs.First.{IsFirstLeast}
 use Rattle.row_place.specs.Places.{placement_of}
-use Rattle.channel_route.specs.declared.routing.Above.{Above}
+use Rattle.channel_route.specs.declared.ring.Ring.{Ring}
 use Rattle.channel_route.specs.declared.routing.Routing.{Routing}
-use Rattle.channel_route.specs.Cycle.{HasNoCycle, IsCycle}
-use Rattle.channel_route.specs.Routing.{IsLegal, IsTight}
-use Rattle.channel_route.specs.Told.{IsTold}
 use Rattle.scmos_rules.specs.Rules.{Obeys}
 use Rattle.scmos_rules.specs.declared.rules.Deck.TheVariants.{Plain}
 use Rattle.cell_draw.specs.declared.drawing.Drawing.{Drawing}
 use Rattle.cell_draw.specs.Extracted.{ExtractsTo}
 use Rattle.cell_draw.specs.Frame.{needed_of, IsTooTall}
-use Rattle.cell_draw.specs.Shown.{ShowsRouting, ShowsRow}
+use Rattle.cell_draw.specs.Shown.{ShowsRow}
 use Rattle.gds_read.specs.Decoding.{Decodes}
-use Rattle.lef_write.specs.Drawn.{AreAllMetal, HasPort, IsSized}
+use Rattle.lef_write.specs.Drawn.{AreAllMetal, IsSized}
 use Rattle.call_gather.specs.Kinds.{Making, IsOfKind}
 use Rattle.call_end.specs.declared.status.Status.{Status}
 use Rattle.call_end.specs.declared.status.Status.TheVariants as status
 use Rattle.call_end.specs.Deliver.{Says}
 use Rattle.call_gather.specs.Gather.{gathered}
 use Rattle.cell_inputs.specs.Inputs.{Inputs}
-use Rattle.cell_inputs.specs.Style.{plain_style}
+use Rattle.cell_inputs.specs.declared.style.Style.{Style}
 use Rattle.cell_make.specs.Making.{AreLeastLines, IsRouted, abstract_of, drawing_in, library_of, ports_in}
-use Rattle.cell_report.specs.Cycles.{cycle_text}
+use Rattle.cell_report.specs.Cycles.{ring_text}
 use Rattle.make_run.specs.MakeReport.{drawn_text, tall_text}
 use Rattle.call_read.specs.Reading.{called}
 use Rattle.cell_report.specs.Rows.{plan_text}
 use Rattle.cell_report.specs.Logs.{unfinished_text}
 use Rattle.cell_make.specs.Searched.{IsCertified, IsUnfinished}
 use Rattle.cell_make.specs.Structures.{HasOneStructure}
+use Rattle.cell_make.specs.Style.{AreLegal, AreTight, HasNoRing, HasPinPort, IsRing, IsToldRing, ShowsWiring}
 use Rattle.call_words.specs.Words.{Form}
 use Rattle.call_work.specs.Ends.{is_among}
 
 abbrev pub IsMake : Option Form → Type 0
 IsMake form = IsOfKind Making form
 
--- so it is of the inputs of a drawing and of what the names of its files begin with, which are there and accepted
-abbrev pub FromInputs : Files → Option Form → (Inputs → List ℕ → Type 0) → Type 0
+-- so it is of the style and the inputs of a drawing, which are there and accepted, and of what the names of its files
+-- begin with
+abbrev pub FromInputs : Files → Option Form → (Style → Inputs → List ℕ → Type 0) → Type 0
 FromInputs files form Says =
-    (inputs : Inputs) × (out : List ℕ) × (called files (gathered form) ≡ Ok (Making, (inputs, out))) × Says inputs out
+    (inputs : Inputs) × (out : List ℕ) × (style : Style)
+    × (called files (gathered form) ≡ Ok (Making, (inputs, out, style))) × Says style inputs out
 
 -- so it is where `make` ends with this status
-abbrev pub WhereMakeEnds : Files → Option Form → Status → Status → (Inputs → List ℕ → Type 0) → Type 0
+abbrev pub WhereMakeEnds : Files → Option Form → Status → Status → (Style → Inputs → List ℕ → Type 0) → Type 0
 WhereMakeEnds files form answer settled Says = IsMake form → answer ≡ settled → FromInputs files form Says
 
 -- ---- files
@@ -72,7 +72,7 @@ pub record HasLog (out text : List ℕ) (old new : Files) : Type 0 where
 -- ---- a cell that was drawn
 
 -- `row` is the row of the cell, `log` its log, `routing` its channel, and `lines` has a position for each line.
-pub record IsMadeCell (inputs : Inputs) (out : List ℕ) (old new : View) : Type 0 where
+pub record IsMadeCell (style : Style) (inputs : Inputs) (out : List ℕ) (old new : View) : Type 0 where
   pub row : List Column
   pub log : Log
   pub routing : Routing
@@ -82,12 +82,12 @@ pub record IsMadeCell (inputs : Inputs) (out : List ℕ) (old new : View) : Type
   pub first_least : IsFirstLeast inputs.fingers row
   -- The checker accepts the log by the bound of its version, and the row that it lists is this one.
   pub certified : IsCertified inputs row log
-  -- No nets stand above each other in a ring.
-  pub acyclic : HasNoCycle (placement_of row) inputs.cell.pins
-  -- Each net that needs a trunk has one, trunks of one track are apart, and each stands on the least track that is
-  -- free for it.
-  pub legal : IsLegal (placement_of row) inputs.cell.pins routing
-  pub tight : IsTight (placement_of row) inputs.cell.pins routing
+  -- No nets stand above each other in a ring; with doglegs no pieces of nets do.
+  pub acyclic : HasNoRing style.wiring (placement_of row) inputs.cell.pins
+  -- Each net that needs a trunk has one, or with doglegs its pieces; trunks of different nets on one track are apart,
+  -- and each stands on the least track that is free for it.
+  pub legal : AreLegal style.wiring (placement_of row) inputs.cell.pins routing
+  pub tight : AreTight style.wiring (placement_of row) inputs.cell.pins routing
   -- The lines keep their distances, each of them as far left as any other such lines.
   pub least_lines : AreLeastLines (placement_of row) inputs.cell.pins routing lines
   -- The height of the technology, where it has one, is enough.
@@ -101,15 +101,16 @@ pub record IsMadeCell (inputs : Inputs) (out : List ℕ) (old new : View) : Type
   pub extracts : ExtractsTo Plain inputs.cell.nets inputs.fingers drawing.shapes
   -- They stand in the columns of the row, and neighbours without a gap abut in each row that both fill.
   pub shows_row : ShowsRow Plain inputs.cell.nets row drawing.shapes
-  -- The labels of trunks stand on the tracks of the routing.
+  -- The labels of trunks stand on the tracks of the routing; with doglegs those of nets where their first pieces begin.
   pub shows_routing :
-      ShowsRouting inputs.cell.nets inputs.cell.pins (placement_of row) drawing.shapes routing
+      ShowsWiring style.wiring inputs.cell.nets inputs.cell.pins (placement_of row) lines drawing.shapes routing
   -- The bytes are a library with one cell of that name and no other, and these are its shapes and labels.
   pub decodes : Decodes (library_of inputs drawing) inputs.cell.name inputs.tech.lambda_nm drawing.shapes
   pub alone : HasOneStructure (library_of inputs drawing)
-  -- Each pin has exactly one port: one of these shapes, on which the label of the pin's name stands.
+  -- Each pin has exactly one port: one of these shapes, on which the label of the pin's name stands. With doglegs it
+  -- may have more behind that one.
   pub ports : (n : ℕ) → n < inputs.cell.pins.pins
-      → HasPort inputs.cell.nets (ports_in inputs routing drawing) drawing n
+      → HasPinPort style.wiring inputs.cell.nets (ports_in inputs routing drawing) drawing n
   -- Ports and obstructions are all metal of these shapes, each shape once.
   pub obstructs : AreAllMetal (ports_in inputs routing drawing) drawing.shapes.rects
   -- The width and the height are the greatest x and the greatest y of metal1.
@@ -126,30 +127,30 @@ pub record IsMadeCell (inputs : Inputs) (out : List ℕ) (old new : View) : Type
 
 -- ---- why there is none
 
--- In the first least row nets stand above each other in a ring, which the report says. The log of that row is
--- written all the same.
-pub record IsCyclicCell (inputs : Inputs) (out : List ℕ) (old new : View) : Type 0 where
+-- In the first least row nets, or with doglegs pieces of nets, stand above each other in a ring, which the report says.
+-- The log of that row is written all the same.
+pub record IsCyclicCell (style : Style) (inputs : Inputs) (out : List ℕ) (old new : View) : Type 0 where
   pub row : List Column
   pub log : Log
-  pub cycle : List Above
+  pub ring : Ring
   pub first_least : IsFirstLeast inputs.fingers row
   pub certified : IsCertified inputs row log
-  pub is_cycle : IsCycle (placement_of row) inputs.cell.pins cycle
-  pub is_told : IsTold (placement_of row) inputs.cell.pins cycle
+  pub is_ring : IsRing style.wiring (placement_of row) inputs.cell.pins ring
+  pub is_told : IsToldRing style.wiring (placement_of row) inputs.cell.pins ring
   pub files : Both (HasLog out (log_text inputs.cell.name log)) old.made new.made
-  pub says : Both (Says (codes "status 5 cycle\n" ++ cycle_text inputs.cell.nets cycle)) old.said new.said
+  pub says : Both (Says (codes "status 5 cycle\n" ++ ring_text inputs.cell.nets ring)) old.said new.said
 
 -- The first least row, legally and tightly routed, needs more than the height of the technology, and the report
 -- says both heights.
-pub record IsTallCell (inputs : Inputs) (out : List ℕ) (old new : View) : Type 0 where
+pub record IsTallCell (style : Style) (inputs : Inputs) (out : List ℕ) (old new : View) : Type 0 where
   pub row : List Column
   pub log : Log
   pub routing : Routing
   pub first_least : IsFirstLeast inputs.fingers row
   pub certified : IsCertified inputs row log
-  pub acyclic : HasNoCycle (placement_of row) inputs.cell.pins
-  pub legal : IsLegal (placement_of row) inputs.cell.pins routing
-  pub tight : IsTight (placement_of row) inputs.cell.pins routing
+  pub acyclic : HasNoRing style.wiring (placement_of row) inputs.cell.pins
+  pub legal : AreLegal style.wiring (placement_of row) inputs.cell.pins routing
+  pub tight : AreTight style.wiring (placement_of row) inputs.cell.pins routing
   pub tall : IsTooTall row routing.tracks inputs.tech.height
   pub files : Both (HasLog out (log_text inputs.cell.name log)) old.made new.made
   pub says :
@@ -167,25 +168,25 @@ pub record IsSpentSearch (inputs : Inputs) (out : List ℕ) (old new : View) : T
 -- ---- how `make` has to end
 
 -- the budget is enough for the fingers, and so it is of their first least row
-abbrev pub OfFirstLeast : (Inputs → List Column → Type 0) → Inputs → List ℕ → Type 0
-OfFirstLeast Says inputs out =
+abbrev pub OfFirstLeast : (Style → Inputs → List Column → Type 0) → Style → Inputs → List ℕ → Type 0
+OfFirstLeast Says style inputs out =
     ForKinds inputs.fingers (λ k. enough k ≤ inputs.tech.budget)
-    × ((row : List Column) → IsFirstLeast inputs.fingers row → Says inputs row)
+    × ((row : List Column) → IsFirstLeast inputs.fingers row → Says style inputs row)
 
--- no nets of the row stand above each other in a ring, and its height is enough
-pub record CanBeDrawn (inputs : Inputs) (row : List Column) : Type 0 where
-  pub acyclic : HasNoCycle (placement_of row) inputs.cell.pins
-  pub fits : (routing : Routing) → IsRouted plain_style inputs row routing
+-- no nets of the row, or no pieces of nets, stand above each other in a ring, and its height is enough
+pub record CanBeDrawn (style : Style) (inputs : Inputs) (row : List Column) : Type 0 where
+  pub acyclic : HasNoRing style.wiring (placement_of row) inputs.cell.pins
+  pub fits : (routing : Routing) → IsRouted style inputs row routing
       → IsTooTall row routing.tracks inputs.tech.height → ⊥
 
 -- some do
-abbrev pub HasCycle : Inputs → List Column → Type 0
-HasCycle inputs row = (cycle : List Above) × IsCycle (placement_of row) inputs.cell.pins cycle
+abbrev pub HasCycle : Style → Inputs → List Column → Type 0
+HasCycle style inputs row = (ring : Ring) × IsRing style.wiring (placement_of row) inputs.cell.pins ring
 
 -- none do, but the row needs more than the height
-pub record IsTooHigh (inputs : Inputs) (row : List Column) : Type 0 where
-  pub acyclic : HasNoCycle (placement_of row) inputs.cell.pins
-  pub tall : (routing : Routing) → IsRouted plain_style inputs row routing
+pub record IsTooHigh (style : Style) (inputs : Inputs) (row : List Column) : Type 0 where
+  pub acyclic : HasNoRing style.wiring (placement_of row) inputs.cell.pins
+  pub tall : (routing : Routing) → IsRouted style inputs row routing
       → IsTooTall row routing.tracks inputs.tech.height
 
 -- with this status, or memory ran out

@@ -51,7 +51,8 @@ fn prepare<D: Desk>(alloc: Global, words: &[String], desk: &mut D) -> End
 ///
 /// `plan TECH SPICE CELL` finds the first least row of a cell: TECH is a technology file or `-` for the
 /// plain technology, SPICE a file, and CELL the name of one of its subcircuits. `make TECH SPICE CELL OUT`
-/// draws that row: it makes the log `OUT.clog`, the GDSII library `OUT.gds` and then the abstract `OUT.lef`.
+/// draws that row: it makes the log `OUT.clog`, the GDSII library `OUT.gds` and then the abstract `OUT.lef`. With
+/// `--dogleg` behind OUT, trunks may change their tracks at node lines of their nets.
 /// `check TECH SPICE CELL LOG` tells whether the file LOG is the text of a log that certifies a row of that cell.
 /// `extract TECH GDS CELL` tells the netlist of a cell of the GDSII file GDS, or the rules that it breaks.
 /// `bench NUMBER` makes so many generated cells in memory, 1 to 200, and tells what came out.
@@ -111,13 +112,13 @@ pub fn run<D: Desk>(alloc: Global, words: &[String], desk: &mut D) -> Status
     // What `make` leaves behind: the drawing of the first least row, certified; or a cycle of that row; or the
     // height that it needs; or the log of a search that spent its budget.
     ensures drawn { IfSome (D.view desk.old).given (λ files. WhereMakeEnds files (asked words.now) result status.Done
-        (λ inputs out. IsMadeCell inputs out (D.view desk.old) (D.view desk.new))) }
+        (λ style inputs out. IsMadeCell style inputs out (D.view desk.old) (D.view desk.new))) }
     ensures cyclic { IfSome (D.view desk.old).given (λ files. WhereMakeEnds files (asked words.now) result status.Cycle
-        (λ inputs out. IsCyclicCell inputs out (D.view desk.old) (D.view desk.new))) }
+        (λ style inputs out. IsCyclicCell style inputs out (D.view desk.old) (D.view desk.new))) }
     ensures tall { IfSome (D.view desk.old).given (λ files. WhereMakeEnds files (asked words.now) result status.TooTall
-        (λ inputs out. IsTallCell inputs out (D.view desk.old) (D.view desk.new))) }
+        (λ style inputs out. IsTallCell style inputs out (D.view desk.old) (D.view desk.new))) }
     ensures spent { IfSome (D.view desk.old).given (λ files. WhereMakeEnds files (asked words.now) result
-        status.Unfinished (λ inputs out. IsSpentSearch inputs out (D.view desk.old) (D.view desk.new))) }
+        status.Unfinished (λ style inputs out. IsSpentSearch inputs out (D.view desk.old) (D.view desk.new))) }
 
     // Where the budget is enough, it ends so exactly where the first least row calls for it, or memory ran out.
     ensures draws { IfCalm (D.view desk.old) (D.view desk.new) (λ files.

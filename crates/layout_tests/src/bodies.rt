@@ -43,11 +43,7 @@ fn tapped(
     Ok(extract_bodies(alloc, &drawing(alloc, table, labels)?))
 }
 
-fn has_bodies(
-    alloc: Global,
-    table: &[(Layer, Sides)],
-    want: &[Option<u32>],
-) -> Result<bool, Fail> {
+fn has_bodies(alloc: Global, table: &[(Layer, Sides)], want: &[Option<u32>]) -> Result<bool, Fail> {
     match tapped(alloc, table, &NAMES)? {
         Ok(netlist) => Ok(netlist.bodies.as_slice() == want),
         Err(_) => Ok(false),

@@ -11,15 +11,12 @@ use Rattle.cell_make.specs.declared.drawn.Drawn.{Drawn}
 use Rattle.cell_make.specs.declared.outcome.Outcome.{Outcome}
 use Rattle.cell_inputs.specs.declared.style.Style.{Style}
 use Rattle.cell_inputs.specs.Inputs.{Inputs, unit_nm}
-use Rattle.cell_inputs.specs.Style.{plain_style}
 use Rattle.cell_make.specs.Making.{ComesTo, Made, Cyclic, answer_of, drawing_in}
 use Rattle.call_end.specs.declared.end.End.{End}
 use Rattle.make_run.specs.Make.{IsCycleEnd, IsMadeEnd, IsMakeEnd, MakesTo}
 
-pub makes_to : (style : Style) (inputs : Inputs) (out : List ℕ) (came : Outcome) (r : Result End NoMemory) → style ≡ plain_style → ComesTo style inputs came → IfOk r (IsMakeEnd inputs out (answer_of came)) → IfOk r (MakesTo inputs out)
-makes_to style inputs out came r plain comes ends =
-    let makes : ComesTo plain_style inputs came = subst (λ (s : Style). ComesTo s inputs came) plain comes in
-    IfOk-weaker r (IsMakeEnd inputs out (answer_of came)) (MakesTo inputs out) (λ end e. (answer_of came, makes.0, e)) ends
+pub makes_to : (style : Style) (inputs : Inputs) (out : List ℕ) (came : Outcome) (r : Result End NoMemory) → ComesTo style inputs came → IfOk r (IsMakeEnd inputs out (answer_of came)) → IfOk r (MakesTo style inputs out)
+makes_to style inputs out came r comes ends = IfOk-weaker r (IsMakeEnd inputs out (answer_of came)) (MakesTo style inputs out) (λ end e. (answer_of came, comes.0, e)) ends
 
 -- ---- the ends
 

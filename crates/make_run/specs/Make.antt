@@ -10,8 +10,8 @@ use Rattle.cell_draw.specs.Frame.{needed_of}
 use Rattle.gds_write.specs.Written.{written}
 use Rattle.lef_write.specs.Lef.{cell_text}
 use Rattle.spice_net.specs.declared.subckt.Subckt.{Subckt}
+use Rattle.cell_inputs.specs.declared.style.Style.{Style}
 use Rattle.cell_inputs.specs.Inputs.{Inputs, unit_nm}
-use Rattle.cell_inputs.specs.Style.{plain_style}
 use Rattle.cell_make.specs.Making.{MakeAnswer, Made, Cyclic, Tall, Unfinished, Makes, drawing_in}
 use Rattle.call_end.specs.declared.end.End.{End}
 use Rattle.call_end.specs.declared.end.Output.{Output}
@@ -71,5 +71,6 @@ IsMakeEnd inputs out (Tall row log routing) =
     IsTallEnd inputs.cell out log (needed_of row routing.tracks) inputs.tech.height
 IsMakeEnd inputs out (Unfinished proved log) = IsUnfinishedEnd inputs.cell out proved log
 
-abbrev pub MakesTo : Inputs → List ℕ → End → Type 0
-MakesTo inputs out end = (answer : MakeAnswer) × Makes plain_style inputs answer × IsMakeEnd inputs out answer end
+-- in a style
+abbrev pub MakesTo : Style → Inputs → List ℕ → End → Type 0
+MakesTo style inputs out end = (answer : MakeAnswer) × Makes style inputs answer × IsMakeEnd inputs out answer end

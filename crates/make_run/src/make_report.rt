@@ -53,8 +53,8 @@ pub fn made_report(
     Ok(report)
 }
 
-/// The report of a ring.
-pub fn ring_report(alloc: Global, nets: &Names, ring: &Ring) -> Result<Bytes, NoMemory>
+/// The report of a ring of nets.
+pub fn cycle_report(alloc: Global, nets: &Names, ring: &Ring) -> Result<Bytes, NoMemory>
     ensures { IfOk result (λ report. report ≡ codes "status 5 cycle\n" ++ ring_text nets.now ring.now) }
 {
     let mut report = Bytes::new(alloc);

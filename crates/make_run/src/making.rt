@@ -1,15 +1,14 @@
 ghost use Rattle.std.specs.Prelude.{IfOk};
 ghost use Rattle.bound_log.specs.Fits.{Fits, ForSome, IsLogName};
-ghost use Rattle.cell_inputs.specs.Style.{plain_style};
 ghost use Rattle.cell_make.specs.Making.{CanBeWritten, ComesTo, answer_of};
 ghost use Rattle.make_run.specs.Make.{IsCycleEnd, IsMakeEnd, IsTallEnd, IsUnfinishedEnd, MakesTo};
 
 use crate::make_end::{with_drawing, with_log};
-use crate::make_report::{ring_report, spent_report, tall_report};
+use crate::make_report::{cycle_report, spent_report, tall_report};
 use crate::stem::Stem;
 use call_end::{End, Status};
-use cell_inputs::{Inputs, Style};
-use cell_make::Outcome;
+use cell_inputs::Style;
+use cell_make::{Inputs, Outcome};
 use cell_num::NoMemory;
 use channel_route::Ring;
 use log_output::KeptLog;
@@ -27,7 +26,7 @@ fn cyclic(
     requires fits { ForSome (λ k. Fits k log) }
     ensures { IfOk result (IsCycleEnd cell.now stem.now log ring.now) }
 {
-    let report = ring_report(alloc, &cell.nets, ring)?;
+    let report = cycle_report(alloc, &cell.nets, ring)?;
     with_log(alloc, cell, stem, log, Status::Cycle, report)
 }
 
@@ -64,8 +63,14 @@ fn unfinished(
 
 // Tells what making a cell came to.
 #[tactic(auto, using(cell_inputs::proofs::Names::log_name))]
-fn end_of(alloc: Global, inputs: &Inputs, stem: &Stem, outcome: Outcome) -> Result<End, NoMemory>
-    requires comes { ComesTo plain_style inputs.now outcome }
+fn end_of(
+    alloc: Global,
+    inputs: &Inputs,
+    stem: &Stem,
+    style: Style,
+    outcome: Outcome,
+) -> Result<End, NoMemory>
+    requires comes { ComesTo style inputs.now outcome }
     requires written { CanBeWritten inputs.now outcome }
     ensures { IfOk result (IsMakeEnd inputs.now stem.now (answer_of outcome)) }
 {
@@ -99,11 +104,11 @@ fn end_of(alloc: Global, inputs: &Inputs, stem: &Stem, outcome: Outcome) -> Resu
     }
 }
 
-/// The drawing of the first least row with its log; or the log, with a cycle of the row, with a height that
+/// The drawing of the first least row with its log; or the log, with a ring of its nets, with a height that
 /// is not enough, or of a search that spent its budget.
-pub fn make(alloc: Global, inputs: &Inputs, stem: &Stem) -> Result<End, NoMemory>
-    ensures { IfOk result (MakesTo inputs.now stem.now) }
+pub fn make(alloc: Global, inputs: &Inputs, stem: &Stem, style: Style) -> Result<End, NoMemory>
+    ensures { IfOk result (MakesTo style inputs.now stem.now) }
 {
-    let outcome = Outcome::of(alloc, inputs, Style::plain())?;
-    end_of(alloc, inputs, stem, outcome)
+    let outcome = Outcome::of(alloc, inputs, style)?;
+    end_of(alloc, inputs, stem, style, outcome)
 }

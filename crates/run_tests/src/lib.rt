@@ -10,6 +10,8 @@ mod damaged;
 #[cfg(test)]
 mod desks;
 #[cfg(test)]
+mod doglegs;
+#[cfg(test)]
 mod extract;
 #[cfg(test)]
 mod logs;

@@ -12,6 +12,7 @@ make TECH SPICE CELL OUT
 check TECH SPICE CELL LOG
 extract TECH GDS CELL
 bench NUMBER
+make TECH SPICE CELL OUT --dogleg
 ";
 
 const BENCH: &str = "status 0 ok

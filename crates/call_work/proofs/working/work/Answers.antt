@@ -5,7 +5,7 @@ pub returns-in-Planning : goal.returns-in-Planning
 returns-in-Planning c = rw c.in-Planning.is (plan_kept c.in-Planning.inputs c.plan.result c.plan.ensures)
 
 pub returns-in-Making : goal.returns-in-Making
-returns-in-Making c = rw c.in-Making.is (make_kept c.in-Making.inputs c.in-Making.stem c.make.result c.make.ensures)
+returns-in-Making c = rw c.in-Making.is (make_kept c.in-Making.inputs c.in-Making.stem c.in-Making.style c.make.result c.make.ensures)
 
 pub returns-in-Checking : goal.returns-in-Checking
 returns-in-Checking c = rw c.in-Checking.is (check_kept c.in-Checking.inputs c.in-Checking.log c.check.result c.check.ensures)

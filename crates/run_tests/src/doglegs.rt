@@ -1,0 +1,136 @@
+use crate::setup::{INVERTER, run_over};
+use cell_run::Status;
+use std::test::Fail;
+
+const DOG: &str = ".SUBCKT dog y x u s t a b vdd gnd
+M1 x a u vdd p W=3u L=0.6u
+M2 y a x gnd n W=1.5u L=0.6u
+M3 y b s vdd p W=3u L=0.6u
+M4 x b t gnd n W=1.5u L=0.6u
+.ENDS
+";
+
+const CROSS: &str = ".SUBCKT cross x y u v s t a b vdd gnd
+M1 x a u vdd p W=3u L=0.6u
+M2 y a v gnd n W=1.5u L=0.6u
+M3 y b s vdd p W=3u L=0.6u
+M4 x b t gnd n W=1.5u L=0.6u
+.ENDS
+";
+
+const OR: &str = ".SUBCKT or2 a b y vdd gnd
+MPA p1 a vdd vdd p W=6u L=0.6u
+MPB n b p1 vdd p W=6u L=0.6u
+MNA n a gnd gnd n W=1.5u L=0.6u
+MNB n b gnd gnd n W=1.5u L=0.6u
+MPY y n vdd vdd p W=3u L=0.6u
+MNY y n gnd gnd n W=1.5u L=0.6u
+.ENDS
+";
+
+// The end of the report, and the lengths of the drawing's and of the abstract's file.
+#[test]
+fn makes_a_cell_with_doglegs(rt: HostRuntime) -> Result<(), Fail> {
+    for (tech, spice, words, status, said, bytes, lef) in [
+        (
+            "",
+            DOG,
+            "make - c.sp dog out",
+            Status::Cycle,
+            "status 5 cycle\ny above x at line 4\nx above y at line 0\n",
+            0,
+            0,
+        ),
+        (
+            "",
+            DOG,
+            "make - c.sp dog out --dogleg",
+            Status::Done,
+            "tracks 4\nsize 85 166\nlemmas 1\n",
+            5064,
+            2067,
+        ),
+        (
+            "height = 166",
+            DOG,
+            "make t.toml c.sp dog out --dogleg",
+            Status::Done,
+            "tracks 4\nsize 85 166\nlemmas 1\n",
+            5064,
+            2067,
+        ),
+        (
+            "height = 165",
+            DOG,
+            "make t.toml c.sp dog out --dogleg",
+            Status::TooTall,
+            "status 11 tall\nneeded 166\ngiven 165\n",
+            0,
+            0,
+        ),
+        (
+            "",
+            CROSS,
+            "make - c.sp cross out --dogleg",
+            Status::Cycle,
+            "status 5 cycle\nx from line 0 above y from line 0 at line 0\ny from line 0 above x from line 0 at line 4\n",
+            0,
+            0,
+        ),
+        (
+            "",
+            INVERTER,
+            "make - c.sp inv out --dogleg",
+            Status::Done,
+            "column 0 gate a p y vdd 20 n y gnd 10\ntracks 1\nsize 41 118\nlemmas 0\n",
+            2122,
+            997,
+        ),
+        (
+            "",
+            OR,
+            "make - c.sp or2 out --dogleg",
+            Status::Done,
+            "tracks 2\nsize 85 154\nlemmas 6\n",
+            4028,
+            1392,
+        ),
+    ] {
+        let (got, desk) = run_over(rt.alloc(), words, [tech, spice, ""], &[])?;
+        assert!(rt; desk.all_said().ends_with(said.as_bytes()), "{said}");
+        assert_eq!(rt; got, status, "{said}");
+        assert!(rt; desk.file("out.clog").is_some(), "{said}");
+        assert_eq!(rt;
+            desk.file("out.gds").map_or(0, |file| file.len()),
+            bytes,
+            "{said}"
+        );
+        assert_eq!(rt;
+            desk.file("out.lef").map_or(0, |file| file.len()),
+            lef,
+            "{said}"
+        );
+    }
+    Ok(())
+}
+
+// The word asks for doglegs behind OUT alone, and in its place it is OUT.
+#[test]
+fn takes_the_word_behind_out(rt: HostRuntime) -> Result<(), Fail> {
+    let alloc = rt.alloc();
+    for words in [
+        "make - c.sp inv o --Dogleg",
+        "make - c.sp inv o --dogle",
+        "make - c.sp inv o --dogleg --dogleg",
+        "make --dogleg - c.sp inv o",
+        "plan - c.sp inv --dogleg",
+    ] {
+        let (got, desk) = run_over(alloc, words, ["", INVERTER, ""], &[])?;
+        assert_eq!(rt; got, Status::Usage, "{words}");
+        assert!(rt; desk.file("o.clog").is_none(), "{words}");
+    }
+    let (got, desk) = run_over(alloc, "make - c.sp inv --dogleg", ["", INVERTER, ""], &[])?;
+    assert_eq!(rt; got, Status::Done);
+    assert!(rt; desk.file("--dogleg.gds").is_some());
+    Ok(())
+}
