@@ -93,7 +93,7 @@ fn makes_a_cell_with_doglegs(rt: HostRuntime) -> Result<(), Fail> {
             Status::Done,
             "tracks 2\nsize 85 154\nlemmas 6\n",
             4028,
-            1392,
+            1391,
         ),
     ] {
         let (got, desk) = run_over(rt.alloc(), words, [tech, spice, ""], &[])?;
