@@ -11,7 +11,7 @@ use Rattle.box_geom.specs.declared.shape.Label.{Label}
 use Rattle.box_geom.specs.declared.shape.Shape.{Shape}
 use Rattle.scmos_rules.specs.declared.rules.Deck.{Deck}
 use Rattle.net_extract.specs.declared.naming.Held.{Held}
-use Rattle.net_extract.specs.Labels.{is_wiring, wiring_labels, IsHeld, AreHeld}
+use Rattle.net_extract.specs.Labels.{is_conductor, conductor_labels, IsHeld, AreHeld}
 use Rattle.net_extract.specs.Naming.{first_other, other_than, stands_elsewhere, IsShort, IsSplit}
 use Rattle.net_extract.specs.Nets.{Site}
 use Rattle.net_extract.proofs.Finding.{found, any_of}
@@ -102,8 +102,8 @@ of_filter {X} p (y ∷ ys) x c = by (p y) c (of_filter p ys x)
     ]
     by false d rest = contains_there y ys x (rest d)
 
-pub wiring_label : (labels : List Label) (l : Label) → Contains (wiring_labels labels) l → Contains labels l
-wiring_label labels l c = of_filter (λ (z : Label). is_wiring z.layer) labels l c
+pub conductor_label : (labels : List Label) (l : Label) → Contains (conductor_labels labels) l → Contains labels l
+conductor_label labels l c = of_filter (λ (z : Label). is_conductor z.layer) labels l c
 
 -- the one that stands opposite
 opposite : {X Y : Type 0} (R : X → Y → Type 0) (xs : List X) (ys : List Y) (y : Y) → AllZip R xs ys → Contains ys y → (x : X) × Contains xs x × R x y
@@ -127,5 +127,5 @@ facing R (w ∷ ws) (y ∷ ys) x z c =
 -- a held label is one of the drawing's
 pub label_held : (deck : Deck) (s : List Shape) (firsts : List Site) (labels : List Label) (held : List Held) (h : Held) → AreHeld deck s firsts labels held → Contains held h → (l : Label) × Contains labels l × IsHeld deck s firsts l h
 label_held deck s firsts labels held h all c =
-    let (l, listed, is) = opposite (IsHeld deck s firsts) (wiring_labels labels) held h all c in
-    (l, wiring_label labels l listed, is)
+    let (l, listed, is) = opposite (IsHeld deck s firsts) (conductor_labels labels) held h all c in
+    (l, conductor_label labels l listed, is)

@@ -4,37 +4,39 @@ use Rattle.box_geom.specs.Touching.{Cell}
 use Rattle.box_geom.specs.declared.layer.Layer.{Layer}
 use Rattle.box_geom.specs.declared.shape.Shape.{Shape}
 use Rattle.box_geom.specs.declared.shape.Label.{Label}
-use Rattle.net_extract.specs.Nets.{Kind, p_diffusion, n_diffusion, poly, metal1, metal2, Are, layer_of, Site}
+use Rattle.net_extract.specs.Nets.{Are, layer_of, Site}
+use Rattle.net_extract.specs.declared.piece.Conductor.{Conductor}
+use Rattle.net_extract.specs.declared.piece.Conductor.TheVariants.{PDiffusion, NDiffusion, Poly, Metal1, Metal2}
 use Rattle.net_extract.specs.Labels.{IsConductorAt, IsFirstConductor, cells_round, Belongs}
 use Rattle.net_extract.proofs.Ranking.{site_same}
 
 -- in one cell a layer has one kind of conductor
-one_kind : (s : List Shape) (j k : Kind) (x y : ℤ) → layer_of j ≡ layer_of k → Are s j x y → Are s k x y → j ≡ k
-one_kind s p_diffusion p_diffusion x y e c d = refl
-one_kind s p_diffusion n_diffusion x y e c d = absurd (d.1 c.1)
-one_kind s p_diffusion poly x y e c d = absurd cc
-one_kind s p_diffusion metal1 x y e c d = absurd cc
-one_kind s p_diffusion metal2 x y e c d = absurd cc
-one_kind s n_diffusion p_diffusion x y e c d = absurd (c.1 d.1)
-one_kind s n_diffusion n_diffusion x y e c d = refl
-one_kind s n_diffusion poly x y e c d = absurd cc
-one_kind s n_diffusion metal1 x y e c d = absurd cc
-one_kind s n_diffusion metal2 x y e c d = absurd cc
-one_kind s poly p_diffusion x y e c d = absurd cc
-one_kind s poly n_diffusion x y e c d = absurd cc
-one_kind s poly poly x y e c d = refl
-one_kind s poly metal1 x y e c d = absurd cc
-one_kind s poly metal2 x y e c d = absurd cc
-one_kind s metal1 p_diffusion x y e c d = absurd cc
-one_kind s metal1 n_diffusion x y e c d = absurd cc
-one_kind s metal1 poly x y e c d = absurd cc
-one_kind s metal1 metal1 x y e c d = refl
-one_kind s metal1 metal2 x y e c d = absurd cc
-one_kind s metal2 p_diffusion x y e c d = absurd cc
-one_kind s metal2 n_diffusion x y e c d = absurd cc
-one_kind s metal2 poly x y e c d = absurd cc
-one_kind s metal2 metal1 x y e c d = absurd cc
-one_kind s metal2 metal2 x y e c d = refl
+one_kind : (s : List Shape) (j k : Conductor) (x y : ℤ) → layer_of j ≡ layer_of k → Are s j x y → Are s k x y → j ≡ k
+one_kind s PDiffusion PDiffusion x y e c d = refl
+one_kind s PDiffusion NDiffusion x y e c d = absurd (d.1 c.1)
+one_kind s PDiffusion Poly x y e c d = absurd cc
+one_kind s PDiffusion Metal1 x y e c d = absurd cc
+one_kind s PDiffusion Metal2 x y e c d = absurd cc
+one_kind s NDiffusion PDiffusion x y e c d = absurd (c.1 d.1)
+one_kind s NDiffusion NDiffusion x y e c d = refl
+one_kind s NDiffusion Poly x y e c d = absurd cc
+one_kind s NDiffusion Metal1 x y e c d = absurd cc
+one_kind s NDiffusion Metal2 x y e c d = absurd cc
+one_kind s Poly PDiffusion x y e c d = absurd cc
+one_kind s Poly NDiffusion x y e c d = absurd cc
+one_kind s Poly Poly x y e c d = refl
+one_kind s Poly Metal1 x y e c d = absurd cc
+one_kind s Poly Metal2 x y e c d = absurd cc
+one_kind s Metal1 PDiffusion x y e c d = absurd cc
+one_kind s Metal1 NDiffusion x y e c d = absurd cc
+one_kind s Metal1 Poly x y e c d = absurd cc
+one_kind s Metal1 Metal1 x y e c d = refl
+one_kind s Metal1 Metal2 x y e c d = absurd cc
+one_kind s Metal2 PDiffusion x y e c d = absurd cc
+one_kind s Metal2 NDiffusion x y e c d = absurd cc
+one_kind s Metal2 Poly x y e c d = absurd cc
+one_kind s Metal2 Metal1 x y e c d = absurd cc
+one_kind s Metal2 Metal2 x y e c d = refl
 
 pub one_conductor : (s : List Shape) (layer : Layer) (c : Cell) (a b : Site) → IsConductorAt s layer c a → IsConductorAt s layer c b → a ≡ b
 one_conductor s layer c a b p q =

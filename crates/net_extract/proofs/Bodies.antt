@@ -20,8 +20,8 @@ use Rattle.net_extract.specs.Devices.{InRow}
 use Rattle.net_extract.specs.Extraction.{IsDrawn}
 use Rattle.net_extract.specs.GateNets.{AreWellNets, box_of, boxes_below}
 use Rattle.net_extract.specs.Lookups.{net_in}
-use Rattle.net_extract.specs.Nets.{p_diffusion, n_diffusion, Site, site_at}
-use Rattle.net_extract.specs.Pieces.{kind_of, rect_of}
+use Rattle.net_extract.specs.Nets.{Site, site_at}
+use Rattle.net_extract.specs.Pieces.{rect_of}
 use Rattle.net_extract.specs.Ties.{well_tie, tie_of, tap_of, taps_in, or_substrate, body_in, bodies_in}
 use Rattle.net_extract.specs.declared.body.Tap.{Tap}
 use Rattle.net_extract.specs.declared.connections.Wire.{Wire}
@@ -90,9 +90,9 @@ tap_in s wires firsts wells heads g P box on w c (of_well e a m h q) =
     let here : SameClass (On Well s) box.x1 box.y1 w.piece.left w.piece.low = one_class s wells heads g.ground.classes box.x1 box.y1 w.piece.left w.piece.low b.class m b.is h same in
     let there : SameClass (On Well s) w.piece.left w.piece.low a.x a.y = corner_class s (pieces_of wires) g.ground.drawn w.piece listed e a.x a.y a.holds in
     record {
-      tap = site_at p_diffusion a.x a.y;
+      tap = site_at PDiffusion a.x a.y;
       is = record { kind = refl; conducts = of_kind s (pieces_of wires) g.ground.drawn PDiffusion w.piece listed e a.x a.y a.holds; select = a.on; below = joined (Linked (On Well s)) (cell box.x1 box.y1) (cell w.piece.left w.piece.low) (cell a.x a.y) here there };
-      net = wire_net Taps s wires firsts g.nets w c (site_at p_diffusion a.x a.y) (record { kind = ap kind_of e; holds = a.holds });
+      net = wire_net Taps s wires firsts g.nets w c (site_at PDiffusion a.x a.y) (record { kind = e; holds = a.holds });
     }
 tap_in s wires firsts wells heads g P box on w c (of_substrate e a q) =
     let b : InWell wells box.x1 box.y1 = in_well s wells heads g.ground.classes box.x1 box.y1 on in
@@ -101,9 +101,9 @@ tap_in s wires firsts wells heads g P box on w c (of_substrate e a q) =
 tap_in s wires firsts wells heads g N box out w c (of_substrate e a q) =
     let listed = wire_listed wires w c in
     record {
-      tap = site_at n_diffusion a.x a.y;
+      tap = site_at NDiffusion a.x a.y;
       is = record { kind = refl; conducts = of_kind s (pieces_of wires) g.ground.drawn NDiffusion w.piece listed e a.x a.y a.holds; select = a.on; below = tt };
-      net = wire_net Taps s wires firsts g.nets w c (site_at n_diffusion a.x a.y) (record { kind = ap kind_of e; holds = a.holds });
+      net = wire_net Taps s wires firsts g.nets w c (site_at NDiffusion a.x a.y) (record { kind = e; holds = a.holds });
     }
 tap_in s wires firsts wells heads g N box out w c (of_well e a m h q) = let u = n_under s wells heads g.ground.classes box out in absurd (omega (arith, u, q))
 
@@ -149,10 +149,9 @@ bodies_are s wires firsts wells heads g [] (d ∷ ds) z = absurd z
 bodies_are s wires firsts wells heads g (b ∷ bs) [] z = absurd z
 bodies_are s wires firsts wells heads g (b ∷ bs) (d ∷ ds) z = (body_is s wires firsts wells heads g d.row b (z.0.is.of_row b.x1 b.y1 (corner_held b z.0.is.class.proper)), bodies_are s wires firsts wells heads g bs ds z.1)
 
-pub bodies_from : (s rs : List Shape) (wires ws : List Wire) (firsts : List Piece) (wells us vs : List Wire) (heads : List Piece) (taps ts : List Tap) (boxes : List Rectangle) (devices : List Drawn) (bs : List (Option ℕ)) → rs ≡ s → ws ≡ wires → us ≡ wells → vs ≡ wells → taps ≡ taps_in rs us ws → ts ≡ taps → bs ≡ bodies_in ts vs boxes → All (λ (z : Shape). IsProper z.rect) s → AreWires Taps s wires firsts → AreWellNets rs wells heads → AllZip (IsDrawn Taps s (firsts_of firsts)) boxes devices → AreBodies s (firsts_of firsts) boxes devices bs
+pub bodies_from : (s rs : List Shape) (wires ws : List Wire) (firsts : List Piece) (wells us vs : List Wire) (heads : List Piece) (taps ts : List Tap) (boxes : List Rectangle) (devices : List Drawn) (bs : List (Option ℕ)) → rs ≡ s → ws ≡ wires → us ≡ wells → vs ≡ wells → taps ≡ taps_in rs us ws → ts ≡ taps → bs ≡ bodies_in ts vs boxes → All (λ (z : Shape). IsProper z.rect) s → AreWires Taps s wires firsts → AreWellNets s wells heads → AllZip (IsDrawn Taps s (firsts_of firsts)) boxes devices → AreBodies s (firsts_of firsts) boxes devices bs
 bodies_from s rs wires ws firsts wells us vs heads taps ts boxes devices bs er ew eu ev made es e proper m nets drawn =
-    let z : AreWellNets s wells heads = subst (λ q. AreWellNets q wells heads) er nets in
-    let whole : AreBodies s (firsts_of firsts) boxes devices (bodies_in (taps_in s wells wires) wells boxes) = bodies_are s wires firsts wells heads (record { nets = m; ground = record { proper = proper; drawn = m.drawn; classes = z } }) boxes devices drawn in
+    let whole : AreBodies s (firsts_of firsts) boxes devices (bodies_in (taps_in s wells wires) wells boxes) = bodies_are s wires firsts wells heads (record { nets = m; ground = record { proper = proper; drawn = m.drawn; classes = nets } }) boxes devices drawn in
     let et : ts ≡ taps_in s wells wires = es ∙ made ∙ ap (λ q. taps_in q us ws) er ∙ ap (λ q. taps_in s q ws) eu ∙ ap (λ q. taps_in s wells q) ew in
     let eb : bs ≡ bodies_in (taps_in s wells wires) wells boxes = e ∙ ap (λ q. bodies_in q vs boxes) et ∙ ap (λ q. bodies_in (taps_in s wells wires) q boxes) ev in
     subst (AreBodies s (firsts_of firsts) boxes devices) (sym eb) whole

@@ -14,12 +14,12 @@ use Rattle.box_geom.specs.declared.layer.Layer.{Layer}
 use Rattle.box_geom.specs.declared.layer.Layer.TheVariants.{Well, Active, Poly as PolyLayer, Metal1 as Metal1Layer, Metal2 as Metal2Layer}
 use Rattle.box_geom.proofs.Spans.{int_lt_decides}
 use Rattle.scmos_rules.specs.Layout.{On, Gate}
-use Rattle.net_extract.specs.Nets.{Kind, p_diffusion, n_diffusion, poly, metal1, metal2, Are}
-use Rattle.net_extract.specs.Parts.{AreDrawn}
-use Rattle.net_extract.specs.Pieces.{kind_of, rect_of, rects_in}
+use Rattle.net_extract.specs.Nets.{Are}
+use Rattle.net_extract.specs.Bonds.{AreDrawn}
+use Rattle.net_extract.specs.Pieces.{rect_of, rects_in, piece_of}
 use Rattle.net_extract.specs.GateNets.{ArePolyOf}
 use Rattle.net_extract.specs.Meetings.{sharing_cell}
-use Rattle.net_extract.specs.Cuts.{is_some_piece, kept, left_part, right_part, low_part, high_part, around, carved, carved_once, left_of_piece, shapes_on, cut_all, common_part, shared_part, shared_once, shared_all, piece_of, drawn_once, drawn_all, p_diffusion_in, n_diffusion_in, pieces_in, gates_in, poly_of}
+use Rattle.net_extract.specs.Cuts.{is_some_piece, kept, left_part, right_part, low_part, high_part, around, carved, carved_once, left_of_piece, shapes_on, cut_all, common_part, shared_part, shared_once, shared_all, drawn_once, drawn_all, p_diffusion_in, n_diffusion_in, pieces_in, gates_in, poly_of}
 use Rattle.net_extract.specs.declared.piece.Conductor.{Conductor}
 use Rattle.net_extract.specs.declared.piece.Conductor.TheVariants.{PDiffusion, NDiffusion, Poly, Metal1, Metal2}
 use Rattle.net_extract.specs.declared.piece.Piece.{Piece}
@@ -257,10 +257,10 @@ drawn_are k layer ss proper = record {
 -- ---- two lists of pieces together
 pub record Split (s : List Shape) (ps : List Piece) : Type 0 where
   pub proper : (p : Piece) → Contains ps p → IsProper (rect_of p)
-  pub sound : (p : Piece) → Contains ps p → (x y : ℤ) → Holds (rect_of p) x y → Are s (kind_of p.kind) x y
+  pub sound : (p : Piece) → Contains ps p → (x y : ℤ) → Holds (rect_of p) x y → Are s p.kind x y
 
-split_of : (s : List Shape) (k : Conductor) (ps : List Piece) → ArePieces k (Are s (kind_of k)) ps → Split s ps
-split_of s k ps a = record { proper = a.proper; sound = λ p c x y h. subst (λ j. Are s (kind_of j) x y) (sym (a.kinds p c)) (a.sound x y (record { piece = p; listed = c; holds = h })) }
+split_of : (s : List Shape) (k : Conductor) (ps : List Piece) → ArePieces k (Are s k) ps → Split s ps
+split_of s k ps a = record { proper = a.proper; sound = λ p c x y h. subst (λ j. Are s j x y) (sym (a.kinds p c)) (a.sound x y (record { piece = p; listed = c; holds = h })) }
 
 split_both : (s : List Shape) (ps qs : List Piece) → Split s ps → Split s qs → Split s (ps ++ qs)
 split_both s ps qs a b = record {
@@ -268,24 +268,24 @@ split_both s ps qs a b = record {
   sound = λ p c x y h. elim (Contains-append_cases ps qs p c) [ inl l ↦ a.sound p l x y h | inr r ↦ b.sound p r x y h ];
 }
 
-has_left : (ps qs : List Piece) (k : Conductor) (x y : ℤ) → Covers (rects_in ps (kind_of k)) x y → Covers (rects_in (ps ++ qs) (kind_of k)) x y
-has_left ps qs k x y c = let l = listed_of ps (kind_of k) c.rect c.listed in record { rect = c.rect; listed = subst (Contains (rects_in (ps ++ qs) (kind_of k))) l.rect (of_listed (ps ++ qs) l.piece (kind_of k) (Contains-append_left ps qs l.piece l.listed) l.kind); holds = c.holds }
+has_left : (ps qs : List Piece) (k : Conductor) (x y : ℤ) → Covers (rects_in ps k) x y → Covers (rects_in (ps ++ qs) k) x y
+has_left ps qs k x y c = let l = listed_of ps k c.rect c.listed in record { rect = c.rect; listed = subst (Contains (rects_in (ps ++ qs) k)) l.rect (of_listed (ps ++ qs) l.piece k (Contains-append_left ps qs l.piece l.listed) l.kind); holds = c.holds }
 
-in_kind : (k : Conductor) (P : ℤ → ℤ → Type 0) (qs : List Piece) → ArePieces k P qs → (x y : ℤ) → P x y → (ps : List Piece) → Covers (rects_in (ps ++ qs) (kind_of k)) x y
-in_kind k P qs a x y p ps = let h = a.all x y p in record { rect = rect_of h.piece; listed = of_listed (ps ++ qs) h.piece (kind_of k) (Contains-append_right ps qs h.piece h.listed) (ap kind_of (a.kinds h.piece h.listed)); holds = h.holds }
+in_kind : (k : Conductor) (P : ℤ → ℤ → Type 0) (qs : List Piece) → ArePieces k P qs → (x y : ℤ) → P x y → (ps : List Piece) → Covers (rects_in (ps ++ qs) k) x y
+in_kind k P qs a x y p ps = let h = a.all x y p in record { rect = rect_of h.piece; listed = of_listed (ps ++ qs) h.piece k (Contains-append_right ps qs h.piece h.listed) ((a.kinds h.piece h.listed)); holds = h.holds }
 
-first_kind : (k : Conductor) (P : ℤ → ℤ → Type 0) (qs : List Piece) → ArePieces k P qs → (x y : ℤ) → P x y → Covers (rects_in qs (kind_of k)) x y
-first_kind k P qs a x y p = let h = a.all x y p in record { rect = rect_of h.piece; listed = of_listed qs h.piece (kind_of k) h.listed (ap kind_of (a.kinds h.piece h.listed)); holds = h.holds }
+first_kind : (k : Conductor) (P : ℤ → ℤ → Type 0) (qs : List Piece) → ArePieces k P qs → (x y : ℤ) → P x y → Covers (rects_in qs k) x y
+first_kind k P qs a x y p = let h = a.all x y p in record { rect = rect_of h.piece; listed = of_listed qs h.piece k h.listed ((a.kinds h.piece h.listed)); holds = h.holds }
 
-p_are : (s : List Shape) → All (λ (z : Shape). IsProper z.rect) s → ArePieces PDiffusion (Are s p_diffusion) (p_diffusion_in s)
+p_are : (s : List Shape) → All (λ (z : Shape). IsProper z.rect) s → ArePieces PDiffusion (Are s PDiffusion) (p_diffusion_in s)
 p_are s proper =
-    pieces_like PDiffusion (λ x y. (On Active s x y × On Well s x y) × (On PolyLayer s x y → ⊥)) (Are s p_diffusion) (p_diffusion_in s)
+    pieces_like PDiffusion (λ x y. (On Active s x y × On Well s x y) × (On PolyLayer s x y → ⊥)) (Are s PDiffusion) (p_diffusion_in s)
     (λ x y q. ((q.0.0, q.1), q.0.1)) (λ x y q. ((q.0.0, q.1), q.0.1))
     (cut_are PDiffusion (λ x y. On Active s x y × On Well s x y) PolyLayer (shared_all Well (drawn_all PDiffusion Active s) s) s (shared_are PDiffusion (On Active s) Well (drawn_all PDiffusion Active s) s (drawn_are PDiffusion Active s proper)))
 
-n_are : (s : List Shape) → All (λ (z : Shape). IsProper z.rect) s → ArePieces NDiffusion (Are s n_diffusion) (n_diffusion_in s)
+n_are : (s : List Shape) → All (λ (z : Shape). IsProper z.rect) s → ArePieces NDiffusion (Are s NDiffusion) (n_diffusion_in s)
 n_are s proper =
-    pieces_like NDiffusion (λ x y. (On Active s x y × (On Well s x y → ⊥)) × (On PolyLayer s x y → ⊥)) (Are s n_diffusion) (n_diffusion_in s)
+    pieces_like NDiffusion (λ x y. (On Active s x y × (On Well s x y → ⊥)) × (On PolyLayer s x y → ⊥)) (Are s NDiffusion) (n_diffusion_in s)
     (λ x y q. ((q.0.0, q.1), q.0.1)) (λ x y q. ((q.0.0, q.1), q.0.1))
     (cut_are NDiffusion (λ x y. On Active s x y × (On Well s x y → ⊥)) PolyLayer (cut_all Well (drawn_all NDiffusion Active s) s) s (cut_are NDiffusion (On Active s) Well (drawn_all NDiffusion Active s) s (drawn_are NDiffusion Active s proper)))
 
@@ -307,10 +307,10 @@ pieces_drawn s proper = record { covered = covered; conducts = conducts; proper 
     ts : List Piece
     ts = drawn_all Metal2 Metal2Layer s
 
-    pa : ArePieces PDiffusion (Are s p_diffusion) (p_diffusion_in s)
+    pa : ArePieces PDiffusion (Are s PDiffusion) (p_diffusion_in s)
     pa = p_are s proper
 
-    na : ArePieces NDiffusion (Are s n_diffusion) (n_diffusion_in s)
+    na : ArePieces NDiffusion (Are s NDiffusion) (n_diffusion_in s)
     na = n_are s proper
 
     oa : ArePieces Poly (On PolyLayer s) (drawn_all Poly PolyLayer s)
@@ -325,14 +325,14 @@ pieces_drawn s proper = record { covered = covered; conducts = conducts; proper 
     whole : Split s (pieces_in s)
     whole = split_both s (((ps ++ ns) ++ os) ++ ms) ts (split_both s ((ps ++ ns) ++ os) ms (split_both s (ps ++ ns) os (split_both s ps ns (split_of s PDiffusion ps pa) (split_of s NDiffusion ns na)) (split_of s Poly os oa)) (split_of s Metal1 ms ma)) (split_of s Metal2 ts ta)
 
-    covered : (k : Kind) (x y : ℤ) → Are s k x y → Covers (rects_in (pieces_in s) k) x y
-    covered p_diffusion x y a = has_left (((ps ++ ns) ++ os) ++ ms) ts PDiffusion x y (has_left ((ps ++ ns) ++ os) ms PDiffusion x y (has_left (ps ++ ns) os PDiffusion x y (has_left ps ns PDiffusion x y (first_kind PDiffusion (Are s p_diffusion) ps pa x y a))))
-    covered n_diffusion x y a = has_left (((ps ++ ns) ++ os) ++ ms) ts NDiffusion x y (has_left ((ps ++ ns) ++ os) ms NDiffusion x y (has_left (ps ++ ns) os NDiffusion x y (in_kind NDiffusion (Are s n_diffusion) ns na x y a ps)))
-    covered poly x y a = has_left (((ps ++ ns) ++ os) ++ ms) ts Poly x y (has_left ((ps ++ ns) ++ os) ms Poly x y (in_kind Poly (On PolyLayer s) os oa x y a (ps ++ ns)))
-    covered metal1 x y a = has_left (((ps ++ ns) ++ os) ++ ms) ts Metal1 x y (in_kind Metal1 (On Metal1Layer s) ms ma x y a ((ps ++ ns) ++ os))
-    covered metal2 x y a = in_kind Metal2 (On Metal2Layer s) ts ta x y a (((ps ++ ns) ++ os) ++ ms)
+    covered : (k : Conductor) (x y : ℤ) → Are s k x y → Covers (rects_in (pieces_in s) k) x y
+    covered PDiffusion x y a = has_left (((ps ++ ns) ++ os) ++ ms) ts PDiffusion x y (has_left ((ps ++ ns) ++ os) ms PDiffusion x y (has_left (ps ++ ns) os PDiffusion x y (has_left ps ns PDiffusion x y (first_kind PDiffusion (Are s PDiffusion) ps pa x y a))))
+    covered NDiffusion x y a = has_left (((ps ++ ns) ++ os) ++ ms) ts NDiffusion x y (has_left ((ps ++ ns) ++ os) ms NDiffusion x y (has_left (ps ++ ns) os NDiffusion x y (in_kind NDiffusion (Are s NDiffusion) ns na x y a ps)))
+    covered Poly x y a = has_left (((ps ++ ns) ++ os) ++ ms) ts Poly x y (has_left ((ps ++ ns) ++ os) ms Poly x y (in_kind Poly (On PolyLayer s) os oa x y a (ps ++ ns)))
+    covered Metal1 x y a = has_left (((ps ++ ns) ++ os) ++ ms) ts Metal1 x y (in_kind Metal1 (On Metal1Layer s) ms ma x y a ((ps ++ ns) ++ os))
+    covered Metal2 x y a = in_kind Metal2 (On Metal2Layer s) ts ta x y a (((ps ++ ns) ++ os) ++ ms)
 
-    conducts : (k : Kind) (x y : ℤ) → Covers (rects_in (pieces_in s) k) x y → Are s k x y
+    conducts : (k : Conductor) (x y : ℤ) → Covers (rects_in (pieces_in s) k) x y → Are s k x y
     conducts k x y c = let l = listed_of (pieces_in s) k c.rect c.listed in subst (λ j. Are s j x y) l.kind (whole.sound l.piece l.listed x y (subst (λ r. Holds r x y) (sym l.rect) c.holds))
 
 -- ---- gates

@@ -36,46 +36,48 @@ ends a b = elim (cases_order a b) [
   | inr r ↦ elim r [ inl l ↦ inr (omega (arith, l), omega (arith, l)) | inr g ↦ inl (omega (arith, g), omega (arith, g)) ]
 ]
 
-pub apart_is : (n : ℕ) (R : ℕ → ℕ → Type 0) (i j : ℕ) (ls : List ℕ) → AreSound n R ls → (R i j → ⊥) → IsTried n R i j ls ls
-apart_is n R i j ls is apart = record { sound = is; keeps = keeps_self ls; joined = λ r. absurd (apart r) }
+pub apart_is : (n : ℕ) (R Q : ℕ → ℕ → Type 0) (i j : ℕ) (ls : List ℕ) → AreSound n R ls → (Q i j → ⊥) → IsTried n R Q i j ls ls
+apart_is n R Q i j ls is apart = record { sound = is; keeps = keeps_self ls; joined = λ r. absurd (apart r) }
 
-pub none_tried : (n : ℕ) (R : ℕ → ℕ → Type 0) (i : ℕ) (ls : List ℕ) → AreSound n R ls → AreTried n R i (i + 1) ls ls
-none_tried n R i ls is = record { sound = is; keeps = keeps_self ls; joined = λ j l m r. absurd (omega (arith, l, m)) }
+pub none_tried : (n : ℕ) (R Q : ℕ → ℕ → Type 0) (i : ℕ) (ls : List ℕ) → AreSound n R ls → AreTried n R Q i (i + 1) ls ls
+none_tried n R Q i ls is = record { sound = is; keeps = keeps_self ls; joined = λ j l m r. absurd (omega (arith, l, m)) }
 
-pub more_tried : (n : ℕ) (R : ℕ → ℕ → Type 0) (i k : ℕ) (old mid new : List ℕ) → AreTried n R i k old mid → IsTried n R i k mid new → AreTried n R i (k + 1) old new
-more_tried n R i k old mid new was is = record {
+pub more_tried : (n : ℕ) (R Q : ℕ → ℕ → Type 0) (i k : ℕ) (old mid new : List ℕ) → AreTried n R Q i k old mid → IsTried n R Q i k mid new → AreTried n R Q i (k + 1) old new
+more_tried n R Q i k old mid new was is = record {
   sound = is.sound;
   keeps = keeps_both old mid new was.keeps is.keeps;
   joined = λ j l m r. elim (cases_eq j k) [
-    | inl e ↦ subst (λ z. InTree new i z) (sym e) (is.joined (subst (R i) e r))
+    | inl e ↦ subst (λ z. InTree new i z) (sym e) (is.joined (subst (Q i) e r))
     | inr ne ↦ is.keeps.kept i j (was.joined j l (omega (arith, m, ne)) r)
   ];
 }
 
 -- the numbers from k on are unrelated
-pub cut_short : (n : ℕ) (R : ℕ → ℕ → Type 0) (i k : ℕ) (old new : List ℕ) → ((j : ℕ) → k ≤ j → j < n → R i j → ⊥) → AreTried n R i k old new → AreTried n R i n old new
-cut_short n R i k old new apart was = record {
+pub cut_short : (n : ℕ) (R Q : ℕ → ℕ → Type 0) (i k : ℕ) (old new : List ℕ) → ((j : ℕ) → k ≤ j → j < n → Q i j → ⊥) → AreTried n R Q i k old new → AreTried n R Q i n old new
+cut_short n R Q i k old new apart was = record {
   sound = was.sound;
   keeps = was.keeps;
   joined = λ j l m r. elim (cases_lt j k) [ inl less ↦ was.joined j l less r | inr most ↦ absurd (apart j most m r) ];
 }
 
-pub tried_all : (n : ℕ) (R : ℕ → ℕ → Type 0) (i k : ℕ) (old new : List ℕ) → n ≤ k → AreTried n R i k old new → AreTried n R i n old new
-tried_all n R i k old new all was = record { sound = was.sound; keeps = was.keeps; joined = λ j l m r. was.joined j l (omega (arith, m, all)) r }
+pub tried_all : (n : ℕ) (R Q : ℕ → ℕ → Type 0) (i k : ℕ) (old new : List ℕ) → n ≤ k → AreTried n R Q i k old new → AreTried n R Q i n old new
+tried_all n R Q i k old new all was = record { sound = was.sound; keeps = was.keeps; joined = λ j l m r. was.joined j l (omega (arith, m, all)) r }
 
 -- the numbers below k were tried with all behind them
-pub record AreSettled (n : ℕ) (R : ℕ → ℕ → Type 0) (k : ℕ) (ls : List ℕ) : Type 0 where
-  pub sound : AreSound n R ls
-  pub joined : (i j : ℕ) → i < k → i < j → R i j → InTree ls i j
+pub record AreSettled (n : ℕ) (R Q : ℕ → ℕ → Type 0) (k : ℕ) (old new : List ℕ) : Type 0 where
+  pub sound : AreSound n R new
+  pub keeps : Keeps old new
+  pub joined : (i j : ℕ) → i < k → i < j → Q i j → InTree new i j
 
-pub none_settled : (n : ℕ) (R : ℕ → ℕ → Type 0) (ls : List ℕ) → ls ≡ range_with_len 0 n → AreSettled n R 0 ls
-none_settled n R ls e = record { sound = first_sound n R ls e; joined = λ i j l m r. absurd (omega (arith, l)) }
+pub none_settled : (n : ℕ) (R Q : ℕ → ℕ → Type 0) (ls : List ℕ) → AreSound n R ls → AreSettled n R Q 0 ls ls
+none_settled n R Q ls is = record { sound = is; keeps = keeps_self ls; joined = λ i j l m r. absurd (omega (arith, l)) }
 
-pub more_settled : (n : ℕ) (R : ℕ → ℕ → Type 0) → IsBelow n R → (k : ℕ) (old new : List ℕ) → AreSettled n R k old → AreTried n R k n old new → AreSettled n R (k + 1) new
-more_settled n R below k old new was is = record {
+pub more_settled : (n : ℕ) (R Q : ℕ → ℕ → Type 0) → IsBelow n Q → (k : ℕ) (old mid new : List ℕ) → AreSettled n R Q k old mid → AreTried n R Q k n mid new → AreSettled n R Q (k + 1) old new
+more_settled n R Q below k old mid new was is = record {
   sound = is.sound;
+  keeps = keeps_both old mid new was.keeps is.keeps;
   joined = λ i j l m r. elim (cases_eq i k) [
-    | inl e ↦ subst (λ z. InTree new z j) (sym e) (is.joined j (omega (arith, e, m)) (below i j r).1 (subst (λ z. R z j) e r))
+    | inl e ↦ subst (λ z. InTree new z j) (sym e) (is.joined j (omega (arith, e, m)) (below i j r).1 (subst (λ z. Q z j) e r))
     | inr ne ↦ is.keeps.kept i j (was.joined i j (omega (arith, l, ne)) m r)
   ];
 }
@@ -83,15 +85,16 @@ more_settled n R below k old new was is = record {
 tree_turned : (ls : List ℕ) (i j : ℕ) → InTree ls i j → InTree ls j i
 tree_turned ls i j t = turned (AreKin ls) (λ a b k. elim k [ inl p ↦ inr p | inr p ↦ inl p ]) i j t
 
-pub settled_trees : (n : ℕ) (R : ℕ → ℕ → Type 0) → GoesBack R → IsBelow n R → (k : ℕ) (ls : List ℕ) → n ≤ k → AreSettled n R k ls → AreTrees n R ls
-settled_trees n R back below k ls all is = record {
-  sound = is.sound;
-  joined = λ i j r. elim (cases_order i j) [
-    | inl e ↦ none (AreKin ls) i j e
-    | inr (inl l) ↦ is.joined i j (let b = (below i j r).0 in omega (arith, b, all)) l r
-    | inr (inr g) ↦ tree_turned ls j i (is.joined j i (let b = (below i j r).1 in omega (arith, b, all)) g (back i j r))
-  ];
-}
+-- what Q relates stands in one tree
+pub settled_joined : (n : ℕ) (R Q : ℕ → ℕ → Type 0) → GoesBack Q → IsBelow n Q → (k : ℕ) (old new : List ℕ) → n ≤ k → AreSettled n R Q k old new → (i j : ℕ) → Q i j → InTree new i j
+settled_joined n R Q back below k old new all is i j r = elim (cases_order i j) [
+  | inl e ↦ none (AreKin new) i j e
+  | inr (inl l) ↦ is.joined i j (let b = (below i j r).0 in omega (arith, b, all)) l r
+  | inr (inr g) ↦ tree_turned new j i (is.joined j i (let b = (below i j r).1 in omega (arith, b, all)) g (back i j r))
+]
+
+pub settled_trees : (n : ℕ) (R : ℕ → ℕ → Type 0) → GoesBack R → IsBelow n R → (k : ℕ) (old new : List ℕ) → n ≤ k → AreSettled n R R k old new → AreTrees n R new
+settled_trees n R back below k old new all is = record { sound = is.sound; joined = settled_joined n R R back below k old new all is }
 
 -- what one relation makes of labels, an equal one does as well
 pub least_like : (n : ℕ) (R Q : ℕ → ℕ → Type 0) → ((i j : ℕ) → R i j → Q i j) → ((i j : ℕ) → Q i j → R i j) → (ls : List ℕ) → AreLeast n R ls → AreLeast n Q ls

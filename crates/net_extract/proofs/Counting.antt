@@ -6,7 +6,9 @@ use Rattle.cell_num.proofs.Lists.{contains_none, contains_cons, contains_here, c
 use Rattle.cell_num.proofs.Pairs.{pairs_head, pairs_tail}
 use Rattle.cell_num.proofs.In.{contains_flat, in_map, contains_map}
 use Rattle.net_extract.specs.Corners.{AreSides, HaveFewCorners}
-use Rattle.net_extract.specs.Nets.{Kind, p_diffusion, n_diffusion, poly, metal1, metal2, Site, site_at}
+use Rattle.net_extract.specs.Nets.{Site, site_at}
+use Rattle.net_extract.specs.declared.piece.Conductor.{Conductor}
+use Rattle.net_extract.specs.declared.piece.Conductor.TheVariants.{PDiffusion, NDiffusion, Poly, Metal1, Metal2}
 use Rattle.net_extract.specs.Numbering.{NotBehind, IsBefore}
 use Rattle.net_extract.specs.Pieces.{corner_of}
 use Rattle.net_extract.specs.Connections.{firsts_of}
@@ -47,16 +49,16 @@ many_map : {X Y : Type 0} (f : X → Y) (xs : List X) → length (map f xs) ≡ 
 many_map f [] = refl
 many_map f (x ∷ xs) = omega (arith, many_map f xs)
 
-abbrev row_of : List ℤ → Kind → ℤ → List Site
+abbrev row_of : List ℤ → Conductor → ℤ → List Site
 row_of xs k y = map (λ x. site_at k x y) xs
 
-abbrev sites_of : List ℤ → List ℤ → Kind → List Site
+abbrev sites_of : List ℤ → List ℤ → Conductor → List Site
 sites_of xs ys k = flat_map (row_of xs k) ys
 
 abbrev all_sites : List ℤ → List ℤ → List Site
-all_sites xs ys = sites_of xs ys p_diffusion ++ (sites_of xs ys n_diffusion ++ (sites_of xs ys poly ++ (sites_of xs ys metal1 ++ sites_of xs ys metal2)))
+all_sites xs ys = sites_of xs ys PDiffusion ++ (sites_of xs ys NDiffusion ++ (sites_of xs ys Poly ++ (sites_of xs ys Metal1 ++ sites_of xs ys Metal2)))
 
-few_sites : (xs ys : List ℤ) (k : Kind) → AreSides xs ys → length (sites_of xs ys k) ≤ 400000000
+few_sites : (xs ys : List ℤ) (k : Conductor) → AreSides xs ys → length (sites_of xs ys k) ≤ 400000000
 few_sites xs ys k few =
     let a = few_flat (row_of xs k) (λ y. let m = many_map (λ x. site_at k x y) xs in let l = few.across in omega (arith, m, l)) ys in
     let b = few.upward in
@@ -64,35 +66,35 @@ few_sites xs ys k few =
 
 few_all : (xs ys : List ℤ) → AreSides xs ys → length (all_sites xs ys) ≤ 2000000000
 few_all xs ys few =
-    let p = few_sites xs ys p_diffusion few in
-    let n = few_sites xs ys n_diffusion few in
-    let o = few_sites xs ys poly few in
-    let m = few_sites xs ys metal1 few in
-    let t = few_sites xs ys metal2 few in
-    let e1 = length-append (sites_of xs ys metal1) (sites_of xs ys metal2) in
-    let e2 = length-append (sites_of xs ys poly) (sites_of xs ys metal1 ++ sites_of xs ys metal2) in
-    let e3 = length-append (sites_of xs ys n_diffusion) (sites_of xs ys poly ++ (sites_of xs ys metal1 ++ sites_of xs ys metal2)) in
-    let e4 = length-append (sites_of xs ys p_diffusion) (sites_of xs ys n_diffusion ++ (sites_of xs ys poly ++ (sites_of xs ys metal1 ++ sites_of xs ys metal2))) in
+    let p = few_sites xs ys PDiffusion few in
+    let n = few_sites xs ys NDiffusion few in
+    let o = few_sites xs ys Poly few in
+    let m = few_sites xs ys Metal1 few in
+    let t = few_sites xs ys Metal2 few in
+    let e1 = length-append (sites_of xs ys Metal1) (sites_of xs ys Metal2) in
+    let e2 = length-append (sites_of xs ys Poly) (sites_of xs ys Metal1 ++ sites_of xs ys Metal2) in
+    let e3 = length-append (sites_of xs ys NDiffusion) (sites_of xs ys Poly ++ (sites_of xs ys Metal1 ++ sites_of xs ys Metal2)) in
+    let e4 = length-append (sites_of xs ys PDiffusion) (sites_of xs ys NDiffusion ++ (sites_of xs ys Poly ++ (sites_of xs ys Metal1 ++ sites_of xs ys Metal2))) in
     omega (arith, p, n, o, m, t, e1, e2, e3, e4)
 
-in_sites : (xs ys : List ℤ) (k : Kind) (x y : ℤ) → Contains xs x → Contains ys y → Contains (sites_of xs ys k) (site_at k x y)
+in_sites : (xs ys : List ℤ) (k : Conductor) (x y : ℤ) → Contains xs x → Contains ys y → Contains (sites_of xs ys k) (site_at k x y)
 in_sites xs ys k x y cx cy = contains_flat (row_of xs k) ys y (site_at k x y) cy (contains_map (λ z. site_at k z y) xs x cx)
 
-behind_p : (xs ys : List ℤ) (a : Site) → Contains (sites_of xs ys n_diffusion ++ (sites_of xs ys poly ++ (sites_of xs ys metal1 ++ sites_of xs ys metal2))) a → Contains (all_sites xs ys) a
-behind_p xs ys a c = Contains-append_right (sites_of xs ys p_diffusion) (sites_of xs ys n_diffusion ++ (sites_of xs ys poly ++ (sites_of xs ys metal1 ++ sites_of xs ys metal2))) a c
+behind_p : (xs ys : List ℤ) (a : Site) → Contains (sites_of xs ys NDiffusion ++ (sites_of xs ys Poly ++ (sites_of xs ys Metal1 ++ sites_of xs ys Metal2))) a → Contains (all_sites xs ys) a
+behind_p xs ys a c = Contains-append_right (sites_of xs ys PDiffusion) (sites_of xs ys NDiffusion ++ (sites_of xs ys Poly ++ (sites_of xs ys Metal1 ++ sites_of xs ys Metal2))) a c
 
-behind_n : (xs ys : List ℤ) (a : Site) → Contains (sites_of xs ys poly ++ (sites_of xs ys metal1 ++ sites_of xs ys metal2)) a → Contains (sites_of xs ys n_diffusion ++ (sites_of xs ys poly ++ (sites_of xs ys metal1 ++ sites_of xs ys metal2))) a
-behind_n xs ys a c = Contains-append_right (sites_of xs ys n_diffusion) (sites_of xs ys poly ++ (sites_of xs ys metal1 ++ sites_of xs ys metal2)) a c
+behind_n : (xs ys : List ℤ) (a : Site) → Contains (sites_of xs ys Poly ++ (sites_of xs ys Metal1 ++ sites_of xs ys Metal2)) a → Contains (sites_of xs ys NDiffusion ++ (sites_of xs ys Poly ++ (sites_of xs ys Metal1 ++ sites_of xs ys Metal2))) a
+behind_n xs ys a c = Contains-append_right (sites_of xs ys NDiffusion) (sites_of xs ys Poly ++ (sites_of xs ys Metal1 ++ sites_of xs ys Metal2)) a c
 
-behind_poly : (xs ys : List ℤ) (a : Site) → Contains (sites_of xs ys metal1 ++ sites_of xs ys metal2) a → Contains (sites_of xs ys poly ++ (sites_of xs ys metal1 ++ sites_of xs ys metal2)) a
-behind_poly xs ys a c = Contains-append_right (sites_of xs ys poly) (sites_of xs ys metal1 ++ sites_of xs ys metal2) a c
+behind_poly : (xs ys : List ℤ) (a : Site) → Contains (sites_of xs ys Metal1 ++ sites_of xs ys Metal2) a → Contains (sites_of xs ys Poly ++ (sites_of xs ys Metal1 ++ sites_of xs ys Metal2)) a
+behind_poly xs ys a c = Contains-append_right (sites_of xs ys Poly) (sites_of xs ys Metal1 ++ sites_of xs ys Metal2) a c
 
-in_all : (xs ys : List ℤ) (k : Kind) (x y : ℤ) → Contains xs x → Contains ys y → Contains (all_sites xs ys) (site_at k x y)
-in_all xs ys p_diffusion x y cx cy = Contains-append_left (sites_of xs ys p_diffusion) (sites_of xs ys n_diffusion ++ (sites_of xs ys poly ++ (sites_of xs ys metal1 ++ sites_of xs ys metal2))) (site_at p_diffusion x y) (in_sites xs ys p_diffusion x y cx cy)
-in_all xs ys n_diffusion x y cx cy = behind_p xs ys (site_at n_diffusion x y) (Contains-append_left (sites_of xs ys n_diffusion) (sites_of xs ys poly ++ (sites_of xs ys metal1 ++ sites_of xs ys metal2)) (site_at n_diffusion x y) (in_sites xs ys n_diffusion x y cx cy))
-in_all xs ys poly x y cx cy = behind_p xs ys (site_at poly x y) (behind_n xs ys (site_at poly x y) (Contains-append_left (sites_of xs ys poly) (sites_of xs ys metal1 ++ sites_of xs ys metal2) (site_at poly x y) (in_sites xs ys poly x y cx cy)))
-in_all xs ys metal1 x y cx cy = behind_p xs ys (site_at metal1 x y) (behind_n xs ys (site_at metal1 x y) (behind_poly xs ys (site_at metal1 x y) (Contains-append_left (sites_of xs ys metal1) (sites_of xs ys metal2) (site_at metal1 x y) (in_sites xs ys metal1 x y cx cy))))
-in_all xs ys metal2 x y cx cy = behind_p xs ys (site_at metal2 x y) (behind_n xs ys (site_at metal2 x y) (behind_poly xs ys (site_at metal2 x y) (Contains-append_right (sites_of xs ys metal1) (sites_of xs ys metal2) (site_at metal2 x y) (in_sites xs ys metal2 x y cx cy))))
+in_all : (xs ys : List ℤ) (k : Conductor) (x y : ℤ) → Contains xs x → Contains ys y → Contains (all_sites xs ys) (site_at k x y)
+in_all xs ys PDiffusion x y cx cy = Contains-append_left (sites_of xs ys PDiffusion) (sites_of xs ys NDiffusion ++ (sites_of xs ys Poly ++ (sites_of xs ys Metal1 ++ sites_of xs ys Metal2))) (site_at PDiffusion x y) (in_sites xs ys PDiffusion x y cx cy)
+in_all xs ys NDiffusion x y cx cy = behind_p xs ys (site_at NDiffusion x y) (Contains-append_left (sites_of xs ys NDiffusion) (sites_of xs ys Poly ++ (sites_of xs ys Metal1 ++ sites_of xs ys Metal2)) (site_at NDiffusion x y) (in_sites xs ys NDiffusion x y cx cy))
+in_all xs ys Poly x y cx cy = behind_p xs ys (site_at Poly x y) (behind_n xs ys (site_at Poly x y) (Contains-append_left (sites_of xs ys Poly) (sites_of xs ys Metal1 ++ sites_of xs ys Metal2) (site_at Poly x y) (in_sites xs ys Poly x y cx cy)))
+in_all xs ys Metal1 x y cx cy = behind_p xs ys (site_at Metal1 x y) (behind_n xs ys (site_at Metal1 x y) (behind_poly xs ys (site_at Metal1 x y) (Contains-append_left (sites_of xs ys Metal1) (sites_of xs ys Metal2) (site_at Metal1 x y) (in_sites xs ys Metal1 x y cx cy))))
+in_all xs ys Metal2 x y cx cy = behind_p xs ys (site_at Metal2 x y) (behind_n xs ys (site_at Metal2 x y) (behind_poly xs ys (site_at Metal2 x y) (Contains-append_right (sites_of xs ys Metal1) (sites_of xs ys Metal2) (site_at Metal2 x y) (in_sites xs ys Metal2 x y cx cy))))
 
 before_differs : (a b : Site) → IsBefore a b → a ≡ b → ⊥
 before_differs a b before e = before.other (subst (λ z. NotBehind b z) (sym e) (not_behind_self b))

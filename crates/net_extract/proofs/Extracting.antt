@@ -1,5 +1,5 @@
 -- The steps of extraction give the netlist, or the fault.
-use Rattle.std.proofs.Common.{◌≡◌, ℕ, ◌≤◌, ◌<◌, List, [], ◌∷◌, map, length, Option, Some, None, Result, Ok, Err, IfOk, arith, inl, inr, refl, sym, subst, ap, ◌∙◌}
+use Rattle.std.proofs.Common.{◌≡◌, ℕ, ◌≤◌, ◌<◌, List, [], ◌∷◌, map, length, Option, Some, None, Result, Ok, Err, IfOk, arith, inl, inr, refl, sym, subst, ap, ◌∙◌, IfErr}
 use Rattle.std.specs.List.{All, AllZip, find}
 use Rattle.box_geom.specs.declared.shape.Shape.{Shape}
 use Rattle.box_geom.specs.declared.shape.Label.{Label}
@@ -159,6 +159,10 @@ extracts_bodies shapes m b map names devices bodies = record {
 pub if_ok : {X E : Type 0} (A B : X → Type 0) (r : Result X E) → ((x : X) → A x → B x) → IfOk r A → IfOk r B
 if_ok A B (Ok x) f h = f x h
 if_ok A B (Err e) f h = tt
+
+pub if_err : {X E : Type 0} (A B : E → Type 0) (r : Result X E) → ((e : E) → A e → B e) → IfErr r A → IfErr r B
+if_err A B (Ok x) f h = tt
+if_err A B (Err e) f h = f e h
 
 pub gate_nets : (s g : List Shape) (wires : List Wire) (firsts : List Piece) → All (λ (z : Shape). IsRectangle z.rect) s → g ≡ map poly_of (gates_in s) → AreWires Plain g wires firsts → AreGateNets s wires firsts
 gate_nets s g wires firsts limits e m = record { shapes = g; are = subst (ArePolyOf (Gate s)) (sym e) (gates_drawn s (proper_of_limits s limits)); nets = m }

@@ -22,7 +22,7 @@ kin_back ls a b (inr p) = inl p
 pub tree_back : (ls : List ℕ) (a b : ℕ) → InTree ls a b → InTree ls b a
 tree_back ls a b t = turned (AreKin ls) (kin_back ls) a b t
 
-tree_both : (ls : List ℕ) (a b c : ℕ) → InTree ls a b → InTree ls b c → InTree ls a c
+pub tree_both : (ls : List ℕ) (a b c : ℕ) → InTree ls a b → InTree ls b c → InTree ls a c
 tree_both ls a b c t u = joined (AreKin ls) a b c t u
 
 -- ---- the way up
@@ -74,8 +74,8 @@ of_ends P a b back h = elim (ends a b) [
   | inr p ↦ back b a (subst (λ z. P z a) p.0 (subst (λ z. P (max a b) z) p.1 h))
 ]
 
-pub joining_is : (n : ℕ) (R : ℕ → ℕ → Type 0) → GoesBack R → (i j : ℕ) (ls made : List ℕ) → i < n → j < n → R i j → AreSound n R ls → IsJoined i j ls made → IsTried n R i j ls made
-joining_is n R back i j ls made li lj r is q = subst (IsTried n R i j ls) (sym q.made) (record {
+pub joining_is : (n : ℕ) (R Q : ℕ → ℕ → Type 0) → GoesBack R → (i j : ℕ) (ls made : List ℕ) → i < n → j < n → R i j → AreSound n R ls → IsJoined i j ls made → IsTried n R Q i j ls made
+joining_is n R Q back i j ls made li lj r is q = subst (IsTried n R Q i j ls) (sym q.made) (record {
   sound = record { count = length-set ls top low ∙ is.count; low = lows; reach = reach };
   keeps = record { kept = λ a b t. hung_tree ls top low own a b t };
   joined = λ again. tree_both new i a j (kept i a q.first.tree) (tree_both new a b j edge (tree_back new j b (kept j b q.second.tree)));

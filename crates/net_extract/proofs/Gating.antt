@@ -13,18 +13,19 @@ use Rattle.box_geom.specs.Rectangle.{Rectangle, IsProper, Holds}
 use Rattle.box_geom.specs.Touching.{Cell}
 use Rattle.box_geom.specs.Chains.{Steps, Linked}
 use Rattle.box_geom.specs.declared.shape.Shape.{Shape}
-use Rattle.box_geom.specs.declared.layer.Layer.TheVariants.{Active, Poly}
+use Rattle.box_geom.specs.declared.layer.Layer.TheVariants.{Active, Poly as PolyLayer}
 use Rattle.scmos_rules.specs.Failing.{SameClass}
 use Rattle.scmos_rules.specs.Layout.{Gate}
 use Rattle.scmos_rules.proofs.Chains.{none, joined, inside}
 use Rattle.scmos_rules.specs.declared.rules.Deck.{Deck}
 use Rattle.scmos_rules.specs.declared.rules.Deck.TheVariants.{Plain}
-use Rattle.net_extract.specs.Nets.{poly, Site, site_at, Conducts, SameNet}
+use Rattle.net_extract.specs.Nets.{Site, site_at, Conducts, SameNet}
+use Rattle.net_extract.specs.declared.piece.Conductor.TheVariants.{Poly}
 use Rattle.net_extract.specs.Numbering.{rank, NotBehind, IsFirstOfNet, IsBefore, IsInNet}
-use Rattle.net_extract.specs.Parts.{IsIn}
+use Rattle.net_extract.specs.Bonds.{IsIn}
 use Rattle.net_extract.specs.Devices.{IsGateBox, IsSomeDevice, NotBehindCell, IsOdd, IsFirstOdd, BeginsBefore}
 use Rattle.net_extract.specs.Extraction.{IsDrawn}
-use Rattle.net_extract.specs.Pieces.{kind_of, rect_of, part_of, corner_of}
+use Rattle.net_extract.specs.Pieces.{rect_of, corner_of}
 use Rattle.net_extract.specs.Connections.{firsts_of, AreWires, blank}
 use Rattle.net_extract.specs.Areas.{IsFull}
 use Rattle.net_extract.specs.GateNets.{ArePolyOf, AreGateNets, wider, point_of, box_of, boxes_below, boxes_of, IsAllGate, AreFound}
@@ -100,33 +101,33 @@ first_listed firsts n l = contains_map corner_of firsts (first_at firsts n) (con
 first_numbered : (firsts : List Piece) (n : ℕ) → n < length firsts → slice_get (firsts_of firsts) n ≡ Some (corner_of (first_at firsts n))
 first_numbered firsts n l = slice_get-map corner_of firsts n ∙ ap (option_map corner_of) (slice_get-get_or firsts n blank l)
 
-site_poly : (a : Site) → a.kind ≡ poly → a ≡ site_at poly a.cell.x a.cell.y
+site_poly : (a : Site) → a.kind ≡ Poly → a ≡ site_at Poly a.cell.x a.cell.y
 site_poly a e = subst (λ k. a ≡ record { kind = k; cell = a.cell }) e refl
 
 -- the first cell of class n
-first_is : (s g : List Shape) (wires : List Wire) (firsts : List Piece) → Gates s g wires firsts → (n : ℕ) → n < length firsts → IsFirstOfNet Plain g (site_at poly (first_at firsts n).left (first_at firsts n).low)
+first_is : (s g : List Shape) (wires : List Wire) (firsts : List Piece) → Gates s g wires firsts → (n : ℕ) → n < length firsts → IsFirstOfNet Plain g (site_at Poly (first_at firsts n).left (first_at firsts n).low)
 first_is s g wires firsts z n l =
     let f : IsFirstOfNet Plain g (corner_of (first_at firsts n)) = z.nets.nets.sound (corner_of (first_at firsts n)) (first_listed firsts n l) in
-    subst (IsFirstOfNet Plain g) (site_poly (corner_of (first_at firsts n)) (poly_site (Gate s) g z.are (kind_of (first_at firsts n).kind) (first_at firsts n).left (first_at firsts n).low f.conducts)) f
+    subst (IsFirstOfNet Plain g) (site_poly (corner_of (first_at firsts n)) (poly_site (Gate s) g z.are (first_at firsts n).kind (first_at firsts n).left (first_at firsts n).low f.conducts)) f
 
-in_own : (s g : List Shape) (wires : List Wire) (firsts : List Piece) → Gates s g wires firsts → (n : ℕ) → n < length firsts → IsInNet Plain g (firsts_of firsts) n (site_at poly (first_at firsts n).left (first_at firsts n).low)
+in_own : (s g : List Shape) (wires : List Wire) (firsts : List Piece) → Gates s g wires firsts → (n : ℕ) → n < length firsts → IsInNet Plain g (firsts_of firsts) n (site_at Poly (first_at firsts n).left (first_at firsts n).low)
 in_own s g wires firsts z n l =
     let f = first_is s g wires firsts z n l in
-    let e : corner_of (first_at firsts n) ≡ site_at poly (first_at firsts n).left (first_at firsts n).low = site_poly (corner_of (first_at firsts n)) (poly_site (Gate s) g z.are (kind_of (first_at firsts n).kind) (first_at firsts n).left (first_at firsts n).low (z.nets.nets.sound (corner_of (first_at firsts n)) (first_listed firsts n l)).conducts) in
-    record { first = corner_of (first_at firsts n); numbered = first_numbered firsts n l; same = subst (λ a. SameNet Plain g a (site_at poly (first_at firsts n).left (first_at firsts n).low)) (sym e) (net_self Plain g (site_at poly (first_at firsts n).left (first_at firsts n).low) f.conducts) }
+    let e : corner_of (first_at firsts n) ≡ site_at Poly (first_at firsts n).left (first_at firsts n).low = site_poly (corner_of (first_at firsts n)) (poly_site (Gate s) g z.are (first_at firsts n).kind (first_at firsts n).left (first_at firsts n).low (z.nets.nets.sound (corner_of (first_at firsts n)) (first_listed firsts n l)).conducts) in
+    record { first = corner_of (first_at firsts n); numbered = first_numbered firsts n l; same = subst (λ a. SameNet Plain g a (site_at Poly (first_at firsts n).left (first_at firsts n).low)) (sym e) (net_self Plain g (site_at Poly (first_at firsts n).left (first_at firsts n).low) f.conducts) }
 
 -- a gate cell lies in a wire of its class
 record Classed (g : List Shape) (wires : List Wire) (firsts : List Piece) (x y : ℤ) : Type 0 where
   pub wire : Wire
   pub listed : Contains wires wire
   pub holds : Holds (rect_of wire.piece) x y
-  pub net : IsInNet Plain g (firsts_of firsts) wire.net (site_at poly x y)
+  pub net : IsInNet Plain g (firsts_of firsts) wire.net (site_at Poly x y)
   pub below : wire.net < length firsts
 
 classed : (s g : List Shape) (wires : List Wire) (firsts : List Piece) → Gates s g wires firsts → (x y : ℤ) → Gate s x y → Classed g wires firsts x y
 classed s g wires firsts z x y gate =
-    let w = in_wire Plain g wires firsts z.nets (site_at poly x y) ((z.are.poly x y).1 gate) in
-    let n = wire_net Plain g wires firsts z.nets w.wire w.listed (site_at poly x y) w.inside in
+    let w = in_wire Plain g wires firsts z.nets (site_at Poly x y) ((z.are.poly x y).1 gate) in
+    let n = wire_net Plain g wires firsts z.nets w.wire w.listed (site_at Poly x y) w.inside in
     record { wire = w.wire; listed = w.listed; holds = w.inside.holds; net = n; below = subst (λ k. w.wire.net < k) (length_map firsts) (slice_get_within (firsts_of firsts) w.wire.net n.first n.numbered) }
   where
     length_map : (ps : List Piece) → length (firsts_of ps) ≡ length ps
@@ -138,8 +139,8 @@ class_number : (s g : List Shape) (wires : List Wire) (firsts : List Piece) → 
 class_number s g wires firsts z n l x y c same =
     let f = first_is s g wires firsts z n l in
     let start : Gate s (first_at firsts n).left (first_at firsts n).low = (z.are.poly (first_at firsts n).left (first_at firsts n).low).0 f.conducts in
-    let net : SameNet Plain g (site_at poly (first_at firsts n).left (first_at firsts n).low) (site_at poly x y) = net_of_class (Gate s) g z.are (first_at firsts n).left (first_at firsts n).low x y start same in
-    one_number Plain g (firsts_of firsts) c.wire.net n (site_at poly x y) z.nets.nets c.net (move_net Plain g (firsts_of firsts) n (site_at poly (first_at firsts n).left (first_at firsts n).low) (site_at poly x y) (in_own s g wires firsts z n l) net)
+    let net : SameNet Plain g (site_at Poly (first_at firsts n).left (first_at firsts n).low) (site_at Poly x y) = net_of_class (Gate s) g z.are (first_at firsts n).left (first_at firsts n).low x y start same in
+    one_number Plain g (firsts_of firsts) c.wire.net n (site_at Poly x y) z.nets.nets c.net (move_net Plain g (firsts_of firsts) n (site_at Poly (first_at firsts n).left (first_at firsts n).low) (site_at Poly x y) (in_own s g wires firsts z n l) net)
 
 abbrev box : List Wire → List Piece → ℕ → Rectangle
 box wires firsts n = rect_of (box_of wires firsts n)
@@ -230,12 +231,12 @@ box_in_class s g wires firsts z n l r gate at = (bounds_of wires firsts n).least
   where
     cell_in : (w : Wire) → Contains wires w → w.net ≡ n → (u v : ℤ) → Holds (rect_of w.piece) u v → Holds r u v
     cell_in w c e u v h =
-        let site : IsIn (part_of w.piece) (site_at (kind_of w.piece.kind) u v) = record { kind = refl; holds = h } in
-        let k : IsInNet Plain g (firsts_of firsts) w.net (site_at (kind_of w.piece.kind) u v) = wire_net Plain g wires firsts z.nets w c (site_at (kind_of w.piece.kind) u v) site in
-        let conducts : Conducts g (site_at (kind_of w.piece.kind) u v) = end_conducts Plain g k.first (site_at (kind_of w.piece.kind) u v) k.same in
-        let is_poly : kind_of w.piece.kind ≡ poly = poly_site (Gate s) g z.are (kind_of w.piece.kind) u v conducts in
-        let m : IsInNet Plain g (firsts_of firsts) n (site_at poly u v) = subst (λ j. IsInNet Plain g (firsts_of firsts) n (site_at j u v)) is_poly (subst (λ j. IsInNet Plain g (firsts_of firsts) j (site_at (kind_of w.piece.kind) u v)) e k) in
-        let net : SameNet Plain g (site_at poly (first_at firsts n).left (first_at firsts n).low) (site_at poly u v) = in_first Plain g (firsts_of firsts) n (site_at poly (first_at firsts n).left (first_at firsts n).low) (site_at poly u v) (in_own s g wires firsts z n l) m in
+        let site : IsIn w.piece (site_at w.piece.kind u v) = record { kind = refl; holds = h } in
+        let k : IsInNet Plain g (firsts_of firsts) w.net (site_at w.piece.kind u v) = wire_net Plain g wires firsts z.nets w c (site_at w.piece.kind u v) site in
+        let conducts : Conducts g (site_at w.piece.kind u v) = end_conducts Plain g k.first (site_at w.piece.kind u v) k.same in
+        let is_poly : w.piece.kind ≡ Poly = poly_site (Gate s) g z.are w.piece.kind u v conducts in
+        let m : IsInNet Plain g (firsts_of firsts) n (site_at Poly u v) = subst (λ j. IsInNet Plain g (firsts_of firsts) n (site_at j u v)) is_poly (subst (λ j. IsInNet Plain g (firsts_of firsts) j (site_at w.piece.kind u v)) e k) in
+        let net : SameNet Plain g (site_at Poly (first_at firsts n).left (first_at firsts n).low) (site_at Poly u v) = in_first Plain g (firsts_of firsts) n (site_at Poly (first_at firsts n).left (first_at firsts n).low) (site_at Poly u v) (in_own s g wires firsts z n l) m in
         (gate.class (first_at firsts n).left (first_at firsts n).low u v at).0 (class_of_net (Gate s) g z.are (first_at firsts n).left (first_at firsts n).low u v net)
 
     wire_in : (w : Wire) → Contains wires w → w.net ≡ n → Lies w.piece r
@@ -259,7 +260,7 @@ class_first : (s g : List Shape) (wires : List Wire) (firsts : List Piece) → G
 class_first s g wires firsts z n l u v c =
     let f = first_is s g wires firsts z n l in
     let start : Gate s (first_at firsts n).left (first_at firsts n).low = (z.are.poly (first_at firsts n).left (first_at firsts n).low).0 f.conducts in
-    let b = f.first (site_at poly u v) (net_of_class (Gate s) g z.are (first_at firsts n).left (first_at firsts n).low u v start c) in
+    let b = f.first (site_at Poly u v) (net_of_class (Gate s) g z.are (first_at firsts n).left (first_at firsts n).low u v start c) in
     record { row = b.row; column = b.column }
 
 pub odd_is : (deck : Deck) (s g : List Shape) (wires : List Wire) (firsts : List Piece) → Gates s g wires firsts → (n : ℕ) → n < length firsts → ((r : Rectangle) → Holds r (first_at firsts n).left (first_at firsts n).low → IsSomeDevice deck s r → ⊥) → IsOdd deck s (first_at firsts n).left (first_at firsts n).low
@@ -343,15 +344,15 @@ begins s g wires firsts z i j less l gi gj =
     let ci = corner_is s g wires firsts z i li gi in
     let cj = corner_is s g wires firsts z j l gj in
     let ix = ci.0 in let iy = ci.1 in let jx = cj.0 in let jy = cj.1 in
-    let ki : kind_of (first_at firsts i).kind ≡ poly = poly_site (Gate s) g z.are (kind_of (first_at firsts i).kind) (first_at firsts i).left (first_at firsts i).low (z.nets.nets.sound (corner_of (first_at firsts i)) (first_listed firsts i li)).conducts in
-    let kj : kind_of (first_at firsts j).kind ≡ poly = poly_site (Gate s) g z.are (kind_of (first_at firsts j).kind) (first_at firsts j).left (first_at firsts j).low (z.nets.nets.sound (corner_of (first_at firsts j)) (first_listed firsts j l)).conducts in
+    let ki : (first_at firsts i).kind ≡ Poly = poly_site (Gate s) g z.are (first_at firsts i).kind (first_at firsts i).left (first_at firsts i).low (z.nets.nets.sound (corner_of (first_at firsts i)) (first_listed firsts i li)).conducts in
+    let kj : (first_at firsts j).kind ≡ Poly = poly_site (Gate s) g z.are (first_at firsts j).kind (first_at firsts j).left (first_at firsts j).low (z.nets.nets.sound (corner_of (first_at firsts j)) (first_listed firsts j l)).conducts in
     let up = b.not_behind in
     let r = up.row in
     record {
       not_behind = record { row = omega (arith, ints); column = λ h. let q = up.column (omega (arith, ints)) in omega (arith, ints) };
       other = λ back.
           let br = back.row in
-          b.other (record { row = omega (arith, ints); column = λ h. let q = back.column (omega (arith, ints)) in omega (arith, ints); layer = λ h k. subst (λ a. rank a ≤ rank (kind_of (first_at firsts i).kind)) (sym kj) (subst (λ a. rank poly ≤ rank a) (sym ki) (omega arith)) });
+          b.other (record { row = omega (arith, ints); column = λ h. let q = back.column (omega (arith, ints)) in omega (arith, ints); layer = λ h k. subst (λ a. rank a ≤ rank (first_at firsts i).kind) (sym kj) (subst (λ a. rank Poly ≤ rank a) (sym ki) (omega arith)) });
     }
 
 boxes_ascend : (deck : Deck) (s g : List Shape) (wires : List Wire) (firsts : List Piece) → Gates s g wires firsts → (k : ℕ) → k ≤ length firsts → ((n : ℕ) → n < k → IsSomeDevice deck s (box wires firsts n)) → AllPairs BeginsBefore (boxes_below wires firsts k)
@@ -406,19 +407,19 @@ first_odd deck s g wires firsts sites k devices z lk done odd = record { odd = o
       where
         behind : (u v : ℤ) (c : Classed g wires firsts u v) → NotBehind (corner_of (first_at firsts k)) (corner_of (first_at firsts c.wire.net)) → NotBehindCell (first_at firsts k).left (first_at firsts k).low u v
         behind u v c up =
-            let n : SameNet Plain g (corner_of (first_at firsts c.wire.net)) (site_at poly u v) = in_first Plain g (firsts_of firsts) c.wire.net (corner_of (first_at firsts c.wire.net)) (site_at poly u v) (record { first = corner_of (first_at firsts c.wire.net); numbered = first_numbered firsts c.wire.net c.below; same = net_self Plain g (corner_of (first_at firsts c.wire.net)) (z.nets.nets.sound (corner_of (first_at firsts c.wire.net)) (first_listed firsts c.wire.net c.below)).conducts }) c.net in
-            let f : NotBehind (corner_of (first_at firsts c.wire.net)) (site_at poly u v) = (z.nets.nets.sound (corner_of (first_at firsts c.wire.net)) (first_listed firsts c.wire.net c.below)).first (site_at poly u v) n in
-            let b = not_behind_both (corner_of (first_at firsts k)) (corner_of (first_at firsts c.wire.net)) (site_at poly u v) up f in
+            let n : SameNet Plain g (corner_of (first_at firsts c.wire.net)) (site_at Poly u v) = in_first Plain g (firsts_of firsts) c.wire.net (corner_of (first_at firsts c.wire.net)) (site_at Poly u v) (record { first = corner_of (first_at firsts c.wire.net); numbered = first_numbered firsts c.wire.net c.below; same = net_self Plain g (corner_of (first_at firsts c.wire.net)) (z.nets.nets.sound (corner_of (first_at firsts c.wire.net)) (first_listed firsts c.wire.net c.below)).conducts }) c.net in
+            let f : NotBehind (corner_of (first_at firsts c.wire.net)) (site_at Poly u v) = (z.nets.nets.sound (corner_of (first_at firsts c.wire.net)) (first_listed firsts c.wire.net c.below)).first (site_at Poly u v) n in
+            let b = not_behind_both (corner_of (first_at firsts k)) (corner_of (first_at firsts c.wire.net)) (site_at Poly u v) up f in
             record { row = b.row; column = b.column }
 
 -- ---- gates by their two layers
 pub no_active_gate : (s : List Shape) (r a : Rectangle) (b : Bool) → a ≡ r → (IsTrue b ↔ IsFull s Active a) → b ≡ false → IsAllGate s r → ⊥
 no_active_gate s r a b e d f all = let t = d.1 (subst (IsFull s Active) (sym e) (record { full = λ x y h. (all.all x y h).0 })) in absurd (cc (sym f ∙ t))
 
-pub both_gate : (s : List Shape) (r a z : Rectangle) (b t : Bool) → a ≡ r → (IsTrue b ↔ IsFull s Active a) → b ≡ true → z ≡ r → (IsTrue t ↔ IsFull s Poly z) → IsTrue t ↔ IsAllGate s r
+pub both_gate : (s : List Shape) (r a z : Rectangle) (b t : Bool) → a ≡ r → (IsTrue b ↔ IsFull s Active a) → b ≡ true → z ≡ r → (IsTrue t ↔ IsFull s PolyLayer z) → IsTrue t ↔ IsAllGate s r
 both_gate s r a z b t ea da eb ez dz = (
-  λ x. record { all = λ u v h. ((subst (IsFull s Active) ea (da.0 eb)).full u v h, (subst (IsFull s Poly) ez (dz.0 x)).full u v h) },
-  λ all. dz.1 (subst (IsFull s Poly) (sym ez) (record { full = λ u v h. (all.all u v h).1 })),
+  λ x. record { all = λ u v h. ((subst (IsFull s Active) ea (da.0 eb)).full u v h, (subst (IsFull s PolyLayer) ez (dz.0 x)).full u v h) },
+  λ all. dz.1 (subst (IsFull s PolyLayer) (sym ez) (record { full = λ u v h. (all.all u v h).1 })),
 )
 
 pub ruleset gate_rules = (no_active_gate, both_gate)

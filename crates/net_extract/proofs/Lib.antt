@@ -17,6 +17,8 @@ pub mod Finding
 pub mod Forests
 pub mod Gating
 pub mod Labelling
+pub mod LayerNumbers
+pub mod LinkTrees
 pub mod Linking
 pub mod Links
 pub mod Listing

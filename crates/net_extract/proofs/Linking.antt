@@ -1,28 +1,33 @@
--- Whether two pieces are bonded.
-use Rattle.std.proofs.Common.{◌≡◌, ◌↔◌, IsTrue, cond, map, ℤ, ◌<ℤ◌, Bool, true, false, ◌&&◌, ◌||◌, Option, Some, None, List, [], ◌∷◌, arith, inl, inr, ◌⊎◌}
-use Rattle.std.specs.List.{filter}
+-- Whether two pieces are of one kind and touch, or a contact or a via links them.
+use Rattle.std.proofs.Common.{◌≡◌, ◌↔◌, IsTrue, ℤ, ◌<ℤ◌, true, ◌&&◌, ◌==◌, Option, Some, None, [], ◌∷◌, arith, inl, inr, refl, sym, subst}
 use Rattle.std.specs.Bool.{Decides}
 use Rattle.std.specs.Int.{int_max, int_min}
 use Rattle.std.proofs.lemmas.Int.{ints, clamps}
-use Rattle.std.proofs.lemmas.Bool.{cases_eq, eq-eqb, ne_eqb}
-use Rattle.std.proofs.lemmas.Bool.Decides.{Decides-and, Decides-or, Decides-like}
-use Rattle.box_geom.specs.Rectangle.{Rectangle, IsProper, Holds, Covers}
-use Rattle.box_geom.specs.Layers.{rects_on, same_layer}
+use Rattle.std.proofs.lemmas.Bool.Decides.{Decides-and, Decides-eqb, Decides-like}
+use Rattle.cell_num.proofs.Lists.{some_same, contains_none, contains_cons, contains_here}
+use Rattle.box_geom.specs.Rectangle.{Rectangle, IsProper, Holds}
+use Rattle.box_geom.specs.Layers.{same_layer}
 use Rattle.box_geom.specs.Touching.{Touch}
 use Rattle.box_geom.specs.Comparisons.{overlapping, touching}
 use Rattle.box_geom.specs.declared.shape.Shape.{Shape}
 use Rattle.box_geom.specs.declared.layer.Layer.{Layer}
+use Rattle.box_geom.specs.declared.layer.Layer.TheVariants.{Contact, Via}
 use Rattle.box_geom.proofs.Spans.{int_lt_decides, overlap_decides}
 use Rattle.box_geom.proofs.Meeting.{touch_decides}
+use Rattle.scmos_rules.specs.Layout.{On}
 use Rattle.scmos_rules.specs.declared.rules.Deck.TheVariants.{Plain}
-use Rattle.net_extract.specs.Parts.{AreJoined, Bond, touching as by_touch, joining, tying}
-use Rattle.net_extract.specs.Pieces.{kind_of, place, rect_of, part_of, link_layer}
-use Rattle.net_extract.specs.Meetings.{sharing, crossing, linking, sharing_cell, linking_by, bonding}
+use Rattle.net_extract.specs.Bonds.{AreJoined, Bond, touching as by_touch, joining, tying}
+use Rattle.net_extract.specs.Nets.{Joins, by_contact, by_via}
+use Rattle.net_extract.specs.Pieces.{place, rect_of, link_layer}
+use Rattle.net_extract.specs.Meetings.{sharing, crossing, sharing_cell, linking, links_kind, is_reached, bonding}
 use Rattle.net_extract.specs.declared.piece.Conductor.{Conductor}
 use Rattle.net_extract.specs.declared.piece.Conductor.TheVariants.{PDiffusion, NDiffusion, Poly, Metal1, Metal2}
 use Rattle.net_extract.specs.declared.piece.Piece.{Piece}
-use Rattle.net_extract.proofs.Covering.{cover_none, cover_first, cover_later, cover_split}
+use Rattle.net_extract.proofs.Covering.{cover_none}
 use Rattle.net_extract.proofs.Conductors.{OnLink, through_link, link_through, same_place, same_kind_place}
+use Rattle.net_extract.proofs.Filling.{and_parts, and_true}
+use Rattle.net_extract.proofs.Finding.{shows, shown}
+use Rattle.net_extract.proofs.LayerNumbers.{layer_is}
 
 -- a cell of both rectangles and of a set
 record Meet (P : ℤ → ℤ → Type 0) (a b : Rectangle) : Type 0 where
@@ -48,21 +53,6 @@ of_cell a b c x y h k l = (omega (arith, ints, clamps), omega (arith, ints, clam
 cross_decides : (a b c : Rectangle) → Decides (crossing a b c) (Meet (Holds c) a b)
 cross_decides a b c = Decides-like (crossing a b c) (cell_of a b c) (λ m. of_cell a b c m.x m.y m.in_a m.in_b m.is) (Decides-and (sharing a.x1 a.x2 b.x1 b.x2 c.x1 c.x2) (sharing a.y1 a.y2 b.y1 b.y2 c.y1 c.y2) (share_decides a.x1 a.x2 b.x1 b.x2 c.x1 c.x2) (share_decides a.y1 a.y2 b.y1 b.y2 c.y1 c.y2))
 
-meet_split : (r : Rectangle) (rs : List Rectangle) (a b : Rectangle) → Meet (Covers (r ∷ rs)) a b → Meet (Holds r) a b ⊎ Meet (Covers rs) a b
-meet_split r rs a b m =
-    elim (cover_split r rs m.x m.y m.is) [
-      | inl h ↦ inl (record { x = m.x; y = m.y; in_a = m.in_a; in_b = m.in_b; is = h })
-      | inr c ↦ inr (record { x = m.x; y = m.y; in_a = m.in_a; in_b = m.in_b; is = c })
-    ]
-
-links_decide : (shapes : List Shape) (layer : Layer) (a b : Rectangle) → Decides (linking shapes layer a b) (Meet (Covers (rects_on layer shapes)) a b)
-links_decide [] layer a b = (λ e. absurd (cc e), λ m. absurd (cover_none m.x m.y m.is))
-links_decide (s ∷ ss) layer a b = step (same_layer s.layer layer) (links_decide ss layer a b)
-  where
-    step : (t : Bool) → Decides (linking ss layer a b) (Meet (Covers (rects_on layer ss)) a b) → Decides ((t && crossing a b s.rect) || linking ss layer a b) (Meet (Covers (map (λ (z : Shape). z.rect) (cond t (s ∷ filter (λ (z : Shape). same_layer z.layer layer) ss) (filter (λ (z : Shape). same_layer z.layer layer) ss)))) a b)
-    step true rest = Decides-like (crossing a b s.rect || linking ss layer a b) (λ e. elim e [ inl m ↦ record { x = m.x; y = m.y; in_a = m.in_a; in_b = m.in_b; is = cover_first s.rect (rects_on layer ss) m.x m.y m.is } | inr m ↦ record { x = m.x; y = m.y; in_a = m.in_a; in_b = m.in_b; is = cover_later s.rect (rects_on layer ss) m.x m.y m.is } ]) (meet_split s.rect (rects_on layer ss) a b) (Decides-or (crossing a b s.rect) (linking ss layer a b) (cross_decides a b s.rect) rest)
-    step false rest = rest
-
 abbrev pub Overlapping : Rectangle → Rectangle → Type 0
 Overlapping a b = ((a.x1 <ℤ b.x2) × (b.x1 <ℤ a.x2)) × ((a.y1 <ℤ b.y2) × (b.y1 <ℤ a.y2))
 
@@ -72,63 +62,92 @@ cells_meet a b x y h k = ((omega (arith, ints), omega (arith, ints)), (omega (ar
 pub cell_decides : (a b : Rectangle) → Decides (sharing_cell a b) (Overlapping a b)
 cell_decides a b = Decides-and (overlapping a.x1 a.x2 b.x1 b.x2) (overlapping a.y1 a.y2 b.y1 b.y2) (overlap_decides a.x1 a.x2 b.x1 b.x2) (overlap_decides a.y1 a.y2 b.y1 b.y2)
 
-linked_decides : (shapes : List Shape) (o : Option Layer) (a b : Rectangle) → Decides (linking_by shapes o a b) (Meet (OnLink o shapes) a b)
-linked_decides shapes (Some layer) a b =
-    Decides-like (sharing_cell a b && linking shapes layer a b) (λ h. h.1) (λ m. (((cells_meet a b m.x m.y m.in_a m.in_b), m)))
-    (Decides-and (sharing_cell a b) (linking shapes layer a b) (cell_decides a b) (links_decide shapes layer a b))
-linked_decides shapes None a b = (λ e. absurd (cc e), λ m. absurd m.is)
+-- ---- one contact or via
+of_one : (z : Shape) (layer : Layer) (x y : ℤ) → On layer (z ∷ []) x y → (same_layer z.layer layer ≡ true) × Holds z.rect x y
+of_one z layer x y on =
+    let w = shows (z ∷ []) layer x y on in
+    let is : w.shape ≡ z = elim (contains_cons z [] w.shape w.listed) [ inl e ↦ sym e | inr l ↦ absurd (contains_none w.shape l) ] in
+    (subst (λ (s : Shape). same_layer s.layer layer ≡ true) is w.on, subst (λ (s : Shape). Holds s.rect x y) is w.holds)
 
-joint_decides : (s : List Shape) (a b : Piece) → Decides (linking_by s (link_layer a.kind b.kind) (rect_of a) (rect_of b)) (AreJoined s (part_of a) (part_of b))
-joint_decides s a b =
-    Decides-like (linking_by s (link_layer a.kind b.kind) (rect_of a) (rect_of b))
-    (λ m. record { x = m.x; y = m.y; in_p = m.in_a; in_q = m.in_b; through = through_link s m.x m.y a.kind b.kind m.is })
-    (λ j. record { x = j.x; y = j.y; in_a = j.in_p; in_b = j.in_q; is = link_through s j.x j.y a.kind b.kind j.through })
-    (linked_decides s (link_layer a.kind b.kind) (rect_of a) (rect_of b))
+linked_on : (z : Shape) (layer : Layer) (a b : Rectangle) → Decides (same_layer z.layer layer && crossing a b z.rect) (Meet (On layer (z ∷ [])) a b)
+linked_on z layer a b = (
+  λ e. let t = and_parts (same_layer z.layer layer) (crossing a b z.rect) e in let m = (cross_decides a b z.rect).0 t.1 in record { x = m.x; y = m.y; in_a = m.in_a; in_b = m.in_b; is = shown (z ∷ []) layer z m.x m.y (contains_here z []) t.0 m.is },
+  λ m. let o = of_one z layer m.x m.y m.is in and_true (same_layer z.layer layer) (crossing a b z.rect) o.0 ((cross_decides a b z.rect).1 (record { x = m.x; y = m.y; in_a = m.in_a; in_b = m.in_b; is = o.1 })),
+)
 
--- pieces of one kind are never joined by a cut
-unjoined : (s : List Shape) (a b : Piece) → kind_of a.kind ≡ kind_of b.kind → AreJoined s (part_of a) (part_of b) → ⊥
-unjoined s a b e j = by a.kind b.kind (same_place a.kind b.kind e) (link_through s j.x j.y a.kind b.kind j.through)
+linking_decides : (z : Shape) (o : Option Layer) (a b : Rectangle) → Decides (linking z o a b) (Meet (OnLink o (z ∷ [])) a b)
+linking_decides z (Some layer) a b = linked_on z layer a b
+linking_decides z None a b = (λ e. absurd (cc e), λ m. absurd m.is)
+
+pub link_decides : (z : Shape) (a b : Piece) → IsTrue (linking z (link_layer a.kind b.kind) (rect_of a) (rect_of b)) ↔ AreJoined (z ∷ []) a b
+link_decides z a b =
+    Decides-like (linking z (link_layer a.kind b.kind) (rect_of a) (rect_of b))
+    (λ m. record { x = m.x; y = m.y; in_p = m.in_a; in_q = m.in_b; through = through_link (z ∷ []) m.x m.y a.kind b.kind m.is })
+    (λ j. record { x = j.x; y = j.y; in_a = j.in_p; in_b = j.in_q; is = link_through (z ∷ []) j.x j.y a.kind b.kind j.through })
+    (linking_decides z (link_layer a.kind b.kind) (rect_of a) (rect_of b))
+
+-- ---- what a contact or a via links it reaches
+linked_kind : (k l : Conductor) (layer : Layer) → link_layer k l ≡ Some layer → links_kind layer k ≡ true
+linked_kind PDiffusion PDiffusion layer e = absurd (cc e)
+linked_kind PDiffusion NDiffusion layer e = absurd (cc e)
+linked_kind PDiffusion Poly layer e = absurd (cc e)
+linked_kind PDiffusion Metal1 layer e = subst (λ z. links_kind z PDiffusion ≡ true) (some_same Contact layer e) refl
+linked_kind PDiffusion Metal2 layer e = absurd (cc e)
+linked_kind NDiffusion PDiffusion layer e = absurd (cc e)
+linked_kind NDiffusion NDiffusion layer e = absurd (cc e)
+linked_kind NDiffusion Poly layer e = absurd (cc e)
+linked_kind NDiffusion Metal1 layer e = subst (λ z. links_kind z NDiffusion ≡ true) (some_same Contact layer e) refl
+linked_kind NDiffusion Metal2 layer e = absurd (cc e)
+linked_kind Poly PDiffusion layer e = absurd (cc e)
+linked_kind Poly NDiffusion layer e = absurd (cc e)
+linked_kind Poly Poly layer e = absurd (cc e)
+linked_kind Poly Metal1 layer e = subst (λ z. links_kind z Poly ≡ true) (some_same Contact layer e) refl
+linked_kind Poly Metal2 layer e = absurd (cc e)
+linked_kind Metal1 PDiffusion layer e = subst (λ z. links_kind z Metal1 ≡ true) (some_same Contact layer e) refl
+linked_kind Metal1 NDiffusion layer e = subst (λ z. links_kind z Metal1 ≡ true) (some_same Contact layer e) refl
+linked_kind Metal1 Poly layer e = subst (λ z. links_kind z Metal1 ≡ true) (some_same Contact layer e) refl
+linked_kind Metal1 Metal1 layer e = absurd (cc e)
+linked_kind Metal1 Metal2 layer e = subst (λ z. links_kind z Metal1 ≡ true) (some_same Via layer e) refl
+linked_kind Metal2 PDiffusion layer e = absurd (cc e)
+linked_kind Metal2 NDiffusion layer e = absurd (cc e)
+linked_kind Metal2 Poly layer e = absurd (cc e)
+linked_kind Metal2 Metal1 layer e = subst (λ z. links_kind z Metal2 ≡ true) (some_same Via layer e) refl
+linked_kind Metal2 Metal2 layer e = absurd (cc e)
+
+reached : (z : Shape) (a : Piece) (layer : Layer) (x y : ℤ) → On layer (z ∷ []) x y → links_kind layer a.kind ≡ true → Holds (rect_of a) x y → is_reached z a ≡ true
+reached z a layer x y on of_kind h =
+    let o = of_one z layer x y on in
+    and_true (links_kind z.layer a.kind) (sharing_cell (rect_of a) z.rect) (subst (λ l. links_kind l a.kind ≡ true) (sym (layer_is z.layer layer o.0)) of_kind) ((cell_decides (rect_of a) z.rect).1 (cells_meet (rect_of a) z.rect x y h o.1))
+
+pub joined_reached : (z : Shape) (a b : Piece) → AreJoined (z ∷ []) a b → is_reached z a ≡ true
+joined_reached z a b j = by (link_layer a.kind b.kind) refl (link_through (z ∷ []) j.x j.y a.kind b.kind j.through)
   where
-    by : (k l : Conductor) → place k ≡ place l → OnLink (link_layer k l) s j.x j.y → ⊥
-    by PDiffusion PDiffusion f o = o
-    by PDiffusion NDiffusion f o = absurd (cc f)
-    by PDiffusion Poly f o = absurd (cc f)
-    by PDiffusion Metal1 f o = absurd (cc f)
-    by PDiffusion Metal2 f o = absurd (cc f)
-    by NDiffusion PDiffusion f o = absurd (cc f)
-    by NDiffusion NDiffusion f o = o
-    by NDiffusion Poly f o = absurd (cc f)
-    by NDiffusion Metal1 f o = absurd (cc f)
-    by NDiffusion Metal2 f o = absurd (cc f)
-    by Poly PDiffusion f o = absurd (cc f)
-    by Poly NDiffusion f o = absurd (cc f)
-    by Poly Poly f o = o
-    by Poly Metal1 f o = absurd (cc f)
-    by Poly Metal2 f o = absurd (cc f)
-    by Metal1 PDiffusion f o = absurd (cc f)
-    by Metal1 NDiffusion f o = absurd (cc f)
-    by Metal1 Poly f o = absurd (cc f)
-    by Metal1 Metal1 f o = o
-    by Metal1 Metal2 f o = absurd (cc f)
-    by Metal2 PDiffusion f o = absurd (cc f)
-    by Metal2 NDiffusion f o = absurd (cc f)
-    by Metal2 Poly f o = absurd (cc f)
-    by Metal2 Metal1 f o = absurd (cc f)
-    by Metal2 Metal2 f o = o
+    by : (o : Option Layer) → link_layer a.kind b.kind ≡ o → OnLink o (z ∷ []) j.x j.y → is_reached z a ≡ true
+    by (Some layer) e on = reached z a layer j.x j.y on (linked_kind a.kind b.kind layer e) j.in_p
+    by None e on = absurd on
 
-pub bond_decides : (s : List Shape) (a b : Piece) → IsProper (rect_of a) → IsProper (rect_of b) → IsTrue (bonding s a b) ↔ Bond Plain s (part_of a) (part_of b)
-bond_decides s a b pa pb =
-    elim (cases_eq (place a.kind) (place b.kind)) [
-      | inl e ↦ rw (eq-eqb (place a.kind) (place b.kind) e) (Decides-like (touching (rect_of a) (rect_of b)) (by_touch (same_kind_place a.kind b.kind e)) (of_touch e) (touch_decides (rect_of a) (rect_of b) pa pb))
-      | inr ne ↦ rw (ne_eqb (place a.kind) (place b.kind) ne) (Decides-like (linking_by s (link_layer a.kind b.kind) (rect_of a) (rect_of b)) joining (of_joint ne) (joint_decides s a b))
-    ]
+-- a piece that begins above a contact or a via is not linked by it
+pub joined_below : (z : Shape) (a b : Piece) → AreJoined (z ∷ []) a b → b.low <ℤ z.rect.y2
+joined_below z a b j = by (link_layer a.kind b.kind) (link_through (z ∷ []) j.x j.y a.kind b.kind j.through)
   where
-    of_touch : place a.kind ≡ place b.kind → Bond Plain s (part_of a) (part_of b) → Touch (rect_of a) (rect_of b)
-    of_touch e (by_touch k t) = t
-    of_touch e (joining j) = absurd (unjoined s a b (same_kind_place a.kind b.kind e) j)
-    of_touch e (tying d z) = absurd (cc d)
+    by : (o : Option Layer) → OnLink o (z ∷ []) j.x j.y → b.low <ℤ z.rect.y2
+    by (Some layer) on = let h = (of_one z layer j.x j.y on).1 in let k = j.in_q in omega (arith, ints)
+    by None on = absurd on
 
-    of_joint : (place a.kind ≡ place b.kind → ⊥) → Bond Plain s (part_of a) (part_of b) → AreJoined s (part_of a) (part_of b)
-    of_joint ne (by_touch k t) = absurd (ne (same_place a.kind b.kind k))
-    of_joint ne (joining j) = j
-    of_joint ne (tying d z) = absurd (cc d)
+-- ---- touching
+unjoined : (a b : Piece) → AreJoined [] a b → ⊥
+unjoined a b j = elim j.through [ inl w ↦ by a.kind b.kind w | inr w ↦ by b.kind a.kind w ]
+  where
+    by : (k l : Conductor) → Joins [] j.x j.y k l → ⊥
+    by k l (by_contact u low on) = cover_none j.x j.y on
+    by k l (by_via u v on) = cover_none j.x j.y on
+
+pub touch_bonds : (a b : Piece) → IsProper (rect_of a) → IsProper (rect_of b) → IsTrue (bonding a b) ↔ Bond Plain [] a b
+touch_bonds a b pa pb =
+    Decides-like (bonding a b) (λ t. by_touch (same_kind_place a.kind b.kind t.0) t.1) of_bond
+    (Decides-and (place a.kind == place b.kind) (touching (rect_of a) (rect_of b)) (Decides-eqb (place a.kind) (place b.kind)) (touch_decides (rect_of a) (rect_of b) pa pb))
+  where
+    of_bond : Bond Plain [] a b → (place a.kind ≡ place b.kind) × Touch (rect_of a) (rect_of b)
+    of_bond (by_touch k t) = (same_place a.kind b.kind k, t)
+    of_bond (joining j) = absurd (unjoined a b j)
+    of_bond (tying d z) = absurd (cc d)

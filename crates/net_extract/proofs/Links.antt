@@ -10,11 +10,12 @@ use Rattle.box_geom.specs.declared.layer.Layer.TheVariants.{Contact, Via}
 use Rattle.scmos_rules.specs.declared.rules.Deck.{Deck}
 use Rattle.scmos_rules.specs.declared.rules.Deck.TheVariants.{Plain}
 use Rattle.net_extract.specs.Classes.{AreLeast, AreTried}
-use Rattle.net_extract.specs.Nets.{Kind, Joins, by_contact, by_via}
+use Rattle.net_extract.specs.Nets.{Joins, by_contact, by_via}
+use Rattle.net_extract.specs.declared.piece.Conductor.{Conductor}
 use Rattle.net_extract.specs.Connections.{blank}
-use Rattle.net_extract.specs.Parts.{Part, Bond, touching, joining, tying}
+use Rattle.net_extract.specs.Bonds.{Bond, touching, joining, tying, Paired}
 use Rattle.net_extract.specs.Links.{is_linking, links_in}
-use Rattle.net_extract.specs.Pieces.{part_of, piece_cmp, Paired}
+use Rattle.net_extract.specs.Pieces.{piece_cmp, rect_of}
 use Rattle.net_extract.specs.Ties.{PairedOrTied, AreTies}
 use Rattle.net_extract.specs.declared.piece.Piece.{Piece}
 use Rattle.net_extract.proofs.Apart.{filter_twice}
@@ -40,23 +41,23 @@ record SameLinks (s t : List Shape) : Type 0 where
   pub contacts : rects_on Contact s ≡ rects_on Contact t
   pub vias : rects_on Via s ≡ rects_on Via t
 
-joins_like : (s t : List Shape) → SameLinks s t → (x y : ℤ) (k l : Kind) → Joins s x y k l → Joins t x y k l
+joins_like : (s t : List Shape) → SameLinks s t → (x y : ℤ) (k l : Conductor) → Joins s x y k l → Joins t x y k l
 joins_like s t e x y k l (by_contact u low on) = by_contact u low (subst (λ rs. Covers rs x y) e.contacts on)
 joins_like s t e x y k l (by_via u v on) = by_via u v (subst (λ rs. Covers rs x y) e.vias on)
 
-bond_like : (s t : List Shape) → SameLinks s t → (p q : Part) → Bond Plain s p q → Bond Plain t p q
+bond_like : (s t : List Shape) → SameLinks s t → (p q : Piece) → Bond Plain s p q → Bond Plain t p q
 bond_like s t e p q (touching k h) = touching k h
 bond_like s t e p q (joining j) = joining (record { x = j.x; y = j.y; in_p = j.in_p; in_q = j.in_q; through = elim j.through [ inl a ↦ inl (joins_like s t e j.x j.y p.kind q.kind a) | inr a ↦ inr (joins_like s t e j.x j.y q.kind p.kind a) ] })
 bond_like s t e p q (tying d z) = absurd (cc d)
 
 pair_like : (s t : List Shape) → SameLinks s t → (ps : List Piece) (i j : ℕ) → Paired Plain s ps i j → Paired Plain t ps i j
-pair_like s t e ps i j p = record { one = p.one; other = p.other; at_one = p.at_one; at_other = p.at_other; bond = bond_like s t e (part_of p.one) (part_of p.other) p.bond }
+pair_like s t e ps i j p = record { one = p.one; other = p.other; at_one = p.at_one; at_other = p.at_other; bond = bond_like s t e p.one p.other p.bond }
 
 -- a deck knows the bonds of a plain one
 pair_of_plain : (deck : Deck) (s : List Shape) (ps : List Piece) (i j : ℕ) → Paired Plain s ps i j → Paired deck s ps i j
 pair_of_plain deck s ps i j p = record { one = p.one; other = p.other; at_one = p.at_one; at_other = p.at_other; bond = by p.bond }
   where
-    by : Bond Plain s (part_of p.one) (part_of p.other) → Bond deck s (part_of p.one) (part_of p.other)
+    by : Bond Plain s p.one p.other → Bond deck s p.one p.other
     by (touching e t) = touching e t
     by (joining b) = joining b
     by (tying e z) = absurd (cc e)
@@ -96,17 +97,17 @@ touch_up p q t =
     let near : t.other.y ≤ℤ (t.one.y +ℤ pos 1) = elim t.meet [ inl e ↦ (let f : t.one.y ≡ t.other.y = ap (λ (c : Cell). c.y) e in omega (arith, ints, f)) | inr e ↦ edge_up t.one t.other e ] in
     omega (arith, ints)
 
-bond_up : (s : List Shape) (p q : Part) → Bond Plain s p q → q.rect.y1 ≤ℤ p.rect.y2
-bond_up s p q (touching e t) = touch_up p.rect q.rect t
+bond_up : (s : List Shape) (p q : Piece) → Bond Plain s p q → q.low ≤ℤ p.top
+bond_up s p q (touching e t) = touch_up (rect_of p) (rect_of q) t
 bond_up s p q (joining j) = let h = j.in_p in let k = j.in_q in omega (arith, ints)
 bond_up s p q (tying d z) = absurd (cc d)
 
 -- pieces from one on that begins above a piece are not bonded with it
 pub none_above : (s : List Shape) (ps : List Piece) → IsSorted piece_cmp ps → (i k : ℕ) → k < length ps → int_lt (get_or ps i blank).top (get_or ps k blank).low ≡ true → (j : ℕ) → k ≤ j → j < length ps → Paired Plain s ps i j → ⊥
 none_above s ps up i k lk above j le lj p =
-    let b : (get_or ps j blank).low ≤ℤ (get_or ps i blank).top = bond_up s (part_of (get_or ps i blank)) (part_of (get_or ps j blank)) (bond_of_pair Plain s ps i j blank p) in
+    let b : (get_or ps j blank).low ≤ℤ (get_or ps i blank).top = bond_up s (get_or ps i blank) (get_or ps j blank) (bond_of_pair Plain s ps i j blank p) in
     let o : (get_or ps k blank).low ≤ℤ (get_or ps j blank).low = (ordered ps blank up k j le lj).row in
     omega (arith, ints, above)
 
-pub tried_below : (s : List Shape) (ps : List Piece) → IsSorted piece_cmp ps → (i k : ℕ) (old new : List ℕ) → k < length ps → int_lt (get_or ps i blank).top (get_or ps k blank).low ≡ true → AreTried (length ps) (Paired Plain s ps) i k old new → AreTried (length ps) (Paired Plain s ps) i (length ps) old new
-tried_below s ps up i k old new lk above was = cut_short (length ps) (Paired Plain s ps) i k old new (none_above s ps up i k lk above) was
+pub tried_below : (s : List Shape) (ps : List Piece) → IsSorted piece_cmp ps → (i k : ℕ) (old new : List ℕ) → k < length ps → int_lt (get_or ps i blank).top (get_or ps k blank).low ≡ true → AreTried (length ps) (Paired Plain s ps) (Paired Plain s ps) i k old new → AreTried (length ps) (Paired Plain s ps) (Paired Plain s ps) i (length ps) old new
+tried_below s ps up i k old new lk above was = cut_short (length ps) (Paired Plain s ps) (Paired Plain s ps) i k old new (none_above s ps up i k lk above) was

@@ -7,55 +7,55 @@ use Rattle.std.proofs.lemmas.List.Sorted.{Contains-permutation, IsPermutation-sy
 use Rattle.cell_num.proofs.Lists.{contains_none, contains_cons, contains_here, contains_there, all_from_contains}
 use Rattle.box_geom.specs.Rectangle.{Rectangle, IsProper, Holds}
 use Rattle.box_geom.specs.declared.shape.Shape.{Shape}
-use Rattle.net_extract.specs.Nets.{Kind, p_diffusion, n_diffusion, poly, metal1, metal2, Site, Conducts}
-use Rattle.net_extract.specs.Parts.{AreDrawn, IsPart, IsIn}
-use Rattle.net_extract.specs.Pieces.{kind_of, is_of, rect_of, part_of, corner_of, rects_in}
+use Rattle.net_extract.specs.Nets.{Site, Conducts}
+use Rattle.net_extract.specs.Bonds.{AreDrawn, IsPieceOf, IsIn}
+use Rattle.net_extract.specs.Pieces.{is_of, rect_of, corner_of, rects_in}
 use Rattle.net_extract.specs.declared.piece.Conductor.{Conductor}
 use Rattle.net_extract.specs.declared.piece.Conductor.TheVariants.{PDiffusion, NDiffusion, Poly, Metal1, Metal2}
 use Rattle.net_extract.specs.declared.piece.Piece.{Piece}
 
-pub is_own : (c : Conductor) → is_of (kind_of c) c ≡ true
+pub is_own : (c : Conductor) → is_of c c ≡ true
 is_own PDiffusion = refl
 is_own NDiffusion = refl
 is_own Poly = refl
 is_own Metal1 = refl
 is_own Metal2 = refl
 
-pub kind_is : (k : Kind) (c : Conductor) → is_of k c ≡ true → kind_of c ≡ k
-kind_is p_diffusion PDiffusion e = refl
-kind_is p_diffusion NDiffusion e = absurd (cc e)
-kind_is p_diffusion Poly e = absurd (cc e)
-kind_is p_diffusion Metal1 e = absurd (cc e)
-kind_is p_diffusion Metal2 e = absurd (cc e)
-kind_is n_diffusion PDiffusion e = absurd (cc e)
-kind_is n_diffusion NDiffusion e = refl
-kind_is n_diffusion Poly e = absurd (cc e)
-kind_is n_diffusion Metal1 e = absurd (cc e)
-kind_is n_diffusion Metal2 e = absurd (cc e)
-kind_is poly PDiffusion e = absurd (cc e)
-kind_is poly NDiffusion e = absurd (cc e)
-kind_is poly Poly e = refl
-kind_is poly Metal1 e = absurd (cc e)
-kind_is poly Metal2 e = absurd (cc e)
-kind_is metal1 PDiffusion e = absurd (cc e)
-kind_is metal1 NDiffusion e = absurd (cc e)
-kind_is metal1 Poly e = absurd (cc e)
-kind_is metal1 Metal1 e = refl
-kind_is metal1 Metal2 e = absurd (cc e)
-kind_is metal2 PDiffusion e = absurd (cc e)
-kind_is metal2 NDiffusion e = absurd (cc e)
-kind_is metal2 Poly e = absurd (cc e)
-kind_is metal2 Metal1 e = absurd (cc e)
-kind_is metal2 Metal2 e = refl
+pub kind_is : (k : Conductor) (c : Conductor) → is_of k c ≡ true → c ≡ k
+kind_is PDiffusion PDiffusion e = refl
+kind_is PDiffusion NDiffusion e = absurd (cc e)
+kind_is PDiffusion Poly e = absurd (cc e)
+kind_is PDiffusion Metal1 e = absurd (cc e)
+kind_is PDiffusion Metal2 e = absurd (cc e)
+kind_is NDiffusion PDiffusion e = absurd (cc e)
+kind_is NDiffusion NDiffusion e = refl
+kind_is NDiffusion Poly e = absurd (cc e)
+kind_is NDiffusion Metal1 e = absurd (cc e)
+kind_is NDiffusion Metal2 e = absurd (cc e)
+kind_is Poly PDiffusion e = absurd (cc e)
+kind_is Poly NDiffusion e = absurd (cc e)
+kind_is Poly Poly e = refl
+kind_is Poly Metal1 e = absurd (cc e)
+kind_is Poly Metal2 e = absurd (cc e)
+kind_is Metal1 PDiffusion e = absurd (cc e)
+kind_is Metal1 NDiffusion e = absurd (cc e)
+kind_is Metal1 Poly e = absurd (cc e)
+kind_is Metal1 Metal1 e = refl
+kind_is Metal1 Metal2 e = absurd (cc e)
+kind_is Metal2 PDiffusion e = absurd (cc e)
+kind_is Metal2 NDiffusion e = absurd (cc e)
+kind_is Metal2 Poly e = absurd (cc e)
+kind_is Metal2 Metal1 e = absurd (cc e)
+kind_is Metal2 Metal2 e = refl
 
 -- a piece of the list with that kind and that rectangle
-pub record Listed (ps : List Piece) (k : Kind) (r : Rectangle) : Type 0 where
+pub record Listed (ps : List Piece) (k : Conductor) (r : Rectangle) : Type 0 where
   pub piece : Piece
   pub listed : Contains ps piece
-  pub kind : kind_of piece.kind ≡ k
+  pub kind : piece.kind ≡ k
   pub rect : rect_of piece ≡ r
 
-pub listed_of : (ps : List Piece) (k : Kind) (r : Rectangle) → Contains (rects_in ps k) r → Listed ps k r
+pub listed_of : (ps : List Piece) (k : Conductor) (r : Rectangle) → Contains (rects_in ps k) r → Listed ps k r
 listed_of [] k r c = absurd (contains_none r c)
 listed_of (p ∷ ps) k r c = by (is_of k p.kind) refl c (λ d. listed_of ps k r d)
   where
@@ -69,7 +69,7 @@ listed_of (p ∷ ps) k r c = by (is_of k p.kind) refl c (λ d. listed_of ps k r 
     ]
     by false e d go = later (go d)
 
-pub of_listed : (ps : List Piece) (p : Piece) (k : Kind) → Contains ps p → kind_of p.kind ≡ k → Contains (rects_in ps k) (rect_of p)
+pub of_listed : (ps : List Piece) (p : Piece) (k : Conductor) → Contains ps p → p.kind ≡ k → Contains (rects_in ps k) (rect_of p)
 of_listed [] p k c e = absurd (contains_none p c)
 of_listed (q ∷ qs) p k c e =
     elim (contains_cons q qs p c) [
@@ -83,8 +83,8 @@ of_listed (q ∷ qs) p k c e =
     by true d = contains_there (rect_of q) (rects_in qs k) (rect_of p) d
     by false d = d
 
-pub part_listed : (ps : List Piece) (p : Piece) → Contains ps p → IsPart (rects_in ps) (part_of p)
-part_listed ps p c = of_listed ps p (kind_of p.kind) c refl
+pub piece_listed : (ps : List Piece) (p : Piece) → Contains ps p → IsPieceOf (rects_in ps) p
+piece_listed ps p c = of_listed ps p p.kind c refl
 
 -- lists with the same pieces draw the same
 pub drawn_alike : (s : List Shape) (ps qs : List Piece) → ((p : Piece) → Contains ps p → Contains qs p) → ((p : Piece) → Contains qs p → Contains ps p) → AreDrawn s (rects_in ps) → AreDrawn s (rects_in qs)
@@ -94,29 +94,29 @@ drawn_alike s ps qs there back d = record {
   proper = λ k. all_from_contains IsProper (rects_in qs k) (λ r c. All-contains IsProper (rects_in ps k) r (d.proper k) (moved qs ps back k r c));
 }
   where
-    moved : (xs ys : List Piece) → ((p : Piece) → Contains xs p → Contains ys p) → (k : Kind) (r : Rectangle) → Contains (rects_in xs k) r → Contains (rects_in ys k) r
+    moved : (xs ys : List Piece) → ((p : Piece) → Contains xs p → Contains ys p) → (k : Conductor) (r : Rectangle) → Contains (rects_in xs k) r → Contains (rects_in ys k) r
     moved xs ys f k r c = let l = listed_of xs k r c in subst (Contains (rects_in ys k)) l.rect (of_listed ys l.piece k (f l.piece l.listed) l.kind)
 
 pub drawn_permuted : (s : List Shape) (ps qs : List Piece) → IsPermutation ps qs → AreDrawn s (rects_in ps) → AreDrawn s (rects_in qs)
 drawn_permuted s ps qs m d = drawn_alike s ps qs (λ p c. Contains-permutation ps qs p m c) (λ p c. Contains-permutation qs ps p (IsPermutation-sym ps qs m) c) d
 
 pub piece_proper : (s : List Shape) (ps : List Piece) → AreDrawn s (rects_in ps) → (p : Piece) → Contains ps p → IsProper (rect_of p)
-piece_proper s ps d p c = All-contains IsProper (rects_in ps (kind_of p.kind)) (rect_of p) (d.proper (kind_of p.kind)) (part_listed ps p c)
+piece_proper s ps d p c = All-contains IsProper (rects_in ps p.kind) (rect_of p) (d.proper p.kind) (piece_listed ps p c)
 
 pub all_proper : (s : List Shape) (ps : List Piece) → AreDrawn s (rects_in ps) → All (λ p. IsProper (rect_of p)) ps
 all_proper s ps d = all_from_contains (λ p. IsProper (rect_of p)) ps (piece_proper s ps d)
 
-pub corner_in : (p : Piece) → IsProper (rect_of p) → IsIn (part_of p) (corner_of p)
+pub corner_in : (p : Piece) → IsProper (rect_of p) → IsIn p (corner_of p)
 corner_in p proper = record { kind = refl; holds = (let w = proper.wide in let h = proper.high in omega (arith, ints)) }
 
 pub corner_conducts : (s : List Shape) (ps : List Piece) → AreDrawn s (rects_in ps) → (p : Piece) → Contains ps p → Conducts s (corner_of p)
-corner_conducts s ps d p c = d.conducts (kind_of p.kind) p.left p.low (record { rect = rect_of p; listed = part_listed ps p c; holds = (corner_in p (piece_proper s ps d p c)).holds })
+corner_conducts s ps d p c = d.conducts p.kind p.left p.low (record { rect = rect_of p; listed = piece_listed ps p c; holds = (corner_in p (piece_proper s ps d p c)).holds })
 
 -- the piece that holds a conductor cell
 pub record Held (ps : List Piece) (a : Site) : Type 0 where
   pub piece : Piece
   pub listed : Contains ps piece
-  pub inside : IsIn (part_of piece) a
+  pub inside : IsIn piece a
 
 pub held : (s : List Shape) (ps : List Piece) → AreDrawn s (rects_in ps) → (a : Site) → Conducts s a → Held ps a
 held s ps d a is =
@@ -125,5 +125,5 @@ held s ps d a is =
     record { piece = l.piece; listed = l.listed; inside = record { kind = l.kind; holds = subst (λ z. Holds z a.cell.x a.cell.y) (sym l.rect) c.holds } }
 
 -- a cell of a piece is conductor
-pub inside_conducts : (s : List Shape) (ps : List Piece) → AreDrawn s (rects_in ps) → (p : Piece) → Contains ps p → (a : Site) → IsIn (part_of p) a → Conducts s a
+pub inside_conducts : (s : List Shape) (ps : List Piece) → AreDrawn s (rects_in ps) → (p : Piece) → Contains ps p → (a : Site) → IsIn p a → Conducts s a
 inside_conducts s ps d p c a i = d.conducts a.kind a.cell.x a.cell.y (record { rect = rect_of p; listed = of_listed ps p a.kind c i.kind; holds = i.holds })

@@ -1,5 +1,5 @@
 -- What is looked up by cell and by label is the nets of the drawing.
-use Rattle.std.proofs.Common.{◌≡◌, ◌↔◌, ℕ, ◌<◌, length, IfSome, ◌==◌, ℤ, pos, neg_ℤ, ◌-ℤ◌, ◌≤ℤ◌, ◌<ℤ◌, true, Option, Some, None, List, [], ◌∷◌, get_or, IsPermutation, refl, sym, subst, ap, arith, ◌∙◌}
+use Rattle.std.proofs.Common.{◌≡◌, ◌↔◌, ℕ, ◌<◌, length, IfSome, ◌==◌, ℤ, pos, neg_ℤ, ◌-ℤ◌, ◌≤ℤ◌, ◌<ℤ◌, true, Option, Some, None, List, IsPermutation, refl, sym, subst, ap, arith, ◌∙◌}
 use Rattle.std.specs.List.{All, Contains, filter, find}
 use Rattle.std.specs.Option.{option_map}
 use Rattle.std.proofs.lemmas.Bool.Decides.{Decides-eqb}
@@ -13,24 +13,25 @@ use Rattle.cell_num.proofs.In.{in_map, contains_map}
 use Rattle.cell_num.proofs.Lists.{all_from_contains, some_same}
 use Rattle.box_geom.specs.Comparisons.{holding}
 use Rattle.box_geom.proofs.Filters.{contains_filter, in_filter}
-use Rattle.box_geom.specs.Layers.{AreWithinLimits, layer_no, same_layer}
+use Rattle.box_geom.specs.Layers.{AreWithinLimits, same_layer}
 use Rattle.box_geom.specs.Rectangle.{Rectangle, IsProper, IsRectangle, Holds, Covers}
 use Rattle.box_geom.specs.Regions.{IsBlock}
 use Rattle.box_geom.specs.Touching.{Cell}
 use Rattle.box_geom.specs.declared.layer.Layer.{Layer}
-use Rattle.box_geom.specs.declared.layer.Layer.TheVariants.{Well, Active, PSelect, NSelect, Poly as PolyLayer, Contact, Metal1, Via, Metal2}
 use Rattle.box_geom.specs.declared.shape.Shape.{Shape}
 use Rattle.box_geom.specs.declared.shape.Shapes.{Shapes}
 use Rattle.scmos_rules.specs.Layout.{On}
 use Rattle.scmos_rules.specs.declared.rules.Deck.{Deck}
 use Rattle.net_extract.specs.Connections.{firsts_of, pieces_of, AreWires}
 use Rattle.net_extract.specs.NetMaps.{NetMap, HaveNames, net_named, AreCellsOf, AreOfNets, at_cell, net_of, of_net, blocks_of, IsNetAt, Maps, net_piece, net_pieces}
-use Rattle.net_extract.specs.Nets.{Kind, p_diffusion, n_diffusion, poly, metal1, metal2, Are, layer_of, Site, site_at}
+use Rattle.net_extract.specs.Nets.{Are, layer_of, Site, site_at}
+use Rattle.net_extract.specs.declared.piece.Conductor.{Conductor}
+use Rattle.net_extract.specs.declared.piece.Conductor.TheVariants.{PDiffusion, NDiffusion, Poly, Metal1, Metal2}
 use Rattle.net_extract.specs.GateNets.{boxes_of}
 use Rattle.net_extract.specs.Naming.{name_of, names_of}
 use Rattle.net_extract.specs.Numbering.{IsInNet}
-use Rattle.net_extract.specs.Parts.{IsIn}
-use Rattle.net_extract.specs.Pieces.{corner_of, kind_of, part_of, rect_of}
+use Rattle.net_extract.specs.Bonds.{IsIn}
+use Rattle.net_extract.specs.Pieces.{corner_of, rect_of}
 use Rattle.net_extract.specs.Steps.{IsMapped}
 use Rattle.net_extract.specs.declared.connections.Wire.{Wire}
 use Rattle.net_extract.specs.declared.drawing.Mapped.{Mapped}
@@ -44,30 +45,9 @@ use Rattle.net_extract.proofs.Extracting.{regular_of}
 use Rattle.net_extract.proofs.Filling.{holds_decides, and_parts, and_true}
 use Rattle.net_extract.proofs.Finding.{found, found_none, shows}
 use Rattle.net_extract.proofs.Labelling.{wire_listed, wire_net}
+use Rattle.net_extract.proofs.LayerNumbers.{layer_is, is_layer}
 use Rattle.net_extract.proofs.Listing.{held as held_cell, inside_conducts, piece_proper}
 use Rattle.net_extract.proofs.Numbers.{one_number}
-
--- ---- layers by their places
-numbered : ℕ → Layer
-numbered n = get_or (Well ∷ Active ∷ PSelect ∷ NSelect ∷ PolyLayer ∷ Contact ∷ Metal1 ∷ Via ∷ Metal2 ∷ []) n Well
-
-by_number : (layer : Layer) → numbered (layer_no layer) ≡ layer
-unfolding numbered
-by_number Well = refl
-by_number Active = refl
-by_number PSelect = refl
-by_number NSelect = refl
-by_number PolyLayer = refl
-by_number Contact = refl
-by_number Metal1 = refl
-by_number Via = refl
-by_number Metal2 = refl
-
-pub layer_is : (a b : Layer) → same_layer a b ≡ true → a ≡ b
-layer_is a b e = sym (by_number a) ∙ (ap numbered ((Decides-eqb (layer_no a) (layer_no b)).0 e) ∙ by_number b)
-
-pub is_layer : (a b : Layer) → a ≡ b → same_layer a b ≡ true
-is_layer a b e = (Decides-eqb (layer_no a) (layer_no b)).1 (ap layer_no e)
 
 -- ---- nets by cells
 
@@ -77,12 +57,12 @@ piece_at deck s wires firsts m p c layer on x y h = let i = in_map net_piece wir
   where
     by : (w : Wire) → Contains wires w → net_piece w ≡ p → IsNetAt deck s (firsts_of firsts) layer x y p.net
     by w listed is =
-        let a : Site = site_at (kind_of w.piece.kind) x y in
-        let inside : IsIn (part_of w.piece) (site_at (kind_of w.piece.kind) x y) = record { kind = refl; holds = subst (λ (q : NetPiece). Holds q.block x y) (sym is) h } in
+        let a : Site = site_at w.piece.kind x y in
+        let inside : IsIn w.piece (site_at w.piece.kind x y) = record { kind = refl; holds = subst (λ (q : NetPiece). Holds q.block x y) (sym is) h } in
         record {
-          site = site_at (kind_of w.piece.kind) x y;
-          conductor = record { cell = refl; on_layer = ap (λ (q : NetPiece). q.layer) is ∙ on; conducts = inside_conducts s (pieces_of wires) m.drawn w.piece (wire_listed wires w listed) (site_at (kind_of w.piece.kind) x y) inside };
-          net = subst (λ k. IsInNet deck s (firsts_of firsts) k (site_at (kind_of w.piece.kind) x y)) (ap (λ (q : NetPiece). q.net) is) (wire_net deck s wires firsts m w listed (site_at (kind_of w.piece.kind) x y) inside);
+          site = site_at w.piece.kind x y;
+          conductor = record { cell = refl; on_layer = ap (λ (q : NetPiece). q.layer) is ∙ on; conducts = inside_conducts s (pieces_of wires) m.drawn w.piece (wire_listed wires w listed) (site_at w.piece.kind x y) inside };
+          net = subst (λ k. IsInNet deck s (firsts_of firsts) k (site_at w.piece.kind x y)) (ap (λ (q : NetPiece). q.net) is) (wire_net deck s wires firsts m w listed (site_at w.piece.kind x y) inside);
         }
 
 -- a cell of a layer is in one net
@@ -107,19 +87,19 @@ net_at deck s wires firsts m layer x y n = (λ e. there (find (at_cell layer x y
     back None e a =
         let h = held_cell s (pieces_of wires) m.drawn a.site a.conductor.conducts in
         let i = in_map (λ (z : Wire). z.piece) wires h.piece h.listed in
-        let kind : kind_of i.of.piece.kind ≡ a.site.kind = subst (λ (q : Piece). kind_of q.kind ≡ a.site.kind) (sym i.is) h.inside.kind in
-        let on : layer_of (kind_of i.of.piece.kind) ≡ layer = ap layer_of kind ∙ a.conductor.on_layer in
+        let kind : i.of.piece.kind ≡ a.site.kind = subst (λ (q : Piece). q.kind ≡ a.site.kind) (sym i.is) h.inside.kind in
+        let on : layer_of i.of.piece.kind ≡ layer = ap layer_of kind ∙ a.conductor.on_layer in
         let holds : Holds (rect_of i.of.piece) x y = subst (λ c. Holds (rect_of i.of.piece) c.x c.y) a.conductor.cell (subst (λ (q : Piece). Holds (rect_of q) a.site.cell.x a.site.cell.y) (sym i.is) h.inside.holds) in
-        absurd (found_none (at_cell layer x y) (net_pieces wires) e (net_piece i.of) (contains_map net_piece wires i.of i.listed) (and_true (same_layer (layer_of (kind_of i.of.piece.kind)) layer) (holding (rect_of i.of.piece) x y) (is_layer (layer_of (kind_of i.of.piece.kind)) layer on) ((holds_decides (rect_of i.of.piece) x y).1 holds)))
+        absurd (found_none (at_cell layer x y) (net_pieces wires) e (net_piece i.of) (contains_map net_piece wires i.of i.listed) (and_true (same_layer (layer_of i.of.piece.kind) layer) (holding (rect_of i.of.piece) x y) (is_layer (layer_of i.of.piece.kind) layer on) ((holds_decides (rect_of i.of.piece) x y).1 holds)))
 
 -- ---- the pieces of a net
 
-on_layer : (s : List Shape) (k : Kind) (x y : ℤ) → Are s k x y → On (layer_of k) s x y
-on_layer s p_diffusion x y a = a.0.0
-on_layer s n_diffusion x y a = a.0.0
-on_layer s poly x y a = a
-on_layer s metal1 x y a = a
-on_layer s metal2 x y a = a
+on_layer : (s : List Shape) (k : Conductor) (x y : ℤ) → Are s k x y → On (layer_of k) s x y
+on_layer s PDiffusion x y a = a.0.0
+on_layer s NDiffusion x y a = a.0.0
+on_layer s Poly x y a = a
+on_layer s Metal1 x y a = a
+on_layer s Metal2 x y a = a
 
 -- a cell within the limits of a drawing
 record IsLimited (x y : ℤ) : Type 0 where

@@ -17,17 +17,20 @@ use Rattle.net_extract.specs.declared.fault.ExtractFault.TheVariants.{TooMany, O
 use Rattle.net_extract.specs.declared.naming.Held.{Held}
 use Rattle.net_extract.specs.declared.netlist.Drawn.{Drawn}
 use Rattle.net_extract.specs.declared.netlist.Netlist.{Netlist}
-use Rattle.net_extract.specs.Devices.{diffusion_of, IsSide, IsClosed, Flow, rightward, upward, left_of, below, source_side, drain_side, low_end, IsSize, BeginsBefore, AreDevices}
+use Rattle.net_extract.specs.Devices.{diffusion_of, IsSide, IsClosed, left_of, below, source_side, drain_side, low_end, IsSize, BeginsBefore, AreDevices}
 use Rattle.net_extract.specs.Extraction.{IsDrawn, IsLabelled, Extracts, ExtractRefused}
-use Rattle.net_extract.specs.Labels.{AreHeld, IsHeld, wiring_labels}
+use Rattle.net_extract.specs.Labels.{AreHeld, IsHeld, conductor_labels}
 use Rattle.net_extract.specs.Naming.{names_of, short_net, split_name}
-use Rattle.net_extract.specs.Nets.{poly, Site, site_at, Conducts}
+use Rattle.net_extract.specs.Nets.{Site, site_at, Conducts}
+use Rattle.net_extract.specs.declared.piece.Conductor.TheVariants.{Poly}
 use Rattle.net_extract.specs.Numbering.{AreNets, IsInNet}
 use Rattle.net_extract.proofs.Belonging.{one_site}
 use Rattle.net_extract.proofs.Extracting.{not_many}
 use Rattle.net_extract.proofs.Numbers.{one_number}
 use Rattle.net_extract.proofs.Orders.{same_numbering}
 use Rattle.net_extract.proofs.Siding.{corner_held, source_proper, drain_proper, move_net, row_one}
+use Rattle.net_extract.specs.declared.side.Current.{Current}
+use Rattle.net_extract.specs.declared.side.Current.TheVariants.{Rightward, Upward}
 
 -- ---- labels
 held_with : List ℕ → ℕ → Held
@@ -59,7 +62,7 @@ all_held deck s firsts (l ∷ ls) (h ∷ hs) (k ∷ ks) nets a b =
 pub one_labelling : (deck : Deck) (shapes : Shapes) (firsts others : List Site) (hs ks : List Held) → IsLabelled deck shapes firsts hs → IsLabelled deck shapes others ks → (firsts ≡ others) × (hs ≡ ks)
 one_labelling deck shapes firsts others hs ks a b =
     let same : firsts ≡ others = same_numbering deck shapes.rects firsts others a.nets b.nets in
-    (same, all_held deck shapes.rects firsts (wiring_labels shapes.labels) hs ks a.nets a.labels (subst (λ (z : List Site). AreHeld deck shapes.rects z shapes.labels ks) (sym same) b.labels))
+    (same, all_held deck shapes.rects firsts (conductor_labels shapes.labels) hs ks a.nets a.labels (subst (λ (z : List Site). AreHeld deck shapes.rects z shapes.labels ks) (sym same) b.labels))
 
 -- ---- devices
 begins_strict : (a b : Rectangle) → BeginsBefore a b → BeginsBefore b a → ⊥
@@ -76,11 +79,11 @@ diffusion_active s N x y c = c.0.0
 not_closed : (deck : Deck) (s : List Shape) (row : Row) (strip : Rectangle) (a : Site) → IsProper strip → IsSide deck s (diffusion_of row) strip a → IsClosed s strip → ⊥
 not_closed deck s row strip a p side closed = closed.closed strip.x1 strip.y1 (corner_held strip p) (diffusion_active s row strip.x1 strip.y1 (side.side strip.x1 strip.y1 (corner_held strip p)).0)
 
-one_flow : (deck : Deck) (s : List Shape) (box : Rectangle) (row : Row) (a b : Site) (flow way : Flow) → IsProper box → IsSide deck s (diffusion_of row) (source_side flow box) a → IsClosed s (low_end flow box) → IsSide deck s (diffusion_of row) (source_side way box) b → IsClosed s (low_end way box) → flow ≡ way
-one_flow deck s box row a b rightward rightward p sa ca sb cb = refl
-one_flow deck s box row a b rightward upward p sa ca sb cb = absurd (not_closed deck s row (left_of box) a (source_proper rightward box (left_of box) p refl) sa cb)
-one_flow deck s box row a b upward rightward p sa ca sb cb = absurd (not_closed deck s row (below box) a (source_proper upward box (below box) p refl) sa cb)
-one_flow deck s box row a b upward upward p sa ca sb cb = refl
+one_current : (deck : Deck) (s : List Shape) (box : Rectangle) (row : Row) (a b : Site) (current way : Current) → IsProper box → IsSide deck s (diffusion_of row) (source_side current box) a → IsClosed s (low_end current box) → IsSide deck s (diffusion_of row) (source_side way box) b → IsClosed s (low_end way box) → current ≡ way
+one_current deck s box row a b Rightward Rightward p sa ca sb cb = refl
+one_current deck s box row a b Rightward Upward p sa ca sb cb = absurd (not_closed deck s row (left_of box) a (source_proper Rightward box (left_of box) p refl) sa cb)
+one_current deck s box row a b Upward Rightward p sa ca sb cb = absurd (not_closed deck s row (below box) a (source_proper Upward box (below box) p refl) sa cb)
+one_current deck s box row a b Upward Upward p sa ca sb cb = refl
 
 -- the net along a strip has one number
 one_side : (deck : Deck) (s : List Shape) (firsts : List Site) (row : Row) (strip : Rectangle) (a b : Site) → AreNets deck s firsts → IsProper strip → IsSide deck s (diffusion_of row) strip a → IsSide deck s (diffusion_of row) strip b → (m n : ℕ) → IsInNet deck s firsts m a → IsInNet deck s firsts n b → m ≡ n
@@ -91,12 +94,12 @@ one_side deck s firsts row strip a b nets p sa sb m n ma nb =
     (move_net deck s firsts m a at ma (sa.side strip.x1 strip.y1 held).1)
     (move_net deck s firsts n b at nb (sb.side strip.x1 strip.y1 held).1)
 
-one_size : (flow : Flow) (box : Rectangle) (w l v m : ℕ) → IsSize flow box w l → IsSize flow box v m → (w ≡ v) × (l ≡ m)
-one_size rightward box w l v m a b =
+one_size : (current : Current) (box : Rectangle) (w l v m : ℕ) → IsSize current box w l → IsSize current box v m → (w ≡ v) × (l ≡ m)
+one_size Rightward box w l v m a b =
     let (e, f) = a.across refl in
     let (g, h) = b.across refl in
     (omega (arith, ints, e, g), omega (arith, ints, f, h))
-one_size upward box w l v m a b =
+one_size Upward box w l v m a b =
     let (e, f) = a.upright refl in
     let (g, h) = b.upright refl in
     (omega (arith, ints, e, g), omega (arith, ints, f, h))
@@ -124,23 +127,23 @@ one_drawn deck s firsts box d e nets a b = same_drawn d e row gate ends.0 ends.1
 
     gate : d.gate ≡ e.gate
     gate =
-        let at : Site = site_at poly box.x1 box.y1 in
+        let at : Site = site_at Poly box.x1 box.y1 in
         one_number deck s firsts d.gate e.gate at nets (move_net deck s firsts d.gate a.gate at a.gate_net a.is.gate_net) (move_net deck s firsts e.gate b.gate at b.gate_net b.is.gate_net)
 
-    source : (way : Flow) → IsSide deck s (diffusion_of e.row) (source_side way box) b.left → IsSide deck s (diffusion_of d.row) (source_side way box) b.left
+    source : (way : Current) → IsSide deck s (diffusion_of e.row) (source_side way box) b.left → IsSide deck s (diffusion_of d.row) (source_side way box) b.left
     source way = subst (λ r. IsSide deck s (diffusion_of r) (source_side way box) b.left) (sym row)
 
-    flow : a.is.flow ≡ b.is.flow
-    flow = one_flow deck s box d.row a.left b.left a.is.flow b.is.flow a.is.class.proper a.is.left_side a.is.low (source b.is.flow b.is.left_side) b.is.low
+    current : a.is.current ≡ b.is.current
+    current = one_current deck s box d.row a.left b.left a.is.current b.is.current a.is.class.proper a.is.left_side a.is.low (source b.is.current b.is.left_side) b.is.low
 
     left : (m n : ℕ) → IsInNet deck s firsts m a.left → IsInNet deck s firsts n b.left → m ≡ n
-    left = one_side deck s firsts d.row (source_side a.is.flow box) a.left b.left nets (source_proper a.is.flow box (source_side a.is.flow box) a.is.class.proper refl) a.is.left_side (subst (λ w. IsSide deck s (diffusion_of d.row) (source_side w box) b.left) (sym flow) (source b.is.flow b.is.left_side))
+    left = one_side deck s firsts d.row (source_side a.is.current box) a.left b.left nets (source_proper a.is.current box (source_side a.is.current box) a.is.class.proper refl) a.is.left_side (subst (λ w. IsSide deck s (diffusion_of d.row) (source_side w box) b.left) (sym current) (source b.is.current b.is.left_side))
 
     right : (m n : ℕ) → IsInNet deck s firsts m a.right → IsInNet deck s firsts n b.right → m ≡ n
-    right = one_side deck s firsts d.row (drain_side a.is.flow box) a.right b.right nets (drain_proper a.is.flow box (drain_side a.is.flow box) a.is.class.proper refl) a.is.right_side (subst (λ w. IsSide deck s (diffusion_of d.row) (drain_side w box) b.right) (sym flow) (subst (λ r. IsSide deck s (diffusion_of r) (drain_side b.is.flow box) b.right) (sym row) b.is.right_side))
+    right = one_side deck s firsts d.row (drain_side a.is.current box) a.right b.right nets (drain_proper a.is.current box (drain_side a.is.current box) a.is.class.proper refl) a.is.right_side (subst (λ w. IsSide deck s (diffusion_of d.row) (drain_side w box) b.right) (sym current) (subst (λ r. IsSide deck s (diffusion_of r) (drain_side b.is.current box) b.right) (sym row) b.is.right_side))
 
     size : (d.width ≡ e.width) × (d.length ≡ e.length)
-    size = one_size a.is.flow box d.width d.length e.width e.length a.is.size (subst (λ w. IsSize w box e.width e.length) (sym flow) b.is.size)
+    size = one_size a.is.current box d.width d.length e.width e.length a.is.size (subst (λ w. IsSize w box e.width e.length) (sym current) b.is.size)
 
     either : (IsInNet deck s firsts d.lo a.left × IsInNet deck s firsts d.hi a.right) ⊎ (IsInNet deck s firsts d.lo a.right × IsInNet deck s firsts d.hi a.left) → (IsInNet deck s firsts e.lo b.left × IsInNet deck s firsts e.hi b.right) ⊎ (IsInNet deck s firsts e.lo b.right × IsInNet deck s firsts e.hi b.left) → ((d.lo ≡ e.lo) × (d.hi ≡ e.hi)) ⊎ ((d.lo ≡ e.hi) × (d.hi ≡ e.lo))
     either (inl (l, r)) (inl (k, q)) = inl (left d.lo e.lo l k, right d.hi e.hi r q)

@@ -8,8 +8,8 @@ use Rattle.net_extract.specs.Classes.{AreLeast, AreHeads}
 use Rattle.net_extract.specs.Cuts.{pieces_in}
 use Rattle.net_extract.specs.Corners.{HaveFewCorners}
 use Rattle.net_extract.specs.Connections.{AreWires, AreNumbered, heads_below}
-use Rattle.net_extract.specs.Parts.{AreDrawn}
-use Rattle.net_extract.specs.Pieces.{rect_of, rects_in, piece_cmp, Paired}
+use Rattle.net_extract.specs.Bonds.{AreDrawn, Paired}
+use Rattle.net_extract.specs.Pieces.{rect_of, rects_in, piece_cmp}
 use Rattle.net_extract.specs.declared.connections.Wire.{Wire}
 use Rattle.net_extract.specs.declared.piece.Piece.{Piece}
 use Rattle.net_extract.proofs.Carving.{pieces_drawn}

@@ -11,13 +11,14 @@ use Rattle.box_geom.specs.declared.layer.Layer.TheVariants.{Well}
 use Rattle.scmos_rules.specs.Layout.{On}
 use Rattle.scmos_rules.proofs.Chains.{joined, turned, flip_linked}
 use Rattle.scmos_rules.specs.declared.rules.Deck.{Deck}
-use Rattle.net_extract.specs.Nets.{Kind, Site, Through, Tied, by_well, by_substrate, Meets, along, through, tied, Wired, SameNet}
+use Rattle.net_extract.specs.Nets.{Site, Through, Tied, by_well, by_substrate, Meets, along, through, tied, Wired, SameNet}
+use Rattle.net_extract.specs.declared.piece.Conductor.{Conductor}
 use Rattle.net_extract.specs.Numbering.{IsBefore, AreNets, IsInNet}
 
 pub flip_edge : (a b : Cell) → Edge a b → Edge b a
 flip_edge a b e = (flip_linked (λ x y. Unit {0}) a b (record { from = tt; to = tt; edge = e })).edge
 
-pub swapped : (s : List Shape) (x y : ℤ) (k l : Kind) → Through s x y k l → Through s x y l k
+pub swapped : (s : List Shape) (x y : ℤ) (k l : Conductor) → Through s x y k l → Through s x y l k
 swapped s x y k l (inl j) = inr j
 swapped s x y k l (inr j) = inl j
 

@@ -6,13 +6,17 @@ use Rattle.box_geom.specs.Touching.{Cell, Edge}
 use Rattle.box_geom.specs.Chains.{Chain, Linked}
 use Rattle.box_geom.specs.declared.shape.Shape.{Shape}
 use Rattle.box_geom.specs.declared.layer.Layer.{Layer}
-use Rattle.box_geom.specs.declared.layer.Layer.TheVariants.{Active, Contact, Metal1, Via, Metal2}
+use Rattle.box_geom.specs.declared.layer.Layer.TheVariants.{Active, Contact, Metal1 as Metal1Layer, Via, Metal2 as Metal2Layer}
 use Rattle.box_geom.specs.Layers.{same_layer, layer_no}
 use Rattle.scmos_rules.specs.Failing.{SameClass}
 use Rattle.scmos_rules.specs.Layout.{On}
-use Rattle.scmos_rules.specs.declared.rules.Deck.TheVariants.{Plain}
-use Rattle.net_extract.specs.Nets.{Kind, p_diffusion, n_diffusion, poly, metal1, metal2, Joins, by_contact, by_via, Site, site_at, Are, Meets, along, through, tied, Wired, SameNet}
-use Rattle.net_extract.specs.GateNets.{ArePolyOf}
+use Rattle.scmos_rules.specs.declared.rules.Deck.TheVariants.{Plain, Taps}
+use Rattle.net_extract.specs.Nets.{Joins, by_contact, by_via, Site, site_at, Are, Meets, along, through, tied, Wired, SameNet}
+use Rattle.net_extract.specs.declared.piece.Conductor.{Conductor}
+use Rattle.net_extract.specs.declared.piece.Conductor.TheVariants.{PDiffusion, NDiffusion, Poly, Metal1, Metal2}
+use Rattle.net_extract.specs.declared.connections.Wire.{Wire}
+use Rattle.net_extract.specs.declared.piece.Piece.{Piece}
+use Rattle.net_extract.specs.GateNets.{ArePolyOf, AreWellNets, AreWells}
 use Rattle.scmos_rules.proofs.Chains.{inside, turned, flip_linked}
 use Rattle.cell_num.proofs.Lists.{contains_here}
 use Rattle.net_extract.proofs.Bonds.{carried_steps}
@@ -28,17 +32,17 @@ only_poly P g are layer x y on =
     let e : layer_no w.shape.layer ≡ layer_no layer = layer_same w.shape.layer layer w.on in
     subst (λ l. layer_no l ≡ layer_no layer) (are.only w.shape w.listed) e
 
-pub poly_site : (P : ℤ → ℤ → Type 0) (g : List Shape) → ArePolyOf P g → (k : Kind) (x y : ℤ) → Are g k x y → k ≡ poly
-poly_site P g are p_diffusion x y c = absurd (let e = only_poly P g are Active x y c.0.0 in omega (arith, e))
-poly_site P g are n_diffusion x y c = absurd (let e = only_poly P g are Active x y c.0.0 in omega (arith, e))
-poly_site P g are poly x y c = refl
-poly_site P g are metal1 x y c = absurd (let e = only_poly P g are Metal1 x y c in omega (arith, e))
-poly_site P g are metal2 x y c = absurd (let e = only_poly P g are Metal2 x y c in omega (arith, e))
+pub poly_site : (P : ℤ → ℤ → Type 0) (g : List Shape) → ArePolyOf P g → (k : Conductor) (x y : ℤ) → Are g k x y → k ≡ Poly
+poly_site P g are PDiffusion x y c = absurd (let e = only_poly P g are Active x y c.0.0 in omega (arith, e))
+poly_site P g are NDiffusion x y c = absurd (let e = only_poly P g are Active x y c.0.0 in omega (arith, e))
+poly_site P g are Poly x y c = refl
+poly_site P g are Metal1 x y c = absurd (let e = only_poly P g are Metal1Layer x y c in omega (arith, e))
+poly_site P g are Metal2 x y c = absurd (let e = only_poly P g are Metal2Layer x y c in omega (arith, e))
 
-gate_there : (P : ℤ → ℤ → Type 0) (g : List Shape) → ArePolyOf P g → (k : Kind) (x y : ℤ) → Are g k x y → P x y
+gate_there : (P : ℤ → ℤ → Type 0) (g : List Shape) → ArePolyOf P g → (k : Conductor) (x y : ℤ) → Are g k x y → P x y
 gate_there P g are k x y c = (are.poly x y).0 (subst (λ j. Are g j x y) (poly_site P g are k x y c) c)
 
-no_joins : (P : ℤ → ℤ → Type 0) (g : List Shape) → ArePolyOf P g → (x y : ℤ) (k l : Kind) → Joins g x y k l → ⊥
+no_joins : (P : ℤ → ℤ → Type 0) (g : List Shape) → ArePolyOf P g → (x y : ℤ) (k l : Conductor) → Joins g x y k l → ⊥
 no_joins P g are x y k l (by_contact e low on) = let f = only_poly P g are Contact x y on in omega (arith, f)
 no_joins P g are x y k l (by_via e f on) = let h = only_poly P g are Via x y on in omega (arith, h)
 
@@ -52,7 +56,7 @@ gate_link P g are a b w = record { from = gate_there P g are a.kind a.cell.x a.c
     edge_of (tied e t) = absurd (cc e)
 
 abbrev poly_at : Cell → Site
-poly_at c = record { kind = poly; cell = c }
+poly_at c = record { kind = Poly; cell = c }
 
 link_gate : (P : ℤ → ℤ → Type 0) (g : List Shape) → ArePolyOf P g → (c d : Cell) → Linked P c d → Wired Plain g (poly_at c) (poly_at d)
 link_gate P g are c d l = record { from = (are.poly c.x c.y).1 l.from; to = (are.poly d.x d.y).1 l.to; meets = along refl l.edge }
@@ -60,10 +64,10 @@ link_gate P g are c d l = record { from = (are.poly c.x c.y).1 l.from; to = (are
 abbrev pub cell : ℤ → ℤ → Cell
 cell x y = record { x = x; y = y }
 
-pub class_of_net : (P : ℤ → ℤ → Type 0) (g : List Shape) → ArePolyOf P g → (x y u v : ℤ) → SameNet Plain g (site_at poly x y) (site_at poly u v) → SameClass P x y u v
-class_of_net P g are x y u v n = carried_steps (Wired Plain g) (Linked P) (λ (a : Site). a.cell) (gate_link P g are) n.chain.count (site_at poly x y) (site_at poly u v) n.chain.steps
+pub class_of_net : (P : ℤ → ℤ → Type 0) (g : List Shape) → ArePolyOf P g → (x y u v : ℤ) → SameNet Plain g (site_at Poly x y) (site_at Poly u v) → SameClass P x y u v
+class_of_net P g are x y u v n = carried_steps (Wired Plain g) (Linked P) (λ (a : Site). a.cell) (gate_link P g are) n.chain.count (site_at Poly x y) (site_at Poly u v) n.chain.steps
 
-pub net_of_class : (P : ℤ → ℤ → Type 0) (g : List Shape) → ArePolyOf P g → (x y u v : ℤ) → P x y → SameClass P x y u v → SameNet Plain g (site_at poly x y) (site_at poly u v)
+pub net_of_class : (P : ℤ → ℤ → Type 0) (g : List Shape) → ArePolyOf P g → (x y u v : ℤ) → P x y → SameClass P x y u v → SameNet Plain g (site_at Poly x y) (site_at Poly u v)
 net_of_class P g are x y u v here c = record { conducts = (are.poly x y).1 here; chain = carried_steps (Linked P) (Wired Plain g) poly_at (link_gate P g are) c.count (cell x y) (cell u v) c.steps }
 
 -- two cells of a rectangle of the set's cells
@@ -77,3 +81,12 @@ same_class P r all x y u v h k =
 
 pub class_back : (P : ℤ → ℤ → Type 0) (x y u v : ℤ) → SameClass P x y u v → SameClass P u v x y
 class_back P x y u v c = turned (Linked P) (flip_linked P) (cell x y) (cell u v) c
+
+-- ---- wells by a deck
+pub no_wells : (s : List Shape) (wires : List Wire) → AreWells Plain s wires
+no_wells s wires = record { nets = λ e. absurd (cc e) }
+
+pub have_wells : (s : List Shape) (wires : List Wire) (firsts : List Piece) → AreWellNets s wires firsts → AreWells Taps s wires
+have_wells s wires firsts nets = record { nets = λ e. record { firsts = firsts; nets = nets } }
+
+pub ruleset well_rules = (no_wells, have_wells)

@@ -7,10 +7,10 @@ use Rattle.std.proofs.lemmas.Int.{ints}
 use Rattle.std.proofs.lemmas.Cmp.{int_ranked, ranked}
 use Rattle.box_geom.specs.Touching.{Cell}
 use Rattle.box_geom.specs.declared.shape.Shape.{Shape}
-use Rattle.net_extract.specs.Nets.{Kind, p_diffusion, n_diffusion, poly, metal1, metal2, Site, Are, Conducts}
+use Rattle.net_extract.specs.Nets.{Site, Are, Conducts}
 use Rattle.net_extract.specs.Numbering.{rank, NotBehind}
-use Rattle.net_extract.specs.Parts.{IsIn}
-use Rattle.net_extract.specs.Pieces.{kind_of, place, part_of, corner_of, piece_cmp}
+use Rattle.net_extract.specs.Bonds.{IsIn}
+use Rattle.net_extract.specs.Pieces.{place, corner_of, piece_cmp}
 use Rattle.net_extract.specs.declared.piece.Conductor.{Conductor}
 use Rattle.net_extract.specs.declared.piece.Conductor.TheVariants.{PDiffusion, NDiffusion, Poly, Metal1, Metal2}
 use Rattle.net_extract.specs.declared.piece.Piece.{Piece}
@@ -34,41 +34,41 @@ not_behind_both a b c ab bc =
     }
 
 -- the corner of a piece does not come behind any cell of it
-pub corner_first : (p : Piece) (a : Site) → IsIn (part_of p) a → NotBehind (corner_of p) a
+pub corner_first : (p : Piece) (a : Site) → IsIn p a → NotBehind (corner_of p) a
 corner_first p a i =
     let h = i.holds in
-    record { row = omega (arith, ints); column = λ u. omega (arith, ints); layer = λ u v. subst (λ k. rank (kind_of p.kind) ≤ rank k) i.kind (omega arith) }
+    record { row = omega (arith, ints); column = λ u. omega (arith, ints); layer = λ u v. subst (λ k. rank p.kind ≤ rank k) i.kind (omega arith) }
 
 pub site_same : (a b : Site) → a.kind ≡ b.kind → a.cell ≡ b.cell → a ≡ b
 site_same a b e f = subst (λ k. a ≡ record { kind = k; cell = b.cell }) e (subst (λ c. a ≡ record { kind = a.kind; cell = c }) f refl)
 
 -- two conductor cells in one place whose layers are one are of one kind
-same_kind : (s : List Shape) (x y : ℤ) (k l : Kind) → Are s k x y → Are s l x y → rank k ≡ rank l → k ≡ l
-same_kind s x y p_diffusion p_diffusion a b e = refl
-same_kind s x y p_diffusion n_diffusion a b e = absurd (b.1 a.1)
-same_kind s x y p_diffusion poly a b e = absurd (omega (arith, e))
-same_kind s x y p_diffusion metal1 a b e = absurd (omega (arith, e))
-same_kind s x y p_diffusion metal2 a b e = absurd (omega (arith, e))
-same_kind s x y n_diffusion p_diffusion a b e = absurd (a.1 b.1)
-same_kind s x y n_diffusion n_diffusion a b e = refl
-same_kind s x y n_diffusion poly a b e = absurd (omega (arith, e))
-same_kind s x y n_diffusion metal1 a b e = absurd (omega (arith, e))
-same_kind s x y n_diffusion metal2 a b e = absurd (omega (arith, e))
-same_kind s x y poly p_diffusion a b e = absurd (omega (arith, e))
-same_kind s x y poly n_diffusion a b e = absurd (omega (arith, e))
-same_kind s x y poly poly a b e = refl
-same_kind s x y poly metal1 a b e = absurd (omega (arith, e))
-same_kind s x y poly metal2 a b e = absurd (omega (arith, e))
-same_kind s x y metal1 p_diffusion a b e = absurd (omega (arith, e))
-same_kind s x y metal1 n_diffusion a b e = absurd (omega (arith, e))
-same_kind s x y metal1 poly a b e = absurd (omega (arith, e))
-same_kind s x y metal1 metal1 a b e = refl
-same_kind s x y metal1 metal2 a b e = absurd (omega (arith, e))
-same_kind s x y metal2 p_diffusion a b e = absurd (omega (arith, e))
-same_kind s x y metal2 n_diffusion a b e = absurd (omega (arith, e))
-same_kind s x y metal2 poly a b e = absurd (omega (arith, e))
-same_kind s x y metal2 metal1 a b e = absurd (omega (arith, e))
-same_kind s x y metal2 metal2 a b e = refl
+same_kind : (s : List Shape) (x y : ℤ) (k l : Conductor) → Are s k x y → Are s l x y → rank k ≡ rank l → k ≡ l
+same_kind s x y PDiffusion PDiffusion a b e = refl
+same_kind s x y PDiffusion NDiffusion a b e = absurd (b.1 a.1)
+same_kind s x y PDiffusion Poly a b e = absurd (omega (arith, e))
+same_kind s x y PDiffusion Metal1 a b e = absurd (omega (arith, e))
+same_kind s x y PDiffusion Metal2 a b e = absurd (omega (arith, e))
+same_kind s x y NDiffusion PDiffusion a b e = absurd (a.1 b.1)
+same_kind s x y NDiffusion NDiffusion a b e = refl
+same_kind s x y NDiffusion Poly a b e = absurd (omega (arith, e))
+same_kind s x y NDiffusion Metal1 a b e = absurd (omega (arith, e))
+same_kind s x y NDiffusion Metal2 a b e = absurd (omega (arith, e))
+same_kind s x y Poly PDiffusion a b e = absurd (omega (arith, e))
+same_kind s x y Poly NDiffusion a b e = absurd (omega (arith, e))
+same_kind s x y Poly Poly a b e = refl
+same_kind s x y Poly Metal1 a b e = absurd (omega (arith, e))
+same_kind s x y Poly Metal2 a b e = absurd (omega (arith, e))
+same_kind s x y Metal1 PDiffusion a b e = absurd (omega (arith, e))
+same_kind s x y Metal1 NDiffusion a b e = absurd (omega (arith, e))
+same_kind s x y Metal1 Poly a b e = absurd (omega (arith, e))
+same_kind s x y Metal1 Metal1 a b e = refl
+same_kind s x y Metal1 Metal2 a b e = absurd (omega (arith, e))
+same_kind s x y Metal2 PDiffusion a b e = absurd (omega (arith, e))
+same_kind s x y Metal2 NDiffusion a b e = absurd (omega (arith, e))
+same_kind s x y Metal2 Poly a b e = absurd (omega (arith, e))
+same_kind s x y Metal2 Metal1 a b e = absurd (omega (arith, e))
+same_kind s x y Metal2 Metal2 a b e = refl
 
 cell_same : (a b : Cell) → a.x ≡ b.x → a.y ≡ b.y → a ≡ b
 cell_same a b e f = subst (λ x. a ≡ record { x = x; y = b.y }) e (subst (λ y. a ≡ record { x = a.x; y = y }) f refl)
@@ -90,7 +90,7 @@ same_site s a b ca cb ab ba =
     let kinds : a.kind ≡ b.kind = same_kind s a.cell.x a.cell.y a.kind b.kind ca there same in
     site_same a b kinds cells
 
-rank_order : (a b : Conductor) → place a ≤ place b → rank (kind_of a) ≤ rank (kind_of b)
+rank_order : (a b : Conductor) → place a ≤ place b → rank a ≤ rank b
 rank_order PDiffusion PDiffusion l = omega arith
 rank_order PDiffusion NDiffusion l = omega arith
 rank_order PDiffusion Poly l = omega arith

@@ -1,38 +1,40 @@
 -- The sides of a gate, the net along each, and the device between them.
-use Rattle.std.proofs.Common.{◌≡◌, ◌↔◌, IsTrue, IfSome, ℕ, min, max, ℤ, Bool, true, false, not, ◌&&◌, ◌||◌, ◌==◌, Option, Some, None, List, [], ◌∷◌, slice_get, arith, inl, inr, ◌⊎◌, refl, sym, subst, ap, ◌∙◌}
-use Rattle.std.specs.List.{Contains, list_all}
+use Rattle.std.proofs.Common.{◌≡◌, ◌↔◌, IsTrue, IfSome, ℕ, min, max, ℤ, Bool, true, false, Option, Some, None, List, [], ◌∷◌, slice_get, arith, inl, inr, ◌⊎◌, refl, sym, subst, ap, ◌∙◌}
+use Rattle.std.specs.List.{Contains}
 use Rattle.std.proofs.lemmas.Int.{ints}
-use Rattle.std.proofs.lemmas.Bool.{cases_eq, eq-eqb, ne_eqb, cases_order}
-use Rattle.cell_num.proofs.Lists.{some_same, contains_none, contains_cons, contains_here, contains_there}
+use Rattle.std.proofs.lemmas.Bool.{cases_order}
+use Rattle.cell_num.proofs.Lists.{some_same, contains_here}
 use Rattle.cell_num.proofs.In.{in_map, contains_map}
 use Rattle.cell_num.specs.declared.finger.Row.{Row}
 use Rattle.cell_num.specs.declared.finger.Row.TheVariants.{P, N}
-use Rattle.box_geom.specs.Rectangle.{Rectangle, IsProper, Holds}
+use Rattle.box_geom.specs.Rectangle.{Rectangle, IsProper, Holds, Covers}
+use Rattle.box_geom.specs.Touching.{Cell}
+use Rattle.box_geom.specs.Chains.{Linked}
 use Rattle.box_geom.specs.declared.shape.Shape.{Shape}
 use Rattle.box_geom.specs.declared.layer.Layer.TheVariants.{Well, Active, Poly as PolyLayer}
 use Rattle.scmos_rules.specs.Layout.{On}
 use Rattle.scmos_rules.specs.declared.rules.Deck.{Deck}
-use Rattle.net_extract.specs.Nets.{poly, Site, site_at, Conducts, SameNet}
+use Rattle.scmos_rules.proofs.Chains.{inside}
+use Rattle.net_extract.specs.Nets.{Site, site_at, Conducts, along, Wired, SameNet}
 use Rattle.net_extract.specs.Numbering.{IsInNet}
-use Rattle.net_extract.specs.Parts.{IsIn}
-use Rattle.net_extract.specs.Devices.{InRow, diffusion_of, IsSide, IsClosed, IsSize, Flow, rightward, upward, source_side, drain_side, low_end, high_end, IsGateBox, IsDevice, IsSomeDevice}
+use Rattle.net_extract.specs.Bonds.{IsIn}
+use Rattle.net_extract.specs.Devices.{InRow, diffusion_of, IsSide, IsClosed, IsSize, source_side, drain_side, low_end, high_end, IsGateBox, IsDevice, IsSomeDevice}
 use Rattle.net_extract.specs.Extraction.{IsDrawn}
-use Rattle.net_extract.specs.Pieces.{kind_of, place, rect_of, part_of}
-use Rattle.net_extract.specs.Connections.{firsts_of, pieces_of, AreWires, IsFound}
+use Rattle.net_extract.specs.Pieces.{rect_of}
+use Rattle.net_extract.specs.Connections.{firsts_of, pieces_of, AreWires}
 use Rattle.net_extract.specs.Lookups.{net_in}
-use Rattle.net_extract.specs.Areas.{meeting, IsFull, IsFree}
-use Rattle.net_extract.specs.Sides.{flow_of, conductor_of, IsInRow, IsDiffusion, agrees, all_agree, IsSideNet, IsAlong, IsNotAlong, AreClosed, width_of, length_of, drawn_as}
+use Rattle.net_extract.specs.Areas.{IsFull, IsFree}
+use Rattle.net_extract.specs.Sides.{IsInRow, IsDiffusion, IsSideNet, IsAlong, IsNotAlong, AreClosed, width_of, length_of, drawn_as}
 use Rattle.net_extract.specs.declared.side.Current.{Current}
 use Rattle.net_extract.specs.declared.side.Current.TheVariants.{Rightward, Upward}
 use Rattle.net_extract.specs.declared.netlist.Drawn.{Drawn}
 use Rattle.net_extract.specs.declared.piece.Conductor.TheVariants.{Poly}
 use Rattle.net_extract.specs.declared.piece.Piece.{Piece}
 use Rattle.net_extract.specs.declared.connections.Wire.{Wire}
-use Rattle.net_extract.proofs.Conductors.{same_place, same_kind_place}
-use Rattle.net_extract.proofs.Filling.{meeting_decides, and_parts, and_true}
-use Rattle.net_extract.proofs.Labelling.{net_in_some, net_in_none, wire_net}
+use Rattle.net_extract.proofs.Bonds.{carried_steps}
+use Rattle.net_extract.proofs.Covering.{cover_none, cover_split}
+use Rattle.net_extract.proofs.Labelling.{net_in_some, net_in_none}
 use Rattle.net_extract.proofs.Listing.{piece_proper, held as held_cell}
-use Rattle.net_extract.proofs.Numbers.{one_number}
 use Rattle.net_extract.proofs.Wiring.{net_back, net_both, net_self}
 
 -- ---- rows
@@ -82,33 +84,6 @@ same_number deck s firsts m n a b e x y =
     let same : x.first ≡ y.first = some_same x.first y.first (sym x.numbered ∙ (ap (λ k. slice_get firsts k) e ∙ y.numbered)) in
     net_both deck s a x.first b (net_back deck s x.first a x.same) (subst (λ z. SameNet deck s z b) (sym same) y.same)
 
-all_of : {X : Type 0} (p : X → Bool) (xs : List X) → list_all p xs ≡ true → (x : X) → Contains xs x → p x ≡ true
-all_of p [] e x c = absurd (contains_none x c)
-all_of p (y ∷ ys) e x c =
-    let t = and_parts (p y) (list_all p ys) e in
-    elim (contains_cons y ys x c) [ inl same ↦ subst (λ z. p z ≡ true) same t.0 | inr later ↦ all_of p ys t.1 x later ]
-
-of_all : {X : Type 0} (p : X → Bool) (xs : List X) → ((x : X) → Contains xs x → p x ≡ true) → list_all p xs ≡ true
-of_all p [] h = refl
-of_all p (y ∷ ys) h = and_true (p y) (list_all p ys) (h y (contains_here y ys)) (of_all p ys (λ x c. h x (contains_there y ys x c)))
-
-agree_net : (a b c : Bool) → (not (a && b) || c) ≡ true → a ≡ true → b ≡ true → c ≡ true
-agree_net true true c e f g = e
-agree_net true false c e f g = absurd (cc g)
-agree_net false b c e f g = absurd (cc f)
-
-net_agrees : (a b c : Bool) → (a ≡ true → b ≡ true → c ≡ true) → (not (a && b) || c) ≡ true
-net_agrees true true c h = h refl refl
-net_agrees true false c h = refl
-net_agrees false b c h = refl
-
-eq_of : (a b : ℕ) → (a == b) ≡ true → a ≡ b
-eq_of a b e = elim (cases_eq a b) [ inl same ↦ same | inr ne ↦ absurd (let f : (a == b) ≡ false = ne_eqb a b ne in cc (sym f ∙ e)) ]
-
-kind_row : (row : Row) → kind_of (conductor_of row) ≡ diffusion_of row
-kind_row P = refl
-kind_row N = refl
-
 pub corner_held : (r : Rectangle) → IsProper r → Holds r r.x1 r.y1
 corner_held r p = let w = p.wide in let h = p.high in omega (arith, ints)
 
@@ -116,92 +91,78 @@ corner_held r p = let w = p.wide in let h = p.high in omega (arith, ints)
 pub record InWire (wires : List Wire) (a : Site) : Type 0 where
   pub wire : Wire
   pub listed : Contains wires wire
-  pub inside : IsIn (part_of wire.piece) a
+  pub inside : IsIn wire.piece a
 
 pub in_wire : (deck : Deck) (s : List Shape) (wires : List Wire) (firsts : List Piece) → AreWires deck s wires firsts → (a : Site) → Conducts s a → InWire wires a
 in_wire deck s wires firsts m a c =
     let h = held_cell s (pieces_of wires) m.drawn a c in
     let i = in_map (λ (z : Wire). z.piece) wires h.piece h.listed in
-    record { wire = i.of; listed = i.listed; inside = subst (λ p. IsIn (part_of p) a) (sym i.is) h.inside }
+    record { wire = i.of; listed = i.listed; inside = subst (λ p. IsIn p a) (sym i.is) h.inside }
 
 pub wire_proper : (deck : Deck) (s : List Shape) (wires : List Wire) (firsts : List Piece) → AreWires deck s wires firsts → (w : Wire) → Contains wires w → IsProper (rect_of w.piece)
 wire_proper deck s wires firsts m w c = piece_proper s (pieces_of wires) m.drawn w.piece (contains_map (λ (z : Wire). z.piece) wires w c)
 
-pub side_some : (deck : Deck) (s : List Shape) (wires : List Wire) (firsts : List Piece) → AreWires deck s wires firsts → (row : Row) (area : Rectangle) (n : ℕ) → IsProper area → IsDiffusion s row area → net_in wires (conductor_of row) area.x1 area.y1 ≡ Some n → all_agree wires (conductor_of row) area n ≡ true → IsSideNet deck s (firsts_of firsts) row area n
-side_some deck s wires firsts m row area n p d e agree =
-    let f : IsFound deck s (firsts_of firsts) (kind_of (conductor_of row)) area.x1 area.y1 n = net_in_some deck s wires firsts m (conductor_of row) area.x1 area.y1 n e in
-    let at : IsInNet deck s (firsts_of firsts) n (site_at (diffusion_of row) area.x1 area.y1) = subst (λ k. IsInNet deck s (firsts_of firsts) n (site_at k area.x1 area.y1)) (kind_row row) f.net in
-    record {
-      site = site_at (diffusion_of row) area.x1 area.y1;
-      side = record {
-        conducts = d.all area.x1 area.y1 (corner_held area p);
-        side = λ x y h. (d.all x y h, in_first deck s (firsts_of firsts) n (site_at (diffusion_of row) area.x1 area.y1) (site_at (diffusion_of row) x y) at (net_there x y h));
-      };
-      net = at;
-    }
+-- the cells of an area of diffusion are of one net
+one_side_net : (deck : Deck) (s : List Shape) (row : Row) (area : Rectangle) → IsDiffusion s row area → (x y u v : ℤ) → Holds area x y → Holds area u v → SameNet deck s (site_at (diffusion_of row) x y) (site_at (diffusion_of row) u v)
+one_side_net deck s row area d x y u v h k =
+    let c = inside (area ∷ []) area (contains_here area []) x y u v h k in
+    record { conducts = d.all x y h; chain = carried_steps (Linked (Covers (area ∷ []))) (Wired deck s) (λ (z : Cell). site_at (diffusion_of row) z.x z.y) step c.count (record { x = x; y = y }) (record { x = u; y = v }) c.steps }
   where
-    net_there : (x y : ℤ) → Holds area x y → IsInNet deck s (firsts_of firsts) n (site_at (diffusion_of row) x y)
-    net_there x y h =
-        let w = in_wire deck s wires firsts m (site_at (diffusion_of row) x y) (d.all x y h) in
-        let t : agrees (conductor_of row) area n w.wire ≡ true = all_of (agrees (conductor_of row) area n) wires agree w.wire w.listed in
-        let kinds : place w.wire.piece.kind ≡ place (conductor_of row) = same_place w.wire.piece.kind (conductor_of row) (w.inside.kind ∙ sym (kind_row row)) in
-        let met : meeting area (rect_of w.wire.piece) ≡ true = (meeting_decides area (rect_of w.wire.piece) p (wire_proper deck s wires firsts m w.wire w.listed)).1 (record { x = x; y = y; in_a = h; in_b = w.inside.holds }) in
-        let same : w.wire.net ≡ n = eq_of w.wire.net n (agree_net (place w.wire.piece.kind == place (conductor_of row)) (meeting area (rect_of w.wire.piece)) (w.wire.net == n) t (eq-eqb (place w.wire.piece.kind) (place (conductor_of row)) kinds) met) in
-        subst (λ z. IsInNet deck s (firsts_of firsts) z (site_at (diffusion_of row) x y)) same (wire_net deck s wires firsts m w.wire w.listed (site_at (diffusion_of row) x y) w.inside)
+    there : (z : Cell) → Covers (area ∷ []) z.x z.y → Conducts s (site_at (diffusion_of row) z.x z.y)
+    there z c = elim (cover_split area [] z.x z.y c) [ inl g ↦ d.all z.x z.y g | inr r ↦ absurd (cover_none z.x z.y r) ]
+
+    step : (a b : Cell) → Linked (Covers (area ∷ [])) a b → Wired deck s (site_at (diffusion_of row) a.x a.y) (site_at (diffusion_of row) b.x b.y)
+    step a b l = record { from = there a l.from; to = there b l.to; meets = along refl l.edge }
+
+pub side_some : (deck : Deck) (s : List Shape) (wires : List Wire) (firsts : List Piece) → AreWires deck s wires firsts → (row : Row) (area : Rectangle) (n : ℕ) → IsProper area → IsDiffusion s row area → net_in wires (diffusion_of row) area.x1 area.y1 ≡ Some n → IsSideNet deck s (firsts_of firsts) row area n
+side_some deck s wires firsts m row area n p d e = record {
+  site = site_at (diffusion_of row) area.x1 area.y1;
+  side = record {
+    conducts = d.all area.x1 area.y1 (corner_held area p);
+    side = λ x y h. (d.all x y h, one_side_net deck s row area d area.x1 area.y1 x y (corner_held area p) h);
+  };
+  net = (net_in_some deck s wires firsts m (diffusion_of row) area.x1 area.y1 n e).net;
+}
 
 pub side_not_diffusion : (deck : Deck) (s : List Shape) (row : Row) (area : Rectangle) → (IsDiffusion s row area → ⊥) → (a : Site) → IsSide deck s (diffusion_of row) area a → ⊥
 side_not_diffusion deck s row area out a side = out (record { all = λ x y h. (side.side x y h).0 })
 
-pub side_no_net : (deck : Deck) (s : List Shape) (wires : List Wire) (firsts : List Piece) → AreWires deck s wires firsts → (row : Row) (area : Rectangle) → IsProper area → net_in wires (conductor_of row) area.x1 area.y1 ≡ None → (a : Site) → IsSide deck s (diffusion_of row) area a → ⊥
-side_no_net deck s wires firsts m row area p e a side = net_in_none deck s wires firsts m (conductor_of row) area.x1 area.y1 e (subst (λ k. Conducts s (site_at k area.x1 area.y1)) (sym (kind_row row)) (side.side area.x1 area.y1 (corner_held area p)).0)
+pub side_no_net : (deck : Deck) (s : List Shape) (wires : List Wire) (firsts : List Piece) → AreWires deck s wires firsts → (row : Row) (area : Rectangle) → IsProper area → net_in wires (diffusion_of row) area.x1 area.y1 ≡ None → (a : Site) → IsSide deck s (diffusion_of row) area a → ⊥
+side_no_net deck s wires firsts m row area p e a side = net_in_none deck s wires firsts m (diffusion_of row) area.x1 area.y1 e (side.side area.x1 area.y1 (corner_held area p)).0
 
-pub side_two_nets : (deck : Deck) (s : List Shape) (wires : List Wire) (firsts : List Piece) → AreWires deck s wires firsts → (row : Row) (area : Rectangle) (n : ℕ) → IsProper area → net_in wires (conductor_of row) area.x1 area.y1 ≡ Some n → all_agree wires (conductor_of row) area n ≡ false → (a : Site) → IsSide deck s (diffusion_of row) area a → ⊥
-side_two_nets deck s wires firsts m row area n p e no' a side =
-    let all : all_agree wires (conductor_of row) area n ≡ true = of_all (agrees (conductor_of row) area n) wires one_by_one in
-    absurd (cc (sym no' ∙ all))
-  where
-    at : IsInNet deck s (firsts_of firsts) n (site_at (diffusion_of row) area.x1 area.y1)
-    at = subst (λ k. IsInNet deck s (firsts_of firsts) n (site_at k area.x1 area.y1)) (kind_row row) (net_in_some deck s wires firsts m (conductor_of row) area.x1 area.y1 n e).net
-
-    one_by_one : (w : Wire) → Contains wires w → agrees (conductor_of row) area n w ≡ true
-    one_by_one w c = net_agrees (place w.piece.kind == place (conductor_of row)) (meeting area (rect_of w.piece)) (w.net == n) (λ k met.
-        let there = (meeting_decides area (rect_of w.piece) p (wire_proper deck s wires firsts m w c)).0 met in
-        let kinds : kind_of w.piece.kind ≡ diffusion_of row = same_kind_place w.piece.kind (conductor_of row) (eq_of (place w.piece.kind) (place (conductor_of row)) k) ∙ kind_row row in
-        let mine : IsInNet deck s (firsts_of firsts) w.net (site_at (diffusion_of row) there.x there.y) = wire_net deck s wires firsts m w c (site_at (diffusion_of row) there.x there.y) (record { kind = kinds; holds = there.in_b }) in
-        let first : SameNet deck s a (site_at (diffusion_of row) area.x1 area.y1) = (side.side area.x1 area.y1 (corner_held area p)).1 in
-        let second : SameNet deck s a (site_at (diffusion_of row) there.x there.y) = (side.side there.x there.y there.in_a).1 in
-        let link : SameNet deck s (site_at (diffusion_of row) area.x1 area.y1) (site_at (diffusion_of row) there.x there.y) = net_both deck s (site_at (diffusion_of row) area.x1 area.y1) a (site_at (diffusion_of row) there.x there.y) (net_back deck s a (site_at (diffusion_of row) area.x1 area.y1) first) second in
-        let moved : IsInNet deck s (firsts_of firsts) n (site_at (diffusion_of row) there.x there.y) = move_net deck s (firsts_of firsts) n (site_at (diffusion_of row) area.x1 area.y1) (site_at (diffusion_of row) there.x there.y) at link in
-        eq-eqb w.net n (one_number deck s (firsts_of firsts) w.net n (site_at (diffusion_of row) there.x there.y) m.nets mine moved))
+-- what holds of what there is
+pub some_if : {X : Type 0} (A : X → Type 0) (o : Option X) → ((x : X) → o ≡ Some x → A x) → IfSome o A
+some_if A (Some x) f = f x refl
+some_if A None f = tt
 
 -- ---- the four sides of a gate
-pub source_proper : (flow : Flow) (r a : Rectangle) → IsProper r → a ≡ source_side flow r → IsProper a
-source_proper rightward r a p e = subst IsProper (sym e) (let w = p.wide in let h = p.high in record { wide = omega (arith, ints); high = omega (arith, ints) })
-source_proper upward r a p e = subst IsProper (sym e) (let w = p.wide in let h = p.high in record { wide = omega (arith, ints); high = omega (arith, ints) })
+pub source_proper : (current : Current) (r a : Rectangle) → IsProper r → a ≡ source_side current r → IsProper a
+source_proper Rightward r a p e = subst IsProper (sym e) (let w = p.wide in let h = p.high in record { wide = omega (arith, ints); high = omega (arith, ints) })
+source_proper Upward r a p e = subst IsProper (sym e) (let w = p.wide in let h = p.high in record { wide = omega (arith, ints); high = omega (arith, ints) })
 
-pub drain_proper : (flow : Flow) (r a : Rectangle) → IsProper r → a ≡ drain_side flow r → IsProper a
-drain_proper rightward r a p e = subst IsProper (sym e) (let w = p.wide in let h = p.high in record { wide = omega (arith, ints); high = omega (arith, ints) })
-drain_proper upward r a p e = subst IsProper (sym e) (let w = p.wide in let h = p.high in record { wide = omega (arith, ints); high = omega (arith, ints) })
+pub drain_proper : (current : Current) (r a : Rectangle) → IsProper r → a ≡ drain_side current r → IsProper a
+drain_proper Rightward r a p e = subst IsProper (sym e) (let w = p.wide in let h = p.high in record { wide = omega (arith, ints); high = omega (arith, ints) })
+drain_proper Upward r a p e = subst IsProper (sym e) (let w = p.wide in let h = p.high in record { wide = omega (arith, ints); high = omega (arith, ints) })
 
-pub low_proper : (flow : Flow) (r a : Rectangle) → IsProper r → a ≡ low_end flow r → IsProper a
-low_proper rightward r a p e = subst IsProper (sym e) (let w = p.wide in let h = p.high in record { wide = omega (arith, ints); high = omega (arith, ints) })
-low_proper upward r a p e = subst IsProper (sym e) (let w = p.wide in let h = p.high in record { wide = omega (arith, ints); high = omega (arith, ints) })
+pub low_proper : (current : Current) (r a : Rectangle) → IsProper r → a ≡ low_end current r → IsProper a
+low_proper Rightward r a p e = subst IsProper (sym e) (let w = p.wide in let h = p.high in record { wide = omega (arith, ints); high = omega (arith, ints) })
+low_proper Upward r a p e = subst IsProper (sym e) (let w = p.wide in let h = p.high in record { wide = omega (arith, ints); high = omega (arith, ints) })
 
-pub high_proper : (flow : Flow) (r a : Rectangle) → IsProper r → a ≡ high_end flow r → IsProper a
-high_proper rightward r a p e = subst IsProper (sym e) (let w = p.wide in let h = p.high in record { wide = omega (arith, ints); high = omega (arith, ints) })
-high_proper upward r a p e = subst IsProper (sym e) (let w = p.wide in let h = p.high in record { wide = omega (arith, ints); high = omega (arith, ints) })
+pub high_proper : (current : Current) (r a : Rectangle) → IsProper r → a ≡ high_end current r → IsProper a
+high_proper Rightward r a p e = subst IsProper (sym e) (let w = p.wide in let h = p.high in record { wide = omega (arith, ints); high = omega (arith, ints) })
+high_proper Upward r a p e = subst IsProper (sym e) (let w = p.wide in let h = p.high in record { wide = omega (arith, ints); high = omega (arith, ints) })
 
-pub low_not_closed : (s : List Shape) (flow : Flow) (r a : Rectangle) (b : Bool) → a ≡ low_end flow r → (IsTrue b ↔ IsFree s Active a) → b ≡ false → AreClosed s flow r → ⊥
-low_not_closed s flow r a b e d no' c = let t = d.1 (subst (IsFree s Active) (sym e) (record { free = c.low.closed })) in absurd (cc (sym no' ∙ t))
+pub low_not_closed : (s : List Shape) (current : Current) (r a : Rectangle) (b : Bool) → a ≡ low_end current r → (IsTrue b ↔ IsFree s Active a) → b ≡ false → AreClosed s current r → ⊥
+low_not_closed s current r a b e d no' c = let t = d.1 (subst (IsFree s Active) (sym e) (record { free = c.low.closed })) in absurd (cc (sym no' ∙ t))
 
-pub both_closed : (s : List Shape) (flow : Flow) (r a z : Rectangle) (b t : Bool) → a ≡ low_end flow r → (IsTrue b ↔ IsFree s Active a) → b ≡ true → z ≡ high_end flow r → (IsTrue t ↔ IsFree s Active z) → IsTrue t ↔ AreClosed s flow r
-both_closed s flow r a z b t ea da eb ez dz = (
+pub both_closed : (s : List Shape) (current : Current) (r a z : Rectangle) (b t : Bool) → a ≡ low_end current r → (IsTrue b ↔ IsFree s Active a) → b ≡ true → z ≡ high_end current r → (IsTrue t ↔ IsFree s Active z) → IsTrue t ↔ AreClosed s current r
+both_closed s current r a z b t ea da eb ez dz = (
   λ x. record { low = record { closed = (subst (IsFree s Active) ea (da.0 eb)).free }; high = record { closed = (subst (IsFree s Active) ez (dz.0 x)).free } },
   λ c. dz.1 (subst (IsFree s Active) (sym ez) (record { free = c.high.closed })),
 )
 
 -- ---- the device between two sides
-size_of : (current : Current) (p : Piece) → IsProper (rect_of p) → IsSize (flow_of current) (rect_of p) (width_of current p) (length_of current p)
+size_of : (current : Current) (p : Piece) → IsProper (rect_of p) → IsSize current (rect_of p) (width_of current p) (length_of current p)
 size_of Rightward p r = let w = r.wide in let h = r.high in record { across = λ e. (omega (arith, ints), omega (arith, ints)); upright = λ e. absurd (cc e) }
 size_of Upward p r = let w = r.wide in let h = r.high in record { across = λ e. absurd (cc e); upright = λ e. (omega (arith, ints), omega (arith, ints)) }
 
@@ -211,8 +172,8 @@ ends_of one other = elim (cases_order one other) [
   | inr r ↦ elim r [ inl l ↦ inl (omega (arith, l), omega (arith, l)) | inr g ↦ inr (omega (arith, g), omega (arith, g)) ]
 ]
 
-pub along_is : (deck : Deck) (s : List Shape) (wires : List Wire) (firsts : List Piece) → AreWires deck s wires firsts → (p : Piece) (row : Row) (current : Current) (gate one other : ℕ) (d : Drawn) → IsProper (rect_of p) → AreClosed s (flow_of current) (rect_of p) → net_in wires Poly p.left p.low ≡ Some gate → IsSideNet deck s (firsts_of firsts) row (source_side (flow_of current) (rect_of p)) one → IsSideNet deck s (firsts_of firsts) row (drain_side (flow_of current) (rect_of p)) other → d ≡ drawn_as row gate (one, other) p current → IsAlong deck s (firsts_of firsts) (rect_of p) row (flow_of current) d
-along_is deck s wires firsts m p row current gate one other d proper closed e source drain is = subst (IsAlong deck s (firsts_of firsts) (rect_of p) row (flow_of current)) (sym is) (record {
+pub along_is : (deck : Deck) (s : List Shape) (wires : List Wire) (firsts : List Piece) → AreWires deck s wires firsts → (p : Piece) (row : Row) (current : Current) (gate one other : ℕ) (d : Drawn) → IsProper (rect_of p) → AreClosed s current (rect_of p) → net_in wires Poly p.left p.low ≡ Some gate → IsSideNet deck s (firsts_of firsts) row (source_side current (rect_of p)) one → IsSideNet deck s (firsts_of firsts) row (drain_side current (rect_of p)) other → d ≡ drawn_as row gate (one, other) p current → IsAlong deck s (firsts_of firsts) (rect_of p) row current d
+along_is deck s wires firsts m p row current gate one other d proper closed e source drain is = subst (IsAlong deck s (firsts_of firsts) (rect_of p) row current) (sym is) (record {
   of_row = refl;
   gate = (net_in_some deck s wires firsts m Poly p.left p.low gate e).net;
   one = one;
@@ -226,16 +187,16 @@ along_is deck s wires firsts m p row current gate one other d proper closed e so
   size = size_of current p proper;
 })
 
-pub along_drawn : (deck : Deck) (s : List Shape) (firsts : List Site) (r : Rectangle) (row : Row) (flow : Flow) (d : Drawn) → IsGateBox s r → IsInRow s row r → IsAlong deck s firsts r row flow d → IsDrawn deck s firsts r d
-along_drawn deck s firsts r row flow d box in_row a = record {
-  gate = site_at poly r.x1 r.y1;
+pub along_drawn : (deck : Deck) (s : List Shape) (firsts : List Site) (r : Rectangle) (row : Row) (current : Current) (d : Drawn) → IsGateBox s r → IsInRow s row r → IsAlong deck s firsts r row current d → IsDrawn deck s firsts r d
+along_drawn deck s firsts r row current d box in_row a = record {
+  gate = site_at Poly r.x1 r.y1;
   left = a.source.site;
   right = a.drain.site;
-  is = subst (λ w. IsDevice deck s r w (site_at poly r.x1 r.y1) a.source.site a.drain.site d.width d.length) (sym a.of_row) (record {
-    flow = flow;
+  is = subst (λ w. IsDevice deck s r w (site_at Poly r.x1 r.y1) a.source.site a.drain.site d.width d.length) (sym a.of_row) (record {
+    current = current;
     class = box;
     of_row = in_row.all;
-    gate_net = net_self deck s (site_at poly r.x1 r.y1) (box.gate r.x1 r.y1 (corner_held r box.proper)).1;
+    gate_net = net_self deck s (site_at Poly r.x1 r.y1) (box.gate r.x1 r.y1 (corner_held r box.proper)).1;
     left_side = a.source.side;
     right_side = a.drain.side;
     low = a.low;
@@ -257,18 +218,18 @@ row_one s P N x y u v = absurd (v u)
 row_one s N P x y u v = absurd (u v)
 row_one s N N x y u v = refl
 
-pub no_device : (deck : Deck) (s : List Shape) (r : Rectangle) (row : Row) → IsProper r → IsInRow s row r → IsNotAlong deck s r row rightward → IsNotAlong deck s r row upward → IsSomeDevice deck s r → ⊥
+pub no_device : (deck : Deck) (s : List Shape) (r : Rectangle) (row : Row) → IsProper r → IsInRow s row r → IsNotAlong deck s r row Rightward → IsNotAlong deck s r row Upward → IsSomeDevice deck s r → ⊥
 no_device deck s r row p in_row across up d =
     let c = corner_held r p in
     let same : d.row ≡ row = row_one s d.row row r.x1 r.y1 (d.is.of_row r.x1 r.y1 c) (in_row.all r.x1 r.y1 c) in
     by (subst (λ w. IsDevice deck s r w d.gate d.left d.right d.width d.length) same d.is)
   where
-    at : (f : Flow) → IsSide deck s (diffusion_of row) (source_side f r) d.left → IsSide deck s (diffusion_of row) (drain_side f r) d.right → IsClosed s (low_end f r) → IsClosed s (high_end f r) → ⊥
-    at rightward a b l h = across.never d.left d.right a b l h
-    at upward a b l h = up.never d.left d.right a b l h
+    at : (f : Current) → IsSide deck s (diffusion_of row) (source_side f r) d.left → IsSide deck s (diffusion_of row) (drain_side f r) d.right → IsClosed s (low_end f r) → IsClosed s (high_end f r) → ⊥
+    at Rightward a b l h = across.never d.left d.right a b l h
+    at Upward a b l h = up.never d.left d.right a b l h
 
     by : IsDevice deck s r row d.gate d.left d.right d.width d.length → ⊥
-    by is = at is.flow is.left_side is.right_side is.low is.high
+    by is = at is.current is.left_side is.right_side is.low is.high
 
 pub no_row : (deck : Deck) (s : List Shape) (r : Rectangle) → (IsInRow s P r → ⊥) → (IsInRow s N r → ⊥) → IsSomeDevice deck s r → ⊥
 no_row deck s r p n d = by d.row d.is.of_row

@@ -20,9 +20,9 @@ use Rattle.net_extract.specs.Areas.{meeting, meeting_any}
 use Rattle.net_extract.specs.Connections.{blank, firsts_of, IsFound}
 use Rattle.net_extract.specs.GateNets.{AreWellNets}
 use Rattle.net_extract.specs.Lookups.{net_in}
-use Rattle.net_extract.specs.Nets.{p_diffusion, n_diffusion, poly, site_at, Are, Tied, by_well, by_substrate}
-use Rattle.net_extract.specs.Parts.{AreDrawn, Bond, touching, joining, tying, AreTied}
-use Rattle.net_extract.specs.Pieces.{kind_of, rect_of, part_of, rects_in, Paired}
+use Rattle.net_extract.specs.Nets.{site_at, Are, Tied, by_well, by_substrate}
+use Rattle.net_extract.specs.Bonds.{AreDrawn, Bond, touching, joining, tying, AreTied, Paired}
+use Rattle.net_extract.specs.Pieces.{rect_of, rects_in}
 use Rattle.net_extract.specs.Ties.{well_tie, tie_by, tie_of, ties_of, HaveOneTie, PairedOrTied, AreTies}
 use Rattle.net_extract.specs.declared.connections.Wire.{Wire}
 use Rattle.net_extract.specs.declared.piece.Conductor.{Conductor}
@@ -76,7 +76,7 @@ in_well s wells firsts z x y on = by (net_in wells Poly x y) refl
     by (Some n) e = record { class = n; is = e }
     by None e = absurd (net_in_none Plain z.shapes wells firsts z.nets Poly x y e ((z.are.poly x y).1 on))
 
-well_found : (s : List Shape) (wells : List Wire) (firsts : List Piece) (z : AreWellNets s wells firsts) (x y : ℤ) (n : ℕ) → net_in wells Poly x y ≡ Some n → IsFound Plain z.shapes (firsts_of firsts) poly x y n
+well_found : (s : List Shape) (wells : List Wire) (firsts : List Piece) (z : AreWellNets s wells firsts) (x y : ℤ) (n : ℕ) → net_in wells Poly x y ≡ Some n → IsFound Plain z.shapes (firsts_of firsts) Poly x y n
 well_found s wells firsts z x y n e = net_in_some Plain z.shapes wells firsts z.nets Poly x y n e
 
 pub of_well_net : (s : List Shape) (wells : List Wire) (firsts : List Piece) → AreWellNets s wells firsts → (x y : ℤ) (n : ℕ) → net_in wells Poly x y ≡ Some n → On Well s x y
@@ -84,13 +84,13 @@ of_well_net s wells firsts z x y n e = (z.are.poly x y).0 (well_found s wells fi
 
 pub one_class : (s : List Shape) (wells : List Wire) (firsts : List Piece) → AreWellNets s wells firsts → (x y u v : ℤ) (m n : ℕ) → net_in wells Poly x y ≡ Some m → net_in wells Poly u v ≡ Some n → m ≡ n → SameClass (On Well s) x y u v
 one_class s wells firsts z x y u v m n e f same =
-    class_of_net (On Well s) z.shapes z.are x y u v (same_number Plain z.shapes (firsts_of firsts) m n (site_at poly x y) (site_at poly u v) same (well_found s wells firsts z x y m e).net (well_found s wells firsts z u v n f).net)
+    class_of_net (On Well s) z.shapes z.are x y u v (same_number Plain z.shapes (firsts_of firsts) m n (site_at Poly x y) (site_at Poly u v) same (well_found s wells firsts z x y m e).net (well_found s wells firsts z u v n f).net)
 
 pub class_one : (s : List Shape) (wells : List Wire) (firsts : List Piece) → AreWellNets s wells firsts → (x y u v : ℤ) (m n : ℕ) → net_in wells Poly x y ≡ Some m → net_in wells Poly u v ≡ Some n → SameClass (On Well s) x y u v → m ≡ n
 class_one s wells firsts z x y u v m n e f c =
     let on : On Well s x y = of_well_net s wells firsts z x y m e in
-    one_number Plain z.shapes (firsts_of firsts) m n (site_at poly u v) z.nets.nets
-    (move_net Plain z.shapes (firsts_of firsts) m (site_at poly x y) (site_at poly u v) (well_found s wells firsts z x y m e).net (net_of_class (On Well s) z.shapes z.are x y u v on c))
+    one_number Plain z.shapes (firsts_of firsts) m n (site_at Poly u v) z.nets.nets
+    (move_net Plain z.shapes (firsts_of firsts) m (site_at Poly x y) (site_at Poly u v) (well_found s wells firsts z x y m e).net (net_of_class (On Well s) z.shapes z.are x y u v on c))
     (well_found s wells firsts z u v n f).net
 
 -- ---- the tie of a piece
@@ -139,8 +139,8 @@ pub record IsGround (s : List Shape) (ps : List Piece) (wells : List Wire) (firs
   pub drawn : AreDrawn s (rects_in ps)
   pub classes : AreWellNets s wells firsts
 
-pub of_kind : (s : List Shape) (ps : List Piece) → AreDrawn s (rects_in ps) → (k : Conductor) (p : Piece) → Contains ps p → p.kind ≡ k → (x y : ℤ) → Holds (rect_of p) x y → Are s (kind_of k) x y
-of_kind s ps d k p c e x y h = subst (λ (j : Conductor). Are s (kind_of j) x y) e (inside_conducts s ps d p c (site_at (kind_of p.kind) x y) (record { kind = refl; holds = h }))
+pub of_kind : (s : List Shape) (ps : List Piece) → AreDrawn s (rects_in ps) → (k : Conductor) (p : Piece) → Contains ps p → p.kind ≡ k → (x y : ℤ) → Holds (rect_of p) x y → Are s k x y
+of_kind s ps d k p c e x y h = subst (λ (j : Conductor). Are s j x y) e (inside_conducts s ps d p c (site_at p.kind x y) (record { kind = refl; holds = h }))
 
 pub in_corner : (p : Piece) → IsProper (rect_of p) → Holds (rect_of p) p.left p.low
 in_corner p proper = corner_held (rect_of p) proper
@@ -152,14 +152,14 @@ corner_class s ps d p c e x y h = same_class (On Well s) (rect_of p) (λ u v k. 
 pub corner_in_well : (s : List Shape) (ps : List Piece) (wells : List Wire) (firsts : List Piece) → IsGround s ps wells firsts → (p : Piece) → Contains ps p → p.kind ≡ PDiffusion → InWell wells p.left p.low
 corner_in_well s ps wells firsts g p c e = in_well s wells firsts g.classes p.left p.low (of_kind s ps g.drawn PDiffusion p c e p.left p.low (in_corner p (piece_proper s ps g.drawn p c))).1
 
-pub p_alone : (k : Conductor) → kind_of k ≡ p_diffusion → k ≡ PDiffusion
+pub p_alone : (k : Conductor) → k ≡ PDiffusion → k ≡ PDiffusion
 p_alone PDiffusion e = refl
 p_alone NDiffusion e = absurd (cc e)
 p_alone Poly e = absurd (cc e)
 p_alone Metal1 e = absurd (cc e)
 p_alone Metal2 e = absurd (cc e)
 
-pub n_alone : (k : Conductor) → kind_of k ≡ n_diffusion → k ≡ NDiffusion
+pub n_alone : (k : Conductor) → k ≡ NDiffusion → k ≡ NDiffusion
 n_alone PDiffusion e = absurd (cc e)
 n_alone NDiffusion e = refl
 n_alone Poly e = absurd (cc e)
@@ -167,7 +167,7 @@ n_alone Metal1 e = absurd (cc e)
 n_alone Metal2 e = absurd (cc e)
 
 -- pieces of one tie are tied
-tied_of : (s : List Shape) (ps : List Piece) (wells : List Wire) (firsts : List Piece) → IsGround s ps wells firsts → (p q : Piece) → Contains ps p → Contains ps q → (t : ℕ) → IsTie s wells p t → IsTie s wells q t → AreTied s (part_of p) (part_of q)
+tied_of : (s : List Shape) (ps : List Piece) (wells : List Wire) (firsts : List Piece) → IsGround s ps wells firsts → (p q : Piece) → Contains ps p → Contains ps q → (t : ℕ) → IsTie s wells p t → IsTie s wells q t → AreTied s p q
 tied_of s ps wells firsts g p q cp cq t (of_well e a m h u) (of_well f b n k v) =
     let same : m ≡ n = omega (arith, u, v) in
     let corners : SameClass (On Well s) p.left p.low q.left q.low = one_class s wells firsts g.classes p.left p.low q.left q.low m n h k same in
@@ -180,9 +180,9 @@ tied_of s ps wells firsts g p q cp cq t (of_well e a m h u) (of_well f b n k v) 
       v = b.y;
       in_p = a.holds;
       in_q = b.holds;
-      tied = by_well (ap kind_of e) (ap kind_of f) a.on b.on (joined (Linked (On Well s)) (cell a.x a.y) (cell p.left p.low) (cell b.x b.y) here (joined (Linked (On Well s)) (cell p.left p.low) (cell q.left q.low) (cell b.x b.y) corners there));
+      tied = by_well e f a.on b.on (joined (Linked (On Well s)) (cell a.x a.y) (cell p.left p.low) (cell b.x b.y) here (joined (Linked (On Well s)) (cell p.left p.low) (cell q.left q.low) (cell b.x b.y) corners there));
     }
-tied_of s ps wells firsts g p q cp cq t (of_substrate e a u) (of_substrate f b v) = record { x = a.x; y = a.y; u = b.x; v = b.y; in_p = a.holds; in_q = b.holds; tied = by_substrate (ap kind_of e) (ap kind_of f) a.on b.on }
+tied_of s ps wells firsts g p q cp cq t (of_substrate e a u) (of_substrate f b v) = record { x = a.x; y = a.y; u = b.x; v = b.y; in_p = a.holds; in_q = b.holds; tied = by_substrate e f a.on b.on }
 tied_of s ps wells firsts g p q cp cq t (of_well e a m h u) (of_substrate f b v) = absurd (omega (arith, u, v))
 tied_of s ps wells firsts g p q cp cq t (of_substrate f b v) (of_well e a m h u) = absurd (omega (arith, u, v))
 
@@ -192,10 +192,10 @@ record ShareTie (s : List Shape) (wells : List Wire) (p q : Piece) : Type 0 wher
   pub first : IsTie s wells p tie
   pub other : IsTie s wells q tie
 
-tie_shared : (s : List Shape) (ps : List Piece) (wells : List Wire) (firsts : List Piece) → IsGround s ps wells firsts → (p q : Piece) → Contains ps p → Contains ps q → AreTied s (part_of p) (part_of q) → ShareTie s wells p q
+tie_shared : (s : List Shape) (ps : List Piece) (wells : List Wire) (firsts : List Piece) → IsGround s ps wells firsts → (p q : Piece) → Contains ps p → Contains ps q → AreTied s p q → ShareTie s wells p q
 tie_shared s ps wells firsts g p q cp cq z = by z.tied
   where
-    by : Tied s (site_at (kind_of p.kind) z.x z.y) (site_at (kind_of q.kind) z.u z.v) → ShareTie s wells p q
+    by : Tied s (site_at p.kind z.x z.y) (site_at q.kind z.u z.v) → ShareTie s wells p q
     by (by_well k l m n c) =
         let e : p.kind ≡ PDiffusion = p_alone p.kind k in
         let f : q.kind ≡ PDiffusion = p_alone q.kind l in
@@ -254,7 +254,7 @@ taps_ties s ps wells firsts g = record { sound = sound; all = all }
     all : (i j : ℕ) → Paired Taps s ps i j → PairedOrTied s ps (ties_of s wells ps) i j
     all i j p = by p.bond
       where
-        by : Bond Taps s (part_of p.one) (part_of p.other) → PairedOrTied s ps (ties_of s wells ps) i j
+        by : Bond Taps s p.one p.other → PairedOrTied s ps (ties_of s wells ps) i j
         by (touching e t) = inl (record { one = p.one; other = p.other; at_one = p.at_one; at_other = p.at_other; bond = touching e t })
         by (joining b) = inl (record { one = p.one; other = p.other; at_one = p.at_one; at_other = p.at_other; bond = joining b })
         by (tying e z) =

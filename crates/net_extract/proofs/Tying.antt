@@ -7,7 +7,7 @@ use Rattle.box_geom.specs.declared.shape.Shape.{Shape}
 use Rattle.scmos_rules.proofs.Chains.{none, one, joined}
 use Rattle.scmos_rules.specs.declared.rules.Deck.TheVariants.{Plain}
 use Rattle.net_extract.specs.Classes.{AreKin, InTree, AreLow, IsJoined, AreSound, AreTrees, Keeps, IsTried}
-use Rattle.net_extract.specs.Pieces.{Paired}
+use Rattle.net_extract.specs.Bonds.{Paired}
 use Rattle.net_extract.specs.Ties.{is_one_tie, HaveOneTie, InTreeOrTied, PairedOrTied}
 use Rattle.net_extract.specs.declared.piece.Piece.{Piece}
 use Rattle.net_extract.proofs.Bonds.{carried_steps}
@@ -100,8 +100,8 @@ more_united n old now made ties at k la lk tied was q = record {
     R : ℕ → ℕ → Type 0
     R = InTreeOrTied old ties
 
-    t : IsTried n (InTreeOrTied old ties) at k now made
-    t = joining_is n (InTreeOrTied old ties) (united_back old ties) at k now made la (omega (arith, la, lk)) (inr tied) was.sound q
+    t : IsTried n (InTreeOrTied old ties) (InTreeOrTied old ties) at k now made
+    t = joining_is n (InTreeOrTied old ties) (InTreeOrTied old ties) (united_back old ties) at k now made la (omega (arith, la, lk)) (inr tied) was.sound q
 
     here : (j : ℕ) → j < at → HaveOneTie ties at j → InTree made at j
     here j l h = joined (AreKin made) at k j (t.joined (inr tied)) (t.keeps.kept k j (was.joined k j lk l (one_both ties at k j tied h)))

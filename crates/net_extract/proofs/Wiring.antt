@@ -18,14 +18,14 @@ use Rattle.scmos_rules.specs.declared.rules.Deck.{Deck}
 use Rattle.net_extract.specs.Classes.{AreLeast}
 use Rattle.net_extract.specs.Nets.{Site, Conducts, Wired, SameNet}
 use Rattle.net_extract.specs.Numbering.{NotBehind, IsFirstOfNet, IsBefore, AreNets, IsInNet}
-use Rattle.net_extract.specs.Parts.{AreDrawn, Part, Bond, touching, Bonded, IsPart, IsIn}
-use Rattle.net_extract.specs.Pieces.{rects_in, rect_of, part_of, corner_of, piece_cmp, Paired}
+use Rattle.net_extract.specs.Bonds.{AreDrawn, Bond, touching, Bonded, IsPieceOf, IsIn, Paired}
+use Rattle.net_extract.specs.Pieces.{rects_in, rect_of, corner_of, piece_cmp, piece_of}
 use Rattle.net_extract.specs.Connections.{firsts_of, pieces_of, nets_of, AreWires, blank, heads_below, AreNumbered}
 use Rattle.net_extract.specs.declared.piece.Piece.{Piece}
 use Rattle.net_extract.specs.declared.connections.Wire.{Wire}
 use Rattle.net_extract.proofs.Bonds.{carried_steps, one_net}
 use Rattle.net_extract.proofs.Classing.{chained_same, same_chained, least_heads}
-use Rattle.net_extract.proofs.Listing.{listed_of, part_listed, piece_proper, corner_in, corner_conducts, held}
+use Rattle.net_extract.proofs.Listing.{listed_of, piece_listed, piece_proper, corner_in, corner_conducts, held}
 use Rattle.net_extract.proofs.Numbering.{head_of, head_is, heads_own, heads_other, as_many}
 use Rattle.net_extract.proofs.Numbers.{wired_back}
 use Rattle.net_extract.proofs.Pairing.{paired_back, paired_below, paired_of, bond_of_pair}
@@ -49,49 +49,49 @@ number_of ps p (k, l, e) = record { at = k; within = l; is = at_blank ps p k l e
 pub listed_at : (ps : List Piece) (i : ℕ) → i < length ps → Contains ps (get_or ps i blank)
 listed_at ps i l = contains_get ps i (get_or ps i blank) (slice_get-get_or ps i blank l)
 
-abbrev part_at : List Piece → ℕ → Part
-part_at ps i = part_of (get_or ps i blank)
+abbrev piece_at : List Piece → ℕ → Piece
+piece_at ps i = get_or ps i blank
 
-bonded_of : (deck : Deck) (s : List Shape) (ps : List Piece) (i j : ℕ) → Paired deck s ps i j → Bonded deck s (rects_in ps) (part_at ps i) (part_at ps j)
+bonded_of : (deck : Deck) (s : List Shape) (ps : List Piece) (i j : ℕ) → Paired deck s ps i j → Bonded deck s (rects_in ps) (piece_at ps i) (piece_at ps j)
 bonded_of deck s ps i j p =
     let b = paired_below deck s ps i j p in
-    record { from = part_listed ps (get_or ps i blank) (listed_at ps i b.0); to = part_listed ps (get_or ps j blank) (listed_at ps j b.1); bond = bond_of_pair deck s ps i j blank p }
+    record { from = piece_listed ps (get_or ps i blank) (listed_at ps i b.0); to = piece_listed ps (get_or ps j blank) (listed_at ps j b.1); bond = bond_of_pair deck s ps i j blank p }
 
-parts_chain : (deck : Deck) (s : List Shape) (ps : List Piece) (i j : ℕ) → Chain (Paired deck s ps) i j → Chain (Bonded deck s (rects_in ps)) (part_at ps i) (part_at ps j)
-parts_chain deck s ps i j c = carried_steps (Paired deck s ps) (Bonded deck s (rects_in ps)) (part_at ps) (bonded_of deck s ps) c.count i j c.steps
+parts_chain : (deck : Deck) (s : List Shape) (ps : List Piece) (i j : ℕ) → Chain (Paired deck s ps) i j → Chain (Bonded deck s (rects_in ps)) (piece_at ps i) (piece_at ps j)
+parts_chain deck s ps i j c = carried_steps (Paired deck s ps) (Bonded deck s (rects_in ps)) (piece_at ps) (bonded_of deck s ps) c.count i j c.steps
 
 touch_self : (r : Rectangle) → IsProper r → Touch r r
 touch_self r p = let w = p.wide in let h = p.high in record { one = record { x = r.x1; y = r.y1 }; other = record { x = r.x1; y = r.y1 }; in_a = omega (arith, ints); in_b = omega (arith, ints); meet = inl refl }
 
--- pieces that are one part are bonded
-same_part : (deck : Deck) (s : List Shape) (ps : List Piece) → AreDrawn s (rects_in ps) → (i j : ℕ) → i < length ps → j < length ps → part_at ps i ≡ part_at ps j → Paired deck s ps i j
+-- a piece is bonded to itself
+same_part : (deck : Deck) (s : List Shape) (ps : List Piece) → AreDrawn s (rects_in ps) → (i j : ℕ) → i < length ps → j < length ps → piece_at ps i ≡ piece_at ps j → Paired deck s ps i j
 same_part deck s ps d i j li lj e =
-    paired_of deck s ps i j blank li lj (subst (λ z. Bond deck s (part_at ps i) z) e (touching refl (touch_self (rect_of (get_or ps i blank)) (piece_proper s ps d (get_or ps i blank) (listed_at ps i li)))))
+    paired_of deck s ps i j blank li lj (subst (λ z. Bond deck s (piece_at ps i) z) e (touching refl (touch_self (rect_of (get_or ps i blank)) (piece_proper s ps d (get_or ps i blank) (listed_at ps i li)))))
 
--- the number of a part
-record PartNumber (ps : List Piece) (p : Part) : Type 0 where
+-- the number of a piece
+record PieceNumber (ps : List Piece) (p : Piece) : Type 0 where
   pub at : ℕ
   pub within : at < length ps
-  pub is : part_at ps at ≡ p
+  pub is : piece_at ps at ≡ p
 
-part_same : (p q : Part) → p.kind ≡ q.kind → p.rect ≡ q.rect → p ≡ q
-part_same p q e f = subst (λ k. p ≡ record { kind = k; rect = q.rect }) e (subst (λ r. p ≡ record { kind = p.kind; rect = r }) f refl)
+piece_same : (p q : Piece) → p.kind ≡ q.kind → rect_of p ≡ rect_of q → p ≡ q
+piece_same p q e f = subst (λ k. p ≡ piece_of k (rect_of q)) e (subst (λ r. p ≡ piece_of p.kind r) f refl)
 
-part_number : (ps : List Piece) (p : Part) → IsPart (rects_in ps) p → PartNumber ps p
-part_number ps p c =
-    let l = listed_of ps p.kind p.rect c in
+piece_number : (ps : List Piece) (p : Piece) → IsPieceOf (rects_in ps) p → PieceNumber ps p
+piece_number ps p c =
+    let l = listed_of ps p.kind (rect_of p) c in
     let n = number_of ps l.piece l.listed in
-    record { at = n.at; within = n.within; is = subst (λ z. part_of z ≡ p) (sym n.is) (part_same (part_of l.piece) p l.kind l.rect) }
+    record { at = n.at; within = n.within; is = subst (λ z. z ≡ p) (sym n.is) (piece_same l.piece p l.kind l.rect) }
 
-numbers_steps : (deck : Deck) (s : List Shape) (ps : List Piece) → AreDrawn s (rects_in ps) → (m : ℕ) (i j : ℕ) (p q : Part) → i < length ps → j < length ps → part_at ps i ≡ p → part_at ps j ≡ q → Steps (Bonded deck s (rects_in ps)) m p q → Chain (Paired deck s ps) i j
+numbers_steps : (deck : Deck) (s : List Shape) (ps : List Piece) → AreDrawn s (rects_in ps) → (m : ℕ) (i j : ℕ) (p q : Piece) → i < length ps → j < length ps → piece_at ps i ≡ p → piece_at ps j ≡ q → Steps (Bonded deck s (rects_in ps)) m p q → Chain (Paired deck s ps) i j
 numbers_steps deck s ps d zero i j p q li lj ei ej e = one (Paired deck s ps) i j (same_part deck s ps d i j li lj (ei ∙ e ∙ sym ej))
 numbers_steps deck s ps d (suc m) i j p q li lj ei ej (mid, b, rest) =
-    let n = part_number ps mid b.to in
-    let bond : Bond deck s (part_at ps i) (part_at ps n.at) = subst (λ z. Bond deck s z (part_at ps n.at)) (sym ei) (subst (λ z. Bond deck s p z) (sym n.is) b.bond) in
+    let n = piece_number ps mid b.to in
+    let bond : Bond deck s (piece_at ps i) (piece_at ps n.at) = subst (λ z. Bond deck s z (piece_at ps n.at)) (sym ei) (subst (λ z. Bond deck s p z) (sym n.is) b.bond) in
     joined (Paired deck s ps) i n.at j (one (Paired deck s ps) i n.at (paired_of deck s ps i n.at blank li n.within bond)) (numbers_steps deck s ps d m n.at j mid q n.within lj n.is ej rest)
 
-numbers_chain : (deck : Deck) (s : List Shape) (ps : List Piece) → AreDrawn s (rects_in ps) → (i j : ℕ) → i < length ps → j < length ps → Chain (Bonded deck s (rects_in ps)) (part_at ps i) (part_at ps j) → Chain (Paired deck s ps) i j
-numbers_chain deck s ps d i j li lj c = numbers_steps deck s ps d c.count i j (part_at ps i) (part_at ps j) li lj refl refl c.steps
+numbers_chain : (deck : Deck) (s : List Shape) (ps : List Piece) → AreDrawn s (rects_in ps) → (i j : ℕ) → i < length ps → j < length ps → Chain (Bonded deck s (rects_in ps)) (piece_at ps i) (piece_at ps j) → Chain (Paired deck s ps) i j
+numbers_chain deck s ps d i j li lj c = numbers_steps deck s ps d c.count i j (piece_at ps i) (piece_at ps j) li lj refl refl c.steps
 
 -- the end of a chain conducts
 end_steps : (deck : Deck) (s : List Shape) (m : ℕ) (a b : Site) → Conducts s a → Steps (Wired deck s) m a b → Conducts s b
@@ -120,30 +120,30 @@ abbrev at : List Piece → ℕ → Piece
 at ps i = get_or ps i blank
 
 -- cells of pieces with one label are of one net, and cells of one net lie in pieces with one label
-label_net : (deck : Deck) (s : List Shape) (ps : List Piece) (ls : List ℕ) → AreSet deck s ps ls → (i j : ℕ) (a b : Site) → i < length ps → j < length ps → IsIn (part_at ps i) a → IsIn (part_at ps j) b → get_or ls i 0 ≡ get_or ls j 0 → SameNet deck s a b
+label_net : (deck : Deck) (s : List Shape) (ps : List Piece) (ls : List ℕ) → AreSet deck s ps ls → (i j : ℕ) (a b : Site) → i < length ps → j < length ps → IsIn (piece_at ps i) a → IsIn (piece_at ps j) b → get_or ls i 0 ≡ get_or ls j 0 → SameNet deck s a b
 label_net deck s ps ls z i j a b li lj ia jb e =
-    (one_net deck s (rects_in ps) (part_at ps i) (part_at ps j) a b z.drawn (part_listed ps (at ps i) (listed_at ps i li)) (part_listed ps (at ps j) (listed_at ps j lj)) ia jb).1
+    (one_net deck s (rects_in ps) (piece_at ps i) (piece_at ps j) a b z.drawn (piece_listed ps (at ps i) (listed_at ps i li)) (piece_listed ps (at ps j) (listed_at ps j lj)) ia jb).1
     (parts_chain deck s ps i j (same_chained (length ps) (Paired deck s ps) (paired_back deck s ps) ls z.least i j li lj e))
 
-net_label : (deck : Deck) (s : List Shape) (ps : List Piece) (ls : List ℕ) → AreSet deck s ps ls → (i j : ℕ) (a b : Site) → i < length ps → j < length ps → IsIn (part_at ps i) a → IsIn (part_at ps j) b → SameNet deck s a b → get_or ls i 0 ≡ get_or ls j 0
+net_label : (deck : Deck) (s : List Shape) (ps : List Piece) (ls : List ℕ) → AreSet deck s ps ls → (i j : ℕ) (a b : Site) → i < length ps → j < length ps → IsIn (piece_at ps i) a → IsIn (piece_at ps j) b → SameNet deck s a b → get_or ls i 0 ≡ get_or ls j 0
 net_label deck s ps ls z i j a b li lj ia jb n =
     chained_same (length ps) (Paired deck s ps) ls z.least i j (numbers_chain deck s ps z.drawn i j li lj
-    ((one_net deck s (rects_in ps) (part_at ps i) (part_at ps j) a b z.drawn (part_listed ps (at ps i) (listed_at ps i li)) (part_listed ps (at ps j) (listed_at ps j lj)) ia jb).0 n))
+    ((one_net deck s (rects_in ps) (piece_at ps i) (piece_at ps j) a b z.drawn (piece_listed ps (at ps i) (listed_at ps i li)) (piece_listed ps (at ps j) (listed_at ps j lj)) ia jb).0 n))
 
-corner_at : (s : List Shape) (ps : List Piece) → AreDrawn s (rects_in ps) → (i : ℕ) → i < length ps → IsIn (part_at ps i) (corner_of (at ps i))
+corner_at : (s : List Shape) (ps : List Piece) → AreDrawn s (rects_in ps) → (i : ℕ) → i < length ps → IsIn (piece_at ps i) (corner_of (at ps i))
 corner_at s ps d i l = corner_in (at ps i) (piece_proper s ps d (at ps i) (listed_at ps i l))
 
 -- where a conductor cell lies
 record Place (ps : List Piece) (a : Site) : Type 0 where
   pub at : ℕ
   pub within : at < length ps
-  pub inside : IsIn (part_of (get_or ps at blank)) a
+  pub inside : IsIn (get_or ps at blank) a
 
 place_of : (s : List Shape) (ps : List Piece) → AreDrawn s (rects_in ps) → (a : Site) → Conducts s a → Place ps a
 place_of s ps d a c =
     let h = held s ps d a c in
     let n = number_of ps h.piece h.listed in
-    record { at = n.at; within = n.within; inside = subst (λ z. IsIn (part_of z) a) (sym n.is) h.inside }
+    record { at = n.at; within = n.within; inside = subst (λ z. IsIn z a) (sym n.is) h.inside }
 
 -- the corner of a head comes first in its net
 head_first : (deck : Deck) (s : List Shape) (ps : List Piece) (ls : List ℕ) → AreSet deck s ps ls → (i : ℕ) → i < length ps → get_or ls i 0 ≡ i → IsFirstOfNet deck s (corner_of (at ps i))

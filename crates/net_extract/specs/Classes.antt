@@ -68,17 +68,18 @@ pub record AreLeast (n : ℕ) (R : ℕ → ℕ → Type 0) (labels : List ℕ) :
 pub record Keeps (old new : List ℕ) : Type 0 where
   pub kept : (i j : ℕ) → InTree old i j → InTree new i j
 
--- number i was tried with the numbers behind it and below k
-pub record AreTried (n : ℕ) (R : ℕ → ℕ → Type 0) (i k : ℕ) (old new : List ℕ) : Type 0 where
+-- number i was tried with the numbers behind it and below k: those that Q relates to it stand in its tree, and all that
+-- stands in one tree is of one class by R
+pub record AreTried (n : ℕ) (R Q : ℕ → ℕ → Type 0) (i k : ℕ) (old new : List ℕ) : Type 0 where
   pub sound : AreSound n R new
   pub keeps : Keeps old new
-  pub joined : (j : ℕ) → i < j → j < k → R i j → InTree new i j
+  pub joined : (j : ℕ) → i < j → j < k → Q i j → InTree new i j
 
 -- one number was tried with another one
-pub record IsTried (n : ℕ) (R : ℕ → ℕ → Type 0) (i j : ℕ) (old new : List ℕ) : Type 0 where
+pub record IsTried (n : ℕ) (R Q : ℕ → ℕ → Type 0) (i j : ℕ) (old new : List ℕ) : Type 0 where
   pub sound : AreSound n R new
   pub keeps : Keeps old new
-  pub joined : R i j → InTree new i j
+  pub joined : Q i j → InTree new i j
 
 -- a label labels itself, and comes not behind what it labels
 pub record AreHeads (n : ℕ) (labels : List ℕ) : Type 0 where

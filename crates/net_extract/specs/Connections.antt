@@ -3,8 +3,9 @@ use Rattle.std.specs.Prelude.{◌≡◌, ℕ, zero, suc, ◌<◌, ◌==◌, ℤ,
 use Rattle.std.specs.List.{All}
 use Rattle.box_geom.specs.declared.shape.Shape.{Shape}
 use Rattle.scmos_rules.specs.declared.rules.Deck.{Deck}
-use Rattle.net_extract.specs.Nets.{Kind, Site, site_at, Conducts}
-use Rattle.net_extract.specs.Parts.{AreDrawn}
+use Rattle.net_extract.specs.Nets.{Site, site_at, Conducts}
+use Rattle.net_extract.specs.declared.piece.Conductor.{Conductor}
+use Rattle.net_extract.specs.Bonds.{AreDrawn}
 use Rattle.net_extract.specs.Numbering.{AreNets, IsInNet}
 use Rattle.net_extract.specs.Pieces.{rects_in, corner_of}
 use Rattle.net_extract.specs.declared.piece.Conductor.TheVariants.{PDiffusion}
@@ -28,7 +29,7 @@ pub record AreWires (deck : Deck) (s : List Shape) (wires : List Wire) (firsts :
   pub numbers : All (λ (w : Wire). IsInNet deck s (firsts_of firsts) w.net (corner_of w.piece)) wires
 
 -- the conductor cell at a place and its number
-pub record IsFound (deck : Deck) (s : List Shape) (firsts : List Site) (k : Kind) (x y : ℤ) (n : ℕ) : Type 0 where
+pub record IsFound (deck : Deck) (s : List Shape) (firsts : List Site) (k : Conductor) (x y : ℤ) (n : ℕ) : Type 0 where
   pub conducts : Conducts s (site_at k x y)
   pub net : IsInNet deck s firsts n (site_at k x y)
 

@@ -8,7 +8,7 @@ use Rattle.box_geom.specs.declared.shape.Shape.{Shape}
 use Rattle.box_geom.specs.declared.layer.Layer.{Layer}
 use Rattle.box_geom.specs.declared.layer.Layer.TheVariants.{Well, Active, Poly as PolyLayer, Metal1 as Metal1Layer, Metal2 as Metal2Layer}
 use Rattle.net_extract.specs.Meetings.{sharing_cell}
-use Rattle.net_extract.specs.Pieces.{rect_of}
+use Rattle.net_extract.specs.Pieces.{rect_of, piece_of}
 use Rattle.net_extract.specs.declared.piece.Conductor.{Conductor}
 use Rattle.net_extract.specs.declared.piece.Conductor.TheVariants.{PDiffusion, NDiffusion, Poly, Metal1, Metal2}
 use Rattle.net_extract.specs.declared.piece.Piece.{Piece}
@@ -79,9 +79,6 @@ abbrev pub shared_all : Layer → List Piece → List Shape → List Piece
 shared_all layer ps shapes = flat_map (shared_once layer ps) shapes
 
 -- the rectangles of a layer as pieces of a kind
-abbrev pub piece_of : Conductor → Rectangle → Piece
-piece_of k r = record { low = r.y1; left = r.x1; kind = k; top = r.y2; right = r.x2 }
-
 abbrev pub drawn_once : Conductor → Layer → Shape → List Piece
 drawn_once k layer s = if same_layer s.layer layer then piece_of k s.rect ∷ [] else []
 

@@ -9,7 +9,11 @@ use Rattle.cell_num.specs.declared.finger.Row.TheVariants.{P, N}
 use Rattle.scmos_rules.specs.Failing.{SameClass}
 use Rattle.scmos_rules.specs.Layout.{On, Gate}
 use Rattle.scmos_rules.specs.declared.rules.Deck.{Deck}
-use Rattle.net_extract.specs.Nets.{Kind, p_diffusion, n_diffusion, poly, Site, site_at, Conducts, SameNet}
+use Rattle.net_extract.specs.Nets.{Site, site_at, Conducts, SameNet}
+use Rattle.net_extract.specs.declared.piece.Conductor.{Conductor}
+use Rattle.net_extract.specs.declared.piece.Conductor.TheVariants.{PDiffusion, NDiffusion, Poly}
+use Rattle.net_extract.specs.declared.side.Current.{Current}
+use Rattle.net_extract.specs.declared.side.Current.TheVariants.{Rightward, Upward}
 
 -- the cells of the box are gate cells, and are all that are chained to one of them by shared edges
 pub record IsGateBox (s : List Shape) (box : Rectangle) : Type 0 where
@@ -22,9 +26,9 @@ abbrev pub InRow : Row → List Shape → ℤ → ℤ → Type 0
 InRow P s x y = On Well s x y
 InRow N s x y = On Well s x y → ⊥
 
-abbrev pub diffusion_of : Row → Kind
-diffusion_of P = p_diffusion
-diffusion_of N = n_diffusion
+abbrev pub diffusion_of : Row → Conductor
+diffusion_of P = PDiffusion
+diffusion_of N = NDiffusion
 
 -- the strips of cells along the four sides of a rectangle
 abbrev pub left_of : Rectangle → Rectangle
@@ -40,7 +44,7 @@ abbrev pub above : Rectangle → Rectangle
 above r = record { x1 = r.x1; y1 = r.y2; x2 = r.x2; y2 = r.y2 +ℤ pos 1 }
 
 -- every cell of the strip is of the kind and in the net of site a
-pub record IsSide (deck : Deck) (s : List Shape) (k : Kind) (strip : Rectangle) (a : Site) : Type 0 where
+pub record IsSide (deck : Deck) (s : List Shape) (k : Conductor) (strip : Rectangle) (a : Site) : Type 0 where
   pub conducts : Conducts s a
   pub side : (x y : ℤ) → Holds strip x y → Conducts s (site_at k x y) × SameNet deck s a (site_at k x y)
 
@@ -48,43 +52,38 @@ pub record IsSide (deck : Deck) (s : List Shape) (k : Kind) (strip : Rectangle) 
 pub record IsClosed (s : List Shape) (strip : Rectangle) : Type 0 where
   pub closed : (x y : ℤ) → Holds strip x y → On Active s x y → ⊥
 
--- the current flows from left to right, or upward
-pub data Flow : Type 0 where
-  rightward : Flow
-  upward : Flow
+abbrev pub source_side : Current → Rectangle → Rectangle
+source_side Rightward r = left_of r
+source_side Upward r = below r
 
-abbrev pub source_side : Flow → Rectangle → Rectangle
-source_side rightward r = left_of r
-source_side upward r = below r
+abbrev pub drain_side : Current → Rectangle → Rectangle
+drain_side Rightward r = right_of r
+drain_side Upward r = above r
 
-abbrev pub drain_side : Flow → Rectangle → Rectangle
-drain_side rightward r = right_of r
-drain_side upward r = above r
+abbrev pub low_end : Current → Rectangle → Rectangle
+low_end Rightward r = below r
+low_end Upward r = left_of r
 
-abbrev pub low_end : Flow → Rectangle → Rectangle
-low_end rightward r = below r
-low_end upward r = left_of r
-
-abbrev pub high_end : Flow → Rectangle → Rectangle
-high_end rightward r = above r
-high_end upward r = right_of r
+abbrev pub high_end : Current → Rectangle → Rectangle
+high_end Rightward r = above r
+high_end Upward r = right_of r
 
 -- how long the diffusion sides are, and how far they lie apart
-pub record IsSize (flow : Flow) (r : Rectangle) (width length : ℕ) : Type 0 where
-  pub across : flow ≡ rightward → (r.y2 ≡ r.y1 +ℤ pos width) × (r.x2 ≡ r.x1 +ℤ pos length)
-  pub upright : flow ≡ upward → (r.x2 ≡ r.x1 +ℤ pos width) × (r.y2 ≡ r.y1 +ℤ pos length)
+pub record IsSize (current : Current) (r : Rectangle) (width length : ℕ) : Type 0 where
+  pub across : current ≡ Rightward → (r.y2 ≡ r.y1 +ℤ pos width) × (r.x2 ≡ r.x1 +ℤ pos length)
+  pub upright : current ≡ Upward → (r.x2 ≡ r.x1 +ℤ pos width) × (r.y2 ≡ r.y1 +ℤ pos length)
 
 -- a device by cells: its gate and its sides are given by any site of their nets
 pub record IsDevice (deck : Deck) (s : List Shape) (box : Rectangle) (row : Row) (gate left right : Site) (width length : ℕ) : Type 0 where
-  pub flow : Flow
+  pub current : Current
   pub class : IsGateBox s box
   pub of_row : (x y : ℤ) → Holds box x y → InRow row s x y
-  pub gate_net : SameNet deck s gate (site_at poly box.x1 box.y1)
-  pub left_side : IsSide deck s (diffusion_of row) (source_side flow box) left
-  pub right_side : IsSide deck s (diffusion_of row) (drain_side flow box) right
-  pub low : IsClosed s (low_end flow box)
-  pub high : IsClosed s (high_end flow box)
-  pub size : IsSize flow box width length
+  pub gate_net : SameNet deck s gate (site_at Poly box.x1 box.y1)
+  pub left_side : IsSide deck s (diffusion_of row) (source_side current box) left
+  pub right_side : IsSide deck s (diffusion_of row) (drain_side current box) right
+  pub low : IsClosed s (low_end current box)
+  pub high : IsClosed s (high_end current box)
+  pub size : IsSize current box width length
 
 -- the box is a device, whatever its row, nets and size
 pub record IsSomeDevice (deck : Deck) (s : List Shape) (box : Rectangle) : Type 0 where

@@ -7,7 +7,7 @@ use Rattle.box_geom.specs.declared.shape.Shape.{Shape}
 use Rattle.box_geom.specs.declared.layer.Layer.TheVariants.{Well, Poly}
 use Rattle.scmos_rules.specs.Layout.{On, Gate}
 use Rattle.scmos_rules.specs.declared.rules.Deck.{Deck}
-use Rattle.scmos_rules.specs.declared.rules.Deck.TheVariants.{Plain}
+use Rattle.scmos_rules.specs.declared.rules.Deck.TheVariants.{Plain, Taps}
 use Rattle.net_extract.specs.Devices.{IsFirstOdd, AreDevices}
 use Rattle.net_extract.specs.Extraction.{IsDrawn}
 use Rattle.net_extract.specs.Nets.{Site}
@@ -36,6 +36,15 @@ AreGateNets s wires firsts = AreClassNets (Gate s) wires firsts
 
 abbrev pub AreWellNets : List Shape → List Wire → List Piece → Type 0
 AreWellNets s wires firsts = AreClassNets (On Well s) wires firsts
+
+-- the wires of the classes of well cells
+pub record HaveWellNets (s : List Shape) (wires : List Wire) : Type 0 where
+  pub firsts : List Piece
+  pub nets : AreWellNets s wires firsts
+
+-- the same, where a deck ties taps
+pub record AreWells (deck : Deck) (s : List Shape) (wires : List Wire) : Type 0 where
+  pub nets : deck ≡ Taps → HaveWellNets s wires
 
 -- the piece widened to a wire of the net
 abbrev pub wider : ℕ → Piece → Wire → Piece

@@ -14,11 +14,11 @@ use Rattle.net_extract.specs.Nets.{layer_of, Site, Conducts, SameNet}
 use Rattle.net_extract.specs.Numbering.{IsInNet}
 
 -- labels on the layers of conductors; all others are ignored
-abbrev pub is_wiring : Layer → Bool
-is_wiring l = same_layer l Active || same_layer l Poly || same_layer l Metal1 || same_layer l Metal2
+abbrev pub is_conductor : Layer → Bool
+is_conductor l = same_layer l Active || same_layer l Poly || same_layer l Metal1 || same_layer l Metal2
 
-abbrev pub wiring_labels : List Label → List Label
-wiring_labels labels = filter (λ (l : Label). is_wiring l.layer) labels
+abbrev pub conductor_labels : List Label → List Label
+conductor_labels labels = filter (λ (l : Label). is_conductor l.layer) labels
 
 -- the four cells round a point: upper right, upper left, lower right, lower left
 abbrev pub cells_round : ℤ → ℤ → List Cell
@@ -58,14 +58,14 @@ pub record IsHeld (deck : Deck) (s : List Shape) (firsts : List Site) (l : Label
 
 -- every label on a layer of conductors in the order of the list, with its net
 abbrev pub AreHeld : Deck → List Shape → List Site → List Label → List Held → Type 0
-AreHeld deck s firsts labels held = AllZip (IsHeld deck s firsts) (wiring_labels labels) held
+AreHeld deck s firsts labels held = AllZip (IsHeld deck s firsts) (conductor_labels labels) held
 
 -- the first label that is stray, and the labels before it
 pub record IsFirstStray (s : List Shape) (labels : List Label) (name : List ℕ) : Type 0 where
   pub before : List Label
   pub label : Label
   pub after : List Label
-  pub split : wiring_labels labels ≡ before ++ label ∷ after
+  pub split : conductor_labels labels ≡ before ++ label ∷ after
   pub fine : (l : Label) → Contains before l → IsStray s l → ⊥
   pub stray : IsStray s label
   pub named : label.name ≡ name

@@ -1,5 +1,6 @@
 -- What contracts of public calls cite, and what these definitions stand on.
 pub mod Bodies
+pub mod Bonds
 pub mod Devices
 pub mod Extraction
 pub mod Labels
@@ -7,7 +8,6 @@ pub mod Naming
 pub mod NetMaps
 pub mod Nets
 pub mod Numbering
-pub mod Parts
 pub mod Pieces
 -- What inner contracts and proofs alone cite.
 pub mod Areas

@@ -6,7 +6,7 @@ use Rattle.box_geom.specs.Comparisons.{holding}
 use Rattle.box_geom.specs.declared.shape.Label.{Label}
 use Rattle.box_geom.specs.declared.layer.Layer.{Layer}
 use Rattle.box_geom.specs.declared.layer.Layer.TheVariants.{Well, Active, PSelect, NSelect, Poly as PolyLayer, Contact, Metal1 as Metal1Layer, Via, Metal2 as Metal2Layer}
-use Rattle.net_extract.specs.Labels.{is_wiring}
+use Rattle.net_extract.specs.Labels.{is_conductor}
 use Rattle.net_extract.specs.Pieces.{place, rect_of}
 use Rattle.net_extract.specs.declared.naming.Held.{Held}
 use Rattle.net_extract.specs.declared.fault.ExtractFault.{ExtractFault}
@@ -49,10 +49,10 @@ net_of_label wires l = net_round wires l.layer l.x l.y
 
 -- a label on a layer of conductors without a net
 abbrev pub is_lost : List Wire → Label → Bool
-is_lost wires l = is_wiring l.layer && not (is_some (net_of_label wires l))
+is_lost wires l = is_conductor l.layer && not (is_some (net_of_label wires l))
 
 abbrev pub held_of : List Wire → Label → Option Held
-held_of wires l = if is_wiring l.layer then option_map (λ n. record { name = l.name; net = n }) (net_of_label wires l) else None
+held_of wires l = if is_conductor l.layer then option_map (λ n. record { name = l.name; net = n }) (net_of_label wires l) else None
 
 abbrev pub held_in : List Wire → List Label → List Held
 held_in wires labels = filter_map (held_of wires) labels

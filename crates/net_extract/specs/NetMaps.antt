@@ -19,7 +19,7 @@ use Rattle.net_extract.specs.Labels.{IsConductorAt}
 use Rattle.net_extract.specs.Naming.{IsAgreed, names_of}
 use Rattle.net_extract.specs.Nets.{layer_of, Site}
 use Rattle.net_extract.specs.Numbering.{IsInNet}
-use Rattle.net_extract.specs.Pieces.{kind_of, rect_of}
+use Rattle.net_extract.specs.Pieces.{rect_of}
 use Rattle.net_extract.specs.declared.connections.Wire.{Wire}
 use Rattle.net_extract.specs.declared.naming.Held.{Held}
 use Rattle.net_extract.specs.declared.net_piece.NetPiece.{NetPiece}
@@ -92,7 +92,7 @@ pub record Maps (deck : Deck) (shapes : Shapes) (map : NetMap) : Type 0 where
 
 -- the connections of a drawing by layers
 abbrev pub net_piece : Wire → NetPiece
-net_piece w = record { layer = layer_of (kind_of w.piece.kind); block = rect_of w.piece; net = w.net }
+net_piece w = record { layer = layer_of w.piece.kind; block = rect_of w.piece; net = w.net }
 
 abbrev pub net_pieces : List Wire → List NetPiece
 net_pieces wires = map net_piece wires

@@ -3,15 +3,17 @@ use Rattle.std.specs.Prelude.{◌≡◌, ◌≤ℤ◌, ℕ, ◌≤◌, List, Som
 use Rattle.std.specs.List.{AllPairs, Contains}
 use Rattle.box_geom.specs.declared.shape.Shape.{Shape}
 use Rattle.scmos_rules.specs.declared.rules.Deck.{Deck}
-use Rattle.net_extract.specs.Nets.{Kind, p_diffusion, n_diffusion, poly, metal1, metal2, Site, Conducts, SameNet}
+use Rattle.net_extract.specs.Nets.{Site, Conducts, SameNet}
+use Rattle.net_extract.specs.declared.piece.Conductor.{Conductor}
+use Rattle.net_extract.specs.declared.piece.Conductor.TheVariants.{PDiffusion, NDiffusion, Poly, Metal1, Metal2}
 
 -- the order of layers in one cell
-abbrev pub rank : Kind → ℕ
-rank p_diffusion = 0
-rank n_diffusion = 0
-rank poly = 1
-rank metal1 = 2
-rank metal2 = 3
+abbrev pub rank : Conductor → ℕ
+rank PDiffusion = 0
+rank NDiffusion = 0
+rank Poly = 1
+rank Metal1 = 2
+rank Metal2 = 3
 
 -- site a does not come behind site b
 pub record NotBehind (a b : Site) : Type 0 where

@@ -10,7 +10,8 @@ use Rattle.scmos_rules.specs.declared.rules.Deck.TheVariants.{Plain}
 use Rattle.net_extract.specs.Areas.{meeting_any}
 use Rattle.net_extract.specs.Classes.{InTree}
 use Rattle.net_extract.specs.Lookups.{net_in}
-use Rattle.net_extract.specs.Pieces.{rect_of, Paired}
+use Rattle.net_extract.specs.Pieces.{rect_of}
+use Rattle.net_extract.specs.Bonds.{Paired}
 use Rattle.net_extract.specs.declared.body.Tap.{Tap}
 use Rattle.net_extract.specs.declared.connections.Wire.{Wire}
 use Rattle.net_extract.specs.declared.piece.Conductor.{Conductor}

@@ -34,7 +34,7 @@ fn rect_at(shapes: &[Shape], layer: Layer, x: i64, y: i64) -> Option<Rect>
 }
 
 #[tactic(auto, unfolding(box_geom::specs::Comparisons::overlapping))]
-pub(crate) fn do_overlap(a: i64, b: i64, c: i32, d: i32) -> bool
+fn do_overlap(a: i64, b: i64, c: i32, d: i32) -> bool
     ensures { result ≡ overlapping a b c d }
 {
     a < i64::from(d) && i64::from(c) < b

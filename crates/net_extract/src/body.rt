@@ -1,5 +1,5 @@
 // The bodies of devices: for each device the net of the taps that it stands on.
-ghost use Rattle.std.specs.Prelude.{◌≡◌, ◌++◌, ◌<◌, IfOk, OnOk, length, option_to_list};
+ghost use Rattle.std.specs.Prelude.{◌≡◌, ◌++◌, ◌<◌, IfOk, OnOk, option_to_list};
 ghost use Rattle.net_extract.specs.GateNets.{boxes_of};
 ghost use Rattle.net_extract.specs.Pieces.{rect_of};
 ghost use Rattle.net_extract.specs.Ties.{tap_of, taps_in, net_of_tie, body_in, bodies_in};

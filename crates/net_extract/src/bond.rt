@@ -1,12 +1,12 @@
-// Whether two pieces are bonded: they are of one kind and touch, or a contact or a via links them.
-ghost use Rattle.std.specs.Prelude.{◌≡◌, ◌↔◌, IsTrue, IfSome};
+// Whether two pieces are of one kind and touch, or a contact or a via links them.
+ghost use Rattle.std.specs.Prelude.{◌≡◌, ◌↔◌, ◌∷◌, [], IsTrue};
 ghost use Rattle.box_geom.specs.Comparisons.{overlapping, reaching, beside, stacked, touching};
 ghost use Rattle.box_geom.specs.Layers.{same_layer};
 ghost use Rattle.box_geom.specs.Rectangle.{IsProper};
 ghost use Rattle.scmos_rules.specs.declared.rules.Deck.TheVariants.{Plain};
-ghost use Rattle.net_extract.specs.Meetings.{sharing, crossing_across, crossing_upward, crossing, linking, sharing_cell, linking_by, bonding};
-ghost use Rattle.net_extract.specs.Parts.{Bond};
-ghost use Rattle.net_extract.specs.Pieces.{place, rect_of, part_of, link_layer};
+ghost use Rattle.net_extract.specs.Meetings.{sharing, crossing_across, crossing_upward, crossing, sharing_cell, linking, links_kind, is_reached, bonding};
+ghost use Rattle.net_extract.specs.Bonds.{AreJoined, Bond};
+ghost use Rattle.net_extract.specs.Pieces.{rect_of, link_layer};
 
 use crate::piece::{Conductor, Piece};
 use box_geom::{Layer, Rect, Shape};
@@ -79,18 +79,12 @@ pub(crate) fn is_on(shape: &Shape, layer: Layer) -> bool
     shape.layer == layer
 }
 
-fn overlaps(a: &Piece, b: &Piece) -> bool
-    ensures { result ≡ sharing_cell (rect_of a.now) (rect_of b.now) }
+/// Whether a piece and a rectangle have a cell in common.
+pub(crate) fn meets(piece: &Piece, rect: &Rect) -> bool
+    ensures { result ≡ sharing_cell (rect_of piece.now) rect.now }
 {
-    overlap(a.left, a.right, b.left, b.right) && overlap(a.low, a.top, b.low, b.top)
-}
-
-fn links(shapes: &[Shape], layer: Layer, a: &Piece, b: &Piece) -> bool
-    ensures { result ≡ linking shapes.now layer (rect_of a.now) (rect_of b.now) }
-{
-    shapes
-        .iter()
-        .any(|shape| is_on(shape, layer) && crosses(a, b, &shape.rect))
+    overlap(piece.left, piece.right, rect.x1, rect.x2)
+        && overlap(piece.low, piece.top, rect.y1, rect.y2)
 }
 
 fn layer_between(a: Conductor, b: Conductor) -> Option<Layer>
@@ -105,30 +99,53 @@ fn layer_between(a: Conductor, b: Conductor) -> Option<Layer>
     }
 }
 
-fn are_linked(shapes: &[Shape], a: &Piece, b: &Piece) -> bool
-    ensures { result ≡ linking_by shapes.now (link_layer a.now.kind b.now.kind) (rect_of a.now) (rect_of b.now) }
+fn does_link(link: &Shape, a: &Piece, b: &Piece) -> bool
+    ensures { result ≡ linking link.now (link_layer a.now.kind b.now.kind) (rect_of a.now) (rect_of b.now) }
 {
     match layer_between(a.kind, b.kind) {
-        Some(layer) => overlaps(a, b) && links(shapes, layer, a, b),
+        Some(layer) => is_on(link, layer) && crosses(a, b, &link.rect),
         None => false,
     }
 }
 
-fn do_bond(shapes: &[Shape], a: &Piece, b: &Piece) -> bool
-    ensures { result ≡ bonding shapes.now a.now b.now }
+/// Whether a contact or a via links two pieces: it has a cell that they have in common, and links their kinds.
+#[tactic(auto, using(crate::proofs::Linking::link_decides))]
+pub(crate) fn are_linked(link: &Shape, a: &Piece, b: &Piece) -> bool
+    ensures { IsTrue result ↔ AreJoined (link.now ∷ []) a.now b.now }
 {
-    if a.kind == b.kind {
-        touches(a, b)
-    } else {
-        are_linked(shapes, a, b)
+    does_link(link, a, b)
+}
+
+fn links_kind(layer: Layer, kind: Conductor) -> bool
+    ensures { result ≡ links_kind layer kind }
+{
+    match (layer, kind) {
+        (Layer::Contact, Conductor::Metal2) => false,
+        (Layer::Contact, _) => true,
+        (Layer::Via, Conductor::Metal1 | Conductor::Metal2) => true,
+        _ => false,
     }
 }
 
-#[tactic(auto, using(crate::proofs::Linking::bond_decides))]
-pub(crate) fn are_bonded(shapes: &[Shape], a: &Piece, b: &Piece) -> bool
+/// Whether a piece is of a kind that a contact or a via links, and has a cell in common with it.
+pub(crate) fn does_reach(link: &Shape, piece: &Piece) -> bool
+    ensures { result ≡ is_reached link.now piece.now }
+{
+    links_kind(link.layer, piece.kind) && meets(piece, &link.rect)
+}
+
+fn do_touch(a: &Piece, b: &Piece) -> bool
+    ensures { result ≡ bonding a.now b.now }
+{
+    a.kind == b.kind && touches(a, b)
+}
+
+/// Whether two pieces are of one kind and touch.
+#[tactic(auto, using(crate::proofs::Linking::touch_bonds))]
+pub(crate) fn are_touching(a: &Piece, b: &Piece) -> bool
     requires one { IsProper (rect_of a.now) }
     requires other { IsProper (rect_of b.now) }
-    ensures { IsTrue result ↔ Bond Plain shapes.now (part_of a.now) (part_of b.now) }
+    ensures { IsTrue result ↔ Bond Plain [] a.now b.now }
 {
-    do_bond(shapes, a, b)
+    do_touch(a, b)
 }

@@ -1,15 +1,17 @@
-// Classes of pieces: each is labelled by the number of its first piece. Pieces that are bonded come into one
-// tree, whose root is its least number; a piece is tried with those behind it up to the first that begins above it.
-// Then come the ties, which reach over any distance.
-ghost use Rattle.std.specs.Prelude.{◌≡◌, ◌<◌, ◌≤◌, ℕ, length, get_or, int_lt, IfOk, IfSome, None, All, IsSorted};
+// Classes of pieces: each is labelled by the number of its first piece. Pieces that are bonded come into one tree, whose
+// root is its least number: first those of one kind that touch, each tried with those behind it up to the first that
+// begins above it, then those that a contact or a via links. Last come the ties, which reach over any distance.
+ghost use Rattle.std.specs.Prelude.{◌≡◌, ◌<◌, ◌≤◌, [], ℕ, length, get_or, int_lt, IfOk, IfSome, None, All, IsSorted};
 ghost use Rattle.std.specs.List.{range_with_len};
 ghost use Rattle.box_geom.specs.Rectangle.{IsProper};
 ghost use Rattle.scmos_rules.specs.declared.rules.Deck.TheVariants.{Plain};
 ghost use Rattle.net_extract.specs.Classes.{AreLow, IsRoot, hung, raised, IsJoined, AreRoots, AreSound, AreTrees, AreLeast, AreTried, IsTried};
-ghost use Rattle.net_extract.specs.Pieces.{rect_of, piece_cmp, Paired};
+ghost use Rattle.net_extract.specs.Pieces.{rect_of, piece_cmp};
+ghost use Rattle.net_extract.specs.Bonds.{Paired};
 ghost use Rattle.net_extract.specs.Ties.{HaveOneTie, InTreeOrTied, PairedOrTied, is_one_tie};
 
-use crate::bond::are_bonded;
+use crate::bond::are_touching;
+use crate::linked::join_linked;
 use crate::piece::Piece;
 use box_geom::Shape;
 use cell_num::NoMemory;
@@ -26,7 +28,7 @@ fn numbers(alloc: Global, count: usize) -> Result<Vec<usize>, NoMemory>
 }
 
 // The root of the tree of a number.
-fn root(parents: &[usize], of: usize) -> usize
+pub(crate) fn root(parents: &[usize], of: usize) -> usize
     requires of { of < length parents.now }
     requires low { AreLow parents.now }
     ensures low { result ≤ of }
@@ -48,7 +50,7 @@ fn hang(parents: &mut Vec<usize>, one: usize, other: usize)
 }
 
 #[tactic(auto, using(crate::proofs::Forests::joined_is))]
-fn join(parents: &mut Vec<usize>, one: usize, other: usize)
+pub(crate) fn join(parents: &mut Vec<usize>, one: usize, other: usize)
     requires one { one < length parents.old.items }
     requires other { other < length parents.old.items }
     requires low { AreLow parents.old.items }
@@ -59,15 +61,15 @@ fn join(parents: &mut Vec<usize>, one: usize, other: usize)
     hang(parents, first, second);
 }
 
-fn try_join(parents: &mut Vec<usize>, shapes: &[Shape], pieces: &[Piece], at: usize, later: usize)
-    requires sound { AreSound (length pieces.now) (Paired Plain shapes.now pieces.now) parents.old.items }
+fn try_join(parents: &mut Vec<usize>, pieces: &[Piece], at: usize, later: usize)
+    requires sound { AreSound (length pieces.now) (Paired Plain [] pieces.now) parents.old.items }
     requires proper { All (λ p. IsProper (rect_of p)) pieces.now }
     requires at { at < length pieces.now }
     requires later { later < length pieces.now }
-    ensures { IsTried (length pieces.now) (Paired Plain shapes.now pieces.now) at later parents.old.items
-        parents.new.items }
+    ensures { IsTried (length pieces.now) (Paired Plain [] pieces.now) (Paired Plain [] pieces.now) at later
+        parents.old.items parents.new.items }
 {
-    if are_bonded(shapes, &pieces[at], &pieces[later]) {
+    if are_touching(&pieces[at], &pieces[later]) {
         join(parents, at, later);
     }
 }
@@ -78,30 +80,30 @@ fn is_below(piece: &Piece, later: &Piece) -> bool
     piece.top < later.low
 }
 
-fn join_later(parents: &mut Vec<usize>, shapes: &[Shape], pieces: &[Piece], at: usize)
-    requires sound { AreSound (length pieces.now) (Paired Plain shapes.now pieces.now) parents.old.items }
+fn join_later(parents: &mut Vec<usize>, pieces: &[Piece], at: usize)
+    requires sound { AreSound (length pieces.now) (Paired Plain [] pieces.now) parents.old.items }
     requires proper { All (λ p. IsProper (rect_of p)) pieces.now }
     requires sorted { IsSorted piece_cmp pieces.now }
     requires at { at < length pieces.now }
-    ensures { AreTried (length pieces.now) (Paired Plain shapes.now pieces.now) at (length pieces.now) parents.old.items
-        parents.new.items }
+    ensures { AreTried (length pieces.now) (Paired Plain [] pieces.now) (Paired Plain [] pieces.now) at
+        (length pieces.now) parents.old.items parents.new.items }
 {
     for later in at + 1..pieces.len() {
         if is_below(&pieces[at], &pieces[later]) {
             return;
         }
-        try_join(parents, shapes, pieces, at, later);
+        try_join(parents, pieces, at, later);
     }
 }
 
-fn join_all(parents: &mut Vec<usize>, shapes: &[Shape], pieces: &[Piece])
+fn join_touching(parents: &mut Vec<usize>, pieces: &[Piece])
     requires first { parents.old.items ≡ range_with_len 0 (length pieces.now) }
     requires proper { All (λ p. IsProper (rect_of p)) pieces.now }
     requires sorted { IsSorted piece_cmp pieces.now }
-    ensures { AreTrees (length pieces.now) (Paired Plain shapes.now pieces.now) parents.new.items }
+    ensures { AreTrees (length pieces.now) (Paired Plain [] pieces.now) parents.new.items }
 {
     for at in 0..pieces.len() {
-        join_later(parents, shapes, pieces, at);
+        join_later(parents, pieces, at);
     }
 }
 
@@ -166,18 +168,19 @@ fn raise_all(parents: &mut Vec<usize>)
 /// For each piece the number of the first one that bonds and ties chain with it.
 pub(crate) fn least_labels(
     alloc: Global,
-    shapes: &[Shape],
+    links: &[Shape],
     pieces: &[Piece],
     ties: &[Option<u64>],
 ) -> Result<Vec<usize>, NoMemory>
     requires proper { All (λ p. IsProper (rect_of p)) pieces.now }
     requires sorted { IsSorted piece_cmp pieces.now }
     requires ties { length ties.now ≤ length pieces.now }
-    ensures { IfOk result (λ labels. AreLeast (length pieces.now) (PairedOrTied shapes.now pieces.now ties.now)
+    ensures { IfOk result (λ labels. AreLeast (length pieces.now) (PairedOrTied links.now pieces.now ties.now)
         labels.items) }
 {
     let mut labels = numbers(alloc, pieces.len())?;
-    join_all(&mut labels, shapes, pieces);
+    join_touching(&mut labels, pieces);
+    join_linked(&mut labels, links, pieces);
     join_tied(&mut labels, ties);
     raise_all(&mut labels);
     Ok(labels)

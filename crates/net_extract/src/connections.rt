@@ -5,12 +5,12 @@ ghost use Rattle.net_extract.specs.Classes.{AreHeads, AreLeast};
 ghost use Rattle.box_geom.specs.Rectangle.{IsProper, IsRectangle};
 ghost use Rattle.net_extract.specs.Corners.{HaveFewSides, HaveFewCorners};
 ghost use Rattle.net_extract.specs.Connections.{AreNumbered, AreWires, nets_of, heads_below};
-ghost use Rattle.net_extract.specs.Parts.{AreDrawn};
-ghost use Rattle.net_extract.specs.Pieces.{rect_of, rects_in, piece_cmp, Paired};
+ghost use Rattle.net_extract.specs.GateNets.{AreWells};
+ghost use Rattle.net_extract.specs.Bonds.{AreDrawn, Paired};
+ghost use Rattle.net_extract.specs.Pieces.{rect_of, rects_in, piece_cmp};
 ghost use Rattle.net_extract.specs.Ties.{AreTies};
 
 use crate::class::least_labels;
-use crate::class_map::well_map;
 use crate::conductor::{all_links, all_pieces};
 use crate::piece::Piece;
 use crate::tie::ties_of;
@@ -148,10 +148,7 @@ fn net_labels(
     ensures { IfOk result (λ labels. AreLeast (length pieces.now) (Paired deck shapes.now pieces.now) labels.items) }
 {
     let links = all_links(alloc, shapes)?;
-    match least_labels(alloc, links.as_slice(), pieces, ties) {
-        Ok(labels) => Ok(labels),
-        Err(NoMemory) => Err(NoMemory),
-    }
+    least_labels(alloc, links.as_slice(), pieces, ties)
 }
 
 // The nets of pieces, with the ties that the deck knows.
@@ -172,10 +169,7 @@ fn connect(
     ensures few { IfOk result (λ m. length m.firsts.items ≤ 2000000000) }
 {
     let labels = net_labels(alloc, deck, shapes, pieces, ties)?;
-    match number_all(alloc, deck, pieces, labels.as_slice()) {
-        Ok(map) => Ok(map),
-        Err(NoMemory) => Err(NoMemory),
-    }
+    number_all(alloc, deck, pieces, labels.as_slice())
 }
 
 /// The nets of a drawing without ties: pieces in the order of their first cells, with the numbers of their nets.
@@ -188,37 +182,35 @@ pub(crate) fn connections_of(alloc: Global, shapes: &[Shape]) -> Result<Connecti
 {
     let pieces = ordered_pieces(alloc, shapes)?;
     let ties = Vec::new(alloc);
-    match connect(
+    connect(
         alloc,
         Deck::Plain,
         shapes,
         pieces.as_slice(),
         ties.as_slice(),
-    ) {
-        Ok(map) => Ok(map),
-        Err(NoMemory) => Err(NoMemory),
-    }
+    )
 }
 
-/// The nets of a drawing with taps.
-pub(crate) fn tapped_connections(alloc: Global, shapes: &[Shape]) -> Result<Connections, NoMemory>
+/// The nets of a drawing with taps, whose well cells are given.
+pub(crate) fn tapped_connections(
+    alloc: Global,
+    shapes: &[Shape],
+    wells: &[Wire],
+) -> Result<Connections, NoMemory>
     requires limits { All (λ s. IsRectangle s.rect) shapes.now }
     requires few { HaveFewSides shapes.now }
+    requires wells { AreWells Taps shapes.now wells.now }
     ensures deck { IfOk result (λ m. m.deck ≡ Taps) }
     ensures wires { IfOk result (λ m. AreWires Taps shapes.now m.wires.items m.firsts.items) }
     ensures few { IfOk result (λ m. length m.firsts.items ≤ 2000000000) }
 {
     let pieces = ordered_pieces(alloc, shapes)?;
-    let wells = well_map(alloc, shapes)?;
-    let ties = ties_of(alloc, shapes, wells.wires.as_slice(), pieces.as_slice())?;
-    match connect(
+    let ties = ties_of(alloc, shapes, wells, pieces.as_slice())?;
+    connect(
         alloc,
         Deck::Taps,
         shapes,
         pieces.as_slice(),
         ties.as_slice(),
-    ) {
-        Ok(map) => Ok(map),
-        Err(NoMemory) => Err(NoMemory),
-    }
+    )
 }

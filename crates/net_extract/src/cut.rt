@@ -2,10 +2,8 @@
 ghost use Rattle.std.specs.Prelude.{◌≡◌, ◌++◌, ◌∷◌, [], IfOk, OnOk};
 ghost use Rattle.std.specs.List.{flat_map};
 ghost use Rattle.net_extract.specs.Cuts.{is_some_piece, kept, left_part, right_part, low_part, high_part, around, carved, carved_once, left_of_piece, left_of_pieces, cut_all};
-ghost use Rattle.net_extract.specs.Meetings.{sharing_cell};
-ghost use Rattle.net_extract.specs.Pieces.{rect_of};
 
-use crate::bond::overlap;
+use crate::bond::meets;
 use crate::layers::on_layer;
 use crate::piece::Piece;
 use box_geom::{Layer, Rect, Shape};
@@ -75,14 +73,6 @@ fn keep_around(out: &mut List<Piece>, piece: &Piece, rect: &Rect) -> Result<(), 
     keep(out, right_of(piece, rect))?;
     keep(out, below(piece, rect))?;
     keep(out, above(piece, rect))
-}
-
-// Whether a piece and a rectangle have a cell in common.
-fn meets(piece: &Piece, rect: &Rect) -> bool
-    ensures { result ≡ sharing_cell (rect_of piece.now) rect.now }
-{
-    overlap(piece.left, piece.right, rect.x1, rect.x2)
-        && overlap(piece.low, piece.top, rect.y1, rect.y2)
 }
 
 fn keep_carved(out: &mut List<Piece>, piece: &Piece, rect: &Rect) -> Result<(), NoMemory>
@@ -171,8 +161,5 @@ pub(crate) fn without(
     ensures { IfOk result (λ ps. ps ≡ cut_all layer pieces.now shapes.now) }
 {
     let shapes = on_layer(alloc, shapes, layer)?;
-    match cut_pieces(alloc, pieces, shapes.as_slice()) {
-        Ok(left) => Ok(left),
-        Err(NoMemory) => Err(NoMemory),
-    }
+    cut_pieces(alloc, pieces, shapes.as_slice())
 }

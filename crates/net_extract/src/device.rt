@@ -1,17 +1,17 @@
 // Devices: gates between two sides of diffusion.
 ghost use Rattle.std.specs.Prelude.{◌≡◌, ◌↔◌, All, IsTrue, IfSome, None};
 ghost use Rattle.box_geom.specs.Rectangle.{IsProper};
-ghost use Rattle.net_extract.specs.Areas.{cells_in, meeting_across, meeting_upward, meeting};
+ghost use Rattle.net_extract.specs.Areas.{cells_in};
 ghost use Rattle.net_extract.specs.Devices.{IsSide, IsGateBox, IsSomeDevice, diffusion_of};
 ghost use Rattle.net_extract.specs.Extraction.{IsDrawn};
 ghost use Rattle.net_extract.specs.Connections.{AreWires, firsts_of};
 ghost use Rattle.net_extract.specs.Nets.{Site};
 ghost use Rattle.net_extract.specs.Pieces.{rect_of};
-ghost use Rattle.net_extract.specs.Sides.{flow_of, conductor_of, IsInRow, IsDiffusion, agrees, all_agree, IsSideNet, IsAlong, IsNotAlong, AreClosed, AreSideNets, drawn_as};
+ghost use Rattle.net_extract.specs.Sides.{IsInRow, IsDiffusion, IsSideNet, IsAlong, IsNotAlong, AreClosed, AreSideNets, drawn_as};
 ghost use Rattle.net_extract.specs.Lookups.{net_in};
 ghost use Rattle.net_extract.specs.declared.piece.Conductor.TheVariants.{Poly};
 
-use crate::area::{Area, do_overlap, is_free, is_full};
+use crate::area::{Area, is_free, is_full};
 use crate::connections::{Connections, Wire};
 use crate::layers::Layers;
 use crate::lookup::net_of_cell;
@@ -47,38 +47,8 @@ fn is_diffusion(shapes: &Layers, row: Row, area: &Area) -> bool
     false
 }
 
-fn meets_across(area: &Area, piece: &Piece) -> bool
-    ensures { result ≡ meeting_across (cells_in area.now) (rect_of piece.now) }
-{
-    do_overlap(area.x1, area.x2, piece.left, piece.right)
-}
-
-fn meets_upward(area: &Area, piece: &Piece) -> bool
-    ensures { result ≡ meeting_upward (cells_in area.now) (rect_of piece.now) }
-{
-    do_overlap(area.y1, area.y2, piece.low, piece.top)
-}
-
-fn meets(area: &Area, piece: &Piece) -> bool
-    ensures { result ≡ meeting (cells_in area.now) (rect_of piece.now) }
-{
-    meets_across(area, piece) && meets_upward(area, piece)
-}
-
-fn does_agree(wire: &Wire, kind: Conductor, area: &Area, net: u32) -> bool
-    ensures { result ≡ agrees kind (cells_in area.now) net wire.now }
-{
-    !(wire.piece.kind == kind && meets(area, &wire.piece)) || wire.net == net
-}
-
-fn do_all_agree(wires: &[Wire], kind: Conductor, area: &Area, net: u32) -> bool
-    ensures { result ≡ all_agree wires.now kind (cells_in area.now) net }
-{
-    wires.iter().all(|wire| does_agree(wire, kind, area, net))
-}
-
-fn conductor(row: Row) -> Conductor
-    ensures { result ≡ conductor_of row }
+fn diffusion(row: Row) -> Conductor
+    ensures { result ≡ diffusion_of row }
 {
     match row {
         Row::P => Conductor::PDiffusion,
@@ -86,7 +56,7 @@ fn conductor(row: Row) -> Conductor
     }
 }
 
-// The net along an area of diffusion of the row; None where it is no such area or of more than one net.
+// The net along an area of diffusion of the row, whose cells are all of one net; None where it is no such area.
 fn side_net(shapes: &Layers, map: &Connections, row: Row, area: &Area) -> Option<u32>
     requires area { IsProper (cells_in area.now) }
     requires shapes { All (λ s. IsProper s.rect) shapes.now }
@@ -99,23 +69,13 @@ fn side_net(shapes: &Layers, map: &Connections, row: Row, area: &Area) -> Option
     if !is_diffusion(shapes, row, area) {
         return None;
     }
-    let kind = conductor(row);
-    match net_of_cell(map.wires.as_slice(), kind, area.x1, area.y1) {
-        Some(net) => {
-            if do_all_agree(map.wires.as_slice(), kind, area, net) {
-                Some(net)
-            } else {
-                None
-            }
-        }
-        None => None,
-    }
+    net_of_cell(map.wires.as_slice(), diffusion(row), area.x1, area.y1)
 }
 
 fn are_ends_closed(shapes: &Layers, gate: &Piece, current: Current) -> bool
     requires gate { IsProper (rect_of gate.now) }
     requires shapes { All (λ s. IsProper s.rect) shapes.now }
-    ensures { IsTrue result ↔ AreClosed shapes.now (flow_of current) (rect_of gate.now) }
+    ensures { IsTrue result ↔ AreClosed shapes.now current (rect_of gate.now) }
 {
     if is_free(shapes, Layer::Active, &low_side(gate, current)) {
         is_free(shapes, Layer::Active, &high_side(gate, current))
@@ -162,8 +122,8 @@ fn side_nets(
     requires shapes { All (λ s. IsProper s.rect) shapes.now }
     requires map { AreWires map.now.deck shapes.now map.now.wires.items map.now.firsts.items }
     ensures some { IfSome result (λ ends. AreSideNets map.now.deck shapes.now (firsts_of map.now.firsts.items)
-        (rect_of gate.now) row (flow_of current) ends) }
-    ensures none { result ≡ None → IsNotAlong map.now.deck shapes.now (rect_of gate.now) row (flow_of current) }
+        (rect_of gate.now) row current ends) }
+    ensures none { result ≡ None → IsNotAlong map.now.deck shapes.now (rect_of gate.now) row current }
 {
     match side_net(shapes, map, row, &source(gate, current)) {
         Some(one) => match side_net(shapes, map, row, &drain(gate, current)) {
@@ -186,8 +146,8 @@ fn device_along(
     requires shapes { All (λ s. IsProper s.rect) shapes.now }
     requires map { AreWires map.now.deck shapes.now map.now.wires.items map.now.firsts.items }
     ensures some { IfSome result (λ d. IsAlong map.now.deck shapes.now (firsts_of map.now.firsts.items)
-        (rect_of gate.now) row (flow_of current) d) }
-    ensures none { result ≡ None → IsNotAlong map.now.deck shapes.now (rect_of gate.now) row (flow_of current) }
+        (rect_of gate.now) row current d) }
+    ensures none { result ≡ None → IsNotAlong map.now.deck shapes.now (rect_of gate.now) row current }
 {
     if !are_ends_closed(shapes, gate, current) {
         return None;

@@ -9,13 +9,13 @@ ghost use Rattle.net_extract.specs.Bodies.{AreBodies, ExtractsBodies};
 ghost use Rattle.net_extract.specs.Connections.{AreWires, firsts_of};
 ghost use Rattle.net_extract.specs.Corners.{HaveFewSides};
 ghost use Rattle.net_extract.specs.Extraction.{AreFew, AreRegular, Extracts, ExtractRefused, SaysTooMany};
-ghost use Rattle.net_extract.specs.GateNets.{AreGateNets, AreFound, boxes_of};
+ghost use Rattle.net_extract.specs.GateNets.{AreGateNets, AreWells, AreFound, boxes_of};
 ghost use Rattle.net_extract.specs.Lookups.{is_lost};
 ghost use Rattle.net_extract.specs.Steps.{AreNamed, IsMapped};
 
 use crate::body::{bodies, taps};
 use crate::class_map::{gate_map, well_map};
-use crate::connections::{Connections, connections_of, count_of, tapped_connections};
+use crate::connections::{Connections, Wire, connections_of, count_of, tapped_connections};
 use crate::fault::ExtractFault;
 use crate::gate::devices;
 use crate::layers::Layers;
@@ -38,10 +38,11 @@ pub struct Named {
     pub names: Names,
 }
 
-/// What a drawing that is not refused consists of: connections, classes of gate cells, devices and labels.
+/// What a drawing that is not refused consists of; the wires of well cells are there where a deck ties taps.
 #[derive(Drop)]
 pub struct Mapped {
     pub connections: Connections,
+    pub wells: Vec<Wire>,
     pub gates: Connections,
     pub devices: DrawnList,
     pub named: Named,
@@ -85,10 +86,7 @@ fn all_devices(
     let Ok(layers) = Layers::new(alloc, shapes.rects.as_slice()) else {
         return Err(ExtractFault::NoMemory);
     };
-    match devices(alloc, &layers, map, gates) {
-        Ok(devices) => Ok(devices),
-        Err(fault) => Err(fault),
-    }
+    devices(alloc, &layers, map, gates)
 }
 
 fn named_by_labels(alloc: Global, shapes: &Shapes, map: &Connections) -> Result<Named, ExtractFault>
@@ -122,17 +120,36 @@ fn all_named(alloc: Global, shapes: &Shapes, map: &Connections) -> Result<Named,
     }
 }
 
-// The nets of a drawing by the bonds of a deck.
-fn connections_by(alloc: Global, shapes: &[Shape], deck: Deck) -> Result<Connections, NoMemory>
+// The wires of the well cells, where a deck ties taps.
+#[tactic(auto, using(crate::proofs::PolyClasses::well_rules))]
+fn wells_by(alloc: Global, shapes: &[Shape], deck: Deck) -> Result<Vec<Wire>, NoMemory>
     requires limits { All (λ s. IsRectangle s.rect) shapes.now }
     requires few { HaveFewSides shapes.now }
+    ensures { IfOk result (λ ws. AreWells deck shapes.now ws.items) }
+{
+    match deck {
+        Deck::Plain => Ok(Vec::new(alloc)),
+        Deck::Taps => Ok(well_map(alloc, shapes)?.wires),
+    }
+}
+
+// The nets of a drawing by the bonds of a deck.
+fn connections_by(
+    alloc: Global,
+    shapes: &[Shape],
+    deck: Deck,
+    wells: &[Wire],
+) -> Result<Connections, NoMemory>
+    requires limits { All (λ s. IsRectangle s.rect) shapes.now }
+    requires few { HaveFewSides shapes.now }
+    requires wells { AreWells deck shapes.now wells.now }
     ensures deck { IfOk result (λ m. m.deck ≡ deck) }
     ensures wires { IfOk result (λ m. AreWires m.deck shapes.now m.wires.items m.firsts.items) }
     ensures few { IfOk result (λ m. length m.firsts.items ≤ 2000000000) }
 {
     match deck {
         Deck::Plain => connections_of(alloc, shapes),
-        Deck::Taps => tapped_connections(alloc, shapes),
+        Deck::Taps => tapped_connections(alloc, shapes, wells),
     }
 }
 
@@ -142,16 +159,21 @@ fn map_few(alloc: Global, shapes: &Shapes, deck: Deck) -> Result<Mapped, Extract
     ensures ok { IfOk result (IsMapped deck shapes.now) }
     ensures refused { IfErr result (λ f. ExtractRefused deck shapes.now f) }
 {
-    let Ok(connections) = connections_by(alloc, shapes.rects.as_slice(), deck) else {
+    let rects = shapes.rects.as_slice();
+    let Ok(wells) = wells_by(alloc, rects, deck) else {
         return Err(ExtractFault::NoMemory);
     };
-    let Ok(gates) = gate_map(alloc, shapes.rects.as_slice()) else {
+    let Ok(connections) = connections_by(alloc, rects, deck, wells.as_slice()) else {
+        return Err(ExtractFault::NoMemory);
+    };
+    let Ok(gates) = gate_map(alloc, rects) else {
         return Err(ExtractFault::NoMemory);
     };
     let devices = all_devices(alloc, shapes, &connections, &gates)?;
     let named = all_named(alloc, shapes, &connections)?;
     Ok(Mapped {
         connections,
+        wells,
         gates,
         devices,
         named,
@@ -200,14 +222,9 @@ fn all_bodies(alloc: Global, shapes: &Shapes, mapped: &Mapped) -> Result<BodyLis
 {
     let rects = shapes.rects.as_slice();
     let wires = mapped.connections.wires.as_slice();
-    let wells = well_map(alloc, rects)?;
-    let taps = taps(alloc, rects, wells.wires.as_slice(), wires)?;
-    bodies(
-        alloc,
-        taps.as_slice(),
-        wells.wires.as_slice(),
-        &mapped.gates,
-    )
+    let wells = mapped.wells.as_slice();
+    let taps = taps(alloc, rects, wells, wires)?;
+    bodies(alloc, taps.as_slice(), wells, &mapped.gates)
 }
 
 /// The nets and devices of a drawing with taps, as `extract` gives them, where taps of the well tie the nets in one

@@ -1,9 +1,7 @@
 // Laws on nets that hold for every drawing. The calls do nothing: their contracts are the laws.
 ghost use Rattle.std.specs.Prelude.{◌≡◌, ◌↔◌, ℕ, List};
-ghost use Rattle.std.specs.List.{Contains};
-ghost use Rattle.box_geom.specs.Rectangle.{Rectangle, Holds};
+ghost use Rattle.box_geom.specs.Rectangle.{Rectangle};
 ghost use Rattle.box_geom.specs.Chains.{Chain};
-ghost use Rattle.box_geom.specs.Touching.{Cell};
 ghost use Rattle.box_geom.specs.declared.shape.Shape.{Shape};
 ghost use Rattle.box_geom.specs.declared.shape.Shapes.{Shapes};
 ghost use Rattle.scmos_rules.specs.declared.rules.Deck.{Deck};
@@ -14,16 +12,18 @@ ghost use Rattle.net_extract.specs.declared.netlist.Netlist.{Netlist};
 ghost use Rattle.net_extract.specs.declared.netlist.BodyNetlist.{BodyNetlist};
 ghost use Rattle.net_extract.specs.Bodies.{ExtractsBodies};
 ghost use Rattle.net_extract.specs.Extraction.{Extracts, ExtractRefused};
-ghost use Rattle.net_extract.specs.Nets.{Kind, Site, SameNet};
+ghost use Rattle.net_extract.specs.Nets.{Site, SameNet};
+ghost use Rattle.net_extract.specs.declared.piece.Conductor.{Conductor};
 ghost use Rattle.net_extract.specs.Numbering.{AreNets, IsInNet};
-ghost use Rattle.net_extract.specs.Parts.{AreDrawn, Part, Bonded, IsPart, IsIn};
+ghost use Rattle.net_extract.specs.Bonds.{AreDrawn, Bonded, IsPieceOf, IsIn};
+ghost use Rattle.net_extract.specs.declared.piece.Piece.{Piece};
 
 /// Where the conductor cells of each kind are the cells of a list of rectangles, two cells are in one net
 /// exactly where rectangles that hold them are joined by a chain in which neighbours are of one kind and
 /// touch, or have a cell in common that a contact or a via links, or hold taps that a deck ties.
 pub fn rectangle_nets()
-    ensures { (deck : Deck) (s : List Shape) (rs : Kind → List Rectangle) (p q : Part) (a b : Site) →
-        AreDrawn s rs → IsPart rs p → IsPart rs q → IsIn p a → IsIn q b →
+    ensures { (deck : Deck) (s : List Shape) (rs : Conductor → List Rectangle) (p q : Piece) (a b : Site) →
+        AreDrawn s rs → IsPieceOf rs p → IsPieceOf rs q → IsIn p a → IsIn q b →
         SameNet deck s a b ↔ Chain (Bonded deck s rs) p q }
 {}
 

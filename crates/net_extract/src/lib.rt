@@ -16,6 +16,7 @@ mod gate;
 mod label_nets;
 pub mod laws;
 mod layers;
+mod linked;
 mod lookup;
 pub mod naming;
 mod net_piece;

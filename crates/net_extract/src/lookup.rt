@@ -1,10 +1,10 @@
 // The net of a place, and the nets of labels.
-ghost use Rattle.std.specs.Prelude.{◌≡◌, ◌++◌, ◌∷◌, [], IfOk, IfErr, OnOk, None, option_to_list};
+ghost use Rattle.std.specs.Prelude.{◌≡◌, ◌++◌, IfOk, IfErr, OnOk, None, option_to_list};
 ghost use Rattle.std.specs.Option.{option_map};
 ghost use Rattle.std.specs.List.{find};
 ghost use Rattle.box_geom.specs.Comparisons.{within, holding};
-ghost use Rattle.net_extract.specs.Labels.{is_wiring};
-ghost use Rattle.net_extract.specs.Lookups.{is_at, net_in, net_on, or_else, net_round, net_of_label, is_lost, held_of, held_in, IsStrayOf, IsLostBy};
+ghost use Rattle.net_extract.specs.Labels.{is_conductor};
+ghost use Rattle.net_extract.specs.Lookups.{is_at, net_in, net_on, or_else, net_round, is_lost, held_of, held_in, IsStrayOf, IsLostBy};
 ghost use Rattle.net_extract.specs.Pieces.{rect_of};
 
 use crate::connections::Wire;
@@ -85,7 +85,7 @@ fn net_of_point(wires: &[Wire], layer: Layer, x: i32, y: i32) -> Option<u32>
 }
 
 fn is_conductor(layer: Layer) -> bool
-    ensures { result ≡ is_wiring layer }
+    ensures { result ≡ is_conductor layer }
 {
     layer == Layer::Active
         || layer == Layer::Poly

@@ -3,7 +3,6 @@ ghost use Rattle.std.specs.Prelude.{◌≡◌, IfOk};
 ghost use Rattle.box_geom.specs.Comparisons.{holding};
 ghost use Rattle.net_extract.specs.NetMaps.{at_cell, blocks_of, net_in, net_piece, net_pieces, of_net};
 ghost use Rattle.net_extract.specs.Nets.{layer_of};
-ghost use Rattle.net_extract.specs.Pieces.{kind_of};
 
 use crate::connections::Wire;
 use crate::lookup::is_within;
@@ -21,7 +20,7 @@ pub struct NetPiece {
 }
 
 fn layer_of(kind: Conductor) -> Layer
-    ensures { result ≡ layer_of (kind_of kind) }
+    ensures { result ≡ layer_of kind }
 {
     match kind {
         Conductor::PDiffusion | Conductor::NDiffusion => Layer::Active,

@@ -86,9 +86,6 @@ impl NetMap {
         ensures blocks { IfOk result (λ bs. All IsBlock bs.items) }
         ensures cells { IfOk result (λ bs. AreCellsOf self.now net layer bs.items) }
     {
-        match blocks_of(alloc, self.pieces.as_slice(), net, layer) {
-            Ok(blocks) => Ok(blocks),
-            Err(NoMemory) => Err(NoMemory),
-        }
+        blocks_of(alloc, self.pieces.as_slice(), net, layer)
     }
 }

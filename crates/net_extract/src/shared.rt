@@ -2,7 +2,8 @@
 ghost use Rattle.std.specs.Prelude.{◌≡◌, ◌++◌, IfOk, OnOk};
 ghost use Rattle.std.specs.List.{flat_map};
 ghost use Rattle.net_extract.specs.Cuts.{common_part, shared_part, shared_once, shared_all};
-ghost use Rattle.net_extract.specs.Cuts.{piece_of, drawn_once, drawn_all};
+ghost use Rattle.net_extract.specs.Cuts.{drawn_once, drawn_all};
+ghost use Rattle.net_extract.specs.Pieces.{piece_of};
 
 use crate::bond::is_on;
 use crate::cut::keep;

@@ -3,7 +3,6 @@ ghost use Rattle.std.specs.Prelude.{◌≡◌};
 ghost use Rattle.net_extract.specs.Areas.{cells_in};
 ghost use Rattle.net_extract.specs.Devices.{left_of, right_of, below, above, source_side, drain_side, low_end, high_end};
 ghost use Rattle.net_extract.specs.Pieces.{rect_of};
-ghost use Rattle.net_extract.specs.Sides.{flow_of};
 
 use crate::area::Area;
 use crate::piece::Piece;
@@ -71,7 +70,7 @@ fn over(gate: &Piece) -> Area
 }
 
 pub(crate) fn source(gate: &Piece, current: Current) -> Area
-    ensures { cells_in result ≡ source_side (flow_of current) (rect_of gate.now) }
+    ensures { cells_in result ≡ source_side current (rect_of gate.now) }
 {
     match current {
         Current::Rightward => left(gate),
@@ -80,7 +79,7 @@ pub(crate) fn source(gate: &Piece, current: Current) -> Area
 }
 
 pub(crate) fn drain(gate: &Piece, current: Current) -> Area
-    ensures { cells_in result ≡ drain_side (flow_of current) (rect_of gate.now) }
+    ensures { cells_in result ≡ drain_side current (rect_of gate.now) }
 {
     match current {
         Current::Rightward => right(gate),
@@ -89,7 +88,7 @@ pub(crate) fn drain(gate: &Piece, current: Current) -> Area
 }
 
 pub(crate) fn low_side(gate: &Piece, current: Current) -> Area
-    ensures { cells_in result ≡ low_end (flow_of current) (rect_of gate.now) }
+    ensures { cells_in result ≡ low_end current (rect_of gate.now) }
 {
     match current {
         Current::Rightward => under(gate),
@@ -98,7 +97,7 @@ pub(crate) fn low_side(gate: &Piece, current: Current) -> Area
 }
 
 pub(crate) fn high_side(gate: &Piece, current: Current) -> Area
-    ensures { cells_in result ≡ high_end (flow_of current) (rect_of gate.now) }
+    ensures { cells_in result ≡ high_end current (rect_of gate.now) }
 {
     match current {
         Current::Rightward => over(gate),

@@ -1,6 +1,6 @@
 // Rules on the lengths of covered and of uncovered runs.
 ghost use Rattle.std.specs.Prelude.{◌≡◌, ◌≤◌, ◌↔◌, ℤ, IfOk};
-ghost use Rattle.std.specs.List.{All, filter};
+ghost use Rattle.std.specs.List.{filter};
 ghost use Rattle.box_geom.specs.Rectangle.{Covers};
 ghost use Rattle.scmos_rules.specs.Failing.{FailsWidth, FailsSize, FailsOpen};
 ghost use Rattle.scmos_rules.specs.Layout.{On};
