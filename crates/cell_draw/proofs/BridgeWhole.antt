@@ -29,12 +29,14 @@ lines_of_allowed p pins r xs a = record { lines = a.lines; first = a.first; next
 -- the frame of a row has room for its tracks
 pub frame_is : (p : Placement) (tracks height : ℕ) (xs : List ℕ) → AreLines p xs → IsFrame (frame_of p.row tracks height (width_of p xs)) tracks
 frame_is p tracks height xs lines = record {
-  low = refl;
-  channel = omega arith;
+  rows = record {
+    low = refl;
+    channel = omega arith;
+    n_least = height_least N p.row;
+    p_least = height_least P p.row;
+    wide = omega (arith, after_first p xs lines (2 * length p.units) (omega arith));
+  };
   room = omega arith;
-  n_least = height_least N p.row;
-  p_least = height_least P p.row;
-  wide = omega (arith, after_first p xs lines (2 * length p.units) (omega arith));
 }
 
 pub laid : (names : List (List ℕ)) (pins : Pins) (p : Placement) (r : Routing) (xs : List ℕ) (f : Frame) (nets : ℕ) → IsDrawn names pins p r xs f → IsLaid (laid_out f nets pins p r.trunks xs)

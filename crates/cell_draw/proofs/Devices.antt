@@ -6,8 +6,9 @@ use Rattle.cell_num.specs.declared.finger.Row.{Row}
 use Rattle.cell_num.specs.declared.finger.Row.TheVariants.{P, N}
 use Rattle.box_geom.specs.Rectangle.{Rectangle, IsProper, Holds}
 use Rattle.scmos_rules.specs.declared.rules.Deck.TheVariants.{Plain}
-use Rattle.net_extract.specs.Nets.{poly, Site, site_at}
-use Rattle.net_extract.specs.Devices.{IsGateBox, diffusion_of, left_of, right_of, below, above, IsSide, IsClosed, rightward, IsSize, IsDevice}
+use Rattle.net_extract.specs.Nets.{Site, site_at}
+use Rattle.net_extract.specs.declared.piece.Conductor.TheVariants.{Poly}
+use Rattle.net_extract.specs.Devices.{IsGateBox, diffusion_of, left_of, right_of, below, above, IsSide, IsClosed, IsSize, IsDevice}
 use Rattle.cell_draw.specs.declared.layout.Frame.{Frame}
 use Rattle.cell_draw.specs.declared.layout.Strip.{Strip}
 use Rattle.cell_draw.specs.declared.layout.Contact.{Contact}
@@ -25,6 +26,7 @@ use Rattle.cell_draw.proofs.RulesCovers.{area_held}
 use Rattle.cell_draw.proofs.RulesPlaces.{TwoStrips, one_strip, after, before, n_under_p, p_over_n, two_strips}
 use Rattle.cell_draw.proofs.RulesPoly.{strip_of, piece_rect}
 use Rattle.cell_draw.proofs.DeviceBoxes.{box_in, box_of, box_finger, gate_box}
+use Rattle.net_extract.specs.declared.side.Current.TheVariants.{Rightward}
 
 -- ---- the sides
 left_side : (f : Frame) (row : Row) (s : Strip) (z : ℕ) → s.left + 8 ≤ z → (x y : ℤ) → Holds (left_of (box_in f row s z)) x y → Holds (half_in f row s z left_end) x y
@@ -110,12 +112,12 @@ tall : (f : Frame) (row : Row) (width : ℕ) → finger_high f row width ≡ fin
 tall f N width = omega (arith, ints)
 tall f P width = omega (arith, ints)
 
-size_of : (f : Frame) (row : Row) (s : Strip) (z : ℕ) → IsSize rightward (box_in f row s z) s.width 4
+size_of : (f : Frame) (row : Row) (s : Strip) (z : ℕ) → IsSize Rightward (box_in f row s z) s.width 4
 size_of f row s z = record { across = λ e. (tall f row s.width, omega (arith, ints)); upright = λ e. absurd cc }
 
 -- the sites of a device: in its gate, to its left and to its right
 abbrev pub gate_site : (l : Layout) → IsNetted l → Strip → Site
-gate_site l n s = site_at poly (box_of l n s).x1 (box_of l n s).y1
+gate_site l n s = site_at Poly (box_of l n s).x1 (box_of l n s).y1
 
 abbrev pub side_site : (l : Layout) → IsNetted l → Strip → End → Site
 side_site l n s left_end = site_at (diffusion_of s.row) ((box_of l n s).x1 -ℤ pos 1) (box_of l n s).y1
@@ -149,7 +151,7 @@ right_site_in l w n s there = right_side l.frame s.row s (n.over s).x (n.gated s
 -- a device whose current flows to the right
 pub record FlowsRight (l : Layout) (n : IsNetted l) (s : Strip) : Type 0 where
   pub is : IsDevice Plain (shapes_of l) (box_of l n s) s.row (gate_site l n s) (side_site l n s left_end) (side_site l n s right_end) s.width 4
-  pub flow : is.flow ≡ rightward
+  pub current : is.current ≡ Rightward
 
 -- each finger with its gate is a device
 pub right_device : (l : Layout) (w : IsLaid l) (n : IsNetted l) (s : Strip) → Contains l.strips s → FlowsRight l n s
@@ -158,7 +160,7 @@ right_device l w n s there =
     let o = n.gated s there in
     let c : IsGateBox (shapes_of l) b = gate_box l w n s there in
     let d : IsDevice Plain (shapes_of l) (box_of l n s) s.row (gate_site l n s) (side_site l n s left_end) (side_site l n s right_end) s.width 4 = record {
-      flow = rightward;
+      current = Rightward;
       class = c;
       of_row = λ x y h. side_well l w s.row x y (strip_side l w s there x y (box_finger l n s there x y h));
       gate_net = (nets l w n (gate (strip_of (n.over s))) (gate (strip_of (n.over s))) (gate_site l n s) (gate_site l n s) o.0 o.0 (record { kind = refl; holds = gate_site_in l w n s there }) (record { kind = refl; holds = gate_site_in l w n s there })).1 refl;
@@ -168,7 +170,7 @@ right_device l w n s there =
       high = closed l w n s there (above b) (λ x y h. (h.left, h.right, inr (above_past l.frame s.row s (n.over s).x x y h)));
       size = size_of l.frame s.row s (n.over s).x;
     } in
-    record { is = d; flow = refl }
+    record { is = d; current = refl }
 
 pub device : (l : Layout) (w : IsLaid l) (n : IsNetted l) (s : Strip) → Contains l.strips s → IsDevice Plain (shapes_of l) (box_of l n s) s.row (gate_site l n s) (side_site l n s left_end) (side_site l n s right_end) s.width 4
 device l w n s there = (right_device l w n s there).is

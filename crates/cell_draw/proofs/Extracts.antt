@@ -150,7 +150,7 @@ extracts names pins p r xs f w are fingers arranged = record {
   nets = are_named names pins p r xs f w are;
   boxes = boxes names pins p r xs f w P ++ boxes names pins p r xs f w N;
   gates = record {
-    differ = pairs_append (λ (a b : Rectangle). a ≢ b) (boxes names pins p r xs f w P) (boxes names pins p r xs f w N) (apart_in_row names pins p r xs f w P) (apart_in_row names pins p r xs f w N) (cross (λ (a b : Rectangle). a ≢ b) (λ a. LiesIn f P a × (a.y1 <ℤ a.y2)) (LiesIn f N) (boxes names pins p r xs f w P) (boxes names pins p r xs f w N) tall (boxes_lie names pins p r xs f w N) (rows_apart f (omega (arith, w.drawn.frame.channel))));
+    differ = pairs_append (λ (a b : Rectangle). a ≢ b) (boxes names pins p r xs f w P) (boxes names pins p r xs f w N) (apart_in_row names pins p r xs f w P) (apart_in_row names pins p r xs f w N) (cross (λ (a b : Rectangle). a ≢ b) (λ a. LiesIn f P a × (a.y1 <ℤ a.y2)) (LiesIn f N) (boxes names pins p r xs f w P) (boxes names pins p r xs f w N) tall (boxes_lie names pins p r xs f w N) (rows_apart f (omega (arith, w.drawn.frame.rows.channel))));
     all = boxes_all names pins p r xs f w;
   };
   drawn = fingers_in P p.row ++ fingers_in N p.row;

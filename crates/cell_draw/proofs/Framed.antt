@@ -47,8 +47,8 @@ finger_in f tracks is s h = by s.row h.most
     right = h.right
 
     by : (row : Row) → s.width ≤ row_height f row → IsInFrame f (finger f (record { row = row; left = s.left; right = s.right; width = s.width }))
-    by N most = stands f (finger f (record { row = N; left = s.left; right = s.right; width = s.width })) tt (omega (arith, ints, left, right, most, is.low, is.channel)) (λ e. inl (omega (arith, ints)))
-    by P most = stands f (finger f (record { row = P; left = s.left; right = s.right; width = s.width })) tt (omega (arith, ints, left, right, most, is.low, is.channel)) (λ e. inr (omega (arith, ints)))
+    by N most = stands f (finger f (record { row = N; left = s.left; right = s.right; width = s.width })) tt (omega (arith, ints, left, right, most, is.rows.low, is.rows.channel)) (λ e. inl (omega (arith, ints)))
+    by P most = stands f (finger f (record { row = P; left = s.left; right = s.right; width = s.width })) tt (omega (arith, ints, left, right, most, is.rows.low, is.rows.channel)) (λ e. inr (omega (arith, ints)))
 
 -- active and contact of a place
 centre_in : (f : Frame) (tracks : ℕ) → IsFrame f tracks → (row : Row) (x : ℕ) → IsInside f x → All (IsInFrame f) (around Active x (centre f row) 5 ∷ around ContactCut x (centre f row) 2 ∷ [])

@@ -45,10 +45,10 @@ pub framed : (names : List (List ℕ)) (l : Layout) (xs : List ℕ) (last : ℕ)
 framed names l xs last w bars tags first lines width = record {
   first = first;
   last = subst (λ n. l.frame.width ≡ x_of xs n + 8) (let e : last ≡ length xs - 1 = omega (arith, lines) in e) width;
-  n_edge = w.frame.low;
-  p_edge = w.frame.channel;
-  n_row = w.frame.n_least;
-  p_row = w.frame.p_least;
+  n_edge = w.frame.rows.low;
+  p_edge = w.frame.rows.channel;
+  n_row = w.frame.rows.n_least;
+  p_row = w.frame.rows.p_least;
   width = refl;
   height = refl;
   frame = record { others = others_of l; is = refl };

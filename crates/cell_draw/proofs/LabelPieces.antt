@@ -8,13 +8,15 @@ use Rattle.cell_num.specs.Tests.{same_row}
 use Rattle.box_geom.specs.Rectangle.{Holds}
 use Rattle.box_geom.specs.Touching.{Cell}
 use Rattle.box_geom.specs.declared.layer.Layer.{Layer}
-use Rattle.box_geom.specs.declared.layer.Layer.TheVariants.{Active, Poly, Metal1}
+use Rattle.box_geom.specs.declared.layer.Layer.TheVariants.{Active, Poly as PolyLayer, Metal1 as Metal1Layer}
 use Rattle.box_geom.specs.declared.shape.Label.{Label}
 use Rattle.scmos_rules.specs.Layout.{On}
-use Rattle.net_extract.specs.Nets.{Kind, p_diffusion, n_diffusion, poly, metal1, metal2, layer_of, Site, site_at, Conducts}
+use Rattle.net_extract.specs.Nets.{layer_of, Site, site_at, Conducts}
+use Rattle.net_extract.specs.declared.piece.Conductor.{Conductor}
+use Rattle.net_extract.specs.declared.piece.Conductor.TheVariants.{PDiffusion, NDiffusion, Poly, Metal1, Metal2}
 use Rattle.net_extract.specs.Devices.{diffusion_of}
 use Rattle.net_extract.specs.Labels.{IsConductorAt, Belongs}
-use Rattle.net_extract.specs.Parts.{IsIn}
+use Rattle.net_extract.specs.Bonds.{IsIn}
 use Rattle.cell_draw.specs.declared.layout.Frame.{Frame}
 use Rattle.cell_draw.specs.declared.layout.Strip.{Strip}
 use Rattle.cell_draw.specs.declared.layout.Contact.{Contact}
@@ -22,7 +24,7 @@ use Rattle.cell_draw.specs.declared.layout.Layout.{Layout}
 use Rattle.cell_draw.specs.Laid.{IsFrame, IsLaid}
 use Rattle.cell_draw.specs.Layouts.{is_p}
 use Rattle.cell_draw.specs.Shapes.{shapes_of}
-use Rattle.cell_draw.proofs.NetsApart.{part_of}
+use Rattle.cell_draw.proofs.NetsApart.{wire_piece}
 use Rattle.cell_draw.proofs.NetsDrawn.{conducts}
 use Rattle.cell_draw.proofs.NetsFacts.{left_end, right_end, IsNetted}
 use Rattle.cell_draw.proofs.NetsWires.{Wire, kind_of, rect_of, net_of, half_in, IsWire}
@@ -41,7 +43,7 @@ pub record LabelOn (l : Layout) (n : IsNetted l) (label : Label) (net : NetNo) :
   pub of : net_of l n wire ≡ net
   pub site : Site
   pub belongs : Belongs (shapes_of l) label site
-  pub holds : IsIn (part_of l n wire) site
+  pub holds : IsIn (wire_piece l n wire) site
 
 -- the label's point is the corner of a cell of the piece
 pub direct : (l : Layout) (w : IsLaid l) (n : IsNetted l) (a : Wire) (layer : Layer) (x y : ℕ) (name : List ℕ) (net : NetNo) → IsWire l a → net_of l n a ≡ net → layer_of (kind_of a) ≡ layer → Holds (rect_of l n a) (pos x) (pos y) → LabelOn l n (label_at layer x y name) net
@@ -88,12 +90,12 @@ active_at l x y b c = by b.kind refl c.conducts
     at : On Active (shapes_of l) b.cell.x b.cell.y → On Active (shapes_of l) x y
     at on = subst (λ (z : Cell). On Active (shapes_of l) z.x z.y) c.cell on
 
-    by : (k : Kind) → b.kind ≡ k → Conducts (shapes_of l) b → On Active (shapes_of l) x y
-    by p_diffusion e h = at (let d : Conducts (shapes_of l) (site_at p_diffusion b.cell.x b.cell.y) = subst (λ z. Conducts (shapes_of l) (site_at z b.cell.x b.cell.y)) e h in d.0.0)
-    by n_diffusion e h = at (let d : Conducts (shapes_of l) (site_at n_diffusion b.cell.x b.cell.y) = subst (λ z. Conducts (shapes_of l) (site_at z b.cell.x b.cell.y)) e h in d.0.0)
-    by poly e h = absurd (let wrong : ◌≡◌ {A = Layer} Poly Active = ap (λ z. layer_of z) (sym e) ∙ c.on_layer in cc)
-    by metal1 e h = absurd (let wrong : ◌≡◌ {A = Layer} Metal1 Active = ap (λ z. layer_of z) (sym e) ∙ c.on_layer in cc)
-    by metal2 e h = absurd (let wrong = ap (λ z. layer_of z) (sym e) ∙ c.on_layer in cc)
+    by : (k : Conductor) → b.kind ≡ k → Conducts (shapes_of l) b → On Active (shapes_of l) x y
+    by PDiffusion e h = at (let d : Conducts (shapes_of l) (site_at PDiffusion b.cell.x b.cell.y) = subst (λ z. Conducts (shapes_of l) (site_at z b.cell.x b.cell.y)) e h in d.0.0)
+    by NDiffusion e h = at (let d : Conducts (shapes_of l) (site_at NDiffusion b.cell.x b.cell.y) = subst (λ z. Conducts (shapes_of l) (site_at z b.cell.x b.cell.y)) e h in d.0.0)
+    by Poly e h = absurd (let wrong : ◌≡◌ {A = Layer} PolyLayer Active = ap (λ z. layer_of z) (sym e) ∙ c.on_layer in cc)
+    by Metal1 e h = absurd (let wrong : ◌≡◌ {A = Layer} Metal1Layer Active = ap (λ z. layer_of z) (sym e) ∙ c.on_layer in cc)
+    by Metal2 e h = absurd (let wrong = ap (λ z. layer_of z) (sym e) ∙ c.on_layer in cc)
 
 -- no strip of the row begins at the line
 abbrev pub NoneBegins : Layout → Row → ℕ → Type 0

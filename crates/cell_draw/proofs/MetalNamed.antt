@@ -11,7 +11,8 @@ use Rattle.channel_route.specs.Wiring.{IsWiring}
 use Rattle.row_compact.specs.Allowed.{AreAllowed, stretches_of}
 use Rattle.box_geom.specs.Rectangle.{Holds}
 use Rattle.scmos_rules.specs.declared.rules.Deck.TheVariants.{Plain}
-use Rattle.net_extract.specs.Nets.{metal1, site_at}
+use Rattle.net_extract.specs.Nets.{site_at}
+use Rattle.net_extract.specs.declared.piece.Conductor.TheVariants.{Metal1}
 use Rattle.net_extract.specs.Labels.{IsNamed}
 use Rattle.cell_draw.specs.declared.layout.Frame.{Frame}
 use Rattle.cell_draw.specs.Drawings.{drawn_of}
@@ -37,16 +38,16 @@ pub record IsDrawnRow (names : List (List ℕ)) (pins : Pins) (p : Placement) (r
 abbrev pub frame_at : Placement → Routing → List ℕ → ℕ → Frame
 frame_at p r xs height = frame_of p.row r.tracks height (width_of p xs)
 
-metal_named : (names : List (List ℕ)) (pins : Pins) (p : Placement) (r : Routing) (xs : List ℕ) (height : ℕ) → IsDrawnRow names pins p r xs → (m : Metal) → IsMetal (layout names pins p r xs (frame_at p r xs height)) m → (x y : ℤ) → Holds (metal_rect (layout names pins p r xs (frame_at p r xs height)) m) x y → IsNamed Plain (drawn_of names pins p r xs height).shapes (name_of names (metal_net (layout names pins p r xs (frame_at p r xs height)) m)) (site_at metal1 x y)
+metal_named : (names : List (List ℕ)) (pins : Pins) (p : Placement) (r : Routing) (xs : List ℕ) (height : ℕ) → IsDrawnRow names pins p r xs → (m : Metal) → IsMetal (layout names pins p r xs (frame_at p r xs height)) m → (x y : ℤ) → Holds (metal_rect (layout names pins p r xs (frame_at p r xs height)) m) x y → IsNamed Plain (drawn_of names pins p r xs height).shapes (name_of names (metal_net (layout names pins p r xs (frame_at p r xs height)) m)) (site_at Metal1 x y)
 metal_named names pins p r xs height d m h x y on =
     let w : IsWired names pins p r xs (frame_at p r xs height) = wired names pins p r xs height d.placed d.row d.wiring d.allowed d.are.differ in
-    piece_named names pins p r xs (frame_at p r xs height) w d.are (metal m) (site_at metal1 x y) h (record { kind = refl; holds = on })
+    piece_named names pins p r xs (frame_at p r xs height) w d.are (metal m) (site_at Metal1 x y) h (record { kind = refl; holds = on })
 
-pub gnd_named : (names : List (List ℕ)) (pins : Pins) (p : Placement) (r : Routing) (xs : List ℕ) (height : ℕ) → IsDrawnRow names pins p r xs → (x y : ℤ) → Holds (gnd_rail (frame_at p r xs height)).rect x y → IsNamed Plain (drawn_of names pins p r xs height).shapes (name_of names pins.gnd) (site_at metal1 x y)
+pub gnd_named : (names : List (List ℕ)) (pins : Pins) (p : Placement) (r : Routing) (xs : List ℕ) (height : ℕ) → IsDrawnRow names pins p r xs → (x y : ℤ) → Holds (gnd_rail (frame_at p r xs height)).rect x y → IsNamed Plain (drawn_of names pins p r xs height).shapes (name_of names pins.gnd) (site_at Metal1 x y)
 gnd_named names pins p r xs height d = metal_named names pins p r xs height d gnd tt
 
-pub vdd_named : (names : List (List ℕ)) (pins : Pins) (p : Placement) (r : Routing) (xs : List ℕ) (height : ℕ) → IsDrawnRow names pins p r xs → (x y : ℤ) → Holds (vdd_rail (frame_at p r xs height)).rect x y → IsNamed Plain (drawn_of names pins p r xs height).shapes (name_of names pins.vdd) (site_at metal1 x y)
+pub vdd_named : (names : List (List ℕ)) (pins : Pins) (p : Placement) (r : Routing) (xs : List ℕ) (height : ℕ) → IsDrawnRow names pins p r xs → (x y : ℤ) → Holds (vdd_rail (frame_at p r xs height)).rect x y → IsNamed Plain (drawn_of names pins p r xs height).shapes (name_of names pins.vdd) (site_at Metal1 x y)
 vdd_named names pins p r xs height d = metal_named names pins p r xs height d vdd tt
 
-pub trunk_named : (names : List (List ℕ)) (pins : Pins) (p : Placement) (r : Routing) (xs : List ℕ) (height : ℕ) → IsDrawnRow names pins p r xs → (t : Trunk) → Contains r.trunks t → (x y : ℤ) → Holds (bar_metal (bar_from (frame_at p r xs height) p.nodes r.trunks xs t)).rect x y → IsNamed Plain (drawn_of names pins p r xs height).shapes (name_of names t.net) (site_at metal1 x y)
+pub trunk_named : (names : List (List ℕ)) (pins : Pins) (p : Placement) (r : Routing) (xs : List ℕ) (height : ℕ) → IsDrawnRow names pins p r xs → (t : Trunk) → Contains r.trunks t → (x y : ℤ) → Holds (bar_metal (bar_from (frame_at p r xs height) p.nodes r.trunks xs t)).rect x y → IsNamed Plain (drawn_of names pins p r xs height).shapes (name_of names t.net) (site_at Metal1 x y)
 trunk_named names pins p r xs height d t there = metal_named names pins p r xs height d (bar_of (bar_from (frame_at p r xs height) p.nodes r.trunks xs t)) (contains_map (bar_from (frame_at p r xs height) p.nodes r.trunks xs) r.trunks t there)

@@ -6,12 +6,14 @@ use Rattle.cell_num.specs.declared.finger.Row.{Row}
 use Rattle.cell_num.specs.declared.finger.Row.TheVariants.{P, N}
 use Rattle.cell_num.proofs.Lists.{all_from_contains}
 use Rattle.box_geom.specs.Rectangle.{Rectangle, IsProper, Holds, Covers}
-use Rattle.box_geom.specs.declared.layer.Layer.TheVariants.{Poly}
+use Rattle.box_geom.specs.declared.layer.Layer.TheVariants.{Poly as PolyLayer}
 use Rattle.scmos_rules.specs.Layout.{On, Diffusion}
 use Rattle.scmos_rules.specs.Conditions.{IsWide}
-use Rattle.net_extract.specs.Nets.{Kind, p_diffusion, n_diffusion, poly, metal1, metal2, Are}
+use Rattle.net_extract.specs.Nets.{Are}
+use Rattle.net_extract.specs.declared.piece.Conductor.{Conductor}
+use Rattle.net_extract.specs.declared.piece.Conductor.TheVariants.{PDiffusion, NDiffusion, Poly, Metal1, Metal2}
 use Rattle.net_extract.specs.Devices.{InRow, diffusion_of}
-use Rattle.net_extract.specs.Parts.{AreDrawn}
+use Rattle.net_extract.specs.Bonds.{AreDrawn}
 use Rattle.cell_draw.specs.declared.layout.Frame.{Frame}
 use Rattle.cell_draw.specs.declared.layout.Strip.{Strip}
 use Rattle.cell_draw.specs.declared.layout.Contact.{Contact}
@@ -67,7 +69,7 @@ over_ends l w s g hs hg o = by (w.over g s hg hs)
     by (inr (inr far)) = absurd (omega (arith, o.right))
 
 -- where the gate crosses the strip
-pub gate_covers : (l : Layout) (w : IsLaid l) (s : Strip) (g : Gate) → Contains l.strips s → Contains l.gates g → IsOver s g → (x y : ℤ) → Holds (area_rect l (finger_of s)) x y → (pos g.x -ℤ pos 2) ≤ℤ x → x <ℤ (pos g.x +ℤ pos 2) → On Poly (shapes_of l) x y
+pub gate_covers : (l : Layout) (w : IsLaid l) (s : Strip) (g : Gate) → Contains l.strips s → Contains l.gates g → IsOver s g → (x y : ℤ) → Holds (area_rect l (finger_of s)) x y → (pos g.x -ℤ pos 2) ≤ℤ x → x <ℤ (pos g.x +ℤ pos 2) → On PolyLayer (shapes_of l) x y
 gate_covers l w s g hs hg o x y h left right = let e = over_ends l w s g hs hg o in poly_covers l (strip_of g) hg x y (omega (arith, ints))
 
 half_holds : (f : Frame) (row : Row) (s : Strip) (z : ℕ) (e : End) → s.left + 8 ≤ z → z + 8 ≤ s.right → (x y : ℤ) → Holds (half_in f row s z e) x y → Holds (finger_in f row s).rect x y
@@ -91,7 +93,7 @@ right_half f P s z x y h most = omega (arith, ints)
 covers_wire : (l : Layout) (n : IsNetted l) (a : Wire) → IsWire l a → (x y : ℤ) → Holds (rect_of l n a) x y → Covers (parts l n (kind_of a)) x y
 covers_wire l n a h x y holds = record { rect = rect_of l n a; listed = wire_listed l n a h; holds = holds }
 
-covered_strip : (l : Layout) (w : IsLaid l) (n : IsNetted l) (s : Strip) → Contains l.strips s → (x y : ℤ) → Holds (area_rect l (finger_of s)) x y → (On Poly (shapes_of l) x y → ⊥) → Covers (parts l n (diffusion_of s.row)) x y
+covered_strip : (l : Layout) (w : IsLaid l) (n : IsNetted l) (s : Strip) → Contains l.strips s → (x y : ℤ) → Holds (area_rect l (finger_of s)) x y → (On PolyLayer (shapes_of l) x y → ⊥) → Covers (parts l n (diffusion_of s.row)) x y
 covered_strip l w n s there x y h bare =
     let g : Gate = n.over s in
     let o = n.gated s there in
@@ -101,7 +103,7 @@ covered_strip l w n s there x y h bare =
     (λ less. absurd (bare (gate_covers l w s g there o.0 o.1 x y h most less)))
     (λ far. covers_wire l n (half s right_end) there x y (right_half l.frame s.row s g.x x y h far)))
 
-covered_area : (l : Layout) (w : IsLaid l) (n : IsNetted l) (side : Row) (a : Area) → IsArea l a → (x y : ℤ) → Holds (area_rect l a) x y → (On Poly (shapes_of l) x y → ⊥) → InRow side (shapes_of l) x y → Covers (parts l n (diffusion_of side)) x y
+covered_area : (l : Layout) (w : IsLaid l) (n : IsNetted l) (side : Row) (a : Area) → IsArea l a → (x y : ℤ) → Holds (area_rect l a) x y → (On PolyLayer (shapes_of l) x y → ⊥) → InRow side (shapes_of l) x y → Covers (parts l n (diffusion_of side)) x y
 covered_area l w n side (finger_of s) there x y h bare i =
     let e : s.row ≡ side = one_row l w s.row side x y (strip_side l w s there x y h) i in
     subst (λ r. Covers (parts l n (diffusion_of r)) x y) e (covered_strip l w n s there x y h bare)
@@ -124,7 +126,7 @@ record Along (s : Strip) (x : ℤ) : Type 0 where
 strip_x : (l : Layout) (s : Strip) (x y : ℤ) → Holds (area_rect l (finger_of s)) x y → Along s x
 strip_x l s x y h = omega (arith, ints)
 
-half_bare : (l : Layout) (w : IsLaid l) (n : IsNetted l) (s : Strip) (e : End) → Contains l.strips s → (x y : ℤ) → Holds (half_rect l n s e) x y → On Poly (shapes_of l) x y → ⊥
+half_bare : (l : Layout) (w : IsLaid l) (n : IsNetted l) (s : Strip) (e : End) → Contains l.strips s → (x y : ℤ) → Holds (half_rect l n s e) x y → On PolyLayer (shapes_of l) x y → ⊥
 half_bare l w n s e there x y h p = by (w.over c.at.gate s c.at.is_gate there)
   where
     on : Holds (area_rect l (finger_of s)) x y
@@ -144,7 +146,7 @@ half_bare l w n s e there x y h p = by (w.over c.at.gate s c.at.is_gate there)
     by (inr (inl far)) = let k = c.on_gate in let i = strip_x l s x y on in omega (arith, ints)
     by (inr (inr far)) = let k = c.on_gate in let i = strip_x l s x y on in omega (arith, ints)
 
-pad_bare : (l : Layout) (w : IsLaid l) (c : Contact) → Contains l.contacts c → (x y : ℤ) → Holds (pad_rect l c) x y → On Poly (shapes_of l) x y → ⊥
+pad_bare : (l : Layout) (w : IsLaid l) (c : Contact) → Contains l.contacts c → (x y : ℤ) → Holds (pad_rect l c) x y → On PolyLayer (shapes_of l) x y → ⊥
 pad_bare l w c there x y h p =
     let a : AtCrossing l x y x y = crossing l w x y x y (area_covers l (area.pad_of c) there x y h) p (omega (arith, ints)) in
     let k = a.on_gate in
@@ -184,17 +186,17 @@ proper l w n (pad c) h = omega (arith, ints)
 pub are_drawn : (l : Layout) (w : IsLaid l) (n : IsNetted l) → AreDrawn (shapes_of l) (parts l n)
 are_drawn l w n = record { covered = all_covered; conducts = all_conduct; proper = all_proper }
   where
-    all_covered : (k : Kind) (x y : ℤ) → Are (shapes_of l) k x y → Covers (parts l n k) x y
-    all_covered p_diffusion x y (d, i) = covered l w n P x y d i
-    all_covered n_diffusion x y (d, i) = covered l w n N x y d i
-    all_covered poly x y c = c
-    all_covered metal1 x y c = c
-    all_covered metal2 x y c = c
+    all_covered : (k : Conductor) (x y : ℤ) → Are (shapes_of l) k x y → Covers (parts l n k) x y
+    all_covered PDiffusion x y (d, i) = covered l w n P x y d i
+    all_covered NDiffusion x y (d, i) = covered l w n N x y d i
+    all_covered Poly x y c = c
+    all_covered Metal1 x y c = c
+    all_covered Metal2 x y c = c
 
-    all_conduct : (k : Kind) (x y : ℤ) → Covers (parts l n k) x y → Are (shapes_of l) k x y
+    all_conduct : (k : Conductor) (x y : ℤ) → Covers (parts l n k) x y → Are (shapes_of l) k x y
     all_conduct k x y c =
         let f : WireFrom l n k c.rect = wire_from l n k c.rect c.listed in
         subst (λ z. Are (shapes_of l) z x y) f.kind (conducts l w n f.wire f.listed x y (subst (λ r. Holds r x y) (sym f.is) c.holds))
 
-    all_proper : (k : Kind) → All IsProper (parts l n k)
+    all_proper : (k : Conductor) → All IsProper (parts l n k)
     all_proper k = all_from_contains IsProper (parts l n k) (λ r there. let f : WireFrom l n k r = wire_from l n k r there in subst IsProper f.is (proper l w n f.wire f.listed))

@@ -15,7 +15,8 @@ use Rattle.scmos_rules.proofs.Chains.{none, one, joined, turned}
 use Rattle.scmos_rules.specs.declared.rules.Deck.TheVariants.{Plain}
 use Rattle.net_extract.specs.Nets.{of_poly, Joins, by_contact, by_via, Through}
 use Rattle.net_extract.specs.Devices.{diffusion_of}
-use Rattle.net_extract.specs.Parts.{Part, Bond, touching, joining, tying, Bonded}
+use Rattle.net_extract.specs.Bonds.{Bond, touching, joining, tying, Bonded}
+use Rattle.net_extract.specs.declared.piece.Piece.{Piece}
 use Rattle.cell_draw.specs.declared.layout.Frame.{Frame}
 use Rattle.cell_draw.specs.declared.layout.Strip.{Strip}
 use Rattle.cell_draw.specs.declared.layout.Contact.{Contact}
@@ -24,7 +25,7 @@ use Rattle.cell_draw.specs.declared.layout.Bar.{Bar}
 use Rattle.cell_draw.specs.declared.layout.Layout.{Layout}
 use Rattle.cell_draw.specs.Shapes.{strap, landing, centre, reach_shapes, pad_shapes, via_shapes, shapes_of}
 use Rattle.cell_draw.specs.Laid.{IsFrame, IsInside, HasFinger, IsOnBar, IsMet, IsLaid}
-use Rattle.cell_draw.proofs.NetsApart.{part_of}
+use Rattle.cell_draw.proofs.NetsApart.{wire_piece}
 use Rattle.cell_draw.proofs.NetsLinks.{lower_row, strap_over, pad_around, landing_strap, landing_branch, branch_meets}
 use Rattle.cell_draw.proofs.NetsFacts.{End, left_end, right_end, end_x, IsOver, Reaches, HasContact, IsNetted}
 use Rattle.cell_draw.proofs.NetsWires.{Wire, metal, branch, gate, half, pad, half_in, kind_of, rect_of, IsWire, parts, wire_listed}
@@ -40,10 +41,10 @@ use Rattle.cell_draw.proofs.RulesPoly.{strip_of, pad_of, strip_at, pad_at, IsPad
 use Rattle.cell_draw.proofs.RulesVias.{ViaPlace, landing_of, meeting_of, IsMeeting, IsViaPlace, via_rect, bar_in}
 
 abbrev pub Together : (l : Layout) → IsNetted l → Wire → Wire → Type 0
-Together l n a b = Chain (Bonded Plain (shapes_of l) (parts l n)) (part_of l n a) (part_of l n b)
+Together l n a b = Chain (Bonded Plain (shapes_of l) (parts l n)) (wire_piece l n a) (wire_piece l n b)
 
-linked : (l : Layout) (n : IsNetted l) (a b : Wire) → IsWire l a → IsWire l b → Bond Plain (shapes_of l) (part_of l n a) (part_of l n b) → Together l n a b
-linked l n a b h k bond = one (Bonded Plain (shapes_of l) (parts l n)) (part_of l n a) (part_of l n b) (record { from = wire_listed l n a h; to = wire_listed l n b k; bond = bond })
+linked : (l : Layout) (n : IsNetted l) (a b : Wire) → IsWire l a → IsWire l b → Bond Plain (shapes_of l) (wire_piece l n a) (wire_piece l n b) → Together l n a b
+linked l n a b h k bond = one (Bonded Plain (shapes_of l) (parts l n)) (wire_piece l n a) (wire_piece l n b) (record { from = wire_listed l n a h; to = wire_listed l n b k; bond = bond })
 
 -- pieces of one kind with a common cell
 pub shared : (l : Layout) (n : IsNetted l) (a b : Wire) → IsWire l a → IsWire l b → kind_of a ≡ kind_of b → (x y : ℤ) → Holds (rect_of l n a) x y → Holds (rect_of l n b) x y → Together l n a b
@@ -62,9 +63,9 @@ through : (l : Layout) (n : IsNetted l) (a b : Wire) → IsWire l a → IsWire l
 through l n a b h k x y i j z = linked l n a b h k (joining (record { x = x; y = y; in_p = i; in_q = j; through = inr z }))
 
 pub together : (l : Layout) (n : IsNetted l) (a b c : Wire) → Together l n a b → Together l n b c → Together l n a c
-together l n a b c = joined (Bonded Plain (shapes_of l) (parts l n)) (part_of l n a) (part_of l n b) (part_of l n c)
+together l n a b c = joined (Bonded Plain (shapes_of l) (parts l n)) (wire_piece l n a) (wire_piece l n b) (wire_piece l n c)
 
-turn_bond : (l : Layout) (p q : Part) → Bond Plain (shapes_of l) p q → Bond Plain (shapes_of l) q p
+turn_bond : (l : Layout) (p q : Piece) → Bond Plain (shapes_of l) p q → Bond Plain (shapes_of l) q p
 turn_bond l p q (touching e t) = touching (sym e) (record { one = t.other; other = t.one; in_a = t.in_b; in_b = t.in_a; meet = meet t.meet })
   where
     edge : Edge t.one t.other → Edge t.other t.one
@@ -85,7 +86,7 @@ turn_bond l p q (joining j) = joining (record { x = j.x; y = j.y; in_p = j.in_q;
 
 -- the other way round
 pub back : (l : Layout) (n : IsNetted l) (a b : Wire) → Together l n a b → Together l n b a
-back l n a b = turned (Bonded Plain (shapes_of l) (parts l n)) (λ p q z. record { from = z.to; to = z.from; bond = turn_bond l p q z.bond }) (part_of l n a) (part_of l n b)
+back l n a b = turned (Bonded Plain (shapes_of l) (parts l n)) (λ p q z. record { from = z.to; to = z.from; bond = turn_bond l p q z.bond }) (wire_piece l n a) (wire_piece l n b)
 
 -- ---- contacts and vias stand on their layers
 cut_covers : (l : Layout) (a : Cut) → IsCut l a → (x y : ℤ) → Holds (cut_rect l a) x y → On ContactCut (shapes_of l) x y

@@ -4,7 +4,8 @@ use Rattle.std.proofs.lemmas.Int.{ints}
 use Rattle.cell_num.specs.declared.finger.Row.{Row}
 use Rattle.cell_num.specs.declared.finger.Row.TheVariants.{P, N}
 use Rattle.box_geom.specs.Rectangle.{Holds}
-use Rattle.net_extract.specs.Nets.{metal1, metal2, IsLower, of_p, of_n, of_poly}
+use Rattle.net_extract.specs.Nets.{IsLower, of_p, of_n, of_poly}
+use Rattle.net_extract.specs.declared.piece.Conductor.TheVariants.{Metal1, Metal2}
 use Rattle.net_extract.specs.Devices.{diffusion_of}
 use Rattle.cell_draw.specs.declared.layout.Frame.{Frame}
 use Rattle.cell_draw.specs.declared.layout.Layout.{Layout}
@@ -34,14 +35,14 @@ pub record IsLinked (l : Layout) (n : IsNetted l) (x y : ℤ) : Type 0 where
 -- at a contact the upper piece is of metal1, the lower one of diffusion or poly
 pub record IsLinkedBelow (l : Layout) (n : IsNetted l) (x y : ℤ) : Type 0 where
   pub link : IsLinked l n x y
-  pub high : kind_of link.upper ≡ metal1
+  pub high : kind_of link.upper ≡ Metal1
   pub low : IsLower (kind_of link.lower)
 
 -- at a via the upper piece is of metal2, the lower one of metal1
 pub record IsLinkedAbove (l : Layout) (n : IsNetted l) (x y : ℤ) : Type 0 where
   pub link : IsLinked l n x y
-  pub high : kind_of link.upper ≡ metal2
-  pub low : kind_of link.lower ≡ metal1
+  pub high : kind_of link.upper ≡ Metal2
+  pub low : kind_of link.lower ≡ Metal1
 
 pub lower_row : (row : Row) → IsLower (diffusion_of row)
 lower_row N = of_n

@@ -10,7 +10,7 @@ use Rattle.box_geom.specs.Rectangle.{Holds}
 use Rattle.scmos_rules.proofs.Chains.{none}
 use Rattle.scmos_rules.specs.declared.rules.Deck.TheVariants.{Plain}
 use Rattle.net_extract.specs.Nets.{Site, SameNet, Conducts}
-use Rattle.net_extract.specs.Parts.{Bonded, IsIn}
+use Rattle.net_extract.specs.Bonds.{Bonded, IsIn}
 use Rattle.net_extract.proofs.Bonds.{one_net}
 use Rattle.cell_draw.specs.declared.layout.Strip.{Strip}
 use Rattle.cell_draw.specs.declared.layout.Contact.{Contact}
@@ -19,7 +19,7 @@ use Rattle.cell_draw.specs.declared.layout.Bar.{Bar}
 use Rattle.cell_draw.specs.declared.layout.Layout.{Layout}
 use Rattle.cell_draw.specs.Shapes.{shapes_of}
 use Rattle.cell_draw.specs.Laid.{Follows, IsStrip, IsOnBar, rail_in, IsLaid}
-use Rattle.cell_draw.proofs.NetsApart.{part_of, chained_net}
+use Rattle.cell_draw.proofs.NetsApart.{wire_piece, chained_net}
 use Rattle.cell_draw.proofs.NetsDrawn.{are_drawn}
 use Rattle.cell_draw.proofs.NetsFacts.{End, left_end, right_end, end_x, Reaches, HasContact, IsLone, AreNeighbours, overlap, crossed, IsNetted}
 use Rattle.cell_draw.proofs.NetsJoined.{Together, together, back, shared, pad_strap, strap_branch, branch_bar, strip_pad, pad_bar, gnd_strap, vdd_strap, half_pad, next_halves}
@@ -58,7 +58,7 @@ record ToHub (l : Layout) (n : IsNetted l) (a : Wire) : Type 0 where
   chain : Together l n a (hub_wire hub)
 
 self : (l : Layout) (n : IsNetted l) (a b : Wire) → a ≡ b → Together l n a b
-self l n a b e = none (Bonded Plain (shapes_of l) (parts l n)) (part_of l n a) (part_of l n b) (ap (λ z. part_of l n z) e)
+self l n a b e = none (Bonded Plain (shapes_of l) (parts l n)) (wire_piece l n a) (wire_piece l n b) (ap (λ z. wire_piece l n z) e)
 
 hubbed : (l : Layout) (n : IsNetted l) (h : Hub) → IsHub l n h → ToHub l n (hub_wire h)
 hubbed l n h is = record { hub = h; is = is; net = refl; chain = self l n (hub_wire h) (hub_wire h) refl }
@@ -207,11 +207,11 @@ net_chained l w n a b h k e =
 
 -- the site is a cell of the piece
 abbrev pub IsOf : (l : Layout) → IsNetted l → Wire → Site → Type 0
-IsOf l n a s = IsIn (part_of l n a) s
+IsOf l n a s = IsIn (wire_piece l n a) s
 
 pub nets : (l : Layout) (w : IsLaid l) (n : IsNetted l) (a b : Wire) (s t : Site) → IsWire l a → IsWire l b → IsOf l n a s → IsOf l n b t → SameNet Plain (shapes_of l) s t ↔ net_of l n a ≡ net_of l n b
 nets l w n a b s t h k i j =
-    let law : SameNet Plain (shapes_of l) s t ↔ Together l n a b = one_net Plain (shapes_of l) (parts l n) (part_of l n a) (part_of l n b) s t (are_drawn l w n) (wire_listed l n a h) (wire_listed l n b k) i j in
+    let law : SameNet Plain (shapes_of l) s t ↔ Together l n a b = one_net Plain (shapes_of l) (parts l n) (wire_piece l n a) (wire_piece l n b) s t (are_drawn l w n) (wire_listed l n a h) (wire_listed l n b k) i j in
     (λ same. chained_net l w n a b h k (law.0 same), λ e. law.1 (net_chained l w n a b h k e))
 
 -- the piece that a conductor cell is of

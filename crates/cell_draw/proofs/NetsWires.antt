@@ -8,8 +8,9 @@ use Rattle.cell_num.specs.declared.finger.Row.TheVariants.{P, N}
 use Rattle.cell_num.proofs.In.{In, contains_in, in_contains, Piece as Inside, in_flat, contains_flat}
 use Rattle.box_geom.specs.Rectangle.{Rectangle}
 use Rattle.box_geom.specs.Layers.{rects_on}
-use Rattle.box_geom.specs.declared.layer.Layer.TheVariants.{Poly, Metal1, Metal2}
-use Rattle.net_extract.specs.Nets.{Kind, p_diffusion, n_diffusion, poly, metal1, metal2}
+use Rattle.box_geom.specs.declared.layer.Layer.TheVariants.{Poly as PolyLayer, Metal1 as Metal1Layer, Metal2 as Metal2Layer}
+use Rattle.net_extract.specs.declared.piece.Conductor.{Conductor}
+use Rattle.net_extract.specs.declared.piece.Conductor.TheVariants.{PDiffusion, NDiffusion, Poly, Metal1, Metal2}
 use Rattle.net_extract.specs.Devices.{diffusion_of}
 use Rattle.cell_draw.specs.declared.layout.Frame.{Frame}
 use Rattle.cell_draw.specs.declared.layout.Strip.{Strip}
@@ -35,10 +36,10 @@ pub data Wire : Type 0 where
   half : Strip → End → Wire
   pad : Contact → Wire
 
-abbrev pub kind_of : Wire → Kind
-kind_of (metal m) = metal1
-kind_of (branch s) = metal2
-kind_of (gate g) = poly
+abbrev pub kind_of : Wire → Conductor
+kind_of (metal m) = Metal1
+kind_of (branch s) = Metal2
+kind_of (gate g) = Poly
 kind_of (half s e) = diffusion_of s.row
 kind_of (pad c) = diffusion_of c.row
 
@@ -86,15 +87,15 @@ abbrev diffusion : (l : Layout) → IsNetted l → Row → List Rectangle
 diffusion l n row = flat_map (halves_of l n row) l.strips ++ flat_map (pads_of l row) l.contacts
 
 -- the rectangles of each kind of conductor
-abbrev pub parts : (l : Layout) → IsNetted l → Kind → List Rectangle
-parts l n p_diffusion = diffusion l n P
-parts l n n_diffusion = diffusion l n N
-parts l n poly = rects_on Poly (shapes_of l)
-parts l n metal1 = rects_on Metal1 (shapes_of l)
-parts l n metal2 = rects_on Metal2 (shapes_of l)
+abbrev pub parts : (l : Layout) → IsNetted l → Conductor → List Rectangle
+parts l n PDiffusion = diffusion l n P
+parts l n NDiffusion = diffusion l n N
+parts l n Poly = rects_on PolyLayer (shapes_of l)
+parts l n Metal1 = rects_on Metal1Layer (shapes_of l)
+parts l n Metal2 = rects_on Metal2Layer (shapes_of l)
 
 -- a rectangle of a kind is that of a piece
-pub record WireFrom (l : Layout) (n : IsNetted l) (k : Kind) (r : Rectangle) : Type 0 where
+pub record WireFrom (l : Layout) (n : IsNetted l) (k : Conductor) (r : Rectangle) : Type 0 where
   pub wire : Wire
   pub listed : IsWire l wire
   pub kind : kind_of wire ≡ k
@@ -135,12 +136,12 @@ diffusion_from l n row r c = elim (Contains-append_cases (flat_map (halves_of l 
         let i = row_in row p.of.row (pad_rect l p.of ∷ []) r (contains_in (pads_of l row p.of) r p.inside) in
         one p.of p.listed i.0 i.1
 
-pub wire_from : (l : Layout) (n : IsNetted l) (k : Kind) (r : Rectangle) → Contains (parts l n k) r → WireFrom l n k r
-wire_from l n p_diffusion r c = diffusion_from l n P r c
-wire_from l n n_diffusion r c = diffusion_from l n N r c
-wire_from l n poly r c = let o = on_poly l r c in record { wire = gate o.piece; listed = o.listed; kind = refl; is = o.is }
-wire_from l n metal1 r c = let o = on_metal1 l r c in record { wire = metal o.piece; listed = o.listed; kind = refl; is = o.is }
-wire_from l n metal2 r c = let o = on_metal2 l r c in record { wire = branch o.piece; listed = o.listed; kind = refl; is = o.is }
+pub wire_from : (l : Layout) (n : IsNetted l) (k : Conductor) (r : Rectangle) → Contains (parts l n k) r → WireFrom l n k r
+wire_from l n PDiffusion r c = diffusion_from l n P r c
+wire_from l n NDiffusion r c = diffusion_from l n N r c
+wire_from l n Poly r c = let o = on_poly l r c in record { wire = gate o.piece; listed = o.listed; kind = refl; is = o.is }
+wire_from l n Metal1 r c = let o = on_metal1 l r c in record { wire = metal o.piece; listed = o.listed; kind = refl; is = o.is }
+wire_from l n Metal2 r c = let o = on_metal2 l r c in record { wire = branch o.piece; listed = o.listed; kind = refl; is = o.is }
 
 in_diffusion : (l : Layout) (n : IsNetted l) (row : Row) (r : Rectangle) → Contains (diffusion l n row) r → Contains (parts l n (diffusion_of row)) r
 in_diffusion l n N r c = c
@@ -162,20 +163,20 @@ pad_listed l n c there =
     (Contains-append_right (flat_map (halves_of l n c.row) l.strips) (flat_map (pads_of l c.row) l.contacts) (pad_rect l c)
     (contains_flat (pads_of l c.row) l.contacts c (pad_rect l c) there (in_contains (pads_of l c.row c) (pad_rect l c) (own_row c.row (pad_rect l c ∷ []) (pad_rect l c) (inl refl)))))
 
-metal_listed : (l : Layout) (m : Metal) → IsMetal l m → Contains (rects_on Metal1 (shapes_of l)) (metal_rect l m)
-metal_listed l gnd h = drawn Metal1 l (metal_rect l gnd) (of_frame (inl refl))
-metal_listed l vdd h = drawn Metal1 l (metal_rect l vdd) (of_frame (inr (inl refl)))
-metal_listed l (strap_of c) h = drawn Metal1 l (metal_rect l (strap_of c)) (of_contact c h (inl refl))
-metal_listed l (bar_of b) h = drawn Metal1 l (metal_rect l (bar_of b)) (of_bar b h (inl refl))
+metal_listed : (l : Layout) (m : Metal) → IsMetal l m → Contains (rects_on Metal1Layer (shapes_of l)) (metal_rect l m)
+metal_listed l gnd h = drawn Metal1Layer l (metal_rect l gnd) (of_frame (inl refl))
+metal_listed l vdd h = drawn Metal1Layer l (metal_rect l vdd) (of_frame (inr (inl refl)))
+metal_listed l (strap_of c) h = drawn Metal1Layer l (metal_rect l (strap_of c)) (of_contact c h (inl refl))
+metal_listed l (bar_of b) h = drawn Metal1Layer l (metal_rect l (bar_of b)) (of_bar b h (inl refl))
 
-poly_listed : (l : Layout) (p : Piece) → IsPiece l p → Contains (rects_on Poly (shapes_of l)) (piece_rect l p)
-poly_listed l (strip_of g) h = drawn Poly l (piece_rect l (strip_of g)) (of_gate g h (inl refl))
+poly_listed : (l : Layout) (p : Piece) → IsPiece l p → Contains (rects_on PolyLayer (shapes_of l)) (piece_rect l p)
+poly_listed l (strip_of g) h = drawn PolyLayer l (piece_rect l (strip_of g)) (of_gate g h (inl refl))
 poly_listed l (pad_of g y) h =
-    drawn Poly l (piece_rect l (pad_of g y)) (of_gate g h.listed (inr (subst (λ o. In (rects_on Poly (pad_shapes g.x o)) (piece_rect l (pad_of g y))) (sym h.track) (inl refl))))
+    drawn PolyLayer l (piece_rect l (pad_of g y)) (of_gate g h.listed (inr (subst (λ o. In (rects_on PolyLayer (pad_shapes g.x o)) (piece_rect l (pad_of g y))) (sym h.track) (inl refl))))
 
-branch_listed : (l : Layout) (s : Signal) → IsSignal l s → Contains (rects_on Metal2 (shapes_of l)) (branch_rect l s)
+branch_listed : (l : Layout) (s : Signal) → IsSignal l s → Contains (rects_on Metal2Layer (shapes_of l)) (branch_rect l s)
 branch_listed l s h =
-    drawn Metal2 l (branch_rect l s) (of_contact s.contact h.listed (subst (λ o. In (rects_on Metal2 (reach_shapes l.frame s.contact.row s.contact.x o)) (branch_rect l s)) (sym h.signal) (inl refl)))
+    drawn Metal2Layer l (branch_rect l s) (of_contact s.contact h.listed (subst (λ o. In (rects_on Metal2Layer (reach_shapes l.frame s.contact.row s.contact.x o)) (branch_rect l s)) (sym h.signal) (inl refl)))
 
 -- each piece is a rectangle of its kind
 pub wire_listed : (l : Layout) (n : IsNetted l) (w : Wire) → IsWire l w → Contains (parts l n (kind_of w)) (rect_of l n w)

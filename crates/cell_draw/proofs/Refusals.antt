@@ -12,9 +12,9 @@ use Rattle.net_extract.specs.declared.fault.ExtractFault.{ExtractFault}
 use Rattle.net_extract.specs.declared.fault.ExtractFault.TheVariants.{TooMany, OddDevice, Stray, Short, Split, NoMemory}
 use Rattle.net_extract.specs.Devices.{IsSomeDevice}
 use Rattle.net_extract.specs.Extraction.{AreFew, IsStrayLabel, IsShortDrawing, IsSplitDrawing, ExtractRefused}
-use Rattle.net_extract.specs.Labels.{wiring_labels}
+use Rattle.net_extract.specs.Labels.{conductor_labels}
 use Rattle.net_extract.specs.Nets.{SameNet}
-use Rattle.net_extract.proofs.Agreeing.{short_held, split_held, wiring_label, facing, label_held}
+use Rattle.net_extract.proofs.Agreeing.{short_held, split_held, conductor_label, facing, label_held}
 use Rattle.net_extract.proofs.Extracting.{not_many}
 use Rattle.net_extract.proofs.Numbers.{one_number}
 use Rattle.net_extract.proofs.Siding.{move_net, same_number}
@@ -35,8 +35,8 @@ device_at deck names fingers shapes to x y gate =
 not_stray : (deck : Deck) (names : List (List ℕ)) (fingers : Fingers) (shapes : Shapes) (name : List ℕ) → ExtractsTo deck names fingers shapes → IsStrayLabel deck shapes name → ⊥
 not_stray deck names fingers shapes name to r =
     let l : Label = r.stray.label in
-    let there : Contains (wiring_labels shapes.labels) l = subst (λ ls. Contains ls l) (sym r.stray.split) (Contains-append_right r.stray.before (l ∷ r.stray.after) l (contains_here l r.stray.after)) in
-    let site = to.nets.belong l (wiring_label shapes.labels l there) in
+    let there : Contains (conductor_labels shapes.labels) l = subst (λ ls. Contains ls l) (sym r.stray.split) (Contains-append_right r.stray.before (l ∷ r.stray.after) l (contains_here l r.stray.after)) in
+    let site = to.nets.belong l (conductor_label shapes.labels l there) in
     r.stray.stray site.site site.belongs
 
 not_short : (deck : Deck) (names : List (List ℕ)) (fingers : Fingers) (shapes : Shapes) (one other : List ℕ) → ExtractsTo deck names fingers shapes → IsShortDrawing deck shapes one other → ⊥

@@ -86,11 +86,11 @@ pub record Lies (f : Frame) (tracks : ℕ) (trunks : List Trunk) (xs : List ℕ)
 
 node_small : (f : Frame) (xs : List ℕ) (node : NodePlace) (side : Row) → IsSmallFrame f → ((line : ℕ) → x_of xs line ≤ 1000000) → (if is_p side then f.yp + 4 else f.yn - 4) ≤ 200000
 node_small f xs node P small lines = omega (arith, small.top)
-node_small f xs node N small lines = omega (arith, small.top, small.channel)
+node_small f xs node N small lines = omega (arith, small.top, small.rows.channel)
 
 gate_small : (f : Frame) (o : Option ℕ) → IsSmallFrame f → gate_y f o ≤ 200000
 gate_small f None small = omega (arith, small.top)
-gate_small f (Some width) small = omega (arith, small.top, small.channel)
+gate_small f (Some width) small = omega (arith, small.top, small.rows.channel)
 
 some_tag : (a t : Tag) → Some a ≡ Some t → IsSmallTag a → IsSmallTag t
 some_tag a t e small = subst (λ z. IsSmallTag z) (some_same a t e) small

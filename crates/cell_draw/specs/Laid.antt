@@ -13,14 +13,19 @@ use Rattle.cell_draw.specs.declared.layout.Gate.{Gate}
 use Rattle.cell_draw.specs.declared.layout.Bar.{Bar}
 use Rattle.cell_draw.specs.declared.layout.Layout.{Layout}
 
--- The channel has room for the tracks, one at least. It may be higher than that.
-pub record IsFrame (f : Frame) (tracks : ℕ) : Type 0 where
+-- Upward: the N row beside its rail, the channel, with room for a track at least, and the P row. No row is lower than a
+-- pad, and the cell is as wide as its two sides.
+pub record HasRows (f : Frame) : Type 0 where
   pub low : f.yn ≡ ROW_EDGE + f.hn
   pub channel : f.yn + LEAST_CHANNEL ≤ f.yp
-  pub room : f.yn + LEAST_CHANNEL + TRACK_PITCH * tracks ≤ f.yp + TRACK_PITCH
   pub n_least : LEAST_ROW ≤ f.hn
   pub p_least : LEAST_ROW ≤ f.hp
   pub wide : 2 * SIDE_SPACE ≤ f.width
+
+-- The channel has room for the tracks. It may be higher than that.
+pub record IsFrame (f : Frame) (tracks : ℕ) : Type 0 where
+  pub rows : HasRows f
+  pub room : f.yn + LEAST_CHANNEL + TRACK_PITCH * tracks ≤ f.yp + TRACK_PITCH
 
 -- a height at which a track lies
 pub record IsTrack (f : Frame) (tracks y : ℕ) : Type 0 where

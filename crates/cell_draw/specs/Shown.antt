@@ -21,11 +21,12 @@ use Rattle.box_geom.specs.declared.layer.Layer.TheVariants.{Active, Metal1}
 use Rattle.scmos_rules.specs.Layout.{On}
 use Rattle.scmos_rules.specs.declared.rules.Deck.{Deck}
 use Rattle.net_extract.specs.Nets.{Site}
-use Rattle.net_extract.specs.Devices.{rightward, IsDevice, IsSomeDevice}
+use Rattle.net_extract.specs.Devices.{IsDevice, IsSomeDevice}
 use Rattle.net_extract.specs.Labels.{IsNamed}
 use Rattle.cell_draw.specs.declared.measure.TheConstants.{GATE_LENGTH, EDGE_SPACE, TRACK_PITCH}
 use Rattle.cell_draw.specs.Frame.{channel_edge}
 use Rattle.cell_draw.specs.Named.{name_of}
+use Rattle.net_extract.specs.declared.side.Current.TheVariants.{Rightward}
 
 -- where the gates of a column stand
 pub record Span : Type 0 where
@@ -49,7 +50,7 @@ pub record IsPlacedAt (deck : Deck) (names : List (List ℕ)) (shapes : Shapes) 
   pub left : Site
   pub right : Site
   pub is : IsDevice deck shapes.rects box side gate left right x.finger.width GATE_LENGTH
-  pub flow : is.flow ≡ rightward
+  pub current : is.current ≡ Rightward
   pub gate_net : IsNamed deck shapes (name_of names x.finger.gate) gate
   pub left_end : IsNamed deck shapes (name_of names (left_net x)) left
   pub right_end : IsNamed deck shapes (name_of names (right_net x)) right

@@ -1,11 +1,11 @@
 -- What keeps the coordinates of a layout in order and within their type.
-use Rattle.std.specs.Prelude.{ℕ, ◌≡◌, ◌+◌, ◌*◌, ◌≤◌, ◌<◌, Option, Some, None}
+use Rattle.std.specs.Prelude.{ℕ, ◌+◌, ◌≤◌, ◌<◌, Option, Some, None}
 use Rattle.std.specs.List.{All}
 use Rattle.row_model.specs.declared.column.Placed.{Placed}
 use Rattle.row_model.specs.declared.column.Column.{Column}
 use Rattle.row_compact.specs.declared.measure.TheConstants.{SIDE_SPACE}
 use Rattle.cell_draw.specs.declared.frame.TheConstants.{MOST_X, MOST_Y}
-use Rattle.cell_draw.specs.declared.measure.TheConstants.{ROW_EDGE, LEAST_ROW, EDGE_SPACE, LEAST_CHANNEL}
+use Rattle.cell_draw.specs.declared.measure.TheConstants.{EDGE_SPACE}
 use Rattle.cell_draw.specs.declared.layout.Frame.{Frame}
 use Rattle.cell_draw.specs.declared.layout.Strip.{Strip}
 use Rattle.cell_draw.specs.declared.layout.Contact.{Contact}
@@ -13,7 +13,7 @@ use Rattle.cell_draw.specs.declared.layout.Gate.{Gate}
 use Rattle.cell_draw.specs.declared.layout.Bar.{Bar}
 use Rattle.cell_draw.specs.declared.layout.Layout.{Layout}
 use Rattle.cell_draw.specs.declared.layout.Tag.{Tag}
-use Rattle.cell_draw.specs.Laid.{row_height, IsWidth, HasFinger}
+use Rattle.cell_draw.specs.Laid.{HasRows, row_height, IsWidth, HasFinger}
 
 -- where a place is filled its finger is 6 to 400 wide
 abbrev pub IsFingerWidth : Option Placed → Type 0
@@ -26,12 +26,8 @@ pub record HasWidths (c : Column) : Type 0 where
   pub p : IsFingerWidth c.p
 
 pub record IsSmallFrame (f : Frame) : Type 0 where
-  pub low : f.yn ≡ ROW_EDGE + f.hn
-  pub channel : f.yn + LEAST_CHANNEL ≤ f.yp
-  pub n_least : LEAST_ROW ≤ f.hn
-  pub p_least : LEAST_ROW ≤ f.hp
+  pub rows : HasRows f
   pub top : f.yp + f.hp ≤ 100000
-  pub wide : 2 * SIDE_SPACE ≤ f.width
   pub right : f.width ≤ MOST_X + SIDE_SPACE
 
 -- the height lies where tracks may

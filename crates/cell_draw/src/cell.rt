@@ -24,7 +24,9 @@ use crate::groups::shapes;
 use crate::labels::labels;
 use crate::plan::base;
 use crate::wiring::draw_wiring;
-use crate::{DrawFault, Drawing, Frame, Layout, MOST_HEIGHT, MOST_TRACKS, MOST_X, ROW_EDGE};
+use crate::{
+    DrawFault, Drawing, Frame, Layout, MOST_HEIGHT, MOST_TRACKS, MOST_X, MOST_Y, ROW_EDGE,
+};
 use box_geom::Shapes;
 use cell_num::{Name, Names, NoMemory, Pins};
 use channel_route::Routing;
@@ -40,6 +42,7 @@ pub fn drawing(alloc: Global, names: &[Name], layout: &Layout) -> Result<Drawing
     requires { IsSmall layout.now }
     ensures exact { IfOk result (λ d. d ≡ drawing_of names.now layout.now) }
     ensures within { IfOk result (λ d. AreWithin d.shapes) }
+    ensures low { IfOk result (λ d. d.height ≤ MOST_Y) }
 {
     let rects = shapes(alloc, layout)?;
     let labels = labels(alloc, names, layout.tags.as_slice())?;
@@ -106,6 +109,7 @@ pub fn draw(
     ensures height { IfOk result (λ d. d.height ≡ height_given placement.now.row routing.now.tracks height) }
     ensures few { IfOk result (λ d. length d.shapes.rects < MOST_SHAPES) }
     ensures within { IfOk result (λ d. AreWithin d.shapes) }
+    ensures low { IfOk result (λ d. d.height ≤ MOST_Y) }
     ensures framed { IfOk result (IsFramed (frame_of placement.now.row routing.now.tracks height
         (width_of placement.now xs.now)) xs.now) }
     // it begins with the drawing of the rows alone
@@ -119,7 +123,7 @@ pub fn draw(
     ensures tall { SaysTooTall placement.now.row routing.now.tracks height result }
     ensures cause { IfErr result (IsCause placement.now.row routing.now.tracks height) }
 {
-    match draw_wiring(
+    draw_wiring(
         alloc,
         names,
         pins,
@@ -128,10 +132,7 @@ pub fn draw(
         &routing.trunks,
         xs,
         height,
-    ) {
-        Ok(drawing) => Ok(drawing),
-        Err(fault) => Err(fault),
-    }
+    )
 }
 
 // The drawing of the rows alone, exactly.
@@ -151,6 +152,7 @@ fn base_drawn(
     requires height { height ≤ MOST_HEIGHT }
     ensures exact { IfOk result (λ d. d ≡ base_drawn_of pins.now placement.now tracks xs.now height) }
     ensures within { IfOk result (λ d. AreWithin d.shapes) }
+    ensures low { IfOk result (λ d. d.height ≤ MOST_Y) }
     ensures fits { IfOk result (λ d. IsTooTall placement.now.row tracks height → ⊥) }
     ensures tall { SaysTooTall placement.now.row tracks height result }
     ensures cause { IfErr result (IsCause placement.now.row tracks height) }
@@ -181,14 +183,12 @@ pub fn draw_base(
     ensures width { IfOk result (λ d. d.width ≡ x_at xs.now (2 * length placement.now.units) + 8) }
     ensures height { IfOk result (λ d. d.height ≡ height_given placement.now.row tracks height) }
     ensures within { IfOk result (λ d. AreWithin d.shapes) }
+    ensures low { IfOk result (λ d. d.height ≤ MOST_Y) }
     ensures framed { IfOk result (IsFramed (frame_of placement.now.row tracks height
         (width_of placement.now xs.now)) xs.now) }
     ensures fits { IfOk result (λ d. IsTooTall placement.now.row tracks height → ⊥) }
     ensures tall { SaysTooTall placement.now.row tracks height result }
     ensures cause { IfErr result (IsCause placement.now.row tracks height) }
 {
-    match base_drawn(alloc, pins, placement, tracks, xs, height) {
-        Ok(drawing) => Ok(drawing),
-        Err(fault) => Err(fault),
-    }
+    base_drawn(alloc, pins, placement, tracks, xs, height)
 }

@@ -1,6 +1,6 @@
 // The contacted node places of a layout.
 
-ghost use Rattle.std.specs.Prelude.{◌≡◌, ◌≤◌, ◌<◌, ◌==◌, ◌||◌, All, IfOk, IfSome, filter_map};
+ghost use Rattle.std.specs.Prelude.{◌≡◌, ◌≤◌, ◌<◌, ◌==◌, All, IfOk, filter_map};
 ghost use Rattle.std.specs.Option.{option_copied};
 ghost use Rattle.channel_route.specs.Routing.{holds_line};
 ghost use Rattle.cell_draw.specs.Layouts.{trunk_of, holds, farther, far, reach_of, contact_of};

@@ -3,7 +3,7 @@
 ghost use Rattle.std.specs.Prelude.{◌≡◌, ◌≤◌, ◌++◌, ◌∷◌, [], All, IfOk, OnOk};
 ghost use Rattle.std.specs.List.{flat_map};
 ghost use Rattle.cell_draw.specs.Shapes.{frame_shapes, finger, reach_shapes, contact_shapes, pad_shapes, gate_shapes, via_shapes, bar_shapes, shapes_of};
-ghost use Rattle.cell_draw.specs.Small.{IsSmall, IsSmallFrame, IsSmallStrip, IsSmallContact, IsSmallGate, IsSmallBar, IsHeight, IsReach};
+ghost use Rattle.cell_draw.specs.Small.{IsSmall, IsSmallFrame, IsSmallStrip, IsSmallContact, IsSmallGate, IsSmallBar, IsReach};
 
 use crate::{
     Bar, Contact, Frame, Gate, HALF_CUT, HALF_PAD, Layout, MOST_X, MOST_Y, Strip, channel_shapes,

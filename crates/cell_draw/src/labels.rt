@@ -1,7 +1,6 @@
 // Where the names of the nets stand, and the labels there.
 
-ghost use Rattle.std.specs.Prelude.{◌≡◌, ◌≤◌, ◌+◌, ℕ, ◌==◌, ◌++◌, [], get_or, option_to_list, All, IfOk, OnOk, filter_map, map, find};
-ghost use Rattle.std.specs.List.{range_with_len};
+ghost use Rattle.std.specs.Prelude.{◌≡◌, ◌≤◌, ◌+◌, ◌==◌, ◌++◌, [], get_or, option_to_list, All, IfOk, OnOk, map, find};
 ghost use Rattle.std.specs.Option.{option_copied};
 ghost use Rattle.cell_draw.specs.Drawings.{label_of};
 ghost use Rattle.cell_draw.specs.Layouts.{node_tag, gate_y, gate_tag, metal_tag, place_tag, net_tag, tag_of, tags_of};

@@ -20,7 +20,7 @@ ghost use Rattle.cell_draw.specs.Sound.{IsSoundRow};
 
 use crate::cell::{drawing, fitting_frame};
 use crate::plan::layout;
-use crate::{DrawFault, Drawing, MOST_HEIGHT, MOST_SHAPES, MOST_X};
+use crate::{DrawFault, Drawing, MOST_HEIGHT, MOST_SHAPES, MOST_X, MOST_Y};
 use cell_num::{Names, Pins};
 use channel_route::TrunkList;
 use row_compact::LineXs;
@@ -47,6 +47,7 @@ fn drawn(
     ensures exact { IfOk result (λ d. d ≡ drawn_of names.now pins.now placement.now
         (wiring_of tracks trunks.now) xs.now height) }
     ensures within { IfOk result (λ d. AreWithin d.shapes) }
+    ensures low { IfOk result (λ d. d.height ≤ MOST_Y) }
     ensures fits { IfOk result (λ d. IsTooTall placement.now.row tracks height → ⊥) }
     ensures tall { SaysTooTall placement.now.row tracks height result }
     ensures cause { IfErr result (IsCause placement.now.row tracks height) }
@@ -84,6 +85,7 @@ pub fn draw_wiring(
     ensures height { IfOk result (λ d. d.height ≡ height_given placement.now.row tracks height) }
     ensures few { IfOk result (λ d. length d.shapes.rects < MOST_SHAPES) }
     ensures within { IfOk result (λ d. AreWithin d.shapes) }
+    ensures low { IfOk result (λ d. d.height ≤ MOST_Y) }
     ensures named { IfOk result (λ d. All (λ (l : SomeLabel). Contains names.now l.name) d.shapes.labels) }
     ensures extracts { IfOk result (λ d. ExtractsToRow Plain names.now pins.now placement.now.row d.shapes) }
     ensures shows { IfOk result (λ d. ShowsColumns Plain names.now pins.now placement.now.row d.shapes) }
@@ -96,8 +98,5 @@ pub fn draw_wiring(
     ensures tall { SaysTooTall placement.now.row tracks height result }
     ensures cause { IfErr result (IsCause placement.now.row tracks height) }
 {
-    match drawn(alloc, names, pins, placement, tracks, trunks, xs, height) {
-        Ok(drawing) => Ok(drawing),
-        Err(fault) => Err(fault),
-    }
+    drawn(alloc, names, pins, placement, tracks, trunks, xs, height)
 }

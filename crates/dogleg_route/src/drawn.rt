@@ -82,7 +82,7 @@ pub fn draw_pieces(
     ensures tall { SaysTooTall placement.now.row routing.now.tracks height result }
     ensures cause { IfErr result (IsCause placement.now.row routing.now.tracks height) }
 {
-    match draw_wiring(
+    draw_wiring(
         alloc,
         names,
         pins,
@@ -91,8 +91,5 @@ pub fn draw_pieces(
         &routing.pieces,
         xs,
         height,
-    ) {
-        Ok(drawing) => Ok(drawing),
-        Err(fault) => Err(fault),
-    }
+    )
 }

@@ -29,7 +29,6 @@ pub enum PieceStop {
 
 impl From<AllocError> for PieceStop {
     ghost use Rattle.std.specs.Prelude.{◌≡◌};
-    ghost use Rattle.dogleg_route.specs.declared.piece.PieceStop.{PieceStop as Stop};
     ghost use Rattle.dogleg_route.specs.declared.piece.PieceStop.TheVariants.{NoMemory as OutOfMemory};
 
     ghost from_gives = { λ _ e. e ≡ OutOfMemory };

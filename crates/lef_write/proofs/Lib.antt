@@ -10,3 +10,4 @@ pub mod Ranges
 pub mod Rest
 pub mod Shown
 pub mod Sized
+pub mod TrunkPorts

@@ -26,10 +26,10 @@ use Rattle.cell_draw.specs.declared.layout.Layout.{Layout}
 use Rattle.cell_draw.specs.declared.layout.Tag.{Tag}
 use Rattle.cell_draw.specs.Drawings.{label_of, drawn_of}
 use Rattle.cell_draw.specs.Frame.{track_y}
-use Rattle.cell_draw.specs.Layouts.{width_of, trunk_of, bar_of, metal_tag, tag_of, gates_on, net_no as net_at, layout_of}
+use Rattle.cell_draw.specs.Layouts.{width_of, trunk_of, bar_of, metal_tag, tag_of, gates_on, net_no, layout_of}
 use Rattle.cell_draw.specs.Shapes.{gnd_rail, vdd_rail, bar_metal}
 use Rattle.row_place.specs.Units.{seats_of}
-use Rattle.lef_write.specs.Ports.{net_no, ports_of}
+use Rattle.lef_write.specs.Ports.{ports_of}
 use Rattle.lef_write.specs.Drawn.{IsLabelled, IsMetal1, HasPort, HasPorts}
 use Rattle.lef_write.proofs.Own.{found_first, pin_shapes, gnd_shapes, vdd_shapes, signal_shapes, trunk_shape}
 use Rattle.lef_write.proofs.PinShapes.{FirstKept, first_kept}
@@ -82,7 +82,7 @@ in_range a (suc count) n le lt = elim (cases_eq a n) [
 abbrev drawn_tag : List (List ℕ) → Pins → Placement → Routing → List ℕ → ℕ → ℕ → Option Tag
 drawn_tag names pins p r xs height n =
     let l : Layout = layout_of (length names) pins p r xs height in
-    tag_of pins l.frame p.nodes r.trunks xs (gates_on l.frame r.trunks xs (seats_of p.row)) (net_at n)
+    tag_of pins l.frame p.nodes r.trunks xs (gates_on l.frame r.trunks xs (seats_of p.row)) (net_no n)
 
 tagged : (names : List (List ℕ)) (pins : Pins) (p : Placement) (r : Routing) (xs : List ℕ) (height n : ℕ) (tag : Tag) → n < length names → drawn_tag names pins p r xs height n ≡ Some tag → Contains (drawn_of names pins p r xs height).shapes.labels (label_of names tag)
 tagged names pins p r xs height n tag lt e = contains_map (label_of names) (layout_of (length names) pins p r xs height).tags tag (contains_filter_map (drawn_tag names pins p r xs height) (range_with_len 0 (length names)) n tag (in_range 0 (length names) n (omega arith) (omega (arith, lt))) e)
@@ -104,8 +104,8 @@ gnd_named : (names : List (List ℕ)) (pins : Pins) (p : Placement) (r : Routing
 gnd_named names pins p r xs height n g e =
     let far : 16 ≤ width_of p xs = wide p pins r xs g.allowed in
     record {
-      label = label_of names (metal_tag 8 8 (net_at n));
-      listed = tagged names pins p r xs height n (metal_tag 8 8 (net_at n)) g.net (rw (eq-eqb n pins.gnd.0 e) refl);
+      label = label_of names (metal_tag 8 8 (net_no n));
+      listed = tagged names pins p r xs height n (metal_tag 8 8 (net_no n)) g.net (rw (eq-eqb n pins.gnd.0 e) refl);
       name = refl;
       layer = refl;
       holds = record { left = omega (arith, ints); right = omega (arith, ints, far); low = omega (arith, ints); high = omega (arith, ints) };
@@ -115,7 +115,7 @@ vdd_named : (names : List (List ℕ)) (pins : Pins) (p : Placement) (r : Routing
 vdd_named names pins p r xs height n g other e =
     let far : 16 ≤ width_of p xs = wide p pins r xs g.allowed in
     record {
-      label = label_of names (metal_tag 8 ((layout_of (length names) pins p r xs height).frame.yp + (layout_of (length names) pins p r xs height).frame.hp + 16) (net_at n));
+      label = label_of names (metal_tag 8 ((layout_of (length names) pins p r xs height).frame.yp + (layout_of (length names) pins p r xs height).frame.hp + 16) (net_no n));
       listed = tagged names pins p r xs height n _ g.net (rw (ne_eqb n pins.gnd.0 other, eq-eqb n pins.vdd.0 e) refl);
       name = refl;
       layer = refl;
@@ -128,7 +128,7 @@ trunk_named names pins p r xs height n t g no_gnd no_vdd found =
     let ends : AreEnds p t = All-contains (AreEnds p) r.trunks t g.wiring.ends there in
     let ascends : x_of xs t.left ≤ x_of xs t.right = rising p pins r xs g.allowed t.left t.right ends.ascending (wired_right p pins r g.placed g.wiring t there) in
     record {
-      label = label_of names (metal_tag (x_of xs t.left) (track_y (layout_of (length names) pins p r xs height).frame t.track) (net_at n));
+      label = label_of names (metal_tag (x_of xs t.left) (track_y (layout_of (length names) pins p r xs height).frame t.track) (net_no n));
       listed = tagged names pins p r xs height n _ g.net (rw (ne_eqb n pins.gnd.0 no_gnd, ne_eqb n pins.vdd.0 no_vdd, found) refl);
       name = refl;
       layer = refl;

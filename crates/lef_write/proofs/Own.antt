@@ -11,10 +11,10 @@ use Rattle.box_geom.specs.declared.shape.Shape.{Shape}
 use Rattle.channel_route.specs.declared.routing.Trunk.{Trunk}
 use Rattle.cell_draw.specs.declared.layout.Bar.{Bar}
 use Rattle.cell_draw.specs.declared.layout.Layout.{Layout}
-use Rattle.cell_draw.specs.Layouts.{trunk_of}
+use Rattle.cell_draw.specs.Layouts.{trunk_of, net_no}
 use Rattle.cell_draw.specs.Shapes.{gnd_rail, vdd_rail, bar_metal, shapes_of}
 use Rattle.lef_write.specs.declared.port.Port.{Port}
-use Rattle.lef_write.specs.Ports.{last_ones, net_no, ports_on, ports_of, port_shapes}
+use Rattle.lef_write.specs.Ports.{last_ones, ports_on, ports_of, port_shapes}
 use Rattle.lef_write.proofs.PinShapes.{shape_at, Ascend, of_pin, at_trunks, one_trunk}
 use Rattle.lef_write.proofs.PortPlaces.{stands}
 use Rattle.lef_write.proofs.Shown.{places, at_last}

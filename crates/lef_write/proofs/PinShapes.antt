@@ -9,8 +9,9 @@ use Rattle.cell_num.proofs.Lists.{some_same, all_imply}
 use Rattle.cell_num.proofs.Pairs.{pairs_tail, pairs_head}
 use Rattle.box_geom.specs.declared.shape.Shape.{Shape}
 use Rattle.channel_route.specs.declared.routing.Trunk.{Trunk}
+use Rattle.cell_draw.specs.Layouts.{net_no}
 use Rattle.lef_write.specs.declared.port.Port.{Port}
-use Rattle.lef_write.specs.Ports.{net_no, trunk_ports, shape_of, port_shapes}
+use Rattle.lef_write.specs.Ports.{trunk_ports, shape_of, port_shapes}
 
 abbrev pub shape_at : List Shape → Port → Option Shape
 shape_at rects port = slice_get rects port.shape

@@ -9,8 +9,9 @@ use Rattle.cell_num.proofs.Lists.{some_same, contains_none, contains_cons, conta
 use Rattle.cell_num.proofs.Pairs.{pairs_none, pairs_at, pairs_tail, pairs_head, pairs_flat}
 use Rattle.std.proofs.lemmas.List.Elements.{All-contains}
 use Rattle.channel_route.specs.declared.routing.Trunk.{Trunk}
+use Rattle.cell_draw.specs.Layouts.{net_no}
 use Rattle.lef_write.specs.declared.port.Port.{Port}
-use Rattle.lef_write.specs.Ports.{last_ones, net_no, port_with, rail_port, trunk_port, trunk_ports, ports_on}
+use Rattle.lef_write.specs.Ports.{last_ones, port_with, rail_port, trunk_port, trunk_ports, ports_on}
 use Rattle.lef_write.proofs.Members.{Differ}
 
 -- ---- a list beside another

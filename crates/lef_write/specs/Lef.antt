@@ -12,8 +12,9 @@ use Rattle.spice_net.specs.declared.subckt.Direction.TheVariants.{Input, Output,
 use Rattle.spice_net.specs.declared.subckt.Subckt.{Subckt}
 use Rattle.channel_route.specs.declared.routing.Routing.{Routing}
 use Rattle.cell_draw.specs.declared.drawing.Drawing.{Drawing}
+use Rattle.cell_draw.specs.Layouts.{net_no}
 use Rattle.lef_write.specs.declared.port.Port.{Port}
-use Rattle.lef_write.specs.Ports.{net_no, ports_of, port_shapes, obstructions_on}
+use Rattle.lef_write.specs.Ports.{ports_of, port_shapes, obstructions_on}
 
 -- ---- numbers
 

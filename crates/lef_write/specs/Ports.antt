@@ -8,6 +8,7 @@ use Rattle.box_geom.specs.declared.layer.Layer.TheVariants.{Metal1, Metal2}
 use Rattle.box_geom.specs.declared.shape.Shape.{Shape}
 use Rattle.box_geom.specs.Layers.{same_layer}
 use Rattle.channel_route.specs.declared.routing.Trunk.{Trunk}
+use Rattle.cell_draw.specs.Layouts.{net_no}
 use Rattle.lef_write.specs.declared.port.Port.{Port}
 
 -- ---- where metal1 stands
@@ -23,9 +24,6 @@ places_on layer rects = filter_map (place_on layer) (enumerate_from 0 rects)
 -- the last items of a list, so many
 abbrev pub last_ones : {X : Type 0} → ℕ → List X → List X
 last_ones count xs = drop (length xs - count) xs
-
-abbrev pub net_no : ℕ → NetNo
-net_no n = record { 0 = n }
 
 abbrev pub port_with : NetNo → ℕ → Port
 port_with pin place = record { pin = pin; shape = place }

@@ -1,5 +1,5 @@
 // Lengths and coordinates in microns.
-ghost use Rattle.std.specs.Prelude.{◌≡◌, ◌≤◌, ◌<◌, ◌++◌, OnOk};
+ghost use Rattle.std.specs.Prelude.{◌≡◌, ◌<◌, ◌++◌, OnOk};
 ghost use Rattle.lef_write.specs.Lef.{digit, microns, minus_of, coordinate};
 
 use cell_num::{Bytes, NoMemory, put_number};

@@ -1,5 +1,5 @@
 // The pins of a macro.
-ghost use Rattle.std.specs.Prelude.{◌≡◌, ◌≤◌, ◌<◌, ◌++◌, length, OnOk};
+ghost use Rattle.std.specs.Prelude.{◌≡◌, ◌<◌, ◌++◌, OnOk};
 ghost use Rattle.lef_write.specs.Lef.{direction_text, use_text, name_of, direction_of, port_text, pin_text, pins_text};
 
 use crate::Port;

@@ -2,12 +2,12 @@ ghost use Rattle.std.specs.Prelude.{◌≡◌, ◌≤◌, ◌<◌, ◌++◌, len
 ghost use Rattle.lef_write.specs.Lef.{head_text, size_text, macro_text, library_text, cell_text};
 ghost use Rattle.lef_write.specs.Ports.{IsPort};
 
+use crate::PortList;
 use crate::number::put_microns;
 use crate::obstructions::put_obstructions;
 use crate::pins::put_pins;
 use crate::ports::{obstructions_on, ports_of};
-use crate::{Port, PortList};
-use box_geom::{Layer, Shape};
+use box_geom::Layer;
 use cell_draw::{Drawing, MOST_SHAPES};
 use cell_num::{Bytes, NoMemory, put_text};
 use channel_route::Routing;
