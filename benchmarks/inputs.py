@@ -144,6 +144,8 @@ def wide(name, columns):
 
 
 METAL1 = 49
+VIA = 50
+METAL2 = 51
 UNIT_NM = 150
 
 
@@ -172,6 +174,20 @@ def library(structures):
 def drawn(places):
     """Metal1 rectangles, ten units wide and high, whose lower left corners stand at these places in units."""
     return b"".join(boundary(METAL1, x * UNIT_NM, y * UNIT_NM, (x + 10) * UNIT_NM, (y + 10) * UNIT_NM) for x, y in places)
+
+
+def rectangle(layer, x1, y1, x2, y2):
+    return boundary(layer, x1 * UNIT_NM, y1 * UNIT_NM, x2 * UNIT_NM, y2 * UNIT_NM)
+
+
+def crossing(count):
+    """As many bars of metal1 as of metal2 above them, all of which cross, and as many vias, each at one of the crossings."""
+    bars = count // 3
+    pitch, end = 16, 16 * bars
+    return b"".join(rectangle(METAL1, 0, pitch * i, end, pitch * i + 8)
+                    + rectangle(METAL2, pitch * i, 0, pitch * i + 8, end)
+                    + rectangle(VIA, pitch * i + 2, pitch * (7 * i % bars) + 2, pitch * i + 6, pitch * (7 * i % bars) + 6)
+                    for i in range(bars))
 
 
 def extracted(elements, others=b""):
@@ -243,5 +259,8 @@ MEASURES = [
      extracted(drawn((10 * (i % 100), 10 * (i // 100)) for i in range(10000)))),
     ("extract: cells of 8 columns side by side, 10,000 rectangles", side_by_side(wide("eight", 8), "eight", 10000)),
     ("extract: a small cell in a file of a million rectangles", large_file),
+    ("extract: bars that cross, 1,000 rectangles", extracted(crossing(1000))),
+    ("extract: bars that cross, 3,000 rectangles", extracted(crossing(3000))),
+    ("extract: bars that cross, 10,000 rectangles", extracted(crossing(10000))),
     ("make: 32 columns", made(wide("wide", 32), "wide", 200000)),
 ]

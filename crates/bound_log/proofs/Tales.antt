@@ -38,6 +38,28 @@ tale_append r (x ∷ xs) b =
     ap (λ (t : Tale). record { items = first.items ++ t.items; reader = t.reader }) (tale_append first.reader xs b)
     ∙ sym (then_again first (λ s. tale_of s xs) (λ s. tale_of s b))
 
+-- the kinds stay
+line_kinds : (r : Reader) (said : Result Said LogFault) → (behind_line r said).kinds ≡ r.kinds
+line_kinds r (Ok said) = refl
+line_kinds r (Err f) = refl
+
+byte_kinds : (r : Reader) (b : ℕ) → (byte_tale r b).reader.kinds ≡ r.kinds
+byte_kinds r b = elim (cases_Bool (b == 10)) [ inl feed ↦ rw feed (line_kinds r (whole_says r r.line)) | inr other ↦ rw other refl ]
+
+next_kinds : (o : Option LogFault) (p : LogPlace) (r : Reader) (b : ℕ) → (next_tale o p r b).reader.kinds ≡ r.kinds
+next_kinds (Some f) p r b = refl
+next_kinds None place.Behind r b = refl
+next_kinds None place.Version r b = byte_kinds r b
+next_kinds None (place.Cell version) r b = byte_kinds r b
+next_kinds None place.Lemmas r b = byte_kinds r b
+next_kinds None place.Columns r b = byte_kinds r b
+next_kinds None place.End r b = byte_kinds r b
+
+pub tale_kinds : (r : Reader) (bytes : List ℕ) → (tale_of r bytes).reader.kinds ≡ r.kinds
+unfolding tale_of
+tale_kinds r [] = refl
+tale_kinds r (b ∷ bytes) = tale_kinds (next_tale r.fault r.place r b).reader bytes ∙ next_kinds r.fault r.place r b
+
 -- no byte counts behind a fault
 pub stays : (r : Reader) (f : LogFault) (bytes : List ℕ) → r.fault ≡ Some f → tale_of r bytes ≡ no_more r
 unfolding tale_of

@@ -25,13 +25,9 @@ more_at (c ∷ cs) zero d within = omega (arith, length-append (44 ∷ decimal c
 more_at (c ∷ cs) (suc i) d within =
     omega (arith, more_at cs i d (omega (arith, within)), length-append (44 ∷ decimal c) (more_counts_text (take i cs)), length-append (44 ∷ decimal c) (more_counts_text cs))
 
--- no room for a comma
-pub comma_full : (counts : List ℕ) (i old now : ℕ) → i < length counts → old ≤ now + length (more_counts_text (take i counts)) → now < 1 → old < length (more_counts_text counts)
-comma_full counts i old now within left full = omega (arith, more_at counts i 0 within, left, full)
-
--- nor for the count behind it
-pub count_full : (counts : List ℕ) (i d old now mid : ℕ) → i < length counts → old ≤ now + length (more_counts_text (take i counts)) → now ≤ mid + 1 → mid < length (decimal (get_or counts i d)) → old < length (more_counts_text counts)
-count_full counts i d old now mid within left more full = omega (arith, more_at counts i d within, left, more, full)
+-- no room for the next count
+pub next_full : (counts : List ℕ) (i d old now : ℕ) → i < length counts → old ≤ now + length (more_counts_text (take i counts)) → now < 1 + length (decimal (get_or counts i d)) → old < length (more_counts_text counts)
+next_full counts i d old now within left full = omega (arith, more_at counts i d within, left, full)
 
 counts_length : (counts : List ℕ) (d : ℕ) → 1 ≤ length counts → length (counts_text counts) ≡ length (decimal (get_or counts 0 d)) + length (more_counts_text (take (length counts - 1) (drop 1 counts)))
 counts_length [] d some = absurd (omega (arith, some))

@@ -8,11 +8,13 @@ use Rattle.bound_log.specs.declared.item.LogItem.{LogItem}
 use Rattle.bound_log.specs.declared.item.LogItem.TheVariants as item
 use Rattle.bound_log.specs.declared.item.LogPlace.{LogPlace}
 use Rattle.bound_log.specs.declared.item.LogPlace.TheVariants as place
+use Rattle.bound_log.specs.declared.out.TheConstants.{MOST_LINE_BYTES}
 use Rattle.bound_log.specs.declared.said.Said.{Said}
 use Rattle.bound_log.specs.declared.log.LogStep.{LogStep}
 use Rattle.bound_log.specs.declared.log.Log.{Log}
 use Rattle.bound_log.specs.declared.log.Entry.{Entry}
 use Rattle.bound_log.specs.declared.log.Entry.TheVariants as entry
+use Rattle.bound_log.specs.Fits.{LemmaFits}
 use Rattle.bound_log.specs.Line.{entry_in, is_word, column_in, version_in, words_in}
 
 -- Where a reader of a log for this name and these kinds stands.
@@ -67,17 +69,18 @@ line_says name k place.Columns n line = columns_say k n line
 line_says name k place.End n line = said_if (is_word line (codes "end")) item.End place.Behind (fault.Line n)
 line_says name k place.Behind n line = Err (fault.Line n)
 
--- a head has one of the versions
-abbrev pub HeadFits : LogItem → Type 0
-HeadFits (item.Head version) = IsVersion version
-HeadFits _ = Unit {0}
+-- a head has one of the versions, and a lemma is in range for the kinds
+abbrev pub ItemFits : Kinds → LogItem → Type 0
+ItemFits k (item.Head version) = IsVersion version
+ItemFits k (item.Lemma lemma) = LemmaFits k lemma
+ItemFits k _ = Unit {0}
 
 abbrev pub PlaceFits : LogPlace → Type 0
 PlaceFits (place.Cell version) = IsVersion version
 PlaceFits _ = Unit {0}
 
-abbrev pub SaidFits : Said → Type 0
-SaidFits said = HeadFits said.item × PlaceFits said.next
+abbrev pub SaidFits : Kinds → Said → Type 0
+SaidFits k said = ItemFits k said.item × PlaceFits said.next
 
 -- what is wrong there with a line of another form
 abbrev pub wrong_at : LogPlace → ℕ → LogFault
@@ -93,14 +96,14 @@ abbrev pub whole_says : Reader → Option (List ℕ) → Result Said LogFault
 whole_says r (Some line) = line_says r.name r.kinds r.place r.number line
 whole_says r None = Err (wrong_at r.place r.number)
 
--- with some bytes more; a line of a log has at most 300
+-- with some bytes more; a line of a log has only so many
 abbrev pub longer : Option (List ℕ) → List ℕ → Option (List ℕ)
 longer None part = None
-longer (Some line) part = if leb (length line + length part) 300 then Some (line ++ part) else None
+longer (Some line) part = if leb (length line + length part) MOST_LINE_BYTES then Some (line ++ part) else None
 
 -- it holds no more than a line of a log can
 abbrev pub IsShort : Option (List ℕ) → Type 0
-IsShort line = IfSome line (λ bytes. length bytes ≤ 300)
+IsShort line = IfSome line (λ bytes. length bytes ≤ MOST_LINE_BYTES)
 
 abbrev pub with_line : Reader → Option (List ℕ) → Reader
 with_line r line = record { name = r.name; kinds = r.kinds; place = r.place; number = r.number; line = line; fault = r.fault }

@@ -41,13 +41,14 @@ pub(crate) struct LineRoom {
 }
 
 impl Model for LineRoom {
-    ghost use Rattle.std.specs.Prelude.{◌≡◌, ℕ, List as Sequence};
+    ghost use Rattle.std.specs.Prelude.{◌≡◌, ◌+◌, ℕ, List as Sequence};
+    ghost use Rattle.bound_log.specs.declared.out.TheConstants.{MOST_LINE_BYTES};
 
     ghost Value = { Sequence ℕ };
 
     ghost view = { λ l. l.bytes.items };
 
-    ghost invariant = { λ l. l.bytes.most ≡ 301 };
+    ghost invariant = { λ l. l.bytes.most ≡ MOST_LINE_BYTES + 1 };
 }
 
 impl LineRoom {
@@ -88,9 +89,11 @@ impl LineRoom {
 }
 
 impl Out for LineRoom {
+    ghost use Rattle.bound_log.specs.declared.out.TheConstants.{MOST_LINE_BYTES};
+
     ghost text = { λ line. line };
 
-    ghost room = { λ line. 301 - length line };
+    ghost room = { λ line. MOST_LINE_BYTES + 1 - length line };
 
     fn put(&mut self, bytes: &[u8]) -> Result<(), NoMemory> {
         if self.left() < bytes.len() {

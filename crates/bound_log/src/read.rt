@@ -17,7 +17,7 @@ use std::alloc::Global;
 // The line `end`, and nothing behind it.
 #[tactic(auto, using(crate::proofs::Feeds::ended, crate::proofs::Feeds::ended_before, crate::proofs::Feeds::not_ended))]
 fn read_end(bytes: &[u8], number: u32) -> Result<(), LogFault>
-    requires { number ≤ 4000000000 }
+    requires { number ≤ MOST_BYTES + 4 }
     ensures { result ≡ end_at number (lines_in bytes.now) (behind bytes.now) }
 {
     let Some(first) = first_line(bytes) else {
@@ -35,7 +35,7 @@ fn read_end(bytes: &[u8], number: u32) -> Result<(), LogFault>
 // The columns up to the line `end`, the last.
 #[tactic(auto, using(crate::proofs::Fronts::columns_cut, crate::proofs::Fronts::columns_done, crate::proofs::Fronts::columns_open, crate::proofs::Fronts::columns_wrong, crate::proofs::Fronts::columns_more))]
 fn read_columns(alloc: Global, kinds: &Kinds, bytes: &[u8], from: u32) -> Result<LogSteps, LogFault>
-    requires few { length bytes.now + from ≤ 2000000000 }
+    requires few { length bytes.now + from ≤ MOST_BYTES + 3 }
     ensures steps { IfOk result (λ steps.
         columns_at kinds.now from (lines_in bytes.now) (behind bytes.now) ≡ Ok steps) }
     ensures fault { IfErr result (λ f. f ≢ fault.NoMemory →
@@ -70,7 +70,7 @@ fn read_lemmas(
     bytes: &[u8],
     from: u32,
 ) -> Result<Log, LogFault>
-    requires few { length bytes.now + from ≤ 2000000000 }
+    requires few { length bytes.now + from ≤ MOST_BYTES + 3 }
     ensures log { IfOk result (λ log.
         log_at version kinds.now from (lines_in bytes.now) (behind bytes.now) ≡ Ok log) }
     ensures fault { IfErr result (λ f. f ≢ fault.NoMemory →

@@ -2,7 +2,7 @@ ghost use Rattle.std.specs.Prelude.{◌≡◌, ◌≢◌, ◌≤◌, ◌<◌, �
 ghost use Rattle.std.specs.Option.{is_some};
 ghost use Rattle.bound_log.specs.declared.fault.LogFault.TheVariants as fault;
 ghost use Rattle.bound_log.specs.Fits.{IsLogName};
-ghost use Rattle.bound_log.specs.Pieces.{HeadFits, IsShort, PlaceFits, SaidFits, begun, behind_line, ended, line_bytes, longer, passed, refused, tale_of, told, whole_says, with_line};
+ghost use Rattle.bound_log.specs.Pieces.{IsShort, ItemFits, PlaceFits, SaidFits, begun, behind_line, ended, line_bytes, longer, passed, refused, tale_of, told, whole_says, with_line};
 
 use crate::lines::find_feed;
 use crate::out::LineRoom;
@@ -31,6 +31,7 @@ pub struct LogReader {
 
 impl Model for LogReader {
     ghost use Rattle.std.specs.Prelude.{◌≤◌, None, Some, if◌then◌else◌, length};
+    ghost use Rattle.bound_log.specs.declared.out.TheConstants.{MOST_LINE_BYTES};
     ghost use Rattle.bound_log.specs.Pieces.{PlaceFits, Reader};
 
     ghost Value = { Reader };
@@ -44,7 +45,7 @@ impl Model for LogReader {
       fault = r.fault;
     } };
 
-    ghost invariant = { λ r. (length r.line ≤ 300) × PlaceFits r.place };
+    ghost invariant = { λ r. (length r.line ≤ MOST_LINE_BYTES) × PlaceFits r.place };
 }
 
 impl LogReader {
@@ -88,9 +89,10 @@ impl LogReader {
     // What the line says that these bytes are.
     fn say_whole(&self, line: &[u8]) -> Result<Said, LogFault>
         ensures said { IfOk result (λ said. whole_says self.now (Some line.now) ≡ Ok said) }
-        ensures fits { IfOk result SaidFits }
+        ensures fits { IfOk result (SaidFits self.now.kinds) }
         ensures fault { IfErr result (λ f. f ≢ fault.NoMemory → whole_says self.now (Some line.now) ≡ Err f) }
     {
+        self.kinds.show_limits();
         say_line(
             self.alloc,
             &self.name,
@@ -106,7 +108,7 @@ impl LogReader {
         ensures same { self.new ≡ self.old }
         ensures short { IsShort self.old.line }
         ensures said { IfOk result (λ said. whole_says self.old (longer self.old.line part.now) ≡ Ok said) }
-        ensures fits { IfOk result SaidFits }
+        ensures fits { IfOk result (SaidFits self.old.kinds) }
         ensures fault { IfErr result (λ f.
             f ≢ fault.NoMemory → whole_says self.old (longer self.old.line part.now) ≡ Err f) }
     {
@@ -132,7 +134,7 @@ impl LogReader {
 
     fn pass(&mut self, next: LogPlace)
         requires fault { self.old.fault ≡ None }
-        requires few { self.old.number ≤ 2000000000 }
+        requires few { self.old.number ≤ MOST_BYTES + 1 }
         requires fits { PlaceFits next }
         ensures { self.new ≡ passed self.old next }
     {
@@ -145,10 +147,10 @@ impl LogReader {
     // The line feed behind these bytes.
     fn end_line(&mut self, part: &[u8]) -> Result<Said, LogFault>
         requires fault { self.old.fault ≡ None }
-        requires few { self.old.number ≤ 2000000000 }
+        requires few { self.old.number ≤ MOST_BYTES + 1 }
         ensures short { IsShort self.old.line }
         ensures said { IfOk result (λ said. whole_says self.old (longer self.old.line part.now) ≡ Ok said) }
-        ensures fits { IfOk result SaidFits }
+        ensures fits { IfOk result (SaidFits self.old.kinds) }
         ensures behind { IfOk result (λ said. self.new ≡ behind_line self.old (Ok said)) }
         ensures fault { IfErr result (λ f.
             f ≢ fault.NoMemory → whole_says self.old (longer self.old.line part.now) ≡ Err f) }
@@ -178,7 +180,7 @@ impl LogReader {
         ensures used { IfOk result (λ took. took.0 ≡ line_bytes part.now) }
         ensures item { IfOk result (λ took.
             tale_of self.old (take took.0 part.now) ≡ record { items = told took.1; reader = self.new }) }
-        ensures version { IfOk result (λ took. HeadFits took.1) }
+        ensures fits { IfOk result (λ took. ItemFits self.old.kinds took.1) }
         ensures sound { OnOk result (self.new.fault ≡ None) }
         ensures few { IfOk result (λ took. self.new.number ≤ self.old.number + took.0) }
         ensures within { IfOk result (λ took. (0 < took.0) × (took.0 ≤ length part.now)) }

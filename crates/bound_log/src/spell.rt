@@ -1,4 +1,4 @@
-ghost use Rattle.std.specs.Prelude.{◌≡◌, ◌≤◌, ◌<◌, ◌+◌, ◌++◌, OnErr, OnOk, decimal, length};
+ghost use Rattle.std.specs.Prelude.{◌≡◌, ◌≤◌, ◌<◌, ◌+◌, ◌∷◌, ◌++◌, OnErr, OnOk, decimal, length};
 ghost use Rattle.bound_log.specs.Text.{column_line, counts_text, end_text, flip_text, gaps_line, head_lines, lemma_line, more_counts_text, rule_text, side_text};
 
 use crate::out::Out;
@@ -30,14 +30,27 @@ fn rule_word(rule: Rule) -> &'static [u8]
     }
 }
 
+// A count behind its comma.
+#[tactic(auto, using(std::proofs::lemmas::Fmt::decimal_digit))]
+fn put_next_count<O: Out>(out: &mut O, count: u32) -> Result<(), NoMemory>
+    ensures text { OnOk result (O.text out.new ≡ O.text out.old ++ (44 ∷ decimal count)) }
+    ensures left { OnOk result (O.room out.old ≤ O.room out.new + (1 + length (decimal count))) }
+    ensures full { OnErr result (O.room out.old < 1 + length (decimal count)) }
+{
+    if count < 10 {
+        return out.put(&[b',', b'0' + count as u8]);
+    }
+    out.put(b",")?;
+    put_number(out, count)
+}
+
 fn put_more_counts<O: Out>(out: &mut O, counts: &[u32]) -> Result<(), NoMemory>
     ensures text { OnOk result (O.text out.new ≡ O.text out.old ++ more_counts_text counts.now) }
     ensures left { OnOk result (O.room out.old ≤ O.room out.new + length (more_counts_text counts.now)) }
     ensures full { OnErr result (O.room out.old < length (more_counts_text counts.now)) }
 {
     for count in counts {
-        out.put(b",")?;
-        put_number(out, *count)?;
+        put_next_count(out, *count)?;
     }
     Ok(())
 }

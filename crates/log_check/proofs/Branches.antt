@@ -1,5 +1,5 @@
 -- All next columns of a list are all next columns.
-use Rattle.std.proofs.Common.{ℕ, ◌≡◌, ◌<◌, ◌≤◌, List, [], ◌∷◌, length, take, get_or, All, subst, sym, arith, take_all, ◌↔◌}
+use Rattle.std.proofs.Common.{ℕ, ◌≡◌, ◌<◌, ◌≤◌, List, [], ◌∷◌, length, take, get_or, All, ap, subst, sym, arith, take_all, ◌↔◌}
 use Rattle.std.proofs.lemmas.List.Elements.{All-cons, All-contains, All-get_or, All-head, All-nil, All-tail}
 use Rattle.std.proofs.Common.{◌+◌, ◌∙◌}
 use Rattle.std.proofs.lemmas.List.{get_or_default}
@@ -8,7 +8,9 @@ use Rattle.row_state.specs.declared.kind.Kinds.{Kinds}
 use Rattle.row_state.specs.declared.state.State.{State}
 use Rattle.row_state.specs.declared.step.Step.{Step}
 use Rattle.row_state.specs.declared.candidate.Candidate.{Candidate}
-use Rattle.row_state.specs.Candidates.{AreCandidates, IsCandidate, candidate_steps}
+use Rattle.row_state.specs.Candidates.{AreCandidates, IsCandidate, IsNumbered, candidate_steps}
+use Rattle.row_state.specs.declared.numbered.Numbered.{Numbered}
+use Rattle.row_state.specs.Code.{state_code}
 use Rattle.row_state.specs.Completion.{cost_of}
 use Rattle.row_state.specs.Start.{AreSomeKinds, IsState}
 use Rattle.row_state.specs.Steps.{IsPossible, column_of, state_after}
@@ -32,8 +34,15 @@ branch_all k s all best bound valid are each step possible =
     steps_of [] h = All-nil (Passes k best s bound)
     steps_of (c ∷ cs) h = All-cons (Passes k best s bound) c.step (candidate_steps cs) (All-head (λ (c : Candidate). Passes k best s bound c.step) c cs h) (steps_of cs (All-tail (λ (c : Candidate). Passes k best s bound c.step) c cs h))
 
-pub same_valid : (k : Kinds) (a b : State) → a ≡ b → IsState k b → IsState k a
-same_valid k a b same valid = subst (IsState k) (sym same) valid
+-- a lemma is justified where its state, with its number, reaches the bound
+pub justified_by : (value : Row → State → Kinds → ℕ) (k : Kinds) (best : State → ℕ) (s : State) (x : Lemma) → s ≡ x.state → IsState k x.state → RuleReaches value k best x.rule s x.bound → IsJustified value k best x
+justified_by value k best s x same valid reaches = record { state = valid; reaches = subst (λ (t : State). RuleReaches value k best x.rule t x.bound) same reaches }
+
+pub reaches_by : (value : Row → State → Kinds → ℕ) (k : Kinds) (best : State → ℕ) (s : State) (x : Lemma) → s ≡ x.state → IsJustified value k best x → RuleReaches value k best x.rule s x.bound
+reaches_by value k best s x same h = subst (λ (t : State). RuleReaches value k best x.rule t x.bound) (sym same) h.reaches
+
+pub code_of : (k : Kinds) (at : Numbered) (s : State) → at.state ≡ s → IsNumbered k at → state_code k s ≡ at.code
+code_of k at s same numbered = ap (state_code k) (sym same) ∙ sym numbered.code
 
 pub candidate_is : (k : Kinds) (all : List Candidate) (i : ℕ) (d : Candidate) → AreCandidates k all → i < length all → IsCandidate k (get_or all i d)
 candidate_is k all i d are within = All-get_or (IsCandidate k) all i d within are.each

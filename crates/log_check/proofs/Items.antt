@@ -10,7 +10,7 @@ use Rattle.cell_num.specs.declared.finger.Row.{Row}
 use Rattle.cell_num.specs.declared.finger.Fingers.{Fingers}
 use Rattle.row_state.specs.declared.kind.Kinds.{Kinds}
 use Rattle.row_state.specs.declared.state.State.{State}
-use Rattle.row_state.specs.Start.{AreSomeKinds, IsState, start_of}
+use Rattle.row_state.specs.Start.{AreKinds, AreSomeKinds, IsState, start_of}
 use Rattle.row_state.proofs.Valid.{start_valid}
 use Rattle.bound_log.specs.declared.log.Lemma.{Lemma}
 use Rattle.bound_log.specs.declared.log.LogStep.{LogStep}
@@ -18,11 +18,12 @@ use Rattle.bound_log.specs.declared.log.Best.{Best}
 use Rattle.bound_log.specs.declared.log.Log.{Log}
 use Rattle.log_check.specs.declared.refused.Refused.{Refused}
 use Rattle.log_check.specs.declared.refused.Refused.TheVariants as because
-use Rattle.log_check.specs.Accepted.{AreJustified, BestPasses, IsAccepted, IsJustified, best_of, better, raised}
+use Rattle.log_check.specs.Accepted.{AreJustified, BestPasses, IsAccepted, IsJustified, WithKinds, best_of, better, raised}
 use Rattle.log_check.specs.Items.{AreBest, Checked, HasSeen, IsFound, empty_log, more_steps, with_columns, with_gaps, with_lemmas}
 use Rattle.log_check.specs.Known.{best_noted}
 use Rattle.log_check.specs.Refusal.{BestRefuses, IsFirstUnjustified, Refuses}
 use Rattle.log_check.proofs.Branches.{same_best}
+use Rattle.log_check.proofs.SameKinds.{for_kinds}
 
 -- ---- one lemma at the end of a list
 
@@ -144,6 +145,17 @@ seen_more value c v f k known new n unproved row log x same is some right noted 
           (are_justified_more value k log.lemmas x (best_noted known k) some found.0 found.1 right, are_best_more k log.lemmas x (best_noted known k) (best_noted new k) found.1 noted);
       row = h.row;
     }
+
+-- the state of a lemma that is valid for all kinds of the fingers
+pub valid_here : (c : Checked) (v : ℕ) (f : Fingers) (k : Kinds) (known : List (ℕ × ℕ)) (n : ℕ) (unproved : Option ℕ) (row : Option Best) (s : State) → c ≡ checked v f k known n unproved row → AreKinds f k → AreSomeKinds k → WithKinds c.fingers (λ j. IsState j s) → IsState k s
+valid_here c v f k known n unproved row s same of_k some valid = by_kinds (subst (λ (d : Checked). WithKinds d.fingers (λ j. IsState j s)) same valid)
+  where
+    by_kinds : WithKinds f (λ j. IsState j s) → IsState k s
+    by_kinds (j, of_j, some_j, here) = for_kinds f j (λ i. IsState i s) of_j some_j here k of_k some
+
+-- the kinds of the checker's fingers, where a state is valid for them
+pub valid_for : (c : Checked) (v : ℕ) (f : Fingers) (k : Kinds) (known : List (ℕ × ℕ)) (n : ℕ) (unproved : Option ℕ) (row : Option Best) (s t : State) → c ≡ checked v f k known n unproved row → AreKinds f k → AreSomeKinds k → IsState k s → t ≡ s → WithKinds c.fingers (λ j. IsState j t)
+valid_for c v f k known n unproved row s t same of_k some valid is = subst (λ (d : Checked). WithKinds d.fingers (λ j. IsState j t)) (sym same) (k, of_k, some, subst (IsState k) (sym is) valid)
 
 -- ---- columns
 

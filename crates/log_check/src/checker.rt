@@ -3,6 +3,7 @@ ghost use Rattle.cell_num.specs.Fingers.{AreFingers};
 ghost use Rattle.row_model.specs.declared.column.Column.{Column};
 ghost use Rattle.row_model.specs.Arrangement.{IsArrangement};
 ghost use Rattle.row_model.specs.Gaps.{gaps_of};
+ghost use Rattle.row_state.specs.Start.{IsState};
 ghost use Rattle.log_check.specs.Accepted.{IsAccepted, IsTrueOf, Lists, WithKinds};
 ghost use Rattle.log_check.specs.Items.{ForSeen, HasSeen, empty_log, with_columns, with_gaps, with_lemmas};
 ghost use Rattle.log_check.specs.declared.refused.Refused.TheVariants as because;
@@ -70,6 +71,23 @@ impl<B: RowBound + Drop> Checker<B> {
         ensures unchanged { OnErr result (self.new ≡ self.old) }
     {
         self.seen.lemma(&self.bound, lemma)?;
+        Ok(())
+    }
+
+    /// One lemma more, of which the caller knows that its state is valid; at most [`MOST_BYTES`] in all. After
+    /// NoMemory the checker is as before.
+    pub fn valid_lemma(&mut self, lemma: Lemma) -> Result<(), NoMemory>
+        requires few { self.old.seen.lemmas < MOST_BYTES }
+        requires state { WithKinds self.old.seen.fingers (λ k. IsState k lemma.state) }
+        ensures fingers { self.new.seen.fingers ≡ self.old.seen.fingers }
+        ensures bound { self.new.bound ≡ self.old.bound }
+        ensures version { self.new.seen.version ≡ self.old.seen.version }
+        ensures count { OnOk result (self.new.seen.lemmas ≡ self.old.seen.lemmas + 1) }
+        ensures seen { OnOk result (ForSeen (B.value self.old.bound) self.old.seen (λ log.
+            HasSeen (B.value self.old.bound) self.new.seen (with_lemmas log (lemma ∷ [])))) }
+        ensures unchanged { OnErr result (self.new ≡ self.old) }
+    {
+        self.seen.valid_lemma(&self.bound, lemma)?;
         Ok(())
     }
 

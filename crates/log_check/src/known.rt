@@ -72,17 +72,4 @@ impl Known {
         keep(&mut self.bounds, number, most)?;
         Ok(())
     }
-
-    /// One bound more of the state. What was noted is as before where the memory is refused.
-    pub fn note(&mut self, kinds: &Kinds, state: &State, bound: u32) -> Result<(), NoMemory>
-        requires state { IsState kinds.now state.now }
-        ensures raised { OnOk result ((s : StateOf) → IsState kinds.now s →
-            best_known self.new kinds.now s ≡ raised state.now bound s (best_known self.old kinds.now s)) }
-        ensures unchanged { OnErr result ((k : KindsOf) (s : StateOf) →
-            best_known self.new k s ≡ best_known self.old k s) }
-        ensures same { OnErr result (noted self.new ≡ noted self.old) }
-    {
-        self.note_at(code(state, kinds), bound)?;
-        Ok(())
-    }
 }

@@ -1,14 +1,13 @@
-ghost use Rattle.std.specs.Prelude.{◌≡◌, ◌↔◌, IsTrue, IfOk};
+ghost use Rattle.std.specs.Prelude.{◌↔◌, IsTrue};
 ghost use Rattle.row_state.specs.Candidates.{AreCandidates, IsCandidate, IsNumbered};
-ghost use Rattle.row_state.specs.Start.{IsState};
 ghost use Rattle.row_state.specs.Steps.{IsPossible};
-ghost use Rattle.log_check.specs.Accepted.{BranchReaches, IsJustified, StepReaches};
+ghost use Rattle.log_check.specs.Accepted.{BranchReaches, RuleReaches, StepReaches};
 ghost use Rattle.log_check.specs.Known.{best_known};
 
 use crate::Known;
-use bound_log::{Lemma, Rule};
-use cell_num::{NoMemory, Row};
-use row_state::{Candidate, Candidates, Kinds, Numbered, RowBound, State, has_fingers, is_state};
+use bound_log::Rule;
+use cell_num::Row;
+use row_state::{Candidate, Candidates, Kinds, Numbered, RowBound, has_fingers};
 
 // Whether the column's cost and the best earlier bound behind it reach the bound.
 fn step_reaches(kinds: &Kinds, known: &Known, from: &Numbered, next: &Candidate, bound: u32) -> bool
@@ -57,53 +56,30 @@ fn branch_reaches(
     true
 }
 
-fn copied(state: &State) -> Result<State, NoMemory>
-    ensures { IfOk result (λ copy. copy ≡ state.now) }
-{
-    Ok(state.clone()?)
-}
-
-#[tactic(auto, using(crate::proofs::Branches::same_valid))]
-fn branch_holds(
+// Whether by this rule, and by the bounds known, each completion of the state has so many further gaps, where all
+// columns that may ever come next are listed.
+pub(crate) fn reaches<B: RowBound>(
     kinds: &Kinds,
     known: &Known,
     candidates: &Candidates,
-    state: &State,
-    bound: u32,
-) -> Result<bool, NoMemory>
-    requires candidates { AreCandidates kinds.now candidates.now }
-    requires state { IsState kinds.now state.now }
-    ensures { IfOk result (λ yes. IsTrue yes ↔
-        BranchReaches kinds.now (best_known known.now kinds.now) state.now bound) }
-{
-    let own = copied(state)?;
-    let from = Numbered::new(own, kinds);
-    Ok(branch_reaches(kinds, known, candidates, &from, bound))
-}
-
-// Whether the bounds known justify the lemma, where all columns that may ever come next are listed.
-pub(crate) fn is_justified<B: RowBound>(
-    kinds: &Kinds,
-    known: &Known,
-    candidates: &Candidates,
-    lemma: &Lemma,
+    at: &Numbered,
+    rule: Rule,
+    reached: u32,
     bound: &B,
-) -> Result<bool, NoMemory>
+) -> bool
     requires candidates { AreCandidates kinds.now candidates.now }
-    ensures { IfOk result (λ yes. IsTrue yes ↔
-        IsJustified (B.value bound.now) kinds.now (best_known known.now kinds.now) lemma.now) }
+    requires numbered { IsNumbered kinds.now at.now }
+    ensures { IsTrue result ↔
+        RuleReaches (B.value bound.now) kinds.now (best_known known.now kinds.now) rule at.now.state reached }
 {
-    if !is_state(&lemma.state, kinds) {
-        return Ok(false);
-    }
-    match lemma.rule {
-        Rule::P => Ok(lemma.bound <= bound.bound(Row::P, &lemma.state, kinds)),
-        Rule::N => Ok(lemma.bound <= bound.bound(Row::N, &lemma.state, kinds)),
+    match rule {
+        Rule::P => reached <= bound.bound(Row::P, &at.state, kinds),
+        Rule::N => reached <= bound.bound(Row::N, &at.state, kinds),
         Rule::Branch => {
-            if has_fingers(&lemma.state) {
-                branch_holds(kinds, known, candidates, &lemma.state, lemma.bound)
+            if has_fingers(&at.state) {
+                branch_reaches(kinds, known, candidates, at, reached)
             } else {
-                Ok(false)
+                false
             }
         }
     }

@@ -6,7 +6,8 @@ ghost use Rattle.row_model.specs.Arrangement.{IsArrangement};
 ghost use Rattle.row_model.specs.Gaps.{gaps_of};
 ghost use Rattle.row_state.specs.declared.kind.Kinds.{Kinds as KindsOf};
 ghost use Rattle.row_state.specs.declared.state.State.{State as StateOf};
-ghost use Rattle.row_state.specs.Start.{AreKinds, AreSomeKinds, start_of};
+ghost use Rattle.row_state.specs.Start.{AreKinds, AreSomeKinds, IsState, start_of};
+ghost use Rattle.bound_log.specs.declared.log.Lemma.{Lemma as LemmaOf};
 ghost use Rattle.log_check.specs.Accepted.{BestPasses, IsAccepted, IsTrueOf, Lists, WithKinds};
 ghost use Rattle.log_check.specs.Items.{ForSeen, HasSeen, empty_log, more_steps, with_columns, with_gaps, with_lemmas};
 ghost use Rattle.log_check.specs.Known.{best_known};
@@ -15,11 +16,11 @@ ghost use Rattle.log_check.specs.Refusal.{BestRefuses, Proves, Refuses};
 
 use crate::Refused;
 use crate::known::Known;
-use crate::lemma::is_justified;
+use crate::lemma::reaches;
 use crate::listed::check_row;
 use bound_log::{Best, Lemma, LogStep, LogSteps};
 use cell_num::{Fingers, MOST_BYTES, NoMemory};
-use row_state::{Candidates, Kinds, RowBound, candidates, kinds, start};
+use row_state::{Candidates, Kinds, Numbered, RowBound, candidates, is_state, kinds, start};
 use std::alloc::{AllocError, Global};
 use std::marker::Model;
 
@@ -30,6 +31,16 @@ fn copied(fingers: &Fingers) -> Result<Fingers, AllocError>
         nets: fingers.nets,
         p: fingers.p.clone()?,
         n: fingers.n.clone()?,
+    })
+}
+
+fn copied_lemma(lemma: &Lemma) -> Result<Lemma, AllocError>
+    ensures { IfOk result (λ copy. copy ≡ lemma.now) }
+{
+    Ok(Lemma {
+        state: lemma.state.clone()?,
+        bound: lemma.bound,
+        rule: lemma.rule,
     })
 }
 
@@ -165,17 +176,74 @@ impl Seen {
         ensures unchanged { OnErr result (self.new ≡ self.old) }
     {
         self.kinds.show_limits();
+        if !is_state(&lemma.state, &self.kinds) {
+            self.refuse();
+            return Ok(());
+        }
+        let own = copied_lemma(lemma)?;
+        self.valid_lemma(bound, own)
+    }
+
+    // One lemma more, on no valid state.
+    fn refuse(&mut self)
+        requires few { self.old.lemmas < MOST_BYTES }
+        ensures fingers { self.new.fingers ≡ self.old.fingers }
+        ensures version { self.new.version ≡ self.old.version }
+        ensures count { self.new.lemmas ≡ self.old.lemmas + 1 }
+        ensures seen { (value : RowOf → StateOf → KindsOf → ℕ) (lemma : LemmaOf) →
+            (IsState self.old.kinds lemma.state → ⊥) → ForSeen value self.old (λ log.
+            HasSeen value self.new (with_lemmas log (lemma ∷ []))) }
+    {
+        self.kinds.show_limits();
+        let count = self.lemmas + 1;
+        if self.unproved.is_some() {
+            self.lemmas = count;
+            return;
+        }
+        self.unproved = Some(self.lemmas + 3);
+        self.lemmas = count;
+    }
+
+    pub(crate) fn valid_lemma<B: RowBound>(
+        &mut self,
+        bound: &B,
+        lemma: Lemma,
+    ) -> Result<(), NoMemory>
+        requires few { self.old.lemmas < MOST_BYTES }
+        requires state { WithKinds self.old.fingers (λ k. IsState k lemma.state) }
+        ensures fingers { self.new.fingers ≡ self.old.fingers }
+        ensures version { self.new.version ≡ self.old.version }
+        ensures count { OnOk result (self.new.lemmas ≡ self.old.lemmas + 1) }
+        ensures seen { OnOk result (ForSeen (B.value bound.now) self.old (λ log.
+            HasSeen (B.value bound.now) self.new (with_lemmas log (lemma ∷ [])))) }
+        ensures unchanged { OnErr result (self.new ≡ self.old) }
+    {
+        self.kinds.show_limits();
         let count = self.lemmas + 1;
         if self.unproved.is_some() {
             self.lemmas = count;
             return Ok(());
         }
-        if !is_justified(&self.kinds, &self.known, &self.candidates, lemma, bound)? {
+        let Lemma {
+            state,
+            bound: reached,
+            rule,
+        } = lemma;
+        let at = Numbered::new(state, &self.kinds);
+        if !reaches(
+            &self.kinds,
+            &self.known,
+            &self.candidates,
+            &at,
+            rule,
+            reached,
+            bound,
+        ) {
             self.unproved = Some(self.lemmas + 3);
             self.lemmas = count;
             return Ok(());
         }
-        self.known.note(&self.kinds, &lemma.state, lemma.bound)?;
+        self.known.note_at(at.code, reached)?;
         self.lemmas = count;
         Ok(())
     }

@@ -1,5 +1,6 @@
 ghost use Rattle.std.specs.Prelude.{◌≡◌, ◌≤◌, ◌<◌, ◌+◌, IfOk, IfErr, IfSome, IfNone, OnOk};
 ghost use Rattle.row_state.specs.Candidates.{AreCandidates, IsNumbered};
+ghost use Rattle.row_state.specs.Emptied.{AreEmpty};
 ghost use Rattle.row_state.specs.Start.{columns_left};
 ghost use Rattle.row_search.specs.declared.descent.Halt.TheVariants.{Spent, NoMemory};
 ghost use Rattle.log_check.specs.Accepted.{best_of};
@@ -11,7 +12,7 @@ use crate::progress::Progress;
 use crate::trails::{Trails, row_rule};
 use bound_log::Rule;
 use cell_num::{MOST_COLUMNS, NoMemory};
-use row_state::{Candidate, Kinds, Numbered, RowBound, Steps, has_fingers};
+use row_state::{Candidate, EmptyPlaces, Kinds, Numbered, RowBound, Steps, has_fingers};
 use std::alloc::Global;
 
 /// What a search is given.
@@ -44,16 +45,18 @@ impl From<NoMemory> for Halt {
 }
 
 /// The first completion of the state with as few gaps as are allowed, its last step first, or none;
-/// then a kept lemma proves it. No kept one does so far.
+/// then a kept lemma proves it. No kept one does so far. `empty` are the places of the state that stay empty.
 pub(crate) fn visit<B: RowBound>(
     task: &Task<B>,
     progress: &mut Progress,
     trails: &mut Trails,
     at: &Numbered,
+    empty: EmptyPlaces,
     allowed: u32,
 ) -> Result<Option<Steps>, Halt>
     requires candidates { AreCandidates task.now.kinds.now task.now.candidates.now }
     requires numbered { IsNumbered task.now.kinds.now at.now }
+    requires empty { AreEmpty task.now.kinds.now at.now.state empty }
     requires few { allowed ≤ MOST_COLUMNS }
     requires nodes { progress.old.nodes ≤ task.now.budget }
     requires lemmas { AreKept (B.value task.now.bound.now) task.now.kinds.now progress.old.lemmas }
@@ -78,7 +81,7 @@ pub(crate) fn visit<B: RowBound>(
     if !has_fingers(&at.state) {
         return Ok(Some(Steps::new(task.alloc)));
     }
-    let served = row_rule(task, trails, &at.state, allowed)?;
+    let served = row_rule(task, trails, &at.state, &empty, allowed)?;
     if let Some(rule) = served {
         progress.keep(at, allowed + 1, rule)?;
         return Ok(None);
@@ -95,7 +98,8 @@ pub(crate) fn visit<B: RowBound>(
             continue;
         }
         let behind = at.behind(task.alloc, task.kinds, next)?;
-        let tried = match visit(task, progress, trails, &behind, allowed - cost) {
+        let beyond = empty.beyond(next);
+        let tried = match visit(task, progress, trails, &behind, beyond, allowed - cost) {
             Ok(tried) => tried,
             Err(halt) => return Err(halt),
         };

@@ -14,7 +14,7 @@ use crate::trails::Trails;
 use crate::{FoundKept, StopKept};
 use bound_log::Best;
 use cell_num::{Fingers, NoMemory};
-use row_state::{Kinds, Numbered, RowBound, Step, candidates, columns, kinds, start};
+use row_state::{EmptyPlaces, Kinds, Numbered, RowBound, Step, candidates, columns, kinds, start};
 use std::alloc::Global;
 
 // The answer where the row of the steps is found, at so many gaps.
@@ -55,11 +55,12 @@ fn try_limits<B: RowBound>(task: &Task<B>) -> Result<FoundKept, StopKept>
     let first = numbered_start(task.alloc, task.kinds)?;
     let mut progress = Progress::new(task.alloc, task.kinds)?;
     let mut trails = Trails::new(task.alloc);
+    let empty = EmptyPlaces::of(&first.state, task.kinds);
     for limit in 0..columns(task.kinds) + 1 {
         if progress.best_at(first.code) > limit {
             continue;
         }
-        match visit(task, &mut progress, &mut trails, &first, limit) {
+        match visit(task, &mut progress, &mut trails, &first, empty, limit) {
             Ok(Some(steps)) => {
                 let found = finish(task.alloc, task.kinds, progress, limit, steps.as_slice())?;
                 return Ok(found);

@@ -4,6 +4,7 @@ ghost use Rattle.std.specs.HashMap.{get};
 ghost use Rattle.cell_num.specs.declared.finger.Row.{Row as RowOf};
 ghost use Rattle.cell_num.specs.declared.net.NetNo.{NetNo};
 ghost use Rattle.row_state.specs.declared.kind.Kinds.{Kinds as KindsOf};
+ghost use Rattle.row_state.specs.Emptied.{AreEmpty};
 ghost use Rattle.row_state.specs.Start.{IsState};
 ghost use Rattle.row_state.specs.Tests.{left_of};
 ghost use Rattle.row_state.specs.Trails.{end_of};
@@ -15,7 +16,7 @@ ghost use Rattle.row_search.specs.Visit.{RowReaches};
 use crate::descent::Task;
 use bound_log::Rule;
 use cell_num::{NoMemory, Row};
-use row_state::{RowBound, State, row_number};
+use row_state::{EmptyPlaces, RowBound, State, row_number};
 use std::alloc::Global;
 use std::collections::HashMap;
 
@@ -75,9 +76,11 @@ pub(crate) fn row_rule<B: RowBound>(
     task: &Task<B>,
     trails: &mut Trails,
     state: &State,
+    empty: &EmptyPlaces,
     allowed: u32,
 ) -> Result<Option<Rule>, NoMemory>
     requires state { IsState task.now.kinds.now state.now }
+    requires empty { AreEmpty task.now.kinds.now state.now empty.now }
     requires noted { AreNoted (B.trails_of task.now.bound.now) task.now.kinds.now trails.old }
     ensures noted { OnOk result (AreNoted (B.trails_of task.now.bound.now) task.now.kinds.now trails.new) }
     ensures some { IfOk result (λ rule. IfSome rule (RowReaches (B.value task.now.bound.now) task.now.kinds.now
@@ -86,11 +89,17 @@ pub(crate) fn row_rule<B: RowBound>(
         state.now (allowed + 1) Branch)) }
 {
     let p = trails_of(task, &mut trails.p, Row::P, state)?;
-    if task.bound.is_above(Row::P, state, task.kinds, p, allowed) {
+    if task
+        .bound
+        .is_above(Row::P, state, task.kinds, p, empty.p, allowed)
+    {
         return Ok(Some(Rule::P));
     }
     let n = trails_of(task, &mut trails.n, Row::N, state)?;
-    if task.bound.is_above(Row::N, state, task.kinds, n, allowed) {
+    if task
+        .bound
+        .is_above(Row::N, state, task.kinds, n, empty.n, allowed)
+    {
         return Ok(Some(Rule::N));
     }
     Ok(None)

@@ -203,10 +203,3 @@ pub component_none : (row : Row) (s : State) (k : Kinds) (trails : ℕ) → trai
 component_none row s k trails is none =
     let whole = component_code row s k trails (sum_below (empty_test row s k) k.nets) is refl in
     omega (arith, whole, none)
-
--- the bound is at most the trails
-pub component_low : (row : Row) (s : State) (k : Kinds) (trails most : ℕ) → trails ≡ component_trails row (end_of row s) (left_of row s) k → trails ≤ most → false ≡ ltb most (component_value row s k)
-component_low row s k trails most is low =
-    let whole = component_code row s k trails (sum_below (empty_test row s k) k.nets) is refl in
-    let few : component_value row s k ≤ most = omega (arith, whole, low) in
-    sym (le-ltb most (component_value row s k) few)

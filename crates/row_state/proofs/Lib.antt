@@ -7,6 +7,7 @@ pub mod Calls
 pub mod Digits
 pub mod Codes
 pub mod Decoding
+pub mod Emptied
 pub mod Exists
 pub mod KindsOf
 pub mod Keys

@@ -11,6 +11,7 @@ pub mod Component
 pub mod ComponentLaw
 pub mod Decoded
 pub mod Degrees
+pub mod Emptied
 pub mod Gates
 pub mod Kinds
 pub mod Law

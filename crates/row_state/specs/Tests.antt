@@ -157,6 +157,10 @@ abbrev pub empty_test : Row → State → Kinds → ℕ → ℕ
 empty_test P s k gate = gate_left k.n s.n_left gate - gate_left k.p s.p_left gate
 empty_test N s k gate = gate_left k.p s.p_left gate - gate_left k.n s.n_left gate
 
+-- so many in all
+abbrev pub empty_in : Row → State → Kinds → ℕ
+empty_in row s k = sum_below (empty_test row s k) k.nets
+
 abbrev pub halved : Option NetNo → ℕ → ℕ
 halved (Some v) odd = odd / 2
 halved None odd = (odd - 1) / 2
@@ -166,7 +170,7 @@ abbrev pub parity_trails : Row → Option NetNo → List ℕ → Kinds → ℕ
 parity_trails row end left k = halved end (size k.nets (is_odd_behind end (kinds_in row k) left))
 
 abbrev pub parity_test : Row → State → Kinds → ℕ
-parity_test row s k = parity_trails row (end_of row s) (left_of row s) k - sum_below (empty_test row s k) k.nets
+parity_test row s k = parity_trails row (end_of row s) (left_of row s) k - empty_in row s k
 
 -- a finger of the side's kind is left
 abbrev pub side_left : List ℕ → Option Side → Bool

@@ -1,11 +1,11 @@
-ghost use Rattle.std.specs.Prelude.{◌≡◌, ltb, ℕ, List, Option};
+ghost use Rattle.std.specs.Prelude.{◌≡◌, ◌-◌, ltb, ℕ, List, Option};
 ghost use Rattle.cell_num.specs.declared.finger.Row.{Row};
 ghost use Rattle.cell_num.specs.declared.net.NetNo.{NetNo};
 ghost use Rattle.row_state.specs.declared.kind.Kinds.{Kinds};
 ghost use Rattle.row_state.specs.declared.state.State.{State};
 ghost use Rattle.row_state.specs.Completion.{Need};
 ghost use Rattle.row_state.specs.Start.{IsState, AreSomeKinds};
-ghost use Rattle.row_state.specs.Tests.{left_of};
+ghost use Rattle.row_state.specs.Tests.{empty_in, left_of};
 ghost use Rattle.row_state.specs.Trails.{end_of};
 ghost use Rattle.row_state.specs.Versions.{IsVersion};
 
@@ -17,6 +17,13 @@ pub const PARITY_LOG: u32 = 1;
 
 /// The version of a log whose lemmas rest on the component bound.
 pub const COMPONENT_LOG: u32 = 2;
+
+// Whether so many trails, less the places that stay empty, are more than a number.
+pub(crate) fn are_above(trails: u32, empty: u32, most: u32) -> bool
+    ensures { result ≡ ltb most (trails - empty) }
+{
+    most < trails.saturating_sub(empty)
+}
 
 /// A bound on the gaps that every completion of a state still has.
 pub trait RowBound {
@@ -38,11 +45,19 @@ pub trait RowBound {
         requires state { IsState kinds.now state.now }
         ensures { result ≡ trails_of self.now row (end_of row state.now) (left_of row state.now) kinds.now };
 
-    /// Whether the bound is above a number, where the trails of the row are told. Places that stay empty make the
-    /// bound lower, and are not counted where the trails are few.
-    fn is_above(&self, row: Row, state: &State, kinds: &Kinds, trails: u32, most: u32) -> bool
+    /// Whether the bound is above a number, where the trails of the row and its places that stay empty are told.
+    fn is_above(
+        &self,
+        row: Row,
+        state: &State,
+        kinds: &Kinds,
+        trails: u32,
+        empty: u32,
+        most: u32,
+    ) -> bool
         requires state { IsState kinds.now state.now }
         requires trails { trails ≡ trails_of self.now row (end_of row state.now) (left_of row state.now) kinds.now }
+        requires empty { empty ≡ empty_in row state.now kinds.now }
         ensures { result ≡ ltb most (value self.now row state.now kinds.now) };
 
     /// The version of a log whose lemmas rest on the bound.

@@ -62,8 +62,19 @@ pub(crate) fn rows_number(state: &State, kinds: &Kinds) -> u64
     p * lists(n_kinds) + n
 }
 
+// The number of a state, from that of its counts.
+#[tactic(auto, using(crate::proofs::Codes::ends_below, crate::proofs::Codes::digits_fit))]
+pub(crate) fn code_of_rows(rows: u64, state: &State, kinds: &Kinds) -> u128
+    requires state { IsState kinds.now state.now }
+    requires rows { rows ≡ rows_code kinds.now state.now }
+    ensures { result ≡ state_code kinds.now state.now }
+{
+    let ends = u128::from(kinds.nets) + 1;
+    (u128::from(rows) * ends + end_number(&state.p_end)) * ends + end_number(&state.n_end)
+}
+
 /// The number of a state among those of its kinds: no other has it.
-#[tactic(auto, using(crate::proofs::Codes::ends_below, crate::proofs::Codes::digits_fit, crate::proofs::Codes::state_below, crate::proofs::Codes::state_same))]
+#[tactic(auto, using(crate::proofs::Codes::state_below, crate::proofs::Codes::state_same))]
 pub fn code(state: &State, kinds: &Kinds) -> u128
     requires state { IsState kinds.now state.now }
     ensures code { result ≡ state_code kinds.now state.now }
@@ -71,9 +82,7 @@ pub fn code(state: &State, kinds: &Kinds) -> u128
     ensures own { (other : StateOf) → IsState kinds.now other → state_code kinds.now other ≡ result →
         other ≡ state.now }
 {
-    let ends = u128::from(kinds.nets) + 1;
-    let rows = u128::from(rows_number(state, kinds));
-    (rows * ends + end_number(&state.p_end)) * ends + end_number(&state.n_end)
+    code_of_rows(rows_number(state, kinds), state, kinds)
 }
 
 // The counts of a row, and behind them its end.

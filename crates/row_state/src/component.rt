@@ -10,6 +10,7 @@ ghost use Rattle.row_state.specs.Start.{IsKind, IsState};
 ghost use Rattle.row_state.specs.Tests.{entry, flag, kinds_in, left_of};
 ghost use Rattle.row_state.specs.Trails.{end_of};
 
+use crate::bound::are_above;
 use crate::parity::{NETS, count_empty, odd_behind};
 use crate::{COMPONENT_LOG, Kind, Kinds, RowBound, State};
 use cell_num::{MOST_NETS, NetNo, Row};
@@ -181,18 +182,6 @@ fn row_bound(row: Row, state: &State, kinds: &Kinds) -> u32
     trails.saturating_sub(empty)
 }
 
-fn is_row_above(row: Row, state: &State, kinds: &Kinds, trails: u32, most: u32) -> bool
-    requires state { IsState kinds.now state.now }
-    requires trails { trails ≡ component_trails row (end_of row state.now) (left_of row state.now) kinds.now }
-    ensures { result ≡ ltb most (component_value row state.now kinds.now) }
-{
-    if trails <= most {
-        return false;
-    }
-    let empty = count_empty(row, state, kinds);
-    most < trails.saturating_sub(empty)
-}
-
 impl RowBound for Component {
     ghost use Rattle.row_state.specs.declared.bound.TheConstants.{COMPONENT_LOG};
 
@@ -214,8 +203,17 @@ impl RowBound for Component {
         count_trails_in(row, state, kinds)
     }
 
-    fn is_above(&self, row: Row, state: &State, kinds: &Kinds, trails: u32, most: u32) -> bool {
-        is_row_above(row, state, kinds, trails, most)
+    #[tactic(auto, using(crate::proofs::ComponentCode::component_code))]
+    fn is_above(
+        &self,
+        row: Row,
+        state: &State,
+        kinds: &Kinds,
+        trails: u32,
+        empty: u32,
+        most: u32,
+    ) -> bool {
+        are_above(trails, empty, most)
     }
 
     fn version(&self) -> u32 {

@@ -53,10 +53,18 @@ impl RowBound for LogBound {
         }
     }
 
-    fn is_above(&self, row: Row, state: &State, kinds: &Kinds, trails: u32, most: u32) -> bool {
+    fn is_above(
+        &self,
+        row: Row,
+        state: &State,
+        kinds: &Kinds,
+        trails: u32,
+        empty: u32,
+        most: u32,
+    ) -> bool {
         match self {
-            LogBound::Parity => Parity.is_above(row, state, kinds, trails, most),
-            LogBound::Component => Component.is_above(row, state, kinds, trails, most),
+            LogBound::Parity => Parity.is_above(row, state, kinds, trails, empty, most),
+            LogBound::Component => Component.is_above(row, state, kinds, trails, empty, most),
         }
     }
 

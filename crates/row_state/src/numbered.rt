@@ -10,10 +10,10 @@ ghost use Rattle.row_state.specs.Steps.{IsPossible, column_of, state_after};
 ghost use Rattle.row_state.specs.Tests.{gate_left, half_test, side_left};
 
 use crate::candidate::gate;
-use crate::coding::rows_number;
+use crate::coding::{code_of_rows, rows_number};
 use crate::gate::{OnGate, on_gate};
 use crate::step::column_cost;
-use crate::{Candidate, Kinds, Side, State, after, code};
+use crate::{Candidate, Kinds, Side, State, after};
 use cell_num::NoMemory;
 use std::alloc::Global;
 
@@ -86,7 +86,7 @@ impl Numbered {
         ensures numbered { IsNumbered kinds.now result }
     {
         let counts = rows_number(&state, kinds);
-        let code = code(&state, kinds);
+        let code = code_of_rows(counts, &state, kinds);
         Numbered {
             state,
             counts,

@@ -7,9 +7,10 @@ ghost use Rattle.row_state.specs.declared.kind.Kinds.{Kinds as KindsOf};
 ghost use Rattle.row_state.specs.declared.state.State.{State as StateOf};
 ghost use Rattle.row_state.specs.Runs.{IsOnGate};
 ghost use Rattle.row_state.specs.Start.{IsKind, IsState};
-ghost use Rattle.row_state.specs.Tests.{adds_odd, empty_test, halved, is_odd_behind, is_odd_net, kinds_in, left_of, parity_test, parity_trails};
+ghost use Rattle.row_state.specs.Tests.{adds_odd, empty_in, empty_test, halved, is_odd_behind, is_odd_net, kinds_in, left_of, parity_test, parity_trails};
 ghost use Rattle.row_state.specs.Trails.{end_of, size, toggle};
 
+use crate::bound::are_above;
 use crate::gate::{OnGate, behind, first_gates, next_on};
 use crate::{Kind, Kinds, PARITY_LOG, RowBound, State};
 use cell_num::{MOST_NETS, NetNo, Row};
@@ -127,7 +128,7 @@ fn empty_on(row: Row, on: &OnGate) -> u32
 #[tactic(auto, using(crate::proofs::ParityCode::empty_few, crate::proofs::Valid::p_fits, crate::proofs::Valid::n_fits))]
 pub(crate) fn count_empty(row: Row, state: &State, kinds: &Kinds) -> u32
     requires state { IsState kinds.now state.now }
-    ensures { result ≡ sum_below (empty_test row state.now kinds.now) kinds.now.nets }
+    ensures { result ≡ empty_in row state.now kinds.now }
 {
     kinds.show_limits();
     let mut empty = 0;
@@ -190,19 +191,6 @@ fn row_bound(row: Row, state: &State, kinds: &Kinds) -> u32
     count_trails_in(row, state, kinds).saturating_sub(empty)
 }
 
-#[tactic(auto, using(crate::proofs::ParityCode::parity_code))]
-fn is_row_above(row: Row, state: &State, kinds: &Kinds, trails: u32, most: u32) -> bool
-    requires state { IsState kinds.now state.now }
-    requires trails { trails ≡ parity_trails row (end_of row state.now) (left_of row state.now) kinds.now }
-    ensures { result ≡ ltb most (parity_value row state.now kinds.now) }
-{
-    if trails <= most {
-        return false;
-    }
-    let empty = count_empty(row, state, kinds);
-    most < trails.saturating_sub(empty)
-}
-
 impl RowBound for Parity {
     ghost use Rattle.row_state.specs.declared.bound.TheConstants.{PARITY_LOG};
 
@@ -225,8 +213,17 @@ impl RowBound for Parity {
         count_trails_in(row, state, kinds)
     }
 
-    fn is_above(&self, row: Row, state: &State, kinds: &Kinds, trails: u32, most: u32) -> bool {
-        is_row_above(row, state, kinds, trails, most)
+    #[tactic(auto, using(crate::proofs::ParityCode::parity_code))]
+    fn is_above(
+        &self,
+        row: Row,
+        state: &State,
+        kinds: &Kinds,
+        trails: u32,
+        empty: u32,
+        most: u32,
+    ) -> bool {
+        are_above(trails, empty, most)
     }
 
     fn version(&self) -> u32 {

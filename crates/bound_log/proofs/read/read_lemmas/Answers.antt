@@ -1,5 +1,6 @@
 use Rattle.std.proofs.Common.{rules, sym, ◌∙◌, ◌≡◌, ◌+◌, ◌≤◌, length, arith, Some}
 use Rattle.std.proofs.lemmas.Result.{err_from_is_err_and}
+use Rattle.cell_num.specs.declared.limits.TheConstants.{MOST_BYTES}
 use Rattle.bound_log.specs.declared.log.Entry.TheVariants as entry
 use Rattle.bound_log.specs.Line.{entry_in, words_in}
 use Rattle.bound_log.specs.Reading.{behind, lines_in, log_at}
@@ -19,5 +20,5 @@ returns-in-None-clause-fault c = λ _.
 pub lemmas-preserved : goal.lemmas-preserved
 lemmas-preserved c =
     let some : Some (entry.Lemma c.in-Some-Lemma.lemma) ≡ entry_in c.args.kinds.now (words_in c.in-Some.first.line.now) = search rules in
-    let few : length c.in-Some.first.after.now + (c.lemmas.number + 1) ≤ 2000000000 = omega (arith, c.in-Some.ensures.less, c.lemmas.invariant.0) in
+    let few : length c.in-Some.first.after.now + (c.lemmas.number + 1) ≤ MOST_BYTES + 3 = omega (arith, c.in-Some.ensures.less, c.lemmas.invariant.0) in
     (few, rw c.in_ok-push-in-Some-Lemma.ensures.ok (log_more c.args.version c.args.kinds.now c.lemmas.number (lines_in c.lemmas.rest.now) (behind c.lemmas.rest.now) c.lemmas.lemmas (log_at c.args.version c.args.kinds.now c.args.from (lines_in c.args.bytes.now) (behind c.args.bytes.now)) c.in-Some.first.line.now (lines_in c.in-Some.first.after.now) (behind c.in-Some.first.after.now) c.in-Some-Lemma.lemma c.lemmas.invariant.1 c.in-Some.ensures.line c.in-Some.ensures.behind some))

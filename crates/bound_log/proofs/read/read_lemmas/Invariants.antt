@@ -1,11 +1,12 @@
 use Rattle.std.proofs.Common.{◌≡◌, ◌+◌, ◌≤◌, length}
+use Rattle.cell_num.specs.declared.limits.TheConstants.{MOST_BYTES}
 use Rattle.bound_log.specs.Reading.{behind, lines_in, log_at}
 use Rattle.bound_log.proofs.Fronts.{with_lemmas}
 use Rattle.bound_log.proofs.read.read_lemmas.Given as goal
 
 abbrev pub invariant-lemmas : goal.invariant-lemmas
 invariant-lemmas l =
-    (length l.rest + l.number ≤ 2000000000)
+    (length l.rest + l.number ≤ MOST_BYTES + 3)
     × (with_lemmas l.lemmas (log_at l.version l.kinds l.number (lines_in l.rest) (behind l.rest)) ≡ log_at l.version l.kinds l.from (lines_in l.bytes) (behind l.bytes))
 
 abbrev pub decreases-lemmas : goal.decreases-lemmas

@@ -1,7 +1,8 @@
-use Rattle.std.proofs.Common.{rules, ◌≡◌, ◌≤◌, ◌<◌, ◌+◌, ◌-◌, get_or, arith, refl, sym, ap, None, ◌∙◌}
+use Rattle.std.proofs.Common.{rules, ◌≡◌, ◌≤◌, ◌<◌, ◌+◌, ◌-◌, get_or, arith, refl, subst, sym, ap, None, ◌∙◌}
 use Rattle.std.proofs.lemmas.List.Elements.{All-nil}
 use Rattle.row_state.specs.declared.candidate.Candidate.{Candidate}
 use Rattle.row_state.specs.declared.state.State.{State}
+use Rattle.row_state.specs.Emptied.{AreEmpty}
 use Rattle.row_state.specs.Start.{columns_left}
 use Rattle.row_state.proofs.Calls.{fewer_after}
 use Rattle.bound_log.specs.declared.log.Rule.TheVariants as by
@@ -69,6 +70,7 @@ visit-requires g t c κs within =
     let knows : KnowsAll c.args.task.now.kinds.now c.loop-next.progress = c.loop-next.invariant.0.knows in
     let few : c.args.allowed - c.cost-cost.result ≤ 32 = omega (arith, c.requires.few) in
     let noted = c.loop-next.invariant.2 in
+    let empty : AreEmpty c.args.task.now.kinds.now c.in_ok-behind.behind.state c.beyond-beyond.result = subst (λ (z : State). AreEmpty c.args.task.now.kinds.now z c.beyond-beyond.result) (sym c.in_ok-behind.ensures.state) (c.beyond-beyond.ensures c.args.task.now.kinds.now c.args.at.now.state c.show_limits.ensures (c.requires.candidates.each c.loop-next.next-index blank c.loop-next-test.true) (some_left c.allows.ensures c.if-not-allows.false) c.requires.empty) in
     search rules
 
 pub returns-in-Err-clause-further : goal.returns-in-Err-clause-further

@@ -1,28 +1,22 @@
-use Rattle.std.proofs.Common.{rules, ◌≡◌, true, false}
-use Rattle.std.specs.Option.{is_some}
-use Rattle.row_state.specs.Start.{AreSomeKinds}
+use Rattle.std.proofs.Common.{rules, ◌≡◌, ◌∷◌, [], OnOk, ap, subst, true}
+use Rattle.row_state.specs.Start.{IsState}
+use Rattle.bound_log.specs.declared.log.Lemma.{Lemma}
+use Rattle.log_check.specs.Items.{Checked, ForSeen, HasSeen, with_lemmas}
 use Rattle.log_check.specs.Known.{noted}
-use Rattle.log_check.proofs.Items.{checked, seen_more, seen_refused, seen_unproved}
+use Rattle.log_check.proofs.Items.{checked, valid_for}
 use Rattle.log_check.proofs.seen.Seen.lemma.Goals as goal
 
-pub returns-then-is_some-clause-seen : goal.returns-then-is_some-clause-seen
-returns-then-is_some-clause-seen g c = λ log seen.
+pub valid_lemma-requires-clause-state : goal.valid_lemma-requires-clause-state
+valid_lemma-requires-clause-state g c =
     let same : c.args.self.now ≡ checked c.self.inside.version c.self.inside.fingers c.self.inside.kinds (noted c.self.inside.known) c.self.inside.lemmas c.self.inside.unproved c.self.inside.row = search rules in
-    let is : is_some c.self.inside.unproved ≡ true = search rules in
-    seen_unproved (g.B.RowBound.value c.args.bound.now) c.args.self.now c.self.inside.version c.self.inside.fingers c.self.inside.kinds (noted c.self.inside.known) c.self.inside.lemmas c.self.inside.unproved c.self.inside.row log c.args.lemma.now same is seen
+    valid_for c.args.self.now c.self.inside.version c.self.inside.fingers c.self.inside.kinds (noted c.self.inside.known) c.self.inside.lemmas c.self.inside.unproved c.self.inside.row c.args.lemma.now.state c.in_ok-own.own.state same c.self.invariant.1 c.show_limits.ensures (c.is_state.ensures.0 c.if-not-is_state.false) (ap (λ (l : Lemma). l.state) c.in_ok-own.ensures)
 
-pub returns-then-not-branch-clause-seen : goal.returns-then-not-branch-clause-seen
-returns-then-not-branch-clause-seen g c = λ log seen.
+pub returns-then-not-is_state-clause-seen : goal.returns-then-not-is_state-clause-seen
+returns-then-not-is_state-clause-seen g c = λ log seen.
     let same : c.args.self.now ≡ checked c.self.inside.version c.self.inside.fingers c.self.inside.kinds (noted c.self.inside.known) c.self.inside.lemmas c.self.inside.unproved c.self.inside.row = search rules in
-    let none : is_some c.self.inside.unproved ≡ false = search rules in
-    let some : AreSomeKinds c.self.inside.kinds = search rules in
-    seen_refused (g.B.RowBound.value c.args.bound.now) c.args.self.now c.self.inside.version c.self.inside.fingers c.self.inside.kinds (noted c.self.inside.known) c.self.inside.lemmas c.self.inside.unproved c.self.inside.row log c.args.lemma.now same none some
-    (λ h. let yes : c.in_ok-is_justified.field-0 ≡ true = c.in_ok-is_justified.ensures.1 h in cc)
-    seen
+    c.refuse.ensures.seen (g.B.RowBound.value c.args.bound.now) c.args.lemma.now
+    (λ h. let yes : c.is_state.result ≡ true = c.is_state.ensures.1 (subst (λ (d : Checked). IsState d.kinds c.args.lemma.now.state) same h) in cc) log seen
 
 pub returns-clause-seen : goal.returns-clause-seen
-returns-clause-seen g c = λ log seen.
-    let same : c.args.self.now ≡ checked c.self.inside.version c.self.inside.fingers c.self.inside.kinds (noted c.self.inside.known) c.self.inside.lemmas c.self.inside.unproved c.self.inside.row = search rules in
-    let none : is_some c.self.inside.unproved ≡ false = search rules in
-    let some : AreSomeKinds c.self.inside.kinds = search rules in
-    seen_more (g.B.RowBound.value c.args.bound.now) c.args.self.now c.self.inside.version c.self.inside.fingers c.self.inside.kinds (noted c.self.inside.known) (noted c.note.new.self) c.self.inside.lemmas c.self.inside.unproved c.self.inside.row log c.args.lemma.now same none some (c.in_ok-is_justified.ensures.0 c.if-not-branch.false) c.in_ok-note.ensures.raised seen
+returns-clause-seen g c =
+    subst (λ (l : Lemma). OnOk c.valid_lemma.result (ForSeen (g.B.RowBound.value c.args.bound.now) c.args.self.now (λ log. HasSeen (g.B.RowBound.value c.args.bound.now) c.valid_lemma.new.self (with_lemmas log (l ∷ []))))) c.in_ok-own.ensures c.valid_lemma.ensures.seen
