@@ -1,6 +1,7 @@
 pub mod Ascending
 pub mod BandRuns
 pub mod Cells
+pub mod Copied
 pub mod Covered
 pub mod Decoded
 pub mod Drawings
@@ -11,12 +12,16 @@ pub mod Floors
 pub mod Found
 pub mod LibraryWords
 pub mod Limits
+pub mod Moved
+pub mod Indexed
 pub mod Nearest
 pub mod Passes
 pub mod PointLists
 pub mod Putting
+pub mod Reals
 pub mod Rectangles
 pub mod Refused
+pub mod Repeats
 pub mod RoundTrip
 pub mod RoundTripAccepted
 pub mod RoundTripExact
@@ -25,6 +30,7 @@ pub mod RoundTripPadded
 pub mod RoundTripRedrawn
 pub mod RoundTripWords
 pub mod Rows
+pub mod Steps
 pub mod Stretches
 pub mod Sweeping
 pub mod Tails

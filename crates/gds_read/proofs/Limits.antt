@@ -1,9 +1,8 @@
 -- What an element draws is kept up to the limit, and told where it goes beyond.
-use Rattle.std.proofs.Common.{ℕ, ◌≡◌, ◌+◌, ◌<◌, ◌≤◌, nat_lt, Option, Some, None, option_map, List, [], ◌∷◌, ◌++◌, length, Result, Ok, Err, refl, sym, subst, ap, ◌∙◌, arith, ◌⊎◌, inl, inr, append_assoc, append-nil}
+use Rattle.std.proofs.Common.{ℕ, ◌≡◌, ◌+◌, ◌-◌, ◌<◌, ◌≤◌, nat_lt, Option, Some, None, option_map, List, [], ◌∷◌, ◌++◌, length, Result, Ok, Err, refl, sym, subst, ap, ◌∙◌, arith, ◌⊎◌, inl, inr, append_assoc, append-nil}
 use Rattle.std.proofs.lemmas.Bool.{cases_Bool, ltb-true, ltb-false}
 use Rattle.std.proofs.Common.{length-append}
 use Rattle.box_geom.specs.declared.shape.Shape.{Shape}
-use Rattle.box_geom.specs.declared.shape.Shapes.{Shapes}
 use Rattle.gds_read.specs.declared.fault.GdsFault.{GdsFault}
 use Rattle.gds_read.specs.declared.fault.GdsFault.TheVariants as fault
 use Rattle.gds_read.specs.declared.area.Area.{Area}
@@ -13,9 +12,12 @@ use Rattle.gds_record.specs.Records.{Item}
 use Rattle.gds_read.specs.declared.units.Grid.{Grid}
 use Rattle.gds_read.specs.Points.{points_of}
 use Rattle.gds_read.specs.Areas.{shape_of, shapes_of, with_kept, put, put_all, Puts}
-use Rattle.gds_read.specs.Elements.{joined, rectangles, within_limit, layer_of, xy_place, xy_of, boundary_areas, path_areas_of, pen_of, pen_for, drawn_on, Adds}
+use Rattle.gds_read.specs.declared.placement.Move.{Move}
+use Rattle.gds_read.specs.declared.taken.Taken.{Taken}
+use Rattle.gds_read.specs.Taken.{rectangles, both, amount, within_limit, Adds}
+use Rattle.gds_read.specs.Elements.{layer_of, xy_place, xy_of, boundary_areas, path_areas_of, pen_of, pen_for, drawn_on}
 use Rattle.gds_read.proofs.Putting.{fault_of}
-use Rattle.gds_read.proofs.Drawings.{adds_same}
+use Rattle.gds_read.proofs.Drawings.{adds_fault_of}
 use Rattle.cell_num.specs.Steps.{◌>>=◌}
 
 abbrev all_kept : List Shape → List Shape → List Shape
@@ -73,103 +75,105 @@ kept_many old (s ∷ ss) h =
       | inr e ↦ let few = ltb-false 1000000 (length old) e in rw (room old s (omega (arith, few))) (kept_many (old ++ s ∷ []) ss (omega (arith, h, one_more old s)))
     ]
 
-pub within : (at count : ℕ) (one : Shapes) → count + length one.rects ≤ 1000000 → within_limit at count one ≡ Ok one
-within at count one h = elim (cases_Bool (nat_lt 1000000 (count + length one.rects))) [
-  | inl e ↦ absurd (let l = ltb-true 1000000 (count + length one.rects) e in omega (arith, h, l))
+pub within : (at count : ℕ) (one : Taken) → count + amount one ≤ 1000000 → within_limit at count one ≡ Ok one
+within at count one h = elim (cases_Bool (nat_lt 1000000 (count + amount one))) [
+  | inl e ↦ absurd (let l = ltb-true 1000000 (count + amount one) e in omega (arith, h, l))
   | inr e ↦ rw e refl
 ]
 
-beyond : (at count : ℕ) (one : Shapes) → 1000000 < count + length one.rects → within_limit at count one ≡ Err (fault.Wide at)
-beyond at count one h = elim (cases_Bool (nat_lt 1000000 (count + length one.rects))) [
+pub beyond : (at count : ℕ) (one : Taken) → 1000000 < count + amount one → within_limit at count one ≡ Err (fault.Wide at)
+beyond at count one h = elim (cases_Bool (nat_lt 1000000 (count + amount one))) [
   | inl e ↦ rw e refl
-  | inr e ↦ absurd (let l = ltb-false 1000000 (count + length one.rects) e in omega (arith, h, l))
+  | inr e ↦ absurd (let l = ltb-false 1000000 (count + amount one) e in omega (arith, h, l))
 ]
 
 -- what was drawn without a fault, and how many rectangles there are then
-record IsKept (at : ℕ) (pen : Pen) (old new : List Shape) (areas : Result (List Area) GdsFault) : Type 0 where
+record IsKept (at count : ℕ) (pen : Pen) (old new : List Shape) (areas : Result (List Area) GdsFault) : Type 0 where
   rects : List Shape
-  is : drawn_on at (length old) (Some pen) areas ≡ within_limit at (length old) (rectangles rects)
+  is : drawn_on at count (Some pen) areas ≡ within_limit at count (rectangles rects)
   kept : all_kept old rects ≡ new
 
 ok_is : (a b : List Shape) → ◌≡◌ {A = Result (List Shape) GdsFault} (Ok a) (Ok b) → a ≡ b
 ok_is a b e = cc
 
-kept_by : (at : ℕ) (pen : Pen) (old new : List Shape) (areas : Result (List Area) GdsFault) → (areas >>= put pen old) ≡ Ok new → IsKept at pen old new areas
-kept_by at pen old new (Err f) e = absurd cc
-kept_by at pen old new (Ok xs) e = by (shapes_of pen xs) refl (sym (put_is pen old xs) ∙ e)
+kept_by : (at count : ℕ) (pen : Pen) (old new : List Shape) (areas : Result (List Area) GdsFault) → (areas >>= put pen old) ≡ Ok new → IsKept at count pen old new areas
+kept_by at count pen old new (Err f) e = absurd cc
+kept_by at count pen old new (Ok xs) e = by (shapes_of pen xs) refl (sym (put_is pen old xs) ∙ e)
   where
-    by : (x : Result (List Shape) GdsFault) → shapes_of pen xs ≡ x → (x >>= λ rects. Ok (all_kept old rects)) ≡ Ok new → IsKept at pen old new (Ok xs)
+    by : (x : Result (List Shape) GdsFault) → shapes_of pen xs ≡ x → (x >>= λ rects. Ok (all_kept old rects)) ≡ Ok new → IsKept at count pen old new (Ok xs)
     by (Err f) q p = absurd cc
-    by (Ok rects) q p = record { rects = rects; is = ap (λ (x : Result (List Shape) GdsFault). x >>= λ rects. within_limit at (length old) (rectangles rects)) q; kept = ok_is (all_kept old rects) new p }
+    by (Ok rects) q p = record { rects = rects; is = ap (λ (x : Result (List Shape) GdsFault). x >>= λ rects. within_limit at count (rectangles rects)) q; kept = ok_is (all_kept old rects) new p }
 
--- the shapes after an element whose rectangles have room
-pub adds_drawn : (at : ℕ) (pen : Pen) (old : Shapes) (new : List Shape) (areas : Result (List Area) GdsFault) → (areas >>= put pen old.rects) ≡ Ok new → length new ≤ 1000000 → Adds (Ok tt) old (record { rects = new; labels = old.labels }) (drawn_on at (length old.rects) (Some pen) areas)
-adds_drawn at pen old new areas e few =
-    let k = kept_by at pen old.rects new areas e in
-    all k (elim (many_or_few k) [ inl many ↦ absurd (let m = kept_many old.rects k.rects many in let c = ap length k.kept in omega (arith, m, c, few)) | inr less ↦ less ])
+abbrev with_rects : Taken → List Shape → Taken
+with_rects old new = record { shapes = record { rects = new; labels = old.shapes.labels }; refs = old.refs }
+
+-- what is taken after an element whose rectangles have room
+pub adds_drawn : (at : ℕ) (pen : Pen) (old : Taken) (new : List Shape) (areas : Result (List Area) GdsFault) → (areas >>= put pen old.shapes.rects) ≡ Ok new → amount old ≤ 1000000 → length new ≤ 1000000 - old.refs → Adds (Ok tt) old (record { shapes = record { rects = new; labels = old.shapes.labels }; refs = old.refs }) (drawn_on at (amount old) (Some pen) areas)
+adds_drawn at pen old new areas e start few =
+    let k = kept_by at (amount old) pen old.shapes.rects new areas e in
+    all k (elim (many_or_few k) [ inl many ↦ absurd (let m = kept_many old.shapes.rects k.rects many in let c = ap length k.kept in omega (arith, m, c, few)) | inr less ↦ less ])
   where
-    many_or_few : (k : IsKept at pen old.rects new areas) → (1000000 < length old.rects + length k.rects) ⊎ (length old.rects + length k.rects ≤ 1000000)
-    many_or_few k = elim (cases_Bool (nat_lt 1000000 (length old.rects + length k.rects))) [
-      | inl e ↦ inl (let l = ltb-true 1000000 (length old.rects + length k.rects) e in omega (arith, l))
-      | inr e ↦ inr (let l = ltb-false 1000000 (length old.rects + length k.rects) e in omega (arith, l))
+    many_or_few : (k : IsKept at (amount old) pen old.shapes.rects new areas) → (1000000 < length old.shapes.rects + length k.rects) ⊎ (length old.shapes.rects + length k.rects ≤ 1000000)
+    many_or_few k = elim (cases_Bool (nat_lt 1000000 (length old.shapes.rects + length k.rects))) [
+      | inl e ↦ inl (let l = ltb-true 1000000 (length old.shapes.rects + length k.rects) e in omega (arith, l))
+      | inr e ↦ inr (let l = ltb-false 1000000 (length old.shapes.rects + length k.rects) e in omega (arith, l))
     ]
 
-    same : (k : IsKept at pen old.rects new areas) → old.rects ++ k.rects ≡ new → ◌≡◌ {A = Shapes} (record { rects = new; labels = old.labels }) (joined old (rectangles k.rects))
-    same k e = rw (e, append-nil old.labels) refl
+    same : (k : IsKept at (amount old) pen old.shapes.rects new areas) → old.shapes.rects ++ k.rects ≡ new → ◌≡◌ {A = Taken} (with_rects old new) (both old (rectangles k.rects))
+    same k e = rw (e, append-nil old.shapes.labels, (let z : old.refs + 0 ≡ old.refs = omega arith in z)) refl
 
-    all : (k : IsKept at pen old.rects new areas) → length old.rects + length k.rects ≤ 1000000 → Adds (Ok tt) old (record { rects = new; labels = old.labels }) (drawn_on at (length old.rects) (Some pen) areas)
-    all k less = rw (k.is, within at (length old.rects) (rectangles k.rects) less) (same k (sym (kept_few old.rects k.rects less) ∙ k.kept))
+    all : (k : IsKept at (amount old) pen old.shapes.rects new areas) → length old.shapes.rects + length k.rects ≤ 1000000 → Adds (Ok tt) old (with_rects old new) (drawn_on at (amount old) (Some pen) areas)
+    all k less =
+        let whole : old.shapes.rects ++ k.rects ≡ new = sym (kept_few old.shapes.rects k.rects less) ∙ k.kept in
+        let c = ap length whole in
+        rw (k.is, within at (amount old) (rectangles k.rects) (omega (arith, few, start, c, length-append old.shapes.rects k.rects))) (same k whole)
 
-pub is_wide : (at : ℕ) (pen : Pen) (old new : List Shape) (areas : Result (List Area) GdsFault) → (areas >>= put pen old) ≡ Ok new → length old ≤ 1000000 → 1000000 < length new → drawn_on at (length old) (Some pen) areas ≡ Err (fault.Wide at)
+pub is_wide : (at : ℕ) (pen : Pen) (old : Taken) (new : List Shape) (areas : Result (List Area) GdsFault) → (areas >>= put pen old.shapes.rects) ≡ Ok new → amount old ≤ 1000000 → 1000000 - old.refs < length new → drawn_on at (amount old) (Some pen) areas ≡ Err (fault.Wide at)
 is_wide at pen old new areas e start many =
-    let k = kept_by at pen old new areas e in
-    k.is ∙ beyond at (length old) (rectangles k.rects) (elim (cases_Bool (nat_lt 1000000 (length old + length k.rects))) [
-      | inl e ↦ let l = ltb-true 1000000 (length old + length k.rects) e in omega (arith, l)
-      | inr e ↦ absurd (let l = ltb-false 1000000 (length old + length k.rects) e in let c = ap length (sym (kept_few old k.rects l) ∙ k.kept) in omega (arith, l, c, many, length-append old k.rects))
+    let k = kept_by at (amount old) pen old.shapes.rects new areas e in
+    k.is ∙ beyond at (amount old) (rectangles k.rects) (elim (cases_Bool (nat_lt 1000000 (length old.shapes.rects + length k.rects))) [
+      | inl e ↦ let l = ltb-true 1000000 (length old.shapes.rects + length k.rects) e in omega (arith, l)
+      | inr e ↦ let l = ltb-false 1000000 (length old.shapes.rects + length k.rects) e in let c = ap length (sym (kept_few old.shapes.rects k.rects l) ∙ k.kept) in omega (arith, l, c, many, start, length-append old.shapes.rects k.rects)
     ])
 
 fault_is : (f g : GdsFault) → ◌≡◌ {A = Result (List Shape) GdsFault} (Err f) (Err g) → f ≡ g
 fault_is f g e = cc
 
-faulty : (at : ℕ) (pen : Pen) (old : List Shape) (areas : Result (List Area) GdsFault) (f : GdsFault) → (areas >>= put pen old) ≡ Err f → drawn_on at (length old) (Some pen) areas ≡ Err f
-faulty at pen old (Err g) f e = ap (λ (h : GdsFault). Err h) (fault_is g f e)
-faulty at pen old (Ok xs) f e = by (shapes_of pen xs) (sym (put_is pen old xs) ∙ e)
+faulty : (at count : ℕ) (pen : Pen) (old : List Shape) (areas : Result (List Area) GdsFault) (f : GdsFault) → (areas >>= put pen old) ≡ Err f → drawn_on at count (Some pen) areas ≡ Err f
+faulty at count pen old (Err g) f e = ap (λ (h : GdsFault). Err h) (fault_is g f e)
+faulty at count pen old (Ok xs) f e = by (shapes_of pen xs) (sym (put_is pen old xs) ∙ e)
   where
-    by : (x : Result (List Shape) GdsFault) → (x >>= λ rects. Ok (all_kept old rects)) ≡ Err f → (x >>= λ rects. within_limit at (length old) (rectangles rects)) ≡ Err f
+    by : (x : Result (List Shape) GdsFault) → (x >>= λ rects. Ok (all_kept old rects)) ≡ Err f → (x >>= λ rects. within_limit at count (rectangles rects)) ≡ Err f
     by (Ok rects) p = absurd cc
     by (Err g) p = ap (λ (h : GdsFault). Err h) (fault_is g f p)
 
-pub adds_fault : (at : ℕ) (pen : Pen) (old new : Shapes) (last : List Shape) (areas : Result (List Area) GdsFault) (f : GdsFault) → Puts {A = Unit {0}} (Err f) last (areas >>= put pen old.rects) → Adds (Err f) old new (drawn_on at (length old.rects) (Some pen) areas)
-adds_fault at pen old new last areas f puts = elim (fault_of f last (areas >>= put pen old.rects) puts) [
-  | inl short ↦ rw short (out (drawn_on at (length old.rects) (Some pen) areas))
-  | inr same ↦ rw (faulty at pen old.rects areas f same) (adds_same f old new)
+pub adds_fault : (at : ℕ) (pen : Pen) (old new : Taken) (last : List Shape) (areas : Result (List Area) GdsFault) (f : GdsFault) → Puts {A = Unit {0}} (Err f) last (areas >>= put pen old.shapes.rects) → Adds (Err f) old new (drawn_on at (amount old) (Some pen) areas)
+adds_fault at pen old new last areas f puts = elim (fault_of f last (areas >>= put pen old.shapes.rects) puts) [
+  | inl short ↦ adds_fault_of f old new (drawn_on at (amount old) (Some pen) areas) (inl short)
+  | inr same ↦ adds_fault_of f old new (drawn_on at (amount old) (Some pen) areas) (inr (faulty at (amount old) pen old.shapes.rects areas f same))
 ]
-  where
-    out : (x : Result Shapes GdsFault) → Adds (Err fault.NoMemory) old new x
-    out (Ok s) = tt
-    out (Err g) = tt
 
 -- ---- the faults of a boundary and of a path
 
-pen_at : (grid : Grid) (inside : List Item) (pen : Pen) → pen_for grid inside ≡ Some pen → pen.at ≡ xy_place inside
-pen_at grid inside pen e = by (layer_of inside) e
+pen_at : (grid : Grid) (stands : Move) (inside : List Item) (pen : Pen) → pen_for grid stands inside ≡ Some pen → pen.at ≡ xy_place inside
+pen_at grid stands inside pen e = by (layer_of inside) e
   where
     some_is : (a b : Pen) → ◌≡◌ {A = Option Pen} (Some a) (Some b) → a ≡ b
     some_is a b q = cc
 
-    by : (o : Option Layer) → option_map (pen_of grid inside) o ≡ Some pen → pen.at ≡ xy_place inside
+    by : (o : Option Layer) → option_map (pen_of grid stands inside) o ≡ Some pen → pen.at ≡ xy_place inside
     by None q = absurd cc
-    by (Some on) q = ap (λ (p : Pen). p.at) (sym (some_is (pen_of grid inside on) pen q))
+    by (Some on) q = ap (λ (p : Pen). p.at) (sym (some_is (pen_of grid stands inside on) pen q))
 
-pub boundary_fault : (grid : Grid) (at : ℕ) (inside : List Item) (pen : Pen) (old new : Shapes) (last : List Shape) (xy : List ℕ) (f : GdsFault) → pen_for grid inside ≡ Some pen → xy ≡ xy_of inside → Puts {A = Unit {0}} (Err f) last (put_all pen old.rects (boundary_areas pen.at (points_of xy))) → Adds (Err f) old new (drawn_on at (length old.rects) (pen_for grid inside) (boundary_areas (xy_place inside) (points_of (xy_of inside))))
-boundary_fault grid at inside pen old new last xy f told points puts =
-    subst (λ (o : Option Pen). Adds (Err f) old new (drawn_on at (length old.rects) o (boundary_areas (xy_place inside) (points_of (xy_of inside))))) (sym told)
+pub boundary_fault : (grid : Grid) (stands : Move) (at : ℕ) (inside : List Item) (pen : Pen) (old new : Taken) (last : List Shape) (xy : List ℕ) (f : GdsFault) → pen_for grid stands inside ≡ Some pen → xy ≡ xy_of inside → Puts {A = Unit {0}} (Err f) last (put_all pen old.shapes.rects (boundary_areas pen.at (points_of xy))) → Adds (Err f) old new (drawn_on at (amount old) (pen_for grid stands inside) (boundary_areas (xy_place inside) (points_of (xy_of inside))))
+boundary_fault grid stands at inside pen old new last xy f told points puts =
+    subst (λ (o : Option Pen). Adds (Err f) old new (drawn_on at (amount old) o (boundary_areas (xy_place inside) (points_of (xy_of inside))))) (sym told)
     (adds_fault at pen old new last (boundary_areas (xy_place inside) (points_of (xy_of inside))) f
-    (subst (λ (t : List ℕ). Puts {A = Unit {0}} (Err f) last (put_all pen old.rects (boundary_areas (xy_place inside) (points_of t)))) points
-    (subst (λ (n : ℕ). Puts {A = Unit {0}} (Err f) last (put_all pen old.rects (boundary_areas n (points_of xy)))) (pen_at grid inside pen told) puts)))
+    (subst (λ (t : List ℕ). Puts {A = Unit {0}} (Err f) last (put_all pen old.shapes.rects (boundary_areas (xy_place inside) (points_of t)))) points
+    (subst (λ (n : ℕ). Puts {A = Unit {0}} (Err f) last (put_all pen old.shapes.rects (boundary_areas n (points_of xy)))) (pen_at grid stands inside pen told) puts)))
 
-pub path_fault : (grid : Grid) (at : ℕ) (inside : List Item) (pen : Pen) (old new : Shapes) (last : List Shape) (f : GdsFault) → pen_for grid inside ≡ Some pen → Puts {A = Unit {0}} (Err f) last (put_all pen old.rects (path_areas_of pen.at inside)) → Adds (Err f) old new (drawn_on at (length old.rects) (pen_for grid inside) (path_areas_of (xy_place inside) inside))
-path_fault grid at inside pen old new last f told puts =
-    subst (λ (o : Option Pen). Adds (Err f) old new (drawn_on at (length old.rects) o (path_areas_of (xy_place inside) inside))) (sym told)
+pub path_fault : (grid : Grid) (stands : Move) (at : ℕ) (inside : List Item) (pen : Pen) (old new : Taken) (last : List Shape) (f : GdsFault) → pen_for grid stands inside ≡ Some pen → Puts {A = Unit {0}} (Err f) last (put_all pen old.shapes.rects (path_areas_of pen.at inside)) → Adds (Err f) old new (drawn_on at (amount old) (pen_for grid stands inside) (path_areas_of (xy_place inside) inside))
+path_fault grid stands at inside pen old new last f told puts =
+    subst (λ (o : Option Pen). Adds (Err f) old new (drawn_on at (amount old) o (path_areas_of (xy_place inside) inside))) (sym told)
     (adds_fault at pen old new last (path_areas_of (xy_place inside) inside) f
-    (subst (λ (n : ℕ). Puts {A = Unit {0}} (Err f) last (put_all pen old.rects (path_areas_of n inside))) (pen_at grid inside pen told) puts))
+    (subst (λ (n : ℕ). Puts {A = Unit {0}} (Err f) last (put_all pen old.shapes.rects (path_areas_of n inside))) (pen_at grid stands inside pen told) puts))

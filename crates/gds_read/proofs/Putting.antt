@@ -32,6 +32,7 @@ fault_of (fault.Slant at) new x puts = inr puts
 fault_of (fault.Grid at) new x puts = inr puts
 fault_of (fault.Reference at) new x puts = inr puts
 fault_of fault.NoMemory new x puts = inl refl
+fault_of (fault.Deep at) new x puts = inr puts
 fault_of (fault.Wide at) new x puts = inr puts
 
 pub puts_same : (f : GdsFault) (new : List Shape) (x : Result (List Shape) GdsFault) → x ≡ Err f → Puts {A = Unit {0}} (Err f) new x
@@ -46,6 +47,7 @@ puts_same (fault.Slant at) new x e = e
 puts_same (fault.Grid at) new x e = e
 puts_same (fault.Reference at) new x e = e
 puts_same fault.NoMemory new x e = tt
+puts_same (fault.Deep at) new x e = e
 puts_same (fault.Wide at) new x e = e
 
 -- a fault stays the fault of what follows

@@ -1,13 +1,15 @@
 -- What is written is read back.
-use Rattle.std.proofs.Common.{ℕ, ◌≡◌, ◌*◌, List, Result, ap, ◌∙◌, arith}
+use Rattle.std.proofs.Common.{ℕ, ◌≡◌, ◌*◌, List, Result, Ok, ap, ◌∙◌, arith}
 use Rattle.box_geom.specs.declared.shape.Shapes.{Shapes}
 use Rattle.gds_record.specs.declared.types.RecordType.TheVariants as record_type
-use Rattle.gds_record.specs.Records.{Item, Stream}
+use Rattle.gds_record.specs.Records.{Item, Stream, items_from}
 use Rattle.gds_read.specs.declared.fault.GdsFault.{GdsFault}
 use Rattle.cell_num.specs.Steps.{◌>>=◌}
 use Rattle.gds_read.specs.Structure.{found_in, one_of}
-use Rattle.gds_read.specs.Elements.{elements_of, until, content_of, drawn}
-use Rattle.gds_read.specs.Decoding.{unit_in, units_of, grid_in, decoded, Decodes}
+use Rattle.gds_read.specs.Elements.{elements_of, until, content_of}
+use Rattle.gds_read.specs.declared.taken.Taken.{Taken}
+use Rattle.gds_read.specs.Flat.{drawn}
+use Rattle.gds_read.specs.Decoding.{unit_in, units_of, file_in, decoded, Decodes}
 use Rattle.gds_read.specs.RoundTrip.{IsReadable}
 use Rattle.gds_read.proofs.RoundTripAccepted.{written_passes}
 use Rattle.gds_read.proofs.RoundTripLocated.{body, written_found}
@@ -23,7 +25,8 @@ pub round_trip : (name : List ℕ) (shapes : Shapes) (unit : ℕ) → IsReadable
 unfolding decoded
 round_trip name shapes unit is =
     let bytes : List ℕ = written name shapes unit in
-    ap (λ (r : Result ℕ GdsFault). r >>= λ end. one_of name (found_in bytes name) >>= λ records. drawn (grid_in bytes (2 * unit)) 0 (elements_of records)) (written_passes name shapes unit is.named is.labels)
-    ∙ (ap (λ (r : Result (List Item) GdsFault). r >>= λ records. drawn (grid_in bytes (2 * unit)) 0 (elements_of records)) (written_found name shapes unit is.named is.labels is.named_whole)
-    ∙ (ap (λ (n : ℕ). drawn (record { picometres = n; lambda_nm = 2 * unit }) 0 (elements_of (body name shapes unit))) (nanometre name shapes unit is)
-    ∙ shapes_drawn unit 0 shapes.rects shapes.labels _ is.enough (omega (arith, is.few)) is.rects is.limits is.labels is.labels_whole))
+    let records : List Item = items_from bytes 0 in
+    ap (λ (r : Result ℕ GdsFault). r >>= λ end. one_of name (found_in bytes name) >>= λ records. drawn (file_in bytes (2 * unit)) 0 (elements_of records) >>= λ taken. Ok taken.shapes) (written_passes name shapes unit is.named is.labels)
+    ∙ (ap (λ (r : Result (List Item) GdsFault). r >>= λ records. drawn (file_in bytes (2 * unit)) 0 (elements_of records) >>= λ taken. Ok taken.shapes) (written_found name shapes unit is.named is.labels is.named_whole)
+    ∙ ap (λ (r : Result Taken GdsFault). r >>= λ taken. Ok taken.shapes) (ap (λ (n : ℕ). drawn (record { grid = record { picometres = n; lambda_nm = 2 * unit }; records = records }) 0 (elements_of (body name shapes unit))) (nanometre name shapes unit is)
+    ∙ shapes_drawn records unit 0 shapes.rects shapes.labels _ is.enough (omega (arith, is.few)) is.rects is.limits is.labels is.labels_whole))

@@ -18,13 +18,13 @@ two bytes lookup.NoCell one rest all other s = absurd (other refl)
 two bytes lookup.Twice one rest all other s = absurd s
 two bytes (lookup.At place) one rest all other s = subst (λ (t : List (List Item)). Finds bytes lookup.Twice t) s tt
 
-none_here : (bytes name : List ℕ) (at : ℕ) (f : RecFault) → record_at bytes at ≡ Err f → behind_name name (items_from bytes at) ≡ []
+pub none_here : (bytes name : List ℕ) (at : ℕ) (f : RecFault) → record_at bytes at ≡ Err f → behind_name name (items_from bytes at) ≡ []
 none_here bytes name at f e = ap (λ (t : List Item). behind_name name t) (items_end bytes at f e)
 
-not_here : (bytes name : List ℕ) (at : ℕ) (r : GdsRec) → record_at bytes at ≡ Ok r → is_named name (item_of bytes r) ≡ false → behind_name name (items_from bytes at) ≡ behind_name name (items_from bytes r.next)
+pub not_here : (bytes name : List ℕ) (at : ℕ) (r : GdsRec) → record_at bytes at ≡ Ok r → is_named name (item_of bytes r) ≡ false → behind_name name (items_from bytes at) ≡ behind_name name (items_from bytes r.next)
 not_here bytes name at r e other = ap (λ (t : List Item). behind_name name t) (items_more bytes at r e) ∙ (rw other refl)
 
-here : (bytes name : List ℕ) (at : ℕ) (r : GdsRec) → record_at bytes at ≡ Ok r → is_named name (item_of bytes r) ≡ true → behind_name name (items_from bytes at) ≡ items_from bytes r.next ∷ behind_name name (items_from bytes r.next)
+pub here : (bytes name : List ℕ) (at : ℕ) (r : GdsRec) → record_at bytes at ≡ Ok r → is_named name (item_of bytes r) ≡ true → behind_name name (items_from bytes at) ≡ items_from bytes r.next ∷ behind_name name (items_from bytes r.next)
 here bytes name at r e same = ap (λ (t : List Item). behind_name name t) (items_more bytes at r e) ∙ (rw same refl)
 
 pub ends : (bytes name : List ℕ) (at : ℕ) (found : Lookup) (f : RecFault) → record_at bytes at ≡ Err f → SoFar bytes found (behind_name name (items_from bytes at)) (found_in bytes name) → Finds bytes found (found_in bytes name)

@@ -10,6 +10,7 @@ use Rattle.gds_read.specs.declared.units.Ends.{Ends}
 use Rattle.gds_read.specs.declared.area.Span.{Span}
 use Rattle.gds_read.specs.declared.area.Area.{Area}
 use Rattle.gds_read.specs.declared.area.Pen.{Pen}
+use Rattle.gds_read.specs.Moves.{moved_area}
 use Rattle.gds_read.specs.Units.{whole_units_of, ends_of}
 use Rattle.cell_num.specs.Steps.{◌>>=◌}
 
@@ -35,9 +36,9 @@ abbrev pub shape_on : Pen → Option Rectangle → Result Shape GdsFault
 shape_on pen None = Err (fault.Grid pen.at)
 shape_on pen (Some rect) = Ok (record { layer = pen.layer; rect = rect })
 
--- the area's corners are whole numbers of grid units within the limits of a drawing
+-- the corners of the area as it stands are whole numbers of grid units within the limits of a drawing
 abbrev pub shape_of : Pen → Area → Result Shape GdsFault
-shape_of pen area = shape_on pen (rectangle_of pen.grid area)
+shape_of pen area = shape_on pen (rectangle_of pen.grid (moved_area pen.stands area))
 
 abbrev pub shapes_of : Pen → List Area → Result (List Shape) GdsFault
 shapes_of pen [] = Ok []

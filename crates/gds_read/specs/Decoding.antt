@@ -11,7 +11,10 @@ use Rattle.cell_num.specs.Steps.{◌>>=◌}
 use Rattle.gds_read.specs.Grammar.{first_pass_of}
 use Rattle.gds_read.specs.Library.{IsLibrary, IsFirstFault}
 use Rattle.gds_read.specs.Structure.{found_in, one_of}
-use Rattle.gds_read.specs.Elements.{Element, until, content_of, elements_of, drawn_by, drawn}
+use Rattle.gds_read.specs.declared.taken.Taken.{Taken}
+use Rattle.gds_read.specs.Taken.{amount}
+use Rattle.gds_read.specs.Elements.{Element, until, content_of, elements_of}
+use Rattle.gds_read.specs.Flat.{File, file_of, drawn_by, drawn}
 
 -- the second of the two reals of UNITS
 abbrev pub unit_in : List ℕ → ℕ
@@ -24,13 +27,17 @@ units_of bytes = content_of record_type.Units (until record_type.BgnStr (items_f
 abbrev pub grid_in : List ℕ → ℕ → Grid
 grid_in bytes lambda = record { picometres = unit_in (units_of bytes); lambda_nm = lambda }
 
+abbrev pub file_in : List ℕ → ℕ → File
+file_in bytes lambda = file_of (grid_in bytes lambda) bytes
+
 -- The whole library is looked at first, then the structure is looked for, then its elements are drawn
 -- in order.
 unfoldable pub decoded : List ℕ → List ℕ → ℕ → Result Shapes GdsFault
 decoded bytes name lambda =
     first_pass_of bytes
     >>= λ end. one_of name (found_in bytes name)
-    >>= λ records. drawn (grid_in bytes lambda) 0 (elements_of records)
+    >>= λ records. drawn (file_in bytes lambda) 0 (elements_of records)
+    >>= λ taken. Ok taken.shapes
 
 abbrev pub Decodes : List ℕ → List ℕ → ℕ → Shapes → Type 0
 Decodes bytes name lambda shapes = decoded bytes name lambda ≡ Ok shapes
@@ -50,18 +57,19 @@ pub record IsCell (bytes name : List ℕ) (lambda : ℕ) (shapes : Shapes) : Typ
   pub records : List Item
   pub library : IsLibrary bytes end
   pub one : found_in bytes name ≡ records ∷ []
-  pub draws : drawn (grid_in bytes lambda) 0 (elements_of records) ≡ Ok shapes
+  pub refs : ℕ
+  pub draws : drawn (file_in bytes lambda) 0 (elements_of records) ≡ Ok (record { shapes = shapes; refs = refs })
 
 -- The first element that has a fault: those before it are drawn without one, and so many rectangles
--- stand before it.
-pub record IsFirstFaulty (grid : Grid) (elements : List Element) (f : GdsFault) : Type 0 where
+-- and references stand before it.
+pub record IsFirstFaulty (file : File) (elements : List Element) (f : GdsFault) : Type 0 where
   pub before : List Element
-  pub shapes : Shapes
+  pub taken : Taken
   pub faulty : Element
   pub behind : List Element
   pub is : elements ≡ before ++ (faulty ∷ behind)
-  pub drawn_before : drawn grid 0 before ≡ Ok shapes
-  pub fault : drawn_by grid (length shapes.rects) faulty faulty.kind ≡ Err f
+  pub drawn_before : drawn file 0 before ≡ Ok taken
+  pub fault : drawn_by file (amount taken) faulty faulty.kind ≡ Err f
 
 -- the bytes are a library, but no structure has the name
 pub record HasNoCell (bytes name : List ℕ) (f : GdsFault) : Type 0 where
@@ -86,7 +94,7 @@ pub record HasFaultyElement (bytes name : List ℕ) (lambda : ℕ) (f : GdsFault
   pub records : List Item
   pub library : IsLibrary bytes end
   pub one : found_in bytes name ≡ records ∷ []
-  pub first : IsFirstFaulty (grid_in bytes lambda) (elements_of records) f
+  pub first : IsFirstFaulty (file_in bytes lambda) (elements_of records) f
 
 -- why no cell is read
 abbrev pub IsCellFault : List ℕ → List ℕ → ℕ → GdsFault → Type 0

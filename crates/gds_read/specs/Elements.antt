@@ -17,6 +17,9 @@ use Rattle.gds_read.specs.declared.area.Pen.{Pen}
 use Rattle.gds_read.specs.declared.path.Reach.{Reach}
 use Rattle.gds_read.specs.declared.point.Point.{Point}
 use Rattle.gds_read.specs.declared.label.Spot.{Spot}
+use Rattle.gds_read.specs.declared.placement.Move.{Move}
+use Rattle.gds_read.specs.declared.taken.Taken.{Taken}
+use Rattle.gds_read.specs.Taken.{nothing_drawn, nothing_taken, rectangles, within_limit}
 use Rattle.gds_read.specs.Units.{floor_units_of}
 use Rattle.gds_read.specs.Structure.{is_type, trimmed}
 use Rattle.gds_read.specs.Points.{signed_at, points_of, has_slant, closed}
@@ -82,9 +85,6 @@ xy_place inside = place_of (find (is_type record_type.Xy) inside)
 abbrev pub xy_of : List Item → List ℕ
 xy_of inside = content_of record_type.Xy inside
 
-abbrev pub nothing_drawn : Shapes
-nothing_drawn = record { rects = []; labels = [] }
-
 -- ---- boundaries and paths
 
 -- A boundary is taken round to its first point.
@@ -119,23 +119,16 @@ areas_of at inside record_type.Boundary = boundary_areas at (points_of (xy_of in
 areas_of at inside record_type.Path = path_areas_of at inside
 areas_of at inside _ = Ok []
 
-abbrev pub rectangles : List Shape → Shapes
-rectangles rects = record { rects = rects; labels = [] }
-
-abbrev pub pen_of : Grid → List Item → Layer → Pen
-pen_of grid inside on = record { grid = grid; layer = on; at = xy_place inside }
-
--- A structure has at most 1,000,000 rectangles; so many were drawn before the element.
-abbrev pub within_limit : ℕ → ℕ → Shapes → Result Shapes GdsFault
-within_limit at count one = if nat_lt 1000000 (count + length one.rects) then Err (fault.Wide at) else Ok one
+abbrev pub pen_of : Grid → Move → List Item → Layer → Pen
+pen_of grid stands inside on = record { grid = grid; stands = stands; layer = on; at = xy_place inside }
 
 -- What is on a layer of the drawing is drawn.
-abbrev pub drawn_on : ℕ → ℕ → Option Pen → Result (List Area) GdsFault → Result Shapes GdsFault
-drawn_on at count None areas = Ok nothing_drawn
+abbrev pub drawn_on : ℕ → ℕ → Option Pen → Result (List Area) GdsFault → Result Taken GdsFault
+drawn_on at count None areas = Ok nothing_taken
 drawn_on at count (Some pen) areas = areas >>= λ list. shapes_of pen list >>= λ rects. within_limit at count (rectangles rects)
 
-abbrev pub pen_for : Grid → List Item → Option Pen
-pen_for grid inside = option_map (pen_of grid inside) (layer_of inside)
+abbrev pub pen_for : Grid → Move → List Item → Option Pen
+pen_for grid stands inside = option_map (pen_of grid stands inside) (layer_of inside)
 
 -- ---- labels
 
@@ -162,46 +155,3 @@ text_spot grid e = text_on grid (xy_place e.inside) (xy_of e.inside) (layer_of e
 abbrev pub with_label : List ℕ → Option Spot → Shapes
 with_label name None = nothing_drawn
 with_label name (Some spot) = record { rects = []; labels = record { layer = spot.layer; x = spot.x; y = spot.y; name = name } ∷ [] }
-
--- what an element draws, or its first fault
-abbrev pub drawn_by : Grid → ℕ → Element → RecordType → Result Shapes GdsFault
-drawn_by grid count e record_type.Boundary = drawn_on e.at count (pen_for grid e.inside) (areas_of (xy_place e.inside) e.inside record_type.Boundary)
-drawn_by grid count e record_type.Path = drawn_on e.at count (pen_for grid e.inside) (areas_of (xy_place e.inside) e.inside record_type.Path)
-drawn_by grid count e record_type.Text = text_spot grid e >>= λ spot. Ok (with_label (trimmed (content_of record_type.StringText e.inside)) spot)
-drawn_by grid count e record_type.SRef = Err (fault.Reference e.at)
-drawn_by grid count e record_type.ARef = Err (fault.Reference e.at)
-drawn_by grid count e _ = Ok nothing_drawn
-
--- the same of a record and those behind it; one that begins no element draws nothing
-abbrev pub drawn_at : Grid → ℕ → Item → List Item → Option RecordType → Result Shapes GdsFault
-drawn_at grid count r rs None = Ok nothing_drawn
-drawn_at grid count r rs (Some kind) = drawn_by grid count (record { kind = kind; at = r.at; inside = until record_type.EndEl rs }) kind
-
-abbrev pub joined : Shapes → Shapes → Shapes
-joined a b = record { rects = a.rects ++ b.rects; labels = a.labels ++ b.labels }
-
--- what the elements draw in order, or the first fault; so many rectangles were drawn before
-unfoldable pub drawn : Grid → ℕ → List Element → Result Shapes GdsFault
-drawn grid count [] = Ok nothing_drawn
-drawn grid count (e ∷ es) = drawn_by grid count e e.kind >>= λ one. drawn grid (count + length one.rects) es >>= λ rest. Ok (joined one rest)
-
--- Memory may run out anywhere; else the answer is the one read.
-abbrev pub Gives : Result Shapes GdsFault → Result Shapes GdsFault → Type 0
-Gives (Ok shapes) read = read ≡ Ok shapes
-Gives (Err fault.NoMemory) read = Unit {0}
-Gives (Err f) read = read ≡ Err f
-
--- what adding an element does to the shapes
-abbrev pub Adds : Result (Unit {0}) GdsFault → Shapes → Shapes → Result Shapes GdsFault → Type 0
-Adds (Ok _) old new (Ok one) = new ≡ joined old one
-Adds (Ok _) old new (Err e) = ⊥
-Adds (Err fault.NoMemory) old new read = Unit {0}
-Adds (Err f) old new read = read ≡ Err f
-
--- what drawing the element of a record does to them
-abbrev pub Draws : Result (Unit {0}) GdsFault → List ℕ → GdsRec → RecordType → Grid → Shapes → Shapes → Type 0
-Draws result bytes rec kind grid old new = Adds result old new (drawn_by grid (length old.rects) (element_of bytes rec kind) kind)
-
--- what a record of some bytes draws behind the shapes that were drawn
-abbrev pub drawn_record : List ℕ → Grid → Shapes → GdsRec → Result Shapes GdsFault
-drawn_record bytes grid done r = drawn_at grid (length done.rects) (item_of bytes r) (items_from bytes r.next) (type_numbered r.code)

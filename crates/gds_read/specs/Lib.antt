@@ -4,13 +4,18 @@ pub mod Decoding
 pub mod Drawn
 pub mod Elements
 pub mod EvenOdd
+pub mod Flat
 pub mod Grammar
 pub mod Library
+pub mod Moves
+pub mod Names
 pub mod Paths
 pub mod Points
 pub mod Real
+pub mod References
 pub mod RoundTrip
 pub mod Structure
+pub mod Taken
 pub mod Units
 pub mod Words
 -- What inner contracts and proofs alone cite.

@@ -1,10 +1,12 @@
 // Areas of a file as rectangles of a drawing.
 ghost use Rattle.std.specs.Prelude.{◌≡◌, ◌≤◌, [], ◌∷◌, IfSome, OnOk};
 ghost use Rattle.gds_read.specs.Units.{IsSide};
+ghost use Rattle.gds_read.specs.Moves.{between_corners, moved_area, IsWithin};
 ghost use Rattle.gds_read.specs.Areas.{span_of, side_of, rectangle_of, with_kept, put, Puts};
 
 use crate::GdsFault;
-use crate::units::{Ends, Grid, whole_units};
+use crate::placement::{Move, Vector, moved};
+use crate::units::{Ends, Grid, MOST_PICOMETRES, whole_units};
 use box_geom::{Layer, Rect, Shape, ShapeList};
 use cell_num::NoMemory;
 
@@ -25,10 +27,11 @@ pub struct Area {
     pub upward: Span,
 }
 
-/// What an element draws with: the grid, its layer, and the place of its points.
+/// What an element draws with: the grid, how its structure stands, its layer, and the place of its points.
 #[derive(Clone, Copy, Debug, PartialEq, Eq)]
 pub struct Pen {
     pub grid: Grid,
+    pub stands: Move,
     pub layer: Layer,
     pub at: u64,
 }
@@ -44,12 +47,15 @@ pub fn doubled(low: &i32, high: &i32) -> Span
 }
 
 // Two coordinates as the ends of a side, if they are whole and differ.
-fn side(grid: &Grid, span: &Span) -> Option<Ends>
-    requires { 1 ≤ grid.now.lambda_nm }
-    ensures value { result ≡ side_of grid.now span.now }
+fn side(grid: &Grid, low: i128, high: i128) -> Option<Ends>
+    requires grid { 1 ≤ grid.now.lambda_nm }
+    requires unit { grid.now.picometres ≤ MOST_PICOMETRES }
+    requires low { IsWithin 66 low }
+    requires high { IsWithin 66 high }
+    ensures value { result ≡ side_of grid.now (record { low = low; high = high }) }
     ensures sides { IfSome result IsSide }
 {
-    match (whole_units(grid, span.low), whole_units(grid, span.high)) {
+    match (whole_units(grid, low), whole_units(grid, high)) {
         (Some(a), Some(b)) => {
             if a < b {
                 Some(Ends { low: a, high: b })
@@ -76,19 +82,36 @@ fn between(across: Ends, upward: Ends) -> Rect
     }
 }
 
-// The area in grid units.
+// Between two corners, in grid units.
 #[tactic(auto, unfolding(crate::specs::Areas::rectangle_of))]
-fn rectangle(grid: &Grid, area: &Area) -> Option<Rect>
-    requires { 1 ≤ grid.now.lambda_nm }
-    ensures { result ≡ rectangle_of grid.now area.now }
+fn cornered(grid: &Grid, first: &Vector, last: &Vector) -> Option<Rect>
+    requires grid { 1 ≤ grid.now.lambda_nm }
+    requires unit { grid.now.picometres ≤ MOST_PICOMETRES }
+    requires first_x { IsWithin 66 first.now.x }
+    requires first_y { IsWithin 66 first.now.y }
+    requires last_x { IsWithin 66 last.now.x }
+    requires last_y { IsWithin 66 last.now.y }
+    ensures { result ≡ rectangle_of grid.now (between_corners first.now last.now) }
 {
-    let Some(across) = side(grid, &area.across) else {
+    let Some(across) = side(grid, first.x, last.x) else {
         return None;
     };
-    let Some(upward) = side(grid, &area.upward) else {
+    let Some(upward) = side(grid, first.y, last.y) else {
         return None;
     };
     Some(between(across, upward))
+}
+
+// The area as it stands, in grid units.
+#[tactic(auto, unfolding(crate::specs::Moves::moved_area))]
+fn rectangle(grid: &Grid, stands: &Move, area: &Area) -> Option<Rect>
+    requires grid { 1 ≤ grid.now.lambda_nm }
+    requires unit { grid.now.picometres ≤ MOST_PICOMETRES }
+    ensures { result ≡ rectangle_of grid.now (moved_area stands.now area.now) }
+{
+    let first = moved(stands, area.across.low, area.upward.low);
+    let last = moved(stands, area.across.high, area.upward.high);
+    cornered(grid, &first, &last)
 }
 
 // Adds a rectangle, unless there is one above the limit already.
@@ -106,9 +129,10 @@ fn keep(rects: &mut ShapeList, shape: Shape) -> Result<(), NoMemory>
 /// Draws an area.
 pub fn add_area(pen: &Pen, area: &Area, rects: &mut ShapeList) -> Result<(), GdsFault>
     requires grid { 1 ≤ pen.now.grid.lambda_nm }
+    requires unit { pen.now.grid.picometres ≤ MOST_PICOMETRES }
     ensures { Puts result rects.new (put pen.now rects.old (area.now ∷ [])) }
 {
-    let Some(rect) = rectangle(&pen.grid, area) else {
+    let Some(rect) = rectangle(&pen.grid, &pen.stands, area) else {
         return Err(GdsFault::Grid { at: pen.at });
     };
     keep(

@@ -1,34 +1,38 @@
-// What an element draws.
+// What boundaries and paths draw.
 ghost use Rattle.std.specs.Prelude.{◌≡◌, ◌≤◌, ◌<◌, ◌+◌, length, OnOk};
 ghost use Rattle.gds_record.specs.declared.types.RecordType.TheVariants as record_type;
 ghost use Rattle.gds_read.specs.Points.{points_of};
 ghost use Rattle.gds_read.specs.Areas.{put_all, Puts};
-ghost use Rattle.gds_read.specs.Elements.{inside_of, pen_for, boundary_areas, reach_of, areas_along, path_areas_of, drawn_record, Adds, Draws};
+ghost use Rattle.gds_read.specs.Taken.{amount, Adds};
+ghost use Rattle.gds_read.specs.Flat.{drawn_around};
+ghost use Rattle.gds_read.specs.Elements.{inside_of, pen_for, boundary_areas, reach_of, areas_along, path_areas_of};
 
 use crate::GdsFault;
 use crate::area::{MOST_RECTANGLES, Pen};
 use crate::even_odd::add_inside;
 use crate::field::{element_content, element_layer, field_place, short};
-use crate::label::add_text;
 use crate::path::{Reach, add_path_areas, past_ends, width};
+use crate::placement::Move;
 use crate::point::{close, points, slanted};
-use crate::units::Grid;
-use box_geom::{Layer, ShapeList, Shapes};
+use crate::taken::{Around, Taken};
+use crate::units::{Grid, MOST_PICOMETRES};
+use box_geom::ShapeList;
 use cell_num::MOST_BYTES;
 use gds_record::{GdsRec, RecordType};
 use std::alloc::Global;
 
 // What the element draws with, where the drawing has its layer.
-fn pen(bytes: &[u8], rec: &GdsRec, grid: &Grid) -> Option<Pen>
+fn pen(bytes: &[u8], rec: &GdsRec, grid: &Grid, stands: &Move) -> Option<Pen>
     requires size { length bytes.now ≤ MOST_BYTES }
     requires place { rec.now.next ≤ length bytes.now }
-    ensures { result ≡ pen_for grid.now (inside_of bytes.now rec.now) }
+    ensures { result ≡ pen_for grid.now stands.now (inside_of bytes.now rec.now) }
 {
     let Some(layer) = element_layer(bytes, rec.next) else {
         return None;
     };
     Some(Pen {
         grid: *grid,
+        stands: *stands,
         layer,
         at: field_place(bytes, rec.next, RecordType::Xy),
     })
@@ -37,6 +41,7 @@ fn pen(bytes: &[u8], rec: &GdsRec, grid: &Grid) -> Option<Pen>
 #[tactic(auto, unfolding(crate::specs::Elements::boundary_areas), using(crate::proofs::Putting::stops))]
 fn boundary(alloc: Global, xy: &[u8], pen: &Pen, rects: &mut ShapeList) -> Result<(), GdsFault>
     requires grid { 1 ≤ pen.now.grid.lambda_nm }
+    requires unit { pen.now.grid.picometres ≤ MOST_PICOMETRES }
     ensures { Puts result rects.new (put_all pen.now rects.old (boundary_areas pen.now.at (points_of xy.now))) }
 {
     let mut walk = points(alloc, xy)?;
@@ -78,6 +83,7 @@ fn along(
     rects: &mut ShapeList,
 ) -> Result<(), GdsFault>
     requires grid { 1 ≤ pen.now.grid.lambda_nm }
+    requires unit { pen.now.grid.picometres ≤ MOST_PICOMETRES }
     ensures { Puts result rects.new (put_all pen.now rects.old (areas_along pen.now.at reach.now (points_of xy.now))) }
 {
     let points = points(alloc, xy)?;
@@ -101,6 +107,7 @@ fn path(
     requires size { length bytes.now ≤ MOST_BYTES }
     requires place { rec.now.next ≤ length bytes.now }
     requires grid { 1 ≤ pen.now.grid.lambda_nm }
+    requires unit { pen.now.grid.picometres ≤ MOST_PICOMETRES }
     ensures { Puts result rects.new
         (put_all pen.now rects.old (path_areas_of pen.now.at (inside_of bytes.now rec.now))) }
 {
@@ -116,104 +123,66 @@ fn path(
 }
 
 #[tactic(auto, using(crate::proofs::Limits::adds_drawn, crate::proofs::Limits::is_wide, crate::proofs::Limits::adds_fault))]
-fn add_boundary(
+/// Adds what a boundary draws.
+pub fn add_boundary(
     alloc: Global,
     bytes: &[u8],
     rec: &GdsRec,
     grid: &Grid,
-    shapes: &mut Shapes,
+    around: &Around,
+    taken: &mut Taken,
 ) -> Result<(), GdsFault>
     requires size { length bytes.now ≤ MOST_BYTES }
     requires place { rec.now.next ≤ length bytes.now }
     requires grid { 1 ≤ grid.now.lambda_nm }
-    requires room { length shapes.now.rects ≤ MOST_RECTANGLES }
-    ensures adds { Draws result bytes.now rec.now record_type.Boundary grid.now shapes.old shapes.new }
-    ensures room { OnOk result (length shapes.new.rects ≤ MOST_RECTANGLES) }
+    requires unit { grid.now.picometres ≤ MOST_PICOMETRES }
+    requires room { amount taken.now ≤ MOST_RECTANGLES }
+    ensures adds { Adds result taken.old taken.new
+        (drawn_around grid.now around.now (amount taken.old) (inside_of bytes.now rec.now) record_type.Boundary) }
+    ensures room { OnOk result (amount taken.new ≤ MOST_RECTANGLES) }
 {
-    let Some(pen) = pen(bytes, rec, grid) else {
+    let Some(pen) = pen(bytes, rec, grid, &around.stands) else {
         return Ok(());
     };
     let xy = element_content(bytes, rec.next, RecordType::Xy);
-    match boundary(alloc, xy, &pen, &mut shapes.rects) {
+    match boundary(alloc, xy, &pen, &mut taken.shapes.rects) {
         Ok(()) => {}
         Err(fault) => return Err(fault),
     }
-    if shapes.rects.len() > MOST_RECTANGLES {
-        return Err(GdsFault::Wide { at: rec.at });
+    if MOST_RECTANGLES - (taken.refs as usize) < taken.shapes.rects.len() {
+        return Err(GdsFault::Wide { at: around.outer });
     }
     Ok(())
 }
 
 #[tactic(auto, using(crate::proofs::Limits::adds_drawn, crate::proofs::Limits::is_wide, crate::proofs::Limits::adds_fault))]
-fn add_path(
+/// Adds what a path draws.
+pub fn add_path(
     alloc: Global,
     bytes: &[u8],
     rec: &GdsRec,
     grid: &Grid,
-    shapes: &mut Shapes,
+    around: &Around,
+    taken: &mut Taken,
 ) -> Result<(), GdsFault>
     requires size { length bytes.now ≤ MOST_BYTES }
     requires place { rec.now.next ≤ length bytes.now }
     requires grid { 1 ≤ grid.now.lambda_nm }
-    requires room { length shapes.now.rects ≤ MOST_RECTANGLES }
-    ensures adds { Draws result bytes.now rec.now record_type.Path grid.now shapes.old shapes.new }
-    ensures room { OnOk result (length shapes.new.rects ≤ MOST_RECTANGLES) }
+    requires unit { grid.now.picometres ≤ MOST_PICOMETRES }
+    requires room { amount taken.now ≤ MOST_RECTANGLES }
+    ensures adds { Adds result taken.old taken.new
+        (drawn_around grid.now around.now (amount taken.old) (inside_of bytes.now rec.now) record_type.Path) }
+    ensures room { OnOk result (amount taken.new ≤ MOST_RECTANGLES) }
 {
-    let Some(pen) = pen(bytes, rec, grid) else {
+    let Some(pen) = pen(bytes, rec, grid, &around.stands) else {
         return Ok(());
     };
-    match path(alloc, bytes, rec, &pen, &mut shapes.rects) {
+    match path(alloc, bytes, rec, &pen, &mut taken.shapes.rects) {
         Ok(()) => {}
         Err(fault) => return Err(fault),
     }
-    if shapes.rects.len() > MOST_RECTANGLES {
-        return Err(GdsFault::Wide { at: rec.at });
+    if MOST_RECTANGLES - (taken.refs as usize) < taken.shapes.rects.len() {
+        return Err(GdsFault::Wide { at: around.outer });
     }
     Ok(())
-}
-
-/// Adds what the element draws that a record of a type begins, if it begins one.
-pub fn add_element(
-    alloc: Global,
-    bytes: &[u8],
-    kind: RecordType,
-    rec: &GdsRec,
-    grid: &Grid,
-    shapes: &mut Shapes,
-) -> Result<(), GdsFault>
-    requires size { length bytes.now ≤ MOST_BYTES }
-    requires place { rec.now.next ≤ length bytes.now }
-    requires grid { 1 ≤ grid.now.lambda_nm }
-    requires room { length shapes.now.rects ≤ MOST_RECTANGLES }
-    ensures adds { Draws result bytes.now rec.now kind grid.now shapes.old shapes.new }
-    ensures room { OnOk result (length shapes.new.rects ≤ MOST_RECTANGLES) }
-{
-    match kind {
-        RecordType::Boundary => add_boundary(alloc, bytes, rec, grid, shapes),
-        RecordType::Path => add_path(alloc, bytes, rec, grid, shapes),
-        RecordType::Text => add_text(alloc, bytes, rec, grid, shapes),
-        RecordType::SRef | RecordType::ARef => Err(GdsFault::Reference { at: rec.at }),
-        _ => Ok(()),
-    }
-}
-
-/// Adds what a record draws that begins an element.
-pub fn add_record(
-    alloc: Global,
-    bytes: &[u8],
-    rec: &GdsRec,
-    grid: &Grid,
-    shapes: &mut Shapes,
-) -> Result<(), GdsFault>
-    requires size { length bytes.now ≤ MOST_BYTES }
-    requires place { rec.now.next ≤ length bytes.now }
-    requires grid { 1 ≤ grid.now.lambda_nm }
-    requires room { length shapes.now.rects ≤ MOST_RECTANGLES }
-    ensures adds { Adds result shapes.old shapes.new (drawn_record bytes.now grid.now shapes.old rec.now) }
-    ensures room { OnOk result (length shapes.new.rects ≤ MOST_RECTANGLES) }
-{
-    match RecordType::numbered(rec.code) {
-        Some(kind) => add_element(alloc, bytes, kind, rec, grid, shapes),
-        None => Ok(()),
-    }
 }

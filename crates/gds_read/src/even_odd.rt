@@ -9,6 +9,7 @@ ghost use Rattle.gds_read.specs.Sweep.{ends_of, unpaired, PairsOff, row_areas, s
 use crate::GdsFault;
 use crate::area::{Area, Pen, add_area, doubled};
 use crate::point::Point;
+use crate::units::MOST_PICOMETRES;
 use box_geom::ShapeList;
 use std::alloc::{AllocError, Global};
 
@@ -115,6 +116,7 @@ fn add_runs(
     rects: &mut ShapeList,
 ) -> Result<(), GdsFault>
     requires grid { 1 ≤ pen.now.grid.lambda_nm }
+    requires unit { pen.now.grid.picometres ≤ MOST_PICOMETRES }
     ensures { Puts result rects.new (put pen.now rects.old (map area_of (runs low.now.y high.now.y xs.now))) }
 {
     let mut rest = xs;
@@ -139,6 +141,7 @@ fn next_row(
     rects: &mut ShapeList,
 ) -> Result<Vec<i32>, GdsFault>
     requires grid { 1 ≤ pen.now.grid.lambda_nm }
+    requires unit { pen.now.grid.picometres ≤ MOST_PICOMETRES }
     ensures drawn { Puts result rects.new (put pen.now rects.old (row_areas row.now end.now xs.items)) }
     ensures crossings { IfOk result (λ v. v.items ≡ odd_ones xs.items ++ end.now.x ∷ []) }
 {
@@ -154,6 +157,7 @@ fn next_row(
 // Draws what lies between the heights of ends that are sorted.
 fn sweep(alloc: Global, ends: &[SideEnd], pen: &Pen, rects: &mut ShapeList) -> Result<(), GdsFault>
     requires grid { 1 ≤ pen.now.grid.lambda_nm }
+    requires unit { pen.now.grid.picometres ≤ MOST_PICOMETRES }
     ensures { Puts result rects.new (put pen.now rects.old (map area_of (swept_all ends.now))) }
 {
     let Some(first) = ends.first() else {
@@ -184,6 +188,7 @@ pub fn add_inside(
     rects: &mut ShapeList,
 ) -> Result<(), GdsFault>
     requires grid { 1 ≤ pen.now.grid.lambda_nm }
+    requires unit { pen.now.grid.picometres ≤ MOST_PICOMETRES }
     ensures { Puts result rects.new (put pen.now rects.old (map area_of (inside_walk walk.now))) }
 {
     let Some((first, rest)) = walk.split_first() else {

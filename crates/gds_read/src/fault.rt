@@ -37,12 +37,16 @@ pub enum GdsFault {
     /// A coordinate is no whole number of grid units, or too large.
     #[error("Grid")]
     Grid { at: u64 },
-    /// The structure refers to another one.
+    /// A reference names no structure or one that stands twice, or is magnified, or turned by an angle that
+    /// is no quarter turn, or its records or the steps between its copies are not right.
     #[error("Reference")]
     Reference { at: u64 },
     #[error("NoMemory")]
     NoMemory,
-    /// Up to and with this element the structure has more than 1,000,000 rectangles.
+    /// More than 16 references stand in each other; the outermost one is here.
+    #[error("Deep")]
+    Deep { at: u64 },
+    /// Up to and with this element the structure has more than 1,000,000 rectangles and references.
     #[error("Wide")]
     Wide { at: u64 },
 }

@@ -1,15 +1,18 @@
 // Labels.
-ghost use Rattle.std.specs.Prelude.{◌≡◌, ◌≤◌, ◌<◌, ◌+◌, ◌==◌, length, OnOk};
+ghost use Rattle.std.specs.Prelude.{◌≡◌, ◌≤◌, ◌<◌, ◌+◌, ◌==◌, length, None, OnOk};
 ghost use Rattle.gds_record.specs.declared.types.RecordType.TheVariants as record_type;
-ghost use Rattle.gds_read.specs.Elements.{element_of, spot_of, text_spot, with_label, joined, Draws};
+ghost use Rattle.gds_read.specs.Taken.{plain, both, amount, Adds};
+ghost use Rattle.gds_read.specs.Flat.{text_by};
+ghost use Rattle.gds_read.specs.Elements.{element_of, spot_of, text_spot, with_label};
 
 use crate::GdsFault;
 use crate::area::MOST_RECTANGLES;
 use crate::field::{element_content, element_layer, field_place};
 use crate::point::signed;
 use crate::structure::trim;
+use crate::taken::Taken;
 use crate::units::{Grid, floor_units};
-use box_geom::{Label, Layer, Shapes};
+use box_geom::{Label, Layer};
 use cell_num::{MOST_BYTES, NoMemory, copy};
 use gds_record::{GdsRec, RecordType};
 use std::alloc::Global;
@@ -58,11 +61,11 @@ fn text(bytes: &[u8], rec: &GdsRec, grid: &Grid) -> Result<Option<Spot>, GdsFaul
 // Adds a label, if there is one.
 fn add_label(
     alloc: Global,
-    shapes: &mut Shapes,
+    taken: &mut Taken,
     spot: Option<Spot>,
     name: &[u8],
 ) -> Result<(), NoMemory>
-    ensures { OnOk result (shapes.new ≡ joined shapes.old (with_label name.now spot)) }
+    ensures { OnOk result (taken.new ≡ both taken.old (plain (with_label name.now spot))) }
 {
     let Some(spot) = spot else {
         return Ok(());
@@ -74,28 +77,29 @@ fn add_label(
         y: spot.y,
         name,
     };
-    shapes.labels.push(label)?;
+    taken.shapes.labels.push(label)?;
     Ok(())
 }
 
 /// Adds the label of a text.
-#[tactic(auto, using(crate::proofs::Drawings::adds_same))]
+#[tactic(auto, using(crate::proofs::Drawings::adds_same, crate::proofs::Drawings::same_amount))]
 pub fn add_text(
     alloc: Global,
     bytes: &[u8],
     rec: &GdsRec,
     grid: &Grid,
-    shapes: &mut Shapes,
+    taken: &mut Taken,
 ) -> Result<(), GdsFault>
     requires size { length bytes.now ≤ MOST_BYTES }
     requires place { rec.now.next ≤ length bytes.now }
     requires grid { 1 ≤ grid.now.lambda_nm }
-    requires room { length shapes.now.rects ≤ MOST_RECTANGLES }
-    ensures adds { Draws result bytes.now rec.now record_type.Text grid.now shapes.old shapes.new }
-    ensures room { OnOk result (length shapes.new.rects ≤ MOST_RECTANGLES) }
+    requires room { amount taken.now ≤ MOST_RECTANGLES }
+    ensures adds { Adds result taken.old taken.new
+        (text_by grid.now None (element_of bytes.now rec.now record_type.Text)) }
+    ensures room { OnOk result (amount taken.new ≤ MOST_RECTANGLES) }
 {
     let spot = text(bytes, rec, grid)?;
     let name = element_content(bytes, rec.next, RecordType::StringText);
-    add_label(alloc, shapes, spot, trim(name))?;
+    add_label(alloc, taken, spot, trim(name))?;
     Ok(())
 }

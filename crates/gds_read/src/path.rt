@@ -6,6 +6,7 @@ ghost use Rattle.gds_read.specs.Paths.{thinned, width_of, stretch, long, segment
 use crate::GdsFault;
 use crate::area::{Area, Pen, Span, add_area};
 use crate::point::{Point, signed};
+use crate::units::MOST_PICOMETRES;
 use box_geom::ShapeList;
 use std::alloc::{AllocError, Global};
 
@@ -96,6 +97,7 @@ fn add_segments(
     rects: &mut ShapeList,
 ) -> Result<(), GdsFault>
     requires grid { 1 ≤ pen.now.grid.lambda_nm }
+    requires unit { pen.now.grid.picometres ≤ MOST_PICOMETRES }
     ensures { Puts result rects.new (put pen.now rects.old (all_segments reach.now.half reach.now.ends points.now)) }
 {
     let mut rest = points;
@@ -127,6 +129,7 @@ pub fn add_path_areas(
     rects: &mut ShapeList,
 ) -> Result<(), GdsFault>
     requires grid { 1 ≤ pen.now.grid.lambda_nm }
+    requires unit { pen.now.grid.picometres ≤ MOST_PICOMETRES }
     ensures { Puts result rects.new (put pen.now rects.old (path_areas reach.now.half reach.now.ends points.items)) }
 {
     if reach.half == 0 {

@@ -24,7 +24,8 @@ pub fn signed(content: &[u8], at: usize) -> i32
     ])
 }
 
-fn read_point(xy: &[u8], at: usize) -> Point
+/// The point at a place.
+pub fn read_point(xy: &[u8], at: usize) -> Point
     requires { at + 8 ≤ length xy.now }
     ensures { result ≡ point_at at xy.now }
 {

@@ -1,22 +1,27 @@
 ghost use Rattle.std.specs.Prelude.{◌≡◌, ◌≤◌, length, IfOk, IfErr};
 ghost use Rattle.gds_record.specs.Records.{items_from};
-ghost use Rattle.gds_read.specs.Elements.{elements_of, drawn, Gives};
+ghost use Rattle.gds_read.specs.Elements.{elements_of};
+ghost use Rattle.gds_read.specs.Flat.{file_of, drawn, Gives};
 ghost use Rattle.gds_read.specs.Decoding.{unit_in, grid_in, Decodes, IsCell, IsRefused, IsTwiceOf};
 
 use crate::GdsFault;
-use crate::element::add_record;
 use crate::field::field_content;
+use crate::flat::add_elements;
+use crate::names::structure_names;
 use crate::pass::first_pass;
 use crate::real::picometres_at_place;
 use crate::structure::{Lookup, find_structure};
-use crate::units::Grid;
+use crate::taken::{Frame, MOST_LEVELS, none_taken};
+use crate::units::{Grid, MOST_PICOMETRES};
 use box_geom::Shapes;
-use cell_num::{List, MOST_BYTES, Name};
-use gds_record::{RecordType, next_record};
+use cell_num::{MOST_BYTES, Name};
+use gds_record::RecordType;
 use std::alloc::Global;
 
+#[tactic(auto, using(crate::proofs::Decoded::unit_limit))]
 fn unit(units: &[u8]) -> u64
-    ensures { result ≡ unit_in units.now }
+    ensures value { result ≡ unit_in units.now }
+    ensures limit { result ≤ MOST_PICOMETRES }
 {
     if units.len() != 16 {
         return 0;
@@ -26,7 +31,8 @@ fn unit(units: &[u8]) -> u64
 
 fn grid_of(bytes: &[u8], lambda_nm: u32) -> Grid
     requires { length bytes.now ≤ MOST_BYTES }
-    ensures { result ≡ grid_in bytes.now lambda_nm }
+    ensures value { result ≡ grid_in bytes.now lambda_nm }
+    ensures limit { result.picometres ≤ MOST_PICOMETRES }
 {
     let units = field_content(bytes, 0, RecordType::BgnStr, RecordType::Units);
     Grid {
@@ -36,30 +42,24 @@ fn grid_of(bytes: &[u8], lambda_nm: u32) -> Grid
 }
 
 // What the elements draw that stand behind a place, up to the end of the structure.
-#[tactic(auto, using(gds_record::proofs::Walks::moves, crate::proofs::Drawings::starts, crate::proofs::Drawings::no_more, crate::proofs::Drawings::ends_here, crate::proofs::Drawings::goes_on_with, crate::proofs::Drawings::stops))]
+#[tactic(auto, using(crate::proofs::Drawings::gives_taken, crate::proofs::Drawings::gives_fault, crate::proofs::Copied::own_frame))]
 fn read_elements(alloc: Global, bytes: &[u8], place: u64, grid: &Grid) -> Result<Shapes, GdsFault>
     requires size { length bytes.now ≤ MOST_BYTES }
     requires place { place ≤ length bytes.now }
     requires grid { 1 ≤ grid.now.lambda_nm }
-    ensures { Gives result (drawn grid.now 0 (elements_of (items_from bytes.now place))) }
+    requires unit { grid.now.picometres ≤ MOST_PICOMETRES }
+    ensures { Gives result (drawn (file_of grid.now bytes.now) 0 (elements_of (items_from bytes.now place))) }
 {
-    let mut shapes = Shapes {
-        rects: List::new(alloc),
-        labels: List::new(alloc),
+    let frame = Frame {
+        grid: *grid,
+        around: None,
+        levels: MOST_LEVELS,
     };
-    let mut at = place;
-    'records: loop {
-        let Ok(rec) = next_record(bytes, at) else {
-            return Ok(shapes);
-        };
-        if rec.code == RecordType::EndStr.number() {
-            return Ok(shapes);
-        }
-        match add_record(alloc, bytes, &rec, grid, &mut shapes) {
-            Ok(()) => {}
-            Err(fault) => return Err(fault),
-        }
-        at = rec.next;
+    let names = structure_names(alloc, bytes)?;
+    let mut taken = none_taken(alloc);
+    match add_elements(alloc, bytes, &names, place, &frame, &mut taken) {
+        Ok(()) => Ok(taken.shapes),
+        Err(fault) => Err(fault),
     }
 }
 
@@ -75,7 +75,9 @@ fn twice(name: &Name) -> GdsFault
 
 /// The rectangles and labels of the structure that has the name, in grid units of half a lambda. The
 /// whole library is looked at first: the answer is the first fault of its records, then of the name,
-/// then of the structure's elements in order. At most 1,073,741,824 bytes are taken.
+/// then of the structure's elements in order. A reference draws what the structure draws that it names, as
+/// mirrored, turned and moved (GDSII Stream Format Manual, Release 6.0: SREF, AREF); labels are the
+/// structure's own. At most 1,073,741,824 bytes are taken.
 #[tactic(auto, using(crate::proofs::Decoded::refused_first, crate::proofs::Decoded::no_cell, crate::proofs::Decoded::twice_refused, crate::proofs::Decoded::drawn_there, crate::proofs::Decoded::refused_there))]
 pub fn read_cell(
     alloc: Global,

@@ -1,7 +1,7 @@
 // The eight-byte reals of the format.
 
-ghost use Rattle.std.specs.Prelude.{◌≡◌, ◌≤◌, ◌<◌, ◌+◌, ◌^◌, length};
-ghost use Rattle.gds_read.specs.Real.{nearest, within, picometres_of, picometres_at};
+ghost use Rattle.std.specs.Prelude.{◌≡◌, ◌≤◌, ◌<◌, ◌+◌, ◌*◌, ◌%◌, ◌^◌, ◌==◌, length};
+ghost use Rattle.gds_read.specs.Real.{nearest, within, picometres_of, picometres_at, word_at, is_whole, is_zero};
 
 const LIMIT: u64 = 1_000_000_000_000_000_000;
 
@@ -59,12 +59,12 @@ pub fn picometres(word: u64) -> u64
     }
 }
 
-/// The same of the eight bytes at a place.
-pub fn picometres_at_place(bytes: &[u8], at: usize) -> u64
+/// The eight bytes at a place as one number, the high byte first.
+pub fn word_at(bytes: &[u8], at: usize) -> u64
     requires { at + 8 ≤ length bytes.now }
-    ensures { result ≡ picometres_at bytes.now at }
+    ensures { result ≡ word_at bytes.now at }
 {
-    picometres(u64::from_be_bytes([
+    u64::from_be_bytes([
         bytes[at],
         bytes[at + 1],
         bytes[at + 2],
@@ -73,5 +73,50 @@ pub fn picometres_at_place(bytes: &[u8], at: usize) -> u64
         bytes[at + 5],
         bytes[at + 6],
         bytes[at + 7],
-    ]))
+    ])
+}
+
+/// The picometres of a real of metres at a place.
+pub fn picometres_at_place(bytes: &[u8], at: usize) -> u64
+    requires { at + 8 ≤ length bytes.now }
+    ensures { result ≡ picometres_at bytes.now at }
+{
+    picometres(word_at(bytes, at))
+}
+
+#[tactic(auto, using(crate::proofs::Reals::too_small, crate::proofs::Reals::too_large, crate::proofs::Reals::as_whole))]
+fn same_number(value: u16, fraction: u64, exponent: u64) -> bool
+    requires value { 0 < value }
+    requires odd { value % 16 ≡ 0 → ⊥ }
+    requires fraction { fraction < 2 ^ 56 }
+    requires exponent { exponent < 128 }
+    ensures { result ≡ (fraction * 16 ^ exponent == value * 16 ^ 78) }
+{
+    if exponent <= 53 || 78 < exponent {
+        return false;
+    }
+    u128::from(fraction) == u128::from(value) * sixteen_to(78 - exponent)
+}
+
+/// Whether a real is a whole number that sixteen does not divide.
+pub fn whole(value: u16, word: u64) -> bool
+    requires value { 0 < value }
+    requires odd { value % 16 ≡ 0 → ⊥ }
+    ensures { result ≡ is_whole value word }
+{
+    if 0x8000_0000_0000_0000 <= word {
+        return false;
+    }
+    same_number(
+        value,
+        word % 0x100_0000_0000_0000,
+        word / 0x100_0000_0000_0000,
+    )
+}
+
+/// Whether a real is 0.
+pub fn zero(word: u64) -> bool
+    ensures { result ≡ is_zero word }
+{
+    word % 0x100_0000_0000_0000 == 0
 }

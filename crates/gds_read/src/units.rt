@@ -1,4 +1,5 @@
 ghost use Rattle.std.specs.Prelude.{◌≡◌, ◌≤◌, ◌<◌, ◌+◌, ◌*◌, ℤ, pos, ◌*ℤ◌, ◌≤ℤ◌, ◌<ℤ◌, neg_ℤ, IfSome};
+ghost use Rattle.gds_read.specs.Moves.{IsWithin};
 ghost use Rattle.gds_read.specs.Units.{limited_to_grid, scaled_by, step_of_grid, two_steps, whole_units_of, floor_units_of};
 
 /// The database unit of a file in picometres, and lambda in nanometres. A grid unit is half a lambda.
@@ -7,6 +8,9 @@ pub struct Grid {
     pub picometres: u64,
     pub lambda_nm: u32,
 }
+
+/// The most picometres that the database unit of a file is taken for.
+pub const MOST_PICOMETRES: u64 = 1_000_000_000_000_000_000;
 
 /// Two different coordinates in order, in grid units.
 #[derive(Clone, Copy, Debug, PartialEq, Eq)]
@@ -49,12 +53,14 @@ fn two_steps(grid: &Grid) -> i128
 
 /// A coordinate in halves of a file unit as a number of grid units, if that is a whole number within the
 /// limits of a drawing.
-pub fn whole_units(grid: &Grid, value: i64) -> Option<i32>
-    requires { 1 ≤ grid.now.lambda_nm }
+pub fn whole_units(grid: &Grid, value: i128) -> Option<i32>
+    requires grid { 1 ≤ grid.now.lambda_nm }
+    requires unit { grid.now.picometres ≤ MOST_PICOMETRES }
+    requires value { IsWithin 66 value }
     ensures value { result ≡ whole_units_of grid.now value }
     ensures limits { IfSome result (λ z. (neg_ℤ (pos 1000000000) ≤ℤ z) × (z ≤ℤ pos 1000000000)) }
 {
-    let wide = i128::from(value) * i128::from(grid.picometres);
+    let wide = value * i128::from(grid.picometres);
     let step = two_steps(grid);
     if wide.rem_euclid(step) != 0 {
         return None;

@@ -1,0 +1,40 @@
+use Rattle.std.proofs.Common.{◌≡◌, ◌≤◌, ◌+◌, ◌-◌, ◌*◌, length}
+use Rattle.gds_record.specs.Records.{items_from}
+use Rattle.gds_read.specs.Taken.{amount}
+use Rattle.gds_read.specs.Flat.{row_in, copies_in}
+use Rattle.gds_read.proofs.Drawings.{with_front, drawn_behind, drawn_from}
+use Rattle.gds_read.proofs.Copied.{row_behind, rows_behind}
+use Rattle.gds_read.proofs.flat.+references.Given as goal
+
+abbrev pub decreases-add_copies : goal.decreases-add_copies
+decreases-add_copies l = 8 * l.frame.now.levels + 3
+
+abbrev pub decreases-add_copy : goal.decreases-add_copy
+decreases-add_copy l = 8 * l.levels
+
+abbrev pub decreases-add_element : goal.decreases-add_element
+decreases-add_element l = 8 * l.frame.now.levels + 5
+
+abbrev pub decreases-add_elements : goal.decreases-add_elements
+decreases-add_elements l = 8 * l.frame.now.levels + 7
+
+abbrev pub decreases-add_record : goal.decreases-add_record
+decreases-add_record l = 8 * l.frame.now.levels + 6
+
+abbrev pub decreases-add_reference : goal.decreases-add_reference
+decreases-add_reference l = 8 * l.frame.now.levels + 4
+
+abbrev pub decreases-add_row : goal.decreases-add_row
+decreases-add_row l = 8 * l.frame.now.levels + 2
+
+abbrev pub invariant-add_copies-loop-row : goal.invariant-add_copies-loop-row
+invariant-add_copies-loop-row l = (amount l.taken ≤ 1000000) × (rows_behind l.bytes l.frame l.around l.copies l.row l.taken ≡ with_front l.fn.taken (copies_in l.bytes l.frame l.around l.copies (amount l.fn.taken)))
+
+abbrev pub invariant-add_elements-records : goal.invariant-add_elements-records
+invariant-add_elements-records l = (l.at ≤ length l.bytes) × ((amount l.taken ≤ 1000000) × (drawn_behind l.bytes l.frame l.taken l.at ≡ with_front l.fn.taken (drawn_from l.bytes l.frame (amount l.fn.taken) l.place)))
+
+abbrev pub decreases-add_elements-records : goal.decreases-add_elements-records
+decreases-add_elements-records l = length l.bytes - l.at
+
+abbrev pub invariant-add_row-loop-column : goal.invariant-add_row-loop-column
+invariant-add_row-loop-column l = (amount l.taken ≤ 1000000) × (row_behind l.bytes l.frame l.around l.copies l.row l.column l.taken ≡ with_front l.fn.taken (row_in l.bytes l.frame l.around l.copies (amount l.fn.taken) l.row))

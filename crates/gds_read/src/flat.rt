@@ -1,0 +1,267 @@
+// The elements of a structure, with the structures that they refer to.
+ghost use Rattle.std.specs.Prelude.{◌≡◌, ◌≤◌, ◌<◌, ◌+◌, ◌-◌, ◌*◌, length, OnOk};
+ghost use Rattle.gds_record.specs.Records.{items_from};
+ghost use Rattle.gds_read.specs.Elements.{element_of, elements_of};
+ghost use Rattle.gds_read.specs.Moves.{IsNear};
+ghost use Rattle.gds_read.specs.Names.{looked_up, IsIndex};
+ghost use Rattle.gds_read.specs.Taken.{amount, Adds};
+ghost use Rattle.gds_read.specs.Flat.{row_in, copies_in, referred_in, element_in, drawn_record, drawn_in, flat_in, IsFrame};
+
+use crate::GdsFault;
+use crate::area::MOST_RECTANGLES;
+use crate::element::{add_boundary, add_path};
+use crate::label::add_text;
+use crate::placement::composed;
+use crate::reference::{Copies, copy_at, read_array, target};
+use crate::structure::Lookup;
+use crate::taken::{Around, Frame, Taken, around_at, count_one};
+use crate::units::{Grid, MOST_PICOMETRES};
+use cell_num::MOST_BYTES;
+use gds_record::{GdsRec, RecordType, next_record};
+use indexmap::IndexMap;
+use std::alloc::Global;
+
+// A copy of a structure: one reference more, and what its elements draw.
+#[tactic(auto, using(crate::proofs::Copied::deep_copy, crate::proofs::Copied::wide_copy, crate::proofs::Copied::copied, crate::proofs::Copied::inner_frame))]
+#[cycle(references)]
+fn add_copy(
+    alloc: Global,
+    bytes: &[u8],
+    names: &IndexMap<&[u8], Lookup>,
+    place: u64,
+    grid: &Grid,
+    around: &Around,
+    levels: u8,
+    taken: &mut Taken,
+) -> Result<(), GdsFault>
+    requires size { length bytes.now ≤ MOST_BYTES }
+    requires names { IsIndex bytes.now (looked_up names.now) }
+    requires place { place ≤ length bytes.now }
+    requires lambda { 1 ≤ grid.now.lambda_nm }
+    requires unit { grid.now.picometres ≤ MOST_PICOMETRES }
+    requires levels { levels ≤ 16 }
+    requires near { IsNear (17 - levels) around.now.stands }
+    requires room { amount taken.now ≤ MOST_RECTANGLES }
+    ensures adds { Adds result taken.old taken.new
+        (flat_in bytes.now grid.now levels around.now (amount taken.old) place) }
+    ensures room { OnOk result (amount taken.new ≤ MOST_RECTANGLES) }
+{
+    if levels == 0 {
+        return Err(GdsFault::Deep { at: around.outer });
+    }
+    match count_one(taken, around.outer) {
+        Ok(()) => {}
+        Err(fault) => return Err(fault),
+    }
+    let frame = Frame {
+        grid: *grid,
+        around: Some(*around),
+        levels: levels - 1,
+    };
+    add_elements(alloc, bytes, names, place, &frame, taken)
+}
+
+#[tactic(auto, using(crate::proofs::Copied::row_starts, crate::proofs::Copied::row_more, crate::proofs::Copied::row_stops, crate::proofs::Copied::row_done, crate::proofs::Moved::near_inside))]
+#[cycle(references)]
+fn add_row(
+    alloc: Global,
+    bytes: &[u8],
+    names: &IndexMap<&[u8], Lookup>,
+    copies: &Copies,
+    row: u16,
+    frame: &Frame,
+    around: &Around,
+    taken: &mut Taken,
+) -> Result<(), GdsFault>
+    requires size { length bytes.now ≤ MOST_BYTES }
+    requires names { IsIndex bytes.now (looked_up names.now) }
+    requires place { copies.now.place ≤ length bytes.now }
+    requires row { row < copies.now.array.lattice.rows }
+    requires frame { IsFrame frame.now }
+    requires near { IsNear (16 - frame.now.levels) around.now.stands }
+    requires room { amount taken.now ≤ MOST_RECTANGLES }
+    ensures adds { Adds result taken.old taken.new (row_in bytes.now frame.now around.now copies.now
+        (amount taken.old) row) }
+    ensures room { OnOk result (amount taken.new ≤ MOST_RECTANGLES) }
+{
+    for column in 0..copies.array.lattice.columns {
+        let copy = copy_at(&copies.array, column, row);
+        let here = Around {
+            stands: composed(&around.stands, &copy, 16 - frame.levels),
+            outer: around.outer,
+        };
+        match add_copy(
+            alloc,
+            bytes,
+            names,
+            copies.place,
+            &frame.grid,
+            &here,
+            frame.levels,
+            taken,
+        ) {
+            Ok(()) => {}
+            Err(fault) => return Err(fault),
+        }
+    }
+    Ok(())
+}
+
+#[tactic(auto, using(crate::proofs::Copied::rows_start, crate::proofs::Copied::rows_more, crate::proofs::Copied::rows_stop, crate::proofs::Copied::rows_done))]
+#[cycle(references)]
+fn add_copies(
+    alloc: Global,
+    bytes: &[u8],
+    names: &IndexMap<&[u8], Lookup>,
+    copies: &Copies,
+    frame: &Frame,
+    around: &Around,
+    taken: &mut Taken,
+) -> Result<(), GdsFault>
+    requires size { length bytes.now ≤ MOST_BYTES }
+    requires names { IsIndex bytes.now (looked_up names.now) }
+    requires place { copies.now.place ≤ length bytes.now }
+    requires frame { IsFrame frame.now }
+    requires near { IsNear (16 - frame.now.levels) around.now.stands }
+    requires room { amount taken.now ≤ MOST_RECTANGLES }
+    ensures adds { Adds result taken.old taken.new (copies_in bytes.now frame.now around.now copies.now
+        (amount taken.old)) }
+    ensures room { OnOk result (amount taken.new ≤ MOST_RECTANGLES) }
+{
+    for row in 0..copies.array.lattice.rows {
+        match add_row(alloc, bytes, names, copies, row, frame, around, taken) {
+            Ok(()) => {}
+            Err(fault) => return Err(fault),
+        }
+    }
+    Ok(())
+}
+
+// What the reference draws that a record of a type begins.
+#[tactic(auto, using(crate::proofs::Copied::no_target, crate::proofs::Copied::no_array, crate::proofs::Copied::with_copies, crate::proofs::Copied::near_around, crate::proofs::Drawings::adds_same))]
+#[cycle(references)]
+fn add_reference(
+    alloc: Global,
+    bytes: &[u8],
+    names: &IndexMap<&[u8], Lookup>,
+    kind: RecordType,
+    rec: &GdsRec,
+    frame: &Frame,
+    taken: &mut Taken,
+) -> Result<(), GdsFault>
+    requires size { length bytes.now ≤ MOST_BYTES }
+    requires names { IsIndex bytes.now (looked_up names.now) }
+    requires place { rec.now.next ≤ length bytes.now }
+    requires frame { IsFrame frame.now }
+    requires room { amount taken.now ≤ MOST_RECTANGLES }
+    ensures adds { Adds result taken.old taken.new (referred_in bytes.now frame.now (amount taken.old) rec.now kind) }
+    ensures room { OnOk result (amount taken.new ≤ MOST_RECTANGLES) }
+{
+    let Some(place) = target(bytes, names, rec.next) else {
+        return Err(GdsFault::Reference { at: rec.at });
+    };
+    let Some(array) = read_array(bytes, kind, rec) else {
+        return Err(GdsFault::Reference { at: rec.at });
+    };
+    let around = around_at(frame, rec.at);
+    let copies = Copies { place, array };
+    add_copies(alloc, bytes, names, &copies, frame, &around, taken)
+}
+
+// What the element draws that a record of a type begins, if it begins one.
+#[tactic(auto, using(crate::proofs::Copied::same_taken, crate::proofs::Copied::boundary_drawn, crate::proofs::Copied::path_drawn, crate::proofs::Copied::text_drawn, crate::proofs::Copied::text_passed))]
+#[cycle(references)]
+fn add_element(
+    alloc: Global,
+    bytes: &[u8],
+    names: &IndexMap<&[u8], Lookup>,
+    kind: RecordType,
+    rec: &GdsRec,
+    frame: &Frame,
+    taken: &mut Taken,
+) -> Result<(), GdsFault>
+    requires size { length bytes.now ≤ MOST_BYTES }
+    requires names { IsIndex bytes.now (looked_up names.now) }
+    requires place { rec.now.next ≤ length bytes.now }
+    requires frame { IsFrame frame.now }
+    requires room { amount taken.now ≤ MOST_RECTANGLES }
+    ensures adds { Adds result taken.old taken.new
+        (element_in bytes.now frame.now (amount taken.old) (element_of bytes.now rec.now kind) kind) }
+    ensures room { OnOk result (amount taken.new ≤ MOST_RECTANGLES) }
+{
+    let around = around_at(frame, rec.at);
+    match kind {
+        RecordType::Boundary => add_boundary(alloc, bytes, rec, &frame.grid, &around, taken),
+        RecordType::Path => add_path(alloc, bytes, rec, &frame.grid, &around, taken),
+        RecordType::Text => {
+            match frame.around {
+                None => add_text(alloc, bytes, rec, &frame.grid, taken),
+                Some(_) => Ok(()),
+            }
+        }
+        RecordType::SRef => add_reference(alloc, bytes, names, RecordType::SRef, rec, frame, taken),
+        RecordType::ARef => add_reference(alloc, bytes, names, RecordType::ARef, rec, frame, taken),
+        _ => Ok(()),
+    }
+}
+
+// What a record draws that may begin an element.
+#[tactic(auto, using(crate::proofs::Copied::same_taken))]
+#[cycle(references)]
+fn add_record(
+    alloc: Global,
+    bytes: &[u8],
+    names: &IndexMap<&[u8], Lookup>,
+    rec: &GdsRec,
+    frame: &Frame,
+    taken: &mut Taken,
+) -> Result<(), GdsFault>
+    requires size { length bytes.now ≤ MOST_BYTES }
+    requires names { IsIndex bytes.now (looked_up names.now) }
+    requires place { rec.now.next ≤ length bytes.now }
+    requires frame { IsFrame frame.now }
+    requires room { amount taken.now ≤ MOST_RECTANGLES }
+    ensures adds { Adds result taken.old taken.new (drawn_record bytes.now frame.now (amount taken.old) rec.now) }
+    ensures room { OnOk result (amount taken.new ≤ MOST_RECTANGLES) }
+{
+    match RecordType::numbered(rec.code) {
+        Some(kind) => add_element(alloc, bytes, names, kind, rec, frame, taken),
+        None => Ok(()),
+    }
+}
+
+/// What the elements draw that stand behind a place, up to the end of the structure.
+#[tactic(auto, using(gds_record::proofs::Walks::moves, crate::proofs::Drawings::ends_none, crate::proofs::Drawings::ends_there, crate::proofs::Drawings::goes_on_with, crate::proofs::Drawings::stops))]
+#[cycle(references)]
+pub fn add_elements(
+    alloc: Global,
+    bytes: &[u8],
+    names: &IndexMap<&[u8], Lookup>,
+    place: u64,
+    frame: &Frame,
+    taken: &mut Taken,
+) -> Result<(), GdsFault>
+    requires size { length bytes.now ≤ MOST_BYTES }
+    requires names { IsIndex bytes.now (looked_up names.now) }
+    requires place { place ≤ length bytes.now }
+    requires frame { IsFrame frame.now }
+    requires room { amount taken.now ≤ MOST_RECTANGLES }
+    ensures adds { Adds result taken.old taken.new
+        (drawn_in bytes.now frame.now (amount taken.old) (elements_of (items_from bytes.now place))) }
+    ensures room { OnOk result (amount taken.new ≤ MOST_RECTANGLES) }
+{
+    let mut at = place;
+    'records: loop {
+        let Ok(rec) = next_record(bytes, at) else {
+            return Ok(());
+        };
+        if rec.code == RecordType::EndStr.number() {
+            return Ok(());
+        }
+        match add_record(alloc, bytes, names, &rec, frame, taken) {
+            Ok(()) => {}
+            Err(fault) => return Err(fault),
+        }
+        at = rec.next;
+    }
+}
