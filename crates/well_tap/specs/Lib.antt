@@ -1,0 +1,4 @@
+pub mod Base
+pub mod Bodied
+pub mod Kept
+pub mod Tapped
