@@ -1,0 +1,10 @@
+pub mod Firsts
+pub mod Nets
+pub mod Names
+pub mod Refusals
+pub mod Cells
+pub mod Claims
+pub mod Runs
+pub mod BareMetal
+pub mod Answers
+pub mod OneAnswer
