@@ -1,5 +1,5 @@
 ghost use Rattle.std.specs.Prelude.{◌≡◌};
-ghost use Rattle.cell_inputs.specs.Style.{dogleg_style, plain_style};
+ghost use Rattle.cell_inputs.specs.Style.{plain_style};
 
 /// How the nets of a cell are wired in its channel.
 #[derive(Clone, Copy, Debug, PartialEq, Eq)]
@@ -14,6 +14,7 @@ pub enum Wiring {
 #[derive(Clone, Copy, Debug, PartialEq, Eq)]
 pub enum Taps {
     Without,
+    With,
 }
 
 /// How a cell is made of its inputs.
@@ -30,16 +31,6 @@ impl Style {
     {
         Style {
             wiring: Wiring::Straight,
-            taps: Taps::Without,
-        }
-    }
-
-    /// Trunks that may change their tracks, and no taps.
-    pub fn dogleg() -> Style
-        ensures { result ≡ dogleg_style }
-    {
-        Style {
-            wiring: Wiring::Doglegs,
             taps: Taps::Without,
         }
     }

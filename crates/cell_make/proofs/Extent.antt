@@ -26,7 +26,7 @@ use Rattle.cell_make.specs.Searched.{IsFound}
 
 -- ---- a column, and so two lines behind the first one
 
-some_column : (row : List Column) (f : Fingers) → IsArrangement row f → 1 ≤ length f.p + length f.n → 1 ≤ length row
+pub some_column : (row : List Column) (f : Fingers) → IsArrangement row f → 1 ≤ length f.p + length f.n → 1 ≤ length row
 some_column [] f are some = absurd (omega (arith, some, length_permutation f.p [] are.p, length_permutation f.n [] are.n))
 some_column (column ∷ row) f are some = omega arith
 

@@ -1,5 +1,6 @@
 pub mod Alone
 pub mod Extent
+pub mod Finals
 pub mod LeastLines
 pub mod Makes
 pub mod ReadBack

@@ -1,13 +1,11 @@
 -- What making a cell comes to, from what its steps answered.
-use Rattle.std.proofs.Common.{ℕ, ◌≡◌, ◌<◌, ◌≤◌, ◌/◌, ◌*◌, ◌%◌, List, All, Contains, length, sym, subst, arith}
+use Rattle.std.proofs.Common.{ℕ, ◌≡◌, ◌<◌, ◌≤◌, ◌/◌, ◌*◌, ◌%◌, List, length, sym, subst, arith}
 use Rattle.std.proofs.Math.Nat.{div-add-mod, mod-lt}
 use Rattle.cell_num.specs.declared.finger.Fingers.{Fingers}
 use Rattle.cell_num.specs.declared.net.Pins.{Pins}
 use Rattle.cell_num.specs.Fingers.{AreSound}
 use Rattle.cell_num.specs.Pins.{ArePins}
-use Rattle.box_geom.specs.declared.shape.Label.{Label}
 use Rattle.box_geom.specs.declared.shape.Shapes.{Shapes}
-use Rattle.box_geom.specs.Layers.{AreWithinLimits}
 use Rattle.row_model.specs.declared.column.Column.{Column}
 use Rattle.row_model.specs.Arrangement.{IsArrangement}
 use Rattle.bound_log.specs.declared.log.Log.{Log}
@@ -21,15 +19,16 @@ use Rattle.scmos_rules.specs.Rules.{Obeys}
 use Rattle.scmos_rules.specs.declared.rules.Deck.TheVariants.{Plain}
 use Rattle.cell_draw.specs.declared.drawing.Drawing.{Drawing}
 use Rattle.cell_draw.specs.Drawings.{drawn_of}
-use Rattle.cell_draw.specs.Bounds.{AreWithin}
 use Rattle.cell_draw.specs.Extracted.{ExtractsTo, ExtractsToRow}
 use Rattle.cell_draw.specs.Frame.{IsTooTall}
 use Rattle.cell_draw.specs.Shown.{ShowsColumns, ShowsRow}
 use Rattle.cell_draw.specs.Sound.{IsSoundRow}
-use Rattle.lef_write.specs.Drawn.{AreAllMetal, IsSized}
+use Rattle.lef_write.specs.Drawn.{AreAllMetal, AreOfNet, HasTrunkPorts, IsSized}
 use Rattle.lef_write.proofs.Apart.{metal}
 use Rattle.lef_write.proofs.Named.{has_port, has_ports as has_ports_of}
+use Rattle.lef_write.proofs.NetPorts.{of_net}
 use Rattle.lef_write.proofs.Sized.{wired_sized}
+use Rattle.lef_write.proofs.TrunkPorts.{trunk_ports}
 use Rattle.lef_write.specs.Ports.{ports_of}
 use Rattle.gds_read.specs.RoundTrip.{IsReadable}
 use Rattle.gds_read.specs.Decoding.{Decodes}
@@ -37,14 +36,14 @@ use Rattle.gds_read.proofs.RoundTrip.{round_trip}
 use Rattle.cell_make.specs.declared.drawn.Drawn.{Drawn}
 use Rattle.cell_make.specs.declared.outcome.Outcome.TheVariants as outcome
 use Rattle.cell_inputs.specs.declared.style.Style.{Style}
-use Rattle.cell_inputs.specs.declared.style.Taps.{Taps}
-use Rattle.cell_inputs.specs.declared.style.Taps.TheVariants.{Without}
 use Rattle.cell_inputs.specs.declared.style.Wiring.{Wiring}
 use Rattle.cell_inputs.specs.declared.style.Wiring.TheVariants.{Straight, Doglegs}
 use Rattle.cell_inputs.specs.Inputs.{Inputs, AreInputs, unit_nm}
-use Rattle.cell_make.specs.Making.{AreLeastLines, ComesTo, IsMade, IsRouted, drawing_in, library_of, ports_in}
+use Rattle.cell_make.specs.Extent.{frame_in}
+use Rattle.cell_make.specs.Making.{AreLeastLines, ComesTo, IsMade, IsRouted, drawing_in, final_in, library_of, ports_in}
 use Rattle.cell_make.specs.Searched.{IsFound}
-use Rattle.cell_make.specs.Style.{AreLegal, AreTight, HasNoRing, HasPinPort, IsToldRing, ShowsWiring, deck_of, final}
+use Rattle.cell_make.specs.Style.{AreBodiedBy, AreLegal, AreTight, HasNoRing, HasPinPort, IsToldRing, ShowsWiring, deck_of, final, tapped_by}
+use Rattle.cell_make.specs.Writable.{AreWritable}
 use Rattle.cell_make.proofs.Alone.{written_alone}
 use Rattle.cell_make.proofs.ReadBack.{readable}
 use Rattle.cell_make.proofs.Wirings.{wired_by}
@@ -91,24 +90,23 @@ twice n even = omega (arith, even, div-add-mod n 2)
 decodes_so : (inputs : Inputs) (drawing : Drawing) → AreInputs inputs → IsReadable inputs.cell.name drawing.shapes (unit_nm inputs.tech) → Decodes (library_of inputs drawing) inputs.cell.name inputs.tech.lambda_nm drawing.shapes
 decodes_so inputs drawing are readable = subst (λ lambda. Decodes (library_of inputs drawing) inputs.cell.name lambda drawing.shapes) (twice inputs.tech.lambda_nm are.tech.lambda_even) (round_trip inputs.cell.name drawing.shapes (unit_nm inputs.tech) readable)
 
--- what is said of the shapes of a drawing
-pub record IsSoundDrawing (wiring : Wiring) (inputs : Inputs) (row : List Column) (routing : Routing) (xs : List ℕ) (drawing : Drawing) : Type 0 where
-  pub obeys : Obeys Plain drawing.shapes.rects
-  pub extracts : ExtractsTo Plain inputs.cell.nets inputs.fingers drawing.shapes
-  pub shows_row : ShowsRow Plain inputs.cell.nets row drawing.shapes
-  pub shows_routing : ShowsWiring wiring inputs.cell.nets inputs.cell.pins (placement_of row) xs drawing.shapes routing
-  pub ports : (n : ℕ) → n < inputs.cell.pins.pins → HasPinPort wiring inputs.cell.nets (ports_in inputs routing drawing) drawing n
+-- what is said of a drawing, and of the one that is written
+pub record IsSoundDrawing (style : Style) (inputs : Inputs) (row : List Column) (routing : Routing) (xs : List ℕ) (drawing : Drawing) : Type 0 where
+  pub obeys : Obeys (deck_of style.taps) (final style.taps drawing xs).shapes.rects
+  pub extracts : ExtractsTo (deck_of style.taps) inputs.cell.nets inputs.fingers (final style.taps drawing xs).shapes
+  pub bodied : AreBodiedBy style.taps inputs.cell.nets inputs.cell.pins (final style.taps drawing xs).shapes
+  pub shows_row : ShowsRow (deck_of style.taps) inputs.cell.nets row (final style.taps drawing xs).shapes
+  pub shows_routing : ShowsWiring style.wiring inputs.cell.nets inputs.cell.pins (placement_of row) xs (final style.taps drawing xs).shapes routing
+  pub ports : (n : ℕ) → n < inputs.cell.pins.pins → HasPinPort style.wiring inputs.cell.nets (ports_in inputs routing drawing) drawing n
+  pub port_trunks : (n : ℕ) → n < inputs.cell.pins.pins → HasTrunkPorts inputs.cell.pins (frame_in inputs row routing xs) xs routing.trunks (ports_in inputs routing drawing) drawing n
+  pub port_nets : (n : ℕ) → n < inputs.cell.pins.pins → AreOfNet Plain inputs.cell.nets (ports_in inputs routing drawing) drawing n
   pub obstructs : AreAllMetal (ports_in inputs routing drawing) drawing.shapes.rects
   pub sized : IsSized drawing
-  pub readable : IsReadable inputs.cell.name drawing.shapes (unit_nm inputs.tech)
+  pub readable : IsReadable inputs.cell.name (final style.taps drawing xs).shapes (unit_nm inputs.tech)
 
--- without taps
-abbrev pub bare : Wiring → Style
-bare wiring = record { wiring = wiring; taps = Without }
-
-is_made : (wiring : Wiring) (inputs : Inputs) (row : List Column) (log : Log) (routing : Routing) (xs : List ℕ) (drawing : Drawing) → AreInputs inputs → IsFound inputs row log → IsRouted (bare wiring) inputs row routing → AreLeastLines (placement_of row) inputs.cell.pins routing xs → (IsTooTall row routing.tracks inputs.tech.height → ⊥) → drawing ≡ drawing_in inputs row routing xs → IsSoundDrawing wiring inputs row routing xs drawing → IsMade (bare wiring) inputs row log routing xs
-is_made wiring inputs row log routing xs drawing are found routed lines fits is sound =
-    let drawn : IsSoundDrawing wiring inputs row routing xs (drawing_in inputs row routing xs) = subst (λ (d : Drawing). IsSoundDrawing wiring inputs row routing xs d) is sound in
+is_made : (style : Style) (inputs : Inputs) (row : List Column) (log : Log) (routing : Routing) (xs : List ℕ) (drawing : Drawing) → AreInputs inputs → IsFound inputs row log → IsRouted style inputs row routing → AreLeastLines (placement_of row) inputs.cell.pins routing xs → (IsTooTall row routing.tracks inputs.tech.height → ⊥) → drawing ≡ drawing_in inputs row routing xs → IsSoundDrawing style inputs row routing xs drawing → IsMade style inputs row log routing xs
+is_made style inputs row log routing xs drawing are found routed lines fits is sound =
+    let drawn : IsSoundDrawing style inputs row routing xs (drawing_in inputs row routing xs) = subst (λ (d : Drawing). IsSoundDrawing style inputs row routing xs d) is sound in
     record {
       found = found;
       routed = routed;
@@ -116,13 +114,16 @@ is_made wiring inputs row log routing xs drawing are found routed lines fits is 
       fits = fits;
       obeys = drawn.obeys;
       extracts = drawn.extracts;
+      bodied = drawn.bodied;
       shows_row = drawn.shows_row;
       shows_routing = drawn.shows_routing;
       ports = drawn.ports;
+      port_trunks = drawn.port_trunks;
+      port_nets = drawn.port_nets;
       obstructs = drawn.obstructs;
       sized = drawn.sized;
-      decodes = decodes_so inputs (drawing_in inputs row routing xs) are drawn.readable;
-      alone = written_alone inputs.cell.name (drawing_in inputs row routing xs).shapes (unit_nm inputs.tech) drawn.readable.named drawn.readable.labels;
+      decodes = decodes_so inputs (final_in style inputs row routing xs) are drawn.readable;
+      alone = written_alone inputs.cell.name (final_in style inputs row routing xs).shapes (unit_nm inputs.tech) drawn.readable.named drawn.readable.labels;
     }
 
 -- ---- the same, from what the steps see
@@ -134,6 +135,7 @@ pub record IsDrawnSo (style : Style) (inside : Inputs) (row : List Column) (plac
   pub exact : drawing ≡ drawn_of inside.cell.nets inside.cell.pins placement routing lines height
   pub obeys : Obeys (deck_of style.taps) (final style.taps drawing lines).shapes.rects
   pub extracts : ExtractsToRow (deck_of style.taps) inside.cell.nets inside.cell.pins placement.row (final style.taps drawing lines).shapes
+  pub bodied : ArePins (length inside.cell.nets) inside.cell.pins → AreBodiedBy style.taps inside.cell.nets inside.cell.pins (final style.taps drawing lines).shapes
   pub shows : ShowsColumns (deck_of style.taps) inside.cell.nets inside.cell.pins placement.row (final style.taps drawing lines).shapes
   pub routed : ShowsWiring style.wiring inside.cell.nets inside.cell.pins placement lines (final style.taps drawing lines).shapes routing
 
@@ -149,29 +151,42 @@ has_pin_port : (wiring : Wiring) (names : List (List ℕ)) (pins : Pins) (p : Pl
 has_pin_port Straight names pins p r xs height n is legal allowed few lt = has_port names pins p r xs height n is legal allowed few lt
 has_pin_port Doglegs names pins p r xs height n is legal allowed few lt = has_ports_of names pins p r xs height n is (wired_by Doglegs p pins r legal) allowed few lt
 
-has_ports : (wiring : Wiring) (inputs : Inputs) (row : List Column) (routing : Routing) (lines : List ℕ) (drawing : Drawing) → AreInputs inputs → IsPlacement (placement_of row) → IsRouted (bare wiring) inputs row routing → AreLeastLines (placement_of row) inputs.cell.pins routing lines → drawing ≡ drawing_in inputs row routing lines → (n : ℕ) → n < inputs.cell.pins.pins → HasPinPort wiring inputs.cell.nets (ports_in inputs routing drawing) drawing n
-has_ports wiring inputs row routing lines drawing are placed routed least is n lt =
-    subst (λ (d : Drawing). HasPinPort wiring inputs.cell.nets (ports_in inputs routing d) d n) (sym is)
-    (has_pin_port wiring inputs.cell.nets inputs.cell.pins (placement_of row) routing lines inputs.tech.height n placed routed.legal least.allowed are.pins.named lt)
+has_ports : (style : Style) (inputs : Inputs) (row : List Column) (routing : Routing) (lines : List ℕ) (drawing : Drawing) → AreInputs inputs → IsPlacement (placement_of row) → IsRouted style inputs row routing → AreLeastLines (placement_of row) inputs.cell.pins routing lines → drawing ≡ drawing_in inputs row routing lines → (n : ℕ) → n < inputs.cell.pins.pins → HasPinPort style.wiring inputs.cell.nets (ports_in inputs routing drawing) drawing n
+has_ports style inputs row routing lines drawing are placed routed least is n lt =
+    subst (λ (d : Drawing). HasPinPort style.wiring inputs.cell.nets (ports_in inputs routing d) d n) (sym is)
+    (has_pin_port style.wiring inputs.cell.nets inputs.cell.pins (placement_of row) routing lines inputs.tech.height n placed routed.legal least.allowed are.pins.named lt)
+
+has_trunk_ports : (inputs : Inputs) (row : List Column) (routing : Routing) (lines : List ℕ) (drawing : Drawing) → drawing ≡ drawing_in inputs row routing lines → (n : ℕ) → n < inputs.cell.pins.pins → HasTrunkPorts inputs.cell.pins (frame_in inputs row routing lines) lines routing.trunks (ports_in inputs routing drawing) drawing n
+has_trunk_ports inputs row routing lines drawing is n lt =
+    subst (λ (d : Drawing). HasTrunkPorts inputs.cell.pins (frame_in inputs row routing lines) lines routing.trunks (ports_in inputs routing d) d n) (sym is)
+    (trunk_ports inputs.cell.nets inputs.cell.pins (placement_of row) routing lines inputs.tech.height n lt)
+
+of_nets : (style : Style) (inputs : Inputs) (row : List Column) (log : Log) (routing : Routing) (lines : List ℕ) (drawing : Drawing) → AreInputs inputs → IsFound inputs row log → IsPlacement (placement_of row) → IsRouted style inputs row routing → AreLeastLines (placement_of row) inputs.cell.pins routing lines → drawing ≡ drawing_in inputs row routing lines → (n : ℕ) → n < inputs.cell.pins.pins → AreOfNet Plain inputs.cell.nets (ports_in inputs routing drawing) drawing n
+of_nets style inputs row log routing lines drawing are found placed routed least is n lt =
+    subst (λ (d : Drawing). AreOfNet Plain inputs.cell.nets (ports_in inputs routing d) d n) (sym is)
+    (of_net inputs.cell.nets inputs.cell.pins (placement_of row) routing lines inputs.tech.height n placed (sound_row inputs row are found.first.arranges) (wired_by style.wiring (placement_of row) inputs.cell.pins routing routed.legal) least.allowed are.pins lt)
 
 has_metal : (inputs : Inputs) (row : List Column) (routing : Routing) (lines : List ℕ) (drawing : Drawing) → drawing ≡ drawing_in inputs row routing lines → AreAllMetal (ports_in inputs routing drawing) drawing.shapes.rects
 has_metal inputs row routing lines drawing is =
     subst (λ (d : Drawing). AreAllMetal (ports_in inputs routing d) d.shapes.rects) (sym is)
     (metal inputs.cell.nets inputs.cell.pins (placement_of row) routing lines inputs.tech.height)
 
-has_size : (wiring : Wiring) (inputs : Inputs) (row : List Column) (routing : Routing) (lines : List ℕ) (drawing : Drawing) → IsPlacement (placement_of row) → IsRouted (bare wiring) inputs row routing → AreLeastLines (placement_of row) inputs.cell.pins routing lines → drawing ≡ drawing_in inputs row routing lines → IsSized drawing
-has_size wiring inputs row routing lines drawing placed routed least is =
-    subst IsSized (sym is) (wired_sized inputs.cell.nets inputs.cell.pins (placement_of row) routing lines inputs.tech.height placed (wired_by wiring (placement_of row) inputs.cell.pins routing routed.legal) least.allowed)
+has_size : (style : Style) (inputs : Inputs) (row : List Column) (routing : Routing) (lines : List ℕ) (drawing : Drawing) → IsPlacement (placement_of row) → IsRouted style inputs row routing → AreLeastLines (placement_of row) inputs.cell.pins routing lines → drawing ≡ drawing_in inputs row routing lines → IsSized drawing
+has_size style inputs row routing lines drawing placed routed least is =
+    subst IsSized (sym is) (wired_sized inputs.cell.nets inputs.cell.pins (placement_of row) routing lines inputs.tech.height placed (wired_by style.wiring (placement_of row) inputs.cell.pins routing routed.legal) least.allowed)
 
-sound_drawing : (wiring : Wiring) (inputs : Inputs) (row : List Column) (log : Log) (routing : Routing) (lines : List ℕ) (drawing : Drawing) → AreInputs inputs → IsFound inputs row log → IsPlacement (placement_of row) → IsRouted (bare wiring) inputs row routing → IsDrawnSo (bare wiring) inputs row (placement_of row) routing lines drawing inputs.tech.height → IsReadable inputs.cell.name drawing.shapes (unit_nm inputs.tech) → IsSoundDrawing wiring inputs row routing lines drawing
-sound_drawing wiring inputs row log routing lines drawing are found placed routed h readable = record {
+sound_drawing : (style : Style) (inputs : Inputs) (row : List Column) (log : Log) (routing : Routing) (lines : List ℕ) (drawing : Drawing) → AreInputs inputs → IsFound inputs row log → IsPlacement (placement_of row) → IsRouted style inputs row routing → IsDrawnSo style inputs row (placement_of row) routing lines drawing inputs.tech.height → IsReadable inputs.cell.name (final style.taps drawing lines).shapes (unit_nm inputs.tech) → IsSoundDrawing style inputs row routing lines drawing
+sound_drawing style inputs row log routing lines drawing are found placed routed h readable = record {
   obeys = h.obeys;
   extracts = h.extracts.to are.pins inputs.fingers (record { sound = are.sound; arranged = found.first.arranges });
+  bodied = h.bodied are.pins;
   shows_row = h.shows.shown are.pins;
   shows_routing = h.routed;
-  ports = has_ports wiring inputs row routing lines drawing are placed routed h.least h.exact;
+  ports = has_ports style inputs row routing lines drawing are placed routed h.least h.exact;
+  port_trunks = has_trunk_ports inputs row routing lines drawing h.exact;
+  port_nets = of_nets style inputs row log routing lines drawing are found placed routed h.least h.exact;
   obstructs = has_metal inputs row routing lines drawing h.exact;
-  sized = has_size wiring inputs row routing lines drawing placed routed h.least h.exact;
+  sized = has_size style inputs row routing lines drawing placed routed h.least h.exact;
   readable = readable;
 }
 
@@ -185,20 +200,16 @@ unit_least n least =
 unit_most : (n : ℕ) → n ≤ 2000 → n / 2 ≤ 1000
 unit_most n most = omega (arith, most, div-add-mod n 2)
 
-pub readable_so : (inputs inside : Inputs) (shapes : Shapes) → inside ≡ inputs → AreInputs inputs → length shapes.rects ≤ 1999 → AreWithinLimits shapes.rects → AreWithin shapes → All (λ (l : Label). Contains inside.cell.nets l.name) shapes.labels → IsReadable inputs.cell.name shapes (unit_nm inputs.tech)
-readable_so inputs inside shapes same are few limits within listed =
+pub readable_so : (inputs inside : Inputs) (shapes : Shapes) → inside ≡ inputs → AreInputs inputs → AreWritable inside.cell.nets shapes → IsReadable inputs.cell.name shapes (unit_nm inputs.tech)
+readable_so inputs inside shapes same are writable =
     readable inputs.cell.nets inputs.cell.name shapes (unit_nm inputs.tech) are.nets are.cell (unit_least inputs.tech.lambda_nm are.tech.lambda_least) (unit_most inputs.tech.lambda_nm are.tech.lambda_most)
-    few limits within (subst (λ (i : Inputs). All (λ (l : Label). Contains i.cell.nets l.name) shapes.labels) same listed)
+    (subst (λ (i : Inputs). AreWritable i.cell.nets shapes) same writable)
 
-made_bare : (wiring : Wiring) (inputs inside : Inputs) (log : Log) (placement : Placement) (routing : Routing) (drawn : Drawn) (height : ℕ) → inside ≡ inputs → placement ≡ placement_of placement.row → height ≡ inputs.tech.height → AreInputs inputs → IsFound inputs placement.row log → IsPlacement placement → IsRouted (bare wiring) inputs placement.row routing → IsDrawnSo (bare wiring) inside placement.row placement routing drawn.lines drawn.drawing height → IsReadable inputs.cell.name drawn.drawing.shapes (unit_nm inputs.tech) → ComesTo (bare wiring) inputs (outcome.Made placement log routing drawn)
-made_bare wiring inputs inside log placement routing drawn height same is high are found placed routed h readable =
-    let seen = seen_so (bare wiring) inputs inside placement.row placement routing drawn.lines drawn.drawing height same is high h in
-    let sound = sound_drawing wiring inputs placement.row log routing drawn.lines drawn.drawing are found (subst IsPlacement is placed) routed seen readable in
-    (is_made wiring inputs placement.row log routing drawn.lines drawn.drawing are found routed seen.least seen.fits seen.exact sound, seen.exact)
-
-pub made_so : (wiring : Wiring) (taps : Taps) (inputs inside : Inputs) (log : Log) (placement : Placement) (routing : Routing) (drawn : Drawn) (height : ℕ) → inside ≡ inputs → placement ≡ placement_of placement.row → height ≡ inputs.tech.height → AreInputs inputs → IsFound inputs placement.row log → IsPlacement placement → IsRouted (record { wiring = wiring; taps = taps }) inputs placement.row routing → IsDrawnSo (record { wiring = wiring; taps = taps }) inside placement.row placement routing drawn.lines drawn.drawing height → IsReadable inputs.cell.name drawn.drawing.shapes (unit_nm inputs.tech) → ComesTo (record { wiring = wiring; taps = taps }) inputs (outcome.Made placement log routing drawn)
-made_so wiring Without inputs inside log placement routing drawn height same is high are found placed routed h readable =
-    made_bare wiring inputs inside log placement routing drawn height same is high are found placed routed h readable
+pub made_so : (style : Style) (inputs inside : Inputs) (log : Log) (placement : Placement) (routing : Routing) (drawn : Drawn) (height : ℕ) → inside ≡ inputs → placement ≡ placement_of placement.row → height ≡ inputs.tech.height → AreInputs inputs → IsFound inputs placement.row log → IsPlacement placement → IsRouted style inputs placement.row routing → IsDrawnSo style inside placement.row placement routing drawn.lines drawn.drawing height → drawn.tapped ≡ tapped_by style.taps drawn.drawing drawn.lines → IsReadable inputs.cell.name (final style.taps drawn.drawing drawn.lines).shapes (unit_nm inputs.tech) → ComesTo style inputs (outcome.Made placement log routing drawn)
+made_so style inputs inside log placement routing drawn height same is high are found placed routed h tapped readable =
+    let seen = seen_so style inputs inside placement.row placement routing drawn.lines drawn.drawing height same is high h in
+    let sound = sound_drawing style inputs placement.row log routing drawn.lines drawn.drawing are found (subst IsPlacement is placed) routed seen readable in
+    (is_made style inputs placement.row log routing drawn.lines drawn.drawing are found routed seen.least seen.fits seen.exact sound, (seen.exact, tapped))
 
 pub cyclic_so : (style : Style) (inputs inside : Inputs) (row : List Column) (log : Log) (placement : Placement) (ring : Ring) → inside ≡ inputs → placement ≡ placement_of row → IsFound inputs row log → IsToldRing style.wiring placement inside.cell.pins ring → ComesTo style inputs (outcome.Cyclic placement log ring)
 cyclic_so style inputs inside row log placement ring same is found told =

@@ -1,5 +1,5 @@
 -- A drawing is read back as it is written: its names are spelled as names are, and its places are near.
-use Rattle.std.proofs.Common.{ℕ, ◌≡◌, ◌≢◌, ◌≤◌, ◌&&◌, nat_le, true, IsTrue, List, [], ◌∷◌, length, All, Contains, refl, sym, subst, arith}
+use Rattle.std.proofs.Common.{ℕ, ◌≡◌, ◌≢◌, ◌≤◌, ◌&&◌, nat_le, true, IsTrue, List, [], ◌∷◌, length, All, Contains, refl, sym, subst}
 use Rattle.std.specs.List.{list_all}
 use Rattle.std.proofs.lemmas.Bool.{and_parts, leb-true}
 use Rattle.std.proofs.lemmas.List.Elements.{All-contains, All-weaker, Contains-append_right}
@@ -9,13 +9,13 @@ use Rattle.cell_num.proofs.Lists.{all_from_contains, contains_here}
 use Rattle.box_geom.specs.declared.shape.Shape.{Shape}
 use Rattle.box_geom.specs.declared.shape.Label.{Label}
 use Rattle.box_geom.specs.declared.shape.Shapes.{Shapes}
-use Rattle.box_geom.specs.Layers.{AreWithinLimits}
 use Rattle.spice_net.specs.Subckts.{AreNames}
-use Rattle.cell_draw.specs.Bounds.{AreWithin, IsLabelWithin, IsShapeWithin}
+use Rattle.cell_draw.specs.Bounds.{IsLabelWithin, IsShapeWithin}
 use Rattle.cell_draw.proofs.Bounds.{fits}
 use Rattle.gds_write.specs.Written.{IsWritableLabel, IsWritableShape}
 use Rattle.gds_read.specs.RoundTrip.{HasNoZeroEnd, IsReadable}
 use Rattle.cell_inputs.proofs.Names.{log_name, whole_name}
+use Rattle.cell_make.specs.Writable.{AreWritable}
 
 abbrev HasNoZero : List ℕ → Type 0
 HasNoZero text = All (λ b. b ≢ 0) text
@@ -61,17 +61,17 @@ label_fits unit l few w name = record { x = fits unit l.x w.x few; y = fits unit
 labels_fit : (unit : ℕ) (labels : List Label) → unit ≤ 1000 → All IsLabelWithin labels → All (λ (l : Label). IsSpelled l.name) labels → All (IsWritableLabel unit) labels
 labels_fit unit labels few near names = all_from_contains (IsWritableLabel unit) labels (λ l there. label_fits unit l few (All-contains IsLabelWithin labels l near there) (All-contains (λ (x : Label). IsSpelled x.name) labels l names there))
 
-pub readable : (nets : List (List ℕ)) (name : List ℕ) (shapes : Shapes) (unit : ℕ) → AreNames nets → IsTrue (is_cell name) → 10 ≤ unit → unit ≤ 1000 → length shapes.rects ≤ 1999 → AreWithinLimits shapes.rects → AreWithin shapes → All (λ (l : Label). Contains nets l.name) shapes.labels → IsReadable name shapes unit
-readable nets name shapes unit names cell least few count limits within listed =
+pub readable : (nets : List (List ℕ)) (name : List ℕ) (shapes : Shapes) (unit : ℕ) → AreNames nets → IsTrue (is_cell name) → 10 ≤ unit → unit ≤ 1000 → AreWritable nets shapes → IsReadable name shapes unit
+readable nets name shapes unit names cell least few w =
     let named = log_name name cell in
-    let all : All (λ (l : Label). IsSpelled l.name) shapes.labels = All-weaker (λ (l : Label). Contains nets l.name) (λ (l : Label). IsSpelled l.name) (λ l there. label_name nets l names there) shapes.labels listed in
+    let all : All (λ (l : Label). IsSpelled l.name) shapes.labels = All-weaker (λ (l : Label). Contains nets l.name) (λ (l : Label). IsSpelled l.name) (λ l there. label_name nets l names there) shapes.labels w.named in
     record {
       enough = least;
-      few = omega (arith, count);
+      few = w.few;
       named = record { some = named.some; most = named.few };
       named_whole = no_zero_end name (whole_name name cell);
-      rects = All-weaker IsShapeWithin (IsWritableShape unit) (shape_fits unit few) shapes.rects within.rects;
-      limits = limits.all;
-      labels = labels_fit unit shapes.labels few within.labels all;
+      rects = All-weaker IsShapeWithin (IsWritableShape unit) (shape_fits unit few) shapes.rects w.within.rects;
+      limits = w.limits.all;
+      labels = labels_fit unit shapes.labels few w.within.labels all;
       labels_whole = All-weaker (λ (l : Label). IsSpelled l.name) (λ (l : Label). HasNoZeroEnd l.name) (λ l is. no_zero_end l.name is.whole) shapes.labels all;
     }

@@ -1,5 +1,4 @@
 -- What is told as a ring is one, and where there is none none is told.
-use Rattle.std.proofs.Common.{◌≡◌}
 use Rattle.cell_num.specs.declared.net.Pins.{Pins}
 use Rattle.row_place.specs.declared.placement.Placement.{Placement}
 use Rattle.channel_route.specs.declared.ring.Ring.{Ring}

@@ -1,5 +1,5 @@
 -- What the router and the drawing answer, as the wiring asks for it.
-use Rattle.std.proofs.Common.{ℕ, ◌≡◌, List, refl, subst, sym}
+use Rattle.std.proofs.Common.{ℕ, ◌≡◌, List, subst, sym}
 use Rattle.cell_num.specs.declared.net.Pins.{Pins}
 use Rattle.box_geom.specs.declared.shape.Shapes.{Shapes}
 use Rattle.row_place.specs.declared.placement.Placement.{Placement}

@@ -6,3 +6,4 @@ pub mod Structures
 pub mod Style
 -- What inner contracts and proofs alone cite.
 pub mod Channel
+pub mod Writable

@@ -1,6 +1,6 @@
 -- What making a cell comes to: its drawing, a cycle of its least row, a height that is not enough, or the log of
 -- an unfinished search.
-use Rattle.std.specs.Prelude.{ℕ, ◌≡◌, ◌<◌, ◌≤◌, ◌*◌, List, length}
+use Rattle.std.specs.Prelude.{ℕ, ◌≡◌, ◌<◌, ◌≤◌, ◌*◌, List, length, unwrap_or}
 use Rattle.cell_num.specs.declared.net.Pins.{Pins}
 use Rattle.row_model.specs.declared.column.Column.{Column}
 use Rattle.bound_log.specs.declared.log.Log.{Log}
@@ -11,6 +11,8 @@ use Rattle.channel_route.specs.declared.routing.Routing.{Routing}
 use Rattle.row_compact.specs.Allowed.{AreAllowed, stretches_of}
 use Rattle.row_compact.specs.Solution.{x_of}
 use Rattle.scmos_rules.specs.Rules.{Obeys}
+use Rattle.scmos_rules.specs.declared.rules.Deck.TheVariants.{Plain}
+use Rattle.cell_draw.specs.declared.cell.TheConstants.{MOST_SHAPES}
 use Rattle.cell_draw.specs.declared.drawing.Drawing.{Drawing}
 use Rattle.cell_draw.specs.Drawings.{drawn_of}
 use Rattle.cell_draw.specs.Extracted.{ExtractsTo}
@@ -20,16 +22,18 @@ use Rattle.gds_write.specs.Written.{written}
 use Rattle.gds_read.specs.Decoding.{Decodes}
 use Rattle.gds_read.specs.RoundTrip.{IsReadable}
 use Rattle.lef_write.specs.declared.port.Port.{Port}
-use Rattle.lef_write.specs.Drawn.{AreAllMetal, IsSized}
+use Rattle.lef_write.specs.Drawn.{AreAllMetal, AreOfNet, HasTrunkPorts, IsSized}
 use Rattle.lef_write.specs.Lef.{cell_text}
 use Rattle.lef_write.specs.Ports.{ports_of}
+use Rattle.cell_make.specs.declared.drawn.Drawn.{Drawn}
 use Rattle.cell_make.specs.declared.outcome.Outcome.{Outcome}
 use Rattle.cell_make.specs.declared.outcome.Outcome.TheVariants as outcome
 use Rattle.cell_inputs.specs.declared.style.Style.{Style}
 use Rattle.cell_inputs.specs.Inputs.{Inputs, unit_nm}
+use Rattle.cell_make.specs.Extent.{frame_in}
 use Rattle.cell_make.specs.Searched.{IsFound, IsUnfinished}
 use Rattle.cell_make.specs.Structures.{HasOneStructure}
-use Rattle.cell_make.specs.Style.{AreLegal, AreTight, HasNoRing, HasPinPort, IsToldRing, ShowsWiring, deck_of, final}
+use Rattle.cell_make.specs.Style.{AreBodiedBy, AreLegal, AreTight, HasNoRing, HasPinPort, IsToldRing, ShowsWiring, deck_of, final, tapped_by}
 
 -- ---- the parts
 
@@ -68,9 +72,10 @@ abstract_of inputs routing drawing = cell_text inputs.cell routing drawing (unit
 
 -- What is said of a drawn cell. Its row is the first least arrangement of the fingers, and the log is accepted
 -- and lists it. Its channel is routed legally and tightly, its lines stand at the least places, and the height is
--- enough. The shapes obey every rule, extract net by net to the fingers, and show the row and the routing; and the
--- bytes, which have no other structure, decode with the cell's name and the technology's lambda to these shapes. Each
--- pin has a port, all other metal obstructs, and the size is that of metal1: these three without the taps.
+-- enough. The shapes obey every rule, extract net by net to the fingers, and show the row and the routing; with taps
+-- each device's body is its row's rail. The bytes, which have no other structure, decode with the cell's name and the
+-- technology's lambda to these shapes. Each pin has a port, and one for each trunk of its net, every cell of them is in
+-- the pin's net, all other metal obstructs, and the size is that of metal1: these without the taps.
 pub record IsMade (style : Style) (inputs : Inputs) (row : List Column) (log : Log) (routing : Routing)
     (xs : List ℕ) : Type 0 where
   pub found : IsFound inputs row log
@@ -80,12 +85,20 @@ pub record IsMade (style : Style) (inputs : Inputs) (row : List Column) (log : L
   pub obeys : Obeys (deck_of style.taps) (final_in style inputs row routing xs).shapes.rects
   pub extracts :
       ExtractsTo (deck_of style.taps) inputs.cell.nets inputs.fingers (final_in style inputs row routing xs).shapes
+  pub bodied :
+      AreBodiedBy style.taps inputs.cell.nets inputs.cell.pins (final_in style inputs row routing xs).shapes
   pub shows_row : ShowsRow (deck_of style.taps) inputs.cell.nets row (final_in style inputs row routing xs).shapes
   pub shows_routing :
       ShowsWiring style.wiring inputs.cell.nets inputs.cell.pins (placement_of row) xs
       (final_in style inputs row routing xs).shapes routing
   pub ports : (n : ℕ) → n < inputs.cell.pins.pins
       → HasPinPort style.wiring inputs.cell.nets (ports_in inputs routing (drawing_in inputs row routing xs))
+      (drawing_in inputs row routing xs) n
+  pub port_trunks : (n : ℕ) → n < inputs.cell.pins.pins
+      → HasTrunkPorts inputs.cell.pins (frame_in inputs row routing xs) xs routing.trunks
+      (ports_in inputs routing (drawing_in inputs row routing xs)) (drawing_in inputs row routing xs) n
+  pub port_nets : (n : ℕ) → n < inputs.cell.pins.pins
+      → AreOfNet Plain inputs.cell.nets (ports_in inputs routing (drawing_in inputs row routing xs))
       (drawing_in inputs row routing xs) n
   pub obstructs :
       AreAllMetal (ports_in inputs routing (drawing_in inputs row routing xs))
@@ -120,23 +133,29 @@ answer_of (outcome.Cyclic placement log ring) = Cyclic placement.row log ring
 answer_of (outcome.Tall placement log routing needed given) = Tall placement.row log routing
 answer_of (outcome.Unfinished log proved) = Unfinished proved log
 
--- The drawing is that of the row, its routing and its lines, and the heights are the one that the row needs and the
--- one of the technology.
-abbrev pub IsDrawnBy : Inputs → Outcome → Type 0
-IsDrawnBy inputs (outcome.Made placement log routing drawn) =
-    drawn.drawing ≡ drawing_in inputs placement.row routing drawn.lines
-IsDrawnBy inputs (outcome.Cyclic placement log ring) = Unit {0}
-IsDrawnBy inputs (outcome.Tall placement log routing needed given) =
+-- the one of its drawings that is written
+abbrev pub final_of : Drawn → Drawing
+final_of drawn = unwrap_or drawn.tapped drawn.drawing
+
+-- The drawing is that of the row, its routing and its lines, with taps where the style asks for them, and the heights
+-- are the one that the row needs and the one of the technology.
+abbrev pub IsDrawnBy : Style → Inputs → Outcome → Type 0
+IsDrawnBy style inputs (outcome.Made placement log routing drawn) =
+    (drawn.drawing ≡ drawing_in inputs placement.row routing drawn.lines)
+    × (drawn.tapped ≡ tapped_by style.taps drawn.drawing drawn.lines)
+IsDrawnBy style inputs (outcome.Cyclic placement log ring) = Unit {0}
+IsDrawnBy style inputs (outcome.Tall placement log routing needed given) =
     (needed ≡ needed_of placement.row routing.tracks) × (given ≡ inputs.tech.height)
-IsDrawnBy inputs (outcome.Unfinished log proved) = Unit {0}
+IsDrawnBy style inputs (outcome.Unfinished log proved) = Unit {0}
 
 abbrev pub ComesTo : Style → Inputs → Outcome → Type 0
-ComesTo style inputs came = Makes style inputs (answer_of came) × IsDrawnBy inputs came
+ComesTo style inputs came = Makes style inputs (answer_of came) × IsDrawnBy style inputs came
 
--- a drawing can be written as a library that is read back, and is small enough for an abstract
+-- a drawing can be written as a library that is read back, and without taps is small enough for an abstract
 abbrev pub CanBeWritten : Inputs → Outcome → Type 0
 CanBeWritten inputs (outcome.Made placement log routing drawn) =
-    IsReadable inputs.cell.name drawn.drawing.shapes (unit_nm inputs.tech) × (length drawn.drawing.shapes.rects ≤ 1999)
+    IsReadable inputs.cell.name (final_of drawn).shapes (unit_nm inputs.tech)
+    × (length drawn.drawing.shapes.rects < MOST_SHAPES)
 CanBeWritten inputs (outcome.Cyclic placement log ring) = Unit {0}
 CanBeWritten inputs (outcome.Tall placement log routing needed given) = Unit {0}
 CanBeWritten inputs (outcome.Unfinished log proved) = Unit {0}

@@ -1,5 +1,5 @@
 -- What a style asks for: its wiring, of the channel; its taps, of the drawing.
-use Rattle.std.specs.Prelude.{ℕ, List}
+use Rattle.std.specs.Prelude.{ℕ, List, Option, Some, None}
 use Rattle.cell_num.specs.declared.net.Pins.{Pins}
 use Rattle.box_geom.specs.declared.shape.Shapes.{Shapes}
 use Rattle.row_place.specs.declared.placement.Placement.{Placement}
@@ -11,7 +11,7 @@ use Rattle.channel_route.specs.Cycle.{HasNoCycle, IsCycle}
 use Rattle.channel_route.specs.Routing.{IsLegal, IsTight}
 use Rattle.channel_route.specs.Told.{IsTold}
 use Rattle.scmos_rules.specs.declared.rules.Deck.{Deck}
-use Rattle.scmos_rules.specs.declared.rules.Deck.TheVariants.{Plain}
+use Rattle.scmos_rules.specs.declared.rules.Deck.TheVariants as deck
 use Rattle.cell_draw.specs.declared.drawing.Drawing.{Drawing}
 use Rattle.cell_draw.specs.Shown.{ShowsRouting}
 use Rattle.lef_write.specs.declared.port.Port.{Port}
@@ -20,9 +20,11 @@ use Rattle.dogleg_route.specs.Firsts.{ShowsFirsts}
 use Rattle.dogleg_route.specs.PieceCycles.{IsPieceCycle, BeginsFirst, HasNoPieceCycle}
 use Rattle.dogleg_route.specs.PieceTold.{IsPieceTold}
 use Rattle.dogleg_route.specs.Routings.{ArePiecesLegal, ArePiecesTight}
+use Rattle.well_tap.specs.Bodied.{AreBodied}
+use Rattle.well_tap.specs.Tapped.{tapped}
 use Rattle.lef_write.specs.Drawn.{HasPort, HasPorts}
 use Rattle.cell_inputs.specs.declared.style.Taps.{Taps}
-use Rattle.cell_inputs.specs.declared.style.Taps.TheVariants.{Without}
+use Rattle.cell_inputs.specs.declared.style.Taps.TheVariants.{Without, With}
 use Rattle.cell_inputs.specs.declared.style.Wiring.{Wiring}
 use Rattle.cell_inputs.specs.declared.style.Wiring.TheVariants.{Straight, Doglegs}
 
@@ -79,10 +81,22 @@ HasPinPort Doglegs names ports drawing n = HasPorts names ports drawing n
 
 -- ---- by the taps
 
--- the design rules
+-- the design rules, by which nets are read too
 abbrev pub deck_of : Taps → Deck
-deck_of Without = Plain
+deck_of Without = deck.Plain
+deck_of With = deck.Taps
 
--- the drawing as it is written, from the one on these lines
+-- the drawing with taps, where there are taps, from the one on these lines
+abbrev pub tapped_by : Taps → Drawing → List ℕ → Option Drawing
+tapped_by Without drawing xs = None
+tapped_by With drawing xs = Some (tapped xs drawing)
+
+-- the drawing as it is written
 abbrev pub final : Taps → Drawing → List ℕ → Drawing
 final Without drawing xs = drawing
+final With drawing xs = tapped xs drawing
+
+-- with taps the body of each device is its row's rail
+abbrev pub AreBodiedBy : Taps → List (List ℕ) → Pins → Shapes → Type 0
+AreBodiedBy Without names pins shapes = Unit {0}
+AreBodiedBy With names pins shapes = AreBodied names pins shapes

@@ -1,6 +1,7 @@
-ghost use Rattle.std.specs.Prelude.{◌≡◌, ◌≤◌, ◌*◌, All, Contains, IfOk, IfErr, length};
+ghost use Rattle.std.specs.Prelude.{◌≡◌, ◌≤◌, ◌<◌, ◌*◌, All, Contains, IfOk, IfErr, length};
 ghost use Rattle.box_geom.specs.declared.shape.Label.{Label as SomeLabel};
 ghost use Rattle.box_geom.specs.Layers.{AreWithinLimits};
+ghost use Rattle.cell_num.specs.Pins.{ArePins};
 ghost use Rattle.row_place.specs.Places.{IsPlacement};
 ghost use Rattle.channel_route.specs.Wiring.{IsWiring};
 ghost use Rattle.row_compact.specs.Allowed.{AreAllowed, stretches_of};
@@ -16,10 +17,12 @@ ghost use Rattle.cell_draw.specs.Framed.{IsFramed};
 ghost use Rattle.cell_draw.specs.Layouts.{width_of};
 ghost use Rattle.cell_draw.specs.Shown.{ShowsColumns};
 ghost use Rattle.cell_draw.specs.Sound.{IsSoundRow};
-ghost use Rattle.cell_make.specs.Making.{AreLeastLines};
-ghost use Rattle.cell_make.specs.Style.{AreLegal, ShowsWiring, deck_of, final};
+ghost use Rattle.well_tap.specs.Base.{IsBase};
+ghost use Rattle.cell_make.specs.Making.{AreLeastLines, final_of};
+ghost use Rattle.cell_make.specs.Style.{AreBodiedBy, AreLegal, ShowsWiring, deck_of, final, tapped_by};
+ghost use Rattle.cell_make.specs.Writable.{AreWritable};
 
-use cell_draw::{DrawFault, Drawing, MOST_HEIGHT, MOST_X, draw, draw_wiring};
+use cell_draw::{DrawFault, Drawing, MOST_HEIGHT, MOST_SHAPES, MOST_X, MOST_Y, draw, draw_wiring};
 use cell_inputs::{Style, Taps, Wiring};
 use cell_num::{NoMemory, Pins};
 use channel_route::Routing;
@@ -27,6 +30,7 @@ use row_compact::{LineXs, least_lines, wiring_distances};
 use row_place::Placement;
 use spice_net::Subckt;
 use std::alloc::Global;
+use well_tap::draw_taps;
 
 /// A cell with a column is at least so many grid units wide: it has three lines, with 8 before, between and behind them.
 pub const LEAST_WIDTH: u32 = 32;
@@ -38,11 +42,25 @@ pub const MOST_WIDTH: u32 = 127_016;
 #[derive(Drop)]
 pub struct Drawn {
     pub lines: LineXs,
+    /// Without taps.
     pub drawing: Drawing,
+    /// The same with taps, where the style asks for them.
+    pub tapped: Option<Drawing>,
+}
+
+impl Drawn {
+    /// The drawing as it is written: with taps where there are taps.
+    pub fn final_drawing(&self) -> &Drawing
+        ensures { result.now ≡ final_of self.now }
+    {
+        match &self.tapped {
+            Some(tapped) => tapped,
+            None => &self.drawing,
+        }
+    }
 }
 
 // The least positions of the lines of a wired row.
-#[tactic(auto, using(crate::proofs::LeastLines::least_are))]
 fn lines_of(
     alloc: Global,
     placement: &Placement,
@@ -55,10 +73,7 @@ fn lines_of(
     ensures low { IfOk result (λ xs. x_of xs (2 * length placement.now.units) ≤ 127008) }
 {
     let distances = wiring_distances(alloc, placement, routing.trunks.as_slice(), pins)?;
-    match least_lines(alloc, &distances) {
-        Ok(xs) => Ok(xs),
-        Err(NoMemory) => Err(NoMemory),
-    }
+    least_lines(alloc, &distances)
 }
 
 // The drawing of a routed row on these lines, without taps.
@@ -90,8 +105,9 @@ fn drawing_by(
     ensures framed { IfOk result (IsFramed (frame_of placement.now.row routing.now.tracks height
         (width_of placement.now lines.now)) lines.now) }
     ensures width { IfOk result (λ d. d.width ≡ width_of placement.now lines.now) }
-    ensures few { IfOk result (λ d. length d.shapes.rects ≤ 1999) }
+    ensures few { IfOk result (λ d. length d.shapes.rects < MOST_SHAPES) }
     ensures within { IfOk result (λ d. AreWithin d.shapes) }
+    ensures low { IfOk result (λ d. d.height ≤ MOST_Y) }
     ensures named { IfOk result (λ d. All (λ (l : SomeLabel). Contains cell.now.nets l.name) d.shapes.labels) }
     ensures fits { IfOk result (λ d. IsTooTall placement.now.row routing.now.tracks height → ⊥) }
     ensures cause { IfErr result (IsCause placement.now.row routing.now.tracks height) }
@@ -119,6 +135,30 @@ fn drawing_by(
     }
 }
 
+// The drawing with taps, where there are taps.
+fn tapped_by(
+    alloc: Global,
+    taps: Taps,
+    drawing: &Drawing,
+    lines: &LineXs,
+) -> Result<Option<Drawing>, NoMemory>
+    requires base { IsBase lines.now drawing.now }
+    requires height { drawing.now.height ≤ MOST_Y }
+    requires obeys { Obeys Plain drawing.now.shapes.rects }
+    ensures exact { IfOk result (λ tapped. tapped ≡ tapped_by taps drawing.now lines.now) }
+    ensures limits { IfOk result (λ tapped. AreWithinLimits (final taps drawing.now lines.now).shapes.rects) }
+{
+    drawing.shapes.show_limits();
+    match taps {
+        Taps::Without => Ok(None),
+        Taps::With => {
+            let tapped = draw_taps(alloc, drawing, lines)?;
+            tapped.shapes.show_limits();
+            Ok(Some(tapped))
+        }
+    }
+}
+
 /// Draws a routed row in this style on its least lines, in a cell of the given height, or of the least where that is 0.
 #[tactic(auto, using(crate::proofs::Wirings::wired_by))]
 pub fn draw_routed(
@@ -130,16 +170,20 @@ pub fn draw_routed(
     height: u32,
 ) -> Result<Drawn, DrawFault>
     requires placement { IsPlacement placement.now }
+    requires some { 0 < length placement.now.row }
     requires row { IsSoundRow cell.now.nets cell.now.pins placement.now.row }
     requires routing { AreLegal style.wiring placement.now cell.now.pins routing.now }
-    requires height { height ≤ 4000 }
+    requires height { height ≤ MOST_HEIGHT }
     ensures lines { IfOk result (λ d. AreLeastLines placement.now cell.now.pins routing.now d.lines) }
     ensures exact { IfOk result (λ d. d.drawing
         ≡ drawn_of cell.now.nets cell.now.pins placement.now routing.now d.lines height) }
+    ensures tapped { IfOk result (λ d. d.tapped ≡ tapped_by style.taps d.drawing d.lines) }
     ensures obeys { IfOk result (λ d. Obeys (deck_of style.taps)
         (final style.taps d.drawing d.lines).shapes.rects) }
     ensures extracts { IfOk result (λ d. ExtractsToRow (deck_of style.taps) cell.now.nets cell.now.pins
         placement.now.row (final style.taps d.drawing d.lines).shapes) }
+    ensures bodied { ArePins (length cell.now.nets) cell.now.pins → IfOk result (λ d.
+        AreBodiedBy style.taps cell.now.nets cell.now.pins (final style.taps d.drawing d.lines).shapes) }
     ensures shows { IfOk result (λ d. ShowsColumns (deck_of style.taps) cell.now.nets cell.now.pins
         placement.now.row (final style.taps d.drawing d.lines).shapes) }
     ensures routed { IfOk result (λ d.
@@ -149,11 +193,9 @@ pub fn draw_routed(
         (width_of placement.now d.lines)) d.lines d.drawing) }
     ensures width { IfOk result (λ d. d.drawing.width ≡ width_of placement.now d.lines) }
     ensures narrow { IfOk result (λ d. d.drawing.width ≤ MOST_WIDTH) }
-    ensures few { IfOk result (λ d. length d.drawing.shapes.rects ≤ 1999) }
-    ensures limits { IfOk result (λ d. AreWithinLimits d.drawing.shapes.rects) }
+    ensures few { IfOk result (λ d. length d.drawing.shapes.rects < MOST_SHAPES) }
     ensures within { IfOk result (λ d. AreWithin d.drawing.shapes) }
-    ensures named { IfOk result (λ d.
-        All (λ (l : SomeLabel). Contains cell.now.nets l.name) d.drawing.shapes.labels) }
+    ensures written { IfOk result (λ d. AreWritable cell.now.nets (final style.taps d.drawing d.lines).shapes) }
     ensures fits { IfOk result (λ d. IsTooTall placement.now.row routing.now.tracks height → ⊥) }
     ensures cause { IfErr result (IsCause placement.now.row routing.now.tracks height) }
 {
@@ -167,8 +209,10 @@ pub fn draw_routed(
         &lines,
         height,
     )?;
-    drawing.shapes.show_limits();
-    match style.taps {
-        Taps::Without => Ok(Drawn { lines, drawing }),
-    }
+    let tapped = tapped_by(alloc, style.taps, &drawing, &lines)?;
+    Ok(Drawn {
+        lines,
+        drawing,
+        tapped,
+    })
 }
