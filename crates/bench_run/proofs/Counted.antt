@@ -1,5 +1,5 @@
 -- What a cell counts as, from what making it came to.
-use Rattle.std.proofs.Common.{ℕ, ◌≡◌, ◌≤◌, ◌+◌, List, [], ◌∷◌, length, drop, sym, ap, subst, arith}
+use Rattle.std.proofs.Common.{ℕ, ◌≡◌, ◌<◌, ◌≤◌, ◌+◌, List, [], ◌∷◌, None, length, drop, sym, ap, subst, arith}
 use Rattle.std.specs.List.{zip}
 use Rattle.std.proofs.lemmas.List.Sums.{count_by-le-length}
 use Rattle.cell_num.specs.declared.finger.Fingers.{Fingers}
@@ -11,6 +11,7 @@ use Rattle.bound_log.specs.declared.log.Log.{Log}
 use Rattle.channel_route.specs.declared.routing.Routing.{Routing}
 use Rattle.row_place.specs.declared.placement.Placement.{Placement}
 use Rattle.row_place.specs.Places.{placement_of}
+use Rattle.cell_draw.specs.declared.cell.TheConstants.{MOST_SHAPES}
 use Rattle.cell_draw.specs.declared.drawing.Drawing.{Drawing}
 use Rattle.gds_read.specs.RoundTrip.{IsReadable}
 use Rattle.library_size.proofs.Whole.{few_labels, written_within}
@@ -19,8 +20,10 @@ use Rattle.cell_make.specs.declared.outcome.Outcome.{Outcome}
 use Rattle.cell_make.specs.declared.outcome.Outcome.TheVariants as came
 use Rattle.cell_inputs.specs.declared.style.Style.{Style}
 use Rattle.cell_inputs.specs.Inputs.{AreInputs, Inputs, unit_nm}
+use Rattle.cell_inputs.specs.declared.style.Taps.TheVariants.{Without}
 use Rattle.cell_inputs.specs.Style.{plain_style}
-use Rattle.cell_make.specs.Making.{CanBeWritten, ComesTo, answer_of, drawing_in, library_of}
+use Rattle.cell_make.specs.Making.{CanBeWritten, ComesTo, answer_of, drawing_in, final_of, library_of}
+use Rattle.cell_make.proofs.Finals.{final_is}
 use Rattle.cell_make.specs.Searched.{IsFound}
 use Rattle.bench_run.specs.Bench.{counted_as}
 use Rattle.bench_run.specs.Size.{IsSmall}
@@ -33,16 +36,20 @@ few_columns inputs row log are found = omega (arith, found.first.arranges.fewest
 few_tags : (inputs : Inputs) (row : List Column) (routing : Routing) (xs : List ℕ) → AreInputs inputs → length (drawing_in inputs row routing xs).shapes.labels ≤ 256
 few_tags inputs row routing xs are = omega (arith, few_labels inputs.cell.nets inputs.cell.pins (placement_of row) routing xs inputs.tech.height, are.sound.named, are.fingers.few_nets)
 
-pub small_drawing : (inputs : Inputs) (row : List Column) (routing : Routing) (xs : List ℕ) (drawing : Drawing) → AreInputs inputs → drawing ≡ drawing_in inputs row routing xs → IsReadable inputs.cell.name drawing.shapes (unit_nm inputs.tech) → length drawing.shapes.rects ≤ 1999 → IsSmall inputs.cell.name drawing.shapes
+pub small_drawing : (inputs : Inputs) (row : List Column) (routing : Routing) (xs : List ℕ) (drawing : Drawing) → AreInputs inputs → drawing ≡ drawing_in inputs row routing xs → IsReadable inputs.cell.name drawing.shapes (unit_nm inputs.tech) → length drawing.shapes.rects < MOST_SHAPES → IsSmall inputs.cell.name drawing.shapes
 small_drawing inputs row routing xs drawing are is readable rects =
     small_shapes inputs.cell.name drawing.shapes (unit_nm inputs.tech) readable rects (subst (λ (d : Drawing). length d.shapes.labels ≤ 256) (sym is) (few_tags inputs row routing xs are))
+
+-- without taps the drawing itself is written
+readable_bare : (inputs : Inputs) (drawn : Drawn) → drawn.tapped ≡ None → IsReadable inputs.cell.name (final_of drawn).shapes (unit_nm inputs.tech) → IsReadable inputs.cell.name drawn.drawing.shapes (unit_nm inputs.tech)
+readable_bare inputs drawn none readable = subst (λ (d : Drawing). IsReadable inputs.cell.name d.shapes (unit_nm inputs.tech)) (final_is Without drawn none) readable
 
 -- the same of what making came to
 pub small_made : (inputs : Inputs) (outcome : Outcome) (placement : Placement) (log : Log) (routing : Routing) (drawn : Drawn) → outcome ≡ came.Made placement log routing drawn → AreInputs inputs → ComesTo plain_style inputs outcome → CanBeWritten inputs outcome → IsSmall inputs.cell.name drawn.drawing.shapes
 small_made inputs outcome placement log routing drawn is are comes written =
     let c : ComesTo plain_style inputs (came.Made placement log routing drawn) = subst (ComesTo plain_style inputs) is comes in
     let w : CanBeWritten inputs (came.Made placement log routing drawn) = subst (CanBeWritten inputs) is written in
-    small_drawing inputs placement.row routing drawn.lines drawn.drawing are c.1 w.0 w.1
+    small_drawing inputs placement.row routing drawn.lines drawn.drawing are c.1.0 (readable_bare inputs drawn c.1.1 w.0) w.1
 
 -- the style that the cells are made in
 pub plain_comes : (style : Style) (inputs : Inputs) (outcome : Outcome) → style ≡ plain_style → ComesTo style inputs outcome → ComesTo plain_style inputs outcome
@@ -61,7 +68,7 @@ zip_few (x ∷ xs) (y ∷ ys) = omega (arith, zip_few xs ys)
 few_gaps : (row : List Column) → gaps_of row ≤ length row
 few_gaps row = omega (arith, count_by-le-length is_gap (zip row (drop 1 row)), zip_few row (drop 1 row))
 
-few_bytes : (inputs : Inputs) (row : List Column) (routing : Routing) (drawn : Drawn) → AreInputs inputs → drawn.drawing ≡ drawing_in inputs row routing drawn.lines → IsReadable inputs.cell.name drawn.drawing.shapes (unit_nm inputs.tech) → length drawn.drawing.shapes.rects ≤ 1999 → length (library_of inputs (drawing_in inputs row routing drawn.lines)) ≤ 1000000
+few_bytes : (inputs : Inputs) (row : List Column) (routing : Routing) (drawn : Drawn) → AreInputs inputs → drawn.drawing ≡ drawing_in inputs row routing drawn.lines → IsReadable inputs.cell.name drawn.drawing.shapes (unit_nm inputs.tech) → length drawn.drawing.shapes.rects < MOST_SHAPES → length (library_of inputs (drawing_in inputs row routing drawn.lines)) ≤ 1000000
 few_bytes inputs row routing drawn are is readable rects =
     let labels = few_tags inputs row routing drawn.lines are in
     let label_count = ap (λ (d : Drawing). length d.shapes.labels) is in
@@ -78,7 +85,7 @@ counted_within inputs (came.Made placement log routing drawn) are comes written 
       columns = omega (arith, columns);
       gaps = omega (arith, columns, few_gaps placement.row);
       fingers = omega (arith, few_sum inputs.fingers are.fingers);
-      bytes = omega (arith, few_bytes inputs placement.row routing drawn are comes.1 written.0 written.1);
+      bytes = omega (arith, few_bytes inputs placement.row routing drawn are comes.1.0 (readable_bare inputs drawn comes.1.1 written.0) written.1);
     }
 counted_within inputs (came.Cyclic placement log ring) are comes written = record { made = omega arith; cycles = omega arith; unfinished = omega arith; columns = omega arith; gaps = omega arith; fingers = omega arith; bytes = omega arith }
 counted_within inputs (came.Tall placement log routing needed given) are comes written = record { made = omega arith; cycles = omega arith; unfinished = omega arith; columns = omega arith; gaps = omega arith; fingers = omega arith; bytes = omega arith }

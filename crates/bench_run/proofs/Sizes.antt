@@ -1,5 +1,5 @@
 -- How many bytes the library of a drawing takes.
-use Rattle.std.proofs.Common.{ℕ, ◌≡◌, ◌≤◌, ◌+◌, ◌*◌, ◌%◌, ◌==◌, List, [], ◌∷◌, All, length, map, sum_by, refl, arith, inl, inr, length-append}
+use Rattle.std.proofs.Common.{ℕ, ◌≡◌, ◌<◌, ◌≤◌, ◌+◌, ◌*◌, ◌%◌, ◌==◌, List, [], ◌∷◌, All, length, map, sum_by, refl, arith, inl, inr, length-append}
 use Rattle.std.proofs.lemmas.Bool.{cases_Bool}
 use Rattle.std.proofs.lemmas.List.Elements.{All-head, All-tail, All-weaker}
 use Rattle.std.proofs.lemmas.List.Sums.{sum_by-cons}
@@ -9,6 +9,7 @@ use Rattle.gds_write.specs.Written.{IsWritableLabel, padded, written}
 use Rattle.gds_read.specs.RoundTrip.{IsReadable}
 use Rattle.library_size.specs.Size.{label_size}
 use Rattle.library_size.proofs.Bytes.{written_size}
+use Rattle.cell_draw.specs.declared.cell.TheConstants.{MOST_SHAPES}
 use Rattle.bench_run.specs.Size.{IsShort, IsSmall, labels_size}
 
 pub padded_few : (text : List ℕ) → length text ≤ 64 → length (padded text) ≤ 65
@@ -30,10 +31,10 @@ pub counted_is : (name : List ℕ) (shapes : Shapes) (unit counted : ℕ) → co
 counted_is name shapes unit counted is = omega (arith, is, named shapes.labels, written_size name shapes unit)
 
 -- what can be written, with at most a label for each of 256 nets, is small
-pub small_shapes : (name : List ℕ) (shapes : Shapes) (unit : ℕ) → IsReadable name shapes unit → length shapes.rects ≤ 1999 → length shapes.labels ≤ 256 → IsSmall name shapes
+pub small_shapes : (name : List ℕ) (shapes : Shapes) (unit : ℕ) → IsReadable name shapes unit → length shapes.rects < MOST_SHAPES → length shapes.labels ≤ 256 → IsSmall name shapes
 small_shapes name shapes unit is rects labels = record {
   named = omega (arith, is.named.most);
-  rects = omega (arith, rects);
+  rects = rects;
   labels = labels;
   short = All-weaker (IsWritableLabel unit) IsShort (λ l h. h.most) shapes.labels is.labels;
 }

@@ -1,5 +1,8 @@
-ghost use Rattle.std.specs.Prelude.{◌≡◌};
-ghost use Rattle.call_end.specs.Status.{number_of};
+ghost use Rattle.std.specs.Prelude.{◌≡◌, IfOk};
+ghost use Rattle.call_end.specs.Status.{number_of, text_of, first_line, named_line};
+
+use cell_num::{Bytes, NoMemory, put_text};
+use std::alloc::Global;
 
 /// How a call of the program ended. The program ends with the status's number.
 #[derive(Clone, Copy, Debug, PartialEq, Eq)]
@@ -27,10 +30,14 @@ pub enum Status {
     TooLong,
     /// The technology's height is below the one that the cell needs.
     TooTall,
+    /// Cells that are to stand in one row do not fit beside each other.
+    Row,
+    /// An abstract does not agree with a layout.
+    Disagree,
 }
 
 impl Status {
-    /// 0 to 11, in the order above.
+    /// 0 to 13, in the order above.
     pub fn number(&self) -> u8
         ensures { result ≡ number_of self.now }
     {
@@ -47,6 +54,50 @@ impl Status {
             Status::Layout => 9,
             Status::TooLong => 10,
             Status::TooTall => 11,
+            Status::Row => 12,
+            Status::Disagree => 13,
         }
+    }
+
+    // The number and the word, with which a report begins.
+    fn text(&self) -> &'static [u8]
+        ensures { result.now ≡ text_of self.now }
+    {
+        match self {
+            Status::Done => b"status 0 ok",
+            Status::Usage => b"status 1 usage",
+            Status::ReadFault => b"status 2 read",
+            Status::WriteFault => b"status 3 write",
+            Status::Input => b"status 4 input",
+            Status::Cycle => b"status 5 cycle",
+            Status::Unfinished => b"status 6 unfinished",
+            Status::Rejected => b"status 7 rejected",
+            Status::NoMemory => b"status 8 memory",
+            Status::Layout => b"status 9 layout",
+            Status::TooLong => b"status 10 long",
+            Status::TooTall => b"status 11 tall",
+            Status::Row => b"status 12 row",
+            Status::Disagree => b"status 13 disagree",
+        }
+    }
+
+    /// A report that has its first line.
+    pub fn report(&self, alloc: Global) -> Result<Bytes, NoMemory>
+        ensures { IfOk result (λ report. report ≡ first_line self.now) }
+    {
+        let mut report = Bytes::new(alloc);
+        report.extend(self.text())?;
+        report.extend(b"\n")?;
+        Ok(report)
+    }
+
+    /// The report that tells the status and the name of a file.
+    pub fn report_of(&self, alloc: Global, name: &[u8]) -> Result<Bytes, NoMemory>
+        ensures { IfOk result (λ report. report ≡ named_line self.now name.now) }
+    {
+        let mut report = Bytes::new(alloc);
+        report.extend(self.text())?;
+        put_text(&mut report, b" ", name)?;
+        Ok(report)
     }
 }

@@ -2,7 +2,7 @@
 use Rattle.std.proofs.Common.{ℕ, ◌≡◌, ◌≢◌, ◌≤◌, ◌⊎◌, List, Option, Some, None, Result, Ok, Err, IfOk, IfErr, IsErr, IsErrAnd, inl, inr, refl, sym, ap, ◌∙◌, subst, arith}
 use Rattle.cell_io.specs.Desk.{Files, View, Rose, OnlyReads}
 use Rattle.call_read.specs.declared.refusal.Refusal.{Refusal}
-use Rattle.call_read.specs.declared.refusal.Refusal.TheVariants.{Words, Unread, Long, Tech, Spice, Fold, NoMemory}
+use Rattle.call_read.specs.declared.refusal.Refusal.TheVariants.{Words, Unread, Long, Tech, Spice, Fold, Gds, Lef, NoMemory}
 use Rattle.call_read.specs.Read.{IsRead, KeepsReads, KeepsReadsBut}
 use Rattle.call_read.specs.Reading.{Reading, Ends, ◌>>=◌, bytes_of, Comes, MayCome}
 use Rattle.call_read.specs.Sources.{Source, MayRead}
@@ -64,6 +64,10 @@ refused {A} {B} a b c first next r e ended two (inl came) is told =
     (came_refused (MayRead a.given (Rose a.read_faults c.read_faults)) first next e
     (came_between a a b c first (Err e) refl (omega arith) two.reads (subst (λ (r : Result A Refusal). Comes (MayRead a.given (Rose a.read_faults b.read_faults)) first r) is came))))
 
+-- memory ran out in a step without a desk
+pub short : {A : Type 0} (a b : View) (reading : Reading A) (ended : Result A Refusal) → IsHanded ended NoMemory → MayCome a b reading ended
+short a b reading ended told = inr (handed ended NoMemory told)
+
 pub came_bytes : (a b : View) (source : Source) (read : Result (List ℕ) Refusal) → IsRead a b source read → MayCome a b (bytes_of source) read
 came_bytes a b source (Ok bytes) (inl may) = inl (Ok bytes, may, refl)
 came_bytes a b source (Err e) (inl may) = inl (Err e, may, refl)
@@ -79,6 +83,8 @@ memory_or (Long name) = inr (λ is. cc)
 memory_or (Tech f) = inr (λ is. cc)
 memory_or (Spice f) = inr (λ is. cc)
 memory_or (Fold f) = inr (λ is. cc)
+memory_or (Gds f) = inr (λ is. cc)
+memory_or (Lef f) = inr (λ is. cc)
 
 pub ended_so : {A : Type 0} (a b : View) (answer ended : Result A Refusal) → IfOk ended (λ x. answer ≡ Ok x) → IfErr ended (λ e. e ≢ NoMemory → answer ≡ Err e) → MayCome a b (Ends answer) ended
 ended_so a b answer (Ok x) found bad = inl (sym found)
@@ -97,6 +103,8 @@ reads_told (Long name) a b c one two = two ∙ one
 reads_told (Tech f) a b c one two = two ∙ one
 reads_told (Spice f) a b c one two = two ∙ one
 reads_told (Fold f) a b c one two = two ∙ one
+reads_told (Gds f) a b c one two = two ∙ one
+reads_told (Lef f) a b c one two = two ∙ one
 
 reads_none : (e : Refusal) (a : View) → KeepsReadsBut e a a
 reads_none (Unread name) a = tt
@@ -106,6 +114,8 @@ reads_none (Long name) a = refl
 reads_none (Tech f) a = refl
 reads_none (Spice f) a = refl
 reads_none (Fold f) a = refl
+reads_none (Gds f) a = refl
+reads_none (Lef f) a = refl
 
 -- behind a reading that did not fail
 pub reads_behind : {A : Type 0} (r : Result A Refusal) (a b c : View) → b.read_faults ≡ a.read_faults → KeepsReads r b c → KeepsReads r a c

@@ -1,3 +1,4 @@
+pub mod Asked
 pub mod Desks
 pub mod Reading
 pub mod Results

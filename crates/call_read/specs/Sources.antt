@@ -10,19 +10,22 @@ pub data Source : Type 0 where
   SpiceFile : (name : List ℕ) → Source
   LogFile : (name : List ℕ) → Source
   GdsFile : (name : List ℕ) → Source
+  LefFile : (name : List ℕ) → Source
 
 abbrev pub file_name : Source → List ℕ
 file_name (TechFile name) = name
 file_name (SpiceFile name) = name
 file_name (LogFile name) = name
 file_name (GdsFile name) = name
+file_name (LefFile name) = name
 
--- the most bytes of a file: 4 MiB, 512 MiB for a log, and 64 MiB for a GDSII file
+-- the most bytes of a file: 4 MiB, 512 MiB for a log, and 64 MiB for a GDSII and a LEF file
 abbrev pub most_bytes : Source → ℕ
 most_bytes (TechFile name) = 4194304
 most_bytes (SpiceFile name) = 4194304
 most_bytes (LogFile name) = 536870912
 most_bytes (GdsFile name) = 67108864
+most_bytes (LefFile name) = 67108864
 
 -- the bytes of a file that is there and within its limit
 abbrev pub within : List ℕ → ℕ → Option (List ℕ) → Result (List ℕ) Refusal

@@ -42,13 +42,18 @@ pub enum Source<'a> {
     Spice(&'a str),
     Log(&'a str),
     Gds(&'a str),
+    Lef(&'a str),
 }
 
 fn file_name(source: Source<'_>) -> &str
     ensures { result.now ≡ file_name (named source.entry) }
 {
     match source {
-        Source::Tech(name) | Source::Spice(name) | Source::Log(name) | Source::Gds(name) => name,
+        Source::Tech(name)
+        | Source::Spice(name)
+        | Source::Log(name)
+        | Source::Gds(name)
+        | Source::Lef(name) => name,
     }
 }
 
@@ -59,7 +64,7 @@ fn most_bytes(source: Source<'_>) -> u64
     match source {
         Source::Tech(_) | Source::Spice(_) => 4_194_304,
         Source::Log(_) => 536_870_912,
-        Source::Gds(_) => 67_108_864,
+        Source::Gds(_) | Source::Lef(_) => 67_108_864,
     }
 }
 

@@ -2,6 +2,8 @@ ghost use Rattle.std.specs.Prelude.{◌≡◌};
 
 use cell_num::{Name, NoMemory};
 use finger_fold::FoldFault;
+use gds_read::GdsFault;
+use lef_read::LefFault;
 use spice_net::SpiceFault;
 use tech_file::TechFault;
 
@@ -17,6 +19,8 @@ pub enum Refusal {
     Tech(TechFault),
     Spice(SpiceFault),
     Fold(FoldFault),
+    Gds(GdsFault),
+    Lef(LefFault),
     NoMemory,
 }
 
@@ -65,6 +69,32 @@ impl From<FoldFault> for Refusal {
         match fault {
             FoldFault::NoMemory => Refusal::NoMemory,
             fault => Refusal::Fold(fault),
+        }
+    }
+}
+
+impl From<GdsFault> for Refusal {
+    ghost use Rattle.call_read.specs.Refusals.{gds_refusal};
+
+    ghost from_gives = { λ fault e. e ≡ gds_refusal fault };
+
+    fn from(fault: GdsFault) -> Refusal {
+        match fault {
+            GdsFault::NoMemory => Refusal::NoMemory,
+            fault => Refusal::Gds(fault),
+        }
+    }
+}
+
+impl From<LefFault> for Refusal {
+    ghost use Rattle.call_read.specs.Refusals.{lef_refusal};
+
+    ghost from_gives = { λ fault e. e ≡ lef_refusal fault };
+
+    fn from(fault: LefFault) -> Refusal {
+        match fault {
+            LefFault::NoMemory => Refusal::NoMemory,
+            fault => Refusal::Lef(fault),
         }
     }
 }

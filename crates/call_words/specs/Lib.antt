@@ -1,3 +1,3 @@
 -- What contracts of public calls cite, and what these definitions stand on.
-pub mod Shown
+pub mod Asked
 pub mod Words

@@ -1,29 +1,56 @@
 -- The words of a call of the program.
-use Rattle.std.specs.Prelude.{ℕ, ◌&&◌, nat_le, Bool, List, [], ◌∷◌, Option, Some, None, length, map, find, option_map, codes, bytes_eq, decimal, String, string_bytes, if◌then◌else◌}
+use Rattle.std.specs.Prelude.{ℕ, ◌&&◌, nat_le, Bool, List, [], ◌∷◌, ◌++◌, Option, Some, None, length, map, find, option_map, option_and_then, codes, bytes_eq, decimal, String, string_bytes, if◌then◌else◌}
 use Rattle.std.specs.List.{range_with_len}
 use Rattle.std.specs.declared.alloc.Global.{Global}
 use Rattle.cell_num.specs.Names.{is_cell}
+use Rattle.call_words.specs.declared.form.Form.{Form as Read}
+use Rattle.call_words.specs.declared.form.Form.TheVariants as read
+use Rattle.call_words.specs.Asked.{CellAsked}
 use Rattle.cell_inputs.specs.declared.style.Style.{Style}
-use Rattle.cell_inputs.specs.Style.{dogleg_style, plain_style}
+use Rattle.cell_inputs.specs.declared.style.Taps.{Taps}
+use Rattle.cell_inputs.specs.declared.style.Taps.TheVariants.{Without, With}
+use Rattle.cell_inputs.specs.declared.style.Wiring.{Wiring}
+use Rattle.cell_inputs.specs.declared.style.Wiring.TheVariants.{Straight, Doglegs}
+use Rattle.scmos_rules.specs.declared.rules.Deck.{Deck}
+use Rattle.scmos_rules.specs.declared.rules.Deck.TheVariants as deck
 
 -- the words as bytes
 abbrev pub texts : List (String Global) → List (List ℕ)
 texts words = map string_bytes words
 
--- a cell that is asked for: the technology's file, none for the plain one, the SPICE file, and the cell's name
-pub record CellAsked : Type 0 where
-  pub tech : Option (List ℕ)
-  pub spice : List ℕ
-  pub cell : List ℕ
-
--- what a call asks for: `plan TECH SPICE CELL`, `make TECH SPICE CELL OUT`, which may end with `--dogleg`,
--- `check TECH SPICE CELL LOG`, `extract TECH GDS CELL`, whose technology is none for the plain one, or `bench NUMBER`
+-- what a call asks for: `plan TECH SPICE CELL`, `make TECH SPICE CELL OUT`, which may end with `--dogleg` and `--taps`,
+-- `check TECH SPICE CELL LOG`, `extract TECH GDS CELL`, whose technology is none for the plain one and which may end with `--taps`
+-- for the deck of cells with taps, `bench NUMBER`, or `agree TECH GDS LEF CELL`
 pub data Form : Type 0 where
   Plan : (cell : CellAsked) → Form
   Make : (cell : CellAsked) (out : List ℕ) (style : Style) → Form
   Check : (cell : CellAsked) (log : List ℕ) → Form
-  Extract : (tech : Option (List ℕ)) (gds cell : List ℕ) → Form
+  Extract : (tech : Option (List ℕ)) (gds cell : List ℕ) (rules : Deck) → Form
   Bench : (number : ℕ) → Form
+  Agree : (tech : Option (List ℕ)) (gds lef cell : List ℕ) → Form
+
+-- the program's form of a call, by its texts
+abbrev pub shown : Read → Form
+shown (read.Plan cell) = Plan cell
+shown (read.Make cell out style) = Make cell out.now style
+shown (read.Check cell log) = Check cell log.now
+shown (read.Extract tech gds cell rules) = Extract (option_map (λ name. name.now) tech) gds.now cell.now rules
+shown (read.Bench number) = Bench number
+shown (read.Agree tech gds lef cell) = Agree (option_map (λ name. name.now) tech) gds.now lef.now cell.now
+
+-- a line for each form, as they are told to who gave other words
+abbrev pub usage_text : List ℕ
+usage_text =
+    codes "plan TECH SPICE CELL\n"
+    ++ codes "make TECH SPICE CELL OUT\n"
+    ++ codes "check TECH SPICE CELL LOG\n"
+    ++ codes "extract TECH GDS CELL\n"
+    ++ codes "bench NUMBER\n"
+    ++ codes "make TECH SPICE CELL OUT --dogleg\n"
+    ++ codes "make TECH SPICE CELL OUT --taps\n"
+    ++ codes "make TECH SPICE CELL OUT --dogleg --taps\n"
+    ++ codes "extract TECH GDS CELL --taps\n"
+    ++ codes "agree TECH GDS LEF CELL\n"
 
 -- the name of a file: not empty
 abbrev pub is_file : List ℕ → Bool
@@ -50,10 +77,24 @@ abbrev pub making_of : Style → List ℕ → List ℕ → List ℕ → List ℕ
 making_of style tech spice cell out =
     if is_file out then option_map (λ asked. Make asked out style) (cell_of tech spice cell) else None
 
+-- the taps of the last words, none or `--taps`
+abbrev pub taps_of : List (List ℕ) → Option Taps
+taps_of [] = Some Without
+taps_of (word ∷ []) = if bytes_eq word (codes "--taps") then Some With else None
+taps_of _ = None
+
+abbrev pub styled : Wiring → Option Taps → Option Style
+styled wiring taps = option_map (λ asked. record { wiring = wiring; taps = asked }) taps
+
+-- the style of the words behind OUT: `--dogleg`, `--taps`, both in this order, or none
+abbrev pub style_of : List (List ℕ) → Option Style
+style_of [] = styled Straight (taps_of [])
+style_of (word ∷ more) =
+    if bytes_eq word (codes "--dogleg") then styled Doglegs (taps_of more) else styled Straight (taps_of (word ∷ more))
+
 abbrev pub make_of : List (List ℕ) → Option Form
-make_of (tech ∷ spice ∷ cell ∷ out ∷ []) = making_of plain_style tech spice cell out
-make_of (tech ∷ spice ∷ cell ∷ out ∷ word ∷ []) =
-    if bytes_eq word (codes "--dogleg") then making_of dogleg_style tech spice cell out else None
+make_of (tech ∷ spice ∷ cell ∷ out ∷ more) =
+    option_and_then (λ style. making_of style tech spice cell out) (style_of more)
 make_of _ = None
 
 abbrev pub check_of : List (List ℕ) → Option Form
@@ -61,9 +102,15 @@ check_of (tech ∷ spice ∷ cell ∷ log ∷ []) =
     if is_file log then option_map (λ asked. Check asked log) (cell_of tech spice cell) else None
 check_of _ = None
 
+-- a layout that is checked by these rules
+abbrev pub extracting_of : Deck → List ℕ → List ℕ → List ℕ → Option Form
+extracting_of rules tech gds cell =
+    if is_file tech && is_file gds && is_cell cell then Some (Extract (tech_of tech) gds cell rules) else None
+
 abbrev pub extract_of : List (List ℕ) → Option Form
-extract_of (tech ∷ gds ∷ cell ∷ []) =
-    if is_file tech && is_file gds && is_cell cell then Some (Extract (tech_of tech) gds cell) else None
+extract_of (tech ∷ gds ∷ cell ∷ []) = extracting_of deck.Plain tech gds cell
+extract_of (tech ∷ gds ∷ cell ∷ word ∷ []) =
+    if bytes_eq word (codes "--taps") then extracting_of deck.Taps tech gds cell else None
 extract_of _ = None
 
 -- a number of generated cells, 1 to 200, in decimal digits
@@ -74,6 +121,11 @@ abbrev pub bench_of : List (List ℕ) → Option Form
 bench_of (word ∷ []) = option_map (λ number. Bench number) (bench_number word)
 bench_of _ = None
 
+abbrev pub agree_of : List (List ℕ) → Option Form
+agree_of (tech ∷ gds ∷ lef ∷ cell ∷ []) =
+    if is_file tech && is_file gds && is_file lef && is_cell cell then Some (Agree (tech_of tech) gds lef cell) else None
+agree_of _ = None
+
 -- the form of some words, told by the command first; None where they have none
 abbrev pub form_of : List (List ℕ) → Option Form
 form_of [] = None
@@ -83,6 +135,7 @@ form_of (command ∷ rest) =
     else if bytes_eq command (codes "check") then check_of rest
     else if bytes_eq command (codes "extract") then extract_of rest
     else if bytes_eq command (codes "bench") then bench_of rest
+    else if bytes_eq command (codes "agree") then agree_of rest
     else None
 
 abbrev pub asked : List (String Global) → Option Form

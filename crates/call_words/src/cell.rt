@@ -18,7 +18,7 @@ pub struct CellAsked<'a> {
 impl<'a> Model for CellAsked<'a> {
     ghost use Rattle.std.specs.Prelude.{option_map, IsTrue};
     ghost use Rattle.cell_num.specs.Names.{is_cell};
-    ghost use Rattle.call_words.specs.Words.{CellAsked as Asked};
+    ghost use Rattle.call_words.specs.Asked.{CellAsked as Asked};
 
     ghost Value = { Asked };
 

@@ -1,11 +1,11 @@
-ghost use Rattle.std.specs.Prelude.{◌≡◌, option_map};
-ghost use Rattle.call_words.specs.Shown.{shown};
-ghost use Rattle.call_words.specs.Words.{texts, plan_of, making_of, make_of, check_of, extract_of, bench_of, asked};
+ghost use Rattle.std.specs.Prelude.{◌≡◌, ◌++◌, OnOk, option_map};
+ghost use Rattle.call_words.specs.Words.{shown, texts, usage_text, plan_of, making_of, taps_of, style_of, make_of, check_of, extracting_of, extract_of, bench_of, agree_of, asked};
 
 use crate::cell::{CellAsked, cell_of, tech_of};
 use crate::count::CellCount;
-use cell_inputs::Style;
-use cell_num::is_cell;
+use cell_inputs::{Style, Taps, Wiring};
+use cell_num::{Bytes, NoMemory, is_cell};
+use scmos_rules::Deck;
 
 /// What a call of the program asks for.
 #[derive(Drop)]
@@ -25,15 +25,23 @@ pub enum Form<'a> {
         cell: CellAsked<'a>,
         log: &'a str,
     },
-    /// The netlist of a cell of a GDSII file; no technology's file is the plain technology.
+    /// The netlist of a cell of a GDSII file, checked by a deck of rules; no technology's file is the plain technology.
     Extract {
         tech: Option<&'a str>,
         gds: &'a str,
         cell: &'a str,
+        rules: Deck,
     },
     /// What making so many generated cells comes to.
     Bench {
         number: CellCount,
+    },
+    /// Whether the macro of an abstract agrees with a cell of a GDSII file.
+    Agree {
+        tech: Option<&'a str>,
+        gds: &'a str,
+        lef: &'a str,
+        cell: &'a str,
     },
 }
 
@@ -69,27 +77,46 @@ fn making_of<'a>(
     }
 }
 
+// The taps of the last words, none or `--taps`.
+fn taps_of(words: &[String]) -> Option<Taps>
+    ensures { result ≡ taps_of (texts words.now) }
+{
+    match words {
+        [] => Some(Taps::Without),
+        [word] if word.as_str() == "--taps" => Some(Taps::With),
+        _ => None,
+    }
+}
+
+// The style of the words behind OUT.
+fn style_of(words: &[String]) -> Option<Style>
+    ensures { result ≡ style_of (texts words.now) }
+{
+    let (wiring, last) = match words {
+        [word, more @ ..] if word.as_str() == "--dogleg" => (Wiring::Doglegs, more),
+        _ => (Wiring::Straight, words),
+    };
+    match taps_of(last) {
+        Some(taps) => Some(Style { wiring, taps }),
+        None => None,
+    }
+}
+
 // The form of the words behind `make`.
 fn make_of(words: &[String]) -> Option<Form<'_>>
     ensures { option_map shown result ≡ make_of (texts words.now) }
 {
-    match words {
-        [tech, spice, cell, out] => making_of(
-            Style::plain(),
-            tech.as_str(),
-            spice.as_str(),
-            cell.as_str(),
-            out.as_str(),
-        ),
-        [tech, spice, cell, out, word] if word.as_str() == "--dogleg" => making_of(
-            Style::dogleg(),
-            tech.as_str(),
-            spice.as_str(),
-            cell.as_str(),
-            out.as_str(),
-        ),
-        _ => None,
-    }
+    let [tech, spice, cell, out, more @ ..] = words else {
+        return None;
+    };
+    let style = style_of(more)?;
+    making_of(
+        style,
+        tech.as_str(),
+        spice.as_str(),
+        cell.as_str(),
+        out.as_str(),
+    )
 }
 
 // The form of the words behind `check`.
@@ -111,21 +138,32 @@ fn check_of(words: &[String]) -> Option<Form<'_>>
     }
 }
 
+// A layout that is checked by these rules.
+fn extracting_of<'a>(rules: Deck, tech: &'a str, gds: &'a str, cell: &'a str) -> Option<Form<'a>>
+    ensures { option_map shown result ≡ extracting_of rules tech.now gds.now cell.now }
+{
+    if !tech.is_empty() && !gds.is_empty() && is_cell(cell.as_bytes()) {
+        Some(Form::Extract {
+            tech: tech_of(tech),
+            gds,
+            cell,
+            rules,
+        })
+    } else {
+        None
+    }
+}
+
 // The form of the words behind `extract`.
 fn extract_of(words: &[String]) -> Option<Form<'_>>
     ensures { option_map shown result ≡ extract_of (texts words.now) }
 {
-    let [tech, gds, cell] = words else {
-        return None;
-    };
-    if !tech.is_empty() && !gds.is_empty() && is_cell(cell.as_bytes()) {
-        Some(Form::Extract {
-            tech: tech_of(tech.as_str()),
-            gds: gds.as_str(),
-            cell: cell.as_str(),
-        })
-    } else {
-        None
+    match words {
+        [tech, gds, cell] => extracting_of(Deck::Plain, tech.as_str(), gds.as_str(), cell.as_str()),
+        [tech, gds, cell, word] if word.as_str() == "--taps" => {
+            extracting_of(Deck::Taps, tech.as_str(), gds.as_str(), cell.as_str())
+        }
+        _ => None,
     }
 }
 
@@ -142,6 +180,25 @@ fn bench_of(words: &[String]) -> Option<Form<'_>>
     }
 }
 
+// The form of the words behind `agree`.
+fn agree_of(words: &[String]) -> Option<Form<'_>>
+    ensures { option_map shown result ≡ agree_of (texts words.now) }
+{
+    let [tech, gds, lef, cell] = words else {
+        return None;
+    };
+    if !tech.is_empty() && !gds.is_empty() && !lef.is_empty() && is_cell(cell.as_bytes()) {
+        Some(Form::Agree {
+            tech: tech_of(tech.as_str()),
+            gds: gds.as_str(),
+            lef: lef.as_str(),
+            cell: cell.as_str(),
+        })
+    } else {
+        None
+    }
+}
+
 /// The form of the words, told by the command first, or None where they have none of the listed forms.
 pub fn form_of(words: &[String]) -> Option<Form<'_>>
     ensures { option_map shown result ≡ asked words.now }
@@ -153,6 +210,26 @@ pub fn form_of(words: &[String]) -> Option<Form<'_>>
         "check" => check_of(rest),
         "extract" => extract_of(rest),
         "bench" => bench_of(rest),
+        "agree" => agree_of(rest),
         _ => None,
     }
+}
+
+/// Adds a line for each form.
+pub fn put_usage(out: &mut Bytes) -> Result<(), NoMemory>
+    ensures { OnOk result (out.new ≡ out.old ++ usage_text) }
+{
+    out.extend(
+        b"plan TECH SPICE CELL
+make TECH SPICE CELL OUT
+check TECH SPICE CELL LOG
+extract TECH GDS CELL
+bench NUMBER
+make TECH SPICE CELL OUT --dogleg
+make TECH SPICE CELL OUT --taps
+make TECH SPICE CELL OUT --dogleg --taps
+extract TECH GDS CELL --taps
+agree TECH GDS LEF CELL
+",
+    )
 }

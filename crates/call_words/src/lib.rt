@@ -7,4 +7,4 @@ mod form;
 
 pub use cell::CellAsked;
 pub use count::CellCount;
-pub use form::{Form, form_of};
+pub use form::{Form, form_of, put_usage};

@@ -1,6 +1,6 @@
--- Which files the forms read, and what they end with by themselves.
-use Rattle.std.proofs.Common.{ℕ, ◌≡◌, ◌++◌, true, List, [], ◌∷◌, Option, Some, None, Result, Ok, Err, IfErr, Contains, refl, arith}
-use Rattle.std.proofs.lemmas.List.Elements.{Contains-append_left}
+-- What is read for inputs, for a drawing and for its macro, and what these readings end with by themselves.
+use Rattle.std.proofs.Common.{ℕ, ◌≡◌, true, List, Option, Some, None, Result, Ok, Err, IfErr, Contains, refl, arith}
+use Rattle.box_geom.specs.declared.shape.Shapes.{Shapes}
 use Rattle.cell_num.specs.Names.{lowered}
 use Rattle.cell_num.specs.declared.finger.Fingers.{Fingers}
 use Rattle.tech_file.specs.Technology.{Technology}
@@ -8,28 +8,36 @@ use Rattle.tech_file.specs.Reading.{technology}
 use Rattle.spice_net.specs.declared.subckt.Subckt.{Subckt}
 use Rattle.spice_net.specs.Subcircuit.{subcircuit}
 use Rattle.finger_fold.specs.Folding.{folded}
-use Rattle.call_gather.specs.Kinds.{kind_of}
-use Rattle.call_gather.specs.Material.{Material}
-use Rattle.call_read.specs.declared.refusal.Refusal.{Refusal}
-use Rattle.call_read.specs.declared.refusal.Refusal.TheVariants.{Words, Tech, Spice, Fold}
+use Rattle.gds_read.specs.Decoding.{decoded}
+use Rattle.gds_read.specs.declared.fault.GdsFault.{GdsFault}
+use Rattle.lef_read.specs.Macros.{macro_in}
+use Rattle.lef_read.specs.declared.cell.Macro.{Macro}
+use Rattle.lef_read.specs.declared.fault.LefFault.{LefFault}
+use Rattle.agree_run.specs.Agree.{compared, comparing, comparing_over, comparing_with}
+use Rattle.cell_inputs.specs.Inputs.{inputs_of, unit_nm}
 use Rattle.call_end.specs.declared.status.Status.TheVariants as status
-use Rattle.call_work.specs.Ends.{is_among, refusal_status, settled_by}
-use Rattle.call_gather.specs.Gather.{extracting_over, gathered, read_by}
-use Rattle.call_read.specs.InputFiles.{input_files, inputs_from, tech_files, technology_from}
-use Rattle.cell_inputs.specs.Inputs.{inputs_of}
-use Rattle.call_read.specs.Inputs.{inputs_in}
-use Rattle.call_read.specs.Refusals.{as_refusal}
-use Rattle.call_read.specs.Sources.{Source, TechFile, SpiceFile, LogFile, GdsFile}
-use Rattle.call_words.specs.Words.{CellAsked, Form, Plan, Make, Check, Extract, Bench}
+use Rattle.call_words.specs.Asked.{CellAsked}
+use Rattle.call_words.specs.Words.{Form}
 use Rattle.call_read.proofs.Reading.{Keeps, keeps_on}
 use Rattle.call_read.proofs.Results.{err_behind}
+use Rattle.call_read.specs.InputFiles.{input_files, inputs_from, technology_from}
+use Rattle.call_read.specs.Inputs.{inputs_in}
+use Rattle.call_read.specs.Reading.{Ends}
+use Rattle.call_read.specs.Refusals.{as_refusal}
+use Rattle.call_read.specs.Sources.{Source, TechFile, SpiceFile, GdsFile, LefFile}
+use Rattle.call_read.specs.declared.refusal.Refusal.{Refusal}
+use Rattle.call_read.specs.declared.refusal.Refusal.TheVariants.{Words, Tech, Spice, Fold, Gds, Lef}
+use Rattle.call_work.specs.Commands.{Agreeing, Extracting, Material, kind_of, settled_by}
+use Rattle.call_work.specs.Ends.{is_among, refusal_status}
+use Rattle.scmos_rules.specs.declared.rules.Deck.{Deck}
+use Rattle.layout_run.specs.Extract.{extracting, extracting_over, gds_cell}
 
 -- ---- the inputs
 
-abbrev IsInputFault : Refusal → Type 0
+abbrev pub IsInputFault : Refusal → Type 0
 IsInputFault e = refusal_status e ≡ status.Input
 
-abbrev IsInputs : {A : Type 0} → Result A Refusal → Type 0
+abbrev pub IsInputs : {A : Type 0} → Result A Refusal → Type 0
 IsInputs ended = IfErr ended IsInputFault
 
 fault_is : {A F : Type 0} (refusal : F → Refusal) → ((f : F) → IsInputFault (refusal f)) → (r : Result A F) → IsInputs (as_refusal refusal r)
@@ -41,7 +49,7 @@ inputs_in_are bytes name tech =
     err_behind IsInputFault (as_refusal Spice (subcircuit bytes name tech)) _ (fault_is Spice (λ f. refl) (subcircuit bytes name tech))
     (λ (cell : Subckt). err_behind IsInputFault (as_refusal Fold (folded tech cell)) (λ (fingers : Fingers). Ok (inputs_of tech cell fingers)) (fault_is Fold (λ f. refl) (folded tech cell)) (λ fingers. tt))
 
-tech_keeps : (May : Source → Type 0) (file : Option (List ℕ)) → ((name : List ℕ) → file ≡ Some name → May (TechFile name)) → Keeps May IsInputs (technology_from file)
+pub tech_keeps : (May : Source → Type 0) (file : Option (List ℕ)) → ((name : List ℕ) → file ≡ Some name → May (TechFile name)) → Keeps May IsInputs (technology_from file)
 tech_keeps May None there = tt
 tech_keeps May (Some name) there = (there name refl, λ bytes. fault_is Tech (λ f. refl) (technology bytes))
 
@@ -58,6 +66,59 @@ inputs_keep May asked there =
     (λ tech is. (there (SpiceFile asked.spice) (spice_there asked.tech asked.spice), λ bytes. inputs_in_are bytes (lowered asked.cell) tech))
     (λ e is. is)
 
+-- ---- a cell of a GDSII file
+
+abbrev IsLayoutFault : Refusal → Type 0
+IsLayoutFault e = is_among (settled_by Extracting) (refusal_status e) ≡ true
+
+abbrev pub IsDrawn : {A : Type 0} → Result A Refusal → Type 0
+IsDrawn ended = IfErr ended IsLayoutFault
+
+decoded_is : (bytes name : List ℕ) (lambda : ℕ) → IsDrawn (as_refusal Gds (decoded bytes name lambda))
+decoded_is bytes name lambda = by (decoded bytes name lambda)
+  where
+    by : (r : Result Shapes GdsFault) → IsDrawn (as_refusal Gds r)
+    by (Ok shapes) = tt
+    by (Err f) = refl
+
+pub drawn_keeps : (May : Source → Type 0) (tech : Option (List ℕ)) (gds name : List ℕ) (rules : Deck) → ((file : List ℕ) → tech ≡ Some file → May (TechFile file)) → May (GdsFile gds) → Keeps May IsDrawn (extracting tech gds name rules)
+drawn_keeps May tech gds name rules there file =
+    keeps_on May IsInputs IsDrawn (technology_from tech) (extracting_over gds name rules) (tech_keeps May tech there)
+    (λ read is. (file, λ bytes. keeps_on May IsDrawn IsDrawn (Ends (as_refusal Gds (decoded bytes name read.lambda_nm))) (λ (shapes : Shapes). Ends (Ok (gds_cell name rules shapes))) (decoded_is bytes name read.lambda_nm) (λ shapes is. tt) (λ e is. is)))
+    (λ e is. rw is refl)
+
+-- ---- a cell of a GDSII file and its macro
+
+abbrev IsCompareFault : Refusal → Type 0
+IsCompareFault e = is_among (settled_by Agreeing) (refusal_status e) ≡ true
+
+abbrev pub IsCompared : {A : Type 0} → Result A Refusal → Type 0
+IsCompared ended = IfErr ended IsCompareFault
+
+drawing_is : (bytes name : List ℕ) (lambda : ℕ) → IsCompared (as_refusal Gds (decoded bytes name lambda))
+drawing_is bytes name lambda = by (decoded bytes name lambda)
+  where
+    by : (r : Result Shapes GdsFault) → IsCompared (as_refusal Gds r)
+    by (Ok shapes) = tt
+    by (Err f) = refl
+
+macro_is : (bytes name : List ℕ) (unit : ℕ) → IsCompared (as_refusal Lef (macro_in bytes name unit))
+macro_is bytes name unit = by (macro_in bytes name unit)
+  where
+    by : (r : Result Macro LefFault) → IsCompared (as_refusal Lef r)
+    by (Ok cell) = tt
+    by (Err f) = refl
+
+macro_keeps : (May : Source → Type 0) (lef name : List ℕ) (tech : Technology) (shapes : Shapes) → May (LefFile lef) → Keeps May IsCompared (comparing_with lef name tech shapes)
+macro_keeps May lef name tech shapes file =
+    (file, λ bytes. keeps_on May IsCompared IsCompared (Ends (as_refusal Lef (macro_in bytes name (unit_nm tech)))) (λ (cell : Macro). Ends (Ok (compared shapes cell))) (macro_is bytes name (unit_nm tech)) (λ cell is. tt) (λ e is. is))
+
+pub compared_keeps : (May : Source → Type 0) (tech : Option (List ℕ)) (gds lef name : List ℕ) → ((file : List ℕ) → tech ≡ Some file → May (TechFile file)) → May (GdsFile gds) → May (LefFile lef) → Keeps May IsCompared (comparing tech gds lef name)
+compared_keeps May tech gds lef name there drawing abstracts =
+    keeps_on May IsInputs IsCompared (technology_from tech) (comparing_over gds lef name) (tech_keeps May tech there)
+    (λ read is. (drawing, λ bytes. keeps_on May IsCompared IsCompared (Ends (as_refusal Gds (decoded bytes name read.lambda_nm))) (comparing_with lef name read) (drawing_is bytes name read.lambda_nm) (λ shapes is. macro_keeps May lef name read shapes abstracts) (λ e is. is)))
+    (λ e is. rw is refl)
+
 -- ---- the forms
 
 -- a material of the form's kind, or a refusal that the kind settles for
@@ -66,38 +127,3 @@ IsGathered None (Ok m) = ⊥
 IsGathered None (Err e) = e ≡ Words
 IsGathered (Some form) (Ok m) = m.0 ≡ kind_of form
 IsGathered (Some form) (Err e) = is_among (settled_by (kind_of form)) (refusal_status e) ≡ true
-
-log_there : (file : Option (List ℕ)) (spice log : List ℕ) → Contains (input_files file spice ++ LogFile log ∷ []) (LogFile log)
-log_there None spice log = (1, omega arith, refl)
-log_there (Some name) spice log = (2, omega arith, refl)
-
-gds_tech_there : (file : Option (List ℕ)) (gds name : List ℕ) → file ≡ Some name → Contains (tech_files file ++ GdsFile gds ∷ []) (TechFile name)
-gds_tech_there file gds name is = rw is (0, omega arith, refl)
-
-gds_there : (file : Option (List ℕ)) (gds : List ℕ) → Contains (tech_files file ++ GdsFile gds ∷ []) (GdsFile gds)
-gds_there None gds = (0, omega arith, refl)
-gds_there (Some name) gds = (1, omega arith, refl)
-
-pub gathered_keeps : (form : Option Form) → Keeps (λ source. Contains (read_by form) source) (IsGathered form) (gathered form)
-gathered_keeps None = refl
-gathered_keeps (Some (Plan asked)) =
-    keeps_on (λ source. Contains (read_by (Some (Plan asked))) source) IsInputs (IsGathered (Some (Plan asked))) (inputs_from asked) _
-    (inputs_keep (λ source. Contains (read_by (Some (Plan asked))) source) asked (λ source there. there))
-    (λ inputs is. refl)
-    (λ e is. rw is refl)
-gathered_keeps (Some (Make asked out style)) =
-    keeps_on (λ source. Contains (read_by (Some (Make asked out style))) source) IsInputs (IsGathered (Some (Make asked out style))) (inputs_from asked) _
-    (inputs_keep (λ source. Contains (read_by (Some (Make asked out style))) source) asked (λ source there. there))
-    (λ inputs is. refl)
-    (λ e is. rw is refl)
-gathered_keeps (Some (Check asked log)) =
-    keeps_on (λ source. Contains (read_by (Some (Check asked log))) source) IsInputs (IsGathered (Some (Check asked log))) (inputs_from asked) _
-    (inputs_keep (λ source. Contains (read_by (Some (Check asked log))) source) asked (λ source there. Contains-append_left (input_files asked.tech asked.spice) (LogFile log ∷ []) source there))
-    (λ inputs is. (log_there asked.tech asked.spice log, λ bytes. refl))
-    (λ e is. rw is refl)
-gathered_keeps (Some (Extract tech gds name)) =
-    keeps_on (λ source. Contains (read_by (Some (Extract tech gds name))) source) IsInputs (IsGathered (Some (Extract tech gds name))) (technology_from tech) (extracting_over gds name)
-    (tech_keeps (λ source. Contains (read_by (Some (Extract tech gds name))) source) tech (gds_tech_there tech gds))
-    (λ read is. (gds_there tech gds, λ bytes. refl))
-    (λ e is. rw is refl)
-gathered_keeps (Some (Bench number)) = refl

@@ -1,4 +1,6 @@
+pub mod EachCommand
 pub mod Gathered
+pub mod Keeping
 pub mod Settled
 pub mod Statuses
 pub mod Works

@@ -7,7 +7,7 @@ use Rattle.call_end.specs.declared.status.Status.{Status}
 use Rattle.call_end.specs.declared.status.Status.TheVariants as status
 use Rattle.call_end.specs.Status.{number_of}
 use Rattle.call_read.specs.declared.refusal.Refusal.{Refusal}
-use Rattle.call_read.specs.declared.refusal.Refusal.TheVariants.{Words, Unread, Long, Tech, Spice, Fold, NoMemory}
+use Rattle.call_read.specs.declared.refusal.Refusal.TheVariants.{Words, Unread, Long, Tech, Spice, Fold, Gds, Lef, NoMemory}
 use Rattle.call_work.specs.Ends.{is_among, refusal_status}
 
 pub differ : (a b : Status) → (number_of a == number_of b) ≡ false → a ≡ b → ⊥
@@ -44,7 +44,7 @@ among_one xs ys answer apart among also =
 -- ---- refusals
 
 abbrev pub refusal_statuses : List Status
-refusal_statuses = status.Usage ∷ status.ReadFault ∷ status.TooLong ∷ status.Input ∷ status.NoMemory ∷ []
+refusal_statuses = status.Usage ∷ status.ReadFault ∷ status.TooLong ∷ status.Input ∷ status.Layout ∷ status.Disagree ∷ status.NoMemory ∷ []
 
 pub is_refusal : (e : Refusal) → is_among refusal_statuses (refusal_status e) ≡ true
 is_refusal Words = refl
@@ -53,4 +53,6 @@ is_refusal (Long name) = refl
 is_refusal (Tech f) = refl
 is_refusal (Spice f) = refl
 is_refusal (Fold f) = refl
+is_refusal (Gds f) = refl
+is_refusal (Lef f) = refl
 is_refusal NoMemory = refl

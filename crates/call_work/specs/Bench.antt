@@ -5,7 +5,7 @@ use Rattle.bench_run.specs.Bench.{IsBenched}
 use Rattle.bench_run.specs.declared.tally.Tally.{Tally}
 use Rattle.call_end.specs.declared.end.End.{End}
 use Rattle.call_end.specs.declared.status.Status.TheVariants as status
-use Rattle.call_end.specs.End.{says}
+use Rattle.call_end.specs.End.{reports}
 
 -- the number of cells; how many of them were made, how many have a cycle and how many searches were unfinished
 abbrev pub cells_text : ℕ → Tally → List ℕ
@@ -33,7 +33,7 @@ pub record IsCounted (number : ℕ) (tally : Tally) : Type 0 where
   pub finished : tally.unfinished ≡ 0
 
 abbrev pub bench_end : ℕ → Tally → End
-bench_end number tally = says status.Done (codes "status 0 ok\n" ++ bench_text number tally)
+bench_end number tally = reports status.Done (bench_text number tally)
 
 abbrev pub BenchesTo : ℕ → End → Type 0
 BenchesTo number end = (tally : Tally) × IsCounted number tally × (end ≡ bench_end number tally)

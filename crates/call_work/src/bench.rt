@@ -30,8 +30,7 @@ pub fn bench(alloc: Global, number: &CellCount) -> Result<End, NoMemory>
     ensures { IfOk result (BenchesTo number.now) }
 {
     let tally = bench_run::bench(alloc, number.number())?;
-    let mut report = Bytes::new(alloc);
-    report.extend(b"status 0 ok\n")?;
+    let mut report = Status::Done.report(alloc)?;
     put_cells(&mut report, number.number(), &tally)?;
     put_sums(&mut report, &tally)?;
     Ok(End::says(alloc, Status::Done, report))

@@ -1,9 +1,9 @@
-// The work of a call on what was gathered.
+// What a call reads, and the work on it.
 #![tactic(auto)]
 
 mod bench;
+mod commands;
 mod refusal;
-mod working;
 
+pub use commands::{Material, gather, work};
 pub use refusal::refused;
-pub use working::work;

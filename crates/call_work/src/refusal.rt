@@ -3,8 +3,9 @@ ghost use Rattle.call_work.specs.Ends.{refused, refusal_status, refusal_text};
 
 use call_end::{End, Status};
 use call_read::Refusal;
-use cell_num::{Bytes, NoMemory, put_text};
-use fault_text::{put_fold, put_spice, put_tech};
+use call_words::put_usage;
+use cell_num::{Bytes, NoMemory};
+use fault_text::{put_fold, put_gds, put_lef, put_spice, put_tech};
 use std::alloc::Global;
 
 fn status_of(refusal: &Refusal) -> Status
@@ -15,6 +16,8 @@ fn status_of(refusal: &Refusal) -> Status
         Refusal::Unread { .. } => Status::ReadFault,
         Refusal::Long { .. } => Status::TooLong,
         Refusal::Tech(_) | Refusal::Spice(_) | Refusal::Fold(_) => Status::Input,
+        Refusal::Gds(_) => Status::Layout,
+        Refusal::Lef(_) => Status::Disagree,
         Refusal::NoMemory => Status::NoMemory,
     }
 }
@@ -22,30 +25,21 @@ fn status_of(refusal: &Refusal) -> Status
 fn report_of(alloc: Global, refusal: &Refusal) -> Result<Bytes, NoMemory>
     ensures { IfOk result (λ text. text ≡ refusal_text refusal.now) }
 {
-    let mut out = Bytes::new(alloc);
+    let status = status_of(refusal);
+    let mut report = status.report(alloc)?;
     match refusal {
-        Refusal::Words => {
-            out.extend(b"status 1 usage\nplan TECH SPICE CELL\nmake TECH SPICE CELL OUT\n")?;
-            out.extend(b"check TECH SPICE CELL LOG\nextract TECH GDS CELL\nbench NUMBER\n")?;
-            out.extend(b"make TECH SPICE CELL OUT --dogleg\n")?;
+        Refusal::Words => put_usage(&mut report)?,
+        Refusal::Unread { name } | Refusal::Long { name } => {
+            return status.report_of(alloc, name.as_slice());
         }
-        Refusal::Unread { name } => put_text(&mut out, b"status 2 read ", name.as_slice())?,
-        Refusal::Long { name } => put_text(&mut out, b"status 10 long ", name.as_slice())?,
-        Refusal::Tech(fault) => {
-            out.extend(b"status 4 input\n")?;
-            put_tech(&mut out, fault)?;
-        }
-        Refusal::Spice(fault) => {
-            out.extend(b"status 4 input\n")?;
-            put_spice(&mut out, fault)?;
-        }
-        Refusal::Fold(fault) => {
-            out.extend(b"status 4 input\n")?;
-            put_fold(&mut out, fault)?;
-        }
-        Refusal::NoMemory => (),
+        Refusal::Tech(fault) => put_tech(&mut report, fault)?,
+        Refusal::Spice(fault) => put_spice(&mut report, fault)?,
+        Refusal::Fold(fault) => put_fold(&mut report, fault)?,
+        Refusal::Gds(fault) => put_gds(&mut report, fault)?,
+        Refusal::Lef(fault) => put_lef(&mut report, fault)?,
+        Refusal::NoMemory => return Ok(Bytes::new(alloc)),
     }
-    Ok(out)
+    Ok(report)
 }
 
 /// The end of a call whose first refusal this is.

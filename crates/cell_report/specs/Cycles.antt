@@ -11,44 +11,34 @@ use Rattle.cell_report.specs.Names.{name_of}
 abbrev pub below : ℕ → ℕ → ℕ
 below count at = if nat_lt (at + 1) count then at + 1 else 0
 
-abbrev pub entry_text : List (List ℕ) → Option Above → List ℕ
-entry_text nets None = []
-entry_text nets (Some above) = name_of nets above.net.0
+-- ---- entries of any type, by how one is told, and by the line at which it meets the entry below
 
--- an entry's net, and the one below it
-abbrev pub pair_text : List (List ℕ) → List Above → ℕ × Above → List ℕ
-pair_text nets cycle numbered =
-    name_of nets numbered.1.net.0 ++ codes " above " ++ entry_text nets (slice_get cycle (below (length cycle) numbered.0))
+abbrev pub entry_text : {A : Type 0} → (A → List ℕ) → Option A → List ℕ
+entry_text told None = []
+entry_text told (Some entry) = told entry
+
+-- an entry, and the one below it
+abbrev pub pair_text : {A : Type 0} → (A → List ℕ) → List A → ℕ × A → List ℕ
+pair_text told cycle numbered =
+    told numbered.1 ++ codes " above " ++ entry_text told (slice_get cycle (below (length cycle) numbered.0))
 
 -- the two, and the line at which they meet
-abbrev pub above_text : List (List ℕ) → List Above → ℕ × Above → List ℕ
-above_text nets cycle numbered =
-    pair_text nets cycle numbered ++ codes " at line " ++ decimal numbered.1.line ++ codes "\n"
+abbrev pub above_text : {A : Type 0} → (A → List ℕ) → (A → ℕ) → List A → ℕ × A → List ℕ
+above_text told line cycle numbered =
+    pair_text told cycle numbered ++ codes " at line " ++ decimal (line numbered.1) ++ codes "\n"
 
-abbrev pub cycle_text : List (List ℕ) → List Above → List ℕ
-cycle_text nets cycle = flat_map (above_text nets cycle) (enumerate_from 0 cycle)
+abbrev pub cycle_text : {A : Type 0} → (A → List ℕ) → (A → ℕ) → List A → List ℕ
+cycle_text told line cycle = flat_map (above_text told line cycle) (enumerate_from 0 cycle)
+
+-- ---- nets and pieces
+
+abbrev pub net_text : List (List ℕ) → Above → List ℕ
+net_text nets above = name_of nets above.net.0
 
 -- a piece is told by its net and its first line
 abbrev pub piece_text : List (List ℕ) → WireAbove → List ℕ
 piece_text nets piece = name_of nets piece.net.0 ++ codes " from line " ++ decimal piece.left
 
-abbrev pub piece_entry_text : List (List ℕ) → Option WireAbove → List ℕ
-piece_entry_text nets None = []
-piece_entry_text nets (Some piece) = piece_text nets piece
-
--- an entry's piece, and the one below it
-abbrev pub piece_pair_text : List (List ℕ) → List WireAbove → ℕ × WireAbove → List ℕ
-piece_pair_text nets cycle numbered =
-    piece_text nets numbered.1 ++ codes " above " ++ piece_entry_text nets (slice_get cycle (below (length cycle) numbered.0))
-
--- the two, and the line at which they meet
-abbrev pub piece_above_text : List (List ℕ) → List WireAbove → ℕ × WireAbove → List ℕ
-piece_above_text nets cycle numbered =
-    piece_pair_text nets cycle numbered ++ codes " at line " ++ decimal numbered.1.line ++ codes "\n"
-
-abbrev pub piece_cycle_text : List (List ℕ) → List WireAbove → List ℕ
-piece_cycle_text nets cycle = flat_map (piece_above_text nets cycle) (enumerate_from 0 cycle)
-
 abbrev pub ring_text : List (List ℕ) → Ring → List ℕ
-ring_text nets (OfNets cycle) = cycle_text nets cycle
-ring_text nets (OfPieces cycle) = piece_cycle_text nets cycle
+ring_text nets (OfNets cycle) = cycle_text (net_text nets) (λ above. above.line) cycle
+ring_text nets (OfPieces cycle) = cycle_text (piece_text nets) (λ piece. piece.line) cycle

@@ -1,4 +1,5 @@
 -- What contracts of public calls cite, and what these definitions stand on.
+pub mod Cells
 pub mod Cycles
 pub mod Logs
 pub mod Names

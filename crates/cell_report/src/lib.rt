@@ -1,7 +1,7 @@
-// The lines that are told of a row, of a log, and of a layout.
+// The lines that are told of a row, of a drawn cell, of a ring, of a log, and of a layout.
 #![tactic(auto)]
 
-mod cycle;
+mod cells;
 mod logs;
 mod names;
 mod netlist;
@@ -9,9 +9,9 @@ mod ring;
 mod row;
 mod violations;
 
-pub use cycle::cycle_text;
+pub use cells::{put_drawn, put_tall};
 pub use logs::{put_checked, put_unfinished};
-pub use netlist::netlist_text;
-pub use ring::ring_text;
-pub use row::{plan_text, put_row};
-pub use violations::violation_text;
+pub use netlist::put_netlist;
+pub use ring::put_ring;
+pub use row::{put_plan, put_row};
+pub use violations::put_violations;

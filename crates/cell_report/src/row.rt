@@ -1,10 +1,9 @@
-ghost use Rattle.std.specs.Prelude.{◌≡◌, ◌≤◌, ◌++◌, IfOk, OnOk, length};
+ghost use Rattle.std.specs.Prelude.{◌≡◌, ◌≤◌, ◌++◌, OnOk, length};
 ghost use Rattle.cell_report.specs.Rows.{place_text, gate_text, column_text, columns_text, row_text, plan_text};
 
 use crate::names::put_net;
 use cell_num::{Bytes, Name, Names, NoMemory, put_count, put_number, put_text};
 use row_model::{Arrangement, Column, Placed, gaps};
-use std::alloc::Global;
 
 fn put_gate(out: &mut Bytes, nets: &Names, column: &Column) -> Result<(), NoMemory>
     ensures { OnOk result (out.new ≡ out.old ++ gate_text nets.now column.now.p column.now.n) }
@@ -63,19 +62,17 @@ pub fn put_row(out: &mut Bytes, name: &Name, columns: u64, gaps: u32) -> Result<
     put_count(out, b"width ", columns + gaps)
 }
 
-/// The same lines of a row, and a line for each column: the net at its gate, and for each row the nets at the left
+/// Adds the same lines of a row, and a line for each column: the net at its gate, and for each row the nets at the left
 /// and the right end of its finger and the finger's width in grid units.
-pub fn plan_text(
-    alloc: Global,
+pub fn put_plan(
+    out: &mut Bytes,
     name: &Name,
     nets: &Names,
     row: &Arrangement,
-) -> Result<Vec<u8>, NoMemory>
+) -> Result<(), NoMemory>
     requires { length row.now ≤ 64 }
-    ensures { IfOk result (λ text. text.items ≡ plan_text name.now nets.now row.now) }
+    ensures { OnOk result (out.new ≡ out.old ++ plan_text name.now nets.now row.now) }
 {
-    let mut out = Bytes::new(alloc);
-    put_row(&mut out, name, row.len() as u64, gaps(row))?;
-    put_columns(&mut out, nets, row)?;
-    Ok(out.into_vec())
+    put_row(out, name, row.len() as u64, gaps(row))?;
+    put_columns(out, nets, row)
 }

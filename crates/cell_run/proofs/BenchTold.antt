@@ -11,7 +11,7 @@ use Rattle.cell_run.specs.Bench.{IsBench, IsBenchTold, WhereBenchEnds}
 use Rattle.cell_run.specs.Calm.{IsDoneOrShort}
 use Rattle.call_end.specs.Deliver.{Says, TellsWhole}
 use Rattle.call_work.specs.Ends.{EndsTo, MayEnd, refused}
-use Rattle.call_gather.specs.Material.{Material}
+use Rattle.call_work.specs.Commands.{Material}
 use Rattle.call_words.specs.Words.{Form, Bench}
 use Rattle.cell_run.proofs.Telling.{Answers}
 

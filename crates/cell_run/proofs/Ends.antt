@@ -2,31 +2,19 @@
 use Rattle.std.proofs.Common.{ℕ, ◌≡◌, ◌⊎◌, Bool, true, false, nat_le, if◌then◌else◌, length, arith, List, [], ◌∷◌, Option, Some, None, Result, Ok, Err, Contains, inl, inr, refl, sym, ap, ◌∙◌, subst}
 use Rattle.cell_io.specs.Desk.{Files, View, Rose}
 use Rattle.call_end.specs.declared.end.End.{End}
-use Rattle.layout_run.specs.declared.extraction.ExtractAnswer.TheVariants as answer
-use Rattle.layout_run.specs.declared.gds_cell.GdsCell.{GdsCell}
-use Rattle.call_gather.specs.Kinds.{Kind, Planning, Making, Checking, Extracting, Benching}
-use Rattle.call_gather.specs.Material.{Material, MaterialOf}
+use Rattle.call_work.specs.Commands.{Making, Material, gathered, read_by}
 use Rattle.call_read.specs.declared.refusal.Refusal.{Refusal}
 use Rattle.call_read.specs.declared.refusal.Refusal.TheVariants.{Unread, Long, NoMemory}
 use Rattle.call_end.specs.declared.status.Status.{Status}
 use Rattle.call_end.specs.declared.status.Status.TheVariants as status
-use Rattle.check_run.specs.declared.verdict.CheckAnswer.TheVariants.{Accepted, Misread, Rejected}
-use Rattle.call_work.specs.Bench.{BenchesTo}
-use Rattle.check_run.specs.Check.{ChecksTo}
 use Rattle.call_end.specs.End.{says}
-use Rattle.call_work.specs.Ends.{CallsFor, EndsTo, KeepsReadsOf, MayEnd, WorksTo, file_statuses, is_among, outside_of, refusal_status, refused, settled_of}
-use Rattle.layout_run.specs.Extract.{ExtractsTo}
-use Rattle.call_gather.specs.Gather.{gathered, read_by}
-use Rattle.cell_inputs.specs.declared.style.Style.{Style}
-use Rattle.cell_inputs.specs.Inputs.{Inputs}
-use Rattle.cell_make.specs.Making as made
-use Rattle.make_run.specs.Make.{MakesTo}
+use Rattle.call_work.specs.Ends.{CallsFor, EndsTo, KeepsReadsOf, MayEnd, file_statuses, is_among, outside_of, refusal_status, refused, settled_of}
 use Rattle.cell_run.specs.Headline.{IsMake, fileless_statuses}
-use Rattle.make_run.specs.Plan.{PlansTo, Planned, Unfinished}
 use Rattle.call_read.specs.Reading.{Comes, MayCome}
 use Rattle.call_read.specs.Sources.{Source, MayRead, Lacks, file_name, most_bytes, within}
 use Rattle.call_words.specs.Words.{Form}
-use Rattle.call_work.proofs.Gathered.{IsGathered, gathered_keeps}
+use Rattle.call_work.proofs.EachCommand.{files_by, gathered_keeps}
+use Rattle.call_work.proofs.Gathered.{IsGathered}
 use Rattle.call_read.proofs.Reading.{came_kept, came_told}
 use Rattle.call_work.proofs.Settled.{settled}
 use Rattle.call_work.proofs.Statuses.{among_one}
@@ -34,43 +22,6 @@ use Rattle.call_work.proofs.Statuses.{among_one}
 -- what was gathered for a form, or a refusal
 abbrev pub IsGatheredOrRefused : Option Form → Result Material Refusal → Type 0
 IsGatheredOrRefused form got = IsGathered form got ⊎ ((e : Refusal) × (got ≡ Err e))
-
-pub plan_alone : (inputs : Inputs) (end : End) → PlansTo inputs end → end.files ≡ []
-plan_alone inputs end (Planned row log, h, is) = rw is refl
-plan_alone inputs end (Unfinished proved log, h, is) = rw is refl
-
-pub check_alone : (inputs : Inputs) (bytes : List ℕ) (end : End) → ChecksTo inputs bytes end → end.files ≡ []
-check_alone inputs bytes end (Accepted gaps lemmas, h, is) = rw is refl
-check_alone inputs bytes end (Misread f, h, is) = rw is refl
-check_alone inputs bytes end (Rejected f, h, is) = rw is refl
-
-pub extract_alone : (cell : GdsCell) (end : End) → ExtractsTo cell end → end.files ≡ []
-extract_alone cell end (answer.Extracted netlist, h, is) = rw is refl
-extract_alone cell end (answer.Broken found, h, is) = rw is refl
-extract_alone cell end (answer.Unread f, h, is) = rw is refl
-extract_alone cell end (answer.Unchecked f, h, is) = rw is refl
-extract_alone cell end (answer.Refused f, h, is) = rw is refl
-
-pub bench_alone : (number : ℕ) (end : End) → BenchesTo number end → end.files ≡ []
-bench_alone number end (tally, h, is) = rw is refl
-
-make_status : (style : Style) (inputs : Inputs) (out : List ℕ) (end : End) → MakesTo style inputs out end → is_among (status.Done ∷ status.Cycle ∷ status.Unfinished ∷ status.TooTall ∷ []) end.status ≡ true
-make_status style inputs out end (made.Made row log routing xs, h, is) = rw is.status refl
-make_status style inputs out end (made.Cyclic row log ring, h, is) = rw is.status refl
-make_status style inputs out end (made.Tall row log routing, h, is) = rw is.status refl
-make_status style inputs out end (made.Unfinished proved log, h, is) = rw is.status refl
-
--- `make` alone makes files, and none where it ends with a status that is not its own
-abbrev pub HasNoFiles : Kind → End → Type 0
-HasNoFiles kind end =
-    (end.files ≡ []) ⊎ ((kind ≡ Making) × (is_among (status.Done ∷ status.Cycle ∷ status.Unfinished ∷ status.TooTall ∷ []) end.status ≡ true))
-
-files_by : (kind : Kind) (m : MaterialOf kind) (end : End) → WorksTo kind m end → HasNoFiles kind end
-files_by Planning m end works = inl (plan_alone m end works)
-files_by Making m end works = inr (refl, make_status m.2 m.0 m.1 end works)
-files_by Checking m end works = inl (check_alone m.0 m.1 end works)
-files_by Extracting m end works = inl (extract_alone m end works)
-files_by Benching m end works = inl (bench_alone m end works)
 
 not_made : (form : Option Form) (m : Material) → (IsMake form → ⊥) → IsGathered form (Ok m) → m.0 ≡ Making → ⊥
 not_made None m other is making = is

@@ -1,3 +1,5 @@
+pub mod AgreeTold
+pub mod AskedFor
 pub mod BenchTold
 pub mod Ends
 pub mod ExtractTold

@@ -1,19 +1,15 @@
 -- What the top call owes of `make`, from the end that the files call for and how it was told.
-use Rattle.std.proofs.Common.{ℕ, ◌≡◌, ◌≤◌, List, Option, Some, None, Result, IfSome, inl, inr, refl, ◌∙◌, subst, arith}
+use Rattle.std.proofs.Common.{ℕ, ◌≡◌, ◌≤◌, List, Option, IfSome, refl, arith}
 use Rattle.cell_io.specs.Desk.{Files, View}
 use Rattle.log_check.specs.Accepted.{ForKinds}
 use Rattle.bound_log.specs.declared.log.Log.{Log}
 use Rattle.row_search.specs.Enough.{enough}
 use Rattle.row_place.specs.Places.{placement_of}
 use Rattle.call_end.specs.declared.end.End.{End}
-use Rattle.call_gather.specs.Kinds.{Making}
-use Rattle.call_gather.specs.Material.{Material}
-use Rattle.call_read.specs.declared.refusal.Refusal.{Refusal}
+use Rattle.call_work.specs.Commands.{Making}
 use Rattle.call_end.specs.declared.status.Status.{Status}
 use Rattle.call_end.specs.declared.status.Status.TheVariants as status
 use Rattle.cell_run.specs.Calm.{IsCalm}
-use Rattle.call_end.specs.Deliver.{Says}
-use Rattle.call_work.specs.Ends.{EndsTo}
 use Rattle.cell_run.specs.Headline.{CanBeDrawn, FromInputs, HasCycle, IsCyclicCell, IsMadeCell, IsOrShort, IsSpentSearch, IsTallCell, IsTooHigh, OfFirstLeast, WhereMakeEnds}
 use Rattle.cell_inputs.specs.declared.style.Style.{Style}
 use Rattle.cell_inputs.specs.Inputs.{Inputs}
@@ -22,35 +18,31 @@ use Rattle.cell_make.specs.Making as made
 use Rattle.cell_make.specs.Searched.{IsUnfinished}
 use Rattle.make_run.specs.Make.{MakesTo}
 use Rattle.call_words.specs.Words.{Form}
-use Rattle.cell_run.proofs.Telling.{Completes}
+use Rattle.cell_run.proofs.AskedFor.{asked_told}
 use Rattle.cell_run.proofs.MakeSettled.{cyclic_so, drawn_so, spent_so, tall_so}
-use Rattle.cell_run.proofs.Worked.{IsAnswered, worked}
+use Rattle.cell_run.proofs.Worked.{Completes, IsAnswered, ends_told, settles}
 
 -- ---- the clauses
 
 pub drawn_told : (a c : View) (form : Option Form) (answer : Status) (given : Option Files) → IfSome given (IsAnswered form a c answer) → IfSome given (λ files. WhereMakeEnds files form answer status.Done (λ style inputs out. IsMadeCell style inputs out a c))
-drawn_told a c form answer None told = tt
-drawn_told a c form answer (Some files) told = λ make is.
-    let w = worked files form Making answer a c make (rw is refl) told in
-    (w.m.0, w.m.1, w.m.2, w.comes, drawn_so w.m.2.wiring w.m.2.taps w.m.0 w.m.1 w.end answer a c w.works is w.whole)
+drawn_told a c form answer given told =
+    asked_told form answer status.Done (λ style inputs out. IsMadeCell style inputs out a c) given
+    (ends_told Making (λ m. IsMadeCell m.2 m.0 m.1 a c) form status.Done answer a c given refl (λ m end works is whole. drawn_so m.2 m.0 m.1 end answer a c works is whole) told)
 
 pub cyclic_told : (a c : View) (form : Option Form) (answer : Status) (given : Option Files) → IfSome given (IsAnswered form a c answer) → IfSome given (λ files. WhereMakeEnds files form answer status.Cycle (λ style inputs out. IsCyclicCell style inputs out a c))
-cyclic_told a c form answer None told = tt
-cyclic_told a c form answer (Some files) told = λ make is.
-    let w = worked files form Making answer a c make (rw is refl) told in
-    (w.m.0, w.m.1, w.m.2, w.comes, cyclic_so w.m.2.wiring w.m.2.taps w.m.0 w.m.1 w.end answer a c w.works is w.whole)
+cyclic_told a c form answer given told =
+    asked_told form answer status.Cycle (λ style inputs out. IsCyclicCell style inputs out a c) given
+    (ends_told Making (λ m. IsCyclicCell m.2 m.0 m.1 a c) form status.Cycle answer a c given refl (λ m end works is whole. cyclic_so m.2 m.0 m.1 end answer a c works is whole) told)
 
 pub tall_told : (a c : View) (form : Option Form) (answer : Status) (given : Option Files) → IfSome given (IsAnswered form a c answer) → IfSome given (λ files. WhereMakeEnds files form answer status.TooTall (λ style inputs out. IsTallCell style inputs out a c))
-tall_told a c form answer None told = tt
-tall_told a c form answer (Some files) told = λ make is.
-    let w = worked files form Making answer a c make (rw is refl) told in
-    (w.m.0, w.m.1, w.m.2, w.comes, tall_so w.m.2.wiring w.m.2.taps w.m.0 w.m.1 w.end answer a c w.works is w.whole)
+tall_told a c form answer given told =
+    asked_told form answer status.TooTall (λ style inputs out. IsTallCell style inputs out a c) given
+    (ends_told Making (λ m. IsTallCell m.2 m.0 m.1 a c) form status.TooTall answer a c given refl (λ m end works is whole. tall_so m.2 m.0 m.1 end answer a c works is whole) told)
 
 pub spent_told : (a c : View) (form : Option Form) (answer : Status) (given : Option Files) → IfSome given (IsAnswered form a c answer) → IfSome given (λ files. WhereMakeEnds files form answer status.Unfinished (λ style inputs out. IsSpentSearch inputs out a c))
-spent_told a c form answer None told = tt
-spent_told a c form answer (Some files) told = λ make is.
-    let w = worked files form Making answer a c make (rw is refl) told in
-    (w.m.0, w.m.1, w.m.2, w.comes, spent_so w.m.2.wiring w.m.2.taps w.m.0 w.m.1 w.end answer a c w.works is w.whole)
+spent_told a c form answer given told =
+    asked_told form answer status.Unfinished (λ style inputs out. IsSpentSearch inputs out a c) given
+    (ends_told Making (λ m. IsSpentSearch m.0 m.1 a c) form status.Unfinished answer a c given refl (λ m end works is whole. spent_so m.2 m.0 m.1 end answer a c works is whole) told)
 
 -- ---- completeness
 
@@ -75,18 +67,11 @@ tall_where style inputs out end (much, high) (made.Cyclic row log ring, h, is) =
 tall_where style inputs out end (much, high) (made.Tall row log routing, h, is) = is.status
 tall_where style inputs out end (much, high) (made.Unfinished proved log, h, is) = absurd (spends_less inputs log proved much h)
 
-settles : (a c : View) (form : Option Form) (settled answer : Status) (Says : Style → Inputs → List ℕ → Type 0) (given : Option Files) → ((style : Style) (inputs : Inputs) (out : List ℕ) (end : End) → Says style inputs out → MakesTo style inputs out end → end.status ≡ settled) → IfSome given (λ files. IsCalm a c → Completes form files answer) → IfSome given (λ files. IsCalm a c → FromInputs files form Says → IsOrShort settled answer)
-settles a c form settled answer Says None each told = tt
-settles a c form settled answer Says (Some files) each told = λ calm (inputs, out, style, got, says). elim (told calm) [
-  | inl (end, calls, is) ↦ inl (is ∙ each style inputs out end says (subst (λ (r : Result Material Refusal). EndsTo r end) got calls))
-  | inr short ↦ inr short
-]
-
 pub draws_told : (a c : View) (form : Option Form) (answer : Status) (given : Option Files) → IfSome given (λ files. IsCalm a c → Completes form files answer) → IfSome given (λ files. IsCalm a c → FromInputs files form (OfFirstLeast CanBeDrawn) → IsOrShort status.Done answer)
-draws_told a c form answer given told = settles a c form status.Done answer (OfFirstLeast CanBeDrawn) given drawn_where told
+draws_told a c form answer given told = settles Making (λ m. OfFirstLeast CanBeDrawn m.2 m.0 m.1) form status.Done answer a c given (λ m end is works. drawn_where m.2 m.0 m.1 end is works) told
 
 pub meets_told : (a c : View) (form : Option Form) (answer : Status) (given : Option Files) → IfSome given (λ files. IsCalm a c → Completes form files answer) → IfSome given (λ files. IsCalm a c → FromInputs files form (OfFirstLeast HasCycle) → IsOrShort status.Cycle answer)
-meets_told a c form answer given told = settles a c form status.Cycle answer (OfFirstLeast HasCycle) given cyclic_where told
+meets_told a c form answer given told = settles Making (λ m. OfFirstLeast HasCycle m.2 m.0 m.1) form status.Cycle answer a c given (λ m end is works. cyclic_where m.2 m.0 m.1 end is works) told
 
 pub needs_told : (a c : View) (form : Option Form) (answer : Status) (given : Option Files) → IfSome given (λ files. IsCalm a c → Completes form files answer) → IfSome given (λ files. IsCalm a c → FromInputs files form (OfFirstLeast IsTooHigh) → IsOrShort status.TooTall answer)
-needs_told a c form answer given told = settles a c form status.TooTall answer (OfFirstLeast IsTooHigh) given tall_where told
+needs_told a c form answer given told = settles Making (λ m. OfFirstLeast IsTooHigh m.2 m.0 m.1) form status.TooTall answer a c given (λ m end is works. tall_where m.2 m.0 m.1 end is works) told

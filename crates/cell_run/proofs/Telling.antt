@@ -1,11 +1,13 @@
 -- What the top call owes of its answer, from the end that it came to and how this was told.
-use Rattle.std.proofs.Common.{ℕ, ◌≡◌, ◌⊎◌, ◌↔◌, ◌||◌, Bool, true, false, List, [], Option, Some, None, Result, IfSome, IsNone, inl, inr, refl, sym, ap, ◌∙◌, subst, arith}
+use Rattle.std.proofs.Common.{ℕ, ◌≡◌, ◌≤◌, ◌⊎◌, ◌↔◌, ◌||◌, Bool, true, false, List, [], Option, Some, None, Result, IfSome, IsNone, inl, inr, refl, sym, ap, ◌∙◌, subst, arith}
 use Rattle.std.proofs.lemmas.List.{append-nil}
 use Rattle.cell_io.specs.Desk.{Files, View, Both, ForSome, AddsPart, OnlyReads, Rose}
 use Rattle.call_end.specs.declared.end.End.{End}
 use Rattle.call_end.specs.declared.end.Output.{Output}
-use Rattle.call_gather.specs.Kinds.{Checking}
-use Rattle.call_gather.specs.Material.{Material}
+use Rattle.call_work.specs.Commands.{Checking, Planning, Material, gathered, read_by}
+use Rattle.check_run.specs.Check.{IsTextOfAccepted}
+use Rattle.log_check.specs.Accepted.{ForKinds}
+use Rattle.row_search.specs.Enough.{enough}
 use Rattle.call_read.specs.declared.refusal.Refusal.{Refusal}
 use Rattle.call_end.specs.declared.status.Status.{Status}
 use Rattle.call_end.specs.declared.status.Status.TheVariants as status
@@ -13,7 +15,6 @@ use Rattle.cell_run.specs.Calm.{IsCalm, IsDoneOrShort}
 use Rattle.cell_run.specs.Check.{HoldsAcceptedLog, IsCheck}
 use Rattle.call_end.specs.Deliver.{GivesUp, MakesAll, MakesSome, OnlyTells, Says, Tells, TellsSome, TellsWhole}
 use Rattle.call_work.specs.Ends.{CallsFor, EndsTo, IsOfOutside, KeepsReadsOf, MayEnd, desk_statuses, is_among, is_status_of, outside_of, settled_of}
-use Rattle.call_gather.specs.Gather.{gathered, read_by}
 use Rattle.cell_run.specs.Headline.{IsMake}
 use Rattle.cell_run.specs.Plan.{HasEnough}
 use Rattle.call_read.specs.Sources.{Lacks}
@@ -24,7 +25,7 @@ use Rattle.call_read.proofs.Desks.{came_between}
 use Rattle.cell_run.proofs.Ends.{came_gathered, end_cases, end_told, file_outside, file_status, file_unread, no_files}
 use Rattle.call_work.proofs.Settled.{not_of_desk, usage_alone}
 use Rattle.make_run.proofs.Planned.{enough_done}
-use Rattle.cell_run.proofs.Worked.{Works, worked}
+use Rattle.cell_run.proofs.Worked.{Completes, Works, settles, worked}
 
 -- ---- the whole call
 
@@ -71,10 +72,6 @@ called_for_told a c form answer (Some files) is (end, may, inl whole) = elim (en
       let same : answer ≡ status.NoMemory = whole.0 ∙ short in
       inl (rw same refl)
 ]
-
--- the status of an end that the files call for, or memory ran out
-abbrev pub Completes : Option Form → Files → Status → Type 0
-Completes form files answer = ((end : End) × CallsFor files form end × (answer ≡ end.status)) ⊎ (answer ≡ status.NoMemory)
 
 pub completes_told : (a c : View) (form : Option Form) (answer : Status) (given : Option Files) → a.given ≡ given → Answers a c form answer → IfSome given (λ files. IsCalm a c → Completes form files answer)
 completes_told a c form answer None is h = tt
@@ -178,29 +175,21 @@ made_told a c form answer (end, (got, came, ends), inr (up, inr (made, said))) o
 -- ---- by command
 
 pub planned_told : (a c : View) (form : Option Form) (answer : Status) (given : Option Files) → IfSome given (λ files. IsCalm a c → Completes form files answer) → IfSome given (λ files. IsCalm a c → HasEnough files form → IsDoneOrShort answer)
-planned_told a c form answer None told = tt
-planned_told a c form answer (Some files) told = λ calm (inputs, got, much). elim (told calm) [
-  | inl (end, calls, is) ↦ inl (is ∙ enough_done inputs end much (subst (λ (r : Result Material Refusal). EndsTo r end) got calls))
-  | inr short ↦ inr short
-]
+planned_told a c form answer given told = settles Planning (λ inputs. ForKinds inputs.fingers (λ k. enough k ≤ inputs.tech.budget)) form status.Done answer a c given (λ inputs end much works. enough_done inputs end much works) told
 
 pub accepts_told : (a c : View) (form : Option Form) (answer : Status) (given : Option Files) → IfSome given (λ files. IsCalm a c → Completes form files answer) → IfSome given (λ files. IsCalm a c → HoldsAcceptedLog files form → IsDoneOrShort answer)
-accepts_told a c form answer None told = tt
-accepts_told a c form answer (Some files) told = λ calm (inputs, bytes, got, gaps, lemmas, text). elim (told calm) [
-  | inl (end, calls, is) ↦ inl (is ∙ holds_done inputs bytes end gaps lemmas text (subst (λ (r : Result Material Refusal). EndsTo r end) got calls))
-  | inr short ↦ inr short
-]
+accepts_told a c form answer given told = settles Checking (λ m. (gaps : ℕ) × (lemmas : ℕ) × IsTextOfAccepted m.0 m.1 gaps lemmas) form status.Done answer a c given (λ m end (gaps, lemmas, text) works. holds_done m.0 m.1 end gaps lemmas text works) told
 
 -- a check that is done found an accepted log
 done_check : (files : Files) (form : Option Form) (answer : Status) (a c : View) → Works files form Checking answer a c → answer ≡ status.Done → HoldsAcceptedLog files form
 done_check files form answer a c w done =
     let (gaps, lemmas, text) = done_holds w.m.0 w.m.1 w.end w.works (sym w.whole.0 ∙ done) in
-    (w.m.0, w.m.1, w.comes, gaps, lemmas, text)
+    (w.m, w.comes, (gaps, lemmas, text))
 
 pub checked_told : (a c : View) (form : Option Form) (answer : Status) (given : Option Files) → IfSome given (λ files. IsOfOutside answer ⊎ ((end : End) × CallsFor files form end × TellsWhole end answer a c)) → IfSome given (λ files. IsCheck form → IsOfOutside answer ⊎ (answer ≡ status.Done ↔ HoldsAcceptedLog files form))
 checked_told a c form answer None told = tt
 checked_told a c form answer (Some files) (inl outside) = λ check. inl outside
 checked_told a c form answer (Some files) (inr (end, calls, whole)) = λ check. inr (
   (λ done. done_check files form answer a c (worked files form Checking answer a c check (rw done refl) (inr (end, calls, whole))) done),
-  (λ (inputs, bytes, got, gaps, lemmas, text). whole.0 ∙ holds_done inputs bytes end gaps lemmas text (subst (λ (r : Result Material Refusal). EndsTo r end) got calls)),
+  (λ (m, got, (gaps, lemmas, text)). whole.0 ∙ holds_done m.0 m.1 end gaps lemmas text (subst (λ (r : Result Material Refusal). EndsTo r end) got calls)),
 )

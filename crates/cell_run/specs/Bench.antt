@@ -1,11 +1,12 @@
 -- What a call of `bench` tells.
-use Rattle.std.specs.Prelude.{ℕ, ◌≡◌, ◌++◌, codes, Option, Some}
+use Rattle.std.specs.Prelude.{ℕ, ◌≡◌, ◌++◌, Option, Some}
 use Rattle.cell_io.specs.Desk.{View, Both}
 use Rattle.bench_run.specs.declared.tally.Tally.{Tally}
 use Rattle.call_end.specs.declared.status.Status.{Status}
 use Rattle.call_end.specs.declared.status.Status.TheVariants as status
 use Rattle.call_work.specs.Bench.{IsCounted, bench_text}
 use Rattle.call_end.specs.Deliver.{Says}
+use Rattle.call_end.specs.Status.{first_line}
 use Rattle.call_words.specs.Words.{Form, Bench}
 
 abbrev pub IsBench : Option Form → Type 0
@@ -15,7 +16,7 @@ IsBench form = (number : ℕ) × (form ≡ Some (Bench number))
 pub record IsBenchTold (number : ℕ) (old new : View) : Type 0 where
   pub tally : Tally
   pub counted : IsCounted number tally
-  pub says : Both (Says (codes "status 0 ok\n" ++ bench_text number tally)) old.said new.said
+  pub says : Both (Says (first_line status.Done ++ bench_text number tally)) old.said new.said
 
 -- where a call of `bench` is done, this holds of its number
 abbrev pub WhereBenchEnds : Option Form → Status → (ℕ → Type 0) → Type 0

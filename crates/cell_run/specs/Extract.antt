@@ -1,30 +1,37 @@
 -- What a call of `extract` tells.
-use Rattle.std.specs.Prelude.{◌≡◌, List, Option, Ok}
+use Rattle.std.specs.Prelude.{ℕ, ◌≡◌, ◌⊎◌, List, ◌++◌, codes, Option, Err}
 use Rattle.cell_io.specs.Desk.{Files, View, Both}
 use Rattle.scmos_rules.specs.declared.violation.Violation.{Violation}
 use Rattle.net_extract.specs.declared.netlist.Netlist.{Netlist}
+use Rattle.gds_read.specs.declared.fault.GdsFault.{GdsFault}
+use Rattle.fault_text.specs.Faults.{fault_line}
+use Rattle.fault_text.specs.LayoutFaults.{gds_fault}
+use Rattle.call_end.specs.Deliver.{Says}
+use Rattle.call_end.specs.Status.{first_line}
+use Rattle.call_end.specs.declared.status.Status.{Status}
+use Rattle.call_end.specs.declared.status.Status.TheVariants as status
+use Rattle.call_read.specs.Reading.{called}
+use Rattle.call_read.specs.declared.refusal.Refusal.TheVariants.{Gds}
+use Rattle.call_words.specs.Words.{Form}
+use Rattle.call_work.specs.Commands.{Extracting, gathered}
+use Rattle.cell_run.specs.Ended.{Gathers, IsOfKind, WhereEnds}
+use Rattle.layout_run.specs.Extract.{HasLayoutFault, IsDrawingAnswer, IsLayoutFault, extract_end}
 use Rattle.layout_run.specs.declared.extraction.ExtractAnswer.{ExtractAnswer}
 use Rattle.layout_run.specs.declared.extraction.ExtractAnswer.TheVariants.{Extracted, Broken}
 use Rattle.layout_run.specs.declared.gds_cell.GdsCell.{GdsCell}
-use Rattle.layout_run.specs.Extract.{IsCellAnswer, IsLayoutFault, extract_end}
-use Rattle.call_gather.specs.Kinds.{Extracting, IsOfKind}
-use Rattle.call_end.specs.declared.status.Status.{Status}
-use Rattle.call_end.specs.Deliver.{Says}
-use Rattle.call_gather.specs.Gather.{gathered}
-use Rattle.call_read.specs.Reading.{called}
-use Rattle.call_words.specs.Words.{Form}
 
 abbrev pub IsExtract : Option Form → Type 0
 IsExtract form = IsOfKind Extracting form
 
--- the answer is of the cell, and its report was said
+-- the answer is of what the cell draws, and its report was said
 pub record IsToldOf (cell : GdsCell) (answer : ExtractAnswer) (old new : View) : Type 0 where
-  pub is : IsCellAnswer cell answer
+  pub is : IsDrawingAnswer cell.rules cell.shapes answer
   pub says : Both (Says (extract_end cell.name answer).report) old.said new.said
 
--- the netlist was told
+-- the netlist was told, and with taps the bodies of its devices
 abbrev pub IsExtractedCell : GdsCell → View → View → Type 0
-IsExtractedCell cell old new = (netlist : Netlist) × IsToldOf cell (Extracted netlist) old new
+IsExtractedCell cell old new =
+    (netlist : Netlist) × (bodies : Option (List (Option ℕ))) × IsToldOf cell (Extracted netlist bodies) old new
 
 -- all broken rules were told
 abbrev pub IsBrokenCell : GdsCell → View → View → Type 0
@@ -34,10 +41,30 @@ IsBrokenCell cell old new = (found : List Violation) × IsToldOf cell (Broken fo
 abbrev pub IsRefusedCell : GdsCell → View → View → Type 0
 IsRefusedCell cell old new = (answer : ExtractAnswer) × IsLayoutFault answer × IsToldOf cell answer old new
 
--- the technology is there and accepted and the file is there: this holds of the cell
+-- The technology is there and accepted, the file is there, and its bytes decode to a drawing of the cell of that name:
+-- this holds of the cell.
 abbrev pub OfGdsCell : Files → Option Form → (GdsCell → Type 0) → Type 0
-OfGdsCell files form Is = (cell : GdsCell) × (called files (gathered form) ≡ Ok (Extracting, cell)) × Is cell
+OfGdsCell files form Is = Gathers Extracting files form Is
+
+-- the technology is there and accepted and the file is there, but its bytes hold no drawing of the cell, by this first fault
+abbrev pub HoldsNoDrawing : Files → Option Form → GdsFault → Type 0
+HoldsNoDrawing files form f = called files (gathered form) ≡ Err (Gds f)
 
 -- where a call of `extract` ends so, this holds of the cell
 abbrev pub WhereExtractEnds : Files → Option Form → Status → Status → (GdsCell → Type 0) → Type 0
-WhereExtractEnds files form answer settled Is = IsExtract form → answer ≡ settled → OfGdsCell files form Is
+WhereExtractEnds files form answer settled Is = WhereEnds Extracting files form answer settled Is
+
+-- the first fault of the file was told
+pub record IsRefusedFile (files : Files) (form : Option Form) (old new : View) : Type 0 where
+  pub fault : GdsFault
+  pub holds : HoldsNoDrawing files form fault
+  pub says : Both (Says (first_line status.Layout ++ fault_line (codes "gds") (gds_fault fault))) old.said new.said
+
+-- it was told why there is no netlist: the file has no such drawing, or the drawing no netlist
+abbrev pub IsRefusedLayout : Files → Option Form → View → View → Type 0
+IsRefusedLayout files form old new =
+    IsRefusedFile files form old new ⊎ OfGdsCell files form (λ cell. IsRefusedCell cell old new)
+
+-- there is none
+abbrev pub HasNoNetlist : Files → Option Form → Type 0
+HasNoNetlist files form = ((f : GdsFault) × HoldsNoDrawing files form f) ⊎ OfGdsCell files form HasLayoutFault

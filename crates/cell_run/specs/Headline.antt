@@ -1,7 +1,8 @@
 -- What a call of `make` leaves behind: the drawing of a cell with its evidence, or the evidence of why there is
 -- none. Files and what was said are told where the desk tells them.
-use Rattle.std.specs.Prelude.{ℕ, ◌≡◌, ◌≢◌, ◌<◌, ◌≤◌, ◌⊎◌, IsTrue, List, [], ◌∷◌, ◌++◌, codes, length, Option, Some, Ok}
+use Rattle.std.specs.Prelude.{ℕ, ◌≡◌, ◌≢◌, ◌<◌, ◌≤◌, ◌⊎◌, IsTrue, List, [], ◌∷◌, ◌++◌, codes, length, Option, Some}
 use Rattle.cell_io.specs.Desk.{Files, View, Both}
+use Rattle.cell_num.specs.Names.{lowered}
 use Rattle.row_model.specs.declared.column.Column.{Column}
 use Rattle.bound_log.specs.declared.log.Log.{Log}
 use Rattle.bound_log.specs.Text.{log_text}
@@ -18,24 +19,26 @@ use Rattle.cell_draw.specs.Extracted.{ExtractsTo}
 use Rattle.cell_draw.specs.Frame.{needed_of, IsTooTall}
 use Rattle.cell_draw.specs.Shown.{ShowsRow}
 use Rattle.gds_read.specs.Decoding.{Decodes}
-use Rattle.lef_write.specs.Drawn.{AreAllMetal, IsSized}
-use Rattle.call_gather.specs.Kinds.{Making, IsOfKind}
+use Rattle.lef_write.specs.Drawn.{AreAllMetal, AreOfNet, HasTrunkPorts, IsSized}
+use Rattle.call_end.specs.Status.{first_line}
+use Rattle.call_work.specs.Commands.{Making}
+use Rattle.cell_run.specs.Ended.{Gathers, IsOfKind, WhereEnds}
 use Rattle.call_end.specs.declared.status.Status.{Status}
 use Rattle.call_end.specs.declared.status.Status.TheVariants as status
 use Rattle.call_end.specs.Deliver.{Says}
-use Rattle.call_gather.specs.Gather.{gathered}
 use Rattle.cell_inputs.specs.Inputs.{Inputs}
 use Rattle.cell_inputs.specs.declared.style.Style.{Style}
+use Rattle.cell_make.specs.Extent.{frame_in}
 use Rattle.cell_make.specs.Making.{AreLeastLines, IsRouted, abstract_of, drawing_in, library_of, ports_in}
 use Rattle.cell_report.specs.Cycles.{ring_text}
-use Rattle.make_run.specs.MakeReport.{drawn_text, tall_text}
-use Rattle.call_read.specs.Reading.{called}
+use Rattle.cell_report.specs.Cells.{drawn_text, tall_text}
 use Rattle.cell_report.specs.Rows.{plan_text}
 use Rattle.cell_report.specs.Logs.{unfinished_text}
 use Rattle.cell_make.specs.Searched.{IsCertified, IsUnfinished}
 use Rattle.cell_make.specs.Structures.{HasOneStructure}
-use Rattle.cell_make.specs.Style.{AreLegal, AreTight, HasNoRing, HasPinPort, IsRing, IsToldRing, ShowsWiring}
-use Rattle.call_words.specs.Words.{Form}
+use Rattle.cell_make.specs.Style.{AreBodiedBy, AreLegal, AreTight, HasNoRing, HasPinPort, IsRing, IsToldRing, ShowsWiring, deck_of, final}
+use Rattle.call_words.specs.Asked.{CellAsked}
+use Rattle.call_words.specs.Words.{Form, Make}
 use Rattle.call_work.specs.Ends.{is_among}
 
 abbrev pub IsMake : Option Form → Type 0
@@ -44,13 +47,19 @@ IsMake form = IsOfKind Making form
 -- so it is of the style and the inputs of a drawing, which are there and accepted, and of what the names of its files
 -- begin with
 abbrev pub FromInputs : Files → Option Form → (Style → Inputs → List ℕ → Type 0) → Type 0
-FromInputs files form Says =
-    (inputs : Inputs) × (out : List ℕ) × (style : Style)
-    × (called files (gathered form) ≡ Ok (Making, (inputs, out, style))) × Says style inputs out
+FromInputs files form Says = Gathers Making files form (λ m. Says m.2 m.0 m.1)
+
+-- The words ask for it so: `make TECH SPICE CELL OUT`, in this style. The cell has the name CELL in lower case, and the
+-- names of its files begin with OUT.
+pub record IsAskedFor (form : Option Form) (style : Style) (inputs : Inputs) (out : List ℕ) : Type 0 where
+  pub asked : CellAsked
+  pub words : form ≡ Some (Make asked out style)
+  pub name : inputs.cell.name ≡ lowered asked.cell
 
 -- so it is where `make` ends with this status
 abbrev pub WhereMakeEnds : Files → Option Form → Status → Status → (Style → Inputs → List ℕ → Type 0) → Type 0
-WhereMakeEnds files form answer settled Says = IsMake form → answer ≡ settled → FromInputs files form Says
+WhereMakeEnds files form answer settled Says =
+    WhereEnds Making files form answer settled (λ m. IsAskedFor form m.2 m.0 m.1 × Says m.2 m.0 m.1)
 
 -- ---- files
 
@@ -92,37 +101,49 @@ pub record IsMadeCell (style : Style) (inputs : Inputs) (out : List ℕ) (old ne
   pub least_lines : AreLeastLines (placement_of row) inputs.cell.pins routing lines
   -- The height of the technology, where it has one, is enough.
   pub fits : IsTooTall row routing.tracks inputs.tech.height → ⊥
-  -- This is the drawing of the row on these tracks and lines.
+  -- This is the drawing of the row on these tracks and lines, and this is how it is written: with taps where the words
+  -- ask for them.
   pub drawing : Drawing
   pub drawn : drawing ≡ drawing_in inputs row routing lines
-  -- The shapes obey every rule of the profile.
-  pub obeys : Obeys Plain drawing.shapes.rects
+  pub layout : Drawing
+  pub written : layout ≡ final style.taps drawing lines
+  -- The shapes obey every rule of the profile, with taps those for cells with taps.
+  pub obeys : Obeys (deck_of style.taps) layout.shapes.rects
   -- Its devices, one for each class of gate cells, are the fingers of the folded subcircuit, net by net.
-  pub extracts : ExtractsTo Plain inputs.cell.nets inputs.fingers drawing.shapes
+  pub extracts : ExtractsTo (deck_of style.taps) inputs.cell.nets inputs.fingers layout.shapes
+  -- With taps the body of each P device is the net of vdd, and of each N device that of gnd.
+  pub bodied : AreBodiedBy style.taps inputs.cell.nets inputs.cell.pins layout.shapes
   -- They stand in the columns of the row, and neighbours without a gap abut in each row that both fill.
-  pub shows_row : ShowsRow Plain inputs.cell.nets row drawing.shapes
+  pub shows_row : ShowsRow (deck_of style.taps) inputs.cell.nets row layout.shapes
   -- The labels of trunks stand on the tracks of the routing; with doglegs those of nets where their first pieces begin.
   pub shows_routing :
-      ShowsWiring style.wiring inputs.cell.nets inputs.cell.pins (placement_of row) lines drawing.shapes routing
+      ShowsWiring style.wiring inputs.cell.nets inputs.cell.pins (placement_of row) lines layout.shapes routing
   -- The bytes are a library with one cell of that name and no other, and these are its shapes and labels.
-  pub decodes : Decodes (library_of inputs drawing) inputs.cell.name inputs.tech.lambda_nm drawing.shapes
-  pub alone : HasOneStructure (library_of inputs drawing)
-  -- Each pin has exactly one port: one of these shapes, on which the label of the pin's name stands. With doglegs it
-  -- may have more behind that one.
+  pub decodes : Decodes (library_of inputs layout) inputs.cell.name inputs.tech.lambda_nm layout.shapes
+  pub alone : HasOneStructure (library_of inputs layout)
+  -- Each pin has exactly one port: one of the shapes without taps, on which the label of the pin's name stands. With
+  -- doglegs it may have more behind that one.
   pub ports : (n : ℕ) → n < inputs.cell.pins.pins
       → HasPinPort style.wiring inputs.cell.nets (ports_in inputs routing drawing) drawing n
-  -- Ports and obstructions are all metal of these shapes, each shape once.
+  -- A pin that is no rail has a port for each trunk of its net, or with doglegs for each piece: the metal1 of that.
+  pub port_trunks : (n : ℕ) → n < inputs.cell.pins.pins
+      → HasTrunkPorts inputs.cell.pins (frame_in inputs row routing lines) lines routing.trunks
+      (ports_in inputs routing drawing) drawing n
+  -- Every cell of a port is in the net that the pin's name names.
+  pub port_nets : (n : ℕ) → n < inputs.cell.pins.pins
+      → AreOfNet Plain inputs.cell.nets (ports_in inputs routing drawing) drawing n
+  -- Ports and obstructions are all metal of those shapes, each shape once.
   pub obstructs : AreAllMetal (ports_in inputs routing drawing) drawing.shapes.rects
   -- The width and the height are the greatest x and the greatest y of metal1.
   pub sized : IsSized drawing
   -- The library stands in `OUT.gds`, the text of the log in `OUT.clog`, and in `OUT.lef` the macro of the cell with
   -- these ports, obstructions and this size.
   pub files :
-      Both (HasCell out (log_text inputs.cell.name log) (library_of inputs drawing)
+      Both (HasCell out (log_text inputs.cell.name log) (library_of inputs layout)
       (abstract_of inputs routing drawing)) old.made new.made
   -- The report says the columns, the tracks, the width and height, and how many lemmas the log has.
   pub says :
-      Both (Says (codes "status 0 ok\n" ++ plan_text inputs.cell.name inputs.cell.nets row
+      Both (Says (first_line status.Done ++ plan_text inputs.cell.name inputs.cell.nets row
       ++ drawn_text routing.tracks drawing.width drawing.height (length log.lemmas))) old.said new.said
 
 -- ---- why there is none
@@ -138,7 +159,7 @@ pub record IsCyclicCell (style : Style) (inputs : Inputs) (out : List ℕ) (old 
   pub is_ring : IsRing style.wiring (placement_of row) inputs.cell.pins ring
   pub is_told : IsToldRing style.wiring (placement_of row) inputs.cell.pins ring
   pub files : Both (HasLog out (log_text inputs.cell.name log)) old.made new.made
-  pub says : Both (Says (codes "status 5 cycle\n" ++ ring_text inputs.cell.nets ring)) old.said new.said
+  pub says : Both (Says (first_line status.Cycle ++ ring_text inputs.cell.nets ring)) old.said new.said
 
 -- The first least row, legally and tightly routed, needs more than the height of the technology, and the report
 -- says both heights.
@@ -154,7 +175,7 @@ pub record IsTallCell (style : Style) (inputs : Inputs) (out : List ℕ) (old ne
   pub tall : IsTooTall row routing.tracks inputs.tech.height
   pub files : Both (HasLog out (log_text inputs.cell.name log)) old.made new.made
   pub says :
-      Both (Says (codes "status 11 tall\n" ++ tall_text (needed_of row routing.tracks) inputs.tech.height))
+      Both (Says (first_line status.TooTall ++ tall_text (needed_of row routing.tracks) inputs.tech.height))
       old.said new.said
 
 -- The search spent its budget: the log proves that no row has fewer gaps than the report says.
@@ -163,7 +184,7 @@ pub record IsSpentSearch (inputs : Inputs) (out : List ℕ) (old new : View) : T
   pub proved : ℕ
   pub spent : IsUnfinished inputs proved log
   pub files : Both (HasLog out (log_text inputs.cell.name log)) old.made new.made
-  pub says : Both (Says (codes "status 6 unfinished\n" ++ unfinished_text proved (length log.lemmas))) old.said new.said
+  pub says : Both (Says (first_line status.Unfinished ++ unfinished_text proved (length log.lemmas))) old.said new.said
 
 -- ---- how `make` has to end
 
@@ -195,7 +216,7 @@ IsOrShort settled answer = (answer ≡ settled) ⊎ (answer ≡ status.NoMemory)
 
 -- ---- calls that make no file
 
--- the statuses of calls that make none
+-- the statuses of calls that make none; no call ends with Row or Disagree so far
 abbrev pub fileless_statuses : List Status
 fileless_statuses =
     status.Usage
@@ -204,6 +225,8 @@ fileless_statuses =
     ∷ status.Rejected
     ∷ status.Layout
     ∷ status.TooLong
+    ∷ status.Row
+    ∷ status.Disagree
     ∷ []
 
 abbrev pub MakesNone : Status → Type 0

@@ -1,7 +1,9 @@
 -- What contracts of public calls cite, and what these definitions stand on.
+pub mod Agree
 pub mod Bench
 pub mod Calm
 pub mod Check
+pub mod Ended
 pub mod Extract
 pub mod Headline
 pub mod Plan

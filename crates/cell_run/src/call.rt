@@ -2,23 +2,25 @@ ghost use Rattle.std.specs.Prelude.{◌≡◌, ◌≢◌, ◌≤◌, ◌↔◌, 
 ghost use Rattle.cell_io.specs.Desk.{OnlyReads, Rose};
 ghost use Rattle.call_end.specs.declared.end.End.{End as EndOf};
 ghost use Rattle.call_end.specs.declared.status.Status.TheVariants as status;
+ghost use Rattle.agree_run.specs.Agree.{DoesAgree};
+ghost use Rattle.cell_run.specs.Agree.{HasDisagreement, HasNoNets, IsAgree, IsAgreedCell, IsDisagreed, IsWithoutNets, OfCompared};
 ghost use Rattle.cell_run.specs.Bench.{IsBench, IsBenchTold, WhereBenchEnds};
 ghost use Rattle.cell_run.specs.Calm.{IfCalm, IsDoneOrShort};
 ghost use Rattle.cell_run.specs.Check.{HoldsAcceptedLog, IsCheck};
 ghost use Rattle.call_end.specs.Deliver.{Tells, TellsWhole};
 ghost use Rattle.call_work.specs.Ends.{CallsFor, IsOfOutside, KeepsReadsOf, MayEnd, is_status_of};
-ghost use Rattle.layout_run.specs.Extract.{BreaksRule, HasLayoutFault, HasNetlist};
-ghost use Rattle.cell_run.specs.Extract.{IsBrokenCell, IsExtractedCell, IsRefusedCell, OfGdsCell, WhereExtractEnds};
-ghost use Rattle.call_gather.specs.Gather.{read_by};
+ghost use Rattle.layout_run.specs.Extract.{BreaksRule, HasNetlist};
+ghost use Rattle.cell_run.specs.Extract.{HasNoNetlist, IsBrokenCell, IsExtract, IsExtractedCell, IsRefusedLayout, OfGdsCell, WhereExtractEnds};
+ghost use Rattle.call_work.specs.Commands.{Agreeing, read_by};
+ghost use Rattle.cell_run.specs.Ended.{WhereEnds};
 ghost use Rattle.cell_run.specs.Headline.{CanBeDrawn, FromInputs, HasCycle, IsCyclicCell, IsMadeCell, IsMake, IsOrShort, IsSpentSearch, IsTallCell, IsTooHigh, MakesNone, OfFirstLeast, WhereMakeEnds};
 ghost use Rattle.cell_run.specs.Plan.{HasEnough};
 ghost use Rattle.call_read.specs.Sources.{Lacks};
 ghost use Rattle.call_words.specs.Words.{asked};
 
 use call_end::{End, Status, deliver};
-use call_gather::gather;
 use call_words::form_of;
-use call_work::{refused, work};
+use call_work::{gather, refused, work};
 use cell_io::Desk;
 use cell_num::{Bytes, NoMemory};
 use std::alloc::Global;
@@ -52,10 +54,14 @@ fn prepare<D: Desk>(alloc: Global, words: &[String], desk: &mut D) -> End
 /// `plan TECH SPICE CELL` finds the first least row of a cell: TECH is a technology file or `-` for the
 /// plain technology, SPICE a file, and CELL the name of one of its subcircuits. `make TECH SPICE CELL OUT`
 /// draws that row: it makes the log `OUT.clog`, the GDSII library `OUT.gds` and then the abstract `OUT.lef`. With
-/// `--dogleg` behind OUT, trunks may change their tracks at node lines of their nets.
+/// `--dogleg` behind OUT, trunks may change their tracks at node lines of their nets; with `--taps` as the last word
+/// the library has taps of the well and of the substrate, on the rails at the first and at the last line.
 /// `check TECH SPICE CELL LOG` tells whether the file LOG is the text of a log that certifies a row of that cell.
-/// `extract TECH GDS CELL` tells the netlist of a cell of the GDSII file GDS, or the rules that it breaks.
+/// `extract TECH GDS CELL` tells the netlist of a cell of the GDSII file GDS, or the rules that it breaks. With `--taps`
+/// behind CELL the rules are those of cells with taps, and the net of each device's body is told.
 /// `bench NUMBER` makes so many generated cells in memory, 1 to 200, and tells what came out.
+/// `agree TECH GDS LEF CELL` tells whether the macro of a cell in the LEF file LEF agrees with the cell in the GDSII file GDS,
+/// or the first difference.
 ///
 /// All memory that is not the desk's own is taken before the first file is made.
 pub fn run<D: Desk>(alloc: Global, words: &[String], desk: &mut D) -> Status
@@ -145,8 +151,8 @@ pub fn run<D: Desk>(alloc: Global, words: &[String], desk: &mut D) -> Status
         status.Done (λ cell. IsExtractedCell cell (D.view desk.old) (D.view desk.new))) }
     ensures broken { IfSome (D.view desk.old).given (λ files. WhereExtractEnds files (asked words.now) result
         status.Rejected (λ cell. IsBrokenCell cell (D.view desk.old) (D.view desk.new))) }
-    ensures refused { IfSome (D.view desk.old).given (λ files. WhereExtractEnds files (asked words.now) result
-        status.Layout (λ cell. IsRefusedCell cell (D.view desk.old) (D.view desk.new))) }
+    ensures refused { IfSome (D.view desk.old).given (λ files. IsExtract (asked words.now) → result ≡ status.Layout
+        → IsRefusedLayout files (asked words.now) (D.view desk.old) (D.view desk.new)) }
 
     // Where neither reading nor writing failed, it ends so exactly where the cell calls for it, or memory ran out.
     ensures extracts { IfCalm (D.view desk.old) (D.view desk.new) (λ files.
@@ -154,7 +160,24 @@ pub fn run<D: Desk>(alloc: Global, words: &[String], desk: &mut D) -> Status
     ensures breaks { IfCalm (D.view desk.old) (D.view desk.new) (λ files.
         OfGdsCell files (asked words.now) BreaksRule → IsOrShort status.Rejected result) }
     ensures refuses { IfCalm (D.view desk.old) (D.view desk.new) (λ files.
-        OfGdsCell files (asked words.now) HasLayoutFault → IsOrShort status.Layout result) }
+        HasNoNetlist files (asked words.now) → IsOrShort status.Layout result) }
+
+    // What `agree` tells: that the macro agrees with the drawing of the cell; or that there is none, or how it differs;
+    // or that there is no drawing, or no netlist of it.
+    ensures agreed { IfSome (D.view desk.old).given (λ files. WhereEnds Agreeing files (asked words.now) result
+        status.Done (λ both. IsAgreedCell both (D.view desk.old) (D.view desk.new))) }
+    ensures disagreed { IfSome (D.view desk.old).given (λ files. IsAgree (asked words.now) → result ≡ status.Disagree
+        → IsDisagreed files (asked words.now) (D.view desk.old) (D.view desk.new)) }
+    ensures unextracted { IfSome (D.view desk.old).given (λ files. IsAgree (asked words.now) → result ≡ status.Layout
+        → IsWithoutNets files (asked words.now) (D.view desk.old) (D.view desk.new)) }
+
+    // Where neither reading nor writing failed, it ends so exactly where the two files call for it, or memory ran out.
+    ensures agrees { IfCalm (D.view desk.old) (D.view desk.new) (λ files.
+        OfCompared files (asked words.now) DoesAgree → IsOrShort status.Done result) }
+    ensures disagrees { IfCalm (D.view desk.old) (D.view desk.new) (λ files.
+        HasDisagreement files (asked words.now) → IsOrShort status.Disagree result) }
+    ensures unextracts { IfCalm (D.view desk.old) (D.view desk.new) (λ files.
+        HasNoNets files (asked words.now) → IsOrShort status.Layout result) }
 
     // What `bench` tells: the counts of what making each generated cell comes to. It is done, or writing failed, or
     // memory ran out.

@@ -113,6 +113,8 @@ pub room_rest : (r s : Reader) (c d : Checked) (part : List ℕ) (at : ℕ) → 
 room_rest r s c d part at within behind room =
     room_left r s c d (take at part) (length (take (length part - at) (drop at part))) behind
     (record {
+      kinds = room.kinds;
+      some = room.some;
       lines = omega (arith, room.lines, within, length-take-le at part within, length-drop at part, ap length (rest_is part at));
       lemmas = omega (arith, room.lemmas, within, length-take-le at part within, length-drop at part, ap length (rest_is part at));
     })

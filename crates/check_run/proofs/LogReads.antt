@@ -41,7 +41,14 @@ pub room_begun : (inputs : Inputs) (r : Reader) (c : Checked) → AreBegun input
 room_begun inputs r c start count few = by_kinds start.log
   where
     by_kinds : WithKinds inputs.fingers (λ k. (r ≡ begun inputs.cell.name k) × HasSeenLog c no_log) → HaveRoom r c count
-    by_kinds (k, of_k, some_k, (is, seen)) = record { lines = omega (arith, ap (λ (q : Reader). q.number) is, few); lemmas = omega (arith, few) }
+    by_kinds (k, of_k, some_k, (is, seen)) =
+        let same : r.kinds ≡ k = ap (λ (q : Reader). q.kinds) is in
+        record {
+          kinds = subst (λ (f : Fingers). AreKinds f r.kinds) (sym start.fingers) (subst (AreKinds inputs.fingers) (sym same) of_k);
+          some = subst AreSomeKinds (sym same) some_k;
+          lines = omega (arith, ap (λ (q : Reader). q.number) is, few);
+          lemmas = omega (arith, start.lemmas, few);
+        }
 
 pub behind_all : (inputs : Inputs) (bytes : List ℕ) (r s : Reader) (c d : Checked) → AreBegun inputs r c → AreBehind r c bytes s d → AreBehindAll inputs bytes s d
 behind_all inputs bytes r s c d start behind = record { log = by_kinds start.log; fingers = behind.fingers ∙ start.fingers }

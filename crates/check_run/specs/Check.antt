@@ -1,5 +1,5 @@
 -- What a check of a log comes to.
-use Rattle.std.specs.Prelude.{ℕ, ◌≡◌, ◌≢◌, ◌≤◌, List, ◌++◌, codes, length, Option, Some, None, Ok, Err}
+use Rattle.std.specs.Prelude.{ℕ, ◌≡◌, ◌≢◌, ◌≤◌, List, codes, length, Option, Some, None, Ok, Err}
 use Rattle.cell_num.specs.Fingers.{columns_of}
 use Rattle.row_model.specs.declared.column.Column.{Column}
 use Rattle.row_model.specs.Arrangement.{IsArrangement}
@@ -20,7 +20,7 @@ use Rattle.check_run.specs.declared.verdict.CheckAnswer.{CheckAnswer}
 use Rattle.check_run.specs.declared.verdict.CheckAnswer.TheVariants.{Accepted, Misread, Rejected}
 use Rattle.call_end.specs.declared.end.End.{End}
 use Rattle.call_end.specs.declared.status.Status.TheVariants as status
-use Rattle.call_end.specs.End.{says}
+use Rattle.call_end.specs.End.{reports}
 use Rattle.fault_text.specs.Faults.{fault_line, log_fault, check_fault}
 use Rattle.cell_inputs.specs.Inputs.{Inputs}
 use Rattle.cell_report.specs.Logs.{checked_text}
@@ -73,14 +73,11 @@ abbrev pub rejected_answer : Refused → Option CheckAnswer
 rejected_answer because.NoMemory = None
 rejected_answer f = Some (Rejected f)
 
-abbrev rejected : List ℕ → End
-rejected line = says status.Rejected (codes "status 7 rejected\n" ++ line)
-
 abbrev pub check_end : Inputs → CheckAnswer → End
 check_end inputs (Accepted gaps lemmas) =
-    says status.Done (codes "status 0 ok\n" ++ checked_text inputs.cell.name (columns_of inputs.fingers) gaps lemmas)
-check_end inputs (Misread f) = rejected (fault_line (codes "log") (log_fault f))
-check_end inputs (Rejected f) = rejected (fault_line (codes "log") (check_fault f))
+    reports status.Done (checked_text inputs.cell.name (columns_of inputs.fingers) gaps lemmas)
+check_end inputs (Misread f) = reports status.Rejected (fault_line (codes "log") (log_fault f))
+check_end inputs (Rejected f) = reports status.Rejected (fault_line (codes "log") (check_fault f))
 
 abbrev pub ChecksTo : Inputs → List ℕ → End → Type 0
 ChecksTo inputs bytes end = (answer : CheckAnswer) × Checks inputs bytes answer × (end ≡ check_end inputs answer)

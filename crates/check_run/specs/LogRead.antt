@@ -5,12 +5,14 @@ use Rattle.std.proofs.lemmas.List.{length-append}
 use Rattle.row_state.specs.declared.bound.TheConstants.{PARITY_LOG}
 use Rattle.row_state.specs.Versions.{value_of}
 use Rattle.row_state.specs.declared.kind.Kinds.{Kinds}
+use Rattle.row_state.specs.Start.{AreKinds, AreSomeKinds}
+use Rattle.cell_num.specs.declared.finger.Fingers.{Fingers}
 use Rattle.bound_log.specs.declared.fault.LogFault.{LogFault}
 use Rattle.bound_log.specs.declared.item.LogItem.{LogItem}
 use Rattle.bound_log.specs.declared.item.LogItem.TheVariants as item
 use Rattle.bound_log.specs.declared.log.Log.{Log}
 use Rattle.bound_log.specs.Pieces.{Reader, Tale, begun, tale_of, then_tale}
-use Rattle.bound_log.proofs.Tales.{faulted, tale_append}
+use Rattle.bound_log.proofs.Tales.{faulted, tale_append, tale_kinds}
 use Rattle.log_check.specs.Accepted.{WithKinds}
 use Rattle.log_check.specs.Items.{Checked, HasSeen, empty_log, with_columns, with_gaps, with_lemmas}
 use Rattle.cell_inputs.specs.Inputs.{Inputs}
@@ -54,8 +56,10 @@ pub record AreBehind (from : Reader) (before : Checked) (bytes : List ℕ) (to :
   pub lines : to.number ≤ from.number + length bytes
   pub lemmas : after.lemmas ≤ before.lemmas + length bytes
 
--- so many bytes more are not too many
+-- so many bytes more are not too many, for a reader by the kinds of the checker's fingers
 pub record HaveRoom (reader : Reader) (checker : Checked) (count : ℕ) : Type 0 where
+  pub kinds : AreKinds checker.fingers reader.kinds
+  pub some : AreSomeKinds reader.kinds
   pub lines : reader.number + count ≤ 1073741825
   pub lemmas : checker.lemmas + count ≤ 1073741824
 
@@ -115,4 +119,11 @@ behind_more r s t c d e x y first second =
     }
 
 pub room_left : (r s : Reader) (c d : Checked) (x : List ℕ) (count : ℕ) → AreBehind r c x s d → HaveRoom r c (length x + count) → HaveRoom s d count
-room_left r s c d x count behind room = record { lines = omega (arith, behind.lines, room.lines); lemmas = omega (arith, behind.lemmas, room.lemmas) }
+room_left r s c d x count behind room =
+    let same : s.kinds ≡ r.kinds = ap (λ (q : Reader). q.kinds) behind.reader ∙ tale_kinds r x in
+    record {
+      kinds = subst (λ (f : Fingers). AreKinds f s.kinds) (sym behind.fingers) (subst (AreKinds c.fingers) (sym same) room.kinds);
+      some = subst AreSomeKinds (sym same) room.some;
+      lines = omega (arith, behind.lines, room.lines);
+      lemmas = omega (arith, behind.lemmas, room.lemmas);
+    }

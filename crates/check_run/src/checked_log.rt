@@ -51,7 +51,7 @@ impl CheckedLog {
     {
         match self.reader.take(part) {
             Ok((used, item)) => {
-                self.checker.item(&item)?;
+                self.checker.item(item)?;
                 Ok(used)
             }
             Err(fault) => pass_over(fault, part),

@@ -5,7 +5,7 @@ ghost use Rattle.row_model.specs.Arrangement.{IsArrangement};
 ghost use Rattle.row_model.specs.Gaps.{gaps_of};
 ghost use Rattle.row_state.specs.Versions.{IsVersion, value_of};
 ghost use Rattle.bound_log.specs.declared.log.Log.{Log as LogOf};
-ghost use Rattle.bound_log.specs.Pieces.{HeadFits};
+ghost use Rattle.bound_log.specs.Pieces.{ItemFits};
 ghost use Rattle.log_check.specs.declared.refused.Refused.TheVariants as because;
 ghost use Rattle.log_check.specs.Accepted.{IsAccepted, WithKinds};
 ghost use Rattle.log_check.specs.Items.{empty_log};
@@ -71,25 +71,26 @@ impl LogChecker {
     }
 
     /// One item more.
-    pub fn item(&mut self, item: &LogItem) -> Result<(), NoMemory>
+    #[tactic(auto, using(crate::proofs::Versions::head_known, crate::proofs::Versions::lemma_valid))]
+    pub fn item(&mut self, item: LogItem) -> Result<(), NoMemory>
         requires few { self.old.lemmas < MOST_BYTES }
-        requires head { HeadFits item.now }
+        requires fits { WithKinds self.old.fingers (λ k. ItemFits k item) }
         ensures fingers { self.new.fingers ≡ self.old.fingers }
         ensures count { OnOk result (self.new.lemmas ≤ self.old.lemmas + 1) }
         ensures seen { OnOk result ((log : LogOf) →
-            HasSeenLog self.old log → HasSeenLog self.new (with_item log item.now)) }
+            HasSeenLog self.old log → HasSeenLog self.new (with_item log item)) }
     {
         match item {
             LogItem::Head { version } => {
-                self.begin(*version);
+                self.begin(version);
                 Ok(())
             }
-            LogItem::Lemma(lemma) => self.checker.lemma(lemma),
+            LogItem::Lemma(lemma) => self.checker.valid_lemma(lemma),
             LogItem::Gaps(said) => {
-                self.checker.gaps(*said);
+                self.checker.gaps(said);
                 Ok(())
             }
-            LogItem::Column(step) => self.checker.column(step),
+            LogItem::Column(step) => self.checker.column(&step),
             LogItem::More | LogItem::Open | LogItem::End => Ok(()),
         }
     }

@@ -7,7 +7,7 @@ use crate::checked_log::CheckedLog;
 use bound_log::LogFault;
 use call_end::{End, Status};
 use cell_inputs::Inputs;
-use cell_num::{Bytes, NoMemory, columns_of};
+use cell_num::{NoMemory, columns_of};
 use cell_report::put_checked;
 use fault_text::{put_log, put_refused};
 use log_check::Refused;
@@ -73,21 +73,20 @@ fn end_of(alloc: Global, inputs: &Inputs, answer: &CheckAnswer) -> Result<End, N
     ensures { IfOk result (λ end. end ≡ check_end inputs.now answer.now) }
 {
     inputs.show_limits();
-    let mut report = Bytes::new(alloc);
     match answer {
         CheckAnswer::Accepted { gaps, lemmas } => {
             let columns = columns_of(&inputs.fingers) as u64;
-            report.extend(b"status 0 ok\n")?;
+            let mut report = Status::Done.report(alloc)?;
             put_checked(&mut report, &inputs.cell.name, columns, *gaps, *lemmas)?;
             Ok(End::says(alloc, Status::Done, report))
         }
         CheckAnswer::Misread(fault) => {
-            report.extend(b"status 7 rejected\n")?;
+            let mut report = Status::Rejected.report(alloc)?;
             put_log(&mut report, fault)?;
             Ok(End::says(alloc, Status::Rejected, report))
         }
         CheckAnswer::Rejected(cause) => {
-            report.extend(b"status 7 rejected\n")?;
+            let mut report = Status::Rejected.report(alloc)?;
             put_refused(&mut report, cause)?;
             Ok(End::says(alloc, Status::Rejected, report))
         }

@@ -26,6 +26,7 @@ gds_fault (gds.Slant at) = with_one (codes "Slant") (codes "at") at
 gds_fault (gds.Grid at) = with_one (codes "Grid") (codes "at") at
 gds_fault (gds.Reference at) = with_one (codes "Reference") (codes "at") at
 gds_fault gds.NoMemory = fault_of (codes "NoMemory") []
+gds_fault (gds.Deep at) = with_one (codes "Deep") (codes "at") at
 gds_fault (gds.Wide at) = with_one (codes "Wide") (codes "at") at
 
 abbrev pub rule_fault : RuleFault → Fault

@@ -1,4 +1,5 @@
 -- What contracts of public calls cite, and what these definitions stand on.
+pub mod AbstractFaults
 pub mod Faults
 pub mod LayoutFaults
 -- What inner contracts and proofs alone cite.

@@ -60,6 +60,7 @@ pub fn put_gds(out: &mut Bytes, fault: &GdsFault) -> Result<(), NoMemory>
         GdsFault::Grid { at } => put_gds_at(out, b"Grid", *at),
         GdsFault::Reference { at } => put_gds_at(out, b"Reference", *at),
         GdsFault::NoMemory => put_fault(out, b"gds", b"NoMemory", &[]),
+        GdsFault::Deep { at } => put_gds_at(out, b"Deep", *at),
         GdsFault::Wide { at } => put_gds_at(out, b"Wide", *at),
     }
 }

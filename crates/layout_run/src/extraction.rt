@@ -1,44 +1,32 @@
 ghost use Rattle.std.specs.Prelude.{◌≡◌, ◌≢◌, ◌≤◌, IfOk, length};
-ghost use Rattle.gds_read.specs.declared.fault.GdsFault.TheVariants as gds;
 ghost use Rattle.scmos_rules.specs.Rules.{Obeys};
 ghost use Rattle.scmos_rules.specs.declared.rules.Deck.TheVariants as deck;
 ghost use Rattle.scmos_rules.specs.declared.violation.RuleFault.TheVariants as rules;
 ghost use Rattle.net_extract.specs.declared.fault.ExtractFault.TheVariants as no_netlist;
 ghost use Rattle.layout_run.specs.declared.extraction.ExtractAnswer.TheVariants as outcome;
-ghost use Rattle.layout_run.specs.Extract.{ExtractsTo, IsCellAnswer, IsDrawingAnswer, extract_end};
+ghost use Rattle.layout_run.specs.Extract.{ExtractsTo, IsDrawingAnswer, extract_end};
 
 use crate::gds_cell::GdsCell;
 use box_geom::Shapes;
 use call_end::{End, Status};
-use cell_num::{Bytes, Name, NoMemory};
-use cell_report::{netlist_text, violation_text};
-use fault_text::{put_extract, put_gds, put_rules};
-use gds_read::{GdsFault, read_cell};
-use net_extract::{ExtractFault, Netlist};
-use scmos_rules::{RuleFault, Rules, Violations, violations};
+use cell_num::{Name, NoMemory};
+use cell_report::{put_netlist, put_violations};
+use fault_text::{put_extract, put_rules};
+use net_extract::{BodyList, BodyNetlist, ExtractFault, Netlist, extract_bodies};
+use scmos_rules::{Deck, RuleFault, Rules, Violations, violations};
 use std::alloc::Global;
 
 /// What the extraction of a cell came to.
 #[derive(Drop)]
 pub enum ExtractAnswer {
-    Extracted(Netlist),
+    /// With the net of each device's body, where the deck has taps.
+    Extracted(Netlist, Option<BodyList>),
     /// The rules that the drawing breaks, one at least.
     Broken(Violations),
-    /// The file holds no drawing of the cell.
-    Unread(GdsFault),
     /// The rules were not checked.
     Unchecked(RuleFault),
     /// The drawing obeys all rules and has no netlist.
     Refused(ExtractFault),
-}
-
-fn unread(fault: GdsFault) -> Result<ExtractAnswer, NoMemory>
-    ensures { IfOk result (λ told. (fault ≢ gds.NoMemory) × (told ≡ outcome.Unread fault)) }
-{
-    match fault {
-        GdsFault::NoMemory => Err(NoMemory),
-        fault => Ok(ExtractAnswer::Unread(fault)),
-    }
 }
 
 fn unchecked(fault: RuleFault) -> Result<ExtractAnswer, NoMemory>
@@ -61,68 +49,88 @@ fn refused(fault: ExtractFault) -> Result<ExtractAnswer, NoMemory>
 
 // The netlist of a drawing that obeys all rules, or why it has none.
 #[tactic(auto, using(crate::proofs::Extracted::refused_answers))]
-fn extract_legal(alloc: Global, shapes: &Shapes) -> Result<ExtractAnswer, NoMemory>
+fn extract_plain(alloc: Global, shapes: &Shapes) -> Result<ExtractAnswer, NoMemory>
     requires small { length shapes.now.rects ≤ 10000 }
     requires obeys { Obeys deck.Plain shapes.now.rects }
-    ensures { IfOk result (IsDrawingAnswer shapes.now) }
+    ensures { IfOk result (IsDrawingAnswer deck.Plain shapes.now) }
 {
     match net_extract::extract(alloc, shapes) {
-        Ok(netlist) => Ok(ExtractAnswer::Extracted(netlist)),
+        Ok(netlist) => Ok(ExtractAnswer::Extracted(netlist, None)),
         Err(fault) => refused(fault),
     }
 }
 
-#[tactic(auto, using(crate::proofs::Extracted::unchecked_answers, crate::proofs::Extracted::none_listed, crate::proofs::Extracted::some_listed))]
-fn drawing_answer(alloc: Global, shapes: &Shapes) -> Result<ExtractAnswer, NoMemory>
-    ensures { IfOk result (IsDrawingAnswer shapes.now) }
+// The same of a drawing with taps, with the bodies of its devices.
+#[tactic(auto, using(crate::proofs::Extracted::refused_answers, crate::proofs::Extracted::bodied_answers))]
+fn extract_tapped(alloc: Global, shapes: &Shapes) -> Result<ExtractAnswer, NoMemory>
+    requires small { length shapes.now.rects ≤ 10000 }
+    requires obeys { Obeys deck.Taps shapes.now.rects }
+    ensures { IfOk result (IsDrawingAnswer deck.Taps shapes.now) }
 {
-    let found = match violations(alloc, shapes, &Rules::profile()) {
+    match extract_bodies(alloc, shapes) {
+        Ok(BodyNetlist { netlist, bodies }) => {
+            Ok(ExtractAnswer::Extracted(netlist, Some(bodies)))
+        }
+        Err(fault) => refused(fault),
+    }
+}
+
+#[tactic(auto, using(crate::proofs::Extracted::obeys_same, crate::proofs::Extracted::answers_same))]
+fn extract_legal(alloc: Global, shapes: &Shapes, rules: Deck) -> Result<ExtractAnswer, NoMemory>
+    requires small { length shapes.now.rects ≤ 10000 }
+    requires obeys { Obeys rules shapes.now.rects }
+    ensures { IfOk result (IsDrawingAnswer rules shapes.now) }
+{
+    match rules {
+        Deck::Plain => extract_plain(alloc, shapes),
+        Deck::Taps => extract_tapped(alloc, shapes),
+    }
+}
+
+fn rules_of(deck: Deck) -> Rules
+    ensures { result ≡ deck }
+{
+    match deck {
+        Deck::Plain => Rules::profile(),
+        Deck::Taps => Rules::with_taps(),
+    }
+}
+
+#[tactic(auto, using(crate::proofs::Extracted::unchecked_answers, crate::proofs::Extracted::none_listed, crate::proofs::Extracted::some_listed))]
+fn drawing_answer(alloc: Global, shapes: &Shapes, rules: Deck) -> Result<ExtractAnswer, NoMemory>
+    ensures { IfOk result (IsDrawingAnswer rules shapes.now) }
+{
+    let found = match violations(alloc, shapes, &rules_of(rules)) {
         Ok(found) => found,
         Err(fault) => return unchecked(fault),
     };
     if found.as_slice().is_empty() {
-        return extract_legal(alloc, shapes);
+        return extract_legal(alloc, shapes, rules);
     }
     Ok(ExtractAnswer::Broken(found))
-}
-
-#[tactic(auto, using(crate::proofs::Extracted::unread_answers, crate::proofs::Extracted::drawing_answers))]
-fn cell_answer(alloc: Global, cell: &GdsCell) -> Result<ExtractAnswer, NoMemory>
-    ensures { IfOk result (IsCellAnswer cell.now) }
-{
-    match read_cell(alloc, cell.bytes.as_slice(), &cell.name, cell.lambda_nm()) {
-        Ok(shapes) => drawing_answer(alloc, &shapes),
-        Err(fault) => unread(fault),
-    }
 }
 
 fn end_of(alloc: Global, name: &Name, answer: &ExtractAnswer) -> Result<End, NoMemory>
     ensures { IfOk result (λ end. end ≡ extract_end name.now answer.now) }
 {
-    let mut report = Bytes::new(alloc);
     match answer {
-        ExtractAnswer::Extracted(netlist) => {
-            report.extend(b"status 0 ok\n")?;
-            report.extend(netlist_text(alloc, name, netlist)?.as_slice())?;
+        ExtractAnswer::Extracted(netlist, bodies) => {
+            let mut report = Status::Done.report(alloc)?;
+            put_netlist(&mut report, name, netlist, bodies)?;
             Ok(End::says(alloc, Status::Done, report))
         }
         ExtractAnswer::Broken(found) => {
-            report.extend(b"status 7 rejected\n")?;
-            report.extend(violation_text(alloc, found)?.as_slice())?;
+            let mut report = Status::Rejected.report(alloc)?;
+            put_violations(&mut report, found)?;
             Ok(End::says(alloc, Status::Rejected, report))
         }
-        ExtractAnswer::Unread(fault) => {
-            report.extend(b"status 9 layout\n")?;
-            put_gds(&mut report, fault)?;
-            Ok(End::says(alloc, Status::Layout, report))
-        }
         ExtractAnswer::Unchecked(fault) => {
-            report.extend(b"status 9 layout\n")?;
+            let mut report = Status::Layout.report(alloc)?;
             put_rules(&mut report, fault)?;
             Ok(End::says(alloc, Status::Layout, report))
         }
         ExtractAnswer::Refused(fault) => {
-            report.extend(b"status 9 layout\n")?;
+            let mut report = Status::Layout.report(alloc)?;
             put_extract(&mut report, fault)?;
             Ok(End::says(alloc, Status::Layout, report))
         }
@@ -133,6 +141,6 @@ fn end_of(alloc: Global, name: &Name, answer: &ExtractAnswer) -> Result<End, NoM
 pub fn extract(alloc: Global, cell: &GdsCell) -> Result<End, NoMemory>
     ensures { IfOk result (ExtractsTo cell.now) }
 {
-    let answer = cell_answer(alloc, cell)?;
+    let answer = drawing_answer(alloc, &cell.shapes, cell.rules)?;
     end_of(alloc, &cell.name, &answer)
 }

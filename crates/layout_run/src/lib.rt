@@ -5,4 +5,4 @@ mod extraction;
 mod gds_cell;
 
 pub use extraction::{ExtractAnswer, extract};
-pub use gds_cell::GdsCell;
+pub use gds_cell::{GdsCell, read_gds_cell};

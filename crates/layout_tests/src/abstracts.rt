@@ -9,7 +9,7 @@ use std::alloc::Global;
 use std::test::Fail;
 
 // An inverter on its least lines, but for its metal2.
-const INVERTER: [(Layer, Sides); 27] = [
+pub const INVERTER: [(Layer, Sides); 27] = [
     (Layer::Well, [-10, 62, 51, 118]),
     (Layer::PSelect, [-2, 70, 43, 98]),
     (Layer::NSelect, [-2, 20, 43, 38]),
@@ -39,7 +39,7 @@ const INVERTER: [(Layer, Sides); 27] = [
     (Layer::Via, [6, 52, 10, 56]),
 ];
 
-const METAL2: [(Layer, Sides); 2] = [
+pub const METAL2: [(Layer, Sides); 2] = [
     (Layer::Metal2, [4, 36, 12, 58]),
     (Layer::Metal2, [4, 50, 12, 72]),
 ];

@@ -1,4 +1,4 @@
-ghost use Rattle.std.specs.Prelude.{◌≡◌, ◌≤◌, IfOk, length};
+ghost use Rattle.std.specs.Prelude.{◌≤◌, IfOk, length};
 ghost use Rattle.cell_num.specs.Pins.{ArePins};
 ghost use Rattle.row_place.specs.Places.{IsPlacement};
 ghost use Rattle.row_place.specs.Trunks.{HasPins};
@@ -77,7 +77,7 @@ pub fn are_labels(labels: &[Label], want: &[(&[u8], [i32; 2])]) -> bool {
         })
 }
 
-fn lines(
+pub fn lines(
     alloc: Global,
     placement: &Placement,
     routing: &Routing,

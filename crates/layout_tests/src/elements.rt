@@ -12,7 +12,7 @@ const BOUNDARY: u8 = 8;
 
 const PATH: u8 = 9;
 
-fn put_record(out: &mut Vec<u8>, code: u8, form: u8, content: &[u8]) -> Result<(), Fail> {
+pub fn put_record(out: &mut Vec<u8>, code: u8, form: u8, content: &[u8]) -> Result<(), Fail> {
     if content.len() > 65_000 {
         return Err(Fail::from("a long record"));
     }
@@ -24,7 +24,7 @@ fn put_record(out: &mut Vec<u8>, code: u8, form: u8, content: &[u8]) -> Result<(
     Ok(())
 }
 
-fn coordinates(alloc: Global, points: &[[i32; 2]]) -> Result<Vec<u8>, Fail> {
+pub fn coordinates(alloc: Global, points: &[[i32; 2]]) -> Result<Vec<u8>, Fail> {
     let mut content = Vec::new(alloc);
     for point in points {
         content.extend_from_slice(&point[0].to_be_bytes())?;

@@ -1,4 +1,4 @@
-ghost use Rattle.std.specs.Prelude.{◌≤◌, IfOk, length};
+ghost use Rattle.std.specs.Prelude.{◌≤◌, ◌<◌, IfOk, length};
 ghost use Rattle.cell_num.specs.Pins.{ArePins};
 ghost use Rattle.cell_draw.specs.Sound.{IsSoundRow};
 
@@ -16,6 +16,7 @@ pub fn inverter(alloc: Global) -> Result<Cell, NoMemory>
     ensures sound { IfOk result (λ cell. IsSoundRow cell.names cell.pins cell.row) }
     ensures pins { IfOk result (λ cell. ArePins (length cell.names) cell.pins) }
     ensures few { IfOk result (λ cell. length cell.row ≤ 32) }
+    ensures some { IfOk result (λ cell. 0 < length cell.row) }
 {
     let mut names = Names::new(alloc);
     names.push(copy(alloc, b"a")?)?;

@@ -4,6 +4,8 @@
 #[cfg(test)]
 mod abstracts;
 #[cfg(test)]
+mod agreements;
+#[cfg(test)]
 mod bases;
 #[cfg(test)]
 mod benchmarks;
@@ -30,8 +32,16 @@ mod macros;
 #[cfg(test)]
 mod nets;
 #[cfg(test)]
+mod piece_drawings;
+#[cfg(test)]
 mod pieces;
+#[cfg(test)]
+mod pin_places;
 #[cfg(test)]
 mod records;
 #[cfg(test)]
+mod references;
+#[cfg(test)]
 mod rules;
+#[cfg(test)]
+mod taps;

@@ -1,19 +1,12 @@
-ghost use Rattle.std.specs.Prelude.{◌≡◌, ◌≤◌, ◌<◌, ◌==◌, ◌||◌, true, All, IfOk, length};
-ghost use Rattle.std.specs.List.{list_any};
-ghost use Rattle.cell_num.specs.Pins.{ArePins};
+// Channels that are routed in pieces.
+
+ghost use Rattle.std.specs.Prelude.{◌≡◌, ◌≤◌, All, IfOk, length};
 ghost use Rattle.row_model.specs.Arrangement.{IsPlaced, IsColumn};
 ghost use Rattle.row_place.specs.Places.{IsPlacement};
-ghost use Rattle.row_place.specs.Trunks.{lines_of as lines_of_net, HasPins};
-ghost use Rattle.row_compact.specs.Allowed.{AreAllowed, stretches_of};
-ghost use Rattle.dogleg_route.specs.Routings.{ArePiecesLegal};
-ghost use Rattle.cell_draw.specs.Sound.{IsSoundRow};
 
-use crate::cells::{Cell, drawn};
-use crate::inverters::inverter;
-use cell_draw::{Drawing, MOST_X};
+use crate::pin_places::have_places;
 use cell_num::{Finger, MOST_COLUMNS, NetNo, NoMemory, Pins, Row};
-use dogleg_route::{Piece, PieceRouting, PieceStop, draw_pieces, piece_distances, route_pieces};
-use row_compact::{LineXs, least_lines, lines_of, x_of};
+use dogleg_route::{Piece, PieceRouting, PieceStop, route_pieces};
 use row_model::{Arrangement, Column, Placed};
 use row_place::{Placement, place};
 use std::alloc::Global;
@@ -49,51 +42,6 @@ fn both(gate: u32, p: (u32, u32), n: (u32, u32)) -> Column
         p: Some(standing(Row::P, gate, p.0, p.1)),
         n: Some(standing(Row::N, gate, n.0, n.1)),
     }
-}
-
-fn has_node(placement: &Placement, net: NetNo) -> bool
-    ensures { result ≡ list_any (λ node. node.net.0 == net.0) placement.now.nodes }
-{
-    placement
-        .nodes
-        .as_slice()
-        .iter()
-        .any(|node| node.net.0 == net.0)
-}
-
-fn has_gate(placement: &Placement, net: NetNo) -> bool
-    ensures { result ≡ list_any (λ gate. gate.net.0 == net.0) placement.now.gates }
-{
-    placement
-        .gates
-        .as_slice()
-        .iter()
-        .any(|gate| gate.net.0 == net.0)
-}
-
-fn is_named(placement: &Placement, net: NetNo) -> bool
-    ensures { result ≡ (list_any (λ node. node.net.0 == net.0) placement.now.nodes
-        || list_any (λ gate. gate.net.0 == net.0) placement.now.gates) }
-{
-    has_node(placement, net) || has_gate(placement, net)
-}
-
-fn has_place(placement: &Placement, net: NetNo) -> bool
-    ensures { result ≡ true → 0 < length (lines_of_net placement.now net) }
-{
-    is_named(placement, net)
-}
-
-fn have_places(placement: &Placement, pins: &Pins) -> bool
-    ensures { result ≡ true → HasPins placement.now pins.now }
-{
-    for number in 0..pins.pins {
-        let net = NetNo(number);
-        if !pins.is_rail(net) && !has_place(placement, net) {
-            return false;
-        }
-    }
-    true
 }
 
 fn placed(alloc: Global, columns: &[Column]) -> Result<Placement, NoMemory>
@@ -280,52 +228,5 @@ fn finds_cycles_of_pieces(rt: HostRuntime) -> Result<(), Fail> {
         is_cycle(&routed(rt.alloc(), &one, 2), &[(0, 0, 2), (1, 0, 0)]),
         "one column"
     );
-    Ok(())
-}
-
-fn lines(
-    alloc: Global,
-    placement: &Placement,
-    routing: &PieceRouting,
-    pins: &Pins,
-) -> Result<LineXs, NoMemory>
-    requires placement { IsPlacement placement.now }
-    requires routing { ArePiecesLegal placement.now pins.now routing.now }
-    ensures { IfOk result (λ xs. AreAllowed placement.now pins.now (stretches_of routing.now.pieces) xs) }
-{
-    let distances = piece_distances(alloc, placement, routing, pins)?;
-    least_lines(alloc, &distances)
-}
-
-// A cell on its least lines. A cycle gives NoMemory, which no row of the tests expects.
-fn drawn_in_pieces(alloc: Global, cell: &Cell) -> Result<Drawing, Fail>
-    requires sound { IsSoundRow cell.now.names cell.now.pins cell.now.row }
-    requires pins { ArePins (length cell.now.names) cell.now.pins }
-    requires few { length cell.now.row ≤ 32 }
-{
-    let placement = place(alloc, &cell.row)?;
-    let Ok(routing) = route_pieces(alloc, &placement, &cell.pins) else {
-        return Err(Fail::from(NoMemory));
-    };
-    let xs = lines(alloc, &placement, &routing, &cell.pins)?;
-    if x_of(xs.as_slice(), lines_of(&placement) - 1) > MOST_X {
-        return Err(Fail::from(NoMemory));
-    }
-    match draw_pieces(alloc, &cell.names, &cell.pins, &placement, &routing, &xs, 0) {
-        Ok(drawing) => Ok(drawing),
-        Err(_) => Err(Fail::from(NoMemory)),
-    }
-}
-
-// Its nets have no inner places, so it is drawn as with trunks.
-#[test]
-fn draws_the_inverter_in_pieces(rt: HostRuntime) -> Result<(), Fail> {
-    let cell = inverter(rt.alloc())?;
-    let pieces = drawn_in_pieces(rt.alloc(), &cell)?;
-    let trunks = drawn(rt.alloc(), &cell, true, 0)?;
-    let Ok(trunks) = trunks else {
-        return Err(Fail::from(NoMemory));
-    };
-    assert!(rt; pieces == trunks);
     Ok(())
 }

@@ -1,5 +1,5 @@
 -- What a plan comes to, from what the search answered.
-use Rattle.std.proofs.Common.{ℕ, ◌≡◌, ◌≤◌, List, ◌++◌, Result, IfOk, ap, codes, length, refl, ◌∙◌, arith}
+use Rattle.std.proofs.Common.{ℕ, ◌≡◌, ◌≤◌, List, ◌++◌, Result, IfOk, ap, length, refl, ◌∙◌, arith}
 use Rattle.std.proofs.lemmas.Result.{IfOk-weaker}
 use Rattle.cell_num.specs.declared.list.NoMemory.{NoMemory}
 use Rattle.row_model.specs.declared.column.Column.{Column}
@@ -20,6 +20,7 @@ use Rattle.call_end.specs.declared.status.Status.TheVariants as status
 use Rattle.call_end.specs.End.{says}
 use Rattle.make_run.specs.Plan.{PlansTo, Planned, Unfinished, planned_end, unfinished_end}
 use Rattle.cell_report.specs.Logs.{unfinished_text}
+use Rattle.call_end.specs.Status.{first_line}
 
 pub planned_to : (inputs : Inputs) (row : List Column) (log : Log) (r : Result End NoMemory) → IsFirstLeast inputs.fingers row → IsCertified inputs row log → IfOk r (λ end. end ≡ planned_end inputs.cell row) → IfOk r (PlansTo inputs)
 planned_to inputs row log r first solved is = IfOk-weaker r (λ (end : End). end ≡ planned_end inputs.cell row) (PlansTo inputs) (λ end same. (Planned row log, (first, solved), same)) is
@@ -36,7 +37,7 @@ pub spent_fits : (f : Fingers) (budget proved : ℕ) (log : Log) → WithKinds f
 spent_fits f budget proved log (k, of_k, some_k, spent) = (k, some_k, spent.searched.fits)
 
 -- the counts in front of the text of the log
-pub spent_end : (cell : Subckt) (proved count : ℕ) (log : Log) (front text report : List ℕ) (end : End) → count ≡ length log.lemmas → front ≡ codes "status 6 unfinished\n" ++ unfinished_text proved count → text ≡ log_text cell.name log → report ≡ front ++ text → end ≡ says status.Unfinished report → end ≡ unfinished_end cell proved log
+pub spent_end : (cell : Subckt) (proved count : ℕ) (log : Log) (front text report : List ℕ) (end : End) → count ≡ length log.lemmas → front ≡ first_line status.Unfinished ++ unfinished_text proved count → text ≡ log_text cell.name log → report ≡ front ++ text → end ≡ says status.Unfinished report → end ≡ unfinished_end cell proved log
 spent_end cell proved count log front text report end counted begun written joined said =
-    let begins : front ≡ codes "status 6 unfinished\n" ++ unfinished_text proved (length log.lemmas) = begun ∙ ap (λ (n : ℕ). codes "status 6 unfinished\n" ++ unfinished_text proved n) counted in
+    let begins : front ≡ first_line status.Unfinished ++ unfinished_text proved (length log.lemmas) = begun ∙ ap (λ (n : ℕ). first_line status.Unfinished ++ unfinished_text proved n) counted in
     said ∙ ap (λ (bytes : List ℕ). says status.Unfinished bytes) (joined ∙ ap (λ (behind : List ℕ). front ++ behind) written ∙ ap (λ (before : List ℕ). before ++ log_text cell.name log) begins)

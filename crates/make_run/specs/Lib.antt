@@ -1,4 +1,3 @@
 -- What contracts of public calls cite, and what these definitions stand on.
 pub mod Make
-pub mod MakeReport
 pub mod Plan

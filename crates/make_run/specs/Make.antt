@@ -12,15 +12,16 @@ use Rattle.lef_write.specs.Lef.{cell_text}
 use Rattle.spice_net.specs.declared.subckt.Subckt.{Subckt}
 use Rattle.cell_inputs.specs.declared.style.Style.{Style}
 use Rattle.cell_inputs.specs.Inputs.{Inputs, unit_nm}
-use Rattle.cell_make.specs.Making.{MakeAnswer, Made, Cyclic, Tall, Unfinished, Makes, drawing_in}
+use Rattle.cell_make.specs.Making.{MakeAnswer, Made, Cyclic, Tall, Unfinished, Makes, drawing_in, final_in}
 use Rattle.call_end.specs.declared.end.End.{End}
 use Rattle.call_end.specs.declared.end.Output.{Output}
 use Rattle.call_end.specs.declared.status.Status.{Status}
 use Rattle.call_end.specs.declared.status.Status.TheVariants as status
 use Rattle.cell_report.specs.Cycles.{ring_text}
-use Rattle.make_run.specs.MakeReport.{drawn_text, tall_text}
+use Rattle.cell_report.specs.Cells.{drawn_text, tall_text}
 use Rattle.cell_report.specs.Rows.{plan_text}
 use Rattle.cell_report.specs.Logs.{unfinished_text}
+use Rattle.call_end.specs.Status.{first_line}
 
 -- a file by its name and bytes
 abbrev pub named : Output → List ℕ × List ℕ
@@ -40,37 +41,40 @@ gds_file out bytes = (out ++ codes ".gds", bytes)
 abbrev pub lef_file : List ℕ → List ℕ → List ℕ × List ℕ
 lef_file out bytes = (out ++ codes ".lef", bytes)
 
-abbrev pub IsMadeEnd : Subckt → List ℕ → List Column → Log → Routing → Drawing → ℕ → End → Type 0
-IsMadeEnd cell out row log routing drawing unit =
+-- the library is of the final drawing, the abstract and the report of the one without taps
+abbrev pub IsMadeEnd : Subckt → List ℕ → List Column → Log → Routing → Drawing → Drawing → ℕ → End → Type 0
+IsMadeEnd cell out row log routing drawing final unit =
     IsEnd status.Done
     (log_file cell out log
-    ∷ gds_file out (written cell.name drawing.shapes unit)
+    ∷ gds_file out (written cell.name final.shapes unit)
     ∷ lef_file out (cell_text cell routing drawing unit)
     ∷ [])
-    (codes "status 0 ok\n" ++ plan_text cell.name cell.nets row
+    (first_line status.Done ++ plan_text cell.name cell.nets row
     ++ drawn_text routing.tracks drawing.width drawing.height (length log.lemmas))
 
 abbrev pub IsCycleEnd : Subckt → List ℕ → Log → Ring → End → Type 0
 IsCycleEnd cell out log ring =
-    IsEnd status.Cycle (log_file cell out log ∷ []) (codes "status 5 cycle\n" ++ ring_text cell.nets ring)
+    IsEnd status.Cycle (log_file cell out log ∷ []) (first_line status.Cycle ++ ring_text cell.nets ring)
 
 abbrev pub IsTallEnd : Subckt → List ℕ → Log → ℕ → ℕ → End → Type 0
 IsTallEnd cell out log needed given =
-    IsEnd status.TooTall (log_file cell out log ∷ []) (codes "status 11 tall\n" ++ tall_text needed given)
+    IsEnd status.TooTall (log_file cell out log ∷ []) (first_line status.TooTall ++ tall_text needed given)
 
 abbrev pub IsUnfinishedEnd : Subckt → List ℕ → ℕ → Log → End → Type 0
 IsUnfinishedEnd cell out proved log =
     IsEnd status.Unfinished (log_file cell out log ∷ [])
-    (codes "status 6 unfinished\n" ++ unfinished_text proved (length log.lemmas))
+    (first_line status.Unfinished ++ unfinished_text proved (length log.lemmas))
 
-abbrev pub IsMakeEnd : Inputs → List ℕ → MakeAnswer → End → Type 0
-IsMakeEnd inputs out (Made row log routing xs) =
-    IsMadeEnd inputs.cell out row log routing (drawing_in inputs row routing xs) (unit_nm inputs.tech)
-IsMakeEnd inputs out (Cyclic row log ring) = IsCycleEnd inputs.cell out log ring
-IsMakeEnd inputs out (Tall row log routing) =
+abbrev pub IsMakeEnd : Style → Inputs → List ℕ → MakeAnswer → End → Type 0
+IsMakeEnd style inputs out (Made row log routing xs) =
+    IsMadeEnd inputs.cell out row log routing (drawing_in inputs row routing xs)
+    (final_in style inputs row routing xs) (unit_nm inputs.tech)
+IsMakeEnd style inputs out (Cyclic row log ring) = IsCycleEnd inputs.cell out log ring
+IsMakeEnd style inputs out (Tall row log routing) =
     IsTallEnd inputs.cell out log (needed_of row routing.tracks) inputs.tech.height
-IsMakeEnd inputs out (Unfinished proved log) = IsUnfinishedEnd inputs.cell out proved log
+IsMakeEnd style inputs out (Unfinished proved log) = IsUnfinishedEnd inputs.cell out proved log
 
 -- in a style
 abbrev pub MakesTo : Style → Inputs → List ℕ → End → Type 0
-MakesTo style inputs out end = (answer : MakeAnswer) × Makes style inputs answer × IsMakeEnd inputs out answer end
+MakesTo style inputs out end =
+    (answer : MakeAnswer) × Makes style inputs answer × IsMakeEnd style inputs out answer end

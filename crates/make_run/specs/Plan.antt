@@ -1,5 +1,5 @@
 -- What a plan comes to: the first least row, or the log of an unfinished search.
-use Rattle.std.specs.Prelude.{ℕ, ◌≡◌, List, ◌++◌, codes, length}
+use Rattle.std.specs.Prelude.{ℕ, ◌≡◌, List, ◌++◌, length}
 use Rattle.row_model.specs.declared.column.Column.{Column}
 use Rattle.bound_log.specs.declared.log.Log.{Log}
 use Rattle.bound_log.specs.Text.{log_text}
@@ -7,7 +7,7 @@ use Rattle.spice_net.specs.declared.subckt.Subckt.{Subckt}
 use Rattle.row_search.specs.First.{IsFirstLeast}
 use Rattle.call_end.specs.declared.end.End.{End}
 use Rattle.call_end.specs.declared.status.Status.TheVariants as status
-use Rattle.call_end.specs.End.{says}
+use Rattle.call_end.specs.End.{reports}
 use Rattle.cell_inputs.specs.Inputs.{Inputs}
 use Rattle.cell_make.specs.Searched.{IsCertified, IsUnfinished}
 use Rattle.cell_report.specs.Rows.{plan_text}
@@ -25,12 +25,11 @@ Plans inputs (Planned row log) =
 Plans inputs (Unfinished proved log) = IsUnfinished inputs proved log
 
 abbrev pub planned_end : Subckt → List Column → End
-planned_end cell row = says status.Done (codes "status 0 ok\n" ++ plan_text cell.name cell.nets row)
+planned_end cell row = reports status.Done (plan_text cell.name cell.nets row)
 
 abbrev pub unfinished_end : Subckt → ℕ → Log → End
 unfinished_end cell proved log =
-    says status.Unfinished
-    (codes "status 6 unfinished\n" ++ unfinished_text proved (length log.lemmas) ++ log_text cell.name log)
+    reports status.Unfinished (unfinished_text proved (length log.lemmas) ++ log_text cell.name log)
 
 abbrev pub plan_end : Inputs → PlanAnswer → End
 plan_end inputs (Planned row log) = planned_end inputs.cell row

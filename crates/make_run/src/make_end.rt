@@ -1,7 +1,8 @@
-ghost use Rattle.std.specs.Prelude.{◌≡◌, ◌≤◌, [], ◌∷◌, ◌++◌, IfOk, codes, length, string_bytes};
+ghost use Rattle.std.specs.Prelude.{◌≡◌, ◌≤◌, ◌<◌, [], ◌∷◌, ◌++◌, IfOk, codes, length, string_bytes};
 ghost use Rattle.bound_log.specs.Fits.{Fits, ForSome, IsLogName};
 ghost use Rattle.bound_log.specs.Text.{log_text};
 ghost use Rattle.gds_read.specs.RoundTrip.{IsReadable};
+ghost use Rattle.cell_make.specs.Making.{final_of};
 ghost use Rattle.gds_write.specs.Written.{written};
 ghost use Rattle.lef_write.specs.Lef.{cell_text};
 ghost use Rattle.make_run.specs.Make.{IsEnd, IsMadeEnd, log_file};
@@ -9,7 +10,8 @@ ghost use Rattle.make_run.specs.Make.{IsEnd, IsMadeEnd, log_file};
 use crate::make_report::made_report;
 use crate::stem::Stem;
 use call_end::{End, Output, Status};
-use cell_draw::Drawing;
+use cell_draw::{Drawing, MOST_SHAPES};
+use cell_make::Drawn;
 use cell_num::{Bytes, NoMemory};
 use channel_route::Routing;
 use gds_write::write_cell;
@@ -58,7 +60,7 @@ fn lef_file(
 ) -> Result<Output, NoMemory>
     requires pins { cell.now.pins.pins ≤ length cell.now.nets }
     requires directions { length cell.now.directions ≡ cell.now.pins.pins }
-    requires few { length drawing.now.shapes.rects ≤ 1999 }
+    requires few { length drawing.now.shapes.rects < MOST_SHAPES }
     ensures name { IfOk result (λ file. string_bytes file.name ≡ stem.now ++ codes ".lef") }
     ensures bytes { IfOk result (λ file. file.bytes ≡ cell_text cell.now routing.now drawing.now unit_nm) }
 {
@@ -68,7 +70,7 @@ fn lef_file(
     Ok(Output { name, bytes })
 }
 
-/// The end of a drawn cell: its log, then its drawing, then its abstract.
+/// The end of a drawn cell: its log, then its drawing, with taps where there are taps, then its abstract.
 pub fn with_drawing(
     alloc: Global,
     cell: &Subckt,
@@ -76,7 +78,7 @@ pub fn with_drawing(
     row: &Arrangement,
     log: KeptLog,
     routing: &Routing,
-    drawing: &Drawing,
+    drawn: &Drawn,
     unit_nm: u32,
 ) -> Result<End, NoMemory>
     requires name { IsLogName cell.now.name }
@@ -84,14 +86,16 @@ pub fn with_drawing(
     requires columns { length row.now ≤ 64 }
     requires pins { cell.now.pins.pins ≤ length cell.now.nets }
     requires directions { length cell.now.directions ≡ cell.now.pins.pins }
-    requires shapes { length drawing.now.shapes.rects ≤ 1999 }
-    requires readable { IsReadable cell.now.name drawing.now.shapes unit_nm }
-    ensures { IfOk result (IsMadeEnd cell.now stem.now row.now log routing.now drawing.now unit_nm) }
+    requires shapes { length drawn.now.drawing.shapes.rects < MOST_SHAPES }
+    requires readable { IsReadable cell.now.name (final_of drawn.now).shapes unit_nm }
+    ensures { IfOk result (IsMadeEnd cell.now stem.now row.now log routing.now drawn.now.drawing (final_of drawn.now)
+        unit_nm) }
 {
+    let drawing = &drawn.drawing;
     let lemmas = log.count();
     let report = made_report(alloc, cell, row, routing.tracks, drawing, lemmas)?;
     let first = log_file(alloc, cell, stem, log)?;
-    let second = gds_file(alloc, cell, stem, drawing, unit_nm)?;
+    let second = gds_file(alloc, cell, stem, drawn.final_drawing(), unit_nm)?;
     let third = lef_file(alloc, cell, stem, routing, drawing, unit_nm)?;
     End::makes_three(alloc, Status::Done, first, second, third, report)
 }

@@ -72,7 +72,7 @@ fn end_of(
 ) -> Result<End, NoMemory>
     requires comes { ComesTo style inputs.now outcome }
     requires written { CanBeWritten inputs.now outcome }
-    ensures { IfOk result (IsMakeEnd inputs.now stem.now (answer_of outcome)) }
+    ensures { IfOk result (IsMakeEnd style inputs.now stem.now (answer_of outcome)) }
 {
     inputs.show_limits();
     let cell = &inputs.cell;
@@ -90,7 +90,7 @@ fn end_of(
             &placement.row,
             log,
             &routing,
-            &drawn.drawing,
+            &drawn,
             unit_nm,
         ),
         Outcome::Cyclic { log, ring, .. } => cyclic(alloc, cell, stem, log, &ring),

@@ -5,8 +5,8 @@ ghost use Rattle.make_run.specs.Plan.{PlansTo, planned_end, unfinished_end};
 use crate::make_report::spent_report;
 use call_end::{End, Status};
 use cell_make::{Inputs, Planned};
-use cell_num::{Bytes, NoMemory};
-use cell_report::plan_text;
+use cell_num::NoMemory;
+use cell_report::put_plan;
 use log_output::{Content, KeptLog, LogText};
 use row_model::Arrangement;
 use spice_net::Subckt;
@@ -16,9 +16,8 @@ fn planned(alloc: Global, cell: &Subckt, row: &Arrangement) -> Result<End, NoMem
     requires { length row.now ≤ 64 }
     ensures { IfOk result (λ end. end ≡ planned_end cell.now row.now) }
 {
-    let mut report = Bytes::new(alloc);
-    report.extend(b"status 0 ok\n")?;
-    report.extend(&plan_text(alloc, &cell.name, &cell.nets, row)?)?;
+    let mut report = Status::Done.report(alloc)?;
+    put_plan(&mut report, &cell.name, &cell.nets, row)?;
     Ok(End::says(alloc, Status::Done, report))
 }
 

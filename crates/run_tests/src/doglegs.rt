@@ -1,8 +1,9 @@
 use crate::setup::{INVERTER, run_over};
 use cell_run::Status;
+use std::alloc::Global;
 use std::test::Fail;
 
-const DOG: &str = ".SUBCKT dog y x u s t a b vdd gnd
+pub const DOG: &str = ".SUBCKT dog y x u s t a b vdd gnd
 M1 x a u vdd p W=3u L=0.6u
 M2 y a x gnd n W=1.5u L=0.6u
 M3 y b s vdd p W=3u L=0.6u
@@ -28,86 +29,97 @@ MNY y n gnd gnd n W=1.5u L=0.6u
 .ENDS
 ";
 
-// The end of the report, and the lengths of the drawing's and of the abstract's file.
+pub const MADE_DOG: &str = "tracks 4\nsize 85 166\nlemmas 1\n";
+
+// Whether a call over these files ends so, with this end of its report, a log, and a drawing and an abstract of these
+// lengths, none being 0.
+pub fn ends_so(
+    alloc: Global,
+    words: &str,
+    [tech, spice]: [&str; 2],
+    status: Status,
+    said: &str,
+    lengths: [usize; 2],
+) -> Result<bool, Fail> {
+    let (got, desk) = run_over(alloc, words, [tech, spice, ""], &[])?;
+    let length = |name| desk.file(name).map_or(0, |file| file.len());
+    Ok(
+        got == status
+            && desk.all_said().ends_with(said.as_bytes())
+            && desk.file("out.clog").is_some()
+            && [length("out.gds"), length("out.lef")] == lengths,
+    )
+}
+
+// A ring of whole nets is none of their pieces; the height that the cell needs is told as without the word.
 #[test]
-fn makes_a_cell_with_doglegs(rt: HostRuntime) -> Result<(), Fail> {
-    for (tech, spice, words, status, said, bytes, lef) in [
+fn makes_a_ring_of_nets_with_doglegs(rt: HostRuntime) -> Result<(), Fail> {
+    for (tech, words, status, said, lengths) in [
         (
             "",
-            DOG,
             "make - c.sp dog out",
             Status::Cycle,
             "status 5 cycle\ny above x at line 4\nx above y at line 0\n",
-            0,
-            0,
+            [0, 0],
         ),
         (
             "",
-            DOG,
             "make - c.sp dog out --dogleg",
             Status::Done,
-            "tracks 4\nsize 85 166\nlemmas 1\n",
-            5064,
-            2067,
+            MADE_DOG,
+            [5064, 2067],
         ),
         (
             "height = 166",
-            DOG,
             "make t.toml c.sp dog out --dogleg",
             Status::Done,
-            "tracks 4\nsize 85 166\nlemmas 1\n",
-            5064,
-            2067,
+            MADE_DOG,
+            [5064, 2067],
         ),
         (
             "height = 165",
-            DOG,
             "make t.toml c.sp dog out --dogleg",
             Status::TooTall,
             "status 11 tall\nneeded 166\ngiven 165\n",
-            0,
-            0,
+            [0, 0],
         ),
+    ] {
+        assert!(rt;
+            ends_so(rt.alloc(), words, [tech, DOG], status, said, lengths)?,
+            "{said}"
+        );
+    }
+    Ok(())
+}
+
+// A ring of pieces stays one, and cells whose nets need no dogleg are made too.
+#[test]
+fn ends_with_doglegs(rt: HostRuntime) -> Result<(), Fail> {
+    for (spice, words, status, said, lengths) in [
         (
-            "",
             CROSS,
             "make - c.sp cross out --dogleg",
             Status::Cycle,
             "status 5 cycle\nx from line 0 above y from line 0 at line 0\ny from line 0 above x from line 0 at line 4\n",
-            0,
-            0,
+            [0, 0],
         ),
         (
-            "",
             INVERTER,
             "make - c.sp inv out --dogleg",
             Status::Done,
             "column 0 gate a p y vdd 20 n y gnd 10\ntracks 1\nsize 41 118\nlemmas 0\n",
-            2122,
-            997,
+            [2122, 997],
         ),
         (
-            "",
             OR,
             "make - c.sp or2 out --dogleg",
             Status::Done,
             "tracks 2\nsize 85 154\nlemmas 6\n",
-            4028,
-            1391,
+            [4028, 1391],
         ),
     ] {
-        let (got, desk) = run_over(rt.alloc(), words, [tech, spice, ""], &[])?;
-        assert!(rt; desk.all_said().ends_with(said.as_bytes()), "{said}");
-        assert_eq!(rt; got, status, "{said}");
-        assert!(rt; desk.file("out.clog").is_some(), "{said}");
-        assert_eq!(rt;
-            desk.file("out.gds").map_or(0, |file| file.len()),
-            bytes,
-            "{said}"
-        );
-        assert_eq!(rt;
-            desk.file("out.lef").map_or(0, |file| file.len()),
-            lef,
+        assert!(rt;
+            ends_so(rt.alloc(), words, ["", spice], status, said, lengths)?,
             "{said}"
         );
     }

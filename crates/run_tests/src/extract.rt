@@ -74,7 +74,7 @@ fn put_element(out: &mut Vec<u8>, head: &[u8], points: &[[i32; 2]]) -> Result<()
 }
 
 // A rectangle by its lower left and its upper right corner.
-fn put_box(out: &mut Vec<u8>, head: &[u8], low: [i32; 2], high: [i32; 2]) -> Result<(), Fail> {
+pub fn put_box(out: &mut Vec<u8>, head: &[u8], low: [i32; 2], high: [i32; 2]) -> Result<(), Fail> {
     let corners = [low, [low[0], high[1]], high, [high[0], low[1]]];
     put_element(out, head, &corners)
 }
@@ -106,13 +106,24 @@ fn transistor(alloc: Global) -> Result<Vec<u8>, Fail> {
 
 // What is said of a GDSII file.
 pub fn says(alloc: Global, bytes: Vec<u8>, status: Status, said: &str) -> Result<bool, Fail> {
+    says_to(alloc, "extract - f.gds inv", bytes, status, said)
+}
+
+// What is said of the file `f.gds` by these words.
+pub fn says_to(
+    alloc: Global,
+    words: &str,
+    bytes: Vec<u8>,
+    status: Status,
+    said: &str,
+) -> Result<bool, Fail> {
     let mut files = FileList::new(alloc);
     files.push(File {
         name: name_of(alloc, "f.gds")?,
         bytes: List::from_vec(bytes),
     })?;
     let mut desk = MemDesk::new(alloc, files, CallList::new(alloc));
-    let got = call(alloc, "extract - f.gds inv", &mut desk)?;
+    let got = call(alloc, words, &mut desk)?;
     Ok(got == status && desk.all_said() == said.as_bytes())
 }
 

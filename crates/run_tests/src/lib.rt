@@ -10,6 +10,8 @@ mod damaged;
 #[cfg(test)]
 mod desks;
 #[cfg(test)]
+mod dogleg_cells;
+#[cfg(test)]
 mod doglegs;
 #[cfg(test)]
 mod extract;
@@ -21,6 +23,8 @@ mod make;
 mod setup;
 #[cfg(test)]
 mod sizes;
+#[cfg(test)]
+mod tapped;
 #[cfg(test)]
 mod versions;
 #[cfg(test)]

@@ -2,7 +2,7 @@ use crate::setup::{INVERTER, INVERTERS, run_over};
 use cell_run::Status;
 use std::test::Fail;
 
-const NAND: &str = ".SUBCKT nand2 a b y vdd gnd
+pub const NAND: &str = ".SUBCKT nand2 a b y vdd gnd
 M1 y a vdd vdd p W=3u L=0.6u
 M2 y b vdd vdd p W=3u L=0.6u
 M3 y a n1 gnd n W=3u L=0.6u
@@ -24,7 +24,7 @@ M4 x b t gnd n W=1.5u L=0.6u
 .ENDS
 ";
 
-const LATCH: &str = ".GLOBAL vdd
+pub const LATCH: &str = ".GLOBAL vdd
 .SUBCKT latch e d q gnd
 M1 vdd e en vdd pmos W=3u L=0.6u AD=2p PD=1u
 M2 gnd e en gnd nmos W=1.5u L=0.6u

@@ -13,6 +13,10 @@ check TECH SPICE CELL LOG
 extract TECH GDS CELL
 bench NUMBER
 make TECH SPICE CELL OUT --dogleg
+make TECH SPICE CELL OUT --taps
+make TECH SPICE CELL OUT --dogleg --taps
+extract TECH GDS CELL --taps
+agree TECH GDS LEF CELL
 ";
 
 const BENCH: &str = "status 0 ok

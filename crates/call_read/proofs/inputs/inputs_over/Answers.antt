@@ -3,7 +3,7 @@ use Rattle.cell_num.specs.Names.{lowered}
 use Rattle.call_read.specs.Inputs.{inputs_in}
 use Rattle.call_read.specs.Read.{IsRead}
 use Rattle.call_read.specs.Reading.{bytes_of, Ends}
-use Rattle.call_words.specs.Words.{CellAsked}
+use Rattle.call_words.specs.Asked.{CellAsked}
 use Rattle.call_read.specs.Sources.{SpiceFile}
 use Rattle.call_read.proofs.Desks.{came_bytes, ended_so, only_refl, refused, taken}
 use Rattle.call_read.proofs.inputs.inputs_over.Goals as goal

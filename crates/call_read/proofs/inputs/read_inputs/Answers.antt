@@ -1,7 +1,7 @@
 use Rattle.std.proofs.Common.{ℕ, List, Option, ap, subst}
 use Rattle.call_read.specs.InputFiles.{inputs_over, technology_from}
 use Rattle.call_read.specs.Reading.{MayCome}
-use Rattle.call_words.specs.Words.{CellAsked}
+use Rattle.call_words.specs.Asked.{CellAsked}
 use Rattle.call_read.proofs.Desks.{only_refl, refused, taken}
 use Rattle.call_read.proofs.inputs.read_inputs.Goals as goal
 

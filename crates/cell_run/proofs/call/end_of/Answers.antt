@@ -1,6 +1,6 @@
 use Rattle.std.proofs.Common.{Option, subst}
-use Rattle.call_gather.specs.Gather.{gathered}
-use Rattle.call_gather.specs.Kept.{MayKeep}
+use Rattle.call_work.specs.Commands.{gathered}
+use Rattle.call_work.specs.Kept.{MayKeep}
 use Rattle.call_words.specs.Words.{Form, asked}
 use Rattle.call_work.proofs.Works.{ends_refused, ends_work, reads_refused, reads_worked}
 use Rattle.cell_run.proofs.call.end_of.Goals as goal

@@ -1,5 +1,6 @@
 use Rattle.std.proofs.Common.{refl, ◌∙◌}
 use Rattle.call_words.specs.Words.{asked}
+use Rattle.cell_run.proofs.AgreeTold.{agreed_told, agrees_told, disagreed_told, disagrees_told, unextracted_told, unextracts_told}
 use Rattle.cell_run.proofs.BenchTold.{benched_told, benches_told}
 use Rattle.cell_run.proofs.ExtractTold.{breaks_told, broken_told, extracted_told, extracts_told, refused_told, refuses_told}
 use Rattle.cell_run.proofs.MakeTold.{cyclic_told, drawn_told, draws_told, meets_told, needs_told, spent_told, tall_told}
@@ -106,3 +107,21 @@ returns-clause-benched g c = benched_told (g.D.Desk.view c.args.desk.now) (g.D.D
 
 pub returns-clause-benches : goal.returns-clause-benches
 returns-clause-benches g c = benches_told (g.D.Desk.view c.args.desk.now) (g.D.Desk.view c.deliver.new.desk) (asked c.args.words.now) c.deliver.result (returns-clause-ends g c)
+
+pub returns-clause-agreed : goal.returns-clause-agreed
+returns-clause-agreed g c = agreed_told (g.D.Desk.view c.args.desk.now) (g.D.Desk.view c.deliver.new.desk) (asked c.args.words.now) c.deliver.result (g.D.Desk.view c.args.desk.now).given (returns-clause-called_for g c)
+
+pub returns-clause-disagreed : goal.returns-clause-disagreed
+returns-clause-disagreed g c = disagreed_told (g.D.Desk.view c.args.desk.now) (g.D.Desk.view c.deliver.new.desk) (asked c.args.words.now) c.deliver.result (g.D.Desk.view c.args.desk.now).given (returns-clause-called_for g c)
+
+pub returns-clause-unextracted : goal.returns-clause-unextracted
+returns-clause-unextracted g c = unextracted_told (g.D.Desk.view c.args.desk.now) (g.D.Desk.view c.deliver.new.desk) (asked c.args.words.now) c.deliver.result (g.D.Desk.view c.args.desk.now).given (returns-clause-called_for g c)
+
+pub returns-clause-agrees : goal.returns-clause-agrees
+returns-clause-agrees g c = agrees_told (g.D.Desk.view c.args.desk.now) (g.D.Desk.view c.deliver.new.desk) (asked c.args.words.now) c.deliver.result (g.D.Desk.view c.args.desk.now).given (returns-clause-completes g c)
+
+pub returns-clause-disagrees : goal.returns-clause-disagrees
+returns-clause-disagrees g c = disagrees_told (g.D.Desk.view c.args.desk.now) (g.D.Desk.view c.deliver.new.desk) (asked c.args.words.now) c.deliver.result (g.D.Desk.view c.args.desk.now).given (returns-clause-completes g c)
+
+pub returns-clause-unextracts : goal.returns-clause-unextracts
+returns-clause-unextracts g c = unextracts_told (g.D.Desk.view c.args.desk.now) (g.D.Desk.view c.deliver.new.desk) (asked c.args.words.now) c.deliver.result (g.D.Desk.view c.args.desk.now).given (returns-clause-completes g c)

@@ -1,5 +1,5 @@
-use Rattle.std.proofs.Common.{◌≡◌, replicate, rules}
-use Rattle.layout_tests.proofs.Inverter.{column, many_columns, many_widths}
+use Rattle.std.proofs.Common.{rules}
+use Rattle.layout_tests.proofs.Inverter.{many_columns, many_widths}
 use Rattle.layout_tests.proofs.bases.wide.Goals as goal
 
 pub returns-clause-columns : goal.returns-clause-columns

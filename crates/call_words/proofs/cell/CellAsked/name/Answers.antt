@@ -2,7 +2,7 @@ use Rattle.std.proofs.Common.{ℕ, ◌≡◌, IsTrue, List, ap, sym, subst, ◌�
 use Rattle.std.proofs.lemmas.Result.{IfOk-weaker}
 use Rattle.cell_num.specs.Names.{is_cell, lowered}
 use Rattle.call_words.proofs.Names.{lower_name}
-use Rattle.call_words.specs.Words.{CellAsked}
+use Rattle.call_words.specs.Asked.{CellAsked}
 use Rattle.call_words.proofs.cell.CellAsked.name.Goals as goal
 
 pub returns-clause-lower : goal.returns-clause-lower

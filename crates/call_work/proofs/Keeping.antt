@@ -1,0 +1,65 @@
+-- Steps behind which a material is kept.
+use Rattle.std.proofs.Common.{ℕ, ◌≡◌, ◌≤◌, List, length, Some, Result, Ok, Err, inl, inr, refl}
+use Rattle.cell_io.specs.Desk.{OnlyReads, View}
+use Rattle.check_run.specs.declared.checked_log.CheckedLog.{CheckedLog}
+use Rattle.call_work.specs.declared.commands.Material.{Material as Own}
+use Rattle.call_work.specs.declared.commands.Material.TheVariants as held
+use Rattle.call_read.specs.declared.refusal.Refusal.{Refusal}
+use Rattle.call_read.specs.declared.refusal.Refusal.TheVariants.{NoMemory}
+use Rattle.call_work.specs.Commands.{checking_over, gathered, Benching, Checking, Making, Material}
+use Rattle.cell_inputs.specs.declared.style.Style.{Style}
+use Rattle.cell_inputs.specs.Inputs.{Inputs}
+use Rattle.call_work.specs.Kept.{AreKept, MayKeep}
+use Rattle.check_run.specs.LogRead.{AreBegun, AreBehind}
+use Rattle.call_read.specs.Read.{IsRead}
+use Rattle.call_read.specs.Reading.{Reading, Ends, ◌>>=◌, MayCome, bytes_of}
+use Rattle.call_read.specs.Sources.{LogFile, most_bytes}
+use Rattle.call_words.specs.Words.{Bench}
+use Rattle.call_read.proofs.Desks.{IsHanded, came_bytes, only_refl, refused, taken}
+use Rattle.check_run.proofs.LogReads.{behind_all}
+
+handed_on : (e : Refusal) (own : Result Own Refusal) → IsHanded own e → AreKept (Err e) own
+handed_on e (Ok x) (is, told) = absurd told
+handed_on e (Err told) (is, same) = same
+
+-- a step that was refused
+pub keeps_refusal : {A : Type 0} (a b c : View) (first : Reading A) (next : A → Reading Material) (r : Result A Refusal) (e : Refusal) (own : Result Own Refusal) → OnlyReads b c → MayCome a b first r → r ≡ Err e → IsHanded own e → MayKeep a c (first >>= next) own
+keeps_refusal a b c first next r e own two came is told = (Err e, refused a b c first next r e (Err e) two came is (refl, refl), handed_on e own told)
+
+-- behind a step that was taken
+pub keeps_behind : {A : Type 0} (a b c : View) (first : Reading A) (next : A → Reading Material) (r : Result A Refusal) (x : A) (own : Result Own Refusal) → OnlyReads a b → OnlyReads b c → MayCome a b first r → r ≡ Ok x → MayKeep b c (next x) own → MayKeep a c (first >>= next) own
+keeps_behind a b c first next r x own one two came is (got, rest, kept) = (got, taken a b c first next r x got one two came is rest, kept)
+
+-- ---- the log of a check
+
+-- a log whose file was not read
+pub keeps_unread : (old new : View) (log : List ℕ) (inputs : Inputs) (e : Refusal) (own : Result Own Refusal) → IsRead old new (LogFile log) (Err e) → IsHanded own e → MayKeep old new (checking_over log inputs) own
+keeps_unread old new log inputs e own read told =
+    keeps_refusal old new new (bytes_of (LogFile log)) (λ (bytes : List ℕ). Ends (Ok (Checking, (inputs, bytes)))) (Err e) e own
+    (only_refl new)
+    (came_bytes old new (LogFile log) (Err e) read)
+    refl
+    told
+
+-- a log that is behind all bytes of its file
+pub keeps_read : (old new : View) (log : List ℕ) (inputs : Inputs) (before after : CheckedLog) → AreBegun inputs before.reader before.checker → OnlyReads old new → (bytes : List ℕ) × AreBehind before.reader before.checker bytes after.reader after.checker × (length bytes ≤ most_bytes (LogFile log)) × IsRead old new (LogFile log) (Ok bytes) → MayKeep old new (checking_over log inputs) (Ok (held.Checking inputs after))
+keeps_read old new log inputs before after begun only (bytes, behind, few, read) =
+    keeps_behind old new new (bytes_of (LogFile log)) (λ (b : List ℕ). Ends (Ok (Checking, (inputs, b)))) (Ok bytes) bytes (Ok (held.Checking inputs after))
+    only
+    (only_refl new)
+    (came_bytes old new (LogFile log) (Ok bytes) read)
+    refl
+    (Ok (Checking, (inputs, bytes)), inl refl, (bytes, refl, behind_all inputs bytes before.reader after.reader before.checker after.checker begun behind))
+
+-- a bench reads no file
+pub keeps_bench : (old new : View) (number : ℕ) → MayKeep old new (gathered (Some (Bench number))) (Ok (held.Benching number))
+keeps_bench old new number = (Ok (Benching, number), inl refl, refl)
+
+-- memory ran out
+pub keeps_short : (old new : View) (reading : Reading Material) (own : Result Own Refusal) → IsHanded own NoMemory → MayKeep old new reading own
+keeps_short old new reading own told = (Err NoMemory, inr refl, handed_on NoMemory own told)
+
+-- ---- words that are kept
+
+pub same_out : (inputs : Inputs) (out stem : List ℕ) (style : Style) → stem ≡ out → ◌≡◌ {A = Material} (Making, (inputs, out, style)) (Making, (inputs, stem, style))
+same_out inputs out stem style is = rw is refl

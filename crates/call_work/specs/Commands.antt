@@ -1,0 +1,111 @@
+-- The commands: what the forms of a call read, in order, what they then work on, and what the work comes to. Each definition has
+-- a line for each of them.
+use Rattle.std.specs.Prelude.{ℕ, ◌≡◌, List, [], ◌∷◌, ◌++◌, Option, Some, None, Ok, Err}
+use Rattle.agree_run.specs.Agree.{AgreesTo, comparing}
+use Rattle.agree_run.specs.declared.compared.Compared.{Compared}
+use Rattle.call_end.specs.declared.end.End.{End}
+use Rattle.call_end.specs.declared.status.Status.{Status}
+use Rattle.call_end.specs.declared.status.Status.TheVariants as status
+use Rattle.call_read.specs.InputFiles.{inputs_from, input_files, tech_files}
+use Rattle.call_read.specs.Reading.{Reading, Ends, bytes_of, ◌>>=◌}
+use Rattle.call_read.specs.Sources.{Source, LogFile, GdsFile, LefFile}
+use Rattle.call_read.specs.declared.refusal.Refusal.TheVariants.{Words}
+use Rattle.call_words.specs.Words.{Form, Plan, Make, Check, Extract, Bench, Agree}
+use Rattle.call_work.specs.Bench.{BenchesTo}
+use Rattle.call_work.specs.declared.commands.Material.{Material as Kept}
+use Rattle.call_work.specs.declared.commands.Material.TheVariants as kept
+use Rattle.cell_inputs.specs.declared.style.Style.{Style}
+use Rattle.cell_inputs.specs.Inputs.{Inputs}
+use Rattle.check_run.specs.Check.{ChecksTo}
+use Rattle.check_run.specs.LogRead.{AreBehindAll}
+use Rattle.layout_run.specs.Extract.{ExtractsTo, extracting}
+use Rattle.layout_run.specs.declared.gds_cell.GdsCell.{GdsCell}
+use Rattle.make_run.specs.Make.{MakesTo}
+use Rattle.make_run.specs.Plan.{PlansTo}
+
+-- ---- kinds: what a call works on and which statuses it ends with are told by its kind
+
+pub data Kind : Type 0 where
+  Planning : Kind
+  Making : Kind
+  Checking : Kind
+  Extracting : Kind
+  Benching : Kind
+  Agreeing : Kind
+
+abbrev pub kind_of : Form → Kind
+kind_of (Plan cell) = Planning
+kind_of (Make cell out style) = Making
+kind_of (Check cell log) = Checking
+kind_of (Extract tech gds cell rules) = Extracting
+kind_of (Bench number) = Benching
+kind_of (Agree tech gds lef cell) = Agreeing
+
+-- ---- what is read
+
+-- what a call works on: the inputs of a plan; the inputs of a drawing, what the names of its files begin with, and its style; the
+-- inputs of a check, and the bytes of its log; a cell of a GDSII file, and the deck that it is checked by; a number of generated
+-- cells; a cell and its macro
+abbrev pub MaterialOf : Kind → Type 0
+MaterialOf Planning = Inputs
+MaterialOf Making = Inputs × List ℕ × Style
+MaterialOf Checking = Inputs × List ℕ
+MaterialOf Extracting = GdsCell
+MaterialOf Benching = ℕ
+MaterialOf Agreeing = Compared
+
+abbrev pub Material : Type 0
+Material = (kind : Kind) × MaterialOf kind
+
+-- the log is read behind the inputs
+abbrev pub checking_over : List ℕ → Inputs → Reading Material
+checking_over log inputs = bytes_of (LogFile log) >>= λ bytes. Ends (Ok (Checking, (inputs, bytes)))
+
+abbrev pub gathered : Option Form → Reading Material
+gathered None = Ends (Err Words)
+gathered (Some (Plan asked)) = inputs_from asked >>= λ inputs. Ends (Ok (Planning, inputs))
+gathered (Some (Make asked out style)) = inputs_from asked >>= λ inputs. Ends (Ok (Making, (inputs, out, style)))
+gathered (Some (Check asked log)) = inputs_from asked >>= checking_over log
+gathered (Some (Extract tech gds cell rules)) = extracting tech gds cell rules >>= λ drawn. Ends (Ok (Extracting, drawn))
+gathered (Some (Bench number)) = Ends (Ok (Benching, number))
+gathered (Some (Agree tech gds lef cell)) = comparing tech gds lef cell >>= λ both. Ends (Ok (Agreeing, both))
+
+-- the files that a form comes to read, in order
+abbrev pub read_by : Option Form → List Source
+read_by None = []
+read_by (Some (Plan asked)) = input_files asked.tech asked.spice
+read_by (Some (Make asked out style)) = input_files asked.tech asked.spice
+read_by (Some (Check asked log)) = input_files asked.tech asked.spice ++ LogFile log ∷ []
+read_by (Some (Extract tech gds cell rules)) = tech_files tech ++ GdsFile gds ∷ []
+read_by (Some (Bench number)) = []
+read_by (Some (Agree tech gds lef cell)) = tech_files tech ++ GdsFile gds ∷ LefFile lef ∷ []
+
+-- how the program keeps it: in place of a log's bytes, what reading and checking them came to
+abbrev pub IsKept : Material → Kept → Type 0
+IsKept m (kept.Planning inputs) = m ≡ (Planning, inputs)
+IsKept m (kept.Making inputs stem style) = m ≡ (Making, (inputs, stem, style))
+IsKept m (kept.Checking inputs log) =
+    (bytes : List ℕ) × (m ≡ (Checking, (inputs, bytes))) × AreBehindAll inputs bytes log.reader log.checker
+IsKept m (kept.Extracting cell) = m ≡ (Extracting, cell)
+IsKept m (kept.Benching number) = m ≡ (Benching, number)
+IsKept m (kept.Agreeing both) = m ≡ (Agreeing, both)
+
+-- ---- what the work comes to
+
+abbrev pub WorksTo : (kind : Kind) → MaterialOf kind → End → Type 0
+WorksTo Planning inputs end = PlansTo inputs end
+WorksTo Making m end = MakesTo m.2 m.0 m.1 end
+WorksTo Checking m end = ChecksTo m.0 m.1 end
+WorksTo Extracting cell end = ExtractsTo cell end
+WorksTo Benching number end = BenchesTo number end
+WorksTo Agreeing both end = AgreesTo both end
+
+-- the statuses that the words or the files call for: a search alone is unfinished, a making alone meets a cycle or is too tall,
+-- a log or a layout alone is rejected, a GDSII file alone holds no netlist, and an abstract alone does not agree
+abbrev pub settled_by : Kind → List Status
+settled_by Planning = status.Done ∷ status.Input ∷ status.Unfinished ∷ []
+settled_by Making = status.Done ∷ status.Input ∷ status.Cycle ∷ status.Unfinished ∷ status.TooTall ∷ []
+settled_by Checking = status.Done ∷ status.Input ∷ status.Rejected ∷ []
+settled_by Extracting = status.Done ∷ status.Input ∷ status.Rejected ∷ status.Layout ∷ []
+settled_by Benching = status.Done ∷ []
+settled_by Agreeing = status.Done ∷ status.Input ∷ status.Layout ∷ status.Disagree ∷ []

@@ -1,0 +1,22 @@
+-- What was gathered, as the program keeps it, and the work on it.
+use Rattle.std.specs.Prelude.{◌≡◌, Result, Ok, Err}
+use Rattle.cell_io.specs.Desk.{View}
+use Rattle.call_end.specs.declared.end.End.{End}
+use Rattle.call_read.specs.Reading.{Reading, MayCome}
+use Rattle.call_read.specs.declared.refusal.Refusal.{Refusal}
+use Rattle.call_work.specs.Commands.{IsKept, Material, WorksTo}
+use Rattle.call_work.specs.declared.commands.Material.{Material as Kept}
+
+-- the material, or the refusal
+abbrev pub AreKept : Result Material Refusal → Result Kept Refusal → Type 0
+AreKept (Ok material) (Ok own) = IsKept material own
+AreKept (Err e) (Err told) = told ≡ e
+AreKept _ _ = ⊥
+
+-- a reading over a desk, seen before and after it, may come to a material that is kept so, or refuse so
+abbrev pub MayKeep : View → View → Reading Material → Result Kept Refusal → Type 0
+MayKeep old new reading own = (got : Result Material Refusal) × MayCome old new reading got × AreKept got own
+
+-- the work on each material that is kept so may come to this end
+abbrev pub WorksFor : Kept → End → Type 0
+WorksFor kept end = (m : Material) → IsKept m kept → WorksTo m.0 m.1 end

@@ -1,0 +1,175 @@
+ghost use Rattle.std.specs.Prelude.{Some, IfOk, option_map};
+ghost use Rattle.cell_io.specs.Desk.{OnlyReads};
+ghost use Rattle.call_read.specs.Read.{KeepsReads};
+ghost use Rattle.call_words.specs.Words.{Plan, Make, Check, Extract, Agree, shown};
+ghost use Rattle.call_work.specs.Commands.{checking_over, gathered};
+ghost use Rattle.call_work.specs.Kept.{MayKeep, WorksFor};
+
+use crate::bench::bench;
+use agree_run::{Compared, agree, read_compared};
+use call_end::End;
+use call_read::{Refusal, Source, read_inputs, read_to};
+use call_words::{CellAsked, CellCount, Form};
+use cell_inputs::{Inputs, Style};
+use cell_io::Desk;
+use cell_num::NoMemory;
+use check_run::{CheckedLog, check};
+use layout_run::{GdsCell, extract, read_gds_cell};
+use make_run::{Stem, make, plan};
+use scmos_rules::Deck;
+use std::alloc::Global;
+
+/// What a command works on, as it is kept in memory.
+#[derive(Drop)]
+pub enum Material {
+    Planning(Inputs),
+    /// The inputs, what the names of the files begin with, and the style.
+    Making(Inputs, Stem, Style),
+    /// The inputs, and a log behind all its bytes.
+    Checking(Inputs, CheckedLog),
+    Extracting(GdsCell),
+    Benching(CellCount),
+    Agreeing(Compared),
+}
+
+fn with_log<D: Desk>(
+    alloc: Global,
+    desk: &mut D,
+    inputs: Inputs,
+    log: &str,
+) -> Result<Material, Refusal>
+    ensures comes { MayKeep (D.view desk.old) (D.view desk.new) (checking_over log.now inputs) result }
+    ensures quiet { KeepsReads result (D.view desk.old) (D.view desk.new) }
+    ensures only { OnlyReads (D.view desk.old) (D.view desk.new) }
+{
+    let mut checked = CheckedLog::new(alloc, &inputs)?;
+    read_to(alloc, desk, Source::Log(log), &mut checked)?;
+    Ok(Material::Checking(inputs, checked))
+}
+
+fn for_plan<D: Desk>(
+    alloc: Global,
+    desk: &mut D,
+    asked: &CellAsked<'_>,
+) -> Result<Material, Refusal>
+    ensures comes { MayKeep (D.view desk.old) (D.view desk.new) (gathered (Some (Plan asked.now))) result }
+    ensures quiet { KeepsReads result (D.view desk.old) (D.view desk.new) }
+    ensures only { OnlyReads (D.view desk.old) (D.view desk.new) }
+{
+    let inputs = read_inputs(alloc, desk, asked)?;
+    Ok(Material::Planning(inputs))
+}
+
+fn for_make<D: Desk>(
+    alloc: Global,
+    desk: &mut D,
+    asked: &CellAsked<'_>,
+    out: &str,
+    style: Style,
+) -> Result<Material, Refusal>
+    ensures comes { MayKeep (D.view desk.old) (D.view desk.new) (gathered (Some (Make asked.now out.now style))) result }
+    ensures quiet { KeepsReads result (D.view desk.old) (D.view desk.new) }
+    ensures only { OnlyReads (D.view desk.old) (D.view desk.new) }
+{
+    let stem = Stem::new(alloc, out)?;
+    let inputs = read_inputs(alloc, desk, asked)?;
+    Ok(Material::Making(inputs, stem, style))
+}
+
+fn for_check<D: Desk>(
+    alloc: Global,
+    desk: &mut D,
+    asked: &CellAsked<'_>,
+    log: &str,
+) -> Result<Material, Refusal>
+    ensures comes { MayKeep (D.view desk.old) (D.view desk.new) (gathered (Some (Check asked.now log.now))) result }
+    ensures quiet { KeepsReads result (D.view desk.old) (D.view desk.new) }
+    ensures only { OnlyReads (D.view desk.old) (D.view desk.new) }
+{
+    let inputs = read_inputs(alloc, desk, asked)?;
+    with_log(alloc, desk, inputs, log)
+}
+
+fn for_extract<D: Desk>(
+    alloc: Global,
+    desk: &mut D,
+    tech: Option<&str>,
+    gds: &str,
+    cell: &str,
+    rules: Deck,
+) -> Result<Material, Refusal>
+    ensures comes { MayKeep (D.view desk.old) (D.view desk.new)
+        (gathered (Some (Extract (option_map (λ name. name.now) tech.entry) gds.now cell.now rules))) result }
+    ensures quiet { KeepsReads result (D.view desk.old) (D.view desk.new) }
+    ensures only { OnlyReads (D.view desk.old) (D.view desk.new) }
+{
+    let drawn = read_gds_cell(alloc, desk, tech, gds, cell, rules)?;
+    Ok(Material::Extracting(drawn))
+}
+
+fn for_agree<D: Desk>(
+    alloc: Global,
+    desk: &mut D,
+    tech: Option<&str>,
+    gds: &str,
+    lef: &str,
+    cell: &str,
+) -> Result<Material, Refusal>
+    ensures comes { MayKeep (D.view desk.old) (D.view desk.new)
+        (gathered (Some (Agree (option_map (λ name. name.now) tech.entry) gds.now lef.now cell.now))) result }
+    ensures quiet { KeepsReads result (D.view desk.old) (D.view desk.new) }
+    ensures only { OnlyReads (D.view desk.old) (D.view desk.new) }
+{
+    let both = read_compared(alloc, desk, tech, gds, lef, cell)?;
+    Ok(Material::Agreeing(both))
+}
+
+/// Reads what the form asks for, up to the first step that refuses.
+pub fn gather<D: Desk>(
+    alloc: Global,
+    desk: &mut D,
+    form: Option<Form<'_>>,
+) -> Result<Material, Refusal>
+    ensures comes { MayKeep (D.view desk.old) (D.view desk.new) (gathered (option_map shown form.entry)) result }
+    ensures quiet { KeepsReads result (D.view desk.old) (D.view desk.new) }
+    ensures only { OnlyReads (D.view desk.old) (D.view desk.new) }
+{
+    match form {
+        Some(Form::Plan { cell }) => for_plan(alloc, desk, &cell),
+        Some(Form::Make { cell, out, style }) => for_make(alloc, desk, &cell, out, style),
+        Some(Form::Check { cell, log }) => for_check(alloc, desk, &cell, log),
+        Some(
+            Form::Extract {
+                tech,
+                gds,
+                cell,
+                rules,
+            },
+        ) => for_extract(alloc, desk, tech, gds, cell, rules),
+        Some(Form::Bench { number }) => Ok(Material::Benching(number)),
+        Some(
+            Form::Agree {
+                tech,
+                gds,
+                lef,
+                cell,
+            },
+        ) => for_agree(alloc, desk, tech, gds, lef, cell),
+        None => Err(Refusal::Words),
+    }
+}
+
+/// Does the work of a command on what was gathered. It reads, makes and says nothing.
+#[tactic(auto, using(crate::proofs::EachCommand::plan_works, crate::proofs::EachCommand::make_works, crate::proofs::EachCommand::extract_works, crate::proofs::EachCommand::bench_works, crate::proofs::EachCommand::agree_works))]
+pub fn work(alloc: Global, material: &Material) -> Result<End, NoMemory>
+    ensures { IfOk result (WorksFor material.now) }
+{
+    match material {
+        Material::Planning(inputs) => plan(alloc, inputs),
+        Material::Making(inputs, stem, style) => make(alloc, inputs, stem, *style),
+        Material::Checking(inputs, log) => check(alloc, inputs, log),
+        Material::Extracting(cell) => extract(alloc, cell),
+        Material::Benching(number) => bench(alloc, number),
+        Material::Agreeing(both) => agree(alloc, both),
+    }
+}

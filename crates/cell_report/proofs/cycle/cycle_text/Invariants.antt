@@ -1,7 +1,0 @@
-use Rattle.std.proofs.Common.{◌≡◌, ◌++◌, drop}
-use Rattle.std.specs.List.{enumerate_from, flat_map}
-use Rattle.cell_report.specs.Cycles.{above_text, cycle_text}
-use Rattle.cell_report.proofs.cycle.cycle_text.Given as goal
-
-abbrev pub invariant-entries : goal.invariant-entries
-invariant-entries l = l.out ++ flat_map (above_text l.nets l.cycle) (enumerate_from l.at (drop l.at l.cycle)) ≡ cycle_text l.nets l.cycle

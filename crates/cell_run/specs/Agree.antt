@@ -1,0 +1,75 @@
+-- What a call of `agree` tells.
+use Rattle.std.specs.Prelude.{◌≡◌, ◌⊎◌, Option, Err}
+use Rattle.cell_io.specs.Desk.{Files, View, Both}
+use Rattle.lef_agree.specs.declared.differ.Differ.{Differ}
+use Rattle.call_end.specs.Deliver.{Says}
+use Rattle.call_read.specs.Reading.{called}
+use Rattle.call_read.specs.declared.refusal.Refusal.{Refusal}
+use Rattle.call_read.specs.declared.refusal.Refusal.TheVariants.{Gds, Lef}
+use Rattle.call_words.specs.Words.{Form}
+use Rattle.call_work.specs.Commands.{Agreeing, gathered}
+use Rattle.call_work.specs.Ends.{refusal_text}
+use Rattle.cell_run.specs.Ended.{Gathers, IsOfKind}
+use Rattle.agree_run.specs.Agree.{HasDifference, IsAgreeAnswer, IsDisagreement, IsUnextracted, agree_end}
+use Rattle.agree_run.specs.declared.agreement.AgreeAnswer.{AgreeAnswer}
+use Rattle.agree_run.specs.declared.agreement.AgreeAnswer.TheVariants.{Agreed, Differs}
+use Rattle.agree_run.specs.declared.compared.Compared.{Compared}
+
+abbrev pub IsAgree : Option Form → Type 0
+IsAgree form = IsOfKind Agreeing form
+
+-- the answer is of the drawing and the macro, and its report was said
+pub record IsToldOf (c : Compared) (answer : AgreeAnswer) (old new : View) : Type 0 where
+  pub is : IsAgreeAnswer c answer
+  pub says : Both (Says (agree_end c.cell answer).report) old.said new.said
+
+-- it was told that they agree
+abbrev pub IsAgreedCell : Compared → View → View → Type 0
+IsAgreedCell c old new = IsToldOf c Agreed old new
+
+-- such a first difference was told
+abbrev pub IsDifferingCell : (Differ → Type 0) → Compared → View → View → Type 0
+IsDifferingCell Is c old new = (d : Differ) × Is d × IsToldOf c (Differs d) old new
+
+-- The technology is there and accepted, the files are there, the GDSII file decodes to a drawing of the cell of that
+-- name, and the LEF file has a macro of it: this holds of the two.
+abbrev pub OfCompared : Files → Option Form → (Compared → Type 0) → Type 0
+OfCompared files form Is = Gathers Agreeing files form Is
+
+-- the first fault is one of the GDSII file, or of the LEF file
+abbrev pub IsGdsFault : Refusal → Type 0
+IsGdsFault (Gds f) = Unit {0}
+IsGdsFault _ = ⊥
+
+abbrev pub IsLefFault : Refusal → Type 0
+IsLefFault (Lef f) = Unit {0}
+IsLefFault _ = ⊥
+
+-- such a fault comes first
+abbrev pub IsRefusedBy : (Refusal → Type 0) → Files → Option Form → Type 0
+IsRefusedBy Is files form = (e : Refusal) × Is e × (called files (gathered form) ≡ Err e)
+
+-- it was told
+pub record IsToldFault (Is : Refusal → Type 0) (files : Files) (form : Option Form) (old new : View) : Type 0 where
+  pub fault : Refusal
+  pub of : Is fault
+  pub first : called files (gathered form) ≡ Err fault
+  pub says : Both (Says (refusal_text fault)) old.said new.said
+
+-- it was told why the two do not agree: the LEF file has no such macro, or the macro differs from the drawing
+abbrev pub IsDisagreed : Files → Option Form → View → View → Type 0
+IsDisagreed files form old new =
+    IsToldFault IsLefFault files form old new ⊎ OfCompared files form (λ c. IsDifferingCell IsDisagreement c old new)
+
+-- it was told why there are no nets to compare with: the GDSII file has no such drawing, or the drawing no netlist
+abbrev pub IsWithoutNets : Files → Option Form → View → View → Type 0
+IsWithoutNets files form old new =
+    IsToldFault IsGdsFault files form old new ⊎ OfCompared files form (λ c. IsDifferingCell IsUnextracted c old new)
+
+-- they do not agree
+abbrev pub HasDisagreement : Files → Option Form → Type 0
+HasDisagreement files form = IsRefusedBy IsLefFault files form ⊎ OfCompared files form (HasDifference IsDisagreement)
+
+-- there are no nets
+abbrev pub HasNoNets : Files → Option Form → Type 0
+HasNoNets files form = IsRefusedBy IsGdsFault files form ⊎ OfCompared files form (HasDifference IsUnextracted)

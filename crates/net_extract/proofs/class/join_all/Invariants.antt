@@ -1,8 +1,0 @@
-use Rattle.std.proofs.Common.{length}
-use Rattle.scmos_rules.specs.declared.rules.Deck.TheVariants.{Plain}
-use Rattle.net_extract.specs.Pieces.{Paired}
-use Rattle.net_extract.proofs.Classing.{AreSettled}
-use Rattle.net_extract.proofs.class.join_all.Given as goal
-
-abbrev pub invariant-loop-at : goal.invariant-loop-at
-invariant-loop-at l = AreSettled (length l.pieces) (Paired Plain l.shapes l.pieces) l.at l.parents.items

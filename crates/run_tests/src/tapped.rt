@@ -1,0 +1,119 @@
+use crate::doglegs::{DOG, MADE_DOG, ends_so};
+use crate::make::NAND;
+use crate::setup::{INVERTER, INVERTERS, run_over};
+use cell_run::Status;
+use std::test::Fail;
+
+// Twelve shapes of 64 bytes more than without the word, and the same report and abstract.
+#[test]
+fn makes_cells_with_taps(rt: HostRuntime) -> Result<(), Fail> {
+    for (tech, spice, words, said, lengths) in [
+        (
+            "",
+            INVERTER,
+            "make - c.sp inv out --taps",
+            "tracks 1\nsize 41 118\nlemmas 0\n",
+            [2890, 997],
+        ),
+        (
+            "",
+            NAND,
+            "make - c.sp nand2 out --taps",
+            "tracks 2\nsize 60 144\nlemmas 0\n",
+            [3736, 1210],
+        ),
+        (
+            "height = 130",
+            INVERTER,
+            "make t.toml c.sp inv out --taps",
+            "tracks 1\nsize 41 130\nlemmas 0\n",
+            [2890, 998],
+        ),
+        (
+            "",
+            DOG,
+            "make - c.sp dog out --dogleg --taps",
+            MADE_DOG,
+            [5832, 2067],
+        ),
+    ] {
+        assert!(rt;
+            ends_so(
+                rt.alloc(),
+                words,
+                [tech, spice],
+                Status::Done,
+                said,
+                lengths
+            )?,
+            "{said}"
+        );
+    }
+    Ok(())
+}
+
+// The search, the channel and the height do not look at taps.
+#[test]
+fn ends_as_without_taps(rt: HostRuntime) -> Result<(), Fail> {
+    for (tech, spice, words, status, said) in [
+        (
+            "height = 117",
+            INVERTER,
+            "make t.toml c.sp inv out --taps",
+            Status::TooTall,
+            "status 11 tall\nneeded 118\ngiven 117\n",
+        ),
+        (
+            "",
+            DOG,
+            "make - c.sp dog out --taps",
+            Status::Cycle,
+            "status 5 cycle\ny above x at line 4\nx above y at line 0\n",
+        ),
+        (
+            "budget = 1",
+            INVERTERS,
+            "make t.toml c.sp x3 out --taps",
+            Status::Unfinished,
+            "status 6 unfinished\nproved 1\nlemmas 1\n",
+        ),
+    ] {
+        assert!(rt;
+            ends_so(rt.alloc(), words, [tech, spice], status, said, [0, 0])?,
+            "{said}"
+        );
+    }
+    Ok(())
+}
+
+// The word asks for taps as the last word behind OUT alone, and in the place of OUT it is OUT.
+#[test]
+fn takes_taps_as_the_last_word(rt: HostRuntime) -> Result<(), Fail> {
+    let alloc = rt.alloc();
+    for words in [
+        "make - c.sp inv o --Taps",
+        "make - c.sp inv o --tap",
+        "make - c.sp inv o --taps --dogleg",
+        "make - c.sp inv o --taps --taps",
+        "make - c.sp inv o --dogleg --taps --taps",
+        "make --taps - c.sp inv o",
+        "plan - c.sp inv --taps",
+    ] {
+        let (got, desk) = run_over(alloc, words, ["", INVERTER, ""], &[])?;
+        assert_eq!(rt; got, Status::Usage, "{words}");
+        assert!(rt; desk.file("o.clog").is_none(), "{words}");
+    }
+    for (words, name, len) in [
+        ("make - c.sp inv --taps", "--taps.gds", 2122),
+        ("make - c.sp inv --dogleg --taps", "--dogleg.gds", 2890),
+    ] {
+        let (got, desk) = run_over(alloc, words, ["", INVERTER, ""], &[])?;
+        assert_eq!(rt; got, Status::Done, "{words}");
+        assert_eq!(rt;
+            desk.file(name).map_or(0, |file| file.len()),
+            len,
+            "{words}"
+        );
+    }
+    Ok(())
+}
