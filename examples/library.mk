@@ -1,5 +1,5 @@
 # One rule a cell: `make -f library.mk -j` in the folder that make-library made ready makes all cells on all processors,
-# `make -f library.mk .made/7` the seventh cell of the list alone. TECH, SPICE and PROGRAM come from the environment.
+# `make -f library.mk .made/7` the seventh cell of the list alone. TECH, SPICE, PROGRAM and WORDS come from the environment.
 COUNT := $(shell wc -l < cells)
 
 all: $(addprefix .made/,$(shell seq $(COUNT)))
@@ -10,9 +10,9 @@ all: $(addprefix .made/,$(shell seq $(COUNT)))
 	@name=$$(sed -n '$*p' cells); \
 	rm -f "$$name.gds" "$$name.lef" "$$name.clog"; \
 	began=$$(date +%s.%N); \
-	"$$PROGRAM" make "$$TECH" "$$SPICE" "$$name" "$$name" > "$$name.txt"; status=$$?; word=-; \
+	"$$PROGRAM" make "$$TECH" "$$SPICE" "$$name" "$$name" $$WORDS > "$$name.txt"; status=$$?; word=-; \
 	if [ $$status -eq 5 ]; then \
-		"$$PROGRAM" make "$$TECH" "$$SPICE" "$$name" "$$name" --dogleg > "$$name.txt"; status=$$?; word=--dogleg; \
+		"$$PROGRAM" make "$$TECH" "$$SPICE" "$$name" "$$name" --dogleg $$WORDS > "$$name.txt"; status=$$?; word=--dogleg; \
 	fi; \
 	seconds=$$(echo "$$began $$(date +%s.%N)" | awk '{ printf "%.2f", $$2 - $$1 }'); \
 	awk -v name="$$name" -v status=$$status -v seconds=$$seconds -v word=$$word -f "$(TOP)/row.awk" "$$name.txt" > .made/$*.new; \

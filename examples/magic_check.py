@@ -1,11 +1,13 @@
 #!/usr/bin/env python3
 """Checks made cells by Magic and netgen (Debian's packages magic and netgen-lvs), with the technology file docs/cellgen.tech:
 
-    examples/magic_check.py SPICE FOLDER
+    examples/magic_check.py [--taps] SPICE FOLDER
 
 For each FOLDER/NAME.gds whose cell is a subcircuit of SPICE, Magic reads the drawing and the abstract FOLDER/NAME.lef, has to
 find nothing to complain of, and extracts the drawing; netgen compares the netlist with the subcircuit, widths and lengths
-included. The technology has a lambda of 300 nm. It prints a line a cell and ends with 1 where one differs.
+included. The technology has a lambda of 300 nm. With --taps the cells have taps: besides, Magic's own technology for these
+rules (SCN3ME_SUBM.30, of Debian's package qflow-tech-osu050) has to find each transistor's body on its rail, by wells and
+taps. It prints a line a cell and ends with 1 where one differs.
 """
 import pathlib
 import re
@@ -33,11 +35,29 @@ ext2spice -o drawn.spice
 quit -noprompt
 """
 
+BODIES = """
+path sys +/usr/share/qflow/tech/osu050
+tech load SCN3ME_SUBM.30
+scalegrid 1 4
+cif istyle "lambda=0.30(p)"
+drc off
+gds read {name}.gds
+load {name}
+select top cell
+port makeall
+extract no all
+extract all
+ext2spice lvs
+ext2spice subcircuit top on
+ext2spice -o bodies.spice
+quit -noprompt
+"""
+
 # Drain and source can be exchanged, fingers in parallel are one transistor, and areas of diffusion are not compared.
 SETUP = """
 foreach circuit {-circuit1 -circuit2} {
-    foreach kind {n p} {
-        permute "$circuit $kind" drain source
+    foreach kind {n p nfet pfet} {
+        if {[catch {permute "$circuit $kind" drain source}]} { continue }
         property "$circuit $kind" remove as ad ps pd
         property "$circuit $kind" tolerance {w 0.001} {l 0.001}
         property "$circuit $kind" parallel enable
@@ -89,7 +109,27 @@ def complaint(script, room):
     return next((f"Magic says: {line}" for line in said.splitlines() if not QUIET.match(line)), "")
 
 
-def check(lines, name, made):
+def difference(drawn, wanted, name, room):
+    """What netgen finds of two netlists: nothing where they are the same."""
+    said = run(["netgen-lvs", "-batch", "lvs", f"{drawn} {name}", f"{wanted} {name}", "setup.tcl", "compared"], room)
+    well = "Circuits match uniquely." in said and "Property errors were found" not in said
+    told = re.findall("Result: .*|Property errors were found.*", said) or [said[-200:]]
+    return "" if well else f"netgen says: {told[-1]}"
+
+
+def body_difference(lines, name, room):
+    """The same of the netlist with the bodies that Magic finds by wells and taps."""
+    (room / "read.tcl").write_text(BODIES.format(name=name))
+    said = run(["magic", "-dnull", "-noconsole", "-rcfile", "/dev/null", "read.tcl"], room, stdin=subprocess.DEVNULL)
+    if not (room / "bodies.spice").exists():
+        return f"Magic says: {said.strip().splitlines()[-1:]}"
+    models = [re.sub(r"^(m\S*(?: \S+){4}) ([np])", r"\1 \2fet", line) for line in lines]
+    (room / "with_bodies.spice").write_text("\n".join([*models, ".ends", ""]))
+    told = difference("bodies.spice", "with_bodies.spice", name, room)
+    return told and f"with bodies, {told}"
+
+
+def check(lines, name, made, has_taps):
     """What is to be said of a made cell: nothing where it is the same."""
     with tempfile.TemporaryDirectory() as folder:
         room = pathlib.Path(folder)
@@ -101,20 +141,20 @@ def check(lines, name, made):
         loud = complaint(ABSTRACT.format(name=name), room) or complaint(DRAWING.format(name=name, ports=ports), room)
         if loud:
             return loud
-        pair = [f"drawn.spice {name}", f"wanted.spice {name}"]
-        said = run(["netgen-lvs", "-batch", "lvs", *pair, "setup.tcl", "compared"], room)
-        well = "Circuits match uniquely." in said and "Property errors were found" not in said
-        told = re.findall("Result: .*|Property errors were found.*", said) or [said[-200:]]
-        return "" if well else f"netgen says: {told[-1]}"
+        told = difference("drawn.spice", "wanted.spice", name, room)
+        return told or (body_difference(lines, name, room) if has_taps else "")
 
 
 def main():
-    if len(sys.argv) != 3:
+    words = sys.argv[1:]
+    has_taps = words[:1] == ["--taps"]
+    if len(words) != 2 + has_taps:
         sys.exit(__doc__)
-    known, bad = subcircuits(pathlib.Path(sys.argv[1]).read_text(encoding="latin-1")), 0
-    for file in sorted(pathlib.Path(sys.argv[2]).glob("*.gds")):
+    spice, folder = map(pathlib.Path, words[-2:])
+    known, bad = subcircuits(spice.read_text(encoding="latin-1")), 0
+    for file in sorted(folder.glob("*.gds")):
         if file.stem in known:
-            wrong = check(known[file.stem], file.stem, file.parent)
+            wrong = check(known[file.stem], file.stem, file.parent, has_taps)
             bad += bool(wrong)
             print(f"{file.stem}: {wrong or 'the same'}", flush=True)
     sys.exit(1 if bad else 0)

@@ -1,0 +1,103 @@
+"""A library of made cells for a flow: all of one height, with pads on the routing grid, a filler, and views."""
+from __future__ import annotations
+
+import shutil
+from dataclasses import dataclass, replace
+from pathlib import Path
+
+import gdsii
+import lef
+import project
+import spice
+import technology
+import tools
+from gdsii import Structure
+from lef import Macro
+from technology import Technology
+from tools import Failed
+
+LAMBDA = 300
+
+
+@dataclass
+class Library:
+    """The folder of a library, and how it is made. Lengths are in grid units."""
+    folder: Path
+    spice: Path
+    given: Path
+    room: int
+    grid: tuple[int, int]
+    jobs: int
+    has_taps: bool
+    tech: Technology = Technology()
+
+    @property
+    def height(self) -> Path:
+        """The technology file with the height of all cells."""
+        return self.folder / "cells" / "height.toml"
+
+    @property
+    def pads(self) -> Path:
+        return self.folder / "pads"
+
+    @property
+    def views(self) -> Path:
+        return self.folder / "views" / project.NAME
+
+    def taps(self) -> list[str]:
+        return ["--taps"] if self.has_taps else []
+
+    def make(self) -> str:
+        """Every subcircuit of the SPICE file as a cell, all of one height."""
+        self.folder.mkdir(parents=True, exist_ok=True)
+        told = tools.script("make-library", ["--one-height", *self.taps(), "--room", self.room, "--grid", self.grid[1],
+                                             self.given, self.spice, self.folder / "cells", f"-j{self.jobs}"],
+                            self.folder / "cells.log")
+        self.tech = technology.read(self.height)
+        if self.tech.lambda_nm != LAMBDA:
+            raise Failed(f"lambda is {self.tech.lambda_nm} nm; Magic's technologies here are those of {LAMBDA} nm")
+        return f"{told}, {self.tech.height} units high"
+
+    def add_pads(self) -> str:
+        """Pads on the routing grid for all made cells, and the filler."""
+        made, done = self.folder / "cells", self.pads / "done"
+        paths = sorted(made.glob("*.gds"))
+        if not done.exists() or any(path.stat().st_mtime > done.stat().st_mtime for path in paths):
+            shutil.rmtree(self.pads, ignore_errors=True)
+            self.pads.mkdir()
+            tools.script("filler", [self.height, self.pads / "fill", "--width", self.grid[0], *self.taps()],
+                         self.folder / "filler.log")
+            tools.script("pin-pads", [self.height, made, self.pads, "--grid", *self.grid, "--jobs", self.jobs,
+                                      *self.taps()], self.folder / "pads.log")
+            done.touch()
+        pins = sum(len(macro.signals) for macro in self.macros())
+        return f"{pins} pins of {len(paths)} cells, each cell with its old netlist and no broken rule; a filler"
+
+    def write_views(self) -> str:
+        """Liberty, Verilog, SPICE and LEF of the cells with pads."""
+        self.views.parent.mkdir(parents=True, exist_ok=True)
+        told = tools.script("liberty", [self.height, self.spice, self.pads, self.views], self.views.with_suffix(".log"))
+        head = self.views.with_name("tech.lef")
+        tools.script("tech-lef", [self.height, "--grid", *self.grid], head)
+        text = lef.text(self.macros(), self.tech.unit_um, head=head.read_text().replace("END LIBRARY\n", ""))
+        self.views.with_suffix(".lef").write_text(text)
+        return told
+
+    def macros(self) -> list[Macro]:
+        return [macro for path in sorted(self.pads.glob("*.lef")) for macro in lef.read(path, self.tech.unit_um)]
+
+    def structures(self) -> dict[str, Structure]:
+        """The drawings of the cells with pads."""
+        return {name: cell for path in sorted(self.pads.glob("*.gds")) for name, cell in gdsii.read(path).items()}
+
+    def transistors(self) -> dict[str, int]:
+        return {cell.name: len(cell.transistors) for cell in spice.read(self.views.with_suffix(".sp"))}
+
+    def subcircuits(self) -> str:
+        """The cells as SPICE, with the names of models that a drawing's netlist has."""
+        models = {**dict.fromkeys(self.tech.p_models, "p"), **dict.fromkeys(self.tech.n_models, "n")}
+        end = "fet" if self.has_taps else ""
+        cells = spice.read(self.views.with_suffix(".sp"))
+        for cell in cells:
+            cell.transistors = [replace(t, model=models[t.model] + end) for t in cell.transistors]
+        return "".join(map(spice.text, cells))

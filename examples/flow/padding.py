@@ -1,0 +1,210 @@
+"""Landing pads: leads each signal pin of a made cell to a pad of metal1 on a routing grid, by metal1, vias and metal2.
+
+Lengths are in grid units. The rules are those of docs/MANUAL.md, The layout; what comes out is to be checked by
+`extract`.
+"""
+from __future__ import annotations
+
+from collections.abc import Iterable, Iterator
+from dataclasses import replace
+from typing import NamedTuple
+
+from gdsii import LAYERS, Box, Structure
+from leads import CUT, METAL1, METAL2, NEAR, PAD, WIRE, Lead, Maps, cheapest, lead_of, unturned
+from lef import Macro, Pin
+from plane import Plane, cells, nearer
+
+NAMES = ("metal1", "metal2")
+SPACING = (6, 8)            # 7.2, 9.2
+CUT_SPACING, CUT_TO_EDGE = 6, 4     # 8.2; 8.4 and 8.5
+BORDER = 4                  # metal of a pad's wires to the cell's side edges: half of 9.2, so that any two cells abut
+RAIL = 16
+MOST_COLUMNS = 5            # of the grid, by which a cell is made wider for its pads
+
+
+class Grid(NamedTuple):
+    """Vias of the router stand at x = pitch_x / 2 + i * pitch_x, and so do y."""
+    pitch_x: int
+    pitch_y: int
+
+    def points(self, width: int, height: int) -> Iterator[tuple[int, int]]:
+        for x in range(self.pitch_x // 2, width, self.pitch_x):
+            for y in range(self.pitch_y // 2, height, self.pitch_y):
+                yield x, y
+
+
+class Piece(NamedTuple):
+    """A rectangle of metal1 or metal2, and its net: a number that stands for nothing else."""
+    metal: int
+    box: Box
+    net: int
+
+
+class NoPlace(Exception):
+    """No pad can be had for a pin."""
+
+    def __init__(self, pin: str, places: int) -> None:
+        super().__init__(f"no landing pad for pin {pin}: {places} places where one could stand")
+        self.pin = pin
+
+
+def pieces_of(structure: Structure) -> list[Piece]:
+    """All metal with its nets: what touches, or has a via in common, is one net. Poly and diffusion play no part."""
+    metals = [(metal, box) for metal in (METAL1, METAL2) for box in structure.on(NAMES[metal])]
+    parent = list(range(len(metals)))
+
+    def root(at: int) -> int:
+        while parent[at] != at:
+            at = parent[at]
+        return at
+
+    for at, (metal, box) in enumerate(metals):
+        for before, (other, near) in enumerate(metals[:at]):
+            if metal == other and box.touches(near):
+                parent[root(at)] = root(before)
+    for via in structure.on("via"):
+        joined = [at for at, (_, box) in enumerate(metals) if box.overlaps(via)]
+        for at in joined[1:]:
+            parent[root(at)] = root(joined[0])
+    return [Piece(metal, box, root(at)) for at, (metal, box) in enumerate(metals)]
+
+
+class Padder:
+    """One cell while it gets its pads."""
+
+    def __init__(self, structure: Structure, macro: Macro, grid: Grid, reach: int) -> None:
+        self.structure, self.macro, self.grid, self.reach = structure, macro, grid, reach
+        self.width, self.height = macro.width, macro.height
+        self.pieces = pieces_of(structure)
+        self.fixed = [box for layer in ("poly", "active", "contact") for box in structure.on(layer)]
+        self.vias = structure.on("via")
+        self.leads: dict[str, Lead] = {}
+
+    def net_of(self, pin: Pin) -> int:
+        return next(p.net for p in self.pieces if (NAMES[p.metal], p.box) == pin.port[0])
+
+    def near(self, boxes: Iterable[Box], distance: int) -> Plane:
+        return nearer(self.width, self.height, boxes, distance)
+
+    def metal(self, metal: int, net: int, is_own: bool) -> list[Box]:
+        return [p.box for p in self.pieces if p.metal == metal and (p.net == net) == is_own]
+
+    def no_via(self) -> Plane:
+        """Where the centre of a via is too near to poly, active, a contact or another via."""
+        return self.near(self.fixed, CUT + CUT_TO_EDGE) | self.near(self.vias, CUT + CUT_SPACING)
+
+    def no_pad(self, net: int) -> Plane:
+        """Where a via of this net would be too near to something."""
+        pads = self.no_via()
+        for metal in (METAL1, METAL2):
+            pads = pads | self.near(self.metal(metal, net, False), SPACING[metal] + PAD)
+        return pads
+
+    def places(self, net: int) -> list[tuple[int, int]]:
+        """The points of the grid where a pad of this net may stand: a via has room, and a way out on metal2."""
+        shut = self.no_pad(net) | self.near(self.metal(METAL2, net, True), SPACING[METAL2] + PAD)
+        column = self.near([p.box for p in self.pieces if p.metal == METAL2], SPACING[METAL2] + WIRE)
+        points = self.grid.points(self.width, self.height)
+        return [at for at in points if not shut.has(*at) and self.is_open(column, *at)]
+
+    def maps(self, net: int) -> Maps:
+        inside = Plane(self.width, self.height)
+        inside.add(BORDER + PAD, RAIL + PAD, self.width - BORDER - PAD, self.height - RAIL - PAD)
+        all_of_it = Plane(self.width, self.height)
+        all_of_it.add(0, 0, self.width, self.height)
+        outside = all_of_it - inside
+        step = bytearray()
+        for metal in (METAL1, METAL2):
+            blocked = self.near(self.metal(metal, net, False), SPACING[metal] + WIRE) | outside
+            beside = self.near(self.metal(metal, net, True), SPACING[metal] + WIRE)
+            step += bytes(0 if b else NEAR if n else 1 for b, n in zip(blocked.bytes(), beside.bytes()))
+        free, landing = self.places(net), Plane(self.width, self.height)
+        for x, y in self.apart(free):
+            landing.add(x, y, x, y)
+        return Maps(step, (self.no_pad(net) | outside).bytes(), landing.bytes(), len(free))
+
+    def apart(self, places: list[tuple[int, int]]) -> list[tuple[int, int]]:
+        """Those in columns of the grid that have no pad yet: pads of one column are in each other's way on metal2."""
+        taken = {lead.pad.x0 + PAD for lead in self.leads.values()}
+        return [(x, y) for x, y in places if x not in taken]
+
+    def is_open(self, column: Plane, x: int, y: int) -> bool:
+        """Whether the router gets away from a pad on metal2, up or down."""
+        for way in (1, -1):
+            ys = range(y, y + way * (self.reach + 1), way)
+            if 0 <= ys[-1] <= self.height and not any(column.has(x, at) for at in ys):
+                return True
+        return False
+
+    def lead(self, pin: Pin) -> Lead:
+        """Finds the cheapest lead from a pin's net to a place for a pad, and takes it down."""
+        net = self.net_of(pin)
+        maps = self.maps(net)
+        width = self.width + 1
+        plane = width * (self.height + 1)
+        starts = [metal * plane + y * width + x for metal in (METAL1, METAL2)
+                  for box in self.metal(metal, net, True)
+                  for y in range(box.y0 + WIRE, box.y1 - WIRE + 1) for x in range(box.x0 + WIRE, box.x1 - WIRE + 1)]
+        path = cheapest(starts, maps, width, plane)
+        if not path:
+            raise NoPlace(pin.name, maps.places)
+        nodes = [(at // plane, at % plane % width, at % plane // width) for at in unturned(path)]
+        lead = lead_of(nodes)
+        self.fill_clefts(net, lead)
+        self.pieces += [Piece(metal, box, net) for metal, box in lead.metal]
+        self.vias = self.vias + lead.vias
+        self.leads[pin.name] = lead
+        return lead
+
+    def fill_clefts(self, net: int, lead: Lead) -> None:
+        """Fills what is too narrow between metal of one net (7.2 and 9.2 hold there too)."""
+        for metal in (METAL1, METAL2):
+            boxes = self.metal(metal, net, True) + [box for at, box in lead.metal if at == metal]
+            drawn = cells(self.width, self.height, boxes)
+            lead.metal += [(metal, box) for box in (drawn.closed(SPACING[metal]) - drawn).rectangles()]
+
+
+def widened(structure: Structure, macro: Macro, width: int) -> tuple[Structure, Macro]:
+    """The cell with rails, well and selects led on to a greater width."""
+    old = macro.width
+    more = width - old
+
+    def longer(layer: int, box: Box) -> Box:
+        is_rail = layer == LAYERS["metal1"] and box.x0 == 0 and box.x1 == old
+        is_band = layer in (LAYERS["well"], LAYERS["pselect"], LAYERS["nselect"]) and box.x0 < 0
+        return box._replace(x1=box.x1 + more) if is_rail or is_band else box
+
+    wide = Structure(structure.name, [(layer, longer(layer, box)) for layer, box in structure.boxes], structure.labels)
+    pins = [replace(pin, port=[(layer, longer(LAYERS[layer], box)) for layer, box in pin.port]) for pin in macro.pins]
+    return wide, Macro(macro.name, width, macro.height, pins, macro.obstructions)
+
+
+def has_columns(padder: Padder) -> bool:
+    """Whether there are as many columns of the grid with places as there are pins."""
+    columns = set()
+    for pin in padder.macro.signals:
+        columns |= {x for x, _ in padder.places(padder.net_of(pin))}
+    return len(columns) >= len(padder.macro.signals)
+
+
+def padded(structure: Structure, macro: Macro, grid: Grid, reach: int) -> Padder:
+    """The cell with a pad for each signal pin, on as few columns of the grid as can be had: a pin that finds no place
+    comes first at the next try, and where an order of the pins comes again the cell is one column wider."""
+    least = -(-macro.width // grid.pitch_x)
+    fault: NoPlace | None = None
+    for more in range(MOST_COLUMNS + 1):
+        wide = widened(structure, macro, (least + more) * grid.pitch_x)
+        order = sorted(macro.signals, key=lambda pin: pin.port[0][1].x1 - pin.port[0][1].x0)
+        tried: list[list[Pin]] = []
+        is_wide = more == MOST_COLUMNS or has_columns(Padder(*wide, grid, reach))
+        while is_wide and order not in tried:
+            tried.append(order)
+            padder = Padder(*wide, grid, reach)
+            try:
+                for pin in order:
+                    padder.lead(pin)
+                return padder
+            except NoPlace as found:
+                fault = found
+            order = sorted(order, key=lambda pin: pin.name != fault.pin)
+    raise fault
