@@ -48,7 +48,7 @@ def lost_in(call, definition, edit):
             if label not in clauses.get(name, ()):
                 yield f"{path}: {name} {label}"
     for path, name in DEFINITION.findall(definition):
-        if not re.search(DEFINED % name, text_of(path)):
+        if not os.path.isfile(os.path.join(TOP, "crates", path)) or not re.search(DEFINED % name, text_of(path)):
             yield f"{path}: {name}"
     for path in re.findall(r"`([^`]+)`", edit):
         if not os.path.isfile(os.path.join(TOP, "crates", path)):

@@ -1,7 +1,0 @@
-use Rattle.std.proofs.Common.{arith}
-use Rattle.std.proofs.lemmas.Grind.{common_steps}
-use Rattle.std.proofs.lemmas.Int.{to_z-of_z}
-use Rattle.cell_report.proofs.violations.put_place.Goals as goal
-
-pub returns : goal.returns
-returns c = grind (arith, common_steps, to_z-of_z)
