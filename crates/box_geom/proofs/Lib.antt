@@ -1,4 +1,3 @@
-pub mod BareCells
 pub mod Covering
 pub mod Events
 pub mod Facing

@@ -2,7 +2,6 @@
 #![tactic(auto)]
 
 mod bands;
-pub mod bare;
 pub mod block;
 pub mod cuts;
 pub mod layer;
@@ -17,7 +16,6 @@ mod standing;
 mod sweep;
 pub mod touching;
 
-pub use bare::first_bare;
 pub use block::Block;
 use cell_num::List;
 pub use cuts::Cuts;

@@ -1,4 +1,4 @@
--- Pins, ports and metal as they are looked up in the nets of a drawing; want of memory may come in place of each answer.
+-- Pins, ports and metal as they are looked up in the nets of a drawing; each answer may be want of memory instead.
 use Rattle.std.specs.Prelude.{◌≡◌, ◌<◌, ◌==◌, ◌||◌, ◌&&◌, int_le, int_lt, if◌then◌else◌, ℕ, ℤ, Bool, List, [], get_or, length, map, Option, Some, None, is_some, not}
 use Rattle.std.specs.List.{All}
 use Rattle.box_geom.specs.Layers.{same_layer}

@@ -9,7 +9,8 @@ ghost use Rattle.lef_agree.specs.Lookups.{is_alike, Fits, HasBlock, IsAstray, Is
 
 use crate::differ::Differ;
 use crate::port::Claim;
-use box_geom::{Block, Layer, Place, first_bare};
+use bare_cells::first_bare;
+use box_geom::{Block, Layer, Place};
 use cell_num::{NoMemory, copy};
 use net_extract::NetMap;
 use std::alloc::{AllocError, Global};

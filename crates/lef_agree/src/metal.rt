@@ -10,7 +10,8 @@ ghost use Rattle.lef_agree.specs.Lookups.{bare_as, comes_before, earlier_of, Has
 
 use crate::block::block_of;
 use crate::differ::Differ;
-use box_geom::{Block, Layer, Place, Shape, Shapes, first_bare};
+use bare_cells::first_bare;
+use box_geom::{Block, Layer, Place, Shape, Shapes};
 use cell_num::NoMemory;
 use lef_read::{LefPin, LefRect, Macro};
 use std::alloc::{AllocError, Global};
@@ -44,7 +45,8 @@ fn add_shown(blocks: &mut Vec<Block>, layer: Layer, rects: &[LefRect]) -> Result
 }
 
 fn add_ports(blocks: &mut Vec<Block>, layer: Layer, pins: &[LefPin]) -> Result<(), AllocError>
-    ensures { OnOk result (blocks.new.items ≡ blocks.old.items ++ flat_map (λ (p : LefPinOf). on_layer layer p.ports) pins.now) }
+    ensures { OnOk result (blocks.new.items
+        ≡ blocks.old.items ++ flat_map (λ (p : LefPinOf). on_layer layer p.ports) pins.now) }
 {
     for pin in pins {
         add_shown(blocks, layer, pin.ports.as_slice())?;

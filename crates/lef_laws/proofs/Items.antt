@@ -1,13 +1,12 @@
 -- What the items of a macro come to, from the last one to the first.
-use Rattle.std.proofs.Common.{ℕ, ◌≡◌, true, List, [], ◌∷◌, Option, Some, None, Ok, filter_map, refl, ap}
+use Rattle.std.proofs.Common.{ℕ, ◌≡◌, true, List, [], ◌∷◌, Some, None, Ok, filter_map, refl, ap}
 use Rattle.std.specs.Prelude.{bytes_eq}
 use Rattle.std.specs.List.{find}
 use Rattle.std.proofs.lemmas.Slice.Eq.{bytes_eq-Decides}
-use Rattle.lef_read.specs.Macros.{rect_in, up_to_next, items_of, ports_in, pins_in, obstructions_in, boxes_in, is_off_grid, macro_named}
+use Rattle.lef_read.specs.Macros.{rect_in, up_to_next, ports_in, pins_in, obstructions_in, boxes_in, is_off_grid, macro_named}
 use Rattle.lef_read.specs.Reading.{Box, Item, Begins, Pin, Port, Obstruction}
 use Rattle.lef_read.specs.declared.cell.LefPin.{LefPin}
 use Rattle.lef_read.specs.declared.cell.LefRect.{LefRect}
-use Rattle.lef_read.specs.declared.cell.Macro.{Macro}
 
 -- the items of one macro tell these rectangles up to its next pin, these pins, and these obstructions, all on the grid
 pub record Tells (unit : ℕ) (items : List Item) (rs : List LefRect) (ps : List LefPin) (os : List LefRect) : Type 0 where

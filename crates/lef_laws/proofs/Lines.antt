@@ -1,31 +1,29 @@
 -- The lines of an abstract, each read back before what stands behind it.
-use Rattle.std.proofs.Common.{ℕ, ℤ, pos, ◌≡◌, ◌+◌, ◌<◌, ◌≤◌, ◌==◌, ◌&&◌, int_lt, Bool, true, false, List, [], ◌∷◌, ◌++◌, Some, Ok, codes, length, map, refl, sym, ap, subst, ◌∙◌, arith}
-use Rattle.std.specs.Prelude.{if◌then◌else◌, unsigned_abs}
-use Rattle.std.specs.List.{All, flat_map}
-use Rattle.std.proofs.lemmas.Bool.{and_parts, cases_Bool}
+use Rattle.std.proofs.Common.{ℕ, ℤ, ◌≡◌, ◌+◌, ◌≤◌, ◌==◌, ◌&&◌, int_lt, Bool, true, false, List, [], ◌∷◌, ◌++◌, Ok, codes, length, map, refl, sym, ap, subst, ◌∙◌}
+use Rattle.std.specs.Prelude.{if◌then◌else◌}
+use Rattle.std.specs.List.{All}
 use Rattle.std.proofs.lemmas.List.{append_assoc}
 use Rattle.std.proofs.lemmas.List.Elements.{All-head, All-tail}
 use Rattle.cell_num.specs.declared.net.NetNo.{NetNo}
 use Rattle.cell_num.specs.declared.net.Pins.{Pins}
-use Rattle.cell_num.specs.Lines.{text_line}
 use Rattle.box_geom.specs.Rectangle.{Rectangle}
 use Rattle.box_geom.specs.declared.layer.Layer.{Layer}
 use Rattle.box_geom.specs.declared.layer.Layer.TheVariants.{Metal1, Metal2}
 use Rattle.box_geom.specs.declared.shape.Shape.{Shape}
 use Rattle.spice_net.specs.declared.subckt.Direction.{Direction}
 use Rattle.spice_net.specs.declared.subckt.Direction.TheVariants.{Input, Output, Inout}
-use Rattle.lef_write.specs.Lef.{head_text, direction_text, use_text, microns, coordinate, corner_text, rect_text, rects_text, size_text, port_text, layer_text, metal1_text, metal2_text, block_text, obstructions_text}
+use Rattle.lef_write.specs.Lef.{head_text, direction_text, use_text, coordinate, corner_text, rect_text, rects_text}
 use Rattle.lef_read.specs.Keywords.{keyword_of}
 use Rattle.lef_read.specs.Numbers.{nanometres_of, length_of}
-use Rattle.lef_read.specs.Reading.{Item, Begins, Pin, Port, Obstruction, Block, OfPin, OfMacro, Place, At, InLibrary, InMacro, InPin, InBlock, Ended, item_of, read, with_items}
+use Rattle.lef_read.specs.Reading.{Item, Begins, Pin, Port, Obstruction, Block, OfPin, OfMacro, Place, At, InLibrary, InMacro, InPin, InBlock, item_of, read, with_items}
 use Rattle.lef_read.specs.Tokens.{Token, Word, Semicolon, tokens_from, scan}
 use Rattle.lef_read.specs.declared.block_kind.Current.{Current}
-use Rattle.lef_read.specs.declared.block_kind.Current.TheVariants.{NoLayer, OtherLayer, Wires}
+use Rattle.lef_read.specs.declared.block_kind.Current.TheVariants.{NoLayer, Wires}
 use Rattle.lef_read.specs.declared.cell.LefPin.{LefPin}
 use Rattle.lef_read.specs.declared.cell.LefRect.{LefRect}
-use Rattle.lef_laws.specs.Drawn.{on_layer, IsWord, IsMetric, IsSpelled}
-use Rattle.lef_laws.proofs.Items.{Tells, bytes_same, tells_obstruction, tells_pin, tells_port, tells_none}
-use Rattle.lef_laws.proofs.Microns.{IsRead, nm_of, length_read, coordinate_read}
+use Rattle.lef_laws.specs.Drawn.{on_layer, IsWord, IsSpelled}
+use Rattle.lef_laws.proofs.Items.{Tells, bytes_same, tells_obstruction, tells_port}
+use Rattle.lef_laws.proofs.Microns.{IsRead, coordinate_read}
 use Rattle.lef_laws.proofs.Sides.{nm_sides, rect_back, sides_ascend}
 use Rattle.lef_laws.proofs.Words.{word_front}
 

@@ -1,11 +1,11 @@
 -- Sides of rectangles that were written in nanometres come back in grid units.
-use Rattle.std.proofs.Common.{ℕ, zero, suc, ℤ, pos, negsuc, neg_ℤ, ◌≡◌, ◌+◌, ◌-◌, ◌*◌, ◌/◌, ◌%◌, ◌<◌, ◌≤◌, ◌==◌, ◌<ℤ◌, int_lt, unsigned_abs, Some, true, refl, sym, subst, ap, ◌∙◌, arith}
+use Rattle.std.proofs.Common.{ℕ, suc, ℤ, pos, negsuc, neg_ℤ, ◌≡◌, ◌+◌, ◌-◌, ◌*◌, ◌/◌, ◌%◌, ◌<◌, ◌≤◌, ◌<ℤ◌, int_lt, Some, true, refl, sym, subst, ap, arith}
 use Rattle.std.proofs.lemmas.Int.{ints}
 use Rattle.std.proofs.lemmas.Nat.{div-mul-add, mod-mul-add, row_fits}
 use Rattle.box_geom.specs.Rectangle.{Rectangle}
 use Rattle.box_geom.specs.declared.layer.Layer.{Layer}
 use Rattle.box_geom.specs.declared.shape.Shape.{Shape}
-use Rattle.lef_read.specs.Macros.{units_in, sides_in, rect_in}
+use Rattle.lef_read.specs.Macros.{units_in, rect_in}
 use Rattle.lef_read.specs.Reading.{ascending}
 use Rattle.lef_laws.specs.Drawn.{on_layer, IsSpelled}
 use Rattle.lef_laws.proofs.Microns.{nm_of}

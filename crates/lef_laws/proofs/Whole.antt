@@ -20,14 +20,14 @@ use Rattle.lef_write.specs.Ports.{port_shapes, shape_of, is_taken, obstructions_
 use Rattle.lef_write.proofs.Placed.{enumerated}
 use Rattle.lef_write.specs.declared.port.Port.{Port as PortOf}
 use Rattle.lef_read.specs.Macros.{macro_in, macro_named}
-use Rattle.lef_read.specs.Reading.{Item, Begins, Pin, OfPin, OfMacro, At, InLibrary, InMacro, InPin, InBlock, read, with_items}
+use Rattle.lef_read.specs.Reading.{Begins, Pin, OfPin, OfMacro, At, InLibrary, InMacro, InPin, InBlock, read, with_items}
 use Rattle.lef_read.specs.Tokens.{tokens_from}
 use Rattle.lef_read.specs.declared.block_kind.Current.{Current}
 use Rattle.lef_read.specs.declared.block_kind.Current.TheVariants.{NoLayer, Wires}
 use Rattle.lef_read.specs.declared.cell.LefPin.{LefPin}
 use Rattle.lef_read.specs.declared.cell.LefRect.{LefRect}
 use Rattle.lef_laws.specs.Drawn.{on_layer, pin_drawn, macro_drawn, IsWord, IsMetric, IsSpelled, IsReadable}
-use Rattle.lef_laws.proofs.Items.{Tells, macro_told, tells_none, tells_pin}
+use Rattle.lef_laws.proofs.Items.{macro_told, tells_none, tells_pin}
 use Rattle.lef_laws.proofs.Lines.{join4, join5, join6, IsTold, ReadsTo, same_text, moved, one_item, head_line, class_line, symmetry_line, direction_line, use_line, port_line, port_end, obs_line, metal1_line, metal2_line, obs_end, macro_line, end_lines, pin_line, pin_end, size_line, ports_read, obstructions_read}
 use Rattle.lef_laws.proofs.Microns.{length_read}
 

@@ -23,8 +23,6 @@ pub fn read_macro(alloc: Global, bytes: &[u8], name: &Name, unit_nm: u32) -> Res
     let mut cursor = Cursor::new(bytes);
     let mut draft = Draft::new(alloc, name.as_slice(), unit_nm)?;
     library(alloc, &mut cursor, &mut draft)?;
-    match draft.finish() {
-        Ok(cell) => Ok(cell),
-        Err(fault) => Err(fault),
-    }
+    let cell = draft.finish()?;
+    Ok(cell)
 }
