@@ -50,7 +50,7 @@ pub deep_copy : (bytes : List ℕ) (grid : Grid) (around : Around) (count place 
 unfolding flat
 deep_copy bytes grid around count place = refl
 
-abbrev frame_inside : Grid → ℕ → Around → Frame
+abbrev pub frame_inside : Grid → ℕ → Around → Frame
 frame_inside grid levels around = record { grid = grid; around = Some around; levels = levels - 1 }
 
 then_level : (bytes : List ℕ) (grid : Grid) (levels : ℕ) (around : Around) (count place : ℕ) → (levels ≡ 0 → ⊥) → flat_in bytes grid levels around count place ≡ (within_limit around.outer count one_reference >>= λ one. drawn_in bytes (frame_inside grid levels around) (count + 1) (elements_of (items_from bytes place)) >>= λ rest. Ok (both one rest))

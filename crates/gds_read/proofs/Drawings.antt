@@ -108,7 +108,7 @@ pub adds_all : (old new : Taken) (read : Result Taken GdsFault) → with_front o
 adds_all old new (Ok one) e = sym (taken_is (both old one) new e)
 adds_all old new (Err f) e = absurd (not_both new f e)
 
-front_fault : (old : Taken) (f : GdsFault) (read : Result Taken GdsFault) → with_front old read ≡ Err f → read ≡ Err f
+pub front_fault : (old : Taken) (f : GdsFault) (read : Result Taken GdsFault) → with_front old read ≡ Err f → read ≡ Err f
 front_fault old f (Ok one) e = absurd cc
 front_fault old f (Err g) e = e
 
@@ -204,10 +204,10 @@ abbrev step_in : List ℕ → Frame → ℕ → Element → Result Taken GdsFaul
 step_in bytes frame n e = element_in bytes frame n e e.kind
 
 -- the rest is drawn where so much was taken before it
-abbrev rest_after : List ℕ → Frame → ℕ → List Element → Taken → Result Taken GdsFault
+abbrev pub rest_after : List ℕ → Frame → ℕ → List Element → Taken → Result Taken GdsFault
 rest_after bytes frame count es one = drawn_in bytes frame (count + amount one) es >>= λ rest. Ok (both one rest)
 
-nothing_before : (bytes : List ℕ) (frame : Frame) (count : ℕ) (es : List Element) → drawn_in bytes frame count es ≡ rest_after bytes frame count es nothing_taken
+pub nothing_before : (bytes : List ℕ) (frame : Frame) (count : ℕ) (es : List Element) → drawn_in bytes frame count es ≡ rest_after bytes frame count es nothing_taken
 nothing_before bytes frame count es = ap (λ (n : ℕ). drawn_in bytes frame n es) (let e : count ≡ count + 0 = omega arith in e) ∙ sym (nothing_front (drawn_in bytes frame (count + 0) es))
 
 begun_more : (bytes : List ℕ) (frame : Frame) (count : ℕ) (r : Item) (rs : List Item) (o : Option RecordType) (rest : List Element) → drawn_in bytes frame count (with_element r rs o rest) ≡ (record_in bytes frame count r rs o >>= rest_after bytes frame count rest)
@@ -239,7 +239,7 @@ ends_none bytes frame at old done read f e so = adds_all old done read (sym so �
 pub ends_there : (bytes : List ℕ) (frame : Frame) (at : ℕ) (old done : Taken) (read : Result Taken GdsFault) (r : GdsRec) → record_at bytes at ≡ Ok r → r.code ≡ number_of record_type.EndStr → drawn_behind bytes frame done at ≡ with_front old read → Adds (Ok tt) old done read
 ends_there bytes frame at old done read r e k so = adds_all old done read (sym so ∙ (ap (λ (t : List Item). with_front done (drawn_in bytes frame (amount done) (elements_of t))) (items_more bytes at r e) ∙ (rw k (ordered_none (step_in bytes frame) done))))
 
-here : (bytes : List ℕ) (frame : Frame) (count at : ℕ) (r : GdsRec) → record_at bytes at ≡ Ok r → (r.code ≡ number_of record_type.EndStr → ⊥) → drawn_from bytes frame count at ≡ (drawn_record bytes frame count r >>= rest_after bytes frame count (elements_of (items_from bytes r.next)))
+pub here : (bytes : List ℕ) (frame : Frame) (count at : ℕ) (r : GdsRec) → record_at bytes at ≡ Ok r → (r.code ≡ number_of record_type.EndStr → ⊥) → drawn_from bytes frame count at ≡ (drawn_record bytes frame count r >>= rest_after bytes frame count (elements_of (items_from bytes r.next)))
 here bytes frame count at r e other = ap (λ (t : List Item). drawn_in bytes frame count (elements_of t)) (items_more bytes at r e) ∙ elements_more bytes frame count (item_of bytes r) (items_from bytes r.next) other
 
 pub goes_on_with : (bytes : List ℕ) (frame : Frame) (at : ℕ) (done new : Taken) (r : GdsRec) → record_at bytes at ≡ Ok r → (r.code ≡ number_of record_type.EndStr → ⊥) → Adds (Ok tt) done new (drawn_record bytes frame (amount done) r) → drawn_behind bytes frame done at ≡ drawn_behind bytes frame new r.next

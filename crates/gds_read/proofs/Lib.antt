@@ -10,10 +10,11 @@ pub mod Faulty
 pub mod Fields
 pub mod Floors
 pub mod Found
+pub mod Indexed
 pub mod LibraryWords
 pub mod Limits
+pub mod Listed
 pub mod Moved
-pub mod Indexed
 pub mod Nearest
 pub mod Passes
 pub mod PointLists
@@ -26,8 +27,11 @@ pub mod RoundTrip
 pub mod RoundTripAccepted
 pub mod RoundTripExact
 pub mod RoundTripLocated
+pub mod RoundTripMoved
+pub mod RoundTripNested
 pub mod RoundTripPadded
 pub mod RoundTripRedrawn
+pub mod RoundTripReferred
 pub mod RoundTripWords
 pub mod Rows
 pub mod Steps

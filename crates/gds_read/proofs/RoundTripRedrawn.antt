@@ -1,13 +1,12 @@
--- The elements of what is written draw the shapes again.
-use Rattle.std.proofs.Common.{ℕ, ◌≡◌, ◌+◌, ◌<◌, ◌≤◌, List, [], ◌∷◌, ◌++◌, drop, length, false, Option, Some, option_map, Result, Ok, refl, ap, ◌∙◌, arith}
+-- The elements of what is written draw their shapes again, wherever they stand.
+use Rattle.std.proofs.Common.{ℕ, ◌≡◌, ◌+◌, ◌<◌, ◌≤◌, List, [], ◌∷◌, ◌++◌, drop, length, map, false, Option, Some, None, option_map, Result, Ok, refl, sym, ap, ◌∙◌, arith}
 use Rattle.std.specs.List.{All, flat_map}
 use Rattle.std.proofs.lemmas.List.Elements.{All-head, All-tail}
 use Rattle.box_geom.specs.Rectangle.{Rectangle, IsProper, IsRectangle}
 use Rattle.box_geom.specs.declared.layer.Layer.{Layer}
 use Rattle.box_geom.specs.declared.shape.Shape.{Shape}
 use Rattle.box_geom.specs.declared.shape.Label.{Label}
-use Rattle.box_geom.specs.declared.shape.Shapes.{Shapes}
-use Rattle.gds_record.specs.Records.{Item, placed, ends}
+use Rattle.gds_record.specs.Records.{Raw, raw, Item, placed, ends}
 use Rattle.gds_record.specs.declared.types.RecordType.TheVariants as record_type
 use Rattle.gds_read.specs.declared.units.Grid.{Grid}
 use Rattle.gds_read.specs.declared.fault.GdsFault.{GdsFault}
@@ -23,98 +22,138 @@ use Rattle.gds_read.specs.Areas.{area_of, shape_on, rectangle_of}
 use Rattle.gds_read.specs.Elements.{Element, elements_of, until, text_on, spot_on, spot_of, with_label, xy_place, pen_of, boundary_areas, drawn_on}
 use Rattle.gds_read.specs.declared.placement.Move.{Move}
 use Rattle.gds_read.specs.declared.taken.Taken.{Taken}
-use Rattle.gds_read.specs.Moves.{moved_area, stays}
-use Rattle.gds_read.specs.Taken.{plain, rectangles, both, amount, within_limit, in_order}
-use Rattle.gds_read.specs.Flat.{File, drawn, drawn_by}
-use Rattle.gds_read.proofs.Moved.{area_stays}
-use Rattle.gds_write.specs.Written.{padded, point, corners, rectangle_records, label_records, tail_records, IsWritableShape, IsWritableLabel}
+use Rattle.gds_read.specs.declared.taken.Around.{Around}
+use Rattle.gds_read.specs.Moves.{moved_area}
+use Rattle.gds_read.specs.Taken.{plain, nothing_taken, rectangles, both, amount, within_limit, in_order}
+use Rattle.gds_read.specs.Flat.{File, Below, around_of, drawn_around, element_by, one_level}
+use Rattle.gds_write.specs.Written.{padded, point, corners, rectangle_records, label_records, IsWritableShape, IsLabelUpTo}
 use Rattle.gds_read.specs.RoundTrip.{HasNoZeroEnd}
 use Rattle.gds_read.proofs.RoundTripPadded.{padded_back}
 use Rattle.gds_read.proofs.Limits.{within}
 use Rattle.gds_read.proofs.Rectangles.{round_is}
 use Rattle.gds_read.proofs.RoundTripExact.{less_scaled}
+use Rattle.gds_read.proofs.RoundTripMoved.{Takes}
 use Rattle.gds_read.proofs.RoundTripWords.{grid, layer_back, points_back, scaled_up, rectangle_back, spot_back}
 
 -- a file with that grid
-abbrev file : ℕ → List Item → File
+abbrev pub file : ℕ → List Item → File
 file unit records = record { grid = grid unit; records = records }
 
-drawn_more : (f : File) (count : ℕ) (e : Element) (es : List Element) (one rest : Taken) → drawn_by f count e e.kind ≡ Ok one → drawn f (count + amount one) es ≡ Ok rest → drawn f count (e ∷ es) ≡ Ok (both one rest)
-unfolding drawn in_order
-drawn_more f count e es one rest first more = rw (first, more) refl
+pub order_more : {A : Type 0} (step : ℕ → A → Result Taken GdsFault) (count : ℕ) (x : A) (xs : List A) (one rest : Taken) → step count x ≡ Ok one → in_order step (count + amount one) xs ≡ Ok rest → in_order step count (x ∷ xs) ≡ Ok (both one rest)
+unfolding in_order
+order_more step count x xs one rest first more = rw (first, more) refl
 
-text_by : (g : Grid) (at : ℕ) (xy name : List ℕ) (on : Layer) (number : Option Layer) (spot : Spot) → number ≡ Some on → spot_of g on xy ≡ Some spot → (text_on g at xy number >>= λ one. Ok (plain (with_label name one))) ≡ Ok (plain (with_label name (Some spot)))
-text_by g at xy name on number spot layered placed =
-    ap (λ (n : Option Layer). text_on g at xy n >>= λ one. Ok (plain (with_label name one))) layered ∙ ap (λ (s : Option Spot). spot_on at s >>= λ one. Ok (plain (with_label name one))) placed
+pub taken_more : (below : Below) (f : File) (around : Option Around) (count : ℕ) (e : Element) (es : List Element) (one rest : Taken) → element_by below f around count e e.kind ≡ Ok one → one_level below f around (count + amount one) es ≡ Ok rest → one_level below f around count (e ∷ es) ≡ Ok (both one rest)
+taken_more below f around count e es one rest first more = order_more (λ n x. element_by below f around n x x.kind) count e es one rest first more
 
--- a boundary round one rectangle
-record IsRound (g : Grid) (points : List Point) (r rect : Rectangle) : Type 0 where
+pub nothing_more : (t : Taken) → both nothing_taken t ≡ t
+nothing_more t = ap (λ (n : ℕ). record { shapes = t.shapes; refs = n }) (let e : 0 + t.refs ≡ t.refs = omega arith in e)
+
+-- ---- rectangles
+
+-- a boundary round one rectangle, as it stands
+record IsRound (g : Grid) (stands : Move) (points : List Point) (r rect : Rectangle) : Type 0 where
   upright : has_slant (closed points) ≡ false
   inside : boundary_rectangles points ≡ r ∷ []
-  sided : rectangle_of g (area_of r) ≡ Some rect
+  sided : rectangle_of g (moved_area stands (area_of r)) ≡ Some rect
 
-areas_by : (at : ℕ) (g : Grid) (points : List Point) (r rect : Rectangle) → IsRound g points r rect → boundary_areas at points ≡ Ok (area_of r ∷ [])
+areas_by : (at : ℕ) (g : Grid) (stands : Move) (points : List Point) (r rect : Rectangle) → IsRound g stands points r rect → boundary_areas at points ≡ Ok (area_of r ∷ [])
 unfolding boundary_areas
-areas_by at g points r rect is = rw (is.upright, is.inside) refl
+areas_by at g stands points r rect is = rw (is.upright, is.inside) refl
 
-drawn_area : (at count : ℕ) (pen : Pen) (r rect : Rectangle) → pen.stands ≡ stays → rectangle_of pen.grid (area_of r) ≡ Some rect → count + 1 ≤ 1000000 → drawn_on at count (Some pen) (Ok (area_of r ∷ [])) ≡ Ok (rectangles (record { layer = pen.layer; rect = rect } ∷ []))
-drawn_area at count pen r rect still sided few =
-    ap (λ (a : Area). (shape_on pen (rectangle_of pen.grid a) >>= λ s. Ok (s ∷ [])) >>= λ rects. within_limit at count (rectangles rects)) (ap (λ (m : Move). moved_area m (area_of r)) still ∙ area_stays (area_of r))
-    ∙ ap (λ (x : Option Rectangle). (shape_on pen x >>= λ s. Ok (s ∷ [])) >>= λ rects. within_limit at count (rectangles rects)) sided
+drawn_area : (at count : ℕ) (pen : Pen) (a : Area) (rect : Rectangle) → rectangle_of pen.grid (moved_area pen.stands a) ≡ Some rect → count + 1 ≤ 1000000 → drawn_on at count (Some pen) (Ok (a ∷ [])) ≡ Ok (rectangles (record { layer = pen.layer; rect = rect } ∷ []))
+drawn_area at count pen a rect sided few =
+    ap (λ (x : Option Rectangle). (shape_on pen x >>= λ s. Ok (s ∷ [])) >>= λ rects. within_limit at count (rectangles rects)) sided
     ∙ within at count (rectangles (record { layer = pen.layer; rect = rect } ∷ [])) few
 
-boundary_by : (g : Grid) (at count xy_at : ℕ) (inside : List Item) (points : List Point) (on : Layer) (number : Option Layer) (r rect : Rectangle) → number ≡ Some on → IsRound g points r rect → count + 1 ≤ 1000000 → drawn_on at count (option_map (pen_of g stays inside) number) (boundary_areas xy_at points) ≡ Ok (rectangles (record { layer = on; rect = rect } ∷ []))
-boundary_by g at count xy_at inside points on number r rect layered is few =
-    ap (λ (n : Option Layer). drawn_on at count (option_map (pen_of g stays inside) n) (boundary_areas xy_at points)) layered
-    ∙ (ap (λ (x : Result (List Area) GdsFault). drawn_on at count (Some (pen_of g stays inside on)) x) (areas_by xy_at g points r rect is) ∙ drawn_area at count (pen_of g stays inside on) r rect refl is.sided few)
+boundary_by : (g : Grid) (stands : Move) (at count xy_at : ℕ) (inside : List Item) (points : List Point) (on : Layer) (number : Option Layer) (r rect : Rectangle) → number ≡ Some on → IsRound g stands points r rect → count + 1 ≤ 1000000 → drawn_on at count (option_map (pen_of g stands inside) number) (boundary_areas xy_at points) ≡ Ok (rectangles (record { layer = on; rect = rect } ∷ []))
+boundary_by g stands at count xy_at inside points on number r rect layered is few =
+    ap (λ (n : Option Layer). drawn_on at count (option_map (pen_of g stands inside) n) (boundary_areas xy_at points)) layered
+    ∙ (ap (λ (x : Result (List Area) GdsFault). drawn_on at count (Some (pen_of g stands inside on)) x) (areas_by xy_at g stands points r rect is) ∙ drawn_area at count (pen_of g stands inside on) (area_of r) rect is.sided few)
 
-is_round : (unit : ℕ) (s : Shape) → 0 < unit → IsWritableShape unit s → IsRectangle s.rect → IsRound (grid unit) (points_of (corners unit s.rect)) (scaled_up unit s.rect) s.rect
-is_round unit s some fits is =
-    let proper : IsProper (scaled_up unit s.rect) = record { wide = less_scaled s.rect.x1 s.rect.x2 unit some is.proper.wide; high = less_scaled s.rect.y1 s.rect.y2 unit some is.proper.high } in
+is_round : (unit : ℕ) (stands : Move) (f : Rectangle → Rectangle) (s : Shape) → 0 < unit → Takes unit stands f → IsWritableShape unit s → IsProper s.rect → IsRectangle (f s.rect) → IsRound (grid unit) stands (points_of (corners unit s.rect)) (scaled_up unit s.rect) (f s.rect)
+is_round unit stands f s some takes fits here is =
+    let proper : IsProper (scaled_up unit s.rect) = record { wide = less_scaled s.rect.x1 s.rect.x2 unit some here.wide; high = less_scaled s.rect.y1 s.rect.y2 unit some here.high } in
     record {
       upright = ap (λ (t : List Point). has_slant (closed t)) (points_back unit s fits) ∙ (round_is (scaled_up unit s.rect) proper).upright;
       inside = ap boundary_rectangles (points_back unit s fits) ∙ (round_is (scaled_up unit s.rect) proper).one;
-      sided = rectangle_back unit s.rect some is;
+      sided = ap (rectangle_of (grid unit)) (takes.moves s.rect) ∙ rectangle_back unit (f s.rect) some is;
     }
-
--- the element of a label
-abbrev text : ℕ → ℕ → Label → List Item → Element
-text unit at l rest = record { kind = record_type.Text; at = at; inside = until record_type.EndEl (drop 1 (placed at (label_records unit l)) ++ rest) }
-
-label_drawn : (recs : List Item) (unit at count : ℕ) (l : Label) (rest : List Item) → 10 ≤ unit → IsWritableLabel unit l → HasNoZeroEnd l.name → drawn_by (file unit recs) count (text unit at l rest) record_type.Text ≡ Ok (plain (record { rects = []; labels = l ∷ [] }))
-label_drawn recs unit at count l rest enough fits whole =
-    text_by (grid unit) _ (point unit l.x l.y) (trimmed (padded l.name)) l.layer _ (record { layer = l.layer; x = l.x; y = l.y }) (layer_back l.layer) (spot_back unit l enough fits)
-    ∙ ap (λ (n : List ℕ). Ok (plain (record { rects = []; labels = record { layer = l.layer; x = l.x; y = l.y; name = n } ∷ [] }))) (padded_back l.name whole)
 
 -- the element of a rectangle
 abbrev boundary : ℕ → ℕ → Shape → List Item → Element
 boundary unit at s rest = record { kind = record_type.Boundary; at = at; inside = until record_type.EndEl (drop 1 (placed at (rectangle_records unit s)) ++ rest) }
 
-rectangle_drawn : (recs : List Item) (unit at count : ℕ) (s : Shape) (rest : List Item) → 10 ≤ unit → count + 1 ≤ 1000000 → IsWritableShape unit s → IsRectangle s.rect → drawn_by (file unit recs) count (boundary unit at s rest) record_type.Boundary ≡ Ok (plain (record { rects = s ∷ []; labels = [] }))
-rectangle_drawn recs unit at count s rest enough few fits is =
-    let some : 0 < unit = omega (arith, enough) in
-    boundary_by (grid unit) at count (xy_place (boundary unit at s rest).inside) ((boundary unit at s rest).inside) (points_of (corners unit s.rect)) s.layer _ (scaled_up unit s.rect) s.rect (layer_back s.layer) (is_round unit s some fits is) few
+abbrev pub shape_by : (Rectangle → Rectangle) → Shape → Shape
+shape_by f s = record { layer = s.layer; rect = f s.rect }
 
-labels_drawn : (recs : List Item) (unit count : ℕ) (labels : List Label) (at : ℕ) → 10 ≤ unit → All (IsWritableLabel unit) labels → All (λ (l : Label). HasNoZeroEnd l.name) labels → drawn (file unit recs) count (elements_of (placed at (flat_map (label_records unit) labels ++ tail_records))) ≡ Ok (plain (record { rects = []; labels = labels }))
-unfolding drawn in_order
-labels_drawn recs unit count [] at enough fits whole = refl
-labels_drawn recs unit count (l ∷ ls) at enough fits whole =
-    let fit : IsWritableLabel unit l = All-head (IsWritableLabel unit) l ls fits in
+rectangle_taken : (unit at count : ℕ) (around : Around) (f : Rectangle → Rectangle) (s : Shape) (rest : List Item) → 10 ≤ unit → count + 1 ≤ 1000000 → Takes unit around.stands f → IsWritableShape unit s → IsProper s.rect → IsRectangle (f s.rect) → drawn_around (grid unit) around count (boundary unit at s rest).inside record_type.Boundary ≡ Ok (rectangles (shape_by f s ∷ []))
+rectangle_taken unit at count around f s rest enough few takes fits here is =
+    let some : 0 < unit = omega (arith, enough) in
+    boundary_by (grid unit) around.stands around.outer count (xy_place (boundary unit at s rest).inside) ((boundary unit at s rest).inside) (points_of (corners unit s.rect)) s.layer _ (scaled_up unit s.rect) (f s.rect) (layer_back s.layer) (is_round unit around.stands f s some takes fits here is) few
+
+-- rectangles that may be written, and stay within the limits where they stand
+pub record AreDrawn (unit : ℕ) (f : Rectangle → Rectangle) (rects : List Shape) : Type 0 where
+  pub fit : All (IsWritableShape unit) rects
+  pub proper : All (λ (s : Shape). IsProper s.rect) rects
+  pub limits : All (λ (s : Shape). IsRectangle (f s.rect)) rects
+
+tail_drawn : (unit : ℕ) (f : Rectangle → Rectangle) (s : Shape) (ss : List Shape) → AreDrawn unit f (s ∷ ss) → AreDrawn unit f ss
+tail_drawn unit f s ss are = record {
+  fit = All-tail (IsWritableShape unit) s ss are.fit;
+  proper = All-tail (λ (s : Shape). IsProper s.rect) s ss are.proper;
+  limits = All-tail (λ (s : Shape). IsRectangle (f s.rect)) s ss are.limits;
+}
+
+-- what elements behind take, whatever place they stand at
+abbrev pub TakesBehind : Below → File → Option Around → ℕ → List Raw → Taken → Type 0
+TakesBehind below f around count rest t = (at n : ℕ) → n ≡ count → one_level below f around n (elements_of (placed at rest)) ≡ Ok t
+
+pub rectangles_taken : (below : Below) (recs : List Item) (around : Option Around) (unit count : ℕ) (f : Rectangle → Rectangle) (rects : List Shape) (rest : List Raw) (t : Taken) → 10 ≤ unit → count + length rects ≤ 1000000 → ((at : ℕ) → Takes unit (around_of around at).stands f) → AreDrawn unit f rects → TakesBehind below (file unit recs) around (count + length rects) rest t → TakesBehind below (file unit recs) around count (flat_map (rectangle_records unit) rects ++ rest) (both (rectangles (map (shape_by f) rects)) t)
+rectangles_taken below recs around unit count f [] rest t enough few takes are more at n same = more at n (omega (arith, same)) ∙ ap (λ (t : Taken). Ok t) (sym (nothing_more t))
+rectangles_taken below recs around unit count f (s ∷ ss) rest t enough few takes are more at n same =
+    let fit : IsWritableShape unit s = All-head (IsWritableShape unit) s ss are.fit in
+    let here : IsProper s.rect = All-head (λ (s : Shape). IsProper s.rect) s ss are.proper in
+    let is : IsRectangle (f s.rect) = All-head (λ (s : Shape). IsRectangle (f s.rect)) s ss are.limits in
+    let next : ℕ = ends at (rectangle_records unit s) in
+    let behind : List Item = placed next (flat_map (rectangle_records unit) ss ++ rest) in
+    let later : TakesBehind below (file unit recs) around (count + 1) (flat_map (rectangle_records unit) ss ++ rest) (both (rectangles (map (shape_by f) ss)) t) =
+    rectangles_taken below recs around unit (count + 1) f ss rest t enough (omega (arith, few)) takes (tail_drawn unit f s ss are) (λ at n e. more at n (omega (arith, e))) in
+    taken_more below (file unit recs) around n (boundary unit at s behind) (elements_of behind) (rectangles (shape_by f s ∷ [])) (both (rectangles (map (shape_by f) ss)) t) (rectangle_taken unit at n (around_of around at) f s behind enough (omega (arith, few, same)) (takes at) fit here is) (later next (n + 1) (omega (arith, same)))
+    ∙ ap (λ (n : ℕ). Ok (record { shapes = record { rects = shape_by f s ∷ (map (shape_by f) ss ++ t.shapes.rects); labels = t.shapes.labels }; refs = n })) (let e : 0 + (0 + t.refs) ≡ 0 + t.refs = omega arith in e)
+
+-- ---- labels
+
+text_by : (g : Grid) (at : ℕ) (xy name : List ℕ) (on : Layer) (number : Option Layer) (spot : Spot) → number ≡ Some on → spot_of g on xy ≡ Some spot → (text_on g at xy number >>= λ one. Ok (plain (with_label name one))) ≡ Ok (plain (with_label name (Some spot)))
+text_by g at xy name on number spot layered placed =
+    ap (λ (n : Option Layer). text_on g at xy n >>= λ one. Ok (plain (with_label name one))) layered ∙ ap (λ (s : Option Spot). spot_on at s >>= λ one. Ok (plain (with_label name one))) placed
+
+-- the element of a label
+abbrev text : ℕ → ℕ → Label → List Item → Element
+text unit at l rest = record { kind = record_type.Text; at = at; inside = until record_type.EndEl (drop 1 (placed at (label_records unit l)) ++ rest) }
+
+label_taken : (below : Below) (recs : List Item) (unit at count : ℕ) (l : Label) (rest : List Item) → 10 ≤ unit → IsLabelUpTo 68 unit l → HasNoZeroEnd l.name → element_by below (file unit recs) None count (text unit at l rest) record_type.Text ≡ Ok (plain (record { rects = []; labels = l ∷ [] }))
+label_taken below recs unit at count l rest enough fits whole =
+    text_by (grid unit) _ (point unit l.x l.y) (trimmed (padded l.name)) l.layer _ (record { layer = l.layer; x = l.x; y = l.y }) (layer_back l.layer) (spot_back unit l.layer l.x l.y enough fits.x fits.y)
+    ∙ ap (λ (n : List ℕ). Ok (plain (record { rects = []; labels = record { layer = l.layer; x = l.x; y = l.y; name = n } ∷ [] }))) (padded_back l.name whole)
+
+pub labels_taken : (below : Below) (recs : List Item) (unit count : ℕ) (labels : List Label) (rest : List Raw) → 10 ≤ unit → All (IsLabelUpTo 68 unit) labels → All (λ (l : Label). HasNoZeroEnd l.name) labels → TakesBehind below (file unit recs) None count (flat_map (label_records unit) labels ++ raw record_type.EndStr [] ∷ rest) (plain (record { rects = []; labels = labels }))
+unfolding in_order
+labels_taken below recs unit count [] rest enough fits whole at n same = refl
+labels_taken below recs unit count (l ∷ ls) rest enough fits whole at n same =
+    let fit : IsLabelUpTo 68 unit l = All-head (IsLabelUpTo 68 unit) l ls fits in
     let end : HasNoZeroEnd l.name = All-head (λ (l : Label). HasNoZeroEnd l.name) l ls whole in
     let next : ℕ = ends at (label_records unit l) in
-    let more : List Item = placed next (flat_map (label_records unit) ls ++ tail_records) in
-    drawn_more (file unit recs) count (text unit at l more) (elements_of more) (plain (record { rects = []; labels = l ∷ [] })) (plain (record { rects = []; labels = ls })) (label_drawn recs unit at count l more enough fit end)
-    (count_kept ls next (labels_drawn recs unit count ls next enough (All-tail (IsWritableLabel unit) l ls fits) (All-tail (λ (l : Label). HasNoZeroEnd l.name) l ls whole)))
-  where
-    count_kept : (ls : List Label) (next : ℕ) → drawn (file unit recs) count (elements_of (placed next (flat_map (label_records unit) ls ++ tail_records))) ≡ Ok (plain (record { rects = []; labels = ls })) → drawn (file unit recs) (count + 0) (elements_of (placed next (flat_map (label_records unit) ls ++ tail_records))) ≡ Ok (plain (record { rects = []; labels = ls }))
-    count_kept ls next e = ap (λ (n : ℕ). drawn (file unit recs) n (elements_of (placed next (flat_map (label_records unit) ls ++ tail_records)))) (let z : count + 0 ≡ count = omega arith in z) ∙ e
+    let behind : List Item = placed next (flat_map (label_records unit) ls ++ raw record_type.EndStr [] ∷ rest) in
+    let later : TakesBehind below (file unit recs) None count (flat_map (label_records unit) ls ++ raw record_type.EndStr [] ∷ rest) (plain (record { rects = []; labels = ls })) =
+    labels_taken below recs unit count ls rest enough (All-tail (IsLabelUpTo 68 unit) l ls fits) (All-tail (λ (l : Label). HasNoZeroEnd l.name) l ls whole) in
+    taken_more below (file unit recs) None n (text unit at l behind) (elements_of behind) (plain (record { rects = []; labels = l ∷ [] })) (plain (record { rects = []; labels = ls })) (label_taken below recs unit at n l behind enough fit end) (later next (n + 0) (omega (arith, same)))
 
-pub shapes_drawn : (recs : List Item) (unit count : ℕ) (rects : List Shape) (labels : List Label) (at : ℕ) → 10 ≤ unit → count + length rects ≤ 1000000 → All (IsWritableShape unit) rects → All (λ (s : Shape). IsRectangle s.rect) rects → All (IsWritableLabel unit) labels → All (λ (l : Label). HasNoZeroEnd l.name) labels → drawn (file unit recs) count (elements_of (placed at (flat_map (rectangle_records unit) rects ++ (flat_map (label_records unit) labels ++ tail_records)))) ≡ Ok (plain (record { rects = rects; labels = labels }))
-shapes_drawn recs unit count [] labels at enough few fits real named whole = labels_drawn recs unit count labels at enough named whole
-shapes_drawn recs unit count (s ∷ ss) labels at enough few fits real named whole =
-    let fit : IsWritableShape unit s = All-head (IsWritableShape unit) s ss fits in
-    let is : IsRectangle s.rect = All-head (λ (s : Shape). IsRectangle s.rect) s ss real in
-    let next : ℕ = ends at (rectangle_records unit s) in
-    let more : List Item = placed next (flat_map (rectangle_records unit) ss ++ (flat_map (label_records unit) labels ++ tail_records)) in
-    drawn_more (file unit recs) count (boundary unit at s more) (elements_of more) (plain (record { rects = s ∷ []; labels = [] })) (plain (record { rects = ss; labels = labels })) (rectangle_drawn recs unit at count s more enough (omega (arith, few)) fit is)
-    (shapes_drawn recs unit (count + 1) ss labels next enough (omega (arith, few)) (All-tail (IsWritableShape unit) s ss fits) (All-tail (λ (s : Shape). IsRectangle s.rect) s ss real) named whole)
+-- the labels of a structure that is referred to are passed over
+pub labels_passed : (below : Below) (recs : List Item) (around : Around) (unit count : ℕ) (labels : List Label) (rest : List Raw) → TakesBehind below (file unit recs) (Some around) count (flat_map (label_records unit) labels ++ raw record_type.EndStr [] ∷ rest) nothing_taken
+unfolding in_order
+labels_passed below recs around unit count [] rest at n same = refl
+labels_passed below recs around unit count (l ∷ ls) rest at n same =
+    let next : ℕ = ends at (label_records unit l) in
+    let behind : List Item = placed next (flat_map (label_records unit) ls ++ raw record_type.EndStr [] ∷ rest) in
+    taken_more below (file unit recs) (Some around) n (text unit at l behind) (elements_of behind) nothing_taken nothing_taken refl (labels_passed below recs around unit count ls rest next (n + 0) (omega (arith, same)))

@@ -9,7 +9,6 @@ use Rattle.box_geom.specs.Rectangle.{Rectangle, IsRectangle}
 use Rattle.box_geom.specs.declared.layer.Layer.{Layer}
 use Rattle.box_geom.specs.declared.layer.Layer.TheVariants as layer
 use Rattle.box_geom.specs.declared.shape.Shape.{Shape}
-use Rattle.box_geom.specs.declared.shape.Label.{Label}
 use Rattle.gds_read.specs.declared.units.Grid.{Grid}
 use Rattle.gds_read.specs.declared.point.Point.{Point}
 use Rattle.gds_read.specs.Units.{limited_to_grid, scaled_by, step_of_grid, two_steps, whole_units_of, floor_units_of, in_order}
@@ -17,7 +16,7 @@ use Rattle.gds_record.specs.Layers.{layer_number, layer_numbered}
 use Rattle.gds_read.specs.Points.{point_at, points_of}
 use Rattle.gds_read.specs.Areas.{span_of, area_of, side_of, rectangle_of}
 use Rattle.gds_read.specs.Elements.{short_of, spot_of}
-use Rattle.gds_write.specs.Written.{short, long, point, corners, Fits, IsWritableShape, IsWritableLabel}
+use Rattle.gds_write.specs.Written.{short, long, point, corners, Fits, IsWritableShape}
 use Rattle.gds_write.proofs.Pieces.{corners_length}
 use Rattle.gds_read.proofs.RoundTripExact.{scaled_exact, halves_exact, exact_rem, exact_div}
 
@@ -83,7 +82,7 @@ floor_back unit z some is = rw (div_back unit z some) (limited_back z is)
 
 -- ---- the corners of a rectangle
 
-abbrev point_in : ℕ → ℤ → ℤ → Point
+abbrev pub point_in : ℕ → ℤ → ℤ → Point
 point_in unit x y = record { x = x *ℤ pos unit; y = y *ℤ pos unit }
 
 -- the points that are read of the corners that are written
@@ -140,25 +139,31 @@ rectangle_back unit r some is =
     let y2 : IsLimited r.y2 = omega (arith, ints) in
     rw (side_back unit r.x1 r.x2 some x1 x2 is.proper.wide, side_back unit r.y1 r.y2 some y1 y2 is.proper.high) refl
 
--- ---- the point of a label
+-- ---- points of labels and references
 
--- with ten nanometres or more to a grid unit, four bytes hold no more than the limit
-limited : (unit : ℕ) (z : ℤ) → 10 ≤ unit → Fits unit z → IsLimited z
-limited unit z enough fits =
+pub point_back : (unit : ℕ) (x y : ℤ) → Fits unit x → Fits unit y → point_at 0 (point unit x y) ≡ point_in unit x y
+unfolding long point
+point_back unit x y fx fy = a_point _ _ _ _ (signed_back unit x fx) (signed_back unit y fy)
+
+-- with ten nanometres or more to a grid unit, four bytes hold few units
+pub few_units : (unit : ℕ) (z : ℤ) → 10 ≤ unit → Fits unit z → unsigned_abs z ≤ 214748364
+few_units unit z enough fits =
     let product : unsigned_abs (z *ℤ pos unit) ≡ unsigned_abs z * unit = unsigned_abs-mul z (pos unit) in
     let more : unsigned_abs z * 10 ≤ unsigned_abs z * unit = mul-le-mul (let same : unsigned_abs z ≤ unsigned_abs z = omega arith in same) enough in
     let few : unsigned_abs (z *ℤ pos unit) ≤ 2 ^ 31 = within (z *ℤ pos unit) fits in
-    let small : unsigned_abs z ≤ 1000000000 = omega (arith, product, more, few) in
-    by z small
+    omega (arith, product, more, few)
   where
     within : (y : ℤ) → FitsSigned w32 y → unsigned_abs y ≤ 2 ^ 31
     within y f = omega (arith, ints)
 
-    by : (y : ℤ) → unsigned_abs y ≤ 1000000000 → IsLimited y
+limited : (unit : ℕ) (z : ℤ) → 10 ≤ unit → Fits unit z → IsLimited z
+limited unit z enough fits = by z (few_units unit z enough fits)
+  where
+    by : (y : ℤ) → unsigned_abs y ≤ 214748364 → IsLimited y
     by y small = omega (arith, ints)
 
-pub spot_back : (unit : ℕ) (l : Label) → 10 ≤ unit → IsWritableLabel unit l → spot_of (grid unit) l.layer (point unit l.x l.y) ≡ Some (record { layer = l.layer; x = l.x; y = l.y })
+pub spot_back : (unit : ℕ) (on : Layer) (x y : ℤ) → 10 ≤ unit → Fits unit x → Fits unit y → spot_of (grid unit) on (point unit x y) ≡ Some (record { layer = on; x = x; y = y })
 unfolding long point
-spot_back unit l enough fits =
+spot_back unit on x y enough fx fy =
     let some : 0 < unit = omega (arith, enough) in
-    rw (signed_back unit l.x fits.x, signed_back unit l.y fits.y, floor_back unit l.x some (limited unit l.x enough fits.x), floor_back unit l.y some (limited unit l.y enough fits.y)) refl
+    rw (signed_back unit x fx, signed_back unit y fy, floor_back unit x some (limited unit x enough fx), floor_back unit y some (limited unit y enough fy)) refl

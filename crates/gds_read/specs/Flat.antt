@@ -5,8 +5,9 @@ use Rattle.box_geom.specs.declared.shape.Shapes.{Shapes}
 use Rattle.gds_record.specs.declared.types.RecordType.{RecordType}
 use Rattle.gds_record.specs.declared.types.RecordType.TheVariants as record_type
 use Rattle.gds_record.specs.Types.{type_numbered}
-use Rattle.gds_record.specs.Records.{Item, item_of, items_from}
+use Rattle.gds_record.specs.Records.{Item, item_of, record_at, items_from}
 use Rattle.gds_record.specs.declared.record.GdsRec.{GdsRec}
+use Rattle.gds_record.specs.declared.record.RecFault.{RecFault}
 use Rattle.gds_read.specs.declared.fault.GdsFault.{GdsFault}
 use Rattle.gds_read.specs.declared.fault.GdsFault.TheVariants as fault
 use Rattle.gds_read.specs.declared.units.Grid.{Grid}
@@ -128,6 +129,17 @@ drawn_in bytes frame count elements = one_level (flat frame.levels (file_of fram
 
 abbrev pub flat_in : List ℕ → Grid → ℕ → Around → ℕ → ℕ → Result Taken GdsFault
 flat_in bytes grid levels around count place = flat levels (file_of grid bytes) around count (elements_of (items_from bytes place))
+
+-- what the elements draw whose first records stand at some places
+abbrev pub drawn_told : List ℕ → Frame → ℕ → Result GdsRec RecFault → Result Taken GdsFault
+drawn_told bytes frame count (Ok r) = drawn_record bytes frame count r
+drawn_told bytes frame count (Err f) = Ok nothing_taken
+
+abbrev pub drawn_at : List ℕ → Frame → ℕ → ℕ → Result Taken GdsFault
+drawn_at bytes frame count place = drawn_told bytes frame count (record_at bytes place)
+
+abbrev pub listed_in : List ℕ → Frame → ℕ → List ℕ → Result Taken GdsFault
+listed_in bytes frame count places = in_order (drawn_at bytes frame) count places
 
 -- copies of the structure behind whose name a place is
 abbrev pub row_in : List ℕ → Frame → Around → Copies → ℕ → ℕ → Result Taken GdsFault

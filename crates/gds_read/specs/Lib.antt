@@ -6,9 +6,9 @@ pub mod Elements
 pub mod EvenOdd
 pub mod Flat
 pub mod Grammar
+pub mod Index
 pub mod Library
 pub mod Moves
-pub mod Names
 pub mod Paths
 pub mod Points
 pub mod Real

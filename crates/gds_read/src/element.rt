@@ -49,10 +49,7 @@ fn boundary(alloc: Global, xy: &[u8], pen: &Pen, rects: &mut ShapeList) -> Resul
     if slanted(walk.as_slice()) {
         return Err(GdsFault::Slant { at: pen.at });
     }
-    match add_inside(alloc, walk.as_slice(), pen, rects) {
-        Ok(()) => Ok(()),
-        Err(fault) => Err(fault),
-    }
+    add_inside(alloc, walk.as_slice(), pen, rects)
 }
 
 // How broad a path is, and how far it goes past its outer points.
@@ -90,10 +87,7 @@ fn along(
     if slanted(points.as_slice()) {
         return Err(GdsFault::Slant { at: pen.at });
     }
-    match add_path_areas(reach, points, pen, rects) {
-        Ok(()) => Ok(()),
-        Err(fault) => Err(fault),
-    }
+    add_path_areas(reach, points, pen, rects)
 }
 
 #[tactic(auto, using(crate::proofs::Putting::puts_same))]
@@ -111,15 +105,9 @@ fn path(
     ensures { Puts result rects.new
         (put_all pen.now rects.old (path_areas_of pen.now.at (inside_of bytes.now rec.now))) }
 {
-    let reach = match reach(bytes, rec) {
-        Ok(reach) => reach,
-        Err(fault) => return Err(fault),
-    };
+    let reach = reach(bytes, rec)?;
     let xy = element_content(bytes, rec.next, RecordType::Xy);
-    match along(alloc, xy, &reach, pen, rects) {
-        Ok(()) => Ok(()),
-        Err(fault) => Err(fault),
-    }
+    along(alloc, xy, &reach, pen, rects)
 }
 
 #[tactic(auto, using(crate::proofs::Limits::adds_drawn, crate::proofs::Limits::is_wide, crate::proofs::Limits::adds_fault))]

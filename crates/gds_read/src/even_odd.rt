@@ -121,10 +121,7 @@ fn add_runs(
 {
     let mut rest = xs;
     while let [from, to, more @ ..] = rest {
-        match add_area(pen, &run(low, high, from, to), rects) {
-            Ok(()) => {}
-            Err(fault) => return Err(fault),
-        }
+        add_area(pen, &run(low, high, from, to), rects)?;
         rest = more;
     }
     Ok(())
@@ -146,10 +143,7 @@ fn next_row(
     ensures crossings { IfOk result (λ v. v.items ≡ odd_ones xs.items ++ end.now.x ∷ []) }
 {
     let mut odd = odd_ones(alloc, xs)?;
-    match add_runs(row, end, odd.as_slice(), pen, rects) {
-        Ok(()) => {}
-        Err(fault) => return Err(fault),
-    }
+    add_runs(row, end, odd.as_slice(), pen, rects)?;
     push(&mut odd, &end.x)?;
     Ok(odd)
 }
@@ -196,8 +190,5 @@ pub fn add_inside(
     };
     let mut ends = side_ends(alloc, first, rest)?;
     ends.sort_unstable();
-    match sweep(alloc, ends.as_slice(), pen, rects) {
-        Ok(()) => Ok(()),
-        Err(fault) => Err(fault),
-    }
+    sweep(alloc, ends.as_slice(), pen, rects)
 }

@@ -1,64 +1,56 @@
 // The elements of a structure, with the structures that they refer to.
 ghost use Rattle.std.specs.Prelude.{◌≡◌, ◌≤◌, ◌<◌, ◌+◌, ◌-◌, ◌*◌, length, OnOk};
-ghost use Rattle.gds_record.specs.Records.{items_from};
-ghost use Rattle.gds_read.specs.Elements.{element_of, elements_of};
+ghost use Rattle.gds_read.specs.Elements.{element_of};
 ghost use Rattle.gds_read.specs.Moves.{IsNear};
-ghost use Rattle.gds_read.specs.Names.{looked_up, IsIndex};
+ghost use Rattle.gds_read.specs.Index.{IsIndex};
 ghost use Rattle.gds_read.specs.Taken.{amount, Adds};
-ghost use Rattle.gds_read.specs.Flat.{row_in, copies_in, referred_in, element_in, drawn_record, drawn_in, flat_in, IsFrame};
+ghost use Rattle.gds_read.specs.Flat.{row_in, copies_in, referred_in, element_in, drawn_record, flat_in, listed_in, IsFrame};
 
 use crate::GdsFault;
 use crate::area::MOST_RECTANGLES;
 use crate::element::{add_boundary, add_path};
+use crate::index::{Index, list_of};
 use crate::label::add_text;
 use crate::placement::composed;
 use crate::reference::{Copies, copy_at, read_array, target};
-use crate::structure::Lookup;
 use crate::taken::{Around, Frame, Taken, around_at, count_one};
-use crate::units::{Grid, MOST_PICOMETRES};
 use cell_num::MOST_BYTES;
 use gds_record::{GdsRec, RecordType, next_record};
-use indexmap::IndexMap;
 use std::alloc::Global;
 
 // A copy of a structure: one reference more, and what its elements draw.
-#[tactic(auto, using(crate::proofs::Copied::deep_copy, crate::proofs::Copied::wide_copy, crate::proofs::Copied::copied, crate::proofs::Copied::inner_frame))]
+#[tactic(auto, using(crate::proofs::Copied::deep_copy, crate::proofs::Copied::wide_copy, crate::proofs::Listed::copied_listed, crate::proofs::Copied::inner_frame))]
 #[cycle(references)]
 fn add_copy(
     alloc: Global,
     bytes: &[u8],
-    names: &IndexMap<&[u8], Lookup>,
+    index: &Index,
     place: u64,
-    grid: &Grid,
+    frame: &Frame,
     around: &Around,
-    levels: u8,
     taken: &mut Taken,
 ) -> Result<(), GdsFault>
     requires size { length bytes.now ≤ MOST_BYTES }
-    requires names { IsIndex bytes.now (looked_up names.now) }
+    requires index { IsIndex bytes.now index.now }
     requires place { place ≤ length bytes.now }
-    requires lambda { 1 ≤ grid.now.lambda_nm }
-    requires unit { grid.now.picometres ≤ MOST_PICOMETRES }
-    requires levels { levels ≤ 16 }
-    requires near { IsNear (17 - levels) around.now.stands }
+    requires frame { IsFrame frame.now }
+    requires near { IsNear (17 - frame.now.levels) around.now.stands }
     requires room { amount taken.now ≤ MOST_RECTANGLES }
     ensures adds { Adds result taken.old taken.new
-        (flat_in bytes.now grid.now levels around.now (amount taken.old) place) }
+        (flat_in bytes.now frame.now.grid frame.now.levels around.now (amount taken.old) place) }
     ensures room { OnOk result (amount taken.new ≤ MOST_RECTANGLES) }
 {
-    if levels == 0 {
+    if frame.levels == 0 {
         return Err(GdsFault::Deep { at: around.outer });
     }
-    match count_one(taken, around.outer) {
-        Ok(()) => {}
-        Err(fault) => return Err(fault),
-    }
-    let frame = Frame {
-        grid: *grid,
+    count_one(taken, around.outer)?;
+    let inside = Frame {
+        grid: frame.grid,
         around: Some(*around),
-        levels: levels - 1,
+        levels: frame.levels - 1,
     };
-    add_elements(alloc, bytes, names, place, &frame, taken)
+    let places = list_of(alloc, bytes, index, place)?;
+    add_elements(alloc, bytes, index, places.as_slice(), &inside, taken)
 }
 
 #[tactic(auto, using(crate::proofs::Copied::row_starts, crate::proofs::Copied::row_more, crate::proofs::Copied::row_stops, crate::proofs::Copied::row_done, crate::proofs::Moved::near_inside))]
@@ -66,7 +58,7 @@ fn add_copy(
 fn add_row(
     alloc: Global,
     bytes: &[u8],
-    names: &IndexMap<&[u8], Lookup>,
+    index: &Index,
     copies: &Copies,
     row: u16,
     frame: &Frame,
@@ -74,7 +66,7 @@ fn add_row(
     taken: &mut Taken,
 ) -> Result<(), GdsFault>
     requires size { length bytes.now ≤ MOST_BYTES }
-    requires names { IsIndex bytes.now (looked_up names.now) }
+    requires index { IsIndex bytes.now index.now }
     requires place { copies.now.place ≤ length bytes.now }
     requires row { row < copies.now.array.lattice.rows }
     requires frame { IsFrame frame.now }
@@ -90,19 +82,7 @@ fn add_row(
             stands: composed(&around.stands, &copy, 16 - frame.levels),
             outer: around.outer,
         };
-        match add_copy(
-            alloc,
-            bytes,
-            names,
-            copies.place,
-            &frame.grid,
-            &here,
-            frame.levels,
-            taken,
-        ) {
-            Ok(()) => {}
-            Err(fault) => return Err(fault),
-        }
+        add_copy(alloc, bytes, index, copies.place, frame, &here, taken)?;
     }
     Ok(())
 }
@@ -112,14 +92,14 @@ fn add_row(
 fn add_copies(
     alloc: Global,
     bytes: &[u8],
-    names: &IndexMap<&[u8], Lookup>,
+    index: &Index,
     copies: &Copies,
     frame: &Frame,
     around: &Around,
     taken: &mut Taken,
 ) -> Result<(), GdsFault>
     requires size { length bytes.now ≤ MOST_BYTES }
-    requires names { IsIndex bytes.now (looked_up names.now) }
+    requires index { IsIndex bytes.now index.now }
     requires place { copies.now.place ≤ length bytes.now }
     requires frame { IsFrame frame.now }
     requires near { IsNear (16 - frame.now.levels) around.now.stands }
@@ -129,10 +109,7 @@ fn add_copies(
     ensures room { OnOk result (amount taken.new ≤ MOST_RECTANGLES) }
 {
     for row in 0..copies.array.lattice.rows {
-        match add_row(alloc, bytes, names, copies, row, frame, around, taken) {
-            Ok(()) => {}
-            Err(fault) => return Err(fault),
-        }
+        add_row(alloc, bytes, index, copies, row, frame, around, taken)?;
     }
     Ok(())
 }
@@ -143,21 +120,21 @@ fn add_copies(
 fn add_reference(
     alloc: Global,
     bytes: &[u8],
-    names: &IndexMap<&[u8], Lookup>,
+    index: &Index,
     kind: RecordType,
     rec: &GdsRec,
     frame: &Frame,
     taken: &mut Taken,
 ) -> Result<(), GdsFault>
     requires size { length bytes.now ≤ MOST_BYTES }
-    requires names { IsIndex bytes.now (looked_up names.now) }
+    requires index { IsIndex bytes.now index.now }
     requires place { rec.now.next ≤ length bytes.now }
     requires frame { IsFrame frame.now }
     requires room { amount taken.now ≤ MOST_RECTANGLES }
     ensures adds { Adds result taken.old taken.new (referred_in bytes.now frame.now (amount taken.old) rec.now kind) }
     ensures room { OnOk result (amount taken.new ≤ MOST_RECTANGLES) }
 {
-    let Some(place) = target(bytes, names, rec.next) else {
+    let Some(place) = target(bytes, index, rec.next) else {
         return Err(GdsFault::Reference { at: rec.at });
     };
     let Some(array) = read_array(bytes, kind, rec) else {
@@ -165,7 +142,7 @@ fn add_reference(
     };
     let around = around_at(frame, rec.at);
     let copies = Copies { place, array };
-    add_copies(alloc, bytes, names, &copies, frame, &around, taken)
+    add_copies(alloc, bytes, index, &copies, frame, &around, taken)
 }
 
 // What the element draws that a record of a type begins, if it begins one.
@@ -174,14 +151,14 @@ fn add_reference(
 fn add_element(
     alloc: Global,
     bytes: &[u8],
-    names: &IndexMap<&[u8], Lookup>,
+    index: &Index,
     kind: RecordType,
     rec: &GdsRec,
     frame: &Frame,
     taken: &mut Taken,
 ) -> Result<(), GdsFault>
     requires size { length bytes.now ≤ MOST_BYTES }
-    requires names { IsIndex bytes.now (looked_up names.now) }
+    requires index { IsIndex bytes.now index.now }
     requires place { rec.now.next ≤ length bytes.now }
     requires frame { IsFrame frame.now }
     requires room { amount taken.now ≤ MOST_RECTANGLES }
@@ -199,8 +176,8 @@ fn add_element(
                 Some(_) => Ok(()),
             }
         }
-        RecordType::SRef => add_reference(alloc, bytes, names, RecordType::SRef, rec, frame, taken),
-        RecordType::ARef => add_reference(alloc, bytes, names, RecordType::ARef, rec, frame, taken),
+        RecordType::SRef => add_reference(alloc, bytes, index, RecordType::SRef, rec, frame, taken),
+        RecordType::ARef => add_reference(alloc, bytes, index, RecordType::ARef, rec, frame, taken),
         _ => Ok(()),
     }
 }
@@ -211,13 +188,13 @@ fn add_element(
 fn add_record(
     alloc: Global,
     bytes: &[u8],
-    names: &IndexMap<&[u8], Lookup>,
+    index: &Index,
     rec: &GdsRec,
     frame: &Frame,
     taken: &mut Taken,
 ) -> Result<(), GdsFault>
     requires size { length bytes.now ≤ MOST_BYTES }
-    requires names { IsIndex bytes.now (looked_up names.now) }
+    requires index { IsIndex bytes.now index.now }
     requires place { rec.now.next ≤ length bytes.now }
     requires frame { IsFrame frame.now }
     requires room { amount taken.now ≤ MOST_RECTANGLES }
@@ -225,43 +202,36 @@ fn add_record(
     ensures room { OnOk result (amount taken.new ≤ MOST_RECTANGLES) }
 {
     match RecordType::numbered(rec.code) {
-        Some(kind) => add_element(alloc, bytes, names, kind, rec, frame, taken),
+        Some(kind) => add_element(alloc, bytes, index, kind, rec, frame, taken),
         None => Ok(()),
     }
 }
 
-/// What the elements draw that stand behind a place, up to the end of the structure.
-#[tactic(auto, using(gds_record::proofs::Walks::moves, crate::proofs::Drawings::ends_none, crate::proofs::Drawings::ends_there, crate::proofs::Drawings::goes_on_with, crate::proofs::Drawings::stops))]
+/// What the elements draw whose first records stand at some places.
+#[tactic(auto, using(gds_record::proofs::Walks::moves, crate::proofs::Listed::listed_more, crate::proofs::Listed::listed_past, crate::proofs::Listed::listed_stops, crate::proofs::Listed::listed_done))]
 #[cycle(references)]
 pub fn add_elements(
     alloc: Global,
     bytes: &[u8],
-    names: &IndexMap<&[u8], Lookup>,
-    place: u64,
+    index: &Index,
+    places: &[u64],
     frame: &Frame,
     taken: &mut Taken,
 ) -> Result<(), GdsFault>
     requires size { length bytes.now ≤ MOST_BYTES }
-    requires names { IsIndex bytes.now (looked_up names.now) }
-    requires place { place ≤ length bytes.now }
+    requires index { IsIndex bytes.now index.now }
     requires frame { IsFrame frame.now }
     requires room { amount taken.now ≤ MOST_RECTANGLES }
-    ensures adds { Adds result taken.old taken.new
-        (drawn_in bytes.now frame.now (amount taken.old) (elements_of (items_from bytes.now place))) }
+    ensures adds { Adds result taken.old taken.new (listed_in bytes.now frame.now (amount taken.old) places.now) }
     ensures room { OnOk result (amount taken.new ≤ MOST_RECTANGLES) }
 {
-    let mut at = place;
-    'records: loop {
-        let Ok(rec) = next_record(bytes, at) else {
-            return Ok(());
-        };
-        if rec.code == RecordType::EndStr.number() {
-            return Ok(());
+    for place in places {
+        if let Ok(rec) = next_record(bytes, *place) {
+            match add_record(alloc, bytes, index, &rec, frame, taken) {
+                Ok(()) => {}
+                Err(fault) => return Err(fault),
+            }
         }
-        match add_record(alloc, bytes, names, &rec, frame, taken) {
-            Ok(()) => {}
-            Err(fault) => return Err(fault),
-        }
-        at = rec.next;
     }
+    Ok(())
 }

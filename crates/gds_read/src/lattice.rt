@@ -54,10 +54,7 @@ fn read_counts(content: Option<&[u8]>) -> Option<Counts>
     ensures value { result ≡ counts_told (option_map (λ w. w.now) content.entry) }
     ensures some { IfSome result (λ n. (0 < n.columns) × (0 < n.rows)) }
 {
-    match content {
-        None => None,
-        Some(content) => two_counts(content),
-    }
+    two_counts(content?)
 }
 
 fn may_stand(content: Option<&[u8]>) -> bool

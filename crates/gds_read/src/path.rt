@@ -104,10 +104,7 @@ fn add_segments(
     let mut past = reach.ends;
     while let [a, b, more @ ..] = rest {
         let past_second = past_second(reach, more);
-        match add_area(pen, &segment(reach.half, past, past_second, a, b), rects) {
-            Ok(()) => {}
-            Err(fault) => return Err(fault),
-        }
+        add_area(pen, &segment(reach.half, past, past_second, a, b), rects)?;
         past = reach.half;
         rest = &rest[1..];
     }
@@ -136,8 +133,5 @@ pub fn add_path_areas(
         return Ok(());
     }
     let points = thin(points);
-    match add_segments(reach, points.as_slice(), pen, rects) {
-        Ok(()) => Ok(()),
-        Err(fault) => Err(fault),
-    }
+    add_segments(reach, points.as_slice(), pen, rects)
 }

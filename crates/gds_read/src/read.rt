@@ -7,7 +7,7 @@ ghost use Rattle.gds_read.specs.Decoding.{unit_in, grid_in, Decodes, IsCell, IsR
 use crate::GdsFault;
 use crate::field::field_content;
 use crate::flat::add_elements;
-use crate::names::structure_names;
+use crate::index::{places_of, read_index};
 use crate::pass::first_pass;
 use crate::real::picometres_at_place;
 use crate::structure::{Lookup, find_structure};
@@ -42,7 +42,7 @@ fn grid_of(bytes: &[u8], lambda_nm: u32) -> Grid
 }
 
 // What the elements draw that stand behind a place, up to the end of the structure.
-#[tactic(auto, using(crate::proofs::Drawings::gives_taken, crate::proofs::Drawings::gives_fault, crate::proofs::Copied::own_frame))]
+#[tactic(auto, using(crate::proofs::Listed::gives_listed, crate::proofs::Drawings::gives_fault, crate::proofs::Copied::own_frame))]
 fn read_elements(alloc: Global, bytes: &[u8], place: u64, grid: &Grid) -> Result<Shapes, GdsFault>
     requires size { length bytes.now ≤ MOST_BYTES }
     requires place { place ≤ length bytes.now }
@@ -55,9 +55,10 @@ fn read_elements(alloc: Global, bytes: &[u8], place: u64, grid: &Grid) -> Result
         around: None,
         levels: MOST_LEVELS,
     };
-    let names = structure_names(alloc, bytes)?;
+    let index = read_index(alloc, bytes)?;
+    let places = places_of(alloc, bytes, place, true)?;
     let mut taken = none_taken(alloc);
-    match add_elements(alloc, bytes, &names, place, &frame, &mut taken) {
+    match add_elements(alloc, bytes, &index, places.as_slice(), &frame, &mut taken) {
         Ok(()) => Ok(taken.shapes),
         Err(fault) => Err(fault),
     }

@@ -4,20 +4,19 @@ ghost use Rattle.gds_record.specs.declared.types.RecordType.TheVariants as recor
 ghost use Rattle.gds_record.specs.Records.{items_from};
 ghost use Rattle.gds_read.specs.Elements.{until, inside_of};
 ghost use Rattle.gds_read.specs.Moves.{IsNear};
-ghost use Rattle.gds_read.specs.Names.{looked_up, IsIndex};
+ghost use Rattle.gds_read.specs.Index.{IsIndex};
 ghost use Rattle.gds_read.specs.References.{target_in, Targets, stands_twice, repeats, data_in, first_bit};
 ghost use Rattle.gds_read.specs.References.{mirror_told, turn_of, turn_told, is_full_size, facing_of};
 ghost use Rattle.gds_read.specs.References.{array_of, copy_at};
 
 use crate::field::{element_content, field};
+use crate::index::{Index, find_name};
 use crate::lattice::{Lattice, read_lattice, shift, summed};
-use crate::names::find_name;
 use crate::placement::{Move, Turn};
 use crate::real::{whole, word_at, zero};
 use crate::structure::{Lookup, trim};
 use cell_num::MOST_BYTES;
 use gds_record::{GdsRec, RecordType, next_record};
-use indexmap::IndexMap;
 
 /// Mirrored or not, and how it is turned then.
 #[derive(Clone, Copy, Debug, PartialEq, Eq)]
@@ -41,9 +40,9 @@ pub struct Copies {
 }
 
 /// The place behind the name of the structure that the element names behind whose first record a place is.
-pub fn target(bytes: &[u8], names: &IndexMap<&[u8], Lookup>, from: u64) -> Option<u64>
+pub fn target(bytes: &[u8], index: &Index, from: u64) -> Option<u64>
     requires size { length bytes.now ≤ MOST_BYTES }
-    requires names { IsIndex bytes.now (looked_up names.now) }
+    requires index { IsIndex bytes.now index.now }
     requires place { from ≤ length bytes.now }
     ensures { Targets bytes.now result (target_in (items_from bytes.now 0)
         (until record_type.EndEl (items_from bytes.now from))) }
@@ -52,7 +51,7 @@ pub fn target(bytes: &[u8], names: &IndexMap<&[u8], Lookup>, from: u64) -> Optio
         return None;
     };
     let name = trim(&bytes[name.at as usize + 4..name.next as usize]);
-    match find_name(bytes, names, name) {
+    match find_name(bytes, index, name) {
         Lookup::At { place } => Some(place),
         _ => None,
     }
@@ -103,10 +102,8 @@ fn data(bytes: &[u8], from: u64, kind: RecordType) -> Option<&[u8]>
     requires place { from ≤ length bytes.now }
     ensures { option_map (λ w. w.now) result ≡ data_in kind (until record_type.EndEl (items_from bytes.now from)) }
 {
-    match field(bytes, from, RecordType::EndEl, kind) {
-        Some(rec) => Some(&bytes[rec.at as usize + 4..rec.next as usize]),
-        None => None,
-    }
+    let rec = field(bytes, from, RecordType::EndEl, kind)?;
+    Some(&bytes[rec.at as usize + 4..rec.next as usize])
 }
 
 fn first_bit(bits: &[u8]) -> Option<bool>

@@ -2,13 +2,16 @@
 use Rattle.std.proofs.Common.{ℕ, ℤ, ◌+◌, ◌≡◌, List, [], ◌∷◌, ◌++◌, length, refl, sym, ap, ◌∙◌, append_assoc}
 use Rattle.std.specs.Int.{w16, to_be_bytes}
 use Rattle.std.specs.List.{flat_map}
+use Rattle.std.proofs.lemmas.List.{append-nil}
 use Rattle.std.proofs.lemmas.List.Concat.{flat_map-cons}
 use Rattle.box_geom.specs.Rectangle.{Rectangle}
 use Rattle.box_geom.specs.declared.shape.Shapes.{Shapes}
 use Rattle.gds_record.specs.Records.{Raw, raw, spelled, spelling}
 use Rattle.gds_record.specs.Types.{number_of, data_type_of, data_number_of}
 use Rattle.gds_record.specs.declared.types.RecordType.{RecordType}
-use Rattle.gds_write.specs.Written.{long, point, corners, rectangle_records, label_records, head_records, tail_records, written}
+use Rattle.gds_record.specs.declared.types.RecordType.TheVariants as record_type
+use Rattle.gds_write.specs.declared.library.Struct.{Struct}
+use Rattle.gds_write.specs.Written.{long, padded, point, corners, times, rectangle_records, reference_records, label_records, structure_records, head_records, library_records, library_of}
 
 pub point_length : (unit : ℕ) (x y : ℤ) → length (point unit x y) ≡ 8
 unfolding long point
@@ -32,12 +35,33 @@ spelling_pieces f [] = refl
 spelling_pieces f (x ∷ xs) =
     rw (flat_map-cons f x xs, flat_map-cons (λ z. spelling (f z)) x xs) (spelling_append (f x) (flat_map f xs) ∙ ap (λ (t : List ℕ). spelling (f x) ++ t) (spelling_pieces f xs))
 
-pub library_joined : (name : List ℕ) (shapes : Shapes) (unit : ℕ) (start a b c d : List ℕ) → start ≡ [] → a ≡ start ++ spelling (head_records name) → b ≡ a ++ flat_map (λ s. spelling (rectangle_records unit s)) shapes.rects → c ≡ b ++ flat_map (λ l. spelling (label_records unit l)) shapes.labels → d ≡ c ++ spelling tail_records → d ≡ written name shapes unit
-library_joined name shapes unit start a b c d none head rects labels tail =
-    let rs : List Raw = flat_map (rectangle_records unit) shapes.rects in
-    let ls : List Raw = flat_map (label_records unit) shapes.labels in
-    let whole : written name shapes unit ≡ spelling (head_records name) ++ (spelling rs ++ (spelling ls ++ spelling tail_records)) =
-    spelling_append (head_records name) (rs ++ (ls ++ tail_records)) ∙ ap (λ (t : List ℕ). spelling (head_records name) ++ t) (spelling_append rs (ls ++ tail_records) ∙ ap (λ (t : List ℕ). spelling rs ++ t) (spelling_append ls tail_records)) in
-    let pieces : d ≡ ((spelling (head_records name) ++ spelling rs) ++ spelling ls) ++ spelling tail_records =
-    rw (tail, labels, rects, head, none, spelling_pieces (rectangle_records unit) shapes.rects, spelling_pieces (label_records unit) shapes.labels) refl in
-    pieces ∙ (append_assoc (spelling (head_records name) ++ spelling rs) (spelling ls) (spelling tail_records) ∙ (append_assoc (spelling (head_records name)) (spelling rs) (spelling ls ++ spelling tail_records) ∙ sym whole))
+-- ---- a structure, and a library
+
+abbrev bytes_of : {X : Type 0} → (X → List Raw) → List X → List ℕ
+bytes_of f xs = flat_map (λ x. spelling (f x)) xs
+
+structure_spelled : (unit : ℕ) (s : Struct) → spelling (structure_records unit s) ≡ spelled (raw record_type.BgnStr times) ++ (spelled (raw record_type.StrName (padded s.name)) ++ (bytes_of (rectangle_records unit) s.shapes.rects ++ (bytes_of (reference_records unit) s.refs ++ (bytes_of (label_records unit) s.shapes.labels ++ (spelled (raw record_type.EndStr []) ++ [])))))
+structure_spelled unit s =
+    let rs : List Raw = flat_map (rectangle_records unit) s.shapes.rects in
+    let fs : List Raw = flat_map (reference_records unit) s.refs in
+    let ls : List Raw = flat_map (label_records unit) s.shapes.labels in
+    let end : List Raw = raw record_type.EndStr [] ∷ [] in
+    let elements : spelling (rs ++ (fs ++ (ls ++ end))) ≡ bytes_of (rectangle_records unit) s.shapes.rects ++ (bytes_of (reference_records unit) s.refs ++ (bytes_of (label_records unit) s.shapes.labels ++ spelling end)) =
+    rw (spelling_append rs (fs ++ (ls ++ end)), spelling_append fs (ls ++ end), spelling_append ls end, spelling_pieces (rectangle_records unit) s.shapes.rects, spelling_pieces (reference_records unit) s.refs, spelling_pieces (label_records unit) s.shapes.labels) refl in
+    ap (λ (t : List ℕ). spelled (raw record_type.BgnStr times) ++ (spelled (raw record_type.StrName (padded s.name)) ++ t)) elements
+
+pub structure_joined : (unit : ℕ) (s : Struct) (start a b c d e f : List ℕ) → a ≡ start ++ spelled (raw record_type.BgnStr times) → b ≡ a ++ spelled (raw record_type.StrName (padded s.name)) → c ≡ b ++ flat_map (λ x. spelling (rectangle_records unit x)) s.shapes.rects → d ≡ c ++ flat_map (λ x. spelling (reference_records unit x)) s.refs → e ≡ d ++ flat_map (λ x. spelling (label_records unit x)) s.shapes.labels → f ≡ e ++ spelled (raw record_type.EndStr []) → f ≡ start ++ spelling (structure_records unit s)
+structure_joined unit s start a b c d e f begin named rects refs labels end =
+    rw (end, labels, refs, rects, named, begin, structure_spelled unit s) (simp (append_assoc, append-nil))
+
+pub library_joined : (structs : List Struct) (unit : ℕ) (start a b c : List ℕ) → start ≡ [] → a ≡ start ++ spelling head_records → b ≡ a ++ flat_map (λ s. spelling (structure_records unit s)) structs → c ≡ b ++ spelling (raw record_type.EndLib [] ∷ []) → c ≡ library_of structs unit
+library_joined structs unit start a b c none head within end =
+    let ss : List Raw = flat_map (structure_records unit) structs in
+    let last : List Raw = raw record_type.EndLib [] ∷ [] in
+    rw (end, within, head, none, spelling_append head_records (ss ++ last), spelling_append ss last, spelling_pieces (structure_records unit) structs) (append_assoc (spelling head_records) (bytes_of (structure_records unit) structs) (spelling last))
+
+-- ---- a library of one structure
+
+-- its records, one list of elements behind the other
+pub one_structure : (name : List ℕ) (shapes : Shapes) (unit : ℕ) → library_records name shapes unit ≡ head_records ++ (raw record_type.BgnStr times ∷ raw record_type.StrName (padded name) ∷ (flat_map (rectangle_records unit) shapes.rects ++ (flat_map (label_records unit) shapes.labels ++ raw record_type.EndStr [] ∷ raw record_type.EndLib [] ∷ [])))
+one_structure name shapes unit = simp append_assoc

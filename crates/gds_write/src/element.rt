@@ -1,13 +1,13 @@
 // The elements of a structure.
 ghost use Rattle.std.specs.Prelude.{◌≡◌, ◌++◌, OnOk};
-ghost use Rattle.std.specs.Int.{w16, to_be_bytes};
 ghost use Rattle.gds_record.specs.Layers.{layer_number};
 ghost use Rattle.gds_record.specs.Records.{raw, spelled, spelling};
 ghost use Rattle.gds_record.specs.declared.types.RecordType.TheVariants as record_type;
-ghost use Rattle.gds_write.specs.Written.{short, point, corners, rectangle_records, label_records, IsWritableShape, IsWritableLabel};
+ghost use Rattle.gds_write.specs.Written.{short, point, corners, Fits, rectangle_records, label_records, reference_records, IsWritableShape, IsLabelUpTo, IsWritableRef};
 
+use crate::library::Ref;
 use crate::put::{put, put_header, put_point, put_text};
-use box_geom::{Label, Layer, Rect, Shape};
+use box_geom::{Label, Layer, Shape};
 use gds_record::{RecordType, layers};
 use std::alloc::AllocError;
 
@@ -43,13 +43,13 @@ fn put_boundary_points(out: &mut Vec<u8>, shape: &Shape, unit: u32) -> Result<()
     Ok(())
 }
 
-fn put_label_point(out: &mut Vec<u8>, label: &Label, unit: u32) -> Result<(), AllocError>
-    requires { IsWritableLabel unit label.now }
-    ensures { OnOk result (out.new.items ≡ out.old.items ++ spelled (raw record_type.Xy
-        (point unit label.now.x label.now.y))) }
+fn put_place(out: &mut Vec<u8>, x: i32, y: i32, unit: u32) -> Result<(), AllocError>
+    requires x { Fits unit x }
+    requires y { Fits unit y }
+    ensures { OnOk result (out.new.items ≡ out.old.items ++ spelled (raw record_type.Xy (point unit x y))) }
 {
     put_header(out, RecordType::Xy, 8)?;
-    put_point(out, label.x, label.y, unit)?;
+    put_point(out, x, y, unit)?;
     Ok(())
 }
 
@@ -68,14 +68,26 @@ pub fn put_rectangle(out: &mut Vec<u8>, shape: &Shape, unit: u32) -> Result<(), 
 
 /// A label, as a text.
 pub fn put_label(out: &mut Vec<u8>, label: &Label, unit: u32) -> Result<(), AllocError>
-    requires { IsWritableLabel unit label.now }
+    requires { IsLabelUpTo 68 unit label.now }
     ensures { OnOk result (out.new.items ≡ out.old.items ++ spelling (label_records unit label.now)) }
 {
     put(out, RecordType::Text, &[])?;
     put_layer(out, label.layer)?;
     put(out, RecordType::TextType, &[0, 0])?;
-    put_label_point(out, label, unit)?;
+    put_place(out, label.x, label.y, unit)?;
     put_text(out, RecordType::StringText, label.name.as_slice())?;
+    put(out, RecordType::EndEl, &[])?;
+    Ok(())
+}
+
+/// A reference to a structure, neither mirrored nor turned.
+pub fn put_reference(out: &mut Vec<u8>, reference: &Ref, unit: u32) -> Result<(), AllocError>
+    requires { IsWritableRef unit reference.now }
+    ensures { OnOk result (out.new.items ≡ out.old.items ++ spelling (reference_records unit reference.now)) }
+{
+    put(out, RecordType::SRef, &[])?;
+    put_text(out, RecordType::SName, reference.name.as_slice())?;
+    put_place(out, reference.x, reference.y, unit)?;
     put(out, RecordType::EndEl, &[])?;
     Ok(())
 }

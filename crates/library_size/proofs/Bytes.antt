@@ -1,15 +1,16 @@
 -- The bytes of a written library, counted.
 use Rattle.std.specs.Prelude.{ℕ, ◌≡◌, ◌+◌, ◌*◌, ◌≤◌, List, [], ◌∷◌, ◌++◌, length, map, sum_by, All}
 use Rattle.std.specs.List.{flat_map}
-use Rattle.std.proofs.Common.{refl, arith, length-append}
+use Rattle.std.proofs.Common.{refl, ap, arith, length-append}
 use Rattle.std.proofs.lemmas.List.Sums.{sum_by-cons, sum_by-le}
 use Rattle.cell_num.proofs.Lists.{all_imply}
 use Rattle.box_geom.specs.declared.shape.Label.{Label}
 use Rattle.box_geom.specs.declared.shape.Shape.{Shape}
 use Rattle.box_geom.specs.declared.shape.Shapes.{Shapes}
-use Rattle.gds_record.specs.Records.{Raw, spelled, spelling}
-use Rattle.gds_write.specs.Written.{head_records, label_records, padded, rectangle_records, tail_records, written}
-use Rattle.gds_write.proofs.Pieces.{corners_length, point_length}
+use Rattle.gds_record.specs.declared.types.RecordType.TheVariants as record_type
+use Rattle.gds_record.specs.Records.{Raw, raw, spelled, spelling}
+use Rattle.gds_write.specs.Written.{head_records, label_records, padded, rectangle_records, times, written}
+use Rattle.gds_write.proofs.Pieces.{corners_length, one_structure, point_length}
 use Rattle.gds_write.proofs.Whole.{is_padded}
 use Rattle.library_size.specs.Size.{label_names, label_size, library_bytes}
 
@@ -44,15 +45,22 @@ labels_size : (unit : ℕ) (labels : List Label) → records_size (flat_map (lab
 labels_size unit [] = refl
 labels_size unit (l ∷ ls) = omega (arith, size_append (label_records unit l) (flat_map (label_records unit) ls), one_label unit l, labels_size unit ls, sum_by-cons label_size l.name (map (λ (l : Label). l.name) ls))
 
-head_size : (name : List ℕ) → records_size (head_records name) ≡ 98 + length (padded name)
-head_size name = omega arith
+-- the records behind the elements of a library of one structure
+abbrev tail_records : List Raw
+tail_records = raw record_type.EndStr [] ∷ raw record_type.EndLib [] ∷ []
+
+head_size : (name : List ℕ) (rest : List Raw) → records_size (head_records ++ (raw record_type.BgnStr times ∷ raw record_type.StrName (padded name) ∷ rest)) ≡ 98 + length (padded name) + records_size rest
+head_size name rest = omega arith
 
 pub written_size : (name : List ℕ) (shapes : Shapes) (unit : ℕ) → length (written name shapes unit) ≡ library_bytes name (length shapes.rects) (label_names shapes)
 written_size name shapes unit =
     let rs : List Raw = flat_map (rectangle_records unit) shapes.rects in
     let ls : List Raw = flat_map (label_records unit) shapes.labels in
+    let elements : List Raw = rs ++ (ls ++ tail_records) in
+    let whole : List Raw = head_records ++ (raw record_type.BgnStr times ∷ raw record_type.StrName (padded name) ∷ elements) in
+    let same : length (written name shapes unit) ≡ length (spelling whole) = ap (λ (t : List Raw). length (spelling t)) (one_structure name shapes unit) in
     let tail : records_size tail_records ≡ 8 = refl in
-    omega (arith, spelling_length (head_records name ++ (rs ++ (ls ++ tail_records))), size_append (head_records name) (rs ++ (ls ++ tail_records)), size_append rs (ls ++ tail_records), size_append ls tail_records, head_size name, rectangles_size unit shapes.rects, labels_size unit shapes.labels, tail)
+    omega (arith, same, spelling_length whole, head_size name elements, size_append rs (ls ++ tail_records), size_append ls tail_records, rectangles_size unit shapes.rects, labels_size unit shapes.labels, tail)
 
 -- ---- at most so many
 

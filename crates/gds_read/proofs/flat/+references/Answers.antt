@@ -1,21 +1,14 @@
-use Rattle.std.proofs.Common.{rules, sym, ◌∙◌}
-use Rattle.gds_record.proofs.Walks.{moves}
+use Rattle.std.proofs.Common.{rules, sym, subst, ◌≡◌, ◌≤◌, ◌+◌, drop, get_or}
+use Rattle.std.proofs.lemmas.List.{drop_more, drop_all}
+use Rattle.gds_read.specs.declared.taken.Taken.{Taken}
 use Rattle.gds_read.specs.Taken.{amount}
-use Rattle.gds_read.specs.Flat.{row_in}
-use Rattle.gds_read.proofs.Drawings.{with_front, goes_on_with}
+use Rattle.gds_read.specs.Flat.{row_in, listed_in}
+use Rattle.gds_read.proofs.Drawings.{with_front}
 use Rattle.gds_read.proofs.Moved.{near_inside}
 use Rattle.gds_read.proofs.Copied.{row_more}
+use Rattle.gds_read.proofs.Listed.{listed_behind, listed_more, listed_past, listed_stops, listed_done}
+use Rattle.gds_read.proofs.flat.+references.Goals.{add_elements-in-Ok+in-Ok-add_record, add_elements-in_default}
 use Rattle.gds_read.proofs.flat.+references.Goals as goal
-
-pub add_elements-records-preserved : goal.add_elements-records-preserved
-add_elements-records-preserved t c = (
-  (moves c.args.bytes.now c.records.at c.in-Ok.rec (sym c.in-Ok.ensures)).within,
-  (
-    c.in-Ok-add_record.ensures.room,
-    sym (goes_on_with c.args.bytes.now c.args.frame.now c.records.at c.records.taken c.add_record.new.taken c.in-Ok.rec (sym c.in-Ok.ensures) (λ e. c.if-rec-number.false (e ∙ sym c.number.ensures)) c.in-Ok-add_record.ensures.adds)
-        ∙ c.records.invariant.1.1,
-  ),
-)
 
 pub add_row-add_copy-requires : goal.add_row-add_copy-requires
 add_row-add_copy-requires t c = (
@@ -23,20 +16,14 @@ add_row-add_copy-requires t c = (
   (
     c.requires.size,
     (
-      c.requires.names,
+      c.requires.index,
       (
         c.requires.place,
         (
-          c.requires.frame.lambda,
+          c.requires.frame,
           (
-            c.requires.frame.unit,
-            (
-              c.requires.frame.levels,
-              (
-                near_inside c.args.frame.now.levels c.args.around.now.stands c.copy_at-copy.result c.composed.result c.composed.ensures c.requires.frame.levels c.requires.near c.copy_at-copy.ensures.near,
-                c.loop-column.invariant.0,
-              ),
-            ),
+            near_inside c.args.frame.now.levels c.args.around.now.stands c.copy_at-copy.result c.composed.result c.composed.ensures c.requires.frame.levels c.requires.near c.copy_at-copy.ensures.near,
+            c.loop-column.invariant.0,
           ),
         ),
       ),
@@ -46,8 +33,42 @@ add_row-add_copy-requires t c = (
 
 pub add_row-loop-column-preserved : goal.add_row-loop-column-preserved
 add_row-loop-column-preserved t c = (
-  c.in-Ok.ensures.room,
+  c.in_ok-add_copy.ensures.room,
   row_more c.args.bytes.now c.args.frame.now c.args.around.now c.args.copies.now c.args.row c.loop-column.column c.copy_at-copy.result c.composed.result c.loop-column.taken c.add_copy.new.taken
       (with_front c.args.taken.now (row_in c.args.bytes.now c.args.frame.now c.args.around.now c.args.copies.now (amount c.args.taken.now) c.args.row))
-      c.loop-column-test.true c.copy_at-copy.ensures.value c.composed.ensures c.in-Ok.ensures.adds c.loop-column.invariant.1,
+      c.loop-column-test.true c.copy_at-copy.ensures.value c.composed.ensures c.in_ok-add_copy.ensures.adds c.loop-column.invariant.1,
 )
+
+pub add_elements-returns-in-Err-clause-adds : goal.add_elements-returns-in-Err-clause-adds
+add_elements-returns-in-Err-clause-adds t c =
+    listed_stops c.args.bytes.now c.args.frame.now (get_or c.args.places.now c.loop-place.place-index 0) (drop c.loop-place.place-index c.args.places.now) (drop (c.loop-place.place-index + 1) c.args.places.now)
+    c.args.taken.now c.loop-place.taken c.add_record.new.taken c.add_record.new.taken c.in-Ok.rec c.in-Err.fault
+    (listed_in c.args.bytes.now c.args.frame.now (amount c.args.taken.now) c.args.places.now)
+    (drop_more c.args.places.now c.loop-place.place-index 0 c.loop-place-test.true) (sym c.in-Ok.ensures) c.in-Err.ensures.adds c.loop-place.invariant.1
+
+pub add_elements-loop-place-preserved : goal.add_elements-loop-place-preserved
+add_elements-loop-place-preserved t c =
+    let all = with_front c.args.taken.now (listed_in c.args.bytes.now c.args.frame.now (amount c.args.taken.now) c.args.places.now) in
+    let first = drop_more c.args.places.now c.loop-place.place-index 0 c.loop-place-test.true in
+    elim c.match-next_record.branch [
+      | add_elements-in-Ok+in-Ok-add_record w ↦ subst
+          (λ (x : Taken). (amount x ≤ 1000000) × (listed_behind c.args.bytes.now c.args.frame.now x (drop (c.loop-place.place-index + 1) c.args.places.now) ≡ with_front c.args.taken.now (listed_in c.args.bytes.now c.args.frame.now (amount c.args.taken.now) c.args.places.now)))
+          (sym w.taken-is) (
+            w.in-Ok-add_record.ensures.room,
+            listed_more c.args.bytes.now c.args.frame.now (get_or c.args.places.now c.loop-place.place-index 0) (drop c.loop-place.place-index c.args.places.now) (drop (c.loop-place.place-index + 1) c.args.places.now)
+                c.loop-place.taken w.add_record.new.taken w.in-Ok.rec all first (sym w.in-Ok.ensures) w.in-Ok-add_record.ensures.adds c.loop-place.invariant.1,
+          )
+      | add_elements-in_default w ↦ subst
+          (λ (x : Taken). (amount x ≤ 1000000) × (listed_behind c.args.bytes.now c.args.frame.now x (drop (c.loop-place.place-index + 1) c.args.places.now) ≡ with_front c.args.taken.now (listed_in c.args.bytes.now c.args.frame.now (amount c.args.taken.now) c.args.places.now)))
+          (sym w.taken-is) (
+            c.loop-place.invariant.0,
+            listed_past c.args.bytes.now c.args.frame.now (get_or c.args.places.now c.loop-place.place-index 0) (drop c.loop-place.place-index c.args.places.now) (drop (c.loop-place.place-index + 1) c.args.places.now)
+                c.loop-place.taken w.in_default.field-0 all first (sym w.in_default.ensures) c.loop-place.invariant.1,
+          )
+    ]
+
+pub add_elements-returns-clause-adds : goal.add_elements-returns-clause-adds
+add_elements-returns-clause-adds t c =
+    listed_done c.args.bytes.now c.args.frame.now (drop c.loop-place.place-index c.args.places.now) c.args.taken.now c.loop-place.taken
+    (listed_in c.args.bytes.now c.args.frame.now (amount c.args.taken.now) c.args.places.now)
+    (drop_all c.loop-place.place-index c.args.places.now c.loop-place-test.false) c.loop-place.invariant.1

@@ -1,8 +1,8 @@
-use Rattle.std.proofs.Common.{◌≡◌, ◌≤◌, ◌+◌, ◌-◌, ◌*◌, length}
-use Rattle.gds_record.specs.Records.{items_from}
+use Rattle.std.proofs.Common.{◌≡◌, ◌≤◌, ◌+◌, ◌-◌, ◌*◌, drop}
 use Rattle.gds_read.specs.Taken.{amount}
-use Rattle.gds_read.specs.Flat.{row_in, copies_in}
-use Rattle.gds_read.proofs.Drawings.{with_front, drawn_behind, drawn_from}
+use Rattle.gds_read.specs.Flat.{row_in, copies_in, listed_in}
+use Rattle.gds_read.proofs.Drawings.{with_front}
+use Rattle.gds_read.proofs.Listed.{listed_behind}
 use Rattle.gds_read.proofs.Copied.{row_behind, rows_behind}
 use Rattle.gds_read.proofs.flat.+references.Given as goal
 
@@ -10,7 +10,7 @@ abbrev pub decreases-add_copies : goal.decreases-add_copies
 decreases-add_copies l = 8 * l.frame.now.levels + 3
 
 abbrev pub decreases-add_copy : goal.decreases-add_copy
-decreases-add_copy l = 8 * l.levels
+decreases-add_copy l = 8 * l.frame.now.levels
 
 abbrev pub decreases-add_element : goal.decreases-add_element
 decreases-add_element l = 8 * l.frame.now.levels + 5
@@ -30,11 +30,8 @@ decreases-add_row l = 8 * l.frame.now.levels + 2
 abbrev pub invariant-add_copies-loop-row : goal.invariant-add_copies-loop-row
 invariant-add_copies-loop-row l = (amount l.taken ≤ 1000000) × (rows_behind l.bytes l.frame l.around l.copies l.row l.taken ≡ with_front l.fn.taken (copies_in l.bytes l.frame l.around l.copies (amount l.fn.taken)))
 
-abbrev pub invariant-add_elements-records : goal.invariant-add_elements-records
-invariant-add_elements-records l = (l.at ≤ length l.bytes) × ((amount l.taken ≤ 1000000) × (drawn_behind l.bytes l.frame l.taken l.at ≡ with_front l.fn.taken (drawn_from l.bytes l.frame (amount l.fn.taken) l.place)))
-
-abbrev pub decreases-add_elements-records : goal.decreases-add_elements-records
-decreases-add_elements-records l = length l.bytes - l.at
+abbrev pub invariant-add_elements-loop-place : goal.invariant-add_elements-loop-place
+invariant-add_elements-loop-place l = (amount l.taken ≤ 1000000) × (listed_behind l.bytes l.frame l.taken (drop l.place-index l.places) ≡ with_front l.fn.taken (listed_in l.bytes l.frame (amount l.fn.taken) l.places))
 
 abbrev pub invariant-add_row-loop-column : goal.invariant-add_row-loop-column
 invariant-add_row-loop-column l = (amount l.taken ≤ 1000000) × (row_behind l.bytes l.frame l.around l.copies l.row l.column l.taken ≡ with_front l.fn.taken (row_in l.bytes l.frame l.around l.copies (amount l.fn.taken) l.row))

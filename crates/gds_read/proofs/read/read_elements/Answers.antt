@@ -1,11 +1,23 @@
-use Rattle.std.proofs.Common.{Err, subst}
+use Rattle.std.proofs.Common.{Ok, Err, true, subst, ◌≡◌, ◌∙◌}
+use Rattle.gds_record.specs.Records.{items_from}
 use Rattle.gds_read.specs.declared.taken.Taken.{Taken}
 use Rattle.gds_read.specs.Taken.{nothing_taken, amount, Adds}
-use Rattle.gds_read.proofs.Drawings.{own, drawn_from, gives_fault}
+use Rattle.gds_read.specs.Index.{drawing_places}
+use Rattle.gds_read.specs.Flat.{listed_in}
+use Rattle.gds_read.proofs.Drawings.{own, gives_fault}
+use Rattle.gds_read.proofs.Listed.{drawn_listed, gives_listed}
 use Rattle.gds_read.proofs.read.read_elements.Goals as goal
 
 pub returns : goal.returns
 returns c =
-    let adds : Adds (Err c.in-Err.fault) nothing_taken c.add_elements.new.taken (drawn_from c.args.bytes.now (own c.args.grid.now) 0 c.args.place) =
-    subst (λ (t : Taken). Adds (Err c.in-Err.fault) t c.add_elements.new.taken (drawn_from c.args.bytes.now (own c.args.grid.now) (amount t) c.args.place)) c.none_taken-taken.ensures c.in-Err.ensures.adds in
-    gives_fault c.args.bytes.now c.args.grid.now c.args.place c.add_elements.new.taken c.in-Err.fault adds
+    let listed : c.as_slice.result.now ≡ drawing_places true (items_from c.args.bytes.now c.args.place) = c.as_slice.ensures.value ∙ c.in_ok-places.ensures in
+    let adds : Adds (Err c.in-Err.fault) nothing_taken c.add_elements.new.taken (listed_in c.args.bytes.now (own c.args.grid.now) 0 c.as_slice.result.now) =
+    subst (λ (t : Taken). Adds (Err c.in-Err.fault) t c.add_elements.new.taken (listed_in c.args.bytes.now (own c.args.grid.now) (amount t) c.as_slice.result.now)) c.none_taken-taken.ensures c.in-Err.ensures.adds in
+    gives_fault c.args.bytes.now c.args.grid.now c.args.place c.add_elements.new.taken c.in-Err.fault (drawn_listed c.args.bytes.now c.args.grid.now c.args.place c.as_slice.result.now c.add_elements.new.taken (Err c.in-Err.fault) listed adds)
+
+pub returns-in-Ok : goal.returns-in-Ok
+returns-in-Ok c =
+    let listed : c.as_slice.result.now ≡ drawing_places true (items_from c.args.bytes.now c.args.place) = c.as_slice.ensures.value ∙ c.in_ok-places.ensures in
+    let adds : Adds (Ok tt) nothing_taken c.add_elements.new.taken (listed_in c.args.bytes.now (own c.args.grid.now) 0 c.as_slice.result.now) =
+    subst (λ (t : Taken). Adds (Ok tt) t c.add_elements.new.taken (listed_in c.args.bytes.now (own c.args.grid.now) (amount t) c.as_slice.result.now)) c.none_taken-taken.ensures c.in-Ok.ensures.adds in
+    gives_listed c.args.bytes.now c.args.grid.now c.args.place c.as_slice.result.now c.add_elements.new.taken listed adds
