@@ -1,11 +1,11 @@
-ghost use Rattle.std.specs.Prelude.{◌≡◌, [], IfOk, map};
-ghost use Rattle.row_state.specs.Tests.{state_test};
+ghost use Rattle.std.specs.Prelude.{◌≡◌, [], IfOk, IsTrue, map};
+ghost use Rattle.row_state.specs.Tests.{counts_fit, end_fits, state_test};
 ghost use Rattle.bound_log.specs.Line.{FewOfEach, column_in, counts_each, counts_in, entry_in, gaps_in, lemma_in, parts_at, state_in, step_in, words_in};
 
 use crate::word::{end, first_part, is_word, number_below, parts, rule, side};
 use crate::{Entry, Lemma, LogStep, MOST_GAPS};
 use cell_num::{NetNo, NoMemory};
-use row_state::{Counts, Kind, Kinds, State, Step, is_state};
+use row_state::{Counts, Kind, Kinds, State, Step, has_leads};
 use std::alloc::Global;
 
 #[tactic(auto, using(crate::proofs::Counts::few_here, crate::proofs::Counts::no_part, crate::proofs::Counts::bad_count, crate::proofs::Counts::next_count, crate::proofs::Counts::too_many, crate::proofs::Counts::all_counts))]
@@ -52,12 +52,16 @@ fn counts(alloc: Global, kinds: &[Kind], word: &[u8]) -> Result<Option<Counts>, 
     }
 }
 
+// Whether the state is valid, where its counts and ends are in range.
 #[tactic(auto, using(crate::proofs::States::is_tested))]
 fn is_valid(state: &State, kinds: &Kinds) -> bool
+    requires p_left { IsTrue (counts_fit kinds.now.p state.now.p_left) }
+    requires n_left { IsTrue (counts_fit kinds.now.n state.now.n_left) }
+    requires p_end { IsTrue (end_fits state.now.p_end kinds.now.nets) }
+    requires n_end { IsTrue (end_fits state.now.n_end kinds.now.nets) }
     ensures { result ≡ state_test kinds.now state.now }
 {
-    kinds.show_limits();
-    is_state(state, kinds)
+    has_leads(state, kinds)
 }
 
 #[tactic(auto, using(crate::proofs::Counts::few_of_each))]

@@ -23,18 +23,26 @@ pub(crate) struct Part<'a> {
     pub(crate) after: Option<&'a [u8]>,
 }
 
-#[tactic(auto, using(crate::proofs::Parts::second_cut, crate::proofs::Parts::first_cut, crate::proofs::Parts::not_cut))]
+#[tactic(auto, using(crate::proofs::Parts::one_byte, crate::proofs::Parts::second_cut, crate::proofs::Parts::first_cut, crate::proofs::Parts::not_cut))]
 pub(crate) fn first_part(text: &[u8], byte: u8) -> Part<'_>
-    ensures { parts_at byte text.now ≡ result.part.now ∷ parts_left byte result.after }
+    ensures parts { parts_at byte text.now ≡ result.part.now ∷ parts_left byte result.after }
+    ensures less { IfSome result.after (λ after. length after.now < length text.now) }
 {
     // Most counts have one digit.
-    if let [first, next, after @ ..] = text {
-        if *first != byte && *next == byte {
+    match text {
+        [only] if *only != byte => {
+            return Part {
+                part: text,
+                after: None,
+            };
+        }
+        [first, next, after @ ..] if *first != byte && *next == byte => {
             return Part {
                 part: &text[..1],
                 after: Some(after),
             };
         }
+        _ => {}
     }
     let Some(at) = find_byte(text, byte) else {
         return Part {
@@ -60,12 +68,12 @@ pub(crate) fn parts<const N: usize>(text: &[u8], byte: u8) -> Option<ArrayVec<&[
         if parts.is_full() {
             return None;
         }
-        let Some(at) = find_byte(rest, byte) else {
-            parts.push(rest);
+        let first = first_part(rest, byte);
+        parts.push(first.part);
+        let Some(after) = first.after else {
             return Some(parts);
         };
-        parts.push(&rest[..at]);
-        rest = &rest[at + 1..];
+        rest = after;
     }
 }
 

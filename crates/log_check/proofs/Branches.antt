@@ -1,7 +1,9 @@
 -- All next columns of a list are all next columns.
 use Rattle.std.proofs.Common.{ℕ, ◌≡◌, ◌<◌, ◌≤◌, List, [], ◌∷◌, length, take, get_or, All, ap, subst, sym, arith, take_all, ◌↔◌}
 use Rattle.std.proofs.lemmas.List.Elements.{All-cons, All-contains, All-get_or, All-head, All-nil, All-tail}
-use Rattle.std.proofs.Common.{◌+◌, ◌∙◌}
+use Rattle.std.specs.Prelude.{Bool, IsTrue, ltb}
+use Rattle.std.proofs.Common.{◌+◌, ◌-◌, ◌∙◌}
+use Rattle.std.proofs.lemmas.Bool.{lt-ltb, ltb-true}
 use Rattle.std.proofs.lemmas.List.{get_or_default}
 use Rattle.cell_num.specs.declared.finger.Row.{Row}
 use Rattle.row_state.specs.declared.kind.Kinds.{Kinds}
@@ -74,3 +76,8 @@ first_is value k lemmas at x best some before same is within wrong =
       before = before;
       unproved = λ d h. wrong (same_best value k x (λ s. best_of s (take at lemmas)) best some (λ s state. sym (same s state)) ((here_is value k lemmas at x d (λ s. best_of s (take at lemmas)) is within).1 h));
     }
+
+-- the bound of a row is above the number before that of the lemma
+pub above_is : (reached value : ℕ) (above : Bool) → 0 < reached → above ≡ ltb (reached - 1) value → IsTrue above ↔ (reached ≤ value)
+above_is reached value above some is =
+    ((λ yes. omega (arith, some, ltb-true (reached - 1) value (sym is ∙ yes))), (λ le. is ∙ lt-ltb (reached - 1) value (omega (arith, some, le))))

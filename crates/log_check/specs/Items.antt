@@ -28,6 +28,11 @@ pub record Checked : Type 0 where
   -- the gaps said and the columns
   pub row : Option Best
 
+-- A checker and the bound by which it checks.
+pub record Checking (B : Type 0) : Type 0 where
+  pub seen : Checked
+  pub bound : B
+
 -- the best bounds of valid states are those of the lemmas
 abbrev pub AreBest : Kinds → (State → ℕ) → List Lemma → Type 0
 AreBest k best lemmas = (s : State) → IsState k s → best s ≡ best_of s lemmas

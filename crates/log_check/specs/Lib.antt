@@ -2,6 +2,7 @@
 pub mod Accepted
 pub mod Items
 pub mod Known
+pub mod Noted
 pub mod Refusal
 -- What inner contracts and proofs alone cite.
 pub mod Tests

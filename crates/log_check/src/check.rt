@@ -9,23 +9,30 @@ ghost use Rattle.row_state.specs.declared.state.State.{State as StateOf};
 ghost use Rattle.bound_log.specs.declared.log.Lemma.{Lemma as LemmaOf};
 ghost use Rattle.log_check.specs.Accepted.{IsAccepted, IsTrueOf, Lists, WithKinds};
 ghost use Rattle.log_check.specs.Items.{ForSeen, HasSeen, with_columns, with_lemmas};
+ghost use Rattle.log_check.specs.Noted.{AreNoted};
 ghost use Rattle.log_check.specs.declared.refused.Refused.TheVariants as because;
 ghost use Rattle.log_check.specs.Refusal.{Proves, Refuses};
 
-use crate::{Refused, Seen};
+use crate::{Refused, Seen, Trails};
 use bound_log::{Best, Lemma, Log, LogStep};
 use cell_num::{Fingers, MOST_BYTES, NoMemory};
 use row_state::RowBound;
 use std::alloc::Global;
 
-fn add_lemmas<B: RowBound>(seen: &mut Seen, bound: &B, lemmas: &[Lemma]) -> Result<(), NoMemory>
+fn add_lemmas<B: RowBound>(
+    seen: &mut Seen,
+    bound: &B,
+    trails: &mut Trails,
+    lemmas: &[Lemma],
+) -> Result<(), NoMemory>
     requires few { seen.old.lemmas + length lemmas.now ≤ MOST_BYTES }
+    requires noted { AreNoted (B.trails_of bound.now) seen.old.kinds trails.old }
     ensures fingers { seen.new.fingers ≡ seen.old.fingers }
     ensures seen { OnOk result (ForSeen (B.value bound.now) seen.old (λ log.
         HasSeen (B.value bound.now) seen.new (with_lemmas log lemmas.now))) }
 {
     for lemma in lemmas {
-        seen.lemma(bound, lemma)?;
+        seen.lemma(bound, trails, lemma)?;
     }
     Ok(())
 }
@@ -68,7 +75,8 @@ fn see_all<B: RowBound>(
     ensures seen { IfOk result (λ c. HasSeen (B.value bound.now) c log.now) }
 {
     let mut seen = Seen::new(alloc, fingers, log.version)?;
-    add_lemmas(&mut seen, bound, log.lemmas.as_slice())?;
+    let mut trails = Trails::new(alloc);
+    add_lemmas(&mut seen, bound, &mut trails, log.lemmas.as_slice())?;
     add_row(&mut seen, &log.best)?;
     Ok(seen)
 }

@@ -9,18 +9,33 @@ ghost use Rattle.log_check.specs.Items.{ForSeen, HasSeen, empty_log, with_column
 ghost use Rattle.log_check.specs.declared.refused.Refused.TheVariants as because;
 ghost use Rattle.log_check.specs.Refusal.{Proves, Refuses};
 
-use crate::{Refused, Seen};
+use crate::{Refused, Seen, Trails};
 use bound_log::{Lemma, LogStep};
 use cell_num::{Fingers, MOST_BYTES, NoMemory};
 use row_state::RowBound;
 use std::alloc::Global;
+use std::marker::Model;
 
 /// A log of the bound's version, checked item by item in the order of its lines: each lemma, then the gaps said
 /// and each column.
 #[derive(Drop)]
 pub struct Checker<B: RowBound + Drop> {
+    alloc: Global,
     seen: Seen,
     bound: B,
+    // By the bound, for the kinds of the fingers.
+    trails: Trails,
+}
+
+impl<B: RowBound + Drop> Model for Checker<B> {
+    ghost use Rattle.log_check.specs.Items.{Checking};
+    ghost use Rattle.log_check.specs.Noted.{AreNoted};
+
+    ghost Value = { Checking B };
+
+    ghost view = { λ c. record { seen = c.seen; bound = c.bound } };
+
+    ghost invariant = { λ c. AreNoted (B.trails_of c.bound) c.seen.kinds c.trails };
 }
 
 impl<B: RowBound + Drop> Checker<B> {
@@ -35,8 +50,10 @@ impl<B: RowBound + Drop> Checker<B> {
     {
         let version = bound.version();
         Ok(Checker {
+            alloc,
             seen: Seen::new(alloc, fingers, version)?,
             bound,
+            trails: Trails::new(alloc),
         })
     }
 
@@ -49,6 +66,7 @@ impl<B: RowBound + Drop> Checker<B> {
         ensures seen { HasSeen (B.value bound) self.new.seen (empty_log (B.version_of bound)) }
     {
         self.seen.begin(bound.version());
+        self.trails = Trails::new(self.alloc);
         self.bound = bound;
     }
 
@@ -70,7 +88,7 @@ impl<B: RowBound + Drop> Checker<B> {
             HasSeen (B.value self.old.bound) self.new.seen (with_lemmas log (lemma.now ∷ [])))) }
         ensures unchanged { OnErr result (self.new ≡ self.old) }
     {
-        self.seen.lemma(&self.bound, lemma)?;
+        self.seen.lemma(&self.bound, &mut self.trails, lemma)?;
         Ok(())
     }
 
@@ -87,7 +105,7 @@ impl<B: RowBound + Drop> Checker<B> {
             HasSeen (B.value self.old.bound) self.new.seen (with_lemmas log (lemma ∷ [])))) }
         ensures unchanged { OnErr result (self.new ≡ self.old) }
     {
-        self.seen.valid_lemma(&self.bound, lemma)?;
+        self.seen.valid_lemma(&self.bound, &mut self.trails, lemma)?;
         Ok(())
     }
 

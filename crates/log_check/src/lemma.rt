@@ -1,13 +1,17 @@
-ghost use Rattle.std.specs.Prelude.{◌↔◌, IsTrue};
+ghost use Rattle.std.specs.Prelude.{◌≤◌, ◌↔◌, IfOk, IsTrue};
 ghost use Rattle.row_state.specs.Candidates.{AreCandidates, IsCandidate, IsNumbered};
+ghost use Rattle.row_state.specs.Start.{IsState};
 ghost use Rattle.row_state.specs.Steps.{IsPossible};
 ghost use Rattle.log_check.specs.Accepted.{BranchReaches, RuleReaches, StepReaches};
 ghost use Rattle.log_check.specs.Known.{best_known};
+ghost use Rattle.log_check.specs.Noted.{AreNoted};
 
-use crate::Known;
+use crate::{Known, Trails};
 use bound_log::Rule;
-use cell_num::Row;
-use row_state::{Candidate, Candidates, Kinds, Numbered, RowBound, has_fingers};
+use cell_num::{NoMemory, Row};
+use row_state::{
+    Candidate, Candidates, Kinds, Numbered, RowBound, State, count_empty, has_fingers,
+};
 
 // Whether the column's cost and the best earlier bound behind it reach the bound.
 fn step_reaches(kinds: &Kinds, known: &Known, from: &Numbered, next: &Candidate, bound: u32) -> bool
@@ -56,30 +60,62 @@ fn branch_reaches(
     true
 }
 
-// Whether by this rule, and by the bounds known, each completion of the state has so many further gaps, where all
-// columns that may ever come next are listed.
-pub(crate) fn reaches<B: RowBound>(
+// Whether the bound of one row alone reaches the lemma's.
+#[tactic(auto, using(crate::proofs::Branches::above_is))]
+fn row_reaches<B: RowBound>(
     kinds: &Kinds,
-    known: &Known,
-    candidates: &Candidates,
+    bound: &B,
+    trails: &mut Trails,
+    row: Row,
+    state: &State,
+    reached: u32,
+) -> Result<bool, NoMemory>
+    requires state { IsState kinds.now state.now }
+    requires noted { AreNoted (B.trails_of bound.now) kinds.now trails.old }
+    ensures noted { AreNoted (B.trails_of bound.now) kinds.now trails.new }
+    ensures reaches { IfOk result (λ holds. IsTrue holds ↔ (reached ≤ B.value bound.now row state.now kinds.now)) }
+{
+    if reached == 0 {
+        return Ok(true);
+    }
+    let counted = trails.of(bound, kinds, row, state)?;
+    let empty = count_empty(row, state, kinds);
+    Ok(bound.is_above(row, state, kinds, counted, empty, reached - 1))
+}
+
+// What a lemma may rest on: all columns that may ever come next, the bounds of earlier lemmas, and that of a row.
+#[derive(Clone, Copy)]
+pub(crate) struct Grounds<'a, B> {
+    pub kinds: &'a Kinds,
+    pub candidates: &'a Candidates,
+    pub known: &'a Known,
+    pub bound: &'a B,
+}
+
+// Whether by this rule each completion of the state has so many further gaps.
+pub(crate) fn reaches<B: RowBound>(
+    grounds: &Grounds<B>,
+    trails: &mut Trails,
     at: &Numbered,
     rule: Rule,
     reached: u32,
-    bound: &B,
-) -> bool
-    requires candidates { AreCandidates kinds.now candidates.now }
-    requires numbered { IsNumbered kinds.now at.now }
-    ensures { IsTrue result ↔
-        RuleReaches (B.value bound.now) kinds.now (best_known known.now kinds.now) rule at.now.state reached }
+) -> Result<bool, NoMemory>
+    requires candidates { AreCandidates grounds.now.kinds.now grounds.now.candidates.now }
+    requires numbered { IsNumbered grounds.now.kinds.now at.now }
+    requires noted { AreNoted (B.trails_of grounds.now.bound.now) grounds.now.kinds.now trails.old }
+    ensures noted { AreNoted (B.trails_of grounds.now.bound.now) grounds.now.kinds.now trails.new }
+    ensures reaches { IfOk result (λ holds. IsTrue holds ↔ RuleReaches (B.value grounds.now.bound.now)
+        grounds.now.kinds.now (best_known grounds.now.known.now grounds.now.kinds.now) rule at.now.state reached) }
 {
+    let kinds = grounds.kinds;
     match rule {
-        Rule::P => reached <= bound.bound(Row::P, &at.state, kinds),
-        Rule::N => reached <= bound.bound(Row::N, &at.state, kinds),
+        Rule::P => row_reaches(kinds, grounds.bound, trails, Row::P, &at.state, reached),
+        Rule::N => row_reaches(kinds, grounds.bound, trails, Row::N, &at.state, reached),
         Rule::Branch => {
             if has_fingers(&at.state) {
-                branch_reaches(kinds, known, candidates, at, reached)
+                Ok(branch_reaches(kinds, grounds.known, grounds.candidates, at, reached))
             } else {
-                false
+                Ok(false)
             }
         }
     }

@@ -1,26 +1,19 @@
-ghost use Rattle.std.specs.Prelude.{◌≡◌, ◌≢◌, ◌≤◌, ◌<◌, ◌+◌, ◌∷◌, [], All, IfErr, IfOk, List as Sequence, OnErr, OnOk, ℕ, option_map};
+ghost use Rattle.std.specs.Prelude.{◌≡◌, ◌<◌, ◌+◌, ◌∷◌, [], IfOk, OnErr, OnOk, ℕ};
 ghost use Rattle.cell_num.specs.declared.finger.Row.{Row as RowOf};
 ghost use Rattle.cell_num.specs.Fingers.{AreFingers};
-ghost use Rattle.row_model.specs.declared.column.Column.{Column};
-ghost use Rattle.row_model.specs.Arrangement.{IsArrangement};
-ghost use Rattle.row_model.specs.Gaps.{gaps_of};
 ghost use Rattle.row_state.specs.declared.kind.Kinds.{Kinds as KindsOf};
 ghost use Rattle.row_state.specs.declared.state.State.{State as StateOf};
-ghost use Rattle.row_state.specs.Start.{AreKinds, AreSomeKinds, IsState, start_of};
+ghost use Rattle.row_state.specs.Start.{IsState};
 ghost use Rattle.bound_log.specs.declared.log.Lemma.{Lemma as LemmaOf};
-ghost use Rattle.log_check.specs.Accepted.{BestPasses, IsAccepted, IsTrueOf, Lists, WithKinds};
-ghost use Rattle.log_check.specs.Items.{ForSeen, HasSeen, empty_log, more_steps, with_columns, with_gaps, with_lemmas};
-ghost use Rattle.log_check.specs.Known.{best_known};
-ghost use Rattle.log_check.specs.declared.refused.Refused.TheVariants as because;
-ghost use Rattle.log_check.specs.Refusal.{BestRefuses, Proves, Refuses};
+ghost use Rattle.log_check.specs.Accepted.{WithKinds};
+ghost use Rattle.log_check.specs.Items.{ForSeen, HasSeen, empty_log, with_lemmas};
+ghost use Rattle.log_check.specs.Noted.{AreNoted};
 
-use crate::Refused;
-use crate::known::Known;
-use crate::lemma::reaches;
-use crate::listed::check_row;
-use bound_log::{Best, Lemma, LogStep, LogSteps};
+use crate::lemma::{Grounds, reaches};
+use crate::{Known, Trails};
+use bound_log::{Best, Lemma};
 use cell_num::{Fingers, MOST_BYTES, NoMemory};
-use row_state::{Candidates, Kinds, Numbered, RowBound, candidates, is_state, kinds, start};
+use row_state::{Candidates, Kinds, Numbered, RowBound, candidates, is_state, kinds};
 use std::alloc::{AllocError, Global};
 use std::marker::Model;
 
@@ -44,56 +37,22 @@ fn copied_lemma(lemma: &Lemma) -> Result<Lemma, AllocError>
     })
 }
 
-fn start_best(alloc: Global, kinds: &Kinds, known: &Known) -> Result<u32, NoMemory>
-    ensures { IfOk result (λ best. best ≡ best_known known.now kinds.now (start_of kinds.now)) }
-{
-    let first = start(alloc, kinds)?;
-    Ok(known.best(kinds, &first))
-}
-
-fn check_best(
-    alloc: Global,
-    fingers: &Fingers,
-    kinds: &Kinds,
-    listed: &Option<Best>,
-    best: u32,
-) -> Result<u32, Refused>
-    requires fingers { AreFingers fingers.now }
-    ensures passes { IfOk result (BestPasses kinds.now fingers.now best listed.now) }
-    ensures refuses { IfErr result (BestRefuses kinds.now fingers.now best listed.now) }
-{
-    match listed {
-        Some(row) => check_row(alloc, fingers, kinds, row, best),
-        None => Err(Refused::NoRow { best }),
-    }
-}
-
-fn add_column(row: &mut Option<Best>, step: &LogStep) -> Result<(), NoMemory>
-    ensures ok { OnOk result (row.new ≡ option_map (more_steps (step.now ∷ [])) row.old) }
-    ensures err { OnErr result (row.new ≡ row.old) }
-{
-    match row {
-        Some(row) => row.steps.push(*step),
-        None => Ok(()),
-    }
-}
-
 /// What a checker has come to: the best bounds so far, how many lemmas there were and the first that was
 /// not justified, and the row whose gaps and columns came.
 #[derive(Drop)]
 pub struct Seen {
-    alloc: Global,
+    pub(crate) alloc: Global,
     // The version of the log.
     version: u32,
-    fingers: Fingers,
-    kinds: Kinds,
+    pub(crate) fingers: Fingers,
+    pub(crate) kinds: Kinds,
     // All columns that may ever come next.
     candidates: Candidates,
-    known: Known,
+    pub(crate) known: Known,
     lemmas: u32,
     // The line of the first lemma that was not justified.
-    unproved: Option<u32>,
-    row: Option<Best>,
+    pub(crate) unproved: Option<u32>,
+    pub(crate) row: Option<Best>,
 }
 
 impl Model for Seen {
@@ -148,6 +107,7 @@ impl Seen {
     // Another log begins.
     #[tactic(auto, using(crate::proofs::Items::seen_none))]
     pub(crate) fn begin(&mut self, version: u32)
+        ensures kinds { self.new.kinds ≡ self.old.kinds }
         ensures fingers { self.new.fingers ≡ self.old.fingers }
         ensures version { self.new.version ≡ version }
         ensures count { self.new.lemmas ≡ 0 }
@@ -166,8 +126,16 @@ impl Seen {
         self.lemmas
     }
 
-    pub(crate) fn lemma<B: RowBound>(&mut self, bound: &B, lemma: &Lemma) -> Result<(), NoMemory>
+    pub(crate) fn lemma<B: RowBound>(
+        &mut self,
+        bound: &B,
+        trails: &mut Trails,
+        lemma: &Lemma,
+    ) -> Result<(), NoMemory>
         requires few { self.old.lemmas < MOST_BYTES }
+        requires noted { AreNoted (B.trails_of bound.now) self.old.kinds trails.old }
+        ensures noted { AreNoted (B.trails_of bound.now) self.old.kinds trails.new }
+        ensures kinds { self.new.kinds ≡ self.old.kinds }
         ensures fingers { self.new.fingers ≡ self.old.fingers }
         ensures version { self.new.version ≡ self.old.version }
         ensures count { OnOk result (self.new.lemmas ≡ self.old.lemmas + 1) }
@@ -181,12 +149,13 @@ impl Seen {
             return Ok(());
         }
         let own = copied_lemma(lemma)?;
-        self.valid_lemma(bound, own)
+        self.valid_lemma(bound, trails, own)
     }
 
     // One lemma more, on no valid state.
     fn refuse(&mut self)
         requires few { self.old.lemmas < MOST_BYTES }
+        ensures kinds { self.new.kinds ≡ self.old.kinds }
         ensures fingers { self.new.fingers ≡ self.old.fingers }
         ensures version { self.new.version ≡ self.old.version }
         ensures count { self.new.lemmas ≡ self.old.lemmas + 1 }
@@ -207,10 +176,14 @@ impl Seen {
     pub(crate) fn valid_lemma<B: RowBound>(
         &mut self,
         bound: &B,
+        trails: &mut Trails,
         lemma: Lemma,
     ) -> Result<(), NoMemory>
         requires few { self.old.lemmas < MOST_BYTES }
         requires state { WithKinds self.old.fingers (λ k. IsState k lemma.state) }
+        requires noted { AreNoted (B.trails_of bound.now) self.old.kinds trails.old }
+        ensures noted { AreNoted (B.trails_of bound.now) self.old.kinds trails.new }
+        ensures kinds { self.new.kinds ≡ self.old.kinds }
         ensures fingers { self.new.fingers ≡ self.old.fingers }
         ensures version { self.new.version ≡ self.old.version }
         ensures count { OnOk result (self.new.lemmas ≡ self.old.lemmas + 1) }
@@ -230,15 +203,14 @@ impl Seen {
             rule,
         } = lemma;
         let at = Numbered::new(state, &self.kinds);
-        if !reaches(
-            &self.kinds,
-            &self.known,
-            &self.candidates,
-            &at,
-            rule,
-            reached,
+        let grounds = Grounds {
+            kinds: &self.kinds,
+            candidates: &self.candidates,
+            known: &self.known,
             bound,
-        ) {
+        };
+        let holds = reaches(&grounds, trails, &at, rule, reached)?;
+        if !holds {
             self.unproved = Some(self.lemmas + 3);
             self.lemmas = count;
             return Ok(());
@@ -246,69 +218,5 @@ impl Seen {
         self.known.note_at(at.code, reached)?;
         self.lemmas = count;
         Ok(())
-    }
-
-    #[tactic(auto, using(crate::proofs::Items::seen_gaps))]
-    pub(crate) fn gaps(&mut self, said: u32)
-        ensures fingers { self.new.fingers ≡ self.old.fingers }
-        ensures version { self.new.version ≡ self.old.version }
-        ensures count { self.new.lemmas ≡ self.old.lemmas }
-        ensures seen { (value : RowOf → StateOf → KindsOf → ℕ) →
-            ForSeen value self.old (λ log. HasSeen value self.new (with_gaps log said)) }
-    {
-        self.row = Some(Best {
-            gaps: said,
-            steps: LogSteps::new(self.alloc),
-        });
-    }
-
-    #[tactic(auto, using(crate::proofs::Items::seen_columns))]
-    pub(crate) fn column(&mut self, step: &LogStep) -> Result<(), NoMemory>
-        ensures fingers { self.new.fingers ≡ self.old.fingers }
-        ensures version { self.new.version ≡ self.old.version }
-        ensures count { self.new.lemmas ≡ self.old.lemmas }
-        ensures seen { OnOk result ((value : RowOf → StateOf → KindsOf → ℕ) →
-            ForSeen value self.old (λ log. HasSeen value self.new (with_columns log (step.now ∷ [])))) }
-        ensures unchanged { OnErr result (self.new ≡ self.old) }
-    {
-        add_column(&mut self.row, step)?;
-        Ok(())
-    }
-
-    // The gaps, or why the log is refused, for the kinds of the fingers.
-    #[tactic(auto, using(crate::proofs::Items::answer_unproved, crate::proofs::Items::answer_accepted))]
-    fn answer(&self, alloc: Global) -> Result<u32, Refused>
-        ensures kinds { AreKinds self.now.fingers self.now.kinds }
-        ensures sound { AreSomeKinds self.now.kinds }
-        ensures accepted { IfOk result (λ gaps. (value : RowOf → StateOf → KindsOf → ℕ) →
-            ForSeen value self.now (λ log. IsAccepted value self.now.kinds self.now.fingers log gaps)) }
-        ensures refused { IfErr result (λ fault. (value : RowOf → StateOf → KindsOf → ℕ) →
-            ForSeen value self.now (λ log. Refuses value self.now.kinds self.now.fingers log fault)) }
-    {
-        self.kinds.show_limits();
-        if let Some(line) = self.unproved {
-            return Err(Refused::Unproved { line });
-        }
-        let best = start_best(alloc, &self.kinds, &self.known)?;
-        check_best(alloc, &self.fingers, &self.kinds, &self.row, best)
-    }
-
-    pub(crate) fn finish<B: RowBound>(&self, alloc: Global, bound: &B) -> Result<u32, Refused>
-        ensures accepted { IfOk result (λ gaps. ForSeen (B.value bound.now) self.now (λ log.
-            WithKinds self.now.fingers (λ k. IsAccepted (B.value bound.now) k self.now.fingers log gaps))) }
-        ensures refused { IfErr result (λ fault. fault ≢ because.NoMemory → ForSeen (B.value bound.now) self.now (λ log.
-            WithKinds self.now.fingers (λ k. Refuses (B.value bound.now) k self.now.fingers log fault))) }
-        ensures arranges { IfOk result (λ gaps. ForSeen (B.value bound.now) self.now (λ log.
-            WithKinds self.now.fingers (λ k.
-            Lists k log.best (λ row. IsArrangement row self.now.fingers × (gaps ≡ gaps_of row))))) }
-        ensures least { IfOk result (λ gaps. ForSeen (B.value bound.now) self.now (λ log.
-            (other : Sequence Column) → IsArrangement other self.now.fingers → gaps ≤ gaps_of other)) }
-        ensures low { IfErr result (λ fault. ForSeen (B.value bound.now) self.now (λ log. Proves (λ best.
-            (other : Sequence Column) → IsArrangement other self.now.fingers → best ≤ gaps_of other) fault)) }
-        ensures lemmas { IfOk result (λ _. ForSeen (B.value bound.now) self.now (λ log.
-            WithKinds self.now.fingers (λ k. All (IsTrueOf k) log.lemmas))) }
-    {
-        let _ = bound;
-        self.answer(alloc)
     }
 }

@@ -3,7 +3,6 @@ pub mod Few
 pub mod Grown
 pub mod Keeping
 pub mod Least
-pub mod Noting
 pub mod Promised
 pub mod Reach
 pub mod Rows

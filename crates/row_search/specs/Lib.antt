@@ -6,7 +6,6 @@ pub mod Kept
 pub mod Reached
 -- What inner contracts and proofs alone cite.
 pub mod Limits
-pub mod Noted
 pub mod SoFar
 pub mod Steps
 pub mod Visit

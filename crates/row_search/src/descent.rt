@@ -4,14 +4,15 @@ ghost use Rattle.row_state.specs.Emptied.{AreEmpty};
 ghost use Rattle.row_state.specs.Start.{columns_left};
 ghost use Rattle.row_search.specs.declared.descent.Halt.TheVariants.{Spent, NoMemory};
 ghost use Rattle.log_check.specs.Accepted.{best_of};
-ghost use Rattle.row_search.specs.Noted.{AreNoted};
+ghost use Rattle.log_check.specs.Noted.{AreNoted};
 ghost use Rattle.row_search.specs.SoFar.{KnowsAll};
 ghost use Rattle.row_search.specs.Visit.{AreKept, HasFailed, HasFound, HasSpent, IsFurther};
 
 use crate::progress::Progress;
-use crate::trails::{Trails, row_rule};
+use crate::row_rule::row_rule;
 use bound_log::Rule;
 use cell_num::{MOST_COLUMNS, NoMemory};
+use log_check::Trails;
 use row_state::{Candidate, EmptyPlaces, Kinds, Numbered, RowBound, Steps, has_fingers};
 use std::alloc::Global;
 

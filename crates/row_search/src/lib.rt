@@ -7,7 +7,7 @@ mod kept;
 mod limits;
 mod listed;
 mod progress;
-mod trails;
+mod row_rule;
 mod whole;
 
 pub use found::{Found, FoundKept, Stop, StopKept};

@@ -10,10 +10,10 @@ ghost use Rattle.row_search.specs.Limits.{IsFound, StopsWell, found_of};
 use crate::descent::{Halt, Task, visit};
 use crate::listed::{arrangement, log_steps};
 use crate::progress::Progress;
-use crate::trails::Trails;
 use crate::{FoundKept, StopKept};
 use bound_log::Best;
 use cell_num::{Fingers, NoMemory};
+use log_check::Trails;
 use row_state::{EmptyPlaces, Kinds, Numbered, RowBound, Step, candidates, columns, kinds, start};
 use std::alloc::Global;
 

@@ -1,7 +1,7 @@
 -- The component bound as it is computed.
-use Rattle.std.specs.Prelude.{ℕ, zero, suc, ◌≡◌, ◌+◌, ◌-◌, ◌/◌, ◌≤◌, ◌<◌, Bool, true, false, not, ◌&&◌, ◌||◌, ◌==◌, ltb, if◌then◌else◌, List, [], ◌∷◌, ◌++◌, Some, None, All, drop, get_or, length, replicate, slice_set}
+use Rattle.std.specs.Prelude.{ℕ, zero, suc, ◌≡◌, ◌+◌, ◌-◌, ◌/◌, ◌≤◌, ◌<◌, Bool, true, false, not, ◌&&◌, ◌||◌, ◌==◌, if◌then◌else◌, List, [], ◌∷◌, ◌++◌, Some, None, All, drop, get_or, length, replicate, slice_set}
 use Rattle.std.proofs.Common.{inl, inr, refl, sym, ap, arith, ◌∙◌}
-use Rattle.std.proofs.lemmas.Bool.{cases_eq, eq-eqb, le-ltb, ne_eqb}
+use Rattle.std.proofs.lemmas.Bool.{cases_eq, eq-eqb, ne_eqb}
 use Rattle.std.proofs.lemmas.List.{get_or-set_other, get_or-set_same}
 use Rattle.std.proofs.lemmas.List.Elements.{All-head, All-tail}
 use Rattle.cell_num.specs.Fingers.{sum_below}
@@ -18,7 +18,7 @@ use Rattle.row_state.specs.ComponentLaw.{EndsBelow, ends_left}
 use Rattle.row_state.specs.Gates.{OneDiffers, one_differs, sum_below_same}
 use Rattle.row_state.specs.Parity.{is_odd}
 use Rattle.row_state.specs.Start.{IsKind}
-use Rattle.row_state.specs.Tests.{empty_test, entry, flag, is_odd_behind, kinds_in, left_of}
+use Rattle.row_state.specs.Tests.{empty_test, entry, flag, is_odd_behind, left_of}
 use Rattle.row_state.specs.Trails.{end_of, size_same, toggle}
 use Rattle.row_state.specs.declared.kind.Kind.{Kind}
 use Rattle.row_state.specs.declared.kind.Kinds.{Kinds}

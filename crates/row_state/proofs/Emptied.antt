@@ -1,5 +1,5 @@
 -- The places that stay empty, before a column and behind it.
-use Rattle.std.proofs.Common.{ℕ, ◌≡◌, ◌+◌, ◌-◌, ◌≤◌, List, ◌∷◌, length, Option, Some, None, refl, sym, ap, subst, arith, ◌∙◌}
+use Rattle.std.proofs.Common.{ℕ, ◌≡◌, ◌+◌, ◌-◌, ◌≤◌, List, length, Option, Some, None, sym, ap, arith, ◌∙◌}
 use Rattle.std.proofs.lemmas.List.Sorted.{length_permutation}
 use Rattle.cell_num.specs.declared.finger.Row.{Row}
 use Rattle.cell_num.specs.declared.finger.Row.TheVariants.{P, N}
@@ -18,11 +18,10 @@ use Rattle.row_state.specs.Candidates.{IsCandidate}
 use Rattle.row_state.specs.Completion.{fingers_left, left_in}
 use Rattle.row_state.specs.Degrees.{all_on_gates, empty_places}
 use Rattle.row_state.specs.Emptied.{AreEmpty, filled}
-use Rattle.row_state.specs.Gates.{most}
 use Rattle.row_state.specs.Law.{gates_left, most_turned}
 use Rattle.row_state.specs.Parity.{empty_left}
 use Rattle.row_state.specs.Start.{AreSomeKinds, columns_left}
-use Rattle.row_state.specs.Steps.{IsLeft, IsPossible, column_of, left_after, placed_of, state_after}
+use Rattle.row_state.specs.Steps.{IsLeft, IsPossible, left_after, placed_of, state_after}
 use Rattle.row_state.specs.Tests.{empty_in, kinds_in, left_of}
 use Rattle.row_state.proofs.Calls.{fewer_after}
 use Rattle.row_state.proofs.Left.{row_from, with_place}

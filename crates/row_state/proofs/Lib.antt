@@ -12,6 +12,7 @@ pub mod Exists
 pub mod KindsOf
 pub mod Keys
 pub mod Left
+pub mod Level
 pub mod Lists
 pub mod Merge
 pub mod Next

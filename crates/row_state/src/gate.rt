@@ -1,4 +1,5 @@
-ghost use Rattle.std.specs.Prelude.{◌≡◌, ◌≤◌, ◌+◌, AllPairs, IfSome, IsNone, IsTrue, length, slice_get};
+ghost use Rattle.std.specs.Prelude.{◌≡◌, ◌≤◌, ◌+◌, ◌==◌, ℕ, AllPairs, IfSome, IsNone, IsTrue, length, slice_get};
+ghost use Rattle.std.specs.List.{list_all, zip};
 ghost use Rattle.row_state.specs.declared.kind.Kinds.{Kinds as KindsOf};
 ghost use Rattle.row_state.specs.declared.state.State.{State as StateOf};
 ghost use Rattle.row_state.specs.Order.{KindBefore};
@@ -136,4 +137,24 @@ pub(crate) fn behind(on: &OnGate) -> Cursor
         p: on.p.to,
         n: on.n.to,
     }
+}
+
+fn are_same_gates(p: &[Kind], n: &[Kind]) -> bool
+    ensures { result ≡ list_all (λ pair. pair.0.gate.0 == pair.1.gate.0) (zip p.now n.now) }
+{
+    p.iter()
+        .zip(n.iter())
+        .all(|pair| pair.0.gate == pair.1.gate)
+}
+
+// Whether the kinds of the rows have the same gates one by one, and as many fingers left: so it is in most states, since most
+// columns fill both places. Then both rows have as many left on each gate.
+pub(crate) fn are_level(state: &State, kinds: &Kinds) -> bool
+    requires p_fits { IsTrue (counts_fit kinds.now.p state.now.p_left) }
+    requires n_fits { IsTrue (counts_fit kinds.now.n state.now.n_left) }
+    ensures { IsTrue result → (gate : ℕ) →
+        gate_left kinds.now.p state.now.p_left gate ≡ gate_left kinds.now.n state.now.n_left gate }
+{
+    state.p_left.as_slice() == state.n_left.as_slice()
+        && are_same_gates(kinds.p.as_slice(), kinds.n.as_slice())
 }

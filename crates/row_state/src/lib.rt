@@ -29,6 +29,6 @@ pub use laws::chained_classes;
 pub use listing::successors;
 pub use log_bound::LogBound;
 pub use numbered::Numbered;
-pub use parity::Parity;
-pub use state::{Counts, State, columns, has_fingers, is_state, start};
+pub use parity::{Parity, count_empty};
+pub use state::{Counts, State, columns, has_fingers, has_leads, is_state, start};
 pub use step::{Side, Step, Steps, after, column, step_cost};

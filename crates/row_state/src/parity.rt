@@ -11,7 +11,7 @@ ghost use Rattle.row_state.specs.Tests.{adds_odd, empty_in, empty_test, halved, 
 ghost use Rattle.row_state.specs.Trails.{end_of, size, toggle};
 
 use crate::bound::are_above;
-use crate::gate::{OnGate, behind, first_gates, next_on};
+use crate::gate::{OnGate, are_level, behind, first_gates, next_on};
 use crate::{Kind, Kinds, PARITY_LOG, RowBound, State};
 use cell_num::{MOST_NETS, NetNo, Row};
 
@@ -125,12 +125,16 @@ fn empty_on(row: Row, on: &OnGate) -> u32
     }
 }
 
-#[tactic(auto, using(crate::proofs::ParityCode::empty_few, crate::proofs::Valid::p_fits, crate::proofs::Valid::n_fits))]
-pub(crate) fn count_empty(row: Row, state: &State, kinds: &Kinds) -> u32
+/// How many places of the row stay empty in every completion of a state.
+#[tactic(auto, using(crate::proofs::Level::level_empty, crate::proofs::ParityCode::empty_few, crate::proofs::Valid::p_fits, crate::proofs::Valid::n_fits))]
+pub fn count_empty(row: Row, state: &State, kinds: &Kinds) -> u32
     requires state { IsState kinds.now state.now }
     ensures { result ≡ empty_in row state.now kinds.now }
 {
     kinds.show_limits();
+    if are_level(state, kinds) {
+        return 0;
+    }
     let mut empty = 0;
     let mut cursor = first_gates();
     'gates: while let Some(on) = next_on(state, kinds, &cursor) {

@@ -9,7 +9,7 @@ ghost use Rattle.row_state.specs.Completion.{further_gaps};
 ghost use Rattle.row_state.specs.Start.{HasFingers, IsState, columns_left, counts_of, start_of};
 ghost use Rattle.row_state.specs.Tests.{columns_test, counts_fit, end_fits, gate_left, keeps_lead, leads_below, left_of_kind, state_test};
 
-use crate::gate::{OnGate, behind, first_gates, next_on};
+use crate::gate::{OnGate, are_level, behind, first_gates, next_on};
 use crate::{Kind, Kinds};
 use cell_num::{List, MOST_FINGERS, NetNo, NoMemory};
 use std::alloc::{AllocError, Global};
@@ -122,12 +122,17 @@ fn has_lead(on: &OnGate) -> bool
     (p.all < n.all || n.left <= p.left) && (n.all < p.all || p.left <= n.left)
 }
 
-fn has_leads(state: &State, kinds: &Kinds) -> bool
+/// Whether each gate has no more fingers left in the row that began with no more on it, where the counts are in range.
+#[tactic(auto, using(crate::proofs::Level::level_leads))]
+pub fn has_leads(state: &State, kinds: &Kinds) -> bool
     requires p_fits { IsTrue (counts_fit kinds.now.p state.now.p_left) }
     requires n_fits { IsTrue (counts_fit kinds.now.n state.now.n_left) }
     ensures { result ≡ leads_below kinds.now state.now kinds.now.nets }
 {
     kinds.show_limits();
+    if are_level(state, kinds) {
+        return true;
+    }
     let mut kept = true;
     let mut cursor = first_gates();
     'gates: while let Some(on) = next_on(state, kinds, &cursor) {

@@ -1,5 +1,7 @@
-use Rattle.std.proofs.Common.{rules, subst, ◌∙◌}
+use Rattle.std.proofs.Common.{rules, subst, sym, ◌∙◌}
 use Rattle.bound_log.specs.declared.log.Log.{Log}
+use Rattle.row_state.specs.declared.kind.Kinds.{Kinds}
+use Rattle.log_check.specs.Noted.{AreNoted}
 use Rattle.log_check.specs.Items.{HasSeen}
 use Rattle.log_check.proofs.Items.{lemmas_again}
 use Rattle.log_check.proofs.check.add_lemmas.Goals as goal
@@ -10,4 +12,6 @@ loop-lemma-preserved g c = (
       (c.in_ok-lemma.ensures.seen _ (c.loop-lemma.invariant.0 log seen)),
   search rules,
   c.in_ok-lemma.ensures.fingers ∙ c.loop-lemma.invariant.2,
+  c.lemma.ensures.kinds ∙ c.loop-lemma.invariant.3,
+  subst (λ (k : Kinds). AreNoted (g.B.RowBound.trails_of c.args.bound.now) k c.lemma.new.trails) (sym c.lemma.ensures.kinds) c.lemma.ensures.noted,
 )

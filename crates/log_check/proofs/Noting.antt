@@ -1,4 +1,4 @@
--- One row more whose trails are noted.
+-- Which trails are noted, behind one row more.
 use Rattle.std.proofs.Common.{ℕ, ◌≡◌, ◌≢◌, List, Option, Some, inl, inr, sym, ap, ◌∙◌}
 use Rattle.std.proofs.lemmas.Bool.{cases_eq}
 use Rattle.cell_num.specs.declared.finger.Row.{Row}
@@ -10,7 +10,7 @@ use Rattle.row_state.specs.Start.{IsState}
 use Rattle.row_state.specs.Tests.{left_of}
 use Rattle.row_state.specs.Trails.{end_of}
 use Rattle.row_state.proofs.Codes.{row_same}
-use Rattle.row_search.specs.Noted.{AreNotedOf}
+use Rattle.log_check.specs.Noted.{AreNotedOf}
 
 some_is : (a b : ℕ) → Some a ≡ Some b → a ≡ b
 some_is a b e = cc e
@@ -26,3 +26,7 @@ noted_more f row k old new number trails s before state is counted here others q
           ∙ ap (λ x. f row (end_of row t) x k) (sym both.0)
       | inr not ↦ before q told t (sym (others q not) ∙ e) other same
     ]
+
+-- nothing more is noted
+pub noted_still : (f : Row → Option NetNo → List ℕ → Kinds → ℕ) (row : Row) (k : Kinds) (old new : ℕ → Option ℕ) → AreNotedOf f row k old → ((q : ℕ) → new q ≡ old q) → AreNotedOf f row k new
+noted_still f row k old new before same number trails s told valid is = before number trails s (sym (same number) ∙ told) valid is
