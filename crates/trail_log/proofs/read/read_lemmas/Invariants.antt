@@ -1,0 +1,16 @@
+use Rattle.std.proofs.Common.{◌≡◌, ◌+◌, ◌≤◌, length}
+use Rattle.cell_num.specs.declared.limits.TheConstants.{MOST_BYTES}
+use Rattle.bound_log.specs.Reading.{behind, lines_in}
+use Rattle.trail_log.specs.Reading.{lemmas_at}
+use Rattle.trail_log.proofs.Fronts.{with_lemmas}
+use Rattle.trail_log.proofs.read.read_lemmas.Given as goal
+
+abbrev pub invariant-lemmas : goal.invariant-lemmas
+invariant-lemmas l =
+    (length l.rest + l.number ≤ MOST_BYTES + 5)
+    × (l.fill ≡ l.fn.fill)
+    × (l.order ≡ l.fn.order)
+    × (with_lemmas l.lemmas (lemmas_at l.fn.fill l.fn.order l.kinds l.number (lines_in l.rest) (behind l.rest)) ≡ lemmas_at l.fn.fill l.fn.order l.kinds 5 (lines_in l.bytes) (behind l.bytes))
+
+abbrev pub decreases-lemmas : goal.decreases-lemmas
+decreases-lemmas l = length l.rest

@@ -1,0 +1,95 @@
+-- What one line of a certificate holds, by its words.
+use Rattle.std.specs.Prelude.{ℕ, ◌+◌, ◌==◌, Bool, true, false, leb, List, [], ◌∷◌, Option, Some, None, length, codes, option_map, if◌then◌else◌}
+use Rattle.cell_num.specs.declared.net.NetNo.{NetNo}
+use Rattle.bound_log.specs.Line.{◌>>=◌, gaps_in, is_word, number_below, parts_at, provided}
+use Rattle.trail_log.specs.declared.trails.Class.{Class}
+use Rattle.trail_log.specs.declared.trails.NetPair.{NetPair}
+use Rattle.trail_log.specs.declared.trails.LemmaLine.{LemmaLine}
+use Rattle.trail_log.specs.declared.trails.TrailEntry.{TrailEntry}
+use Rattle.trail_log.specs.declared.trails.TrailEntry.TheVariants as entry
+use Rattle.trail_log.specs.Order.{classes_in_order, increases, net_rank, node_rank}
+
+-- all items, each of a word, where each word is one
+abbrev pub each_in : {A : Type 0} → (List ℕ → Option A) → List (List ℕ) → Option (List A)
+each_in read [] = Some []
+each_in read (word ∷ words) = do
+  item ← read word
+  items ← each_in read words
+  Some (item ∷ items)
+
+-- the items between one byte and the next of its kind; `-` for none
+abbrev pub list_in : {A : Type 0} → ℕ → (List ℕ → Option A) → List ℕ → Option (List A)
+list_in byte read word = if is_word word (codes "-") then Some [] else each_in read (parts_at byte word)
+
+abbrev pub net_in : ℕ → List ℕ → Option NetNo
+net_in nets word = option_map (λ n. record { 0 = n }) (number_below nets word)
+
+abbrev pub node_of : ℕ → List (List ℕ) → Option NetPair
+node_of nets (p ∷ n ∷ []) = do
+  p_net ← net_in nets p
+  n_net ← net_in nets n
+  Some (record { p = p_net; n = n_net })
+node_of nets _ = None
+
+abbrev pub node_in : ℕ → List ℕ → Option NetPair
+node_in nets word = node_of nets (parts_at 46 word)
+
+abbrev pub class_with : ℕ → Bool → List ℕ → Option Class
+class_with nets flagged word = option_map (λ nodes. record { nodes = nodes; flagged = flagged }) (each_in (node_in nets) (parts_at 43 word))
+
+-- with `!` (byte 33) behind it, or none
+abbrev pub class_of : ℕ → List (List ℕ) → Option Class
+class_of nets (nodes ∷ []) = class_with nets false nodes
+class_of nets (nodes ∷ [] ∷ []) = class_with nets true nodes
+class_of nets _ = None
+
+abbrev pub class_in : ℕ → List ℕ → Option Class
+class_in nets word = class_of nets (parts_at 33 word)
+
+abbrev pub odd_in : ℕ → List ℕ → Option (List NetPair)
+odd_in nets word = do
+  nodes ← list_in 44 (node_in nets) word
+  _ ← provided (increases node_rank nodes)
+  Some nodes
+
+abbrev pub classes_in : ℕ → List ℕ → Option (List Class)
+classes_in nets word = do
+  classes ← list_in 44 (class_in nets) word
+  _ ← provided (classes_in_order classes)
+  Some classes
+
+-- behind the word `lemma`; free ends are none
+abbrev pub lemma_in : ℕ → List (List ℕ) → Option LemmaLine
+lemma_in nets (bound ∷ done ∷ odd ∷ free ∷ classes ∷ []) = do
+  ends ← number_below 65 bound
+  _ ← provided (leb 1 ends)
+  gates ← number_below 32 done
+  odd_nodes ← odd_in nets odd
+  _ ← provided (is_word free (codes "-"))
+  joined ← classes_in nets classes
+  Some (record { bound = ends; done = gates; odd = odd_nodes; classes = joined })
+lemma_in nets _ = None
+
+-- a line of the lemmas, or the one that ends them
+abbrev pub entry_in : ℕ → List (List ℕ) → Option TrailEntry
+entry_in nets [] = None
+entry_in nets (word ∷ words) =
+    if is_word word (codes "lemma") then option_map entry.Lemma (lemma_in nets words) else
+    if is_word word (codes "gaps") then option_map entry.Gaps (gaps_in words) else
+    if is_word word (codes "open") then (provided (length words == 0) >>= λ _. Some entry.Open) else
+    None
+
+-- a word, and a list of nets
+abbrev pub nets_behind : List ℕ → ℕ → List (List ℕ) → Option (List NetNo)
+nets_behind front nets (word ∷ list ∷ []) = if is_word word front then list_in 44 (net_in nets) list else None
+nets_behind front nets _ = None
+
+-- the line of the filled gates, in order
+abbrev pub fill_in : ℕ → List (List ℕ) → Option (List NetNo)
+fill_in nets words = do
+  gates ← nets_behind (codes "fill") nets words
+  _ ← provided (increases net_rank gates)
+  Some gates
+
+abbrev pub order_in : ℕ → List (List ℕ) → Option (List NetNo)
+order_in nets words = nets_behind (codes "order") nets words

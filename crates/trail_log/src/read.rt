@@ -1,0 +1,220 @@
+ghost use Rattle.std.specs.Prelude.{◌≡◌, ◌≢◌, ◌≤◌, ◌+◌, IfOk, IfErr, Ok, Err, length};
+ghost use Rattle.bound_log.specs.declared.fault.LogFault.TheVariants as fault;
+ghost use Rattle.bound_log.specs.Fits.{IsLogName};
+ghost use Rattle.bound_log.specs.Reading.{behind, columns_at, end_at, lines_in};
+ghost use Rattle.trail_log.specs.declared.trails.Trails.{Trails as TrailsOf};
+ghost use Rattle.trail_log.specs.Fits.{TrailsFit};
+ghost use Rattle.trail_log.specs.Reading.{fill_at, lemmas_at, named_at, order_at, trails_of};
+ghost use Rattle.trail_log.specs.Text.{trails_text};
+
+use crate::column::read_column;
+use crate::line::{read_entry, read_fill, read_order};
+use crate::word::{first_line, is_named, is_word};
+use crate::{LemmaLines, NetList, TrailEntry, Trails};
+use bound_log::{Best, LogFault, LogSteps};
+use cell_num::{MOST_BYTES, Name};
+use row_state::Kinds;
+use std::alloc::Global;
+
+// The line `end`, and nothing behind it.
+#[tactic(auto, using(bound_log::proofs::Feeds::ended, bound_log::proofs::Feeds::ended_before, bound_log::proofs::Feeds::not_ended))]
+fn read_end(bytes: &[u8], number: u32) -> Result<(), LogFault>
+    requires { number ≤ MOST_BYTES + 5 }
+    ensures { result ≡ end_at number (lines_in bytes.now) (behind bytes.now) }
+{
+    let Some(first) = first_line(bytes) else {
+        return Err(LogFault::Cut);
+    };
+    if !is_word(first.line, b"end") {
+        return Err(LogFault::Line { line: number });
+    }
+    if !first.after.is_empty() {
+        return Err(LogFault::Line { line: number + 1 });
+    }
+    Ok(())
+}
+
+// The columns up to the line `end`, the last.
+#[tactic(auto, using(bound_log::proofs::Fronts::columns_cut, bound_log::proofs::Fronts::columns_done, bound_log::proofs::Fronts::columns_open, bound_log::proofs::Fronts::columns_wrong, bound_log::proofs::Fronts::columns_more))]
+fn read_columns(alloc: Global, kinds: &Kinds, bytes: &[u8], from: u32) -> Result<LogSteps, LogFault>
+    requires few { length bytes.now + from ≤ MOST_BYTES + 5 }
+    ensures steps { IfOk result (λ steps.
+        columns_at kinds.now from (lines_in bytes.now) (behind bytes.now) ≡ Ok steps) }
+    ensures fault { IfErr result (λ f. f ≢ fault.NoMemory →
+        columns_at kinds.now from (lines_in bytes.now) (behind bytes.now) ≡ Err f) }
+{
+    let mut steps = LogSteps::new(alloc);
+    let mut rest = bytes;
+    let mut number = from;
+    'columns: loop {
+        let Some(first) = first_line(rest) else {
+            return Err(LogFault::Cut);
+        };
+        if is_word(first.line, b"end") {
+            read_end(rest, number)?;
+            return Ok(steps);
+        }
+        let Some(listed) = read_column(alloc, kinds, first.line)? else {
+            return Err(LogFault::Line { line: number });
+        };
+        steps.push(listed)?;
+        rest = first.after;
+        number += 1;
+    }
+}
+
+// The lemmas behind the order, and behind them the row that they certify, or `open`.
+#[tactic(auto, using(crate::proofs::Fronts::lemmas_cut, crate::proofs::Fronts::lemmas_wrong, crate::proofs::Fronts::lemmas_more, crate::proofs::Fronts::lemmas_listed, crate::proofs::Fronts::lemmas_unlisted, crate::proofs::Fronts::lemmas_ended, crate::proofs::Fronts::lemmas_unended))]
+fn read_lemmas(
+    alloc: Global,
+    fill: NetList,
+    order: NetList,
+    kinds: &Kinds,
+    bytes: &[u8],
+) -> Result<Trails, LogFault>
+    requires few { length bytes.now ≤ MOST_BYTES }
+    ensures trails { IfOk result (λ trails.
+        lemmas_at fill order kinds.now 5 (lines_in bytes.now) (behind bytes.now) ≡ Ok trails) }
+    ensures fault { IfErr result (λ f. f ≢ fault.NoMemory →
+        lemmas_at fill order kinds.now 5 (lines_in bytes.now) (behind bytes.now) ≡ Err f) }
+{
+    kinds.show_limits();
+    let mut lemmas = LemmaLines::new(alloc);
+    let mut rest = bytes;
+    let mut number = 5;
+    'lemmas: loop {
+        let Some(first) = first_line(rest) else {
+            return Err(LogFault::Cut);
+        };
+        match read_entry(alloc, kinds.nets, first.line)? {
+            Some(TrailEntry::Lemma(lemma)) => lemmas.push(lemma)?,
+            Some(TrailEntry::Gaps(gaps)) => {
+                let steps = read_columns(alloc, kinds, first.after, number + 1)?;
+                let best = Some(Best { gaps, steps });
+                return Ok(Trails {
+                    fill,
+                    order,
+                    lemmas,
+                    best,
+                });
+            }
+            Some(TrailEntry::Open) => {
+                read_end(first.after, number + 1)?;
+                return Ok(Trails {
+                    fill,
+                    order,
+                    lemmas,
+                    best: None,
+                });
+            }
+            None => return Err(LogFault::Line { line: number }),
+        }
+        rest = first.after;
+        number += 1;
+    }
+}
+
+// The line of the order, and the lemmas behind it.
+fn read_ordered(
+    alloc: Global,
+    fill: NetList,
+    kinds: &Kinds,
+    bytes: &[u8],
+) -> Result<Trails, LogFault>
+    requires few { length bytes.now ≤ MOST_BYTES }
+    ensures trails { IfOk result (λ trails.
+        order_at fill kinds.now (lines_in bytes.now) (behind bytes.now) ≡ Ok trails) }
+    ensures fault { IfErr result (λ f. f ≢ fault.NoMemory →
+        order_at fill kinds.now (lines_in bytes.now) (behind bytes.now) ≡ Err f) }
+{
+    kinds.show_limits();
+    let Some(first) = first_line(bytes) else {
+        return Err(LogFault::Cut);
+    };
+    let Some(order) = read_order(alloc, kinds.nets, first.line)? else {
+        return Err(LogFault::Line { line: 4 });
+    };
+    let trails = read_lemmas(alloc, fill, order, kinds, first.after)?;
+    Ok(trails)
+}
+
+// The line of the filled gates, and the order behind it.
+fn read_filled(alloc: Global, kinds: &Kinds, bytes: &[u8]) -> Result<Trails, LogFault>
+    requires few { length bytes.now ≤ MOST_BYTES }
+    ensures trails { IfOk result (λ trails.
+        fill_at kinds.now (lines_in bytes.now) (behind bytes.now) ≡ Ok trails) }
+    ensures fault { IfErr result (λ f. f ≢ fault.NoMemory →
+        fill_at kinds.now (lines_in bytes.now) (behind bytes.now) ≡ Err f) }
+{
+    kinds.show_limits();
+    let Some(first) = first_line(bytes) else {
+        return Err(LogFault::Cut);
+    };
+    let Some(fill) = read_fill(alloc, kinds.nets, first.line)? else {
+        return Err(LogFault::Line { line: 3 });
+    };
+    let trails = read_ordered(alloc, fill, kinds, first.after)?;
+    Ok(trails)
+}
+
+// The line of the name, and the filled gates behind it.
+fn read_named(alloc: Global, bytes: &[u8], name: &Name, kinds: &Kinds) -> Result<Trails, LogFault>
+    requires few { length bytes.now ≤ MOST_BYTES }
+    ensures trails { IfOk result (λ trails.
+        named_at name.now kinds.now (lines_in bytes.now) (behind bytes.now) ≡ Ok trails) }
+    ensures fault { IfErr result (λ f. f ≢ fault.NoMemory →
+        named_at name.now kinds.now (lines_in bytes.now) (behind bytes.now) ≡ Err f) }
+{
+    let Some(first) = first_line(bytes) else {
+        return Err(LogFault::Cut);
+    };
+    if !is_named(first.line, name) {
+        return Err(LogFault::Cell);
+    }
+    let trails = read_filled(alloc, kinds, first.after)?;
+    Ok(trails)
+}
+
+#[tactic(auto, unfolding(crate::specs::Reading::trails_of))]
+fn read_text(alloc: Global, bytes: &[u8], name: &Name, kinds: &Kinds) -> Result<Trails, LogFault>
+    requires few { length bytes.now ≤ MOST_BYTES }
+    ensures trails { IfOk result (λ trails. trails_of bytes.now name.now kinds.now ≡ Ok trails) }
+    ensures fault { IfErr result (λ f. f ≢ fault.NoMemory → trails_of bytes.now name.now kinds.now ≡ Err f) }
+{
+    let Some(first) = first_line(bytes) else {
+        return Err(LogFault::Cut);
+    };
+    if !is_word(first.line, b"cellgen-trails 1") {
+        return Err(LogFault::Version);
+    }
+    let trails = read_named(alloc, first.after, name, kinds)?;
+    Ok(trails)
+}
+
+/// The certificate of which the bytes are the text, for the cell of that name and the kinds of its fingers. The
+/// name has 1 to 32 bytes and no line feed, and there are at most [`MOST_BYTES`] bytes.
+pub fn read_trails(
+    alloc: Global,
+    bytes: &[u8],
+    name: &Name,
+    kinds: &Kinds,
+) -> Result<Trails, LogFault>
+    requires name { IsLogName name.now }
+    requires few { length bytes.now ≤ MOST_BYTES }
+    // The certificate of the definition, or its first fault; memory may run out.
+    ensures trails { IfOk result (λ trails. trails_of bytes.now name.now kinds.now ≡ Ok trails) }
+    ensures fault { IfErr result (λ f. f ≢ fault.NoMemory → trails_of bytes.now name.now kinds.now ≡ Err f) }
+
+    // The one certificate that fits and has these bytes as its text; or none has them.
+    ensures fits { IfOk result (λ trails. TrailsFit kinds.now trails) }
+    ensures text { IfOk result (λ trails. bytes.now ≡ trails_text name.now trails) }
+    ensures one { IfOk result (λ trails. (other : TrailsOf) → TrailsFit kinds.now other →
+        trails_text name.now other ≡ bytes.now → other ≡ trails) }
+    ensures few { IfOk result (λ trails. length trails.lemmas ≤ length bytes.now) }
+    ensures none { IfErr result (λ f. f ≢ fault.NoMemory →
+        (trails : TrailsOf) → TrailsFit kinds.now trails → trails_text name.now trails ≢ bytes.now) }
+{
+    kinds.show_limits();
+    let trails = read_text(alloc, bytes, name, kinds)?;
+    Ok(trails)
+}

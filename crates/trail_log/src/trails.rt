@@ -1,0 +1,56 @@
+use bound_log::Best;
+use cell_num::{List, NetNo};
+
+/// The greatest bound that the text of a certificate can hold: two ends for each of 32 columns.
+pub const MOST_ENDS: u32 = 64;
+
+pub type NetList = List<NetNo>;
+
+/// A net of the P row above a net of the N row, the place of an end of a column.
+#[derive(Clone, Copy, Debug)]
+pub struct NetPair {
+    pub p: NetNo,
+    pub n: NetNo,
+}
+
+pub type NetPairs = List<NetPair>;
+
+/// Pairs of nets that the columns so far chain, and whether a trail through them has an end already.
+#[derive(Debug, Drop)]
+pub struct Class {
+    pub nodes: NetPairs,
+    pub flagged: bool,
+}
+
+pub type ClassList = List<Class>;
+
+/// Behind the first `done` gates of the order, where they left an odd number of ends at the pairs `odd`, and
+/// chained those that later gates can meet to these classes, at least `bound` more ends of trails come.
+#[derive(Debug, Drop)]
+pub struct LemmaLine {
+    pub bound: u32,
+    pub done: u32,
+    pub odd: NetPairs,
+    pub classes: ClassList,
+}
+
+pub type LemmaLines = List<LemmaLine>;
+
+/// What a line behind the order says: a lemma, or what follows the lemmas: the gaps of a row whose columns are
+/// listed, or that none is.
+#[derive(Debug, Drop)]
+pub enum TrailEntry {
+    Lemma(LemmaLine),
+    Gaps(u32),
+    Open,
+}
+
+/// A certificate: the gates whose half columns are filled, all gates in the order in which they are chosen, lemmas,
+/// and the row that they certify, where one was found.
+#[derive(Debug, Drop)]
+pub struct Trails {
+    pub fill: NetList,
+    pub order: NetList,
+    pub lemmas: LemmaLines,
+    pub best: Option<Best>,
+}

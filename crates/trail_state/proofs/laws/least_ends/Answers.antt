@@ -1,0 +1,5 @@
+use Rattle.trail_state.specs.Law.{levels_law}
+use Rattle.trail_state.proofs.laws.least_ends.Goals as goal
+
+pub returns : goal.returns
+returns c = levels_law

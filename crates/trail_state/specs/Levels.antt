@@ -1,0 +1,37 @@
+-- The gates of an order with their choices, and the ends of trails that every list of choices comes to.
+use Rattle.std.specs.Prelude.{ℕ, ◌≡◌, ◌≢◌, ◌+◌, ◌-◌, ◌<◌, List, [], ◌∷◌, AllPairs, All, Contains}
+use Rattle.cell_num.specs.declared.net.NetNo.{NetNo}
+use Rattle.cell_num.specs.declared.finger.Fingers.{Fingers}
+use Rattle.cell_num.specs.Fingers.{on_gate}
+use Rattle.trail_state.specs.declared.edge.Edge.{Edge}
+use Rattle.trail_state.specs.declared.level.Level.{Level}
+use Rattle.trail_state.specs.declared.state.Place.{Place}
+use Rattle.trail_state.specs.Pairings.{choices_of}
+use Rattle.trail_state.specs.Nodes.{open_nodes}
+use Rattle.trail_state.specs.Settling.{ends_after, state_after}
+
+-- a gate of some finger
+abbrev pub IsGate : Fingers → ℕ → Type 0
+IsGate f g = 0 < on_gate g f.p + on_gate g f.n
+
+-- each gate of a finger once, and no other
+pub record IsOrder (f : Fingers) (order : List NetNo) : Type 0 where
+  pub once : AllPairs (λ (a b : NetNo). a.0 ≢ b.0) order
+  pub gates : All (λ (g : NetNo). IsGate f g.0) order
+  pub all_gates : (g : NetNo) → IsGate f g.0 → Contains order g
+
+pub record IsLevel (f : Fingers) (gate : NetNo) (later : List NetNo) (level : Level) : Type 0 where
+  pub now : level.now ≡ open_nodes f (gate ∷ later)
+  pub next : level.next ≡ open_nodes f later
+  pub choices : level.choices ≡ choices_of f gate.0
+
+abbrev pub AreLevels : Fingers → List NetNo → List Level → Type 0
+AreLevels f [] [] = Unit {0}
+AreLevels f (g ∷ gs) (l ∷ ls) = IsLevel f g gs l × AreLevels f gs ls
+AreLevels f _ _ = ⊥
+
+-- from the state on, each list of choices, one of each gate, comes to at least so many ends
+abbrev pub Ends : List Level → List Place → ℕ → Type 0
+Ends [] s k = k ≡ 0
+Ends (l ∷ ls) s k =
+    (c : List Edge) → Contains l.choices c → Ends ls (state_after l.now l.next s c) (k - ends_after l.now l.next s c)

@@ -1,0 +1,24 @@
+-- What contracts of public calls cite, and what these definitions stand on.
+pub mod Along
+pub mod Begun
+pub mod Choices
+pub mod Chosen
+pub mod Counted
+pub mod Filling
+pub mod Follows
+pub mod Grouped
+pub mod Law
+pub mod Levels
+pub mod Links
+pub mod Members
+pub mod Nodes
+pub mod Opened
+pub mod Paired
+pub mod Pairings
+pub mod Picked
+pub mod Places
+pub mod Settles
+pub mod Settling
+pub mod Sizes
+pub mod Sorted
+pub mod Walks
