@@ -1,0 +1,13 @@
+// Cells side by side in a row.
+#![tactic(auto)]
+
+mod abutting;
+pub mod cell;
+mod fault;
+mod labels;
+pub mod measure;
+mod structs;
+
+pub use abutting::abut;
+pub use cell::{RowCell, RowCellList, RowFault};
+pub use measure::{CHANNEL_ROOM, LEAST_INNER, MOST_CELLS, MOST_REACH};
