@@ -11,7 +11,7 @@ use Rattle.channel_route.specs.declared.routing.Routing.{Routing}
 use Rattle.channel_route.specs.Wiring.{IsWiring}
 use Rattle.row_compact.specs.Allowed.{AreAllowed, stretches_of}
 use Rattle.scmos_rules.specs.Rules.{Obeys}
-use Rattle.scmos_rules.specs.declared.rules.Deck.TheVariants.{Plain}
+use Rattle.scmos_rules.specs.declared.rules.Deck.TheVariants.{Plain, Taps as TapsDeck}
 use Rattle.cell_draw.specs.declared.cell.TheConstants.{MOST_SHAPES}
 use Rattle.cell_draw.specs.declared.drawing.Drawing.{Drawing}
 use Rattle.cell_draw.specs.declared.layout.Frame.{Frame}
@@ -45,7 +45,7 @@ final_obeys With xs d base o = obeys xs d (tapped xs d) base o refl
 
 pub final_extracts : (taps : Taps) (xs : List ℕ) (d : Drawing) (names : List (List ℕ)) (pins : Pins) (row : List Column) → IsBase xs d → ExtractsToRow Plain names pins row d.shapes → ExtractsToRow (deck_of taps) names pins row (final taps d xs).shapes
 final_extracts Without xs d names pins row base e = e
-final_extracts With xs d names pins row base e = record { to = λ are fingers a. (same_circuit xs d (tapped xs d) base refl).extracts names fingers (e.to are fingers a) }
+final_extracts With xs d names pins row base e = record { to = λ are fingers a. (same_circuit xs d (tapped xs d) base refl).extracts TapsDeck names fingers (e.to are fingers a) }
 
 pub final_shows : (taps : Taps) (xs : List ℕ) (d : Drawing) (names : List (List ℕ)) (pins : Pins) (row : List Column) → IsBase xs d → ShowsColumns Plain names pins row d.shapes → ShowsColumns (deck_of taps) names pins row (final taps d xs).shapes
 final_shows Without xs d names pins row base s = s

@@ -1,3 +1,4 @@
+pub mod Abstracts
 pub mod Alone
 pub mod Extent
 pub mod Finals

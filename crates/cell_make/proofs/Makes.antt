@@ -1,6 +1,7 @@
 -- What making a cell comes to, from what its steps answered.
 use Rattle.std.proofs.Common.{ℕ, ◌≡◌, ◌<◌, ◌≤◌, ◌/◌, ◌*◌, ◌%◌, List, length, sym, subst, arith}
-use Rattle.std.proofs.Math.Nat.{div-add-mod, mod-lt}
+use Rattle.std.proofs.Math.Nat.{div-add-mod}
+use Rattle.agree_laws.specs.Abstracts.{IsAbstractOf}
 use Rattle.cell_num.specs.declared.finger.Fingers.{Fingers}
 use Rattle.cell_num.specs.declared.net.Pins.{Pins}
 use Rattle.cell_num.specs.Fingers.{AreSound}
@@ -40,10 +41,11 @@ use Rattle.cell_inputs.specs.declared.style.Wiring.{Wiring}
 use Rattle.cell_inputs.specs.declared.style.Wiring.TheVariants.{Straight, Doglegs}
 use Rattle.cell_inputs.specs.Inputs.{Inputs, AreInputs, unit_nm}
 use Rattle.cell_make.specs.Extent.{frame_in}
-use Rattle.cell_make.specs.Making.{AreLeastLines, ComesTo, IsMade, IsRouted, drawing_in, final_in, library_of, ports_in}
+use Rattle.cell_make.specs.Making.{AreLeastLines, ComesTo, HasAbstract, IsMade, IsRouted, abstract_of, drawing_in, final_in, library_of, ports_in}
 use Rattle.cell_make.specs.Searched.{IsFound}
 use Rattle.cell_make.specs.Style.{AreBodiedBy, AreLegal, AreTight, HasNoRing, HasPinPort, IsToldRing, ShowsWiring, deck_of, final, tapped_by}
 use Rattle.cell_make.specs.Writable.{AreWritable}
+use Rattle.cell_make.proofs.Abstracts.{IsDrawnBare, abstract_so, unit_least, unit_most}
 use Rattle.cell_make.proofs.Alone.{written_alone}
 use Rattle.cell_make.proofs.ReadBack.{readable}
 use Rattle.cell_make.proofs.Wirings.{wired_by}
@@ -104,8 +106,9 @@ pub record IsSoundDrawing (style : Style) (inputs : Inputs) (row : List Column) 
   pub sized : IsSized drawing
   pub readable : IsReadable inputs.cell.name (final style.taps drawing xs).shapes (unit_nm inputs.tech)
 
-is_made : (style : Style) (inputs : Inputs) (row : List Column) (log : Log) (routing : Routing) (xs : List ℕ) (drawing : Drawing) → AreInputs inputs → IsFound inputs row log → IsRouted style inputs row routing → AreLeastLines (placement_of row) inputs.cell.pins routing xs → (IsTooTall row routing.tracks inputs.tech.height → ⊥) → drawing ≡ drawing_in inputs row routing xs → IsSoundDrawing style inputs row routing xs drawing → IsMade style inputs row log routing xs
-is_made style inputs row log routing xs drawing are found routed lines fits is sound =
+is_made : (style : Style) (inputs : Inputs) (row : List Column) (log : Log) (routing : Routing) (xs : List ℕ) (drawing : Drawing) → AreInputs inputs → IsFound inputs row log → IsRouted style inputs row routing → AreLeastLines (placement_of row) inputs.cell.pins routing xs → (IsTooTall row routing.tracks inputs.tech.height → ⊥) → drawing ≡ drawing_in inputs row routing xs → IsSoundDrawing style inputs row routing xs drawing → IsAbstractOf (final style.taps drawing xs).shapes inputs.cell.name (unit_nm inputs.tech) (abstract_of inputs routing drawing) → IsMade style inputs row log routing xs
+unfolding HasAbstract
+is_made style inputs row log routing xs drawing are found routed lines fits is sound agrees =
     let drawn : IsSoundDrawing style inputs row routing xs (drawing_in inputs row routing xs) = subst (λ (d : Drawing). IsSoundDrawing style inputs row routing xs d) is sound in
     record {
       found = found;
@@ -124,6 +127,7 @@ is_made style inputs row log routing xs drawing are found routed lines fits is s
       sized = drawn.sized;
       decodes = decodes_so inputs (final_in style inputs row routing xs) are drawn.readable;
       alone = written_alone inputs.cell.name (final_in style inputs row routing xs).shapes (unit_nm inputs.tech) drawn.readable.named drawn.readable.labels;
+      agrees = subst (λ (d : Drawing). IsAbstractOf (final style.taps d xs).shapes inputs.cell.name (unit_nm inputs.tech) (abstract_of inputs routing d)) is agrees;
     }
 
 -- ---- the same, from what the steps see
@@ -192,24 +196,19 @@ sound_drawing style inputs row log routing lines drawing are found placed routed
 
 -- ---- what making comes to
 
-unit_least : (n : ℕ) → 20 ≤ n → 10 ≤ n / 2
-unit_least n least =
-    let some : 0 < 2 = omega arith in
-    omega (arith, least, div-add-mod n 2, mod-lt n some)
-
-unit_most : (n : ℕ) → n ≤ 2000 → n / 2 ≤ 1000
-unit_most n most = omega (arith, most, div-add-mod n 2)
-
 pub readable_so : (inputs inside : Inputs) (shapes : Shapes) → inside ≡ inputs → AreInputs inputs → AreWritable inside.cell.nets shapes → IsReadable inputs.cell.name shapes (unit_nm inputs.tech)
 readable_so inputs inside shapes same are writable =
     readable inputs.cell.nets inputs.cell.name shapes (unit_nm inputs.tech) are.nets are.cell (unit_least inputs.tech.lambda_nm are.tech.lambda_least) (unit_most inputs.tech.lambda_nm are.tech.lambda_most)
     (subst (λ (i : Inputs). AreWritable i.cell.nets shapes) same writable)
 
-pub made_so : (style : Style) (inputs inside : Inputs) (log : Log) (placement : Placement) (routing : Routing) (drawn : Drawn) (height : ℕ) → inside ≡ inputs → placement ≡ placement_of placement.row → height ≡ inputs.tech.height → AreInputs inputs → IsFound inputs placement.row log → IsPlacement placement → IsRouted style inputs placement.row routing → IsDrawnSo style inside placement.row placement routing drawn.lines drawn.drawing height → drawn.tapped ≡ tapped_by style.taps drawn.drawing drawn.lines → IsReadable inputs.cell.name (final style.taps drawn.drawing drawn.lines).shapes (unit_nm inputs.tech) → ComesTo style inputs (outcome.Made placement log routing drawn)
-made_so style inputs inside log placement routing drawn height same is high are found placed routed h tapped readable =
+pub made_so : (style : Style) (inputs inside : Inputs) (log : Log) (placement : Placement) (routing : Routing) (drawn : Drawn) (height : ℕ) → inside ≡ inputs → placement ≡ placement_of placement.row → height ≡ inputs.tech.height → AreInputs inputs → IsFound inputs placement.row log → IsPlacement placement → IsRouted style inputs placement.row routing → IsDrawnSo style inside placement.row placement routing drawn.lines drawn.drawing height → IsDrawnBare inside placement routing drawn.lines drawn.drawing height → drawn.tapped ≡ tapped_by style.taps drawn.drawing drawn.lines → IsReadable inputs.cell.name (final style.taps drawn.drawing drawn.lines).shapes (unit_nm inputs.tech) → ComesTo style inputs (outcome.Made placement log routing drawn)
+made_so style inputs inside log placement routing drawn height same is high are found placed routed h bare tapped readable =
     let seen = seen_so style inputs inside placement.row placement routing drawn.lines drawn.drawing height same is high h in
-    let sound = sound_drawing style inputs placement.row log routing drawn.lines drawn.drawing are found (subst IsPlacement is placed) routed seen readable in
-    (is_made style inputs placement.row log routing drawn.lines drawn.drawing are found routed seen.least seen.fits seen.exact sound, (seen.exact, tapped))
+    let sound = sound_drawing style inputs placement.row log routing drawn.lines drawn.drawing are found (subst IsPlacement is placed) routed seen readable in (
+      is_made style inputs placement.row log routing drawn.lines drawn.drawing are found routed seen.least seen.fits seen.exact sound
+          (abstract_so style inputs inside placement.row log placement routing drawn.lines drawn.drawing height same is high are found (subst IsPlacement is placed) seen.least seen.exact sound.port_nets sound.obstructs bare),
+      (seen.exact, tapped),
+    )
 
 pub cyclic_so : (style : Style) (inputs inside : Inputs) (row : List Column) (log : Log) (placement : Placement) (ring : Ring) → inside ≡ inputs → placement ≡ placement_of row → IsFound inputs row log → IsToldRing style.wiring placement inside.cell.pins ring → ComesTo style inputs (outcome.Cyclic placement log ring)
 cyclic_so style inputs inside row log placement ring same is found told =

@@ -3,6 +3,7 @@
 use Rattle.std.specs.Prelude.{ℕ, ◌≡◌, ◌<◌, ◌≤◌, ◌*◌, List, length, unwrap_or}
 use Rattle.cell_num.specs.declared.net.Pins.{Pins}
 use Rattle.row_model.specs.declared.column.Column.{Column}
+use Rattle.agree_laws.specs.Abstracts.{IsAbstractOf}
 use Rattle.bound_log.specs.declared.log.Log.{Log}
 use Rattle.row_place.specs.declared.placement.Placement.{Placement}
 use Rattle.row_place.specs.Places.{placement_of}
@@ -70,12 +71,20 @@ ports_in inputs routing drawing = ports_of inputs.cell.pins routing.trunks drawi
 abbrev pub abstract_of : Inputs → Routing → Drawing → List ℕ
 abstract_of inputs routing drawing = cell_text inputs.cell routing drawing (unit_nm inputs.tech)
 
+-- The text of the abstract is read as a macro that agrees with the shapes that are written, with taps or without. It is
+-- unfolded where it is wanted, since a search over what is said of a cell need not go into texts.
+unfoldable pub HasAbstract : Style → Inputs → List Column → Routing → List ℕ → Type 0
+HasAbstract style inputs row routing xs =
+    IsAbstractOf (final_in style inputs row routing xs).shapes inputs.cell.name (unit_nm inputs.tech)
+    (abstract_of inputs routing (drawing_in inputs row routing xs))
+
 -- What is said of a drawn cell. Its row is the first least arrangement of the fingers, and the log is accepted
 -- and lists it. Its channel is routed legally and tightly, its lines stand at the least places, and the height is
 -- enough. The shapes obey every rule, extract net by net to the fingers, and show the row and the routing; with taps
 -- each device's body is its row's rail. The bytes, which have no other structure, decode with the cell's name and the
 -- technology's lambda to these shapes. Each pin has a port, and one for each trunk of its net, every cell of them is in
--- the pin's net, all other metal obstructs, and the size is that of metal1: these without the taps.
+-- the pin's net, all other metal obstructs, and the size is that of metal1: these without the taps. The text of the
+-- abstract is read as a macro that agrees with the shapes.
 pub record IsMade (style : Style) (inputs : Inputs) (row : List Column) (log : Log) (routing : Routing)
     (xs : List ℕ) : Type 0 where
   pub found : IsFound inputs row log
@@ -108,6 +117,7 @@ pub record IsMade (style : Style) (inputs : Inputs) (row : List Column) (log : L
       Decodes (library_of inputs (final_in style inputs row routing xs)) inputs.cell.name inputs.tech.lambda_nm
       (final_in style inputs row routing xs).shapes
   pub alone : HasOneStructure (library_of inputs (final_in style inputs row routing xs))
+  pub agrees : HasAbstract style inputs row routing xs
 
 -- ---- what it comes to
 

@@ -32,7 +32,8 @@ use spice_net::Subckt;
 use std::alloc::Global;
 use well_tap::draw_taps;
 
-/// A cell with a column is at least so many grid units wide: it has three lines, with 8 before, between and behind them.
+/// A cell with a column is at least so many grid units wide: it has three lines, with 8 before, between and behind
+/// them.
 pub const LEAST_WIDTH: u32 = 32;
 
 /// A drawn cell is at most so many grid units wide. The last line stands at 127,008 or less, the side 8 behind it.
@@ -88,6 +89,7 @@ fn drawing_by(
     height: u32,
 ) -> Result<Drawing, DrawFault>
     requires placement { IsPlacement placement.now }
+    requires some { 0 < length placement.now.row }
     requires row { IsSoundRow cell.now.nets cell.now.pins placement.now.row }
     requires routing { AreLegal wiring placement.now cell.now.pins routing.now }
     requires lines { AreAllowed placement.now cell.now.pins (stretches_of routing.now.trunks) lines.now }
@@ -104,6 +106,7 @@ fn drawing_by(
         lines.now d.shapes routing.now) }
     ensures framed { IfOk result (IsFramed (frame_of placement.now.row routing.now.tracks height
         (width_of placement.now lines.now)) lines.now) }
+    ensures base { IfOk result (IsBase lines.now) }
     ensures width { IfOk result (λ d. d.width ≡ width_of placement.now lines.now) }
     ensures few { IfOk result (λ d. length d.shapes.rects < MOST_SHAPES) }
     ensures within { IfOk result (λ d. AreWithin d.shapes) }
@@ -161,7 +164,7 @@ fn tapped_by(
 
 /// Draws a routed row in this style on its least lines, in a cell of the given height, or of the least where that is 0.
 #[tactic(auto, using(crate::proofs::Wirings::wired_by))]
-pub fn draw_routed(
+pub(crate) fn draw_routed(
     alloc: Global,
     style: Style,
     cell: &Subckt,
@@ -195,6 +198,10 @@ pub fn draw_routed(
     ensures narrow { IfOk result (λ d. d.drawing.width ≤ MOST_WIDTH) }
     ensures few { IfOk result (λ d. length d.drawing.shapes.rects < MOST_SHAPES) }
     ensures within { IfOk result (λ d. AreWithin d.drawing.shapes) }
+    ensures limits { IfOk result (λ d. AreWithinLimits d.drawing.shapes.rects) }
+    ensures low { IfOk result (λ d. d.drawing.height ≤ MOST_Y) }
+    ensures bare { IfOk result (λ d. ExtractsToRow Plain cell.now.nets cell.now.pins placement.now.row
+        d.drawing.shapes) }
     ensures written { IfOk result (λ d. AreWritable cell.now.nets (final style.taps d.drawing d.lines).shapes) }
     ensures fits { IfOk result (λ d. IsTooTall placement.now.row routing.now.tracks height → ⊥) }
     ensures cause { IfErr result (IsCause placement.now.row routing.now.tracks height) }
@@ -209,6 +216,7 @@ pub fn draw_routed(
         &lines,
         height,
     )?;
+    drawing.shapes.show_limits();
     let tapped = tapped_by(alloc, style.taps, &drawing, &lines)?;
     Ok(Drawn {
         lines,

@@ -80,7 +80,7 @@ bodied g labels names pins gnd vdd = record { each = λ box d. by d.row box (λ 
     by : (row : Row) (box : Rectangle) → ((x y : ℤ) → Holds box x y → InRow row (whole g) x y) → Holds box box.x1 box.y1 → HasBody (name_of names (rail_of pins row)) (with_labels (whole g) labels) row box
     by N box of_row corner = has_body (name_of names pins.gnd) (with_labels (whole g) labels) N box (site_at NDiffusion (pos g.first) (pos 8))
         (record { kind = refl; conducts = low_conducts; select = p_select_there g (pos g.first) (pos 8) (at_first (omega (arith, ints))); below = tt })
-        (named_tap (base g) (whole g) (height g) (gains g) labels (name_of names pins.gnd) NDiffusion (pos g.first) (pos 8) (inr refl) low_conducts (inl low_row)
+        (named_tap Taps (base g) (whole g) (height g) (gains g) labels (name_of names pins.gnd) NDiffusion (pos g.first) (pos 8) (inr refl) low_conducts (inl low_row)
         (along_gnd g labels (name_of names pins.gnd) (pos g.first) (pos 8) (on_gnd g (pos g.first) (pos 8) low_conducts.0.0 low_row) gnd))
     by P box of_row corner = has_body (name_of names pins.vdd) (with_labels (whole g) labels) P box (site_at PDiffusion (pos g.first) (pos g.high))
         (record {
@@ -89,5 +89,5 @@ bodied g labels names pins gnd vdd = record { each = λ box d. by d.row box (λ 
           select = n_select_there g (pos g.first) (pos g.high) (at_first (omega (arith, ints)));
           below = inside (rects_on Well (whole g)) (high_well g.frame).rect (contains_here (high_well g.frame).rect (rects_on Well (g.others ++ taps g))) box.x1 box.y1 (pos g.first) (pos g.high) (new_well g box.x1 box.y1 (of_row box.x1 box.y1 corner)) (new_well g (pos g.first) (pos g.high) high_conducts.1);
         })
-        (named_tap (base g) (whole g) (height g) (gains g) labels (name_of names pins.vdd) PDiffusion (pos g.first) (pos g.high) (inl refl) high_conducts (inr high_row)
+        (named_tap Taps (base g) (whole g) (height g) (gains g) labels (name_of names pins.vdd) PDiffusion (pos g.first) (pos g.high) (inl refl) high_conducts (inr high_row)
         (along_vdd g labels (name_of names pins.vdd) (pos g.first) (pos g.high) (on_vdd g (pos g.first) (pos g.high) high_conducts.0.0 high_row) vdd))

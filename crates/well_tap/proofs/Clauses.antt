@@ -34,7 +34,7 @@ use Rattle.well_tap.proofs.Circuit.{extracts_up, row_up}
 use Rattle.well_tap.proofs.Gained.{gains}
 use Rattle.well_tap.proofs.Rules.{obeys_taps}
 use Rattle.well_tap.proofs.TapCells.{AreTapped}
-use Rattle.well_tap.proofs.TapLabels.{with_labels, names_up}
+use Rattle.well_tap.proofs.TapLabels.{with_labels, named_up, names_up}
 use Rattle.well_tap.proofs.Covered.{same_metal1, same_metal2}
 use Rattle.well_tap.proofs.Tapping.{Tapping, base, whole, taps, high_well, height}
 
@@ -117,13 +117,14 @@ as_large xs d e b is = subst (KeepsMetal d) (sym is) (record {
 
 pub same_circuit : (xs : List ℕ) (d e : Drawing) → IsBase xs d → e ≡ tapped xs d → IsSameCircuit d e
 same_circuit xs d e b is = subst (IsSameCircuit d) (sym is) (record {
-  named = λ names n. names_up d.shapes.rects (tapped xs d).shapes.rects (height (tapping xs d b)) (gains_of xs d b) d.shapes.labels names n;
-  extracts = λ names fingers x. extracts_up d.shapes.rects (tapped xs d).shapes.rects (height (tapping xs d b)) (gains_of xs d b) d.shapes.labels names fingers x;
+  sites = λ deck name a n. named_up deck d.shapes.rects (tapped xs d).shapes.rects (height (tapping xs d b)) (gains_of xs d b) d.shapes.labels name a n;
+  named = λ deck names n. names_up deck d.shapes.rects (tapped xs d).shapes.rects (height (tapping xs d b)) (gains_of xs d b) d.shapes.labels names n;
+  extracts = λ deck names fingers x. extracts_up deck d.shapes.rects (tapped xs d).shapes.rects (height (tapping xs d b)) (gains_of xs d b) d.shapes.labels names fingers x;
 })
 
 pub shows_same : (xs : List ℕ) (d e : Drawing) → IsBase xs d → e ≡ tapped xs d → ShowsTheSame d e
 shows_same xs d e b is = subst (ShowsTheSame d) (sym is) (record {
-  row = λ names row x. row_up d.shapes.rects (tapped xs d).shapes.rects (height (tapping xs d b)) (gains_of xs d b) d.shapes.labels names row x;
+  row = λ names row x. row_up Taps d.shapes.rects (tapped xs d).shapes.rects (height (tapping xs d b)) (gains_of xs d b) d.shapes.labels names row x;
   routing = λ names pins p r x. record {
     nets = x.nets;
     order = x.order;

@@ -9,7 +9,7 @@ use Rattle.box_geom.specs.declared.layer.Layer.TheVariants.{Well, Active, Poly a
 use Rattle.box_geom.specs.declared.shape.Shape.{Shape}
 use Rattle.scmos_rules.specs.Layout.{On}
 use Rattle.scmos_rules.specs.declared.rules.Deck.{Deck}
-use Rattle.scmos_rules.specs.declared.rules.Deck.TheVariants.{Plain, Taps}
+use Rattle.scmos_rules.specs.declared.rules.Deck.TheVariants.{Plain}
 use Rattle.scmos_rules.proofs.Chains.{one, inside}
 use Rattle.net_extract.specs.Nets.{site_at, Are, IsLower, of_p, of_n, by_contact, along, through, Wired, SameNet}
 use Rattle.net_extract.specs.declared.piece.Conductor.{Conductor}
@@ -74,44 +74,44 @@ high_are g x y i = ((active_there g x y t, no_poly g x y t), well)
     well = high_well_there g x y i
 
 -- from the metal over a cell of a square to the cell: along the rail, through the contact in the middle, along the square
-over_square : (g : Tapping) (k : Conductor) (a m : ℕ) (rail : Rectangle) → IsLower k
+over_square : (g : Tapping) (deck : Deck) (k : Conductor) (a m : ℕ) (rail : Rectangle) → IsLower k
     → ((x y : ℤ) → Holds (around Active a (pos m) 5).rect x y → Are (whole g) k x y)
     → ((x y : ℤ) → Holds (around Active a (pos m) 5).rect x y → Holds rail x y)
     → ((x y : ℤ) → Holds rail x y → On Metal1Layer (whole g) x y)
     → On Contact (whole g) (pos a) (pos m)
-    → (x y : ℤ) → Holds (around Active a (pos m) 5).rect x y → SameNet Taps (whole g) (site_at Metal1 x y) (site_at k x y)
-over_square g k a m rail lower are in_rail metal cut x y h =
+    → (x y : ℤ) → Holds (around Active a (pos m) 5).rect x y → SameNet deck (whole g) (site_at Metal1 x y) (site_at k x y)
+over_square g deck k a m rail lower are in_rail metal cut x y h =
     let middle : Holds (around Active a (pos m) 5).rect (pos a) (pos m) = omega (arith, ints) in
-    let link : SameNet Taps (whole g) (site_at Metal1 (pos a) (pos m)) (site_at k (pos a) (pos m)) = record {
+    let link : SameNet deck (whole g) (site_at Metal1 (pos a) (pos m)) (site_at k (pos a) (pos m)) = record {
       conducts = metal (pos a) (pos m) (in_rail (pos a) (pos m) middle);
-      chain = one (Wired Taps (whole g)) (site_at Metal1 (pos a) (pos m)) (site_at k (pos a) (pos m)) (record {
+      chain = one (Wired deck (whole g)) (site_at Metal1 (pos a) (pos m)) (site_at k (pos a) (pos m)) (record {
         from = metal (pos a) (pos m) (in_rail (pos a) (pos m) middle);
         to = are (pos a) (pos m) middle;
         meets = through refl (inl (by_contact refl lower cut));
       });
     } in
-    net_both Taps (whole g) (site_at Metal1 x y) (site_at Metal1 (pos a) (pos m)) (site_at k x y)
-    (in_one Taps (whole g) Metal1 rail metal x y (pos a) (pos m) (in_rail x y h) (in_rail (pos a) (pos m) middle))
-    (net_both Taps (whole g) (site_at Metal1 (pos a) (pos m)) (site_at k (pos a) (pos m)) (site_at k x y) link
-    (in_one Taps (whole g) k (around Active a (pos m) 5).rect are (pos a) (pos m) x y middle h))
+    net_both deck (whole g) (site_at Metal1 x y) (site_at Metal1 (pos a) (pos m)) (site_at k x y)
+    (in_one deck (whole g) Metal1 rail metal x y (pos a) (pos m) (in_rail x y h) (in_rail (pos a) (pos m) middle))
+    (net_both deck (whole g) (site_at Metal1 (pos a) (pos m)) (site_at k (pos a) (pos m)) (site_at k x y) link
+    (in_one deck (whole g) k (around Active a (pos m) 5).rect are (pos a) (pos m) x y middle h))
 
-low_linked : (g : Tapping) (x y : ℤ) → AtEither g 8 5 x y → SameNet Taps (whole g) (site_at Metal1 x y) (site_at NDiffusion x y)
-low_linked g x y (at_first h) = over_square g NDiffusion g.first 8 (gnd_rail g.frame).rect of_n (λ u v i. low_are g u v (at_first i)) (λ u v i. let w = g.spread in omega (arith, ints, w.left, w.apart, w.right)) (λ u v i. metal1_up g u v (gnd_there g u v i)) (contact_there g (pos g.first) (pos 8) (first_low (omega (arith, ints)))) x y h
-low_linked g x y (at_last h) = over_square g NDiffusion g.last 8 (gnd_rail g.frame).rect of_n (λ u v i. low_are g u v (at_last i)) (λ u v i. let w = g.spread in omega (arith, ints, w.left, w.apart, w.right)) (λ u v i. metal1_up g u v (gnd_there g u v i)) (contact_there g (pos g.last) (pos 8) (last_low (omega (arith, ints)))) x y h
+low_linked : (g : Tapping) (deck : Deck) (x y : ℤ) → AtEither g 8 5 x y → SameNet deck (whole g) (site_at Metal1 x y) (site_at NDiffusion x y)
+low_linked g deck x y (at_first h) = over_square g deck NDiffusion g.first 8 (gnd_rail g.frame).rect of_n (λ u v i. low_are g u v (at_first i)) (λ u v i. let w = g.spread in omega (arith, ints, w.left, w.apart, w.right)) (λ u v i. metal1_up g u v (gnd_there g u v i)) (contact_there g (pos g.first) (pos 8) (first_low (omega (arith, ints)))) x y h
+low_linked g deck x y (at_last h) = over_square g deck NDiffusion g.last 8 (gnd_rail g.frame).rect of_n (λ u v i. low_are g u v (at_last i)) (λ u v i. let w = g.spread in omega (arith, ints, w.left, w.apart, w.right)) (λ u v i. metal1_up g u v (gnd_there g u v i)) (contact_there g (pos g.last) (pos 8) (last_low (omega (arith, ints)))) x y h
 
-high_linked : (g : Tapping) (x y : ℤ) → AtEither g g.high 5 x y → SameNet Taps (whole g) (site_at Metal1 x y) (site_at PDiffusion x y)
-high_linked g x y (at_first h) = over_square g PDiffusion g.first g.high (vdd_rail g.frame).rect of_p (λ u v i. high_are g u v (at_first i)) (λ u v i. let w = g.spread in let e = g.top in omega (arith, ints, w.left, w.apart, w.right, e)) (λ u v i. metal1_up g u v (vdd_there g u v i)) (contact_there g (pos g.first) (pos g.high) (first_high (omega (arith, ints)))) x y h
-high_linked g x y (at_last h) = over_square g PDiffusion g.last g.high (vdd_rail g.frame).rect of_p (λ u v i. high_are g u v (at_last i)) (λ u v i. let w = g.spread in let e = g.top in omega (arith, ints, w.left, w.apart, w.right, e)) (λ u v i. metal1_up g u v (vdd_there g u v i)) (contact_there g (pos g.last) (pos g.high) (last_high (omega (arith, ints)))) x y h
+high_linked : (g : Tapping) (deck : Deck) (x y : ℤ) → AtEither g g.high 5 x y → SameNet deck (whole g) (site_at Metal1 x y) (site_at PDiffusion x y)
+high_linked g deck x y (at_first h) = over_square g deck PDiffusion g.first g.high (vdd_rail g.frame).rect of_p (λ u v i. high_are g u v (at_first i)) (λ u v i. let w = g.spread in let e = g.top in omega (arith, ints, w.left, w.apart, w.right, e)) (λ u v i. metal1_up g u v (vdd_there g u v i)) (contact_there g (pos g.first) (pos g.high) (first_high (omega (arith, ints)))) x y h
+high_linked g deck x y (at_last h) = over_square g deck PDiffusion g.last g.high (vdd_rail g.frame).rect of_p (λ u v i. high_are g u v (at_last i)) (λ u v i. let w = g.spread in let e = g.top in omega (arith, ints, w.left, w.apart, w.right, e)) (λ u v i. metal1_up g u v (vdd_there g u v i)) (contact_there g (pos g.last) (pos g.high) (last_high (omega (arith, ints)))) x y h
 
-pub linked : (g : Tapping) (k : Conductor) (x y : ℤ) → IsDiffusion k → Are (whole g) k x y → IsTap (height g) y → SameNet Taps (whole g) (site_at Metal1 x y) (site_at k x y)
-linked g PDiffusion x y d c tap = high_linked g x y (in_well_high g x y (tap_of g x y c.0.0 tap) c.1)
-linked g NDiffusion x y d c tap = low_linked g x y (out_low g x y (tap_of g x y c.0.0 tap) c.1)
-linked g Poly x y (inl e) c tap = absurd cc
-linked g Poly x y (inr e) c tap = absurd cc
-linked g Metal1 x y (inl e) c tap = absurd cc
-linked g Metal1 x y (inr e) c tap = absurd cc
-linked g Metal2 x y (inl e) c tap = absurd cc
-linked g Metal2 x y (inr e) c tap = absurd cc
+pub linked : (g : Tapping) (deck : Deck) (k : Conductor) (x y : ℤ) → IsDiffusion k → Are (whole g) k x y → IsTap (height g) y → SameNet deck (whole g) (site_at Metal1 x y) (site_at k x y)
+linked g deck PDiffusion x y d c tap = high_linked g deck x y (in_well_high g x y (tap_of g x y c.0.0 tap) c.1)
+linked g deck NDiffusion x y d c tap = low_linked g deck x y (out_low g x y (tap_of g x y c.0.0 tap) c.1)
+linked g deck Poly x y (inl e) c tap = absurd cc
+linked g deck Poly x y (inr e) c tap = absurd cc
+linked g deck Metal1 x y (inl e) c tap = absurd cc
+linked g deck Metal1 x y (inr e) c tap = absurd cc
+linked g deck Metal2 x y (inl e) c tap = absurd cc
+linked g deck Metal2 x y (inr e) c tap = absurd cc
 
 pub gains : (g : Tapping) → AreTapped (base g) (whole g) (height g)
 gains g = record {

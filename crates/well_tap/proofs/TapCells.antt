@@ -3,7 +3,8 @@ use Rattle.std.proofs.Common.{◌≡◌, ◌↔◌, ℤ, pos, ◌≤ℤ◌, ◌<
 use Rattle.box_geom.specs.declared.shape.Shape.{Shape}
 use Rattle.box_geom.specs.declared.layer.Layer.TheVariants.{Well, Active, PSelect, NSelect, Poly as PolyLayer, Contact, Metal1 as Metal1Layer, Via, Metal2 as Metal2Layer}
 use Rattle.scmos_rules.specs.Layout.{On}
-use Rattle.scmos_rules.specs.declared.rules.Deck.TheVariants.{Plain, Taps}
+use Rattle.scmos_rules.specs.declared.rules.Deck.{Deck}
+use Rattle.scmos_rules.specs.declared.rules.Deck.TheVariants.{Plain}
 use Rattle.net_extract.specs.Nets.{site_at, Are, SameNet}
 use Rattle.net_extract.specs.declared.piece.Conductor.{Conductor}
 use Rattle.net_extract.specs.declared.piece.Conductor.TheVariants.{PDiffusion, NDiffusion, Metal1}
@@ -49,5 +50,5 @@ pub record AreTapped (s t : List Shape) (h : ℤ) : Type 0 where
   -- over each rail metal1 is of one net
   pub low_rail : (x y u v : ℤ) → On Active t x y → On Active t u v → IsLow y → IsLow v → SameNet Plain s (site_at Metal1 x y) (site_at Metal1 u v)
   pub high_rail : (x y u v : ℤ) → On Active t x y → On Active t u v → IsHigh h y → IsHigh h v → SameNet Plain s (site_at Metal1 x y) (site_at Metal1 u v)
-  -- each tap is of the net of the rail over it
-  pub linked : (k : Conductor) (x y : ℤ) → IsDiffusion k → Are t k x y → IsTap h y → SameNet Taps t (site_at Metal1 x y) (site_at k x y)
+  -- by any deck each tap is of the net of the rail over it
+  pub linked : (deck : Deck) (k : Conductor) (x y : ℤ) → IsDiffusion k → Are t k x y → IsTap h y → SameNet deck t (site_at Metal1 x y) (site_at k x y)

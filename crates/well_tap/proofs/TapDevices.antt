@@ -9,7 +9,8 @@ use Rattle.cell_num.specs.declared.finger.Row.{Row}
 use Rattle.cell_num.specs.declared.finger.Row.TheVariants.{P, N}
 use Rattle.scmos_rules.specs.Failing.{SameClass}
 use Rattle.scmos_rules.specs.Layout.{Gate}
-use Rattle.scmos_rules.specs.declared.rules.Deck.TheVariants.{Plain, Taps}
+use Rattle.scmos_rules.specs.declared.rules.Deck.{Deck}
+use Rattle.scmos_rules.specs.declared.rules.Deck.TheVariants.{Plain}
 use Rattle.net_extract.specs.Devices.{IsGateBox, InRow, diffusion_of, left_of, right_of, below, above, IsSide, IsClosed, source_side, drain_side, low_end, high_end, IsDevice, IsSomeDevice}
 use Rattle.net_extract.specs.declared.side.Current.{Current}
 use Rattle.net_extract.specs.declared.side.Current.TheVariants.{Rightward, Upward}
@@ -108,19 +109,19 @@ closed_up s t h a box strip b along c = record { closed = λ x y i on. elim (a.a
 closed_down : (s t : List Shape) (h : ℤ) → AreTapped s t h → (strip : Rectangle) → IsClosed t strip → IsClosed s strip
 closed_down s t h a strip c = record { closed = λ x y i on. c.closed x y i (a.active_up x y on) }
 
-side_up : (s t : List Shape) (h : ℤ) → AreTapped s t h → (k : Conductor) (strip : Rectangle) (p : Site) → IsSide Plain s k strip p → IsSide Taps t k strip p
-side_up s t h a k strip p i = record {
+side_up : (deck : Deck) (s t : List Shape) (h : ℤ) → AreTapped s t h → (k : Conductor) (strip : Rectangle) (p : Site) → IsSide Plain s k strip p → IsSide deck t k strip p
+side_up deck s t h a k strip p i = record {
   conducts = conducts_up s t h a p.kind p.cell.x p.cell.y i.conducts;
-  side = λ x y in_strip. let z = i.side x y in_strip in (conducts_up s t h a k x y z.0, net_up s t h a p (site_at k x y) z.1);
+  side = λ x y in_strip. let z = i.side x y in_strip in (conducts_up s t h a k x y z.0, net_up deck s t h a p (site_at k x y) z.1);
 }
 
 -- downward a side is given by a cell of its own
-side_down : (s t : List Shape) (h : ℤ) → AreTapped s t h → (box : Rectangle) → IsGateBox s box → (k : Conductor) (strip : Rectangle) (p : Site) (x y : ℤ) → IsAlong box strip → Holds strip x y → IsSide Taps t k strip p → IsSide Plain s k strip (site_at k x y)
-side_down s t h a box b k strip p x y along here i = record {
+side_down : (deck : Deck) (s t : List Shape) (h : ℤ) → AreTapped s t h → (box : Rectangle) → IsGateBox s box → (k : Conductor) (strip : Rectangle) (p : Site) (x y : ℤ) → IsAlong box strip → Holds strip x y → IsSide deck t k strip p → IsSide Plain s k strip (site_at k x y)
+side_down deck s t h a box b k strip p x y along here i = record {
   conducts = down x y here;
   side = λ u v there. (
     down u v there,
-    net_down s t h a (site_at k x y) (site_at k u v) (down x y here) (down u v there) (net_both Taps t (site_at k x y) p (site_at k u v) (net_back Taps t p (site_at k x y) (i.side x y here).1) (i.side u v there).1),
+    net_down deck s t h a (site_at k x y) (site_at k u v) (down x y here) (down u v there) (net_both deck t (site_at k x y) p (site_at k u v) (net_back deck t p (site_at k x y) (i.side x y here).1) (i.side u v there).1),
   );
 }
   where
@@ -137,15 +138,15 @@ row_down s t h a P x y i w = elim (a.well x y w) [ inl old ↦ old | inr le ↦ 
 row_down s t h a N x y i out = λ w. out (a.well_up x y w)
 
 -- ---- devices
-pub device_up : (s t : List Shape) (h : ℤ) → AreTapped s t h → (box : Rectangle) (row : Row) (gate left right : Site) (width length : ℕ) → (d : IsDevice Plain s box row gate left right width length) → (e : IsDevice Taps t box row gate left right width length) × (e.current ≡ d.current)
-device_up s t h a box row gate left right width length d = (
+pub device_up : (deck : Deck) (s t : List Shape) (h : ℤ) → AreTapped s t h → (box : Rectangle) (row : Row) (gate left right : Site) (width length : ℕ) → (d : IsDevice Plain s box row gate left right width length) → (e : IsDevice deck t box row gate left right width length) × (e.current ≡ d.current)
+device_up deck s t h a box row gate left right width length d = (
   record {
     current = d.current;
     class = box_up s t h a box d.class;
     of_row = λ x y i. row_up s t h a row x y (a.polys_inner x y (d.class.gate x y i).1) (d.of_row x y i);
-    gate_net = net_up s t h a gate (site_at Poly box.x1 box.y1) d.gate_net;
-    left_side = side_up s t h a (diffusion_of row) (source_side d.current box) left d.left_side;
-    right_side = side_up s t h a (diffusion_of row) (drain_side d.current box) right d.right_side;
+    gate_net = net_up deck s t h a gate (site_at Poly box.x1 box.y1) d.gate_net;
+    left_side = side_up deck s t h a (diffusion_of row) (source_side d.current box) left d.left_side;
+    right_side = side_up deck s t h a (diffusion_of row) (drain_side d.current box) right d.right_side;
     low = closed_up s t h a box (low_end d.current box) d.class (low_along d.current box d.class.proper) d.low;
     high = closed_up s t h a box (high_end d.current box) d.class (high_along d.current box d.class.proper) d.high;
     size = d.size;
@@ -162,8 +163,8 @@ drain_cell : (current : Current) (box : Rectangle) → IsProper box → (c : Cel
 drain_cell Rightward box p = (record { x = box.x2; y = box.y1 }, omega (arith, ints))
 drain_cell Upward box p = (record { x = box.x1; y = box.y2 }, omega (arith, ints))
 
-pub device_down : (s t : List Shape) (h : ℤ) → AreTapped s t h → (box : Rectangle) → (e : IsSomeDevice Taps t box) → (d : IsSomeDevice Plain s box) × (d.row ≡ e.row)
-device_down s t h a box e =
+pub device_down : (deck : Deck) (s t : List Shape) (h : ℤ) → AreTapped s t h → (box : Rectangle) → (e : IsSomeDevice deck t box) → (d : IsSomeDevice Plain s box) × (d.row ≡ e.row)
+device_down deck s t h a box e =
     let d = e.is in
     let b : IsGateBox s box = box_down s t h a box d.class in
     let p : IsProper box = d.class.proper in
@@ -182,8 +183,8 @@ device_down s t h a box e =
           class = b;
           of_row = λ x y i. row_down s t h a e.row x y (a.polys_inner x y (b.gate x y i).1) (d.of_row x y i);
           gate_net = net_self Plain s (site_at Poly box.x1 box.y1) (b.gate box.x1 box.y1 corner).1;
-          left_side = side_down s t h a box b (diffusion_of e.row) (source_side d.current box) e.left one.0.x one.0.y (source_along d.current box p) one.1 d.left_side;
-          right_side = side_down s t h a box b (diffusion_of e.row) (drain_side d.current box) e.right two.0.x two.0.y (drain_along d.current box p) two.1 d.right_side;
+          left_side = side_down deck s t h a box b (diffusion_of e.row) (source_side d.current box) e.left one.0.x one.0.y (source_along d.current box p) one.1 d.left_side;
+          right_side = side_down deck s t h a box b (diffusion_of e.row) (drain_side d.current box) e.right two.0.x two.0.y (drain_along d.current box p) two.1 d.right_side;
           low = closed_down s t h a (low_end d.current box) d.low;
           high = closed_down s t h a (high_end d.current box) d.high;
           size = d.size;

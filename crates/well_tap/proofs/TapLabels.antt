@@ -9,7 +9,8 @@ use Rattle.box_geom.specs.declared.shape.Label.{Label}
 use Rattle.box_geom.specs.declared.shape.Shape.{Shape}
 use Rattle.box_geom.specs.declared.shape.Shapes.{Shapes}
 use Rattle.scmos_rules.specs.Layout.{On}
-use Rattle.scmos_rules.specs.declared.rules.Deck.TheVariants.{Plain, Taps}
+use Rattle.scmos_rules.specs.declared.rules.Deck.{Deck}
+use Rattle.scmos_rules.specs.declared.rules.Deck.TheVariants.{Plain}
 use Rattle.net_extract.specs.Labels.{IsConductorAt, IsFirstConductor, cells_round, Belongs, IsNamed}
 use Rattle.net_extract.specs.Nets.{layer_of, Are, Site, site_at, Conducts, SameNet}
 use Rattle.net_extract.specs.declared.piece.Conductor.{Conductor}
@@ -97,14 +98,14 @@ belongs_up s t h a l b f = first_up s t h a l.layer l.y (cells_round l.x l.y) b 
 abbrev pub with_labels : List Shape → List Label → Shapes
 with_labels s labels = record { rects = s; labels = labels }
 
-pub named_up : (s t : List Shape) (h : ℤ) → AreTapped s t h → (labels : List Label) (name : List ℕ) (b : Site) → IsNamed Plain (with_labels s labels) name b → IsNamed Taps (with_labels t labels) name b
-named_up s t h a labels name b n = record { label = n.label; listed = n.listed; reads = n.reads; at = n.at; belongs = belongs_up s t h a n.label n.at n.belongs; same = net_up s t h a n.at b n.same }
+pub named_up : (deck : Deck) (s t : List Shape) (h : ℤ) → AreTapped s t h → (labels : List Label) (name : List ℕ) (b : Site) → IsNamed Plain (with_labels s labels) name b → IsNamed deck (with_labels t labels) name b
+named_up deck s t h a labels name b n = record { label = n.label; listed = n.listed; reads = n.reads; at = n.at; belongs = belongs_up s t h a n.label n.at n.belongs; same = net_up deck s t h a n.at b n.same }
 
 -- a tap is named as its rail
-pub named_tap : (s t : List Shape) (h : ℤ) → AreTapped s t h → (labels : List Label) (name : List ℕ) (k : Conductor) (x y : ℤ) → IsDiffusion k → Are t k x y → IsTap h y → IsNamed Plain (with_labels s labels) name (site_at Metal1 x y) → IsNamed Taps (with_labels t labels) name (site_at k x y)
-named_tap s t h a labels name k x y d c tap n =
-    let up = named_up s t h a labels name (site_at Metal1 x y) n in
-    record { label = up.label; listed = up.listed; reads = up.reads; at = up.at; belongs = up.belongs; same = net_both Taps t up.at (site_at Metal1 x y) (site_at k x y) up.same (a.linked k x y d c tap) }
+pub named_tap : (deck : Deck) (s t : List Shape) (h : ℤ) → AreTapped s t h → (labels : List Label) (name : List ℕ) (k : Conductor) (x y : ℤ) → IsDiffusion k → Are t k x y → IsTap h y → IsNamed Plain (with_labels s labels) name (site_at Metal1 x y) → IsNamed deck (with_labels t labels) name (site_at k x y)
+named_tap deck s t h a labels name k x y d c tap n =
+    let up = named_up deck s t h a labels name (site_at Metal1 x y) n in
+    record { label = up.label; listed = up.listed; reads = up.reads; at = up.at; belongs = up.belongs; same = net_both deck t up.at (site_at Metal1 x y) (site_at k x y) up.same (a.linked deck k x y d c tap) }
 
 -- metal of the rail is over every tap
 pub rail_over : (s t : List Shape) (h : ℤ) → AreTapped s t h → (k : Conductor) (x y : ℤ) → IsDiffusion k → Are t k x y → IsTap h y → Conducts s (site_at Metal1 x y)
@@ -112,8 +113,8 @@ rail_over s t h a k x y d c (inl low) = let on = active_of t k x y d c in (a.low
 rail_over s t h a k x y d c (inr high) = let on = active_of t k x y d c in (a.high_rail x y x y on on high high).conducts
 
 -- the names of nets stay
-pub names_up : (s t : List Shape) (h : ℤ) → AreTapped s t h → (labels : List Label) (names : List (List ℕ)) → AreNamed Plain names (with_labels s labels) → AreNamed Taps names (with_labels t labels)
-names_up s t h a labels names n = record {
+pub names_up : (deck : Deck) (s t : List Shape) (h : ℤ) → AreTapped s t h → (labels : List Label) (names : List (List ℕ)) → AreNamed Plain names (with_labels s labels) → AreNamed deck names (with_labels t labels)
+names_up deck s t h a labels names n = record {
   belong = λ l c. let i = n.belong l c in record { site = i.site; belongs = belongs_up s t h a l i.site i.belongs };
   known = n.known;
   all = n.all;
@@ -127,17 +128,17 @@ names_up s t h a labels names n = record {
     down : (l : Label) (c : Contains labels l) (p : Site) → Belongs t l p → Belongs s l p
     down l c p b = subst (Belongs s l) (own l c p b) (n.belong l c).belongs
 
-    apart : (l m : Label) (p q : Site) → Contains labels l → Contains labels m → Belongs t l p → Belongs t m q → SameNet Taps t p q ↔ l.name ≡ m.name
+    apart : (l m : Label) (p q : Site) → Contains labels l → Contains labels m → Belongs t l p → Belongs t m q → SameNet deck t p q ↔ l.name ≡ m.name
     apart l m p q cl cm bp bq =
         let dp = down l cl p bp in
         let dq = down m cm q bq in
         let same = n.apart l m p q cl cm dp dq in (
-          λ net. same.0 (net_down s t h a p q (belongs_conducts s l p dp) (belongs_conducts s m q dq) net),
-          λ e. net_up s t h a p q (same.1 e),
+          λ net. same.0 (net_down deck s t h a p q (belongs_conducts s l p dp) (belongs_conducts s m q dq) net),
+          λ e. net_up deck s t h a p q (same.1 e),
         )
 
-    every : (p : Site) → Conducts t p → (name : List ℕ) × IsNamed Taps (with_labels t labels) name p
+    every : (p : Site) → Conducts t p → (name : List ℕ) × IsNamed deck (with_labels t labels) name p
     every p c = elim (are_down s t h a p.kind p.cell.x p.cell.y c) [
-      | inl old ↦ let z = n.every p old in (z.0, named_up s t h a labels z.0 p z.1)
-      | inr tap ↦ let z = n.every (site_at Metal1 p.cell.x p.cell.y) (rail_over s t h a p.kind p.cell.x p.cell.y tap.0 c tap.1) in (z.0, named_tap s t h a labels z.0 p.kind p.cell.x p.cell.y tap.0 c tap.1 z.1)
+      | inl old ↦ let z = n.every p old in (z.0, named_up deck s t h a labels z.0 p z.1)
+      | inr tap ↦ let z = n.every (site_at Metal1 p.cell.x p.cell.y) (rail_over s t h a p.kind p.cell.x p.cell.y tap.0 c tap.1) in (z.0, named_tap deck s t h a labels z.0 p.kind p.cell.x p.cell.y tap.0 c tap.1 z.1)
     ]

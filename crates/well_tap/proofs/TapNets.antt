@@ -6,7 +6,8 @@ use Rattle.box_geom.specs.Chains.{Chain}
 use Rattle.box_geom.specs.declared.shape.Shape.{Shape}
 use Rattle.box_geom.specs.declared.layer.Layer.TheVariants.{Well, Active}
 use Rattle.scmos_rules.specs.Layout.{On}
-use Rattle.scmos_rules.specs.declared.rules.Deck.TheVariants.{Plain, Taps}
+use Rattle.scmos_rules.specs.declared.rules.Deck.{Deck}
+use Rattle.scmos_rules.specs.declared.rules.Deck.TheVariants.{Plain}
 use Rattle.scmos_rules.proofs.Chains.{none, one, turned, flip_edge, followed}
 use Rattle.net_extract.specs.Nets.{Site, site_at, Are, Conducts, IsLower, of_p, of_n, of_poly, Joins, by_contact, by_via, Tied, by_well, by_substrate, Meets, along, through, tied, Wired, SameNet}
 use Rattle.net_extract.specs.declared.piece.Conductor.{Conductor}
@@ -30,16 +31,16 @@ joins_up : (s t : List Shape) (h : ℤ) → AreTapped s t h → (x y : ℤ) (k l
 joins_up s t h a x y k l (by_contact e low on) = by_contact e low (a.contact_up x y on)
 joins_up s t h a x y k l (by_via e f on) = by_via e f ((a.on_via x y).1 on)
 
-meets_up : (s t : List Shape) (h : ℤ) → AreTapped s t h → (m n : Site) → Meets Plain s m n → Meets Taps t m n
-meets_up s t h a m n (along e edge) = along e edge
-meets_up s t h a m n (through e (inl j)) = through e (inl (joins_up s t h a m.cell.x m.cell.y m.kind n.kind j))
-meets_up s t h a m n (through e (inr j)) = through e (inr (joins_up s t h a m.cell.x m.cell.y n.kind m.kind j))
-meets_up s t h a m n (tied e z) = absurd (cc e)
+meets_up : (deck : Deck) (s t : List Shape) (h : ℤ) → AreTapped s t h → (m n : Site) → Meets Plain s m n → Meets deck t m n
+meets_up deck s t h a m n (along e edge) = along e edge
+meets_up deck s t h a m n (through e (inl j)) = through e (inl (joins_up s t h a m.cell.x m.cell.y m.kind n.kind j))
+meets_up deck s t h a m n (through e (inr j)) = through e (inr (joins_up s t h a m.cell.x m.cell.y n.kind m.kind j))
+meets_up deck s t h a m n (tied e z) = absurd (cc e)
 
-pub net_up : (s t : List Shape) (h : ℤ) → AreTapped s t h → (m n : Site) → SameNet Plain s m n → SameNet Taps t m n
-net_up s t h a m n c = record {
+pub net_up : (deck : Deck) (s t : List Shape) (h : ℤ) → AreTapped s t h → (m n : Site) → SameNet Plain s m n → SameNet deck t m n
+net_up deck s t h a m n c = record {
   conducts = conducts_up s t h a m.kind m.cell.x m.cell.y c.conducts;
-  chain = carried_steps (Wired Plain s) (Wired Taps t) (λ (z : Site). z) (λ p q w. record { from = conducts_up s t h a p.kind p.cell.x p.cell.y w.from; to = conducts_up s t h a q.kind q.cell.x q.cell.y w.to; meets = meets_up s t h a p q w.meets }) c.chain.count m n c.chain.steps;
+  chain = carried_steps (Wired Plain s) (Wired deck t) (λ (z : Site). z) (λ p q w. record { from = conducts_up s t h a p.kind p.cell.x p.cell.y w.from; to = conducts_up s t h a q.kind q.cell.x q.cell.y w.to; meets = meets_up deck s t h a p q w.meets }) c.chain.count m n c.chain.steps;
 }
 
 -- ---- downward: a site of the drawing stands for itself, a tap for the rail above it
@@ -181,23 +182,23 @@ step_tied s t h a m n p q cm cn (by_substrate e f om on) is other =
     (subst (λ z. Chain (Wired Plain s) (site_at Metal1 m.cell.x m.cell.y) z) (sym (rail_of s t h a n q NDiffusion (inr refl) f (inl hn) other))
     (a.low_rail m.cell.x m.cell.y n.cell.x n.cell.y am.0.0 an.0.0 hm hn).chain)
 
-step_meets : (s t : List Shape) (h : ℤ) → AreTapped s t h → (m n p q : Site) → Conducts t m → Conducts t n → Meets Taps t m n → StandsFor s t h m p → StandsFor s t h n q → Chain (Wired Plain s) p q
-step_meets s t h a m n p q cm cn (along e edge) is other = step_along s t h a m n p q e edge is other
-step_meets s t h a m n p q cm cn (through e (inl j)) is other = step_joins s t h a m n p q e j is other
-step_meets s t h a m n p q cm cn (through e (inr j)) is other = flip_stands s q p (step_joins s t h a n m q p (sym e) (subst (λ (c : Cell). Joins t c.x c.y n.kind m.kind) e j) other is)
-step_meets s t h a m n p q cm cn (tied e z) is other = step_tied s t h a m n p q cm cn z is other
+step_meets : (deck : Deck) (s t : List Shape) (h : ℤ) → AreTapped s t h → (m n p q : Site) → Conducts t m → Conducts t n → Meets deck t m n → StandsFor s t h m p → StandsFor s t h n q → Chain (Wired Plain s) p q
+step_meets deck s t h a m n p q cm cn (along e edge) is other = step_along s t h a m n p q e edge is other
+step_meets deck s t h a m n p q cm cn (through e (inl j)) is other = step_joins s t h a m n p q e j is other
+step_meets deck s t h a m n p q cm cn (through e (inr j)) is other = flip_stands s q p (step_joins s t h a n m q p (sym e) (subst (λ (c : Cell). Joins t c.x c.y n.kind m.kind) e j) other is)
+step_meets deck s t h a m n p q cm cn (tied e z) is other = step_tied s t h a m n p q cm cn z is other
 
-step : (s t : List Shape) (h : ℤ) → AreTapped s t h → (m n p : Site) → Wired Taps t m n → StandsFor s t h m p → (q : Site) × StandsFor s t h n q × Chain (Wired Plain s) p q
-step s t h a m n p w is =
+step : (deck : Deck) (s t : List Shape) (h : ℤ) → AreTapped s t h → (m n p : Site) → Wired deck t m n → StandsFor s t h m p → (q : Site) × StandsFor s t h n q × Chain (Wired Plain s) p q
+step deck s t h a m n p w is =
     let next = stands s t h a n n.kind refl w.to in
-    (next.for, next.is, step_meets s t h a m n p next.for w.from w.to w.meets is next.is)
+    (next.for, next.is, step_meets deck s t h a m n p next.for w.from w.to w.meets is next.is)
 
 own_place : (s t : List Shape) (h : ℤ) → AreTapped s t h → (n q : Site) → Conducts s n → StandsFor s t h n q → n ≡ q
 own_place s t h a n q c (itself k i) = i
 own_place s t h a n q c (as_rail g on tap i) = absurd (not_both s t h a n.cell.y n.cell.y (a.actives_inner n.cell.x n.cell.y (active_of s n.kind n.cell.x n.cell.y g c)) tap (omega (arith, ints)) (omega (arith, ints)))
 
 -- Two sites of the drawing that are of one net with taps are so without them.
-pub net_down : (s t : List Shape) (h : ℤ) → AreTapped s t h → (m n : Site) → Conducts s m → Conducts s n → SameNet Taps t m n → SameNet Plain s m n
-net_down s t h a m n cm cn c =
-    let f = followed (Wired Taps t) (Wired Plain s) (StandsFor s t h) (step s t h a) c.chain.count m n m c.chain.steps (itself cm refl) in
+pub net_down : (deck : Deck) (s t : List Shape) (h : ℤ) → AreTapped s t h → (m n : Site) → Conducts s m → Conducts s n → SameNet deck t m n → SameNet Plain s m n
+net_down deck s t h a m n cm cn c =
+    let f = followed (Wired deck t) (Wired Plain s) (StandsFor s t h) (step deck s t h a) c.chain.count m n m c.chain.steps (itself cm refl) in
     record { conducts = cm; chain = subst (λ z. Chain (Wired Plain s) m z) (sym (own_place s t h a n f.0 cn f.1)) f.2 }

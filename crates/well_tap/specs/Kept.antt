@@ -7,7 +7,10 @@ use Rattle.cell_num.specs.declared.net.Pins.{Pins}
 use Rattle.row_model.specs.declared.column.Column.{Column}
 use Rattle.row_place.specs.declared.placement.Placement.{Placement}
 use Rattle.channel_route.specs.declared.routing.Routing.{Routing}
+use Rattle.scmos_rules.specs.declared.rules.Deck.{Deck}
 use Rattle.scmos_rules.specs.declared.rules.Deck.TheVariants.{Plain, Taps}
+use Rattle.net_extract.specs.Labels.{IsNamed}
+use Rattle.net_extract.specs.Nets.{Site}
 use Rattle.cell_draw.specs.declared.drawing.Drawing.{Drawing}
 use Rattle.cell_draw.specs.Extracted.{ExtractsTo}
 use Rattle.cell_draw.specs.Named.{AreNamed}
@@ -21,11 +24,12 @@ pub record KeepsMetal (base d : Drawing) : Type 0 where
   pub metal1 : rects_on Metal1 d.shapes.rects ≡ rects_on Metal1 base.shapes.rects
   pub metal2 : rects_on Metal2 d.shapes.rects ≡ rects_on Metal2 base.shapes.rects
 
--- the names of nets, and what the drawing extracts to: now by the deck that knows taps
+-- the names of nets, and what the drawing extracts to: by the deck that knows taps, and by the plain one
 pub record IsSameCircuit (base d : Drawing) : Type 0 where
-  pub named : (names : List (List ℕ)) → AreNamed Plain names base.shapes → AreNamed Taps names d.shapes
-  pub extracts : (names : List (List ℕ)) (fingers : Fingers)
-      → ExtractsTo Plain names fingers base.shapes → ExtractsTo Taps names fingers d.shapes
+  pub sites : (deck : Deck) (name : List ℕ) (a : Site) → IsNamed Plain base.shapes name a → IsNamed deck d.shapes name a
+  pub named : (deck : Deck) (names : List (List ℕ)) → AreNamed Plain names base.shapes → AreNamed deck names d.shapes
+  pub extracts : (deck : Deck) (names : List (List ℕ)) (fingers : Fingers)
+      → ExtractsTo Plain names fingers base.shapes → ExtractsTo deck names fingers d.shapes
 
 -- the row and the routing that the drawing shows
 pub record ShowsTheSame (base d : Drawing) : Type 0 where

@@ -31,6 +31,15 @@ returns-in-Ok-clause-comes c =
       shows = c.in-Ok.ensures.shows;
       routed = c.in-Ok.ensures.routed;
     })
+    (record {
+      framed = c.in-Ok.ensures.framed;
+      narrow = c.in-Ok.ensures.narrow;
+      low = c.in-Ok.ensures.low;
+      few = c.in-Ok.ensures.few;
+      within = c.in-Ok.ensures.within;
+      limits = c.in-Ok.ensures.limits;
+      extracts = c.in-Ok.ensures.bare;
+    })
     c.in-Ok.ensures.tapped
     (readable_so c.args.inputs.now (inputs_of c.inputs.inside.tech c.inputs.inside.cell c.inputs.inside.fingers) (final c.args.style.taps c.in-Ok.drawn.drawing c.in-Ok.drawn.lines).shapes c.inputs.view_is c.show_limits.ensures c.in-Ok.ensures.written)
 

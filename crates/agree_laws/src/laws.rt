@@ -1,0 +1,32 @@
+// Laws on abstracts of drawn cells. The calls do nothing: their contracts are the laws.
+ghost use Rattle.std.specs.Prelude.{◌≤◌, ℕ, List, IsTrue, length};
+ghost use Rattle.cell_num.specs.Names.{is_cell};
+ghost use Rattle.spice_net.specs.Subckts.{AreNames};
+ghost use Rattle.spice_net.specs.declared.subckt.Subckt.{Subckt};
+ghost use Rattle.cell_draw.specs.declared.drawing.Drawing.{Drawing};
+ghost use Rattle.cell_draw.specs.declared.layout.Frame.{Frame};
+ghost use Rattle.well_tap.specs.Base.{IsBase};
+ghost use Rattle.well_tap.specs.Tapped.{tapped};
+ghost use Rattle.lef_write.specs.Lef.{library_text};
+ghost use Rattle.lef_write.specs.declared.port.Port.{Port};
+ghost use Rattle.lef_laws.specs.Drawn.{IsReadable};
+ghost use Rattle.agree_laws.specs.Abstracts.{HasPorts, IsAbstractOf, IsLowDrawing};
+
+/// The abstract of a drawing that stands in its frame can be read back: its names are words, and no length is beyond
+/// 1,000,000 microns. It does nothing: its contract is the law.
+pub fn readable_drawings()
+    ensures { (cell : Subckt) (f : Frame) (xs : List ℕ) (d : Drawing) (unit : ℕ)
+        → IsTrue (is_cell cell.name) → AreNames cell.nets → cell.pins.pins ≤ length cell.nets
+        → IsLowDrawing f xs d → 1 ≤ unit → unit ≤ 1000 → IsReadable cell d unit }
+{}
+
+/// The abstract of a cell with these ports agrees with its drawing, and with that drawing with taps. It does nothing: its
+/// contract is the law.
+pub fn agreeing_abstracts()
+    ensures plain { (cell : Subckt) (ports : List Port) (d : Drawing) (unit : ℕ)
+        → HasPorts cell ports d → IsReadable cell d unit
+        → IsAbstractOf d.shapes cell.name unit (library_text cell ports d unit) }
+    ensures tapped { (cell : Subckt) (ports : List Port) (d : Drawing) (xs : List ℕ) (unit : ℕ)
+        → HasPorts cell ports d → IsReadable cell d unit → IsBase xs d
+        → IsAbstractOf (tapped xs d).shapes cell.name unit (library_text cell ports d unit) }
+{}
