@@ -93,6 +93,14 @@ ended_so a b answer (Err e) found bad = elim (memory_or e) [
   | inr other ↦ inl (sym (bad other))
 ]
 
+-- ---- a file that is read for a step without a desk
+
+pub file_refused : {A : Type 0} (a b : View) (source : Source) (next : List ℕ → Reading A) (read : Result (List ℕ) Refusal) (e : Refusal) (ended : Result A Refusal) → IsRead a b source read → read ≡ Err e → IsHanded ended e → MayCome a b (bytes_of source >>= next) ended
+file_refused a b source next read e ended is bad told = refused a b b (bytes_of source) next read e ended (only_refl b) (came_bytes a b source read is) bad told
+
+pub file_taken : {A : Type 0} (a b : View) (source : Source) (next : List ℕ → Reading A) (read : Result (List ℕ) Refusal) (bytes : List ℕ) (ended : Result A Refusal) → OnlyReads a b → IsRead a b source read → read ≡ Ok bytes → MayCome b b (next bytes) ended → MayCome a b (bytes_of source >>= next) ended
+file_taken a b source next read bytes ended only is ok rest = taken a b b (bytes_of source) next read bytes ended only (only_refl b) (came_bytes a b source read is) ok rest
+
 -- ---- readings that failed
 
 reads_told : (e : Refusal) (a b c : View) → b.read_faults ≡ a.read_faults → KeepsReadsBut e b c → KeepsReadsBut e a c

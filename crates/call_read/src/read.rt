@@ -5,7 +5,7 @@ ghost use Rattle.call_read.specs.Sources.{file_name, most_bytes};
 
 use crate::refusal::Refusal;
 use cell_io::{Desk, ReadFault, Sink, read_into};
-use cell_num::{MOST_BYTES, copy};
+use cell_num::{Bytes, MOST_BYTES, copy};
 use std::alloc::Global;
 use std::marker::Model;
 
@@ -32,6 +32,13 @@ impl FileBytes {
         ensures few { length result.now ≤ MOST_BYTES }
     {
         self.bytes.as_slice()
+    }
+
+    pub fn into_bytes(self) -> Bytes
+        ensures bytes { result ≡ self }
+        ensures few { length result ≤ MOST_BYTES }
+    {
+        Bytes::from_vec(self.bytes)
     }
 }
 

@@ -19,8 +19,8 @@ abbrev pub texts : List (String Global) → List (List ℕ)
 texts words = map string_bytes words
 
 -- what a call asks for: `plan TECH SPICE CELL`, `make TECH SPICE CELL OUT`, which may end with `--dogleg` and `--taps`,
--- `check TECH SPICE CELL LOG`, `extract TECH GDS CELL`, whose technology is none for the plain one and which may end with `--taps`
--- for the deck of cells with taps, `bench NUMBER`, or `agree TECH GDS LEF CELL`
+-- `check TECH SPICE CELL LOG`, `extract TECH GDS CELL`, whose technology is none for the plain one and which may end with
+-- `--taps` for the deck of cells with taps, `bench NUMBER`, or `agree TECH GDS LEF CELL`
 pub data Form : Type 0 where
   Plan : (cell : CellAsked) → Form
   Make : (cell : CellAsked) (out : List ℕ) (style : Style) → Form
@@ -123,7 +123,9 @@ bench_of _ = None
 
 abbrev pub agree_of : List (List ℕ) → Option Form
 agree_of (tech ∷ gds ∷ lef ∷ cell ∷ []) =
-    if is_file tech && is_file gds && is_file lef && is_cell cell then Some (Agree (tech_of tech) gds lef cell) else None
+    if is_file tech && is_file gds && is_file lef && is_cell cell
+    then Some (Agree (tech_of tech) gds lef cell)
+    else None
 agree_of _ = None
 
 -- the form of some words, told by the command first; None where they have none

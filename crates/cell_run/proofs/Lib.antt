@@ -3,6 +3,7 @@ pub mod AskedFor
 pub mod BenchTold
 pub mod Ends
 pub mod ExtractTold
+pub mod MadeCompared
 pub mod MadeFiles
 pub mod MakeSettled
 pub mod MakeTold

@@ -11,6 +11,7 @@ use Rattle.cell_run.specs.Headline.{IsCyclicCell, IsMadeCell, IsSpentSearch, IsT
 use Rattle.call_work.proofs.Statuses.{differ}
 use Rattle.cell_inputs.specs.declared.style.Style.{Style}
 use Rattle.cell_inputs.specs.Inputs.{Inputs}
+use Rattle.cell_make.proofs.Abstracts.{abstract_made}
 use Rattle.cell_make.proofs.Rings.{ring_is}
 use Rattle.cell_make.specs.Making.{abstract_of, drawing_in, final_in, library_of}
 use Rattle.cell_make.specs.Making as made
@@ -47,6 +48,7 @@ drawn_so style inputs out end answer old new (made.Made row log routing xs, h, i
   port_nets = h.port_nets;
   obstructs = h.obstructs;
   sized = h.sized;
+  agrees = abstract_made style inputs row routing xs h.agrees;
   decodes = h.decodes;
   alone = h.alone;
   files = cell_made out (log_text inputs.cell.name log) (library_of inputs (final_in style inputs row routing xs)) (abstract_of inputs routing (drawing_in inputs row routing xs)) end.files old.made new.made is.files whole.1;

@@ -1,14 +1,22 @@
 -- What a call of `agree` tells.
-use Rattle.std.specs.Prelude.{◌≡◌, ◌⊎◌, Option, Err}
+use Rattle.std.specs.Prelude.{ℕ, ◌≡◌, ◌⊎◌, List, Option, Some, Ok, Err}
+use Rattle.bound_log.specs.declared.log.Log.{Log}
 use Rattle.cell_io.specs.Desk.{Files, View, Both}
+use Rattle.channel_route.specs.declared.routing.Routing.{Routing}
+use Rattle.row_model.specs.declared.column.Column.{Column}
 use Rattle.lef_agree.specs.declared.differ.Differ.{Differ}
 use Rattle.call_end.specs.Deliver.{Says}
+use Rattle.call_read.specs.InputFiles.{technology_from}
 use Rattle.call_read.specs.Reading.{called}
+use Rattle.call_read.specs.Sources.{GdsFile, LefFile, held}
 use Rattle.call_read.specs.declared.refusal.Refusal.{Refusal}
 use Rattle.call_read.specs.declared.refusal.Refusal.TheVariants.{Gds, Lef}
-use Rattle.call_words.specs.Words.{Form}
+use Rattle.call_words.specs.Words.{Form, Agree}
 use Rattle.call_work.specs.Commands.{Agreeing, gathered}
 use Rattle.call_work.specs.Ends.{refusal_text}
+use Rattle.cell_inputs.specs.Inputs.{Inputs}
+use Rattle.cell_inputs.specs.declared.style.Style.{Style}
+use Rattle.cell_make.specs.Making.{IsMade, abstract_of, drawing_in, final_in, library_of}
 use Rattle.cell_run.specs.Ended.{Gathers, IsOfKind}
 use Rattle.agree_run.specs.Agree.{HasDifference, IsAgreeAnswer, IsDisagreement, IsUnextracted, agree_end}
 use Rattle.agree_run.specs.declared.agreement.AgreeAnswer.{AgreeAnswer}
@@ -73,3 +81,21 @@ HasDisagreement files form = IsRefusedBy IsLefFault files form ⊎ OfCompared fi
 -- there are no nets
 abbrev pub HasNoNets : Files → Option Form → Type 0
 HasNoNets files form = IsRefusedBy IsGdsFault files form ⊎ OfCompared files form (HasDifference IsUnextracted)
+
+-- The words ask for a comparison of the files of a made cell, in any style: the technology is that of its inputs and CELL
+-- its name, the GDSII file is its library and the LEF file its abstract. Both are within the limit of such a file.
+pub record ComparesMade (files : Files) (form : Option Form) : Type 0 where
+  pub style : Style
+  pub inputs : Inputs
+  pub row : List Column
+  pub log : Log
+  pub routing : Routing
+  pub lines : List ℕ
+  pub made : IsMade style inputs row log routing lines
+  pub tech : Option (List ℕ)
+  pub gds : List ℕ
+  pub lef : List ℕ
+  pub words : form ≡ Some (Agree tech gds lef inputs.cell.name)
+  pub technology : called files (technology_from tech) ≡ Ok inputs.tech
+  pub library : held files (GdsFile gds) ≡ Ok (library_of inputs (final_in style inputs row routing lines))
+  pub abstract : held files (LefFile lef) ≡ Ok (abstract_of inputs routing (drawing_in inputs row routing lines))

@@ -1,6 +1,7 @@
 -- What a call of `make` leaves behind: the drawing of a cell with its evidence, or the evidence of why there is
 -- none. Files and what was said are told where the desk tells them.
 use Rattle.std.specs.Prelude.{ℕ, ◌≡◌, ◌≢◌, ◌<◌, ◌≤◌, ◌⊎◌, IsTrue, List, [], ◌∷◌, ◌++◌, codes, length, Option, Some}
+use Rattle.agree_laws.specs.Abstracts.{IsAbstractOf}
 use Rattle.cell_io.specs.Desk.{Files, View, Both}
 use Rattle.cell_num.specs.Names.{lowered}
 use Rattle.row_model.specs.declared.column.Column.{Column}
@@ -26,7 +27,7 @@ use Rattle.cell_run.specs.Ended.{Gathers, IsOfKind, WhereEnds}
 use Rattle.call_end.specs.declared.status.Status.{Status}
 use Rattle.call_end.specs.declared.status.Status.TheVariants as status
 use Rattle.call_end.specs.Deliver.{Says}
-use Rattle.cell_inputs.specs.Inputs.{Inputs}
+use Rattle.cell_inputs.specs.Inputs.{Inputs, unit_nm}
 use Rattle.cell_inputs.specs.declared.style.Style.{Style}
 use Rattle.cell_make.specs.Extent.{frame_in}
 use Rattle.cell_make.specs.Making.{AreLeastLines, IsRouted, abstract_of, drawing_in, library_of, ports_in}
@@ -136,6 +137,10 @@ pub record IsMadeCell (style : Style) (inputs : Inputs) (out : List ℕ) (old ne
   pub obstructs : AreAllMetal (ports_in inputs routing drawing) drawing.shapes.rects
   -- The width and the height are the greatest x and the greatest y of metal1.
   pub sized : IsSized drawing
+  -- The text of the macro is read as one that agrees with the shapes of the library, which have a netlist by the plain
+  -- deck: its pins are labels, each cell of a port is in its pin's net, and all other metal is in an obstruction.
+  pub agrees :
+      IsAbstractOf layout.shapes inputs.cell.name (unit_nm inputs.tech) (abstract_of inputs routing drawing)
   -- The library stands in `OUT.gds`, the text of the log in `OUT.clog`, and in `OUT.lef` the macro of the cell with
   -- these ports, obstructions and this size.
   pub files :

@@ -3,7 +3,7 @@ ghost use Rattle.cell_io.specs.Desk.{OnlyReads, Rose};
 ghost use Rattle.call_end.specs.declared.end.End.{End as EndOf};
 ghost use Rattle.call_end.specs.declared.status.Status.TheVariants as status;
 ghost use Rattle.agree_run.specs.Agree.{DoesAgree};
-ghost use Rattle.cell_run.specs.Agree.{HasDisagreement, HasNoNets, IsAgree, IsAgreedCell, IsDisagreed, IsWithoutNets, OfCompared};
+ghost use Rattle.cell_run.specs.Agree.{ComparesMade, HasDisagreement, HasNoNets, IsAgree, IsAgreedCell, IsDisagreed, IsWithoutNets, OfCompared};
 ghost use Rattle.cell_run.specs.Bench.{IsBench, IsBenchTold, WhereBenchEnds};
 ghost use Rattle.cell_run.specs.Calm.{IfCalm, IsDoneOrShort};
 ghost use Rattle.cell_run.specs.Check.{HoldsAcceptedLog, IsCheck};
@@ -178,6 +178,9 @@ pub fn run<D: Desk>(alloc: Global, words: &[String], desk: &mut D) -> Status
         HasDisagreement files (asked words.now) → IsOrShort status.Disagree result) }
     ensures unextracts { IfCalm (D.view desk.old) (D.view desk.new) (λ files.
         HasNoNets files (asked words.now) → IsOrShort status.Layout result) }
+    // The files that a `make` left behind agree.
+    ensures agrees_made { IfCalm (D.view desk.old) (D.view desk.new) (λ files.
+        ComparesMade files (asked words.now) → IsOrShort status.Done result) }
 
     // What `bench` tells: the counts of what making each generated cell comes to. It is done, or writing failed, or
     // memory ran out.

@@ -28,7 +28,8 @@ fn read_cell_over<D: Desk>(
     cell: &str,
     rules: Deck,
 ) -> Result<GdsCell, Refusal>
-    ensures comes { MayCome (D.view desk.old) (D.view desk.new) (extracting_over gds.now cell.now rules tech.now) result }
+    ensures comes { MayCome (D.view desk.old) (D.view desk.new)
+        (extracting_over gds.now cell.now rules tech.now) result }
     ensures quiet { KeepsReads result (D.view desk.old) (D.view desk.new) }
     ensures only { OnlyReads (D.view desk.old) (D.view desk.new) }
 {

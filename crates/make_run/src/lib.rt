@@ -7,6 +7,7 @@ mod making;
 mod planning;
 mod stem;
 
+pub use make_report::{cycle_report, tall_report};
 pub use making::make;
-pub use planning::plan;
+pub use planning::{plan, unfinished};
 pub use stem::Stem;

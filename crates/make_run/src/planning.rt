@@ -21,7 +21,8 @@ fn planned(alloc: Global, cell: &Subckt, row: &Arrangement) -> Result<End, NoMem
     Ok(End::says(alloc, Status::Done, report))
 }
 
-fn unfinished(alloc: Global, cell: &Subckt, log: KeptLog, proved: u32) -> Result<End, NoMemory>
+/// The end of a search that spent its budget: its log behind the counts.
+pub fn unfinished(alloc: Global, cell: &Subckt, log: KeptLog, proved: u32) -> Result<End, NoMemory>
     requires name { IsLogName cell.now.name }
     requires fits { ForSome (λ k. Fits k log) }
     ensures { IfOk result (λ end. end ≡ unfinished_end cell.now proved log) }

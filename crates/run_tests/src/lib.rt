@@ -2,6 +2,8 @@
 #![tactic(auto)]
 
 #[cfg(test)]
+mod agrees;
+#[cfg(test)]
 mod benches;
 #[cfg(test)]
 mod cells;
@@ -25,6 +27,8 @@ mod setup;
 mod sizes;
 #[cfg(test)]
 mod tapped;
+#[cfg(test)]
+mod taps;
 #[cfg(test)]
 mod versions;
 #[cfg(test)]

@@ -41,113 +41,130 @@ M10 gnd q m gnd nmos W=0.9u L=0.6u
 
 const INVERTER_LOG: &str = "cellgen-log 2\ncell inv\ngaps 0\ncolumn 0 0 0 0 0\nend\n";
 
-// The end of the report, the log, and the lengths of the drawing's and of the abstract's file.
+// A call that makes a cell: the report's end, the log, and the lengths of the drawing's and of the abstract's file.
+struct Made {
+    tech: &'static str,
+    spice: &'static str,
+    words: &'static str,
+    status: Status,
+    said: &'static str,
+    log: &'static str,
+    gds: usize,
+    lef: usize,
+}
+
+const CELLS: [Made; 9] = [
+    Made {
+        tech: "",
+        spice: INVERTER,
+        words: "make - c.sp INV out",
+        status: Status::Done,
+        said: "column 0 gate a p y vdd 20 n y gnd 10\ntracks 1\nsize 41 118\nlemmas 0\n",
+        log: INVERTER_LOG,
+        gds: 2122,
+        lef: 997,
+    },
+    Made {
+        tech: "height = 118",
+        spice: INVERTER,
+        words: "make t.toml c.sp inv out",
+        status: Status::Done,
+        said: "tracks 1\nsize 41 118\nlemmas 0\n",
+        log: INVERTER_LOG,
+        gds: 2122,
+        lef: 997,
+    },
+    Made {
+        tech: "height = 130",
+        spice: INVERTER,
+        words: "make t.toml c.sp inv out",
+        status: Status::Done,
+        said: "tracks 1\nsize 41 130\nlemmas 0\n",
+        log: INVERTER_LOG,
+        gds: 2122,
+        lef: 998,
+    },
+    Made {
+        tech: "height = 117",
+        spice: INVERTER,
+        words: "make t.toml c.sp inv out",
+        status: Status::TooTall,
+        said: "status 11 tall\nneeded 118\ngiven 117\n",
+        log: INVERTER_LOG,
+        gds: 0,
+        lef: 0,
+    },
+    Made {
+        tech: "",
+        spice: NAND,
+        words: "make - c.sp nand2 out",
+        status: Status::Done,
+        said: "column 1 gate b p vdd y 20 n n1 gnd 20\ntracks 2\nsize 60 144\nlemmas 0\n",
+        log: "cellgen-log 2\ncell nand2\ngaps 0\ncolumn 0 0 0 0 0\ncolumn 1 1 1 1 1\nend\n",
+        gds: 2968,
+        lef: 1210,
+    },
+    Made {
+        tech: "",
+        spice: GATE,
+        words: "make - c.sp tg out",
+        status: Status::Done,
+        said: "column 1 gate cn p a b 20 n - - 0\ntracks 2\nsize 66 134\nlemmas 0\n",
+        log: "cellgen-log 2\ncell tg\ngaps 0\ncolumn 2 - 0 0 0\ncolumn 3 0 0 - 0\nend\n",
+        gds: 2964,
+        lef: 1331,
+    },
+    Made {
+        tech: "",
+        spice: CROSS,
+        words: "make - c.sp cross out",
+        status: Status::Cycle,
+        said: "status 5 cycle\nx above y at line 0\ny above x at line 4\n",
+        log: "cellgen-log 2\ncell cross\nlemma 1 P 1,1 1,1 - -\ngaps 1\ncolumn 6 0 0 0 0\ncolumn 7 1 0 1 0\nend\n",
+        gds: 0,
+        lef: 0,
+    },
+    Made {
+        tech: "budget = 1",
+        spice: INVERTERS,
+        words: "make t.toml c.sp x3 out",
+        status: Status::Unfinished,
+        said: "status 6 unfinished\nproved 1\nlemmas 1\n",
+        log: "cellgen-log 2\ncell x3\nlemma 1 P 1,1,1 1,1,1 - -\nopen\nend\n",
+        gds: 0,
+        lef: 0,
+    },
+    Made {
+        tech: "",
+        spice: LATCH,
+        words: "make - c.sp latch out",
+        status: Status::Done,
+        said: "column 5 gate m p vdd q 20 n gnd q 10\ntracks 3\nsize 154 150\nlemmas 8\n",
+        log: "cellgen-log 2\ncell latch\nlemma 1 B 0,1,1,1,1 0,1,1,1,1 5 5\nlemma 1 B 0,1,1,1,1 0,1,1,1,1 5 3\nlemma 1 B 0,1,1,1,1 1,0,1,1,1 5 8\nlemma 1 B 0,1,1,1,1 1,0,1,1,1 5 7\nlemma 1 B 0,1,1,1,1 0,1,1,1,1 4 5\nlemma 1 P 0,0,0,1,1 0,0,0,0,1 7 3\nlemma 1 P 0,0,0,1,1 0,0,0,0,1 4 3\nlemma 1 N 0,0,0,0,1 0,0,0,0,1 4 7\ngaps 0\ncolumn 0 0 1 0 1\ncolumn 1 1 0 2 0\ncolumn 0 - 0 1 1\ncolumn 5 3 0 - 0\ncolumn 2 2 1 3 1\ncolumn 7 4 1 4 1\nend\n",
+        gds: 6986,
+        lef: 1858,
+    },
+];
+
 #[test]
 fn makes_a_cell(rt: HostRuntime) -> Result<(), Fail> {
-    for (tech, spice, words, status, said, log, bytes, lef) in [
-        (
-            "",
-            INVERTER,
-            "make - c.sp INV out",
-            Status::Done,
-            "column 0 gate a p y vdd 20 n y gnd 10\ntracks 1\nsize 41 118\nlemmas 0\n",
-            INVERTER_LOG,
-            2122,
-            997,
-        ),
-        (
-            "height = 118",
-            INVERTER,
-            "make t.toml c.sp inv out",
-            Status::Done,
-            "tracks 1\nsize 41 118\nlemmas 0\n",
-            INVERTER_LOG,
-            2122,
-            997,
-        ),
-        (
-            "height = 130",
-            INVERTER,
-            "make t.toml c.sp inv out",
-            Status::Done,
-            "tracks 1\nsize 41 130\nlemmas 0\n",
-            INVERTER_LOG,
-            2122,
-            998,
-        ),
-        (
-            "height = 117",
-            INVERTER,
-            "make t.toml c.sp inv out",
-            Status::TooTall,
-            "status 11 tall\nneeded 118\ngiven 117\n",
-            INVERTER_LOG,
-            0,
-            0,
-        ),
-        (
-            "",
-            NAND,
-            "make - c.sp nand2 out",
-            Status::Done,
-            "column 1 gate b p vdd y 20 n n1 gnd 20\ntracks 2\nsize 60 144\nlemmas 0\n",
-            "cellgen-log 2\ncell nand2\ngaps 0\ncolumn 0 0 0 0 0\ncolumn 1 1 1 1 1\nend\n",
-            2968,
-            1210,
-        ),
-        (
-            "",
-            GATE,
-            "make - c.sp tg out",
-            Status::Done,
-            "column 1 gate cn p a b 20 n - - 0\ntracks 2\nsize 66 134\nlemmas 0\n",
-            "cellgen-log 2\ncell tg\ngaps 0\ncolumn 2 - 0 0 0\ncolumn 3 0 0 - 0\nend\n",
-            2964,
-            1331,
-        ),
-        (
-            "",
-            CROSS,
-            "make - c.sp cross out",
-            Status::Cycle,
-            "status 5 cycle\nx above y at line 0\ny above x at line 4\n",
-            "cellgen-log 2\ncell cross\nlemma 1 P 1,1 1,1 - -\ngaps 1\ncolumn 6 0 0 0 0\ncolumn 7 1 0 1 0\nend\n",
-            0,
-            0,
-        ),
-        (
-            "budget = 1",
-            INVERTERS,
-            "make t.toml c.sp x3 out",
-            Status::Unfinished,
-            "status 6 unfinished\nproved 1\nlemmas 1\n",
-            "cellgen-log 2\ncell x3\nlemma 1 P 1,1,1 1,1,1 - -\nopen\nend\n",
-            0,
-            0,
-        ),
-        (
-            "",
-            LATCH,
-            "make - c.sp latch out",
-            Status::Done,
-            "column 5 gate m p vdd q 20 n gnd q 10\ntracks 3\nsize 154 150\nlemmas 8\n",
-            "cellgen-log 2\ncell latch\nlemma 1 B 0,1,1,1,1 0,1,1,1,1 5 5\nlemma 1 B 0,1,1,1,1 0,1,1,1,1 5 3\nlemma 1 B 0,1,1,1,1 1,0,1,1,1 5 8\nlemma 1 B 0,1,1,1,1 1,0,1,1,1 5 7\nlemma 1 B 0,1,1,1,1 0,1,1,1,1 4 5\nlemma 1 P 0,0,0,1,1 0,0,0,0,1 7 3\nlemma 1 P 0,0,0,1,1 0,0,0,0,1 4 3\nlemma 1 N 0,0,0,0,1 0,0,0,0,1 4 7\ngaps 0\ncolumn 0 0 1 0 1\ncolumn 1 1 0 2 0\ncolumn 0 - 0 1 1\ncolumn 5 3 0 - 0\ncolumn 2 2 1 3 1\ncolumn 7 4 1 4 1\nend\n",
-            6986,
-            1858,
-        ),
-    ] {
-        let (got, desk) = run_over(rt.alloc(), words, [tech, spice, ""], &[])?;
+    for cell in &CELLS {
+        let said = cell.said;
+        let (got, desk) = run_over(rt.alloc(), cell.words, [cell.tech, cell.spice, ""], &[])?;
         assert!(rt; desk.all_said().ends_with(said.as_bytes()), "{said}");
-        assert_eq!(rt; got, status, "{said}");
-        assert!(rt; desk.file("out.clog") == Some(log.as_bytes()), "{said}");
+        assert_eq!(rt; got, cell.status, "{said}");
+        assert!(rt;
+            desk.file("out.clog") == Some(cell.log.as_bytes()),
+            "{said}"
+        );
         assert_eq!(rt;
             desk.file("out.gds").map_or(0, |file| file.len()),
-            bytes,
+            cell.gds,
             "{said}"
         );
         assert_eq!(rt;
             desk.file("out.lef").map_or(0, |file| file.len()),
-            lef,
+            cell.lef,
             "{said}"
         );
     }

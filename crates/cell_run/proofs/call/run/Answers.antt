@@ -3,6 +3,7 @@ use Rattle.call_words.specs.Words.{asked}
 use Rattle.cell_run.proofs.AgreeTold.{agreed_told, agrees_told, disagreed_told, disagrees_told, unextracted_told, unextracts_told}
 use Rattle.cell_run.proofs.BenchTold.{benched_told, benches_told}
 use Rattle.cell_run.proofs.ExtractTold.{breaks_told, broken_told, extracted_told, extracts_told, refused_told, refuses_told}
+use Rattle.cell_run.proofs.MadeCompared.{agrees_made_told}
 use Rattle.cell_run.proofs.MakeTold.{cyclic_told, drawn_told, draws_told, meets_told, needs_told, spent_told, tall_told}
 use Rattle.cell_run.proofs.Unmade.{none_told, unmade_told}
 use Rattle.cell_run.proofs.Telling.{accepts_told, answers, called_for_told, checked_told, completes_told, made_told, memory_told, planned_told, read_told, same_reads_told, status_told, usage_told, write_told}
@@ -125,3 +126,6 @@ returns-clause-disagrees g c = disagrees_told (g.D.Desk.view c.args.desk.now) (g
 
 pub returns-clause-unextracts : goal.returns-clause-unextracts
 returns-clause-unextracts g c = unextracts_told (g.D.Desk.view c.args.desk.now) (g.D.Desk.view c.deliver.new.desk) (asked c.args.words.now) c.deliver.result (g.D.Desk.view c.args.desk.now).given (returns-clause-completes g c)
+
+pub returns-clause-agrees_made : goal.returns-clause-agrees_made
+returns-clause-agrees_made g c = agrees_made_told (g.D.Desk.view c.args.desk.now) (g.D.Desk.view c.deliver.new.desk) (asked c.args.words.now) c.deliver.result (g.D.Desk.view c.args.desk.now).given (returns-clause-completes g c)
