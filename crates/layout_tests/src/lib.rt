@@ -44,4 +44,6 @@ mod references;
 #[cfg(test)]
 mod rules;
 #[cfg(test)]
+mod structures;
+#[cfg(test)]
 mod taps;

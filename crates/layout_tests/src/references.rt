@@ -4,7 +4,7 @@ ghost use Rattle.std.specs.Prelude.{◌≤◌};
 use crate::drawings::{Sides, shapes_of};
 use crate::elements::{coordinates, put_record};
 use crate::libraries::{HEAD, read};
-use box_geom::Layer;
+use box_geom::{Layer, Shapes};
 use gds_read::GdsFault;
 use std::alloc::Global;
 use std::test::Fail;
@@ -129,8 +129,10 @@ fn arrays(rt: HostRuntime) -> Result<(), Fail> {
     let array = reference(alloc, AREF, b"box\0", &odd, &[counts])?;
     assert!(rt; refuses(alloc, &array, GdsFault::Reference { at: AT })?);
     let below_one = (0x13, 2, &[0xff, 0xff, 0, 1][..]);
-    let array = reference(alloc, AREF, b"box\0", &[[0, 0]; 3], &[below_one])?;
-    assert!(rt; refuses(alloc, &array, GdsFault::Reference { at: AT })?);
+    for at in [[0, 0], [300, 600]] {
+        let array = reference(alloc, AREF, b"box\0", &[at; 3], &[below_one])?;
+        assert!(rt; refuses(alloc, &array, GdsFault::Reference { at: AT })?);
+    }
     Ok(())
 }
 
@@ -147,5 +149,60 @@ fn refused_references(rt: HostRuntime) -> Result<(), Fail> {
     assert!(rt; refuses(alloc, &itself, GdsFault::Deep { at: AT })?);
     let off = reference(alloc, SREF, b"box\0", &[[75, 0]], &[])?;
     assert!(rt; refuses(alloc, &off, GdsFault::Grid { at: 112 })?);
+    Ok(())
+}
+
+// The library of `top` with these elements, and of `a` to `q`, where each but the last refers to the next.
+fn chain(alloc: Global, elements: &[u8]) -> Result<Vec<u8>, Fail> {
+    let mut out = Vec::new(alloc);
+    out.extend_from_slice(&HEAD[..66])?;
+    begin(&mut out, b"top\0")?;
+    out.extend_from_slice(elements)?;
+    put_record(&mut out, 7, 0, &[])?;
+    for name in b'a'..b'q' {
+        begin(&mut out, &[name, 0])?;
+        let next = reference(alloc, SREF, &[name + 1, 0], &[[0, 0]], &[])?;
+        out.extend_from_slice(&next)?;
+        put_record(&mut out, 7, 0, &[])?;
+    }
+    begin(&mut out, b"q\0")?;
+    put_record(&mut out, 7, 0, &[])?;
+    put_record(&mut out, 4, 0, &[])?;
+    Ok(out)
+}
+
+fn reads_chain(alloc: Global, elements: &[u8]) -> Result<Result<Shapes, GdsFault>, Fail> {
+    read(alloc, &chain(alloc, elements)?, b"top", 300)
+}
+
+// From `b` on the references stand 16 deep, from `a` on 17.
+#[test]
+fn deep_references(rt: HostRuntime) -> Result<(), Fail> {
+    let alloc = rt.alloc();
+    let sixteen = reference(alloc, SREF, b"b\0", &[[0, 0]], &[])?;
+    assert!(rt; reads_chain(alloc, &sixteen)? == Ok(shapes_of(alloc, &[])?));
+    let seventeen = reference(alloc, SREF, b"a\0", &[[0, 0]], &[])?;
+    assert!(rt; reads_chain(alloc, &seventeen)? == Err(GdsFault::Deep { at: 102 }));
+    Ok(())
+}
+
+// 999,000 copies of an empty structure and 8 rows more leave room for 16 references or fewer: the
+// seventeenth is too deep before it is one too many.
+#[test]
+fn deep_before_wide(rt: HostRuntime) -> Result<(), Fail> {
+    let alloc = rt.alloc();
+    for (rows, fault) in [
+        (123, GdsFault::Deep { at: 202 }),
+        (124, GdsFault::Wide { at: 202 }),
+    ] {
+        let mut elements = Vec::new(alloc);
+        for counts in [[3, 0xe8, 3, 0xe7], [0, 8, 0, rows]] {
+            let record = (0x13, 2, &counts[..]);
+            let copies = reference(alloc, AREF, b"q\0", &[[0, 0]; 3], &[record])?;
+            elements.extend_from_slice(&copies)?;
+        }
+        elements.extend_from_slice(&reference(alloc, SREF, b"a\0", &[[0, 0]], &[])?)?;
+        assert!(rt; reads_chain(alloc, &elements)? == Err(fault));
+    }
     Ok(())
 }

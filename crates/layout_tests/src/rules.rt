@@ -27,8 +27,13 @@ fn broken(rule: RuleNo, x: i32, y: i32) -> Violation {
     Violation { rule, x, y }
 }
 
-fn breaks(alloc: Global, shapes: &[(Layer, Sides)], want: &[Violation]) -> Result<bool, Fail> {
-    let found = violations(alloc, &shapes_of(alloc, shapes)?, &Rules::profile())?;
+fn breaks(
+    alloc: Global,
+    rules: &Rules,
+    shapes: &[(Layer, Sides)],
+    want: &[Violation],
+) -> Result<bool, Fail> {
+    let found = violations(alloc, &shapes_of(alloc, shapes)?, rules)?;
     Ok(found.as_slice() == want)
 }
 
@@ -36,13 +41,40 @@ fn breaks(alloc: Global, shapes: &[(Layer, Sides)], want: &[Violation]) -> Resul
 #[test]
 fn rules_broken(rt: HostRuntime) -> Result<(), Fail> {
     let alloc = rt.alloc();
-    assert!(rt; breaks(alloc, &[BAR, NEAR], &[broken(RuleNo::N7_2, 8, 0)])?);
-    assert!(rt; breaks(alloc, &[BAR, FAR], &[])?);
+    let rules = Rules::profile();
+    assert!(rt; breaks(alloc, &rules, &[BAR, NEAR], &[broken(RuleNo::N7_2, 8, 0)])?);
+    assert!(rt; breaks(alloc, &rules, &[BAR, FAR], &[])?);
     let wrong = [
         broken(RuleNo::N8_1, 0, 0),
         broken(RuleNo::N8_3, 0, 0),
         broken(RuleNo::N9_3, 0, 0),
     ];
-    assert!(rt; breaks(alloc, &[BAR, VIA], &wrong)?);
+    assert!(rt; breaks(alloc, &rules, &[BAR, VIA], &wrong)?);
+    Ok(())
+}
+
+// A tap of the substrate, and a well whose left side stands at a column.
+fn beside_well(column: i32) -> [(Layer, Sides); 3] {
+    [
+        (Layer::Active, [0, 0, 6, 6]),
+        (Layer::PSelect, [-4, -4, 10, 10]),
+        (Layer::Well, [column, -20, 60, 30]),
+    ]
+}
+
+// The tap 5 units from the well, and 6.
+#[test]
+fn tap_near_a_well(rt: HostRuntime) -> Result<(), Fail> {
+    let alloc = rt.alloc();
+    let rules = Rules::with_taps();
+    assert!(rt;
+        breaks(
+            alloc,
+            &rules,
+            &beside_well(11),
+            &[broken(RuleNo::N2_4, 5, 0)]
+        )?
+    );
+    assert!(rt; breaks(alloc, &rules, &beside_well(12), &[])?);
     Ok(())
 }
