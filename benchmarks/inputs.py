@@ -239,6 +239,27 @@ def large_file(folder, program):
     return extracted(drawn([(0, 0)]), other)(folder, program)
 
 
+def comb(teeth):
+    """Bars of metal1 beside one another, each longer than the one before."""
+    return b"".join(rectangle(METAL1, 16 * i, 0, 16 * i + 8, 8 * i + 8) for i in range(teeth))
+
+
+def compared(front, count):
+    """An inverter and its abstract, with so many random rectangles before the first one behind the word."""
+    def make(folder, program):
+        subprocess.run([program] + made(inverters("inv", 1), "inv", 200000)(folder, program)[0], cwd=folder, capture_output=True, check=True)
+        draw = random.Random(1)
+        lines = []
+        for _ in range(count):
+            x, y, width, height = (draw.randrange(5000) * 3 for _ in range(4))
+            lines.append(f"RECT {x / 20} {y / 20} {(x + width + 3) / 20} {(y + height + 3) / 20} ;\n")
+        lef = (folder / "inv.lef").read_text()
+        at = lef.index("RECT ", lef.index(front))
+        (folder / "large.lef").write_text("".join([lef[:at], *lines, lef[at:]]))
+        return [["agree", "-", "inv.gds", "large.lef", "inv"]]
+    return make
+
+
 MEASURES = [
     ("plan: an inverter behind a library of 4 MiB", behind_a_library),
     ("plan: 14 inverters", planned(inverters("row", 14), "row", 200000)),
@@ -262,5 +283,9 @@ MEASURES = [
     ("extract: bars that cross, 1,000 rectangles", extracted(crossing(1000))),
     ("extract: bars that cross, 3,000 rectangles", extracted(crossing(3000))),
     ("extract: bars that cross, 10,000 rectangles", extracted(crossing(10000))),
+    ("extract: a comb of 500 teeth of different lengths", extracted(comb(500))),
+    ("extract: a comb of 1,000 teeth of different lengths", extracted(comb(1000))),
+    ("agree: a million rectangles in the obstructions", compared("OBS", 1000000)),
+    ("agree: a million rectangles in one pin, off its net", compared("PIN gnd", 1000000)),
     ("make: 32 columns", made(wide("wide", 32), "wide", 200000)),
 ]

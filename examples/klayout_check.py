@@ -74,8 +74,10 @@ def drawn(path, name):
         for layer in layers:
             found.connect(layer, labels)
     found.extract_netlist()
+    netlist = found.netlist()
+    netlist.flatten()
     sums = collections.Counter()
-    for circuit in found.netlist().each_circuit():
+    for circuit in netlist.each_circuit():
         for device in circuit.each_device():
             nets = [device.net_for_terminal(t).expanded_name().lower() for t in ("S", "G", "D")]
             sums[device.device_class().name, nets[1], *sorted((nets[0], nets[2]))] += round(device.parameter("W") / UNIT)

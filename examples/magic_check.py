@@ -133,12 +133,14 @@ def check(lines, name, made, has_taps):
     """What is to be said of a made cell: nothing where it is the same."""
     with tempfile.TemporaryDirectory() as folder:
         room = pathlib.Path(folder)
-        for end in ("gds", "lef"):
-            (room / f"{name}.{end}").write_bytes((made / f"{name}.{end}").read_bytes())
+        files = [file for file in (made / f"{name}.gds", made / f"{name}.lef") if file.exists()]
+        for file in files:
+            (room / file.name).write_bytes(file.read_bytes())
         (room / "wanted.spice").write_text("\n".join([*lines, ".ends", ""]))
         (room / "setup.tcl").write_text(SETUP)
         ports = "\n".join(f"findlabel {pin}\nport make" for pin in lines[0].split()[2:])
-        loud = complaint(ABSTRACT.format(name=name), room) or complaint(DRAWING.format(name=name, ports=ports), room)
+        loud = complaint(ABSTRACT.format(name=name), room) if len(files) > 1 else ""
+        loud = loud or complaint(DRAWING.format(name=name, ports=ports), room)
         if loud:
             return loud
         told = difference("drawn.spice", "wanted.spice", name, room)
