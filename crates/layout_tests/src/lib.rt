@@ -44,6 +44,4 @@ mod references;
 #[cfg(test)]
 mod rules;
 #[cfg(test)]
-mod structures;
-#[cfg(test)]
 mod taps;
