@@ -1,11 +1,11 @@
 -- The words of a call of the program.
-use Rattle.std.specs.Prelude.{ℕ, ◌&&◌, nat_le, Bool, List, [], ◌∷◌, ◌++◌, Option, Some, None, length, map, find, option_map, option_and_then, codes, bytes_eq, decimal, String, string_bytes, if◌then◌else◌}
+use Rattle.std.specs.Prelude.{ℕ, ◌&&◌, not, nat_le, Bool, List, [], ◌∷◌, ◌++◌, Option, Some, None, length, find, option_map, option_and_then, codes, bytes_eq, decimal, String, if◌then◌else◌}
 use Rattle.std.specs.List.{range_with_len}
 use Rattle.std.specs.declared.alloc.Global.{Global}
 use Rattle.cell_num.specs.Names.{is_cell}
 use Rattle.call_words.specs.declared.form.Form.{Form as Read}
 use Rattle.call_words.specs.declared.form.Form.TheVariants as read
-use Rattle.call_words.specs.Asked.{CellAsked}
+use Rattle.call_words.specs.Asked.{CellAsked, RowAsked, are_row_cells, is_top, texts}
 use Rattle.cell_inputs.specs.declared.style.Style.{Style}
 use Rattle.cell_inputs.specs.declared.style.Taps.{Taps}
 use Rattle.cell_inputs.specs.declared.style.Taps.TheVariants.{Without, With}
@@ -14,19 +14,17 @@ use Rattle.cell_inputs.specs.declared.style.Wiring.TheVariants.{Straight, Dogleg
 use Rattle.scmos_rules.specs.declared.rules.Deck.{Deck}
 use Rattle.scmos_rules.specs.declared.rules.Deck.TheVariants as deck
 
--- the words as bytes
-abbrev pub texts : List (String Global) → List (List ℕ)
-texts words = map string_bytes words
-
 -- what a call asks for: `plan TECH SPICE CELL`, `make TECH SPICE CELL OUT`, which may end with `--dogleg` and `--taps`,
 -- `check TECH SPICE CELL LOG`, `extract TECH GDS CELL`, whose technology is none for the plain one and which may end with
--- `--taps` for the deck of cells with taps, `bench NUMBER`, or `agree TECH GDS LEF CELL`
+-- `--taps` for the deck of cells with taps, `bench NUMBER`, `row TECH SPICE OUT TOP CELL CELL ..`, or
+-- `agree TECH GDS LEF CELL`
 pub data Form : Type 0 where
   Plan : (cell : CellAsked) → Form
   Make : (cell : CellAsked) (out : List ℕ) (style : Style) → Form
   Check : (cell : CellAsked) (log : List ℕ) → Form
   Extract : (tech : Option (List ℕ)) (gds cell : List ℕ) (rules : Deck) → Form
   Bench : (number : ℕ) → Form
+  Row : (row : RowAsked) (out : List ℕ) → Form
   Agree : (tech : Option (List ℕ)) (gds lef cell : List ℕ) → Form
 
 -- the program's form of a call, by its texts
@@ -36,6 +34,7 @@ shown (read.Make cell out style) = Make cell out.now style
 shown (read.Check cell log) = Check cell log.now
 shown (read.Extract tech gds cell rules) = Extract (option_map (λ name. name.now) tech) gds.now cell.now rules
 shown (read.Bench number) = Bench number
+shown (read.Row row out) = Row row out.now
 shown (read.Agree tech gds lef cell) = Agree (option_map (λ name. name.now) tech) gds.now lef.now cell.now
 
 -- a line for each form, as they are told to who gave other words
@@ -50,6 +49,7 @@ usage_text =
     ++ codes "make TECH SPICE CELL OUT --taps\n"
     ++ codes "make TECH SPICE CELL OUT --dogleg --taps\n"
     ++ codes "extract TECH GDS CELL --taps\n"
+    ++ codes "row TECH SPICE OUT TOP CELL CELL ..\n"
     ++ codes "agree TECH GDS LEF CELL\n"
 
 -- the name of a file: not empty
@@ -121,6 +121,18 @@ abbrev pub bench_of : List (List ℕ) → Option Form
 bench_of (word ∷ []) = option_map (λ number. Bench number) (bench_number word)
 bench_of _ = None
 
+-- the row of the words TECH SPICE TOP CELL CELL ..
+abbrev pub asked_row : List ℕ → List ℕ → List ℕ → List (List ℕ) → Option RowAsked
+asked_row tech spice top cells =
+    if is_file tech && is_file spice && is_top top cells && are_row_cells cells
+    then Some (record { tech = tech_of tech; spice = spice; top = top; cells = cells })
+    else None
+
+abbrev pub row_of : List (List ℕ) → Option Form
+row_of (tech ∷ spice ∷ out ∷ top ∷ cells) =
+    if is_file out then option_map (λ row. Row row out) (asked_row tech spice top cells) else None
+row_of _ = None
+
 abbrev pub agree_of : List (List ℕ) → Option Form
 agree_of (tech ∷ gds ∷ lef ∷ cell ∷ []) =
     if is_file tech && is_file gds && is_file lef && is_cell cell
@@ -137,6 +149,7 @@ form_of (command ∷ rest) =
     else if bytes_eq command (codes "check") then check_of rest
     else if bytes_eq command (codes "extract") then extract_of rest
     else if bytes_eq command (codes "bench") then bench_of rest
+    else if bytes_eq command (codes "row") then row_of rest
     else if bytes_eq command (codes "agree") then agree_of rest
     else None
 

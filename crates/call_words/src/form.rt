@@ -1,10 +1,13 @@
-ghost use Rattle.std.specs.Prelude.{◌≡◌, ◌++◌, OnOk, option_map};
-ghost use Rattle.call_words.specs.Words.{shown, texts, usage_text, plan_of, making_of, taps_of, style_of, make_of, check_of, extracting_of, extract_of, bench_of, agree_of, asked};
+ghost use Rattle.std.specs.Prelude.{◌≡◌, option_map};
+ghost use Rattle.call_words.specs.Asked.{texts};
+ghost use Rattle.call_words.specs.Words.{shown, plan_of, making_of, taps_of, style_of, make_of, check_of};
+ghost use Rattle.call_words.specs.Words.{extracting_of, extract_of, bench_of, row_of, agree_of, asked};
 
 use crate::cell::{CellAsked, cell_of, tech_of};
 use crate::count::CellCount;
+use crate::row::{self, RowAsked};
 use cell_inputs::{Style, Taps, Wiring};
-use cell_num::{Bytes, NoMemory, is_cell};
+use cell_num::is_cell;
 use scmos_rules::Deck;
 
 /// What a call of the program asks for.
@@ -35,6 +38,11 @@ pub enum Form<'a> {
     /// What making so many generated cells comes to.
     Bench {
         number: CellCount,
+    },
+    /// The drawings of cells side by side, in a file whose name begins so.
+    Row {
+        row: RowAsked<'a>,
+        out: &'a str,
     },
     /// Whether the macro of an abstract agrees with a cell of a GDSII file.
     Agree {
@@ -180,6 +188,25 @@ fn bench_of(words: &[String]) -> Option<Form<'_>>
     }
 }
 
+// The form of the words behind `row`.
+fn row_of(words: &[String]) -> Option<Form<'_>>
+    ensures { option_map shown result ≡ row_of (texts words.now) }
+{
+    let [tech, spice, out, top, cells @ ..] = words else {
+        return None;
+    };
+    if out.is_empty() {
+        return None;
+    }
+    match row::row_of(tech.as_str(), spice.as_str(), top.as_str(), cells) {
+        Some(row) => Some(Form::Row {
+            row,
+            out: out.as_str(),
+        }),
+        None => None,
+    }
+}
+
 // The form of the words behind `agree`.
 fn agree_of(words: &[String]) -> Option<Form<'_>>
     ensures { option_map shown result ≡ agree_of (texts words.now) }
@@ -210,26 +237,8 @@ pub fn form_of(words: &[String]) -> Option<Form<'_>>
         "check" => check_of(rest),
         "extract" => extract_of(rest),
         "bench" => bench_of(rest),
+        "row" => row_of(rest),
         "agree" => agree_of(rest),
         _ => None,
     }
-}
-
-/// Adds a line for each form.
-pub fn put_usage(out: &mut Bytes) -> Result<(), NoMemory>
-    ensures { OnOk result (out.new ≡ out.old ++ usage_text) }
-{
-    out.extend(
-        b"plan TECH SPICE CELL
-make TECH SPICE CELL OUT
-check TECH SPICE CELL LOG
-extract TECH GDS CELL
-bench NUMBER
-make TECH SPICE CELL OUT --dogleg
-make TECH SPICE CELL OUT --taps
-make TECH SPICE CELL OUT --dogleg --taps
-extract TECH GDS CELL --taps
-agree TECH GDS LEF CELL
-",
-    )
 }

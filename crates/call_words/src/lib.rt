@@ -4,7 +4,11 @@
 mod cell;
 mod count;
 mod form;
+mod row;
+mod usage;
 
 pub use cell::CellAsked;
 pub use count::CellCount;
-pub use form::{Form, form_of, put_usage};
+pub use form::{Form, form_of};
+pub use row::{MOST_ROW_CELLS, RowAsked};
+pub use usage::put_usage;

@@ -10,11 +10,12 @@ use Rattle.call_end.specs.declared.status.Status.TheVariants as status
 use Rattle.call_read.proofs.Reading.{Keeps, keeps_on}
 use Rattle.call_read.specs.InputFiles.{input_files, inputs_from, tech_files}
 use Rattle.call_read.specs.Sources.{TechFile, LogFile, GdsFile, LefFile}
-use Rattle.call_words.specs.Words.{Form, Plan, Make, Check, Extract, Bench, Agree}
-use Rattle.call_work.proofs.Gathered.{IsCompared, IsDrawn, IsGathered, IsInputs, compared_keeps, drawn_keeps, inputs_keep}
+use Rattle.call_words.specs.Asked.{CellAsked, RowAsked}
+use Rattle.call_words.specs.Words.{Form, Plan, Make, Check, Extract, Bench, Row, Agree}
+use Rattle.call_work.proofs.Gathered.{IsGathered, IsInputs, IsOwn, compared_keeps, drawn_keeps, inputs_keep, rowing_keeps}
 use Rattle.call_work.proofs.Statuses.{are_apart}
 use Rattle.call_work.specs.Bench.{BenchesTo}
-use Rattle.call_work.specs.Commands.{Kind, Planning, Making, Checking, Extracting, Benching, Agreeing, Material, MaterialOf, WorksTo, gathered, read_by, settled_by}
+use Rattle.call_work.specs.Commands.{Kind, Planning, Making, Checking, Extracting, Benching, Rowing, Agreeing, Material, MaterialOf, WorksTo, gathered, kind_of, read_by, settled_by}
 use Rattle.call_work.specs.Ends.{desk_statuses, is_among}
 use Rattle.call_work.specs.Kept.{WorksFor}
 use Rattle.call_work.specs.declared.commands.Material.{Material as Own}
@@ -30,6 +31,10 @@ use Rattle.lef_agree.specs.declared.differ.Differ.TheVariants as differ
 use Rattle.layout_run.specs.Extract.{ExtractsTo, extracting}
 use Rattle.layout_run.specs.declared.extraction.ExtractAnswer.TheVariants as answer
 use Rattle.layout_run.specs.declared.gds_cell.GdsCell.{GdsCell}
+use Rattle.row_make.specs.RowInputs.{RowInputs}
+use Rattle.row_make.specs.Rowed as rows
+use Rattle.row_make.specs.declared.outcome.InputFault.TheVariants as input
+use Rattle.row_run.specs.Row.{RowsTo, rowing}
 use Rattle.make_run.specs.Make.{MakesTo}
 use Rattle.make_run.specs.Plan.{PlansTo, Planned, Unfinished}
 
@@ -75,16 +80,41 @@ gathered_keeps (Some (Check asked log)) =
     (λ inputs is. (log_there asked.tech asked.spice log, λ bytes. refl))
     (λ e is. rw is refl)
 gathered_keeps (Some (Extract tech gds name rules)) =
-    keeps_on (λ source. Contains (read_by (Some (Extract tech gds name rules))) source) IsDrawn (IsGathered (Some (Extract tech gds name rules))) (extracting tech gds name rules) _
+    keeps_on (λ source. Contains (read_by (Some (Extract tech gds name rules))) source) (IsOwn Extracting) (IsGathered (Some (Extract tech gds name rules))) (extracting tech gds name rules) _
     (drawn_keeps (λ source. Contains (read_by (Some (Extract tech gds name rules))) source) tech gds name rules (gds_tech_there tech gds) (gds_there tech gds))
     (λ drawn is. refl)
     (λ e is. is)
 gathered_keeps (Some (Bench number)) = refl
+gathered_keeps (Some (Row row out)) =
+    keeps_on (λ source. Contains (read_by (Some (Row row out))) source) IsInputs (IsGathered (Some (Row row out))) (rowing row) _
+    (rowing_keeps (λ source. Contains (read_by (Some (Row row out))) source) row (λ source there. there))
+    (λ inputs is. refl)
+    (λ e is. rw is refl)
 gathered_keeps (Some (Agree tech gds lef name)) =
-    keeps_on (λ source. Contains (read_by (Some (Agree tech gds lef name))) source) IsCompared (IsGathered (Some (Agree tech gds lef name))) (comparing tech gds lef name) _
+    keeps_on (λ source. Contains (read_by (Some (Agree tech gds lef name))) source) (IsOwn Agreeing) (IsGathered (Some (Agree tech gds lef name))) (comparing tech gds lef name) _
     (compared_keeps (λ source. Contains (read_by (Some (Agree tech gds lef name))) source) tech gds lef name (macro_tech_there tech gds lef) (macro_gds_there tech gds lef) (macro_lef_there tech gds lef))
     (λ both is. refl)
     (λ e is. is)
+
+-- a form of the kind of drawings has the words of one
+pub is_make : (form : Form) → kind_of form ≡ Making → (asked : CellAsked) × (out : List ℕ) × (style : Style) × (form ≡ Make asked out style)
+is_make (Plan asked) is = absurd cc
+is_make (Make asked out style) is = (asked, out, style, refl)
+is_make (Check asked log) is = absurd cc
+is_make (Extract tech gds name rules) is = absurd cc
+is_make (Bench number) is = absurd cc
+is_make (Row row out) is = absurd cc
+is_make (Agree tech gds lef name) is = absurd cc
+
+-- and one of the kind of rows has those of a row
+pub is_row : (form : Form) → kind_of form ≡ Rowing → (row : RowAsked) × (out : List ℕ) × (form ≡ Row row out)
+is_row (Plan asked) is = absurd cc
+is_row (Make asked out style) is = absurd cc
+is_row (Check asked log) is = absurd cc
+is_row (Extract tech gds name rules) is = absurd cc
+is_row (Bench number) is = absurd cc
+is_row (Row row out) is = (row, out, refl)
+is_row (Agree tech gds lef name) is = absurd cc
 
 -- ---- the work on what is kept
 
@@ -111,6 +141,9 @@ extract_works kept cell r is works = rw is (kept_works Extracting cell r works)
 pub bench_works : (kept : Own) (number : ℕ) (r : Result End Short) → kept ≡ held.Benching number → IfOk r (BenchesTo number) → IfOk r (WorksFor kept)
 bench_works kept number r is works = rw is (kept_works Benching number r works)
 
+pub row_works : (kept : Own) (inputs : RowInputs) (out : List ℕ) (r : Result End Short) → kept ≡ held.Rowing inputs out → IfOk r (RowsTo inputs out) → IfOk r (WorksFor kept)
+row_works kept inputs out r is works = rw is (kept_works Rowing (inputs, out) r works)
+
 pub agree_works : (kept : Own) (both : Compared) (r : Result End Short) → kept ≡ held.Agreeing both → IfOk r (AgreesTo both) → IfOk r (WorksFor kept)
 agree_works kept both r is works = rw is (kept_works Agreeing both r works)
 
@@ -132,6 +165,14 @@ works_settled Extracting m end (answer.Broken found, h, is) = rw is refl
 works_settled Extracting m end (answer.Unchecked f, h, is) = rw is refl
 works_settled Extracting m end (answer.Refused f, h, is) = rw is refl
 works_settled Benching m end (tally, h, is) = rw is refl
+works_settled Rowing m end (rows.Rowed made, h, is) = rw is.status refl
+works_settled Rowing m end (rows.Refused before name (input.Spice f), h, is) = rw is refl
+works_settled Rowing m end (rows.Refused before name (input.Fold f), h, is) = rw is refl
+works_settled Rowing m end (rows.Stopped before inputs (made.Made row log routing xs), h, is) = absurd is
+works_settled Rowing m end (rows.Stopped before inputs (made.Cyclic row log ring), h, is) = rw is refl
+works_settled Rowing m end (rows.Stopped before inputs (made.Tall row log routing), h, is) = rw is refl
+works_settled Rowing m end (rows.Stopped before inputs (made.Unfinished proved log), h, is) = rw is refl
+works_settled Rowing m end (rows.Unabutted made fault, h, is) = rw is refl
 works_settled Agreeing m end (agreement.Agreed, h, is) = rw is refl
 works_settled Agreeing m end (agreement.Differs (differ.Extract f), h, is) = rw is refl
 works_settled Agreeing m end (agreement.Differs (differ.NoLabel name), h, is) = rw is refl
@@ -145,13 +186,15 @@ make_status style inputs out end (made.Cyclic row log ring, h, is) = rw is.statu
 make_status style inputs out end (made.Tall row log routing, h, is) = rw is.status refl
 make_status style inputs out end (made.Unfinished proved log, h, is) = rw is.status refl
 
--- `make` alone makes files, and none where it ends with a status that is not its own
+-- `make` makes files, but none where it ends with a status that is not its own, and `row` makes one where it is done
 abbrev pub HasNoFiles : Kind → End → Type 0
 HasNoFiles kind end =
-    (end.files ≡ []) ⊎ ((kind ≡ Making) × (is_among (status.Done ∷ status.Cycle ∷ status.Unfinished ∷ status.TooTall ∷ []) end.status ≡ true))
+    (end.files ≡ [])
+    ⊎ ((kind ≡ Making) × (is_among (status.Done ∷ status.Cycle ∷ status.Unfinished ∷ status.TooTall ∷ []) end.status ≡ true))
+    ⊎ ((kind ≡ Rowing) × (end.status ≡ status.Done))
 
 pub files_by : (kind : Kind) (m : MaterialOf kind) (end : End) → WorksTo kind m end → HasNoFiles kind end
-files_by Making m end works = inr (refl, make_status m.2 m.0 m.1 end works)
+files_by Making m end works = inr (inl (refl, make_status m.2 m.0 m.1 end works))
 files_by Planning m end (Planned row log, h, is) = inl (ap (λ (e : End). e.files) is)
 files_by Planning m end (Unfinished proved log, h, is) = inl (ap (λ (e : End). e.files) is)
 files_by Checking m end (Accepted gaps lemmas, h, is) = inl (ap (λ (e : End). e.files) is)
@@ -162,6 +205,14 @@ files_by Extracting m end (answer.Broken found, h, is) = inl (ap (λ (e : End). 
 files_by Extracting m end (answer.Unchecked f, h, is) = inl (ap (λ (e : End). e.files) is)
 files_by Extracting m end (answer.Refused f, h, is) = inl (ap (λ (e : End). e.files) is)
 files_by Benching m end (tally, h, is) = inl (ap (λ (e : End). e.files) is)
+files_by Rowing m end (rows.Rowed made, h, is) = inr (inr (refl, is.status))
+files_by Rowing m end (rows.Refused before name (input.Spice f), h, is) = inl (ap (λ (e : End). e.files) is)
+files_by Rowing m end (rows.Refused before name (input.Fold f), h, is) = inl (ap (λ (e : End). e.files) is)
+files_by Rowing m end (rows.Stopped before inputs (made.Made row log routing xs), h, is) = absurd is
+files_by Rowing m end (rows.Stopped before inputs (made.Cyclic row log ring), h, is) = inl (ap (λ (e : End). e.files) is)
+files_by Rowing m end (rows.Stopped before inputs (made.Tall row log routing), h, is) = inl (ap (λ (e : End). e.files) is)
+files_by Rowing m end (rows.Stopped before inputs (made.Unfinished proved log), h, is) = inl (ap (λ (e : End). e.files) is)
+files_by Rowing m end (rows.Unabutted made fault, h, is) = inl (ap (λ (e : End). e.files) is)
 files_by Agreeing m end (agreement.Agreed, h, is) = inl (ap (λ (e : End). e.files) is)
 files_by Agreeing m end (agreement.Differs d, h, is) = inl (ap (λ (e : End). e.files) is)
 
@@ -173,6 +224,7 @@ desk_apart Making = refl
 desk_apart Checking = refl
 desk_apart Extracting = refl
 desk_apart Benching = refl
+desk_apart Rowing = refl
 desk_apart Agreeing = refl
 
 pub usage_apart : (kind : Kind) → are_apart (settled_by kind) (status.Usage ∷ []) ≡ true
@@ -181,4 +233,5 @@ usage_apart Making = refl
 usage_apart Checking = refl
 usage_apart Extracting = refl
 usage_apart Benching = refl
+usage_apart Rowing = refl
 usage_apart Agreeing = refl

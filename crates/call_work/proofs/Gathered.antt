@@ -9,28 +9,45 @@ use Rattle.spice_net.specs.declared.subckt.Subckt.{Subckt}
 use Rattle.spice_net.specs.Subcircuit.{subcircuit}
 use Rattle.finger_fold.specs.Folding.{folded}
 use Rattle.gds_read.specs.Decoding.{decoded}
-use Rattle.gds_read.specs.declared.fault.GdsFault.{GdsFault}
 use Rattle.lef_read.specs.Macros.{macro_in}
 use Rattle.lef_read.specs.declared.cell.Macro.{Macro}
-use Rattle.lef_read.specs.declared.fault.LefFault.{LefFault}
 use Rattle.agree_run.specs.Agree.{compared, comparing, comparing_over, comparing_with}
 use Rattle.cell_inputs.specs.Inputs.{inputs_of, unit_nm}
 use Rattle.call_end.specs.declared.status.Status.TheVariants as status
-use Rattle.call_words.specs.Asked.{CellAsked}
+use Rattle.call_words.specs.Asked.{CellAsked, RowAsked}
 use Rattle.call_words.specs.Words.{Form}
 use Rattle.call_read.proofs.Reading.{Keeps, keeps_on}
 use Rattle.call_read.proofs.Results.{err_behind}
 use Rattle.call_read.specs.InputFiles.{input_files, inputs_from, technology_from}
 use Rattle.call_read.specs.Inputs.{inputs_in}
-use Rattle.call_read.specs.Reading.{Ends}
+use Rattle.call_read.specs.Reading.{Reading, Ends, bytes_of, ◌>>=◌}
 use Rattle.call_read.specs.Refusals.{as_refusal}
 use Rattle.call_read.specs.Sources.{Source, TechFile, SpiceFile, GdsFile, LefFile}
 use Rattle.call_read.specs.declared.refusal.Refusal.{Refusal}
 use Rattle.call_read.specs.declared.refusal.Refusal.TheVariants.{Words, Tech, Spice, Fold, Gds, Lef}
-use Rattle.call_work.specs.Commands.{Agreeing, Extracting, Material, kind_of, settled_by}
+use Rattle.call_work.specs.Commands.{Kind, Agreeing, Extracting, Material, kind_of, settled_by}
 use Rattle.call_work.specs.Ends.{is_among, refusal_status}
+use Rattle.row_run.specs.Row.{rowing, rowing_over}
 use Rattle.scmos_rules.specs.declared.rules.Deck.{Deck}
 use Rattle.layout_run.specs.Extract.{extracting, extracting_over, gds_cell}
+
+-- ---- faults of parts
+
+fault_is : {A F : Type 0} (Is : Refusal → Type 0) (refusal : F → Refusal) → ((f : F) → Is (refusal f)) → (r : Result A F) → IfErr (as_refusal refusal r) Is
+fault_is Is refusal each (Ok x) = tt
+fault_is Is refusal each (Err f) = each f
+
+-- a refusal that a kind of commands settles for
+abbrev pub IsOwnFault : Kind → Refusal → Type 0
+IsOwnFault kind e = is_among (settled_by kind) (refusal_status e) ≡ true
+
+abbrev pub IsOwn : {A : Type 0} → Kind → Result A Refusal → Type 0
+IsOwn kind ended = IfErr ended (IsOwnFault kind)
+
+-- a file whose bytes are decoded, for a kind that settles for their faults
+decoded_keeps : {A B F : Type 0} (May : Source → Type 0) (kind : Kind) (source : Source) (refusal : F → Refusal) (decode : List ℕ → Result A F) (next : A → Reading B) → May source → ((f : F) → IsOwnFault kind (refusal f)) → ((x : A) → Keeps May (IsOwn kind) (next x)) → Keeps May (IsOwn kind) (bytes_of source >>= (λ bytes. Ends (as_refusal refusal (decode bytes))) >>= next)
+decoded_keeps May kind source refusal decode next there own each =
+    (there, λ bytes. keeps_on May (IsOwn kind) (IsOwn kind) (Ends (as_refusal refusal (decode bytes))) next (fault_is (IsOwnFault kind) refusal own (decode bytes)) (λ x is. each x) (λ e is. is))
 
 -- ---- the inputs
 
@@ -40,18 +57,14 @@ IsInputFault e = refusal_status e ≡ status.Input
 abbrev pub IsInputs : {A : Type 0} → Result A Refusal → Type 0
 IsInputs ended = IfErr ended IsInputFault
 
-fault_is : {A F : Type 0} (refusal : F → Refusal) → ((f : F) → IsInputFault (refusal f)) → (r : Result A F) → IsInputs (as_refusal refusal r)
-fault_is refusal each (Ok x) = tt
-fault_is refusal each (Err f) = each f
-
-inputs_in_are : (bytes name : List ℕ) (tech : Technology) → IsInputs (inputs_in bytes name tech)
+pub inputs_in_are : (bytes name : List ℕ) (tech : Technology) → IsInputs (inputs_in bytes name tech)
 inputs_in_are bytes name tech =
-    err_behind IsInputFault (as_refusal Spice (subcircuit bytes name tech)) _ (fault_is Spice (λ f. refl) (subcircuit bytes name tech))
-    (λ (cell : Subckt). err_behind IsInputFault (as_refusal Fold (folded tech cell)) (λ (fingers : Fingers). Ok (inputs_of tech cell fingers)) (fault_is Fold (λ f. refl) (folded tech cell)) (λ fingers. tt))
+    err_behind IsInputFault (as_refusal Spice (subcircuit bytes name tech)) _ (fault_is IsInputFault Spice (λ f. refl) (subcircuit bytes name tech))
+    (λ (cell : Subckt). err_behind IsInputFault (as_refusal Fold (folded tech cell)) (λ (fingers : Fingers). Ok (inputs_of tech cell fingers)) (fault_is IsInputFault Fold (λ f. refl) (folded tech cell)) (λ fingers. tt))
 
 pub tech_keeps : (May : Source → Type 0) (file : Option (List ℕ)) → ((name : List ℕ) → file ≡ Some name → May (TechFile name)) → Keeps May IsInputs (technology_from file)
 tech_keeps May None there = tt
-tech_keeps May (Some name) there = (there name refl, λ bytes. fault_is Tech (λ f. refl) (technology bytes))
+tech_keeps May (Some name) there = (there name refl, λ bytes. fault_is IsInputFault Tech (λ f. refl) (technology bytes))
 
 tech_there : (file : Option (List ℕ)) (spice name : List ℕ) → file ≡ Some name → Contains (input_files file spice) (TechFile name)
 tech_there file spice name is = rw is (0, omega arith, refl)
@@ -66,57 +79,26 @@ inputs_keep May asked there =
     (λ tech is. (there (SpiceFile asked.spice) (spice_there asked.tech asked.spice), λ bytes. inputs_in_are bytes (lowered asked.cell) tech))
     (λ e is. is)
 
--- ---- a cell of a GDSII file
+-- what a row is made of, whose cells are looked at when they are made
+pub rowing_keeps : (May : Source → Type 0) (asked : RowAsked) → ((source : Source) → Contains (input_files asked.tech asked.spice) source → May source) → Keeps May IsInputs (rowing asked)
+rowing_keeps May asked there =
+    keeps_on May IsInputs IsInputs (technology_from asked.tech) (rowing_over asked) (tech_keeps May asked.tech (λ name is. there (TechFile name) (tech_there asked.tech asked.spice name is)))
+    (λ tech is. (there (SpiceFile asked.spice) (spice_there asked.tech asked.spice), λ bytes. tt))
+    (λ e is. is)
 
-abbrev IsLayoutFault : Refusal → Type 0
-IsLayoutFault e = is_among (settled_by Extracting) (refusal_status e) ≡ true
+-- ---- a cell of a GDSII file, and its macro
 
-abbrev pub IsDrawn : {A : Type 0} → Result A Refusal → Type 0
-IsDrawn ended = IfErr ended IsLayoutFault
-
-decoded_is : (bytes name : List ℕ) (lambda : ℕ) → IsDrawn (as_refusal Gds (decoded bytes name lambda))
-decoded_is bytes name lambda = by (decoded bytes name lambda)
-  where
-    by : (r : Result Shapes GdsFault) → IsDrawn (as_refusal Gds r)
-    by (Ok shapes) = tt
-    by (Err f) = refl
-
-pub drawn_keeps : (May : Source → Type 0) (tech : Option (List ℕ)) (gds name : List ℕ) (rules : Deck) → ((file : List ℕ) → tech ≡ Some file → May (TechFile file)) → May (GdsFile gds) → Keeps May IsDrawn (extracting tech gds name rules)
+pub drawn_keeps : (May : Source → Type 0) (tech : Option (List ℕ)) (gds name : List ℕ) (rules : Deck) → ((file : List ℕ) → tech ≡ Some file → May (TechFile file)) → May (GdsFile gds) → Keeps May (IsOwn Extracting) (extracting tech gds name rules)
 drawn_keeps May tech gds name rules there file =
-    keeps_on May IsInputs IsDrawn (technology_from tech) (extracting_over gds name rules) (tech_keeps May tech there)
-    (λ read is. (file, λ bytes. keeps_on May IsDrawn IsDrawn (Ends (as_refusal Gds (decoded bytes name read.lambda_nm))) (λ (shapes : Shapes). Ends (Ok (gds_cell name rules shapes))) (decoded_is bytes name read.lambda_nm) (λ shapes is. tt) (λ e is. is)))
+    keeps_on May IsInputs (IsOwn Extracting) (technology_from tech) (extracting_over gds name rules) (tech_keeps May tech there)
+    (λ read is. decoded_keeps May Extracting (GdsFile gds) Gds (λ bytes. decoded bytes name read.lambda_nm) (λ (shapes : Shapes). Ends (Ok (gds_cell name rules shapes))) file (λ f. refl) (λ shapes. tt))
     (λ e is. rw is refl)
 
--- ---- a cell of a GDSII file and its macro
-
-abbrev IsCompareFault : Refusal → Type 0
-IsCompareFault e = is_among (settled_by Agreeing) (refusal_status e) ≡ true
-
-abbrev pub IsCompared : {A : Type 0} → Result A Refusal → Type 0
-IsCompared ended = IfErr ended IsCompareFault
-
-drawing_is : (bytes name : List ℕ) (lambda : ℕ) → IsCompared (as_refusal Gds (decoded bytes name lambda))
-drawing_is bytes name lambda = by (decoded bytes name lambda)
-  where
-    by : (r : Result Shapes GdsFault) → IsCompared (as_refusal Gds r)
-    by (Ok shapes) = tt
-    by (Err f) = refl
-
-macro_is : (bytes name : List ℕ) (unit : ℕ) → IsCompared (as_refusal Lef (macro_in bytes name unit))
-macro_is bytes name unit = by (macro_in bytes name unit)
-  where
-    by : (r : Result Macro LefFault) → IsCompared (as_refusal Lef r)
-    by (Ok cell) = tt
-    by (Err f) = refl
-
-macro_keeps : (May : Source → Type 0) (lef name : List ℕ) (tech : Technology) (shapes : Shapes) → May (LefFile lef) → Keeps May IsCompared (comparing_with lef name tech shapes)
-macro_keeps May lef name tech shapes file =
-    (file, λ bytes. keeps_on May IsCompared IsCompared (Ends (as_refusal Lef (macro_in bytes name (unit_nm tech)))) (λ (cell : Macro). Ends (Ok (compared shapes cell))) (macro_is bytes name (unit_nm tech)) (λ cell is. tt) (λ e is. is))
-
-pub compared_keeps : (May : Source → Type 0) (tech : Option (List ℕ)) (gds lef name : List ℕ) → ((file : List ℕ) → tech ≡ Some file → May (TechFile file)) → May (GdsFile gds) → May (LefFile lef) → Keeps May IsCompared (comparing tech gds lef name)
+pub compared_keeps : (May : Source → Type 0) (tech : Option (List ℕ)) (gds lef name : List ℕ) → ((file : List ℕ) → tech ≡ Some file → May (TechFile file)) → May (GdsFile gds) → May (LefFile lef) → Keeps May (IsOwn Agreeing) (comparing tech gds lef name)
 compared_keeps May tech gds lef name there drawing abstracts =
-    keeps_on May IsInputs IsCompared (technology_from tech) (comparing_over gds lef name) (tech_keeps May tech there)
-    (λ read is. (drawing, λ bytes. keeps_on May IsCompared IsCompared (Ends (as_refusal Gds (decoded bytes name read.lambda_nm))) (comparing_with lef name read) (drawing_is bytes name read.lambda_nm) (λ shapes is. macro_keeps May lef name read shapes abstracts) (λ e is. is)))
+    keeps_on May IsInputs (IsOwn Agreeing) (technology_from tech) (comparing_over gds lef name) (tech_keeps May tech there)
+    (λ read is. decoded_keeps May Agreeing (GdsFile gds) Gds (λ bytes. decoded bytes name read.lambda_nm) (comparing_with lef name read) drawing (λ f. refl)
+    (λ shapes. decoded_keeps May Agreeing (LefFile lef) Lef (λ bytes. macro_in bytes name (unit_nm read)) (λ (cell : Macro). Ends (Ok (compared shapes cell))) abstracts (λ f. refl) (λ cell. tt)))
     (λ e is. rw is refl)
 
 -- ---- the forms
@@ -126,4 +108,4 @@ abbrev pub IsGathered : Option Form → Result Material Refusal → Type 0
 IsGathered None (Ok m) = ⊥
 IsGathered None (Err e) = e ≡ Words
 IsGathered (Some form) (Ok m) = m.0 ≡ kind_of form
-IsGathered (Some form) (Err e) = is_among (settled_by (kind_of form)) (refusal_status e) ≡ true
+IsGathered (Some form) (Err e) = IsOwnFault (kind_of form) e

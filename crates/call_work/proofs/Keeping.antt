@@ -6,7 +6,8 @@ use Rattle.call_work.specs.declared.commands.Material.{Material as Own}
 use Rattle.call_work.specs.declared.commands.Material.TheVariants as held
 use Rattle.call_read.specs.declared.refusal.Refusal.{Refusal}
 use Rattle.call_read.specs.declared.refusal.Refusal.TheVariants.{NoMemory}
-use Rattle.call_work.specs.Commands.{checking_over, gathered, Benching, Checking, Making, Material}
+use Rattle.call_work.specs.Commands.{checking_over, gathered, Benching, Checking, Making, Rowing, Material}
+use Rattle.row_make.specs.RowInputs.{RowInputs}
 use Rattle.cell_inputs.specs.declared.style.Style.{Style}
 use Rattle.cell_inputs.specs.Inputs.{Inputs}
 use Rattle.call_work.specs.Kept.{AreKept, MayKeep}
@@ -63,3 +64,6 @@ keeps_short old new reading own told = (Err NoMemory, inr refl, handed_on NoMemo
 
 pub same_out : (inputs : Inputs) (out stem : List ℕ) (style : Style) → stem ≡ out → ◌≡◌ {A = Material} (Making, (inputs, out, style)) (Making, (inputs, stem, style))
 same_out inputs out stem style is = rw is refl
+
+pub same_stem : (inputs : RowInputs) (out stem : List ℕ) → stem ≡ out → ◌≡◌ {A = Material} (Rowing, (inputs, out)) (Rowing, (inputs, stem))
+same_stem inputs out stem is = rw is refl

@@ -9,6 +9,8 @@ use Rattle.call_end.specs.Status.{number_of}
 use Rattle.call_read.specs.declared.refusal.Refusal.{Refusal}
 use Rattle.call_read.specs.declared.refusal.Refusal.TheVariants.{Words, Unread, Long, Tech, Spice, Fold, Gds, Lef, NoMemory}
 use Rattle.call_work.specs.Ends.{is_among, refusal_status}
+use Rattle.gds_read.specs.declared.fault.GdsFault.{GdsFault}
+use Rattle.lef_read.specs.declared.fault.LefFault.{LefFault}
 
 pub differ : (a b : Status) → (number_of a == number_of b) ≡ false → a ≡ b → ⊥
 differ a b other is =
@@ -56,3 +58,27 @@ is_refusal (Fold f) = refl
 is_refusal (Gds f) = refl
 is_refusal (Lef f) = refl
 is_refusal NoMemory = refl
+
+-- a refusal with the status of layouts is a fault of a GDSII file
+pub gds_alone : (e : Refusal) → status.Layout ≡ refusal_status e → (f : GdsFault) × (e ≡ Gds f)
+gds_alone (Gds f) is = (f, refl)
+gds_alone Words is = absurd (differ status.Layout status.Usage refl is)
+gds_alone (Unread name) is = absurd (differ status.Layout status.ReadFault refl is)
+gds_alone (Long name) is = absurd (differ status.Layout status.TooLong refl is)
+gds_alone (Tech f) is = absurd (differ status.Layout status.Input refl is)
+gds_alone (Spice f) is = absurd (differ status.Layout status.Input refl is)
+gds_alone (Fold f) is = absurd (differ status.Layout status.Input refl is)
+gds_alone (Lef f) is = absurd (differ status.Layout status.Disagree refl is)
+gds_alone NoMemory is = absurd (differ status.Layout status.NoMemory refl is)
+
+-- and one with that of differences a fault of a LEF file
+pub lef_alone : (e : Refusal) → status.Disagree ≡ refusal_status e → (f : LefFault) × (e ≡ Lef f)
+lef_alone (Lef f) is = (f, refl)
+lef_alone Words is = absurd (differ status.Disagree status.Usage refl is)
+lef_alone (Unread name) is = absurd (differ status.Disagree status.ReadFault refl is)
+lef_alone (Long name) is = absurd (differ status.Disagree status.TooLong refl is)
+lef_alone (Tech f) is = absurd (differ status.Disagree status.Input refl is)
+lef_alone (Spice f) is = absurd (differ status.Disagree status.Input refl is)
+lef_alone (Fold f) is = absurd (differ status.Disagree status.Input refl is)
+lef_alone (Gds f) is = absurd (differ status.Disagree status.Layout refl is)
+lef_alone NoMemory is = absurd (differ status.Disagree status.NoMemory refl is)

@@ -1,5 +1,5 @@
--- The commands: what the forms of a call read, in order, what they then work on, and what the work comes to. Each definition has
--- a line for each of them.
+-- The commands: what the forms of a call read, in order, what they then work on, and what the work comes to. Each
+-- definition has a line for each of them.
 use Rattle.std.specs.Prelude.{ℕ, ◌≡◌, List, [], ◌∷◌, ◌++◌, Option, Some, None, Ok, Err}
 use Rattle.agree_run.specs.Agree.{AgreesTo, comparing}
 use Rattle.agree_run.specs.declared.compared.Compared.{Compared}
@@ -10,7 +10,7 @@ use Rattle.call_read.specs.InputFiles.{inputs_from, input_files, tech_files}
 use Rattle.call_read.specs.Reading.{Reading, Ends, bytes_of, ◌>>=◌}
 use Rattle.call_read.specs.Sources.{Source, LogFile, GdsFile, LefFile}
 use Rattle.call_read.specs.declared.refusal.Refusal.TheVariants.{Words}
-use Rattle.call_words.specs.Words.{Form, Plan, Make, Check, Extract, Bench, Agree}
+use Rattle.call_words.specs.Words.{Form, Plan, Make, Check, Extract, Bench, Row, Agree}
 use Rattle.call_work.specs.Bench.{BenchesTo}
 use Rattle.call_work.specs.declared.commands.Material.{Material as Kept}
 use Rattle.call_work.specs.declared.commands.Material.TheVariants as kept
@@ -22,6 +22,8 @@ use Rattle.layout_run.specs.Extract.{ExtractsTo, extracting}
 use Rattle.layout_run.specs.declared.gds_cell.GdsCell.{GdsCell}
 use Rattle.make_run.specs.Make.{MakesTo}
 use Rattle.make_run.specs.Plan.{PlansTo}
+use Rattle.row_make.specs.RowInputs.{RowInputs}
+use Rattle.row_run.specs.Row.{RowsTo, rowing}
 
 -- ---- kinds: what a call works on and which statuses it ends with are told by its kind
 
@@ -31,6 +33,7 @@ pub data Kind : Type 0 where
   Checking : Kind
   Extracting : Kind
   Benching : Kind
+  Rowing : Kind
   Agreeing : Kind
 
 abbrev pub kind_of : Form → Kind
@@ -39,19 +42,22 @@ kind_of (Make cell out style) = Making
 kind_of (Check cell log) = Checking
 kind_of (Extract tech gds cell rules) = Extracting
 kind_of (Bench number) = Benching
+kind_of (Row row out) = Rowing
 kind_of (Agree tech gds lef cell) = Agreeing
 
 -- ---- what is read
 
--- what a call works on: the inputs of a plan; the inputs of a drawing, what the names of its files begin with, and its style; the
--- inputs of a check, and the bytes of its log; a cell of a GDSII file, and the deck that it is checked by; a number of generated
--- cells; a cell and its macro
+-- what a call works on: the inputs of a plan; the inputs of a drawing, what the names of its files begin with, and its
+-- style; the inputs of a check, and the bytes of its log; a cell of a GDSII file, and the deck that it is checked by; a
+-- number of generated cells; what a row of cells is made of, and what the name of its file begins with; a cell and its
+-- macro
 abbrev pub MaterialOf : Kind → Type 0
 MaterialOf Planning = Inputs
 MaterialOf Making = Inputs × List ℕ × Style
 MaterialOf Checking = Inputs × List ℕ
 MaterialOf Extracting = GdsCell
 MaterialOf Benching = ℕ
+MaterialOf Rowing = RowInputs × List ℕ
 MaterialOf Agreeing = Compared
 
 abbrev pub Material : Type 0
@@ -66,8 +72,10 @@ gathered None = Ends (Err Words)
 gathered (Some (Plan asked)) = inputs_from asked >>= λ inputs. Ends (Ok (Planning, inputs))
 gathered (Some (Make asked out style)) = inputs_from asked >>= λ inputs. Ends (Ok (Making, (inputs, out, style)))
 gathered (Some (Check asked log)) = inputs_from asked >>= checking_over log
-gathered (Some (Extract tech gds cell rules)) = extracting tech gds cell rules >>= λ drawn. Ends (Ok (Extracting, drawn))
+gathered (Some (Extract tech gds cell rules)) =
+    extracting tech gds cell rules >>= λ drawn. Ends (Ok (Extracting, drawn))
 gathered (Some (Bench number)) = Ends (Ok (Benching, number))
+gathered (Some (Row row out)) = rowing row >>= λ inputs. Ends (Ok (Rowing, (inputs, out)))
 gathered (Some (Agree tech gds lef cell)) = comparing tech gds lef cell >>= λ both. Ends (Ok (Agreeing, both))
 
 -- the files that a form comes to read, in order
@@ -78,6 +86,7 @@ read_by (Some (Make asked out style)) = input_files asked.tech asked.spice
 read_by (Some (Check asked log)) = input_files asked.tech asked.spice ++ LogFile log ∷ []
 read_by (Some (Extract tech gds cell rules)) = tech_files tech ++ GdsFile gds ∷ []
 read_by (Some (Bench number)) = []
+read_by (Some (Row row out)) = input_files row.tech row.spice
 read_by (Some (Agree tech gds lef cell)) = tech_files tech ++ GdsFile gds ∷ LefFile lef ∷ []
 
 -- how the program keeps it: in place of a log's bytes, what reading and checking them came to
@@ -88,6 +97,7 @@ IsKept m (kept.Checking inputs log) =
     (bytes : List ℕ) × (m ≡ (Checking, (inputs, bytes))) × AreBehindAll inputs bytes log.reader log.checker
 IsKept m (kept.Extracting cell) = m ≡ (Extracting, cell)
 IsKept m (kept.Benching number) = m ≡ (Benching, number)
+IsKept m (kept.Rowing inputs stem) = m ≡ (Rowing, (inputs, stem))
 IsKept m (kept.Agreeing both) = m ≡ (Agreeing, both)
 
 -- ---- what the work comes to
@@ -98,14 +108,18 @@ WorksTo Making m end = MakesTo m.2 m.0 m.1 end
 WorksTo Checking m end = ChecksTo m.0 m.1 end
 WorksTo Extracting cell end = ExtractsTo cell end
 WorksTo Benching number end = BenchesTo number end
+WorksTo Rowing m end = RowsTo m.0 m.1 end
 WorksTo Agreeing both end = AgreesTo both end
 
--- the statuses that the words or the files call for: a search alone is unfinished, a making alone meets a cycle or is too tall,
--- a log or a layout alone is rejected, a GDSII file alone holds no netlist, and an abstract alone does not agree
+-- the statuses that the words or the files call for: a search alone is unfinished, a making alone, of one cell or of a row,
+-- meets a cycle or is too tall, a log or a layout alone is rejected, a GDSII file alone holds no netlist, cells of a row
+-- alone do not stand side by side, and an abstract alone does not agree
 abbrev pub settled_by : Kind → List Status
 settled_by Planning = status.Done ∷ status.Input ∷ status.Unfinished ∷ []
 settled_by Making = status.Done ∷ status.Input ∷ status.Cycle ∷ status.Unfinished ∷ status.TooTall ∷ []
 settled_by Checking = status.Done ∷ status.Input ∷ status.Rejected ∷ []
 settled_by Extracting = status.Done ∷ status.Input ∷ status.Rejected ∷ status.Layout ∷ []
 settled_by Benching = status.Done ∷ []
+settled_by Rowing =
+    status.Done ∷ status.Input ∷ status.Cycle ∷ status.Unfinished ∷ status.TooTall ∷ status.Row ∷ []
 settled_by Agreeing = status.Done ∷ status.Input ∷ status.Layout ∷ status.Disagree ∷ []

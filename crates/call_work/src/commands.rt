@@ -1,7 +1,7 @@
 ghost use Rattle.std.specs.Prelude.{Some, IfOk, option_map};
 ghost use Rattle.cell_io.specs.Desk.{OnlyReads};
 ghost use Rattle.call_read.specs.Read.{KeepsReads};
-ghost use Rattle.call_words.specs.Words.{Plan, Make, Check, Extract, Agree, shown};
+ghost use Rattle.call_words.specs.Words.{Plan, Make, Check, Extract, Row, Agree, shown};
 ghost use Rattle.call_work.specs.Commands.{checking_over, gathered};
 ghost use Rattle.call_work.specs.Kept.{MayKeep, WorksFor};
 
@@ -9,13 +9,15 @@ use crate::bench::bench;
 use agree_run::{Compared, agree, read_compared};
 use call_end::End;
 use call_read::{Refusal, Source, read_inputs, read_to};
-use call_words::{CellAsked, CellCount, Form};
+use call_words::{CellAsked, CellCount, Form, RowAsked};
 use cell_inputs::{Inputs, Style};
 use cell_io::Desk;
 use cell_num::NoMemory;
 use check_run::{CheckedLog, check};
 use layout_run::{GdsCell, extract, read_gds_cell};
 use make_run::{Stem, make, plan};
+use row_make::RowInputs;
+use row_run::{read_row, row};
 use scmos_rules::Deck;
 use std::alloc::Global;
 
@@ -29,6 +31,8 @@ pub enum Material {
     Checking(Inputs, CheckedLog),
     Extracting(GdsCell),
     Benching(CellCount),
+    /// What the row is made of, and what the name of its file begins with.
+    Rowing(RowInputs, Stem),
     Agreeing(Compared),
 }
 
@@ -67,7 +71,8 @@ fn for_make<D: Desk>(
     out: &str,
     style: Style,
 ) -> Result<Material, Refusal>
-    ensures comes { MayKeep (D.view desk.old) (D.view desk.new) (gathered (Some (Make asked.now out.now style))) result }
+    ensures comes { MayKeep (D.view desk.old) (D.view desk.new)
+        (gathered (Some (Make asked.now out.now style))) result }
     ensures quiet { KeepsReads result (D.view desk.old) (D.view desk.new) }
     ensures only { OnlyReads (D.view desk.old) (D.view desk.new) }
 {
@@ -105,6 +110,21 @@ fn for_extract<D: Desk>(
 {
     let drawn = read_gds_cell(alloc, desk, tech, gds, cell, rules)?;
     Ok(Material::Extracting(drawn))
+}
+
+fn for_row<D: Desk>(
+    alloc: Global,
+    desk: &mut D,
+    asked: &RowAsked<'_>,
+    out: &str,
+) -> Result<Material, Refusal>
+    ensures comes { MayKeep (D.view desk.old) (D.view desk.new) (gathered (Some (Row asked.now out.now))) result }
+    ensures quiet { KeepsReads result (D.view desk.old) (D.view desk.new) }
+    ensures only { OnlyReads (D.view desk.old) (D.view desk.new) }
+{
+    let stem = Stem::new(alloc, out)?;
+    let inputs = read_row(alloc, desk, asked)?;
+    Ok(Material::Rowing(inputs, stem))
 }
 
 fn for_agree<D: Desk>(
@@ -147,6 +167,7 @@ pub fn gather<D: Desk>(
             },
         ) => for_extract(alloc, desk, tech, gds, cell, rules),
         Some(Form::Bench { number }) => Ok(Material::Benching(number)),
+        Some(Form::Row { row, out }) => for_row(alloc, desk, &row, out),
         Some(
             Form::Agree {
                 tech,
@@ -160,7 +181,7 @@ pub fn gather<D: Desk>(
 }
 
 /// Does the work of a command on what was gathered. It reads, makes and says nothing.
-#[tactic(auto, using(crate::proofs::EachCommand::plan_works, crate::proofs::EachCommand::make_works, crate::proofs::EachCommand::extract_works, crate::proofs::EachCommand::bench_works, crate::proofs::EachCommand::agree_works))]
+#[tactic(auto, using(crate::proofs::EachCommand::plan_works, crate::proofs::EachCommand::make_works, crate::proofs::EachCommand::extract_works, crate::proofs::EachCommand::bench_works, crate::proofs::EachCommand::row_works, crate::proofs::EachCommand::agree_works))]
 pub fn work(alloc: Global, material: &Material) -> Result<End, NoMemory>
     ensures { IfOk result (WorksFor material.now) }
 {
@@ -170,6 +191,7 @@ pub fn work(alloc: Global, material: &Material) -> Result<End, NoMemory>
         Material::Checking(inputs, log) => check(alloc, inputs, log),
         Material::Extracting(cell) => extract(alloc, cell),
         Material::Benching(number) => bench(alloc, number),
+        Material::Rowing(inputs, stem) => row(alloc, inputs, stem),
         Material::Agreeing(both) => agree(alloc, both),
     }
 }

@@ -2,14 +2,16 @@
 use Rattle.std.proofs.Common.{ℕ, ◌≡◌, ◌⊎◌, Bool, true, false, nat_le, if◌then◌else◌, length, arith, List, [], ◌∷◌, Option, Some, None, Result, Ok, Err, Contains, inl, inr, refl, sym, ap, ◌∙◌, subst}
 use Rattle.cell_io.specs.Desk.{Files, View, Rose}
 use Rattle.call_end.specs.declared.end.End.{End}
-use Rattle.call_work.specs.Commands.{Making, Material, gathered, read_by}
+use Rattle.call_work.specs.Commands.{Kind, Making, Material, Rowing, gathered, read_by}
 use Rattle.call_read.specs.declared.refusal.Refusal.{Refusal}
 use Rattle.call_read.specs.declared.refusal.Refusal.TheVariants.{Unread, Long, NoMemory}
 use Rattle.call_end.specs.declared.status.Status.{Status}
 use Rattle.call_end.specs.declared.status.Status.TheVariants as status
 use Rattle.call_end.specs.End.{says}
 use Rattle.call_work.specs.Ends.{CallsFor, EndsTo, KeepsReadsOf, MayEnd, file_statuses, is_among, outside_of, refusal_status, refused, settled_of}
-use Rattle.cell_run.specs.Headline.{IsMake, fileless_statuses}
+use Rattle.cell_run.specs.Headline.{fileless_statuses}
+use Rattle.cell_run.specs.Row.{IsRow, MayMakeFiles}
+use Rattle.cell_run.specs.Ended.{IsOfKind}
 use Rattle.call_read.specs.Reading.{Comes, MayCome}
 use Rattle.call_read.specs.Sources.{Source, MayRead, Lacks, file_name, most_bytes, within}
 use Rattle.call_words.specs.Words.{Form}
@@ -23,23 +25,39 @@ use Rattle.call_work.proofs.Statuses.{among_one}
 abbrev pub IsGatheredOrRefused : Option Form → Result Material Refusal → Type 0
 IsGatheredOrRefused form got = IsGathered form got ⊎ ((e : Refusal) × (got ≡ Err e))
 
-not_made : (form : Option Form) (m : Material) → (IsMake form → ⊥) → IsGathered form (Ok m) → m.0 ≡ Making → ⊥
-not_made None m other is making = is
-not_made (Some form) m other is making = other (sym is ∙ making)
+is_of_kind : (form : Option Form) (kind : Kind) (m : Material) → IsGathered form (Ok m) → m.0 ≡ kind → IsOfKind kind form
+is_of_kind None kind m is same = absurd is
+is_of_kind (Some form) kind m is same = sym is ∙ same
 
-pub no_files : (form : Option Form) (got : Result Material Refusal) (end : End) → (IsMake form → ⊥) → IsGatheredOrRefused form got → EndsTo got end → end.files ≡ []
+pub no_files : (form : Option Form) (got : Result Material Refusal) (end : End) → (MayMakeFiles form → ⊥) → IsGatheredOrRefused form got → EndsTo got end → end.files ≡ []
 no_files form (Err e) end other how ends = rw ends refl
 no_files form (Ok m) end other (inr (e, is)) ends = cc
 no_files form (Ok m) end other (inl is) ends = elim (files_by m.0 m.1 end ends) [
   | inl none ↦ none
-  | inr (making, own) ↦ absurd (not_made form m other is making)
+  | inr (inl (making, own)) ↦ absurd (other (inl (is_of_kind form Making m is making)))
+  | inr (inr (rowing, done)) ↦ absurd (other (inr (is_of_kind form Rowing m is rowing)))
 ]
+
+-- a row makes a file where it is done, and none else
+pub row_files : (form : Option Form) (got : Result Material Refusal) (end : End) → IsRow form → IsGatheredOrRefused form got → EndsTo got end → (end.files ≡ []) ⊎ (end.status ≡ status.Done)
+row_files form (Err e) end row how ends = inl (rw ends refl)
+row_files form (Ok m) end row (inr (e, is)) ends = cc
+row_files form (Ok m) end row (inl is) ends = elim (files_by m.0 m.1 end ends) [
+  | inl none ↦ inl none
+  | inr (inl (making, own)) ↦ absurd (other_kind form m row is making)
+  | inr (inr (rowing, done)) ↦ inr done
+]
+  where
+    other_kind : (form : Option Form) (m : Material) → IsRow form → IsGathered form (Ok m) → m.0 ≡ Making → ⊥
+    other_kind None m row is making = is
+    other_kind (Some form) m row is making = let clash : Rowing ≡ Making = sym row ∙ sym is ∙ making in cc
 
 pub none_alone : (got : Result Material Refusal) (end : End) → EndsTo got end → is_among (status.NoMemory ∷ fileless_statuses) end.status ≡ true → end.files ≡ []
 none_alone (Err e) end ends none = ap (λ (x : End). x.files) ends
 none_alone (Ok m) end ends none = elim (files_by m.0 m.1 end ends) [
   | inl alone ↦ alone
-  | inr (making, own) ↦ absurd (among_one (status.NoMemory ∷ fileless_statuses) (status.Done ∷ status.Cycle ∷ status.Unfinished ∷ status.TooTall ∷ []) end.status refl none own)
+  | inr (inl (making, own)) ↦ absurd (among_one (status.NoMemory ∷ fileless_statuses) (status.Done ∷ status.Cycle ∷ status.Unfinished ∷ status.TooTall ∷ []) end.status refl none own)
+  | inr (inr (rowing, done)) ↦ absurd (among_one (status.NoMemory ∷ fileless_statuses) (status.Done ∷ []) end.status refl none (rw done refl))
 ]
 
 -- how a call comes to what it gathers

@@ -1,25 +1,20 @@
 -- What the top call owes of `extract`, from the end that the files call for and how it was told.
-use Rattle.std.proofs.Common.{◌≡◌, ◌⊎◌, [], ◌∷◌, Option, Some, None, Result, Ok, Err, IfSome, inl, inr, refl, sym, ap, ◌∙◌, subst}
-use Rattle.cell_io.specs.Desk.{Files, View, Both}
-use Rattle.gds_read.specs.declared.fault.GdsFault.{GdsFault}
-use Rattle.call_end.specs.Deliver.{Says, TellsWhole}
+use Rattle.std.proofs.Common.{◌≡◌, Option, IfSome, refl}
+use Rattle.cell_io.specs.Desk.{Files, View}
+use Rattle.call_end.specs.Deliver.{TellsWhole}
 use Rattle.call_end.specs.declared.end.End.{End}
 use Rattle.call_end.specs.declared.status.Status.{Status}
 use Rattle.call_end.specs.declared.status.Status.TheVariants as status
-use Rattle.call_read.specs.Reading.{called}
-use Rattle.call_read.specs.declared.refusal.Refusal.{Refusal}
-use Rattle.call_read.specs.declared.refusal.Refusal.TheVariants.{Words, Unread, Long, Tech, Spice, Fold, Gds, Lef, NoMemory}
 use Rattle.call_words.specs.Words.{Form}
-use Rattle.call_work.proofs.Gathered.{IsGathered}
-use Rattle.call_work.proofs.Statuses.{among_one, differ}
-use Rattle.call_work.specs.Commands.{Extracting, Material, gathered}
-use Rattle.call_work.specs.Ends.{EndsTo, desk_statuses, refusal_status, refused}
-use Rattle.cell_run.proofs.Worked.{Completes, IsAnswered, Works, ends_told, gathered_so, settles, worked_on}
+use Rattle.call_work.proofs.Statuses.{differ, gds_alone}
+use Rattle.call_work.specs.Commands.{Extracting}
+use Rattle.cell_run.proofs.Worked.{Completes, IsAnswered, by_answer, ends_told, gds_status, refused_told, refuses_told, settles}
 use Rattle.cell_run.specs.Calm.{IsCalm}
-use Rattle.cell_run.specs.Extract.{HasNoNetlist, HoldsNoDrawing, IsBrokenCell, IsExtract, IsExtractedCell, IsRefusedCell, IsRefusedLayout, IsToldOf, OfGdsCell, WhereExtractEnds}
+use Rattle.cell_run.specs.Extract.{HasNoNetlist, IsBrokenCell, IsExtract, IsExtractedCell, IsRefusedCell, IsRefusedLayout, IsToldOf, OfGdsCell, WhereExtractEnds}
+use Rattle.cell_run.specs.Ended.{IsGdsFault}
 use Rattle.cell_run.specs.Headline.{IsOrShort}
 use Rattle.layout_run.proofs.Extracted.{breaks_where, extracts_where, refuses_where}
-use Rattle.layout_run.specs.Extract.{BreaksRule, ExtractsTo, HasLayoutFault, HasNetlist, extract_end}
+use Rattle.layout_run.specs.Extract.{BreaksRule, ExtractsTo, HasLayoutFault, HasNetlist, IsDrawingAnswer, extract_end}
 use Rattle.layout_run.specs.declared.extraction.ExtractAnswer.{ExtractAnswer}
 use Rattle.layout_run.specs.declared.extraction.ExtractAnswer.TheVariants.{Extracted, Broken, Unchecked, Refused}
 use Rattle.layout_run.specs.declared.gds_cell.GdsCell.{GdsCell}
@@ -46,42 +41,17 @@ fault_so cell (Refused f) old new told is = (Refused f, tt, told)
 
 -- ---- the clauses
 
-by_answer : (settled answer : Status) (Is : GdsCell → Type 0) (a c : View) → ((cell : GdsCell) (found : ExtractAnswer) → IsToldOf cell found a c → settled ≡ (extract_end cell.name found).status → Is cell) → (cell : GdsCell) (end : End) → ExtractsTo cell end → answer ≡ settled → TellsWhole end answer a c → Is cell
-by_answer settled answer Is a c each cell end (found, of, same) is whole =
-    each cell found (record { is = of; says = subst (λ (e : End). Both (Says e.report) a.said c.said) same whole.2 }) (sym is ∙ whole.0 ∙ ap (λ (e : End). e.status) same)
+by_drawing : (settled answer : Status) (Is : GdsCell → Type 0) (a c : View) → ((cell : GdsCell) (found : ExtractAnswer) → IsToldOf cell found a c → settled ≡ (extract_end cell.name found).status → Is cell) → (cell : GdsCell) (end : End) → ExtractsTo cell end → answer ≡ settled → TellsWhole end answer a c → Is cell
+by_drawing settled answer Is a c each = by_answer (λ (cell : GdsCell). IsDrawingAnswer cell.rules cell.shapes) (λ (cell : GdsCell) found. extract_end cell.name found) settled answer Is a c (λ cell found of said. each cell found (record { is = of; says = said }))
 
 pub extracted_told : (a c : View) (form : Option Form) (answer : Status) (given : Option Files) → IfSome given (IsAnswered form a c answer) → IfSome given (λ files. WhereExtractEnds files form answer status.Done (λ cell. IsExtractedCell cell a c))
-extracted_told a c form answer given told = ends_told Extracting (λ cell. IsExtractedCell cell a c) form status.Done answer a c given refl (by_answer status.Done answer (λ cell. IsExtractedCell cell a c) a c (λ cell found. netlist_so cell found a c)) told
+extracted_told a c form answer given told = ends_told Extracting (λ cell. IsExtractedCell cell a c) form status.Done answer a c given refl (by_drawing status.Done answer (λ cell. IsExtractedCell cell a c) a c (λ cell found. netlist_so cell found a c)) told
 
 pub broken_told : (a c : View) (form : Option Form) (answer : Status) (given : Option Files) → IfSome given (IsAnswered form a c answer) → IfSome given (λ files. WhereExtractEnds files form answer status.Rejected (λ cell. IsBrokenCell cell a c))
-broken_told a c form answer given told = ends_told Extracting (λ cell. IsBrokenCell cell a c) form status.Rejected answer a c given refl (by_answer status.Rejected answer (λ cell. IsBrokenCell cell a c) a c (λ cell found. broken_so cell found a c)) told
+broken_told a c form answer given told = ends_told Extracting (λ cell. IsBrokenCell cell a c) form status.Rejected answer a c given refl (by_drawing status.Rejected answer (λ cell. IsBrokenCell cell a c) a c (λ cell found. broken_so cell found a c)) told
 
--- a refusal of that status is a fault of the file
-by_file : (e : Refusal) → status.Layout ≡ refusal_status e → (f : GdsFault) × (e ≡ Gds f)
-by_file (Gds f) is = (f, refl)
-by_file Words is = absurd (differ status.Layout status.Usage refl is)
-by_file (Unread name) is = absurd (differ status.Layout status.ReadFault refl is)
-by_file (Long name) is = absurd (differ status.Layout status.TooLong refl is)
-by_file (Tech f) is = absurd (differ status.Layout status.Input refl is)
-by_file (Spice f) is = absurd (differ status.Layout status.Input refl is)
-by_file (Fold f) is = absurd (differ status.Layout status.Input refl is)
-by_file (Lef f) is = absurd (differ status.Layout status.Disagree refl is)
-by_file NoMemory is = absurd (differ status.Layout status.NoMemory refl is)
-
-refused_so : (files : Files) (form : Option Form) (end : End) (answer : Status) (a c : View) (got : Result Material Refusal) → IsExtract form → answer ≡ status.Layout → called files (gathered form) ≡ got → IsGathered form got ⊎ ((e : Refusal) × (got ≡ Err e)) → EndsTo got end → TellsWhole end answer a c → IsRefusedLayout files form a c
-refused_so files form end answer a c (Err e) asks is got how ends whole =
-    let (f, by) = by_file e (sym is ∙ whole.0 ∙ ap (λ (x : End). x.status) ends) in
-    inl (record { fault = f; holds = got ∙ ap (λ (x : Refusal). Err x) by; says = subst (λ (x : End). Both (Says x.report) a.said c.said) (ends ∙ ap refused by) whole.2 })
-refused_so files form end answer a c (Ok m) asks is got how ends whole = by (worked_on files form Extracting end answer a c m asks got how ends whole)
-  where
-    by : Works files form Extracting answer a c → IsRefusedLayout files form a c
-    by w = inr (w.m, w.comes, by_answer status.Layout answer (λ cell. IsRefusedCell cell a c) a c (λ cell found. fault_so cell found a c) w.m w.end w.works is w.whole)
-
-pub refused_told : (a c : View) (form : Option Form) (answer : Status) (given : Option Files) → IfSome given (IsAnswered form a c answer) → IfSome given (λ files. IsExtract form → answer ≡ status.Layout → IsRefusedLayout files form a c)
-refused_told a c form answer None told = tt
-refused_told a c form answer (Some files) (inl outside) = λ asks is. absurd (among_one (status.Layout ∷ []) desk_statuses answer refl (rw is refl) outside)
-refused_told a c form answer (Some files) (inr (end, calls, whole)) = λ asks is.
-    refused_so files form end answer a c (called files (gathered form)) asks is refl (gathered_so files form (called files (gathered form)) refl) calls whole
+pub layout_told : (a c : View) (form : Option Form) (answer : Status) (given : Option Files) → IfSome given (IsAnswered form a c answer) → IfSome given (λ files. IsExtract form → answer ≡ status.Layout → IsRefusedLayout files form a c)
+layout_told a c form answer given told = refused_told Extracting status.Layout IsGdsFault (λ cell. IsRefusedCell cell a c) a c form answer given refl refl gds_alone (by_drawing status.Layout answer (λ cell. IsRefusedCell cell a c) a c (λ cell found. fault_so cell found a c)) told
 
 -- ---- completeness
 
@@ -91,13 +61,5 @@ extracts_told a c form answer given told = settles Extracting HasNetlist form st
 pub breaks_told : (a c : View) (form : Option Form) (answer : Status) (given : Option Files) → IfSome given (λ files. IsCalm a c → Completes form files answer) → IfSome given (λ files. IsCalm a c → OfGdsCell files form BreaksRule → IsOrShort status.Rejected answer)
 breaks_told a c form answer given told = settles Extracting BreaksRule form status.Rejected answer a c given breaks_where told
 
-faults_settle : (files : Files) (form : Option Form) (answer : Status) (f : GdsFault) → HoldsNoDrawing files form f → Completes form files answer → IsOrShort status.Layout answer
-faults_settle files form answer f holds (inl (end, calls, same)) = inl (same ∙ ap (λ (x : End). x.status) (subst (λ (r : Result Material Refusal). EndsTo r end) holds calls))
-faults_settle files form answer f holds (inr short) = inr short
-
-pub refuses_told : (a c : View) (form : Option Form) (answer : Status) (given : Option Files) → IfSome given (λ files. IsCalm a c → Completes form files answer) → IfSome given (λ files. IsCalm a c → HasNoNetlist files form → IsOrShort status.Layout answer)
-refuses_told a c form answer None told = tt
-refuses_told a c form answer (Some files) told = λ calm none. elim none [
-  | inl (f, holds) ↦ faults_settle files form answer f holds (told calm)
-  | inr drawn ↦ settles Extracting HasLayoutFault form status.Layout answer a c (Some files) refuses_where told calm drawn
-]
+pub layout_faults_told : (a c : View) (form : Option Form) (answer : Status) (given : Option Files) → IfSome given (λ files. IsCalm a c → Completes form files answer) → IfSome given (λ files. IsCalm a c → HasNoNetlist files form → IsOrShort status.Layout answer)
+layout_faults_told a c form answer given told = refuses_told Extracting status.Layout IsGdsFault HasLayoutFault a c form answer given gds_status refuses_where told

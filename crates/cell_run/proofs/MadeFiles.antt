@@ -1,4 +1,4 @@
--- The files of an end of `make`, once they are made.
+-- The files of an end of `make` or `row`, once they are made.
 use Rattle.std.proofs.Common.{ℕ, ◌≡◌, ◌≢◌, List, [], ◌∷◌, ◌++◌, Option, Some, None, Bool, if◌then◌else◌, codes, length, length-append, map, string_bytes, refl, sym, ap, ◌∙◌, subst, arith}
 use Rattle.std.specs.Prelude.{bytes_eq, get_or}
 use Rattle.std.proofs.lemmas.Bool.{false_from_ne_true}
@@ -8,6 +8,7 @@ use Rattle.cell_io.specs.Desk.{Files, Both, Sets}
 use Rattle.call_end.specs.declared.end.Output.{Output}
 use Rattle.call_end.specs.Deliver.{MakesAll}
 use Rattle.cell_run.specs.Headline.{HasCell, HasLog}
+use Rattle.cell_run.specs.Row.{HasLibrary}
 use Rattle.make_run.specs.Make.{named}
 
 -- ---- names
@@ -57,17 +58,30 @@ first_is a b xs ys e = cc
 rest_are : (a b : List ℕ × List ℕ) (xs ys : List (List ℕ × List ℕ)) → a ∷ xs ≡ b ∷ ys → xs ≡ ys
 rest_are a b xs ys e = cc
 
+-- one file, by its name and its bytes
+one_set : (name bytes : List ℕ) (files : List Output) (old new : Files) → map named files ≡ (name, bytes) ∷ [] → MakesAll files old new → Sets name (Some bytes) old new
+one_set name bytes [] old new is made = cc
+one_set name bytes (file ∷ []) old new is (mid, sets, same) =
+    subst (λ (files : Files). Sets name (Some bytes) old files) (sym same) (set_so file name bytes old mid (first_is (named file) (name, bytes) [] [] is) sets)
+one_set name bytes (file ∷ other ∷ more) old new is made =
+    let none : named other ∷ map named more ≡ [] = rest_are (named file) (name, bytes) (named other ∷ map named more) [] is in
+    cc
+
 one_made : (out log : List ℕ) (files : List Output) (old new : Files) → map named files ≡ (out ++ codes ".clog", log) ∷ [] → MakesAll files old new → HasLog out log old new
-one_made out log [] old new is made = cc
-one_made out log (file ∷ []) old new is (mid, sets, same) =
-    let set : Sets (out ++ codes ".clog") (Some log) old new = subst (λ (files : Files). Sets (out ++ codes ".clog") (Some log) old files) (sym same) (set_so file (out ++ codes ".clog") log old mid (first_is (named file) (out ++ codes ".clog", log) [] [] is) sets) in
+one_made out log files old new is made =
+    let set = one_set (out ++ codes ".clog") log files old new is made in
     record {
       log = set_here (out ++ codes ".clog") (Some log) old new set;
       others = λ name differ. set_elsewhere (out ++ codes ".clog") name (Some log) old new set differ;
     }
-one_made out log (file ∷ other ∷ more) old new is made =
-    let none : named other ∷ map named more ≡ [] = rest_are (named file) (out ++ codes ".clog", log) (named other ∷ map named more) [] is in
-    cc
+
+library_set : (out bytes : List ℕ) (files : List Output) (old new : Files) → map named files ≡ (out ++ codes ".gds", bytes) ∷ [] → MakesAll files old new → HasLibrary out bytes old new
+library_set out bytes files old new is made =
+    let set = one_set (out ++ codes ".gds") bytes files old new is made in
+    record {
+      library = set_here (out ++ codes ".gds") (Some bytes) old new set;
+      others = λ name differ. set_elsewhere (out ++ codes ".gds") name (Some bytes) old new set differ;
+    }
 
 -- the files of a cell, each made where the one before it was
 pub record AreSet (out text bytes summary : List ℕ) (old one two new : Files) : Type 0 where
@@ -137,3 +151,6 @@ log_made out log files old new is made = both_so (MakesAll files) (HasLog out lo
 
 pub cell_made : (out text bytes summary : List ℕ) (files : List Output) (old new : Option Files) → map named files ≡ (out ++ codes ".clog", text) ∷ (out ++ codes ".gds", bytes) ∷ (out ++ codes ".lef", summary) ∷ [] → Both (MakesAll files) old new → Both (HasCell out text bytes summary) old new
 cell_made out text bytes summary files old new is made = both_so (MakesAll files) (HasCell out text bytes summary) (λ x y h. cell_made_in out text bytes summary files x y is h) old new made
+
+pub library_made : (out bytes : List ℕ) (files : List Output) (old new : Option Files) → map named files ≡ (out ++ codes ".gds", bytes) ∷ [] → Both (MakesAll files) old new → Both (HasLibrary out bytes) old new
+library_made out bytes files old new is made = both_so (MakesAll files) (HasLibrary out bytes) (λ x y h. library_set out bytes files x y is h) old new made

@@ -46,7 +46,7 @@ spent_told a c form answer given told =
 
 -- ---- completeness
 
-spends_less : (inputs : Inputs) (log : Log) (proved : ℕ) → ForKinds inputs.fingers (λ k. enough k ≤ inputs.tech.budget) → IsUnfinished inputs proved log → ⊥
+pub spends_less : (inputs : Inputs) (log : Log) (proved : ℕ) → ForKinds inputs.fingers (λ k. enough k ≤ inputs.tech.budget) → IsUnfinished inputs proved log → ⊥
 spends_less inputs log proved much (version, (k, are, some, spent)) = absurd (omega (arith, much k are some, spent.short))
 
 drawn_where : (style : Style) (inputs : Inputs) (out : List ℕ) (end : End) → OfFirstLeast CanBeDrawn style inputs out → MakesTo style inputs out end → end.status ≡ status.Done

@@ -15,14 +15,14 @@ use Rattle.cell_run.specs.Calm.{IsCalm, IsDoneOrShort}
 use Rattle.cell_run.specs.Check.{HoldsAcceptedLog, IsCheck}
 use Rattle.call_end.specs.Deliver.{GivesUp, MakesAll, MakesSome, OnlyTells, Says, Tells, TellsSome, TellsWhole}
 use Rattle.call_work.specs.Ends.{CallsFor, EndsTo, IsOfOutside, KeepsReadsOf, MayEnd, desk_statuses, is_among, is_status_of, outside_of, settled_of}
-use Rattle.cell_run.specs.Headline.{IsMake}
+use Rattle.cell_run.specs.Row.{IsRow, MayLeaveFile, MayMakeFiles}
 use Rattle.cell_run.specs.Plan.{HasEnough}
 use Rattle.call_read.specs.Sources.{Lacks}
 use Rattle.call_words.specs.Words.{Form}
 use Rattle.check_run.proofs.Checked.{done_holds, holds_done}
 use Rattle.call_end.proofs.Delivered.{none_begun, none_made}
 use Rattle.call_read.proofs.Desks.{came_between}
-use Rattle.cell_run.proofs.Ends.{came_gathered, end_cases, end_told, file_outside, file_status, file_unread, no_files}
+use Rattle.cell_run.proofs.Ends.{came_gathered, end_cases, end_told, file_outside, file_status, file_unread, no_files, row_files}
 use Rattle.call_work.proofs.Settled.{not_of_desk, usage_alone}
 use Rattle.make_run.proofs.Planned.{enough_done}
 use Rattle.cell_run.proofs.Worked.{Completes, Works, settles, worked}
@@ -166,11 +166,22 @@ memory_told a c form answer h = memory_cause a c form answer (cause_of a c form 
 pub status_told : (a c : View) (form : Option Form) (answer : Status) → Answers a c form answer → is_status_of form answer ≡ true
 status_told a c form answer h = status_cause a c form answer (cause_of a c form answer h)
 
--- `make` alone makes files
-pub made_told : (a c : View) (form : Option Form) (answer : Status) → Answers a c form answer → (IsMake form → ⊥) → c.made ≡ a.made
-made_told a c form answer (end, (got, came, ends), inl (is, made, said)) other = none_made a.made c.made (subst (λ (files : List Output). Both (MakesAll files) a.made c.made) (no_files form got end other (came_gathered a c form got came) ends) made)
-made_told a c form answer (end, (got, came, ends), inr (up, inl (made, said))) other = none_begun a.made c.made (subst (λ (files : List Output). Both (MakesSome files) a.made c.made) (no_files form got end other (came_gathered a c form got came) ends) made)
-made_told a c form answer (end, (got, came, ends), inr (up, inr (made, said))) other = none_made a.made c.made (subst (λ (files : List Output). Both (MakesAll files) a.made c.made) (no_files form got end other (came_gathered a c form got came) ends) made)
+-- `make` and `row` alone make files
+none_told_so : (a c : View) (end : End) (answer : Status) → end.files ≡ [] → Tells end answer a c → c.made ≡ a.made
+none_told_so a c end answer none (inl (is, made, said)) = none_made a.made c.made (subst (λ (files : List Output). Both (MakesAll files) a.made c.made) none made)
+none_told_so a c end answer none (inr (up, inl (made, said))) = none_begun a.made c.made (subst (λ (files : List Output). Both (MakesSome files) a.made c.made) none made)
+none_told_so a c end answer none (inr (up, inr (made, said))) = none_made a.made c.made (subst (λ (files : List Output). Both (MakesAll files) a.made c.made) none made)
+
+pub made_told : (a c : View) (form : Option Form) (answer : Status) → Answers a c form answer → (MayMakeFiles form → ⊥) → c.made ≡ a.made
+made_told a c form answer (end, (got, came, ends), tells) other = none_told_so a c end answer (no_files form got end other (came_gathered a c form got came) ends) tells
+
+pub alone_told : (a c : View) (form : Option Form) (answer : Status) → Answers a c form answer → IsRow form → MayLeaveFile answer ⊎ (c.made ≡ a.made)
+alone_told a c form answer (end, (got, came, ends), inr (inl (is, rose), some)) row = inl (rw is refl)
+alone_told a c form answer (end, (got, came, ends), inr (inr (is, rose), some)) row = inl (rw is refl)
+alone_told a c form answer (end, (got, came, ends), inl whole) row = elim (row_files form got end row (came_gathered a c form got came) ends) [
+  | inl none ↦ inr (none_told_so a c end answer none (inl whole))
+  | inr done ↦ let is : answer ≡ status.Done = whole.0 ∙ done in inl (rw is refl)
+]
 
 -- ---- by command
 

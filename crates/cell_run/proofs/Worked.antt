@@ -1,11 +1,11 @@
 -- What a call over told files comes to by its own work.
 use Rattle.std.proofs.Common.{◌≡◌, ◌⊎◌, true, List, [], ◌∷◌, Option, Some, None, Result, Ok, Err, IfSome, inl, inr, refl, sym, ap, ◌∙◌, subst}
 use Rattle.std.specs.List.{Contains}
-use Rattle.cell_io.specs.Desk.{Files, View}
+use Rattle.cell_io.specs.Desk.{Files, View, Both}
 use Rattle.call_end.specs.declared.end.End.{End}
 use Rattle.call_end.specs.declared.status.Status.{Status}
 use Rattle.call_end.specs.declared.status.Status.TheVariants as status
-use Rattle.call_end.specs.Deliver.{TellsWhole}
+use Rattle.call_end.specs.Deliver.{Says, TellsWhole}
 use Rattle.call_words.specs.Words.{Form}
 use Rattle.call_read.specs.declared.refusal.Refusal.{Refusal}
 use Rattle.call_read.specs.Reading.{called}
@@ -13,12 +13,12 @@ use Rattle.call_read.specs.Sources.{held}
 use Rattle.call_read.proofs.Reading.{called_comes, came_kept}
 use Rattle.call_work.specs.Commands.{gathered, read_by, Kind, Material, MaterialOf, WorksTo}
 use Rattle.cell_run.specs.Calm.{IsCalm}
-use Rattle.cell_run.specs.Ended.{Gathers, IsOfKind, WhereEnds}
+use Rattle.cell_run.specs.Ended.{Gathers, IsGdsFault, IsLefFault, IsOfKind, IsRefusedBy, IsToldFault, WhereEnds}
 use Rattle.cell_run.specs.Headline.{IsOrShort}
 use Rattle.call_work.specs.Ends.{CallsFor, EndsTo, IsOfOutside, desk_statuses, is_among, refusal_status}
 use Rattle.call_work.proofs.EachCommand.{gathered_keeps}
 use Rattle.call_work.proofs.Gathered.{IsGathered}
-use Rattle.call_work.proofs.Statuses.{among_one, is_refusal, refusal_statuses}
+use Rattle.call_work.proofs.Statuses.{among_one, are_apart, is_refusal, refusal_statuses}
 
 -- what a call over told files owes, where it ends by its own work
 abbrev pub IsAnswered : Option Form → View → View → Status → Files → Type 0
@@ -43,7 +43,7 @@ pub record Works (files : Files) (form : Option Form) (kind : Kind) (answer : St
 -- the statuses that come of work alone: no step of reading is refused so, nor does the desk bring them about
 abbrev pub work_statuses : List Status
 work_statuses =
-    status.Done ∷ status.Cycle ∷ status.Unfinished ∷ status.Rejected ∷ status.TooTall ∷ []
+    status.Done ∷ status.Rejected ∷ status.Row ∷ status.Cycle ∷ status.Unfinished ∷ status.TooTall ∷ []
 
 of_kind : (form : Option Form) (kind : Kind) (m : Material) → IsOfKind kind form → IsGathered form (Ok m) → m.0 ≡ kind
 of_kind None kind m asks is = absurd asks
@@ -87,3 +87,45 @@ settles kind Is form settled answer a c (Some files) each told = λ calm (m, got
   | inl (end, calls, same) ↦ inl (same ∙ each m end is (subst (λ (r : Result Material Refusal). EndsTo r end) got calls))
   | inr short ↦ inr short
 ]
+
+-- ---- where a step may be refused besides
+
+-- what was told of an answer
+pub by_answer : {M A : Type 0} (IsAnswer : M → A → Type 0) (end_of : M → A → End) (settled answer : Status) (Is : M → Type 0) (a c : View) → ((m : M) (found : A) → IsAnswer m found → Both (Says (end_of m found).report) a.said c.said → settled ≡ (end_of m found).status → Is m) → (m : M) (end : End) → (found : A) × IsAnswer m found × (end ≡ end_of m found) → answer ≡ settled → TellsWhole end answer a c → Is m
+by_answer IsAnswer end_of settled answer Is a c each m end (found, of, same) is whole =
+    each m found of (subst (λ (e : End). Both (Says e.report) a.said c.said) same whole.2) (sym is ∙ whole.0 ∙ ap (λ (e : End). e.status) same)
+
+-- a fault or what was found in the material was told, where both have this status
+refused_so : (kind : Kind) (settled : Status) (IsFault : Refusal → Type 0) (Is : MaterialOf kind → Type 0) (files : Files) (form : Option Form) (end : End) (answer : Status) (a c : View) → ((e : Refusal) → settled ≡ refusal_status e → IsFault e) → ((m : MaterialOf kind) (end : End) → WorksTo kind m end → answer ≡ settled → TellsWhole end answer a c → Is m) → (got : Result Material Refusal) → IsOfKind kind form → answer ≡ settled → called files (gathered form) ≡ got → IsGathered form got ⊎ ((e : Refusal) × (got ≡ Err e)) → EndsTo got end → TellsWhole end answer a c → IsToldFault IsFault files form a c ⊎ Gathers kind files form Is
+refused_so kind settled IsFault Is files form end answer a c by_status each (Err e) asks is got how ends whole =
+    inl (record { fault = e; of = by_status e (sym is ∙ whole.0 ∙ ap (λ (x : End). x.status) ends); first = got; says = subst (λ (x : End). Both (Says x.report) a.said c.said) ends whole.2 })
+refused_so kind settled IsFault Is files form end answer a c by_status each (Ok m) asks is got how ends whole = by (worked_on files form kind end answer a c m asks got how ends whole)
+  where
+    by : Works files form kind answer a c → IsToldFault IsFault files form a c ⊎ Gathers kind files form Is
+    by w = inr (w.m, w.comes, each w.m w.end w.works is w.whole)
+
+pub refused_told : (kind : Kind) (settled : Status) (IsFault : Refusal → Type 0) (Is : MaterialOf kind → Type 0) (a c : View) (form : Option Form) (answer : Status) (given : Option Files) → are_apart (settled ∷ []) desk_statuses ≡ true → is_among (settled ∷ []) settled ≡ true → ((e : Refusal) → settled ≡ refusal_status e → IsFault e) → ((m : MaterialOf kind) (end : End) → WorksTo kind m end → answer ≡ settled → TellsWhole end answer a c → Is m) → IfSome given (IsAnswered form a c answer) → IfSome given (λ files. IsOfKind kind form → answer ≡ settled → IsToldFault IsFault files form a c ⊎ Gathers kind files form Is)
+refused_told kind settled IsFault Is a c form answer None apart own by_status each told = tt
+refused_told kind settled IsFault Is a c form answer (Some files) apart own by_status each (inl outside) = λ asks is. absurd (among_one (settled ∷ []) desk_statuses answer apart (subst (λ (s : Status). is_among (settled ∷ []) s ≡ true) (sym is) own) outside)
+refused_told kind settled IsFault Is a c form answer (Some files) apart own by_status each (inr (end, calls, whole)) = λ asks is.
+    refused_so kind settled IsFault Is files form end answer a c by_status each (called files (gathered form)) asks is refl (gathered_so files form (called files (gathered form)) refl) calls whole
+
+fault_settles : (settled : Status) (files : Files) (form : Option Form) (answer : Status) (e : Refusal) → refusal_status e ≡ settled → called files (gathered form) ≡ Err e → Completes form files answer → IsOrShort settled answer
+fault_settles settled files form answer e is holds (inl (end, calls, same)) = inl (same ∙ ap (λ (x : End). x.status) (subst (λ (r : Result Material Refusal). EndsTo r end) holds calls) ∙ is)
+fault_settles settled files form answer e is holds (inr short) = inr short
+
+-- how it ends where such a fault comes first, or so it is of the material
+pub refuses_told : (kind : Kind) (settled : Status) (IsFault : Refusal → Type 0) (Is : MaterialOf kind → Type 0) (a c : View) (form : Option Form) (answer : Status) (given : Option Files) → ((e : Refusal) → IsFault e → refusal_status e ≡ settled) → ((m : MaterialOf kind) (end : End) → Is m → WorksTo kind m end → end.status ≡ settled) → IfSome given (λ files. IsCalm a c → Completes form files answer) → IfSome given (λ files. IsCalm a c → IsRefusedBy IsFault files form ⊎ Gathers kind files form Is → IsOrShort settled answer)
+refuses_told kind settled IsFault Is a c form answer None by_fault where_so told = tt
+refuses_told kind settled IsFault Is a c form answer (Some files) by_fault where_so told = λ calm none. elim none [
+  | inl (e, fault, holds) ↦ fault_settles settled files form answer e (by_fault e fault) holds (told calm)
+  | inr gathers ↦ settles kind Is form settled answer a c (Some files) where_so told calm gathers
+]
+
+-- ---- faults of files
+
+pub gds_status : (e : Refusal) → IsGdsFault e → refusal_status e ≡ status.Layout
+gds_status e (f, is) = rw is refl
+
+pub lef_status : (e : Refusal) → IsLefFault e → refusal_status e ≡ status.Disagree
+lef_status e (f, is) = rw is refl

@@ -1,23 +1,20 @@
 -- What a call of `agree` tells.
-use Rattle.std.specs.Prelude.{ℕ, ◌≡◌, ◌⊎◌, List, Option, Some, Ok, Err}
+use Rattle.std.specs.Prelude.{◌⊎◌, Option, ℕ, ◌≡◌, List, Some, Ok}
 use Rattle.bound_log.specs.declared.log.Log.{Log}
 use Rattle.cell_io.specs.Desk.{Files, View, Both}
 use Rattle.channel_route.specs.declared.routing.Routing.{Routing}
 use Rattle.row_model.specs.declared.column.Column.{Column}
 use Rattle.lef_agree.specs.declared.differ.Differ.{Differ}
 use Rattle.call_end.specs.Deliver.{Says}
+use Rattle.call_words.specs.Words.{Form, Agree}
+use Rattle.call_work.specs.Commands.{Agreeing}
+use Rattle.cell_run.specs.Ended.{Gathers, IsGdsFault, IsLefFault, IsOfKind, IsRefusedBy, IsToldFault}
 use Rattle.call_read.specs.InputFiles.{technology_from}
 use Rattle.call_read.specs.Reading.{called}
 use Rattle.call_read.specs.Sources.{GdsFile, LefFile, held}
-use Rattle.call_read.specs.declared.refusal.Refusal.{Refusal}
-use Rattle.call_read.specs.declared.refusal.Refusal.TheVariants.{Gds, Lef}
-use Rattle.call_words.specs.Words.{Form, Agree}
-use Rattle.call_work.specs.Commands.{Agreeing, gathered}
-use Rattle.call_work.specs.Ends.{refusal_text}
 use Rattle.cell_inputs.specs.Inputs.{Inputs}
 use Rattle.cell_inputs.specs.declared.style.Style.{Style}
 use Rattle.cell_make.specs.Making.{IsMade, abstract_of, drawing_in, final_in, library_of}
-use Rattle.cell_run.specs.Ended.{Gathers, IsOfKind}
 use Rattle.agree_run.specs.Agree.{HasDifference, IsAgreeAnswer, IsDisagreement, IsUnextracted, agree_end}
 use Rattle.agree_run.specs.declared.agreement.AgreeAnswer.{AgreeAnswer}
 use Rattle.agree_run.specs.declared.agreement.AgreeAnswer.TheVariants.{Agreed, Differs}
@@ -44,26 +41,6 @@ IsDifferingCell Is c old new = (d : Differ) × Is d × IsToldOf c (Differs d) ol
 abbrev pub OfCompared : Files → Option Form → (Compared → Type 0) → Type 0
 OfCompared files form Is = Gathers Agreeing files form Is
 
--- the first fault is one of the GDSII file, or of the LEF file
-abbrev pub IsGdsFault : Refusal → Type 0
-IsGdsFault (Gds f) = Unit {0}
-IsGdsFault _ = ⊥
-
-abbrev pub IsLefFault : Refusal → Type 0
-IsLefFault (Lef f) = Unit {0}
-IsLefFault _ = ⊥
-
--- such a fault comes first
-abbrev pub IsRefusedBy : (Refusal → Type 0) → Files → Option Form → Type 0
-IsRefusedBy Is files form = (e : Refusal) × Is e × (called files (gathered form) ≡ Err e)
-
--- it was told
-pub record IsToldFault (Is : Refusal → Type 0) (files : Files) (form : Option Form) (old new : View) : Type 0 where
-  pub fault : Refusal
-  pub of : Is fault
-  pub first : called files (gathered form) ≡ Err fault
-  pub says : Both (Says (refusal_text fault)) old.said new.said
-
 -- it was told why the two do not agree: the LEF file has no such macro, or the macro differs from the drawing
 abbrev pub IsDisagreed : Files → Option Form → View → View → Type 0
 IsDisagreed files form old new =
@@ -82,8 +59,8 @@ HasDisagreement files form = IsRefusedBy IsLefFault files form ⊎ OfCompared fi
 abbrev pub HasNoNets : Files → Option Form → Type 0
 HasNoNets files form = IsRefusedBy IsGdsFault files form ⊎ OfCompared files form (HasDifference IsUnextracted)
 
--- The words ask for a comparison of the files of a made cell, in any style: the technology is that of its inputs and CELL
--- its name, the GDSII file is its library and the LEF file its abstract. Both are within the limit of such a file.
+-- The words ask for a comparison of the files of a made cell, in any style: the technology is that of its inputs, CELL
+-- is its name, the GDSII file is its library and the LEF file its abstract. Both are within the limit of such a file.
 pub record ComparesMade (files : Files) (form : Option Form) : Type 0 where
   pub style : Style
   pub inputs : Inputs

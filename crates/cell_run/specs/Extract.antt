@@ -1,20 +1,13 @@
 -- What a call of `extract` tells.
-use Rattle.std.specs.Prelude.{ℕ, ◌≡◌, ◌⊎◌, List, ◌++◌, codes, Option, Err}
+use Rattle.std.specs.Prelude.{ℕ, ◌⊎◌, List, Option}
 use Rattle.cell_io.specs.Desk.{Files, View, Both}
 use Rattle.scmos_rules.specs.declared.violation.Violation.{Violation}
 use Rattle.net_extract.specs.declared.netlist.Netlist.{Netlist}
-use Rattle.gds_read.specs.declared.fault.GdsFault.{GdsFault}
-use Rattle.fault_text.specs.Faults.{fault_line}
-use Rattle.fault_text.specs.LayoutFaults.{gds_fault}
 use Rattle.call_end.specs.Deliver.{Says}
-use Rattle.call_end.specs.Status.{first_line}
 use Rattle.call_end.specs.declared.status.Status.{Status}
-use Rattle.call_end.specs.declared.status.Status.TheVariants as status
-use Rattle.call_read.specs.Reading.{called}
-use Rattle.call_read.specs.declared.refusal.Refusal.TheVariants.{Gds}
 use Rattle.call_words.specs.Words.{Form}
-use Rattle.call_work.specs.Commands.{Extracting, gathered}
-use Rattle.cell_run.specs.Ended.{Gathers, IsOfKind, WhereEnds}
+use Rattle.call_work.specs.Commands.{Extracting}
+use Rattle.cell_run.specs.Ended.{Gathers, IsGdsFault, IsOfKind, IsRefusedBy, IsToldFault, WhereEnds}
 use Rattle.layout_run.specs.Extract.{HasLayoutFault, IsDrawingAnswer, IsLayoutFault, extract_end}
 use Rattle.layout_run.specs.declared.extraction.ExtractAnswer.{ExtractAnswer}
 use Rattle.layout_run.specs.declared.extraction.ExtractAnswer.TheVariants.{Extracted, Broken}
@@ -46,25 +39,15 @@ IsRefusedCell cell old new = (answer : ExtractAnswer) × IsLayoutFault answer ×
 abbrev pub OfGdsCell : Files → Option Form → (GdsCell → Type 0) → Type 0
 OfGdsCell files form Is = Gathers Extracting files form Is
 
--- the technology is there and accepted and the file is there, but its bytes hold no drawing of the cell, by this first fault
-abbrev pub HoldsNoDrawing : Files → Option Form → GdsFault → Type 0
-HoldsNoDrawing files form f = called files (gathered form) ≡ Err (Gds f)
-
 -- where a call of `extract` ends so, this holds of the cell
 abbrev pub WhereExtractEnds : Files → Option Form → Status → Status → (GdsCell → Type 0) → Type 0
 WhereExtractEnds files form answer settled Is = WhereEnds Extracting files form answer settled Is
 
--- the first fault of the file was told
-pub record IsRefusedFile (files : Files) (form : Option Form) (old new : View) : Type 0 where
-  pub fault : GdsFault
-  pub holds : HoldsNoDrawing files form fault
-  pub says : Both (Says (first_line status.Layout ++ fault_line (codes "gds") (gds_fault fault))) old.said new.said
-
 -- it was told why there is no netlist: the file has no such drawing, or the drawing no netlist
 abbrev pub IsRefusedLayout : Files → Option Form → View → View → Type 0
 IsRefusedLayout files form old new =
-    IsRefusedFile files form old new ⊎ OfGdsCell files form (λ cell. IsRefusedCell cell old new)
+    IsToldFault IsGdsFault files form old new ⊎ OfGdsCell files form (λ cell. IsRefusedCell cell old new)
 
 -- there is none
 abbrev pub HasNoNetlist : Files → Option Form → Type 0
-HasNoNetlist files form = ((f : GdsFault) × HoldsNoDrawing files form f) ⊎ OfGdsCell files form HasLayoutFault
+HasNoNetlist files form = IsRefusedBy IsGdsFault files form ⊎ OfGdsCell files form HasLayoutFault

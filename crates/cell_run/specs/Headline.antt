@@ -221,7 +221,7 @@ IsOrShort settled answer = (answer ≡ settled) ⊎ (answer ≡ status.NoMemory)
 
 -- ---- calls that make no file
 
--- the statuses of calls that make none; no call ends with Row or Disagree so far
+-- the statuses of calls that make none
 abbrev pub fileless_statuses : List Status
 fileless_statuses =
     status.Usage

@@ -7,3 +7,4 @@ pub mod Ended
 pub mod Extract
 pub mod Headline
 pub mod Plan
+pub mod Row

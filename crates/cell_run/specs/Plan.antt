@@ -9,4 +9,5 @@ use Rattle.cell_run.specs.Ended.{Gathers}
 
 -- the inputs of a plan are there and accepted, and the budget is enough for their fingers
 abbrev pub HasEnough : Files → Option Form → Type 0
-HasEnough files form = Gathers Planning files form (λ inputs. ForKinds inputs.fingers (λ k. enough k ≤ inputs.tech.budget))
+HasEnough files form =
+    Gathers Planning files form (λ inputs. ForKinds inputs.fingers (λ k. enough k ≤ inputs.tech.budget))

@@ -15,6 +15,8 @@ ghost use Rattle.call_work.specs.Commands.{Agreeing, read_by};
 ghost use Rattle.cell_run.specs.Ended.{WhereEnds};
 ghost use Rattle.cell_run.specs.Headline.{CanBeDrawn, FromInputs, HasCycle, IsCyclicCell, IsMadeCell, IsMake, IsOrShort, IsSpentSearch, IsTallCell, IsTooHigh, MakesNone, OfFirstLeast, WhereMakeEnds};
 ghost use Rattle.cell_run.specs.Plan.{HasEnough};
+ghost use Rattle.cell_run.specs.Row.{CanBeRowed, IsMisreadRow, IsRow, IsRowedLibrary, IsStopStatus, IsStoppedRow, IsUnabuttedRow};
+ghost use Rattle.cell_run.specs.Row.{MayLeaveFile, MayMakeFiles, OfRow, WhereRowEnds};
 ghost use Rattle.call_read.specs.Sources.{Lacks};
 ghost use Rattle.call_words.specs.Words.{asked};
 
@@ -57,11 +59,13 @@ fn prepare<D: Desk>(alloc: Global, words: &[String], desk: &mut D) -> End
 /// `--dogleg` behind OUT, trunks may change their tracks at node lines of their nets; with `--taps` as the last word
 /// the library has taps of the well and of the substrate, on the rails at the first and at the last line.
 /// `check TECH SPICE CELL LOG` tells whether the file LOG is the text of a log that certifies a row of that cell.
-/// `extract TECH GDS CELL` tells the netlist of a cell of the GDSII file GDS, or the rules that it breaks. With `--taps`
-/// behind CELL the rules are those of cells with taps, and the net of each device's body is told.
+/// `extract TECH GDS CELL` tells the netlist of a cell of the GDSII file GDS, or the rules that it breaks. With
+/// `--taps` behind CELL the rules are those of cells with taps, and the net of each device's body is told.
 /// `bench NUMBER` makes so many generated cells in memory, 1 to 200, and tells what came out.
-/// `agree TECH GDS LEF CELL` tells whether the macro of a cell in the LEF file LEF agrees with the cell in the GDSII file GDS,
-/// or the first difference.
+/// `row TECH SPICE OUT TOP CELL CELL ..` draws 2 to 16 cells as `make` does, and makes the GDSII library `OUT.gds` of them
+/// and of the cell TOP, in which they stand side by side in the words' order.
+/// `agree TECH GDS LEF CELL` tells whether the macro of a cell in the LEF file LEF agrees with the cell in the GDSII
+/// file GDS, or the first difference.
 ///
 /// All memory that is not the desk's own is taken before the first file is made.
 pub fn run<D: Desk>(alloc: Global, words: &[String], desk: &mut D) -> Status
@@ -108,8 +112,11 @@ pub fn run<D: Desk>(alloc: Global, words: &[String], desk: &mut D) -> Status
     ensures write_count { (D.view desk.old).write_faults ≤ (D.view desk.new).write_faults }
     ensures short_count { (D.view desk.old).shorts ≤ (D.view desk.new).shorts }
 
-    // `make` alone makes files, and none where it ends with another status than its own, WriteFault or NoMemory.
-    ensures made { (IsMake (asked words.now) → ⊥) → (D.view desk.new).made ≡ (D.view desk.old).made }
+    // `make` and `row` alone make files: `make` none where it ends with another status than its own, WriteFault or
+    // NoMemory, and `row` none but where it is Done, or ends with one of these two.
+    ensures made { (MayMakeFiles (asked words.now) → ⊥) → (D.view desk.new).made ≡ (D.view desk.old).made }
+    ensures alone { IsRow (asked words.now)
+        → MayLeaveFile result ⊎ ((D.view desk.new).made ≡ (D.view desk.old).made) }
     ensures none { MakesNone result → (D.view desk.new).made ≡ (D.view desk.old).made }
     ensures unmade { result ≡ status.NoMemory
         → Rose (D.view desk.old).shorts (D.view desk.new).shorts
@@ -181,6 +188,22 @@ pub fn run<D: Desk>(alloc: Global, words: &[String], desk: &mut D) -> Status
     // The files that a `make` left behind agree.
     ensures agrees_made { IfCalm (D.view desk.old) (D.view desk.new) (λ files.
         ComparesMade files (asked words.now) → IsOrShort status.Done result) }
+
+    // What `row` leaves behind: the library of its cells side by side; or why the first cell that is not made has no
+    // drawing, or no inputs; or why its cells do not stand side by side.
+    ensures rowed { IfSome (D.view desk.old).given (λ files. WhereRowEnds files (asked words.now) result
+        status.Done (λ r out. IsRowedLibrary r out (D.view desk.old) (D.view desk.new))) }
+    ensures stopped { (settled : Status) → IsStopStatus settled
+        → IfSome (D.view desk.old).given (λ files. WhereRowEnds files (asked words.now) result settled
+        (λ r out. IsStoppedRow r result (D.view desk.old) (D.view desk.new))) }
+    ensures misread { IfSome (D.view desk.old).given (λ files. IsRow (asked words.now) → result ≡ status.Input
+        → IsMisreadRow files (asked words.now) (D.view desk.old) (D.view desk.new)) }
+    ensures unabutted { IfSome (D.view desk.old).given (λ files. WhereRowEnds files (asked words.now) result
+        status.Row (λ r out. IsUnabuttedRow r (D.view desk.old) (D.view desk.new))) }
+
+    // Where the cells can be made and stand side by side, it is done, or memory ran out.
+    ensures rows { IfCalm (D.view desk.old) (D.view desk.new) (λ files.
+        OfRow files (asked words.now) (λ r out. CanBeRowed r) → IsDoneOrShort result) }
 
     // What `bench` tells: the counts of what making each generated cell comes to. It is done, or writing failed, or
     // memory ran out.

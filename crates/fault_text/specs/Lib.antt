@@ -2,5 +2,6 @@
 pub mod AbstractFaults
 pub mod Faults
 pub mod LayoutFaults
+pub mod RowFaults
 -- What inner contracts and proofs alone cite.
 pub mod Fields

@@ -16,6 +16,7 @@ make TECH SPICE CELL OUT --dogleg
 make TECH SPICE CELL OUT --taps
 make TECH SPICE CELL OUT --dogleg --taps
 extract TECH GDS CELL --taps
+row TECH SPICE OUT TOP CELL CELL ..
 agree TECH GDS LEF CELL
 ";
 

@@ -2,11 +2,12 @@ use Rattle.std.proofs.Common.{refl, ◌∙◌}
 use Rattle.call_words.specs.Words.{asked}
 use Rattle.cell_run.proofs.AgreeTold.{agreed_told, agrees_told, disagreed_told, disagrees_told, unextracted_told, unextracts_told}
 use Rattle.cell_run.proofs.BenchTold.{benched_told, benches_told}
-use Rattle.cell_run.proofs.ExtractTold.{breaks_told, broken_told, extracted_told, extracts_told, refused_told, refuses_told}
+use Rattle.cell_run.proofs.ExtractTold.{breaks_told, broken_told, extracted_told, extracts_told, layout_faults_told, layout_told}
 use Rattle.cell_run.proofs.MadeCompared.{agrees_made_told}
 use Rattle.cell_run.proofs.MakeTold.{cyclic_told, drawn_told, draws_told, meets_told, needs_told, spent_told, tall_told}
+use Rattle.cell_run.proofs.RowTold.{misread_told, rowed_told, rows_told, stopped_told, unabutted_told}
 use Rattle.cell_run.proofs.Unmade.{none_told, unmade_told}
-use Rattle.cell_run.proofs.Telling.{accepts_told, answers, called_for_told, checked_told, completes_told, made_told, memory_told, planned_told, read_told, same_reads_told, status_told, usage_told, write_told}
+use Rattle.cell_run.proofs.Telling.{accepts_told, alone_told, answers, called_for_told, checked_told, completes_told, made_told, memory_told, planned_told, read_told, same_reads_told, status_told, usage_told, write_told}
 use Rattle.cell_run.proofs.call.run.Goals as goal
 
 pub returns-clause-ends : goal.returns-clause-ends
@@ -92,7 +93,7 @@ pub returns-clause-broken : goal.returns-clause-broken
 returns-clause-broken g c = broken_told (g.D.Desk.view c.args.desk.now) (g.D.Desk.view c.deliver.new.desk) (asked c.args.words.now) c.deliver.result (g.D.Desk.view c.args.desk.now).given (returns-clause-called_for g c)
 
 pub returns-clause-refused : goal.returns-clause-refused
-returns-clause-refused g c = refused_told (g.D.Desk.view c.args.desk.now) (g.D.Desk.view c.deliver.new.desk) (asked c.args.words.now) c.deliver.result (g.D.Desk.view c.args.desk.now).given (returns-clause-called_for g c)
+returns-clause-refused g c = layout_told (g.D.Desk.view c.args.desk.now) (g.D.Desk.view c.deliver.new.desk) (asked c.args.words.now) c.deliver.result (g.D.Desk.view c.args.desk.now).given (returns-clause-called_for g c)
 
 pub returns-clause-extracts : goal.returns-clause-extracts
 returns-clause-extracts g c = extracts_told (g.D.Desk.view c.args.desk.now) (g.D.Desk.view c.deliver.new.desk) (asked c.args.words.now) c.deliver.result (g.D.Desk.view c.args.desk.now).given (returns-clause-completes g c)
@@ -101,7 +102,7 @@ pub returns-clause-breaks : goal.returns-clause-breaks
 returns-clause-breaks g c = breaks_told (g.D.Desk.view c.args.desk.now) (g.D.Desk.view c.deliver.new.desk) (asked c.args.words.now) c.deliver.result (g.D.Desk.view c.args.desk.now).given (returns-clause-completes g c)
 
 pub returns-clause-refuses : goal.returns-clause-refuses
-returns-clause-refuses g c = refuses_told (g.D.Desk.view c.args.desk.now) (g.D.Desk.view c.deliver.new.desk) (asked c.args.words.now) c.deliver.result (g.D.Desk.view c.args.desk.now).given (returns-clause-completes g c)
+returns-clause-refuses g c = layout_faults_told (g.D.Desk.view c.args.desk.now) (g.D.Desk.view c.deliver.new.desk) (asked c.args.words.now) c.deliver.result (g.D.Desk.view c.args.desk.now).given (returns-clause-completes g c)
 
 pub returns-clause-benched : goal.returns-clause-benched
 returns-clause-benched g c = benched_told (g.D.Desk.view c.args.desk.now) (g.D.Desk.view c.deliver.new.desk) (asked c.args.words.now) c.deliver.result (returns-clause-ends g c)
@@ -126,6 +127,24 @@ returns-clause-disagrees g c = disagrees_told (g.D.Desk.view c.args.desk.now) (g
 
 pub returns-clause-unextracts : goal.returns-clause-unextracts
 returns-clause-unextracts g c = unextracts_told (g.D.Desk.view c.args.desk.now) (g.D.Desk.view c.deliver.new.desk) (asked c.args.words.now) c.deliver.result (g.D.Desk.view c.args.desk.now).given (returns-clause-completes g c)
+
+pub returns-clause-alone : goal.returns-clause-alone
+returns-clause-alone g c = alone_told (g.D.Desk.view c.args.desk.now) (g.D.Desk.view c.deliver.new.desk) (asked c.args.words.now) c.deliver.result (returns-clause-ends g c)
+
+pub returns-clause-rowed : goal.returns-clause-rowed
+returns-clause-rowed g c = rowed_told (g.D.Desk.view c.args.desk.now) (g.D.Desk.view c.deliver.new.desk) (asked c.args.words.now) c.deliver.result (g.D.Desk.view c.args.desk.now).given (returns-clause-called_for g c)
+
+pub returns-clause-stopped : goal.returns-clause-stopped
+returns-clause-stopped g c = stopped_told (g.D.Desk.view c.args.desk.now) (g.D.Desk.view c.deliver.new.desk) (asked c.args.words.now) c.deliver.result (g.D.Desk.view c.args.desk.now).given (returns-clause-called_for g c)
+
+pub returns-clause-misread : goal.returns-clause-misread
+returns-clause-misread g c = misread_told (g.D.Desk.view c.args.desk.now) (g.D.Desk.view c.deliver.new.desk) (asked c.args.words.now) c.deliver.result (g.D.Desk.view c.args.desk.now).given (returns-clause-called_for g c)
+
+pub returns-clause-unabutted : goal.returns-clause-unabutted
+returns-clause-unabutted g c = unabutted_told (g.D.Desk.view c.args.desk.now) (g.D.Desk.view c.deliver.new.desk) (asked c.args.words.now) c.deliver.result (g.D.Desk.view c.args.desk.now).given (returns-clause-called_for g c)
+
+pub returns-clause-rows : goal.returns-clause-rows
+returns-clause-rows g c = rows_told (g.D.Desk.view c.args.desk.now) (g.D.Desk.view c.deliver.new.desk) (asked c.args.words.now) c.deliver.result (g.D.Desk.view c.args.desk.now).given (returns-clause-completes g c)
 
 pub returns-clause-agrees_made : goal.returns-clause-agrees_made
 returns-clause-agrees_made g c = agrees_made_told (g.D.Desk.view c.args.desk.now) (g.D.Desk.view c.deliver.new.desk) (asked c.args.words.now) c.deliver.result (g.D.Desk.view c.args.desk.now).given (returns-clause-completes g c)
