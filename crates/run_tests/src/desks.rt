@@ -43,6 +43,7 @@ fn are_fronts(desk: &MemDesk, whole: &MemDesk) -> bool {
     let mut is_cut = false;
     for name in NAMES {
         match (desk.file(name), whole.file(name)) {
+            (None, None) => (),
             (None, _) => is_cut = true,
             (Some(front), Some(bytes)) if !is_cut && bytes.starts_with(front) => {
                 is_cut = front.len() < bytes.len();
@@ -98,6 +99,7 @@ fn ends_by_each_failed_call(rt: HostRuntime) -> Result<(), Fail> {
         ("make t.toml c.sp x3 out", 4, 11),
         ("check t.toml c.sp X3 l.clog", 6, 7),
         ("extract t.toml c.gds x3", 4, 5),
+        ("row t.toml c.sp out pair x3 x3", 4, 7),
         ("bench 1", 0, 1),
     ] {
         let mut whole = desk_over(alloc, &drawing, &[])?;

@@ -22,6 +22,8 @@ mod logs;
 #[cfg(test)]
 mod make;
 #[cfg(test)]
+mod rows;
+#[cfg(test)]
 mod setup;
 #[cfg(test)]
 mod sizes;
