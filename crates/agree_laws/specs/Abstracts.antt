@@ -22,8 +22,8 @@ use Rattle.lef_write.specs.Drawn.{AreAllMetal, AreOfNet}
 use Rattle.lef_write.specs.Ports.{IsPort}
 use Rattle.lef_write.specs.declared.port.Port.{Port}
 
--- The text is read as a macro of the name, a grid unit being so many nanometres; the shapes have a netlist, and the macro
--- agrees with them.
+-- The text is read as a macro of the name, a grid unit being so many nanometres; the shapes have a netlist, and the
+-- macro agrees with them.
 pub record IsAbstractOf (shapes : Shapes) (name : List ℕ) (unit : ℕ) (text : List ℕ) : Type 0 where
   pub cell : Macro
   pub read : macro_in text name unit ≡ Ok cell
@@ -34,8 +34,8 @@ pub record IsAbstractOf (shapes : Shapes) (name : List ℕ) (unit : ℕ) (text :
 abbrev pub IsOfPin : Subckt → Port → Type 0
 IsOfPin cell port = port.pin.0 < cell.pins.pins
 
--- The drawing of a cell, and ports of it. The drawing extracts to fingers, net by net; each port is a shape of metal1 in
--- the net of its pin, and all other metal obstructs.
+-- The drawing of a cell, and ports of it. The drawing extracts to fingers, net by net; each port is a shape of metal1
+-- in the net of its pin, and all other metal obstructs.
 pub record HasPorts (cell : Subckt) (ports : List Port) (d : Drawing) : Type 0 where
   pub rects : length d.shapes.rects < MOST_SHAPES
   pub labels : length d.shapes.labels ≤ 256

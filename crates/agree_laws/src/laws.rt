@@ -20,8 +20,8 @@ pub fn readable_drawings()
         → IsLowDrawing f xs d → 1 ≤ unit → unit ≤ 1000 → IsReadable cell d unit }
 {}
 
-/// The abstract of a cell with these ports agrees with its drawing, and with that drawing with taps. It does nothing: its
-/// contract is the law.
+/// The abstract of a cell with these ports agrees with its drawing, and with that drawing with taps. It does nothing:
+/// its contract is the law.
 pub fn agreeing_abstracts()
     ensures plain { (cell : Subckt) (ports : List Port) (d : Drawing) (unit : ℕ)
         → HasPorts cell ports d → IsReadable cell d unit

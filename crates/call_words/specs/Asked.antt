@@ -14,7 +14,8 @@ pub record CellAsked : Type 0 where
   pub spice : List ℕ
   pub cell : List ℕ
 
--- the technology's file, none for the plain one, the SPICE file, the row's name, and the names of its cells from the left
+-- the technology's file, none for the plain one, the SPICE file, the row's name, and the names of its cells from the
+-- left
 pub record RowAsked : Type 0 where
   pub tech : Option (List ℕ)
   pub spice : List ℕ

@@ -15,9 +15,9 @@ use Rattle.scmos_rules.specs.declared.rules.Deck.{Deck}
 use Rattle.scmos_rules.specs.declared.rules.Deck.TheVariants as deck
 
 -- what a call asks for: `plan TECH SPICE CELL`, `make TECH SPICE CELL OUT`, which may end with `--dogleg` and `--taps`,
--- `check TECH SPICE CELL LOG`, `extract TECH GDS CELL`, whose technology is none for the plain one and which may end with
--- `--taps` for the deck of cells with taps, `bench NUMBER`, `row TECH SPICE OUT TOP CELL CELL ..`, or
--- `agree TECH GDS LEF CELL`
+-- `check TECH SPICE CELL LOG`, `extract TECH GDS CELL`, whose technology is none for the plain one and which may end
+-- with `--taps` for the deck of cells with taps, `bench NUMBER`, `row TECH SPICE OUT TOP CELL CELL ..`, or `agree TECH
+-- GDS LEF CELL`
 pub data Form : Type 0 where
   Plan : (cell : CellAsked) → Form
   Make : (cell : CellAsked) (out : List ℕ) (style : Style) → Form

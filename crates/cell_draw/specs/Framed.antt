@@ -1,5 +1,5 @@
--- What a drawing shows of its frame, whatever its row is: well, selects and rails come first, and all that follows stays clear
--- of them and of the cell's sides.
+-- What a drawing shows of its frame, whatever its row is: well, selects and rails come first, and all that follows
+-- stays clear of them and of the cell's sides.
 use Rattle.std.specs.Prelude.{ℕ, ◌≡◌, ◌≢◌, ◌+◌, ◌-◌, ◌≤◌, ◌⊎◌, ◌++◌, List, length, All, pos, ◌+ℤ◌, ◌≤ℤ◌}
 use Rattle.box_geom.specs.declared.layer.Layer.{Layer}
 use Rattle.box_geom.specs.declared.layer.Layer.TheVariants.{Well, Active, PSelect, NSelect, Metal1, Metal2}
@@ -18,14 +18,15 @@ pub record BeginsWith (first shapes : List Shape) : Type 0 where
   pub others : List Shape
   pub is : shapes ≡ first ++ others
 
--- The distance to the left and to the right side of the cell: at least half of the spacing that the rules ask on the layer, so
--- that cells may stand side by side.
+-- The distance to the left and to the right side of the cell: at least half of the spacing that the rules ask on the
+-- layer, so that cells may stand side by side.
 abbrev pub side_of : Layer → ℕ
 side_of Metal1 = 4
 side_of Metal2 = 4
 side_of _ = 3
 
--- The distance to the lower and to the upper end: metal1 goes up to the rails, poly, which comes next, past the fingers.
+-- The distance to the lower and to the upper end: metal1 goes up to the rails, poly, which comes next, past the
+-- fingers.
 abbrev pub end_of : Layer → ℕ
 end_of Metal1 = RAIL
 end_of _ = ROW_EDGE - END_CAP

@@ -114,8 +114,8 @@ begins_before t line other = holds t.net line other && (other.track == t.track) 
 abbrev pub has_via : List NodePlace → List Trunk → Trunk → NodePlace → Bool
 has_via nodes trunks t node = holds node.net node.line t && has_own_via nodes node && not (list_any (begins_before t node.line) trunks)
 
--- Where the vias of a trunk stand, from left to right: at each node line of its net that it holds, but for those at which a
--- trunk of the net on the same track begins before it and has the via.
+-- Where the vias of a trunk stand, from left to right: at each node line of its net that it holds, but for those at
+-- which a trunk of the net on the same track begins before it and has the via.
 abbrev pub vias_of : List NodePlace → List Trunk → List ℕ → Trunk → List ℕ
 vias_of nodes trunks xs t = map (λ node. x_of xs node.line) (filter (has_via nodes trunks t) nodes)
 

@@ -70,8 +70,8 @@ abbrev pub landing : Frame → Row → ℤ
 landing f N = pos (f.yn + LANDING)
 landing f P = pos f.yp -ℤ pos LANDING
 
--- A rail's strap goes from the rail's inner edge to past the centre. A signal's goes from past the centre, away from the
--- channel, to past the landing via's.
+-- A rail's strap goes from the rail's inner edge to past the centre. A signal's goes from past the centre, away from
+-- the channel, to past the landing via's.
 abbrev pub strap_low : Frame → Row → Option ℕ → ℤ
 strap_low f N None = pos RAIL
 strap_low f P None = centre f P -ℤ pos HALF_METAL
@@ -107,8 +107,8 @@ reach_shapes f row x (Some reach) = around Via x (landing f row) HALF_CUT ∷ br
 abbrev pub contact_shapes : Frame → Contact → List Shape
 contact_shapes f c = around Active c.x (centre f c.row) HALF_PAD ∷ around ContactCut c.x (centre f c.row) HALF_CUT ∷ strap f c.row c.x c.reach ∷ reach_shapes f c.row c.x c.reach
 
--- A gate's poly goes past each finger's outer end. Where a row has no finger it ends at the track, or without a trunk past
--- the other row's channel edge.
+-- A gate's poly goes past each finger's outer end. Where a row has no finger it ends at the track, or without a trunk
+-- past the other row's channel edge.
 abbrev pub gate_low : Frame → Option ℕ → Option ℕ → ℤ
 gate_low f (Some width) track = pos f.yn -ℤ pos (width + END_CAP)
 gate_low f None (Some track) = pos track

@@ -67,14 +67,16 @@ abbrev pub CountsShort : {T : Type 0} → Result T DeskAnswer → ℕ → ℕ �
 CountsShort (Err NoMemory) old new = new ≡ one_more old
 CountsShort _ old new = new ≡ old
 
--- what each call does: it takes the next number, and neither the given files, nor the list of failing calls, nor the most bytes of a call change
+-- what each call does: it takes the next number, and neither the given files, nor the list of failing calls, nor the
+-- most bytes of a call change
 pub record IsAfterCall (old new : MemDesk) : Type 0 where
   pub number : next_call new ≡ one_more (next_call old)
   pub failing : failing_calls new ≡ failing_calls old
   pub most : most_of new ≡ most_of old
   pub given : given_files new ≡ given_files old
 
--- as many bytes of the file from a place on as there are and fit, but no more than the most, were copied to the front of the buffer, and the rest of it is as it was
+-- as many bytes of the file from a place on as there are and fit, but no more than the most, were copied to the front
+-- of the buffer, and the rest of it is as it was
 pub record IsCopied (from most : ℕ) (old new : List ℕ) (count : ℕ) (file : List ℕ) : Type 0 where
   pub many : count ≡ min (min (length file - from) (length old)) most
   pub bytes : take count new ≡ take count (drop from file)

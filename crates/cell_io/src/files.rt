@@ -48,10 +48,7 @@ pub(crate) fn append_to(
     let Some(bytes) = files.get_mut(name) else {
         unreachable!()
     };
-    match bytes.extend(&part[..count]) {
-        Ok(()) => Ok(()),
-        Err(error) => Err(error),
-    }
+    bytes.extend(&part[..count])
 }
 
 // Makes an empty file.

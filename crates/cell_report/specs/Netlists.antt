@@ -51,7 +51,8 @@ net_lines nets = flat_map net_line (enumerate_from 0 nets)
 abbrev pub device_lines : Netlist → Option (List (Option ℕ)) → List ℕ
 device_lines netlist bodies = flat_map (device_line netlist.names bodies) (enumerate_from 0 netlist.devices)
 
--- the cell's name, the numbers of its nets and devices, its nets by number, and its devices, with their bodies where these are told
+-- the cell's name, the numbers of its nets and devices, its nets by number, and its devices, with their bodies where
+-- these are told
 abbrev pub netlist_text : List ℕ → Netlist → Option (List (Option ℕ)) → List ℕ
 netlist_text name netlist bodies =
     text_line (codes "cell ") name

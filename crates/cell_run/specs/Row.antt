@@ -29,8 +29,8 @@ use Rattle.row_run.specs.Row.{IsStoppedEnd, input_end, row_text}
 abbrev pub IsRow : Option Form → Type 0
 IsRow form = IsOfKind Rowing form
 
--- so it is of what a row is made of, where its files are there and the technology is accepted, and of what the name of its
--- file begins with
+-- so it is of what a row is made of, where its files are there and the technology is accepted, and of what the name of
+-- its file begins with
 abbrev pub OfRow : Files → Option Form → (RowInputs → List ℕ → Type 0) → Type 0
 OfRow files form Says = Gathers Rowing files form (λ m. Says m.0 m.1)
 
@@ -47,8 +47,9 @@ pub record HasLibrary (out bytes : List ℕ) (old new : Files) : Type 0 where
   pub others : (name : List ℕ) → name ≢ out ++ codes ".gds" → new name ≡ old name
 
 -- All cells are made, each of them its first least row, drawn. Side by side they obey every rule and extract to the
--- fingers of all of them. The library in `OUT.gds` decodes with the row's name to them side by side, and with each cell's
--- name to the drawing of that. The report says the row's name, the number of its cells, and its width and height.
+-- fingers of all of them. The library in `OUT.gds` decodes with the row's name to them side by side, and with each
+-- cell's name to the drawing of that. The report says the row's name, the number of its cells, and its width and
+-- height.
 pub record IsRowedLibrary (r : RowInputs) (out : List ℕ) (old new : View) : Type 0 where
   pub made : List MadeCell
   pub rowed : IsRowed r made
@@ -57,8 +58,8 @@ pub record IsRowedLibrary (r : RowInputs) (out : List ℕ) (old new : View) : Ty
       Both (Says (first_line status.Done ++ row_text r.top (length r.names) (row_width made) (row_height made)))
       old.said new.said
 
--- The first cell that is not made has no drawing: a ring of nets, a height that is not enough, or a search that spent its
--- budget, whose log is told. No file is made.
+-- The first cell that is not made has no drawing: a ring of nets, a height that is not enough, or a search that spent
+-- its budget, whose log is told. No file is made.
 pub record IsStoppedRow (r : RowInputs) (answer : Status) (old new : View) : Type 0 where
   pub before : List MadeCell
   pub inputs : Inputs

@@ -62,8 +62,8 @@ fn prepare<D: Desk>(alloc: Global, words: &[String], desk: &mut D) -> End
 /// `extract TECH GDS CELL` tells the netlist of a cell of the GDSII file GDS, or the rules that it breaks. With
 /// `--taps` behind CELL the rules are those of cells with taps, and the net of each device's body is told.
 /// `bench NUMBER` makes so many generated cells in memory, 1 to 200, and tells what came out.
-/// `row TECH SPICE OUT TOP CELL CELL ..` draws 2 to 16 cells as `make` does, and makes the GDSII library `OUT.gds` of them
-/// and of the cell TOP, in which they stand side by side in the words' order.
+/// `row TECH SPICE OUT TOP CELL CELL ..` draws 2 to 16 cells as `make` does, and makes the GDSII library `OUT.gds` of
+/// them and of the cell TOP, in which they stand side by side in the words' order.
 /// `agree TECH GDS LEF CELL` tells whether the macro of a cell in the LEF file LEF agrees with the cell in the GDSII
 /// file GDS, or the first difference.
 ///

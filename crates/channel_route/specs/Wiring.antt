@@ -40,10 +40,10 @@ pub record AreJoined (placement : Placement) (a b : Trunk) : Type 0 where
   pub net : node.net ≡ a.net
   pub line : node.line ≡ a.right
 
--- Each net that needs a trunk has one or more, which begin and end at lines of its places; each but the first begins where
--- the one before ends, at a node line, and together they hold every line at which the net has a place. Trunks of different
--- nets on one track have no line in common; where a net stands above another at a line, its trunks that hold the line have
--- the higher tracks; every track has a trunk.
+-- Each net that needs a trunk has one or more, which begin and end at lines of its places; each but the first begins
+-- where the one before ends, at a node line, and together they hold every line at which the net has a place. Trunks of
+-- different nets on one track have no line in common; where a net stands above another at a line, its trunks that hold
+-- the line have the higher tracks; every track has a trunk.
 pub record IsWiring (placement : Placement) (pins : Pins) (routing : Routing) : Type 0 where
   pub nets : (net : NetNo) → HasTrunk placement pins net ↔ Any (λ t. t.net ≡ net) routing.trunks
   pub ends : All (AreEnds placement) routing.trunks

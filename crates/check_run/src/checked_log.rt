@@ -1,4 +1,4 @@
-ghost use Rattle.std.specs.Prelude.{◌≡◌, ◌≢◌, ◌≤◌, ◌<◌, ◌+◌, ℕ, List as Sequence, IfOk, OnOk, length, take};
+ghost use Rattle.std.specs.Prelude.{◌≡◌, ◌≢◌, ◌≤◌, ◌<◌, ◌+◌, IfOk, length, take};
 ghost use Rattle.bound_log.specs.declared.fault.LogFault.TheVariants as misread;
 ghost use Rattle.check_run.specs.LogRead.{AreBegun, AreBehind, HaveRoom};
 

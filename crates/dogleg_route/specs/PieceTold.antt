@@ -1,6 +1,6 @@
--- Which cycle of pieces is told where there are several: that to which a walk comes from the first piece that can not be
--- placed. Each step goes down at the first line at which the piece stands above one that can not be placed, and of several
--- there to the first.
+-- Which cycle of pieces is told where there are several: that to which a walk comes from the first piece that can not
+-- be placed. Each step goes down at the first line at which the piece stands above one that can not be placed, and of
+-- several there to the first.
 use Rattle.std.specs.Prelude.{ℕ, ◌≡◌, ◌<◌, ◌⊎◌, Bool, true, List, [], ◌∷◌}
 use Rattle.std.specs.Bool.{⊤}
 use Rattle.cell_num.specs.declared.net.NetNo.{NetNo}

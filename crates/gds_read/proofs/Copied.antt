@@ -1,5 +1,5 @@
 -- References, and the structures that they draw.
-use Rattle.std.proofs.Common.{ℕ, zero, suc, ◌≡◌, ◌+◌, ◌-◌, ◌<◌, ◌≤◌, nat_lt, arith, length, true, false, List, [], ◌∷◌, Option, Some, None, Result, Ok, Err, refl, sym, subst, ap, ◌∙◌, append_assoc, append-nil, inl, inr, ◌⊎◌}
+use Rattle.std.proofs.Common.{ℕ, zero, suc, ◌≡◌, ◌+◌, ◌-◌, ◌<◌, ◌≤◌, nat_lt, arith, length, List, Option, Some, None, Result, Ok, Err, refl, sym, subst, ap, ◌∙◌, append_assoc, append-nil, inl, inr}
 use Rattle.std.proofs.lemmas.Bool.{cases_Bool, ltb-true, ltb-false}
 use Rattle.gds_record.specs.declared.record.GdsRec.{GdsRec}
 use Rattle.gds_record.specs.declared.types.RecordType.{RecordType}
@@ -18,9 +18,9 @@ use Rattle.cell_num.specs.Steps.{◌>>=◌, or_fault}
 use Rattle.gds_read.specs.Moves.{IsNear}
 use Rattle.gds_read.specs.Taken.{one_reference, nothing_taken, both, amount, within_limit, Adds}
 use Rattle.gds_read.specs.References.{target_in, array_of, Targets}
-use Rattle.gds_read.specs.Elements.{Element, inside_of, element_of, elements_of}
-use Rattle.gds_read.specs.Flat.{File, file_of, around_of, flat, copies_of, copies_in, referred_in, drawn_in, drawn_around, text_by, element_in, flat_in, IsFrame}
-use Rattle.gds_read.proofs.Drawings.{with_front, front_nothing, amount_both, adds_fault_of, fault_of, fault_kept}
+use Rattle.gds_read.specs.Elements.{inside_of, element_of, elements_of}
+use Rattle.gds_read.specs.Flat.{file_of, around_of, flat, copies_of, copies_in, referred_in, drawn_in, drawn_around, text_by, element_in, flat_in, IsFrame}
+use Rattle.gds_read.proofs.Drawings.{with_front, front_nothing, amount_both, fault_kept}
 use Rattle.gds_read.proofs.Limits.{within, beyond}
 use Rattle.std.specs.List.{range_with_len}
 use Rattle.gds_read.specs.declared.placement.Move.{Move}

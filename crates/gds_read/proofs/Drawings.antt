@@ -1,11 +1,9 @@
 -- What is taken in order, and what the elements draw, an element at a time.
-use Rattle.std.proofs.Common.{ℕ, zero, suc, ◌≡◌, ◌+◌, ◌-◌, ◌<◌, ◌≤◌, nat_lt, arith, length, Bool, true, false, is_some, List, [], ◌∷◌, ◌++◌, Option, Some, None, Result, Ok, Err, refl, sym, subst, ap, ◌∙◌, append_assoc, append-nil, ◌⊎◌, inl, inr}
+use Rattle.std.proofs.Common.{ℕ, suc, ◌≡◌, ◌+◌, ◌-◌, ◌<◌, ◌≤◌, arith, Bool, false, is_some, List, [], ◌∷◌, Option, Some, None, Result, Ok, Err, refl, sym, subst, ap, ◌∙◌, append_assoc, append-nil, ◌⊎◌, inl, inr}
 use Rattle.std.specs.Prelude.{if◌then◌else◌}
 use Rattle.std.specs.List.{range_with_len}
-use Rattle.std.proofs.lemmas.Bool.{cases_Bool, ne_eqb, ltb-true, ltb-false}
+use Rattle.std.proofs.lemmas.Bool.{cases_Bool, ne_eqb}
 use Rattle.std.proofs.Common.{length-append}
-use Rattle.box_geom.specs.declared.shape.Shape.{Shape}
-use Rattle.box_geom.specs.declared.shape.Label.{Label}
 use Rattle.box_geom.specs.declared.shape.Shapes.{Shapes}
 use Rattle.gds_record.specs.declared.record.GdsRec.{GdsRec}
 use Rattle.gds_record.specs.declared.record.RecFault.{RecFault}

@@ -1,5 +1,5 @@
 -- Structures that stand in structures.
-use Rattle.std.proofs.Common.{ℕ, ◌≡◌, ◌≤◌, ◌+◌, ◌*◌, ◌^◌, ℤ, pos, neg_ℤ, ◌+ℤ◌, ◌≤ℤ◌, Bool, true, false, ◌-◌, refl, sym, subst, ap, ◌∙◌, arith, w64, to_z, of_z}
+use Rattle.std.proofs.Common.{ℕ, ◌≡◌, ◌≤◌, ◌+◌, ◌^◌, ℤ, pos, neg_ℤ, ◌+ℤ◌, ◌≤ℤ◌, Bool, true, false, ◌-◌, refl, sym, subst, ◌∙◌, arith, w64, to_z, of_z}
 use Rattle.std.specs.Int.{w128}
 use Rattle.std.proofs.lemmas.Int.{ints}
 use Rattle.gds_read.specs.declared.placement.Turn.{Turn}
@@ -7,7 +7,7 @@ use Rattle.gds_read.specs.declared.placement.Turn.TheVariants as turn
 use Rattle.gds_read.specs.declared.placement.Vector.{Vector}
 use Rattle.gds_read.specs.declared.placement.Move.{Move}
 use Rattle.gds_read.specs.declared.area.Area.{Area}
-use Rattle.gds_read.specs.Moves.{mirrored, turned, faced, moved, moved_area, stays, composed, offset_of, IsNear}
+use Rattle.gds_read.specs.Moves.{mirrored, turned, faced, moved_area, stays, composed, offset_of, IsNear}
 
 -- both coordinates lie between a number and its negative
 record AreWithin (n : ℕ) (v : Vector) : Type 0 where

@@ -7,7 +7,7 @@ use Rattle.gds_record.specs.declared.record.RecFault.{RecFault}
 use Rattle.gds_record.specs.declared.types.RecordType.{RecordType}
 use Rattle.gds_record.specs.declared.types.RecordType.TheVariants as record_type
 use Rattle.gds_record.specs.Types.{number_of}
-use Rattle.gds_record.specs.Records.{Item, item_of, record_at, items_from}
+use Rattle.gds_record.specs.Records.{Item, record_at, items_from}
 use Rattle.gds_record.proofs.Walks.{items_end, items_more}
 use Rattle.gds_read.specs.Structure.{is_type}
 use Rattle.gds_read.specs.References.{times, stands_twice}

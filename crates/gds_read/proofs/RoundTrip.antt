@@ -1,11 +1,10 @@
 -- What is written is read back.
-use Rattle.std.proofs.Common.{ℕ, suc, ◌≡◌, ◌+◌, ◌*◌, ◌≤◌, List, [], ◌∷◌, ◌++◌, length, map, None, Result, Ok, refl, sym, ap, ◌∙◌, arith, length-append, append-nil}
+use Rattle.std.proofs.Common.{ℕ, ◌≡◌, ◌+◌, ◌*◌, ◌≤◌, List, [], ◌∷◌, ◌++◌, length, map, None, Result, Ok, refl, ap, ◌∙◌, arith, length-append, append-nil}
 use Rattle.std.specs.List.{All, AllPairs, Contains, flat_map}
 use Rattle.std.proofs.lemmas.List.Elements.{All-contains, All-nil, All-same, All-weaker}
 use Rattle.cell_num.proofs.Lists.{all_one, contains_here}
 use Rattle.box_geom.specs.Rectangle.{IsProper, IsRectangle}
 use Rattle.box_geom.specs.declared.shape.Shape.{Shape}
-use Rattle.box_geom.specs.declared.shape.Label.{Label}
 use Rattle.box_geom.specs.declared.shape.Shapes.{Shapes}
 use Rattle.gds_record.specs.declared.types.RecordType.TheVariants as record_type
 use Rattle.gds_record.specs.Records.{Raw, raw, Item, Stream, placed}
@@ -26,7 +25,7 @@ use Rattle.gds_read.proofs.RoundTripRedrawn.{file, shape_by, rectangles_taken, l
 use Rattle.gds_read.proofs.RoundTripReferred.{items, found_of, references_taken, shown_by}
 use Rattle.gds_write.specs.declared.library.Ref.{Ref}
 use Rattle.gds_write.specs.declared.library.Struct.{Struct}
-use Rattle.gds_write.specs.Written.{rectangle_records, reference_records, label_records, library_of, cell_of, written, IsWritableStruct, IsWritableRef, IsWritableLabel, IsLabelUpTo}
+use Rattle.gds_write.specs.Written.{reference_records, label_records, library_of, cell_of, written, IsWritableStruct, IsWritableRef, IsWritableLabel, IsLabelUpTo}
 
 same_shapes : (rects : List Shape) → map (shape_by (λ r. r)) rects ≡ rects
 same_shapes [] = refl

@@ -1,5 +1,5 @@
 -- The first pass accepts what is written, up to its end.
-use Rattle.std.proofs.Common.{ℕ, ◌≡◌, List, [], ◌∷◌, ◌++◌, length, Bool, true, false, Ok, refl, ap, ◌∙◌, arith}
+use Rattle.std.proofs.Common.{ℕ, ◌≡◌, List, [], ◌∷◌, length, Bool, true, false, Ok, refl, ap, ◌∙◌, arith}
 use Rattle.std.specs.List.{All}
 use Rattle.std.proofs.Math.Seq.{drop-length}
 use Rattle.gds_record.specs.declared.record.RecFault.{RecFault}
@@ -11,7 +11,7 @@ use Rattle.gds_read.specs.Grammar.{pass, zeros_behind, first_pass_of}
 use Rattle.gds_write.specs.declared.library.Struct.{Struct}
 use Rattle.gds_write.specs.Written.{library_of, IsWritableStruct}
 use Rattle.gds_write.proofs.Pieces.{point_length, corners_length}
-use Rattle.gds_read.proofs.RoundTripNested.{structures_records, elements_records, library_items, all_nested, library_records_are, IsKept, along_elements}
+use Rattle.gds_read.proofs.RoundTripNested.{structures_records, library_items, all_nested, library_records_are, IsKept, along_elements}
 
 -- inside a structure the records are accepted, wherever they stand
 abbrev IsAccepted : List ℕ → RecFault → List Raw → Type 0

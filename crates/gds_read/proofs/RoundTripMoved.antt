@@ -1,18 +1,15 @@
 -- What a reference moves without a turn, in grid units and in file units.
-use Rattle.std.proofs.Common.{ℕ, zero, suc, ◌≡◌, ◌+◌, ◌*◌, ◌<◌, ◌≤◌, ℤ, pos, neg_ℤ, ◌+ℤ◌, ◌*ℤ◌, ◌≤ℤ◌, unsigned_abs, false, refl, ap, ◌∙◌, arith}
+use Rattle.std.proofs.Common.{ℕ, zero, suc, ◌≡◌, ◌≤◌, ℤ, pos, ◌+ℤ◌, ◌*ℤ◌, unsigned_abs, false, refl, ap, ◌∙◌, arith}
 use Rattle.std.proofs.lemmas.Int.{ints}
 use Rattle.std.proofs.Math.IntN.{*ℤ_comm, *ℤ-zero, suc_ℤ-*ℤ}
 use Rattle.box_geom.specs.Rectangle.{Rectangle, IsProper, IsRectangle}
-use Rattle.gds_read.specs.declared.area.Area.{Area}
-use Rattle.gds_read.specs.declared.area.Span.{Span}
 use Rattle.gds_read.specs.declared.placement.Turn.TheVariants as turn
 use Rattle.gds_read.specs.declared.placement.Move.{Move}
-use Rattle.gds_read.specs.Areas.{area_of, span_of}
+use Rattle.gds_read.specs.Areas.{area_of}
 use Rattle.gds_read.specs.Moves.{moved_area, stays}
 use Rattle.gds_read.specs.RoundTrip.{rect_moved}
 use Rattle.gds_read.proofs.Moved.{area_stays}
-use Rattle.gds_read.proofs.RoundTripWords.{scaled_up, few_units, IsLimited}
-use Rattle.gds_write.specs.Written.{Fits}
+use Rattle.gds_read.proofs.RoundTripWords.{scaled_up}
 
 -- so many grid units in x and in y, of so many file units each
 abbrev pub shift_by : ℕ → ℤ → ℤ → Move

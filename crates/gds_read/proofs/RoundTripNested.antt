@@ -5,7 +5,7 @@ use Rattle.box_geom.specs.declared.shape.Shape.{Shape}
 use Rattle.box_geom.specs.declared.shape.Label.{Label}
 use Rattle.gds_record.specs.declared.record.RecFault.TheVariants.{Cut}
 use Rattle.gds_record.specs.declared.types.RecordType.TheVariants as record_type
-use Rattle.gds_record.specs.Records.{Raw, raw, Stream, placed, records_from}
+use Rattle.gds_record.specs.Records.{Raw, raw, placed, records_from}
 use Rattle.gds_write.specs.declared.library.Ref.{Ref}
 use Rattle.gds_write.specs.declared.library.Struct.{Struct}
 use Rattle.gds_write.specs.Written.{padded, times, rectangle_records, reference_records, label_records, structure_records, head_records, all_records, library_of, IsWritableStruct}

@@ -27,7 +27,7 @@ use Rattle.gds_read.specs.References.{target_in, the_one, array_of, single, copy
 use Rattle.gds_read.specs.Flat.{File, Below, around_of, inside_copy, copies_of, row_of, referred, one_level, flat}
 use Rattle.gds_write.specs.declared.library.Ref.{Ref}
 use Rattle.gds_write.specs.declared.library.Struct.{Struct}
-use Rattle.gds_write.specs.Written.{point, padded, rectangle_records, reference_records, label_records, Fits, IsWritableShape, IsWritableRef}
+use Rattle.gds_write.specs.Written.{rectangle_records, reference_records, label_records, IsWritableShape, IsWritableRef}
 use Rattle.gds_write.proofs.Pieces.{point_length}
 use Rattle.gds_read.specs.RoundTrip.{HasNoZeroEnd, IsReadableStruct, AreReadable, IsToPlain, structure_named, rects_of, rect_moved, shape_moved, referred_rects}
 use Rattle.gds_read.proofs.Copied.{same_taken}

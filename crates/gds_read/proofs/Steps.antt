@@ -1,9 +1,8 @@
 -- The steps of an array stay near.
-use Rattle.std.proofs.Common.{ℕ, suc, ◌≡◌, ◌+◌, ◌*◌, ◌/◌, ◌^◌, ◌<◌, ◌≤◌, ℤ, pos, negsuc, neg_ℤ, ◌*ℤ◌, ◌≤ℤ◌, ap, sym, subst, refl, ◌∙◌, ◌-ℤ◌, arith, w32, w64, to_z, of_z}
-use Rattle.std.specs.Prelude.{FitsSigned}
+use Rattle.std.proofs.Common.{ℕ, suc, ◌/◌, ◌^◌, ◌≤◌, ℤ, pos, negsuc, neg_ℤ, ◌≤ℤ◌, arith}
 use Rattle.std.specs.Int.{int_div_euclid}
 use Rattle.std.proofs.lemmas.Int.{ints}
-use Rattle.std.proofs.Math.Nat.{mul-le-mul, div-mul-le_self, div-le_self}
+use Rattle.std.proofs.Math.Nat.{div-le_self}
 use Rattle.gds_read.specs.declared.placement.Move.{Move}
 use Rattle.gds_read.specs.Moves.{IsNear}
 

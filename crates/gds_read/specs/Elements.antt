@@ -1,13 +1,12 @@
 -- What the elements of a structure draw.
-use Rattle.std.specs.Prelude.{ℕ, ◌≡◌, ◌+◌, ◌*◌, ◌==◌, not, is_some, nat_lt, ℤ, List, [], ◌∷◌, ◌++◌, length, map, find, option_map, Option, Some, None, Result, Ok, Err, if◌then◌else◌}
+use Rattle.std.specs.Prelude.{ℕ, ◌+◌, ◌*◌, ◌==◌, not, is_some, ℤ, List, [], ◌∷◌, length, map, find, option_map, Option, Some, None, Result, Ok, Err, if◌then◌else◌}
 use Rattle.box_geom.specs.declared.layer.Layer.{Layer}
-use Rattle.box_geom.specs.declared.shape.Shape.{Shape}
 use Rattle.box_geom.specs.declared.shape.Shapes.{Shapes}
 use Rattle.gds_record.specs.declared.types.RecordType.{RecordType}
 use Rattle.gds_record.specs.declared.types.RecordType.TheVariants as record_type
 use Rattle.gds_record.specs.Layers.{layer_numbered}
 use Rattle.gds_record.specs.Types.{number_of, type_numbered}
-use Rattle.gds_record.specs.Records.{Item, item_of, items_from}
+use Rattle.gds_record.specs.Records.{Item, items_from}
 use Rattle.gds_record.specs.declared.record.GdsRec.{GdsRec}
 use Rattle.gds_read.specs.declared.fault.GdsFault.{GdsFault}
 use Rattle.gds_read.specs.declared.fault.GdsFault.TheVariants as fault
@@ -21,7 +20,7 @@ use Rattle.gds_read.specs.declared.placement.Move.{Move}
 use Rattle.gds_read.specs.declared.taken.Taken.{Taken}
 use Rattle.gds_read.specs.Taken.{nothing_drawn, nothing_taken, rectangles, within_limit}
 use Rattle.gds_read.specs.Units.{floor_units_of}
-use Rattle.gds_read.specs.Structure.{is_type, trimmed}
+use Rattle.gds_read.specs.Structure.{is_type}
 use Rattle.gds_read.specs.Points.{signed_at, points_of, has_slant, closed}
 use Rattle.gds_read.specs.EvenOdd.{boundary_rectangles}
 use Rattle.gds_read.specs.Paths.{width_of, past_ends, path_areas}

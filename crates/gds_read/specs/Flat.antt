@@ -1,5 +1,5 @@
 -- What the elements of a structure draw, with the structures that they refer to.
-use Rattle.std.specs.Prelude.{ℕ, zero, suc, ◌≡◌, ◌≤◌, ◌+◌, ◌-◌, List, [], ◌∷◌, length, Option, Some, None, Result, Ok, Err}
+use Rattle.std.specs.Prelude.{ℕ, zero, suc, ◌≡◌, ◌≤◌, ◌+◌, ◌-◌, List, Option, Some, None, Result, Ok, Err}
 use Rattle.std.specs.List.{range_with_len}
 use Rattle.box_geom.specs.declared.shape.Shapes.{Shapes}
 use Rattle.gds_record.specs.declared.types.RecordType.{RecordType}
@@ -19,7 +19,7 @@ use Rattle.gds_read.specs.declared.taken.Frame.{Frame}
 use Rattle.gds_read.specs.declared.reference.Copies.{Copies}
 use Rattle.gds_read.specs.Structure.{trimmed}
 use Rattle.gds_read.specs.Moves.{stays, composed, IsNear}
-use Rattle.gds_read.specs.Taken.{plain, nothing_taken, one_reference, both, amount, within_limit, in_order}
+use Rattle.gds_read.specs.Taken.{plain, nothing_taken, one_reference, both, within_limit, in_order}
 use Rattle.gds_read.specs.References.{target_in, array_of, copy_at}
 use Rattle.gds_read.specs.Elements.{Element, until, element_of, elements_of, content_of, xy_place, areas_of, drawn_on, pen_for, text_spot, with_label}
 use Rattle.cell_num.specs.Steps.{◌>>=◌, or_fault}

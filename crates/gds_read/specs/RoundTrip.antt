@@ -1,5 +1,5 @@
 -- Which cells are read back as they were written, and what is read of a library of several structures.
-use Rattle.std.specs.Prelude.{ℕ, ◌≡◌, ◌≤◌, ◌+◌, ℤ, ◌+ℤ◌, List, [], ◌∷◌, ◌++◌, length, map, find, Option, Some, None, All}
+use Rattle.std.specs.Prelude.{ℕ, ◌≡◌, ◌≤◌, ℤ, ◌+ℤ◌, List, [], ◌∷◌, ◌++◌, length, map, find, Option, Some, None, All}
 use Rattle.std.specs.List.{AllPairs, Contains, flat_map}
 use Rattle.std.specs.Str.{bytes_eq}
 use Rattle.box_geom.specs.Rectangle.{Rectangle, IsRectangle}

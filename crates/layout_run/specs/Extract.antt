@@ -47,8 +47,8 @@ AreBodiesOf deck.Plain shapes netlist bodies = bodies ≡ None
 AreBodiesOf deck.Taps shapes netlist None = ⊥
 AreBodiesOf deck.Taps shapes netlist (Some bodies) = ExtractsBodies shapes (record { netlist = netlist; bodies = bodies })
 
--- A drawing obeys all rules of the deck, and this is its netlist; or these are the rules that it breaks; or it has too many
--- rectangles; or it obeys all rules, and this is why it has no netlist.
+-- A drawing obeys all rules of the deck, and this is its netlist; or these are the rules that it breaks; or it has too
+-- many rectangles; or it obeys all rules, and this is why it has no netlist.
 abbrev pub IsDrawingAnswer : Deck → Shapes → ExtractAnswer → Type 0
 IsDrawingAnswer d shapes (Extracted netlist bodies) =
     Obeys d shapes.rects × Extracts d shapes netlist × AreBodiesOf d shapes netlist bodies

@@ -77,8 +77,8 @@ fn takes_so_many(rt: HostRuntime) -> Result<(), Fail> {
     Ok(())
 }
 
-// Each of 9,970 bars of active lies in 30 wells and in 31 places outside. To look at each pair of the 608,170 pieces would
-// take minutes. `rt try` may want `--seconds 400` for it.
+// Each of 9,970 bars of active lies in 30 wells and in 31 places outside. To look at each pair of the 608,170 pieces
+// would take minutes. `rt try` may want `--seconds 400` for it.
 #[test]
 fn takes_many_pieces(rt: HostRuntime) -> Result<(), Fail> {
     let alloc = rt.alloc();

@@ -40,8 +40,8 @@ trunk_port pin placed = if placed.0.net.0 == pin.0 then Some (port_with pin plac
 abbrev pub trunk_ports : NetNo → List Trunk → List ℕ → List Port
 trunk_ports pin trunks places = filter_map (trunk_port pin) (zip trunks places)
 
--- A pin's rail, or else all trunks of its net. Of the metal1 shapes of a drawing the first is the gnd rail, the second the vdd
--- rail, and the last are the trunks of its wiring, in their order.
+-- A pin's rail, or else all trunks of its net. Of the metal1 shapes of a drawing the first is the gnd rail, the second
+-- the vdd rail, and the last are the trunks of its wiring, in their order.
 abbrev pub pin_ports : Pins → List Trunk → List ℕ → NetNo → List Port
 pin_ports pins trunks metal pin =
     if pin.0 == pins.gnd.0 then rail_port pin (slice_get metal 0) else

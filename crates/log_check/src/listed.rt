@@ -1,7 +1,6 @@
-ghost use Rattle.std.specs.Prelude.{◌≡◌, ◌≤◌, ◌↔◌, All, IsTrue, IfOk, IfErr, length, map, option_map};
+ghost use Rattle.std.specs.Prelude.{◌≡◌, ◌↔◌, All, IsTrue, IfOk, IfErr, map};
 ghost use Rattle.std.specs.List.{list_all};
 ghost use Rattle.cell_num.specs.Fingers.{AreFingers};
-ghost use Rattle.row_model.specs.Gaps.{gaps_of};
 ghost use Rattle.log_check.specs.Accepted.{columns_listed, IsListed, IsRow, RowPasses};
 ghost use Rattle.log_check.specs.Refusal.{RowRefuses};
 ghost use Rattle.log_check.specs.Tests.{place_test, listed_test};

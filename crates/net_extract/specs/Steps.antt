@@ -17,7 +17,8 @@ pub record AreNamed (deck : Deck) (shapes : Shapes) (firsts : List Site) (named 
   pub agreed : IsAgreed named.held.items (length firsts)
   pub are : named.names ≡ names_of named.held.items (length firsts)
 
--- the connections, the wells where taps are tied, the gates, the devices and the labels of a drawing that is not refused
+-- the connections, the wells where taps are tied, the gates, the devices and the labels of a drawing that is not
+-- refused
 pub record IsMapped (deck : Deck) (shapes : Shapes) (m : Mapped) : Type 0 where
   pub few : AreFew shapes
   pub limits : AreWithinLimits shapes.rects

@@ -1,6 +1,6 @@
-// Classes of pieces: each is labelled by the number of its first piece. Pieces that are bonded come into one tree, whose
-// root is its least number: first those of one kind that touch, each tried with those behind it up to the first that
-// begins above it, then those that a contact or a via links. Last come the ties, which reach over any distance.
+// Classes of pieces: each is labelled by the number of its first piece. Pieces that are bonded come into one tree,
+// whose root is its least number: first those of one kind that touch, each tried with those behind it up to the first
+// that begins above it, then those that a contact or a via links. Last come the ties, which reach over any distance.
 ghost use Rattle.std.specs.Prelude.{◌≡◌, ◌<◌, ◌≤◌, [], ℕ, length, get_or, int_lt, IfOk, IfSome, None, All, IsSorted};
 ghost use Rattle.std.specs.List.{range_with_len};
 ghost use Rattle.box_geom.specs.Rectangle.{IsProper};

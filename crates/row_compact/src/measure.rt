@@ -1,5 +1,5 @@
-// The distances that lines keep, in grid units of half a lambda. Each is what shapes take on both sides and the rule of the
-// profile between them.
+// The distances that lines keep, in grid units of half a lambda. Each is what shapes take on both sides and the rule of
+// the profile between them.
 
 /// From the left side of the cell to the first line, and from the last line to the right side: half a metal2
 /// wire (4), and half of what rule 9.2 keeps between it and one of the next cell (4).

@@ -99,8 +99,8 @@ abbrev pub row_height : List MadeCell → ℕ
 row_height made = first_height (row_cells made)
 
 -- All cells are made. Side by side they obey every rule and extract, net by net, to the fingers of all of them, where
--- the nets of cell K but the rails are named `K#name`. The library decodes with the row's name to them side by side, and
--- with each cell's name to the drawing of that.
+-- the nets of cell K but the rails are named `K#name`. The library decodes with the row's name to them side by side,
+-- and with each cell's name to the drawing of that.
 pub record IsRowed (r : RowInputs) (made : List MadeCell) : Type 0 where
   pub cells : AreMade r r.names made
   pub obeys : Obeys Plain (flat_row (row_cells made)).rects

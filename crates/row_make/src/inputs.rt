@@ -6,8 +6,8 @@ use cell_num::{Bytes, Name, Names};
 use std::marker::Model;
 use tech_file::Tech;
 
-/// What a row of cells is made of. All names are ones that [`is_cell`](cell_num::is_cell) takes; the row's is none of the
-/// cells'.
+/// What a row of cells is made of. All names are ones that [`is_cell`](cell_num::is_cell) takes; the row's is none of
+/// the cells'.
 #[derive(Drop)]
 pub struct RowInputs {
     pub tech: Tech,

@@ -81,8 +81,8 @@ pub record IsSolved (value : Row → State → Kinds → ℕ) (k : Kinds) (f : F
   pub kept : length log.lemmas + columns_of f + 1 ≤ budget
   pub searched : IsSearchLog value k f log
 
--- The evidence of a search whose budget is spent: the log lists no row, and its lemmas are as many as the budget
--- has nodes but for those of one row. The best bound of the start state is proved: no arrangement has fewer gaps. A budget
+-- The evidence of a search whose budget is spent: the log lists no row, and its lemmas are as many as the budget has
+-- nodes but for those of one row. The best bound of the start state is proved: no arrangement has fewer gaps. A budget
 -- that is enough is never spent.
 pub record IsSpent (value : Row → State → Kinds → ℕ) (k : Kinds) (f : Fingers) (budget : ℕ) (log : Log) (proved : ℕ) : Type 0 where
   pub lists_none : IsNone log.best

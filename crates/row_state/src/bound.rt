@@ -65,7 +65,8 @@ pub trait RowBound {
         ensures { result ≡ version_of self.now };
 
     /// Every completion has at least so many further gaps.
-    ghost holds: { (b : Self) (row : Row) (s : State) (k : Kinds) → AreSomeKinds k → IsState k s → Need k s (value b row s k) };
+    ghost holds: { (b : Self) (row : Row) (s : State) (k : Kinds) → AreSomeKinds k → IsState k s →
+        Need k s (value b row s k) };
 
     /// Logs have such versions.
     ghost known: { (b : Self) → IsVersion (version_of b) };

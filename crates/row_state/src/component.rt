@@ -1,4 +1,4 @@
-ghost use Rattle.std.specs.Prelude.{refl, ◌≡◌, ◌≤◌, ◌<◌, ◌==◌, if◌then◌else◌, ltb, ℕ, All, IfSome, length};
+ghost use Rattle.std.specs.Prelude.{refl, ◌≡◌, ◌≤◌, ◌<◌, ◌==◌, if◌then◌else◌, ℕ, All, IfSome, length};
 ghost use Rattle.std.proofs.Common.{inr};
 ghost use Rattle.cell_num.specs.declared.finger.Row.{Row as RowOf};
 ghost use Rattle.cell_num.specs.Fingers.{sum_below};
@@ -7,7 +7,7 @@ ghost use Rattle.row_state.specs.Completion.{fingers_left};
 ghost use Rattle.row_state.specs.Component.{component_trails, component_value, fewest_trails, further_trails, has_finger, size_in};
 ghost use Rattle.row_state.specs.ComponentLaw.{component_holds};
 ghost use Rattle.row_state.specs.Start.{IsKind, IsState};
-ghost use Rattle.row_state.specs.Tests.{entry, flag, kinds_in, left_of};
+ghost use Rattle.row_state.specs.Tests.{entry, flag, left_of};
 ghost use Rattle.row_state.specs.Trails.{end_of};
 
 use crate::bound::are_above;

@@ -147,8 +147,8 @@ fn are_same_gates(p: &[Kind], n: &[Kind]) -> bool
         .all(|pair| pair.0.gate == pair.1.gate)
 }
 
-// Whether the kinds of the rows have the same gates one by one, and as many fingers left: so it is in most states, since most
-// columns fill both places. Then both rows have as many left on each gate.
+// Whether the kinds of the rows have the same gates one by one, and as many fingers left: so it is in most states,
+// since most columns fill both places. Then both rows have as many left on each gate.
 pub(crate) fn are_level(state: &State, kinds: &Kinds) -> bool
     requires p_fits { IsTrue (counts_fit kinds.now.p state.now.p_left) }
     requires n_fits { IsTrue (counts_fit kinds.now.n state.now.n_left) }

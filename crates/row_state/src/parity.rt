@@ -1,6 +1,5 @@
-ghost use Rattle.std.specs.Prelude.{◌<◌, All, IfSome, cond, false, not, slice_index_or, ◌≡◌, ◌≤◌, ◌+◌, ◌-◌, ◌/◌, ◌%◌, ◌==◌, if◌then◌else◌, ltb, ℕ, length, refl};
+ghost use Rattle.std.specs.Prelude.{◌<◌, All, IfSome, cond, false, not, slice_index_or, ◌≡◌, ◌≤◌, ◌+◌, ◌-◌, ◌/◌, ◌%◌, ◌==◌, if◌then◌else◌, ℕ, length, refl};
 ghost use Rattle.std.proofs.Common.{inl};
-ghost use Rattle.cell_num.specs.Fingers.{sum_below};
 ghost use Rattle.row_state.specs.Law.{parity_holds};
 ghost use Rattle.row_state.specs.Parity.{parity_value};
 ghost use Rattle.row_state.specs.declared.kind.Kinds.{Kinds as KindsOf};

@@ -82,8 +82,8 @@ fn refuses_fronts_of_files(rt: HostRuntime) -> Result<(), Fail> {
     Ok(())
 }
 
-// One rectangle more than a structure may have: the first one of a made cell, again and again. It takes a moment as it is
-// built, and some minutes in `rt try`, which wants `--seconds 900` for it.
+// One rectangle more than a structure may have: the first one of a made cell, again and again. It takes a moment as it
+// is built, and some minutes in `rt try`, which wants `--seconds 900` for it.
 #[test]
 fn refuses_a_wide_structure(rt: HostRuntime) -> Result<(), Fail> {
     let alloc = rt.alloc();

@@ -1,4 +1,5 @@
--- The ends that are certain: each odd node that no later gate can meet, and two for each class without odd and open nodes.
+-- The ends that are certain: each odd node that no later gate can meet, and two for each class without odd and open
+-- nodes.
 use Rattle.std.proofs.Common.{ℕ, ◌≡◌, ◌≢◌, ◌+◌, ◌*◌, ◌<◌, ◌≤◌, ◌==◌, ◌||◌, ◌&&◌, Bool, true, false, not, List, [], ◌∷◌, length, map, refl, sym, ap, arith, ◌∙◌, inl, inr, AllPairs, Contains, count_by}
 use Rattle.std.specs.List.{filter}
 use Rattle.std.proofs.lemmas.Bool.{and_from, and_left, and_parts, both_ways, cases_Bool, eq-eqb, eqb-true, false_from_ne_true, not-true, not_from_false, not_from_true, or_cases, or_from, or_left, or_right}

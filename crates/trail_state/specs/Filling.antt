@@ -1,5 +1,5 @@
--- The empty places of a row filled, so that the row has the same gaps: an empty place goes on from the net on its left to
--- the net on its right.
+-- The empty places of a row filled, so that the row has the same gaps: an empty place goes on from the net on its left
+-- to the net on its right.
 use Rattle.std.proofs.Common.{ℕ, ◌≡◌, ◌<◌, ◌≤◌, ◌==◌, Bool, true, false, if◌then◌else◌, cond, List, [], ◌∷◌, Option, Some, None, refl, ap, arith, ◌∙◌, inl, inr, All}
 use Rattle.std.specs.List.{zip}
 use Rattle.std.proofs.lemmas.Bool.{cases_Bool, eq-eqb, eqb-true, not-false, or_parts}

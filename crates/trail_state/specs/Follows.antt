@@ -1,4 +1,5 @@
--- A list of places follows a list of edges: the classes that the edges chain, and the nodes that they meet an odd number of times.
+-- A list of places follows a list of edges: the classes that the edges chain, and the nodes that they meet an odd
+-- number of times.
 use Rattle.std.proofs.Common.{ℕ, ◌≡◌, ◌≢◌, ◌==◌, ◌||◌, Bool, true, false, not, if◌then◌else◌, min, List, [], ◌∷◌, map, refl, sym, ap, subst, arith, ◌∙◌, inl, inr, ◌⊎◌, Contains, fold}
 use Rattle.std.proofs.lemmas.Bool.{both_ways, cases_Bool, cases_eq, cases_lt, eq-eqb, eqb-true, or_cases, or_left, or_right, or_parts}
 use Rattle.cell_num.proofs.Lists.{all_from_contains, contains_here, contains_there}

@@ -1,4 +1,5 @@
--- The law: a row has two ends of trails for each stretch without a gap, and no row has fewer ends than its choices come to.
+-- The law: a row has two ends of trails for each stretch without a gap, and no row has fewer ends than its choices come
+-- to.
 use Rattle.std.proofs.Common.{ℕ, zero, suc, ◌≡◌, ◌+◌, ◌-◌, ◌*◌, ◌<◌, ◌≤◌, ◌==◌, Bool, true, false, cond, List, [], ◌∷◌, ◌++◌, length, drop, append-nil, Option, Some, None, option_map, map, refl, sym, ap, subst, arith, ◌∙◌, inl, inr, All, Contains, IsPermutation}
 use Rattle.std.specs.List.{AllZip, filter, list_any, range_with_len, zip}
 use Rattle.std.proofs.lemmas.Bool.{cases_Bool, cases_lt, eq-eqb, eqb-true, or_left, or_right}

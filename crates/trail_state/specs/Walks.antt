@@ -1,4 +1,5 @@
--- A walk through columns: it has two ends for each stretch without a break, and these are at least the ends that its edges need.
+-- A walk through columns: it has two ends for each stretch without a break, and these are at least the ends that its
+-- edges need.
 use Rattle.std.proofs.Common.{ℕ, zero, suc, ◌≡◌, ◌+◌, ◌*◌, ◌<◌, ◌≤◌, ◌==◌, ◌&&◌, ◌||◌, Bool, true, false, not, if◌then◌else◌, leb, List, [], ◌∷◌, refl, sym, ap, arith, ◌∙◌, inl, inr}
 use Rattle.std.proofs.lemmas.Bool.{both_ways, cases_eq, eq-eqb, ne_eqb}
 use Rattle.std.proofs.lemmas.List.Elements.{All-cons, All-nil}

@@ -1,4 +1,5 @@
--- The rules on what lies around a cell: wells and selects around active, active and metal around contacts, what keeps away.
+-- The rules on what lies around a cell: wells and selects around active, active and metal around contacts, what keeps
+-- away.
 use Rattle.std.proofs.Common.{ℕ, ◌≤◌, ℤ, pos, ◌+ℤ◌, ◌-ℤ◌, ◌≤ℤ◌, ◌<ℤ◌, inl, inr, arith}
 use Rattle.std.proofs.lemmas.Int.{ints}
 use Rattle.box_geom.specs.Near.{Near}

@@ -73,7 +73,8 @@ high_are g x y i = ((active_there g x y t, no_poly g x y t), well)
     well : On Well (whole g) x y
     well = high_well_there g x y i
 
--- from the metal over a cell of a square to the cell: along the rail, through the contact in the middle, along the square
+-- from the metal over a cell of a square to the cell: along the rail, through the contact in the middle, along the
+-- square
 over_square : (g : Tapping) (deck : Deck) (k : Conductor) (a m : ℕ) (rail : Rectangle) → IsLower k
     → ((x y : ℤ) → Holds (around Active a (pos m) 5).rect x y → Are (whole g) k x y)
     → ((x y : ℤ) → Holds (around Active a (pos m) 5).rect x y → Holds rail x y)

@@ -1,4 +1,5 @@
--- What a drawing gains by taps: facts on cells alone, s being the shapes without taps, t those with them, h their height.
+-- What a drawing gains by taps: facts on cells alone, s being the shapes without taps, t those with them, h their
+-- height.
 use Rattle.std.proofs.Common.{◌≡◌, ◌↔◌, ℤ, pos, ◌≤ℤ◌, ◌<ℤ◌, ◌-ℤ◌, List, ◌⊎◌}
 use Rattle.box_geom.specs.declared.shape.Shape.{Shape}
 use Rattle.box_geom.specs.declared.layer.Layer.TheVariants.{Well, Active, PSelect, NSelect, Poly as PolyLayer, Contact, Metal1 as Metal1Layer, Via, Metal2 as Metal2Layer}

@@ -1,4 +1,4 @@
-use Rattle.std.proofs.Common.{◌≡◌, ◌≤◌, ◌+◌, ◌-◌, ◌*◌, drop}
+use Rattle.std.proofs.Common.{◌≡◌, ◌≤◌, ◌+◌, ◌*◌, drop}
 use Rattle.gds_read.specs.Taken.{amount}
 use Rattle.gds_read.specs.Flat.{row_in, copies_in, listed_in}
 use Rattle.gds_read.proofs.Drawings.{with_front}

@@ -1,4 +1,4 @@
-use Rattle.gds_read.proofs.Moved.{Sums, sums}
+use Rattle.gds_read.proofs.Moved.{sums}
 use Rattle.gds_read.proofs.placement.composed.Goals as goal
 
 pub offset-requires-clause-low : goal.offset-requires-clause-low
