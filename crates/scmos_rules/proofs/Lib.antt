@@ -16,3 +16,4 @@ pub mod Spacings
 pub mod Widths
 pub mod OneList
 pub mod Orders
+pub mod Exchanged

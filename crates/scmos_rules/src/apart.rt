@@ -115,6 +115,26 @@ fn near_others(alloc: Global, set: &Region, by: u32) -> Result<Region, NoMemory>
     Ok(region)
 }
 
+fn has_fewer(one: &Region, other: &Region) -> bool {
+    one.blocks().len() < other.blocks().len()
+}
+
+// The same, of the set with x and y exchanged where that has fewer rectangles: the bands of a comb are many one way and
+// few the other.
+fn near_others_turned(alloc: Global, set: &Region, by: u32) -> Result<Region, NoMemory>
+    requires small { by ≤ 1000 }
+    ensures { IfOk result (λ r. AreCells (FailsApart (Covers set.now) by) r) }
+{
+    let turned = set.turned(alloc)?;
+    if has_fewer(&turned, set) {
+        let near = near_others(alloc, &turned, by)?;
+        let region = near.turned(alloc)?;
+        return Ok(region);
+    }
+    let region = near_others(alloc, set, by)?;
+    Ok(region)
+}
+
 // The cells of gaps below a value on a layer, and those within it of another class.
 pub(crate) fn spacing(
     alloc: Global,
@@ -127,7 +147,7 @@ pub(crate) fn spacing(
 {
     let set = on(alloc, shapes, layer)?;
     let gaps = open(alloc, &set, value)?;
-    let near = near_others(alloc, &set, value)?;
+    let near = near_others_turned(alloc, &set, value)?;
     let region = gaps.either(alloc, &near)?;
     Ok(region)
 }
