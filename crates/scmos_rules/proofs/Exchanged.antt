@@ -1,5 +1,5 @@
 -- Cells with a cell of another class near them, with x and y exchanged.
-use Rattle.std.proofs.Common.{◌≡◌, ◌↔◌, ℕ, zero, suc, ℤ, List, ap}
+use Rattle.std.proofs.Common.{◌↔◌, ℕ, zero, suc, ℤ, List, ap}
 use Rattle.box_geom.specs.Chains.{Steps, Linked}
 use Rattle.box_geom.specs.Rectangle.{Rectangle, Covers}
 use Rattle.box_geom.specs.Touching.{Cell, Edge, to_right, to_left, upward, downward}
