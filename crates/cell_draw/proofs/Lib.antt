@@ -6,7 +6,7 @@ mod BridgeGates
 mod BridgeLines
 mod BridgePlaces
 mod BridgeRouted
-mod BridgeRow
+pub mod BridgeRow
 mod BridgeTracks
 mod BridgeWhole
 mod DeviceBoxes
@@ -61,5 +61,5 @@ mod Sizes
 mod Smalls
 mod Tags
 mod TagsFound
-mod TrunkCount
+pub mod TrunkCount
 mod Wirings

@@ -5,6 +5,4 @@ pub mod Made
 pub mod MadeCells
 pub mod Rails
 pub mod Stops
-pub mod TrunkCount
 pub mod Uses
-pub mod Widths

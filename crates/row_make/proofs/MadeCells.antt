@@ -33,8 +33,8 @@ use Rattle.row_abut.specs.Circuit.{IsCircuit}
 use Rattle.row_abut.specs.Row.{gnd_name, vdd_name}
 use Rattle.row_abut.specs.declared.cell.RowCell.{RowCell}
 use Rattle.row_make.proofs.Rails.{rails_named}
-use Rattle.row_make.proofs.TrunkCount.{few_tracks}
-use Rattle.row_make.proofs.Widths.{widths}
+use Rattle.cell_draw.proofs.TrunkCount.{few_tracks}
+use Rattle.cell_draw.proofs.BridgeRow.{widths}
 use Rattle.row_make.specs.RowInputs.{RowInputs}
 use Rattle.row_make.specs.Rowed.{AreInputsOf, IsMadeCell, IsOneByName, MadeCell, cell_drawing, cell_frame, row_cell}
 use Rattle.row_make.specs.Steps.{IsSoundCell}
