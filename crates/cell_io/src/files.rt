@@ -48,7 +48,8 @@ pub(crate) fn append_to(
     let Some(bytes) = files.get_mut(name) else {
         unreachable!()
     };
-    bytes.extend(&part[..count])
+    bytes.extend(&part[..count])?;
+    Ok(())
 }
 
 // Makes an empty file.
