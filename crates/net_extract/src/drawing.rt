@@ -101,10 +101,8 @@ fn named_by_labels(alloc: Global, shapes: &Shapes, map: &Connections) -> Result<
         return Err(ExtractFault::NoMemory);
     };
     let count = count_of(map.firsts.as_slice());
-    match net_names(alloc, held.as_slice(), count) {
-        Ok(names) => Ok(Named { held, names }),
-        Err(fault) => Err(fault),
-    }
+    let names = net_names(alloc, held.as_slice(), count)?;
+    Ok(Named { held, names })
 }
 
 fn all_named(alloc: Global, shapes: &Shapes, map: &Connections) -> Result<Named, ExtractFault>
@@ -114,10 +112,8 @@ fn all_named(alloc: Global, shapes: &Shapes, map: &Connections) -> Result<Named,
     ensures ok { IfOk result (AreNamed map.now.deck shapes.now (firsts_of map.now.firsts.items)) }
     ensures refused { IfErr result (λ f. ExtractRefused map.now.deck shapes.now f) }
 {
-    match check_strays(alloc, map.wires.as_slice(), shapes.labels.as_slice()) {
-        Ok(()) => named_by_labels(alloc, shapes, map),
-        Err(fault) => Err(fault),
-    }
+    check_strays(alloc, map.wires.as_slice(), shapes.labels.as_slice())?;
+    named_by_labels(alloc, shapes, map)
 }
 
 // The wires of the well cells, where a deck ties taps.
@@ -205,13 +201,11 @@ pub fn extract(alloc: Global, shapes: &Shapes) -> Result<Netlist, ExtractFault>
     ensures refused { IfErr result (λ f. ExtractRefused Plain shapes.now f) }
     ensures many { SaysTooMany shapes.now result }
 {
-    match map_drawing(alloc, shapes, Deck::Plain) {
-        Ok(Mapped { devices, named, .. }) => Ok(Netlist {
-            names: named.names,
-            devices,
-        }),
-        Err(fault) => Err(fault),
-    }
+    let Mapped { devices, named, .. } = map_drawing(alloc, shapes, Deck::Plain)?;
+    Ok(Netlist {
+        names: named.names,
+        devices,
+    })
 }
 
 // The bodies of the devices of a drawing.

@@ -1,10 +1,11 @@
 use Rattle.std.proofs.Common.{◌≡◌, arith, length, refl, sym}
+use Rattle.std.proofs.lemmas.Result.{err_from_is_err_and}
 use Rattle.net_extract.specs.Lookups.{held_in}
 use Rattle.net_extract.proofs.Extracting.{named_are, name_refused}
 use Rattle.net_extract.proofs.drawing.named_by_labels.Goals as goal
 
-pub returns-in-Ok-net_names-clause-ok : goal.returns-in-Ok-net_names-clause-ok
-returns-in-Ok-net_names-clause-ok c =
+pub returns-clause-ok : goal.returns-clause-ok
+returns-clause-ok c =
     let a = c.as_slice.ensures.value in
     let b = c.as_slice-2.ensures in
     let h = c.in-Ok.ensures in
@@ -13,10 +14,10 @@ returns-in-Ok-net_names-clause-ok c =
     let f = c.as_slice-4.ensures.value in
     let eh : c.as_slice-4.result.now ≡ held_in c.args.map.now.wires.items c.args.shapes.now.labels = grind (arith) in
     let ec : c.count_of-count.result ≡ length c.args.map.now.firsts.items = grind (arith) in
-    named_are c.args.map.now.deck c.args.shapes.now c.args.map.now.wires.items c.args.map.now.firsts.items c.as_slice-4.result.now c.count_of-count.result c.in-Ok-net_names.names c.requires.map c.requires.held eh ec c.in-Ok-net_names.ensures.no_short c.in-Ok-net_names.ensures.no_split c.in-Ok-net_names.ensures.names (record { held = c.in-Ok.held; names = c.in-Ok-net_names.names }) (sym f) refl
+    named_are c.args.map.now.deck c.args.shapes.now c.args.map.now.wires.items c.args.map.now.firsts.items c.as_slice-4.result.now c.count_of-count.result c.in_ok-names.names c.requires.map c.requires.held eh ec c.in_ok-names.ensures.no_short c.in_ok-names.ensures.no_split c.in_ok-names.ensures.names (record { held = c.in-Ok.held; names = c.in_ok-names.names }) (sym f) refl
 
-pub returns-in-Err-clause-refused : goal.returns-in-Err-clause-refused
-returns-in-Err-clause-refused c =
+pub returns-in_err-names-clause-refused : goal.returns-in_err-names-clause-refused
+returns-in_err-names-clause-refused c =
     let a = c.as_slice.ensures.value in
     let b = c.as_slice-2.ensures in
     let h = c.in-Ok.ensures in
@@ -25,4 +26,5 @@ returns-in-Err-clause-refused c =
     let f = c.as_slice-4.ensures.value in
     let eh : c.as_slice-4.result.now ≡ held_in c.args.map.now.wires.items c.args.shapes.now.labels = grind (arith) in
     let ec : c.count_of-count.result ≡ length c.args.map.now.firsts.items = grind (arith) in
-    name_refused c.args.map.now.deck c.args.shapes.now c.args.map.now.wires.items c.args.map.now.firsts.items c.as_slice-4.result.now c.count_of-count.result c.in-Err.fault c.requires.regular c.requires.map c.requires.held eh ec c.in-Err.ensures.refused
+    let p = err_from_is_err_and c.from_residual.result c.from_residual.ensures.1 in
+    rw (p.1, p.2) (name_refused c.args.map.now.deck c.args.shapes.now c.args.map.now.wires.items c.args.map.now.firsts.items c.as_slice-4.result.now c.count_of-count.result c.in_err-names.field-0.0 c.requires.regular c.requires.map c.requires.held eh ec c.in_err-names.ensures.refused)

@@ -1,4 +1,4 @@
-use Rattle.std.proofs.Common.{arith, rules, sym}
+use Rattle.std.proofs.Common.{rules, sym}
 use Rattle.net_extract.proofs.LinkTrees.{more_linked, all_linked, linked_low}
 use Rattle.net_extract.proofs.linked.join_linked.Goals as goal
 
