@@ -145,8 +145,5 @@ pub fn draw_taps(alloc: Global, base: &Drawing, xs: &LineXs) -> Result<Drawing, 
     ensures bodies { (names : List (List ℕ)) (pins : Pins) → AreRails names pins base.now
         → IfOk result (λ d. AreBodied names pins d.shapes) }
 {
-    match tapped(alloc, base, xs) {
-        Ok(drawing) => Ok(drawing),
-        Err(error) => Err(error),
-    }
+    tapped(alloc, base, xs)
 }
