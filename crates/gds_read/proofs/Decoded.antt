@@ -3,7 +3,7 @@ use Rattle.std.specs.Prelude.{nat_lt, ◌==◌, ◌%◌, ◌/◌, ◌^◌, lengt
 use Rattle.std.proofs.lemmas.Bool.{cases_Bool}
 use Rattle.std.proofs.Math.Nat.{min-le_right}
 use Rattle.gds_read.specs.Real.{nearest, word_at}
-use Rattle.std.proofs.Common.{ℕ, ◌≤◌, arith, inl, inr, ◌≡◌, List, [], ◌∷◌, Result, Ok, Err, refl, sym, ap, ◌∙◌}
+use Rattle.std.proofs.Common.{ℕ, ◌≤◌, arith, inl, inr, ◌≡◌, List, [], ◌∷◌, Result, Ok, Err, IfOk, IfErr, refl, sym, ap, subst, ◌∙◌}
 use Rattle.box_geom.specs.declared.shape.Shapes.{Shapes}
 use Rattle.gds_record.specs.Records.{Item, items_from}
 use Rattle.gds_read.specs.declared.fault.GdsFault.{GdsFault}
@@ -13,9 +13,10 @@ use Rattle.cell_num.specs.Steps.{◌>>=◌}
 use Rattle.gds_read.specs.Grammar.{first_pass_of}
 use Rattle.gds_read.specs.Structure.{found_in, one_of, Finds}
 use Rattle.gds_read.specs.declared.taken.Taken.{Taken}
+use Rattle.gds_read.specs.declared.units.Grid.{Grid}
 use Rattle.gds_read.specs.Elements.{elements_of}
-use Rattle.gds_read.specs.Flat.{drawn, Gives}
-use Rattle.gds_read.specs.Decoding.{unit_in, file_in, decoded, Decodes, GdsRefused, IsRefused, IsTwiceOf}
+use Rattle.gds_read.specs.Flat.{file_of, drawn, Gives}
+use Rattle.gds_read.specs.Decoding.{unit_in, grid_in, file_in, decoded, Decodes, GdsRefused, IsRefused, IsTwiceOf}
 
 abbrev drawn_whole : List ℕ → ℕ → List Item → Result Shapes GdsFault
 drawn_whole bytes lambda records = drawn (file_in bytes lambda) 0 (elements_of records) >>= λ taken. Ok taken.shapes
@@ -70,7 +71,7 @@ twice_there bytes name lambda end e f = behind_pass bytes name lambda end e ∙ 
 at_place : (bytes name : List ℕ) (lambda end place : ℕ) → first_pass_of bytes ≡ Ok end → Finds bytes (lookup.At place) (found_in bytes name) → decoded bytes name lambda ≡ drawn_whole bytes lambda (items_from bytes place)
 at_place bytes name lambda end place e f = behind_pass bytes name lambda end e ∙ ap (λ (x : Result (List Item) GdsFault). then_drawn bytes lambda x) (one_found bytes name place (found_in bytes name) f)
 
-pub drawn_there : (bytes name : List ℕ) (lambda end place : ℕ) (shapes : Shapes) → first_pass_of bytes ≡ Ok end → Finds bytes (lookup.At place) (found_in bytes name) → Gives (Ok shapes) (drawn (file_in bytes lambda) 0 (elements_of (items_from bytes place))) → Decodes bytes name lambda shapes
+drawn_there : (bytes name : List ℕ) (lambda end place : ℕ) (shapes : Shapes) → first_pass_of bytes ≡ Ok end → Finds bytes (lookup.At place) (found_in bytes name) → Gives (Ok shapes) (drawn (file_in bytes lambda) 0 (elements_of (items_from bytes place))) → Decodes bytes name lambda shapes
 drawn_there bytes name lambda end place shapes e f gives = at_place bytes name lambda end place e f ∙ gives
 
 shapes_fault : {f : GdsFault} (read : Result Taken GdsFault) → read ≡ Err f → (read >>= λ taken. Ok taken.shapes) ≡ Err f
@@ -91,8 +92,19 @@ gives_refused bytes name lambda fault.NoMemory read e gives = tt
 gives_refused bytes name lambda (fault.Deep at) read e gives = e ∙ shapes_fault read gives
 gives_refused bytes name lambda (fault.Wide at) read e gives = e ∙ shapes_fault read gives
 
-pub refused_there : (bytes name : List ℕ) (lambda end place : ℕ) (f : GdsFault) → first_pass_of bytes ≡ Ok end → Finds bytes (lookup.At place) (found_in bytes name) → Gives (Err f) (drawn (file_in bytes lambda) 0 (elements_of (items_from bytes place))) → IsRefused bytes name lambda f
+refused_there : (bytes name : List ℕ) (lambda end place : ℕ) (f : GdsFault) → first_pass_of bytes ≡ Ok end → Finds bytes (lookup.At place) (found_in bytes name) → Gives (Err f) (drawn (file_in bytes lambda) 0 (elements_of (items_from bytes place))) → IsRefused bytes name lambda f
 refused_there bytes name lambda end place f e found gives = gives_refused bytes name lambda f (drawn (file_in bytes lambda) 0 (elements_of (items_from bytes place))) (at_place bytes name lambda end place e found) gives
+
+in_grid : (bytes : List ℕ) (lambda place : ℕ) (grid : Grid) (r : Result Shapes GdsFault) → grid ≡ grid_in bytes lambda → Gives r (drawn (file_of grid bytes) 0 (elements_of (items_from bytes place))) → Gives r (drawn (file_in bytes lambda) 0 (elements_of (items_from bytes place)))
+in_grid bytes lambda place grid r same = subst (λ (g : Grid). Gives r (drawn (file_of g bytes) 0 (elements_of (items_from bytes place)))) same
+
+pub decodes_there : (bytes name : List ℕ) (lambda end place : ℕ) (grid : Grid) (r : Result Shapes GdsFault) → first_pass_of bytes ≡ Ok end → Finds bytes (lookup.At place) (found_in bytes name) → grid ≡ grid_in bytes lambda → Gives r (drawn (file_of grid bytes) 0 (elements_of (items_from bytes place))) → IfOk r (Decodes bytes name lambda)
+decodes_there bytes name lambda end place grid (Ok shapes) e found same gives = drawn_there bytes name lambda end place shapes e found (in_grid bytes lambda place grid (Ok shapes) same gives)
+decodes_there bytes name lambda end place grid (Err f) e found same gives = tt
+
+pub refuses_there : (bytes name : List ℕ) (lambda end place : ℕ) (grid : Grid) (r : Result Shapes GdsFault) → first_pass_of bytes ≡ Ok end → Finds bytes (lookup.At place) (found_in bytes name) → grid ≡ grid_in bytes lambda → Gives r (drawn (file_of grid bytes) 0 (elements_of (items_from bytes place))) → IfErr r (IsRefused bytes name lambda)
+refuses_there bytes name lambda end place grid (Ok shapes) e found same gives = tt
+refuses_there bytes name lambda end place grid (Err f) e found same gives = refused_there bytes name lambda end place f e found (in_grid bytes lambda place grid (Err f) same gives)
 
 twice_of : (bytes name : List ℕ) (lambda : ℕ) (f : GdsFault) → decoded bytes name lambda ≡ Err (fault.Twice name) → IsTwiceOf name f → IsRefused bytes name lambda f
 twice_of bytes name lambda (fault.Cut at) e is = e ∙ ap (λ (g : GdsFault). Err g) (sym is)

@@ -1,5 +1,5 @@
 // What boundaries and paths draw.
-ghost use Rattle.std.specs.Prelude.{◌≡◌, ◌≤◌, ◌<◌, ◌+◌, length, OnOk};
+ghost use Rattle.std.specs.Prelude.{◌≡◌, ◌≤◌, ◌<◌, length, OnOk};
 ghost use Rattle.gds_record.specs.declared.types.RecordType.TheVariants as record_type;
 ghost use Rattle.gds_read.specs.Points.{points_of};
 ghost use Rattle.gds_read.specs.Areas.{put_all, Puts};
@@ -133,10 +133,7 @@ pub fn add_boundary(
         return Ok(());
     };
     let xy = element_content(bytes, rec.next, RecordType::Xy);
-    match boundary(alloc, xy, &pen, &mut taken.shapes.rects) {
-        Ok(()) => {}
-        Err(fault) => return Err(fault),
-    }
+    boundary(alloc, xy, &pen, &mut taken.shapes.rects)?;
     if MOST_RECTANGLES - (taken.refs as usize) < taken.shapes.rects.len() {
         return Err(GdsFault::Wide { at: around.outer });
     }
@@ -165,10 +162,7 @@ pub fn add_path(
     let Some(pen) = pen(bytes, rec, grid, &around.stands) else {
         return Ok(());
     };
-    match path(alloc, bytes, rec, &pen, &mut taken.shapes.rects) {
-        Ok(()) => {}
-        Err(fault) => return Err(fault),
-    }
+    path(alloc, bytes, rec, &pen, &mut taken.shapes.rects)?;
     if MOST_RECTANGLES - (taken.refs as usize) < taken.shapes.rects.len() {
         return Err(GdsFault::Wide { at: around.outer });
     }

@@ -90,10 +90,7 @@ fn odd_ones(alloc: Global, mut xs: Vec<i32>) -> Result<Vec<i32>, AllocError>
     ensures { IfOk result (λ v. v.items ≡ odd_ones xs.items) }
 {
     xs.sort_unstable();
-    match unpaired(alloc, xs.as_slice()) {
-        Ok(out) => Ok(out),
-        Err(error) => Err(error),
-    }
+    unpaired(alloc, xs.as_slice())
 }
 
 #[tactic(auto, unfolding(crate::specs::Areas::area_of))]
@@ -164,10 +161,7 @@ fn sweep(alloc: Global, ends: &[SideEnd], pen: &Pen, rects: &mut ShapeList) -> R
             push(&mut xs, &end.x)?;
             continue;
         }
-        xs = match next_row(alloc, &row, end, xs, pen, rects) {
-            Ok(xs) => xs,
-            Err(fault) => return Err(fault),
-        };
+        xs = next_row(alloc, &row, end, xs, pen, rects)?;
         row = *end;
     }
     Ok(())

@@ -1,5 +1,5 @@
 // The records inside an element, found by their type.
-ghost use Rattle.std.specs.Prelude.{◌≡◌, ◌≤◌, ◌<◌, ◌+◌, ◌==◌, not, [], ◌∷◌, length, find, option_map, IfSome};
+ghost use Rattle.std.specs.Prelude.{◌≡◌, ◌≤◌, ◌<◌, ◌+◌, ◌==◌, [], length, find, option_map, IfSome};
 ghost use Rattle.gds_record.specs.Records.{item_of, items_from};
 ghost use Rattle.gds_record.specs.declared.types.RecordType.TheVariants as record_type;
 ghost use Rattle.gds_read.specs.Structure.{is_type};

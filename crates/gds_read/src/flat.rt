@@ -1,5 +1,5 @@
 // The elements of a structure, with the structures that they refer to.
-ghost use Rattle.std.specs.Prelude.{◌≡◌, ◌≤◌, ◌<◌, ◌+◌, ◌-◌, ◌*◌, length, OnOk};
+ghost use Rattle.std.specs.Prelude.{◌≤◌, ◌<◌, ◌-◌, ◌*◌, length, OnOk};
 ghost use Rattle.gds_read.specs.Elements.{element_of};
 ghost use Rattle.gds_read.specs.Moves.{IsNear};
 ghost use Rattle.gds_read.specs.Index.{IsIndex};
@@ -227,10 +227,7 @@ pub fn add_elements(
 {
     for place in places {
         if let Ok(rec) = next_record(bytes, *place) {
-            match add_record(alloc, bytes, index, &rec, frame, taken) {
-                Ok(()) => {}
-                Err(fault) => return Err(fault),
-            }
+            add_record(alloc, bytes, index, &rec, frame, taken)?;
         }
     }
     Ok(())

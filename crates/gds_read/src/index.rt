@@ -4,7 +4,7 @@ ghost use Rattle.std.specs.Prelude.{◌≡◌, ◌≤◌, [], ◌∷◌, ◌++�
 ghost use Rattle.gds_record.specs.Records.{items_from};
 ghost use Rattle.gds_record.specs.Types.{type_numbered};
 ghost use Rattle.gds_read.specs.Structure.{Finds, IsWithin, found_in};
-ghost use Rattle.gds_read.specs.Index.{looked_up, listed_at, once_more, draws, drawing_places, IsIndex, IsNamed, IsListed, IsStructureAdded};
+ghost use Rattle.gds_read.specs.Index.{looked_up, once_more, draws, drawing_places, IsIndex, IsNamed, IsListed, IsStructureAdded};
 
 use crate::field::element_layer;
 use crate::structure::{Lookup, trim};

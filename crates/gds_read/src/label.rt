@@ -1,5 +1,5 @@
 // Labels.
-ghost use Rattle.std.specs.Prelude.{◌≡◌, ◌≤◌, ◌<◌, ◌+◌, ◌==◌, length, None, OnOk};
+ghost use Rattle.std.specs.Prelude.{◌≡◌, ◌≤◌, ◌<◌, length, None, OnOk};
 ghost use Rattle.gds_record.specs.declared.types.RecordType.TheVariants as record_type;
 ghost use Rattle.gds_read.specs.Taken.{plain, both, amount, Adds};
 ghost use Rattle.gds_read.specs.Flat.{text_by};

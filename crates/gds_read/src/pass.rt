@@ -1,4 +1,4 @@
-ghost use Rattle.std.specs.Prelude.{position, not, ◌==◌, IfSome, ◌≡◌, ◌≤◌, ◌<◌, length, IsTrue, ◌↔◌, ◌+◌};
+ghost use Rattle.std.specs.Prelude.{position, not, ◌==◌, IfSome, ◌≡◌, ◌≤◌, ◌<◌, length, ◌+◌};
 ghost use Rattle.gds_record.specs.declared.types.RecordType.TheVariants as record_type;
 ghost use Rattle.gds_read.specs.Grammar.{is_wrong_unit, item_with, with_unit, known_step, step_of, zeros_behind, first_pass_of};
 

@@ -1,5 +1,5 @@
 // The areas of a path.
-ghost use Rattle.std.specs.Prelude.{◌≡◌, ◌≤◌, ◌==◌, if◌then◌else◌, IfOk};
+ghost use Rattle.std.specs.Prelude.{◌≡◌, ◌≤◌, ◌==◌};
 ghost use Rattle.gds_read.specs.Areas.{put, Puts};
 ghost use Rattle.gds_read.specs.Paths.{thinned, width_of, stretch, long, segment, all_segments, past_second, past_ends, path_areas};
 
@@ -8,7 +8,6 @@ use crate::area::{Area, Pen, Span, add_area};
 use crate::point::{Point, signed};
 use crate::units::MOST_PICOMETRES;
 use box_geom::ShapeList;
-use std::alloc::{AllocError, Global};
 
 /// Half the width of a path, and how far it goes past its outer points, in halves of a file unit.
 #[derive(Clone, Copy, Debug, PartialEq, Eq)]

@@ -58,10 +58,8 @@ fn read_elements(alloc: Global, bytes: &[u8], place: u64, grid: &Grid) -> Result
     let index = read_index(alloc, bytes)?;
     let places = places_of(alloc, bytes, place, true)?;
     let mut taken = none_taken(alloc);
-    match add_elements(alloc, bytes, &index, places.as_slice(), &frame, &mut taken) {
-        Ok(()) => Ok(taken.shapes),
-        Err(fault) => Err(fault),
-    }
+    add_elements(alloc, bytes, &index, places.as_slice(), &frame, &mut taken)?;
+    Ok(taken.shapes)
 }
 
 // The structure's name stands twice.
@@ -79,7 +77,7 @@ fn twice(name: &Name) -> GdsFault
 /// then of the structure's elements in order. A reference draws what the structure draws that it names, as
 /// mirrored, turned and moved (GDSII Stream Format Manual, Release 6.0: SREF, AREF); labels are the
 /// structure's own. At most 1,073,741,824 bytes are taken.
-#[tactic(auto, using(crate::proofs::Decoded::refused_first, crate::proofs::Decoded::no_cell, crate::proofs::Decoded::twice_refused, crate::proofs::Decoded::drawn_there, crate::proofs::Decoded::refused_there))]
+#[tactic(auto, using(crate::proofs::Decoded::refused_first, crate::proofs::Decoded::no_cell, crate::proofs::Decoded::twice_refused))]
 pub fn read_cell(
     alloc: Global,
     bytes: &[u8],
@@ -93,19 +91,13 @@ pub fn read_cell(
     ensures cell { IfOk result (λ shapes. IsCell bytes.now name.now lambda_nm shapes) }
     ensures refused { IfErr result (λ fault. IsRefused bytes.now name.now lambda_nm fault) }
 {
-    match first_pass(bytes) {
-        Ok(_) => {}
-        Err(fault) => return Err(fault),
-    }
+    first_pass(bytes)?;
     match find_structure(bytes, name.as_slice()) {
         Lookup::NoCell => Err(GdsFault::NoCell),
         Lookup::Twice => Err(twice(name)),
         Lookup::At { place } => {
             let grid = grid_of(bytes, lambda_nm);
-            match read_elements(alloc, bytes, place, &grid) {
-                Ok(shapes) => Ok(shapes),
-                Err(fault) => Err(fault),
-            }
+            read_elements(alloc, bytes, place, &grid)
         }
     }
 }

@@ -1,5 +1,4 @@
-ghost use Rattle.std.specs.Prelude.{◌≡◌, ◌≤◌, ◌<◌, ◌+◌, ◌==◌, not, length, Ok, IfOk, drop, take};
-ghost use Rattle.gds_record.specs.Records.{Item, item_of, records_from};
+ghost use Rattle.std.specs.Prelude.{◌≡◌, ◌≤◌, ◌<◌, ◌+◌, ◌==◌, length, Ok};
 ghost use Rattle.gds_read.specs.Grammar.{item_with};
 ghost use Rattle.gds_read.specs.Structure.{trimmed, is_named, Finds, IsWithin, found_in};
 

@@ -1,4 +1,4 @@
-ghost use Rattle.std.specs.Prelude.{◌≡◌, ◌≤◌, ◌<◌, ◌+◌, ◌*◌, ℤ, pos, ◌*ℤ◌, ◌≤ℤ◌, ◌<ℤ◌, neg_ℤ, IfSome};
+ghost use Rattle.std.specs.Prelude.{◌≡◌, ◌≤◌, ◌<◌, ◌*◌, ℤ, pos, ◌≤ℤ◌, neg_ℤ, IfSome};
 ghost use Rattle.gds_read.specs.Moves.{IsWithin};
 ghost use Rattle.gds_read.specs.Units.{limited_to_grid, scaled_by, step_of_grid, two_steps, whole_units_of, floor_units_of};
 

@@ -1,5 +1,6 @@
 use Rattle.std.proofs.Common.{rules, sym, subst, ◌≡◌, ◌≤◌, ◌+◌, drop, get_or}
 use Rattle.std.proofs.lemmas.List.{drop_more, drop_all}
+use Rattle.std.proofs.lemmas.Result.{err_from_is_err_and}
 use Rattle.gds_read.specs.declared.taken.Taken.{Taken}
 use Rattle.gds_read.specs.Taken.{amount}
 use Rattle.gds_read.specs.Flat.{row_in, listed_in}
@@ -7,7 +8,7 @@ use Rattle.gds_read.proofs.Drawings.{with_front}
 use Rattle.gds_read.proofs.Moved.{near_inside}
 use Rattle.gds_read.proofs.Copied.{row_more}
 use Rattle.gds_read.proofs.Listed.{listed_behind, listed_more, listed_past, listed_stops, listed_done}
-use Rattle.gds_read.proofs.flat.+references.Goals.{add_elements-in-Ok+in-Ok-add_record, add_elements-in_default}
+use Rattle.gds_read.proofs.flat.+references.Goals.{add_elements-in-Ok+in_ok-add_record, add_elements-in_default}
 use Rattle.gds_read.proofs.flat.+references.Goals as goal
 
 pub add_row-add_copy-requires : goal.add_row-add_copy-requires
@@ -39,24 +40,25 @@ add_row-loop-column-preserved t c = (
       c.loop-column-test.true c.copy_at-copy.ensures.value c.composed.ensures c.in_ok-add_copy.ensures.adds c.loop-column.invariant.1,
 )
 
-pub add_elements-returns-in-Err-clause-adds : goal.add_elements-returns-in-Err-clause-adds
-add_elements-returns-in-Err-clause-adds t c =
-    listed_stops c.args.bytes.now c.args.frame.now (get_or c.args.places.now c.loop-place.place-index 0) (drop c.loop-place.place-index c.args.places.now) (drop (c.loop-place.place-index + 1) c.args.places.now)
-    c.args.taken.now c.loop-place.taken c.add_record.new.taken c.add_record.new.taken c.in-Ok.rec c.in-Err.fault
+pub add_elements-returns-in_err-add_record-clause-adds : goal.add_elements-returns-in_err-add_record-clause-adds
+add_elements-returns-in_err-add_record-clause-adds t c =
+    let p = err_from_is_err_and c.from_residual.result c.from_residual.ensures.1 in
+    rw (p.1, p.2) (listed_stops c.args.bytes.now c.args.frame.now (get_or c.args.places.now c.loop-place.place-index 0) (drop c.loop-place.place-index c.args.places.now) (drop (c.loop-place.place-index + 1) c.args.places.now)
+    c.args.taken.now c.loop-place.taken c.add_record.new.taken c.add_record.new.taken c.in-Ok.rec c.in_err-add_record.field-0.0
     (listed_in c.args.bytes.now c.args.frame.now (amount c.args.taken.now) c.args.places.now)
-    (drop_more c.args.places.now c.loop-place.place-index 0 c.loop-place-test.true) (sym c.in-Ok.ensures) c.in-Err.ensures.adds c.loop-place.invariant.1
+    (drop_more c.args.places.now c.loop-place.place-index 0 c.loop-place-test.true) (sym c.in-Ok.ensures) c.in_err-add_record.ensures.adds c.loop-place.invariant.1)
 
 pub add_elements-loop-place-preserved : goal.add_elements-loop-place-preserved
 add_elements-loop-place-preserved t c =
     let all = with_front c.args.taken.now (listed_in c.args.bytes.now c.args.frame.now (amount c.args.taken.now) c.args.places.now) in
     let first = drop_more c.args.places.now c.loop-place.place-index 0 c.loop-place-test.true in
     elim c.match-next_record.branch [
-      | add_elements-in-Ok+in-Ok-add_record w ↦ subst
+      | add_elements-in-Ok+in_ok-add_record w ↦ subst
           (λ (x : Taken). (amount x ≤ 1000000) × (listed_behind c.args.bytes.now c.args.frame.now x (drop (c.loop-place.place-index + 1) c.args.places.now) ≡ with_front c.args.taken.now (listed_in c.args.bytes.now c.args.frame.now (amount c.args.taken.now) c.args.places.now)))
           (sym w.taken-is) (
-            w.in-Ok-add_record.ensures.room,
+            w.in_ok-add_record.ensures.room,
             listed_more c.args.bytes.now c.args.frame.now (get_or c.args.places.now c.loop-place.place-index 0) (drop c.loop-place.place-index c.args.places.now) (drop (c.loop-place.place-index + 1) c.args.places.now)
-                c.loop-place.taken w.add_record.new.taken w.in-Ok.rec all first (sym w.in-Ok.ensures) w.in-Ok-add_record.ensures.adds c.loop-place.invariant.1,
+                c.loop-place.taken w.add_record.new.taken w.in-Ok.rec all first (sym w.in-Ok.ensures) w.in_ok-add_record.ensures.adds c.loop-place.invariant.1,
           )
       | add_elements-in_default w ↦ subst
           (λ (x : Taken). (amount x ≤ 1000000) × (listed_behind c.args.bytes.now c.args.frame.now x (drop (c.loop-place.place-index + 1) c.args.places.now) ≡ with_front c.args.taken.now (listed_in c.args.bytes.now c.args.frame.now (amount c.args.taken.now) c.args.places.now)))

@@ -1,4 +1,5 @@
 use Rattle.std.proofs.Common.{Ok, Err, true, subst, ◌≡◌, ◌∙◌}
+use Rattle.std.proofs.lemmas.Result.{err_from_is_err_and}
 use Rattle.gds_record.specs.Records.{items_from}
 use Rattle.gds_read.specs.declared.taken.Taken.{Taken}
 use Rattle.gds_read.specs.Taken.{nothing_taken, amount, Adds}
@@ -8,16 +9,17 @@ use Rattle.gds_read.proofs.Drawings.{own, gives_fault}
 use Rattle.gds_read.proofs.Listed.{drawn_listed, gives_listed}
 use Rattle.gds_read.proofs.read.read_elements.Goals as goal
 
+pub returns-in_err-add_elements : goal.returns-in_err-add_elements
+returns-in_err-add_elements c =
+    let listed : c.as_slice.result.now ≡ drawing_places true (items_from c.args.bytes.now c.args.place) = c.as_slice.ensures.value ∙ c.in_ok-places.ensures in
+    let adds : Adds (Err c.in_err-add_elements.field-0.0) nothing_taken c.add_elements.new.taken (listed_in c.args.bytes.now (own c.args.grid.now) 0 c.as_slice.result.now) =
+    subst (λ (t : Taken). Adds (Err c.in_err-add_elements.field-0.0) t c.add_elements.new.taken (listed_in c.args.bytes.now (own c.args.grid.now) (amount t) c.as_slice.result.now)) c.none_taken-taken.ensures c.in_err-add_elements.ensures.adds in
+    let p = err_from_is_err_and c.from_residual.result c.from_residual.ensures.1 in
+    rw (p.1, p.2) (gives_fault c.args.bytes.now c.args.grid.now c.args.place c.add_elements.new.taken c.in_err-add_elements.field-0.0 (drawn_listed c.args.bytes.now c.args.grid.now c.args.place c.as_slice.result.now c.add_elements.new.taken (Err c.in_err-add_elements.field-0.0) listed adds))
+
 pub returns : goal.returns
 returns c =
     let listed : c.as_slice.result.now ≡ drawing_places true (items_from c.args.bytes.now c.args.place) = c.as_slice.ensures.value ∙ c.in_ok-places.ensures in
-    let adds : Adds (Err c.in-Err.fault) nothing_taken c.add_elements.new.taken (listed_in c.args.bytes.now (own c.args.grid.now) 0 c.as_slice.result.now) =
-    subst (λ (t : Taken). Adds (Err c.in-Err.fault) t c.add_elements.new.taken (listed_in c.args.bytes.now (own c.args.grid.now) (amount t) c.as_slice.result.now)) c.none_taken-taken.ensures c.in-Err.ensures.adds in
-    gives_fault c.args.bytes.now c.args.grid.now c.args.place c.add_elements.new.taken c.in-Err.fault (drawn_listed c.args.bytes.now c.args.grid.now c.args.place c.as_slice.result.now c.add_elements.new.taken (Err c.in-Err.fault) listed adds)
-
-pub returns-in-Ok : goal.returns-in-Ok
-returns-in-Ok c =
-    let listed : c.as_slice.result.now ≡ drawing_places true (items_from c.args.bytes.now c.args.place) = c.as_slice.ensures.value ∙ c.in_ok-places.ensures in
     let adds : Adds (Ok tt) nothing_taken c.add_elements.new.taken (listed_in c.args.bytes.now (own c.args.grid.now) 0 c.as_slice.result.now) =
-    subst (λ (t : Taken). Adds (Ok tt) t c.add_elements.new.taken (listed_in c.args.bytes.now (own c.args.grid.now) (amount t) c.as_slice.result.now)) c.none_taken-taken.ensures c.in-Ok.ensures.adds in
+    subst (λ (t : Taken). Adds (Ok tt) t c.add_elements.new.taken (listed_in c.args.bytes.now (own c.args.grid.now) (amount t) c.as_slice.result.now)) c.none_taken-taken.ensures c.in_ok-add_elements.ensures.adds in
     gives_listed c.args.bytes.now c.args.grid.now c.args.place c.as_slice.result.now c.add_elements.new.taken listed adds
