@@ -1,6 +1,6 @@
 -- The ways in which a visit ends, over what it begins with and what it comes to.
 use Rattle.std.proofs.Common.{ℕ, ◌≡◌, ◌+◌, ◌-◌, ◌<◌, ◌≤◌, Bool, true, false, List, [], ◌∷◌, ◌++◌, length, length-append, take, take_all, get_or, sym, ap, subst, arith, All, ◌∙◌, ◌↔◌, IsTrue, Option, Some, None}
-use Rattle.std.proofs.lemmas.List.Elements.{All-contains, All-more, All-push, All-nil}
+use Rattle.std.proofs.lemmas.List.Elements.{All-contains, All-more, All-push, All-nil, All-weaker}
 use Rattle.std.proofs.lemmas.List.{get_or-map, length-map, take-map}
 use Rattle.cell_num.proofs.Lists.{all_map}
 use Rattle.cell_num.specs.declared.finger.Row.{Row}
@@ -169,7 +169,7 @@ pub step_is : (k : Kinds) (s : State) (step : Step) → IsPossible k s step → 
 step_is k s step h = record { p = side_fits k.p s.p_left step.p h.p; n = side_fits k.n s.n_left step.n h.n; column = h.column }
 
 -- the next columns of a state among the candidates
-candidates_ordered : (k : Kinds) (all : List Candidate) (s : State) → AreCandidates k all → IsState k s → AreOrdered k s (candidate_steps all)
+pub candidates_ordered : (k : Kinds) (all : List Candidate) (s : State) → AreCandidates k all → IsState k s → AreOrdered k s (candidate_steps all)
 candidates_ordered k all s are valid = record { all = λ step possible. among_candidates k all s step are valid possible; order = are.steps.order }
 
 -- one more column that may not come next, or that fails: it costs too much, or a lemma says so of the state behind it
@@ -194,20 +194,24 @@ branch_end k s items all i best bound are valid same past tried step possible =
     All-contains (λ (x : Step). IsPossible k s x → StepReaches k best s bound x) (candidate_steps all) step steps (among_candidates k all s step are valid possible) possible
 
 -- the first completion behind the first step that does not fail is the first of the state
-first_behind : (value : Row → State → Kinds → ℕ) (k : Kinds) (s after : State) (allowed cost : ℕ) (log : List Lemma) (items : List Candidate) (i : ℕ) (d : Candidate) (rest pushed : List Step) → Holds value k → AreJustified value k log → GatesAreNets k → HasFingers k s → AreOrdered k s (candidate_steps items) → i < length items → IsPossible k s (get_or items i d).step → All (Reaches k (λ z. best_of z log) s (allowed + 1)) (take i items) → cost ≡ cost_of s (column_of k (get_or items i d).step) → cost ≤ allowed → after ≡ state_after k s (get_or items i d).step → IsFirstWithin k after (allowed - cost) (row_of k rest) → pushed ≡ rest ++ (get_or items i d).step ∷ [] → IsFirstWithin k s allowed (row_of k pushed)
-first_behind value k s after allowed cost log items i d rest pushed law justified nets some are within possible failed ec cheap ea h ep =
+pub first_among : (k : Kinds) (s after : State) (allowed cost : ℕ) (items : List Candidate) (i : ℕ) (d : Candidate) (rest pushed : List Step) → GatesAreNets k → HasFingers k s → AreOrdered k s (candidate_steps items) → i < length items → IsPossible k s (get_or items i d).step → All (λ (c : Candidate). Fails k s allowed c.step) (take i items) → cost ≡ cost_of s (column_of k (get_or items i d).step) → cost ≤ allowed → after ≡ state_after k s (get_or items i d).step → IsFirstWithin k after (allowed - cost) (row_of k rest) → pushed ≡ rest ++ (get_or items i d).step ∷ [] → IsFirstWithin k s allowed (row_of k pushed)
+first_among k s after allowed cost items i d rest pushed nets some are within possible failed ec cheap ea h ep =
     let step : Step = (get_or items i d).step in
     let here : get_or (candidate_steps items) i d.step ≡ step = get_or-map (λ (c : Candidate). c.step) items i d d.step within in
     let inside : i < length (candidate_steps items) = omega (arith, within, length-map items (λ (c : Candidate). c.step)) in
-    let all_fail : All (Fails k s allowed) (take i (candidate_steps items)) = subst (All (Fails k s allowed)) (sym (take-map (λ (c : Candidate). c.step) i items)) (all_map (Reaches k (λ z. best_of z log) s (allowed + 1)) (Fails k s allowed) (λ (c : Candidate). c.step) (take i items) (λ c. fails k s allowed c.step log (sound value k log law justified)) failed) in
+    let all_fail : All (Fails k s allowed) (take i (candidate_steps items)) = subst (All (Fails k s allowed)) (sym (take-map (λ (c : Candidate). c.step) i items)) (all_map (λ (c : Candidate). Fails k s allowed c.step) (Fails k s allowed) (λ (c : Candidate). c.step) (take i items) (λ c bad. bad) failed) in
     let h' : IsFirstWithin k (state_after k s step) (allowed - cost_of s (column_of k step)) (row_of k rest) = subst (λ (z : State). IsFirstWithin k z (allowed - cost_of s (column_of k step)) (row_of k rest)) ea (subst (λ (n : ℕ). IsFirstWithin k after (allowed - n) (row_of k rest)) ec h) in
     let first : (z : Step) → get_or (candidate_steps items) i d.step ≡ z → IsPossible k s z → cost_of s (column_of k z) ≤ allowed → IsFirstWithin k (state_after k s z) (allowed - cost_of s (column_of k z)) (row_of k rest) → IsFirstWithin k s allowed (column_of k z ∷ row_of k rest) = λ z e. subst (λ (y : Step). IsPossible k s y → cost_of s (column_of k y) ≤ allowed → IsFirstWithin k (state_after k s y) (allowed - cost_of s (column_of k y)) (row_of k rest) → IsFirstWithin k s allowed (column_of k y ∷ row_of k rest)) e (λ may cheaply f. found k s allowed (candidate_steps items) i d.step (row_of k rest) nets some are inside may all_fail cheaply f) in
     subst (IsFirstWithin k s allowed) (sym (ap (row_of k) ep ∙ row_of_push k rest step)) (first step here possible (omega (arith, ec, cheap)) h')
 
+-- lemmas say which steps fail
+tried_fail : (value : Row → State → Kinds → ℕ) (k : Kinds) (s : State) (allowed : ℕ) (log : List Lemma) (tried : List Candidate) → Holds value k → AreJustified value k log → All (Reaches k (λ z. best_of z log) s (allowed + 1)) tried → All (λ (c : Candidate). Fails k s allowed c.step) tried
+tried_fail value k s allowed log tried law justified all = All-weaker (Reaches k (λ z. best_of z log) s (allowed + 1)) (λ (c : Candidate). Fails k s allowed c.step) (λ c. fails k s allowed c.step log (sound value k log law justified)) tried all
+
 pub found_behind : (value : Row → State → Kinds → ℕ) (k : Kinds) (budget : ℕ) (s after : State) (allowed cost : ℕ) (items all : List Candidate) (i : ℕ) (d : Candidate) (rest pushed : List Step) (p q r : SoFar) → Holds value k → AreSomeKinds k → HasFingers k s → AreCandidates k all → IsState k s → items ≡ all → i < length items → IsPossible k s (get_or items i d).step → All (Reaches k (λ z. best_of z q.lemmas) s (allowed + 1)) (take i items) → cost ≡ cost_of s (column_of k (get_or items i d).step) → cost ≤ allowed → after ≡ state_after k s (get_or items i d).step → HasTried value k budget s allowed p q → HasFound k after (allowed - cost) rest q r → pushed ≡ rest ++ (get_or items i d).step ∷ [] → HasFound k s allowed pushed p r
 found_behind value k budget s after allowed cost items all i d rest pushed p q r law kinds some are valid same within possible failed ec cheap ea h behind ep =
     record {
-      row = first_behind value k s after allowed cost q.lemmas items i d rest pushed law h.further.lemmas.justified (gates_are_nets k kinds) some (candidates_ordered k items s (subst (AreCandidates k) (sym same) are) valid) within possible failed ec cheap ea behind.row ep;
+      row = first_among k s after allowed cost items i d rest pushed (gates_are_nets k kinds) some (candidates_ordered k items s (subst (AreCandidates k) (sym same) are) valid) within possible (tried_fail value k s allowed q.lemmas (take i items) law h.further.lemmas.justified failed) ec cheap ea behind.row ep;
       sound = subst (All (IsStep k)) (sym ep) (All-push (IsStep k) rest (get_or items i d).step behind.sound (step_is k s (get_or items i d).step possible));
       counted = omega (arith, behind.counted, h.counted, ap length ep, length-append rest ((get_or items i d).step ∷ []));
     }

@@ -13,4 +13,5 @@ mod whole;
 pub use found::{Found, FoundKept, Stop, StopKept};
 pub use kept::Kept;
 pub use limits::search_kept;
+pub use listed::{arrangement, log_steps};
 pub use whole::search;

@@ -48,18 +48,14 @@ fn all_listed(alloc: Global, steps: &[Step], kinds: &Kinds) -> Result<Vec<LogSte
 }
 
 /// The row of the steps, which were found from the last to the first.
-pub(crate) fn arrangement(
-    alloc: Global,
-    steps: &[Step],
-    kinds: &Kinds,
-) -> Result<Arrangement, NoMemory>
+pub fn arrangement(alloc: Global, steps: &[Step], kinds: &Kinds) -> Result<Arrangement, NoMemory>
     ensures { IfOk result (λ row. row ≡ row_of kinds.now steps.now) }
 {
     Ok(List::from_vec(columns(alloc, steps, kinds)?))
 }
 
 /// The same steps as a log lists them.
-pub(crate) fn log_steps(alloc: Global, steps: &[Step], kinds: &Kinds) -> Result<LogSteps, NoMemory>
+pub fn log_steps(alloc: Global, steps: &[Step], kinds: &Kinds) -> Result<LogSteps, NoMemory>
     ensures { IfOk result (λ all. all ≡ steps_of kinds.now steps.now) }
 {
     Ok(List::from_vec(all_listed(alloc, steps, kinds)?))
