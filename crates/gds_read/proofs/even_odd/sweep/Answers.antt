@@ -16,7 +16,7 @@ loop-end-preserved-then-end-row c =
 pub returns-in_err-xs : goal.returns-in_err-xs
 returns-in_err-xs c =
     let other : (slice_index_or c.args.ends.now c.loop-end.end-index none).y ≡ c.loop-end.row.y → ⊥ = search rules in
-    let p = err_from_is_err_and c.from_residual.result c.from_residual.ensures.1 in
+    let p = err_from_is_err_and c.from_residual-in_err-xs.result c.from_residual-in_err-xs.ensures.1 in
     rw (p.1, p.2) (row_stops_at c.args.pen.now c.loop-end.rects c.next_row.new.rects c.next_row.new.rects c.loop-end.row c.loop-end.xs.items c.args.ends.now c.loop-end.end-index none c.in_err-xs.field-0.0 _ c.loop-end-test.true other c.in_err-xs.ensures.drawn c.loop-end.invariant)
 
 pub loop-end-preserved : goal.loop-end-preserved

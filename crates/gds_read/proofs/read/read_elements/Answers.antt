@@ -14,7 +14,7 @@ returns-in_err-add_elements c =
     let listed : c.as_slice.result.now ≡ drawing_places true (items_from c.args.bytes.now c.args.place) = c.as_slice.ensures.value ∙ c.in_ok-places.ensures in
     let adds : Adds (Err c.in_err-add_elements.field-0.0) nothing_taken c.add_elements.new.taken (listed_in c.args.bytes.now (own c.args.grid.now) 0 c.as_slice.result.now) =
     subst (λ (t : Taken). Adds (Err c.in_err-add_elements.field-0.0) t c.add_elements.new.taken (listed_in c.args.bytes.now (own c.args.grid.now) (amount t) c.as_slice.result.now)) c.none_taken-taken.ensures c.in_err-add_elements.ensures.adds in
-    let p = err_from_is_err_and c.from_residual.result c.from_residual.ensures.1 in
+    let p = err_from_is_err_and c.from_residual-in_err-add_elements.result c.from_residual-in_err-add_elements.ensures.1 in
     rw (p.1, p.2) (gives_fault c.args.bytes.now c.args.grid.now c.args.place c.add_elements.new.taken c.in_err-add_elements.field-0.0 (drawn_listed c.args.bytes.now c.args.grid.now c.args.place c.as_slice.result.now c.add_elements.new.taken (Err c.in_err-add_elements.field-0.0) listed adds))
 
 pub returns : goal.returns
