@@ -1,0 +1,53 @@
+-- What the ends of trails say of the gaps of each arrangement.
+use Rattle.std.specs.Prelude.{ℕ, ◌≡◌, ◌≢◌, ◌+◌, ◌*◌, ◌≤◌, List, [], Option}
+use Rattle.std.proofs.Common.{arith, subst, sym}
+use Rattle.cell_num.specs.declared.finger.Fingers.{Fingers}
+use Rattle.cell_num.specs.Fingers.{AreFingers}
+use Rattle.row_model.specs.Gaps.{gaps_of}
+use Rattle.trail_state.specs.declared.level.Level.{Level}
+use Rattle.trail_state.specs.Law.{levels_law}
+use Rattle.trail_state.specs.Levels.{AreLevels, Ends}
+use Rattle.trail_log.specs.declared.trails.Trails.{Trails}
+use Rattle.trail_check.specs.declared.refusal.TrailRefusal.{TrailRefusal}
+use Rattle.trail_check.specs.declared.refusal.TrailRefusal.TheVariants as refusal
+use Rattle.trail_check.specs.Accepted.{IsLow}
+use Rattle.trail_check.specs.Gates.{AreGates}
+use Rattle.trail_check.specs.Justified.{gaps_proved}
+use Rattle.trail_check.specs.Refusal.{LemmasRefused, Proves}
+
+half : (ends gaps : ℕ) → ends ≤ 2 * (gaps + 1) → gaps_proved ends ≤ gaps
+half ends gaps h = omega (arith, h)
+
+pub ends_low : (f : Fingers) (trails : Trails) (levels : List Level) (ends : ℕ) → AreFingers f → AreGates f trails → AreLevels f trails.order levels → Ends levels [] ends → IsLow f (gaps_proved ends)
+ends_low f trails levels ends ok gates are holds row arranges =
+    half ends (gaps_of row) (levels_law f ok trails.order gates.order levels ends are holds row arranges)
+
+pub row_low : (f : Fingers) (trails : Trails) (levels : List Level) (ends gaps : ℕ) → AreFingers f → AreGates f trails → AreLevels f trails.order levels → Ends levels [] ends → gaps ≤ gaps_proved ends → IsLow f gaps
+row_low f trails levels ends gaps ok gates are holds few row arranges =
+    let least : gaps_proved ends ≤ gaps_of row = ends_low f trails levels ends ok gates are holds row arranges in
+    few_then gaps (gaps_proved ends) (gaps_of row) few least
+  where
+    few_then : (a b c : ℕ) → a ≤ b → b ≤ c → a ≤ c
+    few_then a b c h k = omega (arith, h, k)
+
+-- a refusal of a row tells the gaps that are proved
+pub refusal_low : (f : Fingers) (trails : Trails) (levels : List Level) (ends : ℕ) (cause : TrailRefusal) → AreFingers f → AreGates f trails → AreLevels f trails.order levels → Ends levels [] ends → Proves (λ (told : ℕ). told ≡ gaps_proved ends) cause → Proves (IsLow f) cause
+refusal_low f trails levels ends refusal.Gates ok gates are holds h = tt
+refusal_low f trails levels ends (refusal.Choices gate) ok gates are holds h = tt
+refusal_low f trails levels ends (refusal.Unproved line) ok gates are holds h = tt
+refusal_low f trails levels ends (refusal.NoRow best) ok gates are holds h = subst (IsLow f) (sym h) (ends_low f trails levels ends ok gates are holds)
+refusal_low f trails levels ends refusal.NotArrangement ok gates are holds h = tt
+refusal_low f trails levels ends (refusal.Gaps said counted) ok gates are holds h = tt
+refusal_low f trails levels ends (refusal.NotLeast best said) ok gates are holds h = subst (IsLow f) (sym h) (ends_low f trails levels ends ok gates are holds)
+refusal_low f trails levels ends refusal.NoMemory ok gates are holds h = tt
+
+-- a refusal of a lemma tells none
+pub lemmas_low : (Says : ℕ → Type 0) (first : Option ℕ) (cause : TrailRefusal) → (cause ≢ refusal.NoMemory → LemmasRefused first cause) → Proves Says cause
+lemmas_low Says first refusal.Gates h = tt
+lemmas_low Says first (refusal.Choices gate) h = tt
+lemmas_low Says first (refusal.Unproved line) h = tt
+lemmas_low Says first (refusal.NoRow best) h = absurd (h (λ e. cc))
+lemmas_low Says first refusal.NotArrangement h = tt
+lemmas_low Says first (refusal.Gaps said counted) h = tt
+lemmas_low Says first (refusal.NotLeast best said) h = absurd (h (λ e. cc))
+lemmas_low Says first refusal.NoMemory h = tt

@@ -1,0 +1,10 @@
+pub mod Capped
+pub mod Counted
+pub mod Decided
+pub mod Each
+pub mod Least
+pub mod Leveled
+pub mod Lines
+pub mod Refusals
+pub mod Rows
+pub mod Sound

@@ -1,0 +1,104 @@
+-- What the lemmas and the row of a certificate come to, and that none is accepted and refused.
+use Rattle.std.specs.Prelude.{ℕ, ◌≡◌, ◌≢◌, List, [], Option, Some, None}
+use Rattle.std.proofs.Common.{refl, sym, ap, subst, arith, ◌∙◌}
+use Rattle.std.proofs.lemmas.Option.{none-some}
+use Rattle.cell_num.specs.declared.finger.Fingers.{Fingers}
+use Rattle.row_state.specs.declared.kind.Kinds.{Kinds}
+use Rattle.row_state.proofs.SameKinds.{same_kinds}
+use Rattle.bound_log.specs.declared.log.Best.{Best}
+use Rattle.log_check.specs.Accepted.{BestPasses, WithKinds}
+use Rattle.trail_state.specs.declared.level.Level.{Level}
+use Rattle.trail_log.specs.declared.trails.Trails.{Trails}
+use Rattle.trail_check.specs.declared.refusal.TrailRefusal.{TrailRefusal}
+use Rattle.trail_check.specs.declared.refusal.TrailRefusal.TheVariants as refusal
+use Rattle.trail_check.specs.Accepted.{IsAccepted, first_unproved, least_gaps}
+use Rattle.trail_check.specs.Gates.{AreGates, first_with_many}
+use Rattle.trail_check.specs.Justified.{ends_proved, gaps_proved, unproved}
+use Rattle.trail_check.specs.Leveled.{levels_of}
+use Rattle.trail_check.specs.Listed.{lemmas_listed}
+use Rattle.trail_check.specs.Refusal.{LemmasRefused, Refuses, RowRefused}
+
+-- ---- by the levels of the order
+
+by_levels : (P : List Level → Type 0) (levels all : List Level) → levels ≡ all → P levels → P all
+by_levels P levels all is h = subst P is h
+
+pub all_justified : (f : Fingers) (trails : Trails) (levels : List Level) → levels ≡ levels_of f trails.order → unproved levels [] 5 (lemmas_listed levels trails.lemmas) ≡ None → first_unproved f trails ≡ None
+all_justified f trails levels are h =
+    by_levels (λ (ls : List Level). unproved ls [] 5 (lemmas_listed ls trails.lemmas) ≡ None) levels (levels_of f trails.order) are h
+
+gaps_are : (f : Fingers) (trails : Trails) (levels : List Level) (ends : ℕ) → levels ≡ levels_of f trails.order → ends ≡ ends_proved (lemmas_listed levels trails.lemmas) → gaps_proved ends ≡ least_gaps f trails
+gaps_are f trails levels ends are is =
+    ap gaps_proved (is ∙ ap (λ (ls : List Level). ends_proved (lemmas_listed ls trails.lemmas)) are)
+
+pub accepts : (f : Fingers) (trails : Trails) (levels : List Level) (ends gaps : ℕ) → AreGates f trails → first_with_many f trails.order ≡ None → levels ≡ levels_of f trails.order → unproved levels [] 5 (lemmas_listed levels trails.lemmas) ≡ None → ends ≡ ends_proved (lemmas_listed levels trails.lemmas) → WithKinds f (λ (k : Kinds). BestPasses k f (gaps_proved ends) trails.best gaps) → IsAccepted f trails gaps
+accepts f trails levels ends gaps gates few are justified is passes = record {
+  gates = gates;
+  few_ways = few;
+  justified = all_justified f trails levels are justified;
+  passes = subst (λ (least : ℕ). WithKinds f (λ (k : Kinds). BestPasses k f least trails.best gaps)) (gaps_are f trails levels ends are is) passes;
+}
+
+-- ---- refusals
+
+first_refused : (f : Fingers) (trails : Trails) (levels : List Level) → levels ≡ levels_of f trails.order → (cause : TrailRefusal) → LemmasRefused (unproved levels [] 5 (lemmas_listed levels trails.lemmas)) cause → LemmasRefused (first_unproved f trails) cause
+first_refused f trails levels are cause h =
+    by_levels (λ (ls : List Level). LemmasRefused (unproved ls [] 5 (lemmas_listed ls trails.lemmas)) cause) levels (levels_of f trails.order) are h
+
+lemmas_cause : (f : Fingers) (trails : Trails) (cause : TrailRefusal) → AreGates f trails → first_with_many f trails.order ≡ None → LemmasRefused (first_unproved f trails) cause → Refuses f trails cause
+lemmas_cause f trails refusal.Gates gates few h = absurd h
+lemmas_cause f trails (refusal.Choices gate) gates few h = absurd h
+lemmas_cause f trails (refusal.Unproved line) gates few h = (gates, few, h)
+lemmas_cause f trails (refusal.NoRow best) gates few h = absurd h
+lemmas_cause f trails refusal.NotArrangement gates few h = absurd h
+lemmas_cause f trails (refusal.Gaps said counted) gates few h = absurd h
+lemmas_cause f trails (refusal.NotLeast best said) gates few h = absurd h
+lemmas_cause f trails refusal.NoMemory gates few h = tt
+
+pub lemmas_refuse : (f : Fingers) (trails : Trails) (levels : List Level) (cause : TrailRefusal) → AreGates f trails → first_with_many f trails.order ≡ None → levels ≡ levels_of f trails.order → LemmasRefused (unproved levels [] 5 (lemmas_listed levels trails.lemmas)) cause → Refuses f trails cause
+lemmas_refuse f trails levels cause gates few are h = lemmas_cause f trails cause gates few (first_refused f trails levels are cause h)
+
+row_cause : (f : Fingers) (trails : Trails) (cause : TrailRefusal) → AreGates f trails → first_with_many f trails.order ≡ None → first_unproved f trails ≡ None → WithKinds f (λ (k : Kinds). RowRefused k f (least_gaps f trails) trails.best cause) → Refuses f trails cause
+row_cause f trails refusal.Gates gates few justified (k, of_k, some_k, h) = absurd h
+row_cause f trails (refusal.Choices gate) gates few justified (k, of_k, some_k, h) = absurd h
+row_cause f trails (refusal.Unproved line) gates few justified (k, of_k, some_k, h) = absurd h
+row_cause f trails (refusal.NoRow best) gates few justified h = (gates, few, justified, h)
+row_cause f trails refusal.NotArrangement gates few justified h = (gates, few, justified, h)
+row_cause f trails (refusal.Gaps said counted) gates few justified h = (gates, few, justified, h)
+row_cause f trails (refusal.NotLeast best said) gates few justified h = (gates, few, justified, h)
+row_cause f trails refusal.NoMemory gates few justified h = tt
+
+pub row_refuses : (f : Fingers) (trails : Trails) (levels : List Level) (ends : ℕ) (cause : TrailRefusal) → AreGates f trails → first_with_many f trails.order ≡ None → levels ≡ levels_of f trails.order → unproved levels [] 5 (lemmas_listed levels trails.lemmas) ≡ None → ends ≡ ends_proved (lemmas_listed levels trails.lemmas) → WithKinds f (λ (k : Kinds). RowRefused k f (gaps_proved ends) trails.best cause) → Refuses f trails cause
+row_refuses f trails levels ends cause gates few are justified is h =
+    row_cause f trails cause gates few (all_justified f trails levels are justified)
+    (subst (λ (least : ℕ). WithKinds f (λ (k : Kinds). RowRefused k f least trails.best cause)) (gaps_are f trails levels ends are is) h)
+
+-- ---- not both
+
+row_not_both : (k : Kinds) (f : Fingers) (least : ℕ) (row : Option Best) (gaps : ℕ) (cause : TrailRefusal) → BestPasses k f least row gaps → RowRefused k f least row cause → cause ≢ refusal.NoMemory → ⊥
+row_not_both k f least None gaps cause passes h other = passes
+row_not_both k f least (Some row) gaps refusal.Gates passes h other = h
+row_not_both k f least (Some row) gaps (refusal.Choices gate) passes h other = h
+row_not_both k f least (Some row) gaps (refusal.Unproved line) passes h other = h
+row_not_both k f least (Some row) gaps (refusal.NoRow best) passes h other = h
+row_not_both k f least (Some row) gaps refusal.NotArrangement passes h other = h passes.arranges
+row_not_both k f least (Some row) gaps (refusal.Gaps said counted) passes (arranges, is, counts, differ) other = differ (is ∙ passes.counted ∙ sym counts)
+row_not_both k f least (Some row) gaps (refusal.NotLeast best said) passes (arranges, counted, proved, is, more) other = omega (arith, passes.least, proved, is, more)
+row_not_both k f least (Some row) gaps refusal.NoMemory passes h other = other refl
+
+rows_not_both : (f : Fingers) (least : ℕ) (row : Option Best) (gaps : ℕ) (cause : TrailRefusal) → WithKinds f (λ (k : Kinds). BestPasses k f least row gaps) → WithKinds f (λ (k : Kinds). RowRefused k f least row cause) → cause ≢ refusal.NoMemory → ⊥
+rows_not_both f least row gaps cause (j, of_j, some_j, passes) (k, of_k, some_k, h) other =
+    row_not_both k f least row gaps cause (subst (λ (i : Kinds). BestPasses i f least row gaps) (same_kinds f j k of_j some_j of_k some_k) passes) h other
+
+-- no certificate is accepted that is refused for another cause than memory
+pub not_both : (f : Fingers) (trails : Trails) (gaps : ℕ) (cause : TrailRefusal) → IsAccepted f trails gaps → Refuses f trails cause → cause ≢ refusal.NoMemory → ⊥
+not_both f trails gaps refusal.Gates is h other = h is.gates
+not_both f trails gaps (refusal.Choices gate) is (gates, many) other = none-some gate (sym is.few_ways ∙ many)
+not_both f trails gaps (refusal.Unproved line) is (gates, few, first) other = none-some line (sym is.justified ∙ first)
+not_both f trails gaps (refusal.NoRow best) is (gates, few, justified, h) other = rows_not_both f (least_gaps f trails) trails.best gaps (refusal.NoRow best) is.passes h other
+not_both f trails gaps refusal.NotArrangement is (gates, few, justified, h) other = rows_not_both f (least_gaps f trails) trails.best gaps refusal.NotArrangement is.passes h other
+not_both f trails gaps (refusal.Gaps said counted) is (gates, few, justified, h) other =
+    rows_not_both f (least_gaps f trails) trails.best gaps (refusal.Gaps said counted) is.passes h other
+not_both f trails gaps (refusal.NotLeast best said) is (gates, few, justified, h) other =
+    rows_not_both f (least_gaps f trails) trails.best gaps (refusal.NotLeast best said) is.passes h other
+not_both f trails gaps refusal.NoMemory is h other = other refl

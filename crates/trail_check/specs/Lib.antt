@@ -1,0 +1,9 @@
+-- What contracts of public calls cite, and what these definitions stand on.
+pub mod Accepted
+pub mod Gates
+pub mod Justified
+pub mod Leveled
+pub mod Listed
+pub mod Refusal
+-- What inner contracts and proofs alone cite.
+pub mod Tests

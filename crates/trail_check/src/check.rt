@@ -1,0 +1,49 @@
+ghost use Rattle.std.specs.Prelude.{◌≡◌, ◌≢◌, ◌≤◌, IfErr, IfOk, None, length};
+ghost use Rattle.cell_num.specs.Fingers.{AreFingers};
+ghost use Rattle.trail_check.specs.Accepted.{IsAccepted, IsLow};
+ghost use Rattle.trail_check.specs.Gates.{AreGates, first_with_many};
+ghost use Rattle.trail_check.specs.Refusal.{Proves, Refuses};
+ghost use Rattle.trail_check.specs.declared.refusal.TrailRefusal.TheVariants as refusal;
+
+use crate::gates::are_gates;
+use crate::ways::first_with_many;
+use crate::{TrailRefusal, check_lemmas, check_row, levels_of};
+use cell_num::{Fingers, MOST_BYTES};
+use std::alloc::Global;
+use trail_log::Trails;
+
+// The lemmas and the row, where the gates are as asked.
+#[tactic(auto, using(crate::proofs::Refusals::accepts, crate::proofs::Refusals::lemmas_refuse, crate::proofs::Refusals::row_refuses, crate::proofs::Least::row_low, crate::proofs::Least::refusal_low, crate::proofs::Least::lemmas_low))]
+fn check_listed(alloc: Global, fingers: &Fingers, trails: &Trails) -> Result<u32, TrailRefusal>
+    requires fingers { AreFingers fingers.now }
+    requires gates { AreGates fingers.now trails.now }
+    requires ways { first_with_many fingers.now trails.now.order ≡ None }
+    requires few { length trails.now.lemmas ≤ MOST_BYTES }
+    ensures accepted { IfOk result (IsAccepted fingers.now trails.now) }
+    ensures refused { IfErr result (λ cause. cause ≢ refusal.NoMemory → Refuses fingers.now trails.now cause) }
+    ensures least { IfOk result (IsLow fingers.now) }
+    ensures low { IfErr result (Proves (IsLow fingers.now)) }
+{
+    let levels = levels_of(alloc, fingers, trails.order.as_slice())?;
+    let ends = check_lemmas(alloc, levels.as_slice(), trails.lemmas.as_slice())?;
+    check_row(alloc, fingers, &trails.best, ends.saturating_sub(1) / 2)
+}
+
+/// The gaps of the row that the certificate lists, where it is accepted: no arrangement of the fingers has fewer. Else
+/// the first cause to refuse it. At most [`MOST_BYTES`] lemmas.
+pub fn check_trails(alloc: Global, fingers: &Fingers, trails: &Trails) -> Result<u32, TrailRefusal>
+    requires fingers { AreFingers fingers.now }
+    requires few { length trails.now.lemmas ≤ MOST_BYTES }
+    ensures accepted { IfOk result (IsAccepted fingers.now trails.now) }
+    ensures refused { IfErr result (λ cause. cause ≢ refusal.NoMemory → Refuses fingers.now trails.now cause) }
+    ensures least { IfOk result (IsLow fingers.now) }
+    ensures low { IfErr result (Proves (IsLow fingers.now)) }
+{
+    if !are_gates(fingers, trails) {
+        return Err(TrailRefusal::Gates);
+    }
+    if let Some(gate) = first_with_many(fingers, trails.order.as_slice()) {
+        return Err(TrailRefusal::Choices { gate });
+    }
+    check_listed(alloc, fingers, trails)
+}

@@ -1,0 +1,94 @@
+ghost use Rattle.std.specs.Prelude.{◌≡◌, ◌↔◌, IsTrue};
+ghost use Rattle.std.specs.List.{list_all};
+ghost use Rattle.cell_num.specs.Fingers.{on_gate};
+ghost use Rattle.trail_check.specs.Gates.{AreGates};
+ghost use Rattle.trail_check.specs.Tests.{are_filled, are_once, are_ordered, gates_test, has_gate, is_filled, is_gate, is_order};
+
+use cell_num::{Finger, Fingers, NetNo};
+use trail_log::Trails;
+
+fn has_gate(gates: &[NetNo], gate: u32) -> bool
+    ensures { result ≡ has_gate gates.now gate }
+{
+    gates.iter().any(|other| other.0 == gate)
+}
+
+fn are_once(gates: &[NetNo]) -> bool
+    ensures { result ≡ are_once gates.now }
+{
+    match gates {
+        [gate, later @ ..] => !has_gate(later, gate.0) && are_once(later),
+        [] => true,
+    }
+}
+
+pub(crate) fn count_on(fingers: &[Finger], gate: u32) -> usize
+    ensures { result ≡ on_gate gate fingers.now }
+{
+    fingers
+        .iter()
+        .filter(|finger| finger.gate.0 == gate)
+        .count()
+}
+
+fn is_gate(fingers: &Fingers, gate: &NetNo) -> bool
+    ensures { result ≡ is_gate fingers.now gate.now }
+{
+    count_on(fingers.p.as_slice(), gate.0) > 0 || count_on(fingers.n.as_slice(), gate.0) > 0
+}
+
+fn are_gates_of(fingers: &Fingers, order: &[NetNo]) -> bool
+    ensures { result ≡ list_all (is_gate fingers.now) order.now }
+{
+    order.iter().all(|gate| is_gate(fingers, gate))
+}
+
+fn are_ordered(order: &[NetNo], fingers: &[Finger]) -> bool
+    ensures { result ≡ are_ordered order.now fingers.now }
+{
+    fingers.iter().all(|finger| has_gate(order, finger.gate.0))
+}
+
+fn is_order(fingers: &Fingers, order: &[NetNo]) -> bool
+    ensures { result ≡ is_order fingers.now order.now }
+{
+    are_once(order)
+        && are_gates_of(fingers, order)
+        && are_ordered(order, fingers.p.as_slice())
+        && are_ordered(order, fingers.n.as_slice())
+}
+
+fn is_filled(fingers: &Fingers, fill: &[NetNo], finger: &Finger) -> bool
+    ensures { result ≡ is_filled fingers.now fill.now finger.now }
+{
+    let gate = finger.gate.0;
+    count_on(fingers.p.as_slice(), gate) == count_on(fingers.n.as_slice(), gate)
+        || has_gate(fill, gate)
+}
+
+fn are_filled_in(fingers: &Fingers, fill: &[NetNo], row: &[Finger]) -> bool
+    ensures { result ≡ list_all (is_filled fingers.now fill.now) row.now }
+{
+    row.iter().all(|finger| is_filled(fingers, fill, finger))
+}
+
+fn are_filled(fingers: &Fingers, fill: &[NetNo]) -> bool
+    ensures { result ≡ are_filled fingers.now fill.now }
+{
+    are_filled_in(fingers, fill, fingers.p.as_slice())
+        && are_filled_in(fingers, fill, fingers.n.as_slice())
+}
+
+fn passes(fingers: &Fingers, trails: &Trails) -> bool
+    ensures { result ≡ gates_test fingers.now trails.now }
+{
+    is_order(fingers, trails.order.as_slice()) && are_filled(fingers, trails.fill.as_slice())
+}
+
+/// Whether the order is each gate of a finger once, and each gate with half columns is filled.
+#[tactic(auto, using(crate::proofs::Decided::gates_decide))]
+pub fn are_gates(fingers: &Fingers, trails: &Trails) -> bool
+    ensures { IsTrue result ↔ AreGates fingers.now trails.now }
+{
+    passes(fingers, trails)
+}

@@ -1,0 +1,99 @@
+ghost use Rattle.std.specs.Prelude.{◌≡◌, ◌≢◌, ◌≤◌, ◌<◌, [], All, IfErr, IfOk, None, Some, length, slice_get};
+ghost use Rattle.std.specs.List.{list_all};
+ghost use Rattle.trail_state.specs.declared.level.Level.{Level as LevelOf};
+ghost use Rattle.trail_state.specs.Levels.{Ends};
+ghost use Rattle.trail_check.specs.Justified.{choice_reaches, ends_proved, is_justified, level_reaches, unproved};
+ghost use Rattle.trail_check.specs.Listed.{lemmas_listed};
+ghost use Rattle.trail_check.specs.Refusal.{LemmasRefused};
+ghost use Rattle.trail_check.specs.declared.refusal.TrailRefusal.TheVariants as refusal;
+
+use crate::{TrailLemma, TrailRefusal, ends_proved, is_known, lemma_listed};
+use cell_num::{List, MOST_BYTES, NoMemory};
+use std::alloc::Global;
+use trail_log::LemmaLine;
+use trail_state::{Choice, Level, after};
+
+fn reaches(
+    alloc: Global,
+    earlier: &[TrailLemma],
+    level: &Level,
+    lemma: &TrailLemma,
+    choice: &Choice,
+) -> Result<bool, NoMemory>
+    requires nodes { length level.now.now ≤ 65536 }
+    ensures { IfOk result (λ ok. ok ≡ choice_reaches earlier.now level.entry.now lemma.now choice.now) }
+{
+    let settled = after(
+        alloc,
+        level.now.as_slice(),
+        level.next.as_slice(),
+        &lemma.state,
+        choice.as_slice(),
+    )?;
+    let need = lemma.bound.saturating_sub(settled.ends);
+    Ok(is_known(earlier, u64::from(lemma.done) + 1, &settled.state, need))
+}
+
+// Whether each choice reaches the lemma's bound.
+#[tactic(auto, using(crate::proofs::Each::all_pass))]
+fn each_reaches(
+    alloc: Global,
+    earlier: &[TrailLemma],
+    level: &Level,
+    lemma: &TrailLemma,
+) -> Result<bool, NoMemory>
+    requires nodes { length level.now.now ≤ 65536 }
+    ensures { IfOk result (λ ok. ok ≡ list_all (choice_reaches earlier.now level.entry.now lemma.now) level.entry.now.choices) }
+{
+    let choices = level.choices.as_slice();
+    for choice in choices {
+        if !reaches(alloc, earlier, level, lemma, choice)? {
+            return Ok(false);
+        }
+    }
+    Ok(true)
+}
+
+fn justifies(
+    alloc: Global,
+    levels: &[Level],
+    earlier: &[TrailLemma],
+    lemma: &TrailLemma,
+) -> Result<bool, NoMemory>
+    requires nodes { All (λ (level : LevelOf). length level.now ≤ 65536) levels.now }
+    ensures { IfOk result (λ ok. ok ≡ is_justified levels.now earlier.now lemma.now) }
+{
+    match levels.get(lemma.done as usize) {
+        Some(level) => each_reaches(alloc, earlier, level, lemma),
+        None => Ok(false),
+    }
+}
+
+/// The ends that the lemmas of a certificate prove of every row, where each is justified by those before it; else the
+/// line of the first that is not. The levels are those of the order: at most 65,536 nodes each.
+#[tactic(auto, using(crate::proofs::Lines::first_fails, crate::proofs::Lines::one_more, crate::proofs::Lines::all_proved, crate::proofs::Lines::known_more))]
+pub fn check_lemmas(
+    alloc: Global,
+    levels: &[Level],
+    lines: &[LemmaLine],
+) -> Result<u32, TrailRefusal>
+    requires nodes { All (λ (level : LevelOf). length level.now ≤ 65536) levels.now }
+    requires few { length lines.now ≤ MOST_BYTES }
+    ensures proved { IfOk result (λ ends. unproved levels.now [] 5 (lemmas_listed levels.now lines.now) ≡ None) }
+    ensures ends { IfOk result (λ ends. ends ≡ ends_proved (lemmas_listed levels.now lines.now)) }
+    ensures refused { IfErr result (λ cause. cause ≢ refusal.NoMemory →
+        LemmasRefused (unproved levels.now [] 5 (lemmas_listed levels.now lines.now)) cause) }
+    ensures true_of { IfOk result (Ends levels.now []) }
+{
+    let mut known = List::new(alloc);
+    let mut line = 5;
+    for listed in lines {
+        let lemma = lemma_listed(alloc, levels, listed)?;
+        if !justifies(alloc, levels, known.as_slice(), &lemma)? {
+            return Err(TrailRefusal::Unproved { line });
+        }
+        known.push(lemma)?;
+        line += 1;
+    }
+    Ok(ends_proved(known.as_slice()))
+}

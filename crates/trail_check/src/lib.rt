@@ -1,0 +1,22 @@
+// Whether a certificate by trails proves that its row has least gaps.
+#![tactic(auto)]
+
+mod check;
+mod gates;
+mod justified;
+mod known;
+mod lemma;
+mod levels;
+mod refusal;
+mod row;
+mod ways;
+
+pub use check::check_trails;
+pub use gates::are_gates;
+pub use justified::check_lemmas;
+pub use known::{ends_proved, is_known, is_same_state};
+pub use lemma::{TrailLemma, lemma_listed};
+pub use levels::levels_of;
+pub use refusal::TrailRefusal;
+pub use row::check_row;
+pub use ways::{MOST_CHOICES, first_with_many, has_many_ways};

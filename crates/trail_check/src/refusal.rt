@@ -1,0 +1,42 @@
+ghost use Rattle.std.specs.Prelude.{◌≡◌};
+
+use cell_num::{NetNo, NoMemory};
+use thiserror::Error;
+
+/// Why a certificate is refused, in the order of looking.
+#[derive(Debug, PartialEq, Eq, Drop, Error)]
+pub enum TrailRefusal {
+    /// The order is not each gate of a finger once, or a gate with half columns is not filled.
+    #[error("Gates")]
+    Gates,
+    /// The first gate of the order whose fingers pair in more than [`MOST_CHOICES`](crate::MOST_CHOICES) ways.
+    #[error("Choices")]
+    Choices { gate: NetNo },
+    /// The first lemma that is not justified, by its line in the text of the certificate.
+    #[error("Unproved")]
+    Unproved { line: u32 },
+    /// The certificate lists no row. The lemmas prove that each has at least so many gaps.
+    #[error("NoRow")]
+    NoRow { best: u32 },
+    /// The listed columns are no arrangement of the fingers.
+    #[error("NotArrangement")]
+    NotArrangement,
+    /// The certificate says another number of gaps than its columns have.
+    #[error("Gaps")]
+    Gaps { said: u32, counted: u32 },
+    /// The row has more gaps than the lemmas prove that each has.
+    #[error("NotLeast")]
+    NotLeast { best: u32, said: u32 },
+    #[error("NoMemory")]
+    NoMemory,
+}
+
+impl From<NoMemory> for TrailRefusal {
+    ghost use Rattle.trail_check.specs.declared.refusal.TrailRefusal.TheVariants.{NoMemory};
+
+    ghost from_gives = { λ _ e. e ≡ NoMemory };
+
+    fn from(_: NoMemory) -> TrailRefusal {
+        TrailRefusal::NoMemory
+    }
+}
