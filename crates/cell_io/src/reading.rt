@@ -65,10 +65,10 @@ impl<F: Read + Seek + Drop> Reading<F> {
     }
 }
 
-// Bytes in memory are read as a file is, and there the contract above tells which ones come.
-#[cfg(test)]
+/// Reads bytes in memory as a file is read. They tell what they are, so the contract of `Reading::read_part` says which
+/// ones come; nothing else calls it.
 #[tactic(auto, using(crate::proofs::Readings::cursor_leaves_the_rest))]
-pub(crate) fn read_memory(bytes: Vec<u8>, from: u64, into: &mut [u8]) -> io::Result<usize>
+pub fn read_memory(bytes: Vec<u8>, from: u64, into: &mut [u8]) -> io::Result<usize>
     ensures { IfOk result (λ count. ReadsPart bytes.items from into.new count) }
 {
     let mut reading = Reading::new("", io::Cursor::new(bytes))?;

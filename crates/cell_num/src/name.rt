@@ -67,18 +67,3 @@ pub fn is_cell(word: &[u8]) -> bool
 {
     1 <= word.len() && word.len() <= MOST_CELL_BYTES && cell_bytes(word)
 }
-
-#[cfg(test)]
-mod tests {
-    use super::*;
-    use std::test::Fail;
-
-    #[test]
-    fn copies_names(rt: HostRuntime) -> Result<(), Fail> {
-        let name = copy(rt.alloc(), b"Vdd")?;
-        assert_eq!(rt; name.as_slice(), b"Vdd".as_slice());
-        let name = lower(rt.alloc(), b"N1_X$")?;
-        assert_eq!(rt; name.as_slice(), b"n1_x$".as_slice());
-        Ok(())
-    }
-}

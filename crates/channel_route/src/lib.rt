@@ -20,6 +20,3 @@ pub use routing::{
 };
 pub use sweep::{Filled, fill};
 pub use wire::{MOST_TRUNKS, MOST_WIRES, PlacedWire, Wire, wires};
-
-#[cfg(test)]
-mod tests;

@@ -14,6 +14,10 @@ mod bodies;
 #[cfg(test)]
 mod cells;
 #[cfg(test)]
+mod channels;
+#[cfg(test)]
+mod columns;
+#[cfg(test)]
 mod counts;
 #[cfg(test)]
 mod drawings;

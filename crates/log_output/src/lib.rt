@@ -11,6 +11,3 @@ pub use content::Content;
 pub use kept_log::KeptLog;
 pub use log_text::LogText;
 pub use target::Target;
-
-#[cfg(test)]
-mod tests;

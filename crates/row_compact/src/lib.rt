@@ -10,6 +10,3 @@ pub use allowed::{distances, lines_of, wiring_distances};
 pub use distance::{Distance, DistanceList, Distances, LineXs, MOST_LINES, x_of};
 pub use lines::{even_lines, least_lines, one_least};
 pub use measure::{CONTACT_SPACE, LINE_SPACE, SIDE_SPACE, STRETCH_SPACE};
-
-#[cfg(test)]
-mod tests;

@@ -1,94 +1,22 @@
-ghost use Rattle.std.specs.Prelude.{◌≡◌, ◌≤◌, true, All, IfOk, length};
-ghost use Rattle.row_model.specs.Arrangement.{IsPlaced, IsColumn};
+// The channel between the rows, and the least lines of a row that is routed so.
+ghost use Rattle.std.specs.Prelude.{◌≡◌, ◌≤◌};
 ghost use Rattle.row_place.specs.Places.{IsPlacement};
-ghost use Rattle.row_place.specs.Trunks.{HasPins};
 
-use crate::constraint::{Constraint, constraints};
-use crate::wire::{lines, wires};
-use crate::{Above, RouteStop, Routing, Trunk, route};
-use cell_num::{Finger, MOST_COLUMNS, NetNo, NoMemory, Pins, Row};
-use row_model::{Arrangement, Column, Placed};
-use row_place::{Placement, place};
+use crate::cells::lines;
+use crate::columns::{both, n_alone, p_alone, placed, rails_at};
+use crate::pin_places::have_places;
+use cell_num::{NetNo, Pins};
+use channel_route::{Constraint, RouteStop, Routing, Trunk, constraints, route, wires};
+use row_compact::{LineXs, even_lines};
+use row_place::Placement;
 use std::alloc::{AllocError, Global};
 use std::test::Fail;
-
-// A finger with the nets at its ends from left to right; it is flipped where they fall.
-fn standing(row: Row, gate: u32, left: u32, right: u32) -> Placed
-    ensures gate { result.finger.gate.0 ≡ gate }
-    ensures placed { IsPlaced result }
-{
-    let flipped = right < left;
-    let (lo, hi) = if flipped {
-        (right, left)
-    } else {
-        (left, right)
-    };
-    Placed {
-        finger: Finger {
-            row,
-            gate: NetNo(gate),
-            lo: NetNo(lo),
-            hi: NetNo(hi),
-            width: 20,
-        },
-        flipped,
-    }
-}
-
-fn both(gate: u32, p: (u32, u32), n: (u32, u32)) -> Column
-    ensures { IsColumn result }
-{
-    Column {
-        p: Some(standing(Row::P, gate, p.0, p.1)),
-        n: Some(standing(Row::N, gate, n.0, n.1)),
-    }
-}
-
-fn p_alone(gate: u32, p: (u32, u32)) -> Column
-    ensures { IsColumn result }
-{
-    Column {
-        p: Some(standing(Row::P, gate, p.0, p.1)),
-        n: None,
-    }
-}
-
-fn n_alone(gate: u32, n: (u32, u32)) -> Column
-    ensures { IsColumn result }
-{
-    Column {
-        p: None,
-        n: Some(standing(Row::N, gate, n.0, n.1)),
-    }
-}
-
-fn placed(alloc: Global, columns: &[Column]) -> Result<Placement, NoMemory>
-    requires columns { All IsColumn columns.now }
-    requires few { length columns.now ≤ MOST_COLUMNS }
-    ensures { IfOk result IsPlacement }
-{
-    let mut row = Arrangement::new(alloc);
-    row.extend(columns)?;
-    place(alloc, &row)
-}
-
-fn have_places(alloc: Global, placement: &Placement, pins: &Pins) -> Result<bool, AllocError>
-    ensures { IfOk result (λ placed. placed ≡ true → HasPins placement.now pins.now) }
-{
-    for number in 0..pins.pins {
-        let net = NetNo(number);
-        if !pins.is_rail(net) && lines(alloc, placement, net)?.is_empty() {
-            return Ok(false);
-        }
-    }
-    Ok(true)
-}
 
 // A pin without a place gives NoMemory, which no row of the tests expects.
 fn routed(alloc: Global, placement: &Placement, pins: &Pins) -> Result<Routing, RouteStop>
     requires { IsPlacement placement.now }
 {
-    if !have_places(alloc, placement, pins)? {
+    if !have_places(placement, pins) {
         return Err(RouteStop::NoMemory);
     }
     route(alloc, placement, pins)
@@ -98,21 +26,24 @@ fn routed(alloc: Global, placement: &Placement, pins: &Pins) -> Result<Routing, 
 fn above(alloc: Global, placement: &Placement, pins: &Pins) -> Result<Vec<Constraint>, AllocError>
     requires { IsPlacement placement.now }
 {
-    if !have_places(alloc, placement, pins)? {
+    if !have_places(placement, pins) {
         return Ok(Vec::new(alloc));
     }
     let wires = wires(alloc, placement, pins)?;
     constraints(alloc, &wires, placement.nodes.as_slice())
 }
 
-fn rails_at(vdd: u32) -> Pins
-    requires { vdd ≤ 100 }
+// The least lines of a row that is routed.
+fn least(alloc: Global, placement: &Placement, pins: &Pins) -> Result<LineXs, Fail>
+    requires { IsPlacement placement.now }
 {
-    Pins {
-        pins: vdd + 2,
-        vdd: NetNo(vdd),
-        gnd: NetNo(vdd + 1),
+    if !have_places(placement, pins) {
+        return Err(Fail::from("a pin without a place"));
     }
+    let Ok(routing) = route(alloc, placement, pins) else {
+        return Err(Fail::from("no routing"));
+    };
+    Ok(lines(alloc, placement, &routing, pins, true)?)
 }
 
 fn trunk(net: u32, left: u32, right: u32, track: u32) -> Trunk {
@@ -240,5 +171,19 @@ fn finds_the_cycle(rt: HostRuntime) -> Result<(), Fail> {
         &[both(6, (0, 2), (1, 3)), both(7, (1, 4), (0, 5))],
     )?;
     assert!(rt; is_cycle(&routed(rt.alloc(), &row, &rails_at(8)), &[(0, 0), (1, 4)]));
+    Ok(())
+}
+
+// The inverter and the NAND of two inputs of above, whose inner net has no contact.
+#[test]
+fn puts_rows_on_lines(rt: HostRuntime) -> Result<(), Fail> {
+    let alloc = rt.alloc();
+    let inverter = placed(alloc, &[both(0, (1, 2), (1, 3))])?;
+    let xs = least(alloc, &inverter, &rails_at(2))?;
+    assert!(rt; xs.as_slice() == [8, 22, 33].as_slice());
+    let nand = placed(alloc, &[both(0, (2, 3), (2, 5)), both(1, (3, 2), (5, 4))])?;
+    let xs = least(alloc, &nand, &rails_at(3))?;
+    assert!(rt; xs.as_slice() == [8, 19, 30, 41, 52].as_slice());
+    assert!(rt; even_lines(alloc, 3)?.as_slice() == [8, 22, 36].as_slice());
     Ok(())
 }
