@@ -5,7 +5,7 @@ use Rattle.call_read.specs.declared.read.Source.{Source as Asked}
 use Rattle.call_read.specs.declared.read.Source.TheVariants as asked
 use Rattle.call_read.specs.declared.refusal.Refusal.{Refusal}
 use Rattle.call_read.specs.declared.refusal.Refusal.TheVariants.{Unread, NoMemory}
-use Rattle.call_read.specs.Sources.{Source, TechFile, SpiceFile, LogFile, GdsFile, LefFile, MayRead}
+use Rattle.call_read.specs.Sources.{Source, TechFile, SpiceFile, LogFile, GdsFile, LefFile, TrailFile, MayRead}
 
 -- the program's source, by its text
 abbrev pub named : Asked → Source
@@ -14,6 +14,7 @@ named (asked.Spice name) = SpiceFile name.now
 named (asked.Log name) = LogFile name.now
 named (asked.Gds name) = GdsFile name.now
 named (asked.Lef name) = LefFile name.now
+named (asked.Trails name) = TrailFile name.now
 
 -- it was read so, or memory ran out
 abbrev pub IsRead : View → View → Source → Result (List ℕ) Refusal → Type 0

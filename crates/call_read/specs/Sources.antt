@@ -11,6 +11,7 @@ pub data Source : Type 0 where
   LogFile : (name : List ℕ) → Source
   GdsFile : (name : List ℕ) → Source
   LefFile : (name : List ℕ) → Source
+  TrailFile : (name : List ℕ) → Source
 
 abbrev pub file_name : Source → List ℕ
 file_name (TechFile name) = name
@@ -18,14 +19,16 @@ file_name (SpiceFile name) = name
 file_name (LogFile name) = name
 file_name (GdsFile name) = name
 file_name (LefFile name) = name
+file_name (TrailFile name) = name
 
--- the most bytes of a file: 4 MiB, 512 MiB for a log, and 64 MiB for a GDSII and a LEF file
+-- the most bytes of a file: 4 MiB, 512 MiB for a log, and 64 MiB for a GDSII file, a LEF file and a certificate by trails
 abbrev pub most_bytes : Source → ℕ
 most_bytes (TechFile name) = 4194304
 most_bytes (SpiceFile name) = 4194304
 most_bytes (LogFile name) = 536870912
 most_bytes (GdsFile name) = 67108864
 most_bytes (LefFile name) = 67108864
+most_bytes (TrailFile name) = 67108864
 
 -- the bytes of a file that is there and within its limit
 abbrev pub within : List ℕ → ℕ → Option (List ℕ) → Result (List ℕ) Refusal

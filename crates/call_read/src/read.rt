@@ -50,6 +50,7 @@ pub enum Source<'a> {
     Log(&'a str),
     Gds(&'a str),
     Lef(&'a str),
+    Trails(&'a str),
 }
 
 fn file_name(source: Source<'_>) -> &str
@@ -60,7 +61,8 @@ fn file_name(source: Source<'_>) -> &str
         | Source::Spice(name)
         | Source::Log(name)
         | Source::Gds(name)
-        | Source::Lef(name) => name,
+        | Source::Lef(name)
+        | Source::Trails(name) => name,
     }
 }
 
@@ -71,7 +73,7 @@ fn most_bytes(source: Source<'_>) -> u64
     match source {
         Source::Tech(_) | Source::Spice(_) => 4_194_304,
         Source::Log(_) => 536_870_912,
-        Source::Gds(_) | Source::Lef(_) => 67_108_864,
+        Source::Gds(_) | Source::Lef(_) | Source::Trails(_) => 67_108_864,
     }
 }
 

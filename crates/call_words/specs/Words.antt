@@ -3,6 +3,8 @@ use Rattle.std.specs.Prelude.{ℕ, ◌&&◌, not, nat_le, Bool, List, [], ◌∷
 use Rattle.std.specs.List.{range_with_len}
 use Rattle.std.specs.declared.alloc.Global.{Global}
 use Rattle.cell_num.specs.Names.{is_cell}
+use Rattle.call_words.specs.declared.evidence.Evidence.{Evidence}
+use Rattle.call_words.specs.declared.evidence.Evidence.TheVariants.{Log, Trails}
 use Rattle.call_words.specs.declared.form.Form.{Form as Read}
 use Rattle.call_words.specs.declared.form.Form.TheVariants as read
 use Rattle.call_words.specs.Asked.{CellAsked, RowAsked, are_row_cells, is_top, texts}
@@ -14,14 +16,14 @@ use Rattle.cell_inputs.specs.declared.style.Wiring.TheVariants.{Straight, Dogleg
 use Rattle.scmos_rules.specs.declared.rules.Deck.{Deck}
 use Rattle.scmos_rules.specs.declared.rules.Deck.TheVariants as deck
 
--- what a call asks for: `plan TECH SPICE CELL`, `make TECH SPICE CELL OUT`, which may end with `--dogleg` and `--taps`,
--- `check TECH SPICE CELL LOG`, `extract TECH GDS CELL`, whose technology is none for the plain one and which may end
--- with `--taps` for the deck of cells with taps, `bench NUMBER`, `row TECH SPICE OUT TOP CELL CELL ..`, or `agree TECH
--- GDS LEF CELL`
+-- what a call asks for: `plan TECH SPICE CELL`, which may end with `--trails` for another kind of evidence, `make TECH
+-- SPICE CELL OUT`, which may end with `--dogleg` and `--taps`, `check TECH SPICE CELL LOG`, or with `--trails` behind the
+-- file's name, `extract TECH GDS CELL`, whose technology is none for the plain one and which may end with `--taps` for
+-- the deck of cells with taps, `bench NUMBER`, `row TECH SPICE OUT TOP CELL CELL ..`, or `agree TECH GDS LEF CELL`
 pub data Form : Type 0 where
-  Plan : (cell : CellAsked) → Form
+  Plan : (cell : CellAsked) (evidence : Evidence) → Form
   Make : (cell : CellAsked) (out : List ℕ) (style : Style) → Form
-  Check : (cell : CellAsked) (log : List ℕ) → Form
+  Check : (cell : CellAsked) (file : List ℕ) (evidence : Evidence) → Form
   Extract : (tech : Option (List ℕ)) (gds cell : List ℕ) (rules : Deck) → Form
   Bench : (number : ℕ) → Form
   Row : (row : RowAsked) (out : List ℕ) → Form
@@ -29,9 +31,9 @@ pub data Form : Type 0 where
 
 -- the program's form of a call, by its texts
 abbrev pub shown : Read → Form
-shown (read.Plan cell) = Plan cell
+shown (read.Plan cell evidence) = Plan cell evidence
 shown (read.Make cell out style) = Make cell out.now style
-shown (read.Check cell log) = Check cell log.now
+shown (read.Check cell file evidence) = Check cell file.now evidence
 shown (read.Extract tech gds cell rules) = Extract (option_map (λ name. name.now) tech) gds.now cell.now rules
 shown (read.Bench number) = Bench number
 shown (read.Row row out) = Row row out.now
@@ -51,6 +53,8 @@ usage_text =
     ++ codes "extract TECH GDS CELL --taps\n"
     ++ codes "row TECH SPICE OUT TOP CELL CELL ..\n"
     ++ codes "agree TECH GDS LEF CELL\n"
+    ++ codes "plan TECH SPICE CELL --trails\n"
+    ++ codes "check TECH SPICE CELL FILE --trails\n"
 
 -- the name of a file: not empty
 abbrev pub is_file : List ℕ → Bool
@@ -67,9 +71,16 @@ cell_of tech spice cell =
     then Some (record { tech = tech_of tech; spice = spice; cell = cell })
     else None
 
+-- the evidence of the last words: a log, or with `--trails` a certificate by trails
+abbrev pub evidence_of : List (List ℕ) → Option Evidence
+evidence_of [] = Some Log
+evidence_of (word ∷ []) = if bytes_eq word (codes "--trails") then Some Trails else None
+evidence_of _ = None
+
 -- the form of the words behind a command
 abbrev pub plan_of : List (List ℕ) → Option Form
-plan_of (tech ∷ spice ∷ cell ∷ []) = option_map (λ asked. Plan asked) (cell_of tech spice cell)
+plan_of (tech ∷ spice ∷ cell ∷ more) =
+    option_and_then (λ evidence. option_map (λ asked. Plan asked evidence) (cell_of tech spice cell)) (evidence_of more)
 plan_of _ = None
 
 -- a drawing in a style, in files whose names begin so
@@ -97,9 +108,14 @@ make_of (tech ∷ spice ∷ cell ∷ out ∷ more) =
     option_and_then (λ style. making_of style tech spice cell out) (style_of more)
 make_of _ = None
 
+-- a file of evidence that is checked
+abbrev pub checking_of : Evidence → List ℕ → List ℕ → List ℕ → List ℕ → Option Form
+checking_of evidence tech spice cell file =
+    if is_file file then option_map (λ asked. Check asked file evidence) (cell_of tech spice cell) else None
+
 abbrev pub check_of : List (List ℕ) → Option Form
-check_of (tech ∷ spice ∷ cell ∷ log ∷ []) =
-    if is_file log then option_map (λ asked. Check asked log) (cell_of tech spice cell) else None
+check_of (tech ∷ spice ∷ cell ∷ file ∷ more) =
+    option_and_then (λ evidence. checking_of evidence tech spice cell file) (evidence_of more)
 check_of _ = None
 
 -- a layout that is checked by these rules

@@ -1,10 +1,11 @@
 ghost use Rattle.std.specs.Prelude.{◌≡◌, option_map};
 ghost use Rattle.call_words.specs.Asked.{texts};
-ghost use Rattle.call_words.specs.Words.{shown, plan_of, making_of, taps_of, style_of, make_of, check_of};
+ghost use Rattle.call_words.specs.Words.{shown, evidence_of, plan_of, making_of, taps_of, style_of, make_of, check_of};
 ghost use Rattle.call_words.specs.Words.{extracting_of, extract_of, bench_of, row_of, agree_of, asked};
 
 use crate::cell::{CellAsked, cell_of, tech_of};
 use crate::count::CellCount;
+use crate::evidence::Evidence;
 use crate::row::{self, RowAsked};
 use cell_inputs::{Style, Taps, Wiring};
 use cell_num::is_cell;
@@ -13,9 +14,10 @@ use scmos_rules::Deck;
 /// What a call of the program asks for.
 #[derive(Drop)]
 pub enum Form<'a> {
-    /// The first least row of a cell.
+    /// The first least row of a cell, with its evidence.
     Plan {
         cell: CellAsked<'a>,
+        evidence: Evidence,
     },
     /// The drawing of a cell in a style, in files whose names begin so.
     Make {
@@ -23,10 +25,11 @@ pub enum Form<'a> {
         out: &'a str,
         style: Style,
     },
-    /// Whether a log certifies a row of a cell.
+    /// Whether a file holds evidence that certifies a row of a cell.
     Check {
         cell: CellAsked<'a>,
-        log: &'a str,
+        file: &'a str,
+        evidence: Evidence,
     },
     /// The netlist of a cell of a GDSII file, checked by a deck of rules; no technology's file is the plain technology.
     Extract {
@@ -53,17 +56,27 @@ pub enum Form<'a> {
     },
 }
 
+// The evidence of the last words, none or `--trails`.
+fn evidence_of(words: &[String]) -> Option<Evidence>
+    ensures { result ≡ evidence_of (texts words.now) }
+{
+    match words {
+        [] => Some(Evidence::Log),
+        [word] if word.as_str() == "--trails" => Some(Evidence::Trails),
+        _ => None,
+    }
+}
+
 // The form of the words behind `plan`.
 fn plan_of(words: &[String]) -> Option<Form<'_>>
     ensures { option_map shown result ≡ plan_of (texts words.now) }
 {
-    let [tech, spice, cell] = words else {
+    let [tech, spice, cell, more @ ..] = words else {
         return None;
     };
-    match cell_of(tech.as_str(), spice.as_str(), cell.as_str()) {
-        Some(cell) => Some(Form::Plan { cell }),
-        None => None,
-    }
+    let evidence = evidence_of(more)?;
+    let cell = cell_of(tech.as_str(), spice.as_str(), cell.as_str())?;
+    Some(Form::Plan { cell, evidence })
 }
 
 // A drawing in a style, in files whose names begin so.
@@ -131,19 +144,19 @@ fn make_of(words: &[String]) -> Option<Form<'_>>
 fn check_of(words: &[String]) -> Option<Form<'_>>
     ensures { option_map shown result ≡ check_of (texts words.now) }
 {
-    let [tech, spice, cell, log] = words else {
+    let [tech, spice, cell, file, more @ ..] = words else {
         return None;
     };
-    if log.is_empty() {
+    let evidence = evidence_of(more)?;
+    if file.is_empty() {
         return None;
     }
-    match cell_of(tech.as_str(), spice.as_str(), cell.as_str()) {
-        Some(cell) => Some(Form::Check {
-            cell,
-            log: log.as_str(),
-        }),
-        None => None,
-    }
+    let cell = cell_of(tech.as_str(), spice.as_str(), cell.as_str())?;
+    Some(Form::Check {
+        cell,
+        file: file.as_str(),
+        evidence,
+    })
 }
 
 // A layout that is checked by these rules.

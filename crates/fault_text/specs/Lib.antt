@@ -3,5 +3,6 @@ pub mod AbstractFaults
 pub mod Faults
 pub mod LayoutFaults
 pub mod RowFaults
+pub mod TrailFaults
 -- What inner contracts and proofs alone cite.
 pub mod Fields

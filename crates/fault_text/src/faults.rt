@@ -154,29 +154,37 @@ pub fn put_fold(out: &mut Bytes, fault: &FoldFault) -> Result<(), NoMemory>
     }
 }
 
-/// Adds the line of a fault of the text of a log.
-pub fn put_log(out: &mut Bytes, fault: &LogFault) -> Result<(), NoMemory>
-    ensures { OnOk result (out.new ≡ out.old ++ fault_line (codes "log") (log_fault fault.now)) }
+/// Adds the line of a fault of the text of evidence, behind the word of that: a log, or a certificate by trails.
+pub(crate) fn put_text_fault(out: &mut Bytes, word: &[u8], fault: &LogFault) -> Result<(), NoMemory>
+    ensures { OnOk result (out.new ≡ out.old ++ fault_line word.now (log_fault fault.now)) }
 {
     match fault {
-        LogFault::Version => put_fault(out, b"log", b"Version", &[]),
-        LogFault::Cell => put_fault(out, b"log", b"Cell", &[]),
+        LogFault::Version => put_fault(out, word, b"Version", &[]),
+        LogFault::Cell => put_fault(out, word, b"Cell", &[]),
         LogFault::Line { line } => {
             put_fault(
                 out,
-                b"log",
+                word,
                 b"Line",
                 &[Field::Number(b"line", u64::from(*line))],
             )
         }
-        LogFault::Cut => put_fault(out, b"log", b"Cut", &[]),
-        LogFault::NoMemory => put_fault(out, b"log", b"NoMemory", &[]),
+        LogFault::Cut => put_fault(out, word, b"Cut", &[]),
+        LogFault::NoMemory => put_fault(out, word, b"NoMemory", &[]),
     }
 }
 
-// A cause of one number or two, each behind its name.
-fn put_cause(
+/// Adds the line of a fault of the text of a log.
+pub fn put_log(out: &mut Bytes, fault: &LogFault) -> Result<(), NoMemory>
+    ensures { OnOk result (out.new ≡ out.old ++ fault_line (codes "log") (log_fault fault.now)) }
+{
+    put_text_fault(out, b"log", fault)
+}
+
+/// Adds the line of a cause of two numbers, each behind its name.
+pub(crate) fn put_cause(
     out: &mut Bytes,
+    word: &[u8],
     name: &[u8],
     first: &[u8],
     count: u32,
@@ -184,12 +192,12 @@ fn put_cause(
     other: u32,
 ) -> Result<(), NoMemory>
     ensures { OnOk result
-        (out.new ≡ out.old ++ fault_line (codes "log") (with_two name.now first.now count second.now other)) }
+        (out.new ≡ out.old ++ fault_line word.now (with_two name.now first.now count second.now other)) }
 {
     let first = Field::Number(first, u64::from(count));
     put_fault(
         out,
-        b"log",
+        word,
         name,
         &[first, Field::Number(second, u64::from(other))],
     )
@@ -218,10 +226,10 @@ pub fn put_refused(out: &mut Bytes, cause: &Refused) -> Result<(), NoMemory>
         }
         Refused::NotArrangement => put_fault(out, b"log", b"NotArrangement", &[]),
         Refused::Gaps { said, counted } => {
-            put_cause(out, b"Gaps", b"said", *said, b"counted", *counted)
+            put_cause(out, b"log", b"Gaps", b"said", *said, b"counted", *counted)
         }
         Refused::NotLeast { best, said } => {
-            put_cause(out, b"NotLeast", b"best", *best, b"said", *said)
+            put_cause(out, b"log", b"NotLeast", b"best", *best, b"said", *said)
         }
         Refused::NoMemory => put_fault(out, b"log", b"NoMemory", &[]),
     }
