@@ -1,3 +1,7 @@
+ghost use Rattle.std.specs.Prelude.{◌≡◌};
+ghost use Rattle.call_words.specs.Asked.{texts};
+ghost use Rattle.call_words.specs.Words.{evidence_of};
+
 /// What is to prove that no row of a cell has fewer gaps.
 #[derive(Clone, Copy, Debug, PartialEq, Eq)]
 pub enum Evidence {
@@ -5,4 +9,15 @@ pub enum Evidence {
     Log,
     /// A certificate by trails.
     Trails,
+}
+
+// The evidence of the last words, none or `--trails`.
+pub(crate) fn evidence_of(words: &[String]) -> Option<Evidence>
+    ensures { result ≡ evidence_of (texts words.now) }
+{
+    match words {
+        [] => Some(Evidence::Log),
+        [word] if word.as_str() == "--trails" => Some(Evidence::Trails),
+        _ => None,
+    }
 }

@@ -1,11 +1,11 @@
 ghost use Rattle.std.specs.Prelude.{◌≡◌, option_map};
 ghost use Rattle.call_words.specs.Asked.{texts};
-ghost use Rattle.call_words.specs.Words.{shown, evidence_of, plan_of, making_of, taps_of, style_of, make_of, check_of};
+ghost use Rattle.call_words.specs.Words.{shown, plan_of, making_of, taps_of, style_of, make_of, check_of};
 ghost use Rattle.call_words.specs.Words.{extracting_of, extract_of, bench_of, row_of, agree_of, asked};
 
 use crate::cell::{CellAsked, cell_of, tech_of};
 use crate::count::CellCount;
-use crate::evidence::Evidence;
+use crate::evidence::{Evidence, evidence_of};
 use crate::row::{self, RowAsked};
 use cell_inputs::{Style, Taps, Wiring};
 use cell_num::is_cell;
@@ -54,17 +54,6 @@ pub enum Form<'a> {
         lef: &'a str,
         cell: &'a str,
     },
-}
-
-// The evidence of the last words, none or `--trails`.
-fn evidence_of(words: &[String]) -> Option<Evidence>
-    ensures { result ≡ evidence_of (texts words.now) }
-{
-    match words {
-        [] => Some(Evidence::Log),
-        [word] if word.as_str() == "--trails" => Some(Evidence::Trails),
-        _ => None,
-    }
 }
 
 // The form of the words behind `plan`.
