@@ -33,6 +33,9 @@ enough_done inputs end much (Planned row log, h, is) = rw is refl
 enough_done inputs end much (Unfinished proved log, (version, (k, of_k, some_k, spent)), is) = absurd (omega (arith, spent.short, much k of_k some_k))
 
 -- a text can hold the log of a search
+pub found_fits : (inputs : Inputs) (row : List Column) (log : Log) → IsCertified inputs row log → ForSome (λ k. Fits k log)
+found_fits inputs row log (version, (k, of_k, some_k, solved)) = (k, some_k, solved.searched.fits)
+
 pub spent_fits : (f : Fingers) (budget proved : ℕ) (log : Log) → WithKinds f (λ k. IsSpent component_value k f budget log proved) → ForSome (λ k. Fits k log)
 spent_fits f budget proved log (k, of_k, some_k, spent) = (k, some_k, spent.searched.fits)
 
