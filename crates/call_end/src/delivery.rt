@@ -11,7 +11,6 @@ use cell_io::{Desk, WriteFault, write_all};
 use log_output::Target;
 
 // Makes a file, empty, and puts what it holds there.
-#[tactic(auto, using(log_output::proofs::Giving::held_there, log_output::proofs::Giving::made_whole, log_output::proofs::Giving::made_some, log_output::proofs::Giving::made_none, crate::proofs::Delivered::makes_trans, crate::proofs::Delivered::rose_wider, log_output::proofs::Giving::keeps_untold, log_output::proofs::Giving::untold_behind))]
 fn make_file<D: Desk>(desk: &mut D, file: Output) -> Result<(), WriteFault>
     ensures whole { OnOk result (Both (Makes file) (D.view desk.old).made (D.view desk.new).made) }
     ensures some { OnErr result (((D.view desk.new).made ≡ (D.view desk.old).made)
