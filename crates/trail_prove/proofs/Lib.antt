@@ -1,0 +1,4 @@
+pub mod Grown
+pub mod Lines
+pub mod Orders
+pub mod Proved

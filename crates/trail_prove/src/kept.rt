@@ -1,0 +1,70 @@
+ghost use Rattle.std.specs.Prelude.{◌≡◌, ◌≤◌, ◌<◌, [], true, IfOk};
+ghost use Rattle.trail_check.specs.Justified.{ends_proved, gaps_proved, is_justified, is_known};
+ghost use Rattle.trail_prove.specs.Search.{AreKept, IsFurther, lemma_of};
+
+use crate::line::line_of;
+use cell_num::{List, NoMemory};
+use std::alloc::Global;
+use trail_check::{TrailLemma, ends_proved, is_known, is_same_state, lemma_listed};
+use trail_log::LemmaLines;
+use trail_state::{Level, TrailState};
+
+/// The lemmas that a search has kept, and the lines that list them.
+#[derive(Drop)]
+pub(crate) struct Kept {
+    pub lemmas: List<TrailLemma>,
+    pub lines: LemmaLines,
+}
+
+impl Kept {
+    pub(crate) fn new(alloc: Global) -> Kept
+        ensures lemmas { result.lemmas ≡ [] }
+        ensures lines { result.lines ≡ [] }
+    {
+        Kept {
+            lemmas: List::new(alloc),
+            lines: List::new(alloc),
+        }
+    }
+
+    /// The gaps that the lemmas prove of every row.
+    pub(crate) fn gaps(&self) -> u32
+        ensures { result ≡ gaps_proved (ends_proved self.now.lemmas) }
+    {
+        ends_proved(self.lemmas.as_slice()).saturating_sub(1) / 2
+    }
+
+    /// Keeps one lemma more, unless no line lists it.
+    #[tactic(auto, using(crate::proofs::Grown::further_same))]
+    pub(crate) fn keep(
+        &mut self,
+        alloc: Global,
+        levels: &List<Level>,
+        done: u32,
+        state: &TrailState,
+        bound: u32,
+    ) -> Result<bool, NoMemory>
+        requires done { done < 32 }
+        requires some { 0 < bound }
+        requires few { bound ≤ 64 }
+        requires kept { AreKept levels.now self.old }
+        requires justified { is_justified levels.now self.old.lemmas (lemma_of done state.now bound) ≡ true }
+        ensures further { IfOk result (λ _. IsFurther levels.now self.old self.new) }
+        ensures known { IfOk result (λ yes. yes ≡ true → is_known self.new.lemmas done state.now bound ≡ true) }
+    {
+        let line = line_of(alloc, done, state.as_slice(), bound)?;
+        let listed = lemma_listed(alloc, levels.as_slice(), &line)?;
+        if !is_same_state(listed.state.as_slice(), state.as_slice()) {
+            return Ok(false);
+        }
+        self.lines.push(line)?;
+        self.lemmas.push(listed)?;
+        Ok(true)
+    }
+
+    pub(crate) fn knows(&self, done: u32, state: &TrailState, need: u32) -> bool
+        ensures { result ≡ is_known self.now.lemmas done state.now need }
+    {
+        is_known(self.lemmas.as_slice(), u64::from(done), state, need)
+    }
+}

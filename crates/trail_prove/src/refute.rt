@@ -1,0 +1,55 @@
+ghost use Rattle.std.specs.Prelude.{◌≡◌, ◌≤◌, ◌<◌, IfOk, IfErr, IsTrue, List as Sequence};
+ghost use Rattle.cell_num.specs.Fingers.{AreFingers};
+ghost use Rattle.row_model.specs.declared.column.Column.{Column};
+ghost use Rattle.row_model.specs.Arrangement.{IsArrangement};
+ghost use Rattle.row_model.specs.Gaps.{gaps_of};
+ghost use Rattle.trail_prove.specs.Proof.{EndsRefuting};
+
+use crate::RefuteStop;
+use crate::kept::Kept;
+use crate::limits::{MOST_LIMIT, most_ends};
+use crate::order::order;
+use crate::visit::{Halt, visit};
+use cell_num::Fingers;
+use std::alloc::Global;
+use trail_check::{first_with_many, levels_of};
+use trail_state::TrailState;
+
+/// Whether it is proved that every arrangement of the fingers has more than `limit` gaps. It takes at most `left` nodes,
+/// and leaves there how many are left for later calls. A node is a state of which no lemma says so much.
+#[tactic(auto, using(crate::proofs::Proved::none_kept, crate::proofs::Proved::kept_least, crate::proofs::Proved::levels_short, crate::proofs::Proved::gate_crowded))]
+pub fn is_refuted(
+    alloc: Global,
+    fingers: &Fingers,
+    limit: u32,
+    left: &mut u64,
+) -> Result<bool, RefuteStop>
+    requires fingers { AreFingers fingers.now }
+    ensures refuted { IfOk result (λ yes. IsTrue yes → (row : Sequence Column) → IsArrangement row fingers.now →
+        limit < gaps_of row) }
+    ensures left { left.new ≤ left.old }
+    ensures halted { IfErr result (EndsRefuting fingers.now left.new) }
+{
+    if limit > MOST_LIMIT {
+        return Ok(false);
+    }
+    let order = order(alloc, fingers)?;
+    if let Some(gate) = first_with_many(fingers, order.as_slice()) {
+        return Err(RefuteStop::Choices { gate });
+    }
+    let levels = levels_of(alloc, fingers, order.as_slice())?;
+    let mut kept = Kept::new(alloc);
+    match visit(
+        alloc,
+        &levels,
+        &mut kept,
+        left,
+        0,
+        &TrailState::new(alloc),
+        most_ends(limit),
+    ) {
+        Ok(_) => Ok(limit < kept.gaps()),
+        Err(Halt::Spent) => Err(RefuteStop::Spent),
+        Err(Halt::NoMemory) => Err(RefuteStop::NoMemory),
+    }
+}
