@@ -1,0 +1,111 @@
+-- The first row of the proved number is the first least one, and its certificate is accepted.
+use Rattle.std.proofs.Common.{ℕ, ◌≡◌, ◌+◌, ◌<◌, ◌≤◌, ◌⊎◌, List, IsNone, refl, sym, ap, subst, arith, ◌∙◌}
+use Rattle.cell_num.specs.declared.finger.Fingers.{Fingers}
+use Rattle.row_model.specs.declared.column.Column.{Column}
+use Rattle.row_model.specs.Arrangement.{IsArrangement}
+use Rattle.row_model.specs.Gaps.{gaps_of}
+use Rattle.row_state.specs.declared.kind.Kinds.{Kinds}
+use Rattle.row_state.specs.declared.step.Step.{Step}
+use Rattle.row_state.specs.Completion.{Completes, Need}
+use Rattle.row_state.specs.Start.{AreKinds, AreSomeKinds, start_of}
+use Rattle.row_state.proofs.Exists.{completion_exists}
+use Rattle.row_state.proofs.Unfold.{arrangement_of, completion_of, gaps_from_start}
+use Rattle.row_state.proofs.Valid.{gates_are_nets}
+use Rattle.log_check.specs.Accepted.{RowPasses, columns_listed}
+use Rattle.row_search.specs.First.{IsFirstLeast}
+use Rattle.row_search.specs.Limits.{best_with}
+use Rattle.row_search.specs.Steps.{row_of, steps_of}
+use Rattle.row_search.proofs.Columns.{all_fit, all_listed, listed_row}
+use Rattle.row_search.proofs.Least.{further_le}
+use Rattle.trail_log.specs.Fits.{TrailsFit}
+use Rattle.trail_check.specs.Accepted.{least_gaps}
+use Rattle.trail_prove.specs.declared.proof.Proof.{Proof}
+use Rattle.trail_prove.specs.Proof.{IsProof}
+use Rattle.trail_search.specs.declared.first.ListedRow.{ListedRow}
+use Rattle.trail_search.specs.Ended.{IsCertified, IsTrailFound, IsTrailSpent}
+use Rattle.trail_search.specs.First.{IsFirstRow, with_best}
+use Rattle.trail_search.specs.Visit.{IsFirstOf}
+
+-- no arrangement has fewer gaps
+abbrev pub IsLow : Fingers → ℕ → Type 0
+IsLow f gaps = (row : List Column) → IsArrangement row f → gaps ≤ gaps_of row
+
+-- some arrangement has no more gaps than columns
+pub few_gaps : (k : Kinds) (f : Fingers) (gaps : ℕ) → AreKinds f k → AreSomeKinds k → IsLow f gaps → gaps ≤ 32
+few_gaps k f gaps of_f kinds low =
+    let c : (row : List Column) × Completes k (start_of k) row = completion_exists k (start_of k) (gates_are_nets k kinds) in
+    omega (arith, low c.0 (arrangement_of f k c.0 of_f c.1), gaps_from_start k c.0, further_le (start_of k) c.0, c.1.fewest, kinds.few_columns)
+
+first_least : (k : Kinds) (f : Fingers) (gaps : ℕ) (steps : List Step) → AreKinds f k → IsLow f gaps → IsFirstOf k (start_of k) gaps steps → IsFirstLeast f (row_of k steps)
+first_least k f gaps steps of_f low h =
+    let few : gaps_of (row_of k steps) ≤ gaps = omega (arith, h.row.within, gaps_from_start k (row_of k steps)) in
+    record {
+      arranges = arrangement_of f k (row_of k steps) of_f h.row.completes;
+      least = λ other arranges. omega (arith, few, low other arranges);
+      first = λ other arranges same. h.row.first other (completion_of f k other of_f arranges) (omega (arith, few, same, gaps_from_start k other));
+    }
+
+gaps_are : (k : Kinds) (f : Fingers) (gaps : ℕ) (steps : List Step) → AreKinds f k → IsLow f gaps → IsFirstOf k (start_of k) gaps steps → gaps_of (row_of k steps) ≡ gaps
+gaps_are k f gaps steps of_f low h =
+    omega (arith, h.row.within, gaps_from_start k (row_of k steps), low (row_of k steps) (arrangement_of f k (row_of k steps) of_f h.row.completes))
+
+row_passes : (k : Kinds) (f : Fingers) (gaps proved : ℕ) (steps : List Step) → AreKinds f k → AreSomeKinds k → IsLow f gaps → gaps ≤ proved → IsFirstOf k (start_of k) gaps steps → RowPasses k f proved (best_with k gaps steps) (gaps_of (row_of k steps))
+row_passes k f gaps proved steps of_f kinds low few h =
+    let e : columns_listed k (steps_of k steps) ≡ row_of k steps = listed_row k steps in
+    let counted : gaps_of (row_of k steps) ≡ gaps = gaps_are k f gaps steps of_f low h in
+    record {
+      arranges = record {
+        listed = all_listed k steps (gates_are_nets k kinds) h.sound;
+        arranges = subst (λ row. IsArrangement row f) (sym e) (first_least k f gaps steps of_f low h).arranges;
+      };
+      said = counted;
+      counted = sym counted ∙ ap gaps_of (sym e);
+      least = few;
+    }
+
+certified : (k : Kinds) (f : Fingers) (proof : Proof) (steps : List Step) → AreKinds f k → AreSomeKinds k → IsProof f proof → IsFirstOf k (start_of k) proof.gaps steps → IsCertified k f (row_of k steps) (with_best proof.trails (best_with k proof.gaps steps))
+certified k f proof steps of_f kinds p h =
+    let fits : TrailsFit k proof.trails = p.fits k of_f.nets in
+    record {
+      accepted = record {
+        gates = record { order = p.gates.order; filled = p.gates.filled };
+        few_ways = p.few_ways;
+        justified = p.justified;
+        passes = row_passes k f proof.gaps (least_gaps f proof.trails) steps of_f kinds p.least (omega (arith, p.gaps)) h;
+      };
+      lists = listed_row k steps;
+      fits = record {
+        fill = fits.fill;
+        increase = fits.increase;
+        order = fits.order;
+        lemmas = fits.lemmas;
+        best = record { few = omega (arith, few_gaps k f proof.gaps of_f kinds p.least); steps = all_fit k steps (gates_are_nets k kinds) h.sound };
+      };
+    }
+
+pub found_is : (k : Kinds) (f : Fingers) (budget nodes : ℕ) (proof : Proof) (listed : ListedRow) → AreKinds f k → AreSomeKinds k → IsProof f proof → IsFirstRow k proof.gaps listed → nodes ≤ budget → IsTrailFound f budget listed.row (with_best proof.trails listed.best) nodes
+found_is k f budget nodes proof listed of_f kinds p h few =
+    subst (λ (z : ListedRow). IsTrailFound f budget z.row (with_best proof.trails z.best) nodes) (sym h.is)
+    (record {
+      first = first_least k f proof.gaps h.steps of_f p.least h.first;
+      certified = (k, of_f, kinds, certified k f proof h.steps of_f kinds p h.first);
+      few = few;
+    })
+
+pub spent_is : (k : Kinds) (f : Fingers) (budget nodes : ℕ) (proof : Proof) → AreKinds f k → AreSomeKinds k → IsProof f proof → nodes ≤ budget → (nodes ≡ budget) ⊎ ((other : List Column) → IsArrangement other f → proof.gaps < gaps_of other) → IsTrailSpent f budget proof.trails proof.gaps nodes
+spent_is k f budget nodes proof of_f kinds p few why =
+    record {
+      lists_none = subst IsNone (sym p.rowless) refl;
+      gates = p.gates;
+      few_ways = p.few_ways;
+      justified = p.justified;
+      best = p.gaps;
+      low = p.least;
+      fits = (k, of_f, kinds, p.fits k of_f.nets);
+      few = few;
+      spent = why;
+    }
+
+-- where no row of so few gaps is found, there is none
+pub none_as_few : (k : Kinds) (f : Fingers) (gaps : ℕ) → AreKinds f k → Need k (start_of k) (gaps + 1) → (other : List Column) → IsArrangement other f → gaps < gaps_of other
+none_as_few k f gaps of_f need other arranges = omega (arith, need other (completion_of f k other of_f arranges), gaps_from_start k other)

@@ -1,0 +1,4 @@
+pub mod Certified
+pub mod Front
+pub mod Listed
+pub mod Tried

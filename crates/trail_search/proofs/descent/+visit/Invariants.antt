@@ -1,0 +1,11 @@
+use Rattle.std.proofs.Common.{◌≤◌, All, take}
+use Rattle.row_state.specs.Start.{columns_left}
+use Rattle.trail_search.specs.Visit.{AreTrue}
+use Rattle.trail_search.proofs.Tried.{HasNone}
+use Rattle.trail_search.proofs.descent.+visit.Given as goal
+
+abbrev pub decreases-visit : goal.decreases-visit
+decreases-visit l = columns_left l.task.now.kinds.now l.at.now.state
+
+abbrev pub invariant-loop-next : goal.invariant-loop-next
+invariant-loop-next l = AreTrue l.task.kinds.now l.known × (l.left ≤ l.fn.left) × All (HasNone l.task.kinds.now l.at.state l.allowed) (take l.next-index l.next-items)

@@ -1,0 +1,54 @@
+-- How a search ended: with the first least row and its certificate, or with what is proved without a row.
+use Rattle.std.specs.Prelude.{ℕ, ◌≡◌, ◌≤◌, ◌<◌, ◌⊎◌, true, List, None, IsNone}
+use Rattle.cell_num.specs.declared.net.NetNo.{NetNo}
+use Rattle.cell_num.specs.declared.finger.Fingers.{Fingers}
+use Rattle.row_model.specs.declared.column.Column.{Column}
+use Rattle.row_model.specs.Arrangement.{IsArrangement}
+use Rattle.row_model.specs.Gaps.{gaps_of}
+use Rattle.row_state.specs.declared.kind.Kinds.{Kinds}
+use Rattle.log_check.specs.Accepted.{Lists, WithKinds}
+use Rattle.row_search.specs.First.{IsFirstLeast}
+use Rattle.trail_log.specs.declared.trails.Trails.{Trails}
+use Rattle.trail_log.specs.Fits.{TrailsFit}
+use Rattle.trail_check.specs.Accepted.{IsAccepted, first_unproved, least_gaps}
+use Rattle.trail_check.specs.Gates.{AreGates, first_with_many, has_many_ways}
+use Rattle.trail_search.specs.declared.found.TrailFound.{TrailFound}
+use Rattle.trail_search.specs.declared.found.TrailStop.{TrailStop}
+use Rattle.trail_search.specs.declared.found.TrailStop.TheVariants as stopped
+
+-- the certificate is accepted with the gaps of the row, lists it, and a text can hold it
+pub record IsCertified (k : Kinds) (f : Fingers) (row : List Column) (trails : Trails) : Type 0 where
+  pub accepted : IsAccepted k f trails (gaps_of row)
+  pub lists : Lists k trails.best (λ listed. listed ≡ row)
+  pub fits : TrailsFit k trails
+
+-- the row is the first least one, and is certified
+pub record IsTrailFound (f : Fingers) (budget : ℕ) (row : List Column) (trails : Trails) (nodes : ℕ) : Type 0 where
+  pub first : IsFirstLeast f row
+  pub certified : WithKinds f (λ k. IsCertified k f row trails)
+  pub few : nodes ≤ budget
+
+-- The certificate lists no row. Its gates are as a checker asks, and all its lemmas are justified: they prove that no
+-- arrangement has fewer gaps. The budget is spent, or no arrangement has as few.
+pub record IsTrailSpent (f : Fingers) (budget : ℕ) (trails : Trails) (proved nodes : ℕ) : Type 0 where
+  pub lists_none : IsNone trails.best
+  pub gates : AreGates f trails
+  pub few_ways : first_with_many f trails.order ≡ None
+  pub justified : first_unproved f trails ≡ None
+  pub best : proved ≡ least_gaps f trails
+  pub low : (other : List Column) → IsArrangement other f → proved ≤ gaps_of other
+  pub fits : WithKinds f (λ k. TrailsFit k trails)
+  pub few : nodes ≤ budget
+  pub spent : (nodes ≡ budget) ⊎ ((other : List Column) → IsArrangement other f → proved < gaps_of other)
+
+-- the fingers of the gate pair in more ways than a checker lists
+abbrev pub IsCrowded : Fingers → NetNo → Type 0
+IsCrowded f gate = has_many_ways f gate ≡ true
+
+abbrev pub IsFound : Fingers → ℕ → TrailFound → Type 0
+IsFound f budget found = IsTrailFound f budget found.row found.trails found.nodes
+
+abbrev pub Stops : Fingers → ℕ → TrailStop → Type 0
+Stops f budget (stopped.Unfinished trails proved nodes) = IsTrailSpent f budget trails proved nodes
+Stops f budget (stopped.Choices gate) = IsCrowded f gate
+Stops f budget stopped.NoMemory = Unit {0}

@@ -1,0 +1,74 @@
+ghost use Rattle.std.specs.Prelude.{◌≡◌, ◌≤◌, ◌<◌, ◌+◌, ◌||◌, IfErr, IfOk, IsTrue, is_some};
+ghost use Rattle.row_state.specs.Completion.{Need};
+ghost use Rattle.row_state.specs.Start.{IsState};
+ghost use Rattle.trail_search.specs.Visit.{Halts};
+
+use crate::behind::behind;
+use crate::descent::Halt;
+use cell_num::{NoMemory, Row, are_fingers};
+use row_state::{Component, Kinds, RowBound, State};
+use std::alloc::Global;
+use trail_prove::{RefuteStop, is_refuted};
+
+fn is_above(row: Row, state: &State, kinds: &Kinds, allowed: u32) -> bool
+    requires { IsState kinds.now state.now }
+    ensures { IsTrue result → Need kinds.now state.now (allowed + 1) }
+{
+    kinds.show_limits();
+    allowed < Component.bound(row, state, kinds)
+}
+
+fn is_open(state: &State) -> bool
+    ensures { result ≡ (is_some state.now.p_end || is_some state.now.n_end) }
+{
+    state.p_end.is_some() || state.n_end.is_some()
+}
+
+// Whether trails refute that a completion has so few further gaps. It is not tried before the first column, nor where
+// no net is left for a column in front.
+fn trails_refute(
+    alloc: Global,
+    state: &State,
+    kinds: &Kinds,
+    allowed: u32,
+    left: &mut u64,
+) -> Result<bool, Halt>
+    requires { IsState kinds.now state.now }
+    ensures refuted { IfOk result (λ yes. IsTrue yes → Need kinds.now state.now (allowed + 1)) }
+    ensures left { left.new ≤ left.old }
+    ensures halted { IfErr result (Halts left.new) }
+{
+    kinds.show_limits();
+    if !is_open(state) {
+        return Ok(false);
+    }
+    let fingers = behind(alloc, kinds, state)?;
+    if !are_fingers(&fingers) {
+        return Ok(false);
+    }
+    match is_refuted(alloc, &fingers, allowed, left) {
+        Ok(refuted) => Ok(refuted),
+        Err(RefuteStop::Choices { .. }) => Ok(false),
+        Err(RefuteStop::Spent) => Err(Halt::Spent),
+        Err(RefuteStop::NoMemory) => Err(Halt::NoMemory),
+    }
+}
+
+/// Whether it is proved that every completion of the state has more further gaps than are allowed.
+pub(crate) fn is_hopeless(
+    alloc: Global,
+    state: &State,
+    kinds: &Kinds,
+    allowed: u32,
+    left: &mut u64,
+) -> Result<bool, Halt>
+    requires { IsState kinds.now state.now }
+    ensures hopeless { IfOk result (λ yes. IsTrue yes → Need kinds.now state.now (allowed + 1)) }
+    ensures left { left.new ≤ left.old }
+    ensures halted { IfErr result (Halts left.new) }
+{
+    if is_above(Row::P, state, kinds, allowed) || is_above(Row::N, state, kinds, allowed) {
+        return Ok(true);
+    }
+    trails_refute(alloc, state, kinds, allowed, left)
+}

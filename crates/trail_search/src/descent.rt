@@ -1,0 +1,94 @@
+ghost use Rattle.std.specs.Prelude.{◌≡◌, ◌≤◌, ◌+◌, IfOk, IfErr, IfSome, IfNone};
+ghost use Rattle.row_state.specs.Candidates.{AreCandidates, IsNumbered};
+ghost use Rattle.row_state.specs.Completion.{Need};
+ghost use Rattle.trail_search.specs.Visit.{AreTrue, Halts, IsFirstOf};
+
+use crate::cut::is_hopeless;
+use cell_num::{MOST_COLUMNS, NoMemory};
+use log_check::Known;
+use row_state::{Candidate, Kinds, Numbered, Steps, has_fingers};
+use std::alloc::Global;
+
+/// What a search is given.
+#[derive(Drop)]
+pub(crate) struct Task<'a> {
+    pub alloc: Global,
+    pub kinds: &'a Kinds,
+    /// All columns that may come next in some state.
+    pub candidates: &'a [Candidate],
+}
+
+/// Why a visit ends without an answer.
+#[derive(Debug, Drop)]
+pub(crate) enum Halt {
+    /// No node is left.
+    Spent,
+    NoMemory,
+}
+
+impl From<NoMemory> for Halt {
+    ghost use Rattle.std.specs.Prelude.{◌≡◌};
+    ghost use Rattle.trail_search.specs.declared.descent.Halt.TheVariants.{NoMemory};
+
+    ghost from_gives = { λ _ e. e ≡ NoMemory };
+
+    fn from(_: NoMemory) -> Halt {
+        Halt::NoMemory
+    }
+}
+
+/// The first completion of the state with as few gaps as are allowed, its last step first, or none. What is known of
+/// states is true. A visit takes a node of those left, and so does each one of the trails that are tried.
+pub(crate) fn visit(
+    task: &Task,
+    known: &mut Known,
+    left: &mut u64,
+    at: &Numbered,
+    allowed: u32,
+) -> Result<Option<Steps>, Halt>
+    requires candidates { AreCandidates task.now.kinds.now task.now.candidates.now }
+    requires numbered { IsNumbered task.now.kinds.now at.now }
+    requires few { allowed ≤ MOST_COLUMNS }
+    requires known { AreTrue task.now.kinds.now known.old }
+    ensures known { AreTrue task.now.kinds.now known.new }
+    ensures left { left.new ≤ left.old }
+    ensures failed { IfOk result (λ r. IfNone r (Need task.now.kinds.now at.now.state (allowed + 1))) }
+    ensures found { IfOk result (λ r. IfSome r (IsFirstOf task.now.kinds.now at.now.state allowed)) }
+    ensures halted { IfErr result (Halts left.new) }
+{
+    task.kinds.show_limits();
+    if *left == 0 {
+        return Err(Halt::Spent);
+    }
+    *left -= 1;
+    if !has_fingers(&at.state) {
+        return Ok(Some(Steps::new(task.alloc)));
+    }
+    if is_hopeless(task.alloc, &at.state, task.kinds, allowed, left)? {
+        known.note_at(at.code, allowed + 1)?;
+        return Ok(None);
+    }
+    for next in task.candidates {
+        if !at.allows(task.kinds, next) {
+            continue;
+        }
+        let cost = at.cost(next);
+        if allowed < cost {
+            continue;
+        }
+        if known.best_at(at.code_behind(task.kinds, next)) > allowed - cost {
+            continue;
+        }
+        let behind = at.behind(task.alloc, task.kinds, next)?;
+        let tried = match visit(task, known, left, &behind, allowed - cost) {
+            Ok(tried) => tried,
+            Err(halt) => return Err(halt),
+        };
+        if let Some(mut rest) = tried {
+            rest.push(next.step)?;
+            return Ok(Some(rest));
+        }
+    }
+    known.note_at(at.code, allowed + 1)?;
+    Ok(None)
+}

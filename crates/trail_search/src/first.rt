@@ -1,0 +1,69 @@
+ghost use Rattle.std.specs.Prelude.{◌≡◌, ◌≤◌, ◌+◌, IfErr, IfNone, IfOk, IfSome};
+ghost use Rattle.row_state.specs.Candidates.{IsNumbered};
+ghost use Rattle.row_state.specs.Completion.{Need};
+ghost use Rattle.row_state.specs.Start.{start_of};
+ghost use Rattle.trail_search.specs.First.{IsFirstRow, listed_of};
+ghost use Rattle.trail_search.specs.Visit.{Halts};
+
+use crate::descent::{Halt, Task, visit};
+use bound_log::Best;
+use cell_num::{MOST_COLUMNS, NoMemory};
+use log_check::Known;
+use row_model::Arrangement;
+use row_search::{arrangement, log_steps};
+use row_state::{Kinds, Numbered, Step, candidates, start};
+use std::alloc::Global;
+
+/// A row, and how a certificate lists it.
+#[derive(Debug, Drop)]
+pub(crate) struct ListedRow {
+    pub row: Arrangement,
+    pub best: Best,
+}
+
+fn listed(alloc: Global, kinds: &Kinds, gaps: u32, steps: &[Step]) -> Result<ListedRow, NoMemory>
+    ensures { IfOk result (λ listed. listed ≡ listed_of kinds.now gaps steps.now) }
+{
+    let row = arrangement(alloc, steps, kinds)?;
+    let steps = log_steps(alloc, steps, kinds)?;
+    Ok(ListedRow {
+        row,
+        best: Best { gaps, steps },
+    })
+}
+
+fn numbered_start(alloc: Global, kinds: &Kinds) -> Result<Numbered, NoMemory>
+    ensures state { IfOk result (λ first. first.state ≡ start_of kinds.now) }
+    ensures numbered { IfOk result (IsNumbered kinds.now) }
+{
+    Ok(Numbered::new(start(alloc, kinds)?, kinds))
+}
+
+/// The first row that has no more than so many gaps, or none.
+#[tactic(auto, using(crate::proofs::Tried::true_none, crate::proofs::Tried::first_found, crate::proofs::Tried::none_found))]
+pub(crate) fn first_row(
+    alloc: Global,
+    kinds: &Kinds,
+    gaps: u32,
+    left: &mut u64,
+) -> Result<Option<ListedRow>, Halt>
+    requires few { gaps ≤ MOST_COLUMNS }
+    ensures found { IfOk result (λ r. IfSome r (IsFirstRow kinds.now gaps)) }
+    ensures none { IfOk result (λ r. IfNone r (Need kinds.now (start_of kinds.now) (gaps + 1))) }
+    ensures left { left.new ≤ left.old }
+    ensures halted { IfErr result (Halts left.new) }
+{
+    let first = numbered_start(alloc, kinds)?;
+    let candidates = candidates(alloc, kinds)?;
+    let task = Task {
+        alloc,
+        kinds,
+        candidates: candidates.as_slice(),
+    };
+    let mut known = Known::new(alloc);
+    match visit(&task, &mut known, left, &first, gaps) {
+        Ok(Some(steps)) => Ok(Some(listed(alloc, kinds, gaps, steps.as_slice())?)),
+        Ok(None) => Ok(None),
+        Err(halt) => Err(halt),
+    }
+}

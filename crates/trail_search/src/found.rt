@@ -1,0 +1,42 @@
+use cell_num::{NetNo, NoMemory};
+use row_model::Arrangement;
+use trail_log::Trails;
+
+/// The first least arrangement.
+#[derive(Debug, Drop)]
+pub struct TrailFound {
+    pub row: Arrangement,
+    /// The certificate that lists the row, and proves that no arrangement has fewer gaps.
+    pub trails: Trails,
+    /// How many nodes of the budget the search took.
+    pub nodes: u64,
+}
+
+/// Why a search ended without a row.
+#[derive(Debug, Drop)]
+pub enum TrailStop {
+    /// The lemmas of the certificate, which lists no row, prove that each arrangement has at least `proved` gaps. The
+    /// budget is spent, or no arrangement has as few.
+    Unfinished {
+        trails: Trails,
+        proved: u32,
+        /// How many nodes of the budget the search took.
+        nodes: u64,
+    },
+    /// There are too many ways to pair the fingers of the gate.
+    Choices {
+        gate: NetNo,
+    },
+    NoMemory,
+}
+
+impl From<NoMemory> for TrailStop {
+    ghost use Rattle.std.specs.Prelude.{◌≡◌};
+    ghost use Rattle.trail_search.specs.declared.found.TrailStop.TheVariants.{NoMemory};
+
+    ghost from_gives = { λ _ e. e ≡ NoMemory };
+
+    fn from(_: NoMemory) -> TrailStop {
+        TrailStop::NoMemory
+    }
+}

@@ -1,0 +1,64 @@
+ghost use Rattle.std.specs.Prelude.{◌≡◌, IfErr, IfOk};
+ghost use Rattle.cell_num.specs.Fingers.{AreFingers};
+ghost use Rattle.trail_search.specs.declared.found.TrailStop.TheVariants as stopped;
+ghost use Rattle.trail_search.specs.Ended.{IsFound, Stops};
+ghost use Rattle.trail_search.specs.First.{with_best};
+
+use crate::descent::Halt;
+use crate::first::first_row;
+use crate::{TrailFound, TrailStop};
+use bound_log::Best;
+use cell_num::Fingers;
+use row_state::kinds;
+use std::alloc::Global;
+use trail_log::Trails;
+use trail_prove::{Proof, ProveStop, prove};
+
+fn with_row(trails: Trails, best: Best) -> Trails
+    ensures { result ≡ with_best trails best }
+{
+    Trails {
+        fill: trails.fill,
+        order: trails.order,
+        lemmas: trails.lemmas,
+        best: Some(best),
+    }
+}
+
+fn unfinished(proof: Proof, nodes: u64) -> TrailStop
+    ensures { result ≡ stopped.Unfinished proof.trails proof.gaps nodes }
+{
+    TrailStop::Unfinished {
+        trails: proof.trails,
+        proved: proof.gaps,
+        nodes,
+    }
+}
+
+/// The first least arrangement of the fingers, and a certificate by trails that proves that none has fewer gaps; or
+/// what is proved when the budget of nodes is spent. A node is a state of the trails, or one of the row, of which
+/// nothing kept says that it fails.
+pub fn search_trails(alloc: Global, fingers: &Fingers, budget: u64) -> Result<TrailFound, TrailStop>
+    requires { AreFingers fingers.now }
+    ensures found { IfOk result (IsFound fingers.now budget) }
+    ensures stopped { IfErr result (Stops fingers.now budget) }
+{
+    let kinds = kinds(alloc, fingers)?;
+    let mut left = budget;
+    let proof = match prove(alloc, fingers, &mut left) {
+        Ok(proof) => proof,
+        Err(ProveStop::Unfinished(proof)) => return Err(unfinished(proof, budget - left)),
+        Err(ProveStop::Choices { gate }) => return Err(TrailStop::Choices { gate }),
+        Err(ProveStop::NoMemory) => return Err(TrailStop::NoMemory),
+    };
+    match first_row(alloc, &kinds, proof.gaps, &mut left) {
+        Ok(Some(first)) => Ok(TrailFound {
+            row: first.row,
+            trails: with_row(proof.trails, first.best),
+            nodes: budget - left,
+        }),
+        Ok(None) => Err(unfinished(proof, budget - left)),
+        Err(Halt::Spent) => Err(unfinished(proof, budget - left)),
+        Err(Halt::NoMemory) => Err(TrailStop::NoMemory),
+    }
+}
