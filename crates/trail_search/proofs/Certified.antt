@@ -18,17 +18,13 @@ use Rattle.row_search.specs.Steps.{row_of, steps_of}
 use Rattle.row_search.proofs.Columns.{all_fit, all_listed, listed_row}
 use Rattle.row_search.proofs.Least.{further_le}
 use Rattle.trail_log.specs.Fits.{TrailsFit}
-use Rattle.trail_check.specs.Accepted.{least_gaps}
+use Rattle.trail_check.specs.Accepted.{IsLow, least_gaps}
 use Rattle.trail_prove.specs.declared.proof.Proof.{Proof}
 use Rattle.trail_prove.specs.Proof.{IsProof}
 use Rattle.trail_search.specs.declared.first.ListedRow.{ListedRow}
 use Rattle.trail_search.specs.Ended.{IsCertified, IsTrailFound, IsTrailSpent}
 use Rattle.trail_search.specs.First.{IsFirstRow, with_best}
 use Rattle.trail_search.specs.Visit.{IsFirstOf}
-
--- no arrangement has fewer gaps
-abbrev pub IsLow : Fingers → ℕ → Type 0
-IsLow f gaps = (row : List Column) → IsArrangement row f → gaps ≤ gaps_of row
 
 -- some arrangement has no more gaps than columns
 pub few_gaps : (k : Kinds) (f : Fingers) (gaps : ℕ) → AreKinds f k → AreSomeKinds k → IsLow f gaps → gaps ≤ 32
@@ -71,7 +67,7 @@ certified k f proof steps of_f kinds p h =
         gates = record { order = p.gates.order; filled = p.gates.filled };
         few_ways = p.few_ways;
         justified = p.justified;
-        passes = row_passes k f proof.gaps (least_gaps f proof.trails) steps of_f kinds p.least (omega (arith, p.gaps)) h;
+        passes = (k, of_f, kinds, row_passes k f proof.gaps (least_gaps f proof.trails) steps of_f kinds p.least (omega (arith, p.gaps)) h);
       };
       lists = listed_row k steps;
       fits = record {

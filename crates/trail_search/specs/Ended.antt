@@ -10,7 +10,7 @@ use Rattle.log_check.specs.Accepted.{Lists, WithKinds}
 use Rattle.row_search.specs.First.{IsFirstLeast}
 use Rattle.trail_log.specs.declared.trails.Trails.{Trails}
 use Rattle.trail_log.specs.Fits.{TrailsFit}
-use Rattle.trail_check.specs.Accepted.{IsAccepted, first_unproved, least_gaps}
+use Rattle.trail_check.specs.Accepted.{IsAccepted, IsLow, first_unproved, least_gaps}
 use Rattle.trail_check.specs.Gates.{AreGates, first_with_many, has_many_ways}
 use Rattle.trail_search.specs.declared.found.TrailFound.{TrailFound}
 use Rattle.trail_search.specs.declared.found.TrailStop.{TrailStop}
@@ -18,7 +18,7 @@ use Rattle.trail_search.specs.declared.found.TrailStop.TheVariants as stopped
 
 -- the certificate is accepted with the gaps of the row, lists it, and a text can hold it
 pub record IsCertified (k : Kinds) (f : Fingers) (row : List Column) (trails : Trails) : Type 0 where
-  pub accepted : IsAccepted k f trails (gaps_of row)
+  pub accepted : IsAccepted f trails (gaps_of row)
   pub lists : Lists k trails.best (λ listed. listed ≡ row)
   pub fits : TrailsFit k trails
 
@@ -36,7 +36,7 @@ pub record IsTrailSpent (f : Fingers) (budget : ℕ) (trails : Trails) (proved n
   pub few_ways : first_with_many f trails.order ≡ None
   pub justified : first_unproved f trails ≡ None
   pub best : proved ≡ least_gaps f trails
-  pub low : (other : List Column) → IsArrangement other f → proved ≤ gaps_of other
+  pub low : IsLow f proved
   pub fits : WithKinds f (λ k. TrailsFit k trails)
   pub few : nodes ≤ budget
   pub spent : (nodes ≡ budget) ⊎ ((other : List Column) → IsArrangement other f → proved < gaps_of other)

@@ -1,5 +1,4 @@
 ghost use Rattle.std.specs.Prelude.{◌≡◌, ◌≤◌, ◌+◌, IfErr, IfNone, IfOk, IfSome};
-ghost use Rattle.row_state.specs.Candidates.{IsNumbered};
 ghost use Rattle.row_state.specs.Completion.{Need};
 ghost use Rattle.row_state.specs.Start.{start_of};
 ghost use Rattle.trail_search.specs.First.{IsFirstRow, listed_of};
@@ -32,13 +31,6 @@ fn listed(alloc: Global, kinds: &Kinds, gaps: u32, steps: &[Step]) -> Result<Lis
     })
 }
 
-fn numbered_start(alloc: Global, kinds: &Kinds) -> Result<Numbered, NoMemory>
-    ensures state { IfOk result (λ first. first.state ≡ start_of kinds.now) }
-    ensures numbered { IfOk result (IsNumbered kinds.now) }
-{
-    Ok(Numbered::new(start(alloc, kinds)?, kinds))
-}
-
 /// The first row that has no more than so many gaps, or none.
 #[tactic(auto, using(crate::proofs::Tried::true_none, crate::proofs::Tried::first_found, crate::proofs::Tried::none_found))]
 pub(crate) fn first_row(
@@ -53,7 +45,7 @@ pub(crate) fn first_row(
     ensures left { left.new ≤ left.old }
     ensures halted { IfErr result (Halts left.new) }
 {
-    let first = numbered_start(alloc, kinds)?;
+    let first = Numbered::new(start(alloc, kinds)?, kinds);
     let candidates = candidates(alloc, kinds)?;
     let task = Task {
         alloc,
