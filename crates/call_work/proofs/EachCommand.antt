@@ -9,13 +9,14 @@ use Rattle.call_end.specs.declared.end.End.{End}
 use Rattle.call_end.specs.declared.status.Status.TheVariants as status
 use Rattle.call_read.proofs.Reading.{Keeps, keeps_on}
 use Rattle.call_read.specs.InputFiles.{input_files, inputs_from, tech_files}
-use Rattle.call_read.specs.Sources.{TechFile, LogFile, GdsFile, LefFile}
+use Rattle.call_read.specs.Sources.{Source, TechFile, GdsFile, LefFile, LogFile, TrailFile}
 use Rattle.call_words.specs.Asked.{CellAsked, RowAsked}
+use Rattle.call_words.specs.declared.evidence.Evidence.TheVariants.{Log, Trails}
 use Rattle.call_words.specs.Words.{Form, Plan, Make, Check, Extract, Bench, Row, Agree}
 use Rattle.call_work.proofs.Gathered.{IsGathered, IsInputs, IsOwn, compared_keeps, drawn_keeps, inputs_keep, rowing_keeps}
 use Rattle.call_work.proofs.Statuses.{are_apart}
 use Rattle.call_work.specs.Bench.{BenchesTo}
-use Rattle.call_work.specs.Commands.{Kind, Planning, Making, Checking, Extracting, Benching, Rowing, Agreeing, Material, MaterialOf, WorksTo, gathered, kind_of, read_by, settled_by}
+use Rattle.call_work.specs.Commands.{Kind, Planning, Making, Checking, Extracting, Benching, Rowing, Agreeing, TrailPlanning, TrailChecking, Material, MaterialOf, WorksTo, gathered, kind_of, read_by, settled_by}
 use Rattle.call_work.specs.Ends.{desk_statuses, is_among}
 use Rattle.call_work.specs.Kept.{WorksFor}
 use Rattle.call_work.specs.declared.commands.Material.{Material as Own}
@@ -37,12 +38,15 @@ use Rattle.row_make.specs.declared.outcome.InputFault.TheVariants as input
 use Rattle.row_run.specs.Row.{RowsTo, rowing}
 use Rattle.make_run.specs.Make.{MakesTo}
 use Rattle.make_run.specs.Plan.{PlansTo, Planned, Unfinished}
+use Rattle.trail_run.specs.Check.{TrailChecksTo}
+use Rattle.trail_run.specs.Plan as trail
+use Rattle.trail_run.specs.declared.checking.TrailAnswer.TheVariants as checked
 
 -- ---- the files that the forms read, and what they end with by themselves
 
-log_there : (file : Option (List ℕ)) (spice log : List ℕ) → Contains (input_files file spice ++ LogFile log ∷ []) (LogFile log)
-log_there None spice log = (1, omega arith, refl)
-log_there (Some name) spice log = (2, omega arith, refl)
+evidence_there : (file : Option (List ℕ)) (spice : List ℕ) (source : Source) → Contains (input_files file spice ++ source ∷ []) source
+evidence_there None spice source = (1, omega arith, refl)
+evidence_there (Some name) spice source = (2, omega arith, refl)
 
 gds_tech_there : (file : Option (List ℕ)) (gds name : List ℕ) → file ≡ Some name → Contains (tech_files file ++ GdsFile gds ∷ []) (TechFile name)
 gds_tech_there file gds name is = rw is (0, omega arith, refl)
@@ -64,9 +68,14 @@ macro_lef_there (Some name) gds lef = (2, omega arith, refl)
 
 pub gathered_keeps : (form : Option Form) → Keeps (λ source. Contains (read_by form) source) (IsGathered form) (gathered form)
 gathered_keeps None = refl
-gathered_keeps (Some (Plan asked)) =
-    keeps_on (λ source. Contains (read_by (Some (Plan asked))) source) IsInputs (IsGathered (Some (Plan asked))) (inputs_from asked) _
-    (inputs_keep (λ source. Contains (read_by (Some (Plan asked))) source) asked (λ source there. there))
+gathered_keeps (Some (Plan asked Log)) =
+    keeps_on (λ source. Contains (read_by (Some (Plan asked Log))) source) IsInputs (IsGathered (Some (Plan asked Log))) (inputs_from asked) _
+    (inputs_keep (λ source. Contains (read_by (Some (Plan asked Log))) source) asked (λ source there. there))
+    (λ inputs is. refl)
+    (λ e is. rw is refl)
+gathered_keeps (Some (Plan asked Trails)) =
+    keeps_on (λ source. Contains (read_by (Some (Plan asked Trails))) source) IsInputs (IsGathered (Some (Plan asked Trails))) (inputs_from asked) _
+    (inputs_keep (λ source. Contains (read_by (Some (Plan asked Trails))) source) asked (λ source there. there))
     (λ inputs is. refl)
     (λ e is. rw is refl)
 gathered_keeps (Some (Make asked out style)) =
@@ -74,10 +83,15 @@ gathered_keeps (Some (Make asked out style)) =
     (inputs_keep (λ source. Contains (read_by (Some (Make asked out style))) source) asked (λ source there. there))
     (λ inputs is. refl)
     (λ e is. rw is refl)
-gathered_keeps (Some (Check asked log)) =
-    keeps_on (λ source. Contains (read_by (Some (Check asked log))) source) IsInputs (IsGathered (Some (Check asked log))) (inputs_from asked) _
-    (inputs_keep (λ source. Contains (read_by (Some (Check asked log))) source) asked (λ source there. Contains-append_left (input_files asked.tech asked.spice) (LogFile log ∷ []) source there))
-    (λ inputs is. (log_there asked.tech asked.spice log, λ bytes. refl))
+gathered_keeps (Some (Check asked file Log)) =
+    keeps_on (λ source. Contains (read_by (Some (Check asked file Log))) source) IsInputs (IsGathered (Some (Check asked file Log))) (inputs_from asked) _
+    (inputs_keep (λ source. Contains (read_by (Some (Check asked file Log))) source) asked (λ source there. Contains-append_left (input_files asked.tech asked.spice) (LogFile file ∷ []) source there))
+    (λ inputs is. (evidence_there asked.tech asked.spice (LogFile file), λ bytes. refl))
+    (λ e is. rw is refl)
+gathered_keeps (Some (Check asked file Trails)) =
+    keeps_on (λ source. Contains (read_by (Some (Check asked file Trails))) source) IsInputs (IsGathered (Some (Check asked file Trails))) (inputs_from asked) _
+    (inputs_keep (λ source. Contains (read_by (Some (Check asked file Trails))) source) asked (λ source there. Contains-append_left (input_files asked.tech asked.spice) (TrailFile file ∷ []) source there))
+    (λ inputs is. (evidence_there asked.tech asked.spice (TrailFile file), λ bytes. refl))
     (λ e is. rw is refl)
 gathered_keeps (Some (Extract tech gds name rules)) =
     keeps_on (λ source. Contains (read_by (Some (Extract tech gds name rules))) source) (IsOwn Extracting) (IsGathered (Some (Extract tech gds name rules))) (extracting tech gds name rules) _
@@ -98,9 +112,11 @@ gathered_keeps (Some (Agree tech gds lef name)) =
 
 -- a form of the kind of drawings has the words of one
 pub is_make : (form : Form) → kind_of form ≡ Making → (asked : CellAsked) × (out : List ℕ) × (style : Style) × (form ≡ Make asked out style)
-is_make (Plan asked) is = absurd cc
+is_make (Plan asked Log) is = absurd cc
+is_make (Plan asked Trails) is = absurd cc
 is_make (Make asked out style) is = (asked, out, style, refl)
-is_make (Check asked log) is = absurd cc
+is_make (Check asked file Log) is = absurd cc
+is_make (Check asked file Trails) is = absurd cc
 is_make (Extract tech gds name rules) is = absurd cc
 is_make (Bench number) is = absurd cc
 is_make (Row row out) is = absurd cc
@@ -108,9 +124,11 @@ is_make (Agree tech gds lef name) is = absurd cc
 
 -- and one of the kind of rows has those of a row
 pub is_row : (form : Form) → kind_of form ≡ Rowing → (row : RowAsked) × (out : List ℕ) × (form ≡ Row row out)
-is_row (Plan asked) is = absurd cc
+is_row (Plan asked Log) is = absurd cc
+is_row (Plan asked Trails) is = absurd cc
 is_row (Make asked out style) is = absurd cc
-is_row (Check asked log) is = absurd cc
+is_row (Check asked file Log) is = absurd cc
+is_row (Check asked file Trails) is = absurd cc
 is_row (Extract tech gds name rules) is = absurd cc
 is_row (Bench number) is = absurd cc
 is_row (Row row out) is = (row, out, refl)
@@ -147,6 +165,12 @@ row_works kept inputs out r is works = rw is (kept_works Rowing (inputs, out) r 
 pub agree_works : (kept : Own) (both : Compared) (r : Result End Short) → kept ≡ held.Agreeing both → IfOk r (AgreesTo both) → IfOk r (WorksFor kept)
 agree_works kept both r is works = rw is (kept_works Agreeing both r works)
 
+pub trail_plan_works : (kept : Own) (inputs : Inputs) (r : Result End Short) → kept ≡ held.TrailPlanning inputs → IfOk r (trail.TrailPlansTo inputs) → IfOk r (WorksFor kept)
+trail_plan_works kept inputs r is works = rw is (kept_works TrailPlanning inputs r works)
+
+pub trail_check_works : (kept : Own) (inputs : Inputs) (bytes : List ℕ) (r : Result End Short) → kept ≡ held.TrailChecking inputs bytes → IfOk r (TrailChecksTo inputs bytes) → IfOk r (WorksFor kept)
+trail_check_works kept inputs bytes r is works = rw is (kept_works TrailChecking (inputs, bytes) r works)
+
 -- ---- what the work comes to
 
 -- it ends with a status that its kind settles for
@@ -179,6 +203,12 @@ works_settled Agreeing m end (agreement.Differs (differ.NoLabel name), h, is) = 
 works_settled Agreeing m end (agreement.Differs (differ.Port name x y), h, is) = rw is refl
 works_settled Agreeing m end (agreement.Differs (differ.Bare layer x y), h, is) = rw is refl
 works_settled Agreeing m end (agreement.Differs differ.NoMemory, h, is) = rw is refl
+works_settled TrailPlanning m end (trail.Planned row trails, h, is) = rw is refl
+works_settled TrailPlanning m end (trail.Unfinished proved trails, h, is) = rw is refl
+works_settled TrailPlanning m end (trail.Crowded gate, h, is) = rw is refl
+works_settled TrailChecking m end (checked.Accepted gaps lemmas filled, h, is) = rw is refl
+works_settled TrailChecking m end (checked.Misread f, h, is) = rw is refl
+works_settled TrailChecking m end (checked.Rejected cause, h, is) = rw is refl
 
 make_status : (style : Style) (inputs : Inputs) (out : List ℕ) (end : End) → MakesTo style inputs out end → is_among (status.Done ∷ status.Cycle ∷ status.Unfinished ∷ status.TooTall ∷ []) end.status ≡ true
 make_status style inputs out end (made.Made row log routing xs, h, is) = rw is.status refl
@@ -215,6 +245,12 @@ files_by Rowing m end (rows.Stopped before inputs (made.Unfinished proved log), 
 files_by Rowing m end (rows.Unabutted made fault, h, is) = inl (ap (λ (e : End). e.files) is)
 files_by Agreeing m end (agreement.Agreed, h, is) = inl (ap (λ (e : End). e.files) is)
 files_by Agreeing m end (agreement.Differs d, h, is) = inl (ap (λ (e : End). e.files) is)
+files_by TrailPlanning m end (trail.Planned row trails, h, is) = inl (ap (λ (e : End). e.files) is)
+files_by TrailPlanning m end (trail.Unfinished proved trails, h, is) = inl (ap (λ (e : End). e.files) is)
+files_by TrailPlanning m end (trail.Crowded gate, h, is) = inl (ap (λ (e : End). e.files) is)
+files_by TrailChecking m end (checked.Accepted gaps lemmas filled, h, is) = inl (ap (λ (e : End). e.files) is)
+files_by TrailChecking m end (checked.Misread f, h, is) = inl (ap (λ (e : End). e.files) is)
+files_by TrailChecking m end (checked.Rejected cause, h, is) = inl (ap (λ (e : End). e.files) is)
 
 -- no kind settles for a status of the desk or of the words
 
@@ -226,6 +262,8 @@ desk_apart Extracting = refl
 desk_apart Benching = refl
 desk_apart Rowing = refl
 desk_apart Agreeing = refl
+desk_apart TrailPlanning = refl
+desk_apart TrailChecking = refl
 
 pub usage_apart : (kind : Kind) → are_apart (settled_by kind) (status.Usage ∷ []) ≡ true
 usage_apart Planning = refl
@@ -235,3 +273,5 @@ usage_apart Extracting = refl
 usage_apart Benching = refl
 usage_apart Rowing = refl
 usage_apart Agreeing = refl
+usage_apart TrailPlanning = refl
+usage_apart TrailChecking = refl

@@ -16,6 +16,7 @@ use Rattle.call_read.specs.Read.{IsRead}
 use Rattle.call_read.specs.Reading.{Reading, Ends, ◌>>=◌, MayCome, bytes_of}
 use Rattle.call_read.specs.Sources.{LogFile, most_bytes}
 use Rattle.call_words.specs.Words.{Bench}
+use Rattle.call_words.specs.declared.evidence.Evidence.TheVariants.{Log}
 use Rattle.call_read.proofs.Desks.{IsHanded, came_bytes, only_refl, refused, taken}
 use Rattle.check_run.proofs.LogReads.{behind_all}
 
@@ -34,7 +35,7 @@ keeps_behind a b c first next r x own one two came is (got, rest, kept) = (got, 
 -- ---- the log of a check
 
 -- a log whose file was not read
-pub keeps_unread : (old new : View) (log : List ℕ) (inputs : Inputs) (e : Refusal) (own : Result Own Refusal) → IsRead old new (LogFile log) (Err e) → IsHanded own e → MayKeep old new (checking_over log inputs) own
+pub keeps_unread : (old new : View) (log : List ℕ) (inputs : Inputs) (e : Refusal) (own : Result Own Refusal) → IsRead old new (LogFile log) (Err e) → IsHanded own e → MayKeep old new (checking_over Log log inputs) own
 keeps_unread old new log inputs e own read told =
     keeps_refusal old new new (bytes_of (LogFile log)) (λ (bytes : List ℕ). Ends (Ok (Checking, (inputs, bytes)))) (Err e) e own
     (only_refl new)
@@ -43,7 +44,7 @@ keeps_unread old new log inputs e own read told =
     told
 
 -- a log that is behind all bytes of its file
-pub keeps_read : (old new : View) (log : List ℕ) (inputs : Inputs) (before after : CheckedLog) → AreBegun inputs before.reader before.checker → OnlyReads old new → (bytes : List ℕ) × AreBehind before.reader before.checker bytes after.reader after.checker × (length bytes ≤ most_bytes (LogFile log)) × IsRead old new (LogFile log) (Ok bytes) → MayKeep old new (checking_over log inputs) (Ok (held.Checking inputs after))
+pub keeps_read : (old new : View) (log : List ℕ) (inputs : Inputs) (before after : CheckedLog) → AreBegun inputs before.reader before.checker → OnlyReads old new → (bytes : List ℕ) × AreBehind before.reader before.checker bytes after.reader after.checker × (length bytes ≤ most_bytes (LogFile log)) × IsRead old new (LogFile log) (Ok bytes) → MayKeep old new (checking_over Log log inputs) (Ok (held.Checking inputs after))
 keeps_read old new log inputs before after begun only (bytes, behind, few, read) =
     keeps_behind old new new (bytes_of (LogFile log)) (λ (b : List ℕ). Ends (Ok (Checking, (inputs, b)))) (Ok bytes) bytes (Ok (held.Checking inputs after))
     only

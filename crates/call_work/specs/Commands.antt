@@ -8,8 +8,10 @@ use Rattle.call_end.specs.declared.status.Status.{Status}
 use Rattle.call_end.specs.declared.status.Status.TheVariants as status
 use Rattle.call_read.specs.InputFiles.{inputs_from, input_files, tech_files}
 use Rattle.call_read.specs.Reading.{Reading, Ends, bytes_of, ◌>>=◌}
-use Rattle.call_read.specs.Sources.{Source, LogFile, GdsFile, LefFile}
+use Rattle.call_read.specs.Sources.{Source, LogFile, GdsFile, LefFile, TrailFile}
 use Rattle.call_read.specs.declared.refusal.Refusal.TheVariants.{Words}
+use Rattle.call_words.specs.declared.evidence.Evidence.{Evidence}
+use Rattle.call_words.specs.declared.evidence.Evidence.TheVariants.{Log, Trails}
 use Rattle.call_words.specs.Words.{Form, Plan, Make, Check, Extract, Bench, Row, Agree}
 use Rattle.call_work.specs.Bench.{BenchesTo}
 use Rattle.call_work.specs.declared.commands.Material.{Material as Kept}
@@ -24,6 +26,8 @@ use Rattle.make_run.specs.Make.{MakesTo}
 use Rattle.make_run.specs.Plan.{PlansTo}
 use Rattle.row_make.specs.RowInputs.{RowInputs}
 use Rattle.row_run.specs.Row.{RowsTo, rowing}
+use Rattle.trail_run.specs.Check.{TrailChecksTo}
+use Rattle.trail_run.specs.Plan.{TrailPlansTo}
 
 -- ---- kinds: what a call works on and which statuses it ends with are told by its kind
 
@@ -35,11 +39,15 @@ pub data Kind : Type 0 where
   Benching : Kind
   Rowing : Kind
   Agreeing : Kind
+  TrailPlanning : Kind
+  TrailChecking : Kind
 
 abbrev pub kind_of : Form → Kind
-kind_of (Plan cell) = Planning
+kind_of (Plan cell Log) = Planning
+kind_of (Plan cell Trails) = TrailPlanning
 kind_of (Make cell out style) = Making
-kind_of (Check cell log) = Checking
+kind_of (Check cell file Log) = Checking
+kind_of (Check cell file Trails) = TrailChecking
 kind_of (Extract tech gds cell rules) = Extracting
 kind_of (Bench number) = Benching
 kind_of (Row row out) = Rowing
@@ -50,7 +58,7 @@ kind_of (Agree tech gds lef cell) = Agreeing
 -- what a call works on: the inputs of a plan; the inputs of a drawing, what the names of its files begin with, and its
 -- style; the inputs of a check, and the bytes of its log; a cell of a GDSII file, and the deck that it is checked by; a
 -- number of generated cells; what a row of cells is made of, and what the name of its file begins with; a cell and its
--- macro
+-- macro; the inputs of a plan by trails; the inputs of a check of a certificate by trails, and its bytes
 abbrev pub MaterialOf : Kind → Type 0
 MaterialOf Planning = Inputs
 MaterialOf Making = Inputs × List ℕ × Style
@@ -59,19 +67,27 @@ MaterialOf Extracting = GdsCell
 MaterialOf Benching = ℕ
 MaterialOf Rowing = RowInputs × List ℕ
 MaterialOf Agreeing = Compared
+MaterialOf TrailPlanning = Inputs
+MaterialOf TrailChecking = Inputs × List ℕ
 
 abbrev pub Material : Type 0
 Material = (kind : Kind) × MaterialOf kind
 
--- the log is read behind the inputs
-abbrev pub checking_over : List ℕ → Inputs → Reading Material
-checking_over log inputs = bytes_of (LogFile log) >>= λ bytes. Ends (Ok (Checking, (inputs, bytes)))
+-- the inputs of a plan, by its evidence
+abbrev pub planning : Evidence → Inputs → Material
+planning Log inputs = (Planning, inputs)
+planning Trails inputs = (TrailPlanning, inputs)
+
+-- the evidence is read behind the inputs
+abbrev pub checking_over : Evidence → List ℕ → Inputs → Reading Material
+checking_over Log file inputs = bytes_of (LogFile file) >>= λ bytes. Ends (Ok (Checking, (inputs, bytes)))
+checking_over Trails file inputs = bytes_of (TrailFile file) >>= λ bytes. Ends (Ok (TrailChecking, (inputs, bytes)))
 
 abbrev pub gathered : Option Form → Reading Material
 gathered None = Ends (Err Words)
-gathered (Some (Plan asked)) = inputs_from asked >>= λ inputs. Ends (Ok (Planning, inputs))
+gathered (Some (Plan asked evidence)) = inputs_from asked >>= λ inputs. Ends (Ok (planning evidence inputs))
 gathered (Some (Make asked out style)) = inputs_from asked >>= λ inputs. Ends (Ok (Making, (inputs, out, style)))
-gathered (Some (Check asked log)) = inputs_from asked >>= checking_over log
+gathered (Some (Check asked file evidence)) = inputs_from asked >>= checking_over evidence file
 gathered (Some (Extract tech gds cell rules)) =
     extracting tech gds cell rules >>= λ drawn. Ends (Ok (Extracting, drawn))
 gathered (Some (Bench number)) = Ends (Ok (Benching, number))
@@ -81,9 +97,10 @@ gathered (Some (Agree tech gds lef cell)) = comparing tech gds lef cell >>= λ b
 -- the files that a form comes to read, in order
 abbrev pub read_by : Option Form → List Source
 read_by None = []
-read_by (Some (Plan asked)) = input_files asked.tech asked.spice
+read_by (Some (Plan asked evidence)) = input_files asked.tech asked.spice
 read_by (Some (Make asked out style)) = input_files asked.tech asked.spice
-read_by (Some (Check asked log)) = input_files asked.tech asked.spice ++ LogFile log ∷ []
+read_by (Some (Check asked file Log)) = input_files asked.tech asked.spice ++ LogFile file ∷ []
+read_by (Some (Check asked file Trails)) = input_files asked.tech asked.spice ++ TrailFile file ∷ []
 read_by (Some (Extract tech gds cell rules)) = tech_files tech ++ GdsFile gds ∷ []
 read_by (Some (Bench number)) = []
 read_by (Some (Row row out)) = input_files row.tech row.spice
@@ -99,6 +116,8 @@ IsKept m (kept.Extracting cell) = m ≡ (Extracting, cell)
 IsKept m (kept.Benching number) = m ≡ (Benching, number)
 IsKept m (kept.Rowing inputs stem) = m ≡ (Rowing, (inputs, stem))
 IsKept m (kept.Agreeing both) = m ≡ (Agreeing, both)
+IsKept m (kept.TrailPlanning inputs) = m ≡ (TrailPlanning, inputs)
+IsKept m (kept.TrailChecking inputs bytes) = m ≡ (TrailChecking, (inputs, bytes))
 
 -- ---- what the work comes to
 
@@ -110,9 +129,11 @@ WorksTo Extracting cell end = ExtractsTo cell end
 WorksTo Benching number end = BenchesTo number end
 WorksTo Rowing m end = RowsTo m.0 m.1 end
 WorksTo Agreeing both end = AgreesTo both end
+WorksTo TrailPlanning inputs end = TrailPlansTo inputs end
+WorksTo TrailChecking m end = TrailChecksTo m.0 m.1 end
 
 -- the statuses that the words or the files call for: a search alone is unfinished, a making alone, of one cell or of a
--- row, meets a cycle or is too tall, a log or a layout alone is rejected, a GDSII file alone holds no netlist, cells of
+-- row, meets a cycle or is too tall, evidence or a layout alone is rejected, a GDSII file alone holds no netlist, cells of
 -- a row alone do not stand side by side, and an abstract alone does not agree
 abbrev pub settled_by : Kind → List Status
 settled_by Planning = status.Done ∷ status.Input ∷ status.Unfinished ∷ []
@@ -123,3 +144,5 @@ settled_by Benching = status.Done ∷ []
 settled_by Rowing =
     status.Done ∷ status.Input ∷ status.Cycle ∷ status.Unfinished ∷ status.TooTall ∷ status.Row ∷ []
 settled_by Agreeing = status.Done ∷ status.Input ∷ status.Layout ∷ status.Disagree ∷ []
+settled_by TrailPlanning = status.Done ∷ status.Input ∷ status.Unfinished ∷ []
+settled_by TrailChecking = status.Done ∷ status.Input ∷ status.Rejected ∷ []

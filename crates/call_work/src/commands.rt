@@ -2,14 +2,15 @@ ghost use Rattle.std.specs.Prelude.{Some, IfOk, option_map};
 ghost use Rattle.cell_io.specs.Desk.{OnlyReads};
 ghost use Rattle.call_read.specs.Read.{KeepsReads};
 ghost use Rattle.call_words.specs.Words.{Plan, Make, Check, Extract, Row, Agree, shown};
-ghost use Rattle.call_work.specs.Commands.{checking_over, gathered};
+ghost use Rattle.call_work.specs.Commands.{gathered};
 ghost use Rattle.call_work.specs.Kept.{MayKeep, WorksFor};
 
 use crate::bench::bench;
+use crate::evidence::{planning, with_evidence};
 use agree_run::{Compared, agree, read_compared};
 use call_end::End;
-use call_read::{Refusal, Source, read_inputs, read_to};
-use call_words::{CellAsked, CellCount, Form, RowAsked};
+use call_read::{FileBytes, Refusal, read_inputs};
+use call_words::{CellAsked, CellCount, Evidence, Form, RowAsked};
 use cell_inputs::{Inputs, Style};
 use cell_io::Desk;
 use cell_num::NoMemory;
@@ -20,6 +21,7 @@ use row_make::RowInputs;
 use row_run::{read_row, row};
 use scmos_rules::Deck;
 use std::alloc::Global;
+use trail_run::{check_by_trails, plan_by_trails};
 
 /// What a command works on, as it is kept in memory.
 #[derive(Drop)]
@@ -34,34 +36,23 @@ pub enum Material {
     /// What the row is made of, and what the name of its file begins with.
     Rowing(RowInputs, Stem),
     Agreeing(Compared),
-}
-
-fn with_log<D: Desk>(
-    alloc: Global,
-    desk: &mut D,
-    inputs: Inputs,
-    log: &str,
-) -> Result<Material, Refusal>
-    ensures comes { MayKeep (D.view desk.old) (D.view desk.new) (checking_over log.now inputs) result }
-    ensures quiet { KeepsReads result (D.view desk.old) (D.view desk.new) }
-    ensures only { OnlyReads (D.view desk.old) (D.view desk.new) }
-{
-    let mut checked = CheckedLog::new(alloc, &inputs)?;
-    read_to(alloc, desk, Source::Log(log), &mut checked)?;
-    Ok(Material::Checking(inputs, checked))
+    TrailPlanning(Inputs),
+    /// The inputs, and the bytes of a certificate by trails.
+    TrailChecking(Inputs, FileBytes),
 }
 
 fn for_plan<D: Desk>(
     alloc: Global,
     desk: &mut D,
     asked: &CellAsked<'_>,
+    evidence: Evidence,
 ) -> Result<Material, Refusal>
-    ensures comes { MayKeep (D.view desk.old) (D.view desk.new) (gathered (Some (Plan asked.now))) result }
+    ensures comes { MayKeep (D.view desk.old) (D.view desk.new) (gathered (Some (Plan asked.now evidence))) result }
     ensures quiet { KeepsReads result (D.view desk.old) (D.view desk.new) }
     ensures only { OnlyReads (D.view desk.old) (D.view desk.new) }
 {
     let inputs = read_inputs(alloc, desk, asked)?;
-    Ok(Material::Planning(inputs))
+    Ok(planning(inputs, evidence))
 }
 
 fn for_make<D: Desk>(
@@ -85,14 +76,16 @@ fn for_check<D: Desk>(
     alloc: Global,
     desk: &mut D,
     asked: &CellAsked<'_>,
-    log: &str,
+    file: &str,
+    evidence: Evidence,
 ) -> Result<Material, Refusal>
-    ensures comes { MayKeep (D.view desk.old) (D.view desk.new) (gathered (Some (Check asked.now log.now))) result }
+    ensures comes { MayKeep (D.view desk.old) (D.view desk.new)
+        (gathered (Some (Check asked.now file.now evidence))) result }
     ensures quiet { KeepsReads result (D.view desk.old) (D.view desk.new) }
     ensures only { OnlyReads (D.view desk.old) (D.view desk.new) }
 {
     let inputs = read_inputs(alloc, desk, asked)?;
-    with_log(alloc, desk, inputs, log)
+    with_evidence(alloc, desk, inputs, file, evidence)
 }
 
 fn for_extract<D: Desk>(
@@ -155,9 +148,15 @@ pub fn gather<D: Desk>(
     ensures only { OnlyReads (D.view desk.old) (D.view desk.new) }
 {
     match form {
-        Some(Form::Plan { cell }) => for_plan(alloc, desk, &cell),
+        Some(Form::Plan { cell, evidence }) => for_plan(alloc, desk, &cell, evidence),
         Some(Form::Make { cell, out, style }) => for_make(alloc, desk, &cell, out, style),
-        Some(Form::Check { cell, log }) => for_check(alloc, desk, &cell, log),
+        Some(
+            Form::Check {
+                cell,
+                file,
+                evidence,
+            },
+        ) => for_check(alloc, desk, &cell, file, evidence),
         Some(
             Form::Extract {
                 tech,
@@ -181,7 +180,7 @@ pub fn gather<D: Desk>(
 }
 
 /// Does the work of a command on what was gathered. It reads, makes and says nothing.
-#[tactic(auto, using(crate::proofs::EachCommand::plan_works, crate::proofs::EachCommand::make_works, crate::proofs::EachCommand::extract_works, crate::proofs::EachCommand::bench_works, crate::proofs::EachCommand::row_works, crate::proofs::EachCommand::agree_works))]
+#[tactic(auto, using(crate::proofs::EachCommand::plan_works, crate::proofs::EachCommand::make_works, crate::proofs::EachCommand::extract_works, crate::proofs::EachCommand::bench_works, crate::proofs::EachCommand::row_works, crate::proofs::EachCommand::agree_works, crate::proofs::EachCommand::trail_plan_works, crate::proofs::EachCommand::trail_check_works))]
 pub fn work(alloc: Global, material: &Material) -> Result<End, NoMemory>
     ensures { IfOk result (WorksFor material.now) }
 {
@@ -193,5 +192,7 @@ pub fn work(alloc: Global, material: &Material) -> Result<End, NoMemory>
         Material::Benching(number) => bench(alloc, number),
         Material::Rowing(inputs, stem) => row(alloc, inputs, stem),
         Material::Agreeing(both) => agree(alloc, both),
+        Material::TrailPlanning(inputs) => plan_by_trails(alloc, inputs),
+        Material::TrailChecking(inputs, bytes) => check_by_trails(alloc, inputs, bytes.as_slice()),
     }
 }

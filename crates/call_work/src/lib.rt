@@ -3,6 +3,7 @@
 
 mod bench;
 mod commands;
+mod evidence;
 mod refusal;
 
 pub use commands::{Material, gather, work};

@@ -9,5 +9,6 @@ pub mod MakeSettled
 pub mod MakeTold
 pub mod RowTold
 pub mod Telling
+pub mod TrailTold
 pub mod Unmade
 pub mod Worked

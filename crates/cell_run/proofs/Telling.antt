@@ -1,20 +1,19 @@
 -- What the top call owes of its answer, from the end that it came to and how this was told.
-use Rattle.std.proofs.Common.{ℕ, ◌≡◌, ◌≤◌, ◌⊎◌, ◌↔◌, ◌||◌, Bool, true, false, List, [], Option, Some, None, Result, IfSome, IsNone, inl, inr, refl, sym, ap, ◌∙◌, subst, arith}
+use Rattle.std.proofs.Common.{ℕ, ◌≡◌, ◌≤◌, ◌⊎◌, ◌↔◌, ◌||◌, Bool, true, false, List, [], Option, Some, None, IfSome, IsNone, inl, inr, refl, sym, ap, ◌∙◌, subst, arith}
 use Rattle.std.proofs.lemmas.List.{append-nil}
 use Rattle.cell_io.specs.Desk.{Files, View, Both, ForSome, AddsPart, OnlyReads, Rose}
 use Rattle.call_end.specs.declared.end.End.{End}
 use Rattle.call_end.specs.declared.end.Output.{Output}
-use Rattle.call_work.specs.Commands.{Checking, Planning, Material, gathered, read_by}
+use Rattle.call_work.specs.Commands.{Checking, Planning, gathered, read_by}
 use Rattle.check_run.specs.Check.{IsTextOfAccepted}
 use Rattle.log_check.specs.Accepted.{ForKinds}
 use Rattle.row_search.specs.Enough.{enough}
-use Rattle.call_read.specs.declared.refusal.Refusal.{Refusal}
 use Rattle.call_end.specs.declared.status.Status.{Status}
 use Rattle.call_end.specs.declared.status.Status.TheVariants as status
 use Rattle.cell_run.specs.Calm.{IsCalm, IsDoneOrShort}
 use Rattle.cell_run.specs.Check.{HoldsAcceptedLog, IsCheck}
 use Rattle.call_end.specs.Deliver.{GivesUp, MakesAll, MakesSome, OnlyTells, Says, Tells, TellsSome, TellsWhole}
-use Rattle.call_work.specs.Ends.{CallsFor, EndsTo, IsOfOutside, KeepsReadsOf, MayEnd, desk_statuses, is_among, is_status_of, outside_of, settled_of}
+use Rattle.call_work.specs.Ends.{CallsFor, IsOfOutside, KeepsReadsOf, MayEnd, desk_statuses, is_among, is_status_of, outside_of, settled_of}
 use Rattle.cell_run.specs.Row.{IsRow, MayLeaveFile, MayMakeFiles}
 use Rattle.cell_run.specs.Plan.{HasEnough}
 use Rattle.call_read.specs.Sources.{Lacks}
@@ -25,7 +24,7 @@ use Rattle.call_read.proofs.Desks.{came_between}
 use Rattle.cell_run.proofs.Ends.{came_gathered, end_cases, end_told, file_outside, file_status, file_unread, no_files, row_files}
 use Rattle.call_work.proofs.Settled.{not_of_desk, usage_alone}
 use Rattle.make_run.proofs.Planned.{enough_done}
-use Rattle.cell_run.proofs.Worked.{Completes, Works, settles, worked}
+use Rattle.cell_run.proofs.Worked.{Completes, IsAnswered, done_exactly, settles}
 
 -- ---- the whole call
 
@@ -191,16 +190,5 @@ planned_told a c form answer given told = settles Planning (λ inputs. ForKinds 
 pub accepts_told : (a c : View) (form : Option Form) (answer : Status) (given : Option Files) → IfSome given (λ files. IsCalm a c → Completes form files answer) → IfSome given (λ files. IsCalm a c → HoldsAcceptedLog files form → IsDoneOrShort answer)
 accepts_told a c form answer given told = settles Checking (λ m. (gaps : ℕ) × (lemmas : ℕ) × IsTextOfAccepted m.0 m.1 gaps lemmas) form status.Done answer a c given (λ m end (gaps, lemmas, text) works. holds_done m.0 m.1 end gaps lemmas text works) told
 
--- a check that is done found an accepted log
-done_check : (files : Files) (form : Option Form) (answer : Status) (a c : View) → Works files form Checking answer a c → answer ≡ status.Done → HoldsAcceptedLog files form
-done_check files form answer a c w done =
-    let (gaps, lemmas, text) = done_holds w.m.0 w.m.1 w.end w.works (sym w.whole.0 ∙ done) in
-    (w.m, w.comes, (gaps, lemmas, text))
-
-pub checked_told : (a c : View) (form : Option Form) (answer : Status) (given : Option Files) → IfSome given (λ files. IsOfOutside answer ⊎ ((end : End) × CallsFor files form end × TellsWhole end answer a c)) → IfSome given (λ files. IsCheck form → IsOfOutside answer ⊎ (answer ≡ status.Done ↔ HoldsAcceptedLog files form))
-checked_told a c form answer None told = tt
-checked_told a c form answer (Some files) (inl outside) = λ check. inl outside
-checked_told a c form answer (Some files) (inr (end, calls, whole)) = λ check. inr (
-  (λ done. done_check files form answer a c (worked files form Checking answer a c check (rw done refl) (inr (end, calls, whole))) done),
-  (λ (m, got, (gaps, lemmas, text)). whole.0 ∙ holds_done m.0 m.1 end gaps lemmas text (subst (λ (r : Result Material Refusal). EndsTo r end) got calls)),
-)
+pub checked_told : (a c : View) (form : Option Form) (answer : Status) (given : Option Files) → IfSome given (IsAnswered form a c answer) → IfSome given (λ files. IsCheck form → IsOfOutside answer ⊎ (answer ≡ status.Done ↔ HoldsAcceptedLog files form))
+checked_told a c form answer given told = done_exactly Checking (λ m. (gaps : ℕ) × (lemmas : ℕ) × IsTextOfAccepted m.0 m.1 gaps lemmas) form answer a c given (λ m end works done. done_holds m.0 m.1 end works done) (λ m end (gaps, lemmas, text) works. holds_done m.0 m.1 end gaps lemmas text works) told

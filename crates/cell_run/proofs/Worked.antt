@@ -1,5 +1,5 @@
 -- What a call over told files comes to by its own work.
-use Rattle.std.proofs.Common.{◌≡◌, ◌⊎◌, true, List, [], ◌∷◌, Option, Some, None, Result, Ok, Err, IfSome, inl, inr, refl, sym, ap, ◌∙◌, subst}
+use Rattle.std.proofs.Common.{◌≡◌, ◌⊎◌, ◌↔◌, true, List, [], ◌∷◌, Option, Some, None, Result, Ok, Err, IfSome, inl, inr, refl, sym, ap, ◌∙◌, subst}
 use Rattle.std.specs.List.{Contains}
 use Rattle.cell_io.specs.Desk.{Files, View, Both}
 use Rattle.call_end.specs.declared.end.End.{End}
@@ -87,6 +87,18 @@ settles kind Is form settled answer a c (Some files) each told = λ calm (m, got
   | inl (end, calls, same) ↦ inl (same ∙ each m end is (subst (λ (r : Result Material Refusal). EndsTo r end) got calls))
   | inr short ↦ inr short
 ]
+
+-- it is done exactly where so it is of the material
+pub done_exactly : (kind : Kind) (Is : MaterialOf kind → Type 0) (form : Option Form) (answer : Status) (a c : View) (given : Option Files) → ((m : MaterialOf kind) (end : End) → WorksTo kind m end → end.status ≡ status.Done → Is m) → ((m : MaterialOf kind) (end : End) → Is m → WorksTo kind m end → end.status ≡ status.Done) → IfSome given (IsAnswered form a c answer) → IfSome given (λ files. IsOfKind kind form → IsOfOutside answer ⊎ (answer ≡ status.Done ↔ Gathers kind files form Is))
+done_exactly kind Is form answer a c None only where_so told = tt
+done_exactly kind Is form answer a c (Some files) only where_so (inl outside) = λ asks. inl outside
+done_exactly kind Is form answer a c (Some files) only where_so (inr (end, calls, whole)) = λ asks. inr (
+  (λ done. by done (worked files form kind answer a c asks (rw done refl) (inr (end, calls, whole)))),
+  (λ (m, got, is). whole.0 ∙ where_so m end is (subst (λ (r : Result Material Refusal). EndsTo r end) got calls)),
+)
+  where
+    by : answer ≡ status.Done → Works files form kind answer a c → Gathers kind files form Is
+    by done w = (w.m, w.comes, only w.m w.end w.works (sym w.whole.0 ∙ done))
 
 -- ---- where a step may be refused besides
 

@@ -8,3 +8,4 @@ pub mod Extract
 pub mod Headline
 pub mod Plan
 pub mod Row
+pub mod Trails

@@ -11,12 +11,13 @@ ghost use Rattle.call_end.specs.Deliver.{Tells, TellsWhole};
 ghost use Rattle.call_work.specs.Ends.{CallsFor, IsOfOutside, KeepsReadsOf, MayEnd, is_status_of};
 ghost use Rattle.layout_run.specs.Extract.{BreaksRule, HasNetlist};
 ghost use Rattle.cell_run.specs.Extract.{HasNoNetlist, IsBrokenCell, IsExtract, IsExtractedCell, IsRefusedLayout, OfGdsCell, WhereExtractEnds};
-ghost use Rattle.call_work.specs.Commands.{Agreeing, read_by};
+ghost use Rattle.call_work.specs.Commands.{Agreeing, TrailPlanning, read_by};
 ghost use Rattle.cell_run.specs.Ended.{WhereEnds};
 ghost use Rattle.cell_run.specs.Headline.{CanBeDrawn, FromInputs, HasCycle, IsCyclicCell, IsMadeCell, IsMake, IsOrShort, IsSpentSearch, IsTallCell, IsTooHigh, MakesNone, OfFirstLeast, WhereMakeEnds};
 ghost use Rattle.cell_run.specs.Plan.{HasEnough};
 ghost use Rattle.cell_run.specs.Row.{CanBeRowed, IsMisreadRow, IsRow, IsRowedLibrary, IsStopStatus, IsStoppedRow, IsUnabuttedRow};
 ghost use Rattle.cell_run.specs.Row.{MayLeaveFile, MayMakeFiles, OfRow, WhereRowEnds};
+ghost use Rattle.cell_run.specs.Trails.{HoldsAcceptedTrails, IsTrailCheck, IsTrailPlanned, IsTrailUnfinished};
 ghost use Rattle.call_read.specs.Sources.{Lacks};
 ghost use Rattle.call_words.specs.Words.{asked};
 
@@ -66,6 +67,8 @@ fn prepare<D: Desk>(alloc: Global, words: &[String], desk: &mut D) -> End
 /// them and of the cell TOP, in which they stand side by side in the words' order.
 /// `agree TECH GDS LEF CELL` tells whether the macro of a cell in the LEF file LEF agrees with the cell in the GDSII
 /// file GDS, or the first difference.
+/// With `--trails` as the last word `plan` finds the row with a certificate by trails, and `check` reads its file as
+/// the text of such a certificate.
 ///
 /// All memory that is not the desk's own is taken before the first file is made.
 pub fn run<D: Desk>(alloc: Global, words: &[String], desk: &mut D) -> Status
@@ -151,6 +154,19 @@ pub fn run<D: Desk>(alloc: Global, words: &[String], desk: &mut D) -> Status
         → IsOfOutside result ⊎ (result ≡ status.Done ↔ HoldsAcceptedLog files (asked words.now))) }
     ensures accepts { IfCalm (D.view desk.old) (D.view desk.new) (λ files.
         HoldsAcceptedLog files (asked words.now) → IsDoneOrShort result) }
+
+    // What `plan` tells with `--trails`: the first least row, with a certificate by trails that is accepted; or what an
+    // unfinished search proves, or a gate with too many ways to pair its fingers.
+    ensures trail_planned { IfSome (D.view desk.old).given (λ files. WhereEnds TrailPlanning files (asked words.now)
+        result status.Done (λ inputs. IsTrailPlanned inputs (D.view desk.old) (D.view desk.new))) }
+    ensures trail_unfinished { IfSome (D.view desk.old).given (λ files. WhereEnds TrailPlanning files (asked words.now)
+        result status.Unfinished (λ inputs. IsTrailUnfinished inputs (D.view desk.old) (D.view desk.new))) }
+
+    // With `--trails` a check is done exactly where the file is the text of an accepted certificate, as above.
+    ensures trail_checked { IfSome (D.view desk.old).given (λ files. IsTrailCheck (asked words.now)
+        → IsOfOutside result ⊎ (result ≡ status.Done ↔ HoldsAcceptedTrails files (asked words.now))) }
+    ensures trail_accepts { IfCalm (D.view desk.old) (D.view desk.new) (λ files.
+        HoldsAcceptedTrails files (asked words.now) → IsDoneOrShort result) }
 
     // What `extract` tells: the netlist of a cell that obeys all rules; or all rules that it breaks; or why the file
     // has no cell to check, or the cell no netlist.

@@ -18,6 +18,8 @@ make TECH SPICE CELL OUT --dogleg --taps
 extract TECH GDS CELL --taps
 row TECH SPICE OUT TOP CELL CELL ..
 agree TECH GDS LEF CELL
+plan TECH SPICE CELL --trails
+check TECH SPICE CELL FILE --trails
 ";
 
 const BENCH: &str = "status 0 ok

@@ -7,7 +7,7 @@ use Rattle.call_work.proofs.commands.for_check.Goals as goal
 pub returns-in_err-inputs-clause-comes : goal.returns-in_err-inputs-clause-comes
 returns-in_err-inputs-clause-comes g c =
     keeps_refusal (g.D.Desk.view c.args.desk.now) (g.D.Desk.view c.read_inputs.new.desk) (g.D.Desk.view c.read_inputs.new.desk)
-    (inputs_from c.args.asked.now) (checking_over c.args.log.now) c.read_inputs.result c.in_err-inputs.field-0.0 c.from_residual.result
+    (inputs_from c.args.asked.now) (checking_over c.args.evidence c.args.file.now) c.read_inputs.result c.in_err-inputs.field-0.0 c.from_residual.result
     (only_refl (g.D.Desk.view c.read_inputs.new.desk))
     c.read_inputs.ensures.comes
     c.in_err-inputs.was
@@ -15,10 +15,10 @@ returns-in_err-inputs-clause-comes g c =
 
 pub returns-clause-comes : goal.returns-clause-comes
 returns-clause-comes g c =
-    keeps_behind (g.D.Desk.view c.args.desk.now) (g.D.Desk.view c.read_inputs.new.desk) (g.D.Desk.view c.with_log.new.desk)
-    (inputs_from c.args.asked.now) (checking_over c.args.log.now) c.read_inputs.result c.in_ok-inputs.inputs c.with_log.result
+    keeps_behind (g.D.Desk.view c.args.desk.now) (g.D.Desk.view c.read_inputs.new.desk) (g.D.Desk.view c.with_evidence.new.desk)
+    (inputs_from c.args.asked.now) (checking_over c.args.evidence c.args.file.now) c.read_inputs.result c.in_ok-inputs.inputs c.with_evidence.result
     c.read_inputs.ensures.only
-    c.with_log.ensures.only
+    c.with_evidence.ensures.only
     c.read_inputs.ensures.comes
     c.in_ok-inputs.was
-    c.with_log.ensures.comes
+    c.with_evidence.ensures.comes

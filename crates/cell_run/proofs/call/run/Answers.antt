@@ -8,6 +8,7 @@ use Rattle.cell_run.proofs.MakeTold.{cyclic_told, drawn_told, draws_told, meets_
 use Rattle.cell_run.proofs.RowTold.{misread_told, rowed_told, rows_told, stopped_told, unabutted_told}
 use Rattle.cell_run.proofs.Unmade.{none_told, unmade_told}
 use Rattle.cell_run.proofs.Telling.{accepts_told, alone_told, answers, called_for_told, checked_told, completes_told, made_told, memory_told, planned_told, read_told, same_reads_told, status_told, usage_told, write_told}
+use Rattle.cell_run.proofs.TrailTold.{trail_accepts_told, trail_checked_told, trail_planned_told, trail_unfinished_told}
 use Rattle.cell_run.proofs.call.run.Goals as goal
 
 pub returns-clause-ends : goal.returns-clause-ends
@@ -148,3 +149,15 @@ returns-clause-rows g c = rows_told (g.D.Desk.view c.args.desk.now) (g.D.Desk.vi
 
 pub returns-clause-agrees_made : goal.returns-clause-agrees_made
 returns-clause-agrees_made g c = agrees_made_told (g.D.Desk.view c.args.desk.now) (g.D.Desk.view c.deliver.new.desk) (asked c.args.words.now) c.deliver.result (g.D.Desk.view c.args.desk.now).given (returns-clause-completes g c)
+
+pub returns-clause-trail_planned : goal.returns-clause-trail_planned
+returns-clause-trail_planned g c = trail_planned_told (g.D.Desk.view c.args.desk.now) (g.D.Desk.view c.deliver.new.desk) (asked c.args.words.now) c.deliver.result (g.D.Desk.view c.args.desk.now).given (returns-clause-called_for g c)
+
+pub returns-clause-trail_unfinished : goal.returns-clause-trail_unfinished
+returns-clause-trail_unfinished g c = trail_unfinished_told (g.D.Desk.view c.args.desk.now) (g.D.Desk.view c.deliver.new.desk) (asked c.args.words.now) c.deliver.result (g.D.Desk.view c.args.desk.now).given (returns-clause-called_for g c)
+
+pub returns-clause-trail_checked : goal.returns-clause-trail_checked
+returns-clause-trail_checked g c = trail_checked_told (g.D.Desk.view c.args.desk.now) (g.D.Desk.view c.deliver.new.desk) (asked c.args.words.now) c.deliver.result (g.D.Desk.view c.args.desk.now).given (returns-clause-called_for g c)
+
+pub returns-clause-trail_accepts : goal.returns-clause-trail_accepts
+returns-clause-trail_accepts g c = trail_accepts_told (g.D.Desk.view c.args.desk.now) (g.D.Desk.view c.deliver.new.desk) (asked c.args.words.now) c.deliver.result (g.D.Desk.view c.args.desk.now).given (returns-clause-completes g c)

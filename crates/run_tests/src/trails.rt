@@ -1,0 +1,87 @@
+use crate::setup::{INVERTER, INVERTERS, run_over};
+use cell_run::Status;
+use std::test::Fail;
+
+const PLANNED: &str = "status 0 ok
+cell inv
+columns 1
+gaps 0
+width 1
+column 0 gate a p y vdd 20 n y gnd 10
+lemmas 0
+filled 0
+";
+
+const UNFINISHED: &str = "status 6 unfinished
+proved 0
+lemmas 0
+cellgen-trails 1
+cell inv
+fill -
+order 0
+open
+end
+";
+
+#[test]
+fn plans_by_trails(rt: HostRuntime) -> Result<(), Fail> {
+    for (tech, status, said) in [
+        ("", Status::Done, PLANNED),
+        ("budget = 1", Status::Unfinished, UNFINISHED),
+    ] {
+        let files = [tech, INVERTER, ""];
+        let (got, desk) = run_over(rt.alloc(), "plan t.toml c.sp inv --trails", files, &[])?;
+        assert_eq!(rt; desk.all_said(), said.as_bytes());
+        assert_eq!(rt; got, status, "{said}");
+    }
+    Ok(())
+}
+
+const ACCEPTED: &str = "status 0 ok\ncell x3\ncolumns 3\ngaps 1\nwidth 4\nlemmas 4\nfilled 0\n";
+
+const HEAD: &str = "cellgen-trails 1\ncell x3\nfill -\n";
+
+const ORDER: &str = "order 0,1,2\n";
+
+// With one gate left, behind both ways in which the columns of the first two gates may meet; with two left; with all.
+// Another program, written after the definitions, listed them.
+const LEMMAS: &str = "lemma 1 2 - - 6.7!\nlemma 2 1 6.7 - 6.7!\nlemma 1 1 - - -\nlemma 3 0 - - -\n";
+
+const ROW: &str = "gaps 1\ncolumn 0 0 0 0 0\ncolumn 1 1 0 1 0\ncolumn 2 2 1 2 1\nend\n";
+
+// The same columns, none of them turned.
+const UNTURNED: &str = "gaps 2\ncolumn 0 0 0 0 0\ncolumn 1 1 0 1 0\ncolumn 2 2 0 2 0\nend\n";
+
+#[test]
+fn checks_certificates_by_trails(rt: HostRuntime) -> Result<(), Fail> {
+    let text = format!(in rt.alloc(); "{HEAD}{ORDER}{LEMMAS}{ROW}")?;
+    let files = ["", INVERTERS, text.as_str()];
+    let (got, desk) = run_over(rt.alloc(), "check - c.sp x3 l.clog --trails", files, &[])?;
+    assert_eq!(rt; desk.all_said(), ACCEPTED.as_bytes());
+    assert_eq!(rt; got, Status::Done);
+    Ok(())
+}
+
+#[test]
+fn refuses_certificates_by_trails(rt: HostRuntime) -> Result<(), Fail> {
+    for (head, order, lemmas, row, why) in [
+        ("cellgen-log 1\n", ORDER, LEMMAS, ROW, "Version"),
+        ("cellgen-trails 1\ncell inv\n", ORDER, LEMMAS, ROW, "Cell"),
+        (HEAD, "order 0 1 2\n", LEMMAS, ROW, "Line line 4"),
+        (HEAD, ORDER, LEMMAS, "", "Cut"),
+        (HEAD, "order 0,1\n", LEMMAS, ROW, "Gates"),
+        (HEAD, ORDER, "lemma 2 2 - - 6.7!\n", ROW, "Unproved line 5"),
+        (HEAD, ORDER, LEMMAS, "open\nend\n", "NoRow best 1"),
+        (HEAD, ORDER, LEMMAS, "gaps 0\nend\n", "NotArrangement"),
+        (HEAD, ORDER, LEMMAS, UNTURNED, "NotLeast best 1 said 2"),
+        (HEAD, ORDER, "", ROW, "NotLeast best 0 said 1"),
+    ] {
+        let text = format!(in rt.alloc(); "{head}{order}{lemmas}{row}")?;
+        let files = ["", INVERTERS, text.as_str()];
+        let (got, desk) = run_over(rt.alloc(), "check - c.sp x3 l.clog --trails", files, &[])?;
+        let said = format!(in rt.alloc(); "status 7 rejected\ntrails {why}\n")?;
+        assert_eq!(rt; desk.all_said(), said.as_bytes());
+        assert_eq!(rt; got, Status::Rejected, "{why}");
+    }
+    Ok(())
+}
