@@ -1,6 +1,8 @@
-ghost use Rattle.std.specs.Prelude.{◌≡◌, ◌≤◌, IfOk, length};
+ghost use Rattle.std.specs.Prelude.{◌≡◌, ◌≢◌, ◌≤◌, IfOk, length};
+ghost use Rattle.bound_log.specs.declared.fault.LogFault.TheVariants as misread;
 ghost use Rattle.trail_run.specs.Check.{Checks, TrailChecksTo, check_end};
 ghost use Rattle.trail_run.specs.Judged.{Judges};
+ghost use Rattle.trail_run.specs.declared.checking.TrailAnswer.TheVariants.{Misread};
 
 use crate::counts::put_counts;
 use bound_log::LogFault;
@@ -42,6 +44,15 @@ fn judge(alloc: Global, inputs: &Inputs, trails: &Trails) -> Result<TrailAnswer,
     }
 }
 
+fn misread(fault: LogFault) -> Result<TrailAnswer, NoMemory>
+    ensures { IfOk result (λ answer. (fault ≢ misread.NoMemory) × (answer ≡ Misread fault)) }
+{
+    match fault {
+        LogFault::NoMemory => Err(NoMemory),
+        fault => Ok(TrailAnswer::Misread(fault)),
+    }
+}
+
 fn answer(alloc: Global, inputs: &Inputs, bytes: &[u8]) -> Result<TrailAnswer, NoMemory>
     requires { length bytes.now ≤ MOST_BYTES }
     ensures { IfOk result (Checks inputs.now bytes.now) }
@@ -50,8 +61,7 @@ fn answer(alloc: Global, inputs: &Inputs, bytes: &[u8]) -> Result<TrailAnswer, N
     let kinds = kinds(alloc, &inputs.fingers)?;
     match read_trails(alloc, bytes, &inputs.cell.name, &kinds) {
         Ok(trails) => judge(alloc, inputs, &trails),
-        Err(LogFault::NoMemory) => Err(NoMemory),
-        Err(fault) => Ok(TrailAnswer::Misread(fault)),
+        Err(fault) => misread(fault),
     }
 }
 
