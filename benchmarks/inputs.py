@@ -63,11 +63,11 @@ m21 q a_66_6 gnd gnd nmos w=1.5u l=0.6u
 .ends
 """
 
-# a second output for the flip-flop
-SECOND_OUTPUT = """\
+# The flip-flop of 24 transistors with a second output.
+BOTH_OUTPUTS = FLIP_FLOP.replace("24", "26", 1).replace("dff", "bothff", 1).replace(".ends", """\
 mpd q2 qb vdd vdd pmos w=6u l=0.6u
 mnd q2 qb gnd gnd nmos w=3u l=0.6u
-"""
+.ends""")
 
 
 def inverters(name, count):
