@@ -6,6 +6,8 @@ P and N fingers of a gate, half columns anywhere. A gap stands where in some row
 from collections import Counter
 from functools import lru_cache
 
+from fingers import of_one_width
+
 NO_NET = None
 
 
@@ -45,4 +47,4 @@ def least_gaps(fingers):
             n_left = without(n, below[0]) if below[0] else n
             fewest = min(fewest, gap + rest(p_left, n_left, (above[2], below[2])))
         return fewest
-    return rest(tuple(sorted(fingers.p)), tuple(sorted(fingers.n)), (NO_NET, NO_NET))
+    return rest(tuple(of_one_width(fingers.p)), tuple(of_one_width(fingers.n)), (NO_NET, NO_NET))

@@ -15,14 +15,14 @@ import pathlib
 import sys
 
 from clauses import Clauses
-from fingers import columns_of, columns_on, fingers_of
+from fingers import columns_of, columns_on, fingers_of, of_one_width
 
 
 class Row:
     """The variables of one row: `stands[finger][column]`, `turned[finger]`, and the nets at both ends of each place."""
 
     def __init__(self, out, fingers, columns):
-        self.fingers = sorted(fingers)
+        self.fingers = of_one_width(fingers)
         self.nets = sorted({net for one in fingers for net in (one.lo, one.hi)})
         self.stands = [out.several(columns) for _ in fingers]
         self.turned = out.several(len(fingers))

@@ -5,7 +5,7 @@ Only what the cells of the measures use is read: no faults are told, and sizes a
 import re
 from collections import Counter, namedtuple
 
-Finger = namedtuple("Finger", "gate lo hi")                  # nets by number, lo <= hi; the width makes no gap
+Finger = namedtuple("Finger", "gate lo hi width")            # nets by number, lo <= hi
 Fingers = namedtuple("Fingers", "nets p n")                  # the names of the nets, the fingers of both rows
 
 UNIT_UM = 0.15                                               # a grid unit of the plain technology
@@ -41,10 +41,11 @@ def body_of(text, name):
 
 
 def cut(words, most):
-    """How many fingers a transistor's line stands for."""
+    """The widths of the fingers that a transistor's line stands for."""
     keys = dict(word.split("=") for word in words[6:])
     units = round(microns(keys["w"]) / UNIT_UM)
-    return int(keys.get("m", 1)) * max(-(-units // most), int(keys.get("nf", 1)))
+    count = max(-(-units // most), int(keys.get("nf", 1)))
+    return int(keys.get("m", 1)) * [units // count + (at < units % count) for at in range(count)]
 
 
 def fingers_of(text, name, most=40):
@@ -54,8 +55,13 @@ def fingers_of(text, name, most=40):
     number, rows = {net: at for at, net in enumerate(nets)}, {"p": [], "n": []}
     for words in devices:
         drain, gate, source = (number[net] for net in words[1:4])
-        rows[words[5][0]] += cut(words, most) * [Finger(gate, min(drain, source), max(drain, source))]
+        rows[words[5][0]] += [Finger(gate, min(drain, source), max(drain, source), width) for width in cut(words, most)]
     return Fingers(nets, rows["p"], rows["n"])
+
+
+def of_one_width(row):
+    """The fingers in order, without what makes no gap."""
+    return sorted(one._replace(width=0) for one in row)
 
 
 def columns_on(fingers):
