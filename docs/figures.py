@@ -13,6 +13,10 @@ from collections import Counter, namedtuple
 from html import escape
 
 DOCS = os.path.dirname(os.path.abspath(__file__))
+sys.path.append(os.path.join(DOCS, "..", "benchmarks", "trails"))
+from fingers import columns_on, fingers_of  # noqa: E402
+from trails import START, Levels, after, choices_of  # noqa: E402
+
 FIGURES = os.path.join(DOCS, "figures")
 EXAMPLES = os.path.join(DOCS, "..", "examples")
 PROGRAM = sys.argv[1:] or [os.path.join(DOCS, "..", "cellgen")]
@@ -354,6 +358,110 @@ def draw_ring():
     pic.save("ring.svg")
 
 
+# ---------------------------------------------------------------- nodes, choices and ends
+
+def read_fingers(path, cell):
+    with open(path, encoding="ascii") as file:
+        return fingers_of(file.read(), cell)
+
+
+def node_name(nets, node):
+    return f"{nets[node[0]]}.{nets[node[1]]}"
+
+
+def draw_choice(pic, start, end, words, chosen):
+    """A choice of a gate as an edge; the label stands beside its first third."""
+    (x1, y1), (x2, y2) = start, end
+    colour, width, dash = (TEAL, 2.5, "") if chosen else ("#888888", 1.5, "5 4")
+    pic.line(x1, y1, x2, y2, colour, width, dash)
+    far = ((x2 - x1) ** 2 + (y2 - y1) ** 2) ** 0.5
+    dx, dy = (x2 - x1) / far, (y2 - y1) / far
+    if chosen:
+        pic.head(x1 + 0.7 * far * dx, y1 + 0.7 * far * dy, dx, dy, colour)
+    pic.text(x1 + 0.33 * far * dx - 12, y1 + 0.33 * far * dy, words, 13, "end", colour)
+
+
+def draw_nodes(pic, spots, marked):
+    for name, (x, y) in spots.items():
+        fill = "#ffe0b2" if name in marked else "#ffffff"
+        pic.parts.append(f'<ellipse cx="{x}" cy="{y}" rx="38" ry="17" fill="{fill}" stroke="{INK}" stroke-width="1.5"/>')
+        pic.text(x, y, name, 13)
+
+
+def draw_pairs():
+    """The one graph of a NAND2: the two choices of each gate, and those of its row."""
+    path = os.path.join(EXAMPLES, "nand2.sp")
+    row, fingers = row_of(say("plan", "-", path, "nand2")), read_fingers(path, "nand2")
+    pic = Picture(860, 330, "The NAND2 as one graph on pairs of nets, with two choices for each gate, and its row")
+    spots = {f"{p}.{n}": (70 + 170 * x, 90 + 130 * y) for y, p in enumerate(("y", "vdd")) for x, n in enumerate(("y", "n1", "gnd"))}
+    ends = [(f"{column.p.left}.{column.n.left}", f"{column.p.right}.{column.n.right}") for column in row]
+    for gate in columns_on(fingers):
+        for one, in choices_of(fingers, gate):
+            start, end = sorted((node_name(fingers.nets, node) for node in one), key=lambda name: spots[name][1])
+            chosen = next((pair for pair in ends if set(pair) == {start, end}), None)
+            draw_choice(pic, *(spots[name] for name in chosen or (start, end)), fingers.nets[gate], chosen is not None)
+    draw_nodes(pic, spots, (ends[0][0], ends[-1][1]))
+    pic.text(240, 24, "the graph on pairs of nets: P net, N net", bold=True)
+    pic.text(240, 290, "trail: " + " ".join([ends[0][0]] + [f"{column.gate} {end}" for column, (_, end) in zip(row, ends)]), colour=TEAL)
+    draw_row(pic, row, 600, 80)
+    pic.text(704, 24, "the row", bold=True)
+    for at, name in enumerate([ends[0][0]] + [end for _, end in ends]):
+        pic.text(600 + 104 * at, 270, name, 13, colour=TEAL)
+    pic.save("pairs.svg")
+
+
+def draw_open(pic, x, y, nets, title, state, lemma):
+    """A box with what the gates done leave open, and the lemma that speaks of it."""
+    odd = ", ".join(node_name(nets, node) for node in sorted(state.odd))
+    classes = ", ".join(" + ".join(node_name(nets, node) for node in sorted(nodes)) for nodes, _ in state.classes)
+    words = [title, f"odd: {odd}" if odd else "nothing is open"] + ([f"class: {classes}"] if classes else [])
+    words += ["line {}: {} ends more at least".format(*lemma)] if lemma else []
+    pic.rect(x - 110, y, x + 110, y + 12 + 20 * len(words), "#e0f2f1", TEAL, 'rx="6" stroke-width="1.5"')
+    for at, text in enumerate(words):
+        pic.text(x, y + 15 + 20 * at, text, 12, bold=at == 0)
+    return y + 12 + 20 * len(words)
+
+
+def draw_ends():
+    """What the choices of the ring leave open, gate by gate, with the ends that are certain then."""
+    fingers = read_fingers(os.path.join(FIGURES, "ring.sp"), "ring")
+    order, nets = list(columns_on(fingers)), fingers.nets
+    levels = Levels(fingers, order)
+    lines = {(lemma.done, lemma.state): (5 + at, lemma.bound) for at, lemma in enumerate(levels.lemmas())}
+    pic = Picture(900, 690, "What the choices of the ring leave open, and the ends that are certain")
+    here = {START: 450}
+    for done in range(len(order) + 1):
+        arrows = {}
+        title = "no gate done" if done == 0 else "done: " + " ".join(nets[gate] for gate in order[:done])
+        for state, x in here.items():
+            y = draw_open(pic, x, 12 + 150 * done, nets, title, state, lines.get((done, state)))
+            for choice in levels.choices[done] if done < len(order) else []:
+                behind, ends = after(levels.later[done], state, choice)
+                arrows.setdefault((x, y, behind), []).append(choice_words(nets, order[done], choice, ends))
+        here = {behind: 450 if not behind.classes else 230 + 440 * at for at, (_, _, behind) in enumerate(arrows)}
+        for (x, y, behind), words in arrows.items():
+            draw_arrow(pic, x, y, here[behind], 162 + 150 * done, words)
+    pic.save("ends.svg")
+
+
+def choice_words(nets, gate, choice, ends):
+    start, end = (node_name(nets, node) for node in choice[0])
+    return f"{nets[gate]}: {start} to {end}, " + (f"{ends} ends" if ends else "no end")
+
+
+def draw_arrow(pic, x1, y1, x2, y2, choices):
+    """An arrow between two boxes with the choices that lead along it, on its outer side."""
+    side = 1 if x1 + x2 < 900 else -1
+    start, end = (x1, x2 + 30 * side) if x1 == 450 else (x1 + 95 * side, x2 - 70 * side)
+    pic.line(start, y1, end, y2, ORANGE)
+    pic.head(end, y2, 0, 1, ORANGE, 8)
+    for at, words in enumerate(choices):
+        if x1 == 450:
+            pic.text((start + end) / 2 - 40 * side, (y1 + y2) / 2, words, 12, "end" if side > 0 else "start", ORANGE)
+        else:
+            pic.text(x1 - 20 * side, y1 + 16 + 18 * at, words, 12, "middle", ORANGE)
+
+
 # ---------------------------------------------------------------- the channel
 
 STEP, FIRST = 62, 70                                       # the distance of two lines, the place of line 0
@@ -524,5 +632,5 @@ def draw_inverter():
 
 if __name__ == "__main__":
     os.makedirs(FIGURES, exist_ok=True)
-    for draw in (draw_nand2, draw_inverters, draw_ring, draw_latch, draw_inverter):
+    for draw in (draw_nand2, draw_inverters, draw_ring, draw_pairs, draw_ends, draw_latch, draw_inverter):
         draw()
