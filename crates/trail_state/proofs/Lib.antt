@@ -1,3 +1,7 @@
+pub mod Blocks
+pub mod Even
 pub mod Few
+pub mod Once
 pub mod Small
 pub mod Steps
+pub mod Unions

@@ -3,6 +3,7 @@ use Rattle.std.specs.Prelude.{ℕ, ◌≡◌, ◌≢◌, ◌+◌, ◌-◌, ◌<�
 use Rattle.cell_num.specs.declared.net.NetNo.{NetNo}
 use Rattle.cell_num.specs.declared.finger.Fingers.{Fingers}
 use Rattle.cell_num.specs.Fingers.{on_gate}
+use Rattle.trail_state.specs.declared.edge.Node.{Node}
 use Rattle.trail_state.specs.declared.edge.Edge.{Edge}
 use Rattle.trail_state.specs.declared.level.Level.{Level}
 use Rattle.trail_state.specs.declared.state.Place.{Place}
@@ -24,6 +25,11 @@ pub record IsLevel (f : Fingers) (gate : NetNo) (later : List NetNo) (level : Le
   pub now : level.now ≡ open_nodes f (gate ∷ later)
   pub next : level.next ≡ open_nodes f later
   pub choices : level.choices ≡ choices_of f gate.0
+
+-- the nodes of the first level
+abbrev pub first_now : List Level → List Node
+first_now [] = []
+first_now (l ∷ ls) = l.now
 
 abbrev pub AreLevels : Fingers → List NetNo → List Level → Type 0
 AreLevels f [] [] = Unit {0}

@@ -1,6 +1,8 @@
 -- Which nodes the columns of a gate can have at their ends.
 use Rattle.std.specs.Prelude.{ℕ, ◌*◌, ◌/◌, ◌%◌, Bool, ◌||◌, ◌&&◌, ◌==◌, if◌then◌else◌, ltb, List, length, map}
 use Rattle.std.specs.List.{filter, list_any, range_with_len}
+use Rattle.std.specs.Ordering.{nat_cmp}
+use Rattle.std.specs.declared.cmp.Ordering.{Ordering}
 use Rattle.cell_num.specs.declared.net.NetNo.{NetNo}
 use Rattle.cell_num.specs.declared.finger.Finger.{Finger}
 use Rattle.cell_num.specs.declared.finger.Fingers.{Fingers}
@@ -31,6 +33,10 @@ may_have mine other gate net =
 abbrev pub can_meet : Fingers → ℕ → ℕ → Bool
 can_meet f gate v = may_have f.p f.n gate (v / 256) && may_have f.n f.p gate (v % 256)
 
+-- those nodes in ascending order
+abbrev pub nodes_of : Fingers → ℕ → List Node
+nodes_of f gate = map node_at (filter (can_meet f gate) (range_with_len 0 (256 * f.nets)))
+
 -- some of the gates can
 abbrev pub any_can_meet : Fingers → List NetNo → ℕ → Bool
 any_can_meet f gates v = list_any (λ (g : NetNo). can_meet f g.0 v) gates
@@ -38,3 +44,7 @@ any_can_meet f gates v = list_any (λ (g : NetNo). can_meet f g.0 v) gates
 -- those nodes in ascending order
 abbrev pub open_nodes : Fingers → List NetNo → List Node
 open_nodes f gates = map node_at (filter (any_can_meet f gates) (range_with_len 0 (256 * f.nets)))
+
+-- nodes by their numbers
+abbrev pub node_cmp : Node → Node → Ordering
+node_cmp a b = nat_cmp a.0 b.0

@@ -1,5 +1,6 @@
 -- The choices of a gate as a list: which of its P fingers stands with which N finger, turned alike or not.
 use Rattle.std.specs.Prelude.{ℕ, ◌<◌, Bool, ◌&&◌, ◌==◌, ◌++◌, if◌then◌else◌, leb, List, [], ◌∷◌, length, map, fold, remove, slice_index_or}
+use Rattle.std.specs.Borrow.{Bor}
 use Rattle.std.specs.Cmp.Lexicographic.{pointwise}
 use Rattle.std.specs.List.{filter, flat_map, list_any, range_with_len}
 use Rattle.cell_num.specs.declared.finger.Row.TheVariants.{P}
@@ -56,6 +57,10 @@ same_edges ds es = pointwise same_edge ds es
 -- each list once
 abbrev pub with_new : List (List Edge) → List Edge → List (List Edge)
 with_new lists c = if list_any (same_edges c) lists then lists else lists ++ c ∷ []
+
+-- the lists behind borrows
+abbrev pub lists_of : List (Bor (List Edge)) → List (List Edge)
+lists_of keys = map (λ key. key.now) keys
 
 abbrev pub all_pairings : Fingers → ℕ → List (List Edge)
 all_pairings f gate = pairings (nets_in f.p f.nets) (nets_in f.n f.nets) (fingers_on gate f).p (fingers_on gate f).n

@@ -4,11 +4,11 @@ ghost use Rattle.trail_state.specs.Places.{is_end};
 use cell_num::List;
 
 /// A pair of a P net and an N net, as the number 256 * p + n.
-#[derive(Clone, Copy, Debug, PartialEq, Eq)]
+#[derive(Clone, Copy, Debug, PartialEq, Eq, Hash)]
 pub struct Node(pub u32);
 
 /// A column with both places filled: the nodes at its two ends, the lesser one first.
-#[derive(Clone, Copy, Debug, PartialEq, Eq)]
+#[derive(Clone, Copy, Debug, PartialEq, Eq, Hash)]
 pub struct Edge {
     pub a: Node,
     pub b: Node,

@@ -1,13 +1,11 @@
-ghost use Rattle.std.specs.Prelude.{◌≡◌, ◌≤◌, ◌<◌, ◌++◌, ◌∷◌, [], ℕ, IfOk, OnOk, All, length, map, fold, not, ltb};
-ghost use Rattle.std.specs.List.{filter, list_any};
-ghost use Rattle.cell_num.specs.Fingers.{AreFingers};
+ghost use Rattle.std.specs.Prelude.{◌≡◌, ◌<◌, ◌++◌, IfOk, OnOk, All, map, not};
+ghost use Rattle.std.specs.List.{filter};
 ghost use Rattle.trail_state.specs.Choices.{edge_between, edge_of};
-ghost use Rattle.trail_state.specs.Pairings.{all_alone, choices_of, HasSmallEnds, n_edges, nets_in, p_edges, pair_edges, pairings, with_each, with_new, same_edges};
+ghost use Rattle.trail_state.specs.Pairings.{HasSmallEnds, n_edges, p_edges, pair_edges, with_each};
 ghost use Rattle.trail_state.specs.Sorted.{inserted, is_below};
 
-use crate::nodes::is_net;
 use crate::{Choice, Edge, Node};
-use cell_num::{Finger, Fingers, List, NetNo, NoMemory};
+use cell_num::{Finger, List, NoMemory};
 use std::alloc::{AllocError, Global};
 
 fn between(l: u32, r: u32) -> Edge
@@ -103,12 +101,6 @@ pub(crate) fn add_each(
         add_with(alloc, all, edge, lists)?;
     }
     Ok(())
-}
-
-pub(crate) fn nets(alloc: Global, fingers: &[Finger], nets: u32) -> Result<Vec<u32>, AllocError>
-    ensures { IfOk result (λ all. all.items ≡ nets_in fingers.now nets) }
-{
-    (0..nets).filter(|net| is_net(fingers, *net)).collect(alloc)
 }
 
 pub(crate) fn pair(x: &Finger, y: &Finger) -> [Edge; 2]

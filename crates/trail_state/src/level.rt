@@ -1,9 +1,10 @@
 ghost use Rattle.std.specs.Prelude.{◌≡◌, ◌∷◌, IfOk};
 ghost use Rattle.cell_num.specs.Fingers.{AreFingers};
-ghost use Rattle.trail_state.specs.Levels.{AreLevels};
+ghost use Rattle.trail_state.specs.Levels.{AreLevels, first_now};
 
+use crate::nodes::with_gate;
 use crate::pairing::choices;
-use crate::{Choice, Node, open_nodes};
+use crate::{Choice, Node};
 use cell_num::{Fingers, List, NetNo, NoMemory};
 use std::alloc::{AllocError, Global};
 
@@ -23,6 +24,17 @@ fn put_first(level: Level, mut levels: Vec<Level>) -> Result<Vec<Level>, AllocEr
     Ok(levels)
 }
 
+// A copy of the nodes of the first level.
+fn first_nodes(alloc: Global, levels: &[Level]) -> Result<List<Node>, NoMemory>
+    ensures { IfOk result (λ nodes. nodes ≡ first_now levels.now) }
+{
+    match levels.first() {
+        Some(level) => Ok(level.now.clone()?),
+        None => Ok(List::new(alloc)),
+    }
+}
+
+#[tactic(auto, using(crate::proofs::Unions::first_is, crate::proofs::Unions::gate_first))]
 fn list(alloc: Global, fingers: &Fingers, order: &[NetNo]) -> Result<Vec<Level>, NoMemory>
     requires { AreFingers fingers.now }
     ensures { IfOk result (λ levels. AreLevels fingers.now order.now levels.items) }
@@ -31,9 +43,10 @@ fn list(alloc: Global, fingers: &Fingers, order: &[NetNo]) -> Result<Vec<Level>,
         return Ok(Vec::new(alloc));
     };
     let levels = list(alloc, fingers, later)?;
+    let next = first_nodes(alloc, levels.as_slice())?;
     let level = Level {
-        now: open_nodes(alloc, fingers, order)?,
-        next: open_nodes(alloc, fingers, later)?,
+        now: with_gate(alloc, fingers, *gate, next.as_slice())?,
+        next,
         choices: choices(alloc, fingers, *gate)?,
     };
     Ok(put_first(level, levels)?)

@@ -1,13 +1,12 @@
-ghost use Rattle.std.specs.Prelude.{◌≡◌, ◌≤◌, ◌<◌, ◌++◌, ◌∷◌, [], ℕ, IfOk, OnOk, All, fold, length, remove};
-ghost use Rattle.std.specs.List.{filter, list_any};
+ghost use Rattle.std.specs.Prelude.{◌≡◌, ◌<◌, ◌∷◌, [], IfOk, OnOk, All, fold, length, remove};
 ghost use Rattle.cell_num.specs.Fingers.{AreFingers};
-ghost use Rattle.trail_state.specs.Choices.{fingers_on};
-ghost use Rattle.trail_state.specs.Grouped.{is_on};
-ghost use Rattle.trail_state.specs.Pairings.{HasSmallEnds, all_alone, all_pairings, choices_of, nets_in, pairings, same_edge, same_edges, with_new};
+ghost use Rattle.trail_state.specs.Pairings.{HasSmallEnds, all_alone, all_pairings, choices_of, lists_of, nets_in, pairings, with_new};
 
-use crate::edges::{add_each, n_alone, nets, p_alone, pair};
+use crate::edges::{add_each, n_alone, p_alone, pair};
+use crate::nodes::{nets_in, on_gate};
 use crate::{Choice, Edge};
 use cell_num::{Finger, Fingers, List, NetNo, NoMemory};
+use indexmap::IndexSet;
 use std::alloc::{AllocError, Global};
 
 // The empty list alone.
@@ -75,62 +74,51 @@ fn list_pairings(
     Ok(lists)
 }
 
-fn is_same(a: &Edge, b: &Edge) -> bool
-    ensures { result ≡ same_edge a.now b.now }
+fn add<'a>(all: &mut IndexSet<&'a [Edge]>, choice: &'a [Edge]) -> Result<(), NoMemory>
+    ensures { OnOk result (lists_of all.new.keys ≡ with_new (lists_of all.old.keys) choice.now) }
 {
-    a.a == b.a && a.b == b.b
-}
-
-fn on_gate(alloc: Global, gate: u32, fingers: &[Finger]) -> Result<Vec<Finger>, AllocError>
-    ensures { IfOk result (λ on. on.items ≡ filter (is_on gate) fingers.now) }
-{
-    fingers
-        .iter()
-        .copied()
-        .filter(|finger| finger.gate.0 == gate)
-        .collect(alloc)
-}
-
-fn are_same(a: &[Edge], b: &[Edge]) -> bool
-    ensures { result ≡ same_edges a.now b.now }
-{
-    a == b
-}
-
-fn has(lists: &[Choice], choice: &[Edge]) -> bool
-    ensures { result ≡ list_any (same_edges choice.now) lists.now }
-{
-    lists.iter().any(|list| are_same(choice, list.as_slice()))
-}
-
-fn add_new(alloc: Global, lists: &mut List<Choice>, choice: &[Edge]) -> Result<(), NoMemory>
-    ensures { OnOk result (lists.new ≡ with_new lists.old choice.now) }
-{
-    if !has(lists.as_slice(), choice) {
-        lists.push(List::from_vec(choice.to_vec(alloc)?))?;
+    match all.insert_full(choice) {
+        Ok(_) => Ok(()),
+        Err(_) => Err(NoMemory),
     }
-    Ok(())
 }
 
-fn distinct(alloc: Global, lists: &[Choice]) -> Result<List<Choice>, NoMemory>
-    ensures { IfOk result (λ all. all ≡ fold with_new [] lists.now) }
+fn add_all<'a>(alloc: Global, lists: &'a [Choice]) -> Result<IndexSet<&'a [Edge]>, NoMemory>
+    ensures { IfOk result (λ all. lists_of all.keys ≡ fold with_new [] lists.now) }
 {
-    let mut all = List::new(alloc);
+    let mut all = IndexSet::new(alloc);
     for list in lists {
-        add_new(alloc, &mut all, list.as_slice())?;
+        add(&mut all, list.as_slice())?;
     }
     Ok(all)
 }
 
-#[tactic(auto, using(crate::proofs::Small::nets_small, crate::proofs::Small::p_small, crate::proofs::Small::n_small))]
+// Each list once, the first of equal ones.
+fn distinct(alloc: Global, lists: &[Choice]) -> Result<List<Choice>, NoMemory>
+    ensures { IfOk result (λ all. all ≡ fold with_new [] lists.now) }
+{
+    let all = add_all(alloc, lists)?;
+    let mut choices = List::new(alloc);
+    for list in all.as_slice() {
+        choices.push(List::from_vec(list.to_vec(alloc)?))?;
+    }
+    Ok(choices)
+}
+
+#[tactic(auto, using(crate::proofs::Small::nets_small, crate::proofs::Small::p_small, crate::proofs::Small::n_small, crate::proofs::Even::even_same))]
 fn list_all(alloc: Global, fingers: &Fingers, gate: u32) -> Result<List<Choice>, NoMemory>
     requires { AreFingers fingers.now }
     ensures { IfOk result (λ all. all ≡ all_pairings fingers.now gate) }
 {
-    let p_nets = nets(alloc, fingers.p.as_slice(), fingers.nets)?;
-    let n_nets = nets(alloc, fingers.n.as_slice(), fingers.nets)?;
-    let ps = on_gate(alloc, gate, fingers.p.as_slice())?;
-    let ns = on_gate(alloc, gate, fingers.n.as_slice())?;
+    let (p, n) = (fingers.p.as_slice(), fingers.n.as_slice());
+    let ps = on_gate(alloc, gate, p)?;
+    let ns = on_gate(alloc, gate, n)?;
+    if ps.len() == ns.len() {
+        let all = list_pairings(alloc, &[], &[], ps.as_slice(), ns.as_slice())?;
+        return Ok(all);
+    }
+    let p_nets = nets_in(alloc, p, fingers.nets)?;
+    let n_nets = nets_in(alloc, n, fingers.nets)?;
     let all = list_pairings(
         alloc,
         p_nets.as_slice(),
