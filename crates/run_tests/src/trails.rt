@@ -70,7 +70,7 @@ fn refuses_certificates_by_trails(rt: HostRuntime) -> Result<(), Fail> {
         (HEAD, "order 0 1 2\n", LEMMAS, ROW, "Line line 4"),
         (HEAD, ORDER, LEMMAS, "", "Cut"),
         (HEAD, "order 0,1\n", LEMMAS, ROW, "Gates"),
-        (HEAD, ORDER, "lemma 2 2 - - 6.7!\n", ROW, "Unproved line 5"),
+        (HEAD, ORDER, "lemma 3 2 - - 6.7!\n", ROW, "Unproved line 5"),
         (HEAD, ORDER, LEMMAS, "open\nend\n", "NoRow best 1"),
         (HEAD, ORDER, LEMMAS, "gaps 0\nend\n", "NotArrangement"),
         (HEAD, ORDER, LEMMAS, UNTURNED, "NotLeast best 1 said 2"),
