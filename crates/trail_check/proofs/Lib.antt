@@ -6,5 +6,4 @@ pub mod Least
 pub mod Leveled
 pub mod Lines
 pub mod Refusals
-pub mod Rows
 pub mod Sound

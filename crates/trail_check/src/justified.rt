@@ -43,7 +43,8 @@ fn each_reaches(
     lemma: &TrailLemma,
 ) -> Result<bool, NoMemory>
     requires nodes { length level.now.now ≤ 65536 }
-    ensures { IfOk result (λ ok. ok ≡ list_all (choice_reaches earlier.now level.entry.now lemma.now) level.entry.now.choices) }
+    ensures { IfOk result (λ ok. ok ≡
+        list_all (choice_reaches earlier.now level.entry.now lemma.now) level.entry.now.choices) }
 {
     let choices = level.choices.as_slice();
     for choice in choices {
@@ -70,7 +71,8 @@ fn justifies(
 }
 
 /// The ends that the lemmas of a certificate prove of every row, where each is justified by those before it; else the
-/// line of the first that is not. The levels are those of the order: at most 65,536 nodes each.
+/// line of the first that is not; the first lemma stands at line 5 of the text. The levels are those of the order: at
+/// most 65,536 nodes each.
 #[tactic(auto, using(crate::proofs::Lines::first_fails, crate::proofs::Lines::one_more, crate::proofs::Lines::all_proved, crate::proofs::Lines::known_more))]
 pub fn check_lemmas(
     alloc: Global,

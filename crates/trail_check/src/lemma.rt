@@ -50,7 +50,8 @@ fn name(nodes: &[Node], class: &Class, node: &Node) -> Node
 }
 
 fn class_of<'a>(classes: &'a [Class], node: &Node) -> Option<&'a Class>
-    ensures { option_map (λ class. class.now) result ≡ find (λ (class : ClassOf). is_listed class.nodes node.now) classes.now }
+    ensures { option_map (λ class. class.now) result ≡
+        find (λ (class : ClassOf). is_listed class.nodes node.now) classes.now }
 {
     classes
         .iter()
