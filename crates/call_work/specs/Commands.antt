@@ -61,8 +61,8 @@ kind_of (Agree tech gds lef cell) = Agreeing
 -- what a call works on: the inputs of a plan; the inputs of a drawing, what the names of its files begin with, and its
 -- style; the inputs of a check, and the bytes of its log; a cell of a GDSII file, and the deck that it is checked by; a
 -- number of generated cells; what a row of cells is made of, and what the name of its file begins with; a cell and its
--- macro; the inputs of a plan by trails; those of a drawing with a certificate by trails, as of any drawing; the inputs of
--- a check of a certificate by trails, and its bytes
+-- macro; the inputs of a plan by trails; those of a drawing with a certificate by trails, as of any drawing; the
+-- inputs of a check of a certificate by trails, and its bytes
 abbrev pub MaterialOf : Kind → Type 0
 MaterialOf Planning = Inputs
 MaterialOf Making = Inputs × List ℕ × Style
@@ -96,7 +96,8 @@ checking_over Trails file inputs = bytes_of (TrailFile file) >>= λ bytes. Ends 
 abbrev pub gathered : Option Form → Reading Material
 gathered None = Ends (Err Words)
 gathered (Some (Plan asked evidence)) = inputs_from asked >>= λ inputs. Ends (Ok (planning evidence inputs))
-gathered (Some (Make asked out style evidence)) = inputs_from asked >>= λ inputs. Ends (Ok (making evidence out style inputs))
+gathered (Some (Make asked out style evidence)) =
+    inputs_from asked >>= λ inputs. Ends (Ok (making evidence out style inputs))
 gathered (Some (Check asked file evidence)) = inputs_from asked >>= checking_over evidence file
 gathered (Some (Extract tech gds cell rules)) =
     extracting tech gds cell rules >>= λ drawn. Ends (Ok (Extracting, drawn))

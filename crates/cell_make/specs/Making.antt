@@ -119,8 +119,8 @@ pub record IsDrawn (style : Style) (inputs : Inputs) (row : List Column) (routin
 
 -- ---- what making a cell comes to
 
--- A cell that was made: its row is the first least arrangement of the fingers, the log is accepted and lists it, and the
--- row is drawn.
+-- A cell that was made: its row is the first least arrangement of the fingers, the log is accepted and lists it, and
+-- the row is drawn.
 pub record IsMade (style : Style) (inputs : Inputs) (row : List Column) (log : Log) (routing : Routing)
     (xs : List ℕ) : Type 0 where
   pub found : IsFound inputs row log

@@ -21,8 +21,8 @@ pub data RowAnswer : Type 0 where
   RowCyclic : (ring : Ring) → RowAnswer
   RowTall : (routing : Routing) → RowAnswer
 
--- The row is drawn on these tracks and lines; or nets of it stand above each other in this ring, as it is told; or it is
--- routed, and needs more than the height.
+-- The row is drawn on these tracks and lines; or nets of it stand above each other in this ring, as it is told; or it
+-- is routed, and needs more than the height.
 abbrev pub Draws : Style → Inputs → List Column → RowAnswer → Type 0
 Draws style inputs row (RowDrawn routing xs) = IsDrawn style inputs row routing xs
 Draws style inputs row (RowCyclic ring) = IsToldRing style.wiring (placement_of row) inputs.cell.pins ring

@@ -62,7 +62,8 @@ pub record IsAskedFor (form : Option Form) (style : Style) (evidence : Evidence)
   pub name : inputs.cell.name ≡ lowered asked.cell
 
 -- so it is where `make` with this evidence ends with this status
-abbrev pub WhereMakeEnds : Evidence → Files → Option Form → Status → Status → (Style → Inputs → List ℕ → Type 0) → Type 0
+abbrev pub WhereMakeEnds : Evidence → Files → Option Form → Status → Status
+    → (Style → Inputs → List ℕ → Type 0) → Type 0
 WhereMakeEnds Log files form answer settled Says =
     WhereEnds Making files form answer settled (λ m. IsAskedFor form m.2 Log m.0 m.1 × Says m.2 m.0 m.1)
 WhereMakeEnds Trails files form answer settled Says =
@@ -72,24 +73,25 @@ WhereMakeEnds Trails files form answer settled Says =
 
 -- the text of the evidence in a file of this name, the bytes of the drawing and the text of its abstract are there, and
 -- all other files are as before
-pub record HasCell (evidence out text bytes summary : List ℕ) (old new : Files) : Type 0 where
-  pub evidence : new evidence ≡ Some text
+pub record HasCell (file out text bytes summary : List ℕ) (old new : Files) : Type 0 where
+  pub evidence : new file ≡ Some text
   pub drawing : new (out ++ codes ".gds") ≡ Some bytes
   pub lef : new (out ++ codes ".lef") ≡ Some summary
   pub others : (name : List ℕ)
-      → name ≢ evidence → name ≢ out ++ codes ".gds" → name ≢ out ++ codes ".lef"
+      → name ≢ file → name ≢ out ++ codes ".gds" → name ≢ out ++ codes ".lef"
       → new name ≡ old name
 
 -- the text of the evidence is there, and all other files are as before
-pub record HasEvidence (evidence text : List ℕ) (old new : Files) : Type 0 where
-  pub evidence : new evidence ≡ Some text
-  pub others : (name : List ℕ) → name ≢ evidence → new name ≡ old name
+pub record HasEvidence (file text : List ℕ) (old new : Files) : Type 0 where
+  pub evidence : new file ≡ Some text
+  pub others : (name : List ℕ) → name ≢ file → new name ≡ old name
 
 -- ---- a cell that was drawn
 
 -- `row` is the row of the cell, `certificate` its evidence, `routing` its channel, and `lines` has a position for each
 -- line.
-pub record IsMadeCell (evidence : Evidence) (style : Style) (inputs : Inputs) (out : List ℕ) (old new : View) : Type 0 where
+pub record IsMadeCell (evidence : Evidence) (style : Style) (inputs : Inputs) (out : List ℕ)
+    (old new : View) : Type 0 where
   pub row : List Column
   pub certificate : CertificateOf evidence
   pub routing : Routing
@@ -148,8 +150,8 @@ pub record IsMadeCell (evidence : Evidence) (style : Style) (inputs : Inputs) (o
   -- deck: its pins are labels, each cell of a port is in its pin's net, and all other metal is in an obstruction.
   pub agrees :
       IsAbstractOf layout.shapes inputs.cell.name (unit_nm inputs.tech) (abstract_of inputs routing drawing)
-  -- The library stands in `OUT.gds`, the text of a log in `OUT.clog`, or of a certificate by trails in `OUT.ctrail`, and in
-  -- `OUT.lef` the macro of the cell with these ports, obstructions and this size.
+  -- The library stands in `OUT.gds`, the text of a log in `OUT.clog`, or of a certificate by trails in `OUT.ctrail`, and
+  -- in `OUT.lef` the macro of the cell with these ports, obstructions and this size.
   pub files :
       Both (HasCell (evidence_name evidence out) out (evidence_text evidence inputs.cell.name certificate)
       (library_of inputs layout) (abstract_of inputs routing drawing)) old.made new.made

@@ -68,8 +68,8 @@ fn prepare<D: Desk>(alloc: Global, words: &[String], desk: &mut D) -> End
 /// them and of the cell TOP, in which they stand side by side in the words' order.
 /// `agree TECH GDS LEF CELL` tells whether the macro of a cell in the LEF file LEF agrees with the cell in the GDSII
 /// file GDS, or the first difference.
-/// With `--trails` as the last word `plan` finds the row with a certificate by trails, `make` makes that, `OUT.ctrail`, in
-/// the place of the log, and `check` reads its file as the text of such a certificate.
+/// With `--trails` as the last word `plan` finds the row with a certificate by trails, `make` makes that, `OUT.ctrail`,
+/// in the place of the log, and `check` reads its file as the text of such a certificate.
 ///
 /// All memory that is not the desk's own is taken before the first file is made.
 pub fn run<D: Desk>(alloc: Global, words: &[String], desk: &mut D) -> Status

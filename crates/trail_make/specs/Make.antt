@@ -22,8 +22,8 @@ pub data TrailMake : Type 0 where
   Unfinished : (proved : ℕ) (trails : Trails) → TrailMake
   Crowded : (gate : NetNo) → TrailMake
 
--- The row is the first least one, with a certificate that is accepted and lists it, and drawing it comes to this; or the
--- lemmas of a certificate prove so many gaps of every row; or the fingers of a gate pair in too many ways.
+-- The row is the first least one, with a certificate that is accepted and lists it, and drawing it comes to this; or
+-- the lemmas of a certificate prove so many gaps of every row; or the fingers of a gate pair in too many ways.
 abbrev pub Makes : Style → Inputs → TrailMake → Type 0
 Makes style inputs (Made row trails answer) = IsPlanned inputs row trails × Draws style inputs row answer
 Makes style inputs (Unfinished proved trails) = IsUnfinished inputs proved trails
