@@ -9,7 +9,7 @@ use Rattle.row_state.specs.declared.kind.Kinds.{Kinds}
 use Rattle.row_state.specs.declared.state.State.{State}
 use Rattle.row_state.specs.declared.numbered.Numbered.{Numbered}
 use Rattle.row_state.specs.Candidates.{IsNumbered}
-use Rattle.row_state.specs.Code.{IsCode, count_lists, counts_of_code, most_states, state_code, state_of}
+use Rattle.row_state.specs.Code.{IsCode, counts_of_code, most_states, state_code, state_of}
 use Rattle.row_state.specs.Decoded.{decoded}
 use Rattle.row_state.specs.Start.{AreSomeKinds, IsState}
 use Rattle.row_state.proofs.Codes.{lists_few_n, lists_few_p, state_below}

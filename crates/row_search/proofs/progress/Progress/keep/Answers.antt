@@ -1,4 +1,4 @@
-use Rattle.std.proofs.Common.{All, ap, refl, subst, sym, ◌∙◌}
+use Rattle.std.proofs.Common.{All, ap, subst, sym, ◌∙◌}
 use Rattle.row_state.specs.declared.kind.Kinds.{Kinds}
 use Rattle.row_state.specs.Candidates.{IsNumbered}
 use Rattle.row_state.specs.Code.{IsCode}
