@@ -20,6 +20,7 @@ row TECH SPICE OUT TOP CELL CELL ..
 agree TECH GDS LEF CELL
 plan TECH SPICE CELL --trails
 check TECH SPICE CELL FILE --trails
+make TECH SPICE CELL OUT [--dogleg] [--taps] --trails
 ";
 
 const BENCH: &str = "status 0 ok
@@ -77,6 +78,7 @@ fn says_what_the_words_ask_for(rt: HostRuntime) -> Result<(), Fail> {
         ("plan - c.sp inv l.clog", Status::Usage, USAGE),
         ("check - c.sp inv", Status::Usage, USAGE),
         ("plan - c.sp a-b", Status::Usage, USAGE),
+        ("make - c.sp inv out --trails --taps", Status::Usage, USAGE),
         ("bench", Status::Usage, USAGE),
         ("bench 0", Status::Usage, USAGE),
         ("bench 201", Status::Usage, USAGE),
