@@ -24,7 +24,10 @@ pub enum RowOutcome {
         drawn: Drawn,
     },
     /// Nets of the row, or parts of them, stand above each other in a ring.
-    Cyclic { placement: Placement, ring: Ring },
+    Cyclic {
+        placement: Placement,
+        ring: Ring,
+    },
     /// The given height is below the one that the routed row needs.
     Tall {
         placement: Placement,
