@@ -1,7 +1,7 @@
 -- The abstract of a drawn row agrees with the drawing that is written.
-use Rattle.std.proofs.Common.{ℕ, ◌≡◌, ◌+◌, ◌<◌, ◌≤◌, ◌/◌, List, length, sym, subst, arith}
+use Rattle.std.proofs.Common.{ℕ, ◌≡◌, ◌<◌, ◌≤◌, ◌/◌, List, length, sym, subst, arith}
 use Rattle.std.proofs.Math.Nat.{div-add-mod, mod-lt}
-use Rattle.agree_laws.specs.Abstracts.{HasPorts, IsAbstractOf, IsLowDrawing}
+use Rattle.agree_laws.specs.Abstracts.{HasPorts, IsAbstractOf}
 use Rattle.agree_laws.proofs.Pins.{ports_own}
 use Rattle.agree_laws.proofs.Readable.{readable_drawing}
 use Rattle.agree_laws.proofs.Whole.{plain_abstract, tapped_abstract}
@@ -11,7 +11,6 @@ use Rattle.row_model.specs.Arrangement.{IsArrangement}
 use Rattle.row_place.specs.declared.placement.Placement.{Placement}
 use Rattle.row_place.specs.Places.{IsPlacement, placement_of}
 use Rattle.channel_route.specs.declared.routing.Routing.{Routing}
-use Rattle.row_compact.specs.Allowed.{AreAllowed, stretches_of}
 use Rattle.scmos_rules.specs.declared.rules.Deck.TheVariants.{Plain}
 use Rattle.cell_draw.specs.declared.cell.TheConstants.{MOST_SHAPES}
 use Rattle.cell_draw.specs.declared.drawing.Drawing.{Drawing}
