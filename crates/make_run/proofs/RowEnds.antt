@@ -19,13 +19,12 @@ use Rattle.cell_make.specs.declared.drawn.Drawn.{Drawn}
 use Rattle.cell_make.specs.declared.row_outcome.RowOutcome.{RowOutcome}
 use Rattle.cell_make.specs.declared.row_outcome.RowOutcome.TheVariants as came
 use Rattle.cell_make.specs.Making.{drawing_in, final_of}
-use Rattle.cell_make.specs.Rows.{CanRowBeWritten, ComesFrom, RowCyclic, RowDrawn, RowTall, row_answer}
+use Rattle.cell_make.specs.Rows.{CanRowBeWritten, ComesFrom, RowDrawn, row_answer}
 use Rattle.cell_make.specs.Style.{final, tapped_by}
 use Rattle.cell_make.proofs.Finals.{final_is}
 use Rattle.cell_report.specs.Cells.{tall_text}
 use Rattle.cell_report.specs.Cycles.{ring_text}
 use Rattle.call_end.specs.declared.end.End.{End}
-use Rattle.call_end.specs.declared.end.Output.{Output}
 use Rattle.call_end.specs.declared.status.Status.TheVariants as status
 use Rattle.call_end.specs.End.{leaves}
 use Rattle.call_end.specs.Status.{first_line}

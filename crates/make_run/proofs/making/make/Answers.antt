@@ -1,4 +1,4 @@
-use Rattle.std.proofs.Common.{◌≡◌, subst}
+use Rattle.std.proofs.Common.{subst}
 use Rattle.cell_inputs.specs.Inputs.{inputs_of}
 use Rattle.cell_make.specs.declared.planned.Planned.{Planned}
 use Rattle.cell_make.specs.Searched.{IsFound, IsPlanned, IsUnfinished}
@@ -7,8 +7,8 @@ use Rattle.make_run.proofs.Makes.{found_short, inside_named, row_makes, spent_ma
 use Rattle.make_run.proofs.Planned.{found_fits, spent_fits}
 use Rattle.make_run.proofs.making.make.Goals as goal
 
-pub of-requires : goal.of-requires
-of-requires c =
+pub of-requires-in-Found : goal.of-requires-in-Found
+of-requires-in-Found c =
     let found : IsFound c.args.inputs.now c.in-Found.row c.in-Found.log = subst (λ (p : Planned). IsPlanned c.args.inputs.now p) c.in-Found.is c.in_ok-planned.ensures in
     found.first.arranges
 
@@ -25,11 +25,11 @@ row_end-requires-clause-columns c =
     let found : IsFound c.args.inputs.now c.in-Found.row c.in-Found.log = subst (λ (p : Planned). IsPlanned c.args.inputs.now p) c.in-Found.is c.in_ok-planned.ensures in
     found_short c.args.inputs.now c.in-Found.row c.in-Found.log c.show_limits.ensures found
 
-pub returns-in-Found : goal.returns-in-Found
-returns-in-Found c =
+pub returns-in_ok-evidence-in-Found : goal.returns-in_ok-evidence-in-Found
+returns-in_ok-evidence-in-Found c =
     let found : IsFound c.args.inputs.now c.in-Found.row c.in-Found.log = subst (λ (p : Planned). IsPlanned c.args.inputs.now p) c.in-Found.is c.in_ok-planned.ensures in
-    row_makes c.args.style c.args.inputs.now (inputs_of c.inputs.inside.tech c.inputs.inside.cell c.inputs.inside.fingers) c.args.stem.now c.in-Found.row c.in-Found.log c.in_ok-came.came (shown c.in_ok-evidence.evidence) c.row_end.result
-    c.inputs.view_is found c.in_ok-came.ensures.comes c.in_ok-evidence.ensures c.row_end.ensures
+    row_makes c.args.style c.args.inputs.now (inputs_of c.inputs.inside.tech c.inputs.inside.cell c.inputs.inside.fingers) c.args.stem.now c.in-Found.row c.in-Found.log c.in_ok-came-in-Found.came (shown c.in_ok-evidence-in-Found.evidence) c.row_end.result
+    c.inputs.view_is found c.in_ok-came-in-Found.ensures.comes c.in_ok-evidence-in-Found.ensures c.row_end.ensures
 
 pub unfinished-requires-clause-name : goal.unfinished-requires-clause-name
 unfinished-requires-clause-name c = inside_named c.args.inputs.now (inputs_of c.inputs.inside.tech c.inputs.inside.cell c.inputs.inside.fingers) c.inputs.view_is c.show_limits.ensures
@@ -39,8 +39,8 @@ unfinished-requires-clause-fits c =
     let spent : IsUnfinished c.args.inputs.now c.in-Unfinished.proved c.in-Unfinished.log = subst (λ (p : Planned). IsPlanned c.args.inputs.now p) c.in-Unfinished.is c.in_ok-planned.ensures in
     spent_fits c.args.inputs.now.fingers c.args.inputs.now.tech.budget c.in-Unfinished.proved c.in-Unfinished.log spent.1
 
-pub returns : goal.returns
-returns c =
+pub returns-in-Unfinished : goal.returns-in-Unfinished
+returns-in-Unfinished c =
     let spent : IsUnfinished c.args.inputs.now c.in-Unfinished.proved c.in-Unfinished.log = subst (λ (p : Planned). IsPlanned c.args.inputs.now p) c.in-Unfinished.is c.in_ok-planned.ensures in
     spent_makes c.args.style c.args.inputs.now (inputs_of c.inputs.inside.tech c.inputs.inside.cell c.inputs.inside.fingers) c.args.stem.now c.in-Unfinished.proved c.in-Unfinished.log c.unfinished.result
     c.inputs.view_is spent c.unfinished.ensures

@@ -1,6 +1,5 @@
 use Rattle.std.proofs.Common.{◌≡◌, IfOk, subst}
 use Rattle.cell_make.specs.declared.planned.Planned.{Planned}
-use Rattle.cell_make.specs.declared.planned.Planned.TheVariants as planned
 use Rattle.cell_make.specs.Searched.{IsFound, IsPlanned, IsUnfinished}
 use Rattle.cell_inputs.specs.Inputs.{Inputs}
 use Rattle.make_run.specs.Plan.{planned_end, unfinished_end}
