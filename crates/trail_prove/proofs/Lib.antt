@@ -1,6 +1,6 @@
+pub mod Ends
 pub mod Finds
 pub mod Grown
-pub mod Limits
 pub mod Lines
 pub mod Listed
 pub mod Orders

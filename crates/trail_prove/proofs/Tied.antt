@@ -22,9 +22,9 @@ tied_one kept left left_after others went some = record { few = omega (arith, we
 pub tied_behind : (a b c : Kept) (left left_on left_after behind others : ℕ) → left_on + length b.lemmas + 1 ≡ left + length a.lemmas → AreTied b c left_on left_after behind → behind + 1 ≤ others → AreTied a c left left_after others
 tied_behind a b c left left_on left_after behind others went h more = record { few = omega (arith, went, h.few); many = omega (arith, went, h.many, more) }
 
--- a node went for each lemma so far
-pub tied_still : (a b c : Kept) (left left_on left_after others : ℕ) → left_on + length b.lemmas + others ≡ left + length a.lemmas → AreTied b c left_on left_after 0 → left_after + length c.lemmas + others ≡ left + length a.lemmas
-tied_still a b c left left_on left_after others went h = omega (arith, went, h.few, h.many)
+-- a node of the path, and one for each lemma so far
+pub tied_still : (a b c : Kept) (left left_on left_after : ℕ) → left_on + length b.lemmas + 1 ≡ left + length a.lemmas → AreTied b c left_on left_after 0 → left_after + length c.lemmas + 1 ≡ left + length a.lemmas
+tied_still a b c left left_on left_after went h = omega (arith, went, h.few, h.many)
 
 -- the last one as well
 pub tied_kept : (a b c : Kept) (left left_after others : ℕ) → left_after + length b.lemmas + 1 ≡ left + length a.lemmas → length c.lemmas ≡ length b.lemmas + 1 → AreTied a c left left_after others

@@ -57,7 +57,7 @@ pub record AreSpent (left left_after others : ℕ) (trails : Trails) : Type 0 wh
 -- No node is left, and so much is proved: each node but one for each gate at most went for a lemma.
 pub record IsUnfinished (f : Fingers) (left left_after : ℕ) (proof : Proof) : Type 0 where
   pub none : left_after ≡ 0
-  pub proof : IsProof f proof
+  pub proved : IsProof f proof
   pub nodes : AreSpent left left_after (length proof.trails.order) proof.trails
 
 -- no node is left; or the gate has too many ways

@@ -18,7 +18,7 @@ use trail_state::TrailState;
 /// Whether it is proved that every arrangement of the fingers has more than `limit` gaps: a limit up to 30 is refuted
 /// where lemmas in the order that is tried can refute it. It takes at most `left` nodes, and leaves there how many are
 /// left for later calls. A node is a state of which no lemma says so much.
-#[tactic(auto, using(crate::proofs::Proved::none_kept, crate::proofs::Proved::kept_least, crate::proofs::Proved::levels_short, crate::proofs::Proved::gate_crowded))]
+#[tactic(auto, using(crate::proofs::States::state_first, crate::proofs::Proved::none_kept, crate::proofs::Proved::kept_least, crate::proofs::Proved::levels_short, crate::proofs::Proved::gate_crowded))]
 pub fn is_refuted(
     alloc: Global,
     fingers: &Fingers,

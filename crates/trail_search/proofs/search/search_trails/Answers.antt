@@ -13,7 +13,7 @@ pub returns-in-Err-Unfinished-clause-stopped : goal.returns-in-Err-Unfinished-cl
 returns-in-Err-Unfinished-clause-stopped c =
     let told : IsUnfinished c.args.fingers.now c.args.budget c.prove.new.left c.in-Err-Unfinished.proof = rw c.in-Err-Unfinished.field-0-is at c.in-Err-Unfinished.ensures.stopped in
     let is : c.unfinished.result ≡ stopped.Unfinished c.in-Err-Unfinished.proof.trails c.in-Err-Unfinished.proof.gaps (c.args.budget - c.prove.new.left) = rw c.in-Err-Unfinished.field-0-is at c.unfinished.ensures in
-    subst (Stops c.args.fingers.now c.args.budget) (sym is) (spent_is c.in_ok-kinds.kinds c.args.fingers.now c.args.budget (c.args.budget - c.prove.new.left) c.in-Err-Unfinished.proof c.in_ok-kinds.ensures.kinds c.in_ok-kinds.ensures.sound told.proof (omega arith) (inl (omega (arith, told.none))) (omega (arith, told.nodes.few)) (inl (omega (arith, told.none, told.nodes.many))))
+    subst (Stops c.args.fingers.now c.args.budget) (sym is) (spent_is c.in_ok-kinds.kinds c.args.fingers.now c.args.budget (c.args.budget - c.prove.new.left) c.in-Err-Unfinished.proof c.in_ok-kinds.ensures.kinds c.in_ok-kinds.ensures.sound told.proved (omega arith) (inl (omega (arith, told.none))) (omega (arith, told.nodes.few)) (inl (omega (arith, told.none, told.nodes.many))))
 
 pub first_row-requires : goal.first_row-requires
 first_row-requires c = record { few = few_gaps c.in_ok-kinds.kinds c.args.fingers.now c.in-Ok.proof.gaps c.in_ok-kinds.ensures.kinds c.in_ok-kinds.ensures.sound c.in-Ok.ensures.proof.least }
