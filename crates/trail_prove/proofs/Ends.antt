@@ -1,7 +1,7 @@
 -- Which numbers of ends the choices come to: what is found is few enough, and what is refuted is proved.
-use Rattle.std.specs.Prelude.{ℕ, zero, suc, ◌≡◌, ◌+◌, ◌-◌, ◌*◌, ◌/◌, ◌<◌, ◌≤◌, ◌==◌, ◌&&◌, ◌||◌, Bool, true, false, cond, max, nat_lt, List, [], ◌∷◌, ◌++◌, Option, Some, None, Contains, drop, fold, get_or, length, slice_get}
+use Rattle.std.specs.Prelude.{ℕ, zero, suc, ◌≡◌, ◌+◌, ◌-◌, ◌*◌, ◌/◌, ◌<◌, ◌≤◌, ◌==◌, ◌||◌, Bool, true, false, cond, max, nat_lt, List, [], ◌∷◌, ◌++◌, Some, None, Contains, drop, fold, length, slice_get}
 use Rattle.std.specs.List.{list_any}
-use Rattle.std.proofs.Common.{refl, sym, ap, subst, arith, ◌∙◌, inl, inr}
+use Rattle.std.proofs.Common.{refl, sym, ap, subst, arith, inl, inr}
 use Rattle.std.proofs.lemmas.Bool.{and_from, and_parts, cases_Bool, eq-eqb, leb-true}
 use Rattle.std.proofs.lemmas.List.Sums.{fold-append}
 use Rattle.std.proofs.lemmas.Option.{none-some, same_Some}
@@ -13,7 +13,7 @@ use Rattle.trail_state.specs.declared.state.Place.{Place}
 use Rattle.trail_state.specs.Levels.{Ends, IsOrder}
 use Rattle.trail_state.specs.Settling.{ends_after, state_after}
 use Rattle.trail_check.specs.declared.lemma.TrailLemma.{TrailLemma}
-use Rattle.trail_check.specs.Justified.{better, ends_proved, gaps_proved, is_known, is_start, same_state, says}
+use Rattle.trail_check.specs.Justified.{better, ends_proved, gaps_proved, is_known, is_start, says}
 use Rattle.trail_check.specs.Leveled.{levels_of}
 use Rattle.trail_check.proofs.Sound.{state_is}
 use Rattle.trail_prove.specs.declared.kept.Kept.{Kept}

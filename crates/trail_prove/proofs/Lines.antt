@@ -1,12 +1,12 @@
 -- A text can hold the line that lists a state.
-use Rattle.std.specs.Prelude.{ℕ, zero, suc, ◌≡◌, ◌+◌, ◌*◌, ◌/◌, ◌%◌, ◌<◌, ◌≤◌, ◌==◌, Bool, true, false, List, [], ◌∷◌, Option, Some, None, All, AllPairs, Contains, find, length, map, option_map, slice_get, unwrap_or}
-use Rattle.std.specs.List.{filter, filter_map, list_all}
+use Rattle.std.specs.Prelude.{ℕ, zero, suc, ◌≡◌, ◌+◌, ◌*◌, ◌/◌, ◌%◌, ◌<◌, ◌≤◌, Bool, true, false, List, [], ◌∷◌, All, AllPairs, Contains, length, map, slice_get}
+use Rattle.std.specs.List.{filter, list_all}
 use Rattle.std.proofs.Common.{refl, sym, ap, subst, arith, ◌∙◌, inl, inr}
 use Rattle.std.proofs.lemmas.Bool.{and_from, cases_Bool, eq-eqb, eqb-true}
 use Rattle.std.proofs.lemmas.List.Elements.{All-contains, All-head, All-nil, All-tail}
-use Rattle.std.proofs.lemmas.List.Kept.{AllPairs-cons, AllPairs-filter}
+use Rattle.std.proofs.lemmas.List.Kept.{AllPairs-filter}
 use Rattle.cell_num.proofs.In.{Image, contains_map, in_map}
-use Rattle.cell_num.proofs.Lists.{Kept, all_from_contains, contains_cons, contains_here, contains_none, contains_there, kept_from}
+use Rattle.cell_num.proofs.Lists.{all_from_contains, contains_cons, contains_here, contains_none, contains_there}
 use Rattle.cell_num.proofs.Pairs.{pairs_head, pairs_map, pairs_none, pairs_tail}
 use Rattle.trail_state.specs.declared.edge.Node.{Node}
 use Rattle.trail_state.specs.declared.level.Level.{Level}

@@ -1,7 +1,7 @@
 -- What kept lemmas prove of every arrangement.
 use Rattle.std.specs.Prelude.{ℕ, zero, suc, ◌≡◌, ◌+◌, ◌*◌, ◌/◌, ◌%◌, ◌<◌, ◌≤◌, ◌&&◌, Bool, true, false, ltb, nat_lt, List, [], ◌∷◌, Option, Some, None, All, IfSome, Contains, if◌then◌else◌, ◌==◌, length, map, slice_get}
-use Rattle.std.specs.List.{filter, list_any, range_with_len}
-use Rattle.std.proofs.Common.{refl, sym, ap, subst, arith, ◌∙◌, inl, inr}
+use Rattle.std.specs.List.{filter, range_with_len}
+use Rattle.std.proofs.Common.{refl, sym, ap, subst, arith, ◌∙◌}
 use Rattle.std.proofs.lemmas.Bool.{and_parts}
 use Rattle.std.proofs.lemmas.List.Elements.{All-cons, All-nil}
 use Rattle.std.proofs.lemmas.List.Kept.{AllPairs-filter}
@@ -11,7 +11,7 @@ use Rattle.cell_num.proofs.Lists.{all_from_contains}
 use Rattle.cell_num.proofs.Pairs.{Some', pairs_map, test_finds}
 use Rattle.cell_num.specs.declared.net.NetNo.{NetNo}
 use Rattle.cell_num.specs.declared.finger.Row.{Row}
-use Rattle.cell_num.specs.declared.finger.Row.TheVariants.{P, N}
+use Rattle.cell_num.specs.declared.finger.Row.TheVariants.{N}
 use Rattle.cell_num.specs.declared.finger.Finger.{Finger}
 use Rattle.cell_num.specs.declared.finger.Fingers.{Fingers}
 use Rattle.cell_num.specs.Fingers.{AreFingers, IsFinger, on_gate}

@@ -1,18 +1,17 @@
 -- What the choices of a gate leave are places at the nodes of the next level, named by the first of their classes.
-use Rattle.std.specs.Prelude.{ℕ, ◌≡◌, ◌≢◌, ◌<◌, ◌≤◌, ◌==◌, ◌||◌, ◌⊎◌, Bool, true, false, min, List, [], ◌∷◌, Option, Some, None, AllPairs, Contains, find, fold, if◌then◌else◌, map, option_map, unwrap_or}
+use Rattle.std.specs.Prelude.{ℕ, ◌≡◌, ◌<◌, ◌≤◌, ◌==◌, ◌||◌, ◌⊎◌, Bool, true, false, min, List, [], ◌∷◌, Option, Some, None, AllPairs, Contains, find, fold, if◌then◌else◌, map, option_map, unwrap_or}
 use Rattle.std.proofs.Common.{refl, sym, ap, subst, arith, ◌∙◌, inl, inr}
 use Rattle.std.proofs.lemmas.Bool.{both_ways, cases_Bool, cases_lt, eq-eqb, eqb-true, or_left, or_right}
-use Rattle.std.proofs.lemmas.List.Elements.{All-contains}
 use Rattle.std.proofs.lemmas.List.Kept.{AllPairs-filter}
 use Rattle.cell_num.proofs.In.{contains_map}
-use Rattle.cell_num.proofs.Lists.{Kept, all_from_contains, contains_cons, contains_none, kept_from, some_same}
-use Rattle.cell_num.proofs.Pairs.{Some', pairs_head, pairs_map, pairs_none, pairs_tail, test_finds}
+use Rattle.cell_num.proofs.Lists.{Kept, all_from_contains, contains_none, kept_from, some_same}
+use Rattle.cell_num.proofs.Pairs.{Some', pairs_map, pairs_none, test_finds}
 use Rattle.trail_state.specs.declared.edge.Edge.{Edge}
 use Rattle.trail_state.specs.declared.edge.Node.{Node}
 use Rattle.trail_state.specs.declared.state.Place.{Place}
 use Rattle.trail_state.specs.Members.{At, Found, Passes, at_found, found_from, mapped, pairs_kept, passes_from}
 use Rattle.trail_state.specs.Places.{is_joined, is_met, joined_place, met_place, met_places, new_place, node_at, or_met, place_of, place_or_new, with_edge, with_edges}
-use Rattle.trail_state.specs.Settling.{closing_of, has_odd, is_open, kept_of, left_place, name_in, state_after, state_settled}
+use Rattle.trail_state.specs.Settling.{closing_of, has_odd, is_open, kept_of, left_place, state_after, state_settled}
 use Rattle.trail_prove.specs.Search.{IsStateOf, Names}
 use Rattle.trail_prove.proofs.Finds.{first_least, found_is, one_numbered}
 

@@ -1,9 +1,8 @@
 -- The nodes that were spent, and the lemmas that were added.
-use Rattle.std.specs.Prelude.{ℕ, ◌≡◌, ◌+◌, ◌≤◌, List, [], length, map}
+use Rattle.std.specs.Prelude.{ℕ, ◌≡◌, ◌+◌, ◌≤◌, List, [], length}
 use Rattle.std.proofs.Common.{sym, ap, arith, ◌∙◌}
 use Rattle.std.proofs.lemmas.List.{length-map}
 use Rattle.trail_state.specs.declared.level.Level.{Level}
-use Rattle.trail_log.specs.declared.trails.LemmaLine.{LemmaLine}
 use Rattle.trail_log.specs.declared.trails.Trails.{Trails}
 use Rattle.trail_check.specs.Listed.{lemma_listed}
 use Rattle.trail_prove.specs.declared.kept.Kept.{Kept}

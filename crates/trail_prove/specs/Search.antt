@@ -1,5 +1,5 @@
 -- What a search keeps, how it goes on, and the nodes that it spends.
-use Rattle.std.specs.Prelude.{ℕ, ◌≡◌, ◌≤◌, ◌<◌, ◌+◌, ◌++◌, List, [], Option, Some, None, All, AllPairs, Contains, length, slice_get}
+use Rattle.std.specs.Prelude.{ℕ, ◌≡◌, ◌≤◌, ◌<◌, ◌+◌, ◌++◌, List, [], Some, None, All, AllPairs, Contains, length, slice_get}
 use Rattle.trail_state.specs.declared.edge.Node.{Node}
 use Rattle.trail_state.specs.declared.level.Level.{Level}
 use Rattle.trail_state.specs.declared.state.Place.{Place}

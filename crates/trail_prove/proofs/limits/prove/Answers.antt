@@ -1,4 +1,4 @@
-use Rattle.std.proofs.Common.{ℕ, ◌≡◌, ◌+◌, List, None, ap, arith, length, refl, subst, sym, ◌∙◌}
+use Rattle.std.proofs.Common.{ℕ, ◌+◌, List, None, ap, arith, length, refl, subst, sym, ◌∙◌}
 use Rattle.cell_num.specs.declared.net.NetNo.{NetNo}
 use Rattle.trail_state.specs.Levels.{AreLevels}
 use Rattle.trail_check.specs.Gates.{first_with_many}

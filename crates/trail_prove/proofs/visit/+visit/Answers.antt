@@ -7,7 +7,7 @@ use Rattle.trail_state.specs.declared.edge.Node.{Node}
 use Rattle.trail_state.specs.declared.level.Level.{Level}
 use Rattle.trail_prove.proofs.Grown.{IsChoice, all_fail, choice_at, fails_dear, fails_known, fails_still, further_then, state_behind}
 use Rattle.trail_prove.proofs.Ends.{choice_open, leaf_open}
-use Rattle.trail_prove.proofs.Tied.{tied_behind, tied_kept, tied_one, tied_still}
+use Rattle.trail_prove.proofs.Tied.{tied_behind, tied_still}
 use Rattle.trail_prove.proofs.visit.+visit.Goals as goal
 
 pub loop-choice-preserved-then-allowed-settled : goal.loop-choice-preserved-then-allowed-settled

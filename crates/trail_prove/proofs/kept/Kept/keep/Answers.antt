@@ -1,5 +1,3 @@
-use Rattle.std.proofs.Common.{◌+◌, ap, arith}
-use Rattle.std.proofs.lemmas.List.{length-append}
 use Rattle.trail_prove.proofs.Grown.{IsListing, further_kept, known_kept, listing}
 use Rattle.trail_prove.proofs.kept.Kept.keep.Goals as goal
 
