@@ -17,12 +17,12 @@ use Rattle.scmos_rules.specs.declared.rules.Deck.{Deck}
 use Rattle.scmos_rules.specs.declared.rules.Deck.TheVariants as deck
 
 -- what a call asks for: `plan TECH SPICE CELL`, which may end with `--trails` for another kind of evidence, `make TECH
--- SPICE CELL OUT`, which may end with `--dogleg` and `--taps`, `check TECH SPICE CELL LOG`, or with `--trails` behind the
+-- SPICE CELL OUT`, which may end with `--dogleg`, `--taps` and `--trails`, `check TECH SPICE CELL LOG`, or with `--trails` behind the
 -- file's name, `extract TECH GDS CELL`, whose technology is none for the plain one and which may end with `--taps` for
 -- the deck of cells with taps, `bench NUMBER`, `row TECH SPICE OUT TOP CELL CELL ..`, or `agree TECH GDS LEF CELL`
 pub data Form : Type 0 where
   Plan : (cell : CellAsked) (evidence : Evidence) → Form
-  Make : (cell : CellAsked) (out : List ℕ) (style : Style) → Form
+  Make : (cell : CellAsked) (out : List ℕ) (style : Style) (evidence : Evidence) → Form
   Check : (cell : CellAsked) (file : List ℕ) (evidence : Evidence) → Form
   Extract : (tech : Option (List ℕ)) (gds cell : List ℕ) (rules : Deck) → Form
   Bench : (number : ℕ) → Form
@@ -32,7 +32,7 @@ pub data Form : Type 0 where
 -- the program's form of a call, by its texts
 abbrev pub shown : Read → Form
 shown (read.Plan cell evidence) = Plan cell evidence
-shown (read.Make cell out style) = Make cell out.now style
+shown (read.Make cell out style evidence) = Make cell out.now style evidence
 shown (read.Check cell file evidence) = Check cell file.now evidence
 shown (read.Extract tech gds cell rules) = Extract (option_map (λ name. name.now) tech) gds.now cell.now rules
 shown (read.Bench number) = Bench number
@@ -55,6 +55,7 @@ usage_text =
     ++ codes "agree TECH GDS LEF CELL\n"
     ++ codes "plan TECH SPICE CELL --trails\n"
     ++ codes "check TECH SPICE CELL FILE --trails\n"
+    ++ codes "make TECH SPICE CELL OUT [--dogleg] [--taps] --trails\n"
 
 -- the name of a file: not empty
 abbrev pub is_file : List ℕ → Bool
@@ -83,29 +84,31 @@ plan_of (tech ∷ spice ∷ cell ∷ more) =
     option_and_then (λ evidence. option_map (λ asked. Plan asked evidence) (cell_of tech spice cell)) (evidence_of more)
 plan_of _ = None
 
--- a drawing in a style, in files whose names begin so
-abbrev pub making_of : Style → List ℕ → List ℕ → List ℕ → List ℕ → Option Form
-making_of style tech spice cell out =
-    if is_file out then option_map (λ asked. Make asked out style) (cell_of tech spice cell) else None
+-- a drawing in a style, with its evidence, in files whose names begin so
+abbrev pub making_of : Style → Evidence → List ℕ → List ℕ → List ℕ → List ℕ → Option Form
+making_of style evidence tech spice cell out =
+    if is_file out then option_map (λ asked. Make asked out style evidence) (cell_of tech spice cell) else None
 
--- the taps of the last words, none or `--taps`
-abbrev pub taps_of : List (List ℕ) → Option Taps
-taps_of [] = Some Without
-taps_of (word ∷ []) = if bytes_eq word (codes "--taps") then Some With else None
-taps_of _ = None
+-- `--dogleg` asks for doglegs, where it comes first; and the words behind it
+abbrev pub wiring_of : List (List ℕ) → Wiring × List (List ℕ)
+wiring_of [] = (Straight, [])
+wiring_of (word ∷ more) = if bytes_eq word (codes "--dogleg") then (Doglegs, more) else (Straight, word ∷ more)
 
-abbrev pub styled : Wiring → Option Taps → Option Style
-styled wiring taps = option_map (λ asked. record { wiring = wiring; taps = asked }) taps
+-- `--taps` asks for taps, where it comes first; and the words behind it
+abbrev pub taps_of : List (List ℕ) → Taps × List (List ℕ)
+taps_of [] = (Without, [])
+taps_of (word ∷ more) = if bytes_eq word (codes "--taps") then (With, more) else (Without, word ∷ more)
 
--- the style of the words behind OUT: `--dogleg`, `--taps`, both in this order, or none
-abbrev pub style_of : List (List ℕ) → Option Style
-style_of [] = styled Straight (taps_of [])
-style_of (word ∷ more) =
-    if bytes_eq word (codes "--dogleg") then styled Doglegs (taps_of more) else styled Straight (taps_of (word ∷ more))
+-- the style of the words behind OUT
+abbrev pub style_of : List (List ℕ) → Style
+style_of words = record { wiring = (wiring_of words).0; taps = (taps_of (wiring_of words).1).0 }
 
+-- the words behind OUT: `--dogleg`, `--taps` and `--trails` in this order, or some of them
 abbrev pub make_of : List (List ℕ) → Option Form
 make_of (tech ∷ spice ∷ cell ∷ out ∷ more) =
-    option_and_then (λ style. making_of style tech spice cell out) (style_of more)
+    option_and_then
+    (λ evidence. making_of (style_of more) evidence tech spice cell out)
+    (evidence_of (taps_of (wiring_of more).1).1)
 make_of _ = None
 
 -- a file of evidence that is checked

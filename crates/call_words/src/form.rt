@@ -1,13 +1,14 @@
 ghost use Rattle.std.specs.Prelude.{◌≡◌, option_map};
 ghost use Rattle.call_words.specs.Asked.{texts};
-ghost use Rattle.call_words.specs.Words.{shown, plan_of, making_of, taps_of, style_of, make_of, check_of};
+ghost use Rattle.call_words.specs.Words.{shown, plan_of, making_of, make_of, check_of};
 ghost use Rattle.call_words.specs.Words.{extracting_of, extract_of, bench_of, row_of, agree_of, asked};
 
 use crate::cell::{CellAsked, cell_of, tech_of};
 use crate::count::CellCount;
 use crate::evidence::{Evidence, evidence_of};
 use crate::row::{self, RowAsked};
-use cell_inputs::{Style, Taps, Wiring};
+use crate::style::style_of;
+use cell_inputs::Style;
 use cell_num::is_cell;
 use scmos_rules::Deck;
 
@@ -19,11 +20,12 @@ pub enum Form<'a> {
         cell: CellAsked<'a>,
         evidence: Evidence,
     },
-    /// The drawing of a cell in a style, in files whose names begin so.
+    /// The drawing of a cell in a style, with its evidence, in files whose names begin so.
     Make {
         cell: CellAsked<'a>,
         out: &'a str,
         style: Style,
+        evidence: Evidence,
     },
     /// Whether a file holds evidence that certifies a row of a cell.
     Check {
@@ -68,48 +70,27 @@ fn plan_of(words: &[String]) -> Option<Form<'_>>
     Some(Form::Plan { cell, evidence })
 }
 
-// A drawing in a style, in files whose names begin so.
+// A drawing in a style, with its evidence, in files whose names begin so.
 fn making_of<'a>(
     style: Style,
+    evidence: Evidence,
     tech: &'a str,
     spice: &'a str,
     cell: &'a str,
     out: &'a str,
 ) -> Option<Form<'a>>
-    ensures { option_map shown result ≡ making_of style tech.now spice.now cell.now out.now }
+    ensures { option_map shown result ≡ making_of style evidence tech.now spice.now cell.now out.now }
 {
     if out.is_empty() {
         return None;
     }
-    match cell_of(tech, spice, cell) {
-        Some(cell) => Some(Form::Make { cell, out, style }),
-        None => None,
-    }
-}
-
-// The taps of the last words, none or `--taps`.
-fn taps_of(words: &[String]) -> Option<Taps>
-    ensures { result ≡ taps_of (texts words.now) }
-{
-    match words {
-        [] => Some(Taps::Without),
-        [word] if word.as_str() == "--taps" => Some(Taps::With),
-        _ => None,
-    }
-}
-
-// The style of the words behind OUT.
-fn style_of(words: &[String]) -> Option<Style>
-    ensures { result ≡ style_of (texts words.now) }
-{
-    let (wiring, last) = match words {
-        [word, more @ ..] if word.as_str() == "--dogleg" => (Wiring::Doglegs, more),
-        _ => (Wiring::Straight, words),
-    };
-    match taps_of(last) {
-        Some(taps) => Some(Style { wiring, taps }),
-        None => None,
-    }
+    let cell = cell_of(tech, spice, cell)?;
+    Some(Form::Make {
+        cell,
+        out,
+        style,
+        evidence,
+    })
 }
 
 // The form of the words behind `make`.
@@ -119,9 +100,11 @@ fn make_of(words: &[String]) -> Option<Form<'_>>
     let [tech, spice, cell, out, more @ ..] = words else {
         return None;
     };
-    let style = style_of(more)?;
+    let (style, more) = style_of(more);
+    let evidence = evidence_of(more)?;
     making_of(
         style,
+        evidence,
         tech.as_str(),
         spice.as_str(),
         cell.as_str(),

@@ -6,6 +6,7 @@ mod count;
 mod evidence;
 mod form;
 mod row;
+mod style;
 mod usage;
 
 pub use cell::CellAsked;

@@ -21,6 +21,7 @@ row TECH SPICE OUT TOP CELL CELL ..
 agree TECH GDS LEF CELL
 plan TECH SPICE CELL --trails
 check TECH SPICE CELL FILE --trails
+make TECH SPICE CELL OUT [--dogleg] [--taps] --trails
 ",
     )
 }

@@ -26,6 +26,7 @@ use Rattle.make_run.specs.Make.{MakesTo}
 use Rattle.make_run.specs.Plan.{PlansTo}
 use Rattle.row_make.specs.RowInputs.{RowInputs}
 use Rattle.row_run.specs.Row.{RowsTo, rowing}
+use Rattle.trail_make.specs.Make.{TrailMakesTo}
 use Rattle.trail_run.specs.Check.{TrailChecksTo}
 use Rattle.trail_run.specs.Plan.{TrailPlansTo}
 
@@ -40,12 +41,14 @@ pub data Kind : Type 0 where
   Rowing : Kind
   Agreeing : Kind
   TrailPlanning : Kind
+  TrailMaking : Kind
   TrailChecking : Kind
 
 abbrev pub kind_of : Form → Kind
 kind_of (Plan cell Log) = Planning
 kind_of (Plan cell Trails) = TrailPlanning
-kind_of (Make cell out style) = Making
+kind_of (Make cell out style Log) = Making
+kind_of (Make cell out style Trails) = TrailMaking
 kind_of (Check cell file Log) = Checking
 kind_of (Check cell file Trails) = TrailChecking
 kind_of (Extract tech gds cell rules) = Extracting
@@ -58,7 +61,8 @@ kind_of (Agree tech gds lef cell) = Agreeing
 -- what a call works on: the inputs of a plan; the inputs of a drawing, what the names of its files begin with, and its
 -- style; the inputs of a check, and the bytes of its log; a cell of a GDSII file, and the deck that it is checked by; a
 -- number of generated cells; what a row of cells is made of, and what the name of its file begins with; a cell and its
--- macro; the inputs of a plan by trails; the inputs of a check of a certificate by trails, and its bytes
+-- macro; the inputs of a plan by trails; those of a drawing with a certificate by trails, as of any drawing; the
+-- inputs of a check of a certificate by trails, and its bytes
 abbrev pub MaterialOf : Kind → Type 0
 MaterialOf Planning = Inputs
 MaterialOf Making = Inputs × List ℕ × Style
@@ -68,6 +72,7 @@ MaterialOf Benching = ℕ
 MaterialOf Rowing = RowInputs × List ℕ
 MaterialOf Agreeing = Compared
 MaterialOf TrailPlanning = Inputs
+MaterialOf TrailMaking = Inputs × List ℕ × Style
 MaterialOf TrailChecking = Inputs × List ℕ
 
 abbrev pub Material : Type 0
@@ -78,6 +83,11 @@ abbrev pub planning : Evidence → Inputs → Material
 planning Log inputs = (Planning, inputs)
 planning Trails inputs = (TrailPlanning, inputs)
 
+-- the inputs of a drawing, what the names of its files begin with, and its style, by its evidence
+abbrev pub making : Evidence → List ℕ → Style → Inputs → Material
+making Log out style inputs = (Making, (inputs, out, style))
+making Trails out style inputs = (TrailMaking, (inputs, out, style))
+
 -- the evidence is read behind the inputs
 abbrev pub checking_over : Evidence → List ℕ → Inputs → Reading Material
 checking_over Log file inputs = bytes_of (LogFile file) >>= λ bytes. Ends (Ok (Checking, (inputs, bytes)))
@@ -86,7 +96,8 @@ checking_over Trails file inputs = bytes_of (TrailFile file) >>= λ bytes. Ends 
 abbrev pub gathered : Option Form → Reading Material
 gathered None = Ends (Err Words)
 gathered (Some (Plan asked evidence)) = inputs_from asked >>= λ inputs. Ends (Ok (planning evidence inputs))
-gathered (Some (Make asked out style)) = inputs_from asked >>= λ inputs. Ends (Ok (Making, (inputs, out, style)))
+gathered (Some (Make asked out style evidence)) =
+    inputs_from asked >>= λ inputs. Ends (Ok (making evidence out style inputs))
 gathered (Some (Check asked file evidence)) = inputs_from asked >>= checking_over evidence file
 gathered (Some (Extract tech gds cell rules)) =
     extracting tech gds cell rules >>= λ drawn. Ends (Ok (Extracting, drawn))
@@ -98,7 +109,7 @@ gathered (Some (Agree tech gds lef cell)) = comparing tech gds lef cell >>= λ b
 abbrev pub read_by : Option Form → List Source
 read_by None = []
 read_by (Some (Plan asked evidence)) = input_files asked.tech asked.spice
-read_by (Some (Make asked out style)) = input_files asked.tech asked.spice
+read_by (Some (Make asked out style evidence)) = input_files asked.tech asked.spice
 read_by (Some (Check asked file Log)) = input_files asked.tech asked.spice ++ LogFile file ∷ []
 read_by (Some (Check asked file Trails)) = input_files asked.tech asked.spice ++ TrailFile file ∷ []
 read_by (Some (Extract tech gds cell rules)) = tech_files tech ++ GdsFile gds ∷ []
@@ -117,6 +128,7 @@ IsKept m (kept.Benching number) = m ≡ (Benching, number)
 IsKept m (kept.Rowing inputs stem) = m ≡ (Rowing, (inputs, stem))
 IsKept m (kept.Agreeing both) = m ≡ (Agreeing, both)
 IsKept m (kept.TrailPlanning inputs) = m ≡ (TrailPlanning, inputs)
+IsKept m (kept.TrailMaking inputs stem style) = m ≡ (TrailMaking, (inputs, stem, style))
 IsKept m (kept.TrailChecking inputs bytes) = m ≡ (TrailChecking, (inputs, bytes))
 
 -- ---- what the work comes to
@@ -130,6 +142,7 @@ WorksTo Benching number end = BenchesTo number end
 WorksTo Rowing m end = RowsTo m.0 m.1 end
 WorksTo Agreeing both end = AgreesTo both end
 WorksTo TrailPlanning inputs end = TrailPlansTo inputs end
+WorksTo TrailMaking m end = TrailMakesTo m.2 m.0 m.1 end
 WorksTo TrailChecking m end = TrailChecksTo m.0 m.1 end
 
 -- the statuses that the words or the files call for: a search alone is unfinished, a making alone, of one cell or of a
@@ -145,4 +158,5 @@ settled_by Rowing =
     status.Done ∷ status.Input ∷ status.Cycle ∷ status.Unfinished ∷ status.TooTall ∷ status.Row ∷ []
 settled_by Agreeing = status.Done ∷ status.Input ∷ status.Layout ∷ status.Disagree ∷ []
 settled_by TrailPlanning = status.Done ∷ status.Input ∷ status.Unfinished ∷ []
+settled_by TrailMaking = status.Done ∷ status.Input ∷ status.Cycle ∷ status.Unfinished ∷ status.TooTall ∷ []
 settled_by TrailChecking = status.Done ∷ status.Input ∷ status.Rejected ∷ []

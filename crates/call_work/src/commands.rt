@@ -6,7 +6,7 @@ ghost use Rattle.call_work.specs.Commands.{gathered};
 ghost use Rattle.call_work.specs.Kept.{MayKeep, WorksFor};
 
 use crate::bench::bench;
-use crate::evidence::{planning, with_evidence};
+use crate::evidence::{making, planning, with_evidence};
 use agree_run::{Compared, agree, read_compared};
 use call_end::End;
 use call_read::{FileBytes, Refusal, read_inputs};
@@ -21,6 +21,7 @@ use row_make::RowInputs;
 use row_run::{read_row, row};
 use scmos_rules::Deck;
 use std::alloc::Global;
+use trail_make::make_by_trails;
 use trail_run::{check_by_trails, plan_by_trails};
 
 /// What a command works on, as it is kept in memory.
@@ -37,6 +38,8 @@ pub enum Material {
     Rowing(RowInputs, Stem),
     Agreeing(Compared),
     TrailPlanning(Inputs),
+    /// The same as for a drawing with a log.
+    TrailMaking(Inputs, Stem, Style),
     /// The inputs, and the bytes of a certificate by trails.
     TrailChecking(Inputs, FileBytes),
 }
@@ -61,15 +64,16 @@ fn for_make<D: Desk>(
     asked: &CellAsked<'_>,
     out: &str,
     style: Style,
+    evidence: Evidence,
 ) -> Result<Material, Refusal>
     ensures comes { MayKeep (D.view desk.old) (D.view desk.new)
-        (gathered (Some (Make asked.now out.now style))) result }
+        (gathered (Some (Make asked.now out.now style evidence))) result }
     ensures quiet { KeepsReads result (D.view desk.old) (D.view desk.new) }
     ensures only { OnlyReads (D.view desk.old) (D.view desk.new) }
 {
     let stem = Stem::new(alloc, out)?;
     let inputs = read_inputs(alloc, desk, asked)?;
-    Ok(Material::Making(inputs, stem, style))
+    Ok(making(inputs, stem, style, evidence))
 }
 
 fn for_check<D: Desk>(
@@ -149,7 +153,14 @@ pub fn gather<D: Desk>(
 {
     match form {
         Some(Form::Plan { cell, evidence }) => for_plan(alloc, desk, &cell, evidence),
-        Some(Form::Make { cell, out, style }) => for_make(alloc, desk, &cell, out, style),
+        Some(
+            Form::Make {
+                cell,
+                out,
+                style,
+                evidence,
+            },
+        ) => for_make(alloc, desk, &cell, out, style, evidence),
         Some(
             Form::Check {
                 cell,
@@ -193,6 +204,7 @@ pub fn work(alloc: Global, material: &Material) -> Result<End, NoMemory>
         Material::Rowing(inputs, stem) => row(alloc, inputs, stem),
         Material::Agreeing(both) => agree(alloc, both),
         Material::TrailPlanning(inputs) => plan_by_trails(alloc, inputs),
+        Material::TrailMaking(inputs, stem, style) => make_by_trails(alloc, inputs, stem, *style),
         Material::TrailChecking(inputs, bytes) => check_by_trails(alloc, inputs, bytes.as_slice()),
     }
 }

@@ -1,15 +1,16 @@
 ghost use Rattle.cell_io.specs.Desk.{OnlyReads};
 ghost use Rattle.call_read.specs.Read.{KeepsReads};
 ghost use Rattle.call_words.specs.declared.evidence.Evidence.TheVariants.{Log, Trails};
-ghost use Rattle.call_work.specs.Commands.{IsKept, checking_over, planning};
+ghost use Rattle.call_work.specs.Commands.{IsKept, checking_over, making, planning};
 ghost use Rattle.call_work.specs.Kept.{MayKeep};
 
 use crate::commands::Material;
 use call_read::{Refusal, Source, read_file, read_to};
 use call_words::Evidence;
-use cell_inputs::Inputs;
+use cell_inputs::{Inputs, Style};
 use cell_io::Desk;
 use check_run::CheckedLog;
+use make_run::Stem;
 use std::alloc::Global;
 
 fn with_log<D: Desk>(
@@ -66,5 +67,15 @@ pub(crate) fn planning(inputs: Inputs, evidence: Evidence) -> Material
     match evidence {
         Evidence::Log => Material::Planning(inputs),
         Evidence::Trails => Material::TrailPlanning(inputs),
+    }
+}
+
+/// What a drawing of the inputs works on.
+pub(crate) fn making(inputs: Inputs, stem: Stem, style: Style, evidence: Evidence) -> Material
+    ensures { IsKept (making evidence stem style inputs) result }
+{
+    match evidence {
+        Evidence::Log => Material::Making(inputs, stem, style),
+        Evidence::Trails => Material::TrailMaking(inputs, stem, style),
     }
 }

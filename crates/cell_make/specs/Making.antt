@@ -78,16 +78,14 @@ HasAbstract style inputs row routing xs =
     IsAbstractOf (final_in style inputs row routing xs).shapes inputs.cell.name (unit_nm inputs.tech)
     (abstract_of inputs routing (drawing_in inputs row routing xs))
 
--- What is said of a drawn cell. Its row is the first least arrangement of the fingers, and the log is accepted
--- and lists it. Its channel is routed legally and tightly, its lines stand at the least places, and the height is
--- enough. The shapes obey every rule, extract net by net to the fingers, and show the row and the routing; with taps
--- each device's body is its row's rail. The bytes, which have no other structure, decode with the cell's name and the
--- technology's lambda to these shapes. Each pin has a port, and one for each trunk of its net, every cell of them is in
--- the pin's net, all other metal obstructs, and the size is that of metal1: these without the taps. The text of the
--- abstract is read as a macro that agrees with the shapes.
-pub record IsMade (style : Style) (inputs : Inputs) (row : List Column) (log : Log) (routing : Routing)
+-- What is said of a drawn row. Its channel is routed legally and tightly, its lines stand at the least places, and the
+-- height is enough. The shapes obey every rule, extract net by net to the fingers, and show the row and the routing;
+-- with taps each device's body is its row's rail. The bytes, which have no other structure, decode with the cell's name
+-- and the technology's lambda to these shapes. Each pin has a port, and one for each trunk of its net, every cell of
+-- them is in the pin's net, all other metal obstructs, and the size is that of metal1: these without the taps. The text
+-- of the abstract is read as a macro that agrees with the shapes.
+pub record IsDrawn (style : Style) (inputs : Inputs) (row : List Column) (routing : Routing)
     (xs : List ℕ) : Type 0 where
-  pub found : IsFound inputs row log
   pub routed : IsRouted style inputs row routing
   pub lines : AreLeastLines (placement_of row) inputs.cell.pins routing xs
   pub fits : IsTooTall row routing.tracks inputs.tech.height → ⊥
@@ -119,7 +117,14 @@ pub record IsMade (style : Style) (inputs : Inputs) (row : List Column) (log : L
   pub alone : HasOneStructure (library_of inputs (final_in style inputs row routing xs))
   pub agrees : HasAbstract style inputs row routing xs
 
--- ---- what it comes to
+-- ---- what making a cell comes to
+
+-- A cell that was made: its row is the first least arrangement of the fingers, the log is accepted and lists it, and
+-- the row is drawn.
+pub record IsMade (style : Style) (inputs : Inputs) (row : List Column) (log : Log) (routing : Routing)
+    (xs : List ℕ) : Type 0 where
+  pub found : IsFound inputs row log
+  pub drawn : IsDrawn style inputs row routing xs
 
 pub data MakeAnswer : Type 0 where
   Made : (row : List Column) (log : Log) (routing : Routing) (xs : List ℕ) → MakeAnswer

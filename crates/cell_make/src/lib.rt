@@ -6,8 +6,10 @@ mod channel;
 pub mod drawn;
 pub mod outcome;
 pub mod planned;
+pub mod row_outcome;
 
 pub use cell_inputs::Inputs;
 pub use drawn::Drawn;
 pub use outcome::Outcome;
 pub use planned::Planned;
+pub use row_outcome::RowOutcome;

@@ -2,12 +2,9 @@
 use Rattle.std.specs.Prelude.{ℕ, List, ◌++◌, codes}
 use Rattle.cell_num.specs.Lines.{count_line, pair_line}
 
--- the tracks of a drawn cell, its width and height, and the number of lemmas
-abbrev pub drawn_text : ℕ → ℕ → ℕ → ℕ → List ℕ
-drawn_text tracks width height lemmas =
-    count_line (codes "tracks ") tracks
-    ++ pair_line (codes "size ") width (codes " ") height
-    ++ count_line (codes "lemmas ") lemmas
+-- the tracks of a drawn cell, its width and height
+abbrev pub sizes_text : ℕ → ℕ → ℕ → List ℕ
+sizes_text tracks width height = count_line (codes "tracks ") tracks ++ pair_line (codes "size ") width (codes " ") height
 
 -- the height that the cell needs, and the given one
 abbrev pub tall_text : ℕ → ℕ → List ℕ

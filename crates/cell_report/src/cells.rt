@@ -1,21 +1,14 @@
 ghost use Rattle.std.specs.Prelude.{◌≡◌, ◌++◌, OnOk};
-ghost use Rattle.cell_report.specs.Cells.{drawn_text, tall_text};
+ghost use Rattle.cell_report.specs.Cells.{sizes_text, tall_text};
 
 use cell_num::{Bytes, NoMemory, put_count, put_pair};
 
-/// Adds the tracks of a drawn cell, its width and height in grid units, and the number of lemmas.
-pub fn put_drawn(
-    out: &mut Bytes,
-    tracks: u32,
-    width: u32,
-    height: u32,
-    lemmas: u64,
-) -> Result<(), NoMemory>
-    ensures { OnOk result (out.new ≡ out.old ++ drawn_text tracks width height lemmas) }
+/// Adds the tracks of a drawn cell, its width and height in grid units.
+pub fn put_sizes(out: &mut Bytes, tracks: u32, width: u32, height: u32) -> Result<(), NoMemory>
+    ensures { OnOk result (out.new ≡ out.old ++ sizes_text tracks width height) }
 {
     put_count(out, b"tracks ", u64::from(tracks))?;
-    put_pair(out, b"size ", width, b" ", height)?;
-    put_count(out, b"lemmas ", lemmas)
+    put_pair(out, b"size ", width, b" ", height)
 }
 
 /// Adds the height that a cell needs and the given one, in grid units.

@@ -9,7 +9,7 @@ mod ring;
 mod row;
 mod violations;
 
-pub use cells::{put_drawn, put_tall};
+pub use cells::{put_sizes, put_tall};
 pub use logs::{put_checked, put_unfinished};
 pub use netlist::put_netlist;
 pub use ring::put_ring;

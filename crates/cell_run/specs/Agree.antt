@@ -1,6 +1,5 @@
 -- What a call of `agree` tells.
 use Rattle.std.specs.Prelude.{◌⊎◌, Option, ℕ, ◌≡◌, List, Some, Ok}
-use Rattle.bound_log.specs.declared.log.Log.{Log}
 use Rattle.cell_io.specs.Desk.{Files, View, Both}
 use Rattle.channel_route.specs.declared.routing.Routing.{Routing}
 use Rattle.row_model.specs.declared.column.Column.{Column}
@@ -14,7 +13,7 @@ use Rattle.call_read.specs.Reading.{called}
 use Rattle.call_read.specs.Sources.{GdsFile, LefFile, held}
 use Rattle.cell_inputs.specs.Inputs.{Inputs}
 use Rattle.cell_inputs.specs.declared.style.Style.{Style}
-use Rattle.cell_make.specs.Making.{IsMade, abstract_of, drawing_in, final_in, library_of}
+use Rattle.cell_make.specs.Making.{IsDrawn, abstract_of, drawing_in, final_in, library_of}
 use Rattle.agree_run.specs.Agree.{HasDifference, IsAgreeAnswer, IsDisagreement, IsUnextracted, agree_end}
 use Rattle.agree_run.specs.declared.agreement.AgreeAnswer.{AgreeAnswer}
 use Rattle.agree_run.specs.declared.agreement.AgreeAnswer.TheVariants.{Agreed, Differs}
@@ -59,16 +58,15 @@ HasDisagreement files form = IsRefusedBy IsLefFault files form ⊎ OfCompared fi
 abbrev pub HasNoNets : Files → Option Form → Type 0
 HasNoNets files form = IsRefusedBy IsGdsFault files form ⊎ OfCompared files form (HasDifference IsUnextracted)
 
--- The words ask for a comparison of the files of a made cell, in any style: the technology is that of its inputs, CELL
+-- The words ask for a comparison of the files of a drawn row, in any style and with any evidence: the technology is that of its inputs, CELL
 -- is its name, the GDSII file is its library and the LEF file its abstract. Both are within the limit of such a file.
 pub record ComparesMade (files : Files) (form : Option Form) : Type 0 where
   pub style : Style
   pub inputs : Inputs
   pub row : List Column
-  pub log : Log
   pub routing : Routing
   pub lines : List ℕ
-  pub made : IsMade style inputs row log routing lines
+  pub drawn : IsDrawn style inputs row routing lines
   pub tech : Option (List ℕ)
   pub gds : List ℕ
   pub lef : List ℕ

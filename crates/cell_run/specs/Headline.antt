@@ -1,12 +1,10 @@
 -- What a call of `make` leaves behind: the drawing of a cell with its evidence, or the evidence of why there is
 -- none. Files and what was said are told where the desk tells them.
-use Rattle.std.specs.Prelude.{ℕ, ◌≡◌, ◌≢◌, ◌<◌, ◌≤◌, ◌⊎◌, IsTrue, List, [], ◌∷◌, ◌++◌, codes, length, Option, Some}
+use Rattle.std.specs.Prelude.{ℕ, ◌≡◌, ◌≢◌, ◌<◌, ◌≤◌, ◌⊎◌, IsTrue, List, [], ◌∷◌, ◌++◌, codes, Option, Some}
 use Rattle.agree_laws.specs.Abstracts.{IsAbstractOf}
 use Rattle.cell_io.specs.Desk.{Files, View, Both}
 use Rattle.cell_num.specs.Names.{lowered}
 use Rattle.row_model.specs.declared.column.Column.{Column}
-use Rattle.bound_log.specs.declared.log.Log.{Log}
-use Rattle.bound_log.specs.Text.{log_text}
 use Rattle.log_check.specs.Accepted.{ForKinds}
 use Rattle.row_search.specs.Enough.{enough}
 use Rattle.row_search.specs.First.{IsFirstLeast}
@@ -22,7 +20,8 @@ use Rattle.cell_draw.specs.Shown.{ShowsRow}
 use Rattle.gds_read.specs.Decoding.{Decodes}
 use Rattle.lef_write.specs.Drawn.{AreAllMetal, AreOfNet, HasTrunkPorts, IsSized}
 use Rattle.call_end.specs.Status.{first_line}
-use Rattle.call_work.specs.Commands.{Making}
+use Rattle.call_work.specs.Commands.{Making, TrailMaking}
+use Rattle.cell_run.specs.Evidence.{CertificateOf, Certifies, ProvesAlone, evidence_counts, evidence_name, evidence_text, lemma_count}
 use Rattle.cell_run.specs.Ended.{Gathers, IsOfKind, WhereEnds}
 use Rattle.call_end.specs.declared.status.Status.{Status}
 use Rattle.call_end.specs.declared.status.Status.TheVariants as status
@@ -32,66 +31,76 @@ use Rattle.cell_inputs.specs.declared.style.Style.{Style}
 use Rattle.cell_make.specs.Extent.{frame_in}
 use Rattle.cell_make.specs.Making.{AreLeastLines, IsRouted, abstract_of, drawing_in, library_of, ports_in}
 use Rattle.cell_report.specs.Cycles.{ring_text}
-use Rattle.cell_report.specs.Cells.{drawn_text, tall_text}
+use Rattle.cell_report.specs.Cells.{sizes_text, tall_text}
 use Rattle.cell_report.specs.Rows.{plan_text}
 use Rattle.cell_report.specs.Logs.{unfinished_text}
-use Rattle.cell_make.specs.Searched.{IsCertified, IsUnfinished}
 use Rattle.cell_make.specs.Structures.{HasOneStructure}
 use Rattle.cell_make.specs.Style.{AreBodiedBy, AreLegal, AreTight, HasNoRing, HasPinPort, IsRing, IsToldRing, ShowsWiring, deck_of, final}
 use Rattle.call_words.specs.Asked.{CellAsked}
+use Rattle.call_words.specs.declared.evidence.Evidence.{Evidence}
+use Rattle.call_words.specs.declared.evidence.Evidence.TheVariants.{Log, Trails}
 use Rattle.call_words.specs.Words.{Form, Make}
 use Rattle.call_work.specs.Ends.{is_among}
 
 abbrev pub IsMake : Option Form → Type 0
 IsMake form = IsOfKind Making form
 
+abbrev pub IsTrailMake : Option Form → Type 0
+IsTrailMake form = IsOfKind TrailMaking form
+
 -- so it is of the style and the inputs of a drawing, which are there and accepted, and of what the names of its files
 -- begin with
 abbrev pub FromInputs : Files → Option Form → (Style → Inputs → List ℕ → Type 0) → Type 0
 FromInputs files form Says = Gathers Making files form (λ m. Says m.2 m.0 m.1)
 
--- The words ask for it so: `make TECH SPICE CELL OUT`, in this style. The cell has the name CELL in lower case, and the
--- names of its files begin with OUT.
-pub record IsAskedFor (form : Option Form) (style : Style) (inputs : Inputs) (out : List ℕ) : Type 0 where
+-- The words ask for it so: `make TECH SPICE CELL OUT`, in this style, with this evidence. The cell has the name CELL in
+-- lower case, and the names of its files begin with OUT.
+pub record IsAskedFor (form : Option Form) (style : Style) (evidence : Evidence) (inputs : Inputs)
+    (out : List ℕ) : Type 0 where
   pub asked : CellAsked
-  pub words : form ≡ Some (Make asked out style)
+  pub words : form ≡ Some (Make asked out style evidence)
   pub name : inputs.cell.name ≡ lowered asked.cell
 
--- so it is where `make` ends with this status
-abbrev pub WhereMakeEnds : Files → Option Form → Status → Status → (Style → Inputs → List ℕ → Type 0) → Type 0
-WhereMakeEnds files form answer settled Says =
-    WhereEnds Making files form answer settled (λ m. IsAskedFor form m.2 m.0 m.1 × Says m.2 m.0 m.1)
+-- so it is where `make` with this evidence ends with this status
+abbrev pub WhereMakeEnds : Evidence → Files → Option Form → Status → Status
+    → (Style → Inputs → List ℕ → Type 0) → Type 0
+WhereMakeEnds Log files form answer settled Says =
+    WhereEnds Making files form answer settled (λ m. IsAskedFor form m.2 Log m.0 m.1 × Says m.2 m.0 m.1)
+WhereMakeEnds Trails files form answer settled Says =
+    WhereEnds TrailMaking files form answer settled (λ m. IsAskedFor form m.2 Trails m.0 m.1 × Says m.2 m.0 m.1)
 
 -- ---- files
 
--- the text of the log, the bytes of the drawing and the text of its abstract are there, and all other files are
--- as before
-pub record HasCell (out text bytes summary : List ℕ) (old new : Files) : Type 0 where
-  pub log : new (out ++ codes ".clog") ≡ Some text
+-- the text of the evidence in a file of this name, the bytes of the drawing and the text of its abstract are there, and
+-- all other files are as before
+pub record HasCell (file out text bytes summary : List ℕ) (old new : Files) : Type 0 where
+  pub evidence : new file ≡ Some text
   pub drawing : new (out ++ codes ".gds") ≡ Some bytes
   pub lef : new (out ++ codes ".lef") ≡ Some summary
   pub others : (name : List ℕ)
-      → name ≢ out ++ codes ".clog" → name ≢ out ++ codes ".gds" → name ≢ out ++ codes ".lef"
+      → name ≢ file → name ≢ out ++ codes ".gds" → name ≢ out ++ codes ".lef"
       → new name ≡ old name
 
--- the text of the log is there, and all other files are as before
-pub record HasLog (out text : List ℕ) (old new : Files) : Type 0 where
-  pub log : new (out ++ codes ".clog") ≡ Some text
-  pub others : (name : List ℕ) → name ≢ out ++ codes ".clog" → new name ≡ old name
+-- the text of the evidence is there, and all other files are as before
+pub record HasEvidence (file text : List ℕ) (old new : Files) : Type 0 where
+  pub evidence : new file ≡ Some text
+  pub others : (name : List ℕ) → name ≢ file → new name ≡ old name
 
 -- ---- a cell that was drawn
 
--- `row` is the row of the cell, `log` its log, `routing` its channel, and `lines` has a position for each line.
-pub record IsMadeCell (style : Style) (inputs : Inputs) (out : List ℕ) (old new : View) : Type 0 where
+-- `row` is the row of the cell, `certificate` its evidence, `routing` its channel, and `lines` has a position for each
+-- line.
+pub record IsMadeCell (evidence : Evidence) (style : Style) (inputs : Inputs) (out : List ℕ)
+    (old new : View) : Type 0 where
   pub row : List Column
-  pub log : Log
+  pub certificate : CertificateOf evidence
   pub routing : Routing
   pub lines : List ℕ
   -- Over all orders, flips and pairings with the fewest columns, no row has fewer gaps, and of those with as few
   -- this one comes first.
   pub first_least : IsFirstLeast inputs.fingers row
-  -- The checker accepts the log by the bound of its version, and the row that it lists is this one.
-  pub certified : IsCertified inputs row log
+  -- The checker accepts the evidence, a log by the bound of its version, and the row that it lists is this one.
+  pub certified : Certifies evidence inputs row certificate
   -- No nets stand above each other in a ring; with doglegs no pieces of nets do.
   pub acyclic : HasNoRing style.wiring (placement_of row) inputs.cell.pins
   -- Each net that needs a trunk has one, or with doglegs its pieces; trunks of different nets on one track are apart,
@@ -141,55 +150,66 @@ pub record IsMadeCell (style : Style) (inputs : Inputs) (out : List ℕ) (old ne
   -- deck: its pins are labels, each cell of a port is in its pin's net, and all other metal is in an obstruction.
   pub agrees :
       IsAbstractOf layout.shapes inputs.cell.name (unit_nm inputs.tech) (abstract_of inputs routing drawing)
-  -- The library stands in `OUT.gds`, the text of the log in `OUT.clog`, and in `OUT.lef` the macro of the cell with
-  -- these ports, obstructions and this size.
+  -- The library stands in `OUT.gds`, the text of a log in `OUT.clog`, or of a certificate by trails in `OUT.ctrail`, and
+  -- in `OUT.lef` the macro of the cell with these ports, obstructions and this size.
   pub files :
-      Both (HasCell out (log_text inputs.cell.name log) (library_of inputs layout)
-      (abstract_of inputs routing drawing)) old.made new.made
-  -- The report says the columns, the tracks, the width and height, and how many lemmas the log has.
+      Both (HasCell (evidence_name evidence out) out (evidence_text evidence inputs.cell.name certificate)
+      (library_of inputs layout) (abstract_of inputs routing drawing)) old.made new.made
+  -- The report says the columns, the tracks, the width and height, and how many lemmas the evidence has.
   pub says :
       Both (Says (first_line status.Done ++ plan_text inputs.cell.name inputs.cell.nets row
-      ++ drawn_text routing.tracks drawing.width drawing.height (length log.lemmas))) old.said new.said
+      ++ sizes_text routing.tracks drawing.width drawing.height ++ evidence_counts evidence certificate))
+      old.said new.said
 
 -- ---- why there is none
 
 -- In the first least row nets, or with doglegs pieces of nets, stand above each other in a ring, which the report says.
--- The log of that row is written all the same.
-pub record IsCyclicCell (style : Style) (inputs : Inputs) (out : List ℕ) (old new : View) : Type 0 where
+-- The evidence of that row is written all the same.
+pub record IsCyclicCell (evidence : Evidence) (style : Style) (inputs : Inputs) (out : List ℕ)
+    (old new : View) : Type 0 where
   pub row : List Column
-  pub log : Log
+  pub certificate : CertificateOf evidence
   pub ring : Ring
   pub first_least : IsFirstLeast inputs.fingers row
-  pub certified : IsCertified inputs row log
+  pub certified : Certifies evidence inputs row certificate
   pub is_ring : IsRing style.wiring (placement_of row) inputs.cell.pins ring
   pub is_told : IsToldRing style.wiring (placement_of row) inputs.cell.pins ring
-  pub files : Both (HasLog out (log_text inputs.cell.name log)) old.made new.made
+  pub files :
+      Both (HasEvidence (evidence_name evidence out) (evidence_text evidence inputs.cell.name certificate))
+      old.made new.made
   pub says : Both (Says (first_line status.Cycle ++ ring_text inputs.cell.nets ring)) old.said new.said
 
 -- The first least row, legally and tightly routed, needs more than the height of the technology, and the report
 -- says both heights.
-pub record IsTallCell (style : Style) (inputs : Inputs) (out : List ℕ) (old new : View) : Type 0 where
+pub record IsTallCell (evidence : Evidence) (style : Style) (inputs : Inputs) (out : List ℕ)
+    (old new : View) : Type 0 where
   pub row : List Column
-  pub log : Log
+  pub certificate : CertificateOf evidence
   pub routing : Routing
   pub first_least : IsFirstLeast inputs.fingers row
-  pub certified : IsCertified inputs row log
+  pub certified : Certifies evidence inputs row certificate
   pub acyclic : HasNoRing style.wiring (placement_of row) inputs.cell.pins
   pub legal : AreLegal style.wiring (placement_of row) inputs.cell.pins routing
   pub tight : AreTight style.wiring (placement_of row) inputs.cell.pins routing
   pub tall : IsTooTall row routing.tracks inputs.tech.height
-  pub files : Both (HasLog out (log_text inputs.cell.name log)) old.made new.made
+  pub files :
+      Both (HasEvidence (evidence_name evidence out) (evidence_text evidence inputs.cell.name certificate))
+      old.made new.made
   pub says :
       Both (Says (first_line status.TooTall ++ tall_text (needed_of row routing.tracks) inputs.tech.height))
       old.said new.said
 
--- The search spent its budget: the log proves that no row has fewer gaps than the report says.
-pub record IsSpentSearch (inputs : Inputs) (out : List ℕ) (old new : View) : Type 0 where
-  pub log : Log
+-- The search spent its budget: the evidence proves that no row has fewer gaps than the report says.
+pub record IsSpentSearch (evidence : Evidence) (inputs : Inputs) (out : List ℕ) (old new : View) : Type 0 where
+  pub certificate : CertificateOf evidence
   pub proved : ℕ
-  pub spent : IsUnfinished inputs proved log
-  pub files : Both (HasLog out (log_text inputs.cell.name log)) old.made new.made
-  pub says : Both (Says (first_line status.Unfinished ++ unfinished_text proved (length log.lemmas))) old.said new.said
+  pub spent : ProvesAlone evidence inputs proved certificate
+  pub files :
+      Both (HasEvidence (evidence_name evidence out) (evidence_text evidence inputs.cell.name certificate))
+      old.made new.made
+  pub says :
+      Both (Says (first_line status.Unfinished ++ unfinished_text proved (lemma_count evidence certificate)))
+      old.said new.said
 
 -- ---- how `make` has to end
 

@@ -4,6 +4,7 @@ pub mod Bench
 pub mod Calm
 pub mod Check
 pub mod Ended
+pub mod Evidence
 pub mod Extract
 pub mod Headline
 pub mod Plan

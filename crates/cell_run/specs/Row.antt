@@ -17,7 +17,7 @@ use Rattle.cell_inputs.specs.Style.{plain_style}
 use Rattle.cell_make.specs.Making.{MakeAnswer}
 use Rattle.cell_num.specs.Names.{lowered}
 use Rattle.cell_run.specs.Ended.{Gathers, IsOfKind, IsToldFault, WhereEnds}
-use Rattle.cell_run.specs.Headline.{CanBeDrawn, IsMake, OfFirstLeast}
+use Rattle.cell_run.specs.Headline.{CanBeDrawn, IsMake, IsTrailMake, OfFirstLeast}
 use Rattle.fault_text.specs.Faults.{fault_line}
 use Rattle.fault_text.specs.RowFaults.{row_fault}
 use Rattle.row_abut.specs.declared.cell.RowFault.{RowFault}
@@ -123,9 +123,9 @@ pub record CanBeRowed (r : RowInputs) : Type 0 where
 
 -- ---- calls that make files
 
--- a call of `make` or of `row`
+-- a call of `make`, with either evidence, or of `row`
 abbrev pub MayMakeFiles : Option Form → Type 0
-MayMakeFiles form = IsMake form ⊎ IsRow form
+MayMakeFiles form = IsMake form ⊎ IsTrailMake form ⊎ IsRow form
 
 -- the statuses of a row that may leave a file behind
 abbrev pub row_file_statuses : List Status

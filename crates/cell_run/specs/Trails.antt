@@ -1,19 +1,21 @@
--- What a call of `plan` or `check` with a certificate by trails tells.
-use Rattle.std.specs.Prelude.{ℕ, ◌⊎◌, List, ◌++◌, Option}
+-- What a call of `plan`, `make` or `check` with a certificate by trails tells.
+use Rattle.std.specs.Prelude.{ℕ, ◌≡◌, ◌⊎◌, List, ◌++◌, Option}
 use Rattle.cell_io.specs.Desk.{Files, View, Both}
 use Rattle.cell_num.specs.declared.net.NetNo.{NetNo}
 use Rattle.row_model.specs.declared.column.Column.{Column}
 use Rattle.log_check.specs.Accepted.{WithKinds}
 use Rattle.row_search.specs.First.{IsFirstLeast}
-use Rattle.trail_log.specs.declared.trails.Trails.{Trails}
+use Rattle.trail_log.specs.declared.trails.Trails.{Trails as TrailList}
 use Rattle.trail_search.specs.Ended.{IsCertified, IsCrowded}
 use Rattle.call_end.specs.Deliver.{Says}
 use Rattle.call_end.specs.Status.{first_line}
 use Rattle.call_end.specs.declared.status.Status.TheVariants as status
 use Rattle.call_words.specs.Words.{Form}
+use Rattle.call_words.specs.declared.evidence.Evidence.TheVariants.{Trails}
 use Rattle.call_work.specs.Commands.{TrailChecking}
 use Rattle.cell_inputs.specs.Inputs.{Inputs}
 use Rattle.cell_run.specs.Ended.{Gathers, IsOfKind}
+use Rattle.cell_run.specs.Headline.{IsSpentSearch}
 use Rattle.trail_run.specs.Check.{HoldsAccepted}
 use Rattle.trail_run.specs.Plan.{IsUnfinished, gate_text, open_text, planned_text}
 
@@ -31,7 +33,7 @@ HoldsAcceptedTrails files form = Gathers TrailChecking files form (λ m. HoldsAc
 -- The row was told, and how many lemmas and filled gates its certificate has.
 pub record IsTrailPlanned (inputs : Inputs) (old new : View) : Type 0 where
   pub row : List Column
-  pub trails : Trails
+  pub trails : TrailList
   -- Over all orders, flips and pairings with the fewest columns, no row has fewer gaps, and of those with as few
   -- this one comes first.
   pub first_least : IsFirstLeast inputs.fingers row
@@ -42,7 +44,7 @@ pub record IsTrailPlanned (inputs : Inputs) (old new : View) : Type 0 where
 -- The certificate was told, which lists no row: its lemmas prove that no row has fewer gaps than the report says.
 pub record IsTrailOpen (inputs : Inputs) (old new : View) : Type 0 where
   pub proved : ℕ
-  pub trails : Trails
+  pub trails : TrailList
   pub spent : IsUnfinished inputs proved trails
   pub says : Both (Says (first_line status.Unfinished ++ open_text inputs.cell proved trails)) old.said new.said
 
@@ -54,3 +56,10 @@ pub record IsTrailCrowded (inputs : Inputs) (old new : View) : Type 0 where
 
 abbrev pub IsTrailUnfinished : Inputs → View → View → Type 0
 IsTrailUnfinished inputs old new = IsTrailOpen inputs old new ⊎ IsTrailCrowded inputs old new
+
+-- ---- make
+
+-- The certificate was told and is there, or a gate was told, and the files are as before.
+abbrev pub IsTrailUnmade : Inputs → List ℕ → View → View → Type 0
+IsTrailUnmade inputs out old new =
+    IsSpentSearch Trails inputs out old new ⊎ (IsTrailCrowded inputs old new × (new.made ≡ old.made))

@@ -17,9 +17,10 @@ ghost use Rattle.cell_run.specs.Headline.{CanBeDrawn, FromInputs, HasCycle, IsCy
 ghost use Rattle.cell_run.specs.Plan.{HasEnough};
 ghost use Rattle.cell_run.specs.Row.{CanBeRowed, IsMisreadRow, IsRow, IsRowedLibrary, IsStopStatus, IsStoppedRow, IsUnabuttedRow};
 ghost use Rattle.cell_run.specs.Row.{MayLeaveFile, MayMakeFiles, OfRow, WhereRowEnds};
-ghost use Rattle.cell_run.specs.Trails.{HoldsAcceptedTrails, IsTrailCheck, IsTrailPlanned, IsTrailUnfinished};
+ghost use Rattle.cell_run.specs.Trails.{HoldsAcceptedTrails, IsTrailCheck, IsTrailPlanned, IsTrailUnfinished, IsTrailUnmade};
 ghost use Rattle.call_read.specs.Sources.{Lacks};
 ghost use Rattle.call_words.specs.Words.{asked};
+ghost use Rattle.call_words.specs.declared.evidence.Evidence.TheVariants.{Log, Trails};
 
 use call_end::{End, Status, deliver};
 use call_words::form_of;
@@ -67,8 +68,8 @@ fn prepare<D: Desk>(alloc: Global, words: &[String], desk: &mut D) -> End
 /// them and of the cell TOP, in which they stand side by side in the words' order.
 /// `agree TECH GDS LEF CELL` tells whether the macro of a cell in the LEF file LEF agrees with the cell in the GDSII
 /// file GDS, or the first difference.
-/// With `--trails` as the last word `plan` finds the row with a certificate by trails, and `check` reads its file as
-/// the text of such a certificate.
+/// With `--trails` as the last word `plan` finds the row with a certificate by trails, `make` makes that, `OUT.ctrail`,
+/// in the place of the log, and `check` reads its file as the text of such a certificate.
 ///
 /// All memory that is not the desk's own is taken before the first file is made.
 pub fn run<D: Desk>(alloc: Global, words: &[String], desk: &mut D) -> Status
@@ -127,14 +128,25 @@ pub fn run<D: Desk>(alloc: Global, words: &[String], desk: &mut D) -> Status
 
     // What `make` leaves behind: the drawing of the first least row, certified; or a cycle of that row; or the
     // height that it needs; or the log of a search that spent its budget.
-    ensures drawn { IfSome (D.view desk.old).given (λ files. WhereMakeEnds files (asked words.now) result status.Done
-        (λ style inputs out. IsMadeCell style inputs out (D.view desk.old) (D.view desk.new))) }
-    ensures cyclic { IfSome (D.view desk.old).given (λ files. WhereMakeEnds files (asked words.now) result status.Cycle
-        (λ style inputs out. IsCyclicCell style inputs out (D.view desk.old) (D.view desk.new))) }
-    ensures tall { IfSome (D.view desk.old).given (λ files. WhereMakeEnds files (asked words.now) result status.TooTall
-        (λ style inputs out. IsTallCell style inputs out (D.view desk.old) (D.view desk.new))) }
-    ensures spent { IfSome (D.view desk.old).given (λ files. WhereMakeEnds files (asked words.now) result
-        status.Unfinished (λ style inputs out. IsSpentSearch inputs out (D.view desk.old) (D.view desk.new))) }
+    ensures drawn { IfSome (D.view desk.old).given (λ files. WhereMakeEnds Log files (asked words.now) result
+        status.Done (λ style inputs out. IsMadeCell Log style inputs out (D.view desk.old) (D.view desk.new))) }
+    ensures cyclic { IfSome (D.view desk.old).given (λ files. WhereMakeEnds Log files (asked words.now) result
+        status.Cycle (λ style inputs out. IsCyclicCell Log style inputs out (D.view desk.old) (D.view desk.new))) }
+    ensures tall { IfSome (D.view desk.old).given (λ files. WhereMakeEnds Log files (asked words.now) result
+        status.TooTall (λ style inputs out. IsTallCell Log style inputs out (D.view desk.old) (D.view desk.new))) }
+    ensures spent { IfSome (D.view desk.old).given (λ files. WhereMakeEnds Log files (asked words.now) result
+        status.Unfinished (λ style inputs out. IsSpentSearch Log inputs out (D.view desk.old) (D.view desk.new))) }
+
+    // The same with `--trails`, with a certificate by trails in the place of the log; or the certificate of what an
+    // unfinished search proves, or a gate with too many ways to pair its fingers.
+    ensures trail_drawn { IfSome (D.view desk.old).given (λ files. WhereMakeEnds Trails files (asked words.now) result
+        status.Done (λ style inputs out. IsMadeCell Trails style inputs out (D.view desk.old) (D.view desk.new))) }
+    ensures trail_cyclic { IfSome (D.view desk.old).given (λ files. WhereMakeEnds Trails files (asked words.now) result
+        status.Cycle (λ style inputs out. IsCyclicCell Trails style inputs out (D.view desk.old) (D.view desk.new))) }
+    ensures trail_tall { IfSome (D.view desk.old).given (λ files. WhereMakeEnds Trails files (asked words.now) result
+        status.TooTall (λ style inputs out. IsTallCell Trails style inputs out (D.view desk.old) (D.view desk.new))) }
+    ensures trail_spent { IfSome (D.view desk.old).given (λ files. WhereMakeEnds Trails files (asked words.now) result
+        status.Unfinished (λ style inputs out. IsTrailUnmade inputs out (D.view desk.old) (D.view desk.new))) }
 
     // Where the budget is enough, it ends so exactly where the first least row calls for it, or memory ran out.
     ensures draws { IfCalm (D.view desk.old) (D.view desk.new) (λ files.

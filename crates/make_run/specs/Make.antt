@@ -1,9 +1,9 @@
 -- How `make` tells what making a cell comes to: its files, and its report.
 use Rattle.std.specs.Prelude.{ℕ, ◌≡◌, List, [], ◌∷◌, ◌++◌, codes, length, map, string_bytes}
+use Rattle.cell_num.specs.Lines.{count_line}
 use Rattle.row_model.specs.declared.column.Column.{Column}
 use Rattle.bound_log.specs.declared.log.Log.{Log}
 use Rattle.bound_log.specs.Text.{log_text}
-use Rattle.channel_route.specs.declared.ring.Ring.{Ring}
 use Rattle.channel_route.specs.declared.routing.Routing.{Routing}
 use Rattle.cell_draw.specs.declared.drawing.Drawing.{Drawing}
 use Rattle.cell_draw.specs.Frame.{needed_of}
@@ -13,12 +13,13 @@ use Rattle.spice_net.specs.declared.subckt.Subckt.{Subckt}
 use Rattle.cell_inputs.specs.declared.style.Style.{Style}
 use Rattle.cell_inputs.specs.Inputs.{Inputs, unit_nm}
 use Rattle.cell_make.specs.Making.{MakeAnswer, Made, Cyclic, Tall, Unfinished, Makes, drawing_in, final_in}
+use Rattle.cell_make.specs.Rows.{RowAnswer, RowDrawn, RowCyclic, RowTall}
 use Rattle.call_end.specs.declared.end.End.{End}
 use Rattle.call_end.specs.declared.end.Output.{Output}
 use Rattle.call_end.specs.declared.status.Status.{Status}
 use Rattle.call_end.specs.declared.status.Status.TheVariants as status
 use Rattle.cell_report.specs.Cycles.{ring_text}
-use Rattle.cell_report.specs.Cells.{drawn_text, tall_text}
+use Rattle.cell_report.specs.Cells.{sizes_text, tall_text}
 use Rattle.cell_report.specs.Rows.{plan_text}
 use Rattle.cell_report.specs.Logs.{unfinished_text}
 use Rattle.call_end.specs.Status.{first_line}
@@ -41,24 +42,40 @@ gds_file out bytes = (out ++ codes ".gds", bytes)
 abbrev pub lef_file : List ℕ → List ℕ → List ℕ × List ℕ
 lef_file out bytes = (out ++ codes ".lef", bytes)
 
+-- ---- the end of a row, whatever its evidence is
+
+-- the file of a row's evidence, and what the report of a drawn row says of it
+pub record RowEvidence : Type 0 where
+  pub file : List ℕ × List ℕ
+  pub counts : List ℕ
+
 -- the library is of the final drawing, the abstract and the report of the one without taps
-abbrev pub IsMadeEnd : Subckt → List ℕ → List Column → Log → Routing → Drawing → Drawing → ℕ → End → Type 0
-IsMadeEnd cell out row log routing drawing final unit =
+abbrev pub IsDrawnEnd : Subckt → List ℕ → List Column → RowEvidence → Routing → Drawing → Drawing → ℕ → End → Type 0
+IsDrawnEnd cell out row evidence routing drawing final unit =
     IsEnd status.Done
-    (log_file cell out log
+    (evidence.file
     ∷ gds_file out (written cell.name final.shapes unit)
     ∷ lef_file out (cell_text cell routing drawing unit)
     ∷ [])
     (first_line status.Done ++ plan_text cell.name cell.nets row
-    ++ drawn_text routing.tracks drawing.width drawing.height (length log.lemmas))
+    ++ sizes_text routing.tracks drawing.width drawing.height ++ evidence.counts)
 
-abbrev pub IsCycleEnd : Subckt → List ℕ → Log → Ring → End → Type 0
-IsCycleEnd cell out log ring =
-    IsEnd status.Cycle (log_file cell out log ∷ []) (first_line status.Cycle ++ ring_text cell.nets ring)
+-- its drawing, or the evidence alone, and why there is no drawing
+abbrev pub IsRowEnd : Style → Inputs → List ℕ → List Column → RowEvidence → RowAnswer → End → Type 0
+IsRowEnd style inputs out row evidence (RowDrawn routing xs) =
+    IsDrawnEnd inputs.cell out row evidence routing (drawing_in inputs row routing xs)
+    (final_in style inputs row routing xs) (unit_nm inputs.tech)
+IsRowEnd style inputs out row evidence (RowCyclic ring) =
+    IsEnd status.Cycle (evidence.file ∷ []) (first_line status.Cycle ++ ring_text inputs.cell.nets ring)
+IsRowEnd style inputs out row evidence (RowTall routing) =
+    IsEnd status.TooTall (evidence.file ∷ [])
+    (first_line status.TooTall ++ tall_text (needed_of row routing.tracks) inputs.tech.height)
 
-abbrev pub IsTallEnd : Subckt → List ℕ → Log → ℕ → ℕ → End → Type 0
-IsTallEnd cell out log needed given =
-    IsEnd status.TooTall (log_file cell out log ∷ []) (first_line status.TooTall ++ tall_text needed given)
+-- ---- with a log
+
+abbrev pub log_evidence : Subckt → List ℕ → Log → RowEvidence
+log_evidence cell out log =
+    record { file = log_file cell out log; counts = count_line (codes "lemmas ") (length log.lemmas) }
 
 abbrev pub IsUnfinishedEnd : Subckt → List ℕ → ℕ → Log → End → Type 0
 IsUnfinishedEnd cell out proved log =
@@ -67,11 +84,11 @@ IsUnfinishedEnd cell out proved log =
 
 abbrev pub IsMakeEnd : Style → Inputs → List ℕ → MakeAnswer → End → Type 0
 IsMakeEnd style inputs out (Made row log routing xs) =
-    IsMadeEnd inputs.cell out row log routing (drawing_in inputs row routing xs)
-    (final_in style inputs row routing xs) (unit_nm inputs.tech)
-IsMakeEnd style inputs out (Cyclic row log ring) = IsCycleEnd inputs.cell out log ring
+    IsRowEnd style inputs out row (log_evidence inputs.cell out log) (RowDrawn routing xs)
+IsMakeEnd style inputs out (Cyclic row log ring) =
+    IsRowEnd style inputs out row (log_evidence inputs.cell out log) (RowCyclic ring)
 IsMakeEnd style inputs out (Tall row log routing) =
-    IsTallEnd inputs.cell out log (needed_of row routing.tracks) inputs.tech.height
+    IsRowEnd style inputs out row (log_evidence inputs.cell out log) (RowTall routing)
 IsMakeEnd style inputs out (Unfinished proved log) = IsUnfinishedEnd inputs.cell out proved log
 
 -- in a style

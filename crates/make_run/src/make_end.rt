@@ -1,37 +1,27 @@
 ghost use Rattle.std.specs.Prelude.{◌≡◌, ◌≤◌, ◌<◌, [], ◌∷◌, ◌++◌, IfOk, codes, length, string_bytes};
-ghost use Rattle.bound_log.specs.Fits.{Fits, ForSome, IsLogName};
-ghost use Rattle.bound_log.specs.Text.{log_text};
 ghost use Rattle.gds_read.specs.RoundTrip.{IsReadable};
-ghost use Rattle.cell_make.specs.Making.{final_of};
 ghost use Rattle.gds_write.specs.Written.{written};
+ghost use Rattle.cell_make.specs.Making.{final_of};
+ghost use Rattle.cell_make.specs.Rows.{CanRowBeWritten, ComesFrom, row_answer};
 ghost use Rattle.lef_write.specs.Lef.{cell_text};
-ghost use Rattle.make_run.specs.Make.{IsEnd, IsMadeEnd, log_file};
+ghost use Rattle.make_run.specs.Make.{IsDrawnEnd, IsEnd, IsRowEnd, RowEvidence as EvidenceOf};
+ghost use Rattle.make_run.specs.Evidence.{shown};
 
-use crate::make_report::made_report;
+use crate::evidence::RowEvidence;
+use crate::make_report::{cycle_report, drawn_report, tall_report};
 use crate::stem::Stem;
 use call_end::{End, Output, Status};
 use cell_draw::{Drawing, MOST_SHAPES};
-use cell_make::Drawn;
+use cell_inputs::{Inputs, Style};
+use cell_make::{Drawn, RowOutcome};
 use cell_num::{Bytes, NoMemory};
 use channel_route::Routing;
 use gds_write::write_cell;
 use lef_write::lef_text;
-use log_output::{Content, KeptLog, LogText};
+use log_output::Content;
 use row_model::Arrangement;
 use spice_net::Subckt;
 use std::alloc::Global;
-
-fn log_file(alloc: Global, cell: &Subckt, stem: &Stem, log: KeptLog) -> Result<Output, NoMemory>
-    requires name { IsLogName cell.now.name }
-    requires fits { ForSome (λ k. Fits k log) }
-    ensures name { IfOk result (λ file. string_bytes file.name ≡ stem.now ++ codes ".clog") }
-    ensures bytes { IfOk result (λ file. file.bytes ≡ log_text cell.now.name log) }
-{
-    let name = stem.with(alloc, ".clog")?;
-    let text = LogText::new(alloc, &cell.name, log)?;
-    let bytes = Content::of_log(alloc, text);
-    Ok(Output { name, bytes })
-}
 
 fn gds_file(
     alloc: Global,
@@ -70,49 +60,67 @@ fn lef_file(
     Ok(Output { name, bytes })
 }
 
-/// The end of a drawn cell: its log, then its drawing, with taps where there are taps, then its abstract.
-pub fn with_drawing(
+// The end of a drawn row: its evidence, then its drawing, with taps where there are taps, then its abstract.
+fn with_drawing(
     alloc: Global,
     cell: &Subckt,
     stem: &Stem,
     row: &Arrangement,
-    log: KeptLog,
+    evidence: RowEvidence,
     routing: &Routing,
     drawn: &Drawn,
     unit_nm: u32,
 ) -> Result<End, NoMemory>
-    requires name { IsLogName cell.now.name }
-    requires fits { ForSome (λ k. Fits k log) }
     requires columns { length row.now ≤ 64 }
     requires pins { cell.now.pins.pins ≤ length cell.now.nets }
     requires directions { length cell.now.directions ≡ cell.now.pins.pins }
     requires shapes { length drawn.now.drawing.shapes.rects < MOST_SHAPES }
     requires readable { IsReadable cell.now.name (final_of drawn.now).shapes unit_nm }
-    ensures { IfOk result (IsMadeEnd cell.now stem.now row.now log routing.now drawn.now.drawing (final_of drawn.now)
-        unit_nm) }
+    ensures { IfOk result (IsDrawnEnd cell.now stem.now row.now (shown evidence) routing.now drawn.now.drawing
+        (final_of drawn.now) unit_nm) }
 {
     let drawing = &drawn.drawing;
-    let lemmas = log.count();
-    let report = made_report(alloc, cell, row, routing.tracks, drawing, lemmas)?;
-    let first = log_file(alloc, cell, stem, log)?;
-    let second = gds_file(alloc, cell, stem, drawn.final_drawing(), unit_nm)?;
-    let third = lef_file(alloc, cell, stem, routing, drawing, unit_nm)?;
-    End::makes_three(alloc, Status::Done, first, second, third, report)
+    let report = drawn_report(alloc, cell, row, routing.tracks, drawing, &evidence.counts)?;
+    let library = gds_file(alloc, cell, stem, drawn.final_drawing(), unit_nm)?;
+    let summary = lef_file(alloc, cell, stem, routing, drawing, unit_nm)?;
+    End::makes_three(alloc, Status::Done, evidence.file, library, summary, report)
 }
 
-/// An end that leaves the log alone.
-pub fn with_log(
+/// The end of a row: its drawing; or its evidence alone, with a ring of its nets or a height that is not enough.
+pub fn row_end(
     alloc: Global,
-    cell: &Subckt,
+    inputs: &Inputs,
     stem: &Stem,
-    log: KeptLog,
-    status: Status,
-    report: Bytes,
+    style: Style,
+    row: &Arrangement,
+    came: &RowOutcome,
+    evidence: RowEvidence,
 ) -> Result<End, NoMemory>
-    requires name { IsLogName cell.now.name }
-    requires fits { ForSome (λ k. Fits k log) }
-    ensures { IfOk result (IsEnd status (log_file cell.now stem.now log ∷ []) report) }
+    requires columns { length row.now ≤ 64 }
+    requires comes { ComesFrom style inputs.now row.now came.now }
+    requires written { CanRowBeWritten inputs.now came.now }
+    ensures { IfOk result (IsRowEnd style inputs.now stem.now row.now (shown evidence) (row_answer came.now)) }
 {
-    let file = log_file(alloc, cell, stem, log)?;
-    End::makes_one(alloc, status, file, report)
+    inputs.show_limits();
+    let cell = &inputs.cell;
+    match came {
+        RowOutcome::Drawn { routing, drawn, .. } => with_drawing(
+            alloc,
+            cell,
+            stem,
+            row,
+            evidence,
+            routing,
+            drawn,
+            inputs.unit_nm(),
+        ),
+        RowOutcome::Cyclic { ring, .. } => {
+            let report = cycle_report(alloc, &cell.nets, ring)?;
+            End::makes_one(alloc, Status::Cycle, evidence.file, report)
+        }
+        RowOutcome::Tall { needed, given, .. } => {
+            let report = tall_report(alloc, *needed, *given)?;
+            End::makes_one(alloc, Status::TooTall, evidence.file, report)
+        }
+    }
 }

@@ -1,7 +1,7 @@
 ghost use Rattle.std.specs.Prelude.{◌≡◌, ◌≤◌, ◌++◌, IfOk, length};
 ghost use Rattle.call_end.specs.declared.status.Status.TheVariants as status;
 ghost use Rattle.call_end.specs.Status.{first_line};
-ghost use Rattle.cell_report.specs.Cells.{drawn_text, tall_text};
+ghost use Rattle.cell_report.specs.Cells.{sizes_text, tall_text};
 ghost use Rattle.cell_report.specs.Cycles.{ring_text};
 ghost use Rattle.cell_report.specs.Logs.{unfinished_text};
 ghost use Rattle.cell_report.specs.Rows.{plan_text};
@@ -9,28 +9,29 @@ ghost use Rattle.cell_report.specs.Rows.{plan_text};
 use call_end::Status;
 use cell_draw::Drawing;
 use cell_num::{Bytes, Names, NoMemory};
-use cell_report::{put_drawn, put_plan, put_ring, put_tall, put_unfinished};
+use cell_report::{put_plan, put_ring, put_sizes, put_tall, put_unfinished};
 use channel_route::Ring;
 use row_model::Arrangement;
 use spice_net::Subckt;
 use std::alloc::Global;
 
-/// The report of a drawn cell.
-pub fn made_report(
+/// The report of a drawn row, with these counts of its evidence.
+pub(crate) fn drawn_report(
     alloc: Global,
     cell: &Subckt,
     row: &Arrangement,
     tracks: u32,
     drawing: &Drawing,
-    lemmas: u64,
+    counts: &Bytes,
 ) -> Result<Bytes, NoMemory>
     requires { length row.now ≤ 64 }
     ensures { IfOk result (λ report. report ≡ first_line status.Done ++ plan_text cell.now.name cell.now.nets row.now
-        ++ drawn_text tracks drawing.now.width drawing.now.height lemmas) }
+        ++ sizes_text tracks drawing.now.width drawing.now.height ++ counts.now) }
 {
     let mut report = Status::Done.report(alloc)?;
     put_plan(&mut report, &cell.name, &cell.nets, row)?;
-    put_drawn(&mut report, tracks, drawing.width, drawing.height, lemmas)?;
+    put_sizes(&mut report, tracks, drawing.width, drawing.height)?;
+    report.extend(counts.as_slice())?;
     Ok(report)
 }
 

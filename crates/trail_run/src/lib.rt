@@ -6,4 +6,5 @@ mod counts;
 mod planning;
 
 pub use checking::{TrailAnswer, check_by_trails};
-pub use planning::plan_by_trails;
+pub use counts::put_counts;
+pub use planning::{crowded, plan_by_trails};

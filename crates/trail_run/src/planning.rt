@@ -54,7 +54,8 @@ fn put_gate(out: &mut Bytes, cell: &Subckt, gate: NetNo) -> Result<(), NoMemory>
     }
 }
 
-fn crowded(alloc: Global, cell: &Subckt, gate: NetNo) -> Result<End, NoMemory>
+/// The end of a search that meets a gate whose fingers pair in too many ways.
+pub fn crowded(alloc: Global, cell: &Subckt, gate: NetNo) -> Result<End, NoMemory>
     ensures { IfOk result (λ end. end ≡ reports status.Unfinished (gate_text cell.now gate)) }
 {
     let mut report = Status::Unfinished.report(alloc)?;

@@ -1,0 +1,72 @@
+-- What drawing a row comes to: its drawing, a ring of its nets, or a height that is not enough.
+use Rattle.std.specs.Prelude.{ℕ, ◌≡◌, ◌<◌, List, length}
+use Rattle.row_model.specs.declared.column.Column.{Column}
+use Rattle.row_place.specs.declared.placement.Placement.{Placement}
+use Rattle.row_place.specs.Places.{placement_of}
+use Rattle.channel_route.specs.declared.ring.Ring.{Ring}
+use Rattle.channel_route.specs.declared.routing.Routing.{Routing}
+use Rattle.cell_draw.specs.declared.cell.TheConstants.{MOST_SHAPES}
+use Rattle.cell_draw.specs.Frame.{IsTooTall, needed_of}
+use Rattle.cell_inputs.specs.declared.style.Style.{Style}
+use Rattle.cell_inputs.specs.Inputs.{Inputs, unit_nm}
+use Rattle.gds_read.specs.RoundTrip.{IsReadable}
+use Rattle.cell_make.specs.declared.row_outcome.RowOutcome.{RowOutcome}
+use Rattle.cell_make.specs.declared.row_outcome.RowOutcome.TheVariants as came
+use Rattle.cell_make.specs.Extent.{HasExtent, frame_in}
+use Rattle.cell_make.specs.Making.{IsDrawn, IsRouted, drawing_in, final_of}
+use Rattle.cell_make.specs.Style.{IsToldRing, tapped_by}
+
+pub data RowAnswer : Type 0 where
+  RowDrawn : (routing : Routing) (xs : List ℕ) → RowAnswer
+  RowCyclic : (ring : Ring) → RowAnswer
+  RowTall : (routing : Routing) → RowAnswer
+
+-- The row is drawn on these tracks and lines; or nets of it stand above each other in this ring, as it is told; or it
+-- is routed, and needs more than the height.
+abbrev pub Draws : Style → Inputs → List Column → RowAnswer → Type 0
+Draws style inputs row (RowDrawn routing xs) = IsDrawn style inputs row routing xs
+Draws style inputs row (RowCyclic ring) = IsToldRing style.wiring (placement_of row) inputs.cell.pins ring
+Draws style inputs row (RowTall routing) =
+    IsRouted style inputs row routing × IsTooTall row routing.tracks inputs.tech.height
+
+-- ---- as the code answers it
+
+abbrev pub placement_in : RowOutcome → Placement
+placement_in (came.Drawn placement routing drawn) = placement
+placement_in (came.Cyclic placement ring) = placement
+placement_in (came.Tall placement routing needed given) = placement
+
+abbrev pub row_answer : RowOutcome → RowAnswer
+row_answer (came.Drawn placement routing drawn) = RowDrawn routing drawn.lines
+row_answer (came.Cyclic placement ring) = RowCyclic ring
+row_answer (came.Tall placement routing needed given) = RowTall routing
+
+-- The drawing is that of the row, its routing and its lines, with taps where the style asks for them, and the heights
+-- are the one that the row needs and the one of the technology.
+abbrev pub IsRowDrawnBy : Style → Inputs → List Column → RowOutcome → Type 0
+IsRowDrawnBy style inputs row (came.Drawn placement routing drawn) =
+    (drawn.drawing ≡ drawing_in inputs row routing drawn.lines)
+    × (drawn.tapped ≡ tapped_by style.taps drawn.drawing drawn.lines)
+IsRowDrawnBy style inputs row (came.Cyclic placement ring) = Unit {0}
+IsRowDrawnBy style inputs row (came.Tall placement routing needed given) =
+    (needed ≡ needed_of row routing.tracks) × (given ≡ inputs.tech.height)
+
+pub record ComesFrom (style : Style) (inputs : Inputs) (row : List Column) (of : RowOutcome) : Type 0 where
+  pub placed : placement_in of ≡ placement_of row
+  pub draws : Draws style inputs row (row_answer of)
+  pub exact : IsRowDrawnBy style inputs row of
+
+-- a drawing can be written as a library that is read back, and without taps is small enough for an abstract
+abbrev pub CanRowBeWritten : Inputs → RowOutcome → Type 0
+CanRowBeWritten inputs (came.Drawn placement routing drawn) =
+    IsReadable inputs.cell.name (final_of drawn).shapes (unit_nm inputs.tech)
+    × (length drawn.drawing.shapes.rects < MOST_SHAPES)
+CanRowBeWritten inputs (came.Cyclic placement ring) = Unit {0}
+CanRowBeWritten inputs (came.Tall placement routing needed given) = Unit {0}
+
+-- a drawing keeps to its frame
+abbrev pub LiesRowInFrame : Inputs → RowOutcome → Type 0
+LiesRowInFrame inputs (came.Drawn placement routing drawn) =
+    HasExtent (frame_in inputs placement.row routing drawn.lines) drawn.lines drawn.drawing
+LiesRowInFrame inputs (came.Cyclic placement ring) = Unit {0}
+LiesRowInFrame inputs (came.Tall placement routing needed given) = Unit {0}

@@ -1,0 +1,102 @@
+ghost use Rattle.std.specs.Prelude.{◌≡◌, IfOk};
+ghost use Rattle.row_model.specs.Arrangement.{IsArrangement};
+ghost use Rattle.row_place.specs.Places.{IsPlacement, placement_of};
+ghost use Rattle.cell_make.specs.Making.{IsRouted};
+ghost use Rattle.cell_make.specs.Rows.{CanRowBeWritten, ComesFrom, LiesRowInFrame};
+
+use crate::channel::{ChannelStop, route_by};
+use crate::drawn::{Drawn, draw_routed};
+use cell_draw::DrawFault;
+use cell_inputs::{Inputs, Style};
+use cell_num::NoMemory;
+use channel_route::{Ring, Routing};
+use row_model::Arrangement;
+use row_place::{Placement, place};
+use std::alloc::Global;
+
+/// What drawing a row comes to.
+#[derive(Drop)]
+pub enum RowOutcome {
+    /// The row on its lines, drawn.
+    Drawn {
+        placement: Placement,
+        routing: Routing,
+        drawn: Drawn,
+    },
+    /// Nets of the row, or parts of them, stand above each other in a ring.
+    Cyclic {
+        placement: Placement,
+        ring: Ring,
+    },
+    /// The given height is below the one that the routed row needs.
+    Tall {
+        placement: Placement,
+        routing: Routing,
+        needed: u32,
+        given: u32,
+    },
+}
+
+// Draws the routed row.
+fn of_routed(
+    alloc: Global,
+    inputs: &Inputs,
+    style: Style,
+    placement: Placement,
+    routing: Routing,
+) -> Result<RowOutcome, NoMemory>
+    requires arranged { IsArrangement placement.row inputs.now.fingers }
+    requires placed { placement ≡ placement_of placement.row }
+    requires places { IsPlacement placement }
+    requires routed { IsRouted style inputs.now placement.row routing }
+    ensures comes { IfOk result (ComesFrom style inputs.now placement.row) }
+    ensures written { IfOk result (CanRowBeWritten inputs.now) }
+    ensures extent { IfOk result (LiesRowInFrame inputs.now) }
+{
+    inputs.show_limits();
+    match draw_routed(
+        alloc,
+        style,
+        &inputs.cell,
+        &placement,
+        &routing,
+        inputs.height(),
+    ) {
+        Ok(drawn) => Ok(RowOutcome::Drawn {
+            placement,
+            routing,
+            drawn,
+        }),
+        Err(DrawFault::TooTall { needed, given }) => Ok(RowOutcome::Tall {
+            placement,
+            routing,
+            needed,
+            given,
+        }),
+        Err(DrawFault::NoMemory) => Err(NoMemory),
+    }
+}
+
+impl RowOutcome {
+    /// The drawing of an arrangement of the fingers in this style; or a ring of its nets, or a height that is not
+    /// enough. A drawing can be written.
+    pub fn of(
+        alloc: Global,
+        inputs: &Inputs,
+        style: Style,
+        row: &Arrangement,
+    ) -> Result<RowOutcome, NoMemory>
+        requires { IsArrangement row.now inputs.now.fingers }
+        ensures comes { IfOk result (ComesFrom style inputs.now row.now) }
+        ensures written { IfOk result (CanRowBeWritten inputs.now) }
+        ensures extent { IfOk result (LiesRowInFrame inputs.now) }
+    {
+        inputs.show_limits();
+        let placement = place(alloc, row)?;
+        match route_by(alloc, style.wiring, &placement, &inputs.cell.pins) {
+            Ok(routing) => of_routed(alloc, inputs, style, placement, routing),
+            Err(ChannelStop::Ring(ring)) => Ok(RowOutcome::Cyclic { placement, ring }),
+            Err(ChannelStop::NoMemory) => Err(NoMemory),
+        }
+    }
+}

@@ -1,0 +1,51 @@
+-- The evidence of a row, by its kind: the log of a search, or a certificate by trails.
+use Rattle.std.specs.Prelude.{ℕ, List, ◌++◌, codes, length}
+use Rattle.cell_num.specs.Lines.{count_line}
+use Rattle.row_model.specs.declared.column.Column.{Column}
+use Rattle.bound_log.specs.declared.log.Log.{Log as SearchLog}
+use Rattle.bound_log.specs.Text.{log_text}
+use Rattle.log_check.specs.Accepted.{WithKinds}
+use Rattle.trail_log.specs.declared.trails.Trails.{Trails as TrailList}
+use Rattle.trail_log.specs.Text.{trails_text}
+use Rattle.trail_search.specs.Ended.{IsCertified as IsCertifiedByTrails}
+use Rattle.call_words.specs.declared.evidence.Evidence.{Evidence}
+use Rattle.call_words.specs.declared.evidence.Evidence.TheVariants.{Log, Trails}
+use Rattle.cell_inputs.specs.Inputs.{Inputs}
+use Rattle.cell_make.specs.Searched.{IsCertified, IsUnfinished}
+use Rattle.trail_run.specs.Counts.{counts_text}
+use Rattle.trail_run.specs.Plan.{IsUnfinished as IsUnfinishedByTrails}
+
+abbrev pub CertificateOf : Evidence → Type 0
+CertificateOf Log = SearchLog
+CertificateOf Trails = TrailList
+
+-- Its checker accepts it with the gaps of the row, and the row that it lists is this one. A log was found within the
+-- budget, too.
+abbrev pub Certifies : (evidence : Evidence) → Inputs → List Column → CertificateOf evidence → Type 0
+Certifies Log inputs row log = IsCertified inputs row log
+Certifies Trails inputs row trails =
+    WithKinds inputs.fingers (λ k. IsCertifiedByTrails k inputs.fingers row trails)
+
+-- it lists no row, and proves so many gaps of every row
+abbrev pub ProvesAlone : (evidence : Evidence) → Inputs → ℕ → CertificateOf evidence → Type 0
+ProvesAlone Log inputs proved log = IsUnfinished inputs proved log
+ProvesAlone Trails inputs proved trails = IsUnfinishedByTrails inputs proved trails
+
+-- the name of its file
+abbrev pub evidence_name : Evidence → List ℕ → List ℕ
+evidence_name Log out = out ++ codes ".clog"
+evidence_name Trails out = out ++ codes ".ctrail"
+
+-- the text of its file
+abbrev pub evidence_text : (evidence : Evidence) → List ℕ → CertificateOf evidence → List ℕ
+evidence_text Log name log = log_text name log
+evidence_text Trails name trails = trails_text name trails
+
+abbrev pub lemma_count : (evidence : Evidence) → CertificateOf evidence → ℕ
+lemma_count Log log = length log.lemmas
+lemma_count Trails trails = length trails.lemmas
+
+-- what the report of a drawn cell says of it: its lemmas, and the gates whose half columns are filled
+abbrev pub evidence_counts : (evidence : Evidence) → CertificateOf evidence → List ℕ
+evidence_counts Log log = count_line (codes "lemmas ") (length log.lemmas)
+evidence_counts Trails trails = counts_text (length trails.lemmas) (length trails.fill)

@@ -1,0 +1,60 @@
+ghost use Rattle.std.specs.Prelude.{IfOk};
+ghost use Rattle.bound_log.specs.Fits.{ForSome, IsLogName};
+ghost use Rattle.trail_log.specs.Fits.{TrailsFit};
+ghost use Rattle.trail_make.specs.Make.{IsUnfinishedEnd, TrailMakesTo};
+
+use crate::evidence::{trails_evidence, trails_file};
+use call_end::{End, Status};
+use cell_inputs::{Inputs, Style};
+use cell_make::RowOutcome;
+use cell_num::NoMemory;
+use make_run::{Stem, row_end, spent_report};
+use spice_net::Subckt;
+use std::alloc::Global;
+use trail_log::Trails;
+use trail_run::crowded;
+use trail_search::{TrailStop, search_trails};
+
+fn unfinished(
+    alloc: Global,
+    cell: &Subckt,
+    stem: &Stem,
+    trails: &Trails,
+    proved: u32,
+) -> Result<End, NoMemory>
+    requires name { IsLogName cell.now.name }
+    requires fits { ForSome (λ k. TrailsFit k trails.now) }
+    ensures { IfOk result (IsUnfinishedEnd cell.now stem.now proved trails.now) }
+{
+    let report = spent_report(alloc, proved, trails.lemmas.len() as u64)?;
+    let file = trails_file(alloc, cell, stem, trails)?;
+    End::makes_one(alloc, Status::Unfinished, file, report)
+}
+
+/// The drawing of the first least row with its certificate by trails; or the certificate, with a ring of the row's
+/// nets, with a height that is not enough, or of a search that spent its budget; or a gate whose fingers pair in too
+/// many ways.
+#[tactic(auto, using(cell_inputs::proofs::Names::log_name))]
+pub fn make_by_trails(
+    alloc: Global,
+    inputs: &Inputs,
+    stem: &Stem,
+    style: Style,
+) -> Result<End, NoMemory>
+    ensures { IfOk result (TrailMakesTo style inputs.now stem.now) }
+{
+    inputs.show_limits();
+    let cell = &inputs.cell;
+    match search_trails(alloc, &inputs.fingers, inputs.budget()) {
+        Ok(found) => {
+            let came = RowOutcome::of(alloc, inputs, style, &found.row)?;
+            let evidence = trails_evidence(alloc, cell, stem, &found.trails)?;
+            row_end(alloc, inputs, stem, style, &found.row, &came, evidence)
+        }
+        Err(TrailStop::Unfinished { trails, proved, .. }) => unfinished(
+            alloc, cell, stem, &trails, proved,
+        ),
+        Err(TrailStop::Choices { gate }) => crowded(alloc, cell, gate),
+        Err(TrailStop::NoMemory) => Err(NoMemory),
+    }
+}
