@@ -8,7 +8,7 @@ all: $(addprefix .made/,$(shell seq $(COUNT)))
 # no file of a cell that is refused now is left. A cell whose trunks stand above each other in a ring is made with `--dogleg`.
 .made/%: inputs
 	@name=$$(sed -n '$*p' cells); \
-	rm -f "$$name.gds" "$$name.lef" "$$name.clog"; \
+	rm -f "$$name.gds" "$$name.lef" "$$name.clog" "$$name.ctrail"; \
 	began=$$(date +%s.%N); \
 	"$$PROGRAM" make "$$TECH" "$$SPICE" "$$name" "$$name" $$WORDS > "$$name.txt"; status=$$?; word=-; \
 	if [ $$status -eq 5 ]; then \

@@ -1,4 +1,4 @@
--- The abstract of a made cell agrees with the drawing that is written.
+-- The abstract of a drawn row agrees with the drawing that is written.
 use Rattle.std.proofs.Common.{ℕ, ◌≡◌, ◌+◌, ◌<◌, ◌≤◌, ◌/◌, List, length, sym, subst, arith}
 use Rattle.std.proofs.Math.Nat.{div-add-mod, mod-lt}
 use Rattle.agree_laws.specs.Abstracts.{HasPorts, IsAbstractOf, IsLowDrawing}
@@ -7,7 +7,7 @@ use Rattle.agree_laws.proofs.Readable.{readable_drawing}
 use Rattle.agree_laws.proofs.Whole.{plain_abstract, tapped_abstract}
 use Rattle.box_geom.specs.Layers.{AreWithinLimits}
 use Rattle.row_model.specs.declared.column.Column.{Column}
-use Rattle.bound_log.specs.declared.log.Log.{Log}
+use Rattle.row_model.specs.Arrangement.{IsArrangement}
 use Rattle.row_place.specs.declared.placement.Placement.{Placement}
 use Rattle.row_place.specs.Places.{IsPlacement, placement_of}
 use Rattle.channel_route.specs.declared.routing.Routing.{Routing}
@@ -32,7 +32,6 @@ use Rattle.cell_inputs.specs.declared.style.Taps.TheVariants.{Without, With}
 use Rattle.cell_inputs.specs.Inputs.{AreInputs, Inputs, unit_nm}
 use Rattle.cell_make.specs.declared.drawn.TheConstants.{MOST_WIDTH}
 use Rattle.cell_make.specs.Making.{AreLeastLines, HasAbstract, abstract_of, drawing_in, final_in, ports_in}
-use Rattle.cell_make.specs.Searched.{IsFound}
 use Rattle.cell_make.specs.Style.{final}
 use Rattle.cell_make.proofs.Extent.{some_column}
 use Rattle.cell_make.proofs.Finals.{wired_base}
@@ -72,16 +71,16 @@ written_abstract : (taps : Taps) (inputs : Inputs) (routing : Routing) (lines : 
 written_abstract Without inputs routing lines drawing base has readable = plain_abstract inputs.cell (ports_in inputs routing drawing) drawing (unit_nm inputs.tech) has readable
 written_abstract With inputs routing lines drawing base has readable = tapped_abstract inputs.cell (ports_in inputs routing drawing) drawing lines (unit_nm inputs.tech) has readable base
 
-pub abstract_so : (style : Style) (inputs inside : Inputs) (row : List Column) (log : Log) (placement : Placement) (routing : Routing) (lines : List ℕ) (drawing : Drawing) (height : ℕ) → inside ≡ inputs → placement ≡ placement_of row → height ≡ inputs.tech.height → AreInputs inputs → IsFound inputs row log → IsPlacement (placement_of row) → AreLeastLines (placement_of row) inputs.cell.pins routing lines → drawing ≡ drawing_in inputs row routing lines → ((n : ℕ) → n < inputs.cell.pins.pins → AreOfNet Plain inputs.cell.nets (ports_in inputs routing drawing) drawing n) → AreAllMetal (ports_in inputs routing drawing) drawing.shapes.rects → IsDrawnBare inside placement routing lines drawing height → IsAbstractOf (final style.taps drawing lines).shapes inputs.cell.name (unit_nm inputs.tech) (abstract_of inputs routing drawing)
-abstract_so style inputs inside row log placement routing lines drawing height same is high are found placed least exact nets rest h =
+pub abstract_so : (style : Style) (inputs inside : Inputs) (row : List Column) (placement : Placement) (routing : Routing) (lines : List ℕ) (drawing : Drawing) (height : ℕ) → inside ≡ inputs → placement ≡ placement_of row → height ≡ inputs.tech.height → AreInputs inputs → IsArrangement row inputs.fingers → IsPlacement (placement_of row) → AreLeastLines (placement_of row) inputs.cell.pins routing lines → drawing ≡ drawing_in inputs row routing lines → ((n : ℕ) → n < inputs.cell.pins.pins → AreOfNet Plain inputs.cell.nets (ports_in inputs routing drawing) drawing n) → AreAllMetal (ports_in inputs routing drawing) drawing.shapes.rects → IsDrawnBare inside placement routing lines drawing height → IsAbstractOf (final style.taps drawing lines).shapes inputs.cell.name (unit_nm inputs.tech) (abstract_of inputs routing drawing)
+abstract_so style inputs inside row placement routing lines drawing height same is high are arranged placed least exact nets rest h =
     let seen = seen_bare inputs inside row placement routing lines drawing height same is high h in
     written_abstract style.taps inputs routing lines drawing
-    (wired_base _ (placement_of row) inputs.cell.pins routing lines drawing placed (some_column row inputs.fingers found.first.arranges are.some) least.allowed seen.framed)
+    (wired_base _ (placement_of row) inputs.cell.pins routing lines drawing placed (some_column row inputs.fingers arranged are.some) least.allowed seen.framed)
     (record {
       rects = seen.few;
       labels = few_tags inputs row routing lines drawing are exact;
       fingers = inputs.fingers;
-      extracts = seen.extracts.to are.pins inputs.fingers (record { sound = are.sound; arranged = found.first.arranges });
+      extracts = seen.extracts.to are.pins inputs.fingers (record { sound = are.sound; arranged = arranged });
       pins = are.pins.named;
       are = ports_are inputs.cell.pins routing.trunks drawing.shapes.rects;
       own = ports_own inputs.cell routing.trunks drawing.shapes.rects;
@@ -92,7 +91,7 @@ abstract_so style inputs inside row log placement routing lines drawing height s
     (record { framed = seen.framed; width = omega (arith, seen.narrow); height = seen.low; within = seen.within; limits = seen.limits })
     (omega (arith, unit_least inputs.tech.lambda_nm are.tech.lambda_least)) (unit_most inputs.tech.lambda_nm are.tech.lambda_most))
 
--- what is said of the abstract of a made cell
+-- what is said of the abstract of a drawn row
 pub abstract_made : (style : Style) (inputs : Inputs) (row : List Column) (routing : Routing) (xs : List ℕ) → HasAbstract style inputs row routing xs → IsAbstractOf (final_in style inputs row routing xs).shapes inputs.cell.name (unit_nm inputs.tech) (abstract_of inputs routing (drawing_in inputs row routing xs))
 unfolding HasAbstract
 abstract_made style inputs row routing xs has = has

@@ -5,7 +5,6 @@ use Rattle.cell_num.specs.declared.finger.Fingers.{Fingers}
 use Rattle.cell_num.specs.declared.net.Pins.{Pins}
 use Rattle.row_model.specs.declared.column.Column.{Column}
 use Rattle.row_model.specs.Arrangement.{IsArrangement}
-use Rattle.bound_log.specs.declared.log.Log.{Log}
 use Rattle.row_place.specs.declared.placement.Placement.{Placement}
 use Rattle.row_place.specs.Places.{placement_of}
 use Rattle.row_place.specs.Units.{units_of}
@@ -19,10 +18,9 @@ use Rattle.cell_draw.specs.Layouts.{width_of}
 use Rattle.cell_inputs.specs.Inputs.{AreInputs, Inputs}
 use Rattle.cell_make.specs.declared.drawn.Drawn.{Drawn}
 use Rattle.cell_make.specs.declared.drawn.TheConstants.{MOST_WIDTH}
-use Rattle.cell_make.specs.declared.outcome.Outcome.TheVariants as outcome
-use Rattle.cell_make.specs.Extent.{LiesInFrame}
+use Rattle.cell_make.specs.declared.row_outcome.RowOutcome.TheVariants as came
 use Rattle.cell_make.specs.Making.{AreLeastLines}
-use Rattle.cell_make.specs.Searched.{IsFound}
+use Rattle.cell_make.specs.Rows.{LiesRowInFrame}
 
 -- ---- a column, and so two lines behind the first one
 
@@ -44,9 +42,9 @@ behind p pins stretches xs allowed (suc line) most =
 two_lines : (p : Placement) (pins : Pins) (stretches : List Stretch) (xs : List ℕ) → AreAllowed p pins stretches xs → 1 ≤ length p.units → 32 ≤ width_of p xs
 two_lines p pins stretches xs allowed some = omega (arith, some, behind p pins stretches xs allowed (2 * length p.units) (omega arith))
 
-wide : (inputs : Inputs) (row : List Column) (log : Log) (routing : Routing) (xs : List ℕ) → AreInputs inputs → IsFound inputs row log → AreAllowed (placement_of row) inputs.cell.pins (stretches_of routing.trunks) xs → 32 ≤ width_of (placement_of row) xs
-wide inputs row log routing xs are found allowed =
-    two_lines (placement_of row) inputs.cell.pins (stretches_of routing.trunks) xs allowed (some_unit row (some_column row inputs.fingers found.first.arranges are.some))
+wide : (inputs : Inputs) (row : List Column) (routing : Routing) (xs : List ℕ) → AreInputs inputs → IsArrangement row inputs.fingers → AreAllowed (placement_of row) inputs.cell.pins (stretches_of routing.trunks) xs → 32 ≤ width_of (placement_of row) xs
+wide inputs row routing xs are arranged allowed =
+    two_lines (placement_of row) inputs.cell.pins (stretches_of routing.trunks) xs allowed (some_unit row (some_column row inputs.fingers arranged are.some))
 
 -- ---- the same, from what the steps see
 
@@ -64,12 +62,12 @@ of_inputs inputs inside placement routing drawn height same is high h =
     (subst (λ (p : Placement). LiesSo inside p routing drawn inputs.tech.height) is
     (subst (λ n. LiesSo inside placement routing drawn n) high h))
 
-pub lies_so : (inputs inside : Inputs) (log : Log) (placement : Placement) (routing : Routing) (drawn : Drawn) (height : ℕ) → inside ≡ inputs → placement ≡ placement_of placement.row → height ≡ inputs.tech.height → AreInputs inputs → IsFound inputs placement.row log → LiesSo inside placement routing drawn height → LiesInFrame inputs (outcome.Made placement log routing drawn)
-lies_so inputs inside log placement routing drawn height same is high are found h =
+pub lies_so : (inputs inside : Inputs) (placement : Placement) (routing : Routing) (drawn : Drawn) (height : ℕ) → inside ≡ inputs → placement ≡ placement_of placement.row → height ≡ inputs.tech.height → AreInputs inputs → IsArrangement placement.row inputs.fingers → LiesSo inside placement routing drawn height → LiesRowInFrame inputs (came.Drawn placement routing drawn)
+lies_so inputs inside placement routing drawn height same is high are arranged h =
     let seen = of_inputs inputs inside placement routing drawn height same is high h in
     record {
       framed = seen.framed;
-      least = omega (arith, seen.width, wide inputs placement.row log routing drawn.lines are found seen.lines.allowed);
+      least = omega (arith, seen.width, wide inputs placement.row routing drawn.lines are arranged seen.lines.allowed);
       most = seen.narrow;
       within = seen.within;
     }

@@ -6,4 +6,5 @@ pub mod LeastLines
 pub mod Makes
 pub mod ReadBack
 pub mod Rings
+mod WithLog
 mod Wirings

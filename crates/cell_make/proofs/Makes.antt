@@ -1,4 +1,4 @@
--- What making a cell comes to, from what its steps answered.
+-- What drawing a row comes to, from what its steps answered.
 use Rattle.std.proofs.Common.{ℕ, ◌≡◌, ◌<◌, ◌≤◌, ◌/◌, ◌*◌, ◌%◌, List, length, sym, subst, arith}
 use Rattle.std.proofs.Math.Nat.{div-add-mod}
 use Rattle.agree_laws.specs.Abstracts.{IsAbstractOf}
@@ -9,7 +9,6 @@ use Rattle.cell_num.specs.Pins.{ArePins}
 use Rattle.box_geom.specs.declared.shape.Shapes.{Shapes}
 use Rattle.row_model.specs.declared.column.Column.{Column}
 use Rattle.row_model.specs.Arrangement.{IsArrangement}
-use Rattle.bound_log.specs.declared.log.Log.{Log}
 use Rattle.row_place.specs.declared.placement.Placement.{Placement}
 use Rattle.row_place.specs.Places.{IsPlacement, placement_of}
 use Rattle.row_place.specs.Trunks.{HasPins}
@@ -35,14 +34,14 @@ use Rattle.gds_read.specs.RoundTrip.{IsReadable}
 use Rattle.gds_read.specs.Decoding.{Decodes}
 use Rattle.gds_read.proofs.RoundTrip.{round_trip}
 use Rattle.cell_make.specs.declared.drawn.Drawn.{Drawn}
-use Rattle.cell_make.specs.declared.outcome.Outcome.TheVariants as outcome
+use Rattle.cell_make.specs.declared.row_outcome.RowOutcome.TheVariants as came
 use Rattle.cell_inputs.specs.declared.style.Style.{Style}
 use Rattle.cell_inputs.specs.declared.style.Wiring.{Wiring}
 use Rattle.cell_inputs.specs.declared.style.Wiring.TheVariants.{Straight, Doglegs}
 use Rattle.cell_inputs.specs.Inputs.{Inputs, AreInputs, unit_nm}
 use Rattle.cell_make.specs.Extent.{frame_in}
-use Rattle.cell_make.specs.Making.{AreLeastLines, ComesTo, HasAbstract, IsMade, IsRouted, abstract_of, drawing_in, final_in, library_of, ports_in}
-use Rattle.cell_make.specs.Searched.{IsFound}
+use Rattle.cell_make.specs.Making.{AreLeastLines, HasAbstract, IsDrawn, IsRouted, abstract_of, drawing_in, final_in, library_of, ports_in}
+use Rattle.cell_make.specs.Rows.{ComesFrom}
 use Rattle.cell_make.specs.Style.{AreBodiedBy, AreLegal, AreTight, HasNoRing, HasPinPort, IsToldRing, ShowsWiring, deck_of, final, tapped_by}
 use Rattle.cell_make.specs.Writable.{AreWritable}
 use Rattle.cell_make.proofs.Abstracts.{IsDrawnBare, abstract_so, unit_least, unit_most}
@@ -55,20 +54,20 @@ use Rattle.cell_make.proofs.Wirings.{wired_by}
 sound_row : (inputs : Inputs) (row : List Column) → AreInputs inputs → IsArrangement row inputs.fingers → IsSoundRow inputs.cell.nets inputs.cell.pins row
 sound_row inputs row are arranged = record { fingers = inputs.fingers; sound = are.sound; few_nets = are.fingers.few_nets; arranged = arranged }
 
-pub few_columns : (inputs : Inputs) (row : List Column) (log : Log) → AreInputs inputs → IsFound inputs row log → length row ≤ 32
-few_columns inputs row log are found = omega (arith, found.first.arranges.fewest, are.fingers.few_columns)
+pub few_columns : (inputs : Inputs) (row : List Column) → AreInputs inputs → IsArrangement row inputs.fingers → length row ≤ 32
+few_columns inputs row are arranged = omega (arith, arranged.fewest, are.fingers.few_columns)
 
-pub placed_row : (inputs inside : Inputs) (row : List Column) (log : Log) (placement : Placement) → inside ≡ inputs → AreInputs inputs → IsFound inputs row log → placement ≡ placement_of row → IsSoundRow inside.cell.nets inside.cell.pins placement.row
-placed_row inputs inside row log placement same are found is =
-    subst (λ (p : Placement). IsSoundRow inside.cell.nets inside.cell.pins p.row) (sym is) (subst (λ (i : Inputs). IsSoundRow i.cell.nets i.cell.pins row) (sym same) (sound_row inputs row are found.first.arranges))
+pub placed_row : (inputs inside : Inputs) (row : List Column) (placement : Placement) → inside ≡ inputs → AreInputs inputs → IsArrangement row inputs.fingers → placement ≡ placement_of row → IsSoundRow inside.cell.nets inside.cell.pins placement.row
+placed_row inputs inside row placement same are arranged is =
+    subst (λ (p : Placement). IsSoundRow inside.cell.nets inside.cell.pins p.row) (sym is) (subst (λ (i : Inputs). IsSoundRow i.cell.nets i.cell.pins row) (sym same) (sound_row inputs row are arranged))
 
 pub placed_legal : (style : Style) (inputs inside : Inputs) (row : List Column) (placement : Placement) (routing : Routing) → inside ≡ inputs → placement ≡ placement_of row → IsRouted style inputs row routing → AreLegal style.wiring placement inside.cell.pins routing
 placed_legal style inputs inside row placement routing same is routed =
     subst (λ (p : Placement). AreLegal style.wiring p inside.cell.pins routing) (sym is) (subst (λ (i : Inputs). AreLegal style.wiring (placement_of row) i.cell.pins routing) (sym same) routed.legal)
 
-pub all_pins : (inputs inside : Inputs) (row : List Column) (log : Log) (placement : Placement) → inside ≡ inputs → AreInputs inputs → IsFound inputs row log → ((names : List (List ℕ)) (pins : Pins) (f : Fingers) → AreSound names pins f → ArePins f.nets pins → IsArrangement row f → HasPins placement pins) → HasPins placement inside.cell.pins
-all_pins inputs inside row log placement same are found has =
-    subst (λ (i : Inputs). HasPins placement i.cell.pins) (sym same) (has inputs.cell.nets inputs.cell.pins inputs.fingers are.sound (subst (λ n. ArePins n inputs.cell.pins) (sym are.sound.named) are.pins) found.first.arranges)
+pub all_pins : (inputs inside : Inputs) (row : List Column) (placement : Placement) → inside ≡ inputs → AreInputs inputs → IsArrangement row inputs.fingers → ((names : List (List ℕ)) (pins : Pins) (f : Fingers) → AreSound names pins f → ArePins f.nets pins → IsArrangement row f → HasPins placement pins) → HasPins placement inside.cell.pins
+all_pins inputs inside row placement same are arranged has =
+    subst (λ (i : Inputs). HasPins placement i.cell.pins) (sym same) (has inputs.cell.nets inputs.cell.pins inputs.fingers are.sound (subst (λ n. ArePins n inputs.cell.pins) (sym are.sound.named) are.pins) arranged)
 
 pub routed_so : (style : Style) (inputs inside : Inputs) (row : List Column) (placement : Placement) (routing : Routing) → inside ≡ inputs → placement ≡ placement_of row → HasNoRing style.wiring placement inside.cell.pins → AreLegal style.wiring placement inside.cell.pins routing → AreTight style.wiring placement inside.cell.pins routing → IsRouted style inputs row routing
 routed_so style inputs inside row placement routing same is acyclic legal tight =
@@ -106,12 +105,11 @@ pub record IsSoundDrawing (style : Style) (inputs : Inputs) (row : List Column) 
   pub sized : IsSized drawing
   pub readable : IsReadable inputs.cell.name (final style.taps drawing xs).shapes (unit_nm inputs.tech)
 
-is_made : (style : Style) (inputs : Inputs) (row : List Column) (log : Log) (routing : Routing) (xs : List ℕ) (drawing : Drawing) → AreInputs inputs → IsFound inputs row log → IsRouted style inputs row routing → AreLeastLines (placement_of row) inputs.cell.pins routing xs → (IsTooTall row routing.tracks inputs.tech.height → ⊥) → drawing ≡ drawing_in inputs row routing xs → IsSoundDrawing style inputs row routing xs drawing → IsAbstractOf (final style.taps drawing xs).shapes inputs.cell.name (unit_nm inputs.tech) (abstract_of inputs routing drawing) → IsMade style inputs row log routing xs
+is_drawn : (style : Style) (inputs : Inputs) (row : List Column) (routing : Routing) (xs : List ℕ) (drawing : Drawing) → AreInputs inputs → IsRouted style inputs row routing → AreLeastLines (placement_of row) inputs.cell.pins routing xs → (IsTooTall row routing.tracks inputs.tech.height → ⊥) → drawing ≡ drawing_in inputs row routing xs → IsSoundDrawing style inputs row routing xs drawing → IsAbstractOf (final style.taps drawing xs).shapes inputs.cell.name (unit_nm inputs.tech) (abstract_of inputs routing drawing) → IsDrawn style inputs row routing xs
 unfolding HasAbstract
-is_made style inputs row log routing xs drawing are found routed lines fits is sound agrees =
+is_drawn style inputs row routing xs drawing are routed lines fits is sound agrees =
     let drawn : IsSoundDrawing style inputs row routing xs (drawing_in inputs row routing xs) = subst (λ (d : Drawing). IsSoundDrawing style inputs row routing xs d) is sound in
     record {
-      found = found;
       routed = routed;
       lines = lines;
       fits = fits;
@@ -165,10 +163,10 @@ has_trunk_ports inputs row routing lines drawing is n lt =
     subst (λ (d : Drawing). HasTrunkPorts inputs.cell.pins (frame_in inputs row routing lines) lines routing.trunks (ports_in inputs routing d) d n) (sym is)
     (trunk_ports inputs.cell.nets inputs.cell.pins (placement_of row) routing lines inputs.tech.height n lt)
 
-of_nets : (style : Style) (inputs : Inputs) (row : List Column) (log : Log) (routing : Routing) (lines : List ℕ) (drawing : Drawing) → AreInputs inputs → IsFound inputs row log → IsPlacement (placement_of row) → IsRouted style inputs row routing → AreLeastLines (placement_of row) inputs.cell.pins routing lines → drawing ≡ drawing_in inputs row routing lines → (n : ℕ) → n < inputs.cell.pins.pins → AreOfNet Plain inputs.cell.nets (ports_in inputs routing drawing) drawing n
-of_nets style inputs row log routing lines drawing are found placed routed least is n lt =
+of_nets : (style : Style) (inputs : Inputs) (row : List Column) (routing : Routing) (lines : List ℕ) (drawing : Drawing) → AreInputs inputs → IsArrangement row inputs.fingers → IsPlacement (placement_of row) → IsRouted style inputs row routing → AreLeastLines (placement_of row) inputs.cell.pins routing lines → drawing ≡ drawing_in inputs row routing lines → (n : ℕ) → n < inputs.cell.pins.pins → AreOfNet Plain inputs.cell.nets (ports_in inputs routing drawing) drawing n
+of_nets style inputs row routing lines drawing are arranged placed routed least is n lt =
     subst (λ (d : Drawing). AreOfNet Plain inputs.cell.nets (ports_in inputs routing d) d n) (sym is)
-    (of_net inputs.cell.nets inputs.cell.pins (placement_of row) routing lines inputs.tech.height n placed (sound_row inputs row are found.first.arranges) (wired_by style.wiring (placement_of row) inputs.cell.pins routing routed.legal) least.allowed are.pins lt)
+    (of_net inputs.cell.nets inputs.cell.pins (placement_of row) routing lines inputs.tech.height n placed (sound_row inputs row are arranged) (wired_by style.wiring (placement_of row) inputs.cell.pins routing routed.legal) least.allowed are.pins lt)
 
 has_metal : (inputs : Inputs) (row : List Column) (routing : Routing) (lines : List ℕ) (drawing : Drawing) → drawing ≡ drawing_in inputs row routing lines → AreAllMetal (ports_in inputs routing drawing) drawing.shapes.rects
 has_metal inputs row routing lines drawing is =
@@ -179,37 +177,35 @@ has_size : (style : Style) (inputs : Inputs) (row : List Column) (routing : Rout
 has_size style inputs row routing lines drawing placed routed least is =
     subst IsSized (sym is) (wired_sized inputs.cell.nets inputs.cell.pins (placement_of row) routing lines inputs.tech.height placed (wired_by style.wiring (placement_of row) inputs.cell.pins routing routed.legal) least.allowed)
 
-sound_drawing : (style : Style) (inputs : Inputs) (row : List Column) (log : Log) (routing : Routing) (lines : List ℕ) (drawing : Drawing) → AreInputs inputs → IsFound inputs row log → IsPlacement (placement_of row) → IsRouted style inputs row routing → IsDrawnSo style inputs row (placement_of row) routing lines drawing inputs.tech.height → IsReadable inputs.cell.name (final style.taps drawing lines).shapes (unit_nm inputs.tech) → IsSoundDrawing style inputs row routing lines drawing
-sound_drawing style inputs row log routing lines drawing are found placed routed h readable = record {
+sound_drawing : (style : Style) (inputs : Inputs) (row : List Column) (routing : Routing) (lines : List ℕ) (drawing : Drawing) → AreInputs inputs → IsArrangement row inputs.fingers → IsPlacement (placement_of row) → IsRouted style inputs row routing → IsDrawnSo style inputs row (placement_of row) routing lines drawing inputs.tech.height → IsReadable inputs.cell.name (final style.taps drawing lines).shapes (unit_nm inputs.tech) → IsSoundDrawing style inputs row routing lines drawing
+sound_drawing style inputs row routing lines drawing are arranged placed routed h readable = record {
   obeys = h.obeys;
-  extracts = h.extracts.to are.pins inputs.fingers (record { sound = are.sound; arranged = found.first.arranges });
+  extracts = h.extracts.to are.pins inputs.fingers (record { sound = are.sound; arranged = arranged });
   bodied = h.bodied are.pins;
   shows_row = h.shows.shown are.pins;
   shows_routing = h.routed;
   ports = has_ports style inputs row routing lines drawing are placed routed h.least h.exact;
   port_trunks = has_trunk_ports inputs row routing lines drawing h.exact;
-  port_nets = of_nets style inputs row log routing lines drawing are found placed routed h.least h.exact;
+  port_nets = of_nets style inputs row routing lines drawing are arranged placed routed h.least h.exact;
   obstructs = has_metal inputs row routing lines drawing h.exact;
   sized = has_size style inputs row routing lines drawing placed routed h.least h.exact;
   readable = readable;
 }
 
--- ---- what making comes to
+-- ---- what drawing comes to
 
 pub readable_so : (inputs inside : Inputs) (shapes : Shapes) → inside ≡ inputs → AreInputs inputs → AreWritable inside.cell.nets shapes → IsReadable inputs.cell.name shapes (unit_nm inputs.tech)
 readable_so inputs inside shapes same are writable =
     readable inputs.cell.nets inputs.cell.name shapes (unit_nm inputs.tech) are.nets are.cell (unit_least inputs.tech.lambda_nm are.tech.lambda_least) (unit_most inputs.tech.lambda_nm are.tech.lambda_most)
     (subst (λ (i : Inputs). AreWritable i.cell.nets shapes) same writable)
 
-pub made_so : (style : Style) (inputs inside : Inputs) (log : Log) (placement : Placement) (routing : Routing) (drawn : Drawn) (height : ℕ) → inside ≡ inputs → placement ≡ placement_of placement.row → height ≡ inputs.tech.height → AreInputs inputs → IsFound inputs placement.row log → IsPlacement placement → IsRouted style inputs placement.row routing → IsDrawnSo style inside placement.row placement routing drawn.lines drawn.drawing height → IsDrawnBare inside placement routing drawn.lines drawn.drawing height → drawn.tapped ≡ tapped_by style.taps drawn.drawing drawn.lines → IsReadable inputs.cell.name (final style.taps drawn.drawing drawn.lines).shapes (unit_nm inputs.tech) → ComesTo style inputs (outcome.Made placement log routing drawn)
-made_so style inputs inside log placement routing drawn height same is high are found placed routed h bare tapped readable =
+pub drawn_so : (style : Style) (inputs inside : Inputs) (placement : Placement) (routing : Routing) (drawn : Drawn) (height : ℕ) → inside ≡ inputs → placement ≡ placement_of placement.row → height ≡ inputs.tech.height → AreInputs inputs → IsArrangement placement.row inputs.fingers → IsPlacement placement → IsRouted style inputs placement.row routing → IsDrawnSo style inside placement.row placement routing drawn.lines drawn.drawing height → IsDrawnBare inside placement routing drawn.lines drawn.drawing height → drawn.tapped ≡ tapped_by style.taps drawn.drawing drawn.lines → IsReadable inputs.cell.name (final style.taps drawn.drawing drawn.lines).shapes (unit_nm inputs.tech) → ComesFrom style inputs placement.row (came.Drawn placement routing drawn)
+drawn_so style inputs inside placement routing drawn height same is high are arranged placed routed h bare tapped readable =
     let seen = seen_so style inputs inside placement.row placement routing drawn.lines drawn.drawing height same is high h in
-    let sound = sound_drawing style inputs placement.row log routing drawn.lines drawn.drawing are found (subst IsPlacement is placed) routed seen readable in (
-      is_made style inputs placement.row log routing drawn.lines drawn.drawing are found routed seen.least seen.fits seen.exact sound
-          (abstract_so style inputs inside placement.row log placement routing drawn.lines drawn.drawing height same is high are found (subst IsPlacement is placed) seen.least seen.exact sound.port_nets sound.obstructs bare),
-      (seen.exact, tapped),
-    )
-
-pub cyclic_so : (style : Style) (inputs inside : Inputs) (row : List Column) (log : Log) (placement : Placement) (ring : Ring) → inside ≡ inputs → placement ≡ placement_of row → IsFound inputs row log → IsToldRing style.wiring placement inside.cell.pins ring → ComesTo style inputs (outcome.Cyclic placement log ring)
-cyclic_so style inputs inside row log placement ring same is found told =
-    subst (λ (p : Placement). ComesTo style inputs (outcome.Cyclic p log ring)) (sym is) ((found, told_so style inputs inside row placement ring same is told), tt)
+    let sound = sound_drawing style inputs placement.row routing drawn.lines drawn.drawing are arranged (subst IsPlacement is placed) routed seen readable in
+    let agrees = abstract_so style inputs inside placement.row placement routing drawn.lines drawn.drawing height same is high are arranged (subst IsPlacement is placed) seen.least seen.exact sound.port_nets sound.obstructs bare in
+    record {
+      placed = is;
+      draws = is_drawn style inputs placement.row routing drawn.lines drawn.drawing are routed seen.least seen.fits seen.exact sound agrees;
+      exact = (seen.exact, tapped);
+    }

@@ -89,7 +89,8 @@ impl Outcome {
         ensures placed { IfOk result IsOnItsLines }
         ensures extent { IfOk result (LiesInFrame inputs.now) }
     {
-        match Planned::of(alloc, inputs)? {
+        let planned = Planned::of(alloc, inputs)?;
+        match planned {
             Planned::Found { row, log } => {
                 let came = RowOutcome::of(alloc, inputs, style, &row)?;
                 Ok(Outcome::with_log(came, log))

@@ -1,3 +1,4 @@
-pub mod MakeEnds
-pub mod Outcomes
+mod MakeEnds
+mod Makes
 pub mod Planned
+mod RowEnds

@@ -1,5 +1,5 @@
 -- An end of `make`, from its parts.
-use Rattle.std.proofs.Common.{ℕ, ◌≡◌, List, [], ◌∷◌, Result, Ok, Err, IfOk, ap, ◌∙◌, subst, map, string_bytes}
+use Rattle.std.proofs.Common.{ℕ, ◌≡◌, List, [], ◌∷◌, Result, Ok, Err, IfOk, ap, ◌∙◌, map, string_bytes}
 use Rattle.cell_num.specs.declared.list.NoMemory.{NoMemory}
 use Rattle.call_end.specs.declared.end.End.{End}
 use Rattle.call_end.specs.declared.end.Output.{Output}
@@ -22,11 +22,11 @@ three_are first second third a b c p q s =
     ∙ (ap (λ (x : List ℕ × List ℕ). a ∷ x ∷ named third ∷ []) q
     ∙ ap (λ (x : List ℕ × List ℕ). a ∷ b ∷ x ∷ []) s)
 
-pub end_one : (status : Status) (file : Output) (name bytes text report : List ℕ) (r : Result End NoMemory) → string_bytes file.name ≡ name → file.bytes ≡ bytes → report ≡ text → IfOk r (λ end. end ≡ leaves status (file ∷ []) report) → IfOk r (IsEnd status ((name, bytes) ∷ []) text)
-end_one status file name bytes text report (Err e) p q t is = tt
-end_one status file name bytes text report (Ok end) p q t is = record {
+pub end_one : (status : Status) (file : Output) (a : List ℕ × List ℕ) (report text : List ℕ) (r : Result End NoMemory) → named file ≡ a → report ≡ text → IfOk r (λ end. end ≡ leaves status (file ∷ []) report) → IfOk r (IsEnd status (a ∷ []) text)
+end_one status file a report text (Err e) p t is = tt
+end_one status file a report text (Ok end) p t is = record {
   status = ap (λ (x : End). x.status) is;
-  files = ap (λ (x : End). map named x.files) is ∙ one_is file (name, bytes) (file_is file name bytes p q);
+  files = ap (λ (x : End). map named x.files) is ∙ one_is file a p;
   report = ap (λ (x : End). x.report) is ∙ t;
 }
 
@@ -37,7 +37,3 @@ end_three status first second third a b c text report (Ok end) p q s t is = reco
   files = ap (λ (x : End). map named x.files) is ∙ three_are first second third a b c p q s;
   report = ap (λ (x : End). x.report) is ∙ t;
 }
-
--- with the text that the report is
-pub end_said : (status : Status) (told : List (List ℕ × List ℕ)) (report text : List ℕ) (r : Result End NoMemory) → report ≡ text → IfOk r (IsEnd status told report) → IfOk r (IsEnd status told text)
-end_said status told report text r is ends = subst (λ (t : List ℕ). IfOk r (IsEnd status told t)) is ends

@@ -37,7 +37,8 @@ pub fn make(alloc: Global, inputs: &Inputs, stem: &Stem, style: Style) -> Result
     ensures { IfOk result (MakesTo style inputs.now stem.now) }
 {
     inputs.show_limits();
-    match Planned::of(alloc, inputs)? {
+    let planned = Planned::of(alloc, inputs)?;
+    match planned {
         Planned::Found { row, log } => {
             let came = RowOutcome::of(alloc, inputs, style, &row)?;
             let evidence = RowEvidence::of_log(alloc, &inputs.cell, stem, log)?;

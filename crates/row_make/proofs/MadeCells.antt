@@ -53,13 +53,13 @@ pub record IsReady (r : RowInputs) (m : MadeCell) : Type 0 where
 -- ---- its row and its channel
 
 placed : (r : RowInputs) (m : MadeCell) → IsReady r m → IsPlacement (placement_of m.row)
-placed r m h = placement_is m.row h.is.made.found.first.arranges.columns (few_columns m.inputs m.row m.log h.sound.inputs h.is.made.found)
+placed r m h = placement_is m.row h.is.made.found.first.arranges.columns (few_columns m.inputs m.row h.sound.inputs h.is.made.found.first.arranges)
 
 sound_row : (r : RowInputs) (m : MadeCell) → IsReady r m → IsSoundRow m.inputs.cell.nets m.inputs.cell.pins m.row
-sound_row r m h = placed_row m.inputs m.inputs m.row m.log (placement_of m.row) refl h.sound.inputs h.is.made.found refl
+sound_row r m h = placed_row m.inputs m.inputs m.row (placement_of m.row) refl h.sound.inputs h.is.made.found.first.arranges refl
 
 wired : (r : RowInputs) (m : MadeCell) → IsReady r m → IsWiring (placement_of m.row) m.inputs.cell.pins m.routing
-wired r m h = legal_wiring (placement_of m.row) m.inputs.cell.pins m.routing h.is.made.routed.legal
+wired r m h = legal_wiring (placement_of m.row) m.inputs.cell.pins m.routing h.is.made.drawn.routed.legal
 
 -- ---- where it lies
 
@@ -96,11 +96,11 @@ in_row r m h =
 -- ---- what it is
 
 pub is_drawn : (r : RowInputs) (m : MadeCell) → IsReady r m → IsDrawn (row_cell m)
-is_drawn r m h = record { frame = cell_frame m; xs = m.lines; framed = h.sound.extent.framed; n = refl; p = refl; obeys = h.is.made.obeys }
+is_drawn r m h = record { frame = cell_frame m; xs = m.lines; framed = h.sound.extent.framed; n = refl; p = refl; obeys = h.is.made.drawn.obeys }
 
 rails : (r : RowInputs) (m : MadeCell) → IsReady r m → AreRails m.inputs.cell.nets m.inputs.cell.pins (cell_drawing m)
 rails r m h =
-    rails_drawn m.inputs.cell.nets m.inputs.cell.pins (placement_of m.row) m.routing m.lines m.inputs.tech.height (placed r m h) (sound_row r m h) (wired r m h) h.is.made.lines.allowed h.sound.inputs.pins
+    rails_drawn m.inputs.cell.nets m.inputs.cell.pins (placement_of m.row) m.routing m.lines m.inputs.tech.height (placed r m h) (sound_row r m h) (wired r m h) h.is.made.drawn.lines.allowed h.sound.inputs.pins
 
 differ : (r : RowInputs) (m : MadeCell) → IsTechnology r.tech → IsReady r m → vdd_name (row_cell m) ≢ gnd_name (row_cell m)
 differ r m tech h same =
@@ -108,7 +108,7 @@ differ r m tech h same =
     tech.rails_differ (sym named.vdd ∙ same ∙ named.gnd)
 
 pub is_circuit : (r : RowInputs) (m : MadeCell) → IsTechnology r.tech → IsReady r m → IsCircuit (row_cell m) m.inputs.fingers
-is_circuit r m tech h = record { extracts = h.is.made.extracts; rails = rails r m h; differ = differ r m tech h }
+is_circuit r m tech h = record { extracts = h.is.made.drawn.extracts; rails = rails r m h; differ = differ r m tech h }
 
 -- ---- two of them
 

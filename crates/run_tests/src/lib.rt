@@ -32,6 +32,8 @@ mod tapped;
 #[cfg(test)]
 mod taps;
 #[cfg(test)]
+mod trail_cells;
+#[cfg(test)]
 mod trails;
 #[cfg(test)]
 mod versions;

@@ -16,7 +16,7 @@ M2 a cn b vdd p W=3u L=0.6u
 .ENDS
 ";
 
-const CROSS: &str = ".SUBCKT cross x y u v s t a b vdd gnd
+pub const CROSS: &str = ".SUBCKT cross x y u v s t a b vdd gnd
 M1 x a u vdd p W=3u L=0.6u
 M2 y a v gnd n W=1.5u L=0.6u
 M3 y b s vdd p W=3u L=0.6u

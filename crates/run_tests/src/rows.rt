@@ -87,59 +87,62 @@ fn makes_rows(rt: HostRuntime) -> Result<(), Fail> {
     Ok(())
 }
 
+// Calls of rows with a cell that is not made: the technology, the words and the end.
+const STOPS: [(&str, &str, Status, &str); 8] = [
+    (
+        "",
+        "row - c.sp out top inv nand2",
+        Status::Row,
+        "status 12 row\nrow Heights first 118 other 144\n",
+    ),
+    (
+        "wmax_p = 200\nwmax_n = 200\nheight = 298",
+        "row t.toml c.sp out top pw nw",
+        Status::Row,
+        "status 12 row\nrow Channel left 0 right 1\n",
+    ),
+    (
+        "wmax_p = 200\nwmax_n = 200\nheight = 298",
+        "row t.toml c.sp out top nw pw",
+        Status::Row,
+        "status 12 row\nrow Channel left 0 right 1\n",
+    ),
+    (
+        "height = 117",
+        "row t.toml c.sp out top nand2 inv",
+        Status::TooTall,
+        "status 11 tall\nneeded 144\ngiven 117\n",
+    ),
+    (
+        "",
+        "row - c.sp out top r8 none",
+        Status::Cycle,
+        "status 5 cycle\nx above y at line 0\ny above x at line 4\n",
+    ),
+    (
+        "",
+        "row - c.sp out top none r8",
+        Status::Input,
+        "status 4 input\nspice NoCell\n",
+    ),
+    (
+        "budget = 1",
+        "row t.toml c.sp out top inv x3",
+        Status::Unfinished,
+        "status 6 unfinished\nproved 0\nlemmas 0\ncellgen-log 2\ncell inv\nopen\nend\n",
+    ),
+    (
+        "",
+        "row - d.sp out top inv inv",
+        Status::ReadFault,
+        "status 2 read d.sp\n",
+    ),
+];
+
 // The first cell that is not made ends the row, whatever stands behind it, and no file is made.
 #[test]
 fn stops_at_the_first_cell(rt: HostRuntime) -> Result<(), Fail> {
-    for (tech, words, status, said) in [
-        (
-            "",
-            "row - c.sp out top inv nand2",
-            Status::Row,
-            "status 12 row\nrow Heights first 118 other 144\n",
-        ),
-        (
-            "wmax_p = 200\nwmax_n = 200\nheight = 298",
-            "row t.toml c.sp out top pw nw",
-            Status::Row,
-            "status 12 row\nrow Channel left 0 right 1\n",
-        ),
-        (
-            "wmax_p = 200\nwmax_n = 200\nheight = 298",
-            "row t.toml c.sp out top nw pw",
-            Status::Row,
-            "status 12 row\nrow Channel left 0 right 1\n",
-        ),
-        (
-            "height = 117",
-            "row t.toml c.sp out top nand2 inv",
-            Status::TooTall,
-            "status 11 tall\nneeded 144\ngiven 117\n",
-        ),
-        (
-            "",
-            "row - c.sp out top r8 none",
-            Status::Cycle,
-            "status 5 cycle\nx above y at line 0\ny above x at line 4\n",
-        ),
-        (
-            "",
-            "row - c.sp out top none r8",
-            Status::Input,
-            "status 4 input\nspice NoCell\n",
-        ),
-        (
-            "budget = 1",
-            "row t.toml c.sp out top inv x3",
-            Status::Unfinished,
-            "status 6 unfinished\nproved 0\nlemmas 0\ncellgen-log 2\ncell inv\nopen\nend\n",
-        ),
-        (
-            "",
-            "row - d.sp out top inv inv",
-            Status::ReadFault,
-            "status 2 read d.sp\n",
-        ),
-    ] {
+    for (tech, words, status, said) in STOPS {
         assert!(rt;
             ends_so(rt.alloc(), tech, words, status, said, 0)?,
             "{words}"
@@ -167,6 +170,42 @@ fn takes_two_to_sixteen_cells(rt: HostRuntime) -> Result<(), Fail> {
     Ok(())
 }
 
+// What `extract` tells of a row of two inverters, and of one of them.
+const CIRCUITS: [(&str, &str); 2] = [
+    (
+        "extract - out.gds pair",
+        "status 0 ok
+cell pair
+nets 6
+devices 4
+net 0 gnd
+net 1 0#a
+net 2 1#a
+net 3 0#y
+net 4 1#y
+net 5 vdd
+device 0 n gate 0#a ends gnd 0#y width 10 length 4
+device 1 n gate 1#a ends gnd 1#y width 10 length 4
+device 2 p gate 0#a ends 0#y vdd width 20 length 4
+device 3 p gate 1#a ends 1#y vdd width 20 length 4
+",
+    ),
+    (
+        "extract - out.gds inv",
+        "status 0 ok
+cell inv
+nets 4
+devices 2
+net 0 gnd
+net 1 a
+net 2 y
+net 3 vdd
+device 0 n gate a ends gnd y width 10 length 4
+device 1 p gate a ends y vdd width 20 length 4
+",
+    ),
+];
+
 // The circuit of the row, and that of one of its cells, as `extract` reads them from the library.
 #[test]
 fn tells_both_circuits(rt: HostRuntime) -> Result<(), Fail> {
@@ -182,40 +221,7 @@ fn tells_both_circuits(rt: HostRuntime) -> Result<(), Fail> {
         Some(bytes) => bytes,
         None => return Err(Fail::from("no library")),
     };
-    for (words, said) in [
-        (
-            "extract - out.gds pair",
-            "status 0 ok
-cell pair
-nets 6
-devices 4
-net 0 gnd
-net 1 0#a
-net 2 1#a
-net 3 0#y
-net 4 1#y
-net 5 vdd
-device 0 n gate 0#a ends gnd 0#y width 10 length 4
-device 1 n gate 1#a ends gnd 1#y width 10 length 4
-device 2 p gate 0#a ends 0#y vdd width 20 length 4
-device 3 p gate 1#a ends 1#y vdd width 20 length 4
-",
-        ),
-        (
-            "extract - out.gds inv",
-            "status 0 ok
-cell inv
-nets 4
-devices 2
-net 0 gnd
-net 1 a
-net 2 y
-net 3 vdd
-device 0 n gate a ends gnd y width 10 length 4
-device 1 p gate a ends y vdd width 20 length 4
-",
-        ),
-    ] {
+    for (words, said) in CIRCUITS {
         let mut files = FileList::new(alloc);
         files.push(File {
             name: name_of(alloc, "out.gds")?,

@@ -8,8 +8,16 @@ columns 1
 gaps 0
 width 1
 column 0 gate a p y vdd 20 n y gnd 10
-lemmas 0
-filled 0
+";
+
+pub const X3: &str = "status 0 ok
+cell x3
+columns 3
+gaps 1
+width 4
+column 0 gate a p x vdd 20 n x gnd 10
+column 1 gate b p y vdd 20 n y gnd 10
+column 2 gate c p vdd z 20 n gnd z 10
 ";
 
 const UNFINISHED: &str = "status 6 unfinished
@@ -25,12 +33,35 @@ end
 
 #[test]
 fn plans_by_trails(rt: HostRuntime) -> Result<(), Fail> {
-    for (tech, status, said) in [
-        ("", Status::Done, PLANNED),
-        ("budget = 1", Status::Unfinished, UNFINISHED),
+    for (tech, spice, cell, status, row, more) in [
+        (
+            "",
+            INVERTER,
+            "inv",
+            Status::Done,
+            PLANNED,
+            "lemmas 0\nfilled 0\n",
+        ),
+        (
+            "",
+            INVERTERS,
+            "x3",
+            Status::Done,
+            X3,
+            "lemmas 4\nfilled 0\n",
+        ),
+        (
+            "budget = 1",
+            INVERTER,
+            "inv",
+            Status::Unfinished,
+            UNFINISHED,
+            "",
+        ),
     ] {
-        let files = [tech, INVERTER, ""];
-        let (got, desk) = run_over(rt.alloc(), "plan t.toml c.sp inv --trails", files, &[])?;
+        let words = format!(in rt.alloc(); "plan t.toml c.sp {cell} --trails")?;
+        let said = format!(in rt.alloc(); "{row}{more}")?;
+        let (got, desk) = run_over(rt.alloc(), words.as_str(), [tech, spice, ""], &[])?;
         assert_eq!(rt; desk.all_said(), said.as_bytes());
         assert_eq!(rt; got, status, "{said}");
     }
@@ -39,15 +70,16 @@ fn plans_by_trails(rt: HostRuntime) -> Result<(), Fail> {
 
 const ACCEPTED: &str = "status 0 ok\ncell x3\ncolumns 3\ngaps 1\nwidth 4\nlemmas 4\nfilled 0\n";
 
-const HEAD: &str = "cellgen-trails 1\ncell x3\nfill -\n";
+pub const HEAD: &str = "cellgen-trails 1\ncell x3\nfill -\n";
 
-const ORDER: &str = "order 0,1,2\n";
+pub const ORDER: &str = "order 0,1,2\n";
 
 // With one gate left, behind both ways in which the columns of the first two gates may meet; with two left; with all.
 // Another program, written after the definitions, listed them.
-const LEMMAS: &str = "lemma 1 2 - - 6.7!\nlemma 2 1 6.7 - 6.7!\nlemma 1 1 - - -\nlemma 3 0 - - -\n";
+pub const LEMMAS: &str =
+    "lemma 1 2 - - 6.7!\nlemma 2 1 6.7 - 6.7!\nlemma 1 1 - - -\nlemma 3 0 - - -\n";
 
-const ROW: &str = "gaps 1\ncolumn 0 0 0 0 0\ncolumn 1 1 0 1 0\ncolumn 2 2 1 2 1\nend\n";
+pub const ROW: &str = "gaps 1\ncolumn 0 0 0 0 0\ncolumn 1 1 0 1 0\ncolumn 2 2 1 2 1\nend\n";
 
 // The same columns, none of them turned.
 const UNTURNED: &str = "gaps 2\ncolumn 0 0 0 0 0\ncolumn 1 1 0 1 0\ncolumn 2 2 0 2 0\nend\n";

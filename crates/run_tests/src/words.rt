@@ -20,6 +20,7 @@ row TECH SPICE OUT TOP CELL CELL ..
 agree TECH GDS LEF CELL
 plan TECH SPICE CELL --trails
 check TECH SPICE CELL FILE --trails
+make TECH SPICE CELL OUT [--dogleg] [--taps] --trails
 ";
 
 const BENCH: &str = "status 0 ok
@@ -45,46 +46,50 @@ fingers 2330
 bytes 1397094
 ";
 
+// Calls over the inverter: the words and the end.
+const CALLS: [(&str, Status, &str); 21] = [
+    ("plan - c.sp INV", Status::Done, ROW),
+    ("plan t.toml c.sp inv", Status::Done, ROW),
+    ("plan - d.sp inv", Status::ReadFault, "status 2 read d.sp\n"),
+    (
+        "plan d.toml d.sp inv",
+        Status::ReadFault,
+        "status 2 read d.toml\n",
+    ),
+    (
+        "plan c.sp d.sp inv",
+        Status::Input,
+        "status 4 input\ntech Text\n",
+    ),
+    (
+        "check - c.sp inv d.clog",
+        Status::ReadFault,
+        "status 2 read d.clog\n",
+    ),
+    (
+        "check - c.sp inw d.clog",
+        Status::Input,
+        "status 4 input\nspice NoCell\n",
+    ),
+    ("", Status::Usage, USAGE),
+    ("make", Status::Usage, USAGE),
+    ("plan - c.sp", Status::Usage, USAGE),
+    ("plan - c.sp inv l.clog", Status::Usage, USAGE),
+    ("check - c.sp inv", Status::Usage, USAGE),
+    ("plan - c.sp a-b", Status::Usage, USAGE),
+    ("make - c.sp inv out --trails --taps", Status::Usage, USAGE),
+    ("bench", Status::Usage, USAGE),
+    ("bench 0", Status::Usage, USAGE),
+    ("bench 201", Status::Usage, USAGE),
+    ("bench 01", Status::Usage, USAGE),
+    ("bench +1", Status::Usage, USAGE),
+    ("bench 1", Status::Done, BENCH),
+    ("bench 200", Status::Done, ALL_BENCHED),
+];
+
 #[test]
 fn says_what_the_words_ask_for(rt: HostRuntime) -> Result<(), Fail> {
-    for (words, status, said) in [
-        ("plan - c.sp INV", Status::Done, ROW),
-        ("plan t.toml c.sp inv", Status::Done, ROW),
-        ("plan - d.sp inv", Status::ReadFault, "status 2 read d.sp\n"),
-        (
-            "plan d.toml d.sp inv",
-            Status::ReadFault,
-            "status 2 read d.toml\n",
-        ),
-        (
-            "plan c.sp d.sp inv",
-            Status::Input,
-            "status 4 input\ntech Text\n",
-        ),
-        (
-            "check - c.sp inv d.clog",
-            Status::ReadFault,
-            "status 2 read d.clog\n",
-        ),
-        (
-            "check - c.sp inw d.clog",
-            Status::Input,
-            "status 4 input\nspice NoCell\n",
-        ),
-        ("", Status::Usage, USAGE),
-        ("make", Status::Usage, USAGE),
-        ("plan - c.sp", Status::Usage, USAGE),
-        ("plan - c.sp inv l.clog", Status::Usage, USAGE),
-        ("check - c.sp inv", Status::Usage, USAGE),
-        ("plan - c.sp a-b", Status::Usage, USAGE),
-        ("bench", Status::Usage, USAGE),
-        ("bench 0", Status::Usage, USAGE),
-        ("bench 201", Status::Usage, USAGE),
-        ("bench 01", Status::Usage, USAGE),
-        ("bench +1", Status::Usage, USAGE),
-        ("bench 1", Status::Done, BENCH),
-        ("bench 200", Status::Done, ALL_BENCHED),
-    ] {
+    for (words, status, said) in CALLS {
         let (got, desk) = run_over(rt.alloc(), words, ["", INVERTER, ""], &[])?;
         assert_eq!(rt; desk.all_said(), said.as_bytes());
         assert_eq!(rt; got, status, "{said}");

@@ -5,22 +5,22 @@ use Rattle.cell_inputs.specs.Inputs.{inputs_of, unit_nm}
 use Rattle.cell_make.specs.Style.{final}
 use Rattle.cell_make.proofs.Extent.{lies_so, some_column}
 use Rattle.cell_make.proofs.Finals.{final_is}
-use Rattle.cell_make.proofs.Makes.{made_so, placed_legal, placed_row, readable_so}
-use Rattle.cell_make.proofs.outcome.of_routed.Goals as goal
+use Rattle.cell_make.proofs.Makes.{drawn_so, placed_legal, placed_row, readable_so}
+use Rattle.cell_make.proofs.row_outcome.of_routed.Goals as goal
 
 pub draw_routed-requires-clause-row : goal.draw_routed-requires-clause-row
-draw_routed-requires-clause-row c = placed_row c.args.inputs.now (inputs_of c.inputs.inside.tech c.inputs.inside.cell c.inputs.inside.fingers) c.args.placement.row c.args.log c.args.placement c.inputs.view_is c.show_limits.ensures c.requires.found c.requires.placed
+draw_routed-requires-clause-row c = placed_row c.args.inputs.now (inputs_of c.inputs.inside.tech c.inputs.inside.cell c.inputs.inside.fingers) c.args.placement.row c.args.placement c.inputs.view_is c.show_limits.ensures c.requires.arranged c.requires.placed
 
 pub draw_routed-requires-clause-some : goal.draw_routed-requires-clause-some
-draw_routed-requires-clause-some c = some_column c.args.placement.row c.args.inputs.now.fingers c.requires.found.first.arranges c.show_limits.ensures.some
+draw_routed-requires-clause-some c = some_column c.args.placement.row c.args.inputs.now.fingers c.requires.arranged c.show_limits.ensures.some
 
 pub draw_routed-requires-clause-routing : goal.draw_routed-requires-clause-routing
 draw_routed-requires-clause-routing c = placed_legal c.args.style c.args.inputs.now (inputs_of c.inputs.inside.tech c.inputs.inside.cell c.inputs.inside.fingers) c.args.placement.row c.args.placement c.args.routing c.inputs.view_is c.requires.placed c.requires.routed
 
 pub returns-in-Ok-clause-comes : goal.returns-in-Ok-clause-comes
 returns-in-Ok-clause-comes c =
-    made_so c.args.style c.args.inputs.now (inputs_of c.inputs.inside.tech c.inputs.inside.cell c.inputs.inside.fingers) c.args.log c.args.placement c.args.routing c.in-Ok.drawn c.height.result
-    c.inputs.view_is c.requires.placed c.height.ensures.is c.show_limits.ensures c.requires.found c.requires.places c.requires.routed
+    drawn_so c.args.style c.args.inputs.now (inputs_of c.inputs.inside.tech c.inputs.inside.cell c.inputs.inside.fingers) c.args.placement c.args.routing c.in-Ok.drawn c.height.result
+    c.inputs.view_is c.requires.placed c.height.ensures.is c.show_limits.ensures c.requires.arranged c.requires.places c.requires.routed
     (record {
       least = c.in-Ok.ensures.lines;
       fits = c.in-Ok.ensures.fits;
@@ -52,8 +52,8 @@ returns-in-Ok-clause-written c = (
 
 pub returns-in-Ok-clause-extent : goal.returns-in-Ok-clause-extent
 returns-in-Ok-clause-extent c =
-    lies_so c.args.inputs.now (inputs_of c.inputs.inside.tech c.inputs.inside.cell c.inputs.inside.fingers) c.args.log c.args.placement c.args.routing c.in-Ok.drawn c.height.result
-    c.inputs.view_is c.requires.placed c.height.ensures.is c.show_limits.ensures c.requires.found
+    lies_so c.args.inputs.now (inputs_of c.inputs.inside.tech c.inputs.inside.cell c.inputs.inside.fingers) c.args.placement c.args.routing c.in-Ok.drawn c.height.result
+    c.inputs.view_is c.requires.placed c.height.ensures.is c.show_limits.ensures c.requires.arranged
     (record {
       lines = c.in-Ok.ensures.lines;
       framed = c.in-Ok.ensures.framed;
