@@ -21,6 +21,7 @@ use Rattle.cell_inputs.specs.declared.style.Style.{Style}
 use Rattle.cell_inputs.specs.Inputs.{AreInputs, Inputs}
 use Rattle.cell_make.specs.declared.row_outcome.RowOutcome.{RowOutcome}
 use Rattle.cell_make.specs.Rows.{ComesFrom, row_answer}
+use Rattle.cell_make.proofs.Makes.{few_columns}
 use Rattle.make_run.specs.Make.{IsEnd, IsRowEnd, RowEvidence, named}
 use Rattle.trail_run.specs.Plan.{gate_text}
 use Rattle.trail_make.specs.Make.{TrailMake, Made, Unfinished, Crowded, IsMakeEnd, IsUnfinishedEnd, Makes, TrailMakesTo, trails_evidence}
@@ -62,7 +63,7 @@ pub spent_fits : (f : Fingers) (trails : Trails) → WithKinds f (λ k. TrailsFi
 spent_fits f trails (k, of_k, some_k, fits) = (k, some_k, fits)
 
 pub short_row : (inputs : Inputs) (row : List Column) → AreInputs inputs → IsArrangement row inputs.fingers → length row ≤ 64
-short_row inputs row are arranged = omega (arith, arranged.fewest, are.fingers.few_columns)
+short_row inputs row are arranged = omega (arith, few_columns inputs row are arranged)
 
 -- ---- the evidence
 

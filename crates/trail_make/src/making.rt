@@ -34,7 +34,6 @@ fn unfinished(
 /// The drawing of the first least row with its certificate by trails; or the certificate, with a ring of the row's
 /// nets, with a height that is not enough, or of a search that spent its budget; or a gate whose fingers pair in too
 /// many ways.
-#[tactic(auto, using(cell_inputs::proofs::Names::log_name))]
 pub fn make_by_trails(
     alloc: Global,
     inputs: &Inputs,

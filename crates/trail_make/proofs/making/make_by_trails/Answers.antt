@@ -6,6 +6,7 @@ use Rattle.spice_net.specs.declared.subckt.Subckt.{Subckt}
 use Rattle.call_end.specs.declared.status.Status.TheVariants as status
 use Rattle.call_end.specs.End.{reports}
 use Rattle.make_run.specs.Evidence.{shown}
+use Rattle.make_run.proofs.Makes.{inside_named}
 use Rattle.trail_run.specs.Plan.{gate_text}
 use Rattle.trail_search.specs.Ended.{IsCrowded, IsTrailFound, IsTrailSpent, Stops}
 use Rattle.trail_search.specs.declared.found.TrailStop.{TrailStop}
@@ -15,6 +16,9 @@ use Rattle.trail_make.proofs.making.make_by_trails.Goals as goal
 
 pub of-requires : goal.of-requires
 of-requires c = subst (λ (i : Inputs). IsArrangement c.in-Ok.found.row i.fingers) c.inputs.view_is c.in-Ok.ensures.found.first.arranges
+
+pub trails_evidence-requires-clause-name : goal.trails_evidence-requires-clause-name
+trails_evidence-requires-clause-name c = inside_named c.args.inputs.now (inputs_of c.inputs.inside.tech c.inputs.inside.cell c.inputs.inside.fingers) c.inputs.view_is c.show_limits.ensures
 
 pub trails_evidence-requires-clause-fits : goal.trails_evidence-requires-clause-fits
 trails_evidence-requires-clause-fits c = found_fits c.inputs.inside.fingers c.in-Ok.found.row c.in-Ok.found.trails c.in-Ok.ensures.found.certified
@@ -32,6 +36,9 @@ returns-in-Ok c =
     c.in_ok-came.ensures.comes
     (subst (λ (i : Inputs). shown c.in_ok-evidence.evidence ≡ trails_evidence i.cell c.args.stem.now c.in-Ok.found.trails) c.inputs.view_is c.in_ok-evidence.ensures)
     c.row_end.ensures
+
+pub unfinished-requires-clause-name : goal.unfinished-requires-clause-name
+unfinished-requires-clause-name c = inside_named c.args.inputs.now (inputs_of c.inputs.inside.tech c.inputs.inside.cell c.inputs.inside.fingers) c.inputs.view_is c.show_limits.ensures
 
 pub unfinished-requires-clause-fits : goal.unfinished-requires-clause-fits
 unfinished-requires-clause-fits c =
