@@ -1,9 +1,13 @@
 -- Lemmas whose states are kept by their numbers.
-use Rattle.std.specs.Prelude.{ℕ, ◌≡◌, length}
+use Rattle.std.specs.Prelude.{ℕ, ◌≡◌, ◌+◌, ◌*◌, length}
 use Rattle.row_state.specs.declared.kind.Kinds.{Kinds}
 use Rattle.row_state.specs.Code.{state_of}
 use Rattle.bound_log.specs.declared.log.Rule.{Rule}
 use Rattle.bound_log.specs.declared.log.Lemma.{Lemma}
+
+-- the number whose lower 64 bits stand behind the higher ones
+abbrev pub number_of : ℕ → ℕ → ℕ
+number_of high low = high * 18446744073709551616 + low
 
 -- the lemma on the state of which this is the number
 abbrev pub numbered_lemma : Kinds → ℕ → ℕ → Rule → Lemma

@@ -1,4 +1,4 @@
-ghost use Rattle.std.specs.Prelude.{◌≡◌, ◌<◌, ◌+◌, ◌++◌, ◌∷◌, [], IfOk, OnOk, OnErr};
+ghost use Rattle.std.specs.Prelude.{◌≡◌, ◌≤◌, ◌<◌, ◌+◌, ◌++◌, ◌∷◌, [], IfOk, OnOk, OnErr};
 ghost use Rattle.row_state.specs.declared.kind.Kinds.{Kinds as KindsOf};
 ghost use Rattle.row_state.specs.declared.state.State.{State as StateOf};
 ghost use Rattle.row_state.specs.Candidates.{IsNumbered};
@@ -29,7 +29,7 @@ pub(crate) struct Progress {
 impl Model for Progress {
     ghost use Rattle.std.specs.Prelude.{All, map};
     ghost use Rattle.row_state.specs.Code.{IsCode};
-    ghost use Rattle.row_search.specs.Kept.{numbered_lemma};
+    ghost use Rattle.row_search.specs.Kept.{number_of, numbered_lemma};
     ghost use Rattle.row_search.specs.SoFar.{SoFar};
     ghost use Rattle.log_check.specs.contracts.known.Known.{the_row as known_row};
     ghost use Rattle.std.specs.Coded.{codes};
@@ -38,9 +38,9 @@ impl Model for Progress {
 
     ghost coded = { Prim.hlevel (codes, known_row.coded) };
 
-    ghost view = { λ p. record { nodes = p.nodes; known = p.known; kinds = p.kinds; lemmas = map (λ x. numbered_lemma p.kinds x.state x.bound x.rule) p.packed } };
+    ghost view = { λ p. record { nodes = p.nodes; known = p.known; kinds = p.kinds; lemmas = map (λ x. numbered_lemma p.kinds (number_of x.high x.low) x.bound x.rule) p.packed } };
 
-    ghost invariant = { λ p. All (λ x. IsCode p.kinds x.state) p.packed };
+    ghost invariant = { λ p. All (λ x. IsCode p.kinds (number_of x.high x.low)) p.packed };
 }
 
 impl Progress {
@@ -79,18 +79,16 @@ impl Progress {
 
     /// Keeps one lemma more.
     pub(crate) fn keep(&mut self, at: &Numbered, bound: u32, rule: Rule) -> Result<(), NoMemory>
-        requires { IsNumbered self.old.kinds at.now }
+        requires state { IsNumbered self.old.kinds at.now }
+        requires bound { bound ≤ 255 }
         ensures nodes { self.new.nodes ≡ self.old.nodes }
         ensures ok { OnOk result (self.new.lemmas ≡ self.old.lemmas ++ lemma_of at.now.state bound rule ∷ []) }
         ensures err { OnErr result (self.new.lemmas ≡ self.old.lemmas) }
         ensures knows { OnOk result ((k : KindsOf) → KnowsAll k self.old → KnowsAll k self.new) }
     {
+        self.kinds.show_limits();
         self.known.note_at(at.code, bound)?;
-        self.packed.push(Packed {
-            state: at.code,
-            bound,
-            rule,
-        })?;
+        self.packed.push(Packed::new(at.code, bound, rule))?;
         Ok(())
     }
 
