@@ -36,6 +36,13 @@ abbrev pub trails_evidence : Subckt → List ℕ → Trails → RowEvidence
 trails_evidence cell out trails =
     record { file = trails_file cell out trails; counts = counts_text (length trails.lemmas) (length trails.fill) }
 
+-- what drawing the row comes to, with this certificate
+abbrev pub IsDrawnTo : Style → Inputs → List ℕ → List Column → Trails → End → Type 0
+IsDrawnTo style inputs out row trails end =
+    (answer : RowAnswer)
+    × Draws style inputs row answer
+    × IsRowEnd style inputs out row (trails_evidence inputs.cell out trails) answer end
+
 abbrev pub IsUnfinishedEnd : Subckt → List ℕ → ℕ → Trails → End → Type 0
 IsUnfinishedEnd cell out proved trails =
     IsEnd status.Unfinished (trails_file cell out trails ∷ [])
