@@ -31,8 +31,8 @@ pub record IsTrailFound (f : Fingers) (budget : ℕ) (row : List Column) (trails
   pub kept : length trails.lemmas ≤ nodes
 
 -- The certificate lists no row. Its gates are as a checker asks, and all its lemmas are justified: they prove that no
--- arrangement has fewer gaps. The budget is spent, or no arrangement has as few. A node was spent for each lemma; and the
--- lemmas are as many as the budget has nodes but for one of each gate, or no lemmas in this order prove more gaps.
+-- arrangement has fewer gaps. The budget is spent, or no arrangement has as few. A node was spent for each lemma. The
+-- lemmas are as many as the budget has nodes, but for one of each gate; or no lemmas in this order prove more gaps.
 pub record IsTrailSpent (f : Fingers) (budget : ℕ) (trails : Trails) (proved nodes : ℕ) : Type 0 where
   pub lists_none : IsNone trails.best
   pub gates : AreGates f trails
