@@ -1,5 +1,5 @@
 -- How `make` tells what making a cell with a certificate by trails comes to: its files, and its report.
-use Rattle.std.specs.Prelude.{ℕ, ◌≡◌, List, [], ◌∷◌, ◌++◌, codes, length}
+use Rattle.std.specs.Prelude.{ℕ, List, [], ◌∷◌, ◌++◌, codes, length}
 use Rattle.cell_num.specs.declared.net.NetNo.{NetNo}
 use Rattle.row_model.specs.declared.column.Column.{Column}
 use Rattle.spice_net.specs.declared.subckt.Subckt.{Subckt}
