@@ -1,5 +1,5 @@
 -- The words of a call of the program.
-use Rattle.std.specs.Prelude.{ℕ, ◌&&◌, not, nat_le, Bool, List, [], ◌∷◌, ◌++◌, Option, Some, None, length, find, option_map, option_and_then, codes, bytes_eq, decimal, String, if◌then◌else◌}
+use Rattle.std.specs.Prelude.{ℕ, ◌&&◌, nat_le, Bool, List, [], ◌∷◌, ◌++◌, Option, Some, None, length, find, option_map, option_and_then, codes, bytes_eq, decimal, String, if◌then◌else◌}
 use Rattle.std.specs.List.{range_with_len}
 use Rattle.std.specs.declared.alloc.Global.{Global}
 use Rattle.cell_num.specs.Names.{is_cell}
@@ -17,9 +17,10 @@ use Rattle.scmos_rules.specs.declared.rules.Deck.{Deck}
 use Rattle.scmos_rules.specs.declared.rules.Deck.TheVariants as deck
 
 -- what a call asks for: `plan TECH SPICE CELL`, which may end with `--trails` for another kind of evidence, `make TECH
--- SPICE CELL OUT`, which may end with `--dogleg`, `--taps` and `--trails`, `check TECH SPICE CELL LOG`, or with `--trails` behind the
--- file's name, `extract TECH GDS CELL`, whose technology is none for the plain one and which may end with `--taps` for
--- the deck of cells with taps, `bench NUMBER`, `row TECH SPICE OUT TOP CELL CELL ..`, or `agree TECH GDS LEF CELL`
+-- SPICE CELL OUT`, which may end with `--dogleg`, `--taps` and `--trails`, `check TECH SPICE CELL LOG`, or with
+-- `--trails` behind the file's name, `extract TECH GDS CELL`, whose technology is none for the plain one and which may
+-- end with `--taps` for the deck of cells with taps, `bench NUMBER`, `row TECH SPICE OUT TOP CELL CELL ..`, or `agree
+-- TECH GDS LEF CELL`
 pub data Form : Type 0 where
   Plan : (cell : CellAsked) (evidence : Evidence) → Form
   Make : (cell : CellAsked) (out : List ℕ) (style : Style) (evidence : Evidence) → Form

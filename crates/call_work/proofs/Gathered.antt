@@ -1,5 +1,5 @@
 -- What is read for inputs, for a drawing and for its macro, and what these readings end with by themselves.
-use Rattle.std.proofs.Common.{ℕ, ◌≡◌, true, List, Option, Some, None, Result, Ok, Err, IfErr, Contains, refl, arith}
+use Rattle.std.proofs.Common.{ℕ, ◌≡◌, ◌++◌, true, List, [], ◌∷◌, Option, Some, None, Result, Ok, Err, IfErr, Contains, refl, arith}
 use Rattle.box_geom.specs.declared.shape.Shapes.{Shapes}
 use Rattle.cell_num.specs.Names.{lowered}
 use Rattle.cell_num.specs.declared.finger.Fingers.{Fingers}
@@ -18,7 +18,7 @@ use Rattle.call_words.specs.Asked.{CellAsked, RowAsked}
 use Rattle.call_words.specs.Words.{Form}
 use Rattle.call_read.proofs.Reading.{Keeps, keeps_on}
 use Rattle.call_read.proofs.Results.{err_behind}
-use Rattle.call_read.specs.InputFiles.{input_files, inputs_from, technology_from}
+use Rattle.call_read.specs.InputFiles.{input_files, inputs_from, tech_files, technology_from}
 use Rattle.call_read.specs.Inputs.{inputs_in}
 use Rattle.call_read.specs.Reading.{Reading, Ends, bytes_of, ◌>>=◌}
 use Rattle.call_read.specs.Refusals.{as_refusal}
@@ -100,6 +100,30 @@ compared_keeps May tech gds lef name there drawing abstracts =
     (λ read is. decoded_keeps May Agreeing (GdsFile gds) Gds (λ bytes. decoded bytes name read.lambda_nm) (comparing_with lef name read) drawing (λ f. refl)
     (λ shapes. decoded_keeps May Agreeing (LefFile lef) Lef (λ bytes. macro_in bytes name (unit_nm read)) (λ (cell : Macro). Ends (Ok (compared shapes cell))) abstracts (λ f. refl) (λ cell. tt)))
     (λ e is. rw is refl)
+
+-- ---- files among those that a form reads
+
+pub evidence_there : (file : Option (List ℕ)) (spice : List ℕ) (source : Source) → Contains (input_files file spice ++ source ∷ []) source
+evidence_there None spice source = (1, omega arith, refl)
+evidence_there (Some name) spice source = (2, omega arith, refl)
+
+pub gds_tech_there : (file : Option (List ℕ)) (gds name : List ℕ) → file ≡ Some name → Contains (tech_files file ++ GdsFile gds ∷ []) (TechFile name)
+gds_tech_there file gds name is = rw is (0, omega arith, refl)
+
+pub gds_there : (file : Option (List ℕ)) (gds : List ℕ) → Contains (tech_files file ++ GdsFile gds ∷ []) (GdsFile gds)
+gds_there None gds = (0, omega arith, refl)
+gds_there (Some name) gds = (1, omega arith, refl)
+
+pub macro_tech_there : (file : Option (List ℕ)) (gds lef name : List ℕ) → file ≡ Some name → Contains (tech_files file ++ GdsFile gds ∷ LefFile lef ∷ []) (TechFile name)
+macro_tech_there file gds lef name is = rw is (0, omega arith, refl)
+
+pub macro_gds_there : (file : Option (List ℕ)) (gds lef : List ℕ) → Contains (tech_files file ++ GdsFile gds ∷ LefFile lef ∷ []) (GdsFile gds)
+macro_gds_there None gds lef = (0, omega arith, refl)
+macro_gds_there (Some name) gds lef = (1, omega arith, refl)
+
+pub macro_lef_there : (file : Option (List ℕ)) (gds lef : List ℕ) → Contains (tech_files file ++ GdsFile gds ∷ LefFile lef ∷ []) (LefFile lef)
+macro_lef_there None gds lef = (1, omega arith, refl)
+macro_lef_there (Some name) gds lef = (2, omega arith, refl)
 
 -- ---- the forms
 

@@ -1,12 +1,12 @@
 -- Steps behind which a material is kept.
-use Rattle.std.proofs.Common.{ℕ, ◌≡◌, ◌≤◌, List, length, Some, Result, Ok, Err, inl, inr, refl}
+use Rattle.std.proofs.Common.{ℕ, ◌≡◌, ◌≤◌, List, length, Some, Result, Ok, Err, inl, inr, refl, subst}
 use Rattle.cell_io.specs.Desk.{OnlyReads, View}
 use Rattle.check_run.specs.declared.checked_log.CheckedLog.{CheckedLog}
 use Rattle.call_work.specs.declared.commands.Material.{Material as Own}
 use Rattle.call_work.specs.declared.commands.Material.TheVariants as held
 use Rattle.call_read.specs.declared.refusal.Refusal.{Refusal}
 use Rattle.call_read.specs.declared.refusal.Refusal.TheVariants.{NoMemory}
-use Rattle.call_work.specs.Commands.{checking_over, gathered, Benching, Checking, Making, Rowing, Material}
+use Rattle.call_work.specs.Commands.{IsKept, checking_over, gathered, making, Benching, Checking, Rowing, Material}
 use Rattle.row_make.specs.RowInputs.{RowInputs}
 use Rattle.cell_inputs.specs.declared.style.Style.{Style}
 use Rattle.cell_inputs.specs.Inputs.{Inputs}
@@ -16,6 +16,7 @@ use Rattle.call_read.specs.Read.{IsRead}
 use Rattle.call_read.specs.Reading.{Reading, Ends, ◌>>=◌, MayCome, bytes_of}
 use Rattle.call_read.specs.Sources.{LogFile, most_bytes}
 use Rattle.call_words.specs.Words.{Bench}
+use Rattle.call_words.specs.declared.evidence.Evidence.{Evidence}
 use Rattle.call_words.specs.declared.evidence.Evidence.TheVariants.{Log}
 use Rattle.call_read.proofs.Desks.{IsHanded, came_bytes, only_refl, refused, taken}
 use Rattle.check_run.proofs.LogReads.{behind_all}
@@ -63,8 +64,8 @@ keeps_short old new reading own told = (Err NoMemory, inr refl, handed_on NoMemo
 
 -- ---- words that are kept
 
-pub same_out : (inputs : Inputs) (out stem : List ℕ) (style : Style) → stem ≡ out → ◌≡◌ {A = Material} (Making, (inputs, out, style)) (Making, (inputs, stem, style))
-same_out inputs out stem style is = rw is refl
+pub kept_out : (evidence : Evidence) (inputs : Inputs) (out stem : List ℕ) (style : Style) (own : Own) → stem ≡ out → IsKept (making evidence stem style inputs) own → IsKept (making evidence out style inputs) own
+kept_out evidence inputs out stem style own is kept = subst (λ (name : List ℕ). IsKept (making evidence name style inputs) own) is kept
 
 pub same_stem : (inputs : RowInputs) (out stem : List ℕ) → stem ≡ out → ◌≡◌ {A = Material} (Rowing, (inputs, out)) (Rowing, (inputs, stem))
 same_stem inputs out stem is = rw is refl

@@ -191,7 +191,6 @@ pub fn gather<D: Desk>(
 }
 
 /// Does the work of a command on what was gathered. It reads, makes and says nothing.
-#[tactic(auto, using(crate::proofs::EachCommand::plan_works, crate::proofs::EachCommand::make_works, crate::proofs::EachCommand::extract_works, crate::proofs::EachCommand::bench_works, crate::proofs::EachCommand::row_works, crate::proofs::EachCommand::agree_works, crate::proofs::EachCommand::trail_plan_works, crate::proofs::EachCommand::trail_check_works))]
 pub fn work(alloc: Global, material: &Material) -> Result<End, NoMemory>
     ensures { IfOk result (WorksFor material.now) }
 {

@@ -68,11 +68,11 @@ compared_so files word gds lef name tech shapes cell one two three =
 of_made : (files : Files) (form : Option Form) → ComparesMade files form → OfCompared files form DoesAgree
 of_made files form m =
     let shapes : Shapes = (final_in m.style m.inputs m.row m.routing m.lines).shapes in
-    let agrees = abstract_made m.style m.inputs m.row m.routing m.lines m.made.agrees in (
+    let agrees = abstract_made m.style m.inputs m.row m.routing m.lines m.drawn.agrees in (
       compared shapes agrees.cell,
       subst (λ f. called files (gathered f) ≡ Ok (Agreeing, compared shapes agrees.cell)) (sym m.words)
           (compared_so files m.tech m.gds m.lef m.inputs.cell.name m.inputs.tech shapes agrees.cell m.technology
-          (shapes_so files m.gds m.inputs.cell.name _ m.inputs.tech shapes m.library m.made.decodes)
+          (shapes_so files m.gds m.inputs.cell.name _ m.inputs.tech shapes m.library m.drawn.decodes)
           (macro_so files m.lef m.inputs.cell.name _ m.inputs.tech agrees.cell m.abstract agrees.read)),
       (agrees.netlist, agrees.agrees),
     )

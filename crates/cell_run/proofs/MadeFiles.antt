@@ -7,29 +7,30 @@ use Rattle.std.proofs.lemmas.Slice.Eq.{bytes_eq-Decides}
 use Rattle.cell_io.specs.Desk.{Files, Both, Sets}
 use Rattle.call_end.specs.declared.end.Output.{Output}
 use Rattle.call_end.specs.Deliver.{MakesAll}
-use Rattle.cell_run.specs.Headline.{HasCell, HasLog}
+use Rattle.call_end.proofs.Delivered.{none_made}
+use Rattle.call_words.specs.declared.evidence.Evidence.{Evidence}
+use Rattle.call_words.specs.declared.evidence.Evidence.TheVariants.{Log, Trails}
+use Rattle.cell_run.specs.Evidence.{evidence_name}
+use Rattle.cell_run.specs.Headline.{HasCell, HasEvidence}
 use Rattle.cell_run.specs.Row.{HasLibrary}
 use Rattle.make_run.specs.Make.{named}
 
 -- ---- names
 
-clog_is_no_gds : (out : List ℕ) → out ++ codes ".clog" ≢ out ++ codes ".gds"
-clog_is_no_gds out e =
+-- the evidence's name ends with more letters than the others
+evidence_apart : (evidence : Evidence) (out last : List ℕ) → length last ≡ 4 → evidence_name evidence out ≢ out ++ last
+evidence_apart Log out last four e =
     let five : length (codes ".clog") ≡ 5 = refl in
-    let four : length (codes ".gds") ≡ 4 = refl in
-    absurd (omega (arith, five, four, ap (λ (name : List ℕ). length name) e, length-append out (codes ".clog"), length-append out (codes ".gds")))
+    absurd (omega (arith, five, four, ap (λ (name : List ℕ). length name) e, length-append out (codes ".clog"), length-append out last))
+evidence_apart Trails out last four e =
+    let seven : length (codes ".ctrail") ≡ 7 = refl in
+    absurd (omega (arith, seven, four, ap (λ (name : List ℕ). length name) e, length-append out (codes ".ctrail"), length-append out last))
 
 gds_is_no_lef : (out : List ℕ) → out ++ codes ".gds" ≢ out ++ codes ".lef"
 gds_is_no_lef out e =
     let same : codes ".gds" ≡ codes ".lef" = append_cancel_left out (codes ".gds") (codes ".lef") e in
     let g_is_l : 103 ≡ 108 = ap (λ (name : List ℕ). get_or name 1 0) same in
     absurd (omega (arith, g_is_l))
-
-clog_is_no_lef : (out : List ℕ) → out ++ codes ".clog" ≢ out ++ codes ".lef"
-clog_is_no_lef out e =
-    let five : length (codes ".clog") ≡ 5 = refl in
-    let four : length (codes ".lef") ≡ 4 = refl in
-    absurd (omega (arith, five, four, ap (λ (name : List ℕ). length name) e, length-append out (codes ".clog"), length-append out (codes ".lef")))
 
 -- ---- one file
 
@@ -67,12 +68,12 @@ one_set name bytes (file ∷ other ∷ more) old new is made =
     let none : named other ∷ map named more ≡ [] = rest_are (named file) (name, bytes) (named other ∷ map named more) [] is in
     cc
 
-one_made : (out log : List ℕ) (files : List Output) (old new : Files) → map named files ≡ (out ++ codes ".clog", log) ∷ [] → MakesAll files old new → HasLog out log old new
-one_made out log files old new is made =
-    let set = one_set (out ++ codes ".clog") log files old new is made in
+one_made : (file text : List ℕ) (files : List Output) (old new : Files) → map named files ≡ (file, text) ∷ [] → MakesAll files old new → HasEvidence file text old new
+one_made file text files old new is made =
+    let set = one_set file text files old new is made in
     record {
-      log = set_here (out ++ codes ".clog") (Some log) old new set;
-      others = λ name differ. set_elsewhere (out ++ codes ".clog") name (Some log) old new set differ;
+      evidence = set_here file (Some text) old new set;
+      others = λ name differ. set_elsewhere file name (Some text) old new set differ;
     }
 
 library_set : (out bytes : List ℕ) (files : List Output) (old new : Files) → map named files ≡ (out ++ codes ".gds", bytes) ∷ [] → MakesAll files old new → HasLibrary out bytes old new
@@ -84,25 +85,25 @@ library_set out bytes files old new is made =
     }
 
 -- the files of a cell, each made where the one before it was
-pub record AreSet (out text bytes summary : List ℕ) (old one two new : Files) : Type 0 where
-  pub first : Sets (out ++ codes ".clog") (Some text) old one
+pub record AreSet (file out text bytes summary : List ℕ) (old one two new : Files) : Type 0 where
+  pub first : Sets file (Some text) old one
   pub second : Sets (out ++ codes ".gds") (Some bytes) one two
   pub third : Sets (out ++ codes ".lef") (Some summary) two new
 
-cell_set : (out text bytes summary : List ℕ) (old one two new : Files) → AreSet out text bytes summary old one two new → HasCell out text bytes summary old new
-cell_set out text bytes summary old one two new s = record {
-  log =
-      set_elsewhere (out ++ codes ".lef") (out ++ codes ".clog") (Some summary) two new s.third (clog_is_no_lef out)
-      ∙ (set_elsewhere (out ++ codes ".gds") (out ++ codes ".clog") (Some bytes) one two s.second (clog_is_no_gds out)
-      ∙ set_here (out ++ codes ".clog") (Some text) old one s.first);
+cell_set : (evidence : Evidence) (out text bytes summary : List ℕ) (old one two new : Files) → AreSet (evidence_name evidence out) out text bytes summary old one two new → HasCell (evidence_name evidence out) out text bytes summary old new
+cell_set evidence out text bytes summary old one two new s = record {
+  evidence =
+      set_elsewhere (out ++ codes ".lef") (evidence_name evidence out) (Some summary) two new s.third (evidence_apart evidence out (codes ".lef") refl)
+      ∙ (set_elsewhere (out ++ codes ".gds") (evidence_name evidence out) (Some bytes) one two s.second (evidence_apart evidence out (codes ".gds") refl)
+      ∙ set_here (evidence_name evidence out) (Some text) old one s.first);
   drawing =
       set_elsewhere (out ++ codes ".lef") (out ++ codes ".gds") (Some summary) two new s.third (gds_is_no_lef out)
       ∙ set_here (out ++ codes ".gds") (Some bytes) one two s.second;
   lef = set_here (out ++ codes ".lef") (Some summary) two new s.third;
-  others = λ name no_log no_drawing no_lef.
+  others = λ name no_evidence no_drawing no_lef.
       set_elsewhere (out ++ codes ".lef") name (Some summary) two new s.third no_lef
       ∙ (set_elsewhere (out ++ codes ".gds") name (Some bytes) one two s.second no_drawing
-      ∙ set_elsewhere (out ++ codes ".clog") name (Some text) old one s.first no_log);
+      ∙ set_elsewhere (evidence_name evidence out) name (Some text) old one s.first no_evidence);
 }
 
 -- three files are these
@@ -125,18 +126,18 @@ three_are (x ∷ y ∷ z ∷ w ∷ more) a b c is =
     let none : named w ∷ map named more ≡ [] = rest_are (named z) c (named w ∷ map named more) [] last in
     cc
 
-three_set : (out text bytes summary : List ℕ) (first second third : Output) (old new : Files) → named first ≡ (out ++ codes ".clog", text) → named second ≡ (out ++ codes ".gds", bytes) → named third ≡ (out ++ codes ".lef", summary) → MakesAll (first ∷ second ∷ third ∷ []) old new → HasCell out text bytes summary old new
-three_set out text bytes summary first second third old new p q r (one, a, (two, b, (last, c, same))) =
-    cell_set out text bytes summary old one two new (record {
-      first = set_so first (out ++ codes ".clog") text old one p a;
+three_set : (evidence : Evidence) (out text bytes summary : List ℕ) (first second third : Output) (old new : Files) → named first ≡ (evidence_name evidence out, text) → named second ≡ (out ++ codes ".gds", bytes) → named third ≡ (out ++ codes ".lef", summary) → MakesAll (first ∷ second ∷ third ∷ []) old new → HasCell (evidence_name evidence out) out text bytes summary old new
+three_set evidence out text bytes summary first second third old new p q r (one, a, (two, b, (last, c, same))) =
+    cell_set evidence out text bytes summary old one two new (record {
+      first = set_so first (evidence_name evidence out) text old one p a;
       second = set_so second (out ++ codes ".gds") bytes one two q b;
       third = subst (λ (files : Files). Sets (out ++ codes ".lef") (Some summary) two files) (sym same) (set_so third (out ++ codes ".lef") summary two last r c);
     })
 
-cell_made_in : (out text bytes summary : List ℕ) (files : List Output) (old new : Files) → map named files ≡ (out ++ codes ".clog", text) ∷ (out ++ codes ".gds", bytes) ∷ (out ++ codes ".lef", summary) ∷ [] → MakesAll files old new → HasCell out text bytes summary old new
-cell_made_in out text bytes summary files old new is made =
-    let (first, second, third, same, p, q, r) = three_are files (out ++ codes ".clog", text) (out ++ codes ".gds", bytes) (out ++ codes ".lef", summary) is in
-    three_set out text bytes summary first second third old new p q r (subst (λ (fs : List Output). MakesAll fs old new) same made)
+cell_made_in : (evidence : Evidence) (out text bytes summary : List ℕ) (files : List Output) (old new : Files) → map named files ≡ (evidence_name evidence out, text) ∷ (out ++ codes ".gds", bytes) ∷ (out ++ codes ".lef", summary) ∷ [] → MakesAll files old new → HasCell (evidence_name evidence out) out text bytes summary old new
+cell_made_in evidence out text bytes summary files old new is made =
+    let (first, second, third, same, p, q, r) = three_are files (evidence_name evidence out, text) (out ++ codes ".gds", bytes) (out ++ codes ".lef", summary) is in
+    three_set evidence out text bytes summary first second third old new p q r (subst (λ (fs : List Output). MakesAll fs old new) same made)
 
 -- ---- where they are told
 
@@ -146,11 +147,19 @@ both_so R S f (Some x) (Some y) h = f x y h
 both_so R S f None (Some y) h = absurd h
 both_so R S f (Some x) None h = absurd h
 
-pub log_made : (out log : List ℕ) (files : List Output) (old new : Option Files) → map named files ≡ (out ++ codes ".clog", log) ∷ [] → Both (MakesAll files) old new → Both (HasLog out log) old new
-log_made out log files old new is made = both_so (MakesAll files) (HasLog out log) (λ x y h. one_made out log files x y is h) old new made
+-- no file
+none_are : (files : List Output) → map named files ≡ [] → files ≡ []
+none_are [] is = refl
+none_are (file ∷ more) is = cc
 
-pub cell_made : (out text bytes summary : List ℕ) (files : List Output) (old new : Option Files) → map named files ≡ (out ++ codes ".clog", text) ∷ (out ++ codes ".gds", bytes) ∷ (out ++ codes ".lef", summary) ∷ [] → Both (MakesAll files) old new → Both (HasCell out text bytes summary) old new
-cell_made out text bytes summary files old new is made = both_so (MakesAll files) (HasCell out text bytes summary) (λ x y h. cell_made_in out text bytes summary files x y is h) old new made
+pub none_left : (files : List Output) (old new : Option Files) → map named files ≡ [] → Both (MakesAll files) old new → new ≡ old
+none_left files old new is made = none_made old new (subst (λ (fs : List Output). Both (MakesAll fs) old new) (none_are files is) made)
+
+pub evidence_made : (file text : List ℕ) (files : List Output) (old new : Option Files) → map named files ≡ (file, text) ∷ [] → Both (MakesAll files) old new → Both (HasEvidence file text) old new
+evidence_made file text files old new is made = both_so (MakesAll files) (HasEvidence file text) (λ x y h. one_made file text files x y is h) old new made
+
+pub cell_made : (evidence : Evidence) (out text bytes summary : List ℕ) (files : List Output) (old new : Option Files) → map named files ≡ (evidence_name evidence out, text) ∷ (out ++ codes ".gds", bytes) ∷ (out ++ codes ".lef", summary) ∷ [] → Both (MakesAll files) old new → Both (HasCell (evidence_name evidence out) out text bytes summary) old new
+cell_made evidence out text bytes summary files old new is made = both_so (MakesAll files) (HasCell (evidence_name evidence out) out text bytes summary) (λ x y h. cell_made_in evidence out text bytes summary files x y is h) old new made
 
 pub library_made : (out bytes : List ℕ) (files : List Output) (old new : Option Files) → map named files ≡ (out ++ codes ".gds", bytes) ∷ [] → Both (MakesAll files) old new → Both (HasLibrary out bytes) old new
 library_made out bytes files old new is made = both_so (MakesAll files) (HasLibrary out bytes) (λ x y h. library_set out bytes files x y is h) old new made

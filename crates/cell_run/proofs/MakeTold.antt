@@ -1,16 +1,17 @@
 -- What the top call owes of `make`, from the end that the files call for and how it was told.
-use Rattle.std.proofs.Common.{ℕ, ◌≡◌, ◌≤◌, List, Option, IfSome, refl, arith}
+use Rattle.std.proofs.Common.{ℕ, ◌≡◌, ◌≤◌, true, List, Option, IfSome, refl, arith, subst}
 use Rattle.cell_io.specs.Desk.{Files, View}
 use Rattle.log_check.specs.Accepted.{ForKinds}
-use Rattle.bound_log.specs.declared.log.Log.{Log}
+use Rattle.bound_log.specs.declared.log.Log.{Log as SearchLog}
 use Rattle.row_search.specs.Enough.{enough}
 use Rattle.row_place.specs.Places.{placement_of}
 use Rattle.call_end.specs.declared.end.End.{End}
-use Rattle.call_work.specs.Commands.{Making}
+use Rattle.call_work.specs.Commands.{Making, TrailMaking}
+use Rattle.call_work.specs.Ends.{is_among}
 use Rattle.call_end.specs.declared.status.Status.{Status}
 use Rattle.call_end.specs.declared.status.Status.TheVariants as status
 use Rattle.cell_run.specs.Calm.{IsCalm}
-use Rattle.cell_run.specs.Headline.{CanBeDrawn, FromInputs, HasCycle, IsCyclicCell, IsMadeCell, IsOrShort, IsSpentSearch, IsTallCell, IsTooHigh, OfFirstLeast, WhereMakeEnds}
+use Rattle.cell_run.specs.Headline.{CanBeDrawn, FromInputs, HasCycle, IsOrShort, IsTooHigh, OfFirstLeast, WhereMakeEnds}
 use Rattle.cell_inputs.specs.declared.style.Style.{Style}
 use Rattle.cell_inputs.specs.Inputs.{Inputs}
 use Rattle.cell_make.proofs.Rings.{no_ring, ring_is}
@@ -18,35 +19,25 @@ use Rattle.cell_make.specs.Making as made
 use Rattle.cell_make.specs.Searched.{IsUnfinished}
 use Rattle.make_run.specs.Make.{MakesTo}
 use Rattle.call_words.specs.Words.{Form}
-use Rattle.cell_run.proofs.AskedFor.{asked_told}
-use Rattle.cell_run.proofs.MakeSettled.{cyclic_so, drawn_so, spent_so, tall_so}
-use Rattle.cell_run.proofs.Worked.{Completes, IsAnswered, ends_told, settles}
+use Rattle.call_words.specs.declared.evidence.Evidence.{Evidence}
+use Rattle.call_words.specs.declared.evidence.Evidence.TheVariants.{Log, Trails}
+use Rattle.cell_run.proofs.AskedFor.{asked_told, trails_asked_told}
+use Rattle.cell_run.proofs.MakeSettled.{Leaves, log_leaves, trails_leave}
+use Rattle.cell_run.proofs.Worked.{Completes, IsAnswered, ends_told, settles, work_statuses}
 
--- ---- the clauses
+-- ---- what it leaves behind, by its status
 
-pub drawn_told : (a c : View) (form : Option Form) (answer : Status) (given : Option Files) → IfSome given (IsAnswered form a c answer) → IfSome given (λ files. WhereMakeEnds files form answer status.Done (λ style inputs out. IsMadeCell style inputs out a c))
-drawn_told a c form answer given told =
-    asked_told form answer status.Done (λ style inputs out. IsMadeCell style inputs out a c) given
-    (ends_told Making (λ m. IsMadeCell m.2 m.0 m.1 a c) form status.Done answer a c given refl (λ m end works is whole. drawn_so m.2 m.0 m.1 end answer a c works is whole) told)
-
-pub cyclic_told : (a c : View) (form : Option Form) (answer : Status) (given : Option Files) → IfSome given (IsAnswered form a c answer) → IfSome given (λ files. WhereMakeEnds files form answer status.Cycle (λ style inputs out. IsCyclicCell style inputs out a c))
-cyclic_told a c form answer given told =
-    asked_told form answer status.Cycle (λ style inputs out. IsCyclicCell style inputs out a c) given
-    (ends_told Making (λ m. IsCyclicCell m.2 m.0 m.1 a c) form status.Cycle answer a c given refl (λ m end works is whole. cyclic_so m.2 m.0 m.1 end answer a c works is whole) told)
-
-pub tall_told : (a c : View) (form : Option Form) (answer : Status) (given : Option Files) → IfSome given (IsAnswered form a c answer) → IfSome given (λ files. WhereMakeEnds files form answer status.TooTall (λ style inputs out. IsTallCell style inputs out a c))
-tall_told a c form answer given told =
-    asked_told form answer status.TooTall (λ style inputs out. IsTallCell style inputs out a c) given
-    (ends_told Making (λ m. IsTallCell m.2 m.0 m.1 a c) form status.TooTall answer a c given refl (λ m end works is whole. tall_so m.2 m.0 m.1 end answer a c works is whole) told)
-
-pub spent_told : (a c : View) (form : Option Form) (answer : Status) (given : Option Files) → IfSome given (IsAnswered form a c answer) → IfSome given (λ files. WhereMakeEnds files form answer status.Unfinished (λ style inputs out. IsSpentSearch inputs out a c))
-spent_told a c form answer given told =
-    asked_told form answer status.Unfinished (λ style inputs out. IsSpentSearch inputs out a c) given
-    (ends_told Making (λ m. IsSpentSearch m.0 m.1 a c) form status.Unfinished answer a c given refl (λ m end works is whole. spent_so m.2 m.0 m.1 end answer a c works is whole) told)
+pub make_leaves : (evidence : Evidence) (settled : Status) (a c : View) (form : Option Form) (answer : Status) (given : Option Files) → is_among work_statuses settled ≡ true → IfSome given (IsAnswered form a c answer) → IfSome given (λ files. WhereMakeEnds evidence files form answer settled (λ style inputs out. Leaves evidence style inputs out a c settled))
+make_leaves Log settled a c form answer given own told =
+    asked_told form answer settled (λ style inputs out. Leaves Log style inputs out a c settled) given
+    (ends_told Making (λ m. Leaves Log m.2 m.0 m.1 a c settled) form settled answer a c given own (λ m end works is whole. subst (Leaves Log m.2 m.0 m.1 a c) is (log_leaves m.2 m.0 m.1 end answer a c works whole)) told)
+make_leaves Trails settled a c form answer given own told =
+    trails_asked_told form answer settled (λ style inputs out. Leaves Trails style inputs out a c settled) given
+    (ends_told TrailMaking (λ m. Leaves Trails m.2 m.0 m.1 a c settled) form settled answer a c given own (λ m end works is whole. subst (Leaves Trails m.2 m.0 m.1 a c) is (trails_leave m.2 m.0 m.1 end answer a c works whole)) told)
 
 -- ---- completeness
 
-pub spends_less : (inputs : Inputs) (log : Log) (proved : ℕ) → ForKinds inputs.fingers (λ k. enough k ≤ inputs.tech.budget) → IsUnfinished inputs proved log → ⊥
+pub spends_less : (inputs : Inputs) (log : SearchLog) (proved : ℕ) → ForKinds inputs.fingers (λ k. enough k ≤ inputs.tech.budget) → IsUnfinished inputs proved log → ⊥
 spends_less inputs log proved much (version, (k, are, some, spent)) = absurd (omega (arith, much k are some, spent.short))
 
 drawn_where : (style : Style) (inputs : Inputs) (out : List ℕ) (end : End) → OfFirstLeast CanBeDrawn style inputs out → MakesTo style inputs out end → end.status ≡ status.Done
@@ -56,13 +47,13 @@ drawn_where style inputs out end (much, can) (made.Tall row log routing, h, is) 
 drawn_where style inputs out end (much, can) (made.Unfinished proved log, h, is) = absurd (spends_less inputs log proved much h)
 
 cyclic_where : (style : Style) (inputs : Inputs) (out : List ℕ) (end : End) → OfFirstLeast HasCycle style inputs out → MakesTo style inputs out end → end.status ≡ status.Cycle
-cyclic_where style inputs out end (much, has) (made.Made row log routing xs, h, is) = absurd (no_ring style.wiring (placement_of row) inputs.cell.pins (has row h.found.first).0 h.routed.acyclic (has row h.found.first).1)
+cyclic_where style inputs out end (much, has) (made.Made row log routing xs, h, is) = absurd (no_ring style.wiring (placement_of row) inputs.cell.pins (has row h.found.first).0 h.drawn.routed.acyclic (has row h.found.first).1)
 cyclic_where style inputs out end (much, has) (made.Cyclic row log ring, h, is) = is.status
 cyclic_where style inputs out end (much, has) (made.Tall row log routing, h, is) = absurd (no_ring style.wiring (placement_of row) inputs.cell.pins (has row h.0.first).0 h.1.acyclic (has row h.0.first).1)
 cyclic_where style inputs out end (much, has) (made.Unfinished proved log, h, is) = absurd (spends_less inputs log proved much h)
 
 tall_where : (style : Style) (inputs : Inputs) (out : List ℕ) (end : End) → OfFirstLeast IsTooHigh style inputs out → MakesTo style inputs out end → end.status ≡ status.TooTall
-tall_where style inputs out end (much, high) (made.Made row log routing xs, h, is) = absurd (h.fits ((high row h.found.first).tall routing h.routed))
+tall_where style inputs out end (much, high) (made.Made row log routing xs, h, is) = absurd (h.drawn.fits ((high row h.found.first).tall routing h.drawn.routed))
 tall_where style inputs out end (much, high) (made.Cyclic row log ring, h, is) = absurd (no_ring style.wiring (placement_of row) inputs.cell.pins ring (high row h.0.first).acyclic (ring_is style.wiring (placement_of row) inputs.cell.pins ring h.1))
 tall_where style inputs out end (much, high) (made.Tall row log routing, h, is) = is.status
 tall_where style inputs out end (much, high) (made.Unfinished proved log, h, is) = absurd (spends_less inputs log proved much h)

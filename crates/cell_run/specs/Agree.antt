@@ -58,8 +58,9 @@ HasDisagreement files form = IsRefusedBy IsLefFault files form ⊎ OfCompared fi
 abbrev pub HasNoNets : Files → Option Form → Type 0
 HasNoNets files form = IsRefusedBy IsGdsFault files form ⊎ OfCompared files form (HasDifference IsUnextracted)
 
--- The words ask for a comparison of the files of a drawn row, in any style and with any evidence: the technology is that of its inputs, CELL
--- is its name, the GDSII file is its library and the LEF file its abstract. Both are within the limit of such a file.
+-- The words ask for a comparison of the files of a drawn row, in any style and with any evidence: the technology is
+-- that of its inputs, CELL is its name, the GDSII file is its library and the LEF file its abstract. Both are within
+-- the limit of such a file.
 pub record ComparesMade (files : Files) (form : Option Form) : Type 0 where
   pub style : Style
   pub inputs : Inputs

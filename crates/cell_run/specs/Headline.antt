@@ -150,8 +150,8 @@ pub record IsMadeCell (evidence : Evidence) (style : Style) (inputs : Inputs) (o
   -- deck: its pins are labels, each cell of a port is in its pin's net, and all other metal is in an obstruction.
   pub agrees :
       IsAbstractOf layout.shapes inputs.cell.name (unit_nm inputs.tech) (abstract_of inputs routing drawing)
-  -- The library stands in `OUT.gds`, the text of a log in `OUT.clog`, or of a certificate by trails in `OUT.ctrail`, and
-  -- in `OUT.lef` the macro of the cell with these ports, obstructions and this size.
+  -- The library stands in `OUT.gds`, the text of a log in `OUT.clog`, or of a certificate by trails in `OUT.ctrail`,
+  -- and in `OUT.lef` the macro of the cell with these ports, obstructions and this size.
   pub files :
       Both (HasCell (evidence_name evidence out) out (evidence_text evidence inputs.cell.name certificate)
       (library_of inputs layout) (abstract_of inputs routing drawing)) old.made new.made

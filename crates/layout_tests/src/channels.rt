@@ -1,49 +1,63 @@
 // The channel between the rows, and the least lines of a row that is routed so.
-ghost use Rattle.std.specs.Prelude.{◌≡◌, ◌≤◌};
-ghost use Rattle.row_place.specs.Places.{IsPlacement};
+ghost use Rattle.std.specs.Prelude.{◌≤◌, All, length};
+ghost use Rattle.row_model.specs.Arrangement.{IsColumn};
 
 use crate::cells::lines;
 use crate::columns::{both, n_alone, p_alone, placed, rails_at};
 use crate::pin_places::have_places;
-use cell_num::{NetNo, Pins};
+use cell_num::{MOST_COLUMNS, NetNo};
 use channel_route::{Constraint, RouteStop, Routing, Trunk, constraints, route, wires};
 use row_compact::{LineXs, even_lines};
-use row_place::Placement;
-use std::alloc::{AllocError, Global};
+use row_model::Column;
+use std::alloc::Global;
 use std::test::Fail;
 
 // A pin without a place gives NoMemory, which no row of the tests expects.
-fn routed(alloc: Global, placement: &Placement, pins: &Pins) -> Result<Routing, RouteStop>
-    requires { IsPlacement placement.now }
+fn routed(alloc: Global, columns: &[Column], vdd: u32) -> Result<Routing, RouteStop>
+    requires columns { All IsColumn columns.now }
+    requires few { length columns.now ≤ MOST_COLUMNS }
+    requires vdd { vdd ≤ 100 }
 {
-    if !have_places(placement, pins) {
+    let Ok(row) = placed(alloc, columns) else {
+        return Err(RouteStop::NoMemory);
+    };
+    let pins = rails_at(vdd);
+    if !have_places(&row, &pins) {
         return Err(RouteStop::NoMemory);
     }
-    route(alloc, placement, pins)
+    route(alloc, &row, &pins)
 }
 
 // A pin without a place gives no constraints, which no row of the tests expects.
-fn above(alloc: Global, placement: &Placement, pins: &Pins) -> Result<Vec<Constraint>, AllocError>
-    requires { IsPlacement placement.now }
+fn above(alloc: Global, columns: &[Column], vdd: u32) -> Result<Vec<Constraint>, Fail>
+    requires columns { All IsColumn columns.now }
+    requires few { length columns.now ≤ MOST_COLUMNS }
+    requires vdd { vdd ≤ 100 }
 {
-    if !have_places(placement, pins) {
+    let row = placed(alloc, columns)?;
+    let pins = rails_at(vdd);
+    if !have_places(&row, &pins) {
         return Ok(Vec::new(alloc));
     }
-    let wires = wires(alloc, placement, pins)?;
-    constraints(alloc, &wires, placement.nodes.as_slice())
+    let wires = wires(alloc, &row, &pins)?;
+    Ok(constraints(alloc, &wires, row.nodes.as_slice())?)
 }
 
 // The least lines of a row that is routed.
-fn least(alloc: Global, placement: &Placement, pins: &Pins) -> Result<LineXs, Fail>
-    requires { IsPlacement placement.now }
+fn least(alloc: Global, columns: &[Column], vdd: u32) -> Result<LineXs, Fail>
+    requires columns { All IsColumn columns.now }
+    requires few { length columns.now ≤ MOST_COLUMNS }
+    requires vdd { vdd ≤ 100 }
 {
-    if !have_places(placement, pins) {
+    let row = placed(alloc, columns)?;
+    let pins = rails_at(vdd);
+    if !have_places(&row, &pins) {
         return Err(Fail::from("a pin without a place"));
     }
-    let Ok(routing) = route(alloc, placement, pins) else {
+    let Ok(routing) = route(alloc, &row, &pins) else {
         return Err(Fail::from("no routing"));
     };
-    Ok(lines(alloc, placement, &routing, pins, true)?)
+    Ok(lines(alloc, &row, &routing, &pins, true)?)
 }
 
 fn trunk(net: u32, left: u32, right: u32, track: u32) -> Trunk {
@@ -81,26 +95,28 @@ fn are_above(constraints: &[Constraint], want: &[(u32, u32, u32)]) -> bool {
             && constraint.line == want.2)
 }
 
+// Pins a y vdd gnd.
+fn inverter() -> Column
+    ensures { IsColumn result }
+{
+    both(0, (1, 2), (1, 3))
+}
+
 #[test]
 fn routes_rows(rt: HostRuntime) -> Result<(), Fail> {
-    // pins a y vdd gnd
-    let inverter = placed(rt.alloc(), &[both(0, (1, 2), (1, 3))])?;
     assert!(rt;
         is_routing(
-            &routed(rt.alloc(), &inverter, &rails_at(2)),
+            &routed(rt.alloc(), &[inverter()], 2),
             1,
             &[trunk(0, 1, 1, 0), trunk(1, 0, 0, 0)]
         ),
         "inverter"
     );
-    // pins a b y vdd gnd, and the inner net 5, which has no trunk; b's fingers are flipped
-    let nand = placed(
-        rt.alloc(),
-        &[both(0, (2, 3), (2, 5)), both(1, (3, 2), (5, 4))],
-    )?;
+    // pins a b y vdd gnd, and the inner net 5, which has no trunk; the fingers of b are flipped
+    let nand = [both(0, (2, 3), (2, 5)), both(1, (3, 2), (5, 4))];
     assert!(rt;
         is_routing(
-            &routed(rt.alloc(), &nand, &rails_at(3)),
+            &routed(rt.alloc(), &nand, 3),
             2,
             &[trunk(0, 1, 1, 1), trunk(1, 3, 3, 1), trunk(2, 0, 4, 0)]
         ),
@@ -109,15 +125,25 @@ fn routes_rows(rt: HostRuntime) -> Result<(), Fail> {
     Ok(())
 }
 
+// The inner net of the NAND has no contact.
+#[test]
+fn puts_rows_on_lines(rt: HostRuntime) -> Result<(), Fail> {
+    let alloc = rt.alloc();
+    assert!(rt; least(alloc, &[inverter()], 2)?.as_slice() == [8, 22, 33].as_slice());
+    let nand = [both(0, (2, 3), (2, 5)), both(1, (3, 2), (5, 4))];
+    assert!(rt; least(alloc, &nand, 3)?.as_slice() == [8, 19, 30, 41, 52].as_slice());
+    assert!(rt; even_lines(alloc, 3)?.as_slice() == [8, 22, 36].as_slice());
+    Ok(())
+}
+
 // Pins a b c cn vdd gnd: a stands above b at line 2.
 #[test]
 fn routes_a_transmission_gate(rt: HostRuntime) -> Result<(), Fail> {
-    let gate = placed(rt.alloc(), &[n_alone(2, (0, 1)), p_alone(3, (0, 1))])?;
-    let pins = rails_at(4);
-    assert!(rt; are_above(&above(rt.alloc(), &gate, &pins)?, &[(0, 1, 2)]));
+    let gate = [n_alone(2, (0, 1)), p_alone(3, (0, 1))];
+    assert!(rt; are_above(&above(rt.alloc(), &gate, 4)?, &[(0, 1, 2)]));
     assert!(rt;
         is_routing(
-            &routed(rt.alloc(), &gate, &pins),
+            &routed(rt.alloc(), &gate, 4),
             2,
             &[
                 trunk(0, 0, 2, 1),
@@ -133,22 +159,18 @@ fn routes_a_transmission_gate(rt: HostRuntime) -> Result<(), Fail> {
 // Pins e d q vdd gnd, then en p1 m n1: p1 stands above m at line 6. Seven fingers are flipped.
 #[test]
 fn routes_a_latch(rt: HostRuntime) -> Result<(), Fail> {
-    let latch = placed(
-        rt.alloc(),
-        &[
-            both(0, (5, 3), (5, 4)),
-            both(1, (3, 6), (4, 8)),
-            n_alone(0, (8, 7)),
-            p_alone(5, (6, 7)),
-            both(2, (7, 3), (7, 4)),
-            both(7, (3, 2), (4, 2)),
-        ],
-    )?;
-    let pins = rails_at(3);
-    assert!(rt; are_above(&above(rt.alloc(), &latch, &pins)?, &[(6, 7, 6)]));
+    let latch = [
+        both(0, (5, 3), (5, 4)),
+        both(1, (3, 6), (4, 8)),
+        n_alone(0, (8, 7)),
+        p_alone(5, (6, 7)),
+        both(2, (7, 3), (7, 4)),
+        both(7, (3, 2), (4, 2)),
+    ];
+    assert!(rt; are_above(&above(rt.alloc(), &latch, 3)?, &[(6, 7, 6)]));
     assert!(rt;
         is_routing(
-            &routed(rt.alloc(), &latch, &pins),
+            &routed(rt.alloc(), &latch, 3),
             3,
             &[
                 trunk(0, 1, 5, 1),
@@ -166,24 +188,7 @@ fn routes_a_latch(rt: HostRuntime) -> Result<(), Fail> {
 // Pins x y u v s t a b vdd gnd: x stands above y at line 0, y above x at line 4.
 #[test]
 fn finds_the_cycle(rt: HostRuntime) -> Result<(), Fail> {
-    let row = placed(
-        rt.alloc(),
-        &[both(6, (0, 2), (1, 3)), both(7, (1, 4), (0, 5))],
-    )?;
-    assert!(rt; is_cycle(&routed(rt.alloc(), &row, &rails_at(8)), &[(0, 0), (1, 4)]));
-    Ok(())
-}
-
-// The inverter and the NAND of two inputs of above, whose inner net has no contact.
-#[test]
-fn puts_rows_on_lines(rt: HostRuntime) -> Result<(), Fail> {
-    let alloc = rt.alloc();
-    let inverter = placed(alloc, &[both(0, (1, 2), (1, 3))])?;
-    let xs = least(alloc, &inverter, &rails_at(2))?;
-    assert!(rt; xs.as_slice() == [8, 22, 33].as_slice());
-    let nand = placed(alloc, &[both(0, (2, 3), (2, 5)), both(1, (3, 2), (5, 4))])?;
-    let xs = least(alloc, &nand, &rails_at(3))?;
-    assert!(rt; xs.as_slice() == [8, 19, 30, 41, 52].as_slice());
-    assert!(rt; even_lines(alloc, 3)?.as_slice() == [8, 22, 36].as_slice());
+    let row = [both(6, (0, 2), (1, 3)), both(7, (1, 4), (0, 5))];
+    assert!(rt; is_cycle(&routed(rt.alloc(), &row, 8), &[(0, 0), (1, 4)]));
     Ok(())
 }

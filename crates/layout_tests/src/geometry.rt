@@ -2,6 +2,8 @@ use crate::drawings::{Sides, rect, shapes_of};
 use box_geom::{
     Block, Cuts, Layer, Place, Region, Slab, Slabs, XRange, covered, facing_gap, touches,
 };
+use cell_num::NoMemory;
+use std::alloc::Global;
 use std::test::Fail;
 
 // Squares of ten by ten: whether they touch the middle one, and how far their facing edges lie apart. They are
@@ -70,24 +72,45 @@ fn block(x1: i32, y1: i32, x2: i32, y2: i32) -> Block {
     Block { x1, y1, x2, y2 }
 }
 
+// The angle or the bar.
+fn region(alloc: Global, layer: Layer) -> Result<Region, Fail> {
+    let shapes = shapes_of(alloc, &ANGLE_AND_BAR)?;
+    Ok(Region::of(alloc, &shapes, layer)?)
+}
+
+fn has_blocks(region: &Region, want: &[Block]) -> bool {
+    region.blocks() == want
+}
+
+fn is_both(alloc: Global, one: &Region, other: &Region, want: &[Block]) -> Result<bool, NoMemory> {
+    Ok(one.both(alloc, other)?.blocks() == want)
+}
+
+fn is_minus(alloc: Global, one: &Region, other: &Region, want: &[Block]) -> Result<bool, NoMemory> {
+    let left = one.minus(alloc, other)?;
+    Ok(left.blocks() == want && left.is_empty() == want.is_empty())
+}
+
+fn is_turned(alloc: Global, region: &Region, want: &[Block]) -> Result<bool, NoMemory> {
+    Ok(region.turned(alloc)?.blocks() == want)
+}
+
+// The first cell of the cells two around.
+fn first_around(alloc: Global, region: &Region) -> Result<Option<Place>, NoMemory> {
+    Ok(region.grown(alloc, 2)?.first_cell())
+}
+
 #[test]
 fn regions_put_together(rt: HostRuntime) -> Result<(), Fail> {
     let alloc = rt.alloc();
-    let shapes = shapes_of(alloc, &ANGLE_AND_BAR)?;
-    let angle = Region::of(alloc, &shapes, Layer::Metal1)?;
-    let bar = Region::of(alloc, &shapes, Layer::Poly)?;
-    assert!(rt;
-        angle.blocks() == [block(0, 0, 10, 2), block(0, 2, 4, 5), block(0, 5, 2, 8)].as_slice()
-    );
-    assert!(rt;
-        angle.both(alloc, &bar)?.blocks() == [block(1, 4, 4, 5), block(1, 5, 2, 6)].as_slice()
-    );
-    assert!(rt;
-        bar.minus(alloc, &angle)?.blocks() == [block(4, 4, 6, 5), block(2, 5, 6, 6)].as_slice()
-    );
-    assert!(rt; bar.turned(alloc)?.blocks() == [block(4, 1, 6, 6)].as_slice());
-    let first = bar.grown(alloc, 2)?.first_cell();
-    assert!(rt; first == Some(Place { x: -1, y: 2 }));
-    assert!(rt; bar.minus(alloc, &bar)?.is_empty());
+    let angle = region(alloc, Layer::Metal1)?;
+    let bar = region(alloc, Layer::Poly)?;
+    let blocks = [block(0, 0, 10, 2), block(0, 2, 4, 5), block(0, 5, 2, 8)];
+    assert!(rt; has_blocks(&angle, &blocks));
+    assert!(rt; is_both(alloc, &angle, &bar, &[block(1, 4, 4, 5), block(1, 5, 2, 6)])?);
+    assert!(rt; is_minus(alloc, &bar, &angle, &[block(4, 4, 6, 5), block(2, 5, 6, 6)])?);
+    assert!(rt; is_turned(alloc, &bar, &[block(4, 1, 6, 6)])?);
+    assert!(rt; first_around(alloc, &bar)? == Some(Place { x: -1, y: 2 }));
+    assert!(rt; is_minus(alloc, &bar, &bar, &[])?);
     Ok(())
 }

@@ -4,7 +4,7 @@ ghost use Rattle.cell_draw.specs.Sound.{IsSoundRow};
 
 use crate::cells::{COLUMN, Cell, PINS, are_labels, are_shapes, drawn, sides};
 use box_geom::{Layer, Shape};
-use cell_draw::DrawFault;
+use cell_draw::{DrawFault, Drawing, MOST_HEIGHT};
 use cell_num::{Names, NoMemory, copy};
 use row_model::Arrangement;
 use std::alloc::Global;
@@ -89,28 +89,40 @@ fn is_high(rects: &[Shape]) -> bool {
     })
 }
 
+// The inverter on its least or on even lines, of this height.
+fn drawing(alloc: Global, are_least: bool, height: u32) -> Result<Result<Drawing, DrawFault>, Fail>
+    requires { height ≤ MOST_HEIGHT }
+{
+    drawn(alloc, &inverter(alloc)?, are_least, height)
+}
+
 #[test]
 fn draws_an_inverter(rt: HostRuntime) -> Result<(), Fail> {
-    let cell = inverter(rt.alloc())?;
-    let drawing = drawn(rt.alloc(), &cell, false, 0)??;
+    let drawing = drawing(rt.alloc(), false, 0)??;
     assert_eq!(rt; (drawing.width, drawing.height), (44, 118));
     assert!(rt; are_shapes(drawing.shapes.rects.as_slice(), &EVEN));
     assert!(rt; are_labels(drawing.shapes.labels.as_slice(), &NAMED));
     Ok(())
 }
 
+// Whether the inverter on its least lines is of this height.
+fn is_as_high(alloc: Global, height: u32) -> Result<bool, Fail>
+    requires { height ≤ MOST_HEIGHT }
+{
+    let drawing = drawing(alloc, true, height)??;
+    Ok(drawing.width == 41 && drawing.height == height)
+}
+
 #[test]
 fn draws_a_high_inverter(rt: HostRuntime) -> Result<(), Fail> {
-    let cell = inverter(rt.alloc())?;
-    let drawing = drawn(rt.alloc(), &cell, true, 130)??;
-    assert_eq!(rt; (drawing.width, drawing.height), (41, 130));
-    assert!(rt; is_high(drawing.shapes.rects.as_slice()));
-    let drawing = drawn(rt.alloc(), &cell, true, 118)??;
-    assert_eq!(rt; (drawing.width, drawing.height), (41, 118));
-    let fault = drawn(rt.alloc(), &cell, true, 117)?;
+    let alloc = rt.alloc();
+    assert!(rt; is_as_high(alloc, 118)?);
+    assert!(rt; is_as_high(alloc, 130)?);
+    let high = drawing(alloc, true, 130)??;
+    assert!(rt; is_high(high.shapes.rects.as_slice()));
     assert!(rt;
         matches!(
-            fault,
+            drawing(alloc, true, 117)?,
             Err(DrawFault::TooTall {
                 needed: 118,
                 given: 117

@@ -110,15 +110,24 @@ fn refuses(
     Ok(read == Err(fault))
 }
 
+fn written(alloc: Global) -> Result<Vec<u8>, Fail> {
+    let mut name = Name::new(alloc);
+    name.extend(b"inv")?;
+    Ok(write_cell(alloc, &name, &drawing(alloc)?, 150)?)
+}
+
+// Whether what is read is what was written.
+fn is_read_again(alloc: Global, bytes: &[u8]) -> Result<bool, Fail> {
+    let read = read(alloc, bytes, b"inv", 300)?;
+    Ok(read == Ok(drawing(alloc)?))
+}
+
 #[test]
 fn well_and_label(rt: HostRuntime) -> Result<(), Fail> {
     let alloc = rt.alloc();
-    let mut name = Name::new(alloc);
-    name.extend(b"inv")?;
-    let shapes = drawing(alloc)?;
-    let bytes = write_cell(alloc, &name, &shapes, 150)?;
+    let bytes = written(alloc)?;
     assert!(rt; bytes == library(alloc, &ELEMENTS)?);
-    assert!(rt; read(alloc, &bytes, b"inv", 300)? == Ok(shapes));
+    assert!(rt; is_read_again(alloc, &bytes)?);
     assert!(rt; refuses(alloc, &bytes, b"inv", 280, GdsFault::Grid { at: 118 })?);
     assert!(rt; refuses(alloc, &bytes, b"in", 300, GdsFault::NoCell)?);
     Ok(())

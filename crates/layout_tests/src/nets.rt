@@ -87,28 +87,48 @@ fn an_inverter(rt: HostRuntime) -> Result<(), Fail> {
     Ok(())
 }
 
-// The nets of the same inverter by cells, by labels and by numbers. A name that is no label is not found.
-#[test]
-fn nets_of_an_inverter(rt: HostRuntime) -> Result<(), Fail> {
-    let alloc = rt.alloc();
+// The nets of the same inverter.
+fn map(alloc: Global) -> Result<NetMap, Fail> {
     let labels = [
         (b'y', Layer::Metal2, 15, 3),
         (b'g', Layer::Metal1, 3, 3),
         (b'y', Layer::Metal1, 21, 9),
     ];
-    let Ok(map) = NetMap::new(alloc, &drawing(alloc, &INVERTER, &labels)?) else {
-        return Err(Fail::from("refused"));
-    };
-    assert_eq!(rt; map.net_of(Layer::Metal2, 20, 30), Some(2));
-    assert_eq!(rt; map.net_of(Layer::Metal2, 21, 30), None);
-    assert_eq!(rt; map.net_of(Layer::Active, 2, 24), Some(3));
-    assert_eq!(rt; map.net_named(b"g"), Some(1));
-    assert_eq!(rt; map.net_named(b"_0"), None);
-    let Some(net) = map.net_of(Layer::Poly, 10, 0) else {
-        return Err(Fail::from("no net"));
-    };
-    assert!(rt; map.name(net).as_slice() == b"_0".as_slice());
-    let blocks = map.pieces(alloc, 2, Layer::Metal1)?;
+    match NetMap::new(alloc, &drawing(alloc, &INVERTER, &labels)?) {
+        Ok(map) => Ok(map),
+        Err(_) => Err(Fail::from("refused")),
+    }
+}
+
+fn has_net(map: &NetMap, layer: Layer, [x, y]: [i32; 2], want: Option<u32>) -> bool {
+    map.net_of(layer, x, y) == want
+}
+
+fn names_net(map: &NetMap, name: &[u8], want: Option<u32>) -> bool {
+    map.net_named(name) == want
+}
+
+fn is_named(map: &NetMap, layer: Layer, [x, y]: [i32; 2], want: &[u8]) -> bool {
+    match map.net_of(layer, x, y) {
+        Some(net) => map.name(net).as_slice() == want,
+        None => false,
+    }
+}
+
+fn has_pieces(alloc: Global, map: &NetMap, net: u32, want: &[Block]) -> Result<bool, Fail> {
+    Ok(map.pieces(alloc, net, Layer::Metal1)?.as_slice() == want)
+}
+
+// By cells, by labels and by numbers. A name that is no label is not found.
+#[test]
+fn nets_of_an_inverter(rt: HostRuntime) -> Result<(), Fail> {
+    let map = map(rt.alloc())?;
+    assert!(rt; has_net(&map, Layer::Metal2, [20, 30], Some(2)));
+    assert!(rt; has_net(&map, Layer::Metal2, [21, 30], None));
+    assert!(rt; has_net(&map, Layer::Active, [2, 24], Some(3)));
+    assert!(rt; names_net(&map, b"g", Some(1)));
+    assert!(rt; names_net(&map, b"_0", None));
+    assert!(rt; is_named(&map, Layer::Poly, [10, 0], b"_0"));
     let lower = Block {
         x1: 15,
         y1: 3,
@@ -120,7 +140,7 @@ fn nets_of_an_inverter(rt: HostRuntime) -> Result<(), Fail> {
         y2: 31,
         ..lower
     };
-    assert!(rt; blocks.as_slice() == [lower, upper].as_slice());
+    assert!(rt; has_pieces(rt.alloc(), &map, 2, &[lower, upper])?);
     Ok(())
 }
 
@@ -134,31 +154,39 @@ fn refuses(
     Ok(extract(alloc, &shapes).err() == Some(fault))
 }
 
-// One label in two nets, two labels in one, a label off the conductor, and a gate with an end on diffusion.
+// One label in two nets, two labels in one, and a label off the conductor.
 #[test]
-fn refused_drawings(rt: HostRuntime) -> Result<(), Fail> {
+fn refused_labels(rt: HostRuntime) -> Result<(), Fail> {
     let alloc = rt.alloc();
     let name = named(alloc, b'a')?;
     let labels = [(b'a', Layer::Metal1, 15, 3), (b'a', Layer::Poly, 10, 0)];
     assert!(rt; refuses(alloc, &INVERTER, &labels, ExtractFault::Split { name })?);
-    let one = named(alloc, b'y')?;
-    let other = named(alloc, b'q')?;
+    let fault = ExtractFault::Short {
+        one: named(alloc, b'y')?,
+        other: named(alloc, b'q')?,
+    };
     let labels = [(b'y', Layer::Metal1, 15, 3), (b'q', Layer::Metal1, 15, 25)];
-    assert!(rt;
-        refuses(
-            alloc,
-            &INVERTER,
-            &labels,
-            ExtractFault::Short { one, other }
-        )?
-    );
+    assert!(rt; refuses(alloc, &INVERTER, &labels, fault)?);
     let name = named(alloc, b's')?;
     let labels = [(b's', Layer::Metal1, 60, 54)];
     assert!(rt; refuses(alloc, &INVERTER, &labels, ExtractFault::Stray { name })?);
+    Ok(())
+}
+
+// A gate with an end on diffusion.
+#[test]
+fn refused_devices(rt: HostRuntime) -> Result<(), Fail> {
     let gate = [
         (Layer::Active, [0, 0, 10, 10]),
         (Layer::Poly, [4, 2, 8, 12]),
     ];
-    assert!(rt; refuses(alloc, &gate, &[], ExtractFault::OddDevice { x: 4, y: 2 })?);
+    assert!(rt;
+        refuses(
+            rt.alloc(),
+            &gate,
+            &[],
+            ExtractFault::OddDevice { x: 4, y: 2 }
+        )?
+    );
     Ok(())
 }

@@ -1,26 +1,30 @@
 // Channels that are routed in pieces.
 
-ghost use Rattle.std.specs.Prelude.{◌≤◌};
-ghost use Rattle.row_place.specs.Places.{IsPlacement};
+ghost use Rattle.std.specs.Prelude.{◌≤◌, All, length};
+ghost use Rattle.row_model.specs.Arrangement.{IsColumn};
 
 use crate::columns::{both, placed, rails_at};
 use crate::pin_places::have_places;
-use cell_num::NetNo;
+use cell_num::{MOST_COLUMNS, NetNo};
 use dogleg_route::{Piece, PieceRouting, PieceStop, route_pieces};
-use row_place::Placement;
+use row_model::Column;
 use std::alloc::Global;
 use std::test::Fail;
 
 // A pin without a place gives NoMemory, which no row of the tests expects.
-fn routed(alloc: Global, placement: &Placement, vdd: u32) -> Result<PieceRouting, PieceStop>
-    requires placement { IsPlacement placement.now }
+fn routed(alloc: Global, columns: &[Column], vdd: u32) -> Result<PieceRouting, PieceStop>
+    requires columns { All IsColumn columns.now }
+    requires few { length columns.now ≤ MOST_COLUMNS }
     requires vdd { vdd ≤ 100 }
 {
+    let Ok(row) = placed(alloc, columns) else {
+        return Err(PieceStop::NoMemory);
+    };
     let pins = rails_at(vdd);
-    if !have_places(placement, &pins) {
+    if !have_places(&row, &pins) {
         return Err(PieceStop::NoMemory);
     }
-    route_pieces(alloc, placement, &pins)
+    route_pieces(alloc, &row, &pins)
 }
 
 fn piece(net: u32, left: u32, right: u32, track: u32) -> Piece {
@@ -55,13 +59,13 @@ fn is_cycle(answer: &Result<PieceRouting, PieceStop>, entries: &[(u32, u32, u32)
 // Pins s0 s1 vdd gnd.
 #[test]
 fn routes_where_trunks_have_a_cycle(rt: HostRuntime) -> Result<(), Fail> {
-    let row = placed(
-        rt.alloc(),
-        &[both(1, (0, 0), (1, 0)), both(0, (0, 1), (0, 0))],
-    )?;
     assert!(rt;
         is_routing(
-            &routed(rt.alloc(), &row, 2),
+            &routed(
+                rt.alloc(),
+                &[both(1, (0, 0), (1, 0)), both(0, (0, 1), (0, 0))],
+                2
+            ),
             3,
             &[piece(0, 0, 2, 2), piece(0, 2, 4, 0), piece(1, 0, 4, 1)]
         )
@@ -72,13 +76,13 @@ fn routes_where_trunks_have_a_cycle(rt: HostRuntime) -> Result<(), Fail> {
 // At line 2 the N place of s0 goes up to track 1, its P place down to track 0.
 #[test]
 fn routes_in_two_pieces(rt: HostRuntime) -> Result<(), Fail> {
-    let row = placed(
-        rt.alloc(),
-        &[both(0, (0, 0), (1, 0)), both(0, (0, 2), (0, 3))],
-    )?;
     assert!(rt;
         is_routing(
-            &routed(rt.alloc(), &row, 2),
+            &routed(
+                rt.alloc(),
+                &[both(0, (0, 0), (1, 0)), both(0, (0, 2), (0, 3))],
+                2
+            ),
             2,
             &[piece(0, 0, 2, 1), piece(0, 2, 3, 0), piece(1, 0, 0, 0)]
         )
@@ -90,13 +94,13 @@ fn routes_in_two_pieces(rt: HostRuntime) -> Result<(), Fail> {
 #[test]
 fn routes_on_other_numbers_of_tracks(rt: HostRuntime) -> Result<(), Fail> {
     // pins s0 s1 s2 vdd gnd: trunks need 3
-    let fewer = placed(
-        rt.alloc(),
-        &[both(2, (2, 2), (0, 2)), both(2, (2, 1), (2, 2))],
-    )?;
     assert!(rt;
         is_routing(
-            &routed(rt.alloc(), &fewer, 3),
+            &routed(
+                rt.alloc(),
+                &[both(2, (2, 2), (0, 2)), both(2, (2, 1), (2, 2))],
+                3
+            ),
             2,
             &[
                 piece(0, 0, 0, 0),
@@ -108,13 +112,13 @@ fn routes_on_other_numbers_of_tracks(rt: HostRuntime) -> Result<(), Fail> {
         "fewer"
     );
     // pins s0 s1 vdd gnd: trunks need 2
-    let more = placed(
-        rt.alloc(),
-        &[both(0, (1, 1), (3, 1)), both(0, (2, 1), (1, 0))],
-    )?;
     assert!(rt;
         is_routing(
-            &routed(rt.alloc(), &more, 2),
+            &routed(
+                rt.alloc(),
+                &[both(0, (1, 1), (3, 1)), both(0, (2, 1), (1, 0))],
+                2
+            ),
             3,
             &[
                 piece(0, 1, 6, 1),
@@ -131,13 +135,13 @@ fn routes_on_other_numbers_of_tracks(rt: HostRuntime) -> Result<(), Fail> {
 // Pins s1 vdd gnd, and the inner net 3: no net stands above another, and net 3 is on two tracks.
 #[test]
 fn routes_with_nothing_above(rt: HostRuntime) -> Result<(), Fail> {
-    let row = placed(
-        rt.alloc(),
-        &[both(3, (1, 0), (0, 0)), both(3, (3, 1), (2, 2))],
-    )?;
     assert!(rt;
         is_routing(
-            &routed(rt.alloc(), &row, 1),
+            &routed(
+                rt.alloc(),
+                &[both(3, (1, 0), (0, 0)), both(3, (3, 1), (2, 2))],
+                1
+            ),
             2,
             &[piece(0, 0, 2, 0), piece(3, 1, 4, 1), piece(3, 4, 5, 0)]
         )
@@ -149,36 +153,38 @@ fn routes_with_nothing_above(rt: HostRuntime) -> Result<(), Fail> {
 #[test]
 fn finds_cycles_of_pieces(rt: HostRuntime) -> Result<(), Fail> {
     // it passes s0 twice
-    let twice = placed(
-        rt.alloc(),
-        &[
-            both(0, (1, 1), (1, 0)),
-            both(4, (0, 0), (4, 0)),
-            both(4, (0, 4), (1, 0)),
-        ],
-    )?;
     assert!(rt;
         is_cycle(
-            &routed(rt.alloc(), &twice, 2),
+            &routed(
+                rt.alloc(),
+                &[
+                    both(0, (1, 1), (1, 0)),
+                    both(4, (0, 0), (4, 0)),
+                    both(4, (0, 4), (1, 0)),
+                ],
+                2
+            ),
             &[(0, 2, 4), (4, 4, 10), (0, 8, 8), (1, 2, 2)]
         ),
         "twice"
     );
-    let three = placed(
-        rt.alloc(),
-        &[both(4, (1, 4), (0, 1)), both(0, (2, 0), (1, 4))],
-    )?;
     assert!(rt;
         is_cycle(
-            &routed(rt.alloc(), &three, 2),
+            &routed(
+                rt.alloc(),
+                &[both(4, (1, 4), (0, 1)), both(0, (2, 0), (1, 4))],
+                2
+            ),
             &[(1, 0, 0), (0, 0, 6), (4, 2, 2)]
         ),
         "three"
     );
     // they meet at a right end
-    let one = placed(rt.alloc(), &[both(1, (1, 0), (0, 1))])?;
     assert!(rt;
-        is_cycle(&routed(rt.alloc(), &one, 2), &[(0, 0, 2), (1, 0, 0)]),
+        is_cycle(
+            &routed(rt.alloc(), &[both(1, (1, 0), (0, 1))], 2),
+            &[(0, 0, 2), (1, 0, 0)]
+        ),
         "one column"
     );
     Ok(())

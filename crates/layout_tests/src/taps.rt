@@ -8,7 +8,7 @@ use box_geom::{Layer, ShapeList, Shapes};
 use cell_draw::{Drawing, MOST_X, draw};
 use cell_num::NoMemory;
 use channel_route::route;
-use net_extract::extract_bodies;
+use net_extract::{Netlist, extract_bodies};
 use row_compact::{lines_of, x_of};
 use row_place::place;
 use scmos_rules::{RuleNo, Rules, Violation, violations};
@@ -34,6 +34,10 @@ fn tapped(alloc: Global, cell: &Cell) -> Result<Drawing, Fail>
         return Err(Fail::from(NoMemory));
     }
     Ok(draw_taps(alloc, &base, &xs)?)
+}
+
+fn tapped_inverter(alloc: Global) -> Result<Drawing, Fail> {
+    tapped(alloc, &inverter(alloc)?)
 }
 
 const TAPS: [(Layer, [i32; 4]); 12] = [
@@ -79,7 +83,7 @@ fn breaks_without(
 #[test]
 fn adds_taps_to_an_inverter(rt: HostRuntime) -> Result<(), Fail> {
     let alloc = rt.alloc();
-    let drawing = tapped(alloc, &inverter(alloc)?)?;
+    let drawing = tapped_inverter(alloc)?;
     let rects = drawing.shapes.rects.as_slice();
     assert_eq!(rt; (drawing.width, drawing.height, rects.len()), (41, 118, 41));
     assert!(rt; matches!(rects.first(), Some(shape) if sides(shape) == [-10, 62, 51, 122]));
@@ -88,19 +92,29 @@ fn adds_taps_to_an_inverter(rt: HostRuntime) -> Result<(), Fail> {
     Ok(())
 }
 
+fn is_named(netlist: &Netlist, net: usize, want: &[u8]) -> bool {
+    match netlist.names.get(net) {
+        Some(name) => name.as_slice() == want,
+        None => false,
+    }
+}
+
+// Whether the body of the N device is `gnd`, and that of the P device `vdd`.
+fn has_rails_as_bodies(alloc: Global, drawing: &Drawing) -> Result<bool, Fail> {
+    let read = extract_bodies(alloc, &drawing.shapes)?;
+    Ok(
+        read.bodies.as_slice() == [Some(0), Some(3)].as_slice()
+            && is_named(&read.netlist, 0, b"gnd")
+            && is_named(&read.netlist, 3, b"vdd"),
+    )
+}
+
 // The taps are bodies of the devices; without knowing of taps they are diffusion that breaks rules.
 #[test]
 fn bodies_of_an_inverter(rt: HostRuntime) -> Result<(), Fail> {
     let alloc = rt.alloc();
-    let drawing = tapped(alloc, &inverter(alloc)?)?;
-    let netlist = extract_bodies(alloc, &drawing.shapes)?;
-    assert!(rt; netlist.bodies.as_slice() == [Some(0), Some(3)].as_slice());
-    assert!(rt;
-        matches!(netlist.netlist.names.get(0), Some(name) if name.as_slice() == b"gnd".as_slice())
-    );
-    assert!(rt;
-        matches!(netlist.netlist.names.get(3), Some(name) if name.as_slice() == b"vdd".as_slice())
-    );
+    let drawing = tapped_inverter(alloc)?;
+    assert!(rt; has_rails_as_bodies(alloc, &drawing)?);
     let found = violations(alloc, &drawing.shapes, &Rules::profile())?;
     let want = [broken(RuleNo::N2_3, 3, 110), broken(RuleNo::N4_2, 3, 3)];
     assert!(rt; found.as_slice() == want.as_slice());
@@ -111,7 +125,7 @@ fn bodies_of_an_inverter(rt: HostRuntime) -> Result<(), Fail> {
 #[test]
 fn damaged_taps(rt: HostRuntime) -> Result<(), Fail> {
     let alloc = rt.alloc();
-    let drawing = tapped(alloc, &inverter(alloc)?)?;
+    let drawing = tapped_inverter(alloc)?;
     assert!(rt; breaks_without(alloc, &drawing, 41, &[])?);
     assert!(rt; breaks_without(alloc, &drawing, 29, &[broken(RuleNo::N5_2, 6, 6)])?);
     assert!(rt; breaks_without(alloc, &drawing, 30, &[broken(RuleNo::N4_2, 3, 3)])?);

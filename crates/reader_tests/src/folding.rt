@@ -85,44 +85,48 @@ fn tells(
     Ok(told.as_slice() == want.as_bytes())
 }
 
+const CUTS: [(&str, (u32, u32), &str); 10] = [
+    ("wmax_p = 20", (41, 20), "P 14 14 13 N 20"),
+    ("", (80, 20), "P 40 40 N 20"),
+    ("wmax_n = 12", (6, 13), "P 6 N 7 6"),
+    ("wmax_n = 400", (100, 401), "P 34 33 33 N 201 200"),
+    ("", (1281, 1280), "TooManyColumns { count: 33 }"),
+    ("", (1280, 1281), "TooManyColumns { count: 33 }"),
+    ("", (2560, 20), "TooManyColumns { count: 64 }"),
+    ("", (2561, 2601), "TooManyFingers { count: 65 }"),
+    ("", (20, 2601), "TooManyFingers { count: 66 }"),
+    (
+        "wmax_p = 12",
+        (100_000, 20),
+        "TooManyFingers { count: 8334 }",
+    ),
+];
+
 #[test]
 fn cuts_transistors(rt: HostRuntime) -> Result<(), Fail> {
-    for (limits, widths, want) in [
-        ("wmax_p = 20", (41, 20), "P 14 14 13 N 20"),
-        ("", (80, 20), "P 40 40 N 20"),
-        ("wmax_n = 12", (6, 13), "P 6 N 7 6"),
-        ("wmax_n = 400", (100, 401), "P 34 33 33 N 201 200"),
-        ("", (1281, 1280), "TooManyColumns { count: 33 }"),
-        ("", (1280, 1281), "TooManyColumns { count: 33 }"),
-        ("", (2560, 20), "TooManyColumns { count: 64 }"),
-        ("", (2561, 2601), "TooManyFingers { count: 65 }"),
-        ("", (20, 2601), "TooManyFingers { count: 66 }"),
-        (
-            "wmax_p = 12",
-            (100_000, 20),
-            "TooManyFingers { count: 8334 }",
-        ),
-    ] {
-        assert!(rt; tells(rt.alloc(), limits, widths, "", want)?, "{want}");
+    for (limits, widths, want) in &CUTS {
+        assert!(rt; tells(rt.alloc(), limits, *widths, "", want)?, "{want}");
     }
     Ok(())
 }
 
+const FINGERS: [(&str, u32, &str, &str); 9] = [
+    ("", 20, "nf=3", "P 7 7 6 N 10"),
+    ("wmax_p = 20", 41, "nf=2", "P 14 14 13 N 10"),
+    ("wmax_p = 20", 41, "nf=4", "P 11 10 10 10 N 10"),
+    ("", 12, "nf=2", "P 6 6 N 10"),
+    ("", 20, "m=2", "P 20 20 N 10"),
+    ("", 20, "m=2 nf=3", "P 7 7 6 7 7 6 N 10"),
+    ("", 41, "m=3", "P 21 20 21 20 21 20 N 10"),
+    ("", 20, "m=33", "TooManyColumns { count: 33 }"),
+    ("", 20, "m=22 nf=3", "TooManyFingers { count: 66 }"),
+];
+
 #[test]
 fn cuts_into_the_fingers_that_are_asked_for(rt: HostRuntime) -> Result<(), Fail> {
-    for (limits, width, more, want) in [
-        ("", 20, "nf=3", "P 7 7 6 N 10"),
-        ("wmax_p = 20", 41, "nf=2", "P 14 14 13 N 10"),
-        ("wmax_p = 20", 41, "nf=4", "P 11 10 10 10 N 10"),
-        ("", 12, "nf=2", "P 6 6 N 10"),
-        ("", 20, "m=2", "P 20 20 N 10"),
-        ("", 20, "m=2 nf=3", "P 7 7 6 7 7 6 N 10"),
-        ("", 41, "m=3", "P 21 20 21 20 21 20 N 10"),
-        ("", 20, "m=33", "TooManyColumns { count: 33 }"),
-        ("", 20, "m=22 nf=3", "TooManyFingers { count: 66 }"),
-    ] {
+    for (limits, width, more, want) in &FINGERS {
         assert!(rt;
-            tells(rt.alloc(), limits, (width, 10), more, want)?,
+            tells(rt.alloc(), limits, (*width, 10), more, want)?,
             "{limits} {width} {more}"
         );
     }

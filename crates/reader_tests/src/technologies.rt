@@ -1,4 +1,4 @@
-use cell_num::{Name, Names};
+use cell_num::{Name, Names, NoMemory};
 use std::alloc::{AllocError, Global};
 use std::test::Fail;
 use tech_file::{Tech, TechFault, read_tech};
@@ -40,17 +40,30 @@ fn put_key(told: &mut Vec<u8>, what: &[u8], name: &Name) -> Result<(), AllocErro
     told.extend_from_slice(name.as_slice())
 }
 
-fn put_fault(alloc: Global, told: &mut Vec<u8>, fault: TechFault) -> Result<(), AllocError> {
+fn put_range(alloc: Global, told: &mut Vec<u8>, name: &Name, value: i64) -> Result<(), AllocError> {
+    let value = format!(in alloc; " {value}")?;
+    put_key(told, b"Range ", name)?;
+    told.extend_from_slice(value.as_bytes())
+}
+
+fn put_fault(alloc: Global, told: &mut Vec<u8>, fault: &TechFault) -> Result<(), AllocError> {
     match fault {
-        TechFault::Key { name } => put_key(told, b"Key ", &name),
-        TechFault::Form { name } => put_key(told, b"Form ", &name),
-        TechFault::Range { name, value } => {
-            let value = format!(in alloc; " {value}")?;
-            put_key(told, b"Range ", &name)?;
-            told.extend_from_slice(value.as_bytes())
-        }
+        TechFault::Key { name } => put_key(told, b"Key ", name),
+        TechFault::Form { name } => put_key(told, b"Form ", name),
+        TechFault::Range { name, value } => put_range(alloc, told, name, *value),
         TechFault::Text => told.extend_from_slice(b"Text"),
         TechFault::NoMemory => told.extend_from_slice(b"NoMemory"),
+    }
+}
+
+fn put_answer(
+    alloc: Global,
+    told: &mut Vec<u8>,
+    answer: &Result<Tech, TechFault>,
+) -> Result<(), AllocError> {
+    match answer {
+        Ok(tech) => put_tech(alloc, told, tech),
+        Err(fault) => put_fault(alloc, told, fault),
     }
 }
 
@@ -61,54 +74,58 @@ fn read(alloc: Global, text: &[u8]) -> Result<Tech, TechFault> {
 
 // Whether the technology of the text, or the fault, is told so.
 fn tells(alloc: Global, text: &[u8], want: &[u8]) -> Result<bool, Fail> {
+    let answer = read(alloc, text);
     let mut told = Vec::new(alloc);
-    match read(alloc, text) {
-        Ok(tech) => put_tech(alloc, &mut told, &tech)?,
-        Err(fault) => put_fault(alloc, &mut told, fault)?,
-    }
+    put_answer(alloc, &mut told, &answer)?;
     Ok(told.as_slice() == want)
 }
 
 const PLAIN: &str = "300 40 40 200000 0 vdd gnd P p pmos pch N n nmos nch";
 
+fn tells_plain(alloc: Global) -> Result<bool, NoMemory> {
+    let plain = Tech::plain(alloc)?;
+    let mut told = Vec::new(alloc);
+    put_tech(alloc, &mut told, &plain)?;
+    Ok(told.as_slice() == PLAIN.as_bytes())
+}
+
+const TECHNOLOGIES: [(&str, &str); 17] = [
+    ("", PLAIN),
+    (
+        "lambda_nm = 20\nwmax_p = 12\nwmax_n = 400\nbudget = 1\nheight = 4000",
+        "20 12 400 1 4000 vdd gnd P p pmos pch N n nmos nch",
+    ),
+    (
+        "lambda_nm = 2000\nwmax_p = 400\nwmax_n = 12\nbudget = 1000000\nheight = 130",
+        "2000 400 12 1000000 130 vdd gnd P p pmos pch N n nmos nch",
+    ),
+    (
+        "n_models = ['N']\ngnd = 'Vss'\nvdd = 'VCC'\np_models = ['PFET', 'pfet']",
+        "300 40 40 200000 0 vcc vss P pfet pfet N n",
+    ),
+    ("lambda_nm", "Text"),
+    ("zz = 1\n'B' = 2\na = 3\nlambda_nm = 301", "Key B"),
+    ("vdd = 5\nlambda_nm = 301", "Range lambda_nm 301"),
+    ("lambda_nm = 2002", "Range lambda_nm 2002"),
+    ("lambda_nm = -300", "Range lambda_nm -300"),
+    ("lambda_nm = 20.0", "Form lambda_nm"),
+    ("wmax_n = 11", "Range wmax_n 11"),
+    ("height = 4001\nbudget = 0", "Range budget 0"),
+    ("vdd = 5\nheight = 4001", "Range height 4001"),
+    ("vdd = 'a(b'", "Form vdd"),
+    ("vdd = 'gnd'", "Form gnd"),
+    ("p_models = []", "Form p_models"),
+    ("p_models = ['n']", "Form n_models"),
+];
+
 #[test]
 fn reads_technologies(rt: HostRuntime) -> Result<(), Fail> {
-    for (text, want) in [
-        ("", PLAIN),
-        (
-            "lambda_nm = 20\nwmax_p = 12\nwmax_n = 400\nbudget = 1\nheight = 4000",
-            "20 12 400 1 4000 vdd gnd P p pmos pch N n nmos nch",
-        ),
-        (
-            "lambda_nm = 2000\nwmax_p = 400\nwmax_n = 12\nbudget = 1000000\nheight = 130",
-            "2000 400 12 1000000 130 vdd gnd P p pmos pch N n nmos nch",
-        ),
-        (
-            "n_models = ['N']\ngnd = 'Vss'\nvdd = 'VCC'\np_models = ['PFET', 'pfet']",
-            "300 40 40 200000 0 vcc vss P pfet pfet N n",
-        ),
-        ("lambda_nm", "Text"),
-        ("zz = 1\n'B' = 2\na = 3\nlambda_nm = 301", "Key B"),
-        ("vdd = 5\nlambda_nm = 301", "Range lambda_nm 301"),
-        ("lambda_nm = 2002", "Range lambda_nm 2002"),
-        ("lambda_nm = -300", "Range lambda_nm -300"),
-        ("lambda_nm = 20.0", "Form lambda_nm"),
-        ("wmax_n = 11", "Range wmax_n 11"),
-        ("height = 4001\nbudget = 0", "Range budget 0"),
-        ("vdd = 5\nheight = 4001", "Range height 4001"),
-        ("vdd = 'a(b'", "Form vdd"),
-        ("vdd = 'gnd'", "Form gnd"),
-        ("p_models = []", "Form p_models"),
-        ("p_models = ['n']", "Form n_models"),
-    ] {
+    for (text, want) in &TECHNOLOGIES {
         assert!(rt;
             tells(rt.alloc(), text.as_bytes(), want.as_bytes())?,
             "{text}"
         );
     }
-    let plain = Tech::plain(rt.alloc())?;
-    let mut told = Vec::new(rt.alloc());
-    put_tech(rt.alloc(), &mut told, &plain)?;
-    assert!(rt; told.as_slice() == PLAIN.as_bytes());
+    assert!(rt; tells_plain(rt.alloc())?);
     Ok(())
 }

@@ -21,17 +21,23 @@ use Rattle.cell_inputs.specs.declared.style.Style.{Style}
 use Rattle.cell_inputs.specs.Inputs.{AreInputs, Inputs}
 use Rattle.cell_make.specs.declared.row_outcome.RowOutcome.{RowOutcome}
 use Rattle.cell_make.specs.Rows.{ComesFrom, row_answer}
+use Rattle.cell_make.proofs.Makes.{few_columns}
 use Rattle.make_run.specs.Make.{IsEnd, IsRowEnd, RowEvidence, named}
 use Rattle.trail_run.specs.Plan.{gate_text}
-use Rattle.trail_make.specs.Make.{TrailMake, Made, Unfinished, Crowded, IsMakeEnd, IsUnfinishedEnd, Makes, TrailMakesTo, trails_evidence}
+use Rattle.trail_make.specs.Make.{TrailMake, Made, Unfinished, Crowded, IsDrawnTo, IsMakeEnd, IsUnfinishedEnd, Makes, TrailMakesTo, trails_evidence}
 
 to : (style : Style) (inputs : Inputs) (out : List ℕ) (answer : TrailMake) (r : Result End NoMemory) → Makes style inputs answer → IfOk r (IsMakeEnd style inputs out answer) → IfOk r (TrailMakesTo style inputs out)
 to style inputs out answer r makes ends = IfOk-weaker r (IsMakeEnd style inputs out answer) (TrailMakesTo style inputs out) (λ end e. (answer, makes, e)) ends
 
-pub made_to : (style : Style) (inputs : Inputs) (out : List ℕ) (row : List Column) (trails : Trails) (nodes : ℕ) (came : RowOutcome) (evidence : RowEvidence) (r : Result End NoMemory) → IsTrailFound inputs.fingers inputs.tech.budget row trails nodes → ComesFrom style inputs row came → evidence ≡ trails_evidence inputs.cell out trails → IfOk r (IsRowEnd style inputs out row evidence (row_answer came)) → IfOk r (TrailMakesTo style inputs out)
-made_to style inputs out row trails nodes came evidence r found comes is ends =
-    to style inputs out (Made row trails (row_answer came)) r ((nodes, found), comes.draws)
-    (subst (λ (e : RowEvidence). IfOk r (IsRowEnd style inputs out row e (row_answer came))) is ends)
+pub drawn_to : (style : Style) (inputs : Inputs) (out : List ℕ) (row : List Column) (trails : Trails) (came : RowOutcome) (evidence : RowEvidence) (r : Result End NoMemory) → ComesFrom style inputs row came → evidence ≡ trails_evidence inputs.cell out trails → IfOk r (IsRowEnd style inputs out row evidence (row_answer came)) → IfOk r (IsDrawnTo style inputs out row trails)
+drawn_to style inputs out row trails came evidence r comes is ends =
+    IfOk-weaker r (IsRowEnd style inputs out row evidence (row_answer came)) (IsDrawnTo style inputs out row trails)
+    (λ end e. (row_answer came, comes.draws, subst (λ (x : RowEvidence). IsRowEnd style inputs out row x (row_answer came) end) is e)) ends
+
+pub made_to : (style : Style) (inputs : Inputs) (out : List ℕ) (row : List Column) (trails : Trails) (nodes : ℕ) (r : Result End NoMemory) → IsTrailFound inputs.fingers inputs.tech.budget row trails nodes → IfOk r (IsDrawnTo style inputs out row trails) → IfOk r (TrailMakesTo style inputs out)
+made_to style inputs out row trails nodes r found drawn =
+    IfOk-weaker r (IsDrawnTo style inputs out row trails) (TrailMakesTo style inputs out)
+    (λ end (answer, draws, ends). (Made row trails answer, ((nodes, found), draws), ends)) drawn
 
 pub unfinished_to : (style : Style) (inputs : Inputs) (out : List ℕ) (proved : ℕ) (trails : Trails) (nodes : ℕ) (r : Result End NoMemory) → IsTrailSpent inputs.fingers inputs.tech.budget trails proved nodes → IfOk r (IsUnfinishedEnd inputs.cell out proved trails) → IfOk r (TrailMakesTo style inputs out)
 unfinished_to style inputs out proved trails nodes r spent ends = to style inputs out (Unfinished proved trails) r (nodes, spent) ends
@@ -58,11 +64,8 @@ of_inputs Says inside inputs budget same is says = subst (λ (b : ℕ). Says inp
 pub found_fits : (f : Fingers) (row : List Column) (trails : Trails) → WithKinds f (λ k. IsCertified k f row trails) → ForSome (λ k. TrailsFit k trails)
 found_fits f row trails (k, of_k, some_k, certified) = (k, some_k, certified.fits)
 
-pub spent_fits : (f : Fingers) (trails : Trails) → WithKinds f (λ k. TrailsFit k trails) → ForSome (λ k. TrailsFit k trails)
-spent_fits f trails (k, of_k, some_k, fits) = (k, some_k, fits)
-
 pub short_row : (inputs : Inputs) (row : List Column) → AreInputs inputs → IsArrangement row inputs.fingers → length row ≤ 64
-short_row inputs row are arranged = omega (arith, arranged.fewest, are.fingers.few_columns)
+short_row inputs row are arranged = omega (arith, few_columns inputs row are arranged)
 
 -- ---- the evidence
 

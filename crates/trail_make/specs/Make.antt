@@ -1,5 +1,5 @@
 -- How `make` tells what making a cell with a certificate by trails comes to: its files, and its report.
-use Rattle.std.specs.Prelude.{ℕ, ◌≡◌, List, [], ◌∷◌, ◌++◌, codes, length}
+use Rattle.std.specs.Prelude.{ℕ, List, [], ◌∷◌, ◌++◌, codes, length}
 use Rattle.cell_num.specs.declared.net.NetNo.{NetNo}
 use Rattle.row_model.specs.declared.column.Column.{Column}
 use Rattle.spice_net.specs.declared.subckt.Subckt.{Subckt}
@@ -35,6 +35,13 @@ trails_file cell out trails = (out ++ codes ".ctrail", trails_text cell.name tra
 abbrev pub trails_evidence : Subckt → List ℕ → Trails → RowEvidence
 trails_evidence cell out trails =
     record { file = trails_file cell out trails; counts = counts_text (length trails.lemmas) (length trails.fill) }
+
+-- what drawing the row comes to, with this certificate
+abbrev pub IsDrawnTo : Style → Inputs → List ℕ → List Column → Trails → End → Type 0
+IsDrawnTo style inputs out row trails end =
+    (answer : RowAnswer)
+    × Draws style inputs row answer
+    × IsRowEnd style inputs out row (trails_evidence inputs.cell out trails) answer end
 
 abbrev pub IsUnfinishedEnd : Subckt → List ℕ → ℕ → Trails → End → Type 0
 IsUnfinishedEnd cell out proved trails =

@@ -1,7 +1,8 @@
 ghost use Rattle.std.specs.Prelude.{IfOk};
 ghost use Rattle.bound_log.specs.Fits.{ForSome, IsLogName};
+ghost use Rattle.row_model.specs.Arrangement.{IsArrangement};
 ghost use Rattle.trail_log.specs.Fits.{TrailsFit};
-ghost use Rattle.trail_make.specs.Make.{IsUnfinishedEnd, TrailMakesTo};
+ghost use Rattle.trail_make.specs.Make.{IsDrawnTo, IsUnfinishedEnd, TrailMakesTo};
 
 use crate::evidence::{trails_evidence, trails_file};
 use call_end::{End, Status};
@@ -9,12 +10,33 @@ use cell_inputs::{Inputs, Style};
 use cell_make::RowOutcome;
 use cell_num::NoMemory;
 use make_run::{Stem, row_end, spent_report};
+use row_model::Arrangement;
 use spice_net::Subckt;
 use std::alloc::Global;
 use trail_log::Trails;
 use trail_run::crowded;
 use trail_search::{TrailStop, search_trails};
 
+// The row, drawn, with its certificate.
+fn drawn(
+    alloc: Global,
+    inputs: &Inputs,
+    stem: &Stem,
+    style: Style,
+    row: &Arrangement,
+    trails: &Trails,
+) -> Result<End, NoMemory>
+    requires arranged { IsArrangement row.now inputs.now.fingers }
+    requires fits { ForSome (λ k. TrailsFit k trails.now) }
+    ensures { IfOk result (IsDrawnTo style inputs.now stem.now row.now trails.now) }
+{
+    inputs.show_limits();
+    let came = RowOutcome::of(alloc, inputs, style, row)?;
+    let evidence = trails_evidence(alloc, &inputs.cell, stem, trails)?;
+    row_end(alloc, inputs, stem, style, row, &came, evidence)
+}
+
+// The certificate of what a search proves that spent its budget.
 fn unfinished(
     alloc: Global,
     cell: &Subckt,
@@ -34,7 +56,6 @@ fn unfinished(
 /// The drawing of the first least row with its certificate by trails; or the certificate, with a ring of the row's
 /// nets, with a height that is not enough, or of a search that spent its budget; or a gate whose fingers pair in too
 /// many ways.
-#[tactic(auto, using(cell_inputs::proofs::Names::log_name))]
 pub fn make_by_trails(
     alloc: Global,
     inputs: &Inputs,
@@ -46,11 +67,7 @@ pub fn make_by_trails(
     inputs.show_limits();
     let cell = &inputs.cell;
     match search_trails(alloc, &inputs.fingers, inputs.budget()) {
-        Ok(found) => {
-            let came = RowOutcome::of(alloc, inputs, style, &found.row)?;
-            let evidence = trails_evidence(alloc, cell, stem, &found.trails)?;
-            row_end(alloc, inputs, stem, style, &found.row, &came, evidence)
-        }
+        Ok(found) => drawn(alloc, inputs, stem, style, &found.row, &found.trails),
         Err(TrailStop::Unfinished { trails, proved, .. }) => unfinished(
             alloc, cell, stem, &trails, proved,
         ),

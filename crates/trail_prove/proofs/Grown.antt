@@ -1,11 +1,11 @@
 -- Lemmas that justify others do so still where more are kept.
-use Rattle.std.specs.Prelude.{ℕ, ◌≡◌, ◌+◌, ◌-◌, ◌<◌, ◌≤◌, ◌==◌, ◌&&◌, ◌||◌, Bool, true, false, nat_le, List, [], ◌∷◌, ◌++◌, Option, Some, None, All, length, slice_get, take, map}
+use Rattle.std.specs.Prelude.{ℕ, ◌≡◌, ◌+◌, ◌-◌, ◌<◌, ◌≤◌, ◌==◌, ◌||◌, Bool, true, false, nat_le, List, [], ◌∷◌, ◌++◌, Option, Some, None, All, AllPairs, length, slice_get, take}
 use Rattle.std.proofs.Math.Bool.{beq}
 use Rattle.std.specs.List.{list_all, list_any}
 use Rattle.std.proofs.Common.{refl, sym, ap, subst, arith, ◌∙◌, inl, inr, get_or, append_assoc, append-nil}
 use Rattle.std.proofs.lemmas.List.{map-append, take_all}
-use Rattle.std.proofs.lemmas.Bool.{and_from, and_parts, cases_Bool, eq-eqb, or_left, or_right}
-use Rattle.std.proofs.lemmas.List.Elements.{All-cons, All-head, All-more, All-push, All-tail, All-weaker}
+use Rattle.std.proofs.lemmas.Bool.{and_from, cases_Bool, eq-eqb, or_left, or_right}
+use Rattle.std.proofs.lemmas.List.Elements.{All-head, All-more, All-push, All-tail, All-weaker}
 use Rattle.std.proofs.lemmas.List.Folds.{list_any-append}
 use Rattle.trail_state.specs.declared.edge.Edge.{Edge}
 use Rattle.trail_state.specs.declared.edge.Node.{Node}
@@ -16,12 +16,13 @@ use Rattle.trail_log.specs.declared.trails.LemmaLine.{LemmaLine}
 use Rattle.trail_log.specs.Fits.{LemmaFits}
 use Rattle.trail_check.specs.declared.lemma.TrailLemma.{TrailLemma}
 use Rattle.trail_check.specs.Justified.{choice_reaches, is_justified, is_known, level_reaches, same_place, same_state, says, unproved}
-use Rattle.trail_check.specs.Listed.{lemma_listed, lemmas_listed}
-use Rattle.trail_check.proofs.Sound.{state_is}
+use Rattle.trail_check.specs.Listed.{lemma_listed, lemmas_listed, nodes_of}
 use Rattle.trail_prove.specs.declared.kept.Kept.{Kept}
 use Rattle.trail_prove.specs.Line.{line_of}
-use Rattle.trail_prove.specs.Search.{AreKept, IsFurther, lemma_of}
+use Rattle.trail_prove.specs.Search.{AreChained, AreKept, IsFurther, IsStateOf, lemma_of}
 use Rattle.trail_prove.proofs.Lines.{line_fits}
+use Rattle.trail_prove.proofs.Listed.{lemma_back}
+use Rattle.trail_prove.proofs.States.{state_next}
 
 -- ---- what is known
 
@@ -92,32 +93,25 @@ further_same levels kept h = record { kept = h; more = []; grown = sym (append-n
 pub further_then : (levels : List Level) (a b c : Kept) → IsFurther levels a b → IsFurther levels b c → IsFurther levels a c
 further_then levels a b c g h = record { kept = h.kept; more = g.more ++ h.more; grown = h.grown ∙ ap (λ (ws : List TrailLemma). ws ++ h.more) g.grown ∙ append_assoc a.lemmas g.more h.more }
 
--- a line that lists a lemma, as the search found it
+-- the line of a lemma lists it
 pub record IsListing (levels : List Level) (done : ℕ) (s : List Place) (bound : ℕ) (line : LemmaLine) (listed : TrailLemma) : Type 0 where
   pub made : line ≡ line_of done s bound
   pub is : listed ≡ lemma_listed levels line
   pub lemma : listed ≡ lemma_of done s bound
 
-pub listing : (levels all : List Level) (done : ℕ) (s s1 s2 s3 : List Place) (bound : ℕ) (line : LemmaLine) (listed : TrailLemma) (same : Bool) → line ≡ line_of done s1 bound → s1 ≡ s → all ≡ levels → listed ≡ lemma_listed all line → same ≡ same_state s2 s3 → s2 ≡ listed.state → s3 ≡ s → same ≡ true → IsListing levels done s bound line listed
-listing levels all done s s1 s2 s3 bound line listed same made e1 whole is tells e2 e3 holds =
+pub listing : (levels all : List Level) (done : ℕ) (s s1 : List Place) (bound : ℕ) (line : LemmaLine) (listed : TrailLemma) → AreChained levels → IsStateOf (nodes_of (slice_get levels done)) s → line ≡ line_of done s1 bound → s1 ≡ s → all ≡ levels → listed ≡ lemma_listed all line → IsListing levels done s bound line listed
+listing levels all done s s1 bound line listed chained h made e1 whole is =
     let line_is : line ≡ line_of done s bound = made ∙ ap (λ (t : List Place). line_of done t bound) e1 in
-    let state : listed.state ≡ s = sym e2 ∙ state_is s2 s3 (sym tells ∙ holds) ∙ e3 in
     let of_line : listed ≡ lemma_listed levels line = is ∙ ap (λ (ls : List Level). lemma_listed ls line) whole in
-    let parts : listed ≡ lemma_of line.done listed.state line.bound = of_line ∙ ap (λ (t : List Place). lemma_of line.done t line.bound) (sym (ap (λ (l : TrailLemma). l.state) of_line)) in
-    record {
-      made = line_is;
-      is = of_line;
-      lemma = parts ∙ ap (λ (t : List Place). lemma_of line.done t line.bound) state ∙ ap (λ (l : LemmaLine). lemma_of l.done s l.bound) line_is;
-    }
+    record { made = line_is; is = of_line; lemma = of_line ∙ ap (lemma_listed levels) line_is ∙ lemma_back levels done s bound chained h }
 
-pub further_kept : (levels : List Level) (a b : Kept) (line : LemmaLine) (listed : TrailLemma) (done : ℕ) (s : List Place) (bound : ℕ) → done < 32 → 0 < bound → bound ≤ 64 → AreKept levels a → IsListing levels done s bound line listed → is_justified levels a.lemmas (lemma_of done s bound) ≡ true → b.lines ≡ a.lines ++ line ∷ [] → b.lemmas ≡ a.lemmas ++ listed ∷ [] → IsFurther levels a b
-further_kept levels a b line listed done s bound gates some few h it on lines lemmas =
-    let state : (lemma_listed levels line).state ≡ s = ap (λ (l : TrailLemma). l.state) (sym it.is ∙ it.lemma) in
+pub further_kept : (levels : List Level) (a b : Kept) (line : LemmaLine) (listed : TrailLemma) (done : ℕ) (s : List Place) (bound : ℕ) → done < 32 → 0 < bound → bound ≤ 64 → AreKept levels a → IsStateOf (nodes_of (slice_get levels done)) s → IsListing levels done s bound line listed → is_justified levels a.lemmas (lemma_of done s bound) ≡ true → b.lines ≡ a.lines ++ line ∷ [] → b.lemmas ≡ a.lemmas ++ listed ∷ [] → IsFurther levels a b
+further_kept levels a b line listed done s bound gates some few h valid it on lines lemmas =
     record {
       kept = record {
         listed = ap (lemmas_listed levels) lines ∙ map-append (lemma_listed levels) a.lines (line ∷ []) ∙ ap (λ (ws : List TrailLemma). ws ++ lemma_listed levels line ∷ []) h.listed ∙ ap (λ (l : TrailLemma). a.lemmas ++ l ∷ []) (sym it.is) ∙ sym lemmas;
         justified = ap (unproved levels [] 5) lemmas ∙ justified_push levels [] a.lemmas 5 listed h.justified (subst (λ (l : TrailLemma). is_justified levels a.lemmas l ≡ true) (sym it.lemma) on);
-        fits = λ nets nodes. subst (All (LemmaFits nets)) (sym lines) (All-push (LemmaFits nets) a.lines line (h.fits nets nodes) (line_fits nets levels line s done bound nodes it.made state some few gates));
+        fits = λ nets nodes. subst (All (LemmaFits nets)) (sym lines) (All-push (LemmaFits nets) a.lines line (h.fits nets nodes) (line_fits nets levels line s done bound nodes it.made valid some few gates));
       };
       more = listed ∷ [];
       grown = lemmas;
@@ -155,6 +149,14 @@ choice_at level s choices i after ends item choice nodes next within is same now
   state = state ∙ ap (λ (c : List Edge). state_after nodes next s c) same ∙ ap (λ (ns : List Node). state_after ns next s item) now ∙ ap (λ (ns : List Node). state_after level.now ns s item) later;
   count = count ∙ ap (λ (c : List Edge). ends_after nodes next s c) same ∙ ap (λ (ns : List Node). ends_after ns next s item) now ∙ ap (λ (ns : List Node). ends_after level.now ns s item) later;
 }
+
+-- the state behind it
+pub state_behind : (levels : List Level) (level : Level) (done : ℕ) (s after : List Place) (ends : ℕ) (choices : List (List Edge)) (i : ℕ) → AreChained levels → slice_get levels done ≡ Some level → IsChoice level s choices i after ends → IsStateOf (nodes_of (slice_get levels done)) s → IsStateOf (nodes_of (slice_get levels (done + 1))) after
+state_behind levels level done s after ends choices i chained at h state =
+    let now : nodes_of (slice_get levels done) ≡ level.now = ap nodes_of at in
+    let ascend : AllPairs (λ (a b : Node). a.0 < b.0) level.now = subst (AllPairs (λ (a b : Node). a.0 < b.0)) now (chained.ascend done) in
+    let next : IsStateOf level.next (state_after level.now level.next s h.choice) = state_next level.now level.next s h.choice ascend (subst (λ (ns : List Node). IsStateOf ns s) now state) in
+    subst (λ (ns : List Node). IsStateOf ns after) (chained.next done level at) (subst (IsStateOf level.next) (sym h.state) next)
 
 -- one choice more fails: too many ends are certain at once
 pub fails_dear : (known : List TrailLemma) (level : Level) (done : ℕ) (s after : List Place) (allowed ends : ℕ) (choices : List (List Edge)) (i : ℕ) → IsChoice level s choices i after ends → allowed < ends → All (Fails known level done s (allowed + 1)) (take i choices) → All (Fails known level done s (allowed + 1)) (take (i + 1) choices)

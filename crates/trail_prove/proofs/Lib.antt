@@ -1,4 +1,9 @@
+pub mod Ends
+pub mod Finds
 pub mod Grown
 pub mod Lines
+pub mod Listed
 pub mod Orders
 pub mod Proved
+pub mod States
+pub mod Tied

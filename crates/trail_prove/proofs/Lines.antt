@@ -1,12 +1,12 @@
 -- A text can hold the line that lists a state.
-use Rattle.std.specs.Prelude.{ℕ, zero, suc, ◌≡◌, ◌+◌, ◌*◌, ◌/◌, ◌%◌, ◌<◌, ◌≤◌, ◌==◌, Bool, true, false, List, [], ◌∷◌, Option, Some, None, All, AllPairs, Contains, find, length, map, option_map, slice_get, unwrap_or}
-use Rattle.std.specs.List.{filter, filter_map, list_all}
+use Rattle.std.specs.Prelude.{ℕ, zero, suc, ◌≡◌, ◌+◌, ◌*◌, ◌/◌, ◌%◌, ◌<◌, ◌≤◌, Bool, true, false, List, [], ◌∷◌, All, AllPairs, Contains, length, map, slice_get}
+use Rattle.std.specs.List.{filter, list_all}
 use Rattle.std.proofs.Common.{refl, sym, ap, subst, arith, ◌∙◌, inl, inr}
 use Rattle.std.proofs.lemmas.Bool.{and_from, cases_Bool, eq-eqb, eqb-true}
 use Rattle.std.proofs.lemmas.List.Elements.{All-contains, All-head, All-nil, All-tail}
-use Rattle.std.proofs.lemmas.List.Kept.{AllPairs-cons, AllPairs-filter}
+use Rattle.std.proofs.lemmas.List.Kept.{AllPairs-filter}
 use Rattle.cell_num.proofs.In.{Image, contains_map, in_map}
-use Rattle.cell_num.proofs.Lists.{Kept, all_from_contains, contains_cons, contains_here, contains_none, contains_there, kept_from}
+use Rattle.cell_num.proofs.Lists.{all_from_contains, contains_cons, contains_here, contains_none, contains_there}
 use Rattle.cell_num.proofs.Pairs.{pairs_head, pairs_map, pairs_none, pairs_tail}
 use Rattle.trail_state.specs.declared.edge.Node.{Node}
 use Rattle.trail_state.specs.declared.level.Level.{Level}
@@ -17,11 +17,12 @@ use Rattle.trail_log.specs.declared.trails.LemmaLine.{LemmaLine}
 use Rattle.trail_log.specs.declared.trails.NetPair.{NetPair}
 use Rattle.trail_log.specs.Fits.{ClassFits, LemmaFits, NodeFits}
 use Rattle.trail_log.specs.Order.{class_rank, classes_in_order, first_rank, increases, node_rank}
-use Rattle.trail_check.specs.Listed.{is_listed, lemma_listed, name_of, nodes_of, place_in, place_listed, state_listed}
+use Rattle.trail_check.specs.Listed.{nodes_of}
 use Rattle.trail_prove.specs.Line.{AllNodes, AreNodes, IsNode, class_at, is_name, is_odd, is_of, line_of, pair_at}
+use Rattle.trail_prove.specs.Search.{IsStateOf}
 use Rattle.trail_prove.proofs.Orders.{increases_from}
 
--- ---- states that a line lists
+-- ---- states
 
 -- places at nodes in ascending order, each class named by one that does not come behind its nodes
 pub record IsState (nets : ℕ) (s : List Place) : Type 0 where
@@ -29,96 +30,12 @@ pub record IsState (nets : ℕ) (s : List Place) : Type 0 where
   pub within : All (λ (p : Place). IsNode nets p.node) s
   pub named : All (λ (p : Place). p.class.0 ≤ p.node.0) s
 
--- the first node that passes comes not behind another
-first_le : (p : Node → Bool) (nodes : List Node) (v : Node) → AllPairs (λ (a b : Node). a.0 < b.0) nodes → Contains nodes v → p v ≡ true → (unwrap_or (find p nodes) v).0 ≤ v.0
-first_le p [] v ascend there on = absurd (contains_none v there)
-first_le p (x ∷ xs) v ascend there on =
-    elim (cases_Bool (p x)) [
-      | inl here ↦
-          let it : (unwrap_or (find p (x ∷ xs)) v).0 ≡ x.0 = ap (λ (o : Option Node). (unwrap_or o v).0) (found here) in
-          elim (contains_cons x xs v there) [
-            | inl same ↦ omega (arith, it, ap (λ (w : Node). w.0) same)
-            | inr rest ↦ let l : x.0 < v.0 = All-contains (λ (b : Node). x.0 < b.0) xs v (pairs_head (λ (a b : Node). a.0 < b.0) x xs ascend) rest in omega (arith, it, l)
-          ]
-      | inr other ↦
-          let it : (unwrap_or (find p (x ∷ xs)) v).0 ≡ (unwrap_or (find p xs) v).0 = ap (λ (o : Option Node). (unwrap_or o v).0) (further other) in
-          elim (contains_cons x xs v there) [
-            | inl same ↦ absurd (never (subst (λ (w : Node). p w ≡ true) (sym same) on) other)
-            | inr rest ↦ omega (arith, it, first_le p xs v (pairs_tail (λ (a b : Node). a.0 < b.0) x xs ascend) rest on)
-          ]
-    ]
-  where
-    found : p x ≡ true → find p (x ∷ xs) ≡ Some x
-    found here = rw here refl
-
-    further : p x ≡ false → find p (x ∷ xs) ≡ find p xs
-    further other = rw other refl
-
-    never : p x ≡ true → p x ≡ false → ⊥
-    never a b = cc
-
--- what is found passes
-pub found_passes : {X : Type 0} (p : X → Bool) (xs : List X) (x : X) → find p xs ≡ Some x → p x ≡ true
-found_passes p [] x e = absurd cc
-found_passes {X} p (y ∷ ys) x e =
-    elim (cases_Bool (p y)) [
-      | inl here ↦ subst (λ (z : X). p z ≡ true) (same here e) here
-      | inr other ↦ found_passes p ys x (sym (further other) ∙ e)
-    ]
-  where
-    same : p y ≡ true → find p (y ∷ ys) ≡ Some x → y ≡ x
-    same here h = let first : find p (y ∷ ys) ≡ Some y = rw here refl in cc
-
-    further : p y ≡ false → find p (y ∷ ys) ≡ find p ys
-    further other = rw other refl
-
--- a place that a line lists at a node
-listed_at : (nodes : List Node) (line : LemmaLine) (v : Node) (p : Place) → AllPairs (λ (a b : Node). a.0 < b.0) nodes → Contains nodes v → place_listed nodes line v ≡ Some p → (p.node ≡ v) × (p.class.0 ≤ p.node.0)
-listed_at nodes line v p ascend there gives = by_class (find (λ (class : Class). is_listed class.nodes v) line.classes) refl gives
-  where
-    by_class : (o : Option Class) → find (λ (class : Class). is_listed class.nodes v) line.classes ≡ o → option_map (place_in nodes line.odd v) o ≡ Some p → (p.node ≡ v) × (p.class.0 ≤ p.node.0)
-    by_class None is e = absurd cc
-    by_class (Some class) is e =
-        let it : place_in nodes line.odd v class ≡ p = cc in
-        let on : is_listed class.nodes v ≡ true = found_passes (λ (c : Class). is_listed c.nodes v) line.classes class is in
-        let low : (name_of nodes class.nodes v).0 ≤ v.0 = first_le (is_listed class.nodes) nodes v ascend there on in
-        (sym (ap (λ (q : Place). q.node) it), omega (arith, low, ap (λ (q : Place). q.class.0) it, ap (λ (q : Place). q.node.0) it))
-
--- items of some nodes, in the order of these
-ascending : (g : Node → Option Place) (all nodes : List Node) → ((v : Node) (p : Place) → Contains all v → g v ≡ Some p → p.node ≡ v) → ((v : Node) → Contains nodes v → Contains all v) → AllPairs (λ (a b : Node). a.0 < b.0) nodes → AllPairs (λ (p q : Place). p.node.0 < q.node.0) (filter_map g nodes)
-ascending g all [] names inside h = pairs_none (λ (p q : Place). p.node.0 < q.node.0)
-ascending g all (x ∷ xs) names inside h = by_item (ascending g all xs names (λ v k. inside v (contains_there x xs v k)) (pairs_tail (λ (a b : Node). a.0 < b.0) x xs h)) (g x) refl
-  where
-    above : (p : Place) → g x ≡ Some p → (q : Place) → Contains (filter_map g xs) q → p.node.0 < q.node.0
-    above p e q k =
-        let f : Kept g xs q = kept_from g xs q k in
-        let l : x.0 < f.from.0 = All-contains (λ (b : Node). x.0 < b.0) xs f.from (pairs_head (λ (a b : Node). a.0 < b.0) x xs h) f.there in
-        omega (arith, l, ap (λ (w : Node). w.0) (names x p (inside x (contains_here x xs)) e), ap (λ (w : Node). w.0) (names f.from q (inside f.from (contains_there x xs f.from f.there)) f.gives))
-
-    skipped : g x ≡ None → filter_map g (x ∷ xs) ≡ filter_map g xs
-    skipped none = rw none refl
-
-    taken : (p : Place) → g x ≡ Some p → filter_map g (x ∷ xs) ≡ p ∷ filter_map g xs
-    taken p some = rw some refl
-
-    by_item : AllPairs (λ (p q : Place). p.node.0 < q.node.0) (filter_map g xs) → (o : Option Place) → g x ≡ o → AllPairs (λ (p q : Place). p.node.0 < q.node.0) (filter_map g (x ∷ xs))
-    by_item rest None e = subst (AllPairs (λ (p q : Place). p.node.0 < q.node.0)) (sym (skipped e)) rest
-    by_item rest (Some p) e =
-        subst (AllPairs (λ (p q : Place). p.node.0 < q.node.0)) (sym (taken p e))
-        (AllPairs-cons (λ (p q : Place). p.node.0 < q.node.0) p (filter_map g xs) (all_from_contains (λ (q : Place). p.node.0 < q.node.0) (filter_map g xs) (above p e)) rest)
-
-listed_state : (nets : ℕ) (nodes : List Node) (line : LemmaLine) → AreNodes nets nodes → IsState nets (state_listed nodes line)
-listed_state nets nodes line h = record {
-  ascend = ascending (place_listed nodes line) nodes nodes (λ v p there e. (listed_at nodes line v p h.ascend there e).0) (λ v k. k) h.ascend;
-  within = all_from_contains (λ (p : Place). IsNode nets p.node) (state_listed nodes line) (λ p k. at p (kept_from (place_listed nodes line) nodes p k));
-  named = all_from_contains (λ (p : Place). p.class.0 ≤ p.node.0) (state_listed nodes line) (λ p k. low p (kept_from (place_listed nodes line) nodes p k));
+state_of : (nets : ℕ) (nodes : List Node) (s : List Place) → AreNodes nets nodes → IsStateOf nodes s → IsState nets s
+state_of nets nodes s all h = record {
+  ascend = h.ascend;
+  within = all_from_contains (λ (p : Place). IsNode nets p.node) s (λ p c. All-contains (IsNode nets) nodes p.node all.within (h.within p c));
+  named = all_from_contains (λ (p : Place). p.class.0 ≤ p.node.0) s h.low;
 }
-  where
-    at : (p : Place) → Kept (place_listed nodes line) nodes p → IsNode nets p.node
-    at p f = subst (IsNode nets) (sym (listed_at nodes line f.from p h.ascend f.there f.gives).0) (All-contains (IsNode nets) nodes f.from h.within f.there)
-
-    low : (p : Place) → Kept (place_listed nodes line) nodes p → p.class.0 ≤ p.node.0
-    low p f = (listed_at nodes line f.from p h.ascend f.there f.gives).1
 
 -- ---- the line of such a state
 
@@ -227,13 +144,12 @@ state_fits nets s done bound h some few gates = record {
 }
 
 -- the nodes of a level
-level_nodes : (nets : ℕ) (levels : List Level) (done : ℕ) → All (λ (level : Level). AreNodes nets level.now) levels → AreNodes nets (nodes_of (slice_get levels done))
+pub level_nodes : (nets : ℕ) (levels : List Level) (done : ℕ) → All (λ (level : Level). AreNodes nets level.now) levels → AreNodes nets (nodes_of (slice_get levels done))
 level_nodes nets [] done all = record { ascend = pairs_none (λ (a b : Node). a.0 < b.0); within = All-nil (IsNode nets) }
 level_nodes nets (l ∷ ls) zero all = All-head (λ (level : Level). AreNodes nets level.now) l ls all
 level_nodes nets (l ∷ ls) (suc done) all = level_nodes nets ls done (All-tail (λ (level : Level). AreNodes nets level.now) l ls all)
 
--- a line that lists its state fits
-pub line_fits : (nets : ℕ) (levels : List Level) (line : LemmaLine) (s : List Place) (done bound : ℕ) → AllNodes nets levels → line ≡ line_of done s bound → (lemma_listed levels line).state ≡ s → 1 ≤ bound → bound ≤ 64 → done < 32 → LemmaFits nets line
-line_fits nets levels line s done bound all is listed some few gates =
-    let h : IsState nets s = subst (IsState nets) listed (listed_state nets (nodes_of (slice_get levels line.done)) line (level_nodes nets levels line.done all)) in
-    subst (LemmaFits nets) (sym is) (state_fits nets s done bound h some few gates)
+-- the line of a state fits
+pub line_fits : (nets : ℕ) (levels : List Level) (line : LemmaLine) (s : List Place) (done bound : ℕ) → AllNodes nets levels → line ≡ line_of done s bound → IsStateOf (nodes_of (slice_get levels done)) s → 1 ≤ bound → bound ≤ 64 → done < 32 → LemmaFits nets line
+line_fits nets levels line s done bound all is h some few gates =
+    subst (LemmaFits nets) (sym is) (state_fits nets s done bound (state_of nets (nodes_of (slice_get levels done)) s (level_nodes nets levels done all) h) some few gates)

@@ -1,5 +1,5 @@
 -- An order that permutes the gates of some fingers is one of theirs.
-use Rattle.std.specs.Prelude.{ℕ, zero, suc, ◌≡◌, ◌≢◌, ◌+◌, ◌<◌, ◌≤◌, ◌==◌, ◌||◌, Bool, true, false, not, cond, ltb, max, List, [], ◌∷◌, All, AllPairs, Contains, IsPermutation, count_by, length, map, remove, ◌++◌}
+use Rattle.std.specs.Prelude.{ℕ, ◌≡◌, ◌≢◌, ◌+◌, ◌<◌, ◌≤◌, ◌==◌, Bool, true, false, cond, ltb, max, List, [], ◌∷◌, All, AllPairs, Contains, IsPermutation, count_by, length, map, remove, ◌++◌}
 use Rattle.std.specs.List.{filter, list_any, range_with_len}
 use Rattle.std.proofs.Common.{refl, sym, ap, subst, arith, ◌∙◌, inl, inr, get_or, append-nil}
 use Rattle.std.proofs.lemmas.Bool.{and_from, cases_Bool, cases_eq, cases_lt, eqb-true, ne_eqb, or_cases, or_left, or_right}
@@ -16,7 +16,7 @@ use Rattle.cell_num.specs.declared.finger.Row.{Row}
 use Rattle.cell_num.specs.declared.finger.Row.TheVariants.{P, N}
 use Rattle.cell_num.specs.declared.finger.Finger.{Finger}
 use Rattle.cell_num.specs.declared.finger.Fingers.{Fingers}
-use Rattle.cell_num.specs.Fingers.{AreFingers, IsFinger, columns_of, on_gate, sum_below}
+use Rattle.cell_num.specs.Fingers.{AreFingers, IsFinger, on_gate}
 use Rattle.row_state.specs.ClassSums.{sum_below_mono}
 use Rattle.trail_state.specs.Levels.{IsGate, IsOrder}
 use Rattle.trail_state.specs.Members.{Passes, passes_from, passes_to}

@@ -1,16 +1,17 @@
 -- What kept lemmas prove of every arrangement.
-use Rattle.std.specs.Prelude.{ℕ, suc, ◌≡◌, ◌+◌, ◌*◌, ◌/◌, ◌%◌, ◌<◌, ◌≤◌, ◌&&◌, Bool, true, false, ltb, nat_lt, List, [], ◌∷◌, Option, Some, None, All, IfSome, Contains, if◌then◌else◌, ◌==◌, length, map}
-use Rattle.std.specs.List.{filter, list_any, range_with_len}
-use Rattle.std.proofs.Common.{refl, sym, ap, subst, arith, ◌∙◌, inl, inr}
+use Rattle.std.specs.Prelude.{ℕ, zero, suc, ◌≡◌, ◌+◌, ◌*◌, ◌/◌, ◌%◌, ◌<◌, ◌≤◌, ◌&&◌, Bool, true, false, ltb, nat_lt, List, [], ◌∷◌, Option, Some, None, All, IfSome, Contains, if◌then◌else◌, ◌==◌, length, map, slice_get}
+use Rattle.std.specs.List.{filter, range_with_len}
+use Rattle.std.proofs.Common.{refl, sym, ap, subst, arith, ◌∙◌}
 use Rattle.std.proofs.lemmas.Bool.{and_parts}
 use Rattle.std.proofs.lemmas.List.Elements.{All-cons, All-nil}
 use Rattle.std.proofs.lemmas.List.Kept.{AllPairs-filter}
+use Rattle.std.proofs.lemmas.Option.{none-some, same_Some}
 use Rattle.cell_num.proofs.In.{Image, in_map}
 use Rattle.cell_num.proofs.Lists.{all_from_contains}
 use Rattle.cell_num.proofs.Pairs.{Some', pairs_map, test_finds}
 use Rattle.cell_num.specs.declared.net.NetNo.{NetNo}
 use Rattle.cell_num.specs.declared.finger.Row.{Row}
-use Rattle.cell_num.specs.declared.finger.Row.TheVariants.{P, N}
+use Rattle.cell_num.specs.declared.finger.Row.TheVariants.{N}
 use Rattle.cell_num.specs.declared.finger.Finger.{Finger}
 use Rattle.cell_num.specs.declared.finger.Fingers.{Fingers}
 use Rattle.cell_num.specs.Fingers.{AreFingers, IsFinger, on_gate}
@@ -20,7 +21,7 @@ use Rattle.row_model.specs.Gaps.{gaps_of}
 use Rattle.trail_state.specs.declared.edge.Node.{Node}
 use Rattle.trail_state.specs.declared.level.Level.{Level}
 use Rattle.trail_state.specs.Law.{levels_law}
-use Rattle.trail_state.specs.Levels.{AreLevels, IsOrder}
+use Rattle.trail_state.specs.Levels.{AreLevels, Ends, IsOrder}
 use Rattle.trail_state.specs.Members.{Passes, passes_from}
 use Rattle.trail_state.specs.Nodes.{any_can_meet, can_meet, has_net, is_net_in, is_net_on, may_have, open_nodes}
 use Rattle.trail_state.specs.Opened.{in_net, net_below, range_below}
@@ -33,14 +34,15 @@ use Rattle.trail_check.specs.declared.lemma.TrailLemma.{TrailLemma}
 use Rattle.trail_check.specs.Gates.{first_with_many, has_many_ways}
 use Rattle.trail_check.specs.Justified.{ends_proved, gaps_proved, unproved}
 use Rattle.trail_check.specs.Leveled.{levels_of}
-use Rattle.trail_check.specs.Listed.{lemmas_listed}
+use Rattle.trail_check.specs.Listed.{lemmas_listed, nodes_of}
 use Rattle.trail_check.proofs.Sound.{ends_true}
 use Rattle.trail_prove.specs.declared.kept.Kept.{Kept}
 use Rattle.trail_prove.specs.declared.proof.Proof.{Proof}
 use Rattle.trail_prove.specs.Line.{AllNodes, AreNodes, IsNode}
 use Rattle.trail_prove.specs.Proof.{IsProof, uneven_gates}
-use Rattle.trail_prove.specs.Search.{AreKept}
-use Rattle.trail_prove.proofs.Lines.{found_passes}
+use Rattle.trail_prove.specs.Search.{AreChained, AreKept}
+use Rattle.trail_prove.proofs.Finds.{found_is}
+use Rattle.trail_prove.proofs.Lines.{level_nodes}
 use Rattle.trail_prove.proofs.Orders.{fill_fits, fill_has, fill_increases, order_fits, order_short, range_ascends}
 
 -- ---- levels
@@ -82,7 +84,7 @@ level_nodes_of f (g ∷ gs) [] ok are = absurd are
 level_nodes_of f (g ∷ gs) (l ∷ ls) ok (first, rest) =
     All-cons (λ (level : Level). AreNodes f.nets level.now) l ls (subst (AreNodes f.nets) (sym first.now) (open_are_nodes f (g ∷ gs) ok)) (level_nodes_of f gs ls ok rest)
 
-as_many : (f : Fingers) (order : List NetNo) (levels : List Level) → AreLevels f order levels → length levels ≡ length order
+pub as_many : (f : Fingers) (order : List NetNo) (levels : List Level) → AreLevels f order levels → length levels ≡ length order
 as_many f [] [] are = refl
 as_many f [] (l ∷ ls) are = absurd are
 as_many f (g ∷ gs) [] are = absurd are
@@ -90,6 +92,33 @@ as_many f (g ∷ gs) (l ∷ ls) (first, rest) = ap suc (as_many f gs ls rest)
 
 pub levels_short : (f : Fingers) (order : List NetNo) (levels : List Level) → AreFingers f → IsOrder f order → AreLevels f order levels → length levels ≤ 32
 levels_short f order levels ok is are = omega (arith, as_many f order levels are, order_short f order ok is)
+
+-- no gate is left, and no node
+none_open : (f : Fingers) → open_nodes f [] ≡ []
+none_open f = ap (map node_at) (filter_none (range_with_len 0 (256 * f.nets)))
+  where
+    filter_none : (xs : List ℕ) → filter (any_can_meet f []) xs ≡ []
+    filter_none [] = refl
+    filter_none (x ∷ xs) = filter_none xs
+
+first_open : (f : Fingers) (order : List NetNo) (levels : List Level) → AreLevels f order levels → nodes_of (slice_get levels 0) ≡ open_nodes f order
+first_open f [] [] are = sym (none_open f)
+first_open f [] (l ∷ ls) are = absurd are
+first_open f (g ∷ gs) [] are = absurd are
+first_open f (g ∷ gs) (l ∷ ls) (first, rest) = first.now
+
+next_open : (f : Fingers) (order : List NetNo) (levels : List Level) → AreLevels f order levels → (i : ℕ) (level : Level) → slice_get levels i ≡ Some level → level.next ≡ nodes_of (slice_get levels (i + 1))
+next_open f [] [] are i level at = absurd (none-some level at)
+next_open f [] (l ∷ ls) are i level at = absurd are
+next_open f (g ∷ gs) [] are i level at = absurd are
+next_open f (g ∷ gs) (l ∷ ls) (first, rest) zero level at = ap (λ (x : Level). x.next) (sym (same_Some l level at)) ∙ first.next ∙ sym (first_open f gs ls rest)
+next_open f (g ∷ gs) (l ∷ ls) (first, rest) (suc i) level at = let e : suc i + 1 ≡ suc (i + 1) = omega arith in next_open f gs ls rest i level at ∙ ap (λ (n : ℕ). nodes_of (slice_get (l ∷ ls) n)) (sym e)
+
+pub are_chained : (f : Fingers) (order : List NetNo) (levels : List Level) → AreFingers f → AreLevels f order levels → AreChained levels
+are_chained f order levels ok are = record {
+  ascend = λ i. (level_nodes f.nets levels i (level_nodes_of f order levels ok are)).ascend;
+  next = next_open f order levels are;
+}
 
 -- ---- what is proved
 
@@ -105,9 +134,19 @@ pub kept_least : (f : Fingers) (order : List NetNo) (levels : List Level) (kept 
 kept_least f order levels kept gaps ok is are h e row arranges =
     omega (arith, e, levels_law f ok order is levels (ends_proved kept.lemmas) are (ends_true levels kept.lemmas 5 h.justified) row arranges)
 
+levels_are : (f : Fingers) (order : List NetNo) → AreLevels f order (levels_of f order)
+unfolding levels_of
+levels_are f [] = tt
+levels_are f (g ∷ gs) = (record { now = refl; next = refl; choices = refl }, levels_are f gs)
+
+-- where no choices come to as few ends as a row of so many gaps has, each row has more
+pub ends_gaps : (f : Fingers) (order : List NetNo) (gaps : ℕ) → AreFingers f → IsOrder f order → Ends (levels_of f order) [] (2 * (gaps + 1) + 1) → (row : List Column) → IsArrangement row f → gaps < gaps_of row
+ends_gaps f order gaps ok is ends row arranges =
+    omega (arith, levels_law f ok order is (levels_of f order) (2 * (gaps + 1) + 1) (levels_are f order) ends row arranges)
+
 -- a gate with too many ways
 pub gate_crowded : (f : Fingers) (order : List NetNo) (o : Option NetNo) (gate : NetNo) → o ≡ first_with_many f order → o ≡ Some gate → has_many_ways f gate ≡ true
-gate_crowded f order o gate is some = found_passes (has_many_ways f) order gate (sym is ∙ some)
+gate_crowded f order o gate is some = (found_is (has_many_ways f) order gate (sym is ∙ some)).passes
 
 pub is_proof : (f : Fingers) (proof : Proof) (levels : List Level) (kept : Kept) → AreFingers f → IsOrder f proof.trails.order → first_with_many f proof.trails.order ≡ None → AreLevels f proof.trails.order levels → levels ≡ levels_of f proof.trails.order → AreKept levels kept → proof.trails.fill ≡ uneven_gates f → proof.trails.lemmas ≡ kept.lines → proof.trails.best ≡ None → proof.gaps ≡ gaps_proved (ends_proved kept.lemmas) → IsProof f proof
 is_proof f proof levels kept ok is few are same h fill lines none gaps =

@@ -1,5 +1,5 @@
 -- What lemmas prove of every arrangement of some fingers, and how the search for them ends.
-use Rattle.std.specs.Prelude.{ℕ, ◌≡◌, ◌≤◌, ◌==◌, Bool, true, not, List, None, map}
+use Rattle.std.specs.Prelude.{ℕ, ◌≡◌, ◌≤◌, ◌+◌, ◌*◌, ◌==◌, Bool, true, not, List, [], None, length, map}
 use Rattle.std.specs.List.{filter, range_with_len}
 use Rattle.cell_num.specs.declared.net.NetNo.{NetNo}
 use Rattle.cell_num.specs.declared.finger.Fingers.{Fingers}
@@ -8,9 +8,12 @@ use Rattle.row_model.specs.declared.column.Column.{Column}
 use Rattle.row_model.specs.Arrangement.{IsArrangement}
 use Rattle.row_model.specs.Gaps.{gaps_of}
 use Rattle.row_state.specs.declared.kind.Kinds.{Kinds}
+use Rattle.trail_log.specs.declared.trails.Trails.{Trails}
 use Rattle.trail_log.specs.Fits.{TrailsFit}
+use Rattle.trail_state.specs.Levels.{Ends, IsOrder}
 use Rattle.trail_check.specs.Accepted.{first_unproved, least_gaps}
 use Rattle.trail_check.specs.Gates.{AreGates, first_with_many, has_many_ways}
+use Rattle.trail_check.specs.Leveled.{levels_of}
 use Rattle.trail_prove.specs.declared.proof.RefuteStop.{RefuteStop}
 use Rattle.trail_prove.specs.declared.proof.RefuteStop.TheVariants as ended
 use Rattle.trail_prove.specs.declared.proof.Proof.{Proof}
@@ -37,6 +40,26 @@ pub record IsProof (f : Fingers) (proof : Proof) : Type 0 where
   pub least : (row : List Column) → IsArrangement row f → proof.gaps ≤ gaps_of row
   pub fits : (k : Kinds) → k.nets ≡ f.nets → TrailsFit k proof.trails
 
+-- Some choices along the order come to no more ends than a row of so many gaps has. So no lemmas in this order prove
+-- more gaps.
+abbrev pub IsMost : Fingers → List NetNo → ℕ → Type 0
+IsMost f order gaps = Ends (levels_of f order) [] (2 * (gaps + 1) + 1) → ⊥
+
+-- so it is in some order of the gates
+abbrev pub HasMost : Fingers → ℕ → Type 0
+HasMost f gaps = (order : List NetNo) × IsOrder f order × IsMost f order gaps
+
+-- of the nodes that were left a search took one for each lemma, and at most so many others
+pub record AreSpent (left left_after others : ℕ) (trails : Trails) : Type 0 where
+  pub few : left_after + length trails.lemmas ≤ left
+  pub many : left ≤ left_after + length trails.lemmas + others
+
+-- No node is left, and so much is proved: each node but one for each gate at most went for a lemma.
+pub record IsUnfinished (f : Fingers) (left left_after : ℕ) (proof : Proof) : Type 0 where
+  pub none : left_after ≡ 0
+  pub proved : IsProof f proof
+  pub nodes : AreSpent left left_after (length proof.trails.order) proof.trails
+
 -- no node is left; or the gate has too many ways
 abbrev pub EndsRefuting : Fingers → ℕ → RefuteStop → Type 0
 EndsRefuting f left ended.Spent = left ≡ 0
@@ -44,7 +67,7 @@ EndsRefuting f left (ended.Choices gate) = has_many_ways f gate ≡ true
 EndsRefuting f left ended.NoMemory = Unit {0}
 
 -- no node is left, and so much is proved; or the gate has too many ways
-abbrev pub StopsProving : Fingers → ℕ → ProveStop → Type 0
-StopsProving f left (stopped.Unfinished proof) = (left ≡ 0) × IsProof f proof
-StopsProving f left (stopped.Choices gate) = has_many_ways f gate ≡ true
-StopsProving f left stopped.NoMemory = Unit {0}
+abbrev pub StopsProving : Fingers → ℕ → ℕ → ProveStop → Type 0
+StopsProving f left left_after (stopped.Unfinished proof) = IsUnfinished f left left_after proof
+StopsProving f left left_after (stopped.Choices gate) = has_many_ways f gate ≡ true
+StopsProving f left left_after stopped.NoMemory = Unit {0}

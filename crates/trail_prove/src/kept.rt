@@ -1,11 +1,12 @@
-ghost use Rattle.std.specs.Prelude.{◌≡◌, ◌≤◌, ◌<◌, [], true, IfOk};
+ghost use Rattle.std.specs.Prelude.{◌≡◌, ◌≤◌, ◌<◌, ◌+◌, [], true, OnOk, length, slice_get};
 ghost use Rattle.trail_check.specs.Justified.{ends_proved, gaps_proved, is_justified, is_known};
-ghost use Rattle.trail_prove.specs.Search.{AreKept, IsFurther, lemma_of};
+ghost use Rattle.trail_check.specs.Listed.{nodes_of};
+ghost use Rattle.trail_prove.specs.Search.{AreChained, AreKept, IsFurther, IsStateOf, lemma_of};
 
 use crate::line::line_of;
 use cell_num::{List, NoMemory};
 use std::alloc::Global;
-use trail_check::{TrailLemma, ends_proved, is_known, is_same_state, lemma_listed};
+use trail_check::{TrailLemma, ends_proved, is_known, lemma_listed};
 use trail_log::LemmaLines;
 use trail_state::{Level, TrailState};
 
@@ -34,7 +35,7 @@ impl Kept {
         ends_proved(self.lemmas.as_slice()).saturating_sub(1) / 2
     }
 
-    /// Keeps one lemma more, unless no line lists it.
+    /// Keeps one lemma more.
     #[tactic(auto, using(crate::proofs::Grown::further_same))]
     pub(crate) fn keep(
         &mut self,
@@ -43,23 +44,23 @@ impl Kept {
         done: u32,
         state: &TrailState,
         bound: u32,
-    ) -> Result<bool, NoMemory>
+    ) -> Result<(), NoMemory>
         requires done { done < 32 }
         requires some { 0 < bound }
         requires few { bound ≤ 64 }
+        requires chained { AreChained levels.now }
+        requires state { IsStateOf (nodes_of (slice_get levels.now done)) state.now }
         requires kept { AreKept levels.now self.old }
         requires justified { is_justified levels.now self.old.lemmas (lemma_of done state.now bound) ≡ true }
-        ensures further { IfOk result (λ _. IsFurther levels.now self.old self.new) }
-        ensures known { IfOk result (λ yes. yes ≡ true → is_known self.new.lemmas done state.now bound ≡ true) }
+        ensures further { OnOk result (IsFurther levels.now self.old self.new) }
+        ensures known { OnOk result (is_known self.new.lemmas done state.now bound ≡ true) }
+        ensures one { OnOk result (length self.new.lemmas ≡ length self.old.lemmas + 1) }
     {
         let line = line_of(alloc, done, state.as_slice(), bound)?;
-        let listed = lemma_listed(alloc, levels.as_slice(), &line)?;
-        if !is_same_state(listed.state.as_slice(), state.as_slice()) {
-            return Ok(false);
-        }
+        let lemma = lemma_listed(alloc, levels.as_slice(), &line)?;
         self.lines.push(line)?;
-        self.lemmas.push(listed)?;
-        Ok(true)
+        self.lemmas.push(lemma)?;
+        Ok(())
     }
 
     pub(crate) fn knows(&self, done: u32, state: &TrailState, need: u32) -> bool

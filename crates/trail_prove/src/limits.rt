@@ -1,7 +1,9 @@
-ghost use Rattle.std.specs.Prelude.{◌≡◌, ◌≤◌, ◌+◌, ◌*◌, false, IfOk, IfErr, length};
+ghost use Rattle.std.specs.Prelude.{◌≡◌, ◌≤◌, ◌<◌, ◌+◌, ◌*◌, [], true, false, IfOk, IfErr, length};
 ghost use Rattle.cell_num.specs.Fingers.{AreFingers};
-ghost use Rattle.trail_prove.specs.Proof.{IsProof, StopsProving};
-ghost use Rattle.trail_prove.specs.Search.{AreKept, AreSmall, IsFurther};
+ghost use Rattle.trail_state.specs.Levels.{Ends};
+ghost use Rattle.trail_check.specs.Justified.{ends_proved, gaps_proved};
+ghost use Rattle.trail_prove.specs.Proof.{AreSpent, IsMost, IsProof, StopsProving};
+ghost use Rattle.trail_prove.specs.Search.{AreChained, AreKept, AreSmall, AreTied, IsFurther};
 
 use crate::gates::fill;
 use crate::kept::Kept;
@@ -35,10 +37,16 @@ fn refute_limits(
 ) -> Result<bool, NoMemory>
     requires small { AreSmall levels.now }
     requires few { length levels.now ≤ 32 }
+    requires chained { AreChained levels.now }
     requires kept { AreKept levels.now kept.old }
     ensures further { IfOk result (λ _. IsFurther levels.now kept.old kept.new) }
+    ensures most { IfOk result (λ whole. whole ≡ true → gaps_proved (ends_proved kept.new.lemmas) < 31 →
+        Ends levels.now [] (2 * (gaps_proved (ends_proved kept.new.lemmas) + 1) + 1) → ⊥) }
     ensures left { left.new ≤ left.old }
+    ensures path { IfOk result (λ _. AreTied kept.old kept.new left.old left.new (length levels.now + 1)) }
     ensures spent { IfOk result (λ whole. whole ≡ false → left.new ≡ 0) }
+    ensures spent_path { IfOk result (λ whole. whole ≡ false →
+        AreTied kept.old kept.new left.old left.new (length levels.now)) }
 {
     let start = TrailState::new(alloc);
     for limit in 0..MOST_LIMIT + 1 {
@@ -52,15 +60,18 @@ fn refute_limits(
     Ok(true)
 }
 
-/// Lemmas that prove how many gaps every arrangement of the fingers has: of the greatest number that this search finds,
-/// which tries 0, 1 and so on, until one is not refuted. It takes at most `left` nodes, and leaves there how many are
-/// left for later calls.
+/// Lemmas that prove how many gaps every arrangement of the fingers has: 31, or the greatest number that lemmas in this
+/// order can prove. It takes at most `left` nodes, and leaves there how many are left for later calls. It takes a node
+/// for each lemma, and at most one more for each gate and one at the end.
 #[tactic(auto, using(crate::proofs::Proved::none_kept, crate::proofs::Proved::is_proof, crate::proofs::Proved::levels_short, crate::proofs::Proved::gate_crowded))]
 pub fn prove(alloc: Global, fingers: &Fingers, left: &mut u64) -> Result<Proof, ProveStop>
     requires fingers { AreFingers fingers.now }
     ensures proof { IfOk result (IsProof fingers.now) }
+    ensures most { IfOk result (λ proof. proof.gaps < 31 → IsMost fingers.now proof.trails.order proof.gaps) }
     ensures left { left.new ≤ left.old }
-    ensures stopped { IfErr result (StopsProving fingers.now left.new) }
+    ensures nodes { IfOk result (λ proof.
+        AreSpent left.old left.new (length proof.trails.order + 1) proof.trails) }
+    ensures stopped { IfErr result (StopsProving fingers.now left.old left.new) }
 {
     let order = order(alloc, fingers)?;
     if let Some(gate) = first_with_many(fingers, order.as_slice()) {

@@ -1,9 +1,9 @@
-ghost use Rattle.std.specs.Prelude.{◌≡◌, ◌≤◌, ◌<◌, IfOk, IfErr, IsTrue, List as Sequence};
+ghost use Rattle.std.specs.Prelude.{◌≡◌, ◌≤◌, ◌<◌, false, IfOk, IfErr, IsTrue, List as Sequence};
 ghost use Rattle.cell_num.specs.Fingers.{AreFingers};
 ghost use Rattle.row_model.specs.declared.column.Column.{Column};
 ghost use Rattle.row_model.specs.Arrangement.{IsArrangement};
 ghost use Rattle.row_model.specs.Gaps.{gaps_of};
-ghost use Rattle.trail_prove.specs.Proof.{EndsRefuting};
+ghost use Rattle.trail_prove.specs.Proof.{EndsRefuting, HasMost};
 
 use crate::RefuteStop;
 use crate::kept::Kept;
@@ -15,9 +15,10 @@ use std::alloc::Global;
 use trail_check::{first_with_many, levels_of};
 use trail_state::TrailState;
 
-/// Whether it is proved that every arrangement of the fingers has more than `limit` gaps. It takes at most `left` nodes,
-/// and leaves there how many are left for later calls. A node is a state of which no lemma says so much.
-#[tactic(auto, using(crate::proofs::Proved::none_kept, crate::proofs::Proved::kept_least, crate::proofs::Proved::levels_short, crate::proofs::Proved::gate_crowded))]
+/// Whether it is proved that every arrangement of the fingers has more than `limit` gaps: a limit up to 30 is refuted
+/// where lemmas in the order that is tried can refute it. It takes at most `left` nodes, and leaves there how many are
+/// left for later calls. A node is a state of which no lemma says so much.
+#[tactic(auto, using(crate::proofs::States::state_first, crate::proofs::Proved::none_kept, crate::proofs::Proved::kept_least, crate::proofs::Proved::levels_short, crate::proofs::Proved::gate_crowded))]
 pub fn is_refuted(
     alloc: Global,
     fingers: &Fingers,
@@ -27,6 +28,7 @@ pub fn is_refuted(
     requires fingers { AreFingers fingers.now }
     ensures refuted { IfOk result (λ yes. IsTrue yes → (row : Sequence Column) → IsArrangement row fingers.now →
         limit < gaps_of row) }
+    ensures most { IfOk result (λ yes. yes ≡ false → limit ≤ 30 → HasMost fingers.now limit) }
     ensures left { left.new ≤ left.old }
     ensures halted { IfErr result (EndsRefuting fingers.now left.new) }
 {

@@ -1,7 +1,9 @@
-ghost use Rattle.std.specs.Prelude.{◌≡◌, ◌≤◌, ◌+◌, true, false, IfOk, IfErr, length};
+ghost use Rattle.std.specs.Prelude.{◌≡◌, ◌≤◌, ◌+◌, ◌-◌, true, false, IfOk, IfErr, drop, length, slice_get};
+ghost use Rattle.trail_state.specs.Levels.{Ends};
 ghost use Rattle.trail_check.specs.Justified.{is_known};
+ghost use Rattle.trail_check.specs.Listed.{nodes_of};
 ghost use Rattle.trail_prove.specs.declared.visit.Halt.TheVariants as halt;
-ghost use Rattle.trail_prove.specs.Search.{AreKept, AreSmall, IsFurther};
+ghost use Rattle.trail_prove.specs.Search.{AreChained, AreKept, AreSmall, AreTied, IsFurther, IsStateOf};
 
 use crate::kept::Kept;
 use cell_num::{List, NoMemory};
@@ -26,7 +28,8 @@ impl From<NoMemory> for Halt {
     }
 }
 
-/// Whether choices of the gates left may come to at most so many more ends; else a kept lemma says that none do.
+/// Whether choices of the gates left come to at most so many more ends; else a kept lemma says that none do. A visit
+/// takes one node of those left. It leaves a lemma, unless such choices are found or no node is left.
 #[tactic(auto, using(crate::proofs::Grown::further_same, crate::proofs::Grown::further_then))]
 pub(crate) fn visit(
     alloc: Global,
@@ -40,13 +43,20 @@ pub(crate) fn visit(
     requires small { AreSmall levels.now }
     requires few { length levels.now ≤ 32 }
     requires allowed { allowed ≤ 63 }
+    requires chained { AreChained levels.now }
+    requires state { IsStateOf (nodes_of (slice_get levels.now done)) state.now }
     requires kept { AreKept levels.now kept.old }
     ensures further { IfOk result (λ _. IsFurther levels.now kept.old kept.new) }
     ensures failed { IfOk result (λ found. found ≡ false →
         is_known kept.new.lemmas done state.now (allowed + 1) ≡ true) }
+    ensures found { IfOk result (λ found. found ≡ true → Ends (drop done levels.now) state.now (allowed + 1) → ⊥) }
     ensures left { left.new ≤ left.old }
+    ensures each { IfOk result (λ found. found ≡ false → AreTied kept.old kept.new left.old left.new 0) }
+    ensures path { IfOk result (λ _. AreTied kept.old kept.new left.old left.new (length levels.now - done + 1)) }
     ensures spent { IfErr result (λ why. why ≡ halt.Spent → left.new ≡ 0) }
     ensures spent_kept { IfErr result (λ why. why ≡ halt.Spent → IsFurther levels.now kept.old kept.new) }
+    ensures spent_path { IfErr result (λ why. why ≡ halt.Spent →
+        AreTied kept.old kept.new left.old left.new (length levels.now - done)) }
 {
     if *left == 0 {
         return Err(Halt::Spent);
@@ -78,6 +88,6 @@ pub(crate) fn visit(
             return Ok(true);
         }
     }
-    let is_kept = kept.keep(alloc, levels, done, state, allowed + 1)?;
-    Ok(!is_kept)
+    kept.keep(alloc, levels, done, state, allowed + 1)?;
+    Ok(false)
 }

@@ -1,9 +1,14 @@
 -- The first row of the proved number is the first least one, and its certificate is accepted.
-use Rattle.std.proofs.Common.{ℕ, ◌≡◌, ◌+◌, ◌<◌, ◌≤◌, ◌⊎◌, List, IsNone, refl, sym, ap, subst, arith, ◌∙◌}
+use Rattle.std.proofs.Common.{ℕ, ◌≡◌, ◌+◌, ◌<◌, ◌≤◌, ◌⊎◌, List, [], ◌∷◌, IsNone, length, refl, sym, ap, subst, arith, inl, inr, ◌∙◌}
+use Rattle.std.specs.List.{zip}
+use Rattle.std.proofs.lemmas.Bool.{cases_lt}
+use Rattle.std.proofs.lemmas.List.Sums.{count_by-le-length}
+use Rattle.std.proofs.lemmas.Slice.Zip.{length-zip}
 use Rattle.cell_num.specs.declared.finger.Fingers.{Fingers}
+use Rattle.cell_num.specs.Fingers.{AreFingers}
 use Rattle.row_model.specs.declared.column.Column.{Column}
 use Rattle.row_model.specs.Arrangement.{IsArrangement}
-use Rattle.row_model.specs.Gaps.{gaps_of}
+use Rattle.row_model.specs.Gaps.{gaps_of, is_gap}
 use Rattle.row_state.specs.declared.kind.Kinds.{Kinds}
 use Rattle.row_state.specs.declared.step.Step.{Step}
 use Rattle.row_state.specs.Completion.{Completes, Need}
@@ -20,7 +25,8 @@ use Rattle.row_search.proofs.Least.{further_le}
 use Rattle.trail_log.specs.Fits.{TrailsFit}
 use Rattle.trail_check.specs.Accepted.{IsLow, least_gaps}
 use Rattle.trail_prove.specs.declared.proof.Proof.{Proof}
-use Rattle.trail_prove.specs.Proof.{IsProof}
+use Rattle.trail_prove.specs.Proof.{IsMost, IsProof}
+use Rattle.trail_prove.proofs.Proved.{ends_gaps}
 use Rattle.trail_search.specs.declared.first.ListedRow.{ListedRow}
 use Rattle.trail_search.specs.Ended.{IsCertified, IsTrailFound, IsTrailSpent}
 use Rattle.trail_search.specs.First.{IsFirstRow, with_best}
@@ -31,6 +37,20 @@ pub few_gaps : (k : Kinds) (f : Fingers) (gaps : ℕ) → AreKinds f k → AreSo
 few_gaps k f gaps of_f kinds low =
     let c : (row : List Column) × Completes k (start_of k) row = completion_exists k (start_of k) (gates_are_nets k kinds) in
     omega (arith, low c.0 (arrangement_of f k c.0 of_f c.1), gaps_from_start k c.0, further_le (start_of k) c.0, c.1.fewest, kinds.few_columns)
+
+row_gaps : (row : List Column) → length row ≤ 32 → gaps_of row ≤ 31
+row_gaps [] few = omega arith
+row_gaps (c ∷ cs) few = omega (arith, few, count_by-le-length is_gap (zip (c ∷ cs) cs), length-zip (c ∷ cs) cs)
+
+-- no lemmas prove more than 31 gaps, since some arrangement has no more
+pub most_proved : (k : Kinds) (f : Fingers) (proof : Proof) → AreFingers f → AreKinds f k → AreSomeKinds k → IsProof f proof → (proof.gaps < 31 → IsMost f proof.trails.order proof.gaps) → IsMost f proof.trails.order proof.gaps
+most_proved k f proof ok of_f kinds p few = elim (cases_lt proof.gaps 31) [
+  | inl below ↦ few below
+  | inr above ↦ λ ends.
+      let c : (row : List Column) × Completes k (start_of k) row = completion_exists k (start_of k) (gates_are_nets k kinds) in
+      let more : proof.gaps < gaps_of c.0 = ends_gaps f proof.trails.order proof.gaps ok p.gates.order ends c.0 (arrangement_of f k c.0 of_f c.1) in
+      omega (arith, above, more, row_gaps c.0 (omega (arith, c.1.fewest, kinds.few_columns)))
+]
 
 first_least : (k : Kinds) (f : Fingers) (gaps : ℕ) (steps : List Step) → AreKinds f k → IsLow f gaps → IsFirstOf k (start_of k) gaps steps → IsFirstLeast f (row_of k steps)
 first_least k f gaps steps of_f low h =
@@ -79,17 +99,18 @@ certified k f proof steps of_f kinds p h =
       };
     }
 
-pub found_is : (k : Kinds) (f : Fingers) (budget nodes : ℕ) (proof : Proof) (listed : ListedRow) → AreKinds f k → AreSomeKinds k → IsProof f proof → IsFirstRow k proof.gaps listed → nodes ≤ budget → IsTrailFound f budget listed.row (with_best proof.trails listed.best) nodes
-found_is k f budget nodes proof listed of_f kinds p h few =
+pub found_is : (k : Kinds) (f : Fingers) (budget nodes : ℕ) (proof : Proof) (listed : ListedRow) → AreKinds f k → AreSomeKinds k → IsProof f proof → IsFirstRow k proof.gaps listed → nodes ≤ budget → length proof.trails.lemmas ≤ nodes → IsTrailFound f budget listed.row (with_best proof.trails listed.best) nodes
+found_is k f budget nodes proof listed of_f kinds p h few kept =
     subst (λ (z : ListedRow). IsTrailFound f budget z.row (with_best proof.trails z.best) nodes) (sym h.is)
     (record {
       first = first_least k f proof.gaps h.steps of_f p.least h.first;
       certified = (k, of_f, kinds, certified k f proof h.steps of_f kinds p h.first);
       few = few;
+      kept = kept;
     })
 
-pub spent_is : (k : Kinds) (f : Fingers) (budget nodes : ℕ) (proof : Proof) → AreKinds f k → AreSomeKinds k → IsProof f proof → nodes ≤ budget → (nodes ≡ budget) ⊎ ((other : List Column) → IsArrangement other f → proof.gaps < gaps_of other) → IsTrailSpent f budget proof.trails proof.gaps nodes
-spent_is k f budget nodes proof of_f kinds p few why =
+pub spent_is : (k : Kinds) (f : Fingers) (budget nodes : ℕ) (proof : Proof) → AreKinds f k → AreSomeKinds k → IsProof f proof → nodes ≤ budget → (nodes ≡ budget) ⊎ ((other : List Column) → IsArrangement other f → proof.gaps < gaps_of other) → length proof.trails.lemmas ≤ nodes → (budget ≤ length proof.trails.lemmas + length proof.trails.order) ⊎ IsMost f proof.trails.order proof.gaps → IsTrailSpent f budget proof.trails proof.gaps nodes
+spent_is k f budget nodes proof of_f kinds p few why kept work =
     record {
       lists_none = subst IsNone (sym p.rowless) refl;
       gates = p.gates;
@@ -100,6 +121,8 @@ spent_is k f budget nodes proof of_f kinds p few why =
       fits = (k, of_f, kinds, p.fits k of_f.nets);
       few = few;
       spent = why;
+      kept = kept;
+      work = work;
     }
 
 -- where no row of so few gaps is found, there is none

@@ -1,4 +1,4 @@
--- A completion of a state behind the column in front is an arrangement of its fingers, with as many gaps as further ones.
+-- A completion of a state behind the column in front arranges its fingers, with as many gaps as further ones.
 use Rattle.std.proofs.Common.{ℕ, zero, suc, ◌≡◌, ◌+◌, ◌<◌, ◌≤◌, ◌||◌, Bool, true, false, cond, max, zip, List, [], ◌∷◌, ◌++◌, Option, Some, None, IfSome, is_some, refl, sym, ap, subst, arith, All, IsPermutation, ◌∙◌}
 use Rattle.std.proofs.lemmas.List.Elements.{All-cons, All-head, All-tail}
 use Rattle.std.proofs.lemmas.List.Sorted.{IsPermutation-cons}

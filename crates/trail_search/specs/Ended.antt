@@ -1,5 +1,5 @@
 -- How a search ended: with the first least row and its certificate, or with what is proved without a row.
-use Rattle.std.specs.Prelude.{ℕ, ◌≡◌, ◌≤◌, ◌<◌, ◌⊎◌, true, List, None, IsNone}
+use Rattle.std.specs.Prelude.{ℕ, ◌≡◌, ◌≤◌, ◌<◌, ◌+◌, ◌⊎◌, true, List, None, IsNone, length}
 use Rattle.cell_num.specs.declared.net.NetNo.{NetNo}
 use Rattle.cell_num.specs.declared.finger.Fingers.{Fingers}
 use Rattle.row_model.specs.declared.column.Column.{Column}
@@ -12,6 +12,7 @@ use Rattle.trail_log.specs.declared.trails.Trails.{Trails}
 use Rattle.trail_log.specs.Fits.{TrailsFit}
 use Rattle.trail_check.specs.Accepted.{IsAccepted, IsLow, first_unproved, least_gaps}
 use Rattle.trail_check.specs.Gates.{AreGates, first_with_many, has_many_ways}
+use Rattle.trail_prove.specs.Proof.{IsMost}
 use Rattle.trail_search.specs.declared.found.TrailFound.{TrailFound}
 use Rattle.trail_search.specs.declared.found.TrailStop.{TrailStop}
 use Rattle.trail_search.specs.declared.found.TrailStop.TheVariants as stopped
@@ -22,14 +23,16 @@ pub record IsCertified (k : Kinds) (f : Fingers) (row : List Column) (trails : T
   pub lists : Lists k trails.best (λ listed. listed ≡ row)
   pub fits : TrailsFit k trails
 
--- the row is the first least one, and is certified
+-- the row is the first least one, and is certified; a node was spent for each lemma
 pub record IsTrailFound (f : Fingers) (budget : ℕ) (row : List Column) (trails : Trails) (nodes : ℕ) : Type 0 where
   pub first : IsFirstLeast f row
   pub certified : WithKinds f (λ k. IsCertified k f row trails)
   pub few : nodes ≤ budget
+  pub kept : length trails.lemmas ≤ nodes
 
 -- The certificate lists no row. Its gates are as a checker asks, and all its lemmas are justified: they prove that no
--- arrangement has fewer gaps. The budget is spent, or no arrangement has as few.
+-- arrangement has fewer gaps. The budget is spent, or no arrangement has as few. A node was spent for each lemma. The
+-- lemmas are as many as the budget has nodes, but for one of each gate; or no lemmas in this order prove more gaps.
 pub record IsTrailSpent (f : Fingers) (budget : ℕ) (trails : Trails) (proved nodes : ℕ) : Type 0 where
   pub lists_none : IsNone trails.best
   pub gates : AreGates f trails
@@ -40,6 +43,8 @@ pub record IsTrailSpent (f : Fingers) (budget : ℕ) (trails : Trails) (proved n
   pub fits : WithKinds f (λ k. TrailsFit k trails)
   pub few : nodes ≤ budget
   pub spent : (nodes ≡ budget) ⊎ ((other : List Column) → IsArrangement other f → proved < gaps_of other)
+  pub kept : length trails.lemmas ≤ nodes
+  pub work : (budget ≤ length trails.lemmas + length trails.order) ⊎ IsMost f trails.order proved
 
 -- the fingers of the gate pair in more ways than a checker lists
 abbrev pub IsCrowded : Fingers → NetNo → Type 0

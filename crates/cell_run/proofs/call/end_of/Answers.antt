@@ -26,3 +26,9 @@ returns-in-Ok-clause-quiet g c =
 pub returns-in-Err-clause-quiet : goal.returns-in-Err-clause-quiet
 returns-in-Err-clause-quiet g c =
     reads_refused (g.D.Desk.view c.args.desk.now) (g.D.Desk.view c.gather.new.desk) c.gather.result c.in-Err.refusal c.refused.result c.gather.ensures.quiet c.in-Err.is c.refused.ensures
+
+pub returns-in-Ok-clause-only : goal.returns-in-Ok-clause-only
+returns-in-Ok-clause-only g c = c.gather.ensures.only
+
+pub returns-in-Err-clause-only : goal.returns-in-Err-clause-only
+returns-in-Err-clause-only g c = c.gather.ensures.only

@@ -1,10 +1,12 @@
-use Rattle.std.proofs.Common.{refl, ◌∙◌}
+use Rattle.std.proofs.Common.{arith, refl, ◌∙◌}
+use Rattle.call_end.specs.declared.status.Status.TheVariants as status
 use Rattle.call_words.specs.Words.{asked}
+use Rattle.call_words.specs.declared.evidence.Evidence.TheVariants.{Log, Trails}
 use Rattle.cell_run.proofs.AgreeTold.{agreed_told, agrees_told, disagreed_told, disagrees_told, unextracted_told, unextracts_told}
 use Rattle.cell_run.proofs.BenchTold.{benched_told, benches_told}
 use Rattle.cell_run.proofs.ExtractTold.{breaks_told, broken_told, extracted_told, extracts_told, layout_faults_told, layout_told}
 use Rattle.cell_run.proofs.MadeCompared.{agrees_made_told}
-use Rattle.cell_run.proofs.MakeTold.{cyclic_told, drawn_told, draws_told, meets_told, needs_told, spent_told, tall_told}
+use Rattle.cell_run.proofs.MakeTold.{draws_told, make_leaves, meets_told, needs_told}
 use Rattle.cell_run.proofs.RowTold.{misread_told, rowed_told, rows_told, stopped_told, unabutted_told}
 use Rattle.cell_run.proofs.Unmade.{none_told, unmade_told}
 use Rattle.cell_run.proofs.Telling.{accepts_told, alone_told, answers, called_for_told, checked_told, completes_told, made_told, memory_told, planned_told, read_told, same_reads_told, status_told, usage_told, write_told}
@@ -48,6 +50,18 @@ returns-clause-same_writes g c = λ other. c.deliver.ensures.same_writes other �
 pub returns-clause-same_shorts : goal.returns-clause-same_shorts
 returns-clause-same_shorts g c = λ other. c.deliver.ensures.same_shorts other ∙ c.prepare-end.ensures.only.shorts
 
+pub returns-clause-given : goal.returns-clause-given
+returns-clause-given g c = c.deliver.ensures.only.given ∙ c.prepare-end.ensures.only.given
+
+pub returns-clause-read_count : goal.returns-clause-read_count
+returns-clause-read_count g c = omega (arith, c.deliver.ensures.only.reads, c.prepare-end.ensures.only.reads)
+
+pub returns-clause-write_count : goal.returns-clause-write_count
+returns-clause-write_count g c = omega (arith, c.deliver.ensures.only.writes, c.prepare-end.ensures.only.writes)
+
+pub returns-clause-short_count : goal.returns-clause-short_count
+returns-clause-short_count g c = omega (arith, c.deliver.ensures.only.shorts, c.prepare-end.ensures.only.shorts)
+
 pub returns-clause-made : goal.returns-clause-made
 returns-clause-made g c = made_told (g.D.Desk.view c.args.desk.now) (g.D.Desk.view c.deliver.new.desk) (asked c.args.words.now) c.deliver.result (returns-clause-ends g c)
 
@@ -67,16 +81,28 @@ pub returns-clause-unmade : goal.returns-clause-unmade
 returns-clause-unmade g c = unmade_told (g.D.Desk.view c.args.desk.now) (g.D.Desk.view c.deliver.new.desk) (asked c.args.words.now) c.deliver.result (returns-clause-ends g c)
 
 pub returns-clause-drawn : goal.returns-clause-drawn
-returns-clause-drawn g c = drawn_told (g.D.Desk.view c.args.desk.now) (g.D.Desk.view c.deliver.new.desk) (asked c.args.words.now) c.deliver.result (g.D.Desk.view c.args.desk.now).given (returns-clause-called_for g c)
+returns-clause-drawn g c = make_leaves Log status.Done (g.D.Desk.view c.args.desk.now) (g.D.Desk.view c.deliver.new.desk) (asked c.args.words.now) c.deliver.result (g.D.Desk.view c.args.desk.now).given refl (returns-clause-called_for g c)
 
 pub returns-clause-cyclic : goal.returns-clause-cyclic
-returns-clause-cyclic g c = cyclic_told (g.D.Desk.view c.args.desk.now) (g.D.Desk.view c.deliver.new.desk) (asked c.args.words.now) c.deliver.result (g.D.Desk.view c.args.desk.now).given (returns-clause-called_for g c)
+returns-clause-cyclic g c = make_leaves Log status.Cycle (g.D.Desk.view c.args.desk.now) (g.D.Desk.view c.deliver.new.desk) (asked c.args.words.now) c.deliver.result (g.D.Desk.view c.args.desk.now).given refl (returns-clause-called_for g c)
 
 pub returns-clause-tall : goal.returns-clause-tall
-returns-clause-tall g c = tall_told (g.D.Desk.view c.args.desk.now) (g.D.Desk.view c.deliver.new.desk) (asked c.args.words.now) c.deliver.result (g.D.Desk.view c.args.desk.now).given (returns-clause-called_for g c)
+returns-clause-tall g c = make_leaves Log status.TooTall (g.D.Desk.view c.args.desk.now) (g.D.Desk.view c.deliver.new.desk) (asked c.args.words.now) c.deliver.result (g.D.Desk.view c.args.desk.now).given refl (returns-clause-called_for g c)
 
 pub returns-clause-spent : goal.returns-clause-spent
-returns-clause-spent g c = spent_told (g.D.Desk.view c.args.desk.now) (g.D.Desk.view c.deliver.new.desk) (asked c.args.words.now) c.deliver.result (g.D.Desk.view c.args.desk.now).given (returns-clause-called_for g c)
+returns-clause-spent g c = make_leaves Log status.Unfinished (g.D.Desk.view c.args.desk.now) (g.D.Desk.view c.deliver.new.desk) (asked c.args.words.now) c.deliver.result (g.D.Desk.view c.args.desk.now).given refl (returns-clause-called_for g c)
+
+pub returns-clause-trail_drawn : goal.returns-clause-trail_drawn
+returns-clause-trail_drawn g c = make_leaves Trails status.Done (g.D.Desk.view c.args.desk.now) (g.D.Desk.view c.deliver.new.desk) (asked c.args.words.now) c.deliver.result (g.D.Desk.view c.args.desk.now).given refl (returns-clause-called_for g c)
+
+pub returns-clause-trail_cyclic : goal.returns-clause-trail_cyclic
+returns-clause-trail_cyclic g c = make_leaves Trails status.Cycle (g.D.Desk.view c.args.desk.now) (g.D.Desk.view c.deliver.new.desk) (asked c.args.words.now) c.deliver.result (g.D.Desk.view c.args.desk.now).given refl (returns-clause-called_for g c)
+
+pub returns-clause-trail_tall : goal.returns-clause-trail_tall
+returns-clause-trail_tall g c = make_leaves Trails status.TooTall (g.D.Desk.view c.args.desk.now) (g.D.Desk.view c.deliver.new.desk) (asked c.args.words.now) c.deliver.result (g.D.Desk.view c.args.desk.now).given refl (returns-clause-called_for g c)
+
+pub returns-clause-trail_spent : goal.returns-clause-trail_spent
+returns-clause-trail_spent g c = make_leaves Trails status.Unfinished (g.D.Desk.view c.args.desk.now) (g.D.Desk.view c.deliver.new.desk) (asked c.args.words.now) c.deliver.result (g.D.Desk.view c.args.desk.now).given refl (returns-clause-called_for g c)
 
 pub returns-clause-draws : goal.returns-clause-draws
 returns-clause-draws g c = draws_told (g.D.Desk.view c.args.desk.now) (g.D.Desk.view c.deliver.new.desk) (asked c.args.words.now) c.deliver.result (g.D.Desk.view c.args.desk.now).given (returns-clause-completes g c)

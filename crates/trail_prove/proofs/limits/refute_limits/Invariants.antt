@@ -1,6 +1,11 @@
-use Rattle.std.proofs.Common.{◌≤◌}
+use Rattle.std.proofs.Common.{◌≡◌, ◌≤◌, ◌+◌, length}
+use Rattle.trail_check.specs.Justified.{ends_proved, gaps_proved}
 use Rattle.trail_prove.specs.Search.{IsFurther}
 use Rattle.trail_prove.proofs.limits.refute_limits.Given as goal
 
 abbrev pub invariant-loop-limit : goal.invariant-loop-limit
-invariant-loop-limit l = IsFurther l.levels l.fn.kept l.kept × (l.left ≤ l.fn.left)
+invariant-loop-limit l =
+    IsFurther l.levels l.fn.kept l.kept
+    × (l.left ≤ l.fn.left)
+    × (l.left + length l.kept.lemmas ≡ l.fn.left + length l.fn.kept.lemmas)
+    × (l.limit ≤ gaps_proved (ends_proved l.kept.lemmas))

@@ -1,7 +1,4 @@
-use Rattle.std.proofs.Common.{◌++◌, IsPermutation, ap, append-nil, subst, sym, ◌∙◌, get_or, rules, arith}
-use Rattle.std.proofs.lemmas.List.Sorted.{IsPermutation-more}
-use Rattle.cell_num.specs.declared.net.NetNo.{NetNo}
-use Rattle.trail_prove.specs.Order.{gates_of}
+use Rattle.std.proofs.Common.{rules}
 use Rattle.trail_prove.proofs.Orders.{all_placed, one_placed}
 use Rattle.trail_prove.proofs.order.order.Goals as goal
 

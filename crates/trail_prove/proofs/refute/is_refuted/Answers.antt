@@ -1,8 +1,9 @@
-use Rattle.std.proofs.Common.{◌≤◌, List, arith, subst}
+use Rattle.std.proofs.Common.{List, ap, subst, ◌∙◌}
 use Rattle.cell_num.specs.declared.net.NetNo.{NetNo}
-use Rattle.row_model.specs.Gaps.{gaps_of}
 use Rattle.trail_state.specs.Levels.{AreLevels}
-use Rattle.trail_prove.proofs.Proved.{kept_least, none_kept, refuted}
+use Rattle.trail_check.specs.Leveled.{levels_of}
+use Rattle.trail_prove.proofs.Ends.{has_most}
+use Rattle.trail_prove.proofs.Proved.{are_chained, none_kept, refuted}
 use Rattle.trail_prove.proofs.refute.is_refuted.Goals as goal
 
 pub visit-requires-clause-kept : goal.visit-requires-clause-kept
@@ -13,3 +14,10 @@ returns-in-Ok-clause-refuted c =
     refuted c.args.fingers.now c.in_ok-order.order c.in_ok-levels.levels c.visit-2.new.kept c.args.limit c.gaps.result c.requires.fingers c.in_ok-order.ensures
     (subst (λ (gs : List NetNo). AreLevels c.args.fingers.now gs c.in_ok-levels.levels) c.as_slice-2.ensures c.in_ok-levels.ensures.are)
     c.in-Ok.ensures.further.kept c.gaps.ensures
+
+pub visit-requires-clause-chained : goal.visit-requires-clause-chained
+visit-requires-clause-chained c = are_chained c.args.fingers.now c.in_ok-order.order c.in_ok-levels.levels c.requires.fingers (subst (λ (gs : List NetNo). AreLevels c.args.fingers.now gs c.in_ok-levels.levels) c.as_slice-2.ensures c.in_ok-levels.ensures.are)
+
+pub returns-in-Ok-clause-most : goal.returns-in-Ok-clause-most
+returns-in-Ok-clause-most c = λ off _.
+    has_most c.args.fingers.now c.in_ok-order.order c.in_ok-levels.levels c.visit-2.new.kept.lemmas c.new.result c.args.limit c.most_ends.result c.gaps.result c.in-Ok.field-0 c.in_ok-order.ensures (c.in_ok-levels.ensures.is ∙ ap (levels_of c.args.fingers.now) c.as_slice-2.ensures) c.new.ensures c.most_ends.ensures c.gaps.ensures c.in-Ok.ensures.failed c.in-Ok.ensures.found off

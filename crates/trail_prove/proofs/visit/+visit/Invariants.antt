@@ -11,3 +11,4 @@ invariant-loop-choice l =
     IsFurther l.levels l.fn.kept l.kept
     × (l.left ≤ l.fn.left)
     × All (Fails l.kept.lemmas l.level l.done l.state (l.allowed + 1)) (take l.choice-index l.choice-items)
+    × (l.left + length l.kept.lemmas + 1 ≡ l.fn.left + length l.fn.kept.lemmas)

@@ -2,18 +2,18 @@ use Rattle.std.proofs.Common.{◌≡◌, ◌+◌, ◌-◌, arith, inl, inr, subs
 use Rattle.row_state.specs.Completion.{Need}
 use Rattle.row_state.specs.Start.{start_of}
 use Rattle.trail_log.specs.declared.trails.Trails.{Trails}
-use Rattle.trail_prove.specs.Proof.{IsProof}
+use Rattle.trail_prove.specs.Proof.{IsUnfinished}
 use Rattle.trail_search.specs.declared.found.TrailStop.TheVariants as stopped
 use Rattle.trail_search.specs.Ended.{IsTrailFound, Stops}
 use Rattle.trail_search.specs.First.{IsFirstRow}
-use Rattle.trail_search.proofs.Certified.{few_gaps, found_is, none_as_few, spent_is}
+use Rattle.trail_search.proofs.Certified.{few_gaps, found_is, most_proved, none_as_few, spent_is}
 use Rattle.trail_search.proofs.search.search_trails.Goals as goal
 
 pub returns-in-Err-Unfinished-clause-stopped : goal.returns-in-Err-Unfinished-clause-stopped
 returns-in-Err-Unfinished-clause-stopped c =
-    let told : (c.prove.new.left ≡ 0) × IsProof c.args.fingers.now c.in-Err-Unfinished.proof = rw c.in-Err-Unfinished.field-0-is at c.in-Err-Unfinished.ensures.stopped in
+    let told : IsUnfinished c.args.fingers.now c.args.budget c.prove.new.left c.in-Err-Unfinished.proof = rw c.in-Err-Unfinished.field-0-is at c.in-Err-Unfinished.ensures.stopped in
     let is : c.unfinished.result ≡ stopped.Unfinished c.in-Err-Unfinished.proof.trails c.in-Err-Unfinished.proof.gaps (c.args.budget - c.prove.new.left) = rw c.in-Err-Unfinished.field-0-is at c.unfinished.ensures in
-    subst (Stops c.args.fingers.now c.args.budget) (sym is) (spent_is c.in_ok-kinds.kinds c.args.fingers.now c.args.budget (c.args.budget - c.prove.new.left) c.in-Err-Unfinished.proof c.in_ok-kinds.ensures.kinds c.in_ok-kinds.ensures.sound told.1 (omega arith) (inl (omega (arith, told.0))))
+    subst (Stops c.args.fingers.now c.args.budget) (sym is) (spent_is c.in_ok-kinds.kinds c.args.fingers.now c.args.budget (c.args.budget - c.prove.new.left) c.in-Err-Unfinished.proof c.in_ok-kinds.ensures.kinds c.in_ok-kinds.ensures.sound told.proved (omega arith) (inl (omega (arith, told.none))) (omega (arith, told.nodes.few)) (inl (omega (arith, told.none, told.nodes.many))))
 
 pub first_row-requires : goal.first_row-requires
 first_row-requires c = record { few = few_gaps c.in_ok-kinds.kinds c.args.fingers.now c.in-Ok.proof.gaps c.in_ok-kinds.ensures.kinds c.in_ok-kinds.ensures.sound c.in-Ok.ensures.proof.least }
@@ -21,14 +21,14 @@ first_row-requires c = record { few = few_gaps c.in_ok-kinds.kinds c.args.finger
 pub returns-in-Ok-Some-clause-found : goal.returns-in-Ok-Some-clause-found
 returns-in-Ok-Some-clause-found c =
     let first : IsFirstRow c.in_ok-kinds.kinds c.in-Ok.proof.gaps c.in-Ok-Some.first = rw c.in-Ok-Some.field-0-is at c.in-Ok-Some.ensures.found in
-    subst (λ (z : Trails). IsTrailFound c.args.fingers.now c.args.budget c.in-Ok-Some.first.row z (c.args.budget - c.first_row.new.left)) (sym c.with_row.ensures) (found_is c.in_ok-kinds.kinds c.args.fingers.now c.args.budget (c.args.budget - c.first_row.new.left) c.in-Ok.proof c.in-Ok-Some.first c.in_ok-kinds.ensures.kinds c.in_ok-kinds.ensures.sound c.in-Ok.ensures.proof first (omega arith))
+    subst (λ (z : Trails). IsTrailFound c.args.fingers.now c.args.budget c.in-Ok-Some.first.row z (c.args.budget - c.first_row.new.left)) (sym c.with_row.ensures) (found_is c.in_ok-kinds.kinds c.args.fingers.now c.args.budget (c.args.budget - c.first_row.new.left) c.in-Ok.proof c.in-Ok-Some.first c.in_ok-kinds.ensures.kinds c.in_ok-kinds.ensures.sound c.in-Ok.ensures.proof first (omega arith) (omega (arith, c.in-Ok.ensures.nodes.few)))
 
 pub returns-in-Ok-None-clause-stopped : goal.returns-in-Ok-None-clause-stopped
 returns-in-Ok-None-clause-stopped c =
     let need : Need c.in_ok-kinds.kinds (start_of c.in_ok-kinds.kinds) (c.in-Ok.proof.gaps + 1) = rw c.in-Ok-None.field-0-is at c.in-Ok-None.ensures.none in
-    subst (Stops c.args.fingers.now c.args.budget) (sym c.unfinished-in-Ok-None.ensures) (spent_is c.in_ok-kinds.kinds c.args.fingers.now c.args.budget (c.args.budget - c.first_row.new.left) c.in-Ok.proof c.in_ok-kinds.ensures.kinds c.in_ok-kinds.ensures.sound c.in-Ok.ensures.proof (omega arith) (inr (none_as_few c.in_ok-kinds.kinds c.args.fingers.now c.in-Ok.proof.gaps c.in_ok-kinds.ensures.kinds need)))
+    subst (Stops c.args.fingers.now c.args.budget) (sym c.unfinished-in-Ok-None.ensures) (spent_is c.in_ok-kinds.kinds c.args.fingers.now c.args.budget (c.args.budget - c.first_row.new.left) c.in-Ok.proof c.in_ok-kinds.ensures.kinds c.in_ok-kinds.ensures.sound c.in-Ok.ensures.proof (omega arith) (inr (none_as_few c.in_ok-kinds.kinds c.args.fingers.now c.in-Ok.proof.gaps c.in_ok-kinds.ensures.kinds need)) (omega (arith, c.in-Ok.ensures.nodes.few)) (inr (most_proved c.in_ok-kinds.kinds c.args.fingers.now c.in-Ok.proof c.requires c.in_ok-kinds.ensures.kinds c.in_ok-kinds.ensures.sound c.in-Ok.ensures.proof c.in-Ok.ensures.most)))
 
 pub returns-in-Err-Spent-clause-stopped : goal.returns-in-Err-Spent-clause-stopped
 returns-in-Err-Spent-clause-stopped c =
     let spent : c.first_row.new.left ≡ 0 = rw c.in-Err-Spent.field-0-is at c.in-Err-Spent.ensures.halted in
-    subst (Stops c.args.fingers.now c.args.budget) (sym c.unfinished-in-Err-Spent.ensures) (spent_is c.in_ok-kinds.kinds c.args.fingers.now c.args.budget (c.args.budget - c.first_row.new.left) c.in-Ok.proof c.in_ok-kinds.ensures.kinds c.in_ok-kinds.ensures.sound c.in-Ok.ensures.proof (omega arith) (inl (omega (arith, spent))))
+    subst (Stops c.args.fingers.now c.args.budget) (sym c.unfinished-in-Err-Spent.ensures) (spent_is c.in_ok-kinds.kinds c.args.fingers.now c.args.budget (c.args.budget - c.first_row.new.left) c.in-Ok.proof c.in_ok-kinds.ensures.kinds c.in_ok-kinds.ensures.sound c.in-Ok.ensures.proof (omega arith) (inl (omega (arith, spent))) (omega (arith, c.in-Ok.ensures.nodes.few)) (inr (most_proved c.in_ok-kinds.kinds c.args.fingers.now c.in-Ok.proof c.requires c.in_ok-kinds.ensures.kinds c.in_ok-kinds.ensures.sound c.in-Ok.ensures.proof c.in-Ok.ensures.most)))

@@ -3,10 +3,10 @@ use Rattle.trail_prove.proofs.kept.Kept.keep.Goals as goal
 
 pub returns-clause-further : goal.returns-clause-further
 returns-clause-further c =
-    let it : IsListing c.args.levels.now c.args.done c.args.state.now c.args.bound c.in_ok-line.line c.in_ok-listed.listed = listing c.args.levels.now c.as_slice-2.result.now c.args.done c.args.state.now c.as_slice.result.now c.as_slice-3.result.now c.as_slice-4.result.now c.args.bound c.in_ok-line.line c.in_ok-listed.listed c.is_same_state.result c.in_ok-line.ensures c.as_slice.ensures c.as_slice-2.ensures c.in_ok-listed.ensures c.is_same_state.ensures c.as_slice-3.ensures c.as_slice-4.ensures c.if-not-is_same_state.false in
-    further_kept c.args.levels.now c.args.self.now (record { lemmas = c.push-2.new.self; lines = c.push.new.self }) c.in_ok-line.line c.in_ok-listed.listed c.args.done c.args.state.now c.args.bound c.requires.done c.requires.some c.requires.few c.requires.kept it c.requires.justified c.in_ok-push.ensures.ok c.in_ok-push-2.ensures.ok
+    let it : IsListing c.args.levels.now c.args.done c.args.state.now c.args.bound c.in_ok-line.line c.in_ok-lemma.lemma = listing c.args.levels.now c.as_slice-2.result.now c.args.done c.args.state.now c.as_slice.result.now c.args.bound c.in_ok-line.line c.in_ok-lemma.lemma c.requires.chained c.requires.state c.in_ok-line.ensures c.as_slice.ensures c.as_slice-2.ensures c.in_ok-lemma.ensures in
+    further_kept c.args.levels.now c.args.self.now (record { lemmas = c.push-2.new.self; lines = c.push.new.self }) c.in_ok-line.line c.in_ok-lemma.lemma c.args.done c.args.state.now c.args.bound c.requires.done c.requires.some c.requires.few c.requires.kept c.requires.state it c.requires.justified c.in_ok-push.ensures.ok c.in_ok-push-2.ensures.ok
 
 pub returns-clause-known : goal.returns-clause-known
 returns-clause-known c =
-    let it : IsListing c.args.levels.now c.args.done c.args.state.now c.args.bound c.in_ok-line.line c.in_ok-listed.listed = listing c.args.levels.now c.as_slice-2.result.now c.args.done c.args.state.now c.as_slice.result.now c.as_slice-3.result.now c.as_slice-4.result.now c.args.bound c.in_ok-line.line c.in_ok-listed.listed c.is_same_state.result c.in_ok-line.ensures c.as_slice.ensures c.as_slice-2.ensures c.in_ok-listed.ensures c.is_same_state.ensures c.as_slice-3.ensures c.as_slice-4.ensures c.if-not-is_same_state.false in
-    λ _. known_kept c.args.levels.now c.args.self.now.lemmas c.push-2.new.self c.in_ok-line.line c.in_ok-listed.listed c.args.done c.args.state.now c.args.bound it c.in_ok-push-2.ensures.ok
+    let it : IsListing c.args.levels.now c.args.done c.args.state.now c.args.bound c.in_ok-line.line c.in_ok-lemma.lemma = listing c.args.levels.now c.as_slice-2.result.now c.args.done c.args.state.now c.as_slice.result.now c.args.bound c.in_ok-line.line c.in_ok-lemma.lemma c.requires.chained c.requires.state c.in_ok-line.ensures c.as_slice.ensures c.as_slice-2.ensures c.in_ok-lemma.ensures in
+    known_kept c.args.levels.now c.args.self.now.lemmas c.push-2.new.self c.in_ok-line.line c.in_ok-lemma.lemma c.args.done c.args.state.now c.args.bound it c.in_ok-push-2.ensures.ok
