@@ -53,7 +53,7 @@ fn ends_so(
 
 #[test]
 fn makes_rows(rt: HostRuntime) -> Result<(), Fail> {
-    for (tech, words, said, len) in [
+    for (tech, words, said, len) in &[
         (
             "",
             "row - c.sp out pair inv inv",
@@ -80,7 +80,7 @@ fn makes_rows(rt: HostRuntime) -> Result<(), Fail> {
         ),
     ] {
         assert!(rt;
-            ends_so(rt.alloc(), tech, words, Status::Done, said, len)?,
+            ends_so(rt.alloc(), tech, words, Status::Done, said, *len)?,
             "{words}"
         );
     }
@@ -142,9 +142,9 @@ const STOPS: [(&str, &str, Status, &str); 8] = [
 // The first cell that is not made ends the row, whatever stands behind it, and no file is made.
 #[test]
 fn stops_at_the_first_cell(rt: HostRuntime) -> Result<(), Fail> {
-    for (tech, words, status, said) in STOPS {
+    for (tech, words, status, said) in &STOPS {
         assert!(rt;
-            ends_so(rt.alloc(), tech, words, status, said, 0)?,
+            ends_so(rt.alloc(), tech, words, *status, said, 0)?,
             "{words}"
         );
     }
@@ -221,7 +221,7 @@ fn tells_both_circuits(rt: HostRuntime) -> Result<(), Fail> {
         Some(bytes) => bytes,
         None => return Err(Fail::from("no library")),
     };
-    for (words, said) in CIRCUITS {
+    for (words, said) in &CIRCUITS {
         let mut files = FileList::new(alloc);
         files.push(File {
             name: name_of(alloc, "out.gds")?,

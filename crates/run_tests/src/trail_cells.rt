@@ -121,10 +121,10 @@ fn crowded(alloc: Global) -> Result<String, Fail> {
 #[test]
 fn makes_the_certificate_alone(rt: HostRuntime) -> Result<(), Fail> {
     let alloc = rt.alloc();
-    for (tech, spice, words, status, said, trails) in UNDRAWN {
-        let files = [tech, spice];
+    for (tech, spice, words, status, said, trails) in &UNDRAWN {
+        let files = [*tech, *spice];
         assert!(rt;
-            ends_so(alloc, words, files, status, said, Some(trails))?,
+            ends_so(alloc, words, files, *status, said, Some(*trails))?,
             "{said}"
         );
     }

@@ -33,7 +33,7 @@ end
 
 #[test]
 fn plans_by_trails(rt: HostRuntime) -> Result<(), Fail> {
-    for (tech, spice, cell, status, row, more) in [
+    for (tech, spice, cell, status, row, more) in &[
         (
             "",
             INVERTER,
@@ -63,7 +63,7 @@ fn plans_by_trails(rt: HostRuntime) -> Result<(), Fail> {
         let said = format!(in rt.alloc(); "{row}{more}")?;
         let (got, desk) = run_over(rt.alloc(), words.as_str(), [tech, spice, ""], &[])?;
         assert_eq!(rt; desk.all_said(), said.as_bytes());
-        assert_eq!(rt; got, status, "{said}");
+        assert_eq!(rt; got, *status, "{said}");
     }
     Ok(())
 }
@@ -96,7 +96,7 @@ fn checks_certificates_by_trails(rt: HostRuntime) -> Result<(), Fail> {
 
 #[test]
 fn refuses_certificates_by_trails(rt: HostRuntime) -> Result<(), Fail> {
-    for (head, order, lemmas, row, why) in [
+    for (head, order, lemmas, row, why) in &[
         ("cellgen-log 1\n", ORDER, LEMMAS, ROW, "Version"),
         ("cellgen-trails 1\ncell inv\n", ORDER, LEMMAS, ROW, "Cell"),
         (HEAD, "order 0 1 2\n", LEMMAS, ROW, "Line line 4"),
