@@ -1,5 +1,5 @@
 -- What each command gathers, comes to and ends with. Each lemma has a line for each of them.
-use Rattle.std.proofs.Common.{ℕ, ◌≡◌, ◌⊎◌, ◌++◌, true, List, [], ◌∷◌, Option, Some, None, Result, Ok, Err, IfOk, Contains, inl, inr, refl, sym, subst, arith}
+use Rattle.std.proofs.Common.{ℕ, ◌≡◌, ◌⊎◌, true, List, [], ◌∷◌, Option, Some, None, Result, Ok, Err, IfOk, Contains, inl, inr, refl, sym, subst}
 use Rattle.std.proofs.lemmas.List.Elements.{Contains-append_left}
 use Rattle.cell_num.specs.declared.list.NoMemory.{NoMemory as Short}
 use Rattle.agree_run.specs.Agree.{AgreesTo, comparing}
@@ -9,9 +9,9 @@ use Rattle.call_end.specs.declared.end.End.{End}
 use Rattle.call_end.specs.declared.status.Status.{Status}
 use Rattle.call_end.specs.declared.status.Status.TheVariants as status
 use Rattle.call_read.proofs.Reading.{Keeps, keeps_on}
-use Rattle.call_read.specs.InputFiles.{input_files, inputs_from, tech_files}
+use Rattle.call_read.specs.InputFiles.{input_files, inputs_from}
 use Rattle.call_read.specs.Reading.{Ends, ◌>>=◌}
-use Rattle.call_read.specs.Sources.{Source, TechFile, GdsFile, LefFile, LogFile, TrailFile}
+use Rattle.call_read.specs.Sources.{Source, LogFile, TrailFile}
 use Rattle.call_words.specs.Asked.{CellAsked, RowAsked}
 use Rattle.call_words.specs.declared.evidence.Evidence.TheVariants.{Log, Trails}
 use Rattle.call_words.specs.Words.{Form, Plan, Make, Check, Extract, Bench, Row, Agree}

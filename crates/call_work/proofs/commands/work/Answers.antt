@@ -1,4 +1,6 @@
+use Rattle.std.proofs.Common.{ℕ, List, IfOk, subst}
 use Rattle.call_work.proofs.EachCommand.{agree_works, bench_works, check_works, extract_works, make_works, plan_works, row_works, trail_check_works, trail_make_works, trail_plan_works}
+use Rattle.trail_run.specs.Check.{TrailChecksTo}
 use Rattle.call_work.proofs.commands.work.Goals as goal
 
 pub returns-in-Planning : goal.returns-in-Planning
@@ -29,4 +31,6 @@ pub returns-in-TrailMaking : goal.returns-in-TrailMaking
 returns-in-TrailMaking c = trail_make_works c.args.material.now c.in-TrailMaking.inputs c.in-TrailMaking.stem c.in-TrailMaking.style c.make_by_trails.result c.in-TrailMaking.is c.make_by_trails.ensures
 
 pub returns-in-TrailChecking : goal.returns-in-TrailChecking
-returns-in-TrailChecking c = trail_check_works c.args.material.now c.in-TrailChecking.inputs c.in-TrailChecking.bytes c.check_by_trails.result c.in-TrailChecking.is c.check_by_trails.ensures
+returns-in-TrailChecking c =
+    trail_check_works c.args.material.now c.in-TrailChecking.inputs c.in-TrailChecking.bytes c.check_by_trails.result c.in-TrailChecking.is
+    (subst (λ (bytes : List ℕ). IfOk c.check_by_trails.result (TrailChecksTo c.in-TrailChecking.inputs bytes)) c.as_slice.ensures.bytes c.check_by_trails.ensures)
