@@ -107,7 +107,7 @@ END LIBRARY
 
 fn cell(alloc: Global) -> Result<Subckt, NoMemory> {
     let mut nets = Names::new(alloc);
-    for word in [b"a".as_slice(), b"y", b"vdd", b"gnd"] {
+    for word in &[b"a".as_slice(), b"y", b"vdd", b"gnd"] {
         nets.push(copy(alloc, word)?)?;
     }
     let mut directions = DirectionList::new(alloc);

@@ -156,7 +156,7 @@ fn refuses(
 
 // One label in two nets, two labels in one, and a label off the conductor.
 #[test]
-fn refused_labels(rt: HostRuntime) -> Result<(), Fail> {
+fn refused_drawings(rt: HostRuntime) -> Result<(), Fail> {
     let alloc = rt.alloc();
     let name = named(alloc, b'a')?;
     let labels = [(b'a', Layer::Metal1, 15, 3), (b'a', Layer::Poly, 10, 0)];

@@ -92,7 +92,7 @@ fn refuses(alloc: Global, elements: &[u8], fault: GdsFault) -> Result<bool, Fail
 #[test]
 fn turned_boxes(rt: HostRuntime) -> Result<(), Fail> {
     let alloc = rt.alloc();
-    for (records, sides) in [
+    for (records, sides) in &[
         (&[][..], [0, 0, 10, 4]),
         (&[QUARTER][..], [-4, 0, 0, 10]),
         (&[HALF][..], [-10, -4, 0, 0]),
@@ -102,7 +102,7 @@ fn turned_boxes(rt: HostRuntime) -> Result<(), Fail> {
         (&[LONG_ONE][..], [0, 0, 10, 4]),
     ] {
         let one = reference(alloc, SREF, b"box\0", &[[0, 0]], records)?;
-        assert!(rt; draws(alloc, &one, &[sides])?);
+        assert!(rt; draws(alloc, &one, &[*sides])?);
     }
     Ok(())
 }
@@ -129,8 +129,8 @@ fn arrays(rt: HostRuntime) -> Result<(), Fail> {
     let array = reference(alloc, AREF, b"box\0", &odd, &[counts])?;
     assert!(rt; refuses(alloc, &array, GdsFault::Reference { at: AT })?);
     let below_one = (0x13, 2, &[0xff, 0xff, 0, 1][..]);
-    for at in [[0, 0], [300, 600]] {
-        let array = reference(alloc, AREF, b"box\0", &[at; 3], &[below_one])?;
+    for at in &[[0, 0], [300, 600]] {
+        let array = reference(alloc, AREF, b"box\0", &[*at; 3], &[below_one])?;
         assert!(rt; refuses(alloc, &array, GdsFault::Reference { at: AT })?);
     }
     Ok(())
@@ -139,7 +139,7 @@ fn arrays(rt: HostRuntime) -> Result<(), Fail> {
 #[test]
 fn refused_references(rt: HostRuntime) -> Result<(), Fail> {
     let alloc = rt.alloc();
-    for records in [&[SLANT][..], &[TWO][..], &[MIRRORED, MIRRORED][..]] {
+    for records in &[&[SLANT][..], &[TWO][..], &[MIRRORED, MIRRORED][..]] {
         let one = reference(alloc, SREF, b"box\0", &[[0, 0]], records)?;
         assert!(rt; refuses(alloc, &one, GdsFault::Reference { at: AT })?);
     }
