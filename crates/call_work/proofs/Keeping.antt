@@ -1,5 +1,5 @@
 -- Steps behind which a material is kept.
-use Rattle.std.proofs.Common.{ℕ, ◌≡◌, ◌≤◌, List, length, Some, Result, Ok, Err, inl, inr, refl, subst}
+use Rattle.std.proofs.Common.{ℕ, ◌≡◌, ◌≤◌, List, length, Some, Result, Ok, Err, IfErr, inl, inr, refl, sym, subst}
 use Rattle.cell_io.specs.Desk.{OnlyReads, View}
 use Rattle.check_run.specs.declared.checked_log.CheckedLog.{CheckedLog}
 use Rattle.call_work.specs.declared.commands.Material.{Material as Own}
@@ -10,7 +10,7 @@ use Rattle.call_work.specs.Commands.{IsKept, checking_over, gathered, making, Be
 use Rattle.row_make.specs.RowInputs.{RowInputs}
 use Rattle.cell_inputs.specs.declared.style.Style.{Style}
 use Rattle.cell_inputs.specs.Inputs.{Inputs}
-use Rattle.call_work.specs.Kept.{AreKept, MayKeep}
+use Rattle.call_work.specs.Kept.{AreKept, HoldsLog, MayKeep}
 use Rattle.check_run.specs.LogRead.{AreBegun, AreBehind}
 use Rattle.call_read.specs.Read.{IsRead}
 use Rattle.call_read.specs.Reading.{Reading, Ends, ◌>>=◌, MayCome, bytes_of}
@@ -45,14 +45,22 @@ keeps_unread old new log inputs e own read told =
     told
 
 -- a log that is behind all bytes of its file
-pub keeps_read : (old new : View) (log : List ℕ) (inputs : Inputs) (before after : CheckedLog) → AreBegun inputs before.reader before.checker → OnlyReads old new → (bytes : List ℕ) × AreBehind before.reader before.checker bytes after.reader after.checker × (length bytes ≤ most_bytes (LogFile log)) × IsRead old new (LogFile log) (Ok bytes) → MayKeep old new (checking_over Log log inputs) (Ok (held.Checking inputs after))
-keeps_read old new log inputs before after begun only (bytes, behind, few, read) =
-    keeps_behind old new new (bytes_of (LogFile log)) (λ (b : List ℕ). Ends (Ok (Checking, (inputs, b)))) (Ok bytes) bytes (Ok (held.Checking inputs after))
+pub keeps_read : (old new : View) (log : List ℕ) (inputs : Inputs) (checked : CheckedLog) → OnlyReads old new → HoldsLog old new log inputs checked → MayKeep old new (checking_over Log log inputs) (Ok (held.Checking inputs checked))
+keeps_read old new log inputs checked only (bytes, read, behind) =
+    keeps_behind old new new (bytes_of (LogFile log)) (λ (b : List ℕ). Ends (Ok (Checking, (inputs, b)))) (Ok bytes) bytes (Ok (held.Checking inputs checked))
     only
     (only_refl new)
     (came_bytes old new (LogFile log) (Ok bytes) read)
     refl
-    (Ok (Checking, (inputs, bytes)), inl refl, (bytes, refl, behind_all inputs bytes before.reader after.reader before.checker after.checker begun behind))
+    (Ok (Checking, (inputs, bytes)), inl refl, (bytes, refl, behind))
+
+pub holds_log : (old new : View) (log : List ℕ) (inputs : Inputs) (before after : CheckedLog) → AreBegun inputs before.reader before.checker → (bytes : List ℕ) × AreBehind before.reader before.checker bytes after.reader after.checker × (length bytes ≤ most_bytes (LogFile log)) × IsRead old new (LogFile log) (Ok bytes) → HoldsLog old new log inputs after
+holds_log old new log inputs before after begun (bytes, behind, few, read) = (bytes, read, behind_all inputs bytes before.reader after.reader before.checker after.checker begun behind)
+
+-- what holds of a refusal holds where it is handed on
+pub holds_handed : {A : Type 0} (Holds : Refusal → Type 0) (own : Result A Refusal) (e : Refusal) → IsHanded own e → Holds e → IfErr own Holds
+holds_handed Holds (Ok x) e told holds = tt
+holds_handed Holds (Err told) e (is, same) holds = subst Holds (sym same) holds
 
 -- a bench reads no file
 pub keeps_bench : (old new : View) (number : ℕ) → MayKeep old new (gathered (Some (Bench number))) (Ok (held.Benching number))

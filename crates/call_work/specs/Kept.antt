@@ -1,11 +1,16 @@
 -- What was gathered, as the program keeps it, and the work on it.
-use Rattle.std.specs.Prelude.{◌≡◌, Result, Ok, Err}
+use Rattle.std.specs.Prelude.{ℕ, ◌≡◌, List, Result, Ok, Err}
 use Rattle.cell_io.specs.Desk.{View}
 use Rattle.call_end.specs.declared.end.End.{End}
+use Rattle.call_read.specs.Read.{IsRead}
 use Rattle.call_read.specs.Reading.{Reading, MayCome}
+use Rattle.call_read.specs.Sources.{LogFile}
 use Rattle.call_read.specs.declared.refusal.Refusal.{Refusal}
 use Rattle.call_work.specs.Commands.{IsKept, Material, WorksTo}
 use Rattle.call_work.specs.declared.commands.Material.{Material as Kept}
+use Rattle.cell_inputs.specs.Inputs.{Inputs}
+use Rattle.check_run.specs.LogRead.{AreBehindAll}
+use Rattle.check_run.specs.declared.checked_log.CheckedLog.{CheckedLog}
 
 -- the material, or the refusal
 abbrev pub AreKept : Result Material Refusal → Result Kept Refusal → Type 0
@@ -20,3 +25,8 @@ MayKeep old new reading own = (got : Result Material Refusal) × MayCome old new
 -- the work on each material that is kept so may come to this end
 abbrev pub WorksFor : Kept → End → Type 0
 WorksFor kept end = (m : Material) → IsKept m kept → WorksTo m.0 m.1 end
+
+-- a log that is behind all bytes that were read of its file, for a check of these inputs
+abbrev pub HoldsLog : View → View → List ℕ → Inputs → CheckedLog → Type 0
+HoldsLog old new file inputs log =
+    (bytes : List ℕ) × IsRead old new (LogFile file) (Ok bytes) × AreBehindAll inputs bytes log.reader log.checker

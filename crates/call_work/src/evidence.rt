@@ -1,8 +1,9 @@
+ghost use Rattle.std.specs.Prelude.{Err, IfErr, IfOk};
 ghost use Rattle.cell_io.specs.Desk.{OnlyReads};
-ghost use Rattle.call_read.specs.Read.{KeepsReads};
-ghost use Rattle.call_words.specs.declared.evidence.Evidence.TheVariants.{Log, Trails};
+ghost use Rattle.call_read.specs.Read.{IsRead, KeepsReads};
+ghost use Rattle.call_read.specs.Sources.{LogFile};
 ghost use Rattle.call_work.specs.Commands.{IsKept, checking_over, making, planning};
-ghost use Rattle.call_work.specs.Kept.{MayKeep};
+ghost use Rattle.call_work.specs.Kept.{HoldsLog, MayKeep};
 
 use crate::commands::Material;
 use call_read::{Refusal, Source, read_file, read_to};
@@ -13,33 +14,21 @@ use check_run::CheckedLog;
 use make_run::Stem;
 use std::alloc::Global;
 
-fn with_log<D: Desk>(
+// The log of a check, behind all bytes of its file.
+fn read_log<D: Desk>(
     alloc: Global,
     desk: &mut D,
-    inputs: Inputs,
+    inputs: &Inputs,
     file: &str,
-) -> Result<Material, Refusal>
-    ensures comes { MayKeep (D.view desk.old) (D.view desk.new) (checking_over Log file.now inputs) result }
+) -> Result<CheckedLog, Refusal>
+    ensures read { IfOk result (λ log. HoldsLog (D.view desk.old) (D.view desk.new) file.now inputs.now log) }
+    ensures refused { IfErr result (λ e. IsRead (D.view desk.old) (D.view desk.new) (LogFile file.now) (Err e)) }
     ensures quiet { KeepsReads result (D.view desk.old) (D.view desk.new) }
     ensures only { OnlyReads (D.view desk.old) (D.view desk.new) }
 {
-    let mut checked = CheckedLog::new(alloc, &inputs)?;
-    read_to(alloc, desk, Source::Log(file), &mut checked)?;
-    Ok(Material::Checking(inputs, checked))
-}
-
-fn with_trails<D: Desk>(
-    alloc: Global,
-    desk: &mut D,
-    inputs: Inputs,
-    file: &str,
-) -> Result<Material, Refusal>
-    ensures comes { MayKeep (D.view desk.old) (D.view desk.new) (checking_over Trails file.now inputs) result }
-    ensures quiet { KeepsReads result (D.view desk.old) (D.view desk.new) }
-    ensures only { OnlyReads (D.view desk.old) (D.view desk.new) }
-{
-    let bytes = read_file(alloc, desk, Source::Trails(file))?;
-    Ok(Material::TrailChecking(inputs, bytes))
+    let mut log = CheckedLog::new(alloc, inputs)?;
+    read_to(alloc, desk, Source::Log(file), &mut log)?;
+    Ok(log)
 }
 
 /// Reads the file of evidence behind the inputs.
@@ -55,8 +44,14 @@ pub(crate) fn with_evidence<D: Desk>(
     ensures only { OnlyReads (D.view desk.old) (D.view desk.new) }
 {
     match evidence {
-        Evidence::Log => with_log(alloc, desk, inputs, file),
-        Evidence::Trails => with_trails(alloc, desk, inputs, file),
+        Evidence::Log => {
+            let log = read_log(alloc, desk, &inputs, file)?;
+            Ok(Material::Checking(inputs, log))
+        }
+        Evidence::Trails => {
+            let bytes = read_file(alloc, desk, Source::Trails(file))?;
+            Ok(Material::TrailChecking(inputs, bytes))
+        }
     }
 }
 
