@@ -1,10 +1,14 @@
-ghost use Rattle.std.specs.Prelude.{◌≡◌, ◌≤◌, ◌<◌, [], ◌∷◌, ◌++◌, IfOk, codes, length, string_bytes};
+ghost use Rattle.std.specs.Prelude.{◌≡◌, ◌≤◌, ◌<◌, ◌++◌, IfOk, codes, length, string_bytes};
+ghost use Rattle.call_end.specs.declared.status.Status.TheVariants as status;
+ghost use Rattle.call_end.specs.Status.{first_line};
+ghost use Rattle.cell_report.specs.Cells.{sizes_text};
+ghost use Rattle.cell_report.specs.Rows.{plan_text};
 ghost use Rattle.gds_read.specs.RoundTrip.{IsReadable};
 ghost use Rattle.gds_write.specs.Written.{written};
 ghost use Rattle.cell_make.specs.Making.{final_of};
 ghost use Rattle.cell_make.specs.Rows.{CanRowBeWritten, ComesFrom, row_answer};
 ghost use Rattle.lef_write.specs.Lef.{cell_text};
-ghost use Rattle.make_run.specs.Make.{IsDrawnEnd, IsEnd, IsRowEnd, RowEvidence as EvidenceOf};
+ghost use Rattle.make_run.specs.Make.{IsDrawnEnd, IsRowEnd, gds_file, lef_file, named};
 ghost use Rattle.make_run.specs.Evidence.{shown};
 
 use crate::evidence::RowEvidence;
@@ -60,6 +64,55 @@ fn lef_file(
     Ok(Output { name, bytes })
 }
 
+// What is told of a drawn row beside its evidence.
+#[derive(Drop)]
+struct DrawnParts {
+    library: Output,
+    summary: Output,
+    report: Bytes,
+}
+
+// The files of a drawn row beside its evidence, and its report with these counts of that. Files are dropped by calls,
+// here and below: where one goes out of scope by itself, all its parts are proved at once, and that takes minutes.
+fn drawn_parts(
+    alloc: Global,
+    cell: &Subckt,
+    stem: &Stem,
+    row: &Arrangement,
+    counts: &Bytes,
+    routing: &Routing,
+    drawn: &Drawn,
+    unit_nm: u32,
+) -> Result<DrawnParts, NoMemory>
+    requires columns { length row.now ≤ 64 }
+    requires pins { cell.now.pins.pins ≤ length cell.now.nets }
+    requires directions { length cell.now.directions ≡ cell.now.pins.pins }
+    requires shapes { length drawn.now.drawing.shapes.rects < MOST_SHAPES }
+    requires readable { IsReadable cell.now.name (final_of drawn.now).shapes unit_nm }
+    ensures library { IfOk result (λ parts. named parts.library
+        ≡ gds_file stem.now (written cell.now.name (final_of drawn.now).shapes unit_nm)) }
+    ensures summary { IfOk result (λ parts. named parts.summary
+        ≡ lef_file stem.now (cell_text cell.now routing.now drawn.now.drawing unit_nm)) }
+    ensures report { IfOk result (λ parts. parts.report ≡ first_line status.Done
+        ++ plan_text cell.now.name cell.now.nets row.now
+        ++ sizes_text routing.now.tracks drawn.now.drawing.width drawn.now.drawing.height ++ counts.now) }
+{
+    let drawing = &drawn.drawing;
+    let report = drawn_report(alloc, cell, row, routing.tracks, drawing, counts)?;
+    let library = gds_file(alloc, cell, stem, drawn.final_drawing(), unit_nm)?;
+    match lef_file(alloc, cell, stem, routing, drawing, unit_nm) {
+        Ok(summary) => Ok(DrawnParts {
+            library,
+            summary,
+            report,
+        }),
+        Err(fault) => {
+            drop(library);
+            Err(fault)
+        }
+    }
+}
+
 // The end of a drawn row: its evidence, then its drawing, with taps where there are taps, then its abstract.
 fn with_drawing(
     alloc: Global,
@@ -79,11 +132,29 @@ fn with_drawing(
     ensures { IfOk result (IsDrawnEnd cell.now stem.now row.now (shown evidence) routing.now drawn.now.drawing
         (final_of drawn.now) unit_nm) }
 {
-    let drawing = &drawn.drawing;
-    let report = drawn_report(alloc, cell, row, routing.tracks, drawing, &evidence.counts)?;
-    let library = gds_file(alloc, cell, stem, drawn.final_drawing(), unit_nm)?;
-    let summary = lef_file(alloc, cell, stem, routing, drawing, unit_nm)?;
-    End::makes_three(alloc, Status::Done, evidence.file, library, summary, report)
+    match drawn_parts(
+        alloc,
+        cell,
+        stem,
+        row,
+        &evidence.counts,
+        routing,
+        drawn,
+        unit_nm,
+    ) {
+        Ok(parts) => End::makes_three(
+            alloc,
+            Status::Done,
+            evidence.file,
+            parts.library,
+            parts.summary,
+            parts.report,
+        ),
+        Err(fault) => {
+            drop(evidence);
+            Err(fault)
+        }
+    }
 }
 
 /// The end of a row: its drawing; or its evidence alone, with a ring of its nets or a height that is not enough.
@@ -114,13 +185,19 @@ pub fn row_end(
             drawn,
             inputs.unit_nm(),
         ),
-        RowOutcome::Cyclic { ring, .. } => {
-            let report = cycle_report(alloc, &cell.nets, ring)?;
-            End::makes_one(alloc, Status::Cycle, evidence.file, report)
-        }
-        RowOutcome::Tall { needed, given, .. } => {
-            let report = tall_report(alloc, *needed, *given)?;
-            End::makes_one(alloc, Status::TooTall, evidence.file, report)
-        }
+        RowOutcome::Cyclic { ring, .. } => match cycle_report(alloc, &cell.nets, ring) {
+            Ok(report) => End::makes_one(alloc, Status::Cycle, evidence.file, report),
+            Err(fault) => {
+                drop(evidence);
+                Err(fault)
+            }
+        },
+        RowOutcome::Tall { needed, given, .. } => match tall_report(alloc, *needed, *given) {
+            Ok(report) => End::makes_one(alloc, Status::TooTall, evidence.file, report),
+            Err(fault) => {
+                drop(evidence);
+                Err(fault)
+            }
+        },
     }
 }

@@ -1,5 +1,7 @@
 ghost use Rattle.std.specs.Prelude.{IfOk};
 ghost use Rattle.bound_log.specs.Fits.{Fits, ForSome, IsLogName};
+ghost use Rattle.cell_make.specs.Rows.{CanRowBeWritten, ComesFrom};
+ghost use Rattle.cell_make.specs.Searched.{IsFound};
 ghost use Rattle.make_run.specs.Make.{IsUnfinishedEnd, MakesTo};
 
 use crate::evidence::{RowEvidence, log_file};
@@ -11,6 +13,7 @@ use cell_inputs::Style;
 use cell_make::{Inputs, Planned, RowOutcome};
 use cell_num::NoMemory;
 use log_output::KeptLog;
+use row_model::Arrangement;
 use spice_net::Subckt;
 use std::alloc::Global;
 
@@ -30,6 +33,27 @@ fn unfinished(
     End::makes_one(alloc, Status::Unfinished, file, report)
 }
 
+// Tells what the row that was found came to, with its log.
+#[tactic(auto, using(cell_inputs::proofs::Names::log_name))]
+fn found(
+    alloc: Global,
+    inputs: &Inputs,
+    stem: &Stem,
+    style: Style,
+    row: &Arrangement,
+    log: KeptLog,
+    came: &RowOutcome,
+) -> Result<End, NoMemory>
+    requires found { IsFound inputs.now row.now log }
+    requires comes { ComesFrom style inputs.now row.now came.now }
+    requires written { CanRowBeWritten inputs.now came.now }
+    ensures { IfOk result (MakesTo style inputs.now stem.now) }
+{
+    inputs.show_limits();
+    let evidence = RowEvidence::of_log(alloc, &inputs.cell, stem, log)?;
+    row_end(alloc, inputs, stem, style, row, came, evidence)
+}
+
 /// The drawing of the first least row with its log; or the log, with a ring of its nets, with a height that
 /// is not enough, or of a search that spent its budget.
 #[tactic(auto, using(cell_inputs::proofs::Names::log_name))]
@@ -41,8 +65,9 @@ pub fn make(alloc: Global, inputs: &Inputs, stem: &Stem, style: Style) -> Result
     match planned {
         Planned::Found { row, log } => {
             let came = RowOutcome::of(alloc, inputs, style, &row)?;
-            let evidence = RowEvidence::of_log(alloc, &inputs.cell, stem, log)?;
-            row_end(alloc, inputs, stem, style, &row, &came, evidence)
+            let end = found(alloc, inputs, stem, style, &row, log, &came);
+            drop(came);
+            end
         }
         Planned::Unfinished { log, proved } => unfinished(alloc, &inputs.cell, stem, log, proved),
     }

@@ -2,9 +2,8 @@ use Rattle.std.proofs.Common.{subst}
 use Rattle.cell_inputs.specs.Inputs.{inputs_of}
 use Rattle.cell_make.specs.declared.planned.Planned.{Planned}
 use Rattle.cell_make.specs.Searched.{IsFound, IsPlanned, IsUnfinished}
-use Rattle.make_run.specs.Evidence.{shown}
-use Rattle.make_run.proofs.Makes.{found_short, inside_named, row_makes, spent_makes}
-use Rattle.make_run.proofs.Planned.{found_fits, spent_fits}
+use Rattle.make_run.proofs.Makes.{inside_named, spent_makes}
+use Rattle.make_run.proofs.Planned.{spent_fits}
 use Rattle.make_run.proofs.making.make.Goals as goal
 
 pub of-requires-in-Found : goal.of-requires-in-Found
@@ -12,24 +11,8 @@ of-requires-in-Found c =
     let found : IsFound c.args.inputs.now c.in-Found.row c.in-Found.log = subst (λ (p : Planned). IsPlanned c.args.inputs.now p) c.in-Found.is c.in_ok-planned.ensures in
     found.first.arranges
 
-pub of_log-requires-clause-name : goal.of_log-requires-clause-name
-of_log-requires-clause-name c = inside_named c.args.inputs.now (inputs_of c.inputs.inside.tech c.inputs.inside.cell c.inputs.inside.fingers) c.inputs.view_is c.show_limits.ensures
-
-pub of_log-requires-clause-fits : goal.of_log-requires-clause-fits
-of_log-requires-clause-fits c =
-    let found : IsFound c.args.inputs.now c.in-Found.row c.in-Found.log = subst (λ (p : Planned). IsPlanned c.args.inputs.now p) c.in-Found.is c.in_ok-planned.ensures in
-    found_fits c.args.inputs.now c.in-Found.row c.in-Found.log found.certified
-
-pub row_end-requires-clause-columns : goal.row_end-requires-clause-columns
-row_end-requires-clause-columns c =
-    let found : IsFound c.args.inputs.now c.in-Found.row c.in-Found.log = subst (λ (p : Planned). IsPlanned c.args.inputs.now p) c.in-Found.is c.in_ok-planned.ensures in
-    found_short c.args.inputs.now c.in-Found.row c.in-Found.log c.show_limits.ensures found
-
-pub returns-in_ok-evidence-in-Found : goal.returns-in_ok-evidence-in-Found
-returns-in_ok-evidence-in-Found c =
-    let found : IsFound c.args.inputs.now c.in-Found.row c.in-Found.log = subst (λ (p : Planned). IsPlanned c.args.inputs.now p) c.in-Found.is c.in_ok-planned.ensures in
-    row_makes c.args.style c.args.inputs.now (inputs_of c.inputs.inside.tech c.inputs.inside.cell c.inputs.inside.fingers) c.args.stem.now c.in-Found.row c.in-Found.log c.in_ok-came-in-Found.came (shown c.in_ok-evidence-in-Found.evidence) c.row_end.result
-    c.inputs.view_is found c.in_ok-came-in-Found.ensures.comes c.in_ok-evidence-in-Found.ensures c.row_end.ensures
+pub found-end-requires-clause-found : goal.found-end-requires-clause-found
+found-end-requires-clause-found c = subst (λ (p : Planned). IsPlanned c.args.inputs.now p) c.in-Found.is c.in_ok-planned.ensures
 
 pub unfinished-requires-clause-name : goal.unfinished-requires-clause-name
 unfinished-requires-clause-name c = inside_named c.args.inputs.now (inputs_of c.inputs.inside.tech c.inputs.inside.cell c.inputs.inside.fingers) c.inputs.view_is c.show_limits.ensures
