@@ -1,5 +1,5 @@
 -- What the top call owes of `make`, from the end that the files call for and how it was told.
-use Rattle.std.proofs.Common.{ℕ, ◌≡◌, ◌≤◌, true, List, Option, IfSome, refl, arith, subst}
+use Rattle.std.proofs.Common.{ℕ, ◌≡◌, ◌≤◌, true, List, Option, IfSome, arith, subst}
 use Rattle.cell_io.specs.Desk.{Files, View}
 use Rattle.log_check.specs.Accepted.{ForKinds}
 use Rattle.bound_log.specs.declared.log.Log.{Log as SearchLog}
