@@ -10,8 +10,7 @@ use Rattle.call_end.specs.Deliver.{MakesAll}
 use Rattle.call_end.proofs.Delivered.{none_made}
 use Rattle.call_words.specs.declared.evidence.Evidence.{Evidence}
 use Rattle.call_words.specs.declared.evidence.Evidence.TheVariants.{Log, Trails}
-use Rattle.cell_run.specs.Evidence.{evidence_name}
-use Rattle.cell_run.specs.Headline.{HasCell, HasEvidence}
+use Rattle.cell_run.specs.Evidence.{HasCell, HasEvidence, evidence_name}
 use Rattle.cell_run.specs.Row.{HasLibrary}
 use Rattle.make_run.specs.Make.{named}
 

@@ -1,5 +1,6 @@
--- The evidence of a row, by its kind: the log of a search, or a certificate by trails.
-use Rattle.std.specs.Prelude.{ℕ, List, ◌++◌, codes, length}
+-- The evidence of a row, by its kind: the log of a search, or a certificate by trails. Its file, and those beside it.
+use Rattle.std.specs.Prelude.{ℕ, ◌≡◌, ◌≢◌, List, ◌++◌, codes, length, Some}
+use Rattle.cell_io.specs.Desk.{Files}
 use Rattle.cell_num.specs.Lines.{count_line}
 use Rattle.row_model.specs.declared.column.Column.{Column}
 use Rattle.bound_log.specs.declared.log.Log.{Log as SearchLog}
@@ -49,3 +50,20 @@ lemma_count Trails trails = length trails.lemmas
 abbrev pub evidence_counts : (evidence : Evidence) → CertificateOf evidence → List ℕ
 evidence_counts Log log = count_line (codes "lemmas ") (length log.lemmas)
 evidence_counts Trails trails = counts_text (length trails.lemmas) (length trails.fill)
+
+-- ---- files
+
+-- the text of the evidence in a file of this name, the bytes of the drawing and the text of its abstract are there, and
+-- all other files are as before
+pub record HasCell (file out text bytes summary : List ℕ) (old new : Files) : Type 0 where
+  pub evidence : new file ≡ Some text
+  pub drawing : new (out ++ codes ".gds") ≡ Some bytes
+  pub lef : new (out ++ codes ".lef") ≡ Some summary
+  pub others : (name : List ℕ)
+      → name ≢ file → name ≢ out ++ codes ".gds" → name ≢ out ++ codes ".lef"
+      → new name ≡ old name
+
+-- the text of the evidence is there, and all other files are as before
+pub record HasEvidence (file text : List ℕ) (old new : Files) : Type 0 where
+  pub evidence : new file ≡ Some text
+  pub others : (name : List ℕ) → name ≢ file → new name ≡ old name

@@ -1,6 +1,6 @@
 -- What a call of `make` leaves behind: the drawing of a cell with its evidence, or the evidence of why there is
 -- none. Files and what was said are told where the desk tells them.
-use Rattle.std.specs.Prelude.{ℕ, ◌≡◌, ◌≢◌, ◌<◌, ◌≤◌, ◌⊎◌, IsTrue, List, [], ◌∷◌, ◌++◌, codes, Option, Some}
+use Rattle.std.specs.Prelude.{ℕ, ◌≡◌, ◌<◌, ◌≤◌, ◌⊎◌, IsTrue, List, [], ◌∷◌, ◌++◌, Option, Some}
 use Rattle.agree_laws.specs.Abstracts.{IsAbstractOf}
 use Rattle.cell_io.specs.Desk.{Files, View, Both}
 use Rattle.cell_num.specs.Names.{lowered}
@@ -21,7 +21,7 @@ use Rattle.gds_read.specs.Decoding.{Decodes}
 use Rattle.lef_write.specs.Drawn.{AreAllMetal, AreOfNet, HasTrunkPorts, IsSized}
 use Rattle.call_end.specs.Status.{first_line}
 use Rattle.call_work.specs.Commands.{Making, TrailMaking}
-use Rattle.cell_run.specs.Evidence.{CertificateOf, Certifies, ProvesAlone, evidence_counts, evidence_name, evidence_text, lemma_count}
+use Rattle.cell_run.specs.Evidence.{CertificateOf, Certifies, HasCell, HasEvidence, ProvesAlone, evidence_counts, evidence_name, evidence_text, lemma_count}
 use Rattle.cell_run.specs.Ended.{Gathers, IsOfKind, WhereEnds}
 use Rattle.call_end.specs.declared.status.Status.{Status}
 use Rattle.call_end.specs.declared.status.Status.TheVariants as status
@@ -68,23 +68,6 @@ WhereMakeEnds Log files form answer settled Says =
     WhereEnds Making files form answer settled (λ m. IsAskedFor form m.2 Log m.0 m.1 × Says m.2 m.0 m.1)
 WhereMakeEnds Trails files form answer settled Says =
     WhereEnds TrailMaking files form answer settled (λ m. IsAskedFor form m.2 Trails m.0 m.1 × Says m.2 m.0 m.1)
-
--- ---- files
-
--- the text of the evidence in a file of this name, the bytes of the drawing and the text of its abstract are there, and
--- all other files are as before
-pub record HasCell (file out text bytes summary : List ℕ) (old new : Files) : Type 0 where
-  pub evidence : new file ≡ Some text
-  pub drawing : new (out ++ codes ".gds") ≡ Some bytes
-  pub lef : new (out ++ codes ".lef") ≡ Some summary
-  pub others : (name : List ℕ)
-      → name ≢ file → name ≢ out ++ codes ".gds" → name ≢ out ++ codes ".lef"
-      → new name ≡ old name
-
--- the text of the evidence is there, and all other files are as before
-pub record HasEvidence (file text : List ℕ) (old new : Files) : Type 0 where
-  pub evidence : new file ≡ Some text
-  pub others : (name : List ℕ) → name ≢ file → new name ≡ old name
 
 -- ---- a cell that was drawn
 

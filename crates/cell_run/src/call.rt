@@ -15,8 +15,7 @@ ghost use Rattle.call_work.specs.Commands.{Agreeing, TrailPlanning, read_by};
 ghost use Rattle.cell_run.specs.Ended.{WhereEnds};
 ghost use Rattle.cell_run.specs.Headline.{CanBeDrawn, FromInputs, HasCycle, IsCyclicCell, IsMadeCell, IsMake, IsOrShort, IsSpentSearch, IsTallCell, IsTooHigh, MakesNone, OfFirstLeast, WhereMakeEnds};
 ghost use Rattle.cell_run.specs.Plan.{HasEnough};
-ghost use Rattle.cell_run.specs.Row.{CanBeRowed, IsMisreadRow, IsRow, IsRowedLibrary, IsStopStatus, IsStoppedRow, IsUnabuttedRow};
-ghost use Rattle.cell_run.specs.Row.{MayLeaveFile, MayMakeFiles, OfRow, WhereRowEnds};
+ghost use Rattle.cell_run.specs.Row.{CanBeRowed, IsMisreadRow, IsRow, IsRowedLibrary, IsStopStatus, IsStoppedRow, IsUnabuttedRow, MayLeaveFile, MayMakeFiles, OfRow, WhereRowEnds};
 ghost use Rattle.cell_run.specs.Trails.{HoldsAcceptedTrails, IsTrailCheck, IsTrailPlanned, IsTrailUnfinished, IsTrailUnmade};
 ghost use Rattle.call_read.specs.Sources.{Lacks};
 ghost use Rattle.call_words.specs.Words.{asked};
@@ -42,11 +41,7 @@ fn end_of<D: Desk>(alloc: Global, words: &[String], desk: &mut D) -> Result<End,
             drop(material);
             end
         }
-        Err(refusal) => {
-            let end = refused(alloc, &refusal);
-            drop(refusal);
-            end
-        }
+        Err(refusal) => refused(alloc, &refusal),
     }
 }
 

@@ -14,10 +14,10 @@ returns-in-Ok-clause-ends g c =
 
 pub returns-in-Err-clause-ends : goal.returns-in-Err-clause-ends
 returns-in-Err-clause-ends g c =
-    ends_refused (g.D.Desk.view c.args.desk.now) (g.D.Desk.view c.gather.new.desk) (asked c.args.words.now) c.gather.result c.in-Err.refusal c.refused-end.result
+    ends_refused (g.D.Desk.view c.args.desk.now) (g.D.Desk.view c.gather.new.desk) (asked c.args.words.now) c.gather.result c.in-Err.refusal c.refused.result
     (subst (λ (form : Option Form). MayKeep (g.D.Desk.view c.args.desk.now) (g.D.Desk.view c.gather.new.desk) (gathered form) c.gather.result) c.form_of.ensures c.gather.ensures.comes)
     c.in-Err.is
-    c.refused-end.ensures
+    c.refused.ensures
 
 pub returns-in-Ok-clause-quiet : goal.returns-in-Ok-clause-quiet
 returns-in-Ok-clause-quiet g c =
@@ -25,7 +25,7 @@ returns-in-Ok-clause-quiet g c =
 
 pub returns-in-Err-clause-quiet : goal.returns-in-Err-clause-quiet
 returns-in-Err-clause-quiet g c =
-    reads_refused (g.D.Desk.view c.args.desk.now) (g.D.Desk.view c.gather.new.desk) c.gather.result c.in-Err.refusal c.refused-end.result c.gather.ensures.quiet c.in-Err.is c.refused-end.ensures
+    reads_refused (g.D.Desk.view c.args.desk.now) (g.D.Desk.view c.gather.new.desk) c.gather.result c.in-Err.refusal c.refused.result c.gather.ensures.quiet c.in-Err.is c.refused.ensures
 
 pub returns-in-Ok-clause-only : goal.returns-in-Ok-clause-only
 returns-in-Ok-clause-only g c = c.gather.ensures.only
