@@ -27,8 +27,14 @@ fn read_log<D: Desk>(
     ensures only { OnlyReads (D.view desk.old) (D.view desk.new) }
 {
     let mut log = CheckedLog::new(alloc, inputs)?;
-    read_to(alloc, desk, Source::Log(file), &mut log)?;
-    Ok(log)
+    match read_to(alloc, desk, Source::Log(file), &mut log) {
+        Ok(()) => Ok(log),
+        Err(refusal) => {
+            // (a call, whose proof is short: in place all its parts would be dropped one by one)
+            drop(log);
+            Err(refusal)
+        }
+    }
 }
 
 /// Reads the file of evidence behind the inputs.
