@@ -152,7 +152,7 @@ log_leaves style inputs out end answer old new (made.Made row log routing xs, h,
 log_leaves style inputs out end answer old new (made.Cyclic row log ring, h, is) whole =
     row_leaves Log style inputs out row log (RowCyclic ring) end answer old new h.0.first h.0.certified h.1 is whole
 log_leaves style inputs out end answer old new (made.Tall row log routing, h, is) whole =
-    row_leaves Log style inputs out row log (RowTall routing) end answer old new h.0.first h.0.certified h.1 is whole
+    row_leaves Log style inputs out row log (RowTall routing) end answer old new h.0.first h.0.certified (h.1, h.2) is whole
 log_leaves style inputs out end answer old new (made.Unfinished proved log, h, is) whole =
     by_end (Leaves Log style inputs out old new) status.Unfinished answer end old new is.status whole (spent_so Log inputs out proved log end answer old new h is whole)
 

@@ -29,15 +29,24 @@ use cell_io::Desk;
 use cell_num::{Bytes, NoMemory};
 use std::alloc::Global;
 
-// Gathers what the words ask for and does the work on it.
+// Gathers what the words ask for and does the work on it. What was gathered is dropped by a call, which is proved type
+// by type: where it goes out of scope by itself, all of its parts are proved at once, and that takes minutes.
 fn end_of<D: Desk>(alloc: Global, words: &[String], desk: &mut D) -> Result<End, NoMemory>
     ensures ends { IfOk result (MayEnd (D.view desk.old) (D.view desk.new) (asked words.now)) }
     ensures quiet { IfOk result (KeepsReadsOf (D.view desk.old) (D.view desk.new)) }
     ensures only { OnlyReads (D.view desk.old) (D.view desk.new) }
 {
     match gather(alloc, desk, form_of(words)) {
-        Ok(material) => work(alloc, &material),
-        Err(refusal) => refused(alloc, &refusal),
+        Ok(material) => {
+            let end = work(alloc, &material);
+            drop(material);
+            end
+        }
+        Err(refusal) => {
+            let end = refused(alloc, &refusal);
+            drop(refusal);
+            end
+        }
     }
 }
 

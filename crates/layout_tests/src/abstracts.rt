@@ -1,5 +1,5 @@
 use crate::drawings::{Sides, shapes_of};
-use box_geom::Layer;
+use box_geom::{Layer, Shapes};
 use cell_draw::{Drawing, MOST_SHAPES};
 use cell_num::{Names, NetNo, NoMemory, Pins, copy};
 use channel_route::{Routing, Trunk, TrunkList};
@@ -9,7 +9,7 @@ use std::alloc::Global;
 use std::test::Fail;
 
 // An inverter on its least lines, but for its metal2.
-pub const INVERTER: [(Layer, Sides); 27] = [
+const INVERTER: [(Layer, Sides); 27] = [
     (Layer::Well, [-10, 62, 51, 118]),
     (Layer::PSelect, [-2, 70, 43, 98]),
     (Layer::NSelect, [-2, 20, 43, 38]),
@@ -105,11 +105,15 @@ END inv
 END LIBRARY
 ";
 
-fn cell(alloc: Global) -> Result<Subckt, NoMemory> {
+fn nets(alloc: Global) -> Result<Names, NoMemory> {
     let mut nets = Names::new(alloc);
-    for word in [b"a".as_slice(), b"y", b"vdd", b"gnd"] {
+    for word in &[b"a".as_slice(), b"y", b"vdd", b"gnd"] {
         nets.push(copy(alloc, word)?)?;
     }
+    Ok(nets)
+}
+
+fn directions(alloc: Global) -> Result<DirectionList, NoMemory> {
     let mut directions = DirectionList::new(alloc);
     directions.extend(&[
         Direction::Input,
@@ -117,6 +121,12 @@ fn cell(alloc: Global) -> Result<Subckt, NoMemory> {
         Direction::Inout,
         Direction::Inout,
     ])?;
+    Ok(directions)
+}
+
+fn cell(alloc: Global) -> Result<Subckt, NoMemory> {
+    let nets = nets(alloc)?;
+    let directions = directions(alloc)?;
     Ok(Subckt {
         name: copy(alloc, b"inv")?,
         pins: Pins {
@@ -145,23 +155,33 @@ fn routing(alloc: Global) -> Result<Routing, NoMemory> {
     Ok(Routing { tracks: 1, trunks })
 }
 
-fn drawing(alloc: Global, metal2: &[(Layer, Sides)]) -> Result<Drawing, Fail> {
+/// The inverter with this metal2.
+pub fn inverter(alloc: Global, metal2: &[(Layer, Sides)]) -> Result<Shapes, Fail> {
     let mut shapes = shapes_of(alloc, &INVERTER)?;
     let upper = shapes_of(alloc, metal2)?;
     shapes.rects.extend(upper.rects.as_slice())?;
+    Ok(shapes)
+}
+
+fn drawing(alloc: Global, metal2: &[(Layer, Sides)]) -> Result<Drawing, Fail> {
     Ok(Drawing {
-        shapes,
+        shapes: inverter(alloc, metal2)?,
         width: 41,
         height: 118,
     })
 }
 
+fn written(alloc: Global, lines: &[u8]) -> Result<Vec<u8>, Fail> {
+    let mut text = Vec::new(alloc);
+    text.extend_from_slice(TEXT)?;
+    text.extend_from_slice(lines)?;
+    text.extend_from_slice(END_TEXT)?;
+    Ok(text)
+}
+
 // Whether the inverter with this metal2 is written with these lines before the last ones.
 fn is_written(alloc: Global, metal2: &[(Layer, Sides)], lines: &[u8]) -> Result<bool, Fail> {
-    let mut want = Vec::new(alloc);
-    want.extend_from_slice(TEXT)?;
-    want.extend_from_slice(lines)?;
-    want.extend_from_slice(END_TEXT)?;
+    let want = written(alloc, lines)?;
     let cell = cell(alloc)?;
     let drawing = drawing(alloc, metal2)?;
     if cell.pins.pins as usize > cell.nets.len()

@@ -1,8 +1,7 @@
 // Macros against the drawing of an inverter; the grid unit is 150 nm.
-use crate::abstracts::{END_TEXT, INVERTER, METAL2, METAL2_TEXT, TEXT};
-use crate::drawings::shapes_of;
+use crate::abstracts::{self, END_TEXT, METAL2, METAL2_TEXT, TEXT};
 use box_geom::{Label, Layer, Shapes};
-use cell_num::copy;
+use cell_num::{NoMemory, copy};
 use lef_agree::{Differ, agree};
 use lef_read::{Macro, read_macro};
 use net_extract::ExtractFault;
@@ -23,43 +22,59 @@ fn read(alloc: Global, parts: &[&[u8]]) -> Result<Macro, Fail> {
     Ok(cell)
 }
 
+fn label(alloc: Global, name: &[u8], x: i32, y: i32) -> Result<Label, NoMemory> {
+    Ok(Label {
+        layer: Layer::Metal1,
+        x,
+        y,
+        name: copy(alloc, name)?,
+    })
+}
+
 // The inverter's shapes, with labels on the pieces of metal1 at its input, its output and its rails.
 fn inverter(alloc: Global, output: &[u8]) -> Result<Shapes, Fail> {
-    let mut shapes = shapes_of(alloc, &INVERTER)?;
-    let wires = shapes_of(alloc, &METAL2)?;
-    shapes.rects.extend(wires.rects.as_slice())?;
-    let labels = [
-        (b"a".as_slice(), 22, 54),
-        (output, 8, 54),
-        (b"vdd", 8, 110),
-        (b"gnd", 8, 8),
-    ];
-    for (name, x, y) in labels {
-        shapes.labels.push(Label {
-            layer: Layer::Metal1,
-            x,
-            y,
-            name: copy(alloc, name)?,
-        })?;
-    }
+    let mut shapes = abstracts::inverter(alloc, &METAL2)?;
+    shapes.labels.push(label(alloc, b"a", 22, 54)?)?;
+    shapes.labels.push(label(alloc, output, 8, 54)?)?;
+    shapes.labels.push(label(alloc, b"vdd", 8, 110)?)?;
+    shapes.labels.push(label(alloc, b"gnd", 8, 8)?)?;
     Ok(shapes)
 }
 
-// What a text comes to beside the inverter; it has no clauses either.
+// It has no clauses either.
+fn answer(alloc: Global, shapes: &Shapes, cell: &Macro) -> Result<(), Differ> {
+    agree(alloc, shapes, cell)
+}
+
+// What a text comes to beside the inverter.
 fn compare(alloc: Global, parts: &[&[u8]]) -> Result<Result<(), Differ>, Fail> {
     let cell = read(alloc, parts)?;
     let shapes = inverter(alloc, b"y")?;
-    Ok(agree(alloc, &shapes, &cell))
+    Ok(answer(alloc, &shapes, &cell))
 }
 
-fn is_port(answer: Result<(), Differ>, at: [i32; 2]) -> bool {
+fn is_port(answer: &Result<(), Differ>, at: [i32; 2]) -> bool {
     match answer {
-        Err(Differ::Port { name, x, y }) => name.as_slice() == b"a".as_slice() && [x, y] == at,
+        Err(Differ::Port { name, x, y }) => name.as_slice() == b"a".as_slice() && [*x, *y] == at,
         _ => false,
     }
 }
 
-fn lacks(answer: Result<(), Differ>, want: &[u8]) -> bool {
+fn is_bare(answer: &Result<(), Differ>, metal: Layer, at: [i32; 2]) -> bool {
+    match answer {
+        Err(Differ::Bare { layer, x, y }) => *layer == metal && [*x, *y] == at,
+        _ => false,
+    }
+}
+
+fn is_split(answer: &Result<(), Differ>, want: &[u8]) -> bool {
+    match answer {
+        Err(Differ::Extract(ExtractFault::Split { name })) => name.as_slice() == want,
+        _ => false,
+    }
+}
+
+fn lacks(answer: &Result<(), Differ>, want: &[u8]) -> bool {
     match answer {
         Err(Differ::NoLabel { name }) => name.as_slice() == want,
         _ => false,
@@ -76,12 +91,7 @@ fn agrees(rt: HostRuntime) -> Result<(), Fail> {
 #[test]
 fn tells_bare_metal(rt: HostRuntime) -> Result<(), Fail> {
     let answer = compare(rt.alloc(), &[TEXT, END_TEXT])?;
-    let want = Differ::Bare {
-        layer: Layer::Metal2,
-        x: 4,
-        y: 36,
-    };
-    assert!(rt; answer == Err(want));
+    assert!(rt; is_bare(&answer, Layer::Metal2, [4, 36]));
     Ok(())
 }
 
@@ -93,9 +103,9 @@ const PORT_END: &[u8] = b" 7.5 3.9 8.7 ; END END a END inv";
 fn tells_ports(rt: HostRuntime) -> Result<(), Fail> {
     let alloc = rt.alloc();
     let wide = compare(alloc, &[PORT, b"metal1 ; RECT 2.55", PORT_END])?;
-    assert!(rt; is_port(wide, [17, 50]));
+    assert!(rt; is_port(&wide, [17, 50]));
     let other = compare(alloc, &[PORT, b"metal2 ; RECT 2.7", PORT_END])?;
-    assert!(rt; is_port(other, [18, 50]));
+    assert!(rt; is_port(&other, [18, 50]));
     Ok(())
 }
 
@@ -103,10 +113,10 @@ fn tells_ports(rt: HostRuntime) -> Result<(), Fail> {
 #[test]
 fn tells_labels(rt: HostRuntime) -> Result<(), Fail> {
     let alloc = rt.alloc();
-    assert!(rt; lacks(compare(alloc, &[b"MACRO inv PIN b END b END inv"])?, b"b"));
+    assert!(rt; lacks(&compare(alloc, &[b"MACRO inv PIN b END b END inv"])?, b"b"));
     assert!(rt;
         lacks(
-            compare(alloc, &[b"MACRO inv PIN _1 END _1 END inv"])?,
+            &compare(alloc, &[b"MACRO inv PIN _1 END _1 END inv"])?,
             b"_1"
         )
     );
@@ -118,11 +128,6 @@ fn tells_no_netlist(rt: HostRuntime) -> Result<(), Fail> {
     let alloc = rt.alloc();
     let cell = read(alloc, &[b"MACRO inv END inv"])?;
     let shapes = inverter(alloc, b"a")?;
-    match agree(alloc, &shapes, &cell) {
-        Err(Differ::Extract(ExtractFault::Split { name })) => {
-            assert_eq!(rt; name.as_slice(), b"a".as_slice());
-            Ok(())
-        }
-        _ => Err(Fail::from("another answer")),
-    }
+    assert!(rt; is_split(&answer(alloc, &shapes, &cell), b"a"));
+    Ok(())
 }

@@ -2,7 +2,7 @@ ghost use Rattle.std.specs.Prelude.{◌≤◌, All, IfOk, length};
 ghost use Rattle.row_model.specs.Arrangement.{IsColumn};
 ghost use Rattle.cell_draw.specs.Small.{HasWidths};
 
-use crate::cells::{COLUMN, PINS, sides};
+use crate::cells::{COLUMN, PINS, is_at};
 use cell_draw::{DrawFault, Drawing, MOST_X, draw_base};
 use cell_num::NoMemory;
 use row_compact::{even_lines, lines_of, x_of};
@@ -42,7 +42,7 @@ fn draws_a_wide_base(rt: HostRuntime) -> Result<(), Fail> {
         (drawing.width, drawing.height, rects.len()),
         (1780, 518, 69)
     );
-    assert!(rt; matches!(rects.first(), Some(shape) if sides(shape) == [-10, 462, 1790, 518]));
-    assert!(rt; matches!(rects.last(), Some(shape) if sides(shape) == [1744, 474, 1772, 494]));
+    assert!(rt; is_at(rects.first(), [-10, 462, 1790, 518]));
+    assert!(rt; is_at(rects.last(), [1744, 474, 1772, 494]));
     Ok(())
 }

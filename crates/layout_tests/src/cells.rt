@@ -61,6 +61,13 @@ pub fn sides(shape: &Shape) -> [i32; 4] {
     [shape.rect.x1, shape.rect.y1, shape.rect.x2, shape.rect.y2]
 }
 
+pub fn is_at(shape: Option<&Shape>, want: [i32; 4]) -> bool {
+    match shape {
+        Some(shape) => sides(shape) == want,
+        None => false,
+    }
+}
+
 pub fn are_shapes(rects: &[Shape], want: &[(Layer, [i32; 4])]) -> bool {
     rects.len() == want.len()
         && rects.iter().zip(want.iter()).all(|pair| pair.0.layer == pair.1.0

@@ -65,15 +65,27 @@ fn of_bars(alloc: Global, bars: i16, count: u32) -> Result<Result<[usize; 2], Ex
     Ok(counted(alloc, &Shapes { rects, labels }))
 }
 
+fn counts(alloc: Global, bars: i16, count: u32, want: [usize; 2]) -> Result<bool, Fail> {
+    match of_bars(alloc, bars, count)? {
+        Ok(found) => Ok(found == want),
+        Err(_) => Ok(false),
+    }
+}
+
+fn refuses(alloc: Global, bars: i16, count: u32, most: u64) -> Result<bool, Fail> {
+    match of_bars(alloc, bars, count)? {
+        Err(ExtractFault::TooMany { count }) => Ok(count == most),
+        _ => Ok(false),
+    }
+}
+
 #[test]
 fn takes_so_many(rt: HostRuntime) -> Result<(), Fail> {
     let alloc = rt.alloc();
-    assert!(rt; of_bars(alloc, 2001, 2000)? == Ok([2001, 0]));
-    assert!(rt; of_bars(alloc, 10_000, 0)? == Ok([10_000, 0]));
-    let many = ExtractFault::TooMany { count: 2001 };
-    assert!(rt; of_bars(alloc, 10_000, 2001)? == Err(many));
-    let many = ExtractFault::TooMany { count: 10_001 };
-    assert!(rt; of_bars(alloc, 10_001, 2001)? == Err(many));
+    assert!(rt; counts(alloc, 2001, 2000, [2001, 0])?);
+    assert!(rt; counts(alloc, 10_000, 0, [10_000, 0])?);
+    assert!(rt; refuses(alloc, 10_000, 2001, 2001)?);
+    assert!(rt; refuses(alloc, 10_001, 2001, 10_001)?);
     Ok(())
 }
 

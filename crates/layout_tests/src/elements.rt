@@ -2,7 +2,7 @@
 ghost use Rattle.std.specs.Prelude.{◌≤◌};
 
 use crate::drawings::{Sides, shapes_of};
-use crate::libraries::{library, read};
+use crate::libraries::{is_refused, library, read};
 use box_geom::Layer;
 use gds_read::GdsFault;
 use std::alloc::Global;
@@ -73,7 +73,7 @@ fn draws(
 // Whether an element has this fault, with two nanometres to a lambda.
 fn refuses(alloc: Global, element: &[u8], fault: GdsFault) -> Result<bool, Fail> {
     let read = read(alloc, &library(alloc, element)?, b"inv", 2)?;
-    Ok(read == Err(fault))
+    Ok(is_refused(&read, &fault))
 }
 
 // A ring: its two walks are joined by a side that is passed twice.

@@ -2,7 +2,7 @@ ghost use Rattle.std.specs.Prelude.{◌≤◌, ◌<◌, IfOk, length};
 ghost use Rattle.cell_num.specs.Pins.{ArePins};
 ghost use Rattle.cell_draw.specs.Sound.{IsSoundRow};
 
-use crate::cells::{COLUMN, Cell, PINS, are_labels, are_shapes, drawn, sides};
+use crate::cells::{COLUMN, Cell, PINS, are_labels, are_shapes, drawn, is_at};
 use box_geom::{Layer, Shape};
 use cell_draw::{DrawFault, Drawing, MOST_HEIGHT};
 use cell_num::{Names, NoMemory, copy};
@@ -83,10 +83,7 @@ const HIGH: [(usize, [i32; 4]); 6] = [
 ];
 
 fn is_high(rects: &[Shape]) -> bool {
-    HIGH.iter().all(|pair| match rects.get(pair.0) {
-        Some(shape) => sides(shape) == pair.1,
-        None => false,
-    })
+    HIGH.iter().all(|pair| is_at(rects.get(pair.0), pair.1))
 }
 
 // The inverter on its least or on even lines, of this height.

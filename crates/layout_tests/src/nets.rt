@@ -1,7 +1,7 @@
 use crate::drawings::{Sides, shapes_of};
 use box_geom::{Block, Label, Layer, Shapes};
 use cell_num::{Name, Row, copy};
-use net_extract::{Drawn, ExtractFault, NetMap, extract};
+use net_extract::{Drawn, ExtractFault, NetMap, Netlist, extract};
 use std::alloc::Global;
 use std::test::Fail;
 
@@ -55,18 +55,22 @@ fn are_names(names: &[Name], want: &[&[u8]]) -> bool {
             .all(|(name, want)| name.as_slice() == *want)
 }
 
+fn netlist(alloc: Global, labels: &[(u8, Layer, i32, i32)]) -> Result<Netlist, Fail> {
+    match extract(alloc, &drawing(alloc, &INVERTER, labels)?) {
+        Ok(netlist) => Ok(netlist),
+        Err(_) => Err(Fail::from("refused")),
+    }
+}
+
 // The drawing of an inverter: its two devices between four nets, of which the gate has no label.
 #[test]
 fn an_inverter(rt: HostRuntime) -> Result<(), Fail> {
-    let alloc = rt.alloc();
     let labels = [
         (b'v', Layer::Metal1, 3, 25),
         (b'y', Layer::Metal2, 15, 3),
         (b'g', Layer::Metal1, 3, 3),
     ];
-    let Ok(netlist) = extract(alloc, &drawing(alloc, &INVERTER, &labels)?) else {
-        return Err(Fail::from("refused"));
-    };
+    let netlist = netlist(rt.alloc(), &labels)?;
     assert!(rt; are_names(netlist.names.as_slice(), &[b"_0", b"g", b"y", b"v"]));
     let lower = Drawn {
         row: Row::N,
@@ -156,7 +160,7 @@ fn refuses(
 
 // One label in two nets, two labels in one, and a label off the conductor.
 #[test]
-fn refused_labels(rt: HostRuntime) -> Result<(), Fail> {
+fn refused_drawings(rt: HostRuntime) -> Result<(), Fail> {
     let alloc = rt.alloc();
     let name = named(alloc, b'a')?;
     let labels = [(b'a', Layer::Metal1, 15, 3), (b'a', Layer::Poly, 10, 0)];

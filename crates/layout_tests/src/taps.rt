@@ -2,9 +2,9 @@ ghost use Rattle.std.specs.Prelude.{◌≤◌, ◌<◌, length};
 ghost use Rattle.cell_num.specs.Pins.{ArePins};
 ghost use Rattle.cell_draw.specs.Sound.{IsSoundRow};
 
-use crate::cells::{Cell, lines, sides};
+use crate::cells::{Cell, are_shapes, is_at, lines};
 use crate::inverters::inverter;
-use box_geom::{Layer, ShapeList, Shapes};
+use box_geom::{Layer, Shape, ShapeList, Shapes};
 use cell_draw::{Drawing, MOST_X, draw};
 use cell_num::NoMemory;
 use channel_route::route;
@@ -80,15 +80,22 @@ fn breaks_without(
     Ok(found.as_slice() == want)
 }
 
+// They stand behind the 29 shapes of the inverter.
+fn has_taps(rects: &[Shape]) -> bool {
+    match rects.get(29..) {
+        Some(taps) => are_shapes(taps, &TAPS),
+        None => false,
+    }
+}
+
 #[test]
 fn adds_taps_to_an_inverter(rt: HostRuntime) -> Result<(), Fail> {
     let alloc = rt.alloc();
     let drawing = tapped_inverter(alloc)?;
     let rects = drawing.shapes.rects.as_slice();
     assert_eq!(rt; (drawing.width, drawing.height, rects.len()), (41, 118, 41));
-    assert!(rt; matches!(rects.first(), Some(shape) if sides(shape) == [-10, 62, 51, 122]));
-    assert!(rt; rects.iter().skip(29).zip(TAPS.iter()).all(|pair| pair.0.layer == pair.1.0
-        && sides(pair.0) == pair.1.1));
+    assert!(rt; is_at(rects.first(), [-10, 62, 51, 122]));
+    assert!(rt; has_taps(rects));
     Ok(())
 }
 

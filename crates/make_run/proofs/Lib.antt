@@ -1,4 +1,4 @@
-mod MakeEnds
-mod Makes
+pub mod MakeEnds
+pub mod Makes
 pub mod Planned
 mod RowEnds

@@ -17,7 +17,7 @@ fn made(alloc: Global) -> Result<(Vec<u8>, Vec<u8>), Fail> {
 // A desk with the library and this abstract.
 fn desk_of(alloc: Global, gds: &[u8], lef: &[u8]) -> Result<MemDesk, Fail> {
     let mut files = FileList::new(alloc);
-    for (name, bytes) in [("c.gds", gds), ("c.lef", lef)] {
+    for (name, bytes) in &[("c.gds", gds), ("c.lef", lef)] {
         files.push(File {
             name: name_of(alloc, name)?,
             bytes: List::from_vec(bytes.to_vec(alloc)?),
@@ -26,12 +26,26 @@ fn desk_of(alloc: Global, gds: &[u8], lef: &[u8]) -> Result<MemDesk, Fail> {
     Ok(MemDesk::new(alloc, files, CallList::new(alloc)))
 }
 
+// Whether the words end so over these files.
+fn ends_so(
+    alloc: Global,
+    words: &str,
+    gds: &[u8],
+    lef: &[u8],
+    status: Status,
+    said: &str,
+) -> Result<bool, Fail> {
+    let mut desk = desk_of(alloc, gds, lef)?;
+    let got = call(alloc, words, &mut desk)?;
+    Ok(got == status && desk.all_said() == said.as_bytes())
+}
+
 // The abstract that was made with the drawing agrees with it, but for a cell of another name.
 #[test]
 fn agrees_with_a_made_cell(rt: HostRuntime) -> Result<(), Fail> {
     let alloc = rt.alloc();
     let (gds, lef) = made(alloc)?;
-    for (words, status, said) in [
+    for (words, status, said) in &[
         (
             "agree - c.gds c.lef inv",
             Status::Done,
@@ -53,10 +67,7 @@ fn agrees_with_a_made_cell(rt: HostRuntime) -> Result<(), Fail> {
             "status 2 read d.gds\n",
         ),
     ] {
-        let mut desk = desk_of(alloc, gds.as_slice(), lef.as_slice())?;
-        let got = call(alloc, words, &mut desk)?;
-        assert_eq!(rt; desk.all_said(), said.as_bytes());
-        assert_eq!(rt; got, status, "{said}");
+        assert!(rt; ends_so(alloc, words, &gds, &lef, *status, said)?, "{said}");
     }
     Ok(())
 }
@@ -65,7 +76,7 @@ fn agrees_with_a_made_cell(rt: HostRuntime) -> Result<(), Fail> {
 fn tells_the_first_difference(rt: HostRuntime) -> Result<(), Fail> {
     let alloc = rt.alloc();
     let (gds, _) = made(alloc)?;
-    for (lef, said) in [
+    for (lef, said) in &[
         ("", "lef NoMacro\n"),
         ("MACRO inv\nPIN a\n", "lef Cut\n"),
         ("MACRO inv\nDENSITY\n", "lef Statement line 2\n"),
@@ -80,10 +91,11 @@ fn tells_the_first_difference(rt: HostRuntime) -> Result<(), Fail> {
         ("MACRO inv\nEND inv\n", "agree Bare layer metal1 x 0 y 0\n"),
     ] {
         let said = format!(in alloc; "status 13 disagree\n{said}")?;
-        let mut desk = desk_of(alloc, gds.as_slice(), lef.as_bytes())?;
-        let got = call(alloc, "agree - c.gds c.lef inv", &mut desk)?;
-        assert_eq!(rt; desk.all_said(), said.as_bytes());
-        assert_eq!(rt; got, Status::Disagree, "{said}");
+        let words = "agree - c.gds c.lef inv";
+        assert!(rt;
+            ends_so(alloc, words, &gds, lef.as_bytes(), Status::Disagree, &said)?,
+            "{said}"
+        );
     }
     Ok(())
 }

@@ -1,10 +1,10 @@
-use crate::setup::{HEAD, INVERTER, INVERTERS, LEMMA, LISTED, run_over};
+use crate::setup::{HEAD, INVERTER, INVERTERS, LEMMA, LISTED, tells};
 use cell_run::Status;
 use std::test::Fail;
 
 #[test]
 fn plans_the_least_row(rt: HostRuntime) -> Result<(), Fail> {
-    for (tech, spice, said) in [
+    for (tech, spice, said) in &[
         (
             "",
             ".SUBCKT x a b y vdd gnd\nM1 y a vdd vdd p W=3u L=0.6u\nM2 y b vdd vdd p W=3u L=0.6u\nM3 y a n1 gnd n W=3u L=0.6u\nM4 n1 b gnd gnd n W=3u L=0.6u\n.ENDS\n",
@@ -47,16 +47,23 @@ fn plans_the_least_row(rt: HostRuntime) -> Result<(), Fail> {
         ),
     ] {
         let said = format!(in rt.alloc(); "status 0 ok\ncell x\n{said}")?;
-        let (got, desk) = run_over(rt.alloc(), "plan t.toml c.sp x", [tech, spice, ""], &[])?;
-        assert_eq!(rt; desk.all_said(), said.as_bytes());
-        assert_eq!(rt; got, Status::Done, "{said}");
+        assert!(rt;
+            tells(
+                rt.alloc(),
+                "plan t.toml c.sp x",
+                [tech, spice, ""],
+                Status::Done,
+                &said
+            )?,
+            "{said}"
+        );
     }
     Ok(())
 }
 
 #[test]
 fn plans_larger_cells(rt: HostRuntime) -> Result<(), Fail> {
-    for (tech, spice, status, said) in [
+    for (tech, spice, status, said) in &[
         (
             "",
             INVERTERS,
@@ -76,9 +83,16 @@ fn plans_larger_cells(rt: HostRuntime) -> Result<(), Fail> {
             "status 0 ok\ncell x3\ncolumns 6\ngaps 0\nwidth 6\ncolumn 0 gate e p en vdd 20 n en gnd 10\ncolumn 1 gate d p vdd p1 20 n gnd n1 10\ncolumn 2 gate e p - - 0 n n1 m 10\ncolumn 3 gate en p p1 m 20 n - - 0\ncolumn 4 gate q p m vdd 6 n m gnd 6\ncolumn 5 gate m p vdd q 20 n gnd q 10\n",
         ),
     ] {
-        let (got, desk) = run_over(rt.alloc(), "plan t.toml c.sp x3", [tech, spice, ""], &[])?;
-        assert_eq!(rt; desk.all_said(), said.as_bytes());
-        assert_eq!(rt; got, status, "{said}");
+        assert!(rt;
+            tells(
+                rt.alloc(),
+                "plan t.toml c.sp x3",
+                [tech, spice, ""],
+                *status,
+                said
+            )?,
+            "{said}"
+        );
     }
     Ok(())
 }
@@ -88,7 +102,7 @@ fn rejects_logs(rt: HostRuntime) -> Result<(), Fail> {
     let two = "gaps 2\ncolumn 0 0 0 0 0\ncolumn 1 1 0 1 0\ncolumn 2 2 1 2 1\nend\n";
     let one = "gaps 1\ncolumn 0 0 0 0 0\nend\n";
     let leaf = "lemma 1 P 1,1,1 1,1,1 - -\nlemma 1 B 0,0,0 0,0,0 - -\n";
-    for (head, lemmas, row, line) in [
+    for (head, lemmas, row, line) in &[
         (
             HEAD,
             "lemma 2 P 1,1,1 1,1,1 - -\n",
@@ -111,16 +125,23 @@ fn rejects_logs(rt: HostRuntime) -> Result<(), Fail> {
         let log = format!(in rt.alloc(); "{head}{lemmas}{row}")?;
         let said = format!(in rt.alloc(); "status 7 rejected\nlog {line}\n")?;
         let files = ["", INVERTERS, log.as_str()];
-        let (got, desk) = run_over(rt.alloc(), "check - c.sp x3 l.clog", files, &[])?;
-        assert_eq!(rt; desk.all_said(), said.as_bytes());
-        assert_eq!(rt; got, Status::Rejected, "{line}");
+        assert!(rt;
+            tells(
+                rt.alloc(),
+                "check - c.sp x3 l.clog",
+                files,
+                Status::Rejected,
+                &said
+            )?,
+            "{line}"
+        );
     }
     Ok(())
 }
 
 #[test]
 fn names_the_fault_of_a_technology(rt: HostRuntime) -> Result<(), Fail> {
-    for (tech, line) in [
+    for (tech, line) in &[
         ("lambda_nm", "tech Text\n"),
         ("colour = 1", "tech Key name colour\n"),
         ("vdd = 5", "tech Form name vdd\n"),
@@ -129,9 +150,16 @@ fn names_the_fault_of_a_technology(rt: HostRuntime) -> Result<(), Fail> {
     ] {
         let said = format!(in rt.alloc(); "status 4 input\n{line}")?;
         let files = [tech, INVERTER, ""];
-        let (got, desk) = run_over(rt.alloc(), "plan t.toml c.sp inv", files, &[])?;
-        assert_eq!(rt; desk.all_said(), said.as_bytes());
-        assert_eq!(rt; got, Status::Input, "{said}");
+        assert!(rt;
+            tells(
+                rt.alloc(),
+                "plan t.toml c.sp inv",
+                files,
+                Status::Input,
+                &said
+            )?,
+            "{said}"
+        );
     }
     Ok(())
 }
@@ -139,7 +167,7 @@ fn names_the_fault_of_a_technology(rt: HostRuntime) -> Result<(), Fail> {
 #[test]
 fn names_the_fault_of_a_subcircuit(rt: HostRuntime) -> Result<(), Fail> {
     const P: &str = "MP y a vdd vdd p W=3u L=0.6u\n";
-    for (pins, transistors, line) in [
+    for (pins, transistors, line) in &[
         ("vdd gnd", "", "spice Empty\n"),
         (
             "a y vdd",
@@ -171,9 +199,16 @@ fn names_the_fault_of_a_subcircuit(rt: HostRuntime) -> Result<(), Fail> {
         let spice = format!(in rt.alloc(); ".SUBCKT inv {pins}\n{transistors}.ENDS\n")?;
         let said = format!(in rt.alloc(); "status 4 input\n{line}")?;
         let files = ["", spice.as_str(), ""];
-        let (got, desk) = run_over(rt.alloc(), "plan t.toml c.sp inv", files, &[])?;
-        assert_eq!(rt; desk.all_said(), said.as_bytes());
-        assert_eq!(rt; got, Status::Input, "{said}");
+        assert!(rt;
+            tells(
+                rt.alloc(),
+                "plan t.toml c.sp inv",
+                files,
+                Status::Input,
+                &said
+            )?,
+            "{said}"
+        );
     }
     Ok(())
 }

@@ -1,15 +1,16 @@
 use crate::extract::{inverter, joined, says};
-use crate::setup::{HEAD, INVERTERS, LEMMA, LISTED, call, desk_with, name_of, run_over};
+use crate::setup::{HEAD, INVERTERS, LEMMA, LISTED, call, desk_with, name_of, tells};
 use cell_io::{CallList, File, FileList, MemDesk};
 use cell_num::{List, Name};
 use cell_run::Status;
+use std::alloc::Global;
 use std::test::Fail;
 
 // The log of the three inverters has eight lines, and its lemma is the third.
 #[test]
 fn refuses_damaged_logs(rt: HostRuntime) -> Result<(), Fail> {
     let behind = format!(in rt.alloc(); "{LISTED}\n")?;
-    for (lemmas, row, line) in [
+    for (lemmas, row, line) in &[
         ("lemma 64 P 1,1,1 1,1,1 - -\n", LISTED, "Line line 3"),
         ("lemma 1 P 1,1,2 1,1,1 - -\n", LISTED, "Line line 3"),
         ("lemma 1 P 1,1,1 1,1,0 - -\n", LISTED, "Line line 3"),
@@ -18,24 +19,37 @@ fn refuses_damaged_logs(rt: HostRuntime) -> Result<(), Fail> {
         let log = format!(in rt.alloc(); "{HEAD}{lemmas}{row}")?;
         let said = format!(in rt.alloc(); "status 7 rejected\nlog {line}\n")?;
         let files = ["", INVERTERS, log.as_str()];
-        let (got, desk) = run_over(rt.alloc(), "check - c.sp x3 l.clog", files, &[])?;
-        assert_eq!(rt; desk.all_said(), said.as_bytes());
-        assert_eq!(rt; got, Status::Rejected, "{said}");
+        assert!(rt;
+            tells(
+                rt.alloc(),
+                "check - c.sp x3 l.clog",
+                files,
+                Status::Rejected,
+                &said
+            )?,
+            "{said}"
+        );
     }
     Ok(())
+}
+
+// Whether a subcircuit of one byte, so many times, is refused so.
+fn is_refused(alloc: Global, byte: u8, count: usize, said: &str) -> Result<bool, Fail> {
+    let spice = List::from_vec(vec![in alloc; byte; count]?);
+    let mut desk = desk_with(alloc, Name::new(alloc), spice, Name::new(alloc), &[])?;
+    let got = call(alloc, "plan - c.sp inv", &mut desk)?;
+    Ok(got == Status::Input && desk.all_said() == said.as_bytes())
 }
 
 // A byte that is not ASCII, and the longest file of continuations of no line.
 #[test]
 fn refuses_damaged_subcircuits(rt: HostRuntime) -> Result<(), Fail> {
     let alloc = rt.alloc();
-    for (byte, count, line) in [(128, 1, "NotAscii line 1"), (b'+', 4_194_304, "NoCell")] {
-        let spice = List::from_vec(vec![in alloc; byte; count]?);
-        let mut desk = desk_with(alloc, Name::new(alloc), spice, Name::new(alloc), &[])?;
-        let said = format!(in alloc; "status 4 input\nspice {line}\n")?;
-        let got = call(alloc, "plan - c.sp inv", &mut desk)?;
-        assert_eq!(rt; got, Status::Input, "{said}");
-        assert_eq!(rt; desk.all_said(), said.as_bytes(), "{said}");
+    for (byte, count, said) in &[
+        (128, 1, "status 4 input\nspice NotAscii line 1\n"),
+        (b'+', 4_194_304, "status 4 input\nspice NoCell\n"),
+    ] {
+        assert!(rt; is_refused(alloc, *byte, *count, said)?, "{said}");
     }
     Ok(())
 }
@@ -49,7 +63,7 @@ fn refuses_damaged_layouts(rt: HostRuntime) -> Result<(), Fail> {
     for _ in 0..100u32 {
         packed.extend_from_slice(&[0; 100])?;
     }
-    for (front, back, said) in [
+    for (front, back, said) in &[
         ([].as_slice(), [].as_slice(), "Cut at 0"),
         (&[0, 2, 0, 2], &[], "Length at 0"),
         (&packed, &[], "Length at 0"),
@@ -62,41 +76,51 @@ fn refuses_damaged_layouts(rt: HostRuntime) -> Result<(), Fail> {
     Ok(())
 }
 
-// Each front of a made file ends within a record.
+// Whether a file ends within a record.
+fn is_cut(alloc: Global, bytes: &[u8]) -> Result<bool, Fail> {
+    let mut files = FileList::new(alloc);
+    files.push(File {
+        name: name_of(alloc, "f.gds")?,
+        bytes: List::from_vec(bytes.to_vec(alloc)?),
+    })?;
+    let mut desk = MemDesk::new(alloc, files, CallList::new(alloc));
+    let got = call(alloc, "extract - f.gds inv", &mut desk)?;
+    Ok(got == Status::Layout && desk.all_said().starts_with(b"status 9 layout\ngds Cut at "))
+}
+
 #[test]
 fn refuses_fronts_of_files(rt: HostRuntime) -> Result<(), Fail> {
     let alloc = rt.alloc();
     let mut front = Vec::new(alloc);
     for byte in inverter(alloc)? {
-        let mut files = FileList::new(alloc);
-        files.push(File {
-            name: name_of(alloc, "f.gds")?,
-            bytes: List::from_vec(front.to_vec(alloc)?),
-        })?;
-        let mut desk = MemDesk::new(alloc, files, CallList::new(alloc));
-        let got = call(alloc, "extract - f.gds inv", &mut desk)?;
-        assert!(rt; got == Status::Layout);
-        assert!(rt; desk.all_said().starts_with(b"status 9 layout\ngds Cut at "));
+        assert!(rt; is_cut(alloc, &front)?);
         front.push(byte)?;
     }
     Ok(())
 }
 
-// One rectangle more than a structure may have: the first one of a made cell, again and again. It takes a moment as it
-// is built, and some minutes in `rt try`, which wants `--seconds 900` for it.
-#[test]
-fn refuses_a_wide_structure(rt: HostRuntime) -> Result<(), Fail> {
-    let alloc = rt.alloc();
-    let made = inverter(alloc)?;
-    assert!(rt; made.len() == 2122);
-    let (front, behind) = made.split_at(102);
-    let (rectangle, _) = behind.split_at(64);
-    let (_, end) = made.split_at(2114);
+// A made cell with one rectangle more than a structure may have: its first one, again and again.
+fn wide(alloc: Global, made: &[u8]) -> Result<Vec<u8>, Fail> {
+    let (Some(front), Some(rectangle), Some(end)) = (
+        made.get(..102),
+        made.get(102..166),
+        made.get(2114..),
+    ) else {
+        return Err(Fail::from("no inverter"));
+    };
     let mut wide = joined(alloc, &[front])?;
     for _ in 0..1_000_001u32 {
         wide.extend_from_slice(rectangle)?;
     }
     wide.extend_from_slice(end)?;
+    Ok(wide)
+}
+
+// It takes a moment as it is built, and some minutes in `rt try`, which wants `--seconds 900` for it.
+#[test]
+fn refuses_a_wide_structure(rt: HostRuntime) -> Result<(), Fail> {
+    let alloc = rt.alloc();
+    let wide = wide(alloc, &inverter(alloc)?)?;
     let said = "status 9 layout\ngds Wide at 64000102\n";
     assert!(rt; says(alloc, wide, Status::Layout, said)?);
     Ok(())

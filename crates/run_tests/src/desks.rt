@@ -88,13 +88,36 @@ fn is_same_in_pieces(
     Ok(status == Status::Done && are_same(&desk, whole))
 }
 
+// Whether the call of the desk fails so, and leaves what it may behind.
+fn fails_so(
+    alloc: Global,
+    words: &str,
+    drawing: &[u8],
+    whole: &MemDesk,
+    failing: u64,
+    reads: u64,
+) -> Result<bool, Fail> {
+    let mut desk = desk_over(alloc, drawing, &[failing])?;
+    let status = call(alloc, words, &mut desk)?;
+    Ok((status == Status::ReadFault) == (failing < reads) && is_left_so(status, &desk, whole))
+}
+
+// The desk behind the words, where they end well though that call of the desk would fail.
+fn ended(alloc: Global, words: &str, drawing: &[u8], failing: &[u64]) -> Result<MemDesk, Fail> {
+    let mut desk = desk_over(alloc, drawing, failing)?;
+    match call(alloc, words, &mut desk)? {
+        Status::Done => Ok(desk),
+        _ => Err(Fail::from("not done")),
+    }
+}
+
 // Each command with each call of the desk failing in turn up to the last one, and then with calls that move one and
 // seven bytes. A file is read by two calls, its bytes and its end.
 #[test]
 fn ends_by_each_failed_call(rt: HostRuntime) -> Result<(), Fail> {
     let alloc = rt.alloc();
     let drawing = drawing(alloc)?;
-    for (words, reads, calls) in [
+    for (words, reads, calls) in &[
         ("plan t.toml c.sp x3", 4, 5),
         ("make t.toml c.sp x3 out", 4, 11),
         ("check t.toml c.sp X3 l.clog", 6, 7),
@@ -102,22 +125,14 @@ fn ends_by_each_failed_call(rt: HostRuntime) -> Result<(), Fail> {
         ("row t.toml c.sp out pair x3 x3", 4, 7),
         ("bench 1", 0, 1),
     ] {
-        let mut whole = desk_over(alloc, &drawing, &[])?;
-        let got = call(alloc, words, &mut whole)?;
-        assert_eq!(rt; got, Status::Done, "{words}");
-        for failing in 0..calls {
-            let mut desk = desk_over(alloc, &drawing, &[failing])?;
-            let status = call(alloc, words, &mut desk)?;
-            assert_eq!(rt;
-                status == Status::ReadFault,
-                failing < reads,
+        let whole = ended(alloc, words, &drawing, &[])?;
+        for failing in 0..*calls {
+            assert!(rt;
+                fails_so(alloc, words, &drawing, &whole, failing, *reads)?,
                 "{words} {failing}"
             );
-            assert!(rt; is_left_so(status, &desk, &whole), "{words} {failing}");
         }
-        let mut desk = desk_over(alloc, &drawing, &[calls])?;
-        let got = call(alloc, words, &mut desk)?;
-        assert_eq!(rt; got, Status::Done, "{words}");
+        ended(alloc, words, &drawing, &[*calls])?;
         assert!(rt;
             is_same_in_pieces(alloc, words, &drawing, &whole, 1)?,
             "{words}"

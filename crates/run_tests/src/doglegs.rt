@@ -1,4 +1,4 @@
-use crate::setup::{INVERTER, run_over};
+use crate::setup::{INVERTER, is_usage, run_over};
 use cell_run::Status;
 use std::alloc::Global;
 use std::test::Fail;
@@ -51,10 +51,16 @@ pub fn ends_so(
     )
 }
 
+// Whether an inverter is made so, with a drawing of that name and length.
+pub fn makes(alloc: Global, words: &str, name: &str, len: usize) -> Result<bool, Fail> {
+    let (got, desk) = run_over(alloc, words, ["", INVERTER, ""], &[])?;
+    Ok(got == Status::Done && desk.file(name).map_or(0, |file| file.len()) == len)
+}
+
 // A ring of whole nets is none of their pieces; the height that the cell needs is told as without the word.
 #[test]
 fn makes_a_ring_of_nets_with_doglegs(rt: HostRuntime) -> Result<(), Fail> {
-    for (tech, words, status, said, lengths) in [
+    for (tech, words, status, said, lengths) in &[
         (
             "",
             "make - c.sp dog out",
@@ -85,7 +91,7 @@ fn makes_a_ring_of_nets_with_doglegs(rt: HostRuntime) -> Result<(), Fail> {
         ),
     ] {
         assert!(rt;
-            ends_so(rt.alloc(), words, [tech, DOG], status, said, lengths)?,
+            ends_so(rt.alloc(), words, [tech, DOG], *status, said, *lengths)?,
             "{said}"
         );
     }
@@ -95,7 +101,7 @@ fn makes_a_ring_of_nets_with_doglegs(rt: HostRuntime) -> Result<(), Fail> {
 // A ring of pieces stays one, and cells whose nets need no dogleg are made too.
 #[test]
 fn ends_with_doglegs(rt: HostRuntime) -> Result<(), Fail> {
-    for (spice, words, status, said, lengths) in [
+    for (spice, words, status, said, lengths) in &[
         (
             CROSS,
             "make - c.sp cross out --dogleg",
@@ -119,7 +125,7 @@ fn ends_with_doglegs(rt: HostRuntime) -> Result<(), Fail> {
         ),
     ] {
         assert!(rt;
-            ends_so(rt.alloc(), words, ["", spice], status, said, lengths)?,
+            ends_so(rt.alloc(), words, ["", spice], *status, said, *lengths)?,
             "{said}"
         );
     }
@@ -130,19 +136,15 @@ fn ends_with_doglegs(rt: HostRuntime) -> Result<(), Fail> {
 #[test]
 fn takes_the_word_behind_out(rt: HostRuntime) -> Result<(), Fail> {
     let alloc = rt.alloc();
-    for words in [
+    for words in &[
         "make - c.sp inv o --Dogleg",
         "make - c.sp inv o --dogle",
         "make - c.sp inv o --dogleg --dogleg",
         "make --dogleg - c.sp inv o",
         "plan - c.sp inv --dogleg",
     ] {
-        let (got, desk) = run_over(alloc, words, ["", INVERTER, ""], &[])?;
-        assert_eq!(rt; got, Status::Usage, "{words}");
-        assert!(rt; desk.file("o.clog").is_none(), "{words}");
+        assert!(rt; is_usage(alloc, words, "o.clog")?, "{words}");
     }
-    let (got, desk) = run_over(alloc, "make - c.sp inv --dogleg", ["", INVERTER, ""], &[])?;
-    assert_eq!(rt; got, Status::Done);
-    assert!(rt; desk.file("--dogleg.gds").is_some());
+    assert!(rt; makes(alloc, "make - c.sp inv --dogleg", "--dogleg.gds", 2122)?);
     Ok(())
 }

@@ -38,6 +38,16 @@ net 2 _2
 device 0 n gate _0 ends _1 _2 width 10 length 4
 ";
 
+const CUT: &str = "status 9 layout\ngds Cut at 2118\n";
+
+const SPLIT: &str = "status 9 layout\nextract Split name a\n";
+
+const SHORT: &str = "status 9 layout\nextract Short one y other q\n";
+
+const NEAR: &str = "status 7 rejected\nviolation 7.2 at 8 0\n";
+
+const BARS: &str = "status 0 ok\ncell inv\nnets 2\ndevices 0\nnet 0 _0\nnet 1 _1\n";
+
 // The bytes of a made inverter: its library up to the first of 29 rectangles, the label of `y` from 1,996 on, the
 // end of the labels at 2,114.
 pub fn inverter(alloc: Global) -> Result<Vec<u8>, Fail> {
@@ -127,44 +137,45 @@ pub fn says_to(
     Ok(got == status && desk.all_said() == said.as_bytes())
 }
 
+// The bytes with others in place of those between two places.
+fn replaced(
+    alloc: Global,
+    bytes: &[u8],
+    from: usize,
+    to: usize,
+    by: &[u8],
+) -> Result<Vec<u8>, Fail> {
+    match (bytes.get(..from), bytes.get(to..)) {
+        (Some(front), Some(end)) => joined(alloc, &[front, by, end]),
+        _ => Err(Fail::from("too few bytes")),
+    }
+}
+
+// The label of `y` in the made inverter, with the name `q`.
+fn label(alloc: Global, made: &[u8]) -> Result<Vec<u8>, Fail> {
+    match made.get(1996..2114) {
+        Some(label) => replaced(alloc, label, 32, 33, b"q"),
+        None => Err(Fail::from("no label")),
+    }
+}
+
+// Bytes behind the library are passed over. A cut one, the label of `y` with the name of another net, and one more
+// label on that net are not.
 #[test]
 fn extracts_a_made_cell(rt: HostRuntime) -> Result<(), Fail> {
     let alloc = rt.alloc();
     let made = inverter(alloc)?;
-    assert!(rt; made.len() == 2122);
-    let (front, end) = made.split_at(2114);
-    let (before, label) = front.split_at(1996);
-    let (text, close) = label.split_at(32);
+    let label = label(alloc, &made)?;
     let zeros = [0; 100];
-    let whole = joined(alloc, &[&made, &zeros])?;
-    assert!(rt; says(alloc, whole, Status::Done, NETLIST)?);
-    let cut = joined(alloc, &[front, &end[..6]])?;
-    assert!(rt;
-        says(
-            alloc,
-            cut,
-            Status::Layout,
-            "status 9 layout\ngds Cut at 2118\n"
-        )?
-    );
-    let split = joined(alloc, &[before, text, b"a", &close[1..], end])?;
-    assert!(rt;
-        says(
-            alloc,
-            split,
-            Status::Layout,
-            "status 9 layout\nextract Split name a\n"
-        )?
-    );
-    let short = joined(alloc, &[front, text, b"q", &close[1..], end])?;
-    assert!(rt;
-        says(
-            alloc,
-            short,
-            Status::Layout,
-            "status 9 layout\nextract Short one y other q\n"
-        )?
-    );
+    for (from, to, by, status, said) in &[
+        (2122, 2122, zeros.as_slice(), Status::Done, NETLIST),
+        (2120, 2122, &[], Status::Layout, CUT),
+        (2028, 2029, b"a", Status::Layout, SPLIT),
+        (2114, 2114, &label, Status::Layout, SHORT),
+    ] {
+        let bytes = replaced(alloc, &made, *from, *to, by)?;
+        assert!(rt; says(alloc, bytes, *status, said)?, "{said}");
+    }
     Ok(())
 }
 
@@ -172,24 +183,13 @@ fn extracts_a_made_cell(rt: HostRuntime) -> Result<(), Fail> {
 fn extracts_foreign_cells(rt: HostRuntime) -> Result<(), Fail> {
     let alloc = rt.alloc();
     let made = inverter(alloc)?;
-    assert!(rt; made.len() == 2122);
-    let (head, _) = made.split_at(102);
-    let (_, end) = made.split_at(2114);
-    for (cell, status, said) in [
+    for (cell, status, said) in &[
         (transistor(alloc)?, Status::Done, DEVICE),
-        (
-            two_bars(alloc, 2100, 3600)?,
-            Status::Rejected,
-            "status 7 rejected\nviolation 7.2 at 8 0\n",
-        ),
-        (
-            two_bars(alloc, 2400, 3900)?,
-            Status::Done,
-            "status 0 ok\ncell inv\nnets 2\ndevices 0\nnet 0 _0\nnet 1 _1\n",
-        ),
+        (two_bars(alloc, 2100, 3600)?, Status::Rejected, NEAR),
+        (two_bars(alloc, 2400, 3900)?, Status::Done, BARS),
     ] {
-        let bytes = joined(alloc, &[head, &cell, end])?;
-        assert!(rt; says(alloc, bytes, status, said)?, "{said}");
+        let bytes = replaced(alloc, &made, 102, 2114, &cell)?;
+        assert!(rt; says(alloc, bytes, *status, said)?, "{said}");
     }
     Ok(())
 }

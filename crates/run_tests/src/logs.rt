@@ -1,4 +1,4 @@
-use crate::setup::{HEAD, INVERTERS, LEMMA, LISTED, run_over};
+use crate::setup::{HEAD, INVERTERS, LEMMA, LISTED, tells};
 use cell_run::Status;
 use std::test::Fail;
 
@@ -14,7 +14,7 @@ fn checks_a_log_in_pieces(rt: HostRuntime) -> Result<(), Fail> {
     }
     let unproved = "lemma 2 P 1,1,1 1,1,1 - -\n";
     let broken = "lemma 1 P 1,1 1,1,1 - -\n";
-    for (first, last, status, said) in [
+    for (first, last, status, said) in &[
         (LEMMA, LEMMA, Status::Done, DONE),
         (
             LEMMA,
@@ -37,9 +37,10 @@ fn checks_a_log_in_pieces(rt: HostRuntime) -> Result<(), Fail> {
     ] {
         let log = format!(in rt.alloc(); "{HEAD}{first}{copies}{last}{LISTED}")?;
         let files = ["", INVERTERS, log.as_str()];
-        let (got, desk) = run_over(rt.alloc(), "check - c.sp x3 l.clog", files, &[])?;
-        assert_eq!(rt; desk.all_said(), said.as_bytes());
-        assert_eq!(rt; got, status, "{said}");
+        assert!(rt;
+            tells(rt.alloc(), "check - c.sp x3 l.clog", files, *status, said)?,
+            "{said}"
+        );
     }
     Ok(())
 }

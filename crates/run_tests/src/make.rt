@@ -1,5 +1,6 @@
-use crate::setup::{INVERTER, INVERTERS, run_over};
+use crate::setup::{INVERTER, INVERTERS, lengths, run_over};
 use cell_run::Status;
+use std::alloc::Global;
 use std::test::Fail;
 
 pub const NAND: &str = ".SUBCKT nand2 a b y vdd gnd
@@ -146,35 +147,52 @@ const CELLS: [Made; 9] = [
     },
 ];
 
+// Whether the call ends and leaves files so.
+fn is_made(alloc: Global, cell: &Made) -> Result<bool, Fail> {
+    let (got, desk) = run_over(alloc, cell.words, [cell.tech, cell.spice, ""], &[])?;
+    let [_, gds, lef] = lengths(&desk);
+    Ok(
+        got == cell.status
+            && desk.all_said().ends_with(cell.said.as_bytes())
+            && desk.file("out.clog") == Some(cell.log.as_bytes())
+            && gds == cell.gds
+            && lef == cell.lef,
+    )
+}
+
 #[test]
 fn makes_a_cell(rt: HostRuntime) -> Result<(), Fail> {
     for cell in &CELLS {
         let said = cell.said;
-        let (got, desk) = run_over(rt.alloc(), cell.words, [cell.tech, cell.spice, ""], &[])?;
-        assert!(rt; desk.all_said().ends_with(said.as_bytes()), "{said}");
-        assert_eq!(rt; got, cell.status, "{said}");
-        assert!(rt;
-            desk.file("out.clog") == Some(cell.log.as_bytes()),
-            "{said}"
-        );
-        assert_eq!(rt;
-            desk.file("out.gds").map_or(0, |file| file.len()),
-            cell.gds,
-            "{said}"
-        );
-        assert_eq!(rt;
-            desk.file("out.lef").map_or(0, |file| file.len()),
-            cell.lef,
-            "{said}"
-        );
+        assert!(rt; is_made(rt.alloc(), cell)?, "{said}");
     }
     Ok(())
+}
+
+// Whether the inverter's call that fails there leaves this log, a drawing and an abstract of these lengths, and says
+// nothing.
+fn leaves(
+    alloc: Global,
+    failing: u64,
+    log: Option<&str>,
+    gds: Option<usize>,
+    lef: Option<usize>,
+) -> Result<bool, Fail> {
+    let (got, desk) = run_over(alloc, "make - c.sp inv out", ["", INVERTER, ""], &[failing])?;
+    let len = |name| desk.file(name).map(|file| file.len());
+    Ok(
+        got == Status::WriteFault
+            && desk.all_said().is_empty()
+            && desk.file("out.clog") == log.map(|text| text.as_bytes())
+            && len("out.gds") == gds
+            && len("out.lef") == lef,
+    )
 }
 
 // The subcircuit's file is read by two calls; each file is then made by one and filled by one, and the report said.
 #[test]
 fn makes_files_in_order(rt: HostRuntime) -> Result<(), Fail> {
-    for (call, log, shapes, lef) in [
+    for (call, log, gds, lef) in &[
         (2, None, None, None),
         (3, Some(""), None, None),
         (4, Some(INVERTER_LOG), None, None),
@@ -183,28 +201,7 @@ fn makes_files_in_order(rt: HostRuntime) -> Result<(), Fail> {
         (7, Some(INVERTER_LOG), Some(2122), Some(0)),
         (8, Some(INVERTER_LOG), Some(2122), Some(997)),
     ] {
-        let (got, desk) = run_over(
-            rt.alloc(),
-            "make - c.sp inv out",
-            ["", INVERTER, ""],
-            &[call],
-        )?;
-        assert_eq!(rt; got, Status::WriteFault, "call {call}");
-        assert!(rt;
-            desk.file("out.clog") == log.map(|text| text.as_bytes()),
-            "call {call}"
-        );
-        assert_eq!(rt;
-            desk.file("out.gds").map(|file| file.len()),
-            shapes,
-            "call {call}"
-        );
-        assert_eq!(rt;
-            desk.file("out.lef").map(|file| file.len()),
-            lef,
-            "call {call}"
-        );
-        assert!(rt; desk.all_said().is_empty(), "call {call}");
+        assert!(rt; leaves(rt.alloc(), *call, *log, *gds, *lef)?, "call {call}");
     }
     Ok(())
 }

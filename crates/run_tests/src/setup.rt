@@ -1,5 +1,5 @@
 // The files that the tests run over, and their desks.
-use cell_io::{CallList, File, FileList, MemDesk};
+use cell_io::{CallList, Desk, File, FileList, MemDesk};
 use cell_num::{List, Name};
 use cell_run::{Status, run};
 use std::alloc::Global;
@@ -24,9 +24,15 @@ fn words_of(alloc: Global, text: &str) -> Result<Vec<String>, Fail> {
     Ok(words)
 }
 
-// Runs the words on the desk. No clause of `run` is needed, and this keeps them out of the tests' proofs.
+// Runs the words on any desk. It has no clause, which keeps those of `run` out of the tests' proofs, and those of the desk
+// out of its own.
+fn run_on<D: Desk>(alloc: Global, words: &[String], desk: &mut D) -> Status {
+    run(alloc, words, desk)
+}
+
 pub fn call(alloc: Global, words: &str, desk: &mut MemDesk) -> Result<Status, Fail> {
-    Ok(run(alloc, &words_of(alloc, words)?, desk))
+    let words = words_of(alloc, words)?;
+    Ok(run_on(alloc, &words, desk))
 }
 
 // A desk with the files `t.toml`, `c.sp` and `l.clog`, whose calls from the list fail.
@@ -64,6 +70,30 @@ pub fn run_over(
     )?;
     let status = call(alloc, words, &mut desk)?;
     Ok((status, desk))
+}
+
+/// Whether the words end so over these files, with this whole report.
+pub fn tells(
+    alloc: Global,
+    words: &str,
+    files: [&str; 3],
+    status: Status,
+    said: &str,
+) -> Result<bool, Fail> {
+    let (got, desk) = run_over(alloc, words, files, &[])?;
+    Ok(got == status && desk.all_said() == said.as_bytes())
+}
+
+/// Whether the words are no call, and make no file of that name.
+pub fn is_usage(alloc: Global, words: &str, name: &str) -> Result<bool, Fail> {
+    let (got, desk) = run_over(alloc, words, ["", INVERTER, ""], &[])?;
+    Ok(got == Status::Usage && desk.file(name).is_none())
+}
+
+/// The lengths of a log, a drawing and an abstract of `out`, 0 for none.
+pub fn lengths(desk: &MemDesk) -> [usize; 3] {
+    let length = |name| desk.file(name).map_or(0, |file| file.len());
+    [length("out.clog"), length("out.gds"), length("out.lef")]
 }
 
 pub const INVERTERS: &str = ".SUBCKT x3 a b c x y z vdd gnd

@@ -45,12 +45,18 @@ fn far(alloc: Global) -> Result<String, Fail> {
     Ok(text)
 }
 
+// Whether a cell is made, with these lengths and sums.
+fn is_made(alloc: Global, spice: &str, words: &str, want: [(usize, u32); 4]) -> Result<bool, Fail> {
+    let (got, desk) = run_over(alloc, words, ["", spice, ""], &[])?;
+    Ok(got == Status::Done && marks(&desk) == want)
+}
+
 // The lengths and the sums of what another program said and wrote.
 #[test]
 fn makes_long_rows(rt: HostRuntime) -> Result<(), Fail> {
     let alloc = rt.alloc();
     let far = far(alloc)?;
-    for (spice, words, want) in [
+    for (spice, words, want) in &[
         (
             WIDE,
             "make - c.sp inv out",
@@ -72,9 +78,7 @@ fn makes_long_rows(rt: HostRuntime) -> Result<(), Fail> {
             ],
         ),
     ] {
-        let (got, desk) = run_over(alloc, words, ["", spice, ""], &[])?;
-        assert_eq!(rt; got, Status::Done, "{words}");
-        assert_eq!(rt; marks(&desk), want, "{words}");
+        assert!(rt; is_made(alloc, spice, words, *want)?, "{words}");
     }
     Ok(())
 }
@@ -132,23 +136,37 @@ const OPEN: &[u8] = b"status 7 rejected\nlog NoRow best 3\n";
 
 const LOG_MARK: (usize, u32) = (6_927_694, 175_739_399);
 
+// Whether a call ended so, with this report.
+fn is_end(end: &(Status, MemDesk), status: Status, said: &[u8]) -> bool {
+    end.0 == status && end.1.all_said() == said
+}
+
 // The log of 109,995 lemmas is made by one call and goes there in 106 blocks; two files are read before by two calls
-// each, and the report is said last. It is checked in 106 pieces and its end, behind the two calls for the subcircuit.
+// each, and the report is said last.
+fn long_log(alloc: Global) -> Result<Vec<u8>, Fail> {
+    let end = spent(alloc, 111)?;
+    if !is_end(&end, Status::WriteFault, b"") || mark(end.1.file("out.clog")) != LOG_MARK {
+        return Err(Fail::from("its report is said too early"));
+    }
+    let end = spent(alloc, 112)?;
+    match end.1.file("out.clog") {
+        Some(log) if is_end(&end, Status::Unfinished, SPENT) => Ok(log.to_vec(alloc)?),
+        _ => Err(Fail::from("no log")),
+    }
+}
+
+// It is checked in 106 pieces and its end, behind the two calls for the subcircuit.
 #[test]
 fn writes_a_long_log(rt: HostRuntime) -> Result<(), Fail> {
     let alloc = rt.alloc();
-    let (got, desk) = spent(alloc, 111)?;
-    assert!(rt; got == Status::WriteFault && desk.all_said().is_empty());
-    assert_eq!(rt; mark(desk.file("out.clog")), LOG_MARK);
-    let (got, desk) = spent(alloc, 112)?;
-    assert!(rt; got == Status::Unfinished && desk.all_said() == SPENT);
-    let Some(log) = desk.file("out.clog") else {
-        return Err(Fail::from("no log"));
-    };
-    assert_eq!(rt; mark(Some(log)), LOG_MARK);
-    let (got, desk) = checked(alloc, log, 109)?;
-    assert!(rt; got == Status::WriteFault && desk.all_said().is_empty());
-    let (got, desk) = checked(alloc, log, 110)?;
-    assert!(rt; got == Status::Rejected && desk.all_said() == OPEN);
+    let log = long_log(alloc)?;
+    assert_eq!(rt; mark(Some(log.as_slice())), LOG_MARK);
+    for (failing, status, said) in &[
+        (109, Status::WriteFault, b"".as_slice()),
+        (110, Status::Rejected, OPEN),
+    ] {
+        let end = checked(alloc, &log, *failing)?;
+        assert!(rt; is_end(&end, *status, said), "{failing}");
+    }
     Ok(())
 }

@@ -1,13 +1,13 @@
-use crate::doglegs::{DOG, MADE_DOG, ends_so};
+use crate::doglegs::{DOG, MADE_DOG, ends_so, makes};
 use crate::make::NAND;
-use crate::setup::{INVERTER, INVERTERS, run_over};
+use crate::setup::{INVERTER, INVERTERS, is_usage};
 use cell_run::Status;
 use std::test::Fail;
 
 // Twelve shapes of 64 bytes more than without the word, and the same report and abstract.
 #[test]
 fn makes_cells_with_taps(rt: HostRuntime) -> Result<(), Fail> {
-    for (tech, spice, words, said, lengths) in [
+    for (tech, spice, words, said, lengths) in &[
         (
             "",
             INVERTER,
@@ -44,7 +44,7 @@ fn makes_cells_with_taps(rt: HostRuntime) -> Result<(), Fail> {
                 [tech, spice],
                 Status::Done,
                 said,
-                lengths
+                *lengths
             )?,
             "{said}"
         );
@@ -55,7 +55,7 @@ fn makes_cells_with_taps(rt: HostRuntime) -> Result<(), Fail> {
 // The search, the channel and the height do not look at taps.
 #[test]
 fn ends_as_without_taps(rt: HostRuntime) -> Result<(), Fail> {
-    for (tech, spice, words, status, said) in [
+    for (tech, spice, words, status, said) in &[
         (
             "height = 117",
             INVERTER,
@@ -79,7 +79,7 @@ fn ends_as_without_taps(rt: HostRuntime) -> Result<(), Fail> {
         ),
     ] {
         assert!(rt;
-            ends_so(rt.alloc(), words, [tech, spice], status, said, [0, 0])?,
+            ends_so(rt.alloc(), words, [tech, spice], *status, said, [0, 0])?,
             "{said}"
         );
     }
@@ -90,7 +90,7 @@ fn ends_as_without_taps(rt: HostRuntime) -> Result<(), Fail> {
 #[test]
 fn takes_taps_as_the_last_word(rt: HostRuntime) -> Result<(), Fail> {
     let alloc = rt.alloc();
-    for words in [
+    for words in &[
         "make - c.sp inv o --Taps",
         "make - c.sp inv o --tap",
         "make - c.sp inv o --taps --dogleg",
@@ -99,21 +99,13 @@ fn takes_taps_as_the_last_word(rt: HostRuntime) -> Result<(), Fail> {
         "make --taps - c.sp inv o",
         "plan - c.sp inv --taps",
     ] {
-        let (got, desk) = run_over(alloc, words, ["", INVERTER, ""], &[])?;
-        assert_eq!(rt; got, Status::Usage, "{words}");
-        assert!(rt; desk.file("o.clog").is_none(), "{words}");
+        assert!(rt; is_usage(alloc, words, "o.clog")?, "{words}");
     }
-    for (words, name, len) in [
+    for (words, name, len) in &[
         ("make - c.sp inv --taps", "--taps.gds", 2122),
         ("make - c.sp inv --dogleg --taps", "--dogleg.gds", 2890),
     ] {
-        let (got, desk) = run_over(alloc, words, ["", INVERTER, ""], &[])?;
-        assert_eq!(rt; got, Status::Done, "{words}");
-        assert_eq!(rt;
-            desk.file(name).map_or(0, |file| file.len()),
-            len,
-            "{words}"
-        );
+        assert!(rt; makes(alloc, words, name, *len)?, "{words}");
     }
     Ok(())
 }

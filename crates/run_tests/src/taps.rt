@@ -1,5 +1,5 @@
 use crate::extract::{inverter, joined, put_box, says, says_to};
-use crate::setup::{INVERTER, run_over};
+use crate::setup::is_usage;
 use cell_run::Status;
 use std::alloc::Global;
 use std::test::Fail;
@@ -56,7 +56,7 @@ fn tapped(alloc: Global, count: usize) -> Result<Vec<u8>, Fail> {
 #[test]
 fn tells_bodies(rt: HostRuntime) -> Result<(), Fail> {
     let alloc = rt.alloc();
-    for (count, n, p) in [(0, "-", "-"), (13, "gnd", "vdd")] {
+    for (count, n, p) in &[(0, "-", "-"), (13, "gnd", "vdd")] {
         let said = format!(in alloc;
             "{NETS}device 0 n gate a ends gnd y width 10 length 4 body {n}\ndevice 1 p gate a ends y vdd width 20 length 4 body {p}\n"
         )?;
@@ -64,7 +64,7 @@ fn tells_bodies(rt: HostRuntime) -> Result<(), Fail> {
             says_to(
                 alloc,
                 WORDS,
-                tapped(alloc, count)?,
+                tapped(alloc, *count)?,
                 Status::Done,
                 said.as_str()
             )?,
@@ -88,14 +88,13 @@ fn checks_taps(rt: HostRuntime) -> Result<(), Fail> {
 // The word stands behind CELL, once, and taps are no word of another form.
 #[test]
 fn takes_taps_behind_the_cell(rt: HostRuntime) -> Result<(), Fail> {
-    for words in [
+    for words in &[
         "extract - f.gds inv --taps --taps",
         "extract - f.gds inv --dogleg",
         "extract --taps - f.gds inv",
         "plan - c.sp inv --taps",
     ] {
-        let (got, _) = run_over(rt.alloc(), words, ["", INVERTER, ""], &[])?;
-        assert_eq!(rt; got, Status::Usage, "{words}");
+        assert!(rt; is_usage(rt.alloc(), words, "f.clog")?, "{words}");
     }
     Ok(())
 }

@@ -1,5 +1,6 @@
-use crate::setup::run_over;
+use crate::setup::{run_over, tells};
 use cell_run::Status;
+use std::alloc::Global;
 use std::test::Fail;
 
 // Gates a and b switch between x and y, gates c and d between u and v: no net has an odd number of ends.
@@ -28,19 +29,23 @@ column 3 3 1 3 1
 end
 ";
 
+// Whether the ring is made with this log.
+fn leaves_log(alloc: Global, log: &str) -> Result<bool, Fail> {
+    let (got, desk) = run_over(alloc, "make - c.sp ring out", ["", RING, ""], &[])?;
+    Ok(got == Status::Done && desk.file("out.clog") == Some(log.as_bytes()))
+}
+
 #[test]
 fn certifies_by_components(rt: HostRuntime) -> Result<(), Fail> {
-    let (got, desk) = run_over(rt.alloc(), "make - c.sp ring out", ["", RING, ""], &[])?;
-    assert_eq!(rt; got, Status::Done);
     let log = format!(in rt.alloc(); "cellgen-log 2\n{RING_LOG}")?;
-    assert!(rt; desk.file("out.clog") == Some(log.as_bytes()));
+    assert!(rt; leaves_log(rt.alloc(), &log)?);
     Ok(())
 }
 
 // Each version of a log has a bound of its own.
 #[test]
 fn checks_by_the_version(rt: HostRuntime) -> Result<(), Fail> {
-    for (version, status, said) in [
+    for (version, status, said) in &[
         (
             "2",
             Status::Done,
@@ -55,9 +60,10 @@ fn checks_by_the_version(rt: HostRuntime) -> Result<(), Fail> {
     ] {
         let log = format!(in rt.alloc(); "cellgen-log {version}\n{RING_LOG}")?;
         let files = ["", RING, log.as_str()];
-        let (got, desk) = run_over(rt.alloc(), "check - c.sp ring l.clog", files, &[])?;
-        assert_eq!(rt; desk.all_said(), said.as_bytes());
-        assert_eq!(rt; got, status, "{said}");
+        assert!(rt;
+            tells(rt.alloc(), "check - c.sp ring l.clog", files, *status, said)?,
+            "{said}"
+        );
     }
     Ok(())
 }
