@@ -27,8 +27,14 @@ fn read_log<D: Desk>(
     ensures only { OnlyReads (D.view desk.old) (D.view desk.new) }
 {
     let mut log = CheckedLog::new(alloc, inputs)?;
-    read_to(alloc, desk, Source::Log(file), &mut log)?;
-    Ok(log)
+    match read_to(alloc, desk, Source::Log(file), &mut log) {
+        Ok(()) => Ok(log),
+        Err(refusal) => {
+            // (a call, whose proof is short: in place all its parts would be dropped one by one)
+            drop(log);
+            Err(refusal)
+        }
+    }
 }
 
 /// Reads the file of evidence behind the inputs.
@@ -44,14 +50,20 @@ pub(crate) fn with_evidence<D: Desk>(
     ensures only { OnlyReads (D.view desk.old) (D.view desk.new) }
 {
     match evidence {
-        Evidence::Log => {
-            let log = read_log(alloc, desk, &inputs, file)?;
-            Ok(Material::Checking(inputs, log))
-        }
-        Evidence::Trails => {
-            let bytes = read_file(alloc, desk, Source::Trails(file))?;
-            Ok(Material::TrailChecking(inputs, bytes))
-        }
+        Evidence::Log => match read_log(alloc, desk, &inputs, file) {
+            Ok(log) => Ok(Material::Checking(inputs, log)),
+            Err(refusal) => {
+                drop(inputs);
+                Err(refusal)
+            }
+        },
+        Evidence::Trails => match read_file(alloc, desk, Source::Trails(file)) {
+            Ok(bytes) => Ok(Material::TrailChecking(inputs, bytes)),
+            Err(refusal) => {
+                drop(inputs);
+                Err(refusal)
+            }
+        },
     }
 }
 

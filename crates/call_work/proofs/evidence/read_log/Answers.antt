@@ -1,5 +1,4 @@
 use Rattle.std.proofs.Common.{Err, inr, refl}
-use Rattle.call_read.proofs.Desks.{reads_handed}
 use Rattle.call_read.specs.Read.{IsRead}
 use Rattle.call_read.specs.Sources.{LogFile}
 use Rattle.call_read.specs.declared.refusal.Refusal.{Refusal}
@@ -15,18 +14,12 @@ pub returns-in_err-log-clause-refused : goal.returns-in_err-log-clause-refused
 returns-in_err-log-clause-refused g c =
     holds_handed (λ (e : Refusal). IsRead (g.D.Desk.view c.args.desk.now) (g.D.Desk.view c.args.desk.now) (LogFile c.args.file.now) (Err e)) c.from_residual.result NoMemory c.from_residual.ensures (inr refl)
 
-pub returns-in_err-read_to-clause-refused : goal.returns-in_err-read_to-clause-refused
-returns-in_err-read_to-clause-refused g c =
-    holds_handed (λ (e : Refusal). IsRead (g.D.Desk.view c.args.desk.now) (g.D.Desk.view c.read_to.new.desk) (LogFile c.args.file.now) (Err e)) c.from_residual-in_err-read_to.result c.in_err-read_to.field-0.0
-    c.from_residual-in_err-read_to.ensures
-    c.in_err-read_to.ensures.refused
+pub returns-in-Err-clause-refused : goal.returns-in-Err-clause-refused
+returns-in-Err-clause-refused g c = c.in-Err.ensures.refused
 
-pub returns-in_err-read_to-clause-quiet : goal.returns-in_err-read_to-clause-quiet
-returns-in_err-read_to-clause-quiet g c =
-    reads_handed c.from_residual-in_err-read_to.result c.in_err-read_to.field-0.0 (g.D.Desk.view c.args.desk.now) (g.D.Desk.view c.read_to.new.desk)
-    c.from_residual-in_err-read_to.ensures
-    c.in_err-read_to.ensures.quiet
+pub returns-in-Err-clause-quiet : goal.returns-in-Err-clause-quiet
+returns-in-Err-clause-quiet g c = c.in-Err.ensures.quiet
 
-pub returns-clause-read : goal.returns-clause-read
-returns-clause-read g c =
-    holds_log (g.D.Desk.view c.args.desk.now) (g.D.Desk.view c.read_to.new.desk) c.args.file.now c.args.inputs.now c.in_ok-log.log c.read_to.new.sink c.in_ok-log.ensures c.in_ok-read_to.ensures.bytes
+pub returns-in-Ok-clause-read : goal.returns-in-Ok-clause-read
+returns-in-Ok-clause-read g c =
+    holds_log (g.D.Desk.view c.args.desk.now) (g.D.Desk.view c.read_to.new.desk) c.args.file.now c.args.inputs.now c.in_ok-log.log c.read_to.new.sink c.in_ok-log.ensures c.in-Ok.ensures.bytes
