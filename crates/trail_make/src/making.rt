@@ -90,10 +90,16 @@ pub fn make_by_trails(
     inputs.show_limits();
     let cell = &inputs.cell;
     match search_trails(alloc, &inputs.fingers, inputs.budget()) {
-        Ok(found) => drawn(alloc, inputs, stem, style, &found.row, &found.trails),
-        Err(TrailStop::Unfinished { trails, proved, .. }) => unfinished(
-            alloc, cell, stem, &trails, proved,
-        ),
+        Ok(found) => {
+            let end = drawn(alloc, inputs, stem, style, &found.row, &found.trails);
+            drop(found);
+            end
+        }
+        Err(TrailStop::Unfinished { trails, proved, .. }) => {
+            let end = unfinished(alloc, cell, stem, &trails, proved);
+            drop(trails);
+            end
+        }
         Err(TrailStop::Choices { gate }) => crowded(alloc, cell, gate),
         Err(TrailStop::NoMemory) => Err(NoMemory),
     }
