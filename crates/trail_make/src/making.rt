@@ -1,6 +1,7 @@
 ghost use Rattle.std.specs.Prelude.{IfOk};
 ghost use Rattle.bound_log.specs.Fits.{ForSome, IsLogName};
 ghost use Rattle.row_model.specs.Arrangement.{IsArrangement};
+ghost use Rattle.cell_make.specs.Rows.{CanRowBeWritten, ComesFrom};
 ghost use Rattle.trail_log.specs.Fits.{TrailsFit};
 ghost use Rattle.trail_make.specs.Make.{IsDrawnTo, IsUnfinishedEnd, TrailMakesTo};
 
@@ -17,7 +18,29 @@ use trail_log::Trails;
 use trail_run::crowded;
 use trail_search::{TrailStop, search_trails};
 
-// The row, drawn, with its certificate.
+// Tells what drawing the row came to, with its certificate.
+fn told(
+    alloc: Global,
+    inputs: &Inputs,
+    stem: &Stem,
+    style: Style,
+    row: &Arrangement,
+    trails: &Trails,
+    came: &RowOutcome,
+) -> Result<End, NoMemory>
+    requires arranged { IsArrangement row.now inputs.now.fingers }
+    requires fits { ForSome (λ k. TrailsFit k trails.now) }
+    requires comes { ComesFrom style inputs.now row.now came.now }
+    requires written { CanRowBeWritten inputs.now came.now }
+    ensures { IfOk result (IsDrawnTo style inputs.now stem.now row.now trails.now) }
+{
+    inputs.show_limits();
+    let evidence = trails_evidence(alloc, &inputs.cell, stem, trails)?;
+    row_end(alloc, inputs, stem, style, row, came, evidence)
+}
+
+// The row, drawn, with its certificate. The drawing is dropped by a call: where it goes out of scope by itself, all its
+// parts are proved at once, and that takes minutes.
 fn drawn(
     alloc: Global,
     inputs: &Inputs,
@@ -30,10 +53,10 @@ fn drawn(
     requires fits { ForSome (λ k. TrailsFit k trails.now) }
     ensures { IfOk result (IsDrawnTo style inputs.now stem.now row.now trails.now) }
 {
-    inputs.show_limits();
     let came = RowOutcome::of(alloc, inputs, style, row)?;
-    let evidence = trails_evidence(alloc, &inputs.cell, stem, trails)?;
-    row_end(alloc, inputs, stem, style, row, &came, evidence)
+    let end = told(alloc, inputs, stem, style, row, trails, &came);
+    drop(came);
+    end
 }
 
 // The certificate of what a search proves that spent its budget.
@@ -67,10 +90,16 @@ pub fn make_by_trails(
     inputs.show_limits();
     let cell = &inputs.cell;
     match search_trails(alloc, &inputs.fingers, inputs.budget()) {
-        Ok(found) => drawn(alloc, inputs, stem, style, &found.row, &found.trails),
-        Err(TrailStop::Unfinished { trails, proved, .. }) => unfinished(
-            alloc, cell, stem, &trails, proved,
-        ),
+        Ok(found) => {
+            let end = drawn(alloc, inputs, stem, style, &found.row, &found.trails);
+            drop(found);
+            end
+        }
+        Err(TrailStop::Unfinished { trails, proved, .. }) => {
+            let end = unfinished(alloc, cell, stem, &trails, proved);
+            drop(trails);
+            end
+        }
         Err(TrailStop::Choices { gate }) => crowded(alloc, cell, gate),
         Err(TrailStop::NoMemory) => Err(NoMemory),
     }

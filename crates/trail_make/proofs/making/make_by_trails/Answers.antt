@@ -12,31 +12,31 @@ use Rattle.trail_make.specs.Make.{IsUnfinishedEnd}
 use Rattle.trail_make.proofs.Ended.{crowded_to, found_fits, made_to, of_inputs, unfinished_to}
 use Rattle.trail_make.proofs.making.make_by_trails.Goals as goal
 
-pub drawn-requires-clause-arranged : goal.drawn-requires-clause-arranged
-drawn-requires-clause-arranged c = subst (λ (i : Inputs). IsArrangement c.in-Ok.found.row i.fingers) c.inputs.view_is c.in-Ok.ensures.found.first.arranges
+pub drawn-end-requires-clause-arranged : goal.drawn-end-requires-clause-arranged
+drawn-end-requires-clause-arranged c = subst (λ (i : Inputs). IsArrangement c.in-Ok.found.row i.fingers) c.inputs.view_is c.in-Ok.ensures.found.first.arranges
 
-pub drawn-requires-clause-fits : goal.drawn-requires-clause-fits
-drawn-requires-clause-fits c = found_fits c.inputs.inside.fingers c.in-Ok.found.row c.in-Ok.found.trails c.in-Ok.ensures.found.certified
+pub drawn-end-requires-clause-fits : goal.drawn-end-requires-clause-fits
+drawn-end-requires-clause-fits c = found_fits c.inputs.inside.fingers c.in-Ok.found.row c.in-Ok.found.trails c.in-Ok.ensures.found.certified
 
 pub returns-in-Ok : goal.returns-in-Ok
 returns-in-Ok c =
     let inside : Inputs = inputs_of c.inputs.inside.tech c.inputs.inside.cell c.inputs.inside.fingers in
-    made_to c.args.style c.args.inputs.now c.args.stem.now c.in-Ok.found.row c.in-Ok.found.trails c.in-Ok.found.nodes c.drawn.result
+    made_to c.args.style c.args.inputs.now c.args.stem.now c.in-Ok.found.row c.in-Ok.found.trails c.in-Ok.found.nodes c.drawn-end.result
     (of_inputs (λ (f : Fingers) (b : ℕ). IsTrailFound f b c.in-Ok.found.row c.in-Ok.found.trails c.in-Ok.found.nodes) inside c.args.inputs.now c.budget.result c.inputs.view_is c.budget.ensures.is c.in-Ok.ensures.found)
-    c.drawn.ensures
+    c.drawn-end.ensures
 
-pub unfinished-requires-clause-name : goal.unfinished-requires-clause-name
-unfinished-requires-clause-name c = inside_named c.args.inputs.now (inputs_of c.inputs.inside.tech c.inputs.inside.cell c.inputs.inside.fingers) c.inputs.view_is c.show_limits.ensures
+pub unfinished-end-requires-clause-name : goal.unfinished-end-requires-clause-name
+unfinished-end-requires-clause-name c = inside_named c.args.inputs.now (inputs_of c.inputs.inside.tech c.inputs.inside.cell c.inputs.inside.fingers) c.inputs.view_is c.show_limits.ensures
 
 pub returns-in-Err-Unfinished : goal.returns-in-Err-Unfinished
 returns-in-Err-Unfinished c =
     let inside : Inputs = inputs_of c.inputs.inside.tech c.inputs.inside.cell c.inputs.inside.fingers in
     let spent : IsTrailSpent c.inputs.inside.fingers c.budget.result c.in-Err-Unfinished.trails c.in-Err-Unfinished.proved c.in-Err-Unfinished.field-0-2 =
     subst (λ (s : TrailStop). Stops c.inputs.inside.fingers c.budget.result s) c.in-Err-Unfinished.field-0-is c.in-Err-Unfinished.ensures.stopped in
-    let ended : IfOk c.unfinished.result (IsUnfinishedEnd c.inputs.inside.cell c.args.stem.now c.in-Err-Unfinished.proved c.in-Err-Unfinished.trails) = search rules in
-    unfinished_to c.args.style c.args.inputs.now c.args.stem.now c.in-Err-Unfinished.proved c.in-Err-Unfinished.trails c.in-Err-Unfinished.field-0-2 c.unfinished.result
+    let ended : IfOk c.unfinished-end.result (IsUnfinishedEnd c.inputs.inside.cell c.args.stem.now c.in-Err-Unfinished.proved c.in-Err-Unfinished.trails) = search rules in
+    unfinished_to c.args.style c.args.inputs.now c.args.stem.now c.in-Err-Unfinished.proved c.in-Err-Unfinished.trails c.in-Err-Unfinished.field-0-2 c.unfinished-end.result
     (of_inputs (λ (f : Fingers) (b : ℕ). IsTrailSpent f b c.in-Err-Unfinished.trails c.in-Err-Unfinished.proved c.in-Err-Unfinished.field-0-2) inside c.args.inputs.now c.budget.result c.inputs.view_is c.budget.ensures.is spent)
-    (subst (λ (i : Inputs). IfOk c.unfinished.result (IsUnfinishedEnd i.cell c.args.stem.now c.in-Err-Unfinished.proved c.in-Err-Unfinished.trails)) c.inputs.view_is ended)
+    (subst (λ (i : Inputs). IfOk c.unfinished-end.result (IsUnfinishedEnd i.cell c.args.stem.now c.in-Err-Unfinished.proved c.in-Err-Unfinished.trails)) c.inputs.view_is ended)
 
 pub returns-in-Err-Choices : goal.returns-in-Err-Choices
 returns-in-Err-Choices c =

@@ -4,7 +4,7 @@ use Rattle.make_run.specs.Evidence.{shown}
 use Rattle.make_run.proofs.Makes.{inside_named}
 use Rattle.trail_make.specs.Make.{trails_evidence}
 use Rattle.trail_make.proofs.Ended.{drawn_to, short_row}
-use Rattle.trail_make.proofs.making.drawn.Goals as goal
+use Rattle.trail_make.proofs.making.told.Goals as goal
 
 pub trails_evidence-requires-clause-name : goal.trails_evidence-requires-clause-name
 trails_evidence-requires-clause-name c = inside_named c.args.inputs.now (inputs_of c.inputs.inside.tech c.inputs.inside.cell c.inputs.inside.fingers) c.inputs.view_is c.show_limits.ensures
@@ -14,6 +14,6 @@ row_end-requires-clause-columns c = short_row c.args.inputs.now c.args.row.now c
 
 pub returns : goal.returns
 returns c =
-    drawn_to c.args.style c.args.inputs.now c.args.stem.now c.args.row.now c.args.trails.now c.in_ok-came.came (shown c.in_ok-evidence.evidence) c.row_end.result c.in_ok-came.ensures.comes
+    drawn_to c.args.style c.args.inputs.now c.args.stem.now c.args.row.now c.args.trails.now c.args.came.now (shown c.in_ok-evidence.evidence) c.row_end.result c.requires.comes
     (subst (λ (i : Inputs). shown c.in_ok-evidence.evidence ≡ trails_evidence i.cell c.args.stem.now c.args.trails.now) c.inputs.view_is c.in_ok-evidence.ensures)
     c.row_end.ensures
