@@ -18,7 +18,7 @@ use Rattle.cell_draw.specs.Layouts.{width_of}
 use Rattle.cell_inputs.specs.Inputs.{AreInputs, Inputs}
 use Rattle.cell_make.specs.declared.drawn.Drawn.{Drawn}
 use Rattle.cell_make.specs.declared.drawn.TheConstants.{MOST_WIDTH}
-use Rattle.cell_make.specs.declared.row_outcome.RowOutcome.TheVariants as came
+use Rattle.cell_make.specs.declared.draw_outcome.DrawOutcome.TheVariants as came
 use Rattle.cell_make.specs.Making.{AreLeastLines}
 use Rattle.cell_make.specs.Rows.{LiesRowInFrame}
 

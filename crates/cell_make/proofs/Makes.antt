@@ -34,7 +34,7 @@ use Rattle.gds_read.specs.RoundTrip.{IsReadable}
 use Rattle.gds_read.specs.Decoding.{Decodes}
 use Rattle.gds_read.proofs.RoundTrip.{round_trip}
 use Rattle.cell_make.specs.declared.drawn.Drawn.{Drawn}
-use Rattle.cell_make.specs.declared.row_outcome.RowOutcome.TheVariants as came
+use Rattle.cell_make.specs.declared.draw_outcome.DrawOutcome.TheVariants as came
 use Rattle.cell_inputs.specs.declared.style.Style.{Style}
 use Rattle.cell_inputs.specs.declared.style.Wiring.{Wiring}
 use Rattle.cell_inputs.specs.declared.style.Wiring.TheVariants.{Straight, Doglegs}

@@ -10,20 +10,20 @@ use Rattle.cell_draw.specs.Frame.{IsTooTall, needed_of}
 use Rattle.cell_inputs.specs.declared.style.Style.{Style}
 use Rattle.cell_inputs.specs.Inputs.{Inputs, unit_nm}
 use Rattle.gds_read.specs.RoundTrip.{IsReadable}
-use Rattle.cell_make.specs.declared.row_outcome.RowOutcome.{RowOutcome}
-use Rattle.cell_make.specs.declared.row_outcome.RowOutcome.TheVariants as came
+use Rattle.cell_make.specs.declared.draw_outcome.DrawOutcome.{DrawOutcome}
+use Rattle.cell_make.specs.declared.draw_outcome.DrawOutcome.TheVariants as came
 use Rattle.cell_make.specs.Extent.{HasExtent, frame_in}
 use Rattle.cell_make.specs.Making.{IsDrawn, IsRouted, drawing_in, final_of}
 use Rattle.cell_make.specs.Style.{IsToldRing, tapped_by}
 
-pub data RowAnswer : Type 0 where
-  RowDrawn : (routing : Routing) (xs : List ℕ) → RowAnswer
-  RowCyclic : (ring : Ring) → RowAnswer
-  RowTall : (routing : Routing) → RowAnswer
+pub data DrawAnswer : Type 0 where
+  RowDrawn : (routing : Routing) (xs : List ℕ) → DrawAnswer
+  RowCyclic : (ring : Ring) → DrawAnswer
+  RowTall : (routing : Routing) → DrawAnswer
 
 -- The row is drawn on these tracks and lines; or nets of it stand above each other in this ring, as it is told; or it
 -- is routed, and needs more than the height.
-abbrev pub Draws : Style → Inputs → List Column → RowAnswer → Type 0
+abbrev pub Draws : Style → Inputs → List Column → DrawAnswer → Type 0
 Draws style inputs row (RowDrawn routing xs) = IsDrawn style inputs row routing xs
 Draws style inputs row (RowCyclic ring) = IsToldRing style.wiring (placement_of row) inputs.cell.pins ring
 Draws style inputs row (RowTall routing) =
@@ -31,19 +31,19 @@ Draws style inputs row (RowTall routing) =
 
 -- ---- as the code answers it
 
-abbrev pub placement_in : RowOutcome → Placement
+abbrev pub placement_in : DrawOutcome → Placement
 placement_in (came.Drawn placement routing drawn) = placement
 placement_in (came.Cyclic placement ring) = placement
 placement_in (came.Tall placement routing needed given) = placement
 
-abbrev pub row_answer : RowOutcome → RowAnswer
+abbrev pub row_answer : DrawOutcome → DrawAnswer
 row_answer (came.Drawn placement routing drawn) = RowDrawn routing drawn.lines
 row_answer (came.Cyclic placement ring) = RowCyclic ring
 row_answer (came.Tall placement routing needed given) = RowTall routing
 
 -- The drawing is that of the row, its routing and its lines, with taps where the style asks for them, and the heights
 -- are the one that the row needs and the one of the technology.
-abbrev pub IsRowDrawnBy : Style → Inputs → List Column → RowOutcome → Type 0
+abbrev pub IsRowDrawnBy : Style → Inputs → List Column → DrawOutcome → Type 0
 IsRowDrawnBy style inputs row (came.Drawn placement routing drawn) =
     (drawn.drawing ≡ drawing_in inputs row routing drawn.lines)
     × (drawn.tapped ≡ tapped_by style.taps drawn.drawing drawn.lines)
@@ -51,13 +51,13 @@ IsRowDrawnBy style inputs row (came.Cyclic placement ring) = Unit {0}
 IsRowDrawnBy style inputs row (came.Tall placement routing needed given) =
     (needed ≡ needed_of row routing.tracks) × (given ≡ inputs.tech.height)
 
-pub record ComesFrom (style : Style) (inputs : Inputs) (row : List Column) (of : RowOutcome) : Type 0 where
+pub record ComesFrom (style : Style) (inputs : Inputs) (row : List Column) (of : DrawOutcome) : Type 0 where
   pub placed : placement_in of ≡ placement_of row
   pub draws : Draws style inputs row (row_answer of)
   pub exact : IsRowDrawnBy style inputs row of
 
 -- a drawing can be written as a library that is read back, and without taps is small enough for an abstract
-abbrev pub CanRowBeWritten : Inputs → RowOutcome → Type 0
+abbrev pub CanRowBeWritten : Inputs → DrawOutcome → Type 0
 CanRowBeWritten inputs (came.Drawn placement routing drawn) =
     IsReadable inputs.cell.name (final_of drawn).shapes (unit_nm inputs.tech)
     × (length drawn.drawing.shapes.rects < MOST_SHAPES)
@@ -65,7 +65,7 @@ CanRowBeWritten inputs (came.Cyclic placement ring) = Unit {0}
 CanRowBeWritten inputs (came.Tall placement routing needed given) = Unit {0}
 
 -- a drawing keeps to its frame
-abbrev pub LiesRowInFrame : Inputs → RowOutcome → Type 0
+abbrev pub LiesRowInFrame : Inputs → DrawOutcome → Type 0
 LiesRowInFrame inputs (came.Drawn placement routing drawn) =
     HasExtent (frame_in inputs placement.row routing drawn.lines) drawn.lines drawn.drawing
 LiesRowInFrame inputs (came.Cyclic placement ring) = Unit {0}

@@ -3,13 +3,13 @@
 #![tactic(auto)]
 
 mod channel;
+pub mod draw_outcome;
 pub mod drawn;
 pub mod outcome;
 pub mod planned;
-pub mod row_outcome;
 
 pub use cell_inputs::Inputs;
+pub use draw_outcome::DrawOutcome;
 pub use drawn::Drawn;
 pub use outcome::Outcome;
 pub use planned::Planned;
-pub use row_outcome::RowOutcome;

@@ -3,9 +3,9 @@ ghost use Rattle.cell_make.specs.Extent.{IsOnItsLines, LiesInFrame};
 ghost use Rattle.cell_make.specs.Making.{CanBeWritten, ComesTo};
 ghost use Rattle.cell_make.specs.WithLog.{with_log};
 
+use crate::draw_outcome::DrawOutcome;
 use crate::drawn::Drawn;
 use crate::planned::Planned;
-use crate::row_outcome::RowOutcome;
 use cell_inputs::{Inputs, Style};
 use cell_num::NoMemory;
 use channel_route::{Ring, Routing};
@@ -46,11 +46,11 @@ pub enum Outcome {
 
 impl Outcome {
     // What the first least row came to, with the log of its search.
-    fn with_log(came: RowOutcome, log: KeptLog) -> Outcome
+    fn with_log(came: DrawOutcome, log: KeptLog) -> Outcome
         ensures { result ≡ with_log came log }
     {
         match came {
-            RowOutcome::Drawn {
+            DrawOutcome::Drawn {
                 placement,
                 routing,
                 drawn,
@@ -60,12 +60,12 @@ impl Outcome {
                 routing,
                 drawn,
             },
-            RowOutcome::Cyclic { placement, ring } => Outcome::Cyclic {
+            DrawOutcome::Cyclic { placement, ring } => Outcome::Cyclic {
                 placement,
                 log,
                 ring,
             },
-            RowOutcome::Tall {
+            DrawOutcome::Tall {
                 placement,
                 routing,
                 needed,
@@ -92,7 +92,7 @@ impl Outcome {
         let planned = Planned::of(alloc, inputs)?;
         match planned {
             Planned::Found { row, log } => {
-                let came = RowOutcome::of(alloc, inputs, style, &row)?;
+                let came = DrawOutcome::of(alloc, inputs, style, &row)?;
                 Ok(Outcome::with_log(came, log))
             }
             Planned::Unfinished { log, proved } => Ok(Outcome::Unfinished { log, proved }),

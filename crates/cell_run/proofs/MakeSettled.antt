@@ -17,7 +17,7 @@ use Rattle.cell_make.proofs.Abstracts.{abstract_made}
 use Rattle.cell_make.proofs.Rings.{ring_is}
 use Rattle.cell_make.specs.Making.{abstract_of, drawing_in, final_in, library_of}
 use Rattle.cell_make.specs.Making as made
-use Rattle.cell_make.specs.Rows.{Draws, RowAnswer, RowDrawn, RowCyclic, RowTall}
+use Rattle.cell_make.specs.Rows.{Draws, DrawAnswer, RowDrawn, RowCyclic, RowTall}
 use Rattle.cell_report.specs.Logs.{unfinished_text}
 use Rattle.cell_run.proofs.MadeFiles.{cell_made, evidence_made, none_left}
 use Rattle.cell_run.specs.Evidence.{CertificateOf, Certifies, ProvesAlone, evidence_counts, evidence_name, evidence_text, lemma_count}
@@ -127,7 +127,7 @@ tall_so evidence style inputs out row certificate routing end answer old new fir
   says = said_so _ end.report old.said new.said is.report whole.2;
 }
 
-row_leaves : (evidence : Evidence) (style : Style) (inputs : Inputs) (out : List ℕ) (row : List Column) (certificate : CertificateOf evidence) (drawing : RowAnswer) (end : End) (answer : Status) (old new : View) → IsFirstLeast inputs.fingers row → Certifies evidence inputs row certificate → Draws style inputs row drawing → IsRowEnd style inputs out row (told_evidence evidence inputs out certificate) drawing end → TellsWhole end answer old new → Leaves evidence style inputs out old new answer
+row_leaves : (evidence : Evidence) (style : Style) (inputs : Inputs) (out : List ℕ) (row : List Column) (certificate : CertificateOf evidence) (drawing : DrawAnswer) (end : End) (answer : Status) (old new : View) → IsFirstLeast inputs.fingers row → Certifies evidence inputs row certificate → Draws style inputs row drawing → IsRowEnd style inputs out row (told_evidence evidence inputs out certificate) drawing end → TellsWhole end answer old new → Leaves evidence style inputs out old new answer
 row_leaves evidence style inputs out row certificate (RowDrawn routing xs) end answer old new first certified h is whole =
     by_end (Leaves evidence style inputs out old new) status.Done answer end old new is.status whole (drawn_so evidence style inputs out row certificate routing xs end answer old new first certified h is whole)
 row_leaves evidence style inputs out row certificate (RowCyclic ring) end answer old new first certified h is whole =

@@ -8,8 +8,8 @@ use Rattle.bound_log.specs.Fits.{IsLogName}
 use Rattle.cell_inputs.specs.declared.style.Style.{Style}
 use Rattle.cell_inputs.specs.Inputs.{AreInputs, Inputs}
 use Rattle.cell_inputs.proofs.Names.{log_name}
-use Rattle.cell_make.specs.declared.row_outcome.RowOutcome.{RowOutcome}
-use Rattle.cell_make.specs.declared.row_outcome.RowOutcome.TheVariants as came
+use Rattle.cell_make.specs.declared.draw_outcome.DrawOutcome.{DrawOutcome}
+use Rattle.cell_make.specs.declared.draw_outcome.DrawOutcome.TheVariants as came
 use Rattle.cell_make.specs.Making.{MakeAnswer, Made, Cyclic, Tall, Unfinished, Makes}
 use Rattle.cell_make.specs.Rows.{ComesFrom, row_answer}
 use Rattle.cell_make.specs.Searched.{IsFound, IsUnfinished}
@@ -28,22 +28,22 @@ found_short inputs row log are found = omega (arith, few_columns inputs row are 
 -- ---- the ends
 
 -- the row and its log, as `make` answers them
-abbrev made_answer : List Column → Log → RowOutcome → MakeAnswer
+abbrev made_answer : List Column → Log → DrawOutcome → MakeAnswer
 made_answer row log (came.Drawn placement routing drawn) = Made row log routing drawn.lines
 made_answer row log (came.Cyclic placement ring) = Cyclic row log ring
 made_answer row log (came.Tall placement routing needed given) = Tall row log routing
 
-makes_so : (style : Style) (inputs : Inputs) (row : List Column) (log : Log) (outcome : RowOutcome) → IsFound inputs row log → ComesFrom style inputs row outcome → Makes style inputs (made_answer row log outcome)
+makes_so : (style : Style) (inputs : Inputs) (row : List Column) (log : Log) (outcome : DrawOutcome) → IsFound inputs row log → ComesFrom style inputs row outcome → Makes style inputs (made_answer row log outcome)
 makes_so style inputs row log (came.Drawn placement routing drawn) found from = record { found = found; drawn = from.draws }
 makes_so style inputs row log (came.Cyclic placement ring) found from = (found, from.draws)
 makes_so style inputs row log (came.Tall placement routing needed given) found from = (found, from.draws.0, from.draws.1)
 
-ends_so : (style : Style) (inputs : Inputs) (out : List ℕ) (row : List Column) (log : Log) (outcome : RowOutcome) (end : End) → IsRowEnd style inputs out row (log_evidence inputs.cell out log) (row_answer outcome) end → IsMakeEnd style inputs out (made_answer row log outcome) end
+ends_so : (style : Style) (inputs : Inputs) (out : List ℕ) (row : List Column) (log : Log) (outcome : DrawOutcome) (end : End) → IsRowEnd style inputs out row (log_evidence inputs.cell out log) (row_answer outcome) end → IsMakeEnd style inputs out (made_answer row log outcome) end
 ends_so style inputs out row log (came.Drawn placement routing drawn) end is = is
 ends_so style inputs out row log (came.Cyclic placement ring) end is = is
 ends_so style inputs out row log (came.Tall placement routing needed given) end is = is
 
-pub row_makes : (style : Style) (inputs inside : Inputs) (out : List ℕ) (row : List Column) (log : Log) (outcome : RowOutcome) (evidence : EvidenceOf) (r : Result End NoMemory) → inside ≡ inputs → IsFound inputs row log → ComesFrom style inputs row outcome → evidence ≡ log_evidence inside.cell out log → IfOk r (IsRowEnd style inputs out row evidence (row_answer outcome)) → IfOk r (MakesTo style inputs out)
+pub row_makes : (style : Style) (inputs inside : Inputs) (out : List ℕ) (row : List Column) (log : Log) (outcome : DrawOutcome) (evidence : EvidenceOf) (r : Result End NoMemory) → inside ≡ inputs → IsFound inputs row log → ComesFrom style inputs row outcome → evidence ≡ log_evidence inside.cell out log → IfOk r (IsRowEnd style inputs out row evidence (row_answer outcome)) → IfOk r (MakesTo style inputs out)
 row_makes style inputs inside out row log outcome evidence r same found from is ends =
     let shows : evidence ≡ log_evidence inputs.cell out log = subst (λ (i : Inputs). evidence ≡ log_evidence i.cell out log) same is in
     IfOk-weaker r (IsRowEnd style inputs out row (log_evidence inputs.cell out log) (row_answer outcome)) (MakesTo style inputs out)

@@ -16,8 +16,8 @@ use Rattle.spice_net.specs.declared.subckt.Subckt.{Subckt}
 use Rattle.cell_inputs.specs.declared.style.Style.{Style}
 use Rattle.cell_inputs.specs.Inputs.{Inputs, unit_nm}
 use Rattle.cell_make.specs.declared.drawn.Drawn.{Drawn}
-use Rattle.cell_make.specs.declared.row_outcome.RowOutcome.{RowOutcome}
-use Rattle.cell_make.specs.declared.row_outcome.RowOutcome.TheVariants as came
+use Rattle.cell_make.specs.declared.draw_outcome.DrawOutcome.{DrawOutcome}
+use Rattle.cell_make.specs.declared.draw_outcome.DrawOutcome.TheVariants as came
 use Rattle.cell_make.specs.Making.{drawing_in, final_of}
 use Rattle.cell_make.specs.Rows.{CanRowBeWritten, ComesFrom, RowDrawn, row_answer}
 use Rattle.cell_make.specs.Style.{final, tapped_by}
@@ -46,13 +46,13 @@ log_shown evidence cell out log name bytes counted =
 -- ---- a drawn row
 
 -- what drawing came to, where it is a drawing
-pub written_so : (inputs inside : Inputs) (outcome : RowOutcome) (placement : Placement) (routing : Routing) (drawn : Drawn) (unit : ℕ) → inside ≡ inputs → unit ≡ unit_nm inputs.tech → outcome ≡ came.Drawn placement routing drawn → CanRowBeWritten inputs outcome → IsReadable inside.cell.name (final_of drawn).shapes unit
+pub written_so : (inputs inside : Inputs) (outcome : DrawOutcome) (placement : Placement) (routing : Routing) (drawn : Drawn) (unit : ℕ) → inside ≡ inputs → unit ≡ unit_nm inputs.tech → outcome ≡ came.Drawn placement routing drawn → CanRowBeWritten inputs outcome → IsReadable inside.cell.name (final_of drawn).shapes unit
 written_so inputs inside outcome placement routing drawn unit same nm is written =
     let can : CanRowBeWritten inputs (came.Drawn placement routing drawn) = subst (CanRowBeWritten inputs) is written in
     subst (λ (i : Inputs). IsReadable i.cell.name (final_of drawn).shapes unit) (sym same)
     (subst (λ u. IsReadable inputs.cell.name (final_of drawn).shapes u) (sym nm) can.0)
 
-pub few_so : (inputs : Inputs) (outcome : RowOutcome) (placement : Placement) (routing : Routing) (drawn : Drawn) → outcome ≡ came.Drawn placement routing drawn → CanRowBeWritten inputs outcome → length drawn.drawing.shapes.rects < MOST_SHAPES
+pub few_so : (inputs : Inputs) (outcome : DrawOutcome) (placement : Placement) (routing : Routing) (drawn : Drawn) → outcome ≡ came.Drawn placement routing drawn → CanRowBeWritten inputs outcome → length drawn.drawing.shapes.rects < MOST_SHAPES
 few_so inputs outcome placement routing drawn is written =
     let can : CanRowBeWritten inputs (came.Drawn placement routing drawn) = subst (CanRowBeWritten inputs) is written in
     can.1
@@ -64,26 +64,26 @@ drawn_end style inputs inside out row evidence routing drawn unit r same nm is t
     (subst (λ (i : Inputs). IfOk r (IsDrawnEnd i.cell out row evidence routing drawn.drawing (final_of drawn) (unit_nm inputs.tech))) same
     (subst (λ u. IfOk r (IsDrawnEnd inside.cell out row evidence routing drawn.drawing (final_of drawn) u)) nm ends)))
 
-pub drawn_ends : (style : Style) (inputs inside : Inputs) (out : List ℕ) (row : List Column) (evidence : EvidenceOf) (outcome : RowOutcome) (placement : Placement) (routing : Routing) (drawn : Drawn) (unit : ℕ) (r : Result End NoMemory) → inside ≡ inputs → unit ≡ unit_nm inputs.tech → outcome ≡ came.Drawn placement routing drawn → ComesFrom style inputs row outcome → IfOk r (IsDrawnEnd inside.cell out row evidence routing drawn.drawing (final_of drawn) unit) → IfOk r (IsRowEnd style inputs out row evidence (row_answer outcome))
+pub drawn_ends : (style : Style) (inputs inside : Inputs) (out : List ℕ) (row : List Column) (evidence : EvidenceOf) (outcome : DrawOutcome) (placement : Placement) (routing : Routing) (drawn : Drawn) (unit : ℕ) (r : Result End NoMemory) → inside ≡ inputs → unit ≡ unit_nm inputs.tech → outcome ≡ came.Drawn placement routing drawn → ComesFrom style inputs row outcome → IfOk r (IsDrawnEnd inside.cell out row evidence routing drawn.drawing (final_of drawn) unit) → IfOk r (IsRowEnd style inputs out row evidence (row_answer outcome))
 drawn_ends style inputs inside out row evidence outcome placement routing drawn unit r same nm is comes ends =
     let from : ComesFrom style inputs row (came.Drawn placement routing drawn) = subst (ComesFrom style inputs row) is comes in
     let (exact, tapped) = from.exact in
-    subst (λ (o : RowOutcome). IfOk r (IsRowEnd style inputs out row evidence (row_answer o))) (sym is)
+    subst (λ (o : DrawOutcome). IfOk r (IsRowEnd style inputs out row evidence (row_answer o))) (sym is)
     (drawn_end style inputs inside out row evidence routing drawn unit r same nm exact tapped ends)
 
 -- ---- a row that is not drawn
 
-pub cyclic_ends : (style : Style) (inputs inside : Inputs) (out : List ℕ) (row : List Column) (evidence : RowEvidence) (outcome : RowOutcome) (placement : Placement) (ring : Ring) (report : List ℕ) (r : Result End NoMemory) → inside ≡ inputs → outcome ≡ came.Cyclic placement ring → report ≡ first_line status.Cycle ++ ring_text inside.cell.nets ring → IfOk r (λ end. end ≡ leaves status.Cycle (evidence.file ∷ []) report) → IfOk r (IsRowEnd style inputs out row (shown evidence) (row_answer outcome))
+pub cyclic_ends : (style : Style) (inputs inside : Inputs) (out : List ℕ) (row : List Column) (evidence : RowEvidence) (outcome : DrawOutcome) (placement : Placement) (ring : Ring) (report : List ℕ) (r : Result End NoMemory) → inside ≡ inputs → outcome ≡ came.Cyclic placement ring → report ≡ first_line status.Cycle ++ ring_text inside.cell.nets ring → IfOk r (λ end. end ≡ leaves status.Cycle (evidence.file ∷ []) report) → IfOk r (IsRowEnd style inputs out row (shown evidence) (row_answer outcome))
 cyclic_ends style inputs inside out row evidence outcome placement ring report r same is told ends =
-    subst (λ (o : RowOutcome). IfOk r (IsRowEnd style inputs out row (shown evidence) (row_answer o))) (sym is)
+    subst (λ (o : DrawOutcome). IfOk r (IsRowEnd style inputs out row (shown evidence) (row_answer o))) (sym is)
     (end_one status.Cycle evidence.file (shown evidence).file report (first_line status.Cycle ++ ring_text inputs.cell.nets ring) r refl
     (subst (λ (i : Inputs). report ≡ first_line status.Cycle ++ ring_text i.cell.nets ring) same told) ends)
 
-pub tall_ends : (style : Style) (inputs : Inputs) (out : List ℕ) (row : List Column) (evidence : RowEvidence) (outcome : RowOutcome) (placement : Placement) (routing : Routing) (needed given : ℕ) (report : List ℕ) (r : Result End NoMemory) → outcome ≡ came.Tall placement routing needed given → ComesFrom style inputs row outcome → report ≡ first_line status.TooTall ++ tall_text needed given → IfOk r (λ end. end ≡ leaves status.TooTall (evidence.file ∷ []) report) → IfOk r (IsRowEnd style inputs out row (shown evidence) (row_answer outcome))
+pub tall_ends : (style : Style) (inputs : Inputs) (out : List ℕ) (row : List Column) (evidence : RowEvidence) (outcome : DrawOutcome) (placement : Placement) (routing : Routing) (needed given : ℕ) (report : List ℕ) (r : Result End NoMemory) → outcome ≡ came.Tall placement routing needed given → ComesFrom style inputs row outcome → report ≡ first_line status.TooTall ++ tall_text needed given → IfOk r (λ end. end ≡ leaves status.TooTall (evidence.file ∷ []) report) → IfOk r (IsRowEnd style inputs out row (shown evidence) (row_answer outcome))
 tall_ends style inputs out row evidence outcome placement routing needed given report r is comes told ends =
     let from : ComesFrom style inputs row (came.Tall placement routing needed given) = subst (ComesFrom style inputs row) is comes in
     let (needs, has) = from.exact in
-    subst (λ (o : RowOutcome). IfOk r (IsRowEnd style inputs out row (shown evidence) (row_answer o))) (sym is)
+    subst (λ (o : DrawOutcome). IfOk r (IsRowEnd style inputs out row (shown evidence) (row_answer o))) (sym is)
     (end_one status.TooTall evidence.file (shown evidence).file report (first_line status.TooTall ++ tall_text (needed_of row routing.tracks) inputs.tech.height) r refl
     (subst (λ n. report ≡ first_line status.TooTall ++ tall_text n inputs.tech.height) needs
     (subst (λ h. report ≡ first_line status.TooTall ++ tall_text needed h) has told)) ends)

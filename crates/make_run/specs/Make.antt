@@ -13,7 +13,7 @@ use Rattle.spice_net.specs.declared.subckt.Subckt.{Subckt}
 use Rattle.cell_inputs.specs.declared.style.Style.{Style}
 use Rattle.cell_inputs.specs.Inputs.{Inputs, unit_nm}
 use Rattle.cell_make.specs.Making.{MakeAnswer, Made, Cyclic, Tall, Unfinished, Makes, drawing_in, final_in}
-use Rattle.cell_make.specs.Rows.{RowAnswer, RowDrawn, RowCyclic, RowTall}
+use Rattle.cell_make.specs.Rows.{DrawAnswer, RowDrawn, RowCyclic, RowTall}
 use Rattle.call_end.specs.declared.end.End.{End}
 use Rattle.call_end.specs.declared.end.Output.{Output}
 use Rattle.call_end.specs.declared.status.Status.{Status}
@@ -61,7 +61,7 @@ IsDrawnEnd cell out row evidence routing drawing final unit =
     ++ sizes_text routing.tracks drawing.width drawing.height ++ evidence.counts)
 
 -- its drawing, or the evidence alone, and why there is no drawing
-abbrev pub IsRowEnd : Style → Inputs → List ℕ → List Column → RowEvidence → RowAnswer → End → Type 0
+abbrev pub IsRowEnd : Style → Inputs → List ℕ → List Column → RowEvidence → DrawAnswer → End → Type 0
 IsRowEnd style inputs out row evidence (RowDrawn routing xs) =
     IsDrawnEnd inputs.cell out row evidence routing (drawing_in inputs row routing xs)
     (final_in style inputs row routing xs) (unit_nm inputs.tech)

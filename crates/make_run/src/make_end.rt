@@ -17,7 +17,7 @@ use crate::stem::Stem;
 use call_end::{End, Output, Status};
 use cell_draw::{Drawing, MOST_SHAPES};
 use cell_inputs::{Inputs, Style};
-use cell_make::{Drawn, RowOutcome};
+use cell_make::{DrawOutcome, Drawn};
 use cell_num::{Bytes, NoMemory};
 use channel_route::Routing;
 use gds_write::write_cell;
@@ -164,7 +164,7 @@ pub fn row_end(
     stem: &Stem,
     style: Style,
     row: &Arrangement,
-    came: &RowOutcome,
+    came: &DrawOutcome,
     evidence: RowEvidence,
 ) -> Result<End, NoMemory>
     requires columns { length row.now ≤ 64 }
@@ -175,7 +175,7 @@ pub fn row_end(
     inputs.show_limits();
     let cell = &inputs.cell;
     match came {
-        RowOutcome::Drawn { routing, drawn, .. } => with_drawing(
+        DrawOutcome::Drawn { routing, drawn, .. } => with_drawing(
             alloc,
             cell,
             stem,
@@ -185,14 +185,14 @@ pub fn row_end(
             drawn,
             inputs.unit_nm(),
         ),
-        RowOutcome::Cyclic { ring, .. } => match cycle_report(alloc, &cell.nets, ring) {
+        DrawOutcome::Cyclic { ring, .. } => match cycle_report(alloc, &cell.nets, ring) {
             Ok(report) => End::makes_one(alloc, Status::Cycle, evidence.file, report),
             Err(fault) => {
                 drop(evidence);
                 Err(fault)
             }
         },
-        RowOutcome::Tall { needed, given, .. } => match tall_report(alloc, *needed, *given) {
+        DrawOutcome::Tall { needed, given, .. } => match tall_report(alloc, *needed, *given) {
             Ok(report) => End::makes_one(alloc, Status::TooTall, evidence.file, report),
             Err(fault) => {
                 drop(evidence);

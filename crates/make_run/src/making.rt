@@ -10,7 +10,7 @@ use crate::make_report::spent_report;
 use crate::stem::Stem;
 use call_end::{End, Status};
 use cell_inputs::Style;
-use cell_make::{Inputs, Planned, RowOutcome};
+use cell_make::{DrawOutcome, Inputs, Planned};
 use cell_num::NoMemory;
 use log_output::KeptLog;
 use row_model::Arrangement;
@@ -42,7 +42,7 @@ fn found(
     style: Style,
     row: &Arrangement,
     log: KeptLog,
-    came: &RowOutcome,
+    came: &DrawOutcome,
 ) -> Result<End, NoMemory>
     requires found { IsFound inputs.now row.now log }
     requires comes { ComesFrom style inputs.now row.now came.now }
@@ -64,7 +64,7 @@ pub fn make(alloc: Global, inputs: &Inputs, stem: &Stem, style: Style) -> Result
     let planned = Planned::of(alloc, inputs)?;
     match planned {
         Planned::Found { row, log } => {
-            let came = RowOutcome::of(alloc, inputs, style, &row)?;
+            let came = DrawOutcome::of(alloc, inputs, style, &row)?;
             let end = found(alloc, inputs, stem, style, &row, log, &came);
             drop(came);
             end

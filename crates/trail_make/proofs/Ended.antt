@@ -19,7 +19,7 @@ use Rattle.call_end.specs.End.{reports}
 use Rattle.call_end.specs.Status.{first_line}
 use Rattle.cell_inputs.specs.declared.style.Style.{Style}
 use Rattle.cell_inputs.specs.Inputs.{AreInputs, Inputs}
-use Rattle.cell_make.specs.declared.row_outcome.RowOutcome.{RowOutcome}
+use Rattle.cell_make.specs.declared.draw_outcome.DrawOutcome.{DrawOutcome}
 use Rattle.cell_make.specs.Rows.{ComesFrom, row_answer}
 use Rattle.cell_make.proofs.Makes.{few_columns}
 use Rattle.make_run.specs.Make.{IsEnd, IsRowEnd, RowEvidence, named}
@@ -29,7 +29,7 @@ use Rattle.trail_make.specs.Make.{TrailMake, Made, Unfinished, Crowded, IsDrawnT
 to : (style : Style) (inputs : Inputs) (out : List ℕ) (answer : TrailMake) (r : Result End NoMemory) → Makes style inputs answer → IfOk r (IsMakeEnd style inputs out answer) → IfOk r (TrailMakesTo style inputs out)
 to style inputs out answer r makes ends = IfOk-weaker r (IsMakeEnd style inputs out answer) (TrailMakesTo style inputs out) (λ end e. (answer, makes, e)) ends
 
-pub drawn_to : (style : Style) (inputs : Inputs) (out : List ℕ) (row : List Column) (trails : Trails) (came : RowOutcome) (evidence : RowEvidence) (r : Result End NoMemory) → ComesFrom style inputs row came → evidence ≡ trails_evidence inputs.cell out trails → IfOk r (IsRowEnd style inputs out row evidence (row_answer came)) → IfOk r (IsDrawnTo style inputs out row trails)
+pub drawn_to : (style : Style) (inputs : Inputs) (out : List ℕ) (row : List Column) (trails : Trails) (came : DrawOutcome) (evidence : RowEvidence) (r : Result End NoMemory) → ComesFrom style inputs row came → evidence ≡ trails_evidence inputs.cell out trails → IfOk r (IsRowEnd style inputs out row evidence (row_answer came)) → IfOk r (IsDrawnTo style inputs out row trails)
 drawn_to style inputs out row trails came evidence r comes is ends =
     IfOk-weaker r (IsRowEnd style inputs out row evidence (row_answer came)) (IsDrawnTo style inputs out row trails)
     (λ end e. (row_answer came, comes.draws, subst (λ (x : RowEvidence). IsRowEnd style inputs out row x (row_answer came) end) is e)) ends

@@ -11,14 +11,14 @@ use Rattle.call_end.specs.declared.status.Status.TheVariants as status
 use Rattle.call_end.specs.Status.{first_line}
 use Rattle.cell_inputs.specs.declared.style.Style.{Style}
 use Rattle.cell_inputs.specs.Inputs.{Inputs}
-use Rattle.cell_make.specs.Rows.{Draws, RowAnswer}
+use Rattle.cell_make.specs.Rows.{Draws, DrawAnswer}
 use Rattle.cell_report.specs.Logs.{unfinished_text}
 use Rattle.make_run.specs.Make.{IsEnd, IsRowEnd, RowEvidence}
 use Rattle.trail_run.specs.Counts.{counts_text}
 use Rattle.trail_run.specs.Plan.{IsPlanned, IsUnfinished, gate_text}
 
 pub data TrailMake : Type 0 where
-  Made : (row : List Column) (trails : Trails) (answer : RowAnswer) → TrailMake
+  Made : (row : List Column) (trails : Trails) (answer : DrawAnswer) → TrailMake
   Unfinished : (proved : ℕ) (trails : Trails) → TrailMake
   Crowded : (gate : NetNo) → TrailMake
 
@@ -39,7 +39,7 @@ trails_evidence cell out trails =
 -- what drawing the row comes to, with this certificate
 abbrev pub IsDrawnTo : Style → Inputs → List ℕ → List Column → Trails → End → Type 0
 IsDrawnTo style inputs out row trails end =
-    (answer : RowAnswer)
+    (answer : DrawAnswer)
     × Draws style inputs row answer
     × IsRowEnd style inputs out row (trails_evidence inputs.cell out trails) answer end
 

@@ -8,7 +8,7 @@ ghost use Rattle.trail_make.specs.Make.{IsDrawnTo, IsUnfinishedEnd, TrailMakesTo
 use crate::evidence::{trails_evidence, trails_file};
 use call_end::{End, Status};
 use cell_inputs::{Inputs, Style};
-use cell_make::RowOutcome;
+use cell_make::DrawOutcome;
 use cell_num::NoMemory;
 use make_run::{Stem, row_end, spent_report};
 use row_model::Arrangement;
@@ -26,7 +26,7 @@ fn told(
     style: Style,
     row: &Arrangement,
     trails: &Trails,
-    came: &RowOutcome,
+    came: &DrawOutcome,
 ) -> Result<End, NoMemory>
     requires arranged { IsArrangement row.now inputs.now.fingers }
     requires fits { ForSome (λ k. TrailsFit k trails.now) }
@@ -53,7 +53,7 @@ fn drawn(
     requires fits { ForSome (λ k. TrailsFit k trails.now) }
     ensures { IfOk result (IsDrawnTo style inputs.now stem.now row.now trails.now) }
 {
-    let came = RowOutcome::of(alloc, inputs, style, row)?;
+    let came = DrawOutcome::of(alloc, inputs, style, row)?;
     let end = told(alloc, inputs, stem, style, row, trails, &came);
     drop(came);
     end

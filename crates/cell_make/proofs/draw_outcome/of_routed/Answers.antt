@@ -6,7 +6,7 @@ use Rattle.cell_make.specs.Style.{final}
 use Rattle.cell_make.proofs.Extent.{lies_so, some_column}
 use Rattle.cell_make.proofs.Finals.{final_is}
 use Rattle.cell_make.proofs.Makes.{drawn_so, placed_legal, placed_row, readable_so}
-use Rattle.cell_make.proofs.row_outcome.of_routed.Goals as goal
+use Rattle.cell_make.proofs.draw_outcome.of_routed.Goals as goal
 
 pub draw_routed-requires-clause-row : goal.draw_routed-requires-clause-row
 draw_routed-requires-clause-row c = placed_row c.args.inputs.now (inputs_of c.inputs.inside.tech c.inputs.inside.cell c.inputs.inside.fingers) c.args.placement.row c.args.placement c.inputs.view_is c.show_limits.ensures c.requires.arranged c.requires.placed

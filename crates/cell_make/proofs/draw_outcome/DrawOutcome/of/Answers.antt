@@ -5,12 +5,12 @@ use Rattle.row_place.specs.Places.{placement_of}
 use Rattle.channel_route.specs.declared.ring.Ring.{Ring}
 use Rattle.cell_inputs.specs.Inputs.{inputs_of}
 use Rattle.cell_make.specs.declared.channel.ChannelStop.{ChannelStop}
-use Rattle.cell_make.specs.declared.row_outcome.RowOutcome.TheVariants as came
+use Rattle.cell_make.specs.declared.draw_outcome.DrawOutcome.TheVariants as came
 use Rattle.cell_make.specs.Channel.{TellsRing}
 use Rattle.cell_make.specs.Making.{IsRouted}
 use Rattle.cell_make.specs.Rows.{ComesFrom}
 use Rattle.cell_make.proofs.Makes.{all_pins, few_columns, routed_so, told_so}
-use Rattle.cell_make.proofs.row_outcome.RowOutcome.of.Goals as goal
+use Rattle.cell_make.proofs.draw_outcome.DrawOutcome.of.Goals as goal
 
 pub place-requires-clause-columns : goal.place-requires-clause-columns
 place-requires-clause-columns c = c.requires.columns

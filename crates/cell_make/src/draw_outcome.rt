@@ -16,7 +16,7 @@ use std::alloc::Global;
 
 /// What drawing a row comes to.
 #[derive(Drop)]
-pub enum RowOutcome {
+pub enum DrawOutcome {
     /// The row on its lines, drawn.
     Drawn {
         placement: Placement,
@@ -44,7 +44,7 @@ fn of_routed(
     style: Style,
     placement: Placement,
     routing: Routing,
-) -> Result<RowOutcome, NoMemory>
+) -> Result<DrawOutcome, NoMemory>
     requires arranged { IsArrangement placement.row inputs.now.fingers }
     requires placed { placement ≡ placement_of placement.row }
     requires places { IsPlacement placement }
@@ -62,12 +62,12 @@ fn of_routed(
         &routing,
         inputs.height(),
     ) {
-        Ok(drawn) => Ok(RowOutcome::Drawn {
+        Ok(drawn) => Ok(DrawOutcome::Drawn {
             placement,
             routing,
             drawn,
         }),
-        Err(DrawFault::TooTall { needed, given }) => Ok(RowOutcome::Tall {
+        Err(DrawFault::TooTall { needed, given }) => Ok(DrawOutcome::Tall {
             placement,
             routing,
             needed,
@@ -77,7 +77,7 @@ fn of_routed(
     }
 }
 
-impl RowOutcome {
+impl DrawOutcome {
     /// The drawing of an arrangement of the fingers in this style; or a ring of its nets, or a height that is not
     /// enough. A drawing can be written.
     pub fn of(
@@ -85,7 +85,7 @@ impl RowOutcome {
         inputs: &Inputs,
         style: Style,
         row: &Arrangement,
-    ) -> Result<RowOutcome, NoMemory>
+    ) -> Result<DrawOutcome, NoMemory>
         requires { IsArrangement row.now inputs.now.fingers }
         ensures comes { IfOk result (ComesFrom style inputs.now row.now) }
         ensures written { IfOk result (CanRowBeWritten inputs.now) }
@@ -95,7 +95,7 @@ impl RowOutcome {
         let placement = place(alloc, row)?;
         match route_by(alloc, style.wiring, &placement, &inputs.cell.pins) {
             Ok(routing) => of_routed(alloc, inputs, style, placement, routing),
-            Err(ChannelStop::Ring(ring)) => Ok(RowOutcome::Cyclic { placement, ring }),
+            Err(ChannelStop::Ring(ring)) => Ok(DrawOutcome::Cyclic { placement, ring }),
             Err(ChannelStop::NoMemory) => Err(NoMemory),
         }
     }
