@@ -11,7 +11,8 @@ use cell_make::Outcome;
 use cell_num::{MOST_BYTES, NoMemory};
 use std::alloc::Global;
 
-// The tally of one cell.
+// The tally of one cell. Big values are dropped by calls: where they go out of scope by themselves, all their parts are
+// proved at once, and that takes minutes.
 fn count_cell(alloc: Global, text: &[u8], cell: u32) -> Result<Tally, NoMemory>
     requires few { length text.now ≤ MOST_BYTES }
     requires holds { HoldsCell text.now cell }
@@ -21,8 +22,18 @@ fn count_cell(alloc: Global, text: &[u8], cell: u32) -> Result<Tally, NoMemory>
 {
     let inputs = bench_inputs(alloc, text, cell)?;
     inputs.show_limits();
-    let outcome = Outcome::of(alloc, &inputs, Style::plain())?;
-    Ok(counted(&inputs, &outcome))
+    match Outcome::of(alloc, &inputs, Style::plain()) {
+        Ok(outcome) => {
+            let tally = counted(&inputs, &outcome);
+            drop(outcome);
+            drop(inputs);
+            Ok(tally)
+        }
+        Err(fault) => {
+            drop(inputs);
+            Err(fault)
+        }
+    }
 }
 
 /// Makes so many generated cells, each read from the text of all of them, and counts what comes out. Each is made or

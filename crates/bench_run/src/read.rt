@@ -21,14 +21,22 @@ pub(crate) fn bench_inputs(alloc: Global, text: &[u8], cell: u32) -> Result<Inpu
     let subckt = match read_cell(alloc, text, &name, &tech) {
         Ok(subckt) => subckt,
         Err(fault) => match fault {
-            SpiceFault::NoMemory => return Err(NoMemory),
+            SpiceFault::NoMemory => {
+                // (a call, here and below, whose proof is short: in place all its parts would be dropped one by one)
+                drop(tech);
+                return Err(NoMemory);
+            }
             _ => unreachable!(),
         },
     };
     let fingers = match fold(alloc, &subckt, &tech) {
         Ok(fingers) => fingers,
         Err(fault) => match fault {
-            FoldFault::NoMemory => return Err(NoMemory),
+            FoldFault::NoMemory => {
+                drop(subckt);
+                drop(tech);
+                return Err(NoMemory);
+            }
             _ => unreachable!(),
         },
     };

@@ -1,9 +1,7 @@
 -- Files made in order, from what each call of the desk did.
-use Rattle.std.proofs.Common.{ℕ, ◌≡◌, ◌⊎◌, List, [], ◌∷◌, ◌++◌, Option, Some, None, ◌+◌, ◌<◌, ◌≤◌, drop, get_or, Result, Ok, Err, OnOk, OnErr, length, string_bytes, inl, inr, refl, sym, ap, ◌∙◌, arith, subst}
+use Rattle.std.proofs.Common.{ℕ, ◌≡◌, ◌⊎◌, List, [], ◌∷◌, Option, Some, None, ◌+◌, ◌<◌, ◌≤◌, drop, get_or, Result, Ok, Err, OnErr, length, string_bytes, inl, inr, refl, sym, ap, ◌∙◌, arith, subst}
 use Rattle.std.proofs.lemmas.List.{drop_more}
-use Rattle.std.specs.Result.{IsErr, IsErrAnd}
 use Rattle.cell_io.specs.Desk.{Files, View, Both, ForSome, AddsPart, WrittenIn, OnlyMakes, Rose}
-use Rattle.cell_io.specs.declared.output.WriteFault.{WriteFault}
 use Rattle.call_end.specs.declared.end.Output.{Output}
 use Rattle.call_end.specs.declared.end.End.{End}
 use Rattle.call_end.specs.declared.status.Status.{Status}
@@ -15,22 +13,6 @@ use Rattle.log_output.proofs.Giving.{said_some}
 -- a count that rose has risen from every earlier number, and to every later one
 pub rose_wider : (a b c d : ℕ) → a ≤ b → c ≤ d → Rose b c → Rose a d
 rose_wider a b c d low high rose = omega (arith, low, high, rose)
-
--- ---- a fault that is handed on
-
-abbrev pub IsHanded : {X : Type 0} → Result X WriteFault → WriteFault → Type 0
-IsHanded own e = IsErr own × IsErrAnd own (λ told. told ≡ e)
-
-pub handed_none : {X : Type 0} (own : Result X WriteFault) (e : WriteFault) (P : Type 0) → IsHanded own e → OnOk own P
-handed_none (Ok x) e P (is, told) = absurd told
-handed_none (Err f) e P handed = tt
-
-err_is : {X : Type 0} (g f : WriteFault) → ◌≡◌ {A = Result X WriteFault} (Err g) (Err f) → g ≡ f
-err_is g f same = cc
-
-pub handed_so : {X Y : Type 0} (r : Result X WriteFault) (own : Result Y WriteFault) (e f : WriteFault) → r ≡ Err e → IsHanded own e → own ≡ Err f → r ≡ Err f
-handed_so r (Ok x) e f was (is, told) same = absurd told
-handed_so r (Err g) e f was (is, told) same = was ∙ ap (λ (x : WriteFault). Err x) (sym told ∙ err_is g f same)
 
 -- ---- files
 
@@ -95,9 +77,8 @@ report_some end answer a b c makes all only some gives =
     let said : Both (ForSome end.report (AddsPart end.report)) a.said c.said = subst (λ (text : Option (List ℕ)). Both (ForSome end.report (AddsPart end.report)) text c.said) makes.said (said_some end.report b c some) in
     inr (gives, inr (made, said))
 
--- ---- an end of three files
+-- ---- an end with files
 
-pub leaves_three : (status : Status) (first second third : Output) (told report : List ℕ) (none one two three : List Output) → none ≡ [] → one ≡ none ++ first ∷ [] → two ≡ one ++ second ∷ [] → three ≡ two ++ third ∷ [] → told ≡ report → leaves status three told ≡ leaves status (first ∷ second ∷ third ∷ []) report
-leaves_three status first second third told report none one two three n a b c is =
-    let all : three ≡ first ∷ second ∷ third ∷ [] = c ∙ ap (λ (xs : List Output). xs ++ third ∷ []) (b ∙ ap (λ (xs : List Output). xs ++ second ∷ []) (a ∙ ap (λ (xs : List Output). xs ++ first ∷ []) n)) in
-    ap (λ (xs : List Output). leaves status xs told) all ∙ ap (λ (text : List ℕ). leaves status (first ∷ second ∷ third ∷ []) text) is
+pub leaves_listed : (status : Status) (files all : List Output) (told report : List ℕ) → all ≡ files → told ≡ report → leaves status all told ≡ leaves status files report
+leaves_listed status files all told report a is =
+    ap (λ (xs : List Output). leaves status xs told) a ∙ ap (λ (text : List ℕ). leaves status files text) is

@@ -22,8 +22,14 @@ fn make_file<D: Desk>(desk: &mut D, file: Output) -> Result<(), WriteFault>
     ensures only { OnlyMakes (D.view desk.old) (D.view desk.new) }
 {
     let Output { name, bytes } = file;
-    write_all(desk, name.as_str(), &[])?;
-    bytes.give(desk, Target::File(name.as_str()))
+    match write_all(desk, name.as_str(), &[]) {
+        Ok(()) => bytes.give(desk, Target::File(name.as_str())),
+        Err(fault) => {
+            // (a call, here and below, whose proof is short: in place all its parts would be dropped one by one)
+            drop(bytes);
+            Err(fault)
+        }
+    }
 }
 
 // Makes the files in order.
@@ -58,8 +64,15 @@ pub fn deliver<D: Desk>(desk: &mut D, end: End) -> Status
     } = end;
     match make_files(desk, files) {
         Ok(()) => (),
-        Err(WriteFault::Failed) => return Status::WriteFault,
-        Err(WriteFault::NoMemory) => return Status::NoMemory,
+        Err(WriteFault::Failed) => {
+            // (a call, as above)
+            drop(report);
+            return Status::WriteFault;
+        }
+        Err(WriteFault::NoMemory) => {
+            drop(report);
+            return Status::NoMemory;
+        }
     }
     match report.give(desk, Target::Report) {
         Ok(()) => status,

@@ -1,4 +1,4 @@
-ghost use Rattle.std.specs.Prelude.{◌≡◌, [], ◌∷◌, IfOk};
+ghost use Rattle.std.specs.Prelude.{◌≡◌, [], ◌∷◌, ◌++◌, IfOk};
 ghost use Rattle.call_end.specs.End.{says, leaves};
 
 use crate::status::Status;
@@ -21,6 +21,44 @@ pub struct End {
     pub status: Status,
     pub files: OutputList,
     pub report: Content,
+}
+
+fn with_file(mut files: OutputList, file: Output) -> Result<OutputList, NoMemory>
+    ensures { IfOk result (λ all. all ≡ files ++ file ∷ []) }
+{
+    files.push(file)?;
+    Ok(files)
+}
+
+// Files that can't be listed are dropped by calls, here and below: where one goes out of scope by itself, all its parts
+// are proved at once, and that takes long.
+fn two_files(alloc: Global, first: Output, second: Output) -> Result<OutputList, NoMemory>
+    ensures { IfOk result (λ files. files ≡ first ∷ second ∷ []) }
+{
+    match with_file(OutputList::new(alloc), first) {
+        Ok(files) => with_file(files, second),
+        Err(fault) => {
+            drop(second);
+            Err(fault)
+        }
+    }
+}
+
+fn three_files(
+    alloc: Global,
+    first: Output,
+    second: Output,
+    third: Output,
+) -> Result<OutputList, NoMemory>
+    ensures { IfOk result (λ files. files ≡ first ∷ second ∷ third ∷ []) }
+{
+    match two_files(alloc, first, second) {
+        Ok(files) => with_file(files, third),
+        Err(fault) => {
+            drop(third);
+            Err(fault)
+        }
+    }
 }
 
 impl End {
@@ -53,10 +91,7 @@ impl End {
     ) -> Result<End, NoMemory>
         ensures { IfOk result (λ end. end ≡ leaves status (first ∷ second ∷ third ∷ []) report) }
     {
-        let mut files = OutputList::new(alloc);
-        files.push(first)?;
-        files.push(second)?;
-        files.push(third)?;
+        let files = three_files(alloc, first, second, third)?;
         Ok(End {
             status,
             files,

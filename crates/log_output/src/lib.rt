@@ -5,6 +5,7 @@ mod block;
 mod content;
 mod kept_log;
 mod log_text;
+mod supplies;
 mod target;
 
 pub use content::Content;

@@ -7,14 +7,16 @@ ghost use Rattle.bound_log.specs.Fits.{BestFits, Fits, ForSome, IsLogName, Lemma
 ghost use Rattle.bound_log.specs.Text.{best_text, column_line, lemma_line, log_text};
 ghost use Rattle.row_search.specs.Kept.{HasRoom};
 ghost use Rattle.log_output.specs.Giving.{Gives, GivesSome, KeepsUntold, OnlyPuts};
+ghost use Rattle.log_output.specs.Ready.{CanBeGiven};
 ghost use Rattle.log_output.specs.Targets.{place_of};
 
 use crate::block::Block;
 use crate::kept_log::KeptLog;
+use crate::supplies::Supplies;
 use crate::target::Target;
 use bound_log::{Best, Lemma, LineWriter, LogStep};
 use cell_io::{Desk, WriteFault};
-use cell_num::{Name, NoMemory, copy};
+use cell_num::{Name, NoMemory};
 use row_search::Kept;
 use std::alloc::Global;
 use std::marker::Model;
@@ -150,6 +152,32 @@ fn give_lines<D: Desk>(
     block.add(desk, target, lines.last())
 }
 
+// The lines, and then what the block still holds.
+#[tactic(auto, using(crate::proofs::Giving::can_still, crate::proofs::Giving::only_none, crate::proofs::Giving::only_more, crate::proofs::Giving::failed_behind, crate::proofs::Giving::short_behind, crate::proofs::Giving::untold_behind, crate::proofs::Giving::quiet_none))]
+fn give_whole<D: Desk>(
+    desk: &mut D,
+    target: Target<'_>,
+    block: &mut Block,
+    lines: &mut LineWriter,
+    lemma: &mut Lemma,
+    name: &Name,
+    log: &KeptLog,
+) -> Result<(), WriteFault>
+    requires place { CanPut (place_of target) (D.view desk.old) }
+    requires ready { CanBeGiven name.now log.now lemma.old block.old }
+    ensures all { OnOk result (Gives (place_of target.entry) (log_text name.now log.now) []
+        (D.view desk.old) (D.view desk.new)) }
+    ensures some { OnErr result (GivesSome (place_of target.entry) (log_text name.now log.now)
+        (D.view desk.old) (D.view desk.new)) }
+    ensures failed { IsErrOf result Failed → Rose (D.view desk.old).write_faults (D.view desk.new).write_faults }
+    ensures memory { IsErrOf result Short → Rose (D.view desk.old).shorts (D.view desk.new).shorts }
+    ensures counts { KeepsUntold result (D.view desk.old) (D.view desk.new) }
+    ensures only { OnlyPuts (place_of target.entry) (D.view desk.old) (D.view desk.new) }
+{
+    give_lines(desk, target, block, lines, lemma, name, log)?;
+    block.flush(desk, target)
+}
+
 impl LogText {
     /// The text of a log for the cell of that name.
     pub fn new(alloc: Global, name: &Name, log: KeptLog) -> Result<LogText, NoMemory>
@@ -157,18 +185,30 @@ impl LogText {
         requires fits { ForSome (λ k. Fits k log) }
         ensures { IfOk result (λ text. text ≡ log_text name.now log) }
     {
-        let lemma = log.kept.room(alloc)?;
-        Ok(LogText {
-            name: copy(alloc, name.as_slice())?,
-            log,
-            lemma,
-            lines: LineWriter::new(alloc)?,
-            block: Block::new(alloc)?,
-        })
+        match Supplies::new(alloc, name, &log.kept) {
+            Ok(
+                Supplies {
+                    name,
+                    lemma,
+                    lines,
+                    block,
+                },
+            ) => Ok(LogText {
+                name,
+                log,
+                lemma,
+                lines,
+                block,
+            }),
+            Err(fault) => {
+                // (a call, whose proof is short: in place all its parts would be dropped one by one)
+                drop(log);
+                Err(fault)
+            }
+        }
     }
 
     /// Puts the text at the end of the file, or says it. It takes no memory but what the desk itself takes.
-    #[tactic(auto, using(crate::proofs::Giving::can_still, crate::proofs::Giving::only_none, crate::proofs::Giving::only_more, crate::proofs::Giving::failed_behind, crate::proofs::Giving::short_behind, crate::proofs::Giving::untold_behind, crate::proofs::Giving::quiet_none))]
     pub fn give<D: Desk>(self, desk: &mut D, target: Target<'_>) -> Result<(), WriteFault>
         requires { CanPut (place_of target) (D.view desk.old) }
         ensures all { OnOk result (Gives (place_of target.entry) self [] (D.view desk.old) (D.view desk.new)) }
@@ -186,9 +226,14 @@ impl LogText {
             mut lines,
             mut block,
         } = self;
-        give_lines(
+        let given = give_whole(
             desk, target, &mut block, &mut lines, &mut lemma, &name, &log,
-        )?;
-        block.flush(desk, target)
+        );
+        // (calls, as above)
+        drop(log);
+        drop(lemma);
+        drop(lines);
+        drop(block);
+        given
     }
 }

@@ -5,6 +5,7 @@ ghost use Rattle.cell_num.specs.Names.{is_cell};
 ghost use Rattle.row_make.specs.Rowed.{AreInputsOf};
 ghost use Rattle.tech_file.specs.Technology.{IsTechnology};
 ghost use Rattle.row_make.specs.Steps.{IsCellOf, IsStop};
+ghost use Rattle.row_make.specs.declared.stop.RowStop.TheVariants.{Stopped};
 
 use crate::inputs::RowInputs;
 use crate::outcome::Undrawn;
@@ -81,6 +82,15 @@ fn row_cell(inputs: Inputs, placement: &Placement, routing: &Routing, drawn: Dra
     }
 }
 
+// A cell that is not made. What is not needed any more is dropped by calls, here and below: where a big value goes out
+// of scope by itself, all its parts are proved at once, and that takes long.
+fn stopped<T: Drop>(inputs: Inputs, unneeded: T, why: Undrawn) -> RowStop
+    ensures { result ≡ Stopped inputs why }
+{
+    drop(unneeded);
+    RowStop::Stopped { inputs, why }
+}
+
 /// Makes the cell of that name, with straight trunks and no taps.
 pub fn made_cell(alloc: Global, row: &RowInputs, name: &Name) -> Result<RowCell, RowStop>
     requires { IsTrue (is_cell name.now) }
@@ -89,21 +99,37 @@ pub fn made_cell(alloc: Global, row: &RowInputs, name: &Name) -> Result<RowCell,
 {
     let inputs = inputs_of(alloc, row, name)?;
     inputs.show_limits();
-    match Outcome::of(alloc, &inputs, Style::plain())? {
+    let Ok(outcome) = Outcome::of(alloc, &inputs, Style::plain()) else {
+        drop(inputs);
+        return Err(RowStop::NoMemory);
+    };
+    match outcome {
         Outcome::Made {
             placement,
+            log,
             routing,
             drawn,
-            ..
-        } => Ok(row_cell(inputs, &placement, &routing, drawn)),
-        Outcome::Cyclic { ring, .. } => Err(RowStop::Stopped {
+        } => {
+            let cell = row_cell(inputs, &placement, &routing, drawn);
+            drop((placement, log, routing));
+            Ok(cell)
+        }
+        Outcome::Cyclic {
+            placement,
+            log,
+            ring,
+        } => Err(stopped(inputs, (placement, log), Undrawn::Cyclic { ring })),
+        Outcome::Tall {
+            placement,
+            log,
+            routing,
+            needed,
+            given,
+        } => Err(stopped(
             inputs,
-            why: Undrawn::Cyclic { ring },
-        }),
-        Outcome::Tall { needed, given, .. } => Err(RowStop::Stopped {
-            inputs,
-            why: Undrawn::Tall { needed, given },
-        }),
+            (placement, log, routing),
+            Undrawn::Tall { needed, given },
+        )),
         Outcome::Unfinished { log, proved } => Err(RowStop::Stopped {
             inputs,
             why: Undrawn::Unfinished { log, proved },

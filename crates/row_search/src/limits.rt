@@ -3,6 +3,7 @@ ghost use Rattle.cell_num.specs.Fingers.{AreFingers, columns_of};
 ghost use Rattle.row_state.specs.Candidates.{AreCandidates, IsNumbered};
 ghost use Rattle.row_state.specs.Start.{start_of};
 ghost use Rattle.log_check.specs.Accepted.{WithKinds};
+ghost use Rattle.log_check.specs.Noted.{AreNoted};
 ghost use Rattle.row_search.specs.Ended.{IfOpen, IsSolved, IsSpent, log_with, log_without};
 ghost use Rattle.row_search.specs.First.{IsFirstLeast};
 ghost use Rattle.row_search.specs.Limits.{IsFound, StopsWell, found_of};
@@ -46,21 +47,26 @@ fn numbered_start(alloc: Global, kinds: &Kinds) -> Result<Numbered, NoMemory>
 }
 
 // Tries the limits in turn, from 0 on.
-fn try_limits<B: RowBound>(task: &Task<B>) -> Result<FoundKept, StopKept>
+fn try_limits<B: RowBound>(
+    task: &Task<B>,
+    first: &Numbered,
+    trails: &mut Trails,
+) -> Result<FoundKept, StopKept>
     requires candidates { AreCandidates task.now.kinds.now task.now.candidates.now }
+    requires state { first.now.state ≡ start_of task.now.kinds.now }
+    requires numbered { IsNumbered task.now.kinds.now first.now }
+    requires noted { AreNoted (B.trails_of task.now.bound.now) task.now.kinds.now trails.old }
     ensures found { IfOk result (IsFound (B.value task.now.bound.now) task.now.kinds.now task.now.budget) }
     ensures stopped { IfErr result (StopsWell (B.value task.now.bound.now) task.now.kinds.now task.now.budget) }
 {
     task.kinds.show_limits();
-    let first = numbered_start(task.alloc, task.kinds)?;
     let mut progress = Progress::new(task.alloc, task.kinds)?;
-    let mut trails = Trails::new(task.alloc);
     let empty = EmptyPlaces::of(&first.state, task.kinds);
     for limit in 0..columns(task.kinds) + 1 {
         if progress.best_at(first.code) > limit {
             continue;
         }
-        match visit(task, &mut progress, &mut trails, &first, empty, limit) {
+        match visit(task, &mut progress, trails, first, empty, limit) {
             Ok(Some(steps)) => {
                 let found = finish(task.alloc, task.kinds, progress, limit, steps.as_slice())?;
                 return Ok(found);
@@ -71,10 +77,28 @@ fn try_limits<B: RowBound>(task: &Task<B>) -> Result<FoundKept, StopKept>
                 let kept = progress.into_kept();
                 return Err(StopKept::Unfinished { kept, proved });
             }
-            Err(Halt::NoMemory) => return Err(StopKept::NoMemory),
+            Err(Halt::NoMemory) => {
+                drop(progress);
+                return Err(StopKept::NoMemory);
+            }
         }
     }
     unreachable!()
+}
+
+// Searches from the start. It and the trails are dropped by calls: where they go out of scope by themselves, all their
+// parts are proved at each end of the search.
+fn search_task<B: RowBound>(task: &Task<B>) -> Result<FoundKept, StopKept>
+    requires candidates { AreCandidates task.now.kinds.now task.now.candidates.now }
+    ensures found { IfOk result (IsFound (B.value task.now.bound.now) task.now.kinds.now task.now.budget) }
+    ensures stopped { IfErr result (StopsWell (B.value task.now.bound.now) task.now.kinds.now task.now.budget) }
+{
+    let first = numbered_start(task.alloc, task.kinds)?;
+    let mut trails = Trails::new(task.alloc);
+    let ended = try_limits(task, &first, &mut trails);
+    drop(trails);
+    drop(first);
+    ended
 }
 
 /// The first least arrangement of the fingers, and the lemmas of a log of the bound's version that prove that none
@@ -104,5 +128,5 @@ pub fn search_kept<B: RowBound>(
         bound,
         budget,
     };
-    try_limits(&task)
+    search_task(&task)
 }

@@ -4,7 +4,7 @@ ghost use Rattle.log_check.specs.Accepted.{WithKinds};
 ghost use Rattle.row_search.specs.Ended.{IfUnfinished, IsSolved, IsSpent};
 ghost use Rattle.row_search.specs.First.{IsFirstLeast};
 
-use crate::{Found, Kept, Stop, StopKept, search_kept};
+use crate::{Found, FoundKept, Kept, Stop, StopKept, search_kept};
 use bound_log::{LemmaList, Log};
 use cell_num::{Fingers, NoMemory};
 use row_state::RowBound;
@@ -21,6 +21,15 @@ fn unpacked(alloc: Global, kept: &Kept) -> Result<LemmaList, NoMemory>
         lemmas.push(lemma)?;
     }
     Ok(lemmas)
+}
+
+// The same, where the kept ones are not needed any more. They are dropped by a call, whose proof is short.
+fn into_lemmas(alloc: Global, kept: Kept) -> Result<LemmaList, NoMemory>
+    ensures { IfOk result (λ lemmas. lemmas ≡ kept) }
+{
+    let lemmas = unpacked(alloc, &kept);
+    drop(kept);
+    lemmas
 }
 
 /// The first least arrangement of the fingers, and a log of the bound's version that proves that none has fewer gaps;
@@ -44,20 +53,27 @@ pub fn search<B: RowBound>(
 {
     let version = bound.version();
     match search_kept(alloc, fingers, bound, budget) {
-        Ok(found) => {
-            let lemmas = unpacked(alloc, &found.kept)?;
-            Ok(Found {
-                row: found.row,
+        Ok(
+            FoundKept {
+                row,
+                kept,
+                best,
+                nodes,
+            },
+        ) => match into_lemmas(alloc, kept) {
+            Ok(lemmas) => Ok(Found {
+                row,
                 log: Log {
                     version,
                     lemmas,
-                    best: Some(found.best),
+                    best: Some(best),
                 },
-                nodes: found.nodes,
-            })
-        }
+                nodes,
+            }),
+            Err(NoMemory) => Err(Stop::NoMemory),
+        },
         Err(StopKept::Unfinished { kept, proved }) => {
-            let lemmas = unpacked(alloc, &kept)?;
+            let lemmas = into_lemmas(alloc, kept)?;
             Err(Stop::Unfinished {
                 log: Log {
                     version,

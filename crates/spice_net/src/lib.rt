@@ -6,6 +6,7 @@ mod directions;
 mod fault;
 mod fields;
 mod nets;
+mod numbering;
 mod pins;
 mod read;
 mod sizes;

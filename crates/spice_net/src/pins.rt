@@ -120,7 +120,9 @@ pub fn check_pins(
         none_idle (idle_pin tech.now (names_of pins.now.keys) transistors.now) ≡ Err f) }
 {
     let named = with_nets(IndexSet::new(alloc), transistors)?;
-    match find_idle(tech, &named, pins.as_slice()) {
+    let idle = find_idle(tech, &named, pins.as_slice());
+    drop(named);
+    match idle {
         Some(pin) => Err(SpiceFault::IdlePin {
             name: copy(alloc, pin)?,
         }),

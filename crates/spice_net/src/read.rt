@@ -1,26 +1,21 @@
 ghost use Rattle.std.specs.Prelude.{◌≡◌, ◌≢◌, ◌≤◌, ◌++◌, length, Ok, Err, All, IfOk, IfErr, OnOk, List, ℕ, Result};
 ghost use Rattle.cell_num.specs.Pins.{ArePins};
-ghost use Rattle.indexmap.specs.IndexSet.{index_set_len};
-ghost use Rattle.spice_text.specs.declared.logical.Line.{Line as LineOf};
 ghost use Rattle.spice_net.specs.declared.fault.SpiceFault.{SpiceFault as FaultOf};
 ghost use Rattle.spice_net.specs.declared.fault.SpiceFault.TheVariants as fault;
-ghost use Rattle.spice_net.specs.declared.fault.What.TheVariants as what;
 ghost use Rattle.spice_net.specs.Chosen.{without_comments, lines_in};
-ghost use Rattle.spice_net.specs.Directions.{directions_of as directions_in};
-ghost use Rattle.spice_net.specs.Nets.{distinct, nets_of};
+ghost use Rattle.spice_net.specs.Nets.{distinct};
 ghost use Rattle.spice_net.specs.Reader.{names_of, with_shown, in_front};
 ghost use Rattle.spice_net.specs.Transistors.{Transistor as TransistorOf, most_counted, transistors_of};
-ghost use Rattle.spice_net.specs.Subcircuit.{at_most, subckt_with, numbered, subckt_of, subckt_in, subcircuit};
+ghost use Rattle.spice_net.specs.Subcircuit.{subckt_of, subckt_in, subcircuit};
 ghost use Rattle.spice_net.specs.Subckts.{AreNames, IsSubckt};
 
 use crate::chosen::{choose, first_is};
-use crate::directions::directions_of;
-use crate::fault::{SpiceFault, What};
-use crate::nets::{copies, count, count_copies, devices, net, net_set};
+use crate::fault::SpiceFault;
+use crate::numbering::number_all;
 use crate::pins::{check_pins, has_rails, read_pins, with_rails};
-use crate::subckt::{DirectionList, MOST_DEVICES, MOST_PINS, Subckt};
+use crate::subckt::{MOST_DEVICES, MOST_PINS, Subckt};
 use crate::transistor::{Transistor, TransistorList, is_transistor, read_transistor};
-use cell_num::{MOST_BYTES, MOST_NETS, Name, NoMemory, Pins, copy};
+use cell_num::{MOST_BYTES, Name};
 use indexmap::IndexSet;
 use spice_text::{Line, Lines, TextFault, split_lines};
 use std::alloc::Global;
@@ -67,73 +62,6 @@ fn read_transistors(
         take_line(alloc, tech, line, &mut found)?;
     }
     Ok(found)
-}
-
-fn limit(most: usize, what: What, count: usize) -> Result<(), SpiceFault>
-    ensures { result ≡ at_most most what count }
-{
-    if count <= most {
-        Ok(())
-    } else {
-        Err(SpiceFault::TooMany {
-            what,
-            count: count as u64,
-        })
-    }
-}
-
-fn number_nets(
-    alloc: Global,
-    name: &Name,
-    tech: &Tech,
-    directions: DirectionList,
-    nets: &IndexSet<&[u8]>,
-    transistors: &[Transistor],
-) -> Result<Subckt, NoMemory>
-    requires few { index_set_len nets.now ≤ MOST_NETS }
-    requires pins { length directions ≤ MOST_PINS }
-    ensures { IfOk result (λ cell. (lines : List LineOf) → (names : List (List ℕ)) →
-        directions ≡ directions_in tech.now lines names transistors.now →
-        names_of nets.now.keys ≡ nets_of names transistors.now →
-        cell ≡ subckt_with name.now tech.now lines names transistors.now) }
-{
-    let pins = Pins {
-        pins: directions.len() as u32,
-        vdd: net(nets, tech.vdd.as_slice()),
-        gnd: net(nets, tech.gnd.as_slice()),
-    };
-    Ok(Subckt {
-        name: copy(alloc, name.as_slice())?,
-        pins,
-        nets: copies(alloc, nets)?,
-        devices: devices(alloc, nets, transistors)?,
-        directions,
-    })
-}
-
-// numbers the nets, where they are not too many
-fn number_all<'a>(
-    alloc: Global,
-    name: &Name,
-    tech: &'a Tech,
-    lines: &[Line],
-    pins: IndexSet<&'a [u8]>,
-    transistors: &'a [Transistor],
-) -> Result<Subckt, SpiceFault>
-    requires once { distinct (names_of pins.keys) ≡ names_of pins.keys }
-    requires few { All (λ t. t.copies ≤ most_counted) transistors.now }
-    ensures cell { IfOk result (λ cell. numbered name.now tech.now lines.now (names_of pins.entry.keys) transistors.now
-        ≡ Ok cell) }
-    ensures fault { IfErr result (λ f. f ≢ fault.NoMemory →
-        numbered name.now tech.now lines.now (names_of pins.entry.keys) transistors.now ≡ Err f) }
-{
-    limit(MOST_PINS, What::Pins, count(&pins))?;
-    limit(MOST_DEVICES, What::Devices, count_copies(transistors))?;
-    let directions = directions_of(alloc, tech, lines, pins.as_slice(), transistors)?;
-    let nets = net_set(pins, transistors)?;
-    limit(MOST_NETS as usize, What::Nets, count(&nets))?;
-    let cell = number_nets(alloc, name, tech, directions, &nets, transistors)?;
-    Ok(cell)
 }
 
 // looks at the whole subcircuit, and numbers its nets

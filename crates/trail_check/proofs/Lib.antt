@@ -2,6 +2,7 @@ pub mod Capped
 pub mod Counted
 pub mod Decided
 pub mod Each
+pub mod Found
 pub mod Least
 pub mod Leveled
 pub mod Lines

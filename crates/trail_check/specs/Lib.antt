@@ -1,6 +1,7 @@
 -- What contracts of public calls cite, and what these definitions stand on.
 pub mod Accepted
 pub mod Gates
+pub mod Indexed
 pub mod Justified
 pub mod Leveled
 pub mod Listed

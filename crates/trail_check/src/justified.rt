@@ -2,12 +2,13 @@ ghost use Rattle.std.specs.Prelude.{◌≡◌, ◌≢◌, ◌≤◌, ◌<◌, []
 ghost use Rattle.std.specs.List.{list_all};
 ghost use Rattle.trail_state.specs.declared.level.Level.{Level as LevelOf};
 ghost use Rattle.trail_state.specs.Levels.{Ends};
+ghost use Rattle.trail_check.specs.Indexed.{IsIndexOf};
 ghost use Rattle.trail_check.specs.Justified.{choice_reaches, ends_proved, is_justified, level_reaches, unproved};
 ghost use Rattle.trail_check.specs.Listed.{lemmas_listed};
 ghost use Rattle.trail_check.specs.Refusal.{LemmasRefused};
 ghost use Rattle.trail_check.specs.declared.refusal.TrailRefusal.TheVariants as refusal;
 
-use crate::{TrailLemma, TrailRefusal, ends_proved, is_known, lemma_listed};
+use crate::{LemmaIndex, TrailLemma, TrailRefusal, ends_proved, lemma_listed};
 use cell_num::{List, MOST_BYTES, NoMemory};
 use std::alloc::Global;
 use trail_log::LemmaLine;
@@ -16,11 +17,13 @@ use trail_state::{Choice, Level, after};
 fn reaches(
     alloc: Global,
     earlier: &[TrailLemma],
+    index: &LemmaIndex,
     level: &Level,
     lemma: &TrailLemma,
     choice: &Choice,
 ) -> Result<bool, NoMemory>
     requires nodes { length level.now.now ≤ 65536 }
+    requires index { IsIndexOf earlier.now index.now }
     ensures { IfOk result (λ ok. ok ≡ choice_reaches earlier.now level.entry.now lemma.now choice.now) }
 {
     let settled = after(
@@ -31,7 +34,7 @@ fn reaches(
         choice.as_slice(),
     )?;
     let need = lemma.bound.saturating_sub(settled.ends);
-    Ok(is_known(earlier, u64::from(lemma.done) + 1, &settled.state, need))
+    Ok(index.knows(earlier, u64::from(lemma.done) + 1, &settled.state, need))
 }
 
 // Whether each choice reaches the lemma's bound.
@@ -39,16 +42,18 @@ fn reaches(
 fn each_reaches(
     alloc: Global,
     earlier: &[TrailLemma],
+    index: &LemmaIndex,
     level: &Level,
     lemma: &TrailLemma,
 ) -> Result<bool, NoMemory>
     requires nodes { length level.now.now ≤ 65536 }
+    requires index { IsIndexOf earlier.now index.now }
     ensures { IfOk result (λ ok. ok ≡
         list_all (choice_reaches earlier.now level.entry.now lemma.now) level.entry.now.choices) }
 {
     let choices = level.choices.as_slice();
     for choice in choices {
-        if !reaches(alloc, earlier, level, lemma, choice)? {
+        if !reaches(alloc, earlier, index, level, lemma, choice)? {
             return Ok(false);
         }
     }
@@ -59,13 +64,15 @@ fn justifies(
     alloc: Global,
     levels: &[Level],
     earlier: &[TrailLemma],
+    index: &LemmaIndex,
     lemma: &TrailLemma,
 ) -> Result<bool, NoMemory>
     requires nodes { All (λ (level : LevelOf). length level.now ≤ 65536) levels.now }
+    requires index { IsIndexOf earlier.now index.now }
     ensures { IfOk result (λ ok. ok ≡ is_justified levels.now earlier.now lemma.now) }
 {
     match levels.get(lemma.done as usize) {
-        Some(level) => each_reaches(alloc, earlier, level, lemma),
+        Some(level) => each_reaches(alloc, earlier, index, level, lemma),
         None => Ok(false),
     }
 }
@@ -88,12 +95,14 @@ pub fn check_lemmas(
     ensures true_of { IfOk result (Ends levels.now []) }
 {
     let mut known = List::new(alloc);
+    let mut index = LemmaIndex::new(alloc);
     let mut line = 5;
     for listed in lines {
         let lemma = lemma_listed(alloc, levels, listed)?;
-        if !justifies(alloc, levels, known.as_slice(), &lemma)? {
+        if !justifies(alloc, levels, known.as_slice(), &index, &lemma)? {
             return Err(TrailRefusal::Unproved { line });
         }
+        index.add(alloc, known.as_slice(), &lemma)?;
         known.push(lemma)?;
         line += 1;
     }

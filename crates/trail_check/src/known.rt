@@ -1,9 +1,8 @@
 ghost use Rattle.std.specs.Prelude.{◌≡◌, fold};
-ghost use Rattle.std.specs.List.{list_any};
-ghost use Rattle.trail_check.specs.Justified.{better, ends_proved, is_known, is_start, same_state, says};
+ghost use Rattle.trail_check.specs.Justified.{better, ends_proved, is_start, same_state, says};
 
 use crate::TrailLemma;
-use trail_state::{Place, TrailState};
+use trail_state::Place;
 
 /// Whether two states have the same places in the same order.
 pub fn is_same_state(a: &[Place], b: &[Place]) -> bool
@@ -12,27 +11,13 @@ pub fn is_same_state(a: &[Place], b: &[Place]) -> bool
     a == b
 }
 
-fn is_said(lemma: &TrailLemma, done: u64, state: &[Place], need: u32) -> bool
+/// Whether the lemma is on the state behind so many gates, with this bound or a greater one.
+pub(crate) fn is_said(lemma: &TrailLemma, done: u64, state: &[Place], need: u32) -> bool
     ensures { result ≡ says done state.now need lemma.now }
 {
     u64::from(lemma.done) == done
         && is_same_state(lemma.state.as_slice(), state)
         && need <= lemma.bound
-}
-
-fn is_said_by_one(earlier: &[TrailLemma], done: u64, state: &[Place], need: u32) -> bool
-    ensures { result ≡ list_any (says done state.now need) earlier.now }
-{
-    earlier
-        .iter()
-        .any(|lemma| is_said(lemma, done, state, need))
-}
-
-/// Whether so many ends are known to come from the state behind so many gates on.
-pub fn is_known(earlier: &[TrailLemma], done: u64, state: &TrailState, need: u32) -> bool
-    ensures { result ≡ is_known earlier.now done state.now need }
-{
-    need == 0 || is_said_by_one(earlier, done, state.as_slice(), need)
 }
 
 fn is_at_start(lemma: &TrailLemma) -> bool

@@ -3,6 +3,7 @@
 
 mod check;
 mod gates;
+mod index;
 mod justified;
 mod known;
 mod lemma;
@@ -13,8 +14,9 @@ mod ways;
 
 pub use check::check_trails;
 pub use gates::are_gates;
+pub use index::LemmaIndex;
 pub use justified::check_lemmas;
-pub use known::{ends_proved, is_known, is_same_state};
+pub use known::{ends_proved, is_same_state};
 pub use lemma::{TrailLemma, lemma_listed};
 pub use levels::levels_of;
 pub use refusal::TrailRefusal;

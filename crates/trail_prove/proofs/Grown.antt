@@ -15,13 +15,15 @@ use Rattle.trail_state.specs.Settling.{ends_after, state_after}
 use Rattle.trail_log.specs.declared.trails.LemmaLine.{LemmaLine}
 use Rattle.trail_log.specs.Fits.{LemmaFits}
 use Rattle.trail_check.specs.declared.lemma.TrailLemma.{TrailLemma}
+use Rattle.trail_check.specs.Indexed.{IsIndexOf}
 use Rattle.trail_check.specs.Justified.{choice_reaches, is_justified, is_known, level_reaches, same_place, same_state, says, unproved}
 use Rattle.trail_check.specs.Listed.{lemma_listed, lemmas_listed, nodes_of}
 use Rattle.trail_prove.specs.declared.kept.Kept.{Kept}
 use Rattle.trail_prove.specs.Line.{line_of}
-use Rattle.trail_prove.specs.Search.{AreChained, AreKept, IsFurther, IsStateOf, lemma_of}
+use Rattle.trail_prove.specs.Search.{AreChained, AreKept, AreNew, IsFurther, IsStateOf, lemma_of}
 use Rattle.trail_prove.proofs.Lines.{line_fits}
 use Rattle.trail_prove.proofs.Listed.{lemma_back}
+use Rattle.trail_prove.proofs.New.{new_more}
 use Rattle.trail_prove.proofs.States.{state_next}
 
 -- ---- what is known
@@ -105,12 +107,14 @@ listing levels all done s s1 bound line listed chained h made e1 whole is =
     let of_line : listed ≡ lemma_listed levels line = is ∙ ap (λ (ls : List Level). lemma_listed ls line) whole in
     record { made = line_is; is = of_line; lemma = of_line ∙ ap (lemma_listed levels) line_is ∙ lemma_back levels done s bound chained h }
 
-pub further_kept : (levels : List Level) (a b : Kept) (line : LemmaLine) (listed : TrailLemma) (done : ℕ) (s : List Place) (bound : ℕ) → done < 32 → 0 < bound → bound ≤ 64 → AreKept levels a → IsStateOf (nodes_of (slice_get levels done)) s → IsListing levels done s bound line listed → is_justified levels a.lemmas (lemma_of done s bound) ≡ true → b.lines ≡ a.lines ++ line ∷ [] → b.lemmas ≡ a.lemmas ++ listed ∷ [] → IsFurther levels a b
-further_kept levels a b line listed done s bound gates some few h valid it on lines lemmas =
+pub further_kept : (levels : List Level) (a b : Kept) (line : LemmaLine) (listed : TrailLemma) (done : ℕ) (s : List Place) (bound : ℕ) → done < 32 → 0 < bound → bound ≤ 64 → AreKept levels a → IsStateOf (nodes_of (slice_get levels done)) s → IsListing levels done s bound line listed → is_justified levels a.lemmas (lemma_of done s bound) ≡ true → is_known a.lemmas done s bound ≡ false → b.lines ≡ a.lines ++ line ∷ [] → b.lemmas ≡ a.lemmas ++ listed ∷ [] → IsIndexOf (a.lemmas ++ listed ∷ []) b.index → IsFurther levels a b
+further_kept levels a b line listed done s bound gates some few h valid it on unknown lines lemmas index =
     record {
       kept = record {
         listed = ap (lemmas_listed levels) lines ∙ map-append (lemma_listed levels) a.lines (line ∷ []) ∙ ap (λ (ws : List TrailLemma). ws ++ lemma_listed levels line ∷ []) h.listed ∙ ap (λ (l : TrailLemma). a.lemmas ++ l ∷ []) (sym it.is) ∙ sym lemmas;
         justified = ap (unproved levels [] 5) lemmas ∙ justified_push levels [] a.lemmas 5 listed h.justified (subst (λ (l : TrailLemma). is_justified levels a.lemmas l ≡ true) (sym it.lemma) on);
+        new = subst (AreNew levels) (sym (lemmas ∙ ap (λ (l : TrailLemma). a.lemmas ++ l ∷ []) it.lemma)) (new_more levels a.lemmas done s bound some valid unknown h.new);
+        indexed = subst (λ (ls : List TrailLemma). IsIndexOf ls b.index) (sym lemmas) index;
         fits = λ nets nodes. subst (All (LemmaFits nets)) (sym lines) (All-push (LemmaFits nets) a.lines line (h.fits nets nodes) (line_fits nets levels line s done bound nodes it.made valid some few gates));
       };
       more = listed ∷ [];

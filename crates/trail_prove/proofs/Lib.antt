@@ -3,6 +3,7 @@ pub mod Finds
 pub mod Grown
 pub mod Lines
 pub mod Listed
+pub mod New
 pub mod Orders
 pub mod Proved
 pub mod States

@@ -1,7 +1,7 @@
 -- What kept lemmas prove of every arrangement.
 use Rattle.std.specs.Prelude.{ℕ, zero, suc, ◌≡◌, ◌+◌, ◌*◌, ◌/◌, ◌%◌, ◌<◌, ◌≤◌, ◌&&◌, Bool, true, false, ltb, nat_lt, List, [], ◌∷◌, Option, Some, None, All, IfSome, Contains, if◌then◌else◌, ◌==◌, length, map, slice_get}
 use Rattle.std.specs.List.{filter, range_with_len}
-use Rattle.std.proofs.Common.{refl, sym, ap, subst, arith, ◌∙◌}
+use Rattle.std.proofs.Common.{inr, refl, sym, ap, subst, arith, ◌∙◌}
 use Rattle.std.proofs.lemmas.Bool.{and_parts}
 use Rattle.std.proofs.lemmas.List.Elements.{All-cons, All-nil}
 use Rattle.std.proofs.lemmas.List.Kept.{AllPairs-filter}
@@ -32,6 +32,7 @@ use Rattle.trail_log.specs.Fits.{LemmaFits, NetFits}
 use Rattle.trail_log.specs.Order.{increases, net_rank}
 use Rattle.trail_check.specs.declared.lemma.TrailLemma.{TrailLemma}
 use Rattle.trail_check.specs.Gates.{first_with_many, has_many_ways}
+use Rattle.trail_check.specs.Indexed.{IsIndexOf}
 use Rattle.trail_check.specs.Justified.{ends_proved, gaps_proved, unproved}
 use Rattle.trail_check.specs.Leveled.{levels_of}
 use Rattle.trail_check.specs.Listed.{lemmas_listed, nodes_of}
@@ -39,10 +40,11 @@ use Rattle.trail_check.proofs.Sound.{ends_true}
 use Rattle.trail_prove.specs.declared.kept.Kept.{Kept}
 use Rattle.trail_prove.specs.declared.proof.Proof.{Proof}
 use Rattle.trail_prove.specs.Line.{AllNodes, AreNodes, IsNode}
-use Rattle.trail_prove.specs.Proof.{IsProof, uneven_gates}
-use Rattle.trail_prove.specs.Search.{AreChained, AreKept}
+use Rattle.trail_prove.specs.Proof.{AttemptsOnce, IsProof, uneven_gates}
+use Rattle.trail_prove.specs.Search.{AreChained, AreKept, AreNew, AreTied}
 use Rattle.trail_prove.proofs.Finds.{found_is}
 use Rattle.trail_prove.proofs.Lines.{level_nodes}
+use Rattle.trail_prove.proofs.New.{new_none}
 use Rattle.trail_prove.proofs.Orders.{fill_fits, fill_has, fill_increases, order_fits, order_short, range_ascends}
 
 -- ---- levels
@@ -122,11 +124,13 @@ are_chained f order levels ok are = record {
 
 -- ---- what is proved
 
-pub none_kept : (levels : List Level) (kept : Kept) → kept.lemmas ≡ [] → kept.lines ≡ [] → AreKept levels kept
+pub none_kept : (levels : List Level) (kept : Kept) → kept.lemmas ≡ [] → kept.lines ≡ [] → IsIndexOf [] kept.index → AreKept levels kept
 unfolding unproved
-none_kept levels kept lemmas lines = record {
+none_kept levels kept lemmas lines indexed = record {
   listed = ap (lemmas_listed levels) lines ∙ sym lemmas;
   justified = ap (unproved levels [] 5) lemmas;
+  new = subst (AreNew levels) (sym lemmas) (new_none levels);
+  indexed = subst (λ (ls : List TrailLemma). IsIndexOf ls kept.index) (sym lemmas) indexed;
   fits = λ nets nodes. subst (All (LemmaFits nets)) (sym lines) (All-nil (LemmaFits nets));
 }
 
@@ -155,6 +159,7 @@ is_proof f proof levels kept ok is few are same h fill lines none gaps =
       gates = record { order = is; filled = λ g differ. subst (λ (gs : List NetNo). Contains gs g) (sym fill) (fill_has f g ok differ) };
       few_ways = few;
       justified = ap (unproved (levels_of f proof.trails.order) [] 5) listed ∙ ap (λ (ls : List Level). unproved ls [] 5 kept.lemmas) (sym same) ∙ h.justified;
+      new = subst (AreNew (levels_of f proof.trails.order)) (sym listed) (subst (λ (ls : List Level). AreNew ls kept.lemmas) same h.new);
       rowless = none;
       fill = fill;
       gaps = gaps ∙ ap (λ (ls : List TrailLemma). gaps_proved (ends_proved ls)) (sym listed);
@@ -174,3 +179,12 @@ refuted f order levels kept limit gaps ok is are h e more row arranges =
   where
     below : (a b : ℕ) → nat_lt a b ≡ true → a < b
     below a b l = grind (arith, l)
+
+-- the nodes of a search that began without lemmas went for those that it kept
+pub attempted : (f : Fingers) (order : List NetNo) (levels : List Level) (before after : Kept) (left left_after others : ℕ) → IsOrder f order → AreLevels f order levels → levels ≡ levels_of f order → before.lemmas ≡ [] → AreKept levels after → others ≤ length levels + 1 → AreTied before after left left_after others → AttemptsOnce f left left_after
+attempted f order levels before after left left_after others is are same none h few tied =
+    inr (record {
+      attempt = record { order = order; lemmas = after.lemmas };
+      is = record { order = is; justified = ap (λ (ls : List Level). unproved ls [] 5 after.lemmas) (sym same) ∙ h.justified; new = subst (λ (ls : List Level). AreNew ls after.lemmas) same h.new };
+      many = omega (arith, tied.many, as_many f order levels are, few, ap length none);
+    })

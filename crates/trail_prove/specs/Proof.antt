@@ -1,5 +1,5 @@
 -- What lemmas prove of every arrangement of some fingers, and how the search for them ends.
-use Rattle.std.specs.Prelude.{ℕ, ◌≡◌, ◌≤◌, ◌+◌, ◌*◌, ◌==◌, Bool, true, not, List, [], None, length, map}
+use Rattle.std.specs.Prelude.{ℕ, ◌≡◌, ◌≤◌, ◌+◌, ◌*◌, ◌==◌, ◌⊎◌, Bool, true, not, List, [], None, length, map}
 use Rattle.std.specs.List.{filter, range_with_len}
 use Rattle.cell_num.specs.declared.net.NetNo.{NetNo}
 use Rattle.cell_num.specs.declared.finger.Fingers.{Fingers}
@@ -12,8 +12,12 @@ use Rattle.trail_log.specs.declared.trails.Trails.{Trails}
 use Rattle.trail_log.specs.Fits.{TrailsFit}
 use Rattle.trail_state.specs.Levels.{Ends, IsOrder}
 use Rattle.trail_check.specs.Accepted.{first_unproved, least_gaps}
+use Rattle.trail_check.specs.declared.lemma.TrailLemma.{TrailLemma}
 use Rattle.trail_check.specs.Gates.{AreGates, first_with_many, has_many_ways}
+use Rattle.trail_check.specs.Justified.{unproved}
 use Rattle.trail_check.specs.Leveled.{levels_of}
+use Rattle.trail_check.specs.Listed.{lemmas_listed}
+use Rattle.trail_prove.specs.Search.{AreNew}
 use Rattle.trail_prove.specs.declared.proof.RefuteStop.{RefuteStop}
 use Rattle.trail_prove.specs.declared.proof.RefuteStop.TheVariants as ended
 use Rattle.trail_prove.specs.declared.proof.Proof.{Proof}
@@ -28,12 +32,13 @@ is_uneven f gate = not (on_gate gate f.p == on_gate gate f.n)
 abbrev pub uneven_gates : Fingers → List NetNo
 uneven_gates f = map (λ g. record { 0 = g }) (filter (is_uneven f) (range_with_len 0 f.nets))
 
--- A certificate that is accepted but for a row, which it does not list; and what its lemmas prove of every row. A text
--- can hold it.
+-- A certificate that is accepted but for a row, which it does not list; and what its lemmas prove of every row. They
+-- are new, each of them. A text can hold it.
 pub record IsProof (f : Fingers) (proof : Proof) : Type 0 where
   pub gates : AreGates f proof.trails
   pub few_ways : first_with_many f proof.trails.order ≡ None
   pub justified : first_unproved f proof.trails ≡ None
+  pub new : AreNew (levels_of f proof.trails.order) (lemmas_listed (levels_of f proof.trails.order) proof.trails.lemmas)
   pub rowless : proof.trails.best ≡ None
   pub fill : proof.trails.fill ≡ uneven_gates f
   pub gaps : proof.gaps ≡ least_gaps f proof.trails
@@ -59,6 +64,36 @@ pub record IsUnfinished (f : Fingers) (left left_after : ℕ) (proof : Proof) : 
   pub none : left_after ≡ 0
   pub proved : IsProof f proof
   pub nodes : AreSpent left left_after (length proof.trails.order) proof.trails
+
+-- lemmas over an order of the gates
+pub record Attempt : Type 0 where
+  pub order : List NetNo
+  pub lemmas : List TrailLemma
+
+-- each lemma is justified by those before it, and new
+pub record IsAttempt (f : Fingers) (a : Attempt) : Type 0 where
+  pub order : IsOrder f a.order
+  pub justified : unproved (levels_of f a.order) [] 5 a.lemmas ≡ None
+  pub new : AreNew (levels_of f a.order) a.lemmas
+
+-- a node for each lemma, and at most one for each gate and one at the end
+abbrev pub most_nodes : Attempt → ℕ
+most_nodes a = length a.lemmas + length a.order + 1
+
+-- the nodes went for the lemmas of an attempt
+pub record HasAttempted (f : Fingers) (left left_after : ℕ) : Type 0 where
+  pub attempt : Attempt
+  pub is : IsAttempt f attempt
+  pub many : left ≤ left_after + most_nodes attempt
+
+-- so they went, if any did
+abbrev pub AttemptsOnce : Fingers → ℕ → ℕ → Type 0
+AttemptsOnce f left left_after = (left_after ≡ left) ⊎ HasAttempted f left left_after
+
+-- so it is but where the memory ends
+abbrev pub AttemptsStopped : Fingers → ℕ → ℕ → RefuteStop → Type 0
+AttemptsStopped f left left_after ended.NoMemory = Unit {0}
+AttemptsStopped f left left_after stop = AttemptsOnce f left left_after
 
 -- no node is left; or the gate has too many ways
 abbrev pub EndsRefuting : Fingers → ℕ → RefuteStop → Type 0

@@ -1,10 +1,11 @@
 -- What a search keeps, how it goes on, and the nodes that it spends.
-use Rattle.std.specs.Prelude.{ℕ, ◌≡◌, ◌≤◌, ◌<◌, ◌+◌, ◌++◌, List, [], Some, None, All, AllPairs, Contains, length, slice_get}
+use Rattle.std.specs.Prelude.{ℕ, ◌≡◌, ◌≤◌, ◌<◌, ◌+◌, ◌++◌, ◌⊎◌, false, List, [], Some, None, All, AllPairs, Contains, length, slice_get}
 use Rattle.trail_state.specs.declared.edge.Node.{Node}
 use Rattle.trail_state.specs.declared.level.Level.{Level}
 use Rattle.trail_state.specs.declared.state.Place.{Place}
 use Rattle.trail_check.specs.declared.lemma.TrailLemma.{TrailLemma}
-use Rattle.trail_check.specs.Justified.{unproved}
+use Rattle.trail_check.specs.Indexed.{IsIndexOf}
+use Rattle.trail_check.specs.Justified.{is_known, says, unproved}
 use Rattle.trail_log.specs.Fits.{LemmaFits}
 use Rattle.trail_check.specs.Listed.{lemmas_listed, nodes_of}
 use Rattle.trail_prove.specs.declared.kept.Kept.{Kept}
@@ -38,10 +39,19 @@ pub record IsStateOf (nodes : List Node) (s : List Place) : Type 0 where
 abbrev pub lemma_of : ℕ → List Place → ℕ → TrailLemma
 lemma_of done state bound = record { bound = bound; done = done; state = state }
 
--- The lines list the lemmas, each of which those before it justify. A text can hold them.
+-- Each lemma has a bound, and is on a state of the nodes that its gates leave open. No earlier one says as much of it.
+pub record AreNew (levels : List Level) (lemmas : List TrailLemma) : Type 0 where
+  pub some : All (λ (l : TrailLemma). 0 < l.bound) lemmas
+  pub states : All (λ (l : TrailLemma). IsStateOf (nodes_of (slice_get levels l.done)) l.state) lemmas
+  pub unsaid : AllPairs (λ (a b : TrailLemma). says b.done b.state b.bound a ≡ false) lemmas
+
+-- The lines list the lemmas, each of which those before it justify, and do not say. A text can hold them. The index
+-- knows them all.
 pub record AreKept (levels : List Level) (kept : Kept) : Type 0 where
   pub listed : lemmas_listed levels kept.lines ≡ kept.lemmas
   pub justified : unproved levels [] 5 kept.lemmas ≡ None
+  pub new : AreNew levels kept.lemmas
+  pub indexed : IsIndexOf kept.lemmas kept.index
   pub fits : (nets : ℕ) → AllNodes nets levels → All (LemmaFits nets) kept.lines
 
 -- lemmas were added, if any
@@ -54,3 +64,7 @@ pub record IsFurther (levels : List Level) (before after : Kept) : Type 0 where
 pub record AreTied (before after : Kept) (left left_after others : ℕ) : Type 0 where
   pub few : left_after + length after.lemmas ≤ left + length before.lemmas
   pub many : left + length before.lemmas ≤ left_after + length after.lemmas + others
+
+-- No more is known of states behind fewer gates, nor of more ends than the bound behind as many.
+abbrev pub StayAs : ℕ → ℕ → Kept → Kept → Type 0
+StayAs done bound before after = (d : ℕ) (s : List Place) (need : ℕ) → (d < done) ⊎ ((d ≡ done) × (bound < need)) → is_known after.lemmas d s need ≡ is_known before.lemmas d s need

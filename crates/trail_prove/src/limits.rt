@@ -39,6 +39,7 @@ fn refute_limits(
     requires few { length levels.now ≤ 32 }
     requires chained { AreChained levels.now }
     requires kept { AreKept levels.now kept.old }
+    requires none { kept.old.lemmas ≡ [] }
     ensures further { IfOk result (λ _. IsFurther levels.now kept.old kept.new) }
     ensures most { IfOk result (λ whole. whole ≡ true → gaps_proved (ends_proved kept.new.lemmas) < 31 →
         Ends levels.now [] (2 * (gaps_proved (ends_proved kept.new.lemmas) + 1) + 1) → ⊥) }

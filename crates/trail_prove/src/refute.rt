@@ -3,7 +3,7 @@ ghost use Rattle.cell_num.specs.Fingers.{AreFingers};
 ghost use Rattle.row_model.specs.declared.column.Column.{Column};
 ghost use Rattle.row_model.specs.Arrangement.{IsArrangement};
 ghost use Rattle.row_model.specs.Gaps.{gaps_of};
-ghost use Rattle.trail_prove.specs.Proof.{EndsRefuting, HasMost};
+ghost use Rattle.trail_prove.specs.Proof.{AttemptsOnce, AttemptsStopped, EndsRefuting, HasMost};
 
 use crate::RefuteStop;
 use crate::kept::Kept;
@@ -31,6 +31,8 @@ pub fn is_refuted(
     ensures most { IfOk result (λ yes. yes ≡ false → limit ≤ 30 → HasMost fingers.now limit) }
     ensures left { left.new ≤ left.old }
     ensures halted { IfErr result (EndsRefuting fingers.now left.new) }
+    ensures attempt { IfOk result (λ _. AttemptsOnce fingers.now left.old left.new) }
+    ensures attempt_stopped { IfErr result (AttemptsStopped fingers.now left.old left.new) }
 {
     if limit > MOST_LIMIT {
         return Ok(false);

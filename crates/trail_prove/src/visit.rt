@@ -3,7 +3,7 @@ ghost use Rattle.trail_state.specs.Levels.{Ends};
 ghost use Rattle.trail_check.specs.Justified.{is_known};
 ghost use Rattle.trail_check.specs.Listed.{nodes_of};
 ghost use Rattle.trail_prove.specs.declared.visit.Halt.TheVariants as halt;
-ghost use Rattle.trail_prove.specs.Search.{AreChained, AreKept, AreSmall, AreTied, IsFurther, IsStateOf};
+ghost use Rattle.trail_prove.specs.Search.{AreChained, AreKept, AreSmall, AreTied, IsFurther, IsStateOf, StayAs};
 
 use crate::kept::Kept;
 use cell_num::{List, NoMemory};
@@ -46,10 +46,12 @@ pub(crate) fn visit(
     requires chained { AreChained levels.now }
     requires state { IsStateOf (nodes_of (slice_get levels.now done)) state.now }
     requires kept { AreKept levels.now kept.old }
+    requires new { is_known kept.old.lemmas done state.now (allowed + 1) ≡ false }
     ensures further { IfOk result (λ _. IsFurther levels.now kept.old kept.new) }
     ensures failed { IfOk result (λ found. found ≡ false →
         is_known kept.new.lemmas done state.now (allowed + 1) ≡ true) }
     ensures found { IfOk result (λ found. found ≡ true → Ends (drop done levels.now) state.now (allowed + 1) → ⊥) }
+    ensures others { IfOk result (λ _. StayAs done (allowed + 1) kept.old kept.new) }
     ensures left { left.new ≤ left.old }
     ensures each { IfOk result (λ found. found ≡ false → AreTied kept.old kept.new left.old left.new 0) }
     ensures path { IfOk result (λ _. AreTied kept.old kept.new left.old left.new (length levels.now - done + 1)) }

@@ -5,7 +5,7 @@ use Rattle.std.proofs.lemmas.Bool.{cases_lt}
 use Rattle.std.proofs.lemmas.List.Sums.{count_by-le-length}
 use Rattle.std.proofs.lemmas.Slice.Zip.{length-zip}
 use Rattle.cell_num.specs.declared.finger.Fingers.{Fingers}
-use Rattle.cell_num.specs.Fingers.{AreFingers}
+use Rattle.cell_num.specs.Fingers.{AreFingers, columns_of}
 use Rattle.row_model.specs.declared.column.Column.{Column}
 use Rattle.row_model.specs.Arrangement.{IsArrangement}
 use Rattle.row_model.specs.Gaps.{gaps_of, is_gap}
@@ -28,7 +28,8 @@ use Rattle.trail_prove.specs.declared.proof.Proof.{Proof}
 use Rattle.trail_prove.specs.Proof.{IsMost, IsProof}
 use Rattle.trail_prove.proofs.Proved.{ends_gaps}
 use Rattle.trail_search.specs.declared.first.ListedRow.{ListedRow}
-use Rattle.trail_search.specs.Ended.{IsCertified, IsTrailFound, IsTrailSpent}
+use Rattle.trail_search.specs.Searched.{AreSearched}
+use Rattle.trail_search.specs.Ended.{IsCertified, IsTrailFound, IsTrailSpent, nodes_for_rows}
 use Rattle.trail_search.specs.First.{IsFirstRow, with_best}
 use Rattle.trail_search.specs.Visit.{IsFirstOf}
 
@@ -109,13 +110,14 @@ found_is k f budget nodes proof listed of_f kinds p h few kept =
       kept = kept;
     })
 
-pub spent_is : (k : Kinds) (f : Fingers) (budget nodes : ℕ) (proof : Proof) → AreKinds f k → AreSomeKinds k → IsProof f proof → nodes ≤ budget → (nodes ≡ budget) ⊎ ((other : List Column) → IsArrangement other f → proof.gaps < gaps_of other) → length proof.trails.lemmas ≤ nodes → (budget ≤ length proof.trails.lemmas + length proof.trails.order) ⊎ IsMost f proof.trails.order proof.gaps → IsTrailSpent f budget proof.trails proof.gaps nodes
-spent_is k f budget nodes proof of_f kinds p few why kept work =
+pub spent_is : (k : Kinds) (f : Fingers) (budget nodes : ℕ) (proof : Proof) → AreKinds f k → AreSomeKinds k → IsProof f proof → nodes ≤ budget → (nodes ≡ budget) ⊎ ((other : List Column) → IsArrangement other f → proof.gaps < gaps_of other) → length proof.trails.lemmas ≤ nodes → (budget ≤ length proof.trails.lemmas + length proof.trails.order) ⊎ IsMost f proof.trails.order proof.gaps → ((other : List Column) → IsArrangement other f → proof.gaps < gaps_of other) ⊎ AreSearched k (proof.gaps + 1) (nodes_for_rows budget proof.trails) (columns_of f) → IsTrailSpent f budget proof.trails proof.gaps nodes
+spent_is k f budget nodes proof of_f kinds p few why kept work rows =
     record {
       lists_none = subst IsNone (sym p.rowless) refl;
       gates = p.gates;
       few_ways = p.few_ways;
       justified = p.justified;
+      new = p.new;
       best = p.gaps;
       low = p.least;
       fits = (k, of_f, kinds, p.fits k of_f.nets);
@@ -123,6 +125,10 @@ spent_is k f budget nodes proof of_f kinds p few why kept work =
       spent = why;
       kept = kept;
       work = work;
+      rows = elim rows [
+        | inl none ↦ inl none
+        | inr went ↦ inr (k, of_f, kinds, went)
+      ];
     }
 
 -- where no row of so few gaps is found, there is none

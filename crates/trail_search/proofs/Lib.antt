@@ -1,4 +1,5 @@
 pub mod Certified
 pub mod Front
 pub mod Listed
+pub mod Spent
 pub mod Tried

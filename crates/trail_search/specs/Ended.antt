@@ -1,7 +1,8 @@
 -- How a search ended: with the first least row and its certificate, or with what is proved without a row.
-use Rattle.std.specs.Prelude.{ℕ, ◌≡◌, ◌≤◌, ◌<◌, ◌+◌, ◌⊎◌, true, List, None, IsNone, length}
+use Rattle.std.specs.Prelude.{ℕ, ◌≡◌, ◌≤◌, ◌<◌, ◌+◌, ◌-◌, ◌⊎◌, true, List, None, IsNone, length}
 use Rattle.cell_num.specs.declared.net.NetNo.{NetNo}
 use Rattle.cell_num.specs.declared.finger.Fingers.{Fingers}
+use Rattle.cell_num.specs.Fingers.{columns_of}
 use Rattle.row_model.specs.declared.column.Column.{Column}
 use Rattle.row_model.specs.Arrangement.{IsArrangement}
 use Rattle.row_model.specs.Gaps.{gaps_of}
@@ -12,7 +13,11 @@ use Rattle.trail_log.specs.declared.trails.Trails.{Trails}
 use Rattle.trail_log.specs.Fits.{TrailsFit}
 use Rattle.trail_check.specs.Accepted.{IsAccepted, IsLow, first_unproved, least_gaps}
 use Rattle.trail_check.specs.Gates.{AreGates, first_with_many, has_many_ways}
+use Rattle.trail_check.specs.Leveled.{levels_of}
+use Rattle.trail_check.specs.Listed.{lemmas_listed}
 use Rattle.trail_prove.specs.Proof.{IsMost}
+use Rattle.trail_prove.specs.Search.{AreNew}
+use Rattle.trail_search.specs.Searched.{AreSearched}
 use Rattle.trail_search.specs.declared.found.TrailFound.{TrailFound}
 use Rattle.trail_search.specs.declared.found.TrailStop.{TrailStop}
 use Rattle.trail_search.specs.declared.found.TrailStop.TheVariants as stopped
@@ -30,14 +35,29 @@ pub record IsTrailFound (f : Fingers) (budget : ℕ) (row : List Column) (trails
   pub few : nodes ≤ budget
   pub kept : length trails.lemmas ≤ nodes
 
+-- every arrangement has more gaps
+abbrev pub HaveMore : Fingers → ℕ → Type 0
+HaveMore f gaps = (other : List Column) → IsArrangement other f → gaps < gaps_of other
+
+-- no lemma of the certificate is said by an earlier one
+abbrev pub HasNew : Fingers → Trails → Type 0
+HasNew f trails = AreNew (levels_of f trails.order) (lemmas_listed (levels_of f trails.order) trails.lemmas)
+
+-- the nodes of the budget but those of the lemmas, one of each gate and one at the end
+abbrev pub nodes_for_rows : ℕ → Trails → ℕ
+nodes_for_rows budget trails = budget - (length trails.lemmas + length trails.order + 1)
+
 -- The certificate lists no row. Its gates are as a checker asks, and all its lemmas are justified: they prove that no
--- arrangement has fewer gaps. The budget is spent, or no arrangement has as few. A node was spent for each lemma. The
--- lemmas are as many as the budget has nodes, but for one of each gate; or no lemmas in this order prove more gaps.
+-- arrangement has fewer gaps. No lemma is said by an earlier one. The budget is spent, or no arrangement has as few.
+-- A node was spent for each lemma. The lemmas are as many as the budget has nodes, but for one of each gate; or no
+-- lemmas in this order prove more gaps. No arrangement has as few gaps; or the nodes for rows, but for one of each
+-- column, went for bounds of states, and for attempts to refute states by trails.
 pub record IsTrailSpent (f : Fingers) (budget : ℕ) (trails : Trails) (proved nodes : ℕ) : Type 0 where
   pub lists_none : IsNone trails.best
   pub gates : AreGates f trails
   pub few_ways : first_with_many f trails.order ≡ None
   pub justified : first_unproved f trails ≡ None
+  pub new : HasNew f trails
   pub best : proved ≡ least_gaps f trails
   pub low : IsLow f proved
   pub fits : WithKinds f (λ k. TrailsFit k trails)
@@ -45,6 +65,7 @@ pub record IsTrailSpent (f : Fingers) (budget : ℕ) (trails : Trails) (proved n
   pub spent : (nodes ≡ budget) ⊎ ((other : List Column) → IsArrangement other f → proved < gaps_of other)
   pub kept : length trails.lemmas ≤ nodes
   pub work : (budget ≤ length trails.lemmas + length trails.order) ⊎ IsMost f trails.order proved
+  pub rows : HaveMore f proved ⊎ WithKinds f (λ k. AreSearched k (proved + 1) (nodes_for_rows budget trails) (columns_of f))
 
 -- the fingers of the gate pair in more ways than a checker lists
 abbrev pub IsCrowded : Fingers → NetNo → Type 0

@@ -1,6 +1,7 @@
 -- What contracts of public calls cite, and what these definitions stand on.
-pub mod Ended
--- What inner contracts and proofs alone cite.
 pub mod Behind
+pub mod Ended
+pub mod Searched
+-- What inner contracts and proofs alone cite.
 pub mod First
 pub mod Visit

@@ -1,14 +1,15 @@
 -- What one visit of a state promises.
-use Rattle.std.specs.Prelude.{ℕ, ◌≡◌, List, All}
+use Rattle.std.specs.Prelude.{ℕ, ◌≡◌, ◌≢◌, ◌≤◌, ◌<◌, ◌+◌, List, All, AllPairs, length, sum_by}
 use Rattle.row_state.specs.declared.kind.Kinds.{Kinds}
 use Rattle.row_state.specs.declared.state.State.{State}
 use Rattle.row_state.specs.declared.step.Step.{Step}
 use Rattle.row_state.specs.Completion.{Need}
-use Rattle.row_state.specs.Start.{IsState}
+use Rattle.row_state.specs.Start.{IsState, columns_left}
 use Rattle.log_check.specs.declared.known.Known.{Known}
 use Rattle.log_check.specs.Known.{best_known}
 use Rattle.row_search.specs.Steps.{IsStep, row_of}
 use Rattle.row_search.specs.Visit.{IsFirstWithin}
+use Rattle.trail_search.specs.Searched.{Bounded, IsBounded, IsTry, Try, nodes_of}
 use Rattle.trail_search.specs.declared.descent.Halt.{Halt}
 use Rattle.trail_search.specs.declared.descent.Halt.TheVariants as halted
 
@@ -25,3 +26,33 @@ pub record IsFirstOf (k : Kinds) (s : State) (allowed : ℕ) (steps : List Step)
 abbrev pub Halts : ℕ → Halt → Type 0
 Halts left halted.Spent = left ≡ 0
 Halts left halted.NoMemory = Unit {0}
+
+-- one attempt at most took the nodes
+pub record TriesOnce (k : Kinds) (left left_after : ℕ) : Type 0 where
+  pub tries : List Try
+  pub tried : All (IsTry k) tries
+  pub few : length tries ≤ 1
+  pub many : left ≤ left_after + sum_by nodes_of tries
+
+-- a bound that came to be known, of a state with fewer than n columns left
+pub record IsRaised (k : Kinds) (n most : ℕ) (before after : Known) (b : Bounded) : Type 0 where
+  pub is : IsBounded k most b
+  pub unknown : best_known before k b.state < b.bound
+  pub known : b.bound ≤ best_known after k b.state
+  pub below : columns_left k b.state < n
+
+-- The nodes went for bounds that came to be known, for so many others, and for one attempt each at most.
+pub record IsSpent (k : Kinds) (n most : ℕ) (before after : Known) (left left_after others : ℕ) : Type 0 where
+  pub grown : (s : State) → IsState k s → best_known before k s ≤ best_known after k s
+  pub bounds : List Bounded
+  pub tries : List Try
+  pub different : AllPairs (λ (a b : Bounded). a ≢ b) bounds
+  pub each : All (IsRaised k n most before after) bounds
+  pub tried : All (IsTry k) tries
+  pub few : length tries ≤ length bounds + others
+  pub many : left ≤ left_after + length bounds + sum_by nodes_of tries + others
+
+-- so it is where no node is left
+abbrev pub IfSpent : Halt → Type 0 → Type 0
+IfSpent halted.Spent P = P
+IfSpent halted.NoMemory P = Unit {0}

@@ -1,7 +1,7 @@
 ghost use Rattle.std.specs.Prelude.{◌≡◌, ◌≤◌, ◌<◌, ◌+◌, ◌||◌, IfErr, IfOk, IsTrue, is_some};
 ghost use Rattle.row_state.specs.Completion.{Need};
 ghost use Rattle.row_state.specs.Start.{IsState};
-ghost use Rattle.trail_search.specs.Visit.{Halts};
+ghost use Rattle.trail_search.specs.Visit.{Halts, IfSpent, TriesOnce};
 
 use crate::behind::behind;
 use crate::descent::Halt;
@@ -26,6 +26,7 @@ fn is_open(state: &State) -> bool
 
 // Whether trails refute that a completion has so few further gaps. It is not tried before the first column, nor where
 // no net is left for a column in front.
+#[tactic(auto, using(crate::proofs::Spent::tries_none, crate::proofs::Spent::tries_once))]
 fn trails_refute(
     alloc: Global,
     state: &State,
@@ -37,6 +38,8 @@ fn trails_refute(
     ensures refuted { IfOk result (λ yes. IsTrue yes → Need kinds.now state.now (allowed + 1)) }
     ensures left { left.new ≤ left.old }
     ensures halted { IfErr result (Halts left.new) }
+    ensures tries { IfOk result (λ _. TriesOnce kinds.now left.old left.new) }
+    ensures spent_tries { IfErr result (λ why. IfSpent why (TriesOnce kinds.now left.old left.new)) }
 {
     kinds.show_limits();
     if !is_open(state) {
@@ -55,6 +58,7 @@ fn trails_refute(
 }
 
 /// Whether it is proved that every completion of the state has more further gaps than are allowed.
+#[tactic(auto, using(crate::proofs::Spent::tries_none))]
 pub(crate) fn is_hopeless(
     alloc: Global,
     state: &State,
@@ -66,6 +70,8 @@ pub(crate) fn is_hopeless(
     ensures hopeless { IfOk result (λ yes. IsTrue yes → Need kinds.now state.now (allowed + 1)) }
     ensures left { left.new ≤ left.old }
     ensures halted { IfErr result (Halts left.new) }
+    ensures tries { IfOk result (λ _. TriesOnce kinds.now left.old left.new) }
+    ensures spent_tries { IfErr result (λ why. IfSpent why (TriesOnce kinds.now left.old left.new)) }
 {
     if is_above(Row::P, state, kinds, allowed) || is_above(Row::N, state, kinds, allowed) {
         return Ok(true);

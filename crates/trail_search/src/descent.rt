@@ -1,7 +1,9 @@
 ghost use Rattle.std.specs.Prelude.{◌≡◌, ◌≤◌, ◌+◌, IfOk, IfErr, IfSome, IfNone};
 ghost use Rattle.row_state.specs.Candidates.{AreCandidates, IsNumbered};
 ghost use Rattle.row_state.specs.Completion.{Need};
-ghost use Rattle.trail_search.specs.Visit.{AreTrue, Halts, IsFirstOf};
+ghost use Rattle.row_state.specs.Start.{columns_left};
+ghost use Rattle.log_check.specs.Known.{best_known};
+ghost use Rattle.trail_search.specs.Visit.{AreTrue, Halts, IfSpent, IsFirstOf, IsSpent};
 
 use crate::cut::is_hopeless;
 use cell_num::{MOST_COLUMNS, NoMemory};
@@ -50,11 +52,17 @@ pub(crate) fn visit(
     requires numbered { IsNumbered task.now.kinds.now at.now }
     requires few { allowed ≤ MOST_COLUMNS }
     requires known { AreTrue task.now.kinds.now known.old }
+    requires unknown { best_known known.old task.now.kinds.now at.now.state ≤ allowed }
     ensures known { AreTrue task.now.kinds.now known.new }
     ensures left { left.new ≤ left.old }
     ensures failed { IfOk result (λ r. IfNone r (Need task.now.kinds.now at.now.state (allowed + 1))) }
     ensures found { IfOk result (λ r. IfSome r (IsFirstOf task.now.kinds.now at.now.state allowed)) }
     ensures halted { IfErr result (Halts left.new) }
+    ensures bounds { IfOk result (λ r. IfNone r (IsSpent task.now.kinds.now
+        (columns_left task.now.kinds.now at.now.state + 1) (allowed + 1) known.old known.new left.old left.new 0)) }
+    ensures spent { IfErr result (λ why. IfSpent why (IsSpent task.now.kinds.now
+        (columns_left task.now.kinds.now at.now.state + 1) (allowed + 1) known.old known.new left.old left.new
+        (columns_left task.now.kinds.now at.now.state))) }
 {
     task.kinds.show_limits();
     if *left == 0 {

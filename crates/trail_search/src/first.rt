@@ -1,8 +1,10 @@
-ghost use Rattle.std.specs.Prelude.{◌≡◌, ◌≤◌, ◌+◌, IfErr, IfNone, IfOk, IfSome};
+ghost use Rattle.std.specs.Prelude.{◌≡◌, ◌≤◌, ◌+◌, ◌-◌, IfErr, IfNone, IfOk, IfSome};
+ghost use Rattle.row_state.specs.Candidates.{IsNumbered};
 ghost use Rattle.row_state.specs.Completion.{Need};
-ghost use Rattle.row_state.specs.Start.{start_of};
+ghost use Rattle.row_state.specs.Start.{columns_left, start_of};
 ghost use Rattle.trail_search.specs.First.{IsFirstRow, listed_of};
-ghost use Rattle.trail_search.specs.Visit.{Halts};
+ghost use Rattle.trail_search.specs.Searched.{AreSearched};
+ghost use Rattle.trail_search.specs.Visit.{Halts, IfSpent};
 
 use crate::descent::{Halt, Task, visit};
 use bound_log::Best;
@@ -31,8 +33,43 @@ fn listed(alloc: Global, kinds: &Kinds, gaps: u32, steps: &[Step]) -> Result<Lis
     })
 }
 
+// The first row from the start that has no more than so many gaps, or none. Big values are dropped by calls, here and
+// below: where one goes out of scope by itself, all its parts are proved at each end.
+#[tactic(auto, using(crate::proofs::Tried::true_none, crate::proofs::Tried::first_found, crate::proofs::Tried::none_found, crate::proofs::Spent::searched))]
+fn row_from(
+    alloc: Global,
+    kinds: &Kinds,
+    gaps: u32,
+    left: &mut u64,
+    first: &Numbered,
+) -> Result<Option<ListedRow>, Halt>
+    requires few { gaps ≤ MOST_COLUMNS }
+    requires state { first.now.state ≡ start_of kinds.now }
+    requires numbered { IsNumbered kinds.now first.now }
+    ensures found { IfOk result (λ r. IfSome r (IsFirstRow kinds.now gaps)) }
+    ensures none { IfOk result (λ r. IfNone r (Need kinds.now (start_of kinds.now) (gaps + 1))) }
+    ensures left { left.new ≤ left.old }
+    ensures halted { IfErr result (Halts left.new) }
+    ensures spent { IfErr result (λ why. IfSpent why (AreSearched kinds.now (gaps + 1) (left.old - left.new)
+        (columns_left kinds.now (start_of kinds.now)))) }
+{
+    let candidates = candidates(alloc, kinds)?;
+    let task = Task {
+        alloc,
+        kinds,
+        candidates: candidates.as_slice(),
+    };
+    let mut known = Known::new(alloc);
+    let visited = visit(&task, &mut known, left, first, gaps);
+    drop(known);
+    match visited {
+        Ok(Some(steps)) => Ok(Some(listed(alloc, kinds, gaps, steps.as_slice())?)),
+        Ok(None) => Ok(None),
+        Err(halt) => Err(halt),
+    }
+}
+
 /// The first row that has no more than so many gaps, or none.
-#[tactic(auto, using(crate::proofs::Tried::true_none, crate::proofs::Tried::first_found, crate::proofs::Tried::none_found))]
 pub(crate) fn first_row(
     alloc: Global,
     kinds: &Kinds,
@@ -44,18 +81,11 @@ pub(crate) fn first_row(
     ensures none { IfOk result (λ r. IfNone r (Need kinds.now (start_of kinds.now) (gaps + 1))) }
     ensures left { left.new ≤ left.old }
     ensures halted { IfErr result (Halts left.new) }
+    ensures spent { IfErr result (λ why. IfSpent why (AreSearched kinds.now (gaps + 1) (left.old - left.new)
+        (columns_left kinds.now (start_of kinds.now)))) }
 {
     let first = Numbered::new(start(alloc, kinds)?, kinds);
-    let candidates = candidates(alloc, kinds)?;
-    let task = Task {
-        alloc,
-        kinds,
-        candidates: candidates.as_slice(),
-    };
-    let mut known = Known::new(alloc);
-    match visit(&task, &mut known, left, &first, gaps) {
-        Ok(Some(steps)) => Ok(Some(listed(alloc, kinds, gaps, steps.as_slice())?)),
-        Ok(None) => Ok(None),
-        Err(halt) => Err(halt),
-    }
+    let row = row_from(alloc, kinds, gaps, left, &first);
+    drop(first);
+    row
 }

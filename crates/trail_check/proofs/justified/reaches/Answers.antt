@@ -21,5 +21,5 @@ returns c =
     ∙ ap (λ (l : List Node). ends_after l c.as_slice-2.result.now c.args.lemma.now.state c.as_slice-3.result.now) nodes
     ∙ ap (λ (l : List Node). ends_after c.args.level.now.now l c.args.lemma.now.state c.as_slice-3.result.now) next
     ∙ ap (λ (l : List Edge). ends_after c.args.level.now.now c.args.level.now.next c.args.lemma.now.state l) edges in
-    c.is_known.ensures
+    c.knows.ensures
     ∙ reaches_is c.args.earlier.now c.args.level.now c.args.lemma.now c.args.choice.now c.from.result c.in_ok-settled.settled.state c.in_ok-settled.settled.ends c.saturating_sub-need.result done state ends c.saturating_sub-need.ensures

@@ -10,7 +10,7 @@ use Rattle.trail_prove.proofs.Tied.{spent_is}
 use Rattle.trail_prove.proofs.limits.prove.Goals as goal
 
 pub refute_limits-requires-clause-kept : goal.refute_limits-requires-clause-kept
-refute_limits-requires-clause-kept c = none_kept c.in_ok-levels.levels c.new-kept.result c.new-kept.ensures.lemmas c.new-kept.ensures.lines
+refute_limits-requires-clause-kept c = none_kept c.in_ok-levels.levels c.new-kept.result c.new-kept.ensures.lemmas c.new-kept.ensures.lines c.new-kept.ensures.indexed
 
 pub returns-then-whole-clause-proof : goal.returns-then-whole-clause-proof
 returns-then-whole-clause-proof c =

@@ -1,7 +1,7 @@
-use Rattle.call_end.proofs.Delivered.{leaves_three}
+use Rattle.std.proofs.Common.{◌∷◌, []}
+use Rattle.call_end.proofs.Delivered.{leaves_listed}
 use Rattle.call_end.proofs.end.End.makes_three.Goals as goal
 
 pub returns : goal.returns
 returns c =
-    leaves_three c.args.status c.args.first c.args.second c.args.third c.of_bytes.result c.args.report c.new-files.result _ _ _
-    c.new-files.ensures c.in_ok-push.ensures.ok c.in_ok-push-2.ensures.ok c.in_ok-push-3.ensures.ok c.of_bytes.ensures
+    leaves_listed c.args.status (c.args.first ∷ c.args.second ∷ c.args.third ∷ []) c.in_ok-files.files c.of_bytes.result c.args.report c.in_ok-files.ensures c.of_bytes.ensures

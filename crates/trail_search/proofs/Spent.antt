@@ -1,0 +1,170 @@
+-- What the nodes of a visit went for.
+use Rattle.std.proofs.Common.{ℕ, ◌≡◌, ◌≢◌, ◌+◌, ◌-◌, ◌<◌, ◌≤◌, Bool, cond, max, [], ◌∷◌, ◌++◌, length, length-append, sum_by, inl, inr, refl, sym, ap, subst, arith, All, ◌∙◌}
+use Rattle.std.proofs.lemmas.Bool.{cases_Bool}
+use Rattle.std.proofs.lemmas.List.Elements.{All-append, All-nil}
+use Rattle.std.proofs.lemmas.List.Sums.{sum_by-append}
+use Rattle.cell_num.specs.declared.finger.Fingers.{Fingers}
+use Rattle.cell_num.proofs.Lists.{all_imply, all_one}
+use Rattle.cell_num.proofs.Pairs.{cross, pairs_append, pairs_none, pairs_one}
+use Rattle.row_state.specs.declared.kind.Kinds.{Kinds}
+use Rattle.row_state.specs.declared.state.State.{State}
+use Rattle.row_state.specs.Completion.{Need}
+use Rattle.row_state.specs.declared.step.Step.{Step}
+use Rattle.row_state.specs.Start.{AreSomeKinds, HasFingers, IsState, columns_left, start_of}
+use Rattle.row_state.specs.Steps.{IsPossible, state_after}
+use Rattle.row_state.proofs.Calls.{fewer_after}
+use Rattle.row_state.proofs.Exists.{some_step}
+use Rattle.log_check.specs.declared.known.Known.{Known}
+use Rattle.log_check.specs.Accepted.{raised, same_state}
+use Rattle.log_check.specs.Known.{best_known}
+use Rattle.log_check.proofs.Sound.{same_state_from}
+use Rattle.trail_prove.specs.Proof.{AttemptsOnce, IsAttempt}
+use Rattle.trail_search.specs.Behind.{fingers_behind}
+use Rattle.trail_search.specs.Searched.{AreSearched, Bounded, IsBounded, IsTry, nodes_of}
+use Rattle.trail_search.specs.declared.descent.Halt.{Halt}
+use Rattle.trail_search.specs.declared.descent.Halt.TheVariants as halted
+use Rattle.trail_search.specs.Visit.{IfSpent, IsRaised, IsSpent, TriesOnce}
+
+abbrev Differ : Bounded → Bounded → Type 0
+Differ a b = a ≢ b
+
+-- ---- attempts
+
+pub tries_none : (k : Kinds) (left left_after : ℕ) → left_after ≡ left → TriesOnce k left left_after
+tries_none k left left_after e = record { tries = []; tried = All-nil (IsTry k); few = omega arith; many = omega (arith, e) }
+
+pub tries_once : (k : Kinds) (s : State) (f : Fingers) (left left_after : ℕ) → IsState k s → f ≡ fingers_behind k s → AttemptsOnce f left left_after → TriesOnce k left left_after
+tries_once k s f left left_after valid is (inl e) = tries_none k left left_after e
+tries_once k s f left left_after valid is (inr h) =
+    record {
+      tries = record { state = s; attempt = h.attempt } ∷ [];
+      tried = all_one (IsTry k) (record { state = s; attempt = h.attempt }) (record { valid = valid; attempt = subst (λ (z : Fingers). IsAttempt z h.attempt) is h.is });
+      few = omega arith;
+      many = omega (arith, h.many);
+    }
+
+-- ---- how it goes on
+
+pub spent_same : (k : Kinds) (n most : ℕ) (known : Known) (left others : ℕ) → IsSpent k n most known known left left others
+spent_same k n most known left others =
+    record { grown = λ s valid. omega arith; bounds = []; tries = []; different = pairs_none Differ; each = All-nil (IsRaised k n most known known); tried = All-nil (IsTry k); few = omega arith; many = omega arith }
+
+-- a node of the path, and one attempt at most
+pub spent_one : (k : Kinds) (n most : ℕ) (known : Known) (left left_on left_after : ℕ) → left_on + 1 ≡ left → TriesOnce k left_on left_after → IsSpent k n most known known left left_after 1
+spent_one k n most known left left_on left_after went h =
+    record { grown = λ s valid. omega arith; bounds = []; tries = h.tries; different = pairs_none Differ; each = All-nil (IsRaised k n most known known); tried = h.tried; few = omega (arith, h.few); many = omega (arith, went, h.many) }
+
+raised_more : (k : Kinds) (n m most more : ℕ) (a b c d : Known) → n ≤ m → most ≤ more → ((s : State) → IsState k s → best_known a k s ≤ best_known b k s) → ((s : State) → IsState k s → best_known c k s ≤ best_known d k s) → (x : Bounded) → IsRaised k n most b c x → IsRaised k m more a d x
+raised_more k n m most more a b c d less up ab cd x h =
+    record { is = record { valid = h.is.valid; some = h.is.some; few = omega (arith, h.is.few, up); need = h.is.need }; unknown = omega (arith, ab x.state h.is.valid, h.unknown); known = omega (arith, cd x.state h.is.valid, h.known); below = omega (arith, h.below, less) }
+
+pub spent_more : (k : Kinds) (n m most more : ℕ) (a b : Known) (left left_after others rest : ℕ) → n ≤ m → most ≤ more → others ≤ rest → IsSpent k n most a b left left_after others → IsSpent k m more a b left left_after rest
+spent_more k n m most more a b left left_after others rest less up few h =
+    record {
+      grown = h.grown;
+      bounds = h.bounds;
+      tries = h.tries;
+      different = h.different;
+      each = all_imply (IsRaised k n most a b) (IsRaised k m more a b) h.bounds (raised_more k n m most more a a b b less up (λ s valid. omega arith) (λ s valid. omega arith)) h.each;
+      tried = h.tried;
+      few = omega (arith, h.few, few);
+      many = omega (arith, h.many, few);
+    }
+
+apart : (k : Kinds) (n most : ℕ) (a b c : Known) (x y : Bounded) → IsRaised k n most a b x → IsRaised k n most b c y → x ≢ y
+apart k n most a b c x y hx hy e =
+    let above : best_known b k x.state < x.bound = subst (λ (z : Bounded). best_known b k z.state < z.bound) (sym e) hy.unknown in
+    omega (arith, hx.known, above)
+
+pub spent_then : (k : Kinds) (n most : ℕ) (a b c : Known) (left left_on left_after others more : ℕ) → IsSpent k n most a b left left_on others → IsSpent k n most b c left_on left_after more → IsSpent k n most a c left left_after (others + more)
+spent_then k n most a b c left left_on left_after others more g h =
+    let bounds : length (g.bounds ++ h.bounds) ≡ length g.bounds + length h.bounds = length-append g.bounds h.bounds in
+    let tries : length (g.tries ++ h.tries) ≡ length g.tries + length h.tries = length-append g.tries h.tries in
+    let nodes : sum_by nodes_of (g.tries ++ h.tries) ≡ sum_by nodes_of g.tries + sum_by nodes_of h.tries = sum_by-append nodes_of g.tries h.tries in
+    record {
+      grown = λ s valid. omega (arith, g.grown s valid, h.grown s valid);
+      bounds = g.bounds ++ h.bounds;
+      tries = g.tries ++ h.tries;
+      different = pairs_append Differ g.bounds h.bounds g.different h.different (cross Differ (IsRaised k n most a b) (IsRaised k n most b c) g.bounds h.bounds g.each h.each (apart k n most a b c));
+      each = All-append (IsRaised k n most a c) g.bounds h.bounds
+          (all_imply (IsRaised k n most a b) (IsRaised k n most a c) g.bounds (raised_more k n n most most a a b c (omega arith) (omega arith) (λ s valid. omega arith) h.grown) g.each)
+          (all_imply (IsRaised k n most b c) (IsRaised k n most a c) h.bounds (raised_more k n n most most a b c c (omega arith) (omega arith) g.grown (λ s valid. omega arith)) h.each);
+      tried = All-append (IsTry k) g.tries h.tries g.tried h.tried;
+      few = omega (arith, g.few, h.few, bounds, tries);
+      many = omega (arith, g.many, h.many, bounds, nodes);
+    }
+
+-- the next state has one column less
+pub spent_behind : (k : Kinds) (s after : State) (step : Step) (most inner : ℕ) (a b c : Known) (left left_on left_after : ℕ) → AreSomeKinds k → IsPossible k s step → after ≡ state_after k s step → inner ≤ most → IsSpent k (columns_left k s) most a b left left_on 1 → IsSpent k (columns_left k after + 1) inner b c left_on left_after 0 → IsSpent k (columns_left k s) most a c left left_after 1
+spent_behind k s after step most inner a b c left left_on left_after some possible ea up h behind =
+    let less : columns_left k s ≡ columns_left k after + 1 = fewer_after k s step some possible ∙ ap (λ (z : State). columns_left k z + 1) (sym ea) in
+    spent_more k (columns_left k s) (columns_left k s) most most a c left left_after 1 1 (omega arith) (omega arith) (omega arith) (spent_then k (columns_left k s) most a b c left left_on left_after 1 0 h (spent_more k (columns_left k after + 1) (columns_left k s) inner most b c left_on left_after 0 0 (omega (arith, less)) up (omega arith) behind))
+
+-- no node is left behind it
+pub spent_halt : (k : Kinds) (s after : State) (step : Step) (most inner : ℕ) (a b c : Known) (why : Halt) (left left_on left_after : ℕ) → AreSomeKinds k → IsPossible k s step → after ≡ state_after k s step → inner ≤ most → IsSpent k (columns_left k s) most a b left left_on 1 → IfSpent why (IsSpent k (columns_left k after + 1) inner b c left_on left_after (columns_left k after)) → IfSpent why (IsSpent k (columns_left k s + 1) most a c left left_after (columns_left k s))
+spent_halt k s after step most inner a b c halted.NoMemory left left_on left_after some possible ea up h behind = tt
+spent_halt k s after step most inner a b c halted.Spent left left_on left_after some possible ea up h behind =
+    let less : columns_left k s ≡ columns_left k after + 1 = fewer_after k s step some possible ∙ ap (λ (z : State). columns_left k z + 1) (sym ea) in
+    spent_more k (columns_left k s) (columns_left k s + 1) most most a c left left_after (1 + columns_left k after) (columns_left k s) (omega arith) (omega arith) (omega (arith, less)) (spent_then k (columns_left k s) most a b c left left_on left_after 1 (columns_left k after) h (spent_more k (columns_left k after + 1) (columns_left k s) inner most b c left_on left_after (columns_left k after) (columns_left k after) (omega (arith, less)) up (omega arith) behind))
+
+-- nor behind the attempt at the state itself
+pub spent_in : (k : Kinds) (s : State) (most : ℕ) (known : Known) (why : Halt) (left left_on left_after : ℕ) → AreSomeKinds k → HasFingers k s → left_on + 1 ≡ left → IfSpent why (TriesOnce k left_on left_after) → IfSpent why (IsSpent k (columns_left k s + 1) most known known left left_after (columns_left k s))
+spent_in k s most known halted.Spent left left_on left_after kinds some went h =
+    let step : (step : Step) × IsPossible k s step = some_step k s some in
+    spent_more k (columns_left k s + 1) (columns_left k s + 1) most most known known left left_after 1 (columns_left k s) (omega arith) (omega arith) (omega (arith, fewer_after k s step.0 kinds step.1)) (spent_one k (columns_left k s + 1) most known left left_on left_after went h)
+spent_in k s most known halted.NoMemory left left_on left_after kinds some went h = tt
+
+-- ---- the end
+
+never_less : (x s : State) (bound best : ℕ) → best ≤ raised x bound s best
+never_less x s bound best = elim (cases_Bool (same_state x s)) [
+  | inl same ↦ subst (λ (b : Bool). best ≤ cond b (max best bound) best) (sym same) (omega arith)
+  | inr other ↦ subst (λ (b : Bool). best ≤ cond b (max best bound) best) (sym other) (omega arith)
+]
+
+itself : (s : State) (bound best : ℕ) → bound ≤ raised s bound s best
+itself s bound best = subst (λ (b : Bool). bound ≤ cond b (max best bound) best) (sym (same_state_from s s refl)) (omega arith)
+
+-- the bound of the state itself is known at last
+pub spent_bound : (k : Kinds) (s : State) (bound : ℕ) (a b c : Known) (left left_after : ℕ) → IsState k s → Need k s bound → best_known a k s < bound → ((x : State) → IsState k x → best_known c k x ≡ raised s bound x (best_known b k x)) → IsSpent k (columns_left k s) bound a b left left_after 1 → IsSpent k (columns_left k s + 1) bound a c left left_after 0
+spent_bound k s bound a b c left left_after valid need unknown noted h =
+    let one : Bounded = record { state = s; bound = bound } in
+    let up : (x : State) → IsState k x → best_known b k x ≤ best_known c k x = λ x v. subst (λ (m : ℕ). best_known b k x ≤ m) (sym (noted x v)) (never_less s x bound (best_known b k x)) in
+    let told : bound ≤ best_known c k s = subst (λ (m : ℕ). bound ≤ m) (sym (noted s valid)) (itself s bound (best_known b k s)) in
+    let last : IsRaised k (columns_left k s + 1) bound a c one = record { is = record { valid = valid; some = omega (arith, unknown); few = omega arith; need = need }; unknown = unknown; known = told; below = omega arith } in
+    let count : length (h.bounds ++ one ∷ []) ≡ length h.bounds + 1 = length-append h.bounds (one ∷ []) in
+    record {
+      grown = λ x v. omega (arith, h.grown x v, up x v);
+      bounds = h.bounds ++ one ∷ [];
+      tries = h.tries;
+      different = pairs_append Differ h.bounds (one ∷ []) h.different (pairs_one Differ one) (all_imply (IsRaised k (columns_left k s) bound a b) (λ x. All (Differ x) (one ∷ [])) h.bounds (λ x r. all_one (Differ x) one (λ e. omega (arith, subst (λ (z : Bounded). columns_left k z.state < columns_left k s) e r.below))) h.each);
+      each = All-append (IsRaised k (columns_left k s + 1) bound a c) h.bounds (one ∷ [])
+          (all_imply (IsRaised k (columns_left k s) bound a b) (IsRaised k (columns_left k s + 1) bound a c) h.bounds (raised_more k (columns_left k s) (columns_left k s + 1) bound bound a a b c (omega arith) (omega arith) (λ x v. omega arith) up) h.each)
+          (all_one (IsRaised k (columns_left k s + 1) bound a c) one last);
+      tried = h.tried;
+      few = omega (arith, h.few, count);
+      many = omega (arith, h.many, count);
+    }
+
+-- all in all
+pub searched : (k : Kinds) (s : State) (a b : Known) (n most left left_after others : ℕ) → s ≡ start_of k → others ≡ columns_left k s → IsSpent k n most a b left left_after others → AreSearched k most (left - left_after) (columns_left k (start_of k))
+searched k s a b n most left left_after others e same h =
+    let there : columns_left k s ≡ columns_left k (start_of k) = ap (columns_left k) e in
+    record {
+      bounds = h.bounds;
+      tries = h.tries;
+      different = h.different;
+      each = all_imply (IsRaised k n most a b) (IsBounded k most) h.bounds (λ x r. r.is) h.each;
+      tried = h.tried;
+      few = omega (arith, h.few, same, there);
+      many = omega (arith, h.many, same, there);
+    }
+
+pub searched_less : (k : Kinds) (most nodes fewer others same : ℕ) → fewer ≤ nodes → others ≡ same → AreSearched k most nodes others → AreSearched k most fewer same
+searched_less k most nodes fewer others same less e h =
+    record { bounds = h.bounds; tries = h.tries; different = h.different; each = h.each; tried = h.tried; few = omega (arith, h.few, e); many = omega (arith, h.many, less, e) }
+
+-- where there was no node
+pub searched_none : (k : Kinds) (most nodes others : ℕ) → nodes ≡ 0 → AreSearched k most nodes others
+searched_none k most nodes others e =
+    record { bounds = []; tries = []; different = pairs_none Differ; each = All-nil (IsBounded k most); tried = All-nil (IsTry k); few = omega arith; many = omega (arith, e) }

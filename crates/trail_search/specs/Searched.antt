@@ -1,0 +1,43 @@
+-- What the nodes of a search for a row went for: bounds of states, and lemmas by trails on the way to refute states.
+use Rattle.std.specs.Prelude.{ℕ, ◌≤◌, ◌<◌, ◌+◌, ◌≢◌, List, All, AllPairs, length, sum_by}
+use Rattle.row_state.specs.declared.kind.Kinds.{Kinds}
+use Rattle.row_state.specs.declared.state.State.{State}
+use Rattle.row_state.specs.Completion.{Need}
+use Rattle.row_state.specs.Start.{IsState}
+use Rattle.trail_prove.specs.Proof.{Attempt, IsAttempt, most_nodes}
+use Rattle.trail_search.specs.Behind.{fingers_behind}
+
+-- so many further gaps of a state
+pub record Bounded : Type 0 where
+  pub state : State
+  pub bound : ℕ
+
+-- every completion of the valid state has as many, which is from one to so many
+pub record IsBounded (k : Kinds) (most : ℕ) (b : Bounded) : Type 0 where
+  pub valid : IsState k b.state
+  pub some : 0 < b.bound
+  pub few : b.bound ≤ most
+  pub need : Need k b.state b.bound
+
+-- an attempt at a state
+pub record Try : Type 0 where
+  pub state : State
+  pub attempt : Attempt
+
+-- its lemmas are of the fingers of the state
+pub record IsTry (k : Kinds) (t : Try) : Type 0 where
+  pub valid : IsState k t.state
+  pub attempt : IsAttempt (fingers_behind k t.state) t.attempt
+
+abbrev pub nodes_of : Try → ℕ
+nodes_of t = most_nodes t.attempt
+
+-- The nodes went for bounds, no two of them alike, and so many others; and for one attempt each at most.
+pub record AreSearched (k : Kinds) (most nodes others : ℕ) : Type 0 where
+  pub bounds : List Bounded
+  pub tries : List Try
+  pub different : AllPairs (λ (a b : Bounded). a ≢ b) bounds
+  pub each : All (IsBounded k most) bounds
+  pub tried : All (IsTry k) tries
+  pub few : length tries ≤ length bounds + others
+  pub many : nodes ≤ length bounds + sum_by nodes_of tries + others
