@@ -29,7 +29,7 @@ use Rattle.trail_prove.specs.Proof.{IsMost, IsProof}
 use Rattle.trail_prove.proofs.Proved.{ends_gaps}
 use Rattle.trail_search.specs.declared.first.ListedRow.{ListedRow}
 use Rattle.trail_search.specs.Searched.{AreSearched}
-use Rattle.trail_search.specs.Ended.{IsCertified, IsTrailFound, IsTrailSpent, nodes_for_rows}
+use Rattle.trail_search.specs.Ended.{IsCertified, IsTrailFound, IsTrailSpent, row_nodes}
 use Rattle.trail_search.specs.First.{IsFirstRow, with_best}
 use Rattle.trail_search.specs.Visit.{IsFirstOf}
 
@@ -110,7 +110,7 @@ found_is k f budget nodes proof listed of_f kinds p h few kept =
       kept = kept;
     })
 
-pub spent_is : (k : Kinds) (f : Fingers) (budget nodes : ℕ) (proof : Proof) → AreKinds f k → AreSomeKinds k → IsProof f proof → nodes ≤ budget → (nodes ≡ budget) ⊎ ((other : List Column) → IsArrangement other f → proof.gaps < gaps_of other) → length proof.trails.lemmas ≤ nodes → (budget ≤ length proof.trails.lemmas + length proof.trails.order) ⊎ IsMost f proof.trails.order proof.gaps → ((other : List Column) → IsArrangement other f → proof.gaps < gaps_of other) ⊎ AreSearched k (proof.gaps + 1) (nodes_for_rows budget proof.trails) (columns_of f) → IsTrailSpent f budget proof.trails proof.gaps nodes
+pub spent_is : (k : Kinds) (f : Fingers) (budget nodes : ℕ) (proof : Proof) → AreKinds f k → AreSomeKinds k → IsProof f proof → nodes ≤ budget → (nodes ≡ budget) ⊎ ((other : List Column) → IsArrangement other f → proof.gaps < gaps_of other) → length proof.trails.lemmas ≤ nodes → (budget ≤ length proof.trails.lemmas + length proof.trails.order) ⊎ IsMost f proof.trails.order proof.gaps → ((other : List Column) → IsArrangement other f → proof.gaps < gaps_of other) ⊎ AreSearched k (proof.gaps + 1) (row_nodes budget proof.trails) (columns_of f) → IsTrailSpent f budget proof.trails proof.gaps nodes
 spent_is k f budget nodes proof of_f kinds p few why kept work rows =
     record {
       lists_none = subst IsNone (sym p.rowless) refl;

@@ -44,8 +44,8 @@ abbrev pub HasNew : Fingers → Trails → Type 0
 HasNew f trails = AreNew (levels_of f trails.order) (lemmas_listed (levels_of f trails.order) trails.lemmas)
 
 -- the nodes of the budget but those of the lemmas, one of each gate and one at the end
-abbrev pub nodes_for_rows : ℕ → Trails → ℕ
-nodes_for_rows budget trails = budget - (length trails.lemmas + length trails.order + 1)
+abbrev pub row_nodes : ℕ → Trails → ℕ
+row_nodes budget trails = budget - (length trails.lemmas + length trails.order + 1)
 
 -- The certificate lists no row. Its gates are as a checker asks, and all its lemmas are justified: they prove that no
 -- arrangement has fewer gaps. No lemma is said by an earlier one. The budget is spent, or no arrangement has as few.
@@ -65,7 +65,7 @@ pub record IsTrailSpent (f : Fingers) (budget : ℕ) (trails : Trails) (proved n
   pub spent : (nodes ≡ budget) ⊎ ((other : List Column) → IsArrangement other f → proved < gaps_of other)
   pub kept : length trails.lemmas ≤ nodes
   pub work : (budget ≤ length trails.lemmas + length trails.order) ⊎ IsMost f trails.order proved
-  pub rows : HaveMore f proved ⊎ WithKinds f (λ k. AreSearched k (proved + 1) (nodes_for_rows budget trails) (columns_of f))
+  pub rows : HaveMore f proved ⊎ WithKinds f (λ k. AreSearched k (proved + 1) (row_nodes budget trails) (columns_of f))
 
 -- the fingers of the gate pair in more ways than a checker lists
 abbrev pub IsCrowded : Fingers → NetNo → Type 0
