@@ -1,5 +1,5 @@
 -- What each command gathers, comes to and ends with. Each lemma has a line for each of them.
-use Rattle.std.proofs.Common.{ℕ, ◌≡◌, ◌⊎◌, true, List, [], ◌∷◌, Option, Some, None, Result, Ok, Err, IfOk, Contains, inl, inr, refl, sym, subst}
+use Rattle.std.proofs.Common.{ℕ, ◌≡◌, true, List, [], ◌∷◌, Option, Some, None, Result, Ok, Err, IfOk, Contains, inl, inr, refl, sym, subst}
 use Rattle.std.proofs.lemmas.List.Elements.{Contains-append_left}
 use Rattle.cell_num.specs.declared.list.NoMemory.{NoMemory as Short}
 use Rattle.agree_run.specs.Agree.{AgreesTo, comparing}
@@ -15,8 +15,10 @@ use Rattle.call_read.specs.Sources.{Source, LogFile, TrailFile}
 use Rattle.call_words.specs.Asked.{CellAsked, RowAsked}
 use Rattle.call_words.specs.declared.evidence.Evidence.TheVariants.{Log, Trails}
 use Rattle.call_words.specs.Words.{Form, Plan, Make, Check, Extract, Bench, Row, Agree}
+use Rattle.call_work.proofs.EndsOf.{HasNoFiles, IsEndOf, makes, told}
 use Rattle.call_work.proofs.Gathered.{IsGathered, IsInputs, IsOwn, compared_keeps, drawn_keeps, evidence_there, gds_tech_there, gds_there, inputs_keep, macro_gds_there, macro_lef_there, macro_tech_there, rowing_keeps}
 use Rattle.call_work.proofs.Statuses.{are_apart}
+use Rattle.call_work.proofs.Works.{kept_works}
 use Rattle.bench_tally.specs.Report.{BenchesTo}
 use Rattle.call_work.specs.Commands.{Kind, Planning, Making, Checking, Extracting, Benching, Rowing, Agreeing, TrailPlanning, TrailMaking, TrailChecking, Material, MaterialOf, WorksTo, gathered, kind_of, making, planning, read_by, settled_by}
 use Rattle.call_work.specs.Ends.{desk_statuses, is_among}
@@ -120,10 +122,6 @@ is_row form is = subst (λ (kind : Kind). HasWords kind form) is (has_words form
 
 -- ---- the work on what is kept
 
-kept_works : (kind : Kind) (x : MaterialOf kind) (r : Result End Short) → IfOk r (WorksTo kind x) → IfOk r (λ end. (m : Material) → m ≡ (kind, x) → WorksTo m.0 m.1 end)
-kept_works kind x (Err e) works = tt
-kept_works kind x (Ok end) works = λ m is. subst (λ (y : Material). WorksTo y.0 y.1 end) (sym is) works
-
 behind_works : (inputs : Inputs) (log : CheckedLog) (r : Result End Short) → IfOk r (λ end. (bytes : List ℕ) → AreBehindAll inputs bytes log.reader log.checker → ChecksTo inputs bytes end) → IfOk r (WorksFor (Read (held.Checking inputs log)))
 behind_works inputs log (Err e) checks = tt
 behind_works inputs log (Ok end) checks = λ m (bytes, is, behind). subst (λ (x : Material). WorksTo x.0 x.1 end) (sym is) (checks bytes behind)
@@ -159,35 +157,6 @@ pub trail_check_works : (kept : Own) (inputs : Inputs) (bytes : List ℕ) (r : R
 trail_check_works kept inputs bytes r is works = rw is (kept_works TrailChecking (inputs, bytes) r works)
 
 -- ---- what the work comes to
-
--- a making of a cell, with either kind of evidence
-abbrev pub MakesCell : Kind → Type 0
-MakesCell kind = (kind ≡ Making) ⊎ (kind ≡ TrailMaking)
-
-abbrev pub make_statuses : List Status
-make_statuses = status.Done ∷ status.Cycle ∷ status.Unfinished ∷ status.TooTall ∷ []
-
--- `make` makes files, but none where it ends with a status that is not its own, and `row` makes one where it is done
-abbrev pub HasNoFiles : Kind → End → Type 0
-HasNoFiles kind end =
-    (end.files ≡ [])
-    ⊎ (MakesCell kind × (is_among make_statuses end.status ≡ true))
-    ⊎ ((kind ≡ Rowing) × (end.status ≡ status.Done))
-
--- an end with a status that its kind settles for, and with files where its kind makes them
-record IsEndOf (kind : Kind) (end : End) : Type 0 where
-  pub settled : is_among (settled_by kind) end.status ≡ true
-  pub files : HasNoFiles kind end
-
-told : {end of : End} (kind : Kind) → end ≡ of → is_among (settled_by kind) of.status ≡ true → of.files ≡ [] → IsEndOf kind end
-told kind is settled none = subst (λ (end : End). IsEndOf kind end) (sym is) (record { settled = settled; files = inl none })
-
-makes : {end : End} {answer : Status} (kind : Kind) → MakesCell kind → end.status ≡ answer → is_among (settled_by kind) answer ≡ true → is_among make_statuses answer ≡ true → IsEndOf kind end
-makes kind cell is settled own =
-    record {
-      settled = subst (λ (answer : Status). is_among (settled_by kind) answer ≡ true) (sym is) settled;
-      files = inr (inl (cell, subst (λ (answer : Status). is_among make_statuses answer ≡ true) (sym is) own));
-    }
 
 each_end : (kind : Kind) (m : MaterialOf kind) (end : End) → WorksTo kind m end → IsEndOf kind end
 each_end Planning m end (Planned row log, h, is) = told Planning is refl refl

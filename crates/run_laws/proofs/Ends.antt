@@ -15,7 +15,8 @@ use Rattle.run_laws.specs.Ended.{IsOfKind}
 use Rattle.call_read.specs.Reading.{Comes, MayCome}
 use Rattle.call_read.specs.Sources.{Source, MayRead, Lacks, file_name, most_bytes, within}
 use Rattle.call_words.specs.Words.{Form}
-use Rattle.call_work.proofs.EachCommand.{MakesCell, files_by, gathered_keeps, make_statuses}
+use Rattle.call_work.proofs.EachCommand.{files_by, gathered_keeps}
+use Rattle.call_work.proofs.EndsOf.{MakesCell, make_statuses}
 use Rattle.call_work.proofs.Gathered.{IsGathered}
 use Rattle.call_read.proofs.Reading.{came_kept, came_told}
 use Rattle.call_work.proofs.Settled.{settled}
