@@ -25,9 +25,9 @@ use Rattle.cell_inputs.specs.Style.{plain_style}
 use Rattle.cell_make.specs.Making.{CanBeWritten, ComesTo, answer_of, drawing_in, final_of, library_of}
 use Rattle.cell_make.proofs.Finals.{final_is}
 use Rattle.cell_make.specs.Searched.{IsFound}
-use Rattle.bench_run.specs.Bench.{counted_as}
+use Rattle.bench_tally.specs.Bench.{counted_as}
 use Rattle.bench_run.specs.Size.{IsSmall}
-use Rattle.bench_run.specs.Tally.{IsWithin}
+use Rattle.bench_tally.specs.Tally.{IsWithin}
 use Rattle.bench_run.proofs.Sizes.{small_shapes}
 
 few_columns : (inputs : Inputs) (row : List Column) (log : Log) → AreInputs inputs → IsFound inputs row log → length row ≤ 32

@@ -8,8 +8,8 @@ use Rattle.search_laws.proofs.Whole.{never_spent}
 use Rattle.cell_inputs.specs.Inputs.{Inputs}
 use Rattle.cell_inputs.specs.Style.{plain_style}
 use Rattle.cell_make.specs.Making.{MakeAnswer, Made, Cyclic, Tall, Unfinished, Makes}
-use Rattle.bench_run.specs.Bench.{AreInputsOf, HoldsCell, counted_as}
-use Rattle.bench_run.specs.Tally.{AreAllEnded}
+use Rattle.bench_tally.specs.Bench.{AreInputsOf, HoldsCell, counted_as}
+use Rattle.bench_tally.specs.Tally.{AreAllEnded}
 use Rattle.bench_run.proofs.Held.{is_read, own_fingers}
 
 -- the fingers of a generated cell are paired

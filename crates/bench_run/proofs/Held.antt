@@ -13,7 +13,7 @@ use Rattle.bench_read.specs.Read.{IsRead}
 use Rattle.bench_read.proofs.Names.{name_is_cell as bench_name}
 use Rattle.bench_read.proofs.Whole.{cell_is_read}
 use Rattle.cell_inputs.specs.Inputs.{Inputs}
-use Rattle.bench_run.specs.Bench.{AreInputsOf, HoldsCell}
+use Rattle.bench_tally.specs.Bench.{AreInputsOf, HoldsCell}
 
 -- what is read of the cell
 pub is_read : (text : List ℕ) (cell : ℕ) (held : HoldsCell text cell) → IsRead held.number cell

@@ -2,9 +2,9 @@
 use Rattle.std.proofs.Common.{ℕ, zero, suc, ◌≡◌, ◌+◌, List, [], ◌∷◌, ◌++◌, Some, length, slice_get, refl, sym, ap, subst, arith, ◌∙◌, inl, inr, ◌⊎◌, length-append}
 use Rattle.std.proofs.lemmas.List.Sums.{fold-append}
 use Rattle.cell_num.proofs.Lists.{some_same}
-use Rattle.bench_run.specs.declared.tally.Tally.{Tally}
-use Rattle.bench_run.specs.Bench.{AreCellsOf, BenchCell, IsBenchCell, IsCountOf, IsTallyOf, counted_of, tally_of}
-use Rattle.bench_run.specs.Tally.{AreAllEnded, IsWithin, added, nothing}
+use Rattle.bench_tally.specs.declared.tally.Tally.{Tally}
+use Rattle.bench_tally.specs.Bench.{AreCellsOf, BenchCell, IsBenchCell, IsCountOf, IsTallyOf, counted_of, tally_of}
+use Rattle.bench_tally.specs.Tally.{AreAllEnded, IsWithin, added, nothing}
 
 -- where one of a list and one more stands
 one_more : {X : Type 0} (xs : List X) (last : X) (n : ℕ) (x : X) → slice_get (xs ++ last ∷ []) n ≡ Some x → (slice_get xs n ≡ Some x) ⊎ ((length xs ≡ n) × (last ≡ x))

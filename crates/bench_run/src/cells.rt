@@ -1,10 +1,10 @@
 ghost use Rattle.std.specs.Prelude.{◌≡◌, ◌≤◌, ◌+◌, IfOk, length};
-ghost use Rattle.bench_run.specs.Bench.{HoldsCell, IsBenched, IsCountOf};
-ghost use Rattle.bench_run.specs.Tally.{AreAllEnded, IsWithin};
+ghost use Rattle.bench_tally.specs.Bench.{HoldsCell, IsBenched, IsCountOf};
+ghost use Rattle.bench_tally.specs.Tally.{AreAllEnded, IsWithin};
 
 use crate::count::counted;
 use crate::read::bench_inputs;
-use crate::tally::Tally;
+use bench_tally::Tally;
 use cell_bench::bench_text;
 use cell_inputs::Style;
 use cell_make::Outcome;

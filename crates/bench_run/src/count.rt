@@ -3,11 +3,11 @@ ghost use Rattle.cell_num.specs.Fingers.{AreFingers};
 ghost use Rattle.gds_write.specs.Written.{written};
 ghost use Rattle.cell_inputs.specs.Style.{plain_style};
 ghost use Rattle.cell_make.specs.Making.{CanBeWritten, ComesTo, answer_of};
-ghost use Rattle.bench_run.specs.Bench.{counted_as, made_tally};
+ghost use Rattle.bench_tally.specs.Bench.{counted_as, made_tally};
 ghost use Rattle.bench_run.specs.Size.{IsSmall};
 
 use crate::size::library_len;
-use crate::tally::Tally;
+use bench_tally::Tally;
 use box_geom::Shapes;
 use cell_inputs::Inputs;
 use cell_make::Outcome;

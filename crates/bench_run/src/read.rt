@@ -1,5 +1,5 @@
 ghost use Rattle.std.specs.Prelude.{◌≤◌, IfOk, length};
-ghost use Rattle.bench_run.specs.Bench.{AreInputsOf, HoldsCell};
+ghost use Rattle.bench_tally.specs.Bench.{AreInputsOf, HoldsCell};
 
 use cell_bench::cell_name;
 use cell_inputs::Inputs;

@@ -1,5 +1,5 @@
 -- What each command gathers, comes to and ends with. Each lemma has a line for each of them.
-use Rattle.std.proofs.Common.{ℕ, ◌≡◌, ◌⊎◌, true, List, [], ◌∷◌, Option, Some, None, Result, Ok, Err, IfOk, Contains, inl, inr, refl, sym, subst}
+use Rattle.std.proofs.Common.{ℕ, ◌≡◌, true, List, [], ◌∷◌, Option, Some, None, Result, Ok, Err, IfOk, Contains, inl, inr, refl, sym, subst}
 use Rattle.std.proofs.lemmas.List.Elements.{Contains-append_left}
 use Rattle.cell_num.specs.declared.list.NoMemory.{NoMemory as Short}
 use Rattle.agree_run.specs.Agree.{AgreesTo, comparing}
@@ -15,14 +15,17 @@ use Rattle.call_read.specs.Sources.{Source, LogFile, TrailFile}
 use Rattle.call_words.specs.Asked.{CellAsked, RowAsked}
 use Rattle.call_words.specs.declared.evidence.Evidence.TheVariants.{Log, Trails}
 use Rattle.call_words.specs.Words.{Form, Plan, Make, Check, Extract, Bench, Row, Agree}
+use Rattle.call_work.proofs.EndsOf.{HasNoFiles, IsEndOf, makes, told}
 use Rattle.call_work.proofs.Gathered.{IsGathered, IsInputs, IsOwn, compared_keeps, drawn_keeps, evidence_there, gds_tech_there, gds_there, inputs_keep, macro_gds_there, macro_lef_there, macro_tech_there, rowing_keeps}
 use Rattle.call_work.proofs.Statuses.{are_apart}
-use Rattle.call_work.specs.Bench.{BenchesTo}
+use Rattle.call_work.proofs.Works.{kept_works}
+use Rattle.bench_tally.specs.Report.{BenchesTo}
 use Rattle.call_work.specs.Commands.{Kind, Planning, Making, Checking, Extracting, Benching, Rowing, Agreeing, TrailPlanning, TrailMaking, TrailChecking, Material, MaterialOf, WorksTo, gathered, kind_of, making, planning, read_by, settled_by}
 use Rattle.call_work.specs.Ends.{desk_statuses, is_among}
 use Rattle.call_work.specs.Kept.{WorksFor}
-use Rattle.call_work.specs.declared.commands.Material.{Material as Own}
-use Rattle.call_work.specs.declared.commands.Material.TheVariants as held
+use Rattle.call_work.specs.declared.commands.Material.TheVariants.{Bench as OfNumber, Read}
+use Rattle.call_work.specs.declared.commands.ReadMaterial.{ReadMaterial as Own}
+use Rattle.call_work.specs.declared.commands.ReadMaterial.TheVariants as held
 use Rattle.cell_inputs.specs.declared.style.Style.{Style}
 use Rattle.cell_inputs.specs.Inputs.{Inputs}
 use Rattle.cell_make.specs.Making as made
@@ -119,74 +122,41 @@ is_row form is = subst (λ (kind : Kind). HasWords kind form) is (has_words form
 
 -- ---- the work on what is kept
 
-kept_works : (kind : Kind) (x : MaterialOf kind) (r : Result End Short) → IfOk r (WorksTo kind x) → IfOk r (λ end. (m : Material) → m ≡ (kind, x) → WorksTo m.0 m.1 end)
-kept_works kind x (Err e) works = tt
-kept_works kind x (Ok end) works = λ m is. subst (λ (y : Material). WorksTo y.0 y.1 end) (sym is) works
-
-behind_works : (inputs : Inputs) (log : CheckedLog) (r : Result End Short) → IfOk r (λ end. (bytes : List ℕ) → AreBehindAll inputs bytes log.reader log.checker → ChecksTo inputs bytes end) → IfOk r (WorksFor (held.Checking inputs log))
+behind_works : (inputs : Inputs) (log : CheckedLog) (r : Result End Short) → IfOk r (λ end. (bytes : List ℕ) → AreBehindAll inputs bytes log.reader log.checker → ChecksTo inputs bytes end) → IfOk r (WorksFor (Read (held.Checking inputs log)))
 behind_works inputs log (Err e) checks = tt
 behind_works inputs log (Ok end) checks = λ m (bytes, is, behind). subst (λ (x : Material). WorksTo x.0 x.1 end) (sym is) (checks bytes behind)
 
-pub plan_works : (kept : Own) (inputs : Inputs) (r : Result End Short) → kept ≡ held.Planning inputs → IfOk r (PlansTo inputs) → IfOk r (WorksFor kept)
+pub plan_works : (kept : Own) (inputs : Inputs) (r : Result End Short) → kept ≡ held.Planning inputs → IfOk r (PlansTo inputs) → IfOk r (WorksFor (Read kept))
 plan_works kept inputs r is works = rw is (kept_works Planning inputs r works)
 
-pub make_works : (kept : Own) (inputs : Inputs) (out : List ℕ) (style : Style) (r : Result End Short) → kept ≡ held.Making inputs out style → IfOk r (MakesTo style inputs out) → IfOk r (WorksFor kept)
+pub make_works : (kept : Own) (inputs : Inputs) (out : List ℕ) (style : Style) (r : Result End Short) → kept ≡ held.Making inputs out style → IfOk r (MakesTo style inputs out) → IfOk r (WorksFor (Read kept))
 make_works kept inputs out style r is works = rw is (kept_works Making (inputs, out, style) r works)
 
-pub check_works : (kept : Own) (inputs : Inputs) (log : CheckedLog) (r : Result End Short) → kept ≡ held.Checking inputs log → IfOk r (λ end. (bytes : List ℕ) → AreBehindAll inputs bytes log.reader log.checker → ChecksTo inputs bytes end) → IfOk r (WorksFor kept)
+pub check_works : (kept : Own) (inputs : Inputs) (log : CheckedLog) (r : Result End Short) → kept ≡ held.Checking inputs log → IfOk r (λ end. (bytes : List ℕ) → AreBehindAll inputs bytes log.reader log.checker → ChecksTo inputs bytes end) → IfOk r (WorksFor (Read kept))
 check_works kept inputs log r is works = rw is (behind_works inputs log r works)
 
-pub extract_works : (kept : Own) (cell : GdsCell) (r : Result End Short) → kept ≡ held.Extracting cell → IfOk r (ExtractsTo cell) → IfOk r (WorksFor kept)
+pub extract_works : (kept : Own) (cell : GdsCell) (r : Result End Short) → kept ≡ held.Extracting cell → IfOk r (ExtractsTo cell) → IfOk r (WorksFor (Read kept))
 extract_works kept cell r is works = rw is (kept_works Extracting cell r works)
 
-pub bench_works : (kept : Own) (number : ℕ) (r : Result End Short) → kept ≡ held.Benching number → IfOk r (BenchesTo number) → IfOk r (WorksFor kept)
-bench_works kept number r is works = rw is (kept_works Benching number r works)
+pub bench_works : (number : ℕ) (r : Result End Short) → IfOk r (BenchesTo number) → IfOk r (WorksFor (OfNumber number))
+bench_works number r works = kept_works Benching number r works
 
-pub row_works : (kept : Own) (inputs : RowInputs) (out : List ℕ) (r : Result End Short) → kept ≡ held.Rowing inputs out → IfOk r (RowsTo inputs out) → IfOk r (WorksFor kept)
+pub row_works : (kept : Own) (inputs : RowInputs) (out : List ℕ) (r : Result End Short) → kept ≡ held.Rowing inputs out → IfOk r (RowsTo inputs out) → IfOk r (WorksFor (Read kept))
 row_works kept inputs out r is works = rw is (kept_works Rowing (inputs, out) r works)
 
-pub agree_works : (kept : Own) (both : Compared) (r : Result End Short) → kept ≡ held.Agreeing both → IfOk r (AgreesTo both) → IfOk r (WorksFor kept)
+pub agree_works : (kept : Own) (both : Compared) (r : Result End Short) → kept ≡ held.Agreeing both → IfOk r (AgreesTo both) → IfOk r (WorksFor (Read kept))
 agree_works kept both r is works = rw is (kept_works Agreeing both r works)
 
-pub trail_plan_works : (kept : Own) (inputs : Inputs) (r : Result End Short) → kept ≡ held.TrailPlanning inputs → IfOk r (trail.TrailPlansTo inputs) → IfOk r (WorksFor kept)
+pub trail_plan_works : (kept : Own) (inputs : Inputs) (r : Result End Short) → kept ≡ held.TrailPlanning inputs → IfOk r (trail.TrailPlansTo inputs) → IfOk r (WorksFor (Read kept))
 trail_plan_works kept inputs r is works = rw is (kept_works TrailPlanning inputs r works)
 
-pub trail_make_works : (kept : Own) (inputs : Inputs) (out : List ℕ) (style : Style) (r : Result End Short) → kept ≡ held.TrailMaking inputs out style → IfOk r (trail_make.TrailMakesTo style inputs out) → IfOk r (WorksFor kept)
+pub trail_make_works : (kept : Own) (inputs : Inputs) (out : List ℕ) (style : Style) (r : Result End Short) → kept ≡ held.TrailMaking inputs out style → IfOk r (trail_make.TrailMakesTo style inputs out) → IfOk r (WorksFor (Read kept))
 trail_make_works kept inputs out style r is works = rw is (kept_works TrailMaking (inputs, out, style) r works)
 
-pub trail_check_works : (kept : Own) (inputs : Inputs) (bytes : List ℕ) (r : Result End Short) → kept ≡ held.TrailChecking inputs bytes → IfOk r (TrailChecksTo inputs bytes) → IfOk r (WorksFor kept)
+pub trail_check_works : (kept : Own) (inputs : Inputs) (bytes : List ℕ) (r : Result End Short) → kept ≡ held.TrailChecking inputs bytes → IfOk r (TrailChecksTo inputs bytes) → IfOk r (WorksFor (Read kept))
 trail_check_works kept inputs bytes r is works = rw is (kept_works TrailChecking (inputs, bytes) r works)
 
 -- ---- what the work comes to
-
--- a making of a cell, with either kind of evidence
-abbrev pub MakesCell : Kind → Type 0
-MakesCell kind = (kind ≡ Making) ⊎ (kind ≡ TrailMaking)
-
-abbrev pub make_statuses : List Status
-make_statuses = status.Done ∷ status.Cycle ∷ status.Unfinished ∷ status.TooTall ∷ []
-
--- `make` makes files, but none where it ends with a status that is not its own, and `row` makes one where it is done
-abbrev pub HasNoFiles : Kind → End → Type 0
-HasNoFiles kind end =
-    (end.files ≡ [])
-    ⊎ (MakesCell kind × (is_among make_statuses end.status ≡ true))
-    ⊎ ((kind ≡ Rowing) × (end.status ≡ status.Done))
-
--- an end with a status that its kind settles for, and with files where its kind makes them
-record IsEndOf (kind : Kind) (end : End) : Type 0 where
-  pub settled : is_among (settled_by kind) end.status ≡ true
-  pub files : HasNoFiles kind end
-
-told : {end of : End} (kind : Kind) → end ≡ of → is_among (settled_by kind) of.status ≡ true → of.files ≡ [] → IsEndOf kind end
-told kind is settled none = subst (λ (end : End). IsEndOf kind end) (sym is) (record { settled = settled; files = inl none })
-
-makes : {end : End} {answer : Status} (kind : Kind) → MakesCell kind → end.status ≡ answer → is_among (settled_by kind) answer ≡ true → is_among make_statuses answer ≡ true → IsEndOf kind end
-makes kind cell is settled own =
-    record {
-      settled = subst (λ (answer : Status). is_among (settled_by kind) answer ≡ true) (sym is) settled;
-      files = inr (inl (cell, subst (λ (answer : Status). is_among make_statuses answer ≡ true) (sym is) own));
-    }
 
 each_end : (kind : Kind) (m : MaterialOf kind) (end : End) → WorksTo kind m end → IsEndOf kind end
 each_end Planning m end (Planned row log, h, is) = told Planning is refl refl

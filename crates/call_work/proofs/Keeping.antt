@@ -3,7 +3,8 @@ use Rattle.std.proofs.Common.{ℕ, ◌≡◌, ◌≤◌, List, length, Some, Res
 use Rattle.cell_io.specs.Desk.{OnlyReads, View}
 use Rattle.check_run.specs.declared.checked_log.CheckedLog.{CheckedLog}
 use Rattle.call_work.specs.declared.commands.Material.{Material as Own}
-use Rattle.call_work.specs.declared.commands.Material.TheVariants as held
+use Rattle.call_work.specs.declared.commands.Material.TheVariants.{Bench as OfNumber, Read}
+use Rattle.call_work.specs.declared.commands.ReadMaterial.TheVariants as held
 use Rattle.call_read.specs.declared.refusal.Refusal.{Refusal}
 use Rattle.call_read.specs.declared.refusal.Refusal.TheVariants.{NoMemory}
 use Rattle.call_work.specs.Commands.{IsKept, checking_over, gathered, making, Benching, Checking, Rowing, Material}
@@ -45,9 +46,9 @@ keeps_unread old new log inputs e own read told =
     told
 
 -- a log that is behind all bytes of its file
-pub keeps_read : (old new : View) (log : List ℕ) (inputs : Inputs) (checked : CheckedLog) → OnlyReads old new → HoldsLog old new log inputs checked → MayKeep old new (checking_over Log log inputs) (Ok (held.Checking inputs checked))
+pub keeps_read : (old new : View) (log : List ℕ) (inputs : Inputs) (checked : CheckedLog) → OnlyReads old new → HoldsLog old new log inputs checked → MayKeep old new (checking_over Log log inputs) (Ok (Read (held.Checking inputs checked)))
 keeps_read old new log inputs checked only (bytes, read, behind) =
-    keeps_behind old new new (bytes_of (LogFile log)) (λ (b : List ℕ). Ends (Ok (Checking, (inputs, b)))) (Ok bytes) bytes (Ok (held.Checking inputs checked))
+    keeps_behind old new new (bytes_of (LogFile log)) (λ (b : List ℕ). Ends (Ok (Checking, (inputs, b)))) (Ok bytes) bytes (Ok (Read (held.Checking inputs checked)))
     only
     (only_refl new)
     (came_bytes old new (LogFile log) (Ok bytes) read)
@@ -63,7 +64,7 @@ holds_handed Holds (Ok x) e told holds = tt
 holds_handed Holds (Err told) e (is, same) holds = subst Holds (sym same) holds
 
 -- a bench reads no file
-pub keeps_bench : (old new : View) (number : ℕ) → MayKeep old new (gathered (Some (Bench number))) (Ok (held.Benching number))
+pub keeps_bench : (old new : View) (number : ℕ) → MayKeep old new (gathered (Some (Bench number))) (Ok (OfNumber number))
 keeps_bench old new number = (Ok (Benching, number), inl refl, refl)
 
 -- memory ran out

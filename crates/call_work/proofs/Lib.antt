@@ -1,4 +1,5 @@
 pub mod EachCommand
+pub mod EndsOf
 pub mod Gathered
 pub mod Keeping
 pub mod Settled

@@ -1,5 +1,5 @@
 -- The work on what was gathered.
-use Rattle.std.proofs.Common.{◌≡◌, Option, Result, Ok, Err, IfOk, refl, subst}
+use Rattle.std.proofs.Common.{◌≡◌, Option, Result, Ok, Err, IfOk, refl, sym, subst}
 use Rattle.cell_io.specs.Desk.{View}
 use Rattle.cell_num.specs.declared.list.NoMemory.{NoMemory as Short}
 use Rattle.call_end.specs.declared.end.End.{End}
@@ -7,10 +7,15 @@ use Rattle.call_read.specs.Read.{KeepsReads, KeepsReadsBut}
 use Rattle.call_read.specs.declared.refusal.Refusal.{Refusal}
 use Rattle.call_read.specs.declared.refusal.Refusal.TheVariants.{Words, Unread, Long, Tech, Spice, Fold, Gds, Lef, NoMemory}
 use Rattle.call_words.specs.Words.{Form}
-use Rattle.call_work.specs.Commands.{gathered}
+use Rattle.call_work.specs.Commands.{Kind, Material, MaterialOf, WorksTo, gathered}
 use Rattle.call_work.specs.Ends.{KeepsReadsOf, MayEnd, refused as refusal_end}
 use Rattle.call_work.specs.Kept.{AreKept, MayKeep, WorksFor}
 use Rattle.call_work.specs.declared.commands.Material.{Material as Own}
+
+-- on a material that is kept so
+pub kept_works : (kind : Kind) (x : MaterialOf kind) (r : Result End Short) → IfOk r (WorksTo kind x) → IfOk r (λ end. (m : Material) → m ≡ (kind, x) → WorksTo m.0 m.1 end)
+kept_works kind x (Err e) works = tt
+kept_works kind x (Ok end) works = λ m is. subst (λ (y : Material). WorksTo y.0 y.1 end) (sym is) works
 
 pub ends_work : (old new : View) (form : Option Form) (got : Result Own Refusal) (own : Own) (r : Result End Short) → MayKeep old new (gathered form) got → got ≡ Ok own → IfOk r (WorksFor own) → IfOk r (MayEnd old new form)
 ends_work old new form got own (Err e) kept is works = tt

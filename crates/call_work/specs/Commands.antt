@@ -13,9 +13,10 @@ use Rattle.call_read.specs.declared.refusal.Refusal.TheVariants.{Words}
 use Rattle.call_words.specs.declared.evidence.Evidence.{Evidence}
 use Rattle.call_words.specs.declared.evidence.Evidence.TheVariants.{Log, Trails}
 use Rattle.call_words.specs.Words.{Form, Plan, Make, Check, Extract, Bench, Row, Agree}
-use Rattle.call_work.specs.Bench.{BenchesTo}
+use Rattle.bench_tally.specs.Report.{BenchesTo}
 use Rattle.call_work.specs.declared.commands.Material.{Material as Kept}
 use Rattle.call_work.specs.declared.commands.Material.TheVariants as kept
+use Rattle.call_work.specs.declared.commands.ReadMaterial.TheVariants as read
 use Rattle.cell_inputs.specs.declared.style.Style.{Style}
 use Rattle.cell_inputs.specs.Inputs.{Inputs}
 use Rattle.check_run.specs.Check.{ChecksTo}
@@ -119,17 +120,17 @@ read_by (Some (Agree tech gds lef cell)) = tech_files tech ++ GdsFile gds ∷ Le
 
 -- how the program keeps it: in place of a log's bytes, what reading and checking them came to
 abbrev pub IsKept : Material → Kept → Type 0
-IsKept m (kept.Planning inputs) = m ≡ (Planning, inputs)
-IsKept m (kept.Making inputs stem style) = m ≡ (Making, (inputs, stem, style))
-IsKept m (kept.Checking inputs log) =
+IsKept m (kept.Bench number) = m ≡ (Benching, number)
+IsKept m (kept.Read (read.Planning inputs)) = m ≡ (Planning, inputs)
+IsKept m (kept.Read (read.Making inputs stem style)) = m ≡ (Making, (inputs, stem, style))
+IsKept m (kept.Read (read.Checking inputs log)) =
     (bytes : List ℕ) × (m ≡ (Checking, (inputs, bytes))) × AreBehindAll inputs bytes log.reader log.checker
-IsKept m (kept.Extracting cell) = m ≡ (Extracting, cell)
-IsKept m (kept.Benching number) = m ≡ (Benching, number)
-IsKept m (kept.Rowing inputs stem) = m ≡ (Rowing, (inputs, stem))
-IsKept m (kept.Agreeing both) = m ≡ (Agreeing, both)
-IsKept m (kept.TrailPlanning inputs) = m ≡ (TrailPlanning, inputs)
-IsKept m (kept.TrailMaking inputs stem style) = m ≡ (TrailMaking, (inputs, stem, style))
-IsKept m (kept.TrailChecking inputs bytes) = m ≡ (TrailChecking, (inputs, bytes))
+IsKept m (kept.Read (read.Extracting cell)) = m ≡ (Extracting, cell)
+IsKept m (kept.Read (read.Rowing inputs stem)) = m ≡ (Rowing, (inputs, stem))
+IsKept m (kept.Read (read.Agreeing both)) = m ≡ (Agreeing, both)
+IsKept m (kept.Read (read.TrailPlanning inputs)) = m ≡ (TrailPlanning, inputs)
+IsKept m (kept.Read (read.TrailMaking inputs stem style)) = m ≡ (TrailMaking, (inputs, stem, style))
+IsKept m (kept.Read (read.TrailChecking inputs bytes)) = m ≡ (TrailChecking, (inputs, bytes))
 
 -- ---- what the work comes to
 

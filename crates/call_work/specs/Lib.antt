@@ -1,5 +1,4 @@
 -- What contracts of public calls cite, and what these definitions stand on.
-pub mod Bench
 pub mod Commands
 pub mod Ends
 pub mod Kept

@@ -4,8 +4,8 @@ ghost use Rattle.call_read.specs.Read.{KeepsReads};
 ghost use Rattle.call_words.specs.Words.{Plan, Make, Check, Extract, Row, Agree, shown};
 ghost use Rattle.call_work.specs.Commands.{gathered};
 ghost use Rattle.call_work.specs.Kept.{MayKeep, WorksFor};
+ghost use Rattle.call_work.specs.declared.commands.Material.TheVariants.{Read};
 
-use crate::bench::bench;
 use crate::evidence::{making, planning, with_evidence};
 use agree_run::{Compared, agree, read_compared};
 use call_end::End;
@@ -27,13 +27,20 @@ use trail_run::{check_by_trails, plan_by_trails};
 /// What a command works on, as it is kept in memory.
 #[derive(Drop)]
 pub enum Material {
+    /// A number of generated cells, which are read from no file.
+    Bench(CellCount),
+    Read(ReadMaterial),
+}
+
+/// What a command works on that reads files.
+#[derive(Drop)]
+pub enum ReadMaterial {
     Planning(Inputs),
     /// The inputs, what the names of the files begin with, and the style.
     Making(Inputs, Stem, Style),
     /// The inputs, and a log behind all its bytes.
     Checking(Inputs, CheckedLog),
     Extracting(GdsCell),
-    Benching(CellCount),
     /// What the row is made of, and what the name of its file begins with.
     Rowing(RowInputs, Stem),
     Agreeing(Compared),
@@ -106,7 +113,7 @@ fn for_extract<D: Desk>(
     ensures only { OnlyReads (D.view desk.old) (D.view desk.new) }
 {
     let drawn = read_gds_cell(alloc, desk, tech, gds, cell, rules)?;
-    Ok(Material::Extracting(drawn))
+    Ok(Material::Read(ReadMaterial::Extracting(drawn)))
 }
 
 fn for_row<D: Desk>(
@@ -121,7 +128,7 @@ fn for_row<D: Desk>(
 {
     let stem = Stem::new(alloc, out)?;
     let inputs = read_row(alloc, desk, asked)?;
-    Ok(Material::Rowing(inputs, stem))
+    Ok(Material::Read(ReadMaterial::Rowing(inputs, stem)))
 }
 
 fn for_agree<D: Desk>(
@@ -138,7 +145,7 @@ fn for_agree<D: Desk>(
     ensures only { OnlyReads (D.view desk.old) (D.view desk.new) }
 {
     let both = read_compared(alloc, desk, tech, gds, lef, cell)?;
-    Ok(Material::Agreeing(both))
+    Ok(Material::Read(ReadMaterial::Agreeing(both)))
 }
 
 /// Reads what the form asks for, up to the first step that refuses.
@@ -176,7 +183,7 @@ pub fn gather<D: Desk>(
                 rules,
             },
         ) => for_extract(alloc, desk, tech, gds, cell, rules),
-        Some(Form::Bench { number }) => Ok(Material::Benching(number)),
+        Some(Form::Bench { number }) => Ok(Material::Bench(number)),
         Some(Form::Row { row, out }) => for_row(alloc, desk, &row, out),
         Some(
             Form::Agree {
@@ -190,20 +197,23 @@ pub fn gather<D: Desk>(
     }
 }
 
-/// Does the work of a command on what was gathered. It reads, makes and says nothing.
-pub fn work(alloc: Global, material: &Material) -> Result<End, NoMemory>
-    ensures { IfOk result (WorksFor material.now) }
+/// Does the work of a command on what it read. It reads, makes and says nothing.
+pub fn work(alloc: Global, material: &ReadMaterial) -> Result<End, NoMemory>
+    ensures { IfOk result (WorksFor (Read material.now)) }
 {
     match material {
-        Material::Planning(inputs) => plan(alloc, inputs),
-        Material::Making(inputs, stem, style) => make(alloc, inputs, stem, *style),
-        Material::Checking(inputs, log) => check(alloc, inputs, log),
-        Material::Extracting(cell) => extract(alloc, cell),
-        Material::Benching(number) => bench(alloc, number),
-        Material::Rowing(inputs, stem) => row(alloc, inputs, stem),
-        Material::Agreeing(both) => agree(alloc, both),
-        Material::TrailPlanning(inputs) => plan_by_trails(alloc, inputs),
-        Material::TrailMaking(inputs, stem, style) => make_by_trails(alloc, inputs, stem, *style),
-        Material::TrailChecking(inputs, bytes) => check_by_trails(alloc, inputs, bytes.as_slice()),
+        ReadMaterial::Planning(inputs) => plan(alloc, inputs),
+        ReadMaterial::Making(inputs, stem, style) => make(alloc, inputs, stem, *style),
+        ReadMaterial::Checking(inputs, log) => check(alloc, inputs, log),
+        ReadMaterial::Extracting(cell) => extract(alloc, cell),
+        ReadMaterial::Rowing(inputs, stem) => row(alloc, inputs, stem),
+        ReadMaterial::Agreeing(both) => agree(alloc, both),
+        ReadMaterial::TrailPlanning(inputs) => plan_by_trails(alloc, inputs),
+        ReadMaterial::TrailMaking(inputs, stem, style) => {
+            make_by_trails(alloc, inputs, stem, *style)
+        }
+        ReadMaterial::TrailChecking(inputs, bytes) => {
+            check_by_trails(alloc, inputs, bytes.as_slice())
+        }
     }
 }

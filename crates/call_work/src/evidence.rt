@@ -5,7 +5,7 @@ ghost use Rattle.call_read.specs.Sources.{LogFile};
 ghost use Rattle.call_work.specs.Commands.{IsKept, checking_over, making, planning};
 ghost use Rattle.call_work.specs.Kept.{HoldsLog, MayKeep};
 
-use crate::commands::Material;
+use crate::commands::{Material, ReadMaterial};
 use call_read::{Refusal, Source, read_file, read_to};
 use call_words::Evidence;
 use cell_inputs::{Inputs, Style};
@@ -51,14 +51,14 @@ pub(crate) fn with_evidence<D: Desk>(
 {
     match evidence {
         Evidence::Log => match read_log(alloc, desk, &inputs, file) {
-            Ok(log) => Ok(Material::Checking(inputs, log)),
+            Ok(log) => Ok(Material::Read(ReadMaterial::Checking(inputs, log))),
             Err(refusal) => {
                 drop(inputs);
                 Err(refusal)
             }
         },
         Evidence::Trails => match read_file(alloc, desk, Source::Trails(file)) {
-            Ok(bytes) => Ok(Material::TrailChecking(inputs, bytes)),
+            Ok(bytes) => Ok(Material::Read(ReadMaterial::TrailChecking(inputs, bytes))),
             Err(refusal) => {
                 drop(inputs);
                 Err(refusal)
@@ -72,8 +72,8 @@ pub(crate) fn planning(inputs: Inputs, evidence: Evidence) -> Material
     ensures { IsKept (planning evidence inputs) result }
 {
     match evidence {
-        Evidence::Log => Material::Planning(inputs),
-        Evidence::Trails => Material::TrailPlanning(inputs),
+        Evidence::Log => Material::Read(ReadMaterial::Planning(inputs)),
+        Evidence::Trails => Material::Read(ReadMaterial::TrailPlanning(inputs)),
     }
 }
 
@@ -82,7 +82,7 @@ pub(crate) fn making(inputs: Inputs, stem: Stem, style: Style, evidence: Evidenc
     ensures { IsKept (making evidence stem style inputs) result }
 {
     match evidence {
-        Evidence::Log => Material::Making(inputs, stem, style),
-        Evidence::Trails => Material::TrailMaking(inputs, stem, style),
+        Evidence::Log => Material::Read(ReadMaterial::Making(inputs, stem, style)),
+        Evidence::Trails => Material::Read(ReadMaterial::TrailMaking(inputs, stem, style)),
     }
 }

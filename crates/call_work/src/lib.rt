@@ -1,10 +1,9 @@
-// What a call reads, and the work on it.
+// What a call reads, and the work on it; the work of a bench, which reads nothing, stands in a crate of its own.
 #![tactic(auto)]
 
-mod bench;
 mod commands;
 mod evidence;
 mod refusal;
 
-pub use commands::{Material, gather, work};
+pub use commands::{Material, ReadMaterial, gather, work};
 pub use refusal::refused;

@@ -1,61 +1,30 @@
-ghost use Rattle.std.specs.Prelude.{◌≡◌, ◌≢◌, ◌≤◌, ◌↔◌, ◌⊎◌, IfOk, IfSome, IsNone, IsTrue};
-ghost use Rattle.cell_io.specs.Desk.{OnlyReads, Rose};
+ghost use Rattle.std.specs.Prelude.{◌≡◌, ◌≢◌, ◌≤◌, ◌↔◌, ◌⊎◌, IfSome, IsNone, IsTrue};
+ghost use Rattle.cell_io.specs.Desk.{Rose};
 ghost use Rattle.call_end.specs.declared.end.End.{End as EndOf};
 ghost use Rattle.call_end.specs.declared.status.Status.TheVariants as status;
 ghost use Rattle.agree_run.specs.Agree.{DoesAgree};
-ghost use Rattle.cell_run.specs.Agree.{ComparesMade, HasDisagreement, HasNoNets, IsAgree, IsAgreedCell, IsDisagreed, IsWithoutNets, OfCompared};
-ghost use Rattle.cell_run.specs.Bench.{IsBench, IsBenchTold, WhereBenchEnds};
-ghost use Rattle.cell_run.specs.Calm.{IfCalm, IsDoneOrShort};
-ghost use Rattle.cell_run.specs.Check.{HoldsAcceptedLog, IsCheck};
+ghost use Rattle.run_laws.specs.Agree.{ComparesMade, HasDisagreement, HasNoNets, IsAgree, IsAgreedCell, IsDisagreed, IsWithoutNets, OfCompared};
+ghost use Rattle.run_laws.specs.Bench.{IsBench, IsBenchTold, WhereBenchEnds};
+ghost use Rattle.run_laws.specs.Calm.{IfCalm, IsDoneOrShort};
+ghost use Rattle.run_laws.specs.Check.{HoldsAcceptedLog, IsCheck};
 ghost use Rattle.call_end.specs.Deliver.{Tells, TellsWhole};
-ghost use Rattle.call_work.specs.Ends.{CallsFor, IsOfOutside, KeepsReadsOf, MayEnd, is_status_of};
+ghost use Rattle.call_work.specs.Ends.{CallsFor, IsOfOutside, MayEnd, is_status_of};
 ghost use Rattle.layout_run.specs.Extract.{BreaksRule, HasNetlist};
-ghost use Rattle.cell_run.specs.Extract.{HasNoNetlist, IsBrokenCell, IsExtract, IsExtractedCell, IsRefusedLayout, OfGdsCell, WhereExtractEnds};
+ghost use Rattle.run_laws.specs.Extract.{HasNoNetlist, IsBrokenCell, IsExtract, IsExtractedCell, IsRefusedLayout, OfGdsCell, WhereExtractEnds};
 ghost use Rattle.call_work.specs.Commands.{Agreeing, TrailPlanning, read_by};
-ghost use Rattle.cell_run.specs.Ended.{WhereEnds};
-ghost use Rattle.cell_run.specs.Headline.{CanBeDrawn, FromInputs, HasCycle, IsCyclicCell, IsMadeCell, IsMake, IsOrShort, IsSpentSearch, IsTallCell, IsTooHigh, MakesNone, OfFirstLeast, WhereMakeEnds};
-ghost use Rattle.cell_run.specs.Plan.{HasEnough};
-ghost use Rattle.cell_run.specs.Row.{CanBeRowed, IsMisreadRow, IsRow, IsRowedLibrary, IsStopStatus, IsStoppedRow, IsUnabuttedRow, MayLeaveFile, MayMakeFiles, OfRow, WhereRowEnds};
-ghost use Rattle.cell_run.specs.Trails.{HoldsAcceptedTrails, IsTrailCheck, IsTrailPlanned, IsTrailUnfinished, IsTrailUnmade};
+ghost use Rattle.run_laws.specs.Ended.{WhereEnds};
+ghost use Rattle.run_laws.specs.Headline.{CanBeDrawn, FromInputs, HasCycle, IsCyclicCell, IsMadeCell, IsOrShort, IsSpentSearch, IsTallCell, IsTooHigh, MakesNone, OfFirstLeast, WhereMakeEnds};
+ghost use Rattle.run_laws.specs.Plan.{HasEnough};
+ghost use Rattle.run_laws.specs.Row.{CanBeRowed, IsMisreadRow, IsRow, IsRowedLibrary, IsStopStatus, IsStoppedRow, IsUnabuttedRow, MayLeaveFile, MayMakeFiles, OfRow, WhereRowEnds};
+ghost use Rattle.run_laws.specs.Trails.{HoldsAcceptedTrails, IsTrailCheck, IsTrailPlanned, IsTrailUnfinished, IsTrailUnmade};
 ghost use Rattle.call_read.specs.Sources.{Lacks};
 ghost use Rattle.call_words.specs.Words.{asked};
 ghost use Rattle.call_words.specs.declared.evidence.Evidence.TheVariants.{Log, Trails};
 
-use call_end::{End, Status, deliver};
-use call_words::form_of;
-use call_work::{gather, refused, work};
+use crate::prepare::prepare;
+use call_end::{Status, deliver};
 use cell_io::Desk;
-use cell_num::{Bytes, NoMemory};
 use std::alloc::Global;
-
-// Gathers what the words ask for and does the work on it. What was gathered is dropped by a call, which is proved type
-// by type: where it goes out of scope by itself, all of its parts are proved at once, and that takes minutes.
-fn end_of<D: Desk>(alloc: Global, words: &[String], desk: &mut D) -> Result<End, NoMemory>
-    ensures ends { IfOk result (MayEnd (D.view desk.old) (D.view desk.new) (asked words.now)) }
-    ensures quiet { IfOk result (KeepsReadsOf (D.view desk.old) (D.view desk.new)) }
-    ensures only { OnlyReads (D.view desk.old) (D.view desk.new) }
-{
-    match gather(alloc, desk, form_of(words)) {
-        Ok(material) => {
-            let end = work(alloc, &material);
-            drop(material);
-            end
-        }
-        Err(refusal) => refused(alloc, &refusal),
-    }
-}
-
-// The same, with an end that says nothing where memory ran out.
-fn prepare<D: Desk>(alloc: Global, words: &[String], desk: &mut D) -> End
-    ensures ends { MayEnd (D.view desk.old) (D.view desk.new) (asked words.now) result }
-    ensures quiet { KeepsReadsOf (D.view desk.old) (D.view desk.new) result }
-    ensures only { OnlyReads (D.view desk.old) (D.view desk.new) }
-{
-    match end_of(alloc, words, desk) {
-        Ok(end) => end,
-        Err(NoMemory) => End::says(alloc, Status::NoMemory, Bytes::new(alloc)),
-    }
-}
 
 /// Does what the words ask for, and says the report.
 ///

@@ -2,6 +2,7 @@
 #![tactic(auto)]
 
 mod call;
+mod prepare;
 
 pub use call::run;
 pub use call_end::Status;

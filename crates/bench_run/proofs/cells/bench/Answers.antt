@@ -1,5 +1,5 @@
 use Rattle.std.proofs.Common.{ℕ, ◌≡◌, List, rules, subst}
-use Rattle.bench_run.specs.Bench.{IsCountOf}
+use Rattle.bench_tally.specs.Bench.{IsCountOf}
 use Rattle.bench_run.proofs.Tallied.{ended_more, tallied_more, within_more}
 use Rattle.bench_run.proofs.cells.bench.Goals as goal
 

@@ -1,5 +1,5 @@
-use Rattle.bench_run.specs.Bench.{IsTallyOf}
-use Rattle.bench_run.specs.Tally.{AreAllEnded, IsWithin}
+use Rattle.bench_tally.specs.Bench.{IsTallyOf}
+use Rattle.bench_tally.specs.Tally.{AreAllEnded, IsWithin}
 use Rattle.bench_run.proofs.cells.bench.Given as goal
 
 abbrev pub invariant-loop-cell : goal.invariant-loop-cell

@@ -1,6 +1,6 @@
 use Rattle.std.proofs.Common.{sym, subst}
 use Rattle.cell_make.specs.Making.{answer_of}
-use Rattle.bench_run.specs.Tally.{AreAllEnded, IsWithin}
+use Rattle.bench_tally.specs.Tally.{AreAllEnded, IsWithin}
 use Rattle.bench_run.proofs.Counted.{counted_within, plain_comes}
 use Rattle.bench_run.proofs.Ended.{cell_ends}
 use Rattle.bench_run.proofs.cells.count_cell.Goals as goal

@@ -1,5 +1,5 @@
 use Rattle.std.proofs.Common.{ℕ, List, IfOk, subst}
-use Rattle.call_work.proofs.EachCommand.{agree_works, bench_works, check_works, extract_works, make_works, plan_works, row_works, trail_check_works, trail_make_works, trail_plan_works}
+use Rattle.call_work.proofs.EachCommand.{agree_works, check_works, extract_works, make_works, plan_works, row_works, trail_check_works, trail_make_works, trail_plan_works}
 use Rattle.trail_run.specs.Check.{TrailChecksTo}
 use Rattle.call_work.proofs.commands.work.Goals as goal
 
@@ -14,9 +14,6 @@ returns-in-Checking c = check_works c.args.material.now c.in-Checking.inputs c.i
 
 pub returns-in-Extracting : goal.returns-in-Extracting
 returns-in-Extracting c = extract_works c.args.material.now c.in-Extracting.cell c.extract.result c.in-Extracting.is c.extract.ensures
-
-pub returns-in-Benching : goal.returns-in-Benching
-returns-in-Benching c = bench_works c.args.material.now c.in-Benching.number c.bench.result c.in-Benching.is c.bench.ensures
 
 pub returns-in-Rowing : goal.returns-in-Rowing
 returns-in-Rowing c = row_works c.args.material.now c.in-Rowing.inputs c.in-Rowing.stem c.row.result c.in-Rowing.is c.row.ensures

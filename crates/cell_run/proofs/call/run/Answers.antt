@@ -2,15 +2,15 @@ use Rattle.std.proofs.Common.{arith, refl, ◌∙◌}
 use Rattle.call_end.specs.declared.status.Status.TheVariants as status
 use Rattle.call_words.specs.Words.{asked}
 use Rattle.call_words.specs.declared.evidence.Evidence.TheVariants.{Log, Trails}
-use Rattle.cell_run.proofs.AgreeTold.{agreed_told, agrees_told, disagreed_told, disagrees_told, unextracted_told, unextracts_told}
-use Rattle.cell_run.proofs.BenchTold.{benched_told, benches_told}
-use Rattle.cell_run.proofs.ExtractTold.{breaks_told, broken_told, extracted_told, extracts_told, layout_faults_told, layout_told}
-use Rattle.cell_run.proofs.MadeCompared.{agrees_made_told}
-use Rattle.cell_run.proofs.MakeTold.{draws_told, make_leaves, meets_told, needs_told}
-use Rattle.cell_run.proofs.RowTold.{misread_told, rowed_told, rows_told, stopped_told, unabutted_told}
-use Rattle.cell_run.proofs.Unmade.{none_told, unmade_told}
-use Rattle.cell_run.proofs.Telling.{accepts_told, alone_told, answers, called_for_told, checked_told, completes_told, made_told, memory_told, planned_told, read_told, same_reads_told, status_told, usage_told, write_told}
-use Rattle.cell_run.proofs.TrailTold.{trail_accepts_told, trail_checked_told, trail_planned_told, trail_unfinished_told}
+use Rattle.run_laws.proofs.AgreeTold.{agreed_told, agrees_told, disagreed_told, disagrees_told, unextracted_told, unextracts_told}
+use Rattle.run_laws.proofs.BenchTold.{benched_told, benches_told}
+use Rattle.run_laws.proofs.ExtractTold.{breaks_told, broken_told, extracted_told, extracts_told, layout_faults_told, layout_told}
+use Rattle.run_laws.proofs.MadeCompared.{agrees_made_told}
+use Rattle.run_laws.proofs.MakeTold.{draws_told, make_leaves, meets_told, needs_told}
+use Rattle.run_laws.proofs.RowTold.{misread_told, rowed_told, rows_told, stopped_told, unabutted_told}
+use Rattle.run_laws.proofs.Unmade.{none_told, unmade_told}
+use Rattle.run_laws.proofs.Telling.{accepts_told, alone_told, answers, called_for_told, checked_told, completes_told, made_told, memory_told, planned_told, read_told, same_reads_told, status_told, usage_told, write_told}
+use Rattle.run_laws.proofs.TrailTold.{trail_accepts_told, trail_checked_told, trail_planned_told, trail_unfinished_told}
 use Rattle.cell_run.proofs.call.run.Goals as goal
 
 pub returns-clause-ends : goal.returns-clause-ends

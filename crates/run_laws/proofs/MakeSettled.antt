@@ -1,0 +1,168 @@
+-- The end of a call of `make` over told files, and what it leaves behind, by its status.
+use Rattle.std.proofs.Common.{ℕ, ◌≡◌, List, [], ◌∷◌, ◌++◌, Option, inl, inr, refl, sym, ◌∙◌, subst}
+use Rattle.cell_io.specs.Desk.{View, Both}
+use Rattle.row_model.specs.declared.column.Column.{Column}
+use Rattle.row_place.specs.Places.{placement_of}
+use Rattle.row_search.specs.First.{IsFirstLeast}
+use Rattle.call_end.specs.declared.end.End.{End}
+use Rattle.call_end.specs.declared.status.Status.{Status}
+use Rattle.call_end.specs.declared.status.Status.TheVariants as status
+use Rattle.call_end.specs.Deliver.{Says, TellsWhole}
+use Rattle.call_end.specs.Status.{first_line}
+use Rattle.call_words.specs.declared.evidence.Evidence.{Evidence}
+use Rattle.call_words.specs.declared.evidence.Evidence.TheVariants.{Log, Trails}
+use Rattle.cell_inputs.specs.declared.style.Style.{Style}
+use Rattle.cell_inputs.specs.Inputs.{Inputs}
+use Rattle.cell_make.proofs.Abstracts.{abstract_made}
+use Rattle.cell_make.proofs.Rings.{ring_is}
+use Rattle.cell_make.specs.Making.{abstract_of, drawing_in, final_in, library_of}
+use Rattle.cell_make.specs.Making as made
+use Rattle.cell_make.specs.Rows.{Draws, DrawAnswer, RowDrawn, RowCyclic, RowTall}
+use Rattle.cell_report.specs.Logs.{unfinished_text}
+use Rattle.run_laws.proofs.MadeFiles.{cell_made, evidence_made, none_left}
+use Rattle.run_laws.specs.Evidence.{CertificateOf, Certifies, ProvesAlone, evidence_counts, evidence_name, evidence_text, lemma_count}
+use Rattle.run_laws.specs.Headline.{IsCyclicCell, IsMadeCell, IsSpentSearch, IsTallCell}
+use Rattle.run_laws.specs.Trails.{IsTrailCrowded, IsTrailUnmade}
+use Rattle.channel_route.specs.declared.ring.Ring.{Ring}
+use Rattle.channel_route.specs.declared.routing.Routing.{Routing}
+use Rattle.make_run.specs.Make.{IsEnd, IsRowEnd, MakesTo, RowEvidence}
+use Rattle.trail_make.specs.Make.{TrailMakesTo}
+use Rattle.trail_make.specs.Make as trail
+
+-- what the end of a row has of its evidence
+abbrev pub told_evidence : (evidence : Evidence) → Inputs → List ℕ → CertificateOf evidence → RowEvidence
+told_evidence evidence inputs out certificate = record {
+  file = (evidence_name evidence out, evidence_text evidence inputs.cell.name certificate);
+  counts = evidence_counts evidence certificate;
+}
+
+-- the end of a search that spent its budget
+abbrev pub IsSpentEnd : (evidence : Evidence) → Inputs → List ℕ → ℕ → CertificateOf evidence → End → Type 0
+IsSpentEnd evidence inputs out proved certificate =
+    IsEnd status.Unfinished
+    ((evidence_name evidence out, evidence_text evidence inputs.cell.name certificate) ∷ [])
+    (first_line status.Unfinished ++ unfinished_text proved (lemma_count evidence certificate))
+
+-- what is left behind where there is no row
+abbrev pub IsUnmade : Evidence → Inputs → List ℕ → View → View → Type 0
+IsUnmade Log inputs out old new = IsSpentSearch Log inputs out old new
+IsUnmade Trails inputs out old new = IsTrailUnmade inputs out old new
+
+-- by the status of the call
+abbrev pub Leaves : Evidence → Style → Inputs → List ℕ → View → View → Status → Type 0
+Leaves evidence style inputs out old new status.Done = IsMadeCell evidence style inputs out old new
+Leaves evidence style inputs out old new status.Cycle = IsCyclicCell evidence style inputs out old new
+Leaves evidence style inputs out old new status.TooTall = IsTallCell evidence style inputs out old new
+Leaves evidence style inputs out old new status.Unfinished = IsUnmade evidence inputs out old new
+Leaves evidence style inputs out old new _ = Unit {0}
+
+-- with the status of the end that was told
+by_end : (Is : Status → Type 0) (settled answer : Status) (end : End) (old new : View) → end.status ≡ settled → TellsWhole end answer old new → Is settled → Is answer
+by_end Is settled answer end old new is whole so = subst Is (sym (whole.0 ∙ is)) so
+
+said_so : (text report : List ℕ) (old new : Option (List ℕ)) → report ≡ text → Both (Says report) old new → Both (Says text) old new
+said_so text report old new is said = subst (λ (t : List ℕ). Both (Says t) old new) is said
+
+-- ---- a row, by what drawing it comes to
+
+drawn_so : (evidence : Evidence) (style : Style) (inputs : Inputs) (out : List ℕ) (row : List Column) (certificate : CertificateOf evidence) (routing : Routing) (xs : List ℕ) (end : End) (answer : Status) (old new : View) → IsFirstLeast inputs.fingers row → Certifies evidence inputs row certificate → made.IsDrawn style inputs row routing xs → IsRowEnd style inputs out row (told_evidence evidence inputs out certificate) (RowDrawn routing xs) end → TellsWhole end answer old new → IsMadeCell evidence style inputs out old new
+drawn_so evidence style inputs out row certificate routing xs end answer old new first certified h is whole = record {
+  row = row;
+  certificate = certificate;
+  routing = routing;
+  lines = xs;
+  first_least = first;
+  certified = certified;
+  acyclic = h.routed.acyclic;
+  legal = h.routed.legal;
+  tight = h.routed.tight;
+  least_lines = h.lines;
+  fits = h.fits;
+  drawing = drawing_in inputs row routing xs;
+  drawn = refl;
+  layout = final_in style inputs row routing xs;
+  written = refl;
+  obeys = h.obeys;
+  extracts = h.extracts;
+  bodied = h.bodied;
+  shows_row = h.shows_row;
+  shows_routing = h.shows_routing;
+  ports = h.ports;
+  port_trunks = h.port_trunks;
+  port_nets = h.port_nets;
+  obstructs = h.obstructs;
+  sized = h.sized;
+  agrees = abstract_made style inputs row routing xs h.agrees;
+  decodes = h.decodes;
+  alone = h.alone;
+  files = cell_made evidence out (evidence_text evidence inputs.cell.name certificate) (library_of inputs (final_in style inputs row routing xs)) (abstract_of inputs routing (drawing_in inputs row routing xs)) end.files old.made new.made is.files whole.1;
+  says = said_so _ end.report old.said new.said is.report whole.2;
+}
+
+cyclic_so : (evidence : Evidence) (style : Style) (inputs : Inputs) (out : List ℕ) (row : List Column) (certificate : CertificateOf evidence) (ring : Ring) (end : End) (answer : Status) (old new : View) → IsFirstLeast inputs.fingers row → Certifies evidence inputs row certificate → Draws style inputs row (RowCyclic ring) → IsRowEnd style inputs out row (told_evidence evidence inputs out certificate) (RowCyclic ring) end → TellsWhole end answer old new → IsCyclicCell evidence style inputs out old new
+cyclic_so evidence style inputs out row certificate ring end answer old new first certified h is whole = record {
+  row = row;
+  certificate = certificate;
+  ring = ring;
+  first_least = first;
+  certified = certified;
+  is_ring = ring_is style.wiring (placement_of row) inputs.cell.pins ring h;
+  is_told = h;
+  files = evidence_made (evidence_name evidence out) (evidence_text evidence inputs.cell.name certificate) end.files old.made new.made is.files whole.1;
+  says = said_so _ end.report old.said new.said is.report whole.2;
+}
+
+tall_so : (evidence : Evidence) (style : Style) (inputs : Inputs) (out : List ℕ) (row : List Column) (certificate : CertificateOf evidence) (routing : Routing) (end : End) (answer : Status) (old new : View) → IsFirstLeast inputs.fingers row → Certifies evidence inputs row certificate → Draws style inputs row (RowTall routing) → IsRowEnd style inputs out row (told_evidence evidence inputs out certificate) (RowTall routing) end → TellsWhole end answer old new → IsTallCell evidence style inputs out old new
+tall_so evidence style inputs out row certificate routing end answer old new first certified h is whole = record {
+  row = row;
+  certificate = certificate;
+  routing = routing;
+  first_least = first;
+  certified = certified;
+  acyclic = h.0.acyclic;
+  legal = h.0.legal;
+  tight = h.0.tight;
+  tall = h.1;
+  files = evidence_made (evidence_name evidence out) (evidence_text evidence inputs.cell.name certificate) end.files old.made new.made is.files whole.1;
+  says = said_so _ end.report old.said new.said is.report whole.2;
+}
+
+row_leaves : (evidence : Evidence) (style : Style) (inputs : Inputs) (out : List ℕ) (row : List Column) (certificate : CertificateOf evidence) (drawing : DrawAnswer) (end : End) (answer : Status) (old new : View) → IsFirstLeast inputs.fingers row → Certifies evidence inputs row certificate → Draws style inputs row drawing → IsRowEnd style inputs out row (told_evidence evidence inputs out certificate) drawing end → TellsWhole end answer old new → Leaves evidence style inputs out old new answer
+row_leaves evidence style inputs out row certificate (RowDrawn routing xs) end answer old new first certified h is whole =
+    by_end (Leaves evidence style inputs out old new) status.Done answer end old new is.status whole (drawn_so evidence style inputs out row certificate routing xs end answer old new first certified h is whole)
+row_leaves evidence style inputs out row certificate (RowCyclic ring) end answer old new first certified h is whole =
+    by_end (Leaves evidence style inputs out old new) status.Cycle answer end old new is.status whole (cyclic_so evidence style inputs out row certificate ring end answer old new first certified h is whole)
+row_leaves evidence style inputs out row certificate (RowTall routing) end answer old new first certified h is whole =
+    by_end (Leaves evidence style inputs out old new) status.TooTall answer end old new is.status whole (tall_so evidence style inputs out row certificate routing end answer old new first certified h is whole)
+
+-- ---- by the kind of evidence
+
+spent_so : (evidence : Evidence) (inputs : Inputs) (out : List ℕ) (proved : ℕ) (certificate : CertificateOf evidence) (end : End) (answer : Status) (old new : View) → ProvesAlone evidence inputs proved certificate → IsSpentEnd evidence inputs out proved certificate end → TellsWhole end answer old new → IsSpentSearch evidence inputs out old new
+spent_so evidence inputs out proved certificate end answer old new h is whole = record {
+  certificate = certificate;
+  proved = proved;
+  spent = h;
+  files = evidence_made (evidence_name evidence out) (evidence_text evidence inputs.cell.name certificate) end.files old.made new.made is.files whole.1;
+  says = said_so _ end.report old.said new.said is.report whole.2;
+}
+
+pub log_leaves : (style : Style) (inputs : Inputs) (out : List ℕ) (end : End) (answer : Status) (old new : View) → MakesTo style inputs out end → TellsWhole end answer old new → Leaves Log style inputs out old new answer
+log_leaves style inputs out end answer old new (made.Made row log routing xs, h, is) whole =
+    row_leaves Log style inputs out row log (RowDrawn routing xs) end answer old new h.found.first h.found.certified h.drawn is whole
+log_leaves style inputs out end answer old new (made.Cyclic row log ring, h, is) whole =
+    row_leaves Log style inputs out row log (RowCyclic ring) end answer old new h.0.first h.0.certified h.1 is whole
+log_leaves style inputs out end answer old new (made.Tall row log routing, h, is) whole =
+    row_leaves Log style inputs out row log (RowTall routing) end answer old new h.0.first h.0.certified (h.1, h.2) is whole
+log_leaves style inputs out end answer old new (made.Unfinished proved log, h, is) whole =
+    by_end (Leaves Log style inputs out old new) status.Unfinished answer end old new is.status whole (spent_so Log inputs out proved log end answer old new h is whole)
+
+pub trails_leave : (style : Style) (inputs : Inputs) (out : List ℕ) (end : End) (answer : Status) (old new : View) → TrailMakesTo style inputs out end → TellsWhole end answer old new → Leaves Trails style inputs out old new answer
+trails_leave style inputs out end answer old new (trail.Made row trails drawing, ((nodes, found), h), is) whole =
+    row_leaves Trails style inputs out row trails drawing end answer old new found.first found.certified h is whole
+trails_leave style inputs out end answer old new (trail.Unfinished proved trails, h, is) whole =
+    by_end (Leaves Trails style inputs out old new) status.Unfinished answer end old new is.status whole (inl (spent_so Trails inputs out proved trails end answer old new h is whole))
+trails_leave style inputs out end answer old new (trail.Crowded gate, h, is) whole =
+    by_end (Leaves Trails style inputs out old new) status.Unfinished answer end old new is.status whole (inr (crowded, none_left end.files old.made new.made is.files whole.1))
+  where
+    crowded : IsTrailCrowded inputs old new
+    crowded = record { gate = gate; crowded = h; says = said_so _ end.report old.said new.said is.report whole.2 }

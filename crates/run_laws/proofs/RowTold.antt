@@ -1,0 +1,233 @@
+-- What the top call owes of `row`, from the end that the files call for and how it was told.
+use Rattle.std.proofs.Common.{ℕ, ◌≡◌, ◌==◌, true, false, List, [], ◌∷◌, map, Contains, Option, Some, None, Result, Ok, Err, IfSome, refl, sym, ap, ◌∙◌, subst}
+use Rattle.std.proofs.lemmas.List.Elements.{All-contains, Contains-append_right}
+use Rattle.cell_io.specs.Desk.{Files, View, Both}
+use Rattle.call_end.proofs.Delivered.{none_made}
+use Rattle.call_end.specs.Deliver.{MakesAll, Says, TellsWhole}
+use Rattle.call_end.specs.Status.{number_of}
+use Rattle.call_end.specs.declared.end.End.{End}
+use Rattle.call_end.specs.declared.end.Output.{Output}
+use Rattle.call_end.specs.declared.status.Status.{Status}
+use Rattle.call_end.specs.declared.status.Status.TheVariants as status
+use Rattle.call_read.proofs.Asked.{called_parts}
+use Rattle.call_read.specs.InputFiles.{technology_from}
+use Rattle.call_read.specs.Reading.{Ends, bytes_of, called}
+use Rattle.call_read.specs.Sources.{SpiceFile}
+use Rattle.call_read.specs.declared.refusal.Refusal.{Refusal}
+use Rattle.call_words.specs.Asked.{RowAsked}
+use Rattle.call_words.specs.Words.{Form, Row}
+use Rattle.call_work.proofs.EachCommand.{is_row}
+use Rattle.call_work.proofs.Statuses.{differ}
+use Rattle.call_work.specs.Commands.{Material, Rowing, gathered}
+use Rattle.call_work.specs.Ends.{is_among}
+use Rattle.cell_inputs.specs.Inputs.{Inputs, inputs_of}
+use Rattle.cell_inputs.specs.Style.{plain_style}
+use Rattle.cell_make.proofs.Rings.{no_ring, ring_is}
+use Rattle.cell_make.specs.Making.{MakeAnswer, Made, Cyclic, Tall, Unfinished, Makes}
+use Rattle.cell_num.proofs.Lists.{contains_here, some_same}
+use Rattle.run_laws.proofs.MadeFiles.{library_made}
+use Rattle.run_laws.proofs.MakeTold.{spends_less}
+use Rattle.run_laws.proofs.Telling.{or_so}
+use Rattle.run_laws.proofs.Worked.{Completes, IsAnswered, ends_told, refused_told, settles, work_statuses}
+use Rattle.run_laws.specs.Calm.{IsCalm, IsDoneOrShort}
+use Rattle.run_laws.specs.Ended.{WhereEnds}
+use Rattle.run_laws.specs.Headline.{CanBeDrawn, OfFirstLeast}
+use Rattle.run_laws.specs.Row.{CanBeMade, CanBeRowed, IsInputRefusal, IsMisreadRow, IsRefusedRow, IsRow, IsRowAskedFor, IsRowedLibrary, IsStopStatus, IsStoppedRow, IsUnabuttedRow, OfRow, WhereRowEnds, stop_statuses}
+use Rattle.cell_num.specs.declared.finger.Fingers.{Fingers}
+use Rattle.finger_fold.specs.Folding.{folded}
+use Rattle.finger_fold.specs.declared.folding.FoldFault.{FoldFault}
+use Rattle.spice_net.specs.declared.fault.SpiceFault.{SpiceFault}
+use Rattle.row_make.specs.RowInputs.{RowInputs}
+use Rattle.row_make.specs.Rowed.{AreInputsOf, IsInputFault, IsNoDrawing, MadeCell, ComesNext, cell_name, Rowed, Refused, Stopped, Unabutted}
+use Rattle.row_make.specs.declared.outcome.InputFault.{InputFault}
+use Rattle.row_make.specs.declared.outcome.InputFault.TheVariants.{Spice, Fold}
+use Rattle.row_place.specs.Places.{placement_of}
+use Rattle.row_run.specs.Row.{IsStoppedEnd, RowsTo, input_end, rowing, rowing_over, row_of}
+use Rattle.tech_file.specs.Technology.{Technology}
+use Rattle.spice_net.specs.Subcircuit.{subcircuit}
+use Rattle.spice_net.specs.declared.subckt.Subckt.{Subckt}
+
+-- ---- what the words ask for
+
+-- the material of a row, where it is one
+abbrev rowing_of : Result Material Refusal → Option (RowInputs × List ℕ)
+rowing_of (Ok (Rowing, m)) = Some m
+rowing_of _ = None
+
+row_words : (files : Files) (asked : RowAsked) (name : List ℕ) (r : RowInputs) (out : List ℕ) → called files (gathered (Some (Row asked name))) ≡ Ok (Rowing, (r, out)) → IsRowAskedFor (Some (Row asked name)) r out
+row_words files asked name r out got =
+    let read = called_parts files (rowing asked) (λ (i : RowInputs). Ends (Ok (Rowing, (i, name)))) (Rowing, (r, out)) got in
+    let tech = called_parts files (technology_from asked.tech) (rowing_over asked) read.0 read.1 in
+    let file = called_parts files (bytes_of (SpiceFile asked.spice)) (λ bytes. Ends (Ok (row_of asked tech.0 bytes))) read.0 tech.2 in
+    let own : row_of asked tech.0 file.0 ≡ read.0 = ok_is (row_of asked tech.0 file.0) read.0 file.2 in
+    let same : ◌≡◌ {A = RowInputs × List ℕ} (read.0, name) (r, out) = some_same (read.0, name) (r, out) (ap rowing_of read.2) in
+    record {
+      asked = asked;
+      words = ap (λ (m : RowInputs × List ℕ). Some (Row asked m.1)) same;
+      top = ap (λ (m : RowInputs × List ℕ). m.0.top) (sym same) ∙ ap (λ (i : RowInputs). i.top) (sym own);
+      names = ap (λ (m : RowInputs × List ℕ). m.0.names) (sym same) ∙ ap (λ (i : RowInputs). i.names) (sym own);
+    }
+  where
+    ok_is : (a b : RowInputs) → ◌≡◌ {A = Result RowInputs Refusal} (Ok a) (Ok b) → a ≡ b
+    ok_is a b e = cc
+
+row_asked : (files : Files) (form : Option Form) (r : RowInputs) (out : List ℕ) → IsRow form → called files (gathered form) ≡ Ok (Rowing, (r, out)) → IsRowAskedFor form r out
+row_asked files None r out row got = absurd row
+row_asked files (Some form) r out row got = by (is_row form row)
+  where
+    by : (asked : RowAsked) × (name : List ℕ) × (form ≡ Row asked name) → IsRowAskedFor (Some form) r out
+    by (asked, name, is) =
+        subst (λ (f : Form). IsRowAskedFor (Some f) r out) (sym is)
+        (row_words files asked name r out (subst (λ (f : Form). called files (gathered (Some f)) ≡ Ok (Rowing, (r, out))) is got))
+
+row_told : (form : Option Form) (answer settled : Status) (Says : RowInputs → List ℕ → Type 0) (given : Option Files) → IfSome given (λ files. WhereEnds Rowing files form answer settled (λ m. Says m.0 m.1)) → IfSome given (λ files. WhereRowEnds files form answer settled Says)
+row_told form answer settled Says None told = tt
+row_told form answer settled Says (Some files) told = λ row is.
+    let (m, comes, says) = told row is in
+    (m, comes, (row_asked files form m.0 m.1 row comes, says))
+
+-- ---- by status
+
+said_so : (end other : End) (old new : View) → end ≡ other → Both (Says end.report) old.said new.said → Both (Says other.report) old.said new.said
+said_so end other old new is said = subst (λ (e : End). Both (Says e.report) old.said new.said) is said
+
+library_so : (r : RowInputs) (out : List ℕ) (end : End) (answer : Status) (old new : View) → RowsTo r out end → answer ≡ status.Done → TellsWhole end answer old new → IsRowedLibrary r out old new
+library_so r out end answer old new (Rowed made, h, is) done whole = record {
+  made = made;
+  rowed = h;
+  files = library_made out _ end.files old.made new.made is.files whole.1;
+  says = subst (λ (text : List ℕ). Both (Says text) old.said new.said) is.report whole.2;
+}
+library_so r out end answer old new (Refused before name (Spice f), h, is) done whole = absurd (differ status.Done status.Input refl (sym done ∙ whole.0 ∙ ap (λ (e : End). e.status) is))
+library_so r out end answer old new (Refused before name (Fold f), h, is) done whole = absurd (differ status.Done status.Input refl (sym done ∙ whole.0 ∙ ap (λ (e : End). e.status) is))
+library_so r out end answer old new (Stopped before inputs (Made row log routing xs), h, is) done whole = absurd is
+library_so r out end answer old new (Stopped before inputs (Cyclic row log ring), h, is) done whole = absurd (differ status.Done status.Cycle refl (sym done ∙ whole.0 ∙ ap (λ (e : End). e.status) is))
+library_so r out end answer old new (Stopped before inputs (Tall row log routing), h, is) done whole = absurd (differ status.Done status.TooTall refl (sym done ∙ whole.0 ∙ ap (λ (e : End). e.status) is))
+library_so r out end answer old new (Stopped before inputs (Unfinished proved log), h, is) done whole = absurd (differ status.Done status.Unfinished refl (sym done ∙ whole.0 ∙ ap (λ (e : End). e.status) is))
+library_so r out end answer old new (Unabutted made fault, h, is) done whole = absurd (differ status.Done status.Row refl (sym done ∙ whole.0 ∙ ap (λ (e : End). e.status) is))
+
+-- a status that is not of a stopped row
+no_stop : (answer settled other : Status) → IsStopStatus settled → answer ≡ settled → answer ≡ other → is_among stop_statuses other ≡ false → ⊥
+no_stop answer settled other stops is same none =
+    let also : is_among stop_statuses other ≡ true = subst (λ (s : Status). is_among stop_statuses s ≡ true) (sym is ∙ same) stops in
+    cc
+
+no_files : (inputs : Inputs) (answer : MakeAnswer) (end : End) → IsStoppedEnd inputs answer end → end.files ≡ []
+no_files inputs (Made row log routing xs) end is = absurd is
+no_files inputs (Cyclic row log ring) end is = ap (λ (e : End). e.files) is
+no_files inputs (Tall row log routing) end is = ap (λ (e : End). e.files) is
+no_files inputs (Unfinished proved log) end is = ap (λ (e : End). e.files) is
+
+stopped_so : (settled : Status) (r : RowInputs) (out : List ℕ) (end : End) (answer : Status) (old new : View) → IsStopStatus settled → RowsTo r out end → answer ≡ settled → TellsWhole end answer old new → IsStoppedRow r answer old new
+stopped_so settled r out end answer old new stops (Stopped before inputs comes, h, is) same whole = record {
+  before = before;
+  inputs = inputs;
+  comes = comes;
+  stopped = h;
+  end = end;
+  ends = is;
+  status = whole.0;
+  says = whole.2;
+  files = none_made old.made new.made (subst (λ (files : List Output). Both (MakesAll files) old.made new.made) (no_files inputs comes end is) whole.1);
+}
+stopped_so settled r out end answer old new stops (Rowed made, h, is) same whole = absurd (no_stop answer settled status.Done stops same (whole.0 ∙ is.status) refl)
+stopped_so settled r out end answer old new stops (Refused before name (Spice f), h, is) same whole = absurd (no_stop answer settled status.Input stops same (whole.0 ∙ ap (λ (e : End). e.status) is) refl)
+stopped_so settled r out end answer old new stops (Refused before name (Fold f), h, is) same whole = absurd (no_stop answer settled status.Input stops same (whole.0 ∙ ap (λ (e : End). e.status) is) refl)
+stopped_so settled r out end answer old new stops (Unabutted made fault, h, is) same whole = absurd (no_stop answer settled status.Row stops same (whole.0 ∙ ap (λ (e : End). e.status) is) refl)
+
+refused_so : (r : RowInputs) (out : List ℕ) (end : End) (answer : Status) (old new : View) → RowsTo r out end → answer ≡ status.Input → TellsWhole end answer old new → IsRefusedRow r old new
+refused_so r out end answer old new (Refused before name fault, h, is) same whole =
+    record { before = before; name = name; fault = fault; refused = h; says = said_so end (input_end fault) old new is whole.2 }
+refused_so r out end answer old new (Rowed made, h, is) same whole = absurd (differ status.Input status.Done refl (sym same ∙ whole.0 ∙ is.status))
+refused_so r out end answer old new (Stopped before inputs (Made row log routing xs), h, is) same whole = absurd is
+refused_so r out end answer old new (Stopped before inputs (Cyclic row log ring), h, is) same whole = absurd (differ status.Input status.Cycle refl (sym same ∙ whole.0 ∙ ap (λ (e : End). e.status) is))
+refused_so r out end answer old new (Stopped before inputs (Tall row log routing), h, is) same whole = absurd (differ status.Input status.TooTall refl (sym same ∙ whole.0 ∙ ap (λ (e : End). e.status) is))
+refused_so r out end answer old new (Stopped before inputs (Unfinished proved log), h, is) same whole = absurd (differ status.Input status.Unfinished refl (sym same ∙ whole.0 ∙ ap (λ (e : End). e.status) is))
+refused_so r out end answer old new (Unabutted made fault, h, is) same whole = absurd (differ status.Input status.Row refl (sym same ∙ whole.0 ∙ ap (λ (e : End). e.status) is))
+
+unabutted_so : (r : RowInputs) (out : List ℕ) (end : End) (answer : Status) (old new : View) → RowsTo r out end → answer ≡ status.Row → TellsWhole end answer old new → IsUnabuttedRow r old new
+unabutted_so r out end answer old new (Unabutted made fault, h, is) same whole = record { made = made; fault = fault; unabutted = h; says = said_so end _ old new is whole.2 }
+unabutted_so r out end answer old new (Rowed made, h, is) same whole = absurd (differ status.Row status.Done refl (sym same ∙ whole.0 ∙ is.status))
+unabutted_so r out end answer old new (Refused before name (Spice f), h, is) same whole = absurd (differ status.Row status.Input refl (sym same ∙ whole.0 ∙ ap (λ (e : End). e.status) is))
+unabutted_so r out end answer old new (Refused before name (Fold f), h, is) same whole = absurd (differ status.Row status.Input refl (sym same ∙ whole.0 ∙ ap (λ (e : End). e.status) is))
+unabutted_so r out end answer old new (Stopped before inputs (Made row log routing xs), h, is) same whole = absurd is
+unabutted_so r out end answer old new (Stopped before inputs (Cyclic row log ring), h, is) same whole = absurd (differ status.Row status.Cycle refl (sym same ∙ whole.0 ∙ ap (λ (e : End). e.status) is))
+unabutted_so r out end answer old new (Stopped before inputs (Tall row log routing), h, is) same whole = absurd (differ status.Row status.TooTall refl (sym same ∙ whole.0 ∙ ap (λ (e : End). e.status) is))
+unabutted_so r out end answer old new (Stopped before inputs (Unfinished proved log), h, is) same whole = absurd (differ status.Row status.Unfinished refl (sym same ∙ whole.0 ∙ ap (λ (e : End). e.status) is))
+
+-- ---- the clauses
+
+pub rowed_told : (a c : View) (form : Option Form) (answer : Status) (given : Option Files) → IfSome given (IsAnswered form a c answer) → IfSome given (λ files. WhereRowEnds files form answer status.Done (λ r out. IsRowedLibrary r out a c))
+rowed_told a c form answer given told =
+    row_told form answer status.Done (λ r out. IsRowedLibrary r out a c) given
+    (ends_told Rowing (λ m. IsRowedLibrary m.0 m.1 a c) form status.Done answer a c given refl (λ m end works is whole. library_so m.0 m.1 end answer a c works is whole) told)
+
+stop_is_work : (settled : Status) → IsStopStatus settled → is_among work_statuses settled ≡ true
+stop_is_work settled stops =
+    or_so (number_of status.Done == number_of settled) _ (or_so (number_of status.Rejected == number_of settled) _ (or_so (number_of status.Row == number_of settled) (is_among stop_statuses settled) stops))
+
+pub stopped_told : (a c : View) (form : Option Form) (answer : Status) (given : Option Files) → IfSome given (IsAnswered form a c answer) → (settled : Status) → IsStopStatus settled → IfSome given (λ files. WhereRowEnds files form answer settled (λ r out. IsStoppedRow r answer a c))
+stopped_told a c form answer given told settled stops =
+    row_told form answer settled (λ r out. IsStoppedRow r answer a c) given
+    (ends_told Rowing (λ m. IsStoppedRow m.0 answer a c) form settled answer a c given (stop_is_work settled stops) (λ m end works is whole. stopped_so settled m.0 m.1 end answer a c stops works is whole) told)
+
+pub misread_told : (a c : View) (form : Option Form) (answer : Status) (given : Option Files) → IfSome given (IsAnswered form a c answer) → IfSome given (λ files. IsRow form → answer ≡ status.Input → IsMisreadRow files form a c)
+misread_told a c form answer given told = refused_told Rowing status.Input IsInputRefusal (λ m. IsRefusedRow m.0 a c) a c form answer given refl refl (λ e is. sym is) (λ m end works is whole. refused_so m.0 m.1 end answer a c works is whole) told
+
+pub unabutted_told : (a c : View) (form : Option Form) (answer : Status) (given : Option Files) → IfSome given (IsAnswered form a c answer) → IfSome given (λ files. WhereRowEnds files form answer status.Row (λ r out. IsUnabuttedRow r a c))
+unabutted_told a c form answer given told =
+    row_told form answer status.Row (λ r out. IsUnabuttedRow r a c) given
+    (ends_told Rowing (λ m. IsUnabuttedRow m.0 a c) form status.Row answer a c given refl (λ m end works is whole. unabutted_so m.0 m.1 end answer a c works is whole) told)
+
+-- ---- completeness
+
+parts_same : (t u : Technology) (c d : Subckt) (f g : Fingers) → t ≡ u → c ≡ d → f ≡ g → inputs_of t c f ≡ inputs_of u d g
+parts_same t u c d f g tech cell fingers = ap (λ z. inputs_of z c f) tech ∙ (ap (λ z. inputs_of u z f) cell ∙ ap (λ z. inputs_of u d z) fingers)
+
+-- the inputs of a cell are told by its name
+same_inputs : (r : RowInputs) (a b : Inputs) → AreInputsOf r a → AreInputsOf r b → a.cell.name ≡ b.cell.name → a ≡ b
+same_inputs r a b x y named =
+    let cell : a.cell ≡ b.cell = ok_is a.cell b.cell (sym x.cell ∙ ap (λ name. subcircuit r.spice name r.tech) named ∙ y.cell) in
+    let fingers : a.fingers ≡ b.fingers = ok_same a.fingers b.fingers (sym x.fingers ∙ ap (λ c. folded r.tech c) cell ∙ y.fingers) in
+    parts_same a.tech b.tech a.cell b.cell a.fingers b.fingers (x.tech ∙ sym y.tech) cell fingers
+  where
+    ok_is : (c d : Subckt) → ◌≡◌ {A = Result Subckt SpiceFault} (Ok c) (Ok d) → c ≡ d
+    ok_is c d e = cc
+
+    ok_same : (f g : Fingers) → ◌≡◌ {A = Result Fingers FoldFault} (Ok f) (Ok g) → f ≡ g
+    ok_same f g e = cc
+
+never_stops : (inputs : Inputs) (answer : MakeAnswer) → OfFirstLeast CanBeDrawn plain_style inputs [] → Makes plain_style inputs answer → IsNoDrawing answer → ⊥
+never_stops inputs (Made row log routing xs) can makes none = none
+never_stops inputs (Cyclic row log ring) (much, can) makes none = no_ring plain_style.wiring (placement_of row) inputs.cell.pins ring (can row makes.0.first).acyclic (ring_is plain_style.wiring (placement_of row) inputs.cell.pins ring makes.1)
+never_stops inputs (Tall row log routing) (much, can) makes none = (can row makes.0.first).fits routing makes.1 makes.2
+never_stops inputs (Unfinished proved log) (much, can) makes none = spends_less inputs log proved much makes
+
+never_refused : (r : RowInputs) (name : List ℕ) (fault : InputFault) → CanBeMade r name → IsInputFault r name fault → ⊥
+never_refused r name (Spice f) can is =
+    let ok : subcircuit r.spice name r.tech ≡ Ok can.inputs.cell = subst (λ n. subcircuit r.spice n r.tech ≡ Ok can.inputs.cell) can.named can.of.cell in
+    let clash : ◌≡◌ {A = Result Subckt SpiceFault} (Ok can.inputs.cell) (Err f) = sym ok ∙ is in
+    cc
+never_refused r name (Fold f) can (cell, ok, is) =
+    let own : subcircuit r.spice name r.tech ≡ Ok can.inputs.cell = subst (λ n. subcircuit r.spice n r.tech ≡ Ok can.inputs.cell) can.named can.of.cell in
+    let same : can.inputs.cell ≡ cell = ok_is can.inputs.cell cell (sym own ∙ ok) in
+    let clash : ◌≡◌ {A = Result Fingers FoldFault} (Ok can.inputs.fingers) (Err f) = sym can.of.fingers ∙ ap (λ c. folded r.tech c) same ∙ is in
+    cc
+  where
+    ok_is : (c d : Subckt) → ◌≡◌ {A = Result Subckt SpiceFault} (Ok c) (Ok d) → c ≡ d
+    ok_is c d e = cc
+
+next_can : (r : RowInputs) (before : List MadeCell) (name : List ℕ) → CanBeRowed r → ComesNext r before name → CanBeMade r name
+next_can r before name can next =
+    All-contains (CanBeMade r) r.names name can.each (subst (λ names. Contains names name) (sym next.names) (Contains-append_right (map cell_name before) (name ∷ next.later) name (contains_here name next.later)))
+
+rowed_where : (r : RowInputs) (out : List ℕ) (end : End) → CanBeRowed r → RowsTo r out end → end.status ≡ status.Done
+rowed_where r out end can (Rowed made, h, is) = is.status
+rowed_where r out end can (Refused before name fault, h, is) = absurd (never_refused r name fault (next_can r before name can h.next) h.is)
+rowed_where r out end can (Stopped before inputs answer, h, is) =
+    let next = next_can r before inputs.cell.name can h.next in
+    absurd (never_stops inputs answer (subst (λ i. OfFirstLeast CanBeDrawn plain_style i []) (same_inputs r next.inputs inputs next.of h.of next.named) next.drawn) h.makes h.stops)
+rowed_where r out end can (Unabutted made fault, h, is) = absurd (can.beside made h.cells fault h.is)
+
+pub rows_told : (a c : View) (form : Option Form) (answer : Status) (given : Option Files) → IfSome given (λ files. IsCalm a c → Completes form files answer) → IfSome given (λ files. IsCalm a c → OfRow files form (λ r out. CanBeRowed r) → IsDoneOrShort answer)
+rows_told a c form answer given told = settles Rowing (λ m. CanBeRowed m.0) form status.Done answer a c given (λ m end can works. rowed_where m.0 m.1 end can works) told
