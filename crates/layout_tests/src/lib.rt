@@ -49,3 +49,5 @@ mod references;
 mod rules;
 #[cfg(test)]
 mod taps;
+#[cfg(test)]
+mod texts;
