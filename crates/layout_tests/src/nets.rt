@@ -110,8 +110,8 @@ fn names_net(map: &NetMap, name: &[u8], want: Option<u32>) -> bool {
     map.net_named(name) == want
 }
 
-fn is_named(map: &NetMap, net: Option<u32>, want: &[u8]) -> bool {
-    match net {
+fn is_named(map: &NetMap, layer: Layer, [x, y]: [i32; 2], want: &[u8]) -> bool {
+    match map.net_of(layer, x, y) {
         Some(net) => map.name(net).as_slice() == want,
         None => false,
     }
@@ -124,7 +124,7 @@ fn has_nets(map: &NetMap) -> bool {
         && has_net(map, Layer::Active, [2, 24], Some(3))
         && names_net(map, b"g", Some(1))
         && names_net(map, b"_0", None)
-        && is_named(map, map.net_of(Layer::Poly, 10, 0), b"_0")
+        && is_named(map, Layer::Poly, [10, 0], b"_0")
 }
 
 const BLOCKS: [Block; 2] = [

@@ -13,7 +13,7 @@ const AREF: u8 = 11;
 // The element of `top` stands at 192, behind the head of the library, `box`, and the records in front of it.
 
 // A record of an element: its type, its data type and its data.
-type Record<'a> = (u8, u8, &'a [u8]);
+pub type Record<'a> = (u8, u8, &'a [u8]);
 
 const MIRRORED: Record = (0x1a, 1, &[0x80, 0]);
 
@@ -29,14 +29,14 @@ const LONG_ONE: Record = (0x1b, 5, &[0x42, 0x01, 0, 0, 0, 0, 0, 0]);
 
 const TWO: Record = (0x1b, 5, &[0x41, 0x20, 0, 0, 0, 0, 0, 0]);
 
-fn begin(out: &mut Vec<u8>, name: &[u8]) -> Result<(), Fail> {
+pub fn begin(out: &mut Vec<u8>, name: &[u8]) -> Result<(), Fail> {
     put_record(out, 5, 2, &[0; 24])?;
     put_record(out, 6, 6, name)
 }
 
 // A reference to the structure of a name, with points in grid units of 150 nanometres.
 #[derive(Clone, Copy)]
-struct Reference<'a> {
+pub struct Reference<'a> {
     kind: u8,
     name: &'a [u8],
     points: &'a [[i32; 2]],
@@ -44,7 +44,7 @@ struct Reference<'a> {
 }
 
 // One that places the structure of a name once.
-fn one<'a>(name: &'a [u8], points: &'a [[i32; 2]], records: &'a [Record<'a>]) -> Reference<'a> {
+pub fn one<'a>(name: &'a [u8], points: &'a [[i32; 2]], records: &'a [Record<'a>]) -> Reference<'a> {
     Reference {
         kind: SREF,
         name,
@@ -53,7 +53,11 @@ fn one<'a>(name: &'a [u8], points: &'a [[i32; 2]], records: &'a [Record<'a>]) ->
     }
 }
 
-fn array<'a>(name: &'a [u8], points: &'a [[i32; 2]], records: &'a [Record<'a>]) -> Reference<'a> {
+pub fn array<'a>(
+    name: &'a [u8],
+    points: &'a [[i32; 2]],
+    records: &'a [Record<'a>],
+) -> Reference<'a> {
     Reference {
         kind: AREF,
         name,
@@ -62,7 +66,7 @@ fn array<'a>(name: &'a [u8], points: &'a [[i32; 2]], records: &'a [Record<'a>]) 
     }
 }
 
-fn put_reference(out: &mut Vec<u8>, reference: &Reference) -> Result<(), Fail> {
+pub fn put_reference(out: &mut Vec<u8>, reference: &Reference) -> Result<(), Fail> {
     put_record(out, reference.kind, 0, &[])?;
     put_record(out, 0x12, 6, reference.name)?;
     for record in reference.records {
@@ -72,7 +76,7 @@ fn put_reference(out: &mut Vec<u8>, reference: &Reference) -> Result<(), Fail> {
     put_record(out, 0x11, 0, &[])
 }
 
-fn put_structure(out: &mut Vec<u8>, name: &[u8], references: &[Reference]) -> Result<(), Fail> {
+pub fn put_structure(out: &mut Vec<u8>, name: &[u8], references: &[Reference]) -> Result<(), Fail> {
     begin(out, name)?;
     for reference in references {
         put_reference(out, reference)?;
@@ -182,66 +186,6 @@ fn refused_references(rt: HostRuntime) -> Result<(), Fail> {
             refuses(alloc, one(name, &[*at], records), fault)?,
             "{fault}"
         );
-    }
-    Ok(())
-}
-
-// The library of `top` with these references, and of `a` to `q`, where each but the last refers to the next.
-fn put_chain(out: &mut Vec<u8>, references: &[Reference]) -> Result<(), Fail> {
-    out.extend_from_slice(&HEAD[..66])?;
-    put_structure(out, b"top\0", references)?;
-    for name in b'a'..b'q' {
-        put_structure(out, &[name, 0], &[one(&[name + 1, 0], &[[0, 0]], &[])])?;
-    }
-    put_structure(out, b"q\0", &[])?;
-    put_record(out, 4, 0, &[])
-}
-
-fn chain(alloc: Global, references: &[Reference]) -> Result<Vec<u8>, Fail> {
-    let mut out = Vec::new(alloc);
-    put_chain(&mut out, references)?;
-    Ok(out)
-}
-
-fn refuses_chain(alloc: Global, references: &[Reference], fault: &str) -> Result<bool, Fail> {
-    let bytes = chain(alloc, references)?;
-    let is = is_refused(alloc, &bytes, b"top", 300, fault);
-    drop(bytes);
-    is
-}
-
-// From `b` on the references stand 16 deep, from `a` on 17.
-#[test]
-fn deep_references(rt: HostRuntime) -> Result<(), Fail> {
-    let alloc = rt.alloc();
-    let bytes = chain(alloc, &[one(b"b\0", &[[0, 0]], &[])])?;
-    let is = shows(alloc, &bytes, b"top", 300, &[]);
-    drop(bytes);
-    assert!(rt; is);
-    assert!(rt; refuses_chain(alloc, &[one(b"a\0", &[[0, 0]], &[])], "Deep { at: 102 }")?);
-    Ok(())
-}
-
-// Whether copies of an empty structure in 1,000 columns and 999 rows, and in 8 columns and so many rows, and a
-// reference are refused so.
-fn refuses_copies(alloc: Global, rows: u8, fault: &str) -> Result<bool, Fail> {
-    let many = [(0x13, 2, [3, 0xe8, 3, 0xe7].as_slice())];
-    let counts = [0, 8, 0, rows];
-    let more = [(0x13, 2, counts.as_slice())];
-    let references = [
-        array(b"q\0", &[[0, 0]; 3], &many),
-        array(b"q\0", &[[0, 0]; 3], &more),
-        one(b"a\0", &[[0, 0]], &[]),
-    ];
-    refuses_chain(alloc, &references, fault)
-}
-
-// 999,000 copies of an empty structure and 8 rows more leave room for 16 references or fewer: the
-// seventeenth is too deep before it is one too many.
-#[test]
-fn deep_before_wide(rt: HostRuntime) -> Result<(), Fail> {
-    for (rows, fault) in &[(123, "Deep { at: 202 }"), (124, "Wide { at: 202 }")] {
-        assert!(rt; refuses_copies(rt.alloc(), *rows, fault)?, "{fault}");
     }
     Ok(())
 }

@@ -1,4 +1,4 @@
-use crate::calls::{End, Said, ends, left};
+use crate::calls::{End, Said, ends, made_file};
 use crate::setup::{INVERTER, inputs};
 use cell_run::Status;
 use std::alloc::Global;
@@ -11,7 +11,7 @@ fn made(alloc: Global, name: &str) -> Result<Vec<u8>, Fail> {
         said: Said::First("status 0 ok\ncell inv\n"),
         files: &[],
     };
-    left(
+    made_file(
         alloc,
         "make - c.sp inv out",
         &inputs(["", INVERTER, ""]),

@@ -168,7 +168,7 @@ fn left_on(
 }
 
 /// The bytes of a file that the words leave where they end so.
-pub fn left(
+pub fn made_file(
     alloc: Global,
     words: &str,
     given: &[Given],

@@ -1,6 +1,6 @@
 ghost use Rattle.std.specs.Prelude.{◌≤◌};
 
-use crate::calls::{End, Given, Said, call, desk_of, ends, left};
+use crate::calls::{End, Given, Said, call, desk_of, ends, made_file};
 use crate::setup::INVERTERS;
 use cell_io::MemDesk;
 use cell_run::Status;
@@ -20,7 +20,7 @@ end
 ";
 
 // A technology, three inverters, their log and their drawing.
-fn given(drawing: &[u8]) -> [Given; 4] {
+fn files_with(drawing: &[u8]) -> [Given; 4] {
     [
         ("t.toml", b"budget = 9\n"),
         ("c.sp", INVERTERS.as_bytes()),
@@ -84,7 +84,7 @@ fn is_same_in_pieces(
 ) -> Result<bool, Fail>
     requires { 1 ≤ most }
 {
-    let mut desk = desk_of(alloc, &given(drawing), &[])?;
+    let mut desk = desk_of(alloc, &files_with(drawing), &[])?;
     desk.cut(most);
     let is = is_same(alloc, words, &mut desk, whole);
     drop(desk);
@@ -110,7 +110,7 @@ fn fails_so(
     whole: &MemDesk,
     [failing, reads]: [u64; 2],
 ) -> Result<bool, Fail> {
-    let mut desk = desk_of(alloc, &given(drawing), &[failing])?;
+    let mut desk = desk_of(alloc, &files_with(drawing), &[failing])?;
     let is = is_failed(alloc, words, &mut desk, whole, failing < reads);
     drop(desk);
     is
@@ -154,10 +154,10 @@ fn ends_so(
     drawing: &[u8],
     [reads, calls]: [u64; 2],
 ) -> Result<bool, Fail> {
-    let mut whole = desk_of(alloc, &given(drawing), &[])?;
+    let mut whole = desk_of(alloc, &files_with(drawing), &[])?;
     let is = ends_on(alloc, words, drawing, &mut whole, [reads, calls]);
     drop(whole);
-    Ok(is? && ends(alloc, words, &given(drawing), &[calls], &DONE)?)
+    Ok(is? && ends(alloc, words, &files_with(drawing), &[calls], &DONE)?)
 }
 
 // Words, how many calls of the desk read, and how many there are. A file is read by two calls, its bytes and its end.
@@ -183,7 +183,7 @@ fn are_ended(alloc: Global, drawing: &[u8]) -> Result<(), Fail> {
 fn ends_by_each_failed_call(rt: HostRuntime) -> Result<(), Fail> {
     let alloc = rt.alloc();
     let words = "make t.toml c.sp x3 out";
-    let drawing = left(alloc, words, &given(&[]), &[], &DONE, "out.gds")?;
+    let drawing = made_file(alloc, words, &files_with(&[]), &[], &DONE, "out.gds")?;
     let are = are_ended(alloc, &drawing);
     drop(drawing);
     are

@@ -1,4 +1,4 @@
-use crate::calls::{End, Left, Said, ends, left};
+use crate::calls::{End, Left, Said, ends, made_file};
 use crate::setup::{INVERTER, inputs};
 use cell_run::Status;
 use std::alloc::{AllocError, Global};
@@ -57,7 +57,7 @@ pub fn inverter(alloc: Global) -> Result<Vec<u8>, Fail> {
         files: &files,
     };
     let given = inputs(["", INVERTER, ""]);
-    left(alloc, "make - c.sp inv out", &given, &[], &end, "out.gds")
+    made_file(alloc, "make - c.sp inv out", &given, &[], &end, "out.gds")
 }
 
 // Parts one after another.

@@ -1,4 +1,4 @@
-use crate::calls::{End, Left, Said, ends, left};
+use crate::calls::{End, Left, Said, ends, made_file};
 use crate::doglegs::length;
 use crate::extract::NETLIST;
 use crate::make::NAND;
@@ -218,7 +218,7 @@ fn pair(alloc: Global) -> Result<Vec<u8>, Fail> {
         files: &[],
     };
     let words = "row - c.sp out pair inv inv";
-    left(
+    made_file(
         alloc,
         words,
         &inputs(["", INVERTER, ""]),

@@ -1,5 +1,5 @@
 // Rows of 32 columns, and a log of many blocks.
-use crate::calls::{End, Left, Said, call, desk_of, ends, left};
+use crate::calls::{End, Left, Said, call, desk_of, ends, made_file};
 use crate::setup::inputs;
 use cell_io::MemDesk;
 use cell_run::Status;
@@ -140,7 +140,7 @@ const LOG_MARK: (usize, u32) = (6_927_694, 175_739_399);
 // The log of the flip-flop's search with a budget of 110,000 nodes, where a call of the desk fails and it ends so.
 fn long_log(alloc: Global, failing: u64, end: &End) -> Result<Vec<u8>, Fail> {
     let given = inputs(["budget = 110000\n", FLIP_FLOP, ""]);
-    left(
+    made_file(
         alloc,
         "make t.toml c.sp dff out",
         &given,

@@ -1,5 +1,5 @@
 // Cells that are made with certificates by trails. Another program, written after the definitions, listed their lemmas.
-use crate::calls::{End, Left, Said, ends, left};
+use crate::calls::{End, Left, Said, ends, made_file};
 use crate::make::{CROSS, makes_in_order};
 use crate::setup::{INVERTER, INVERTERS, inputs, joined};
 use crate::trails::{HEAD, LEMMAS, ORDER, ROW, X3};
@@ -19,7 +19,7 @@ const BY_LOG: End = End {
 // A file that is made with a log.
 fn by_log(alloc: Global, name: &str) -> Result<Vec<u8>, Fail> {
     let given = inputs(["", INVERTERS, ""]);
-    left(alloc, "make - c.sp x3 out", &given, &[], &BY_LOG, name)
+    made_file(alloc, "make - c.sp x3 out", &given, &[], &BY_LOG, name)
 }
 
 // Whether the certificate is this one, and the files behind it are these.

@@ -3,8 +3,8 @@ use Rattle.cell_draw.specs.Layouts.{width_of}
 use Rattle.well_tap.proofs.Drawn.{framed_base, spread_wired}
 use Rattle.layout_tests.proofs.cells.tapped.Goals as goal
 
-pub with_taps-requires-clause-base : goal.with_taps-requires-clause-base
-with_taps-requires-clause-base c =
+pub with_taps-drawing-requires-clause-base : goal.with_taps-requires-clause-base
+with_taps-drawing-requires-clause-base c =
     let p = c.args.placement.now in
     let r = c.args.routing.now in
     let xs = c.args.xs.now in
