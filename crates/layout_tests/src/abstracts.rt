@@ -1,7 +1,8 @@
-use crate::drawings::{Sides, shapes_of};
+use crate::drawings::{Sides, add_shapes, shapes_of};
+use crate::texts::{add_names, is_joined};
 use box_geom::{Layer, Shapes};
 use cell_draw::{Drawing, MOST_SHAPES};
-use cell_num::{Names, NetNo, NoMemory, Pins, copy};
+use cell_num::{Name, Names, NetNo, NoMemory, Pins};
 use channel_route::{Routing, Trunk, TrunkList};
 use lef_write::lef_text;
 use spice_net::{DeviceList, Direction, DirectionList, Subckt};
@@ -105,39 +106,31 @@ END inv
 END LIBRARY
 ";
 
-fn nets(alloc: Global) -> Result<Names, NoMemory> {
-    let mut nets = Names::new(alloc);
-    for word in &[b"a".as_slice(), b"y", b"vdd", b"gnd"] {
-        nets.push(copy(alloc, word)?)?;
-    }
-    Ok(nets)
-}
-
-fn directions(alloc: Global) -> Result<DirectionList, NoMemory> {
-    let mut directions = DirectionList::new(alloc);
-    directions.extend(&[
+fn fill(alloc: Global, cell: &mut Subckt) -> Result<(), NoMemory> {
+    cell.name.extend(b"inv")?;
+    add_names(alloc, &mut cell.nets, &[b"a", b"y", b"vdd", b"gnd"])?;
+    cell.directions.extend(&[
         Direction::Input,
         Direction::Output,
         Direction::Inout,
         Direction::Inout,
-    ])?;
-    Ok(directions)
+    ])
 }
 
 fn cell(alloc: Global) -> Result<Subckt, NoMemory> {
-    let nets = nets(alloc)?;
-    let directions = directions(alloc)?;
-    Ok(Subckt {
-        name: copy(alloc, b"inv")?,
+    let mut cell = Subckt {
+        name: Name::new(alloc),
         pins: Pins {
             pins: 4,
             vdd: NetNo(2),
             gnd: NetNo(3),
         },
-        nets,
+        nets: Names::new(alloc),
         devices: DeviceList::new(alloc),
-        directions,
-    })
+        directions: DirectionList::new(alloc),
+    };
+    fill(alloc, &mut cell)?;
+    Ok(cell)
 }
 
 fn trunk(net: u32, line: u32) -> Trunk {
@@ -158,40 +151,59 @@ fn routing(alloc: Global) -> Result<Routing, NoMemory> {
 /// The inverter with this metal2.
 pub fn inverter(alloc: Global, metal2: &[(Layer, Sides)]) -> Result<Shapes, Fail> {
     let mut shapes = shapes_of(alloc, &INVERTER)?;
-    let upper = shapes_of(alloc, metal2)?;
-    shapes.rects.extend(upper.rects.as_slice())?;
+    add_shapes(&mut shapes.rects, metal2)?;
     Ok(shapes)
 }
 
 fn drawing(alloc: Global, metal2: &[(Layer, Sides)]) -> Result<Drawing, Fail> {
+    let shapes = inverter(alloc, metal2)?;
     Ok(Drawing {
-        shapes: inverter(alloc, metal2)?,
+        shapes,
         width: 41,
         height: 118,
     })
 }
 
-fn written(alloc: Global, lines: &[u8]) -> Result<Vec<u8>, Fail> {
-    let mut text = Vec::new(alloc);
-    text.extend_from_slice(TEXT)?;
-    text.extend_from_slice(lines)?;
-    text.extend_from_slice(END_TEXT)?;
-    Ok(text)
-}
-
-// Whether the inverter with this metal2 is written with these lines before the last ones.
-fn is_written(alloc: Global, metal2: &[(Layer, Sides)], lines: &[u8]) -> Result<bool, Fail> {
-    let want = written(alloc, lines)?;
-    let cell = cell(alloc)?;
-    let drawing = drawing(alloc, metal2)?;
+// Whether the cell is written with these lines before the last ones.
+fn is_text(
+    alloc: Global,
+    cell: &Subckt,
+    routing: &Routing,
+    drawing: &Drawing,
+    lines: &[u8],
+) -> bool {
     if cell.pins.pins as usize > cell.nets.len()
         || cell.directions.len() != cell.pins.pins as usize
         || drawing.shapes.rects.len() >= MOST_SHAPES
     {
-        return Ok(false);
+        return false;
     }
-    let text = lef_text(alloc, &cell, &routing(alloc)?, &drawing, 150)?;
-    Ok(text == want)
+    match lef_text(alloc, cell, routing, drawing, 150) {
+        Ok(text) => is_joined(&text, &[TEXT, lines, END_TEXT]),
+        Err(_) => false,
+    }
+}
+
+fn is_routed(alloc: Global, cell: &Subckt, drawing: &Drawing, lines: &[u8]) -> Result<bool, Fail> {
+    let routing = routing(alloc)?;
+    let is = is_text(alloc, cell, &routing, drawing, lines);
+    drop(routing);
+    Ok(is)
+}
+
+fn is_drawn(alloc: Global, drawing: &Drawing, lines: &[u8]) -> Result<bool, Fail> {
+    let cell = cell(alloc)?;
+    let is = is_routed(alloc, &cell, drawing, lines);
+    drop(cell);
+    is
+}
+
+// Whether the inverter with this metal2 is written with these lines before the last ones.
+fn is_written(alloc: Global, metal2: &[(Layer, Sides)], lines: &[u8]) -> Result<bool, Fail> {
+    let drawing = drawing(alloc, metal2)?;
+    let is = is_drawn(alloc, &drawing, lines);
+    drop(drawing);
+    is
 }
 
 #[test]

@@ -1,5 +1,6 @@
 ghost use Rattle.std.specs.Prelude.{◌≤◌, All, IfOk, length};
 ghost use Rattle.row_model.specs.Arrangement.{IsColumn};
+ghost use Rattle.row_place.specs.Places.{IsPlacement};
 ghost use Rattle.cell_draw.specs.Small.{HasWidths};
 
 use crate::cells::{COLUMN, PINS, is_at};
@@ -7,7 +8,7 @@ use cell_draw::{DrawFault, Drawing, MOST_X, draw_base};
 use cell_num::NoMemory;
 use row_compact::{even_lines, lines_of, x_of};
 use row_model::Arrangement;
-use row_place::place;
+use row_place::{Placement, place};
 use std::alloc::Global;
 use std::test::Fail;
 
@@ -24,25 +25,36 @@ fn wide(alloc: Global) -> Result<Arrangement, NoMemory>
 
 // Its rows alone on even lines, with room for 26 tracks.
 #[tactic(auto, using(crate::proofs::Spread::spread_lines))]
-fn base(alloc: Global) -> Result<Result<Drawing, DrawFault>, Fail> {
-    let row = wide(alloc)?;
-    let placement = place(alloc, &row)?;
-    let xs = even_lines(alloc, lines_of(&placement))?;
-    if x_of(xs.as_slice(), lines_of(&placement) - 1) > MOST_X {
-        return Err(Fail::from(NoMemory));
+fn base_of(alloc: Global, placement: &Placement) -> Result<Drawing, DrawFault>
+    requires placement { IsPlacement placement.now }
+    requires widths { All HasWidths placement.now.row }
+{
+    let xs = even_lines(alloc, lines_of(placement))?;
+    if x_of(xs.as_slice(), lines_of(placement) - 1) > MOST_X {
+        return Err(DrawFault::NoMemory);
     }
-    Ok(draw_base(alloc, &PINS, &placement, 26, &xs, 0))
+    draw_base(alloc, &PINS, placement, 26, &xs, 0)
+}
+
+fn base(alloc: Global) -> Result<Drawing, DrawFault> {
+    let row = wide(alloc)?;
+    let placement = place(alloc, &row);
+    drop(row);
+    base_of(alloc, &placement?)
+}
+
+fn is_wide(drawing: &Drawing) -> bool {
+    let rects = drawing.shapes.rects.as_slice();
+    (drawing.width, drawing.height, rects.len()) == (1780, 518, 69)
+        && is_at(rects.first(), [-10, 462, 1790, 518])
+        && is_at(rects.last(), [1744, 474, 1772, 494])
 }
 
 #[test]
 fn draws_a_wide_base(rt: HostRuntime) -> Result<(), Fail> {
-    let drawing = base(rt.alloc())??;
-    let rects = drawing.shapes.rects.as_slice();
-    assert_eq!(rt;
-        (drawing.width, drawing.height, rects.len()),
-        (1780, 518, 69)
-    );
-    assert!(rt; is_at(rects.first(), [-10, 462, 1790, 518]));
-    assert!(rt; is_at(rects.last(), [1744, 474, 1772, 494]));
+    let drawing = base(rt.alloc())?;
+    let is = is_wide(&drawing);
+    drop(drawing);
+    assert!(rt; is);
     Ok(())
 }

@@ -1,4 +1,6 @@
 use cell_bench::bench_text;
+use cell_num::NoMemory;
+use std::alloc::Global;
 use std::test::Fail;
 
 const FIRST: &[u8] = b".SUBCKT c0 i0 s1 o1 vdd gnd
@@ -20,12 +22,19 @@ fn checksum(text: &[u8]) -> u32 {
     sum
 }
 
+fn is_first(alloc: Global) -> Result<bool, NoMemory> {
+    Ok(bench_text(alloc, 1)?.as_slice() == FIRST)
+}
+
+// The length and the checksum of what another program wrote by the same rules.
+fn are_all(alloc: Global) -> Result<bool, NoMemory> {
+    let text = bench_text(alloc, 200)?;
+    Ok(text.len() == 82_518 && checksum(&text) == 4_129_721_220)
+}
+
 #[test]
 fn writes_cells(rt: HostRuntime) -> Result<(), Fail> {
-    let alloc = rt.alloc();
-    assert!(rt; bench_text(alloc, 1)?.as_slice() == FIRST);
-    // The length and the checksum of what another program wrote by the same rules.
-    let text = bench_text(alloc, 200)?;
-    assert!(rt; text.len() == 82_518 && checksum(&text) == 4_129_721_220);
+    assert!(rt; is_first(rt.alloc())?);
+    assert!(rt; are_all(rt.alloc())?);
     Ok(())
 }

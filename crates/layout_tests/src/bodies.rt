@@ -1,7 +1,7 @@
 use crate::drawings::Sides;
-use crate::nets::drawing;
-use box_geom::Layer;
-use net_extract::{BodyNetlist, ExtractFault, extract, extract_bodies};
+use crate::nets::{Letter, Refusal, drawing, is_refusal, netlist};
+use box_geom::{Layer, Shapes};
+use net_extract::{BodyNetlist, ExtractFault, extract_bodies};
 use std::alloc::Global;
 use std::test::Fail;
 
@@ -28,61 +28,64 @@ const TAPPED: [(Layer, Sides); 18] = [
     (Layer::NSelect, [40, 96, 58, 114]),
 ];
 
-const NAMES: [(u8, Layer, i32, i32); 4] = [
+const NAMES: [Letter; 4] = [
     (b'a', Layer::Active, 49, 5),
     (b'b', Layer::Active, 49, 105),
     (b'l', Layer::Active, 49, 205),
     (b'l', Layer::Active, 49, 305),
 ];
 
-fn tapped(
-    alloc: Global,
-    table: &[(Layer, Sides)],
-    labels: &[(u8, Layer, i32, i32)],
-) -> Result<Result<BodyNetlist, ExtractFault>, Fail> {
-    Ok(extract_bodies(alloc, &drawing(alloc, table, labels)?))
+// It has no clauses, so that those of `extract_bodies` stay out of the tests' proofs.
+pub fn body_netlist(alloc: Global, shapes: &Shapes) -> Result<BodyNetlist, ExtractFault> {
+    extract_bodies(alloc, shapes)
 }
 
-fn has_bodies(alloc: Global, table: &[(Layer, Sides)], want: &[Option<u32>]) -> Result<bool, Fail> {
-    match tapped(alloc, table, &NAMES)? {
-        Ok(netlist) => Ok(netlist.bodies.as_slice() == want),
-        Err(_) => Ok(false),
+fn are_bodies(alloc: Global, shapes: &Shapes, want: &[Option<u32>]) -> bool {
+    match body_netlist(alloc, shapes) {
+        Ok(netlist) => netlist.bodies.as_slice() == want,
+        Err(_) => false,
     }
 }
 
-// The body of a P device is the net of its well's tap, that of an N device the one net of the substrate's taps.
+fn has_bodies(alloc: Global, table: &[(Layer, Sides)], want: &[Option<u32>]) -> Result<bool, Fail> {
+    let shapes = drawing(alloc, table, &NAMES)?;
+    let are = are_bodies(alloc, &shapes, want);
+    drop(shapes);
+    Ok(are)
+}
+
+// The body of a P device is the net of its well's tap, that of an N device the one net of the substrate's taps. Without
+// N select over it the second well's active is no tap, so its device has no body.
 #[test]
 fn bodies_of_wells_and_substrate(rt: HostRuntime) -> Result<(), Fail> {
     let alloc = rt.alloc();
     assert!(rt; has_bodies(alloc, &TAPPED, &[Some(3), Some(7), Some(11), Some(11)])?);
-    Ok(())
-}
-
-// Without N select over it the second well's active is no tap, so its device has no body.
-#[test]
-fn a_well_without_a_tap(rt: HostRuntime) -> Result<(), Fail> {
-    let alloc = rt.alloc();
     assert!(rt; has_bodies(alloc, &TAPPED[..17], &[Some(3), None, Some(11), Some(11)])?);
     Ok(())
 }
 
-fn is_short(answer: &Result<BodyNetlist, ExtractFault>, first: &[u8], second: &[u8]) -> bool {
-    match answer {
-        Err(ExtractFault::Short { one, other }) => {
-            one.as_slice() == first && other.as_slice() == second
-        }
-        _ => false,
+fn is_short(alloc: Global, shapes: &Shapes) -> bool {
+    match body_netlist(alloc, shapes) {
+        Ok(_) => false,
+        Err(fault) => is_refusal(&fault, &Refusal::Short(b"l", b"o")),
     }
 }
+
+// The same labels, but for the last one.
+const OTHER: [Letter; 4] = [
+    (b'a', Layer::Active, 49, 5),
+    (b'b', Layer::Active, 49, 105),
+    (b'l', Layer::Active, 49, 205),
+    (b'o', Layer::Active, 49, 305),
+];
 
 // Taps tie the substrate's nets into one for `extract_bodies` alone.
 #[test]
 fn ties_of_the_substrate(rt: HostRuntime) -> Result<(), Fail> {
     let alloc = rt.alloc();
-    let mut labels = NAMES;
-    labels[3] = (b'o', Layer::Active, 49, 305);
-    let shapes = drawing(alloc, &TAPPED, &labels)?;
-    assert!(rt; extract(alloc, &shapes).is_ok());
-    assert!(rt; is_short(&extract_bodies(alloc, &shapes), b"l", b"o"));
+    let shapes = drawing(alloc, &TAPPED, &OTHER)?;
+    let is = netlist(alloc, &shapes).is_ok() && is_short(alloc, &shapes);
+    drop(shapes);
+    assert!(rt; is);
     Ok(())
 }

@@ -1,10 +1,14 @@
-ghost use Rattle.std.specs.Prelude.{◌≤◌, IfOk, length};
+ghost use Rattle.std.specs.Prelude.{◌≤◌, ◌<◌, ◌*◌, IfOk, length};
 ghost use Rattle.cell_num.specs.Pins.{ArePins};
 ghost use Rattle.row_place.specs.Places.{IsPlacement};
 ghost use Rattle.row_place.specs.Trunks.{HasPins};
 ghost use Rattle.channel_route.specs.Routing.{IsLegal};
 ghost use Rattle.row_compact.specs.Allowed.{AreAllowed, stretches_of};
+ghost use Rattle.row_compact.specs.Solution.{x_of as x_at};
+ghost use Rattle.scmos_rules.specs.Rules.{Obeys};
+ghost use Rattle.scmos_rules.specs.declared.rules.Deck.TheVariants.{Plain};
 ghost use Rattle.cell_draw.specs.Sound.{IsSoundRow};
+ghost use Rattle.well_tap.specs.Base.{IsBase};
 
 use box_geom::{Label, Layer, Shape};
 use cell_draw::{DrawFault, Drawing, MOST_HEIGHT, MOST_X, draw};
@@ -14,7 +18,7 @@ use row_compact::{LineXs, distances, even_lines, least_lines, lines_of, x_of};
 use row_model::{Arrangement, Column, Placed};
 use row_place::{Placement, place};
 use std::alloc::Global;
-use std::test::Fail;
+use well_tap::{MOST_TAPPED_HEIGHT, draw_taps};
 
 #[derive(Drop)]
 pub struct Cell {
@@ -103,31 +107,114 @@ pub fn lines(
     least_lines(alloc, &distances)
 }
 
-// A cell on its least or on even lines, of this height.
-pub fn drawn(
+/// The lines of a cell, and its height, the least where that is 0.
+#[derive(Clone, Copy)]
+pub enum Form {
+    Even,
+    Least(u32),
+    Tapped,
+}
+
+fn height_of(form: Form) -> u32
+    ensures { result ≤ MOST_HEIGHT }
+{
+    match form {
+        Form::Least(height) => height.min(MOST_HEIGHT),
+        _ => 0,
+    }
+}
+
+fn with_taps(alloc: Global, base: &Drawing, xs: &LineXs) -> Result<Drawing, DrawFault>
+    requires base { IsBase xs.now base.now }
+    requires obeys { Obeys Plain base.now.shapes.rects }
+{
+    if base.height > MOST_TAPPED_HEIGHT {
+        return Err(DrawFault::NoMemory);
+    }
+    Ok(draw_taps(alloc, base, xs)?)
+}
+
+fn tapped(
     alloc: Global,
     cell: &Cell,
-    are_least: bool,
-    height: u32,
-) -> Result<Result<Drawing, DrawFault>, Fail>
+    placement: &Placement,
+    routing: &Routing,
+    xs: &LineXs,
+) -> Result<Drawing, DrawFault>
+    requires placement { IsPlacement placement.now }
+    requires row { IsSoundRow cell.now.names cell.now.pins placement.now.row }
+    requires some { 0 < length placement.now.row }
+    requires routing { IsLegal placement.now cell.now.pins routing.now }
+    requires lines { AreAllowed placement.now cell.now.pins (stretches_of routing.now.trunks) xs.now }
+    requires last { x_at xs.now (2 * length placement.now.units) ≤ MOST_X }
+{
+    let base = draw(alloc, &cell.names, &cell.pins, placement, routing, xs, 0)?;
+    let drawing = with_taps(alloc, &base, xs);
+    drop(base);
+    drawing
+}
+
+// The cell on the lines of this form.
+fn drawn_by(
+    alloc: Global,
+    cell: &Cell,
+    placement: &Placement,
+    routing: &Routing,
+    form: Form,
+) -> Result<Drawing, DrawFault>
+    requires placement { IsPlacement placement.now }
+    requires row { IsSoundRow cell.now.names cell.now.pins placement.now.row }
+    requires some { 0 < length placement.now.row }
+    requires pins { HasPins placement.now cell.now.pins }
+    requires routing { IsLegal placement.now cell.now.pins routing.now }
+{
+    let are_least = !matches!(form, Form::Even);
+    let xs = lines(alloc, placement, routing, &cell.pins, are_least)?;
+    if x_of(xs.as_slice(), lines_of(placement) - 1) > MOST_X {
+        return Err(DrawFault::NoMemory);
+    }
+    let drawing = match form {
+        Form::Tapped => tapped(alloc, cell, placement, routing, &xs),
+        _ => draw(
+            alloc,
+            &cell.names,
+            &cell.pins,
+            placement,
+            routing,
+            &xs,
+            height_of(form),
+        ),
+    };
+    drop(xs);
+    drawing
+}
+
+fn drawn_in(
+    alloc: Global,
+    cell: &Cell,
+    placement: &Placement,
+    form: Form,
+) -> Result<Drawing, DrawFault>
+    requires placement { IsPlacement placement.now }
+    requires row { IsSoundRow cell.now.names cell.now.pins placement.now.row }
+    requires some { 0 < length placement.now.row }
+    requires pins { HasPins placement.now cell.now.pins }
+{
+    match route(alloc, placement, &cell.pins) {
+        Ok(routing) => drawn_by(alloc, cell, placement, &routing, form),
+        Err(_) => Err(DrawFault::NoMemory),
+    }
+}
+
+// The drawing of a cell. A cycle gives NoMemory, which no row of the tests expects.
+pub fn drawn(alloc: Global, cell: &Cell, form: Form) -> Result<Drawing, DrawFault>
     requires sound { IsSoundRow cell.now.names cell.now.pins cell.now.row }
     requires pins { ArePins (length cell.now.names) cell.now.pins }
     requires few { length cell.now.row ≤ 32 }
-    requires height { height ≤ MOST_HEIGHT }
+    requires some { 0 < length cell.now.row }
 {
     let placement = place(alloc, &cell.row)?;
-    let routing = route(alloc, &placement, &cell.pins)?;
-    let xs = lines(alloc, &placement, &routing, &cell.pins, are_least)?;
-    if x_of(xs.as_slice(), lines_of(&placement) - 1) > MOST_X {
-        return Err(Fail::from(NoMemory));
-    }
-    Ok(draw(
-        alloc,
-        &cell.names,
-        &cell.pins,
-        &placement,
-        &routing,
-        &xs,
-        height,
-    ))
+    let drawing = drawn_in(alloc, cell, &placement, form);
+    drop(placement);
+    drawing
 }

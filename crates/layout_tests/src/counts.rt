@@ -1,7 +1,8 @@
 // Drawings as large as the extractor takes them, and one larger.
-use box_geom::{Label, LabelList, Layer, Rect, Shape, ShapeList, Shapes};
-use cell_num::{NoMemory, copy};
-use net_extract::{ExtractFault, extract};
+use crate::drawings::{add_label, no_shapes};
+use crate::nets::{Refusal, is_refusal, netlist};
+use box_geom::{LabelList, Layer, Rect, Shape, ShapeList, Shapes};
+use cell_num::NoMemory;
 use std::alloc::Global;
 use std::test::Fail;
 
@@ -38,66 +39,76 @@ fn add_wells(rects: &mut ShapeList, count: i16) -> Result<(), Fail> {
 }
 
 // Labels of one name on the lowest bar.
-fn labels(alloc: Global, count: u32) -> Result<LabelList, NoMemory> {
-    let mut labels = LabelList::new(alloc);
+fn add_labels(alloc: Global, labels: &mut LabelList, count: u32) -> Result<(), NoMemory> {
     for _ in 0..count {
-        labels.push(Label {
-            layer: Layer::Metal1,
-            x: 1,
-            y: 1,
-            name: copy(alloc, b"a")?,
-        })?;
+        add_label(alloc, labels, b"a", Layer::Metal1, [1, 1])?;
     }
-    Ok(labels)
+    Ok(())
 }
 
-// The nets and the devices of a drawing.
-fn counted(alloc: Global, shapes: &Shapes) -> Result<[usize; 2], ExtractFault> {
-    let netlist = extract(alloc, shapes)?;
-    Ok([netlist.names.len(), netlist.devices.len()])
-}
-
-// The same of bars of metal1 with labels.
-fn of_bars(alloc: Global, bars: i16, count: u32) -> Result<Result<[usize; 2], ExtractFault>, Fail> {
-    let mut rects = ShapeList::new(alloc);
-    add_bars(&mut rects, Layer::Metal1, bars)?;
-    let labels = labels(alloc, count)?;
-    Ok(counted(alloc, &Shapes { rects, labels }))
-}
-
-fn counts(alloc: Global, bars: i16, count: u32, want: [usize; 2]) -> Result<bool, Fail> {
-    match of_bars(alloc, bars, count)? {
-        Ok(found) => Ok(found == want),
-        Err(_) => Ok(false),
+// Whether a drawing has so many nets and no device, or is refused.
+fn counts(alloc: Global, shapes: &Shapes, nets: usize) -> bool {
+    match netlist(alloc, shapes) {
+        Ok(netlist) => [netlist.names.len(), netlist.devices.len()] == [nets, 0],
+        Err(_) => false,
     }
 }
 
-fn refuses(alloc: Global, bars: i16, count: u32, most: u64) -> Result<bool, Fail> {
-    match of_bars(alloc, bars, count)? {
-        Err(ExtractFault::TooMany { count }) => Ok(count == most),
-        _ => Ok(false),
+fn refuses(alloc: Global, shapes: &Shapes, most: u64) -> bool {
+    match netlist(alloc, shapes) {
+        Ok(_) => false,
+        Err(fault) => is_refusal(&fault, &Refusal::TooMany(most)),
     }
+}
+
+fn add_all(alloc: Global, shapes: &mut Shapes, bars: i16, count: u32) -> Result<(), Fail> {
+    add_bars(&mut shapes.rects, Layer::Metal1, bars)?;
+    Ok(add_labels(alloc, &mut shapes.labels, count)?)
+}
+
+// Bars of metal1 with labels.
+fn barred(alloc: Global, bars: i16, count: u32) -> Result<Shapes, Fail> {
+    let mut shapes = no_shapes(alloc);
+    add_all(alloc, &mut shapes, bars, count)?;
+    Ok(shapes)
 }
 
 #[test]
 fn takes_so_many(rt: HostRuntime) -> Result<(), Fail> {
     let alloc = rt.alloc();
-    assert!(rt; counts(alloc, 2001, 2000, [2001, 0])?);
-    assert!(rt; counts(alloc, 10_000, 0, [10_000, 0])?);
-    assert!(rt; refuses(alloc, 10_000, 2001, 2001)?);
-    assert!(rt; refuses(alloc, 10_001, 2001, 10_001)?);
+    for (bars, count, nets) in &[(2001, 2000, 2001), (10_000, 0, 10_000)] {
+        let shapes = barred(alloc, *bars, *count)?;
+        let is = counts(alloc, &shapes, *nets);
+        drop(shapes);
+        assert!(rt; is, "{bars} {count}");
+    }
+    for (bars, count, most) in &[(10_000, 2001, 2001), (10_001, 2001, 10_001)] {
+        let shapes = barred(alloc, *bars, *count)?;
+        let is = refuses(alloc, &shapes, *most);
+        drop(shapes);
+        assert!(rt; is, "{bars} {count}");
+    }
     Ok(())
+}
+
+fn add_crossings(rects: &mut ShapeList) -> Result<(), Fail> {
+    add_bars(rects, Layer::Active, 9970)?;
+    add_wells(rects, 30)
+}
+
+fn crossings(alloc: Global) -> Result<Shapes, Fail> {
+    let mut shapes = no_shapes(alloc);
+    add_crossings(&mut shapes.rects)?;
+    Ok(shapes)
 }
 
 // Each of 9,970 bars of active lies in 30 wells and in 31 places outside. To look at each pair of the 608,170 pieces
 // would take minutes. `rt try` may want `--seconds 400` for it.
 #[test]
 fn takes_many_pieces(rt: HostRuntime) -> Result<(), Fail> {
-    let alloc = rt.alloc();
-    let mut rects = ShapeList::new(alloc);
-    add_bars(&mut rects, Layer::Active, 9970)?;
-    add_wells(&mut rects, 30)?;
-    let labels = LabelList::new(alloc);
-    assert!(rt; counted(alloc, &Shapes { rects, labels }) == Ok([608_170, 0]));
+    let shapes = crossings(rt.alloc())?;
+    let is = counts(rt.alloc(), &shapes, 608_170);
+    drop(shapes);
+    assert!(rt; is);
     Ok(())
 }

@@ -1,4 +1,5 @@
-use box_geom::{LabelList, Layer, Rect, Shape, ShapeList, Shapes};
+use box_geom::{Label, LabelList, Layer, Rect, Shape, ShapeList, Shapes};
+use cell_num::{NoMemory, copy};
 use std::alloc::Global;
 use std::test::Fail;
 
@@ -13,8 +14,7 @@ pub fn rect(sides: Sides) -> Result<Rect, Fail> {
     }
 }
 
-pub fn shapes_of(alloc: Global, table: &[(Layer, Sides)]) -> Result<Shapes, Fail> {
-    let mut rects = ShapeList::new(alloc);
+pub fn add_shapes(rects: &mut ShapeList, table: &[(Layer, Sides)]) -> Result<(), Fail> {
     for (layer, sides) in table {
         let rect = rect(*sides)?;
         rects.push(Shape {
@@ -22,8 +22,29 @@ pub fn shapes_of(alloc: Global, table: &[(Layer, Sides)]) -> Result<Shapes, Fail
             rect,
         })?;
     }
-    Ok(Shapes {
-        rects,
+    Ok(())
+}
+
+pub fn no_shapes(alloc: Global) -> Shapes {
+    Shapes {
+        rects: ShapeList::new(alloc),
         labels: LabelList::new(alloc),
-    })
+    }
+}
+
+pub fn shapes_of(alloc: Global, table: &[(Layer, Sides)]) -> Result<Shapes, Fail> {
+    let mut shapes = no_shapes(alloc);
+    add_shapes(&mut shapes.rects, table)?;
+    Ok(shapes)
+}
+
+pub fn add_label(
+    alloc: Global,
+    labels: &mut LabelList,
+    name: &[u8],
+    layer: Layer,
+    [x, y]: [i32; 2],
+) -> Result<(), NoMemory> {
+    let name = copy(alloc, name)?;
+    labels.push(Label { layer, x, y, name })
 }

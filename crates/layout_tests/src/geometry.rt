@@ -1,6 +1,7 @@
 use crate::drawings::{Sides, rect, shapes_of};
 use box_geom::{
-    Block, Cuts, Layer, Place, Region, Slab, Slabs, XRange, covered, facing_gap, touches,
+    Block, Cuts, Layer, Place, Rect, Region, Shapes, Slab, Slabs, XRange, covered, facing_gap,
+    touches,
 };
 use cell_num::NoMemory;
 use std::alloc::Global;
@@ -20,13 +21,16 @@ const LIES: [(Sides, bool, Option<u32>); 8] = [
     ([40, 35, 50, 45], false, None),
 ];
 
+fn lies(middle: &Rect, other: &Rect, touch: bool, gap: Option<u32>) -> bool {
+    touches(middle, other) == touch && facing_gap(other, middle) == gap
+}
+
 #[test]
 fn squares_lie(rt: HostRuntime) -> Result<(), Fail> {
     let middle = rect([20, 20, 30, 30])?;
     for (sides, touch, gap) in &LIES {
         let other = rect(*sides)?;
-        assert!(rt; touches(&middle, &other) == *touch);
-        assert!(rt; facing_gap(&other, &middle) == *gap);
+        assert!(rt; lies(&middle, &other, *touch, *gap));
     }
     Ok(())
 }
@@ -54,17 +58,36 @@ fn are_slabs(slabs: &[Slab]) -> bool {
             && slab.ranges.as_slice() == [want.2].as_slice())
 }
 
+fn has_slabs(alloc: Global, shapes: &Shapes) -> bool {
+    match Slabs::new(alloc, shapes) {
+        Ok(slabs) => are_slabs(slabs.list.as_slice()),
+        Err(_) => false,
+    }
+}
+
+fn has_cuts(alloc: Global, shapes: &Shapes) -> bool {
+    match Cuts::new(alloc, shapes) {
+        Ok(cuts) => {
+            cuts.xs.as_slice() == [0, 1, 2, 4, 6, 10].as_slice()
+                && cuts.ys.as_slice() == [0, 2, 4, 5, 6, 8].as_slice()
+        }
+        Err(_) => false,
+    }
+}
+
+fn has_cells(shapes: &Shapes) -> bool {
+    covered(shapes, Layer::Metal1, 3, 4)
+        && !covered(shapes, Layer::Metal1, 3, 5)
+        && !covered(shapes, Layer::Poly, 6, 5)
+}
+
 #[test]
 fn cells_cuts_and_slabs(rt: HostRuntime) -> Result<(), Fail> {
-    let shapes = shapes_of(rt.alloc(), &ANGLE_AND_BAR)?;
-    assert!(rt; covered(&shapes, Layer::Metal1, 3, 4));
-    assert!(rt; !covered(&shapes, Layer::Metal1, 3, 5));
-    assert!(rt; !covered(&shapes, Layer::Poly, 6, 5));
-    let cuts = Cuts::new(rt.alloc(), &shapes)?;
-    assert!(rt; cuts.xs.as_slice() == [0, 1, 2, 4, 6, 10].as_slice());
-    assert!(rt; cuts.ys.as_slice() == [0, 2, 4, 5, 6, 8].as_slice());
-    let slabs = Slabs::new(rt.alloc(), &shapes)?;
-    assert!(rt; are_slabs(slabs.list.as_slice()));
+    let alloc = rt.alloc();
+    let shapes = shapes_of(alloc, &ANGLE_AND_BAR)?;
+    let is = has_cells(&shapes) && has_cuts(alloc, &shapes) && has_slabs(alloc, &shapes);
+    drop(shapes);
+    assert!(rt; is);
     Ok(())
 }
 
@@ -73,9 +96,8 @@ fn block(x1: i32, y1: i32, x2: i32, y2: i32) -> Block {
 }
 
 // The angle or the bar.
-fn region(alloc: Global, layer: Layer) -> Result<Region, Fail> {
-    let shapes = shapes_of(alloc, &ANGLE_AND_BAR)?;
-    Ok(Region::of(alloc, &shapes, layer)?)
+fn region(alloc: Global, shapes: &Shapes, layer: Layer) -> Result<Region, NoMemory> {
+    Region::of(alloc, shapes, layer)
 }
 
 fn has_blocks(region: &Region, want: &[Block]) -> bool {
@@ -100,17 +122,38 @@ fn first_around(alloc: Global, region: &Region) -> Result<Option<Place>, NoMemor
     Ok(region.grown(alloc, 2)?.first_cell())
 }
 
+fn are_put_together(alloc: Global, angle: &Region, bar: &Region) -> Result<bool, NoMemory> {
+    Ok(
+        has_blocks(
+            angle,
+            &[block(0, 0, 10, 2), block(0, 2, 4, 5), block(0, 5, 2, 8)],
+        ) && is_both(alloc, angle, bar, &[block(1, 4, 4, 5), block(1, 5, 2, 6)])?
+            && is_minus(alloc, bar, angle, &[block(4, 4, 6, 5), block(2, 5, 6, 6)])?
+            && is_turned(alloc, bar, &[block(4, 1, 6, 6)])?
+            && first_around(alloc, bar)? == Some(Place { x: -1, y: 2 })
+            && is_minus(alloc, bar, bar, &[])?,
+    )
+}
+
+fn are_beside(alloc: Global, angle: &Region, shapes: &Shapes) -> Result<bool, NoMemory> {
+    let bar = region(alloc, shapes, Layer::Poly)?;
+    let are = are_put_together(alloc, angle, &bar);
+    drop(bar);
+    are
+}
+
+fn are_regions(alloc: Global, shapes: &Shapes) -> Result<bool, NoMemory> {
+    let angle = region(alloc, shapes, Layer::Metal1)?;
+    let are = are_beside(alloc, &angle, shapes);
+    drop(angle);
+    are
+}
+
 #[test]
 fn regions_put_together(rt: HostRuntime) -> Result<(), Fail> {
-    let alloc = rt.alloc();
-    let angle = region(alloc, Layer::Metal1)?;
-    let bar = region(alloc, Layer::Poly)?;
-    let blocks = [block(0, 0, 10, 2), block(0, 2, 4, 5), block(0, 5, 2, 8)];
-    assert!(rt; has_blocks(&angle, &blocks));
-    assert!(rt; is_both(alloc, &angle, &bar, &[block(1, 4, 4, 5), block(1, 5, 2, 6)])?);
-    assert!(rt; is_minus(alloc, &bar, &angle, &[block(4, 4, 6, 5), block(2, 5, 6, 6)])?);
-    assert!(rt; is_turned(alloc, &bar, &[block(4, 1, 6, 6)])?);
-    assert!(rt; first_around(alloc, &bar)? == Some(Place { x: -1, y: 2 }));
-    assert!(rt; is_minus(alloc, &bar, &bar, &[])?);
+    let shapes = shapes_of(rt.alloc(), &ANGLE_AND_BAR)?;
+    let are = are_regions(rt.alloc(), &shapes);
+    drop(shapes);
+    assert!(rt; are?);
     Ok(())
 }

@@ -1,10 +1,13 @@
-ghost use Rattle.std.specs.Prelude.{◌≤◌, IfOk, length};
+ghost use Rattle.std.specs.Prelude.{◌≤◌, ◌<◌, IfOk, length};
 ghost use Rattle.cell_num.specs.Pins.{ArePins};
 ghost use Rattle.cell_draw.specs.Sound.{IsSoundRow};
 
-use crate::cells::{Cell, N_FINGER, P_FINGER, are_labels, are_shapes, drawn};
+use crate::cells::{Cell, Form, N_FINGER, P_FINGER, are_labels, are_shapes, drawn};
+use crate::inverters::pin_names;
+use crate::texts::add_name;
 use box_geom::Layer;
-use cell_num::{Finger, Names, NetNo, NoMemory, Pins, copy};
+use cell_draw::Drawing;
+use cell_num::{Finger, NetNo, NoMemory, Pins};
 use row_model::{Arrangement, Column, Placed};
 use std::alloc::Global;
 use std::test::Fail;
@@ -31,13 +34,10 @@ fn halves(alloc: Global) -> Result<Cell, NoMemory>
     ensures sound { IfOk result (λ cell. IsSoundRow cell.names cell.pins cell.row) }
     ensures pins { IfOk result (λ cell. ArePins (length cell.names) cell.pins) }
     ensures few { IfOk result (λ cell. length cell.row ≤ 32) }
+    ensures some { IfOk result (λ cell. 0 < length cell.row) }
 {
-    let mut names = Names::new(alloc);
-    names.push(copy(alloc, b"a")?)?;
-    names.push(copy(alloc, b"y")?)?;
-    names.push(copy(alloc, b"vdd")?)?;
-    names.push(copy(alloc, b"gnd")?)?;
-    names.push(copy(alloc, b"b")?)?;
+    let mut names = pin_names(alloc)?;
+    add_name(alloc, &mut names, b"b")?;
     let mut row = Arrangement::new(alloc);
     row.push(LEFT)?;
     row.push(RIGHT)?;
@@ -94,12 +94,29 @@ const NAMED: [(&[u8], [i32; 2]); 5] = [
     (b"b", [50, 54]),
 ];
 
+fn is_drawing(drawing: &Drawing) -> bool {
+    (drawing.width, drawing.height) == (72, 134)
+        && are_shapes(drawing.shapes.rects.as_slice(), &HALVES)
+        && are_labels(drawing.shapes.labels.as_slice(), &NAMED)
+}
+
+fn is_drawn(alloc: Global, cell: &Cell) -> bool
+    requires sound { IsSoundRow cell.now.names cell.now.pins cell.now.row }
+    requires pins { ArePins (length cell.now.names) cell.now.pins }
+    requires few { length cell.now.row ≤ 32 }
+    requires some { 0 < length cell.now.row }
+{
+    match drawn(alloc, cell, Form::Even) {
+        Ok(drawing) => is_drawing(&drawing),
+        Err(_) => false,
+    }
+}
+
 #[test]
 fn draws_half_columns(rt: HostRuntime) -> Result<(), Fail> {
     let cell = halves(rt.alloc())?;
-    let drawing = drawn(rt.alloc(), &cell, false, 0)??;
-    assert_eq!(rt; (drawing.width, drawing.height), (72, 134));
-    assert!(rt; are_shapes(drawing.shapes.rects.as_slice(), &HALVES));
-    assert!(rt; are_labels(drawing.shapes.labels.as_slice(), &NAMED));
+    let is = is_drawn(rt.alloc(), &cell);
+    drop(cell);
+    assert!(rt; is);
     Ok(())
 }

@@ -1,14 +1,33 @@
-ghost use Rattle.std.specs.Prelude.{◌≤◌, ◌<◌, IfOk, length};
+ghost use Rattle.std.specs.Prelude.{◌≡◌, ◌≤◌, ◌<◌, ◌∷◌, [], codes, IfOk, OnOk, length};
 ghost use Rattle.cell_num.specs.Pins.{ArePins};
 ghost use Rattle.cell_draw.specs.Sound.{IsSoundRow};
 
-use crate::cells::{COLUMN, Cell, PINS, are_labels, are_shapes, drawn, is_at};
+use crate::cells::{COLUMN, Cell, Form, PINS, are_labels, are_shapes, drawn, is_at};
+use crate::texts::add_name;
 use box_geom::{Layer, Shape};
-use cell_draw::{DrawFault, Drawing, MOST_HEIGHT};
-use cell_num::{Names, NoMemory, copy};
+use cell_draw::{DrawFault, Drawing};
+use cell_num::{Names, NoMemory};
 use row_model::Arrangement;
 use std::alloc::Global;
 use std::test::Fail;
+
+fn add_pins(alloc: Global, names: &mut Names) -> Result<(), NoMemory>
+    requires { names.old ≡ [] }
+    ensures { OnOk result (names.new ≡ codes "a" ∷ codes "y" ∷ codes "vdd" ∷ codes "gnd" ∷ []) }
+{
+    add_name(alloc, names, b"a")?;
+    add_name(alloc, names, b"y")?;
+    add_name(alloc, names, b"vdd")?;
+    add_name(alloc, names, b"gnd")
+}
+
+pub fn pin_names(alloc: Global) -> Result<Names, NoMemory>
+    ensures { IfOk result (λ names. names ≡ codes "a" ∷ codes "y" ∷ codes "vdd" ∷ codes "gnd" ∷ []) }
+{
+    let mut names = Names::new(alloc);
+    add_pins(alloc, &mut names)?;
+    Ok(names)
+}
 
 // The inverter, pins `a y vdd gnd`: its P finger is 20 wide, its N finger 10.
 #[tactic(auto, using(crate::proofs::Inverter::sound_if))]
@@ -18,11 +37,7 @@ pub fn inverter(alloc: Global) -> Result<Cell, NoMemory>
     ensures few { IfOk result (λ cell. length cell.row ≤ 32) }
     ensures some { IfOk result (λ cell. 0 < length cell.row) }
 {
-    let mut names = Names::new(alloc);
-    names.push(copy(alloc, b"a")?)?;
-    names.push(copy(alloc, b"y")?)?;
-    names.push(copy(alloc, b"vdd")?)?;
-    names.push(copy(alloc, b"gnd")?)?;
+    let names = pin_names(alloc)?;
     let mut row = Arrangement::new(alloc);
     row.push(COLUMN)?;
     Ok(Cell {
@@ -86,45 +101,63 @@ fn is_high(rects: &[Shape]) -> bool {
     HIGH.iter().all(|pair| is_at(rects.get(pair.0), pair.1))
 }
 
-// The inverter on its least or on even lines, of this height.
-fn drawing(alloc: Global, are_least: bool, height: u32) -> Result<Result<Drawing, DrawFault>, Fail>
-    requires { height ≤ MOST_HEIGHT }
+fn is_even(drawing: &Drawing) -> bool {
+    (drawing.width, drawing.height) == (44, 118)
+        && are_shapes(drawing.shapes.rects.as_slice(), &EVEN)
+        && are_labels(drawing.shapes.labels.as_slice(), &NAMED)
+}
+
+fn is_as_high(drawing: &Drawing, height: u32) -> bool {
+    (drawing.width, drawing.height) == (41, height)
+}
+
+// What a drawing of the inverter has to be.
+#[derive(Clone, Copy)]
+enum Want {
+    Even,
+    Least,
+    High,
+    TooTall,
+}
+
+fn is_wanted(drawing: &Drawing, want: &Want) -> bool {
+    match want {
+        Want::Even => is_even(drawing),
+        Want::Least => is_as_high(drawing, 118),
+        Want::High => is_as_high(drawing, 130) && is_high(drawing.shapes.rects.as_slice()),
+        Want::TooTall => false,
+    }
+}
+
+fn is_refused(fault: &DrawFault, want: &Want) -> bool {
+    match (fault, want) {
+        (DrawFault::TooTall { needed, given }, Want::TooTall) => [*needed, *given] == [118, 117],
+        _ => false,
+    }
+}
+
+// Whether the inverter is drawn so on its least or on even lines, of this height.
+fn is_drawn(alloc: Global, cell: &Cell, form: Form, want: &Want) -> bool
+    requires sound { IsSoundRow cell.now.names cell.now.pins cell.now.row }
+    requires pins { ArePins (length cell.now.names) cell.now.pins }
+    requires few { length cell.now.row ≤ 32 }
+    requires some { 0 < length cell.now.row }
 {
-    drawn(alloc, &inverter(alloc)?, are_least, height)
+    match drawn(alloc, cell, form) {
+        Ok(drawing) => is_wanted(&drawing, want),
+        Err(fault) => is_refused(&fault, want),
+    }
 }
 
 #[test]
 fn draws_an_inverter(rt: HostRuntime) -> Result<(), Fail> {
-    let drawing = drawing(rt.alloc(), false, 0)??;
-    assert_eq!(rt; (drawing.width, drawing.height), (44, 118));
-    assert!(rt; are_shapes(drawing.shapes.rects.as_slice(), &EVEN));
-    assert!(rt; are_labels(drawing.shapes.labels.as_slice(), &NAMED));
-    Ok(())
-}
-
-// Whether the inverter on its least lines is of this height.
-fn is_as_high(alloc: Global, height: u32) -> Result<bool, Fail>
-    requires { height ≤ MOST_HEIGHT }
-{
-    let drawing = drawing(alloc, true, height)??;
-    Ok(drawing.width == 41 && drawing.height == height)
-}
-
-#[test]
-fn draws_a_high_inverter(rt: HostRuntime) -> Result<(), Fail> {
     let alloc = rt.alloc();
-    assert!(rt; is_as_high(alloc, 118)?);
-    assert!(rt; is_as_high(alloc, 130)?);
-    let high = drawing(alloc, true, 130)??;
-    assert!(rt; is_high(high.shapes.rects.as_slice()));
-    assert!(rt;
-        matches!(
-            drawing(alloc, true, 117)?,
-            Err(DrawFault::TooTall {
-                needed: 118,
-                given: 117
-            })
-        )
-    );
+    let cell = inverter(alloc)?;
+    let is = is_drawn(alloc, &cell, Form::Even, &Want::Even)
+        && is_drawn(alloc, &cell, Form::Least(118), &Want::Least)
+        && is_drawn(alloc, &cell, Form::Least(130), &Want::High)
+        && is_drawn(alloc, &cell, Form::Least(117), &Want::TooTall);
+    drop(cell);
+    assert!(rt; is);
     Ok(())
 }

@@ -14,6 +14,8 @@ mod bodies;
 #[cfg(test)]
 mod cells;
 #[cfg(test)]
+mod chains;
+#[cfg(test)]
 mod channels;
 #[cfg(test)]
 mod columns;
@@ -49,3 +51,5 @@ mod references;
 mod rules;
 #[cfg(test)]
 mod taps;
+#[cfg(test)]
+mod texts;

@@ -1,8 +1,11 @@
 ghost use Rattle.std.specs.Prelude.{◌≤◌, IfOk, All};
 ghost use Rattle.gds_write.specs.Written.{IsWritableShape, IsWritableLabel};
 
+use crate::cells::{are_labels, are_shapes};
+use crate::drawings::Sides;
+use crate::texts::{is_joined, joined};
 use box_geom::{Label, LabelList, Layer, Rect, Shape, ShapeList, Shapes};
-use cell_num::{Name, copy};
+use cell_num::{Name, NoMemory, copy};
 use gds_read::{GdsFault, read_cell};
 use gds_write::write_cell;
 use std::alloc::Global;
@@ -33,28 +36,51 @@ const ELEMENTS: [u8; 102] = [
     0x61, 0x00, 0x00, 0x04, 0x11, 0x00,
 ];
 
-/// A library whose structure has these elements.
-pub fn library(alloc: Global, elements: &[u8]) -> Result<Vec<u8>, Fail> {
-    let mut bytes = Vec::new(alloc);
-    bytes.extend_from_slice(&HEAD)?;
-    bytes.extend_from_slice(elements)?;
-    bytes.extend_from_slice(&TAIL)?;
-    Ok(bytes)
+/// The cell of that name. It has no clauses, so that the reader's stay out of the tests' proofs.
+pub fn read(alloc: Global, bytes: &[u8], name: &[u8], lambda_nm: u32) -> Result<Shapes, GdsFault>
+    requires { 1 ≤ lambda_nm }
+{
+    let name = copy(alloc, name)?;
+    read_cell(alloc, &bytes[..bytes.len().min(200_000)], &name, lambda_nm)
 }
 
-/// What is read of the bytes.
-pub fn read(
+/// Whether the cell has these rectangles and no labels.
+pub fn shows(
     alloc: Global,
     bytes: &[u8],
     name: &[u8],
     lambda_nm: u32,
-) -> Result<Result<Shapes, GdsFault>, Fail>
+    rects: &[(Layer, Sides)],
+) -> bool
     requires { 1 ≤ lambda_nm }
 {
-    if bytes.len() > 200_000 {
-        return Err(Fail::from("a long file"));
+    match read(alloc, bytes, name, lambda_nm) {
+        Ok(shapes) => {
+            are_shapes(shapes.rects.as_slice(), rects) && shapes.labels.as_slice().is_empty()
+        }
+        Err(_) => false,
     }
-    Ok(read_cell(alloc, bytes, &copy(alloc, name)?, lambda_nm))
+}
+
+fn is_printed(alloc: Global, fault: &GdsFault, want: &str) -> Result<bool, Fail> {
+    let text = format!(in alloc; "{fault:?}")?;
+    Ok(text.as_str() == want)
+}
+
+/// Whether the cell is refused by this fault.
+pub fn is_refused(
+    alloc: Global,
+    bytes: &[u8],
+    name: &[u8],
+    lambda_nm: u32,
+    fault: &str,
+) -> Result<bool, Fail>
+    requires { 1 ≤ lambda_nm }
+{
+    match read(alloc, bytes, name, lambda_nm) {
+        Ok(_) => Ok(false),
+        Err(found) => is_printed(alloc, &found, fault),
+    }
 }
 
 fn rects_of(alloc: Global) -> Result<ShapeList, Fail>
@@ -97,93 +123,104 @@ fn drawing(alloc: Global) -> Result<Shapes, Fail>
     Ok(Shapes { rects, labels })
 }
 
-pub fn is_refused(read: &Result<Shapes, GdsFault>, want: &GdsFault) -> bool {
-    match read {
-        Ok(_) => false,
-        Err(fault) => fault == want,
-    }
-}
-
-fn refuses(
-    alloc: Global,
-    bytes: &[u8],
-    name: &[u8],
-    lambda_nm: u32,
-    fault: &GdsFault,
-) -> Result<bool, Fail>
-    requires { 1 ≤ lambda_nm }
+fn write(alloc: Global, shapes: &Shapes) -> Result<Vec<u8>, NoMemory>
+    requires rects { All (IsWritableShape 150) shapes.now.rects }
+    requires labels { All (IsWritableLabel 150) shapes.now.labels }
 {
-    let read = read(alloc, bytes, name, lambda_nm)?;
-    Ok(is_refused(&read, fault))
+    let mut name = Name::new(alloc);
+    name.extend(b"inv")?;
+    write_cell(alloc, &name, shapes, 150)
 }
 
 fn written(alloc: Global) -> Result<Vec<u8>, Fail> {
-    let mut name = Name::new(alloc);
-    name.extend(b"inv")?;
-    Ok(write_cell(alloc, &name, &drawing(alloc)?, 150)?)
+    let shapes = drawing(alloc)?;
+    Ok(write(alloc, &shapes)?)
 }
 
-// Whether what is read is what was written.
-fn is_read_again(alloc: Global, bytes: &[u8]) -> Result<bool, Fail> {
-    let read = read(alloc, bytes, b"inv", 300)?;
-    Ok(read == Ok(drawing(alloc)?))
+fn is_drawing(alloc: Global, bytes: &[u8]) -> bool {
+    match read(alloc, bytes, b"inv", 300) {
+        Ok(shapes) => {
+            are_shapes(
+                shapes.rects.as_slice(),
+                &[(Layer::Well, [-10, 62, 54, 118])],
+            ) && are_labels(shapes.labels.as_slice(), &[(b"a", [22, 54])])
+        }
+        Err(_) => false,
+    }
+}
+
+// Whether the bytes are those of the well and the label, and read so.
+fn is_whole(alloc: Global, bytes: &[u8]) -> Result<bool, Fail> {
+    Ok(
+        is_joined(bytes, &[&HEAD, &ELEMENTS, &TAIL])
+            && is_drawing(alloc, bytes)
+            && is_refused(alloc, bytes, b"inv", 280, "Grid { at: 118 }")?
+            && is_refused(alloc, bytes, b"in", 300, "NoCell")?,
+    )
 }
 
 #[test]
 fn well_and_label(rt: HostRuntime) -> Result<(), Fail> {
-    let alloc = rt.alloc();
-    let bytes = written(alloc)?;
-    assert!(rt; bytes == library(alloc, &ELEMENTS)?);
-    assert!(rt; is_read_again(alloc, &bytes)?);
-    assert!(rt; refuses(alloc, &bytes, b"inv", 280, &GdsFault::Grid { at: 118 })?);
-    assert!(rt; refuses(alloc, &bytes, b"in", 300, &GdsFault::NoCell)?);
+    let bytes = written(rt.alloc())?;
+    let is = is_whole(rt.alloc(), &bytes);
+    drop(bytes);
+    assert!(rt; is?);
     Ok(())
 }
 
 // The library with one byte changed.
 fn changed(alloc: Global, at: usize, value: u8) -> Result<Vec<u8>, Fail> {
-    let mut bytes = library(alloc, &ELEMENTS)?;
+    let mut bytes = joined(alloc, &[&HEAD, &ELEMENTS, &TAIL])?;
     if let Some(byte) = bytes.get_mut(at) {
         *byte = value;
     }
     Ok(bytes)
 }
 
+// Whether the front of the library with one byte changed is refused so.
+fn is_changed(alloc: Global, at: usize, value: u8, len: usize, fault: &str) -> Result<bool, Fail> {
+    let bytes = changed(alloc, at, value)?;
+    let front = bytes.get(..len).unwrap_or(&[]);
+    let is = is_refused(alloc, front, b"inv", 300, fault);
+    drop(bytes);
+    is
+}
+
+// A place, the byte there, how many bytes there are, and the fault.
+const CHANGED: [(usize, u8, usize, &str); 7] = [
+    (58, 0xb9, 212, "Unit { picometres: 0 }"),
+    (104, 0x11, 212, "Order { at: 102, code: 17 }"),
+    (104, 0x0b, 212, "Reference { at: 102 }"),
+    (105, 2, 212, "Kind { at: 102, code: 8 }"),
+    (107, 7, 212, "Length { at: 106 }"),
+    (210, 1, 212, "Order { at: 208, code: 1 }"),
+    (0, 0, 210, "Cut { at: 208 }"),
+];
+
 #[test]
 fn changed_bytes_are_refused(rt: HostRuntime) -> Result<(), Fail> {
-    let alloc = rt.alloc();
-    for (at, value, fault) in &[
-        (58, 0xb9, GdsFault::Unit { picometres: 0 }),
-        (104, 0x11, GdsFault::Order { at: 102, code: 17 }),
-        (104, 0x0b, GdsFault::Reference { at: 102 }),
-        (105, 2, GdsFault::Kind { at: 102, code: 8 }),
-        (107, 7, GdsFault::Length { at: 106 }),
-        (210, 1, GdsFault::Order { at: 208, code: 1 }),
-    ] {
-        let bytes = changed(alloc, *at, *value)?;
-        assert!(rt; refuses(alloc, &bytes, b"inv", 300, fault)?, "{at} {value}");
+    for (at, value, len, fault) in &CHANGED {
+        assert!(rt;
+            is_changed(rt.alloc(), *at, *value, *len, fault)?,
+            "{fault}"
+        );
     }
-    let mut cut = library(alloc, &ELEMENTS)?;
-    cut.truncate(210);
-    assert!(rt; refuses(alloc, &cut, b"inv", 300, &GdsFault::Cut { at: 208 })?);
     Ok(())
 }
 
-// The structure and its end stand once more behind the first ones.
-fn twice(alloc: Global) -> Result<Vec<u8>, Fail> {
-    let mut bytes = Vec::new(alloc);
-    bytes.extend_from_slice(&HEAD)?;
-    bytes.extend_from_slice(&TAIL[..4])?;
-    bytes.extend_from_slice(&HEAD[66..])?;
-    bytes.extend_from_slice(&TAIL)?;
-    Ok(bytes)
+fn is_twice(alloc: Global, bytes: &[u8]) -> bool {
+    match read(alloc, bytes, b"inv", 300) {
+        Err(GdsFault::Twice { name }) => name.as_slice() == b"inv".as_slice(),
+        _ => false,
+    }
 }
 
+// The structure and its end stand once more behind the first ones.
 #[test]
 fn a_second_structure_is_refused(rt: HostRuntime) -> Result<(), Fail> {
-    let alloc = rt.alloc();
-    let bytes = twice(alloc)?;
-    let name = copy(alloc, b"inv")?;
-    assert!(rt; refuses(alloc, &bytes, b"inv", 300, &GdsFault::Twice { name })?);
+    let bytes = joined(rt.alloc(), &[&HEAD, &TAIL[..4], &HEAD[66..], &TAIL])?;
+    let is = is_twice(rt.alloc(), &bytes);
+    drop(bytes);
+    assert!(rt; is);
     Ok(())
 }

@@ -1,15 +1,16 @@
 // Cells that are routed and drawn in pieces.
 
-ghost use Rattle.std.specs.Prelude.{◌≤◌, IfOk, length};
+ghost use Rattle.std.specs.Prelude.{◌≤◌, ◌<◌, IfOk, length};
 ghost use Rattle.cell_num.specs.Pins.{ArePins};
 ghost use Rattle.row_place.specs.Places.{IsPlacement};
+ghost use Rattle.row_place.specs.Trunks.{HasPins};
 ghost use Rattle.row_compact.specs.Allowed.{AreAllowed, stretches_of};
 ghost use Rattle.dogleg_route.specs.Routings.{ArePiecesLegal};
 ghost use Rattle.cell_draw.specs.Sound.{IsSoundRow};
 
-use crate::cells::{Cell, drawn};
+use crate::cells::{Cell, Form, drawn};
 use crate::inverters::inverter;
-use cell_draw::{Drawing, MOST_X};
+use cell_draw::{DrawFault, Drawing, MOST_X};
 use cell_num::{NoMemory, Pins};
 use dogleg_route::{PieceRouting, draw_pieces, piece_distances, route_pieces};
 use row_compact::{LineXs, least_lines, lines_of, x_of};
@@ -31,35 +32,74 @@ fn lines(
     least_lines(alloc, &distances)
 }
 
+fn drawn_by(
+    alloc: Global,
+    cell: &Cell,
+    placement: &Placement,
+    routing: &PieceRouting,
+) -> Result<Drawing, DrawFault>
+    requires placement { IsPlacement placement.now }
+    requires row { IsSoundRow cell.now.names cell.now.pins placement.now.row }
+    requires routing { ArePiecesLegal placement.now cell.now.pins routing.now }
+{
+    let xs = lines(alloc, placement, routing, &cell.pins)?;
+    if x_of(xs.as_slice(), lines_of(placement) - 1) > MOST_X {
+        return Err(DrawFault::NoMemory);
+    }
+    draw_pieces(alloc, &cell.names, &cell.pins, placement, routing, &xs, 0)
+}
+
+fn drawn_in(alloc: Global, cell: &Cell, placement: &Placement) -> Result<Drawing, DrawFault>
+    requires placement { IsPlacement placement.now }
+    requires row { IsSoundRow cell.now.names cell.now.pins placement.now.row }
+    requires pins { HasPins placement.now cell.now.pins }
+{
+    match route_pieces(alloc, placement, &cell.pins) {
+        Ok(routing) => drawn_by(alloc, cell, placement, &routing),
+        Err(_) => Err(DrawFault::NoMemory),
+    }
+}
+
 // A cell on its least lines. A cycle gives NoMemory, which no row of the tests expects.
-fn drawn_in_pieces(alloc: Global, cell: &Cell) -> Result<Drawing, Fail>
+fn drawn_in_pieces(alloc: Global, cell: &Cell) -> Result<Drawing, DrawFault>
     requires sound { IsSoundRow cell.now.names cell.now.pins cell.now.row }
     requires pins { ArePins (length cell.now.names) cell.now.pins }
     requires few { length cell.now.row ≤ 32 }
 {
     let placement = place(alloc, &cell.row)?;
-    let Ok(routing) = route_pieces(alloc, &placement, &cell.pins) else {
-        return Err(Fail::from(NoMemory));
-    };
-    let xs = lines(alloc, &placement, &routing, &cell.pins)?;
-    if x_of(xs.as_slice(), lines_of(&placement) - 1) > MOST_X {
-        return Err(Fail::from(NoMemory));
-    }
-    match draw_pieces(alloc, &cell.names, &cell.pins, &placement, &routing, &xs, 0) {
-        Ok(drawing) => Ok(drawing),
-        Err(_) => Err(Fail::from(NoMemory)),
-    }
+    let drawing = drawn_in(alloc, cell, &placement);
+    drop(placement);
+    drawing
+}
+
+fn is_drawn(alloc: Global, cell: &Cell, pieces: &Drawing) -> Result<bool, DrawFault>
+    requires sound { IsSoundRow cell.now.names cell.now.pins cell.now.row }
+    requires pins { ArePins (length cell.now.names) cell.now.pins }
+    requires few { length cell.now.row ≤ 32 }
+    requires some { 0 < length cell.now.row }
+{
+    let trunks = drawn(alloc, cell, Form::Least(0))?;
+    Ok(trunks == *pieces)
+}
+
+fn are_same(alloc: Global, cell: &Cell) -> Result<bool, DrawFault>
+    requires sound { IsSoundRow cell.now.names cell.now.pins cell.now.row }
+    requires pins { ArePins (length cell.now.names) cell.now.pins }
+    requires few { length cell.now.row ≤ 32 }
+    requires some { 0 < length cell.now.row }
+{
+    let pieces = drawn_in_pieces(alloc, cell)?;
+    let is = is_drawn(alloc, cell, &pieces);
+    drop(pieces);
+    is
 }
 
 // Its nets have no inner places, so it is drawn as with trunks.
 #[test]
 fn draws_the_inverter_in_pieces(rt: HostRuntime) -> Result<(), Fail> {
     let cell = inverter(rt.alloc())?;
-    let pieces = drawn_in_pieces(rt.alloc(), &cell)?;
-    let trunks = drawn(rt.alloc(), &cell, true, 0)?;
-    let Ok(trunks) = trunks else {
-        return Err(Fail::from(NoMemory));
-    };
-    assert!(rt; pieces == trunks);
+    let are = are_same(rt.alloc(), &cell);
+    drop(cell);
+    assert!(rt; are?);
     Ok(())
 }

@@ -1,5 +1,5 @@
-// Desks in memory and the desk of the system. Each helper makes one call and has no clause, which keeps what desks promise
-// out of the tests.
+// Desks in memory and the desk of the system. Each helper makes one call and has no clause, which keeps what desks
+// promise out of the tests.
 use cell_io::{
     CallList, Desk, DeskAnswer, File, FileList, HostDesk, MemDesk, ReadFault, SteadyDesk,
     WriteFault, append_all, read_all, read_memory, say_all, write_all,

@@ -1,5 +1,5 @@
-// Worked examples of the readers, of folding, and of the words and desks below them. They stand here, since a crate with
-// tests is proved twice.
+// Worked examples of the readers, of folding, and of the words and desks below them. They stand here, since a crate
+// with tests is proved twice.
 #![tactic(auto)]
 
 #[cfg(test)]
