@@ -3,7 +3,7 @@ use Rattle.cell_draw.specs.Layouts.{width_of}
 use Rattle.well_tap.proofs.Drawn.{framed_base, spread_wired}
 use Rattle.layout_tests.proofs.cells.tapped.Goals as goal
 
-pub with_taps-drawing-requires-clause-base : goal.with_taps-requires-clause-base
+pub with_taps-drawing-requires-clause-base : goal.with_taps-drawing-requires-clause-base
 with_taps-drawing-requires-clause-base c =
     let p = c.args.placement.now in
     let r = c.args.routing.now in
