@@ -1,22 +1,9 @@
-ghost use Rattle.std.specs.Prelude.{◌≤◌};
-
 use bench_run::{Tally, bench};
-use std::alloc::Global;
-
-// It has no other clauses, so that those of `bench` stay out of the test's proof.
-fn counts(alloc: Global, number: u32, want: Tally) -> bool
-    requires some { 1 ≤ number }
-    requires few { number ≤ 200 }
-{
-    match bench(alloc, number) {
-        Ok(tally) => tally == want,
-        Err(_) => false,
-    }
-}
+use std::test::Fail;
 
 // The counts that another program came to by the same rules.
 #[test]
-fn counts_cells(rt: HostRuntime) {
+fn counts_cells(rt: HostRuntime) -> Result<(), Fail> {
     let first = Tally {
         made: 1,
         columns: 3,
@@ -24,7 +11,7 @@ fn counts_cells(rt: HostRuntime) {
         bytes: 3_962,
         ..Tally::nothing()
     };
-    assert!(rt; counts(rt.alloc(), 1, first));
+    assert!(rt; bench(rt.alloc(), 1)? == first);
     let twelve = Tally {
         made: 12,
         columns: 69,
@@ -33,5 +20,6 @@ fn counts_cells(rt: HostRuntime) {
         bytes: 82_370,
         ..Tally::nothing()
     };
-    assert!(rt; counts(rt.alloc(), 12, twelve));
+    assert!(rt; bench(rt.alloc(), 12)? == twelve);
+    Ok(())
 }

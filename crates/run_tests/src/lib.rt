@@ -6,8 +6,6 @@ mod agrees;
 #[cfg(test)]
 mod benches;
 #[cfg(test)]
-mod calls;
-#[cfg(test)]
 mod cells;
 #[cfg(test)]
 mod damaged;

@@ -1,5 +1,5 @@
-use crate::calls::{End, Said, ends};
-use crate::setup::{INVERTER, tells};
+use crate::setup::{INVERTER, call, desk_with, tells};
+use cell_num::{List, Name};
 use cell_run::Status;
 use std::alloc::Global;
 use std::test::Fail;
@@ -92,7 +92,7 @@ const CALLS: [(&str, Status, &str); 21] = [
 fn says_what_the_words_ask_for(rt: HostRuntime) -> Result<(), Fail> {
     for (words, status, said) in &CALLS {
         assert!(rt;
-            tells(rt.alloc(), words, ["", INVERTER, ""], *status, &[said])?,
+            tells(rt.alloc(), words, ["", INVERTER, ""], *status, said)?,
             "{words}"
         );
     }
@@ -107,60 +107,37 @@ fn ends_long(
     status: Status,
     said: &str,
 ) -> Result<bool, Fail> {
-    let comment = vec![in alloc; b'#'; tech]?;
-    let is = ends_starred(alloc, &comment, spice, status, said);
-    drop(comment);
-    is
+    let comment = List::from_vec(vec![in alloc; b'#'; tech]?);
+    let stars = List::from_vec(vec![in alloc; b'*'; spice]?);
+    let mut desk = desk_with(alloc, comment, stars, Name::new(alloc), &[])?;
+    let got = call(alloc, "plan t.toml c.sp inv", &mut desk)?;
+    Ok(got == status && desk.all_said() == said.as_bytes())
 }
-
-fn ends_starred(
-    alloc: Global,
-    tech: &[u8],
-    spice: usize,
-    status: Status,
-    said: &str,
-) -> Result<bool, Fail> {
-    let stars = vec![in alloc; b'*'; spice]?;
-    let said = [said];
-    let end = End {
-        status,
-        said: Said::Whole(&said),
-        files: &[],
-    };
-    let given = [("t.toml", tech), ("c.sp", stars.as_slice())];
-    let is = ends(alloc, "plan t.toml c.sp inv", &given, &[], &end);
-    drop(stars);
-    is
-}
-
-const LONG: [(usize, usize, Status, &str); 3] = [
-    (
-        0,
-        4_194_304,
-        Status::Input,
-        "status 4 input\nspice NoCell\n",
-    ),
-    (
-        4_194_304,
-        4_194_305,
-        Status::TooLong,
-        "status 10 long c.sp\n",
-    ),
-    (
-        4_194_305,
-        4_194_305,
-        Status::TooLong,
-        "status 10 long t.toml\n",
-    ),
-];
 
 #[test]
 fn refuses_long_files(rt: HostRuntime) -> Result<(), Fail> {
-    for (tech, spice, status, said) in &LONG {
-        assert!(rt;
-            ends_long(rt.alloc(), *tech, *spice, *status, said)?,
-            "{said}"
-        );
+    let alloc = rt.alloc();
+    for (tech, spice, status, said) in &[
+        (
+            0,
+            4_194_304,
+            Status::Input,
+            "status 4 input\nspice NoCell\n",
+        ),
+        (
+            4_194_304,
+            4_194_305,
+            Status::TooLong,
+            "status 10 long c.sp\n",
+        ),
+        (
+            4_194_305,
+            4_194_305,
+            Status::TooLong,
+            "status 10 long t.toml\n",
+        ),
+    ] {
+        assert!(rt; ends_long(alloc, *tech, *spice, *status, said)?, "{said}");
     }
     Ok(())
 }
