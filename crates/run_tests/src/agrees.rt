@@ -1,101 +1,120 @@
-use crate::setup::{INVERTER, call, name_of, run_over};
-use cell_io::{CallList, File, FileList, MemDesk};
-use cell_num::List;
+use crate::calls::{End, Said, ends, made_file};
+use crate::setup::{INVERTER, inputs};
 use cell_run::Status;
 use std::alloc::Global;
 use std::test::Fail;
 
-// The library and the abstract of a made inverter.
-fn made(alloc: Global) -> Result<(Vec<u8>, Vec<u8>), Fail> {
-    let (_, desk) = run_over(alloc, "make - c.sp inv out", ["", INVERTER, ""], &[])?;
-    let (Some(gds), Some(lef)) = (desk.file("out.gds"), desk.file("out.lef")) else {
-        return Err(Fail::from("no inverter"));
+// A file of a made inverter.
+fn made(alloc: Global, name: &str) -> Result<Vec<u8>, Fail> {
+    let end = End {
+        status: Status::Done,
+        said: Said::First("status 0 ok\ncell inv\n"),
+        files: &[],
     };
-    Ok((gds.to_vec(alloc)?, lef.to_vec(alloc)?))
+    made_file(
+        alloc,
+        "make - c.sp inv out",
+        &inputs(["", INVERTER, ""]),
+        &[],
+        &end,
+        name,
+    )
 }
 
-// A desk with the library and this abstract.
-fn desk_of(alloc: Global, gds: &[u8], lef: &[u8]) -> Result<MemDesk, Fail> {
-    let mut files = FileList::new(alloc);
-    for (name, bytes) in &[("c.gds", gds), ("c.lef", lef)] {
-        files.push(File {
-            name: name_of(alloc, name)?,
-            bytes: List::from_vec(bytes.to_vec(alloc)?),
-        })?;
-    }
-    Ok(MemDesk::new(alloc, files, CallList::new(alloc)))
-}
-
-// Whether the words end so over these files.
+// Whether the words end so over a library and an abstract.
 fn ends_so(
     alloc: Global,
     words: &str,
-    gds: &[u8],
-    lef: &[u8],
+    [gds, lef]: [&[u8]; 2],
     status: Status,
-    said: &str,
+    said: &[&str],
 ) -> Result<bool, Fail> {
-    let mut desk = desk_of(alloc, gds, lef)?;
-    let got = call(alloc, words, &mut desk)?;
-    Ok(got == status && desk.all_said() == said.as_bytes())
+    let end = End {
+        status,
+        said: Said::Whole(said),
+        files: &[],
+    };
+    ends(alloc, words, &[("c.gds", gds), ("c.lef", lef)], &[], &end)
 }
 
-// The abstract that was made with the drawing agrees with it, but for a cell of another name.
+const CALLS: [(&str, Status, &str); 4] = [
+    (
+        "agree - c.gds c.lef inv",
+        Status::Done,
+        "status 0 ok\ncell inv\npins 4\nports 4\nobstructions 6\n",
+    ),
+    (
+        "agree - c.gds c.lef INV",
+        Status::Layout,
+        "status 9 layout\ngds NoCell\n",
+    ),
+    (
+        "agree - c.gds d.lef inv",
+        Status::ReadFault,
+        "status 2 read d.lef\n",
+    ),
+    (
+        "agree - d.gds d.lef inv",
+        Status::ReadFault,
+        "status 2 read d.gds\n",
+    ),
+];
+
+const DIFFERENT: [(&str, &str); 6] = [
+    ("", "lef NoMacro\n"),
+    ("MACRO inv\nPIN a\n", "lef Cut\n"),
+    ("MACRO inv\nDENSITY\n", "lef Statement line 2\n"),
+    (
+        "MACRO inv\nPIN b\nEND b\nEND inv\n",
+        "agree NoLabel name b\n",
+    ),
+    (
+        "MACRO inv\nPIN a\nPORT\nLAYER metal1 ;\nRECT 0 0 1.5 1.5 ;\nEND\nEND a\nEND inv\n",
+        "agree Port name a x 0 y 0\n",
+    ),
+    ("MACRO inv\nEND inv\n", "agree Bare layer metal1 x 0 y 0\n"),
+];
+
+fn are_agreed(alloc: Global, gds: &[u8], lef: &[u8]) -> Result<bool, Fail> {
+    for (words, status, said) in &CALLS {
+        if !ends_so(alloc, words, [gds, lef], *status, &[said])? {
+            return Ok(false);
+        }
+    }
+    Ok(true)
+}
+
+fn are_different(alloc: Global, gds: &[u8]) -> Result<bool, Fail> {
+    for (lef, said) in &DIFFERENT {
+        let files = [gds, lef.as_bytes()];
+        if !ends_so(
+            alloc,
+            "agree - c.gds c.lef inv",
+            files,
+            Status::Disagree,
+            &["status 13 disagree\n", said],
+        )? {
+            return Ok(false);
+        }
+    }
+    Ok(true)
+}
+
+fn agrees_with(alloc: Global, gds: &[u8]) -> Result<bool, Fail> {
+    let lef = made(alloc, "out.lef")?;
+    let are = are_agreed(alloc, gds, &lef);
+    drop(lef);
+    Ok(are? && are_different(alloc, gds)?)
+}
+
+// The abstract that was made with the drawing agrees with it, but for a cell of another name; of others the first
+// difference is told.
 #[test]
 fn agrees_with_a_made_cell(rt: HostRuntime) -> Result<(), Fail> {
     let alloc = rt.alloc();
-    let (gds, lef) = made(alloc)?;
-    for (words, status, said) in &[
-        (
-            "agree - c.gds c.lef inv",
-            Status::Done,
-            "status 0 ok\ncell inv\npins 4\nports 4\nobstructions 6\n",
-        ),
-        (
-            "agree - c.gds c.lef INV",
-            Status::Layout,
-            "status 9 layout\ngds NoCell\n",
-        ),
-        (
-            "agree - c.gds d.lef inv",
-            Status::ReadFault,
-            "status 2 read d.lef\n",
-        ),
-        (
-            "agree - d.gds d.lef inv",
-            Status::ReadFault,
-            "status 2 read d.gds\n",
-        ),
-    ] {
-        assert!(rt; ends_so(alloc, words, &gds, &lef, *status, said)?, "{said}");
-    }
-    Ok(())
-}
-
-#[test]
-fn tells_the_first_difference(rt: HostRuntime) -> Result<(), Fail> {
-    let alloc = rt.alloc();
-    let (gds, _) = made(alloc)?;
-    for (lef, said) in &[
-        ("", "lef NoMacro\n"),
-        ("MACRO inv\nPIN a\n", "lef Cut\n"),
-        ("MACRO inv\nDENSITY\n", "lef Statement line 2\n"),
-        (
-            "MACRO inv\nPIN b\nEND b\nEND inv\n",
-            "agree NoLabel name b\n",
-        ),
-        (
-            "MACRO inv\nPIN a\nPORT\nLAYER metal1 ;\nRECT 0 0 1.5 1.5 ;\nEND\nEND a\nEND inv\n",
-            "agree Port name a x 0 y 0\n",
-        ),
-        ("MACRO inv\nEND inv\n", "agree Bare layer metal1 x 0 y 0\n"),
-    ] {
-        let said = format!(in alloc; "status 13 disagree\n{said}")?;
-        let words = "agree - c.gds c.lef inv";
-        assert!(rt;
-            ends_so(alloc, words, &gds, lef.as_bytes(), Status::Disagree, &said)?,
-            "{said}"
-        );
-    }
+    let gds = made(alloc, "out.gds")?;
+    let agrees = agrees_with(alloc, &gds);
+    drop(gds);
+    assert!(rt; agrees?);
     Ok(())
 }

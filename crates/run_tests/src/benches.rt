@@ -1,9 +1,22 @@
+ghost use Rattle.std.specs.Prelude.{◌≤◌};
+
 use bench_run::{Tally, bench};
-use std::test::Fail;
+use std::alloc::Global;
+
+// It has no other clauses, so that those of `bench` stay out of the test's proof.
+fn counts(alloc: Global, number: u32, want: Tally) -> bool
+    requires some { 1 ≤ number }
+    requires few { number ≤ 200 }
+{
+    match bench(alloc, number) {
+        Ok(tally) => tally == want,
+        Err(_) => false,
+    }
+}
 
 // The counts that another program came to by the same rules.
 #[test]
-fn counts_cells(rt: HostRuntime) -> Result<(), Fail> {
+fn counts_cells(rt: HostRuntime) {
     let first = Tally {
         made: 1,
         columns: 3,
@@ -11,7 +24,7 @@ fn counts_cells(rt: HostRuntime) -> Result<(), Fail> {
         bytes: 3_962,
         ..Tally::nothing()
     };
-    assert!(rt; bench(rt.alloc(), 1)? == first);
+    assert!(rt; counts(rt.alloc(), 1, first));
     let twelve = Tally {
         made: 12,
         columns: 69,
@@ -20,6 +33,5 @@ fn counts_cells(rt: HostRuntime) -> Result<(), Fail> {
         bytes: 82_370,
         ..Tally::nothing()
     };
-    assert!(rt; bench(rt.alloc(), 12)? == twelve);
-    Ok(())
+    assert!(rt; counts(rt.alloc(), 12, twelve));
 }

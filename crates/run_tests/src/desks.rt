@@ -1,42 +1,39 @@
 ghost use Rattle.std.specs.Prelude.{◌≤◌};
 
-use crate::setup::{HEAD, INVERTERS, LEMMA, LISTED, call, name_of};
-use cell_io::{CallList, File, FileList, MemDesk};
-use cell_num::List;
+use crate::calls::{End, Given, Said, call, desk_of, ends, made_file};
+use crate::setup::INVERTERS;
+use cell_io::MemDesk;
 use cell_run::Status;
 use std::alloc::Global;
 use std::test::Fail;
 
 const NAMES: [&str; 3] = ["out.clog", "out.gds", "out.lef"];
 
-fn add_file(alloc: Global, files: &mut FileList, name: &str, bytes: &[u8]) -> Result<(), Fail> {
-    let bytes = List::from_vec(bytes.to_vec(alloc)?);
-    let name = name_of(alloc, name)?;
-    Ok(files.push(File { name, bytes })?)
+const LOG: &str = "cellgen-log 1
+cell x3
+lemma 1 P 1,1,1 1,1,1 - -
+gaps 1
+column 0 0 0 0 0
+column 1 1 0 1 0
+column 2 2 1 2 1
+end
+";
+
+// A technology, three inverters, their log and their drawing.
+fn files_with(drawing: &[u8]) -> [Given; 4] {
+    [
+        ("t.toml", b"budget = 9\n"),
+        ("c.sp", INVERTERS.as_bytes()),
+        ("l.clog", LOG.as_bytes()),
+        ("c.gds", drawing),
+    ]
 }
 
-// A desk with a technology, three inverters, their log and their drawing, whose calls from the list fail.
-fn desk_over(alloc: Global, drawing: &[u8], fail: &[u64]) -> Result<MemDesk, Fail> {
-    let log = format!(in alloc; "{HEAD}{LEMMA}{LISTED}")?;
-    let mut files = FileList::new(alloc);
-    add_file(alloc, &mut files, "t.toml", b"budget = 9\n")?;
-    add_file(alloc, &mut files, "c.sp", INVERTERS.as_bytes())?;
-    add_file(alloc, &mut files, "l.clog", log.as_bytes())?;
-    add_file(alloc, &mut files, "c.gds", drawing)?;
-    let mut calls = CallList::new(alloc);
-    calls.extend(fail)?;
-    Ok(MemDesk::new(alloc, files, calls))
-}
-
-// The bytes of the three inverters' drawing.
-fn drawing(alloc: Global) -> Result<Vec<u8>, Fail> {
-    let mut desk = desk_over(alloc, &[], &[])?;
-    call(alloc, "make t.toml c.sp x3 out", &mut desk)?;
-    match desk.file("out.gds") {
-        Some(bytes) => Ok(bytes.to_vec(alloc)?),
-        None => Err(Fail::from("no drawing")),
-    }
-}
+const DONE: End = End {
+    status: Status::Done,
+    said: Said::First("status 0 ok\n"),
+    files: &[],
+};
 
 // Whether earlier files are whole, one is a front, and no later one is there.
 fn are_fronts(desk: &MemDesk, whole: &MemDesk) -> bool {
@@ -72,6 +69,11 @@ fn is_left_so(status: Status, desk: &MemDesk, whole: &MemDesk) -> bool {
     }
 }
 
+fn is_same(alloc: Global, words: &str, desk: &mut MemDesk, whole: &MemDesk) -> Result<bool, Fail> {
+    let status = call(alloc, words, desk)?;
+    Ok(status == Status::Done && are_same(desk, whole))
+}
+
 // Whether a desk that moves so many bytes a call ends the same.
 fn is_same_in_pieces(
     alloc: Global,
@@ -82,10 +84,22 @@ fn is_same_in_pieces(
 ) -> Result<bool, Fail>
     requires { 1 ≤ most }
 {
-    let mut desk = desk_over(alloc, drawing, &[])?;
+    let mut desk = desk_of(alloc, &files_with(drawing), &[])?;
     desk.cut(most);
-    let status = call(alloc, words, &mut desk)?;
-    Ok(status == Status::Done && are_same(&desk, whole))
+    let is = is_same(alloc, words, &mut desk, whole);
+    drop(desk);
+    is
+}
+
+fn is_failed(
+    alloc: Global,
+    words: &str,
+    desk: &mut MemDesk,
+    whole: &MemDesk,
+    is_reading: bool,
+) -> Result<bool, Fail> {
+    let status = call(alloc, words, desk)?;
+    Ok((status == Status::ReadFault) == is_reading && is_left_so(status, desk, whole))
 }
 
 // Whether the call of the desk fails so, and leaves what it may behind.
@@ -94,53 +108,83 @@ fn fails_so(
     words: &str,
     drawing: &[u8],
     whole: &MemDesk,
-    failing: u64,
-    reads: u64,
+    [failing, reads]: [u64; 2],
 ) -> Result<bool, Fail> {
-    let mut desk = desk_over(alloc, drawing, &[failing])?;
-    let status = call(alloc, words, &mut desk)?;
-    Ok((status == Status::ReadFault) == (failing < reads) && is_left_so(status, &desk, whole))
+    let mut desk = desk_of(alloc, &files_with(drawing), &[failing])?;
+    let is = is_failed(alloc, words, &mut desk, whole, failing < reads);
+    drop(desk);
+    is
 }
 
-// The desk behind the words, where they end well though that call of the desk would fail.
-fn ended(alloc: Global, words: &str, drawing: &[u8], failing: &[u64]) -> Result<MemDesk, Fail> {
-    let mut desk = desk_over(alloc, drawing, failing)?;
-    match call(alloc, words, &mut desk)? {
-        Status::Done => Ok(desk),
-        _ => Err(Fail::from("not done")),
+// Whether each call of the desk up to the last one fails so, and it ends the same with calls that move one and seven
+// bytes.
+fn ends_beside(
+    alloc: Global,
+    words: &str,
+    drawing: &[u8],
+    whole: &MemDesk,
+    [reads, calls]: [u64; 2],
+) -> Result<bool, Fail> {
+    for failing in 0..calls {
+        if !fails_so(alloc, words, drawing, whole, [failing, reads])? {
+            return Ok(false);
+        }
     }
+    Ok(
+        is_same_in_pieces(alloc, words, drawing, whole, 1)?
+            && is_same_in_pieces(alloc, words, drawing, whole, 7)?,
+    )
 }
 
-// Each command with each call of the desk failing in turn up to the last one, and then with calls that move one and
-// seven bytes. A file is read by two calls, its bytes and its end.
+fn ends_on(
+    alloc: Global,
+    words: &str,
+    drawing: &[u8],
+    whole: &mut MemDesk,
+    counts: [u64; 2],
+) -> Result<bool, Fail> {
+    let status = call(alloc, words, whole)?;
+    Ok(status == Status::Done && ends_beside(alloc, words, drawing, whole, counts)?)
+}
+
+// Whether the words end so where the calls of the desk fail in turn, and well where the one behind the last would fail.
+fn ends_so(
+    alloc: Global,
+    words: &str,
+    drawing: &[u8],
+    [reads, calls]: [u64; 2],
+) -> Result<bool, Fail> {
+    let mut whole = desk_of(alloc, &files_with(drawing), &[])?;
+    let is = ends_on(alloc, words, drawing, &mut whole, [reads, calls]);
+    drop(whole);
+    Ok(is? && ends(alloc, words, &files_with(drawing), &[calls], &DONE)?)
+}
+
+// Words, how many calls of the desk read, and how many there are. A file is read by two calls, its bytes and its end.
+const COMMANDS: [(&str, [u64; 2]); 6] = [
+    ("plan t.toml c.sp x3", [4, 5]),
+    ("make t.toml c.sp x3 out", [4, 11]),
+    ("check t.toml c.sp X3 l.clog", [6, 7]),
+    ("extract t.toml c.gds x3", [4, 5]),
+    ("row t.toml c.sp out pair x3 x3", [4, 7]),
+    ("bench 1", [0, 1]),
+];
+
+fn are_ended(alloc: Global, drawing: &[u8]) -> Result<(), Fail> {
+    for (words, counts) in &COMMANDS {
+        if !ends_so(alloc, words, drawing, *counts)? {
+            return Err(Fail::from(*words));
+        }
+    }
+    Ok(())
+}
+
 #[test]
 fn ends_by_each_failed_call(rt: HostRuntime) -> Result<(), Fail> {
     let alloc = rt.alloc();
-    let drawing = drawing(alloc)?;
-    for (words, reads, calls) in &[
-        ("plan t.toml c.sp x3", 4, 5),
-        ("make t.toml c.sp x3 out", 4, 11),
-        ("check t.toml c.sp X3 l.clog", 6, 7),
-        ("extract t.toml c.gds x3", 4, 5),
-        ("row t.toml c.sp out pair x3 x3", 4, 7),
-        ("bench 1", 0, 1),
-    ] {
-        let whole = ended(alloc, words, &drawing, &[])?;
-        for failing in 0..*calls {
-            assert!(rt;
-                fails_so(alloc, words, &drawing, &whole, failing, *reads)?,
-                "{words} {failing}"
-            );
-        }
-        ended(alloc, words, &drawing, &[*calls])?;
-        assert!(rt;
-            is_same_in_pieces(alloc, words, &drawing, &whole, 1)?,
-            "{words}"
-        );
-        assert!(rt;
-            is_same_in_pieces(alloc, words, &drawing, &whole, 7)?,
-            "{words}"
-        );
-    }
-    Ok(())
+    let words = "make t.toml c.sp x3 out";
+    let drawing = made_file(alloc, words, &files_with(&[]), &[], &DONE, "out.gds")?;
+    let are = are_ended(alloc, &drawing);
+    drop(drawing);
+    are
 }

@@ -1,8 +1,7 @@
-use crate::setup::{INVERTER, call, name_of, run_over};
-use cell_io::{CallList, File, FileList, MemDesk};
-use cell_num::List;
+use crate::calls::{End, Left, Said, ends, made_file};
+use crate::setup::{INVERTER, inputs};
 use cell_run::Status;
-use std::alloc::Global;
+use std::alloc::{AllocError, Global};
 use std::test::Fail;
 
 // The first records of an element, up to its points; the path is of poly and 600 nm wide.
@@ -16,7 +15,7 @@ const POLY_PATH: [u8; 24] = [
     0, 4, 9, 0, 0, 6, 13, 2, 0, 46, 0, 6, 14, 2, 0, 0, 0, 8, 15, 3, 0, 0, 2, 88,
 ];
 
-const NETLIST: &str = "status 0 ok
+pub const NETLIST: &str = "status 0 ok
 cell inv
 nets 4
 devices 2
@@ -51,20 +50,28 @@ const BARS: &str = "status 0 ok\ncell inv\nnets 2\ndevices 0\nnet 0 _0\nnet 1 _1
 // The bytes of a made inverter: its library up to the first of 29 rectangles, the label of `y` from 1,996 on, the
 // end of the labels at 2,114.
 pub fn inverter(alloc: Global) -> Result<Vec<u8>, Fail> {
-    let (_, desk) = run_over(alloc, "make - c.sp inv out", ["", INVERTER, ""], &[])?;
-    match desk.file("out.gds") {
-        Some(bytes) if bytes.len() == 2122 => Ok(bytes.to_vec(alloc)?),
-        _ => Err(Fail::from("no inverter")),
-    }
+    let files = [("out.gds", Left::Length(2122))];
+    let end = End {
+        status: Status::Done,
+        said: Said::First("status 0 ok\ncell inv\n"),
+        files: &files,
+    };
+    let given = inputs(["", INVERTER, ""]);
+    made_file(alloc, "make - c.sp inv out", &given, &[], &end, "out.gds")
 }
 
 // Parts one after another.
 pub fn joined(alloc: Global, parts: &[&[u8]]) -> Result<Vec<u8>, Fail> {
     let mut out = Vec::new(alloc);
+    add_parts(&mut out, parts)?;
+    Ok(out)
+}
+
+fn add_parts(out: &mut Vec<u8>, parts: &[&[u8]]) -> Result<(), AllocError> {
     for part in parts {
         out.extend_from_slice(part)?;
     }
-    Ok(out)
+    Ok(())
 }
 
 // Adds an element; its points are in nanometres.
@@ -90,106 +97,134 @@ pub fn put_box(out: &mut Vec<u8>, head: &[u8], low: [i32; 2], high: [i32; 2]) ->
 }
 
 // Two rectangles on metal1 that are so far apart.
-fn two_bars(alloc: Global, second: i32, end: i32) -> Result<Vec<u8>, Fail> {
-    let mut out = Vec::new(alloc);
-    put_box(&mut out, &METAL1, [0, 0], [1500, 1500])?;
-    put_box(&mut out, &METAL1, [second, 0], [end, 1500])?;
-    Ok(out)
+fn put_bars(out: &mut Vec<u8>, second: i32, end: i32) -> Result<(), Fail> {
+    put_box(out, &METAL1, [0, 0], [1500, 1500])?;
+    put_box(out, &METAL1, [second, 0], [end, 1500])
 }
+
+const BENT: [[i32; 2]; 6] = [
+    [0, 0],
+    [4500, 0],
+    [4500, 1500],
+    [1500, 1500],
+    [1500, 3000],
+    [0, 3000],
+];
 
 // A bent piece of active, a path of poly over it, and N select around them.
-fn transistor(alloc: Global) -> Result<Vec<u8>, Fail> {
-    let mut out = Vec::new(alloc);
-    let bent = [
-        [0, 0],
-        [4500, 0],
-        [4500, 1500],
-        [1500, 1500],
-        [1500, 3000],
-        [0, 3000],
-    ];
-    put_element(&mut out, &ACTIVE, &bent)?;
-    put_element(&mut out, &POLY_PATH, &[[3000, -600], [3000, 2100]])?;
-    put_box(&mut out, &N_SELECT, [-600, -600], [5100, 3600])?;
-    Ok(out)
+fn put_transistor(out: &mut Vec<u8>) -> Result<(), Fail> {
+    put_element(out, &ACTIVE, &BENT)?;
+    put_element(out, &POLY_PATH, &[[3000, -600], [3000, 2100]])?;
+    put_box(out, &N_SELECT, [-600, -600], [5100, 3600])
 }
 
-// What is said of a GDSII file.
-pub fn says(alloc: Global, bytes: Vec<u8>, status: Status, said: &str) -> Result<bool, Fail> {
+/// Whether this is said of a GDSII file.
+pub fn says(alloc: Global, bytes: &[u8], status: Status, said: &[&str]) -> Result<bool, Fail> {
     says_to(alloc, "extract - f.gds inv", bytes, status, said)
 }
 
-// What is said of the file `f.gds` by these words.
+/// Whether this is said of the file `f.gds` by these words.
 pub fn says_to(
     alloc: Global,
     words: &str,
-    bytes: Vec<u8>,
+    bytes: &[u8],
+    status: Status,
+    said: &[&str],
+) -> Result<bool, Fail> {
+    let end = End {
+        status,
+        said: Said::Whole(said),
+        files: &[],
+    };
+    ends(alloc, words, &[("f.gds", bytes)], &[], &end)
+}
+
+// Whether this is said of the bytes with others in place of those between two places.
+fn says_with(
+    alloc: Global,
+    bytes: &[u8],
+    [from, to]: [usize; 2],
+    by: &[u8],
     status: Status,
     said: &str,
 ) -> Result<bool, Fail> {
-    let mut files = FileList::new(alloc);
-    files.push(File {
-        name: name_of(alloc, "f.gds")?,
-        bytes: List::from_vec(bytes),
-    })?;
-    let mut desk = MemDesk::new(alloc, files, CallList::new(alloc));
-    let got = call(alloc, words, &mut desk)?;
-    Ok(got == status && desk.all_said() == said.as_bytes())
+    let (Some(front), Some(end)) = (bytes.get(..from), bytes.get(to..)) else {
+        return Err(Fail::from("too few bytes"));
+    };
+    let other = joined(alloc, &[front, by, end])?;
+    let is = says(alloc, &other, status, &[said]);
+    drop(other);
+    is
 }
 
-// The bytes with others in place of those between two places.
-fn replaced(
-    alloc: Global,
-    bytes: &[u8],
-    from: usize,
-    to: usize,
-    by: &[u8],
-) -> Result<Vec<u8>, Fail> {
-    match (bytes.get(..from), bytes.get(to..)) {
-        (Some(front), Some(end)) => joined(alloc, &[front, by, end]),
-        _ => Err(Fail::from("too few bytes")),
-    }
+// The label of `y` in the made inverter, with the name `q`, behind the labels.
+fn is_short(alloc: Global, made: &[u8]) -> Result<bool, Fail> {
+    let (Some(front), Some(end)) = (made.get(1996..2028), made.get(2029..2114)) else {
+        return Err(Fail::from("no label"));
+    };
+    let label = joined(alloc, &[front, b"q", end])?;
+    let is = says_with(alloc, made, [2114, 2114], &label, Status::Layout, SHORT);
+    drop(label);
+    is
 }
 
-// The label of `y` in the made inverter, with the name `q`.
-fn label(alloc: Global, made: &[u8]) -> Result<Vec<u8>, Fail> {
-    match made.get(1996..2114) {
-        Some(label) => replaced(alloc, label, 32, 33, b"q"),
-        None => Err(Fail::from("no label")),
-    }
+fn is_extracted(alloc: Global, made: &[u8]) -> Result<bool, Fail> {
+    Ok(
+        says_with(alloc, made, [2122, 2122], &[0; 100], Status::Done, NETLIST)?
+            && says_with(alloc, made, [2120, 2122], &[], Status::Layout, CUT)?
+            && says_with(alloc, made, [2028, 2029], b"a", Status::Layout, SPLIT)?
+            && is_short(alloc, made)?,
+    )
 }
 
 // Bytes behind the library are passed over. A cut one, the label of `y` with the name of another net, and one more
 // label on that net are not.
 #[test]
 fn extracts_a_made_cell(rt: HostRuntime) -> Result<(), Fail> {
-    let alloc = rt.alloc();
-    let made = inverter(alloc)?;
-    let label = label(alloc, &made)?;
-    let zeros = [0; 100];
-    for (from, to, by, status, said) in &[
-        (2122, 2122, zeros.as_slice(), Status::Done, NETLIST),
-        (2120, 2122, &[], Status::Layout, CUT),
-        (2028, 2029, b"a", Status::Layout, SPLIT),
-        (2114, 2114, &label, Status::Layout, SHORT),
-    ] {
-        let bytes = replaced(alloc, &made, *from, *to, by)?;
-        assert!(rt; says(alloc, bytes, *status, said)?, "{said}");
-    }
+    let made = inverter(rt.alloc())?;
+    let is = is_extracted(rt.alloc(), &made);
+    drop(made);
+    assert!(rt; is?);
     Ok(())
+}
+
+fn is_device(alloc: Global, made: &[u8]) -> Result<bool, Fail> {
+    let mut cell = Vec::new(alloc);
+    put_transistor(&mut cell)?;
+    let is = says_with(alloc, made, [102, 2114], &cell, Status::Done, DEVICE);
+    drop(cell);
+    is
+}
+
+// Whether this is said of two bars that are so far apart.
+fn are_bars(
+    alloc: Global,
+    made: &[u8],
+    second: i32,
+    end: i32,
+    status: Status,
+    said: &str,
+) -> Result<bool, Fail> {
+    let mut cell = Vec::new(alloc);
+    put_bars(&mut cell, second, end)?;
+    let are = says_with(alloc, made, [102, 2114], &cell, status, said);
+    drop(cell);
+    are
+}
+
+fn are_foreign(alloc: Global, made: &[u8]) -> Result<bool, Fail> {
+    Ok(
+        is_device(alloc, made)?
+            && are_bars(alloc, made, 2100, 3600, Status::Rejected, NEAR)?
+            && are_bars(alloc, made, 2400, 3900, Status::Done, BARS)?,
+    )
 }
 
 #[test]
 fn extracts_foreign_cells(rt: HostRuntime) -> Result<(), Fail> {
-    let alloc = rt.alloc();
-    let made = inverter(alloc)?;
-    for (cell, status, said) in &[
-        (transistor(alloc)?, Status::Done, DEVICE),
-        (two_bars(alloc, 2100, 3600)?, Status::Rejected, NEAR),
-        (two_bars(alloc, 2400, 3900)?, Status::Done, BARS),
-    ] {
-        let bytes = replaced(alloc, &made, 102, 2114, &cell)?;
-        assert!(rt; says(alloc, bytes, *status, said)?, "{said}");
-    }
+    let made = inverter(rt.alloc())?;
+    let are = are_foreign(rt.alloc(), &made);
+    drop(made);
+    assert!(rt; are?);
     Ok(())
 }

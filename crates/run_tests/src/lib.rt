@@ -6,6 +6,8 @@ mod agrees;
 #[cfg(test)]
 mod benches;
 #[cfg(test)]
+mod calls;
+#[cfg(test)]
 mod cells;
 #[cfg(test)]
 mod damaged;

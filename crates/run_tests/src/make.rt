@@ -1,4 +1,6 @@
-use crate::setup::{INVERTER, INVERTERS, lengths, run_over};
+use crate::calls::{End, Left, Said, ends};
+use crate::doglegs::length;
+use crate::setup::{INVERTER, INVERTERS, inputs};
 use cell_run::Status;
 use std::alloc::Global;
 use std::test::Fail;
@@ -149,14 +151,22 @@ const CELLS: [Made; 9] = [
 
 // Whether the call ends and leaves files so.
 fn is_made(alloc: Global, cell: &Made) -> Result<bool, Fail> {
-    let (got, desk) = run_over(alloc, cell.words, [cell.tech, cell.spice, ""], &[])?;
-    let [_, gds, lef] = lengths(&desk);
-    Ok(
-        got == cell.status
-            && desk.all_said().ends_with(cell.said.as_bytes())
-            && desk.file("out.clog") == Some(cell.log.as_bytes())
-            && gds == cell.gds
-            && lef == cell.lef,
+    let files = [
+        ("out.clog", Left::Bytes(cell.log.as_bytes())),
+        ("out.gds", length(cell.gds)),
+        ("out.lef", length(cell.lef)),
+    ];
+    let end = End {
+        status: cell.status,
+        said: Said::Last(cell.said),
+        files: &files,
+    };
+    ends(
+        alloc,
+        cell.words,
+        &inputs([cell.tech, cell.spice, ""]),
+        &[],
+        &end,
     )
 }
 
@@ -169,39 +179,60 @@ fn makes_a_cell(rt: HostRuntime) -> Result<(), Fail> {
     Ok(())
 }
 
-// Whether the inverter's call that fails there leaves this log, a drawing and an abstract of these lengths, and says
-// nothing.
-fn leaves(
-    alloc: Global,
-    failing: u64,
-    log: Option<&str>,
-    gds: Option<usize>,
-    lef: Option<usize>,
-) -> Result<bool, Fail> {
-    let (got, desk) = run_over(alloc, "make - c.sp inv out", ["", INVERTER, ""], &[failing])?;
-    let len = |name| desk.file(name).map(|file| file.len());
-    Ok(
-        got == Status::WriteFault
-            && desk.all_said().is_empty()
-            && desk.file("out.clog") == log.map(|text| text.as_bytes())
-            && len("out.gds") == gds
-            && len("out.lef") == lef,
-    )
+// The call that fails, and what the drawing and the abstract are then.
+const STEPS: [(u64, Left, Left); 7] = [
+    (2, Left::Nothing, Left::Nothing),
+    (3, Left::Nothing, Left::Nothing),
+    (4, Left::Nothing, Left::Nothing),
+    (5, Left::Length(0), Left::Nothing),
+    (6, Left::Length(2122), Left::Nothing),
+    (7, Left::Length(2122), Left::Length(0)),
+    (8, Left::Length(2122), Left::Length(997)),
+];
+
+fn evidence_at(failing: u64, evidence: &[u8]) -> Left {
+    match failing {
+        2 => Left::Nothing,
+        3 => Left::Length(0),
+        _ => Left::Bytes(evidence),
+    }
 }
 
-// The subcircuit's file is read by two calls; each file is then made by one and filled by one, and the report said.
+fn leaves<'a>(
+    alloc: Global,
+    words: &str,
+    failing: u64,
+    files: &'a [(&'a str, Left<'a>)],
+) -> Result<bool, Fail> {
+    let end = End {
+        status: Status::WriteFault,
+        said: Said::Whole(&[]),
+        files: &*files,
+    };
+    ends(alloc, words, &inputs(["", INVERTER, ""]), &[failing], &end)
+}
+
+/// Whether the words make an inverter's files in order, the evidence first. The subcircuit's file is read by two calls;
+/// each file is then made by one and filled by one, and the report said.
+pub fn makes_in_order(
+    alloc: Global,
+    words: &str,
+    name: &str,
+    evidence: &str,
+) -> Result<bool, Fail> {
+    for (failing, gds, lef) in &STEPS {
+        let first = evidence_at(*failing, evidence.as_bytes());
+        let files = [(name, first), ("out.gds", *gds), ("out.lef", *lef)];
+        if !leaves(alloc, words, *failing, &files)? {
+            return Ok(false);
+        }
+    }
+    Ok(true)
+}
+
 #[test]
 fn makes_files_in_order(rt: HostRuntime) -> Result<(), Fail> {
-    for (call, log, gds, lef) in &[
-        (2, None, None, None),
-        (3, Some(""), None, None),
-        (4, Some(INVERTER_LOG), None, None),
-        (5, Some(INVERTER_LOG), Some(0), None),
-        (6, Some(INVERTER_LOG), Some(2122), None),
-        (7, Some(INVERTER_LOG), Some(2122), Some(0)),
-        (8, Some(INVERTER_LOG), Some(2122), Some(997)),
-    ] {
-        assert!(rt; leaves(rt.alloc(), *call, *log, *gds, *lef)?, "call {call}");
-    }
+    let words = "make - c.sp inv out";
+    assert!(rt; makes_in_order(rt.alloc(), words, "out.clog", INVERTER_LOG)?);
     Ok(())
 }

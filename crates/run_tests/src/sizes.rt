@@ -1,7 +1,7 @@
 // Rows of 32 columns, and a log of many blocks.
-use crate::setup::{call, desk_with, name_of, run_over};
+use crate::calls::{End, Left, Said, call, desk_of, ends, made_file};
+use crate::setup::inputs;
 use cell_io::MemDesk;
-use cell_num::{List, Name};
 use cell_run::Status;
 use std::alloc::Global;
 use std::test::Fail;
@@ -16,13 +16,34 @@ fn mark(bytes: Option<&[u8]>) -> (usize, u32) {
     (bytes.len(), sum)
 }
 
-fn marks(desk: &MemDesk) -> [(usize, u32); 4] {
-    [
-        mark(Some(desk.all_said())),
-        mark(desk.file("out.clog")),
-        mark(desk.file("out.gds")),
-        mark(desk.file("out.lef")),
-    ]
+fn are_marks(desk: &MemDesk, want: &[(usize, u32); 4]) -> bool {
+    mark(Some(desk.all_said())) == want[0]
+        && mark(desk.file("out.clog")) == want[1]
+        && mark(desk.file("out.gds")) == want[2]
+        && mark(desk.file("out.lef")) == want[3]
+}
+
+fn is_marked(
+    alloc: Global,
+    words: &str,
+    desk: &mut MemDesk,
+    want: &[(usize, u32); 4],
+) -> Result<bool, Fail> {
+    let status = call(alloc, words, desk)?;
+    Ok(status == Status::Done && are_marks(desk, want))
+}
+
+// Whether a cell is made, with these lengths and sums of what is said, its log, its drawing and its abstract.
+fn is_made(
+    alloc: Global,
+    spice: &str,
+    words: &str,
+    want: &[(usize, u32); 4],
+) -> Result<bool, Fail> {
+    let mut desk = desk_of(alloc, &inputs(["", spice, ""]), &[])?;
+    let is = is_marked(alloc, words, &mut desk, want);
+    drop(desk);
+    is
 }
 
 // An inverter of 32 fingers in each row.
@@ -33,53 +54,44 @@ MN y a gnd gnd n W=192u L=0.6u
 ";
 
 // 32 gates, each between nets of its own: 162 nets with the rails.
-fn far(alloc: Global) -> Result<String, Fail> {
-    let mut text = String::from_str(alloc, ".subckt far vdd gnd\n")?;
+fn put_gates(alloc: Global, text: &mut String) -> Result<(), Fail> {
+    text.push_str(".subckt far vdd gnd\n")?;
     for gate in 0..32u32 {
-        let upper = format!(in alloc; "mp{gate} a{gate} g{gate} b{gate} vdd p w=3u l=0.6u\n")?;
-        let lower = format!(in alloc; "mn{gate} c{gate} g{gate} d{gate} gnd n w=1.5u l=0.6u\n")?;
-        text.push_str(&upper)?;
-        text.push_str(&lower)?;
+        let pair = format!(in alloc;
+            "mp{gate} a{gate} g{gate} b{gate} vdd p w=3u l=0.6u\nmn{gate} c{gate} g{gate} d{gate} gnd n w=1.5u l=0.6u\n"
+        )?;
+        text.push_str(&pair)?;
     }
-    text.push_str(".ends\n")?;
-    Ok(text)
+    Ok(text.push_str(".ends\n")?)
 }
 
-// Whether a cell is made, with these lengths and sums.
-fn is_made(alloc: Global, spice: &str, words: &str, want: [(usize, u32); 4]) -> Result<bool, Fail> {
-    let (got, desk) = run_over(alloc, words, ["", spice, ""], &[])?;
-    Ok(got == Status::Done && marks(&desk) == want)
+const WIDE_MARKS: [(usize, u32); 4] = [
+    (1317, 1_195_944_049),
+    (578, 2_414_613_192),
+    (29_066, 1_831_125_420),
+    (4626, 2_140_104_770),
+];
+
+const FAR_MARKS: [(usize, u32); 4] = [
+    (1462, 4_094_997_122),
+    (5089, 4_019_103_432),
+    (12_954, 2_044_628_244),
+    (478, 1_516_003_034),
+];
+
+fn is_far(alloc: Global) -> Result<bool, Fail> {
+    let mut far = String::new(alloc);
+    put_gates(alloc, &mut far)?;
+    let is = is_made(alloc, &far, "make - c.sp far out", &FAR_MARKS);
+    drop(far);
+    is
 }
 
 // The lengths and the sums of what another program said and wrote.
 #[test]
 fn makes_long_rows(rt: HostRuntime) -> Result<(), Fail> {
-    let alloc = rt.alloc();
-    let far = far(alloc)?;
-    for (spice, words, want) in &[
-        (
-            WIDE,
-            "make - c.sp inv out",
-            [
-                (1317, 1_195_944_049),
-                (578, 2_414_613_192),
-                (29_066, 1_831_125_420),
-                (4626, 2_140_104_770),
-            ],
-        ),
-        (
-            far.as_str(),
-            "make - c.sp far out",
-            [
-                (1462, 4_094_997_122),
-                (5089, 4_019_103_432),
-                (12_954, 2_044_628_244),
-                (478, 1_516_003_034),
-            ],
-        ),
-    ] {
-        assert!(rt; is_made(alloc, spice, words, *want)?, "{words}");
-    }
+    assert!(rt; is_made(rt.alloc(), WIDE, "make - c.sp inv out", &WIDE_MARKS)?);
+    assert!(rt; is_far(rt.alloc())?);
     Ok(())
 }
 
@@ -111,62 +123,80 @@ mnc qb q gnd gnd nmos w=1.5u l=0.6u
 .ends
 ";
 
-// The flip-flop's search with a budget of 110,000 nodes, where a call of the desk fails.
-fn spent(alloc: Global, failing: u64) -> Result<(Status, MemDesk), Fail> {
-    let files = ["budget = 110000\n", FLIP_FLOP, ""];
-    run_over(alloc, "make t.toml c.sp dff out", files, &[failing])
-}
+const SPENT: End = End {
+    status: Status::Unfinished,
+    said: Said::Whole(&["status 6 unfinished\nproved 3\nlemmas 109995\n"]),
+    files: &[("out.clog", Left::Length(6_927_694))],
+};
 
-// The report on its log, where a call of the desk fails.
-fn checked(alloc: Global, log: &[u8], failing: u64) -> Result<(Status, MemDesk), Fail> {
-    let mut desk = desk_with(
-        alloc,
-        Name::new(alloc),
-        name_of(alloc, FLIP_FLOP)?,
-        List::from_vec(log.to_vec(alloc)?),
-        &[failing],
-    )?;
-    let status = call(alloc, "check - c.sp dff l.clog", &mut desk)?;
-    Ok((status, desk))
-}
-
-const SPENT: &[u8] = b"status 6 unfinished\nproved 3\nlemmas 109995\n";
-
-const OPEN: &[u8] = b"status 7 rejected\nlog NoRow best 3\n";
+const UNSAID: End = End {
+    status: Status::WriteFault,
+    said: Said::Whole(&[]),
+    files: &[("out.clog", Left::Length(6_927_694))],
+};
 
 const LOG_MARK: (usize, u32) = (6_927_694, 175_739_399);
 
-// Whether a call ended so, with this report.
-fn is_end(end: &(Status, MemDesk), status: Status, said: &[u8]) -> bool {
-    end.0 == status && end.1.all_said() == said
+// The log of the flip-flop's search with a budget of 110,000 nodes, where a call of the desk fails and it ends so.
+fn long_log(alloc: Global, failing: u64, end: &End) -> Result<Vec<u8>, Fail> {
+    let given = inputs(["budget = 110000\n", FLIP_FLOP, ""]);
+    made_file(
+        alloc,
+        "make t.toml c.sp dff out",
+        &given,
+        &[failing],
+        end,
+        "out.clog",
+    )
+}
+
+// Whether the log is whole where the report is not said.
+fn is_unsaid(alloc: Global) -> Result<bool, Fail> {
+    let log = long_log(alloc, 111, &UNSAID)?;
+    Ok(mark(Some(&log)) == LOG_MARK)
+}
+
+// Whether the check of a log ends so, where a call of the desk fails.
+fn is_checked(
+    alloc: Global,
+    log: &[u8],
+    failing: u64,
+    status: Status,
+    said: &[&str],
+) -> Result<bool, Fail> {
+    let end = End {
+        status,
+        said: Said::Whole(said),
+        files: &[],
+    };
+    let given = [("c.sp", FLIP_FLOP.as_bytes()), ("l.clog", log)];
+    ends(alloc, "check - c.sp dff l.clog", &given, &[failing], &end)
+}
+
+// It is checked in 106 pieces and its end, behind the two calls for the subcircuit.
+fn is_right(alloc: Global, log: &[u8]) -> Result<bool, Fail> {
+    Ok(
+        mark(Some(log)) == LOG_MARK
+            && is_checked(alloc, log, 109, Status::WriteFault, &[])?
+            && is_checked(
+                alloc,
+                log,
+                110,
+                Status::Rejected,
+                &["status 7 rejected\nlog NoRow best 3\n"],
+            )?,
+    )
 }
 
 // The log of 109,995 lemmas is made by one call and goes there in 106 blocks; two files are read before by two calls
 // each, and the report is said last.
-fn long_log(alloc: Global) -> Result<Vec<u8>, Fail> {
-    let end = spent(alloc, 111)?;
-    if !is_end(&end, Status::WriteFault, b"") || mark(end.1.file("out.clog")) != LOG_MARK {
-        return Err(Fail::from("its report is said too early"));
-    }
-    let end = spent(alloc, 112)?;
-    match end.1.file("out.clog") {
-        Some(log) if is_end(&end, Status::Unfinished, SPENT) => Ok(log.to_vec(alloc)?),
-        _ => Err(Fail::from("no log")),
-    }
-}
-
-// It is checked in 106 pieces and its end, behind the two calls for the subcircuit.
 #[test]
 fn writes_a_long_log(rt: HostRuntime) -> Result<(), Fail> {
     let alloc = rt.alloc();
-    let log = long_log(alloc)?;
-    assert_eq!(rt; mark(Some(log.as_slice())), LOG_MARK);
-    for (failing, status, said) in &[
-        (109, Status::WriteFault, b"".as_slice()),
-        (110, Status::Rejected, OPEN),
-    ] {
-        let end = checked(alloc, &log, *failing)?;
-        assert!(rt; is_end(&end, *status, said), "{failing}");
-    }
+    assert!(rt; is_unsaid(alloc)?);
+    let log = long_log(alloc, 112, &SPENT)?;
+    let is = is_right(alloc, &log);
+    drop(log);
+    assert!(rt; is?);
     Ok(())
 }

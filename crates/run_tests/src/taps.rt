@@ -1,5 +1,5 @@
-use crate::extract::{inverter, joined, put_box, says, says_to};
-use crate::setup::is_usage;
+use crate::extract::{inverter, put_box, says, says_to};
+use crate::setup::are_usage;
 use cell_run::Status;
 use std::alloc::Global;
 use std::test::Fail;
@@ -28,6 +28,12 @@ const TAPS: [(u8, [i32; 2], [i32; 2]); 13] = [
     (25, [4_650, 16_200], [5_250, 16_800]),
 ];
 
+const PLAIN: &str = "status 7 rejected\nviolation 2.3 at 3 110\nviolation 4.2 at 3 3\n";
+
+const N_DEVICE: &str = "device 0 n gate a ends gnd y width 10 length 4 body ";
+
+const P_DEVICE: &str = "\ndevice 1 p gate a ends y vdd width 20 length 4 body ";
+
 const NETS: &str = "status 0 ok
 cell inv
 nets 4
@@ -38,63 +44,69 @@ net 2 y
 net 3 vdd
 ";
 
-// The bytes of the inverter with the first ones of its taps.
-fn tapped(alloc: Global, count: usize) -> Result<Vec<u8>, Fail> {
-    let made = inverter(alloc)?;
+fn add_tapped(out: &mut Vec<u8>, made: &[u8]) -> Result<(), Fail> {
     let Some((front, end)) = made.split_at_checked(2114) else {
         return Err(Fail::from("no inverter"));
     };
-    let mut out = joined(alloc, &[front])?;
-    for (layer, low, high) in TAPS.iter().take(count) {
-        put_box(&mut out, &on(*layer), *low, *high)?;
+    out.extend_from_slice(front)?;
+    for (layer, low, high) in &TAPS {
+        put_box(out, &on(*layer), *low, *high)?;
     }
-    out.extend_from_slice(end)?;
-    Ok(out)
+    Ok(out.extend_from_slice(end)?)
 }
 
-// Bodies are told with the word alone, and a device without taps has none.
+// Whether these bodies of the N and of the P device are told.
+fn has_bodies(alloc: Global, bytes: &[u8], n: &str, p: &str) -> Result<bool, Fail> {
+    let said = [NETS, N_DEVICE, n, P_DEVICE, p, "\n"];
+    says_to(alloc, WORDS, bytes, Status::Done, &said)
+}
+
+fn is_told(alloc: Global, tapped: &[u8]) -> Result<bool, Fail> {
+    Ok(has_bodies(alloc, tapped, "gnd", "vdd")? && says(alloc, tapped, Status::Rejected, &[PLAIN])?)
+}
+
+// With taps a cell has bodies, and breaks rules of the plain deck. A device without taps has no body.
+fn is_tapped(alloc: Global, made: &[u8]) -> Result<bool, Fail> {
+    let mut tapped = Vec::new(alloc);
+    add_tapped(&mut tapped, made)?;
+    let is = is_told(alloc, &tapped);
+    drop(tapped);
+    is
+}
+
+fn has_all(alloc: Global, made: &[u8]) -> Result<bool, Fail> {
+    Ok(has_bodies(alloc, made, "-", "-")? && is_tapped(alloc, made)?)
+}
+
+// Bodies are told with the word alone.
 #[test]
 fn tells_bodies(rt: HostRuntime) -> Result<(), Fail> {
     let alloc = rt.alloc();
-    for (count, n, p) in &[(0, "-", "-"), (13, "gnd", "vdd")] {
-        let said = format!(in alloc;
-            "{NETS}device 0 n gate a ends gnd y width 10 length 4 body {n}\ndevice 1 p gate a ends y vdd width 20 length 4 body {p}\n"
-        )?;
-        assert!(rt;
-            says_to(
-                alloc,
-                WORDS,
-                tapped(alloc, *count)?,
-                Status::Done,
-                said.as_str()
-            )?,
-            "{n}"
-        );
-    }
-    Ok(())
-}
-
-// With taps a cell breaks rules of the plain deck, and without the well around them one of its own.
-#[test]
-fn checks_taps(rt: HostRuntime) -> Result<(), Fail> {
-    let alloc = rt.alloc();
-    let plain = "status 7 rejected\nviolation 2.3 at 3 110\nviolation 4.2 at 3 3\n";
-    assert!(rt; says(alloc, tapped(alloc, 13)?, Status::Rejected, plain)?);
-    let cut = "status 9 layout\ngds Cut at 0\n";
-    assert!(rt; says_to(alloc, WORDS, Vec::new(alloc), Status::Layout, cut)?);
+    let made = inverter(alloc)?;
+    let is = has_all(alloc, &made);
+    drop(made);
+    assert!(rt; is?);
+    assert!(rt;
+        says_to(
+            alloc,
+            WORDS,
+            &[],
+            Status::Layout,
+            &["status 9 layout\ngds Cut at 0\n"]
+        )?
+    );
     Ok(())
 }
 
 // The word stands behind CELL, once, and taps are no word of another form.
 #[test]
 fn takes_taps_behind_the_cell(rt: HostRuntime) -> Result<(), Fail> {
-    for words in &[
+    let words = [
         "extract - f.gds inv --taps --taps",
         "extract - f.gds inv --dogleg",
         "extract --taps - f.gds inv",
         "plan - c.sp inv --taps",
-    ] {
-        assert!(rt; is_usage(rt.alloc(), words, "f.clog")?, "{words}");
-    }
+    ];
+    assert!(rt; are_usage(rt.alloc(), &words, "f.clog")?);
     Ok(())
 }

@@ -1,6 +1,7 @@
 // Cells that are made with certificates by trails. Another program, written after the definitions, listed their lemmas.
-use crate::make::CROSS;
-use crate::setup::{INVERTER, INVERTERS, run_over};
+use crate::calls::{End, Left, Said, ends, made_file};
+use crate::make::{CROSS, makes_in_order};
+use crate::setup::{INVERTER, INVERTERS, inputs, joined};
 use crate::trails::{HEAD, LEMMAS, ORDER, ROW, X3};
 use cell_run::Status;
 use std::alloc::Global;
@@ -9,50 +10,64 @@ use std::test::Fail;
 const INVERTER_TRAILS: &str =
     "cellgen-trails 1\ncell inv\nfill -\norder 0\ngaps 0\ncolumn 0 0 0 0 0\nend\n";
 
+const BY_LOG: End = End {
+    status: Status::Done,
+    said: Said::First("status 0 ok\ncell x3\n"),
+    files: &[],
+};
+
+// A file that is made with a log.
+fn by_log(alloc: Global, name: &str) -> Result<Vec<u8>, Fail> {
+    let given = inputs(["", INVERTERS, ""]);
+    made_file(alloc, "make - c.sp x3 out", &given, &[], &BY_LOG, name)
+}
+
+// Whether the certificate is this one, and the files behind it are these.
+fn is_made<'a>(alloc: Global, trails: &'a str, gds: &'a [u8], lef: &'a [u8]) -> Result<bool, Fail> {
+    let said = [X3, "tracks 1\nsize 107 118\nlemmas 4\nfilled 0\n"];
+    let files = [
+        ("out.ctrail", Left::Bytes(trails.as_bytes())),
+        ("out.clog", Left::Nothing),
+        ("out.gds", Left::Bytes(gds)),
+        ("out.lef", Left::Bytes(lef)),
+    ];
+    let end = End {
+        status: Status::Done,
+        said: Said::Whole(&said),
+        files: &files,
+    };
+    let given = inputs(["", INVERTERS, ""]);
+    ends(alloc, "make - c.sp x3 out --trails", &given, &[], &end)
+}
+
+fn is_made_with(alloc: Global, trails: &str, gds: &[u8]) -> Result<bool, Fail> {
+    let lef = by_log(alloc, "out.lef")?;
+    let is = is_made(alloc, trails, gds, &lef);
+    drop(lef);
+    is
+}
+
+fn is_certified(alloc: Global, trails: &str) -> Result<bool, Fail> {
+    let gds = by_log(alloc, "out.gds")?;
+    let is = is_made_with(alloc, trails, &gds);
+    drop(gds);
+    is
+}
+
 // The certificate is the one that `check` accepts, and the files behind it are those of a cell with a log.
 #[test]
 fn makes_a_cell_by_trails(rt: HostRuntime) -> Result<(), Fail> {
-    let alloc = rt.alloc();
-    let files = ["", INVERTERS, ""];
-    let (_, by_log) = run_over(alloc, "make - c.sp x3 out", files, &[])?;
-    let (got, desk) = run_over(alloc, "make - c.sp x3 out --trails", files, &[])?;
-    let said = format!(in alloc; "{X3}tracks 1\nsize 107 118\nlemmas 4\nfilled 0\n")?;
-    let text = format!(in alloc; "{HEAD}{ORDER}{LEMMAS}{ROW}")?;
-    assert_eq!(rt; desk.all_said(), said.as_bytes());
-    assert_eq!(rt; got, Status::Done);
-    assert!(rt; desk.file("out.ctrail") == Some(text.as_bytes()));
-    assert!(rt; desk.file("out.clog").is_none());
-    for name in ["out.gds", "out.lef"] {
-        assert!(rt; desk.file(name).is_some(), "{name}");
-        assert!(rt; desk.file(name) == by_log.file(name), "{name}");
-    }
+    let trails = joined(rt.alloc(), &[HEAD, ORDER, LEMMAS, ROW])?;
+    let is = is_certified(rt.alloc(), &trails);
+    drop(trails);
+    assert!(rt; is?);
     Ok(())
 }
 
-// The subcircuit's file is read by two calls; each file is then made by one and filled by one, and the report said.
 #[test]
 fn makes_the_certificate_first(rt: HostRuntime) -> Result<(), Fail> {
-    for (call, trails, shapes, lef) in [
-        (2, None, None, None),
-        (3, Some(""), None, None),
-        (4, Some(INVERTER_TRAILS), None, None),
-        (5, Some(INVERTER_TRAILS), Some(0), None),
-        (6, Some(INVERTER_TRAILS), Some(2122), None),
-        (7, Some(INVERTER_TRAILS), Some(2122), Some(0)),
-        (8, Some(INVERTER_TRAILS), Some(2122), Some(997)),
-    ] {
-        let words = "make - c.sp inv out --trails";
-        let (got, desk) = run_over(rt.alloc(), words, ["", INVERTER, ""], &[call])?;
-        let len_of = |name: &str| desk.file(name).map(|file| file.len());
-        assert_eq!(rt; got, Status::WriteFault, "call {call}");
-        assert!(rt;
-            desk.file("out.ctrail") == trails.map(|text| text.as_bytes()),
-            "call {call}"
-        );
-        assert_eq!(rt; len_of("out.gds"), shapes, "call {call}");
-        assert_eq!(rt; len_of("out.lef"), lef, "call {call}");
-        assert!(rt; desk.all_said().is_empty(), "call {call}");
-    }
+    let words = "make - c.sp inv out --trails";
+    assert!(rt; makes_in_order(rt.alloc(), words, "out.ctrail", INVERTER_TRAILS)?);
     Ok(())
 }
 
@@ -84,56 +99,70 @@ const UNDRAWN: [(&str, &str, &str, Status, &str, &str); 3] = [
     ),
 ];
 
-// Whether a call ends so, and makes the certificate, where there is one, and nothing else.
+// Whether a call ends so, and makes this certificate and nothing else.
 fn ends_so(
     alloc: Global,
     words: &str,
-    files: [&str; 2],
+    [tech, spice]: [&str; 2],
     status: Status,
     said: &str,
-    trails: Option<&str>,
+    trails: &'static str,
 ) -> Result<bool, Fail> {
-    let [tech, spice] = files;
-    let (got, desk) = run_over(alloc, words, [tech, spice, ""], &[])?;
-    Ok(
-        got == status
-            && desk.all_said() == said.as_bytes()
-            && desk.file("out.ctrail") == trails.map(|text| text.as_bytes())
-            && desk.file("out.clog").is_none()
-            && desk.file("out.gds").is_none()
-            && desk.file("out.lef").is_none(),
-    )
+    let files = [
+        ("out.ctrail", Left::Bytes(trails.as_bytes())),
+        ("out.clog", Left::Nothing),
+        ("out.gds", Left::Nothing),
+        ("out.lef", Left::Nothing),
+    ];
+    let end = End {
+        status,
+        said: Said::Whole(&[said]),
+        files: &files,
+    };
+    ends(alloc, words, &inputs([tech, spice, ""]), &[], &end)
 }
 
+// Such a gate is told, and no file is made.
+const CROWDED: End = End {
+    status: Status::Unfinished,
+    said: Said::Whole(&["status 6 unfinished\ngate g\n"]),
+    files: &[
+        ("out.ctrail", Left::Nothing),
+        ("out.clog", Left::Nothing),
+        ("out.gds", Left::Nothing),
+        ("out.lef", Left::Nothing),
+    ],
+};
+
 // A gate whose fingers pair in 7! 2^7 ways.
-fn crowded(alloc: Global) -> Result<String, Fail> {
-    let mut text = String::from_str(alloc, ".SUBCKT many g vdd gnd\n")?;
+fn put_crowded(alloc: Global, text: &mut String) -> Result<(), Fail> {
+    text.push_str(".SUBCKT many g vdd gnd\n")?;
     for at in 0..7u32 {
         let pair = format!(in alloc;
             "MP{at} p{at} g q{at} vdd p W=3u L=0.6u\nMN{at} n{at} g m{at} gnd n W=3u L=0.6u\n"
         )?;
         text.push_str(pair.as_str())?;
     }
-    text.push_str(".ENDS\n")?;
-    Ok(text)
+    Ok(text.push_str(".ENDS\n")?)
+}
+
+fn is_crowded(alloc: Global) -> Result<bool, Fail> {
+    let mut spice = String::new(alloc);
+    put_crowded(alloc, &mut spice)?;
+    let words = "make - c.sp many out --trails";
+    let is = ends(alloc, words, &inputs(["", &spice, ""]), &[], &CROWDED);
+    drop(spice);
+    is
 }
 
 #[test]
 fn makes_the_certificate_alone(rt: HostRuntime) -> Result<(), Fail> {
-    let alloc = rt.alloc();
     for (tech, spice, words, status, said, trails) in &UNDRAWN {
-        let files = [*tech, *spice];
         assert!(rt;
-            ends_so(alloc, words, files, *status, said, Some(*trails))?,
+            ends_so(rt.alloc(), words, [tech, spice], *status, said, trails)?,
             "{said}"
         );
     }
-    let many = crowded(alloc)?;
-    let files = ["", many.as_str()];
-    let (words, said) = (
-        "make - c.sp many out --trails",
-        "status 6 unfinished\ngate g\n",
-    );
-    assert!(rt; ends_so(alloc, words, files, Status::Unfinished, said, None)?);
+    assert!(rt; is_crowded(rt.alloc())?);
     Ok(())
 }

@@ -1,5 +1,6 @@
-use crate::setup::{INVERTER, INVERTERS, run_over};
+use crate::setup::{INVERTER, INVERTERS, joined, tells};
 use cell_run::Status;
+use std::alloc::Global;
 use std::test::Fail;
 
 const PLANNED: &str = "status 0 ok
@@ -31,39 +32,41 @@ open
 end
 ";
 
+const PLANS: [(&str, &str, &str, Status, &str, &str); 3] = [
+    (
+        "",
+        INVERTER,
+        "plan t.toml c.sp inv --trails",
+        Status::Done,
+        PLANNED,
+        "lemmas 0\nfilled 0\n",
+    ),
+    (
+        "",
+        INVERTERS,
+        "plan t.toml c.sp x3 --trails",
+        Status::Done,
+        X3,
+        "lemmas 4\nfilled 0\n",
+    ),
+    (
+        "budget = 1",
+        INVERTER,
+        "plan t.toml c.sp inv --trails",
+        Status::Unfinished,
+        UNFINISHED,
+        "",
+    ),
+];
+
 #[test]
 fn plans_by_trails(rt: HostRuntime) -> Result<(), Fail> {
-    for (tech, spice, cell, status, row, more) in &[
-        (
-            "",
-            INVERTER,
-            "inv",
-            Status::Done,
-            PLANNED,
-            "lemmas 0\nfilled 0\n",
-        ),
-        (
-            "",
-            INVERTERS,
-            "x3",
-            Status::Done,
-            X3,
-            "lemmas 4\nfilled 0\n",
-        ),
-        (
-            "budget = 1",
-            INVERTER,
-            "inv",
-            Status::Unfinished,
-            UNFINISHED,
-            "",
-        ),
-    ] {
-        let words = format!(in rt.alloc(); "plan t.toml c.sp {cell} --trails")?;
-        let said = format!(in rt.alloc(); "{row}{more}")?;
-        let (got, desk) = run_over(rt.alloc(), words.as_str(), [tech, spice, ""], &[])?;
-        assert_eq!(rt; desk.all_said(), said.as_bytes());
-        assert_eq!(rt; got, *status, "{said}");
+    for (tech, spice, words, status, row, more) in &PLANS {
+        let files = [*tech, *spice, ""];
+        assert!(rt;
+            tells(rt.alloc(), words, files, *status, &[row, more])?,
+            "{words}"
+        );
     }
     Ok(())
 }
@@ -84,36 +87,56 @@ pub const ROW: &str = "gaps 1\ncolumn 0 0 0 0 0\ncolumn 1 1 0 1 0\ncolumn 2 2 1 
 // The same columns, none of them turned.
 const UNTURNED: &str = "gaps 2\ncolumn 0 0 0 0 0\ncolumn 1 1 0 1 0\ncolumn 2 2 0 2 0\nend\n";
 
-#[test]
-fn checks_certificates_by_trails(rt: HostRuntime) -> Result<(), Fail> {
-    let text = format!(in rt.alloc(); "{HEAD}{ORDER}{LEMMAS}{ROW}")?;
+// Whether a certificate that is told by its parts is judged so.
+fn is_judged(alloc: Global, parts: &[&str], status: Status, said: &[&str]) -> Result<bool, Fail> {
+    let text = joined(alloc, parts)?;
     let files = ["", INVERTERS, text.as_str()];
-    let (got, desk) = run_over(rt.alloc(), "check - c.sp x3 l.clog --trails", files, &[])?;
-    assert_eq!(rt; desk.all_said(), ACCEPTED.as_bytes());
-    assert_eq!(rt; got, Status::Done);
-    Ok(())
+    let is = tells(
+        alloc,
+        "check - c.sp x3 l.clog --trails",
+        files,
+        status,
+        said,
+    );
+    drop(text);
+    is
 }
 
+fn is_refused(alloc: Global, parts: &[&str], why: &str) -> Result<bool, Fail> {
+    let said = ["status 7 rejected\ntrails ", why, "\n"];
+    is_judged(alloc, parts, Status::Rejected, &said)
+}
+
+// The parts of a certificate, and why it is refused.
+const REFUSED: [(&str, &str, &str, &str, &str); 10] = [
+    ("cellgen-log 1\n", ORDER, LEMMAS, ROW, "Version"),
+    ("cellgen-trails 1\ncell inv\n", ORDER, LEMMAS, ROW, "Cell"),
+    (HEAD, "order 0 1 2\n", LEMMAS, ROW, "Line line 4"),
+    (HEAD, ORDER, LEMMAS, "", "Cut"),
+    (HEAD, "order 0,1\n", LEMMAS, ROW, "Gates"),
+    (HEAD, ORDER, "lemma 3 2 - - 6.7!\n", ROW, "Unproved line 5"),
+    (HEAD, ORDER, LEMMAS, "open\nend\n", "NoRow best 1"),
+    (HEAD, ORDER, LEMMAS, "gaps 0\nend\n", "NotArrangement"),
+    (HEAD, ORDER, LEMMAS, UNTURNED, "NotLeast best 1 said 2"),
+    (HEAD, ORDER, "", ROW, "NotLeast best 0 said 1"),
+];
+
 #[test]
-fn refuses_certificates_by_trails(rt: HostRuntime) -> Result<(), Fail> {
-    for (head, order, lemmas, row, why) in &[
-        ("cellgen-log 1\n", ORDER, LEMMAS, ROW, "Version"),
-        ("cellgen-trails 1\ncell inv\n", ORDER, LEMMAS, ROW, "Cell"),
-        (HEAD, "order 0 1 2\n", LEMMAS, ROW, "Line line 4"),
-        (HEAD, ORDER, LEMMAS, "", "Cut"),
-        (HEAD, "order 0,1\n", LEMMAS, ROW, "Gates"),
-        (HEAD, ORDER, "lemma 3 2 - - 6.7!\n", ROW, "Unproved line 5"),
-        (HEAD, ORDER, LEMMAS, "open\nend\n", "NoRow best 1"),
-        (HEAD, ORDER, LEMMAS, "gaps 0\nend\n", "NotArrangement"),
-        (HEAD, ORDER, LEMMAS, UNTURNED, "NotLeast best 1 said 2"),
-        (HEAD, ORDER, "", ROW, "NotLeast best 0 said 1"),
-    ] {
-        let text = format!(in rt.alloc(); "{head}{order}{lemmas}{row}")?;
-        let files = ["", INVERTERS, text.as_str()];
-        let (got, desk) = run_over(rt.alloc(), "check - c.sp x3 l.clog --trails", files, &[])?;
-        let said = format!(in rt.alloc(); "status 7 rejected\ntrails {why}\n")?;
-        assert_eq!(rt; desk.all_said(), said.as_bytes());
-        assert_eq!(rt; got, Status::Rejected, "{why}");
+fn checks_certificates_by_trails(rt: HostRuntime) -> Result<(), Fail> {
+    let alloc = rt.alloc();
+    assert!(rt;
+        is_judged(
+            alloc,
+            &[HEAD, ORDER, LEMMAS, ROW],
+            Status::Done,
+            &[ACCEPTED]
+        )?
+    );
+    for (head, order, lemmas, row, why) in &REFUSED {
+        assert!(rt;
+            is_refused(alloc, &[head, order, lemmas, row], why)?,
+            "{why}"
+        );
     }
     Ok(())
 }

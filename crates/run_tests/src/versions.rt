@@ -1,6 +1,7 @@
-use crate::setup::{run_over, tells};
+use crate::calls::{End, Left, Said, ends};
+use crate::setup::{inputs, joined, tells};
 use cell_run::Status;
-use std::alloc::Global;
+use std::alloc::{AllocError, Global};
 use std::test::Fail;
 
 // Gates a and b switch between x and y, gates c and d between u and v: no net has an odd number of ends.
@@ -29,41 +30,68 @@ column 3 3 1 3 1
 end
 ";
 
+fn log_of(alloc: Global, version: &str) -> Result<String, AllocError> {
+    joined(alloc, &["cellgen-log ", version, "\n", RING_LOG])
+}
+
 // Whether the ring is made with this log.
 fn leaves_log(alloc: Global, log: &str) -> Result<bool, Fail> {
-    let (got, desk) = run_over(alloc, "make - c.sp ring out", ["", RING, ""], &[])?;
-    Ok(got == Status::Done && desk.file("out.clog") == Some(log.as_bytes()))
+    let files = [("out.clog", Left::Bytes(log.as_bytes()))];
+    let end = End {
+        status: Status::Done,
+        said: Said::First("status 0 ok\n"),
+        files: &files,
+    };
+    ends(
+        alloc,
+        "make - c.sp ring out",
+        &inputs(["", RING, ""]),
+        &[],
+        &end,
+    )
 }
 
 #[test]
 fn certifies_by_components(rt: HostRuntime) -> Result<(), Fail> {
-    let log = format!(in rt.alloc(); "cellgen-log 2\n{RING_LOG}")?;
-    assert!(rt; leaves_log(rt.alloc(), &log)?);
+    let log = log_of(rt.alloc(), "2")?;
+    let is = leaves_log(rt.alloc(), &log);
+    drop(log);
+    assert!(rt; is?);
     Ok(())
 }
+
+fn is_checked(alloc: Global, version: &str, status: Status, said: &str) -> Result<bool, Fail> {
+    let log = log_of(alloc, version)?;
+    let is = tells(
+        alloc,
+        "check - c.sp ring l.clog",
+        ["", RING, &log],
+        status,
+        &[said],
+    );
+    drop(log);
+    is
+}
+
+const VERSIONS: [(&str, Status, &str); 3] = [
+    (
+        "2",
+        Status::Done,
+        "status 0 ok\ncell ring\ncolumns 4\ngaps 1\nwidth 5\nlemmas 4\n",
+    ),
+    (
+        "1",
+        Status::Rejected,
+        "status 7 rejected\nlog Unproved line 3\n",
+    ),
+    ("3", Status::Rejected, "status 7 rejected\nlog Version\n"),
+];
 
 // Each version of a log has a bound of its own.
 #[test]
 fn checks_by_the_version(rt: HostRuntime) -> Result<(), Fail> {
-    for (version, status, said) in &[
-        (
-            "2",
-            Status::Done,
-            "status 0 ok\ncell ring\ncolumns 4\ngaps 1\nwidth 5\nlemmas 4\n",
-        ),
-        (
-            "1",
-            Status::Rejected,
-            "status 7 rejected\nlog Unproved line 3\n",
-        ),
-        ("3", Status::Rejected, "status 7 rejected\nlog Version\n"),
-    ] {
-        let log = format!(in rt.alloc(); "cellgen-log {version}\n{RING_LOG}")?;
-        let files = ["", RING, log.as_str()];
-        assert!(rt;
-            tells(rt.alloc(), "check - c.sp ring l.clog", files, *status, said)?,
-            "{said}"
-        );
+    for (version, status, said) in &VERSIONS {
+        assert!(rt; is_checked(rt.alloc(), version, *status, said)?, "{said}");
     }
     Ok(())
 }

@@ -1,5 +1,5 @@
-use crate::setup::{INVERTER, call, desk_with, tells};
-use cell_num::{List, Name};
+use crate::calls::{End, Said, ends};
+use crate::setup::{INVERTER, tells};
 use cell_run::Status;
 use std::alloc::Global;
 use std::test::Fail;
@@ -92,7 +92,7 @@ const CALLS: [(&str, Status, &str); 21] = [
 fn says_what_the_words_ask_for(rt: HostRuntime) -> Result<(), Fail> {
     for (words, status, said) in &CALLS {
         assert!(rt;
-            tells(rt.alloc(), words, ["", INVERTER, ""], *status, said)?,
+            tells(rt.alloc(), words, ["", INVERTER, ""], *status, &[said])?,
             "{words}"
         );
     }
@@ -107,37 +107,69 @@ fn ends_long(
     status: Status,
     said: &str,
 ) -> Result<bool, Fail> {
-    let comment = List::from_vec(vec![in alloc; b'#'; tech]?);
-    let stars = List::from_vec(vec![in alloc; b'*'; spice]?);
-    let mut desk = desk_with(alloc, comment, stars, Name::new(alloc), &[])?;
-    let got = call(alloc, "plan t.toml c.sp inv", &mut desk)?;
-    Ok(got == status && desk.all_said() == said.as_bytes())
+    let comment = vec![in alloc; b'#'; tech]?;
+    let is = ends_starred(alloc, &comment, spice, status, said);
+    drop(comment);
+    is
 }
+
+fn ends_starred(
+    alloc: Global,
+    tech: &[u8],
+    spice: usize,
+    status: Status,
+    said: &str,
+) -> Result<bool, Fail> {
+    let stars = vec![in alloc; b'*'; spice]?;
+    let is = ends_over(alloc, [tech, &stars], status, said);
+    drop(stars);
+    is
+}
+
+fn ends_over<'a>(
+    alloc: Global,
+    [tech, spice]: [&'a [u8]; 2],
+    status: Status,
+    said: &str,
+) -> Result<bool, Fail> {
+    let said = [said];
+    let end = End {
+        status,
+        said: Said::Whole(&said),
+        files: &[],
+    };
+    let given = [("t.toml", tech), ("c.sp", spice)];
+    ends(alloc, "plan t.toml c.sp inv", &given, &[], &end)
+}
+
+const LONG: [(usize, usize, Status, &str); 3] = [
+    (
+        0,
+        4_194_304,
+        Status::Input,
+        "status 4 input\nspice NoCell\n",
+    ),
+    (
+        4_194_304,
+        4_194_305,
+        Status::TooLong,
+        "status 10 long c.sp\n",
+    ),
+    (
+        4_194_305,
+        4_194_305,
+        Status::TooLong,
+        "status 10 long t.toml\n",
+    ),
+];
 
 #[test]
 fn refuses_long_files(rt: HostRuntime) -> Result<(), Fail> {
-    let alloc = rt.alloc();
-    for (tech, spice, status, said) in &[
-        (
-            0,
-            4_194_304,
-            Status::Input,
-            "status 4 input\nspice NoCell\n",
-        ),
-        (
-            4_194_304,
-            4_194_305,
-            Status::TooLong,
-            "status 10 long c.sp\n",
-        ),
-        (
-            4_194_305,
-            4_194_305,
-            Status::TooLong,
-            "status 10 long t.toml\n",
-        ),
-    ] {
-        assert!(rt; ends_long(alloc, *tech, *spice, *status, said)?, "{said}");
+    for (tech, spice, status, said) in &LONG {
+        assert!(rt;
+            ends_long(rt.alloc(), *tech, *spice, *status, said)?,
+            "{said}"
+        );
     }
     Ok(())
 }
