@@ -1,15 +1,14 @@
-ghost use Rattle.std.specs.Prelude.{◌≡◌, option_map};
+ghost use Rattle.std.specs.Prelude.{◌≡◌, ◌++◌, OnOk, option_map};
 ghost use Rattle.call_words.specs.Asked.{texts};
-ghost use Rattle.call_words.specs.Words.{shown, plan_of, making_of, make_of, check_of};
-ghost use Rattle.call_words.specs.Words.{extracting_of, extract_of, bench_of, row_of, agree_of, asked};
+ghost use Rattle.call_words.specs.Words.{shown, extracting_of, extract_of, bench_of, row_of, agree_of, asked, usage_text};
 
-use crate::cell::{CellAsked, cell_of, tech_of};
+use crate::cell::{CellAsked, tech_of};
+use crate::cell_form::{check_of, make_of, plan_of};
 use crate::count::CellCount;
-use crate::evidence::{Evidence, evidence_of};
+use crate::evidence::Evidence;
 use crate::row::{self, RowAsked};
-use crate::style::style_of;
 use cell_inputs::Style;
-use cell_num::is_cell;
+use cell_num::{Bytes, NoMemory, is_cell};
 use scmos_rules::Deck;
 
 /// What a call of the program asks for.
@@ -56,79 +55,6 @@ pub enum Form<'a> {
         lef: &'a str,
         cell: &'a str,
     },
-}
-
-// The form of the words behind `plan`.
-fn plan_of(words: &[String]) -> Option<Form<'_>>
-    ensures { option_map shown result ≡ plan_of (texts words.now) }
-{
-    let [tech, spice, cell, more @ ..] = words else {
-        return None;
-    };
-    let evidence = evidence_of(more)?;
-    let cell = cell_of(tech.as_str(), spice.as_str(), cell.as_str())?;
-    Some(Form::Plan { cell, evidence })
-}
-
-// A drawing in a style, with its evidence, in files whose names begin so.
-fn making_of<'a>(
-    style: Style,
-    evidence: Evidence,
-    tech: &'a str,
-    spice: &'a str,
-    cell: &'a str,
-    out: &'a str,
-) -> Option<Form<'a>>
-    ensures { option_map shown result ≡ making_of style evidence tech.now spice.now cell.now out.now }
-{
-    if out.is_empty() {
-        return None;
-    }
-    let cell = cell_of(tech, spice, cell)?;
-    Some(Form::Make {
-        cell,
-        out,
-        style,
-        evidence,
-    })
-}
-
-// The form of the words behind `make`.
-fn make_of(words: &[String]) -> Option<Form<'_>>
-    ensures { option_map shown result ≡ make_of (texts words.now) }
-{
-    let [tech, spice, cell, out, more @ ..] = words else {
-        return None;
-    };
-    let (style, more) = style_of(more);
-    let evidence = evidence_of(more)?;
-    making_of(
-        style,
-        evidence,
-        tech.as_str(),
-        spice.as_str(),
-        cell.as_str(),
-        out.as_str(),
-    )
-}
-
-// The form of the words behind `check`.
-fn check_of(words: &[String]) -> Option<Form<'_>>
-    ensures { option_map shown result ≡ check_of (texts words.now) }
-{
-    let [tech, spice, cell, file, more @ ..] = words else {
-        return None;
-    };
-    let evidence = evidence_of(more)?;
-    if file.is_empty() {
-        return None;
-    }
-    let cell = cell_of(tech.as_str(), spice.as_str(), cell.as_str())?;
-    Some(Form::Check {
-        cell,
-        file: file.as_str(),
-        evidence,
-    })
 }
 
 // A layout that is checked by these rules.
@@ -226,4 +152,27 @@ pub fn form_of(words: &[String]) -> Option<Form<'_>>
         "agree" => agree_of(rest),
         _ => None,
     }
+}
+
+/// Adds a line for each form.
+pub fn put_usage(out: &mut Bytes) -> Result<(), NoMemory>
+    ensures { OnOk result (out.new ≡ out.old ++ usage_text) }
+{
+    out.extend(
+        b"plan TECH SPICE CELL
+make TECH SPICE CELL OUT
+check TECH SPICE CELL LOG
+extract TECH GDS CELL
+bench NUMBER
+make TECH SPICE CELL OUT --dogleg
+make TECH SPICE CELL OUT --taps
+make TECH SPICE CELL OUT --dogleg --taps
+extract TECH GDS CELL --taps
+row TECH SPICE OUT TOP CELL CELL ..
+agree TECH GDS LEF CELL
+plan TECH SPICE CELL --trails
+check TECH SPICE CELL FILE --trails
+make TECH SPICE CELL OUT [--dogleg] [--taps] --trails
+",
+    )
 }
