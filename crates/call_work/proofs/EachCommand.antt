@@ -2,9 +2,8 @@
 use Rattle.std.proofs.Common.{ℕ, ◌≡◌, true, List, [], ◌∷◌, Option, Some, None, Result, Ok, Err, IfOk, Contains, inl, inr, refl, sym, subst}
 use Rattle.std.proofs.lemmas.List.Elements.{Contains-append_left}
 use Rattle.cell_num.specs.declared.list.NoMemory.{NoMemory as Short}
-use Rattle.agree_run.specs.Agree.{AgreesTo, comparing}
+use Rattle.agree_run.specs.Agree.{comparing}
 use Rattle.agree_run.specs.declared.agreement.AgreeAnswer.TheVariants as agreement
-use Rattle.agree_run.specs.declared.compared.Compared.{Compared}
 use Rattle.call_end.specs.declared.end.End.{End}
 use Rattle.call_end.specs.declared.status.Status.{Status}
 use Rattle.call_end.specs.declared.status.Status.TheVariants as status
@@ -20,7 +19,7 @@ use Rattle.call_work.proofs.Gathered.{IsGathered, IsInputs, IsOwn, compared_keep
 use Rattle.call_work.proofs.Statuses.{are_apart}
 use Rattle.call_work.proofs.Works.{kept_works}
 use Rattle.bench_tally.specs.Report.{BenchesTo}
-use Rattle.call_work.specs.Commands.{Kind, Planning, Making, Checking, Extracting, Benching, Rowing, Agreeing, TrailPlanning, TrailMaking, TrailChecking, Material, MaterialOf, WorksTo, gathered, kind_of, making, planning, read_by, settled_by}
+use Rattle.call_work.specs.Commands.{Kind, Planning, Making, Checking, Extracting, Benching, Rowing, Agreeing, TrailPlanning, TrailMaking, TrailChecking, Material, MaterialOf, WorksOn, WorksTo, gathered, kind_of, making, planning, read_by, settled_by}
 use Rattle.call_work.specs.Ends.{desk_statuses, is_among}
 use Rattle.call_work.specs.Kept.{WorksFor}
 use Rattle.call_work.specs.declared.commands.Material.TheVariants.{Bench as OfNumber, Read}
@@ -30,22 +29,15 @@ use Rattle.cell_inputs.specs.declared.style.Style.{Style}
 use Rattle.cell_inputs.specs.Inputs.{Inputs}
 use Rattle.cell_make.specs.Making as made
 use Rattle.cell_make.specs.Rows.{RowDrawn, RowCyclic, RowTall}
-use Rattle.check_run.specs.Check.{ChecksTo}
-use Rattle.check_run.specs.LogRead.{AreBehindAll}
-use Rattle.check_run.specs.declared.checked_log.CheckedLog.{CheckedLog}
 use Rattle.check_run.specs.declared.verdict.CheckAnswer.TheVariants.{Accepted, Misread, Rejected}
 use Rattle.lef_agree.specs.declared.differ.Differ.TheVariants as differ
-use Rattle.layout_run.specs.Extract.{ExtractsTo, extracting}
+use Rattle.layout_run.specs.Extract.{extracting}
 use Rattle.layout_run.specs.declared.extraction.ExtractAnswer.TheVariants as answer
-use Rattle.layout_run.specs.declared.gds_cell.GdsCell.{GdsCell}
-use Rattle.row_make.specs.RowInputs.{RowInputs}
 use Rattle.row_make.specs.Rowed as rows
 use Rattle.row_make.specs.declared.outcome.InputFault.TheVariants as input
-use Rattle.row_run.specs.Row.{RowsTo, rowing}
-use Rattle.make_run.specs.Make.{MakesTo}
-use Rattle.make_run.specs.Plan.{PlansTo, Planned, Unfinished}
+use Rattle.row_run.specs.Row.{rowing}
+use Rattle.make_run.specs.Plan.{Planned, Unfinished}
 use Rattle.trail_make.specs.Make as trail_make
-use Rattle.trail_run.specs.Check.{TrailChecksTo}
 use Rattle.trail_run.specs.Plan as trail
 use Rattle.trail_run.specs.declared.checking.TrailAnswer.TheVariants as checked
 
@@ -122,39 +114,24 @@ is_row form is = subst (λ (kind : Kind). HasWords kind form) is (has_words form
 
 -- ---- the work on what is kept
 
-behind_works : (inputs : Inputs) (log : CheckedLog) (r : Result End Short) → IfOk r (λ end. (bytes : List ℕ) → AreBehindAll inputs bytes log.reader log.checker → ChecksTo inputs bytes end) → IfOk r (WorksFor (Read (held.Checking inputs log)))
-behind_works inputs log (Err e) checks = tt
-behind_works inputs log (Ok end) checks = λ m (bytes, is, behind). subst (λ (x : Material). WorksTo x.0 x.1 end) (sym is) (checks bytes behind)
+works_for : (kept : Own) (end : End) → WorksOn kept end → WorksFor (Read kept) end
+works_for (held.Planning inputs) end works = kept_works Planning inputs end works
+works_for (held.Making inputs out style) end works = kept_works Making (inputs, out, style) end works
+works_for (held.Checking inputs log) end works = λ m (bytes, is, behind). kept_works Checking (inputs, bytes) end (works bytes behind) m is
+works_for (held.Extracting cell) end works = kept_works Extracting cell end works
+works_for (held.Rowing inputs out) end works = kept_works Rowing (inputs, out) end works
+works_for (held.Agreeing both) end works = kept_works Agreeing both end works
+works_for (held.TrailPlanning inputs) end works = kept_works TrailPlanning inputs end works
+works_for (held.TrailMaking inputs out style) end works = kept_works TrailMaking (inputs, out, style) end works
+works_for (held.TrailChecking inputs bytes) end works = kept_works TrailChecking (inputs, bytes) end works
 
-pub plan_works : (kept : Own) (inputs : Inputs) (r : Result End Short) → kept ≡ held.Planning inputs → IfOk r (PlansTo inputs) → IfOk r (WorksFor (Read kept))
-plan_works kept inputs r is works = rw is (kept_works Planning inputs r works)
-
-pub make_works : (kept : Own) (inputs : Inputs) (out : List ℕ) (style : Style) (r : Result End Short) → kept ≡ held.Making inputs out style → IfOk r (MakesTo style inputs out) → IfOk r (WorksFor (Read kept))
-make_works kept inputs out style r is works = rw is (kept_works Making (inputs, out, style) r works)
-
-pub check_works : (kept : Own) (inputs : Inputs) (log : CheckedLog) (r : Result End Short) → kept ≡ held.Checking inputs log → IfOk r (λ end. (bytes : List ℕ) → AreBehindAll inputs bytes log.reader log.checker → ChecksTo inputs bytes end) → IfOk r (WorksFor (Read kept))
-check_works kept inputs log r is works = rw is (behind_works inputs log r works)
-
-pub extract_works : (kept : Own) (cell : GdsCell) (r : Result End Short) → kept ≡ held.Extracting cell → IfOk r (ExtractsTo cell) → IfOk r (WorksFor (Read kept))
-extract_works kept cell r is works = rw is (kept_works Extracting cell r works)
+pub all_work : (kept : Own) (r : Result End Short) → IfOk r (WorksOn kept) → IfOk r (WorksFor (Read kept))
+all_work kept (Err e) works = tt
+all_work kept (Ok end) works = works_for kept end works
 
 pub bench_works : (number : ℕ) (r : Result End Short) → IfOk r (BenchesTo number) → IfOk r (WorksFor (OfNumber number))
-bench_works number r works = kept_works Benching number r works
-
-pub row_works : (kept : Own) (inputs : RowInputs) (out : List ℕ) (r : Result End Short) → kept ≡ held.Rowing inputs out → IfOk r (RowsTo inputs out) → IfOk r (WorksFor (Read kept))
-row_works kept inputs out r is works = rw is (kept_works Rowing (inputs, out) r works)
-
-pub agree_works : (kept : Own) (both : Compared) (r : Result End Short) → kept ≡ held.Agreeing both → IfOk r (AgreesTo both) → IfOk r (WorksFor (Read kept))
-agree_works kept both r is works = rw is (kept_works Agreeing both r works)
-
-pub trail_plan_works : (kept : Own) (inputs : Inputs) (r : Result End Short) → kept ≡ held.TrailPlanning inputs → IfOk r (trail.TrailPlansTo inputs) → IfOk r (WorksFor (Read kept))
-trail_plan_works kept inputs r is works = rw is (kept_works TrailPlanning inputs r works)
-
-pub trail_make_works : (kept : Own) (inputs : Inputs) (out : List ℕ) (style : Style) (r : Result End Short) → kept ≡ held.TrailMaking inputs out style → IfOk r (trail_make.TrailMakesTo style inputs out) → IfOk r (WorksFor (Read kept))
-trail_make_works kept inputs out style r is works = rw is (kept_works TrailMaking (inputs, out, style) r works)
-
-pub trail_check_works : (kept : Own) (inputs : Inputs) (bytes : List ℕ) (r : Result End Short) → kept ≡ held.TrailChecking inputs bytes → IfOk r (TrailChecksTo inputs bytes) → IfOk r (WorksFor (Read kept))
-trail_check_works kept inputs bytes r is works = rw is (kept_works TrailChecking (inputs, bytes) r works)
+bench_works number (Err e) works = tt
+bench_works number (Ok end) works = kept_works Benching number end works
 
 -- ---- what the work comes to
 

@@ -13,9 +13,8 @@ use Rattle.call_work.specs.Kept.{AreKept, MayKeep, WorksFor}
 use Rattle.call_work.specs.declared.commands.Material.{Material as Own}
 
 -- on a material that is kept so
-pub kept_works : (kind : Kind) (x : MaterialOf kind) (r : Result End Short) → IfOk r (WorksTo kind x) → IfOk r (λ end. (m : Material) → m ≡ (kind, x) → WorksTo m.0 m.1 end)
-kept_works kind x (Err e) works = tt
-kept_works kind x (Ok end) works = λ m is. subst (λ (y : Material). WorksTo y.0 y.1 end) (sym is) works
+pub kept_works : (kind : Kind) (x : MaterialOf kind) (end : End) → WorksTo kind x end → (m : Material) → m ≡ (kind, x) → WorksTo m.0 m.1 end
+kept_works kind x end works = λ m is. subst (λ (y : Material). WorksTo y.0 y.1 end) (sym is) works
 
 pub ends_work : (old new : View) (form : Option Form) (got : Result Own Refusal) (own : Own) (r : Result End Short) → MayKeep old new (gathered form) got → got ≡ Ok own → IfOk r (WorksFor own) → IfOk r (MayEnd old new form)
 ends_work old new form got own (Err e) kept is works = tt

@@ -16,6 +16,7 @@ use Rattle.call_words.specs.Words.{Form, Plan, Make, Check, Extract, Bench, Row,
 use Rattle.bench_tally.specs.Report.{BenchesTo}
 use Rattle.call_work.specs.declared.commands.Material.{Material as Kept}
 use Rattle.call_work.specs.declared.commands.Material.TheVariants as kept
+use Rattle.call_work.specs.declared.commands.ReadMaterial.{ReadMaterial as Own}
 use Rattle.call_work.specs.declared.commands.ReadMaterial.TheVariants as read
 use Rattle.cell_inputs.specs.declared.style.Style.{Style}
 use Rattle.cell_inputs.specs.Inputs.{Inputs}
@@ -145,6 +146,19 @@ WorksTo Agreeing both end = AgreesTo both end
 WorksTo TrailPlanning inputs end = TrailPlansTo inputs end
 WorksTo TrailMaking m end = TrailMakesTo m.2 m.0 m.1 end
 WorksTo TrailChecking m end = TrailChecksTo m.0 m.1 end
+
+-- the same of what the program keeps: of a check, whatever the bytes were that its log is behind
+abbrev pub WorksOn : Own → End → Type 0
+WorksOn (read.Planning inputs) end = PlansTo inputs end
+WorksOn (read.Making inputs stem style) end = MakesTo style inputs stem end
+WorksOn (read.Checking inputs log) end =
+    (bytes : List ℕ) → AreBehindAll inputs bytes log.reader log.checker → ChecksTo inputs bytes end
+WorksOn (read.Extracting cell) end = ExtractsTo cell end
+WorksOn (read.Rowing inputs stem) end = RowsTo inputs stem end
+WorksOn (read.Agreeing both) end = AgreesTo both end
+WorksOn (read.TrailPlanning inputs) end = TrailPlansTo inputs end
+WorksOn (read.TrailMaking inputs stem style) end = TrailMakesTo style inputs stem end
+WorksOn (read.TrailChecking inputs bytes) end = TrailChecksTo inputs bytes end
 
 -- the statuses that the words or the files call for: a search alone is unfinished, a making alone, of one cell or of a
 -- row, meets a cycle or is too tall, evidence or a layout alone is rejected, a GDSII file alone holds no netlist, cells of

@@ -2,7 +2,7 @@ ghost use Rattle.std.specs.Prelude.{Some, IfOk, option_map};
 ghost use Rattle.cell_io.specs.Desk.{OnlyReads};
 ghost use Rattle.call_read.specs.Read.{KeepsReads};
 ghost use Rattle.call_words.specs.Words.{Plan, Make, Check, Extract, Row, Agree, shown};
-ghost use Rattle.call_work.specs.Commands.{gathered};
+ghost use Rattle.call_work.specs.Commands.{WorksOn, gathered};
 ghost use Rattle.call_work.specs.Kept.{MayKeep, WorksFor};
 ghost use Rattle.call_work.specs.declared.commands.Material.TheVariants.{Read};
 
@@ -148,6 +148,41 @@ fn for_agree<D: Desk>(
     Ok(Material::Read(ReadMaterial::Agreeing(both)))
 }
 
+fn gather_form<D: Desk>(alloc: Global, desk: &mut D, form: Form<'_>) -> Result<Material, Refusal>
+    ensures comes { MayKeep (D.view desk.old) (D.view desk.new) (gathered (Some (shown form.entry))) result }
+    ensures quiet { KeepsReads result (D.view desk.old) (D.view desk.new) }
+    ensures only { OnlyReads (D.view desk.old) (D.view desk.new) }
+{
+    match form {
+        Form::Plan { cell, evidence } => for_plan(alloc, desk, &cell, evidence),
+        Form::Make {
+            cell,
+            out,
+            style,
+            evidence,
+        } => for_make(alloc, desk, &cell, out, style, evidence),
+        Form::Check {
+            cell,
+            file,
+            evidence,
+        } => for_check(alloc, desk, &cell, file, evidence),
+        Form::Extract {
+            tech,
+            gds,
+            cell,
+            rules,
+        } => for_extract(alloc, desk, tech, gds, cell, rules),
+        Form::Bench { number } => Ok(Material::Bench(number)),
+        Form::Row { row, out } => for_row(alloc, desk, &row, out),
+        Form::Agree {
+            tech,
+            gds,
+            lef,
+            cell,
+        } => for_agree(alloc, desk, tech, gds, lef, cell),
+    }
+}
+
 /// Reads what the form asks for, up to the first step that refuses.
 pub fn gather<D: Desk>(
     alloc: Global,
@@ -159,47 +194,13 @@ pub fn gather<D: Desk>(
     ensures only { OnlyReads (D.view desk.old) (D.view desk.new) }
 {
     match form {
-        Some(Form::Plan { cell, evidence }) => for_plan(alloc, desk, &cell, evidence),
-        Some(
-            Form::Make {
-                cell,
-                out,
-                style,
-                evidence,
-            },
-        ) => for_make(alloc, desk, &cell, out, style, evidence),
-        Some(
-            Form::Check {
-                cell,
-                file,
-                evidence,
-            },
-        ) => for_check(alloc, desk, &cell, file, evidence),
-        Some(
-            Form::Extract {
-                tech,
-                gds,
-                cell,
-                rules,
-            },
-        ) => for_extract(alloc, desk, tech, gds, cell, rules),
-        Some(Form::Bench { number }) => Ok(Material::Bench(number)),
-        Some(Form::Row { row, out }) => for_row(alloc, desk, &row, out),
-        Some(
-            Form::Agree {
-                tech,
-                gds,
-                lef,
-                cell,
-            },
-        ) => for_agree(alloc, desk, tech, gds, lef, cell),
+        Some(form) => gather_form(alloc, desk, form),
         None => Err(Refusal::Words),
     }
 }
 
-/// Does the work of a command on what it read. It reads, makes and says nothing.
-pub fn work(alloc: Global, material: &ReadMaterial) -> Result<End, NoMemory>
-    ensures { IfOk result (WorksFor (Read material.now)) }
+fn work_on(alloc: Global, material: &ReadMaterial) -> Result<End, NoMemory>
+    ensures { IfOk result (WorksOn material.now) }
 {
     match material {
         ReadMaterial::Planning(inputs) => plan(alloc, inputs),
@@ -216,4 +217,11 @@ pub fn work(alloc: Global, material: &ReadMaterial) -> Result<End, NoMemory>
             check_by_trails(alloc, inputs, bytes.as_slice())
         }
     }
+}
+
+/// Does the work of a command on what it read. It reads, makes and says nothing.
+pub fn work(alloc: Global, material: &ReadMaterial) -> Result<End, NoMemory>
+    ensures { IfOk result (WorksFor (Read material.now)) }
+{
+    work_on(alloc, material)
 }
