@@ -1,7 +1,7 @@
 -- What holds of the answer of steps in order, and of one that refused a GDSII file.
 use Rattle.std.proofs.Common.{ℕ, ◌≡◌, ◌≢◌, List, Result, Ok, Err, IfErr, refl, sym, ap, ◌∙◌}
-use Rattle.gds_read.specs.declared.fault.GdsFault.{GdsFault}
-use Rattle.gds_read.specs.declared.fault.GdsFault.TheVariants as gds
+use Rattle.gds_area.specs.declared.fault.GdsFault.{GdsFault}
+use Rattle.gds_area.specs.declared.fault.GdsFault.TheVariants as gds
 use Rattle.gds_read.specs.Decoding.{GdsRefused, IsRefused, decoded}
 use Rattle.call_read.specs.declared.refusal.Refusal.{Refusal}
 use Rattle.call_read.specs.declared.refusal.Refusal.TheVariants.{Gds, NoMemory}

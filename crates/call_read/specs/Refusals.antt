@@ -6,8 +6,8 @@ use Rattle.spice_net.specs.declared.fault.SpiceFault.{SpiceFault}
 use Rattle.spice_net.specs.declared.fault.SpiceFault.TheVariants as spice
 use Rattle.finger_fold.specs.declared.folding.FoldFault.{FoldFault}
 use Rattle.finger_fold.specs.declared.folding.FoldFault.TheVariants as fold
-use Rattle.gds_read.specs.declared.fault.GdsFault.{GdsFault}
-use Rattle.gds_read.specs.declared.fault.GdsFault.TheVariants as gds
+use Rattle.gds_area.specs.declared.fault.GdsFault.{GdsFault}
+use Rattle.gds_area.specs.declared.fault.GdsFault.TheVariants as gds
 use Rattle.lef_read.specs.declared.fault.LefFault.{LefFault}
 use Rattle.lef_read.specs.declared.fault.LefFault.TheVariants as lef
 use Rattle.call_read.specs.declared.refusal.Refusal.{Refusal}

@@ -2,7 +2,7 @@ ghost use Rattle.std.specs.Prelude.{◌≡◌};
 
 use cell_num::{Name, NoMemory};
 use finger_fold::FoldFault;
-use gds_read::GdsFault;
+use gds_area::GdsFault;
 use lef_read::LefFault;
 use spice_net::SpiceFault;
 use tech_file::TechFault;

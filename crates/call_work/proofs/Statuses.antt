@@ -9,7 +9,7 @@ use Rattle.call_end.specs.Status.{number_of}
 use Rattle.call_read.specs.declared.refusal.Refusal.{Refusal}
 use Rattle.call_read.specs.declared.refusal.Refusal.TheVariants.{Words, Unread, Long, Tech, Spice, Fold, Gds, Lef, NoMemory}
 use Rattle.call_work.specs.Ends.{is_among, refusal_status}
-use Rattle.gds_read.specs.declared.fault.GdsFault.{GdsFault}
+use Rattle.gds_area.specs.declared.fault.GdsFault.{GdsFault}
 use Rattle.lef_read.specs.declared.fault.LefFault.{LefFault}
 
 pub differ : (a b : Status) → (number_of a == number_of b) ≡ false → a ≡ b → ⊥

@@ -1,7 +1,7 @@
 -- The faults of a GDSII file, of the checks of a drawing and of its extraction, by their names and fields.
 use Rattle.std.specs.Prelude.{ℕ, List, [], ◌∷◌, codes}
-use Rattle.gds_read.specs.declared.fault.GdsFault.{GdsFault}
-use Rattle.gds_read.specs.declared.fault.GdsFault.TheVariants as gds
+use Rattle.gds_area.specs.declared.fault.GdsFault.{GdsFault}
+use Rattle.gds_area.specs.declared.fault.GdsFault.TheVariants as gds
 use Rattle.scmos_rules.specs.declared.violation.RuleFault.{RuleFault}
 use Rattle.scmos_rules.specs.declared.violation.RuleFault.TheVariants as rules
 use Rattle.net_extract.specs.declared.fault.ExtractFault.{ExtractFault}

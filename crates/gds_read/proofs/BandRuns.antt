@@ -8,11 +8,11 @@ use Rattle.cell_num.proofs.Lists.{contains_none, all_from_contains}
 use Rattle.cell_num.proofs.Pairs.{pairs_none, pairs_append}
 use Rattle.box_geom.specs.Rectangle.{Rectangle}
 use Rattle.box_geom.specs.Runs.{IsRun}
-use Rattle.gds_read.specs.declared.point.Point.{Point}
-use Rattle.gds_read.specs.Points.{Step, steps_from}
-use Rattle.gds_read.specs.EvenOdd.{crosses, is_crossed, IsInside, crossings, with_height, heights, runs, bands, boundary_rectangles}
+use Rattle.gds_area.specs.declared.point.Point.{Point}
+use Rattle.gds_area.specs.Points.{Step, steps_from}
+use Rattle.gds_area.specs.EvenOdd.{crosses, is_crossed, IsInside, crossings, with_height, heights, runs, bands, boundary_rectangles}
 use Rattle.gds_read.specs.Drawn.{HasHeight, IsRunOf, IsBefore}
-use Rattle.gds_read.proofs.Ascending.{less_is, more_is, tally, tally_is, Above, Up, above_up, odd_up}
+use Rattle.gds_area.proofs.Ascending.{less_is, more_is, tally, tally_is, Above, Up, above_up, odd_up}
 use Rattle.gds_read.proofs.Covered.{upto, none_upto, by_pair, not_below, crossings_upto, in_heights, heights_up}
 
 -- ---- the runs of a row

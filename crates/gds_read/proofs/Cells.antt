@@ -2,11 +2,11 @@
 use Rattle.std.proofs.Common.{ℕ, ◌≡◌, List, [], ◌∷◌, Result, Ok, ap, ◌∙◌}
 use Rattle.box_geom.specs.declared.shape.Shapes.{Shapes}
 use Rattle.gds_record.specs.Records.{Item, IsBytes}
-use Rattle.gds_read.specs.declared.fault.GdsFault.{GdsFault}
+use Rattle.gds_area.specs.declared.fault.GdsFault.{GdsFault}
 use Rattle.cell_num.specs.Steps.{◌>>=◌}
 use Rattle.gds_read.specs.Grammar.{first_pass_of}
 use Rattle.gds_read.specs.Structure.{found_in, one_of}
-use Rattle.gds_read.specs.declared.taken.Taken.{Taken}
+use Rattle.gds_area.specs.declared.taken.Taken.{Taken}
 use Rattle.gds_read.specs.Elements.{elements_of}
 use Rattle.gds_read.specs.Flat.{drawn}
 use Rattle.gds_read.specs.Decoding.{file_in, decoded, Decodes, IsCell}

@@ -1,48 +1,34 @@
 -- References, and the structures that they draw.
-use Rattle.std.proofs.Common.{ℕ, zero, suc, ◌≡◌, ◌+◌, ◌-◌, ◌<◌, ◌≤◌, nat_lt, arith, length, List, Option, Some, None, Result, Ok, Err, refl, sym, subst, ap, ◌∙◌, append_assoc, append-nil, inl, inr}
+use Rattle.std.proofs.Common.{ℕ, zero, suc, ◌≡◌, ◌+◌, ◌-◌, ◌<◌, ◌≤◌, nat_lt, arith, List, Option, Some, None, Result, Ok, Err, refl, sym, subst, ap, ◌∙◌, append_assoc, inl, inr}
 use Rattle.std.proofs.lemmas.Bool.{cases_Bool, ltb-true, ltb-false}
 use Rattle.gds_record.specs.declared.record.GdsRec.{GdsRec}
 use Rattle.gds_record.specs.declared.types.RecordType.{RecordType}
 use Rattle.gds_record.specs.declared.types.RecordType.TheVariants as record_type
 use Rattle.std.proofs.lemmas.Int.{ints}
 use Rattle.gds_record.specs.Records.{Item, items_from}
-use Rattle.gds_read.specs.declared.fault.GdsFault.{GdsFault}
-use Rattle.gds_read.specs.declared.fault.GdsFault.TheVariants as fault
-use Rattle.gds_read.specs.declared.units.Grid.{Grid}
+use Rattle.gds_area.specs.declared.fault.GdsFault.{GdsFault}
+use Rattle.gds_area.specs.declared.fault.GdsFault.TheVariants as fault
+use Rattle.gds_area.specs.declared.units.Grid.{Grid}
 use Rattle.gds_read.specs.declared.reference.Array.{Array}
-use Rattle.gds_read.specs.declared.taken.Taken.{Taken}
-use Rattle.gds_read.specs.declared.taken.Around.{Around}
-use Rattle.gds_read.specs.declared.taken.Frame.{Frame}
+use Rattle.gds_area.specs.declared.taken.Taken.{Taken}
+use Rattle.gds_area.specs.declared.taken.Around.{Around}
+use Rattle.gds_area.specs.declared.taken.Frame.{Frame}
 use Rattle.gds_read.specs.declared.reference.Copies.{Copies}
 use Rattle.cell_num.specs.Steps.{◌>>=◌, or_fault}
-use Rattle.gds_read.specs.Moves.{IsNear}
-use Rattle.gds_read.specs.Taken.{one_reference, nothing_taken, both, amount, within_limit, Adds}
+use Rattle.gds_area.specs.Moves.{IsNear}
+use Rattle.gds_area.specs.Taken.{one_reference, nothing_taken, both, amount, within_limit, Adds, around_of}
 use Rattle.gds_read.specs.References.{target_in, array_of, Targets}
 use Rattle.gds_read.specs.Elements.{inside_of, element_of, elements_of}
-use Rattle.gds_read.specs.Flat.{file_of, around_of, flat, copies_of, copies_in, referred_in, drawn_in, drawn_around, text_by, element_in, flat_in, IsFrame}
+use Rattle.gds_read.specs.Flat.{file_of, flat, copies_of, copies_in, referred_in, drawn_in, drawn_around, text_by, element_in, flat_in, IsFrame}
 use Rattle.gds_read.proofs.Drawings.{with_front, front_nothing, amount_both, fault_kept}
-use Rattle.gds_read.proofs.Limits.{within, beyond}
+use Rattle.gds_area.proofs.Counting.{within, beyond}
 use Rattle.std.specs.List.{range_with_len}
-use Rattle.gds_read.specs.declared.placement.Move.{Move}
-use Rattle.gds_read.specs.Moves.{composed}
+use Rattle.gds_area.specs.declared.placement.Move.{Move}
+use Rattle.gds_area.specs.Moves.{composed}
 use Rattle.gds_read.specs.References.{copy_at}
-use Rattle.gds_read.specs.Taken.{in_order}
+use Rattle.gds_area.specs.Taken.{in_order}
 use Rattle.gds_read.specs.Flat.{row_in}
 use Rattle.gds_read.proofs.Drawings.{numbers_more, numbers_done, numbers_stop}
-
--- ---- one reference more
-
-abbrev one_more : Taken → Taken
-one_more old = record { shapes = old.shapes; refs = old.refs + 1 }
-
-one_is : (old : Taken) → both old one_reference ≡ one_more old
-one_is old = rw (append-nil old.shapes.rects, append-nil old.shapes.labels) refl
-
-pub counted : (outer : ℕ) (old : Taken) → amount old ≤ 1000000 → length old.shapes.rects < 1000000 - old.refs → Adds (Ok tt) old (one_more old) (within_limit outer (amount old) one_reference)
-counted outer old fit few = rw (within outer (amount old) one_reference (omega (arith, few))) (sym (one_is old))
-
-pub counted_wide : (outer : ℕ) (old : Taken) → amount old ≤ 1000000 → 1000000 - old.refs ≤ length old.shapes.rects → within_limit outer (amount old) one_reference ≡ Err (fault.Wide outer)
-counted_wide outer old fit many = beyond outer (amount old) one_reference (omega (arith, many, fit))
 
 -- ---- a copy
 

@@ -5,10 +5,10 @@ use Rattle.std.proofs.lemmas.Int.{ints, by_lt_z}
 use Rattle.cell_num.proofs.In.{In}
 use Rattle.cell_num.proofs.Lists.{contains_none, contains_cons, contains_here, contains_there}
 use Rattle.box_geom.specs.Rectangle.{Rectangle, Holds, Covers}
-use Rattle.gds_read.specs.declared.point.Point.{Point}
-use Rattle.gds_read.specs.Points.{Step, steps_from}
-use Rattle.gds_read.specs.EvenOdd.{crosses, is_crossed, IsInside, crossings, with_height, heights, runs, bands, boundary_rectangles}
-use Rattle.gds_read.proofs.Ascending.{less_is, more_is, below_is, above_is, not_both, tally, tally_is, tally_mapped, Above, Up, above_up, odd_up, odd_parity, height_up}
+use Rattle.gds_area.specs.declared.point.Point.{Point}
+use Rattle.gds_area.specs.Points.{Step, steps_from}
+use Rattle.gds_area.specs.EvenOdd.{crosses, is_crossed, IsInside, crossings, with_height, heights, runs, bands, boundary_rectangles}
+use Rattle.gds_area.proofs.Ascending.{less_is, more_is, below_is, above_is, not_both, tally, tally_is, tally_mapped, Above, Up, above_up, odd_up, odd_parity, height_up}
 
 -- ---- some rectangle of a list holds a cell
 

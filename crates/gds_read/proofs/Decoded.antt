@@ -6,14 +6,14 @@ use Rattle.gds_read.specs.Real.{nearest, word_at}
 use Rattle.std.proofs.Common.{ℕ, ◌≤◌, arith, inl, inr, ◌≡◌, List, [], ◌∷◌, Result, Ok, Err, IfOk, IfErr, refl, sym, ap, subst, ◌∙◌}
 use Rattle.box_geom.specs.declared.shape.Shapes.{Shapes}
 use Rattle.gds_record.specs.Records.{Item, items_from}
-use Rattle.gds_read.specs.declared.fault.GdsFault.{GdsFault}
-use Rattle.gds_read.specs.declared.fault.GdsFault.TheVariants as fault
+use Rattle.gds_area.specs.declared.fault.GdsFault.{GdsFault}
+use Rattle.gds_area.specs.declared.fault.GdsFault.TheVariants as fault
 use Rattle.gds_read.specs.declared.structure.Lookup.TheVariants as lookup
 use Rattle.cell_num.specs.Steps.{◌>>=◌}
 use Rattle.gds_read.specs.Grammar.{first_pass_of}
 use Rattle.gds_read.specs.Structure.{found_in, one_of, Finds}
-use Rattle.gds_read.specs.declared.taken.Taken.{Taken}
-use Rattle.gds_read.specs.declared.units.Grid.{Grid}
+use Rattle.gds_area.specs.declared.taken.Taken.{Taken}
+use Rattle.gds_area.specs.declared.units.Grid.{Grid}
 use Rattle.gds_read.specs.Elements.{elements_of}
 use Rattle.gds_read.specs.Flat.{file_of, drawn, Gives}
 use Rattle.gds_read.specs.Decoding.{unit_in, grid_in, file_in, decoded, Decodes, GdsRefused, IsRefused, IsTwiceOf}

@@ -12,16 +12,16 @@ use Rattle.gds_record.specs.declared.types.RecordType.TheVariants as record_type
 use Rattle.gds_record.specs.Types.{number_of, type_numbered}
 use Rattle.gds_record.specs.Records.{Item, item_of, record_at, items_from}
 use Rattle.gds_record.proofs.Walks.{items_end, items_more}
-use Rattle.gds_read.specs.declared.fault.GdsFault.{GdsFault}
-use Rattle.gds_read.specs.declared.fault.GdsFault.TheVariants as fault
-use Rattle.gds_read.specs.declared.units.Grid.{Grid}
+use Rattle.gds_area.specs.declared.fault.GdsFault.{GdsFault}
+use Rattle.gds_area.specs.declared.fault.GdsFault.TheVariants as fault
+use Rattle.gds_area.specs.declared.units.Grid.{Grid}
 use Rattle.gds_read.specs.declared.label.Spot.{Spot}
-use Rattle.gds_read.specs.declared.taken.Taken.{Taken}
-use Rattle.gds_read.specs.declared.taken.Around.{Around}
-use Rattle.gds_read.specs.declared.taken.Frame.{Frame}
+use Rattle.gds_area.specs.declared.taken.Taken.{Taken}
+use Rattle.gds_area.specs.declared.taken.Around.{Around}
+use Rattle.gds_area.specs.declared.taken.Frame.{Frame}
 use Rattle.cell_num.specs.Steps.{◌>>=◌}
 use Rattle.gds_read.specs.Grammar.{element_begun}
-use Rattle.gds_read.specs.Taken.{plain, nothing_taken, both, amount, in_order, Adds}
+use Rattle.gds_area.specs.Taken.{plain, nothing_taken, both, amount, in_order, Adds}
 use Rattle.gds_read.specs.Elements.{Element, until, with_element, elements_of, with_label}
 use Rattle.gds_read.specs.Flat.{File, Below, file_of, flat, element_by, element_in, record_in, drawn_in, drawn_record, drawn, Gives}
 

@@ -8,11 +8,12 @@ use Rattle.gds_record.specs.declared.record.RecFault.TheVariants.{Cut}
 use Rattle.gds_record.specs.Records.{Raw, IsRaw, IsBytes, spelled, spelling, item, placed, ends, raw_at, Item, item_of, Stream, with_record, record_at, walk, records_from}
 use Rattle.gds_record.proofs.Spelled.{join, stream_spelled, ends_at}
 use Rattle.gds_record.proofs.Cuts.{Cuts, cuts}
-use Rattle.gds_read.specs.declared.fault.GdsFault.{GdsFault}
+use Rattle.gds_area.specs.declared.fault.GdsFault.{GdsFault}
 use Rattle.gds_read.specs.declared.grammar.Place.{Place}
 use Rattle.gds_read.specs.declared.grammar.Place.TheVariants.{Start, Opened, Library, Naming, Structure, Element, Ended}
 use Rattle.cell_num.specs.Steps.{◌>>=◌}
-use Rattle.gds_read.specs.Grammar.{pass, pass_from, first_pass_of, step_of, zeros_behind, goes_on, as_fault}
+use Rattle.gds_read.specs.Grammar.{pass, pass_from, first_pass_of, step_of, zeros_behind, goes_on}
+use Rattle.gds_area.specs.Faults.{as_fault}
 use Rattle.gds_read.specs.Library.{Follows, fault_or, step_at, HasFault, IsFirstFault}
 use Rattle.gds_read.proofs.Passes.{pass_stops, pass_fails}
 use Rattle.gds_read.proofs.Found.{follows_more, spelled_length, same_item, parts_of, passes_all}

@@ -3,8 +3,8 @@ use Rattle.std.proofs.Common.{ℕ, zero, suc, ◌≡◌, ◌+◌, ◌*◌, ◌/�
 use Rattle.std.specs.Int.{int_div_euclid}
 use Rattle.std.proofs.lemmas.Int.{ints}
 use Rattle.std.proofs.Math.Nat.{div-add-mod, mod-lt}
-use Rattle.gds_read.specs.declared.units.Grid.{Grid}
-use Rattle.gds_read.specs.Units.{limited_to_grid, scaled_by, step_of_grid, floor_units_of}
+use Rattle.gds_area.specs.declared.units.Grid.{Grid}
+use Rattle.gds_area.specs.Units.{limited_to_grid, scaled_by, step_of_grid, floor_units_of}
 use Rattle.gds_read.specs.Drawn.{IsFloor}
 
 record IsBelow (v d z : ℤ) : Type 0 where

@@ -11,7 +11,7 @@ use Rattle.gds_record.specs.declared.record.RecFault.{RecFault}
 use Rattle.gds_record.specs.Records.{Raw, IsRaw, IsBytes, spelled, spelling, item, placed, ends, raw_at, Item, item_of, Stream, with_record, record_at, walk, records_from}
 use Rattle.gds_record.proofs.Spelled.{join, stream_spelled, ends_at}
 use Rattle.gds_record.proofs.Cuts.{Cuts, cuts}
-use Rattle.gds_read.specs.declared.fault.GdsFault.{GdsFault}
+use Rattle.gds_area.specs.declared.fault.GdsFault.{GdsFault}
 use Rattle.gds_read.specs.declared.grammar.Place.{Place}
 use Rattle.gds_read.specs.declared.grammar.Place.TheVariants.{Start, Opened, Library, Naming, Structure, Element, Ended}
 use Rattle.cell_num.specs.Steps.{◌>>=◌}

@@ -1,4 +1,3 @@
-pub mod Ascending
 pub mod BandRuns
 pub mod Cells
 pub mod Copied
@@ -14,11 +13,8 @@ pub mod Indexed
 pub mod LibraryWords
 pub mod Limits
 pub mod Listed
-pub mod Moved
 pub mod Nearest
 pub mod Passes
-pub mod PointLists
-pub mod Putting
 pub mod Reals
 pub mod Rectangles
 pub mod Refused
@@ -33,11 +29,7 @@ pub mod RoundTripPadded
 pub mod RoundTripRedrawn
 pub mod RoundTripReferred
 pub mod RoundTripWords
-pub mod Rows
 pub mod Steps
-pub mod Stretches
-pub mod Sweeping
 pub mod Tails
 pub mod Trim
-pub mod Unpaired
 pub mod Words

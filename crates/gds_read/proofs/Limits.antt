@@ -3,20 +3,21 @@ use Rattle.std.proofs.Common.{ℕ, ◌≡◌, ◌+◌, ◌-◌, ◌<◌, ◌≤�
 use Rattle.std.proofs.lemmas.Bool.{cases_Bool, ltb-true, ltb-false}
 use Rattle.std.proofs.Common.{length-append}
 use Rattle.box_geom.specs.declared.shape.Shape.{Shape}
-use Rattle.gds_read.specs.declared.fault.GdsFault.{GdsFault}
-use Rattle.gds_read.specs.declared.fault.GdsFault.TheVariants as fault
-use Rattle.gds_read.specs.declared.area.Area.{Area}
-use Rattle.gds_read.specs.declared.area.Pen.{Pen}
+use Rattle.gds_area.specs.declared.fault.GdsFault.{GdsFault}
+use Rattle.gds_area.specs.declared.fault.GdsFault.TheVariants as fault
+use Rattle.gds_area.specs.declared.area.Area.{Area}
+use Rattle.gds_area.specs.declared.area.Pen.{Pen}
 use Rattle.box_geom.specs.declared.layer.Layer.{Layer}
 use Rattle.gds_record.specs.Records.{Item}
-use Rattle.gds_read.specs.declared.units.Grid.{Grid}
-use Rattle.gds_read.specs.Points.{points_of}
-use Rattle.gds_read.specs.Areas.{shape_of, shapes_of, with_kept, put, put_all, Puts}
-use Rattle.gds_read.specs.declared.placement.Move.{Move}
-use Rattle.gds_read.specs.declared.taken.Taken.{Taken}
-use Rattle.gds_read.specs.Taken.{rectangles, both, amount, within_limit, Adds}
+use Rattle.gds_area.specs.declared.units.Grid.{Grid}
+use Rattle.gds_area.specs.Points.{points_of}
+use Rattle.gds_area.specs.Areas.{shape_of, shapes_of, with_kept, put, put_all, Puts}
+use Rattle.gds_area.specs.declared.placement.Move.{Move}
+use Rattle.gds_area.specs.declared.taken.Taken.{Taken}
+use Rattle.gds_area.specs.Taken.{rectangles, both, amount, within_limit, Adds}
 use Rattle.gds_read.specs.Elements.{layer_of, xy_place, xy_of, boundary_areas, path_areas_of, pen_of, pen_for, drawn_on}
-use Rattle.gds_read.proofs.Putting.{fault_of}
+use Rattle.gds_area.proofs.Counting.{within, beyond}
+use Rattle.gds_area.proofs.Putting.{fault_of}
 use Rattle.gds_read.proofs.Drawings.{adds_fault_of}
 use Rattle.cell_num.specs.Steps.{◌>>=◌}
 
@@ -74,18 +75,6 @@ kept_many old (s ∷ ss) h =
       | inl e ↦ let more = ltb-true 1000000 (length old) e in rw (full old s (omega (arith, more))) (let rest = longer old ss in omega (arith, rest, more))
       | inr e ↦ let few = ltb-false 1000000 (length old) e in rw (room old s (omega (arith, few))) (kept_many (old ++ s ∷ []) ss (omega (arith, h, one_more old s)))
     ]
-
-pub within : (at count : ℕ) (one : Taken) → count + amount one ≤ 1000000 → within_limit at count one ≡ Ok one
-within at count one h = elim (cases_Bool (nat_lt 1000000 (count + amount one))) [
-  | inl e ↦ absurd (let l = ltb-true 1000000 (count + amount one) e in omega (arith, h, l))
-  | inr e ↦ rw e refl
-]
-
-pub beyond : (at count : ℕ) (one : Taken) → 1000000 < count + amount one → within_limit at count one ≡ Err (fault.Wide at)
-beyond at count one h = elim (cases_Bool (nat_lt 1000000 (count + amount one))) [
-  | inl e ↦ rw e refl
-  | inr e ↦ absurd (let l = ltb-false 1000000 (count + amount one) e in omega (arith, h, l))
-]
 
 -- what was drawn without a fault, and how many rectangles there are then
 record IsKept (at count : ℕ) (pen : Pen) (old new : List Shape) (areas : Result (List Area) GdsFault) : Type 0 where

@@ -10,18 +10,18 @@ use Rattle.gds_record.specs.declared.types.RecordType.TheVariants as record_type
 use Rattle.gds_record.specs.Types.{number_of, type_numbered}
 use Rattle.gds_record.specs.Records.{Item, item_of, record_at, items_from}
 use Rattle.gds_record.proofs.Walks.{Moves, moves, items_end, items_more}
-use Rattle.gds_read.specs.declared.fault.GdsFault.{GdsFault}
-use Rattle.gds_read.specs.declared.units.Grid.{Grid}
-use Rattle.gds_read.specs.declared.area.Area.{Area}
-use Rattle.gds_read.specs.declared.area.Pen.{Pen}
-use Rattle.gds_read.specs.declared.taken.Taken.{Taken}
-use Rattle.gds_read.specs.declared.taken.Around.{Around}
-use Rattle.gds_read.specs.declared.taken.Frame.{Frame}
+use Rattle.gds_area.specs.declared.fault.GdsFault.{GdsFault}
+use Rattle.gds_area.specs.declared.units.Grid.{Grid}
+use Rattle.gds_area.specs.declared.area.Area.{Area}
+use Rattle.gds_area.specs.declared.area.Pen.{Pen}
+use Rattle.gds_area.specs.declared.taken.Taken.{Taken}
+use Rattle.gds_area.specs.declared.taken.Around.{Around}
+use Rattle.gds_area.specs.declared.taken.Frame.{Frame}
 use Rattle.cell_num.specs.Steps.{◌>>=◌}
-use Rattle.gds_read.specs.Taken.{nothing_taken, one_reference, both, amount, within_limit, in_order, Adds}
+use Rattle.gds_area.specs.Taken.{nothing_taken, one_reference, both, amount, within_limit, in_order, Adds, around_of}
 use Rattle.gds_read.specs.Elements.{Element, until, elements_of, layer_of, xy_place, pen_of, areas_of, drawn_on}
 use Rattle.gds_read.specs.Index.{draws, drawing_places}
-use Rattle.gds_read.specs.Flat.{file_of, around_of, text_by, record_in, drawn_record, drawn_in, drawn_told, drawn_at, listed_in, drawn, Gives, flat_in}
+use Rattle.gds_read.specs.Flat.{file_of, text_by, record_in, drawn_record, drawn_in, drawn_told, drawn_at, listed_in, drawn, Gives, flat_in}
 use Rattle.gds_read.proofs.Drawings.{with_front, front_nothing, adds_all, ordered_none, ordered_more, ordered_stops, fault_kept, front_fault, drawn_from, rest_after, nothing_before, here, own, gives_taken}
 use Rattle.gds_read.proofs.Copied.{frame_inside, copied}
 

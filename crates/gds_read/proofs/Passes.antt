@@ -4,10 +4,11 @@ use Rattle.gds_record.specs.declared.record.GdsRec.{GdsRec}
 use Rattle.gds_record.specs.declared.record.RecFault.{RecFault}
 use Rattle.gds_record.specs.Records.{item_of, record_at}
 use Rattle.gds_record.proofs.Walks.{from_step}
-use Rattle.gds_read.specs.declared.fault.GdsFault.{GdsFault}
+use Rattle.gds_area.specs.declared.fault.GdsFault.{GdsFault}
 use Rattle.gds_read.specs.declared.grammar.Place.{Place}
 use Rattle.gds_read.specs.declared.grammar.Place.TheVariants.{Start, Opened, Library, Naming, Structure, Element, Ended}
-use Rattle.gds_read.specs.Grammar.{pass, pass_from, step_of, zeros_behind, as_fault, goes_on}
+use Rattle.gds_read.specs.Grammar.{pass, pass_from, step_of, zeros_behind, goes_on}
+use Rattle.gds_area.specs.Faults.{as_fault}
 
 pub pass_stops : (bytes : List ℕ) (place : Place) (at : ℕ) (f : RecFault) → record_at bytes at ≡ Err f → pass_from bytes place at ≡ Err (as_fault f)
 unfolding pass

@@ -4,11 +4,11 @@ use Rattle.std.specs.List.{filter, list_any}
 use Rattle.std.specs.Ordering.{int_eq}
 use Rattle.std.proofs.lemmas.Int.{ints}
 use Rattle.box_geom.specs.Rectangle.{Rectangle, IsProper}
-use Rattle.gds_read.specs.declared.point.Point.{Point}
-use Rattle.gds_read.specs.Points.{Step, steps_from, is_slanted, closed}
-use Rattle.gds_read.specs.EvenOdd.{crosses, toggled, odd_ones, crossings, with_height, heights, runs, bands, inside_walk}
+use Rattle.gds_area.specs.declared.point.Point.{Point}
+use Rattle.gds_area.specs.Points.{Step, steps_from, is_slanted, closed}
+use Rattle.gds_area.specs.EvenOdd.{crosses, toggled, odd_ones, crossings, with_height, heights, runs, bands, inside_walk}
 use Rattle.gds_read.specs.Drawn.{corner, round, IsRectangleOf, AreWalksOf}
-use Rattle.gds_read.proofs.Ascending.{less_is, more_is, below_is, above_is, same_is}
+use Rattle.gds_area.proofs.Ascending.{less_is, more_is, below_is, above_is, same_is}
 
 record Corner : Type 0 where
   right : Bool

@@ -8,12 +8,12 @@ use Rattle.box_geom.specs.declared.shape.Shape.{Shape}
 use Rattle.box_geom.specs.declared.shape.Shapes.{Shapes}
 use Rattle.gds_record.specs.declared.types.RecordType.TheVariants as record_type
 use Rattle.gds_record.specs.Records.{Raw, raw, Item, Stream, placed}
-use Rattle.gds_read.specs.declared.fault.GdsFault.{GdsFault}
+use Rattle.gds_area.specs.declared.fault.GdsFault.{GdsFault}
 use Rattle.cell_num.specs.Steps.{◌>>=◌}
 use Rattle.gds_read.specs.Structure.{behind_name, found_in, one_of}
 use Rattle.gds_read.specs.Elements.{elements_of, until, content_of}
-use Rattle.gds_read.specs.declared.taken.Taken.{Taken}
-use Rattle.gds_read.specs.Taken.{plain, rectangles, both}
+use Rattle.gds_area.specs.declared.taken.Taken.{Taken}
+use Rattle.gds_area.specs.Taken.{plain, rectangles, both}
 use Rattle.gds_read.specs.Flat.{File, drawn, flat}
 use Rattle.gds_read.specs.Decoding.{unit_in, file_in, decoded, Decodes}
 use Rattle.gds_read.specs.RoundTrip.{HasNoZeroEnd, IsReadable, IsReadableStruct, AreReadable, IsToPlain, referred_rects, flat_shapes}

@@ -3,12 +3,12 @@ use Rattle.std.proofs.Common.{ℕ, zero, suc, ◌≡◌, ◌≤◌, ℤ, pos, �
 use Rattle.std.proofs.lemmas.Int.{ints}
 use Rattle.std.proofs.Math.IntN.{*ℤ_comm, *ℤ-zero, suc_ℤ-*ℤ}
 use Rattle.box_geom.specs.Rectangle.{Rectangle, IsProper, IsRectangle}
-use Rattle.gds_read.specs.declared.placement.Turn.TheVariants as turn
-use Rattle.gds_read.specs.declared.placement.Move.{Move}
-use Rattle.gds_read.specs.Areas.{area_of}
-use Rattle.gds_read.specs.Moves.{moved_area, stays}
+use Rattle.gds_area.specs.declared.placement.Turn.TheVariants as turn
+use Rattle.gds_area.specs.declared.placement.Move.{Move}
+use Rattle.gds_area.specs.Areas.{area_of}
+use Rattle.gds_area.specs.Moves.{moved_area, stays}
 use Rattle.gds_read.specs.RoundTrip.{rect_moved}
-use Rattle.gds_read.proofs.Moved.{area_stays}
+use Rattle.gds_area.proofs.Moved.{area_stays}
 use Rattle.gds_read.proofs.RoundTripWords.{scaled_up}
 
 -- so many grid units in x and in y, of so many file units each

@@ -8,28 +8,28 @@ use Rattle.box_geom.specs.declared.shape.Shape.{Shape}
 use Rattle.box_geom.specs.declared.shape.Label.{Label}
 use Rattle.gds_record.specs.Records.{Raw, raw, Item, placed, ends}
 use Rattle.gds_record.specs.declared.types.RecordType.TheVariants as record_type
-use Rattle.gds_read.specs.declared.units.Grid.{Grid}
-use Rattle.gds_read.specs.declared.fault.GdsFault.{GdsFault}
-use Rattle.gds_read.specs.declared.point.Point.{Point}
-use Rattle.gds_read.specs.declared.area.Area.{Area}
-use Rattle.gds_read.specs.declared.area.Pen.{Pen}
+use Rattle.gds_area.specs.declared.units.Grid.{Grid}
+use Rattle.gds_area.specs.declared.fault.GdsFault.{GdsFault}
+use Rattle.gds_area.specs.declared.point.Point.{Point}
+use Rattle.gds_area.specs.declared.area.Area.{Area}
+use Rattle.gds_area.specs.declared.area.Pen.{Pen}
 use Rattle.gds_read.specs.declared.label.Spot.{Spot}
 use Rattle.cell_num.specs.Steps.{◌>>=◌}
 use Rattle.gds_read.specs.Structure.{trimmed}
-use Rattle.gds_read.specs.Points.{points_of, has_slant, closed}
-use Rattle.gds_read.specs.EvenOdd.{boundary_rectangles}
-use Rattle.gds_read.specs.Areas.{area_of, shape_on, rectangle_of}
+use Rattle.gds_area.specs.Points.{points_of, has_slant, closed}
+use Rattle.gds_area.specs.EvenOdd.{boundary_rectangles}
+use Rattle.gds_area.specs.Areas.{area_of, shape_on, rectangle_of}
 use Rattle.gds_read.specs.Elements.{Element, elements_of, until, text_on, spot_on, spot_of, with_label, xy_place, pen_of, boundary_areas, drawn_on}
-use Rattle.gds_read.specs.declared.placement.Move.{Move}
-use Rattle.gds_read.specs.declared.taken.Taken.{Taken}
-use Rattle.gds_read.specs.declared.taken.Around.{Around}
-use Rattle.gds_read.specs.Moves.{moved_area}
-use Rattle.gds_read.specs.Taken.{plain, nothing_taken, rectangles, both, amount, within_limit, in_order}
-use Rattle.gds_read.specs.Flat.{File, Below, around_of, drawn_around, element_by, one_level}
+use Rattle.gds_area.specs.declared.placement.Move.{Move}
+use Rattle.gds_area.specs.declared.taken.Taken.{Taken}
+use Rattle.gds_area.specs.declared.taken.Around.{Around}
+use Rattle.gds_area.specs.Moves.{moved_area}
+use Rattle.gds_area.specs.Taken.{plain, nothing_taken, rectangles, both, amount, within_limit, in_order, around_of}
+use Rattle.gds_read.specs.Flat.{File, Below, drawn_around, element_by, one_level}
 use Rattle.gds_write.specs.Written.{padded, point, corners, rectangle_records, label_records, IsWritableShape, IsLabelUpTo}
 use Rattle.gds_read.specs.RoundTrip.{HasNoZeroEnd}
 use Rattle.gds_read.proofs.RoundTripPadded.{padded_back}
-use Rattle.gds_read.proofs.Limits.{within}
+use Rattle.gds_area.proofs.Counting.{within}
 use Rattle.gds_read.proofs.Rectangles.{round_is}
 use Rattle.gds_read.proofs.RoundTripExact.{less_scaled}
 use Rattle.gds_read.proofs.RoundTripMoved.{Takes}

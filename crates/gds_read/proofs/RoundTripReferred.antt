@@ -11,27 +11,27 @@ use Rattle.box_geom.specs.Rectangle.{Rectangle, IsProper, IsRectangle}
 use Rattle.box_geom.specs.declared.shape.Shape.{Shape}
 use Rattle.gds_record.specs.Records.{Raw, raw, Item, placed, ends}
 use Rattle.gds_record.specs.declared.types.RecordType.TheVariants as record_type
-use Rattle.gds_read.specs.declared.fault.GdsFault.{GdsFault}
-use Rattle.gds_read.specs.declared.fault.GdsFault.TheVariants as fault
-use Rattle.gds_read.specs.declared.placement.Turn.TheVariants as turn
-use Rattle.gds_read.specs.declared.placement.Move.{Move}
+use Rattle.gds_area.specs.declared.fault.GdsFault.{GdsFault}
+use Rattle.gds_area.specs.declared.fault.GdsFault.TheVariants as fault
+use Rattle.gds_area.specs.declared.placement.Turn.TheVariants as turn
+use Rattle.gds_area.specs.declared.placement.Move.{Move}
 use Rattle.gds_read.specs.declared.reference.Array.{Array}
-use Rattle.gds_read.specs.declared.taken.Taken.{Taken}
-use Rattle.gds_read.specs.declared.taken.Around.{Around}
+use Rattle.gds_area.specs.declared.taken.Taken.{Taken}
+use Rattle.gds_area.specs.declared.taken.Around.{Around}
 use Rattle.cell_num.specs.Steps.{◌>>=◌, or_fault}
 use Rattle.gds_read.specs.Structure.{behind_name}
 use Rattle.gds_read.specs.Elements.{Element, elements_of, until}
-use Rattle.gds_read.specs.Moves.{stays, composed}
-use Rattle.gds_read.specs.Taken.{nothing_taken, one_reference, rectangles, both, in_order}
+use Rattle.gds_area.specs.Moves.{stays, composed}
+use Rattle.gds_area.specs.Taken.{nothing_taken, one_reference, rectangles, both, in_order, around_of}
 use Rattle.gds_read.specs.References.{target_in, the_one, array_of, single, copy_at}
-use Rattle.gds_read.specs.Flat.{File, Below, around_of, inside_copy, copies_of, row_of, referred, one_level, flat}
+use Rattle.gds_read.specs.Flat.{File, Below, inside_copy, copies_of, row_of, referred, one_level, flat}
 use Rattle.gds_write.specs.declared.library.Ref.{Ref}
 use Rattle.gds_write.specs.declared.library.Struct.{Struct}
 use Rattle.gds_write.specs.Written.{rectangle_records, reference_records, label_records, IsWritableShape, IsWritableRef}
 use Rattle.gds_write.proofs.Pieces.{point_length}
 use Rattle.gds_read.specs.RoundTrip.{HasNoZeroEnd, IsReadableStruct, AreReadable, IsToPlain, structure_named, rects_of, rect_moved, shape_moved, referred_rects}
 use Rattle.gds_read.proofs.Copied.{same_taken}
-use Rattle.gds_read.proofs.Limits.{within}
+use Rattle.gds_area.proofs.Counting.{within}
 use Rattle.gds_read.proofs.RoundTripPadded.{padded_back}
 use Rattle.gds_read.proofs.RoundTripWords.{point_in, point_back, few_units}
 use Rattle.gds_read.proofs.RoundTripMoved.{shift_by, Takes, shifting, within_limits}

@@ -9,12 +9,12 @@ use Rattle.box_geom.specs.Rectangle.{Rectangle, IsRectangle}
 use Rattle.box_geom.specs.declared.layer.Layer.{Layer}
 use Rattle.box_geom.specs.declared.layer.Layer.TheVariants as layer
 use Rattle.box_geom.specs.declared.shape.Shape.{Shape}
-use Rattle.gds_read.specs.declared.units.Grid.{Grid}
-use Rattle.gds_read.specs.declared.point.Point.{Point}
-use Rattle.gds_read.specs.Units.{limited_to_grid, scaled_by, step_of_grid, two_steps, whole_units_of, floor_units_of, in_order}
+use Rattle.gds_area.specs.declared.units.Grid.{Grid}
+use Rattle.gds_area.specs.declared.point.Point.{Point}
+use Rattle.gds_area.specs.Units.{limited_to_grid, scaled_by, step_of_grid, two_steps, whole_units_of, floor_units_of, in_order}
 use Rattle.gds_record.specs.Layers.{layer_number, layer_numbered}
-use Rattle.gds_read.specs.Points.{point_at, points_of}
-use Rattle.gds_read.specs.Areas.{span_of, area_of, side_of, rectangle_of}
+use Rattle.gds_area.specs.Points.{point_at, points_of}
+use Rattle.gds_area.specs.Areas.{span_of, area_of, side_of, rectangle_of}
 use Rattle.gds_read.specs.Elements.{short_of, spot_of}
 use Rattle.gds_write.specs.Written.{short, long, point, corners, Fits, IsWritableShape}
 use Rattle.gds_write.proofs.Pieces.{corners_length}

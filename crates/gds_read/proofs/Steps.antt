@@ -3,8 +3,8 @@ use Rattle.std.proofs.Common.{ℕ, suc, ◌/◌, ◌^◌, ◌≤◌, ℤ, pos, n
 use Rattle.std.specs.Int.{int_div_euclid}
 use Rattle.std.proofs.lemmas.Int.{ints}
 use Rattle.std.proofs.Math.Nat.{div-le_self}
-use Rattle.gds_read.specs.declared.placement.Move.{Move}
-use Rattle.gds_read.specs.Moves.{IsNear}
+use Rattle.gds_area.specs.declared.placement.Move.{Move}
+use Rattle.gds_area.specs.Moves.{IsNear}
 
 -- a step is no longer than the way
 step_short : (z : ℤ) (whole : ℕ) → neg_ℤ (pos (2 ^ 32)) ≤ℤ z → z ≤ℤ pos (2 ^ 32) → (neg_ℤ (pos (2 ^ 33)) ≤ℤ int_div_euclid z (pos whole)) × (int_div_euclid z (pos whole) ≤ℤ pos (2 ^ 33))

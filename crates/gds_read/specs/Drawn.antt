@@ -3,11 +3,11 @@ use Rattle.std.specs.Prelude.{◌≡◌, false, ℤ, pos, ◌+ℤ◌, ◌*ℤ◌
 use Rattle.std.specs.List.{AllByRecursion, Contains}
 use Rattle.box_geom.specs.Rectangle.{Rectangle}
 use Rattle.box_geom.specs.Runs.{IsRun}
-use Rattle.gds_read.specs.declared.point.Point.{Point}
-use Rattle.gds_read.specs.declared.units.Grid.{Grid}
-use Rattle.gds_read.specs.Points.{has_slant, closed}
-use Rattle.gds_read.specs.EvenOdd.{IsInside, boundary_rectangles}
-use Rattle.gds_read.specs.Units.{scaled_by, step_of_grid}
+use Rattle.gds_area.specs.declared.point.Point.{Point}
+use Rattle.gds_area.specs.declared.units.Grid.{Grid}
+use Rattle.gds_area.specs.Points.{has_slant, closed}
+use Rattle.gds_area.specs.EvenOdd.{IsInside, boundary_rectangles}
+use Rattle.gds_area.specs.Units.{scaled_by, step_of_grid}
 
 abbrev pub corner : ℤ → ℤ → Point
 corner x y = record { x = x; y = y }

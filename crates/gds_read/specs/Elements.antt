@@ -8,23 +8,23 @@ use Rattle.gds_record.specs.Layers.{layer_numbered}
 use Rattle.gds_record.specs.Types.{number_of, type_numbered}
 use Rattle.gds_record.specs.Records.{Item, items_from}
 use Rattle.gds_record.specs.declared.record.GdsRec.{GdsRec}
-use Rattle.gds_read.specs.declared.fault.GdsFault.{GdsFault}
-use Rattle.gds_read.specs.declared.fault.GdsFault.TheVariants as fault
-use Rattle.gds_read.specs.declared.units.Grid.{Grid}
-use Rattle.gds_read.specs.declared.area.Area.{Area}
-use Rattle.gds_read.specs.declared.area.Pen.{Pen}
-use Rattle.gds_read.specs.declared.path.Reach.{Reach}
-use Rattle.gds_read.specs.declared.point.Point.{Point}
+use Rattle.gds_area.specs.declared.fault.GdsFault.{GdsFault}
+use Rattle.gds_area.specs.declared.fault.GdsFault.TheVariants as fault
+use Rattle.gds_area.specs.declared.units.Grid.{Grid}
+use Rattle.gds_area.specs.declared.area.Area.{Area}
+use Rattle.gds_area.specs.declared.area.Pen.{Pen}
+use Rattle.gds_area.specs.declared.path.Reach.{Reach}
+use Rattle.gds_area.specs.declared.point.Point.{Point}
 use Rattle.gds_read.specs.declared.label.Spot.{Spot}
-use Rattle.gds_read.specs.declared.placement.Move.{Move}
-use Rattle.gds_read.specs.declared.taken.Taken.{Taken}
-use Rattle.gds_read.specs.Taken.{nothing_drawn, nothing_taken, rectangles, within_limit}
-use Rattle.gds_read.specs.Units.{floor_units_of}
+use Rattle.gds_area.specs.declared.placement.Move.{Move}
+use Rattle.gds_area.specs.declared.taken.Taken.{Taken}
+use Rattle.gds_area.specs.Taken.{nothing_drawn, nothing_taken, rectangles, within_limit}
+use Rattle.gds_area.specs.Units.{floor_units_of}
 use Rattle.gds_read.specs.Structure.{is_type}
-use Rattle.gds_read.specs.Points.{signed_at, points_of, has_slant, closed}
-use Rattle.gds_read.specs.EvenOdd.{boundary_rectangles}
-use Rattle.gds_read.specs.Paths.{width_of, past_ends, path_areas}
-use Rattle.gds_read.specs.Areas.{area_of, shapes_of}
+use Rattle.gds_area.specs.Points.{signed_at, points_of, has_slant, closed}
+use Rattle.gds_area.specs.EvenOdd.{boundary_rectangles}
+use Rattle.gds_area.specs.Paths.{width_of, past_ends, path_areas}
+use Rattle.gds_area.specs.Areas.{area_of, shapes_of}
 use Rattle.cell_num.specs.Steps.{◌>>=◌, require}
 use Rattle.gds_read.specs.Grammar.{element_begun}
 

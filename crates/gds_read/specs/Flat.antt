@@ -8,18 +8,18 @@ use Rattle.gds_record.specs.Types.{type_numbered}
 use Rattle.gds_record.specs.Records.{Item, item_of, record_at, items_from}
 use Rattle.gds_record.specs.declared.record.GdsRec.{GdsRec}
 use Rattle.gds_record.specs.declared.record.RecFault.{RecFault}
-use Rattle.gds_read.specs.declared.fault.GdsFault.{GdsFault}
-use Rattle.gds_read.specs.declared.fault.GdsFault.TheVariants as fault
-use Rattle.gds_read.specs.declared.units.Grid.{Grid}
-use Rattle.gds_read.specs.declared.placement.Move.{Move}
+use Rattle.gds_area.specs.declared.fault.GdsFault.{GdsFault}
+use Rattle.gds_area.specs.declared.fault.GdsFault.TheVariants as fault
+use Rattle.gds_area.specs.declared.units.Grid.{Grid}
+use Rattle.gds_area.specs.declared.placement.Move.{Move}
 use Rattle.gds_read.specs.declared.reference.Array.{Array}
-use Rattle.gds_read.specs.declared.taken.Taken.{Taken}
-use Rattle.gds_read.specs.declared.taken.Around.{Around}
-use Rattle.gds_read.specs.declared.taken.Frame.{Frame}
+use Rattle.gds_area.specs.declared.taken.Taken.{Taken}
+use Rattle.gds_area.specs.declared.taken.Around.{Around}
+use Rattle.gds_area.specs.declared.taken.Frame.{Frame}
 use Rattle.gds_read.specs.declared.reference.Copies.{Copies}
 use Rattle.gds_read.specs.Structure.{trimmed}
-use Rattle.gds_read.specs.Moves.{stays, composed, IsNear}
-use Rattle.gds_read.specs.Taken.{plain, nothing_taken, one_reference, both, within_limit, in_order}
+use Rattle.gds_area.specs.Moves.{composed, IsNear}
+use Rattle.gds_area.specs.Taken.{plain, nothing_taken, one_reference, both, within_limit, in_order, around_of}
 use Rattle.gds_read.specs.References.{target_in, array_of, copy_at}
 use Rattle.gds_read.specs.Elements.{Element, until, element_of, elements_of, content_of, xy_place, areas_of, drawn_on, pen_for, text_spot, with_label}
 use Rattle.cell_num.specs.Steps.{◌>>=◌, or_fault}
@@ -31,12 +31,6 @@ pub record File : Type 0 where
 
 abbrev pub file_of : Grid → List ℕ → File
 file_of grid bytes = record { grid = grid; records = items_from bytes 0 }
-
--- How an element stands, and the place that the faults of many elements are told at: nothing is moved in
--- the structure itself, and what is inside a reference stands as that does, with the outermost one's place.
-abbrev pub around_of : Option Around → ℕ → Around
-around_of None at = record { stands = stays; outer = at }
-around_of (Some around) at = around
 
 -- what a structure draws where it is referred to
 abbrev pub Below : Type 0

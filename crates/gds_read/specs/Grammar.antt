@@ -4,7 +4,6 @@ use Rattle.std.specs.Prelude.{ℕ, ◌+◌, ◌%◌, ◌==◌, ◌||◌, ◌&&�
 use Rattle.cell_num.specs.Steps.{◌>>=◌}
 use Rattle.gds_record.specs.declared.record.GdsRec.{GdsRec}
 use Rattle.gds_record.specs.declared.record.RecFault.{RecFault}
-use Rattle.gds_record.specs.declared.record.RecFault.TheVariants as record_fault
 use Rattle.gds_record.specs.declared.types.RecordType.{RecordType}
 use Rattle.gds_record.specs.declared.types.RecordType.TheVariants as record_type
 use Rattle.gds_record.specs.Types.{type_numbered, data_type_of, data_number_of}
@@ -14,8 +13,9 @@ use Rattle.gds_read.specs.declared.grammar.ElementKind.TheVariants as element
 use Rattle.gds_read.specs.declared.grammar.Seen.{Seen}
 use Rattle.gds_read.specs.declared.grammar.Place.{Place}
 use Rattle.gds_read.specs.declared.grammar.Place.TheVariants.{Start, Opened, Library, Naming, Structure, Element, Ended}
-use Rattle.gds_read.specs.declared.fault.GdsFault.{GdsFault}
-use Rattle.gds_read.specs.declared.fault.GdsFault.TheVariants as fault
+use Rattle.gds_area.specs.declared.fault.GdsFault.{GdsFault}
+use Rattle.gds_area.specs.declared.fault.GdsFault.TheVariants as fault
+use Rattle.gds_area.specs.Faults.{as_fault}
 use Rattle.gds_read.specs.Real.{picometres_at}
 
 -- a record with its data
@@ -152,10 +152,6 @@ at_type place r (Some kind) = known_step place r kind
 -- a record at a place: the place behind it, or its first fault
 abbrev pub step_of : Place → Item → Result Place GdsFault
 step_of place r = at_type place r (type_numbered r.code)
-
-abbrev pub as_fault : RecFault → GdsFault
-as_fault (record_fault.Cut at) = fault.Cut at
-as_fault (record_fault.Length at) = fault.Length at
 
 -- behind the end there are zero bytes alone
 abbrev pub first_behind : List ℕ → ℕ → Option ℕ → Result ℕ GdsFault

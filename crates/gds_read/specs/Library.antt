@@ -4,10 +4,11 @@ use Rattle.std.specs.List.{AllByRecursion}
 use Rattle.gds_record.specs.Records.{Raw, IsRaw, spelling, item, item_of, record_at}
 use Rattle.gds_record.specs.declared.record.GdsRec.{GdsRec}
 use Rattle.gds_record.specs.declared.record.RecFault.{RecFault}
-use Rattle.gds_read.specs.declared.fault.GdsFault.{GdsFault}
+use Rattle.gds_area.specs.declared.fault.GdsFault.{GdsFault}
 use Rattle.gds_read.specs.declared.grammar.Place.{Place}
 use Rattle.gds_read.specs.declared.grammar.Place.TheVariants.{Start, Ended}
-use Rattle.gds_read.specs.Grammar.{step_of, zeros_behind, as_fault}
+use Rattle.gds_read.specs.Grammar.{step_of, zeros_behind}
+use Rattle.gds_area.specs.Faults.{as_fault}
 
 -- Each record, from a place of the bytes and a place of the grammar on, is right where it stands, and
 -- they lead to another place of the grammar. Behind the end of the library stands no record.

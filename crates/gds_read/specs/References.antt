@@ -4,16 +4,16 @@ use Rattle.std.specs.Int.{int_div_euclid, int_rem_euclid}
 use Rattle.gds_record.specs.declared.types.RecordType.{RecordType}
 use Rattle.gds_record.specs.declared.types.RecordType.TheVariants as record_type
 use Rattle.gds_record.specs.Records.{Item, items_from}
-use Rattle.gds_read.specs.declared.point.Point.{Point}
-use Rattle.gds_read.specs.declared.placement.Turn.{Turn}
-use Rattle.gds_read.specs.declared.placement.Turn.TheVariants as turn
-use Rattle.gds_read.specs.declared.placement.Move.{Move}
+use Rattle.gds_area.specs.declared.point.Point.{Point}
+use Rattle.gds_area.specs.declared.placement.Turn.{Turn}
+use Rattle.gds_area.specs.declared.placement.Turn.TheVariants as turn
+use Rattle.gds_area.specs.declared.placement.Move.{Move}
 use Rattle.gds_read.specs.declared.reference.Facing.{Facing}
 use Rattle.gds_read.specs.declared.lattice.Counts.{Counts}
 use Rattle.gds_read.specs.declared.lattice.Lattice.{Lattice}
 use Rattle.gds_read.specs.declared.reference.Array.{Array}
 use Rattle.gds_read.specs.Structure.{is_type, trimmed, behind_name}
-use Rattle.gds_read.specs.Points.{point_at}
+use Rattle.gds_area.specs.Points.{point_at}
 use Rattle.gds_read.specs.Elements.{xy_of}
 use Rattle.gds_read.specs.Real.{word_at, is_whole, is_zero}
 

@@ -5,8 +5,8 @@ use Rattle.gds_record.specs.declared.types.RecordType.{RecordType}
 use Rattle.gds_record.specs.declared.types.RecordType.TheVariants as record_type
 use Rattle.gds_record.specs.Types.{number_of}
 use Rattle.gds_record.specs.Records.{Item, items_from}
-use Rattle.gds_read.specs.declared.fault.GdsFault.{GdsFault}
-use Rattle.gds_read.specs.declared.fault.GdsFault.TheVariants as fault
+use Rattle.gds_area.specs.declared.fault.GdsFault.{GdsFault}
+use Rattle.gds_area.specs.declared.fault.GdsFault.TheVariants as fault
 use Rattle.gds_read.specs.declared.structure.Lookup.{Lookup}
 use Rattle.gds_read.specs.declared.structure.Lookup.TheVariants as lookup
 

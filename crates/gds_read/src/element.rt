@@ -1,23 +1,19 @@
 // What boundaries and paths draw.
 ghost use Rattle.std.specs.Prelude.{◌≡◌, ◌≤◌, ◌<◌, length, OnOk};
 ghost use Rattle.gds_record.specs.declared.types.RecordType.TheVariants as record_type;
-ghost use Rattle.gds_read.specs.Points.{points_of};
-ghost use Rattle.gds_read.specs.Areas.{put_all, Puts};
-ghost use Rattle.gds_read.specs.Taken.{amount, Adds};
+ghost use Rattle.gds_area.specs.Points.{points_of};
+ghost use Rattle.gds_area.specs.Areas.{put_all, Puts};
+ghost use Rattle.gds_area.specs.Taken.{amount, Adds};
 ghost use Rattle.gds_read.specs.Flat.{drawn_around};
 ghost use Rattle.gds_read.specs.Elements.{inside_of, pen_for, boundary_areas, reach_of, areas_along, path_areas_of};
 
-use crate::GdsFault;
-use crate::area::{MOST_RECTANGLES, Pen};
-use crate::even_odd::add_inside;
 use crate::field::{element_content, element_layer, field_place, short};
-use crate::path::{Reach, add_path_areas, past_ends, width};
-use crate::placement::Move;
-use crate::point::{close, points, slanted};
-use crate::taken::{Around, Taken};
-use crate::units::{Grid, MOST_PICOMETRES};
 use box_geom::ShapeList;
 use cell_num::MOST_BYTES;
+use gds_area::{
+    Around, GdsFault, Grid, MOST_PICOMETRES, MOST_RECTANGLES, Move, Pen, Reach, Taken, add_inside,
+    add_path_areas, close, past_ends, points, slanted, width,
+};
 use gds_record::{GdsRec, RecordType};
 use std::alloc::Global;
 
@@ -38,7 +34,7 @@ fn pen(bytes: &[u8], rec: &GdsRec, grid: &Grid, stands: &Move) -> Option<Pen>
     })
 }
 
-#[tactic(auto, unfolding(crate::specs::Elements::boundary_areas), using(crate::proofs::Putting::stops))]
+#[tactic(auto, unfolding(crate::specs::Elements::boundary_areas), using(gds_area::proofs::Putting::stops))]
 fn boundary(alloc: Global, xy: &[u8], pen: &Pen, rects: &mut ShapeList) -> Result<(), GdsFault>
     requires grid { 1 ≤ pen.now.grid.lambda_nm }
     requires unit { pen.now.grid.picometres ≤ MOST_PICOMETRES }
@@ -90,7 +86,7 @@ fn along(
     add_path_areas(reach, points, pen, rects)
 }
 
-#[tactic(auto, using(crate::proofs::Putting::puts_same))]
+#[tactic(auto, using(gds_area::proofs::Putting::puts_same))]
 fn path(
     alloc: Global,
     bytes: &[u8],

@@ -1,20 +1,17 @@
 // The elements of a structure, with the structures that they refer to.
 ghost use Rattle.std.specs.Prelude.{◌≤◌, ◌<◌, ◌-◌, ◌*◌, length, OnOk};
 ghost use Rattle.gds_read.specs.Elements.{element_of};
-ghost use Rattle.gds_read.specs.Moves.{IsNear};
+ghost use Rattle.gds_area.specs.Moves.{IsNear};
 ghost use Rattle.gds_read.specs.Index.{IsIndex};
-ghost use Rattle.gds_read.specs.Taken.{amount, Adds};
+ghost use Rattle.gds_area.specs.Taken.{amount, Adds};
 ghost use Rattle.gds_read.specs.Flat.{row_in, copies_in, referred_in, element_in, drawn_record, flat_in, listed_in, IsFrame};
 
-use crate::GdsFault;
-use crate::area::MOST_RECTANGLES;
 use crate::element::{add_boundary, add_path};
 use crate::index::{Index, list_of};
 use crate::label::add_text;
-use crate::placement::composed;
 use crate::reference::{Copies, copy_at, read_array, target};
-use crate::taken::{Around, Frame, Taken, around_at, count_one};
 use cell_num::MOST_BYTES;
+use gds_area::{Around, Frame, GdsFault, MOST_RECTANGLES, Taken, around_at, composed, count_one};
 use gds_record::{GdsRec, RecordType, next_record};
 use std::alloc::Global;
 
@@ -53,7 +50,7 @@ fn add_copy(
     add_elements(alloc, bytes, index, places.as_slice(), &inside, taken)
 }
 
-#[tactic(auto, using(crate::proofs::Copied::row_starts, crate::proofs::Copied::row_more, crate::proofs::Copied::row_stops, crate::proofs::Copied::row_done, crate::proofs::Moved::near_inside))]
+#[tactic(auto, using(crate::proofs::Copied::row_starts, crate::proofs::Copied::row_more, crate::proofs::Copied::row_stops, crate::proofs::Copied::row_done, gds_area::proofs::Moved::near_inside))]
 #[cycle(references)]
 fn add_row(
     alloc: Global,

@@ -1,19 +1,15 @@
 // Labels.
 ghost use Rattle.std.specs.Prelude.{◌≡◌, ◌≤◌, ◌<◌, length, None, OnOk};
 ghost use Rattle.gds_record.specs.declared.types.RecordType.TheVariants as record_type;
-ghost use Rattle.gds_read.specs.Taken.{plain, both, amount, Adds};
+ghost use Rattle.gds_area.specs.Taken.{plain, both, amount, Adds};
 ghost use Rattle.gds_read.specs.Flat.{text_by};
 ghost use Rattle.gds_read.specs.Elements.{element_of, spot_of, text_spot, with_label};
 
-use crate::GdsFault;
-use crate::area::MOST_RECTANGLES;
 use crate::field::{element_content, element_layer, field_place};
-use crate::point::signed;
 use crate::structure::trim;
-use crate::taken::Taken;
-use crate::units::{Grid, floor_units};
 use box_geom::{Label, Layer};
 use cell_num::{MOST_BYTES, NoMemory, copy};
+use gds_area::{GdsFault, Grid, MOST_RECTANGLES, Taken, floor_units, signed};
 use gds_record::{GdsRec, RecordType};
 use std::alloc::Global;
 

@@ -4,7 +4,7 @@ ghost use Rattle.std.specs.Int.{int_div_euclid};
 ghost use Rattle.gds_read.specs.References.{counts_of, two_counts, counts_told, divides, has_steps};
 ghost use Rattle.gds_read.specs.References.{lattice_on, may_stand, lattice_of, shift};
 
-use crate::point::{Point, read_point};
+use gds_area::{Point, read_point};
 use gds_record::RecordType;
 
 /// How many columns and rows of copies stand.

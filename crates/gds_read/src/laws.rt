@@ -1,7 +1,7 @@
 ghost use Rattle.std.specs.Prelude.{◌≡◌, ◌↔◌, ◌≤◌, ℕ, ℤ, List, Some, Ok, Err};
 ghost use Rattle.std.specs.List.{Contains, AllPairs};
 ghost use Rattle.gds_record.specs.Records.{IsBytes};
-ghost use Rattle.gds_read.specs.declared.fault.GdsFault.{GdsFault};
+ghost use Rattle.gds_area.specs.declared.fault.GdsFault.{GdsFault};
 ghost use Rattle.gds_read.specs.Grammar.{first_pass_of};
 ghost use Rattle.gds_record.specs.declared.types.RecordType.{RecordType};
 ghost use Rattle.gds_read.specs.declared.grammar.Place.{Place};
@@ -11,10 +11,10 @@ ghost use Rattle.box_geom.specs.declared.shape.Shapes.{Shapes};
 ghost use Rattle.gds_read.specs.Decoding.{Decodes, GdsRefused, IsCell, IsCellFault};
 ghost use Rattle.gds_read.specs.Library.{IsLibrary, IsFirstFault};
 ghost use Rattle.box_geom.specs.Rectangle.{Rectangle, IsProper, Covers};
-ghost use Rattle.gds_read.specs.declared.point.Point.{Point};
-ghost use Rattle.gds_read.specs.declared.units.Grid.{Grid};
-ghost use Rattle.gds_read.specs.EvenOdd.{IsInside, boundary_rectangles};
-ghost use Rattle.gds_read.specs.Units.{floor_units_of};
+ghost use Rattle.gds_area.specs.declared.point.Point.{Point};
+ghost use Rattle.gds_area.specs.declared.units.Grid.{Grid};
+ghost use Rattle.gds_area.specs.EvenOdd.{IsInside, boundary_rectangles};
+ghost use Rattle.gds_area.specs.Units.{floor_units_of};
 ghost use Rattle.gds_read.specs.Drawn.{AreWalksOf, IsRunOf, IsBefore, IsFloor};
 
 /// The first pass accepts the bytes of a library, and no others, and else answers the first fault. It

@@ -2,10 +2,10 @@ ghost use Rattle.std.specs.Prelude.{position, not, ◌==◌, IfSome, ◌≡◌, 
 ghost use Rattle.gds_record.specs.declared.types.RecordType.TheVariants as record_type;
 ghost use Rattle.gds_read.specs.Grammar.{is_wrong_unit, item_with, with_unit, known_step, step_of, zeros_behind, first_pass_of};
 
-use crate::GdsFault;
 use crate::grammar::{Place, after, allowed, wrong_length};
 use crate::real::picometres_at_place;
 use cell_num::MOST_BYTES;
+use gds_area::GdsFault;
 use gds_record::{GdsRec, RecordType, next_record};
 
 fn wrong_unit(picometres: u64) -> bool

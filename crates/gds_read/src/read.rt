@@ -4,17 +4,15 @@ ghost use Rattle.gds_read.specs.Elements.{elements_of};
 ghost use Rattle.gds_read.specs.Flat.{file_of, drawn, Gives};
 ghost use Rattle.gds_read.specs.Decoding.{unit_in, grid_in, Decodes, IsCell, IsRefused, IsTwiceOf};
 
-use crate::GdsFault;
 use crate::field::field_content;
 use crate::flat::add_elements;
 use crate::index::{places_of, read_index};
 use crate::pass::first_pass;
 use crate::real::picometres_at_place;
 use crate::structure::{Lookup, find_structure};
-use crate::taken::{Frame, MOST_LEVELS, none_taken};
-use crate::units::{Grid, MOST_PICOMETRES};
 use box_geom::Shapes;
 use cell_num::{MOST_BYTES, Name};
+use gds_area::{Frame, GdsFault, Grid, MOST_LEVELS, MOST_PICOMETRES, none_taken};
 use gds_record::RecordType;
 use std::alloc::Global;
 

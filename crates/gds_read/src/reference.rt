@@ -3,7 +3,7 @@ ghost use Rattle.std.specs.Prelude.{◌≡◌, ◌≤◌, ◌<◌, length, optio
 ghost use Rattle.gds_record.specs.declared.types.RecordType.TheVariants as record_type;
 ghost use Rattle.gds_record.specs.Records.{items_from};
 ghost use Rattle.gds_read.specs.Elements.{until, inside_of};
-ghost use Rattle.gds_read.specs.Moves.{IsNear};
+ghost use Rattle.gds_area.specs.Moves.{IsNear};
 ghost use Rattle.gds_read.specs.Index.{IsIndex};
 ghost use Rattle.gds_read.specs.References.{target_in, Targets, stands_twice, repeats, data_in, first_bit};
 ghost use Rattle.gds_read.specs.References.{mirror_told, turn_of, turn_told, is_full_size, facing_of};
@@ -12,10 +12,10 @@ ghost use Rattle.gds_read.specs.References.{array_of, copy_at};
 use crate::field::{element_content, field};
 use crate::index::{Index, find_name};
 use crate::lattice::{Lattice, read_lattice, shift, summed};
-use crate::placement::{Move, Turn};
 use crate::real::{whole, word_at, zero};
 use crate::structure::{Lookup, trim};
 use cell_num::MOST_BYTES;
+use gds_area::{Move, Turn};
 use gds_record::{GdsRec, RecordType, next_record};
 
 /// Mirrored or not, and how it is turned then.

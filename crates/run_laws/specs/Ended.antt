@@ -1,7 +1,7 @@
 -- What holds of what a call over told files works on, by its kind, or of the refusal in its place.
 use Rattle.std.specs.Prelude.{◌≡◌, Option, Some, None, Ok, Err}
 use Rattle.cell_io.specs.Desk.{Files, View, Both}
-use Rattle.gds_read.specs.declared.fault.GdsFault.{GdsFault}
+use Rattle.gds_area.specs.declared.fault.GdsFault.{GdsFault}
 use Rattle.lef_read.specs.declared.fault.LefFault.{LefFault}
 use Rattle.call_end.specs.Deliver.{Says}
 use Rattle.call_end.specs.declared.status.Status.{Status}

@@ -1,11 +1,11 @@
 use Rattle.std.proofs.Common.{rules, sym, subst, ◌≡◌, ◌≤◌, ◌+◌, drop, get_or}
 use Rattle.std.proofs.lemmas.List.{drop_more, drop_all}
 use Rattle.std.proofs.lemmas.Result.{err_from_is_err_and}
-use Rattle.gds_read.specs.declared.taken.Taken.{Taken}
-use Rattle.gds_read.specs.Taken.{amount}
+use Rattle.gds_area.specs.declared.taken.Taken.{Taken}
+use Rattle.gds_area.specs.Taken.{amount}
 use Rattle.gds_read.specs.Flat.{row_in, listed_in}
 use Rattle.gds_read.proofs.Drawings.{with_front}
-use Rattle.gds_read.proofs.Moved.{near_inside}
+use Rattle.gds_area.proofs.Moved.{near_inside}
 use Rattle.gds_read.proofs.Copied.{row_more}
 use Rattle.gds_read.proofs.Listed.{listed_behind, listed_more, listed_past, listed_stops, listed_done}
 use Rattle.gds_read.proofs.flat.+references.Goals.{add_elements-in-Ok+in_ok-add_record, add_elements-in_default}

@@ -1,5 +1,5 @@
 use Rattle.std.proofs.Common.{◌≡◌, ◌≤◌, ◌+◌, ◌*◌, drop}
-use Rattle.gds_read.specs.Taken.{amount}
+use Rattle.gds_area.specs.Taken.{amount}
 use Rattle.gds_read.specs.Flat.{row_in, copies_in, listed_in}
 use Rattle.gds_read.proofs.Drawings.{with_front}
 use Rattle.gds_read.proofs.Listed.{listed_behind}

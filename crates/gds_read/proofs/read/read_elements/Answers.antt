@@ -1,8 +1,8 @@
 use Rattle.std.proofs.Common.{Ok, Err, true, subst, ◌≡◌, ◌∙◌}
 use Rattle.std.proofs.lemmas.Result.{err_from_is_err_and}
 use Rattle.gds_record.specs.Records.{items_from}
-use Rattle.gds_read.specs.declared.taken.Taken.{Taken}
-use Rattle.gds_read.specs.Taken.{nothing_taken, amount, Adds}
+use Rattle.gds_area.specs.declared.taken.Taken.{Taken}
+use Rattle.gds_area.specs.Taken.{nothing_taken, amount, Adds}
 use Rattle.gds_read.specs.Index.{drawing_places}
 use Rattle.gds_read.specs.Flat.{listed_in}
 use Rattle.gds_read.proofs.Drawings.{own, gives_fault}

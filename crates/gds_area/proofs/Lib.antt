@@ -1,0 +1,9 @@
+pub mod Ascending
+pub mod Counting
+pub mod Moved
+pub mod PointLists
+pub mod Putting
+pub mod Rows
+pub mod Stretches
+pub mod Sweeping
+pub mod Unpaired

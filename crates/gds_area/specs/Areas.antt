@@ -1,0 +1,69 @@
+-- What an element draws is first a list of areas in halves of a file unit, so that half a width is a
+-- whole number of them. In the end each is a rectangle of whole grid units.
+use Rattle.std.specs.Prelude.{◌≡◌, ℤ, pos, ◌*ℤ◌, List, [], ◌∷◌, ◌++◌, length, nat_lt, if◌then◌else◌, Option, Some, None, Result, Ok, Err}
+use Rattle.box_geom.specs.Rectangle.{Rectangle}
+use Rattle.box_geom.specs.declared.shape.Shape.{Shape}
+use Rattle.gds_area.specs.declared.fault.GdsFault.{GdsFault}
+use Rattle.gds_area.specs.declared.fault.GdsFault.TheVariants as fault
+use Rattle.gds_area.specs.declared.units.Grid.{Grid}
+use Rattle.gds_area.specs.declared.units.Ends.{Ends}
+use Rattle.gds_area.specs.declared.area.Span.{Span}
+use Rattle.gds_area.specs.declared.area.Area.{Area}
+use Rattle.gds_area.specs.declared.area.Pen.{Pen}
+use Rattle.gds_area.specs.Moves.{moved_area}
+use Rattle.gds_area.specs.Units.{whole_units_of, ends_of}
+use Rattle.cell_num.specs.Steps.{◌>>=◌}
+
+-- two file units are in halves of one
+abbrev pub span_of : ℤ → ℤ → Span
+span_of low high = record { low = pos 2 *ℤ low; high = pos 2 *ℤ high }
+
+unfoldable pub area_of : Rectangle → Area
+area_of r = record { across = span_of r.x1 r.x2; upward = span_of r.y1 r.y2 }
+
+-- two coordinates in halves of a file unit as the ends of a side in grid units
+abbrev pub side_of : Grid → Span → Option Ends
+side_of grid span = ends_of (whole_units_of grid span.low) (whole_units_of grid span.high)
+
+abbrev pub between : Option Ends → Option Ends → Option Rectangle
+between (Some x) (Some y) = Some (record { x1 = x.low; y1 = y.low; x2 = x.high; y2 = y.high })
+between _ _ = None
+
+unfoldable pub rectangle_of : Grid → Area → Option Rectangle
+rectangle_of grid area = between (side_of grid area.across) (side_of grid area.upward)
+
+abbrev pub shape_on : Pen → Option Rectangle → Result Shape GdsFault
+shape_on pen None = Err (fault.Grid pen.at)
+shape_on pen (Some rect) = Ok (record { layer = pen.layer; rect = rect })
+
+-- the corners of the area as it stands are whole numbers of grid units within the limits of a drawing
+abbrev pub shape_of : Pen → Area → Result Shape GdsFault
+shape_of pen area = shape_on pen (rectangle_of pen.grid (moved_area pen.stands area))
+
+abbrev pub shapes_of : Pen → List Area → Result (List Shape) GdsFault
+shapes_of pen [] = Ok []
+shapes_of pen (a ∷ xs) = shape_of pen a >>= λ s. shapes_of pen xs >>= λ ss. Ok (s ∷ ss)
+
+-- ---- one area after the other, for the functions that draw
+
+-- One rectangle above the limit tells that there are too many; no more are kept.
+unfoldable pub with_kept : List Shape → Shape → List Shape
+with_kept rects s = if nat_lt 1000000 (length rects) then rects else rects ++ s ∷ []
+
+abbrev pub put : Pen → List Shape → List Area → Result (List Shape) GdsFault
+put pen rects [] = Ok rects
+put pen rects (a ∷ xs) = shape_of pen a >>= λ s. put pen (with_kept rects s) xs
+
+-- the areas that an element is told to have, or its fault
+abbrev pub put_all : Pen → List Shape → Result (List Area) GdsFault → Result (List Shape) GdsFault
+put_all pen rects told = told >>= put pen rects
+
+-- Memory may run out anywhere; else the fault is the one told.
+abbrev pub Faults : GdsFault → Result (List Shape) GdsFault → Type 0
+Faults fault.NoMemory told = Unit {0}
+Faults f told = told ≡ Err f
+
+-- the rectangles are the ones told, or the fault
+abbrev pub Puts : {A : Type 0} → Result A GdsFault → List Shape → Result (List Shape) GdsFault → Type 0
+Puts (Ok _) new told = told ≡ Ok new
+Puts (Err f) new told = Faults f told

@@ -1,0 +1,11 @@
+-- What contracts of public calls cite, and what these definitions stand on.
+pub mod Areas
+pub mod EvenOdd
+pub mod Faults
+pub mod Moves
+pub mod Paths
+pub mod Points
+pub mod Taken
+pub mod Units
+-- What inner contracts and proofs alone cite.
+pub mod Sweep

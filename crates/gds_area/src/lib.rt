@@ -1,0 +1,21 @@
+// What boundaries and paths of a GDSII file cover, as their structures stand: rectangles of a drawing in whole grid
+// units, or the fault. And how many rectangles and references are taken of a structure.
+#![tactic(auto)]
+
+pub mod area;
+pub mod even_odd;
+pub mod fault;
+pub mod path;
+pub mod placement;
+pub mod point;
+pub mod taken;
+pub mod units;
+
+pub use area::{MOST_RECTANGLES, Pen};
+pub use even_odd::add_inside;
+pub use fault::GdsFault;
+pub use path::{Reach, add_path_areas, past_ends, width};
+pub use placement::{Move, Turn, composed};
+pub use point::{Point, close, points, read_point, signed, slanted};
+pub use taken::{Around, Frame, MOST_LEVELS, Taken, around_at, count_one, none_taken};
+pub use units::{Grid, MOST_PICOMETRES, floor_units};

@@ -1,7 +1,0 @@
-use Rattle.std.proofs.Common.{◌≡◌, ◌++◌, drop}
-use Rattle.gds_read.specs.Points.{steps_from}
-use Rattle.gds_read.specs.Sweep.{ends_of}
-use Rattle.gds_read.proofs.even_odd.side_ends.Given as goal
-
-abbrev pub invariant-loop-to : goal.invariant-loop-to
-invariant-loop-to l = l.ends.items ++ ends_of (steps_from l.from (drop l.to-index l.rest)) ≡ ends_of (steps_from l.first l.rest)

@@ -1,6 +1,0 @@
-use Rattle.std.proofs.Common.{◌≡◌}
-use Rattle.gds_read.specs.Points.{first_points}
-use Rattle.gds_read.proofs.point.points.Given as goal
-
-abbrev pub invariant-loop-at : goal.invariant-loop-at
-invariant-loop-at l = l.points.items ≡ first_points l.at l.xy
