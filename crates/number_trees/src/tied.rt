@@ -31,9 +31,9 @@ fn tied_before(ties: &[Option<u64>], at: usize) -> Option<usize>
     None
 }
 
-/// Joins the trees of numbers that have one tie, which `ties` tells number by number, some of them having none. There are
-/// ties for no more numbers than have parents, and no parent is above its number. What stands in one tree afterwards stood in
-/// one before or is chained by ties.
+/// Joins the trees of numbers that have one tie. `ties` tells the tie of each number, where it has one, for no more
+/// numbers than have parents, and no parent may be above its number. Afterwards those numbers stand in one tree that
+/// the former trees and the ties chain.
 pub fn join_tied(parents: &mut Vec<usize>, ties: &[Option<u64>])
     requires low { AreLow parents.old.items }
     requires few { length ties.now ≤ length parents.old.items }

@@ -1,5 +1,5 @@
-// Trees of numbers, as a list of parents. Numbers are joined by their roots: the greater root hangs on the smaller one, so
-// the root of a tree is its least number.
+// Trees of numbers, as a list of parents. Numbers are joined by their roots: the greater root hangs on the smaller
+// one, so the root of a tree is its least number.
 ghost use Rattle.std.specs.Prelude.{◌≡◌, ◌<◌, ◌≤◌, length, get_or, IfOk};
 ghost use Rattle.std.specs.List.{range_with_len};
 ghost use Rattle.number_trees.specs.Classes.{AreLow, IsRoot, hung, raised, IsJoined, AreRoots};
@@ -40,7 +40,8 @@ fn hang(parents: &mut Vec<usize>, one: usize, other: usize)
     parents[one.max(other)] = one.min(other);
 }
 
-/// Joins the trees of two numbers: the greater of their roots hangs on the smaller one. No parent may be above its number.
+/// Joins the trees of two numbers: the greater of their roots hangs on the smaller one. No parent may be above its
+/// number.
 #[tactic(auto, using(crate::proofs::Forests::joined_is))]
 pub fn join(parents: &mut Vec<usize>, one: usize, other: usize)
     requires one { one < length parents.old.items }
@@ -62,8 +63,8 @@ fn raise(parents: &mut Vec<usize>, at: usize)
     parents[at] = parents[up];
 }
 
-/// Puts the root in place of each parent, none of which may be above its number. What stands for a number then is the least
-/// one of its tree.
+/// Puts the root in place of each parent, none of which may be above its number. What stands for a number then is the
+/// least one of its tree.
 pub fn raise_all(parents: &mut Vec<usize>)
     requires { AreLow parents.old.items }
     ensures { AreRoots parents.old.items parents.new.items }
