@@ -1,7 +1,8 @@
 use crate::drawings::Sides;
 use crate::nets::{Letter, Refusal, drawing, is_refusal, netlist};
 use box_geom::{Layer, Shapes};
-use net_extract::{BodyNetlist, ExtractFault, extract_bodies};
+use net_extract::{BodyNetlist, extract_bodies};
+use net_name::ExtractFault;
 use std::alloc::Global;
 use std::test::Fail;
 

@@ -14,6 +14,7 @@ use Rattle.scmos_rules.specs.Failing.{SameClass}
 use Rattle.scmos_rules.specs.Layout.{On}
 use Rattle.scmos_rules.specs.declared.rules.Deck.TheVariants.{Taps}
 use Rattle.scmos_rules.proofs.Chains.{joined}
+use Rattle.number_trees.proofs.Tying.{eq_of_eqb}
 use Rattle.net_extract.specs.Bodies.{IsTapFor, HasTapIn, IsBody, AreBodies}
 use Rattle.net_extract.specs.Connections.{AreWires, firsts_of, pieces_of}
 use Rattle.net_extract.specs.Devices.{InRow}
@@ -29,7 +30,7 @@ use Rattle.net_extract.specs.declared.netlist.Drawn.{Drawn}
 use Rattle.net_extract.specs.declared.piece.Conductor.TheVariants.{PDiffusion, NDiffusion, Poly}
 use Rattle.net_extract.specs.declared.piece.Piece.{Piece}
 use Rattle.net_extract.proofs.Finding.{found, found_none}
-use Rattle.net_extract.proofs.Labelling.{eq_of_eqb, wire_listed, wire_net}
+use Rattle.net_extract.proofs.Labelling.{wire_listed, wire_net}
 use Rattle.net_extract.proofs.Listing.{piece_proper}
 use Rattle.net_extract.proofs.Numbering.{map_push}
 use Rattle.net_extract.proofs.PolyClasses.{cell, class_back}

@@ -3,7 +3,7 @@ use Rattle.std.proofs.Common.{◌≡◌, ℕ, ℤ, pos, ◌-ℤ◌, Bool, true, 
 use Rattle.std.specs.List.{Contains, AllZip, find, cons_option}
 use Rattle.std.specs.Option.{option_map}
 use Rattle.std.proofs.lemmas.List.Elements.{All-contains}
-use Rattle.std.proofs.lemmas.Bool.{cases_eq, eq-eqb, ne_eqb}
+use Rattle.std.proofs.lemmas.Bool.{eq-eqb}
 use Rattle.cell_num.proofs.Lists.{some_same, contains_none, contains_cons, contains_here, contains_there}
 use Rattle.cell_num.proofs.In.{in_map, contains_map}
 use Rattle.box_geom.specs.Comparisons.{holding}
@@ -15,6 +15,7 @@ use Rattle.box_geom.specs.declared.layer.Layer.{Layer}
 use Rattle.box_geom.specs.declared.layer.Layer.TheVariants.{Well, Active, PSelect, NSelect, Poly as PolyLayer, Contact, Metal1 as Metal1Layer, Via, Metal2 as Metal2Layer}
 use Rattle.scmos_rules.proofs.Chains.{none}
 use Rattle.scmos_rules.specs.declared.rules.Deck.{Deck}
+use Rattle.number_trees.proofs.Tying.{eq_of_eqb}
 use Rattle.net_extract.specs.Nets.{layer_of, Site, site_at, Conducts, SameNet}
 use Rattle.net_extract.specs.Numbering.{IsInNet}
 use Rattle.net_extract.specs.Bonds.{AreDrawn, Bonded, IsIn}
@@ -32,9 +33,6 @@ use Rattle.net_extract.proofs.Filling.{holds_decides, and_parts, and_true}
 use Rattle.net_extract.proofs.Finding.{found, found_none}
 use Rattle.net_extract.proofs.Listing.{piece_listed, piece_proper, corner_in, held as held_cell, inside_conducts}
 use Rattle.net_extract.proofs.Wiring.{net_both}
-
-pub eq_of_eqb : (a b : ℕ) → (a == b) ≡ true → a ≡ b
-eq_of_eqb a b e = elim (cases_eq a b) [ inl same ↦ same | inr ne ↦ absurd (let f : (a == b) ≡ false = ne_eqb a b ne in cc (sym f ∙ e)) ]
 
 -- two cells of one piece
 pub piece_net : (deck : Deck) (s : List Shape) (ps : List Piece) → AreDrawn s (rects_in ps) → (p : Piece) → Contains ps p → (a b : Site) → IsIn p a → IsIn p b → SameNet deck s a b

@@ -5,16 +5,13 @@ pub mod Bodies
 pub mod Bonds
 pub mod ByName
 pub mod Carving
-pub mod Classing
 pub mod Conductors
 pub mod Cornering
 pub mod Counting
 pub mod Covering
 pub mod Extracting
-pub mod Faults
 pub mod Filling
 pub mod Finding
-pub mod Forests
 pub mod Gating
 pub mod Labelling
 pub mod LayerNumbers
@@ -31,7 +28,6 @@ pub mod OneBody
 pub mod Orders
 pub mod Pairing
 pub mod PolyClasses
-pub mod Ranges
 pub mod Ranking
 pub mod Siding
 pub mod Ties

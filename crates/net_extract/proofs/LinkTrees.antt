@@ -14,7 +14,7 @@ use Rattle.scmos_rules.specs.Layout.{On}
 use Rattle.scmos_rules.specs.declared.rules.Deck.TheVariants.{Plain}
 use Rattle.scmos_rules.proofs.Chains.{none, one}
 use Rattle.net_extract.specs.Bonds.{AreJoined, Bond, touching, joining, tying, Paired}
-use Rattle.net_extract.specs.Classes.{AreKin, InTree, AreLow, IsJoined, AreSound, AreTrees, AreTried, IsTried}
+use Rattle.number_trees.specs.Classes.{AreKin, InTree, AreLow, IsJoined, AreSound, AreTrees, AreTried, IsTried}
 use Rattle.net_extract.specs.Connections.{blank}
 use Rattle.net_extract.specs.Links.{AreLinked, InTreeOrLinked, AreInOneTree, AreUnder}
 use Rattle.net_extract.specs.Meetings.{links_kind, sharing_cell, is_reached}
@@ -23,10 +23,10 @@ use Rattle.net_extract.specs.Pieces.{rect_of, piece_cmp}
 use Rattle.net_extract.specs.declared.piece.Conductor.{Conductor}
 use Rattle.net_extract.specs.declared.piece.Piece.{Piece}
 use Rattle.net_extract.proofs.Bonds.{carried_steps}
-use Rattle.net_extract.proofs.Classing.{GoesBack, IsBelow, AreSettled, apart_is, none_tried, more_tried, cut_short, tried_all, none_settled, more_settled, settled_joined}
+use Rattle.number_trees.proofs.Classing.{GoesBack, IsBelow, rechained, AreSettled, apart_is, none_tried, more_tried, cut_short, tried_all, none_settled, more_settled, settled_joined}
 use Rattle.net_extract.proofs.Filling.{and_parts}
 use Rattle.net_extract.proofs.Finding.{shows, shown}
-use Rattle.net_extract.proofs.Forests.{rechained, class_of_tree, joining_is, tree_back, tree_both, up_tree, sound_low}
+use Rattle.number_trees.proofs.Forests.{class_of_tree, joining_is, tree_back, tree_both, up_tree, sound_low}
 use Rattle.net_extract.proofs.Linking.{cell_decides, joined_reached}
 use Rattle.net_extract.proofs.Numbers.{swapped}
 use Rattle.net_extract.proofs.Pairing.{paired_back}

@@ -9,7 +9,7 @@ use Rattle.box_geom.specs.declared.layer.Layer.{Layer}
 use Rattle.box_geom.specs.declared.layer.Layer.TheVariants.{Contact, Via}
 use Rattle.scmos_rules.specs.declared.rules.Deck.{Deck}
 use Rattle.scmos_rules.specs.declared.rules.Deck.TheVariants.{Plain}
-use Rattle.net_extract.specs.Classes.{AreLeast, AreTried}
+use Rattle.number_trees.specs.Classes.{AreLeast, AreTried}
 use Rattle.net_extract.specs.Nets.{Joins, by_contact, by_via}
 use Rattle.net_extract.specs.declared.piece.Conductor.{Conductor}
 use Rattle.net_extract.specs.Connections.{blank}
@@ -19,7 +19,7 @@ use Rattle.net_extract.specs.Pieces.{piece_cmp, rect_of}
 use Rattle.net_extract.specs.Ties.{PairedOrTied, AreTies}
 use Rattle.net_extract.specs.declared.piece.Piece.{Piece}
 use Rattle.net_extract.proofs.Apart.{filter_twice}
-use Rattle.net_extract.proofs.Classing.{least_like, cut_short}
+use Rattle.number_trees.proofs.Classing.{least_like, cut_short}
 use Rattle.net_extract.proofs.Pairing.{bond_of_pair}
 use Rattle.net_extract.proofs.Ranking.{ordered}
 

@@ -4,7 +4,7 @@ use Rattle.std.specs.List.{All}
 use Rattle.box_geom.specs.Rectangle.{IsProper}
 use Rattle.box_geom.specs.declared.shape.Shape.{Shape}
 use Rattle.scmos_rules.specs.declared.rules.Deck.{Deck}
-use Rattle.net_extract.specs.Classes.{AreLeast, AreHeads}
+use Rattle.number_trees.specs.Classes.{AreLeast, AreHeads}
 use Rattle.net_extract.specs.Cuts.{pieces_in}
 use Rattle.net_extract.specs.Corners.{HaveFewCorners}
 use Rattle.net_extract.specs.Connections.{AreWires, AreNumbered, heads_below}
@@ -13,7 +13,7 @@ use Rattle.net_extract.specs.Pieces.{rect_of, rects_in, piece_cmp}
 use Rattle.net_extract.specs.declared.connections.Wire.{Wire}
 use Rattle.net_extract.specs.declared.piece.Piece.{Piece}
 use Rattle.net_extract.proofs.Carving.{pieces_drawn}
-use Rattle.net_extract.proofs.Classing.{least_heads}
+use Rattle.number_trees.proofs.Classing.{least_heads}
 use Rattle.net_extract.proofs.Cornering.{few_heads}
 use Rattle.net_extract.proofs.Listing.{drawn_permuted, all_proper}
 use Rattle.net_extract.proofs.Wiring.{wires_are}

@@ -6,7 +6,7 @@ use Rattle.std.proofs.Math.Seq.{get_or-append_seam}
 use Rattle.std.proofs.lemmas.Bool.{cases_eq, eq-eqb, ne_eqb}
 use Rattle.std.proofs.lemmas.List.Elements.{Contains-append_left, Contains-append_cases, Contains-push}
 use Rattle.cell_num.proofs.Lists.{contains_none, contains_one}
-use Rattle.net_extract.specs.Classes.{AreHeads}
+use Rattle.number_trees.specs.Classes.{AreHeads}
 use Rattle.net_extract.specs.Connections.{pieces_of, nets_of, blank, heads_below, AreNumbered}
 use Rattle.net_extract.specs.declared.piece.Piece.{Piece}
 use Rattle.net_extract.specs.declared.connections.Wire.{Wire}

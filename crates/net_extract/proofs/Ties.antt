@@ -16,6 +16,8 @@ use Rattle.scmos_rules.specs.Failing.{SameClass}
 use Rattle.scmos_rules.specs.Layout.{On}
 use Rattle.scmos_rules.specs.declared.rules.Deck.TheVariants.{Plain, Taps}
 use Rattle.scmos_rules.proofs.Chains.{joined}
+use Rattle.number_trees.specs.Ties.{HaveOneTie}
+use Rattle.number_trees.proofs.Tying.{one_tie, of_one_tie, one_below}
 use Rattle.net_extract.specs.Areas.{meeting, meeting_any}
 use Rattle.net_extract.specs.Connections.{blank, firsts_of, IsFound}
 use Rattle.net_extract.specs.GateNets.{AreWellNets}
@@ -23,7 +25,7 @@ use Rattle.net_extract.specs.Lookups.{net_in}
 use Rattle.net_extract.specs.Nets.{site_at, Are, Tied, by_well, by_substrate}
 use Rattle.net_extract.specs.Bonds.{AreDrawn, Bond, touching, joining, tying, AreTied, Paired}
 use Rattle.net_extract.specs.Pieces.{rect_of, rects_in}
-use Rattle.net_extract.specs.Ties.{well_tie, tie_by, tie_of, ties_of, HaveOneTie, PairedOrTied, AreTies}
+use Rattle.net_extract.specs.Ties.{well_tie, tie_by, tie_of, ties_of, PairedOrTied, AreTies}
 use Rattle.net_extract.specs.declared.connections.Wire.{Wire}
 use Rattle.net_extract.specs.declared.piece.Conductor.{Conductor}
 use Rattle.net_extract.specs.declared.piece.Conductor.TheVariants.{PDiffusion, NDiffusion, Poly, Metal1, Metal2}
@@ -36,7 +38,6 @@ use Rattle.net_extract.proofs.Numbers.{one_number}
 use Rattle.net_extract.proofs.Pairing.{paired_of}
 use Rattle.net_extract.proofs.PolyClasses.{cell, class_of_net, net_of_class, same_class, class_back}
 use Rattle.net_extract.proofs.Siding.{corner_held, move_net, same_number}
-use Rattle.net_extract.proofs.Tying.{one_tie, of_one_tie, one_below}
 
 -- ---- a cell of a rectangle on a layer
 pub record Marked (s : List Shape) (layer : Layer) (r : Rectangle) : Type 0 where

@@ -15,7 +15,7 @@ use Rattle.box_geom.specs.Touching.{Touch}
 use Rattle.box_geom.specs.declared.shape.Shape.{Shape}
 use Rattle.scmos_rules.proofs.Chains.{none, one, joined, turned}
 use Rattle.scmos_rules.specs.declared.rules.Deck.{Deck}
-use Rattle.net_extract.specs.Classes.{AreLeast}
+use Rattle.number_trees.specs.Classes.{AreLeast}
 use Rattle.net_extract.specs.Nets.{Site, Conducts, Wired, SameNet}
 use Rattle.net_extract.specs.Numbering.{NotBehind, IsFirstOfNet, IsBefore, AreNets, IsInNet}
 use Rattle.net_extract.specs.Bonds.{AreDrawn, Bond, touching, Bonded, IsPieceOf, IsIn, Paired}
@@ -24,7 +24,7 @@ use Rattle.net_extract.specs.Connections.{firsts_of, pieces_of, nets_of, AreWire
 use Rattle.net_extract.specs.declared.piece.Piece.{Piece}
 use Rattle.net_extract.specs.declared.connections.Wire.{Wire}
 use Rattle.net_extract.proofs.Bonds.{carried_steps, one_net}
-use Rattle.net_extract.proofs.Classing.{chained_same, same_chained, least_heads}
+use Rattle.number_trees.proofs.Classing.{chained_same, same_chained, least_heads}
 use Rattle.net_extract.proofs.Listing.{listed_of, piece_listed, piece_proper, corner_in, corner_conducts, held}
 use Rattle.net_extract.proofs.Numbering.{head_of, head_is, heads_own, heads_other, as_many}
 use Rattle.net_extract.proofs.Numbers.{wired_back}

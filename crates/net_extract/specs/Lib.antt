@@ -4,14 +4,12 @@ pub mod Bonds
 pub mod Devices
 pub mod Extraction
 pub mod Labels
-pub mod Naming
 pub mod NetMaps
 pub mod Nets
 pub mod Numbering
 pub mod Pieces
 -- What inner contracts and proofs alone cite.
 pub mod Areas
-pub mod Classes
 pub mod Connections
 pub mod Corners
 pub mod Cuts

@@ -6,7 +6,7 @@ use Rattle.box_geom.specs.declared.shape.Shape.{Shape}
 use Rattle.box_geom.specs.declared.layer.Layer.{Layer}
 use Rattle.box_geom.specs.declared.layer.Layer.TheVariants.{Contact, Via}
 use Rattle.net_extract.specs.Bonds.{AreJoined}
-use Rattle.net_extract.specs.Classes.{InTree}
+use Rattle.number_trees.specs.Classes.{InTree}
 use Rattle.net_extract.specs.Connections.{blank}
 use Rattle.net_extract.specs.Meetings.{is_reached}
 use Rattle.net_extract.specs.declared.piece.Piece.{Piece}

@@ -1,5 +1,5 @@
 -- Ties of taps as the code numbers them: the substrate is 0, and behind it come the classes of well cells.
-use Rattle.std.specs.Prelude.{◌≡◌, ℕ, ◌+◌, ◌==◌, ℤ, Bool, true, false, if◌then◌else◌, Option, Some, None, List, map, get_or, ◌⊎◌}
+use Rattle.std.specs.Prelude.{ℕ, ◌+◌, ◌==◌, ℤ, if◌then◌else◌, Option, Some, None, List, map, ◌⊎◌}
 use Rattle.std.specs.Option.{option_map}
 use Rattle.std.specs.List.{find, filter_map}
 use Rattle.box_geom.specs.Rectangle.{Rectangle}
@@ -7,8 +7,8 @@ use Rattle.box_geom.specs.declared.shape.Shape.{Shape}
 use Rattle.box_geom.specs.declared.layer.Layer.TheVariants.{PSelect, NSelect}
 use Rattle.scmos_rules.specs.declared.rules.Deck.{Deck}
 use Rattle.scmos_rules.specs.declared.rules.Deck.TheVariants.{Plain}
+use Rattle.number_trees.specs.Ties.{HaveOneTie}
 use Rattle.net_extract.specs.Areas.{meeting_any}
-use Rattle.net_extract.specs.Classes.{InTree}
 use Rattle.net_extract.specs.Lookups.{net_in}
 use Rattle.net_extract.specs.Pieces.{rect_of}
 use Rattle.net_extract.specs.Bonds.{Paired}
@@ -42,18 +42,6 @@ tie_of s wells p = tie_by p.kind s wells p
 
 abbrev pub ties_of : List Shape → List Wire → List Piece → List (Option ℕ)
 ties_of s wells ps = map (tie_of s wells) ps
-
-abbrev pub is_one_tie : Option ℕ → Option ℕ → Bool
-is_one_tie (Some a) (Some b) = a == b
-is_one_tie _ _ = false
-
--- numbers i and j have one tie
-pub record HaveOneTie (ties : List (Option ℕ)) (i j : ℕ) : Type 0 where
-  pub is : is_one_tie (get_or ties i None) (get_or ties j None) ≡ true
-
--- the numbers stand in one tree, or have one tie
-abbrev pub InTreeOrTied : List ℕ → List (Option ℕ) → ℕ → ℕ → Type 0
-InTreeOrTied parents ties i j = InTree parents i j ⊎ HaveOneTie ties i j
 
 -- pieces number i and j are bonded, or have one tie
 abbrev pub PairedOrTied : List Shape → List Piece → List (Option ℕ) → ℕ → ℕ → Type 0

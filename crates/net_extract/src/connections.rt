@@ -1,7 +1,7 @@
 // The nets of a drawing: every piece of conductor with the number of its net.
 ghost use Rattle.std.specs.Prelude.{◌≡◌, ◌<◌, ◌≤◌, ◌++◌, ◌∷◌, [], ◌+◌, All, IsPermutation, IsSorted, length, get_or, IfOk, OnOk};
 ghost use Rattle.scmos_rules.specs.declared.rules.Deck.TheVariants.{Plain, Taps};
-ghost use Rattle.net_extract.specs.Classes.{AreHeads, AreLeast};
+ghost use Rattle.number_trees.specs.Classes.{AreHeads, AreLeast};
 ghost use Rattle.box_geom.specs.Rectangle.{IsProper, IsRectangle};
 ghost use Rattle.net_extract.specs.Corners.{HaveFewSides, HaveFewCorners};
 ghost use Rattle.net_extract.specs.Connections.{AreNumbered, AreWires, nets_of, heads_below};

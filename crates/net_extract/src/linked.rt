@@ -3,16 +3,16 @@
 ghost use Rattle.std.specs.Prelude.{◌≡◌, ◌<◌, ◌≤◌, [], length, get_or, int_le, IsSorted, IsTrue};
 ghost use Rattle.scmos_rules.specs.declared.rules.Deck.TheVariants.{Plain};
 ghost use Rattle.net_extract.specs.Bonds.{Paired};
-ghost use Rattle.net_extract.specs.Classes.{InTree, AreLow, AreTrees, AreTried, IsTried};
+ghost use Rattle.number_trees.specs.Classes.{InTree, AreLow, AreTrees, AreTried, IsTried};
 ghost use Rattle.net_extract.specs.Connections.{blank};
 ghost use Rattle.net_extract.specs.Links.{AreLinked, InTreeOrLinked, AreInOneTree, AreUnder};
 ghost use Rattle.net_extract.specs.Meetings.{is_reached};
 ghost use Rattle.net_extract.specs.Pieces.{piece_cmp};
 
 use crate::bond::{are_linked, does_reach};
-use crate::class::{join, root};
 use crate::piece::Piece;
 use box_geom::Shape;
+use number_trees::{join, root};
 
 fn is_above(piece: &Piece, link: &Shape) -> bool
     ensures { result ≡ int_le link.now.rect.y2 piece.now.low }

@@ -1,7 +1,7 @@
 use Rattle.std.proofs.Common.{[], length, arith, sym, ◌∙◌}
 use Rattle.scmos_rules.specs.declared.rules.Deck.TheVariants.{Plain}
 use Rattle.net_extract.specs.Bonds.{Paired}
-use Rattle.net_extract.proofs.Classing.{none_tried, more_tried, tried_all}
+use Rattle.number_trees.proofs.Classing.{none_tried, more_tried, tried_all}
 use Rattle.net_extract.proofs.Links.{tried_below}
 use Rattle.net_extract.proofs.class.join_later.Goals as goal
 

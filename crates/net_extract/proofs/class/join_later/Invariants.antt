@@ -1,6 +1,6 @@
 use Rattle.std.proofs.Common.{[], length}
 use Rattle.scmos_rules.specs.declared.rules.Deck.TheVariants.{Plain}
-use Rattle.net_extract.specs.Classes.{AreTried}
+use Rattle.number_trees.specs.Classes.{AreTried}
 use Rattle.net_extract.specs.Bonds.{Paired}
 use Rattle.net_extract.proofs.class.join_later.Given as goal
 

@@ -1,7 +1,7 @@
 use Rattle.std.proofs.Common.{[], length, arith}
 use Rattle.scmos_rules.specs.declared.rules.Deck.TheVariants.{Plain}
 use Rattle.net_extract.specs.Bonds.{Paired}
-use Rattle.net_extract.proofs.Classing.{first_sound, none_settled, more_settled, settled_trees}
+use Rattle.number_trees.proofs.Classing.{first_sound, none_settled, more_settled, settled_trees}
 use Rattle.net_extract.proofs.Pairing.{paired_back, paired_below}
 use Rattle.net_extract.proofs.class.join_touching.Goals as goal
 

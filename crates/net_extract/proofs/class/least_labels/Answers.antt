@@ -1,9 +1,10 @@
 use Rattle.std.proofs.Common.{length, subst}
 use Rattle.scmos_rules.specs.declared.rules.Deck.TheVariants.{Plain}
-use Rattle.net_extract.specs.Classes.{AreTrees}
+use Rattle.number_trees.specs.Classes.{AreTrees}
 use Rattle.net_extract.specs.Bonds.{Paired}
-use Rattle.net_extract.specs.Ties.{InTreeOrTied, PairedOrTied}
-use Rattle.net_extract.proofs.Forests.{sound_low, trees_least}
+use Rattle.number_trees.specs.Ties.{InTreeOrTied}
+use Rattle.net_extract.specs.Ties.{PairedOrTied}
+use Rattle.number_trees.proofs.Forests.{sound_low, trees_least}
 use Rattle.net_extract.proofs.Tying.{met_back, met_trees}
 use Rattle.net_extract.proofs.class.least_labels.Goals as goal
 

@@ -2,8 +2,8 @@ use Rattle.std.proofs.Common.{[], length}
 use Rattle.scmos_rules.specs.declared.rules.Deck.TheVariants.{Plain}
 use Rattle.net_extract.specs.Bonds.{Paired}
 use Rattle.net_extract.specs.Connections.{blank}
-use Rattle.net_extract.proofs.Classing.{apart_is}
-use Rattle.net_extract.proofs.Forests.{joining_is, sound_low}
+use Rattle.number_trees.proofs.Classing.{apart_is}
+use Rattle.number_trees.proofs.Forests.{joining_is, sound_low}
 use Rattle.net_extract.proofs.Pairing.{paired_back, paired_of, bond_of_pair}
 use Rattle.net_extract.proofs.class.try_join.Goals as goal
 

@@ -1,6 +1,6 @@
 use Rattle.std.proofs.Common.{subst}
-use Rattle.net_extract.specs.Classes.{InTree}
-use Rattle.net_extract.proofs.Labelling.{eq_of_eqb}
+use Rattle.number_trees.specs.Classes.{InTree}
+use Rattle.number_trees.proofs.Tying.{eq_of_eqb}
 use Rattle.net_extract.proofs.linked.is_under.Goals as goal
 
 pub returns-then-does_reach : goal.returns-then-does_reach

@@ -1,9 +1,0 @@
-use Rattle.std.proofs.Common.{◌≤◌}
-use Rattle.net_extract.specs.Classes.{InTree}
-use Rattle.net_extract.proofs.class.root.Given as goal
-
-abbrev pub invariant-up : goal.invariant-up
-invariant-up l = (l.at ≤ l.of) × InTree l.parents l.of l.at
-
-abbrev pub decreases-up : goal.decreases-up
-decreases-up l = l.at

@@ -1,0 +1,3 @@
+pub mod Classing
+pub mod Forests
+pub mod Tying
