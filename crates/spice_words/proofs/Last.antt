@@ -1,14 +1,15 @@
 -- The last value of a key and the last pair for a pin, as words come.
-use Rattle.std.proofs.Common.{ℕ, ◌≡◌, ◌<◌, ◌+◌, List, [], ◌∷◌, ◌++◌, get_or, take, length, refl, sym, ap}
+use Rattle.std.proofs.Common.{ℕ, ◌≡◌, ◌<◌, ◌+◌, List, [], ◌∷◌, ◌++◌, get_or, take, length, refl, sym, ap, ◌∙◌}
 use Rattle.std.specs.Prelude.{Option, Some, None, filter_map}
 use Rattle.std.specs.List.{cons_option}
-use Rattle.std.proofs.lemmas.List.{append-nil}
+use Rattle.std.proofs.lemmas.List.{append-nil, take_more}
 use Rattle.std.proofs.lemmas.List.Elements.{filter_map-append}
 use Rattle.spice_text.specs.declared.logical.Line.{Line}
-use Rattle.spice_net.specs.Directions.{told_by, told_among, told_in, told_of}
-use Rattle.spice_net.specs.Reader.{last_there}
-use Rattle.spice_net.specs.Transistors.{value_in, last_of, value_of}
-use Rattle.spice_net.proofs.NetFacts.{next_taken}
+use Rattle.spice_words.specs.Pairs.{told_by, told_among, told_in, told_of}
+use Rattle.spice_words.specs.Parameters.{value_in, last_of, value_of, last_there}
+
+pub next_taken : {X : Type 0} (xs : List X) (i : ℕ) (x : X) → i < length xs → x ≡ get_or xs i x → take (i + 1) xs ≡ take i xs ++ x ∷ []
+next_taken {X = X} xs i x lt is = take_more xs i x lt ∙ ap (λ (y : X). take i xs ++ y ∷ []) (sym is)
 
 last_behind : {X : Type 0} (xs : List X) (x : X) → last_of (xs ++ x ∷ []) ≡ Some x
 last_behind [] x = refl
