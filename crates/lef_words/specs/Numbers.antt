@@ -51,3 +51,8 @@ unfoldable pub nanometres_of : List ℕ → Option ℤ
 nanometres_of [] = None
 nanometres_of (b ∷ bs) =
     if b == 45 then option_map (λ n. neg_ℤ (pos n)) (length_of bs) else option_map (λ n. pos n) (length_of (b ∷ bs))
+
+-- the number that digits write behind those of n: the reader's own word, as it comes from digit to digit
+abbrev pub whole_after : ℕ → List ℕ → ℕ
+whole_after n [] = n
+whole_after n (b ∷ bs) = whole_after (10 * n + (b - 48)) bs
