@@ -8,8 +8,10 @@ use Rattle.bound_log.specs.declared.fault.LogFault.TheVariants as fault
 use Rattle.bound_log.specs.declared.log.Rule.TheVariants as by
 use Rattle.bound_log.specs.declared.log.LogStep.{LogStep}
 use Rattle.bound_log.specs.declared.log.Log.{Log}
-use Rattle.bound_log.specs.Line.{number_below, version_in}
-use Rattle.bound_log.specs.Reading.{behind, columns_at, lines_in, log_at, log_of}
+use Rattle.log_lines.specs.Words.{number_below}
+use Rattle.bound_log.specs.Line.{version_in}
+use Rattle.log_lines.specs.Lines.{behind, lines_in}
+use Rattle.bound_log.specs.Reading.{columns_at, log_at, log_of}
 use Rattle.bound_log.specs.Text.{log_text}
 
 abbrev kind : ℕ → ℕ → ℕ → ℕ → Kind

@@ -10,7 +10,8 @@ use Rattle.bound_log.specs.declared.log.Lemma.{Lemma}
 use Rattle.bound_log.specs.declared.log.LogStep.{LogStep}
 use Rattle.bound_log.specs.declared.log.Log.{Log}
 use Rattle.bound_log.specs.declared.log.Entry.TheVariants as entry
-use Rattle.bound_log.specs.Line.{entry_in, is_word, column_in, words_in}
+use Rattle.log_lines.specs.Words.{is_word, words_in}
+use Rattle.bound_log.specs.Line.{entry_in, column_in}
 use Rattle.bound_log.specs.Reading.{columns_at, end_at, log_at}
 
 -- ---- columns

@@ -15,8 +15,9 @@ use Rattle.bound_log.specs.declared.item.LogItem.TheVariants as item
 use Rattle.bound_log.specs.declared.item.LogPlace.{LogPlace}
 use Rattle.bound_log.specs.declared.item.LogPlace.TheVariants as place
 use Rattle.bound_log.specs.declared.said.Said.{Said}
-use Rattle.bound_log.specs.Pieces.{IsShort, Reader, Tale, behind_line, byte_tale, line_bytes, line_tale, longer, next_tale, refused, tale_of, then_tale, told, whole_says, with_line}
-use Rattle.bound_log.proofs.Splits.{Lacks}
+use Rattle.log_lines.specs.Fronts.{IsShort, longer}
+use Rattle.bound_log.specs.Pieces.{Reader, Tale, behind_line, byte_tale, line_bytes, line_tale, next_tale, refused, tale_of, then_tale, told, whole_says, with_line}
+use Rattle.log_lines.proofs.Splits.{Lacks}
 
 abbrev pub no_more : Reader → Tale
 no_more r = record { items = []; reader = r }

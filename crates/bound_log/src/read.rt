@@ -2,20 +2,20 @@ ghost use Rattle.std.specs.Prelude.{◌≡◌, ◌≢◌, ◌≤◌, ◌+◌, If
 ghost use Rattle.bound_log.specs.declared.fault.LogFault.TheVariants as fault;
 ghost use Rattle.bound_log.specs.declared.log.Log.{Log as LogOf};
 ghost use Rattle.bound_log.specs.Fits.{Fits, IsLogName};
-ghost use Rattle.bound_log.specs.Reading.{behind, columns_at, end_at, lines_in, log_at, log_of, named_at};
+ghost use Rattle.log_lines.specs.Lines.{behind, lines_in};
+ghost use Rattle.bound_log.specs.Reading.{columns_at, end_at, log_at, log_of, named_at};
 ghost use Rattle.bound_log.specs.Text.{log_text};
 
-use crate::head::{is_named, version};
+use crate::head::version;
 use crate::line::{read_column, read_entry};
-use crate::lines::first_line;
-use crate::word::is_word;
 use crate::{Best, Entry, LemmaList, Log, LogFault, LogSteps};
 use cell_num::{MOST_BYTES, Name};
+use log_lines::{first_line, is_named, is_word};
 use row_state::Kinds;
 use std::alloc::Global;
 
 // The line `end`, and nothing behind it.
-#[tactic(auto, using(crate::proofs::Feeds::ended, crate::proofs::Feeds::ended_before, crate::proofs::Feeds::not_ended))]
+#[tactic(auto, using(crate::proofs::Ends::ended, crate::proofs::Ends::ended_before, crate::proofs::Ends::not_ended))]
 fn read_end(bytes: &[u8], number: u32) -> Result<(), LogFault>
     requires { number ≤ MOST_BYTES + 4 }
     ensures { result ≡ end_at number (lines_in bytes.now) (behind bytes.now) }
