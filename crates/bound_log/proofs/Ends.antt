@@ -1,5 +1,5 @@
 -- The last line.
-use Rattle.std.specs.Prelude.{ℕ, ◌≡◌, ◌≢◌, ◌+◌, true, false, List, [], ◌∷◌, Ok, Err, codes, length}
+use Rattle.std.specs.Prelude.{ℕ, ◌≡◌, ◌≢◌, ◌+◌, true, false, List, ◌∷◌, Ok, Err, codes, length}
 use Rattle.std.proofs.Common.{refl}
 use Rattle.log_lines.specs.Words.{is_word}
 use Rattle.log_lines.specs.Lines.{behind, lines_in}

@@ -1,7 +1,6 @@
 -- What one line of a log holds, by its words.
 use Rattle.std.specs.Prelude.{ℕ, Bool, true, false, ◌≤◌, ◌+◌, ◌||◌, ◌==◌, leb, All, List, [], ◌∷◌, Option, Some, None, length, find, codes, option_map, if◌then◌else◌}
 use Rattle.std.specs.Option.{is_some}
-use Rattle.log_lines.specs.Words.{is_word, number_below, parts_at}
 use Rattle.cell_num.specs.declared.net.NetNo.{NetNo}
 use Rattle.row_state.specs.declared.bound.TheConstants.{PARITY_LOG, COMPONENT_LOG}
 use Rattle.row_state.specs.declared.kind.Kind.{Kind}
@@ -9,6 +8,7 @@ use Rattle.row_state.specs.declared.kind.Kinds.{Kinds}
 use Rattle.row_state.specs.declared.state.State.{State}
 use Rattle.row_state.specs.declared.step.Side.{Side}
 use Rattle.row_state.specs.Tests.{state_test}
+use Rattle.log_lines.specs.Words.{is_word, number_below, parts_at}
 use Rattle.bound_log.specs.declared.log.Rule.{Rule}
 use Rattle.bound_log.specs.declared.log.Rule.TheVariants as by
 use Rattle.bound_log.specs.declared.log.Lemma.{Lemma}

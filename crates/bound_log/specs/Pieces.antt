@@ -2,6 +2,8 @@
 use Rattle.std.specs.Prelude.{ℕ, ◌+◌, ◌==◌, Bool, true, false, List, [], ◌∷◌, ◌++◌, Option, Some, None, Result, Ok, Err, length, codes, position, if◌then◌else◌}
 use Rattle.row_state.specs.declared.kind.Kinds.{Kinds}
 use Rattle.row_state.specs.Versions.{IsVersion}
+use Rattle.log_lines.specs.Fronts.{longer}
+use Rattle.log_lines.specs.Words.{is_word, words_in}
 use Rattle.bound_log.specs.declared.fault.LogFault.{LogFault}
 use Rattle.bound_log.specs.declared.fault.LogFault.TheVariants as fault
 use Rattle.bound_log.specs.declared.item.LogItem.{LogItem}
@@ -14,8 +16,6 @@ use Rattle.bound_log.specs.declared.log.Log.{Log}
 use Rattle.bound_log.specs.declared.log.Entry.{Entry}
 use Rattle.bound_log.specs.declared.log.Entry.TheVariants as entry
 use Rattle.bound_log.specs.Fits.{LemmaFits}
-use Rattle.log_lines.specs.Fronts.{longer}
-use Rattle.log_lines.specs.Words.{is_word, words_in}
 use Rattle.bound_log.specs.Line.{entry_in, column_in, version_in}
 
 -- Where a reader of a log for this name and these kinds stands.

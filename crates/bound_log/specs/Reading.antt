@@ -2,14 +2,14 @@
 use Rattle.std.specs.Prelude.{ℕ, ◌+◌, ◌==◌, ◌&&◌, List, [], ◌∷◌, ◌++◌, Some, None, Result, Ok, Err, length, codes, if◌then◌else◌}
 use Rattle.cell_num.specs.Steps.{◌>>=◌, require, or_fault}
 use Rattle.row_state.specs.declared.kind.Kinds.{Kinds}
+use Rattle.log_lines.specs.Lines.{behind, lines_in}
+use Rattle.log_lines.specs.Words.{is_word, words_in}
 use Rattle.bound_log.specs.declared.fault.LogFault.{LogFault}
 use Rattle.bound_log.specs.declared.fault.LogFault.TheVariants as fault
 use Rattle.bound_log.specs.declared.log.LogStep.{LogStep}
 use Rattle.bound_log.specs.declared.log.Log.{Log}
 use Rattle.bound_log.specs.declared.log.Entry.{Entry}
 use Rattle.bound_log.specs.declared.log.Entry.TheVariants as entry
-use Rattle.log_lines.specs.Lines.{behind, lines_in}
-use Rattle.log_lines.specs.Words.{is_word, words_in}
 use Rattle.bound_log.specs.Line.{entry_in, column_in, version_in}
 
 -- Below, line n is the first of the lines, and the rest are the bytes behind the last one.

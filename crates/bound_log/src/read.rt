@@ -1,8 +1,8 @@
 ghost use Rattle.std.specs.Prelude.{◌≡◌, ◌≢◌, ◌≤◌, ◌+◌, IfOk, IfErr, Ok, Err, length};
+ghost use Rattle.log_lines.specs.Lines.{behind, lines_in};
 ghost use Rattle.bound_log.specs.declared.fault.LogFault.TheVariants as fault;
 ghost use Rattle.bound_log.specs.declared.log.Log.{Log as LogOf};
 ghost use Rattle.bound_log.specs.Fits.{Fits, IsLogName};
-ghost use Rattle.log_lines.specs.Lines.{behind, lines_in};
 ghost use Rattle.bound_log.specs.Reading.{columns_at, end_at, log_at, log_of, named_at};
 ghost use Rattle.bound_log.specs.Text.{log_text};
 

@@ -1,7 +1,7 @@
 ghost use Rattle.std.specs.Prelude.{◌≡◌, ◌≢◌, ◌≤◌, ◌<◌, ◌+◌, Err, IfErr, IfOk, None, Ok, OnOk, Some, length, take};
+ghost use Rattle.log_lines.specs.Fronts.{IsShort, longer};
 ghost use Rattle.bound_log.specs.declared.fault.LogFault.TheVariants as fault;
 ghost use Rattle.bound_log.specs.Fits.{IsLogName};
-ghost use Rattle.log_lines.specs.Fronts.{IsShort, longer};
 ghost use Rattle.bound_log.specs.Pieces.{ItemFits, PlaceFits, SaidFits, begun, behind_line, ended, line_bytes, passed, refused, tale_of, told, whole_says, with_line};
 
 use crate::said::{Said, say_line, wrong_at};

@@ -1,6 +1,6 @@
 ghost use Rattle.std.specs.Prelude.{◌≡◌, ◌≢◌, Err, IfErr, IfOk, Ok};
-ghost use Rattle.bound_log.specs.declared.fault.LogFault.TheVariants as fault;
 ghost use Rattle.log_lines.specs.Words.{words_in};
+ghost use Rattle.bound_log.specs.declared.fault.LogFault.TheVariants as fault;
 ghost use Rattle.bound_log.specs.Line.{entry_in, version_in};
 ghost use Rattle.bound_log.specs.Pieces.{column_says, columns_say, entry_says, line_says, said_if, version_says, wrong_at};
 

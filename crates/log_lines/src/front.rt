@@ -1,4 +1,4 @@
-ghost use Rattle.std.specs.Prelude.{◌≡◌, [], IfOk, IsTrue, Some};
+ghost use Rattle.std.specs.Prelude.{◌≡◌, ◌↔◌, [], IfOk, IsTrue, Some};
 ghost use Rattle.std.specs.Option.{is_some};
 ghost use Rattle.log_lines.specs.Fronts.{IsShort, longer};
 
@@ -56,9 +56,9 @@ impl LineFront {
         }
     }
 
-    /// Whether nothing came but what these bytes are.
+    /// Whether nothing of the line came so far.
     pub fn is_empty(&self) -> bool
-        ensures { IsTrue result → self.now ≡ Some [] }
+        ensures { IsTrue result ↔ (self.now ≡ Some []) }
     {
         !self.is_long && self.bytes.as_slice().is_empty()
     }

@@ -10,8 +10,8 @@ use Rattle.log_lines.specs.Words.{is_word, number_below, parts_at}
 use Rattle.log_lines.proofs.Decimals.{above_decimal}
 use Rattle.log_lines.proofs.Numbers.{chosen, found_below, is_below, is_other, same_words}
 use Rattle.log_lines.proofs.Parts.{some_part}
-use Rattle.bound_log.proofs.Spelled.{bound, cons_same, mapped}
 use Rattle.log_lines.proofs.Splits.{IsAbove, Lacks, above_lacks, above_more, joined_lacks, split_joined}
+use Rattle.bound_log.proofs.Spelled.{bound, cons_same, mapped}
 use Rattle.trail_log.specs.Fits.{NetFits}
 use Rattle.trail_log.specs.Line.{each_in, list_in, net_in}
 use Rattle.trail_log.specs.Text.{list_text, net_text}
