@@ -20,7 +20,7 @@ pub use fault::LogFault;
 pub use item::{LogItem, LogPlace};
 pub use law::reads_in_pieces;
 pub use log::{Best, Entry, Lemma, LemmaList, Log, LogStep, LogSteps, MOST_GAPS, Rule};
-pub use read::read_log;
+pub use read::{read_columns, read_end, read_log};
 pub use reader::LogReader;
 pub use said::Said;
 pub use write::write_log;

@@ -7,7 +7,7 @@ use Rattle.bound_log.proofs.read.read_columns.Given as goal
 
 abbrev pub invariant-columns : goal.invariant-columns
 invariant-columns l =
-    (length l.rest + l.number ≤ MOST_BYTES + 3)
+    (length l.rest + l.number ≤ MOST_BYTES + 5)
     × (with_columns l.steps (columns_at l.kinds l.number (lines_in l.rest) (behind l.rest)) ≡ columns_at l.kinds l.from (lines_in l.bytes) (behind l.bytes))
 
 abbrev pub decreases-columns : goal.decreases-columns
