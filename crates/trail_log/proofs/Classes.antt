@@ -5,11 +5,11 @@ use Rattle.std.specs.List.{join_with_byte}
 use Rattle.std.proofs.lemmas.List.{append-nil, length-map}
 use Rattle.std.proofs.lemmas.List.Elements.{All-append, All-cons, All-nil}
 use Rattle.std.proofs.lemmas.Option.{none-some, same_Some}
-use Rattle.bound_log.specs.Line.{parts_at}
-use Rattle.bound_log.proofs.Decimals.{above_decimal}
-use Rattle.bound_log.proofs.Parts.{some_part}
+use Rattle.log_lines.specs.Words.{parts_at}
+use Rattle.log_lines.proofs.Decimals.{above_decimal}
+use Rattle.log_lines.proofs.Parts.{some_part}
+use Rattle.log_lines.proofs.Splits.{IsAbove, Lacks, above_lacks, above_more, joined_lacks, split_joined}
 use Rattle.bound_log.proofs.Spelled.{bound, cons_same, mapped}
-use Rattle.bound_log.proofs.Splits.{IsAbove, Lacks, above_lacks, above_more, joined_lacks, split_joined}
 use Rattle.trail_log.specs.declared.trails.Class.{Class}
 use Rattle.trail_log.specs.declared.trails.NetPair.{NetPair}
 use Rattle.trail_log.specs.Fits.{ClassFits, NodeFits}

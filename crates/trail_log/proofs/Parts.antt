@@ -3,8 +3,8 @@ use Rattle.std.specs.Prelude.{ℕ, ◌≡◌, ◌+◌, ◌-◌, ◌==◌, List, 
 use Rattle.std.proofs.Common.{refl, sym, ap, ◌∙◌}
 use Rattle.std.specs.Borrow.{Bor}
 use Rattle.std.proofs.lemmas.List.{append-nil}
-use Rattle.bound_log.specs.Line.{parts_at}
-use Rattle.bound_log.proofs.Parts.{all_behind, cut_at, not_cut}
+use Rattle.log_lines.specs.Words.{parts_at}
+use Rattle.log_lines.proofs.Parts.{all_behind, cut_at, not_cut}
 
 joined : (items : List (Bor (List ℕ))) (part : Bor (List ℕ)) (more : List (List ℕ)) → map (λ p. p.now) (items ++ part ∷ []) ++ more ≡ map (λ p. p.now) items ++ (part.now ∷ more)
 joined [] part more = refl

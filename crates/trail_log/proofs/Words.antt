@@ -7,12 +7,13 @@ use Rattle.std.proofs.lemmas.List.{append_assoc}
 use Rattle.std.proofs.lemmas.List.Elements.{All-cons, All-nil}
 use Rattle.std.proofs.lemmas.Option.{none-some, same_Some}
 use Rattle.cell_num.specs.declared.net.NetNo.{NetNo}
-use Rattle.bound_log.specs.Line.{gaps_in, is_word, number_below}
+use Rattle.log_lines.specs.Words.{is_word, number_below}
+use Rattle.log_lines.proofs.Decimals.{above_decimal}
+use Rattle.log_lines.proofs.Numbers.{chosen, found_below, is_below, same_words}
+use Rattle.log_lines.proofs.Splits.{IsAbove, above_more, fed}
+use Rattle.bound_log.specs.Line.{gaps_in}
 use Rattle.bound_log.proofs.Again.{by_test}
-use Rattle.bound_log.proofs.Decimals.{above_decimal}
-use Rattle.bound_log.proofs.Numbers.{chosen, found_below, is_below, same_words}
 use Rattle.bound_log.proofs.Spelled.{bound, cons_same, is_provided, mapped}
-use Rattle.bound_log.proofs.Splits.{IsAbove, above_more, fed}
 use Rattle.trail_log.specs.declared.trails.Class.{Class}
 use Rattle.trail_log.specs.declared.trails.LemmaLine.{LemmaLine}
 use Rattle.trail_log.specs.declared.trails.NetPair.{NetPair}

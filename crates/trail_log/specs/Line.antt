@@ -1,7 +1,8 @@
 -- What one line of a certificate holds, by its words.
 use Rattle.std.specs.Prelude.{ℕ, ◌+◌, ◌==◌, Bool, true, false, leb, List, [], ◌∷◌, Option, Some, None, length, codes, option_map, if◌then◌else◌}
 use Rattle.cell_num.specs.declared.net.NetNo.{NetNo}
-use Rattle.bound_log.specs.Line.{◌>>=◌, gaps_in, is_word, number_below, parts_at, provided}
+use Rattle.log_lines.specs.Words.{is_word, number_below, parts_at}
+use Rattle.bound_log.specs.Line.{◌>>=◌, gaps_in, provided}
 use Rattle.trail_log.specs.declared.trails.Class.{Class}
 use Rattle.trail_log.specs.declared.trails.NetPair.{NetPair}
 use Rattle.trail_log.specs.declared.trails.LemmaLine.{LemmaLine}

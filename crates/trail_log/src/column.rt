@@ -1,5 +1,6 @@
 ghost use Rattle.std.specs.Prelude.{◌≡◌, ◌≤◌, IfOk, None, Some, if◌then◌else◌, length, map, option_map};
-ghost use Rattle.bound_log.specs.Line.{column_in, flip_in, number_below, place_in, side_in, step_in, words_in};
+ghost use Rattle.log_lines.specs.Words.{number_below, words_in};
+ghost use Rattle.bound_log.specs.Line.{column_in, flip_in, place_in, side_in, step_in};
 
 use crate::nets::net;
 use crate::word::{is_word, number_below, parts};

@@ -1,6 +1,7 @@
 ghost use Rattle.std.specs.Prelude.{◌≡◌, ◌≤◌, IfOk, List as Sequence, ℕ, codes, map};
 ghost use Rattle.std.specs.List.{list_all};
-ghost use Rattle.bound_log.specs.Line.{gaps_in, words_in};
+ghost use Rattle.log_lines.specs.Words.{words_in};
+ghost use Rattle.bound_log.specs.Line.{gaps_in};
 ghost use Rattle.trail_log.specs.declared.trails.Class.{Class as ClassOf};
 ghost use Rattle.trail_log.specs.Line.{classes_in, entry_in, fill_in, lemma_in, nets_behind, odd_in, order_in};
 ghost use Rattle.trail_log.specs.Order.{classes_in_order, increases, node_rank};

@@ -1,6 +1,6 @@
 ghost use Rattle.std.specs.Prelude.{◌≡◌, ◌≤◌, ℕ, IfOk, List as Sequence, Option, map};
 ghost use Rattle.std.specs.List.{join_with_byte};
-ghost use Rattle.bound_log.specs.Line.{parts_at};
+ghost use Rattle.log_lines.specs.Words.{parts_at};
 ghost use Rattle.trail_log.specs.Line.{each_in, list_in};
 ghost use Rattle.trail_log.specs.Order.{increases};
 ghost use Rattle.trail_log.specs.Text.{list_text};

@@ -1,7 +1,8 @@
 ghost use Rattle.std.specs.Prelude.{◌≡◌, ◌≢◌, ◌≤◌, ◌+◌, IfOk, IfErr, Ok, Err, length};
+ghost use Rattle.log_lines.specs.Lines.{behind, lines_in};
 ghost use Rattle.bound_log.specs.declared.fault.LogFault.TheVariants as fault;
 ghost use Rattle.bound_log.specs.Fits.{IsLogName};
-ghost use Rattle.bound_log.specs.Reading.{behind, columns_at, end_at, lines_in};
+ghost use Rattle.bound_log.specs.Reading.{columns_at, end_at};
 ghost use Rattle.trail_log.specs.declared.trails.Trails.{Trails as TrailsOf};
 ghost use Rattle.trail_log.specs.Fits.{TrailsFit};
 ghost use Rattle.trail_log.specs.Reading.{fill_at, lemmas_at, named_at, order_at, trails_of};
@@ -17,7 +18,7 @@ use row_state::Kinds;
 use std::alloc::Global;
 
 // The line `end`, and nothing behind it.
-#[tactic(auto, using(bound_log::proofs::Feeds::ended, bound_log::proofs::Feeds::ended_before, bound_log::proofs::Feeds::not_ended))]
+#[tactic(auto, using(bound_log::proofs::Ends::ended, bound_log::proofs::Ends::ended_before, bound_log::proofs::Ends::not_ended))]
 fn read_end(bytes: &[u8], number: u32) -> Result<(), LogFault>
     requires { number ≤ MOST_BYTES + 5 }
     ensures { result ≡ end_at number (lines_in bytes.now) (behind bytes.now) }

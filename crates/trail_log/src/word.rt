@@ -1,7 +1,7 @@
 ghost use Rattle.std.specs.Prelude.{◌≡◌, ◌≢◌, ◌≤◌, ◌<◌, ◌^◌, ◌∷◌, [], ◌↔◌, ◌++◌, ◌==◌, ℕ, IfNone, IfOk, IfSome, IsTrue, List as Sequence, OnOk, codes, decimal, length, map, position};
 ghost use Rattle.std.specs.List.{join_with_byte};
-ghost use Rattle.bound_log.specs.Line.{is_word, number_below, parts_at};
-ghost use Rattle.bound_log.specs.Reading.{behind, lines_in};
+ghost use Rattle.log_lines.specs.Words.{is_word, number_below, parts_at};
+ghost use Rattle.log_lines.specs.Lines.{behind, lines_in};
 
 use cell_num::{Bytes, List, Name, NoMemory};
 use itoa::Buffer;
@@ -16,7 +16,7 @@ pub(crate) struct Line<'a> {
     pub(crate) after: &'a [u8],
 }
 
-#[tactic(auto, using(bound_log::proofs::Searches::first_byte, bound_log::proofs::Parts::found_within))]
+#[tactic(auto, using(log_lines::proofs::Searches::first_byte, log_lines::proofs::Parts::found_within))]
 fn find_byte(text: &[u8], byte: u8) -> Option<usize>
     ensures at { result ≡ position (λ b. b == byte) text.now }
     ensures within { IfSome result (λ at. at < length text.now) }
@@ -25,7 +25,7 @@ fn find_byte(text: &[u8], byte: u8) -> Option<usize>
 }
 
 /// The first line, if a line feed ends it.
-#[tactic(auto, using(bound_log::proofs::Feeds::no_line, bound_log::proofs::Feeds::first_lines, bound_log::proofs::Feeds::first_behind, bound_log::proofs::Feeds::feed_within))]
+#[tactic(auto, using(log_lines::proofs::Feeds::no_line, log_lines::proofs::Feeds::first_lines, log_lines::proofs::Feeds::first_behind, log_lines::proofs::Feeds::feed_within))]
 pub(crate) fn first_line(bytes: &[u8]) -> Option<Line<'_>>
     ensures none { IfNone result (lines_in bytes.now ≡ []) }
     ensures line { IfSome result (λ first. lines_in bytes.now ≡ first.line.now ∷ lines_in first.after.now) }
@@ -71,7 +71,7 @@ fn behind_cell(line: &[u8]) -> Option<&[u8]>
 }
 
 /// Whether the line is `cell` and the name.
-#[tactic(auto, using(bound_log::proofs::Names::behind_front, bound_log::proofs::Names::no_front))]
+#[tactic(auto, using(log_lines::proofs::Names::behind_front, log_lines::proofs::Names::no_front))]
 pub(crate) fn is_named(line: &[u8], name: &Name) -> bool
     ensures { result ≡ is_word line.now (codes "cell " ++ name.now) }
 {
@@ -99,7 +99,7 @@ fn number(word: &[u8]) -> Option<u32>
     }
 }
 
-#[tactic(auto, using(bound_log::proofs::Numbers::is_below, bound_log::proofs::Numbers::not_below, bound_log::proofs::Numbers::no_number))]
+#[tactic(auto, using(log_lines::proofs::Numbers::is_below, log_lines::proofs::Numbers::not_below, log_lines::proofs::Numbers::no_number))]
 pub(crate) fn number_below(word: &[u8], limit: u32) -> Option<u32>
     requires { limit ≤ 1000 }
     ensures { result ≡ number_below limit word.now }

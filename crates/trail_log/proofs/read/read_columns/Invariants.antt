@@ -1,6 +1,7 @@
 use Rattle.std.proofs.Common.{◌≡◌, ◌+◌, ◌≤◌, length}
 use Rattle.cell_num.specs.declared.limits.TheConstants.{MOST_BYTES}
-use Rattle.bound_log.specs.Reading.{behind, columns_at, lines_in}
+use Rattle.log_lines.specs.Lines.{behind, lines_in}
+use Rattle.bound_log.specs.Reading.{columns_at}
 use Rattle.bound_log.proofs.Fronts.{with_columns}
 use Rattle.trail_log.proofs.read.read_columns.Given as goal
 

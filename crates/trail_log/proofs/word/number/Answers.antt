@@ -1,7 +1,7 @@
 use Rattle.std.proofs.Common.{◌≡◌, false, true, sym, ap, ◌∙◌}
 use Rattle.std.specs.Prelude.{decimal}
-use Rattle.bound_log.specs.Line.{is_word}
-use Rattle.bound_log.proofs.Numbers.{is_same}
+use Rattle.log_lines.specs.Words.{is_word}
+use Rattle.log_lines.proofs.Numbers.{is_same}
 use Rattle.bound_log.proofs.Only.{same_Ok}
 use Rattle.trail_log.proofs.Decimals.{is_parsed, is_text}
 use Rattle.trail_log.proofs.word.number.Goals as goal

@@ -1,5 +1,5 @@
 use Rattle.std.proofs.Common.{◌≡◌, ◌≤◌, ◌++◌, length, map}
-use Rattle.bound_log.specs.Line.{parts_at}
+use Rattle.log_lines.specs.Words.{parts_at}
 use Rattle.trail_log.proofs.word.parts.Given as goal
 
 abbrev pub invariant-parts : goal.invariant-parts

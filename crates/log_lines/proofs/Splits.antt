@@ -6,9 +6,10 @@ use Rattle.std.proofs.lemmas.Bool.{cases_Bool, eq-eqb, ne_eqb}
 use Rattle.std.proofs.lemmas.List.{append_assoc}
 use Rattle.std.proofs.lemmas.List.Elements.{All-append, All-cons, All-head, All-nil, All-tail}
 use Rattle.std.proofs.lemmas.List.Splits.{join_with_byte-slice_split, slice_split-cons_no, slice_split-cons_yes, slice_split_at, slice_split_none}
-use Rattle.bound_log.specs.Line.{parts_at}
-use Rattle.bound_log.specs.Reading.{behind, last_of, lines_in, without_last}
-use Rattle.bound_log.proofs.Feeds.{more_parts, same_last, some_part}
+use Rattle.log_lines.specs.Words.{parts_at}
+use Rattle.log_lines.specs.Lines.{behind, last_of, lines_in, without_last}
+use Rattle.log_lines.proofs.Feeds.{more_parts, same_last}
+use Rattle.log_lines.proofs.Parts.{some_part}
 
 -- the byte does not stand in the text
 abbrev pub Lacks : ℕ → List ℕ → Type 0
@@ -50,11 +51,11 @@ line_part line rest lack = slice_split_at (λ b. b == 10) line 10 rest lack refl
 
 pub line_first : (line rest : List ℕ) → Lacks 10 line → lines_in (line ++ (10 ∷ rest)) ≡ line ∷ lines_in rest
 unfolding lines_in
-line_first line rest lack = ap without_last (line_part line rest lack) ∙ more_parts line (parts_at 10 rest) (some_part rest)
+line_first line rest lack = ap without_last (line_part line rest lack) ∙ more_parts line (parts_at 10 rest) (some_part 10 rest)
 
 pub line_behind : (line rest : List ℕ) → Lacks 10 line → behind (line ++ (10 ∷ rest)) ≡ behind rest
 unfolding behind
-line_behind line rest lack = ap last_of (line_part line rest lack) ∙ same_last line (parts_at 10 rest) (some_part rest)
+line_behind line rest lack = ap last_of (line_part line rest lack) ∙ same_last line (parts_at 10 rest) (some_part 10 rest)
 
 -- the lines, each with its line feed, and the bytes behind them
 abbrev pub fed : List ℕ → List ℕ
@@ -75,7 +76,7 @@ joined_lines (part ∷ next ∷ more) some =
 -- they give the bytes back
 pub bytes_again : (bytes : List ℕ) → bytes ≡ lines_text (lines_in bytes) (behind bytes)
 unfolding lines_in behind
-bytes_again bytes = sym (join_with_byte-slice_split 10 bytes) ∙ joined_lines (parts_at 10 bytes) (some_part bytes)
+bytes_again bytes = sym (join_with_byte-slice_split 10 bytes) ∙ joined_lines (parts_at 10 bytes) (some_part 10 bytes)
 
 -- no part holds the byte
 onto_lacks : (c b : ℕ) (parts : List (List ℕ)) → (b == c) ≡ false → All (Lacks c) parts → All (Lacks c) (onto_first b parts)

@@ -1,17 +1,12 @@
 -- The first line of some bytes, and those behind it.
-use Rattle.std.specs.Prelude.{ℕ, ◌≡◌, ◌≢◌, ◌+◌, ◌-◌, ◌<◌, ◌==◌, ◌&&◌, true, false, List, [], ◌∷◌, Some, None, Ok, Err, codes, length, take, drop, position}
+use Rattle.std.specs.Prelude.{ℕ, ◌≡◌, ◌≢◌, ◌+◌, ◌-◌, ◌<◌, ◌==◌, ◌&&◌, true, false, List, [], ◌∷◌, Some, None, length, take, drop, position}
 use Rattle.std.proofs.Common.{refl, sym, ap, arith, ◌∙◌, inl, inr}
 use Rattle.std.specs.List.{join_with_byte}
 use Rattle.std.proofs.lemmas.Bool.{and_parts, cases_Bool, eqb-true}
-use Rattle.std.proofs.lemmas.List.Splits.{join_with_byte-slice_split, length-slice_split}
-use Rattle.bound_log.specs.declared.fault.LogFault.TheVariants as fault
-use Rattle.bound_log.specs.Line.{is_word, parts_at}
-use Rattle.bound_log.specs.Reading.{behind, end_at, last_of, lines_in, without_last}
-use Rattle.bound_log.proofs.Parts.{all_behind, cut_at, found_within, not_cut}
-
--- a list of parts has a last one
-pub some_part : (bytes : List ℕ) → 0 < length (parts_at 10 bytes)
-some_part bytes = omega (arith, length-slice_split (λ b. b == 10) bytes)
+use Rattle.std.proofs.lemmas.List.Splits.{join_with_byte-slice_split}
+use Rattle.log_lines.specs.Words.{parts_at}
+use Rattle.log_lines.specs.Lines.{behind, last_of, lines_in, without_last}
+use Rattle.log_lines.proofs.Parts.{all_behind, cut_at, found_within, not_cut, some_part}
 
 pub more_parts : (part : List ℕ) (parts : List (List ℕ)) → 0 < length parts → without_last (part ∷ parts) ≡ part ∷ without_last parts
 more_parts part [] h = absurd (omega (arith, h))
@@ -37,14 +32,15 @@ no_line bytes e = ap without_last (no_feed bytes e)
 pub first_lines : (bytes : List ℕ) (at : ℕ) → Some at ≡ position (λ b. b == 10) bytes → lines_in bytes ≡ take at bytes ∷ lines_in (take (length bytes - (at + 1)) (drop (at + 1) bytes))
 unfolding lines_in
 first_lines bytes at e =
-    rw (all_behind bytes (at + 1)) (ap without_last (at_feed bytes at e) ∙ more_parts (take at bytes) (parts_at 10 (drop (at + 1) bytes)) (some_part (drop (at + 1) bytes)))
+    rw (all_behind bytes (at + 1)) (ap without_last (at_feed bytes at e) ∙ more_parts (take at bytes) (parts_at 10 (drop (at + 1) bytes)) (some_part 10 (drop (at + 1) bytes)))
 
 pub first_behind : (bytes : List ℕ) (at : ℕ) → Some at ≡ position (λ b. b == 10) bytes → behind bytes ≡ behind (take (length bytes - (at + 1)) (drop (at + 1) bytes))
 unfolding behind
 first_behind bytes at e =
-    rw (all_behind bytes (at + 1)) (ap last_of (at_feed bytes at e) ∙ same_last (take at bytes) (parts_at 10 (drop (at + 1) bytes)) (some_part (drop (at + 1) bytes)))
+    rw (all_behind bytes (at + 1)) (ap last_of (at_feed bytes at e) ∙ same_last (take at bytes) (parts_at 10 (drop (at + 1) bytes)) (some_part 10 (drop (at + 1) bytes)))
 
-nothing_left : (bytes : List ℕ) → length bytes ≡ 0 → (length (lines_in bytes) == 0 && length (behind bytes) == 0) ≡ true
+-- whether the bytes end
+pub nothing_left : (bytes : List ℕ) → length bytes ≡ 0 → (length (lines_in bytes) == 0 && length (behind bytes) == 0) ≡ true
 unfolding lines_in behind
 nothing_left [] none = refl
 nothing_left (b ∷ bs) none = absurd (omega (arith, none))
@@ -54,7 +50,7 @@ no_part [] h g = refl
 no_part (part ∷ []) h g = g
 no_part (part ∷ next ∷ more) h g = absurd (omega (arith, h))
 
-something_left : (bytes : List ℕ) → length bytes ≢ 0 → (length (lines_in bytes) == 0 && length (behind bytes) == 0) ≡ false
+pub something_left : (bytes : List ℕ) → length bytes ≢ 0 → (length (lines_in bytes) == 0 && length (behind bytes) == 0) ≡ false
 unfolding lines_in behind
 something_left bytes some = elim (cases_Bool (length (lines_in bytes) == 0 && length (behind bytes) == 0)) [
   | inl none ↦
@@ -62,13 +58,3 @@ something_left bytes some = elim (cases_Bool (length (lines_in bytes) == 0 && le
       absurd (some (ap length (sym (join_with_byte-slice_split 10 bytes)) ∙ no_part (parts_at 10 bytes) (eqb-true _ _ both.0) (eqb-true _ _ both.1)))
   | inr left ↦ left
 ]
-
--- the line `end`, the last or not
-pub ended : (n : ℕ) (bytes line after : List ℕ) → lines_in bytes ≡ line ∷ lines_in after → behind bytes ≡ behind after → is_word line (codes "end") ≡ true → length after ≡ 0 → Ok tt ≡ end_at n (lines_in bytes) (behind bytes)
-ended n bytes line after is same end none = rw (is, same, end, nothing_left after none) refl
-
-pub ended_before : (n : ℕ) (bytes line after : List ℕ) → lines_in bytes ≡ line ∷ lines_in after → behind bytes ≡ behind after → is_word line (codes "end") ≡ true → length after ≢ 0 → Err (fault.Line (n + 1)) ≡ end_at n (lines_in bytes) (behind bytes)
-ended_before n bytes line after is same end some = rw (is, same, end, something_left after some) refl
-
-pub not_ended : (n : ℕ) (bytes line : List ℕ) (later : List (List ℕ)) → lines_in bytes ≡ line ∷ later → is_word line (codes "end") ≡ false → Err (fault.Line n) ≡ end_at n (lines_in bytes) (behind bytes)
-not_ended n bytes line later is other = rw (is, other) refl

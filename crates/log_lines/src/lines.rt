@@ -1,17 +1,17 @@
 ghost use Rattle.std.specs.Prelude.{◌≡◌, ◌<◌, ◌∷◌, ◌==◌, [], IfNone, IfSome, length, position};
-ghost use Rattle.bound_log.specs.Reading.{behind, lines_in};
+ghost use Rattle.log_lines.specs.Lines.{behind, lines_in};
 
 use crate::word::find_byte;
 
 /// A line without its line feed, and what stands behind it.
 #[derive(Clone, Copy)]
-pub(crate) struct Line<'a> {
-    pub(crate) line: &'a [u8],
-    pub(crate) after: &'a [u8],
+pub struct Line<'a> {
+    pub line: &'a [u8],
+    pub after: &'a [u8],
 }
 
 /// Where the first line ends.
-pub(crate) fn find_feed(bytes: &[u8]) -> Option<usize>
+pub fn find_feed(bytes: &[u8]) -> Option<usize>
     ensures { result ≡ position (λ b. b == 10) bytes.now }
 {
     find_byte(bytes, b'\n')
@@ -19,7 +19,7 @@ pub(crate) fn find_feed(bytes: &[u8]) -> Option<usize>
 
 /// The first line, if a line feed ends it.
 #[tactic(auto, using(crate::proofs::Feeds::no_line, crate::proofs::Feeds::first_lines, crate::proofs::Feeds::first_behind, crate::proofs::Feeds::feed_within))]
-pub(crate) fn first_line(bytes: &[u8]) -> Option<Line<'_>>
+pub fn first_line(bytes: &[u8]) -> Option<Line<'_>>
     ensures none { IfNone result (lines_in bytes.now ≡ []) }
     ensures line { IfSome result (λ first. lines_in bytes.now ≡ first.line.now ∷ lines_in first.after.now) }
     ensures behind { IfSome result (λ first. behind bytes.now ≡ behind first.after.now) }

@@ -1,15 +1,15 @@
-ghost use Rattle.std.specs.Prelude.{◌==◌, ◌≡◌, ◌≢◌, ◌≤◌, ◌<◌, ◌+◌, ◌↔◌, ◌∷◌, ℕ, Some, None, if◌then◌else◌, decimal, length, map, option_map, position, IfSome, IfNone, IsTrue};
-ghost use Rattle.bound_log.specs.Line.{end_in, flip_in, is_word, number_below, parts_at, parts_left, place_in, rule_in, side_in};
+ghost use Rattle.std.specs.Prelude.{◌==◌, ◌≡◌, ◌≢◌, ◌≤◌, ◌<◌, ◌+◌, ◌↔◌, ◌∷◌, ℕ, decimal, length, map, position, IfSome, IfNone, IfOk, IsTrue};
+ghost use Rattle.log_lines.specs.Words.{is_word, number_below, parts_at, parts_left};
 
-use crate::Rule;
 use arrayvec::ArrayVec;
-use cell_num::{MOST_COLUMNS, MOST_NETS, NetNo};
+use cell_num::{List, NoMemory};
 use memchr::memchr;
-use row_state::{Kind, Side};
+use std::alloc::Global;
 
+/// Where the byte stands first.
 #[inline(never)]
 #[tactic(auto, using(crate::proofs::Searches::first_byte, crate::proofs::Parts::found_within))]
-pub(crate) fn find_byte(text: &[u8], byte: u8) -> Option<usize>
+pub fn find_byte(text: &[u8], byte: u8) -> Option<usize>
     ensures at { result ≡ position (λ b. b == byte) text.now }
     ensures within { IfSome result (λ at. at < length text.now) }
 {
@@ -18,13 +18,14 @@ pub(crate) fn find_byte(text: &[u8], byte: u8) -> Option<usize>
 
 /// The first part of a text, and what stands behind the byte that ends it.
 #[derive(Clone, Copy)]
-pub(crate) struct Part<'a> {
-    pub(crate) part: &'a [u8],
-    pub(crate) after: Option<&'a [u8]>,
+pub struct Part<'a> {
+    pub part: &'a [u8],
+    pub after: Option<&'a [u8]>,
 }
 
+/// The text up to the byte.
 #[tactic(auto, using(crate::proofs::Parts::one_byte, crate::proofs::Parts::second_cut, crate::proofs::Parts::first_cut, crate::proofs::Parts::not_cut))]
-pub(crate) fn first_part(text: &[u8], byte: u8) -> Part<'_>
+pub fn first_part(text: &[u8], byte: u8) -> Part<'_>
     ensures parts { parts_at byte text.now ≡ result.part.now ∷ parts_left byte result.after }
     ensures less { IfSome result.after (λ after. length after.now < length text.now) }
 {
@@ -58,7 +59,7 @@ pub(crate) fn first_part(text: &[u8], byte: u8) -> Part<'_>
 
 /// The parts of a text between one byte and the next of its kind, where they are at most `N`.
 #[tactic(auto, using(crate::proofs::Parts::part_more, crate::proofs::Parts::part_last, crate::proofs::Parts::parts_full))]
-pub(crate) fn parts<const N: usize>(text: &[u8], byte: u8) -> Option<ArrayVec<&[u8], N>>
+pub fn few_parts<const N: usize>(text: &[u8], byte: u8) -> Option<ArrayVec<&[u8], N>>
     ensures some { IfSome result (λ parts. map (λ part. part.now) parts.items ≡ parts_at byte text.now) }
     ensures none { IfNone result (N < length (parts_at byte text.now)) }
 {
@@ -77,7 +78,25 @@ pub(crate) fn parts<const N: usize>(text: &[u8], byte: u8) -> Option<ArrayVec<&[
     }
 }
 
-pub(crate) fn is_word(word: &[u8], other: &[u8]) -> bool
+/// The parts of a text between one byte and the next of its kind, however many.
+#[tactic(auto, using(crate::proofs::Parts::part_more, crate::proofs::Parts::part_last))]
+pub fn all_parts(alloc: Global, text: &[u8], byte: u8) -> Result<List<&[u8]>, NoMemory>
+    ensures { IfOk result (λ parts. map (λ part. part.now) parts ≡ parts_at byte text.now) }
+{
+    let mut parts = List::new(alloc);
+    let mut rest = text;
+    'parts: loop {
+        let first = first_part(rest, byte);
+        parts.push(first.part)?;
+        let Some(after) = first.after else {
+            return Ok(parts);
+        };
+        rest = after;
+    }
+}
+
+/// Whether the word is the other one.
+pub fn is_word(word: &[u8], other: &[u8]) -> bool
     ensures is { result ≡ is_word word.now other.now }
     ensures same { IsTrue result ↔ (word.now ≡ other.now) }
 {
@@ -130,8 +149,9 @@ fn number(word: &[u8]) -> Option<u32>
     }
 }
 
+/// The number of which the word is the decimal, if it is below the limit: signs and zeros in front are not written.
 #[tactic(auto, using(crate::proofs::Numbers::is_below, crate::proofs::Numbers::not_below, crate::proofs::Numbers::no_number))]
-pub(crate) fn number_below(word: &[u8], limit: u32) -> Option<u32>
+pub fn number_below(word: &[u8], limit: u32) -> Option<u32>
     requires { limit ≤ 1000 }
     ensures { result ≡ number_below limit word.now }
 {
@@ -139,78 +159,4 @@ pub(crate) fn number_below(word: &[u8], limit: u32) -> Option<u32>
         return None;
     };
     if value < limit { Some(value) } else { None }
-}
-
-pub(crate) fn rule(word: &[u8]) -> Option<Rule>
-    ensures { result ≡ rule_in word.now }
-{
-    if is_word(word, b"P") {
-        Some(Rule::P)
-    } else if is_word(word, b"N") {
-        Some(Rule::N)
-    } else if is_word(word, b"B") {
-        Some(Rule::Branch)
-    } else {
-        None
-    }
-}
-
-pub(crate) fn end(word: &[u8], nets: u32) -> Option<Option<NetNo>>
-    requires { nets ≤ MOST_NETS }
-    ensures { result ≡ end_in nets word.now }
-{
-    if is_word(word, b"-") {
-        return Some(None);
-    }
-    match number_below(word, nets) {
-        Some(net) => Some(Some(NetNo(net))),
-        None => None,
-    }
-}
-
-fn flip(word: &[u8]) -> Option<bool>
-    ensures { result ≡ flip_in word.now }
-{
-    if is_word(word, b"0") {
-        Some(false)
-    } else if is_word(word, b"1") {
-        Some(true)
-    } else {
-        None
-    }
-}
-
-fn no_side(flipped: bool) -> Option<Option<Side>>
-    ensures { result ≡ (if flipped then None else Some None) }
-{
-    if flipped { None } else { Some(None) }
-}
-
-fn some_side(word: &[u8], kinds: usize, flipped: bool) -> Option<Option<Side>>
-    requires { kinds ≤ MOST_COLUMNS }
-    ensures { result ≡ option_map (λ n. Some (record { kind = n; flipped = flipped })) (number_below kinds word.now) }
-{
-    match number_below(word, kinds as u32) {
-        Some(kind) => Some(Some(Side { kind, flipped })),
-        None => None,
-    }
-}
-
-fn place(kinds: &[Kind], word: &[u8], flipped: bool) -> Option<Option<Side>>
-    requires { length kinds.now ≤ MOST_COLUMNS }
-    ensures { result ≡ place_in kinds.now word.now flipped }
-{
-    if is_word(word, b"-") {
-        no_side(flipped)
-    } else {
-        some_side(word, kinds.len(), flipped)
-    }
-}
-
-pub(crate) fn side(kinds: &[Kind], word: &[u8], flip_word: &[u8]) -> Option<Option<Side>>
-    requires { length kinds.now ≤ MOST_COLUMNS }
-    ensures { result ≡ side_in kinds.now word.now flip_word.now }
-{
-    let flipped = flip(flip_word)?;
-    place(kinds, word, flipped)
 }

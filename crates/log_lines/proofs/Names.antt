@@ -2,8 +2,8 @@
 use Rattle.std.specs.Prelude.{ℕ, ◌≡◌, ◌≢◌, true, false, List, [], ◌∷◌, ◌++◌, drop}
 use Rattle.std.proofs.Common.{sym, ap, ◌∙◌, inl, inr}
 use Rattle.std.proofs.lemmas.Bool.{cases_Bool}
-use Rattle.bound_log.specs.Line.{is_word}
-use Rattle.bound_log.proofs.Numbers.{is_other, is_same, same_words}
+use Rattle.log_lines.specs.Words.{is_word}
+use Rattle.log_lines.proofs.Numbers.{is_other, is_same, same_words}
 
 pub same_behind : (front a b : List ℕ) → front ++ a ≡ front ++ b → a ≡ b
 same_behind [] a b h = h

@@ -1,6 +1,6 @@
 use Rattle.std.proofs.Common.{◌≡◌, length, arith}
-use Rattle.bound_log.proofs.Digits.{one_read, not_three_back, not_three_front, not_three_middle, not_two_back, not_two_front}
-use Rattle.bound_log.proofs.word.number.Goals as goal
+use Rattle.log_lines.proofs.Digits.{one_read, not_three_back, not_three_front, not_three_middle, not_two_back, not_two_front}
+use Rattle.log_lines.proofs.word.number.Goals as goal
 
 pub returns-in-len1-clause-some : goal.returns-in-len1-clause-some
 returns-in-len1-clause-some c =

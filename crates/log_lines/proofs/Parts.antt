@@ -10,7 +10,7 @@ use Rattle.std.proofs.lemmas.List.Elements.{All-cons, All-from_get_or, All-nil}
 use Rattle.std.proofs.lemmas.List.Sums.{fails_before_first}
 use Rattle.std.proofs.lemmas.List.Splits.{length-slice_split, slice_split-cons_no, slice_split-cons_yes, slice_split_first, slice_split_none}
 use Rattle.std.proofs.lemmas.Option.{cond_some, none-some}
-use Rattle.bound_log.specs.Line.{parts_at, parts_left}
+use Rattle.log_lines.specs.Words.{parts_at, parts_left}
 
 pub not_cut : (c : ℕ) (text : List ℕ) → None ≡ position (λ b. b == c) text → parts_at c text ≡ text ∷ []
 not_cut c text e = elim (cases_Bool (nat_lt (position_or_len (λ b. b == c) text) (length text))) [

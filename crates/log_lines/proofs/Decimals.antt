@@ -7,7 +7,7 @@ use Rattle.std.proofs.Math.Nat.{one-le-pow}
 use Rattle.std.proofs.lemmas.Bool.{cases_lt, ne_eqb}
 use Rattle.std.proofs.lemmas.Fmt.{decimal_is_IsNumeral, decimal_is_IsNumeral_wide, length-decimal-le}
 use Rattle.std.proofs.lemmas.List.Elements.{All-cons, All-nil}
-use Rattle.bound_log.proofs.Splits.{IsAbove}
+use Rattle.log_lines.proofs.Splits.{IsAbove}
 
 glyph_above : (d : ℕ) → 47 < digit_glyph false d
 glyph_above d = by (nat_lt d 10)
