@@ -12,9 +12,9 @@ use Rattle.log_lines.proofs.Numbers.{chosen, found_below, is_below, is_other, sa
 use Rattle.log_lines.proofs.Parts.{some_part}
 use Rattle.log_lines.proofs.Splits.{IsAbove, Lacks, above_lacks, above_more, joined_lacks, split_joined}
 use Rattle.bound_log.proofs.Spelled.{bound, cons_same, mapped}
+use Rattle.trail_classes.specs.Listed.{each_in, list_in, net_in}
+use Rattle.trail_classes.specs.Text.{list_text, net_text}
 use Rattle.trail_log.specs.Fits.{NetFits}
-use Rattle.trail_log.specs.Line.{each_in, list_in, net_in}
-use Rattle.trail_log.specs.Text.{list_text, net_text}
 
 -- a word that is read is how the item is written, and the item is good
 abbrev pub ReadsOnly : {A : Type 0} → (List ℕ → Option A) → (A → List ℕ) → (A → Type 0) → Type 0

@@ -23,6 +23,7 @@ use Rattle.bound_log.proofs.Again.{by_test, column_above, column_again, words_ag
 use Rattle.bound_log.proofs.Only.{err-ok}
 use Rattle.bound_log.proofs.Spelled.{column_words}
 use Rattle.bound_log.proofs.Whole.{columns_front, fed_first, gaps_above, gaps_front}
+use Rattle.trail_classes.specs.Text.{nets_text}
 use Rattle.trail_log.specs.declared.trails.LemmaLine.{LemmaLine}
 use Rattle.trail_log.specs.declared.trails.TrailEntry.{TrailEntry}
 use Rattle.trail_log.specs.declared.trails.TrailEntry.TheVariants as entry
@@ -30,7 +31,7 @@ use Rattle.trail_log.specs.declared.trails.Trails.{Trails}
 use Rattle.trail_log.specs.Fits.{LemmaFits, TrailsFit}
 use Rattle.trail_log.specs.Line.{entry_in, fill_in, order_in}
 use Rattle.trail_log.specs.Reading.{begun_by, fill_at, lemmas_at, named_at, order_at, text_at, trails_of}
-use Rattle.trail_log.specs.Text.{fill_line, head_lines, lemma_line, nets_text, order_line, trails_text, version_line}
+use Rattle.trail_log.specs.Text.{fill_line, head_lines, lemma_line, order_line, trails_text, version_line}
 use Rattle.trail_log.proofs.Words.{fill_above, fill_again, fill_joined, gaps_again, lemma_above, lemma_again, lemma_joined, lemma_words, order_above, order_again, order_joined}
 
 fed_behind : (line text : List ℕ) → Lacks 10 line → behind (fed line ++ text) ≡ behind text

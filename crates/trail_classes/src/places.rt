@@ -1,12 +1,13 @@
 ghost use Rattle.std.specs.Prelude.{◌≡◌, ◌≤◌, ◌<◌, IfOk, map};
-ghost use Rattle.trail_log.specs.Line.{class_in, class_of, class_with, node_in, node_of};
-ghost use Rattle.trail_log.specs.Text.{class_text, flag_text, node_text};
+ghost use Rattle.trail_classes.specs.Listed.{class_in, class_of, class_with, node_in, node_of};
+ghost use Rattle.trail_classes.specs.Text.{class_text, flag_text, node_text};
 
 use crate::listed::{Listed, each_text, read_each};
 use crate::nets::net;
-use crate::word::{number_text, parts};
+use crate::text::number_text;
 use crate::{Class, NetPair};
 use cell_num::{Bytes, MOST_NETS, NoMemory};
+use log_lines::all_parts;
 use std::alloc::Global;
 
 fn node_of_words(nets: u32, words: &[&[u8]]) -> Option<NetPair>
@@ -29,9 +30,9 @@ fn wide(net: u32) -> u64
 }
 
 impl Listed for NetPair {
-    ghost use Rattle.trail_log.specs.Line.{node_in};
-    ghost use Rattle.trail_log.specs.Order.{node_rank};
-    ghost use Rattle.trail_log.specs.Text.{node_text};
+    ghost use Rattle.trail_classes.specs.Listed.{node_in};
+    ghost use Rattle.trail_classes.specs.Order.{node_rank};
+    ghost use Rattle.trail_classes.specs.Text.{node_text};
 
     ghost spelling = { node_text };
 
@@ -40,7 +41,7 @@ impl Listed for NetPair {
     ghost place = { node_rank };
 
     fn read(alloc: Global, nets: u32, word: &[u8]) -> Result<Option<NetPair>, NoMemory> {
-        let words = parts(alloc, word, b'.')?;
+        let words = all_parts(alloc, word, b'.')?;
         Ok(node_of_words(nets, words.as_slice()))
     }
 
@@ -84,9 +85,9 @@ fn flag(flagged: bool) -> &'static [u8]
 }
 
 impl Listed for Class {
-    ghost use Rattle.trail_log.specs.Line.{class_in};
-    ghost use Rattle.trail_log.specs.Order.{class_rank};
-    ghost use Rattle.trail_log.specs.Text.{class_text};
+    ghost use Rattle.trail_classes.specs.Listed.{class_in};
+    ghost use Rattle.trail_classes.specs.Order.{class_rank};
+    ghost use Rattle.trail_classes.specs.Text.{class_text};
 
     ghost spelling = { class_text };
 
@@ -95,7 +96,7 @@ impl Listed for Class {
     ghost place = { class_rank };
 
     fn read(alloc: Global, nets: u32, word: &[u8]) -> Result<Option<Class>, NoMemory> {
-        let words = parts(alloc, word, b'!')?;
+        let words = all_parts(alloc, word, b'!')?;
         let class = class_of_words(alloc, nets, words.as_slice())?;
         Ok(class)
     }

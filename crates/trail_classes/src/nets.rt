@@ -1,9 +1,10 @@
 ghost use Rattle.std.specs.Prelude.{◌≡◌, ◌≤◌};
-ghost use Rattle.trail_log.specs.Line.{net_in};
+ghost use Rattle.trail_classes.specs.Listed.{net_in};
 
 use crate::listed::Listed;
-use crate::word::{number_below, number_text};
+use crate::text::number_text;
 use cell_num::{Bytes, MOST_NETS, NetNo, NoMemory};
+use log_lines::number_below;
 use std::alloc::Global;
 
 pub(crate) fn net(word: &[u8], nets: u32) -> Option<NetNo>
@@ -14,9 +15,9 @@ pub(crate) fn net(word: &[u8], nets: u32) -> Option<NetNo>
 }
 
 impl Listed for NetNo {
-    ghost use Rattle.trail_log.specs.Line.{net_in};
-    ghost use Rattle.trail_log.specs.Order.{net_rank};
-    ghost use Rattle.trail_log.specs.Text.{net_text};
+    ghost use Rattle.trail_classes.specs.Listed.{net_in};
+    ghost use Rattle.trail_classes.specs.Order.{net_rank};
+    ghost use Rattle.trail_classes.specs.Text.{net_text};
 
     ghost spelling = { net_text };
 

@@ -1,17 +1,17 @@
 ghost use Rattle.std.specs.Prelude.{◌≡◌, ◌≤◌, ℕ, IfOk, List as Sequence, Option, map};
 ghost use Rattle.std.specs.List.{join_with_byte};
+ghost use Rattle.trail_classes.specs.Listed.{each_in, list_in};
+ghost use Rattle.trail_classes.specs.Order.{increases};
+ghost use Rattle.trail_classes.specs.Text.{list_text};
 ghost use Rattle.log_lines.specs.Words.{parts_at};
-ghost use Rattle.trail_log.specs.Line.{each_in, list_in};
-ghost use Rattle.trail_log.specs.Order.{increases};
-ghost use Rattle.trail_log.specs.Text.{list_text};
-ghost use Rattle.trail_log.specs.Text.{list_text};
 
-use crate::word::{is_word, joined, parts};
+use crate::text::joined;
 use cell_num::{Bytes, List, MOST_NETS, Names, NoMemory, copy};
+use log_lines::{all_parts, is_word};
 use std::alloc::Global;
 
 /// What the lists of a certificate hold.
-pub(crate) trait Listed: Drop + Sized {
+pub trait Listed: Drop + Sized {
     /// How it is written.
     ghost spelling: { Self → Sequence ℕ };
 
@@ -62,13 +62,13 @@ pub(crate) fn read_each<T: Listed>(
     requires { nets ≤ MOST_NETS }
     ensures { IfOk result (λ items. items ≡ each_in (T.said nets) (parts_at byte text.now)) }
 {
-    let words = parts(alloc, text, byte)?;
+    let words = all_parts(alloc, text, byte)?;
     let items = each_of(alloc, nets, words.as_slice())?;
     Ok(items)
 }
 
 /// The items with commas between them; `-` for none.
-pub(crate) fn read_list<T: Listed>(
+pub fn read_list<T: Listed>(
     alloc: Global,
     nets: u32,
     text: &[u8],
@@ -103,7 +103,7 @@ pub(crate) fn each_text<T: Listed>(alloc: Global, byte: u8, items: &[T]) -> Resu
 }
 
 /// The items with commas between them; `-` for none.
-pub(crate) fn list_text<T: Listed>(alloc: Global, items: &[T]) -> Result<Bytes, NoMemory>
+pub fn list_text<T: Listed>(alloc: Global, items: &[T]) -> Result<Bytes, NoMemory>
     ensures { IfOk result (λ text. text ≡ list_text 44 (map T.spelling items.now)) }
 {
     if items.is_empty() {
@@ -114,7 +114,7 @@ pub(crate) fn list_text<T: Listed>(alloc: Global, items: &[T]) -> Result<Bytes, 
 }
 
 /// Whether each stands before the next.
-pub(crate) fn increases<T: Listed>(items: &[T]) -> bool
+pub fn increases<T: Listed>(items: &[T]) -> bool
     ensures { result ≡ increases T.place items.now }
 {
     let Some((_, rest)) = items.split_first() else {
