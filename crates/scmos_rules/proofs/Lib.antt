@@ -8,7 +8,6 @@ pub mod Rails
 pub mod Distances
 pub mod Lengths
 pub mod Listing
-pub mod Merging
 pub mod Unions
 pub mod Nearing
 pub mod Sizes

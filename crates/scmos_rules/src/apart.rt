@@ -9,12 +9,12 @@ ghost use Rattle.scmos_rules.specs.Layout.{On};
 ghost use Rattle.scmos_rules.specs.Near.{IsNumberedBlock, near_over};
 ghost use Rattle.scmos_rules.specs.Regions.{AreCells};
 
-use crate::linking::{Link, classes};
 use crate::parts::{NumberedBlock, near_behind, parts_of};
 use crate::runs::open;
 use crate::sets::on;
 use box_geom::{Block, Layer, Region, Shapes};
 use cell_num::NoMemory;
+use number_trees::{Link, classes};
 use std::alloc::{AllocError, Global};
 
 fn add_links(

@@ -7,7 +7,6 @@ pub mod checking;
 mod composite;
 mod gates;
 pub mod laws;
-pub mod linking;
 mod nearby;
 pub mod number;
 mod parts;
@@ -17,7 +16,6 @@ mod sets;
 pub mod violation;
 
 pub use checking::violations;
-pub use linking::{Link, classes};
 pub use number::RuleNo;
 pub use rules::{Deck, Rules};
 pub use violation::{RuleFault, Violation, Violations};

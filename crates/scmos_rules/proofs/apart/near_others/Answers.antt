@@ -3,7 +3,7 @@ use Rattle.std.specs.List.{All}
 use Rattle.box_geom.specs.Rectangle.{Rectangle, Covers}
 use Rattle.box_geom.specs.Regions.{AreBanded}
 use Rattle.scmos_rules.specs.Apart.{link_of, hits_of}
-use Rattle.scmos_rules.specs.Classes.{Separates}
+use Rattle.number_trees.specs.Links.{Separates}
 use Rattle.scmos_rules.specs.Failing.{FailsApart}
 use Rattle.scmos_rules.specs.Near.{IsNumberedBlock, numbered, near_over}
 use Rattle.scmos_rules.specs.Regions.{AreCells}

@@ -1,7 +1,7 @@
 use Rattle.std.proofs.Common.{◌≤◌, slice_index, arith, refl}
-use Rattle.scmos_rules.specs.Classes.{Points}
-use Rattle.scmos_rules.proofs.Chains.{one, joined}
-use Rattle.scmos_rules.proofs.linking.root.Goals as goal
+use Rattle.number_trees.specs.Links.{Points}
+use Rattle.number_trees.proofs.Chains.{one, joined}
+use Rattle.number_trees.proofs.linking.root.Goals as goal
 
 pub parents-preserved : goal.parents-preserved
 parents-preserved c =

@@ -1,8 +1,8 @@
 use Rattle.std.proofs.Common.{◌≡◌, [], sym, subst, arith, take}
-use Rattle.scmos_rules.specs.Classes.{AreJoined}
-use Rattle.scmos_rules.proofs.Merging.{at_first, one_more}
+use Rattle.number_trees.specs.Links.{AreJoined}
+use Rattle.number_trees.proofs.Merging.{at_first, one_more}
 use Rattle.std.proofs.lemmas.List.{take_all}
-use Rattle.scmos_rules.proofs.linking.merge_all.Goals as goal
+use Rattle.number_trees.proofs.linking.merge_all.Goals as goal
 
 pub loop-link-init : goal.loop-link-init
 loop-link-init c = subst (λ xs. AreJoined c.args.count [] xs) (sym c.requires.first) (at_first c.args.count)

@@ -1,8 +1,9 @@
 // Classes of numbers that links chain, as trees that are merged by their roots.
 ghost use Rattle.std.specs.Prelude.{◌≡◌, ◌<◌, ◌≤◌, length, IfOk};
 ghost use Rattle.std.specs.List.{All, range_with_len};
-ghost use Rattle.scmos_rules.specs.Classes.{IsLink, AreDown, IsRoot, IsMerge, label_by, AreRoots, AreJoined, Separates};
+ghost use Rattle.number_trees.specs.Links.{IsLink, AreDown, IsRoot, IsMerge, label_by, AreRoots, AreJoined, Separates};
 
+use crate::tree::lone_trees;
 use cell_num::NoMemory;
 use std::alloc::Global;
 
@@ -37,16 +38,6 @@ fn merge(parents: &mut Vec<usize>, link: &Link)
     let low = one.min(other);
     parents[one] = low;
     parents[other] = low;
-}
-
-fn numbers(alloc: Global, count: usize) -> Result<Vec<usize>, NoMemory>
-    ensures { IfOk result (λ labels. labels.items ≡ range_with_len 0 count) }
-{
-    let mut labels = Vec::new(alloc);
-    for number in 0..count {
-        labels.push(number).map_err(|_| NoMemory)?;
-    }
-    Ok(labels)
 }
 
 fn merge_all(parents: &mut Vec<usize>, count: usize, links: &[Link])
@@ -89,7 +80,7 @@ pub fn classes(alloc: Global, count: usize, links: &[Link]) -> Result<Vec<usize>
     ensures length { IfOk result (λ labels. length labels.items ≡ count) }
     ensures same { IfOk result (λ labels. Separates count links.now labels.items) }
 {
-    let mut parents = numbers(alloc, count)?;
+    let mut parents = lone_trees(alloc, count)?;
     merge_all(&mut parents, count, links);
     let labels = roots(alloc, parents.as_slice())?;
     Ok(labels)

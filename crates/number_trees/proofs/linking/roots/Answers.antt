@@ -1,8 +1,8 @@
 use Rattle.std.proofs.Common.{◌≡◌, ◌++◌, ◌∷◌, [], slice_index, arith, ap, ◌∙◌}
 use Rattle.std.proofs.lemmas.Grind.{common_steps}
-use Rattle.scmos_rules.specs.Classes.{label_by}
-use Rattle.scmos_rules.proofs.Merging.{one_labelled}
-use Rattle.scmos_rules.proofs.linking.roots.Goals as goal
+use Rattle.number_trees.specs.Links.{label_by}
+use Rattle.number_trees.proofs.Merging.{one_labelled}
+use Rattle.number_trees.proofs.linking.roots.Goals as goal
 
 pub loop-number-preserved : goal.loop-number-preserved
 loop-number-preserved c =

@@ -8,10 +8,10 @@ use Rattle.std.proofs.lemmas.Bool.{cases_eq, cases_lt}
 use Rattle.std.proofs.lemmas.Bool.Decides.{Decides-ltb}
 use Rattle.std.proofs.lemmas.List.Elements.{Contains-append_left, Contains-push, Contains-push_cases, All-get_or}
 use Rattle.cell_num.proofs.Lists.{contains_none}
-use Rattle.scmos_rules.proofs.Chains.{none, one, joined, turned}
+use Rattle.number_trees.proofs.Chains.{none, one, joined, turned}
 use Rattle.box_geom.specs.Chains.{Chain, Steps}
-use Rattle.scmos_rules.specs.declared.linking.Link.{Link}
-use Rattle.scmos_rules.specs.Classes.{IsLink, Tied, Separates, Points, AreDown, IsRoot, IsMerge, AreRoots, Meet, AreJoined, label_by}
+use Rattle.number_trees.specs.declared.linking.Link.{Link}
+use Rattle.number_trees.specs.Links.{IsLink, Tied, Separates, Points, AreDown, IsRoot, IsMerge, AreRoots, Meet, AreJoined, label_by}
 
 -- ---- chains of links
 more_tied : (es : List Link) (e : Link) (i j : ℕ) → Tied es i j → Tied (es ++ e ∷ []) i j

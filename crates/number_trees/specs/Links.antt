@@ -2,7 +2,7 @@
 use Rattle.std.specs.Prelude.{◌↔◌, ◌≡◌, ℕ, ◌<◌, ◌≤◌, List, slice_index, slice_set, min, nat_lt, if◌then◌else◌, length, ◌⊎◌}
 use Rattle.std.specs.List.{Contains}
 use Rattle.box_geom.specs.Chains.{Chain}
-use Rattle.scmos_rules.specs.declared.linking.Link.{Link}
+use Rattle.number_trees.specs.declared.linking.Link.{Link}
 
 -- both ends are below n
 pub record IsLink (n : ℕ) (link : Link) : Type 0 where
