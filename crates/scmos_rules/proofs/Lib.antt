@@ -6,7 +6,6 @@ pub mod Families
 pub mod FamilyGates
 pub mod Rails
 pub mod Distances
-pub mod Lengths
 pub mod Listing
 pub mod Unions
 pub mod Nearing

@@ -7,11 +7,11 @@ pub mod checking;
 mod composite;
 mod gates;
 pub mod laws;
+mod lengths;
 mod nearby;
 pub mod number;
 mod parts;
 pub mod rules;
-mod runs;
 mod sets;
 pub mod violation;
 

@@ -11,10 +11,10 @@ use Rattle.box_geom.specs.Runs.{IsRun, IsShort, IsNotch}
 use Rattle.box_geom.specs.Regions.{IsBlock, Follows, AreBanded, SameCells, OnPlane}
 use Rattle.box_geom.proofs.Filters.{contains_filter, in_filter}
 use Rattle.box_geom.proofs.Strips.{covers_first, covers_later, covers_split}
-use Rattle.scmos_rules.specs.Failing.{FailsWidth, FailsSize, FailsOpen}
-use Rattle.scmos_rules.specs.Regions.{AreCells, AreInner, IsWrong, FailsRun, is_wrong, width_of}
-use Rattle.scmos_rules.specs.declared.runs.Measure.{Measure}
-use Rattle.scmos_rules.specs.declared.runs.Measure.TheVariants.{Width, Size}
+use Rattle.run_lengths.specs.Lengths.{FailsWidth, FailsSize, FailsOpen, IsWrong, FailsRun, is_wrong, width_of}
+use Rattle.run_lengths.specs.Cells.{AreCells, AreInner}
+use Rattle.run_lengths.specs.declared.runs.Measure.{Measure}
+use Rattle.run_lengths.specs.declared.runs.Measure.TheVariants.{Width, Size}
 
 -- two elements of a list in order: the same one, or one before the other
 pub pair_cases : {X : Type 0} (R : X → X → Type 0) (xs : List X) (a b : X) → AllPairs R xs → Contains xs a → Contains xs b → (a ≡ b) ⊎ (R a b ⊎ R b a)

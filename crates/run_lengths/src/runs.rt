@@ -1,13 +1,11 @@
-// Rules on the lengths of covered and of uncovered runs.
+// Runs of a set that have not the length, from the rectangles of the set and of what it leaves free.
 ghost use Rattle.std.specs.Prelude.{◌≡◌, ◌≤◌, ◌↔◌, ℤ, IfOk};
 ghost use Rattle.std.specs.List.{filter};
 ghost use Rattle.box_geom.specs.Rectangle.{Covers};
-ghost use Rattle.scmos_rules.specs.Failing.{FailsWidth, FailsSize, FailsOpen};
-ghost use Rattle.scmos_rules.specs.Layout.{On};
-ghost use Rattle.scmos_rules.specs.Regions.{AreCells, AreInner, IsWrong, FailsRun, is_wrong as is_wrong_run};
+ghost use Rattle.run_lengths.specs.Lengths.{FailsWidth, FailsSize, FailsOpen, IsWrong, FailsRun, is_wrong as is_wrong_run};
+ghost use Rattle.run_lengths.specs.Cells.{AreCells, AreInner};
 
-use crate::sets::on;
-use box_geom::{Block, Layer, Region, Shapes};
+use box_geom::{Block, Region};
 use cell_num::NoMemory;
 use std::alloc::{AllocError, Global};
 
@@ -75,37 +73,28 @@ fn wrong_runs(
     Ok(region)
 }
 
-pub(crate) fn width(
-    alloc: Global,
-    shapes: &Shapes,
-    layer: Layer,
-    value: u32,
-) -> Result<Region, NoMemory>
-    ensures { IfOk result (λ r. AreCells (FailsWidth (On layer shapes.now.rects) value) r) }
+/// The cells of a set whose run along the row or along the column is shorter than the value, in grid units.
+pub fn short_runs(alloc: Global, set: &Region, value: u32) -> Result<Region, NoMemory>
+    ensures { IfOk result (λ r. AreCells (FailsWidth (Covers set.now) value) r) }
 {
-    let set = on(alloc, shapes, layer)?;
     let turned = set.turned(alloc)?;
-    let region = wrong_runs(alloc, &set, &turned, Measure::Width, value)?;
+    let region = wrong_runs(alloc, set, &turned, Measure::Width, value)?;
     Ok(region)
 }
 
-pub(crate) fn size(
-    alloc: Global,
-    shapes: &Shapes,
-    layer: Layer,
-    value: u32,
-) -> Result<Region, NoMemory>
-    ensures { IfOk result (λ r. AreCells (FailsSize (On layer shapes.now.rects) value) r) }
+/// The cells of a set whose run along the row or along the column is not as long as the value, in grid units.
+pub fn off_runs(alloc: Global, set: &Region, value: u32) -> Result<Region, NoMemory>
+    ensures { IfOk result (λ r. AreCells (FailsSize (Covers set.now) value) r) }
 {
-    let set = on(alloc, shapes, layer)?;
     let turned = set.turned(alloc)?;
-    let region = wrong_runs(alloc, &set, &turned, Measure::Size, value)?;
+    let region = wrong_runs(alloc, set, &turned, Measure::Size, value)?;
     Ok(region)
 }
 
-// The cells of the gaps below a value in a set. A gap is a run of the cells that are not in the set. Their
-// columns are the rows of what the turned set leaves free, which has few rectangles in each band.
-pub(crate) fn open(alloc: Global, set: &Region, value: u32) -> Result<Region, NoMemory>
+/// The cells of the gaps below a value in a set, in grid units. A gap is a run of the cells that are not in the set, with
+/// cells of the set at both ends. Their columns are the rows of what the turned set leaves free, which has few rectangles
+/// in each band.
+pub fn short_gaps(alloc: Global, set: &Region, value: u32) -> Result<Region, NoMemory>
     requires inner { AreInner set.now }
     requires small { value ≤ 1000 }
     ensures { IfOk result (λ r. AreCells (FailsOpen (Covers set.now) value) r) }
