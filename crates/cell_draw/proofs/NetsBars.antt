@@ -16,7 +16,7 @@ use Rattle.channel_route.specs.declared.routing.Routing.{Routing}
 use Rattle.channel_route.specs.Wiring.{HoldsLine, AreEnds, AreInOrder, AreJoined, IsWiring}
 use Rattle.row_compact.specs.Solution.{x_of}
 use Rattle.box_geom.specs.Chains.{Chain}
-use Rattle.scmos_rules.proofs.Chains.{none, one, turned, joined as chained}
+use Rattle.number_trees.proofs.Chains.{none, one, turned, joined as chained}
 use Rattle.box_geom.proofs.Filters.{contains_filter}
 use Rattle.cell_draw.specs.declared.layout.Frame.{Frame}
 use Rattle.cell_draw.specs.declared.layout.Contact.{Contact}

@@ -11,7 +11,7 @@ use Rattle.box_geom.specs.Layers.{rects_on}
 use Rattle.box_geom.specs.declared.layer.Layer.TheVariants.{Contact as ContactCut, Via}
 use Rattle.cell_num.proofs.In.{In, contains_in}
 use Rattle.scmos_rules.specs.Layout.{On}
-use Rattle.scmos_rules.proofs.Chains.{none, one, joined, turned}
+use Rattle.number_trees.proofs.Chains.{none, one, joined, turned}
 use Rattle.scmos_rules.specs.declared.rules.Deck.TheVariants.{Plain}
 use Rattle.net_extract.specs.Nets.{of_poly, Joins, by_contact, by_via, Through}
 use Rattle.net_extract.specs.Devices.{diffusion_of}

@@ -7,7 +7,7 @@ use Rattle.cell_num.specs.declared.finger.Row.{Row}
 use Rattle.cell_num.specs.declared.finger.Row.TheVariants.{P, N}
 use Rattle.box_geom.specs.Chains.{Steps}
 use Rattle.box_geom.specs.Rectangle.{Holds}
-use Rattle.scmos_rules.proofs.Chains.{none}
+use Rattle.number_trees.proofs.Chains.{none}
 use Rattle.scmos_rules.specs.declared.rules.Deck.TheVariants.{Plain}
 use Rattle.net_extract.specs.Nets.{Site, SameNet, Conducts}
 use Rattle.net_extract.specs.Bonds.{Bonded, IsIn}

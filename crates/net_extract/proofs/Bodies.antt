@@ -13,7 +13,7 @@ use Rattle.box_geom.specs.declared.layer.Layer.TheVariants.{Well}
 use Rattle.scmos_rules.specs.Failing.{SameClass}
 use Rattle.scmos_rules.specs.Layout.{On}
 use Rattle.scmos_rules.specs.declared.rules.Deck.TheVariants.{Taps}
-use Rattle.scmos_rules.proofs.Chains.{joined}
+use Rattle.number_trees.proofs.Chains.{joined}
 use Rattle.number_trees.proofs.Tying.{eq_of_eqb}
 use Rattle.net_extract.specs.Bodies.{IsTapFor, HasTapIn, IsBody, AreBodies}
 use Rattle.net_extract.specs.Connections.{AreWires, firsts_of, pieces_of}

@@ -7,7 +7,8 @@ use Rattle.box_geom.specs.Chains.{Steps, Chain, Linked}
 use Rattle.box_geom.specs.declared.shape.Shape.{Shape}
 use Rattle.scmos_rules.specs.declared.rules.Deck.{Deck}
 use Rattle.scmos_rules.specs.Conditions.{Joint}
-use Rattle.scmos_rules.proofs.Chains.{none, one, joined, inside, cells_of_chain}
+use Rattle.number_trees.proofs.Chains.{none, one, joined}
+use Rattle.scmos_rules.proofs.Chains.{inside, cells_of_chain}
 use Rattle.net_extract.specs.Nets.{Site, Meets, along, through, tied, Wired, SameNet}
 use Rattle.net_extract.specs.declared.piece.Conductor.{Conductor}
 use Rattle.net_extract.specs.Bonds.{AreDrawn, Bond, touching, joining, tying, Bonded, IsPieceOf, IsIn}

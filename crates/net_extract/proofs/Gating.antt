@@ -16,7 +16,7 @@ use Rattle.box_geom.specs.declared.shape.Shape.{Shape}
 use Rattle.box_geom.specs.declared.layer.Layer.TheVariants.{Active, Poly as PolyLayer}
 use Rattle.scmos_rules.specs.Failing.{SameClass}
 use Rattle.scmos_rules.specs.Layout.{Gate}
-use Rattle.scmos_rules.proofs.Chains.{none, joined}
+use Rattle.number_trees.proofs.Chains.{none, joined}
 use Rattle.scmos_rules.specs.declared.rules.Deck.{Deck}
 use Rattle.scmos_rules.specs.declared.rules.Deck.TheVariants.{Plain}
 use Rattle.net_extract.specs.Nets.{Site, site_at, Conducts, SameNet}

@@ -13,7 +13,7 @@ use Rattle.box_geom.specs.declared.shape.Shape.{Shape}
 use Rattle.box_geom.specs.declared.shape.Label.{Label}
 use Rattle.box_geom.specs.declared.layer.Layer.{Layer}
 use Rattle.box_geom.specs.declared.layer.Layer.TheVariants.{Well, Active, PSelect, NSelect, Poly as PolyLayer, Contact, Metal1 as Metal1Layer, Via, Metal2 as Metal2Layer}
-use Rattle.scmos_rules.proofs.Chains.{none}
+use Rattle.number_trees.proofs.Chains.{none}
 use Rattle.scmos_rules.specs.declared.rules.Deck.{Deck}
 use Rattle.number_trees.proofs.Tying.{eq_of_eqb}
 use Rattle.net_extract.specs.Nets.{layer_of, Site, site_at, Conducts, SameNet}

@@ -12,7 +12,7 @@ use Rattle.box_geom.specs.declared.layer.Layer.TheVariants.{Contact, Via}
 use Rattle.box_geom.specs.declared.shape.Shape.{Shape}
 use Rattle.scmos_rules.specs.Layout.{On}
 use Rattle.scmos_rules.specs.declared.rules.Deck.TheVariants.{Plain}
-use Rattle.scmos_rules.proofs.Chains.{none, one}
+use Rattle.number_trees.proofs.Chains.{none, one}
 use Rattle.net_extract.specs.Bonds.{AreJoined, Bond, touching, joining, tying, Paired}
 use Rattle.number_trees.specs.Classes.{AreKin, InTree, AreLow, IsJoined, AreSound, AreTrees, AreTried, IsTried}
 use Rattle.net_extract.specs.Connections.{blank}

@@ -9,7 +9,8 @@ use Rattle.box_geom.specs.Chains.{Linked}
 use Rattle.box_geom.specs.declared.shape.Shape.{Shape}
 use Rattle.box_geom.specs.declared.layer.Layer.TheVariants.{Well}
 use Rattle.scmos_rules.specs.Layout.{On}
-use Rattle.scmos_rules.proofs.Chains.{joined, turned, flip_linked}
+use Rattle.number_trees.proofs.Chains.{joined, turned}
+use Rattle.scmos_rules.proofs.Chains.{flip_linked}
 use Rattle.scmos_rules.specs.declared.rules.Deck.{Deck}
 use Rattle.net_extract.specs.Nets.{Site, Through, Tied, by_well, by_substrate, Meets, along, through, tied, Wired, SameNet}
 use Rattle.net_extract.specs.declared.piece.Conductor.{Conductor}

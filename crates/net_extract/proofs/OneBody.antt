@@ -10,7 +10,7 @@ use Rattle.cell_num.specs.declared.finger.Row.{Row}
 use Rattle.cell_num.specs.declared.finger.Row.TheVariants.{P, N}
 use Rattle.scmos_rules.specs.Layout.{On}
 use Rattle.scmos_rules.specs.declared.rules.Deck.TheVariants.{Taps}
-use Rattle.scmos_rules.proofs.Chains.{one, joined}
+use Rattle.number_trees.proofs.Chains.{one, joined}
 use Rattle.net_extract.specs.Bodies.{IsTapFor, IsBody, IsBodyOf, ExtractsBodies}
 use Rattle.net_extract.specs.Extraction.{ExtractRefused}
 use Rattle.net_extract.specs.Nets.{Site, Tied, by_well, by_substrate, tied, Wired, SameNet}

@@ -17,7 +17,8 @@ use Rattle.net_extract.specs.declared.piece.Conductor.TheVariants.{PDiffusion, N
 use Rattle.net_extract.specs.declared.connections.Wire.{Wire}
 use Rattle.net_extract.specs.declared.piece.Piece.{Piece}
 use Rattle.net_extract.specs.GateNets.{ArePolyOf, AreWellNets, AreWells}
-use Rattle.scmos_rules.proofs.Chains.{inside, turned, flip_linked}
+use Rattle.number_trees.proofs.Chains.{turned}
+use Rattle.scmos_rules.proofs.Chains.{inside, flip_linked}
 use Rattle.cell_num.proofs.Lists.{contains_here}
 use Rattle.net_extract.proofs.Bonds.{carried_steps}
 use Rattle.net_extract.proofs.Covering.{cover_none, cover_split}

@@ -15,7 +15,7 @@ use Rattle.box_geom.specs.declared.layer.Layer.TheVariants.{Well, PSelect, NSele
 use Rattle.scmos_rules.specs.Failing.{SameClass}
 use Rattle.scmos_rules.specs.Layout.{On}
 use Rattle.scmos_rules.specs.declared.rules.Deck.TheVariants.{Plain, Taps}
-use Rattle.scmos_rules.proofs.Chains.{joined}
+use Rattle.number_trees.proofs.Chains.{joined}
 use Rattle.number_trees.specs.Ties.{HaveOneTie}
 use Rattle.number_trees.proofs.Tying.{one_tie, of_one_tie, one_below}
 use Rattle.net_extract.specs.Areas.{meeting, meeting_any}

@@ -2,7 +2,7 @@
 use Rattle.std.proofs.Common.{ℕ, Option, List, get_or, inl, inr}
 use Rattle.box_geom.specs.Chains.{Chain}
 use Rattle.box_geom.specs.declared.shape.Shape.{Shape}
-use Rattle.scmos_rules.proofs.Chains.{one}
+use Rattle.number_trees.proofs.Chains.{one}
 use Rattle.scmos_rules.specs.declared.rules.Deck.TheVariants.{Plain}
 use Rattle.number_trees.specs.Classes.{InTree, AreTrees}
 use Rattle.number_trees.specs.Ties.{InTreeOrTied}

@@ -13,7 +13,7 @@ use Rattle.box_geom.specs.Chains.{Steps, Chain}
 use Rattle.box_geom.specs.Rectangle.{Rectangle, IsProper}
 use Rattle.box_geom.specs.Touching.{Touch}
 use Rattle.box_geom.specs.declared.shape.Shape.{Shape}
-use Rattle.scmos_rules.proofs.Chains.{none, one, joined, turned}
+use Rattle.number_trees.proofs.Chains.{none, one, joined, turned}
 use Rattle.scmos_rules.specs.declared.rules.Deck.{Deck}
 use Rattle.number_trees.specs.Classes.{AreLeast}
 use Rattle.net_extract.specs.Nets.{Site, Conducts, Wired, SameNet}

@@ -3,7 +3,7 @@ use Rattle.std.proofs.Common.{◌≡◌, ℕ, zero, suc, ◌+◌, ◌<◌, ◌�
 use Rattle.std.specs.List.{range_with_len}
 use Rattle.std.proofs.lemmas.List.FromFn.{length-range_with_len, get_or-range_with_len}
 use Rattle.std.proofs.lemmas.Bool.{cases_eq, cases_lt, cases_order}
-use Rattle.scmos_rules.proofs.Chains.{none, one, joined, turned}
+use Rattle.number_trees.proofs.Chains.{none, one, joined, turned}
 use Rattle.box_geom.specs.Chains.{Chain, Steps}
 use Rattle.number_trees.specs.Classes.{AreKin, InTree, AreSound, AreTrees, Keeps, AreLeast, AreTried, IsTried, AreHeads}
 

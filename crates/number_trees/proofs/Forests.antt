@@ -3,7 +3,7 @@ use Rattle.std.proofs.Common.{◌≡◌, ℕ, zero, suc, ◌+◌, ◌<◌, ◌�
 use Rattle.std.proofs.lemmas.List.{length-set, get_or-set_same, get_or-set_other}
 use Rattle.std.proofs.lemmas.Bool.{cases_eq}
 use Rattle.box_geom.specs.Chains.{Chain, Steps}
-use Rattle.scmos_rules.proofs.Chains.{none, one, joined, turned}
+use Rattle.number_trees.proofs.Chains.{none, one, joined, turned}
 use Rattle.number_trees.specs.Classes.{IsParent, AreKin, InTree, AreLow, IsRoot, hung, IsJoined, AreRoots, AreSound, AreTrees, AreLeast, IsTried}
 use Rattle.number_trees.proofs.Classing.{GoesBack, rechained, ends}
 

@@ -2,7 +2,7 @@
 use Rattle.std.proofs.Common.{◌≡◌, ℕ, ◌+◌, ◌<◌, ◌≤◌, ◌==◌, true, false, Option, Some, None, List, length, get_or, arith, refl, sym, subst, ap, ◌∙◌, inl, inr}
 use Rattle.std.proofs.lemmas.List.{get_or_past}
 use Rattle.std.proofs.lemmas.Bool.{cases_eq, cases_lt, eq-eqb, ne_eqb}
-use Rattle.scmos_rules.proofs.Chains.{none, one, joined}
+use Rattle.number_trees.proofs.Chains.{none, one, joined}
 use Rattle.number_trees.specs.Classes.{AreKin, InTree, AreLow, IsJoined, AreSound, AreTrees, Keeps, IsTried}
 use Rattle.number_trees.specs.Ties.{is_one_tie, HaveOneTie, InTreeOrTied}
 use Rattle.number_trees.proofs.Classing.{GoesBack}

@@ -11,7 +11,7 @@ use Rattle.cell_num.specs.declared.finger.Row.TheVariants.{P, N}
 use Rattle.scmos_rules.specs.Failing.{SameClass}
 use Rattle.scmos_rules.specs.Layout.{On, Gate}
 use Rattle.scmos_rules.specs.declared.rules.Deck.TheVariants.{Plain}
-use Rattle.scmos_rules.proofs.Chains.{one, followed}
+use Rattle.number_trees.proofs.Chains.{one, followed}
 use Rattle.net_extract.specs.Devices.{IsGateBox, InRow, diffusion_of, IsSide, IsClosed, source_side, drain_side, low_end, high_end, IsDevice}
 use Rattle.net_extract.specs.Nets.{Site, site_at}
 use Rattle.net_extract.specs.declared.piece.Conductor.{Conductor}

@@ -7,7 +7,7 @@ use Rattle.box_geom.specs.declared.shape.Shape.{Shape}
 use Rattle.box_geom.specs.declared.layer.Layer.TheVariants.{Contact, Via}
 use Rattle.scmos_rules.specs.Layout.{On}
 use Rattle.scmos_rules.specs.declared.rules.Deck.TheVariants.{Plain}
-use Rattle.scmos_rules.proofs.Chains.{none, one, followed}
+use Rattle.number_trees.proofs.Chains.{none, one, followed}
 use Rattle.scmos_rules.proofs.Rails.{IsColumn}
 use Rattle.net_extract.specs.Nets.{Site, site_at, Conducts, Joins, by_contact, by_via, Meets, along, through, tied, Wired, SameNet}
 use Rattle.net_extract.specs.declared.piece.Conductor.{Conductor}

@@ -6,8 +6,9 @@ use Rattle.box_geom.specs.Near.{Near}
 use Rattle.box_geom.specs.Runs.{IsShort, IsOff, IsNotch}
 use Rattle.box_geom.specs.Touching.{Cell}
 use Rattle.box_geom.specs.Regions.{IsEmpty}
-use Rattle.scmos_rules.specs.Failing.{FailsWidth, FailsSize, FailsSpacing, FailsSurround, FailsAway, FailsPartly}
-use Rattle.scmos_rules.proofs.Chains.{none, one, joined}
+use Rattle.run_lengths.specs.Lengths.{FailsWidth, FailsSize}
+use Rattle.scmos_rules.specs.Failing.{FailsSpacing, FailsSurround, FailsAway, FailsPartly}
+use Rattle.number_trees.proofs.Chains.{none, one, joined}
 
 -- a cell of one of the sets
 pub record AnyOf {X : Type 0} (P : X → ℤ → ℤ → Type 0) (x y : ℤ) : Type 0 where

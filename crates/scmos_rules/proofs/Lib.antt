@@ -6,9 +6,7 @@ pub mod Families
 pub mod FamilyGates
 pub mod Rails
 pub mod Distances
-pub mod Lengths
 pub mod Listing
-pub mod Merging
 pub mod Unions
 pub mod Nearing
 pub mod Sizes

@@ -6,7 +6,8 @@ use Rattle.box_geom.specs.Near.{Near}
 use Rattle.box_geom.specs.Runs.{IsNotch}
 use Rattle.box_geom.specs.Regions.{IsEmpty}
 use Rattle.scmos_rules.specs.Failing.{FailsSpacing}
-use Rattle.scmos_rules.proofs.Chains.{joined, turned, flip_linked, in_row}
+use Rattle.number_trees.proofs.Chains.{joined, turned}
+use Rattle.scmos_rules.proofs.Chains.{flip_linked, in_row}
 use Rattle.scmos_rules.proofs.Families.{AnyOf, linked_any}
 
 -- from where to where a cell goes

@@ -7,7 +7,8 @@ use Rattle.box_geom.specs.Runs.{IsNotch}
 use Rattle.box_geom.specs.Regions.{IsEmpty}
 use Rattle.scmos_rules.specs.Failing.{FailsApart, FailsSpacing}
 use Rattle.scmos_rules.specs.Conditions.{Close, Joint, IsAcross, IsUpward, AreSpaced, AreTouching}
-use Rattle.scmos_rules.proofs.Chains.{cells_of_chain, one}
+use Rattle.number_trees.proofs.Chains.{one}
+use Rattle.scmos_rules.proofs.Chains.{cells_of_chain}
 
 -- the two rectangles at the ends of a notch are close, and what is between them is covered
 row_notch : (rs : List Rectangle) (v : ℕ) → AreSpaced v rs → (x y : ℤ) → IsNotch (λ z. Covers rs z y) v x → ⊥

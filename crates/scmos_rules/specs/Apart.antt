@@ -3,7 +3,7 @@ use Rattle.std.specs.Prelude.{ℕ, ◌==◌, List, [], ◌∷◌, ◌++◌, if�
 use Rattle.box_geom.specs.Rectangle.{Rectangle}
 use Rattle.box_geom.specs.Comparisons.{touching}
 use Rattle.box_geom.specs.Moving.{is_proper, near_part}
-use Rattle.scmos_rules.specs.declared.linking.Link.{Link}
+use Rattle.number_trees.specs.declared.linking.Link.{Link}
 use Rattle.scmos_rules.specs.declared.parts.NumberedBlock.{NumberedBlock}
 
 -- the link of two parts, where they touch

@@ -1,24 +1,8 @@
--- Where a set of cells fails: by its width, its spacing, its size, and by the cells around it.
+-- Where a set of cells fails by its spacing, and by the cells around it.
 use Rattle.std.specs.Prelude.{ℤ, ℕ, ◌⊎◌}
-use Rattle.box_geom.specs.Runs.{IsShort, IsOff, IsNotch}
 use Rattle.box_geom.specs.Chains.{Chain, Linked}
 use Rattle.box_geom.specs.Near.{Near}
-
--- a covered cell whose covered run along its row or along its column is shorter than v
-pub record FailsWidth (P : ℤ → ℤ → Type 0) (v : ℕ) (x y : ℤ) : Type 0 where
-  pub covered : P x y
-  pub short : IsShort (λ z. P z y) v x ⊎ IsShort (λ z. P x z) v y
-
--- a covered cell whose covered run along its row or along its column is not v long
-pub record FailsSize (P : ℤ → ℤ → Type 0) (v : ℕ) (x y : ℤ) : Type 0 where
-  pub covered : P x y
-  pub off : IsOff (λ z. P z y) v x ⊎ IsOff (λ z. P x z) v y
-
--- An uncovered cell whose uncovered run along its row or along its column has covered cells at both ends and is
--- shorter than v.
-pub record FailsOpen (P : ℤ → ℤ → Type 0) (v : ℕ) (x y : ℤ) : Type 0 where
-  pub bare : P x y → ⊥
-  pub notch : IsNotch (λ z. P z y) v x ⊎ IsNotch (λ z. P x z) v y
+use Rattle.run_lengths.specs.Lengths.{FailsOpen}
 
 -- two cells of one class: chained by shared edges
 abbrev pub SameClass : (ℤ → ℤ → Type 0) → ℤ → ℤ → ℤ → ℤ → Type 0

@@ -1,5 +1,4 @@
 -- What contracts of public calls cite, and what these definitions stand on.
-pub mod Classes
 pub mod Failing
 pub mod Gates
 pub mod Layout

@@ -7,14 +7,14 @@ ghost use Rattle.scmos_rules.specs.Apart.{link_of, some_part, hits_of};
 ghost use Rattle.scmos_rules.specs.Failing.{FailsApart, FailsSpacing};
 ghost use Rattle.scmos_rules.specs.Layout.{On};
 ghost use Rattle.scmos_rules.specs.Near.{IsNumberedBlock, near_over};
-ghost use Rattle.scmos_rules.specs.Regions.{AreCells};
+ghost use Rattle.run_lengths.specs.Cells.{AreCells};
 
-use crate::linking::{Link, classes};
 use crate::parts::{NumberedBlock, near_behind, parts_of};
-use crate::runs::open;
 use crate::sets::on;
 use box_geom::{Block, Layer, Region, Shapes};
 use cell_num::NoMemory;
+use number_trees::{Link, classes};
+use run_lengths::short_gaps;
 use std::alloc::{AllocError, Global};
 
 fn add_links(
@@ -146,7 +146,7 @@ pub(crate) fn spacing(
     ensures { IfOk result (λ r. AreCells (FailsSpacing (On layer shapes.now.rects) value) r) }
 {
     let set = on(alloc, shapes, layer)?;
-    let gaps = open(alloc, &set, value)?;
+    let gaps = short_gaps(alloc, &set, value)?;
     let near = near_others_turned(alloc, &set, value)?;
     let region = gaps.either(alloc, &near)?;
     Ok(region)

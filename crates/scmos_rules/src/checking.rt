@@ -1,5 +1,5 @@
 ghost use Rattle.std.specs.Prelude.{◌≡◌, ◌≤◌, ◌++◌, length, option_to_list, IfOk, IfErr, OnOk};
-ghost use Rattle.scmos_rules.specs.Regions.{AreCells};
+ghost use Rattle.run_lengths.specs.Cells.{AreCells};
 ghost use Rattle.scmos_rules.specs.Rules.{Fails};
 ghost use Rattle.scmos_rules.specs.Violations.{IsVerdict, AreViolations, IsFaultOf};
 
@@ -8,9 +8,9 @@ use crate::composite::{
     contact_edge, diffusion_edge, gate_distance, select_edge, tap_edge, via_over_edge, well_edge,
 };
 use crate::gates::{active_end, field_distance, poly_end};
+use crate::lengths::{size, width};
 use crate::nearby::{layer_not_away, layer_not_surrounded};
 use crate::rules::Deck;
-use crate::runs::{size, width};
 use crate::{RuleFault, RuleNo, Rules, Violation, Violations};
 use box_geom::{Layer, Region, Shapes};
 use cell_num::NoMemory;

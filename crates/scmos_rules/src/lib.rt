@@ -7,17 +7,15 @@ pub mod checking;
 mod composite;
 mod gates;
 pub mod laws;
-pub mod linking;
+mod lengths;
 mod nearby;
 pub mod number;
 mod parts;
 pub mod rules;
-mod runs;
 mod sets;
 pub mod violation;
 
 pub use checking::violations;
-pub use linking::{Link, classes};
 pub use number::RuleNo;
 pub use rules::{Deck, Rules};
 pub use violation::{RuleFault, Violation, Violations};

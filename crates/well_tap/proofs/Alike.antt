@@ -4,7 +4,8 @@ use Rattle.box_geom.specs.Chains.{Chain, Linked}
 use Rattle.box_geom.specs.Regions.{IsEmpty}
 use Rattle.box_geom.specs.Runs.{IsRun, IsShort, IsOff, IsNotch}
 use Rattle.box_geom.specs.Touching.{Cell}
-use Rattle.scmos_rules.specs.Failing.{FailsWidth, FailsSize, FailsSpacing}
+use Rattle.run_lengths.specs.Lengths.{FailsWidth, FailsSize}
+use Rattle.scmos_rules.specs.Failing.{FailsSpacing}
 use Rattle.net_extract.proofs.Bonds.{carried_steps}
 
 run : (P Q : ℤ → Type 0) → ((z : ℤ) → P z ↔ Q z) → (a b t : ℤ) → IsRun P a b t → IsRun Q a b t

@@ -14,7 +14,8 @@ use Rattle.cell_num.specs.declared.finger.Row.{Row}
 use Rattle.cell_num.specs.declared.finger.Row.TheVariants.{P, N}
 use Rattle.cell_num.specs.declared.net.Pins.{Pins}
 use Rattle.scmos_rules.specs.declared.rules.Deck.TheVariants.{Plain, Taps}
-use Rattle.scmos_rules.proofs.Chains.{one, joined, inside}
+use Rattle.number_trees.proofs.Chains.{one, joined}
+use Rattle.scmos_rules.proofs.Chains.{inside}
 use Rattle.net_extract.specs.Bodies.{IsTapFor}
 use Rattle.net_extract.specs.Devices.{InRow}
 use Rattle.net_extract.specs.Labels.{IsNamed}

@@ -10,7 +10,8 @@ use Rattle.box_geom.specs.declared.shape.Shape.{Shape}
 use Rattle.scmos_rules.specs.Layout.{On}
 use Rattle.scmos_rules.specs.declared.rules.Deck.{Deck}
 use Rattle.scmos_rules.specs.declared.rules.Deck.TheVariants.{Plain}
-use Rattle.scmos_rules.proofs.Chains.{one, inside}
+use Rattle.number_trees.proofs.Chains.{one}
+use Rattle.scmos_rules.proofs.Chains.{inside}
 use Rattle.net_extract.specs.Nets.{site_at, Are, IsLower, of_p, of_n, by_contact, along, through, Wired, SameNet}
 use Rattle.net_extract.specs.declared.piece.Conductor.{Conductor}
 use Rattle.net_extract.specs.declared.piece.Conductor.TheVariants.{PDiffusion, NDiffusion, Poly, Metal1, Metal2}

@@ -6,7 +6,8 @@ use Rattle.box_geom.specs.Rectangle.{Covers}
 use Rattle.box_geom.specs.Regions.{IsEmpty}
 use Rattle.box_geom.specs.declared.layer.Layer.TheVariants.{Well}
 use Rattle.scmos_rules.specs.Conditions.{IsWide}
-use Rattle.scmos_rules.specs.Failing.{FailsWidth, FailsSpacing, FailsSize}
+use Rattle.run_lengths.specs.Lengths.{FailsWidth, FailsSize}
+use Rattle.scmos_rules.specs.Failing.{FailsSpacing}
 use Rattle.scmos_rules.specs.Layout.{On}
 use Rattle.scmos_rules.specs.Rules.{Fails, Obeys}
 use Rattle.scmos_rules.specs.declared.number.RuleNo.{RuleNo}

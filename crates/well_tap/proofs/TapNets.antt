@@ -8,7 +8,8 @@ use Rattle.box_geom.specs.declared.layer.Layer.TheVariants.{Well, Active}
 use Rattle.scmos_rules.specs.Layout.{On}
 use Rattle.scmos_rules.specs.declared.rules.Deck.{Deck}
 use Rattle.scmos_rules.specs.declared.rules.Deck.TheVariants.{Plain}
-use Rattle.scmos_rules.proofs.Chains.{none, one, turned, flip_edge, followed}
+use Rattle.number_trees.proofs.Chains.{none, one, turned, followed}
+use Rattle.scmos_rules.proofs.Chains.{flip_edge}
 use Rattle.net_extract.specs.Nets.{Site, site_at, Are, Conducts, IsLower, of_p, of_n, of_poly, Joins, by_contact, by_via, Tied, by_well, by_substrate, Meets, along, through, tied, Wired, SameNet}
 use Rattle.net_extract.specs.declared.piece.Conductor.{Conductor}
 use Rattle.net_extract.specs.declared.piece.Conductor.TheVariants.{PDiffusion, NDiffusion, Poly, Metal1, Metal2}

@@ -1,6 +1,7 @@
 use Rattle.std.proofs.Common.{◌≡◌, arith, subst}
 use Rattle.box_geom.specs.Rectangle.{Covers}
-use Rattle.scmos_rules.specs.Regions.{AreCells, Lacks, way_of}
+use Rattle.run_lengths.specs.Cells.{AreCells}
+use Rattle.scmos_rules.specs.Regions.{Lacks, way_of}
 use Rattle.scmos_rules.proofs.Directions.{none_lacks, one_more_lacks}
 use Rattle.scmos_rules.proofs.gates.lacking.Goals as goal
 

@@ -1,5 +1,6 @@
 use Rattle.box_geom.specs.Rectangle.{Covers}
-use Rattle.scmos_rules.specs.Regions.{AreCells, Lacks, way_of}
+use Rattle.run_lengths.specs.Cells.{AreCells}
+use Rattle.scmos_rules.specs.Regions.{Lacks, way_of}
 use Rattle.scmos_rules.proofs.gates.lacking.Given as goal
 
 abbrev pub invariant-loop-distance : goal.invariant-loop-distance
