@@ -7,10 +7,11 @@ use Rattle.cell_num.specs.declared.finger.Row.{Row}
 use Rattle.cell_num.specs.declared.finger.Fingers.{Fingers}
 use Rattle.row_model.specs.declared.column.Column.{Column}
 use Rattle.row_model.specs.Gaps.{gaps_of, is_gap}
+use Rattle.row_trails.specs.Trails.{end_differs}
 use Rattle.row_state.specs.declared.kind.Kinds.{Kinds}
 use Rattle.row_state.specs.declared.state.State.{State}
 use Rattle.row_state.specs.declared.step.Step.{Step}
-use Rattle.row_state.specs.Completion.{Completes, further_gaps, cost_of, end_differs}
+use Rattle.row_state.specs.Completion.{Completes, further_gaps, cost_of}
 use Rattle.row_state.specs.Start.{AreKinds, AreSomeKinds, GatesAreNets, IsState, columns_left, start_of}
 use Rattle.row_state.specs.Steps.{column_of}
 use Rattle.row_state.proofs.Exists.{completion_exists}

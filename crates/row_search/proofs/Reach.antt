@@ -12,10 +12,11 @@ use Rattle.row_model.specs.declared.column.Placed.{Placed}
 use Rattle.row_model.specs.declared.column.Column.{Column}
 use Rattle.row_model.specs.Arrangement.{fingers_in, place, IsColumn}
 use Rattle.row_model.specs.Gaps.{gaps_of, is_gap, right_net}
+use Rattle.row_trails.specs.Trails.{end_differs}
 use Rattle.row_state.specs.declared.kind.Kinds.{Kinds}
 use Rattle.row_state.specs.declared.state.State.{State}
 use Rattle.row_state.specs.declared.step.Step.{Step}
-use Rattle.row_state.specs.Completion.{fingers_left, left_in, Completes, cost_of, end_differs}
+use Rattle.row_state.specs.Completion.{fingers_left, left_in, Completes, cost_of}
 use Rattle.row_state.specs.Start.{GatesAreNets, start_of, columns_left}
 use Rattle.row_state.specs.Steps.{IsPossible, placed_of, column_of, left_after, state_after}
 use Rattle.row_state.proofs.Left.{IsPermutation-uncons, with_place, row_from}

@@ -9,21 +9,23 @@ use Rattle.cell_num.specs.declared.finger.Finger.{Finger}
 use Rattle.cell_num.specs.declared.finger.Row.{Row}
 use Rattle.cell_num.specs.declared.finger.Row.TheVariants.{P, N}
 use Rattle.cell_num.specs.declared.net.NetNo.{NetNo}
+use Rattle.row_trails.specs.Counts.{entry, fewest_trails, flag, size_in}
+use Rattle.row_trails.specs.Trails.{size_same, toggle}
 use Rattle.row_state.specs.Chained.{least_labels, least_le}
 use Rattle.row_state.specs.ClassSizes.{joined_alike, size_in_other, size_in_same}
 use Rattle.row_state.specs.Classes.{joined, least_chained}
 use Rattle.row_state.specs.Completion.{finger_of, fingers_left}
-use Rattle.row_state.specs.Component.{component_trails, component_value, fewest_trails, further_trails, has_finger, size_in, trails_behind, trails_of}
+use Rattle.row_state.specs.Component.{component_trails, component_value, further_trails, has_finger, trails_behind, trails_of}
 use Rattle.row_state.specs.ComponentLaw.{EndsBelow, ends_left}
 use Rattle.row_state.specs.Gates.{OneDiffers, one_differs, sum_below_same}
 use Rattle.row_state.specs.Parity.{is_odd}
 use Rattle.row_state.specs.Start.{IsKind}
-use Rattle.row_state.specs.Tests.{empty_test, entry, flag, is_odd_behind, left_of}
-use Rattle.row_state.specs.Trails.{end_of, size_same, toggle}
+use Rattle.row_state.specs.Tests.{empty_test, is_odd_behind, left_of}
+use Rattle.row_state.specs.Trails.{end_of}
 use Rattle.row_state.specs.declared.kind.Kind.{Kind}
 use Rattle.row_state.specs.declared.kind.Kinds.{Kinds}
 use Rattle.row_state.specs.declared.state.State.{State}
-use Rattle.row_state.proofs.ParityCode.{empty_is, odd_net, size_le}
+use Rattle.row_state.proofs.ParityCode.{empty_is, odd_net}
 
 -- the last kinds' fingers
 fingers_more : (row : Row) (kinds : List Kind) (left : List ℕ) (i : ℕ) (k : Kind) → i < length kinds → length left ≡ length kinds → fingers_left row (drop i kinds) (drop i left) ≡ replicate (get_or left i 0) (finger_of row (get_or kinds i k)) ++ fingers_left row (drop (suc i) kinds) (drop (suc i) left)
@@ -97,14 +99,6 @@ met_more row kinds left at k h class met some within same more place is =
       | inr other ↦
           rw (ne_eqb (class (get_or kinds (at - 1) k).lo.0) h (λ e. other (sym e))) (get_or-set_other met (class (get_or kinds (at - 1) k).lo.0) h true false other ∙ is row h)
     ]
-
-pub none_counted : (n h : ℕ) → ◌≡◌ {A = ℕ} (get_or (replicate n 0) h 0) 0
-none_counted zero h = refl
-none_counted (suc n) zero = refl
-none_counted (suc n) (suc h) = none_counted n h
-
-pub size_in_le : (n : ℕ) (c : ℕ → ℕ) (o : ℕ → Bool) (h : ℕ) → size_in n c o h ≤ n
-size_in_le n c o h = size_le n (λ u. (c u == h) && o u)
 
 -- behind all kinds no finger is left
 pub none_behind : (row : Row) (kinds : List Kind) (left : List ℕ) → fingers_left row (drop (length kinds) kinds) (drop (length kinds) left) ≡ []

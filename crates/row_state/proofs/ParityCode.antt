@@ -1,14 +1,15 @@
 -- The parity bound as it is computed.
-use Rattle.std.specs.Prelude.{ℕ, zero, suc, ◌≡◌, ◌+◌, ◌-◌, ◌%◌, ◌≤◌, ◌<◌, Bool, true, false, not, cond, ◌==◌, if◌then◌else◌, List, [], ◌∷◌, Option, Some, None, All, count_by, get_or, length, replicate, slice_set, take}
+use Rattle.std.specs.Prelude.{ℕ, zero, suc, ◌≡◌, ◌+◌, ◌-◌, ◌%◌, ◌≤◌, ◌<◌, Bool, true, false, not, cond, ◌==◌, if◌then◌else◌, List, [], ◌∷◌, Option, Some, None, All, count_by, get_or, length, replicate, take}
 use Rattle.std.specs.List.{zip}
-use Rattle.std.proofs.lemmas.Bool.{cases_eq, eq-eqb, ne_eqb}
-use Rattle.std.proofs.lemmas.List.{get_or-set_other, get_or-set_same}
+use Rattle.std.proofs.lemmas.Bool.{eq-eqb}
 use Rattle.std.proofs.lemmas.List.Sums.{sum_by-cons}
-use Rattle.std.proofs.Common.{inl, inr, refl, sym, ap, arith, ◌∙◌}
+use Rattle.std.proofs.Common.{refl, sym, ap, arith, ◌∙◌}
 use Rattle.cell_num.specs.declared.finger.Row.{Row}
 use Rattle.cell_num.specs.declared.finger.Row.TheVariants.{P, N}
 use Rattle.cell_num.specs.declared.net.NetNo.{NetNo}
 use Rattle.cell_num.specs.Fingers.{on_gate, sum_below}
+use Rattle.row_trails.specs.Counts.{halved}
+use Rattle.row_trails.specs.Trails.{size, size_same, toggle}
 use Rattle.row_state.specs.declared.kind.Kind.{Kind}
 use Rattle.row_state.specs.declared.kind.Kinds.{Kinds}
 use Rattle.row_state.specs.declared.state.State.{State}
@@ -17,36 +18,14 @@ use Rattle.row_state.specs.declared.gate.OnGate.{OnGate}
 use Rattle.row_state.specs.Parity.{empty_left, is_odd, parity, parity_of, parity_value}
 use Rattle.row_state.specs.Runs.{IsOnGate}
 use Rattle.row_state.specs.Start.{AreSomeKinds, IsKind, IsState}
-use Rattle.row_state.specs.Tests.{adds_odd, empty_test, gate_left, halved, is_odd_behind, is_odd_net, parity_test}
-use Rattle.row_state.specs.Trails.{size, size_same, toggle}
+use Rattle.row_state.specs.Tests.{adds_odd, empty_test, gate_left, is_odd_behind, is_odd_net, parity_test}
 use Rattle.row_state.specs.Degrees.{parity_bit}
 use Rattle.row_state.specs.Gates.{sum_below_same}
 use Rattle.row_state.proofs.Numbers.{gate_code, odd_code, parity_mod}
 use Rattle.row_state.proofs.Valid.{few_n, few_p}
 
-pub size_more : (n : ℕ) (f : ℕ → Bool) → size (n + 1) f ≡ size n f + (if f n then 1 else 0)
-size_more n f = let e : n + 1 ≡ suc n = omega arith in ap (λ m. size m f) e
-
-bit_le : (b : Bool) → (if b then 1 else 0) ≤ 1
-bit_le true = omega arith
-bit_le false = omega arith
-
-pub size_le : (n : ℕ) (f : ℕ → Bool) → size n f ≤ n
-size_le zero f = omega arith
-size_le (suc n) f = omega (arith, bit_le (f n), size_le n f)
-
 pub size_of : (n : ℕ) (set : List Bool) (f : ℕ → Bool) → ((u : ℕ) → get_or set u false ≡ f u) → size n (λ u. get_or set u false) ≡ size n f
 size_of n set f same = size_same n (λ u. get_or set u false) f (λ u l. same u)
-
-pub toggled_at : (set : List Bool) (net u : ℕ) → net < length set → get_or (slice_set set net (not (get_or set net false))) u false ≡ toggle net (λ v. get_or set v false) u
-toggled_at set net u within = elim (cases_eq u net) [
-  | inl e ↦
-      let there : get_or (slice_set set net (not (get_or set net false))) net false ≡ not (get_or set net false) = get_or-set_same set net (not (get_or set net false)) false within in
-      rw (e, eq-eqb net net refl) there
-  | inr ne ↦
-      let there : get_or (slice_set set net (not (get_or set net false))) u false ≡ get_or set u false = get_or-set_other set net u (not (get_or set net false)) false ne in
-      rw (ne_eqb u net ne) there
-]
 
 turned : (b : Bool) → not (not b) ≡ b
 turned true = refl

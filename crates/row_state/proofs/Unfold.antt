@@ -15,12 +15,13 @@ use Rattle.row_model.specs.declared.column.Column.{Column}
 use Rattle.cell_num.specs.Fingers.{on_gate, columns_of}
 use Rattle.row_model.specs.Arrangement.{IsArrangement, fingers_in, IsColumn, AreOneColumn}
 use Rattle.row_model.specs.Gaps.{gaps_of, is_gap, facing_differs, right_net}
+use Rattle.row_trails.specs.Trails.{end_differs}
 use Rattle.row_state.specs.declared.kind.Kind.{Kind}
 use Rattle.row_state.specs.declared.kind.Kinds.{Kinds}
 use Rattle.row_state.specs.declared.state.State.{State}
 use Rattle.row_state.specs.declared.step.Side.{Side}
 use Rattle.row_state.specs.declared.step.Step.{Step}
-use Rattle.row_state.specs.Completion.{finger_of, fingers_left, left_in, Completes, Need, further_gaps, cost_of, end_differs}
+use Rattle.row_state.specs.Completion.{finger_of, fingers_left, left_in, Completes, Need, further_gaps, cost_of}
 use Rattle.row_state.specs.Start.{GatesAreNets, HasFingers, AreKinds, start_of, counts_of}
 use Rattle.row_state.specs.Steps.{placed_of, column_of, IsPossible, HalfMayStand, left_after, state_after}
 use Rattle.row_state.proofs.Left.{with_place, Taken, row_to, row_from}

@@ -3,12 +3,12 @@
 use Rattle.std.proofs.Common.{ℕ, ◌≡◌, ◌+◌, ◌/◌, ◌<◌, ◌≤◌, Bool, true, false, ◌==◌, if◌then◌else◌, max, min, refl, sym, ap, arith, ◌∙◌, inl, inr}
 use Rattle.std.proofs.lemmas.Bool.{cases_eq, eq-eqb, ne_eqb}
 use Rattle.cell_num.specs.Fingers.{sum_below}
+use Rattle.row_trails.specs.Counts.{fewest_trails, size_in}
+use Rattle.row_trails.specs.Trails.{toggle}
 use Rattle.row_state.specs.Chained.{joined_a}
 use Rattle.row_state.specs.Classes.{joined}
 use Rattle.row_state.specs.ClassSizes.{joined_not_high, size_in_alike, size_in_both, size_in_other, size_in_stays, size_in_toggle, size_in_twice}
 use Rattle.row_state.specs.ClassSums.{but, but_other, rest, rest_le, sum_low, sum_pair}
-use Rattle.row_state.specs.Component.{fewest_trails, size_in}
-use Rattle.row_state.specs.Trails.{toggle}
 
 -- at least the trails of a class that has so many odd nets
 pub closed : Bool → ℕ → ℕ

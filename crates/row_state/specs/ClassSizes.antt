@@ -4,11 +4,12 @@ use Rattle.std.proofs.lemmas.Bool.{and_left, and_right, both_ways, cases_Bool, c
 use Rattle.std.proofs.lemmas.List.Elements.{All-head, All-tail}
 use Rattle.std.proofs.lemmas.List.Sums.{sum_by-cons}
 use Rattle.cell_num.specs.declared.finger.Finger.{Finger}
+use Rattle.row_trails.specs.Counts.{size_in}
+use Rattle.row_trails.specs.Trails.{size, size_none, size_same, size_toggle, toggle, toggle_other, toggle_twice}
 use Rattle.row_state.specs.Chained.{joined_a, joined_b, joined_high, joined_other}
 use Rattle.row_state.specs.Classes.{IsLabelling, joined}
-use Rattle.row_state.specs.Component.{has_finger, size_in}
+use Rattle.row_state.specs.Component.{has_finger}
 use Rattle.row_state.specs.Parity.{ends_on, is_odd, parity}
-use Rattle.row_state.specs.Trails.{size, size_none, size_same, size_toggle, toggle, toggle_other, toggle_twice}
 
 and_same : (a x y : Bool) → (a ≡ true → x ≡ y) → (a && x) ≡ (a && y)
 and_same true x y h = h refl

@@ -1,15 +1,14 @@
 -- The completions of a state, and how many further gaps they all have.
-use Rattle.std.specs.Prelude.{ℕ, ◌+◌, ◌≤◌, Bool, false, not, ◌||◌, ◌==◌, if◌then◌else◌, List, [], ◌∷◌, Option, Some, replicate}
+use Rattle.std.specs.Prelude.{ℕ, ◌+◌, ◌≤◌, ◌||◌, if◌then◌else◌, List, [], ◌∷◌, replicate}
 use Rattle.std.specs.List.{zip, flat_map}
 use Rattle.cell_num.specs.declared.finger.Row.{Row}
 use Rattle.cell_num.specs.declared.finger.Row.TheVariants.{P, N}
-use Rattle.cell_num.specs.declared.net.NetNo.{NetNo}
 use Rattle.cell_num.specs.declared.finger.Finger.{Finger}
 use Rattle.cell_num.specs.declared.finger.Fingers.{Fingers}
-use Rattle.row_model.specs.declared.column.Placed.{Placed}
 use Rattle.row_model.specs.declared.column.Column.{Column}
 use Rattle.row_model.specs.Arrangement.{IsArrangement}
-use Rattle.row_model.specs.Gaps.{gaps_of, left_net}
+use Rattle.row_model.specs.Gaps.{gaps_of}
+use Rattle.row_trails.specs.Trails.{end_differs}
 use Rattle.row_state.specs.declared.kind.Kind.{Kind}
 use Rattle.row_state.specs.declared.kind.Kinds.{Kinds}
 use Rattle.row_state.specs.declared.state.State.{State}
@@ -24,11 +23,6 @@ fingers_left row kinds left = flat_map (λ (x : Kind × ℕ). replicate x.1 (fin
 -- the fingers that a state has left
 abbrev pub left_in : Kinds → State → Fingers
 left_in k s = record { nets = k.nets; p = fingers_left P k.p s.p_left; n = fingers_left N k.n s.n_left }
-
--- the open end and the place that follows differ
-abbrev pub end_differs : Option NetNo → Option Placed → Bool
-end_differs (Some v) (Some x) = not (v.0 == (left_net x).0)
-end_differs _ _ = false
 
 -- what a column costs behind the open ends
 abbrev pub cost_of : State → Column → ℕ

@@ -1,31 +1,23 @@
 -- The component bound of one row: the trails that the fingers left need, class by class.
-use Rattle.std.specs.Prelude.{ℕ, ◌-◌, ◌/◌, Bool, ◌&&◌, ◌==◌, if◌then◌else◌, max, List, Option, Some, None}
+use Rattle.std.specs.Prelude.{ℕ, ◌-◌, ◌/◌, Bool, ◌==◌, if◌then◌else◌, List, Option, Some, None}
 use Rattle.std.specs.List.{list_any}
 use Rattle.cell_num.specs.declared.finger.Row.{Row}
 use Rattle.cell_num.specs.declared.finger.Row.TheVariants.{P, N}
 use Rattle.cell_num.specs.declared.net.NetNo.{NetNo}
 use Rattle.cell_num.specs.declared.finger.Finger.{Finger}
 use Rattle.cell_num.specs.Fingers.{sum_below}
+use Rattle.row_trails.specs.Counts.{fewest_trails, size_in}
+use Rattle.row_trails.specs.Trails.{toggle}
 use Rattle.row_state.specs.declared.kind.Kinds.{Kinds}
 use Rattle.row_state.specs.declared.state.State.{State}
 use Rattle.row_state.specs.Classes.{least_chained}
 use Rattle.row_state.specs.Completion.{fingers_left, left_in}
 use Rattle.row_state.specs.Parity.{empty_left, is_odd}
 use Rattle.row_state.specs.Tests.{kinds_in}
-use Rattle.row_state.specs.Trails.{size, toggle}
-
--- how many nets of the set are in the class
-abbrev pub size_in : ℕ → (ℕ → ℕ) → (ℕ → Bool) → ℕ → ℕ
-size_in nets class set h = size nets (λ u. (class u == h) && set u)
 
 -- an end of some finger is in the class
 abbrev pub has_finger : (ℕ → ℕ) → List Finger → ℕ → Bool
 has_finger class fs h = list_any (λ (f : Finger). class f.lo.0 == h) fs
-
--- The fewest trails that pass all fingers of a class of so many odd nets: each net is passed in pairs
--- of ends but where a trail begins or ends.
-abbrev pub fewest_trails : Bool → ℕ → ℕ
-fewest_trails has odd = if has then max 1 (odd / 2) else 0
 
 abbrev pub trails_of : ℕ → List Finger → ℕ → ℕ
 trails_of nets fs h =

@@ -12,18 +12,20 @@ use Rattle.row_model.specs.Arrangement.{fingers_in}
 use Rattle.row_model.specs.Gaps.{left_net, right_net}
 use Rattle.row_model.specs.declared.column.Column.{Column}
 use Rattle.row_model.specs.declared.column.Placed.{Placed}
+use Rattle.row_trails.specs.Counts.{fewest_trails, size_in}
+use Rattle.row_trails.specs.Trails.{empties, end_differs, n_cost_le, odd, p_cost_le, places, row_cost, size_same, toggle}
 use Rattle.row_state.specs.Chained.{joined_a, joined_turned, least_labels, least_le, least_permuted}
 use Rattle.row_state.specs.ClassBounds.{Classes, IsEven, IsJoined, begins, breaks, closed_none, free_at, free_is, goes_on, open_at, open_here, open_le_free, open_other, trails_low}
 use Rattle.row_state.specs.ClassSums.{sum_below_mono}
 use Rattle.row_state.specs.ClassSizes.{has_no_high, has_stays, no_finger_even}
 use Rattle.row_state.specs.Classes.{joined, least_chained}
-use Rattle.row_state.specs.Completion.{Need, end_differs, finger_of, fingers_left, further_gaps, left_in}
-use Rattle.row_state.specs.Component.{component_of, component_value, fewest_trails, has_finger, size_in, trails_behind, trails_of}
+use Rattle.row_state.specs.Completion.{Need, finger_of, fingers_left, further_gaps, left_in}
+use Rattle.row_state.specs.Component.{component_of, component_value, has_finger, trails_behind, trails_of}
 use Rattle.row_state.specs.Degrees.{empties_are, fingers_of, fingers_of_places, odd_degree, odd_places}
 use Rattle.row_state.specs.Law.{gates_left, most_turned}
 use Rattle.row_state.specs.Parity.{empty_left, is_odd}
 use Rattle.row_state.specs.Start.{AreSomeKinds, IsKind}
-use Rattle.row_state.specs.Trails.{cost_is, empties, n_cost_le, odd, p_cost_le, places, row_cost, size_same, toggle}
+use Rattle.row_state.specs.Trails.{cost_is}
 use Rattle.row_state.specs.declared.kind.Kind.{Kind}
 use Rattle.row_state.specs.declared.kind.Kinds.{Kinds}
 use Rattle.row_state.specs.declared.state.State.{State}

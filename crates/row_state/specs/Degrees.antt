@@ -11,8 +11,8 @@ use Rattle.row_model.specs.declared.column.Column.{Column}
 use Rattle.cell_num.specs.Fingers.{on_gate, sum_below}
 use Rattle.row_model.specs.Arrangement.{place, fingers_in}
 use Rattle.row_model.specs.Gaps.{left_net, right_net}
+use Rattle.row_trails.specs.Trails.{empties, odd, places}
 use Rattle.row_state.specs.Parity.{parity, ends_on}
-use Rattle.row_state.specs.Trails.{odd, empties, places}
 use Rattle.row_state.specs.Gates.{most, one_differs, OneDiffers, gate_here, gate_other}
 
 abbrev pub bit_of : Bool → ℕ

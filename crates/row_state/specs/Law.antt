@@ -6,12 +6,13 @@ use Rattle.cell_num.specs.declared.finger.Row.TheVariants.{P, N}
 use Rattle.cell_num.specs.declared.net.NetNo.{NetNo}
 use Rattle.cell_num.specs.declared.finger.Finger.{Finger}
 use Rattle.row_model.specs.declared.column.Placed.{Placed}
+use Rattle.row_trails.specs.Trails.{Bounds, bounds, empties, n_cost_le, odd, p_cost_le, places, row_cost, size, size_same, toggle}
 use Rattle.row_state.specs.declared.kind.Kind.{Kind}
 use Rattle.row_state.specs.declared.kind.Kinds.{Kinds}
 use Rattle.row_state.specs.declared.state.State.{State}
 use Rattle.row_state.specs.Completion.{Need, further_gaps, fingers_left, finger_of, left_in}
 use Rattle.row_state.specs.Start.{AreSomeKinds, IsKind}
-use Rattle.row_state.specs.Trails.{odd, toggle, size, empties, places, row_cost, Bounds, bounds, cost_is, size_same, p_cost_le, n_cost_le}
+use Rattle.row_state.specs.Trails.{cost_is}
 use Rattle.row_state.specs.Parity.{is_odd, empty_left, parity_of, parity_value}
 use Rattle.row_state.specs.Gates.{most, sum_below_same}
 use Rattle.row_state.specs.Degrees.{odd_places, empties_are}

@@ -5,10 +5,10 @@ use Rattle.cell_num.specs.declared.finger.Row.TheVariants.{P, N}
 use Rattle.cell_num.specs.declared.net.NetNo.{NetNo}
 use Rattle.cell_num.specs.declared.finger.Finger.{Finger}
 use Rattle.cell_num.specs.Fingers.{on_gate, sum_below}
+use Rattle.row_trails.specs.Trails.{size, toggle}
 use Rattle.row_state.specs.declared.kind.Kinds.{Kinds}
 use Rattle.row_state.specs.declared.state.State.{State}
 use Rattle.row_state.specs.Completion.{left_in}
-use Rattle.row_state.specs.Trails.{toggle, size}
 
 abbrev pub parity : ℕ → Bool
 parity zero = false

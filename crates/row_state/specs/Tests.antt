@@ -1,5 +1,5 @@
 -- Counts, tests and lists that compute the facts of kinds, states and next columns.
-use Rattle.std.specs.Prelude.{ℕ, zero, suc, ◌≡◌, ◌+◌, ◌-◌, ◌/◌, ◌%◌, Bool, true, false, not, cond, ◌&&◌, ◌||◌, ◌==◌, ltb, leb, max, min, if◌then◌else◌, List, [], ◌∷◌, ◌++◌, Option, Some, None, length, map, sum_by, count_by, slice_get, slice_index, slice_index_or}
+use Rattle.std.specs.Prelude.{ℕ, zero, suc, ◌≡◌, ◌+◌, ◌-◌, ◌%◌, Bool, true, false, not, cond, ◌&&◌, ◌||◌, ◌==◌, ltb, leb, max, min, if◌then◌else◌, List, [], ◌∷◌, ◌++◌, Option, Some, None, length, map, sum_by, count_by, slice_get, slice_index}
 use Rattle.std.specs.List.{zip, list_all, flat_map}
 use Rattle.std.specs.declared.cmp.Ordering.{Ordering}
 use Rattle.std.specs.Ordering.{nat_cmp, ordering_then}
@@ -9,20 +9,15 @@ use Rattle.cell_num.specs.declared.net.NetNo.{NetNo}
 use Rattle.cell_num.specs.Fingers.{sum_below}
 use Rattle.cell_num.specs.declared.finger.Finger.{Finger}
 use Rattle.row_model.specs.declared.column.Placed.{Placed}
+use Rattle.row_trails.specs.Counts.{halved}
+use Rattle.row_trails.specs.Trails.{size, toggle}
 use Rattle.row_state.specs.declared.kind.Kind.{Kind}
 use Rattle.row_state.specs.declared.kind.Kinds.{Kinds}
 use Rattle.row_state.specs.declared.state.State.{State}
 use Rattle.row_state.specs.declared.step.Side.{Side}
 use Rattle.row_state.specs.declared.step.Step.{Step}
 use Rattle.row_state.specs.Start.{counts_of}
-use Rattle.row_state.specs.Trails.{end_of, size, toggle}
-
--- what a table has at a place
-abbrev pub entry : List ℕ → ℕ → ℕ
-entry table at = slice_index_or table at 0
-
-abbrev pub flag : List Bool → ℕ → Bool
-flag table at = slice_index_or table at false
+use Rattle.row_state.specs.Trails.{end_of}
 
 -- the finger as a kind of its own
 abbrev pub single : Finger → Kind
@@ -160,10 +155,6 @@ empty_test N s k gate = gate_left k.p s.p_left gate - gate_left k.n s.n_left gat
 -- so many in all
 abbrev pub empty_in : Row → State → Kinds → ℕ
 empty_in row s k = sum_below (empty_test row s k) k.nets
-
-abbrev pub halved : Option NetNo → ℕ → ℕ
-halved (Some v) odd = odd / 2
-halved None odd = (odd - 1) / 2
 
 -- half of the odd nets of a row, by the counts that it has left
 abbrev pub parity_trails : Row → Option NetNo → List ℕ → Kinds → ℕ

@@ -8,10 +8,10 @@ ghost use Rattle.row_state.specs.Start.{IsState, start_of};
 ghost use Rattle.row_state.specs.Steps.{IsPossible, Unfolds, column_of};
 
 use crate::coding::{end_number, lists};
-use crate::step::right;
 use crate::{Kind, Kinds, Side, Step, column, start, successors};
 use cell_num::{List, NoMemory};
 use row_model::Column;
+use row_trails::end_behind;
 use std::alloc::Global;
 
 /// A column that some state may allow as its next one.
@@ -60,7 +60,7 @@ fn ends(step: &Step, column: &Column, kinds: &Kinds) -> u32
 {
     kinds.show_limits();
     let nets = u128::from(kinds.nets) + 1;
-    (end_number(&right(&column.p)) * nets + end_number(&right(&column.n))) as u32
+    (end_number(&end_behind(&column.p)) * nets + end_number(&end_behind(&column.n))) as u32
 }
 
 // The place of the first kind on the gate, or on a higher one.

@@ -1,19 +1,20 @@
 ghost use Rattle.std.specs.Prelude.{refl, ◌≡◌, ◌≤◌, ◌<◌, ◌==◌, if◌then◌else◌, ℕ, All, IfSome, length};
 ghost use Rattle.std.proofs.Common.{inr};
 ghost use Rattle.cell_num.specs.declared.finger.Row.{Row as RowOf};
-ghost use Rattle.cell_num.specs.Fingers.{sum_below};
+ghost use Rattle.row_trails.specs.Counts.{entry, flag};
 ghost use Rattle.row_state.specs.Classes.{joined, least_chained};
 ghost use Rattle.row_state.specs.Completion.{fingers_left};
-ghost use Rattle.row_state.specs.Component.{component_trails, component_value, fewest_trails, further_trails, has_finger, size_in};
+ghost use Rattle.row_state.specs.Component.{component_trails, component_value, further_trails, has_finger};
 ghost use Rattle.row_state.specs.ComponentLaw.{component_holds};
 ghost use Rattle.row_state.specs.Start.{IsKind, IsState};
-ghost use Rattle.row_state.specs.Tests.{entry, flag, left_of};
+ghost use Rattle.row_state.specs.Tests.{left_of};
 ghost use Rattle.row_state.specs.Trails.{end_of};
 
 use crate::bound::are_above;
-use crate::parity::{NETS, count_empty, odd_behind};
+use crate::parity::{count_empty, odd_behind};
 use crate::{COMPONENT_LOG, Kind, Kinds, RowBound, State};
 use cell_num::{MOST_NETS, NetNo, Row};
+use row_trails::{NETS, count_by_class, sum_trails};
 
 /// The bound that counts trails in each class of nets that the fingers left chain: a walk that changes
 /// from one class to another breaks.
@@ -92,40 +93,6 @@ fn met_classes(kinds: &[Kind], left: &[u32], classes: &[u8; NETS], nets: u32) ->
         }
     }
     met
-}
-
-// How many nets of the set each class has.
-fn count_by_class(classes: &[u8; NETS], set: &[bool; NETS], nets: u32) -> [u32; NETS]
-    requires few { nets ≤ MOST_NETS }
-    ensures value { (h : ℕ) → entry result h ≡ size_in nets (entry classes.now) (flag set.now) h }
-    ensures few { (h : ℕ) → entry result h ≤ MOST_NETS }
-{
-    let mut counts = [0; NETS];
-    for net in 0..nets as usize {
-        if set[net] {
-            counts[classes[net] as usize] += 1;
-        }
-    }
-    counts
-}
-
-fn trails(met: bool, odd: u32) -> u32
-    ensures { result ≡ fewest_trails met odd }
-{
-    if met { (odd / 2).max(1) } else { 0 }
-}
-
-fn sum_trails(met: &[bool; NETS], odd: &[u32; NETS], nets: u32) -> u32
-    requires few { nets ≤ MOST_NETS }
-    requires few_odd { (h : ℕ) → entry odd.now h ≤ MOST_NETS }
-    ensures value { result ≡ sum_below (λ h. fewest_trails (flag met.now h) (entry odd.now h)) nets }
-    ensures few { result ≤ 32768 }
-{
-    let mut sum = 0;
-    for class in 0..nets as usize {
-        sum += trails(met[class], odd[class]);
-    }
-    sum
 }
 
 // The trails beside the one that goes on from the open end, or that the walk begins with.

@@ -1,36 +1,26 @@
-ghost use Rattle.std.specs.Prelude.{◌<◌, All, IfSome, cond, false, not, slice_index_or, ◌≡◌, ◌≤◌, ◌+◌, ◌-◌, ◌/◌, ◌%◌, ◌==◌, if◌then◌else◌, ℕ, length, refl};
+ghost use Rattle.std.specs.Prelude.{◌<◌, All, IfSome, cond, false, not, slice_index_or, ◌≡◌, ◌≤◌, ◌+◌, ◌-◌, ◌/◌, ◌%◌, ◌==◌, ℕ, length, refl};
 ghost use Rattle.std.proofs.Common.{inl};
+ghost use Rattle.row_trails.specs.Counts.{halved};
+ghost use Rattle.row_trails.specs.Trails.{size};
 ghost use Rattle.row_state.specs.Law.{parity_holds};
 ghost use Rattle.row_state.specs.Parity.{parity_value};
 ghost use Rattle.row_state.specs.declared.kind.Kinds.{Kinds as KindsOf};
 ghost use Rattle.row_state.specs.declared.state.State.{State as StateOf};
 ghost use Rattle.row_state.specs.Runs.{IsOnGate};
 ghost use Rattle.row_state.specs.Start.{IsKind, IsState};
-ghost use Rattle.row_state.specs.Tests.{adds_odd, empty_in, empty_test, halved, is_odd_behind, is_odd_net, kinds_in, left_of, parity_test, parity_trails};
-ghost use Rattle.row_state.specs.Trails.{end_of, size, toggle};
+ghost use Rattle.row_state.specs.Tests.{adds_odd, empty_in, empty_test, is_odd_behind, is_odd_net, kinds_in, left_of, parity_test, parity_trails};
+ghost use Rattle.row_state.specs.Trails.{end_of};
 
 use crate::bound::are_above;
 use crate::gate::{OnGate, are_level, behind, first_gates, next_on};
 use crate::{Kind, Kinds, PARITY_LOG, RowBound, State};
 use cell_num::{MOST_NETS, NetNo, Row};
-
-// A place for each net of a cell.
-pub(crate) const NETS: usize = MOST_NETS as usize;
+use row_trails::{NETS, count_nets, odd_trails, toggle_net};
 
 /// The bound that counts the nets of odd degree: a walk through all fingers left of a row passes each
 /// net in pairs of ends but where it begins, ends or breaks.
 #[derive(Clone, Copy, Debug)]
 pub struct Parity;
-
-// Takes the net out of the set, or puts it in.
-#[tactic(auto, using(crate::proofs::ParityCode::toggled_at))]
-fn toggle_net(set: &mut [bool; NETS], net: u32)
-    requires { net < MOST_NETS }
-    ensures { (u : ℕ) → slice_index_or set.new u false ≡ toggle net (λ v. slice_index_or set.old v false) u }
-{
-    let at = net as usize;
-    set[at] = !set[at];
-}
 
 // An odd number of fingers turns the degree of both ends, and twice that of one net at both.
 #[tactic(auto, using(crate::proofs::ParityCode::ends_toggled))]
@@ -84,24 +74,6 @@ pub(crate) fn odd_behind(
     }
 }
 
-fn one_if(counted: bool) -> u32
-    ensures { result ≡ (if counted then 1 else 0) }
-{
-    if counted { 1 } else { 0 }
-}
-
-#[tactic(auto, using(crate::proofs::ParityCode::size_more, crate::proofs::ParityCode::size_le))]
-fn count_in(set: &[bool; NETS], nets: u32) -> u32
-    requires { nets ≤ MOST_NETS }
-    ensures { result ≡ size nets (λ u. slice_index_or set.now u false) }
-{
-    let mut count = 0;
-    for net in 0..nets {
-        count += one_if(set[net as usize]);
-    }
-    count
-}
-
 #[tactic(auto, using(crate::proofs::ParityCode::size_of))]
 fn count_odd(kinds: &[Kind], left: &[u32], end: &Option<NetNo>, nets: u32) -> u32
     requires few { nets ≤ MOST_NETS }
@@ -110,7 +82,7 @@ fn count_odd(kinds: &[Kind], left: &[u32], end: &Option<NetNo>, nets: u32) -> u3
     requires end { IfSome end.now (λ v. v.0 < nets) }
     ensures { result ≡ size nets (is_odd_behind end.now kinds.now left.now) }
 {
-    count_in(&odd_behind(kinds, left, end, nets), nets)
+    count_nets(&odd_behind(kinds, left, end, nets), nets)
 }
 
 // The places of the gate that stay empty in the row.
@@ -164,17 +136,12 @@ fn count_odd_in(row: Row, state: &State, kinds: &Kinds) -> u32
     }
 }
 
-// Half of the odd nets, without the one that the walk may begin at where no end is open.
 fn halve(row: Row, state: &State, odd: u32) -> u32
     ensures { result ≡ halved (end_of row state.now) odd }
 {
-    let open = match row {
-        Row::P => &state.p_end,
-        Row::N => &state.n_end,
-    };
-    match open {
-        Some(_) => odd / 2,
-        None => odd.saturating_sub(1) / 2,
+    match row {
+        Row::P => odd_trails(&state.p_end, odd),
+        Row::N => odd_trails(&state.n_end, odd),
     }
 }
 

@@ -1,13 +1,13 @@
-ghost use Rattle.std.specs.Prelude.{◌≡◌, ◌<◌, ◌+◌, ◌∷◌, IfOk, IfSome, List as Sequence, length, slice_index, option_map};
+ghost use Rattle.std.specs.Prelude.{◌≡◌, ◌<◌, ◌+◌, ◌∷◌, IfOk, IfSome, List as Sequence, length, slice_index};
 ghost use Rattle.row_model.specs.declared.column.Column.{Column};
-ghost use Rattle.row_model.specs.Gaps.{right_net};
-ghost use Rattle.row_state.specs.Completion.{Completes, cost_of, end_differs, further_gaps};
+ghost use Rattle.row_state.specs.Completion.{Completes, cost_of, further_gaps};
 ghost use Rattle.row_state.specs.Start.{IsState, columns_left};
 ghost use Rattle.row_state.specs.Steps.{IsPossible, column_of, left_after, oriented_of, placed_of, state_after};
 
 use crate::{Counts, Kind, Kinds, State};
-use cell_num::{Finger, List, NetNo, NoMemory, Row};
+use cell_num::{Finger, List, NoMemory, Row};
 use row_model::{Column, Placed};
+use row_trails::{cost_at_ends, end_behind};
 use std::alloc::Global;
 
 /// A kind in one of its two orientations.
@@ -64,23 +64,10 @@ pub fn column(step: &Step, kinds: &Kinds) -> Column
     }
 }
 
-fn differs(end: &Option<NetNo>, place: &Option<Placed>) -> bool
-    ensures { result ≡ end_differs end.now place.now }
-{
-    match (end, place) {
-        (Some(net), Some(x)) => *net != x.left(),
-        _ => false,
-    }
-}
-
 pub(crate) fn column_cost(state: &State, column: &Column) -> u32
     ensures { result ≡ cost_of state.now column.now }
 {
-    if differs(&state.p_end, &column.p) || differs(&state.n_end, &column.n) {
-        1
-    } else {
-        0
-    }
+    cost_at_ends(&state.p_end, &state.n_end, column)
 }
 
 /// 1 where in some row an end is open and the next column fills that row with another net, else 0.
@@ -93,15 +80,6 @@ pub fn step_cost(state: &State, step: &Step, kinds: &Kinds) -> u32
         result + further_gaps (state_after kinds.now state.now step.now) rest }
 {
     column_cost(state, &column(step, kinds))
-}
-
-pub(crate) fn right(place: &Option<Placed>) -> Option<NetNo>
-    ensures { result ≡ option_map right_net place.now }
-{
-    match place {
-        Some(x) => Some(x.right()),
-        None => None,
-    }
 }
 
 fn copied(alloc: Global, counts: &[u32]) -> Result<Vec<u32>, NoMemory>
@@ -138,8 +116,8 @@ fn stepped(alloc: Global, state: &State, step: &Step, kinds: &Kinds) -> Result<S
     Ok(State {
         p_left,
         n_left,
-        p_end: right(&column.p),
-        n_end: right(&column.n),
+        p_end: end_behind(&column.p),
+        n_end: end_behind(&column.n),
     })
 }
 

@@ -13,9 +13,10 @@ use Rattle.row_model.specs.declared.column.Placed.{Placed}
 use Rattle.row_model.specs.declared.column.Column.{Column}
 use Rattle.row_model.specs.Arrangement.{AreOneColumn, IsArrangement, IsColumn, fingers_in}
 use Rattle.row_model.specs.Gaps.{facing_differs, gaps_of, is_gap}
+use Rattle.row_trails.specs.Trails.{end_differs}
 use Rattle.row_state.specs.declared.kind.Kinds.{Kinds}
 use Rattle.row_state.specs.declared.state.State.{State}
-use Rattle.row_state.specs.Completion.{Completes, Need, cost_of, end_differs, fingers_left, further_gaps}
+use Rattle.row_state.specs.Completion.{Completes, Need, cost_of, fingers_left, further_gaps}
 use Rattle.row_state.specs.Gates.{gate_here, gate_other, most}
 use Rattle.row_state.specs.Law.{gates_left}
 use Rattle.row_state.specs.Start.{AreSomeKinds, IsState}

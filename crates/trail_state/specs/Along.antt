@@ -6,11 +6,12 @@ use Rattle.std.proofs.lemmas.List.Sorted.{All-permutation, list_any-IsPermutatio
 use Rattle.cell_num.specs.declared.finger.Finger.{Finger}
 use Rattle.cell_num.proofs.Lists.{contains_none}
 use Rattle.cell_num.proofs.Pairs.{pairs_none}
+use Rattle.row_trails.specs.Counts.{size_in}
+use Rattle.row_trails.specs.Trails.{size, size_same}
 use Rattle.row_state.specs.Chained.{least_labels, least_le}
 use Rattle.row_state.specs.Classes.{IsLabelling}
-use Rattle.row_state.specs.Component.{has_finger, size_in}
+use Rattle.row_state.specs.Component.{has_finger}
 use Rattle.row_state.specs.Parity.{ends_on, is_odd, parity}
-use Rattle.row_state.specs.Trails.{size, size_same}
 use Rattle.trail_state.specs.declared.edge.Node.{Node}
 use Rattle.trail_state.specs.declared.edge.Edge.{Edge}
 use Rattle.trail_state.specs.declared.state.Place.{Place}

@@ -10,11 +10,12 @@ use Rattle.std.proofs.lemmas.List.Sums.{length-filter}
 use Rattle.cell_num.specs.declared.finger.Finger.{Finger}
 use Rattle.cell_num.proofs.Lists.{all_from_contains}
 use Rattle.cell_num.proofs.Pairs.{pairs_map, test_there}
+use Rattle.row_trails.specs.Counts.{size_in}
+use Rattle.row_trails.specs.Trails.{size, toggle, toggle_other}
 use Rattle.row_state.specs.Chained.{least_labels, least_le}
 use Rattle.row_state.specs.Classes.{IsLabelling}
 use Rattle.row_state.specs.ClassSizes.{has_stays, size_in_none, size_in_same, size_in_stays}
-use Rattle.row_state.specs.Component.{has_finger, size_in}
-use Rattle.row_state.specs.Trails.{size, toggle, toggle_other}
+use Rattle.row_state.specs.Component.{has_finger}
 use Rattle.trail_state.specs.declared.edge.Node.{Node}
 use Rattle.trail_state.specs.declared.edge.Edge.{Edge}
 use Rattle.trail_state.specs.declared.state.Place.{Place}

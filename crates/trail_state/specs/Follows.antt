@@ -4,7 +4,7 @@ use Rattle.std.proofs.Common.{ℕ, ◌≡◌, ◌≢◌, ◌==◌, ◌||◌, Boo
 use Rattle.std.proofs.lemmas.Bool.{both_ways, cases_Bool, cases_eq, cases_lt, eq-eqb, eqb-true, or_cases, or_left, or_right, or_parts}
 use Rattle.cell_num.proofs.Lists.{all_from_contains, contains_here, contains_there}
 use Rattle.cell_num.proofs.Pairs.{pairs_map}
-use Rattle.row_state.specs.Trails.{toggle, toggle_other}
+use Rattle.row_trails.specs.Trails.{toggle, toggle_other}
 use Rattle.trail_state.specs.declared.edge.Node.{Node}
 use Rattle.trail_state.specs.declared.edge.Edge.{Edge}
 use Rattle.trail_state.specs.declared.state.Place.{Place}

@@ -5,11 +5,11 @@ use Rattle.std.proofs.lemmas.List.Sums.{sum_by-cons}
 use Rattle.cell_num.specs.declared.net.NetNo.{NetNo}
 use Rattle.cell_num.specs.declared.finger.Row.TheVariants.{P}
 use Rattle.cell_num.specs.declared.finger.Finger.{Finger}
+use Rattle.row_trails.specs.Trails.{toggle, toggle_other}
 use Rattle.row_state.specs.Classes.{joined, least_chained}
 use Rattle.row_state.specs.Chained.{joined_high, joined_other}
 use Rattle.row_state.specs.Degrees.{bit_of, degree, parity_bit}
 use Rattle.row_state.specs.Parity.{ends_on, is_odd, parity}
-use Rattle.row_state.specs.Trails.{toggle, toggle_other}
 use Rattle.trail_state.specs.declared.edge.Node.{Node}
 use Rattle.trail_state.specs.declared.edge.Edge.{Edge}
 use Rattle.trail_state.specs.Places.{is_end, is_met}

@@ -5,9 +5,9 @@ use Rattle.std.proofs.lemmas.List.Elements.{All-head, All-tail}
 use Rattle.cell_num.specs.Fingers.{sum_below}
 use Rattle.cell_num.proofs.Pairs.{pairs_head, pairs_tail}
 use Rattle.cell_num.proofs.Permutations.{count_cons}
-use Rattle.row_state.specs.Component.{size_in}
+use Rattle.row_trails.specs.Counts.{size_in}
+use Rattle.row_trails.specs.Trails.{size, size_same}
 use Rattle.row_state.specs.Gates.{sum_below_same}
-use Rattle.row_state.specs.Trails.{size, size_same}
 
 one_if : (b : Bool) → b ≡ true → ◌≡◌ {A = ℕ} (if b then 1 else 0) 1
 one_if b e = rw e refl

@@ -1,10 +1,10 @@
 use Rattle.std.proofs.Common.{rules, ◌-◌, ap, arith, refl, sym, ◌∙◌, ◌≡◌, ◌<◌, drop, get_or}
+use Rattle.row_trails.specs.Counts.{entry}
 use Rattle.row_state.specs.Completion.{fingers_left}
 use Rattle.row_state.specs.Component.{has_finger}
 use Rattle.row_state.specs.declared.kind.Kind.{Kind}
 use Rattle.row_state.proofs.ComponentCode.{fingers_skip, met_more, none_behind}
 use Rattle.row_state.proofs.ParityCode.{none_set}
-use Rattle.row_state.specs.Tests.{entry}
 use Rattle.row_state.proofs.component.met_classes.Goals as goal
 
 pub loop-at-init : goal.loop-at-init

@@ -1,8 +1,8 @@
 use Rattle.std.proofs.Common.{ℕ, ◌≡◌, false, drop, get_or, length}
 use Rattle.cell_num.specs.declared.finger.Row.{Row}
+use Rattle.row_trails.specs.Counts.{entry}
 use Rattle.row_state.specs.Completion.{fingers_left}
 use Rattle.row_state.specs.Component.{has_finger}
-use Rattle.row_state.specs.Tests.{entry}
 use Rattle.row_state.proofs.component.met_classes.Given as goal
 
 abbrev pub invariant-loop-at : goal.invariant-loop-at

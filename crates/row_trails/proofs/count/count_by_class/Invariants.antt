@@ -1,7 +1,6 @@
 use Rattle.std.proofs.Common.{ℕ, ◌≡◌, get_or, length}
-use Rattle.row_state.specs.Component.{size_in}
-use Rattle.row_state.specs.Tests.{entry, flag}
-use Rattle.row_state.proofs.component.count_by_class.Given as goal
+use Rattle.row_trails.specs.Counts.{entry, flag, size_in}
+use Rattle.row_trails.proofs.count.count_by_class.Given as goal
 
 abbrev pub invariant-loop-net : goal.invariant-loop-net
 invariant-loop-net l =

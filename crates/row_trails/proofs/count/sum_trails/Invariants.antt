@@ -1,8 +1,7 @@
 use Rattle.std.proofs.Common.{◌≡◌, ◌≤◌, ◌*◌}
 use Rattle.cell_num.specs.Fingers.{sum_below}
-use Rattle.row_state.specs.Tests.{entry, flag}
-use Rattle.row_state.specs.Component.{fewest_trails}
-use Rattle.row_state.proofs.component.sum_trails.Given as goal
+use Rattle.row_trails.specs.Counts.{entry, fewest_trails, flag}
+use Rattle.row_trails.proofs.count.sum_trails.Given as goal
 
 abbrev pub invariant-loop-class : goal.invariant-loop-class
 invariant-loop-class l =

@@ -1,7 +1,7 @@
 use Rattle.std.proofs.Common.{arith, refl, get_or}
-use Rattle.row_state.proofs.ComponentCode.{none_counted, size_in_le}
-use Rattle.row_state.specs.Tests.{entry, flag}
-use Rattle.row_state.proofs.component.count_by_class.Goals as goal
+use Rattle.row_trails.specs.Counts.{entry, flag}
+use Rattle.row_trails.proofs.Sets.{none_counted, size_in_le}
+use Rattle.row_trails.proofs.count.count_by_class.Goals as goal
 
 pub loop-net-init : goal.loop-net-init
 loop-net-init c = (refl, λ h. none_counted 256 h)
