@@ -5,7 +5,8 @@ ghost use Rattle.trail_check.specs.Listed.{is_listed, lemma_listed, name_of, nod
 use cell_num::{List, NoMemory};
 use std::alloc::{AllocError, Global};
 use trail_log::{Class, LemmaLine, NetPair};
-use trail_state::{Level, Node, Place, TrailState};
+use trail_state::Level;
+use trail_step::{Node, Place, TrailState};
 
 /// From the state behind the first `done` gates on, at least `bound` more ends of trails come.
 #[derive(Debug, Drop)]

@@ -1,10 +1,10 @@
 -- What is certain once a gate is done: ends at nodes that no later gate can meet, and classes without other nodes.
 use Rattle.std.specs.Prelude.{ℕ, ◌+◌, ◌*◌, Bool, not, ◌||◌, ◌&&◌, ◌==◌, List, map, find, unwrap_or, option_map, count_by}
 use Rattle.std.specs.List.{filter, list_any}
-use Rattle.trail_state.specs.declared.edge.Node.{Node}
-use Rattle.trail_state.specs.declared.edge.Edge.{Edge}
-use Rattle.trail_state.specs.declared.state.Place.{Place}
-use Rattle.trail_state.specs.Places.{with_edges}
+use Rattle.trail_step.specs.declared.edge.Node.{Node}
+use Rattle.trail_step.specs.declared.edge.Edge.{Edge}
+use Rattle.trail_step.specs.declared.state.Place.{Place}
+use Rattle.trail_step.specs.Places.{with_edges}
 
 -- a later gate can meet the node
 abbrev pub is_open : List Node → ℕ → Bool

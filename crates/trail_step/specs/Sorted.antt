@@ -2,7 +2,7 @@
 use Rattle.std.proofs.Common.{Bool, not, ltb, List, ◌∷◌, ◌++◌, refl, IsPermutation, ◌||◌, ◌&&◌, ◌==◌}
 use Rattle.std.specs.List.{filter}
 use Rattle.std.proofs.lemmas.List.Sorted.{IsPermutation-cons, IsPermutation-filter_both, IsPermutation-middle, IsPermutation-sym, IsPermutation-trans}
-use Rattle.trail_state.specs.declared.edge.Edge.{Edge}
+use Rattle.trail_step.specs.declared.edge.Edge.{Edge}
 
 -- by the lower node, then by the higher one
 abbrev pub is_below : Edge → Edge → Bool

@@ -1,8 +1,7 @@
 ghost use Rattle.std.specs.Prelude.{◌≡◌, ◌<◌, ◌++◌, IfOk, OnOk, All, map, not};
 ghost use Rattle.std.specs.List.{filter};
-ghost use Rattle.trail_state.specs.Choices.{edge_between, edge_of};
-ghost use Rattle.trail_state.specs.Pairings.{HasSmallEnds, n_edges, p_edges, pair_edges, with_each};
-ghost use Rattle.trail_state.specs.Sorted.{inserted, is_below};
+ghost use Rattle.trail_step.specs.Edges.{edge_between, edge_of, n_edges, p_edges, pair_edges, with_each, HasSmallEnds};
+ghost use Rattle.trail_step.specs.Sorted.{inserted, is_below};
 
 use crate::{Choice, Edge, Node};
 use cell_num::{Finger, List, NoMemory};
@@ -88,8 +87,8 @@ fn add_with(
     Ok(())
 }
 
-// Adds each of the lists with each of the edges.
-pub(crate) fn add_each(
+/// Adds each of the lists with each of the edges in its place, all of the first edge first.
+pub fn add_each(
     alloc: Global,
     all: &mut List<Choice>,
     edges: &[Edge],
@@ -103,7 +102,8 @@ pub(crate) fn add_each(
     Ok(())
 }
 
-pub(crate) fn pair(x: &Finger, y: &Finger) -> [Edge; 2]
+/// The edges of a column of a P and an N finger: turned alike, or not.
+pub fn pair(x: &Finger, y: &Finger) -> [Edge; 2]
     requires x { HasSmallEnds x.now }
     requires y { HasSmallEnds y.now }
     ensures { result ≡ pair_edges x.now y.now }
@@ -127,8 +127,8 @@ fn add_p(all: &mut Vec<Edge>, nets: &[u32], x: &Finger, left: u32) -> Result<(),
     Ok(())
 }
 
-// The edges of a P finger that stands alone.
-pub(crate) fn p_alone(alloc: Global, nets: &[u32], x: &Finger) -> Result<Vec<Edge>, AllocError>
+/// The edges of a P finger that stands alone: its empty place has each two of the nets.
+pub fn p_alone(alloc: Global, nets: &[u32], x: &Finger) -> Result<Vec<Edge>, AllocError>
     requires nets { All (λ net. net < 256) nets.now }
     requires x { HasSmallEnds x.now }
     ensures { IfOk result (λ all. all.items ≡ p_edges nets.now x.now) }
@@ -153,8 +153,8 @@ fn add_n(all: &mut Vec<Edge>, nets: &[u32], y: &Finger, left: u32) -> Result<(),
     Ok(())
 }
 
-// The edges of an N finger that stands alone.
-pub(crate) fn n_alone(alloc: Global, nets: &[u32], y: &Finger) -> Result<Vec<Edge>, AllocError>
+/// The edges of an N finger that stands alone: its empty place has each two of the nets.
+pub fn n_alone(alloc: Global, nets: &[u32], y: &Finger) -> Result<Vec<Edge>, AllocError>
     requires nets { All (λ net. net < 256) nets.now }
     requires y { HasSmallEnds y.now }
     ensures { IfOk result (λ all. all.items ≡ n_edges nets.now y.now) }

@@ -1,9 +1,9 @@
 use Rattle.std.proofs.Common.{rules, ◌≡◌, ◌≤◌, List, length, sym, ap, subst, ◌∙◌}
-use Rattle.trail_state.specs.declared.state.Place.{Place}
-use Rattle.trail_state.specs.Places.{with_edges}
-use Rattle.trail_state.specs.Settling.{closing_of, ends_settled, kept_of}
-use Rattle.trail_state.proofs.Few.{closing_few}
-use Rattle.trail_state.proofs.settle.after.Goals as goal
+use Rattle.trail_step.specs.declared.state.Place.{Place}
+use Rattle.trail_step.specs.Places.{with_edges}
+use Rattle.trail_step.specs.Settling.{closing_of, ends_settled, kept_of}
+use Rattle.trail_step.proofs.Few.{closing_few}
+use Rattle.trail_step.proofs.settle.after.Goals as goal
 
 pub count_ends-ends-requires : goal.count_ends-ends-requires
 count_ends-ends-requires c =

@@ -1,5 +1,5 @@
 ghost use Rattle.std.specs.Prelude.{◌≡◌, ◌||◌, ◌==◌};
-ghost use Rattle.trail_state.specs.Places.{is_end};
+ghost use Rattle.trail_step.specs.Places.{is_end};
 
 use cell_num::List;
 

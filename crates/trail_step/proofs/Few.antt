@@ -3,11 +3,11 @@ use Rattle.std.proofs.Common.{◌≡◌, ◌+◌, ◌≤◌, List, [], ◌∷◌
 use Rattle.std.specs.List.{cons_option, filter_map}
 use Rattle.std.proofs.lemmas.List.{length-map}
 use Rattle.std.proofs.lemmas.List.Sums.{count_by-le-length, length-filter}
-use Rattle.trail_state.specs.declared.edge.Node.{Node}
-use Rattle.trail_state.specs.declared.edge.Edge.{Edge}
-use Rattle.trail_state.specs.declared.state.Place.{Place}
-use Rattle.trail_state.specs.Places.{joined_place, met_place, met_places, place_or_new, with_edge, with_edges}
-use Rattle.trail_state.specs.Settling.{closing_of, is_closed_trail, is_open}
+use Rattle.trail_step.specs.declared.edge.Node.{Node}
+use Rattle.trail_step.specs.declared.edge.Edge.{Edge}
+use Rattle.trail_step.specs.declared.state.Place.{Place}
+use Rattle.trail_step.specs.Places.{joined_place, met_place, met_places, place_or_new, with_edge, with_edges}
+use Rattle.trail_step.specs.Settling.{closing_of, is_closed_trail, is_open}
 
 few_kept : {X Y : Type 0} (h : X → Option Y) (xs : List X) → length (filter_map h xs) ≤ length xs
 few_kept h [] = omega arith

@@ -1,9 +1,9 @@
 -- The places that the edges so far meet: the classes that edges chain, and the nodes that an odd number of ends meet.
 use Rattle.std.specs.Prelude.{ℕ, Bool, true, false, not, ◌||◌, ◌==◌, if◌then◌else◌, min, List, Option, Some, None, map, find, fold, unwrap_or}
 use Rattle.std.specs.List.{filter_map, list_any}
-use Rattle.trail_state.specs.declared.edge.Node.{Node}
-use Rattle.trail_state.specs.declared.edge.Edge.{Edge}
-use Rattle.trail_state.specs.declared.state.Place.{Place}
+use Rattle.trail_step.specs.declared.edge.Node.{Node}
+use Rattle.trail_step.specs.declared.edge.Edge.{Edge}
+use Rattle.trail_step.specs.declared.state.Place.{Place}
 
 abbrev pub node_at : ℕ → Node
 node_at v = record { 0 = v }
