@@ -14,18 +14,19 @@ use Rattle.row_state.specs.declared.step.Side.{Side}
 use Rattle.row_state.specs.Start.{AreSomeKinds, IsState, counts_of}
 use Rattle.row_state.specs.Tests.{gate_left, left_of_kind}
 use Rattle.row_state.proofs.Valid.{gates_few, kinds_few, state_decides}
+use Rattle.log_lines.specs.Words.{is_word, number_below, parts_at, words_in}
+use Rattle.log_lines.proofs.Decimals.{above_decimal}
+use Rattle.log_lines.proofs.Numbers.{is_below, is_other}
+use Rattle.log_lines.proofs.Splits.{IsAbove, Lacks, above_lacks, above_more, joined_lacks, split_joined}
 use Rattle.bound_log.specs.declared.log.Rule.{Rule}
 use Rattle.bound_log.specs.declared.log.Rule.TheVariants as by
 use Rattle.bound_log.specs.declared.log.Lemma.{Lemma}
 use Rattle.bound_log.specs.declared.log.LogStep.{LogStep}
 use Rattle.bound_log.specs.declared.log.Entry.TheVariants as entry
 use Rattle.bound_log.specs.Fits.{IsFilled, LemmaFits, SideFits, StepFits}
-use Rattle.bound_log.specs.Line.{counts_each, counts_in, end_in, entry_in, flip_in, is_word, column_in, number_below, parts_at, rule_in, side_in, state_in, words_in}
+use Rattle.bound_log.specs.Line.{counts_each, counts_in, end_in, entry_in, flip_in, column_in, rule_in, side_in, state_in}
 use Rattle.bound_log.specs.Text.{counts_text, end_text, flip_text, rule_text}
-use Rattle.bound_log.proofs.Decimals.{above_decimal}
-use Rattle.bound_log.proofs.Numbers.{is_below, is_other}
 use Rattle.bound_log.proofs.Spelled.{column_words, lemma_words, side_words}
-use Rattle.bound_log.proofs.Splits.{IsAbove, Lacks, above_lacks, above_more, joined_lacks, split_joined}
 
 -- ---- the bytes of words
 

@@ -8,9 +8,10 @@ use Rattle.row_state.specs.declared.kind.Kind.{Kind}
 use Rattle.row_state.specs.declared.kind.Kinds.{Kinds}
 use Rattle.row_state.specs.Start.{AreSomeKinds}
 use Rattle.row_state.proofs.Valid.{gates_few}
-use Rattle.bound_log.specs.Line.{◌>>=◌, FewOfEach, counts_each, number_below, parts_at, parts_left}
+use Rattle.log_lines.specs.Words.{number_below, parts_at, parts_left}
+use Rattle.log_lines.proofs.Parts.{some_part}
+use Rattle.bound_log.specs.Line.{◌>>=◌, FewOfEach, counts_each}
 use Rattle.bound_log.proofs.Again.{few_each}
-use Rattle.bound_log.proofs.Parts.{some_part}
 
 abbrev pub with_front : {X : Type 0} → List X → Option (List X) → Option (List X)
 with_front front None = None

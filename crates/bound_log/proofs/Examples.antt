@@ -4,12 +4,14 @@ use Rattle.std.proofs.Common.{refl}
 use Rattle.std.specs.Fmt.{digits}
 use Rattle.row_state.specs.declared.kind.Kind.{Kind}
 use Rattle.row_state.specs.declared.kind.Kinds.{Kinds}
+use Rattle.log_lines.specs.Words.{number_below}
+use Rattle.log_lines.specs.Lines.{behind, lines_in}
 use Rattle.bound_log.specs.declared.fault.LogFault.TheVariants as fault
 use Rattle.bound_log.specs.declared.log.Rule.TheVariants as by
 use Rattle.bound_log.specs.declared.log.LogStep.{LogStep}
 use Rattle.bound_log.specs.declared.log.Log.{Log}
-use Rattle.bound_log.specs.Line.{number_below, version_in}
-use Rattle.bound_log.specs.Reading.{behind, columns_at, lines_in, log_at, log_of}
+use Rattle.bound_log.specs.Line.{version_in}
+use Rattle.bound_log.specs.Reading.{columns_at, log_at, log_of}
 use Rattle.bound_log.specs.Text.{log_text}
 
 abbrev kind : ℕ → ℕ → ℕ → ℕ → Kind

@@ -4,13 +4,14 @@ use Rattle.std.proofs.Common.{refl, sym, ap, ◌∙◌}
 use Rattle.std.proofs.lemmas.List.{append-nil, append_assoc}
 use Rattle.cell_num.specs.Steps.{◌>>=◌}
 use Rattle.row_state.specs.declared.kind.Kinds.{Kinds}
+use Rattle.log_lines.specs.Words.{is_word, words_in}
 use Rattle.bound_log.specs.declared.fault.LogFault.{LogFault}
 use Rattle.bound_log.specs.declared.fault.LogFault.TheVariants as fault
 use Rattle.bound_log.specs.declared.log.Lemma.{Lemma}
 use Rattle.bound_log.specs.declared.log.LogStep.{LogStep}
 use Rattle.bound_log.specs.declared.log.Log.{Log}
 use Rattle.bound_log.specs.declared.log.Entry.TheVariants as entry
-use Rattle.bound_log.specs.Line.{entry_in, is_word, column_in, words_in}
+use Rattle.bound_log.specs.Line.{entry_in, column_in}
 use Rattle.bound_log.specs.Reading.{columns_at, end_at, log_at}
 
 -- ---- columns

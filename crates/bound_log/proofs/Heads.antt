@@ -3,6 +3,7 @@ use Rattle.std.specs.Prelude.{ℕ, ◌≡◌, Bool, true, false, List, Option, S
 use Rattle.std.proofs.Common.{refl, subst, sym, ◌∙◌}
 use Rattle.row_state.specs.declared.kind.Kinds.{Kinds}
 use Rattle.row_state.specs.Start.{AreSomeKinds}
+use Rattle.log_lines.specs.Words.{is_word, words_in}
 use Rattle.bound_log.specs.declared.fault.LogFault.{LogFault}
 use Rattle.bound_log.specs.declared.fault.LogFault.TheVariants as fault
 use Rattle.bound_log.specs.declared.item.LogItem.{LogItem}
@@ -15,7 +16,7 @@ use Rattle.bound_log.specs.declared.log.Entry.TheVariants as entry
 use Rattle.bound_log.specs.declared.said.Said.{Said}
 use Rattle.bound_log.specs.declared.log.Lemma.{Lemma}
 use Rattle.bound_log.specs.Fits.{LemmaFits}
-use Rattle.bound_log.specs.Line.{column_in, entry_in, is_word, version_in, words_in}
+use Rattle.bound_log.specs.Line.{column_in, entry_in, version_in}
 use Rattle.bound_log.specs.Pieces.{ItemFits, PlaceFits, SaidFits, column_says, columns_say, end_said, entry_said, entry_says, line_says, said_if, version_says}
 use Rattle.bound_log.proofs.Only.{EntrySpelled, entry_spelled, err-ok, same_Ok}
 use Rattle.bound_log.proofs.Versions.{version_spelled}

@@ -11,6 +11,11 @@ use Rattle.row_state.specs.declared.kind.Kinds.{Kinds}
 use Rattle.row_state.specs.declared.step.Side.{Side}
 use Rattle.row_state.specs.Start.{AreSomeKinds, IsState}
 use Rattle.row_state.proofs.Valid.{gates_few, kinds_few}
+use Rattle.log_lines.specs.Words.{parts_at, words_in}
+use Rattle.log_lines.specs.Lines.{lines_in}
+use Rattle.log_lines.proofs.Decimals.{decimal_one}
+use Rattle.log_lines.proofs.Names.{same_behind}
+use Rattle.log_lines.proofs.Splits.{IsAbove, Lacks, fed}
 use Rattle.bound_log.specs.declared.fault.LogFault.{LogFault}
 use Rattle.bound_log.specs.declared.log.Rule.{Rule}
 use Rattle.bound_log.specs.declared.log.Lemma.{Lemma}
@@ -18,15 +23,12 @@ use Rattle.bound_log.specs.declared.log.LogStep.{LogStep}
 use Rattle.bound_log.specs.declared.log.Best.{Best}
 use Rattle.bound_log.specs.declared.log.Log.{Log}
 use Rattle.bound_log.specs.Fits.{BestFits, Fits, LemmaFits, SideFits, StepFits}
-use Rattle.bound_log.specs.Line.{flip_in, parts_at, rule_in, words_in}
-use Rattle.bound_log.specs.Reading.{lines_in, log_of}
+use Rattle.bound_log.specs.Line.{flip_in, rule_in}
+use Rattle.bound_log.specs.Reading.{log_of}
 use Rattle.bound_log.specs.Text.{best_text, column_line, counts_text, end_text, flip_text, lemma_line, log_text, rule_text, version_line}
 use Rattle.bound_log.proofs.Again.{column_above, column_words_are, counts_parts, few_counts, few_each, flip_again, flip_word, kind_word, lemma_above, not_dash, rule_again, words_again, words_lack}
-use Rattle.bound_log.proofs.Decimals.{decimal_one}
-use Rattle.bound_log.proofs.Names.{same_behind}
 use Rattle.bound_log.proofs.Only.{read_only}
 use Rattle.bound_log.proofs.Spelled.{column_words, cons_same, lemma_words}
-use Rattle.bound_log.proofs.Splits.{IsAbove, Lacks, fed}
 use Rattle.bound_log.proofs.Versions.{version_lacks, version_one}
 use Rattle.bound_log.proofs.Whole.{columns_front, fed_first, gaps_above, gaps_front, lemmas_front}
 

@@ -12,6 +12,10 @@ use Rattle.row_state.specs.declared.kind.Kinds.{Kinds}
 use Rattle.row_state.specs.declared.step.Side.{Side}
 use Rattle.row_state.specs.Start.{AreSomeKinds}
 use Rattle.row_state.specs.Versions.{IsVersion}
+use Rattle.log_lines.specs.Words.{is_word, words_in}
+use Rattle.log_lines.specs.Lines.{behind, lines_in}
+use Rattle.log_lines.proofs.Numbers.{chosen, found_below, same_words}
+use Rattle.log_lines.proofs.Splits.{bytes_again, fed, lines_text}
 use Rattle.bound_log.specs.declared.fault.LogFault.TheVariants as fault
 use Rattle.bound_log.specs.declared.log.Lemma.{Lemma}
 use Rattle.bound_log.specs.declared.log.LogStep.{LogStep}
@@ -19,12 +23,10 @@ use Rattle.bound_log.specs.declared.log.Log.{Log}
 use Rattle.bound_log.specs.declared.log.Entry.{Entry}
 use Rattle.bound_log.specs.declared.log.Entry.TheVariants as entry
 use Rattle.bound_log.specs.Fits.{Fits, LemmaFits, StepFits}
-use Rattle.bound_log.specs.Line.{entry_in, gaps_in, is_word, lemma_in, column_in, version_in, words_in}
-use Rattle.bound_log.specs.Reading.{begun_by, behind, columns_at, end_at, lines_in, log_at, log_of, named_at, text_at}
+use Rattle.bound_log.specs.Line.{entry_in, gaps_in, lemma_in, column_in, version_in}
+use Rattle.bound_log.specs.Reading.{begun_by, columns_at, end_at, log_at, log_of, named_at, text_at}
 use Rattle.bound_log.specs.Text.{best_text, column_line, lemma_line, log_text, version_line}
-use Rattle.bound_log.proofs.Numbers.{chosen, found_below, same_words}
 use Rattle.bound_log.proofs.Spelled.{column_joined, step_spelled, column_words, cons_same, is_provided, lemma_joined, lemma_spelled, lemma_words, mapped, side_words}
-use Rattle.bound_log.proofs.Splits.{bytes_again, fed, lines_text}
 use Rattle.bound_log.proofs.Versions.{version_spelled}
 
 pub err-ok : {A E : Type 0} (e : E) (a : A) → ◌≡◌ {A = Result A E} (Err e) (Ok a) → ⊥

@@ -7,6 +7,9 @@ use Rattle.std.proofs.lemmas.List.Elements.{All-head, All-tail}
 use Rattle.cell_num.specs.Steps.{◌>>=◌, require, or_fault}
 use Rattle.row_state.specs.declared.kind.Kinds.{Kinds}
 use Rattle.row_state.specs.Start.{AreSomeKinds}
+use Rattle.log_lines.specs.Words.{is_word, words_in}
+use Rattle.log_lines.specs.Lines.{behind, lines_in}
+use Rattle.log_lines.proofs.Splits.{Lacks, behind_lacks, bytes_again, fed, lines_lack, lines_text}
 use Rattle.bound_log.specs.declared.fault.LogFault.{LogFault}
 use Rattle.bound_log.specs.declared.fault.LogFault.TheVariants as fault
 use Rattle.bound_log.specs.declared.item.LogItem.{LogItem}
@@ -17,11 +20,10 @@ use Rattle.bound_log.specs.declared.log.Log.{Log}
 use Rattle.bound_log.specs.declared.log.Entry.{Entry}
 use Rattle.bound_log.specs.declared.log.Entry.TheVariants as entry
 use Rattle.bound_log.specs.Fits.{IsLogName}
-use Rattle.bound_log.specs.Line.{column_in, entry_in, is_word, version_in, words_in}
+use Rattle.bound_log.specs.Line.{column_in, entry_in, version_in}
 use Rattle.bound_log.specs.Pieces.{begun, column_says, columns_told, entry_says, line_tale, log_read, log_told, said_if, tale_of, then_tale, version_says, with_version}
-use Rattle.bound_log.specs.Reading.{begun_by, behind, columns_at, end_at, lines_in, log_at, log_of, named_at, text_at}
+use Rattle.bound_log.specs.Reading.{begun_by, columns_at, end_at, log_at, log_of, named_at, text_at}
 use Rattle.bound_log.proofs.Only.{text_cons}
-use Rattle.bound_log.proofs.Splits.{Lacks, behind_lacks, bytes_again, fed, lines_lack, lines_text}
 use Rattle.bound_log.proofs.Tales.{is_behind}
 use Rattle.bound_log.proofs.Told.{ahead, at_line, cut, ended_more, read_as, wrong}
 

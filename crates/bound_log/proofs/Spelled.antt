@@ -15,15 +15,16 @@ use Rattle.row_state.specs.declared.step.Side.{Side}
 use Rattle.row_state.specs.Start.{AreSomeKinds}
 use Rattle.row_state.specs.Tests.{state_test}
 use Rattle.row_state.proofs.Valid.{state_decides}
+use Rattle.log_lines.specs.Words.{is_word, number_below, parts_at}
+use Rattle.log_lines.proofs.Numbers.{chosen, found_below, same_words}
+use Rattle.log_lines.proofs.Splits.{fed}
 use Rattle.bound_log.specs.declared.log.Rule.{Rule}
 use Rattle.bound_log.specs.declared.log.Rule.TheVariants as by
 use Rattle.bound_log.specs.declared.log.Lemma.{Lemma}
 use Rattle.bound_log.specs.declared.log.LogStep.{LogStep}
 use Rattle.bound_log.specs.Fits.{IsFilled, LemmaFits, SideFits, StepFits}
-use Rattle.bound_log.specs.Line.{◌>>=◌, step_in, counts_each, counts_in, end_in, flip_in, is_word, lemma_in, number_below, parts_at, place_in, provided, rule_in, side_in, state_in}
+use Rattle.bound_log.specs.Line.{◌>>=◌, step_in, counts_each, counts_in, end_in, flip_in, lemma_in, place_in, provided, rule_in, side_in, state_in}
 use Rattle.bound_log.specs.Text.{column_line, counts_text, end_text, flip_text, lemma_line, rule_text, side_text}
-use Rattle.bound_log.proofs.Numbers.{chosen, found_below, same_words}
-use Rattle.bound_log.proofs.Splits.{fed}
 
 pub bound : {A B : Type 0} (o : Option A) (f : A → Option B) (b : B) → (o >>= f) ≡ Some b → (a : A) × (o ≡ Some a) × (f a ≡ Some b)
 bound None f b h = absurd (none-some b h)

@@ -9,8 +9,9 @@ use Rattle.row_state.specs.declared.kind.Kind.{Kind}
 use Rattle.row_state.specs.declared.kind.Kinds.{Kinds}
 use Rattle.row_state.specs.declared.state.State.{State}
 use Rattle.row_state.specs.Tests.{counts_fit, end_fits, leads_below, state_test}
-use Rattle.bound_log.specs.Line.{◌>>=◌, counts_each, counts_in, end_in, is_word, number_below, parts_at}
-use Rattle.bound_log.proofs.Numbers.{found_below}
+use Rattle.log_lines.specs.Words.{is_word, number_below, parts_at}
+use Rattle.log_lines.proofs.Numbers.{found_below}
+use Rattle.bound_log.specs.Line.{◌>>=◌, counts_each, counts_in, end_in}
 
 one_fits : (kind : Kind) (kinds : List Kind) (count : ℕ) (counts : List ℕ) → count < kind.count + 1 → counts_fit kinds counts ≡ true → counts_fit (kind ∷ kinds) (count ∷ counts) ≡ true
 one_fits kind kinds count counts below fits =

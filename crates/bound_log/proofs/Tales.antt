@@ -8,6 +8,8 @@ use Rattle.std.proofs.lemmas.List.{append-nil, append_assoc, get_or-take, length
 use Rattle.std.proofs.lemmas.List.Elements.{All-from_get_or, All-head, All-tail}
 use Rattle.std.proofs.lemmas.List.Sums.{fails_before_first, passes_at_first}
 use Rattle.std.proofs.lemmas.Option.{cond_some, none-some}
+use Rattle.log_lines.specs.Fronts.{IsShort, longer}
+use Rattle.log_lines.proofs.Splits.{Lacks}
 use Rattle.bound_log.specs.declared.fault.LogFault.{LogFault}
 use Rattle.bound_log.specs.declared.fault.LogFault.TheVariants as fault
 use Rattle.bound_log.specs.declared.item.LogItem.{LogItem}
@@ -15,8 +17,7 @@ use Rattle.bound_log.specs.declared.item.LogItem.TheVariants as item
 use Rattle.bound_log.specs.declared.item.LogPlace.{LogPlace}
 use Rattle.bound_log.specs.declared.item.LogPlace.TheVariants as place
 use Rattle.bound_log.specs.declared.said.Said.{Said}
-use Rattle.bound_log.specs.Pieces.{IsShort, Reader, Tale, behind_line, byte_tale, line_bytes, line_tale, longer, next_tale, refused, tale_of, then_tale, told, whole_says, with_line}
-use Rattle.bound_log.proofs.Splits.{Lacks}
+use Rattle.bound_log.specs.Pieces.{Reader, Tale, behind_line, byte_tale, line_bytes, line_tale, next_tale, refused, tale_of, then_tale, told, whole_says, with_line}
 
 abbrev pub no_more : Reader → Tale
 no_more r = record { items = []; reader = r }

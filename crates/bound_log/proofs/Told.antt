@@ -9,6 +9,10 @@ use Rattle.cell_num.specs.Steps.{◌>>=◌}
 use Rattle.row_state.specs.declared.kind.Kinds.{Kinds}
 use Rattle.row_state.specs.Start.{AreSomeKinds}
 use Rattle.row_state.specs.Versions.{IsVersion}
+use Rattle.log_lines.specs.Words.{is_word, words_in}
+use Rattle.log_lines.specs.Fronts.{longer}
+use Rattle.log_lines.proofs.Numbers.{is_other}
+use Rattle.log_lines.proofs.Splits.{Lacks, fed}
 use Rattle.bound_log.specs.declared.fault.LogFault.{LogFault}
 use Rattle.bound_log.specs.declared.fault.LogFault.TheVariants as fault
 use Rattle.bound_log.specs.declared.item.LogItem.{LogItem}
@@ -18,14 +22,12 @@ use Rattle.bound_log.specs.declared.log.LogStep.{LogStep}
 use Rattle.bound_log.specs.declared.log.Entry.{Entry}
 use Rattle.bound_log.specs.declared.log.Entry.TheVariants as entry
 use Rattle.bound_log.specs.Fits.{IsLogName}
-use Rattle.bound_log.specs.Line.{column_in, entry_in, is_word, words_in}
-use Rattle.bound_log.specs.Pieces.{Reader, Tale, ended, line_says, line_tale, longer, refused, tale_of, then_tale, whole_says, wrong_at}
+use Rattle.bound_log.specs.Line.{column_in, entry_in}
+use Rattle.bound_log.specs.Pieces.{Reader, Tale, ended, line_says, line_tale, refused, tale_of, then_tale, whole_says, wrong_at}
 use Rattle.bound_log.specs.Text.{gaps_line, version_line}
 use Rattle.bound_log.proofs.Lengths.{column_short, gaps_short, lemma_short}
-use Rattle.bound_log.proofs.Numbers.{is_other}
 use Rattle.bound_log.proofs.Only.{EntrySpelled, column_spelled, entry_spelled, line_of_words}
 use Rattle.bound_log.proofs.Spelled.{column_joined, lemma_joined}
-use Rattle.bound_log.proofs.Splits.{Lacks, fed}
 use Rattle.bound_log.proofs.Tales.{feeds, quiet, stays, tale_append}
 use Rattle.bound_log.proofs.Versions.{version_missing, version_small}
 

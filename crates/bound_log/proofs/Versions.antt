@@ -5,13 +5,14 @@ use Rattle.std.proofs.lemmas.List.Elements.{All-append}
 use Rattle.std.proofs.lemmas.Option.{none-some, same_Some}
 use Rattle.row_state.specs.declared.bound.TheConstants.{PARITY_LOG, COMPONENT_LOG}
 use Rattle.row_state.specs.Versions.{IsVersion}
-use Rattle.bound_log.specs.Line.{is_word, number_below, version_in}
+use Rattle.log_lines.specs.Words.{is_word, number_below}
+use Rattle.log_lines.proofs.Decimals.{above_decimal, decimal_one}
+use Rattle.log_lines.proofs.Names.{same_behind}
+use Rattle.log_lines.proofs.Numbers.{chosen, found_below, is_below, is_other, is_same, same_words}
+use Rattle.log_lines.proofs.Splits.{Lacks, above_lacks}
+use Rattle.bound_log.specs.Line.{version_in}
 use Rattle.bound_log.specs.Text.{version_line}
 use Rattle.bound_log.proofs.Again.{by_test}
-use Rattle.bound_log.proofs.Decimals.{above_decimal, decimal_one}
-use Rattle.bound_log.proofs.Names.{same_behind}
-use Rattle.bound_log.proofs.Numbers.{chosen, found_below, is_below, is_other, is_same, same_words}
-use Rattle.bound_log.proofs.Splits.{Lacks, above_lacks}
 
 pub version_small : (v : ℕ) → IsVersion v → v < 3
 version_small v known = elim known [ inl e ↦ omega (arith, e) | inr e ↦ omega (arith, e) ]

@@ -8,6 +8,11 @@ use Rattle.std.proofs.lemmas.List.Elements.{All-append, All-cons, All-head, All-
 use Rattle.row_state.specs.declared.kind.Kinds.{Kinds}
 use Rattle.row_state.specs.Start.{AreSomeKinds}
 use Rattle.row_state.specs.Versions.{IsVersion}
+use Rattle.log_lines.specs.Words.{is_word, words_in}
+use Rattle.log_lines.specs.Lines.{behind, lines_in}
+use Rattle.log_lines.proofs.Decimals.{above_decimal}
+use Rattle.log_lines.proofs.Numbers.{is_below, is_same}
+use Rattle.log_lines.proofs.Splits.{IsAbove, Lacks, above_lacks, above_more, fed, line_behind, line_first}
 use Rattle.bound_log.specs.declared.fault.LogFault.{LogFault}
 use Rattle.bound_log.specs.declared.log.Lemma.{Lemma}
 use Rattle.bound_log.specs.declared.log.LogStep.{LogStep}
@@ -16,15 +21,12 @@ use Rattle.bound_log.specs.declared.log.Log.{Log}
 use Rattle.bound_log.specs.declared.log.Entry.{Entry}
 use Rattle.bound_log.specs.declared.log.Entry.TheVariants as entry
 use Rattle.bound_log.specs.Fits.{BestFits, Fits, IsLogName, LemmaFits, StepFits}
-use Rattle.bound_log.specs.Line.{entry_in, is_word, column_in, words_in}
-use Rattle.bound_log.specs.Reading.{begun_by, behind, columns_at, end_at, lines_in, log_at, log_of, named_at, text_at}
+use Rattle.bound_log.specs.Line.{entry_in, column_in}
+use Rattle.bound_log.specs.Reading.{begun_by, columns_at, end_at, log_at, log_of, named_at, text_at}
 use Rattle.bound_log.specs.Text.{best_text, column_line, head_lines, lemma_line, log_text, version_line}
 use Rattle.bound_log.proofs.Again.{by_test, column_above, column_again, lemma_above, lemma_again, words_again, words_lack}
-use Rattle.bound_log.proofs.Decimals.{above_decimal}
-use Rattle.bound_log.proofs.Numbers.{is_below, is_same}
 use Rattle.bound_log.proofs.Only.{err-ok}
 use Rattle.bound_log.proofs.Spelled.{column_joined, column_words, lemma_joined, lemma_words}
-use Rattle.bound_log.proofs.Splits.{IsAbove, Lacks, above_lacks, above_more, fed, line_behind, line_first}
 use Rattle.bound_log.proofs.Versions.{version_found, version_lacks}
 
 column_step : (k : Kinds) (n : ℕ) (line : List ℕ) (lines : List (List ℕ)) (rest : List ℕ) (step : LogStep) (steps : List LogStep) → is_word line (codes "end") ≡ false → column_in k (words_in line) ≡ Some step → columns_at k (n + 1) lines rest ≡ Ok steps → columns_at k n (line ∷ lines) rest ≡ Ok (step ∷ steps)

@@ -1,9 +1,6 @@
 -- What one line of a log holds, by its words.
-use Rattle.std.specs.Prelude.{ℕ, Bool, true, false, ◌≤◌, ◌+◌, ◌||◌, ◌==◌, leb, All, List, [], ◌∷◌, Option, Some, None, length, find, codes, decimal, option_map, if◌then◌else◌}
-use Rattle.std.specs.Borrow.{Bor}
-use Rattle.std.specs.List.{slice_split, range_with_len}
+use Rattle.std.specs.Prelude.{ℕ, Bool, true, false, ◌≤◌, ◌+◌, ◌||◌, ◌==◌, leb, All, List, [], ◌∷◌, Option, Some, None, length, find, codes, option_map, if◌then◌else◌}
 use Rattle.std.specs.Option.{is_some}
-use Rattle.std.specs.Str.{bytes_eq}
 use Rattle.cell_num.specs.declared.net.NetNo.{NetNo}
 use Rattle.row_state.specs.declared.bound.TheConstants.{PARITY_LOG, COMPONENT_LOG}
 use Rattle.row_state.specs.declared.kind.Kind.{Kind}
@@ -11,6 +8,7 @@ use Rattle.row_state.specs.declared.kind.Kinds.{Kinds}
 use Rattle.row_state.specs.declared.state.State.{State}
 use Rattle.row_state.specs.declared.step.Side.{Side}
 use Rattle.row_state.specs.Tests.{state_test}
+use Rattle.log_lines.specs.Words.{is_word, number_below, parts_at}
 use Rattle.bound_log.specs.declared.log.Rule.{Rule}
 use Rattle.bound_log.specs.declared.log.Rule.TheVariants as by
 use Rattle.bound_log.specs.declared.log.Lemma.{Lemma}
@@ -29,27 +27,6 @@ None >>= f = None
 abbrev pub provided : Bool → Option (Unit {0})
 provided true = Some tt
 provided false = None
-
--- the words are alike
-abbrev pub is_word : List ℕ → List ℕ → Bool
-is_word word other = bytes_eq word other
-
--- the parts between one byte and the next of its kind
-abbrev pub parts_at : ℕ → List ℕ → List (List ℕ)
-parts_at byte text = slice_split (λ b. b == byte) text
-
--- the parts of what is left of a text, if anything is
-abbrev pub parts_left : ℕ → Option (Bor (List ℕ)) → List (List ℕ)
-parts_left byte None = []
-parts_left byte (Some text) = parts_at byte text.now
-
--- the words of a line, between its spaces
-abbrev pub words_in : List ℕ → List (List ℕ)
-words_in line = parts_at 32 line
-
--- the number below the limit of which the word is the decimal
-unfoldable pub number_below : ℕ → List ℕ → Option ℕ
-number_below limit word = find (λ n. is_word word (decimal n)) (range_with_len 0 limit)
 
 -- the version of which this is the first line of a log
 unfoldable pub version_in : List ℕ → Option ℕ

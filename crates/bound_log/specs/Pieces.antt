@@ -1,21 +1,22 @@
 -- A log read byte by byte: each line feed ends a line, which says one item.
-use Rattle.std.specs.Prelude.{ℕ, ◌+◌, ◌≤◌, IfSome, ◌==◌, leb, Bool, true, false, List, [], ◌∷◌, ◌++◌, Option, Some, None, Result, Ok, Err, length, codes, position, if◌then◌else◌}
+use Rattle.std.specs.Prelude.{ℕ, ◌+◌, ◌==◌, Bool, true, false, List, [], ◌∷◌, ◌++◌, Option, Some, None, Result, Ok, Err, length, codes, position, if◌then◌else◌}
 use Rattle.row_state.specs.declared.kind.Kinds.{Kinds}
 use Rattle.row_state.specs.Versions.{IsVersion}
+use Rattle.log_lines.specs.Fronts.{longer}
+use Rattle.log_lines.specs.Words.{is_word, words_in}
 use Rattle.bound_log.specs.declared.fault.LogFault.{LogFault}
 use Rattle.bound_log.specs.declared.fault.LogFault.TheVariants as fault
 use Rattle.bound_log.specs.declared.item.LogItem.{LogItem}
 use Rattle.bound_log.specs.declared.item.LogItem.TheVariants as item
 use Rattle.bound_log.specs.declared.item.LogPlace.{LogPlace}
 use Rattle.bound_log.specs.declared.item.LogPlace.TheVariants as place
-use Rattle.bound_log.specs.declared.out.TheConstants.{MOST_LINE_BYTES}
 use Rattle.bound_log.specs.declared.said.Said.{Said}
 use Rattle.bound_log.specs.declared.log.LogStep.{LogStep}
 use Rattle.bound_log.specs.declared.log.Log.{Log}
 use Rattle.bound_log.specs.declared.log.Entry.{Entry}
 use Rattle.bound_log.specs.declared.log.Entry.TheVariants as entry
 use Rattle.bound_log.specs.Fits.{LemmaFits}
-use Rattle.bound_log.specs.Line.{entry_in, is_word, column_in, version_in, words_in}
+use Rattle.bound_log.specs.Line.{entry_in, column_in, version_in}
 
 -- Where a reader of a log for this name and these kinds stands.
 pub record Reader : Type 0 where
@@ -95,15 +96,6 @@ wrong_at place.Behind n = fault.Line n
 abbrev pub whole_says : Reader → Option (List ℕ) → Result Said LogFault
 whole_says r (Some line) = line_says r.name r.kinds r.place r.number line
 whole_says r None = Err (wrong_at r.place r.number)
-
--- with some bytes more; a line of a log has only so many
-abbrev pub longer : Option (List ℕ) → List ℕ → Option (List ℕ)
-longer None part = None
-longer (Some line) part = if leb (length line + length part) MOST_LINE_BYTES then Some (line ++ part) else None
-
--- it holds no more than a line of a log can
-abbrev pub IsShort : Option (List ℕ) → Type 0
-IsShort line = IfSome line (λ bytes. length bytes ≤ MOST_LINE_BYTES)
 
 abbrev pub with_line : Reader → Option (List ℕ) → Reader
 with_line r line = record { name = r.name; kinds = r.kinds; place = r.place; number = r.number; line = line; fault = r.fault }

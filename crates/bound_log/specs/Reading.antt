@@ -2,31 +2,15 @@
 use Rattle.std.specs.Prelude.{ℕ, ◌+◌, ◌==◌, ◌&&◌, List, [], ◌∷◌, ◌++◌, Some, None, Result, Ok, Err, length, codes, if◌then◌else◌}
 use Rattle.cell_num.specs.Steps.{◌>>=◌, require, or_fault}
 use Rattle.row_state.specs.declared.kind.Kinds.{Kinds}
+use Rattle.log_lines.specs.Lines.{behind, lines_in}
+use Rattle.log_lines.specs.Words.{is_word, words_in}
 use Rattle.bound_log.specs.declared.fault.LogFault.{LogFault}
 use Rattle.bound_log.specs.declared.fault.LogFault.TheVariants as fault
 use Rattle.bound_log.specs.declared.log.LogStep.{LogStep}
 use Rattle.bound_log.specs.declared.log.Log.{Log}
 use Rattle.bound_log.specs.declared.log.Entry.{Entry}
 use Rattle.bound_log.specs.declared.log.Entry.TheVariants as entry
-use Rattle.bound_log.specs.Line.{entry_in, is_word, column_in, parts_at, version_in, words_in}
-
-abbrev pub without_last : List (List ℕ) → List (List ℕ)
-without_last [] = []
-without_last (part ∷ []) = []
-without_last (part ∷ next ∷ more) = part ∷ without_last (next ∷ more)
-
-abbrev pub last_of : List (List ℕ) → List ℕ
-last_of [] = []
-last_of (part ∷ []) = part
-last_of (part ∷ next ∷ more) = last_of (next ∷ more)
-
--- the whole lines: those that a line feed ends
-unfoldable pub lines_in : List ℕ → List (List ℕ)
-lines_in bytes = without_last (parts_at 10 bytes)
-
--- the bytes behind the last line feed
-unfoldable pub behind : List ℕ → List ℕ
-behind bytes = last_of (parts_at 10 bytes)
+use Rattle.bound_log.specs.Line.{entry_in, column_in, version_in}
 
 -- Below, line n is the first of the lines, and the rest are the bytes behind the last one.
 

@@ -1,9 +1,8 @@
 ghost use Rattle.std.specs.Prelude.{◌≡◌, ◌≢◌, ◌↔◌, ◌++◌, ℕ, IfSome, IfNone, IsTrue, List as Sequence, codes};
 ghost use Rattle.row_state.specs.Versions.{IsVersion};
-ghost use Rattle.bound_log.specs.Line.{is_word, version_in};
+ghost use Rattle.bound_log.specs.Line.{version_in};
 
-use crate::word::{is_word, number_below};
-use cell_num::Name;
+use log_lines::number_below;
 use row_state::{COMPONENT_LOG, PARITY_LOG};
 
 fn behind_log(line: &[u8]) -> Option<&[u8]>
@@ -34,22 +33,5 @@ pub(crate) fn version(line: &[u8]) -> Option<u32>
         Some(version)
     } else {
         None
-    }
-}
-
-fn behind_cell(line: &[u8]) -> Option<&[u8]>
-    ensures some { IfSome result (λ rest. line.now ≡ codes "cell " ++ rest.now) }
-    ensures none { IfNone result ((rest : Sequence ℕ) → line.now ≢ codes "cell " ++ rest) }
-{
-    line.strip_prefix(b"cell ")
-}
-
-#[tactic(auto, using(crate::proofs::Names::behind_front, crate::proofs::Names::no_front))]
-pub(crate) fn is_named(line: &[u8], name: &Name) -> bool
-    ensures { result ≡ is_word line.now (codes "cell " ++ name.now) }
-{
-    match behind_cell(line) {
-        Some(rest) => is_word(rest, name.as_slice()),
-        None => false,
     }
 }

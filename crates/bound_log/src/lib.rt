@@ -2,18 +2,17 @@
 #![tactic(auto)]
 
 mod fault;
+mod field;
 mod head;
 mod item;
 mod law;
 mod line;
-mod lines;
 mod log;
 mod out;
 mod read;
 mod reader;
 mod said;
 mod spell;
-mod word;
 mod write;
 mod writer;
 
@@ -21,8 +20,7 @@ pub use fault::LogFault;
 pub use item::{LogItem, LogPlace};
 pub use law::reads_in_pieces;
 pub use log::{Best, Entry, Lemma, LemmaList, Log, LogStep, LogSteps, MOST_GAPS, Rule};
-pub use out::MOST_LINE_BYTES;
-pub use read::read_log;
+pub use read::{read_columns, read_end, read_log};
 pub use reader::LogReader;
 pub use said::Said;
 pub use write::write_log;

@@ -1,10 +1,12 @@
 ghost use Rattle.std.specs.Prelude.{◌≡◌, [], IfOk, IsTrue, map};
 ghost use Rattle.row_state.specs.Tests.{counts_fit, end_fits, state_test};
-ghost use Rattle.bound_log.specs.Line.{FewOfEach, column_in, counts_each, counts_in, entry_in, gaps_in, lemma_in, parts_at, state_in, step_in, words_in};
+ghost use Rattle.log_lines.specs.Words.{parts_at, words_in};
+ghost use Rattle.bound_log.specs.Line.{FewOfEach, column_in, counts_each, counts_in, entry_in, gaps_in, lemma_in, state_in, step_in};
 
-use crate::word::{end, first_part, is_word, number_below, parts, rule, side};
+use crate::field::{end, rule, side};
 use crate::{Entry, Lemma, LogStep, MOST_GAPS};
 use cell_num::{NetNo, NoMemory};
+use log_lines::{few_parts, first_part, is_word, number_below};
 use row_state::{Counts, Kind, Kinds, State, Step, has_leads};
 use std::alloc::Global;
 
@@ -188,7 +190,7 @@ pub(crate) fn read_entry(
     ensures { IfOk result (λ entry. entry ≡ entry_in kinds.now (words_in line.now)) }
 {
     kinds.show_limits();
-    let Some(words) = parts::<7>(line, b' ') else {
+    let Some(words) = few_parts::<7>(line, b' ') else {
         return Ok(None);
     };
     let entry = entry_of_words(alloc, kinds, words.as_slice())?;
@@ -199,6 +201,6 @@ pub(crate) fn read_entry(
 pub(crate) fn read_column(kinds: &Kinds, line: &[u8]) -> Option<LogStep>
     ensures { result ≡ column_in kinds.now (words_in line.now) }
 {
-    let words = parts::<6>(line, b' ')?;
+    let words = few_parts::<6>(line, b' ')?;
     column_of_words(kinds, words.as_slice())
 }

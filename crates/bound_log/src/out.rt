@@ -1,11 +1,7 @@
-ghost use Rattle.std.specs.Prelude.{◌≡◌, ◌≤◌, ◌<◌, ◌-◌, ◌+◌, ◌++◌, [], ℕ, IfOk, List as Sequence, OnErr, OnOk, length};
+ghost use Rattle.std.specs.Prelude.{◌≡◌, ◌≤◌, ◌<◌, ◌-◌, ◌+◌, ◌++◌, ℕ, List as Sequence, OnErr, OnOk, length};
 
-use cell_num::{Bytes, NoMemory, Room};
-use std::alloc::Global;
-use std::marker::Model;
-
-/// The most bytes of a line of a log, its line feed not counted.
-pub const MOST_LINE_BYTES: usize = 300;
+use cell_num::{Bytes, NoMemory};
+use log_lines::{LineRoom, MOST_LINE_BYTES};
 
 /// What a text is written to.
 pub(crate) trait Out {
@@ -34,72 +30,25 @@ impl Out for Bytes {
     }
 }
 
-/// Room for one line, taken before it is written.
-#[derive(Debug, Drop)]
-pub(crate) struct LineRoom {
-    bytes: Room<u8>,
-}
-
-impl Model for LineRoom {
-    ghost use Rattle.std.specs.Prelude.{◌≡◌, ◌+◌, ℕ, List as Sequence};
-    ghost use Rattle.bound_log.specs.declared.out.TheConstants.{MOST_LINE_BYTES};
-
-    ghost Value = { Sequence ℕ };
-
-    ghost view = { λ l. l.bytes.items };
-
-    ghost invariant = { λ l. l.bytes.most ≡ MOST_LINE_BYTES + 1 };
-}
-
-impl LineRoom {
-    pub(crate) fn new(alloc: Global) -> Result<LineRoom, NoMemory>
-        ensures { IfOk result (λ line. line ≡ []) }
-    {
-        Ok(LineRoom {
-            bytes: Room::new(alloc, MOST_LINE_BYTES + 1)?,
-        })
-    }
-
-    pub(crate) fn as_slice(&self) -> &[u8]
-        ensures bytes { result.now ≡ self.now }
-        ensures few { length self.now ≤ MOST_LINE_BYTES + 1 }
-    {
-        self.bytes.as_slice()
-    }
-
-    pub(crate) fn extend(&mut self, bytes: &[u8])
-        requires { length self.old + length bytes.now ≤ MOST_LINE_BYTES + 1 }
-        ensures { self.new ≡ self.old ++ bytes.now }
-    {
-        self.bytes.extend(bytes);
-    }
-
-    pub(crate) fn clear(&mut self)
-        ensures { self.new ≡ [] }
-    {
-        self.bytes.clear();
-    }
-
-    fn left(&self) -> usize
-        ensures left { result ≡ MOST_LINE_BYTES + 1 - length self.now }
-        ensures few { length self.now ≤ MOST_LINE_BYTES + 1 }
-    {
-        MOST_LINE_BYTES + 1 - self.as_slice().len()
-    }
+fn left(line: &LineRoom) -> usize
+    ensures left { result ≡ MOST_LINE_BYTES + 1 - length line.now }
+    ensures few { length line.now ≤ MOST_LINE_BYTES + 1 }
+{
+    MOST_LINE_BYTES + 1 - line.as_slice().len()
 }
 
 impl Out for LineRoom {
-    ghost use Rattle.bound_log.specs.declared.out.TheConstants.{MOST_LINE_BYTES};
+    ghost use Rattle.log_lines.specs.declared.room.TheConstants.{MOST_LINE_BYTES};
 
     ghost text = { λ line. line };
 
     ghost room = { λ line. MOST_LINE_BYTES + 1 - length line };
 
     fn put(&mut self, bytes: &[u8]) -> Result<(), NoMemory> {
-        if self.left() < bytes.len() {
+        if left(self) < bytes.len() {
             return Err(NoMemory);
         }
-        self.bytes.extend(bytes);
+        self.extend(bytes);
         Ok(())
     }
 }

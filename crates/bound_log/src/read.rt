@@ -1,23 +1,23 @@
 ghost use Rattle.std.specs.Prelude.{◌≡◌, ◌≢◌, ◌≤◌, ◌+◌, IfOk, IfErr, Ok, Err, length};
+ghost use Rattle.log_lines.specs.Lines.{behind, lines_in};
 ghost use Rattle.bound_log.specs.declared.fault.LogFault.TheVariants as fault;
 ghost use Rattle.bound_log.specs.declared.log.Log.{Log as LogOf};
 ghost use Rattle.bound_log.specs.Fits.{Fits, IsLogName};
-ghost use Rattle.bound_log.specs.Reading.{behind, columns_at, end_at, lines_in, log_at, log_of, named_at};
+ghost use Rattle.bound_log.specs.Reading.{columns_at, end_at, log_at, log_of, named_at};
 ghost use Rattle.bound_log.specs.Text.{log_text};
 
-use crate::head::{is_named, version};
+use crate::head::version;
 use crate::line::{read_column, read_entry};
-use crate::lines::first_line;
-use crate::word::is_word;
 use crate::{Best, Entry, LemmaList, Log, LogFault, LogSteps};
 use cell_num::{MOST_BYTES, Name};
+use log_lines::{first_line, is_named, is_word};
 use row_state::Kinds;
 use std::alloc::Global;
 
-// The line `end`, and nothing behind it.
-#[tactic(auto, using(crate::proofs::Feeds::ended, crate::proofs::Feeds::ended_before, crate::proofs::Feeds::not_ended))]
-fn read_end(bytes: &[u8], number: u32) -> Result<(), LogFault>
-    requires { number ≤ MOST_BYTES + 4 }
+/// The line `end`, of that number, and nothing behind it: else the fault of the first place that is wrong.
+#[tactic(auto, using(crate::proofs::Ends::ended, crate::proofs::Ends::ended_before, crate::proofs::Ends::not_ended))]
+pub fn read_end(bytes: &[u8], number: u32) -> Result<(), LogFault>
+    requires { number ≤ MOST_BYTES + 5 }
     ensures { result ≡ end_at number (lines_in bytes.now) (behind bytes.now) }
 {
     let Some(first) = first_line(bytes) else {
@@ -32,10 +32,15 @@ fn read_end(bytes: &[u8], number: u32) -> Result<(), LogFault>
     Ok(())
 }
 
-// The columns up to the line `end`, the last.
+/// The columns up to the line `end`, the last, from the line of that number on: else the first fault.
 #[tactic(auto, using(crate::proofs::Fronts::columns_cut, crate::proofs::Fronts::columns_done, crate::proofs::Fronts::columns_open, crate::proofs::Fronts::columns_wrong, crate::proofs::Fronts::columns_more))]
-fn read_columns(alloc: Global, kinds: &Kinds, bytes: &[u8], from: u32) -> Result<LogSteps, LogFault>
-    requires few { length bytes.now + from ≤ MOST_BYTES + 3 }
+pub fn read_columns(
+    alloc: Global,
+    kinds: &Kinds,
+    bytes: &[u8],
+    from: u32,
+) -> Result<LogSteps, LogFault>
+    requires few { length bytes.now + from ≤ MOST_BYTES + 5 }
     ensures steps { IfOk result (λ steps.
         columns_at kinds.now from (lines_in bytes.now) (behind bytes.now) ≡ Ok steps) }
     ensures fault { IfErr result (λ f. f ≢ fault.NoMemory →

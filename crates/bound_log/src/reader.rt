@@ -1,14 +1,13 @@
 ghost use Rattle.std.specs.Prelude.{◌≡◌, ◌≢◌, ◌≤◌, ◌<◌, ◌+◌, Err, IfErr, IfOk, None, Ok, OnOk, Some, length, take};
-ghost use Rattle.std.specs.Option.{is_some};
+ghost use Rattle.log_lines.specs.Fronts.{IsShort, longer};
 ghost use Rattle.bound_log.specs.declared.fault.LogFault.TheVariants as fault;
 ghost use Rattle.bound_log.specs.Fits.{IsLogName};
-ghost use Rattle.bound_log.specs.Pieces.{IsShort, ItemFits, PlaceFits, SaidFits, begun, behind_line, ended, line_bytes, longer, passed, refused, tale_of, told, whole_says, with_line};
+ghost use Rattle.bound_log.specs.Pieces.{ItemFits, PlaceFits, SaidFits, begun, behind_line, ended, line_bytes, passed, refused, tale_of, told, whole_says, with_line};
 
-use crate::lines::find_feed;
-use crate::out::LineRoom;
 use crate::said::{Said, say_line, wrong_at};
-use crate::{LogFault, LogItem, LogPlace, MOST_LINE_BYTES};
+use crate::{LogFault, LogItem, LogPlace};
 use cell_num::{MOST_BYTES, Name, NoMemory, copy};
+use log_lines::{LineFront, LineRoom, find_feed};
 use row_state::Kinds;
 use std::alloc::Global;
 use std::marker::Model;
@@ -21,17 +20,13 @@ pub struct LogReader {
     kinds: Kinds,
     place: LogPlace,
     number: u32,
-    // The bytes of the line so far, unless they are too many.
-    line: LineRoom,
-    is_long: bool,
+    line: LineFront,
     // A line that comes in more than one piece is put together here.
     whole: LineRoom,
     fault: Option<LogFault>,
 }
 
 impl Model for LogReader {
-    ghost use Rattle.std.specs.Prelude.{◌≤◌, None, Some, if◌then◌else◌, length};
-    ghost use Rattle.bound_log.specs.declared.out.TheConstants.{MOST_LINE_BYTES};
     ghost use Rattle.bound_log.specs.Pieces.{PlaceFits, Reader};
 
     ghost Value = { Reader };
@@ -41,11 +36,11 @@ impl Model for LogReader {
       kinds = r.kinds;
       place = r.place;
       number = r.number;
-      line = if r.is_long then None else Some r.line;
+      line = r.line;
       fault = r.fault;
     } };
 
-    ghost invariant = { λ r. (length r.line ≤ MOST_LINE_BYTES) × PlaceFits r.place };
+    ghost invariant = { λ r. PlaceFits r.place };
 }
 
 impl LogReader {
@@ -61,29 +56,10 @@ impl LogReader {
             kinds: kinds.clone()?,
             place: LogPlace::Version,
             number: 1,
-            line: LineRoom::new(alloc)?,
-            is_long: false,
+            line: LineFront::new(alloc)?,
             whole: LineRoom::new(alloc)?,
             fault: None,
         })
-    }
-
-    // Whether the line is not too long with these bytes.
-    fn fits(&self, part: &[u8]) -> bool
-        ensures fits { result ≡ is_some (longer self.now.line part.now) }
-    {
-        !self.is_long && part.len() <= MOST_LINE_BYTES - self.line.as_slice().len()
-    }
-
-    fn add(&mut self, part: &[u8])
-        ensures added { self.new ≡ with_line self.old (longer self.old.line part.now) }
-        ensures short { IsShort self.old.line }
-    {
-        if self.fits(part) {
-            self.line.extend(part);
-        } else {
-            self.is_long = true;
-        }
     }
 
     // What the line says that these bytes are.
@@ -112,15 +88,13 @@ impl LogReader {
         ensures fault { IfErr result (λ f.
             f ≢ fault.NoMemory → whole_says self.old (longer self.old.line part.now) ≡ Err f) }
     {
-        if !self.fits(part) {
+        if !self.line.fits(part) {
             return Err(wrong_at(self.place, self.number));
         }
-        if self.line.as_slice().is_empty() {
+        if self.line.is_empty() {
             return self.say_whole(part);
         }
-        self.whole.clear();
-        self.whole.extend(self.line.as_slice());
-        self.whole.extend(part);
+        self.line.put_whole(part, &mut self.whole);
         self.say_whole(self.whole.as_slice())
     }
 
@@ -128,7 +102,6 @@ impl LogReader {
         ensures { self.new ≡ refused self.old fault }
     {
         self.line.clear();
-        self.is_long = false;
         self.fault = Some(fault);
     }
 
@@ -141,7 +114,6 @@ impl LogReader {
         self.place = next;
         self.number += 1;
         self.line.clear();
-        self.is_long = false;
     }
 
     // The line feed behind these bytes.
@@ -198,7 +170,7 @@ impl LogReader {
             return Err(fault);
         }
         let Some(at) = find_feed(part) else {
-            self.add(part);
+            self.line.add(part);
             return Ok((part.len(), LogItem::More));
         };
         let said = self.end_line(&part[..at])?;

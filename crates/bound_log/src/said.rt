@@ -1,13 +1,14 @@
 ghost use Rattle.std.specs.Prelude.{◌≡◌, ◌≢◌, Err, IfErr, IfOk, Ok};
+ghost use Rattle.log_lines.specs.Words.{words_in};
 ghost use Rattle.bound_log.specs.declared.fault.LogFault.TheVariants as fault;
-ghost use Rattle.bound_log.specs.Line.{entry_in, version_in, words_in};
+ghost use Rattle.bound_log.specs.Line.{entry_in, version_in};
 ghost use Rattle.bound_log.specs.Pieces.{column_says, columns_say, entry_says, line_says, said_if, version_says, wrong_at};
 
-use crate::head::{is_named, version};
+use crate::head::version;
 use crate::line::{read_column, read_entry};
-use crate::word::is_word;
 use crate::{Entry, LogFault, LogItem, LogPlace, LogStep};
 use cell_num::Name;
+use log_lines::{is_named, is_word};
 use row_state::Kinds;
 use std::alloc::Global;
 

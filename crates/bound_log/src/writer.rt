@@ -3,10 +3,11 @@ ghost use Rattle.row_state.specs.Versions.{IsVersion};
 ghost use Rattle.bound_log.specs.Fits.{ForSome, IsLogName, LemmaFits, StepFits};
 ghost use Rattle.bound_log.specs.Text.{column_line, gaps_line, head_lines, last_line, lemma_line, open_line};
 
-use crate::out::{LineRoom, Out};
+use crate::out::Out;
 use crate::spell::{put_column, put_gaps, put_head, put_lemma};
 use crate::{Lemma, LogStep};
 use cell_num::{Name, NoMemory};
+use log_lines::LineRoom;
 use std::alloc::Global;
 
 /// The lines of the text of a log, one at a time, in memory that is taken once: [`LineWriter::head`],

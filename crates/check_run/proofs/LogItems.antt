@@ -6,6 +6,8 @@ use Rattle.std.proofs.lemmas.List.{append-nil, append_assoc}
 use Rattle.std.proofs.lemmas.List.Elements.{All-append, All-cons, All-head, All-nil, All-tail}
 use Rattle.row_state.specs.declared.kind.Kinds.{Kinds}
 use Rattle.row_state.specs.Versions.{IsVersion}
+use Rattle.log_lines.specs.Words.{is_word, words_in}
+use Rattle.log_lines.specs.Fronts.{longer}
 use Rattle.bound_log.specs.declared.fault.LogFault.{LogFault}
 use Rattle.bound_log.specs.declared.fault.LogFault.TheVariants as fault
 use Rattle.bound_log.specs.declared.item.LogItem.{LogItem}
@@ -19,8 +21,8 @@ use Rattle.bound_log.specs.declared.log.Entry.{Entry}
 use Rattle.bound_log.specs.declared.log.Entry.TheVariants as entry
 use Rattle.bound_log.specs.declared.log.Log.{Log}
 use Rattle.bound_log.specs.declared.said.Said.{Said}
-use Rattle.bound_log.specs.Line.{column_in, entry_in, is_word, version_in, words_in}
-use Rattle.bound_log.specs.Pieces.{Reader, behind_line, byte_tale, column_says, columns_told, entry_says, line_says, line_tale, log_told, longer, next_tale, passed, refused, said_if, tale_of, told, told_by, version_says, whole_says, with_line}
+use Rattle.bound_log.specs.Line.{column_in, entry_in, version_in}
+use Rattle.bound_log.specs.Pieces.{Reader, behind_line, byte_tale, column_says, columns_told, entry_says, line_says, line_tale, log_told, next_tale, passed, refused, said_if, tale_of, told, told_by, version_says, whole_says, with_line}
 use Rattle.log_check.specs.Items.{more_steps}
 use Rattle.check_run.specs.LogRead.{no_log, with_items}
 

@@ -1,6 +1,5 @@
 pub mod Skipping
 pub mod Lexing
-pub mod Digits
 pub mod Gridding
 pub mod Drafting
 pub mod Numbered

@@ -1,5 +1,5 @@
 -- The reader's own words: a macro that is being read, and what it comes to with the items that are still to come.
-use Rattle.std.specs.Prelude.{ℕ, Bool, true, false, ◌≡◌, List, [], ◌∷◌, ◌++◌, Option, Some, None, Result, Ok, Err}
+use Rattle.std.specs.Prelude.{ℕ, ◌≡◌, List, [], ◌∷◌, ◌++◌, Option, Some, None, Result, Ok, Err}
 use Rattle.std.specs.List.{find, filter_map}
 use Rattle.std.specs.Option.{option_map}
 use Rattle.cell_num.specs.Steps.{◌>>=◌, or_fault}
@@ -7,8 +7,8 @@ use Rattle.lef_read.specs.Reading.{Item, Block, OfPin, OfMacro}
 use Rattle.lef_read.specs.Macros.{rect_in, up_to_next, ports_in, pins_in, obstructions_in, boxes_in, is_off_grid, items_of, on_grid}
 use Rattle.lef_read.specs.declared.block_kind.Block.{Block as BlockIn}
 use Rattle.lef_read.specs.declared.block_kind.Block.TheVariants as block
-use Rattle.lef_read.specs.declared.draft.Stage.{Stage}
-use Rattle.lef_read.specs.declared.draft.Stage.TheVariants.{Before, Inside, Behind}
+use Rattle.lef_words.specs.declared.stage.Stage.{Stage}
+use Rattle.lef_words.specs.declared.stage.Stage.TheVariants.{Before, Inside, Behind}
 use Rattle.lef_read.specs.declared.fault.LefFault.{LefFault}
 use Rattle.lef_read.specs.declared.fault.LefFault.TheVariants.{NoMemory, NoMacro, Grid}
 use Rattle.lef_read.specs.declared.cell.LefRect.{LefRect}
@@ -66,11 +66,6 @@ Keeps (Err NoMemory) before after = Unit {0}
 Keeps (Err f) before after = before ≡ Err f
 
 -- ---- single steps
-
-abbrev pub next_stage : Stage → Bool → Stage
-next_stage Before true = Inside
-next_stage Before false = Before
-next_stage _ is_wanted = Behind
 
 abbrev pub pins_with : List LefPin → Option LefPin → List LefPin
 pins_with pins None = pins

@@ -1,7 +1,5 @@
 -- What contracts of public calls cite, and what these definitions stand on.
-pub mod Keywords
 pub mod Macros
-pub mod Numbers
 pub mod Reading
 pub mod Tokens
 -- What inner contracts and proofs alone cite.

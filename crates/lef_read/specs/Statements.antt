@@ -1,10 +1,10 @@
 -- The reader's own words: what single steps take from the tokens to come.
-use Rattle.std.specs.Prelude.{ℕ, suc, ◌≡◌, ◌+◌, ◌-◌, ◌*◌, ◌==◌, ◌||◌, not, Bool, true, false, ℤ, unsigned_abs, List, [], ◌∷◌, codes, Option, Some, None, Result, Ok, Err, bytes_eq, if◌then◌else◌}
+use Rattle.std.specs.Prelude.{ℕ, suc, ◌≡◌, ◌==◌, ◌||◌, not, Bool, true, false, ℤ, unsigned_abs, List, [], ◌∷◌, codes, Option, Some, None, Result, Ok, Err, bytes_eq, if◌then◌else◌}
 use Rattle.cell_num.specs.Steps.{◌>>=◌, require, or_fault}
 use Rattle.box_geom.specs.Rectangle.{Rectangle}
 use Rattle.lef_read.specs.Tokens.{Token, Word, Quoted, Semicolon, Torn, Inside, Nothing, AComment, is_white, ends_word, line_behind}
-use Rattle.lef_read.specs.Numbers.{nanometres_of}
-use Rattle.lef_read.specs.Keywords.{is}
+use Rattle.lef_words.specs.Numbers.{nanometres_of}
+use Rattle.lef_words.specs.Keywords.{is}
 use Rattle.lef_read.specs.Reading.{ascending, layer_named}
 use Rattle.lef_read.specs.declared.block_kind.Current.{Current}
 use Rattle.lef_read.specs.declared.token.Token.{Token as TokenIn}
@@ -131,11 +131,6 @@ until_quote (b ∷ bs) = if b == 34 then 0 else suc (until_quote bs)
 abbrev pub line_at : ℕ → List ℕ → ℕ
 line_at n [] = n
 line_at n (b ∷ bs) = line_at (line_behind n b) bs
-
--- the number that digits write behind those of n
-abbrev pub whole_after : ℕ → List ℕ → ℕ
-whole_after n [] = n
-whole_after n (b ∷ bs) = whole_after (10 * n + (b - 48)) bs
 
 -- what the bytes between two tokens stand in
 abbrev pub between_tokens : Bool → Inside

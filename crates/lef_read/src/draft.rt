@@ -1,8 +1,8 @@
 // The macro that is wanted, as far as it is read.
 ghost use Rattle.std.specs.Prelude.{◌≡◌, ◌≢◌, ◌≤◌, [], ◌∷◌, List, Ok, Err, IfOk, IfErr, OnOk};
 ghost use Rattle.lef_read.specs.Reading.{Begins, Item, Pin, item_of};
-ghost use Rattle.lef_read.specs.Drafts.{begun, block_shown, completed, next_stage, with_last_pin, with_rect};
-ghost use Rattle.lef_read.specs.declared.draft.Stage.TheVariants.{Inside};
+ghost use Rattle.lef_read.specs.Drafts.{begun, block_shown, completed, with_last_pin, with_rect};
+ghost use Rattle.lef_words.specs.declared.stage.Stage.TheVariants.{Inside};
 ghost use Rattle.lef_read.specs.declared.fault.LefFault.TheVariants as fault;
 
 use crate::block_kind::Block;
@@ -12,27 +12,9 @@ use crate::grid::on_grid;
 use crate::sides::Sides;
 use box_geom::Layer;
 use cell_num::{List, Name, NoMemory, copy};
+use lef_words::{Stage, next_stage};
 use std::alloc::Global;
 use std::marker::Model;
-
-/// Where a text stands: before the first macro of the name, in it, or behind it.
-#[derive(Clone, Copy, Debug, PartialEq, Eq)]
-pub enum Stage {
-    Before,
-    Inside,
-    Behind,
-}
-
-// Where a text stands behind the head of a macro.
-fn next_stage(stage: Stage, is_wanted: bool) -> Stage
-    ensures { result ≡ next_stage stage is_wanted }
-{
-    match (stage, is_wanted) {
-        (Stage::Before, true) => Stage::Inside,
-        (Stage::Before, false) => Stage::Before,
-        _ => Stage::Behind,
-    }
-}
 
 /// The wanted macro as far as it is read.
 #[derive(Debug, Drop)]
@@ -88,7 +70,7 @@ impl Draft {
     pub fn begin(&mut self, name: &[u8])
         ensures { (items : List Item) → completed self.old (Begins name.now ∷ items) ≡ completed self.new items }
     {
-        self.stage = next_stage(self.stage, name == self.wanted.as_slice());
+        self.stage = next_stage(self.stage, name, self.wanted.as_slice());
     }
 
     // The last pin is whole.

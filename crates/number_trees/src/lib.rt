@@ -1,4 +1,4 @@
-// Classes of numbers as trees: each number hangs on one that is none above it, so the root of a tree is its least number.
+// Classes of numbers as trees: each number hangs on one that is none above it, so the root is the least of its tree.
 #![tactic(auto)]
 
 mod tied;

@@ -1,7 +1,6 @@
 pub mod Copies
 pub mod LineFacts
 pub mod NetFacts
-pub mod Parameters
 pub mod PinFacts
 pub mod Places
 pub mod Sound

@@ -3,7 +3,7 @@ use Rattle.std.proofs.Common.{ℕ, ◌≡◌, ◌≢◌, ◌+◌, ◌*◌, ◌<�
 use Rattle.std.specs.Prelude.{AllPairs, bytes_eq, position, Some, None, if◌then◌else◌}
 use Rattle.std.specs.List.{list_any, position_or_len}
 use Rattle.std.proofs.lemmas.Bool.{cases_Bool}
-use Rattle.std.proofs.lemmas.List.{map-append, append-nil, take_more}
+use Rattle.std.proofs.lemmas.List.{map-append, append-nil}
 use Rattle.std.proofs.lemmas.List.Elements.{filter-append, filter_passes}
 use Rattle.std.proofs.lemmas.List.Filters.{length-filter_both}
 use Rattle.std.proofs.lemmas.List.Recursion.{is_position_or_len}
@@ -13,6 +13,7 @@ use Rattle.std.proofs.lemmas.Map.Views.{any-filter_same}
 use Rattle.std.proofs.lemmas.Slice.Eq.{bytes_eq-Decides}
 use Rattle.std.proofs.lemmas.Grind.{flat_map-append}
 use Rattle.std.proofs.lemmas.List.Sums.{fold-append}
+use Rattle.spice_words.proofs.Last.{next_taken}
 use Rattle.spice_net.specs.Transistors.{Transistor}
 use Rattle.spice_net.proofs.Places.{found, missing}
 use Rattle.spice_net.specs.Nets.{distinct, number_of, named_nets, nets_of}
@@ -44,9 +45,6 @@ pub not_placed : (name : List ℕ) (ks : List (Bor (List ℕ))) → position (λ
 not_placed name ks e =
     let here : position_or_len (λ (k : Bor (List ℕ)). bytes_eq name k.now) ks ≡ length ks = omega (arith, missing (λ (k : Bor (List ℕ)). bytes_eq name k.now) ks e, prefix_len-le-length (λ (k : Bor (List ℕ)). not (bytes_eq name k.now)) ks) in
     sym here ∙ place_names name ks
-
-pub next_taken : {X : Type 0} (xs : List X) (i : ℕ) (x : X) → i < length xs → x ≡ get_or xs i x → take (i + 1) xs ≡ take i xs ++ x ∷ []
-next_taken {X = X} xs i x lt is = take_more xs i x lt ∙ ap (λ (y : X). take i xs ++ y ∷ []) (sym is)
 
 -- ---- one more name
 

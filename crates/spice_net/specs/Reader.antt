@@ -1,7 +1,7 @@
 -- The reader's own words: how far its steps have come.
 use Rattle.std.specs.Borrow.{Bor}
 use Rattle.std.specs.List.{list_any}
-use Rattle.std.specs.Prelude.{[], ◌∷◌, map, fold, bytes_eq, List, ◌++◌, if◌then◌else◌, ℕ, Option, Some, None, Result, Ok}
+use Rattle.std.specs.Prelude.{[], ◌∷◌, map, fold, bytes_eq, List, ◌++◌, if◌then◌else◌, ℕ, Result, Ok}
 use Rattle.spice_net.specs.declared.fault.SpiceFault.{SpiceFault}
 use Rattle.spice_net.specs.Transistors.{Fields, Transistor, with_line}
 use Rattle.spice_net.specs.declared.transistor.Judged.{Judged}
@@ -21,11 +21,6 @@ transistor_as judged f =
       width = judged.width;
       fingers = judged.fingers;
     }
-
--- the later of two values, where it is there
-abbrev pub last_there : {X : Type 0} → Option X → Option X → Option X
-last_there (Some value) before = Some value
-last_there None before = before
 
 -- a line in front of others, unless it is a comment
 abbrev pub with_shown : Technology → Line → Result (List Transistor) SpiceFault → Result (List Transistor) SpiceFault

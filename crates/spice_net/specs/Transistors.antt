@@ -1,36 +1,18 @@
 -- What a line inside a subcircuit says: a transistor, or its first fault.
-use Rattle.std.specs.Prelude.{ℕ, ℤ, pos, negsuc, ◌+◌, ◌*◌, ◌/◌, ◌%◌, ◌^◌, ◌==◌, ◌&&◌, ◌||◌, not, nat_eq, nat_le, Bool, false, List, [], ◌∷◌, length, drop, filter_map, codes, bytes_eq, Option, Some, None, option_and_then, unwrap_or, Result, Ok, Err, if◌then◌else◌}
-use Rattle.std.specs.List.{starts_with, list_all, list_any}
-use Rattle.cell_num.specs.declared.length.Fixed.{Fixed}
+use Rattle.std.specs.Prelude.{ℕ, ◌==◌, ◌&&◌, ◌||◌, not, nat_eq, nat_le, Bool, false, List, [], ◌∷◌, codes, bytes_eq, Option, Some, None, unwrap_or, Result, Ok, Err, if◌then◌else◌}
+use Rattle.std.specs.List.{starts_with, list_all}
 use Rattle.cell_num.specs.declared.finger.Row.{Row}
 use Rattle.cell_num.specs.declared.finger.Row.TheVariants.{P, N}
-use Rattle.cell_num.specs.Length.{units_up_to}
 use Rattle.cell_num.specs.Names.{is_name}
 use Rattle.spice_text.specs.declared.logical.Line.{Line}
 use Rattle.spice_text.specs.Numbers.{fixed_of}
+use Rattle.spice_words.specs.Numbers.{units_of, count_of, least_width}
+use Rattle.spice_words.specs.Parameters.{is_parameter, value_of}
 use Rattle.tech_file.specs.Technology.{Technology}
 use Rattle.spice_net.specs.declared.fault.SpiceFault.{SpiceFault}
 use Rattle.spice_net.specs.declared.fault.SpiceFault.TheVariants as fault
 use Rattle.spice_net.specs.Chosen.{first_is, has_name}
 use Rattle.cell_num.specs.Steps.{require, or_fault, ◌>>=◌}
-
--- ---- parameters: words `key=value`
-
-abbrev pub is_parameter : List ℕ → Bool
-is_parameter word = list_any (λ b. b == 61) word
-
--- the value of a word that begins with a key and its `=`
-abbrev pub value_in : List ℕ → List ℕ → Option (List ℕ)
-value_in key word = if starts_with nat_eq word key then Some (drop (length key) word) else None
-
-abbrev pub last_of : {X : Type 0} → List X → Option X
-last_of [] = None
-last_of (x ∷ []) = Some x
-last_of (x ∷ y ∷ more) = last_of (y ∷ more)
-
--- the value that counts for a key: that of its last word
-abbrev pub value_of : List ℕ → List (List ℕ) → Option (List ℕ)
-value_of key words = last_of (filter_map (value_in key) words)
 
 -- ---- the fields of a line
 
@@ -69,41 +51,9 @@ fields_of line _ = Err (fault.Fields line)
 
 -- ---- its numbers
 
--- the grid unit, half a lambda, in picometres
-abbrev pub unit_pm : Technology → ℕ
-unit_pm tech = 500 * tech.lambda_nm
-
--- the greatest size that is read
-abbrev pub most_units : ℕ
-most_units = 100000
-
--- the least width
-abbrev pub least_units : ℕ
-least_units = 6
-
 -- the length of every channel
 abbrev pub channel_units : ℕ
 channel_units = 4
-
--- the whole number of units nearest to a length, where it is not too large
-abbrev pub units_of : Technology → List ℕ → Option ℕ
-units_of tech value = option_and_then (λ metres. units_up_to most_units metres (unit_pm tech)) (fixed_of value)
-
--- the whole number that digits * 10^ten is, where it is one; `negsuc n` is -(n + 1)
-abbrev pub whole_of : ℕ → ℤ → Option ℕ
-whole_of digits (pos ten) = Some (digits * 10 ^ ten)
-whole_of digits (negsuc n) = if digits % 10 ^ (n + 1) == 0 then Some (digits / 10 ^ (n + 1)) else None
-
--- the most equal transistors that a line stands for, and the most fingers that it asks for
-abbrev pub most_counted : ℕ
-most_counted = 64
-
-abbrev pub counted : ℕ → Option ℕ
-counted number = if nat_le 1 number && nat_le number most_counted then Some number else None
-
--- the whole number from 1 to 64 that a number is, where it is one
-abbrev pub count_of : Fixed → Option ℕ
-count_of number = option_and_then counted (whole_of number.digits number.ten)
 
 -- the channel's width and its length in units, and the counts that `m` and `nf` are
 pub record Sizes : Type 0 where
@@ -119,10 +69,6 @@ sizes_of tech line fields = do
   m ← or_fault (fixed_of fields.m) (fault.Number line)
   nf ← or_fault (fixed_of fields.nf) (fault.Number line)
   Ok (record { width = width; channel = channel; copies = count_of m; fingers = count_of nf })
-
--- the least width of a transistor that is cut into so many fingers: that of one, where `nf` is no count
-abbrev pub least_width : Option ℕ → ℕ
-least_width fingers = least_units * unwrap_or fingers 1
 
 -- ---- the transistor
 

@@ -1,10 +1,11 @@
-ghost use Rattle.std.specs.Prelude.{◌≡◌, ◌<◌, ◌≤◌, [], ◌∷◌, length, drop, position, IfOk, IfErr, IfSome, Ok, Err};
+ghost use Rattle.std.specs.Prelude.{◌≡◌, ◌<◌, ◌≤◌, [], ◌∷◌, length, position, IfOk, IfErr, IfSome, Ok, Err};
 ghost use Rattle.std.specs.List.{list_any};
 ghost use Rattle.spice_net.specs.Chosen.{first_is, second_is, begins, ends, has_name, makes_global, is_global, from_first, chosen_in};
 
 use crate::fault::SpiceFault;
 use cell_num::Name;
 use spice_text::Line;
+use spice_words::behind_first;
 
 /// The line that begins a subcircuit, and the lines between it and the `.ends` line.
 #[derive(Clone, Copy)]
@@ -50,16 +51,6 @@ pub fn has_name(names: &[Name], name: &[u8]) -> bool
     ensures { result ≡ has_name names.now name.now }
 {
     names.iter().any(|other| name == other.as_slice())
-}
-
-/// The words behind the first.
-pub fn behind_first(words: &[Name]) -> &[Name]
-    ensures { result.now ≡ drop 1 words.now }
-{
-    match words {
-        [_, behind @ ..] => behind,
-        [] => &[],
-    }
 }
 
 fn makes_global(line: &Line, net: &[u8]) -> bool

@@ -1,77 +1,15 @@
 ghost use Rattle.std.specs.Prelude.{◌≡◌, ◌||◌, bytes_eq, IfOk};
 ghost use Rattle.std.specs.List.{list_any};
-ghost use Rattle.spice_net.specs.Directions.{direction_behind, told_by, told_among, told_in, told_of, shown_of, direction_of, directions_of};
-ghost use Rattle.spice_net.specs.Reader.{last_there, names_of};
+ghost use Rattle.spice_net.specs.Directions.{shown_of, direction_of, directions_of};
+ghost use Rattle.spice_net.specs.Reader.{names_of};
 
-use crate::chosen::behind_first;
-use crate::subckt::{Direction, DirectionList};
+use crate::subckt::DirectionList;
 use crate::transistor::{Transistor, is_rail};
-use cell_num::{Name, NoMemory};
+use cell_num::NoMemory;
 use spice_text::Line;
+use spice_words::{Direction, told_of};
 use std::alloc::Global;
 use tech_file::Tech;
-
-fn direction_behind(mark: &[u8]) -> Option<Direction>
-    ensures { result ≡ direction_behind mark.now }
-{
-    if mark == b":i".as_slice() {
-        Some(Direction::Input)
-    } else if mark == b":o".as_slice() {
-        Some(Direction::Output)
-    } else if mark == b":b".as_slice() {
-        Some(Direction::Inout)
-    } else {
-        None
-    }
-}
-
-fn told_by(pin: &[u8], word: &[u8]) -> Option<Direction>
-    ensures { result ≡ told_by pin.now word.now }
-{
-    direction_behind(word.strip_prefix(pin)?)
-}
-
-fn later(told: Option<Direction>, before: Option<Direction>) -> Option<Direction>
-    ensures { result ≡ last_there told before }
-{
-    match told {
-        Some(direction) => Some(direction),
-        None => before,
-    }
-}
-
-// what the last pair for a pin tells
-#[tactic(auto, using(crate::proofs::Parameters::word_more))]
-fn told_among(pin: &[u8], words: &[Name]) -> Option<Direction>
-    ensures { result ≡ told_among pin.now words.now }
-{
-    let mut found = None;
-    for word in words {
-        found = later(told_by(pin, word.as_slice()), found);
-    }
-    found
-}
-
-fn told_in(pin: &[u8], line: &Line) -> Option<Direction>
-    ensures { result ≡ told_in pin.now line.now }
-{
-    if line.info {
-        told_among(pin, behind_first(line.words.as_slice()))
-    } else {
-        None
-    }
-}
-
-#[tactic(auto, using(crate::proofs::Parameters::line_more))]
-fn told_of(lines: &[Line], pin: &[u8]) -> Option<Direction>
-    ensures { result ≡ told_of lines.now pin.now }
-{
-    let mut found = None;
-    for line in lines {
-        found = later(told_in(pin, line), found);
-    }
-    found
-}
 
 fn is_gate(transistors: &[Transistor], net: &[u8]) -> bool
     ensures { result ≡ list_any (λ t. bytes_eq net.now t.gate) transistors.now }

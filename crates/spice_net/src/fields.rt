@@ -1,11 +1,11 @@
-ghost use Rattle.std.specs.Prelude.{◌≡◌, codes, option_map, unwrap_or};
+ghost use Rattle.std.specs.Prelude.{◌≡◌};
 ghost use Rattle.std.specs.List.{list_all};
 ghost use Rattle.cell_num.specs.Names.{is_name};
-ghost use Rattle.spice_net.specs.Transistors.{is_parameter, value_in, value_of, fields_of};
-ghost use Rattle.spice_net.specs.Reader.{last_there};
+ghost use Rattle.spice_net.specs.Transistors.{fields_of};
 
 use crate::fault::SpiceFault;
 use cell_num::{Name, is_name};
+use spice_words::{are_parameters, value_of, value_or_one};
 use std::marker::Model;
 
 /// What the words of a transistor line say: its nets, its model, and the values that count for the
@@ -31,56 +31,11 @@ impl<'a> Model for Fields<'a> {
     ghost view = { λ v. record { drain = v.drain.now; gate = v.gate.now; source = v.source.now; bulk = v.bulk.now; model = v.model.now; width = v.width.now; channel = v.channel.now; m = v.m.now; nf = v.nf.now } };
 }
 
-fn is_parameter(word: &[u8]) -> bool
-    ensures { result ≡ is_parameter word.now }
-{
-    word.iter().any(|b| *b == b'=')
-}
-
-fn are_parameters(words: &[Name]) -> bool
-    ensures { result ≡ list_all is_parameter words.now }
-{
-    words.iter().all(|word| is_parameter(word.as_slice()))
-}
-
 /// Whether each of the words may name something.
 pub fn are_names(words: &[Name]) -> bool
     ensures { result ≡ list_all is_name words.now }
 {
     words.iter().all(|word| is_name(word.as_slice()))
-}
-
-// a word's value for a key, or the one that was found before
-fn value_or_before<'a>(key: &[u8], word: &'a [u8], before: Option<&'a [u8]>) -> Option<&'a [u8]>
-    ensures { option_map (λ v. v.now) result ≡ last_there (value_in key.now word.now) (option_map (λ v.
-        v.now) before.entry) }
-{
-    match word.strip_prefix(key) {
-        Some(value) => Some(value),
-        None => before,
-    }
-}
-
-// the value that counts for a key, which ends by its `=`
-#[tactic(auto, using(crate::proofs::Parameters::one_more))]
-fn value_of<'a>(key: &[u8], words: &'a [Name]) -> Option<&'a [u8]>
-    ensures { option_map (λ v. v.now) result ≡ value_of key.now words.now }
-{
-    let mut found = None;
-    for word in words {
-        found = value_or_before(key, word.as_slice(), found);
-    }
-    found
-}
-
-// the value that counts for a key, or `1`
-fn value_or_one<'a>(key: &[u8], words: &'a [Name]) -> &'a [u8]
-    ensures { result.now ≡ unwrap_or (value_of key.now words.now) (codes "1") }
-{
-    match value_of(key, words) {
-        Some(value) => value,
-        None => b"1",
-    }
 }
 
 /// What the words of a line say that is numbered `line`.

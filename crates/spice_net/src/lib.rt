@@ -15,4 +15,4 @@ mod transistor;
 
 pub use fault::{SpiceFault, What};
 pub use read::read_cell;
-pub use subckt::{Device, DeviceList, Direction, DirectionList, Subckt};
+pub use subckt::{Device, DeviceList, DirectionList, Subckt};

@@ -1,4 +1,5 @@
 use cell_num::{List, Name, Names, NetNo, Pins, Row};
+use spice_words::Direction;
 
 /// The most pins of a subcircuit, rails that are added to them counted.
 pub const MOST_PINS: usize = 64;
@@ -20,14 +21,6 @@ pub struct Device {
 }
 
 pub type DeviceList = List<Device>;
-
-/// The direction of a pin's signal, as a LEF pin has it.
-#[derive(Clone, Copy, Debug, PartialEq, Eq)]
-pub enum Direction {
-    Input,
-    Output,
-    Inout,
-}
 
 pub type DirectionList = List<Direction>;
 

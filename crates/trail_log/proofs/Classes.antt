@@ -5,16 +5,16 @@ use Rattle.std.specs.List.{join_with_byte}
 use Rattle.std.proofs.lemmas.List.{append-nil, length-map}
 use Rattle.std.proofs.lemmas.List.Elements.{All-append, All-cons, All-nil}
 use Rattle.std.proofs.lemmas.Option.{none-some, same_Some}
-use Rattle.bound_log.specs.Line.{parts_at}
-use Rattle.bound_log.proofs.Decimals.{above_decimal}
-use Rattle.bound_log.proofs.Parts.{some_part}
+use Rattle.log_lines.specs.Words.{parts_at}
+use Rattle.log_lines.proofs.Decimals.{above_decimal}
+use Rattle.log_lines.proofs.Parts.{some_part}
+use Rattle.log_lines.proofs.Splits.{IsAbove, Lacks, above_lacks, above_more, joined_lacks, split_joined}
 use Rattle.bound_log.proofs.Spelled.{bound, cons_same, mapped}
-use Rattle.bound_log.proofs.Splits.{IsAbove, Lacks, above_lacks, above_more, joined_lacks, split_joined}
-use Rattle.trail_log.specs.declared.trails.Class.{Class}
-use Rattle.trail_log.specs.declared.trails.NetPair.{NetPair}
+use Rattle.trail_classes.specs.declared.class.Class.{Class}
+use Rattle.trail_classes.specs.declared.class.NetPair.{NetPair}
+use Rattle.trail_classes.specs.Listed.{class_in, class_of, class_with, each_in, list_in, net_in, node_in, node_of}
+use Rattle.trail_classes.specs.Text.{class_text, flag_text, list_text, node_text}
 use Rattle.trail_log.specs.Fits.{ClassFits, NodeFits}
-use Rattle.trail_log.specs.Line.{class_in, class_of, class_with, each_in, list_in, net_in, node_in, node_of}
-use Rattle.trail_log.specs.Text.{class_text, flag_text, list_text, node_text}
 use Rattle.trail_log.proofs.Items.{ReadsAgain, ReadsOnly, Spares, all_of, decimal_lacks, each_again, each_only, joined_above, joined_parts, list_again, list_only, net_again, net_only}
 
 -- ---- pairs of nets

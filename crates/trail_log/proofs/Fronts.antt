@@ -5,10 +5,10 @@ use Rattle.std.proofs.lemmas.List.{append-nil, append_assoc}
 use Rattle.cell_num.specs.Steps.{◌>>=◌}
 use Rattle.cell_num.specs.declared.net.NetNo.{NetNo}
 use Rattle.row_state.specs.declared.kind.Kinds.{Kinds}
+use Rattle.log_lines.specs.Words.{words_in}
 use Rattle.bound_log.specs.declared.fault.LogFault.{LogFault}
 use Rattle.bound_log.specs.declared.fault.LogFault.TheVariants as fault
 use Rattle.bound_log.specs.declared.log.LogStep.{LogStep}
-use Rattle.bound_log.specs.Line.{words_in}
 use Rattle.bound_log.specs.Reading.{columns_at, end_at}
 use Rattle.trail_log.specs.declared.trails.LemmaLine.{LemmaLine}
 use Rattle.trail_log.specs.declared.trails.Trails.{Trails}

@@ -6,15 +6,15 @@ use Rattle.std.proofs.lemmas.List.Elements.{All-append, All-cons, All-head, All-
 use Rattle.std.proofs.lemmas.List.Splits.{join_with_byte-slice_split}
 use Rattle.std.proofs.lemmas.Option.{same_Some}
 use Rattle.cell_num.specs.declared.net.NetNo.{NetNo}
-use Rattle.bound_log.specs.Line.{is_word, number_below, parts_at}
-use Rattle.bound_log.proofs.Decimals.{above_decimal}
-use Rattle.bound_log.proofs.Numbers.{chosen, found_below, is_below, is_other, same_words}
-use Rattle.bound_log.proofs.Parts.{some_part}
+use Rattle.log_lines.specs.Words.{is_word, number_below, parts_at}
+use Rattle.log_lines.proofs.Decimals.{above_decimal}
+use Rattle.log_lines.proofs.Numbers.{chosen, found_below, is_below, is_other, same_words}
+use Rattle.log_lines.proofs.Parts.{some_part}
+use Rattle.log_lines.proofs.Splits.{IsAbove, Lacks, above_lacks, above_more, joined_lacks, split_joined}
 use Rattle.bound_log.proofs.Spelled.{bound, cons_same, mapped}
-use Rattle.bound_log.proofs.Splits.{IsAbove, Lacks, above_lacks, above_more, joined_lacks, split_joined}
+use Rattle.trail_classes.specs.Listed.{each_in, list_in, net_in}
+use Rattle.trail_classes.specs.Text.{list_text, net_text}
 use Rattle.trail_log.specs.Fits.{NetFits}
-use Rattle.trail_log.specs.Line.{each_in, list_in, net_in}
-use Rattle.trail_log.specs.Text.{list_text, net_text}
 
 -- a word that is read is how the item is written, and the item is good
 abbrev pub ReadsOnly : {A : Type 0} → (List ℕ → Option A) → (A → List ℕ) → (A → Type 0) → Type 0

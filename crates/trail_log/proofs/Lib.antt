@@ -1,10 +1,7 @@
 pub mod Classes
-pub mod Decimals
-pub mod Each
 pub mod Fronts
+pub mod Heads
 pub mod Items
-pub mod Joins
 pub mod Only
-pub mod Parts
 pub mod Whole
 pub mod Words

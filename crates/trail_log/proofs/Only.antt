@@ -8,26 +8,29 @@ use Rattle.std.proofs.lemmas.List.Elements.{All-cons, All-nil}
 use Rattle.cell_num.specs.Steps.{◌>>=◌, require, or_fault}
 use Rattle.cell_num.specs.declared.net.NetNo.{NetNo}
 use Rattle.row_state.specs.declared.kind.Kinds.{Kinds}
+use Rattle.log_lines.specs.Words.{is_word, words_in}
+use Rattle.log_lines.specs.Lines.{behind, lines_in}
+use Rattle.log_lines.proofs.Numbers.{chosen, same_words}
+use Rattle.log_lines.proofs.Splits.{bytes_again, fed, lines_text}
 use Rattle.bound_log.specs.declared.fault.LogFault.TheVariants as fault
 use Rattle.bound_log.specs.declared.log.LogStep.{LogStep}
 use Rattle.bound_log.specs.Fits.{BestFits, IsLogName, StepFits}
 use Rattle.row_state.specs.Start.{AreSomeKinds}
-use Rattle.bound_log.specs.Line.{column_in, is_word, words_in}
-use Rattle.bound_log.specs.Reading.{behind, columns_at, end_at, lines_in}
+use Rattle.bound_log.specs.Line.{column_in}
+use Rattle.bound_log.specs.Reading.{columns_at, end_at}
 use Rattle.bound_log.specs.Text.{best_text, column_line}
-use Rattle.bound_log.proofs.Numbers.{chosen, same_words}
 use Rattle.bound_log.proofs.Only.{column_spelled, err-ok, line_of_words, same_Ok, text_cons}
 use Rattle.bound_log.proofs.Spelled.{column_joined, column_words}
-use Rattle.bound_log.proofs.Splits.{bytes_again, fed, lines_text}
+use Rattle.trail_classes.specs.Order.{increases, net_rank}
+use Rattle.trail_classes.specs.Text.{nets_text}
 use Rattle.trail_log.specs.declared.trails.LemmaLine.{LemmaLine}
 use Rattle.trail_log.specs.declared.trails.TrailEntry.{TrailEntry}
 use Rattle.trail_log.specs.declared.trails.TrailEntry.TheVariants as entry
 use Rattle.trail_log.specs.declared.trails.Trails.{Trails}
 use Rattle.trail_log.specs.Fits.{LemmaFits, NetFits, TrailsFit}
 use Rattle.trail_log.specs.Line.{entry_in, fill_in, order_in}
-use Rattle.trail_log.specs.Order.{increases, net_rank}
 use Rattle.trail_log.specs.Reading.{begun_by, fill_at, lemmas_at, named_at, order_at, text_at, trails_of}
-use Rattle.trail_log.specs.Text.{fill_line, lemma_line, nets_text, order_line, trails_text, version_line}
+use Rattle.trail_log.specs.Text.{fill_line, lemma_line, order_line, trails_text, version_line}
 use Rattle.trail_log.proofs.Whole.{read_again, text_apart}
 use Rattle.trail_log.proofs.Words.{EntrySpelled, entry_only, fill_joined, fill_only, lemma_joined, lemma_words, order_joined, order_only}
 

@@ -8,19 +8,22 @@ use Rattle.std.proofs.lemmas.List.Elements.{All-append, All-cons, All-head, All-
 use Rattle.cell_num.specs.declared.net.NetNo.{NetNo}
 use Rattle.row_state.specs.declared.kind.Kinds.{Kinds}
 use Rattle.row_state.specs.Start.{AreSomeKinds}
+use Rattle.log_lines.specs.Words.{is_word, words_in}
+use Rattle.log_lines.specs.Lines.{behind, lines_in}
+use Rattle.log_lines.proofs.Numbers.{is_same}
+use Rattle.log_lines.proofs.Splits.{IsAbove, Lacks, above_lacks, fed, line_behind}
 use Rattle.bound_log.specs.declared.fault.LogFault.{LogFault}
 use Rattle.bound_log.specs.declared.log.Best.{Best}
 use Rattle.bound_log.specs.declared.log.LogStep.{LogStep}
 use Rattle.bound_log.specs.Fits.{BestFits, IsLogName, StepFits}
-use Rattle.bound_log.specs.Line.{column_in, is_word, words_in}
-use Rattle.bound_log.specs.Reading.{behind, columns_at, end_at, lines_in}
+use Rattle.bound_log.specs.Line.{column_in}
+use Rattle.bound_log.specs.Reading.{columns_at, end_at}
 use Rattle.bound_log.specs.Text.{best_text, column_line}
 use Rattle.bound_log.proofs.Again.{by_test, column_above, column_again, words_again, words_lack}
-use Rattle.bound_log.proofs.Numbers.{is_same}
 use Rattle.bound_log.proofs.Only.{err-ok}
 use Rattle.bound_log.proofs.Spelled.{column_words}
-use Rattle.bound_log.proofs.Splits.{IsAbove, Lacks, above_lacks, fed, line_behind}
 use Rattle.bound_log.proofs.Whole.{columns_front, fed_first, gaps_above, gaps_front}
+use Rattle.trail_classes.specs.Text.{nets_text}
 use Rattle.trail_log.specs.declared.trails.LemmaLine.{LemmaLine}
 use Rattle.trail_log.specs.declared.trails.TrailEntry.{TrailEntry}
 use Rattle.trail_log.specs.declared.trails.TrailEntry.TheVariants as entry
@@ -28,7 +31,7 @@ use Rattle.trail_log.specs.declared.trails.Trails.{Trails}
 use Rattle.trail_log.specs.Fits.{LemmaFits, TrailsFit}
 use Rattle.trail_log.specs.Line.{entry_in, fill_in, order_in}
 use Rattle.trail_log.specs.Reading.{begun_by, fill_at, lemmas_at, named_at, order_at, text_at, trails_of}
-use Rattle.trail_log.specs.Text.{fill_line, head_lines, lemma_line, nets_text, order_line, trails_text, version_line}
+use Rattle.trail_log.specs.Text.{fill_line, head_lines, lemma_line, order_line, trails_text, version_line}
 use Rattle.trail_log.proofs.Words.{fill_above, fill_again, fill_joined, gaps_again, lemma_above, lemma_again, lemma_joined, lemma_words, order_above, order_again, order_joined}
 
 fed_behind : (line text : List ℕ) → Lacks 10 line → behind (fed line ++ text) ≡ behind text

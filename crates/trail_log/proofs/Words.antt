@@ -7,21 +7,24 @@ use Rattle.std.proofs.lemmas.List.{append_assoc}
 use Rattle.std.proofs.lemmas.List.Elements.{All-cons, All-nil}
 use Rattle.std.proofs.lemmas.Option.{none-some, same_Some}
 use Rattle.cell_num.specs.declared.net.NetNo.{NetNo}
-use Rattle.bound_log.specs.Line.{gaps_in, is_word, number_below}
+use Rattle.log_lines.specs.Words.{is_word, number_below}
+use Rattle.log_lines.proofs.Decimals.{above_decimal}
+use Rattle.log_lines.proofs.Numbers.{chosen, found_below, is_below, same_words}
+use Rattle.log_lines.proofs.Splits.{IsAbove, above_more, fed}
+use Rattle.bound_log.specs.Line.{gaps_in}
 use Rattle.bound_log.proofs.Again.{by_test}
-use Rattle.bound_log.proofs.Decimals.{above_decimal}
-use Rattle.bound_log.proofs.Numbers.{chosen, found_below, is_below, same_words}
 use Rattle.bound_log.proofs.Spelled.{bound, cons_same, is_provided, mapped}
-use Rattle.bound_log.proofs.Splits.{IsAbove, above_more, fed}
-use Rattle.trail_log.specs.declared.trails.Class.{Class}
+use Rattle.trail_classes.specs.declared.class.Class.{Class}
+use Rattle.trail_classes.specs.declared.class.NetPair.{NetPair}
+use Rattle.trail_classes.specs.Listed.{class_in, classes_in, list_in, node_in, odd_in}
+use Rattle.trail_classes.specs.Order.{classes_in_order, increases, net_rank, node_rank}
+use Rattle.trail_classes.specs.Text.{class_text, classes_text, net_text, nets_text, node_text, nodes_text}
 use Rattle.trail_log.specs.declared.trails.LemmaLine.{LemmaLine}
-use Rattle.trail_log.specs.declared.trails.NetPair.{NetPair}
 use Rattle.trail_log.specs.declared.trails.TrailEntry.{TrailEntry}
 use Rattle.trail_log.specs.declared.trails.TrailEntry.TheVariants as entry
 use Rattle.trail_log.specs.Fits.{ClassFits, LemmaFits, NetFits, NodeFits}
-use Rattle.trail_log.specs.Line.{class_in, classes_in, entry_in, fill_in, lemma_in, list_in, nets_behind, node_in, odd_in, order_in}
-use Rattle.trail_log.specs.Order.{classes_in_order, increases, net_rank, node_rank}
-use Rattle.trail_log.specs.Text.{class_text, classes_text, fill_line, lemma_line, net_text, nets_text, node_text, nodes_text, order_line}
+use Rattle.trail_log.specs.Line.{entry_in, fill_in, lemma_in, nets_behind, order_in}
+use Rattle.trail_log.specs.Text.{fill_line, lemma_line, order_line}
 use Rattle.trail_log.proofs.Items.{list_above, net_above, nets_again, nets_only}
 use Rattle.trail_log.proofs.Classes.{class_above, classes_again, classes_only, node_above, nodes_again, nodes_only}
 

@@ -3,11 +3,12 @@ use Rattle.std.specs.Prelude.{ℕ, ◌+◌, List, [], ◌∷◌, ◌++◌, Some,
 use Rattle.cell_num.specs.Steps.{◌>>=◌, require, or_fault}
 use Rattle.cell_num.specs.declared.net.NetNo.{NetNo}
 use Rattle.row_state.specs.declared.kind.Kinds.{Kinds}
+use Rattle.log_lines.specs.Words.{is_word, words_in}
+use Rattle.log_lines.specs.Lines.{behind, lines_in}
 use Rattle.bound_log.specs.declared.fault.LogFault.{LogFault}
 use Rattle.bound_log.specs.declared.fault.LogFault.TheVariants as fault
 use Rattle.bound_log.specs.declared.log.LogStep.{LogStep}
-use Rattle.bound_log.specs.Line.{is_word, words_in}
-use Rattle.bound_log.specs.Reading.{behind, columns_at, end_at, lines_in}
+use Rattle.bound_log.specs.Reading.{columns_at, end_at}
 use Rattle.trail_log.specs.declared.trails.Trails.{Trails}
 use Rattle.trail_log.specs.declared.trails.TrailEntry.{TrailEntry}
 use Rattle.trail_log.specs.declared.trails.TrailEntry.TheVariants as entry

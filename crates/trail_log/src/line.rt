@@ -1,58 +1,14 @@
 ghost use Rattle.std.specs.Prelude.{◌≡◌, ◌≤◌, IfOk, List as Sequence, ℕ, codes, map};
-ghost use Rattle.std.specs.List.{list_all};
-ghost use Rattle.bound_log.specs.Line.{gaps_in, words_in};
-ghost use Rattle.trail_log.specs.declared.trails.Class.{Class as ClassOf};
-ghost use Rattle.trail_log.specs.Line.{classes_in, entry_in, fill_in, lemma_in, nets_behind, odd_in, order_in};
-ghost use Rattle.trail_log.specs.Order.{classes_in_order, increases, node_rank};
+ghost use Rattle.log_lines.specs.Words.{words_in};
+ghost use Rattle.bound_log.specs.Line.{gaps_in};
+ghost use Rattle.trail_log.specs.Line.{entry_in, fill_in, lemma_in, nets_behind, order_in};
 
-use crate::listed::{increases, read_list};
-use crate::word::{is_word, number_below, parts};
-use crate::{Class, ClassList, LemmaLine, MOST_ENDS, NetList, NetPairs, TrailEntry};
+use crate::{LemmaLine, MOST_ENDS, TrailEntry};
 use bound_log::MOST_GAPS;
 use cell_num::{MOST_COLUMNS, MOST_NETS, NoMemory};
+use log_lines::{all_parts, is_word, number_below};
 use std::alloc::Global;
-
-fn each_in_order(classes: &[Class]) -> bool
-    ensures { result ≡ list_all (λ (class : ClassOf). increases node_rank class.nodes) classes.now }
-{
-    classes
-        .iter()
-        .all(|class| increases(class.nodes.as_slice()))
-}
-
-fn are_in_order(classes: &[Class]) -> bool
-    ensures { result ≡ classes_in_order classes.now }
-{
-    each_in_order(classes) && increases(classes)
-}
-
-fn odd(alloc: Global, nets: u32, word: &[u8]) -> Result<Option<NetPairs>, NoMemory>
-    requires { nets ≤ MOST_NETS }
-    ensures { IfOk result (λ nodes. nodes ≡ odd_in nets word.now) }
-{
-    let Some(nodes): Option<NetPairs> = read_list(alloc, nets, word)? else {
-        return Ok(None);
-    };
-    if increases(nodes.as_slice()) {
-        Ok(Some(nodes))
-    } else {
-        Ok(None)
-    }
-}
-
-fn classes(alloc: Global, nets: u32, word: &[u8]) -> Result<Option<ClassList>, NoMemory>
-    requires { nets ≤ MOST_NETS }
-    ensures { IfOk result (λ classes. classes ≡ classes_in nets word.now) }
-{
-    let Some(classes): Option<ClassList> = read_list(alloc, nets, word)? else {
-        return Ok(None);
-    };
-    if are_in_order(classes.as_slice()) {
-        Ok(Some(classes))
-    } else {
-        Ok(None)
-    }
-}
+use trail_classes::{NetList, increases, read_classes, read_list, read_odd};
 
 fn lemma(alloc: Global, nets: u32, words: &[&[u8]]) -> Result<Option<LemmaLine>, NoMemory>
     requires { nets ≤ MOST_NETS }
@@ -70,13 +26,13 @@ fn lemma(alloc: Global, nets: u32, words: &[&[u8]]) -> Result<Option<LemmaLine>,
     let Some(done) = number_below(done, MOST_COLUMNS as u32) else {
         return Ok(None);
     };
-    let Some(odd) = odd(alloc, nets, odd_word)? else {
+    let Some(odd) = read_odd(alloc, nets, odd_word)? else {
         return Ok(None);
     };
     if !is_word(free, b"-") {
         return Ok(None);
     }
-    let Some(classes) = classes(alloc, nets, classes_word)? else {
+    let Some(classes) = read_classes(alloc, nets, classes_word)? else {
         return Ok(None);
     };
     Ok(Some(LemmaLine {
@@ -124,7 +80,7 @@ pub(crate) fn read_entry(
     requires { nets ≤ MOST_NETS }
     ensures { IfOk result (λ entry. entry ≡ entry_in nets (words_in line.now)) }
 {
-    let words = parts(alloc, line, b' ')?;
+    let words = all_parts(alloc, line, b' ')?;
     let entry = entry_of_words(alloc, nets, words.as_slice())?;
     Ok(entry)
 }
@@ -138,7 +94,7 @@ fn read_nets(
     requires { nets ≤ MOST_NETS }
     ensures { IfOk result (λ gates. gates ≡ nets_behind front.now nets (words_in line.now)) }
 {
-    let words = parts(alloc, line, b' ')?;
+    let words = all_parts(alloc, line, b' ')?;
     nets_of_words(alloc, front, nets, words.as_slice())
 }
 

@@ -1,67 +1,20 @@
-ghost use Rattle.std.specs.Prelude.{◌≡◌, ◌≢◌, ◌≤◌, ◌+◌, IfOk, IfErr, Ok, Err, length};
+ghost use Rattle.std.specs.Prelude.{◌≡◌, ◌≢◌, ◌≤◌, IfOk, IfErr, Ok, Err, length};
+ghost use Rattle.log_lines.specs.Lines.{behind, lines_in};
 ghost use Rattle.bound_log.specs.declared.fault.LogFault.TheVariants as fault;
 ghost use Rattle.bound_log.specs.Fits.{IsLogName};
-ghost use Rattle.bound_log.specs.Reading.{behind, columns_at, end_at, lines_in};
 ghost use Rattle.trail_log.specs.declared.trails.Trails.{Trails as TrailsOf};
 ghost use Rattle.trail_log.specs.Fits.{TrailsFit};
 ghost use Rattle.trail_log.specs.Reading.{fill_at, lemmas_at, named_at, order_at, trails_of};
 ghost use Rattle.trail_log.specs.Text.{trails_text};
 
-use crate::column::read_column;
 use crate::line::{read_entry, read_fill, read_order};
-use crate::word::{first_line, is_named, is_word};
-use crate::{LemmaLines, NetList, TrailEntry, Trails};
-use bound_log::{Best, LogFault, LogSteps};
+use crate::{LemmaLines, TrailEntry, Trails};
+use bound_log::{Best, LogFault, read_columns, read_end};
 use cell_num::{MOST_BYTES, Name};
+use log_lines::{first_line, is_named, is_word};
 use row_state::Kinds;
 use std::alloc::Global;
-
-// The line `end`, and nothing behind it.
-#[tactic(auto, using(bound_log::proofs::Feeds::ended, bound_log::proofs::Feeds::ended_before, bound_log::proofs::Feeds::not_ended))]
-fn read_end(bytes: &[u8], number: u32) -> Result<(), LogFault>
-    requires { number ≤ MOST_BYTES + 5 }
-    ensures { result ≡ end_at number (lines_in bytes.now) (behind bytes.now) }
-{
-    let Some(first) = first_line(bytes) else {
-        return Err(LogFault::Cut);
-    };
-    if !is_word(first.line, b"end") {
-        return Err(LogFault::Line { line: number });
-    }
-    if !first.after.is_empty() {
-        return Err(LogFault::Line { line: number + 1 });
-    }
-    Ok(())
-}
-
-// The columns up to the line `end`, the last.
-#[tactic(auto, using(bound_log::proofs::Fronts::columns_cut, bound_log::proofs::Fronts::columns_done, bound_log::proofs::Fronts::columns_open, bound_log::proofs::Fronts::columns_wrong, bound_log::proofs::Fronts::columns_more))]
-fn read_columns(alloc: Global, kinds: &Kinds, bytes: &[u8], from: u32) -> Result<LogSteps, LogFault>
-    requires few { length bytes.now + from ≤ MOST_BYTES + 5 }
-    ensures steps { IfOk result (λ steps.
-        columns_at kinds.now from (lines_in bytes.now) (behind bytes.now) ≡ Ok steps) }
-    ensures fault { IfErr result (λ f. f ≢ fault.NoMemory →
-        columns_at kinds.now from (lines_in bytes.now) (behind bytes.now) ≡ Err f) }
-{
-    let mut steps = LogSteps::new(alloc);
-    let mut rest = bytes;
-    let mut number = from;
-    'columns: loop {
-        let Some(first) = first_line(rest) else {
-            return Err(LogFault::Cut);
-        };
-        if is_word(first.line, b"end") {
-            read_end(rest, number)?;
-            return Ok(steps);
-        }
-        let Some(listed) = read_column(alloc, kinds, first.line)? else {
-            return Err(LogFault::Line { line: number });
-        };
-        steps.push(listed)?;
-        rest = first.after;
-        number += 1;
-    }
-}
+use trail_classes::NetList;
 
 // The lemmas behind the order, and behind them the row that they certify, or `open`.
 #[tactic(auto, using(crate::proofs::Fronts::lemmas_cut, crate::proofs::Fronts::lemmas_wrong, crate::proofs::Fronts::lemmas_more, crate::proofs::Fronts::lemmas_listed, crate::proofs::Fronts::lemmas_unlisted, crate::proofs::Fronts::lemmas_ended, crate::proofs::Fronts::lemmas_unended))]

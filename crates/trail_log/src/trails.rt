@@ -1,28 +1,9 @@
 use bound_log::Best;
-use cell_num::{List, NetNo};
+use cell_num::List;
+use trail_classes::{ClassList, NetList, NetPairs};
 
 /// The greatest bound that the text of a certificate can hold: two ends for each of 32 columns.
 pub const MOST_ENDS: u32 = 64;
-
-pub type NetList = List<NetNo>;
-
-/// A net of the P row above a net of the N row, the place of an end of a column.
-#[derive(Clone, Copy, Debug)]
-pub struct NetPair {
-    pub p: NetNo,
-    pub n: NetNo,
-}
-
-pub type NetPairs = List<NetPair>;
-
-/// Pairs of nets that the columns so far chain, and whether a trail through them has an end already.
-#[derive(Debug, Drop)]
-pub struct Class {
-    pub nodes: NetPairs,
-    pub flagged: bool,
-}
-
-pub type ClassList = List<Class>;
 
 /// Behind the first `done` gates of the order, where they left an odd number of ends at the pairs `odd`, and
 /// chained those that later gates can meet to these classes, at least `bound` more ends of trails come.

@@ -12,11 +12,11 @@ use Rattle.trail_step.specs.declared.edge.Node.{Node}
 use Rattle.trail_step.specs.declared.state.Place.{Place}
 use Rattle.trail_state.specs.declared.level.Level.{Level}
 use Rattle.trail_state.specs.Members.{Passes, passes_from, passes_to}
-use Rattle.trail_log.specs.declared.trails.Class.{Class}
+use Rattle.trail_classes.specs.declared.class.Class.{Class}
+use Rattle.trail_classes.specs.declared.class.NetPair.{NetPair}
+use Rattle.trail_classes.specs.Order.{class_rank, classes_in_order, first_rank, increases, node_rank}
 use Rattle.trail_log.specs.declared.trails.LemmaLine.{LemmaLine}
-use Rattle.trail_log.specs.declared.trails.NetPair.{NetPair}
 use Rattle.trail_log.specs.Fits.{ClassFits, LemmaFits, NodeFits}
-use Rattle.trail_log.specs.Order.{class_rank, classes_in_order, first_rank, increases, node_rank}
 use Rattle.trail_check.specs.Listed.{nodes_of}
 use Rattle.trail_prove.specs.Line.{AllNodes, AreNodes, IsNode, class_at, is_name, is_odd, is_of, line_of, pair_at}
 use Rattle.trail_prove.specs.Search.{IsStateOf}

@@ -4,9 +4,9 @@ use Rattle.std.specs.List.{filter}
 use Rattle.trail_step.specs.declared.edge.Node.{Node}
 use Rattle.trail_step.specs.declared.state.Place.{Place}
 use Rattle.trail_state.specs.declared.level.Level.{Level}
-use Rattle.trail_log.specs.declared.trails.Class.{Class}
+use Rattle.trail_classes.specs.declared.class.Class.{Class}
+use Rattle.trail_classes.specs.declared.class.NetPair.{NetPair}
 use Rattle.trail_log.specs.declared.trails.LemmaLine.{LemmaLine}
-use Rattle.trail_log.specs.declared.trails.NetPair.{NetPair}
 
 -- the nets of a place's node
 abbrev pub pair_at : Place → NetPair

@@ -5,7 +5,7 @@ ghost use Rattle.trail_prove.specs.Order.{gates_of, has_finger};
 
 use cell_num::{Finger, Fingers, List, NetNo, NoMemory};
 use std::alloc::{AllocError, Global};
-use trail_log::NetList;
+use trail_classes::NetList;
 
 fn count_on(fingers: &[Finger], gate: u32) -> usize
     ensures { result ≡ on_gate gate fingers.now }

@@ -5,7 +5,7 @@ ghost use Rattle.trail_state.specs.Levels.{IsOrder};
 use crate::gates::gates;
 use cell_num::{Fingers, List, NetNo, NoMemory};
 use std::alloc::{AllocError, Global};
-use trail_log::NetList;
+use trail_classes::NetList;
 use trail_state::open_nodes;
 use trail_step::Node;
 

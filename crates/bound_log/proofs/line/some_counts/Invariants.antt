@@ -1,6 +1,7 @@
 use Rattle.std.proofs.Common.{◌≡◌}
 use Rattle.std.specs.Prelude.{drop}
-use Rattle.bound_log.specs.Line.{counts_each, parts_at, parts_left}
+use Rattle.log_lines.specs.Words.{parts_at, parts_left}
+use Rattle.bound_log.specs.Line.{counts_each}
 use Rattle.bound_log.proofs.Counts.{with_front}
 use Rattle.bound_log.proofs.line.some_counts.Given as goal
 

@@ -1,7 +1,9 @@
 use Rattle.std.proofs.Common.{rules, sym, ◌≡◌, None}
 use Rattle.std.proofs.lemmas.Result.{err_from_is_err_and}
-use Rattle.bound_log.specs.Line.{column_in, words_in}
-use Rattle.bound_log.specs.Reading.{behind, columns_at, lines_in}
+use Rattle.log_lines.specs.Words.{words_in}
+use Rattle.log_lines.specs.Lines.{behind, lines_in}
+use Rattle.bound_log.specs.Line.{column_in}
+use Rattle.bound_log.specs.Reading.{columns_at}
 use Rattle.bound_log.proofs.Fronts.{columns_done, columns_open, columns_wrong}
 use Rattle.bound_log.proofs.read.read_columns.Goals as goal
 

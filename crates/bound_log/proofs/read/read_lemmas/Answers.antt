@@ -1,9 +1,11 @@
 use Rattle.std.proofs.Common.{rules, sym, ◌∙◌, ◌≡◌, ◌+◌, ◌≤◌, length, arith, Some}
 use Rattle.std.proofs.lemmas.Result.{err_from_is_err_and}
 use Rattle.cell_num.specs.declared.limits.TheConstants.{MOST_BYTES}
+use Rattle.log_lines.specs.Words.{words_in}
+use Rattle.log_lines.specs.Lines.{behind, lines_in}
 use Rattle.bound_log.specs.declared.log.Entry.TheVariants as entry
-use Rattle.bound_log.specs.Line.{entry_in, words_in}
-use Rattle.bound_log.specs.Reading.{behind, lines_in, log_at}
+use Rattle.bound_log.specs.Line.{entry_in}
+use Rattle.bound_log.specs.Reading.{log_at}
 use Rattle.bound_log.proofs.Fronts.{log_more, log_unlisted, log_wrong}
 use Rattle.bound_log.proofs.read.read_lemmas.Goals as goal
 

@@ -1,6 +1,7 @@
 use Rattle.std.proofs.Common.{◌≡◌, ◌+◌, ◌≤◌, length}
 use Rattle.cell_num.specs.declared.limits.TheConstants.{MOST_BYTES}
-use Rattle.bound_log.specs.Reading.{behind, lines_in, log_at}
+use Rattle.log_lines.specs.Lines.{behind, lines_in}
+use Rattle.bound_log.specs.Reading.{log_at}
 use Rattle.bound_log.proofs.Fronts.{with_lemmas}
 use Rattle.bound_log.proofs.read.read_lemmas.Given as goal
 

@@ -1,10 +1,10 @@
 use Rattle.std.proofs.Common.{rules, ◌∙◌, ◌≡◌, ◌+◌, ◌≤◌, length, arith, None, Some}
 use Rattle.std.proofs.lemmas.Result.{err_from_is_err_and}
 use Rattle.cell_num.specs.declared.limits.TheConstants.{MOST_BYTES}
+use Rattle.log_lines.specs.Words.{words_in}
+use Rattle.log_lines.specs.Lines.{behind, lines_in}
 use Rattle.trail_log.specs.declared.trails.TrailEntry.TheVariants as entry
-use Rattle.bound_log.specs.Line.{words_in}
 use Rattle.trail_log.specs.Line.{entry_in}
-use Rattle.bound_log.specs.Reading.{behind, lines_in}
 use Rattle.trail_log.specs.Reading.{lemmas_at}
 use Rattle.trail_log.proofs.Fronts.{lemmas_ended, lemmas_listed, lemmas_more, lemmas_unlisted, lemmas_wrong}
 use Rattle.trail_log.proofs.read.read_lemmas.Goals as goal

@@ -1,6 +1,6 @@
 use Rattle.std.proofs.Common.{◌≡◌, ◌+◌, ◌≤◌, length}
 use Rattle.cell_num.specs.declared.limits.TheConstants.{MOST_BYTES}
-use Rattle.bound_log.specs.Reading.{behind, lines_in}
+use Rattle.log_lines.specs.Lines.{behind, lines_in}
 use Rattle.trail_log.specs.Reading.{lemmas_at}
 use Rattle.trail_log.proofs.Fronts.{with_lemmas}
 use Rattle.trail_log.proofs.read.read_lemmas.Given as goal

@@ -1,4 +1,4 @@
-use Rattle.trail_log.proofs.Joins.{head_behind}
+use Rattle.trail_log.proofs.Heads.{head_behind}
 use Rattle.trail_log.proofs.write.put_head.Goals as goal
 
 pub returns : goal.returns

@@ -7,4 +7,4 @@ use Rattle.bound_log.proofs.reader.LogReader.say_whole.Goals as goal
 pub returns-clause-fits : goal.returns-clause-fits
 returns-clause-fits c =
     let same : c.self.inside.kinds ≡ c.args.self.now.kinds = search rules in
-    subst (λ (k : Kinds). IfOk c.say_line.result (SaidFits k)) same (says_fit c.self.inside.name c.self.inside.kinds c.self.inside.place c.self.inside.number c.args.line.now c.say_line.result (search rules) c.self.invariant.1 c.say_line.ensures.said)
+    subst (λ (k : Kinds). IfOk c.say_line.result (SaidFits k)) same (says_fit c.self.inside.name c.self.inside.kinds c.self.inside.place c.self.inside.number c.args.line.now c.say_line.result (search rules) c.self.invariant c.say_line.ensures.said)

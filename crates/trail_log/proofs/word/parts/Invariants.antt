@@ -1,9 +1,0 @@
-use Rattle.std.proofs.Common.{◌≡◌, ◌≤◌, ◌++◌, length, map}
-use Rattle.bound_log.specs.Line.{parts_at}
-use Rattle.trail_log.proofs.word.parts.Given as goal
-
-abbrev pub invariant-parts : goal.invariant-parts
-invariant-parts l = (map (λ p. p.now) l.parts ++ parts_at l.byte l.rest ≡ parts_at l.byte l.text) × (length l.rest ≤ length l.text)
-
-abbrev pub decreases-parts : goal.decreases-parts
-decreases-parts l = length l.rest
