@@ -9,10 +9,10 @@ use Rattle.row_state.specs.Code.{state_code}
 use Rattle.row_state.specs.Start.{IsState}
 use Rattle.row_state.proofs.Codes.{state_same}
 use Rattle.bound_log.specs.declared.log.Lemma.{Lemma}
-use Rattle.log_check.specs.Accepted.{same_state, raised, better}
-use Rattle.log_check.specs.declared.known.Known.{Known}
-use Rattle.log_check.specs.Known.{bound_in, best_known, Knows}
-use Rattle.log_check.proofs.Sound.{same_state_is, same_state_from}
+use Rattle.lemma_check.specs.Reaches.{same_state, raised, better}
+use Rattle.lemma_check.specs.declared.known.Known.{Known}
+use Rattle.lemma_check.specs.Known.{bound_in, best_known, Knows}
+use Rattle.lemma_check.proofs.States.{same_state_is, same_state_from}
 
 differs : (x s : State) → (x ≡ s → ⊥) → same_state x s ≡ false
 differs x s other = elim (cases_Bool (same_state x s)) [ inl same ↦ absurd (other (same_state_is x s same)) | inr e ↦ e ]

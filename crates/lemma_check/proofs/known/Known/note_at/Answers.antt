@@ -1,8 +1,8 @@
 use Rattle.std.proofs.Common.{rules, ◌≡◌, max, sym}
 use Rattle.std.specs.Prelude.{nat_eq, unwrap_or}
 use Rattle.std.specs.HashMap.{get}
-use Rattle.log_check.proofs.Kept.{one_raised}
-use Rattle.log_check.proofs.known.Known.note_at.Goals as goal
+use Rattle.lemma_check.proofs.Kept.{one_raised}
+use Rattle.lemma_check.proofs.known.Known.note_at.Goals as goal
 
 pub returns-clause-raised : goal.returns-clause-raised
 returns-clause-raised c = λ k x valid e s state.

@@ -7,8 +7,8 @@ use Rattle.row_state.specs.declared.state.State.{State}
 use Rattle.row_state.specs.Code.{state_code}
 use Rattle.row_state.specs.Start.{IsState}
 use Rattle.bound_log.specs.declared.log.Lemma.{Lemma}
-use Rattle.log_check.specs.declared.known.Known.{Known}
-use Rattle.log_check.specs.Accepted.{best_of}
+use Rattle.lemma_check.specs.declared.known.Known.{Known}
+use Rattle.lemma_check.specs.Reaches.{best_of}
 
 -- the bound that a table by numbers of states has of the state, 0 if none
 abbrev pub bound_in : (ℕ → Option ℕ) → Kinds → State → ℕ

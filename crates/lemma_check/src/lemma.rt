@@ -2,9 +2,9 @@ ghost use Rattle.std.specs.Prelude.{◌≤◌, ◌↔◌, IfOk, IsTrue};
 ghost use Rattle.row_state.specs.Candidates.{AreCandidates, IsCandidate, IsNumbered};
 ghost use Rattle.row_state.specs.Start.{IsState};
 ghost use Rattle.row_state.specs.Steps.{IsPossible};
-ghost use Rattle.log_check.specs.Accepted.{BranchReaches, RuleReaches, StepReaches};
-ghost use Rattle.log_check.specs.Known.{best_known};
-ghost use Rattle.log_check.specs.Noted.{AreNoted};
+ghost use Rattle.lemma_check.specs.Reaches.{BranchReaches, RuleReaches, StepReaches};
+ghost use Rattle.lemma_check.specs.Known.{best_known};
+ghost use Rattle.lemma_check.specs.Noted.{AreNoted};
 
 use crate::{Known, Trails};
 use bound_log::Rule;
@@ -83,17 +83,18 @@ fn row_reaches<B: RowBound>(
     Ok(bound.is_above(row, state, kinds, counted, empty, reached - 1))
 }
 
-// What a lemma may rest on: all columns that may ever come next, the bounds of earlier lemmas, and that of a row.
+/// What a lemma may rest on: all columns that may ever come next, the bounds of earlier lemmas, and that of a row.
 #[derive(Clone, Copy)]
-pub(crate) struct Grounds<'a, B> {
+pub struct Grounds<'a, B> {
     pub kinds: &'a Kinds,
     pub candidates: &'a Candidates,
     pub known: &'a Known,
     pub bound: &'a B,
 }
 
-// Whether by this rule each completion of the state has so many further gaps.
-pub(crate) fn reaches<B: RowBound>(
+/// Whether by this rule each completion of the state has so many further gaps. The trails of rows that are counted for it
+/// are noted.
+pub fn reaches<B: RowBound>(
     grounds: &Grounds<B>,
     trails: &mut Trails,
     at: &Numbered,

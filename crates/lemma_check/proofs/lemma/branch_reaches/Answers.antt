@@ -1,9 +1,9 @@
 use Rattle.std.proofs.Common.{refl}
 use Rattle.std.proofs.lemmas.List.Elements.{All-more}
 use Rattle.row_state.specs.declared.candidate.Candidate.{Candidate}
-use Rattle.log_check.specs.Known.{best_known}
-use Rattle.log_check.proofs.Branches.{Passes, branch_end}
-use Rattle.log_check.proofs.lemma.branch_reaches.Goals as goal
+use Rattle.lemma_check.specs.Known.{best_known}
+use Rattle.lemma_check.proofs.Branches.{Passes, branch_end}
+use Rattle.lemma_check.proofs.lemma.branch_reaches.Goals as goal
 
 pub loop-next-preserved : goal.loop-next-preserved
 loop-next-preserved c =

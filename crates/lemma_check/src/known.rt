@@ -4,8 +4,8 @@ ghost use Rattle.row_state.specs.declared.kind.Kinds.{Kinds as KindsOf};
 ghost use Rattle.row_state.specs.declared.state.State.{State as StateOf};
 ghost use Rattle.row_state.specs.Code.{state_code};
 ghost use Rattle.row_state.specs.Start.{IsState};
-ghost use Rattle.log_check.specs.Accepted.{raised};
-ghost use Rattle.log_check.specs.Known.{best_known, noted};
+ghost use Rattle.lemma_check.specs.Reaches.{raised};
+ghost use Rattle.lemma_check.specs.Known.{best_known, noted};
 
 use cell_num::NoMemory;
 use row_state::{Kinds, State, code};

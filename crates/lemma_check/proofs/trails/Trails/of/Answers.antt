@@ -1,4 +1,4 @@
-use Rattle.log_check.proofs.trails.Trails.of.Goals as goal
+use Rattle.lemma_check.proofs.trails.Trails.of.Goals as goal
 
 pub returns-in-P-clause-noted : goal.returns-in-P-clause-noted
 returns-in-P-clause-noted g c = record { p = c.trails_of.ensures.noted; n = c.requires.noted.n }

@@ -2,8 +2,8 @@ use Rattle.std.proofs.Common.{◌≡◌, ◌≤◌, ◌+◌, arith, sym}
 use Rattle.std.proofs.lemmas.Bool.{le-leb, leb-true}
 use Rattle.row_state.specs.Completion.{cost_of}
 use Rattle.row_state.specs.Steps.{column_of, state_after}
-use Rattle.log_check.specs.Known.{best_known}
-use Rattle.log_check.proofs.lemma.step_reaches.Goals as goal
+use Rattle.lemma_check.specs.Known.{best_known}
+use Rattle.lemma_check.proofs.lemma.step_reaches.Goals as goal
 
 pub returns : goal.returns
 returns c =

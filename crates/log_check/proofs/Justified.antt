@@ -1,40 +1,22 @@
--- All next columns of a list are all next columns.
-use Rattle.std.proofs.Common.{ℕ, ◌≡◌, ◌<◌, ◌≤◌, List, [], ◌∷◌, length, take, get_or, All, ap, subst, sym, arith, take_all, ◌↔◌}
-use Rattle.std.proofs.lemmas.List.Elements.{All-cons, All-contains, All-get_or, All-head, All-nil, All-tail}
-use Rattle.std.specs.Prelude.{Bool, IsTrue, ltb}
-use Rattle.std.proofs.Common.{◌+◌, ◌-◌, ◌∙◌}
-use Rattle.std.proofs.lemmas.Bool.{lt-ltb, ltb-true}
+-- When a lemma is justified, and which is the first that is not.
+use Rattle.std.proofs.Common.{ℕ, ◌≡◌, ◌<◌, ◌≤◌, List, length, take, get_or, ap, subst, sym, arith, ◌↔◌, ◌+◌, ◌∙◌}
 use Rattle.std.proofs.lemmas.List.{get_or_default}
 use Rattle.cell_num.specs.declared.finger.Row.{Row}
 use Rattle.row_state.specs.declared.kind.Kinds.{Kinds}
 use Rattle.row_state.specs.declared.state.State.{State}
-use Rattle.row_state.specs.declared.step.Step.{Step}
-use Rattle.row_state.specs.declared.candidate.Candidate.{Candidate}
-use Rattle.row_state.specs.Candidates.{AreCandidates, IsCandidate, IsNumbered, candidate_steps}
+use Rattle.row_state.specs.Candidates.{IsNumbered}
 use Rattle.row_state.specs.declared.numbered.Numbered.{Numbered}
 use Rattle.row_state.specs.Code.{state_code}
 use Rattle.row_state.specs.Completion.{cost_of}
 use Rattle.row_state.specs.Start.{AreSomeKinds, IsState}
-use Rattle.row_state.specs.Steps.{IsPossible, column_of, state_after}
+use Rattle.row_state.specs.Steps.{column_of, state_after}
 use Rattle.row_state.proofs.Calls.{valid_after}
-use Rattle.row_state.proofs.Digits.{among_candidates}
 use Rattle.bound_log.specs.declared.log.Rule.{Rule}
 use Rattle.bound_log.specs.declared.log.Rule.TheVariants as by
 use Rattle.bound_log.specs.declared.log.Lemma.{Lemma}
-use Rattle.log_check.specs.Accepted.{StepReaches, BranchReaches, RuleReaches, IsJustified, best_of}
+use Rattle.lemma_check.specs.Reaches.{RuleReaches, best_of}
+use Rattle.log_check.specs.Accepted.{IsJustified}
 use Rattle.log_check.specs.Refusal.{IsFirstUnjustified}
-
--- the column reaches the bound, if it may come next
-abbrev pub Passes : Kinds → (State → ℕ) → State → ℕ → Step → Type 0
-Passes k best s bound step = IsPossible k s step → StepReaches k best s bound step
-
-pub branch_all : (k : Kinds) (s : State) (all : List Candidate) (best : State → ℕ) (bound : ℕ) → IsState k s → AreCandidates k all → All (λ (c : Candidate). Passes k best s bound c.step) all → BranchReaches k best s bound
-branch_all k s all best bound valid are each step possible =
-    All-contains (Passes k best s bound) (candidate_steps all) step (steps_of all each) (among_candidates k all s step are valid possible) possible
-  where
-    steps_of : (cs : List Candidate) → All (λ (c : Candidate). Passes k best s bound c.step) cs → All (Passes k best s bound) (candidate_steps cs)
-    steps_of [] h = All-nil (Passes k best s bound)
-    steps_of (c ∷ cs) h = All-cons (Passes k best s bound) c.step (candidate_steps cs) (All-head (λ (c : Candidate). Passes k best s bound c.step) c cs h) (steps_of cs (All-tail (λ (c : Candidate). Passes k best s bound c.step) c cs h))
 
 -- a lemma is justified where its state, with its number, reaches the bound
 pub justified_by : (value : Row → State → Kinds → ℕ) (k : Kinds) (best : State → ℕ) (s : State) (x : Lemma) → s ≡ x.state → IsState k x.state → RuleReaches value k best x.rule s x.bound → IsJustified value k best x
@@ -45,13 +27,6 @@ reaches_by value k best s x same h = subst (λ (t : State). RuleReaches value k 
 
 pub code_of : (k : Kinds) (at : Numbered) (s : State) → at.state ≡ s → IsNumbered k at → state_code k s ≡ at.code
 code_of k at s same numbered = ap (state_code k) (sym same) ∙ sym numbered.code
-
-pub candidate_is : (k : Kinds) (all : List Candidate) (i : ℕ) (d : Candidate) → AreCandidates k all → i < length all → IsCandidate k (get_or all i d)
-candidate_is k all i d are within = All-get_or (IsCandidate k) all i d within are.each
-
-pub branch_end : (k : Kinds) (s : State) (all items : List Candidate) (i : ℕ) (best : State → ℕ) (bound : ℕ) → IsState k s → AreCandidates k all → items ≡ all → length items ≤ i → All (λ (c : Candidate). Passes k best s bound c.step) (take i items) → BranchReaches k best s bound
-branch_end k s all items i best bound valid are same past each =
-    branch_all k s all best bound valid are (subst (All (λ (c : Candidate). Passes k best s bound c.step)) same (subst (All (λ (c : Candidate). Passes k best s bound c.step)) (take_all i items past) each))
 
 -- where two tell the same best bound of each valid state, they justify the same
 same_reach : (value : Row → State → Kinds → ℕ) (k : Kinds) (rule : Rule) (x : State) (bound : ℕ) (best other : State → ℕ) → AreSomeKinds k → IsState k x → ((s : State) → IsState k s → best s ≡ other s) → RuleReaches value k best rule x bound → RuleReaches value k other rule x bound
@@ -76,8 +51,3 @@ first_is value k lemmas at x best some before same is within wrong =
       before = before;
       unproved = λ d h. wrong (same_best value k x (λ s. best_of s (take at lemmas)) best some (λ s state. sym (same s state)) ((here_is value k lemmas at x d (λ s. best_of s (take at lemmas)) is within).1 h));
     }
-
--- the bound of a row is above the number before that of the lemma
-pub above_is : (reached value : ℕ) (above : Bool) → 0 < reached → above ≡ ltb (reached - 1) value → IsTrue above ↔ (reached ≤ value)
-above_is reached value above some is =
-    ((λ yes. omega (arith, some, ltb-true (reached - 1) value (sym is ∙ yes))), (λ le. is ∙ lt-ltb (reached - 1) value (omega (arith, some, le))))

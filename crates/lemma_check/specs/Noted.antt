@@ -10,7 +10,7 @@ use Rattle.row_state.specs.Code.{row_code}
 use Rattle.row_state.specs.Start.{IsState}
 use Rattle.row_state.specs.Tests.{left_of}
 use Rattle.row_state.specs.Trails.{end_of}
-use Rattle.log_check.specs.declared.trails.Trails.{Trails}
+use Rattle.lemma_check.specs.declared.trails.Trails.{Trails}
 
 -- what is noted by the number of what a row has left is what f says of it
 abbrev pub AreNotedOf : (Row → Option NetNo → List ℕ → Kinds → ℕ) → Row → Kinds → (ℕ → Option ℕ) → Type 0

@@ -1,8 +1,8 @@
 use Rattle.std.specs.Prelude.{nat_eq}
 use Rattle.std.specs.HashMap.{get}
 use Rattle.std.proofs.Common.{rules, ◌≡◌, Some, sym}
-use Rattle.log_check.proofs.Noting.{noted_more}
-use Rattle.log_check.proofs.trails.trails_of.Goals as goal
+use Rattle.lemma_check.proofs.Noting.{noted_more}
+use Rattle.lemma_check.proofs.trails.trails_of.Goals as goal
 
 pub returns-in-Some-clause-trails : goal.returns-in-Some-clause-trails
 returns-in-Some-clause-trails g c =

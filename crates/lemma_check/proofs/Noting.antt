@@ -10,7 +10,7 @@ use Rattle.row_state.specs.Start.{IsState}
 use Rattle.row_state.specs.Tests.{left_of}
 use Rattle.row_state.specs.Trails.{end_of}
 use Rattle.row_state.proofs.Codes.{row_same}
-use Rattle.log_check.specs.Noted.{AreNotedOf}
+use Rattle.lemma_check.specs.Noted.{AreNotedOf}
 
 some_is : (a b : ℕ) → Some a ≡ Some b → a ≡ b
 some_is a b e = cc e

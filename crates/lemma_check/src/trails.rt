@@ -7,7 +7,7 @@ ghost use Rattle.row_state.specs.declared.kind.Kinds.{Kinds as KindsOf};
 ghost use Rattle.row_state.specs.Start.{IsState};
 ghost use Rattle.row_state.specs.Tests.{left_of};
 ghost use Rattle.row_state.specs.Trails.{end_of};
-ghost use Rattle.log_check.specs.Noted.{AreNoted, AreNotedOf};
+ghost use Rattle.lemma_check.specs.Noted.{AreNoted, AreNotedOf};
 
 use cell_num::{NoMemory, Row};
 use row_state::{Kinds, RowBound, State, row_number};
