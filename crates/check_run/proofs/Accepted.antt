@@ -9,9 +9,10 @@ use Rattle.bound_log.specs.declared.log.Rule.TheVariants as by
 use Rattle.bound_log.specs.declared.log.Lemma.{Lemma}
 use Rattle.bound_log.specs.declared.log.Best.{Best}
 use Rattle.bound_log.specs.declared.log.Log.{Log}
+use Rattle.lemma_check.specs.Reaches.{best_of}
 use Rattle.log_check.specs.declared.refused.Refused.{Refused}
 use Rattle.log_check.specs.declared.refused.Refused.TheVariants as because
-use Rattle.log_check.specs.Accepted.{BestPasses, IsAccepted, best_of}
+use Rattle.log_check.specs.Accepted.{BestPasses, IsAccepted}
 use Rattle.log_check.specs.Refusal.{BestRefuses, Refuses}
 
 best_not_both : (k : Kinds) (f : Fingers) (best : ℕ) (row : Option Best) (gaps : ℕ) (cause : Refused) → BestPasses k f best row gaps → BestRefuses k f best row cause → cause ≢ because.NoMemory → ⊥

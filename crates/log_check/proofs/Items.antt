@@ -16,13 +16,14 @@ use Rattle.bound_log.specs.declared.log.Lemma.{Lemma}
 use Rattle.bound_log.specs.declared.log.LogStep.{LogStep}
 use Rattle.bound_log.specs.declared.log.Best.{Best}
 use Rattle.bound_log.specs.declared.log.Log.{Log}
+use Rattle.lemma_check.specs.Reaches.{best_of, better, raised}
+use Rattle.lemma_check.specs.Known.{best_noted}
 use Rattle.log_check.specs.declared.refused.Refused.{Refused}
 use Rattle.log_check.specs.declared.refused.Refused.TheVariants as because
-use Rattle.log_check.specs.Accepted.{AreJustified, BestPasses, IsAccepted, IsJustified, WithKinds, best_of, better, raised}
+use Rattle.log_check.specs.Accepted.{AreJustified, BestPasses, IsAccepted, IsJustified, WithKinds}
 use Rattle.log_check.specs.Items.{AreBest, Checked, HasSeen, IsFound, empty_log, more_steps, with_columns, with_gaps, with_lemmas}
-use Rattle.log_check.specs.Known.{best_noted}
 use Rattle.log_check.specs.Refusal.{BestRefuses, IsFirstUnjustified, Refuses}
-use Rattle.log_check.proofs.Branches.{same_best}
+use Rattle.log_check.proofs.Justified.{same_best}
 use Rattle.log_check.proofs.SameKinds.{for_kinds}
 
 -- ---- one lemma at the end of a list

@@ -1,7 +1,5 @@
-pub mod Branches
 pub mod Items
-pub mod Kept
-pub mod Noting
+pub mod Justified
 pub mod Places
 pub mod SameKinds
 pub mod Sound

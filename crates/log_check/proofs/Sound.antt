@@ -1,13 +1,9 @@
 -- Justified lemmas are true, so an accepted row has least gaps.
-use Rattle.std.proofs.Common.{ℕ, zero, suc, ◌≡◌, ◌<◌, ◌≤◌, Bool, true, cond, ◌&&◌, List, [], ◌∷◌, length, Option, Some, None, max, fold, take, get_or, inl, inr, refl, sym, ap, subst, arith, All, ◌∙◌, add-one, take_all}
-use Rattle.std.specs.Str.{bytes_eq}
-use Rattle.std.proofs.lemmas.Slice.Eq.{bytes_eq-Decides}
-use Rattle.row_model.proofs.Decide.{net_decides}
-use Rattle.std.proofs.lemmas.Bool.{cases_Bool, and_from, and_parts, eq-eqb}
+use Rattle.std.proofs.Common.{ℕ, zero, suc, ◌≡◌, ◌<◌, ◌≤◌, cond, List, [], ◌∷◌, length, Option, Some, None, max, fold, take, get_or, inl, inr, sym, subst, arith, All, ◌∙◌, add-one, take_all}
+use Rattle.std.proofs.lemmas.Bool.{cases_Bool}
 use Rattle.std.proofs.lemmas.List.Elements.{All-nil, All-head, All-tail, All-more}
 use Rattle.cell_num.specs.declared.finger.Row.{Row}
 use Rattle.cell_num.specs.declared.finger.Row.TheVariants.{P, N}
-use Rattle.cell_num.specs.declared.net.NetNo.{NetNo}
 use Rattle.cell_num.specs.declared.finger.Fingers.{Fingers}
 use Rattle.row_model.specs.declared.column.Column.{Column}
 use Rattle.row_model.specs.Arrangement.{IsArrangement}
@@ -17,47 +13,22 @@ use Rattle.row_state.specs.declared.state.State.{State}
 use Rattle.row_state.specs.Completion.{Need, further_gaps}
 use Rattle.row_state.specs.Start.{IsState, start_of, AreKinds}
 use Rattle.row_state.specs.Steps.{state_after}
-use Rattle.row_state.specs.Decoded.{same_fields}
 use Rattle.row_state.proofs.Unfold.{branch, completion_of, gaps_from_start}
 use Rattle.bound_log.specs.declared.log.Rule.{Rule}
 use Rattle.bound_log.specs.declared.log.Rule.TheVariants as by
 use Rattle.bound_log.specs.declared.log.Lemma.{Lemma}
 use Rattle.bound_log.specs.declared.log.Best.{Best}
 use Rattle.bound_log.specs.declared.log.Log.{Log}
+use Rattle.lemma_check.specs.Reaches.{same_state, better, best_of, RuleReaches}
+use Rattle.lemma_check.proofs.States.{same_state_is}
 use Rattle.log_check.specs.declared.refused.Refused.{Refused}
 use Rattle.log_check.specs.declared.refused.Refused.TheVariants as because
 use Rattle.log_check.specs.Refusal.{BestRefuses, Proves, Refuses}
-use Rattle.log_check.specs.Accepted.{same_end, same_state, better, best_of, RuleReaches, IsJustified, AreJustified, IsTrueOf, IsAccepted, BestPasses, Lists}
+use Rattle.log_check.specs.Accepted.{IsJustified, AreJustified, IsTrueOf, IsAccepted, BestPasses, Lists}
 
 -- the law of a bound
 abbrev pub Holds : (Row → State → Kinds → ℕ) → Kinds → Type 0
 Holds value k = (row : Row) (s : State) → IsState k s → Need k s (value row s k)
-
-same_end_is : (x y : Option NetNo) → same_end x y ≡ true → x ≡ y
-same_end_is None None h = refl
-same_end_is None (Some b) h = cc
-same_end_is (Some a) None h = cc
-same_end_is (Some a) (Some b) h = ap (λ (n : NetNo). Some n) ((net_decides a b).0 h)
-
-same_state_but_n : State → State → Bool
-same_state_but_n a b = bytes_eq a.p_left b.p_left && bytes_eq a.n_left b.n_left && same_end a.p_end b.p_end
-
-pub same_state_is : (a b : State) → same_state a b ≡ true → a ≡ b
-unfolding same_state_but_n
-same_state_is a b h =
-    let parts : (same_state_but_n a b ≡ true) × (same_end a.n_end b.n_end ≡ true) = and_parts _ _ h in
-    let parts' : (bytes_eq a.p_left b.p_left && bytes_eq a.n_left b.n_left ≡ true) × (same_end a.p_end b.p_end ≡ true) = and_parts _ _ parts.0 in
-    let parts'' : (bytes_eq a.p_left b.p_left ≡ true) × (bytes_eq a.n_left b.n_left ≡ true) = and_parts _ _ parts'.0 in
-    same_fields a b ((bytes_eq-Decides a.p_left b.p_left).0 parts''.0) ((bytes_eq-Decides a.n_left b.n_left).0 parts''.1) (same_end_is a.p_end b.p_end parts'.1) (same_end_is a.n_end b.n_end parts.1)
-
-same_end_self : (x : Option NetNo) → same_end x x ≡ true
-same_end_self None = refl
-same_end_self (Some a) = eq-eqb a.0 a.0 refl
-
-pub same_state_from : (a b : State) → a ≡ b → same_state a b ≡ true
-same_state_from a b e =
-    subst (λ (z : State). same_state a z ≡ true) e
-    (and_from _ _ (and_from _ _ (and_from _ _ ((bytes_eq-Decides a.p_left a.p_left).1 refl) ((bytes_eq-Decides a.n_left a.n_left).1 refl)) (same_end_self a.p_end)) (same_end_self a.n_end))
 
 need_max : (k : Kinds) (s : State) (a b : ℕ) → Need k s a → Need k s b → Need k s (max a b)
 need_max k s a b ha hb row h = omega (arith, ha row h, hb row h)

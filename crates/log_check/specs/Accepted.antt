@@ -1,8 +1,6 @@
 -- Which lemmas are justified, and which logs are accepted.
-use Rattle.std.specs.Prelude.{ℕ, ◌≡◌, ◌≤◌, ◌<◌, ◌+◌, Bool, true, false, ◌&&◌, ◌==◌, cond, List, Option, Some, None, All, length, max, map, fold, take, slice_get, slice_index_or, option_map}
-use Rattle.std.specs.Str.{bytes_eq}
+use Rattle.std.specs.Prelude.{ℕ, ◌≡◌, ◌≤◌, ◌<◌, List, Option, Some, None, All, length, map, take, slice_get, slice_index_or, option_map}
 use Rattle.cell_num.specs.declared.finger.Row.{Row}
-use Rattle.cell_num.specs.declared.finger.Row.TheVariants.{P, N}
 use Rattle.cell_num.specs.declared.net.NetNo.{NetNo}
 use Rattle.cell_num.specs.declared.finger.Fingers.{Fingers}
 use Rattle.row_model.specs.declared.column.Column.{Column}
@@ -12,50 +10,13 @@ use Rattle.row_state.specs.declared.kind.Kind.{Kind}
 use Rattle.row_state.specs.declared.kind.Kinds.{Kinds}
 use Rattle.row_state.specs.declared.state.State.{State}
 use Rattle.row_state.specs.declared.step.Side.{Side}
-use Rattle.row_state.specs.declared.step.Step.{Step}
-use Rattle.row_state.specs.Completion.{Need, cost_of}
-use Rattle.row_state.specs.Start.{AreKinds, AreSomeKinds, IsState, HasFingers, start_of}
-use Rattle.row_state.specs.Steps.{IsPossible, column_of, state_after}
-use Rattle.bound_log.specs.declared.log.Rule.{Rule}
-use Rattle.bound_log.specs.declared.log.Rule.TheVariants as by
+use Rattle.row_state.specs.Completion.{Need}
+use Rattle.row_state.specs.Start.{AreKinds, AreSomeKinds, IsState, start_of}
+use Rattle.row_state.specs.Steps.{column_of}
 use Rattle.bound_log.specs.declared.log.Lemma.{Lemma}
 use Rattle.bound_log.specs.declared.log.LogStep.{LogStep}
 use Rattle.bound_log.specs.declared.log.Best.{Best}
 use Rattle.bound_log.specs.declared.log.Log.{Log}
-
-abbrev pub same_end : Option NetNo → Option NetNo → Bool
-same_end None None = true
-same_end (Some a) (Some b) = a.0 == b.0
-same_end _ _ = false
-
-abbrev pub same_state : State → State → Bool
-same_state a b = bytes_eq a.p_left b.p_left && bytes_eq a.n_left b.n_left && same_end a.p_end b.p_end && same_end a.n_end b.n_end
-
--- the best bound of s so far, with one more bound, of x
-abbrev pub raised : State → ℕ → State → ℕ → ℕ
-raised x bound s best = cond (same_state x s) (max best bound) best
-
--- with one more lemma
-abbrev pub better : State → ℕ → Lemma → ℕ
-better s best lemma = raised lemma.state lemma.bound s best
-
--- the greatest bound of a lemma with the state, 0 if none
-abbrev pub best_of : State → List Lemma → ℕ
-best_of s lemmas = fold (better s) 0 lemmas
-
--- the column's cost and the best earlier bound of the state after it reach the bound
-abbrev pub StepReaches : Kinds → (State → ℕ) → State → ℕ → Step → Type 0
-StepReaches k best s bound step = bound ≤ cost_of s (column_of k step) + best (state_after k s step)
-
--- so does each possible next column
-abbrev pub BranchReaches : Kinds → (State → ℕ) → State → ℕ → Type 0
-BranchReaches k best s bound = (step : Step) → IsPossible k s step → StepReaches k best s bound step
-
--- the bound of a row reaches the lemma's, or a finger is left and each possible next column does
-abbrev pub RuleReaches : (Row → State → Kinds → ℕ) → Kinds → (State → ℕ) → Rule → State → ℕ → Type 0
-RuleReaches value k best by.P s bound = bound ≤ value P s k
-RuleReaches value k best by.N s bound = bound ≤ value N s k
-RuleReaches value k best by.Branch s bound = HasFingers k s × BranchReaches k best s bound
 
 -- a lemma on a valid state, by its rule, where each state has this best earlier bound
 pub record IsJustified (value : Row → State → Kinds → ℕ) (k : Kinds) (best : State → ℕ) (lemma : Lemma) : Type 0 where

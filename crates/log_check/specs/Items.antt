@@ -9,9 +9,10 @@ use Rattle.bound_log.specs.declared.log.Lemma.{Lemma}
 use Rattle.bound_log.specs.declared.log.LogStep.{LogStep}
 use Rattle.bound_log.specs.declared.log.Best.{Best}
 use Rattle.bound_log.specs.declared.log.Log.{Log}
+use Rattle.lemma_check.specs.Reaches.{best_of}
+use Rattle.lemma_check.specs.Known.{best_noted}
 use Rattle.log_check.specs.declared.refused.Refused.TheVariants as because
-use Rattle.log_check.specs.Accepted.{AreJustified, best_of}
-use Rattle.log_check.specs.Known.{best_noted}
+use Rattle.log_check.specs.Accepted.{AreJustified}
 use Rattle.log_check.specs.Refusal.{LemmasRefuse}
 
 -- What a checker of logs for these fingers, with their kinds, has come to.

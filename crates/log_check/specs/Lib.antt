@@ -1,8 +1,6 @@
 -- What contracts of public calls cite, and what these definitions stand on.
 pub mod Accepted
 pub mod Items
-pub mod Known
-pub mod Noted
 pub mod Refusal
 -- What inner contracts and proofs alone cite.
 pub mod Tests

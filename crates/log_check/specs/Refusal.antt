@@ -9,9 +9,10 @@ use Rattle.row_state.specs.Start.{start_of}
 use Rattle.bound_log.specs.declared.log.Lemma.{Lemma}
 use Rattle.bound_log.specs.declared.log.Best.{Best}
 use Rattle.bound_log.specs.declared.log.Log.{Log}
+use Rattle.lemma_check.specs.Reaches.{best_of}
 use Rattle.log_check.specs.declared.refused.Refused.{Refused}
 use Rattle.log_check.specs.declared.refused.Refused.TheVariants as because
-use Rattle.log_check.specs.Accepted.{IsJustified, AreJustified, IsRow, columns_listed, best_of}
+use Rattle.log_check.specs.Accepted.{IsJustified, AreJustified, IsRow, columns_listed}
 
 -- all lemmas before this one are justified, and it is not
 pub record IsFirstUnjustified (value : Row → State → Kinds → ℕ) (k : Kinds) (lemmas : List Lemma) (at : ℕ) : Type 0 where

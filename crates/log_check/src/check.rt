@@ -7,15 +7,16 @@ ghost use Rattle.row_model.specs.Gaps.{gaps_of};
 ghost use Rattle.row_state.specs.declared.kind.Kinds.{Kinds as KindsOf};
 ghost use Rattle.row_state.specs.declared.state.State.{State as StateOf};
 ghost use Rattle.bound_log.specs.declared.log.Lemma.{Lemma as LemmaOf};
+ghost use Rattle.lemma_check.specs.Noted.{AreNoted};
 ghost use Rattle.log_check.specs.Accepted.{IsAccepted, IsTrueOf, Lists, WithKinds};
 ghost use Rattle.log_check.specs.Items.{ForSeen, HasSeen, with_columns, with_lemmas};
-ghost use Rattle.log_check.specs.Noted.{AreNoted};
 ghost use Rattle.log_check.specs.declared.refused.Refused.TheVariants as because;
 ghost use Rattle.log_check.specs.Refusal.{Proves, Refuses};
 
-use crate::{Refused, Seen, Trails};
+use crate::{Refused, Seen};
 use bound_log::{Best, Lemma, Log, LogStep};
 use cell_num::{Fingers, MOST_BYTES, NoMemory};
+use lemma_check::Trails;
 use row_state::RowBound;
 use std::alloc::Global;
 

@@ -9,9 +9,10 @@ ghost use Rattle.log_check.specs.Items.{ForSeen, HasSeen, empty_log, with_column
 ghost use Rattle.log_check.specs.declared.refused.Refused.TheVariants as because;
 ghost use Rattle.log_check.specs.Refusal.{Proves, Refuses};
 
-use crate::{Refused, Seen, Trails};
+use crate::{Refused, Seen};
 use bound_log::{Lemma, LogStep};
 use cell_num::{Fingers, MOST_BYTES, NoMemory};
+use lemma_check::Trails;
 use row_state::RowBound;
 use std::alloc::Global;
 use std::marker::Model;
@@ -28,8 +29,8 @@ pub struct Checker<B: RowBound + Drop> {
 }
 
 impl<B: RowBound + Drop> Model for Checker<B> {
+    ghost use Rattle.lemma_check.specs.Noted.{AreNoted};
     ghost use Rattle.log_check.specs.Items.{Checking};
-    ghost use Rattle.log_check.specs.Noted.{AreNoted};
 
     ghost Value = { Checking B };
 

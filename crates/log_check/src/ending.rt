@@ -8,16 +8,17 @@ ghost use Rattle.row_model.specs.Gaps.{gaps_of};
 ghost use Rattle.row_state.specs.declared.kind.Kinds.{Kinds as KindsOf};
 ghost use Rattle.row_state.specs.declared.state.State.{State as StateOf};
 ghost use Rattle.row_state.specs.Start.{AreKinds, AreSomeKinds, start_of};
+ghost use Rattle.lemma_check.specs.Known.{best_known};
 ghost use Rattle.log_check.specs.Accepted.{BestPasses, IsAccepted, IsTrueOf, Lists, WithKinds};
 ghost use Rattle.log_check.specs.Items.{ForSeen, HasSeen, more_steps, with_columns, with_gaps};
-ghost use Rattle.log_check.specs.Known.{best_known};
 ghost use Rattle.log_check.specs.declared.refused.Refused.TheVariants as because;
 ghost use Rattle.log_check.specs.Refusal.{BestRefuses, Proves, Refuses};
 
 use crate::listed::check_row;
-use crate::{Known, Refused, Seen};
+use crate::{Refused, Seen};
 use bound_log::{Best, LogStep, LogSteps};
 use cell_num::{Fingers, NoMemory};
+use lemma_check::Known;
 use row_state::{Kinds, RowBound, start};
 use std::alloc::Global;
 

@@ -5,14 +5,13 @@ ghost use Rattle.row_state.specs.declared.kind.Kinds.{Kinds as KindsOf};
 ghost use Rattle.row_state.specs.declared.state.State.{State as StateOf};
 ghost use Rattle.row_state.specs.Start.{IsState};
 ghost use Rattle.bound_log.specs.declared.log.Lemma.{Lemma as LemmaOf};
+ghost use Rattle.lemma_check.specs.Noted.{AreNoted};
 ghost use Rattle.log_check.specs.Accepted.{WithKinds};
 ghost use Rattle.log_check.specs.Items.{ForSeen, HasSeen, empty_log, with_lemmas};
-ghost use Rattle.log_check.specs.Noted.{AreNoted};
 
-use crate::lemma::{Grounds, reaches};
-use crate::{Known, Trails};
 use bound_log::{Best, Lemma};
 use cell_num::{Fingers, MOST_BYTES, NoMemory};
+use lemma_check::{Grounds, Known, Trails, reaches};
 use row_state::{Candidates, Kinds, Numbered, RowBound, candidates, is_state, kinds};
 use std::alloc::{AllocError, Global};
 use std::marker::Model;
@@ -59,8 +58,8 @@ impl Model for Seen {
     ghost use Rattle.cell_num.specs.Fingers.{AreFingers};
     ghost use Rattle.row_state.specs.Candidates.{AreCandidates};
     ghost use Rattle.row_state.specs.Start.{AreKinds};
+    ghost use Rattle.lemma_check.specs.Known.{noted};
     ghost use Rattle.log_check.specs.Items.{Checked};
-    ghost use Rattle.log_check.specs.Known.{noted};
 
     ghost Value = { Checked };
 

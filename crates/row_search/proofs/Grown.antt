@@ -12,10 +12,11 @@ use Rattle.row_state.specs.declared.step.Step.{Step}
 use Rattle.row_state.specs.declared.candidate.Candidate.{Candidate}
 use Rattle.row_state.specs.Steps.{IsPossible, state_after}
 use Rattle.bound_log.specs.declared.log.Lemma.{Lemma}
-use Rattle.log_check.specs.Accepted.{same_state, better, best_of, StepReaches, RuleReaches, IsJustified, AreJustified}
+use Rattle.lemma_check.specs.Reaches.{same_state, better, best_of, StepReaches, RuleReaches}
+use Rattle.lemma_check.proofs.States.{same_state_from, same_state_is}
+use Rattle.log_check.specs.Accepted.{IsJustified, AreJustified}
 use Rattle.row_state.specs.Start.{IsState, columns_left}
 use Rattle.bound_log.specs.declared.log.Rule.{Rule}
-use Rattle.log_check.proofs.Sound.{same_state_from, same_state_is}
 use Rattle.row_search.specs.Ended.{AreDistinct, IsLean}
 use Rattle.row_search.specs.Visit.{AreKept, IsGrown, lemma_of}
 

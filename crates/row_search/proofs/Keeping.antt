@@ -16,10 +16,10 @@ use Rattle.row_state.proofs.Codes.{lists_few_n, lists_few_p, state_below}
 use Rattle.row_state.proofs.Digits.{nets_few}
 use Rattle.bound_log.specs.declared.log.Lemma.{Lemma}
 use Rattle.bound_log.specs.declared.log.Rule.{Rule}
-use Rattle.log_check.specs.declared.known.Known.{Known}
-use Rattle.log_check.specs.Accepted.{raised}
-use Rattle.log_check.specs.Known.{Knows, best_known}
-use Rattle.log_check.proofs.Kept.{knows_more}
+use Rattle.lemma_check.specs.declared.known.Known.{Known}
+use Rattle.lemma_check.specs.Reaches.{raised}
+use Rattle.lemma_check.specs.Known.{Knows, best_known}
+use Rattle.lemma_check.proofs.Kept.{knows_more}
 use Rattle.row_search.specs.declared.kept.Packed.{Packed}
 use Rattle.row_search.specs.SoFar.{KnowsAll, SoFar}
 use Rattle.row_search.specs.Visit.{lemma_of}

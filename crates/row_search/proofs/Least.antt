@@ -18,7 +18,8 @@ use Rattle.row_state.proofs.Exists.{completion_exists}
 use Rattle.row_state.proofs.Unfold.{arrangement_of, completion_of, gaps_from_start}
 use Rattle.row_state.proofs.Valid.{gates_are_nets}
 use Rattle.bound_log.specs.declared.log.Lemma.{Lemma}
-use Rattle.log_check.specs.Accepted.{AreJustified, best_of}
+use Rattle.lemma_check.specs.Reaches.{best_of}
+use Rattle.log_check.specs.Accepted.{AreJustified}
 use Rattle.log_check.proofs.Sound.{Holds, best_true, sound}
 use Rattle.row_search.specs.Ended.{IsInRange}
 use Rattle.row_search.specs.Enough.{columns_in, enough}

@@ -15,7 +15,8 @@ use Rattle.row_state.proofs.Valid.{gates_are_nets}
 use Rattle.bound_log.specs.declared.log.Lemma.{Lemma}
 use Rattle.bound_log.specs.declared.log.Log.{Log}
 use Rattle.bound_log.specs.Fits.{BestFits, LemmaFits}
-use Rattle.log_check.specs.Accepted.{RowPasses, WithKinds, best_of, columns_listed}
+use Rattle.lemma_check.specs.Reaches.{best_of}
+use Rattle.log_check.specs.Accepted.{RowPasses, WithKinds, columns_listed}
 use Rattle.log_check.proofs.Sound.{Holds, justified_least}
 use Rattle.row_search.specs.declared.found.FoundKept.{FoundKept}
 use Rattle.row_search.specs.declared.found.StopKept.{StopKept}

@@ -19,7 +19,8 @@ use Rattle.row_state.proofs.Unfold.{Next, unfold_to, unfold_from, further_step}
 use Rattle.row_state.specs.Gates.{most}
 use Rattle.row_state.proofs.Fewest.{most_same, most_none}
 use Rattle.bound_log.specs.declared.log.Lemma.{Lemma}
-use Rattle.log_check.specs.Accepted.{best_of, StepReaches, IsTrueOf}
+use Rattle.lemma_check.specs.Reaches.{best_of, StepReaches}
+use Rattle.log_check.specs.Accepted.{IsTrueOf}
 use Rattle.log_check.proofs.Sound.{best_true}
 use Rattle.row_search.specs.Steps.{row_of}
 use Rattle.row_search.specs.Visit.{IsFirstWithin}

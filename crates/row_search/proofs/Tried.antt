@@ -7,7 +7,7 @@ use Rattle.row_state.specs.declared.state.State.{State}
 use Rattle.row_state.specs.declared.step.Step.{Step}
 use Rattle.row_state.specs.Start.{AreSomeKinds, columns_left, start_of}
 use Rattle.row_state.proofs.Valid.{gates_are_nets}
-use Rattle.log_check.specs.Accepted.{best_of}
+use Rattle.lemma_check.specs.Reaches.{best_of}
 use Rattle.row_search.specs.declared.found.FoundKept.{FoundKept}
 use Rattle.row_search.specs.Limits.{IsFound, IsOpen, ProveGaps, found_of}
 use Rattle.row_search.specs.Reached.{IsReached, IsWithin}

@@ -22,8 +22,9 @@ use Rattle.bound_log.specs.declared.log.Lemma.{Lemma}
 use Rattle.bound_log.specs.declared.log.Rule.{Rule}
 use Rattle.bound_log.specs.declared.log.Rule.TheVariants as by
 use Rattle.bound_log.specs.Fits.{SideFits}
-use Rattle.log_check.specs.Accepted.{best_of, BranchReaches, StepReaches, RuleReaches, AreJustified}
-use Rattle.log_check.specs.Known.{best_known}
+use Rattle.lemma_check.specs.Reaches.{best_of, BranchReaches, StepReaches, RuleReaches}
+use Rattle.lemma_check.specs.Known.{best_known}
+use Rattle.log_check.specs.Accepted.{AreJustified}
 use Rattle.log_check.proofs.Sound.{Holds, sound}
 use Rattle.row_search.specs.Ended.{IsLean}
 use Rattle.row_search.specs.Reached.{IsReached, IsWithin}

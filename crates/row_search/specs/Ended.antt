@@ -16,7 +16,8 @@ use Rattle.bound_log.specs.declared.log.Lemma.{Lemma}
 use Rattle.bound_log.specs.declared.log.Best.{Best}
 use Rattle.bound_log.specs.declared.log.Log.{Log}
 use Rattle.bound_log.specs.Fits.{Fits}
-use Rattle.log_check.specs.Accepted.{AreJustified, IsAccepted, Lists, best_of}
+use Rattle.lemma_check.specs.Reaches.{best_of}
+use Rattle.log_check.specs.Accepted.{AreJustified, IsAccepted, Lists}
 use Rattle.row_search.specs.declared.found.Found.{Found}
 use Rattle.row_search.specs.declared.found.Stop.{Stop}
 use Rattle.row_search.specs.declared.found.Stop.TheVariants.{Unfinished}

@@ -7,7 +7,7 @@ use Rattle.row_state.specs.declared.step.Step.{Step}
 use Rattle.row_state.specs.Start.{start_of}
 use Rattle.bound_log.specs.declared.log.Lemma.{Lemma}
 use Rattle.bound_log.specs.declared.log.Best.{Best}
-use Rattle.log_check.specs.Accepted.{best_of}
+use Rattle.lemma_check.specs.Reaches.{best_of}
 use Rattle.row_search.specs.declared.found.FoundKept.{FoundKept}
 use Rattle.row_search.specs.declared.found.StopKept.{StopKept}
 use Rattle.row_search.specs.declared.found.StopKept.TheVariants.{Unfinished, NoMemory}

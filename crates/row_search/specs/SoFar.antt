@@ -2,8 +2,8 @@
 use Rattle.std.specs.Prelude.{ℕ, ◌≡◌, ◌+◌, List}
 use Rattle.row_state.specs.declared.kind.Kinds.{Kinds}
 use Rattle.bound_log.specs.declared.log.Lemma.{Lemma}
-use Rattle.log_check.specs.declared.known.Known.{Known}
-use Rattle.log_check.specs.Known.{Knows}
+use Rattle.lemma_check.specs.declared.known.Known.{Known}
+use Rattle.lemma_check.specs.Known.{Knows}
 
 -- how many nodes it took, the best bounds of the states, and its lemmas on states of the kinds
 pub record SoFar : Type 0 where

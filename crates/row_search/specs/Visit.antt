@@ -11,7 +11,8 @@ use Rattle.row_state.specs.Start.{columns_left}
 use Rattle.bound_log.specs.declared.log.Rule.{Rule}
 use Rattle.bound_log.specs.declared.log.Rule.TheVariants as by
 use Rattle.bound_log.specs.declared.log.Lemma.{Lemma}
-use Rattle.log_check.specs.Accepted.{AreJustified, best_of}
+use Rattle.lemma_check.specs.Reaches.{best_of}
+use Rattle.log_check.specs.Accepted.{AreJustified}
 use Rattle.row_search.specs.Ended.{AreDistinct, IsFirstRule, IsLean}
 use Rattle.row_search.specs.Reached.{IsReached, IsWithin}
 use Rattle.row_search.specs.SoFar.{KnowsAll, SoFar}

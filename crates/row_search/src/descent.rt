@@ -2,9 +2,9 @@ ghost use Rattle.std.specs.Prelude.{◌≡◌, ◌≤◌, ◌<◌, ◌+◌, IfOk
 ghost use Rattle.row_state.specs.Candidates.{AreCandidates, IsNumbered};
 ghost use Rattle.row_state.specs.Emptied.{AreEmpty};
 ghost use Rattle.row_state.specs.Start.{columns_left};
+ghost use Rattle.lemma_check.specs.Reaches.{best_of};
+ghost use Rattle.lemma_check.specs.Noted.{AreNoted};
 ghost use Rattle.row_search.specs.declared.descent.Halt.TheVariants.{Spent, NoMemory};
-ghost use Rattle.log_check.specs.Accepted.{best_of};
-ghost use Rattle.log_check.specs.Noted.{AreNoted};
 ghost use Rattle.row_search.specs.SoFar.{KnowsAll};
 ghost use Rattle.row_search.specs.Visit.{AreKept, HasFailed, HasFound, HasSpent, IsFurther};
 
@@ -12,7 +12,7 @@ use crate::progress::Progress;
 use crate::row_rule::row_rule;
 use bound_log::Rule;
 use cell_num::{MOST_COLUMNS, NoMemory};
-use log_check::Trails;
+use lemma_check::Trails;
 use row_state::{Candidate, EmptyPlaces, Kinds, Numbered, RowBound, Steps, has_fingers};
 use std::alloc::Global;
 

@@ -2,8 +2,8 @@ ghost use Rattle.std.specs.Prelude.{◌≡◌, ◌<◌, ◌+◌, IfOk, IfErr, le
 ghost use Rattle.cell_num.specs.Fingers.{AreFingers, columns_of};
 ghost use Rattle.row_state.specs.Candidates.{AreCandidates, IsNumbered};
 ghost use Rattle.row_state.specs.Start.{start_of};
+ghost use Rattle.lemma_check.specs.Noted.{AreNoted};
 ghost use Rattle.log_check.specs.Accepted.{WithKinds};
-ghost use Rattle.log_check.specs.Noted.{AreNoted};
 ghost use Rattle.row_search.specs.Ended.{IfOpen, IsSolved, IsSpent, log_with, log_without};
 ghost use Rattle.row_search.specs.First.{IsFirstLeast};
 ghost use Rattle.row_search.specs.Limits.{IsFound, StopsWell, found_of};
@@ -14,7 +14,7 @@ use crate::progress::Progress;
 use crate::{FoundKept, StopKept};
 use bound_log::Best;
 use cell_num::{Fingers, NoMemory};
-use log_check::Trails;
+use lemma_check::Trails;
 use row_state::{EmptyPlaces, Kinds, Numbered, RowBound, Step, candidates, columns, kinds, start};
 use std::alloc::Global;
 

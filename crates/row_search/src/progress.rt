@@ -3,7 +3,7 @@ ghost use Rattle.row_state.specs.declared.kind.Kinds.{Kinds as KindsOf};
 ghost use Rattle.row_state.specs.declared.state.State.{State as StateOf};
 ghost use Rattle.row_state.specs.Candidates.{IsNumbered};
 ghost use Rattle.row_state.specs.Code.{state_code};
-ghost use Rattle.log_check.specs.Known.{best_known};
+ghost use Rattle.lemma_check.specs.Known.{best_known};
 ghost use Rattle.row_search.specs.SoFar.{KnowsAll, one_node};
 ghost use Rattle.row_search.specs.Visit.{lemma_of};
 
@@ -11,7 +11,7 @@ use crate::Kept;
 use crate::kept::Packed;
 use bound_log::Rule;
 use cell_num::{List, NoMemory};
-use log_check::Known;
+use lemma_check::Known;
 use row_state::{Kinds, Numbered};
 use std::alloc::Global;
 use std::marker::Model;
@@ -29,9 +29,9 @@ pub(crate) struct Progress {
 impl Model for Progress {
     ghost use Rattle.std.specs.Prelude.{All, map};
     ghost use Rattle.row_state.specs.Code.{IsCode};
+    ghost use Rattle.lemma_check.specs.contracts.known.Known.{the_row as known_row};
     ghost use Rattle.row_search.specs.Kept.{number_of, numbered_lemma};
     ghost use Rattle.row_search.specs.SoFar.{SoFar};
-    ghost use Rattle.log_check.specs.contracts.known.Known.{the_row as known_row};
     ghost use Rattle.std.specs.Coded.{codes};
 
     ghost Value = { SoFar };

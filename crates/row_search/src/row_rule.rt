@@ -2,14 +2,14 @@ ghost use Rattle.std.specs.Prelude.{◌+◌, IfOk, IfSome, IfNone};
 ghost use Rattle.row_state.specs.Emptied.{AreEmpty};
 ghost use Rattle.row_state.specs.Start.{IsState};
 ghost use Rattle.bound_log.specs.declared.log.Rule.TheVariants.{Branch};
-ghost use Rattle.log_check.specs.Noted.{AreNoted};
+ghost use Rattle.lemma_check.specs.Noted.{AreNoted};
 ghost use Rattle.row_search.specs.Ended.{IsFirstRule};
 ghost use Rattle.row_search.specs.Visit.{RowReaches};
 
 use crate::descent::Task;
 use bound_log::Rule;
 use cell_num::{NoMemory, Row};
-use log_check::Trails;
+use lemma_check::Trails;
 use row_state::{EmptyPlaces, RowBound, State};
 
 // The rule by which the bound of one row alone is above what is allowed.

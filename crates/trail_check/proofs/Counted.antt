@@ -12,12 +12,12 @@ use Rattle.cell_num.proofs.Lists.{all_from_contains}
 use Rattle.cell_num.specs.declared.finger.Finger.{Finger}
 use Rattle.cell_num.specs.declared.finger.Fingers.{Fingers}
 use Rattle.cell_num.specs.Fingers.{on_gate}
-use Rattle.trail_state.specs.declared.edge.Edge.{Edge}
-use Rattle.trail_state.specs.Choices.{edge_of}
+use Rattle.trail_step.specs.declared.edge.Edge.{Edge}
+use Rattle.trail_step.specs.Edges.{edge_of, n_edges, p_edges, pair_edges, with_each}
+use Rattle.trail_step.specs.Sorted.{inserted}
 use Rattle.trail_state.specs.Grouped.{is_on}
 use Rattle.trail_state.specs.Opened.{range_below}
-use Rattle.trail_state.specs.Pairings.{all_alone, n_edges, nets_in, no_finger, p_edges, pair_edges, pairings, with_each}
-use Rattle.trail_state.specs.Sorted.{inserted}
+use Rattle.trail_state.specs.Pairings.{all_alone, nets_in, no_finger, pairings}
 use Rattle.trail_check.proofs.Capped.{both_capped}
 use Rattle.trail_check.specs.Gates.{ways}
 use Rattle.trail_check.specs.Tests.{capped, fill_ways, pair_ways, ways_of}

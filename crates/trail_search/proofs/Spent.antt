@@ -14,10 +14,10 @@ use Rattle.row_state.specs.Start.{AreSomeKinds, HasFingers, IsState, columns_lef
 use Rattle.row_state.specs.Steps.{IsPossible, state_after}
 use Rattle.row_state.proofs.Calls.{fewer_after}
 use Rattle.row_state.proofs.Exists.{some_step}
-use Rattle.log_check.specs.declared.known.Known.{Known}
-use Rattle.log_check.specs.Accepted.{raised, same_state}
-use Rattle.log_check.specs.Known.{best_known}
-use Rattle.log_check.proofs.Sound.{same_state_from}
+use Rattle.lemma_check.specs.declared.known.Known.{Known}
+use Rattle.lemma_check.specs.Reaches.{raised, same_state}
+use Rattle.lemma_check.specs.Known.{best_known}
+use Rattle.lemma_check.proofs.States.{same_state_from}
 use Rattle.trail_prove.specs.Proof.{AttemptsOnce, IsAttempt}
 use Rattle.trail_search.specs.Behind.{fingers_behind}
 use Rattle.trail_search.specs.Searched.{AreSearched, Bounded, IsBounded, IsTry, nodes_of}

@@ -17,10 +17,10 @@ use Rattle.row_state.proofs.Calls.{valid_after}
 use Rattle.row_state.proofs.Digits.{among_candidates}
 use Rattle.row_state.proofs.Unfold.{branch}
 use Rattle.row_state.proofs.Valid.{gates_are_nets}
-use Rattle.log_check.specs.declared.known.Known.{Known}
-use Rattle.log_check.specs.Accepted.{raised, same_state}
-use Rattle.log_check.specs.Known.{best_known}
-use Rattle.log_check.proofs.Sound.{same_state_is}
+use Rattle.lemma_check.specs.declared.known.Known.{Known}
+use Rattle.lemma_check.specs.Reaches.{raised, same_state}
+use Rattle.lemma_check.specs.Known.{best_known}
+use Rattle.lemma_check.proofs.States.{same_state_is}
 use Rattle.row_search.specs.Steps.{IsStep}
 use Rattle.row_search.proofs.Rows.{Fails, leaf}
 use Rattle.row_search.proofs.Visits.{candidates_ordered, first_among, step_is}

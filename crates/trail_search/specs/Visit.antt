@@ -5,8 +5,8 @@ use Rattle.row_state.specs.declared.state.State.{State}
 use Rattle.row_state.specs.declared.step.Step.{Step}
 use Rattle.row_state.specs.Completion.{Need}
 use Rattle.row_state.specs.Start.{IsState, columns_left}
-use Rattle.log_check.specs.declared.known.Known.{Known}
-use Rattle.log_check.specs.Known.{best_known}
+use Rattle.lemma_check.specs.declared.known.Known.{Known}
+use Rattle.lemma_check.specs.Known.{best_known}
 use Rattle.row_search.specs.Steps.{IsStep, row_of}
 use Rattle.row_search.specs.Visit.{IsFirstWithin}
 use Rattle.trail_search.specs.Searched.{Bounded, IsBounded, IsTry, Try, nodes_of}

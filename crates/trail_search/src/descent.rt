@@ -2,12 +2,12 @@ ghost use Rattle.std.specs.Prelude.{◌≡◌, ◌≤◌, ◌+◌, IfOk, IfErr, 
 ghost use Rattle.row_state.specs.Candidates.{AreCandidates, IsNumbered};
 ghost use Rattle.row_state.specs.Completion.{Need};
 ghost use Rattle.row_state.specs.Start.{columns_left};
-ghost use Rattle.log_check.specs.Known.{best_known};
+ghost use Rattle.lemma_check.specs.Known.{best_known};
 ghost use Rattle.trail_search.specs.Visit.{AreTrue, Halts, IfSpent, IsFirstOf, IsSpent};
 
 use crate::cut::is_hopeless;
 use cell_num::{MOST_COLUMNS, NoMemory};
-use log_check::Known;
+use lemma_check::Known;
 use row_state::{Candidate, Kinds, Numbered, Steps, has_fingers};
 use std::alloc::Global;
 

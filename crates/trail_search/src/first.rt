@@ -9,7 +9,7 @@ ghost use Rattle.trail_search.specs.Visit.{Halts, IfSpent};
 use crate::descent::{Halt, Task, visit};
 use bound_log::Best;
 use cell_num::{MOST_COLUMNS, NoMemory};
-use log_check::Known;
+use lemma_check::Known;
 use row_model::Arrangement;
 use row_search::{arrangement, log_steps};
 use row_state::{Kinds, Numbered, Step, candidates, start};

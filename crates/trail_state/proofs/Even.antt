@@ -5,9 +5,10 @@ use Rattle.std.specs.Prelude.{slice_index_or}
 use Rattle.std.proofs.lemmas.Bool.{lt-leb}
 use Rattle.std.proofs.lemmas.List.Edits.{length-remove}
 use Rattle.cell_num.specs.declared.finger.Finger.{Finger}
+use Rattle.trail_step.specs.Edges.{pair_edges, with_each}
 use Rattle.trail_state.specs.Grouped.{is_on}
 use Rattle.trail_state.specs.Nodes.{has_net, is_end_in, is_net_on}
-use Rattle.trail_state.specs.Pairings.{no_finger, pair_edges, pairings, with_each}
+use Rattle.trail_state.specs.Pairings.{no_finger, pairings}
 
 flat_same : {X : Type 0} (f g : ℕ → List X) (a n m : ℕ) → a + n ≤ m → ((i : ℕ) → i < m → f i ≡ g i) → flat_map f (range_with_len a n) ≡ flat_map g (range_with_len a n)
 flat_same f g a zero m within same = refl

@@ -1,6 +1,5 @@
 pub mod Blocks
 pub mod Even
-pub mod Few
 pub mod Once
 pub mod Small
 pub mod Steps

@@ -5,7 +5,7 @@ use Rattle.std.specs.Prelude.{if◌then◌else◌}
 use Rattle.std.specs.List.{list_any}
 use Rattle.std.proofs.lemmas.Bool.{cases_Bool}
 use Rattle.std.proofs.lemmas.List.{map-append}
-use Rattle.trail_state.specs.declared.edge.Edge.{Edge}
+use Rattle.trail_step.specs.declared.edge.Edge.{Edge}
 use Rattle.trail_state.specs.Pairings.{lists_of, same_edges, with_new}
 
 any_list : (c : List Edge) (keys : List (Bor (List Edge))) → list_any (λ k. same_edges c k.now) keys ≡ list_any (same_edges c) (lists_of keys)

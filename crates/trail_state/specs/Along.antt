@@ -12,17 +12,18 @@ use Rattle.row_state.specs.Chained.{least_labels, least_le}
 use Rattle.row_state.specs.Classes.{IsLabelling}
 use Rattle.row_state.specs.Component.{has_finger}
 use Rattle.row_state.specs.Parity.{ends_on, is_odd, parity}
-use Rattle.trail_state.specs.declared.edge.Node.{Node}
-use Rattle.trail_state.specs.declared.edge.Edge.{Edge}
-use Rattle.trail_state.specs.declared.state.Place.{Place}
 use Rattle.trail_state.specs.Choices.{edge_between}
+use Rattle.trail_step.specs.declared.edge.Node.{Node}
+use Rattle.trail_step.specs.declared.edge.Edge.{Edge}
+use Rattle.trail_step.specs.declared.state.Place.{Place}
+use Rattle.trail_step.specs.Edges.{edge_between}
+use Rattle.trail_step.specs.Places.{is_met, met_places, with_edges}
+use Rattle.trail_step.specs.Settling.{ends_after, is_open, state_after}
 use Rattle.trail_state.specs.Begun.{begun}
 use Rattle.trail_state.specs.Counted.{edges_settled, gate_settled, has_edge, is_closed_at, odd_shut, settled}
 use Rattle.trail_state.specs.Follows.{Follows, added, edges_follow}
 use Rattle.trail_state.specs.Links.{class_of, finger_of, fingers_of, odd_at}
-use Rattle.trail_state.specs.Places.{is_met, met_places, with_edges}
 use Rattle.trail_state.specs.Settles.{AreFewer, settles}
-use Rattle.trail_state.specs.Settling.{ends_after, is_open, state_after}
 use Rattle.trail_state.specs.Walks.{IsAlong, Walk, breaks_of, edges_of, ordered, is_even_class, odd_nodes, odd_walk, walk_ends}
 
 abbrev pub all_added : List Edge → List (List Edge) → List Edge

@@ -4,14 +4,14 @@ use Rattle.std.specs.List.{find}
 use Rattle.std.proofs.lemmas.Bool.{both_ways, cases_Bool, eq-eqb, eqb-true, false_from_ne_true, or_cases, or_left, or_right}
 use Rattle.cell_num.proofs.Lists.{Kept, contains_filter_map, contains_here, contains_there, kept_from, some_same}
 use Rattle.cell_num.proofs.Pairs.{Some', test_finds, test_there}
-use Rattle.trail_state.specs.declared.edge.Node.{Node}
-use Rattle.trail_state.specs.declared.edge.Edge.{Edge}
-use Rattle.trail_state.specs.declared.state.Place.{Place}
+use Rattle.trail_step.specs.declared.edge.Node.{Node}
+use Rattle.trail_step.specs.declared.edge.Edge.{Edge}
+use Rattle.trail_step.specs.declared.state.Place.{Place}
+use Rattle.trail_step.specs.Places.{is_end, is_met, met_place, met_places, new_place, or_met, place_of}
+use Rattle.trail_step.specs.Settling.{is_open}
 use Rattle.trail_state.specs.Follows.{Follows}
 use Rattle.trail_state.specs.Links.{class_of, unmet_alone, unmet_even}
 use Rattle.trail_state.specs.Members.{At, Found, at_found, pairs_kept}
-use Rattle.trail_state.specs.Places.{is_end, is_met, met_place, met_places, new_place, or_met, place_of}
-use Rattle.trail_state.specs.Settling.{is_open}
 
 -- a place of the state, or a new one
 abbrev Origin : List Place → List Edge → ℕ → Place → Type 0

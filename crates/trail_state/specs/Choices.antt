@@ -1,5 +1,5 @@
 -- The choices of a gate: which of its fingers stand with which, turned alike or not.
-use Rattle.std.specs.Prelude.{ℕ, ◌≡◌, ◌+◌, ◌*◌, ◌==◌, if◌then◌else◌, leb, List, Option, Some, None, true, IsPermutation}
+use Rattle.std.specs.Prelude.{ℕ, ◌≡◌, ◌==◌, List, Option, Some, None, true, IsPermutation}
 use Rattle.std.specs.List.{AllZip, filter}
 use Rattle.cell_num.specs.declared.finger.Finger.{Finger}
 use Rattle.cell_num.specs.declared.finger.Fingers.{Fingers}
@@ -7,21 +7,9 @@ use Rattle.row_model.specs.declared.column.Placed.{Placed}
 use Rattle.row_model.specs.declared.column.Column.{Column}
 use Rattle.row_model.specs.Arrangement.{IsArrangement}
 use Rattle.row_model.specs.Gaps.{left_net, right_net}
-use Rattle.trail_state.specs.declared.edge.Edge.{Edge}
+use Rattle.trail_step.specs.declared.edge.Edge.{Edge}
+use Rattle.trail_step.specs.Edges.{edge_of}
 use Rattle.trail_state.specs.Nodes.{is_net_in}
-use Rattle.trail_state.specs.Places.{node_at}
-
--- the number of a P net and an N net
-abbrev pub pair_node : ℕ → ℕ → ℕ
-pair_node p n = 256 * p + n
-
--- the edge between two nodes, whichever of them is on the left
-abbrev pub edge_between : ℕ → ℕ → Edge
-edge_between l r = if leb l r then record { a = node_at l; b = node_at r } else record { a = node_at r; b = node_at l }
-
--- a column whose left end has these two nets, and whose right end those
-abbrev pub edge_of : ℕ → ℕ → ℕ → ℕ → Edge
-edge_of p_left n_left p_right n_right = edge_between (pair_node p_left n_left) (pair_node p_right n_right)
 
 -- An edge of a column. An empty place is filled: it has any two nets of its row at its ends.
 abbrev pub IsEdgeOf : Fingers → Option Placed → Option Placed → Edge → Type 0

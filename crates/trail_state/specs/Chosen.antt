@@ -10,7 +10,7 @@ use Rattle.cell_num.specs.declared.finger.Fingers.{Fingers}
 use Rattle.cell_num.proofs.Lists.{all_from_contains, contains_cons, contains_none}
 use Rattle.cell_num.proofs.Pairs.{pairs_head, pairs_tail}
 use Rattle.row_model.specs.declared.column.Column.{Column}
-use Rattle.trail_state.specs.declared.edge.Edge.{Edge}
+use Rattle.trail_step.specs.declared.edge.Edge.{Edge}
 use Rattle.trail_state.specs.Along.{all_added}
 use Rattle.trail_state.specs.Choices.{AreEdgesOf, IsEdgeOf}
 use Rattle.trail_state.specs.Follows.{added}

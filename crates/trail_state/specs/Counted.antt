@@ -16,15 +16,15 @@ use Rattle.row_state.specs.Chained.{least_labels, least_le}
 use Rattle.row_state.specs.Classes.{IsLabelling}
 use Rattle.row_state.specs.ClassSizes.{has_stays, size_in_none, size_in_same, size_in_stays}
 use Rattle.row_state.specs.Component.{has_finger}
-use Rattle.trail_state.specs.declared.edge.Node.{Node}
-use Rattle.trail_state.specs.declared.edge.Edge.{Edge}
-use Rattle.trail_state.specs.declared.state.Place.{Place}
+use Rattle.trail_step.specs.declared.edge.Node.{Node}
+use Rattle.trail_step.specs.declared.edge.Edge.{Edge}
+use Rattle.trail_step.specs.declared.state.Place.{Place}
+use Rattle.trail_step.specs.Places.{is_end, is_met}
+use Rattle.trail_step.specs.Settling.{closing_of, ends_of, has_class, has_odd, is_closed_trail, is_open, kept_of}
 use Rattle.trail_state.specs.Follows.{Follows, added}
 use Rattle.trail_state.specs.Links.{class_of, finger_of, fingers_of, odd_at, odd_more, unmet_alone}
 use Rattle.trail_state.specs.Members.{At, Passes, mapped, passes_from}
-use Rattle.trail_state.specs.Places.{is_end, is_met}
 use Rattle.trail_state.specs.Settles.{AreFewer, of_closing, seen, to_kept}
-use Rattle.trail_state.specs.Settling.{closing_of, ends_of, has_class, has_odd, is_closed_trail, is_open, kept_of}
 use Rattle.trail_state.specs.Sizes.{IsNew, size_adds, size_mono, size_zero}
 
 abbrev pub odd_shut : List Edge → List Node → ℕ → Bool

@@ -11,8 +11,9 @@ use Rattle.row_model.specs.declared.column.Placed.{Placed}
 use Rattle.row_model.specs.declared.column.Column.{Column}
 use Rattle.row_model.specs.Arrangement.{AreOneColumn, IsColumn}
 use Rattle.row_model.specs.Gaps.{facing_differs, gaps_of, is_gap, left_net, right_net}
+use Rattle.trail_step.specs.Edges.{edge_between, pair_node}
 use Rattle.trail_state.specs.Along.{AreBelow}
-use Rattle.trail_state.specs.Choices.{AreEdgesOf, IsEdgeOf, edge_between, pair_node}
+use Rattle.trail_state.specs.Choices.{AreEdgesOf, IsEdgeOf}
 use Rattle.trail_state.specs.Nodes.{is_net_in}
 use Rattle.trail_state.specs.Walks.{Walk, breaks_from, breaks_of, edges_of}
 

@@ -5,13 +5,13 @@ use Rattle.std.proofs.lemmas.Bool.{both_ways, cases_Bool, cases_eq, cases_lt, eq
 use Rattle.cell_num.proofs.Lists.{all_from_contains, contains_here, contains_there}
 use Rattle.cell_num.proofs.Pairs.{pairs_map}
 use Rattle.row_trails.specs.Trails.{toggle, toggle_other}
-use Rattle.trail_state.specs.declared.edge.Node.{Node}
-use Rattle.trail_state.specs.declared.edge.Edge.{Edge}
-use Rattle.trail_state.specs.declared.state.Place.{Place}
+use Rattle.trail_step.specs.declared.edge.Node.{Node}
+use Rattle.trail_step.specs.declared.edge.Edge.{Edge}
+use Rattle.trail_step.specs.declared.state.Place.{Place}
+use Rattle.trail_step.specs.Places.{differ, is_end, is_joined, is_met, joined_place, node_at, place_or_new, with_edge}
+use Rattle.trail_step.specs.Settling.{is_open}
 use Rattle.trail_state.specs.Links.{class_of, joined_same, odd_at, odd_more}
 use Rattle.trail_state.specs.Members.{AreApart, At, IsAt, at_map, mapped, or_new_at}
-use Rattle.trail_state.specs.Places.{differ, is_end, is_joined, is_met, joined_place, node_at, place_or_new, with_edge}
-use Rattle.trail_state.specs.Settling.{is_open}
 
 -- The places of all open nodes that the edges meet, and of those that the edges still to come meet.
 pub record Follows (es left : List Edge) (nodes : List Node) (t : List Place) : Type 0 where

@@ -22,10 +22,12 @@ use Rattle.row_model.specs.declared.column.Column.{Column}
 use Rattle.row_model.specs.Arrangement.{AreOneColumn, IsArrangement, IsColumn, fingers_in, place}
 use Rattle.row_model.specs.Gaps.{gaps_of, left_net, right_net}
 use Rattle.row_state.specs.Order.{gate_key}
-use Rattle.trail_state.specs.declared.edge.Node.{Node}
-use Rattle.trail_state.specs.declared.edge.Edge.{Edge}
+use Rattle.trail_step.specs.declared.edge.Node.{Node}
+use Rattle.trail_step.specs.declared.edge.Edge.{Edge}
+use Rattle.trail_step.specs.declared.state.Place.{Place}
+use Rattle.trail_step.specs.Places.{is_met, node_at}
+use Rattle.trail_step.specs.Settling.{ends_after, is_open, state_after}
 use Rattle.trail_state.specs.declared.level.Level.{Level}
-use Rattle.trail_state.specs.declared.state.Place.{Place}
 use Rattle.trail_state.specs.Along.{AreBelow, AreNodes, AreOpen, all_added, along_settled, ends_along, settled_least, start_follows}
 use Rattle.trail_state.specs.Choices.{AreEdgesOf}
 use Rattle.trail_state.specs.Chosen.{Drawn, IsChosen, IsDrawn, IsOf, all_chosen, column_at, edge_at}
@@ -37,8 +39,6 @@ use Rattle.trail_state.specs.Links.{finger_of, fingers_of}
 use Rattle.trail_state.specs.Nodes.{any_can_meet, can_meet, is_net_in, open_nodes}
 use Rattle.trail_state.specs.Opened.{in_net, left_has, met_can, net_small, open_differ, open_has, open_is, right_has}
 use Rattle.trail_state.specs.Picked.{Pick, Picked, pick}
-use Rattle.trail_state.specs.Places.{is_met, node_at}
-use Rattle.trail_state.specs.Settling.{ends_after, is_open, state_after}
 use Rattle.trail_state.specs.Walks.{Walk, edges_of}
 
 -- a gate of a finger is a net

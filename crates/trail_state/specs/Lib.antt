@@ -16,9 +16,6 @@ pub mod Opened
 pub mod Paired
 pub mod Pairings
 pub mod Picked
-pub mod Places
 pub mod Settles
-pub mod Settling
 pub mod Sizes
-pub mod Sorted
 pub mod Walks

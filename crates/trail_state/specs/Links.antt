@@ -10,9 +10,9 @@ use Rattle.row_state.specs.Classes.{joined, least_chained}
 use Rattle.row_state.specs.Chained.{joined_high, joined_other}
 use Rattle.row_state.specs.Degrees.{bit_of, degree, parity_bit}
 use Rattle.row_state.specs.Parity.{ends_on, is_odd, parity}
-use Rattle.trail_state.specs.declared.edge.Node.{Node}
-use Rattle.trail_state.specs.declared.edge.Edge.{Edge}
-use Rattle.trail_state.specs.Places.{is_end, is_met}
+use Rattle.trail_step.specs.declared.edge.Node.{Node}
+use Rattle.trail_step.specs.declared.edge.Edge.{Edge}
+use Rattle.trail_step.specs.Places.{is_end, is_met}
 
 abbrev pub net_of : Node → NetNo
 net_of v = record { 0 = v.0 }

@@ -7,8 +7,8 @@ use Rattle.std.proofs.lemmas.List.Kept.{AllPairs-cons}
 use Rattle.cell_num.proofs.In.{Image, in_map, contains_map}
 use Rattle.cell_num.proofs.Lists.{Kept, all_from_contains, contains_none, contains_cons, contains_here, contains_there, kept_from}
 use Rattle.cell_num.proofs.Pairs.{pairs_head, pairs_none, pairs_tail}
-use Rattle.trail_state.specs.declared.state.Place.{Place}
-use Rattle.trail_state.specs.Places.{new_place, place_or_new}
+use Rattle.trail_step.specs.declared.state.Place.{Place}
+use Rattle.trail_step.specs.Places.{new_place, place_or_new}
 
 -- what holds of the image of each member holds of each member of the image
 pub mapped : {X Y : Type 0} (P : Y → Type 0) (g : X → Y) (xs : List X) → ((x : X) → Contains xs x → P (g x)) → (y : Y) → Contains (map g xs) y → P y

@@ -20,14 +20,15 @@ use Rattle.row_model.specs.declared.column.Placed.{Placed}
 use Rattle.row_model.specs.declared.column.Column.{Column}
 use Rattle.row_model.specs.Arrangement.{fingers_in, place}
 use Rattle.row_model.specs.Gaps.{left_net, right_net}
-use Rattle.trail_state.specs.declared.edge.Node.{Node}
-use Rattle.trail_state.specs.declared.edge.Edge.{Edge}
-use Rattle.trail_state.specs.Choices.{IsChoice, IsEdgeOf, edge_between, fingers_on, pair_node}
+use Rattle.trail_step.specs.declared.edge.Node.{Node}
+use Rattle.trail_step.specs.declared.edge.Edge.{Edge}
+use Rattle.trail_step.specs.Edges.{edge_between, pair_node}
+use Rattle.trail_step.specs.Places.{is_end, is_met, node_at}
+use Rattle.trail_step.specs.Settling.{is_open}
+use Rattle.trail_state.specs.Choices.{IsChoice, IsEdgeOf, fingers_on}
 use Rattle.trail_state.specs.Grouped.{columns_of_gate, few_fingers, is_on}
 use Rattle.trail_state.specs.Members.{Passes, passes_from, passes_to}
 use Rattle.trail_state.specs.Nodes.{any_can_meet, can_meet, has_net, is_end_in, is_net_in, is_net_on, may_have, open_nodes}
-use Rattle.trail_state.specs.Places.{is_end, is_met, node_at}
-use Rattle.trail_state.specs.Settling.{is_open}
 use Rattle.trail_state.specs.Walks.{ordered}
 
 -- what stands beside a member of the second list

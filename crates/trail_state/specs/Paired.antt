@@ -15,14 +15,15 @@ use Rattle.row_model.specs.declared.column.Placed.{Placed}
 use Rattle.row_model.specs.Arrangement.{IsColumn, fingers_in, place}
 use Rattle.row_model.specs.Gaps.{left_net, right_net}
 use Rattle.row_state.proofs.Left.{IsPermutation-uncons}
-use Rattle.trail_state.specs.declared.edge.Edge.{Edge}
-use Rattle.trail_state.specs.Choices.{IsEdgeOf, edge_between, edge_of, pair_node}
+use Rattle.trail_step.specs.declared.edge.Edge.{Edge}
+use Rattle.trail_step.specs.Edges.{edge_between, edge_of, n_edges, p_edges, pair_edges, pair_node, with_each}
+use Rattle.trail_step.specs.Sorted.{inserted, inserted_permutes}
+use Rattle.trail_state.specs.Choices.{IsEdgeOf}
 use Rattle.trail_state.specs.Chosen.{Drawn, IsDrawn, column_at, edge_at}
 use Rattle.trail_state.specs.Grouped.{few_fingers}
 use Rattle.trail_state.specs.Nodes.{is_net_in}
 use Rattle.trail_state.specs.Opened.{range_has}
-use Rattle.trail_state.specs.Pairings.{all_alone, n_edges, no_finger, p_edges, pair_edges, pairings, with_each}
-use Rattle.trail_state.specs.Sorted.{inserted, inserted_permutes}
+use Rattle.trail_state.specs.Pairings.{all_alone, no_finger, pairings}
 use Rattle.trail_state.specs.Walks.{ordered}
 
 -- a column that holds the finger, and what stands before and behind it

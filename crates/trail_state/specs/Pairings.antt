@@ -1,36 +1,19 @@
 -- The choices of a gate as a list: which of its P fingers stands with which N finger, turned alike or not.
-use Rattle.std.specs.Prelude.{ℕ, ◌<◌, Bool, ◌&&◌, ◌==◌, ◌++◌, if◌then◌else◌, leb, List, [], ◌∷◌, length, map, fold, remove, slice_index_or}
+use Rattle.std.specs.Prelude.{ℕ, Bool, ◌&&◌, ◌==◌, ◌++◌, if◌then◌else◌, leb, List, [], ◌∷◌, length, map, fold, remove, slice_index_or}
 use Rattle.std.specs.Borrow.{Bor}
 use Rattle.std.specs.Cmp.Lexicographic.{pointwise}
 use Rattle.std.specs.List.{filter, flat_map, list_any, range_with_len}
 use Rattle.cell_num.specs.declared.finger.Row.TheVariants.{P}
 use Rattle.cell_num.specs.declared.finger.Finger.{Finger}
 use Rattle.cell_num.specs.declared.finger.Fingers.{Fingers}
-use Rattle.trail_state.specs.declared.edge.Edge.{Edge}
-use Rattle.trail_state.specs.Choices.{edge_of, fingers_on}
+use Rattle.trail_step.specs.declared.edge.Edge.{Edge}
+use Rattle.trail_step.specs.Edges.{n_edges, p_edges, pair_edges, with_each}
+use Rattle.trail_state.specs.Choices.{fingers_on}
 use Rattle.trail_state.specs.Nodes.{is_net_in}
-use Rattle.trail_state.specs.Sorted.{inserted}
-
-abbrev pub HasSmallEnds : Finger → Type 0
-HasSmallEnds x = (x.lo.0 < 256) × (x.hi.0 < 256)
-
--- the two edges of a P and an N finger in one column: turned alike, or not
-abbrev pub pair_edges : Finger → Finger → List Edge
-pair_edges x y = edge_of x.lo.0 y.lo.0 x.hi.0 y.hi.0 ∷ edge_of x.lo.0 y.hi.0 x.hi.0 y.lo.0 ∷ []
 
 -- the nets that fill the empty places of a row
 abbrev pub nets_in : List Finger → ℕ → List ℕ
 nets_in mine nets = filter (is_net_in mine) (range_with_len 0 nets)
-
-abbrev pub p_edges : List ℕ → Finger → List Edge
-p_edges nets x = flat_map (λ l. map (λ r. edge_of x.lo.0 l x.hi.0 r) nets) nets
-
-abbrev pub n_edges : List ℕ → Finger → List Edge
-n_edges nets y = flat_map (λ l. map (λ r. edge_of l y.lo.0 r y.hi.0) nets) nets
-
--- each of the lists with each of the edges, in its place
-abbrev pub with_each : List Edge → List (List Edge) → List (List Edge)
-with_each edges lists = flat_map (λ e. map (inserted e) lists) edges
 
 -- N fingers that stand alone
 abbrev pub all_alone : List ℕ → List Finger → List (List Edge)

@@ -16,8 +16,8 @@ use Rattle.cell_num.proofs.Lists.{all_from_contains, contains_cons, contains_her
 use Rattle.cell_num.proofs.Pairs.{Some', test_finds}
 use Rattle.row_model.specs.declared.column.Column.{Column}
 use Rattle.row_model.specs.Arrangement.{IsArrangement, IsColumn, fingers_in}
-use Rattle.trail_state.specs.declared.edge.Node.{Node}
-use Rattle.trail_state.specs.declared.edge.Edge.{Edge}
+use Rattle.trail_step.specs.declared.edge.Node.{Node}
+use Rattle.trail_step.specs.declared.edge.Edge.{Edge}
 use Rattle.trail_state.specs.Choices.{AreEdgesOf, IsChoice, fingers_on}
 use Rattle.trail_state.specs.Chosen.{Drawn, IsChosen, IsDrawn, column_at, drawn_zip, edge_at, firsts, is_part, part}
 use Rattle.trail_state.specs.Grouped.{columns_of_gate, columns_on, gate_arranges, gate_at, is_on}

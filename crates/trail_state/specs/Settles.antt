@@ -5,14 +5,14 @@ use Rattle.std.proofs.lemmas.Bool.{and_from, both_ways, cases_Bool, eq-eqb, eqb-
 use Rattle.std.proofs.lemmas.List.Kept.{AllPairs-filter}
 use Rattle.cell_num.proofs.Lists.{all_from_contains, contains_none}
 use Rattle.cell_num.proofs.Pairs.{pairs_map, test_there}
-use Rattle.trail_state.specs.declared.edge.Node.{Node}
-use Rattle.trail_state.specs.declared.edge.Edge.{Edge}
-use Rattle.trail_state.specs.declared.state.Place.{Place}
+use Rattle.trail_step.specs.declared.edge.Node.{Node}
+use Rattle.trail_step.specs.declared.edge.Edge.{Edge}
+use Rattle.trail_step.specs.declared.state.Place.{Place}
+use Rattle.trail_step.specs.Places.{is_met}
+use Rattle.trail_step.specs.Settling.{closing_of, has_odd, is_open, kept_of, left_place, name_in, state_settled}
 use Rattle.trail_state.specs.Follows.{Follows}
 use Rattle.trail_state.specs.Links.{class_of, odd_at}
 use Rattle.trail_state.specs.Members.{At, Found, Passes, at_map, found_from, mapped, one_place, passes_from, passes_to}
-use Rattle.trail_state.specs.Places.{is_met}
-use Rattle.trail_state.specs.Settling.{closing_of, has_odd, is_open, kept_of, left_place, name_in, state_settled}
 
 abbrev of_class : ℕ → Place → Bool
 of_class k q = q.class.0 == k

@@ -1,13 +1,13 @@
 ghost use Rattle.std.specs.Prelude.{◌≡◌, ◌<◌, ◌∷◌, [], IfOk, OnOk, All, fold, length, remove};
 ghost use Rattle.cell_num.specs.Fingers.{AreFingers};
-ghost use Rattle.trail_state.specs.Pairings.{HasSmallEnds, all_alone, all_pairings, choices_of, lists_of, nets_in, pairings, with_new};
+ghost use Rattle.trail_step.specs.Edges.{HasSmallEnds};
+ghost use Rattle.trail_state.specs.Pairings.{all_alone, all_pairings, choices_of, lists_of, nets_in, pairings, with_new};
 
-use crate::edges::{add_each, n_alone, p_alone, pair};
 use crate::nodes::{nets_in, on_gate};
-use crate::{Choice, Edge};
 use cell_num::{Finger, Fingers, List, NetNo, NoMemory};
 use indexmap::IndexSet;
 use std::alloc::{AllocError, Global};
+use trail_step::{Choice, Edge, add_each, n_alone, p_alone, pair};
 
 // The empty list alone.
 fn no_edges(alloc: Global) -> Result<List<Choice>, NoMemory>

@@ -1,7 +1,7 @@
 use Rattle.std.proofs.Common.{rules, subst, sym, ◌∙◌}
 use Rattle.bound_log.specs.declared.log.Log.{Log}
 use Rattle.row_state.specs.declared.kind.Kinds.{Kinds}
-use Rattle.log_check.specs.Noted.{AreNoted}
+use Rattle.lemma_check.specs.Noted.{AreNoted}
 use Rattle.log_check.specs.Items.{HasSeen}
 use Rattle.log_check.proofs.Items.{lemmas_again}
 use Rattle.log_check.proofs.check.add_lemmas.Goals as goal

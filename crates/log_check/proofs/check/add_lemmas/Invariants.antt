@@ -1,7 +1,7 @@
 use Rattle.std.proofs.Common.{◌≡◌, ◌+◌, take}
 use Rattle.bound_log.specs.declared.log.Log.{Log}
+use Rattle.lemma_check.specs.Noted.{AreNoted}
 use Rattle.log_check.specs.Items.{HasSeen, with_lemmas}
-use Rattle.log_check.specs.Noted.{AreNoted}
 use Rattle.log_check.proofs.check.add_lemmas.Given as goal
 
 abbrev pub invariant-loop-lemma : goal.invariant-loop-lemma

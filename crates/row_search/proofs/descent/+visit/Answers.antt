@@ -6,7 +6,7 @@ use Rattle.row_state.specs.Emptied.{AreEmpty}
 use Rattle.row_state.specs.Start.{columns_left}
 use Rattle.row_state.proofs.Calls.{fewer_after}
 use Rattle.bound_log.specs.declared.log.Rule.TheVariants as by
-use Rattle.log_check.specs.Accepted.{RuleReaches, best_of}
+use Rattle.lemma_check.specs.Reaches.{RuleReaches, best_of}
 use Rattle.row_search.specs.Ended.{IsLean}
 use Rattle.row_search.specs.SoFar.{KnowsAll}
 use Rattle.row_search.specs.Visit.{AreKept, HasFailed, HasFound, lemma_of}

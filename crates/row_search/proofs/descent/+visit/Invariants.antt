@@ -1,7 +1,7 @@
 use Rattle.std.proofs.Common.{◌+◌, All, take}
 use Rattle.row_state.specs.Start.{columns_left}
-use Rattle.log_check.specs.Accepted.{best_of}
-use Rattle.log_check.specs.Noted.{AreNoted}
+use Rattle.lemma_check.specs.Reaches.{best_of}
+use Rattle.lemma_check.specs.Noted.{AreNoted}
 use Rattle.row_search.proofs.Grown.{Reaches}
 use Rattle.row_search.proofs.Visits.{HasTried}
 use Rattle.row_search.proofs.descent.+visit.Given as goal

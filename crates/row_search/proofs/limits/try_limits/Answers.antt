@@ -3,7 +3,7 @@ use Rattle.row_state.specs.declared.step.Step.{Step}
 use Rattle.row_state.specs.Start.{columns_left}
 use Rattle.row_state.proofs.Valid.{gates_are_nets}
 use Rattle.bound_log.specs.declared.log.Lemma.{Lemma}
-use Rattle.log_check.specs.Accepted.{best_of}
+use Rattle.lemma_check.specs.Reaches.{best_of}
 use Rattle.row_search.specs.Limits.{IsOpen, found_of}
 use Rattle.row_search.specs.Visit.{HasFailed, HasFound, HasSpent}
 use Rattle.row_search.proofs.Least.{bound_le}

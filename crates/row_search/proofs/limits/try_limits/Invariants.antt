@@ -1,4 +1,4 @@
-use Rattle.log_check.specs.Noted.{AreNoted}
+use Rattle.lemma_check.specs.Noted.{AreNoted}
 use Rattle.row_search.proofs.Tried.{HaveFailed}
 use Rattle.row_search.proofs.limits.try_limits.Given as goal
 

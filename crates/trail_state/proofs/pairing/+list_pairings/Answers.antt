@@ -1,7 +1,8 @@
 use Rattle.std.proofs.Common.{rules, ◌≡◌, ◌∷◌, ◌++◌, sym, subst, All, remove}
 use Rattle.std.proofs.lemmas.List.Elements.{All-tail}
 use Rattle.std.specs.Prelude.{slice_index_or}
-use Rattle.trail_state.specs.Pairings.{HasSmallEnds, no_finger, pair_edges, pairings, with_each}
+use Rattle.trail_step.specs.Edges.{HasSmallEnds, pair_edges, with_each}
+use Rattle.trail_state.specs.Pairings.{no_finger, pairings}
 use Rattle.trail_state.proofs.Steps.{all_removed, flat_next}
 use Rattle.trail_state.proofs.pairing.+list_pairings.Goals as goal
 

@@ -1,7 +1,8 @@
 use Rattle.std.proofs.Common.{◌≡◌, length}
 use Rattle.std.specs.List.{flat_map, range_with_len, remove}
 use Rattle.std.specs.Prelude.{slice_index_or}
-use Rattle.trail_state.specs.Pairings.{no_finger, pair_edges, pairings, with_each}
+use Rattle.trail_step.specs.Edges.{pair_edges, with_each}
+use Rattle.trail_state.specs.Pairings.{no_finger, pairings}
 use Rattle.trail_state.proofs.pairing.+list_pairings.Given as goal
 
 abbrev pub decreases-list_pairings : goal.decreases-list_pairings

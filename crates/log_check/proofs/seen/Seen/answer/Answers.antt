@@ -4,9 +4,9 @@ use Rattle.cell_num.specs.declared.finger.Row.{Row}
 use Rattle.row_state.specs.declared.kind.Kinds.{Kinds}
 use Rattle.row_state.specs.declared.state.State.{State}
 use Rattle.row_state.proofs.Valid.{start_valid}
+use Rattle.lemma_check.specs.Known.{noted}
 use Rattle.log_check.specs.Accepted.{BestPasses, IsAccepted}
 use Rattle.log_check.specs.Items.{Checked, ForSeen, HasSeen}
-use Rattle.log_check.specs.Known.{noted}
 use Rattle.log_check.specs.Refusal.{BestRefuses, Refuses}
 use Rattle.log_check.proofs.Items.{answer_accepted, answer_refused, checked}
 use Rattle.log_check.proofs.seen.Seen.answer.Goals as goal

@@ -1,8 +1,8 @@
 use Rattle.std.proofs.Common.{rules, ◌≡◌, ◌∷◌, [], OnOk, ap, subst, true}
 use Rattle.row_state.specs.Start.{IsState}
 use Rattle.bound_log.specs.declared.log.Lemma.{Lemma}
+use Rattle.lemma_check.specs.Known.{noted}
 use Rattle.log_check.specs.Items.{Checked, ForSeen, HasSeen, with_lemmas}
-use Rattle.log_check.specs.Known.{noted}
 use Rattle.log_check.proofs.Items.{checked, valid_for}
 use Rattle.log_check.proofs.seen.Seen.lemma.Goals as goal
 

@@ -1,8 +1,8 @@
 use Rattle.std.proofs.Common.{rules, ◌≡◌, true, false, subst, sym}
 use Rattle.std.specs.Option.{is_some}
 use Rattle.row_state.specs.Start.{AreSomeKinds, IsState}
+use Rattle.lemma_check.specs.Known.{noted}
 use Rattle.log_check.specs.Items.{Checked}
-use Rattle.log_check.specs.Known.{noted}
 use Rattle.log_check.proofs.Items.{checked, seen_refused, seen_unproved}
 use Rattle.log_check.proofs.seen.Seen.refuse.Goals as goal
 

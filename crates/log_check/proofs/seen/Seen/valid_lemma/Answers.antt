@@ -1,8 +1,8 @@
 use Rattle.std.proofs.Common.{rules, ◌≡◌, true, false}
 use Rattle.std.specs.Option.{is_some}
 use Rattle.row_state.specs.Start.{AreSomeKinds, IsState}
-use Rattle.log_check.specs.Known.{best_noted, noted}
-use Rattle.log_check.proofs.Branches.{code_of, justified_by, reaches_by}
+use Rattle.lemma_check.specs.Known.{best_noted, noted}
+use Rattle.log_check.proofs.Justified.{code_of, justified_by, reaches_by}
 use Rattle.log_check.proofs.Items.{checked, seen_more, seen_refused, seen_unproved, valid_here}
 use Rattle.log_check.proofs.seen.Seen.valid_lemma.Goals as goal
 

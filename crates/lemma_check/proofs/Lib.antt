@@ -1,0 +1,4 @@
+pub mod Branches
+pub mod Kept
+pub mod Noting
+pub mod States

@@ -1,0 +1,5 @@
+-- What contracts of public calls cite, and what these definitions stand on.
+pub mod Edges
+pub mod Places
+pub mod Settling
+pub mod Sorted

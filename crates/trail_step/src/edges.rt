@@ -1,0 +1,167 @@
+ghost use Rattle.std.specs.Prelude.{◌≡◌, ◌<◌, ◌++◌, IfOk, OnOk, All, map, not};
+ghost use Rattle.std.specs.List.{filter};
+ghost use Rattle.trail_step.specs.Edges.{edge_between, edge_of, n_edges, p_edges, pair_edges, with_each, HasSmallEnds};
+ghost use Rattle.trail_step.specs.Sorted.{inserted, is_below};
+
+use crate::{Choice, Edge, Node};
+use cell_num::{Finger, List, NoMemory};
+use std::alloc::{AllocError, Global};
+
+fn between(l: u32, r: u32) -> Edge
+    ensures { result ≡ edge_between l r }
+{
+    if l <= r {
+        Edge {
+            a: Node(l),
+            b: Node(r),
+        }
+    } else {
+        Edge {
+            a: Node(r),
+            b: Node(l),
+        }
+    }
+}
+
+fn edge(p_left: u32, n_left: u32, p_right: u32, n_right: u32) -> Edge
+    requires nets { (p_left < 256) × (n_left < 256) × (p_right < 256) × (n_right < 256) }
+    ensures { result ≡ edge_of p_left n_left p_right n_right }
+{
+    between(256 * p_left + n_left, 256 * p_right + n_right)
+}
+
+fn is_lower(edge: &Edge, other: &Edge) -> bool
+    ensures { result ≡ is_below edge.now other.now }
+{
+    other.a.0 < edge.a.0 || (other.a == edge.a && other.b.0 < edge.b.0)
+}
+
+fn lower(alloc: Global, edge: &Edge, edges: &[Edge]) -> Result<Vec<Edge>, AllocError>
+    ensures { IfOk result (λ all. all.items ≡ filter (is_below edge.now) edges.now) }
+{
+    edges
+        .iter()
+        .copied()
+        .filter(|other| is_lower(edge, other))
+        .collect(alloc)
+}
+
+fn higher(alloc: Global, edge: &Edge, edges: &[Edge]) -> Result<Vec<Edge>, AllocError>
+    ensures { IfOk result (λ all. all.items ≡ filter (λ d. not (is_below edge.now d)) edges.now) }
+{
+    edges
+        .iter()
+        .copied()
+        .filter(|other| !is_lower(edge, other))
+        .collect(alloc)
+}
+
+fn insert_in(alloc: Global, edge: &Edge, edges: &[Edge]) -> Result<Vec<Edge>, AllocError>
+    ensures { IfOk result (λ all. all.items ≡ inserted edge.now edges.now) }
+{
+    let mut all = lower(alloc, edge, edges)?;
+    all.push(*edge)?;
+    let rest = higher(alloc, edge, edges)?;
+    all.extend_from_slice(rest.as_slice())?;
+    Ok(all)
+}
+
+fn insert(alloc: Global, edge: &Edge, edges: &[Edge]) -> Result<Choice, NoMemory>
+    ensures { IfOk result (λ all. all ≡ inserted edge.now edges.now) }
+{
+    Ok(List::from_vec(insert_in(alloc, edge, edges)?))
+}
+
+// Adds each of the lists with the edge.
+fn add_with(
+    alloc: Global,
+    all: &mut List<Choice>,
+    edge: &Edge,
+    lists: &[Choice],
+) -> Result<(), NoMemory>
+    ensures { OnOk result (all.new ≡ all.old ++ map (inserted edge.now) lists.now) }
+{
+    for list in lists {
+        all.push(insert(alloc, edge, list.as_slice())?)?;
+    }
+    Ok(())
+}
+
+/// Adds each of the lists with each of the edges in its place, all of the first edge first.
+pub fn add_each(
+    alloc: Global,
+    all: &mut List<Choice>,
+    edges: &[Edge],
+    lists: &[Choice],
+) -> Result<(), NoMemory>
+    ensures { OnOk result (all.new ≡ all.old ++ with_each edges.now lists.now) }
+{
+    for edge in edges {
+        add_with(alloc, all, edge, lists)?;
+    }
+    Ok(())
+}
+
+/// The edges of a column of a P and an N finger: turned alike, or not.
+pub fn pair(x: &Finger, y: &Finger) -> [Edge; 2]
+    requires x { HasSmallEnds x.now }
+    requires y { HasSmallEnds y.now }
+    ensures { result ≡ pair_edges x.now y.now }
+{
+    [
+        edge(x.lo.0, y.lo.0, x.hi.0, y.hi.0),
+        edge(x.lo.0, y.hi.0, x.hi.0, y.lo.0),
+    ]
+}
+
+fn add_p(all: &mut Vec<Edge>, nets: &[u32], x: &Finger, left: u32) -> Result<(), AllocError>
+    requires left { left < 256 }
+    requires nets { All (λ net. net < 256) nets.now }
+    requires x { HasSmallEnds x.now }
+    ensures { OnOk result (all.new.items ≡ all.old.items
+        ++ map (λ right. edge_of x.now.lo.0 left x.now.hi.0 right) nets.now) }
+{
+    for right in nets {
+        all.push(edge(x.lo.0, left, x.hi.0, *right))?;
+    }
+    Ok(())
+}
+
+/// The edges of a P finger that stands alone: its empty place has each two of the nets.
+pub fn p_alone(alloc: Global, nets: &[u32], x: &Finger) -> Result<Vec<Edge>, AllocError>
+    requires nets { All (λ net. net < 256) nets.now }
+    requires x { HasSmallEnds x.now }
+    ensures { IfOk result (λ all. all.items ≡ p_edges nets.now x.now) }
+{
+    let mut all = Vec::new(alloc);
+    for left in nets {
+        add_p(&mut all, nets, x, *left)?;
+    }
+    Ok(all)
+}
+
+fn add_n(all: &mut Vec<Edge>, nets: &[u32], y: &Finger, left: u32) -> Result<(), AllocError>
+    requires left { left < 256 }
+    requires nets { All (λ net. net < 256) nets.now }
+    requires y { HasSmallEnds y.now }
+    ensures { OnOk result (all.new.items ≡ all.old.items
+        ++ map (λ right. edge_of left y.now.lo.0 right y.now.hi.0) nets.now) }
+{
+    for right in nets {
+        all.push(edge(left, y.lo.0, *right, y.hi.0))?;
+    }
+    Ok(())
+}
+
+/// The edges of an N finger that stands alone: its empty place has each two of the nets.
+pub fn n_alone(alloc: Global, nets: &[u32], y: &Finger) -> Result<Vec<Edge>, AllocError>
+    requires nets { All (λ net. net < 256) nets.now }
+    requires y { HasSmallEnds y.now }
+    ensures { IfOk result (λ all. all.items ≡ n_edges nets.now y.now) }
+{
+    let mut all = Vec::new(alloc);
+    for left in nets {
+        add_n(&mut all, nets, y, *left)?;
+    }
+    Ok(all)
+}
