@@ -12,7 +12,6 @@ use Rattle.row_state.specs.Chained.{least_labels, least_le}
 use Rattle.row_state.specs.Classes.{IsLabelling}
 use Rattle.row_state.specs.Component.{has_finger}
 use Rattle.row_state.specs.Parity.{ends_on, is_odd, parity}
-use Rattle.trail_state.specs.Choices.{edge_between}
 use Rattle.trail_step.specs.declared.edge.Node.{Node}
 use Rattle.trail_step.specs.declared.edge.Edge.{Edge}
 use Rattle.trail_step.specs.declared.state.Place.{Place}

@@ -12,7 +12,6 @@ use Rattle.row_state.specs.Classes.{IsLabelling}
 use Rattle.row_state.specs.ClassSizes.{joined_alike, no_finger_even}
 use Rattle.row_state.specs.ClassSums.{sum_below_mono}
 use Rattle.row_state.specs.Component.{has_finger}
-use Rattle.trail_state.specs.Choices.{edge_between}
 use Rattle.trail_step.specs.declared.edge.Edge.{Edge}
 use Rattle.trail_step.specs.Edges.{edge_between}
 use Rattle.trail_step.specs.Places.{node_at}
