@@ -1,6 +1,6 @@
 -- The lines of a certificate, written and read.
-use Rattle.std.specs.Prelude.{ℕ, ◌≡◌, ◌+◌, ◌<◌, ◌≤◌, ◌==◌, true, leb, IsTrue, List, [], ◌∷◌, ◌++◌, Some, All, length, codes, decimal}
-use Rattle.std.proofs.Common.{refl, subst, arith, ◌∙◌, inl, inr}
+use Rattle.std.specs.Prelude.{ℕ, ◌≡◌, ◌<◌, ◌≤◌, ◌==◌, true, leb, IsTrue, List, [], ◌∷◌, ◌++◌, Some, All, length, codes, decimal}
+use Rattle.std.proofs.Common.{refl, subst, arith, inl, inr}
 use Rattle.std.specs.List.{join_with_byte}
 use Rattle.std.proofs.lemmas.Bool.{eqb-true, le-leb, leb-true}
 use Rattle.std.proofs.lemmas.List.{append_assoc}

@@ -1,4 +1,4 @@
-use Rattle.std.proofs.Common.{rules, ◌∙◌, ◌≡◌, ◌+◌, ◌≤◌, length, arith, None, Some}
+use Rattle.std.proofs.Common.{rules, ◌≡◌, ◌+◌, ◌≤◌, length, arith, None, Some}
 use Rattle.std.proofs.lemmas.Result.{err_from_is_err_and}
 use Rattle.cell_num.specs.declared.limits.TheConstants.{MOST_BYTES}
 use Rattle.log_lines.specs.Words.{words_in}
