@@ -17,6 +17,7 @@ use Rattle.bound_log.specs.declared.log.Lemma.{Lemma}
 use Rattle.bound_log.specs.declared.log.LogStep.{LogStep}
 use Rattle.bound_log.specs.declared.log.Best.{Best}
 use Rattle.bound_log.specs.declared.log.Log.{Log}
+use Rattle.lemma_check.specs.Reaches.{RuleReaches, best_of}
 
 -- a lemma on a valid state, by its rule, where each state has this best earlier bound
 pub record IsJustified (value : Row → State → Kinds → ℕ) (k : Kinds) (best : State → ℕ) (lemma : Lemma) : Type 0 where
