@@ -69,7 +69,7 @@ gathered_keeps (Some (Check asked file Trails)) =
     (λ e is. rw is refl)
 gathered_keeps (Some (Extract tech gds name rules)) =
     keeps_on (λ source. Contains (read_by (Some (Extract tech gds name rules))) source) (IsOwn Extracting) (IsGathered (Some (Extract tech gds name rules))) (extracting tech gds name rules) _
-    (drawn_keeps (λ source. Contains (read_by (Some (Extract tech gds name rules))) source) tech gds name rules (gds_tech_there tech gds) (gds_there tech gds))
+    (drawn_keeps (λ source. Contains (read_by (Some (Extract tech gds name rules))) source) Extracting tech gds name rules refl refl (gds_tech_there tech gds) (gds_there tech gds))
     (λ drawn is. refl)
     (λ e is. is)
 gathered_keeps (Some (Bench number)) = refl
@@ -80,7 +80,7 @@ gathered_keeps (Some (Row row out)) =
     (λ e is. rw is refl)
 gathered_keeps (Some (Agree tech gds lef name)) =
     keeps_on (λ source. Contains (read_by (Some (Agree tech gds lef name))) source) (IsOwn Agreeing) (IsGathered (Some (Agree tech gds lef name))) (comparing tech gds lef name) _
-    (compared_keeps (λ source. Contains (read_by (Some (Agree tech gds lef name))) source) tech gds lef name (macro_tech_there tech gds lef) (macro_gds_there tech gds lef) (macro_lef_there tech gds lef))
+    (compared_keeps (λ source. Contains (read_by (Some (Agree tech gds lef name))) source) Agreeing tech gds lef name refl refl refl (macro_tech_there tech gds lef) (macro_gds_there tech gds lef) (macro_lef_there tech gds lef))
     (λ both is. refl)
     (λ e is. is)
 

@@ -1,5 +1,5 @@
 -- What is read for inputs, for a drawing and for its macro, and what these readings end with by themselves.
-use Rattle.std.proofs.Common.{ℕ, ◌≡◌, ◌++◌, true, List, [], ◌∷◌, Option, Some, None, Result, Ok, Err, IfErr, Contains, refl, arith}
+use Rattle.std.proofs.Common.{ℕ, ◌≡◌, ◌++◌, true, List, [], ◌∷◌, Option, Some, None, Result, Ok, Err, IfErr, Contains, refl, sym, subst, arith}
 use Rattle.box_geom.specs.declared.shape.Shapes.{Shapes}
 use Rattle.cell_num.specs.Names.{lowered}
 use Rattle.cell_num.specs.declared.finger.Fingers.{Fingers}
@@ -13,6 +13,7 @@ use Rattle.lef_read.specs.Macros.{macro_in}
 use Rattle.lef_read.specs.declared.cell.Macro.{Macro}
 use Rattle.agree_run.specs.Agree.{compared, comparing, comparing_over, comparing_with}
 use Rattle.cell_inputs.specs.Inputs.{inputs_of, unit_nm}
+use Rattle.call_end.specs.declared.status.Status.{Status}
 use Rattle.call_end.specs.declared.status.Status.TheVariants as status
 use Rattle.call_words.specs.Asked.{CellAsked, RowAsked}
 use Rattle.call_words.specs.Words.{Form}
@@ -25,7 +26,7 @@ use Rattle.call_read.specs.Refusals.{as_refusal}
 use Rattle.call_read.specs.Sources.{Source, TechFile, SpiceFile, GdsFile, LefFile}
 use Rattle.call_read.specs.declared.refusal.Refusal.{Refusal}
 use Rattle.call_read.specs.declared.refusal.Refusal.TheVariants.{Words, Tech, Spice, Fold, Gds, Lef}
-use Rattle.call_work.specs.Commands.{Kind, Agreeing, Extracting, Material, kind_of, settled_by}
+use Rattle.call_work.specs.Commands.{Kind, Material, kind_of, settled_by}
 use Rattle.call_work.specs.Ends.{is_among, refusal_status}
 use Rattle.row_run.specs.Row.{rowing, rowing_over}
 use Rattle.scmos_rules.specs.declared.rules.Deck.{Deck}
@@ -88,18 +89,22 @@ rowing_keeps May asked there =
 
 -- ---- a cell of a GDSII file, and its macro
 
-pub drawn_keeps : (May : Source → Type 0) (tech : Option (List ℕ)) (gds name : List ℕ) (rules : Deck) → ((file : List ℕ) → tech ≡ Some file → May (TechFile file)) → May (GdsFile gds) → Keeps May (IsOwn Extracting) (extracting tech gds name rules)
-drawn_keeps May tech gds name rules there file =
-    keeps_on May IsInputs (IsOwn Extracting) (technology_from tech) (extracting_over gds name rules) (tech_keeps May tech there)
-    (λ read is. decoded_keeps May Extracting (GdsFile gds) Gds (λ bytes. decoded bytes name read.lambda_nm) (λ (shapes : Shapes). Ends (Ok (gds_cell name rules shapes))) file (λ f. refl) (λ shapes. tt))
-    (λ e is. rw is refl)
+-- a kind that settles for a status settles for the refusals of that status
+settles_for : (kind : Kind) (e : Refusal) (wanted : Status) → is_among (settled_by kind) wanted ≡ true → refusal_status e ≡ wanted → IsOwnFault kind e
+settles_for kind e wanted own is = subst (λ (answer : Status). is_among (settled_by kind) answer ≡ true) (sym is) own
 
-pub compared_keeps : (May : Source → Type 0) (tech : Option (List ℕ)) (gds lef name : List ℕ) → ((file : List ℕ) → tech ≡ Some file → May (TechFile file)) → May (GdsFile gds) → May (LefFile lef) → Keeps May (IsOwn Agreeing) (comparing tech gds lef name)
-compared_keeps May tech gds lef name there drawing abstracts =
-    keeps_on May IsInputs (IsOwn Agreeing) (technology_from tech) (comparing_over gds lef name) (tech_keeps May tech there)
-    (λ read is. decoded_keeps May Agreeing (GdsFile gds) Gds (λ bytes. decoded bytes name read.lambda_nm) (comparing_with lef name read) drawing (λ f. refl)
-    (λ shapes. decoded_keeps May Agreeing (LefFile lef) Lef (λ bytes. macro_in bytes name (unit_nm read)) (λ (cell : Macro). Ends (Ok (compared shapes cell))) abstracts (λ f. refl) (λ cell. tt)))
-    (λ e is. rw is refl)
+pub drawn_keeps : (May : Source → Type 0) (kind : Kind) (tech : Option (List ℕ)) (gds name : List ℕ) (rules : Deck) → is_among (settled_by kind) status.Input ≡ true → is_among (settled_by kind) status.Layout ≡ true → ((file : List ℕ) → tech ≡ Some file → May (TechFile file)) → May (GdsFile gds) → Keeps May (IsOwn kind) (extracting tech gds name rules)
+drawn_keeps May kind tech gds name rules input layout there file =
+    keeps_on May IsInputs (IsOwn kind) (technology_from tech) (extracting_over gds name rules) (tech_keeps May tech there)
+    (λ read is. decoded_keeps May kind (GdsFile gds) Gds (λ bytes. decoded bytes name read.lambda_nm) (λ (shapes : Shapes). Ends (Ok (gds_cell name rules shapes))) file (λ f. layout) (λ shapes. tt))
+    (λ e is. settles_for kind e status.Input input is)
+
+pub compared_keeps : (May : Source → Type 0) (kind : Kind) (tech : Option (List ℕ)) (gds lef name : List ℕ) → is_among (settled_by kind) status.Input ≡ true → is_among (settled_by kind) status.Layout ≡ true → is_among (settled_by kind) status.Disagree ≡ true → ((file : List ℕ) → tech ≡ Some file → May (TechFile file)) → May (GdsFile gds) → May (LefFile lef) → Keeps May (IsOwn kind) (comparing tech gds lef name)
+compared_keeps May kind tech gds lef name input layout disagree there drawing abstracts =
+    keeps_on May IsInputs (IsOwn kind) (technology_from tech) (comparing_over gds lef name) (tech_keeps May tech there)
+    (λ read is. decoded_keeps May kind (GdsFile gds) Gds (λ bytes. decoded bytes name read.lambda_nm) (comparing_with lef name read) drawing (λ f. layout)
+    (λ shapes. decoded_keeps May kind (LefFile lef) Lef (λ bytes. macro_in bytes name (unit_nm read)) (λ (cell : Macro). Ends (Ok (compared shapes cell))) abstracts (λ f. disagree) (λ cell. tt)))
+    (λ e is. settles_for kind e status.Input input is)
 
 -- ---- files among those that a form reads
 

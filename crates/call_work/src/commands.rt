@@ -1,25 +1,32 @@
 ghost use Rattle.std.specs.Prelude.{Some, IfOk, option_map};
 ghost use Rattle.cell_io.specs.Desk.{OnlyReads};
 ghost use Rattle.call_read.specs.Read.{KeepsReads};
-ghost use Rattle.call_words.specs.Words.{Plan, Make, Check, Extract, Row, Agree, shown};
+ghost use Rattle.call_words.specs.Words.{shown};
 ghost use Rattle.call_work.specs.Commands.{WorksOn, gathered};
 ghost use Rattle.call_work.specs.Kept.{MayKeep, WorksFor};
 ghost use Rattle.call_work.specs.declared.commands.Material.TheVariants.{Read};
 
-use crate::evidence::{making, planning, with_evidence};
-use agree_run::{Compared, agree, read_compared};
+mod abstracts;
+mod cell;
+mod layout;
+mod rows;
+
+use abstracts::for_agree;
+use agree_run::{Compared, agree};
 use call_end::End;
-use call_read::{FileBytes, Refusal, read_inputs};
-use call_words::{CellAsked, CellCount, Evidence, Form, RowAsked};
+use call_read::{FileBytes, Refusal};
+use call_words::{CellCount, Form};
+use cell::{for_check, for_make, for_plan};
 use cell_inputs::{Inputs, Style};
 use cell_io::Desk;
 use cell_num::NoMemory;
 use check_run::{CheckedLog, check};
-use layout_run::{GdsCell, extract, read_gds_cell};
+use layout::for_extract;
+use layout_run::{GdsCell, extract};
 use make_run::{Stem, make, plan};
 use row_make::RowInputs;
-use row_run::{read_row, row};
-use scmos_rules::Deck;
+use row_run::row;
+use rows::for_row;
 use std::alloc::Global;
 use trail_make::make_by_trails;
 use trail_run::{check_by_trails, plan_by_trails};
@@ -49,103 +56,6 @@ pub enum ReadMaterial {
     TrailMaking(Inputs, Stem, Style),
     /// The inputs, and the bytes of a certificate by trails.
     TrailChecking(Inputs, FileBytes),
-}
-
-fn for_plan<D: Desk>(
-    alloc: Global,
-    desk: &mut D,
-    asked: &CellAsked<'_>,
-    evidence: Evidence,
-) -> Result<Material, Refusal>
-    ensures comes { MayKeep (D.view desk.old) (D.view desk.new) (gathered (Some (Plan asked.now evidence))) result }
-    ensures quiet { KeepsReads result (D.view desk.old) (D.view desk.new) }
-    ensures only { OnlyReads (D.view desk.old) (D.view desk.new) }
-{
-    let inputs = read_inputs(alloc, desk, asked)?;
-    Ok(planning(inputs, evidence))
-}
-
-fn for_make<D: Desk>(
-    alloc: Global,
-    desk: &mut D,
-    asked: &CellAsked<'_>,
-    out: &str,
-    style: Style,
-    evidence: Evidence,
-) -> Result<Material, Refusal>
-    ensures comes { MayKeep (D.view desk.old) (D.view desk.new)
-        (gathered (Some (Make asked.now out.now style evidence))) result }
-    ensures quiet { KeepsReads result (D.view desk.old) (D.view desk.new) }
-    ensures only { OnlyReads (D.view desk.old) (D.view desk.new) }
-{
-    let stem = Stem::new(alloc, out)?;
-    let inputs = read_inputs(alloc, desk, asked)?;
-    Ok(making(inputs, stem, style, evidence))
-}
-
-fn for_check<D: Desk>(
-    alloc: Global,
-    desk: &mut D,
-    asked: &CellAsked<'_>,
-    file: &str,
-    evidence: Evidence,
-) -> Result<Material, Refusal>
-    ensures comes { MayKeep (D.view desk.old) (D.view desk.new)
-        (gathered (Some (Check asked.now file.now evidence))) result }
-    ensures quiet { KeepsReads result (D.view desk.old) (D.view desk.new) }
-    ensures only { OnlyReads (D.view desk.old) (D.view desk.new) }
-{
-    let inputs = read_inputs(alloc, desk, asked)?;
-    with_evidence(alloc, desk, inputs, file, evidence)
-}
-
-fn for_extract<D: Desk>(
-    alloc: Global,
-    desk: &mut D,
-    tech: Option<&str>,
-    gds: &str,
-    cell: &str,
-    rules: Deck,
-) -> Result<Material, Refusal>
-    ensures comes { MayKeep (D.view desk.old) (D.view desk.new)
-        (gathered (Some (Extract (option_map (λ name. name.now) tech.entry) gds.now cell.now rules))) result }
-    ensures quiet { KeepsReads result (D.view desk.old) (D.view desk.new) }
-    ensures only { OnlyReads (D.view desk.old) (D.view desk.new) }
-{
-    let drawn = read_gds_cell(alloc, desk, tech, gds, cell, rules)?;
-    Ok(Material::Read(ReadMaterial::Extracting(drawn)))
-}
-
-fn for_row<D: Desk>(
-    alloc: Global,
-    desk: &mut D,
-    asked: &RowAsked<'_>,
-    out: &str,
-) -> Result<Material, Refusal>
-    ensures comes { MayKeep (D.view desk.old) (D.view desk.new) (gathered (Some (Row asked.now out.now))) result }
-    ensures quiet { KeepsReads result (D.view desk.old) (D.view desk.new) }
-    ensures only { OnlyReads (D.view desk.old) (D.view desk.new) }
-{
-    let stem = Stem::new(alloc, out)?;
-    let inputs = read_row(alloc, desk, asked)?;
-    Ok(Material::Read(ReadMaterial::Rowing(inputs, stem)))
-}
-
-fn for_agree<D: Desk>(
-    alloc: Global,
-    desk: &mut D,
-    tech: Option<&str>,
-    gds: &str,
-    lef: &str,
-    cell: &str,
-) -> Result<Material, Refusal>
-    ensures comes { MayKeep (D.view desk.old) (D.view desk.new)
-        (gathered (Some (Agree (option_map (λ name. name.now) tech.entry) gds.now lef.now cell.now))) result }
-    ensures quiet { KeepsReads result (D.view desk.old) (D.view desk.new) }
-    ensures only { OnlyReads (D.view desk.old) (D.view desk.new) }
-{
-    let both = read_compared(alloc, desk, tech, gds, lef, cell)?;
-    Ok(Material::Read(ReadMaterial::Agreeing(both)))
 }
 
 fn gather_form<D: Desk>(alloc: Global, desk: &mut D, form: Form<'_>) -> Result<Material, Refusal>

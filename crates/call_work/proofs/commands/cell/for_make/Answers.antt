@@ -6,7 +6,7 @@ use Rattle.call_work.specs.Commands.{gathered, making}
 use Rattle.call_read.specs.Reading.{Ends}
 use Rattle.call_read.proofs.Desks.{only_refl}
 use Rattle.call_work.proofs.Keeping.{keeps_behind, keeps_refusal, keeps_short, kept_out}
-use Rattle.call_work.proofs.commands.for_make.Goals as goal
+use Rattle.call_work.proofs.commands.cell.for_make.Goals as goal
 
 pub returns-in_err-stem-clause-comes : goal.returns-in_err-stem-clause-comes
 returns-in_err-stem-clause-comes g c =

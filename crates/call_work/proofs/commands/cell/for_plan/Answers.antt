@@ -5,7 +5,7 @@ use Rattle.call_work.specs.Commands.{planning}
 use Rattle.call_read.specs.Reading.{Ends}
 use Rattle.call_read.proofs.Desks.{only_refl}
 use Rattle.call_work.proofs.Keeping.{keeps_behind, keeps_refusal}
-use Rattle.call_work.proofs.commands.for_plan.Goals as goal
+use Rattle.call_work.proofs.commands.cell.for_plan.Goals as goal
 
 pub returns-in_err-inputs-clause-comes : goal.returns-in_err-inputs-clause-comes
 returns-in_err-inputs-clause-comes g c =

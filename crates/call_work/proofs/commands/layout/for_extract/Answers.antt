@@ -6,7 +6,7 @@ use Rattle.call_work.proofs.Keeping.{keeps_behind, keeps_refusal}
 use Rattle.call_work.specs.Commands.{Extracting}
 use Rattle.layout_run.specs.Extract.{extracting}
 use Rattle.layout_run.specs.declared.gds_cell.GdsCell.{GdsCell}
-use Rattle.call_work.proofs.commands.for_extract.Goals as goal
+use Rattle.call_work.proofs.commands.layout.for_extract.Goals as goal
 
 pub returns-in_err-drawn-clause-comes : goal.returns-in_err-drawn-clause-comes
 returns-in_err-drawn-clause-comes g c =

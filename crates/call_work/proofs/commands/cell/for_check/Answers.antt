@@ -2,7 +2,7 @@ use Rattle.call_work.specs.Commands.{checking_over}
 use Rattle.call_read.specs.InputFiles.{inputs_from}
 use Rattle.call_read.proofs.Desks.{only_refl}
 use Rattle.call_work.proofs.Keeping.{keeps_behind, keeps_refusal}
-use Rattle.call_work.proofs.commands.for_check.Goals as goal
+use Rattle.call_work.proofs.commands.cell.for_check.Goals as goal
 
 pub returns-in_err-inputs-clause-comes : goal.returns-in_err-inputs-clause-comes
 returns-in_err-inputs-clause-comes g c =

@@ -6,7 +6,7 @@ use Rattle.call_work.proofs.Keeping.{keeps_behind, keeps_refusal, keeps_short, s
 use Rattle.call_work.specs.Commands.{Rowing, gathered}
 use Rattle.row_make.specs.RowInputs.{RowInputs}
 use Rattle.row_run.specs.Row.{rowing}
-use Rattle.call_work.proofs.commands.for_row.Goals as goal
+use Rattle.call_work.proofs.commands.rows.for_row.Goals as goal
 
 pub returns-in_err-stem-clause-comes : goal.returns-in_err-stem-clause-comes
 returns-in_err-stem-clause-comes g c =

@@ -6,7 +6,7 @@ use Rattle.call_read.proofs.Desks.{only_refl}
 use Rattle.call_read.specs.Reading.{Ends}
 use Rattle.call_work.proofs.Keeping.{keeps_behind, keeps_refusal}
 use Rattle.call_work.specs.Commands.{Agreeing}
-use Rattle.call_work.proofs.commands.for_agree.Goals as goal
+use Rattle.call_work.proofs.commands.abstracts.for_agree.Goals as goal
 
 pub returns-in_err-both-clause-comes : goal.returns-in_err-both-clause-comes
 returns-in_err-both-clause-comes g c =

@@ -1,0 +1,64 @@
+// What the commands on a cell of a SPICE file read.
+ghost use Rattle.std.specs.Prelude.{Some};
+ghost use Rattle.cell_io.specs.Desk.{OnlyReads};
+ghost use Rattle.call_read.specs.Read.{KeepsReads};
+ghost use Rattle.call_words.specs.Words.{Plan, Make, Check};
+ghost use Rattle.call_work.specs.Commands.{gathered};
+ghost use Rattle.call_work.specs.Kept.{MayKeep};
+
+use crate::commands::Material;
+use crate::evidence::{making, planning, with_evidence};
+use call_read::{Refusal, read_inputs};
+use call_words::{CellAsked, Evidence};
+use cell_inputs::Style;
+use cell_io::Desk;
+use make_run::Stem;
+use std::alloc::Global;
+
+pub(crate) fn for_plan<D: Desk>(
+    alloc: Global,
+    desk: &mut D,
+    asked: &CellAsked<'_>,
+    evidence: Evidence,
+) -> Result<Material, Refusal>
+    ensures comes { MayKeep (D.view desk.old) (D.view desk.new) (gathered (Some (Plan asked.now evidence))) result }
+    ensures quiet { KeepsReads result (D.view desk.old) (D.view desk.new) }
+    ensures only { OnlyReads (D.view desk.old) (D.view desk.new) }
+{
+    let inputs = read_inputs(alloc, desk, asked)?;
+    Ok(planning(inputs, evidence))
+}
+
+pub(crate) fn for_make<D: Desk>(
+    alloc: Global,
+    desk: &mut D,
+    asked: &CellAsked<'_>,
+    out: &str,
+    style: Style,
+    evidence: Evidence,
+) -> Result<Material, Refusal>
+    ensures comes { MayKeep (D.view desk.old) (D.view desk.new)
+        (gathered (Some (Make asked.now out.now style evidence))) result }
+    ensures quiet { KeepsReads result (D.view desk.old) (D.view desk.new) }
+    ensures only { OnlyReads (D.view desk.old) (D.view desk.new) }
+{
+    let stem = Stem::new(alloc, out)?;
+    let inputs = read_inputs(alloc, desk, asked)?;
+    Ok(making(inputs, stem, style, evidence))
+}
+
+pub(crate) fn for_check<D: Desk>(
+    alloc: Global,
+    desk: &mut D,
+    asked: &CellAsked<'_>,
+    file: &str,
+    evidence: Evidence,
+) -> Result<Material, Refusal>
+    ensures comes { MayKeep (D.view desk.old) (D.view desk.new)
+        (gathered (Some (Check asked.now file.now evidence))) result }
+    ensures quiet { KeepsReads result (D.view desk.old) (D.view desk.new) }
+    ensures only { OnlyReads (D.view desk.old) (D.view desk.new) }
+{
+    let inputs = read_inputs(alloc, desk, asked)?;
+    with_evidence(alloc, desk, inputs, file, evidence)
+}
