@@ -1,7 +1,6 @@
 pub mod Blocks
-pub mod Even
+pub mod Ends
 pub mod Few
-pub mod Once
+pub mod Parts
 pub mod Small
-pub mod Steps
 pub mod Unions

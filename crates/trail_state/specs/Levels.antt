@@ -7,7 +7,7 @@ use Rattle.trail_state.specs.declared.edge.Node.{Node}
 use Rattle.trail_state.specs.declared.edge.Edge.{Edge}
 use Rattle.trail_state.specs.declared.level.Level.{Level}
 use Rattle.trail_state.specs.declared.state.Place.{Place}
-use Rattle.trail_state.specs.Pairings.{choices_of}
+use Rattle.trail_state.specs.Fronts.{choices_of}
 use Rattle.trail_state.specs.Nodes.{open_nodes}
 use Rattle.trail_state.specs.Settling.{ends_after, state_after}
 

@@ -6,10 +6,12 @@ pub mod Chosen
 pub mod Counted
 pub mod Filling
 pub mod Follows
+pub mod Fronts
 pub mod Grouped
 pub mod Law
 pub mod Levels
 pub mod Links
+pub mod Listed
 pub mod Members
 pub mod Nodes
 pub mod Opened

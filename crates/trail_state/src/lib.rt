@@ -4,6 +4,8 @@
 
 pub mod edge;
 mod edges;
+pub mod front;
+pub mod gate;
 pub mod laws;
 pub mod level;
 pub mod nodes;
@@ -14,6 +16,6 @@ pub mod state;
 pub use edge::{Choice, Edge, Node};
 pub use level::{Level, levels};
 pub use nodes::open_nodes;
-pub use pairing::choices;
+pub use pairing::{choices, has_long_front};
 pub use settle::{Settled, after};
 pub use state::{Place, TrailState};
