@@ -8,6 +8,7 @@ pub mod Filling
 pub mod Follows
 pub mod Fronts
 pub mod Grouped
+pub mod Held
 pub mod Law
 pub mod Levels
 pub mod Links

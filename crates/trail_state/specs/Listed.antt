@@ -1,14 +1,15 @@
 -- A front has the parts with each further column, and without one of some fingers are the others.
-use Rattle.std.proofs.Common.{ℕ, ◌≡◌, ◌<◌, ◌==◌, ◌&&◌, Bool, true, if◌then◌else◌, List, [], ◌∷◌, ◌++◌, length, fold, get_or, refl, sym, ap, subst, arith, ◌∙◌, inl, inr, Contains, IsPermutation}
+use Rattle.std.proofs.Common.{ℕ, ◌≡◌, ◌<◌, ◌==◌, ◌&&◌, Bool, true, cond, if◌then◌else◌, List, [], ◌∷◌, ◌++◌, length, fold, get_or, refl, sym, ap, subst, arith, ◌∙◌, inl, inr, Contains, IsPermutation}
 use Rattle.std.specs.Bool.{Decides}
 use Rattle.std.specs.Cmp.Lexicographic.{pointwise, pointwise_decides}
 use Rattle.std.specs.List.{after_first, before_first, list_any, position_or_len}
 use Rattle.std.proofs.lemmas.Bool.{and_from, and_parts, both_ways, cases_Bool, cases_lt, eq-eqb, eqb-true}
 use Rattle.std.proofs.lemmas.List.Elements.{Contains-append_left, Contains-append_right}
-use Rattle.std.proofs.lemmas.List.Sorted.{IsPermutation-middle}
+use Rattle.std.proofs.lemmas.List.Sorted.{IsPermutation-middle, length_permutation, sum_by-IsPermutation}
 use Rattle.std.proofs.lemmas.List.Sums.{fails_before_first, passes_at_first, split_at_first}
 use Rattle.cell_num.proofs.Lists.{contains_cons, contains_here, contains_none}
 use Rattle.cell_num.proofs.Pairs.{Some', test_finds}
+use Rattle.cell_num.proofs.Permutations.{count_cons, permutation_from_counts}
 use Rattle.trail_state.specs.declared.edge.Node.{Node}
 use Rattle.trail_state.specs.declared.edge.Edge.{Edge}
 use Rattle.trail_state.specs.declared.front.Part.{Part}
@@ -112,3 +113,9 @@ one_taken y left (k, within, is) =
     let split : left ≡ before_first (same_nets y) left ++ (get_or left at y ∷ after_first (same_nets y) left) = split_at_first (same_nets y) left y short in
     let mine : left ≡ before_first (same_nets y) left ++ (y ∷ after_first (same_nets y) left) = split ∙ ap (λ v. before_first (same_nets y) left ++ (v ∷ after_first (same_nets y) left)) (sym same) in
     subst (λ l. IsPermutation l (y ∷ without y left)) (sym mine) (IsPermutation-middle (before_first (same_nets y) left) y (after_first (same_nets y) left))
+
+pub nets_uncons : (x : NetPair) (xs ys : List NetPair) → IsPermutation (x ∷ xs) (x ∷ ys) → IsPermutation xs ys
+nets_uncons x xs ys h =
+    let same : length ys ≡ length xs = omega (arith, length_permutation (x ∷ xs) (x ∷ ys) h) in
+    permutation_from_counts same_nets nets_decides xs ys same
+    (λ z. omega (arith, sum_by-IsPermutation (λ y. cond (same_nets z y) 1 0) (x ∷ xs) (x ∷ ys) h, count_cons (same_nets z) x xs, count_cons (same_nets z) x ys))

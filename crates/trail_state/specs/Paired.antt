@@ -1,97 +1,27 @@
 -- Columns that arrange the fingers of a gate are one of the listed choices, up to the order of their edges.
-use Rattle.std.proofs.Common.{ℕ, zero, suc, ◌≡◌, ◌+◌, ◌≤◌, Bool, true, false, leb, if◌then◌else◌, max, List, [], ◌∷◌, ◌++◌, length, length-append, drop, Option, Some, None, option_map, map, refl, sym, ap, subst, arith, ◌∙◌, inl, inr, All, Contains, IsPermutation}
-use Rattle.std.specs.List.{cons_option}
+use Rattle.std.proofs.Common.{ℕ, zero, suc, ◌≡◌, ◌+◌, ◌≤◌, Bool, true, false, leb, if◌then◌else◌, max, List, [], ◌∷◌, ◌++◌, length, length-append, drop, Option, Some, None, map, refl, sym, ap, subst, arith, ◌∙◌, inl, inr, All, Contains, IsPermutation}
 use Rattle.std.proofs.lemmas.Bool.{cases_Bool, le-leb, leb-false, leb-true}
-use Rattle.std.proofs.lemmas.List.{length-map}
 use Rattle.std.proofs.lemmas.List.Elements.{All-head, All-tail, Contains-append_left, Contains-append_right}
-use Rattle.std.proofs.lemmas.List.Sorted.{All-permutation, Contains-permutation, IsPermutation-append_left, IsPermutation-append_right, IsPermutation-cons, IsPermutation-map, IsPermutation-middle, IsPermutation-refl, IsPermutation-sym, IsPermutation-trans, length_permutation}
-use Rattle.cell_num.specs.declared.finger.Row.{Row}
+use Rattle.std.proofs.lemmas.List.Sorted.{All-permutation, Contains-permutation, IsPermutation-append_left, IsPermutation-append_right, IsPermutation-map, IsPermutation-middle, IsPermutation-refl, IsPermutation-sym, IsPermutation-trans, length_permutation}
 use Rattle.cell_num.specs.declared.finger.Row.TheVariants.{P, N}
 use Rattle.cell_num.specs.declared.finger.Finger.{Finger}
 use Rattle.cell_num.specs.declared.finger.Fingers.{Fingers}
 use Rattle.cell_num.proofs.In.{contains_flat, contains_map}
-use Rattle.cell_num.proofs.Lists.{contains_cons, contains_here, contains_none, contains_there}
+use Rattle.cell_num.proofs.Lists.{contains_here, contains_there}
 use Rattle.row_model.specs.declared.column.Placed.{Placed}
-use Rattle.row_model.specs.Arrangement.{fingers_in, place}
-use Rattle.row_model.specs.Gaps.{left_net, right_net}
-use Rattle.row_state.proofs.Left.{IsPermutation-uncons}
 use Rattle.trail_state.specs.declared.edge.Edge.{Edge}
 use Rattle.trail_state.specs.declared.front.Part.{Part}
 use Rattle.trail_state.specs.declared.gate.Gate.{Gate}
 use Rattle.trail_state.specs.declared.gate.NetPair.{NetPair}
 use Rattle.trail_state.specs.Choices.{IsEdgeOf, edge_between, edge_of, pair_node}
-use Rattle.trail_state.specs.Chosen.{Drawn, IsDrawn, column_at, edge_at}
+use Rattle.trail_state.specs.Chosen.{Drawn, IsDrawn, edge_at}
 use Rattle.trail_state.specs.Fronts.{alone, edges_of, front_at, n_alone, next_parts, paired, with_column, without}
-use Rattle.trail_state.specs.Grouped.{few_fingers}
-use Rattle.trail_state.specs.Listed.{front_has, one_taken}
+use Rattle.trail_state.specs.Held.{Holder, apart, few_nets, holder, left_apart, row_nets}
+use Rattle.trail_state.specs.Listed.{front_has, nets_uncons, one_taken}
 use Rattle.trail_state.specs.Nodes.{is_net_in}
 use Rattle.trail_state.specs.Pairings.{n_edges, nets_at, p_edges, pair_edges}
 use Rattle.trail_state.specs.Sorted.{inserted, inserted_permutes}
 use Rattle.trail_state.specs.Walks.{ordered}
-
--- a column that holds a finger with these nets, and what stands before and behind it
-record Holder (r : Row) (x : NetPair) (zs : List Drawn) : Type 0 where
-  pub before : List Drawn
-  pub at : Drawn
-  pub behind : List Drawn
-  pub placed : Placed
-  pub is : zs ≡ before ++ at ∷ behind
-  pub place : place r at.0 ≡ Some placed
-  pub nets : nets_at placed.finger ≡ x
-
-abbrev pub finger_of_place : Row → Drawn → Option Finger
-finger_of_place r z = option_map (λ (y : Placed). y.finger) (place r z.0)
-
-abbrev pub row_fingers : Row → List Drawn → List Finger
-row_fingers r zs = fingers_in r (map column_at zs)
-
-abbrev pub row_nets : Row → List Drawn → List NetPair
-row_nets r zs = map nets_at (row_fingers r zs)
-
-holder_more : (r : Row) (x : NetPair) (z : Drawn) (zs : List Drawn) → Holder r x zs → Holder r x (z ∷ zs)
-holder_more r x z zs h = record { before = z ∷ h.before; at = h.at; behind = h.behind; placed = h.placed; is = ap (λ l. z ∷ l) h.is; place = h.place; nets = h.nets }
-
-holder : (r : Row) (x : NetPair) (zs : List Drawn) → Contains (row_nets r zs) x → Holder r x zs
-holder r x [] c = absurd (contains_none x c)
-holder r x (z ∷ zs) c = by_place (place r z.0) refl (λ k. holder_more r x z zs (holder r x zs k))
-  where
-    by_place : (o : Option Placed) → place r z.0 ≡ o → (Contains (row_nets r zs) x → Holder r x (z ∷ zs)) → Holder r x (z ∷ zs)
-    by_place None is rest = rest (subst (λ o. Contains (map nets_at (cons_option (option_map (λ (y : Placed). y.finger) o) (row_fingers r zs))) x) is c)
-    by_place (Some y) is rest =
-        elim (contains_cons (nets_at y.finger) (row_nets r zs) x (subst (λ o. Contains (map nets_at (cons_option (option_map (λ (y : Placed). y.finger) o) (row_fingers r zs))) x) is c)) [
-          | inl same ↦ record { before = []; at = z; behind = zs; placed = y; is = refl; place = is; nets = same }
-          | inr there ↦ rest there
-        ]
-
-swap_options : (a b : Option Finger) (fs : List Finger) → IsPermutation (cons_option a (cons_option b fs)) (cons_option b (cons_option a fs))
-swap_options None b fs = IsPermutation-refl (cons_option b fs)
-swap_options (Some x) None fs = IsPermutation-refl (x ∷ fs)
-swap_options (Some x) (Some y) fs = IsPermutation-middle (x ∷ []) y fs
-
-cons_options : (a : Option Finger) (xs ys : List Finger) → IsPermutation xs ys → IsPermutation (cons_option a xs) (cons_option a ys)
-cons_options None xs ys p = p
-cons_options (Some x) xs ys p = IsPermutation-cons x xs ys p
-
--- the column's finger in front of the others
-fingers_middle : (r : Row) (before : List Drawn) (z : Drawn) (behind : List Drawn) → IsPermutation (row_fingers r (before ++ z ∷ behind)) (cons_option (finger_of_place r z) (row_fingers r (before ++ behind)))
-fingers_middle r [] z behind = IsPermutation-refl (cons_option (finger_of_place r z) (row_fingers r behind))
-fingers_middle r (b ∷ bs) z behind =
-    IsPermutation-trans (cons_option (finger_of_place r b) (row_fingers r (bs ++ z ∷ behind))) (cons_option (finger_of_place r b) (cons_option (finger_of_place r z) (row_fingers r (bs ++ behind)))) (cons_option (finger_of_place r z) (cons_option (finger_of_place r b) (row_fingers r (bs ++ behind))))
-    (cons_options (finger_of_place r b) (row_fingers r (bs ++ z ∷ behind)) (cons_option (finger_of_place r z) (row_fingers r (bs ++ behind))) (fingers_middle r bs z behind))
-    (swap_options (finger_of_place r b) (finger_of_place r z) (row_fingers r (bs ++ behind)))
-
--- columns with edges that arrange fingers with these nets, as few as they allow
-pub record Arranged (f : Fingers) (xs ys : List NetPair) (zs : List Drawn) : Type 0 where
-  pub drawn : All (IsDrawn f) zs
-  pub p : IsPermutation xs (row_nets P zs)
-  pub n : IsPermutation ys (row_nets N zs)
-  pub fewest : length zs ≡ max (length xs) (length ys)
-
--- a listed choice that has the edges of the columns and these
-pub record Listed (lists : List (List Edge)) (zs : List Drawn) (edges : List Edge) : Type 0 where
-  pub choice : List Edge
-  pub there : Contains lists choice
-  pub same : IsPermutation (map edge_at zs ++ edges) choice
 
 turned_edge : (l r : ℕ) → edge_between l r ≡ edge_between r l
 turned_edge l r = elim (cases_Bool (leb l r)) [
@@ -143,24 +73,18 @@ drawn_as f z p n is_p is_n h = subst (λ o. IsEdgeOf f p o z.1) is_n (subst (λ 
 paired_edge : (f : Fingers) (z : Drawn) (x y : Placed) → z.0.p ≡ Some x → z.0.n ≡ Some y → IsDrawn f z → Contains (pair_edges (nets_at x.finger) (nets_at y.finger)) z.1
 paired_edge f z x y is_x is_y drawn = subst (Contains (pair_edges (nets_at x.finger) (nets_at y.finger))) (sym (drawn_as f z (Some x) (Some y) is_x is_y drawn)) (pair_there x.finger y.finger x.flipped y.flipped)
 
-apart : (r : Row) (ns : List NetPair) (zs before behind : List Drawn) (z : Drawn) (o : Option Placed) → IsPermutation ns (row_nets r zs) → zs ≡ before ++ z ∷ behind → place r z.0 ≡ o → IsPermutation ns (map nets_at (cons_option (option_map (λ (y : Placed). y.finger) o) (row_fingers r (before ++ behind))))
-apart r ns zs before behind z o perm is at =
-    subst (λ p. IsPermutation ns (map nets_at (cons_option (option_map (λ (y : Placed). y.finger) p) (row_fingers r (before ++ behind))))) at
-    (IsPermutation-trans ns (row_nets r (before ++ z ∷ behind)) (map nets_at (cons_option (finger_of_place r z) (row_fingers r (before ++ behind))))
-    (subst (λ l. IsPermutation ns (row_nets r l)) is perm)
-    (IsPermutation-map nets_at (row_fingers r (before ++ z ∷ behind)) (cons_option (finger_of_place r z) (row_fingers r (before ++ behind))) (fingers_middle r before z behind)))
+-- columns with edges that arrange fingers with these nets, as few as they allow
+pub record Arranged (f : Fingers) (xs ys : List NetPair) (zs : List Drawn) : Type 0 where
+  pub drawn : All (IsDrawn f) zs
+  pub p : IsPermutation xs (row_nets P zs)
+  pub n : IsPermutation ys (row_nets N zs)
+  pub fewest : length zs ≡ max (length xs) (length ys)
 
--- without the finger of a column that is taken out
-left_apart : (r : Row) (ns : List NetPair) (zs before behind : List Drawn) (z : Drawn) (y : Placed) → IsPermutation ns (row_nets r zs) → zs ≡ before ++ z ∷ behind → place r z.0 ≡ Some y → Contains ns (nets_at y.finger) × IsPermutation (without (nets_at y.finger) ns) (row_nets r (before ++ behind))
-left_apart r ns zs before behind z y perm is at =
-    let rest : List NetPair = row_nets r (before ++ behind) in
-    let all : IsPermutation ns (nets_at y.finger ∷ rest) = apart r ns zs before behind z (Some y) perm is at in
-    let there : Contains ns (nets_at y.finger) = Contains-permutation (nets_at y.finger ∷ rest) ns (nets_at y.finger) (IsPermutation-sym ns (nets_at y.finger ∷ rest) all) (contains_here (nets_at y.finger) rest) in
-    (there, IsPermutation-uncons (nets_at y.finger) (without (nets_at y.finger) ns) rest (IsPermutation-trans (nets_at y.finger ∷ without (nets_at y.finger) ns) ns (nets_at y.finger ∷ rest) (IsPermutation-sym ns (nets_at y.finger ∷ without (nets_at y.finger) ns) (one_taken (nets_at y.finger) ns there)) all))
-
--- no row has more fingers than columns
-few_nets : (r : Row) (zs : List Drawn) → length (row_nets r zs) ≤ length zs
-few_nets r zs = omega (arith, length-map (row_fingers r zs) nets_at, few_fingers r (map column_at zs), length-map zs column_at)
+-- a listed choice that has the edges of the columns and these
+pub record Listed (lists : List (List Edge)) (zs : List Drawn) (edges : List Edge) : Type 0 where
+  pub choice : List Edge
+  pub there : Contains lists choice
+  pub same : IsPermutation (map edge_at zs ++ edges) choice
 
 edge_moved : (before behind : List Drawn) (z : Drawn) (zs : List Drawn) (edges : List Edge) → zs ≡ before ++ z ∷ behind → IsPermutation (map edge_at zs ++ edges) (map edge_at (before ++ behind) ++ inserted z.1 edges)
 edge_moved before behind z zs edges is =
@@ -215,7 +139,7 @@ module _ (f : Fingers) (gate : Gate) (fill_p : (v : ℕ) → is_net_in f.p v ≡
       drawn k = drawn_all zs k.before k.behind k.at k.is h.drawn
 
       p_rest : (k : Holder P x zs) → IsPermutation xs (row_nets P (k.before ++ k.behind))
-      p_rest k = IsPermutation-uncons x xs (row_nets P (k.before ++ k.behind)) (subst (λ u. IsPermutation (x ∷ xs) (u ∷ row_nets P (k.before ++ k.behind))) k.nets (apart P (x ∷ xs) zs k.before k.behind k.at (Some k.placed) h.p k.is k.place))
+      p_rest k = nets_uncons x xs (row_nets P (k.before ++ k.behind)) (subst (λ u. IsPermutation (x ∷ xs) (u ∷ row_nets P (k.before ++ k.behind))) k.nets (apart P (x ∷ xs) zs k.before k.behind k.at (Some k.placed) h.p k.is k.place))
 
       longer : (k : Holder P x zs) (left : List NetPair) → IsPermutation left (row_nets N (k.before ++ k.behind)) → length (k.before ++ k.behind) ≡ max (length xs) (length left) → Contains (next_parts gate (x ∷ xs) part) (record { edges = inserted k.at.1 part.edges; left = left }) → Longer (x ∷ xs) part zs
       longer k left n few there = record {
@@ -266,7 +190,7 @@ module _ (f : Fingers) (gate : Gate) (fill_p : (v : ℕ) → is_net_in f.p v ≡
             arranged = record {
               drawn = All-tail (IsDrawn f) k.at (k.before ++ k.behind) drawn;
               p = apart P [] zs k.before k.behind k.at None h.p k.is is;
-              n = IsPermutation-uncons y ys (row_nets N (k.before ++ k.behind)) (subst (λ u. IsPermutation (y ∷ ys) (u ∷ row_nets N (k.before ++ k.behind))) k.nets (apart N (y ∷ ys) zs k.before k.behind k.at (Some k.placed) h.n k.is k.place));
+              n = nets_uncons y ys (row_nets N (k.before ++ k.behind)) (subst (λ u. IsPermutation (y ∷ ys) (u ∷ row_nets N (k.before ++ k.behind))) k.nets (apart N (y ∷ ys) zs k.before k.behind k.at (Some k.placed) h.n k.is k.place));
               fewest = omega (arith, h.fewest, many zs k.before k.behind k.at k.is);
             };
             edges = edge_moved k.before k.behind k.at zs part.edges k.is;
