@@ -79,10 +79,7 @@ pub(crate) fn pair(x: NetPair, y: NetPair) -> [Edge; 2]
 {
     let (p_lo, p_hi) = (u32::from(x.lo), u32::from(x.hi));
     let (n_lo, n_hi) = (u32::from(y.lo), u32::from(y.hi));
-    [
-        edge(p_lo, n_lo, p_hi, n_hi),
-        edge(p_lo, n_hi, p_hi, n_lo),
-    ]
+    [edge(p_lo, n_lo, p_hi, n_hi), edge(p_lo, n_hi, p_hi, n_lo)]
 }
 
 fn add_p(all: &mut Vec<Edge>, nets: &[u32], x: NetPair, left: u32) -> Result<(), AllocError>

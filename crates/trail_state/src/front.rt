@@ -4,9 +4,9 @@ ghost use Rattle.std.specs.Cmp.Rules.{hashing};
 ghost use Rattle.std.proofs.Common.{rules};
 ghost use Rattle.trail_state.specs.Fronts.{alone, first_front, n_alone, next_front, next_parts, paired, same_nets, with_all, with_column, with_new, without};
 
+use crate::Edge;
 use crate::edges::{insert, n_alone, p_alone, pair};
 use crate::gate::{Gate, NetPair};
-use crate::Edge;
 use cell_num::{List, NoMemory};
 use indexmap::IndexSet;
 use std::alloc::{AllocError, Global};
@@ -79,6 +79,7 @@ fn without(alloc: Global, nets: NetPair, left: &[NetPair]) -> Result<Vec<NetPair
 }
 
 // Adds the part with a column of the P finger and one of the N fingers left.
+#[tactic(auto, using(crate::proofs::Parts::each_added))]
 fn add_paired(
     alloc: Global,
     all: &mut IndexSet<Part>,
@@ -116,12 +117,7 @@ fn add_alone(
 }
 
 // Adds the part with a column of the first of the N fingers left.
-fn add_n(
-    alloc: Global,
-    all: &mut IndexSet<Part>,
-    gate: &Gate,
-    part: &Part,
-) -> Result<(), NoMemory>
+fn add_n(alloc: Global, all: &mut IndexSet<Part>, gate: &Gate, part: &Part) -> Result<(), NoMemory>
     requires { All (λ net. net < 256) gate.now.p_fill }
     ensures { OnOk result (all.new.keys ≡ with_all all.old.keys (n_alone gate.now part.now part.now.left)) }
 {
@@ -133,6 +129,7 @@ fn add_n(
 }
 
 // Adds the part with its next column in each way, where these P fingers stand in none yet.
+#[tactic(auto, using(crate::proofs::Parts::both_added))]
 fn add_next(
     alloc: Global,
     all: &mut IndexSet<Part>,

@@ -3,9 +3,9 @@ ghost use Rattle.std.specs.List.{list_any, range_with_len};
 ghost use Rattle.cell_num.specs.Fingers.{AreFingers};
 ghost use Rattle.trail_state.specs.Fronts.{choices_of, columns_in, edges_of, front_at, has_long_front, is_long_at};
 
+use crate::Choice;
 use crate::front::{Part, first_front, next_front, next_short};
 use crate::gate::{Gate, NetPair, gate_of};
-use crate::Choice;
 use cell_num::{Fingers, List, NetNo, NoMemory};
 use indexmap::IndexSet;
 use std::alloc::Global;
@@ -58,6 +58,7 @@ pub fn choices(alloc: Global, fingers: &Fingers, gate: NetNo) -> Result<List<Cho
     edges_of(alloc, parts.as_slice())
 }
 
+#[tactic(auto, using(crate::proofs::Parts::long_some, crate::proofs::Parts::long_none))]
 fn has_long(alloc: Global, gate: &Gate, most: usize) -> Result<bool, NoMemory>
     requires p { All (λ net. net < 256) gate.now.p_fill }
     requires n { All (λ net. net < 256) gate.now.n_fill }
@@ -77,7 +78,12 @@ fn has_long(alloc: Global, gate: &Gate, most: usize) -> Result<bool, NoMemory>
 /// Whether a list of more than `most` is made on the way to the choices of a gate: column by column, the edges so far
 /// with the N fingers that are left, each once. It takes memory for `most`, and those with one column more of one of them.
 #[tactic(auto, unfolding(crate::specs::Fronts::has_long_front))]
-pub fn has_long_front(alloc: Global, fingers: &Fingers, gate: NetNo, most: usize) -> Result<bool, NoMemory>
+pub fn has_long_front(
+    alloc: Global,
+    fingers: &Fingers,
+    gate: NetNo,
+    most: usize,
+) -> Result<bool, NoMemory>
     requires { AreFingers fingers.now }
     ensures { IfOk result (λ long. long ≡ has_long_front most fingers.now gate.0) }
 {
