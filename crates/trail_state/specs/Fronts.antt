@@ -30,7 +30,8 @@ paired x part = flat_map (λ y. with_column part (without y part.left) (pair_edg
 
 -- or alone, where the P fingers behind it are as many as the N fingers left
 abbrev pub alone : Gate → NetPair → List NetPair → Part → List Part
-alone gate x xs part = if leb (length part.left) (length xs) then with_column part part.left (p_edges gate.n_fill x) else []
+alone gate x xs part =
+    if leb (length part.left) (length xs) then with_column part part.left (p_edges gate.n_fill x) else []
 
 -- behind the P fingers the first of the N fingers left alone
 abbrev pub n_alone : Gate → Part → List NetPair → List Part
@@ -79,4 +80,5 @@ abbrev pub is_long_at : ℕ → Gate → ℕ → Bool
 is_long_at most gate at = ltb most (length (front_at gate (suc at)))
 
 unfoldable pub has_long_front : ℕ → Fingers → ℕ → Bool
-has_long_front most f gate = list_any (is_long_at most (gate_of f gate)) (range_with_len 0 (columns_in (gate_of f gate)))
+has_long_front most f gate =
+    list_any (is_long_at most (gate_of f gate)) (range_with_len 0 (columns_in (gate_of f gate)))

@@ -75,8 +75,9 @@ fn has_long(alloc: Global, gate: &Gate, most: usize) -> Result<bool, NoMemory>
     Ok(false)
 }
 
-/// Whether a list of more than `most` is made on the way to the choices of a gate: column by column, the edges so far
-/// with the N fingers that are left, each once. It takes memory for `most`, and those with one column more of one of them.
+/// Whether behind one of the columns of the gate there are more than `most` ways to pair its fingers so far: the edges
+/// of the columns with the N fingers that are left, each once. It takes memory for `most` of them, and those with one
+/// column more of one of them.
 #[tactic(auto, unfolding(crate::specs::Fronts::has_long_front))]
 pub fn has_long_front(
     alloc: Global,
