@@ -1,4 +1,4 @@
-// The choices of a gate, listed column by column: which of its P fingers stands with which N finger, turned alike or not.
+// The choices of a gate, listed column by column: which P finger stands with which N finger, turned alike or not.
 #![tactic(auto)]
 
 pub mod front;
