@@ -1,5 +1,5 @@
 pub mod Chains
 pub mod Classing
 pub mod Forests
-pub mod Merging
+pub mod Links
 pub mod Tying

@@ -91,9 +91,9 @@ pub fn off_runs(alloc: Global, set: &Region, value: u32) -> Result<Region, NoMem
     Ok(region)
 }
 
-/// The cells of the gaps below a value in a set, in grid units. A gap is a run of the cells that are not in the set, with
-/// cells of the set at both ends. Their columns are the rows of what the turned set leaves free, which has few rectangles
-/// in each band.
+/// The cells of the gaps below a value in a set, in grid units. A gap is a run of the cells that are not in the set,
+/// with cells of the set at both ends. Their columns are the rows of what the turned set leaves free, which has few
+/// rectangles in each band.
 pub fn short_gaps(alloc: Global, set: &Region, value: u32) -> Result<Region, NoMemory>
     requires inner { AreInner set.now }
     requires small { value ≤ 1000 }
