@@ -134,7 +134,7 @@ const CROWDED: End = End {
     ],
 };
 
-// A gate whose fingers pair in 7! 2^7 ways.
+// A gate of seven different fingers over seven: behind its fifth column 7! / 2! * 2^5 = 80,640 ways to pair them.
 fn put_crowded(alloc: Global, text: &mut String) -> Result<(), Fail> {
     text.push_str(".SUBCKT many g vdd gnd\n")?;
     for at in 0..7u32 {

@@ -21,6 +21,28 @@ column 1 gate b p y vdd 20 n y gnd 10
 column 2 gate c p vdd z 20 n gnd z 10
 ";
 
+// A gate of eight equal fingers over eight: 10,321,920 pairings, and nine choices of how many are turned alike.
+const EIGHT: &str = ".SUBCKT eight a y vdd gnd
+MP y a vdd vdd p W=3u L=0.6u m=8
+MN y a gnd gnd n W=1.5u L=0.6u m=8
+.ENDS
+";
+
+const EIGHT_PLANNED: &str = "status 0 ok
+cell eight
+columns 8
+gaps 0
+width 8
+column 0 gate a p y vdd 20 n y gnd 10
+column 1 gate a p vdd y 20 n gnd y 10
+column 2 gate a p y vdd 20 n y gnd 10
+column 3 gate a p vdd y 20 n gnd y 10
+column 4 gate a p y vdd 20 n y gnd 10
+column 5 gate a p vdd y 20 n gnd y 10
+column 6 gate a p y vdd 20 n y gnd 10
+column 7 gate a p vdd y 20 n gnd y 10
+";
+
 const UNFINISHED: &str = "status 6 unfinished
 proved 0
 lemmas 0
@@ -32,7 +54,7 @@ open
 end
 ";
 
-const PLANS: [(&str, &str, &str, Status, &str, &str); 3] = [
+const PLANS: [(&str, &str, &str, Status, &str, &str); 4] = [
     (
         "",
         INVERTER,
@@ -48,6 +70,14 @@ const PLANS: [(&str, &str, &str, Status, &str, &str); 3] = [
         Status::Done,
         X3,
         "lemmas 4\nfilled 0\n",
+    ),
+    (
+        "",
+        EIGHT,
+        "plan t.toml c.sp eight --trails",
+        Status::Done,
+        EIGHT_PLANNED,
+        "lemmas 0\nfilled 0\n",
     ),
     (
         "budget = 1",

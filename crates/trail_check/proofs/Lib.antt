@@ -1,5 +1,3 @@
-pub mod Capped
-pub mod Counted
 pub mod Decided
 pub mod Each
 pub mod Found

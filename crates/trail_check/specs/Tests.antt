@@ -1,5 +1,5 @@
--- Tests of the gates of a certificate, and how many ways there are to pair so many fingers.
-use Rattle.std.specs.Prelude.{ℕ, zero, suc, ◌-◌, ◌*◌, ◌^◌, Bool, true, not, ◌&&◌, ◌||◌, ◌==◌, if◌then◌else◌, leb, ltb, max, min, List, [], ◌∷◌}
+-- Tests of the gates of a certificate.
+use Rattle.std.specs.Prelude.{ℕ, Bool, true, not, ◌&&◌, ◌||◌, ◌==◌, ltb, List, [], ◌∷◌}
 use Rattle.std.specs.List.{list_all, list_any}
 use Rattle.cell_num.specs.declared.net.NetNo.{NetNo}
 use Rattle.cell_num.specs.declared.finger.Finger.{Finger}
@@ -32,21 +32,3 @@ are_filled f fill = list_all (is_filled f fill) f.p && list_all (is_filled f fil
 
 abbrev pub gates_test : Fingers → Trails → Bool
 gates_test f trails = is_order f trails.order && are_filled f trails.fill
-
--- in how many ways so few fingers pair with some of the others, each pair turned alike or not
-abbrev pub pair_ways : ℕ → ℕ → ℕ
-pair_ways zero many = 1
-pair_ways (suc few) many = 2 * many * pair_ways few (many - 1)
-
--- in how many ways so many places are filled with two of the nets each
-abbrev pub fill_ways : ℕ → ℕ → ℕ
-fill_ways nets zero = 1
-fill_ways nets (suc places) = nets * nets * fill_ways nets places
-
--- The shorter row's fingers each pair with one of the longer row's; its empty places are filled with its nets.
-abbrev pub ways_of : ℕ → ℕ → ℕ → ℕ → ℕ
-ways_of p_nets n_nets p n = pair_ways (min p n) (max p n) * fill_ways (if leb p n then p_nets else n_nets) (max p n - min p n)
-
--- the greatest number that is told of
-abbrev pub capped : ℕ → ℕ
-capped n = min n (2 ^ 64 - 1)

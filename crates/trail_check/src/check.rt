@@ -42,7 +42,7 @@ pub fn check_trails(alloc: Global, fingers: &Fingers, trails: &Trails) -> Result
     if !are_gates(fingers, trails) {
         return Err(TrailRefusal::Gates);
     }
-    if let Some(gate) = first_with_many(fingers, trails.order.as_slice()) {
+    if let Some(gate) = first_with_many(alloc, fingers, trails.order.as_slice())? {
         return Err(TrailRefusal::Choices { gate });
     }
     check_listed(alloc, fingers, trails)

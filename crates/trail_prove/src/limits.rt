@@ -76,7 +76,8 @@ pub fn prove(alloc: Global, fingers: &Fingers, left: &mut u64) -> Result<Proof, 
     ensures stopped { IfErr result (StopsProving fingers.now left.old left.new) }
 {
     let order = order(alloc, fingers)?;
-    if let Some(gate) = first_with_many(fingers, order.as_slice()) {
+    let crowded = first_with_many(alloc, fingers, order.as_slice())?;
+    if let Some(gate) = crowded {
         return Err(ProveStop::Choices { gate });
     }
     let fill = fill(alloc, fingers)?;

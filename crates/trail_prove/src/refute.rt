@@ -38,7 +38,8 @@ pub fn is_refuted(
         return Ok(false);
     }
     let order = order(alloc, fingers)?;
-    if let Some(gate) = first_with_many(fingers, order.as_slice()) {
+    let crowded = first_with_many(alloc, fingers, order.as_slice())?;
+    if let Some(gate) = crowded {
         return Err(RefuteStop::Choices { gate });
     }
     let levels = levels_of(alloc, fingers, order.as_slice())?;

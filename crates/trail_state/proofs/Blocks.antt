@@ -12,9 +12,9 @@ use Rattle.cell_num.specs.Fingers.{AreFingers, on_gate}
 use Rattle.cell_num.proofs.Pairs.{Some', test_finds}
 use Rattle.trail_step.specs.Edges.{pair_node}
 use Rattle.trail_step.specs.Places.{node_at}
+use Rattle.trail_choices.proofs.Parts.{range_next}
 use Rattle.trail_state.specs.Nodes.{has_net, is_net_in, is_net_on, may_have, nodes_of}
 use Rattle.trail_state.specs.Opened.{in_net, net_below}
-use Rattle.trail_state.proofs.Steps.{range_next}
 
 pub none_pass : (p : ℕ → Bool) (a n : ℕ) → ((v : ℕ) → a ≤ v → p v ≡ false) → filter p (range_with_len a n) ≡ []
 none_pass p a zero off = refl

@@ -1,6 +1,4 @@
 pub mod Blocks
-pub mod Even
-pub mod Once
+pub mod Ends
 pub mod Small
-pub mod Steps
 pub mod Unions

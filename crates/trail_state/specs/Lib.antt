@@ -7,6 +7,7 @@ pub mod Counted
 pub mod Filling
 pub mod Follows
 pub mod Grouped
+pub mod Held
 pub mod Law
 pub mod Levels
 pub mod Links

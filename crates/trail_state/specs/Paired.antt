@@ -1,92 +1,28 @@
 -- Columns that arrange the fingers of a gate are one of the listed choices, up to the order of their edges.
-use Rattle.std.proofs.Common.{ℕ, ◌≡◌, ◌+◌, ◌<◌, ◌≤◌, Bool, true, false, leb, if◌then◌else◌, max, List, [], ◌∷◌, ◌++◌, length, length-append, Option, Some, None, option_map, map, refl, sym, ap, subst, arith, ◌∙◌, inl, inr, All, Contains, IsPermutation, get_or}
-use Rattle.std.specs.List.{cons_option, flat_map, range_with_len, remove}
+use Rattle.std.proofs.Common.{ℕ, zero, suc, ◌≡◌, ◌+◌, ◌≤◌, Bool, true, false, leb, if◌then◌else◌, max, List, [], ◌∷◌, ◌++◌, length, length-append, drop, Option, Some, None, map, refl, sym, ap, subst, arith, ◌∙◌, inl, inr, All, Contains, IsPermutation}
 use Rattle.std.proofs.lemmas.Bool.{cases_Bool, le-leb, leb-false, leb-true}
-use Rattle.std.proofs.lemmas.List.{get_or_default, length-map}
 use Rattle.std.proofs.lemmas.List.Elements.{All-head, All-tail, Contains-append_left, Contains-append_right}
-use Rattle.std.proofs.lemmas.List.Sorted.{All-permutation, Contains-permutation, IsPermutation-cons, IsPermutation-map, IsPermutation-middle, IsPermutation-refl, IsPermutation-remove, IsPermutation-sym, IsPermutation-trans, length_permutation}
-use Rattle.cell_num.specs.declared.finger.Row.{Row}
+use Rattle.std.proofs.lemmas.List.Sorted.{All-permutation, Contains-permutation, IsPermutation-append_left, IsPermutation-append_right, IsPermutation-map, IsPermutation-middle, IsPermutation-refl, IsPermutation-sym, IsPermutation-trans, length_permutation}
 use Rattle.cell_num.specs.declared.finger.Row.TheVariants.{P, N}
 use Rattle.cell_num.specs.declared.finger.Finger.{Finger}
 use Rattle.cell_num.specs.declared.finger.Fingers.{Fingers}
 use Rattle.cell_num.proofs.In.{contains_flat, contains_map}
-use Rattle.cell_num.proofs.Lists.{contains_cons, contains_here, contains_none, contains_there}
+use Rattle.cell_num.proofs.Lists.{contains_here, contains_there}
 use Rattle.row_model.specs.declared.column.Placed.{Placed}
-use Rattle.row_model.specs.Arrangement.{IsColumn, fingers_in, place}
-use Rattle.row_model.specs.Gaps.{left_net, right_net}
-use Rattle.row_state.proofs.Left.{IsPermutation-uncons}
 use Rattle.trail_step.specs.declared.edge.Edge.{Edge}
-use Rattle.trail_step.specs.Edges.{edge_between, edge_of, n_edges, p_edges, pair_edges, pair_node, with_each}
+use Rattle.trail_step.specs.declared.edge.NetPair.{NetPair}
+use Rattle.trail_step.specs.Edges.{edge_between, edge_of, n_edges, p_edges, pair_edges, pair_node}
 use Rattle.trail_step.specs.Sorted.{inserted, inserted_permutes}
+use Rattle.trail_choices.specs.declared.front.Part.{Part}
+use Rattle.trail_choices.specs.declared.gate.Gate.{Gate}
+use Rattle.trail_choices.specs.Fronts.{alone, edges_of, front_at, n_alone, next_parts, paired, with_column, without}
+use Rattle.trail_choices.proofs.Listed.{front_has, nets_uncons, one_taken}
 use Rattle.trail_state.specs.Choices.{IsEdgeOf}
-use Rattle.trail_state.specs.Chosen.{Drawn, IsDrawn, column_at, edge_at}
-use Rattle.trail_state.specs.Grouped.{few_fingers}
+use Rattle.trail_state.specs.Chosen.{Drawn, IsDrawn, edge_at}
+use Rattle.trail_state.specs.Held.{Holder, apart, few_nets, holder, left_apart, row_nets}
 use Rattle.trail_state.specs.Nodes.{is_net_in}
-use Rattle.trail_state.specs.Opened.{range_has}
-use Rattle.trail_state.specs.Pairings.{all_alone, no_finger, pairings}
+use Rattle.trail_state.specs.Pairings.{nets_at}
 use Rattle.trail_state.specs.Walks.{ordered}
-
--- a column that holds the finger, and what stands before and behind it
-record Holder (r : Row) (x : Finger) (zs : List Drawn) : Type 0 where
-  pub before : List Drawn
-  pub at : Drawn
-  pub behind : List Drawn
-  pub placed : Placed
-  pub is : zs ≡ before ++ at ∷ behind
-  pub place : place r at.0 ≡ Some placed
-  pub finger : placed.finger ≡ x
-
-abbrev pub finger_of_place : Row → Drawn → Option Finger
-finger_of_place r z = option_map (λ (y : Placed). y.finger) (place r z.0)
-
-abbrev pub row_fingers : Row → List Drawn → List Finger
-row_fingers r zs = fingers_in r (map column_at zs)
-
-holder_more : (r : Row) (x : Finger) (z : Drawn) (zs : List Drawn) → Holder r x zs → Holder r x (z ∷ zs)
-holder_more r x z zs h = record { before = z ∷ h.before; at = h.at; behind = h.behind; placed = h.placed; is = ap (λ l. z ∷ l) h.is; place = h.place; finger = h.finger }
-
-holder : (r : Row) (x : Finger) (zs : List Drawn) → Contains (row_fingers r zs) x → Holder r x zs
-holder r x [] c = absurd (contains_none x c)
-holder r x (z ∷ zs) c = by_place (place r z.0) refl (λ k. holder_more r x z zs (holder r x zs k))
-  where
-    by_place : (o : Option Placed) → place r z.0 ≡ o → (Contains (row_fingers r zs) x → Holder r x (z ∷ zs)) → Holder r x (z ∷ zs)
-    by_place None is rest = rest (subst (λ o. Contains (cons_option (option_map (λ (y : Placed). y.finger) o) (row_fingers r zs)) x) is c)
-    by_place (Some y) is rest =
-        elim (contains_cons y.finger (row_fingers r zs) x (subst (λ o. Contains (cons_option (option_map (λ (y : Placed). y.finger) o) (row_fingers r zs)) x) is c)) [
-          | inl same ↦ record { before = []; at = z; behind = zs; placed = y; is = refl; place = is; finger = same }
-          | inr there ↦ rest there
-        ]
-
-swap_options : (a b : Option Finger) (fs : List Finger) → IsPermutation (cons_option a (cons_option b fs)) (cons_option b (cons_option a fs))
-swap_options None b fs = IsPermutation-refl (cons_option b fs)
-swap_options (Some x) None fs = IsPermutation-refl (x ∷ fs)
-swap_options (Some x) (Some y) fs = IsPermutation-middle (x ∷ []) y fs
-
-cons_options : (a : Option Finger) (xs ys : List Finger) → IsPermutation xs ys → IsPermutation (cons_option a xs) (cons_option a ys)
-cons_options None xs ys p = p
-cons_options (Some x) xs ys p = IsPermutation-cons x xs ys p
-
--- the column's finger in front of the others
-fingers_middle : (r : Row) (before : List Drawn) (z : Drawn) (behind : List Drawn) → IsPermutation (row_fingers r (before ++ z ∷ behind)) (cons_option (finger_of_place r z) (row_fingers r (before ++ behind)))
-fingers_middle r [] z behind = IsPermutation-refl (cons_option (finger_of_place r z) (row_fingers r behind))
-fingers_middle r (b ∷ bs) z behind =
-    IsPermutation-trans (cons_option (finger_of_place r b) (row_fingers r (bs ++ z ∷ behind))) (cons_option (finger_of_place r b) (cons_option (finger_of_place r z) (row_fingers r (bs ++ behind)))) (cons_option (finger_of_place r z) (cons_option (finger_of_place r b) (row_fingers r (bs ++ behind))))
-    (cons_options (finger_of_place r b) (row_fingers r (bs ++ z ∷ behind)) (cons_option (finger_of_place r z) (row_fingers r (bs ++ behind))) (fingers_middle r bs z behind))
-    (swap_options (finger_of_place r b) (finger_of_place r z) (row_fingers r (bs ++ behind)))
-
--- columns with edges that arrange these fingers, as few as they allow
-pub record Arranged (f : Fingers) (ps ns : List Finger) (zs : List Drawn) : Type 0 where
-  pub columns : All (λ (z : Drawn). IsColumn z.0) zs
-  pub drawn : All (IsDrawn f) zs
-  pub p : IsPermutation ps (row_fingers P zs)
-  pub n : IsPermutation ns (row_fingers N zs)
-  pub fewest : length zs ≡ max (length ps) (length ns)
-
--- a listed choice with the same edges
-pub record Listed (lists : List (List Edge)) (zs : List Drawn) : Type 0 where
-  pub choice : List Edge
-  pub there : Contains lists choice
-  pub same : IsPermutation (map edge_at zs) choice
 
 turned_edge : (l r : ℕ) → edge_between l r ≡ edge_between r l
 turned_edge l r = elim (cases_Bool (leb l r)) [
@@ -106,163 +42,178 @@ net_left b x = (if b then x.hi else x.lo).0
 abbrev net_right : Bool → Finger → ℕ
 net_right b x = (if b then x.lo else x.hi).0
 
-alike_there : (x y : Finger) → Contains (pair_edges x y) (edge_of x.lo.0 y.lo.0 x.hi.0 y.hi.0)
+alike_there : (x y : Finger) → Contains (pair_edges (nets_at x) (nets_at y)) (edge_of x.lo.0 y.lo.0 x.hi.0 y.hi.0)
 alike_there x y = contains_here (edge_of x.lo.0 y.lo.0 x.hi.0 y.hi.0) (edge_of x.lo.0 y.hi.0 x.hi.0 y.lo.0 ∷ [])
 
-unlike_there : (x y : Finger) → Contains (pair_edges x y) (edge_of x.lo.0 y.hi.0 x.hi.0 y.lo.0)
+unlike_there : (x y : Finger) → Contains (pair_edges (nets_at x) (nets_at y)) (edge_of x.lo.0 y.hi.0 x.hi.0 y.lo.0)
 unlike_there x y = contains_there (edge_of x.lo.0 y.lo.0 x.hi.0 y.hi.0) (edge_of x.lo.0 y.hi.0 x.hi.0 y.lo.0 ∷ []) (edge_of x.lo.0 y.hi.0 x.hi.0 y.lo.0) (contains_here (edge_of x.lo.0 y.hi.0 x.hi.0 y.lo.0) [])
 
-pair_there : (x y : Finger) (a b : Bool) → Contains (pair_edges x y) (edge_of (net_left a x) (net_left b y) (net_right a x) (net_right b y))
+pair_there : (x y : Finger) (a b : Bool) → Contains (pair_edges (nets_at x) (nets_at y)) (edge_of (net_left a x) (net_left b y) (net_right a x) (net_right b y))
 pair_there x y false false = alike_there x y
 pair_there x y false true = unlike_there x y
-pair_there x y true false = subst (Contains (pair_edges x y)) (turned x.lo.0 y.hi.0 x.hi.0 y.lo.0) (unlike_there x y)
-pair_there x y true true = subst (Contains (pair_edges x y)) (turned x.lo.0 y.lo.0 x.hi.0 y.hi.0) (alike_there x y)
+pair_there x y true false = subst (Contains (pair_edges (nets_at x) (nets_at y))) (turned x.lo.0 y.hi.0 x.hi.0 y.lo.0) (unlike_there x y)
+pair_there x y true true = subst (Contains (pair_edges (nets_at x) (nets_at y))) (turned x.lo.0 y.lo.0 x.hi.0 y.hi.0) (alike_there x y)
 
-p_plain : (nets : List ℕ) (x : Finger) (l r : ℕ) → Contains nets l → Contains nets r → Contains (p_edges nets x) (edge_of x.lo.0 l x.hi.0 r)
-p_plain nets x l r cl cr = contains_flat (λ u. map (λ v. edge_of x.lo.0 u x.hi.0 v) nets) nets l (edge_of x.lo.0 l x.hi.0 r) cl (contains_map (λ v. edge_of x.lo.0 l x.hi.0 v) nets r cr)
+p_plain : (nets : List ℕ) (x : NetPair) (l r : ℕ) → Contains nets l → Contains nets r → Contains (p_edges nets x) (edge_of x.lo l x.hi r)
+p_plain nets x l r cl cr = contains_flat (λ u. map (λ v. edge_of x.lo u x.hi v) nets) nets l (edge_of x.lo l x.hi r) cl (contains_map (λ v. edge_of x.lo l x.hi v) nets r cr)
 
-p_there : (nets : List ℕ) (x : Finger) (a : Bool) (l r : ℕ) → Contains nets l → Contains nets r → Contains (p_edges nets x) (edge_of (net_left a x) l (net_right a x) r)
-p_there nets x false l r cl cr = p_plain nets x l r cl cr
-p_there nets x true l r cl cr = subst (Contains (p_edges nets x)) (turned x.lo.0 r x.hi.0 l) (p_plain nets x r l cr cl)
+p_there : (nets : List ℕ) (x : Finger) (a : Bool) (l r : ℕ) → Contains nets l → Contains nets r → Contains (p_edges nets (nets_at x)) (edge_of (net_left a x) l (net_right a x) r)
+p_there nets x false l r cl cr = p_plain nets (nets_at x) l r cl cr
+p_there nets x true l r cl cr = subst (Contains (p_edges nets (nets_at x))) (turned x.lo.0 r x.hi.0 l) (p_plain nets (nets_at x) r l cr cl)
 
-n_plain : (nets : List ℕ) (y : Finger) (l r : ℕ) → Contains nets l → Contains nets r → Contains (n_edges nets y) (edge_of l y.lo.0 r y.hi.0)
-n_plain nets y l r cl cr = contains_flat (λ u. map (λ v. edge_of u y.lo.0 v y.hi.0) nets) nets l (edge_of l y.lo.0 r y.hi.0) cl (contains_map (λ v. edge_of l y.lo.0 v y.hi.0) nets r cr)
+n_plain : (nets : List ℕ) (y : NetPair) (l r : ℕ) → Contains nets l → Contains nets r → Contains (n_edges nets y) (edge_of l y.lo r y.hi)
+n_plain nets y l r cl cr = contains_flat (λ u. map (λ v. edge_of u y.lo v y.hi) nets) nets l (edge_of l y.lo r y.hi) cl (contains_map (λ v. edge_of l y.lo v y.hi) nets r cr)
 
-n_there : (nets : List ℕ) (y : Finger) (b : Bool) (l r : ℕ) → Contains nets l → Contains nets r → Contains (n_edges nets y) (edge_of l (net_left b y) r (net_right b y))
-n_there nets y false l r cl cr = n_plain nets y l r cl cr
-n_there nets y true l r cl cr = subst (Contains (n_edges nets y)) (turned r y.lo.0 l y.hi.0) (n_plain nets y r l cr cl)
+n_there : (nets : List ℕ) (y : Finger) (b : Bool) (l r : ℕ) → Contains nets l → Contains nets r → Contains (n_edges nets (nets_at y)) (edge_of l (net_left b y) r (net_right b y))
+n_there nets y false l r cl cr = n_plain nets (nets_at y) l r cl cr
+n_there nets y true l r cl cr = subst (Contains (n_edges nets (nets_at y))) (turned r y.lo.0 l y.hi.0) (n_plain nets (nets_at y) r l cr cl)
 
-each_there : (edges : List Edge) (lists : List (List Edge)) (e : Edge) (c : List Edge) → Contains edges e → Contains lists c → Contains (with_each edges lists) (inserted e c)
-each_there edges lists e c there listed = contains_flat (λ d. map (inserted d) lists) edges e (inserted e c) there (contains_map (inserted e) lists c listed)
+drawn_as : (f : Fingers) (z : Drawn) (p n : Option Placed) → z.0.p ≡ p → z.0.n ≡ n → IsDrawn f z → IsEdgeOf f p n z.1
+drawn_as f z p n is_p is_n h = subst (λ o. IsEdgeOf f p o z.1) is_n (subst (λ o. IsEdgeOf f o z.0.n z.1) is_p h)
+
+paired_edge : (f : Fingers) (z : Drawn) (x y : Placed) → z.0.p ≡ Some x → z.0.n ≡ Some y → IsDrawn f z → Contains (pair_edges (nets_at x.finger) (nets_at y.finger)) z.1
+paired_edge f z x y is_x is_y drawn = subst (Contains (pair_edges (nets_at x.finger) (nets_at y.finger))) (sym (drawn_as f z (Some x) (Some y) is_x is_y drawn)) (pair_there x.finger y.finger x.flipped y.flipped)
+
+-- columns with edges that arrange fingers with these nets, as few as they allow
+pub record Arranged (f : Fingers) (xs ys : List NetPair) (zs : List Drawn) : Type 0 where
+  pub drawn : All (IsDrawn f) zs
+  pub p : IsPermutation xs (row_nets P zs)
+  pub n : IsPermutation ys (row_nets N zs)
+  pub fewest : length zs ≡ max (length xs) (length ys)
+
+-- a listed choice that has the edges of the columns and these
+pub record Listed (lists : List (List Edge)) (zs : List Drawn) (edges : List Edge) : Type 0 where
+  pub choice : List Edge
+  pub there : Contains lists choice
+  pub same : IsPermutation (map edge_at zs ++ edges) choice
+
+edge_moved : (before behind : List Drawn) (z : Drawn) (zs : List Drawn) (edges : List Edge) → zs ≡ before ++ z ∷ behind → IsPermutation (map edge_at zs ++ edges) (map edge_at (before ++ behind) ++ inserted z.1 edges)
+edge_moved before behind z zs edges is =
+    let rest : List Edge = map edge_at (before ++ behind) in
+    let first : IsPermutation (map edge_at zs) (z.1 ∷ rest) = subst (λ l. IsPermutation (map edge_at l) (z.1 ∷ rest)) (sym is) (IsPermutation-map edge_at (before ++ z ∷ behind) (z ∷ (before ++ behind)) (IsPermutation-middle before z behind)) in
+    let moved : IsPermutation (z.1 ∷ (rest ++ edges)) (rest ++ z.1 ∷ edges) = IsPermutation-sym (rest ++ z.1 ∷ edges) (z.1 ∷ (rest ++ edges)) (IsPermutation-middle rest z.1 edges) in
+    IsPermutation-trans (map edge_at zs ++ edges) (z.1 ∷ (rest ++ edges)) (rest ++ inserted z.1 edges)
+    (IsPermutation-append_left edges (map edge_at zs) (z.1 ∷ rest) first)
+    (IsPermutation-trans (z.1 ∷ (rest ++ edges)) (rest ++ z.1 ∷ edges) (rest ++ inserted z.1 edges) moved (IsPermutation-append_right rest (z.1 ∷ edges) (inserted z.1 edges) (inserted_permutes z.1 edges)))
+
+drop_more : (at : ℕ) (xs : List NetPair) → drop 1 (drop at xs) ≡ drop (suc at) xs
+drop_more zero xs = refl
+drop_more (suc at) [] = refl
+drop_more (suc at) (x ∷ xs) = drop_more at xs
 
 -- the nets that fill empty places are listed
-module _ (f : Fingers) (p_nets n_nets : List ℕ) (fill_p : (v : ℕ) → is_net_in f.p v ≡ true → Contains p_nets v) (fill_n : (v : ℕ) → is_net_in f.n v ≡ true → Contains n_nets v) where
-  -- the edge of a column among the others
-  with_edge : (zs before behind : List Drawn) (z : Drawn) (edges : List Edge) (lists all : List (List Edge)) → zs ≡ before ++ z ∷ behind → Contains edges z.1 → ((c : List Edge) → Contains (with_each edges lists) c → Contains all c) → Listed lists (before ++ behind) → Listed all zs
-  with_edge zs before behind z edges lists all is there within rest = record {
-    choice = inserted z.1 rest.choice;
-    there = within (inserted z.1 rest.choice) (each_there edges lists z.1 rest.choice there rest.there);
-    same = subst (λ l. IsPermutation (map edge_at l) (inserted z.1 rest.choice)) (sym is)
-        (IsPermutation-trans (map edge_at (before ++ z ∷ behind)) (z.1 ∷ map edge_at (before ++ behind)) (inserted z.1 rest.choice)
-        (IsPermutation-map edge_at (before ++ z ∷ behind) (z ∷ (before ++ behind)) (IsPermutation-middle before z behind))
-        (IsPermutation-trans (z.1 ∷ map edge_at (before ++ behind)) (z.1 ∷ rest.choice) (inserted z.1 rest.choice) (IsPermutation-cons z.1 (map edge_at (before ++ behind)) rest.choice rest.same) (inserted_permutes z.1 rest.choice)));
-  }
+module _ (f : Fingers) (gate : Gate) (fill_p : (v : ℕ) → is_net_in f.p v ≡ true → Contains gate.p_fill v) (fill_n : (v : ℕ) → is_net_in f.n v ≡ true → Contains gate.n_fill v) where
+  p_alone_edge : (z : Drawn) (x : Placed) → z.0.p ≡ Some x → z.0.n ≡ None → IsDrawn f z → Contains (p_edges gate.n_fill (nets_at x.finger)) z.1
+  p_alone_edge z x is none drawn =
+      let (u, v, u_in, v_in, same) = drawn_as f z (Some x) None is none drawn in
+      subst (Contains (p_edges gate.n_fill (nets_at x.finger))) (sym same) (p_there gate.n_fill x.finger x.flipped u v (fill_n u u_in) (fill_n v v_in))
 
-  others_all : (Q : Drawn → Type 0) (zs before behind : List Drawn) (z : Drawn) → zs ≡ before ++ z ∷ behind → All Q zs → All Q (z ∷ (before ++ behind))
-  others_all Q zs before behind z is all = All-permutation Q (before ++ z ∷ behind) (z ∷ (before ++ behind)) (IsPermutation-middle before z behind) (subst (All Q) is all)
+  n_alone_edge : (z : Drawn) (y : Placed) → z.0.p ≡ None → z.0.n ≡ Some y → IsDrawn f z → Contains (n_edges gate.p_fill (nets_at y.finger)) z.1
+  n_alone_edge z y none is drawn =
+      let (u, v, u_in, v_in, same) = drawn_as f z None (Some y) none is drawn in
+      subst (Contains (n_edges gate.p_fill (nets_at y.finger))) (sym same) (n_there gate.p_fill y.finger y.flipped u v (fill_p u u_in) (fill_p v v_in))
 
-  others_many : (zs before behind : List Drawn) (z : Drawn) → zs ≡ before ++ z ∷ behind → length zs ≡ 1 + length (before ++ behind)
-  others_many zs before behind z is = omega (arith, ap length is, length-append before (z ∷ behind), length-append before behind)
+  -- the part with one of the columns, which some of its next parts is
+  record Longer (xs : List NetPair) (part : Part) (zs : List Drawn) : Type 0 where
+    pub it : Part
+    pub rest : List Drawn
+    pub there : Contains (next_parts gate xs part) it
+    pub arranged : Arranged f (drop 1 xs) it.left rest
+    pub edges : IsPermutation (map edge_at zs ++ part.edges) (map edge_at rest ++ it.edges)
+    pub fewer : length zs ≡ 1 + length rest
 
-  -- a row without fingers has empty places alone
-  none_placed : (r : Row) (zs before behind : List Drawn) (z : Drawn) (x : Placed) → IsPermutation [] (row_fingers r zs) → zs ≡ before ++ z ∷ behind → place r z.0 ≡ Some x → ⊥
-  none_placed r zs before behind z x none is at =
-      let few : length (row_fingers r zs) ≡ 0 = length_permutation [] (row_fingers r zs) none in
-      let moved : length (row_fingers r zs) ≡ length (row_fingers r (before ++ z ∷ behind)) = ap (λ l. length (row_fingers r l)) is in
-      let one : length (cons_option (finger_of_place r z) (row_fingers r (before ++ behind))) ≡ length (row_fingers r (before ++ z ∷ behind)) = length_permutation (row_fingers r (before ++ z ∷ behind)) (cons_option (finger_of_place r z) (row_fingers r (before ++ behind))) (fingers_middle r before z behind) in
-      let at_least : length (cons_option (finger_of_place r z) (row_fingers r (before ++ behind))) ≡ length (x.finger ∷ row_fingers r (before ++ behind)) = ap (λ o. length (cons_option (option_map (λ (y : Placed). y.finger) o) (row_fingers r (before ++ behind)))) at in
-      omega (arith, few, moved, one, at_least)
+  with_one : (part : Part) (left : List NetPair) (edges : List Edge) (e : Edge) → Contains edges e → Contains (with_column part left edges) (record { edges = inserted e part.edges; left = left })
+  with_one part left edges e there = contains_map (λ (d : Edge). let p : Part = record { edges = inserted d part.edges; left = left } in p) edges e there
 
-  apart : (r : Row) (fs : List Finger) (zs before behind : List Drawn) (z : Drawn) (o : Option Placed) → IsPermutation fs (row_fingers r zs) → zs ≡ before ++ z ∷ behind → place r z.0 ≡ o → IsPermutation fs (cons_option (option_map (λ (y : Placed). y.finger) o) (row_fingers r (before ++ behind)))
-  apart r fs zs before behind z o perm is at =
-      subst (λ p. IsPermutation fs (cons_option (option_map (λ (y : Placed). y.finger) p) (row_fingers r (before ++ behind)))) at
-      (IsPermutation-trans fs (row_fingers r (before ++ z ∷ behind)) (cons_option (finger_of_place r z) (row_fingers r (before ++ behind))) (subst (λ l. IsPermutation fs (row_fingers r l)) is perm) (fingers_middle r before z behind))
+  drawn_all : (zs before behind : List Drawn) (z : Drawn) → zs ≡ before ++ z ∷ behind → All (IsDrawn f) zs → All (IsDrawn f) (z ∷ (before ++ behind))
+  drawn_all zs before behind z is all = All-permutation (IsDrawn f) (before ++ z ∷ behind) (z ∷ (before ++ behind)) (IsPermutation-middle before z behind) (subst (All (IsDrawn f)) is all)
 
-  column_there : (Q : Drawn → Type 0) (zs before behind : List Drawn) (z : Drawn) → zs ≡ before ++ z ∷ behind → All Q zs → Q z
-  column_there Q zs before behind z is all = All-head Q z (before ++ behind) (others_all Q zs before behind z is all)
+  many : (zs before behind : List Drawn) (z : Drawn) → zs ≡ before ++ z ∷ behind → length zs ≡ 1 + length (before ++ behind)
+  many zs before behind z is = omega (arith, ap length is, length-append before (z ∷ behind), length-append before behind)
 
-  drawn_as : (z : Drawn) (p n : Option Placed) → z.0.p ≡ p → z.0.n ≡ n → IsDrawn f z → IsEdgeOf f p n z.1
-  drawn_as z p n is_p is_n h = subst (λ o. IsEdgeOf f p o z.1) is_n (subst (λ o. IsEdgeOf f o z.0.n z.1) is_p h)
-
-  alone_listed : (ns : List Finger) (zs : List Drawn) → Arranged f [] ns zs → Listed (all_alone p_nets ns) zs
-  alone_listed [] [] h = record { choice = []; there = contains_here [] []; same = IsPermutation-refl [] }
-  alone_listed [] (z ∷ zs) h = absurd (omega (arith, h.fewest))
-  alone_listed (y ∷ ns) zs h =
-      let k : Holder N y zs = holder N y zs (Contains-permutation (y ∷ ns) (row_fingers N zs) y h.n (contains_here y ns)) in
-      at_place k k.at.0.p refl (λ zs' g. alone_listed ns zs' g)
+  p_longer : (x : NetPair) (xs : List NetPair) (part : Part) (zs : List Drawn) → Arranged f (x ∷ xs) part.left zs → Longer (x ∷ xs) part zs
+  p_longer x xs part zs h =
+      let k : Holder P x zs = holder P x zs (Contains-permutation (x ∷ xs) (row_nets P zs) x h.p (contains_here x xs)) in
+      at_place k k.at.0.n refl
     where
-      edge : (k : Holder N y zs) → IsEdgeOf f None (Some k.placed) k.at.1 → Listed (all_alone p_nets ns) (k.before ++ k.behind) → Listed (all_alone p_nets (y ∷ ns)) zs
-      edge k (l, r, l_in, r_in, is) rest =
-          let there : Contains (n_edges p_nets y) k.at.1 = subst (Contains (n_edges p_nets y)) (sym is) (subst (λ u. Contains (n_edges p_nets u) (edge_of l (left_net k.placed).0 r (right_net k.placed).0)) k.finger (n_there p_nets k.placed.finger k.placed.flipped l r (fill_p l l_in) (fill_p r r_in))) in
-          with_edge zs k.before k.behind k.at (n_edges p_nets y) (all_alone p_nets ns) (all_alone p_nets (y ∷ ns)) k.is there (λ c m. m) rest
+      drawn : (k : Holder P x zs) → All (IsDrawn f) (k.at ∷ (k.before ++ k.behind))
+      drawn k = drawn_all zs k.before k.behind k.at k.is h.drawn
 
-      at_place : (k : Holder N y zs) (o : Option Placed) → k.at.0.p ≡ o → ((zs' : List Drawn) → Arranged f [] ns zs' → Listed (all_alone p_nets ns) zs') → Listed (all_alone p_nets (y ∷ ns)) zs
-      at_place k (Some x) is rest = absurd (none_placed P zs k.before k.behind k.at x h.p k.is is)
-      at_place k None is rest =
-          let n_rest : IsPermutation (y ∷ ns) (k.placed.finger ∷ row_fingers N (k.before ++ k.behind)) = apart N (y ∷ ns) zs k.before k.behind k.at (Some k.placed) h.n k.is k.place in
-          let arranged : Arranged f [] ns (k.before ++ k.behind) = record {
-            columns = All-tail (λ (z : Drawn). IsColumn z.0) k.at (k.before ++ k.behind) (others_all (λ (z : Drawn). IsColumn z.0) zs k.before k.behind k.at k.is h.columns);
-            drawn = All-tail (IsDrawn f) k.at (k.before ++ k.behind) (others_all (IsDrawn f) zs k.before k.behind k.at k.is h.drawn);
-            p = apart P [] zs k.before k.behind k.at None h.p k.is is;
-            n = IsPermutation-uncons y ns (row_fingers N (k.before ++ k.behind)) (subst (λ u. IsPermutation (y ∷ ns) (u ∷ row_fingers N (k.before ++ k.behind))) k.finger n_rest);
-            fewest = omega (arith, h.fewest, others_many zs k.before k.behind k.at k.is);
-          } in
-          edge k (drawn_as k.at None (Some k.placed) is k.place (column_there (IsDrawn f) zs k.before k.behind k.at k.is h.drawn)) (rest (k.before ++ k.behind) arranged)
+      p_rest : (k : Holder P x zs) → IsPermutation xs (row_nets P (k.before ++ k.behind))
+      p_rest k = nets_uncons x xs (row_nets P (k.before ++ k.behind)) (subst (λ u. IsPermutation (x ∷ xs) (u ∷ row_nets P (k.before ++ k.behind))) k.nets (apart P (x ∷ xs) zs k.before k.behind k.at (Some k.placed) h.p k.is k.place))
 
-  -- the finger and the place of a list at which it stands
-  record Stands (ns : List Finger) (y : Finger) (rest : List Finger) : Type 0 where
-    pub at : ℕ
-    pub within : at < length ns
-    pub is : get_or ns at no_finger ≡ y
-    pub others : IsPermutation (remove ns at) rest
-
-  stands : (ns : List Finger) (y : Finger) (rest : List Finger) → IsPermutation ns (y ∷ rest) → Stands ns y rest
-  stands ns y rest perm = at_index (Contains-permutation (y ∷ rest) ns y (IsPermutation-sym ns (y ∷ rest) perm) (contains_here y rest))
-    where
-      at_index : Contains ns y → Stands ns y rest
-      at_index (k, short, is) = record {
-        at = k;
-        within = short;
-        is = get_or_default ns k no_finger y short ∙ is;
-        others = IsPermutation-uncons y (remove ns k) rest (IsPermutation-trans (y ∷ remove ns k) ns (y ∷ rest) (IsPermutation-sym ns (y ∷ remove ns k) (IsPermutation-remove ns k y short (sym is))) perm);
+      longer : (k : Holder P x zs) (left : List NetPair) → IsPermutation left (row_nets N (k.before ++ k.behind)) → length (k.before ++ k.behind) ≡ max (length xs) (length left) → Contains (next_parts gate (x ∷ xs) part) (record { edges = inserted k.at.1 part.edges; left = left }) → Longer (x ∷ xs) part zs
+      longer k left n few there = record {
+        it = record { edges = inserted k.at.1 part.edges; left = left };
+        rest = k.before ++ k.behind;
+        there = there;
+        arranged = record { drawn = All-tail (IsDrawn f) k.at (k.before ++ k.behind) (drawn k); p = p_rest k; n = n; fewest = few };
+        edges = edge_moved k.before k.behind k.at zs part.edges k.is;
+        fewer = many zs k.before k.behind k.at k.is;
       }
 
-  pub pairs_listed : (ps ns : List Finger) (zs : List Drawn) → Arranged f ps ns zs → Listed (pairings p_nets n_nets ps ns) zs
-  pairs_listed [] ns zs h = alone_listed ns zs h
-  pairs_listed (x ∷ ps) ns zs h =
-      let k : Holder P x zs = holder P x zs (Contains-permutation (x ∷ ps) (row_fingers P zs) x h.p (contains_here x ps)) in
-      at_place k k.at.0.n refl (λ ns' zs' g. pairs_listed ps ns' zs' g)
+      at_place : (k : Holder P x zs) (o : Option Placed) → k.at.0.n ≡ o → Longer (x ∷ xs) part zs
+      at_place k (Some y) is =
+          let left : List NetPair = without (nets_at y.finger) part.left in
+          let n : Contains part.left (nets_at y.finger) × IsPermutation left (row_nets N (k.before ++ k.behind)) = left_apart N part.left zs k.before k.behind k.at y h.n k.is is in
+          let edge : Contains (pair_edges x (nets_at y.finger)) k.at.1 = subst (λ u. Contains (pair_edges u (nets_at y.finger)) k.at.1) k.nets (paired_edge f k.at k.placed y k.place is (All-head (IsDrawn f) k.at (k.before ++ k.behind) (drawn k))) in
+          let it : Part = record { edges = inserted k.at.1 part.edges; left = left } in
+          let fewer : length part.left ≡ length (nets_at y.finger ∷ left) = sym (length_permutation part.left (nets_at y.finger ∷ left) (one_taken (nets_at y.finger) part.left n.0)) in
+          longer k left n.1 (omega (arith, h.fewest, many zs k.before k.behind k.at k.is, fewer))
+          (Contains-append_left (paired x part) (alone gate x xs part) it
+          (contains_flat (λ u. with_column part (without u part.left) (pair_edges x u)) part.left (nets_at y.finger) it n.0 (with_one part left (pair_edges x (nets_at y.finger)) k.at.1 edge)))
+      at_place k None is =
+          let n : IsPermutation part.left (row_nets N (k.before ++ k.behind)) = apart N part.left zs k.before k.behind k.at None h.n k.is is in
+          let less : length part.left ≤ length (k.before ++ k.behind) = omega (arith, length_permutation part.left (row_nets N (k.before ++ k.behind)) n, few_nets N (k.before ++ k.behind)) in
+          let few : length part.left ≤ length xs = omega (arith, less, h.fewest, many zs k.before k.behind k.at k.is) in
+          let edge : Contains (p_edges gate.n_fill x) k.at.1 = subst (λ u. Contains (p_edges gate.n_fill u) k.at.1) k.nets (p_alone_edge k.at k.placed k.place is (All-head (IsDrawn f) k.at (k.before ++ k.behind) (drawn k))) in
+          let it : Part = record { edges = inserted k.at.1 part.edges; left = part.left } in
+          let may : alone gate x xs part ≡ with_column part part.left (p_edges gate.n_fill x) = ap (λ b. if b then with_column part part.left (p_edges gate.n_fill x) else []) (le-leb (length part.left) (length xs) few) in
+          longer k part.left n (omega (arith, h.fewest, many zs k.before k.behind k.at k.is, few))
+          (Contains-append_right (paired x part) (alone gate x xs part) it (subst (λ l. Contains l it) (sym may) (with_one part part.left (p_edges gate.n_fill x) k.at.1 edge)))
+
+  n_longer : (y : NetPair) (ys : List NetPair) (part : Part) (zs : List Drawn) → part.left ≡ y ∷ ys → Arranged f [] (y ∷ ys) zs → Longer [] part zs
+  n_longer y ys part zs left h =
+      let k : Holder N y zs = holder N y zs (Contains-permutation (y ∷ ys) (row_nets N zs) y h.n (contains_here y ys)) in
+      at_place k k.at.0.p refl
     where
-      p_rest : (k : Holder P x zs) → IsPermutation ps (row_fingers P (k.before ++ k.behind))
-      p_rest k = IsPermutation-uncons x ps (row_fingers P (k.before ++ k.behind)) (subst (λ u. IsPermutation (x ∷ ps) (u ∷ row_fingers P (k.before ++ k.behind))) k.finger (apart P (x ∷ ps) zs k.before k.behind k.at (Some k.placed) h.p k.is k.place))
+      -- a row without fingers has empty places alone
+      at_place : (k : Holder N y zs) (o : Option Placed) → k.at.0.p ≡ o → Longer [] part zs
+      at_place k (Some x) is = absurd (omega (arith, length_permutation [] (nets_at x.finger ∷ row_nets P (k.before ++ k.behind)) (apart P [] zs k.before k.behind k.at (Some x) h.p k.is is)))
+      at_place k None is =
+          let drawn : All (IsDrawn f) (k.at ∷ (k.before ++ k.behind)) = drawn_all zs k.before k.behind k.at k.is h.drawn in
+          let edge : Contains (n_edges gate.p_fill y) k.at.1 = subst (λ u. Contains (n_edges gate.p_fill u) k.at.1) k.nets (n_alone_edge k.at k.placed is k.place (All-head (IsDrawn f) k.at (k.before ++ k.behind) drawn)) in
+          let it : Part = record { edges = inserted k.at.1 part.edges; left = ys } in
+          record {
+            it = it;
+            rest = k.before ++ k.behind;
+            there = subst (λ l. Contains (n_alone gate part l) it) (sym left) (with_one part ys (n_edges gate.p_fill y) k.at.1 edge);
+            arranged = record {
+              drawn = All-tail (IsDrawn f) k.at (k.before ++ k.behind) drawn;
+              p = apart P [] zs k.before k.behind k.at None h.p k.is is;
+              n = nets_uncons y ys (row_nets N (k.before ++ k.behind)) (subst (λ u. IsPermutation (y ∷ ys) (u ∷ row_nets N (k.before ++ k.behind))) k.nets (apart N (y ∷ ys) zs k.before k.behind k.at (Some k.placed) h.n k.is k.place));
+              fewest = omega (arith, h.fewest, many zs k.before k.behind k.at k.is);
+            };
+            edges = edge_moved k.before k.behind k.at zs part.edges k.is;
+            fewer = many zs k.before k.behind k.at k.is;
+          }
 
-      arranged : (k : Holder P x zs) (ns' : List Finger) → IsPermutation ns' (row_fingers N (k.before ++ k.behind)) → length (k.before ++ k.behind) ≡ max (length ps) (length ns') → Arranged f ps ns' (k.before ++ k.behind)
-      arranged k ns' n_perm few = record {
-        columns = All-tail (λ (z : Drawn). IsColumn z.0) k.at (k.before ++ k.behind) (others_all (λ (z : Drawn). IsColumn z.0) zs k.before k.behind k.at k.is h.columns);
-        drawn = All-tail (IsDrawn f) k.at (k.before ++ k.behind) (others_all (IsDrawn f) zs k.before k.behind k.at k.is h.drawn);
-        p = p_rest k;
-        n = n_perm;
-        fewest = few;
+  longer : (xs left : List NetPair) (part : Part) (zs : List Drawn) (k : ℕ) → part.left ≡ left → Arranged f xs left zs → length zs ≡ suc k → Longer xs part zs
+  longer [] [] part zs k is h some = absurd (omega (arith, h.fewest, some))
+  longer [] (y ∷ ys) part zs k is h some = n_longer y ys part zs is h
+  longer (x ∷ xs) left part zs k is h some = p_longer x xs part zs (subst (λ l. Arranged f (x ∷ xs) l zs) (sym is) h)
+
+  -- the columns that a part lacks are added, one by one
+  pub parts_listed : (k at n : ℕ) (part : Part) (zs : List Drawn) → length zs ≡ k → n ≡ at + k → Contains (front_at gate at) part → Arranged f (drop at gate.p) part.left zs → Listed (edges_of (front_at gate n)) zs part.edges
+  parts_listed zero at n part [] many is there h =
+      let same : at ≡ n = omega (arith, is) in
+      record { choice = part.edges; there = subst (λ i. Contains (edges_of (front_at gate i)) part.edges) same (contains_map (λ (p : Part). p.edges) (front_at gate at) part there); same = IsPermutation-refl part.edges }
+  parts_listed zero at n part (z ∷ zs) many is there h = absurd (omega (arith, many))
+  parts_listed (suc k) at n part zs many is there h =
+      let l : Longer (drop at gate.p) part zs = longer (drop at gate.p) part.left part zs k refl h many in
+      let rest : Listed (edges_of (front_at gate n)) l.rest l.it.edges = parts_listed k (suc at) n l.it l.rest (omega (arith, many, l.fewer)) (omega (arith, is)) (front_has gate (drop at gate.p) (front_at gate at) part l.it there l.there) (subst (λ xs. Arranged f xs l.it.left l.rest) (drop_more at gate.p) l.arranged) in
+      record {
+        choice = rest.choice;
+        there = rest.there;
+        same = IsPermutation-trans (map edge_at zs ++ part.edges) (map edge_at l.rest ++ l.it.edges) rest.choice l.edges rest.same;
       }
-
-      paired : (k : Holder P x zs) (y : Placed) → k.at.0.n ≡ Some y → IsEdgeOf f (Some k.placed) (Some y) k.at.1 → Contains (pair_edges x y.finger) k.at.1
-      paired k y is drawn = subst (Contains (pair_edges x y.finger)) (sym drawn) (subst (λ u. Contains (pair_edges u y.finger) (edge_of (left_net k.placed).0 (left_net y).0 (right_net k.placed).0 (right_net y).0)) k.finger (pair_there k.placed.finger y.finger k.placed.flipped y.flipped))
-
-      alone : (k : Holder P x zs) → IsEdgeOf f (Some k.placed) None k.at.1 → Contains (p_edges n_nets x) k.at.1
-      alone k (l, r, l_in, r_in, is) = subst (Contains (p_edges n_nets x)) (sym is) (subst (λ u. Contains (p_edges n_nets u) (edge_of (left_net k.placed).0 l (right_net k.placed).0 r)) k.finger (p_there n_nets k.placed.finger k.placed.flipped l r (fill_n l l_in) (fill_n r r_in)))
-
-      at_place : (k : Holder P x zs) (o : Option Placed) → k.at.0.n ≡ o → ((ns' : List Finger) (zs' : List Drawn) → Arranged f ps ns' zs' → Listed (pairings p_nets n_nets ps ns') zs') → Listed (pairings p_nets n_nets (x ∷ ps) ns) zs
-      at_place k (Some y) is rest =
-          let s : Stands ns y.finger (row_fingers N (k.before ++ k.behind)) = stands ns y.finger (row_fingers N (k.before ++ k.behind)) (apart N ns zs k.before k.behind k.at (Some y) h.n k.is is) in
-          let many : length ns ≡ length (y.finger ∷ row_fingers N (k.before ++ k.behind)) = sym (length_permutation ns (y.finger ∷ row_fingers N (k.before ++ k.behind)) (apart N ns zs k.before k.behind k.at (Some y) h.n k.is is)) in
-          let fewer : length (row_fingers N (k.before ++ k.behind)) ≡ length (remove ns s.at) = length_permutation (remove ns s.at) (row_fingers N (k.before ++ k.behind)) s.others in
-          let few : length (k.before ++ k.behind) ≡ max (length ps) (length (remove ns s.at)) = omega (arith, h.fewest, others_many zs k.before k.behind k.at k.is, many, fewer) in
-          let edge : Contains (pair_edges x y.finger) k.at.1 = paired k y is (drawn_as k.at (Some k.placed) (Some y) k.place is (column_there (IsDrawn f) zs k.before k.behind k.at k.is h.drawn)) in
-          with_edge zs k.before k.behind k.at (pair_edges x (get_or ns s.at no_finger)) (pairings p_nets n_nets ps (remove ns s.at)) (pairings p_nets n_nets (x ∷ ps) ns) k.is
-          (subst (λ u. Contains (pair_edges x u) k.at.1) (sym s.is) edge)
-          (λ c m. Contains-append_left (flat_map (λ i. with_each (pair_edges x (get_or ns i no_finger)) (pairings p_nets n_nets ps (remove ns i))) (range_with_len 0 (length ns))) (if leb (length ns) (length ps) then with_each (p_edges n_nets x) (pairings p_nets n_nets ps ns) else []) c
-          (contains_flat (λ i. with_each (pair_edges x (get_or ns i no_finger)) (pairings p_nets n_nets ps (remove ns i))) (range_with_len 0 (length ns)) s.at c (range_has (length ns) s.at s.within) m))
-          (rest (remove ns s.at) (k.before ++ k.behind) (arranged k (remove ns s.at) s.others few))
-      at_place k None is rest =
-          let n_perm : IsPermutation ns (row_fingers N (k.before ++ k.behind)) = apart N ns zs k.before k.behind k.at None h.n k.is is in
-          let many : length (row_fingers N (k.before ++ k.behind)) ≡ length ns = length_permutation ns (row_fingers N (k.before ++ k.behind)) n_perm in
-          let all : length (row_fingers N (k.before ++ k.behind)) ≤ length (map column_at (k.before ++ k.behind)) = few_fingers N (map column_at (k.before ++ k.behind)) in
-          let columns : length (map column_at (k.before ++ k.behind)) ≡ length (k.before ++ k.behind) = length-map (k.before ++ k.behind) column_at in
-          let few : length (k.before ++ k.behind) ≡ max (length ps) (length ns) = omega (arith, h.fewest, others_many zs k.before k.behind k.at k.is, many, all, columns) in
-          let less : length ns ≤ length ps = omega (arith, h.fewest, others_many zs k.before k.behind k.at k.is, many, all, columns) in
-          let may : (if leb (length ns) (length ps) then with_each (p_edges n_nets x) (pairings p_nets n_nets ps ns) else []) ≡ with_each (p_edges n_nets x) (pairings p_nets n_nets ps ns) = ap (λ b. if b then with_each (p_edges n_nets x) (pairings p_nets n_nets ps ns) else []) (le-leb (length ns) (length ps) less) in
-          with_edge zs k.before k.behind k.at (p_edges n_nets x) (pairings p_nets n_nets ps ns) (pairings p_nets n_nets (x ∷ ps) ns) k.is
-          (alone k (drawn_as k.at (Some k.placed) None k.place is (column_there (IsDrawn f) zs k.before k.behind k.at k.is h.drawn)))
-          (λ c m. Contains-append_right (flat_map (λ i. with_each (pair_edges x (get_or ns i no_finger)) (pairings p_nets n_nets ps (remove ns i))) (range_with_len 0 (length ns))) (if leb (length ns) (length ps) then with_each (p_edges n_nets x) (pairings p_nets n_nets ps ns) else []) c
-          (subst (λ l. Contains l c) (sym may) m))
-          (rest ns (k.before ++ k.behind) (arranged k ns n_perm few))

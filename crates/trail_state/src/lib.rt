@@ -2,6 +2,7 @@
 // ends that no row escapes.
 #![tactic(auto)]
 
+mod gate;
 pub mod laws;
 pub mod level;
 pub mod nodes;
@@ -9,4 +10,4 @@ mod pairing;
 
 pub use level::{Level, levels};
 pub use nodes::open_nodes;
-pub use pairing::choices;
+pub use pairing::{choices, has_long_front};

@@ -65,7 +65,7 @@ fn end_nets(alloc: Global, fingers: &[Finger], nets: u32) -> Result<Vec<u32>, Al
     (0..nets).filter(|net| is_end(fingers, *net)).collect(alloc)
 }
 
-#[tactic(auto, using(crate::proofs::Even::nets_on_same))]
+#[tactic(auto, using(crate::proofs::Ends::nets_on_same))]
 fn nets_on(alloc: Global, fingers: &[Finger], gate: u32, nets: u32) -> Result<Vec<u32>, AllocError>
     ensures { IfOk result (λ all. all.items ≡ filter (is_net_on fingers.now gate) (range_with_len 0 nets)) }
 {

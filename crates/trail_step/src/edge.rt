@@ -3,6 +3,13 @@ ghost use Rattle.trail_step.specs.Places.{is_end};
 
 use cell_num::List;
 
+/// The nets at the ends of a finger.
+#[derive(Clone, Copy, Debug, PartialEq, Eq, Hash)]
+pub struct NetPair {
+    pub lo: u8,
+    pub hi: u8,
+}
+
 /// A pair of a P net and an N net, as the number 256 * p + n.
 #[derive(Clone, Copy, Debug, PartialEq, Eq, Hash)]
 pub struct Node(pub u32);

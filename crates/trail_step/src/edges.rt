@@ -1,10 +1,10 @@
 ghost use Rattle.std.specs.Prelude.{◌≡◌, ◌<◌, ◌++◌, IfOk, OnOk, All, map, not};
 ghost use Rattle.std.specs.List.{filter};
-ghost use Rattle.trail_step.specs.Edges.{edge_between, edge_of, n_edges, p_edges, pair_edges, with_each, HasSmallEnds};
+ghost use Rattle.trail_step.specs.Edges.{edge_between, edge_of, n_edges, p_edges, pair_edges};
 ghost use Rattle.trail_step.specs.Sorted.{inserted, is_below};
 
-use crate::{Choice, Edge, Node};
-use cell_num::{Finger, List, NoMemory};
+use crate::{Choice, Edge, NetPair, Node};
+use cell_num::{List, NoMemory};
 use std::alloc::{AllocError, Global};
 
 fn between(l: u32, r: u32) -> Edge
@@ -66,72 +66,37 @@ fn insert_in(alloc: Global, edge: &Edge, edges: &[Edge]) -> Result<Vec<Edge>, Al
     Ok(all)
 }
 
-fn insert(alloc: Global, edge: &Edge, edges: &[Edge]) -> Result<Choice, NoMemory>
+/// The edges with one more, in its place.
+pub fn insert(alloc: Global, edge: &Edge, edges: &[Edge]) -> Result<Choice, NoMemory>
     ensures { IfOk result (λ all. all ≡ inserted edge.now edges.now) }
 {
     Ok(List::from_vec(insert_in(alloc, edge, edges)?))
 }
 
-// Adds each of the lists with the edge.
-fn add_with(
-    alloc: Global,
-    all: &mut List<Choice>,
-    edge: &Edge,
-    lists: &[Choice],
-) -> Result<(), NoMemory>
-    ensures { OnOk result (all.new ≡ all.old ++ map (inserted edge.now) lists.now) }
-{
-    for list in lists {
-        all.push(insert(alloc, edge, list.as_slice())?)?;
-    }
-    Ok(())
-}
-
-/// Adds each of the lists with each of the edges in its place, all of the first edge first.
-pub fn add_each(
-    alloc: Global,
-    all: &mut List<Choice>,
-    edges: &[Edge],
-    lists: &[Choice],
-) -> Result<(), NoMemory>
-    ensures { OnOk result (all.new ≡ all.old ++ with_each edges.now lists.now) }
-{
-    for edge in edges {
-        add_with(alloc, all, edge, lists)?;
-    }
-    Ok(())
-}
-
 /// The edges of a column of a P and an N finger: turned alike, or not.
-pub fn pair(x: &Finger, y: &Finger) -> [Edge; 2]
-    requires x { HasSmallEnds x.now }
-    requires y { HasSmallEnds y.now }
-    ensures { result ≡ pair_edges x.now y.now }
+pub fn pair(x: NetPair, y: NetPair) -> [Edge; 2]
+    ensures { result ≡ pair_edges x y }
 {
-    [
-        edge(x.lo.0, y.lo.0, x.hi.0, y.hi.0),
-        edge(x.lo.0, y.hi.0, x.hi.0, y.lo.0),
-    ]
+    let (p_lo, p_hi) = (u32::from(x.lo), u32::from(x.hi));
+    let (n_lo, n_hi) = (u32::from(y.lo), u32::from(y.hi));
+    [edge(p_lo, n_lo, p_hi, n_hi), edge(p_lo, n_hi, p_hi, n_lo)]
 }
 
-fn add_p(all: &mut Vec<Edge>, nets: &[u32], x: &Finger, left: u32) -> Result<(), AllocError>
+fn add_p(all: &mut Vec<Edge>, nets: &[u32], x: NetPair, left: u32) -> Result<(), AllocError>
     requires left { left < 256 }
     requires nets { All (λ net. net < 256) nets.now }
-    requires x { HasSmallEnds x.now }
-    ensures { OnOk result (all.new.items ≡ all.old.items
-        ++ map (λ right. edge_of x.now.lo.0 left x.now.hi.0 right) nets.now) }
+    ensures { OnOk result (all.new.items ≡ all.old.items ++ map (λ right. edge_of x.lo left x.hi right) nets.now) }
 {
     for right in nets {
-        all.push(edge(x.lo.0, left, x.hi.0, *right))?;
+        all.push(edge(u32::from(x.lo), left, u32::from(x.hi), *right))?;
     }
     Ok(())
 }
 
 /// The edges of a P finger that stands alone: its empty place has each two of the nets.
-pub fn p_alone(alloc: Global, nets: &[u32], x: &Finger) -> Result<Vec<Edge>, AllocError>
+pub fn p_alone(alloc: Global, nets: &[u32], x: NetPair) -> Result<Vec<Edge>, AllocError>
     requires nets { All (λ net. net < 256) nets.now }
-    requires x { HasSmallEnds x.now }
-    ensures { IfOk result (λ all. all.items ≡ p_edges nets.now x.now) }
+    ensures { IfOk result (λ all. all.items ≡ p_edges nets.now x) }
 {
     let mut all = Vec::new(alloc);
     for left in nets {
@@ -140,24 +105,21 @@ pub fn p_alone(alloc: Global, nets: &[u32], x: &Finger) -> Result<Vec<Edge>, All
     Ok(all)
 }
 
-fn add_n(all: &mut Vec<Edge>, nets: &[u32], y: &Finger, left: u32) -> Result<(), AllocError>
+fn add_n(all: &mut Vec<Edge>, nets: &[u32], y: NetPair, left: u32) -> Result<(), AllocError>
     requires left { left < 256 }
     requires nets { All (λ net. net < 256) nets.now }
-    requires y { HasSmallEnds y.now }
-    ensures { OnOk result (all.new.items ≡ all.old.items
-        ++ map (λ right. edge_of left y.now.lo.0 right y.now.hi.0) nets.now) }
+    ensures { OnOk result (all.new.items ≡ all.old.items ++ map (λ right. edge_of left y.lo right y.hi) nets.now) }
 {
     for right in nets {
-        all.push(edge(left, y.lo.0, *right, y.hi.0))?;
+        all.push(edge(left, u32::from(y.lo), *right, u32::from(y.hi)))?;
     }
     Ok(())
 }
 
 /// The edges of an N finger that stands alone: its empty place has each two of the nets.
-pub fn n_alone(alloc: Global, nets: &[u32], y: &Finger) -> Result<Vec<Edge>, AllocError>
+pub fn n_alone(alloc: Global, nets: &[u32], y: NetPair) -> Result<Vec<Edge>, AllocError>
     requires nets { All (λ net. net < 256) nets.now }
-    requires y { HasSmallEnds y.now }
-    ensures { IfOk result (λ all. all.items ≡ n_edges nets.now y.now) }
+    ensures { IfOk result (λ all. all.items ≡ n_edges nets.now y) }
 {
     let mut all = Vec::new(alloc);
     for left in nets {

@@ -7,7 +7,7 @@ pub mod edges;
 pub mod settle;
 pub mod state;
 
-pub use edge::{Choice, Edge, Node};
-pub use edges::{add_each, n_alone, p_alone, pair};
+pub use edge::{Choice, Edge, NetPair, Node};
+pub use edges::{insert, n_alone, p_alone, pair};
 pub use settle::{Settled, after};
 pub use state::{Place, TrailState};

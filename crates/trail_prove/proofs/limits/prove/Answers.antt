@@ -15,7 +15,7 @@ refute_limits-requires-clause-kept c = none_kept c.in_ok-levels.levels c.new-kep
 pub returns-then-whole-clause-proof : goal.returns-then-whole-clause-proof
 returns-then-whole-clause-proof c =
     is_proof c.args.fingers.now (record { trails = record { fill = c.in_ok-fill.fill; order = c.in_ok-order.order; lemmas = c.refute_limits.new.kept.lines; best = None }; gaps = c.gaps.result }) c.in_ok-levels.levels c.refute_limits.new.kept c.requires.fingers c.in_ok-order.ensures
-    (sym (c.first_with_many.ensures ∙ ap (first_with_many c.args.fingers.now) c.as_slice.ensures) ∙ c.in_default.is)
+    (sym (c.in_ok-crowded.ensures ∙ ap (first_with_many c.args.fingers.now) c.as_slice.ensures) ∙ c.in_default.is)
     (subst (λ (gs : List NetNo). AreLevels c.args.fingers.now gs c.in_ok-levels.levels) c.as_slice-2.ensures c.in_ok-levels.ensures.are)
     (c.in_ok-levels.ensures.is ∙ ap (levels_of c.args.fingers.now) c.as_slice-2.ensures)
     c.in_ok-whole.ensures.further.kept c.in_ok-fill.ensures refl refl c.gaps.ensures
@@ -38,7 +38,7 @@ pub returns-clause-stopped : goal.returns-clause-stopped
 returns-clause-stopped c = record {
   none = c.in_ok-whole.ensures.spent c.if-whole.false;
   proved = is_proof c.args.fingers.now (record { trails = record { fill = c.in_ok-fill.fill; order = c.in_ok-order.order; lemmas = c.refute_limits.new.kept.lines; best = None }; gaps = c.gaps.result }) c.in_ok-levels.levels c.refute_limits.new.kept c.requires.fingers c.in_ok-order.ensures
-      (sym (c.first_with_many.ensures ∙ ap (first_with_many c.args.fingers.now) c.as_slice.ensures) ∙ c.in_default.is)
+      (sym (c.in_ok-crowded.ensures ∙ ap (first_with_many c.args.fingers.now) c.as_slice.ensures) ∙ c.in_default.is)
       (subst (λ (gs : List NetNo). AreLevels c.args.fingers.now gs c.in_ok-levels.levels) c.as_slice-2.ensures c.in_ok-levels.ensures.are)
       (c.in_ok-levels.ensures.is ∙ ap (levels_of c.args.fingers.now) c.as_slice-2.ensures)
       c.in_ok-whole.ensures.further.kept c.in_ok-fill.ensures refl refl c.gaps.ensures;

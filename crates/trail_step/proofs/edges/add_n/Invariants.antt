@@ -3,4 +3,4 @@ use Rattle.trail_step.specs.Edges.{edge_of}
 use Rattle.trail_step.proofs.edges.add_n.Given as goal
 
 abbrev pub invariant-loop-right : goal.invariant-loop-right
-invariant-loop-right l = l.all.items ≡ l.fn.all.items ++ map (λ right. edge_of l.left l.y.lo.0 right l.y.hi.0) (take l.right-index l.nets)
+invariant-loop-right l = l.all.items ≡ l.fn.all.items ++ map (λ right. edge_of l.left l.y.lo right l.y.hi) (take l.right-index l.nets)

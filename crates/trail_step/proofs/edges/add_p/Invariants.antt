@@ -3,4 +3,4 @@ use Rattle.trail_step.specs.Edges.{edge_of}
 use Rattle.trail_step.proofs.edges.add_p.Given as goal
 
 abbrev pub invariant-loop-right : goal.invariant-loop-right
-invariant-loop-right l = l.all.items ≡ l.fn.all.items ++ map (λ right. edge_of l.x.lo.0 l.left l.x.hi.0 right) (take l.right-index l.nets)
+invariant-loop-right l = l.all.items ≡ l.fn.all.items ++ map (λ right. edge_of l.x.lo l.left l.x.hi right) (take l.right-index l.nets)

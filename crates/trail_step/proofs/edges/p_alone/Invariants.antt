@@ -4,4 +4,4 @@ use Rattle.trail_step.specs.Edges.{edge_of}
 use Rattle.trail_step.proofs.edges.p_alone.Given as goal
 
 abbrev pub invariant-loop-left : goal.invariant-loop-left
-invariant-loop-left l = l.all.items ≡ flat_map (λ left. map (λ right. edge_of l.x.lo.0 left l.x.hi.0 right) l.nets) (take l.left-index l.nets)
+invariant-loop-left l = l.all.items ≡ flat_map (λ left. map (λ right. edge_of l.x.lo left l.x.hi right) l.nets) (take l.left-index l.nets)

@@ -1,0 +1,3 @@
+-- What contracts of public calls cite.
+pub mod Fronts
+pub mod Same
