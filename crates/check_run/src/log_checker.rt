@@ -46,7 +46,7 @@ impl LogChecker {
         ensures seen { IfOk result (λ c. HasSeenLog c no_log) }
     {
         Ok(LogChecker {
-            checker: Checker::new(alloc, fingers, LogBound::Parity)?,
+            checker: Checker::new(alloc, fingers, LogBound::One)?,
         })
     }
 

@@ -8,10 +8,10 @@ use cell_num::Row;
 /// The bound that the logs of a version rest on.
 #[derive(Clone, Copy, Debug, PartialEq, Eq)]
 pub enum LogBound {
-    /// The one of `PARITY_LOG`.
-    Parity,
-    /// The one of `COMPONENT_LOG`.
-    Component,
+    /// The parity bound, of logs of version 1.
+    One,
+    /// The component bound, of logs of version 2.
+    Two,
 }
 
 impl LogBound {
@@ -21,8 +21,8 @@ impl LogBound {
         ensures unknown { IsNone result ↔ (IsVersion version → ⊥) }
     {
         match version {
-            PARITY_LOG => Some(LogBound::Parity),
-            COMPONENT_LOG => Some(LogBound::Component),
+            PARITY_LOG => Some(LogBound::One),
+            COMPONENT_LOG => Some(LogBound::Two),
             _ => None,
         }
     }
@@ -41,15 +41,15 @@ impl RowBound for LogBound {
 
     fn bound(&self, row: Row, state: &State, kinds: &Kinds) -> u32 {
         match self {
-            LogBound::Parity => Parity.bound(row, state, kinds),
-            LogBound::Component => Component.bound(row, state, kinds),
+            LogBound::One => Parity.bound(row, state, kinds),
+            LogBound::Two => Component.bound(row, state, kinds),
         }
     }
 
     fn trails(&self, row: Row, state: &State, kinds: &Kinds) -> u32 {
         match self {
-            LogBound::Parity => Parity.trails(row, state, kinds),
-            LogBound::Component => Component.trails(row, state, kinds),
+            LogBound::One => Parity.trails(row, state, kinds),
+            LogBound::Two => Component.trails(row, state, kinds),
         }
     }
 
@@ -63,15 +63,15 @@ impl RowBound for LogBound {
         most: u32,
     ) -> bool {
         match self {
-            LogBound::Parity => Parity.is_above(row, state, kinds, trails, empty, most),
-            LogBound::Component => Component.is_above(row, state, kinds, trails, empty, most),
+            LogBound::One => Parity.is_above(row, state, kinds, trails, empty, most),
+            LogBound::Two => Component.is_above(row, state, kinds, trails, empty, most),
         }
     }
 
     fn version(&self) -> u32 {
         match self {
-            LogBound::Parity => Parity.version(),
-            LogBound::Component => Component.version(),
+            LogBound::One => Parity.version(),
+            LogBound::Two => Component.version(),
         }
     }
 }

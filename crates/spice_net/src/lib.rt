@@ -15,4 +15,5 @@ mod transistor;
 
 pub use fault::{SpiceFault, What};
 pub use read::read_cell;
+pub use spice_words::Direction;
 pub use subckt::{Device, DeviceList, DirectionList, Subckt};
