@@ -22,7 +22,7 @@ pub fn extraction_law()
         AreFew shapes → ExtractsTo deck names fingers shapes → ExtractRefused deck shapes f → f ≡ NoMemory }
 {}
 
-/// What the measures of `src/measure.rt` are, as numbers: those of the definitions (`specs/Measures.antt`).
+/// Each measure of `src/measure.rt` is the number that the definitions give it (`specs/Measures.antt`).
 pub fn measure_numbers()
     ensures half_cut { HALF_CUT ≡ 2 }
     ensures half_gate { HALF_GATE ≡ 2 }
