@@ -1,5 +1,5 @@
 -- How `row` has to end, where all its cells can be made.
-use Rattle.std.proofs.Common.{ℕ, ◌≡◌, true, List, [], ◌∷◌, map, codes, All, Contains, Option, Some, None, Result, Ok, Err, IfSome, inl, inr, sym, ap, ◌∙◌, subst}
+use Rattle.std.proofs.Common.{ℕ, ◌≡◌, true, false, List, [], ◌∷◌, map, codes, All, Contains, Option, Some, None, Result, Ok, Err, IfSome, inl, inr, refl, sym, ap, ◌∙◌, subst}
 use Rattle.std.proofs.lemmas.List.Elements.{All-contains, Contains-append_right}
 use Rattle.cell_io.specs.Desk.{Files, View}
 use Rattle.call_end.specs.End.{reports}
@@ -112,6 +112,7 @@ apart_where r out fault end can (Unabutted made other, h, is) = is ∙ ap apart_
 no_outside : (answer : Status) → answer ≡ status.Row → IsOfOutside answer → ⊥
 no_outside answer is outside =
     let wrong : is_among desk_statuses status.Row ≡ true = subst IsOfOutside is outside in
+    let none : is_among desk_statuses status.Row ≡ false = refl in
     cc
 
 pub unabuts_told : (a c : View) (form : Option Form) (answer : Status) (given : Option Files) → IfSome given (IsAnswered form a c answer) → IfSome given (λ files. IsCalm a c → Completes form files answer) → IfSome given (λ files. IsCalm a c → (fault : RowFault) → OfRow files form (λ r out. IsKeptApart r fault) → IsApartOrShort fault answer a c)
