@@ -15,7 +15,8 @@ ghost use Rattle.call_work.specs.Commands.{Agreeing, TrailPlanning, read_by};
 ghost use Rattle.run_laws.specs.Ended.{WhereEnds};
 ghost use Rattle.run_laws.specs.Headline.{CanBeDrawn, FromInputs, HasCycle, IsCyclicCell, IsMadeCell, IsOrShort, IsSpentSearch, IsTallCell, IsTooHigh, MakesNone, OfFirstLeast, WhereMakeEnds};
 ghost use Rattle.run_laws.specs.Plan.{HasEnough};
-ghost use Rattle.run_laws.specs.Row.{CanBeRowed, IsMisreadRow, IsRow, IsRowedLibrary, IsStopStatus, IsStoppedRow, IsUnabuttedRow, MayLeaveFile, MayMakeFiles, OfRow, WhereRowEnds};
+ghost use Rattle.run_laws.specs.Row.{CanBeRowed, IsApartOrShort, IsKeptApart, IsMisreadRow, IsRow, IsRowedLibrary, IsStopStatus, IsStoppedRow, IsUnabuttedRow, MayLeaveFile, MayMakeFiles, OfRow, WhereRowEnds};
+ghost use Rattle.row_abut.specs.declared.cell.RowFault.{RowFault};
 ghost use Rattle.run_laws.specs.Trails.{HoldsAcceptedTrails, IsTrailCheck, IsTrailPlanned, IsTrailUnfinished, IsTrailUnmade};
 ghost use Rattle.call_read.specs.Sources.{Lacks};
 ghost use Rattle.call_words.specs.Words.{asked};
@@ -202,9 +203,13 @@ pub fn run<D: Desk>(alloc: Global, words: &[String], desk: &mut D) -> Status
     ensures unabutted { IfSome (D.view desk.old).given (λ files. WhereRowEnds files (asked words.now) result
         status.Row (λ r out. IsUnabuttedRow r (D.view desk.old) (D.view desk.new))) }
 
-    // Where the cells can be made and stand side by side, it is done, or memory ran out.
+    // Where the cells can be made and stand side by side, it is done, or memory ran out; where they can be made and a
+    // fault keeps them apart, it ends with 12 and tells that fault, or memory ran out.
     ensures rows { IfCalm (D.view desk.old) (D.view desk.new) (λ files.
         OfRow files (asked words.now) (λ r out. CanBeRowed r) → IsDoneOrShort result) }
+    ensures unabuts { IfCalm (D.view desk.old) (D.view desk.new) (λ files. (fault : RowFault)
+        → OfRow files (asked words.now) (λ r out. IsKeptApart r fault)
+        → IsApartOrShort fault result (D.view desk.old) (D.view desk.new)) }
 
     // What `bench` tells: the counts of what making each generated cell comes to. It is done, or writing failed, or
     // memory ran out.

@@ -7,6 +7,7 @@ pub mod MadeCompared
 pub mod MadeFiles
 pub mod MakeSettled
 pub mod MakeTold
+pub mod RowSettled
 pub mod RowTold
 pub mod Telling
 pub mod TrailTold

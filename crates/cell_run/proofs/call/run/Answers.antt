@@ -7,7 +7,8 @@ use Rattle.run_laws.proofs.BenchTold.{benched_told, benches_told}
 use Rattle.run_laws.proofs.ExtractTold.{breaks_told, broken_told, extracted_told, extracts_told, layout_faults_told, layout_told}
 use Rattle.run_laws.proofs.MadeCompared.{agrees_made_told}
 use Rattle.run_laws.proofs.MakeTold.{draws_told, make_leaves, meets_told, needs_told}
-use Rattle.run_laws.proofs.RowTold.{misread_told, rowed_told, rows_told, stopped_told, unabutted_told}
+use Rattle.run_laws.proofs.RowSettled.{rows_told, unabuts_told}
+use Rattle.run_laws.proofs.RowTold.{misread_told, rowed_told, stopped_told, unabutted_told}
 use Rattle.run_laws.proofs.Unmade.{none_told, unmade_told}
 use Rattle.run_laws.proofs.Telling.{accepts_told, alone_told, answers, called_for_told, checked_told, completes_told, made_told, memory_told, planned_told, read_told, same_reads_told, status_told, usage_told, write_told}
 use Rattle.run_laws.proofs.TrailTold.{trail_accepts_told, trail_checked_told, trail_planned_told, trail_unfinished_told}
@@ -172,6 +173,9 @@ returns-clause-unabutted g c = unabutted_told (g.D.Desk.view c.args.desk.now) (g
 
 pub returns-clause-rows : goal.returns-clause-rows
 returns-clause-rows g c = rows_told (g.D.Desk.view c.args.desk.now) (g.D.Desk.view c.deliver.new.desk) (asked c.args.words.now) c.deliver.result (g.D.Desk.view c.args.desk.now).given (returns-clause-completes g c)
+
+pub returns-clause-unabuts : goal.returns-clause-unabuts
+returns-clause-unabuts g c = unabuts_told (g.D.Desk.view c.args.desk.now) (g.D.Desk.view c.deliver.new.desk) (asked c.args.words.now) c.deliver.result (g.D.Desk.view c.args.desk.now).given (returns-clause-called_for g c) (returns-clause-completes g c)
 
 pub returns-clause-agrees_made : goal.returns-clause-agrees_made
 returns-clause-agrees_made g c = agrees_made_told (g.D.Desk.view c.args.desk.now) (g.D.Desk.view c.deliver.new.desk) (asked c.args.words.now) c.deliver.result (g.D.Desk.view c.args.desk.now).given (returns-clause-completes g c)
