@@ -83,7 +83,7 @@ pub record AreSmall (library abstract : List ℕ) : Type 0 where
   pub library : length library ≤ 200000
   pub abstract : length abstract ≤ 200000
 
--- So are the library of the shapes that are written and the text of the abstract. It is unfolded where it is wanted, too.
+-- So are the library of the shapes that are written and the text of the abstract. It is unfolded where it is wanted.
 unfoldable pub HasSmallFiles : Style → Inputs → List Column → Routing → List ℕ → Type 0
 HasSmallFiles style inputs row routing xs =
     AreSmall (library_of inputs (final_in style inputs row routing xs))

@@ -10,19 +10,16 @@ use Rattle.cell_num.specs.declared.net.NetNo.{NetNo}
 use Rattle.cell_num.specs.declared.net.Pins.{Pins}
 use Rattle.cell_num.specs.Lines.{text_line}
 use Rattle.cell_num.proofs.Lists.{all_at}
-use Rattle.box_geom.specs.declared.layer.Layer.TheVariants.{Metal1, Metal2}
 use Rattle.box_geom.specs.declared.shape.Shape.{Shape}
 use Rattle.spice_words.specs.declared.direction.Direction.{Direction}
 use Rattle.spice_words.specs.declared.direction.Direction.TheVariants.{Input, Output, Inout}
 use Rattle.spice_net.specs.declared.subckt.Subckt.{Subckt}
-use Rattle.cell_draw.specs.declared.drawing.Drawing.{Drawing}
 use Rattle.cell_draw.specs.Layouts.{net_no}
-use Rattle.lef_write.specs.Lef.{block_text, coordinate, corner_text, direction_of, direction_text, head_text, layer_text, macro_text, metal1_text, metal2_text, microns, minus_of, name_of, obstructions_text, pin_text, pins_text, port_text, rect_text, rects_text, size_text, three_digits, use_text, library_text}
-use Rattle.lef_write.specs.Drawn.{AreAllMetal}
-use Rattle.lef_write.specs.Ports.{obstructions_on, port_shapes}
+use Rattle.lef_write.specs.Lef.{block_text, coordinate, corner_text, direction_of, direction_text, head_text, layer_text, macro_text, metal1_text, metal2_text, microns, minus_of, name_of, obstructions_text, pin_text, pins_text, port_text, rect_text, rects_text, size_text, three_digits, use_text}
+use Rattle.lef_write.specs.Ports.{port_shapes}
 use Rattle.lef_write.specs.declared.port.Port.{Port}
 use Rattle.lef_laws.specs.Drawn.{IsMetric, IsSpelled}
-use Rattle.lef_laws.proofs.Counted.{at_pins, few_shown}
+use Rattle.lef_laws.proofs.Counted.{at_pins}
 
 -- two texts, one behind the other
 both : (a b : List ℕ) (m n : ℕ) → length a ≤ m → length b ≤ n → length (a ++ b) ≤ m + n
@@ -222,32 +219,3 @@ macro_few name width height unit short wide high =
 pub head_few : length head_text ≤ 93
 unfolding head_text
 head_few = omega arith
-
--- ---- the library
-
-six_parts : (a b c d e f : List ℕ) → length (a ++ b ++ c ++ d ++ e ++ f) ≡ length a + length b + length c + length d + length e + length f
-six_parts a b c d e f = omega (arith, length-append (a ++ b ++ c ++ d ++ e) f, length-append (a ++ b ++ c ++ d) e, length-append (a ++ b ++ c) d, length-append (a ++ b) c, length-append a b)
-
--- no shape of the drawing is beyond the limits, at no pin and in no obstruction
-pub record AreSpelled (ports : List Port) (rects : List Shape) (unit : ℕ) : Type 0 where
-  pub pins : (n : ℕ) → All (λ (s : Shape). IsSpelled unit s.rect) (port_shapes ports rects (net_no n))
-  pub metal1 : All (λ (s : Shape). IsSpelled unit s.rect) (obstructions_on Metal1 ports rects)
-  pub metal2 : All (λ (s : Shape). IsSpelled unit s.rect) (obstructions_on Metal2 ports rects)
-
-pub library_few : (cell : Subckt) (ports : List Port) (drawing : Drawing) (unit : ℕ) → length cell.name ≤ 32 → All (λ (name : List ℕ). length name ≤ 64) cell.nets → IsMetric unit drawing.width → IsMetric unit drawing.height → AreSpelled ports drawing.shapes.rects unit → AreAllMetal ports drawing.shapes.rects → length (library_text cell ports drawing unit) ≤ 322 + 220 * cell.pins.pins + 65 * length drawing.shapes.rects
-library_few cell ports drawing unit short names wide high are metal =
-    let rects : List Shape = drawing.shapes.rects in
-    let one : List Shape = obstructions_on Metal1 ports rects in
-    let two : List Shape = obstructions_on Metal2 ports rects in
-    let end : length (codes "END LIBRARY\n") ≤ 12 = omega arith in
-    omega (
-      arith,
-      end,
-      six_parts head_text (macro_text cell.name drawing.width drawing.height unit) (pins_text cell ports rects unit) (obstructions_text unit one two) (text_line (codes "END ") cell.name) (codes "END LIBRARY\n"),
-      head_few,
-      macro_few cell.name drawing.width drawing.height unit short wide high,
-      all_pins_few cell ports rects unit names are.pins,
-      obstructions_few unit one two are.metal1 are.metal2,
-      line_few (codes "END ") cell.name 4 32 (omega arith) short,
-      few_shown ports rects cell.pins.pins metal,
-    )

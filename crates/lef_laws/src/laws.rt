@@ -16,8 +16,8 @@ pub fn reads_back()
         macro_in (library_text cell ports drawing unit) cell.name unit ≡ Ok (macro_drawn cell ports drawing) }
 {}
 
-/// How many bytes such an abstract takes at most: 65 a rectangle of the drawing, 220 a pin, and 322. It does nothing: its
-/// contract is the law.
+/// How many bytes such an abstract takes at most: 65 a rectangle of the drawing, 220 a pin, and 322 besides. It does
+/// nothing: its contract is the law.
 #[tactic(auto, using(crate::proofs::Short::abstract_few))]
 pub fn abstract_lengths()
     ensures few { (cell : Subckt) (ports : List Port) (drawing : Drawing) (unit : ℕ) → IsReadable cell drawing unit
