@@ -1,12 +1,15 @@
 #!/usr/bin/env python3
 """Checks docs/PROOFS.md against the code: each call, clause, definition and wrong body of its table is there.
-It lists the public calls with a contract that no row names. Run it anywhere; its status is 1 where a name is lost."""
+It lists the public calls with a contract, functions and methods of exported types, and the wrong bodies that no row names. Run it
+anywhere; its status is 1 where a name is lost."""
 import os
 import re
 import sys
 
 TOP = os.path.join(os.path.dirname(os.path.abspath(__file__)), "..")
 ROW = re.compile(r"^\| (\d+) \| (.*) \| (.*) \| (.*) \| (.*) \|$")
+EXPORTED = re.compile(r"pub use (\w+)::\{?([^;}]*)\}?;")
+BLOCK = re.compile(r"(?:impl(?:<[^>]*>)? (?:([\w<>', ]+) for )?|(pub )?trait )(\w+)")
 CALL = re.compile(r"`([^`]+)`: `([\w.]+)`(?: \*([\w, ]+)\*)?")
 DEFINITION = re.compile(r"`([^`]+)`: `(\w+)`")
 DEFINED = r"(?m)^(?:(?:abbrev|unfoldable|opaque|pub|record|data)\s+)+%s\b"
@@ -17,24 +20,30 @@ def text_of(path):
         return file.read()
 
 
+def functions(path):
+    """Each function of a file: its type or nothing, its name, whether others can call it, and the labels of its clauses."""
+    owner, of_trait, found = "", False, []
+    for line in text_of(path).split("\n"):
+        block = BLOCK.match(line)
+        if block:
+            owner, of_trait = block.group(3), bool(block.group(1) or block.group(2))
+        elif line == "}":
+            owner, of_trait = "", False
+        begun = re.match(r"\s*(pub )?fn (\w+)", line)
+        if begun:
+            found.append((owner, begun.group(2), bool(begun.group(1)) or of_trait, set()))
+        label = re.match(r"\s*ensures (\w*) ?\{", line)
+        if label and found:
+            found[-1][3].add(label.group(1))
+    return found
+
+
 def contracts(path):
     """The labels of each function's clauses, by its name, and behind `Type.` by its type too."""
-    found, owner, name = {}, "", None
-    for line in text_of(path).split("\n"):
-        block = re.match(r"(?:impl(?:<[^>]*>)? (?:[\w<>', ]+ for )?|(?:pub )?trait )(\w+)", line)
-        if block:
-            owner = block.group(1) + "."
-        elif line == "}":
-            owner = ""
-        begun = re.match(r"\s*(?:pub )?fn (\w+)", line)
-        if begun:
-            name = begun.group(1)
-            for key in (name, owner + name):
-                found.setdefault(key, set())
-        label = re.match(r"\s*ensures (\w*) ?\{", line)
-        if label and name:
-            for key in (name, owner + name):
-                found.setdefault(key, set()).add(label.group(1))
+    found = {}
+    for owner, name, _, labels in functions(path):
+        for key in (name, f"{owner}.{name}"):
+            found.setdefault(key, set()).update(labels)
     return found
 
 
@@ -55,20 +64,36 @@ def lost_in(call, definition, edit):
             yield path
 
 
+def sources(crate):
+    """The files of a crate's code, below crates/."""
+    for folder, _, files in os.walk(os.path.join(TOP, "crates", crate, "src")):
+        for name in sorted(files):
+            if name.endswith(".rt"):
+                yield os.path.relpath(os.path.join(folder, name), os.path.join(TOP, "crates"))
+
+
 def public_calls():
-    """Each crate's functions that others can call and that have a contract."""
+    """What others can call of each crate and has a contract: functions, and methods of exported types as `Type.name`."""
     for crate in sorted(os.listdir(os.path.join(TOP, "crates"))):
         root = f"{crate}/src/lib.rt"
         if crate.endswith("_tests") or not os.path.isfile(os.path.join(TOP, "crates", root)):
             continue
-        for module, names in re.findall(r"pub use (\w+)::\{?([^;}]*)\}?;", text_of(root)):
-            path = f"{crate}/src/{module}.rt"
-            if not os.path.isfile(os.path.join(TOP, "crates", path)):
-                continue
-            clauses = contracts(path)
-            for name in re.findall(r"\b[a-z]\w*", names):
-                if clauses.get(name):
-                    yield path, name
+        exported = EXPORTED.findall(text_of(root))
+        types = {name for _, names in exported for name in re.findall(r"\b[A-Z]\w*", names)}
+        calls = {(f"{crate}/src/{module}.rt", name) for module, names in exported for name in re.findall(r"\b[a-z]\w*", names)}
+        for path in sources(crate):
+            for owner, name, is_public, labels in functions(path):
+                if labels and is_public and (owner in types or not owner and (path, name) in calls):
+                    yield path, f"{owner}.{name}".lstrip(".")
+
+
+def wrong_bodies():
+    """The edits that make a body wrong, below crates/."""
+    for crate in sorted(os.listdir(os.path.join(TOP, "crates"))):
+        for folder in ("must-fail", "wrong"):
+            place = os.path.join(TOP, "crates", crate, folder)
+            names = sorted(os.listdir(place)) if os.path.isdir(place) else []
+            yield from (f"{crate}/{folder}/{name}" for name in names if name.endswith(".edit"))
 
 
 def main():
@@ -77,10 +102,12 @@ def main():
     rows = [match.groups() for match in map(ROW.match, page.split("\n")) if match]
     lost = [f"row {number}: {name}" for number, _, call, definition, edit in rows for name in lost_in(call, definition, edit)]
     lost += [f"row {at} is numbered {row[0]}" for at, row in enumerate(rows, 1) if int(row[0]) != at]
-    named = {(path, name.split(".")[-1]) for row in rows for path, name, _ in CALL.findall(row[2])}
-    unnamed = [f"{path}: {name}" for path, name in public_calls() if (path, name) not in named]
-    print(*[f"not there: {it}" for it in lost], *[f"in no row: {it}" for it in unnamed], sep="\n")
-    print(f"{len(rows)} rows, {len(lost)} names not there, {len(unnamed)} public calls in no row")
+    named = {(path, name) for row in rows for path, name, _ in CALL.findall(row[2])}
+    unnamed = [f"{path}: {name}" for path, name in public_calls() if not {(path, name), (path, name.split(".")[-1])} & named]
+    tried = {path for row in rows for path in re.findall(r"`([^`]+)`", row[4])}
+    untold = [path for path in wrong_bodies() if path not in tried]
+    print(*[f"not there: {it}" for it in lost], *[f"in no row: {it}" for it in unnamed + untold], sep="\n")
+    print(f"{len(rows)} rows, {len(lost)} names not there, {len(unnamed)} public calls and {len(untold)} wrong bodies in no row")
     return 1 if lost else 0
 
 
