@@ -17,8 +17,8 @@ HEAD = """# The public calls
 For who uses the crates as libraries. A crate's items stand at its root, as in `use finger_fold::{{FoldFault, fold}};`, and methods below
 their type. Each line has the first sentence of an item's comment; the comment has the rest, and the clauses beneath it what is
 promised and asked for. A *law* is a call that does nothing: its clauses are theorems. What a crate is for, and which items no program
-calls, is told in [ARCHITECTURE.md](ARCHITECTURE.md). `docs/api.py` makes this page: {calls} calls, {methods} methods, {others} types,
-traits and constants. Crates of benches and tests are left out.
+calls, is told in [ARCHITECTURE.md](ARCHITECTURE.md). `docs/api.py` makes this page: {calls} calls, {laws} laws, {others} types, traits and
+constants with {methods} methods. Crates of benches and tests are left out.
 """
 ITEM = r"(?m)^pub (fn|struct|enum|trait|type|const) (%s)\b"
 OWN = r"(?m)^impl(?:<[^\n]*?>)? %s(?:<[^\n]*>)? \{"
@@ -93,6 +93,8 @@ def lines_of(crate, module, name):
         return [f"{line} (of `{module}`)" for line in lines_of(module, *place_of(module, name))[:1]]
     text = text_of(f"{crate}/src/{module or 'lib'}.rt")
     found = re.search(ITEM % name, text)
+    if not found:
+        sys.exit(f"{crate}/src/{module or 'lib'}.rt: no item {name}")
     kind, told = found.group(1), comment_before(text, found.start())
     if kind == "fn":
         shown = signature(text, found.start(2))
@@ -120,10 +122,8 @@ def page():
         if heading != LEFT_OUT:
             libraries = [crate for crate in crates if os.path.isfile(os.path.join(TOP, "crates", crate, "src", "lib.rt"))]
             out += [f"## {heading}", ""] + [line for crate in libraries for line in room(crate)]
-    calls = sum(line.startswith("- `") or line.startswith("- law") for line in out)
-    inner = sum(line.startswith("  - ") for line in out)
-    others = sum(line.startswith("- ") for line in out) - calls
-    return HEAD.format(calls=calls, methods=inner, others=others) + "\n" + "\n".join(out)
+    calls, laws, methods, items = (sum(line.startswith(front) for line in out) for front in ("- `", "- law ", "  - ", "- "))
+    return HEAD.format(calls=calls, laws=laws, methods=methods, others=items - calls - laws) + "\n" + "\n".join(out)
 
 
 def main():
