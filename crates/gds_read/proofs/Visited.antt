@@ -33,7 +33,7 @@ use Rattle.gds_read.specs.declared.lattice.Lattice.{Lattice}
 use Rattle.gds_read.specs.declared.reference.Facing.{Facing}
 use Rattle.gds_read.specs.declared.reference.Array.{Array}
 use Rattle.gds_read.specs.References.{target_in, array_of}
-use Rattle.gds_read.specs.Elements.{Element, until, elements_of, layer_of, xy_place, content_of, boundary_areas, areas_along, areas_of, pen_of, pen_for, drawn_on, text_spot, with_label}
+use Rattle.gds_read.specs.Elements.{Element, until, elements_of, layer_of, xy_place, content_of, boundary_areas, areas_along, path_areas_of, areas_of, pen_of, pen_for, drawn_on, text_spot, with_label}
 use Rattle.gds_read.specs.Index.{has_areas, on_layer, covers, element_draws, draws}
 use Rattle.gds_read.specs.Flat.{File, Below, file_of, row_of, copies_of, referred, drawn_around, text_by, element_by, one_level, flat, record_in, inside_copy, in_copy}
 use Rattle.gds_read.specs.Structure.{trimmed}
@@ -60,6 +60,9 @@ slant_along at reach points e = rw e refl
 pub along_told : (at : ℕ) (reach : Reach) (points : List Point) (some : Bool) → has_slant points ≡ false → some ≡ has_some (path_areas reach.half reach.ends points) → some ≡ has_areas (areas_along at reach points)
 unfolding areas_along
 along_told at reach points some e is = rw e is
+
+pub path_covered : (inside : List Item) (on : Layer) (some : Bool) → layer_of inside ≡ Some on → ((at : ℕ) → some ≡ has_areas (path_areas_of at inside)) → some ≡ covers record_type.Path inside
+path_covered inside on some is told = told (xy_place inside) ∙ sym (ap (λ (o : Option Layer). on_layer o (has_areas (path_areas_of (xy_place inside) inside))) is)
 
 -- ---- the limit
 

@@ -1,6 +1,6 @@
 -- A copy of a structure takes some room, and so does each element that is visited in it.
-use Rattle.std.proofs.Common.{ℕ, zero, suc, ◌≡◌, ◌+◌, ◌*◌, ◌<◌, ◌≤◌, nat_lt, arith, Bool, true, false, ◌&&◌, List, [], ◌∷◌, Option, Some, None, Result, Ok, Err, refl, ap}
-use Rattle.std.specs.Prelude.{if◌then◌else◌}
+use Rattle.std.proofs.Common.{ℕ, zero, suc, ◌≡◌, ◌+◌, ◌*◌, ◌<◌, ◌≤◌, nat_lt, arith, Bool, true, false, ◌&&◌, List, [], ◌∷◌, length, Option, Some, None, Result, Ok, Err, refl, ap}
+use Rattle.std.specs.Prelude.{◌==◌, if◌then◌else◌}
 use Rattle.std.proofs.lemmas.Bool.{ltb-true}
 use Rattle.gds_record.specs.declared.types.RecordType.{RecordType}
 use Rattle.gds_record.specs.declared.types.RecordType.TheVariants as record_type
@@ -13,6 +13,7 @@ use Rattle.gds_area.specs.declared.point.Point.{Point}
 use Rattle.gds_area.specs.declared.taken.Taken.{Taken}
 use Rattle.gds_area.specs.declared.taken.Around.{Around}
 use Rattle.gds_area.specs.declared.taken.Frame.{Frame}
+use Rattle.gds_area.specs.Points.{point_at}
 use Rattle.gds_area.specs.Taken.{plain, nothing_taken, one_reference, both, amount, within_limit, around_of}
 use Rattle.cell_num.specs.Steps.{◌>>=◌, or_fault}
 use Rattle.gds_read.specs.declared.label.Spot.{Spot}
@@ -21,7 +22,7 @@ use Rattle.gds_read.specs.declared.lattice.Lattice.{Lattice}
 use Rattle.gds_read.specs.declared.reference.Facing.{Facing}
 use Rattle.gds_read.specs.declared.reference.Array.{Array}
 use Rattle.gds_read.specs.Structure.{trimmed}
-use Rattle.gds_read.specs.References.{counts_of, two_counts, counts_told, has_steps, lattice_on, lattice_of, facing_on, facing_of, data_in, repeats, array_of, target_in, copy_at}
+use Rattle.gds_read.specs.References.{counts_of, two_counts, counts_told, has_steps, lattice_on, single, may_stand, lattice_of, facing_on, facing_of, data_in, repeats, array_of, target_in, copy_at}
 use Rattle.gds_read.specs.Elements.{Element, until, elements_of, layer_of, xy_place, xy_of, content_of, areas_of, pen_of, text_spot, with_label}
 use Rattle.gds_read.specs.Index.{covers, element_draws, draws}
 use Rattle.gds_read.specs.Flat.{File, Below, file_of, inside_copy, row_of, copies_of, referred, text_by, element_by, one_level, flat, record_in, drawn_around, in_copy}
@@ -72,9 +73,19 @@ on_hold p q s (Some n) has = by (has_steps n.columns p q && has_steps n.rows p s
     by true = has
     by false = tt
 
-may_hold : (b : Bool) (o : Option Lattice) → HasLattice o → HasLattice (if b then o else None)
-may_hold true o has = has
-may_hold false o has = tt
+single_holds : (xy : List ℕ) (counts : Option (List ℕ)) → HasLattice (lattice_of record_type.SRef xy counts)
+single_holds xy counts = by (length xy == 8 && may_stand counts)
+  where
+    by : (b : Bool) → HasLattice (if b then Some (single (point_at 0 xy)) else None)
+    by true = (omega arith, omega arith)
+    by false = tt
+
+array_holds : (xy : List ℕ) (counts : Option (List ℕ)) → HasLattice (lattice_of record_type.ARef xy counts)
+array_holds xy counts = by (length xy == 24)
+  where
+    by : (b : Bool) → HasLattice (if b then lattice_on (point_at 0 xy) (point_at 8 xy) (point_at 16 xy) (counts_told counts) else None)
+    by true = on_hold (point_at 0 xy) (point_at 8 xy) (point_at 16 xy) (counts_told counts) (told_hold counts)
+    by false = tt
 
 copies_hold : (b : Bool) (f : Option Facing) (o : Option Lattice) → HasLattice o → HasCopies (if b then None else facing_on f o)
 copies_hold true f o has = tt
@@ -134,8 +145,8 @@ element_visit : (labels : Bool) (below : Below) (file : File) (around : Option A
 element_visit labels below file around count e record_type.Boundary is quiet = areas_visit labels file.grid (around_of around e.at) count e.inside record_type.Boundary
 element_visit labels below file around count e record_type.Path is quiet = areas_visit labels file.grid (around_of around e.at) count e.inside record_type.Path
 element_visit labels below file around count e record_type.Text is quiet = text_visit labels file.grid around count e quiet
-element_visit labels below file around count e record_type.SRef is quiet = referred_visit labels below file (around_of around e.at) count e record_type.SRef is (may_hold _ _ (omega arith, omega arith))
-element_visit labels below file around count e record_type.ARef is quiet = referred_visit labels below file (around_of around e.at) count e record_type.ARef is (may_hold _ _ (on_hold _ _ _ _ (told_hold (data_in record_type.ColRow e.inside))))
+element_visit labels below file around count e record_type.SRef is quiet = referred_visit labels below file (around_of around e.at) count e record_type.SRef is (single_holds (xy_of e.inside) (data_in record_type.ColRow e.inside))
+element_visit labels below file around count e record_type.ARef is quiet = referred_visit labels below file (around_of around e.at) count e record_type.ARef is (array_holds (xy_of e.inside) (data_in record_type.ColRow e.inside))
 element_visit labels below file around count e record_type.Header is quiet = nothing labels count
 element_visit labels below file around count e record_type.BgnLib is quiet = nothing labels count
 element_visit labels below file around count e record_type.LibName is quiet = nothing labels count

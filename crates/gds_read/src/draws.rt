@@ -72,7 +72,8 @@ fn path_covers(alloc: Global, bytes: &[u8], rec: &GdsRec) -> Result<bool, NoMemo
     let Some(_) = element_layer(bytes, rec.next) else {
         return Ok(false);
     };
-    path_has_areas(alloc, bytes, rec)
+    let some = path_has_areas(alloc, bytes, rec)?;
+    Ok(some)
 }
 
 // Whether the element draws, or has a fault, that a record of a type begins.

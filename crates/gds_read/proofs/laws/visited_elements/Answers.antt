@@ -1,3 +1,4 @@
+use Rattle.std.proofs.Common.{refl}
 use Rattle.gds_read.proofs.VisitedCopies.{copy_visit}
 use Rattle.gds_read.proofs.laws.visited_elements.Goals as goal
 
