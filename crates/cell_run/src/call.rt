@@ -1,5 +1,5 @@
 ghost use Rattle.std.specs.Prelude.{◌≡◌, ◌≢◌, ◌≤◌, ◌↔◌, ◌⊎◌, IfSome, IsNone, IsTrue};
-ghost use Rattle.cell_io.specs.Desk.{Rose};
+ghost use Rattle.cell_io.specs.Desk.{Both, Rose};
 ghost use Rattle.call_end.specs.declared.end.End.{End as EndOf};
 ghost use Rattle.call_end.specs.declared.status.Status.TheVariants as status;
 ghost use Rattle.agree_run.specs.Agree.{DoesAgree};
@@ -7,6 +7,7 @@ ghost use Rattle.run_laws.specs.Agree.{ComparesMade, HasDisagreement, HasNoNets,
 ghost use Rattle.run_laws.specs.Bench.{IsBench, IsBenchTold, WhereBenchEnds};
 ghost use Rattle.run_laws.specs.Calm.{IfCalm, IsDoneOrShort};
 ghost use Rattle.run_laws.specs.Check.{HoldsAcceptedLog, IsCheck};
+ghost use Rattle.run_laws.specs.Created.{CreatesOnce};
 ghost use Rattle.call_end.specs.Deliver.{Tells, TellsWhole};
 ghost use Rattle.call_work.specs.Ends.{CallsFor, IsOfOutside, MayEnd, is_status_of};
 ghost use Rattle.layout_run.specs.Extract.{BreaksRule, HasNetlist};
@@ -99,6 +100,8 @@ pub fn run<D: Desk>(alloc: Global, words: &[String], desk: &mut D) -> Status
     ensures unmade { result ≡ status.NoMemory
         → Rose (D.view desk.old).shorts (D.view desk.new).shorts
         ⊎ ((D.view desk.new).made ≡ (D.view desk.old).made) }
+    // No file is created twice, whatever the end is. (That they are those of the end, in order, is said by `ends`.)
+    ensures once { Both CreatesOnce (D.view desk.old).created (D.view desk.new).created }
 
     // What `make` leaves behind: the drawing of the first least row, certified; or a cycle of that row; or the
     // height that it needs; or the log of a search that spent its budget.

@@ -1,6 +1,7 @@
 pub mod AgreeTold
 pub mod AskedFor
 pub mod BenchTold
+pub mod Created
 pub mod Ends
 pub mod ExtractTold
 pub mod MadeCompared

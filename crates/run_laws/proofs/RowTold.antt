@@ -97,7 +97,7 @@ no_stop answer settled other stops is same none =
     let also : is_among stop_statuses other ≡ true = subst (λ (s : Status). is_among stop_statuses s ≡ true) (sym is ∙ same) stops in
     cc
 
-no_files : (inputs : Inputs) (answer : MakeAnswer) (end : End) → IsStoppedEnd inputs answer end → end.files ≡ []
+pub no_files : (inputs : Inputs) (answer : MakeAnswer) (end : End) → IsStoppedEnd inputs answer end → end.files ≡ []
 no_files inputs (Made row log routing xs) end is = absurd is
 no_files inputs (Cyclic row log ring) end is = ap (λ (e : End). e.files) is
 no_files inputs (Tall row log routing) end is = ap (λ (e : End). e.files) is

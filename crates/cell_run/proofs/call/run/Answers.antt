@@ -4,6 +4,7 @@ use Rattle.call_words.specs.Words.{asked}
 use Rattle.call_words.specs.declared.evidence.Evidence.TheVariants.{Log, Trails}
 use Rattle.run_laws.proofs.AgreeTold.{agreed_told, agrees_told, disagreed_told, disagrees_told, unextracted_told, unextracts_told}
 use Rattle.run_laws.proofs.BenchTold.{benched_told, benches_told}
+use Rattle.run_laws.proofs.Created.{once_told}
 use Rattle.run_laws.proofs.ExtractTold.{breaks_told, broken_told, extracted_told, extracts_told, layout_faults_told, layout_told}
 use Rattle.run_laws.proofs.MadeCompared.{agrees_made_told}
 use Rattle.run_laws.proofs.MakeTold.{draws_told, make_leaves, meets_told, needs_told}
@@ -155,6 +156,9 @@ returns-clause-disagrees g c = disagrees_told (g.D.Desk.view c.args.desk.now) (g
 
 pub returns-clause-unextracts : goal.returns-clause-unextracts
 returns-clause-unextracts g c = unextracts_told (g.D.Desk.view c.args.desk.now) (g.D.Desk.view c.deliver.new.desk) (asked c.args.words.now) c.deliver.result (g.D.Desk.view c.args.desk.now).given (returns-clause-completes g c)
+
+pub returns-clause-once : goal.returns-clause-once
+returns-clause-once g c = once_told (g.D.Desk.view c.args.desk.now) (g.D.Desk.view c.deliver.new.desk) (asked c.args.words.now) c.deliver.result (returns-clause-ends g c)
 
 pub returns-clause-alone : goal.returns-clause-alone
 returns-clause-alone g c = alone_told (g.D.Desk.view c.args.desk.now) (g.D.Desk.view c.deliver.new.desk) (asked c.args.words.now) c.deliver.result (returns-clause-ends g c)
