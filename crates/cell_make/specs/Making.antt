@@ -79,9 +79,9 @@ HasAbstract style inputs row routing xs =
     (abstract_of inputs routing (drawing_in inputs row routing xs))
 
 -- a library and an abstract, of at most 200,000 bytes each
-pub record AreSmall (library abstract : List ℕ) : Type 0 where
-  pub library : length library ≤ 200000
-  pub abstract : length abstract ≤ 200000
+pub record AreSmall (gds lef : List ℕ) : Type 0 where
+  pub library : length gds ≤ 200000
+  pub abstract : length lef ≤ 200000
 
 -- So are the library of the shapes that are written and the text of the abstract. It is unfolded where it is wanted.
 unfoldable pub HasSmallFiles : Style → Inputs → List Column → Routing → List ℕ → Type 0
