@@ -1,42 +1,28 @@
 -- What is visited in a copy takes some room, and what is not visited draws nothing.
-use Rattle.std.proofs.Common.{ℕ, zero, suc, ◌≡◌, ◌+◌, ◌<◌, ◌≤◌, nat_lt, arith, Bool, true, false, ◌&&◌, not, List, [], ◌∷◌, length, map, Option, Some, None, option_map, Result, Ok, Err, refl, sym, ap, ◌∙◌, inl, inr}
-use Rattle.std.specs.Prelude.{if◌then◌else◌}
+use Rattle.std.proofs.Common.{ℕ, zero, suc, ◌≡◌, ◌+◌, ◌<◌, ◌≤◌, nat_lt, arith, Bool, true, false, List, [], ◌∷◌, map, Option, Some, None, option_map, Result, Ok, Err, refl, sym, ap, ◌∙◌, inl, inr}
 use Rattle.std.specs.List.{range_with_len}
 use Rattle.std.proofs.lemmas.Bool.{cases_Bool, ltb-true, ltb-false}
 use Rattle.box_geom.specs.declared.layer.Layer.{Layer}
 use Rattle.box_geom.specs.declared.shape.Shape.{Shape}
 use Rattle.box_geom.specs.Rectangle.{Rectangle}
-use Rattle.gds_record.specs.declared.types.RecordType.{RecordType}
 use Rattle.gds_record.specs.declared.types.RecordType.TheVariants as record_type
-use Rattle.gds_record.specs.Types.{type_numbered}
 use Rattle.gds_record.specs.Records.{Item}
 use Rattle.gds_area.specs.declared.fault.GdsFault.{GdsFault}
 use Rattle.gds_area.specs.declared.fault.GdsFault.TheVariants as fault
-use Rattle.gds_area.specs.declared.units.Grid.{Grid}
 use Rattle.gds_area.specs.declared.area.Area.{Area}
 use Rattle.gds_area.specs.declared.area.Pen.{Pen}
 use Rattle.gds_area.specs.declared.path.Reach.{Reach}
 use Rattle.gds_area.specs.declared.point.Point.{Point}
 use Rattle.gds_area.specs.declared.taken.Taken.{Taken}
-use Rattle.gds_area.specs.declared.taken.Around.{Around}
-use Rattle.gds_area.specs.declared.taken.Frame.{Frame}
 use Rattle.gds_area.specs.Points.{has_slant, closed}
 use Rattle.gds_area.specs.EvenOdd.{inside_walk, boundary_rectangles}
 use Rattle.gds_area.specs.Paths.{path_areas}
 use Rattle.gds_area.specs.Areas.{area_of, has_some, shape_of, shapes_of}
-use Rattle.gds_area.specs.Taken.{plain, nothing_taken, rectangles, one_reference, both, amount, within_limit, in_order, around_of}
+use Rattle.gds_area.specs.Taken.{nothing_taken, rectangles, both, amount, within_limit, in_order}
 use Rattle.gds_area.proofs.Counting.{within, beyond}
-use Rattle.cell_num.specs.Steps.{◌>>=◌, require, or_fault}
-use Rattle.gds_read.specs.declared.label.Spot.{Spot}
-use Rattle.gds_read.specs.declared.lattice.Counts.{Counts}
-use Rattle.gds_read.specs.declared.lattice.Lattice.{Lattice}
-use Rattle.gds_read.specs.declared.reference.Facing.{Facing}
-use Rattle.gds_read.specs.declared.reference.Array.{Array}
-use Rattle.gds_read.specs.References.{target_in, array_of}
-use Rattle.gds_read.specs.Elements.{Element, until, elements_of, layer_of, xy_place, content_of, boundary_areas, areas_along, path_areas_of, areas_of, pen_of, pen_for, drawn_on, text_spot, with_label}
-use Rattle.gds_read.specs.Index.{has_areas, on_layer, covers, element_draws, draws}
-use Rattle.gds_read.specs.Flat.{File, Below, file_of, row_of, copies_of, referred, drawn_around, text_by, element_by, one_level, flat, record_in, inside_copy, in_copy}
-use Rattle.gds_read.specs.Structure.{trimmed}
+use Rattle.cell_num.specs.Steps.{◌>>=◌}
+use Rattle.gds_read.specs.Elements.{layer_of, xy_place, boundary_areas, areas_along, path_areas_of, drawn_on}
+use Rattle.gds_read.specs.Index.{has_areas, on_layer, covers}
 use Rattle.gds_read.proofs.Drawings.{amount_both, taken_is}
 
 -- ---- what an element covers, whatever the place of its points

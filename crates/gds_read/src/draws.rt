@@ -103,7 +103,8 @@ fn element_draws(
 pub fn draws(alloc: Global, bytes: &[u8], rec: &GdsRec, labels: bool) -> Result<bool, NoMemory>
     requires size { length bytes.now ≤ MOST_BYTES }
     requires place { rec.now.next ≤ length bytes.now }
-    ensures { IfOk result (λ some. some ≡ draws labels (type_numbered rec.now.code) (items_from bytes.now rec.now.next)) }
+    ensures { IfOk result (λ some.
+        some ≡ draws labels (type_numbered rec.now.code) (items_from bytes.now rec.now.next)) }
 {
     match RecordType::numbered(rec.code) {
         Some(kind) => element_draws(alloc, bytes, kind, rec, labels),
