@@ -97,6 +97,9 @@ def wrong_bodies():
 
 
 def main():
+    if {"-h", "--help"} & set(sys.argv[1:]):
+        print(__doc__)
+        return 0
     with open(os.path.join(TOP, "docs", "PROOFS.md"), encoding="utf-8") as file:
         page = file.read()
     rows = [match.groups() for match in map(ROW.match, page.split("\n")) if match]

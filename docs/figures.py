@@ -631,6 +631,8 @@ def draw_inverter():
 
 
 if __name__ == "__main__":
+    if {"-h", "--help"} & set(sys.argv[1:]):
+        sys.exit(print(__doc__))
     os.makedirs(FIGURES, exist_ok=True)
     for draw in (draw_nand2, draw_inverters, draw_ring, draw_pairs, draw_ends, draw_latch, draw_inverter):
         draw()

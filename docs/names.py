@@ -61,6 +61,9 @@ def lost(page):
 
 
 def main():
+    if {"-h", "--help"} & set(sys.argv[1:]):
+        print(__doc__)
+        return 0
     page = text_of(os.path.join(TOP, "docs", "CHANGING.md"))
     names = list(lost(page))
     print(*[f"not there: {name}\n" for name in names], sep="", end="")

@@ -4,7 +4,8 @@
     examples/hostile_lef.py [--program PROGRAM] [--bytes N] [CASE ..]
 
 Each call has to end with the answer that the manual names, in SECONDS of processor time and MEBIBYTES of memory at most. It prints
-a line a case with what it took, and ends with 1 where one fails. The inverter is made by the same program.
+a line a case with what it took, and ends with 1 where one fails. The inverter is made by the same program. Less memory than this
+script's own, some 20 MiB, can't be seen.
 """
 import argparse
 import os
@@ -90,6 +91,19 @@ def cases(lef, size):
     yield "long", lambda: b" " * ((64 << 20) + 1), 10, b""
 
 
+def write(file, text):
+    """Has another process make and write the text: a program that is begun later counts what its parent holds then as its own memory."""
+    child = os.fork()
+    if not child:
+        try:
+            file.write_bytes(text())
+            os._exit(0)
+        finally:
+            os._exit(1)
+    if os.waitpid(child, 0)[1]:
+        sys.exit(f"{file} can't be written")
+
+
 def took(words, folder):
     """Status, output, processor seconds and mebibytes."""
     with tempfile.TemporaryFile() as told:
@@ -115,7 +129,7 @@ def main():
         for name, text, status, line in cases(lef, options.bytes):
             if options.cases and name not in options.cases:
                 continue
-            (room / "hostile.lef").write_bytes(text())
+            write(room / "hostile.lef", text)
             ended, told, seconds, mebibytes = took([program, "agree", "-", "inv.gds", "hostile.lef", "inv"], room)
             lines = [*told.split(b"\n"), b"", b""]
             as_told = ended in (0, 13) if status is None else ended == status and lines[1].startswith(line)

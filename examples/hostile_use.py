@@ -6,10 +6,12 @@
 Each call has to end with a status of the manual and not by a signal, and no file may look whole that is not. It prints a line a
 case and ends with 1 where one fails. Cases that need root, as a full disk does, or a C compiler are passed over without it.
 """
+import argparse
 import os
 import pathlib
 import resource
 import shutil
+import signal
 import subprocess
 import sys
 import tempfile
@@ -17,7 +19,9 @@ import threading
 import time
 
 TOP = pathlib.Path(__file__).resolve().parent.parent
-PROGRAM = str(pathlib.Path(sys.argv[1] if len(sys.argv) > 1 else TOP / "crates/cellgen/out/cellgen").resolve())
+ASKED = argparse.ArgumentParser(description=__doc__, formatter_class=argparse.RawDescriptionHelpFormatter)
+ASKED.add_argument("program", nargs="?", default=TOP / "crates/cellgen/out/cellgen")
+PROGRAM = str(pathlib.Path(ASKED.parse_args().program).resolve())
 sys.dont_write_bytecode = True
 sys.path.insert(0, str(TOP / "benchmarks"))
 import inputs  # noqa: E402 (the benchmarks' cells)
@@ -26,8 +30,9 @@ INVERTER = str(TOP / "examples/inv.sp")
 MAKE = ["make", "-", INVERTER, "inv", "out"]
 
 
-def run(words, folder, limits=(), nobody=False, **more):
+def run(words, folder, limits=(), nobody=False, ignored=False, **more):
     def prepare():
+        signal.signal(signal.SIGXFSZ, signal.SIG_IGN if ignored else signal.SIG_DFL)
         for limit, most in limits:
             resource.setrlimit(limit, (most, most))
         if nobody:
@@ -92,6 +97,27 @@ def full_disk(folder):
         before = all(made.get(name) == wanted[name] for name in names[: max(len(made) - 1, 0)])
         if ended.returncode not in (0, 3) or not fronts or not before or list(made) != names[: len(made)] and sorted(made) != names[: len(made)]:
             return False
+    return True
+
+
+def small_files(folder):
+    """The system cuts files: status 3 where the signal XFSZ is ignored, as `./cellgen` does, and else the signal. Each file is whole,
+    a front, or not there."""
+    whole = pathlib.Path(folder) / "whole"
+    whole.mkdir()
+    run(MAKE, whole)
+    wanted = files(whole)
+    for ignored in (True, False):
+        for most in range(0, 9000, 500):
+            room = pathlib.Path(folder) / f"f{most}-{ignored}"
+            room.mkdir()
+            ended = run(MAKE, room, limits=[(resource.RLIMIT_FSIZE, most)], ignored=ignored)
+            made = files(room)
+            cut = most < max(map(len, wanted.values()))
+            if ended.returncode != ((3 if ignored else -signal.SIGXFSZ) if cut else 0):
+                return False
+            if not all(wanted[name].startswith(front) and len(front) <= most for name, front in made.items()):
+                return False
     return True
 
 
@@ -206,7 +232,7 @@ def not_a_file(folder):
 
 def main():
     bad = 0
-    for case in (full_output, closed_pipe, no_folder, kept_folder, full_disk, little_memory, each_allocation, small_stack, changing_file, not_a_file):
+    for case in (full_output, closed_pipe, no_folder, kept_folder, full_disk, small_files, little_memory, each_allocation, small_stack, changing_file, not_a_file):
         with tempfile.TemporaryDirectory() as folder:
             os.chmod(folder, 0o755)
             well = case(folder)

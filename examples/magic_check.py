@@ -148,6 +148,9 @@ def check(lines, name, made, has_taps):
 
 
 def main():
+    if {"-h", "--help"} & set(sys.argv[1:]):
+        print(__doc__)
+        return
     words = sys.argv[1:]
     has_taps = words[:1] == ["--taps"]
     if len(words) != 2 + has_taps:

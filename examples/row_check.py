@@ -7,6 +7,7 @@ The files go to FOLDER: lib.sp, row.toml, and row.gds, in which a structure `six
 Magic have to find the netlist of the six cells in it, Magic no broken rule (its 6.5.b is void), and `extract` as many nets and devices. The program is
 PROGRAM of the environment, or cellgen of the repository. It ends with 1 where one of them finds something else.
 """
+import argparse
 import os
 import pathlib
 import subprocess
@@ -48,9 +49,9 @@ def klayout(room):
 
 
 def main():
-    if len(sys.argv) != 2:
-        sys.exit(__doc__)
-    room, program = pathlib.Path(sys.argv[1]).resolve(), os.environ.get("PROGRAM", str(TOP / "cellgen"))
+    asked = argparse.ArgumentParser(description=__doc__, formatter_class=argparse.RawDescriptionHelpFormatter)
+    asked.add_argument("folder")
+    room, program = pathlib.Path(asked.parse_args().folder).resolve(), os.environ.get("PROGRAM", str(TOP / "cellgen"))
     room.mkdir(parents=True, exist_ok=True)
     make(program, room)
     found, wanted = extracted(program, room)

@@ -30,6 +30,9 @@ def netlist(spice, top, cells):
 
 
 def main():
+    if {"-h", "--help"} & set(sys.argv[1:]):
+        print(__doc__)
+        return
     if len(sys.argv) < 5:
         sys.exit(__doc__)
     print(netlist(pathlib.Path(sys.argv[1]), sys.argv[2], sys.argv[3:]), end="")

@@ -161,6 +161,9 @@ def encode(fingers, most):
 
 
 def main():
+    if {"-h", "--help"} & set(sys.argv[1:]):
+        print(__doc__)
+        return
     if len(sys.argv) != 4:
         sys.exit(__doc__)
     path, name, most = sys.argv[1:]

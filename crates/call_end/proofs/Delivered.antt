@@ -1,12 +1,12 @@
 -- Files made in order, from what each call of the desk did.
-use Rattle.std.proofs.Common.{ℕ, ◌≡◌, ◌⊎◌, List, [], ◌∷◌, Option, Some, None, ◌+◌, ◌<◌, ◌≤◌, drop, get_or, Result, Ok, Err, OnErr, length, string_bytes, inl, inr, refl, sym, ap, ◌∙◌, arith, subst}
+use Rattle.std.proofs.Common.{ℕ, suc, ◌≡◌, ◌⊎◌, List, [], ◌∷◌, ◌++◌, append-nil, append_assoc, take, Option, Some, None, ◌+◌, ◌<◌, ◌≤◌, drop, get_or, Result, Ok, Err, OnErr, OnOk, length, string_bytes, inl, inr, refl, sym, ap, ◌∙◌, arith, subst}
 use Rattle.std.proofs.lemmas.List.{drop_more}
-use Rattle.cell_io.specs.Desk.{Files, View, Both, ForSome, AddsPart, WrittenIn, OnlyMakes, Rose}
+use Rattle.cell_io.specs.Desk.{Files, View, Both, ForSome, AddsPart, CreatesOne, WrittenIn, OnlyMakes, Rose}
 use Rattle.call_end.specs.declared.end.Output.{Output}
 use Rattle.call_end.specs.declared.end.End.{End}
 use Rattle.call_end.specs.declared.status.Status.{Status}
 use Rattle.call_end.specs.End.{leaves}
-use Rattle.call_end.specs.Deliver.{GivesUp, Makes, MakesAll, MakesSome, Tells}
+use Rattle.call_end.specs.Deliver.{CreatesAll, CreatesFront, GivesUp, Makes, MakesAll, MakesSome, Tells, names_of}
 use Rattle.log_output.specs.Giving.{GivesSome, OnlyPuts}
 use Rattle.log_output.proofs.Giving.{said_some}
 
@@ -22,6 +22,10 @@ next_file files i file within is = drop_more files i file within ∙ ap (λ (f :
 pub on_err : {A E : Type 0} (r : Result A E) (X : Type 0) → X → OnErr r X
 on_err (Ok x) X h = tt
 on_err (Err e) X h = h
+
+pub on_ok : {A E : Type 0} (r : Result A E) (X : Type 0) → X → OnOk r X
+on_ok (Ok x) X h = h
+on_ok (Err e) X h = tt
 
 pub all_none : (a : Option Files) → Both (MakesAll []) a a
 all_none None = tt
@@ -54,6 +58,40 @@ some_here file later None (Some y) (inr front) = absurd front
 some_here file later (Some x) None (inl is) = cc
 some_here file later (Some x) None (inr front) = absurd front
 
+-- ---- creations
+
+pub created_none : (a : Option (List (List ℕ))) → Both (CreatesAll []) a a
+created_none None = tt
+created_none (Some names) = sym (append-nil names)
+
+-- a file is created, and then the later ones
+pub created_more : (file : Output) (later : List Output) (a b c : Option (List (List ℕ))) → Both (CreatesOne (string_bytes file.name)) a b → Both (CreatesAll later) b c → Both (CreatesAll (file ∷ later)) a c
+created_more file later None None None one more = tt
+created_more file later (Some x) (Some y) (Some z) one more = more ∙ ap (λ (names : List (List ℕ)). names ++ names_of later) one ∙ append_assoc x (string_bytes file.name ∷ []) (names_of later)
+created_more file later None None (Some z) one more = absurd more
+created_more file later None (Some y) c one more = absurd one
+created_more file later (Some x) None c one more = absurd one
+created_more file later (Some x) (Some y) None one more = absurd more
+
+pub front_more : (file : Output) (later : List Output) (a b c : Option (List (List ℕ))) → Both (CreatesOne (string_bytes file.name)) a b → Both (CreatesFront later) b c → Both (CreatesFront (file ∷ later)) a c
+front_more file later None None None one more = tt
+front_more file later (Some x) (Some y) (Some z) one (count, more) = (suc count, more ∙ ap (λ (names : List (List ℕ)). names ++ take count (names_of later)) one ∙ append_assoc x (string_bytes file.name ∷ []) (take count (names_of later)))
+front_more file later None None (Some z) one more = absurd more
+front_more file later None (Some y) c one more = absurd one
+front_more file later (Some x) None c one more = absurd one
+front_more file later (Some x) (Some y) None one more = absurd more
+
+pub front_here : (file : Output) (later : List Output) (a b : Option (List (List ℕ))) → (b ≡ a) ⊎ Both (CreatesOne (string_bytes file.name)) a b → Both (CreatesFront (file ∷ later)) a b
+front_here file later None None h = tt
+front_here file later (Some x) (Some y) (inl is) =
+    let same : y ≡ x = cc in
+    (0, same ∙ sym (append-nil x))
+front_here file later (Some x) (Some y) (inr one) = (1, one)
+front_here file later None (Some y) (inl is) = cc
+front_here file later None (Some y) (inr one) = absurd one
+front_here file later (Some x) None (inl is) = cc
+front_here file later (Some x) None (inr one) = absurd one
+
 -- an end without files makes none
 pub none_made : (a b : Option Files) → Both (MakesAll []) a b → b ≡ a
 none_made None None h = refl
@@ -71,11 +109,12 @@ pub makes_trans : (a b c : View) → OnlyMakes a b → OnlyMakes b c → OnlyMak
 makes_trans a b c x y = record { given = y.given ∙ x.given; said = y.said ∙ x.said; reads = y.reads ∙ x.reads; writes = omega (arith, x.writes, y.writes); shorts = omega (arith, x.shorts, y.shorts) }
 
 -- all files are made, but only a front of the report is said
-pub report_some : (end : End) (answer : Status) (a b c : View) → OnlyMakes a b → Both (MakesAll end.files) a.made b.made → OnlyPuts None b c → GivesSome None end.report b c → GivesUp answer a c → Tells end answer a c
-report_some end answer a b c makes all only some gives =
+pub report_some : (end : End) (answer : Status) (a b c : View) → OnlyMakes a b → Both (MakesAll end.files) a.made b.made → Both (CreatesAll end.files) a.created b.created → OnlyPuts None b c → GivesSome None end.report b c → GivesUp answer a c → Tells end answer a c
+report_some end answer a b c makes all created only some gives =
     let made : Both (MakesAll end.files) a.made c.made = subst (λ (files : Option Files). Both (MakesAll end.files) a.made files) (sym only.made) all in
     let said : Both (ForSome end.report (AddsPart end.report)) a.said c.said = subst (λ (text : Option (List ℕ)). Both (ForSome end.report (AddsPart end.report)) text c.said) makes.said (said_some end.report b c some) in
-    inr (gives, inr (made, said))
+    let names : Both (CreatesAll end.files) a.created c.created = subst (λ (names : Option (List (List ℕ))). Both (CreatesAll end.files) a.created names) (sym only.created) created in
+    inr (gives, inr (made, said, names))
 
 -- ---- an end with files
 

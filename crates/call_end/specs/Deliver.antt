@@ -1,5 +1,5 @@
 -- How an end is told: its files are made in order, then its report is said.
-use Rattle.std.specs.Prelude.{ℕ, ◌≡◌, ◌≤◌, ◌⊎◌, List, [], ◌∷◌, ◌++◌, Some, string_bytes}
+use Rattle.std.specs.Prelude.{ℕ, ◌≡◌, ◌≤◌, ◌⊎◌, List, [], ◌∷◌, ◌++◌, Some, string_bytes, map, take}
 use Rattle.cell_io.specs.Desk.{Files, View, Both, Sets, AddsPart, ForSome, WrittenIn, Rose}
 use Rattle.call_end.specs.declared.end.End.{End}
 use Rattle.call_end.specs.declared.end.Output.{Output}
@@ -25,20 +25,35 @@ MakesSome [] old new = ⊥
 MakesSome (file ∷ later) old new =
     MakesFront file old new ⊎ ((mid : Files) × Makes file old mid × MakesSome later mid new)
 
+-- the names of files, in order
+abbrev pub names_of : List Output → List (List ℕ)
+names_of files = map (λ file. string_bytes file.name) files
+
+-- each file was created once, in order, and no other was
+abbrev pub CreatesAll : List Output → List (List ℕ) → List (List ℕ) → Type 0
+CreatesAll files old new = new ≡ old ++ names_of files
+
+-- so it is of the first ones, and none behind them was created
+abbrev pub CreatesFront : List Output → List (List ℕ) → List (List ℕ) → Type 0
+CreatesFront files old new = (count : ℕ) × (new ≡ old ++ take count (names_of files))
+
 -- the text was added
 abbrev pub Says : List ℕ → List ℕ → List ℕ → Type 0
 Says text old new = new ≡ old ++ text
 
--- with its own status, all its files and its report
+-- with its own status, all its files, each created once, and its report
 abbrev pub TellsWhole : End → Status → View → View → Type 0
 TellsWhole end answer old new =
     (answer ≡ end.status) × Both (MakesAll end.files) old.made new.made × Both (Says end.report) old.said new.said
+    × Both (CreatesAll end.files) old.created new.created
 
--- some of its files and nothing of its report, or all files and a front of the report
+-- some of its files, each created at most once, and nothing of its report, or all files and a front of the report
 abbrev pub TellsSome : End → View → View → Type 0
 TellsSome end old new =
-    (Both (MakesSome end.files) old.made new.made × (new.said ≡ old.said))
-    ⊎ (Both (MakesAll end.files) old.made new.made × Both (ForSome end.report (AddsPart end.report)) old.said new.said)
+    (Both (MakesSome end.files) old.made new.made × (new.said ≡ old.said)
+    × Both (CreatesFront end.files) old.created new.created)
+    ⊎ (Both (MakesAll end.files) old.made new.made × Both (ForSome end.report (AddsPart end.report)) old.said new.said
+    × Both (CreatesAll end.files) old.created new.created)
 
 -- writing failed, or the desk found no memory
 abbrev pub GivesUp : Status → View → View → Type 0

@@ -1,9 +1,9 @@
 ghost use Rattle.std.specs.Prelude.{◌≡◌, ◌≢◌, ◌⊎◌, OnOk, OnErr, IsErrOf, string_bytes};
-ghost use Rattle.cell_io.specs.Desk.{Both, ForSome, OnlyMakes, Rose, WrittenIn};
+ghost use Rattle.cell_io.specs.Desk.{Both, CreatesOne, ForSome, OnlyMakes, Rose, WrittenIn};
 ghost use Rattle.cell_io.specs.declared.output.WriteFault.TheVariants.{Failed, NoMemory};
 ghost use Rattle.log_output.specs.Giving.{KeepsUntold};
 ghost use Rattle.call_end.specs.declared.status.Status.TheVariants as status;
-ghost use Rattle.call_end.specs.Deliver.{Makes, MakesAll, MakesSome, OnlyTells, Tells};
+ghost use Rattle.call_end.specs.Deliver.{CreatesAll, CreatesFront, Makes, MakesAll, MakesSome, OnlyTells, Tells};
 
 use crate::end::{End, Output, OutputList};
 use crate::status::Status;
@@ -16,6 +16,10 @@ fn make_file<D: Desk>(desk: &mut D, file: Output) -> Result<(), WriteFault>
     ensures some { OnErr result (((D.view desk.new).made ≡ (D.view desk.old).made)
         ⊎ Both (ForSome file.bytes (WrittenIn (string_bytes file.name) file.bytes))
         (D.view desk.old).made (D.view desk.new).made) }
+    ensures once { OnOk result
+        (Both (CreatesOne (string_bytes file.name)) (D.view desk.old).created (D.view desk.new).created) }
+    ensures at_most_once { OnErr result (((D.view desk.new).created ≡ (D.view desk.old).created)
+        ⊎ Both (CreatesOne (string_bytes file.name)) (D.view desk.old).created (D.view desk.new).created) }
     ensures failed { IsErrOf result Failed → Rose (D.view desk.old).write_faults (D.view desk.new).write_faults }
     ensures memory { IsErrOf result NoMemory → Rose (D.view desk.old).shorts (D.view desk.new).shorts }
     ensures counts { KeepsUntold result (D.view desk.old) (D.view desk.new) }
@@ -37,6 +41,9 @@ fn make_file<D: Desk>(desk: &mut D, file: Output) -> Result<(), WriteFault>
 fn make_files<D: Desk>(desk: &mut D, files: OutputList) -> Result<(), WriteFault>
     ensures all { OnOk result (Both (MakesAll files) (D.view desk.old).made (D.view desk.new).made) }
     ensures some { OnErr result (Both (MakesSome files) (D.view desk.old).made (D.view desk.new).made) }
+    ensures once { OnOk result (Both (CreatesAll files) (D.view desk.old).created (D.view desk.new).created) }
+    ensures at_most_once { OnErr result
+        (Both (CreatesFront files) (D.view desk.old).created (D.view desk.new).created) }
     ensures failed { IsErrOf result Failed → Rose (D.view desk.old).write_faults (D.view desk.new).write_faults }
     ensures memory { IsErrOf result NoMemory → Rose (D.view desk.old).shorts (D.view desk.new).shorts }
     ensures counts { KeepsUntold result (D.view desk.old) (D.view desk.new) }
@@ -48,7 +55,7 @@ fn make_files<D: Desk>(desk: &mut D, files: OutputList) -> Result<(), WriteFault
     Ok(())
 }
 
-/// Makes the files of an end in order, then says its report. It takes no memory but what the desk itself takes.
+/// Makes the files of an end in order, each once, then says its report. It takes no memory but what the desk itself takes.
 pub fn deliver<D: Desk>(desk: &mut D, end: End) -> Status
     ensures tells { Tells end result (D.view desk.old) (D.view desk.new) }
     // A failing call of the desk ends it: a count is as before wherever the status tells of no such failure.

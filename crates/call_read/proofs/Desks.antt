@@ -9,12 +9,13 @@ use Rattle.call_read.specs.Sources.{Source, MayRead}
 use Rattle.call_read.proofs.Reading.{came_on, came_refused, came_wider}
 
 pub only_refl : (a : View) → OnlyReads a a
-only_refl a = record { given = refl; made = refl; said = refl; reads = omega arith; writes = refl; shorts = refl }
+only_refl a = record { given = refl; made = refl; created = refl; said = refl; reads = omega arith; writes = refl; shorts = refl }
 
 pub only_trans : (a b c : View) → OnlyReads a b → OnlyReads b c → OnlyReads a c
 only_trans a b c x y = record {
   given = y.given ∙ x.given;
   made = y.made ∙ x.made;
+  created = y.created ∙ x.created;
   said = y.said ∙ x.said;
   reads = omega (arith, x.reads, y.reads);
   writes = y.writes ∙ x.writes;

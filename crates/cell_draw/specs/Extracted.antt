@@ -16,7 +16,7 @@ use Rattle.scmos_rules.specs.declared.rules.Deck.{Deck}
 use Rattle.net_extract.specs.Nets.{Site}
 use Rattle.net_extract.specs.Devices.{IsDevice}
 use Rattle.net_extract.specs.Labels.{IsNamed}
-use Rattle.cell_draw.specs.declared.measure.TheConstants.{GATE_LENGTH}
+use Rattle.cell_draw.specs.Measures.{GATE_LENGTH}
 use Rattle.cell_draw.specs.Named.{name_of, AreNamed}
 
 -- all classes of gate cells, each once

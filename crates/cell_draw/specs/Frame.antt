@@ -6,7 +6,7 @@ use Rattle.cell_num.specs.declared.finger.Row.TheVariants.{P, N}
 use Rattle.row_model.specs.declared.column.Placed.{Placed}
 use Rattle.row_model.specs.declared.column.Column.{Column}
 use Rattle.row_model.specs.Arrangement.{place}
-use Rattle.cell_draw.specs.declared.measure.TheConstants.{ROW_EDGE, LEAST_ROW, EDGE_SPACE, LEAST_CHANNEL, TRACK_PITCH}
+use Rattle.cell_draw.specs.Measures.{ROW_EDGE, LEAST_ROW, EDGE_SPACE, LEAST_CHANNEL, TRACK_PITCH}
 use Rattle.cell_draw.specs.declared.layout.Frame.{Frame}
 
 abbrev pub wider : ℕ → Option Placed → ℕ

@@ -7,8 +7,8 @@ use Rattle.box_geom.specs.declared.rect.Rect.{Rect}
 use Rattle.box_geom.specs.declared.shape.Shape.{Shape}
 use Rattle.box_geom.specs.declared.shape.Label.{Label}
 use Rattle.row_compact.specs.Solution.{x_of}
-use Rattle.row_compact.specs.declared.measure.TheConstants.{SIDE_SPACE}
-use Rattle.cell_draw.specs.declared.measure.TheConstants.{END_CAP, RAIL, ROW_EDGE, LEAST_ROW, LEAST_CHANNEL}
+use Rattle.row_compact.specs.Measures.{SIDE_SPACE}
+use Rattle.cell_draw.specs.Measures.{END_CAP, RAIL, ROW_EDGE, LEAST_ROW, LEAST_CHANNEL}
 use Rattle.cell_draw.specs.declared.layout.Frame.{Frame}
 use Rattle.cell_draw.specs.declared.drawing.Drawing.{Drawing}
 use Rattle.cell_draw.specs.Shapes.{cell_height, frame_shapes}

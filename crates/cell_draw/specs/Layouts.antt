@@ -18,8 +18,8 @@ use Rattle.channel_route.specs.declared.routing.Routing.{Routing}
 use Rattle.channel_route.specs.Routing.{holds_line}
 use Rattle.row_compact.specs.Entries.{is_rail}
 use Rattle.row_compact.specs.Solution.{x_of}
-use Rattle.row_compact.specs.declared.measure.TheConstants.{SIDE_SPACE}
-use Rattle.cell_draw.specs.declared.measure.TheConstants.{LABEL_ON_FINGER, LABEL_ON_GATE, LABEL_ON_GND, LABEL_ON_VDD}
+use Rattle.row_compact.specs.Measures.{SIDE_SPACE}
+use Rattle.cell_draw.specs.Measures.{LABEL_ON_FINGER, LABEL_ON_GATE, LABEL_ON_GND, LABEL_ON_VDD}
 use Rattle.cell_draw.specs.declared.layout.Frame.{Frame}
 use Rattle.cell_draw.specs.declared.layout.Strip.{Strip}
 use Rattle.cell_draw.specs.declared.layout.Contact.{Contact}

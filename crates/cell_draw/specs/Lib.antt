@@ -7,6 +7,7 @@ pub mod Frame
 pub mod Framed
 pub mod Laid
 pub mod Layouts
+pub mod Measures
 pub mod Named
 pub mod Shapes
 pub mod Shown

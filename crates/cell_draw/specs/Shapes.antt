@@ -7,7 +7,7 @@ use Rattle.cell_num.specs.declared.finger.Row.TheVariants.{P, N}
 use Rattle.box_geom.specs.declared.shape.Shape.{Shape}
 use Rattle.box_geom.specs.declared.layer.Layer.{Layer}
 use Rattle.box_geom.specs.declared.layer.Layer.TheVariants.{Well, Active, PSelect, NSelect, Poly, Contact as ContactCut, Metal1, Via, Metal2}
-use Rattle.cell_draw.specs.declared.measure.TheConstants.{HALF_CUT, HALF_GATE, HALF_PAD, HALF_METAL, END_CAP, WELL_PAST_ROW, WELL_PAST_SIDE, SELECT_PAST_ROW, SELECT_PAST_SIDE, RAIL, RAIL_GAP, ROW_EDGE, LANDING}
+use Rattle.cell_draw.specs.Measures.{HALF_CUT, HALF_GATE, HALF_PAD, HALF_METAL, END_CAP, WELL_PAST_ROW, WELL_PAST_SIDE, SELECT_PAST_ROW, SELECT_PAST_SIDE, RAIL, RAIL_GAP, ROW_EDGE, LANDING}
 use Rattle.cell_draw.specs.declared.layout.Frame.{Frame}
 use Rattle.cell_draw.specs.declared.layout.Strip.{Strip}
 use Rattle.cell_draw.specs.declared.layout.Contact.{Contact}

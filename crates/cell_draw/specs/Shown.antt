@@ -23,7 +23,7 @@ use Rattle.scmos_rules.specs.declared.rules.Deck.{Deck}
 use Rattle.net_extract.specs.Nets.{Site}
 use Rattle.net_extract.specs.Devices.{IsDevice, IsSomeDevice}
 use Rattle.net_extract.specs.Labels.{IsNamed}
-use Rattle.cell_draw.specs.declared.measure.TheConstants.{GATE_LENGTH, EDGE_SPACE, TRACK_PITCH}
+use Rattle.cell_draw.specs.Measures.{GATE_LENGTH, EDGE_SPACE, TRACK_PITCH}
 use Rattle.cell_draw.specs.Frame.{channel_edge}
 use Rattle.cell_draw.specs.Named.{name_of}
 use Rattle.net_extract.specs.declared.side.Current.TheVariants.{Rightward}

@@ -3,9 +3,9 @@ use Rattle.std.specs.Prelude.{ℕ, ◌+◌, ◌≤◌, ◌<◌, Option, Some, No
 use Rattle.std.specs.List.{All}
 use Rattle.row_model.specs.declared.column.Placed.{Placed}
 use Rattle.row_model.specs.declared.column.Column.{Column}
-use Rattle.row_compact.specs.declared.measure.TheConstants.{SIDE_SPACE}
+use Rattle.row_compact.specs.Measures.{SIDE_SPACE}
 use Rattle.cell_draw.specs.declared.frame.TheConstants.{MOST_X, MOST_Y}
-use Rattle.cell_draw.specs.declared.measure.TheConstants.{EDGE_SPACE}
+use Rattle.cell_draw.specs.Measures.{EDGE_SPACE}
 use Rattle.cell_draw.specs.declared.layout.Frame.{Frame}
 use Rattle.cell_draw.specs.declared.layout.Strip.{Strip}
 use Rattle.cell_draw.specs.declared.layout.Contact.{Contact}

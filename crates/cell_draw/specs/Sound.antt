@@ -7,7 +7,7 @@ use Rattle.row_model.specs.declared.column.Column.{Column}
 use Rattle.row_model.specs.Arrangement.{IsArrangement}
 use Rattle.row_place.specs.declared.placement.Placement.{Placement}
 use Rattle.row_compact.specs.Solution.{x_of}
-use Rattle.row_compact.specs.declared.measure.TheConstants.{SIDE_SPACE, LINE_SPACE}
+use Rattle.row_compact.specs.Measures.{SIDE_SPACE, LINE_SPACE}
 
 -- the row arranges fingers that are sound for the names and the pins, over at most 256 nets
 pub record IsSoundRow (names : List (List ℕ)) (pins : Pins) (row : List Column) : Type 0 where

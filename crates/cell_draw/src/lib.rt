@@ -21,7 +21,7 @@ mod wiring;
 pub use cell::{MOST_SHAPES, draw, draw_base};
 pub use drawing::{DrawFault, Drawing};
 pub use frame::{Edges, MOST_HEIGHT, MOST_TRACKS, MOST_X, MOST_Y, channel_edges};
-pub use laws::extraction_law;
+pub use laws::{extraction_law, limit_numbers, measure_numbers};
 pub use layout::{Bar, Contact, Frame, Gate, Layout, Strip, Tag};
 pub use measure::{
     EDGE_SPACE, END_CAP, GATE_LENGTH, HALF_CUT, HALF_GATE, HALF_METAL, HALF_PAD, LABEL_ON_FINGER,

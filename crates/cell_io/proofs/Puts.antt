@@ -2,20 +2,24 @@
 use Rattle.std.proofs.Common.{ℕ, ◌≡◌, ◌+◌, ◌-◌, ◌∙◌, ap, arith, length-drop, subst, ◌≤◌, List, [], ◌++◌, length, take, drop, Option, Some, None, refl, sym, append_assoc, append-nil, IfSome, Bool, true, false, bytes_eq, if◌then◌else◌, Result, Ok, Err, OnErr}
 use Rattle.std.proofs.Math.Seq.{take-add, take-length}
 use Rattle.std.proofs.lemmas.Slice.Eq.{bytes_eq-Decides}
-use Rattle.cell_io.specs.Desk.{View, Files, Rose, Both, ForSome, AddsPart, AppendedIn, CreatedIn, WrittenIn, Sets, IsHeld, OnlySays, OnlyMakes, IsQuiet, WritingFailed, MemoryFailed}
+use Rattle.cell_io.specs.Desk.{View, Files, Rose, Both, ForSome, AddsPart, AppendedIn, CreatedIn, WrittenIn, CreatesOne, Sets, IsHeld, OnlySays, OnlyAppends, OnlyMakes, IsQuiet, WritingFailed, MemoryFailed}
 use Rattle.cell_io.specs.Output.{Place, Puts, CanPut}
 
 says_none : (v : View) → OnlySays v v
-says_none v = record { given = refl; made = refl; reads = refl; writes = omega arith; shorts = omega arith }
+says_none v = record { given = refl; made = refl; created = refl; reads = refl; writes = omega arith; shorts = omega arith }
 
-makes_none : (v : View) → OnlyMakes v v
-makes_none v = record { given = refl; said = refl; reads = refl; writes = omega arith; shorts = omega arith }
+pub keeps_none : (v : View) → OnlyAppends v v
+keeps_none v = record { given = refl; created = refl; said = refl; reads = refl; writes = omega arith; shorts = omega arith }
 
 says_more : (a b c : View) → OnlySays a b → OnlySays b c → OnlySays a c
-says_more a b c p q = record { given = q.given ∙ p.given; made = q.made ∙ p.made; reads = q.reads ∙ p.reads; writes = omega (arith, p.writes, q.writes); shorts = omega (arith, p.shorts, q.shorts) }
+says_more a b c p q = record { given = q.given ∙ p.given; made = q.made ∙ p.made; created = q.created ∙ p.created; reads = q.reads ∙ p.reads; writes = omega (arith, p.writes, q.writes); shorts = omega (arith, p.shorts, q.shorts) }
 
-pub makes_more : (a b c : View) → OnlyMakes a b → OnlyMakes b c → OnlyMakes a c
-makes_more a b c p q = record { given = q.given ∙ p.given; said = q.said ∙ p.said; reads = q.reads ∙ p.reads; writes = omega (arith, p.writes, q.writes); shorts = omega (arith, p.shorts, q.shorts) }
+pub keeps_more : (a b c : View) → OnlyAppends a b → OnlyAppends b c → OnlyAppends a c
+keeps_more a b c p q = record { given = q.given ∙ p.given; created = q.created ∙ p.created; said = q.said ∙ p.said; reads = q.reads ∙ p.reads; writes = omega (arith, p.writes, q.writes); shorts = omega (arith, p.shorts, q.shorts) }
+
+-- a file that is created and then appended to
+pub makes_then : (a b c : View) → OnlyMakes a b → OnlyAppends b c → OnlyMakes a c
+makes_then a b c p q = record { given = q.given ∙ p.given; said = q.said ∙ p.said; reads = q.reads ∙ p.reads; writes = omega (arith, p.writes, q.writes); shorts = omega (arith, p.shorts, q.shorts) }
 
 -- related step by step, and related over both steps
 both_more : {X : Type 0} (R S T : X → X → Type 0) → ((x y z : X) → R x y → S y z → T x z) → (first before after : Option X) → Both R first before → Both S before after → Both T first after
@@ -76,12 +80,12 @@ held_still_told name bytes at (Some x) None a h = absurd a
 
 pub puts_none : (place : Place) (bytes : List ℕ) (v : View) → Puts place bytes 0 v v
 puts_none None bytes v = (both_same (AddsPart bytes 0) (λ x. sym (append-nil x)) v.said, says_none v)
-puts_none (Some name) bytes v = (both_same (AppendedIn name bytes 0) (appends_none name bytes) v.made, makes_none v)
+puts_none (Some name) bytes v = (both_same (AppendedIn name bytes 0) (appends_none name bytes) v.made, keeps_none v)
 
 -- a front of what is left goes behind the front that was put
 puts_more : (place : Place) (bytes : List ℕ) (at count : ℕ) (a b c : View) → Puts place bytes at a b → Puts place (drop at bytes) count b c → Puts place bytes (at + count) a c
 puts_more None bytes at count a b c p q = (both_more (AddsPart bytes at) (AddsPart (drop at bytes) count) (AddsPart bytes (at + count)) (adds_more bytes at count) a.said b.said c.said p.0 q.0, says_more a b c p.1 q.1)
-puts_more (Some name) bytes at count a b c p q = (both_more (AppendedIn name bytes at) (AppendedIn name (drop at bytes) count) (AppendedIn name bytes (at + count)) (appends_more name bytes at count) a.made b.made c.made p.0 q.0, makes_more a b c p.1 q.1)
+puts_more (Some name) bytes at count a b c p q = (both_more (AppendedIn name bytes at) (AppendedIn name (drop at bytes) count) (AppendedIn name bytes (at + count)) (appends_more name bytes at count) a.made b.made c.made p.0 q.0, keeps_more a b c p.1 q.1)
 
 -- what `&bytes[at..]` is
 rest_is : (bytes : List ℕ) (at : ℕ) → take (length bytes - at) (drop at bytes) ≡ drop at bytes
@@ -102,7 +106,7 @@ puts_stop place bytes at a b c within p q = (at + 0, omega (arith, within), puts
 pub said_nothing : (part : List ℕ) (a b : View) → b.said ≡ a.said → OnlySays a b → Puts None part 0 a b
 said_nothing part a b same only = (subst (λ (said : Option (List ℕ)). Both (AddsPart part 0) a.said said) (sym same) (both_same (AddsPart part 0) (λ x. sym (append-nil x)) a.said), only)
 
-pub appended_nothing : (name part : List ℕ) (a b : View) → b.made ≡ a.made → OnlyMakes a b → Puts (Some name) part 0 a b
+pub appended_nothing : (name part : List ℕ) (a b : View) → b.made ≡ a.made → OnlyAppends a b → Puts (Some name) part 0 a b
 appended_nothing name part a b same only = (subst (λ (made : Option Files). Both (AppendedIn name part 0) a.made made) (sym same) (both_same (AppendedIn name part 0) (appends_none name part) a.made), only)
 
 pub quiet_more : (a b c : View) → IsQuiet a b → IsQuiet b c → IsQuiet a c
@@ -118,10 +122,13 @@ short_after a b c p q = record { rose = subst (λ (count : ℕ). Rose count c.sh
 pub says_some : (bytes : List ℕ) (a b : View) → ForSome bytes (Puts None bytes) a b → Both (ForSome bytes (AddsPart bytes)) a.said b.said × OnlySays a b
 says_some bytes a b some = (both_wider (AddsPart bytes some.0) (ForSome bytes (AddsPart bytes)) (λ x y r. (some.0, some.1, r)) a.said b.said some.2.0, some.2.1)
 
-pub appends_some : (name bytes : List ℕ) (a b : View) → ForSome bytes (Puts (Some name) bytes) a b → Both (ForSome bytes (AppendedIn name bytes)) a.made b.made × OnlyMakes a b
+pub appends_some : (name bytes : List ℕ) (a b : View) → ForSome bytes (Puts (Some name) bytes) a b → Both (ForSome bytes (AppendedIn name bytes)) a.made b.made × OnlyAppends a b
 appends_some name bytes a b some = (both_wider (AppendedIn name bytes some.0) (ForSome bytes (AppendedIn name bytes)) (λ x y r. (some.0, some.1, r)) a.made b.made some.2.0, some.2.1)
 
 -- a file that is made and then appended to
+pub created_once : (name : List ℕ) (first before after : Option (List (List ℕ))) → Both (CreatesOne name) first before → after ≡ before → Both (CreatesOne name) first after
+created_once name first before after one same = rw same one
+
 created_held : (name : List ℕ) (x y : Files) → CreatedIn name x y → IsHeld y name
 created_held name x y made = ([], sets_at name (Some []) x y made)
 

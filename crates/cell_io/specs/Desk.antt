@@ -1,15 +1,16 @@
 -- What contracts see of a desk, and what its calls do to it.
-use Rattle.std.specs.Prelude.{ℕ, ◌≡◌, ◌+◌, ◌-◌, ◌^◌, ◌<◌, ◌≤◌, ◌↔◌, min, List, [], ◌++◌, length, take, drop, Option, Some, None, IsNone, MatchOption, bytes_eq, if◌then◌else◌}
+use Rattle.std.specs.Prelude.{ℕ, ◌≡◌, ◌+◌, ◌-◌, ◌^◌, ◌<◌, ◌≤◌, ◌↔◌, min, List, [], ◌∷◌, ◌++◌, length, take, drop, Option, Some, None, IsNone, MatchOption, bytes_eq, if◌then◌else◌}
 
 -- files by name
 abbrev pub Files : Type 0
 Files = List ℕ → Option (List ℕ)
 
--- the files that reads answer from, the files made and the bytes said, each where the desk tells them; and how often
--- reading, writing and the desk's own growth have failed
+-- the files that reads answer from, the files made, the names of those created, in order and each as often as it was, and
+-- the bytes said, each where the desk tells them; and how often reading, writing and the desk's own growth have failed
 pub record View : Type 0 where
   pub given : Option Files
   pub made : Option Files
+  pub created : Option (List (List ℕ))
   pub said : Option (List ℕ)
   pub read_faults : ℕ
   pub write_faults : ℕ
@@ -34,14 +35,25 @@ pub record MemoryFailed (old new : View) : Type 0 where
 pub record OnlyReads (old new : View) : Type 0 where
   pub given : new.given ≡ old.given
   pub made : new.made ≡ old.made
+  pub created : new.created ≡ old.created
   pub said : new.said ≡ old.said
   pub reads : old.read_faults ≤ new.read_faults
   pub writes : new.write_faults ≡ old.write_faults
   pub shorts : new.shorts ≡ old.shorts
 
--- nothing changed but the files made, and the counts of failed writes and of short memory, which did not fall
+-- nothing changed but the files made and created, and the counts of failed writes and of short memory, which did not
+-- fall
 pub record OnlyMakes (old new : View) : Type 0 where
   pub given : new.given ≡ old.given
+  pub said : new.said ≡ old.said
+  pub reads : new.read_faults ≡ old.read_faults
+  pub writes : old.write_faults ≤ new.write_faults
+  pub shorts : old.shorts ≤ new.shorts
+
+-- the same, and none was created
+pub record OnlyAppends (old new : View) : Type 0 where
+  pub given : new.given ≡ old.given
+  pub created : new.created ≡ old.created
   pub said : new.said ≡ old.said
   pub reads : new.read_faults ≡ old.read_faults
   pub writes : old.write_faults ≤ new.write_faults
@@ -51,6 +63,7 @@ pub record OnlyMakes (old new : View) : Type 0 where
 pub record OnlySays (old new : View) : Type 0 where
   pub given : new.given ≡ old.given
   pub made : new.made ≡ old.made
+  pub created : new.created ≡ old.created
   pub reads : new.read_faults ≡ old.read_faults
   pub writes : old.write_faults ≤ new.write_faults
   pub shorts : old.shorts ≤ new.shorts
@@ -89,6 +102,10 @@ Sets name content old new = (q : List ℕ) → new q ≡ (if bytes_eq q name the
 -- the file is there and empty, the others are as before
 abbrev pub CreatedIn : List ℕ → Files → Files → Type 0
 CreatedIn name old new = Sets name (Some []) old new
+
+-- the name was created once more
+abbrev pub CreatesOne : List ℕ → List (List ℕ) → List (List ℕ) → Type 0
+CreatesOne name old new = new ≡ old ++ name ∷ []
 
 -- the file has the first bytes of the part at its end, the others are as before
 abbrev pub AppendedIn : List ℕ → List ℕ → ℕ → Files → Files → Type 0

@@ -21,6 +21,10 @@ given_files desk = files_of desk.given
 abbrev pub made_files : MemDesk → Files
 made_files desk name = get_by_text desk.made name
 
+-- the names of the files created through it, in order
+abbrev pub created_names : MemDesk → List (List ℕ)
+created_names desk = desk.created.items
+
 abbrev pub said_bytes : MemDesk → List ℕ
 said_bytes desk = desk.said
 
@@ -48,7 +52,7 @@ shorts_of desk = desk.shorts
 
 -- what contracts see of it
 abbrev pub mem_view : MemDesk → View
-mem_view desk = record { given = Some (given_files desk); made = Some (made_files desk); said = Some (said_bytes desk); read_faults = read_faults_of desk; write_faults = write_faults_of desk; shorts = shorts_of desk }
+mem_view desk = record { given = Some (given_files desk); made = Some (made_files desk); created = Some (created_names desk); said = Some (said_bytes desk); read_faults = read_faults_of desk; write_faults = write_faults_of desk; shorts = shorts_of desk }
 
 -- the next call is to fail
 abbrev pub IsToFail : MemDesk → Type 0
@@ -95,4 +99,4 @@ bytes_said desk = desk.said
 
 -- what contracts see of it: its files, and counts that stay at 0
 abbrev pub steady_view : SteadyDesk → View
-steady_view desk = record { given = Some (steady_files desk); made = None; said = None; read_faults = 0; write_faults = 0; shorts = 0 }
+steady_view desk = record { given = Some (steady_files desk); made = None; created = None; said = None; read_faults = 0; write_faults = 0; shorts = 0 }

@@ -1,5 +1,5 @@
 ghost use Rattle.std.specs.Prelude.{◌≡◌, ◌≤◌, ◌<◌, OnOk, length, OnErr, IfOk, IfSome, IsErrOf};
-ghost use Rattle.cell_io.specs.Desk.{View, told, IsMissing, ReadsPart, AddsPart, CreatedIn, AppendedIn, Both, IsHeld, OnlyReads, OnlyMakes, OnlySays, IsQuiet, ReadingFailed, WritingFailed, MemoryFailed};
+ghost use Rattle.cell_io.specs.Desk.{View, told, IsMissing, ReadsPart, AddsPart, CreatedIn, AppendedIn, CreatesOne, Both, IsHeld, OnlyReads, OnlyMakes, OnlyAppends, OnlySays, IsQuiet, ReadingFailed, WritingFailed, MemoryFailed};
 ghost use Rattle.cell_io.specs.declared.desk.DeskAnswer.TheVariants.{Missing, Failed, NoMemory};
 
 /// Why a call of a desk gave up.
@@ -11,9 +11,10 @@ pub enum DeskAnswer {
     NoMemory,
 }
 
-/// Files to read, files that are made, and text that is said. A desk tells its contracts the files
-/// and the text, or leaves them open; its three counts it always tells. A count never falls, and one
-/// that stands at the greatest u64 is read as risen.
+/// Files to read, files that are made, and text that is said. A desk tells its contracts the files, the
+/// names of those created and the text, or leaves them open; its three counts it always tells. A count
+/// never falls, and one that stands at the greatest u64 is read as risen. A call that succeeds raises no
+/// count, and a call that fails raises that of its answer alone.
 pub trait Desk {
     ghost view: { Self → View };
 
@@ -33,6 +34,9 @@ pub trait Desk {
     fn create(&mut self, name: &str) -> Result<(), DeskAnswer>
         ensures made { OnOk result (Both (CreatedIn name.now) (view self.old).made (view self.new).made) }
         ensures refused { OnErr result ((view self.new).made ≡ (view self.old).made) }
+        ensures created { OnOk result
+            (Both (CreatesOne name.now) (view self.old).created (view self.new).created) }
+        ensures uncreated { OnErr result ((view self.new).created ≡ (view self.old).created) }
         ensures failed { IsErrOf result Failed → WritingFailed (view self.old) (view self.new) }
         ensures memory { IsErrOf result NoMemory → MemoryFailed (view self.old) (view self.new) }
         ensures missing { result ≡ Err Missing → ⊥ }
@@ -51,7 +55,7 @@ pub trait Desk {
         ensures failed { IsErrOf result Failed → WritingFailed (view self.old) (view self.new) }
         ensures memory { IsErrOf result NoMemory → MemoryFailed (view self.old) (view self.new) }
         ensures missing { result ≡ Err Missing → ⊥ }
-        ensures only { OnlyMakes (view self.old) (view self.new) }
+        ensures only { OnlyAppends (view self.old) (view self.new) }
         ensures quiet { IfOk result (λ count. 0 < count → IsQuiet (view self.old) (view self.new)) };
 
     /// Says the first bytes of `part`, and answers how many. 0 for a part that is not empty counts as

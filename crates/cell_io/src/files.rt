@@ -1,10 +1,10 @@
 ghost use Rattle.std.specs.Prelude.{◌≡◌, ◌≤◌, ℕ, List as Sequence, length, OnErr, OnOk, option_map};
 ghost use Rattle.std.specs.BTreeMap.{get_by_text};
-ghost use Rattle.cell_io.specs.Desk.{ReadsPart, IsHeld, AppendedIn, CreatedIn};
+ghost use Rattle.cell_io.specs.Desk.{ReadsPart, IsHeld, AppendedIn, CreatedIn, CreatesOne};
 ghost use Rattle.cell_io.specs.Mem.{files_of, IsCopied};
 
 use crate::mem::File;
-use cell_num::{Bytes, List, NoMemory};
+use cell_num::{Bytes, List, Name, NoMemory, copy};
 use std::alloc::Global;
 use std::collections::BTreeMap;
 
@@ -65,5 +65,26 @@ pub(crate) fn create_in(
     match files.insert(key, List::new(alloc)) {
         Ok(_) => Ok(()),
         Err(_) => Err(NoMemory),
+    }
+}
+
+// Makes an empty file, and notes its name behind those noted before.
+pub(crate) fn create_noted(
+    alloc: Global,
+    files: &mut BTreeMap<String, Bytes>,
+    names: &mut Vec<Name>,
+    name: &str,
+) -> Result<(), NoMemory>
+    ensures ok { OnOk result (CreatedIn name.now (get_by_text files.old) (get_by_text files.new)) }
+    ensures err { OnErr result ((q : Sequence ℕ) → get_by_text files.new q ≡ get_by_text files.old q) }
+    ensures noted { OnOk result (CreatesOne name.now names.old.items names.new.items) }
+    ensures unnoted { OnErr result (names.new.items ≡ names.old.items) }
+{
+    let noted = copy(alloc, name.as_bytes())?;
+    names.reserve(1)?;
+    create_in(alloc, files, name)?;
+    match names.push(noted) {
+        Ok(()) => Ok(()),
+        Err(_) => unreachable!(),
     }
 }

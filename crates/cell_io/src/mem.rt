@@ -1,9 +1,9 @@
 ghost use Rattle.std.specs.Prelude.{◌≡◌, ◌<◌, ◌≤◌, ◌+◌, ◌++◌, ◌-◌, ◌^◌, min, [], Contains, ℕ, List as Sequence, None, option_map, Some, length, take, IsTrue, IsNone, IsSome, IfSome, IfOk, IsErrOf, ◌↔◌, OnOk, OnErr};
-ghost use Rattle.cell_io.specs.Desk.{IsHeld, AppendedIn, CreatedIn, OnlyReads, OnlyMakes, OnlySays, ReadingFailed};
-ghost use Rattle.cell_io.specs.Mem.{mem_view, CountsFailed, CountsShort, files_of, given_files, made_files, said_bytes, failing_calls, most_of, next_call, read_faults_of, write_faults_of, shorts_of, IsToFail, IsAfterCall, IsCopied, one_more};
+ghost use Rattle.cell_io.specs.Desk.{IsHeld, AppendedIn, CreatedIn, CreatesOne, OnlyReads, OnlyMakes, OnlyAppends, OnlySays, ReadingFailed};
+ghost use Rattle.cell_io.specs.Mem.{mem_view, CountsFailed, CountsShort, files_of, given_files, made_files, created_names, said_bytes, failing_calls, most_of, next_call, read_faults_of, write_faults_of, shorts_of, IsToFail, IsAfterCall, IsCopied, one_more};
 ghost use Rattle.cell_io.specs.declared.desk.DeskAnswer.TheVariants as answer;
 
-use crate::files::{append_to, copy_part, create_in, find_file};
+use crate::files::{append_to, copy_part, create_noted, find_file};
 use crate::most::Most;
 use crate::{Desk, DeskAnswer};
 use cell_num::{Bytes, List, Name, NoMemory};
@@ -28,6 +28,7 @@ pub struct MemDesk {
     alloc: Global,
     given: FileList,
     made: BTreeMap<String, Bytes>,
+    created: Vec<Name>,
     said: Bytes,
     fail: CallList,
     most: Most,
@@ -49,6 +50,7 @@ impl MemDesk {
     pub fn new(alloc: Global, given: FileList, fail: CallList) -> MemDesk
         ensures given { given_files result ≡ files_of given }
         ensures made { (name : Sequence ℕ) → IsNone (made_files result name) }
+        ensures created { created_names result ≡ [] }
         ensures said { said_bytes result ≡ [] }
         ensures failing { failing_calls result ≡ fail }
         ensures most { most_of result ≡ 2 ^ 64 - 1 }
@@ -61,6 +63,7 @@ impl MemDesk {
             alloc,
             given,
             made: BTreeMap::new(alloc),
+            created: Vec::new(alloc),
             said: List::new(alloc),
             fail,
             most: Most::all(),
@@ -87,6 +90,13 @@ impl MemDesk {
             Some(bytes) => Some(bytes.as_slice()),
             None => None,
         }
+    }
+
+    /// The names of the files that were created, in order, each as often as it was.
+    pub fn created(&self) -> &[Name]
+        ensures { result.now ≡ created_names self.now }
+    {
+        self.created.as_slice()
     }
 
     /// All bytes that were said.
@@ -143,6 +153,8 @@ impl Desk for MemDesk {
         ensures missing { result ≡ Err answer.Missing → ⊥ }
         ensures made { OnOk result (CreatedIn name.now (made_files self.old) (made_files self.new)) }
         ensures refused { OnErr result (made_files self.new ≡ made_files self.old) }
+        ensures created { OnOk result (CreatesOne name.now (created_names self.old) (created_names self.new)) }
+        ensures uncreated { OnErr result (created_names self.new ≡ created_names self.old) }
         ensures counted { CountsFailed result (write_faults_of self.old) (write_faults_of self.new) }
         ensures short_counted { CountsShort result (shorts_of self.old) (shorts_of self.new) }
         ensures only { OnlyMakes (mem_view self.old) (mem_view self.new) }
@@ -151,7 +163,7 @@ impl Desk for MemDesk {
             self.write_faults = self.write_faults.saturating_add(1);
             return Err(DeskAnswer::Failed);
         }
-        match create_in(self.alloc, &mut self.made, name) {
+        match create_noted(self.alloc, &mut self.made, &mut self.created, name) {
             Ok(()) => Ok(()),
             Err(_) => {
                 self.shorts = self.shorts.saturating_add(1);
@@ -172,7 +184,7 @@ impl Desk for MemDesk {
         ensures refused { OnErr result (made_files self.new ≡ made_files self.old) }
         ensures counted { CountsFailed result (write_faults_of self.old) (write_faults_of self.new) }
         ensures short_counted { CountsShort result (shorts_of self.old) (shorts_of self.new) }
-        ensures only { OnlyMakes (mem_view self.old) (mem_view self.new) }
+        ensures only { OnlyAppends (mem_view self.old) (mem_view self.new) }
     {
         let count = self.most.of(part.len());
         if self.fails() {

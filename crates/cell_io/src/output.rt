@@ -1,5 +1,5 @@
 ghost use Rattle.std.specs.Prelude.{◌≡◌, ◌≤◌, ◌<◌, ◌⊎◌, length, Some, option_map, Ok, Err, IsOk, OnOk, OnErr, IfOk, IfSome, IsErrOf};
-ghost use Rattle.cell_io.specs.Desk.{Both, ForSome, AddsPart, AppendedIn, WrittenIn, IsHeld, Sets, IsQuiet, OnlyMakes, OnlySays, WritingFailed, MemoryFailed};
+ghost use Rattle.cell_io.specs.Desk.{Both, ForSome, AddsPart, AppendedIn, CreatesOne, WrittenIn, IsHeld, Sets, IsQuiet, OnlyMakes, OnlyAppends, OnlySays, WritingFailed, MemoryFailed};
 ghost use Rattle.cell_io.specs.Output.{Puts, CanPut, IsSpared};
 ghost use Rattle.cell_io.specs.declared.desk.DeskAnswer.TheVariants as answer;
 ghost use Rattle.cell_io.specs.declared.output.WriteFault.TheVariants.{Failed, NoMemory};
@@ -90,18 +90,21 @@ pub fn append_all<D: Desk>(desk: &mut D, name: &str, bytes: &[u8]) -> Result<(),
     ensures memory { IsErrOf result NoMemory → MemoryFailed (D.view desk.old) (D.view desk.new) }
     ensures quiet { OnOk result (IsQuiet (D.view desk.old) (D.view desk.new)) }
     ensures done { IsSpared (D.view desk.old) (D.view desk.new) → IsOk result }
-    ensures only { OnlyMakes (D.view desk.old) (D.view desk.new) }
+    ensures only { OnlyAppends (D.view desk.old) (D.view desk.new) }
 {
     put_all(desk, Some(name), bytes)
 }
 
-/// Makes the file with exactly these bytes. After a fault it is as before, or, where this call made it,
-/// has a front of them.
-#[tactic(auto, using(crate::proofs::Puts::created_held_told, crate::proofs::Puts::written_whole, crate::proofs::Puts::written_some, crate::proofs::Puts::makes_more, crate::proofs::Puts::quiet_more, crate::proofs::Puts::failed_after, crate::proofs::Puts::short_after))]
+/// Makes the file with exactly these bytes, and creates it once. After a fault it is as before, or, where this call
+/// created it, has a front of them.
+#[tactic(auto, using(crate::proofs::Puts::created_held_told, crate::proofs::Puts::written_whole, crate::proofs::Puts::written_some, crate::proofs::Puts::makes_then, crate::proofs::Puts::created_once, crate::proofs::Puts::quiet_more, crate::proofs::Puts::failed_after, crate::proofs::Puts::short_after))]
 pub fn write_all<D: Desk>(desk: &mut D, name: &str, bytes: &[u8]) -> Result<(), WriteFault>
     ensures ok { OnOk result (Both (Sets name.now (Some bytes.now)) (D.view desk.old).made (D.view desk.new).made) }
     ensures err { OnErr result (((D.view desk.new).made ≡ (D.view desk.old).made)
         ⊎ Both (ForSome bytes.now (WrittenIn name.now bytes.now)) (D.view desk.old).made (D.view desk.new).made) }
+    ensures once { OnOk result (Both (CreatesOne name.now) (D.view desk.old).created (D.view desk.new).created) }
+    ensures at_most_once { OnErr result (((D.view desk.new).created ≡ (D.view desk.old).created)
+        ⊎ Both (CreatesOne name.now) (D.view desk.old).created (D.view desk.new).created) }
     ensures failed { IsErrOf result Failed → WritingFailed (D.view desk.old) (D.view desk.new) }
     ensures memory { IsErrOf result NoMemory → MemoryFailed (D.view desk.old) (D.view desk.new) }
     ensures quiet { OnOk result (IsQuiet (D.view desk.old) (D.view desk.new)) }

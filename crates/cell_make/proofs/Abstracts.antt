@@ -54,16 +54,23 @@ pub record IsDrawnBare (inside : Inputs) (placement : Placement) (routing : Rout
   pub extracts : ExtractsToRow Plain inside.cell.nets inside.cell.pins placement.row drawing.shapes
 
 -- the same of the inputs and the row themselves
-seen_bare : (inputs inside : Inputs) (row : List Column) (placement : Placement) (routing : Routing) (lines : List ℕ) (drawing : Drawing) (height : ℕ) → inside ≡ inputs → placement ≡ placement_of row → height ≡ inputs.tech.height → IsDrawnBare inside placement routing lines drawing height → IsDrawnBare inputs (placement_of row) routing lines drawing inputs.tech.height
+pub seen_bare : (inputs inside : Inputs) (row : List Column) (placement : Placement) (routing : Routing) (lines : List ℕ) (drawing : Drawing) (height : ℕ) → inside ≡ inputs → placement ≡ placement_of row → height ≡ inputs.tech.height → IsDrawnBare inside placement routing lines drawing height → IsDrawnBare inputs (placement_of row) routing lines drawing inputs.tech.height
 seen_bare inputs inside row placement routing lines drawing height same is high h =
     subst (λ (i : Inputs). IsDrawnBare i (placement_of row) routing lines drawing inputs.tech.height) same
     (subst (λ (p : Placement). IsDrawnBare inside p routing lines drawing inputs.tech.height) is
     (subst (λ n. IsDrawnBare inside placement routing lines drawing n) high h))
 
-few_tags : (inputs : Inputs) (row : List Column) (routing : Routing) (lines : List ℕ) (drawing : Drawing) → AreInputs inputs → drawing ≡ drawing_in inputs row routing lines → length drawing.shapes.labels ≤ 256
+pub few_tags : (inputs : Inputs) (row : List Column) (routing : Routing) (lines : List ℕ) (drawing : Drawing) → AreInputs inputs → drawing ≡ drawing_in inputs row routing lines → length drawing.shapes.labels ≤ 256
 few_tags inputs row routing lines drawing are is =
     subst (λ (d : Drawing). length d.shapes.labels ≤ 256) (sym is)
     (omega (arith, few_labels inputs.cell.nets inputs.cell.pins (placement_of row) routing lines inputs.tech.height, are.sound.named, are.fingers.few_nets))
+
+-- the drawing stands in its frame, so that the text of its abstract can be read back
+pub readable_bare : (inputs : Inputs) (placement : Placement) (routing : Routing) (lines : List ℕ) (drawing : Drawing) (height : ℕ) → AreInputs inputs → IsDrawnBare inputs placement routing lines drawing height → IsReadable inputs.cell drawing (unit_nm inputs.tech)
+readable_bare inputs placement routing lines drawing height are seen =
+    readable_drawing inputs.cell _ lines drawing (unit_nm inputs.tech) are.cell are.nets are.pins.named
+    (record { framed = seen.framed; width = omega (arith, seen.narrow); height = seen.low; within = seen.within; limits = seen.limits })
+    (omega (arith, unit_least inputs.tech.lambda_nm are.tech.lambda_least)) (unit_most inputs.tech.lambda_nm are.tech.lambda_most)
 
 -- the drawing that is written is the one without taps, or that one with taps
 written_abstract : (taps : Taps) (inputs : Inputs) (routing : Routing) (lines : List ℕ) (drawing : Drawing) → IsBase lines drawing → HasPorts inputs.cell (ports_in inputs routing drawing) drawing → IsReadable inputs.cell drawing (unit_nm inputs.tech) → IsAbstractOf (final taps drawing lines).shapes inputs.cell.name (unit_nm inputs.tech) (abstract_of inputs routing drawing)
@@ -86,9 +93,7 @@ abstract_so style inputs inside row placement routing lines drawing height same 
       nets = nets;
       rest = rest;
     })
-    (readable_drawing inputs.cell _ lines drawing (unit_nm inputs.tech) are.cell are.nets are.pins.named
-    (record { framed = seen.framed; width = omega (arith, seen.narrow); height = seen.low; within = seen.within; limits = seen.limits })
-    (omega (arith, unit_least inputs.tech.lambda_nm are.tech.lambda_least)) (unit_most inputs.tech.lambda_nm are.tech.lambda_most))
+    (readable_bare inputs (placement_of row) routing lines drawing inputs.tech.height are seen)
 
 -- what is said of the abstract of a drawn row
 pub abstract_made : (style : Style) (inputs : Inputs) (row : List Column) (routing : Routing) (xs : List ℕ) → HasAbstract style inputs row routing xs → IsAbstractOf (final_in style inputs row routing xs).shapes inputs.cell.name (unit_nm inputs.tech) (abstract_of inputs routing (drawing_in inputs row routing xs))

@@ -6,5 +6,6 @@ pub mod LeastLines
 pub mod Makes
 pub mod ReadBack
 pub mod Rings
+pub mod Small
 mod WithLog
 mod Wirings

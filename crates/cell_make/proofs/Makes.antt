@@ -40,13 +40,14 @@ use Rattle.cell_inputs.specs.declared.style.Wiring.{Wiring}
 use Rattle.cell_inputs.specs.declared.style.Wiring.TheVariants.{Straight, Doglegs}
 use Rattle.cell_inputs.specs.Inputs.{Inputs, AreInputs, unit_nm}
 use Rattle.cell_make.specs.Extent.{frame_in}
-use Rattle.cell_make.specs.Making.{AreLeastLines, HasAbstract, IsDrawn, IsRouted, abstract_of, drawing_in, final_in, library_of, ports_in}
+use Rattle.cell_make.specs.Making.{AreLeastLines, AreSmall, HasAbstract, HasSmallFiles, IsDrawn, IsRouted, abstract_of, drawing_in, final_in, library_of, ports_in}
 use Rattle.cell_make.specs.Rows.{ComesFrom}
 use Rattle.cell_make.specs.Style.{AreBodiedBy, AreLegal, AreTight, HasNoRing, HasPinPort, IsToldRing, ShowsWiring, deck_of, final, tapped_by}
 use Rattle.cell_make.specs.Writable.{AreWritable}
-use Rattle.cell_make.proofs.Abstracts.{IsDrawnBare, abstract_so, unit_least, unit_most}
+use Rattle.cell_make.proofs.Abstracts.{IsDrawnBare, abstract_so, seen_bare, unit_least, unit_most}
 use Rattle.cell_make.proofs.Alone.{written_alone}
 use Rattle.cell_make.proofs.ReadBack.{readable}
+use Rattle.cell_make.proofs.Small.{small_so}
 use Rattle.cell_make.proofs.Wirings.{wired_by}
 
 -- ---- what the steps ask; they see the inputs from inside
@@ -105,9 +106,9 @@ pub record IsSoundDrawing (style : Style) (inputs : Inputs) (row : List Column) 
   pub sized : IsSized drawing
   pub readable : IsReadable inputs.cell.name (final style.taps drawing xs).shapes (unit_nm inputs.tech)
 
-is_drawn : (style : Style) (inputs : Inputs) (row : List Column) (routing : Routing) (xs : List ℕ) (drawing : Drawing) → AreInputs inputs → IsRouted style inputs row routing → AreLeastLines (placement_of row) inputs.cell.pins routing xs → (IsTooTall row routing.tracks inputs.tech.height → ⊥) → drawing ≡ drawing_in inputs row routing xs → IsSoundDrawing style inputs row routing xs drawing → IsAbstractOf (final style.taps drawing xs).shapes inputs.cell.name (unit_nm inputs.tech) (abstract_of inputs routing drawing) → IsDrawn style inputs row routing xs
-unfolding HasAbstract
-is_drawn style inputs row routing xs drawing are routed lines fits is sound agrees =
+is_drawn : (style : Style) (inputs : Inputs) (row : List Column) (routing : Routing) (xs : List ℕ) (drawing : Drawing) → AreInputs inputs → IsRouted style inputs row routing → AreLeastLines (placement_of row) inputs.cell.pins routing xs → (IsTooTall row routing.tracks inputs.tech.height → ⊥) → drawing ≡ drawing_in inputs row routing xs → IsSoundDrawing style inputs row routing xs drawing → IsAbstractOf (final style.taps drawing xs).shapes inputs.cell.name (unit_nm inputs.tech) (abstract_of inputs routing drawing) → AreSmall (library_of inputs (final style.taps drawing xs)) (abstract_of inputs routing drawing) → IsDrawn style inputs row routing xs
+unfolding HasAbstract HasSmallFiles
+is_drawn style inputs row routing xs drawing are routed lines fits is sound agrees small =
     let drawn : IsSoundDrawing style inputs row routing xs (drawing_in inputs row routing xs) = subst (λ (d : Drawing). IsSoundDrawing style inputs row routing xs d) is sound in
     record {
       routed = routed;
@@ -126,6 +127,7 @@ is_drawn style inputs row routing xs drawing are routed lines fits is sound agre
       decodes = decodes_so inputs (final_in style inputs row routing xs) are drawn.readable;
       alone = written_alone inputs.cell.name (final_in style inputs row routing xs).shapes (unit_nm inputs.tech) drawn.readable.named drawn.readable.labels;
       agrees = subst (λ (d : Drawing). IsAbstractOf (final style.taps d xs).shapes inputs.cell.name (unit_nm inputs.tech) (abstract_of inputs routing d)) is agrees;
+      small = subst (λ (d : Drawing). AreSmall (library_of inputs (final style.taps d xs)) (abstract_of inputs routing d)) is small;
     }
 
 -- ---- the same, from what the steps see
@@ -204,8 +206,10 @@ drawn_so style inputs inside placement routing drawn height same is high are arr
     let seen = seen_so style inputs inside placement.row placement routing drawn.lines drawn.drawing height same is high h in
     let sound = sound_drawing style inputs placement.row routing drawn.lines drawn.drawing are arranged (subst IsPlacement is placed) routed seen readable in
     let agrees = abstract_so style inputs inside placement.row placement routing drawn.lines drawn.drawing height same is high are arranged (subst IsPlacement is placed) seen.least seen.exact sound.port_nets sound.obstructs bare in
+    let near = seen_bare inputs inside placement.row placement routing drawn.lines drawn.drawing height same is high bare in
+    let small = small_so style inputs placement.row routing drawn.lines drawn.drawing are seen.exact near sound.obstructs readable in
     record {
       placed = is;
-      draws = is_drawn style inputs placement.row routing drawn.lines drawn.drawing are routed seen.least seen.fits seen.exact sound agrees;
+      draws = is_drawn style inputs placement.row routing drawn.lines drawn.drawing are routed seen.least seen.fits seen.exact sound agrees small;
       exact = (seen.exact, tapped);
     }

@@ -78,12 +78,23 @@ HasAbstract style inputs row routing xs =
     IsAbstractOf (final_in style inputs row routing xs).shapes inputs.cell.name (unit_nm inputs.tech)
     (abstract_of inputs routing (drawing_in inputs row routing xs))
 
+-- a library and an abstract, of at most 200,000 bytes each
+pub record AreSmall (library abstract : List ℕ) : Type 0 where
+  pub library : length library ≤ 200000
+  pub abstract : length abstract ≤ 200000
+
+-- So are the library of the shapes that are written and the text of the abstract. It is unfolded where it is wanted.
+unfoldable pub HasSmallFiles : Style → Inputs → List Column → Routing → List ℕ → Type 0
+HasSmallFiles style inputs row routing xs =
+    AreSmall (library_of inputs (final_in style inputs row routing xs))
+    (abstract_of inputs routing (drawing_in inputs row routing xs))
+
 -- What is said of a drawn row. Its channel is routed legally and tightly, its lines stand at the least places, and the
 -- height is enough. The shapes obey every rule, extract net by net to the fingers, and show the row and the routing;
 -- with taps each device's body is its row's rail. The bytes, which have no other structure, decode with the cell's name
 -- and the technology's lambda to these shapes. Each pin has a port, and one for each trunk of its net, every cell of
 -- them is in the pin's net, all other metal obstructs, and the size is that of metal1: these without the taps. The text
--- of the abstract is read as a macro that agrees with the shapes.
+-- of the abstract is read as a macro that agrees with the shapes. Both files are small.
 pub record IsDrawn (style : Style) (inputs : Inputs) (row : List Column) (routing : Routing)
     (xs : List ℕ) : Type 0 where
   pub routed : IsRouted style inputs row routing
@@ -116,6 +127,7 @@ pub record IsDrawn (style : Style) (inputs : Inputs) (row : List Column) (routin
       (final_in style inputs row routing xs).shapes
   pub alone : HasOneStructure (library_of inputs (final_in style inputs row routing xs))
   pub agrees : HasAbstract style inputs row routing xs
+  pub small : HasSmallFiles style inputs row routing xs
 
 -- ---- what making a cell comes to
 

@@ -39,6 +39,10 @@ net_text nets above = name_of nets above.net.0
 abbrev pub piece_text : List (List ℕ) → WireAbove → List ℕ
 piece_text nets piece = name_of nets piece.net.0 ++ codes " from line " ++ decimal piece.left
 
+-- a line for each net of a cycle
+abbrev pub nets_text : List (List ℕ) → List Above → List ℕ
+nets_text nets cycle = cycle_text (net_text nets) (λ above. above.line) cycle
+
 abbrev pub ring_text : List (List ℕ) → Ring → List ℕ
-ring_text nets (OfNets cycle) = cycle_text (net_text nets) (λ above. above.line) cycle
+ring_text nets (OfNets cycle) = nets_text nets cycle
 ring_text nets (OfPieces cycle) = cycle_text (piece_text nets) (λ piece. piece.line) cycle

@@ -7,6 +7,7 @@ mod names;
 mod netlist;
 mod ring;
 mod row;
+mod texts;
 mod violations;
 
 pub use cells::{put_sizes, put_tall};
@@ -14,4 +15,5 @@ pub use logs::{put_checked, put_unfinished};
 pub use netlist::put_netlist;
 pub use ring::put_ring;
 pub use row::{put_plan, put_row};
+pub use texts::{cycle_text, netlist_text, plan_text, violation_text};
 pub use violations::put_violations;

@@ -6,7 +6,7 @@ use cell_num::{Bytes, Names, NoMemory, put_number};
 use channel_route::{Above, Ring, WireAbove};
 
 /// An entry of a cycle.
-trait Entry {
+pub(crate) trait Entry {
     /// How it is told, by the names of the nets.
     ghost told: { Sequence (Sequence ℕ) → Self → Sequence ℕ };
 
@@ -107,7 +107,11 @@ fn put_above<E: Entry>(
 }
 
 // A line for each entry: the entry, the one that it stands above, and the line at which they meet.
-fn put_cycle<E: Entry>(out: &mut Bytes, nets: &Names, cycle: &[E]) -> Result<(), NoMemory>
+pub(crate) fn put_cycle<E: Entry>(
+    out: &mut Bytes,
+    nets: &Names,
+    cycle: &[E],
+) -> Result<(), NoMemory>
     ensures { OnOk result (out.new ≡ out.old ++ cycle_text (E.told nets.now) E.met cycle.now) }
 {
     'entries: for (at, entry) in cycle.iter().enumerate() {

@@ -1,5 +1,5 @@
 ghost use Rattle.std.specs.Prelude.{◌≡◌, ◌≢◌, ◌≤◌, ◌↔◌, ◌⊎◌, IfSome, IsNone, IsTrue};
-ghost use Rattle.cell_io.specs.Desk.{Rose};
+ghost use Rattle.cell_io.specs.Desk.{Both, Rose};
 ghost use Rattle.call_end.specs.declared.end.End.{End as EndOf};
 ghost use Rattle.call_end.specs.declared.status.Status.TheVariants as status;
 ghost use Rattle.agree_run.specs.Agree.{DoesAgree};
@@ -7,6 +7,7 @@ ghost use Rattle.run_laws.specs.Agree.{ComparesMade, HasDisagreement, HasNoNets,
 ghost use Rattle.run_laws.specs.Bench.{IsBench, IsBenchTold, WhereBenchEnds};
 ghost use Rattle.run_laws.specs.Calm.{IfCalm, IsDoneOrShort};
 ghost use Rattle.run_laws.specs.Check.{HoldsAcceptedLog, IsCheck};
+ghost use Rattle.run_laws.specs.Created.{CreatesOnce};
 ghost use Rattle.call_end.specs.Deliver.{Tells, TellsWhole};
 ghost use Rattle.call_work.specs.Ends.{CallsFor, IsOfOutside, MayEnd, is_status_of};
 ghost use Rattle.layout_run.specs.Extract.{BreaksRule, HasNetlist};
@@ -15,7 +16,8 @@ ghost use Rattle.call_work.specs.Commands.{Agreeing, TrailPlanning, read_by};
 ghost use Rattle.run_laws.specs.Ended.{WhereEnds};
 ghost use Rattle.run_laws.specs.Headline.{CanBeDrawn, FromInputs, HasCycle, IsCyclicCell, IsMadeCell, IsOrShort, IsSpentSearch, IsTallCell, IsTooHigh, MakesNone, OfFirstLeast, WhereMakeEnds};
 ghost use Rattle.run_laws.specs.Plan.{HasEnough};
-ghost use Rattle.run_laws.specs.Row.{CanBeRowed, IsMisreadRow, IsRow, IsRowedLibrary, IsStopStatus, IsStoppedRow, IsUnabuttedRow, MayLeaveFile, MayMakeFiles, OfRow, WhereRowEnds};
+ghost use Rattle.run_laws.specs.Row.{CanBeRowed, IsApartOrShort, IsKeptApart, IsMisreadRow, IsRow, IsRowedLibrary, IsStopStatus, IsStoppedRow, IsUnabuttedRow, MayLeaveFile, MayMakeFiles, OfRow, WhereRowEnds};
+ghost use Rattle.row_abut.specs.declared.cell.RowFault.{RowFault};
 ghost use Rattle.run_laws.specs.Trails.{HoldsAcceptedTrails, IsTrailCheck, IsTrailPlanned, IsTrailUnfinished, IsTrailUnmade};
 ghost use Rattle.call_read.specs.Sources.{Lacks};
 ghost use Rattle.call_words.specs.Words.{asked};
@@ -98,6 +100,8 @@ pub fn run<D: Desk>(alloc: Global, words: &[String], desk: &mut D) -> Status
     ensures unmade { result ≡ status.NoMemory
         → Rose (D.view desk.old).shorts (D.view desk.new).shorts
         ⊎ ((D.view desk.new).made ≡ (D.view desk.old).made) }
+    // No file is created twice, whatever the end is. (That they are those of the end, in order, is said by `ends`.)
+    ensures once { Both CreatesOnce (D.view desk.old).created (D.view desk.new).created }
 
     // What `make` leaves behind: the drawing of the first least row, certified; or a cycle of that row; or the
     // height that it needs; or the log of a search that spent its budget.
@@ -202,9 +206,13 @@ pub fn run<D: Desk>(alloc: Global, words: &[String], desk: &mut D) -> Status
     ensures unabutted { IfSome (D.view desk.old).given (λ files. WhereRowEnds files (asked words.now) result
         status.Row (λ r out. IsUnabuttedRow r (D.view desk.old) (D.view desk.new))) }
 
-    // Where the cells can be made and stand side by side, it is done, or memory ran out.
+    // Where the cells can be made and stand side by side, it is done, or memory ran out; where they can be made and a
+    // fault keeps them apart, it ends with 12 and tells that fault, or memory ran out.
     ensures rows { IfCalm (D.view desk.old) (D.view desk.new) (λ files.
         OfRow files (asked words.now) (λ r out. CanBeRowed r) → IsDoneOrShort result) }
+    ensures unabuts { IfCalm (D.view desk.old) (D.view desk.new) (λ files. (fault : RowFault)
+        → OfRow files (asked words.now) (λ r out. IsKeptApart r fault)
+        → IsApartOrShort fault result (D.view desk.old) (D.view desk.new)) }
 
     // What `bench` tells: the counts of what making each generated cell comes to. It is done, or writing failed, or
     // memory ran out.

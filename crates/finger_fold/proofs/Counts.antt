@@ -99,7 +99,7 @@ length_more row tech xs ys = ap length (fingers_append row tech xs ys) ∙ lengt
 pub some_width : (cell : Subckt) → IsSubckt cell → All (λ (d : Device). 0 < d.width) cell.devices
 some_width cell holds = All-weaker (IsDevice (length cell.nets) cell.pins) (λ (d : Device). 0 < d.width) (λ d h. omega (arith, h.least)) cell.devices holds.devices
 
--- ---- a subcircuit has a finger
+-- ---- a subcircuit with a transistor has a finger
 
 first_some : (tech : Technology) (d : Device) (ds : List Device) (own : Row) → d.row ≡ own → IsTechnology tech → 0 < d.width → 1 ≤ length (fingers_in P tech (d ∷ ds)) + length (fingers_in N tech (d ∷ ds))
 first_some tech d ds P e limits units = omega (arith, length_more P tech (d ∷ []) ds, length_in_row P tech d limits e, count_positive tech d limits units)
@@ -109,5 +109,5 @@ some_in_rows : (tech : Technology) (ds : List Device) → IsTechnology tech → 
 some_in_rows tech [] limits some units = absurd (omega (arith, some))
 some_in_rows tech (d ∷ ds) limits some units = first_some tech d ds d.row refl limits (All-head (λ (d : Device). 0 < d.width) d ds units)
 
-pub some_fingers : (tech : Technology) (cell : Subckt) (f : Fingers) → IsTechnology tech → IsSubckt cell → f ≡ all_fingers tech cell → 1 ≤ length f.p + length f.n
-some_fingers tech cell f limits h e = rw e (some_in_rows tech cell.devices limits h.some (some_width cell h))
+pub some_fingers : (tech : Technology) (cell : Subckt) (f : Fingers) → IsTechnology tech → IsSubckt cell → f ≡ all_fingers tech cell → 1 ≤ length cell.devices → 1 ≤ length f.p + length f.n
+some_fingers tech cell f limits h e some = rw e (some_in_rows tech cell.devices limits some (some_width cell h))

@@ -84,9 +84,9 @@ pub fn fold(alloc: Global, cell: &Subckt, tech: &Tech) -> Result<Fingers, FoldFa
     // Memory alone makes it NoMemory: the definition never answers so.
     ensures told { folded tech.now cell.now ≢ Err fault.NoMemory }
 
-    // What the layers above ask of fingers, and that these are the cell's. There is one in a row at least.
+    // What the layers above ask of fingers, and that these are the cell's. Where it has a transistor, there is a finger.
     ensures asked { IfOk result (λ f. AreFingers f) }
-    ensures some { IfOk result (λ f. 1 ≤ length f.p + length f.n) }
+    ensures some { IfOk result (λ f. 1 ≤ length cell.now.devices → 1 ≤ length f.p + length f.n) }
     ensures few_p { IfOk result (λ f. length f.p ≤ MOST_IN_A_ROW) }
     ensures few_n { IfOk result (λ f. length f.n ≤ MOST_IN_A_ROW) }
     ensures sound { IfOk result (λ f. AreSound cell.now.nets cell.now.pins f) }

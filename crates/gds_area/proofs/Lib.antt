@@ -1,6 +1,8 @@
 pub mod Ascending
 pub mod Counting
+pub mod Enclosing
 pub mod Moved
+pub mod MovesAfter
 pub mod PointLists
 pub mod Putting
 pub mod Rows

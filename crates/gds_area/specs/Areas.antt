@@ -1,6 +1,6 @@
 -- What an element draws is first a list of areas in halves of a file unit, so that half a width is a
 -- whole number of them. In the end each is a rectangle of whole grid units.
-use Rattle.std.specs.Prelude.{◌≡◌, ℤ, pos, ◌*ℤ◌, List, [], ◌∷◌, ◌++◌, length, nat_lt, if◌then◌else◌, Option, Some, None, Result, Ok, Err}
+use Rattle.std.specs.Prelude.{◌≡◌, Bool, true, false, ℤ, pos, ◌*ℤ◌, List, [], ◌∷◌, ◌++◌, length, nat_lt, if◌then◌else◌, Option, Some, None, Result, Ok, Err}
 use Rattle.box_geom.specs.Rectangle.{Rectangle}
 use Rattle.box_geom.specs.declared.shape.Shape.{Shape}
 use Rattle.gds_area.specs.declared.fault.GdsFault.{GdsFault}
@@ -43,6 +43,11 @@ shape_of pen area = shape_on pen (rectangle_of pen.grid (moved_area pen.stands a
 abbrev pub shapes_of : Pen → List Area → Result (List Shape) GdsFault
 shapes_of pen [] = Ok []
 shapes_of pen (a ∷ xs) = shape_of pen a >>= λ s. shapes_of pen xs >>= λ ss. Ok (s ∷ ss)
+
+-- there is one at least
+abbrev pub has_some : {A : Type 0} → List A → Bool
+has_some [] = false
+has_some (x ∷ xs) = true
 
 -- ---- one area after the other, for the functions that draw
 

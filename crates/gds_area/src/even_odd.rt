@@ -1,9 +1,9 @@
 // The rectangles of a boundary by the even-odd rule, row by row: no more is kept than the crossings of
 // one row.
-ghost use Rattle.std.specs.Prelude.{◌≡◌, ◌≤◌, [], ◌∷◌, ◌++◌, None, map, IfOk, OnOk};
+ghost use Rattle.std.specs.Prelude.{◌≡◌, ◌≤◌, [], ◌∷◌, ◌++◌, None, map, ℤ, IfOk, OnOk};
 ghost use Rattle.gds_area.specs.Points.{steps_from};
 ghost use Rattle.gds_area.specs.EvenOdd.{odd_ones, runs, inside_walk};
-ghost use Rattle.gds_area.specs.Areas.{area_of, put, Puts};
+ghost use Rattle.gds_area.specs.Areas.{area_of, has_some, put, Puts};
 ghost use Rattle.gds_area.specs.Sweep.{ends_of, unpaired, PairsOff, row_areas, swept_all};
 
 use crate::GdsFault;
@@ -185,4 +185,52 @@ pub fn add_inside(
     let mut ends = side_ends(alloc, first, rest)?;
     ends.sort_unstable();
     sweep(alloc, ends.as_slice(), pen, rects)
+}
+
+fn has_run(xs: &[i32]) -> bool
+    ensures { (low high : ℤ) → result ≡ has_some (runs low high xs.now) }
+{
+    match xs {
+        [_, _, ..] => true,
+        _ => false,
+    }
+}
+
+// Whether any row between ends that are sorted has a run. No row without one has crossings that wait.
+#[tactic(auto, using(crate::proofs::Enclosing::no_end, crate::proofs::Enclosing::same_row_at, crate::proofs::Enclosing::row_crossed, crate::proofs::Enclosing::next_row_at, crate::proofs::Enclosing::rows_done))]
+fn crossed(alloc: Global, ends: &[SideEnd]) -> Result<bool, AllocError>
+    ensures { IfOk result (λ some. some ≡ has_some (swept_all ends.now)) }
+{
+    let Some(first) = ends.first() else {
+        return Ok(false);
+    };
+    let mut row = *first;
+    let mut xs = Vec::new(alloc);
+    for end in ends {
+        if end.y == row.y {
+            push(&mut xs, &end.x)?;
+            continue;
+        }
+        let mut odd = odd_ones(alloc, xs)?;
+        if has_run(odd.as_slice()) {
+            return Ok(true);
+        }
+        push(&mut odd, &end.x)?;
+        xs = odd;
+        row = *end;
+    }
+    Ok(false)
+}
+
+/// Whether anything lies inside a walk that ends where it began.
+#[tactic(auto, using(crate::proofs::Sweeping::walk_swept))]
+pub fn encloses(alloc: Global, walk: &[Point]) -> Result<bool, AllocError>
+    ensures { IfOk result (λ some. some ≡ has_some (inside_walk walk.now)) }
+{
+    let Some((first, rest)) = walk.split_first() else {
+        return Ok(false);
+    };
+    let mut ends = side_ends(alloc, first, rest)?;
+    ends.sort_unstable();
+    crossed(alloc, ends.as_slice())
 }

@@ -5,6 +5,7 @@
 pub mod area;
 pub mod even_odd;
 pub mod fault;
+pub mod laws;
 pub mod path;
 pub mod placement;
 pub mod point;
@@ -12,9 +13,10 @@ pub mod taken;
 pub mod units;
 
 pub use area::{MOST_RECTANGLES, Pen};
-pub use even_odd::add_inside;
+pub use even_odd::{add_inside, encloses};
 pub use fault::GdsFault;
-pub use path::{Reach, add_path_areas, past_ends, width};
+pub use laws::composed_moves;
+pub use path::{Reach, add_path_areas, has_path_areas, past_ends, width};
 pub use placement::{Move, Turn, composed};
 pub use point::{Point, close, points, read_point, signed, slanted};
 pub use taken::{Around, Frame, MOST_LEVELS, Taken, around_at, count_one, none_taken};

@@ -1,6 +1,6 @@
 // The areas of a path.
 ghost use Rattle.std.specs.Prelude.{◌≡◌, ◌≤◌, ◌==◌};
-ghost use Rattle.gds_area.specs.Areas.{put, Puts};
+ghost use Rattle.gds_area.specs.Areas.{has_some, put, Puts};
 ghost use Rattle.gds_area.specs.Paths.{thinned, width_of, stretch, long, segment, all_segments, past_second, past_ends, path_areas};
 
 use crate::GdsFault;
@@ -133,4 +133,16 @@ pub fn add_path_areas(
     }
     let points = thin(points);
     add_segments(reach, points.as_slice(), pen, rects)
+}
+
+/// Whether a path through points covers anything.
+#[tactic(auto, using(crate::proofs::Enclosing::some_segment, crate::proofs::Enclosing::few_points))]
+pub fn has_path_areas(reach: &Reach, points: Vec<Point>) -> bool
+    ensures { result ≡ has_some (path_areas reach.now.half reach.now.ends points.items) }
+{
+    if reach.half == 0 {
+        return false;
+    }
+    let points = thin(points);
+    points.len() >= 2
 }

@@ -64,6 +64,12 @@ counted_amount outer old mid adds = elim (cases_Bool (nat_lt 1000000 (amount old
   | inr few ↦ let e : mid ≡ both old one_reference = subst (λ (x : Result Taken GdsFault). Adds (Ok tt) old mid x) (within outer (amount old) one_reference (let l = ltb-false 1000000 (amount old + amount one_reference) few in omega (arith, l))) adds in let n = ap amount e in let m = amount_both old one_reference in omega (arith, n, m)
 ]
 
+pub counted_room : (outer : ℕ) (old mid : Taken) → Adds (Ok tt) old mid (within_limit outer (amount old) one_reference) → amount mid ≤ 1000000
+counted_room outer old mid adds = elim (cases_Bool (nat_lt 1000000 (amount old + amount one_reference))) [
+  | inl many ↦ absurd (subst (λ (x : Result Taken GdsFault). Adds (Ok tt) old mid x) (beyond outer (amount old) one_reference (let l = ltb-true 1000000 (amount old + amount one_reference) many in omega (arith, l))) adds)
+  | inr few ↦ let n = counted_amount outer old mid adds in let l = ltb-false 1000000 (amount old + amount one_reference) few in omega (arith, n, l)
+]
+
 pub copied : (bytes : List ℕ) (grid : Grid) (levels : ℕ) (around : Around) (place : ℕ) (old mid new : Taken) (result : Result (Unit {0}) GdsFault) → (levels ≡ 0 → ⊥) → Adds (Ok tt) old mid (within_limit around.outer (amount old) one_reference) → Adds result mid new (drawn_in bytes (frame_inside grid levels around) (amount mid) (elements_of (items_from bytes place))) → Adds result old new (flat_in bytes grid levels around (amount old) place)
 copied bytes grid levels around place old mid new result some adds more =
     subst (λ (x : Result Taken GdsFault). Adds result old new x) (sym (then_level bytes grid levels around (amount old) place some))

@@ -93,7 +93,7 @@ front_nothing done = rw (append-nil done.shapes.rects, append-nil done.shapes.la
 pub amount_both : (a b : Taken) → amount (both a b) ≡ amount a + amount b
 amount_both a b = let e = length-append a.shapes.rects b.shapes.rects in omega (arith, e)
 
-taken_is : (a b : Taken) → ◌≡◌ {A = Result Taken GdsFault} (Ok a) (Ok b) → a ≡ b
+pub taken_is : (a b : Taken) → ◌≡◌ {A = Result Taken GdsFault} (Ok a) (Ok b) → a ≡ b
 taken_is a b e = cc
 
 not_both : (a : Taken) (f : GdsFault) → ◌≡◌ {A = Result Taken GdsFault} (Err f) (Ok a) → ⊥

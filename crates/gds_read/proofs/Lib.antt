@@ -32,4 +32,6 @@ pub mod RoundTripWords
 pub mod Steps
 pub mod Tails
 pub mod Trim
+pub mod Visited
+pub mod VisitedCopies
 pub mod Words

@@ -1,29 +1,26 @@
 -- A structure draws what those of its elements draw that are listed.
-use Rattle.std.proofs.Common.{ℕ, zero, suc, ◌≡◌, ◌+◌, ◌<◌, arith, length, Bool, true, false, is_some, List, [], ◌∷◌, ◌++◌, Option, Some, None, option_map, Result, Ok, Err, refl, sym, subst, ap, ◌∙◌, append_assoc, append-nil, inl, inr}
+use Rattle.std.proofs.Common.{ℕ, zero, suc, ◌≡◌, ◌+◌, ◌<◌, ◌≤◌, arith, length, Bool, true, false, List, [], ◌∷◌, ◌++◌, Some, Result, Ok, Err, refl, sym, subst, ap, ◌∙◌, append_assoc, append-nil, inl, inr}
 use Rattle.std.specs.Prelude.{if◌then◌else◌}
 use Rattle.std.proofs.lemmas.Bool.{cases_Bool, cases_eq, eq-eqb, ne_eqb}
-use Rattle.box_geom.specs.declared.layer.Layer.{Layer}
 use Rattle.gds_record.specs.declared.record.GdsRec.{GdsRec}
 use Rattle.gds_record.specs.declared.record.RecFault.{RecFault}
-use Rattle.gds_record.specs.declared.types.RecordType.{RecordType}
 use Rattle.gds_record.specs.declared.types.RecordType.TheVariants as record_type
 use Rattle.gds_record.specs.Types.{number_of, type_numbered}
 use Rattle.gds_record.specs.Records.{Item, item_of, record_at, items_from}
 use Rattle.gds_record.proofs.Walks.{Moves, moves, items_end, items_more}
 use Rattle.gds_area.specs.declared.fault.GdsFault.{GdsFault}
 use Rattle.gds_area.specs.declared.units.Grid.{Grid}
-use Rattle.gds_area.specs.declared.area.Area.{Area}
-use Rattle.gds_area.specs.declared.area.Pen.{Pen}
 use Rattle.gds_area.specs.declared.taken.Taken.{Taken}
 use Rattle.gds_area.specs.declared.taken.Around.{Around}
 use Rattle.gds_area.specs.declared.taken.Frame.{Frame}
 use Rattle.cell_num.specs.Steps.{◌>>=◌}
-use Rattle.gds_area.specs.Taken.{nothing_taken, one_reference, both, amount, within_limit, in_order, Adds, around_of}
-use Rattle.gds_read.specs.Elements.{Element, until, elements_of, layer_of, xy_place, pen_of, areas_of, drawn_on}
+use Rattle.gds_area.specs.Taken.{nothing_taken, one_reference, both, amount, within_limit, in_order, Adds}
+use Rattle.gds_read.specs.Elements.{Element, elements_of}
 use Rattle.gds_read.specs.Index.{draws, drawing_places}
-use Rattle.gds_read.specs.Flat.{file_of, text_by, record_in, drawn_record, drawn_in, drawn_told, drawn_at, listed_in, drawn, Gives, flat_in}
+use Rattle.gds_read.specs.Flat.{file_of, text_by, drawn_record, drawn_in, drawn_told, drawn_at, listed_in, drawn, Gives, flat_in}
 use Rattle.gds_read.proofs.Drawings.{with_front, front_nothing, adds_all, ordered_none, ordered_more, ordered_stops, fault_kept, front_fault, drawn_from, rest_after, nothing_before, here, own, gives_taken}
-use Rattle.gds_read.proofs.Copied.{frame_inside, copied}
+use Rattle.gds_read.proofs.Copied.{frame_inside, counted_room, copied}
+use Rattle.gds_read.proofs.VisitedCopies.{visit}
 
 -- ---- the list, an element at a time
 
@@ -62,59 +59,16 @@ one_place_more bytes labels places new all at r e other drawn_so is so =
 pub passed_over : (bytes : List ℕ) (labels : Bool) (places all : List ℕ) (at : ℕ) (r : GdsRec) → record_at bytes at ≡ Ok r → (r.code ≡ number_of record_type.EndStr → ⊥) → draws labels (type_numbered r.code) (items_from bytes r.next) ≡ false → places ++ drawing_places labels (items_from bytes at) ≡ all → places ++ drawing_places labels (items_from bytes r.next) ≡ all
 passed_over bytes labels places all at r e other not_so so = sym (ap (λ (t : List ℕ). places ++ t) (places_past bytes labels at r e other not_so)) ∙ so
 
--- ---- what is not listed draws nothing
+-- ---- where no labels are asked for, texts draw none
 
--- Where no labels are asked for, texts draw none.
 abbrev pub IsQuiet : Bool → Frame → Type 0
 IsQuiet labels frame = labels ≡ false → (e : Element) → text_by frame.grid frame.around e ≡ Ok nothing_taken
 
-no_pen : (outer count : ℕ) (pen : Layer → Pen) (o : Option Layer) (areas : Result (List Area) GdsFault) → is_some o ≡ false → drawn_on outer count (option_map pen o) areas ≡ Ok nothing_taken
-no_pen outer count pen None areas e = refl
-no_pen outer count pen (Some on) areas e = absurd cc
-
-idle : (bytes : List ℕ) (frame : Frame) (labels : Bool) (count : ℕ) (r : Item) (rs : List Item) (o : Option RecordType) → IsQuiet labels frame → draws labels o rs ≡ false → record_in bytes frame count r rs o ≡ Ok nothing_taken
-idle bytes frame labels count r rs None quiet not_so = refl
-idle bytes frame labels count r rs (Some record_type.Boundary) quiet not_so =
-    let inside = until record_type.EndEl rs in
-    no_pen (around_of frame.around r.at).outer count (pen_of frame.grid (around_of frame.around r.at).stands inside) (layer_of inside) (areas_of (xy_place inside) inside record_type.Boundary) not_so
-idle bytes frame labels count r rs (Some record_type.Path) quiet not_so =
-    let inside = until record_type.EndEl rs in
-    no_pen (around_of frame.around r.at).outer count (pen_of frame.grid (around_of frame.around r.at).stands inside) (layer_of inside) (areas_of (xy_place inside) inside record_type.Path) not_so
-idle bytes frame labels count r rs (Some record_type.Text) quiet not_so = quiet not_so (record { kind = record_type.Text; at = r.at; inside = until record_type.EndEl rs })
-idle bytes frame labels count r rs (Some record_type.SRef) quiet not_so = absurd cc
-idle bytes frame labels count r rs (Some record_type.ARef) quiet not_so = absurd cc
-idle bytes frame labels count r rs (Some record_type.Header) quiet not_so = refl
-idle bytes frame labels count r rs (Some record_type.BgnLib) quiet not_so = refl
-idle bytes frame labels count r rs (Some record_type.LibName) quiet not_so = refl
-idle bytes frame labels count r rs (Some record_type.Units) quiet not_so = refl
-idle bytes frame labels count r rs (Some record_type.EndLib) quiet not_so = refl
-idle bytes frame labels count r rs (Some record_type.BgnStr) quiet not_so = refl
-idle bytes frame labels count r rs (Some record_type.StrName) quiet not_so = refl
-idle bytes frame labels count r rs (Some record_type.EndStr) quiet not_so = refl
-idle bytes frame labels count r rs (Some record_type.Node) quiet not_so = refl
-idle bytes frame labels count r rs (Some record_type.Box) quiet not_so = refl
-idle bytes frame labels count r rs (Some record_type.Layer) quiet not_so = refl
-idle bytes frame labels count r rs (Some record_type.DataType) quiet not_so = refl
-idle bytes frame labels count r rs (Some record_type.Width) quiet not_so = refl
-idle bytes frame labels count r rs (Some record_type.Xy) quiet not_so = refl
-idle bytes frame labels count r rs (Some record_type.SName) quiet not_so = refl
-idle bytes frame labels count r rs (Some record_type.ColRow) quiet not_so = refl
-idle bytes frame labels count r rs (Some record_type.TextType) quiet not_so = refl
-idle bytes frame labels count r rs (Some record_type.Presentation) quiet not_so = refl
-idle bytes frame labels count r rs (Some record_type.StringText) quiet not_so = refl
-idle bytes frame labels count r rs (Some record_type.STrans) quiet not_so = refl
-idle bytes frame labels count r rs (Some record_type.Mag) quiet not_so = refl
-idle bytes frame labels count r rs (Some record_type.Angle) quiet not_so = refl
-idle bytes frame labels count r rs (Some record_type.PathType) quiet not_so = refl
-idle bytes frame labels count r rs (Some record_type.PropAttr) quiet not_so = refl
-idle bytes frame labels count r rs (Some record_type.PropValue) quiet not_so = refl
-idle bytes frame labels count r rs (Some record_type.EndEl) quiet not_so = refl
-
 -- ---- what is listed draws all
 
-same_rest : (bytes : List ℕ) (frame : Frame) (count : ℕ) (places : List ℕ) (es : List Element) (x : Result Taken GdsFault) → ((n : ℕ) → listed_in bytes frame n places ≡ drawn_in bytes frame n es) → (x >>= λ one. listed_in bytes frame (count + amount one) places >>= λ rest. Ok (both one rest)) ≡ (x >>= rest_after bytes frame count es)
-same_rest bytes frame count places es (Ok one) same = ap (λ (y : Result Taken GdsFault). y >>= λ rest. Ok (both one rest)) (same (count + amount one))
-same_rest bytes frame count places es (Err f) same = refl
+same_rest : (bytes : List ℕ) (frame : Frame) (count : ℕ) (places : List ℕ) (es : List Element) (x : Result Taken GdsFault) → ((one : Taken) → x ≡ Ok one → count + amount one ≤ 1000000) → ((n : ℕ) → n ≤ 1000000 → listed_in bytes frame n places ≡ drawn_in bytes frame n es) → (x >>= λ one. listed_in bytes frame (count + amount one) places >>= λ rest. Ok (both one rest)) ≡ (x >>= rest_after bytes frame count es)
+same_rest bytes frame count places es (Ok one) room same = ap (λ (y : Result Taken GdsFault). y >>= λ rest. Ok (both one rest)) (same (count + amount one) (room one refl))
+same_rest bytes frame count places es (Err f) room same = refl
 
 first_listed : (bytes : List ℕ) (frame : Frame) (count place : ℕ) (places : List ℕ) → listed_in bytes frame count (place ∷ places) ≡ (drawn_at bytes frame count place >>= λ one. listed_in bytes frame (count + amount one) places >>= λ rest. Ok (both one rest))
 unfolding in_order
@@ -127,28 +81,29 @@ none_listed bytes frame count = refl
 drawn_there : (bytes : List ℕ) (frame : Frame) (count at : ℕ) (r : GdsRec) → record_at bytes at ≡ Ok r → drawn_at bytes frame count r.at ≡ drawn_record bytes frame count r
 drawn_there bytes frame count at r e = ap (drawn_told bytes frame count) (ap (record_at bytes) (moves bytes at r e).at_is ∙ e)
 
-one_listed : (bytes : List ℕ) (frame : Frame) (labels : Bool) (at count : ℕ) (r : GdsRec) → IsQuiet labels frame → record_at bytes at ≡ Ok r → ((n : ℕ) → listed_in bytes frame n (drawing_places labels (items_from bytes r.next)) ≡ drawn_from bytes frame n r.next) → listed_in bytes frame count (drawing_places labels (items_from bytes at)) ≡ drawn_from bytes frame count at
-one_listed bytes frame labels at count r quiet e rest = elim (cases_eq r.code (number_of record_type.EndStr)) [
+-- what is listed behind a place draws what the elements there draw
+abbrev AreListed : List ℕ → Frame → Bool → ℕ → Type 0
+AreListed bytes frame labels at = (count : ℕ) → count ≤ 1000000 → listed_in bytes frame count (drawing_places labels (items_from bytes at)) ≡ drawn_from bytes frame count at
+
+one_listed : (bytes : List ℕ) (frame : Frame) (labels : Bool) (at count : ℕ) (r : GdsRec) → IsQuiet labels frame → record_at bytes at ≡ Ok r → count ≤ 1000000 → AreListed bytes frame labels r.next → listed_in bytes frame count (drawing_places labels (items_from bytes at)) ≡ drawn_from bytes frame count at
+one_listed bytes frame labels at count r quiet e few rest = let seen = visit bytes frame labels count (item_of bytes r) (items_from bytes r.next) (type_numbered r.code) quiet in elim (cases_eq r.code (number_of record_type.EndStr)) [
   | inl k ↦ ap (listed_in bytes frame count) (places_there bytes labels at r e k)
       ∙ (none_listed bytes frame count ∙ sym (ap (λ (t : List Item). drawn_in bytes frame count (elements_of t)) (items_more bytes at r e) ∙ (rw (eq-eqb r.code (number_of record_type.EndStr) k) refl)))
   | inr other ↦ elim (cases_Bool (draws labels (type_numbered r.code) (items_from bytes r.next))) [
     | inl drawn_so ↦ ap (listed_in bytes frame count) (places_more bytes labels at r e other drawn_so)
         ∙ (first_listed bytes frame count r.at (drawing_places labels (items_from bytes r.next))
         ∙ (ap (λ (x : Result Taken GdsFault). x >>= λ one. listed_in bytes frame (count + amount one) (drawing_places labels (items_from bytes r.next)) >>= λ rest. Ok (both one rest)) (drawn_there bytes frame count at r e)
-        ∙ (same_rest bytes frame count (drawing_places labels (items_from bytes r.next)) (elements_of (items_from bytes r.next)) (drawn_record bytes frame count r) rest
+        ∙ (same_rest bytes frame count (drawing_places labels (items_from bytes r.next)) (elements_of (items_from bytes r.next)) (drawn_record bytes frame count r) (λ one q. seen.room one few q) rest
         ∙ sym (here bytes frame count at r e other))))
     | inr not_so ↦ ap (listed_in bytes frame count) (places_past bytes labels at r e other not_so)
-        ∙ (rest count
+        ∙ (rest count few
         ∙ (nothing_before bytes frame count (elements_of (items_from bytes r.next))
-        ∙ sym (here bytes frame count at r e other ∙ ap (λ (x : Result Taken GdsFault). x >>= rest_after bytes frame count (elements_of (items_from bytes r.next))) (idle bytes frame labels count (item_of bytes r) (items_from bytes r.next) (type_numbered r.code) quiet not_so))))
+        ∙ sym (here bytes frame count at r e other ∙ ap (λ (x : Result Taken GdsFault). x >>= rest_after bytes frame count (elements_of (items_from bytes r.next))) (seen.passed not_so few))))
   ]
 ]
 
-abbrev AreListed : List ℕ → Frame → Bool → ℕ → Type 0
-AreListed bytes frame labels at = (count : ℕ) → listed_in bytes frame count (drawing_places labels (items_from bytes at)) ≡ drawn_from bytes frame count at
-
 none_left : (bytes : List ℕ) (frame : Frame) (labels : Bool) (at : ℕ) (f : RecFault) → record_at bytes at ≡ Err f → AreListed bytes frame labels at
-none_left bytes frame labels at f e count = ap (listed_in bytes frame count) (places_end bytes labels at f e) ∙ (none_listed bytes frame count ∙ sym (ap (λ (t : List Item). drawn_in bytes frame count (elements_of t)) (items_end bytes at f e)))
+none_left bytes frame labels at f e count few = ap (listed_in bytes frame count) (places_end bytes labels at f e) ∙ (none_listed bytes frame count ∙ sym (ap (λ (t : List Item). drawn_in bytes frame count (elements_of t)) (items_end bytes at f e)))
 
 -- from the records behind the one at a place, if there is one
 listed_here : (bytes : List ℕ) (frame : Frame) (labels : Bool) (at : ℕ) → IsQuiet labels frame → ((r : GdsRec) → record_at bytes at ≡ Ok r → AreListed bytes frame labels r.next) → AreListed bytes frame labels at
@@ -156,14 +111,14 @@ listed_here bytes frame labels at quiet behind = by (record_at bytes at) refl
   where
     by : (x : Result GdsRec RecFault) → record_at bytes at ≡ x → AreListed bytes frame labels at
     by (Err f) e = none_left bytes frame labels at f e
-    by (Ok r) e = λ count. one_listed bytes frame labels at count r quiet e (behind r e)
+    by (Ok r) e = λ count few. one_listed bytes frame labels at count r quiet e few (behind r e)
 
 listed_by : (n : ℕ) (bytes : List ℕ) (frame : Frame) (labels : Bool) (at : ℕ) → IsQuiet labels frame → length bytes < n + at → AreListed bytes frame labels at
 listed_by zero bytes frame labels at quiet enough = listed_here bytes frame labels at quiet (λ r e. absurd (let w : Moves bytes at r = moves bytes at r e in omega (arith, enough, w.after, w.within)))
 listed_by (suc n) bytes frame labels at quiet enough = listed_here bytes frame labels at quiet (λ r e. listed_by n bytes frame labels r.next quiet (let w : Moves bytes at r = moves bytes at r e in omega (arith, enough, w.after)))
 
-listed : (bytes : List ℕ) (frame : Frame) (labels : Bool) (at count : ℕ) → IsQuiet labels frame → listed_in bytes frame count (drawing_places labels (items_from bytes at)) ≡ drawn_from bytes frame count at
-listed bytes frame labels at count quiet = listed_by (suc (length bytes)) bytes frame labels at quiet (omega arith) count
+listed : (bytes : List ℕ) (frame : Frame) (labels : Bool) (at count : ℕ) → IsQuiet labels frame → count ≤ 1000000 → listed_in bytes frame count (drawing_places labels (items_from bytes at)) ≡ drawn_from bytes frame count at
+listed bytes frame labels at count quiet few = listed_by (suc (length bytes)) bytes frame labels at quiet (omega arith) count few
 
 -- ---- the elements of a list, one after the other
 
@@ -195,12 +150,12 @@ pub copied_listed : (bytes : List ℕ) (grid : Grid) (levels : ℕ) (around : Ar
 copied_listed bytes grid levels around place places old mid new result some adds is more =
     copied bytes grid levels around place old mid new result some adds
     (subst (λ (x : Result Taken GdsFault). Adds result mid new x)
-    (ap (listed_in bytes (frame_inside grid levels around) (amount mid)) is ∙ listed bytes (frame_inside grid levels around) false place (amount mid) (λ _ e. refl))
+    (ap (listed_in bytes (frame_inside grid levels around) (amount mid)) is ∙ listed bytes (frame_inside grid levels around) false place (amount mid) (λ _ e. refl) (counted_room around.outer old mid adds))
     more)
 
 pub drawn_listed : (bytes : List ℕ) (grid : Grid) (place : ℕ) (places : List ℕ) (new : Taken) (result : Result (Unit {0}) GdsFault) → places ≡ drawing_places true (items_from bytes place) → Adds result nothing_taken new (listed_in bytes (own grid) 0 places) → Adds result nothing_taken new (drawn_from bytes (own grid) 0 place)
 drawn_listed bytes grid place places new result is adds =
-    subst (λ (x : Result Taken GdsFault). Adds result nothing_taken new x) (ap (listed_in bytes (own grid) 0) is ∙ listed bytes (own grid) true place 0 (λ not_so e. absurd (differ not_so))) adds
+    subst (λ (x : Result Taken GdsFault). Adds result nothing_taken new x) (ap (listed_in bytes (own grid) 0) is ∙ listed bytes (own grid) true place 0 (λ not_so e. absurd (differ not_so)) (omega arith)) adds
   where
     differ : ◌≡◌ {A = Bool} true false → ⊥
     differ not_so = absurd cc

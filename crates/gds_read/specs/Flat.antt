@@ -135,6 +135,10 @@ drawn_at bytes frame count place = drawn_told bytes frame count (record_at bytes
 abbrev pub listed_in : List ℕ → Frame → ℕ → List ℕ → Result Taken GdsFault
 listed_in bytes frame count places = in_order (drawn_at bytes frame) count places
 
+-- what a record draws in a copy that stands so, before other records
+abbrev pub in_copy : List ℕ → Grid → ℕ → Around → ℕ → Item → List Item → Result Taken GdsFault
+in_copy bytes grid levels around count r rs = record_in bytes (record { grid = grid; around = Some around; levels = levels }) count r rs (type_numbered r.code)
+
 -- copies of the structure behind whose name a place is
 abbrev pub row_in : List ℕ → Frame → Around → Copies → ℕ → ℕ → Result Taken GdsFault
 row_in bytes frame around copies count row = row_of (flat frame.levels (file_of frame.grid bytes)) around (elements_of (items_from bytes copies.place)) copies.array count row

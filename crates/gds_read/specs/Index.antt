@@ -1,7 +1,11 @@
 -- The structures of a library by their names, and what of each draws where it is referred to.
 use Rattle.std.specs.HashMap.{get, get_by}
-use Rattle.std.specs.Prelude.{ℕ, ◌≡◌, ◌==◌, nat_eq, is_some, Bool, true, false, List, [], ◌∷◌, length, option_map, Option, Some, None, if◌then◌else◌}
+use Rattle.std.specs.Prelude.{ℕ, ◌≡◌, ◌==◌, nat_eq, Bool, true, false, List, [], ◌∷◌, length, option_map, Option, Some, None, Result, Ok, Err, if◌then◌else◌}
 use Rattle.std.specs.Str.{bytes_eq}
+use Rattle.box_geom.specs.declared.layer.Layer.{Layer}
+use Rattle.gds_area.specs.Areas.{has_some}
+use Rattle.gds_area.specs.declared.area.Area.{Area}
+use Rattle.gds_area.specs.declared.fault.GdsFault.{GdsFault}
 use Rattle.gds_record.specs.declared.types.RecordType.{RecordType}
 use Rattle.gds_record.specs.declared.types.RecordType.TheVariants as record_type
 use Rattle.gds_record.specs.Types.{type_numbered}
@@ -10,19 +14,37 @@ use Rattle.gds_read.specs.declared.structure.Lookup.{Lookup}
 use Rattle.gds_read.specs.declared.structure.Lookup.TheVariants as lookup
 use Rattle.gds_read.specs.declared.index.Index.{Index}
 use Rattle.gds_read.specs.Structure.{is_type, Finds, IsWithin, behind_name, found_in}
-use Rattle.gds_read.specs.Elements.{until, layer_of}
+use Rattle.gds_read.specs.Elements.{until, layer_of, xy_place, areas_of}
 
 -- ---- what is drawn of a structure
 
--- Elements of other types, and those on layers that a drawing does not have, draw nothing wherever they stand,
--- and texts nothing where no labels are asked for.
+-- some areas are told, or a fault
+abbrev pub has_areas : Result (List Area) GdsFault → Bool
+has_areas (Ok list) = has_some list
+has_areas (Err f) = true
+
+abbrev pub on_layer : Option Layer → Bool → Bool
+on_layer None some = false
+on_layer (Some on) some = some
+
+-- It is on a layer of the drawing, and covers something or has a fault. Both are so before it is moved.
+abbrev pub covers : RecordType → List Item → Bool
+covers kind inside = on_layer (layer_of inside) (has_areas (areas_of (xy_place inside) inside kind))
+
+-- Whether an element of a type may draw where it stands, or have a fault. Texts draw nothing where no labels are
+-- asked for, and elements of other types nothing at all.
+abbrev pub element_draws : Bool → RecordType → List Item → Bool
+element_draws labels record_type.Boundary inside = covers record_type.Boundary inside
+element_draws labels record_type.Path inside = covers record_type.Path inside
+element_draws labels record_type.Text inside = labels
+element_draws labels record_type.SRef inside = true
+element_draws labels record_type.ARef inside = true
+element_draws labels _ inside = false
+
+-- the same of a record, behind which others stand
 abbrev pub draws : Bool → Option RecordType → List Item → Bool
-draws labels (Some record_type.Boundary) behind = is_some (layer_of (until record_type.EndEl behind))
-draws labels (Some record_type.Path) behind = is_some (layer_of (until record_type.EndEl behind))
-draws labels (Some record_type.Text) behind = labels
-draws labels (Some record_type.SRef) behind = true
-draws labels (Some record_type.ARef) behind = true
-draws labels _ behind = false
+draws labels None behind = false
+draws labels (Some kind) behind = element_draws labels kind (until record_type.EndEl behind)
 
 -- the places of the elements that may draw, up to the end of the structure
 abbrev pub drawing_places : Bool → List Item → List ℕ

@@ -48,8 +48,8 @@ fn boundary(alloc: Global, xy: &[u8], pen: &Pen, rects: &mut ShapeList) -> Resul
     add_inside(alloc, walk.as_slice(), pen, rects)
 }
 
-// How broad a path is, and how far it goes past its outer points.
-fn reach(bytes: &[u8], rec: &GdsRec) -> Result<Reach, GdsFault>
+/// How broad a path is, and how far it goes past its outer points.
+pub fn reach(bytes: &[u8], rec: &GdsRec) -> Result<Reach, GdsFault>
     requires size { length bytes.now ≤ MOST_BYTES }
     requires place { rec.now.next ≤ length bytes.now }
     ensures { result ≡ reach_of (inside_of bytes.now rec.now) }

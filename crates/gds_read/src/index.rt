@@ -2,14 +2,13 @@
 // referred to: no reference needs a walk through the file, and no copy one through what draws nothing.
 ghost use Rattle.std.specs.Prelude.{◌≡◌, ◌≤◌, [], ◌∷◌, ◌++◌, false, length, IfOk, OnOk};
 ghost use Rattle.gds_record.specs.Records.{items_from};
-ghost use Rattle.gds_record.specs.Types.{type_numbered};
 ghost use Rattle.gds_read.specs.Structure.{Finds, IsWithin, found_in};
-ghost use Rattle.gds_read.specs.Index.{looked_up, once_more, draws, drawing_places, IsIndex, IsNamed, IsListed, IsStructureAdded};
+ghost use Rattle.gds_read.specs.Index.{looked_up, once_more, drawing_places, IsIndex, IsNamed, IsListed, IsStructureAdded};
 
-use crate::field::element_layer;
+use crate::draws::draws;
 use crate::structure::{Lookup, trim};
 use cell_num::{MOST_BYTES, NoMemory};
-use gds_record::{GdsRec, RecordType, next_record};
+use gds_record::{RecordType, next_record};
 use indexmap::IndexMap;
 use std::alloc::{AllocError, Global};
 
@@ -55,22 +54,6 @@ fn add_list(index: &mut Index, places: Vec<u64>, place: u64) -> Result<(), Alloc
     Ok(())
 }
 
-// Whether a record may begin an element that draws.
-fn draws(bytes: &[u8], rec: &GdsRec, labels: bool) -> bool
-    requires size { length bytes.now ≤ MOST_BYTES }
-    requires place { rec.now.next ≤ length bytes.now }
-    ensures { result ≡ draws labels (type_numbered rec.now.code) (items_from bytes.now rec.now.next) }
-{
-    match RecordType::numbered(rec.code) {
-        Some(RecordType::Boundary) => element_layer(bytes, rec.next).is_some(),
-        Some(RecordType::Path) => element_layer(bytes, rec.next).is_some(),
-        Some(RecordType::Text) => labels,
-        Some(RecordType::SRef) => true,
-        Some(RecordType::ARef) => true,
-        _ => false,
-    }
-}
-
 /// The places of the elements that may draw behind a place, up to the end of the structure; texts are told
 /// where labels are asked for.
 #[tactic(auto, using(gds_record::proofs::Walks::moves, crate::proofs::Listed::ends_none, crate::proofs::Listed::ends_there, crate::proofs::Listed::one_place_more, crate::proofs::Listed::passed_over))]
@@ -93,7 +76,7 @@ pub fn places_of(
         if rec.code == RecordType::EndStr.number() {
             return Ok(places);
         }
-        if draws(bytes, &rec, labels) {
+        if draws(alloc, bytes, &rec, labels)? {
             push_place(&mut places, rec.at)?;
         }
         at = rec.next;

@@ -1,6 +1,7 @@
-ghost use Rattle.std.specs.Prelude.{◌≡◌, ◌↔◌, ◌≤◌, ℕ, ℤ, List, Some, Ok, Err};
+ghost use Rattle.std.specs.Prelude.{◌≡◌, ◌↔◌, ◌≤◌, ℕ, ℤ, List, true, false, Some, Ok, Err};
 ghost use Rattle.std.specs.List.{Contains, AllPairs};
-ghost use Rattle.gds_record.specs.Records.{IsBytes};
+ghost use Rattle.gds_record.specs.Records.{IsBytes, Item};
+ghost use Rattle.gds_record.specs.Types.{type_numbered};
 ghost use Rattle.gds_area.specs.declared.fault.GdsFault.{GdsFault};
 ghost use Rattle.gds_read.specs.Grammar.{first_pass_of};
 ghost use Rattle.gds_record.specs.declared.types.RecordType.{RecordType};
@@ -16,6 +17,11 @@ ghost use Rattle.gds_area.specs.declared.units.Grid.{Grid};
 ghost use Rattle.gds_area.specs.EvenOdd.{IsInside, boundary_rectangles};
 ghost use Rattle.gds_area.specs.Units.{floor_units_of};
 ghost use Rattle.gds_read.specs.Drawn.{AreWalksOf, IsRunOf, IsBefore, IsFloor};
+ghost use Rattle.gds_area.specs.declared.taken.Taken.{Taken};
+ghost use Rattle.gds_area.specs.declared.taken.Around.{Around};
+ghost use Rattle.gds_area.specs.Taken.{nothing_taken, amount};
+ghost use Rattle.gds_read.specs.Index.{draws};
+ghost use Rattle.gds_read.specs.Flat.{in_copy};
 
 /// The first pass accepts the bytes of a library, and no others, and else answers the first fault. It
 /// does nothing: its contract is the law.
@@ -64,4 +70,16 @@ pub fn drawn_elements()
     ensures order { (points : List Point) → AllPairs IsBefore (boundary_rectangles points) }
     ensures label { (grid : Grid) (value units : ℤ) → 1 ≤ grid.lambda_nm → floor_units_of grid value ≡ Some units
         → IsFloor grid value units }
+{}
+
+/// What is not listed of a structure draws nothing in any copy of it, and has no fault there. Each visit in a copy
+/// to what is listed takes a rectangle or a reference at least, or ends with a fault, so there are at most 1,000,000
+/// such visits and that one. It does nothing: its contract is the law.
+pub fn visited_elements()
+    ensures passed { (bytes : List ℕ) (grid : Grid) (levels : ℕ) (around : Around) (count : ℕ) (r : Item)
+        (rs : List Item) → count ≤ 1000000 → draws false (type_numbered r.code) rs ≡ false
+        → in_copy bytes grid levels around count r rs ≡ Ok nothing_taken }
+    ensures counted { (bytes : List ℕ) (grid : Grid) (levels : ℕ) (around : Around) (count : ℕ) (r : Item)
+        (rs : List Item) (one : Taken) → draws false (type_numbered r.code) rs ≡ true
+        → in_copy bytes grid levels around count r rs ≡ Ok one → 1 ≤ amount one }
 {}

@@ -1,6 +1,7 @@
 // Reading one structure of a GDSII file into the rectangles and labels of a drawing.
 #![tactic(auto)]
 
+pub mod draws;
 pub mod element;
 pub mod field;
 pub mod flat;
@@ -16,6 +17,9 @@ pub mod reference;
 pub mod round_trip;
 pub mod structure;
 
-pub use laws::{accepted_libraries, decoded_cells, drawn_elements, written_grammar};
+pub use gds_area::GdsFault;
+pub use laws::{
+    accepted_libraries, decoded_cells, drawn_elements, visited_elements, written_grammar,
+};
 pub use read::read_cell;
 pub use round_trip::{read_library, read_written};

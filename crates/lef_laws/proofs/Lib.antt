@@ -4,3 +4,6 @@ pub mod Sides
 pub mod Items
 pub mod Lines
 pub mod Whole
+pub mod Counted
+pub mod Lengths
+pub mod Short

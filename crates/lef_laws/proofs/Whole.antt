@@ -141,7 +141,7 @@ all_obstructions cell unit (s ∷ ss) two rest u first second r = same_text unit
 all_obstructions cell unit [] (s ∷ ss) rest u first second r = same_text unit (At (InMacro cell)) (obstructions_text unit [] (s ∷ ss) ++ rest) (block_text unit [] (s ∷ ss) ++ rest) [] [] (map (on_layer Metal1) [] ++ map (on_layer Metal2) (s ∷ ss)) (ap (λ t. t ++ rest) (second_some unit s ss)) (block_read cell unit [] (s ∷ ss) rest u first second r)
 
 -- ---- the shapes at ports, and those that are none, are shapes of the drawing
-shapes_spelled : (unit : ℕ) (ports : List PortOf) (rects : List Shape) → All (λ (s : Shape). IsSpelled unit s.rect) rects → (n : ℕ) → All (λ (s : Shape). IsSpelled unit s.rect) (port_shapes ports rects (net_no n))
+pub shapes_spelled : (unit : ℕ) (ports : List PortOf) (rects : List Shape) → All (λ (s : Shape). IsSpelled unit s.rect) rects → (n : ℕ) → All (λ (s : Shape). IsSpelled unit s.rect) (port_shapes ports rects (net_no n))
 shapes_spelled unit ports rects all n = all_from_contains (λ (s : Shape). IsSpelled unit s.rect) (port_shapes ports rects (net_no n)) (λ s c.
     let k = kept_from (shape_of (net_no n) rects) ports s c in
     by (k.from.pin.0 == n) k.from s k.gives)
@@ -150,7 +150,7 @@ shapes_spelled unit ports rects all n = all_from_contains (λ (s : Shape). IsSpe
     by true p s e = all_at (λ (z : Shape). IsSpelled unit z.rect) rects p.shape s all e
     by false p s e = absurd cc
 
-rest_spelled : (unit : ℕ) (layer : Layer) (ports : List PortOf) (rects : List Shape) → All (λ (s : Shape). IsSpelled unit s.rect) rects → All (λ (s : Shape). IsSpelled unit s.rect) (obstructions_on layer ports rects)
+pub rest_spelled : (unit : ℕ) (layer : Layer) (ports : List PortOf) (rects : List Shape) → All (λ (s : Shape). IsSpelled unit s.rect) rects → All (λ (s : Shape). IsSpelled unit s.rect) (obstructions_on layer ports rects)
 rest_spelled unit layer ports rects all = all_from_contains (λ (s : Shape). IsSpelled unit s.rect) (obstructions_on layer ports rects) (λ s c.
     let k = kept_from (obstruction_on layer ports) (enumerate_from 0 rects) s c in
     by (same_layer k.from.1.layer layer && not (is_taken ports k.from.0)) k.from s k.there k.gives)

@@ -19,7 +19,7 @@ use Rattle.net_extract.specs.declared.piece.Conductor.TheVariants.{Metal1}
 use Rattle.net_extract.specs.Labels.{IsNamed}
 use Rattle.cell_draw.specs.declared.drawing.Drawing.{Drawing}
 use Rattle.cell_draw.specs.declared.layout.Frame.{Frame}
-use Rattle.cell_draw.specs.declared.measure.TheConstants.{HALF_METAL}
+use Rattle.cell_draw.specs.Measures.{HALF_METAL}
 use Rattle.cell_draw.specs.Frame.{track_y}
 use Rattle.cell_draw.specs.Layouts.{net_no}
 use Rattle.cell_draw.specs.Shapes.{box}

@@ -4,11 +4,11 @@ use Rattle.std.proofs.Math.Seq.{take-length, take-append_seam, drop-append_seam}
 use Rattle.std.specs.List.{flat_map}
 use Rattle.std.proofs.lemmas.Grind.{flat_map-append}
 use Rattle.std.proofs.lemmas.List.{flat_map_more, take-append-drop, take_all, take_more}
-use Rattle.cell_io.specs.Desk.{View, Files, Rose, Both, ForSome, AddsPart, AppendedIn, WrittenIn, Sets, IsHeld, OnlyMakes, IsQuiet, MemoryFailed, WritingFailed}
+use Rattle.cell_io.specs.Desk.{View, Files, Rose, Both, ForSome, AddsPart, AppendedIn, WrittenIn, Sets, IsHeld, OnlyAppends, IsQuiet, MemoryFailed, WritingFailed}
 use Rattle.cell_io.specs.Output.{Place, CanPut, Puts}
 use Rattle.cell_io.specs.declared.output.WriteFault.{WriteFault}
 use Rattle.cell_io.specs.declared.output.WriteFault.TheVariants.{Failed, NoMemory}
-use Rattle.cell_io.proofs.Puts.{appends_some, can_put_still, created_held_told, makes_more, puts_none, puts_rest, quiet_more, says_some, written_some, written_whole}
+use Rattle.cell_io.proofs.Puts.{appends_some, can_put_still, created_held_told, keeps_more, keeps_none, puts_none, puts_rest, quiet_more, says_some, written_some, written_whole}
 use Rattle.log_output.specs.Giving.{Gives, GivesSome, KeepsUntold, OnlyPuts}
 
 -- ---- parts
@@ -100,7 +100,7 @@ front_of bytes R (Some x) (Some y) h = (h.0, h.1, h.2)
 front_of bytes R None (Some y) h = absurd h
 front_of bytes R (Some x) None h = absurd h
 
-pub appended_some : (name bytes : List ℕ) (a b : View) → Both (ForSome bytes (AppendedIn name bytes)) a.made b.made → OnlyMakes a b → GivesSome (Some name) bytes a b
+pub appended_some : (name bytes : List ℕ) (a b : View) → Both (ForSome bytes (AppendedIn name bytes)) a.made b.made → OnlyAppends a b → GivesSome (Some name) bytes a b
 appended_some name bytes a b h only =
     let (count, within, some) = front_of bytes (AppendedIn name bytes) a.made b.made h in
     gives_some (Some name) bytes a b (count, within, (some, only))
@@ -140,12 +140,12 @@ lines_none line place xs bytes a = subst (λ (ys : List ℕ). Gives place ys byt
 -- ---- what stays
 
 pub only_none : (place : Place) (a : View) → OnlyPuts place a a
-only_none None a = record { given = refl; made = refl; reads = refl; writes = omega arith; shorts = omega arith }
-only_none (Some name) a = record { given = refl; said = refl; reads = refl; writes = omega arith; shorts = omega arith }
+only_none None a = record { given = refl; made = refl; created = refl; reads = refl; writes = omega arith; shorts = omega arith }
+only_none (Some name) a = keeps_none a
 
 pub only_more : (place : Place) (a b c : View) → OnlyPuts place a b → OnlyPuts place b c → OnlyPuts place a c
-only_more None a b c p q = record { given = q.given ∙ p.given; made = q.made ∙ p.made; reads = q.reads ∙ p.reads; writes = omega (arith, p.writes, q.writes); shorts = omega (arith, p.shorts, q.shorts) }
-only_more (Some name) a b c p q = makes_more a b c p q
+only_more None a b c p q = record { given = q.given ∙ p.given; made = q.made ∙ p.made; created = q.created ∙ p.created; reads = q.reads ∙ p.reads; writes = omega (arith, p.writes, q.writes); shorts = omega (arith, p.shorts, q.shorts) }
+only_more (Some name) a b c p q = keeps_more a b c p q
 
 pub failed_behind : (place : Place) (a b c : View) → OnlyPuts place a b → Rose b.write_faults c.write_faults → Rose a.write_faults c.write_faults
 failed_behind None a b c only rose = omega (arith, only.writes, rose)

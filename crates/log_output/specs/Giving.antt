@@ -1,6 +1,6 @@
 -- How a text goes to its place in pieces: lines gather in a block, whose bytes go there together.
 use Rattle.std.specs.Prelude.{ℕ, ◌≡◌, List, ◌++◌, length, Some, None, Result, Ok, Err}
-use Rattle.cell_io.specs.Desk.{View, IsQuiet, OnlyMakes, OnlySays}
+use Rattle.cell_io.specs.Desk.{View, IsQuiet, OnlyAppends, OnlySays}
 use Rattle.cell_io.specs.Output.{Place, Puts}
 use Rattle.cell_io.specs.declared.output.WriteFault.{WriteFault}
 use Rattle.cell_io.specs.declared.output.WriteFault.TheVariants.{Failed, NoMemory}
@@ -16,7 +16,7 @@ GivesSome place bytes old new = (left : List ℕ) × Gives place bytes left old 
 -- nothing changed but that place, and the counts of failed writes and of short memory, which did not fall
 abbrev pub OnlyPuts : Place → View → View → Type 0
 OnlyPuts None old new = OnlySays old new
-OnlyPuts (Some name) old new = OnlyMakes old new
+OnlyPuts (Some name) old new = OnlyAppends old new
 
 -- no call of the desk failed but the one that the answer tells of
 abbrev pub KeepsUntold : {X : Type 0} → Result X WriteFault → View → View → Type 0

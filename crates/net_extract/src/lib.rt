@@ -27,5 +27,6 @@ mod tie;
 
 pub use drawing::{extract, extract_bodies};
 pub use laws::{one_body_netlist, one_netlist, one_numbering, rectangle_nets};
+pub use net_name::ExtractFault;
 pub use netlist::{BodyList, BodyNetlist, Drawn, DrawnList, Netlist};
 pub use netmap::NetMap;

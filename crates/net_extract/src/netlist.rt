@@ -12,6 +12,7 @@ pub struct Drawn {
     pub length: u32,
 }
 
+/// The devices of a drawing.
 pub type DrawnList = List<Drawn>;
 
 /// The names of nets by number, and the devices; nets are numbered and devices stand by their first

@@ -1,9 +1,9 @@
 ghost use Rattle.std.specs.Prelude.{IfOk};
 ghost use Rattle.spice_net.specs.Subckts.{IsSubckt};
 
-use cell_num::{FingerList, Fingers, copy};
+use cell_num::{FingerList, Fingers, Name, Names, NetNo, Pins, copy};
 use finger_fold::{FoldFault, fold};
-use spice_net::{Subckt, read_cell};
+use spice_net::{DeviceList, DirectionList, Subckt, read_cell};
 use std::alloc::{AllocError, Global};
 use std::test::Fail;
 use tech_file::{Tech, read_tech};
@@ -130,5 +130,32 @@ fn cuts_into_the_fingers_that_are_asked_for(rt: HostRuntime) -> Result<(), Fail>
             "{limits} {width} {more}"
         );
     }
+    Ok(())
+}
+
+// No reading gives such a subcircuit, and `fold` takes it all the same.
+fn empty_cell(alloc: Global) -> Subckt
+    ensures { IsSubckt result }
+{
+    Subckt {
+        name: Name::new(alloc),
+        pins: Pins {
+            pins: 0,
+            vdd: NetNo(0),
+            gnd: NetNo(1),
+        },
+        nets: Names::new(alloc),
+        devices: DeviceList::new(alloc),
+        directions: DirectionList::new(alloc),
+    }
+}
+
+#[test]
+fn folds_no_transistor(rt: HostRuntime) -> Result<(), Fail> {
+    let alloc = rt.alloc();
+    let tech = Tech::plain(alloc)?;
+    let fingers = fold(alloc, &empty_cell(alloc), &tech)?;
+    assert!(rt; fingers.p.len() == 0);
+    assert!(rt; fingers.n.len() == 0);
     Ok(())
 }

@@ -18,7 +18,7 @@ use Rattle.row_abut.specs.Circuit.{names_of_row, fingers_of_row, IsCircuit}
 use Rattle.row_abut.specs.Faults.{first_height, other_height, clash, first_clash}
 use Rattle.row_abut.specs.Row.{flat_row}
 use Rattle.row_abut.specs.declared.cell.RowCell.{RowCell}
-use Rattle.row_abut.specs.declared.measure.TheConstants.{CHANNEL_ROOM, LEAST_INNER}
+use Rattle.row_abut.specs.Measures.{CHANNEL_ROOM, LEAST_INNER}
 use Rattle.row_abut.proofs.Beside.{Side, low, high}
 use Rattle.row_abut.proofs.Fingers.{extracts}
 use Rattle.row_abut.proofs.Nets.{IsNamedCell, NamedRow}

@@ -6,7 +6,7 @@ use Rattle.cell_num.proofs.Lists.{contains_none, contains_cons, contains_here, c
 use Rattle.scmos_rules.proofs.Rails.{IsColumn}
 use Rattle.row_abut.specs.Row.{Standing, standing_behind}
 use Rattle.row_abut.specs.declared.cell.RowCell.{RowCell}
-use Rattle.row_abut.specs.declared.measure.TheConstants.{CHANNEL_ROOM, LEAST_INNER}
+use Rattle.row_abut.specs.Measures.{CHANNEL_ROOM, LEAST_INNER}
 
 -- one place for each item; equality of places needs no proof about proofs
 abbrev pub Place : {X : Type 0} → List X → Type 0

@@ -10,7 +10,7 @@ use Rattle.scmos_rules.specs.declared.rules.Deck.TheVariants.{Plain}
 use Rattle.cell_draw.specs.Framed.{IsFramed}
 use Rattle.cell_draw.specs.declared.layout.Frame.{Frame}
 use Rattle.row_abut.specs.declared.cell.RowCell.{RowCell}
-use Rattle.row_abut.specs.declared.measure.TheConstants.{MOST_REACH, LEAST_INNER}
+use Rattle.row_abut.specs.Measures.{MOST_REACH, LEAST_INNER}
 use Rattle.row_abut.specs.Row.{vdd_name, gnd_name}
 
 -- a place along one axis

@@ -3,7 +3,7 @@ use Rattle.std.specs.Prelude.{ℕ, ◌≡◌, ◌+◌, ◌==◌, ◌||◌, not, 
 use Rattle.std.specs.Prelude.{Option, Some, None, option_map}
 use Rattle.std.specs.List.{zip}
 use Rattle.row_abut.specs.declared.cell.RowCell.{RowCell}
-use Rattle.row_abut.specs.declared.measure.TheConstants.{CHANNEL_ROOM}
+use Rattle.row_abut.specs.Measures.{CHANNEL_ROOM}
 
 abbrev pub first_height : List RowCell → ℕ
 first_height [] = 0

@@ -7,6 +7,7 @@ ghost use Rattle.cell_draw.specs.Extracted.{ExtractsTo};
 ghost use Rattle.row_abut.specs.Cells.{IsRowCell, HaveSameRails, AreOneByName, AreDrawn};
 ghost use Rattle.row_abut.specs.Circuit.{names_of_row, fingers_of_row, IsCircuit};
 ghost use Rattle.row_abut.specs.Faults.{DifferInHeight, ClashInChannel};
+ghost use Rattle.row_abut.specs.Measures.{MOST_CELLS};
 ghost use Rattle.row_abut.specs.Row.{flat_row};
 ghost use Rattle.row_abut.specs.Structs.{abutted};
 ghost use Rattle.row_abut.specs.declared.cell.RowCell.{RowCell};
@@ -14,14 +15,15 @@ ghost use Rattle.row_abut.specs.declared.cell.RowFault.TheVariants.{Heights, Cha
 
 use crate::fault::{first_clash, first_height, other_height};
 use crate::structs::abutted;
-use crate::{MOST_CELLS, RowCellList, RowFault};
+use crate::{RowCellList, RowFault};
 use cell_num::Name;
 use gds_write::StructList;
 use std::alloc::Global;
 
-/// Puts 1 to [`MOST_CELLS`] cells side by side, from the left: a structure for each different cell, then the top, which
-/// refers to each cell in its place. The nets of cell K but the rails are labelled `K#name` there, K from 0; the rails
-/// are common. Drawn cells of one height whose channels fit obey the rules side by side and are all their circuits.
+/// Puts 1 to [`MOST_CELLS`](crate::MOST_CELLS) cells side by side, from the left: a structure for each different cell,
+/// then the top, which refers to each cell in its place. The nets of cell K but the rails are labelled `K#name` there, K
+/// from 0; the rails are common. Drawn cells of one height whose channels fit obey the rules side by side and are all
+/// their circuits.
 pub fn abut(alloc: Global, top: &Name, cells: &RowCellList) -> Result<StructList, RowFault>
     requires some { 1 ≤ length cells.now }
     requires few { length cells.now ≤ MOST_CELLS }

@@ -3,9 +3,10 @@
 ghost use Rattle.std.specs.Prelude.{◌≡◌, ◌≤◌, ◌*◌, ◌++◌, [], ◌∷◌, bytes_eq, map, not, All, IfOk, OnOk, length};
 ghost use Rattle.std.specs.List.{filter};
 ghost use Rattle.row_abut.specs.Cells.{IsLabelInReach, IsRowCell};
+ghost use Rattle.row_abut.specs.Measures.{MOST_CELLS, MOST_REACH};
 ghost use Rattle.row_abut.specs.Row.{is_rail, numbered_name, label_at, labels_at, rail_labels, row_labels};
 
-use crate::{MOST_CELLS, MOST_REACH, RowCell};
+use crate::RowCell;
 use box_geom::{Label, LabelList};
 use cell_num::{Name, NoMemory, put_number};
 use std::alloc::Global;

@@ -2,11 +2,12 @@
 
 ghost use Rattle.std.specs.Prelude.{◌≡◌, ◌≤◌, ◌*◌, ◌++◌, [], All, IfOk, OnOk, length, map};
 ghost use Rattle.row_abut.specs.Cells.{IsRowCell};
+ghost use Rattle.row_abut.specs.Measures.{MOST_CELLS, MOST_REACH};
 ghost use Rattle.row_abut.specs.Row.{standing};
 ghost use Rattle.row_abut.specs.Structs.{has_name, first_uses, struct_of, ref_to, ref_at, top_of, abutted};
 
+use crate::RowCell;
 use crate::labels::row_labels;
-use crate::{MOST_CELLS, MOST_REACH, RowCell};
 use box_geom::{ShapeList, Shapes};
 use cell_num::{Name, NoMemory};
 use gds_write::{Ref, RefList, Struct, StructList};

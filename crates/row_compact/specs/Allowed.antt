@@ -10,7 +10,7 @@ use Rattle.row_place.specs.Trunks.{IsContacted}
 use Rattle.channel_route.specs.declared.routing.Routing.{Routing}
 use Rattle.channel_route.specs.declared.routing.Trunk.{Trunk}
 use Rattle.channel_route.specs.Routing.{IsLegal}
-use Rattle.row_compact.specs.declared.measure.TheConstants.{SIDE_SPACE, LINE_SPACE, CONTACT_SPACE, STRETCH_SPACE}
+use Rattle.row_compact.specs.Measures.{SIDE_SPACE, LINE_SPACE, CONTACT_SPACE, STRETCH_SPACE}
 use Rattle.row_compact.specs.declared.distance.Distances.{Distances}
 use Rattle.row_compact.specs.Solution.{x_of, IsSolution}
 

@@ -8,7 +8,7 @@ use Rattle.row_place.specs.declared.placement.Placement.{Placement}
 use Rattle.row_place.specs.declared.placement.UnitKind.{UnitKind}
 use Rattle.row_place.specs.declared.placement.UnitKind.TheVariants.{Column, Gap}
 use Rattle.channel_route.specs.declared.routing.Trunk.{Trunk}
-use Rattle.row_compact.specs.declared.measure.TheConstants.{LINE_SPACE, CONTACT_SPACE, STRETCH_SPACE}
+use Rattle.row_compact.specs.Measures.{LINE_SPACE, CONTACT_SPACE, STRETCH_SPACE}
 use Rattle.row_compact.specs.declared.distance.Distance.{Distance}
 
 abbrev pub entry : ℕ → ℕ → ℕ → Distance

@@ -1,7 +1,7 @@
 -- The solutions of a list of distances, and the least of them.
 use Rattle.std.specs.Prelude.{ℕ, ◌≡◌, ◌+◌, ◌≤◌, ◌<◌, List, length, get_or}
 use Rattle.std.specs.List.{All}
-use Rattle.row_compact.specs.declared.measure.TheConstants.{SIDE_SPACE, LINE_SPACE}
+use Rattle.row_compact.specs.Measures.{SIDE_SPACE, LINE_SPACE}
 use Rattle.row_compact.specs.declared.distance.Distance.{Distance}
 use Rattle.row_compact.specs.declared.distance.Distances.{Distances}
 

@@ -1,5 +1,5 @@
 -- Made cells stand in a row: what puts them side by side asks this of them, and says that of them.
-use Rattle.std.proofs.Common.{ℕ, ◌≡◌, ◌≢◌, ◌≤◌, ◌+◌, ◌-◌, ◌*◌, refl, List, [], ◌∷◌, map, length, All, AllPairs, sym, subst, ap, ◌↔◌, Result, Err, ◌∙◌, fold, arith}
+use Rattle.std.proofs.Common.{ℕ, ◌≡◌, ◌≢◌, ◌≤◌, ◌+◌, ◌-◌, ◌*◌, refl, List, [], ◌∷◌, map, length, All, AllPairs, sym, subst, ap, ◌↔◌, Result, Ok, Err, ◌∙◌, fold, arith}
 use Rattle.std.specs.List.{AllZip, sum_by}
 use Rattle.std.proofs.lemmas.List.{length-map}
 use Rattle.std.proofs.lemmas.List.Elements.{All-drop, All-head, All-tail, All-take}
@@ -83,12 +83,13 @@ narrow r made h = omega (arith, low_width r 0 made (all_ready r made h), few_mad
 
 -- ---- a row
 
-pub rowed_so : (r : RowInputs) (cells : List RowCell) → AreRowInputs r → (s : AreCellsOf r r.names cells) → (AreDrawn cells → Obeys Plain (flat_row cells).rects) → ((fingers : List Fingers) → AreDrawn cells → AllZip IsCircuit cells fingers → ExtractsTo Plain (names_of_row cells) (fingers_of_row cells fingers) (flat_row cells)) → IsRowed r s.made
-rowed_so r cells inputs s obeys extracts =
+pub rowed_so : (r : RowInputs) (cells : List RowCell) → AreRowInputs r → (s : AreCellsOf r r.names cells) → ((fault : RowFault) → IsRowFault cells fault → ⊥) → (AreDrawn cells → Obeys Plain (flat_row cells).rects) → ((fingers : List Fingers) → AreDrawn cells → AllZip IsCircuit cells fingers → ExtractsTo Plain (names_of_row cells) (fingers_of_row cells fingers) (flat_row cells)) → IsRowed r s.made
+rowed_so r cells inputs s beside obeys extracts =
     let h = are_ready r cells inputs s in
     let drawn = are_drawn r s.made h in
     record {
       cells = s.are;
+      beside = subst (λ (cs : List RowCell). (fault : RowFault) → IsRowFault cs fault → ⊥) s.shown beside;
       obeys = subst (λ (cs : List RowCell). AreDrawn cs → Obeys Plain (flat_row cs).rects) s.shown obeys drawn;
       extracts = subst (λ (cs : List RowCell). (fingers : List Fingers) → AreDrawn cs → AllZip IsCircuit cs fingers → ExtractsTo Plain (names_of_row cs) (fingers_of_row cs fingers) (flat_row cs)) s.shown extracts (map (λ (m : MadeCell). m.inputs.fingers) s.made) drawn (are_circuits r s.made h);
       decodes = row_decodes r s.made h;
@@ -101,3 +102,8 @@ pub row_fault_so : (cells : List RowCell) (got : Result (List Struct) RowFault) 
 row_fault_so cells got (Heights first other) is heights channel some = (heights first other).1 is
 row_fault_so cells got (Channel left right) is heights channel some = (channel left right).1 is
 row_fault_so cells got NoMemory is heights channel some = absurd (some refl)
+
+pub no_fault_so : (cells : List RowCell) (structs : List Struct) → ((first other : ℕ) → DifferInHeight cells first other ↔ ◌≡◌ {A = Result (List Struct) RowFault} (Ok structs) (Err (Heights first other))) → ((left right : ℕ) → ClashInChannel cells left right ↔ ◌≡◌ {A = Result (List Struct) RowFault} (Ok structs) (Err (Channel left right))) → (fault : RowFault) → IsRowFault cells fault → ⊥
+no_fault_so cells structs heights channel (Heights first other) is = let wrong = (heights first other).0 is in cc
+no_fault_so cells structs heights channel (Channel left right) is = let wrong = (channel left right).0 is in cc
+no_fault_so cells structs heights channel NoMemory is = is

@@ -2,7 +2,7 @@
 use Rattle.std.specs.Prelude.{ℕ, ◌≢◌, ◌≤◌, List, length, All, IsTrue}
 use Rattle.cell_num.specs.Names.{is_cell}
 use Rattle.cell_num.specs.declared.limits.TheConstants.{MOST_BYTES}
-use Rattle.row_abut.specs.declared.measure.TheConstants.{MOST_CELLS}
+use Rattle.row_abut.specs.Measures.{MOST_CELLS}
 use Rattle.tech_file.specs.Technology.{Technology, IsTechnology}
 
 -- the technology, the bytes of the SPICE file, the row's name, and the names of its cells from the left

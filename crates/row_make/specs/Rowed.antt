@@ -98,11 +98,18 @@ row_width made = sum_by (λ (m : MadeCell). (cell_drawing m).width) made
 abbrev pub row_height : List MadeCell → ℕ
 row_height made = first_height (row_cells made)
 
--- All cells are made. Side by side they obey every rule and extract, net by net, to the fingers of all of them, where
--- the nets of cell K but the rails are named `K#name`. The library decodes with the row's name to them side by side,
--- and with each cell's name to the drawing of that.
+-- why cells do not stand side by side: their heights differ, or the channels of two neighbours
+abbrev pub IsRowFault : List RowCell → RowFault → Type 0
+IsRowFault cells (Heights first other) = DifferInHeight cells first other
+IsRowFault cells (Channel left right) = ClashInChannel cells left right
+IsRowFault cells NoMemory = ⊥
+
+-- All cells are made, and nothing keeps them from standing side by side. So they obey every rule and extract, net by
+-- net, to the fingers of all of them, where the nets of cell K but the rails are named `K#name`. The library decodes
+-- with the row's name to them side by side, and with each cell's name to the drawing of that.
 pub record IsRowed (r : RowInputs) (made : List MadeCell) : Type 0 where
   pub cells : AreMade r r.names made
+  pub beside : (fault : RowFault) → IsRowFault (row_cells made) fault → ⊥
   pub obeys : Obeys Plain (flat_row (row_cells made)).rects
   pub extracts :
       ExtractsTo Plain (names_of_row (row_cells made))
@@ -151,12 +158,7 @@ TellsWhy inputs (why.Tall needed given) answer =
     × (needed ≡ needed_of row routing.tracks) × (given ≡ inputs.tech.height)
 TellsWhy inputs (why.Unfinished log proved) answer = answer ≡ Unfinished proved log
 
--- the cells do not stand side by side
-abbrev pub IsRowFault : List RowCell → RowFault → Type 0
-IsRowFault cells (Heights first other) = DifferInHeight cells first other
-IsRowFault cells (Channel left right) = ClashInChannel cells left right
-IsRowFault cells NoMemory = ⊥
-
+-- all cells are made, and this fault keeps them from standing side by side
 pub record IsUnabutted (r : RowInputs) (made : List MadeCell) (fault : RowFault) : Type 0 where
   pub cells : AreMade r r.names made
   pub is : IsRowFault (row_cells made) fault

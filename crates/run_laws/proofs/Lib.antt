@@ -1,12 +1,14 @@
 pub mod AgreeTold
 pub mod AskedFor
 pub mod BenchTold
+pub mod Created
 pub mod Ends
 pub mod ExtractTold
 pub mod MadeCompared
 pub mod MadeFiles
 pub mod MakeSettled
 pub mod MakeTold
+pub mod RowSettled
 pub mod RowTold
 pub mod Telling
 pub mod TrailTold

@@ -1,5 +1,6 @@
 -- The files of a made cell are found to agree.
-use Rattle.std.proofs.Common.{ℕ, ◌≡◌, List, Option, Some, None, Result, Ok, Err, IfSome, ap, ◌∙◌, subst, sym}
+use Rattle.std.proofs.Common.{ℕ, ◌≡◌, ◌≤◌, List, Option, Some, None, Result, Ok, Err, IfSome, length, refl, arith, ap, ◌∙◌, subst, sym}
+use Rattle.std.proofs.lemmas.Bool.{le-leb}
 use Rattle.cell_io.specs.Desk.{Files, View}
 use Rattle.box_geom.specs.declared.shape.Shapes.{Shapes}
 use Rattle.tech_file.specs.Technology.{Technology}
@@ -13,13 +14,14 @@ use Rattle.call_end.specs.declared.status.Status.TheVariants as status
 use Rattle.call_read.specs.InputFiles.{macro_from, macro_of, shapes_from, shapes_in, technology_from}
 use Rattle.call_read.specs.Reading.{Reading, Ends, Reads, bytes_of, ◌>>=◌, behind, called}
 use Rattle.call_read.specs.Refusals.{as_refusal}
-use Rattle.call_read.specs.Sources.{Source, GdsFile, LefFile, held}
+use Rattle.call_read.specs.Sources.{Source, GdsFile, LefFile, held, most_bytes, within}
 use Rattle.call_read.specs.declared.refusal.Refusal.{Refusal}
 use Rattle.call_read.specs.declared.refusal.Refusal.TheVariants.{Gds, Lef}
 use Rattle.call_words.specs.Words.{Form, Agree}
 use Rattle.call_work.specs.Commands.{Agreeing, Material, gathered}
 use Rattle.cell_inputs.specs.Inputs.{unit_nm}
 use Rattle.cell_make.proofs.Abstracts.{abstract_made}
+use Rattle.cell_make.proofs.Small.{small_made}
 use Rattle.cell_make.specs.Making.{final_in}
 use Rattle.run_laws.specs.Agree.{ComparesMade, OfCompared}
 use Rattle.run_laws.specs.Calm.{IsCalm}
@@ -43,6 +45,16 @@ file_so : (files : Files) (source : Source) (bytes : List ℕ) → held files so
 file_so files source bytes e = ap (λ (r : Result (List ℕ) Refusal). behind r (λ b. Ok b)) e
 
 -- ---- the two files
+
+-- a file that is not longer than the most is read whole
+within_most : (name bytes : List ℕ) (most : ℕ) (got : Option (List ℕ)) → got ≡ Some bytes → length bytes ≤ most → within name most got ≡ Ok bytes
+within_most name bytes most got e few = ap (within name most) e ∙ rw (le-leb (length bytes) most few) refl
+
+library_held : (files : Files) (gds bytes : List ℕ) → files gds ≡ Some bytes → length bytes ≤ 200000 → held files (GdsFile gds) ≡ Ok bytes
+library_held files gds bytes e few = within_most gds bytes (most_bytes (GdsFile gds)) (files gds) e (omega (arith, few))
+
+abstract_held : (files : Files) (lef bytes : List ℕ) → files lef ≡ Some bytes → length bytes ≤ 200000 → held files (LefFile lef) ≡ Ok bytes
+abstract_held files lef bytes e few = within_most lef bytes (most_bytes (LefFile lef)) (files lef) e (omega (arith, few))
 
 shapes_so : (files : Files) (gds name bytes : List ℕ) (tech : Technology) (shapes : Shapes) → held files (GdsFile gds) ≡ Ok bytes → Decodes bytes name tech.lambda_nm shapes → called files (shapes_from gds name tech) ≡ Ok shapes
 shapes_so files gds name bytes tech shapes e is =
@@ -68,12 +80,13 @@ compared_so files word gds lef name tech shapes cell one two three =
 of_made : (files : Files) (form : Option Form) → ComparesMade files form → OfCompared files form DoesAgree
 of_made files form m =
     let shapes : Shapes = (final_in m.style m.inputs m.row m.routing m.lines).shapes in
-    let agrees = abstract_made m.style m.inputs m.row m.routing m.lines m.drawn.agrees in (
+    let agrees = abstract_made m.style m.inputs m.row m.routing m.lines m.drawn.agrees in
+    let small = small_made m.style m.inputs m.row m.routing m.lines m.drawn.small in (
       compared shapes agrees.cell,
       subst (λ f. called files (gathered f) ≡ Ok (Agreeing, compared shapes agrees.cell)) (sym m.words)
           (compared_so files m.tech m.gds m.lef m.inputs.cell.name m.inputs.tech shapes agrees.cell m.technology
-          (shapes_so files m.gds m.inputs.cell.name _ m.inputs.tech shapes m.library m.drawn.decodes)
-          (macro_so files m.lef m.inputs.cell.name _ m.inputs.tech agrees.cell m.abstract agrees.read)),
+          (shapes_so files m.gds m.inputs.cell.name _ m.inputs.tech shapes (library_held files m.gds _ m.library small.library) m.drawn.decodes)
+          (macro_so files m.lef m.inputs.cell.name _ m.inputs.tech agrees.cell (abstract_held files m.lef _ m.abstract small.abstract) agrees.read)),
       (agrees.netlist, agrees.agrees),
     )
 

@@ -17,7 +17,7 @@ use Rattle.make_run.specs.Make.{named}
 -- ---- names
 
 -- the evidence's name ends with more letters than the others
-evidence_apart : (evidence : Evidence) (out last : List ℕ) → length last ≡ 4 → evidence_name evidence out ≢ out ++ last
+pub evidence_apart : (evidence : Evidence) (out last : List ℕ) → length last ≡ 4 → evidence_name evidence out ≢ out ++ last
 evidence_apart Log out last four e =
     let five : length (codes ".clog") ≡ 5 = refl in
     absurd (omega (arith, five, four, ap (λ (name : List ℕ). length name) e, length-append out (codes ".clog"), length-append out last))
@@ -25,7 +25,7 @@ evidence_apart Trails out last four e =
     let seven : length (codes ".ctrail") ≡ 7 = refl in
     absurd (omega (arith, seven, four, ap (λ (name : List ℕ). length name) e, length-append out (codes ".ctrail"), length-append out last))
 
-gds_is_no_lef : (out : List ℕ) → out ++ codes ".gds" ≢ out ++ codes ".lef"
+pub gds_is_no_lef : (out : List ℕ) → out ++ codes ".gds" ≢ out ++ codes ".lef"
 gds_is_no_lef out e =
     let same : codes ".gds" ≡ codes ".lef" = append_cancel_left out (codes ".gds") (codes ".lef") e in
     let g_is_l : 103 ≡ 108 = ap (λ (name : List ℕ). get_or name 1 0) same in

@@ -1,6 +1,5 @@
 -- What the top call owes of `row`, from the end that the files call for and how it was told.
-use Rattle.std.proofs.Common.{ℕ, ◌≡◌, ◌==◌, true, false, List, [], ◌∷◌, map, Contains, Option, Some, None, Result, Ok, Err, IfSome, refl, sym, ap, ◌∙◌, subst}
-use Rattle.std.proofs.lemmas.List.Elements.{All-contains, Contains-append_right}
+use Rattle.std.proofs.Common.{ℕ, ◌≡◌, ◌==◌, true, false, List, [], Option, Some, None, Result, Ok, IfSome, refl, sym, ap, ◌∙◌, subst}
 use Rattle.cell_io.specs.Desk.{Files, View, Both}
 use Rattle.call_end.proofs.Delivered.{none_made}
 use Rattle.call_end.specs.Deliver.{MakesAll, Says, TellsWhole}
@@ -20,32 +19,18 @@ use Rattle.call_work.proofs.EachCommand.{is_row}
 use Rattle.call_work.proofs.Statuses.{differ}
 use Rattle.call_work.specs.Commands.{Material, Rowing, gathered}
 use Rattle.call_work.specs.Ends.{is_among}
-use Rattle.cell_inputs.specs.Inputs.{Inputs, inputs_of}
-use Rattle.cell_inputs.specs.Style.{plain_style}
-use Rattle.cell_make.proofs.Rings.{no_ring, ring_is}
-use Rattle.cell_make.specs.Making.{MakeAnswer, Made, Cyclic, Tall, Unfinished, Makes}
-use Rattle.cell_num.proofs.Lists.{contains_here, some_same}
+use Rattle.cell_inputs.specs.Inputs.{Inputs}
+use Rattle.cell_make.specs.Making.{MakeAnswer, Made, Cyclic, Tall, Unfinished}
+use Rattle.cell_num.proofs.Lists.{some_same}
 use Rattle.run_laws.proofs.MadeFiles.{library_made}
-use Rattle.run_laws.proofs.MakeTold.{spends_less}
 use Rattle.run_laws.proofs.Telling.{or_so}
-use Rattle.run_laws.proofs.Worked.{Completes, IsAnswered, ends_told, refused_told, settles, work_statuses}
-use Rattle.run_laws.specs.Calm.{IsCalm, IsDoneOrShort}
+use Rattle.run_laws.proofs.Worked.{IsAnswered, ends_told, refused_told, work_statuses}
 use Rattle.run_laws.specs.Ended.{WhereEnds}
-use Rattle.run_laws.specs.Headline.{CanBeDrawn, OfFirstLeast}
-use Rattle.run_laws.specs.Row.{CanBeMade, CanBeRowed, IsInputRefusal, IsMisreadRow, IsRefusedRow, IsRow, IsRowAskedFor, IsRowedLibrary, IsStopStatus, IsStoppedRow, IsUnabuttedRow, OfRow, WhereRowEnds, stop_statuses}
-use Rattle.cell_num.specs.declared.finger.Fingers.{Fingers}
-use Rattle.finger_fold.specs.Folding.{folded}
-use Rattle.finger_fold.specs.declared.folding.FoldFault.{FoldFault}
-use Rattle.spice_net.specs.declared.fault.SpiceFault.{SpiceFault}
+use Rattle.run_laws.specs.Row.{IsInputRefusal, IsMisreadRow, IsRefusedRow, IsRow, IsRowAskedFor, IsRowedLibrary, IsStopStatus, IsStoppedRow, IsUnabuttedRow, WhereRowEnds, stop_statuses}
 use Rattle.row_make.specs.RowInputs.{RowInputs}
-use Rattle.row_make.specs.Rowed.{AreInputsOf, IsInputFault, IsNoDrawing, MadeCell, ComesNext, cell_name, Rowed, Refused, Stopped, Unabutted}
-use Rattle.row_make.specs.declared.outcome.InputFault.{InputFault}
+use Rattle.row_make.specs.Rowed.{Rowed, Refused, Stopped, Unabutted}
 use Rattle.row_make.specs.declared.outcome.InputFault.TheVariants.{Spice, Fold}
-use Rattle.row_place.specs.Places.{placement_of}
 use Rattle.row_run.specs.Row.{IsStoppedEnd, RowsTo, input_end, rowing, rowing_over, row_of}
-use Rattle.tech_file.specs.Technology.{Technology}
-use Rattle.spice_net.specs.Subcircuit.{subcircuit}
-use Rattle.spice_net.specs.declared.subckt.Subckt.{Subckt}
 
 -- ---- what the words ask for
 
@@ -88,7 +73,7 @@ row_told form answer settled Says (Some files) told = λ row is.
 
 -- ---- by status
 
-said_so : (end other : End) (old new : View) → end ≡ other → Both (Says end.report) old.said new.said → Both (Says other.report) old.said new.said
+pub said_so : (end other : End) (old new : View) → end ≡ other → Both (Says end.report) old.said new.said → Both (Says other.report) old.said new.said
 said_so end other old new is said = subst (λ (e : End). Both (Says e.report) old.said new.said) is said
 
 library_so : (r : RowInputs) (out : List ℕ) (end : End) (answer : Status) (old new : View) → RowsTo r out end → answer ≡ status.Done → TellsWhole end answer old new → IsRowedLibrary r out old new
@@ -112,7 +97,7 @@ no_stop answer settled other stops is same none =
     let also : is_among stop_statuses other ≡ true = subst (λ (s : Status). is_among stop_statuses s ≡ true) (sym is ∙ same) stops in
     cc
 
-no_files : (inputs : Inputs) (answer : MakeAnswer) (end : End) → IsStoppedEnd inputs answer end → end.files ≡ []
+pub no_files : (inputs : Inputs) (answer : MakeAnswer) (end : End) → IsStoppedEnd inputs answer end → end.files ≡ []
 no_files inputs (Made row log routing xs) end is = absurd is
 no_files inputs (Cyclic row log ring) end is = ap (λ (e : End). e.files) is
 no_files inputs (Tall row log routing) end is = ap (λ (e : End). e.files) is
@@ -178,56 +163,3 @@ pub unabutted_told : (a c : View) (form : Option Form) (answer : Status) (given 
 unabutted_told a c form answer given told =
     row_told form answer status.Row (λ r out. IsUnabuttedRow r a c) given
     (ends_told Rowing (λ m. IsUnabuttedRow m.0 a c) form status.Row answer a c given refl (λ m end works is whole. unabutted_so m.0 m.1 end answer a c works is whole) told)
-
--- ---- completeness
-
-parts_same : (t u : Technology) (c d : Subckt) (f g : Fingers) → t ≡ u → c ≡ d → f ≡ g → inputs_of t c f ≡ inputs_of u d g
-parts_same t u c d f g tech cell fingers = ap (λ z. inputs_of z c f) tech ∙ (ap (λ z. inputs_of u z f) cell ∙ ap (λ z. inputs_of u d z) fingers)
-
--- the inputs of a cell are told by its name
-same_inputs : (r : RowInputs) (a b : Inputs) → AreInputsOf r a → AreInputsOf r b → a.cell.name ≡ b.cell.name → a ≡ b
-same_inputs r a b x y named =
-    let cell : a.cell ≡ b.cell = ok_is a.cell b.cell (sym x.cell ∙ ap (λ name. subcircuit r.spice name r.tech) named ∙ y.cell) in
-    let fingers : a.fingers ≡ b.fingers = ok_same a.fingers b.fingers (sym x.fingers ∙ ap (λ c. folded r.tech c) cell ∙ y.fingers) in
-    parts_same a.tech b.tech a.cell b.cell a.fingers b.fingers (x.tech ∙ sym y.tech) cell fingers
-  where
-    ok_is : (c d : Subckt) → ◌≡◌ {A = Result Subckt SpiceFault} (Ok c) (Ok d) → c ≡ d
-    ok_is c d e = cc
-
-    ok_same : (f g : Fingers) → ◌≡◌ {A = Result Fingers FoldFault} (Ok f) (Ok g) → f ≡ g
-    ok_same f g e = cc
-
-never_stops : (inputs : Inputs) (answer : MakeAnswer) → OfFirstLeast CanBeDrawn plain_style inputs [] → Makes plain_style inputs answer → IsNoDrawing answer → ⊥
-never_stops inputs (Made row log routing xs) can makes none = none
-never_stops inputs (Cyclic row log ring) (much, can) makes none = no_ring plain_style.wiring (placement_of row) inputs.cell.pins ring (can row makes.0.first).acyclic (ring_is plain_style.wiring (placement_of row) inputs.cell.pins ring makes.1)
-never_stops inputs (Tall row log routing) (much, can) makes none = (can row makes.0.first).fits routing makes.1 makes.2
-never_stops inputs (Unfinished proved log) (much, can) makes none = spends_less inputs log proved much makes
-
-never_refused : (r : RowInputs) (name : List ℕ) (fault : InputFault) → CanBeMade r name → IsInputFault r name fault → ⊥
-never_refused r name (Spice f) can is =
-    let ok : subcircuit r.spice name r.tech ≡ Ok can.inputs.cell = subst (λ n. subcircuit r.spice n r.tech ≡ Ok can.inputs.cell) can.named can.of.cell in
-    let clash : ◌≡◌ {A = Result Subckt SpiceFault} (Ok can.inputs.cell) (Err f) = sym ok ∙ is in
-    cc
-never_refused r name (Fold f) can (cell, ok, is) =
-    let own : subcircuit r.spice name r.tech ≡ Ok can.inputs.cell = subst (λ n. subcircuit r.spice n r.tech ≡ Ok can.inputs.cell) can.named can.of.cell in
-    let same : can.inputs.cell ≡ cell = ok_is can.inputs.cell cell (sym own ∙ ok) in
-    let clash : ◌≡◌ {A = Result Fingers FoldFault} (Ok can.inputs.fingers) (Err f) = sym can.of.fingers ∙ ap (λ c. folded r.tech c) same ∙ is in
-    cc
-  where
-    ok_is : (c d : Subckt) → ◌≡◌ {A = Result Subckt SpiceFault} (Ok c) (Ok d) → c ≡ d
-    ok_is c d e = cc
-
-next_can : (r : RowInputs) (before : List MadeCell) (name : List ℕ) → CanBeRowed r → ComesNext r before name → CanBeMade r name
-next_can r before name can next =
-    All-contains (CanBeMade r) r.names name can.each (subst (λ names. Contains names name) (sym next.names) (Contains-append_right (map cell_name before) (name ∷ next.later) name (contains_here name next.later)))
-
-rowed_where : (r : RowInputs) (out : List ℕ) (end : End) → CanBeRowed r → RowsTo r out end → end.status ≡ status.Done
-rowed_where r out end can (Rowed made, h, is) = is.status
-rowed_where r out end can (Refused before name fault, h, is) = absurd (never_refused r name fault (next_can r before name can h.next) h.is)
-rowed_where r out end can (Stopped before inputs answer, h, is) =
-    let next = next_can r before inputs.cell.name can h.next in
-    absurd (never_stops inputs answer (subst (λ i. OfFirstLeast CanBeDrawn plain_style i []) (same_inputs r next.inputs inputs next.of h.of next.named) next.drawn) h.makes h.stops)
-rowed_where r out end can (Unabutted made fault, h, is) = absurd (can.beside made h.cells fault h.is)
-
-pub rows_told : (a c : View) (form : Option Form) (answer : Status) (given : Option Files) → IfSome given (λ files. IsCalm a c → Completes form files answer) → IfSome given (λ files. IsCalm a c → OfRow files form (λ r out. CanBeRowed r) → IsDoneOrShort answer)
-rows_told a c form answer given told = settles Rowing (λ m. CanBeRowed m.0) form status.Done answer a c given (λ m end can works. rowed_where m.0 m.1 end can works) told

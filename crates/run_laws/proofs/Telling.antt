@@ -12,7 +12,7 @@ use Rattle.call_end.specs.declared.status.Status.{Status}
 use Rattle.call_end.specs.declared.status.Status.TheVariants as status
 use Rattle.run_laws.specs.Calm.{IsCalm, IsDoneOrShort}
 use Rattle.run_laws.specs.Check.{HoldsAcceptedLog, IsCheck}
-use Rattle.call_end.specs.Deliver.{GivesUp, MakesAll, MakesSome, OnlyTells, Says, Tells, TellsSome, TellsWhole}
+use Rattle.call_end.specs.Deliver.{CreatesAll, CreatesFront, GivesUp, MakesAll, MakesSome, OnlyTells, Says, Tells, TellsSome, TellsWhole}
 use Rattle.call_work.specs.Ends.{CallsFor, IsOfOutside, KeepsReadsOf, MayEnd, desk_statuses, is_among, is_status_of, outside_of, settled_of}
 use Rattle.run_laws.specs.Row.{IsRow, MayLeaveFile, MayMakeFiles}
 use Rattle.run_laws.specs.Plan.{HasEnough}
@@ -33,8 +33,8 @@ abbrev pub Answers : View → View → Option Form → Status → Type 0
 Answers old new form answer = (end : End) × MayEnd old new form end × Tells end answer old new
 
 tells_before : (end : End) (answer : Status) (a b c : View) → OnlyReads a b → Tells end answer b c → Tells end answer a c
-tells_before end answer a b c x (inl (is, made, said)) =
-    inl (is, subst (λ (m : Option Files). Both (MakesAll end.files) m c.made) x.made made, subst (λ (s : Option (List ℕ)). Both (Says end.report) s c.said) x.said said)
+tells_before end answer a b c x (inl (is, made, said, created)) =
+    inl (is, subst (λ (m : Option Files). Both (MakesAll end.files) m c.made) x.made made, subst (λ (s : Option (List ℕ)). Both (Says end.report) s c.said) x.said said, subst (λ (n : Option (List (List ℕ))). Both (CreatesAll end.files) n c.created) x.created created)
 tells_before end answer a b c x (inr (up, some)) = inr (gives up, tells some)
   where
     gives : GivesUp answer b c → GivesUp answer a c
@@ -42,8 +42,8 @@ tells_before end answer a b c x (inr (up, some)) = inr (gives up, tells some)
     gives (inr (is, rose)) = inr (is, subst (λ n. Rose n c.shorts) x.shorts rose)
 
     tells : TellsSome end b c → TellsSome end a c
-    tells (inl (made, same)) = inl (subst (λ (m : Option Files). Both (MakesSome end.files) m c.made) x.made made, same ∙ x.said)
-    tells (inr (made, said)) = inr (subst (λ (m : Option Files). Both (MakesAll end.files) m c.made) x.made made, subst (λ (s : Option (List ℕ)). Both (ForSome end.report (AddsPart end.report)) s c.said) x.said said)
+    tells (inl (made, same, created)) = inl (subst (λ (m : Option Files). Both (MakesSome end.files) m c.made) x.made made, same ∙ x.said, subst (λ (n : Option (List (List ℕ))). Both (CreatesFront end.files) n c.created) x.created created)
+    tells (inr (made, said, created)) = inr (subst (λ (m : Option Files). Both (MakesAll end.files) m c.made) x.made made, subst (λ (s : Option (List ℕ)). Both (ForSome end.report (AddsPart end.report)) s c.said) x.said said, subst (λ (n : Option (List (List ℕ))). Both (CreatesAll end.files) n c.created) x.created created)
 
 pub answers : (a b c : View) (form : Option Form) (end : End) (answer : Status) → OnlyReads a b → OnlyTells b c → MayEnd a b form end → Tells end answer b c → Answers a c form answer
 answers a b c form end answer x y (got, inl came, ends) tells =
@@ -104,7 +104,7 @@ nothing_said (Some x) None h = absurd h
 cause_of : (a c : View) (form : Option Form) (answer : Status) → Answers a c form answer → Cause a c form answer
 cause_of a c form answer (end, may, inr (inl (told, rose), some)) = ByWriting told rose
 cause_of a c form answer (end, may, inr (inr (told, rose), some)) = ByMemory told (inl rose)
-cause_of a c form answer (end, may, inl (is, made, said)) = elim (end_cases a c form end may) [
+cause_of a c form answer (end, may, inl (is, made, said, created)) = elim (end_cases a c form end may) [
   | inl h ↦ Settled (subst (λ (s : Status). is_among (settled_of form) s ≡ true) (sym is) h)
   | inr (inl file) ↦
       ByFile (subst (λ (s : Status). is_among (outside_of form) s ≡ true) (sym is) (file_outside a c form end file))

@@ -10,7 +10,6 @@ use Rattle.call_work.specs.Commands.{Agreeing}
 use Rattle.run_laws.specs.Ended.{Gathers, IsGdsFault, IsLefFault, IsOfKind, IsRefusedBy, IsToldFault}
 use Rattle.call_read.specs.InputFiles.{technology_from}
 use Rattle.call_read.specs.Reading.{called}
-use Rattle.call_read.specs.Sources.{GdsFile, LefFile, held}
 use Rattle.cell_inputs.specs.Inputs.{Inputs}
 use Rattle.cell_inputs.specs.declared.style.Style.{Style}
 use Rattle.cell_make.specs.Making.{IsDrawn, abstract_of, drawing_in, final_in, library_of}
@@ -59,8 +58,7 @@ abbrev pub HasNoNets : Files → Option Form → Type 0
 HasNoNets files form = IsRefusedBy IsGdsFault files form ⊎ OfCompared files form (HasDifference IsUnextracted)
 
 -- The words ask for a comparison of the files of a drawn row, in any style and with any evidence: the technology is
--- that of its inputs, CELL is its name, the GDSII file is its library and the LEF file its abstract. Both are within
--- the limit of such a file.
+-- that of its inputs, CELL is its name, the GDSII file is its library and the LEF file its abstract.
 pub record ComparesMade (files : Files) (form : Option Form) : Type 0 where
   pub style : Style
   pub inputs : Inputs
@@ -73,5 +71,5 @@ pub record ComparesMade (files : Files) (form : Option Form) : Type 0 where
   pub lef : List ℕ
   pub words : form ≡ Some (Agree tech gds lef inputs.cell.name)
   pub technology : called files (technology_from tech) ≡ Ok inputs.tech
-  pub library : held files (GdsFile gds) ≡ Ok (library_of inputs (final_in style inputs row routing lines))
-  pub abstract : held files (LefFile lef) ≡ Ok (abstract_of inputs routing (drawing_in inputs row routing lines))
+  pub library : files gds ≡ Some (library_of inputs (final_in style inputs row routing lines))
+  pub abstract : files lef ≡ Some (abstract_of inputs routing (drawing_in inputs row routing lines))

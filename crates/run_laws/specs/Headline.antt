@@ -29,7 +29,7 @@ use Rattle.call_end.specs.Deliver.{Says}
 use Rattle.cell_inputs.specs.Inputs.{Inputs, unit_nm}
 use Rattle.cell_inputs.specs.declared.style.Style.{Style}
 use Rattle.cell_make.specs.Extent.{frame_in}
-use Rattle.cell_make.specs.Making.{AreLeastLines, IsRouted, abstract_of, drawing_in, library_of, ports_in}
+use Rattle.cell_make.specs.Making.{AreLeastLines, AreSmall, IsRouted, abstract_of, drawing_in, library_of, ports_in}
 use Rattle.cell_report.specs.Cycles.{ring_text}
 use Rattle.cell_report.specs.Cells.{sizes_text, tall_text}
 use Rattle.cell_report.specs.Rows.{plan_text}
@@ -133,6 +133,8 @@ pub record IsMadeCell (evidence : Evidence) (style : Style) (inputs : Inputs) (o
   -- deck: its pins are labels, each cell of a port is in its pin's net, and all other metal is in an obstruction.
   pub agrees :
       IsAbstractOf layout.shapes inputs.cell.name (unit_nm inputs.tech) (abstract_of inputs routing drawing)
+  -- The library and the abstract are at most 200,000 bytes each.
+  pub small : AreSmall (library_of inputs layout) (abstract_of inputs routing drawing)
   -- The library stands in `OUT.gds`, the text of a log in `OUT.clog`, or of a certificate by trails in `OUT.ctrail`,
   -- and in `OUT.lef` the macro of the cell with these ports, obstructions and this size.
   pub files :

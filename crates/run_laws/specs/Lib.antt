@@ -3,6 +3,7 @@ pub mod Agree
 pub mod Bench
 pub mod Calm
 pub mod Check
+pub mod Created
 pub mod Ended
 pub mod Evidence
 pub mod Extract

@@ -87,12 +87,17 @@ abbrev pub IsMisreadRow : Files → Option Form → View → View → Type 0
 IsMisreadRow files form old new =
     IsToldFault IsInputRefusal files form old new ⊎ OfRow files form (λ r out. IsRefusedRow r old new)
 
+-- what is told of such a fault
+abbrev pub TellsRowFault : RowFault → View → View → Type 0
+TellsRowFault fault old new =
+    Both (Says (reports status.Row (fault_line (codes "row") (row_fault fault))).report) old.said new.said
+
 -- all cells are made, but they do not stand side by side: their heights differ, or the channels of two neighbours
 pub record IsUnabuttedRow (r : RowInputs) (old new : View) : Type 0 where
   pub made : List MadeCell
   pub fault : RowFault
   pub unabutted : IsUnabutted r made fault
-  pub says : Both (Says (reports status.Row (fault_line (codes "row") (row_fault fault))).report) old.said new.said
+  pub says : TellsRowFault fault old new
 
 -- the statuses of a row whose next cell has no drawing
 abbrev pub stop_statuses : List Status
@@ -120,6 +125,16 @@ pub record CanBeRowed (r : RowInputs) : Type 0 where
   pub each : All (CanBeMade r) r.names
   pub beside : (made : List MadeCell) → AreMade r r.names made
       → (fault : RowFault) → IsRowFault (row_cells made) fault → ⊥
+
+-- so it is of each cell, and this fault keeps the made cells from standing side by side
+pub record IsKeptApart (r : RowInputs) (fault : RowFault) : Type 0 where
+  pub each : All (CanBeMade r) r.names
+  pub apart : (made : List MadeCell) → AreMade r r.names made → IsRowFault (row_cells made) fault
+
+-- with status 12, and this fault told, or memory ran out
+abbrev pub IsApartOrShort : RowFault → Status → View → View → Type 0
+IsApartOrShort fault answer old new =
+    ((answer ≡ status.Row) × TellsRowFault fault old new) ⊎ (answer ≡ status.NoMemory)
 
 -- ---- calls that make files
 

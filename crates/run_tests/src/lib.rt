@@ -10,6 +10,8 @@ mod calls;
 #[cfg(test)]
 mod cells;
 #[cfg(test)]
+mod channels;
+#[cfg(test)]
 mod damaged;
 #[cfg(test)]
 mod desks;

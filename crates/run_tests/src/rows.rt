@@ -7,17 +7,6 @@ use cell_run::Status;
 use std::alloc::Global;
 use std::test::Fail;
 
-// A row of a wide P finger and a row of a wide N finger.
-const WIDE: &str = ".SUBCKT pw a y vdd gnd
-MP y a vdd vdd p W=30u L=0.6u
-MN y a gnd gnd n W=1.5u L=0.6u
-.ENDS
-.SUBCKT nw a y vdd gnd
-MP y a vdd vdd p W=1.5u L=0.6u
-MN y a gnd gnd n W=30u L=0.6u
-.ENDS
-";
-
 // Two nets that stand above each other.
 const RING: &str = ".SUBCKT r8 x y u v s t a b vdd gnd
 M1 x a u vdd p W=3u L=0.6u
@@ -27,8 +16,8 @@ M4 x b t gnd n W=1.5u L=0.6u
 .ENDS
 ";
 
-// Whether a row ends so, leaves a library of that length, 0 for none, and makes nothing else.
-fn ends_so(
+/// Whether a row ends so, leaves a library of that length, 0 for none, and makes nothing else.
+pub fn ends_so(
     alloc: Global,
     [tech, spice]: [&str; 2],
     words: &str,
@@ -52,7 +41,7 @@ fn ends_so(
 
 // Calls of rows: the technology, the words, the end, and the length of the library. The first cell that is not made
 // ends the row, whatever stands behind it, and no file is made.
-const CALLS: [(&str, &str, Status, &str, usize); 12] = [
+const CALLS: [(&str, &str, Status, &str, usize); 10] = [
     (
         "",
         "row - c.sp out pair inv inv",
@@ -86,20 +75,6 @@ const CALLS: [(&str, &str, Status, &str, usize); 12] = [
         "row - c.sp out top inv nand2",
         Status::Row,
         "status 12 row\nrow Heights first 118 other 144\n",
-        0,
-    ),
-    (
-        "wmax_p = 200\nwmax_n = 200\nheight = 298",
-        "row t.toml c.sp out top pw nw",
-        Status::Row,
-        "status 12 row\nrow Channel left 0 right 1\n",
-        0,
-    ),
-    (
-        "wmax_p = 200\nwmax_n = 200\nheight = 298",
-        "row t.toml c.sp out top nw pw",
-        Status::Row,
-        "status 12 row\nrow Channel left 0 right 1\n",
         0,
     ),
     (
@@ -150,7 +125,7 @@ fn are_ended(alloc: Global, spice: &str) -> Result<bool, Fail> {
 
 #[test]
 fn makes_rows(rt: HostRuntime) -> Result<(), Fail> {
-    let spice = joined(rt.alloc(), &[INVERTER, NAND, WIDE, RING, INVERTERS])?;
+    let spice = joined(rt.alloc(), &[INVERTER, NAND, RING, INVERTERS])?;
     let are = are_ended(rt.alloc(), &spice);
     drop(spice);
     assert!(rt; are?);

@@ -259,9 +259,13 @@ sound_with name tech lines pins ts ok right = record {
   few_nets = ok.few_nets;
   names_differ = nets_differ pins ts (nets_of pins ts) refl;
   devices = are_devices (nets_of pins ts) tech (length pins) (with_copies ts) (all_copies (IsRight tech) ts right) (all_copies (AreNamed (nets_of pins ts) tech) ts (all_named (nets_of pins ts) tech ts (all_among pins ts) (pin_named pins ts tech.vdd ok.vdd) (pin_named pins ts tech.gnd ok.gnd)));
-  some = omega (arith, ok.some, copies_no_fewer ts (some_copies tech ts right), length-map (with_copies ts) (device_of (nets_of pins ts)));
   met = λ net lt no_rail. any_copies (Joins net) (device_of (nets_of pins ts)) ts (some_copies tech ts right) (is_met tech pins ts (length pins) net ok.none_idle lt no_rail);
 }
+
+-- each transistor of the lines has a copy
+some_with : (name : List ℕ) (tech : Technology) (lines : List Line) (pins : List (List ℕ)) (ts : List Transistor) → IsAccepted tech pins ts → All (IsRight tech) ts → 1 ≤ length (subckt_with name tech lines pins ts).devices
+some_with name tech lines pins ts ok right =
+    omega (arith, ok.some, copies_no_fewer ts (some_copies tech ts right), length-map (with_copies ts) (device_of (nets_of pins ts)))
 
 pins_with : (name : List ℕ) (tech : Technology) (lines : List Line) (pins : List (List ℕ)) (ts : List Transistor) → IsTechnology tech → IsAccepted tech pins ts → length pins ≤ length (distinct pins) → ArePins (length (subckt_with name tech lines pins ts).nets) (subckt_with name tech lines pins ts).pins
 pins_with name tech lines pins ts technology ok all = record {
@@ -300,6 +304,11 @@ pub sound : (bytes name : List ℕ) (tech : Technology) (cell : Subckt) → IsTe
 sound bytes name tech cell technology e =
     let read = is_read bytes name tech cell e in
     subst (λ (c : Subckt). IsSubckt c) read.3.made (sound_with name tech read.0 read.1 read.2 read.3.accepted read.3.right)
+
+pub some_devices : (bytes name : List ℕ) (tech : Technology) (cell : Subckt) → subcircuit bytes name tech ≡ Ok cell → 1 ≤ length cell.devices
+some_devices bytes name tech cell e =
+    let read = is_read bytes name tech cell e in
+    subst (λ (c : Subckt). 1 ≤ length c.devices) read.3.made (some_with name tech read.0 read.1 read.2 read.3.accepted read.3.right)
 
 pub pins : (bytes name : List ℕ) (tech : Technology) (cell : Subckt) → IsTechnology tech → subcircuit bytes name tech ≡ Ok cell → ArePins (length cell.nets) cell.pins
 pins bytes name tech cell technology e =

@@ -36,13 +36,12 @@ pub record IsDevice (nets : ℕ) (pins : Pins) (d : Device) : Type 0 where
 abbrev pub Joins : NetNo → Device → Type 0
 Joins net d = (d.gate ≡ net) ⊎ (d.drain ≡ net) ⊎ (d.source ≡ net)
 
--- At most 256 nets of different names, at least one transistor, and each net other than the rails is met by
--- a transistor.
+-- At most 256 nets of different names, and each net other than the rails is met by a transistor. There may be
+-- no transistor, where all nets are rails.
 pub record IsSubckt (cell : Subckt) : Type 0 where
   pub few_nets : length cell.nets ≤ most_nets
   pub names_differ : AllPairs (λ a b. a ≢ b) cell.nets
   pub devices : All (IsDevice (length cell.nets) cell.pins) cell.devices
-  pub some : 1 ≤ length cell.devices
   pub met : (net : NetNo) → net.0 < length cell.nets → (IsRail cell.pins net → ⊥) → Any (Joins net) cell.devices
 
 -- each word is spelled as names are: 1 to 64 printable bytes, none of which is a mark

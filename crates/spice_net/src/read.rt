@@ -128,7 +128,7 @@ fn read_text(alloc: Global, bytes: &[u8], name: &Name, tech: &Tech) -> Result<Su
 }
 
 /// Reads the subcircuit of a name, given in lower case, from a SPICE file of at most a gibibyte.
-#[tactic(auto, using(crate::proofs::Sound::sound, crate::proofs::Sound::pins, crate::proofs::Sound::few_pins, crate::proofs::Sound::few_devices, crate::proofs::Sound::all_directed, crate::proofs::Spelled::named, crate::proofs::Spelled::name_kept, crate::proofs::Told::never_subcircuit))]
+#[tactic(auto, using(crate::proofs::Sound::sound, crate::proofs::Sound::some_devices, crate::proofs::Sound::pins, crate::proofs::Sound::few_pins, crate::proofs::Sound::few_devices, crate::proofs::Sound::all_directed, crate::proofs::Spelled::named, crate::proofs::Spelled::name_kept, crate::proofs::Told::never_subcircuit))]
 pub fn read_cell(
     alloc: Global,
     bytes: &[u8],
@@ -145,6 +145,7 @@ pub fn read_cell(
 
     // What holds of every one.
     ensures sound { IfOk result (λ cell. IsSubckt cell) }
+    ensures some { IfOk result (λ cell. 1 ≤ length cell.devices) }
     ensures pins { IfOk result (λ cell. ArePins (length cell.nets) cell.pins) }
     ensures few_pins { IfOk result (λ cell. cell.pins.pins ≤ MOST_PINS) }
     ensures few_devices { IfOk result (λ cell. length cell.devices ≤ MOST_DEVICES) }

@@ -20,8 +20,10 @@ pub struct Device {
     pub fingers: u32,
 }
 
+/// The transistors of a subcircuit.
 pub type DeviceList = List<Device>;
 
+/// The direction of each pin.
 pub type DirectionList = List<Direction>;
 
 /// A subcircuit: its nets by their numbers, the pins first, its transistors in the order of the file,

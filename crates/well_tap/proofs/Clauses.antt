@@ -27,7 +27,7 @@ use Rattle.cell_draw.specs.Frame.{channel_edge}
 use Rattle.well_tap.specs.Base.{IsBetweenTaps, IsBase, first_line, last_line}
 use Rattle.well_tap.specs.Bodied.{AreBodied, AreRails}
 use Rattle.well_tap.specs.Kept.{KeepsMetal, IsSameCircuit, ShowsTheSame}
-use Rattle.well_tap.specs.declared.measure.TheConstants.{WELL_PAST_END, MOST_TAPPED_HEIGHT, TAP_SHAPES}
+use Rattle.well_tap.specs.Measures.{WELL_PAST_END, MOST_TAPPED_HEIGHT, TAP_SHAPES}
 use Rattle.well_tap.specs.Tapped.{raised, tap_at, taps_at, tapped_shapes, tapped, CanRise}
 use Rattle.well_tap.proofs.Bodies.{bodied}
 use Rattle.well_tap.proofs.Circuit.{extracts_up, row_up}

@@ -23,7 +23,7 @@ use Rattle.cell_draw.specs.Sound.{AreLines, IsSoundRow}
 use Rattle.cell_draw.proofs.MetalNamed.{gnd_named, vdd_named}
 use Rattle.well_tap.specs.Base.{first_line, last_line, IsBetweenTaps, IsBase}
 use Rattle.well_tap.specs.Bodied.{AreRails}
-use Rattle.well_tap.specs.declared.measure.TheConstants.{TAP_SPACE}
+use Rattle.well_tap.specs.Measures.{TAP_SPACE}
 
 -- what is in the frame is between taps
 other_end : (layer : Layer) → (layer ≡ Metal1 → ⊥) → end_of layer ≡ 20

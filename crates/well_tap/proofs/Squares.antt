@@ -14,7 +14,7 @@ use Rattle.scmos_rules.specs.Conditions.{IsWide, IsSquare, Close, AreAlone}
 use Rattle.scmos_rules.specs.Failing.{FailsSpacing}
 use Rattle.scmos_rules.proofs.Spacings.{spacing_by_touch}
 use Rattle.cell_draw.specs.Shapes.{around}
-use Rattle.well_tap.specs.declared.measure.TheConstants.{TAP_SPACE}
+use Rattle.well_tap.specs.Measures.{TAP_SPACE}
 use Rattle.well_tap.proofs.Tapping.{Tapping}
 
 pub data Corner : Type 0 where

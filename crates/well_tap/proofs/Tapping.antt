@@ -10,7 +10,7 @@ use Rattle.cell_draw.specs.declared.layout.Frame.{Frame}
 use Rattle.cell_draw.specs.Shapes.{cell_height, box, around, well, p_select, n_select, gnd_rail, vdd_rail, frame_shapes}
 use Rattle.well_tap.specs.Base.{IsStacked, IsSpread, IsBetweenTaps}
 use Rattle.well_tap.specs.Tapped.{tap_at}
-use Rattle.well_tap.specs.declared.measure.TheConstants.{WELL_PAST_END}
+use Rattle.well_tap.specs.Measures.{WELL_PAST_END}
 use Rattle.well_tap.proofs.TapCells.{IsTap}
 
 pub record Tapping : Type 0 where

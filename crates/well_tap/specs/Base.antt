@@ -11,7 +11,7 @@ use Rattle.cell_draw.specs.declared.drawing.Drawing.{Drawing}
 use Rattle.cell_draw.specs.declared.layout.Frame.{Frame}
 use Rattle.cell_draw.specs.Framed.{BeginsWith}
 use Rattle.cell_draw.specs.Shapes.{cell_height, frame_shapes}
-use Rattle.well_tap.specs.declared.measure.TheConstants.{TAP_SPACE, TAP_CLEAR}
+use Rattle.well_tap.specs.Measures.{TAP_SPACE, TAP_CLEAR}
 
 -- where the first and the last line stand: taps stand at these two
 abbrev pub first_line : List ℕ → ℕ

@@ -8,7 +8,7 @@ use Rattle.box_geom.specs.declared.shape.Shape.{Shape}
 use Rattle.cell_draw.specs.declared.drawing.Drawing.{Drawing}
 use Rattle.cell_draw.specs.declared.measure.TheConstants.{HALF_CUT, HALF_PAD}
 use Rattle.cell_draw.specs.Shapes.{box, around}
-use Rattle.well_tap.specs.declared.measure.TheConstants.{HALF_SELECT, TAP_RISE, WELL_PAST_END}
+use Rattle.well_tap.specs.Measures.{HALF_SELECT, TAP_RISE, WELL_PAST_END}
 use Rattle.well_tap.specs.Base.{first_line, last_line}
 
 -- the well up to this height, and each other shape as it is

@@ -10,9 +10,10 @@ ghost use Rattle.cell_draw.specs.Shapes.{around};
 ghost use Rattle.well_tap.specs.Base.{IsBase, last_line};
 ghost use Rattle.well_tap.specs.Bodied.{AreBodied, AreRails};
 ghost use Rattle.well_tap.specs.Kept.{KeepsMetal, IsSameCircuit, ShowsTheSame};
+ghost use Rattle.well_tap.specs.Measures.{MOST_TAPPED_HEIGHT, TAP_SHAPES};
 ghost use Rattle.well_tap.specs.Tapped.{CanRise, raised, tap_at, taps_at, tapped};
 
-use crate::{HALF_SELECT, MOST_TAPPED_HEIGHT, TAP_RISE, TAP_SHAPES, WELL_PAST_END};
+use crate::{HALF_SELECT, TAP_RISE, WELL_PAST_END};
 use box_geom::{Layer, Rect, Shape, ShapeList, Shapes};
 use cell_draw::{Drawing, HALF_CUT, HALF_PAD};
 use cell_num::NoMemory;

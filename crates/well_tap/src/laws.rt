@@ -1,5 +1,5 @@
 // Laws on the drawings that taps are added to. The calls do nothing: their contracts are the laws.
-ghost use Rattle.std.specs.Prelude.{◌+◌, ◌<◌, ◌≤◌, ℕ, List, length};
+ghost use Rattle.std.specs.Prelude.{◌≡◌, ◌+◌, ◌<◌, ◌≤◌, ℕ, List, length};
 ghost use Rattle.std.specs.List.{AllZip};
 ghost use Rattle.box_geom.specs.declared.shape.Shapes.{Shapes};
 ghost use Rattle.cell_num.specs.declared.net.Pins.{Pins};
@@ -20,21 +20,24 @@ ghost use Rattle.cell_draw.specs.Named.{AreNamed};
 ghost use Rattle.cell_draw.specs.Sound.{AreLines, IsSoundRow};
 ghost use Rattle.well_tap.specs.Base.{first_line, last_line, IsBase};
 ghost use Rattle.well_tap.specs.Bodied.{AreBodied, AreRails, IsOnRail};
+ghost use Rattle.well_tap.specs.Measures as measures;
 
-use crate::TAP_SPACE;
+use crate::{
+    HALF_SELECT, MOST_TAPPED_HEIGHT, TAP_CLEAR, TAP_RISE, TAP_SHAPES, TAP_SPACE, WELL_PAST_END,
+};
 
 /// Taps may be added to a drawing that stands in its frame, where its lines leave room for two of them.
 pub fn framed_bases()
     ensures { (f : Frame) (xs : List ℕ) (d : Drawing) → IsFramed f xs d
-        → first_line xs + TAP_SPACE ≤ last_line xs → IsBase xs d }
+        → first_line xs + measures.TAP_SPACE ≤ last_line xs → IsBase xs d }
 {}
 
 /// The lines of a row with a column leave this room.
 pub fn spread_lines()
     ensures rows { (p : Placement) (xs : List ℕ) → IsPlacement p → 0 < length p.row → AreLines p xs
-        → first_line xs + TAP_SPACE ≤ last_line xs }
+        → first_line xs + measures.TAP_SPACE ≤ last_line xs }
     ensures wired { (p : Placement) (pins : Pins) (r : Routing) (xs : List ℕ) → IsPlacement p → 0 < length p.row
-        → AreAllowed p pins (stretches_of r.trunks) xs → first_line xs + TAP_SPACE ≤ last_line xs }
+        → AreAllowed p pins (stretches_of r.trunks) xs → first_line xs + measures.TAP_SPACE ≤ last_line xs }
 {}
 
 /// Where the bodies of a drawing's devices are rails, its netlist says so by the names of its nets.
@@ -49,4 +52,15 @@ pub fn drawn_rails()
     ensures { (names : List (List ℕ)) (pins : Pins) (p : Placement) (r : Routing) (xs : List ℕ) (height : ℕ)
         → IsPlacement p → IsSoundRow names pins p.row → IsWiring p pins r → AreAllowed p pins (stretches_of r.trunks) xs
         → ArePins (length names) pins → AreRails names pins (drawn_of names pins p r xs height) }
+{}
+
+/// What the measures of `src/measure.rt` are, as numbers: those of the definitions (`specs/Measures.antt`).
+pub fn measure_numbers()
+    ensures tap_rise { TAP_RISE ≡ 8 }
+    ensures half_select { HALF_SELECT ≡ 9 }
+    ensures well_past_end { WELL_PAST_END ≡ 4 }
+    ensures tap_space { TAP_SPACE ≡ 16 }
+    ensures tap_clear { TAP_CLEAR ≡ 20 }
+    ensures tap_shapes { TAP_SHAPES ≡ 12 }
+    ensures most_tapped_height { MOST_TAPPED_HEIGHT ≡ 1_000_000 }
 {}

@@ -16,6 +16,6 @@ invariant_of-result c = record {
   pins = c.in-Ok.ensures.pins;
   directions = c.in-Ok.ensures.directions;
   fingers = c.in-Ok-fold.ensures.asked;
-  some = c.in-Ok-fold.ensures.some;
+  some = c.in-Ok-fold.ensures.some c.in-Ok.ensures.some;
   sound = c.in-Ok-fold.ensures.sound;
 }

@@ -10,6 +10,6 @@ invariant_of-result c = record {
   pins = c.in_ok-cell.ensures.pins;
   directions = c.in_ok-cell.ensures.directions;
   fingers = c.in_ok-fingers.ensures.asked;
-  some = c.in_ok-fingers.ensures.some;
+  some = c.in_ok-fingers.ensures.some c.in_ok-cell.ensures.some;
   sound = c.in_ok-fingers.ensures.sound;
 }

@@ -4,10 +4,12 @@ use Rattle.call_words.specs.Words.{asked}
 use Rattle.call_words.specs.declared.evidence.Evidence.TheVariants.{Log, Trails}
 use Rattle.run_laws.proofs.AgreeTold.{agreed_told, agrees_told, disagreed_told, disagrees_told, unextracted_told, unextracts_told}
 use Rattle.run_laws.proofs.BenchTold.{benched_told, benches_told}
+use Rattle.run_laws.proofs.Created.{once_told}
 use Rattle.run_laws.proofs.ExtractTold.{breaks_told, broken_told, extracted_told, extracts_told, layout_faults_told, layout_told}
 use Rattle.run_laws.proofs.MadeCompared.{agrees_made_told}
 use Rattle.run_laws.proofs.MakeTold.{draws_told, make_leaves, meets_told, needs_told}
-use Rattle.run_laws.proofs.RowTold.{misread_told, rowed_told, rows_told, stopped_told, unabutted_told}
+use Rattle.run_laws.proofs.RowSettled.{rows_told, unabuts_told}
+use Rattle.run_laws.proofs.RowTold.{misread_told, rowed_told, stopped_told, unabutted_told}
 use Rattle.run_laws.proofs.Unmade.{none_told, unmade_told}
 use Rattle.run_laws.proofs.Telling.{accepts_told, alone_told, answers, called_for_told, checked_told, completes_told, made_told, memory_told, planned_told, read_told, same_reads_told, status_told, usage_told, write_told}
 use Rattle.run_laws.proofs.TrailTold.{trail_accepts_told, trail_checked_told, trail_planned_told, trail_unfinished_told}
@@ -155,6 +157,9 @@ returns-clause-disagrees g c = disagrees_told (g.D.Desk.view c.args.desk.now) (g
 pub returns-clause-unextracts : goal.returns-clause-unextracts
 returns-clause-unextracts g c = unextracts_told (g.D.Desk.view c.args.desk.now) (g.D.Desk.view c.deliver.new.desk) (asked c.args.words.now) c.deliver.result (g.D.Desk.view c.args.desk.now).given (returns-clause-completes g c)
 
+pub returns-clause-once : goal.returns-clause-once
+returns-clause-once g c = once_told (g.D.Desk.view c.args.desk.now) (g.D.Desk.view c.deliver.new.desk) (asked c.args.words.now) c.deliver.result (returns-clause-ends g c)
+
 pub returns-clause-alone : goal.returns-clause-alone
 returns-clause-alone g c = alone_told (g.D.Desk.view c.args.desk.now) (g.D.Desk.view c.deliver.new.desk) (asked c.args.words.now) c.deliver.result (returns-clause-ends g c)
 
@@ -172,6 +177,9 @@ returns-clause-unabutted g c = unabutted_told (g.D.Desk.view c.args.desk.now) (g
 
 pub returns-clause-rows : goal.returns-clause-rows
 returns-clause-rows g c = rows_told (g.D.Desk.view c.args.desk.now) (g.D.Desk.view c.deliver.new.desk) (asked c.args.words.now) c.deliver.result (g.D.Desk.view c.args.desk.now).given (returns-clause-completes g c)
+
+pub returns-clause-unabuts : goal.returns-clause-unabuts
+returns-clause-unabuts g c = unabuts_told (g.D.Desk.view c.args.desk.now) (g.D.Desk.view c.deliver.new.desk) (asked c.args.words.now) c.deliver.result (g.D.Desk.view c.args.desk.now).given (returns-clause-called_for g c) (returns-clause-completes g c)
 
 pub returns-clause-agrees_made : goal.returns-clause-agrees_made
 returns-clause-agrees_made g c = agrees_made_told (g.D.Desk.view c.args.desk.now) (g.D.Desk.view c.deliver.new.desk) (asked c.args.words.now) c.deliver.result (g.D.Desk.view c.args.desk.now).given (returns-clause-completes g c)

@@ -1,7 +1,7 @@
 use Rattle.std.proofs.Common.{◌≡◌, ◌≤◌, ◌*◌, ◌++◌, drop}
 use Rattle.std.specs.List.{flat_map}
 use Rattle.row_abut.specs.Row.{labels_at, standing, standing_behind}
-use Rattle.row_abut.specs.declared.measure.TheConstants.{MOST_REACH}
+use Rattle.row_abut.specs.Measures.{MOST_REACH}
 use Rattle.row_abut.proofs.labels.row_labels.Given as goal
 
 abbrev pub invariant-cells : goal.invariant-cells

@@ -1,7 +1,7 @@
 use Rattle.std.proofs.Common.{◌≡◌, ◌≤◌, ◌*◌, ◌++◌, drop, map}
 use Rattle.row_abut.specs.Row.{standing, standing_behind}
 use Rattle.row_abut.specs.Structs.{ref_at}
-use Rattle.row_abut.specs.declared.measure.TheConstants.{MOST_REACH}
+use Rattle.row_abut.specs.Measures.{MOST_REACH}
 use Rattle.row_abut.proofs.structs.refs.Given as goal
 
 abbrev pub invariant-cells : goal.invariant-cells

@@ -7,7 +7,7 @@ use Rattle.row_abut.specs.Cells.{AreOneByName, HaveSameRails, IsRowCell}
 use Rattle.row_abut.specs.Faults.{first_height}
 use Rattle.row_abut.specs.Structs.{abutted}
 use Rattle.row_abut.specs.declared.cell.RowCell.{RowCell}
-use Rattle.row_make.proofs.Beside.{all_in_row, are_ready, each_once, narrow, rails_agree, row_fault_so, rowed_so, top_is_new, width_is}
+use Rattle.row_make.proofs.Beside.{all_in_row, are_ready, each_once, narrow, rails_agree, no_fault_so, row_fault_so, rowed_so, top_is_new, width_is}
 use Rattle.row_make.proofs.Library.{writable}
 use Rattle.row_make.specs.RowInputs.{RowInputs}
 use Rattle.row_make.specs.Rowed.{ComesToRow, IsRowFault, row_cells}
@@ -45,7 +45,7 @@ returns-in_ok-library-in-Ok c =
     let unit : c.unit_nm.result ≡ unit_nm c.args.row.now.tech = c.unit_nm.ensures in
     let structs : c.in-Ok.structs ≡ abutted c.args.row.now.top (row_cells c.requires.made) = c.in-Ok.ensures.exact ∙ ap (λ (top : List ℕ). abutted top c.args.cells.now) (ap (λ (r : RowInputs). r.top) c.row.view_is) ∙ ap (λ (cs : List RowCell). abutted c.args.row.now.top cs) c.requires.shown in (
       c.requires.made,
-      rowed_so c.args.row.now c.args.cells.now c.show_limits.ensures c.requires c.in-Ok.ensures.obeys c.in-Ok.ensures.extracts,
+      rowed_so c.args.row.now c.args.cells.now c.show_limits.ensures c.requires (no_fault_so c.args.cells.now c.in-Ok.structs c.in-Ok.ensures.heights c.in-Ok.ensures.channel) c.in-Ok.ensures.obeys c.in-Ok.ensures.extracts,
       record {
         bytes = c.from_vec.ensures ∙ c.in_ok-library-in-Ok.ensures.exact ∙ ap (λ n. library_of c.in-Ok.structs n) unit ∙ ap (λ (ss : List Struct). library_of ss (unit_nm c.args.row.now.tech)) structs;
         wide = c.width_of.ensures ∙ ap (λ (cs : List RowCell). sum_by (λ (x : RowCell). x.drawing.width) cs) (c.as_slice.ensures ∙ c.requires.shown) ∙ width_is c.requires.made;

@@ -1,0 +1,147 @@
+-- No file of an end has the name of another one, so none is created twice.
+use Rattle.std.proofs.Common.{ℕ, zero, suc, ◌≡◌, ◌≢◌, ◌⊎◌, Bool, true, false, List, [], ◌∷◌, ◌++◌, take, codes, map, string_bytes, Option, Some, None, Result, Ok, Err, inl, inr, refl, sym, ap, ◌∙◌, subst}
+use Rattle.std.specs.Prelude.{All}
+use Rattle.std.proofs.lemmas.List.Elements.{All-cons, All-nil, All-take}
+use Rattle.cell_io.specs.Desk.{View, Both}
+use Rattle.call_end.specs.declared.end.End.{End}
+use Rattle.call_end.specs.declared.end.Output.{Output}
+use Rattle.call_end.specs.declared.status.Status.{Status}
+use Rattle.call_end.specs.Deliver.{CreatesAll, CreatesFront, names_of}
+use Rattle.call_read.specs.declared.refusal.Refusal.{Refusal}
+use Rattle.call_words.specs.Words.{Form}
+use Rattle.call_words.specs.declared.evidence.Evidence.{Evidence}
+use Rattle.call_words.specs.declared.evidence.Evidence.TheVariants.{Log, Trails}
+use Rattle.call_work.proofs.EachCommand.{files_by}
+use Rattle.call_work.proofs.EndsOf.{HasNoFiles, MakesCell}
+use Rattle.call_work.specs.Commands.{Kind, Material, MaterialOf, WorksTo, Planning, Making, Checking, Extracting, Benching, Rowing, Agreeing, TrailPlanning, TrailMaking, TrailChecking}
+use Rattle.call_work.specs.Ends.{EndsTo}
+use Rattle.cell_inputs.specs.declared.style.Style.{Style}
+use Rattle.cell_inputs.specs.Inputs.{Inputs}
+use Rattle.cell_make.specs.Making as made
+use Rattle.cell_make.specs.Rows.{DrawAnswer, RowDrawn, RowCyclic, RowTall}
+use Rattle.make_run.specs.Make.{IsRowEnd, MakesTo, RowEvidence, log_evidence, named}
+use Rattle.row_make.specs.RowInputs.{RowInputs}
+use Rattle.row_make.specs.Rowed.{Rowed, Refused, Stopped, Unabutted}
+use Rattle.row_model.specs.declared.column.Column.{Column}
+use Rattle.row_run.specs.Row.{RowsTo}
+use Rattle.run_laws.proofs.MadeFiles.{evidence_apart, gds_is_no_lef}
+use Rattle.run_laws.proofs.RowTold.{no_files}
+use Rattle.run_laws.proofs.Telling.{Answers}
+use Rattle.run_laws.specs.Created.{AreDistinct, CreatesOnce}
+use Rattle.run_laws.specs.Evidence.{evidence_name}
+use Rattle.trail_make.specs.Make.{TrailMakesTo, trails_evidence}
+use Rattle.trail_make.specs.Make as trail
+
+-- ---- names
+
+distinct_front : (count : ℕ) (names : List (List ℕ)) → AreDistinct names → AreDistinct (take count names)
+distinct_front zero names h = tt
+distinct_front (suc count) [] h = tt
+distinct_front (suc count) (name ∷ names) h = (All-take (λ (other : List ℕ). other ≢ name) count names h.0, distinct_front count names h.1)
+
+distinct_one : (name : List ℕ) → AreDistinct (name ∷ [])
+distinct_one name = (All-nil (λ (other : List ℕ). other ≢ name), tt)
+
+distinct_three : (evidence : Evidence) (out : List ℕ) → AreDistinct (evidence_name evidence out ∷ (out ++ codes ".gds") ∷ (out ++ codes ".lef") ∷ [])
+distinct_three evidence out =
+    let no_gds : out ++ codes ".gds" ≢ evidence_name evidence out = λ e. evidence_apart evidence out (codes ".gds") refl (sym e) in
+    let no_lef : out ++ codes ".lef" ≢ evidence_name evidence out = λ e. evidence_apart evidence out (codes ".lef") refl (sym e) in (
+      All-cons (λ (other : List ℕ). other ≢ evidence_name evidence out) (out ++ codes ".gds") ((out ++ codes ".lef") ∷ []) no_gds
+          (All-cons (λ (other : List ℕ). other ≢ evidence_name evidence out) (out ++ codes ".lef") [] no_lef (All-nil (λ (other : List ℕ). other ≢ evidence_name evidence out))),
+      All-cons (λ (other : List ℕ). other ≢ out ++ codes ".gds") (out ++ codes ".lef") [] (λ e. gds_is_no_lef out (sym e)) (All-nil (λ (other : List ℕ). other ≢ out ++ codes ".gds")),
+      distinct_one (out ++ codes ".lef"),
+    )
+
+-- ---- the names of files that are told
+
+first_of : List ℕ × List ℕ → List ℕ
+first_of file = file.0
+
+names_told : (files : List Output) → names_of files ≡ map first_of (map named files)
+names_told [] = refl
+names_told (file ∷ files) = ap (λ (names : List (List ℕ)). string_bytes file.name ∷ names) (names_told files)
+
+by_names : (files : List Output) (told : List (List ℕ × List ℕ)) (names : List (List ℕ)) → map named files ≡ told → map first_of told ≡ names → AreDistinct names → AreDistinct (names_of files)
+by_names files told names is same h = subst AreDistinct (sym (names_told files ∙ ap (λ (xs : List (List ℕ × List ℕ)). map first_of xs) is ∙ same)) h
+
+none_listed : (files : List Output) → files ≡ [] → AreDistinct (names_of files)
+none_listed files is = rw is tt
+
+-- ---- by kind
+
+makes_files : Kind → Bool
+makes_files Making = true
+makes_files TrailMaking = true
+makes_files Rowing = true
+makes_files Planning = false
+makes_files Checking = false
+makes_files Extracting = false
+makes_files Benching = false
+makes_files Agreeing = false
+makes_files TrailPlanning = false
+makes_files TrailChecking = false
+
+without_files : (kind : Kind) (end : End) → makes_files kind ≡ false → HasNoFiles kind end → AreDistinct (names_of end.files)
+without_files kind end none (inl is) = none_listed end.files is
+without_files kind end none (inr (inl (inl is, own))) = let clash : true ≡ false = ap makes_files (sym is) ∙ none in cc
+without_files kind end none (inr (inl (inr is, own))) = let clash : true ≡ false = ap makes_files (sym is) ∙ none in cc
+without_files kind end none (inr (inr (is, done))) = let clash : true ≡ false = ap makes_files (sym is) ∙ none in cc
+
+row_end : (evidence : Evidence) (style : Style) (inputs : Inputs) (out : List ℕ) (row : List Column) (told : RowEvidence) (drawing : DrawAnswer) (end : End) → told.file.0 ≡ evidence_name evidence out → IsRowEnd style inputs out row told drawing end → AreDistinct (names_of end.files)
+row_end evidence style inputs out row told (RowDrawn routing xs) end same is =
+    by_names end.files _ _ is.files refl
+    (subst (λ (name : List ℕ). AreDistinct (name ∷ (out ++ codes ".gds") ∷ (out ++ codes ".lef") ∷ [])) (sym same) (distinct_three evidence out))
+row_end evidence style inputs out row told (RowCyclic ring) end same is = by_names end.files (told.file ∷ []) (told.file.0 ∷ []) is.files refl (distinct_one told.file.0)
+row_end evidence style inputs out row told (RowTall routing) end same is = by_names end.files (told.file ∷ []) (told.file.0 ∷ []) is.files refl (distinct_one told.file.0)
+
+log_end : (style : Style) (inputs : Inputs) (out : List ℕ) (end : End) → MakesTo style inputs out end → AreDistinct (names_of end.files)
+log_end style inputs out end (made.Made row log routing xs, h, is) = row_end Log style inputs out row (log_evidence inputs.cell out log) (RowDrawn routing xs) end refl is
+log_end style inputs out end (made.Cyclic row log ring, h, is) = row_end Log style inputs out row (log_evidence inputs.cell out log) (RowCyclic ring) end refl is
+log_end style inputs out end (made.Tall row log routing, h, is) = row_end Log style inputs out row (log_evidence inputs.cell out log) (RowTall routing) end refl is
+log_end style inputs out end (made.Unfinished proved log, h, is) = by_names end.files _ (evidence_name Log out ∷ []) is.files refl (distinct_one (evidence_name Log out))
+
+trails_end : (style : Style) (inputs : Inputs) (out : List ℕ) (end : End) → TrailMakesTo style inputs out end → AreDistinct (names_of end.files)
+trails_end style inputs out end (trail.Made row trails drawing, h, is) = row_end Trails style inputs out row (trails_evidence inputs.cell out trails) drawing end refl is
+trails_end style inputs out end (trail.Unfinished proved trails, h, is) = by_names end.files _ (evidence_name Trails out ∷ []) is.files refl (distinct_one (evidence_name Trails out))
+trails_end style inputs out end (trail.Crowded gate, h, is) = by_names end.files [] [] is.files refl tt
+
+rows_end : (r : RowInputs) (out : List ℕ) (end : End) → RowsTo r out end → AreDistinct (names_of end.files)
+rows_end r out end (Rowed made, h, is) = by_names end.files _ ((out ++ codes ".gds") ∷ []) is.files refl (distinct_one (out ++ codes ".gds"))
+rows_end r out end (Refused before name fault, h, is) = none_listed end.files (ap (λ (e : End). e.files) is)
+rows_end r out end (Stopped before inputs answer, h, is) = none_listed end.files (no_files inputs answer end is)
+rows_end r out end (Unabutted made fault, h, is) = none_listed end.files (ap (λ (e : End). e.files) is)
+
+distinct_end : (kind : Kind) (m : MaterialOf kind) (end : End) → WorksTo kind m end → AreDistinct (names_of end.files)
+distinct_end Making m end works = log_end m.2 m.0 m.1 end works
+distinct_end TrailMaking m end works = trails_end m.2 m.0 m.1 end works
+distinct_end Rowing m end works = rows_end m.0 m.1 end works
+distinct_end Planning m end works = without_files Planning end refl (files_by Planning m end works)
+distinct_end Checking m end works = without_files Checking end refl (files_by Checking m end works)
+distinct_end Extracting m end works = without_files Extracting end refl (files_by Extracting m end works)
+distinct_end Benching m end works = without_files Benching end refl (files_by Benching m end works)
+distinct_end Agreeing m end works = without_files Agreeing end refl (files_by Agreeing m end works)
+distinct_end TrailPlanning m end works = without_files TrailPlanning end refl (files_by TrailPlanning m end works)
+distinct_end TrailChecking m end works = without_files TrailChecking end refl (files_by TrailChecking m end works)
+
+distinct_files : (got : Result Material Refusal) (end : End) → EndsTo got end → AreDistinct (names_of end.files)
+distinct_files (Ok m) end ends = distinct_end m.0 m.1 end ends
+distinct_files (Err e) end ends = none_listed end.files (ap (λ (x : End). x.files) ends)
+
+-- ---- the call
+
+all_once : (files : List Output) (a c : Option (List (List ℕ))) → AreDistinct (names_of files) → Both (CreatesAll files) a c → Both CreatesOnce a c
+all_once files None None h created = tt
+all_once files (Some x) (Some y) h created = (names_of files, h, created)
+all_once files None (Some y) h created = absurd created
+all_once files (Some x) None h created = absurd created
+
+front_once : (files : List Output) (a c : Option (List (List ℕ))) → AreDistinct (names_of files) → Both (CreatesFront files) a c → Both CreatesOnce a c
+front_once files None None h created = tt
+front_once files (Some x) (Some y) h (count, created) = (take count (names_of files), distinct_front count (names_of files) h, created)
+front_once files None (Some y) h created = absurd created
+front_once files (Some x) None h created = absurd created
+
+pub once_told : (a c : View) (form : Option Form) (answer : Status) → Answers a c form answer → Both CreatesOnce a.created c.created
+once_told a c form answer (end, (got, came, ends), inl (is, made, said, created)) = all_once end.files a.created c.created (distinct_files got end ends) created
+once_told a c form answer (end, (got, came, ends), inr (up, inl (made, said, created))) = front_once end.files a.created c.created (distinct_files got end ends) created
+once_told a c form answer (end, (got, came, ends), inr (up, inr (made, said, created))) = all_once end.files a.created c.created (distinct_files got end ends) created
