@@ -23,7 +23,6 @@ use Rattle.make_run.specs.Make.{IsRowEnd, MakesTo, RowEvidence, log_evidence, na
 use Rattle.row_make.specs.declared.outcome.InputFault.TheVariants.{Spice, Fold}
 use Rattle.row_make.specs.RowInputs.{RowInputs}
 use Rattle.row_make.specs.Rowed.{Rowed, Refused, Stopped, Unabutted}
-use Rattle.row_make.specs.declared.outcome.InputFault.TheVariants.{Spice, Fold}
 use Rattle.row_model.specs.declared.column.Column.{Column}
 use Rattle.row_run.specs.Row.{RowsTo}
 use Rattle.run_laws.proofs.MadeFiles.{evidence_apart, gds_is_no_lef}
@@ -52,23 +51,8 @@ distinct_three evidence out =
     All-cons (λ (other : List ℕ). other ≢ evidence_name evidence out) (out ++ codes ".gds") ((out ++ codes ".lef") ∷ []) no_gds
         (All-cons (λ (other : List ℕ). other ≢ evidence_name evidence out) (out ++ codes ".lef") [] no_lef (All-nil (λ (other : List ℕ). other ≢ evidence_name evidence out))) in
     let from_gds : All (λ (other : List ℕ). other ≢ out ++ codes ".gds") ((out ++ codes ".lef") ∷ []) =
-    (
-        All-cons (λ (other : List ℕ). other ≢ out ++ codes ".gds") (out ++ codes ".lef") [] (λ e. gds_is_no_lef out (sym e)) (All-nil (λ (other : List ℕ). other ≢ out ++ codes ".gds")) in
-
-<<<<<<< O
-    (from_evidence, (from_gds, 
-=======
-        
->>>>>>> T
-distinct_one (out ++ codes 
-<<<<<<< O
-".lef")))
-=======
-".lef"),
-      ),
-    )
->>>>>>> T
-
+    All-cons (λ (other : List ℕ). other ≢ out ++ codes ".gds") (out ++ codes ".lef") [] (λ e. gds_is_no_lef out (sym e)) (All-nil (λ (other : List ℕ). other ≢ out ++ codes ".gds")) in
+    (from_evidence, (from_gds, distinct_one (out ++ codes ".lef")))
 
 -- ---- the names of files that are told
 
