@@ -49,7 +49,7 @@ distinct_three evidence out =
     let no_lef : out ++ codes ".lef" ≢ evidence_name evidence out = λ e. evidence_apart evidence out (codes ".lef") refl (sym e) in
     let from_evidence : All (λ (other : List ℕ). other ≢ evidence_name evidence out) ((out ++ codes ".gds") ∷ (out ++ codes ".lef") ∷ []) =
     All-cons (λ (other : List ℕ). other ≢ evidence_name evidence out) (out ++ codes ".gds") ((out ++ codes ".lef") ∷ []) no_gds
-        (All-cons (λ (other : List ℕ). other ≢ evidence_name evidence out) (out ++ codes ".lef") [] no_lef (All-nil (λ (other : List ℕ). other ≢ evidence_name evidence out))) in
+    (All-cons (λ (other : List ℕ). other ≢ evidence_name evidence out) (out ++ codes ".lef") [] no_lef (All-nil (λ (other : List ℕ). other ≢ evidence_name evidence out))) in
     let from_gds : All (λ (other : List ℕ). other ≢ out ++ codes ".gds") ((out ++ codes ".lef") ∷ []) =
     All-cons (λ (other : List ℕ). other ≢ out ++ codes ".gds") (out ++ codes ".lef") [] (λ e. gds_is_no_lef out (sym e)) (All-nil (λ (other : List ℕ). other ≢ out ++ codes ".gds")) in
     (from_evidence, (from_gds, distinct_one (out ++ codes ".lef")))
