@@ -1,6 +1,5 @@
 -- No file of an end has the name of another one, so none is created twice.
-use Rattle.std.proofs.Common.{ℕ, zero, suc, ◌≡◌, ◌≢◌, ◌⊎◌, Bool, true, false, List, [], ◌∷◌, ◌++◌, take, codes, map, string_bytes, Option, Some, None, Result, Ok, Err, inl, inr, refl, sym, ap, ◌∙◌, subst}
-use Rattle.std.specs.Prelude.{All}
+use Rattle.std.proofs.Common.{ℕ, zero, suc, ◌≡◌, ◌≢◌, Bool, true, false, List, [], ◌∷◌, ◌++◌, take, codes, map, string_bytes, Option, Some, None, Result, Ok, Err, inl, inr, refl, sym, ap, ◌∙◌, subst}
 use Rattle.std.proofs.lemmas.List.Elements.{All-cons, All-nil, All-take}
 use Rattle.cell_io.specs.Desk.{View, Both}
 use Rattle.call_end.specs.declared.end.End.{End}
@@ -12,7 +11,7 @@ use Rattle.call_words.specs.Words.{Form}
 use Rattle.call_words.specs.declared.evidence.Evidence.{Evidence}
 use Rattle.call_words.specs.declared.evidence.Evidence.TheVariants.{Log, Trails}
 use Rattle.call_work.proofs.EachCommand.{files_by}
-use Rattle.call_work.proofs.EndsOf.{HasNoFiles, MakesCell}
+use Rattle.call_work.proofs.EndsOf.{HasNoFiles}
 use Rattle.call_work.specs.Commands.{Kind, Material, MaterialOf, WorksTo, Planning, Making, Checking, Extracting, Benching, Rowing, Agreeing, TrailPlanning, TrailMaking, TrailChecking}
 use Rattle.call_work.specs.Ends.{EndsTo}
 use Rattle.cell_inputs.specs.declared.style.Style.{Style}
