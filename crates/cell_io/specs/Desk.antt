@@ -5,8 +5,9 @@ use Rattle.std.specs.Prelude.{ℕ, ◌≡◌, ◌+◌, ◌-◌, ◌^◌, ◌<◌
 abbrev pub Files : Type 0
 Files = List ℕ → Option (List ℕ)
 
--- the files that reads answer from, the files made, the names of those created, in order and each as often as it was, and
--- the bytes said, each where the desk tells them; and how often reading, writing and the desk's own growth have failed
+-- the files that reads answer from, the files made, the names of those created, in order and each as often as it was,
+-- and the bytes said, each where the desk tells them; and how often reading, writing and the desk's own growth have
+-- failed
 pub record View : Type 0 where
   pub given : Option Files
   pub made : Option Files
