@@ -1,42 +1,41 @@
-// The measures of a drawing, in grid units of half a lambda, each with the rule that asks for it, or as a choice of
-// this style. Those between lines are in `row_compact`.
+// The measures of a drawing, in grid units of half a lambda. `specs/Measures.antt` has each number, and why. Those
+// between lines are in `row_compact`.
 
-/// Half a contact or a via: rules 5.1 and 8.1 make each 4 wide.
+/// Half a contact or a via.
 pub const HALF_CUT: u32 = 2;
 
-/// Half a gate: rule 3.1 asks poly to be 4 wide.
+/// Half a gate.
 pub const HALF_GATE: u32 = 2;
 
 /// The length of a gate, which is twice `HALF_GATE`.
 pub const GATE_LENGTH: u32 = 4;
 
-/// Half a pad, the square of active or poly around a contact: half the contact (2), and 3 around it by rules 5.2
-/// and 6.2.
+/// Half a pad, the square of active or poly around a contact.
 pub const HALF_PAD: u32 = 5;
 
 /// Half the width of a strap, a trunk or a piece of metal2, and how far each goes past the centre of its last contact
-/// or via: half of that (2), and 2 around it by rules 7.3, 8.3 and 9.3. So metal is 8 wide; rules 7.1 and 9.1 ask 6.
+/// or via.
 pub const HALF_METAL: u32 = 4;
 
-/// Poly past the outer end of a finger: rule 3.3.
+/// Poly past the outer end of a finger.
 pub const END_CAP: u32 = 4;
 
-/// The well past the channel edge of the P row: rule 2.3. Beyond the row's outer end it goes to the end of the cell.
+/// The well past the channel edge of the P row.
 pub const WELL_PAST_ROW: u32 = 12;
 
-/// The well past the sides of the cell. Rule 2.3 asks 9, since pads stand 3 inside; a whole lambda is the choice.
+/// The well past the sides of the cell.
 pub const WELL_PAST_SIDE: u32 = 10;
 
-/// A select past both ends of its row: rule 4.2.
+/// A select past both ends of its row.
 pub const SELECT_PAST_ROW: u32 = 4;
 
-/// A select past the sides of the cell. Rule 4.2 asks 1, since pads stand 3 inside; a whole lambda is the choice.
+/// A select past the sides of the cell.
 pub const SELECT_PAST_SIDE: u32 = 2;
 
-/// The height of a rail, a choice: rule 7.1 asks 6.
+/// The height of a rail.
 pub const RAIL: u32 = 16;
 
-/// Between a rail and its row, a choice: poly past the fingers and the select (4), and 4 clear of the rail.
+/// Between a rail and its row.
 pub const RAIL_GAP: u32 = 8;
 
 /// From the end of the cell to its row: `RAIL` and `RAIL_GAP`.
@@ -45,25 +44,22 @@ pub const ROW_EDGE: u32 = 24;
 /// The least height of a row: that of a pad.
 pub const LEAST_ROW: u32 = 10;
 
-/// From a row into the channel, to the centre of a landing via: half the via (2), and by rule 8.5 the active of the
-/// row before it (4).
+/// From a row into the channel, to the centre of a landing via.
 pub const LANDING: u32 = 6;
 
-/// From a row to the nearest track: the strap to past the landing via (10), rule 7.2 between it and the trunk (6), half
-/// the trunk (4).
+/// From a row to the nearest track.
 pub const EDGE_SPACE: u32 = 20;
 
 /// The least height of a channel: `EDGE_SPACE` on both sides of one track.
 pub const LEAST_CHANNEL: u32 = 40;
 
-/// Between two tracks. At one line metal2 may end on both: past each it goes 4 (8), and rule 9.2 is between (8). Pads
-/// on neighbouring tracks keep 6, as rule 3.2 asks, and trunks 8.
+/// Between two tracks.
 pub const TRACK_PITCH: u32 = 16;
 
-/// A label's point on a finger, from its channel edge, a choice: fingers are 6 wide or wider.
+/// A label's point on a finger, from its channel edge.
 pub const LABEL_ON_FINGER: u32 = 4;
 
-/// A label's point on a gate, into the channel, a choice: poly is there from row to row, or goes 4 past the fingers.
+/// A label's point on a gate, into the channel.
 pub const LABEL_ON_GATE: u32 = 2;
 
 /// A label's point on the gnd rail, from the rail's lower end: half of `RAIL`.

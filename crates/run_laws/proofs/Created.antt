@@ -1,5 +1,5 @@
 -- No file of an end has the name of another one, so none is created twice.
-use Rattle.std.proofs.Common.{ℕ, zero, suc, ◌≡◌, ◌≢◌, ◌⊎◌, Bool, true, false, List, [], ◌∷◌, ◌++◌, take, codes, map, string_bytes, Option, Some, None, Result, Ok, Err, inl, inr, refl, sym, ap, ◌∙◌, subst}
+use Rattle.std.proofs.Common.{ℕ, zero, suc, ◌≡◌, ◌≢◌, Bool, true, false, List, [], ◌∷◌, ◌++◌, take, codes, map, string_bytes, Option, Some, None, Result, Ok, Err, inl, inr, refl, sym, ap, ◌∙◌, subst}
 use Rattle.std.specs.Prelude.{All}
 use Rattle.std.proofs.lemmas.List.Elements.{All-cons, All-nil, All-take}
 use Rattle.cell_io.specs.Desk.{View, Both}
@@ -21,6 +21,7 @@ use Rattle.cell_inputs.specs.Inputs.{Inputs}
 use Rattle.cell_make.specs.Making as made
 use Rattle.cell_make.specs.Rows.{DrawAnswer, RowDrawn, RowCyclic, RowTall}
 use Rattle.make_run.specs.Make.{IsRowEnd, RowEvidence, log_evidence, named}
+use Rattle.row_make.specs.declared.outcome.InputFault.TheVariants.{Spice, Fold}
 use Rattle.row_make.specs.RowInputs.{RowInputs}
 use Rattle.row_make.specs.Rowed.{Rowed, Refused, Stopped, Unabutted}
 use Rattle.row_model.specs.declared.column.Column.{Column}
@@ -46,16 +47,17 @@ distinct_one name = (All-nil (λ (other : List ℕ). other ≢ name), tt)
 distinct_three : (evidence : Evidence) (out : List ℕ) → AreDistinct (evidence_name evidence out ∷ (out ++ codes ".gds") ∷ (out ++ codes ".lef") ∷ [])
 distinct_three evidence out =
     let no_gds : out ++ codes ".gds" ≢ evidence_name evidence out = λ e. evidence_apart evidence out (codes ".gds") refl (sym e) in
-    let no_lef : out ++ codes ".lef" ≢ evidence_name evidence out = λ e. evidence_apart evidence out (codes ".lef") refl (sym e) in (
-      All-cons (λ (other : List ℕ). other ≢ evidence_name evidence out) (out ++ codes ".gds") ((out ++ codes ".lef") ∷ []) no_gds
-          (All-cons (λ (other : List ℕ). other ≢ evidence_name evidence out) (out ++ codes ".lef") [] no_lef (All-nil (λ (other : List ℕ). other ≢ evidence_name evidence out))),
-      All-cons (λ (other : List ℕ). other ≢ out ++ codes ".gds") (out ++ codes ".lef") [] (λ e. gds_is_no_lef out (sym e)) (All-nil (λ (other : List ℕ). other ≢ out ++ codes ".gds")),
-      distinct_one (out ++ codes ".lef"),
-    )
+    let no_lef : out ++ codes ".lef" ≢ evidence_name evidence out = λ e. evidence_apart evidence out (codes ".lef") refl (sym e) in
+    let from_evidence : All (λ (other : List ℕ). other ≢ evidence_name evidence out) ((out ++ codes ".gds") ∷ (out ++ codes ".lef") ∷ []) =
+    All-cons (λ (other : List ℕ). other ≢ evidence_name evidence out) (out ++ codes ".gds") ((out ++ codes ".lef") ∷ []) no_gds
+    (All-cons (λ (other : List ℕ). other ≢ evidence_name evidence out) (out ++ codes ".lef") [] no_lef (All-nil (λ (other : List ℕ). other ≢ evidence_name evidence out))) in
+    let from_gds : All (λ (other : List ℕ). other ≢ out ++ codes ".gds") ((out ++ codes ".lef") ∷ []) =
+    All-cons (λ (other : List ℕ). other ≢ out ++ codes ".gds") (out ++ codes ".lef") [] (λ e. gds_is_no_lef out (sym e)) (All-nil (λ (other : List ℕ). other ≢ out ++ codes ".gds")) in
+    (from_evidence, (from_gds, distinct_one (out ++ codes ".lef")))
 
 -- ---- the names of files that are told
 
-first_of : List ℕ × List ℕ → List ℕ
+abbrev first_of : List ℕ × List ℕ → List ℕ
 first_of file = file.0
 
 names_told : (files : List Output) → names_of files ≡ map first_of (map named files)
@@ -70,7 +72,7 @@ none_listed files is = rw is tt
 
 -- ---- by kind
 
-makes_files : Kind → Bool
+abbrev makes_files : Kind → Bool
 makes_files Making = true
 makes_files Rowing = true
 makes_files Planning = false
@@ -102,7 +104,8 @@ makes_end Trails style inputs out end (trail.Crowded gate, h, is) = by_names end
 
 rows_end : (r : RowInputs) (out : List ℕ) (end : End) → RowsTo r out end → AreDistinct (names_of end.files)
 rows_end r out end (Rowed made, h, is) = by_names end.files _ ((out ++ codes ".gds") ∷ []) is.files refl (distinct_one (out ++ codes ".gds"))
-rows_end r out end (Refused before name fault, h, is) = none_listed end.files (ap (λ (e : End). e.files) is)
+rows_end r out end (Refused before name (Spice f), h, is) = none_listed end.files (ap (λ (e : End). e.files) is)
+rows_end r out end (Refused before name (Fold f), h, is) = none_listed end.files (ap (λ (e : End). e.files) is)
 rows_end r out end (Stopped before inputs answer, h, is) = none_listed end.files (no_files inputs answer end is)
 rows_end r out end (Unabutted made fault, h, is) = none_listed end.files (ap (λ (e : End). e.files) is)
 

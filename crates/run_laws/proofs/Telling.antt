@@ -45,7 +45,7 @@ answers a b c form end answer x y (got, inr short, ends) tells = (end, (got, inr
 
 -- no reading failed, nor does telling the end read
 pub same_reads_told : (a b c : View) (end : End) (answer : Status) → KeepsReadsOf a b end → OnlyTells b c → Tells end answer b c → (IsOfOutside answer → ⊥) → c.read_faults ≡ a.read_faults
-same_reads_told a b c end answer kept only (inl (is, made, said)) other = only.reads ∙ kept (λ outside. other (subst IsOfOutside (sym is) outside))
+same_reads_told a b c end answer kept only (inl (is, made, said, created)) other = only.reads ∙ kept (λ outside. other (subst IsOfOutside (sym is) outside))
 same_reads_told a b c end answer kept only (inr (inl (is, rose), some)) other = absurd (other (rw is refl))
 same_reads_told a b c end answer kept only (inr (inr (is, rose), some)) other = absurd (other (rw is refl))
 
@@ -160,9 +160,9 @@ status_told a c form answer h = status_cause a c form answer (cause_of a c form 
 
 -- `make` and `row` alone make files
 none_told_so : (a c : View) (end : End) (answer : Status) → end.files ≡ [] → Tells end answer a c → c.made ≡ a.made
-none_told_so a c end answer none (inl (is, made, said)) = none_made a.made c.made (subst (λ (files : List Output). Both (MakesAll files) a.made c.made) none made)
-none_told_so a c end answer none (inr (up, inl (made, said))) = none_begun a.made c.made (subst (λ (files : List Output). Both (MakesSome files) a.made c.made) none made)
-none_told_so a c end answer none (inr (up, inr (made, said))) = none_made a.made c.made (subst (λ (files : List Output). Both (MakesAll files) a.made c.made) none made)
+none_told_so a c end answer none (inl (is, made, said, created)) = none_made a.made c.made (subst (λ (files : List Output). Both (MakesAll files) a.made c.made) none made)
+none_told_so a c end answer none (inr (up, inl (made, said, created))) = none_begun a.made c.made (subst (λ (files : List Output). Both (MakesSome files) a.made c.made) none made)
+none_told_so a c end answer none (inr (up, inr (made, said, created))) = none_made a.made c.made (subst (λ (files : List Output). Both (MakesAll files) a.made c.made) none made)
 
 pub made_told : (a c : View) (form : Option Form) (answer : Status) → Answers a c form answer → (MayMakeFiles form → ⊥) → c.made ≡ a.made
 made_told a c form answer (end, (got, came, ends), tells) other = none_told_so a c end answer (no_files form got end other (came_gathered a c form got came) ends) tells

@@ -21,7 +21,7 @@ fileless : (end : End) (answer : Status) → answer ≡ end.status → MakesNone
 fileless end answer is none = or_so (number_of status.NoMemory == number_of end.status) (is_among fileless_statuses end.status) (subst MakesNone is none)
 
 pub none_told : (a c : View) (form : Option Form) (answer : Status) → Answers a c form answer → MakesNone answer → c.made ≡ a.made
-none_told a c form answer (end, (got, came, ends), inl (is, made, said)) none = no_made a c end (none_alone got end ends (fileless end answer is none)) made
+none_told a c form answer (end, (got, came, ends), inl (is, made, said, created)) none = no_made a c end (none_alone got end ends (fileless end answer is none)) made
 none_told a c form answer (end, may, inr (inl (is, rose), some)) none =
     let clash : MakesNone status.WriteFault = subst MakesNone is none in
     cc
@@ -30,7 +30,7 @@ none_told a c form answer (end, may, inr (inr (is, rose), some)) none =
     cc
 
 pub unmade_told : (a c : View) (form : Option Form) (answer : Status) → Answers a c form answer → answer ≡ status.NoMemory → Rose a.shorts c.shorts ⊎ (c.made ≡ a.made)
-unmade_told a c form answer (end, (got, came, ends), inl (is, made, said)) short = inr (no_made a c end (none_alone got end ends (rw (sym is ∙ short) refl)) made)
+unmade_told a c form answer (end, (got, came, ends), inl (is, made, said, created)) short = inr (no_made a c end (none_alone got end ends (rw (sym is ∙ short) refl)) made)
 unmade_told a c form answer (end, may, inr (inl (is, rose), some)) short =
     let clash : status.NoMemory ≡ status.WriteFault = sym short ∙ is in
     cc
