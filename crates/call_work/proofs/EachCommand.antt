@@ -10,8 +10,9 @@ use Rattle.call_end.specs.declared.status.Status.TheVariants as status
 use Rattle.call_read.proofs.Reading.{Keeps, keeps_on}
 use Rattle.call_read.specs.InputFiles.{input_files, inputs_from}
 use Rattle.call_read.specs.Reading.{Ends, ◌>>=◌}
-use Rattle.call_read.specs.Sources.{Source, LogFile, TrailFile}
+use Rattle.call_read.specs.Sources.{Source}
 use Rattle.call_words.specs.Asked.{CellAsked, RowAsked}
+use Rattle.call_words.specs.declared.evidence.Evidence.{Evidence}
 use Rattle.call_words.specs.declared.evidence.Evidence.TheVariants.{Log, Trails}
 use Rattle.call_words.specs.Words.{Form, Plan, Make, Check, Extract, Bench, Row, Agree}
 use Rattle.call_work.proofs.EndsOf.{HasNoFiles, IsEndOf, makes, told}
@@ -19,12 +20,14 @@ use Rattle.call_work.proofs.Gathered.{IsGathered, IsInputs, IsOwn, compared_keep
 use Rattle.call_work.proofs.Statuses.{are_apart}
 use Rattle.call_work.proofs.Works.{kept_works}
 use Rattle.bench_tally.specs.Report.{BenchesTo}
-use Rattle.call_work.specs.Commands.{Kind, Planning, Making, Checking, Extracting, Benching, Rowing, Agreeing, TrailPlanning, TrailMaking, TrailChecking, Material, MaterialOf, WorksOn, WorksTo, gathered, kind_of, making, planning, read_by, settled_by}
+use Rattle.call_work.specs.Commands.{Kind, Planning, Making, Checking, Extracting, Benching, Rowing, Agreeing, Material, MaterialOf, WorksOn, WorksTo, checking, gathered, kind_of, making, planning, read_by, settled_by}
 use Rattle.call_work.specs.Ends.{desk_statuses, is_among}
+use Rattle.call_work.specs.Evidence.{ChecksBy, MakesBy, PlansBy, evidence_file}
 use Rattle.call_work.specs.Kept.{WorksFor}
 use Rattle.call_work.specs.declared.commands.Material.TheVariants.{Bench as OfNumber, Read}
 use Rattle.call_work.specs.declared.commands.ReadMaterial.{ReadMaterial as Own}
 use Rattle.call_work.specs.declared.commands.ReadMaterial.TheVariants as held
+use Rattle.call_work.specs.declared.material.EvidenceFile.TheVariants as file
 use Rattle.cell_inputs.specs.declared.style.Style.{Style}
 use Rattle.cell_inputs.specs.Inputs.{Inputs}
 use Rattle.cell_make.specs.Making as made
@@ -53,19 +56,12 @@ inputs_gathered asked form material files kind own =
 
 pub gathered_keeps : (form : Option Form) → Keeps (λ source. Contains (read_by form) source) (IsGathered form) (gathered form)
 gathered_keeps None = refl
-gathered_keeps (Some (Plan asked Log)) = inputs_gathered asked (Plan asked Log) (planning Log) refl (λ inputs. refl) refl
-gathered_keeps (Some (Plan asked Trails)) = inputs_gathered asked (Plan asked Trails) (planning Trails) refl (λ inputs. refl) refl
-gathered_keeps (Some (Make asked out style Log)) = inputs_gathered asked (Make asked out style Log) (making Log out style) refl (λ inputs. refl) refl
-gathered_keeps (Some (Make asked out style Trails)) = inputs_gathered asked (Make asked out style Trails) (making Trails out style) refl (λ inputs. refl) refl
-gathered_keeps (Some (Check asked file Log)) =
-    keeps_on (λ source. Contains (read_by (Some (Check asked file Log))) source) IsInputs (IsGathered (Some (Check asked file Log))) (inputs_from asked) _
-    (inputs_keep (λ source. Contains (read_by (Some (Check asked file Log))) source) asked (λ source there. Contains-append_left (input_files asked.tech asked.spice) (LogFile file ∷ []) source there))
-    (λ inputs is. (evidence_there asked.tech asked.spice (LogFile file), λ bytes. refl))
-    (λ e is. rw is refl)
-gathered_keeps (Some (Check asked file Trails)) =
-    keeps_on (λ source. Contains (read_by (Some (Check asked file Trails))) source) IsInputs (IsGathered (Some (Check asked file Trails))) (inputs_from asked) _
-    (inputs_keep (λ source. Contains (read_by (Some (Check asked file Trails))) source) asked (λ source there. Contains-append_left (input_files asked.tech asked.spice) (TrailFile file ∷ []) source there))
-    (λ inputs is. (evidence_there asked.tech asked.spice (TrailFile file), λ bytes. refl))
+gathered_keeps (Some (Plan asked evidence)) = inputs_gathered asked (Plan asked evidence) (planning evidence) refl (λ inputs. refl) refl
+gathered_keeps (Some (Make asked out style evidence)) = inputs_gathered asked (Make asked out style evidence) (making evidence out style) refl (λ inputs. refl) refl
+gathered_keeps (Some (Check asked file evidence)) =
+    keeps_on (λ source. Contains (read_by (Some (Check asked file evidence))) source) IsInputs (IsGathered (Some (Check asked file evidence))) (inputs_from asked) _
+    (inputs_keep (λ source. Contains (read_by (Some (Check asked file evidence))) source) asked (λ source there. Contains-append_left (input_files asked.tech asked.spice) (evidence_file evidence file ∷ []) source there))
+    (λ inputs is. (evidence_there asked.tech asked.spice (evidence_file evidence file), λ bytes. refl))
     (λ e is. rw is refl)
 gathered_keeps (Some (Extract tech gds name rules)) =
     keeps_on (λ source. Contains (read_by (Some (Extract tech gds name rules))) source) (IsOwn Extracting) (IsGathered (Some (Extract tech gds name rules))) (extracting tech gds name rules) _
@@ -86,28 +82,21 @@ gathered_keeps (Some (Agree tech gds lef name)) =
 
 -- the words of a form, by its kind, where they are looked at
 abbrev pub HasWords : Kind → Form → Type 0
-HasWords Making form = (asked : CellAsked) × (out : List ℕ) × (style : Style) × (form ≡ Make asked out style Log)
-HasWords TrailMaking form = (asked : CellAsked) × (out : List ℕ) × (style : Style) × (form ≡ Make asked out style Trails)
+HasWords Making form = (asked : CellAsked) × (out : List ℕ) × (style : Style) × (evidence : Evidence) × (form ≡ Make asked out style evidence)
 HasWords Rowing form = (row : RowAsked) × (out : List ℕ) × (form ≡ Row row out)
 HasWords kind form = Unit {0}
 
 has_words : (form : Form) → HasWords (kind_of form) form
-has_words (Plan asked Log) = tt
-has_words (Plan asked Trails) = tt
-has_words (Make asked out style Log) = (asked, out, style, refl)
-has_words (Make asked out style Trails) = (asked, out, style, refl)
-has_words (Check asked file Log) = tt
-has_words (Check asked file Trails) = tt
+has_words (Plan asked evidence) = tt
+has_words (Make asked out style evidence) = (asked, out, style, evidence, refl)
+has_words (Check asked file evidence) = tt
 has_words (Extract tech gds name rules) = tt
 has_words (Bench number) = tt
 has_words (Row row out) = (row, out, refl)
 has_words (Agree tech gds lef name) = tt
 
-pub is_make : (form : Form) → kind_of form ≡ Making → (asked : CellAsked) × (out : List ℕ) × (style : Style) × (form ≡ Make asked out style Log)
+pub is_make : (form : Form) → kind_of form ≡ Making → (asked : CellAsked) × (out : List ℕ) × (style : Style) × (evidence : Evidence) × (form ≡ Make asked out style evidence)
 is_make form is = subst (λ (kind : Kind). HasWords kind form) is (has_words form)
-
-pub is_trail_make : (form : Form) → kind_of form ≡ TrailMaking → (asked : CellAsked) × (out : List ℕ) × (style : Style) × (form ≡ Make asked out style Trails)
-is_trail_make form is = subst (λ (kind : Kind). HasWords kind form) is (has_words form)
 
 pub is_row : (form : Form) → kind_of form ≡ Rowing → (row : RowAsked) × (out : List ℕ) × (form ≡ Row row out)
 is_row form is = subst (λ (kind : Kind). HasWords kind form) is (has_words form)
@@ -115,15 +104,13 @@ is_row form is = subst (λ (kind : Kind). HasWords kind form) is (has_words form
 -- ---- the work on what is kept
 
 works_for : (kept : Own) (end : End) → WorksOn kept end → WorksFor (Read kept) end
-works_for (held.Planning inputs) end works = kept_works Planning inputs end works
-works_for (held.Making inputs out style) end works = kept_works Making (inputs, out, style) end works
-works_for (held.Checking inputs log) end works = λ m (bytes, is, behind). kept_works Checking (inputs, bytes) end (works bytes behind) m is
+works_for (held.Planning m) end works = kept_works Planning m end works
+works_for (held.Making m) end works = kept_works Making m end works
+works_for (held.Checking inputs (file.Log log)) end works = λ m (bytes, is, behind). kept_works Checking (checking Log inputs bytes).1 end (works bytes behind) m is
+works_for (held.Checking inputs (file.Trails bytes)) end works = kept_works Checking (checking Trails inputs bytes).1 end works
 works_for (held.Extracting cell) end works = kept_works Extracting cell end works
-works_for (held.Rowing inputs out) end works = kept_works Rowing (inputs, out) end works
+works_for (held.Rowing m) end works = kept_works Rowing m end works
 works_for (held.Agreeing both) end works = kept_works Agreeing both end works
-works_for (held.TrailPlanning inputs) end works = kept_works TrailPlanning inputs end works
-works_for (held.TrailMaking inputs out style) end works = kept_works TrailMaking (inputs, out, style) end works
-works_for (held.TrailChecking inputs bytes) end works = kept_works TrailChecking (inputs, bytes) end works
 
 pub all_work : (kept : Own) (r : Result End Short) → IfOk r (WorksOn kept) → IfOk r (WorksFor (Read kept))
 all_work kept (Err e) works = tt
@@ -135,16 +122,36 @@ bench_works number (Ok end) works = kept_works Benching number end works
 
 -- ---- what the work comes to
 
+plans_end : (evidence : Evidence) (inputs : Inputs) (end : End) → PlansBy evidence inputs end → IsEndOf Planning end
+plans_end Log inputs end (Planned row log, h, is) = told Planning is refl refl
+plans_end Log inputs end (Unfinished proved log, h, is) = told Planning is refl refl
+plans_end Trails inputs end (trail.Planned row trails, h, is) = told Planning is refl refl
+plans_end Trails inputs end (trail.Unfinished proved trails, h, is) = told Planning is refl refl
+plans_end Trails inputs end (trail.Crowded gate, h, is) = told Planning is refl refl
+
+makes_end : (evidence : Evidence) (style : Style) (inputs : Inputs) (out : List ℕ) (end : End) → MakesBy evidence style inputs out end → IsEndOf Making end
+makes_end Log style inputs out end (made.Made row log routing xs, h, is) = makes is.status refl refl
+makes_end Log style inputs out end (made.Cyclic row log ring, h, is) = makes is.status refl refl
+makes_end Log style inputs out end (made.Tall row log routing, h, is) = makes is.status refl refl
+makes_end Log style inputs out end (made.Unfinished proved log, h, is) = makes is.status refl refl
+makes_end Trails style inputs out end (trail_make.Made row trails (RowDrawn routing xs), h, is) = makes is.status refl refl
+makes_end Trails style inputs out end (trail_make.Made row trails (RowCyclic ring), h, is) = makes is.status refl refl
+makes_end Trails style inputs out end (trail_make.Made row trails (RowTall routing), h, is) = makes is.status refl refl
+makes_end Trails style inputs out end (trail_make.Unfinished proved trails, h, is) = makes is.status refl refl
+makes_end Trails style inputs out end (trail_make.Crowded gate, h, is) = makes is.status refl refl
+
+checks_end : (evidence : Evidence) (inputs : Inputs) (bytes : List ℕ) (end : End) → ChecksBy evidence inputs bytes end → IsEndOf Checking end
+checks_end Log inputs bytes end (Accepted gaps lemmas, h, is) = told Checking is refl refl
+checks_end Log inputs bytes end (Misread f, h, is) = told Checking is refl refl
+checks_end Log inputs bytes end (Rejected f, h, is) = told Checking is refl refl
+checks_end Trails inputs bytes end (checked.Accepted gaps lemmas filled, h, is) = told Checking is refl refl
+checks_end Trails inputs bytes end (checked.Misread f, h, is) = told Checking is refl refl
+checks_end Trails inputs bytes end (checked.Rejected cause, h, is) = told Checking is refl refl
+
 each_end : (kind : Kind) (m : MaterialOf kind) (end : End) → WorksTo kind m end → IsEndOf kind end
-each_end Planning m end (Planned row log, h, is) = told Planning is refl refl
-each_end Planning m end (Unfinished proved log, h, is) = told Planning is refl refl
-each_end Making m end (made.Made row log routing xs, h, is) = makes Making (inl refl) is.status refl refl
-each_end Making m end (made.Cyclic row log ring, h, is) = makes Making (inl refl) is.status refl refl
-each_end Making m end (made.Tall row log routing, h, is) = makes Making (inl refl) is.status refl refl
-each_end Making m end (made.Unfinished proved log, h, is) = makes Making (inl refl) is.status refl refl
-each_end Checking m end (Accepted gaps lemmas, h, is) = told Checking is refl refl
-each_end Checking m end (Misread f, h, is) = told Checking is refl refl
-each_end Checking m end (Rejected f, h, is) = told Checking is refl refl
+each_end Planning m end works = plans_end m.evidence m.inputs end works
+each_end Making m end works = makes_end m.evidence m.style m.inputs m.stem end works
+each_end Checking m end works = checks_end m.evidence m.inputs m.bytes end works
 each_end Extracting m end (answer.Extracted netlist bodies, h, is) = told Extracting is refl refl
 each_end Extracting m end (answer.Broken found, h, is) = told Extracting is refl refl
 each_end Extracting m end (answer.Unchecked f, h, is) = told Extracting is refl refl
@@ -164,17 +171,6 @@ each_end Agreeing m end (agreement.Differs (differ.NoLabel name), h, is) = told 
 each_end Agreeing m end (agreement.Differs (differ.Port name x y), h, is) = told Agreeing is refl refl
 each_end Agreeing m end (agreement.Differs (differ.Bare layer x y), h, is) = told Agreeing is refl refl
 each_end Agreeing m end (agreement.Differs differ.NoMemory, h, is) = told Agreeing is refl refl
-each_end TrailPlanning m end (trail.Planned row trails, h, is) = told TrailPlanning is refl refl
-each_end TrailPlanning m end (trail.Unfinished proved trails, h, is) = told TrailPlanning is refl refl
-each_end TrailPlanning m end (trail.Crowded gate, h, is) = told TrailPlanning is refl refl
-each_end TrailMaking m end (trail_make.Made row trails (RowDrawn routing xs), h, is) = makes TrailMaking (inr refl) is.status refl refl
-each_end TrailMaking m end (trail_make.Made row trails (RowCyclic ring), h, is) = makes TrailMaking (inr refl) is.status refl refl
-each_end TrailMaking m end (trail_make.Made row trails (RowTall routing), h, is) = makes TrailMaking (inr refl) is.status refl refl
-each_end TrailMaking m end (trail_make.Unfinished proved trails, h, is) = makes TrailMaking (inr refl) is.status refl refl
-each_end TrailMaking m end (trail_make.Crowded gate, h, is) = makes TrailMaking (inr refl) is.status refl refl
-each_end TrailChecking m end (checked.Accepted gaps lemmas filled, h, is) = told TrailChecking is refl refl
-each_end TrailChecking m end (checked.Misread f, h, is) = told TrailChecking is refl refl
-each_end TrailChecking m end (checked.Rejected cause, h, is) = told TrailChecking is refl refl
 
 pub works_settled : (kind : Kind) (m : MaterialOf kind) (end : End) → WorksTo kind m end → is_among (settled_by kind) end.status ≡ true
 works_settled kind m end works = (each_end kind m end works).settled
@@ -191,6 +187,3 @@ outside_apart Extracting = refl
 outside_apart Benching = refl
 outside_apart Rowing = refl
 outside_apart Agreeing = refl
-outside_apart TrailPlanning = refl
-outside_apart TrailMaking = refl
-outside_apart TrailChecking = refl

@@ -5,9 +5,10 @@ use Rattle.check_run.specs.declared.checked_log.CheckedLog.{CheckedLog}
 use Rattle.call_work.specs.declared.commands.Material.{Material as Own}
 use Rattle.call_work.specs.declared.commands.Material.TheVariants.{Bench as OfNumber, Read}
 use Rattle.call_work.specs.declared.commands.ReadMaterial.TheVariants as held
+use Rattle.call_work.specs.declared.material.EvidenceFile.TheVariants as file
 use Rattle.call_read.specs.declared.refusal.Refusal.{Refusal}
 use Rattle.call_read.specs.declared.refusal.Refusal.TheVariants.{NoMemory}
-use Rattle.call_work.specs.Commands.{IsKept, checking_over, gathered, making, Benching, Checking, Rowing, Material}
+use Rattle.call_work.specs.Commands.{IsKept, checking, checking_over, gathered, making, rowing_of, Benching, Material}
 use Rattle.row_make.specs.RowInputs.{RowInputs}
 use Rattle.cell_inputs.specs.declared.style.Style.{Style}
 use Rattle.cell_inputs.specs.Inputs.{Inputs}
@@ -39,21 +40,21 @@ keeps_behind a b c first next r x own one two came is (got, rest, kept) = (got, 
 -- a log whose file was not read
 pub keeps_unread : (old new : View) (log : List ℕ) (inputs : Inputs) (e : Refusal) (own : Result Own Refusal) → IsRead old new (LogFile log) (Err e) → IsHanded own e → MayKeep old new (checking_over Log log inputs) own
 keeps_unread old new log inputs e own read told =
-    keeps_refusal old new new (bytes_of (LogFile log)) (λ (bytes : List ℕ). Ends (Ok (Checking, (inputs, bytes)))) (Err e) e own
+    keeps_refusal old new new (bytes_of (LogFile log)) (λ (bytes : List ℕ). Ends (Ok (checking Log inputs bytes))) (Err e) e own
     (only_refl new)
     (came_bytes old new (LogFile log) (Err e) read)
     refl
     told
 
 -- a log that is behind all bytes of its file
-pub keeps_read : (old new : View) (log : List ℕ) (inputs : Inputs) (checked : CheckedLog) → OnlyReads old new → HoldsLog old new log inputs checked → MayKeep old new (checking_over Log log inputs) (Ok (Read (held.Checking inputs checked)))
+pub keeps_read : (old new : View) (log : List ℕ) (inputs : Inputs) (checked : CheckedLog) → OnlyReads old new → HoldsLog old new log inputs checked → MayKeep old new (checking_over Log log inputs) (Ok (Read (held.Checking inputs (file.Log checked))))
 keeps_read old new log inputs checked only (bytes, read, behind) =
-    keeps_behind old new new (bytes_of (LogFile log)) (λ (b : List ℕ). Ends (Ok (Checking, (inputs, b)))) (Ok bytes) bytes (Ok (Read (held.Checking inputs checked)))
+    keeps_behind old new new (bytes_of (LogFile log)) (λ (b : List ℕ). Ends (Ok (checking Log inputs b))) (Ok bytes) bytes (Ok (Read (held.Checking inputs (file.Log checked))))
     only
     (only_refl new)
     (came_bytes old new (LogFile log) (Ok bytes) read)
     refl
-    (Ok (Checking, (inputs, bytes)), inl refl, (bytes, refl, behind))
+    (Ok (checking Log inputs bytes), inl refl, (bytes, refl, behind))
 
 pub holds_log : (old new : View) (log : List ℕ) (inputs : Inputs) (before after : CheckedLog) → AreBegun inputs before.reader before.checker → (bytes : List ℕ) × AreBehind before.reader before.checker bytes after.reader after.checker × (length bytes ≤ most_bytes (LogFile log)) × IsRead old new (LogFile log) (Ok bytes) → HoldsLog old new log inputs after
 holds_log old new log inputs before after begun (bytes, behind, few, read) = (bytes, read, behind_all inputs bytes before.reader after.reader before.checker after.checker begun behind)
@@ -73,8 +74,8 @@ keeps_short old new reading own told = (Err NoMemory, inr refl, handed_on NoMemo
 
 -- ---- words that are kept
 
-pub kept_out : (evidence : Evidence) (inputs : Inputs) (out stem : List ℕ) (style : Style) (own : Own) → stem ≡ out → IsKept (making evidence stem style inputs) own → IsKept (making evidence out style inputs) own
-kept_out evidence inputs out stem style own is kept = subst (λ (name : List ℕ). IsKept (making evidence name style inputs) own) is kept
+pub kept_cell : (evidence : Evidence) (inputs : Inputs) (out stem : List ℕ) (style : Style) → stem ≡ out → IsKept (making evidence out style inputs) (Read (held.Making (record { inputs = inputs; stem = stem; style = style; evidence = evidence })))
+kept_cell evidence inputs out stem style is = rw is refl
 
-pub same_stem : (inputs : RowInputs) (out stem : List ℕ) → stem ≡ out → ◌≡◌ {A = Material} (Rowing, (inputs, out)) (Rowing, (inputs, stem))
-same_stem inputs out stem is = rw is refl
+pub kept_row : (inputs : RowInputs) (out stem : List ℕ) → stem ≡ out → IsKept (rowing_of out inputs) (Read (held.Rowing (record { inputs = inputs; stem = stem })))
+kept_row inputs out stem is = rw is refl

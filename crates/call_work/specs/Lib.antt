@@ -1,4 +1,5 @@
 -- What contracts of public calls cite, and what these definitions stand on.
 pub mod Commands
 pub mod Ends
+pub mod Evidence
 pub mod Kept

@@ -11,25 +11,22 @@ mod cell;
 mod layout;
 mod rows;
 
+use crate::evidence::{check_by, make_by, plan_by};
+use crate::material::{EvidenceFile, MakeMaterial, PlanMaterial, RowMaterial};
 use abstracts::for_agree;
 use agree_run::{Compared, agree};
 use call_end::End;
-use call_read::{FileBytes, Refusal};
+use call_read::Refusal;
 use call_words::{CellCount, Form};
 use cell::{for_check, for_make, for_plan};
-use cell_inputs::{Inputs, Style};
+use cell_inputs::Inputs;
 use cell_io::Desk;
 use cell_num::NoMemory;
-use check_run::{CheckedLog, check};
 use layout::for_extract;
 use layout_run::{GdsCell, extract};
-use make_run::{Stem, make, plan};
-use row_make::RowInputs;
 use row_run::row;
 use rows::for_row;
 use std::alloc::Global;
-use trail_make::make_by_trails;
-use trail_run::{check_by_trails, plan_by_trails};
 
 /// What a command works on, as it is kept in memory.
 #[derive(Drop)]
@@ -42,20 +39,13 @@ pub enum Material {
 /// What a command works on that reads files.
 #[derive(Drop)]
 pub enum ReadMaterial {
-    Planning(Inputs),
-    /// The inputs, what the names of the files begin with, and the style.
-    Making(Inputs, Stem, Style),
-    /// The inputs, and a log behind all its bytes.
-    Checking(Inputs, CheckedLog),
+    Planning(PlanMaterial),
+    Making(MakeMaterial),
+    /// The inputs, and the evidence that was read for them.
+    Checking(Inputs, EvidenceFile),
     Extracting(GdsCell),
-    /// What the row is made of, and what the name of its file begins with.
-    Rowing(RowInputs, Stem),
+    Rowing(RowMaterial),
     Agreeing(Compared),
-    TrailPlanning(Inputs),
-    /// The same as for a drawing with a log.
-    TrailMaking(Inputs, Stem, Style),
-    /// The inputs, and the bytes of a certificate by trails.
-    TrailChecking(Inputs, FileBytes),
 }
 
 fn gather_form<D: Desk>(alloc: Global, desk: &mut D, form: Form<'_>) -> Result<Material, Refusal>
@@ -113,19 +103,12 @@ fn work_on(alloc: Global, material: &ReadMaterial) -> Result<End, NoMemory>
     ensures { IfOk result (WorksOn material.now) }
 {
     match material {
-        ReadMaterial::Planning(inputs) => plan(alloc, inputs),
-        ReadMaterial::Making(inputs, stem, style) => make(alloc, inputs, stem, *style),
-        ReadMaterial::Checking(inputs, log) => check(alloc, inputs, log),
+        ReadMaterial::Planning(plan) => plan_by(alloc, plan),
+        ReadMaterial::Making(made) => make_by(alloc, made),
+        ReadMaterial::Checking(inputs, file) => check_by(alloc, inputs, file),
         ReadMaterial::Extracting(cell) => extract(alloc, cell),
-        ReadMaterial::Rowing(inputs, stem) => row(alloc, inputs, stem),
+        ReadMaterial::Rowing(cells) => row(alloc, &cells.inputs, &cells.stem),
         ReadMaterial::Agreeing(both) => agree(alloc, both),
-        ReadMaterial::TrailPlanning(inputs) => plan_by_trails(alloc, inputs),
-        ReadMaterial::TrailMaking(inputs, stem, style) => {
-            make_by_trails(alloc, inputs, stem, *style)
-        }
-        ReadMaterial::TrailChecking(inputs, bytes) => {
-            check_by_trails(alloc, inputs, bytes.as_slice())
-        }
     }
 }
 

@@ -2,17 +2,23 @@ ghost use Rattle.std.specs.Prelude.{Err, IfErr, IfOk};
 ghost use Rattle.cell_io.specs.Desk.{OnlyReads};
 ghost use Rattle.call_read.specs.Read.{IsRead, KeepsReads};
 ghost use Rattle.call_read.specs.Sources.{LogFile};
-ghost use Rattle.call_work.specs.Commands.{IsKept, checking_over, making, planning};
+ghost use Rattle.call_work.specs.Commands.{ChecksOn, checking_over};
+ghost use Rattle.call_work.specs.Evidence.{MakesBy, PlansBy};
 ghost use Rattle.call_work.specs.Kept.{HoldsLog, MayKeep};
 
 use crate::commands::{Material, ReadMaterial};
+use crate::material::{EvidenceFile, MakeMaterial, PlanMaterial};
+use call_end::End;
 use call_read::{Refusal, Source, read_file, read_to};
 use call_words::Evidence;
-use cell_inputs::{Inputs, Style};
+use cell_inputs::Inputs;
 use cell_io::Desk;
-use check_run::CheckedLog;
-use make_run::Stem;
+use cell_num::NoMemory;
+use check_run::{CheckedLog, check};
+use make_run::{make, plan};
 use std::alloc::Global;
+use trail_make::make_by_trails;
+use trail_run::{check_by_trails, plan_by_trails};
 
 // The log of a check, behind all bytes of its file.
 fn read_log<D: Desk>(
@@ -51,14 +57,17 @@ pub(crate) fn with_evidence<D: Desk>(
 {
     match evidence {
         Evidence::Log => match read_log(alloc, desk, &inputs, file) {
-            Ok(log) => Ok(Material::Read(ReadMaterial::Checking(inputs, log))),
+            Ok(log) => Ok(Material::Read(ReadMaterial::Checking(inputs, EvidenceFile::Log(log)))),
             Err(refusal) => {
                 drop(inputs);
                 Err(refusal)
             }
         },
         Evidence::Trails => match read_file(alloc, desk, Source::Trails(file)) {
-            Ok(bytes) => Ok(Material::Read(ReadMaterial::TrailChecking(inputs, bytes))),
+            Ok(bytes) => Ok(Material::Read(ReadMaterial::Checking(
+                inputs,
+                EvidenceFile::Trails(bytes),
+            ))),
             Err(refusal) => {
                 drop(inputs);
                 Err(refusal)
@@ -67,22 +76,29 @@ pub(crate) fn with_evidence<D: Desk>(
     }
 }
 
-/// What a plan of the inputs works on.
-pub(crate) fn planning(inputs: Inputs, evidence: Evidence) -> Material
-    ensures { IsKept (planning evidence inputs) result }
+pub(crate) fn plan_by(alloc: Global, material: &PlanMaterial) -> Result<End, NoMemory>
+    ensures { IfOk result (PlansBy material.now.evidence material.now.inputs) }
 {
-    match evidence {
-        Evidence::Log => Material::Read(ReadMaterial::Planning(inputs)),
-        Evidence::Trails => Material::Read(ReadMaterial::TrailPlanning(inputs)),
+    match material.evidence {
+        Evidence::Log => plan(alloc, &material.inputs),
+        Evidence::Trails => plan_by_trails(alloc, &material.inputs),
     }
 }
 
-/// What a drawing of the inputs works on.
-pub(crate) fn making(inputs: Inputs, stem: Stem, style: Style, evidence: Evidence) -> Material
-    ensures { IsKept (making evidence stem style inputs) result }
+pub(crate) fn make_by(alloc: Global, material: &MakeMaterial) -> Result<End, NoMemory>
+    ensures { IfOk result (MakesBy material.now.evidence material.now.style material.now.inputs material.now.stem) }
 {
-    match evidence {
-        Evidence::Log => Material::Read(ReadMaterial::Making(inputs, stem, style)),
-        Evidence::Trails => Material::Read(ReadMaterial::TrailMaking(inputs, stem, style)),
+    match material.evidence {
+        Evidence::Log => make(alloc, &material.inputs, &material.stem, material.style),
+        Evidence::Trails => make_by_trails(alloc, &material.inputs, &material.stem, material.style),
+    }
+}
+
+pub(crate) fn check_by(alloc: Global, inputs: &Inputs, file: &EvidenceFile) -> Result<End, NoMemory>
+    ensures { IfOk result (ChecksOn inputs.now file.now) }
+{
+    match file {
+        EvidenceFile::Log(log) => check(alloc, inputs, log),
+        EvidenceFile::Trails(bytes) => check_by_trails(alloc, inputs, bytes.as_slice()),
     }
 }

@@ -3,7 +3,9 @@
 
 mod commands;
 mod evidence;
+mod material;
 mod refusal;
 
 pub use commands::{Material, ReadMaterial, gather, work};
+pub use material::{EvidenceFile, MakeMaterial, PlanMaterial, RowMaterial};
 pub use refusal::refused;

@@ -6,22 +6,20 @@ ghost use Rattle.agree_run.specs.Agree.{DoesAgree};
 ghost use Rattle.run_laws.specs.Agree.{ComparesMade, HasDisagreement, HasNoNets, IsAgree, IsAgreedCell, IsDisagreed, IsWithoutNets, OfCompared};
 ghost use Rattle.run_laws.specs.Bench.{IsBench, IsBenchTold, WhereBenchEnds};
 ghost use Rattle.run_laws.specs.Calm.{IfCalm, IsDoneOrShort};
-ghost use Rattle.run_laws.specs.Check.{HoldsAcceptedLog, IsCheck};
+ghost use Rattle.run_laws.specs.Check.{HoldsAccepted, IsCheck};
 ghost use Rattle.run_laws.specs.Created.{CreatesOnce};
 ghost use Rattle.call_end.specs.Deliver.{Tells, TellsWhole};
 ghost use Rattle.call_work.specs.Ends.{CallsFor, IsOfOutside, MayEnd, is_status_of};
 ghost use Rattle.layout_run.specs.Extract.{BreaksRule, HasNetlist};
 ghost use Rattle.run_laws.specs.Extract.{HasNoNetlist, IsBrokenCell, IsExtract, IsExtractedCell, IsRefusedLayout, OfGdsCell, WhereExtractEnds};
-ghost use Rattle.call_work.specs.Commands.{Agreeing, TrailPlanning, read_by};
+ghost use Rattle.call_work.specs.Commands.{Agreeing, read_by};
 ghost use Rattle.run_laws.specs.Ended.{WhereEnds};
-ghost use Rattle.run_laws.specs.Headline.{CanBeDrawn, FromInputs, HasCycle, IsCyclicCell, IsMadeCell, IsOrShort, IsSpentSearch, IsTallCell, IsTooHigh, MakesNone, OfFirstLeast, WhereMakeEnds};
-ghost use Rattle.run_laws.specs.Plan.{HasEnough};
+ghost use Rattle.run_laws.specs.Headline.{CanBeDrawn, FromInputs, HasCycle, IsCyclicCell, IsMadeCell, IsOrShort, IsTallCell, IsTooHigh, IsUnmade, MakesNone, OfFirstLeast, WhereMakeEnds};
+ghost use Rattle.run_laws.specs.Plan.{CanBePlanned, IsPlannedRow, IsUnplanned, WherePlanEnds};
 ghost use Rattle.run_laws.specs.Row.{CanBeRowed, IsApartOrShort, IsKeptApart, IsMisreadRow, IsRow, IsRowedLibrary, IsStopStatus, IsStoppedRow, IsUnabuttedRow, MayLeaveFile, MayMakeFiles, OfRow, WhereRowEnds};
 ghost use Rattle.row_abut.specs.declared.cell.RowFault.{RowFault};
-ghost use Rattle.run_laws.specs.Trails.{HoldsAcceptedTrails, IsTrailCheck, IsTrailPlanned, IsTrailUnfinished, IsTrailUnmade};
 ghost use Rattle.call_read.specs.Sources.{Lacks};
 ghost use Rattle.call_words.specs.Words.{asked};
-ghost use Rattle.call_words.specs.declared.evidence.Evidence.TheVariants.{Log, Trails};
 
 use crate::prepare::prepare;
 use call_end::{Status, deliver};
@@ -103,27 +101,21 @@ pub fn run<D: Desk>(alloc: Global, words: &[String], desk: &mut D) -> Status
     // No file is created twice, whatever the end is. (That they are those of the end, in order, is said by `ends`.)
     ensures once { Both CreatesOnce (D.view desk.old).created (D.view desk.new).created }
 
-    // What `make` leaves behind: the drawing of the first least row, certified; or a cycle of that row; or the
-    // height that it needs; or the log of a search that spent its budget.
-    ensures drawn { IfSome (D.view desk.old).given (λ files. WhereMakeEnds Log files (asked words.now) result
-        status.Done (λ style inputs out. IsMadeCell Log style inputs out (D.view desk.old) (D.view desk.new))) }
-    ensures cyclic { IfSome (D.view desk.old).given (λ files. WhereMakeEnds Log files (asked words.now) result
-        status.Cycle (λ style inputs out. IsCyclicCell Log style inputs out (D.view desk.old) (D.view desk.new))) }
-    ensures tall { IfSome (D.view desk.old).given (λ files. WhereMakeEnds Log files (asked words.now) result
-        status.TooTall (λ style inputs out. IsTallCell Log style inputs out (D.view desk.old) (D.view desk.new))) }
-    ensures spent { IfSome (D.view desk.old).given (λ files. WhereMakeEnds Log files (asked words.now) result
-        status.Unfinished (λ style inputs out. IsSpentSearch Log inputs out (D.view desk.old) (D.view desk.new))) }
-
-    // The same with `--trails`, with a certificate by trails in the place of the log; or the certificate of what an
-    // unfinished search proves, or a gate with too many ways to pair its fingers.
-    ensures trail_drawn { IfSome (D.view desk.old).given (λ files. WhereMakeEnds Trails files (asked words.now) result
-        status.Done (λ style inputs out. IsMadeCell Trails style inputs out (D.view desk.old) (D.view desk.new))) }
-    ensures trail_cyclic { IfSome (D.view desk.old).given (λ files. WhereMakeEnds Trails files (asked words.now) result
-        status.Cycle (λ style inputs out. IsCyclicCell Trails style inputs out (D.view desk.old) (D.view desk.new))) }
-    ensures trail_tall { IfSome (D.view desk.old).given (λ files. WhereMakeEnds Trails files (asked words.now) result
-        status.TooTall (λ style inputs out. IsTallCell Trails style inputs out (D.view desk.old) (D.view desk.new))) }
-    ensures trail_spent { IfSome (D.view desk.old).given (λ files. WhereMakeEnds Trails files (asked words.now) result
-        status.Unfinished (λ style inputs out. IsTrailUnmade inputs out (D.view desk.old) (D.view desk.new))) }
+    // What `make` leaves behind: the drawing of the first least row, with its evidence; or a cycle of that row; or the
+    // height that it needs; or the evidence of what a search proves that spent its budget, or a gate with too many ways
+    // to pair its fingers.
+    ensures drawn { IfSome (D.view desk.old).given (λ files. WhereMakeEnds files (asked words.now) result
+        status.Done (λ evidence style inputs out.
+        IsMadeCell evidence style inputs out (D.view desk.old) (D.view desk.new))) }
+    ensures cyclic { IfSome (D.view desk.old).given (λ files. WhereMakeEnds files (asked words.now) result
+        status.Cycle (λ evidence style inputs out.
+        IsCyclicCell evidence style inputs out (D.view desk.old) (D.view desk.new))) }
+    ensures tall { IfSome (D.view desk.old).given (λ files. WhereMakeEnds files (asked words.now) result
+        status.TooTall (λ evidence style inputs out.
+        IsTallCell evidence style inputs out (D.view desk.old) (D.view desk.new))) }
+    ensures spent { IfSome (D.view desk.old).given (λ files. WhereMakeEnds files (asked words.now) result
+        status.Unfinished (λ evidence style inputs out.
+        IsUnmade evidence inputs out (D.view desk.old) (D.view desk.new))) }
 
     // Where the budget is enough, it ends so exactly where the first least row calls for it, or memory ran out.
     ensures draws { IfCalm (D.view desk.old) (D.view desk.new) (λ files.
@@ -133,29 +125,23 @@ pub fn run<D: Desk>(alloc: Global, words: &[String], desk: &mut D) -> Status
     ensures needs { IfCalm (D.view desk.old) (D.view desk.new) (λ files.
         FromInputs files (asked words.now) (OfFirstLeast IsTooHigh) → IsOrShort status.TooTall result) }
 
+    // What `plan` tells: the first least row, with evidence that is accepted; or what a search proves that spent its
+    // budget, or a gate with too many ways to pair its fingers.
+    ensures planned { IfSome (D.view desk.old).given (λ files. WherePlanEnds files (asked words.now) result
+        status.Done (λ evidence inputs. IsPlannedRow evidence inputs (D.view desk.old) (D.view desk.new))) }
+    ensures unplanned { IfSome (D.view desk.old).given (λ files. WherePlanEnds files (asked words.now) result
+        status.Unfinished (λ evidence inputs. IsUnplanned evidence inputs (D.view desk.old) (D.view desk.new))) }
+
     // A plan whose budget is enough is done, or memory ran out.
-    ensures planned { IfCalm (D.view desk.old) (D.view desk.new) (λ files.
-        HasEnough files (asked words.now) → IsDoneOrShort result) }
+    ensures plans { IfCalm (D.view desk.old) (D.view desk.new) (λ files.
+        CanBePlanned files (asked words.now) → IsDoneOrShort result) }
 
-    // A check is done exactly where the log file is the text of an accepted log, but for ReadFault, WriteFault
-    // and NoMemory; and where neither reading nor writing failed it is done there, or memory ran out.
+    // A check is done exactly where the file is the text of accepted evidence, but for ReadFault, WriteFault and
+    // NoMemory; and where neither reading nor writing failed it is done there, or memory ran out.
     ensures checked { IfSome (D.view desk.old).given (λ files. IsCheck (asked words.now)
-        → IsOfOutside result ⊎ (result ≡ status.Done ↔ HoldsAcceptedLog files (asked words.now))) }
+        → IsOfOutside result ⊎ (result ≡ status.Done ↔ HoldsAccepted files (asked words.now))) }
     ensures accepts { IfCalm (D.view desk.old) (D.view desk.new) (λ files.
-        HoldsAcceptedLog files (asked words.now) → IsDoneOrShort result) }
-
-    // What `plan` tells with `--trails`: the first least row, with a certificate by trails that is accepted; or what an
-    // unfinished search proves, or a gate with too many ways to pair its fingers.
-    ensures trail_planned { IfSome (D.view desk.old).given (λ files. WhereEnds TrailPlanning files (asked words.now)
-        result status.Done (λ inputs. IsTrailPlanned inputs (D.view desk.old) (D.view desk.new))) }
-    ensures trail_unfinished { IfSome (D.view desk.old).given (λ files. WhereEnds TrailPlanning files (asked words.now)
-        result status.Unfinished (λ inputs. IsTrailUnfinished inputs (D.view desk.old) (D.view desk.new))) }
-
-    // With `--trails` a check is done exactly where the file is the text of an accepted certificate, as above.
-    ensures trail_checked { IfSome (D.view desk.old).given (λ files. IsTrailCheck (asked words.now)
-        → IsOfOutside result ⊎ (result ≡ status.Done ↔ HoldsAcceptedTrails files (asked words.now))) }
-    ensures trail_accepts { IfCalm (D.view desk.old) (D.view desk.new) (λ files.
-        HoldsAcceptedTrails files (asked words.now) → IsDoneOrShort result) }
+        HoldsAccepted files (asked words.now) → IsDoneOrShort result) }
 
     // What `extract` tells: the netlist of a cell that obeys all rules; or all rules that it breaks; or why the file
     // has no cell to check, or the cell no netlist.

@@ -13,13 +13,14 @@ use Rattle.call_words.specs.declared.evidence.Evidence.{Evidence}
 use Rattle.call_words.specs.declared.evidence.Evidence.TheVariants.{Log, Trails}
 use Rattle.call_work.proofs.EachCommand.{files_by}
 use Rattle.call_work.proofs.EndsOf.{HasNoFiles}
-use Rattle.call_work.specs.Commands.{Kind, Material, MaterialOf, WorksTo, Planning, Making, Checking, Extracting, Benching, Rowing, Agreeing, TrailPlanning, TrailMaking, TrailChecking}
+use Rattle.call_work.specs.Commands.{Kind, Material, MaterialOf, WorksTo, Planning, Making, Checking, Extracting, Benching, Rowing, Agreeing}
 use Rattle.call_work.specs.Ends.{EndsTo}
+use Rattle.call_work.specs.Evidence.{MakesBy}
 use Rattle.cell_inputs.specs.declared.style.Style.{Style}
 use Rattle.cell_inputs.specs.Inputs.{Inputs}
 use Rattle.cell_make.specs.Making as made
 use Rattle.cell_make.specs.Rows.{DrawAnswer, RowDrawn, RowCyclic, RowTall}
-use Rattle.make_run.specs.Make.{IsRowEnd, MakesTo, RowEvidence, log_evidence, named}
+use Rattle.make_run.specs.Make.{IsRowEnd, RowEvidence, log_evidence, named}
 use Rattle.row_make.specs.declared.outcome.InputFault.TheVariants.{Spice, Fold}
 use Rattle.row_make.specs.RowInputs.{RowInputs}
 use Rattle.row_make.specs.Rowed.{Rowed, Refused, Stopped, Unabutted}
@@ -30,7 +31,7 @@ use Rattle.run_laws.proofs.RowTold.{no_files}
 use Rattle.run_laws.proofs.Telling.{Answers}
 use Rattle.run_laws.specs.Created.{AreDistinct, CreatesOnce}
 use Rattle.run_laws.specs.Evidence.{evidence_name}
-use Rattle.trail_make.specs.Make.{TrailMakesTo, trails_evidence}
+use Rattle.trail_make.specs.Make.{trails_evidence}
 use Rattle.trail_make.specs.Make as trail
 
 -- ---- names
@@ -73,20 +74,16 @@ none_listed files is = rw is tt
 
 abbrev makes_files : Kind → Bool
 makes_files Making = true
-makes_files TrailMaking = true
 makes_files Rowing = true
 makes_files Planning = false
 makes_files Checking = false
 makes_files Extracting = false
 makes_files Benching = false
 makes_files Agreeing = false
-makes_files TrailPlanning = false
-makes_files TrailChecking = false
 
 without_files : (kind : Kind) (end : End) → makes_files kind ≡ false → HasNoFiles kind end → AreDistinct (names_of end.files)
 without_files kind end none (inl is) = none_listed end.files is
-without_files kind end none (inr (inl (inl is, own))) = let clash : true ≡ false = ap makes_files (sym is) ∙ none in cc
-without_files kind end none (inr (inl (inr is, own))) = let clash : true ≡ false = ap makes_files (sym is) ∙ none in cc
+without_files kind end none (inr (inl (is, own))) = let clash : true ≡ false = ap makes_files (sym is) ∙ none in cc
 without_files kind end none (inr (inr (is, done))) = let clash : true ≡ false = ap makes_files (sym is) ∙ none in cc
 
 row_end : (evidence : Evidence) (style : Style) (inputs : Inputs) (out : List ℕ) (row : List Column) (told : RowEvidence) (drawing : DrawAnswer) (end : End) → told.file.0 ≡ evidence_name evidence out → IsRowEnd style inputs out row told drawing end → AreDistinct (names_of end.files)
@@ -96,16 +93,14 @@ row_end evidence style inputs out row told (RowDrawn routing xs) end same is =
 row_end evidence style inputs out row told (RowCyclic ring) end same is = by_names end.files (told.file ∷ []) (told.file.0 ∷ []) is.files refl (distinct_one told.file.0)
 row_end evidence style inputs out row told (RowTall routing) end same is = by_names end.files (told.file ∷ []) (told.file.0 ∷ []) is.files refl (distinct_one told.file.0)
 
-log_end : (style : Style) (inputs : Inputs) (out : List ℕ) (end : End) → MakesTo style inputs out end → AreDistinct (names_of end.files)
-log_end style inputs out end (made.Made row log routing xs, h, is) = row_end Log style inputs out row (log_evidence inputs.cell out log) (RowDrawn routing xs) end refl is
-log_end style inputs out end (made.Cyclic row log ring, h, is) = row_end Log style inputs out row (log_evidence inputs.cell out log) (RowCyclic ring) end refl is
-log_end style inputs out end (made.Tall row log routing, h, is) = row_end Log style inputs out row (log_evidence inputs.cell out log) (RowTall routing) end refl is
-log_end style inputs out end (made.Unfinished proved log, h, is) = by_names end.files _ (evidence_name Log out ∷ []) is.files refl (distinct_one (evidence_name Log out))
-
-trails_end : (style : Style) (inputs : Inputs) (out : List ℕ) (end : End) → TrailMakesTo style inputs out end → AreDistinct (names_of end.files)
-trails_end style inputs out end (trail.Made row trails drawing, h, is) = row_end Trails style inputs out row (trails_evidence inputs.cell out trails) drawing end refl is
-trails_end style inputs out end (trail.Unfinished proved trails, h, is) = by_names end.files _ (evidence_name Trails out ∷ []) is.files refl (distinct_one (evidence_name Trails out))
-trails_end style inputs out end (trail.Crowded gate, h, is) = by_names end.files [] [] is.files refl tt
+makes_end : (evidence : Evidence) (style : Style) (inputs : Inputs) (out : List ℕ) (end : End) → MakesBy evidence style inputs out end → AreDistinct (names_of end.files)
+makes_end Log style inputs out end (made.Made row log routing xs, h, is) = row_end Log style inputs out row (log_evidence inputs.cell out log) (RowDrawn routing xs) end refl is
+makes_end Log style inputs out end (made.Cyclic row log ring, h, is) = row_end Log style inputs out row (log_evidence inputs.cell out log) (RowCyclic ring) end refl is
+makes_end Log style inputs out end (made.Tall row log routing, h, is) = row_end Log style inputs out row (log_evidence inputs.cell out log) (RowTall routing) end refl is
+makes_end Log style inputs out end (made.Unfinished proved log, h, is) = by_names end.files _ (evidence_name Log out ∷ []) is.files refl (distinct_one (evidence_name Log out))
+makes_end Trails style inputs out end (trail.Made row trails drawing, h, is) = row_end Trails style inputs out row (trails_evidence inputs.cell out trails) drawing end refl is
+makes_end Trails style inputs out end (trail.Unfinished proved trails, h, is) = by_names end.files _ (evidence_name Trails out ∷ []) is.files refl (distinct_one (evidence_name Trails out))
+makes_end Trails style inputs out end (trail.Crowded gate, h, is) = by_names end.files [] [] is.files refl tt
 
 rows_end : (r : RowInputs) (out : List ℕ) (end : End) → RowsTo r out end → AreDistinct (names_of end.files)
 rows_end r out end (Rowed made, h, is) = by_names end.files _ ((out ++ codes ".gds") ∷ []) is.files refl (distinct_one (out ++ codes ".gds"))
@@ -115,16 +110,13 @@ rows_end r out end (Stopped before inputs answer, h, is) = none_listed end.files
 rows_end r out end (Unabutted made fault, h, is) = none_listed end.files (ap (λ (e : End). e.files) is)
 
 distinct_end : (kind : Kind) (m : MaterialOf kind) (end : End) → WorksTo kind m end → AreDistinct (names_of end.files)
-distinct_end Making m end works = log_end m.2 m.0 m.1 end works
-distinct_end TrailMaking m end works = trails_end m.2 m.0 m.1 end works
-distinct_end Rowing m end works = rows_end m.0 m.1 end works
+distinct_end Making m end works = makes_end m.evidence m.style m.inputs m.stem end works
+distinct_end Rowing m end works = rows_end m.inputs m.stem end works
 distinct_end Planning m end works = without_files Planning end refl (files_by Planning m end works)
 distinct_end Checking m end works = without_files Checking end refl (files_by Checking m end works)
 distinct_end Extracting m end works = without_files Extracting end refl (files_by Extracting m end works)
 distinct_end Benching m end works = without_files Benching end refl (files_by Benching m end works)
 distinct_end Agreeing m end works = without_files Agreeing end refl (files_by Agreeing m end works)
-distinct_end TrailPlanning m end works = without_files TrailPlanning end refl (files_by TrailPlanning m end works)
-distinct_end TrailChecking m end works = without_files TrailChecking end refl (files_by TrailChecking m end works)
 
 distinct_files : (got : Result Material Refusal) (end : End) → EndsTo got end → AreDistinct (names_of end.files)
 distinct_files (Ok m) end ends = distinct_end m.0 m.1 end ends

@@ -2,7 +2,7 @@
 use Rattle.std.proofs.Common.{ℕ, ◌≡◌, ◌⊎◌, Bool, true, false, nat_le, if◌then◌else◌, length, arith, List, [], ◌∷◌, Option, Some, None, Result, Ok, Err, Contains, inl, inr, refl, sym, ap, ◌∙◌, subst}
 use Rattle.cell_io.specs.Desk.{Files, View, Rose}
 use Rattle.call_end.specs.declared.end.End.{End}
-use Rattle.call_work.specs.Commands.{Kind, Making, Material, Rowing, TrailMaking, gathered, read_by}
+use Rattle.call_work.specs.Commands.{Kind, Making, Material, Rowing, gathered, read_by}
 use Rattle.call_read.specs.declared.refusal.Refusal.{Refusal}
 use Rattle.call_read.specs.declared.refusal.Refusal.TheVariants.{Unread, Long, NoMemory}
 use Rattle.call_end.specs.declared.status.Status.{Status}
@@ -16,7 +16,7 @@ use Rattle.call_read.specs.Reading.{Comes, MayCome}
 use Rattle.call_read.specs.Sources.{Source, MayRead, Lacks, file_name, most_bytes, within}
 use Rattle.call_words.specs.Words.{Form}
 use Rattle.call_work.proofs.EachCommand.{files_by, gathered_keeps}
-use Rattle.call_work.proofs.EndsOf.{MakesCell, make_statuses}
+use Rattle.call_work.proofs.EndsOf.{make_statuses}
 use Rattle.call_work.proofs.Gathered.{IsGathered}
 use Rattle.call_read.proofs.Reading.{came_kept, came_told}
 use Rattle.call_work.proofs.Settled.{settled}
@@ -30,18 +30,13 @@ is_of_kind : (form : Option Form) (kind : Kind) (m : Material) → IsGathered fo
 is_of_kind None kind m is same = absurd is
 is_of_kind (Some form) kind m is same = sym is ∙ same
 
--- a making of a cell, with either evidence, is of a call that may make files
-may_make : (form : Option Form) (m : Material) → IsGathered form (Ok m) → MakesCell m.0 → MayMakeFiles form
-may_make form m is (inl log) = inl (is_of_kind form Making m is log)
-may_make form m is (inr trails) = inr (inl (is_of_kind form TrailMaking m is trails))
-
 pub no_files : (form : Option Form) (got : Result Material Refusal) (end : End) → (MayMakeFiles form → ⊥) → IsGatheredOrRefused form got → EndsTo got end → end.files ≡ []
 no_files form (Err e) end other how ends = rw ends refl
 no_files form (Ok m) end other (inr (e, is)) ends = cc
 no_files form (Ok m) end other (inl is) ends = elim (files_by m.0 m.1 end ends) [
   | inl none ↦ none
-  | inr (inl (making, own)) ↦ absurd (other (may_make form m is making))
-  | inr (inr (rowing, done)) ↦ absurd (other (inr (inr (is_of_kind form Rowing m is rowing))))
+  | inr (inl (making, own)) ↦ absurd (other (inl (is_of_kind form Making m is making)))
+  | inr (inr (rowing, done)) ↦ absurd (other (inr (is_of_kind form Rowing m is rowing)))
 ]
 
 -- a row makes a file where it is done, and none else
@@ -54,10 +49,9 @@ row_files form (Ok m) end row (inl is) ends = elim (files_by m.0 m.1 end ends) [
   | inr (inr (rowing, done)) ↦ inr done
 ]
   where
-    other_kind : (form : Option Form) (m : Material) → IsRow form → IsGathered form (Ok m) → MakesCell m.0 → ⊥
+    other_kind : (form : Option Form) (m : Material) → IsRow form → IsGathered form (Ok m) → m.0 ≡ Making → ⊥
     other_kind None m row is making = is
-    other_kind (Some form) m row is (inl log) = let clash : Rowing ≡ Making = sym row ∙ sym is ∙ log in cc
-    other_kind (Some form) m row is (inr trails) = let clash : Rowing ≡ TrailMaking = sym row ∙ sym is ∙ trails in cc
+    other_kind (Some form) m row is making = let clash : Rowing ≡ Making = sym row ∙ sym is ∙ making in cc
 
 pub none_alone : (got : Result Material Refusal) (end : End) → EndsTo got end → is_among (status.NoMemory ∷ fileless_statuses) end.status ≡ true → end.files ≡ []
 none_alone (Err e) end ends none = ap (λ (x : End). x.files) ends

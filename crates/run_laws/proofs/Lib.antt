@@ -8,9 +8,9 @@ pub mod MadeCompared
 pub mod MadeFiles
 pub mod MakeSettled
 pub mod MakeTold
+pub mod PlanTold
 pub mod RowSettled
 pub mod RowTold
 pub mod Telling
-pub mod TrailTold
 pub mod Unmade
 pub mod Worked

@@ -22,12 +22,12 @@ use Rattle.cell_make.specs.Rows.{Draws, DrawAnswer, RowDrawn, RowCyclic, RowTall
 use Rattle.cell_report.specs.Logs.{unfinished_text}
 use Rattle.run_laws.proofs.MadeFiles.{cell_made, evidence_made, none_left}
 use Rattle.run_laws.specs.Evidence.{CertificateOf, Certifies, ProvesAlone, evidence_counts, evidence_name, evidence_text, lemma_count}
-use Rattle.run_laws.specs.Headline.{IsCyclicCell, IsMadeCell, IsSpentSearch, IsTallCell}
-use Rattle.run_laws.specs.Trails.{IsTrailCrowded, IsTrailUnmade}
+use Rattle.run_laws.specs.Headline.{IsCyclicCell, IsMadeCell, IsSpentSearch, IsTallCell, IsUnmade}
+use Rattle.run_laws.specs.Plan.{IsCrowdedCell}
 use Rattle.channel_route.specs.declared.ring.Ring.{Ring}
 use Rattle.channel_route.specs.declared.routing.Routing.{Routing}
-use Rattle.make_run.specs.Make.{IsEnd, IsRowEnd, MakesTo, RowEvidence}
-use Rattle.trail_make.specs.Make.{TrailMakesTo}
+use Rattle.call_work.specs.Evidence.{MakesBy}
+use Rattle.make_run.specs.Make.{IsEnd, IsRowEnd, RowEvidence}
 use Rattle.trail_make.specs.Make as trail
 
 -- what the end of a row has of its evidence
@@ -43,11 +43,6 @@ IsSpentEnd evidence inputs out proved certificate =
     IsEnd status.Unfinished
     ((evidence_name evidence out, evidence_text evidence inputs.cell.name certificate) ∷ [])
     (first_line status.Unfinished ++ unfinished_text proved (lemma_count evidence certificate))
-
--- what is left behind where there is no row
-abbrev pub IsUnmade : Evidence → Inputs → List ℕ → View → View → Type 0
-IsUnmade Log inputs out old new = IsSpentSearch Log inputs out old new
-IsUnmade Trails inputs out old new = IsTrailUnmade inputs out old new
 
 -- by the status of the call
 abbrev pub Leaves : Evidence → Style → Inputs → List ℕ → View → View → Status → Type 0
@@ -148,23 +143,22 @@ spent_so evidence inputs out proved certificate end answer old new h is whole = 
   says = said_so _ end.report old.said new.said is.report whole.2;
 }
 
-pub log_leaves : (style : Style) (inputs : Inputs) (out : List ℕ) (end : End) (answer : Status) (old new : View) → MakesTo style inputs out end → TellsWhole end answer old new → Leaves Log style inputs out old new answer
-log_leaves style inputs out end answer old new (made.Made row log routing xs, h, is) whole =
+-- with an end of `make`
+pub make_leaves_so : (evidence : Evidence) (style : Style) (inputs : Inputs) (out : List ℕ) (end : End) (answer : Status) (old new : View) → MakesBy evidence style inputs out end → TellsWhole end answer old new → Leaves evidence style inputs out old new answer
+make_leaves_so Log style inputs out end answer old new (made.Made row log routing xs, h, is) whole =
     row_leaves Log style inputs out row log (RowDrawn routing xs) end answer old new h.found.first h.found.certified h.drawn is whole
-log_leaves style inputs out end answer old new (made.Cyclic row log ring, h, is) whole =
+make_leaves_so Log style inputs out end answer old new (made.Cyclic row log ring, h, is) whole =
     row_leaves Log style inputs out row log (RowCyclic ring) end answer old new h.0.first h.0.certified h.1 is whole
-log_leaves style inputs out end answer old new (made.Tall row log routing, h, is) whole =
+make_leaves_so Log style inputs out end answer old new (made.Tall row log routing, h, is) whole =
     row_leaves Log style inputs out row log (RowTall routing) end answer old new h.0.first h.0.certified (h.1, h.2) is whole
-log_leaves style inputs out end answer old new (made.Unfinished proved log, h, is) whole =
-    by_end (Leaves Log style inputs out old new) status.Unfinished answer end old new is.status whole (spent_so Log inputs out proved log end answer old new h is whole)
-
-pub trails_leave : (style : Style) (inputs : Inputs) (out : List ℕ) (end : End) (answer : Status) (old new : View) → TrailMakesTo style inputs out end → TellsWhole end answer old new → Leaves Trails style inputs out old new answer
-trails_leave style inputs out end answer old new (trail.Made row trails drawing, ((nodes, found), h), is) whole =
+make_leaves_so Log style inputs out end answer old new (made.Unfinished proved log, h, is) whole =
+    by_end (Leaves Log style inputs out old new) status.Unfinished answer end old new is.status whole (inl (spent_so Log inputs out proved log end answer old new h is whole))
+make_leaves_so Trails style inputs out end answer old new (trail.Made row trails drawing, ((nodes, found), h), is) whole =
     row_leaves Trails style inputs out row trails drawing end answer old new found.first found.certified h is whole
-trails_leave style inputs out end answer old new (trail.Unfinished proved trails, h, is) whole =
+make_leaves_so Trails style inputs out end answer old new (trail.Unfinished proved trails, h, is) whole =
     by_end (Leaves Trails style inputs out old new) status.Unfinished answer end old new is.status whole (inl (spent_so Trails inputs out proved trails end answer old new h is whole))
-trails_leave style inputs out end answer old new (trail.Crowded gate, h, is) whole =
+make_leaves_so Trails style inputs out end answer old new (trail.Crowded gate, h, is) whole =
     by_end (Leaves Trails style inputs out old new) status.Unfinished answer end old new is.status whole (inr (crowded, none_left end.files old.made new.made is.files whole.1))
   where
-    crowded : IsTrailCrowded inputs old new
+    crowded : IsCrowdedCell Trails inputs old new
     crowded = record { gate = gate; crowded = h; says = said_so _ end.report old.said new.said is.report whole.2 }

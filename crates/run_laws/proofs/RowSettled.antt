@@ -8,6 +8,7 @@ use Rattle.call_end.specs.declared.status.Status.{Status}
 use Rattle.call_end.specs.declared.status.Status.TheVariants as status
 use Rattle.call_read.specs.declared.refusal.Refusal.{Refusal}
 use Rattle.call_words.specs.Words.{Form}
+use Rattle.call_words.specs.declared.evidence.Evidence.TheVariants.{Log}
 use Rattle.call_work.specs.Commands.{Material, Rowing}
 use Rattle.call_work.specs.Ends.{EndsTo, IsOfOutside, desk_statuses, is_among}
 use Rattle.cell_inputs.specs.Inputs.{Inputs, inputs_of}
@@ -57,7 +58,7 @@ same_inputs r a b x y named =
     ok_same : (f g : Fingers) → ◌≡◌ {A = Result Fingers FoldFault} (Ok f) (Ok g) → f ≡ g
     ok_same f g e = cc
 
-never_stops : (inputs : Inputs) (answer : MakeAnswer) → OfFirstLeast CanBeDrawn plain_style inputs [] → Makes plain_style inputs answer → IsNoDrawing answer → ⊥
+never_stops : (inputs : Inputs) (answer : MakeAnswer) → OfFirstLeast CanBeDrawn Log plain_style inputs [] → Makes plain_style inputs answer → IsNoDrawing answer → ⊥
 never_stops inputs (Made row log routing xs) can makes none = none
 never_stops inputs (Cyclic row log ring) (much, can) makes none = no_ring plain_style.wiring (placement_of row) inputs.cell.pins ring (can row makes.0.first).acyclic (ring_is plain_style.wiring (placement_of row) inputs.cell.pins ring makes.1)
 never_stops inputs (Tall row log routing) (much, can) makes none = (can row makes.0.first).fits routing makes.1 makes.2
@@ -87,7 +88,7 @@ is_refused r before name fault each h = never_refused r name fault (next_can r b
 is_stopped : (r : RowInputs) (before : List MadeCell) (inputs : Inputs) (answer : MakeAnswer) → All (CanBeMade r) r.names → IsStopped r before inputs answer → ⊥
 is_stopped r before inputs answer each h =
     let next = next_can r before inputs.cell.name each h.next in
-    never_stops inputs answer (subst (λ i. OfFirstLeast CanBeDrawn plain_style i []) (same_inputs r next.inputs inputs next.of h.of next.named) next.drawn) h.makes h.stops
+    never_stops inputs answer (subst (λ i. OfFirstLeast CanBeDrawn Log plain_style i []) (same_inputs r next.inputs inputs next.of h.of next.named) next.drawn) h.makes h.stops
 
 rowed_where : (r : RowInputs) (out : List ℕ) (end : End) → CanBeRowed r → RowsTo r out end → end.status ≡ status.Done
 rowed_where r out end can (Rowed made, h, is) = is.status
@@ -96,7 +97,7 @@ rowed_where r out end can (Stopped before inputs answer, h, is) = absurd (is_sto
 rowed_where r out end can (Unabutted made fault, h, is) = absurd (can.beside made h.cells fault h.is)
 
 pub rows_told : (a c : View) (form : Option Form) (answer : Status) (given : Option Files) → IfSome given (λ files. IsCalm a c → Completes form files answer) → IfSome given (λ files. IsCalm a c → OfRow files form (λ r out. CanBeRowed r) → IsDoneOrShort answer)
-rows_told a c form answer given told = settles Rowing (λ m. CanBeRowed m.0) form status.Done answer a c given (λ m end can works. rowed_where m.0 m.1 end can works) told
+rows_told a c form answer given told = settles Rowing (λ m. CanBeRowed m.inputs) form status.Done answer a c given (λ m end can works. rowed_where m.inputs m.stem end can works) told
 
 -- ---- where a fault keeps the made cells apart
 
@@ -118,11 +119,11 @@ no_outside answer is outside =
 pub unabuts_told : (a c : View) (form : Option Form) (answer : Status) (given : Option Files) → IfSome given (IsAnswered form a c answer) → IfSome given (λ files. IsCalm a c → Completes form files answer) → IfSome given (λ files. IsCalm a c → (fault : RowFault) → OfRow files form (λ r out. IsKeptApart r fault) → IsApartOrShort fault answer a c)
 unabuts_told a c form answer None told completes = tt
 unabuts_told a c form answer (Some files) (inr (end, calls, whole)) completes = λ calm fault (m, got, can).
-    let is : end ≡ apart_end fault = apart_where m.0 m.1 fault end can (subst (λ (r : Result Material Refusal). EndsTo r end) got calls) in
+    let is : end ≡ apart_end fault = apart_where m.inputs m.stem fault end can (subst (λ (r : Result Material Refusal). EndsTo r end) got calls) in
     inl (whole.0 ∙ ap (λ (e : End). e.status) is, said_so end (apart_end fault) a c is whole.2)
 unabuts_told a c form answer (Some files) (inl outside) completes = λ calm fault (m, got, can). elim (completes calm) [
   | inl (end, calls, same) ↦
-      let is : end ≡ apart_end fault = apart_where m.0 m.1 fault end can (subst (λ (r : Result Material Refusal). EndsTo r end) got calls) in
+      let is : end ≡ apart_end fault = apart_where m.inputs m.stem fault end can (subst (λ (r : Result Material Refusal). EndsTo r end) got calls) in
       absurd (no_outside answer (same ∙ ap (λ (e : End). e.status) is) outside)
   | inr short ↦ inr short
 ]

@@ -17,7 +17,8 @@ use Rattle.call_words.specs.Asked.{RowAsked}
 use Rattle.call_words.specs.Words.{Form, Row}
 use Rattle.call_work.proofs.EachCommand.{is_row}
 use Rattle.call_work.proofs.Statuses.{differ}
-use Rattle.call_work.specs.Commands.{Material, Rowing, gathered}
+use Rattle.call_work.specs.Commands.{Material, Rowing, gathered, rowing_of}
+use Rattle.call_work.specs.declared.material.RowMaterial.{RowMaterial}
 use Rattle.call_work.specs.Ends.{is_among}
 use Rattle.cell_inputs.specs.Inputs.{Inputs}
 use Rattle.cell_make.specs.Making.{MakeAnswer, Made, Cyclic, Tall, Unfinished}
@@ -35,41 +36,41 @@ use Rattle.row_run.specs.Row.{IsStoppedEnd, RowsTo, input_end, rowing, rowing_ov
 -- ---- what the words ask for
 
 -- the material of a row, where it is one
-abbrev rowing_of : Result Material Refusal → Option (RowInputs × List ℕ)
-rowing_of (Ok (Rowing, m)) = Some m
-rowing_of _ = None
+abbrev cells_of : Result Material Refusal → Option RowMaterial
+cells_of (Ok (Rowing, m)) = Some m
+cells_of _ = None
 
-row_words : (files : Files) (asked : RowAsked) (name : List ℕ) (r : RowInputs) (out : List ℕ) → called files (gathered (Some (Row asked name))) ≡ Ok (Rowing, (r, out)) → IsRowAskedFor (Some (Row asked name)) r out
-row_words files asked name r out got =
-    let read = called_parts files (rowing asked) (λ (i : RowInputs). Ends (Ok (Rowing, (i, name)))) (Rowing, (r, out)) got in
+row_words : (files : Files) (asked : RowAsked) (name : List ℕ) (m : RowMaterial) → called files (gathered (Some (Row asked name))) ≡ Ok (Rowing, m) → IsRowAskedFor (Some (Row asked name)) m.inputs m.stem
+row_words files asked name m got =
+    let read = called_parts files (rowing asked) (λ (i : RowInputs). Ends (Ok (rowing_of name i))) (Rowing, m) got in
     let tech = called_parts files (technology_from asked.tech) (rowing_over asked) read.0 read.1 in
     let file = called_parts files (bytes_of (SpiceFile asked.spice)) (λ bytes. Ends (Ok (row_of asked tech.0 bytes))) read.0 tech.2 in
     let own : row_of asked tech.0 file.0 ≡ read.0 = ok_is (row_of asked tech.0 file.0) read.0 file.2 in
-    let same : ◌≡◌ {A = RowInputs × List ℕ} (read.0, name) (r, out) = some_same (read.0, name) (r, out) (ap rowing_of read.2) in
+    let same : (rowing_of name read.0).1 ≡ m = some_same (rowing_of name read.0).1 m (ap cells_of read.2) in
     record {
       asked = asked;
-      words = ap (λ (m : RowInputs × List ℕ). Some (Row asked m.1)) same;
-      top = ap (λ (m : RowInputs × List ℕ). m.0.top) (sym same) ∙ ap (λ (i : RowInputs). i.top) (sym own);
-      names = ap (λ (m : RowInputs × List ℕ). m.0.names) (sym same) ∙ ap (λ (i : RowInputs). i.names) (sym own);
+      words = ap (λ (x : RowMaterial). Some (Row asked x.stem)) same;
+      top = ap (λ (x : RowMaterial). x.inputs.top) (sym same) ∙ ap (λ (i : RowInputs). i.top) (sym own);
+      names = ap (λ (x : RowMaterial). x.inputs.names) (sym same) ∙ ap (λ (i : RowInputs). i.names) (sym own);
     }
   where
     ok_is : (a b : RowInputs) → ◌≡◌ {A = Result RowInputs Refusal} (Ok a) (Ok b) → a ≡ b
     ok_is a b e = cc
 
-row_asked : (files : Files) (form : Option Form) (r : RowInputs) (out : List ℕ) → IsRow form → called files (gathered form) ≡ Ok (Rowing, (r, out)) → IsRowAskedFor form r out
-row_asked files None r out row got = absurd row
-row_asked files (Some form) r out row got = by (is_row form row)
+row_asked : (files : Files) (form : Option Form) (m : RowMaterial) → IsRow form → called files (gathered form) ≡ Ok (Rowing, m) → IsRowAskedFor form m.inputs m.stem
+row_asked files None m row got = absurd row
+row_asked files (Some form) m row got = by (is_row form row)
   where
-    by : (asked : RowAsked) × (name : List ℕ) × (form ≡ Row asked name) → IsRowAskedFor (Some form) r out
+    by : (asked : RowAsked) × (name : List ℕ) × (form ≡ Row asked name) → IsRowAskedFor (Some form) m.inputs m.stem
     by (asked, name, is) =
-        subst (λ (f : Form). IsRowAskedFor (Some f) r out) (sym is)
-        (row_words files asked name r out (subst (λ (f : Form). called files (gathered (Some f)) ≡ Ok (Rowing, (r, out))) is got))
+        subst (λ (f : Form). IsRowAskedFor (Some f) m.inputs m.stem) (sym is)
+        (row_words files asked name m (subst (λ (f : Form). called files (gathered (Some f)) ≡ Ok (Rowing, m)) is got))
 
-row_told : (form : Option Form) (answer settled : Status) (Says : RowInputs → List ℕ → Type 0) (given : Option Files) → IfSome given (λ files. WhereEnds Rowing files form answer settled (λ m. Says m.0 m.1)) → IfSome given (λ files. WhereRowEnds files form answer settled Says)
+row_told : (form : Option Form) (answer settled : Status) (Says : RowInputs → List ℕ → Type 0) (given : Option Files) → IfSome given (λ files. WhereEnds Rowing files form answer settled (λ m. Says m.inputs m.stem)) → IfSome given (λ files. WhereRowEnds files form answer settled Says)
 row_told form answer settled Says None told = tt
 row_told form answer settled Says (Some files) told = λ row is.
     let (m, comes, says) = told row is in
-    (m, comes, (row_asked files form m.0 m.1 row comes, says))
+    (m, comes, (row_asked files form m row comes, says))
 
 -- ---- by status
 
@@ -145,7 +146,7 @@ unabutted_so r out end answer old new (Stopped before inputs (Unfinished proved 
 pub rowed_told : (a c : View) (form : Option Form) (answer : Status) (given : Option Files) → IfSome given (IsAnswered form a c answer) → IfSome given (λ files. WhereRowEnds files form answer status.Done (λ r out. IsRowedLibrary r out a c))
 rowed_told a c form answer given told =
     row_told form answer status.Done (λ r out. IsRowedLibrary r out a c) given
-    (ends_told Rowing (λ m. IsRowedLibrary m.0 m.1 a c) form status.Done answer a c given refl (λ m end works is whole. library_so m.0 m.1 end answer a c works is whole) told)
+    (ends_told Rowing (λ m. IsRowedLibrary m.inputs m.stem a c) form status.Done answer a c given refl (λ m end works is whole. library_so m.inputs m.stem end answer a c works is whole) told)
 
 stop_is_work : (settled : Status) → IsStopStatus settled → is_among work_statuses settled ≡ true
 stop_is_work settled stops =
@@ -154,12 +155,12 @@ stop_is_work settled stops =
 pub stopped_told : (a c : View) (form : Option Form) (answer : Status) (given : Option Files) → IfSome given (IsAnswered form a c answer) → (settled : Status) → IsStopStatus settled → IfSome given (λ files. WhereRowEnds files form answer settled (λ r out. IsStoppedRow r answer a c))
 stopped_told a c form answer given told settled stops =
     row_told form answer settled (λ r out. IsStoppedRow r answer a c) given
-    (ends_told Rowing (λ m. IsStoppedRow m.0 answer a c) form settled answer a c given (stop_is_work settled stops) (λ m end works is whole. stopped_so settled m.0 m.1 end answer a c stops works is whole) told)
+    (ends_told Rowing (λ m. IsStoppedRow m.inputs answer a c) form settled answer a c given (stop_is_work settled stops) (λ m end works is whole. stopped_so settled m.inputs m.stem end answer a c stops works is whole) told)
 
 pub misread_told : (a c : View) (form : Option Form) (answer : Status) (given : Option Files) → IfSome given (IsAnswered form a c answer) → IfSome given (λ files. IsRow form → answer ≡ status.Input → IsMisreadRow files form a c)
-misread_told a c form answer given told = refused_told Rowing status.Input IsInputRefusal (λ m. IsRefusedRow m.0 a c) a c form answer given refl refl (λ e is. sym is) (λ m end works is whole. refused_so m.0 m.1 end answer a c works is whole) told
+misread_told a c form answer given told = refused_told Rowing status.Input IsInputRefusal (λ m. IsRefusedRow m.inputs a c) a c form answer given refl refl (λ e is. sym is) (λ m end works is whole. refused_so m.inputs m.stem end answer a c works is whole) told
 
 pub unabutted_told : (a c : View) (form : Option Form) (answer : Status) (given : Option Files) → IfSome given (IsAnswered form a c answer) → IfSome given (λ files. WhereRowEnds files form answer status.Row (λ r out. IsUnabuttedRow r a c))
 unabutted_told a c form answer given told =
     row_told form answer status.Row (λ r out. IsUnabuttedRow r a c) given
-    (ends_told Rowing (λ m. IsUnabuttedRow m.0 a c) form status.Row answer a c given refl (λ m end works is whole. unabutted_so m.0 m.1 end answer a c works is whole) told)
+    (ends_told Rowing (λ m. IsUnabuttedRow m.inputs a c) form status.Row answer a c given refl (λ m end works is whole. unabutted_so m.inputs m.stem end answer a c works is whole) told)

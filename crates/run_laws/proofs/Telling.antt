@@ -1,30 +1,23 @@
 -- What the top call owes of its answer, from the end that it came to and how this was told.
-use Rattle.std.proofs.Common.{ℕ, ◌≡◌, ◌≤◌, ◌⊎◌, ◌↔◌, ◌||◌, Bool, true, false, List, [], Option, Some, None, IfSome, IsNone, inl, inr, refl, sym, ap, ◌∙◌, subst, arith}
+use Rattle.std.proofs.Common.{ℕ, ◌≡◌, ◌≤◌, ◌⊎◌, ◌||◌, Bool, true, false, List, [], Option, Some, None, IfSome, IsNone, inl, inr, refl, sym, ap, ◌∙◌, subst, arith}
 use Rattle.std.proofs.lemmas.List.{append-nil}
 use Rattle.cell_io.specs.Desk.{Files, View, Both, ForSome, AddsPart, OnlyReads, Rose}
 use Rattle.call_end.specs.declared.end.End.{End}
 use Rattle.call_end.specs.declared.end.Output.{Output}
-use Rattle.call_work.specs.Commands.{Checking, Planning, gathered, read_by}
-use Rattle.check_run.specs.Check.{IsTextOfAccepted}
-use Rattle.log_check.specs.Accepted.{ForKinds}
-use Rattle.row_search.specs.Enough.{enough}
+use Rattle.call_work.specs.Commands.{gathered, read_by}
 use Rattle.call_end.specs.declared.status.Status.{Status}
 use Rattle.call_end.specs.declared.status.Status.TheVariants as status
-use Rattle.run_laws.specs.Calm.{IsCalm, IsDoneOrShort}
-use Rattle.run_laws.specs.Check.{HoldsAcceptedLog, IsCheck}
+use Rattle.run_laws.specs.Calm.{IsCalm}
 use Rattle.call_end.specs.Deliver.{CreatesAll, CreatesFront, GivesUp, MakesAll, MakesSome, OnlyTells, Says, Tells, TellsSome, TellsWhole}
 use Rattle.call_work.specs.Ends.{CallsFor, IsOfOutside, KeepsReadsOf, MayEnd, desk_statuses, is_among, is_status_of, outside_of, settled_of}
 use Rattle.run_laws.specs.Row.{IsRow, MayLeaveFile, MayMakeFiles}
-use Rattle.run_laws.specs.Plan.{HasEnough}
 use Rattle.call_read.specs.Sources.{Lacks}
 use Rattle.call_words.specs.Words.{Form}
-use Rattle.check_run.proofs.Checked.{done_holds, holds_done}
 use Rattle.call_end.proofs.Delivered.{none_begun, none_made}
 use Rattle.call_read.proofs.Desks.{came_between}
 use Rattle.run_laws.proofs.Ends.{came_gathered, end_cases, end_told, file_outside, file_status, file_unread, no_files, row_files}
 use Rattle.call_work.proofs.Settled.{not_of_desk, usage_alone}
-use Rattle.make_run.proofs.Planned.{enough_done}
-use Rattle.run_laws.proofs.Worked.{Completes, IsAnswered, done_exactly, settles}
+use Rattle.run_laws.proofs.Worked.{Completes, IsAnswered}
 
 -- ---- the whole call
 
@@ -181,14 +174,3 @@ alone_told a c form answer (end, (got, came, ends), inl whole) row = elim (row_f
   | inl none ↦ inr (none_told_so a c end answer none (inl whole))
   | inr done ↦ let is : answer ≡ status.Done = whole.0 ∙ done in inl (rw is refl)
 ]
-
--- ---- by command
-
-pub planned_told : (a c : View) (form : Option Form) (answer : Status) (given : Option Files) → IfSome given (λ files. IsCalm a c → Completes form files answer) → IfSome given (λ files. IsCalm a c → HasEnough files form → IsDoneOrShort answer)
-planned_told a c form answer given told = settles Planning (λ inputs. ForKinds inputs.fingers (λ k. enough k ≤ inputs.tech.budget)) form status.Done answer a c given (λ inputs end much works. enough_done inputs end much works) told
-
-pub accepts_told : (a c : View) (form : Option Form) (answer : Status) (given : Option Files) → IfSome given (λ files. IsCalm a c → Completes form files answer) → IfSome given (λ files. IsCalm a c → HoldsAcceptedLog files form → IsDoneOrShort answer)
-accepts_told a c form answer given told = settles Checking (λ m. (gaps : ℕ) × (lemmas : ℕ) × IsTextOfAccepted m.0 m.1 gaps lemmas) form status.Done answer a c given (λ m end (gaps, lemmas, text) works. holds_done m.0 m.1 end gaps lemmas text works) told
-
-pub checked_told : (a c : View) (form : Option Form) (answer : Status) (given : Option Files) → IfSome given (IsAnswered form a c answer) → IfSome given (λ files. IsCheck form → IsOfOutside answer ⊎ (answer ≡ status.Done ↔ HoldsAcceptedLog files form))
-checked_told a c form answer given told = done_exactly Checking (λ m. (gaps : ℕ) × (lemmas : ℕ) × IsTextOfAccepted m.0 m.1 gaps lemmas) form answer a c given (λ m end works done. done_holds m.0 m.1 end works done) (λ m end (gaps, lemmas, text) works. holds_done m.0 m.1 end gaps lemmas text works) told

@@ -1,18 +1,24 @@
 -- The evidence of a row, by its kind: the log of a search, or a certificate by trails. Its file, and those beside it.
-use Rattle.std.specs.Prelude.{ℕ, ◌≡◌, ◌≢◌, List, ◌++◌, codes, length, Some}
+use Rattle.std.specs.Prelude.{ℕ, ◌≡◌, ◌≢◌, ◌≤◌, List, ◌++◌, codes, length, Some}
 use Rattle.cell_io.specs.Desk.{Files}
 use Rattle.cell_num.specs.Lines.{count_line}
+use Rattle.cell_num.specs.declared.net.NetNo.{NetNo}
 use Rattle.row_model.specs.declared.column.Column.{Column}
 use Rattle.bound_log.specs.declared.log.Log.{Log as SearchLog}
 use Rattle.bound_log.specs.Text.{log_text}
-use Rattle.log_check.specs.Accepted.{WithKinds}
+use Rattle.log_check.specs.Accepted.{ForKinds, WithKinds}
+use Rattle.row_search.specs.Enough.{enough}
+use Rattle.spice_net.specs.declared.subckt.Subckt.{Subckt}
 use Rattle.trail_log.specs.declared.trails.Trails.{Trails as TrailList}
 use Rattle.trail_log.specs.Text.{trails_text}
-use Rattle.trail_search.specs.Ended.{IsCertified as IsCertifiedByTrails}
+use Rattle.trail_search.specs.Ended.{IsCrowded, IsCertified as IsCertifiedByTrails}
 use Rattle.call_words.specs.declared.evidence.Evidence.{Evidence}
 use Rattle.call_words.specs.declared.evidence.Evidence.TheVariants.{Log, Trails}
 use Rattle.cell_inputs.specs.Inputs.{Inputs}
 use Rattle.cell_make.specs.Searched.{IsCertified, IsUnfinished}
+use Rattle.cell_report.specs.Rows.{plan_text}
+use Rattle.check_run.specs.Check.{IsTextOfAccepted as IsTextOfLog}
+use Rattle.trail_run.specs.Check.{IsTextOfAccepted as IsTextOfTrails}
 use Rattle.trail_run.specs.Counts.{counts_text}
 use Rattle.trail_run.specs.Plan.{IsUnfinished as IsUnfinishedByTrails}
 
@@ -32,6 +38,22 @@ abbrev pub ProvesAlone : (evidence : Evidence) → Inputs → ℕ → Certificat
 ProvesAlone Log inputs proved log = IsUnfinished inputs proved log
 ProvesAlone Trails inputs proved trails = IsUnfinishedByTrails inputs proved trails
 
+-- There is none of a row, since the fingers of this gate pair in more ways than its checker lists. A log lists none.
+abbrev pub Crowds : Evidence → Inputs → NetNo → Type 0
+Crowds Log inputs gate = ⊥
+Crowds Trails inputs gate = IsCrowded inputs.fingers gate
+
+-- The budget is enough to find it with a row, whatever the fingers are. For certificates by trails none is known to be.
+abbrev pub HasEnough : Evidence → Inputs → Type 0
+HasEnough Log inputs = ForKinds inputs.fingers (λ k. enough k ≤ inputs.tech.budget)
+HasEnough Trails inputs = ⊥
+
+-- the bytes are the text of one that is accepted for the inputs
+abbrev pub IsTextOfAccepted : Evidence → Inputs → List ℕ → Type 0
+IsTextOfAccepted Log inputs bytes = (gaps : ℕ) × (lemmas : ℕ) × IsTextOfLog inputs bytes gaps lemmas
+IsTextOfAccepted Trails inputs bytes =
+    (gaps : ℕ) × (lemmas : ℕ) × (filled : ℕ) × IsTextOfTrails inputs bytes gaps lemmas filled
+
 -- the name of its file
 abbrev pub evidence_name : Evidence → List ℕ → List ℕ
 evidence_name Log out = out ++ codes ".clog"
@@ -50,6 +72,11 @@ lemma_count Trails trails = length trails.lemmas
 abbrev pub evidence_counts : (evidence : Evidence) → CertificateOf evidence → List ℕ
 evidence_counts Log log = count_line (codes "lemmas ") (length log.lemmas)
 evidence_counts Trails trails = counts_text (length trails.lemmas) (length trails.fill)
+
+-- what the report of a plan says: the row, and of a certificate by trails its counts
+abbrev pub planned_text : (evidence : Evidence) → Subckt → List Column → CertificateOf evidence → List ℕ
+planned_text Log cell row log = plan_text cell.name cell.nets row
+planned_text Trails cell row trails = plan_text cell.name cell.nets row ++ evidence_counts Trails trails
 
 -- ---- files
 

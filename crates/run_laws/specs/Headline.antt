@@ -1,12 +1,10 @@
 -- What a call of `make` leaves behind: the drawing of a cell with its evidence, or the evidence of why there is
 -- none. Files and what was said are told where the desk tells them.
-use Rattle.std.specs.Prelude.{ℕ, ◌≡◌, ◌<◌, ◌≤◌, ◌⊎◌, IsTrue, List, [], ◌∷◌, ◌++◌, Option, Some}
+use Rattle.std.specs.Prelude.{ℕ, ◌≡◌, ◌<◌, ◌⊎◌, IsTrue, List, [], ◌∷◌, ◌++◌, Option, Some}
 use Rattle.agree_laws.specs.Abstracts.{IsAbstractOf}
 use Rattle.cell_io.specs.Desk.{Files, View, Both}
 use Rattle.cell_num.specs.Names.{lowered}
 use Rattle.row_model.specs.declared.column.Column.{Column}
-use Rattle.log_check.specs.Accepted.{ForKinds}
-use Rattle.row_search.specs.Enough.{enough}
 use Rattle.row_search.specs.First.{IsFirstLeast}
 use Rattle.row_place.specs.Places.{placement_of}
 use Rattle.channel_route.specs.declared.ring.Ring.{Ring}
@@ -20,9 +18,10 @@ use Rattle.cell_draw.specs.Shown.{ShowsRow}
 use Rattle.gds_read.specs.Decoding.{Decodes}
 use Rattle.lef_write.specs.Drawn.{AreAllMetal, AreOfNet, HasTrunkPorts, IsSized}
 use Rattle.call_end.specs.Status.{first_line}
-use Rattle.call_work.specs.Commands.{Making, TrailMaking}
-use Rattle.run_laws.specs.Evidence.{CertificateOf, Certifies, HasCell, HasEvidence, ProvesAlone, evidence_counts, evidence_name, evidence_text, lemma_count}
+use Rattle.call_work.specs.Commands.{Making}
+use Rattle.run_laws.specs.Evidence.{CertificateOf, Certifies, HasCell, HasEnough, HasEvidence, ProvesAlone, evidence_counts, evidence_name, evidence_text, lemma_count}
 use Rattle.run_laws.specs.Ended.{Gathers, IsOfKind, WhereEnds}
+use Rattle.run_laws.specs.Plan.{IsCrowdedCell}
 use Rattle.call_end.specs.declared.status.Status.{Status}
 use Rattle.call_end.specs.declared.status.Status.TheVariants as status
 use Rattle.call_end.specs.Deliver.{Says}
@@ -38,36 +37,31 @@ use Rattle.cell_make.specs.Structures.{HasOneStructure}
 use Rattle.cell_make.specs.Style.{AreBodiedBy, AreLegal, AreTight, HasNoRing, HasPinPort, IsRing, IsToldRing, ShowsWiring, deck_of, final}
 use Rattle.call_words.specs.Asked.{CellAsked}
 use Rattle.call_words.specs.declared.evidence.Evidence.{Evidence}
-use Rattle.call_words.specs.declared.evidence.Evidence.TheVariants.{Log, Trails}
 use Rattle.call_words.specs.Words.{Form, Make}
 use Rattle.call_work.specs.Ends.{is_among}
 
 abbrev pub IsMake : Option Form → Type 0
 IsMake form = IsOfKind Making form
 
-abbrev pub IsTrailMake : Option Form → Type 0
-IsTrailMake form = IsOfKind TrailMaking form
-
--- so it is of the style and the inputs of a drawing, which are there and accepted, and of what the names of its files
--- begin with
-abbrev pub FromInputs : Files → Option Form → (Style → Inputs → List ℕ → Type 0) → Type 0
-FromInputs files form Says = Gathers Making files form (λ m. Says m.2 m.0 m.1)
+-- so it is of the evidence, the style and the inputs of a drawing, which are there and accepted, and of what the names of
+-- its files begin with
+abbrev pub FromInputs : Files → Option Form → (Evidence → Style → Inputs → List ℕ → Type 0) → Type 0
+FromInputs files form Says = Gathers Making files form (λ m. Says m.evidence m.style m.inputs m.stem)
 
 -- The words ask for it so: `make TECH SPICE CELL OUT`, in this style, with this evidence. The cell has the name CELL in
 -- lower case, and the names of its files begin with OUT.
-pub record IsAskedFor (form : Option Form) (style : Style) (evidence : Evidence) (inputs : Inputs)
+pub record IsAskedFor (form : Option Form) (evidence : Evidence) (style : Style) (inputs : Inputs)
     (out : List ℕ) : Type 0 where
   pub asked : CellAsked
   pub words : form ≡ Some (Make asked out style evidence)
   pub name : inputs.cell.name ≡ lowered asked.cell
 
--- so it is where `make` with this evidence ends with this status
-abbrev pub WhereMakeEnds : Evidence → Files → Option Form → Status → Status
-    → (Style → Inputs → List ℕ → Type 0) → Type 0
-WhereMakeEnds Log files form answer settled Says =
-    WhereEnds Making files form answer settled (λ m. IsAskedFor form m.2 Log m.0 m.1 × Says m.2 m.0 m.1)
-WhereMakeEnds Trails files form answer settled Says =
-    WhereEnds TrailMaking files form answer settled (λ m. IsAskedFor form m.2 Trails m.0 m.1 × Says m.2 m.0 m.1)
+-- so it is where `make` ends with this status
+abbrev pub WhereMakeEnds : Files → Option Form → Status → Status
+    → (Evidence → Style → Inputs → List ℕ → Type 0) → Type 0
+WhereMakeEnds files form answer settled Says =
+    WhereEnds Making files form answer settled
+    (λ m. IsAskedFor form m.evidence m.style m.inputs m.stem × Says m.evidence m.style m.inputs m.stem)
 
 -- ---- a cell that was drawn
 
@@ -196,13 +190,17 @@ pub record IsSpentSearch (evidence : Evidence) (inputs : Inputs) (out : List ℕ
       Both (Says (first_line status.Unfinished ++ unfinished_text proved (lemma_count evidence certificate)))
       old.said new.said
 
+-- The evidence was told and is there, or a gate was told, and the files are as before.
+abbrev pub IsUnmade : Evidence → Inputs → List ℕ → View → View → Type 0
+IsUnmade evidence inputs out old new =
+    IsSpentSearch evidence inputs out old new ⊎ (IsCrowdedCell evidence inputs old new × (new.made ≡ old.made))
+
 -- ---- how `make` has to end
 
--- the budget is enough for the fingers, and so it is of their first least row
-abbrev pub OfFirstLeast : (Style → Inputs → List Column → Type 0) → Style → Inputs → List ℕ → Type 0
-OfFirstLeast Says style inputs out =
-    ForKinds inputs.fingers (λ k. enough k ≤ inputs.tech.budget)
-    × ((row : List Column) → IsFirstLeast inputs.fingers row → Says style inputs row)
+-- the budget is enough for the inputs, and so it is of their first least row
+abbrev pub OfFirstLeast : (Style → Inputs → List Column → Type 0) → Evidence → Style → Inputs → List ℕ → Type 0
+OfFirstLeast Says evidence style inputs out =
+    HasEnough evidence inputs × ((row : List Column) → IsFirstLeast inputs.fingers row → Says style inputs row)
 
 -- no nets of the row, or no pieces of nets, stand above each other in a ring, and its height is enough
 pub record CanBeDrawn (style : Style) (inputs : Inputs) (row : List Column) : Type 0 where

@@ -10,4 +10,3 @@ pub mod Extract
 pub mod Headline
 pub mod Plan
 pub mod Row
-pub mod Trails

@@ -1,13 +1,58 @@
--- What calls for the row of a plan.
-use Rattle.std.specs.Prelude.{◌≤◌, Option}
-use Rattle.cell_io.specs.Desk.{Files}
-use Rattle.log_check.specs.Accepted.{ForKinds}
-use Rattle.row_search.specs.Enough.{enough}
+-- What a call of `plan` tells: the row, with evidence; or what a search that spent its budget proves, or a gate with too
+-- many ways to pair its fingers. What calls for the row.
+use Rattle.std.specs.Prelude.{ℕ, ◌≡◌, ◌⊎◌, List, ◌++◌, Option}
+use Rattle.cell_io.specs.Desk.{Files, View, Both}
+use Rattle.cell_num.specs.declared.net.NetNo.{NetNo}
+use Rattle.row_model.specs.declared.column.Column.{Column}
+use Rattle.row_search.specs.First.{IsFirstLeast}
+use Rattle.call_end.specs.Deliver.{Says}
+use Rattle.call_end.specs.Status.{first_line}
+use Rattle.call_end.specs.declared.status.Status.{Status}
+use Rattle.call_end.specs.declared.status.Status.TheVariants as status
 use Rattle.call_words.specs.Words.{Form}
+use Rattle.call_words.specs.declared.evidence.Evidence.{Evidence}
 use Rattle.call_work.specs.Commands.{Planning}
-use Rattle.run_laws.specs.Ended.{Gathers}
+use Rattle.cell_inputs.specs.Inputs.{Inputs}
+use Rattle.cell_report.specs.Logs.{unfinished_text}
+use Rattle.run_laws.specs.Ended.{Gathers, WhereEnds}
+use Rattle.run_laws.specs.Evidence.{CertificateOf, Certifies, Crowds, HasEnough, ProvesAlone, evidence_text, lemma_count, planned_text}
+use Rattle.trail_run.specs.Plan.{gate_text}
 
--- the inputs of a plan are there and accepted, and the budget is enough for their fingers
-abbrev pub HasEnough : Files → Option Form → Type 0
-HasEnough files form =
-    Gathers Planning files form (λ inputs. ForKinds inputs.fingers (λ k. enough k ≤ inputs.tech.budget))
+-- so it is where `plan` ends with this status
+abbrev pub WherePlanEnds : Files → Option Form → Status → Status → (Evidence → Inputs → Type 0) → Type 0
+WherePlanEnds files form answer settled Says =
+    WhereEnds Planning files form answer settled (λ m. Says m.evidence m.inputs)
+
+-- the row was told, and how many lemmas and filled gates a certificate by trails has
+pub record IsPlannedRow (evidence : Evidence) (inputs : Inputs) (old new : View) : Type 0 where
+  pub row : List Column
+  pub certificate : CertificateOf evidence
+  -- Over all orders, flips and pairings with the fewest columns, no row has fewer gaps, and of those with as few
+  -- this one comes first.
+  pub first_least : IsFirstLeast inputs.fingers row
+  -- The checker accepts the evidence with the gaps of the row, and the row that it lists is this one.
+  pub certified : Certifies evidence inputs row certificate
+  pub says :
+      Both (Says (first_line status.Done ++ planned_text evidence inputs.cell row certificate)) old.said new.said
+
+-- the evidence was told, which lists no row: it proves that no row has fewer gaps than the report says
+pub record IsOpenSearch (evidence : Evidence) (inputs : Inputs) (old new : View) : Type 0 where
+  pub certificate : CertificateOf evidence
+  pub proved : ℕ
+  pub spent : ProvesAlone evidence inputs proved certificate
+  pub says :
+      Both (Says (first_line status.Unfinished ++ unfinished_text proved (lemma_count evidence certificate)
+      ++ evidence_text evidence inputs.cell.name certificate)) old.said new.said
+
+-- a gate was told whose fingers pair in more ways than a checker lists
+pub record IsCrowdedCell (evidence : Evidence) (inputs : Inputs) (old new : View) : Type 0 where
+  pub gate : NetNo
+  pub crowded : Crowds evidence inputs gate
+  pub says : Both (Says (first_line status.Unfinished ++ gate_text inputs.cell gate)) old.said new.said
+
+abbrev pub IsUnplanned : Evidence → Inputs → View → View → Type 0
+IsUnplanned evidence inputs old new = IsOpenSearch evidence inputs old new ⊎ IsCrowdedCell evidence inputs old new
+
+-- the inputs of a plan are there and accepted, and the budget is enough for them
+abbrev pub CanBePlanned : Files → Option Form → Type 0
+CanBePlanned files form = Gathers Planning files form (λ m. HasEnough m.evidence m.inputs)

@@ -10,6 +10,7 @@ use Rattle.call_end.specs.declared.status.Status.TheVariants as status
 use Rattle.call_read.specs.declared.refusal.Refusal.{Refusal}
 use Rattle.call_words.specs.Asked.{RowAsked}
 use Rattle.call_words.specs.Words.{Form, Row}
+use Rattle.call_words.specs.declared.evidence.Evidence.TheVariants.{Log}
 use Rattle.call_work.specs.Commands.{Rowing}
 use Rattle.call_work.specs.Ends.{is_among, refusal_status}
 use Rattle.cell_inputs.specs.Inputs.{Inputs}
@@ -17,7 +18,7 @@ use Rattle.cell_inputs.specs.Style.{plain_style}
 use Rattle.cell_make.specs.Making.{MakeAnswer}
 use Rattle.cell_num.specs.Names.{lowered}
 use Rattle.run_laws.specs.Ended.{Gathers, IsOfKind, IsToldFault, WhereEnds}
-use Rattle.run_laws.specs.Headline.{CanBeDrawn, IsMake, IsTrailMake, OfFirstLeast}
+use Rattle.run_laws.specs.Headline.{CanBeDrawn, IsMake, OfFirstLeast}
 use Rattle.fault_text.specs.Faults.{fault_line}
 use Rattle.fault_text.specs.RowFaults.{row_fault}
 use Rattle.row_abut.specs.declared.cell.RowFault.{RowFault}
@@ -32,7 +33,7 @@ IsRow form = IsOfKind Rowing form
 -- so it is of what a row is made of, where its files are there and the technology is accepted, and of what the name of
 -- its file begins with
 abbrev pub OfRow : Files → Option Form → (RowInputs → List ℕ → Type 0) → Type 0
-OfRow files form Says = Gathers Rowing files form (λ m. Says m.0 m.1)
+OfRow files form Says = Gathers Rowing files form (λ m. Says m.inputs m.stem)
 
 -- The words ask for it so: `row TECH SPICE OUT TOP CELL CELL ..`, with all names in lower case.
 pub record IsRowAskedFor (form : Option Form) (r : RowInputs) (out : List ℕ) : Type 0 where
@@ -109,7 +110,7 @@ IsStopStatus settled = IsTrue (is_among stop_statuses settled)
 -- where a row ends so, this holds of it, and of what its words ask for
 abbrev pub WhereRowEnds : Files → Option Form → Status → Status → (RowInputs → List ℕ → Type 0) → Type 0
 WhereRowEnds files form answer settled Says =
-    WhereEnds Rowing files form answer settled (λ m. IsRowAskedFor form m.0 m.1 × Says m.0 m.1)
+    WhereEnds Rowing files form answer settled (λ m. IsRowAskedFor form m.inputs m.stem × Says m.inputs m.stem)
 
 -- ---- how `row` has to end
 
@@ -118,7 +119,7 @@ pub record CanBeMade (r : RowInputs) (name : List ℕ) : Type 0 where
   pub inputs : Inputs
   pub of : AreInputsOf r inputs
   pub named : inputs.cell.name ≡ name
-  pub drawn : OfFirstLeast CanBeDrawn plain_style inputs []
+  pub drawn : OfFirstLeast CanBeDrawn Log plain_style inputs []
 
 -- so it is of each cell, and the made cells stand side by side
 pub record CanBeRowed (r : RowInputs) : Type 0 where
@@ -138,9 +139,9 @@ IsApartOrShort fault answer old new =
 
 -- ---- calls that make files
 
--- a call of `make`, with either evidence, or of `row`
+-- a call of `make` or of `row`
 abbrev pub MayMakeFiles : Option Form → Type 0
-MayMakeFiles form = IsMake form ⊎ IsTrailMake form ⊎ IsRow form
+MayMakeFiles form = IsMake form ⊎ IsRow form
 
 -- the statuses of a row that may leave a file behind
 abbrev pub row_file_statuses : List Status

@@ -6,8 +6,9 @@ ghost use Rattle.call_words.specs.Words.{Plan, Make, Check};
 ghost use Rattle.call_work.specs.Commands.{gathered};
 ghost use Rattle.call_work.specs.Kept.{MayKeep};
 
-use crate::commands::Material;
-use crate::evidence::{making, planning, with_evidence};
+use crate::commands::{Material, ReadMaterial};
+use crate::evidence::with_evidence;
+use crate::material::{MakeMaterial, PlanMaterial};
 use call_read::{Refusal, read_inputs};
 use call_words::{CellAsked, Evidence};
 use cell_inputs::Style;
@@ -26,7 +27,7 @@ pub(crate) fn for_plan<D: Desk>(
     ensures only { OnlyReads (D.view desk.old) (D.view desk.new) }
 {
     let inputs = read_inputs(alloc, desk, asked)?;
-    Ok(planning(inputs, evidence))
+    Ok(Material::Read(ReadMaterial::Planning(PlanMaterial { inputs, evidence })))
 }
 
 pub(crate) fn for_make<D: Desk>(
@@ -44,7 +45,12 @@ pub(crate) fn for_make<D: Desk>(
 {
     let stem = Stem::new(alloc, out)?;
     let inputs = read_inputs(alloc, desk, asked)?;
-    Ok(making(inputs, stem, style, evidence))
+    Ok(Material::Read(ReadMaterial::Making(MakeMaterial {
+        inputs,
+        stem,
+        style,
+        evidence,
+    })))
 }
 
 pub(crate) fn for_check<D: Desk>(

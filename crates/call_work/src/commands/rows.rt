@@ -7,6 +7,7 @@ ghost use Rattle.call_work.specs.Commands.{gathered};
 ghost use Rattle.call_work.specs.Kept.{MayKeep};
 
 use crate::commands::{Material, ReadMaterial};
+use crate::material::RowMaterial;
 use call_read::Refusal;
 use call_words::RowAsked;
 use cell_io::Desk;
@@ -26,5 +27,5 @@ pub(crate) fn for_row<D: Desk>(
 {
     let stem = Stem::new(alloc, out)?;
     let inputs = read_row(alloc, desk, asked)?;
-    Ok(Material::Read(ReadMaterial::Rowing(inputs, stem)))
+    Ok(Material::Read(ReadMaterial::Rowing(RowMaterial { inputs, stem })))
 }

@@ -1,18 +1,17 @@
 use Rattle.std.proofs.Common.{arith, refl, ◌∙◌}
 use Rattle.call_end.specs.declared.status.Status.TheVariants as status
 use Rattle.call_words.specs.Words.{asked}
-use Rattle.call_words.specs.declared.evidence.Evidence.TheVariants.{Log, Trails}
 use Rattle.run_laws.proofs.AgreeTold.{agreed_told, agrees_told, disagreed_told, disagrees_told, unextracted_told, unextracts_told}
 use Rattle.run_laws.proofs.BenchTold.{benched_told, benches_told}
 use Rattle.run_laws.proofs.Created.{once_told}
 use Rattle.run_laws.proofs.ExtractTold.{breaks_told, broken_told, extracted_told, extracts_told, layout_faults_told, layout_told}
 use Rattle.run_laws.proofs.MadeCompared.{agrees_made_told}
 use Rattle.run_laws.proofs.MakeTold.{draws_told, make_leaves, meets_told, needs_told}
+use Rattle.run_laws.proofs.PlanTold.{accepts_told, checked_told, planned_told, plans_told, unplanned_told}
 use Rattle.run_laws.proofs.RowSettled.{rows_told, unabuts_told}
 use Rattle.run_laws.proofs.RowTold.{misread_told, rowed_told, stopped_told, unabutted_told}
 use Rattle.run_laws.proofs.Unmade.{none_told, unmade_told}
-use Rattle.run_laws.proofs.Telling.{accepts_told, alone_told, answers, called_for_told, checked_told, completes_told, made_told, memory_told, planned_told, read_told, same_reads_told, status_told, usage_told, write_told}
-use Rattle.run_laws.proofs.TrailTold.{trail_accepts_told, trail_checked_told, trail_planned_told, trail_unfinished_told}
+use Rattle.run_laws.proofs.Telling.{alone_told, answers, called_for_told, completes_told, made_told, memory_told, read_told, same_reads_told, status_told, usage_told, write_told}
 use Rattle.cell_run.proofs.call.run.Goals as goal
 
 pub returns-clause-ends : goal.returns-clause-ends
@@ -68,7 +67,13 @@ pub returns-clause-made : goal.returns-clause-made
 returns-clause-made g c = made_told (g.D.Desk.view c.args.desk.now) (g.D.Desk.view c.deliver.new.desk) (asked c.args.words.now) c.deliver.result (returns-clause-ends g c)
 
 pub returns-clause-planned : goal.returns-clause-planned
-returns-clause-planned g c = planned_told (g.D.Desk.view c.args.desk.now) (g.D.Desk.view c.deliver.new.desk) (asked c.args.words.now) c.deliver.result (g.D.Desk.view c.args.desk.now).given (returns-clause-completes g c)
+returns-clause-planned g c = planned_told (g.D.Desk.view c.args.desk.now) (g.D.Desk.view c.deliver.new.desk) (asked c.args.words.now) c.deliver.result (g.D.Desk.view c.args.desk.now).given (returns-clause-called_for g c)
+
+pub returns-clause-unplanned : goal.returns-clause-unplanned
+returns-clause-unplanned g c = unplanned_told (g.D.Desk.view c.args.desk.now) (g.D.Desk.view c.deliver.new.desk) (asked c.args.words.now) c.deliver.result (g.D.Desk.view c.args.desk.now).given (returns-clause-called_for g c)
+
+pub returns-clause-plans : goal.returns-clause-plans
+returns-clause-plans g c = plans_told (g.D.Desk.view c.args.desk.now) (g.D.Desk.view c.deliver.new.desk) (asked c.args.words.now) c.deliver.result (g.D.Desk.view c.args.desk.now).given (returns-clause-completes g c)
 
 pub returns-clause-checked : goal.returns-clause-checked
 returns-clause-checked g c = checked_told (g.D.Desk.view c.args.desk.now) (g.D.Desk.view c.deliver.new.desk) (asked c.args.words.now) c.deliver.result (g.D.Desk.view c.args.desk.now).given (returns-clause-called_for g c)
@@ -83,28 +88,16 @@ pub returns-clause-unmade : goal.returns-clause-unmade
 returns-clause-unmade g c = unmade_told (g.D.Desk.view c.args.desk.now) (g.D.Desk.view c.deliver.new.desk) (asked c.args.words.now) c.deliver.result (returns-clause-ends g c)
 
 pub returns-clause-drawn : goal.returns-clause-drawn
-returns-clause-drawn g c = make_leaves Log status.Done (g.D.Desk.view c.args.desk.now) (g.D.Desk.view c.deliver.new.desk) (asked c.args.words.now) c.deliver.result (g.D.Desk.view c.args.desk.now).given refl (returns-clause-called_for g c)
+returns-clause-drawn g c = make_leaves status.Done (g.D.Desk.view c.args.desk.now) (g.D.Desk.view c.deliver.new.desk) (asked c.args.words.now) c.deliver.result (g.D.Desk.view c.args.desk.now).given refl (returns-clause-called_for g c)
 
 pub returns-clause-cyclic : goal.returns-clause-cyclic
-returns-clause-cyclic g c = make_leaves Log status.Cycle (g.D.Desk.view c.args.desk.now) (g.D.Desk.view c.deliver.new.desk) (asked c.args.words.now) c.deliver.result (g.D.Desk.view c.args.desk.now).given refl (returns-clause-called_for g c)
+returns-clause-cyclic g c = make_leaves status.Cycle (g.D.Desk.view c.args.desk.now) (g.D.Desk.view c.deliver.new.desk) (asked c.args.words.now) c.deliver.result (g.D.Desk.view c.args.desk.now).given refl (returns-clause-called_for g c)
 
 pub returns-clause-tall : goal.returns-clause-tall
-returns-clause-tall g c = make_leaves Log status.TooTall (g.D.Desk.view c.args.desk.now) (g.D.Desk.view c.deliver.new.desk) (asked c.args.words.now) c.deliver.result (g.D.Desk.view c.args.desk.now).given refl (returns-clause-called_for g c)
+returns-clause-tall g c = make_leaves status.TooTall (g.D.Desk.view c.args.desk.now) (g.D.Desk.view c.deliver.new.desk) (asked c.args.words.now) c.deliver.result (g.D.Desk.view c.args.desk.now).given refl (returns-clause-called_for g c)
 
 pub returns-clause-spent : goal.returns-clause-spent
-returns-clause-spent g c = make_leaves Log status.Unfinished (g.D.Desk.view c.args.desk.now) (g.D.Desk.view c.deliver.new.desk) (asked c.args.words.now) c.deliver.result (g.D.Desk.view c.args.desk.now).given refl (returns-clause-called_for g c)
-
-pub returns-clause-trail_drawn : goal.returns-clause-trail_drawn
-returns-clause-trail_drawn g c = make_leaves Trails status.Done (g.D.Desk.view c.args.desk.now) (g.D.Desk.view c.deliver.new.desk) (asked c.args.words.now) c.deliver.result (g.D.Desk.view c.args.desk.now).given refl (returns-clause-called_for g c)
-
-pub returns-clause-trail_cyclic : goal.returns-clause-trail_cyclic
-returns-clause-trail_cyclic g c = make_leaves Trails status.Cycle (g.D.Desk.view c.args.desk.now) (g.D.Desk.view c.deliver.new.desk) (asked c.args.words.now) c.deliver.result (g.D.Desk.view c.args.desk.now).given refl (returns-clause-called_for g c)
-
-pub returns-clause-trail_tall : goal.returns-clause-trail_tall
-returns-clause-trail_tall g c = make_leaves Trails status.TooTall (g.D.Desk.view c.args.desk.now) (g.D.Desk.view c.deliver.new.desk) (asked c.args.words.now) c.deliver.result (g.D.Desk.view c.args.desk.now).given refl (returns-clause-called_for g c)
-
-pub returns-clause-trail_spent : goal.returns-clause-trail_spent
-returns-clause-trail_spent g c = make_leaves Trails status.Unfinished (g.D.Desk.view c.args.desk.now) (g.D.Desk.view c.deliver.new.desk) (asked c.args.words.now) c.deliver.result (g.D.Desk.view c.args.desk.now).given refl (returns-clause-called_for g c)
+returns-clause-spent g c = make_leaves status.Unfinished (g.D.Desk.view c.args.desk.now) (g.D.Desk.view c.deliver.new.desk) (asked c.args.words.now) c.deliver.result (g.D.Desk.view c.args.desk.now).given refl (returns-clause-called_for g c)
 
 pub returns-clause-draws : goal.returns-clause-draws
 returns-clause-draws g c = draws_told (g.D.Desk.view c.args.desk.now) (g.D.Desk.view c.deliver.new.desk) (asked c.args.words.now) c.deliver.result (g.D.Desk.view c.args.desk.now).given (returns-clause-completes g c)
@@ -183,15 +176,3 @@ returns-clause-unabuts g c = unabuts_told (g.D.Desk.view c.args.desk.now) (g.D.D
 
 pub returns-clause-agrees_made : goal.returns-clause-agrees_made
 returns-clause-agrees_made g c = agrees_made_told (g.D.Desk.view c.args.desk.now) (g.D.Desk.view c.deliver.new.desk) (asked c.args.words.now) c.deliver.result (g.D.Desk.view c.args.desk.now).given (returns-clause-completes g c)
-
-pub returns-clause-trail_planned : goal.returns-clause-trail_planned
-returns-clause-trail_planned g c = trail_planned_told (g.D.Desk.view c.args.desk.now) (g.D.Desk.view c.deliver.new.desk) (asked c.args.words.now) c.deliver.result (g.D.Desk.view c.args.desk.now).given (returns-clause-called_for g c)
-
-pub returns-clause-trail_unfinished : goal.returns-clause-trail_unfinished
-returns-clause-trail_unfinished g c = trail_unfinished_told (g.D.Desk.view c.args.desk.now) (g.D.Desk.view c.deliver.new.desk) (asked c.args.words.now) c.deliver.result (g.D.Desk.view c.args.desk.now).given (returns-clause-called_for g c)
-
-pub returns-clause-trail_checked : goal.returns-clause-trail_checked
-returns-clause-trail_checked g c = trail_checked_told (g.D.Desk.view c.args.desk.now) (g.D.Desk.view c.deliver.new.desk) (asked c.args.words.now) c.deliver.result (g.D.Desk.view c.args.desk.now).given (returns-clause-called_for g c)
-
-pub returns-clause-trail_accepts : goal.returns-clause-trail_accepts
-returns-clause-trail_accepts g c = trail_accepts_told (g.D.Desk.view c.args.desk.now) (g.D.Desk.view c.deliver.new.desk) (asked c.args.words.now) c.deliver.result (g.D.Desk.view c.args.desk.now).given (returns-clause-completes g c)

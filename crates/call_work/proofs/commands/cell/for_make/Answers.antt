@@ -5,7 +5,7 @@ use Rattle.cell_inputs.specs.Inputs.{Inputs}
 use Rattle.call_work.specs.Commands.{gathered, making}
 use Rattle.call_read.specs.Reading.{Ends}
 use Rattle.call_read.proofs.Desks.{only_refl}
-use Rattle.call_work.proofs.Keeping.{keeps_behind, keeps_refusal, keeps_short, kept_out}
+use Rattle.call_work.proofs.Keeping.{keeps_behind, keeps_refusal, keeps_short, kept_cell}
 use Rattle.call_work.proofs.commands.cell.for_make.Goals as goal
 
 pub returns-in_err-stem-clause-comes : goal.returns-in_err-stem-clause-comes
@@ -29,4 +29,4 @@ returns-clause-comes g c =
     (only_refl (g.D.Desk.view c.read_inputs.new.desk))
     c.read_inputs.ensures.comes
     c.in_ok-inputs.was
-    (Ok (making c.args.evidence c.args.out.now c.args.style c.in_ok-inputs.inputs), inl refl, kept_out c.args.evidence c.in_ok-inputs.inputs c.args.out.now c.in_ok-stem.stem c.args.style _ c.in_ok-stem.ensures c.making.ensures)
+    (Ok (making c.args.evidence c.args.out.now c.args.style c.in_ok-inputs.inputs), inl refl, kept_cell c.args.evidence c.in_ok-inputs.inputs c.args.out.now c.in_ok-stem.stem c.args.style c.in_ok-stem.ensures)

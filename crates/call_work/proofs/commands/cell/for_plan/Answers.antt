@@ -24,4 +24,4 @@ returns-clause-comes g c =
     (only_refl (g.D.Desk.view c.read_inputs.new.desk))
     c.read_inputs.ensures.comes
     c.in_ok-inputs.was
-    (Ok (planning c.args.evidence c.in_ok-inputs.inputs), inl refl, c.planning.ensures)
+    (Ok (planning c.args.evidence c.in_ok-inputs.inputs), inl refl, refl)

@@ -2,8 +2,8 @@ use Rattle.std.proofs.Common.{Ok, Some, inl, refl}
 use Rattle.call_read.proofs.Desks.{only_refl}
 use Rattle.call_read.specs.Reading.{Ends}
 use Rattle.call_words.specs.Words.{Row}
-use Rattle.call_work.proofs.Keeping.{keeps_behind, keeps_refusal, keeps_short, same_stem}
-use Rattle.call_work.specs.Commands.{Rowing, gathered}
+use Rattle.call_work.proofs.Keeping.{keeps_behind, keeps_refusal, keeps_short, kept_row}
+use Rattle.call_work.specs.Commands.{gathered, rowing_of}
 use Rattle.row_make.specs.RowInputs.{RowInputs}
 use Rattle.row_run.specs.Row.{rowing}
 use Rattle.call_work.proofs.commands.rows.for_row.Goals as goal
@@ -15,7 +15,7 @@ returns-in_err-stem-clause-comes g c =
 pub returns-in_err-inputs-clause-comes : goal.returns-in_err-inputs-clause-comes
 returns-in_err-inputs-clause-comes g c =
     keeps_refusal (g.D.Desk.view c.args.desk.now) (g.D.Desk.view c.read_row.new.desk) (g.D.Desk.view c.read_row.new.desk)
-    (rowing c.args.asked.now) (λ (inputs : RowInputs). Ends (Ok (Rowing, (inputs, c.args.out.now)))) c.read_row.result c.in_err-inputs.field-0.0 c.from_residual-in_err-inputs.result
+    (rowing c.args.asked.now) (λ (inputs : RowInputs). Ends (Ok (rowing_of c.args.out.now inputs))) c.read_row.result c.in_err-inputs.field-0.0 c.from_residual-in_err-inputs.result
     (only_refl (g.D.Desk.view c.read_row.new.desk))
     c.read_row.ensures.comes
     c.in_err-inputs.was
@@ -24,9 +24,9 @@ returns-in_err-inputs-clause-comes g c =
 pub returns-clause-comes : goal.returns-clause-comes
 returns-clause-comes g c =
     keeps_behind (g.D.Desk.view c.args.desk.now) (g.D.Desk.view c.read_row.new.desk) (g.D.Desk.view c.read_row.new.desk)
-    (rowing c.args.asked.now) (λ (inputs : RowInputs). Ends (Ok (Rowing, (inputs, c.args.out.now)))) c.read_row.result c.in_ok-inputs.inputs (Ok _)
+    (rowing c.args.asked.now) (λ (inputs : RowInputs). Ends (Ok (rowing_of c.args.out.now inputs))) c.read_row.result c.in_ok-inputs.inputs (Ok _)
     c.read_row.ensures.only
     (only_refl (g.D.Desk.view c.read_row.new.desk))
     c.read_row.ensures.comes
     c.in_ok-inputs.was
-    (Ok (Rowing, (c.in_ok-inputs.inputs, c.args.out.now)), inl refl, same_stem c.in_ok-inputs.inputs c.args.out.now c.in_ok-stem.stem c.in_ok-stem.ensures)
+    (Ok (rowing_of c.args.out.now c.in_ok-inputs.inputs), inl refl, kept_row c.in_ok-inputs.inputs c.args.out.now c.in_ok-stem.stem c.in_ok-stem.ensures)

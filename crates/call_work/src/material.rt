@@ -1,0 +1,38 @@
+// What commands on cells of a SPICE file work on.
+use call_read::FileBytes;
+use call_words::Evidence;
+use cell_inputs::{Inputs, Style};
+use check_run::CheckedLog;
+use make_run::Stem;
+use row_make::RowInputs;
+
+/// What a plan works on: the inputs of a cell, and the evidence that its row is found with.
+#[derive(Drop)]
+pub struct PlanMaterial {
+    pub inputs: Inputs,
+    pub evidence: Evidence,
+}
+
+/// What a drawing works on: the inputs of a cell, what the names of its files begin with, the style, and the evidence
+/// that its row is found with.
+#[derive(Drop)]
+pub struct MakeMaterial {
+    pub inputs: Inputs,
+    pub stem: Stem,
+    pub style: Style,
+    pub evidence: Evidence,
+}
+
+/// A file of evidence that was read: a log behind all its bytes, or the bytes of a certificate by trails.
+#[derive(Drop)]
+pub enum EvidenceFile {
+    Log(CheckedLog),
+    Trails(FileBytes),
+}
+
+/// What a row works on: what its cells are made of, and what the name of its file begins with.
+#[derive(Drop)]
+pub struct RowMaterial {
+    pub inputs: RowInputs,
+    pub stem: Stem,
+}

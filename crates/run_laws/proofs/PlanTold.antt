@@ -1,0 +1,81 @@
+-- What the top call owes of `plan` and `check`, from the end that the files call for and how it was told.
+use Rattle.std.proofs.Common.{ℕ, ◌≡◌, ◌⊎◌, ◌↔◌, List, Option, IfSome, inl, inr, refl, sym, ap, ◌∙◌, subst}
+use Rattle.cell_io.specs.Desk.{Files, View, Both}
+use Rattle.call_end.specs.Deliver.{Says, TellsWhole}
+use Rattle.call_end.specs.declared.end.End.{End}
+use Rattle.call_end.specs.declared.status.Status.{Status}
+use Rattle.call_end.specs.declared.status.Status.TheVariants as status
+use Rattle.call_words.specs.Words.{Form}
+use Rattle.call_words.specs.declared.evidence.Evidence.{Evidence}
+use Rattle.call_words.specs.declared.evidence.Evidence.TheVariants.{Log, Trails}
+use Rattle.call_work.proofs.Statuses.{differ}
+use Rattle.call_work.specs.Commands.{Checking, Planning}
+use Rattle.call_work.specs.Ends.{IsOfOutside}
+use Rattle.call_work.specs.Evidence.{ChecksBy, PlansBy}
+use Rattle.cell_inputs.specs.Inputs.{Inputs}
+use Rattle.check_run.proofs.Checked as log
+use Rattle.make_run.proofs.Planned.{enough_done}
+use Rattle.make_run.specs.Plan as log_plan
+use Rattle.run_laws.proofs.Worked.{Completes, IsAnswered, done_exactly, ends_told, settles}
+use Rattle.run_laws.specs.Calm.{IsCalm, IsDoneOrShort}
+use Rattle.run_laws.specs.Check.{HoldsAccepted, IsCheck}
+use Rattle.run_laws.specs.Evidence.{HasEnough, IsTextOfAccepted}
+use Rattle.run_laws.specs.Plan.{CanBePlanned, IsPlannedRow, IsUnplanned, WherePlanEnds}
+use Rattle.trail_run.proofs.Checked as trails
+use Rattle.trail_run.specs.Plan as trail_plan
+
+-- ---- plan
+
+said_so : (end other : End) (old new : View) → end ≡ other → Both (Says end.report) old.said new.said → Both (Says other.report) old.said new.said
+said_so end other old new is said = subst (λ (e : End). Both (Says e.report) old.said new.said) is said
+
+ended_so : (settled answer : Status) (end other : End) → answer ≡ settled → answer ≡ end.status → end ≡ other → settled ≡ other.status
+ended_so settled answer end other is same ends = sym is ∙ same ∙ ap (λ (e : End). e.status) ends
+
+planned_so : (evidence : Evidence) (inputs : Inputs) (end : End) (answer : Status) (old new : View) → PlansBy evidence inputs end → answer ≡ status.Done → TellsWhole end answer old new → IsPlannedRow evidence inputs old new
+planned_so Log inputs end answer old new (log_plan.Planned row log, (first, certified), is) done whole =
+    record { row = row; certificate = log; first_least = first; certified = certified; says = said_so end _ old new is whole.2 }
+planned_so Log inputs end answer old new (log_plan.Unfinished proved log, h, is) done whole = absurd (differ status.Done status.Unfinished refl (ended_so status.Done answer end _ done whole.0 is))
+planned_so Trails inputs end answer old new (trail_plan.Planned row trails, (nodes, found), is) done whole =
+    record { row = row; certificate = trails; first_least = found.first; certified = found.certified; says = said_so end _ old new is whole.2 }
+planned_so Trails inputs end answer old new (trail_plan.Unfinished proved trails, h, is) done whole = absurd (differ status.Done status.Unfinished refl (ended_so status.Done answer end _ done whole.0 is))
+planned_so Trails inputs end answer old new (trail_plan.Crowded gate, h, is) done whole = absurd (differ status.Done status.Unfinished refl (ended_so status.Done answer end _ done whole.0 is))
+
+unplanned_so : (evidence : Evidence) (inputs : Inputs) (end : End) (answer : Status) (old new : View) → PlansBy evidence inputs end → answer ≡ status.Unfinished → TellsWhole end answer old new → IsUnplanned evidence inputs old new
+unplanned_so Log inputs end answer old new (log_plan.Unfinished proved log, h, is) spent whole =
+    inl (record { proved = proved; certificate = log; spent = h; says = said_so end _ old new is whole.2 })
+unplanned_so Log inputs end answer old new (log_plan.Planned row log, h, is) spent whole = absurd (differ status.Unfinished status.Done refl (ended_so status.Unfinished answer end _ spent whole.0 is))
+unplanned_so Trails inputs end answer old new (trail_plan.Unfinished proved trails, h, is) spent whole =
+    inl (record { proved = proved; certificate = trails; spent = h; says = said_so end _ old new is whole.2 })
+unplanned_so Trails inputs end answer old new (trail_plan.Crowded gate, h, is) spent whole =
+    inr (record { gate = gate; crowded = h; says = said_so end _ old new is whole.2 })
+unplanned_so Trails inputs end answer old new (trail_plan.Planned row trails, h, is) spent whole = absurd (differ status.Unfinished status.Done refl (ended_so status.Unfinished answer end _ spent whole.0 is))
+
+pub planned_told : (a c : View) (form : Option Form) (answer : Status) (given : Option Files) → IfSome given (IsAnswered form a c answer) → IfSome given (λ files. WherePlanEnds files form answer status.Done (λ evidence inputs. IsPlannedRow evidence inputs a c))
+planned_told a c form answer given told = ends_told Planning (λ m. IsPlannedRow m.evidence m.inputs a c) form status.Done answer a c given refl (λ m end works is whole. planned_so m.evidence m.inputs end answer a c works is whole) told
+
+pub unplanned_told : (a c : View) (form : Option Form) (answer : Status) (given : Option Files) → IfSome given (IsAnswered form a c answer) → IfSome given (λ files. WherePlanEnds files form answer status.Unfinished (λ evidence inputs. IsUnplanned evidence inputs a c))
+unplanned_told a c form answer given told = ends_told Planning (λ m. IsUnplanned m.evidence m.inputs a c) form status.Unfinished answer a c given refl (λ m end works is whole. unplanned_so m.evidence m.inputs end answer a c works is whole) told
+
+enough_plans : (evidence : Evidence) (inputs : Inputs) (end : End) → HasEnough evidence inputs → PlansBy evidence inputs end → end.status ≡ status.Done
+enough_plans Log inputs end much works = enough_done inputs end much works
+enough_plans Trails inputs end none works = absurd none
+
+pub plans_told : (a c : View) (form : Option Form) (answer : Status) (given : Option Files) → IfSome given (λ files. IsCalm a c → Completes form files answer) → IfSome given (λ files. IsCalm a c → CanBePlanned files form → IsDoneOrShort answer)
+plans_told a c form answer given told = settles Planning (λ m. HasEnough m.evidence m.inputs) form status.Done answer a c given (λ m end much works. enough_plans m.evidence m.inputs end much works) told
+
+-- ---- check
+
+done_holds : (evidence : Evidence) (inputs : Inputs) (bytes : List ℕ) (end : End) → ChecksBy evidence inputs bytes end → end.status ≡ status.Done → IsTextOfAccepted evidence inputs bytes
+done_holds Log inputs bytes end works done = log.done_holds inputs bytes end works done
+done_holds Trails inputs bytes end works done = trails.done_holds inputs bytes end works done
+
+holds_done : (evidence : Evidence) (inputs : Inputs) (bytes : List ℕ) (end : End) → IsTextOfAccepted evidence inputs bytes → ChecksBy evidence inputs bytes end → end.status ≡ status.Done
+holds_done Log inputs bytes end (gaps, lemmas, text) works = log.holds_done inputs bytes end gaps lemmas text works
+holds_done Trails inputs bytes end holds works = trails.holds_done inputs bytes end holds works
+
+pub checked_told : (a c : View) (form : Option Form) (answer : Status) (given : Option Files) → IfSome given (IsAnswered form a c answer) → IfSome given (λ files. IsCheck form → IsOfOutside answer ⊎ (answer ≡ status.Done ↔ HoldsAccepted files form))
+checked_told a c form answer given told = done_exactly Checking (λ m. IsTextOfAccepted m.evidence m.inputs m.bytes) form answer a c given (λ m end works done. done_holds m.evidence m.inputs m.bytes end works done) (λ m end holds works. holds_done m.evidence m.inputs m.bytes end holds works) told
+
+pub accepts_told : (a c : View) (form : Option Form) (answer : Status) (given : Option Files) → IfSome given (λ files. IsCalm a c → Completes form files answer) → IfSome given (λ files. IsCalm a c → HoldsAccepted files form → IsDoneOrShort answer)
+accepts_told a c form answer given told = settles Checking (λ m. IsTextOfAccepted m.evidence m.inputs m.bytes) form status.Done answer a c given (λ m end holds works. holds_done m.evidence m.inputs m.bytes end holds works) told
