@@ -13,8 +13,8 @@ use Rattle.box_geom.specs.declared.shape.Shape.{Shape}
 use Rattle.spice_words.specs.declared.direction.Direction.{Direction}
 use Rattle.spice_words.specs.declared.direction.Direction.TheVariants.{Input, Output, Inout}
 use Rattle.lef_write.specs.Lef.{head_text, direction_text, use_text, coordinate, corner_text, rect_text, rects_text}
-use Rattle.lef_words.specs.Keywords.{keyword_of}
-use Rattle.lef_words.specs.Numbers.{nanometres_of, length_of}
+use Rattle.lef_read.specs.Keywords.{keyword_of}
+use Rattle.lef_read.specs.Numbers.{nanometres_of, length_of}
 use Rattle.lef_read.specs.Reading.{Item, Begins, Pin, Port, Obstruction, Block, OfPin, OfMacro, Place, At, InLibrary, InMacro, InPin, InBlock, item_of, read, with_items}
 use Rattle.lef_read.specs.Tokens.{Token, Word, Semicolon, tokens_from, scan}
 use Rattle.lef_read.specs.declared.block_kind.Current.{Current}

@@ -8,7 +8,7 @@ use Rattle.std.proofs.lemmas.Fmt.{decimal_is_IsNumeral}
 use Rattle.std.proofs.lemmas.Str.Parse.{tells_digits}
 use Rattle.std.proofs.lemmas.List.{append_assoc}
 use Rattle.lef_write.specs.Lef.{three_digits, microns, coordinate}
-use Rattle.lef_words.specs.Numbers.{thousandths, value_of, length_of, before_point, behind_point, nanometres_of}
+use Rattle.lef_read.specs.Numbers.{thousandths, value_of, length_of, before_point, behind_point, nanometres_of}
 use Rattle.lef_laws.specs.Drawn.{IsInWord, IsWord, IsMetric}
 use Rattle.lef_laws.proofs.Words.{in_append, digit_in, digits_in}
 

@@ -1,3 +1,4 @@
+pub mod Digits
 pub mod Skipping
 pub mod Lexing
 pub mod Gridding

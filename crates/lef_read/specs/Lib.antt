@@ -2,6 +2,9 @@
 pub mod Macros
 pub mod Reading
 pub mod Tokens
+pub mod Keywords
+pub mod Numbers
+pub mod Stages
 -- What inner contracts and proofs alone cite.
 pub mod Drafts
 pub mod Statements

@@ -8,12 +8,15 @@ mod cursor;
 mod draft;
 pub mod fault;
 mod grid;
+mod keyword;
 pub mod laws;
 mod library;
+mod number;
 mod pin;
 mod read;
 mod scan;
 mod sides;
+mod stage;
 mod statements;
 mod token;
 

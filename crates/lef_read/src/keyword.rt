@@ -1,5 +1,5 @@
 ghost use Rattle.std.specs.Prelude.{◌≡◌, codes};
-ghost use Rattle.lef_words.specs.Keywords.{is, is_header, block_word, keyword_of};
+ghost use Rattle.lef_read.specs.Keywords.{is, is_header, block_word, keyword_of};
 
 /// The keywords of LEF that the reading knows, which stand in either case.
 #[derive(Clone, Copy, Debug, PartialEq, Eq)]

@@ -1,5 +1,5 @@
 ghost use Rattle.std.specs.Prelude.{◌≡◌, bytes_eq};
-ghost use Rattle.lef_words.specs.Stages.{next_stage};
+ghost use Rattle.lef_read.specs.Stages.{next_stage};
 
 /// Where a text stands: before the first macro of the wanted name, in it, or behind it.
 #[derive(Clone, Copy, Debug, PartialEq, Eq)]

@@ -7,7 +7,7 @@ use Rattle.std.specs.Str.Parse.{digits_value_after}
 use Rattle.std.proofs.lemmas.Bool.{and_parts, cases_Bool, leb-true, le-leb}
 use Rattle.std.proofs.lemmas.List.{drop_more}
 use Rattle.std.proofs.lemmas.Str.{digit_value_digit}
-use Rattle.lef_words.specs.Numbers.{before_point, behind_point, length_of, is_number, zeros_behind, thousandths, value_of, at_most, whole_after}
+use Rattle.lef_read.specs.Numbers.{before_point, behind_point, length_of, is_number, zeros_behind, thousandths, value_of, at_most, whole_after}
 
 at_least : (n : ℕ) (ds : List ℕ) → n ≤ whole_after n ds
 at_least n [] = omega arith

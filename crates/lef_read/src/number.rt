@@ -1,7 +1,7 @@
 ghost use Rattle.std.specs.Prelude.{◌≡◌, ◌≤◌, ◌*◌, ◌<◌, IfSome, IfNone, ℤ, pos, neg_ℤ, ◌≤ℤ◌};
 ghost use Rattle.std.specs.List.{list_all};
 ghost use Rattle.std.specs.Char.{is_ascii_digit};
-ghost use Rattle.lef_words.specs.Numbers.{before_point, behind_point, digit_at, is_number, is_zero, length_of, nanometres_of, thousandths, zeros_behind, whole_after};
+ghost use Rattle.lef_read.specs.Numbers.{before_point, behind_point, digit_at, is_number, is_zero, length_of, nanometres_of, thousandths, zeros_behind, whole_after};
 
 /// The most microns of a number.
 const MOST_MICRONS: u32 = 1_000_000;

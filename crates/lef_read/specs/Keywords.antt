@@ -1,8 +1,8 @@
 -- The keywords of the statements that are read, in either case.
 use Rattle.std.specs.Prelude.{ℕ, ◌||◌, Bool, List, codes, if◌then◌else◌}
 use Rattle.std.specs.Str.{str_eq_ignore_ascii_case}
-use Rattle.lef_words.specs.declared.keyword.Keyword.{Keyword}
-use Rattle.lef_words.specs.declared.keyword.Keyword.TheVariants as keyword
+use Rattle.lef_read.specs.declared.keyword.Keyword.{Keyword}
+use Rattle.lef_read.specs.declared.keyword.Keyword.TheVariants as keyword
 
 abbrev pub is : List ℕ → List ℕ → Bool
 is word text = str_eq_ignore_ascii_case word text
