@@ -4,7 +4,7 @@ use Rattle.std.specs.Str.Parse.{AllDigits}
 use Rattle.std.proofs.lemmas.Bool.{ne_eqb}
 use Rattle.std.proofs.lemmas.Str.Parse.{tells_digits}
 use Rattle.lef_read.specs.Tokens.{Token, Word, AWord, Coming, is_white, ends_word, line_behind, scan, tokens_from}
-use Rattle.lef_laws.specs.Drawn.{IsInWord, IsWord}
+use Rattle.abstract_laws.specs.Drawn.{IsInWord, IsWord}
 
 abbrev word_then : List ℕ → List Token → Coming
 word_then w ts = record { word = w; whole = true; tokens = ts }

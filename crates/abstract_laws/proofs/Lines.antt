@@ -21,11 +21,11 @@ use Rattle.lef_read.specs.declared.block_kind.Current.{Current}
 use Rattle.lef_read.specs.declared.block_kind.Current.TheVariants.{NoLayer, Wires}
 use Rattle.lef_read.specs.declared.cell.LefPin.{LefPin}
 use Rattle.lef_read.specs.declared.cell.LefRect.{LefRect}
-use Rattle.lef_laws.specs.Drawn.{on_layer, IsWord, IsSpelled}
-use Rattle.lef_laws.proofs.Items.{Tells, bytes_same, tells_obstruction, tells_port}
-use Rattle.lef_laws.proofs.Microns.{IsRead, coordinate_read}
-use Rattle.lef_laws.proofs.Sides.{nm_sides, rect_back, sides_ascend}
-use Rattle.lef_laws.proofs.Words.{word_front}
+use Rattle.abstract_laws.specs.Drawn.{on_layer, IsWord, IsSpelled}
+use Rattle.abstract_laws.proofs.Items.{Tells, bytes_same, tells_obstruction, tells_port}
+use Rattle.abstract_laws.proofs.Microns.{IsRead, coordinate_read}
+use Rattle.abstract_laws.proofs.Sides.{nm_sides, rect_back, sides_ascend}
+use Rattle.abstract_laws.proofs.Tokens.{word_front}
 
 -- ---- texts that are put together
 pub join4 : {X : Type 0} (a b c d : List X) → a ++ b ++ c ++ d ≡ a ++ (b ++ (c ++ d))

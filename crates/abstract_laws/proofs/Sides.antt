@@ -7,8 +7,8 @@ use Rattle.box_geom.specs.declared.layer.Layer.{Layer}
 use Rattle.box_geom.specs.declared.shape.Shape.{Shape}
 use Rattle.lef_read.specs.Macros.{units_in, rect_in}
 use Rattle.lef_read.specs.Reading.{ascending}
-use Rattle.lef_laws.specs.Drawn.{on_layer, IsSpelled}
-use Rattle.lef_laws.proofs.Microns.{nm_of}
+use Rattle.abstract_laws.specs.Drawn.{on_layer, IsSpelled}
+use Rattle.abstract_laws.proofs.Microns.{nm_of}
 
 multiple : (n unit : ℕ) → 1 ≤ unit → ((n * unit) % unit ≡ 0) × ((n * unit) / unit ≡ n)
 multiple n unit u =

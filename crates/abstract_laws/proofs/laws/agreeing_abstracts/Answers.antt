@@ -1,5 +1,5 @@
-use Rattle.agree_laws.proofs.Whole.{plain_abstract, tapped_abstract}
-use Rattle.agree_laws.proofs.laws.agreeing_abstracts.Goals as goal
+use Rattle.abstract_laws.proofs.Whole.{plain_abstract, tapped_abstract}
+use Rattle.abstract_laws.proofs.laws.agreeing_abstracts.Goals as goal
 
 pub returns-clause-plain : goal.returns-clause-plain
 returns-clause-plain c = plain_abstract

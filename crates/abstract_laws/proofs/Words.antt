@@ -4,7 +4,7 @@ use Rattle.std.specs.List.{list_all}
 use Rattle.std.proofs.lemmas.Bool.{and_parts, leb-true, ne_eqb}
 use Rattle.cell_num.specs.Names.{is_cell, is_cell_byte, is_name, is_name_byte}
 use Rattle.lef_read.specs.Tokens.{ends_word}
-use Rattle.lef_laws.specs.Drawn.{IsInWord, IsWord}
+use Rattle.abstract_laws.specs.Drawn.{IsInWord, IsWord}
 
 -- a test that a byte passes and another does not tells them apart
 apart : (p : ℕ → Bool) (b k : ℕ) → p b ≡ true → p k ≡ false → (b == k) ≡ false

@@ -10,10 +10,10 @@ use Rattle.lef_write.specs.Drawn.{AreAllMetal}
 use Rattle.lef_write.specs.Lef.{head_text, library_text, macro_text, obstructions_text, pins_text}
 use Rattle.lef_write.specs.Ports.{obstructions_on}
 use Rattle.lef_write.specs.declared.port.Port.{Port}
-use Rattle.lef_laws.specs.Drawn.{IsReadable}
-use Rattle.lef_laws.proofs.Counted.{few_shown}
-use Rattle.lef_laws.proofs.Lengths.{all_pins_few, head_few, line_few, macro_few, obstructions_few}
-use Rattle.lef_laws.proofs.Whole.{rest_spelled, shapes_spelled}
+use Rattle.abstract_laws.specs.Drawn.{IsReadable}
+use Rattle.abstract_laws.proofs.Counted.{few_shown}
+use Rattle.abstract_laws.proofs.Lengths.{all_pins_few, head_few, line_few, macro_few, obstructions_few}
+use Rattle.abstract_laws.proofs.ReadBack.{rest_spelled, shapes_spelled}
 
 six_parts : (a b c d e f : List ℕ) → length (a ++ b ++ c ++ d ++ e ++ f) ≡ length a + length b + length c + length d + length e + length f
 six_parts a b c d e f = omega (arith, length-append (a ++ b ++ c ++ d ++ e) f, length-append (a ++ b ++ c ++ d) e, length-append (a ++ b ++ c) d, length-append (a ++ b) c, length-append a b)

@@ -18,8 +18,8 @@ use Rattle.cell_draw.specs.Layouts.{net_no}
 use Rattle.lef_write.specs.Lef.{block_text, coordinate, corner_text, direction_of, direction_text, head_text, layer_text, macro_text, metal1_text, metal2_text, microns, minus_of, name_of, obstructions_text, pin_text, pins_text, port_text, rect_text, rects_text, size_text, three_digits, use_text}
 use Rattle.lef_write.specs.Ports.{port_shapes}
 use Rattle.lef_write.specs.declared.port.Port.{Port}
-use Rattle.lef_laws.specs.Drawn.{IsMetric, IsSpelled}
-use Rattle.lef_laws.proofs.Counted.{at_pins}
+use Rattle.abstract_laws.specs.Drawn.{IsMetric, IsSpelled}
+use Rattle.abstract_laws.proofs.Counted.{at_pins}
 
 -- two texts, one behind the other
 both : (a b : List ℕ) (m n : ℕ) → length a ≤ m → length b ≤ n → length (a ++ b) ≤ m + n

@@ -19,7 +19,7 @@ use Rattle.net_extract.proofs.Wiring.{end_conducts, net_self}
 use Rattle.cell_draw.specs.Layouts.{net_no}
 use Rattle.cell_draw.specs.Named.{AreNamed}
 use Rattle.cell_draw.specs.declared.drawing.Drawing.{Drawing}
-use Rattle.agree_laws.proofs.Ranges.{number_below}
+use Rattle.abstract_laws.proofs.Ranges.{number_below}
 use Rattle.well_tap.proofs.TapLabels.{belongs_conducts}
 use Rattle.lef_write.specs.Drawn.{AreOfNet, IsOfNet}
 use Rattle.lef_write.specs.Lef.{name_of}
@@ -30,9 +30,9 @@ use Rattle.channel_route.specs.declared.routing.Trunk.{Trunk}
 use Rattle.lef_read.specs.declared.cell.LefPin.{LefPin}
 use Rattle.lef_read.specs.declared.cell.LefRect.{LefRect}
 use Rattle.lef_agree.specs.Agreement.{HasLabel, IsLabel, IsOnItsNet, IsOnNet, Port, port_of, ports_of, ports_of_pin}
-use Rattle.lef_laws.specs.Drawn.{macro_drawn, on_layer, pin_drawn}
-use Rattle.agree_laws.specs.Abstracts.{IsOfPin}
-use Rattle.agree_laws.proofs.Readable.{name_there, same_name}
+use Rattle.abstract_laws.specs.Drawn.{macro_drawn, on_layer, pin_drawn}
+use Rattle.abstract_laws.specs.Abstracts.{IsOfPin}
+use Rattle.abstract_laws.proofs.Readable.{name_there, same_name}
 
 -- a name of the drawing is one of its labels
 label_of : (names : List (List ℕ)) (shapes : Shapes) (name : List ℕ) → AreNamed Plain names shapes → Contains names name → IsLabel shapes name

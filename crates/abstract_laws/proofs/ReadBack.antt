@@ -26,10 +26,10 @@ use Rattle.lef_read.specs.declared.block_kind.Current.{Current}
 use Rattle.lef_read.specs.declared.block_kind.Current.TheVariants.{NoLayer, Wires}
 use Rattle.lef_read.specs.declared.cell.LefPin.{LefPin}
 use Rattle.lef_read.specs.declared.cell.LefRect.{LefRect}
-use Rattle.lef_laws.specs.Drawn.{on_layer, pin_drawn, macro_drawn, IsWord, IsMetric, IsSpelled, IsReadable}
-use Rattle.lef_laws.proofs.Items.{macro_told, tells_none, tells_pin}
-use Rattle.lef_laws.proofs.Lines.{join4, join5, join6, IsTold, ReadsTo, same_text, moved, one_item, head_line, class_line, symmetry_line, direction_line, use_line, port_line, port_end, obs_line, metal1_line, metal2_line, obs_end, macro_line, end_lines, pin_line, pin_end, size_line, ports_read, obstructions_read}
-use Rattle.lef_laws.proofs.Microns.{length_read}
+use Rattle.abstract_laws.specs.Drawn.{on_layer, pin_drawn, macro_drawn, IsWord, IsMetric, IsSpelled, IsReadable}
+use Rattle.abstract_laws.proofs.Items.{macro_told, tells_none, tells_pin}
+use Rattle.abstract_laws.proofs.Lines.{join4, join5, join6, IsTold, ReadsTo, same_text, moved, one_item, head_line, class_line, symmetry_line, direction_line, use_line, port_line, port_end, obs_line, metal1_line, metal2_line, obs_end, macro_line, end_lines, pin_line, pin_end, size_line, ports_read, obstructions_read}
+use Rattle.abstract_laws.proofs.Microns.{length_read}
 
 -- ---- a port and a pin
 

@@ -16,7 +16,7 @@ use Rattle.box_geom.proofs.Filters.{IsKept, contains_filter, in_filter}
 use Rattle.spice_net.specs.declared.subckt.Subckt.{Subckt}
 use Rattle.cell_draw.specs.Layouts.{net_no}
 use Rattle.cell_draw.specs.declared.drawing.Drawing.{Drawing}
-use Rattle.agree_laws.proofs.Ranges.{in_range}
+use Rattle.abstract_laws.proofs.Ranges.{in_range}
 use Rattle.lef_write.specs.Drawn.{AreAllMetal, all_port_shapes, shapes_on}
 use Rattle.lef_write.specs.Ports.{IsPort, is_taken, obstruction_on, obstructions, obstructions_on, port_shapes, shape_of}
 use Rattle.lef_write.specs.declared.port.Port.{Port}
@@ -24,8 +24,8 @@ use Rattle.lef_write.proofs.Placed.{one_layer}
 use Rattle.lef_read.specs.declared.cell.LefPin.{LefPin}
 use Rattle.lef_read.specs.declared.cell.LefRect.{LefRect}
 use Rattle.lef_agree.specs.Agreement.{IsShown, metals, on_layer as shown_of, shown_on}
-use Rattle.lef_laws.specs.Drawn.{macro_drawn, on_layer, pin_drawn}
-use Rattle.agree_laws.specs.Abstracts.{IsOfPin}
+use Rattle.abstract_laws.specs.Drawn.{macro_drawn, on_layer, pin_drawn}
+use Rattle.abstract_laws.specs.Abstracts.{IsOfPin}
 
 -- a rectangle of the layer, among those of an abstract
 shown : (layer : Layer) (rects : List LefRect) (s : Shape) (on : Layer) → Contains rects (on_layer on s) → on ≡ layer → Contains (shown_of layer rects) s.rect

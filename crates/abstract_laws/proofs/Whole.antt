@@ -12,12 +12,12 @@ use Rattle.well_tap.proofs.Clauses.{as_large, same_circuit, twelve_more}
 use Rattle.lef_write.specs.Lef.{library_text}
 use Rattle.lef_write.specs.declared.port.Port.{Port}
 use Rattle.lef_agree.specs.Agreement.{Agrees}
-use Rattle.lef_laws.specs.Drawn.{IsReadable, macro_drawn}
-use Rattle.lef_laws.proofs.Whole.{reads_back}
-use Rattle.agree_laws.specs.Abstracts.{HasPorts, IsAbstractOf}
-use Rattle.agree_laws.proofs.Metal.{metal_shown}
-use Rattle.agree_laws.proofs.Pins.{pins_labelled, ports_on_nets}
-use Rattle.agree_laws.proofs.Tapped.{agrees_kept}
+use Rattle.abstract_laws.specs.Drawn.{IsReadable, macro_drawn}
+use Rattle.abstract_laws.proofs.ReadBack.{reads_back}
+use Rattle.abstract_laws.specs.Abstracts.{HasPorts, IsAbstractOf}
+use Rattle.abstract_laws.proofs.Metal.{metal_shown}
+use Rattle.abstract_laws.proofs.Pins.{pins_labelled, ports_on_nets}
+use Rattle.abstract_laws.proofs.Tapped.{agrees_kept}
 
 agrees : (cell : Subckt) (ports : List Port) (d : Drawing) → HasPorts cell ports d → Agrees d.shapes (macro_drawn cell ports d)
 agrees cell ports d h = record {

@@ -9,8 +9,8 @@ use Rattle.std.proofs.lemmas.Str.Parse.{tells_digits}
 use Rattle.std.proofs.lemmas.List.{append_assoc}
 use Rattle.lef_write.specs.Lef.{three_digits, microns, coordinate}
 use Rattle.lef_read.specs.Numbers.{thousandths, value_of, length_of, before_point, behind_point, nanometres_of}
-use Rattle.lef_laws.specs.Drawn.{IsInWord, IsWord, IsMetric}
-use Rattle.lef_laws.proofs.Words.{in_append, digit_in, digits_in}
+use Rattle.abstract_laws.specs.Drawn.{IsInWord, IsWord, IsMetric}
+use Rattle.abstract_laws.proofs.Tokens.{in_append, digit_in, digits_in}
 
 digit_test : (c : ℕ) → 48 ≤ c → c ≤ 57 → is_ascii_digit c ≡ true
 digit_test c low high = rw (le-leb 48 c low, le-leb c 57 high) refl

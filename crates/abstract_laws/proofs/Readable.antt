@@ -19,9 +19,9 @@ use Rattle.cell_draw.specs.Shapes.{cell_height, frame_shapes, well, p_select, n_
 use Rattle.cell_draw.specs.declared.drawing.Drawing.{Drawing}
 use Rattle.cell_draw.specs.declared.layout.Frame.{Frame}
 use Rattle.lef_write.specs.Lef.{name_of}
-use Rattle.lef_laws.specs.Drawn.{IsMetric, IsReadable, IsSpelled, IsWord}
-use Rattle.agree_laws.specs.Abstracts.{IsLowDrawing}
-use Rattle.agree_laws.proofs.Words.{cell_word, name_word}
+use Rattle.abstract_laws.specs.Drawn.{IsMetric, IsReadable, IsSpelled, IsWord}
+use Rattle.abstract_laws.specs.Abstracts.{IsLowDrawing}
+use Rattle.abstract_laws.proofs.Words.{cell_word, name_word}
 
 -- ---- names
 pub same_name : (names : List (List ℕ)) (n : ℕ) → n < length names → name_of names n ≡ get_or names n []
