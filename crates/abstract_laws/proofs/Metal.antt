@@ -23,7 +23,7 @@ use Rattle.lef_write.specs.declared.port.Port.{Port}
 use Rattle.lef_write.proofs.Placed.{one_layer}
 use Rattle.lef_read.specs.declared.cell.LefPin.{LefPin}
 use Rattle.lef_read.specs.declared.cell.LefRect.{LefRect}
-use Rattle.lef_agree.specs.Agreement.{IsShown, metals, on_layer as shown_of, shown_on}
+use Rattle.lef_read.specs.Agreement.{IsShown, metals, on_layer as shown_of, shown_on}
 use Rattle.abstract_laws.specs.Drawn.{macro_drawn, on_layer, pin_drawn}
 use Rattle.abstract_laws.specs.Abstracts.{IsOfPin}
 

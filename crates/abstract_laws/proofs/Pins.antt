@@ -29,7 +29,7 @@ use Rattle.lef_write.proofs.PortPlaces.{stands}
 use Rattle.channel_route.specs.declared.routing.Trunk.{Trunk}
 use Rattle.lef_read.specs.declared.cell.LefPin.{LefPin}
 use Rattle.lef_read.specs.declared.cell.LefRect.{LefRect}
-use Rattle.lef_agree.specs.Agreement.{HasLabel, IsLabel, IsOnItsNet, IsOnNet, Port, port_of, ports_of, ports_of_pin}
+use Rattle.lef_read.specs.Agreement.{HasLabel, IsLabel, IsOnItsNet, IsOnNet, Port, port_of, ports_of, ports_of_pin}
 use Rattle.abstract_laws.specs.Drawn.{macro_drawn, on_layer, pin_drawn}
 use Rattle.abstract_laws.specs.Abstracts.{IsOfPin}
 use Rattle.abstract_laws.proofs.Readable.{name_there, same_name}

@@ -12,7 +12,7 @@ use Rattle.net_extract.proofs.Wiring.{end_conducts}
 use Rattle.cell_draw.specs.declared.drawing.Drawing.{Drawing}
 use Rattle.lef_read.specs.declared.cell.LefPin.{LefPin}
 use Rattle.lef_read.specs.declared.cell.Macro.{Macro}
-use Rattle.lef_agree.specs.Agreement.{Agrees, HasLabel, IsLabel, IsOnItsNet, IsOnNet, IsShown, Port, metals, ports_of, shown_on}
+use Rattle.lef_read.specs.Agreement.{Agrees, HasLabel, IsLabel, IsOnItsNet, IsOnNet, IsShown, Port, metals, ports_of, shown_on}
 use Rattle.well_tap.specs.Kept.{IsSameCircuit, KeepsMetal}
 
 label_kept : (base d : Drawing) (name : List ℕ) → IsSameCircuit base d → IsLabel base.shapes name → IsLabel d.shapes name

@@ -11,7 +11,7 @@ use Rattle.well_tap.specs.Tapped.{tapped}
 use Rattle.well_tap.proofs.Clauses.{as_large, same_circuit, twelve_more}
 use Rattle.lef_write.specs.Lef.{library_text}
 use Rattle.lef_write.specs.declared.port.Port.{Port}
-use Rattle.lef_agree.specs.Agreement.{Agrees}
+use Rattle.lef_read.specs.Agreement.{Agrees}
 use Rattle.abstract_laws.specs.Drawn.{IsReadable, macro_drawn}
 use Rattle.abstract_laws.proofs.ReadBack.{reads_back}
 use Rattle.abstract_laws.specs.Abstracts.{HasPorts, IsAbstractOf}

@@ -13,8 +13,8 @@ use Rattle.cell_draw.specs.declared.cell.TheConstants.{MOST_SHAPES}
 use Rattle.cell_draw.specs.declared.drawing.Drawing.{Drawing}
 use Rattle.cell_draw.specs.declared.frame.TheConstants.{MOST_Y}
 use Rattle.cell_draw.specs.declared.layout.Frame.{Frame}
-use Rattle.lef_agree.specs.Agreement.{Agrees}
-use Rattle.lef_agree.specs.Differences.{HasNetlist}
+use Rattle.lef_read.specs.Agreement.{Agrees}
+use Rattle.lef_read.specs.Differences.{HasNetlist}
 use Rattle.abstract_laws.specs.Drawn.{IsReadable}
 use Rattle.lef_read.specs.Macros.{macro_in}
 use Rattle.lef_read.specs.declared.cell.Macro.{Macro}

@@ -5,6 +5,9 @@ pub mod Tokens
 pub mod Keywords
 pub mod Numbers
 pub mod Stages
+pub mod Agreement
+pub mod Differences
 -- What inner contracts and proofs alone cite.
 pub mod Drafts
 pub mod Statements
+pub mod Lookups
