@@ -2,10 +2,10 @@
 use Rattle.std.proofs.Common.{◌≡◌, ◌≢◌, Result, IfOk, refl, sym, ap, ◌∙◌, subst}
 use Rattle.std.proofs.lemmas.Result.{IfOk-weaker}
 use Rattle.cell_num.specs.declared.list.NoMemory.{NoMemory}
-use Rattle.lef_agree.specs.Differences.{DiffersBy}
-use Rattle.lef_agree.specs.declared.differ.Differ.{Differ}
-use Rattle.lef_agree.specs.declared.differ.Differ.TheVariants as differ
-use Rattle.lef_agree.proofs.OneAnswer.{agrees_alone, one_answer}
+use Rattle.lef_read.specs.Differences.{DiffersBy}
+use Rattle.lef_read.specs.declared.differ.Differ.{Differ}
+use Rattle.lef_read.specs.declared.differ.Differ.TheVariants as differ
+use Rattle.lef_read.proofs.OneAnswer.{agrees_alone, one_answer}
 use Rattle.lef_read.specs.declared.cell.Macro.{Macro}
 use Rattle.call_end.specs.declared.end.End.{End}
 use Rattle.call_end.specs.declared.status.Status.{Status}

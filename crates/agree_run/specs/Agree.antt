@@ -4,10 +4,10 @@ use Rattle.std.specs.List.{flat_map}
 use Rattle.box_geom.specs.declared.shape.Shapes.{Shapes}
 use Rattle.cell_num.specs.Lines.{count_line, text_line}
 use Rattle.tech_file.specs.Technology.{Technology}
-use Rattle.lef_agree.specs.Agreement.{Agrees}
-use Rattle.lef_agree.specs.Differences.{DiffersBy, HasNetlist}
-use Rattle.lef_agree.specs.declared.differ.Differ.{Differ}
-use Rattle.lef_agree.specs.declared.differ.Differ.TheVariants as differ
+use Rattle.lef_read.specs.Agreement.{Agrees}
+use Rattle.lef_read.specs.Differences.{DiffersBy, HasNetlist}
+use Rattle.lef_read.specs.declared.differ.Differ.{Differ}
+use Rattle.lef_read.specs.declared.differ.Differ.TheVariants as differ
 use Rattle.lef_read.specs.declared.cell.LefPin.{LefPin}
 use Rattle.lef_read.specs.declared.cell.LefRect.{LefRect}
 use Rattle.lef_read.specs.declared.cell.Macro.{Macro}

@@ -1,5 +1,5 @@
 ghost use Rattle.std.specs.Prelude.{◌≡◌, ◌≢◌, ◌++◌, IfOk, OnOk};
-ghost use Rattle.lef_agree.specs.declared.differ.Differ.TheVariants as differ;
+ghost use Rattle.lef_read.specs.declared.differ.Differ.TheVariants as differ;
 ghost use Rattle.agree_run.specs.declared.agreement.AgreeAnswer.TheVariants as answer;
 ghost use Rattle.agree_run.specs.Agree.{AgreesTo, IsAgreeAnswer, agree_end, agreed_text, all_ports, counts_text, differ_status};
 
@@ -7,8 +7,7 @@ use crate::compared::Compared;
 use call_end::{End, Status};
 use cell_num::{Bytes, NoMemory, put_count, put_text};
 use fault_text::put_differ;
-use lef_agree::Differ;
-use lef_read::{LefPin, LefRectList, Macro};
+use lef_read::{Differ, LefPin, LefRectList, Macro};
 use std::alloc::Global;
 
 /// What comparing a macro with a drawing came to.
@@ -32,7 +31,7 @@ fn differs(fault: Differ) -> Result<AgreeAnswer, NoMemory>
 fn answer_of(alloc: Global, compared: &Compared) -> Result<AgreeAnswer, NoMemory>
     ensures { IfOk result (IsAgreeAnswer compared.now) }
 {
-    match lef_agree::agree(alloc, &compared.shapes, &compared.cell) {
+    match lef_read::agree(alloc, &compared.shapes, &compared.cell) {
         Ok(()) => Ok(AgreeAnswer::Agreed),
         Err(fault) => differs(fault),
     }

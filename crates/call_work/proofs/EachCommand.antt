@@ -33,7 +33,7 @@ use Rattle.cell_inputs.specs.Inputs.{Inputs}
 use Rattle.cell_make.specs.Making as made
 use Rattle.cell_make.specs.Rows.{RowDrawn, RowCyclic, RowTall}
 use Rattle.check_run.specs.declared.verdict.CheckAnswer.TheVariants.{Accepted, Misread, Rejected}
-use Rattle.lef_agree.specs.declared.differ.Differ.TheVariants as differ
+use Rattle.lef_read.specs.declared.differ.Differ.TheVariants as differ
 use Rattle.layout_run.specs.Extract.{extracting}
 use Rattle.layout_run.specs.declared.extraction.ExtractAnswer.TheVariants as answer
 use Rattle.row_make.specs.Rowed as rows

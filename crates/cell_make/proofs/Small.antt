@@ -11,7 +11,7 @@ use Rattle.cell_draw.specs.declared.cell.TheConstants.{MOST_SHAPES}
 use Rattle.cell_draw.specs.declared.drawing.Drawing.{Drawing}
 use Rattle.spice_net.specs.Subckts.{AreNames}
 use Rattle.gds_read.specs.RoundTrip.{IsReadable}
-use Rattle.lef_laws.proofs.Short.{abstract_few}
+use Rattle.abstract_laws.proofs.Short.{abstract_few}
 use Rattle.lef_write.specs.Drawn.{AreAllMetal}
 use Rattle.library_size.proofs.Whole.{written_within}
 use Rattle.well_tap.specs.Tapped.{tapped}

@@ -5,8 +5,8 @@ use Rattle.box_geom.specs.declared.layer.Layer.{Layer}
 use Rattle.box_geom.specs.declared.layer.Layer.TheVariants.{Metal2}
 use Rattle.lef_read.specs.declared.fault.LefFault.{LefFault}
 use Rattle.lef_read.specs.declared.fault.LefFault.TheVariants as lef
-use Rattle.lef_agree.specs.declared.differ.Differ.{Differ}
-use Rattle.lef_agree.specs.declared.differ.Differ.TheVariants as differ
+use Rattle.lef_read.specs.declared.differ.Differ.{Differ}
+use Rattle.lef_read.specs.declared.differ.Differ.TheVariants as differ
 use Rattle.fault_text.specs.Faults.{Fault, Signed, Text, at_line, fault_line, fault_of}
 use Rattle.fault_text.specs.LayoutFaults.{extract_fault, with_text}
 

@@ -6,8 +6,7 @@ use crate::fault_line::{Field, put_fault};
 use crate::layout_faults::put_extract;
 use box_geom::Layer;
 use cell_num::{Bytes, NoMemory};
-use lef_agree::Differ;
-use lef_read::LefFault;
+use lef_read::{Differ, LefFault};
 
 // A fault of a line of the LEF file.
 fn put_lef_line(out: &mut Bytes, name: &[u8], line: u32) -> Result<(), NoMemory>

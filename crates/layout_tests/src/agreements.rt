@@ -6,8 +6,7 @@ use crate::nets::{Refusal, is_refusal};
 use crate::texts::joined;
 use box_geom::{LabelList, Layer, Shapes};
 use cell_num::NoMemory;
-use lef_agree::{Differ, agree};
-use lef_read::Macro;
+use lef_read::{Differ, Macro, agree};
 use std::alloc::Global;
 use std::test::Fail;
 

@@ -5,14 +5,14 @@ use Rattle.std.specs.List.{find}
 use Rattle.cell_num.specs.Steps.{◌>>=◌, or_fault}
 use Rattle.box_geom.specs.Rectangle.{Rectangle}
 use Rattle.lef_read.specs.Tokens.{Token, Word, Quoted, Semicolon, Torn, tokens_from}
-use Rattle.lef_words.specs.Numbers.{nanometres_of}
-use Rattle.lef_words.specs.Keywords.{is, keyword_of}
+use Rattle.lef_read.specs.Numbers.{nanometres_of}
+use Rattle.lef_read.specs.Keywords.{is, keyword_of}
 use Rattle.lef_read.specs.Reading.{Item, Box, Block, Between, InLibrary, InMacro, InPin, InBlock, Place, At, Passing, Closing, Units, UnitsEnd, LibraryEnd, MacroName, MacroEnd, Width, By, Height, OriginX, OriginY, PinName, PinEnd, LayerName, X1, Y1, X2, Y2, Ended, Told, goes, begins, rect_begins, rect_told, ascending, then_number, at_word, step_of, ended_at, with_items, then_read, read}
 use Rattle.lef_read.specs.Macros.{items_of, is_off_grid, boxes_in, on_grid, macro_of, macro_named, macro_in}
 use Rattle.lef_read.specs.declared.block_kind.Current.{Current}
 use Rattle.lef_read.specs.declared.block_kind.Current.TheVariants.{NoLayer, OtherLayer, Wires}
-use Rattle.lef_words.specs.declared.keyword.Keyword.{Keyword}
-use Rattle.lef_words.specs.declared.keyword.Keyword.TheVariants as keyword
+use Rattle.lef_read.specs.declared.keyword.Keyword.{Keyword}
+use Rattle.lef_read.specs.declared.keyword.Keyword.TheVariants as keyword
 use Rattle.lef_read.specs.declared.fault.LefFault.{LefFault}
 use Rattle.lef_read.specs.declared.fault.LefFault.TheVariants as fault
 use Rattle.lef_read.specs.declared.cell.Macro.{Macro}

@@ -6,12 +6,12 @@ use Rattle.std.specs.Option.{option_map}
 use Rattle.cell_num.specs.Steps.{◌>>=◌, or_fault}
 use Rattle.box_geom.specs.Rectangle.{Rectangle}
 use Rattle.box_geom.specs.declared.layer.Layer.{Layer}
-use Rattle.lef_words.specs.Stages.{next_stage}
+use Rattle.lef_read.specs.Stages.{next_stage}
 use Rattle.lef_read.specs.Reading.{Box, Item, Begins, Pin, Port, Obstruction, Block, OfPin, OfMacro, item_of}
 use Rattle.lef_read.specs.Macros.{rect_in, sides_in, up_to_next, items_of, ports_in, pins_in, obstructions_in, boxes_in, is_off_grid, on_grid}
 use Rattle.lef_read.specs.Drafts.{Draft, last_pin, closed, closed_at, completed, pins_with, with_last_pin, with_rect, pin_with}
-use Rattle.lef_words.specs.declared.stage.Stage.{Stage}
-use Rattle.lef_words.specs.declared.stage.Stage.TheVariants.{Before, Inside, Behind}
+use Rattle.lef_read.specs.declared.stage.Stage.{Stage}
+use Rattle.lef_read.specs.declared.stage.Stage.TheVariants.{Before, Inside, Behind}
 use Rattle.lef_read.specs.declared.fault.LefFault.TheVariants.{NoMacro, Grid}
 use Rattle.lef_read.specs.declared.cell.LefRect.{LefRect}
 use Rattle.lef_read.specs.declared.cell.LefPin.{LefPin}

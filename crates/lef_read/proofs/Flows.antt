@@ -6,14 +6,14 @@ use Rattle.cell_num.specs.Steps.{◌>>=◌}
 use Rattle.box_geom.specs.Rectangle.{Rectangle}
 use Rattle.box_geom.specs.declared.layer.Layer.{Layer}
 use Rattle.lef_read.specs.Tokens.{Token, Word, Quoted, Semicolon, Torn}
-use Rattle.lef_words.specs.Keywords.{keyword_of}
+use Rattle.lef_read.specs.Keywords.{keyword_of}
 use Rattle.lef_read.specs.Reading.{Item, Begins, Pin, Block, OfPin, OfMacro, Between, InLibrary, InMacro, InPin, InBlock, At, Passing, Closing, Ended, MacroName, PinName, goes, in_library, in_macro, in_pin, in_block, rect_begins, behind_block, item_of, with_items, then_read, read}
 use Rattle.lef_read.specs.Statements.{LinedWord, Taken, word_in, semicolon_in, named_in, keyword_in, passed, units_passed, size_in, origin_in, rect_of, layer_in}
 use Rattle.lef_read.specs.Drafts.{Draft, completed, outcome, Keeps}
 use Rattle.lef_read.specs.declared.block_kind.Current.{Current}
 use Rattle.lef_read.specs.declared.block_kind.Current.TheVariants.{NoLayer, OtherLayer, Wires}
-use Rattle.lef_words.specs.declared.keyword.Keyword.{Keyword}
-use Rattle.lef_words.specs.declared.keyword.Keyword.TheVariants as keyword
+use Rattle.lef_read.specs.declared.keyword.Keyword.{Keyword}
+use Rattle.lef_read.specs.declared.keyword.Keyword.TheVariants as keyword
 use Rattle.lef_read.specs.declared.fault.LefFault.{LefFault}
 use Rattle.lef_read.specs.declared.fault.LefFault.TheVariants as fault
 use Rattle.lef_read.specs.declared.cell.Macro.{Macro}

@@ -1,3 +1,4 @@
+pub mod Digits
 pub mod Skipping
 pub mod Lexing
 pub mod Gridding
@@ -7,3 +8,13 @@ pub mod Places
 pub mod Flows
 pub mod Whole
 pub mod Calm
+pub mod Firsts
+pub mod Nets
+pub mod Names
+pub mod Refusals
+pub mod Cells
+pub mod Claims
+pub mod Runs
+pub mod BareMetal
+pub mod Answers
+pub mod OneAnswer

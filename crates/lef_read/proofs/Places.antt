@@ -5,8 +5,8 @@ use Rattle.std.proofs.lemmas.Bool.{cases_Bool}
 use Rattle.cell_num.specs.Steps.{◌>>=◌, require, or_fault}
 use Rattle.box_geom.specs.Rectangle.{Rectangle}
 use Rattle.lef_read.specs.Tokens.{Token, Word, Quoted, Semicolon, Torn}
-use Rattle.lef_words.specs.Numbers.{nanometres_of}
-use Rattle.lef_words.specs.Keywords.{is, keyword_of}
+use Rattle.lef_read.specs.Numbers.{nanometres_of}
+use Rattle.lef_read.specs.Keywords.{is, keyword_of}
 use Rattle.lef_read.specs.Reading.{Item, Begins, Pin, Block, Between, InLibrary, InMacro, InPin, InBlock, Place, At, Passing, Closing, Units, UnitsEnd, LibraryEnd, MacroName, MacroEnd, Width, By, Height, OriginX, OriginY, PinName, PinEnd, LayerName, X1, Y1, X2, Y2, Ended, Told, goes, tells, in_macro, in_pin, in_block, rect_told, sides_told, origin_told, ascending, layer_named, then_number, step_of, ended_at, with_items, then_read, read}
 use Rattle.lef_read.specs.Statements.{Taken, word_in, number_in, semicolon_in, named_in, keyword_in, passed, units_passed, size_in, origin_in, ascending_sides, rect_of, layer_in}
 use Rattle.lef_read.specs.declared.block_kind.Current.{Current}

@@ -7,8 +7,8 @@ use Rattle.lef_read.specs.Reading.{Item, Block, OfPin, OfMacro}
 use Rattle.lef_read.specs.Macros.{rect_in, up_to_next, ports_in, pins_in, obstructions_in, boxes_in, is_off_grid, items_of, on_grid}
 use Rattle.lef_read.specs.declared.block_kind.Block.{Block as BlockIn}
 use Rattle.lef_read.specs.declared.block_kind.Block.TheVariants as block
-use Rattle.lef_words.specs.declared.stage.Stage.{Stage}
-use Rattle.lef_words.specs.declared.stage.Stage.TheVariants.{Before, Inside, Behind}
+use Rattle.lef_read.specs.declared.stage.Stage.{Stage}
+use Rattle.lef_read.specs.declared.stage.Stage.TheVariants.{Before, Inside, Behind}
 use Rattle.lef_read.specs.declared.fault.LefFault.{LefFault}
 use Rattle.lef_read.specs.declared.fault.LefFault.TheVariants.{NoMemory, NoMacro, Grid}
 use Rattle.lef_read.specs.declared.cell.LefRect.{LefRect}

@@ -4,12 +4,12 @@ use Rattle.box_geom.specs.Rectangle.{Rectangle}
 use Rattle.box_geom.specs.declared.layer.Layer.{Layer}
 use Rattle.box_geom.specs.declared.layer.Layer.TheVariants.{Metal1, Metal2}
 use Rattle.lef_read.specs.Tokens.{Token, Word, Quoted, Semicolon, Torn}
-use Rattle.lef_words.specs.Numbers.{nanometres_of}
-use Rattle.lef_words.specs.Keywords.{is, keyword_of}
+use Rattle.lef_read.specs.Numbers.{nanometres_of}
+use Rattle.lef_read.specs.Keywords.{is, keyword_of}
 use Rattle.lef_read.specs.declared.block_kind.Current.{Current}
 use Rattle.lef_read.specs.declared.block_kind.Current.TheVariants.{NoLayer, OtherLayer, Wires}
-use Rattle.lef_words.specs.declared.keyword.Keyword.{Keyword}
-use Rattle.lef_words.specs.declared.keyword.Keyword.TheVariants as keyword
+use Rattle.lef_read.specs.declared.keyword.Keyword.{Keyword}
+use Rattle.lef_read.specs.declared.keyword.Keyword.TheVariants as keyword
 use Rattle.lef_read.specs.declared.fault.LefFault.{LefFault}
 use Rattle.lef_read.specs.declared.fault.LefFault.TheVariants.{Statement, Number, Cut}
 

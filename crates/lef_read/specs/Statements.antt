@@ -3,8 +3,8 @@ use Rattle.std.specs.Prelude.{ℕ, suc, ◌≡◌, ◌==◌, ◌||◌, not, Bool
 use Rattle.cell_num.specs.Steps.{◌>>=◌, require, or_fault}
 use Rattle.box_geom.specs.Rectangle.{Rectangle}
 use Rattle.lef_read.specs.Tokens.{Token, Word, Quoted, Semicolon, Torn, Inside, Nothing, AComment, is_white, ends_word, line_behind}
-use Rattle.lef_words.specs.Numbers.{nanometres_of}
-use Rattle.lef_words.specs.Keywords.{is}
+use Rattle.lef_read.specs.Numbers.{nanometres_of}
+use Rattle.lef_read.specs.Keywords.{is}
 use Rattle.lef_read.specs.Reading.{ascending, layer_named}
 use Rattle.lef_read.specs.declared.block_kind.Current.{Current}
 use Rattle.lef_read.specs.declared.token.Token.{Token as TokenIn}

@@ -9,9 +9,9 @@ use crate::block_kind::{Block, Current};
 use crate::cursor::Cursor;
 use crate::draft::Draft;
 use crate::fault::LefFault;
+use crate::keyword::{Keyword, is, keyword_of};
 use crate::statements::{pass, sides};
 use box_geom::Layer;
-use lef_words::{Keyword, is, keyword_of};
 
 fn layer_named(word: &[u8]) -> Current
     ensures { result ≡ layer_named word.now }

@@ -3,9 +3,10 @@ ghost use Rattle.lef_read.specs.Tokens.{AText, quoted, scan, tokens_from};
 ghost use Rattle.lef_read.specs.Statements.{Steps, Takes, begins_token, keyword_in, named_in, number_in, semicolon_in, word_in};
 
 use crate::fault::LefFault;
+use crate::keyword::is;
+use crate::number::nanometres;
 use crate::scan::{line_at, skip, until_quote, word_length};
 use crate::token::{Token, Word};
-use lef_words::{is, nanometres};
 use std::marker::Model;
 
 /// A LEF text from some place on. Contracts see it as the tokens to come.

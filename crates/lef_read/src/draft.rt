@@ -2,7 +2,7 @@
 ghost use Rattle.std.specs.Prelude.{◌≡◌, ◌≢◌, ◌≤◌, [], ◌∷◌, List, Ok, Err, IfOk, IfErr, OnOk};
 ghost use Rattle.lef_read.specs.Reading.{Begins, Item, Pin, item_of};
 ghost use Rattle.lef_read.specs.Drafts.{begun, block_shown, completed, with_last_pin, with_rect};
-ghost use Rattle.lef_words.specs.declared.stage.Stage.TheVariants.{Inside};
+ghost use Rattle.lef_read.specs.declared.stage.Stage.TheVariants.{Inside};
 ghost use Rattle.lef_read.specs.declared.fault.LefFault.TheVariants as fault;
 
 use crate::block_kind::Block;
@@ -10,9 +10,9 @@ use crate::cell::{LefPin, LefPinList, LefRect, LefRectList, Macro};
 use crate::fault::LefFault;
 use crate::grid::on_grid;
 use crate::sides::Sides;
+use crate::stage::{Stage, next_stage};
 use box_geom::Layer;
 use cell_num::{List, Name, NoMemory, copy};
-use lef_words::{Stage, next_stage};
 use std::alloc::Global;
 use std::marker::Model;
 

@@ -8,9 +8,9 @@ use crate::block_kind::Block;
 use crate::cursor::Cursor;
 use crate::draft::Draft;
 use crate::fault::LefFault;
+use crate::keyword::{Keyword, keyword_of};
 use crate::pin::pin;
 use crate::statements::{origin, pass, size, units};
-use lef_words::{Keyword, keyword_of};
 use std::alloc::Global;
 
 // The statements of a macro up to and with its END.

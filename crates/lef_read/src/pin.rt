@@ -8,8 +8,8 @@ use crate::block_kind::Block;
 use crate::cursor::Cursor;
 use crate::draft::Draft;
 use crate::fault::LefFault;
+use crate::keyword::{Keyword, keyword_of};
 use crate::statements::pass;
-use lef_words::{Keyword, keyword_of};
 use std::alloc::Global;
 
 // The statements of a pin up to and with its END.

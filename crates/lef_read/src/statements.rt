@@ -4,9 +4,9 @@ ghost use Rattle.lef_read.specs.Statements.{Steps, origin_in, passed, rect_of, s
 
 use crate::cursor::Cursor;
 use crate::fault::LefFault;
+use crate::keyword::is;
 use crate::sides::Sides;
 use crate::token::Token;
-use lef_words::is;
 
 /// Passes over all up to and with `;`.
 #[tactic(auto, unfolding(crate::specs::Statements::passed))]

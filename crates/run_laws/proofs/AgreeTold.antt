@@ -1,8 +1,8 @@
 -- What the top call owes of `agree`, from the end that the files call for and how it was told.
 use Rattle.std.proofs.Common.{◌≡◌, ◌==◌, false, Option, IfSome, refl, sym}
 use Rattle.cell_io.specs.Desk.{Files, View}
-use Rattle.lef_agree.specs.declared.differ.Differ.{Differ}
-use Rattle.lef_agree.specs.declared.differ.Differ.TheVariants.{Extract, NoLabel, Port, Bare, NoMemory as NoRoom}
+use Rattle.lef_read.specs.declared.differ.Differ.{Differ}
+use Rattle.lef_read.specs.declared.differ.Differ.TheVariants.{Extract, NoLabel, Port, Bare, NoMemory as NoRoom}
 use Rattle.agree_run.proofs.Agreed.{agrees_where, disagrees_where, unextracted_where}
 use Rattle.agree_run.specs.Agree.{AgreesTo, DoesAgree, HasDifference, IsAgreeAnswer, IsDisagreement, IsUnextracted, agree_end, differ_status}
 use Rattle.agree_run.specs.declared.agreement.AgreeAnswer.{AgreeAnswer}

@@ -3,7 +3,7 @@ use Rattle.std.specs.Prelude.{◌⊎◌, Option, ℕ, ◌≡◌, List, Some, Ok}
 use Rattle.cell_io.specs.Desk.{Files, View, Both}
 use Rattle.channel_route.specs.declared.routing.Routing.{Routing}
 use Rattle.row_model.specs.declared.column.Column.{Column}
-use Rattle.lef_agree.specs.declared.differ.Differ.{Differ}
+use Rattle.lef_read.specs.declared.differ.Differ.{Differ}
 use Rattle.call_end.specs.Deliver.{Says}
 use Rattle.call_words.specs.Words.{Form, Agree}
 use Rattle.call_work.specs.Commands.{Agreeing}

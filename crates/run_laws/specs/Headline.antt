@@ -1,7 +1,7 @@
 -- What a call of `make` leaves behind: the drawing of a cell with its evidence, or the evidence of why there is
 -- none. Files and what was said are told where the desk tells them.
 use Rattle.std.specs.Prelude.{ℕ, ◌≡◌, ◌<◌, ◌⊎◌, IsTrue, List, [], ◌∷◌, ◌++◌, Option, Some}
-use Rattle.agree_laws.specs.Abstracts.{IsAbstractOf}
+use Rattle.abstract_laws.specs.Abstracts.{IsAbstractOf}
 use Rattle.cell_io.specs.Desk.{Files, View, Both}
 use Rattle.cell_num.specs.Names.{lowered}
 use Rattle.row_model.specs.declared.column.Column.{Column}

@@ -1,0 +1,16 @@
+pub mod Tokens
+pub mod Microns
+pub mod Sides
+pub mod Items
+pub mod Lines
+pub mod ReadBack
+pub mod Counted
+pub mod Lengths
+pub mod Short
+pub mod Metal
+pub mod Pins
+pub mod Ranges
+pub mod Readable
+pub mod Tapped
+pub mod Whole
+pub mod Words

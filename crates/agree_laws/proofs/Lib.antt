@@ -1,7 +1,0 @@
-pub mod Metal
-pub mod Pins
-pub mod Ranges
-pub mod Readable
-pub mod Tapped
-pub mod Whole
-pub mod Words

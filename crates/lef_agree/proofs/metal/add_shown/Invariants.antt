@@ -1,6 +1,0 @@
-use Rattle.std.proofs.Common.{◌≡◌, ◌++◌, take}
-use Rattle.lef_agree.specs.Agreement.{on_layer}
-use Rattle.lef_agree.proofs.metal.add_shown.Given as goal
-
-abbrev pub invariant-loop-rect : goal.invariant-loop-rect
-invariant-loop-rect l = l.blocks.items ≡ l.fn.blocks.items ++ on_layer l.layer (take l.rect-index l.rects)

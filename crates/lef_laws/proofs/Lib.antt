@@ -1,9 +1,0 @@
-pub mod Words
-pub mod Microns
-pub mod Sides
-pub mod Items
-pub mod Lines
-pub mod Whole
-pub mod Counted
-pub mod Lengths
-pub mod Short

@@ -1,0 +1,21 @@
+ghost use Rattle.std.specs.Prelude.{◌≡◌, bytes_eq};
+ghost use Rattle.lef_read.specs.Stages.{next_stage};
+
+/// Where a text stands: before the first macro of the wanted name, in it, or behind it.
+#[derive(Clone, Copy, Debug, PartialEq, Eq)]
+pub enum Stage {
+    Before,
+    Inside,
+    Behind,
+}
+
+/// Where a text stands behind the head of a macro of a name.
+pub fn next_stage(stage: Stage, name: &[u8], wanted: &[u8]) -> Stage
+    ensures { result ≡ next_stage stage (bytes_eq name.now wanted.now) }
+{
+    match (stage, name == wanted) {
+        (Stage::Before, true) => Stage::Inside,
+        (Stage::Before, false) => Stage::Before,
+        _ => Stage::Behind,
+    }
+}
