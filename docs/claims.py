@@ -1,5 +1,6 @@
 #!/usr/bin/env python3
-"""Checks docs/PROOFS.md against the code: each call, clause, definition and wrong body of its table is there.
+"""Checks docs/PROOFS.md against the code: each call, clause, definition and wrong body of its table is there. A row that the
+README's promises cite by its number beside a call, as in "`make`, 10", is a row of that call.
 It lists the public calls with a contract, functions and methods of exported types, and the wrong bodies that no row names. Run it
 anywhere; its status is 1 where a name is lost."""
 import os
@@ -96,6 +97,16 @@ def wrong_bodies():
             yield from (f"{crate}/{folder}/{name}" for name in names if name.endswith(".edit"))
 
 
+def miscited(rows):
+    """What the README cites of these rows, a call and a number, where that row does not name the call."""
+    with open(os.path.join(TOP, "README.md"), encoding="utf-8") as file:
+        promises = file.read().partition("## What it promises")[2].partition("\n## ")[0]
+    calls = {row[0]: {name for _, name, _ in CALL.findall(row[2])} | set(re.findall(r"`(\w+)`", row[1])) for row in rows}
+    for call, number in re.findall(r"`(\w+)`, (\d+)", promises):
+        if call not in calls.get(number, ()):
+            yield f"README: `{call}`, {number}"
+
+
 def main():
     if {"-h", "--help"} & set(sys.argv[1:]):
         print(__doc__)
@@ -105,6 +116,7 @@ def main():
     rows = [match.groups() for match in map(ROW.match, page.split("\n")) if match]
     lost = [f"row {number}: {name}" for number, _, call, definition, edit in rows for name in lost_in(call, definition, edit)]
     lost += [f"row {at} is numbered {row[0]}" for at, row in enumerate(rows, 1) if int(row[0]) != at]
+    lost += miscited(rows)
     named = {(path, name) for row in rows for path, name, _ in CALL.findall(row[2])}
     unnamed = [f"{path}: {name}" for path, name in public_calls() if not {(path, name), (path, name.split(".")[-1])} & named]
     tried = {path for row in rows for path in re.findall(r"`([^`]+)`", row[4])}
