@@ -1,9 +1,9 @@
 use Rattle.std.proofs.Common.{rules, ◌≡◌}
 use Rattle.std.specs.List.{filter}
 use Rattle.box_geom.specs.Regions.{AreBanded, SameCells}
-use Rattle.run_lengths.specs.Lengths.{is_wrong}
-use Rattle.run_lengths.proofs.Lengths.{rows_wrong, some_blocks}
-use Rattle.run_lengths.proofs.runs.wrong_rows.Goals as goal
+use Rattle.scmos_rules.specs.Lengths.{is_wrong}
+use Rattle.scmos_rules.proofs.RunLengths.{rows_wrong, some_blocks}
+use Rattle.scmos_rules.proofs.runs.wrong_rows.Goals as goal
 
 pub from_blocks-requires : goal.from_blocks-requires
 from_blocks-requires c =

@@ -2,8 +2,8 @@
 ghost use Rattle.std.specs.Prelude.{◌≡◌, ◌≤◌, ◌↔◌, ℤ, IfOk};
 ghost use Rattle.std.specs.List.{filter};
 ghost use Rattle.box_geom.specs.Rectangle.{Covers};
-ghost use Rattle.run_lengths.specs.Lengths.{FailsWidth, FailsSize, FailsOpen, IsWrong, FailsRun, is_wrong as is_wrong_run};
-ghost use Rattle.run_lengths.specs.Cells.{AreCells, AreInner};
+ghost use Rattle.scmos_rules.specs.Lengths.{FailsOpen, IsWrong, FailsRun, is_wrong as is_wrong_run};
+ghost use Rattle.scmos_rules.specs.Cells.{AreCells, AreInner};
 
 use box_geom::{Block, Region};
 use cell_num::NoMemory;
@@ -54,9 +54,9 @@ fn wrong_rows(alloc: Global, set: &Region, measure: Measure, value: u32) -> Resu
     Ok(region)
 }
 
-// The cells of a set whose run along the row or along the column has not the length. The set is given
+// The cells of a set whose run along the row or along the column has not the length, in grid units. The set is given
 // as it is, and with x and y exchanged.
-fn wrong_runs(
+pub(crate) fn wrong_runs(
     alloc: Global,
     set: &Region,
     turned: &Region,
@@ -73,28 +73,10 @@ fn wrong_runs(
     Ok(region)
 }
 
-/// The cells of a set whose run along the row or along the column is shorter than the value, in grid units.
-pub fn short_runs(alloc: Global, set: &Region, value: u32) -> Result<Region, NoMemory>
-    ensures { IfOk result (λ r. AreCells (FailsWidth (Covers set.now) value) r) }
-{
-    let turned = set.turned(alloc)?;
-    let region = wrong_runs(alloc, set, &turned, Measure::Width, value)?;
-    Ok(region)
-}
-
-/// The cells of a set whose run along the row or along the column is not as long as the value, in grid units.
-pub fn off_runs(alloc: Global, set: &Region, value: u32) -> Result<Region, NoMemory>
-    ensures { IfOk result (λ r. AreCells (FailsSize (Covers set.now) value) r) }
-{
-    let turned = set.turned(alloc)?;
-    let region = wrong_runs(alloc, set, &turned, Measure::Size, value)?;
-    Ok(region)
-}
-
-/// The cells of the gaps below a value in a set, in grid units. A gap is a run of the cells that are not in the set,
-/// with cells of the set at both ends. Their columns are the rows of what the turned set leaves free, which has few
-/// rectangles in each band.
-pub fn short_gaps(alloc: Global, set: &Region, value: u32) -> Result<Region, NoMemory>
+// The cells of the gaps below a value in a set, in grid units. A gap is a run of the cells that are not in the set,
+// with cells of the set at both ends. Their columns are the rows of what the turned set leaves free, which has few
+// rectangles in each band.
+pub(crate) fn short_gaps(alloc: Global, set: &Region, value: u32) -> Result<Region, NoMemory>
     requires inner { AreInner set.now }
     requires small { value ≤ 1000 }
     ensures { IfOk result (λ r. AreCells (FailsOpen (Covers set.now) value) r) }

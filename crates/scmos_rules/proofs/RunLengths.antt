@@ -11,10 +11,10 @@ use Rattle.box_geom.specs.Runs.{IsRun, IsShort, IsNotch}
 use Rattle.box_geom.specs.Regions.{IsBlock, Follows, AreBanded, SameCells, OnPlane}
 use Rattle.box_geom.proofs.Filters.{contains_filter, in_filter}
 use Rattle.box_geom.proofs.Strips.{covers_first, covers_later, covers_split}
-use Rattle.run_lengths.specs.Lengths.{FailsWidth, FailsSize, FailsOpen, IsWrong, FailsRun, is_wrong, width_of}
-use Rattle.run_lengths.specs.Cells.{AreCells, AreInner}
-use Rattle.run_lengths.specs.declared.runs.Measure.{Measure}
-use Rattle.run_lengths.specs.declared.runs.Measure.TheVariants.{Width, Size}
+use Rattle.scmos_rules.specs.Lengths.{FailsWidth, FailsSize, FailsOpen, IsWrong, FailsRun, is_wrong, width_of}
+use Rattle.scmos_rules.specs.Cells.{AreCells, AreInner}
+use Rattle.scmos_rules.specs.declared.runs.Measure.{Measure}
+use Rattle.scmos_rules.specs.declared.runs.Measure.TheVariants.{Width, Size}
 
 -- two elements of a list in order: the same one, or one before the other
 pub pair_cases : {X : Type 0} (R : X → X → Type 0) (xs : List X) (a b : X) → AllPairs R xs → Contains xs a → Contains xs b → (a ≡ b) ⊎ (R a b ⊎ R b a)
@@ -77,11 +77,9 @@ width_there P Q v x y e f = record { covered = (e x y).0 f.covered; short = elim
 size_there : (P Q : ℤ → ℤ → Type 0) (v : ℕ) (x y : ℤ) → ((s t : ℤ) → P s t ↔ Q s t) → FailsSize P v x y → FailsSize Q v x y
 size_there P Q v x y e f = record { covered = (e x y).0 f.covered; off = elim f.off [ inl s ↦ inl (wrong_like Size (λ z. P z y) (λ z. Q z y) v x (λ z. e z y) s) | inr s ↦ inr (wrong_like Size (λ z. P x z) (λ z. Q x z) v y (λ z. e x z) s) ] }
 
-pub like_width : (P : ℤ → ℤ → Type 0) (v : ℕ) (set r : List Rectangle) → AreCells P set → AreCells (FailsRun Width (Covers set) v) r → AreCells (FailsWidth P v) r
-like_width P v set r p f = record { same = λ x y. (λ c. width_there (Covers set) P v x y p.same ((f.same x y).0 c), λ d. (f.same x y).1 (width_there P (Covers set) v x y (λ s t. swap (p.same s t)) d)) }
-
-pub like_size : (P : ℤ → ℤ → Type 0) (v : ℕ) (set r : List Rectangle) → AreCells P set → AreCells (FailsRun Size (Covers set) v) r → AreCells (FailsSize P v) r
-like_size P v set r p f = record { same = λ x y. (λ c. size_there (Covers set) P v x y p.same ((f.same x y).0 c), λ d. (f.same x y).1 (size_there P (Covers set) v x y (λ s t. swap (p.same s t)) d)) }
+pub like_run : (m : Measure) (P : ℤ → ℤ → Type 0) (v : ℕ) (set r : List Rectangle) → AreCells P set → AreCells (FailsRun m (Covers set) v) r → AreCells (FailsRun m P v) r
+like_run Width P v set r p f = record { same = λ x y. (λ c. width_there (Covers set) P v x y p.same ((f.same x y).0 c), λ d. (f.same x y).1 (width_there P (Covers set) v x y (λ s t. swap (p.same s t)) d)) }
+like_run Size P v set r p f = record { same = λ x y. (λ c. size_there (Covers set) P v x y p.same ((f.same x y).0 c), λ d. (f.same x y).1 (size_there P (Covers set) v x y (λ s t. swap (p.same s t)) d)) }
 
 -- the test of a rectangle is the one of its run
 wrong_block : (m : Measure) (P : ℤ → Type 0) (v : ℕ) (r : Rectangle) (x : ℤ) → IsRun P r.x1 r.x2 x → is_wrong m v r ≡ true → IsWrong m P v x

@@ -2,8 +2,8 @@
 use Rattle.std.specs.Prelude.{ℤ, ◌-ℤ◌, ℕ, ◌==◌, ◌⊎◌, Bool, not, nat_lt, unsigned_abs}
 use Rattle.box_geom.specs.Rectangle.{Rectangle}
 use Rattle.box_geom.specs.Runs.{IsShort, IsOff, IsNotch}
-use Rattle.run_lengths.specs.declared.runs.Measure.{Measure}
-use Rattle.run_lengths.specs.declared.runs.Measure.TheVariants.{Width, Size}
+use Rattle.scmos_rules.specs.declared.runs.Measure.{Measure}
+use Rattle.scmos_rules.specs.declared.runs.Measure.TheVariants.{Width, Size}
 
 -- a covered cell whose covered run along its row or along its column is shorter than v
 pub record FailsWidth (P : ℤ → ℤ → Type 0) (v : ℕ) (x y : ℤ) : Type 0 where
