@@ -2,10 +2,10 @@
 use Rattle.std.proofs.Common.{◌≡◌, ℕ, Bool, true, false, IsTrue, Option, Some, None, is_some, List, [], ◌∷◌, refl, sym, ap, subst, ◌∙◌}
 use Rattle.std.specs.List.{find, range_with_len}
 use Rattle.cell_num.proofs.Lists.{some_same}
-use Rattle.net_name.specs.declared.naming.Held.{Held}
-use Rattle.net_name.specs.declared.fault.ExtractFault.{ExtractFault}
-use Rattle.net_name.specs.declared.fault.ExtractFault.TheVariants.{TooMany, OddDevice, Stray, Short, Split, NoMemory}
-use Rattle.net_name.specs.Naming.{label_of, other_than, other_of, short_net, split_name, IsShortIn, IsSplitOf, IsNameFault}
+use Rattle.net_extract.specs.declared.naming.Held.{Held}
+use Rattle.net_extract.specs.declared.fault.ExtractFault.{ExtractFault}
+use Rattle.net_extract.specs.declared.fault.ExtractFault.TheVariants.{TooMany, OddDevice, Stray, Short, Split, NoMemory}
+use Rattle.net_extract.specs.Naming.{label_of, other_than, other_of, short_net, split_name, IsShortIn, IsSplitOf, IsNameFault}
 
 -- the test holds of what is found
 find_holds : {X : Type 0} (p : X → Bool) (xs : List X) (x : X) → find p xs ≡ Some x → p x ≡ true
