@@ -1,7 +1,7 @@
 use Rattle.std.proofs.Common.{rules, ◌≡◌, ◌<◌, ◌≤◌, ◌^◌, sym, arith}
 use Rattle.std.proofs.Math.IntN.{nat_abs}
-use Rattle.spice_words.proofs.Counts.{too_large}
-use Rattle.spice_words.proofs.numbers.whole.Goals as goal
+use Rattle.spice_net.proofs.Counts.{too_large}
+use Rattle.spice_net.proofs.numbers.whole.Goals as goal
 
 pub returns-in_err-tens : goal.returns-in_err-tens
 returns-in_err-tens c =

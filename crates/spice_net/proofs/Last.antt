@@ -5,8 +5,8 @@ use Rattle.std.specs.List.{cons_option}
 use Rattle.std.proofs.lemmas.List.{append-nil, take_more}
 use Rattle.std.proofs.lemmas.List.Elements.{filter_map-append}
 use Rattle.spice_text.specs.declared.logical.Line.{Line}
-use Rattle.spice_words.specs.Pairs.{told_by, told_among, told_in, told_of}
-use Rattle.spice_words.specs.Parameters.{value_in, last_of, value_of, last_there}
+use Rattle.spice_net.specs.Pairs.{told_by, told_among, told_in, told_of}
+use Rattle.spice_net.specs.Parameters.{value_in, last_of, value_of, last_there}
 
 pub next_taken : {X : Type 0} (xs : List X) (i : ℕ) (x : X) → i < length xs → x ≡ get_or xs i x → take (i + 1) xs ≡ take i xs ++ x ∷ []
 next_taken {X = X} xs i x lt is = take_more xs i x lt ∙ ap (λ (y : X). take i xs ++ y ∷ []) (sym is)

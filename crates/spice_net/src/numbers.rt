@@ -1,5 +1,6 @@
+// The sizes and counts that the values of parameters are.
 ghost use Rattle.std.specs.Prelude.{◌≡◌, option_and_then};
-ghost use Rattle.spice_words.specs.Numbers.{units_of, counted, count_of, least_width};
+ghost use Rattle.spice_net.specs.Numbers.{units_of, counted, count_of, least_width};
 
 use cell_num::{Fixed, snap};
 use spice_text::read_fixed;

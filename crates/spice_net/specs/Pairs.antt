@@ -1,9 +1,9 @@
 -- Pairs of a pin and its direction, which comments hold.
 use Rattle.std.specs.Prelude.{ℕ, List, drop, filter_map, codes, bytes_eq, Option, Some, None, option_and_then, if◌then◌else◌}
 use Rattle.spice_text.specs.declared.logical.Line.{Line}
-use Rattle.spice_words.specs.declared.direction.Direction.{Direction}
-use Rattle.spice_words.specs.declared.direction.Direction.TheVariants.{Input, Output, Inout}
-use Rattle.spice_words.specs.Parameters.{value_in, last_of}
+use Rattle.spice_net.specs.declared.subckt.Direction.{Direction}
+use Rattle.spice_net.specs.declared.subckt.Direction.TheVariants.{Input, Output, Inout}
+use Rattle.spice_net.specs.Parameters.{value_in, last_of}
 
 -- what stands behind a pin's name in a pair
 abbrev pub direction_behind : List ℕ → Option Direction

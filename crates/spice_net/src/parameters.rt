@@ -1,6 +1,7 @@
+// Parameters, the words `key=value`.
 ghost use Rattle.std.specs.Prelude.{◌≡◌, codes, option_map, unwrap_or};
 ghost use Rattle.std.specs.List.{list_all};
-ghost use Rattle.spice_words.specs.Parameters.{is_parameter, value_in, value_of, last_there};
+ghost use Rattle.spice_net.specs.Parameters.{is_parameter, value_in, value_of, last_there};
 
 use cell_num::Name;
 

@@ -4,7 +4,7 @@ use Rattle.std.proofs.Math.IntN.{nat_abs}
 use Rattle.std.proofs.Math.Nat.{mod-eq_of_lt, mul-le-mul, one-le-pow}
 use Rattle.std.proofs.lemmas.Bool.{cases_eq, eq-eqb, le-leb, lt-leb, ne_eqb}
 use Rattle.cell_num.specs.declared.length.Fixed.{Fixed}
-use Rattle.spice_words.specs.Numbers.{counted, count_of, whole_of}
+use Rattle.spice_net.specs.Numbers.{counted, count_of, whole_of}
 
 pub some_tens : (power : ℕ) → 0 < 10 ^ power
 some_tens power = let one : 1 ≤ 10 ^ power = one-le-pow power 10 (omega arith) in omega (arith, one)

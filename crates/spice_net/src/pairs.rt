@@ -1,8 +1,9 @@
+// The pairs of a pin and its direction in comments.
 ghost use Rattle.std.specs.Prelude.{◌≡◌, drop};
-ghost use Rattle.spice_words.specs.Pairs.{direction_behind, told_by, told_among, told_in, told_of};
-ghost use Rattle.spice_words.specs.Parameters.{last_there};
+ghost use Rattle.spice_net.specs.Pairs.{direction_behind, told_by, told_among, told_in, told_of};
+ghost use Rattle.spice_net.specs.Parameters.{last_there};
 
-use crate::direction::Direction;
+use crate::subckt::Direction;
 use cell_num::Name;
 use spice_text::Line;
 
