@@ -30,7 +30,7 @@ def functions(path):
             owner, of_trait = block.group(3), bool(block.group(1) or block.group(2))
         elif line == "}":
             owner, of_trait = "", False
-        begun = re.match(r"\s*(pub )?fn (\w+)", line)
+        begun = re.match(r"\s*(?:pub\(crate\) |(pub ))?fn (\w+)", line)
         if begun:
             found.append((owner, begun.group(2), bool(begun.group(1)) or of_trait, set()))
         label = re.match(r"\s*ensures (\w*) ?\{", line)

@@ -11,8 +11,8 @@ use Rattle.cell_num.specs.declared.net.Pins.{Pins}
 use Rattle.cell_num.specs.Lines.{text_line}
 use Rattle.cell_num.proofs.Lists.{all_at}
 use Rattle.box_geom.specs.declared.shape.Shape.{Shape}
-use Rattle.spice_words.specs.declared.direction.Direction.{Direction}
-use Rattle.spice_words.specs.declared.direction.Direction.TheVariants.{Input, Output, Inout}
+use Rattle.spice_net.specs.declared.subckt.Direction.{Direction}
+use Rattle.spice_net.specs.declared.subckt.Direction.TheVariants.{Input, Output, Inout}
 use Rattle.spice_net.specs.declared.subckt.Subckt.{Subckt}
 use Rattle.cell_draw.specs.Layouts.{net_no}
 use Rattle.lef_write.specs.Lef.{block_text, coordinate, corner_text, direction_of, direction_text, head_text, layer_text, macro_text, metal1_text, metal2_text, microns, minus_of, name_of, obstructions_text, pin_text, pins_text, port_text, rect_text, rects_text, size_text, three_digits, use_text}

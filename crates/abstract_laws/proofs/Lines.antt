@@ -10,8 +10,8 @@ use Rattle.box_geom.specs.Rectangle.{Rectangle}
 use Rattle.box_geom.specs.declared.layer.Layer.{Layer}
 use Rattle.box_geom.specs.declared.layer.Layer.TheVariants.{Metal1, Metal2}
 use Rattle.box_geom.specs.declared.shape.Shape.{Shape}
-use Rattle.spice_words.specs.declared.direction.Direction.{Direction}
-use Rattle.spice_words.specs.declared.direction.Direction.TheVariants.{Input, Output, Inout}
+use Rattle.spice_net.specs.declared.subckt.Direction.{Direction}
+use Rattle.spice_net.specs.declared.subckt.Direction.TheVariants.{Input, Output, Inout}
 use Rattle.lef_write.specs.Lef.{head_text, direction_text, use_text, coordinate, corner_text, rect_text, rects_text}
 use Rattle.lef_read.specs.Keywords.{keyword_of}
 use Rattle.lef_read.specs.Numbers.{nanometres_of, length_of}

@@ -3,8 +3,8 @@ ghost use Rattle.std.specs.Prelude.{◌≡◌, ℕ, List};
 ghost use Rattle.cell_num.specs.declared.finger.Fingers.{Fingers};
 ghost use Rattle.box_geom.specs.declared.shape.Shapes.{Shapes};
 ghost use Rattle.scmos_rules.specs.declared.rules.Deck.{Deck};
-ghost use Rattle.net_name.specs.declared.fault.ExtractFault.{ExtractFault};
-ghost use Rattle.net_name.specs.declared.fault.ExtractFault.TheVariants.{NoMemory};
+ghost use Rattle.net_extract.specs.declared.fault.ExtractFault.{ExtractFault};
+ghost use Rattle.net_extract.specs.declared.fault.ExtractFault.TheVariants.{NoMemory};
 ghost use Rattle.net_extract.specs.Extraction.{AreFew, ExtractRefused};
 ghost use Rattle.cell_draw.specs.Extracted.{ExtractsTo};
 

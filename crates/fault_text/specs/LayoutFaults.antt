@@ -4,8 +4,8 @@ use Rattle.gds_area.specs.declared.fault.GdsFault.{GdsFault}
 use Rattle.gds_area.specs.declared.fault.GdsFault.TheVariants as gds
 use Rattle.scmos_rules.specs.declared.violation.RuleFault.{RuleFault}
 use Rattle.scmos_rules.specs.declared.violation.RuleFault.TheVariants as rules
-use Rattle.net_name.specs.declared.fault.ExtractFault.{ExtractFault}
-use Rattle.net_name.specs.declared.fault.ExtractFault.TheVariants as extract
+use Rattle.net_extract.specs.declared.fault.ExtractFault.{ExtractFault}
+use Rattle.net_extract.specs.declared.fault.ExtractFault.TheVariants as extract
 use Rattle.fault_text.specs.Faults.{Fault, Number, Signed, Text, fault_of, with_two}
 
 abbrev pub with_one : List ℕ → List ℕ → ℕ → Fault

@@ -5,7 +5,7 @@ ghost use Rattle.fault_text.specs.LayoutFaults.{with_one, gds_fault, rule_fault,
 use crate::fault_line::{Field, put_fault};
 use cell_num::{Bytes, NoMemory};
 use gds_area::GdsFault;
-use net_name::ExtractFault;
+use net_extract::ExtractFault;
 use scmos_rules::RuleFault;
 
 // A fault at a place of the GDSII file.

@@ -15,8 +15,8 @@ use Rattle.scmos_rules.specs.declared.violation.RuleFault.TheVariants as rules
 use Rattle.scmos_rules.specs.declared.violation.Violation.{Violation}
 use Rattle.scmos_rules.specs.Rules.{Fails, InDeck, Obeys}
 use Rattle.scmos_rules.specs.Violations.{AreViolations, IsFaultOf}
-use Rattle.net_name.specs.declared.fault.ExtractFault.{ExtractFault}
-use Rattle.net_name.specs.declared.fault.ExtractFault.TheVariants as no_netlist
+use Rattle.net_extract.specs.declared.fault.ExtractFault.{ExtractFault}
+use Rattle.net_extract.specs.declared.fault.ExtractFault.TheVariants as no_netlist
 use Rattle.net_extract.specs.Bodies.{ExtractsBodies}
 use Rattle.net_extract.specs.Extraction.{ExtractRefused}
 use Rattle.net_extract.specs.declared.netlist.Netlist.{Netlist}

@@ -11,7 +11,7 @@ use Rattle.scmos_rules.specs.declared.violation.RuleFault.TheVariants as rules
 use Rattle.scmos_rules.specs.declared.violation.Violation.{Violation}
 use Rattle.scmos_rules.specs.Rules.{Fails, InDeck, Obeys}
 use Rattle.scmos_rules.specs.Violations.{AreViolations, IsFaultOf}
-use Rattle.net_name.specs.declared.fault.ExtractFault.TheVariants as no_netlist
+use Rattle.net_extract.specs.declared.fault.ExtractFault.TheVariants as no_netlist
 use Rattle.net_extract.specs.declared.netlist.Netlist.{Netlist}
 use Rattle.net_extract.specs.Extraction.{Extracts, ExtractRefused}
 use Rattle.cell_report.specs.Netlists.{netlist_text}

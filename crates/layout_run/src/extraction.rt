@@ -2,7 +2,7 @@ ghost use Rattle.std.specs.Prelude.{◌≡◌, ◌≢◌, ◌≤◌, IfOk, lengt
 ghost use Rattle.scmos_rules.specs.Rules.{Obeys};
 ghost use Rattle.scmos_rules.specs.declared.rules.Deck.TheVariants as deck;
 ghost use Rattle.scmos_rules.specs.declared.violation.RuleFault.TheVariants as rules;
-ghost use Rattle.net_name.specs.declared.fault.ExtractFault.TheVariants as no_netlist;
+ghost use Rattle.net_extract.specs.declared.fault.ExtractFault.TheVariants as no_netlist;
 ghost use Rattle.layout_run.specs.declared.extraction.ExtractAnswer.TheVariants as outcome;
 ghost use Rattle.layout_run.specs.Extract.{ExtractsTo, IsDrawingAnswer, extract_end};
 
@@ -12,8 +12,7 @@ use call_end::{End, Status};
 use cell_num::{Name, NoMemory};
 use cell_report::{put_netlist, put_violations};
 use fault_text::{put_extract, put_rules};
-use net_extract::{BodyList, BodyNetlist, Netlist, extract_bodies};
-use net_name::ExtractFault;
+use net_extract::{BodyList, BodyNetlist, ExtractFault, Netlist, extract_bodies};
 use scmos_rules::{Deck, RuleFault, Rules, Violations, violations};
 use std::alloc::Global;
 

@@ -5,8 +5,7 @@ use cell_draw::{Drawing, MOST_SHAPES};
 use cell_num::{Name, Names, NetNo, NoMemory, Pins};
 use channel_route::{Routing, Trunk, TrunkList};
 use lef_write::lef_text;
-use spice_net::{DeviceList, DirectionList, Subckt};
-use spice_words::Direction;
+use spice_net::{DeviceList, Direction, DirectionList, Subckt};
 use std::alloc::Global;
 use std::test::Fail;
 

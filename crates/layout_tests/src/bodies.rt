@@ -1,8 +1,7 @@
 use crate::drawings::Sides;
 use crate::nets::{Letter, Refusal, drawing, is_refusal, netlist};
 use box_geom::{Layer, Shapes};
-use net_extract::{BodyNetlist, extract_bodies};
-use net_name::ExtractFault;
+use net_extract::{BodyNetlist, ExtractFault, extract_bodies};
 use std::alloc::Global;
 use std::test::Fail;
 

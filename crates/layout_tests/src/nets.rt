@@ -1,8 +1,7 @@
 use crate::drawings::{Sides, add_label, shapes_of};
 use box_geom::{Block, LabelList, Layer, Shapes};
 use cell_num::{Name, NoMemory, Row};
-use net_extract::{Drawn, NetMap, Netlist, extract};
-use net_name::ExtractFault;
+use net_extract::{Drawn, ExtractFault, NetMap, Netlist, extract};
 use std::alloc::Global;
 use std::test::Fail;
 

@@ -8,8 +8,8 @@ use Rattle.box_geom.specs.declared.shape.Shapes.{Shapes}
 use Rattle.scmos_rules.specs.declared.rules.Deck.TheVariants.{Plain}
 use Rattle.net_extract.specs.Extraction.{ExtractRefused}
 use Rattle.net_extract.specs.NetMaps.{NetMap, Maps, net_named}
-use Rattle.net_name.specs.declared.fault.ExtractFault.{ExtractFault}
-use Rattle.net_name.specs.declared.fault.ExtractFault.TheVariants as fault
+use Rattle.net_extract.specs.declared.fault.ExtractFault.{ExtractFault}
+use Rattle.net_extract.specs.declared.fault.ExtractFault.TheVariants as fault
 use Rattle.lef_read.specs.declared.cell.LefPin.{LefPin}
 use Rattle.lef_read.specs.declared.cell.Macro.{Macro}
 use Rattle.lef_read.specs.Agreement.{Agrees, HasLabel, ports_of}

@@ -13,8 +13,8 @@ use Rattle.box_geom.specs.Regions.{IsBlock}
 use Rattle.box_geom.specs.declared.shape.Shapes.{Shapes}
 use Rattle.scmos_rules.specs.declared.rules.Deck.TheVariants.{Plain}
 use Rattle.net_extract.specs.NetMaps.{NetMap, Maps, net_named}
-use Rattle.net_name.specs.Naming.{label_of, name_of, name_or_number, other_of, other_than, short_net}
-use Rattle.net_name.specs.declared.naming.Held.{Held}
+use Rattle.net_extract.specs.Naming.{label_of, name_of, name_or_number, other_of, other_than, short_net}
+use Rattle.net_extract.specs.declared.naming.Held.{Held}
 use Rattle.net_extract.proofs.Filling.{and_true}
 use Rattle.net_extract.proofs.Finding.{found, found_none}
 use Rattle.lef_read.specs.declared.cell.LefPin.{LefPin}

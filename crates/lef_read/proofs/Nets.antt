@@ -18,7 +18,7 @@ use Rattle.net_extract.specs.Nets.{layer_of, Site, Conducts}
 use Rattle.net_extract.specs.declared.piece.Conductor.{Conductor}
 use Rattle.net_extract.specs.declared.piece.Conductor.TheVariants.{PDiffusion, NDiffusion, Poly, Metal1, Metal2}
 use Rattle.net_extract.specs.Numbering.{IsInNet}
-use Rattle.net_name.specs.declared.naming.Held.{Held}
+use Rattle.net_extract.specs.declared.naming.Held.{Held}
 use Rattle.net_extract.proofs.Agreeing.{label_held}
 use Rattle.net_extract.proofs.Belonging.{one_site}
 use Rattle.net_extract.proofs.ByName.{one_net, label_found}

@@ -12,11 +12,11 @@ use Rattle.net_extract.specs.Devices.{IsFirstOdd}
 use Rattle.net_extract.specs.Extraction.{IsLabelled, IsTooMany, IsStrayLabel, ExtractRefused}
 use Rattle.net_extract.specs.Labels.{IsHeld, IsStray, IsFirstStray, conductor_labels}
 use Rattle.net_extract.specs.NetMaps.{NetMap, Maps}
-use Rattle.net_name.specs.Naming.{IsShort, IsSplit, label_of, other_of, short_net, split_name}
+use Rattle.net_extract.specs.Naming.{IsShort, IsSplit, label_of, other_of, short_net, split_name}
 use Rattle.net_extract.specs.Nets.{Site}
-use Rattle.net_name.specs.declared.fault.ExtractFault.{ExtractFault}
-use Rattle.net_name.specs.declared.fault.ExtractFault.TheVariants.{TooMany, OddDevice, Stray, Short, Split, NoMemory}
-use Rattle.net_name.specs.declared.naming.Held.{Held}
+use Rattle.net_extract.specs.declared.fault.ExtractFault.{ExtractFault}
+use Rattle.net_extract.specs.declared.fault.ExtractFault.TheVariants.{TooMany, OddDevice, Stray, Short, Split, NoMemory}
+use Rattle.net_extract.specs.declared.naming.Held.{Held}
 use Rattle.net_extract.proofs.Agreeing.{facing}
 use Rattle.net_extract.proofs.Extracting.{not_many}
 use Rattle.net_extract.proofs.Netlists.{one_labelling}

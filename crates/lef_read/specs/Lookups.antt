@@ -9,8 +9,8 @@ use Rattle.box_geom.specs.declared.layer.Layer.TheVariants.{Metal1, Metal2}
 use Rattle.box_geom.specs.declared.region.Place.{Place}
 use Rattle.box_geom.specs.declared.shape.Shapes.{Shapes}
 use Rattle.net_extract.specs.NetMaps.{NetMap, net_named, net_of}
-use Rattle.net_name.specs.declared.fault.ExtractFault.{ExtractFault}
-use Rattle.net_name.specs.declared.fault.ExtractFault.TheVariants as fault
+use Rattle.net_extract.specs.declared.fault.ExtractFault.{ExtractFault}
+use Rattle.net_extract.specs.declared.fault.ExtractFault.TheVariants as fault
 use Rattle.lef_read.specs.declared.cell.LefPin.{LefPin}
 use Rattle.lef_read.specs.declared.cell.LefRect.{LefRect}
 use Rattle.lef_read.specs.declared.cell.Macro.{Macro}

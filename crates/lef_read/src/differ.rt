@@ -1,6 +1,6 @@
 use box_geom::Layer;
 use cell_num::{Name, NoMemory};
-use net_name::ExtractFault;
+use net_extract::ExtractFault;
 use std::alloc::AllocError;
 use thiserror::Error;
 

@@ -7,8 +7,8 @@ use Rattle.cell_num.specs.declared.net.Pins.{Pins}
 use Rattle.cell_num.specs.Lines.{text_line}
 use Rattle.box_geom.specs.declared.layer.Layer.TheVariants.{Metal1, Metal2}
 use Rattle.box_geom.specs.declared.shape.Shape.{Shape}
-use Rattle.spice_words.specs.declared.direction.Direction.{Direction}
-use Rattle.spice_words.specs.declared.direction.Direction.TheVariants.{Input, Output, Inout}
+use Rattle.spice_net.specs.declared.subckt.Direction.{Direction}
+use Rattle.spice_net.specs.declared.subckt.Direction.TheVariants.{Input, Output, Inout}
 use Rattle.spice_net.specs.declared.subckt.Subckt.{Subckt}
 use Rattle.channel_route.specs.declared.routing.Routing.{Routing}
 use Rattle.cell_draw.specs.declared.drawing.Drawing.{Drawing}

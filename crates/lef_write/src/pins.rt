@@ -7,8 +7,7 @@ use crate::ports::port_shapes;
 use crate::shapes::put_rects;
 use box_geom::Shape;
 use cell_num::{Bytes, NetNo, NoMemory, Pins, put_text};
-use spice_net::Subckt;
-use spice_words::Direction;
+use spice_net::{Direction, Subckt};
 use std::alloc::Global;
 
 #[tactic(auto, unfolding(crate::specs::Lef::direction_text))]

@@ -10,9 +10,9 @@ use Rattle.cell_num.proofs.Lists.{contains_none, contains_cons, contains_here, c
 use Rattle.box_geom.specs.declared.shape.Label.{Label}
 use Rattle.box_geom.specs.declared.shape.Shape.{Shape}
 use Rattle.scmos_rules.specs.declared.rules.Deck.{Deck}
-use Rattle.net_name.specs.declared.naming.Held.{Held}
+use Rattle.net_extract.specs.declared.naming.Held.{Held}
 use Rattle.net_extract.specs.Labels.{is_conductor, conductor_labels, IsHeld, AreHeld}
-use Rattle.net_name.specs.Naming.{first_other, other_than, stands_elsewhere, IsShort, IsSplit}
+use Rattle.net_extract.specs.Naming.{first_other, other_than, stands_elsewhere, IsShort, IsSplit}
 use Rattle.net_extract.specs.Nets.{Site}
 use Rattle.net_extract.proofs.Finding.{found, any_of}
 

@@ -13,9 +13,9 @@ use Rattle.std.proofs.lemmas.List.Elements.{Contains-get_or}
 use Rattle.std.proofs.lemmas.List.Sorted.{Contains-permutation, IsPermutation-sym, searchable_from_sorted}
 use Rattle.std.proofs.lemmas.Map.Lookups.{exact_bytes}
 use Rattle.std.proofs.lemmas.Slice.Eq.{bytes_eq-Decides}
-use Rattle.net_name.specs.Naming.{split_name, stands_elsewhere}
+use Rattle.net_extract.specs.Naming.{split_name, stands_elsewhere}
 use Rattle.net_extract.specs.NetMaps.{AreByName, net_labelled}
-use Rattle.net_name.specs.declared.naming.Held.{Held}
+use Rattle.net_extract.specs.declared.naming.Held.{Held}
 use Rattle.net_extract.proofs.Filling.{and_true}
 use Rattle.net_extract.proofs.Finding.{found, found_none, of_any}
 

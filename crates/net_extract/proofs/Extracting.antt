@@ -9,7 +9,7 @@ use Rattle.scmos_rules.specs.declared.rules.Deck.TheVariants.{Plain, Taps}
 use Rattle.net_extract.specs.Bodies.{AreBodies, ExtractsBodies}
 use Rattle.net_extract.specs.Nets.{Site}
 use Rattle.net_extract.specs.Extraction.{AreFew, AreRegular, IsLabelled, IsDrawn, Extracts, IsTooMany, SaysTooMany, ExtractRefused}
-use Rattle.net_name.specs.Naming.{IsAgreed, names_of, short_net, split_name, IsNameFault}
+use Rattle.net_extract.specs.Naming.{IsAgreed, names_of, short_net, split_name, IsNameFault}
 use Rattle.net_extract.specs.Labels.{IsFirstStray}
 use Rattle.net_extract.specs.Lookups.{is_lost, held_in, IsLostBy}
 use Rattle.net_extract.specs.GateNets.{ArePolyOf, AreGateNets, AreWellNets, AreFound, IsOddFault, boxes_of}
@@ -17,12 +17,12 @@ use Rattle.net_extract.specs.Connections.{firsts_of, AreWires}
 use Rattle.net_extract.specs.Steps.{AreNamed, IsMapped}
 use Rattle.net_extract.specs.declared.drawing.Mapped.{Mapped}
 use Rattle.net_extract.specs.declared.drawing.Named.{Named}
-use Rattle.net_name.specs.declared.naming.Held.{Held}
+use Rattle.net_extract.specs.declared.naming.Held.{Held}
 use Rattle.net_extract.specs.declared.netlist.BodyNetlist.{BodyNetlist}
 use Rattle.net_extract.specs.declared.netlist.Drawn.{Drawn}
 use Rattle.net_extract.specs.declared.netlist.Netlist.{Netlist}
-use Rattle.net_name.specs.declared.fault.ExtractFault.{ExtractFault}
-use Rattle.net_name.specs.declared.fault.ExtractFault.TheVariants.{TooMany, OddDevice, Stray, Short, Split, NoMemory}
+use Rattle.net_extract.specs.declared.fault.ExtractFault.{ExtractFault}
+use Rattle.net_extract.specs.declared.fault.ExtractFault.TheVariants.{TooMany, OddDevice, Stray, Short, Split, NoMemory}
 use Rattle.net_extract.specs.declared.piece.Piece.{Piece}
 use Rattle.net_extract.specs.declared.connections.Wire.{Wire}
 use Rattle.box_geom.specs.Rectangle.{Rectangle, IsRectangle}

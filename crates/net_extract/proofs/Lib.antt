@@ -10,6 +10,7 @@ pub mod Cornering
 pub mod Counting
 pub mod Covering
 pub mod Extracting
+pub mod Faults
 pub mod Filling
 pub mod Finding
 pub mod Gating
@@ -28,6 +29,7 @@ pub mod OneBody
 pub mod Orders
 pub mod Pairing
 pub mod PolyClasses
+pub mod Ranges
 pub mod Ranking
 pub mod Siding
 pub mod Ties

@@ -28,14 +28,14 @@ use Rattle.net_extract.specs.Nets.{Are, layer_of, Site, site_at}
 use Rattle.net_extract.specs.declared.piece.Conductor.{Conductor}
 use Rattle.net_extract.specs.declared.piece.Conductor.TheVariants.{PDiffusion, NDiffusion, Poly, Metal1, Metal2}
 use Rattle.net_extract.specs.GateNets.{boxes_of}
-use Rattle.net_name.specs.Naming.{name_of, names_of}
+use Rattle.net_extract.specs.Naming.{name_of, names_of}
 use Rattle.net_extract.specs.Numbering.{IsInNet}
 use Rattle.net_extract.specs.Bonds.{IsIn}
 use Rattle.net_extract.specs.Pieces.{corner_of, rect_of}
 use Rattle.net_extract.specs.Steps.{IsMapped}
 use Rattle.net_extract.specs.declared.connections.Wire.{Wire}
 use Rattle.net_extract.specs.declared.drawing.Mapped.{Mapped}
-use Rattle.net_name.specs.declared.naming.Held.{Held}
+use Rattle.net_extract.specs.declared.naming.Held.{Held}
 use Rattle.net_extract.specs.declared.net_piece.NetPiece.{NetPiece}
 use Rattle.net_extract.specs.declared.piece.Piece.{Piece}
 use Rattle.net_extract.proofs.Agreeing.{label_held}

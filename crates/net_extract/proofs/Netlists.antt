@@ -12,15 +12,15 @@ use Rattle.cell_num.specs.declared.finger.Row.TheVariants.{P, N}
 use Rattle.scmos_rules.proofs.Orders.{ordered_same}
 use Rattle.scmos_rules.specs.Layout.{On}
 use Rattle.scmos_rules.specs.declared.rules.Deck.{Deck}
-use Rattle.net_name.specs.declared.fault.ExtractFault.{ExtractFault}
-use Rattle.net_name.specs.declared.fault.ExtractFault.TheVariants.{TooMany, OddDevice, Stray, Short, Split, NoMemory}
-use Rattle.net_name.specs.declared.naming.Held.{Held}
+use Rattle.net_extract.specs.declared.fault.ExtractFault.{ExtractFault}
+use Rattle.net_extract.specs.declared.fault.ExtractFault.TheVariants.{TooMany, OddDevice, Stray, Short, Split, NoMemory}
+use Rattle.net_extract.specs.declared.naming.Held.{Held}
 use Rattle.net_extract.specs.declared.netlist.Drawn.{Drawn}
 use Rattle.net_extract.specs.declared.netlist.Netlist.{Netlist}
 use Rattle.net_extract.specs.Devices.{diffusion_of, IsSide, IsClosed, left_of, below, source_side, drain_side, low_end, IsSize, BeginsBefore, AreDevices}
 use Rattle.net_extract.specs.Extraction.{IsDrawn, IsLabelled, Extracts, ExtractRefused}
 use Rattle.net_extract.specs.Labels.{AreHeld, IsHeld, conductor_labels}
-use Rattle.net_name.specs.Naming.{names_of, short_net, split_name}
+use Rattle.net_extract.specs.Naming.{names_of, short_net, split_name}
 use Rattle.net_extract.specs.Nets.{Site, site_at, Conducts}
 use Rattle.net_extract.specs.declared.piece.Conductor.TheVariants.{Poly}
 use Rattle.net_extract.specs.Numbering.{AreNets, IsInNet}

@@ -15,8 +15,8 @@ use Rattle.net_extract.specs.Bodies.{IsTapFor, IsBody, IsBodyOf, ExtractsBodies}
 use Rattle.net_extract.specs.Extraction.{ExtractRefused}
 use Rattle.net_extract.specs.Nets.{Site, Tied, by_well, by_substrate, tied, Wired, SameNet}
 use Rattle.net_extract.specs.Numbering.{AreNets}
-use Rattle.net_name.specs.declared.fault.ExtractFault.{ExtractFault}
-use Rattle.net_name.specs.declared.fault.ExtractFault.TheVariants.{NoMemory}
+use Rattle.net_extract.specs.declared.fault.ExtractFault.{ExtractFault}
+use Rattle.net_extract.specs.declared.fault.ExtractFault.TheVariants.{NoMemory}
 use Rattle.net_extract.specs.declared.netlist.BodyNetlist.{BodyNetlist}
 use Rattle.net_extract.specs.declared.netlist.Drawn.{Drawn}
 use Rattle.net_extract.specs.declared.netlist.Netlist.{Netlist}

@@ -8,13 +8,13 @@ use Rattle.scmos_rules.specs.declared.rules.Deck.{Deck}
 use Rattle.net_extract.specs.Nets.{Site}
 use Rattle.net_extract.specs.Numbering.{AreNets, IsInNet}
 use Rattle.net_extract.specs.Devices.{IsDevice, IsOdd, IsFirstOdd, AreDevices}
-use Rattle.net_name.specs.declared.naming.Held.{Held}
+use Rattle.net_extract.specs.declared.naming.Held.{Held}
 use Rattle.net_extract.specs.Labels.{AreHeld, IsFirstStray}
-use Rattle.net_name.specs.Naming.{IsAgreed, IsShort, IsSplit, names_of}
+use Rattle.net_extract.specs.Naming.{IsAgreed, IsShort, IsSplit, names_of}
 use Rattle.net_extract.specs.declared.netlist.Drawn.{Drawn}
 use Rattle.net_extract.specs.declared.netlist.Netlist.{Netlist}
-use Rattle.net_name.specs.declared.fault.ExtractFault.{ExtractFault}
-use Rattle.net_name.specs.declared.fault.ExtractFault.TheVariants.{TooMany, OddDevice, Stray, Short, Split, NoMemory}
+use Rattle.net_extract.specs.declared.fault.ExtractFault.{ExtractFault}
+use Rattle.net_extract.specs.declared.fault.ExtractFault.TheVariants.{TooMany, OddDevice, Stray, Short, Split, NoMemory}
 
 -- at most 10,000 rectangles and 2,000 labels
 pub record AreFew (shapes : Shapes) : Type 0 where

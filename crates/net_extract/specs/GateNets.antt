@@ -13,8 +13,8 @@ use Rattle.net_extract.specs.Extraction.{IsDrawn}
 use Rattle.net_extract.specs.Nets.{Site}
 use Rattle.net_extract.specs.Connections.{AreWires, blank}
 use Rattle.net_extract.specs.Pieces.{rect_of}
-use Rattle.net_name.specs.declared.fault.ExtractFault.{ExtractFault}
-use Rattle.net_name.specs.declared.fault.ExtractFault.TheVariants.{OddDevice, NoMemory}
+use Rattle.net_extract.specs.declared.fault.ExtractFault.{ExtractFault}
+use Rattle.net_extract.specs.declared.fault.ExtractFault.TheVariants.{OddDevice, NoMemory}
 use Rattle.net_extract.specs.declared.netlist.Drawn.{Drawn}
 use Rattle.net_extract.specs.declared.piece.Piece.{Piece}
 use Rattle.net_extract.specs.declared.connections.Wire.{Wire}

@@ -9,7 +9,7 @@ use Rattle.box_geom.specs.declared.shape.Shapes.{Shapes}
 use Rattle.box_geom.specs.declared.layer.Layer.{Layer}
 use Rattle.box_geom.specs.declared.layer.Layer.TheVariants.{Active, Poly, Metal1, Metal2}
 use Rattle.scmos_rules.specs.declared.rules.Deck.{Deck}
-use Rattle.net_name.specs.declared.naming.Held.{Held}
+use Rattle.net_extract.specs.declared.naming.Held.{Held}
 use Rattle.net_extract.specs.Nets.{layer_of, Site, Conducts, SameNet}
 use Rattle.net_extract.specs.Numbering.{IsInNet}
 

@@ -4,6 +4,7 @@ pub mod Bonds
 pub mod Devices
 pub mod Extraction
 pub mod Labels
+pub mod Naming
 pub mod NetMaps
 pub mod Nets
 pub mod Numbering

@@ -16,12 +16,12 @@ use Rattle.box_geom.specs.declared.shape.Shapes.{Shapes}
 use Rattle.scmos_rules.specs.declared.rules.Deck.{Deck}
 use Rattle.net_extract.specs.Extraction.{AreRegular, IsLabelled}
 use Rattle.net_extract.specs.Labels.{IsConductorAt}
-use Rattle.net_name.specs.Naming.{IsAgreed, names_of}
+use Rattle.net_extract.specs.Naming.{IsAgreed, names_of}
 use Rattle.net_extract.specs.Nets.{layer_of, Site}
 use Rattle.net_extract.specs.Numbering.{IsInNet}
 use Rattle.net_extract.specs.Pieces.{rect_of}
 use Rattle.net_extract.specs.declared.connections.Wire.{Wire}
-use Rattle.net_name.specs.declared.naming.Held.{Held}
+use Rattle.net_extract.specs.declared.naming.Held.{Held}
 use Rattle.net_extract.specs.declared.net_piece.NetPiece.{NetPiece}
 
 -- conductor by layers with the nets of its rectangles, labels with their nets, and the names of all nets by number

@@ -4,7 +4,7 @@ use Rattle.box_geom.specs.Layers.{AreWithinLimits}
 use Rattle.box_geom.specs.declared.shape.Shapes.{Shapes}
 use Rattle.scmos_rules.specs.declared.rules.Deck.{Deck}
 use Rattle.net_extract.specs.Nets.{Site}
-use Rattle.net_name.specs.Naming.{IsAgreed, names_of}
+use Rattle.net_extract.specs.Naming.{IsAgreed, names_of}
 use Rattle.net_extract.specs.Connections.{AreWires, firsts_of}
 use Rattle.net_extract.specs.Extraction.{AreFew, IsLabelled}
 use Rattle.net_extract.specs.GateNets.{AreGateNets, AreWells, AreFound, boxes_of}

@@ -16,13 +16,14 @@ ghost use Rattle.net_extract.specs.Steps.{AreNamed, IsMapped};
 use crate::body::{bodies, taps};
 use crate::class_map::{gate_map, well_map};
 use crate::connections::{Connections, Wire, connections_of, count_of, tapped_connections};
+use crate::fault::ExtractFault;
 use crate::gate::devices;
 use crate::layers::Layers;
 use crate::lookup::{all_held, check_strays};
+use crate::naming::{Held, net_names};
 use crate::netlist::{BodyList, BodyNetlist, DrawnList, Netlist};
 use box_geom::{Shape, Shapes};
 use cell_num::{Names, NoMemory};
-use net_name::{ExtractFault, Held, net_names};
 use scmos_rules::Deck;
 use std::alloc::Global;
 

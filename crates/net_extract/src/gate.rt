@@ -6,18 +6,18 @@ ghost use Rattle.net_extract.specs.Extraction.{IsDrawn};
 ghost use Rattle.net_extract.specs.GateNets.{AreGateNets, wider, point_of, box_of, IsAllGate, AreFound, boxes_of, IsOddFault};
 ghost use Rattle.net_extract.specs.Connections.{AreWires, firsts_of, blank};
 ghost use Rattle.net_extract.specs.Pieces.{rect_of};
-ghost use Rattle.net_name.specs.declared.fault.ExtractFault.TheVariants.{OddDevice};
+ghost use Rattle.net_extract.specs.declared.fault.ExtractFault.TheVariants.{OddDevice};
 
 use crate::area::is_full;
 use crate::connections::{Connections, Wire};
 use crate::device::device_of;
+use crate::fault::ExtractFault;
 use crate::layers::Layers;
 use crate::netlist::{Drawn, DrawnList};
 use crate::piece::Piece;
 use crate::side::whole;
 use box_geom::Layer;
 use cell_num::NoMemory;
-use net_name::ExtractFault;
 use std::alloc::Global;
 
 fn widened(to: Piece, wire: &Wire, net: usize) -> Piece

@@ -5,7 +5,7 @@ ghost use Rattle.std.specs.Ordering.{nat_cmp};
 ghost use Rattle.std.specs.List.Sorted.{IsSortedByKey};
 ghost use Rattle.net_extract.specs.NetMaps.{AreByName, net_labelled};
 
-use net_name::Held;
+use crate::naming::Held;
 use std::cmp::Ordering;
 
 fn compare(label: &Held, name: &[u8]) -> Ordering

@@ -8,10 +8,11 @@ ghost use Rattle.net_extract.specs.Lookups.{is_at, net_in, net_on, or_else, net_
 ghost use Rattle.net_extract.specs.Pieces.{rect_of};
 
 use crate::connections::Wire;
+use crate::fault::ExtractFault;
+use crate::naming::Held;
 use crate::piece::{Conductor, Piece};
 use box_geom::{Label, Layer};
 use cell_num::{NoMemory, copy};
-use net_name::{ExtractFault, Held};
 use std::alloc::Global;
 
 #[tactic(auto, unfolding(box_geom::specs::Comparisons::within))]

@@ -7,11 +7,12 @@ ghost use Rattle.net_extract.specs.Extraction.{ExtractRefused, SaysTooMany};
 ghost use Rattle.net_extract.specs.NetMaps.{AreCellsOf, Maps, net_named, net_of};
 
 use crate::drawing::{Mapped, map_drawing};
+use crate::fault::ExtractFault;
 use crate::label_nets::{by_name, net_of_name};
+use crate::naming::Held;
 use crate::net_piece::{NetPiece, blocks_of, net_at, net_pieces};
 use box_geom::{Block, Layer, Shapes};
 use cell_num::{Name, Names, NoMemory};
-use net_name::{ExtractFault, Held};
 use scmos_rules::Deck;
 use std::alloc::Global;
 use std::marker::Model;

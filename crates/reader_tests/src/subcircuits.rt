@@ -1,6 +1,5 @@
 use cell_num::{Names, Pins, Row, copy};
-use spice_net::{Device, DeviceList, SpiceFault, Subckt, read_cell};
-use spice_words::Direction;
+use spice_net::{Device, DeviceList, Direction, SpiceFault, Subckt, read_cell};
 use std::alloc::{AllocError, Global};
 use std::test::Fail;
 use tech_file::Tech;

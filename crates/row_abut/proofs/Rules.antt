@@ -7,7 +7,7 @@ use Rattle.std.proofs.lemmas.List.Sums.{AllPass-from_list_all}
 use Rattle.box_geom.specs.Regions.{IsEmpty}
 use Rattle.box_geom.specs.declared.layer.Layer.{Layer}
 use Rattle.box_geom.specs.declared.layer.Layer.TheVariants.{Well, Active, PSelect, NSelect, Poly, Contact, Metal1, Via, Metal2}
-use Rattle.run_lengths.specs.Lengths.{FailsWidth, FailsSize}
+use Rattle.scmos_rules.specs.Lengths.{FailsWidth, FailsSize}
 use Rattle.scmos_rules.specs.Failing.{FailsSpacing, FailsSurround, FailsAway, FailsPartly}
 use Rattle.scmos_rules.specs.Layout.{On, Gate, InWell, OutOfWell, PolyContact, DiffusionContact}
 use Rattle.scmos_rules.specs.Numbers.{numbers_of}

@@ -6,7 +6,7 @@ use Rattle.box_geom.specs.Near.{Near}
 use Rattle.box_geom.specs.Regions.{IsEmpty}
 use Rattle.box_geom.specs.Runs.{IsRun, IsShort, IsOff, IsNotch}
 use Rattle.box_geom.specs.Touching.{Cell, Edge, to_right, to_left, upward, downward}
-use Rattle.run_lengths.specs.Lengths.{FailsWidth, FailsSize}
+use Rattle.scmos_rules.specs.Lengths.{FailsWidth, FailsSize}
 use Rattle.scmos_rules.specs.Failing.{SameClass, FailsSpacing, FailsSurround, FailsAway, FailsPartly}
 use Rattle.net_extract.proofs.Bonds.{carried_steps}
 

@@ -20,13 +20,13 @@ use Rattle.scmos_rules.specs.Apart.{link_of, some_part, hits_of}
 use Rattle.scmos_rules.specs.Near.{numbered, near_over}
 use Rattle.scmos_rules.specs.declared.parts.NumberedBlock.{NumberedBlock}
 use Rattle.number_trees.specs.Links.{IsLink, Tied, Separates}
-use Rattle.run_lengths.specs.Lengths.{FailsOpen}
+use Rattle.scmos_rules.specs.Lengths.{FailsOpen}
 use Rattle.scmos_rules.specs.Failing.{FailsApart, FailsSpacing, SameClass}
-use Rattle.run_lengths.specs.Cells.{AreCells}
+use Rattle.scmos_rules.specs.Cells.{AreCells}
 use Rattle.number_trees.specs.declared.linking.Link.{Link}
 use Rattle.number_trees.proofs.Chains.{none, one, joined}
 use Rattle.scmos_rules.proofs.Chains.{inside, meet, flip_edge}
-use Rattle.run_lengths.proofs.Lengths.{swap}
+use Rattle.scmos_rules.proofs.RunLengths.{swap}
 use Rattle.scmos_rules.proofs.Nearing.{AreClose, IsPair, pair_of, pair_found, IsAt, number_at, numbered_there, part_at, parts_up, put_left, put_right}
 
 -- where an element stands

@@ -9,7 +9,7 @@ use Rattle.box_geom.specs.declared.layer.Layer.TheVariants.{Active, Poly}
 use Rattle.scmos_rules.specs.Layout.{On, Gate, Diffusion, FieldPoly, Bare}
 use Rattle.scmos_rules.specs.Gates.{Way, right, left, up, down, Ahead, FailsPolyEnd, FailsActiveEnd, FailsFieldPoly}
 use Rattle.scmos_rules.specs.Outward.{shift_across, shift_upward, EndsEarly, StandsEarly, MeetsEarly, AreOneOf}
-use Rattle.run_lengths.specs.Cells.{AreCells, AreInner}
+use Rattle.scmos_rules.specs.Cells.{AreCells, AreInner}
 use Rattle.scmos_rules.specs.Regions.{Lacks, way_of}
 use Rattle.scmos_rules.specs.declared.gates.Heading.{Heading}
 use Rattle.scmos_rules.specs.declared.gates.Heading.TheVariants.{Right, Left, Up, Down}

@@ -5,7 +5,7 @@ use Rattle.box_geom.specs.Rectangle.{Rectangle, Covers}
 use Rattle.box_geom.specs.Near.{Near}
 use Rattle.box_geom.specs.Regions.{OnPlane, IsNear}
 use Rattle.scmos_rules.specs.Failing.{FailsSurround, FailsAway}
-use Rattle.run_lengths.specs.Cells.{AreCells, AreInner, IsInner}
+use Rattle.scmos_rules.specs.Cells.{AreCells, AreInner, IsInner}
 
 pub inner_plane : (x y : ℤ) → IsInner x y → OnPlane x y
 inner_plane x y i = let a = i.left in let b = i.right in let c = i.low in let d = i.high in record { left = omega (arith, ints); right = omega (arith, ints); low = omega (arith, ints); high = omega (arith, ints) }

@@ -4,8 +4,8 @@ use Rattle.box_geom.specs.Chains.{Steps, Linked}
 use Rattle.box_geom.specs.Rectangle.{Rectangle, Covers}
 use Rattle.box_geom.specs.Touching.{Cell, Edge, to_right, to_left, upward, downward}
 use Rattle.scmos_rules.specs.Failing.{FailsApart}
-use Rattle.run_lengths.specs.Cells.{AreCells}
-use Rattle.run_lengths.proofs.Lengths.{swap}
+use Rattle.scmos_rules.specs.Cells.{AreCells}
+use Rattle.scmos_rules.proofs.RunLengths.{swap}
 
 abbrev at : ℤ → ℤ → Cell
 at x y = record { x = x; y = y }

@@ -6,7 +6,7 @@ use Rattle.box_geom.specs.Near.{Near}
 use Rattle.box_geom.specs.Runs.{IsShort, IsOff, IsNotch}
 use Rattle.box_geom.specs.Touching.{Cell}
 use Rattle.box_geom.specs.Regions.{IsEmpty}
-use Rattle.run_lengths.specs.Lengths.{FailsWidth, FailsSize}
+use Rattle.scmos_rules.specs.Lengths.{FailsWidth, FailsSize}
 use Rattle.scmos_rules.specs.Failing.{FailsSpacing, FailsSurround, FailsAway, FailsPartly}
 use Rattle.number_trees.proofs.Chains.{none, one, joined}
 

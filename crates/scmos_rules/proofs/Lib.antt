@@ -9,6 +9,7 @@ pub mod Distances
 pub mod Listing
 pub mod Unions
 pub mod Nearing
+pub mod RunLengths
 pub mod Sizes
 pub mod Spacings
 pub mod Widths

@@ -10,7 +10,7 @@ use Rattle.cell_num.proofs.Pairs.{pairs_none, pairs_one, pairs_append}
 use Rattle.box_geom.specs.Rectangle.{Rectangle, Covers}
 use Rattle.box_geom.specs.Regions.{IsEmpty, IsFirst}
 use Rattle.box_geom.specs.declared.shape.Shape.{Shape}
-use Rattle.run_lengths.specs.Cells.{AreCells}
+use Rattle.scmos_rules.specs.Cells.{AreCells}
 use Rattle.scmos_rules.specs.Rules.{Fails}
 use Rattle.scmos_rules.specs.Violations.{StandsBefore, AreBroken, IsVerdict, Lists}
 use Rattle.std.proofs.lemmas.List.{take_more, append-nil}

@@ -7,7 +7,7 @@ use Rattle.box_geom.specs.Rectangle.{Rectangle, Holds, Covers}
 use Rattle.box_geom.specs.Touching.{Cell, Edge, to_right, to_left, upward, downward}
 use Rattle.box_geom.specs.Runs.{IsOff}
 use Rattle.box_geom.specs.Regions.{IsEmpty}
-use Rattle.run_lengths.specs.Lengths.{FailsSize}
+use Rattle.scmos_rules.specs.Lengths.{FailsSize}
 use Rattle.scmos_rules.specs.Conditions.{IsSquare, AreAlone}
 
 -- a covered cell that shares an edge with a cell of a lone rectangle is in that rectangle

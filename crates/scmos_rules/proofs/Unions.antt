@@ -8,7 +8,7 @@ use Rattle.box_geom.specs.Regions.{SameCells}
 use Rattle.box_geom.specs.declared.shape.Shape.{Shape}
 use Rattle.box_geom.specs.declared.layer.Layer.{Layer}
 use Rattle.scmos_rules.specs.Layout.{On}
-use Rattle.run_lengths.specs.Cells.{AreCells, AreInner, IsInner}
+use Rattle.scmos_rules.specs.Cells.{AreCells, AreInner, IsInner}
 
 pub on_cells : (layer : Layer) (s : List Shape) (r : List Rectangle) → SameCells r (rects_on layer s) → AreCells (On layer s) r
 on_cells layer s r same = record { same = same }

@@ -6,7 +6,7 @@ use Rattle.std.proofs.lemmas.List.Elements.{All-contains}
 use Rattle.box_geom.specs.Rectangle.{Rectangle, Covers}
 use Rattle.box_geom.specs.Runs.{IsShort}
 use Rattle.box_geom.specs.Regions.{IsEmpty}
-use Rattle.run_lengths.specs.Lengths.{FailsWidth}
+use Rattle.scmos_rules.specs.Lengths.{FailsWidth}
 use Rattle.scmos_rules.specs.Conditions.{IsWide}
 
 -- a run holds the whole row of a rectangle that it meets

@@ -2,7 +2,7 @@
 use Rattle.std.specs.Prelude.{ℤ, ℕ, ◌⊎◌}
 use Rattle.box_geom.specs.Chains.{Chain, Linked}
 use Rattle.box_geom.specs.Near.{Near}
-use Rattle.run_lengths.specs.Lengths.{FailsOpen}
+use Rattle.scmos_rules.specs.Lengths.{FailsOpen}
 
 -- two cells of one class: chained by shared edges
 abbrev pub SameClass : (ℤ → ℤ → Type 0) → ℤ → ℤ → ℤ → ℤ → Type 0

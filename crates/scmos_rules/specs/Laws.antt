@@ -3,7 +3,7 @@ use Rattle.std.specs.Prelude.{ℕ, ℤ, List, Bool}
 use Rattle.std.specs.List.{All}
 use Rattle.box_geom.specs.Rectangle.{Rectangle, Covers}
 use Rattle.box_geom.specs.Regions.{IsEmpty}
-use Rattle.run_lengths.specs.Lengths.{FailsWidth, FailsSize}
+use Rattle.scmos_rules.specs.Lengths.{FailsWidth, FailsSize}
 use Rattle.scmos_rules.specs.Failing.{FailsSpacing, FailsSurround, FailsAway}
 use Rattle.scmos_rules.specs.Conditions.{IsWide, IsSquare, IsIn, AreSpaced, AreTouching, AreAlone, AreClear, Marked, IsBound}
 

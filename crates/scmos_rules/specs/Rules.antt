@@ -4,7 +4,7 @@ use Rattle.std.specs.List.{Contains}
 use Rattle.box_geom.specs.declared.shape.Shape.{Shape}
 use Rattle.box_geom.specs.declared.layer.Layer.TheVariants.{Well, Active, PSelect, NSelect, Poly, Contact, Metal1, Via, Metal2}
 use Rattle.box_geom.specs.Regions.{IsEmpty}
-use Rattle.run_lengths.specs.Lengths.{FailsWidth, FailsSize}
+use Rattle.scmos_rules.specs.Lengths.{FailsWidth, FailsSize}
 use Rattle.scmos_rules.specs.Failing.{FailsSpacing, FailsSurround, FailsAway, FailsPartly}
 use Rattle.scmos_rules.specs.Gates.{FailsPolyEnd, FailsActiveEnd, FailsFieldPoly}
 use Rattle.scmos_rules.specs.Layout.{On, Gate, PActive, NActive, PSelected, NSelected, WellTap, SubstrateTap, PolyContact, DiffusionContact, BareContact}

@@ -7,14 +7,14 @@ ghost use Rattle.scmos_rules.specs.Apart.{link_of, some_part, hits_of};
 ghost use Rattle.scmos_rules.specs.Failing.{FailsApart, FailsSpacing};
 ghost use Rattle.scmos_rules.specs.Layout.{On};
 ghost use Rattle.scmos_rules.specs.Near.{IsNumberedBlock, near_over};
-ghost use Rattle.run_lengths.specs.Cells.{AreCells};
+ghost use Rattle.scmos_rules.specs.Cells.{AreCells};
 
 use crate::parts::{NumberedBlock, near_behind, parts_of};
+use crate::runs::short_gaps;
 use crate::sets::on;
 use box_geom::{Block, Layer, Region, Shapes};
 use cell_num::NoMemory;
 use number_trees::{Link, classes};
-use run_lengths::short_gaps;
 use std::alloc::{AllocError, Global};
 
 fn add_links(

@@ -1,5 +1,5 @@
 ghost use Rattle.std.specs.Prelude.{◌≡◌, ◌≤◌, ◌++◌, length, option_to_list, IfOk, IfErr, OnOk};
-ghost use Rattle.run_lengths.specs.Cells.{AreCells};
+ghost use Rattle.scmos_rules.specs.Cells.{AreCells};
 ghost use Rattle.scmos_rules.specs.Rules.{Fails};
 ghost use Rattle.scmos_rules.specs.Violations.{IsVerdict, AreViolations, IsFaultOf};
 

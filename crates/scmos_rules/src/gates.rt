@@ -5,7 +5,7 @@ ghost use Rattle.box_geom.specs.Regions.{OnPlane, IsSmall};
 ghost use Rattle.scmos_rules.specs.Gates.{Ahead, FailsPolyEnd, FailsActiveEnd, FailsFieldPoly};
 ghost use Rattle.scmos_rules.specs.Outward.{shift_across, shift_upward, EndsEarly, StandsEarly, MeetsEarly, AreOneOf};
 ghost use Rattle.scmos_rules.specs.Layout.{Bare};
-ghost use Rattle.run_lengths.specs.Cells.{AreCells, AreInner};
+ghost use Rattle.scmos_rules.specs.Cells.{AreCells, AreInner};
 ghost use Rattle.scmos_rules.specs.Regions.{Lacks, way_of};
 
 use crate::sets::{diffusion, field_poly, gate, on};

@@ -12,6 +12,7 @@ mod nearby;
 pub mod number;
 mod parts;
 pub mod rules;
+mod runs;
 mod sets;
 pub mod violation;
 

@@ -3,7 +3,7 @@ ghost use Rattle.std.specs.Prelude.{◌≤◌, IfOk};
 ghost use Rattle.box_geom.specs.Rectangle.{Covers};
 ghost use Rattle.scmos_rules.specs.Failing.{FailsSurround, FailsAway, FailsPartly};
 ghost use Rattle.scmos_rules.specs.Layout.{On};
-ghost use Rattle.run_lengths.specs.Cells.{AreCells, AreInner};
+ghost use Rattle.scmos_rules.specs.Cells.{AreCells, AreInner};
 
 use crate::sets::on;
 use box_geom::{Layer, Region, Shapes};

@@ -1,7 +1,7 @@
 // The sets of cells of a layout that the rules speak of, as regions.
 ghost use Rattle.std.specs.Prelude.{IfOk};
 ghost use Rattle.scmos_rules.specs.Layout.{On, Gate, Diffusion, FieldPoly, InWell, OutOfWell, WellTap, SubstrateTap, PActive, NActive, PSelected, NSelected, PolyContact, DiffusionContact, BareContact};
-ghost use Rattle.run_lengths.specs.Cells.{AreCells, AreInner};
+ghost use Rattle.scmos_rules.specs.Cells.{AreCells, AreInner};
 ghost use Rattle.scmos_rules.specs.declared.rules.Deck.TheVariants.{Taps};
 
 use crate::rules::Deck;

@@ -5,7 +5,7 @@ use Rattle.std.proofs.lemmas.List.{append-nil, get_or-append-add, get_or-replica
 use Rattle.std.proofs.lemmas.List.Concat.{flat_map-cons}
 use Rattle.std.proofs.lemmas.List.Elements.{All-append, All-head, All-replicate, All-tail}
 use Rattle.cell_num.proofs.Pairs.{any_append_left}
-use Rattle.spice_words.proofs.Last.{next_taken}
+use Rattle.spice_net.proofs.Last.{next_taken}
 use Rattle.spice_net.specs.Nets.{device_of, with_copies, devices_of}
 use Rattle.spice_net.specs.Transistors.{Transistor}
 use Rattle.spice_net.specs.declared.subckt.Device.{Device}

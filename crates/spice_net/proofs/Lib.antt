@@ -1,4 +1,6 @@
 pub mod Copies
+pub mod Counts
+pub mod Last
 pub mod LineFacts
 pub mod NetFacts
 pub mod PinFacts

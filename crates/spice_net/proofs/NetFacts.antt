@@ -13,7 +13,7 @@ use Rattle.std.proofs.lemmas.Map.Views.{any-filter_same}
 use Rattle.std.proofs.lemmas.Slice.Eq.{bytes_eq-Decides}
 use Rattle.std.proofs.lemmas.Grind.{flat_map-append}
 use Rattle.std.proofs.lemmas.List.Sums.{fold-append}
-use Rattle.spice_words.proofs.Last.{next_taken}
+use Rattle.spice_net.proofs.Last.{next_taken}
 use Rattle.spice_net.specs.Transistors.{Transistor}
 use Rattle.spice_net.proofs.Places.{found, missing}
 use Rattle.spice_net.specs.Nets.{distinct, number_of, named_nets, nets_of}

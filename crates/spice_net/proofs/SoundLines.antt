@@ -17,7 +17,7 @@ use Rattle.spice_net.specs.Chosen.{first_is}
 use Rattle.spice_net.specs.Reader.{transistor_as}
 use Rattle.cell_num.specs.Steps.{require, ◌>>=◌}
 use Rattle.cell_num.proofs.Steps.{granted_step, granted_require, granted_option}
-use Rattle.spice_words.specs.Numbers.{unit_pm, units_of, whole_of, counted, count_of, least_width}
+use Rattle.spice_net.specs.Numbers.{unit_pm, units_of, whole_of, counted, count_of, least_width}
 use Rattle.spice_net.specs.Transistors.{Fields, fields_of, sizes_of, row_of, own_rail, other_rail, is_rail, rails_allowed, transistor_with, transistor_of, is_transistor, with_line, transistors_of}
 
 pub ok_is : (t u : Transistor) → ◌≡◌ {A = Result Transistor SpiceFault} (Ok t) (Ok u) → t ≡ u

@@ -20,8 +20,8 @@ use Rattle.spice_net.specs.Subcircuit.{pins_of, with_rail, with_rails, subckt_in
 use Rattle.spice_net.specs.Reader.{transistor_as}
 use Rattle.spice_net.specs.Subckts.{AreNames}
 use Rattle.spice_net.specs.declared.sizes.Sizes.{Sizes}
-use Rattle.spice_words.specs.Numbers.{least_width}
-use Rattle.spice_words.specs.Parameters.{is_parameter, value_of}
+use Rattle.spice_net.specs.Numbers.{least_width}
+use Rattle.spice_net.specs.Parameters.{is_parameter, value_of}
 use Rattle.spice_net.specs.Transistors.{Fields, Transistor, fields_of, is_transistor, own_rail, rails_allowed, row_of, sizes_of, transistor_of, transistor_with, transistors_of, with_line}
 use Rattle.spice_net.proofs.Sound.{accepted}
 use Rattle.spice_net.proofs.SoundLines.{ok_is, oks_are}

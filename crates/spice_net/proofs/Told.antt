@@ -18,8 +18,8 @@ use Rattle.spice_net.specs.declared.fault.What.TheVariants as what
 use Rattle.spice_net.specs.declared.fault.SpiceFault.{SpiceFault}
 use Rattle.spice_net.specs.declared.fault.SpiceFault.TheVariants as fault
 use Rattle.spice_net.specs.Chosen.{first_is, has_name, begins, ends, from_first, chosen_at, chosen_in, without_comments, of_text, lines_in}
-use Rattle.spice_words.specs.Numbers.{units_of, least_width}
-use Rattle.spice_words.specs.Parameters.{is_parameter, value_of}
+use Rattle.spice_net.specs.Numbers.{units_of, least_width}
+use Rattle.spice_net.specs.Parameters.{is_parameter, value_of}
 use Rattle.spice_net.specs.Transistors.{Fields, Transistor, fields_of, sizes_of, row_of, own_rail, rails_allowed, transistor_with, transistor_of, is_transistor, with_line, transistors_of}
 use Rattle.spice_net.specs.Nets.{distinct, nets_of, with_copies}
 use Rattle.spice_net.specs.Subcircuit.{pins_of, with_rails, idle_pin, none_idle, at_most, few_enough, subckt_of, subckt_in, subcircuit}

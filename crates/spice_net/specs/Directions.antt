@@ -3,9 +3,9 @@ use Rattle.std.specs.Prelude.{ℕ, ◌&&◌, ◌||◌, not, Bool, List, map, byt
 use Rattle.std.specs.List.{list_any}
 use Rattle.spice_text.specs.declared.logical.Line.{Line}
 use Rattle.tech_file.specs.Technology.{Technology}
-use Rattle.spice_words.specs.declared.direction.Direction.{Direction}
-use Rattle.spice_words.specs.declared.direction.Direction.TheVariants.{Input, Inout}
-use Rattle.spice_words.specs.Pairs.{told_of}
+use Rattle.spice_net.specs.declared.subckt.Direction.{Direction}
+use Rattle.spice_net.specs.declared.subckt.Direction.TheVariants.{Input, Inout}
+use Rattle.spice_net.specs.Pairs.{told_of}
 use Rattle.spice_net.specs.Transistors.{Transistor, is_rail}
 
 -- a net that is a gate, and no drain or source

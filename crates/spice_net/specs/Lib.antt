@@ -2,6 +2,9 @@
 pub mod Chosen
 pub mod Directions
 pub mod Nets
+pub mod Numbers
+pub mod Pairs
+pub mod Parameters
 pub mod Subcircuit
 pub mod Subckts
 pub mod Transistors

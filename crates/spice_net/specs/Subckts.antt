@@ -9,7 +9,7 @@ use Rattle.cell_num.specs.Pins.{IsRail}
 use Rattle.spice_net.specs.declared.subckt.Device.{Device}
 use Rattle.spice_net.specs.declared.subckt.Subckt.{Subckt}
 use Rattle.spice_net.specs.Subcircuit.{most_nets}
-use Rattle.spice_words.specs.Numbers.{least_units, most_units, most_counted}
+use Rattle.spice_net.specs.Numbers.{least_units, most_units, most_counted}
 
 -- the rail at no end of a row's transistors
 abbrev pub far_rail : Pins → Row → NetNo

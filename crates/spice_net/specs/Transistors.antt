@@ -6,8 +6,8 @@ use Rattle.cell_num.specs.declared.finger.Row.TheVariants.{P, N}
 use Rattle.cell_num.specs.Names.{is_name}
 use Rattle.spice_text.specs.declared.logical.Line.{Line}
 use Rattle.spice_text.specs.Numbers.{fixed_of}
-use Rattle.spice_words.specs.Numbers.{units_of, count_of, least_width}
-use Rattle.spice_words.specs.Parameters.{is_parameter, value_of}
+use Rattle.spice_net.specs.Numbers.{units_of, count_of, least_width}
+use Rattle.spice_net.specs.Parameters.{is_parameter, value_of}
 use Rattle.tech_file.specs.Technology.{Technology}
 use Rattle.spice_net.specs.declared.fault.SpiceFault.{SpiceFault}
 use Rattle.spice_net.specs.declared.fault.SpiceFault.TheVariants as fault

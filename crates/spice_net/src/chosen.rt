@@ -3,9 +3,9 @@ ghost use Rattle.std.specs.List.{list_any};
 ghost use Rattle.spice_net.specs.Chosen.{first_is, second_is, begins, ends, has_name, makes_global, is_global, from_first, chosen_in};
 
 use crate::fault::SpiceFault;
+use crate::pairs::behind_first;
 use cell_num::Name;
 use spice_text::Line;
-use spice_words::behind_first;
 
 /// The line that begins a subcircuit, and the lines between it and the `.ends` line.
 #[derive(Clone, Copy)]

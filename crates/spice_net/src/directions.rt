@@ -3,11 +3,11 @@ ghost use Rattle.std.specs.List.{list_any};
 ghost use Rattle.spice_net.specs.Directions.{shown_of, direction_of, directions_of};
 ghost use Rattle.spice_net.specs.Reader.{names_of};
 
-use crate::subckt::DirectionList;
+use crate::pairs::told_of;
+use crate::subckt::{Direction, DirectionList};
 use crate::transistor::{Transistor, is_rail};
 use cell_num::NoMemory;
 use spice_text::Line;
-use spice_words::{Direction, told_of};
 use std::alloc::Global;
 use tech_file::Tech;
 

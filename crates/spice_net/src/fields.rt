@@ -4,8 +4,8 @@ ghost use Rattle.cell_num.specs.Names.{is_name};
 ghost use Rattle.spice_net.specs.Transistors.{fields_of};
 
 use crate::fault::SpiceFault;
+use crate::parameters::{are_parameters, value_of, value_or_one};
 use cell_num::{Name, is_name};
-use spice_words::{are_parameters, value_of, value_or_one};
 use std::marker::Model;
 
 /// What the words of a transistor line say: its nets, its model, and the values that count for the

@@ -7,6 +7,9 @@ mod fault;
 mod fields;
 mod nets;
 mod numbering;
+mod numbers;
+mod pairs;
+mod parameters;
 mod pins;
 mod read;
 mod sizes;
@@ -15,5 +18,4 @@ mod transistor;
 
 pub use fault::{SpiceFault, What};
 pub use read::read_cell;
-pub use spice_words::Direction;
-pub use subckt::{Device, DeviceList, DirectionList, Subckt};
+pub use subckt::{Device, DeviceList, Direction, DirectionList, Subckt};

@@ -7,7 +7,7 @@ ghost use Rattle.spice_net.specs.declared.fault.What.TheVariants as what;
 ghost use Rattle.spice_net.specs.Directions.{directions_of as directions_in};
 ghost use Rattle.spice_net.specs.Nets.{distinct, nets_of};
 ghost use Rattle.spice_net.specs.Reader.{names_of};
-ghost use Rattle.spice_words.specs.Numbers.{most_counted};
+ghost use Rattle.spice_net.specs.Numbers.{most_counted};
 ghost use Rattle.spice_net.specs.Subcircuit.{at_most, few_enough, most_nets, numbered, subckt_with};
 
 use crate::directions::directions_of;

@@ -5,7 +5,7 @@ ghost use Rattle.spice_net.specs.declared.fault.SpiceFault.TheVariants as fault;
 ghost use Rattle.spice_net.specs.Chosen.{without_comments, lines_in};
 ghost use Rattle.spice_net.specs.Nets.{distinct};
 ghost use Rattle.spice_net.specs.Reader.{names_of, with_shown, in_front};
-ghost use Rattle.spice_words.specs.Numbers.{most_counted};
+ghost use Rattle.spice_net.specs.Numbers.{most_counted};
 ghost use Rattle.spice_net.specs.Transistors.{Transistor as TransistorOf, transistors_of};
 ghost use Rattle.spice_net.specs.Subcircuit.{subckt_of, subckt_in, subcircuit};
 ghost use Rattle.spice_net.specs.Subckts.{AreNames, IsSubckt};

@@ -1,5 +1,4 @@
 use cell_num::{List, Name, Names, NetNo, Pins, Row};
-use spice_words::Direction;
 
 /// The most pins of a subcircuit, rails that are added to them counted.
 pub const MOST_PINS: usize = 64;
@@ -22,6 +21,14 @@ pub struct Device {
 
 /// The transistors of a subcircuit.
 pub type DeviceList = List<Device>;
+
+/// The direction of a pin's signal, as a LEF pin has it.
+#[derive(Clone, Copy, Debug, PartialEq, Eq)]
+pub enum Direction {
+    Input,
+    Output,
+    Inout,
+}
 
 /// The direction of each pin.
 pub type DirectionList = List<Direction>;

@@ -4,7 +4,7 @@ use Rattle.box_geom.specs.Chains.{Chain, Linked}
 use Rattle.box_geom.specs.Regions.{IsEmpty}
 use Rattle.box_geom.specs.Runs.{IsRun, IsShort, IsOff, IsNotch}
 use Rattle.box_geom.specs.Touching.{Cell}
-use Rattle.run_lengths.specs.Lengths.{FailsWidth, FailsSize}
+use Rattle.scmos_rules.specs.Lengths.{FailsWidth, FailsSize}
 use Rattle.scmos_rules.specs.Failing.{FailsSpacing}
 use Rattle.net_extract.proofs.Bonds.{carried_steps}
 

@@ -13,12 +13,12 @@ use Rattle.scmos_rules.specs.declared.rules.Deck.TheVariants.{Taps}
 use Rattle.net_extract.specs.Bodies.{IsBody, IsBodyOf, ExtractsBodies}
 use Rattle.net_extract.specs.Extraction.{IsDrawn}
 use Rattle.net_extract.specs.Labels.{is_conductor, conductor_labels, IsHeld, AreHeld, IsNamed}
-use Rattle.net_name.specs.Naming.{label_of, name_or_number, name_of as name_held, names_of}
+use Rattle.net_extract.specs.Naming.{label_of, name_or_number, name_of as name_held, names_of}
 use Rattle.net_extract.specs.Nets.{layer_of, Site}
 use Rattle.net_extract.specs.declared.piece.Conductor.{Conductor}
 use Rattle.net_extract.specs.declared.piece.Conductor.TheVariants.{PDiffusion, NDiffusion, Poly, Metal1, Metal2}
 use Rattle.net_extract.specs.Numbering.{AreNets, IsInNet}
-use Rattle.net_name.specs.declared.naming.Held.{Held}
+use Rattle.net_extract.specs.declared.naming.Held.{Held}
 use Rattle.net_extract.specs.declared.netlist.BodyNetlist.{BodyNetlist}
 use Rattle.net_extract.specs.declared.netlist.Drawn.{Drawn}
 use Rattle.net_extract.proofs.Agreeing.{label_held}

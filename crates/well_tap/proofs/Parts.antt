@@ -7,7 +7,7 @@ use Rattle.box_geom.specs.declared.shape.Shape.{Shape}
 use Rattle.box_geom.specs.declared.layer.Layer.{Layer}
 use Rattle.box_geom.specs.declared.layer.Layer.TheVariants.{Active, Poly, Contact}
 use Rattle.scmos_rules.specs.Conditions.{IsWide, IsSquare}
-use Rattle.run_lengths.specs.Lengths.{FailsWidth, FailsSize}
+use Rattle.scmos_rules.specs.Lengths.{FailsWidth, FailsSize}
 use Rattle.scmos_rules.specs.Failing.{FailsSpacing}
 use Rattle.scmos_rules.specs.Gates.{FailsPolyEnd, FailsActiveEnd, FailsFieldPoly}
 use Rattle.scmos_rules.specs.Layout.{On}

@@ -6,7 +6,7 @@ use Rattle.box_geom.specs.Rectangle.{Covers}
 use Rattle.box_geom.specs.Regions.{IsEmpty}
 use Rattle.box_geom.specs.declared.layer.Layer.TheVariants.{Well}
 use Rattle.scmos_rules.specs.Conditions.{IsWide}
-use Rattle.run_lengths.specs.Lengths.{FailsWidth, FailsSize}
+use Rattle.scmos_rules.specs.Lengths.{FailsWidth, FailsSize}
 use Rattle.scmos_rules.specs.Failing.{FailsSpacing}
 use Rattle.scmos_rules.specs.Layout.{On}
 use Rattle.scmos_rules.specs.Rules.{Fails, Obeys}

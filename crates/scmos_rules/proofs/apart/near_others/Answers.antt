@@ -6,7 +6,7 @@ use Rattle.scmos_rules.specs.Apart.{link_of, hits_of}
 use Rattle.number_trees.specs.Links.{Separates}
 use Rattle.scmos_rules.specs.Failing.{FailsApart}
 use Rattle.scmos_rules.specs.Near.{IsNumberedBlock, numbered, near_over}
-use Rattle.run_lengths.specs.Cells.{AreCells}
+use Rattle.scmos_rules.specs.Cells.{AreCells}
 use Rattle.scmos_rules.proofs.Classing.{links_inside, hits_blocks, apart_is}
 use Rattle.scmos_rules.proofs.Nearing.{are_parts}
 use Rattle.scmos_rules.proofs.apart.near_others.Goals as goal

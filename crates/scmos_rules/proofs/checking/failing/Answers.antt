@@ -1,5 +1,5 @@
 use Rattle.std.proofs.Common.{IfOk, sym, subst}
-use Rattle.run_lengths.specs.Cells.{AreCells}
+use Rattle.scmos_rules.specs.Cells.{AreCells}
 use Rattle.scmos_rules.specs.Rules.{Fails}
 use Rattle.scmos_rules.proofs.checking.failing.Goals as goal
 

@@ -1,6 +1,6 @@
 use Rattle.std.proofs.Common.{◌≡◌, arith, subst}
 use Rattle.box_geom.specs.Rectangle.{Covers}
-use Rattle.run_lengths.specs.Cells.{AreCells}
+use Rattle.scmos_rules.specs.Cells.{AreCells}
 use Rattle.scmos_rules.specs.Regions.{Lacks, way_of}
 use Rattle.scmos_rules.proofs.Directions.{none_lacks, one_more_lacks}
 use Rattle.scmos_rules.proofs.gates.lacking.Goals as goal

@@ -1,5 +1,5 @@
 use Rattle.box_geom.specs.Rectangle.{Covers}
-use Rattle.run_lengths.specs.Cells.{AreCells}
+use Rattle.scmos_rules.specs.Cells.{AreCells}
 use Rattle.scmos_rules.specs.Regions.{Lacks, way_of}
 use Rattle.scmos_rules.proofs.gates.lacking.Given as goal
 

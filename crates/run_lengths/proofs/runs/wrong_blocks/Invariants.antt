@@ -1,7 +1,0 @@
-use Rattle.std.proofs.Common.{◌≡◌, take}
-use Rattle.std.specs.List.{filter}
-use Rattle.run_lengths.specs.Lengths.{is_wrong}
-use Rattle.run_lengths.proofs.runs.wrong_blocks.Given as goal
-
-abbrev pub invariant-loop-block : goal.invariant-loop-block
-invariant-loop-block l = l.out.items ≡ filter (is_wrong l.measure l.value) (take l.block-index l.blocks)
