@@ -29,7 +29,6 @@ pub mod OneBody
 pub mod Orders
 pub mod Pairing
 pub mod PolyClasses
-pub mod Ranges
 pub mod Ranking
 pub mod Siding
 pub mod Ties
