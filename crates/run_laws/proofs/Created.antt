@@ -1,5 +1,5 @@
 -- No file of an end has the name of another one, so none is created twice.
-use Rattle.std.proofs.Common.{ℕ, zero, suc, ◌≡◌, ◌≢◌, ◌⊎◌, Bool, true, false, List, [], ◌∷◌, ◌++◌, take, codes, map, string_bytes, Option, Some, None, Result, Ok, Err, inl, inr, refl, sym, ap, ◌∙◌, subst}
+use Rattle.std.proofs.Common.{ℕ, zero, suc, ◌≡◌, ◌≢◌, Bool, true, false, List, [], ◌∷◌, ◌++◌, take, codes, map, string_bytes, Option, Some, None, Result, Ok, Err, inl, inr, refl, sym, ap, ◌∙◌, subst}
 use Rattle.std.specs.Prelude.{All}
 use Rattle.std.proofs.lemmas.List.Elements.{All-cons, All-nil, All-take}
 use Rattle.cell_io.specs.Desk.{View, Both}
@@ -12,7 +12,7 @@ use Rattle.call_words.specs.Words.{Form}
 use Rattle.call_words.specs.declared.evidence.Evidence.{Evidence}
 use Rattle.call_words.specs.declared.evidence.Evidence.TheVariants.{Log, Trails}
 use Rattle.call_work.proofs.EachCommand.{files_by}
-use Rattle.call_work.proofs.EndsOf.{HasNoFiles, MakesCell}
+use Rattle.call_work.proofs.EndsOf.{HasNoFiles}
 use Rattle.call_work.specs.Commands.{Kind, Material, MaterialOf, WorksTo, Planning, Making, Checking, Extracting, Benching, Rowing, Agreeing, TrailPlanning, TrailMaking, TrailChecking}
 use Rattle.call_work.specs.Ends.{EndsTo}
 use Rattle.cell_inputs.specs.declared.style.Style.{Style}
@@ -49,7 +49,7 @@ distinct_three evidence out =
     let no_lef : out ++ codes ".lef" ≢ evidence_name evidence out = λ e. evidence_apart evidence out (codes ".lef") refl (sym e) in
     let from_evidence : All (λ (other : List ℕ). other ≢ evidence_name evidence out) ((out ++ codes ".gds") ∷ (out ++ codes ".lef") ∷ []) =
     All-cons (λ (other : List ℕ). other ≢ evidence_name evidence out) (out ++ codes ".gds") ((out ++ codes ".lef") ∷ []) no_gds
-        (All-cons (λ (other : List ℕ). other ≢ evidence_name evidence out) (out ++ codes ".lef") [] no_lef (All-nil (λ (other : List ℕ). other ≢ evidence_name evidence out))) in
+    (All-cons (λ (other : List ℕ). other ≢ evidence_name evidence out) (out ++ codes ".lef") [] no_lef (All-nil (λ (other : List ℕ). other ≢ evidence_name evidence out))) in
     let from_gds : All (λ (other : List ℕ). other ≢ out ++ codes ".gds") ((out ++ codes ".lef") ∷ []) =
     All-cons (λ (other : List ℕ). other ≢ out ++ codes ".gds") (out ++ codes ".lef") [] (λ e. gds_is_no_lef out (sym e)) (All-nil (λ (other : List ℕ). other ≢ out ++ codes ".gds")) in
     (from_evidence, (from_gds, distinct_one (out ++ codes ".lef")))

@@ -5,8 +5,8 @@ use Rattle.box_geom.specs.Rectangle.{Rectangle}
 use Rattle.box_geom.specs.declared.layer.Layer.TheVariants.{Well, PSelect, NSelect, Metal1}
 use Rattle.box_geom.specs.declared.shape.Shape.{Shape}
 use Rattle.row_compact.specs.Solution.{x_of}
-use Rattle.row_compact.specs.declared.measure.TheConstants.{SIDE_SPACE}
-use Rattle.cell_draw.specs.declared.measure.TheConstants.{ROW_EDGE, LEAST_ROW, LEAST_CHANNEL}
+use Rattle.row_compact.specs.Measures.{SIDE_SPACE}
+use Rattle.cell_draw.specs.Measures.{ROW_EDGE, LEAST_ROW, LEAST_CHANNEL}
 use Rattle.cell_draw.specs.declared.drawing.Drawing.{Drawing}
 use Rattle.cell_draw.specs.declared.layout.Frame.{Frame}
 use Rattle.cell_draw.specs.Framed.{BeginsWith}

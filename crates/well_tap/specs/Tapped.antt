@@ -6,7 +6,7 @@ use Rattle.box_geom.specs.declared.layer.Layer.{Layer}
 use Rattle.box_geom.specs.declared.layer.Layer.TheVariants.{Well, Active, PSelect, NSelect, Contact}
 use Rattle.box_geom.specs.declared.shape.Shape.{Shape}
 use Rattle.cell_draw.specs.declared.drawing.Drawing.{Drawing}
-use Rattle.cell_draw.specs.declared.measure.TheConstants.{HALF_CUT, HALF_PAD}
+use Rattle.cell_draw.specs.Measures.{HALF_CUT, HALF_PAD}
 use Rattle.cell_draw.specs.Shapes.{box, around}
 use Rattle.well_tap.specs.Measures.{HALF_SELECT, TAP_RISE, WELL_PAST_END}
 use Rattle.well_tap.specs.Base.{first_line, last_line}
