@@ -1,5 +1,5 @@
 -- The lines of an abstract, each read back before what stands behind it.
-use Rattle.std.proofs.Common.{ℕ, ℤ, ◌≡◌, ◌+◌, ◌≤◌, ◌==◌, ◌&&◌, int_lt, Bool, true, false, List, [], ◌∷◌, ◌++◌, Ok, codes, length, map, refl, sym, ap, subst, ◌∙◌}
+use Rattle.std.proofs.Common.{ℕ, ℤ, ◌≡◌, ◌+◌, ◌≤◌, ◌==◌, ◌&&◌, int_lt, Bool, true, false, List, [], ◌∷◌, ◌++◌, Ok, codes, map, refl, sym, ap, subst, ◌∙◌}
 use Rattle.std.specs.Prelude.{if◌then◌else◌}
 use Rattle.std.specs.List.{All}
 use Rattle.std.proofs.lemmas.List.{append_assoc}

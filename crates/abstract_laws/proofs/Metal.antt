@@ -1,14 +1,14 @@
 -- All metal of a drawing is in a port or an obstruction of its abstract.
-use Rattle.std.proofs.Common.{ℕ, ℤ, ◌≡◌, ◌+◌, ◌<◌, ◌==◌, ◌&&◌, not, Bool, true, cond, List, [], ◌∷◌, ◌++◌, Some, None, map, All, Contains, IsPermutation, refl, sym, ap, subst, ◌∙◌, inl, inr}
-use Rattle.std.specs.Prelude.{Option, filter_map, slice_get}
+use Rattle.std.proofs.Common.{ℕ, ◌≡◌, ◌&&◌, not, Bool, cond, List, ◌++◌, Some, None, map, All, Contains, refl, sym, ap, subst, ◌∙◌, inl, inr}
+use Rattle.std.specs.Prelude.{Option, slice_get}
 use Rattle.std.specs.List.{enumerate_from, filter, flat_map, range_with_len}
 use Rattle.std.proofs.lemmas.Bool.{and_parts, cases_Bool, eq-eqb}
 use Rattle.std.proofs.lemmas.List.Elements.{All-contains, Contains-append_cases, Contains-append_left, Contains-append_right}
 use Rattle.std.proofs.lemmas.List.Sorted.{Contains-permutation, IsPermutation-sym}
 use Rattle.cell_num.proofs.In.{Image, contains_flat, contains_map, in_map}
 use Rattle.cell_num.proofs.Lists.{Kept, all_two, contains_filter_map, kept_from, some_same}
-use Rattle.box_geom.specs.Layers.{layer_no, rects_on, same_layer}
-use Rattle.box_geom.specs.Rectangle.{Rectangle, Covers, Holds}
+use Rattle.box_geom.specs.Layers.{layer_no, same_layer}
+use Rattle.box_geom.specs.Rectangle.{Rectangle, Covers}
 use Rattle.box_geom.specs.declared.layer.Layer.{Layer}
 use Rattle.box_geom.specs.declared.layer.Layer.TheVariants.{Metal1, Metal2}
 use Rattle.box_geom.specs.declared.shape.Shape.{Shape}

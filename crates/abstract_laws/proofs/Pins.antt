@@ -5,7 +5,6 @@ use Rattle.std.proofs.lemmas.List.Elements.{All-contains}
 use Rattle.cell_num.proofs.In.{Image, Piece, in_flat, in_map}
 use Rattle.cell_num.proofs.Lists.{all_from_contains}
 use Rattle.cell_num.proofs.Pairs.{Some', some_from_any}
-use Rattle.box_geom.specs.Rectangle.{Holds}
 use Rattle.box_geom.specs.declared.layer.Layer.TheVariants.{Metal1}
 use Rattle.box_geom.specs.declared.shape.Label.{Label}
 use Rattle.box_geom.specs.declared.shape.Shape.{Shape}

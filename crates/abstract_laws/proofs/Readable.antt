@@ -1,5 +1,5 @@
 -- The abstract of a drawing in its frame can be read back.
-use Rattle.std.proofs.Common.{ℕ, suc, ℤ, pos, negsuc, neg_ℤ, ◌≡◌, ◌+◌, ◌*◌, ◌<◌, ◌≤◌, ◌≤ℤ◌, ◌<ℤ◌, unsigned_abs, IsTrue, List, [], ◌∷◌, ◌++◌, Some, length, get_or, slice_get, All, Contains, sym, ap, subst, arith}
+use Rattle.std.proofs.Common.{ℕ, ℤ, pos, negsuc, neg_ℤ, ◌≡◌, ◌+◌, ◌<◌, ◌≤◌, ◌≤ℤ◌, unsigned_abs, IsTrue, List, [], ◌∷◌, length, get_or, All, Contains, sym, ap, subst, arith}
 use Rattle.std.specs.Prelude.{unwrap_or}
 use Rattle.std.proofs.lemmas.Int.{ints}
 use Rattle.std.proofs.lemmas.List.Elements.{All-append, All-cons, All-contains, All-nil}
@@ -7,14 +7,12 @@ use Rattle.std.proofs.lemmas.Nat.{mul-le}
 use Rattle.std.proofs.lemmas.Option.{slice_get-get_or}
 use Rattle.cell_num.specs.Names.{is_cell, is_name}
 use Rattle.cell_num.proofs.Lists.{all_from_contains, all_imply, contains_get}
-use Rattle.box_geom.specs.Rectangle.{Rectangle, IsProper, IsRectangle}
-use Rattle.box_geom.specs.declared.layer.Layer.{Layer}
-use Rattle.box_geom.specs.declared.layer.Layer.TheVariants.{Well, Active, PSelect, NSelect, Poly, Contact, Metal1, Via, Metal2}
+use Rattle.box_geom.specs.Rectangle.{IsRectangle}
 use Rattle.box_geom.specs.declared.shape.Shape.{Shape}
 use Rattle.spice_net.specs.Subckts.{AreNames}
 use Rattle.spice_net.specs.declared.subckt.Subckt.{Subckt}
-use Rattle.cell_draw.specs.Bounds.{IsShapeWithin, IsWithin}
-use Rattle.cell_draw.specs.Framed.{IsInFrame, side_of, end_of}
+use Rattle.cell_draw.specs.Bounds.{IsShapeWithin}
+use Rattle.cell_draw.specs.Framed.{IsInFrame}
 use Rattle.cell_draw.specs.Shapes.{cell_height, frame_shapes, well, p_select, n_select, gnd_rail, vdd_rail}
 use Rattle.cell_draw.specs.declared.drawing.Drawing.{Drawing}
 use Rattle.cell_draw.specs.declared.layout.Frame.{Frame}

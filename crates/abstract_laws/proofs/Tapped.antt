@@ -2,17 +2,15 @@
 use Rattle.std.proofs.Common.{ℕ, ℤ, List, [], ◌∷◌, All, subst}
 use Rattle.std.proofs.lemmas.List.Elements.{All-head, All-tail}
 use Rattle.cell_num.proofs.Lists.{all_imply, all_two}
-use Rattle.box_geom.specs.Layers.{rects_on}
-use Rattle.box_geom.specs.Rectangle.{Rectangle, Covers, Holds}
+use Rattle.box_geom.specs.Rectangle.{Rectangle, Covers}
 use Rattle.box_geom.specs.declared.layer.Layer.{Layer}
 use Rattle.box_geom.specs.declared.layer.Layer.TheVariants.{Metal1, Metal2}
 use Rattle.scmos_rules.specs.declared.rules.Deck.TheVariants.{Plain}
 use Rattle.net_extract.specs.Labels.{IsNamed}
 use Rattle.net_extract.proofs.Wiring.{end_conducts}
 use Rattle.cell_draw.specs.declared.drawing.Drawing.{Drawing}
-use Rattle.lef_read.specs.declared.cell.LefPin.{LefPin}
 use Rattle.lef_read.specs.declared.cell.Macro.{Macro}
-use Rattle.lef_read.specs.Agreement.{Agrees, HasLabel, IsLabel, IsOnItsNet, IsOnNet, IsShown, Port, metals, ports_of, shown_on}
+use Rattle.lef_read.specs.Agreement.{Agrees, HasLabel, IsLabel, IsOnItsNet, IsOnNet, IsShown, metals, ports_of}
 use Rattle.well_tap.specs.Kept.{IsSameCircuit, KeepsMetal}
 
 label_kept : (base d : Drawing) (name : List ℕ) → IsSameCircuit base d → IsLabel base.shapes name → IsLabel d.shapes name

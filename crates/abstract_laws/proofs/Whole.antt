@@ -1,6 +1,5 @@
 -- The abstract of a drawn cell agrees with its drawing, without taps and with them.
-use Rattle.std.proofs.Common.{ℕ, ◌≡◌, ◌+◌, ◌≤◌, List, length, refl, arith}
-use Rattle.box_geom.specs.declared.shape.Shapes.{Shapes}
+use Rattle.std.proofs.Common.{ℕ, List, refl, arith}
 use Rattle.spice_net.specs.declared.subckt.Subckt.{Subckt}
 use Rattle.scmos_rules.specs.declared.rules.Deck.TheVariants.{Plain}
 use Rattle.net_extract.specs.Extraction.{AreFew}

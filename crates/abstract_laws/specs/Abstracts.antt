@@ -1,5 +1,5 @@
 -- When a text is an abstract of a drawing, and which drawings have the text of their ports as one.
-use Rattle.std.specs.Prelude.{ℕ, ◌≡◌, ◌+◌, ◌<◌, ◌≤◌, List, length, Ok}
+use Rattle.std.specs.Prelude.{ℕ, ◌≡◌, ◌<◌, ◌≤◌, List, length, Ok}
 use Rattle.std.specs.List.{All}
 use Rattle.cell_num.specs.declared.finger.Fingers.{Fingers}
 use Rattle.box_geom.specs.Layers.{AreWithinLimits}
@@ -15,7 +15,6 @@ use Rattle.cell_draw.specs.declared.frame.TheConstants.{MOST_Y}
 use Rattle.cell_draw.specs.declared.layout.Frame.{Frame}
 use Rattle.lef_read.specs.Agreement.{Agrees}
 use Rattle.lef_read.specs.Differences.{HasNetlist}
-use Rattle.abstract_laws.specs.Drawn.{IsReadable}
 use Rattle.lef_read.specs.Macros.{macro_in}
 use Rattle.lef_read.specs.declared.cell.Macro.{Macro}
 use Rattle.lef_write.specs.Drawn.{AreAllMetal, AreOfNet}
