@@ -6,8 +6,7 @@ use cell_num::{List, NoMemory};
 use std::alloc::{AllocError, Global};
 use trail_classes::{Class, NetPair};
 use trail_log::LemmaLine;
-use trail_state::Level;
-use trail_step::{Node, Place, TrailState};
+use trail_state::{Level, Node, Place, TrailState};
 
 /// From the state behind the first `done` gates on, at least `bound` more ends of trails come.
 #[derive(Debug, Drop)]

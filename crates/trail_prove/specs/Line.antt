@@ -1,8 +1,8 @@
 -- The line that lists a state.
 use Rattle.std.specs.Prelude.{ℕ, ◌/◌, ◌%◌, ◌==◌, ◌<◌, Bool, List, All, AllPairs, map}
 use Rattle.std.specs.List.{filter}
-use Rattle.trail_step.specs.declared.edge.Node.{Node}
-use Rattle.trail_step.specs.declared.state.Place.{Place}
+use Rattle.trail_state.specs.declared.edge.Node.{Node}
+use Rattle.trail_state.specs.declared.state.Place.{Place}
 use Rattle.trail_state.specs.declared.level.Level.{Level}
 use Rattle.trail_classes.specs.declared.class.Class.{Class}
 use Rattle.trail_classes.specs.declared.class.NetPair.{NetPair}

@@ -6,7 +6,7 @@ use cell_num::{List, NetNo, NoMemory};
 use std::alloc::{AllocError, Global};
 use trail_classes::{Class, ClassList, NetPair};
 use trail_log::LemmaLine;
-use trail_step::Place;
+use trail_state::Place;
 
 fn pair(place: &Place) -> NetPair
     ensures { result ≡ pair_at place.now }
