@@ -12,9 +12,9 @@ use Rattle.trail_state.specs.declared.edge.Node.{Node}
 use Rattle.trail_state.specs.declared.state.Place.{Place}
 use Rattle.trail_state.specs.declared.level.Level.{Level}
 use Rattle.trail_state.proofs.Members.{Passes, passes_from, passes_to}
-use Rattle.trail_classes.specs.declared.class.Class.{Class}
-use Rattle.trail_classes.specs.declared.class.NetPair.{NetPair}
-use Rattle.trail_classes.specs.Order.{class_rank, classes_in_order, first_rank, increases, node_rank}
+use Rattle.trail_log.specs.declared.class.Class.{Class}
+use Rattle.trail_log.specs.declared.class.NetPair.{NetPair}
+use Rattle.trail_log.specs.Order.{class_rank, classes_in_order, first_rank, increases, node_rank}
 use Rattle.trail_log.specs.declared.trails.LemmaLine.{LemmaLine}
 use Rattle.trail_log.specs.Fits.{ClassFits, LemmaFits, NodeFits}
 use Rattle.trail_check.specs.Listed.{nodes_of}

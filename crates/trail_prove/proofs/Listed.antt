@@ -12,8 +12,8 @@ use Rattle.trail_state.specs.declared.state.Place.{Place}
 use Rattle.trail_state.specs.Places.{place_of}
 use Rattle.trail_state.specs.declared.level.Level.{Level}
 use Rattle.trail_state.proofs.Members.{Found, Passes, found_from, passes_from, passes_to}
-use Rattle.trail_classes.specs.declared.class.Class.{Class}
-use Rattle.trail_classes.specs.declared.class.NetPair.{NetPair}
+use Rattle.trail_log.specs.declared.class.Class.{Class}
+use Rattle.trail_log.specs.declared.class.NetPair.{NetPair}
 use Rattle.trail_check.specs.Listed.{is_listed, lemma_listed, name_of, nodes_of, number_of, place_in, place_listed, state_listed}
 use Rattle.trail_prove.specs.Line.{class_at, is_name, is_odd, is_of, line_of, pair_at}
 use Rattle.trail_prove.specs.Search.{AreChained, IsStateOf, Names, lemma_of}

@@ -22,7 +22,7 @@ use Rattle.trail_state.specs.Levels.{IsGate, IsOrder}
 use Rattle.trail_state.proofs.Members.{Passes, passes_from, passes_to}
 use Rattle.trail_state.proofs.Opened.{range_below, range_has}
 use Rattle.trail_state.proofs.Sizes.{sum_keys}
-use Rattle.trail_classes.specs.Order.{increases, net_rank}
+use Rattle.trail_log.specs.Order.{increases, net_rank}
 use Rattle.trail_log.specs.Fits.{NetFits}
 use Rattle.trail_check.specs.Gates.{HasHalfColumns}
 use Rattle.trail_prove.specs.Order.{gates_of, has_finger}

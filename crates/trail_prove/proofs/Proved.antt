@@ -28,7 +28,7 @@ use Rattle.trail_state.specs.Nodes.{any_can_meet, can_meet, has_net, is_net_in, 
 use Rattle.trail_state.proofs.Opened.{in_net, net_below, range_below}
 use Rattle.bound_log.specs.declared.log.Best.{Best}
 use Rattle.bound_log.specs.Fits.{BestFits}
-use Rattle.trail_classes.specs.Order.{increases, net_rank}
+use Rattle.trail_log.specs.Order.{increases, net_rank}
 use Rattle.trail_log.specs.Fits.{LemmaFits, NetFits}
 use Rattle.trail_check.specs.declared.lemma.TrailLemma.{TrailLemma}
 use Rattle.trail_check.specs.Gates.{first_with_many, has_many_ways}

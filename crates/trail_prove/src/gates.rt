@@ -4,7 +4,7 @@ ghost use Rattle.trail_prove.specs.Order.{gates_of, has_finger};
 
 use cell_num::{Fingers, List, NetNo, NoMemory};
 use std::alloc::{AllocError, Global};
-use trail_classes::NetList;
+use trail_log::NetList;
 use trail_state::count_on;
 
 fn has_finger(fingers: &Fingers, gate: u32) -> bool

@@ -1,5 +1,5 @@
 ghost use Rattle.std.specs.Prelude.{◌≡◌, ◌≤◌};
-ghost use Rattle.trail_classes.specs.Listed.{net_in};
+ghost use Rattle.trail_log.specs.Listed.{net_in};
 
 use crate::listed::Listed;
 use crate::text::number_text;
@@ -15,9 +15,9 @@ pub(crate) fn net(word: &[u8], nets: u32) -> Option<NetNo>
 }
 
 impl Listed for NetNo {
-    ghost use Rattle.trail_classes.specs.Listed.{net_in};
-    ghost use Rattle.trail_classes.specs.Order.{net_rank};
-    ghost use Rattle.trail_classes.specs.Text.{net_text};
+    ghost use Rattle.trail_log.specs.Listed.{net_in};
+    ghost use Rattle.trail_log.specs.Order.{net_rank};
+    ghost use Rattle.trail_log.specs.Spelling.{net_text};
 
     ghost spelling = { net_text };
 

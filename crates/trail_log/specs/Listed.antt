@@ -3,9 +3,9 @@ use Rattle.std.specs.Prelude.{ℕ, Bool, true, false, List, [], ◌∷◌, Optio
 use Rattle.cell_num.specs.declared.net.NetNo.{NetNo}
 use Rattle.log_lines.specs.Words.{is_word, number_below, parts_at}
 use Rattle.bound_log.specs.Line.{◌>>=◌, provided}
-use Rattle.trail_classes.specs.declared.class.Class.{Class}
-use Rattle.trail_classes.specs.declared.class.NetPair.{NetPair}
-use Rattle.trail_classes.specs.Order.{classes_in_order, increases, node_rank}
+use Rattle.trail_log.specs.declared.class.Class.{Class}
+use Rattle.trail_log.specs.declared.class.NetPair.{NetPair}
+use Rattle.trail_log.specs.Order.{classes_in_order, increases, node_rank}
 
 -- all items, each of a word, where each word is one
 abbrev pub each_in : {A : Type 0} → (List ℕ → Option A) → List (List ℕ) → Option (List A)

@@ -2,8 +2,8 @@
 use Rattle.std.specs.Prelude.{ℕ, ◌+◌, ◌*◌, Bool, ◌&&◌, nat_lt, List, [], ◌∷◌, drop}
 use Rattle.std.specs.List.{list_all, zip}
 use Rattle.cell_num.specs.declared.net.NetNo.{NetNo}
-use Rattle.trail_classes.specs.declared.class.Class.{Class}
-use Rattle.trail_classes.specs.declared.class.NetPair.{NetPair}
+use Rattle.trail_log.specs.declared.class.Class.{Class}
+use Rattle.trail_log.specs.declared.class.NetPair.{NetPair}
 
 -- each before the next
 abbrev pub increases : {A : Type 0} → (A → ℕ) → List A → Bool

@@ -1,7 +1,7 @@
 use Rattle.std.proofs.Common.{◌≡◌, map, drop}
-use Rattle.trail_classes.specs.Listed.{each_in}
-use Rattle.trail_classes.proofs.Each.{with_items}
-use Rattle.trail_classes.proofs.listed.each_of.Given as goal
+use Rattle.trail_log.specs.Listed.{each_in}
+use Rattle.trail_log.proofs.Each.{with_items}
+use Rattle.trail_log.proofs.listed.each_of.Given as goal
 
 abbrev pub invariant-loop-word : goal.invariant-loop-word
 invariant-loop-word g l =

@@ -4,7 +4,7 @@ use Rattle.std.specs.Borrow.{Bor}
 use Rattle.std.proofs.Common.{refl, sym, ap, arith, ◌∙◌, get_or, drop-cons}
 use Rattle.std.proofs.lemmas.List.{append-nil, append_assoc, drop_all}
 use Rattle.bound_log.specs.Line.{◌>>=◌}
-use Rattle.trail_classes.specs.Listed.{each_in}
+use Rattle.trail_log.specs.Listed.{each_in}
 
 abbrev pub with_items : {A : Type 0} → List A → Option (List A) → Option (List A)
 with_items front None = None

@@ -1,6 +1,6 @@
 ghost use Rattle.std.specs.Prelude.{◌≡◌, ◌≤◌, ◌<◌, IfOk, map};
-ghost use Rattle.trail_classes.specs.Listed.{class_in, class_of, class_with, node_in, node_of};
-ghost use Rattle.trail_classes.specs.Text.{class_text, flag_text, node_text};
+ghost use Rattle.trail_log.specs.Listed.{class_in, class_of, class_with, node_in, node_of};
+ghost use Rattle.trail_log.specs.Spelling.{class_text, flag_text, node_text};
 
 use crate::listed::{Listed, each_text, read_each};
 use crate::nets::net;
@@ -30,9 +30,9 @@ fn wide(net: u32) -> u64
 }
 
 impl Listed for NetPair {
-    ghost use Rattle.trail_classes.specs.Listed.{node_in};
-    ghost use Rattle.trail_classes.specs.Order.{node_rank};
-    ghost use Rattle.trail_classes.specs.Text.{node_text};
+    ghost use Rattle.trail_log.specs.Listed.{node_in};
+    ghost use Rattle.trail_log.specs.Order.{node_rank};
+    ghost use Rattle.trail_log.specs.Spelling.{node_text};
 
     ghost spelling = { node_text };
 
@@ -85,9 +85,9 @@ fn flag(flagged: bool) -> &'static [u8]
 }
 
 impl Listed for Class {
-    ghost use Rattle.trail_classes.specs.Listed.{class_in};
-    ghost use Rattle.trail_classes.specs.Order.{class_rank};
-    ghost use Rattle.trail_classes.specs.Text.{class_text};
+    ghost use Rattle.trail_log.specs.Listed.{class_in};
+    ghost use Rattle.trail_log.specs.Order.{class_rank};
+    ghost use Rattle.trail_log.specs.Spelling.{class_text};
 
     ghost spelling = { class_text };
 

@@ -1,8 +1,8 @@
 ghost use Rattle.std.specs.Prelude.{◌≡◌, ◌≤◌, IfOk};
 ghost use Rattle.std.specs.List.{list_all};
-ghost use Rattle.trail_classes.specs.declared.class.Class.{Class as ClassOf};
-ghost use Rattle.trail_classes.specs.Listed.{classes_in, odd_in};
-ghost use Rattle.trail_classes.specs.Order.{classes_in_order, increases, node_rank};
+ghost use Rattle.trail_log.specs.declared.class.Class.{Class as ClassOf};
+ghost use Rattle.trail_log.specs.Listed.{classes_in, odd_in};
+ghost use Rattle.trail_log.specs.Order.{classes_in_order, increases, node_rank};
 
 use crate::listed::{increases, read_list};
 use crate::{Class, ClassList, NetPairs};
@@ -24,7 +24,7 @@ fn are_in_order(classes: &[Class]) -> bool
 }
 
 /// Pairs of nets, each before the next.
-pub fn read_odd(alloc: Global, nets: u32, word: &[u8]) -> Result<Option<NetPairs>, NoMemory>
+pub(crate) fn read_odd(alloc: Global, nets: u32, word: &[u8]) -> Result<Option<NetPairs>, NoMemory>
     requires { nets ≤ MOST_NETS }
     ensures { IfOk result (λ nodes. nodes ≡ odd_in nets word.now) }
 {
@@ -39,7 +39,11 @@ pub fn read_odd(alloc: Global, nets: u32, word: &[u8]) -> Result<Option<NetPairs
 }
 
 /// Classes that stand in order, the pairs of each one too.
-pub fn read_classes(alloc: Global, nets: u32, word: &[u8]) -> Result<Option<ClassList>, NoMemory>
+pub(crate) fn read_classes(
+    alloc: Global,
+    nets: u32,
+    word: &[u8],
+) -> Result<Option<ClassList>, NoMemory>
     requires { nets ≤ MOST_NETS }
     ensures { IfOk result (λ classes. classes ≡ classes_in nets word.now) }
 {

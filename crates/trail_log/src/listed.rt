@@ -1,8 +1,8 @@
 ghost use Rattle.std.specs.Prelude.{◌≡◌, ◌≤◌, ℕ, IfOk, List as Sequence, Option, map};
 ghost use Rattle.std.specs.List.{join_with_byte};
-ghost use Rattle.trail_classes.specs.Listed.{each_in, list_in};
-ghost use Rattle.trail_classes.specs.Order.{increases};
-ghost use Rattle.trail_classes.specs.Text.{list_text};
+ghost use Rattle.trail_log.specs.Listed.{each_in, list_in};
+ghost use Rattle.trail_log.specs.Order.{increases};
+ghost use Rattle.trail_log.specs.Spelling.{list_text};
 ghost use Rattle.log_lines.specs.Words.{parts_at};
 
 use crate::text::joined;
@@ -68,7 +68,7 @@ pub(crate) fn read_each<T: Listed>(
 }
 
 /// The items with commas between them; `-` for none.
-pub fn read_list<T: Listed>(
+pub(crate) fn read_list<T: Listed>(
     alloc: Global,
     nets: u32,
     text: &[u8],
@@ -103,7 +103,7 @@ pub(crate) fn each_text<T: Listed>(alloc: Global, byte: u8, items: &[T]) -> Resu
 }
 
 /// The items with commas between them; `-` for none.
-pub fn list_text<T: Listed>(alloc: Global, items: &[T]) -> Result<Bytes, NoMemory>
+pub(crate) fn list_text<T: Listed>(alloc: Global, items: &[T]) -> Result<Bytes, NoMemory>
     ensures { IfOk result (λ text. text ≡ list_text 44 (map T.spelling items.now)) }
 {
     if items.is_empty() {
@@ -114,7 +114,7 @@ pub fn list_text<T: Listed>(alloc: Global, items: &[T]) -> Result<Bytes, NoMemor
 }
 
 /// Whether each stands before the next.
-pub fn increases<T: Listed>(items: &[T]) -> bool
+pub(crate) fn increases<T: Listed>(items: &[T]) -> bool
     ensures { result ≡ increases T.place items.now }
 {
     let Some((_, rest)) = items.split_first() else {

@@ -2,8 +2,8 @@
 use Rattle.std.specs.Prelude.{ℕ, Bool, true, false, List, [], ◌∷◌, ◌++◌, map, codes, decimal}
 use Rattle.std.specs.List.{join_with_byte}
 use Rattle.cell_num.specs.declared.net.NetNo.{NetNo}
-use Rattle.trail_classes.specs.declared.class.Class.{Class}
-use Rattle.trail_classes.specs.declared.class.NetPair.{NetPair}
+use Rattle.trail_log.specs.declared.class.Class.{Class}
+use Rattle.trail_log.specs.declared.class.NetPair.{NetPair}
 
 -- items with a byte between each two; `-` for none
 abbrev pub list_text : ℕ → List (List ℕ) → List ℕ

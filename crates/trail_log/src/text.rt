@@ -6,7 +6,7 @@ use itoa::Buffer;
 use std::alloc::Global;
 
 /// The decimal of a number.
-pub fn number_text(alloc: Global, number: u32) -> Result<Bytes, NoMemory>
+pub(crate) fn number_text(alloc: Global, number: u32) -> Result<Bytes, NoMemory>
     ensures { IfOk result (λ text. text ≡ decimal number) }
 {
     let mut text = Bytes::new(alloc);
