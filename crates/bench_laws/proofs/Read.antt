@@ -19,14 +19,14 @@ use Rattle.finger_fold.specs.declared.folding.FoldFault.{FoldFault}
 use Rattle.finger_fold.specs.Folding.{folded}
 use Rattle.cell_bench.specs.Cells.{stages_of}
 use Rattle.cell_bench.specs.Text.{bench_text, cell_name}
-use Rattle.bench_read.specs.Read.{IsRead, most_cell_columns}
-use Rattle.bench_read.proofs.Cells.{cell_length, cell_words, ended, inside_words, lines_begin, none_ends, other_begins, words_of_cells}
-use Rattle.bench_read.proofs.Choice.{begin_words, chosen_lines, no_comments}
-use Rattle.bench_read.proofs.Lines.{is_text_line, lines_read, placed}
-use Rattle.bench_read.proofs.Names.{name_same}
-use Rattle.bench_read.proofs.Pairs.{are_pairs, paired_gates, single_gates}
-use Rattle.bench_read.proofs.Tests.{begin_line, chain_folded, few_columns, folds, read_chain}
-use Rattle.bench_read.proofs.Texts.{bench_fed, cell_lines}
+use Rattle.bench_laws.specs.Read.{IsRead, most_cell_columns}
+use Rattle.bench_laws.proofs.Cells.{cell_length, cell_words, ended, inside_words, lines_begin, none_ends, other_begins, words_of_cells}
+use Rattle.bench_laws.proofs.Choice.{begin_words, chosen_lines, no_comments}
+use Rattle.bench_laws.proofs.Lines.{is_text_line, lines_read, placed}
+use Rattle.bench_laws.proofs.Names.{name_same}
+use Rattle.bench_laws.proofs.Pairs.{are_pairs, paired_gates, single_gates}
+use Rattle.bench_laws.proofs.Tests.{begin_line, chain_folded, few_columns, folds, read_chain}
+use Rattle.bench_laws.proofs.Texts.{bench_fed, cell_lines}
 
 -- ---- the cells numbered below
 

@@ -23,11 +23,11 @@ use Rattle.cell_bench.specs.declared.stage.Stage.{Stage}
 use Rattle.cell_bench.specs.declared.transistor.Transistor.{Transistor}
 use Rattle.cell_bench.specs.Cells.{second_inputs, transistors_of}
 use Rattle.cell_bench.specs.Text.{word_text}
-use Rattle.bench_read.specs.Read.{most_cell_columns}
-use Rattle.bench_read.proofs.Chains.{all_chains, one_chain}
-use Rattle.bench_read.proofs.Head.{ends_dark, no_equals, parts_of}
-use Rattle.bench_read.proofs.Pairs.{are_pairs}
-use Rattle.bench_read.proofs.Lines.{is_kept, is_text_line, placed}
+use Rattle.bench_laws.specs.Read.{most_cell_columns}
+use Rattle.bench_laws.proofs.Chains.{all_chains, one_chain}
+use Rattle.bench_laws.proofs.Head.{ends_dark, no_equals, parts_of}
+use Rattle.bench_laws.proofs.Pairs.{are_pairs}
+use Rattle.bench_laws.proofs.Lines.{is_kept, is_text_line, placed}
 
 -- what stands behind the space behind a cell's name
 abbrev pub pins_text : List Stage → List ℕ

@@ -5,7 +5,7 @@ use Rattle.std.proofs.Common.{refl, ap, arith, ◌∙◌}
 use Rattle.std.proofs.lemmas.Bool.{and_parts, lt-ltb, not-true}
 use Rattle.spice_text.specs.declared.logical.Line.{Line}
 use Rattle.spice_net.specs.Chosen.{begins, chosen_at, chosen_in, ends, first_is, from_first, second_is, without_comments}
-use Rattle.bench_read.proofs.Lines.{placed}
+use Rattle.bench_laws.proofs.Lines.{placed}
 
 -- the words of a line that begins the subcircuit of this name
 abbrev pub begin_words : List ℕ → List (List ℕ) → Bool

@@ -9,10 +9,10 @@ use Rattle.std.proofs.lemmas.List.Elements.{All-cons, All-nil}
 use Rattle.std.proofs.lemmas.Slice.Eq.{bytes_eq-Decides}
 use Rattle.cell_num.specs.Names.{lowered, is_cell, is_cell_byte}
 use Rattle.cell_bench.specs.Text.{cell_name}
-use Rattle.bench_read.specs.Read.{IsCellName}
-use Rattle.bench_read.proofs.Digits.{digits_pass}
-use Rattle.bench_read.proofs.Head.{is_dark, no_equals}
-use Rattle.bench_read.proofs.Lines.{is_kept}
+use Rattle.bench_laws.specs.Read.{IsCellName}
+use Rattle.bench_laws.proofs.Digits.{digits_pass}
+use Rattle.bench_laws.proofs.Head.{is_dark, no_equals}
+use Rattle.bench_laws.proofs.Lines.{is_kept}
 
 pub name_kept : (cell : ℕ) → list_all is_kept (cell_name cell) ≡ true
 name_kept cell = digits_pass is_kept refl cell

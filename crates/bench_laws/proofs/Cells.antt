@@ -11,12 +11,12 @@ use Rattle.spice_net.specs.Chosen.{first_is, second_is}
 use Rattle.cell_bench.specs.declared.stage.Stage.{Stage}
 use Rattle.cell_bench.specs.Cells.{stage_at, stage_count, stages_of}
 use Rattle.cell_bench.specs.Text.{cell_name}
-use Rattle.bench_read.proofs.Choice.{begin_words, end_words}
-use Rattle.bench_read.proofs.Head.{ends_dark, head_words, no_equals}
-use Rattle.bench_read.proofs.Lines.{is_kept, is_text_line}
-use Rattle.bench_read.proofs.Names.{name_dark, name_free, name_kept, name_low, names_differ}
-use Rattle.bench_read.proofs.Tests.{IsCellLength, begin_line, inside_lines, lines_passed, no_border, pins_passed, pins_text}
-use Rattle.bench_read.proofs.Texts.{cell_lines, end_line, head_line}
+use Rattle.bench_laws.proofs.Choice.{begin_words, end_words}
+use Rattle.bench_laws.proofs.Head.{ends_dark, head_words, no_equals}
+use Rattle.bench_laws.proofs.Lines.{is_kept, is_text_line}
+use Rattle.bench_laws.proofs.Names.{name_dark, name_free, name_kept, name_low, names_differ}
+use Rattle.bench_laws.proofs.Tests.{IsCellLength, begin_line, inside_lines, lines_passed, no_border, pins_passed, pins_text}
+use Rattle.bench_laws.proofs.Texts.{cell_lines, end_line, head_line}
 
 pub cell_length : (cell : ℕ) → IsCellLength (length (stages_of cell))
 cell_length cell =

@@ -20,8 +20,8 @@ use Rattle.row_state.proofs.Numbers.{gate_code}
 use Rattle.row_state.proofs.Unfold.{columns_same, gate_perm}
 use Rattle.row_state.proofs.Valid.{some_fingers}
 use Rattle.cell_num.proofs.Lists.{all_imply}
-use Rattle.search_laws.specs.Paired.{ArePaired}
-use Rattle.search_laws.proofs.Counts.{AreSingle, HaveFingers, counts_same}
+use Rattle.bench_laws.specs.Paired.{ArePaired}
+use Rattle.bench_laws.proofs.Counts.{AreSingle, HaveFingers, counts_same}
 
 abbrev pub all_p : Kinds → List Finger
 all_p k = (left_in k (start_of k)).p

@@ -14,10 +14,10 @@ use Rattle.log_check.proofs.Sound.{sound}
 use Rattle.row_search.specs.Ended.{AreDistinct, IsSpent}
 use Rattle.row_search.proofs.Few.{few_numbers}
 use Rattle.row_search.proofs.Least.{states_of}
-use Rattle.search_laws.specs.Paired.{ArePaired, IsBound, nodes_enough}
-use Rattle.search_laws.proofs.Coded.{code_of}
-use Rattle.search_laws.proofs.Codes.{IsCode, code_below, same_code}
-use Rattle.search_laws.proofs.Pairs.{HasPairs, has_pairs}
+use Rattle.bench_laws.specs.Paired.{ArePaired, IsBound, nodes_enough}
+use Rattle.bench_laws.proofs.Coded.{code_of}
+use Rattle.bench_laws.proofs.Codes.{IsCode, code_below, same_code}
+use Rattle.bench_laws.proofs.Kinds.{HasPairs, has_pairs}
 
 -- a lemma with its number
 record Coded (k : Kinds) : Type 0 where

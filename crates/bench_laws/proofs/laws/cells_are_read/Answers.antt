@@ -1,6 +1,6 @@
-use Rattle.bench_read.proofs.Names.{name_fits, name_is_cell}
-use Rattle.bench_read.proofs.Whole.{cell_is_read}
-use Rattle.bench_read.proofs.laws.cells_are_read.Goals as goal
+use Rattle.bench_laws.proofs.Names.{name_fits, name_is_cell}
+use Rattle.bench_laws.proofs.Read.{cell_is_read}
+use Rattle.bench_laws.proofs.laws.cells_are_read.Goals as goal
 
 pub returns-clause-read : goal.returns-clause-read
 returns-clause-read c = cell_is_read

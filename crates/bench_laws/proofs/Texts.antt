@@ -10,8 +10,8 @@ use Rattle.cell_bench.specs.declared.stage.Stage.{Stage}
 use Rattle.cell_bench.specs.declared.transistor.Transistor.{Transistor}
 use Rattle.cell_bench.specs.Cells.{stages_of, transistors_of}
 use Rattle.cell_bench.specs.Text.{bench_text, cell_name, cell_text, chain_text, head_text, model_text, transistor_text, word_text}
-use Rattle.bench_read.proofs.Lines.{fed}
-use Rattle.bench_read.proofs.Tests.{inside_lines, model_line, pins_text, transistor_line}
+use Rattle.bench_laws.proofs.Lines.{fed}
+use Rattle.bench_laws.proofs.Tests.{inside_lines, model_line, pins_text, transistor_line}
 
 abbrev pub head_line : ℕ → List Stage → List ℕ
 head_line cell stages = codes ".SUBCKT " ++ cell_name cell ++ 32 ∷ pins_text stages

@@ -10,7 +10,7 @@ use Rattle.row_state.specs.declared.kind.Kind.{Kind}
 use Rattle.row_state.specs.Decoded.{Within}
 use Rattle.row_state.specs.Start.{counts_of}
 use Rattle.row_state.specs.Tests.{gate_left, left_of_kind}
-use Rattle.search_laws.proofs.Bits.{AreBits}
+use Rattle.bench_laws.proofs.Bits.{AreBits}
 
 -- at most one finger on a gate
 abbrev pub AreSingle : List Kind → Type 0
