@@ -1,5 +1,5 @@
-// The text of certificates of least gaps by trails: lists of nets, pairs of nets and classes of such pairs, and lemmas on
-// states, gate by gate.
+// The text of certificates of least gaps by trails: lists of nets, pairs of nets and classes of such pairs, and lemmas
+// on states, gate by gate.
 #![tactic(auto)]
 
 mod class;

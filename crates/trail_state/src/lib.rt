@@ -1,5 +1,5 @@
-// Trails through the columns of a row: the edges that fingers of a gate can be, the choices of each gate of an order, the
-// nodes that later gates can meet, what a choice leaves open, and the ends that no row escapes.
+// Trails through the columns of a row: the edges that fingers of a gate can be, the choices of each gate of an order,
+// the nodes that later gates can meet, what a choice leaves open, and the ends that no row escapes.
 #![tactic(auto)]
 
 pub mod edge;
