@@ -3,8 +3,8 @@ use Rattle.std.proofs.Common.{ℕ, ◌≤◌, List, refl, ap, subst, arith}
 use Rattle.tech_file.specs.Technology.{Technology}
 use Rattle.row_state.specs.Component.{component_value}
 use Rattle.row_state.specs.ComponentLaw.{component_holds}
-use Rattle.search_laws.specs.Paired.{ArePaired}
-use Rattle.search_laws.proofs.Whole.{never_spent}
+use Rattle.bench_laws.specs.Paired.{ArePaired}
+use Rattle.bench_laws.proofs.Searched.{never_spent}
 use Rattle.cell_inputs.specs.Inputs.{Inputs}
 use Rattle.cell_inputs.specs.Style.{plain_style}
 use Rattle.cell_make.specs.Making.{MakeAnswer, Made, Cyclic, Tall, Unfinished, Makes}

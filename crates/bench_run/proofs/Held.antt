@@ -9,9 +9,9 @@ use Rattle.finger_fold.specs.Folding.{folded}
 use Rattle.cell_num.specs.declared.finger.Fingers.{Fingers}
 use Rattle.cell_num.specs.Names.{is_cell}
 use Rattle.cell_bench.specs.Text.{cell_name}
-use Rattle.bench_read.specs.Read.{IsRead}
-use Rattle.bench_read.proofs.Names.{name_is_cell as bench_name}
-use Rattle.bench_read.proofs.Whole.{cell_is_read}
+use Rattle.bench_laws.specs.Read.{IsRead}
+use Rattle.bench_laws.proofs.Names.{name_is_cell as bench_name}
+use Rattle.bench_laws.proofs.Read.{cell_is_read}
 use Rattle.cell_inputs.specs.Inputs.{Inputs}
 use Rattle.bench_tally.specs.Bench.{AreInputsOf, HoldsCell}
 

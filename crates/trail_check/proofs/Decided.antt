@@ -14,7 +14,7 @@ use Rattle.cell_num.specs.Fingers.{on_gate}
 use Rattle.cell_num.proofs.Lists.{all_from_contains}
 use Rattle.cell_num.proofs.Pairs.{Some', count_there, none_counted, pairs_head, pairs_none, pairs_tail, test_finds, test_there}
 use Rattle.trail_log.specs.declared.trails.Trails.{Trails}
-use Rattle.trail_state.specs.Grouped.{is_on}
+use Rattle.trail_state.specs.Choices.{is_on}
 use Rattle.trail_state.specs.Levels.{IsGate, IsOrder}
 use Rattle.trail_check.specs.Gates.{AreGates, HasHalfColumns}
 use Rattle.trail_check.specs.Tests.{are_filled, are_once, are_ordered, gates_test, has_gate, is_filled, is_gate, is_order}

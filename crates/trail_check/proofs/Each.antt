@@ -3,9 +3,9 @@ use Rattle.std.specs.Prelude.{ℕ, suc, ◌≡◌, ◌+◌, ◌-◌, ◌<◌, �
 use Rattle.std.specs.List.{list_all}
 use Rattle.std.proofs.Common.{refl, sym, ap, arith, ◌∙◌, get_or, drop-cons}
 use Rattle.std.proofs.lemmas.List.{drop_all}
-use Rattle.trail_step.specs.declared.edge.Edge.{Edge}
-use Rattle.trail_step.specs.declared.state.Place.{Place}
-use Rattle.trail_step.specs.Settling.{ends_after, state_after}
+use Rattle.trail_state.specs.declared.edge.Edge.{Edge}
+use Rattle.trail_state.specs.declared.state.Place.{Place}
+use Rattle.trail_state.specs.Settling.{ends_after, state_after}
 use Rattle.trail_state.specs.declared.level.Level.{Level}
 use Rattle.trail_check.specs.declared.lemma.TrailLemma.{TrailLemma}
 use Rattle.trail_check.specs.Justified.{choice_reaches, is_known}

@@ -9,7 +9,7 @@ use Rattle.std.proofs.lemmas.List.Elements.{Contains-append_left, Contains-push}
 use Rattle.std.proofs.lemmas.Option.{get_or_from_slice_get, slice_get-get_or, slice_get_within}
 use Rattle.cell_num.proofs.Lists.{contains_get}
 use Rattle.cell_num.proofs.Pairs.{Some', test_finds, test_there}
-use Rattle.trail_step.specs.declared.state.Place.{Place}
+use Rattle.trail_state.specs.declared.state.Place.{Place}
 use Rattle.trail_check.specs.declared.lemma.TrailLemma.{TrailLemma}
 use Rattle.trail_check.specs.declared.index.LemmaIndex.{LemmaIndex}
 use Rattle.trail_check.specs.Indexed.{IsIndexOf, noted_at, says_at, state_number}

@@ -5,7 +5,7 @@ use Rattle.cell_num.specs.declared.finger.Fingers.{Fingers}
 use Rattle.cell_num.specs.Fingers.{AreFingers}
 use Rattle.row_model.specs.Gaps.{gaps_of}
 use Rattle.trail_state.specs.declared.level.Level.{Level}
-use Rattle.trail_state.specs.Law.{levels_law}
+use Rattle.trail_state.proofs.Law.{levels_law}
 use Rattle.trail_state.specs.Levels.{AreLevels, Ends}
 use Rattle.trail_log.specs.declared.trails.Trails.{Trails}
 use Rattle.trail_check.specs.declared.refusal.TrailRefusal.{TrailRefusal}

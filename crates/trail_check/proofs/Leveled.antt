@@ -8,7 +8,7 @@ use Rattle.std.proofs.lemmas.List.FromFn.{length-range_with_len}
 use Rattle.std.proofs.lemmas.List.Sums.{count_by-le-length, length-filter}
 use Rattle.cell_num.specs.declared.net.NetNo.{NetNo}
 use Rattle.cell_num.specs.declared.finger.Fingers.{Fingers}
-use Rattle.trail_step.specs.Places.{node_at}
+use Rattle.trail_state.specs.Places.{node_at}
 use Rattle.trail_state.specs.declared.level.Level.{Level}
 use Rattle.trail_state.specs.Levels.{AreLevels}
 use Rattle.trail_state.specs.Nodes.{any_can_meet, open_nodes}

@@ -1,7 +1,7 @@
 -- Lemmas that are looked up by numbers of their states.
 use Rattle.std.specs.Prelude.{ℕ, ◌≡◌, ◌+◌, ◌*◌, ◌%◌, ◌^◌, Bool, false, List, [], Some, Contains, cond, fold, nat_eq, option_map, slice_get, unwrap_or}
 use Rattle.std.specs.HashMap.{get}
-use Rattle.trail_step.specs.declared.state.Place.{Place}
+use Rattle.trail_state.specs.declared.state.Place.{Place}
 use Rattle.trail_check.specs.declared.lemma.TrailLemma.{TrailLemma}
 use Rattle.trail_check.specs.declared.index.LemmaIndex.{LemmaIndex}
 use Rattle.trail_check.specs.Justified.{says}

@@ -3,9 +3,9 @@ use Rattle.std.specs.Prelude.{ℕ, ◌+◌, ◌-◌, ◌/◌, ◌==◌, ◌&&◌
 use Rattle.std.proofs.Math.Bool.{beq}
 use Rattle.std.specs.Cmp.Lexicographic.{pointwise}
 use Rattle.std.specs.List.{list_all, list_any}
-use Rattle.trail_step.specs.declared.edge.Edge.{Edge}
-use Rattle.trail_step.specs.declared.state.Place.{Place}
-use Rattle.trail_step.specs.Settling.{ends_after, state_after}
+use Rattle.trail_state.specs.declared.edge.Edge.{Edge}
+use Rattle.trail_state.specs.declared.state.Place.{Place}
+use Rattle.trail_state.specs.Settling.{ends_after, state_after}
 use Rattle.trail_state.specs.declared.level.Level.{Level}
 use Rattle.trail_check.specs.declared.lemma.TrailLemma.{TrailLemma}
 

@@ -1,11 +1,11 @@
 ghost use Rattle.std.specs.Prelude.{◌≡◌, ◌↔◌, IsTrue};
 ghost use Rattle.std.specs.List.{list_all};
-ghost use Rattle.cell_num.specs.Fingers.{on_gate};
 ghost use Rattle.trail_check.specs.Gates.{AreGates};
 ghost use Rattle.trail_check.specs.Tests.{are_filled, are_once, are_ordered, gates_test, has_gate, is_filled, is_gate, is_order};
 
 use cell_num::{Finger, Fingers, NetNo};
 use trail_log::Trails;
+use trail_state::count_on;
 
 fn has_gate(gates: &[NetNo], gate: u32) -> bool
     ensures { result ≡ has_gate gates.now gate }
@@ -20,15 +20,6 @@ fn are_once(gates: &[NetNo]) -> bool
         [gate, later @ ..] => !has_gate(later, gate.0) && are_once(later),
         [] => true,
     }
-}
-
-pub(crate) fn count_on(fingers: &[Finger], gate: u32) -> usize
-    ensures { result ≡ on_gate gate fingers.now }
-{
-    fingers
-        .iter()
-        .filter(|finger| finger.gate.0 == gate)
-        .count()
 }
 
 fn is_gate(fingers: &Fingers, gate: &NetNo) -> bool

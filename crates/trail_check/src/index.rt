@@ -10,7 +10,7 @@ use crate::known::is_said;
 use cell_num::NoMemory;
 use std::alloc::Global;
 use std::collections::HashMap;
-use trail_step::{Place, TrailState};
+use trail_state::{Place, TrailState};
 
 /// Where the lemmas of a list stand, by numbers of their states.
 #[derive(Drop)]

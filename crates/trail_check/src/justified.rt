@@ -12,8 +12,7 @@ use crate::{LemmaIndex, TrailLemma, TrailRefusal, ends_proved, lemma_listed};
 use cell_num::{List, MOST_BYTES, NoMemory};
 use std::alloc::Global;
 use trail_log::LemmaLine;
-use trail_state::Level;
-use trail_step::{Choice, after};
+use trail_state::{Choice, Level, after};
 
 fn reaches(
     alloc: Global,

@@ -2,7 +2,7 @@ ghost use Rattle.std.specs.Prelude.{◌≡◌, fold};
 ghost use Rattle.trail_check.specs.Justified.{better, ends_proved, is_start, same_state, says};
 
 use crate::TrailLemma;
-use trail_step::Place;
+use trail_state::Place;
 
 /// Whether two states have the same places in the same order.
 pub fn is_same_state(a: &[Place], b: &[Place]) -> bool

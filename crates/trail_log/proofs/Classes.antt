@@ -10,10 +10,10 @@ use Rattle.log_lines.proofs.Decimals.{above_decimal}
 use Rattle.log_lines.proofs.Parts.{some_part}
 use Rattle.log_lines.proofs.Splits.{IsAbove, Lacks, above_lacks, above_more, joined_lacks, split_joined}
 use Rattle.bound_log.proofs.Spelled.{bound, cons_same, mapped}
-use Rattle.trail_classes.specs.declared.class.Class.{Class}
-use Rattle.trail_classes.specs.declared.class.NetPair.{NetPair}
-use Rattle.trail_classes.specs.Listed.{class_in, class_of, class_with, each_in, list_in, net_in, node_in, node_of}
-use Rattle.trail_classes.specs.Text.{class_text, flag_text, list_text, node_text}
+use Rattle.trail_log.specs.declared.class.Class.{Class}
+use Rattle.trail_log.specs.declared.class.NetPair.{NetPair}
+use Rattle.trail_log.specs.Listed.{class_in, class_of, class_with, each_in, list_in, net_in, node_in, node_of}
+use Rattle.trail_log.specs.Spelling.{class_text, flag_text, list_text, node_text}
 use Rattle.trail_log.specs.Fits.{ClassFits, NodeFits}
 use Rattle.trail_log.proofs.Items.{ReadsAgain, ReadsOnly, Spares, all_of, decimal_lacks, each_again, each_only, joined_above, joined_parts, list_again, list_only, net_again, net_only}
 

@@ -12,8 +12,8 @@ use Rattle.log_lines.proofs.Numbers.{chosen, found_below, is_below, is_other, sa
 use Rattle.log_lines.proofs.Parts.{some_part}
 use Rattle.log_lines.proofs.Splits.{IsAbove, Lacks, above_lacks, above_more, joined_lacks, split_joined}
 use Rattle.bound_log.proofs.Spelled.{bound, cons_same, mapped}
-use Rattle.trail_classes.specs.Listed.{each_in, list_in, net_in}
-use Rattle.trail_classes.specs.Text.{list_text, net_text}
+use Rattle.trail_log.specs.Listed.{each_in, list_in, net_in}
+use Rattle.trail_log.specs.Spelling.{list_text, net_text}
 use Rattle.trail_log.specs.Fits.{NetFits}
 
 -- a word that is read is how the item is written, and the item is good

@@ -1,7 +1,9 @@
 pub mod Classes
+pub mod Each
 pub mod Fronts
 pub mod Heads
 pub mod Items
+pub mod Joins
 pub mod Only
 pub mod Whole
 pub mod Words

@@ -21,8 +21,8 @@ use Rattle.bound_log.specs.Reading.{columns_at, end_at}
 use Rattle.bound_log.specs.Text.{best_text, column_line}
 use Rattle.bound_log.proofs.Only.{column_spelled, err-ok, line_of_words, same_Ok, text_cons}
 use Rattle.bound_log.proofs.Spelled.{column_joined, column_words}
-use Rattle.trail_classes.specs.Order.{increases, net_rank}
-use Rattle.trail_classes.specs.Text.{nets_text}
+use Rattle.trail_log.specs.Order.{increases, net_rank}
+use Rattle.trail_log.specs.Spelling.{nets_text}
 use Rattle.trail_log.specs.declared.trails.LemmaLine.{LemmaLine}
 use Rattle.trail_log.specs.declared.trails.TrailEntry.{TrailEntry}
 use Rattle.trail_log.specs.declared.trails.TrailEntry.TheVariants as entry

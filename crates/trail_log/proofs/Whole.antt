@@ -23,7 +23,7 @@ use Rattle.bound_log.proofs.Again.{by_test, column_above, column_again, words_ag
 use Rattle.bound_log.proofs.Only.{err-ok}
 use Rattle.bound_log.proofs.Spelled.{column_words}
 use Rattle.bound_log.proofs.Whole.{columns_front, fed_first, gaps_above, gaps_front}
-use Rattle.trail_classes.specs.Text.{nets_text}
+use Rattle.trail_log.specs.Spelling.{nets_text}
 use Rattle.trail_log.specs.declared.trails.LemmaLine.{LemmaLine}
 use Rattle.trail_log.specs.declared.trails.TrailEntry.{TrailEntry}
 use Rattle.trail_log.specs.declared.trails.TrailEntry.TheVariants as entry

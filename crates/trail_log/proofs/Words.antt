@@ -14,11 +14,11 @@ use Rattle.log_lines.proofs.Splits.{IsAbove, above_more, fed}
 use Rattle.bound_log.specs.Line.{gaps_in}
 use Rattle.bound_log.proofs.Again.{by_test}
 use Rattle.bound_log.proofs.Spelled.{bound, cons_same, is_provided, mapped}
-use Rattle.trail_classes.specs.declared.class.Class.{Class}
-use Rattle.trail_classes.specs.declared.class.NetPair.{NetPair}
-use Rattle.trail_classes.specs.Listed.{class_in, classes_in, list_in, node_in, odd_in}
-use Rattle.trail_classes.specs.Order.{classes_in_order, increases, net_rank, node_rank}
-use Rattle.trail_classes.specs.Text.{class_text, classes_text, net_text, nets_text, node_text, nodes_text}
+use Rattle.trail_log.specs.declared.class.Class.{Class}
+use Rattle.trail_log.specs.declared.class.NetPair.{NetPair}
+use Rattle.trail_log.specs.Listed.{class_in, classes_in, list_in, node_in, odd_in}
+use Rattle.trail_log.specs.Order.{classes_in_order, increases, net_rank, node_rank}
+use Rattle.trail_log.specs.Spelling.{class_text, classes_text, net_text, nets_text, node_text, nodes_text}
 use Rattle.trail_log.specs.declared.trails.LemmaLine.{LemmaLine}
 use Rattle.trail_log.specs.declared.trails.TrailEntry.{TrailEntry}
 use Rattle.trail_log.specs.declared.trails.TrailEntry.TheVariants as entry

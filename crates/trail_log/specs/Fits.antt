@@ -3,9 +3,9 @@ use Rattle.std.specs.Prelude.{ℕ, ◌≤◌, ◌<◌, length, All, IfSome, IsTr
 use Rattle.cell_num.specs.declared.net.NetNo.{NetNo}
 use Rattle.row_state.specs.declared.kind.Kinds.{Kinds}
 use Rattle.bound_log.specs.Fits.{BestFits}
-use Rattle.trail_classes.specs.declared.class.Class.{Class}
-use Rattle.trail_classes.specs.declared.class.NetPair.{NetPair}
-use Rattle.trail_classes.specs.Order.{classes_in_order, increases, net_rank, node_rank}
+use Rattle.trail_log.specs.declared.class.Class.{Class}
+use Rattle.trail_log.specs.declared.class.NetPair.{NetPair}
+use Rattle.trail_log.specs.Order.{classes_in_order, increases, net_rank, node_rank}
 use Rattle.trail_log.specs.declared.trails.LemmaLine.{LemmaLine}
 use Rattle.trail_log.specs.declared.trails.Trails.{Trails}
 

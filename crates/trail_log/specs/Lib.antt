@@ -1,5 +1,8 @@
 -- What contracts of public calls cite, and what these definitions stand on.
 pub mod Fits
 pub mod Line
+pub mod Listed
+pub mod Order
 pub mod Reading
+pub mod Spelling
 pub mod Text

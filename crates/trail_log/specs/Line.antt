@@ -3,8 +3,8 @@ use Rattle.std.specs.Prelude.{ℕ, ◌==◌, leb, List, [], ◌∷◌, Option, S
 use Rattle.cell_num.specs.declared.net.NetNo.{NetNo}
 use Rattle.log_lines.specs.Words.{is_word, number_below}
 use Rattle.bound_log.specs.Line.{◌>>=◌, gaps_in, provided}
-use Rattle.trail_classes.specs.Listed.{classes_in, list_in, net_in, odd_in}
-use Rattle.trail_classes.specs.Order.{increases, net_rank}
+use Rattle.trail_log.specs.Listed.{classes_in, list_in, net_in, odd_in}
+use Rattle.trail_log.specs.Order.{increases, net_rank}
 use Rattle.trail_log.specs.declared.trails.LemmaLine.{LemmaLine}
 use Rattle.trail_log.specs.declared.trails.TrailEntry.{TrailEntry}
 use Rattle.trail_log.specs.declared.trails.TrailEntry.TheVariants as entry

@@ -2,7 +2,7 @@
 use Rattle.std.specs.Prelude.{ℕ, List, ◌++◌, flat_map, codes, decimal}
 use Rattle.cell_num.specs.declared.net.NetNo.{NetNo}
 use Rattle.bound_log.specs.Text.{best_text, last_line}
-use Rattle.trail_classes.specs.Text.{classes_text, nets_text, nodes_text}
+use Rattle.trail_log.specs.Spelling.{classes_text, nets_text, nodes_text}
 use Rattle.trail_log.specs.declared.trails.LemmaLine.{LemmaLine}
 use Rattle.trail_log.specs.declared.trails.Trails.{Trails}
 

@@ -3,12 +3,13 @@ ghost use Rattle.log_lines.specs.Words.{words_in};
 ghost use Rattle.bound_log.specs.Line.{gaps_in};
 ghost use Rattle.trail_log.specs.Line.{entry_in, fill_in, lemma_in, nets_behind, order_in};
 
-use crate::{LemmaLine, MOST_ENDS, TrailEntry};
+use crate::listed::{increases, read_list};
+use crate::ordered::{read_classes, read_odd};
+use crate::{LemmaLine, MOST_ENDS, NetList, TrailEntry};
 use bound_log::MOST_GAPS;
 use cell_num::{MOST_COLUMNS, MOST_NETS, NoMemory};
 use log_lines::{all_parts, is_word, number_below};
 use std::alloc::Global;
-use trail_classes::{NetList, increases, read_classes, read_list, read_odd};
 
 fn lemma(alloc: Global, nets: u32, words: &[&[u8]]) -> Result<Option<LemmaLine>, NoMemory>
     requires { nets ≤ MOST_NETS }

@@ -8,13 +8,12 @@ ghost use Rattle.trail_log.specs.Reading.{fill_at, lemmas_at, named_at, order_at
 ghost use Rattle.trail_log.specs.Text.{trails_text};
 
 use crate::line::{read_entry, read_fill, read_order};
-use crate::{LemmaLines, TrailEntry, Trails};
+use crate::{LemmaLines, NetList, TrailEntry, Trails};
 use bound_log::{Best, LogFault, read_columns, read_end};
 use cell_num::{MOST_BYTES, Name};
 use log_lines::{first_line, is_named, is_word};
 use row_state::Kinds;
 use std::alloc::Global;
-use trail_classes::NetList;
 
 // The lemmas behind the order, and behind them the row that they certify, or `open`.
 #[tactic(auto, using(crate::proofs::Fronts::lemmas_cut, crate::proofs::Fronts::lemmas_wrong, crate::proofs::Fronts::lemmas_more, crate::proofs::Fronts::lemmas_listed, crate::proofs::Fronts::lemmas_unlisted, crate::proofs::Fronts::lemmas_ended, crate::proofs::Fronts::lemmas_unended))]

@@ -1,6 +1,6 @@
+use crate::{ClassList, NetList, NetPairs};
 use bound_log::Best;
 use cell_num::List;
-use trail_classes::{ClassList, NetList, NetPairs};
 
 /// The greatest bound that the text of a certificate can hold: two ends for each of 32 columns.
 pub const MOST_ENDS: u32 = 64;

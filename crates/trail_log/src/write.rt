@@ -4,16 +4,17 @@ ghost use Rattle.row_state.specs.declared.kind.Kinds.{Kinds as KindsOf};
 ghost use Rattle.row_state.specs.Start.{AreSomeKinds};
 ghost use Rattle.bound_log.specs.Fits.{BestFits, ForSome, IsLogName, StepFits};
 ghost use Rattle.bound_log.specs.Text.{best_text, column_line};
-ghost use Rattle.trail_classes.specs.Text.{list_text, nets_text};
+ghost use Rattle.trail_log.specs.Spelling.{list_text, nets_text};
 ghost use Rattle.trail_log.specs.Fits.{TrailsFit};
 ghost use Rattle.trail_log.specs.Reading.{trails_of};
 ghost use Rattle.trail_log.specs.Text.{fill_line, head_lines, lemma_line, order_line, trails_text};
 
-use crate::{LemmaLine, Trails};
+use crate::listed::list_text;
+use crate::text::number_text;
+use crate::{LemmaLine, NetList, Trails};
 use bound_log::{Best, LineWriter, LogStep};
 use cell_num::{Bytes, Name, NoMemory};
 use std::alloc::Global;
-use trail_classes::{NetList, list_text, number_text};
 
 fn put_head(out: &mut Bytes, name: &Name) -> Result<(), NoMemory>
     ensures { OnOk result (out.new ≡ out.old ++ head_lines name.now) }

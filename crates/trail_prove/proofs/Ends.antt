@@ -7,9 +7,9 @@ use Rattle.std.proofs.lemmas.List.Sums.{fold-append}
 use Rattle.std.proofs.lemmas.Option.{none-some, same_Some}
 use Rattle.cell_num.specs.declared.finger.Fingers.{Fingers}
 use Rattle.cell_num.specs.declared.net.NetNo.{NetNo}
-use Rattle.trail_step.specs.declared.edge.Edge.{Edge}
-use Rattle.trail_step.specs.declared.state.Place.{Place}
-use Rattle.trail_step.specs.Settling.{ends_after, state_after}
+use Rattle.trail_state.specs.declared.edge.Edge.{Edge}
+use Rattle.trail_state.specs.declared.state.Place.{Place}
+use Rattle.trail_state.specs.Settling.{ends_after, state_after}
 use Rattle.trail_state.specs.declared.level.Level.{Level}
 use Rattle.trail_state.specs.Levels.{Ends, IsOrder}
 use Rattle.trail_check.specs.declared.lemma.TrailLemma.{TrailLemma}

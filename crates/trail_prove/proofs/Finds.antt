@@ -5,7 +5,7 @@ use Rattle.std.proofs.lemmas.Bool.{both_ways, cases_Bool}
 use Rattle.std.proofs.lemmas.List.Elements.{All-contains}
 use Rattle.cell_num.proofs.Lists.{contains_cons, contains_here, contains_none, contains_there, some_same}
 use Rattle.cell_num.proofs.Pairs.{pairs_head, pairs_tail}
-use Rattle.trail_state.specs.Members.{Passes}
+use Rattle.trail_state.proofs.Members.{Passes}
 
 find_on : {X : Type 0} (p : X → Bool) (y : X) (ys : List X) → p y ≡ true → find p (y ∷ ys) ≡ Some y
 find_on p y ys e = rw e refl

@@ -7,10 +7,10 @@ use Rattle.std.proofs.lemmas.List.{map-append, take_all}
 use Rattle.std.proofs.lemmas.Bool.{and_from, cases_Bool, eq-eqb, or_left, or_right}
 use Rattle.std.proofs.lemmas.List.Elements.{All-head, All-more, All-push, All-tail, All-weaker}
 use Rattle.std.proofs.lemmas.List.Folds.{list_any-append}
-use Rattle.trail_step.specs.declared.edge.Edge.{Edge}
-use Rattle.trail_step.specs.declared.edge.Node.{Node}
-use Rattle.trail_step.specs.declared.state.Place.{Place}
-use Rattle.trail_step.specs.Settling.{ends_after, state_after}
+use Rattle.trail_state.specs.declared.edge.Edge.{Edge}
+use Rattle.trail_state.specs.declared.edge.Node.{Node}
+use Rattle.trail_state.specs.declared.state.Place.{Place}
+use Rattle.trail_state.specs.Settling.{ends_after, state_after}
 use Rattle.trail_state.specs.declared.level.Level.{Level}
 use Rattle.trail_log.specs.declared.trails.LemmaLine.{LemmaLine}
 use Rattle.trail_log.specs.Fits.{LemmaFits}

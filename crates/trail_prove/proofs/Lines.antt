@@ -8,13 +8,13 @@ use Rattle.std.proofs.lemmas.List.Kept.{AllPairs-filter}
 use Rattle.cell_num.proofs.In.{Image, contains_map, in_map}
 use Rattle.cell_num.proofs.Lists.{all_from_contains, contains_cons, contains_here, contains_none, contains_there}
 use Rattle.cell_num.proofs.Pairs.{pairs_head, pairs_map, pairs_none, pairs_tail}
-use Rattle.trail_step.specs.declared.edge.Node.{Node}
-use Rattle.trail_step.specs.declared.state.Place.{Place}
+use Rattle.trail_state.specs.declared.edge.Node.{Node}
+use Rattle.trail_state.specs.declared.state.Place.{Place}
 use Rattle.trail_state.specs.declared.level.Level.{Level}
-use Rattle.trail_state.specs.Members.{Passes, passes_from, passes_to}
-use Rattle.trail_classes.specs.declared.class.Class.{Class}
-use Rattle.trail_classes.specs.declared.class.NetPair.{NetPair}
-use Rattle.trail_classes.specs.Order.{class_rank, classes_in_order, first_rank, increases, node_rank}
+use Rattle.trail_state.proofs.Members.{Passes, passes_from, passes_to}
+use Rattle.trail_log.specs.declared.class.Class.{Class}
+use Rattle.trail_log.specs.declared.class.NetPair.{NetPair}
+use Rattle.trail_log.specs.Order.{class_rank, classes_in_order, first_rank, increases, node_rank}
 use Rattle.trail_log.specs.declared.trails.LemmaLine.{LemmaLine}
 use Rattle.trail_log.specs.Fits.{ClassFits, LemmaFits, NodeFits}
 use Rattle.trail_check.specs.Listed.{nodes_of}

@@ -7,13 +7,13 @@ use Rattle.std.proofs.lemmas.List.Elements.{All-contains}
 use Rattle.cell_num.proofs.In.{Image, contains_map, in_map}
 use Rattle.cell_num.proofs.Lists.{contains_cons, contains_here, contains_none, contains_there}
 use Rattle.cell_num.proofs.Pairs.{Some', pairs_head, pairs_tail, test_finds, test_there}
-use Rattle.trail_step.specs.declared.edge.Node.{Node}
-use Rattle.trail_step.specs.declared.state.Place.{Place}
-use Rattle.trail_step.specs.Places.{place_of}
+use Rattle.trail_state.specs.declared.edge.Node.{Node}
+use Rattle.trail_state.specs.declared.state.Place.{Place}
+use Rattle.trail_state.specs.Places.{place_of}
 use Rattle.trail_state.specs.declared.level.Level.{Level}
-use Rattle.trail_state.specs.Members.{Found, Passes, found_from, passes_from, passes_to}
-use Rattle.trail_classes.specs.declared.class.Class.{Class}
-use Rattle.trail_classes.specs.declared.class.NetPair.{NetPair}
+use Rattle.trail_state.proofs.Members.{Found, Passes, found_from, passes_from, passes_to}
+use Rattle.trail_log.specs.declared.class.Class.{Class}
+use Rattle.trail_log.specs.declared.class.NetPair.{NetPair}
 use Rattle.trail_check.specs.Listed.{is_listed, lemma_listed, name_of, nodes_of, number_of, place_in, place_listed, state_listed}
 use Rattle.trail_prove.specs.Line.{class_at, is_name, is_odd, is_of, line_of, pair_at}
 use Rattle.trail_prove.specs.Search.{AreChained, IsStateOf, Names, lemma_of}

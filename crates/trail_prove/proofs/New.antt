@@ -6,7 +6,7 @@ use Rattle.std.proofs.lemmas.List.Elements.{All-nil, All-push}
 use Rattle.std.proofs.lemmas.List.Folds.{list_any-append}
 use Rattle.cell_num.proofs.Lists.{all_from_contains, all_one}
 use Rattle.cell_num.proofs.Pairs.{pairs_append, pairs_none, pairs_one, test_fails}
-use Rattle.trail_step.specs.declared.state.Place.{Place}
+use Rattle.trail_state.specs.declared.state.Place.{Place}
 use Rattle.trail_state.specs.declared.level.Level.{Level}
 use Rattle.trail_check.specs.declared.lemma.TrailLemma.{TrailLemma}
 use Rattle.trail_check.specs.Justified.{is_known, same_state, says}

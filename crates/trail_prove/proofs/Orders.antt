@@ -19,10 +19,10 @@ use Rattle.cell_num.specs.declared.finger.Fingers.{Fingers}
 use Rattle.cell_num.specs.Fingers.{AreFingers, IsFinger, on_gate}
 use Rattle.row_state.specs.ClassSums.{sum_below_mono}
 use Rattle.trail_state.specs.Levels.{IsGate, IsOrder}
-use Rattle.trail_state.specs.Members.{Passes, passes_from, passes_to}
-use Rattle.trail_state.specs.Opened.{range_below, range_has}
-use Rattle.trail_state.specs.Sizes.{sum_keys}
-use Rattle.trail_classes.specs.Order.{increases, net_rank}
+use Rattle.trail_state.proofs.Members.{Passes, passes_from, passes_to}
+use Rattle.trail_state.proofs.Opened.{range_below, range_has}
+use Rattle.trail_state.proofs.Sizes.{sum_keys}
+use Rattle.trail_log.specs.Order.{increases, net_rank}
 use Rattle.trail_log.specs.Fits.{NetFits}
 use Rattle.trail_check.specs.Gates.{HasHalfColumns}
 use Rattle.trail_prove.specs.Order.{gates_of, has_finger}

@@ -18,17 +18,17 @@ use Rattle.cell_num.specs.Fingers.{AreFingers, IsFinger, on_gate}
 use Rattle.row_model.specs.declared.column.Column.{Column}
 use Rattle.row_model.specs.Arrangement.{IsArrangement}
 use Rattle.row_model.specs.Gaps.{gaps_of}
-use Rattle.trail_step.specs.declared.edge.Node.{Node}
-use Rattle.trail_step.specs.Places.{node_at}
+use Rattle.trail_state.specs.declared.edge.Node.{Node}
+use Rattle.trail_state.specs.Places.{node_at}
 use Rattle.trail_state.specs.declared.level.Level.{Level}
-use Rattle.trail_state.specs.Law.{levels_law}
+use Rattle.trail_state.proofs.Law.{levels_law}
 use Rattle.trail_state.specs.Levels.{AreLevels, Ends, IsOrder}
-use Rattle.trail_state.specs.Members.{Passes, passes_from}
+use Rattle.trail_state.proofs.Members.{Passes, passes_from}
 use Rattle.trail_state.specs.Nodes.{any_can_meet, can_meet, has_net, is_net_in, is_net_on, may_have, open_nodes}
-use Rattle.trail_state.specs.Opened.{in_net, net_below, range_below}
+use Rattle.trail_state.proofs.Opened.{in_net, net_below, range_below}
 use Rattle.bound_log.specs.declared.log.Best.{Best}
 use Rattle.bound_log.specs.Fits.{BestFits}
-use Rattle.trail_classes.specs.Order.{increases, net_rank}
+use Rattle.trail_log.specs.Order.{increases, net_rank}
 use Rattle.trail_log.specs.Fits.{LemmaFits, NetFits}
 use Rattle.trail_check.specs.declared.lemma.TrailLemma.{TrailLemma}
 use Rattle.trail_check.specs.Gates.{first_with_many, has_many_ways}

@@ -6,12 +6,12 @@ use Rattle.std.proofs.lemmas.List.Kept.{AllPairs-filter}
 use Rattle.cell_num.proofs.In.{contains_map}
 use Rattle.cell_num.proofs.Lists.{Kept, all_from_contains, contains_none, kept_from, some_same}
 use Rattle.cell_num.proofs.Pairs.{Some', pairs_map, pairs_none, test_finds}
-use Rattle.trail_step.specs.declared.edge.Edge.{Edge}
-use Rattle.trail_step.specs.declared.edge.Node.{Node}
-use Rattle.trail_step.specs.declared.state.Place.{Place}
-use Rattle.trail_step.specs.Places.{is_joined, is_met, joined_place, met_place, met_places, new_place, node_at, or_met, place_of, place_or_new, with_edge, with_edges}
-use Rattle.trail_step.specs.Settling.{closing_of, has_odd, is_open, kept_of, left_place, state_after, state_settled}
-use Rattle.trail_state.specs.Members.{At, Found, Passes, at_found, found_from, mapped, pairs_kept, passes_from}
+use Rattle.trail_state.specs.declared.edge.Edge.{Edge}
+use Rattle.trail_state.specs.declared.edge.Node.{Node}
+use Rattle.trail_state.specs.declared.state.Place.{Place}
+use Rattle.trail_state.specs.Places.{is_joined, is_met, joined_place, met_place, met_places, new_place, node_at, or_met, place_of, place_or_new, with_edge, with_edges}
+use Rattle.trail_state.specs.Settling.{closing_of, has_odd, is_open, kept_of, left_place, state_after, state_settled}
+use Rattle.trail_state.proofs.Members.{At, Found, Passes, at_found, found_from, mapped, pairs_kept, passes_from}
 use Rattle.trail_prove.specs.Search.{IsStateOf, Names}
 use Rattle.trail_prove.proofs.Finds.{first_least, found_is, one_numbered}
 

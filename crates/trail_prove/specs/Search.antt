@@ -1,7 +1,7 @@
 -- What a search keeps, how it goes on, and the nodes that it spends.
 use Rattle.std.specs.Prelude.{ℕ, ◌≡◌, ◌≤◌, ◌<◌, ◌+◌, ◌++◌, ◌⊎◌, false, List, [], Some, None, All, AllPairs, Contains, length, slice_get}
-use Rattle.trail_step.specs.declared.edge.Node.{Node}
-use Rattle.trail_step.specs.declared.state.Place.{Place}
+use Rattle.trail_state.specs.declared.edge.Node.{Node}
+use Rattle.trail_state.specs.declared.state.Place.{Place}
 use Rattle.trail_state.specs.declared.level.Level.{Level}
 use Rattle.trail_check.specs.declared.lemma.TrailLemma.{TrailLemma}
 use Rattle.trail_check.specs.Indexed.{IsIndexOf}

@@ -1,20 +1,11 @@
 ghost use Rattle.std.specs.Prelude.{◌≡◌, IfOk};
-ghost use Rattle.cell_num.specs.Fingers.{on_gate};
 ghost use Rattle.trail_prove.specs.Proof.{is_uneven, uneven_gates};
 ghost use Rattle.trail_prove.specs.Order.{gates_of, has_finger};
 
-use cell_num::{Finger, Fingers, List, NetNo, NoMemory};
+use cell_num::{Fingers, List, NetNo, NoMemory};
 use std::alloc::{AllocError, Global};
-use trail_classes::NetList;
-
-fn count_on(fingers: &[Finger], gate: u32) -> usize
-    ensures { result ≡ on_gate gate fingers.now }
-{
-    fingers
-        .iter()
-        .filter(|finger| finger.gate.0 == gate)
-        .count()
-}
+use trail_log::NetList;
+use trail_state::count_on;
 
 fn has_finger(fingers: &Fingers, gate: u32) -> bool
     ensures { result ≡ has_finger fingers.now gate }

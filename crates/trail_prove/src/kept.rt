@@ -9,8 +9,7 @@ use cell_num::{List, NoMemory};
 use std::alloc::Global;
 use trail_check::{LemmaIndex, TrailLemma, ends_proved, lemma_listed};
 use trail_log::LemmaLines;
-use trail_state::Level;
-use trail_step::TrailState;
+use trail_state::{Level, TrailState};
 
 /// The lemmas that a search has kept, where they stand, and the lines that list them.
 #[derive(Drop)]

@@ -14,8 +14,7 @@ use cell_num::{Fingers, List, NoMemory};
 use std::alloc::Global;
 use trail_check::{first_with_many, levels_of};
 use trail_log::Trails;
-use trail_state::Level;
-use trail_step::TrailState;
+use trail_state::{Level, TrailState};
 
 /// The greatest limit that is tried: a row of 32 columns has no more gaps than 31.
 pub(crate) const MOST_LIMIT: u32 = 30;

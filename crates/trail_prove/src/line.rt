@@ -4,9 +4,8 @@ ghost use Rattle.trail_prove.specs.Line.{class_at, is_name, is_odd, is_of, line_
 
 use cell_num::{List, NetNo, NoMemory};
 use std::alloc::{AllocError, Global};
-use trail_classes::{Class, ClassList, NetPair};
-use trail_log::LemmaLine;
-use trail_step::Place;
+use trail_log::{Class, ClassList, LemmaLine, NetPair};
+use trail_state::Place;
 
 fn pair(place: &Place) -> NetPair
     ensures { result ≡ pair_at place.now }

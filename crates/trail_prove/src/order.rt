@@ -5,9 +5,8 @@ ghost use Rattle.trail_state.specs.Levels.{IsOrder};
 use crate::gates::gates;
 use cell_num::{Fingers, List, NetNo, NoMemory};
 use std::alloc::{AllocError, Global};
-use trail_classes::NetList;
-use trail_state::open_nodes;
-use trail_step::Node;
+use trail_log::NetList;
+use trail_state::{Node, open_nodes};
 
 // A gate, and the nodes that its columns can have at their ends.
 #[derive(Drop)]

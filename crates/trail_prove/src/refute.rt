@@ -13,7 +13,7 @@ use crate::visit::{Halt, visit};
 use cell_num::Fingers;
 use std::alloc::Global;
 use trail_check::{first_with_many, levels_of};
-use trail_step::TrailState;
+use trail_state::TrailState;
 
 /// Whether it is proved that every arrangement of the fingers has more than `limit` gaps: a limit up to 30 is refuted
 /// where lemmas in the order that is tried can refute it. It takes at most `left` nodes, and leaves there how many are

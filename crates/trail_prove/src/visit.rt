@@ -8,8 +8,7 @@ ghost use Rattle.trail_prove.specs.Search.{AreChained, AreKept, AreSmall, AreTie
 use crate::kept::Kept;
 use cell_num::{List, NoMemory};
 use std::alloc::Global;
-use trail_state::Level;
-use trail_step::{TrailState, after};
+use trail_state::{Level, TrailState, after};
 
 /// Why a visit ends without an answer.
 #[derive(Debug, Drop)]

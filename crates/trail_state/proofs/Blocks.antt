@@ -10,11 +10,11 @@ use Rattle.cell_num.specs.declared.finger.Finger.{Finger}
 use Rattle.cell_num.specs.declared.finger.Fingers.{Fingers}
 use Rattle.cell_num.specs.Fingers.{AreFingers, on_gate}
 use Rattle.cell_num.proofs.Pairs.{Some', test_finds}
-use Rattle.trail_step.specs.Edges.{pair_node}
-use Rattle.trail_step.specs.Places.{node_at}
-use Rattle.trail_choices.proofs.Parts.{range_next}
+use Rattle.trail_state.specs.Edges.{pair_node}
+use Rattle.trail_state.specs.Places.{node_at}
+use Rattle.trail_state.proofs.Parts.{range_next}
 use Rattle.trail_state.specs.Nodes.{has_net, is_net_in, is_net_on, may_have, nodes_of}
-use Rattle.trail_state.specs.Opened.{in_net, net_below}
+use Rattle.trail_state.proofs.Opened.{in_net, net_below}
 
 pub none_pass : (p : ℕ → Bool) (a n : ℕ) → ((v : ℕ) → a ≤ v → p v ≡ false) → filter p (range_with_len a n) ≡ []
 none_pass p a zero off = refl

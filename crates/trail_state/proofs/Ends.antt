@@ -2,7 +2,7 @@
 use Rattle.std.proofs.Common.{ℕ, ◌≡◌, ◌==◌, ◌&&◌, ◌||◌, Bool, true, false, cond, List, [], ◌∷◌, refl, ap}
 use Rattle.std.specs.List.{filter, range_with_len}
 use Rattle.cell_num.specs.declared.finger.Finger.{Finger}
-use Rattle.trail_state.specs.Grouped.{is_on}
+use Rattle.trail_state.specs.Choices.{is_on}
 use Rattle.trail_state.specs.Nodes.{has_net, is_end_in, is_net_on}
 
 ends_on : (fs : List Finger) (g v : ℕ) → is_end_in (filter (is_on g) fs) v ≡ is_net_on fs g v

@@ -8,10 +8,10 @@ use Rattle.cell_num.specs.declared.finger.Finger.{Finger}
 use Rattle.cell_num.specs.declared.finger.Fingers.{Fingers}
 use Rattle.cell_num.specs.Fingers.{AreFingers, IsFinger}
 use Rattle.cell_num.proofs.Lists.{all_from_contains, all_imply}
-use Rattle.trail_state.specs.Grouped.{is_on}
-use Rattle.trail_state.specs.Members.{passes_from}
+use Rattle.trail_state.specs.Choices.{is_on}
+use Rattle.trail_state.proofs.Members.{passes_from}
 use Rattle.trail_state.specs.Nodes.{is_net_in, may_have}
-use Rattle.trail_state.specs.Opened.{range_below}
+use Rattle.trail_state.proofs.Opened.{range_below}
 use Rattle.trail_state.specs.Pairings.{HasSmallEnds, nets_in}
 
 below : (test : ℕ → Bool) (f : Fingers) → AreFingers f → All (λ (net : ℕ). net < 256) (filter test (range_with_len 0 f.nets))

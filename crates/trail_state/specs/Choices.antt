@@ -1,5 +1,5 @@
 -- The choices of a gate: which of its fingers stand with which, turned alike or not.
-use Rattle.std.specs.Prelude.{ℕ, ◌≡◌, ◌==◌, List, Option, Some, None, true, IsPermutation}
+use Rattle.std.specs.Prelude.{ℕ, ◌≡◌, ◌==◌, Bool, List, Option, Some, None, true, IsPermutation}
 use Rattle.std.specs.List.{AllZip, filter}
 use Rattle.cell_num.specs.declared.finger.Finger.{Finger}
 use Rattle.cell_num.specs.declared.finger.Fingers.{Fingers}
@@ -7,8 +7,8 @@ use Rattle.row_model.specs.declared.column.Placed.{Placed}
 use Rattle.row_model.specs.declared.column.Column.{Column}
 use Rattle.row_model.specs.Arrangement.{IsArrangement}
 use Rattle.row_model.specs.Gaps.{left_net, right_net}
-use Rattle.trail_step.specs.declared.edge.Edge.{Edge}
-use Rattle.trail_step.specs.Edges.{edge_of}
+use Rattle.trail_state.specs.declared.edge.Edge.{Edge}
+use Rattle.trail_state.specs.Edges.{edge_of}
 use Rattle.trail_state.specs.Nodes.{is_net_in}
 
 -- An edge of a column. An empty place is filled: it has any two nets of its row at its ends.
@@ -22,6 +22,9 @@ IsEdgeOf f None None e = ⊥
 
 abbrev pub AreEdgesOf : Fingers → List Column → List Edge → Type 0
 AreEdgesOf f columns edges = AllZip (λ (c : Column) (e : Edge). IsEdgeOf f c.p c.n e) columns edges
+
+abbrev pub is_on : ℕ → Finger → Bool
+is_on g x = x.gate.0 == g
 
 abbrev pub fingers_on : ℕ → Fingers → Fingers
 fingers_on gate f = record {

@@ -1,22 +1,12 @@
--- What contracts of public calls cite, and what these definitions stand on.
-pub mod Along
-pub mod Begun
-pub mod Choices
-pub mod Chosen
-pub mod Counted
-pub mod Filling
-pub mod Follows
-pub mod Grouped
-pub mod Held
-pub mod Law
+-- Read these first: what contracts of public calls cite.
 pub mod Levels
-pub mod Links
-pub mod Members
 pub mod Nodes
-pub mod Opened
-pub mod Paired
 pub mod Pairings
-pub mod Picked
-pub mod Settles
-pub mod Sizes
-pub mod Walks
+pub mod Settling
+-- What these stand on. In `Same` are proofs too, which the trait `Hash` asks for here.
+pub mod Choices
+pub mod Edges
+pub mod Fronts
+pub mod Places
+pub mod Same
+pub mod Sorted

@@ -3,10 +3,10 @@ use Rattle.std.specs.Prelude.{ℕ, ◌<◌, Bool, List, map}
 use Rattle.std.specs.List.{filter, range_with_len}
 use Rattle.cell_num.specs.declared.finger.Finger.{Finger}
 use Rattle.cell_num.specs.declared.finger.Fingers.{Fingers}
-use Rattle.trail_step.specs.declared.edge.Edge.{Edge}
-use Rattle.trail_step.specs.declared.edge.NetPair.{NetPair}
-use Rattle.trail_choices.specs.declared.gate.Gate.{Gate}
-use Rattle.trail_choices.specs.Fronts as fronts
+use Rattle.trail_state.specs.declared.edge.Edge.{Edge}
+use Rattle.trail_state.specs.declared.edge.NetPair.{NetPair}
+use Rattle.trail_state.specs.declared.gate.Gate.{Gate}
+use Rattle.trail_state.specs.Fronts as fronts
 use Rattle.trail_state.specs.Choices.{fingers_on}
 use Rattle.trail_state.specs.Nodes.{is_net_in}
 

@@ -2,11 +2,19 @@ ghost use Rattle.std.specs.Prelude.{◌≡◌, ◌<◌, All, IfOk, map};
 ghost use Rattle.cell_num.specs.Fingers.{AreFingers};
 ghost use Rattle.trail_state.specs.Pairings.{HasSmallEnds, gate_of, nets_at};
 
+use crate::edge::NetPair;
 use crate::nodes::{nets_in, on_gate};
 use cell_num::{Finger, Fingers, List, NoMemory};
 use std::alloc::{AllocError, Global};
-use trail_choices::Gate;
-use trail_step::NetPair;
+
+/// The fingers of a gate by the nets at their ends, and the nets that fill empty places of the two rows.
+#[derive(Debug, PartialEq, Drop)]
+pub struct Gate {
+    pub p: List<NetPair>,
+    pub n: List<NetPair>,
+    pub p_fill: List<u32>,
+    pub n_fill: List<u32>,
+}
 
 fn nets_at(finger: &Finger) -> NetPair
     requires { HasSmallEnds finger.now }

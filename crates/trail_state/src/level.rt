@@ -4,9 +4,9 @@ ghost use Rattle.trail_state.specs.Levels.{AreLevels, first_now};
 
 use crate::nodes::with_gate;
 use crate::pairing::choices;
+use crate::{Choice, Node};
 use cell_num::{Fingers, List, NetNo, NoMemory};
 use std::alloc::{AllocError, Global};
-use trail_step::{Choice, Node};
 
 /// A gate of an order: the nodes that it and later gates can meet, those that later gates can, both in
 /// ascending order, and its choices.

@@ -1,13 +1,22 @@
-// Trails through the columns of a row: the choices of each gate of an order, the nodes that later gates can meet, and the
-// ends that no row escapes.
+// Trails through the columns of a row: the edges that fingers of a gate can be, the choices of each gate of an order,
+// the nodes that later gates can meet, what a choice leaves open, and the ends that no row escapes.
 #![tactic(auto)]
 
+pub mod edge;
+mod edges;
+mod front;
 mod gate;
 pub mod laws;
 pub mod level;
+mod listing;
 pub mod nodes;
 mod pairing;
+pub mod settle;
+pub mod state;
 
+pub use edge::{Choice, Edge, Node};
 pub use level::{Level, levels};
-pub use nodes::open_nodes;
+pub use nodes::{count_on, open_nodes};
 pub use pairing::{choices, has_long_front};
+pub use settle::{Settled, after};
+pub use state::{Place, TrailState};

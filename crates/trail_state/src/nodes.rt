@@ -2,18 +2,19 @@ ghost use Rattle.std.specs.Prelude.{◌≡◌, ◌<◌, ◌++◌, true, All, IfO
 ghost use Rattle.std.specs.List.{filter, flat_map, range_with_len};
 ghost use Rattle.std.specs.Set.{sorted_merge};
 ghost use Rattle.cell_num.specs.Fingers.{on_gate, AreFingers};
-ghost use Rattle.trail_step.specs.Edges.{pair_node};
-ghost use Rattle.trail_step.specs.Places.{node_at};
-ghost use Rattle.trail_state.specs.Grouped.{is_on};
+ghost use Rattle.trail_state.specs.Edges.{pair_node};
+ghost use Rattle.trail_state.specs.Places.{node_at};
+ghost use Rattle.trail_state.specs.Choices.{is_on};
 ghost use Rattle.trail_state.specs.Nodes.{has_net, is_end_in, is_net_in, is_net_on, may_have, node_cmp, nodes_of, open_nodes};
 ghost use Rattle.trail_state.specs.Pairings.{nets_in};
 
+use crate::Node;
 use cell_num::{Finger, Fingers, List, NetNo, NoMemory};
 use std::alloc::{AllocError, Global};
 use std::cmp::Ordering;
-use trail_step::Node;
 
-fn count_on(gate: u32, fingers: &[Finger]) -> usize
+/// How many of the fingers are on the gate.
+pub fn count_on(fingers: &[Finger], gate: u32) -> usize
     ensures { result ≡ on_gate gate fingers.now }
 {
     fingers
@@ -93,7 +94,7 @@ fn nets_of(
 ) -> Result<Vec<u32>, AllocError>
     ensures { IfOk result (λ all. all.items ≡ filter (may_have mine.now other.now gate) (range_with_len 0 nets)) }
 {
-    if count_on(gate, mine) < count_on(gate, other) {
+    if count_on(mine, gate) < count_on(other, gate) {
         nets_in(alloc, mine, nets)
     } else {
         nets_on(alloc, mine, gate, nets)

@@ -3,9 +3,9 @@ ghost use Rattle.cell_num.specs.Fingers.{AreFingers};
 ghost use Rattle.trail_state.specs.Pairings.{choices_of, has_long_front};
 
 use crate::gate::gate_of;
+use crate::{Choice, listing};
 use cell_num::{Fingers, List, NetNo, NoMemory};
 use std::alloc::Global;
-use trail_step::Choice;
 
 /// The choices of a gate, each once: which of its P fingers stands with which N finger, turned alike
 /// or not. A place that stays empty is filled with each two nets of its row.
@@ -14,7 +14,7 @@ pub fn choices(alloc: Global, fingers: &Fingers, gate: NetNo) -> Result<List<Cho
     ensures { IfOk result (λ all. all ≡ choices_of fingers.now gate.0) }
 {
     let gate = gate_of(alloc, fingers, gate.0)?;
-    let all = trail_choices::choices(alloc, &gate)?;
+    let all = listing::choices(alloc, &gate)?;
     Ok(all)
 }
 
@@ -31,6 +31,6 @@ pub fn has_long_front(
     ensures { IfOk result (λ long. long ≡ has_long_front most fingers.now gate.0) }
 {
     let gate = gate_of(alloc, fingers, gate.0)?;
-    let long = trail_choices::has_long_front(alloc, &gate, most)?;
+    let long = listing::has_long_front(alloc, &gate, most)?;
     Ok(long)
 }

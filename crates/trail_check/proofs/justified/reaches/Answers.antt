@@ -1,7 +1,7 @@
 use Rattle.std.proofs.Common.{rules, ◌≡◌, List, ap, ◌∙◌}
-use Rattle.trail_step.specs.declared.edge.Edge.{Edge}
-use Rattle.trail_step.specs.declared.edge.Node.{Node}
-use Rattle.trail_step.specs.Settling.{ends_after, state_after}
+use Rattle.trail_state.specs.declared.edge.Edge.{Edge}
+use Rattle.trail_state.specs.declared.edge.Node.{Node}
+use Rattle.trail_state.specs.Settling.{ends_after, state_after}
 use Rattle.trail_check.proofs.Each.{reaches_is}
 use Rattle.trail_check.proofs.justified.reaches.Goals as goal
 

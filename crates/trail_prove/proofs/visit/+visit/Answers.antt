@@ -1,6 +1,6 @@
 use Rattle.std.proofs.Common.{rules, ◌+◌, ◌-◌, ◌<◌, ◌≤◌, List, ap, arith, length, option_copied, slice_get, subst, sym, take, ◌∙◌}
 use Rattle.std.proofs.lemmas.Option.{slice_get_within}
-use Rattle.trail_step.specs.declared.edge.Node.{Node}
+use Rattle.trail_state.specs.declared.edge.Node.{Node}
 use Rattle.trail_check.specs.Listed.{nodes_of}
 use Rattle.trail_prove.specs.Search.{IsStateOf}
 use Rattle.cell_num.proofs.Lists.{all_at}

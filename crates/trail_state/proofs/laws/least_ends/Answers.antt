@@ -1,4 +1,4 @@
-use Rattle.trail_state.specs.Law.{levels_law}
+use Rattle.trail_state.proofs.Law.{levels_law}
 use Rattle.trail_state.proofs.laws.least_ends.Goals as goal
 
 pub returns : goal.returns

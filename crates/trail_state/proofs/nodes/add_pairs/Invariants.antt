@@ -1,6 +1,6 @@
 use Rattle.std.proofs.Common.{◌≡◌, ◌++◌, map, take}
-use Rattle.trail_step.specs.Edges.{pair_node}
-use Rattle.trail_step.specs.Places.{node_at}
+use Rattle.trail_state.specs.Edges.{pair_node}
+use Rattle.trail_state.specs.Places.{node_at}
 use Rattle.trail_state.proofs.nodes.add_pairs.Given as goal
 
 abbrev pub invariant-loop-n_net : goal.invariant-loop-n_net

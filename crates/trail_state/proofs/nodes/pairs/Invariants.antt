@@ -1,7 +1,7 @@
 use Rattle.std.proofs.Common.{◌≡◌, map, take}
 use Rattle.std.specs.List.{flat_map}
-use Rattle.trail_step.specs.Edges.{pair_node}
-use Rattle.trail_step.specs.Places.{node_at}
+use Rattle.trail_state.specs.Edges.{pair_node}
+use Rattle.trail_state.specs.Places.{node_at}
 use Rattle.trail_state.proofs.nodes.pairs.Given as goal
 
 abbrev pub invariant-loop-p_net : goal.invariant-loop-p_net

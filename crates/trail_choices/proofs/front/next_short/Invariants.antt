@@ -1,6 +1,0 @@
-use Rattle.std.proofs.Common.{◌≡◌, ◌≤◌, length, take}
-use Rattle.trail_choices.specs.Fronts.{next_front}
-use Rattle.trail_choices.proofs.front.next_short.Given as goal
-
-abbrev pub invariant-loop-part : goal.invariant-loop-part
-invariant-loop-part l = (l.all.keys ≡ next_front l.gate l.xs (take l.part-index l.front)) × (length l.all.keys ≤ l.most)

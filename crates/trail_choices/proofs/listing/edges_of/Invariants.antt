@@ -1,6 +1,0 @@
-use Rattle.std.proofs.Common.{◌≡◌, take}
-use Rattle.trail_choices.specs.Fronts.{edges_of}
-use Rattle.trail_choices.proofs.listing.edges_of.Given as goal
-
-abbrev pub invariant-loop-part : goal.invariant-loop-part
-invariant-loop-part l = l.all ≡ edges_of (take l.part-index l.parts)

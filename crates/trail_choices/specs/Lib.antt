@@ -1,3 +1,0 @@
--- What contracts of public calls cite.
-pub mod Fronts
-pub mod Same

@@ -1,0 +1,218 @@
+ghost use Rattle.std.specs.Prelude.{◌≡◌, ◌<◌, ◌≤◌, ◌++◌, [], All, IfNone, IfOk, IfSome, OnOk, length, position};
+ghost use Rattle.std.specs.Hash as fed;
+ghost use Rattle.std.specs.Hash.{same_Alike};
+ghost use Rattle.trail_state.specs.Fronts.{alone, first_front, n_alone, next_front, next_parts, paired, paired_with, same_nets, with_all, with_column, with_new, without};
+ghost use Rattle.trail_state.specs.Same.{part_decides};
+
+use crate::edge::{Edge, NetPair};
+use crate::edges::{insert, n_alone, p_alone, pair};
+use crate::gate::Gate;
+use cell_num::{List, NoMemory};
+use indexmap::IndexSet;
+use std::alloc::{AllocError, Global};
+use std::hash::{Hash, Hasher};
+
+/// Some columns of a gate, the first that are listed: their edges in ascending order, and the N fingers that stand in
+/// none of them.
+#[derive(Debug, PartialEq, Eq, Drop)]
+pub struct Part {
+    pub edges: List<Edge>,
+    pub left: List<NetPair>,
+}
+
+impl Hash for Part {
+    ghost hash_input = { λ p. fed.slice (λ e. fed.u32 e.a.0 ++ fed.u32 e.b.0) p.edges
+        ++ fed.slice (λ x. fed.u8 x.lo ++ fed.u8 x.hi) p.left };
+
+    ghost respects_eq = { (same_Alike (λ p. fed.slice (λ e. fed.u32 e.a.0 ++ fed.u32 e.b.0) p.edges
+        ++ fed.slice (λ x. fed.u8 x.lo ++ fed.u8 x.hi) p.left) part_decides).fed };
+
+    fn hash<H: Hasher>(&self, state: &mut H) {
+        self.edges.as_slice().hash(state);
+        self.left.as_slice().hash(state);
+    }
+}
+
+fn add(all: &mut IndexSet<Part>, part: Part) -> Result<(), NoMemory>
+    ensures { OnOk result (all.new.keys ≡ with_new all.old.keys part) }
+{
+    match all.insert_full(part) {
+        Ok(_) => Ok(()),
+        Err(_) => Err(NoMemory),
+    }
+}
+
+// Adds the part with each of the edges.
+fn add_column(
+    alloc: Global,
+    all: &mut IndexSet<Part>,
+    part: &Part,
+    left: &[NetPair],
+    edges: &[Edge],
+) -> Result<(), NoMemory>
+    ensures { OnOk result (all.new.keys ≡ with_all all.old.keys (with_column part.now left.now edges.now)) }
+{
+    for edge in edges {
+        let more = Part {
+            edges: insert(alloc, edge, part.edges.as_slice())?,
+            left: List::from_vec(left.to_vec(alloc)?),
+        };
+        add(all, more)?;
+    }
+    Ok(())
+}
+
+fn find(nets: NetPair, left: &[NetPair]) -> Option<usize>
+    ensures { result ≡ position (same_nets nets) left.now }
+{
+    left.iter().position(|other| nets == *other)
+}
+
+#[tactic(auto, using(crate::proofs::Parts::one_less, crate::proofs::Parts::none_less))]
+fn without(alloc: Global, nets: NetPair, left: &[NetPair]) -> Result<Vec<NetPair>, AllocError>
+    ensures { IfOk result (λ rest. rest.items ≡ without nets left.now) }
+{
+    let mut rest = left.to_vec(alloc)?;
+    if let Some(at) = find(nets, left) {
+        rest.remove(at);
+    }
+    Ok(rest)
+}
+
+// Adds the part with a column of the P finger and this one of the N fingers left.
+fn add_pair(
+    alloc: Global,
+    all: &mut IndexSet<Part>,
+    x: NetPair,
+    part: &Part,
+    y: NetPair,
+) -> Result<(), NoMemory>
+    ensures { OnOk result (all.new.keys ≡ with_all all.old.keys (paired_with x part.now y)) }
+{
+    let others = without(alloc, y, part.left.as_slice())?;
+    add_column(alloc, all, part, others.as_slice(), &pair(x, y))
+}
+
+// Adds the part with a column of the P finger and one of the N fingers left.
+#[tactic(auto, using(crate::proofs::Parts::each_added))]
+fn add_paired(
+    alloc: Global,
+    all: &mut IndexSet<Part>,
+    x: NetPair,
+    part: &Part,
+) -> Result<(), NoMemory>
+    ensures { OnOk result (all.new.keys ≡ with_all all.old.keys (paired x part.now)) }
+{
+    for y in part.left.as_slice() {
+        add_pair(alloc, all, x, part, *y)?;
+    }
+    Ok(())
+}
+
+// Adds the part with a column of the P finger alone, where those behind it are as many as the N fingers left.
+fn add_alone(
+    alloc: Global,
+    all: &mut IndexSet<Part>,
+    gate: &Gate,
+    x: NetPair,
+    behind: &[NetPair],
+    part: &Part,
+) -> Result<(), NoMemory>
+    requires { All (λ net. net < 256) gate.now.n_fill }
+    ensures { OnOk result (all.new.keys ≡ with_all all.old.keys (alone gate.now x behind.now part.now)) }
+{
+    let left = part.left.as_slice();
+    if left.len() > behind.len() {
+        return Ok(());
+    }
+    let edges = p_alone(alloc, gate.n_fill.as_slice(), x)?;
+    add_column(alloc, all, part, left, edges.as_slice())
+}
+
+// Adds the part with a column of the first of the N fingers left.
+fn add_n(alloc: Global, all: &mut IndexSet<Part>, gate: &Gate, part: &Part) -> Result<(), NoMemory>
+    requires { All (λ net. net < 256) gate.now.p_fill }
+    ensures { OnOk result (all.new.keys ≡ with_all all.old.keys (n_alone gate.now part.now part.now.left)) }
+{
+    let Some((y, left)) = part.left.as_slice().split_first() else {
+        return Ok(());
+    };
+    let edges = n_alone(alloc, gate.p_fill.as_slice(), *y)?;
+    add_column(alloc, all, part, left, edges.as_slice())
+}
+
+// Adds the part with its next column in each way, where these P fingers stand in none yet.
+#[tactic(auto, using(crate::proofs::Parts::both_added))]
+fn add_next(
+    alloc: Global,
+    all: &mut IndexSet<Part>,
+    gate: &Gate,
+    xs: &[NetPair],
+    part: &Part,
+) -> Result<(), NoMemory>
+    requires p { All (λ net. net < 256) gate.now.p_fill }
+    requires n { All (λ net. net < 256) gate.now.n_fill }
+    ensures { OnOk result (all.new.keys ≡ with_all all.old.keys (next_parts gate.now xs.now part.now)) }
+{
+    let Some((x, behind)) = xs.split_first() else {
+        return add_n(alloc, all, gate, part);
+    };
+    add_paired(alloc, all, *x, part)?;
+    add_alone(alloc, all, gate, *x, behind, part)
+}
+
+/// No column yet.
+pub(crate) fn first_front(alloc: Global, gate: &Gate) -> Result<IndexSet<Part>, NoMemory>
+    ensures { IfOk result (λ front. front.keys ≡ first_front gate.now) }
+{
+    let mut front = IndexSet::new(alloc);
+    let part = Part {
+        edges: List::new(alloc),
+        left: List::from_vec(gate.n.as_slice().to_vec(alloc)?),
+    };
+    add(&mut front, part)?;
+    Ok(front)
+}
+
+/// The parts with a column more, each once.
+pub(crate) fn next_front(
+    alloc: Global,
+    gate: &Gate,
+    xs: &[NetPair],
+    front: &[Part],
+) -> Result<IndexSet<Part>, NoMemory>
+    requires p { All (λ net. net < 256) gate.now.p_fill }
+    requires n { All (λ net. net < 256) gate.now.n_fill }
+    ensures { IfOk result (λ all. all.keys ≡ next_front gate.now xs.now front.now) }
+{
+    let mut all = IndexSet::new(alloc);
+    for part in front {
+        add_next(alloc, &mut all, gate, xs, part)?;
+    }
+    Ok(all)
+}
+
+/// The same, where they are at most so many. It stops once they are more.
+#[tactic(auto, using(crate::proofs::Parts::longer_yet))]
+pub(crate) fn next_short(
+    alloc: Global,
+    gate: &Gate,
+    xs: &[NetPair],
+    front: &[Part],
+    most: usize,
+) -> Result<Option<IndexSet<Part>>, NoMemory>
+    requires p { All (λ net. net < 256) gate.now.p_fill }
+    requires n { All (λ net. net < 256) gate.now.n_fill }
+    ensures short { IfOk result (λ o. IfSome o (λ all. all.keys ≡ next_front gate.now xs.now front.now)) }
+    ensures few { IfOk result (λ o. IfSome o (λ all. length all.keys ≤ most)) }
+    ensures long { IfOk result (λ o. IfNone o (most < length (next_front gate.now xs.now front.now))) }
+{
+    let mut all = IndexSet::new(alloc);
+    for part in front {
+        add_next(alloc, &mut all, gate, xs, part)?;
+        if all.len() > most {
+            return Ok(None);
+        }
+    }
+    Ok(Some(all))
+}

@@ -1,6 +1,0 @@
-use Rattle.std.proofs.Common.{◌≡◌, ◌++◌, map, take}
-use Rattle.trail_step.specs.Edges.{edge_of}
-use Rattle.trail_step.proofs.edges.add_n.Given as goal
-
-abbrev pub invariant-loop-right : goal.invariant-loop-right
-invariant-loop-right l = l.all.items ≡ l.fn.all.items ++ map (λ right. edge_of l.left l.y.lo right l.y.hi) (take l.right-index l.nets)
