@@ -1,0 +1,10 @@
+pub mod Tracks
+pub mod Places
+pub mod Counts
+pub mod Holding
+pub mod Legal
+pub mod Least
+pub mod Placing
+pub mod Placed
+pub mod Passing
+pub mod Trunks

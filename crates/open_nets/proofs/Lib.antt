@@ -1,0 +1,4 @@
+pub mod Behind
+pub mod Path
+pub mod Whole
+pub mod Failing

@@ -1,0 +1,5 @@
+pub mod Complete
+pub mod Exact
+pub mod Keys
+pub mod Nets
+pub mod Steps

@@ -1,0 +1,3 @@
+-- What contracts of public calls cite, and what these definitions stand on.
+pub mod Tracks
+pub mod Ways

@@ -1,0 +1,39 @@
+ghost use Rattle.std.specs.Prelude.{ℕ, ◌≡◌, ◌↔◌, List, [], ◌∷◌, Any, Contains};
+ghost use Rattle.cell_num.specs.declared.net.NetNo.{NetNo};
+ghost use Rattle.cell_num.specs.declared.net.Pins.{Pins};
+ghost use Rattle.row_state.specs.declared.kind.Kinds.{Kinds};
+ghost use Rattle.row_state.specs.declared.state.State.{State};
+ghost use Rattle.row_state.specs.declared.step.Step.{Step};
+ghost use Rattle.row_state.specs.Start.{AreSomeKinds, GatesAreNets, IsState};
+ghost use Rattle.row_state.specs.Steps.{state_after};
+ghost use Rattle.open_nets.specs.Paths.{Ends, EndsFit, Goes, Leads};
+ghost use Rattle.open_nets.specs.States.{is_behind, is_still_ahead};
+ghost use Rattle.track_ways.specs.declared.track.NetTrack.{NetTrack};
+ghost use Rattle.track_ways.specs.Tracks.{AreKeys, AreTracksOf, IsSingle};
+ghost use Rattle.track_ways.specs.Ways.{ends_ways, goes_ways, is_behind_step};
+
+/// The tracks behind a next column can be listed. It does nothing: its contract is the law.
+pub fn tracks_listed()
+    // each way of tracks through the next column is listed
+    ensures all { (pins : Pins) (limit : ℕ) (k : Kinds) (s : State) (step : Step) (tracks : List NetTrack)
+        (track next : NetNo → ℕ) → AreTracksOf tracks track → Goes pins limit k s track step next
+        → Any (λ way. AreTracksOf way next) (goes_ways pins limit k s tracks step) }
+    // whatever is listed is one
+    ensures only { (pins : Pins) (limit : ℕ) (k : Kinds) (s : State) (step : Step) (tracks way : List NetTrack)
+        → AreSomeKinds k → IsState k s → IsSingle tracks → Contains (goes_ways pins limit k s tracks step) way
+        → (track : NetNo → ℕ) × (next : NetNo → ℕ)
+        × AreTracksOf tracks track × Goes pins limit k s track step next × AreTracksOf way next }
+    // it has one track for each net that is open behind the column, and none for others
+    ensures keys { (pins : Pins) (limit : ℕ) (k : Kinds) (s : State) (step : Step) (tracks way : List NetTrack)
+        → AreSomeKinds k → IsState k s → IsSingle tracks → Contains (goes_ways pins limit k s tracks step) way
+        → AreKeys pins (is_behind_step k s step) (is_still_ahead k (state_after k s step)) way }
+    // those nets are open at the state behind it, where a completion goes on from there
+    ensures behind { (k : Kinds) (s : State) (step : Step) (steps : List Step)
+        → GatesAreNets k → EndsFit k s → Leads k s (step ∷ steps)
+        → (net : NetNo) → is_behind_step k s step net ≡ is_behind k (state_after k s step) net }
+    // none is listed behind the last line exactly where no tracks go through it
+    ensures ends { (pins : Pins) (limit : ℕ) (k : Kinds) (s : State) (tracks : List NetTrack)
+        → AreSomeKinds k → IsState k s → IsSingle tracks
+        → (ends_ways pins limit k s tracks ≡ [])
+        ↔ ((track : NetNo → ℕ) → AreTracksOf tracks track → Ends pins limit k s track → ⊥) }
+{}
