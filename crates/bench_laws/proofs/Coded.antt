@@ -36,7 +36,7 @@ use Rattle.bench_laws.proofs.Bits.{bits, flip, number, without}
 use Rattle.bench_laws.proofs.Codes.{Behind, IsCode}
 use Rattle.bench_laws.proofs.Counts.{counts_same, counts_within, left_at}
 use Rattle.bench_laws.proofs.Gates.{IsFilled, all_filled, last_of, some_on}
-use Rattle.bench_laws.proofs.Kinds.{HasPairs, all_n, all_p, same_n_left}
+use Rattle.bench_laws.proofs.FewKinds.{HasPairs, all_n, all_p, same_n_left}
 
 -- a lemma's bound is at most the columns behind its state
 bound_few : (k : Kinds) (lemma : Lemma) (prefix rest : List Column) → AreSomeKinds k → IsTrueOf k lemma → Completes k (start_of k) (prefix ++ rest) → IsStateOf k prefix lemma.state → lemma.bound + length prefix ≤ columns_left k (start_of k)

@@ -18,7 +18,7 @@ use Rattle.bound_log.specs.declared.log.Lemma.{Lemma}
 use Rattle.bench_laws.proofs.Bits.{AreSame, bits, bits_below, bits_same, flip, flip_le, flip_same, number, number_below, number_same, without, without_bits, without_length, without_same}
 use Rattle.bench_laws.proofs.Counts.{counts_bits, get_below}
 use Rattle.bench_laws.proofs.Gates.{one_on}
-use Rattle.bench_laws.proofs.Kinds.{HasPairs, all_n, all_p, same_n_left}
+use Rattle.bench_laws.proofs.FewKinds.{HasPairs, all_n, all_p, same_n_left}
 
 -- the lemma is on the state before the first column
 pub record AtStart (k : Kinds) (lemma : Lemma) (code : ℕ) : Type 0 where

@@ -6,10 +6,10 @@ pub mod Coded
 pub mod Codes
 pub mod Counts
 pub mod Digits
+pub mod FewKinds
 pub mod Firsts
 pub mod Gates
 pub mod Head
-pub mod Kinds
 pub mod Lines
 pub mod Names
 pub mod Pairs

@@ -17,7 +17,7 @@ use Rattle.row_search.proofs.Least.{states_of}
 use Rattle.bench_laws.specs.Paired.{ArePaired, IsBound, nodes_enough}
 use Rattle.bench_laws.proofs.Coded.{code_of}
 use Rattle.bench_laws.proofs.Codes.{IsCode, code_below, same_code}
-use Rattle.bench_laws.proofs.Kinds.{HasPairs, has_pairs}
+use Rattle.bench_laws.proofs.FewKinds.{HasPairs, has_pairs}
 
 -- a lemma with its number
 record Coded (k : Kinds) : Type 0 where
