@@ -1,8 +1,14 @@
 // The tracks that the open nets may have behind a next column, as a finite list.
 #![tactic(auto)]
 
+mod fit;
+mod held;
 pub mod laws;
+mod line_ways;
+pub mod passing;
+mod table;
 pub mod track;
 
 pub use laws::tracks_listed;
-pub use track::{NetTrack, NetTracks};
+pub use passing::ways_through;
+pub use track::{NetTrack, NetTracks, TrackWays};
