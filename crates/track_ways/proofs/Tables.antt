@@ -1,6 +1,6 @@
 -- Sets of nets as tables.
-use Rattle.std.proofs.Common.{ℕ, ◌≡◌, ◌<◌, ◌||◌, ◌==◌, Bool, true, false, List, [], ◌∷◌, Option, Some, None, inl, inr, refl, sym, ap, subst, arith, length, ◌∙◌}
-use Rattle.std.specs.Prelude.{get_or, slice_set}
+use Rattle.std.proofs.Common.{ℕ, zero, suc, ◌≡◌, ◌<◌, ◌||◌, ◌==◌, Bool, true, false, List, [], ◌∷◌, Option, Some, None, inl, inr, refl, sym, ap, subst, arith, length, ◌∙◌}
+use Rattle.std.specs.Prelude.{get_or, replicate, slice_set}
 use Rattle.std.proofs.lemmas.Bool.{cases_eq, eq-eqb, ne_eqb}
 use Rattle.std.proofs.lemmas.List.{get_or-set_other, get_or-set_same}
 use Rattle.cell_num.specs.declared.net.NetNo.{NetNo}
@@ -36,3 +36,11 @@ or_assoc false false c d = refl
 
 pub line_marked : (before after : List Bool) (line : Line) → ((u : ℕ) → flag after u ≡ (((flag before u || is_net line.p (net_of u)) || is_net line.n (net_of u)) || is_net line.gate (net_of u))) → marked after ≡ with_line (marked before) line
 line_marked before after line each = same_tests (marked after) (with_line (marked before) line) (λ net. each net.0 ∙ or_assoc (flag before net.0) (is_net line.p net) (is_net line.n net) (is_net line.gate net))
+
+none_at : (n u : ℕ) → get_or (replicate n false) u false ≡ false
+none_at zero u = refl
+none_at (suc n) zero = refl
+none_at (suc n) (suc u) = none_at n u
+
+pub none_marked : marked (replicate 256 false) ≡ (λ net. false)
+none_marked = same_tests (marked (replicate 256 false)) (λ net. false) (λ net. none_at 256 net.0)
