@@ -149,5 +149,5 @@ entries k s step lines some state is =
     subst (All (HasEntries 256)) (sym is) (all_imply (LineLow k.nets) (HasEntries 256) (lines_to s (column_of k step)) (has_entries k.nets some.few_nets) (lines_low k.nets s (column_of k step) state.p_end state.n_end (placed_low P k.p step.p k.nets ends.p gates.p) (placed_low N k.n step.n k.nets ends.n gates.n)))
 
 -- and so have those of the last line
-pub end_entries : (k : Kinds) (s : State) (line : Line) → AreSomeKinds k → IsState k s → line ≡ node_line s.p_end s.n_end → All (HasEntries 256) (line ∷ [])
-end_entries k s line some state is = subst (λ l. All (HasEntries 256) (l ∷ [])) (sym is) (All-cons (HasEntries 256) (node_line s.p_end s.n_end) [] (has_entries k.nets some.few_nets (node_line s.p_end s.n_end) (state.p_end, state.n_end, tt)) (All-nil (HasEntries 256)))
+pub end_entries : (k : Kinds) (s : State) (lines : List Line) → AreSomeKinds k → IsState k s → lines ≡ node_line s.p_end s.n_end ∷ [] → All (HasEntries 256) lines
+end_entries k s lines some state is = subst (All (HasEntries 256)) (sym is) (All-cons (HasEntries 256) (node_line s.p_end s.n_end) [] (has_entries k.nets some.few_nets (node_line s.p_end s.n_end) (state.p_end, state.n_end, tt)) (All-nil (HasEntries 256)))

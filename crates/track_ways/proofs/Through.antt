@@ -33,9 +33,9 @@ goes_is pins limit k s step tracks before behind lines ways is_lines is_before i
     ∙ ap (λ b. pass_ways pins limit (nets_below k.nets) (is_behind k s) (lines_to s (column_of k step)) b tracks) is_later
 
 -- and those through the last line
-pub ends_is : (pins : Pins) (limit : ℕ) (k : Kinds) (s : State) (tracks : List NetTrack) (before behind : NetNo → Bool) (line : Line) (ways : List (List NetTrack)) → line ≡ node_line s.p_end s.n_end → before ≡ is_behind k s → behind ≡ (λ net. false) → ways ≡ pass_ways pins limit (nets_below k.nets) before (line ∷ []) behind tracks → ways ≡ ends_ways pins limit k s tracks
-ends_is pins limit k s tracks before behind line ways is_line is_before is_none is =
+pub ends_is : (pins : Pins) (limit : ℕ) (k : Kinds) (s : State) (tracks : List NetTrack) (before behind : NetNo → Bool) (lines : List Line) (ways : List (List NetTrack)) → lines ≡ node_line s.p_end s.n_end ∷ [] → before ≡ is_behind k s → behind ≡ (λ net. false) → ways ≡ pass_ways pins limit (nets_below k.nets) before lines behind tracks → ways ≡ ends_ways pins limit k s tracks
+ends_is pins limit k s tracks before behind lines ways is_lines is_before is_none is =
     is
-    ∙ ap (λ b. pass_ways pins limit (nets_below k.nets) b (line ∷ []) behind tracks) is_before
-    ∙ ap (λ l. pass_ways pins limit (nets_below k.nets) (is_behind k s) (l ∷ []) behind tracks) is_line
+    ∙ ap (λ b. pass_ways pins limit (nets_below k.nets) b lines behind tracks) is_before
+    ∙ ap (λ ls. pass_ways pins limit (nets_below k.nets) (is_behind k s) ls behind tracks) is_lines
     ∙ ap (λ b. pass_ways pins limit (nets_below k.nets) (is_behind k s) (node_line s.p_end s.n_end ∷ []) b tracks) is_none

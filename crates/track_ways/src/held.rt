@@ -52,8 +52,8 @@ fn is_later(lines: &[Line], behind: &[bool; NETS], net: NetNo) -> bool
     is_ahead(lines, net) || is_marked(behind, net)
 }
 
-/// Whether the net is open before the lines, of which `before` and `behind` have the nets with a place before and behind
-/// them.
+/// Whether the net is open before the lines, of which `before` and `behind` have the nets with a place before and
+/// behind them.
 pub(crate) fn is_open(
     pins: &Pins,
     before: &[bool; NETS],

@@ -1,5 +1,5 @@
 // The tracks behind a next column of a state, and behind its last line.
-ghost use Rattle.std.specs.Prelude.{◌≡◌, ℕ, All, Any, IfOk};
+ghost use Rattle.std.specs.Prelude.{◌≡◌, ◌∷◌, [], ℕ, All, Any, IfOk, false};
 ghost use Rattle.cell_num.specs.declared.net.NetNo.{NetNo as NetOf};
 ghost use Rattle.row_place.specs.Steps.{gate_in, or_else};
 ghost use Rattle.row_state.specs.Start.{IsState};
@@ -83,8 +83,8 @@ fn lines_to(alloc: Global, state: &State, column: &Column) -> Result<Vec<Line>, 
     Ok(lines)
 }
 
-/// All tracks behind a next column that go on from these, below the limit. `before` has the nets with a place before the
-/// state's last node line, `behind` those with a place at the last node line behind the column or later, by number.
+/// All tracks behind a next column that go on from these, below the limit. `before` has the nets with a place before
+/// the state's last node line, `behind` those with a place at the last node line behind the column or later.
 #[tactic(auto, using(crate::proofs::Through::goes_is))]
 pub fn step_ways(
     alloc: Global,
@@ -123,6 +123,21 @@ pub fn step_ways(
     Ok(ways)
 }
 
+fn last_line(alloc: Global, state: &State) -> Result<Vec<Line>, AllocError>
+    ensures { IfOk result (λ lines. lines.items ≡ node_line state.now.p_end state.now.n_end ∷ []) }
+{
+    let mut lines = Vec::new(alloc);
+    lines.push(node_line(state.p_end, state.n_end))?;
+    Ok(lines)
+}
+
+#[tactic(auto, using(crate::proofs::Tables::none_marked))]
+fn no_nets() -> [bool; NETS]
+    ensures { marked result ≡ (λ (net : NetOf). false) }
+{
+    [false; NETS]
+}
+
 /// All tracks through the last line that go on from these, below the limit; each is empty. `before` has the nets with a
 /// place before the state's last node line.
 pub fn last_ways(
@@ -139,15 +154,16 @@ pub fn last_ways(
     ensures { IfOk result (λ ways. ways ≡ ends_ways pins.now limit kinds.now state.now tracks.now) }
 {
     kinds.show_limits();
-    let line = node_line(state.p_end, state.n_end);
+    let lines = last_line(alloc, state)?;
+    let none = no_nets();
     let ways = ways_through(
         alloc,
         pins,
         limit,
         kinds.nets,
         before,
-        &[line],
-        &[false; NETS],
+        &lines,
+        &none,
         tracks.as_slice(),
     )?;
     Ok(ways)
