@@ -1,5 +1,5 @@
 -- Lists of tracks, one more track or one more way at a time.
-use Rattle.std.proofs.Common.{ℕ, zero, suc, ◌≡◌, ◌+◌, ◌++◌, Bool, true, false, cond, List, [], ◌∷◌, refl, sym, ap, arith, length, take, ◌∙◌}
+use Rattle.std.proofs.Common.{ℕ, zero, suc, ◌≡◌, ◌+◌, ◌++◌, Bool, List, [], ◌∷◌, refl, sym, ap, arith, ◌∙◌}
 use Rattle.std.specs.List.{filter, flat_map, range_with_len}
 use Rattle.std.proofs.lemmas.List.Elements.{filter-append}
 use Rattle.std.proofs.lemmas.List.Concat.{flat_map-cons}

@@ -1,9 +1,8 @@
 -- Sets of nets as tables.
-use Rattle.std.proofs.Common.{ℕ, zero, suc, ◌≡◌, ◌<◌, ◌||◌, ◌==◌, Bool, true, false, List, [], ◌∷◌, Option, Some, None, inl, inr, refl, sym, ap, subst, arith, length, ◌∙◌}
+use Rattle.std.proofs.Common.{ℕ, zero, suc, ◌≡◌, ◌<◌, ◌||◌, ◌==◌, Bool, true, false, List, inl, inr, refl, sym, length, ◌∙◌}
 use Rattle.std.specs.Prelude.{get_or, replicate, slice_set}
 use Rattle.std.proofs.lemmas.Bool.{cases_eq, eq-eqb, ne_eqb}
 use Rattle.std.proofs.lemmas.List.{get_or-set_other, get_or-set_same}
-use Rattle.cell_num.specs.declared.net.NetNo.{NetNo}
 use Rattle.row_trails.specs.Counts.{flag}
 use Rattle.channel_lines.specs.declared.line.Line.{Line}
 use Rattle.channel_lines.specs.Lines.{is_net, with_line}

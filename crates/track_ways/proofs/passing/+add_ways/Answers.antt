@@ -1,4 +1,4 @@
-use Rattle.std.proofs.Common.{rules, ◌≡◌, ◌++◌, ◌≤◌, ap, arith, length, take, take_all, ◌∙◌}
+use Rattle.std.proofs.Common.{rules, ◌≡◌, ◌++◌, ◌≤◌, ap, length, take, take_all, ◌∙◌}
 use Rattle.std.specs.List.{flat_map}
 use Rattle.track_ways.specs.Tables.{marked}
 use Rattle.track_ways.specs.Ways.{nets_below, pass_ways}
