@@ -1,5 +1,5 @@
 -- All nets with a place before a state or on the way to a next column are numbered below the kinds' nets.
-use Rattle.std.proofs.Common.{ℕ, ◌≡◌, ◌+◌, ◌<◌, ◌≤◌, ◌⊎◌, ◌||◌, ◌==◌, Bool, true, false, cond, List, [], ◌∷◌, Option, Some, None, IfSome, option_map, inl, inr, refl, subst, arith, All, Contains, slice_get}
+use Rattle.std.proofs.Common.{ℕ, ◌≡◌, ◌+◌, ◌<◌, ◌≤◌, ◌⊎◌, ◌||◌, ◌==◌, Bool, true, false, cond, List, [], ◌∷◌, Option, Some, None, IfSome, option_map, inl, inr, refl, sym, subst, arith, All, Contains, slice_get}
 use Rattle.std.proofs.lemmas.Bool.{cases_lt, eqb-true, ltb-true}
 use Rattle.std.proofs.lemmas.List.Elements.{All-append, All-cons, All-head, All-nil, All-tail}
 use Rattle.std.proofs.lemmas.List.Sums.{sum_by-cons}
@@ -28,6 +28,8 @@ use Rattle.channel_lines.specs.Lines.{has_place, is_ahead, is_net}
 use Rattle.channel_lines.specs.Rows.{gate_line, is_gap_behind, left_end, lines_between, node_line}
 use Rattle.open_nets.specs.States.{is_behind, touched, touched_here, touched_left, touches}
 use Rattle.open_nets.specs.Paths.{lines_to}
+use Rattle.cell_num.proofs.Lists.{all_imply}
+use Rattle.track_ways.specs.Tables.{HasEntries, HasEntry}
 use Rattle.track_ways.specs.Ways.{net_of, nets_below}
 use Rattle.track_ways.proofs.Complete.{eqb_false, in_range, net_same}
 use Rattle.track_ways.proofs.Exact.{Among}
@@ -131,3 +133,21 @@ lines_among k s step some state net e =
 
 pub end_among : (k : Kinds) (s : State) → IsState k s → Among (nets_below k.nets) (is_ahead (node_line s.p_end s.n_end ∷ []))
 end_among k s state net e = below_there k.nets net (ahead_low k.nets (node_line s.p_end s.n_end ∷ []) net (All-cons (LineLow k.nets) (node_line s.p_end s.n_end) [] (state.p_end, state.n_end, tt) (All-nil (LineLow k.nets))) e)
+
+wider : (n : ℕ) (o : Option NetNo) → n ≤ 256 → IsLow n o → HasEntry 256 o
+wider n None few low = tt
+wider n (Some x) few low = omega (arith, few, low)
+
+has_entries : (n : ℕ) → n ≤ 256 → (line : Line) → LineLow n line → HasEntries 256 line
+has_entries n few line low = record { p = wider n line.p few low.0; n = wider n line.n few low.1; gate = wider n line.gate few low.2 }
+
+-- all nets on the way to a next column have entries in a table of 256
+pub entries : (k : Kinds) (s : State) (step : Step) (lines : List Line) → AreSomeKinds k → IsState k s → lines ≡ lines_to s (column_of k step) → All (HasEntries 256) lines
+entries k s step lines some state is =
+    let ends : EndsAreNets k = ends_are_nets k some in
+    let gates : GatesAreNets k = gates_are_nets k some in
+    subst (All (HasEntries 256)) (sym is) (all_imply (LineLow k.nets) (HasEntries 256) (lines_to s (column_of k step)) (has_entries k.nets some.few_nets) (lines_low k.nets s (column_of k step) state.p_end state.n_end (placed_low P k.p step.p k.nets ends.p gates.p) (placed_low N k.n step.n k.nets ends.n gates.n)))
+
+-- and so have those of the last line
+pub end_entries : (k : Kinds) (s : State) (lines : List Line) → AreSomeKinds k → IsState k s → lines ≡ node_line s.p_end s.n_end ∷ [] → All (HasEntries 256) lines
+end_entries k s lines some state is = subst (All (HasEntries 256)) (sym is) (All-cons (HasEntries 256) (node_line s.p_end s.n_end) [] (has_entries k.nets some.few_nets (node_line s.p_end s.n_end) (state.p_end, state.n_end, tt)) (All-nil (HasEntries 256)))

@@ -1,8 +1,8 @@
 -- The listed tracks behind a next column of a state, and behind its last line.
-use Rattle.std.proofs.Common.{ℕ, ◌≡◌, ◌↔◌, ◌++◌, ◌∷◌, false, List, [], map, length, length-append, refl, subst, arith, Any, Contains}
+use Rattle.std.proofs.Common.{ℕ, ◌≡◌, ◌↔◌, ◌++◌, ◌∷◌, false, List, [], map, length, length-append, refl, subst, arith, Any, Contains, sym, All}
 use Rattle.cell_num.specs.declared.net.NetNo.{NetNo}
 use Rattle.cell_num.specs.declared.net.Pins.{Pins}
-use Rattle.cell_num.proofs.Lists.{contains_here, contains_none}
+use Rattle.cell_num.proofs.Lists.{all_from_contains, contains_here, contains_none}
 use Rattle.cell_num.proofs.Pairs.{Some', any_from_some}
 use Rattle.row_state.specs.declared.kind.Kinds.{Kinds}
 use Rattle.row_state.specs.declared.state.State.{State}
@@ -62,3 +62,9 @@ ends_listed pins limit k s tracks some state one = (there, back)
     back none = empty (ends_ways pins limit k s tracks) (λ way at.
         let p : Passed pins limit (is_behind k s) (node_line s.p_end s.n_end ∷ []) (λ net. false) tracks way = pass_exact pins limit (nets_below k.nets) (is_behind k s) (node_line s.p_end s.n_end ∷ []) (λ net. false) tracks way one (behind_among k s some) (end_among k s state) at in
         none p.track p.from (p.last, p.passes))
+
+pub each_listed : (pins : Pins) (limit : ℕ) (k : Kinds) (s : State) (step : Step) (tracks : List NetTrack) (ways : List (List NetTrack)) → ways ≡ goes_ways pins limit k s tracks step → (track next : NetNo → ℕ) → AreTracksOf tracks track → Goes pins limit k s track step next → Any (λ way. AreTracksOf way next) ways
+each_listed pins limit k s step tracks ways is track next have goes = subst (λ ws. Any (λ way. AreTracksOf way next) ws) (sym is) (step_all pins limit k s step tracks track next have goes)
+
+pub each_goes : (pins : Pins) (limit : ℕ) (k : Kinds) (s : State) (step : Step) (tracks : List NetTrack) (ways : List (List NetTrack)) → AreSomeKinds k → IsState k s → ways ≡ goes_ways pins limit k s tracks step → IsSingle tracks → All (λ way. (track : NetNo → ℕ) × (next : NetNo → ℕ) × AreTracksOf tracks track × Goes pins limit k s track step next × AreTracksOf way next) ways
+each_goes pins limit k s step tracks ways some state is one = all_from_contains (λ way. (track : NetNo → ℕ) × (next : NetNo → ℕ) × AreTracksOf tracks track × Goes pins limit k s track step next × AreTracksOf way next) ways (λ way there. step_only pins limit k s step tracks way some state one (subst (λ ws. Contains ws way) is there))

@@ -9,3 +9,6 @@ pub struct NetTrack {
 
 /// Tracks of some nets.
 pub type NetTracks = List<NetTrack>;
+
+/// Ways to give nets tracks.
+pub type TrackWays = List<NetTracks>;

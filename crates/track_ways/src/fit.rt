@@ -1,0 +1,44 @@
+ghost use Rattle.std.specs.Prelude.{◌≡◌, ◌&&◌, ltb};
+ghost use Rattle.std.specs.List.{list_all, list_any};
+ghost use Rattle.track_ways.specs.Ways.{are_apart, is_listed, line_test};
+
+use crate::NetTrack;
+use crate::held::is_net;
+use cell_num::NetNo;
+use channel_lines::Line;
+
+pub(crate) fn is_listed(tracks: &[NetTrack], net: NetNo) -> bool
+    ensures { result ≡ is_listed tracks.now net }
+{
+    tracks.iter().any(|t| t.net.0 == net.0)
+}
+
+fn are_apart(line: &Line, t: &NetTrack, u: &NetTrack) -> bool
+    ensures { result ≡ are_apart line.now t.now u.now }
+{
+    if t.net.0 == u.net.0 {
+        t.track == u.track
+    } else {
+        t.track != u.track
+            && (!(is_net(&line.p, t.net) && is_net(&line.n, u.net)) || u.track < t.track)
+    }
+}
+
+fn are_all_apart(line: &Line, t: &NetTrack, tracks: &[NetTrack]) -> bool
+    ensures { result ≡ list_all (are_apart line.now t.now) tracks.now }
+{
+    tracks.iter().all(|u| are_apart(line, t, u))
+}
+
+fn fits_with(limit: u32, line: &Line, t: &NetTrack, tracks: &[NetTrack]) -> bool
+    ensures { result ≡ (ltb t.now.track limit && list_all (are_apart line.now t.now) tracks.now) }
+{
+    t.track < limit && are_all_apart(line, t, tracks)
+}
+
+/// Whether the tracks fit the line.
+pub(crate) fn do_fit(limit: u32, line: &Line, tracks: &[NetTrack]) -> bool
+    ensures { result ≡ line_test limit line.now tracks.now }
+{
+    tracks.iter().all(|t| fits_with(limit, line, t, tracks))
+}

@@ -1,0 +1,92 @@
+ghost use Rattle.std.specs.Prelude.{◌≡◌, ◌||◌};
+ghost use Rattle.row_trails.specs.Counts.{flag};
+ghost use Rattle.channel_lines.specs.Lines.{is_net, has_place, is_ahead, is_open, is_held, is_rail, begins_or_ends};
+ghost use Rattle.track_ways.specs.Tables.{marked};
+
+use cell_num::{NetNo, Pins};
+use channel_lines::Line;
+use row_trails::NETS;
+
+pub(crate) fn is_net(place: &Option<NetNo>, net: NetNo) -> bool
+    ensures { result ≡ is_net place.now net }
+{
+    match place {
+        Some(other) => other.0 == net.0,
+        None => false,
+    }
+}
+
+pub(crate) fn has_place(line: &Line, net: NetNo) -> bool
+    ensures { result ≡ has_place line.now net }
+{
+    is_net(&line.p, net) || (is_net(&line.n, net) || is_net(&line.gate, net))
+}
+
+fn is_marked(table: &[bool; NETS], net: NetNo) -> bool
+    ensures { result ≡ marked table.now net }
+{
+    match table.get(net.0 as usize) {
+        Some(marked) => *marked,
+        None => false,
+    }
+}
+
+fn is_rail(pins: &Pins, net: NetNo) -> bool
+    ensures { result ≡ is_rail pins.now net }
+{
+    net.0 == pins.vdd.0 || net.0 == pins.gnd.0
+}
+
+fn is_ahead(lines: &[Line], net: NetNo) -> bool
+    ensures { result ≡ is_ahead lines.now net }
+{
+    match lines.split_first() {
+        Some((line, rest)) => has_place(line, net) || is_ahead(rest, net),
+        None => false,
+    }
+}
+
+fn is_later(lines: &[Line], behind: &[bool; NETS], net: NetNo) -> bool
+    ensures { result ≡ (is_ahead lines.now net || marked behind.now net) }
+{
+    is_ahead(lines, net) || is_marked(behind, net)
+}
+
+/// Whether the net is open before the lines, of which `before` and `behind` have the nets with a place before and
+/// behind them.
+pub(crate) fn is_open(
+    pins: &Pins,
+    before: &[bool; NETS],
+    lines: &[Line],
+    behind: &[bool; NETS],
+    net: NetNo,
+) -> bool
+    ensures { result ≡ is_open pins.now (marked before.now) (λ n. is_ahead lines.now n || marked behind.now n) net }
+{
+    !is_rail(pins, net) && (is_marked(before, net) && is_later(lines, behind, net))
+}
+
+fn begins_or_ends(pins: &Pins, before: bool, line: &Line, behind: bool, net: NetNo) -> bool
+    ensures { result ≡ begins_or_ends pins.now (λ n. before) line.now (λ n. behind) net }
+{
+    has_place(line, net)
+        && (before
+            || (behind || (is_net(&line.p, net) && is_net(&line.n, net) || net.0 < pins.pins)))
+}
+
+/// Whether a trunk of the net holds the line in front of the rest of the lines.
+pub(crate) fn is_held(
+    pins: &Pins,
+    before: &[bool; NETS],
+    line: &Line,
+    rest: &[Line],
+    behind: &[bool; NETS],
+    net: NetNo,
+) -> bool
+    ensures { result ≡ is_held pins.now (marked before.now) line.now
+        (λ n. is_ahead rest.now n || marked behind.now n) net }
+{
+    let earlier = is_marked(before, net);
+    let later = is_later(rest, behind, net);
+    !is_rail(pins, net) && ((earlier && later) || begins_or_ends(pins, earlier, line, later, net))
+}

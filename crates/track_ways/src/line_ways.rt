@@ -1,0 +1,122 @@
+// The tracks at a line, from those of the nets that are open before it.
+ghost use Rattle.std.specs.Prelude.{◌≡◌, ◌≤◌, ◌∷◌, ◌++◌, ◌||◌, filter, IfOk, OnOk};
+ghost use Rattle.channel_lines.specs.Lines.{is_ahead};
+ghost use Rattle.track_ways.specs.Tables.{marked};
+ghost use Rattle.track_ways.specs.Ways.{fills, line_test, line_ways, missing, nets_below, on_track, open_of};
+
+use crate::fit::{do_fit, is_listed};
+use crate::held::{is_held, is_open};
+use crate::{NetTrack, NetTracks, TrackWays};
+use cell_num::{List, NetNo, NoMemory, Pins};
+use channel_lines::Line;
+use row_trails::NETS;
+use std::alloc::{AllocError, Global};
+
+/// The tracks of the nets that are open before the lines.
+pub(crate) fn open_tracks(
+    alloc: Global,
+    pins: &Pins,
+    before: &[bool; NETS],
+    lines: &[Line],
+    behind: &[bool; NETS],
+    tracks: &[NetTrack],
+) -> Result<Vec<NetTrack>, AllocError>
+    ensures { IfOk result (λ kept. kept.items ≡ open_of pins.now (marked before.now)
+        (λ n. is_ahead lines.now n || marked behind.now n) tracks.now) }
+{
+    let mut kept = Vec::new(alloc);
+    for t in tracks {
+        if is_open(pins, before, lines, behind, t.net) {
+            kept.push(*t)?;
+        }
+    }
+    Ok(kept)
+}
+
+// The nets that hold the line and have no track yet.
+fn missing_nets(
+    alloc: Global,
+    pins: &Pins,
+    nets: u32,
+    before: &[bool; NETS],
+    line: &Line,
+    rest: &[Line],
+    behind: &[bool; NETS],
+    tracks: &[NetTrack],
+) -> Result<Vec<NetNo>, AllocError>
+    ensures { IfOk result (λ v. v.items ≡ missing pins.now (marked before.now) line.now
+        (λ n. is_ahead rest.now n || marked behind.now n) (nets_below nets) tracks.now) }
+{
+    (0..nets)
+        .map(|n| NetNo(n))
+        .filter(|net| is_held(pins, before, line, rest, behind, *net) && !is_listed(tracks, *net))
+        .collect(alloc)
+}
+
+fn with_track(
+    alloc: Global,
+    net: NetNo,
+    track: u32,
+    tracks: &[NetTrack],
+) -> Result<Vec<NetTrack>, AllocError>
+    ensures { IfOk result (λ longer. longer.items ≡ on_track net track ∷ tracks.now) }
+{
+    let mut longer = Vec::new(alloc);
+    longer.push(NetTrack { net, track })?;
+    longer.extend_from_slice(tracks)?;
+    Ok(longer)
+}
+
+fn copied(alloc: Global, tracks: &[NetTrack]) -> Result<NetTracks, NoMemory>
+    ensures { IfOk result (λ copy. copy ≡ tracks.now) }
+{
+    let mut copy = Vec::new(alloc);
+    copy.extend_from_slice(tracks)?;
+    Ok(List::from_vec(copy))
+}
+
+// Each way to give the nets tracks that fit the line.
+#[tactic(auto, using(crate::proofs::Listing::fits_more, crate::proofs::Listing::fits_whole))]
+fn add_fills(
+    alloc: Global,
+    limit: u32,
+    line: &Line,
+    nets: &[NetNo],
+    tracks: &[NetTrack],
+    ways: &mut TrackWays,
+) -> Result<(), NoMemory>
+    ensures { OnOk result (ways.new ≡ ways.old ++ filter (line_test limit line.now) (fills limit nets.now tracks.now)) }
+{
+    let Some((net, rest)) = nets.split_first() else {
+        if do_fit(limit, line, tracks) {
+            ways.push(copied(alloc, tracks)?)?;
+        }
+        return Ok(());
+    };
+    for track in 0..limit {
+        let longer = with_track(alloc, *net, track, tracks)?;
+        add_fills(alloc, limit, line, rest, &longer, ways)?;
+    }
+    Ok(())
+}
+
+/// The tracks that fit the line and go on from those before it.
+pub(crate) fn tracks_at(
+    alloc: Global,
+    pins: &Pins,
+    limit: u32,
+    nets: u32,
+    before: &[bool; NETS],
+    line: &Line,
+    rest: &[Line],
+    behind: &[bool; NETS],
+    tracks: &[NetTrack],
+) -> Result<TrackWays, NoMemory>
+    ensures { IfOk result (λ ways. ways ≡ line_ways pins.now limit (nets_below nets) (marked before.now) line.now
+        (λ n. is_ahead rest.now n || marked behind.now n) tracks.now) }
+{
+    let missing = missing_nets(alloc, pins, nets, before, line, rest, behind, tracks)?;
+    let mut ways = TrackWays::new(alloc);
+    add_fills(alloc, limit, line, &missing, tracks, &mut ways)?;
+    Ok(ways)
+}
