@@ -63,8 +63,8 @@ pub record CheckMaterial : Type 0 where
   pub bytes : List ℕ
 
 -- What a call works on: of a plan or a drawing its inputs and the evidence, of a check the bytes besides; a cell of a
--- GDSII file, and the deck that it is checked by; a number of generated cells; what a row of cells is made of; a cell and
--- its macro.
+-- GDSII file, and the deck that it is checked by; a number of generated cells; what a row of cells is made of; a cell
+-- and its macro.
 abbrev pub MaterialOf : Kind → Type 0
 MaterialOf Planning = PlanMaterial
 MaterialOf Making = MakeMaterial
@@ -158,8 +158,8 @@ WorksOn (read.Rowing m) end = RowsTo m.inputs m.stem end
 WorksOn (read.Agreeing both) end = AgreesTo both end
 
 -- the statuses that the words or the files call for: a search alone is unfinished, a making alone, of one cell or of a
--- row, meets a cycle or is too tall, evidence or a layout alone is rejected, a GDSII file alone holds no netlist, cells of
--- a row alone do not stand side by side, and an abstract alone does not agree
+-- row, meets a cycle or is too tall, evidence or a layout alone is rejected, a GDSII file alone holds no netlist, cells
+-- of a row alone do not stand side by side, and an abstract alone does not agree
 abbrev pub settled_by : Kind → List Status
 settled_by Planning = status.Done ∷ status.Input ∷ status.Unfinished ∷ []
 settled_by Making = status.Done ∷ status.Input ∷ status.Cycle ∷ status.Unfinished ∷ status.TooTall ∷ []

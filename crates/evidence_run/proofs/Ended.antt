@@ -24,7 +24,7 @@ use Rattle.evidence_run.specs.declared.certificate.Certificate.TheVariants as he
 use Rattle.evidence_run.specs.Certificate.{CanBeWritten, row_evidence}
 use Rattle.evidence_run.specs.Make.{MakeAnswer, Made, Open, Crowded, IsDrawnTo, IsMakeEnd, IsOpenEnd, Makes, MakesTo}
 use Rattle.evidence_run.specs.Searched.{Crowds, IsFoundBy, IsOpenBy}
-use Rattle.make_run.proofs.Planned as log
+use Rattle.make_run.proofs.Logs as log
 use Rattle.make_run.specs.Make.{IsEnd, IsRowEnd, RowEvidence, named}
 use Rattle.trail_run.specs.Plan.{gate_text}
 

@@ -1,5 +1,5 @@
 -- What `plan` comes to, with any evidence: its report.
-use Rattle.std.specs.Prelude.{ℕ, ◌≡◌, List, ◌++◌}
+use Rattle.std.specs.Prelude.{ℕ, ◌≡◌, List, ◌++◌, length}
 use Rattle.bound_log.specs.Text.{log_text}
 use Rattle.call_end.specs.declared.end.End.{End}
 use Rattle.call_end.specs.declared.status.Status.TheVariants as status
@@ -16,7 +16,8 @@ use Rattle.evidence_run.specs.Searched.{Crowds, IsFoundBy, IsOpenBy}
 use Rattle.row_model.specs.declared.column.Column.{Column}
 use Rattle.spice_net.specs.declared.subckt.Subckt.{Subckt}
 use Rattle.trail_log.specs.Text.{trails_text}
-use Rattle.trail_run.specs.Plan.{gate_text, planned_text as trails_planned_text}
+use Rattle.trail_run.specs.Counts.{counts_text}
+use Rattle.trail_run.specs.Plan.{gate_text}
 
 pub data PlanAnswer : Type 0 where
   Planned : (row : List Column) (certificate : Certificate) → PlanAnswer
@@ -33,7 +34,8 @@ Plans evidence inputs (Crowded gate) = Crowds evidence inputs gate
 -- the row, and of a certificate by trails its counts
 abbrev pub planned_text : Subckt → List Column → Certificate → List ℕ
 planned_text cell row (Log log) = plan_text cell.name cell.nets row
-planned_text cell row (Trails trails) = trails_planned_text cell row trails
+planned_text cell row (Trails trails) =
+    plan_text cell.name cell.nets row ++ counts_text (length trails.lemmas) (length trails.fill)
 
 abbrev pub certificate_text : List ℕ → Certificate → List ℕ
 certificate_text name (Log log) = log_text name log

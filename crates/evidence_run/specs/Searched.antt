@@ -13,7 +13,8 @@ use Rattle.evidence_run.specs.declared.searched.Searched.TheVariants.{Found, Ope
 use Rattle.trail_run.specs.Plan as trail
 use Rattle.trail_search.specs.Ended.{IsCrowded}
 
--- the row is the first least one, with a certificate of this kind that is accepted and lists it, found within the budget
+-- the row is the first least one, with a certificate of this kind that is accepted and lists it, found within the
+-- budget
 abbrev pub IsFoundBy : Evidence → Inputs → List Column → Certificate → Type 0
 IsFoundBy Log inputs row (held.Log found) = log.IsFound inputs row found
 IsFoundBy Trails inputs row (held.Trails found) = trail.IsPlanned inputs row found

@@ -3,9 +3,9 @@ ghost use Rattle.bound_log.specs.Fits.{ForSome, IsLogName};
 ghost use Rattle.call_end.specs.declared.status.Status.TheVariants as status;
 ghost use Rattle.call_end.specs.End.{reports};
 ghost use Rattle.evidence_run.specs.Certificate.{CanBeWritten};
+ghost use Rattle.evidence_run.specs.declared.certificate.Certificate.TheVariants.{Trails};
 ghost use Rattle.evidence_run.specs.Plan.{PlansTo, open_text, planned_text};
 ghost use Rattle.trail_log.specs.Fits.{TrailsFit};
-ghost use Rattle.trail_run.specs.Plan.{open_text as trails_open_text};
 
 use crate::certificate::Certificate;
 use crate::searched::Searched;
@@ -63,7 +63,7 @@ fn trails_unfinished(
 ) -> Result<End, NoMemory>
     requires name { IsLogName cell.now.name }
     requires fits { ForSome (λ k. TrailsFit k trails.now) }
-    ensures { IfOk result (λ end. end ≡ reports status.Unfinished (trails_open_text cell.now proved trails.now)) }
+    ensures { IfOk result (λ end. end ≡ reports status.Unfinished (open_text cell.now proved (Trails trails.now))) }
 {
     let text = write_trails(alloc, &cell.name, trails)?;
     let mut report = Status::Unfinished.report(alloc)?;
@@ -93,8 +93,8 @@ fn unfinished(
     }
 }
 
-/// The first least row of the inputs, found with such evidence; or what a search proves that spent its budget; or a gate
-/// whose fingers pair in too many ways.
+/// The first least row of the inputs, found with such evidence; or what a search proves that spent its budget; or a
+/// gate whose fingers pair in too many ways.
 pub fn plan(alloc: Global, inputs: &Inputs, evidence: Evidence) -> Result<End, NoMemory>
     ensures { IfOk result (PlansTo evidence inputs.now) }
 {

@@ -64,8 +64,8 @@ fn by_trails(alloc: Global, inputs: &Inputs) -> Result<Searched, NoMemory>
 }
 
 impl Searched {
-    /// The first least row of the fingers with such evidence; or what a search proves that spent its budget; or a gate whose
-    /// fingers pair in too many ways.
+    /// The first least row of the fingers with such evidence; or what a search proves that spent its budget; or a gate
+    /// whose fingers pair in too many ways.
     pub fn of(alloc: Global, inputs: &Inputs, evidence: Evidence) -> Result<Searched, NoMemory>
         ensures { IfOk result (IsSearched evidence inputs.now) }
     {

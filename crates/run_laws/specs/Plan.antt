@@ -1,5 +1,5 @@
--- What a call of `plan` tells: the row, with evidence; or what a search that spent its budget proves, or a gate with too
--- many ways to pair its fingers. What calls for the row.
+-- What a call of `plan` tells: the row, with evidence; or what a search that spent its budget proves, or a gate with
+-- too many ways to pair its fingers. What calls for the row.
 use Rattle.std.specs.Prelude.{ℕ, ◌≡◌, ◌⊎◌, List, ◌++◌, Option}
 use Rattle.cell_io.specs.Desk.{Files, View, Both}
 use Rattle.cell_num.specs.declared.net.NetNo.{NetNo}

@@ -1,6 +1,6 @@
 use Rattle.std.proofs.Common.{subst}
 use Rattle.cell_inputs.specs.Inputs.{Inputs, inputs_of}
-use Rattle.make_run.proofs.Makes.{inside_named}
+use Rattle.make_run.proofs.Named.{inside_named}
 use Rattle.evidence_run.specs.Searched.{Crowds, IsFoundBy, IsOpenBy, IsSearched}
 use Rattle.evidence_run.specs.declared.searched.Searched.{Searched}
 use Rattle.evidence_run.proofs.Ended.{crowded_to, found_arranges, found_fits, made_to, open_fits, open_to}

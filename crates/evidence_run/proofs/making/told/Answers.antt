@@ -1,7 +1,7 @@
 use Rattle.std.proofs.Common.{◌≡◌, subst}
 use Rattle.cell_inputs.specs.Inputs.{Inputs, inputs_of}
 use Rattle.make_run.specs.Evidence.{shown}
-use Rattle.make_run.proofs.Makes.{inside_named}
+use Rattle.make_run.proofs.Named.{inside_named}
 use Rattle.evidence_run.specs.Certificate.{row_evidence}
 use Rattle.evidence_run.proofs.Ended.{drawn_to, short_row}
 use Rattle.evidence_run.proofs.making.told.Goals as goal

@@ -1,6 +1,6 @@
 use Rattle.std.proofs.Common.{subst}
 use Rattle.cell_inputs.specs.Inputs.{inputs_of}
-use Rattle.make_run.proofs.Makes.{inside_named}
+use Rattle.make_run.proofs.Named.{inside_named}
 use Rattle.evidence_run.specs.Plan.{Planned, Open, Crowded}
 use Rattle.evidence_run.specs.Searched.{Crowds, IsFoundBy, IsOpenBy, IsSearched}
 use Rattle.evidence_run.proofs.Ended.{found_arranges, open_fits, short_row}

@@ -1,7 +1,5 @@
--- What a plan comes to, from what the search answered.
-use Rattle.std.proofs.Common.{ℕ, ◌≡◌, ◌≤◌, List, ◌++◌, Result, IfOk, ap, length, refl, ◌∙◌, arith}
-use Rattle.std.proofs.lemmas.Result.{IfOk-weaker}
-use Rattle.cell_num.specs.declared.list.NoMemory.{NoMemory}
+-- The log of a search: a text can hold it, and how it is told where the budget is spent.
+use Rattle.std.proofs.Common.{ℕ, ◌≡◌, List, ◌++◌, ap, length, ◌∙◌}
 use Rattle.row_model.specs.declared.column.Column.{Column}
 use Rattle.cell_num.specs.declared.finger.Fingers.{Fingers}
 use Rattle.row_state.specs.Component.{component_value}
@@ -9,28 +7,16 @@ use Rattle.bound_log.specs.declared.log.Log.{Log}
 use Rattle.bound_log.specs.Fits.{Fits, ForSome}
 use Rattle.bound_log.specs.Text.{log_text}
 use Rattle.row_search.specs.Ended.{IsSpent}
-use Rattle.row_search.specs.First.{IsFirstLeast}
-use Rattle.log_check.specs.Accepted.{ForKinds, WithKinds}
-use Rattle.row_search.specs.Enough.{enough}
+use Rattle.log_check.specs.Accepted.{WithKinds}
 use Rattle.spice_net.specs.declared.subckt.Subckt.{Subckt}
 use Rattle.cell_inputs.specs.Inputs.{Inputs}
-use Rattle.cell_make.specs.Searched.{IsCertified, IsUnfinished}
+use Rattle.cell_make.specs.Searched.{IsCertified}
 use Rattle.call_end.specs.declared.end.End.{End}
 use Rattle.call_end.specs.declared.status.Status.TheVariants as status
 use Rattle.call_end.specs.End.{says}
-use Rattle.make_run.specs.Plan.{PlansTo, Planned, Unfinished, planned_end, unfinished_end}
+use Rattle.make_run.specs.Unfinished.{unfinished_end}
 use Rattle.cell_report.specs.Logs.{unfinished_text}
 use Rattle.call_end.specs.Status.{first_line}
-
-pub planned_to : (inputs : Inputs) (row : List Column) (log : Log) (r : Result End NoMemory) → IsFirstLeast inputs.fingers row → IsCertified inputs row log → IfOk r (λ end. end ≡ planned_end inputs.cell row) → IfOk r (PlansTo inputs)
-planned_to inputs row log r first solved is = IfOk-weaker r (λ (end : End). end ≡ planned_end inputs.cell row) (PlansTo inputs) (λ end same. (Planned row log, (first, solved), same)) is
-
-pub unfinished_to : (inputs : Inputs) (proved : ℕ) (log : Log) (r : Result End NoMemory) → IsUnfinished inputs proved log → IfOk r (λ end. end ≡ unfinished_end inputs.cell proved log) → IfOk r (PlansTo inputs)
-unfinished_to inputs proved log r spent is = IfOk-weaker r (λ (end : End). end ≡ unfinished_end inputs.cell proved log) (PlansTo inputs) (λ end same. (Unfinished proved log, spent, same)) is
-
-pub enough_done : (inputs : Inputs) (end : End) → ForKinds inputs.fingers (λ k. enough k ≤ inputs.tech.budget) → PlansTo inputs end → end.status ≡ status.Done
-enough_done inputs end much (Planned row log, h, is) = rw is refl
-enough_done inputs end much (Unfinished proved log, (version, (k, of_k, some_k, spent)), is) = absurd (omega (arith, spent.short, much k of_k some_k))
 
 -- a text can hold the log of a search
 pub found_fits : (inputs : Inputs) (row : List Column) (log : Log) → IsCertified inputs row log → ForSome (λ k. Fits k log)

@@ -1,7 +1,7 @@
 use Rattle.std.proofs.Common.{◌≡◌, length, rules}
 use Rattle.bound_log.specs.Text.{log_text}
-use Rattle.make_run.proofs.Planned.{spent_end}
-use Rattle.make_run.proofs.planning.unfinished.Goals as goal
+use Rattle.make_run.proofs.Logs.{spent_end}
+use Rattle.make_run.proofs.spent.unfinished.Goals as goal
 
 pub returns : goal.returns
 returns c =
