@@ -3,7 +3,7 @@ ghost use Rattle.bound_log.specs.Fits.{ForSome, IsLogName};
 ghost use Rattle.call_end.specs.declared.status.Status.TheVariants as status;
 ghost use Rattle.call_end.specs.End.{reports};
 ghost use Rattle.evidence_run.specs.Certificate.{CanBeWritten};
-ghost use Rattle.evidence_run.specs.declared.certificate.Certificate.TheVariants.{Trails};
+ghost use Rattle.evidence_run.specs.declared.certificate.Certificate.TheVariants as held;
 ghost use Rattle.evidence_run.specs.Plan.{PlansTo, open_text, planned_text};
 ghost use Rattle.trail_log.specs.Fits.{TrailsFit};
 
@@ -63,7 +63,7 @@ fn trails_unfinished(
 ) -> Result<End, NoMemory>
     requires name { IsLogName cell.now.name }
     requires fits { ForSome (λ k. TrailsFit k trails.now) }
-    ensures { IfOk result (λ end. end ≡ reports status.Unfinished (open_text cell.now proved (Trails trails.now))) }
+    ensures { IfOk result (λ end. end ≡ reports status.Unfinished (open_text cell.now proved (held.Trails trails.now))) }
 {
     let text = write_trails(alloc, &cell.name, trails)?;
     let mut report = Status::Unfinished.report(alloc)?;
