@@ -22,7 +22,7 @@ use Rattle.call_work.proofs.Works.{kept_works}
 use Rattle.bench_tally.specs.Report.{BenchesTo}
 use Rattle.call_work.specs.Commands.{Kind, Planning, Making, Checking, Extracting, Benching, Rowing, Agreeing, Material, MaterialOf, WorksOn, WorksTo, checking, gathered, kind_of, making, planning, read_by, settled_by}
 use Rattle.call_work.specs.Ends.{desk_statuses, is_among}
-use Rattle.call_work.specs.Evidence.{ChecksBy, MakesBy, PlansBy, evidence_file}
+use Rattle.call_work.specs.Evidence.{ChecksBy, evidence_file}
 use Rattle.call_work.specs.Kept.{WorksFor}
 use Rattle.call_work.specs.declared.commands.Material.TheVariants.{Bench as OfNumber, Read}
 use Rattle.call_work.specs.declared.commands.ReadMaterial.{ReadMaterial as Own}
@@ -39,9 +39,8 @@ use Rattle.layout_run.specs.declared.extraction.ExtractAnswer.TheVariants as ans
 use Rattle.row_make.specs.Rowed as rows
 use Rattle.row_make.specs.declared.outcome.InputFault.TheVariants as input
 use Rattle.row_run.specs.Row.{rowing}
-use Rattle.make_run.specs.Plan.{Planned, Unfinished}
-use Rattle.trail_make.specs.Make as trail_make
-use Rattle.trail_run.specs.Plan as trail
+use Rattle.evidence_run.specs.Make as make
+use Rattle.evidence_run.specs.Plan as plan
 use Rattle.trail_run.specs.declared.checking.TrailAnswer.TheVariants as checked
 
 -- ---- what the forms read, and what they end with by themselves
@@ -122,24 +121,6 @@ bench_works number (Ok end) works = kept_works Benching number end works
 
 -- ---- what the work comes to
 
-plans_end : (evidence : Evidence) (inputs : Inputs) (end : End) → PlansBy evidence inputs end → IsEndOf Planning end
-plans_end Log inputs end (Planned row log, h, is) = told Planning is refl refl
-plans_end Log inputs end (Unfinished proved log, h, is) = told Planning is refl refl
-plans_end Trails inputs end (trail.Planned row trails, h, is) = told Planning is refl refl
-plans_end Trails inputs end (trail.Unfinished proved trails, h, is) = told Planning is refl refl
-plans_end Trails inputs end (trail.Crowded gate, h, is) = told Planning is refl refl
-
-makes_end : (evidence : Evidence) (style : Style) (inputs : Inputs) (out : List ℕ) (end : End) → MakesBy evidence style inputs out end → IsEndOf Making end
-makes_end Log style inputs out end (made.Made row log routing xs, h, is) = makes is.status refl refl
-makes_end Log style inputs out end (made.Cyclic row log ring, h, is) = makes is.status refl refl
-makes_end Log style inputs out end (made.Tall row log routing, h, is) = makes is.status refl refl
-makes_end Log style inputs out end (made.Unfinished proved log, h, is) = makes is.status refl refl
-makes_end Trails style inputs out end (trail_make.Made row trails (RowDrawn routing xs), h, is) = makes is.status refl refl
-makes_end Trails style inputs out end (trail_make.Made row trails (RowCyclic ring), h, is) = makes is.status refl refl
-makes_end Trails style inputs out end (trail_make.Made row trails (RowTall routing), h, is) = makes is.status refl refl
-makes_end Trails style inputs out end (trail_make.Unfinished proved trails, h, is) = makes is.status refl refl
-makes_end Trails style inputs out end (trail_make.Crowded gate, h, is) = makes is.status refl refl
-
 checks_end : (evidence : Evidence) (inputs : Inputs) (bytes : List ℕ) (end : End) → ChecksBy evidence inputs bytes end → IsEndOf Checking end
 checks_end Log inputs bytes end (Accepted gaps lemmas, h, is) = told Checking is refl refl
 checks_end Log inputs bytes end (Misread f, h, is) = told Checking is refl refl
@@ -149,8 +130,14 @@ checks_end Trails inputs bytes end (checked.Misread f, h, is) = told Checking is
 checks_end Trails inputs bytes end (checked.Rejected cause, h, is) = told Checking is refl refl
 
 each_end : (kind : Kind) (m : MaterialOf kind) (end : End) → WorksTo kind m end → IsEndOf kind end
-each_end Planning m end works = plans_end m.evidence m.inputs end works
-each_end Making m end works = makes_end m.evidence m.style m.inputs m.stem end works
+each_end Planning m end (plan.Planned row certificate, h, is) = told Planning is refl refl
+each_end Planning m end (plan.Open proved certificate, h, is) = told Planning is refl refl
+each_end Planning m end (plan.Crowded gate, h, is) = told Planning is refl refl
+each_end Making m end (make.Made row certificate (RowDrawn routing xs), h, is) = makes is.status refl refl
+each_end Making m end (make.Made row certificate (RowCyclic ring), h, is) = makes is.status refl refl
+each_end Making m end (make.Made row certificate (RowTall routing), h, is) = makes is.status refl refl
+each_end Making m end (make.Open proved certificate, h, is) = makes is.status refl refl
+each_end Making m end (make.Crowded gate, h, is) = makes is.status refl refl
 each_end Checking m end works = checks_end m.evidence m.inputs m.bytes end works
 each_end Extracting m end (answer.Extracted netlist bodies, h, is) = told Extracting is refl refl
 each_end Extracting m end (answer.Broken found, h, is) = told Extracting is refl refl

@@ -14,7 +14,7 @@ use Rattle.call_words.specs.declared.evidence.Evidence.{Evidence}
 use Rattle.call_words.specs.declared.evidence.Evidence.TheVariants.{Log, Trails}
 use Rattle.call_words.specs.Words.{Form, Plan, Make, Check, Extract, Bench, Row, Agree}
 use Rattle.bench_tally.specs.Report.{BenchesTo}
-use Rattle.call_work.specs.Evidence.{ChecksBy, MakesBy, PlansBy, evidence_file}
+use Rattle.call_work.specs.Evidence.{ChecksBy, evidence_file}
 use Rattle.call_work.specs.declared.commands.Material.{Material as Kept}
 use Rattle.call_work.specs.declared.commands.Material.TheVariants as kept
 use Rattle.call_work.specs.declared.commands.ReadMaterial.{ReadMaterial as Own}
@@ -27,6 +27,8 @@ use Rattle.call_work.specs.declared.material.RowMaterial.{RowMaterial}
 use Rattle.cell_inputs.specs.declared.style.Style.{Style}
 use Rattle.cell_inputs.specs.Inputs.{Inputs}
 use Rattle.check_run.specs.LogRead.{AreBehindAll}
+use Rattle.evidence_run.specs.Make.{MakesTo}
+use Rattle.evidence_run.specs.Plan.{PlansTo}
 use Rattle.layout_run.specs.Extract.{ExtractsTo, extracting}
 use Rattle.layout_run.specs.declared.gds_cell.GdsCell.{GdsCell}
 use Rattle.row_make.specs.RowInputs.{RowInputs}
@@ -61,8 +63,8 @@ pub record CheckMaterial : Type 0 where
   pub bytes : List ℕ
 
 -- What a call works on: of a plan or a drawing its inputs and the evidence, of a check the bytes besides; a cell of a
--- GDSII file, and the deck that it is checked by; a number of generated cells; what a row of cells is made of; a cell and
--- its macro.
+-- GDSII file, and the deck that it is checked by; a number of generated cells; what a row of cells is made of; a cell
+-- and its macro.
 abbrev pub MaterialOf : Kind → Type 0
 MaterialOf Planning = PlanMaterial
 MaterialOf Making = MakeMaterial
@@ -132,8 +134,8 @@ IsKept m (kept.Read (read.Agreeing both)) = m ≡ (Agreeing, both)
 -- ---- what the work comes to
 
 abbrev pub WorksTo : (kind : Kind) → MaterialOf kind → End → Type 0
-WorksTo Planning m end = PlansBy m.evidence m.inputs end
-WorksTo Making m end = MakesBy m.evidence m.style m.inputs m.stem end
+WorksTo Planning m end = PlansTo m.evidence m.inputs end
+WorksTo Making m end = MakesTo m.evidence m.style m.inputs m.stem end
 WorksTo Checking m end = ChecksBy m.evidence m.inputs m.bytes end
 WorksTo Extracting cell end = ExtractsTo cell end
 WorksTo Benching number end = BenchesTo number end
@@ -148,16 +150,16 @@ ChecksOn inputs (held.Trails bytes) end = ChecksBy Trails inputs bytes end
 
 -- the same of what the program keeps
 abbrev pub WorksOn : Own → End → Type 0
-WorksOn (read.Planning m) end = PlansBy m.evidence m.inputs end
-WorksOn (read.Making m) end = MakesBy m.evidence m.style m.inputs m.stem end
+WorksOn (read.Planning m) end = PlansTo m.evidence m.inputs end
+WorksOn (read.Making m) end = MakesTo m.evidence m.style m.inputs m.stem end
 WorksOn (read.Checking inputs file) end = ChecksOn inputs file end
 WorksOn (read.Extracting cell) end = ExtractsTo cell end
 WorksOn (read.Rowing m) end = RowsTo m.inputs m.stem end
 WorksOn (read.Agreeing both) end = AgreesTo both end
 
 -- the statuses that the words or the files call for: a search alone is unfinished, a making alone, of one cell or of a
--- row, meets a cycle or is too tall, evidence or a layout alone is rejected, a GDSII file alone holds no netlist, cells of
--- a row alone do not stand side by side, and an abstract alone does not agree
+-- row, meets a cycle or is too tall, evidence or a layout alone is rejected, a GDSII file alone holds no netlist, cells
+-- of a row alone do not stand side by side, and an abstract alone does not agree
 abbrev pub settled_by : Kind → List Status
 settled_by Planning = status.Done ∷ status.Input ∷ status.Unfinished ∷ []
 settled_by Making = status.Done ∷ status.Input ∷ status.Cycle ∷ status.Unfinished ∷ status.TooTall ∷ []

@@ -11,7 +11,7 @@ mod cell;
 mod layout;
 mod rows;
 
-use crate::evidence::{check_by, make_by, plan_by};
+use crate::evidence::check_by;
 use crate::material::{EvidenceFile, MakeMaterial, PlanMaterial, RowMaterial};
 use abstracts::for_agree;
 use agree_run::{Compared, agree};
@@ -22,6 +22,7 @@ use cell::{for_check, for_make, for_plan};
 use cell_inputs::Inputs;
 use cell_io::Desk;
 use cell_num::NoMemory;
+use evidence_run::{make, plan};
 use layout::for_extract;
 use layout_run::{GdsCell, extract};
 use row_run::row;
@@ -103,11 +104,11 @@ fn work_on(alloc: Global, material: &ReadMaterial) -> Result<End, NoMemory>
     ensures { IfOk result (WorksOn material.now) }
 {
     match material {
-        ReadMaterial::Planning(plan) => plan_by(alloc, plan),
-        ReadMaterial::Making(made) => make_by(alloc, made),
+        ReadMaterial::Planning(of) => plan(alloc, &of.inputs, of.evidence),
+        ReadMaterial::Making(of) => make(alloc, &of.inputs, &of.stem, of.style, of.evidence),
         ReadMaterial::Checking(inputs, file) => check_by(alloc, inputs, file),
         ReadMaterial::Extracting(cell) => extract(alloc, cell),
-        ReadMaterial::Rowing(cells) => row(alloc, &cells.inputs, &cells.stem),
+        ReadMaterial::Rowing(of) => row(alloc, &of.inputs, &of.stem),
         ReadMaterial::Agreeing(both) => agree(alloc, both),
     }
 }

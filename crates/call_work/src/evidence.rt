@@ -3,11 +3,10 @@ ghost use Rattle.cell_io.specs.Desk.{OnlyReads};
 ghost use Rattle.call_read.specs.Read.{IsRead, KeepsReads};
 ghost use Rattle.call_read.specs.Sources.{LogFile};
 ghost use Rattle.call_work.specs.Commands.{ChecksOn, checking_over};
-ghost use Rattle.call_work.specs.Evidence.{MakesBy, PlansBy};
 ghost use Rattle.call_work.specs.Kept.{HoldsLog, MayKeep};
 
 use crate::commands::{Material, ReadMaterial};
-use crate::material::{EvidenceFile, MakeMaterial, PlanMaterial};
+use crate::material::EvidenceFile;
 use call_end::End;
 use call_read::{Refusal, Source, read_file, read_to};
 use call_words::Evidence;
@@ -15,10 +14,8 @@ use cell_inputs::Inputs;
 use cell_io::Desk;
 use cell_num::NoMemory;
 use check_run::{CheckedLog, check};
-use make_run::{make, plan};
 use std::alloc::Global;
-use trail_make::make_by_trails;
-use trail_run::{check_by_trails, plan_by_trails};
+use trail_run::check_by_trails;
 
 // The log of a check, behind all bytes of its file.
 fn read_log<D: Desk>(
@@ -73,24 +70,6 @@ pub(crate) fn with_evidence<D: Desk>(
                 Err(refusal)
             }
         },
-    }
-}
-
-pub(crate) fn plan_by(alloc: Global, material: &PlanMaterial) -> Result<End, NoMemory>
-    ensures { IfOk result (PlansBy material.now.evidence material.now.inputs) }
-{
-    match material.evidence {
-        Evidence::Log => plan(alloc, &material.inputs),
-        Evidence::Trails => plan_by_trails(alloc, &material.inputs),
-    }
-}
-
-pub(crate) fn make_by(alloc: Global, material: &MakeMaterial) -> Result<End, NoMemory>
-    ensures { IfOk result (MakesBy material.now.evidence material.now.style material.now.inputs material.now.stem) }
-{
-    match material.evidence {
-        Evidence::Log => make(alloc, &material.inputs, &material.stem, material.style),
-        Evidence::Trails => make_by_trails(alloc, &material.inputs, &material.stem, material.style),
     }
 }
 

@@ -1,4 +1,4 @@
-pub mod MakeEnds
-pub mod Makes
-pub mod Planned
 mod RowEnds
+pub mod Logs
+pub mod MakeEnds
+pub mod Named

@@ -1,4 +1,4 @@
--- How `make` tells what making a cell comes to: its files, and its report.
+-- How what drawing a row comes to is told: its files, and its report.
 use Rattle.std.specs.Prelude.{ℕ, ◌≡◌, List, [], ◌∷◌, ◌++◌, codes, length, map, string_bytes}
 use Rattle.cell_num.specs.Lines.{count_line}
 use Rattle.row_model.specs.declared.column.Column.{Column}
@@ -12,7 +12,7 @@ use Rattle.lef_write.specs.Lef.{cell_text}
 use Rattle.spice_net.specs.declared.subckt.Subckt.{Subckt}
 use Rattle.cell_inputs.specs.declared.style.Style.{Style}
 use Rattle.cell_inputs.specs.Inputs.{Inputs, unit_nm}
-use Rattle.cell_make.specs.Making.{MakeAnswer, Made, Cyclic, Tall, Unfinished, Makes, drawing_in, final_in}
+use Rattle.cell_make.specs.Making.{drawing_in, final_in}
 use Rattle.cell_make.specs.Rows.{DrawAnswer, RowDrawn, RowCyclic, RowTall}
 use Rattle.call_end.specs.declared.end.End.{End}
 use Rattle.call_end.specs.declared.end.Output.{Output}
@@ -21,7 +21,6 @@ use Rattle.call_end.specs.declared.status.Status.TheVariants as status
 use Rattle.cell_report.specs.Cycles.{ring_text}
 use Rattle.cell_report.specs.Cells.{sizes_text, tall_text}
 use Rattle.cell_report.specs.Rows.{plan_text}
-use Rattle.cell_report.specs.Logs.{unfinished_text}
 use Rattle.call_end.specs.Status.{first_line}
 
 -- a file by its name and bytes
@@ -76,22 +75,3 @@ IsRowEnd style inputs out row evidence (RowTall routing) =
 abbrev pub log_evidence : Subckt → List ℕ → Log → RowEvidence
 log_evidence cell out log =
     record { file = log_file cell out log; counts = count_line (codes "lemmas ") (length log.lemmas) }
-
-abbrev pub IsUnfinishedEnd : Subckt → List ℕ → ℕ → Log → End → Type 0
-IsUnfinishedEnd cell out proved log =
-    IsEnd status.Unfinished (log_file cell out log ∷ [])
-    (first_line status.Unfinished ++ unfinished_text proved (length log.lemmas))
-
-abbrev pub IsMakeEnd : Style → Inputs → List ℕ → MakeAnswer → End → Type 0
-IsMakeEnd style inputs out (Made row log routing xs) =
-    IsRowEnd style inputs out row (log_evidence inputs.cell out log) (RowDrawn routing xs)
-IsMakeEnd style inputs out (Cyclic row log ring) =
-    IsRowEnd style inputs out row (log_evidence inputs.cell out log) (RowCyclic ring)
-IsMakeEnd style inputs out (Tall row log routing) =
-    IsRowEnd style inputs out row (log_evidence inputs.cell out log) (RowTall routing)
-IsMakeEnd style inputs out (Unfinished proved log) = IsUnfinishedEnd inputs.cell out proved log
-
--- in a style
-abbrev pub MakesTo : Style → Inputs → List ℕ → End → Type 0
-MakesTo style inputs out end =
-    (answer : MakeAnswer) × Makes style inputs answer × IsMakeEnd style inputs out answer end

@@ -17,9 +17,9 @@ use Rattle.call_read.specs.declared.refusal.Refusal.{Refusal}
 use Rattle.channel_route.specs.declared.ring.Ring.{Ring}
 use Rattle.fault_text.specs.Faults.{fault_line}
 use Rattle.fault_text.specs.RowFaults.{row_fault}
-use Rattle.make_run.proofs.Planned.{spent_fits}
+use Rattle.make_run.proofs.Logs.{spent_fits}
 use Rattle.make_run.specs.Make.{IsEnd, gds_file}
-use Rattle.make_run.specs.Plan.{unfinished_end}
+use Rattle.make_run.specs.Unfinished.{unfinished_end}
 use Rattle.row_abut.specs.declared.cell.RowFault.{RowFault}
 use Rattle.row_make.specs.RowInputs.{RowInputs, row_inputs}
 use Rattle.row_make.specs.Rowed.{IsRefused, IsRowed, IsStopped, IsUnabutted, IsWritten, MadeCell, Rowed, Refused, Stopped, Unabutted, TellsWhy, row_height, row_width}

@@ -19,7 +19,7 @@ use Rattle.call_words.specs.Asked.{RowAsked}
 use Rattle.fault_text.specs.Faults.{fault_line, fold_fault, spice_fault}
 use Rattle.fault_text.specs.RowFaults.{row_fault}
 use Rattle.make_run.specs.Make.{IsEnd, gds_file}
-use Rattle.make_run.specs.Plan.{unfinished_end}
+use Rattle.make_run.specs.Unfinished.{unfinished_end}
 use Rattle.row_make.specs.RowInputs.{RowInputs, row_inputs}
 use Rattle.row_make.specs.Rowed.{RowAnswer, Rowed, Refused, Stopped, Unabutted, Rows, row_height, row_library, row_width}
 use Rattle.row_make.specs.declared.outcome.InputFault.{InputFault}

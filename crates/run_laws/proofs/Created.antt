@@ -15,10 +15,12 @@ use Rattle.call_work.proofs.EachCommand.{files_by}
 use Rattle.call_work.proofs.EndsOf.{HasNoFiles}
 use Rattle.call_work.specs.Commands.{Kind, Material, MaterialOf, WorksTo, Planning, Making, Checking, Extracting, Benching, Rowing, Agreeing}
 use Rattle.call_work.specs.Ends.{EndsTo}
-use Rattle.call_work.specs.Evidence.{MakesBy}
+use Rattle.evidence_run.specs.declared.certificate.Certificate.TheVariants as held
+use Rattle.evidence_run.specs.Certificate.{trails_evidence}
+use Rattle.evidence_run.specs.Make.{MakesTo}
+use Rattle.evidence_run.specs.Make as made
 use Rattle.cell_inputs.specs.declared.style.Style.{Style}
 use Rattle.cell_inputs.specs.Inputs.{Inputs}
-use Rattle.cell_make.specs.Making as made
 use Rattle.cell_make.specs.Rows.{DrawAnswer, RowDrawn, RowCyclic, RowTall}
 use Rattle.make_run.specs.Make.{IsRowEnd, RowEvidence, log_evidence, named}
 use Rattle.row_make.specs.declared.outcome.InputFault.TheVariants.{Spice, Fold}
@@ -31,8 +33,6 @@ use Rattle.run_laws.proofs.RowTold.{no_files}
 use Rattle.run_laws.proofs.Telling.{Answers}
 use Rattle.run_laws.specs.Created.{AreDistinct, CreatesOnce}
 use Rattle.run_laws.specs.Evidence.{evidence_name}
-use Rattle.trail_make.specs.Make.{trails_evidence}
-use Rattle.trail_make.specs.Make as trail
 
 -- ---- names
 
@@ -93,14 +93,12 @@ row_end evidence style inputs out row told (RowDrawn routing xs) end same is =
 row_end evidence style inputs out row told (RowCyclic ring) end same is = by_names end.files (told.file ∷ []) (told.file.0 ∷ []) is.files refl (distinct_one told.file.0)
 row_end evidence style inputs out row told (RowTall routing) end same is = by_names end.files (told.file ∷ []) (told.file.0 ∷ []) is.files refl (distinct_one told.file.0)
 
-makes_end : (evidence : Evidence) (style : Style) (inputs : Inputs) (out : List ℕ) (end : End) → MakesBy evidence style inputs out end → AreDistinct (names_of end.files)
-makes_end Log style inputs out end (made.Made row log routing xs, h, is) = row_end Log style inputs out row (log_evidence inputs.cell out log) (RowDrawn routing xs) end refl is
-makes_end Log style inputs out end (made.Cyclic row log ring, h, is) = row_end Log style inputs out row (log_evidence inputs.cell out log) (RowCyclic ring) end refl is
-makes_end Log style inputs out end (made.Tall row log routing, h, is) = row_end Log style inputs out row (log_evidence inputs.cell out log) (RowTall routing) end refl is
-makes_end Log style inputs out end (made.Unfinished proved log, h, is) = by_names end.files _ (evidence_name Log out ∷ []) is.files refl (distinct_one (evidence_name Log out))
-makes_end Trails style inputs out end (trail.Made row trails drawing, h, is) = row_end Trails style inputs out row (trails_evidence inputs.cell out trails) drawing end refl is
-makes_end Trails style inputs out end (trail.Unfinished proved trails, h, is) = by_names end.files _ (evidence_name Trails out ∷ []) is.files refl (distinct_one (evidence_name Trails out))
-makes_end Trails style inputs out end (trail.Crowded gate, h, is) = by_names end.files [] [] is.files refl tt
+makes_end : (evidence : Evidence) (style : Style) (inputs : Inputs) (out : List ℕ) (end : End) → MakesTo evidence style inputs out end → AreDistinct (names_of end.files)
+makes_end evidence style inputs out end (made.Made row (held.Log log) drawing, h, is) = row_end Log style inputs out row (log_evidence inputs.cell out log) drawing end refl is
+makes_end evidence style inputs out end (made.Made row (held.Trails trails) drawing, h, is) = row_end Trails style inputs out row (trails_evidence inputs.cell out trails) drawing end refl is
+makes_end evidence style inputs out end (made.Open proved (held.Log log), h, is) = by_names end.files _ (evidence_name Log out ∷ []) is.files refl (distinct_one (evidence_name Log out))
+makes_end evidence style inputs out end (made.Open proved (held.Trails trails), h, is) = by_names end.files _ (evidence_name Trails out ∷ []) is.files refl (distinct_one (evidence_name Trails out))
+makes_end evidence style inputs out end (made.Crowded gate, h, is) = by_names end.files [] [] is.files refl tt
 
 rows_end : (r : RowInputs) (out : List ℕ) (end : End) → RowsTo r out end → AreDistinct (names_of end.files)
 rows_end r out end (Rowed made, h, is) = by_names end.files _ ((out ++ codes ".gds") ∷ []) is.files refl (distinct_one (out ++ codes ".gds"))

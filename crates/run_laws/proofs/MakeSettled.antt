@@ -26,9 +26,13 @@ use Rattle.run_laws.specs.Headline.{IsCyclicCell, IsMadeCell, IsSpentSearch, IsT
 use Rattle.run_laws.specs.Plan.{IsCrowdedCell}
 use Rattle.channel_route.specs.declared.ring.Ring.{Ring}
 use Rattle.channel_route.specs.declared.routing.Routing.{Routing}
-use Rattle.call_work.specs.Evidence.{MakesBy}
+use Rattle.evidence_run.specs.declared.certificate.Certificate.{Certificate}
+use Rattle.evidence_run.specs.declared.certificate.Certificate.TheVariants as held
+use Rattle.evidence_run.specs.Certificate.{row_evidence}
+use Rattle.evidence_run.specs.Make.{IsOpenEnd, MakesTo}
+use Rattle.evidence_run.specs.Make as make
+use Rattle.evidence_run.specs.Searched.{IsFoundBy, IsOpenBy}
 use Rattle.make_run.specs.Make.{IsEnd, IsRowEnd, RowEvidence}
-use Rattle.trail_make.specs.Make as trail
 
 -- what the end of a row has of its evidence
 abbrev pub told_evidence : (evidence : Evidence) → Inputs → List ℕ → CertificateOf evidence → RowEvidence
@@ -144,21 +148,24 @@ spent_so evidence inputs out proved certificate end answer old new h is whole = 
 }
 
 -- with an end of `make`
-pub make_leaves_so : (evidence : Evidence) (style : Style) (inputs : Inputs) (out : List ℕ) (end : End) (answer : Status) (old new : View) → MakesBy evidence style inputs out end → TellsWhole end answer old new → Leaves evidence style inputs out old new answer
-make_leaves_so Log style inputs out end answer old new (made.Made row log routing xs, h, is) whole =
-    row_leaves Log style inputs out row log (RowDrawn routing xs) end answer old new h.found.first h.found.certified h.drawn is whole
-make_leaves_so Log style inputs out end answer old new (made.Cyclic row log ring, h, is) whole =
-    row_leaves Log style inputs out row log (RowCyclic ring) end answer old new h.0.first h.0.certified h.1 is whole
-make_leaves_so Log style inputs out end answer old new (made.Tall row log routing, h, is) whole =
-    row_leaves Log style inputs out row log (RowTall routing) end answer old new h.0.first h.0.certified (h.1, h.2) is whole
-make_leaves_so Log style inputs out end answer old new (made.Unfinished proved log, h, is) whole =
-    by_end (Leaves Log style inputs out old new) status.Unfinished answer end old new is.status whole (inl (spent_so Log inputs out proved log end answer old new h is whole))
-make_leaves_so Trails style inputs out end answer old new (trail.Made row trails drawing, ((nodes, found), h), is) whole =
-    row_leaves Trails style inputs out row trails drawing end answer old new found.first found.certified h is whole
-make_leaves_so Trails style inputs out end answer old new (trail.Unfinished proved trails, h, is) whole =
-    by_end (Leaves Trails style inputs out old new) status.Unfinished answer end old new is.status whole (inl (spent_so Trails inputs out proved trails end answer old new h is whole))
-make_leaves_so Trails style inputs out end answer old new (trail.Crowded gate, h, is) whole =
-    by_end (Leaves Trails style inputs out old new) status.Unfinished answer end old new is.status whole (inr (crowded, none_left end.files old.made new.made is.files whole.1))
+made_so : (evidence : Evidence) (style : Style) (inputs : Inputs) (out : List ℕ) (row : List Column) (certificate : Certificate) (drawing : DrawAnswer) (end : End) (answer : Status) (old new : View) → IsFoundBy evidence inputs row certificate → Draws style inputs row drawing → IsRowEnd style inputs out row (row_evidence inputs.cell out certificate) drawing end → TellsWhole end answer old new → Leaves evidence style inputs out old new answer
+made_so Log style inputs out row (held.Log log) drawing end answer old new found h is whole = row_leaves Log style inputs out row log drawing end answer old new found.first found.certified h is whole
+made_so Trails style inputs out row (held.Trails trails) drawing end answer old new (nodes, found) h is whole = row_leaves Trails style inputs out row trails drawing end answer old new found.first found.certified h is whole
+made_so Log style inputs out row (held.Trails trails) drawing end answer old new found h is whole = absurd found
+made_so Trails style inputs out row (held.Log log) drawing end answer old new found h is whole = absurd found
+
+open_so : (evidence : Evidence) (inputs : Inputs) (out : List ℕ) (proved : ℕ) (certificate : Certificate) (end : End) (answer : Status) (old new : View) → IsOpenBy evidence inputs proved certificate → IsOpenEnd inputs.cell out proved certificate end → TellsWhole end answer old new → IsSpentSearch evidence inputs out old new
+open_so Log inputs out proved (held.Log log) end answer old new h is whole = spent_so Log inputs out proved log end answer old new h is whole
+open_so Trails inputs out proved (held.Trails trails) end answer old new h is whole = spent_so Trails inputs out proved trails end answer old new h is whole
+open_so Log inputs out proved (held.Trails trails) end answer old new h is whole = absurd h
+open_so Trails inputs out proved (held.Log log) end answer old new h is whole = absurd h
+
+pub make_leaves_so : (evidence : Evidence) (style : Style) (inputs : Inputs) (out : List ℕ) (end : End) (answer : Status) (old new : View) → MakesTo evidence style inputs out end → TellsWhole end answer old new → Leaves evidence style inputs out old new answer
+make_leaves_so evidence style inputs out end answer old new (make.Made row certificate drawing, (found, h), is) whole = made_so evidence style inputs out row certificate drawing end answer old new found h is whole
+make_leaves_so evidence style inputs out end answer old new (make.Open proved certificate, h, is) whole =
+    by_end (Leaves evidence style inputs out old new) status.Unfinished answer end old new is.status whole (inl (open_so evidence inputs out proved certificate end answer old new h is whole))
+make_leaves_so evidence style inputs out end answer old new (make.Crowded gate, h, is) whole =
+    by_end (Leaves evidence style inputs out old new) status.Unfinished answer end old new is.status whole (inr (crowded, none_left end.files old.made new.made is.files whole.1))
   where
-    crowded : IsCrowdedCell Trails inputs old new
+    crowded : IsCrowdedCell evidence inputs old new
     crowded = record { gate = gate; crowded = h; says = said_so _ end.report old.said new.said is.report whole.2 }

@@ -3,7 +3,11 @@ use Rattle.std.proofs.Common.{ℕ, ◌≡◌, ◌≤◌, true, List, Option, IfS
 use Rattle.cell_io.specs.Desk.{Files, View}
 use Rattle.log_check.specs.Accepted.{ForKinds}
 use Rattle.bound_log.specs.declared.log.Log.{Log as SearchLog}
+use Rattle.row_model.specs.declared.column.Column.{Column}
 use Rattle.row_search.specs.Enough.{enough}
+use Rattle.row_search.specs.First.{IsFirstLeast}
+use Rattle.cell_num.specs.declared.net.NetNo.{NetNo}
+use Rattle.run_laws.specs.Evidence.{HasEnough}
 use Rattle.row_place.specs.Places.{placement_of}
 use Rattle.call_end.specs.declared.end.End.{End}
 use Rattle.call_work.specs.Commands.{Making}
@@ -15,9 +19,13 @@ use Rattle.run_laws.specs.Headline.{CanBeDrawn, FromInputs, HasCycle, IsOrShort,
 use Rattle.cell_inputs.specs.declared.style.Style.{Style}
 use Rattle.cell_inputs.specs.Inputs.{Inputs}
 use Rattle.cell_make.proofs.Rings.{no_ring, ring_is}
-use Rattle.cell_make.specs.Making as made
+use Rattle.cell_make.specs.Rows.{RowDrawn, RowCyclic, RowTall}
 use Rattle.cell_make.specs.Searched.{IsUnfinished}
-use Rattle.call_work.specs.Evidence.{MakesBy}
+use Rattle.evidence_run.specs.declared.certificate.Certificate.{Certificate}
+use Rattle.evidence_run.specs.declared.certificate.Certificate.TheVariants as held
+use Rattle.evidence_run.specs.Make.{MakesTo}
+use Rattle.evidence_run.specs.Make as made
+use Rattle.evidence_run.specs.Searched.{Crowds, IsFoundBy, IsOpenBy}
 use Rattle.call_words.specs.Words.{Form}
 use Rattle.call_words.specs.declared.evidence.Evidence.{Evidence}
 use Rattle.call_words.specs.declared.evidence.Evidence.TheVariants.{Log, Trails}
@@ -37,26 +45,47 @@ make_leaves settled a c form answer given own told =
 pub spends_less : (inputs : Inputs) (log : SearchLog) (proved : ℕ) → ForKinds inputs.fingers (λ k. enough k ≤ inputs.tech.budget) → IsUnfinished inputs proved log → ⊥
 spends_less inputs log proved much (version, (k, are, some, spent)) = absurd (omega (arith, much k are some, spent.short))
 
-drawn_where : (evidence : Evidence) (style : Style) (inputs : Inputs) (out : List ℕ) (end : End) → OfFirstLeast CanBeDrawn evidence style inputs out → MakesBy evidence style inputs out end → end.status ≡ status.Done
-drawn_where Log style inputs out end (much, can) (made.Made row log routing xs, h, is) = is.status
-drawn_where Log style inputs out end (much, can) (made.Cyclic row log ring, h, is) = absurd (no_ring style.wiring (placement_of row) inputs.cell.pins ring (can row h.0.first).acyclic (ring_is style.wiring (placement_of row) inputs.cell.pins ring h.1))
-drawn_where Log style inputs out end (much, can) (made.Tall row log routing, h, is) = absurd ((can row h.0.first).fits routing h.1 h.2)
-drawn_where Log style inputs out end (much, can) (made.Unfinished proved log, h, is) = absurd (spends_less inputs log proved much h)
-drawn_where Trails style inputs out end (none, of) works = absurd none
+-- what is found is the first least row, whatever the evidence is
+found_first : (evidence : Evidence) (inputs : Inputs) (row : List Column) (certificate : Certificate) → IsFoundBy evidence inputs row certificate → IsFirstLeast inputs.fingers row
+found_first Log inputs row (held.Log log) is = is.first
+found_first Trails inputs row (held.Trails trails) (nodes, is) = is.first
+found_first Log inputs row (held.Trails trails) is = absurd is
+found_first Trails inputs row (held.Log log) is = absurd is
 
-cyclic_where : (evidence : Evidence) (style : Style) (inputs : Inputs) (out : List ℕ) (end : End) → OfFirstLeast HasCycle evidence style inputs out → MakesBy evidence style inputs out end → end.status ≡ status.Cycle
-cyclic_where Log style inputs out end (much, has) (made.Made row log routing xs, h, is) = absurd (no_ring style.wiring (placement_of row) inputs.cell.pins (has row h.found.first).0 h.drawn.routed.acyclic (has row h.found.first).1)
-cyclic_where Log style inputs out end (much, has) (made.Cyclic row log ring, h, is) = is.status
-cyclic_where Log style inputs out end (much, has) (made.Tall row log routing, h, is) = absurd (no_ring style.wiring (placement_of row) inputs.cell.pins (has row h.0.first).0 h.1.acyclic (has row h.0.first).1)
-cyclic_where Log style inputs out end (much, has) (made.Unfinished proved log, h, is) = absurd (spends_less inputs log proved much h)
-cyclic_where Trails style inputs out end (none, of) works = absurd none
+-- a budget that is enough is not spent, and meets no gate with too many ways
+pub enough_found : (evidence : Evidence) (inputs : Inputs) (proved : ℕ) (certificate : Certificate) → HasEnough evidence inputs → IsOpenBy evidence inputs proved certificate → ⊥
+enough_found Log inputs proved (held.Log log) much is = spends_less inputs log proved much is
+enough_found Log inputs proved (held.Trails trails) much is = is
+enough_found Trails inputs proved certificate none is = none
 
-tall_where : (evidence : Evidence) (style : Style) (inputs : Inputs) (out : List ℕ) (end : End) → OfFirstLeast IsTooHigh evidence style inputs out → MakesBy evidence style inputs out end → end.status ≡ status.TooTall
-tall_where Log style inputs out end (much, high) (made.Made row log routing xs, h, is) = absurd (h.drawn.fits ((high row h.found.first).tall routing h.drawn.routed))
-tall_where Log style inputs out end (much, high) (made.Cyclic row log ring, h, is) = absurd (no_ring style.wiring (placement_of row) inputs.cell.pins ring (high row h.0.first).acyclic (ring_is style.wiring (placement_of row) inputs.cell.pins ring h.1))
-tall_where Log style inputs out end (much, high) (made.Tall row log routing, h, is) = is.status
-tall_where Log style inputs out end (much, high) (made.Unfinished proved log, h, is) = absurd (spends_less inputs log proved much h)
-tall_where Trails style inputs out end (none, of) works = absurd none
+pub enough_pairs : (evidence : Evidence) (inputs : Inputs) (gate : NetNo) → HasEnough evidence inputs → Crowds evidence inputs gate → ⊥
+enough_pairs Log inputs gate much none = none
+enough_pairs Trails inputs gate none crowds = none
+
+drawn_where : (evidence : Evidence) (style : Style) (inputs : Inputs) (out : List ℕ) (end : End) → OfFirstLeast CanBeDrawn evidence style inputs out → MakesTo evidence style inputs out end → end.status ≡ status.Done
+drawn_where evidence style inputs out end (much, can) (made.Made row certificate (RowDrawn routing xs), h, is) = is.status
+drawn_where evidence style inputs out end (much, can) (made.Made row certificate (RowCyclic ring), (found, h), is) = absurd (no_ring style.wiring (placement_of row) inputs.cell.pins ring (can row (found_first evidence inputs row certificate found)).acyclic (ring_is style.wiring (placement_of row) inputs.cell.pins ring h))
+drawn_where evidence style inputs out end (much, can) (made.Made row certificate (RowTall routing), (found, h), is) = absurd ((can row (found_first evidence inputs row certificate found)).fits routing h.0 h.1)
+drawn_where evidence style inputs out end (much, can) (made.Open proved certificate, h, is) = absurd (enough_found evidence inputs proved certificate much h)
+drawn_where evidence style inputs out end (much, can) (made.Crowded gate, h, is) = absurd (enough_pairs evidence inputs gate much h)
+
+cyclic_where : (evidence : Evidence) (style : Style) (inputs : Inputs) (out : List ℕ) (end : End) → OfFirstLeast HasCycle evidence style inputs out → MakesTo evidence style inputs out end → end.status ≡ status.Cycle
+cyclic_where evidence style inputs out end (much, has) (made.Made row certificate (RowDrawn routing xs), (found, h), is) =
+    let (ring, is_ring) = has row (found_first evidence inputs row certificate found) in
+    absurd (no_ring style.wiring (placement_of row) inputs.cell.pins ring h.routed.acyclic is_ring)
+cyclic_where evidence style inputs out end (much, has) (made.Made row certificate (RowCyclic ring), h, is) = is.status
+cyclic_where evidence style inputs out end (much, has) (made.Made row certificate (RowTall routing), (found, h), is) =
+    let (ring, is_ring) = has row (found_first evidence inputs row certificate found) in
+    absurd (no_ring style.wiring (placement_of row) inputs.cell.pins ring h.0.acyclic is_ring)
+cyclic_where evidence style inputs out end (much, has) (made.Open proved certificate, h, is) = absurd (enough_found evidence inputs proved certificate much h)
+cyclic_where evidence style inputs out end (much, has) (made.Crowded gate, h, is) = absurd (enough_pairs evidence inputs gate much h)
+
+tall_where : (evidence : Evidence) (style : Style) (inputs : Inputs) (out : List ℕ) (end : End) → OfFirstLeast IsTooHigh evidence style inputs out → MakesTo evidence style inputs out end → end.status ≡ status.TooTall
+tall_where evidence style inputs out end (much, high) (made.Made row certificate (RowDrawn routing xs), (found, h), is) = absurd (h.fits ((high row (found_first evidence inputs row certificate found)).tall routing h.routed))
+tall_where evidence style inputs out end (much, high) (made.Made row certificate (RowCyclic ring), (found, h), is) = absurd (no_ring style.wiring (placement_of row) inputs.cell.pins ring (high row (found_first evidence inputs row certificate found)).acyclic (ring_is style.wiring (placement_of row) inputs.cell.pins ring h))
+tall_where evidence style inputs out end (much, high) (made.Made row certificate (RowTall routing), h, is) = is.status
+tall_where evidence style inputs out end (much, high) (made.Open proved certificate, h, is) = absurd (enough_found evidence inputs proved certificate much h)
+tall_where evidence style inputs out end (much, high) (made.Crowded gate, h, is) = absurd (enough_pairs evidence inputs gate much h)
 
 pub draws_told : (a c : View) (form : Option Form) (answer : Status) (given : Option Files) → IfSome given (λ files. IsCalm a c → Completes form files answer) → IfSome given (λ files. IsCalm a c → FromInputs files form (OfFirstLeast CanBeDrawn) → IsOrShort status.Done answer)
 draws_told a c form answer given told = settles Making (λ m. OfFirstLeast CanBeDrawn m.evidence m.style m.inputs m.stem) form status.Done answer a c given (λ m end is works. drawn_where m.evidence m.style m.inputs m.stem end is works) told

@@ -2,7 +2,6 @@
 use Rattle.std.specs.Prelude.{ℕ, ◌≡◌, ◌≢◌, ◌≤◌, List, ◌++◌, codes, length, Some}
 use Rattle.cell_io.specs.Desk.{Files}
 use Rattle.cell_num.specs.Lines.{count_line}
-use Rattle.cell_num.specs.declared.net.NetNo.{NetNo}
 use Rattle.row_model.specs.declared.column.Column.{Column}
 use Rattle.bound_log.specs.declared.log.Log.{Log as SearchLog}
 use Rattle.bound_log.specs.Text.{log_text}
@@ -11,7 +10,7 @@ use Rattle.row_search.specs.Enough.{enough}
 use Rattle.spice_net.specs.declared.subckt.Subckt.{Subckt}
 use Rattle.trail_log.specs.declared.trails.Trails.{Trails as TrailList}
 use Rattle.trail_log.specs.Text.{trails_text}
-use Rattle.trail_search.specs.Ended.{IsCrowded, IsCertified as IsCertifiedByTrails}
+use Rattle.trail_search.specs.Ended.{IsCertified as IsCertifiedByTrails}
 use Rattle.call_words.specs.declared.evidence.Evidence.{Evidence}
 use Rattle.call_words.specs.declared.evidence.Evidence.TheVariants.{Log, Trails}
 use Rattle.cell_inputs.specs.Inputs.{Inputs}
@@ -37,11 +36,6 @@ Certifies Trails inputs row trails =
 abbrev pub ProvesAlone : (evidence : Evidence) → Inputs → ℕ → CertificateOf evidence → Type 0
 ProvesAlone Log inputs proved log = IsUnfinished inputs proved log
 ProvesAlone Trails inputs proved trails = IsUnfinishedByTrails inputs proved trails
-
--- There is none of a row, since the fingers of this gate pair in more ways than its checker lists. A log lists none.
-abbrev pub Crowds : Evidence → Inputs → NetNo → Type 0
-Crowds Log inputs gate = ⊥
-Crowds Trails inputs gate = IsCrowded inputs.fingers gate
 
 -- The budget is enough to find it with a row, whatever the fingers are. For certificates by trails none is known to be.
 abbrev pub HasEnough : Evidence → Inputs → Type 0

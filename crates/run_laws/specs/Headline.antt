@@ -43,8 +43,8 @@ use Rattle.call_work.specs.Ends.{is_among}
 abbrev pub IsMake : Option Form → Type 0
 IsMake form = IsOfKind Making form
 
--- so it is of the evidence, the style and the inputs of a drawing, which are there and accepted, and of what the names of
--- its files begin with
+-- so it is of the evidence, the style and the inputs of a drawing, which are there and accepted, and of what the names
+-- of its files begin with
 abbrev pub FromInputs : Files → Option Form → (Evidence → Style → Inputs → List ℕ → Type 0) → Type 0
 FromInputs files form Says = Gathers Making files form (λ m. Says m.evidence m.style m.inputs m.stem)
 

@@ -1,5 +1,5 @@
--- What a call of `plan` tells: the row, with evidence; or what a search that spent its budget proves, or a gate with too
--- many ways to pair its fingers. What calls for the row.
+-- What a call of `plan` tells: the row, with evidence; or what a search that spent its budget proves, or a gate with
+-- too many ways to pair its fingers. What calls for the row.
 use Rattle.std.specs.Prelude.{ℕ, ◌≡◌, ◌⊎◌, List, ◌++◌, Option}
 use Rattle.cell_io.specs.Desk.{Files, View, Both}
 use Rattle.cell_num.specs.declared.net.NetNo.{NetNo}
@@ -14,8 +14,9 @@ use Rattle.call_words.specs.declared.evidence.Evidence.{Evidence}
 use Rattle.call_work.specs.Commands.{Planning}
 use Rattle.cell_inputs.specs.Inputs.{Inputs}
 use Rattle.cell_report.specs.Logs.{unfinished_text}
+use Rattle.evidence_run.specs.Searched.{Crowds}
 use Rattle.run_laws.specs.Ended.{Gathers, WhereEnds}
-use Rattle.run_laws.specs.Evidence.{CertificateOf, Certifies, Crowds, HasEnough, ProvesAlone, evidence_text, lemma_count, planned_text}
+use Rattle.run_laws.specs.Evidence.{CertificateOf, Certifies, HasEnough, ProvesAlone, evidence_text, lemma_count, planned_text}
 use Rattle.trail_run.specs.Plan.{gate_text}
 
 -- so it is where `plan` ends with this status

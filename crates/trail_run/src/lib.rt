@@ -1,10 +1,10 @@
-// What `plan` and `check` come to with certificates by trails.
+// What `check` comes to with certificates by trails, and what is told of their searches.
 #![tactic(auto)]
 
 mod checking;
 mod counts;
-mod planning;
+mod gate;
 
 pub use checking::{TrailAnswer, check_by_trails};
 pub use counts::put_counts;
-pub use planning::{crowded, plan_by_trails};
+pub use gate::crowded;
