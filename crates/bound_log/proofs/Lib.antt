@@ -4,6 +4,7 @@ pub mod Ends
 pub mod Examples
 pub mod Heads
 pub mod Injective
+pub mod Keeping
 pub mod Lengths
 pub mod Only
 pub mod Pieces

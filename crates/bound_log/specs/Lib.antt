@@ -1,5 +1,6 @@
 -- What contracts of public calls cite, and what these definitions stand on.
 pub mod Fits
+pub mod Kept
 pub mod Line
 pub mod Pieces
 pub mod Reading

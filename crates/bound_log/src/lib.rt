@@ -5,6 +5,7 @@ mod fault;
 mod field;
 mod head;
 mod item;
+mod kept;
 mod law;
 mod line;
 mod log;
@@ -18,6 +19,7 @@ mod writer;
 
 pub use fault::LogFault;
 pub use item::{LogItem, LogPlace};
+pub use kept::{Keeper, Kept};
 pub use law::reads_in_pieces;
 pub use log::{Best, Entry, Lemma, LemmaList, Log, LogStep, LogSteps, MOST_GAPS, Rule};
 pub use read::{read_columns, read_end, read_log};

@@ -1,4 +1,5 @@
 -- What contracts of public calls cite, and what these definitions stand on.
 pub mod Deliver
 pub mod End
+pub mod Files
 pub mod Status

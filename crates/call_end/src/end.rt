@@ -80,6 +80,24 @@ impl End {
         })
     }
 
+    /// An end that makes two files in order.
+    pub fn makes_two(
+        alloc: Global,
+        status: Status,
+        first: Output,
+        second: Output,
+        report: Bytes,
+    ) -> Result<End, NoMemory>
+        ensures { IfOk result (λ end. end ≡ leaves status (first ∷ second ∷ []) report) }
+    {
+        let files = two_files(alloc, first, second)?;
+        Ok(End {
+            status,
+            files,
+            report: Content::of_bytes(report),
+        })
+    }
+
     /// An end that makes three files in order.
     pub fn makes_three(
         alloc: Global,

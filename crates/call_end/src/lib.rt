@@ -4,7 +4,9 @@
 mod delivery;
 mod end;
 mod status;
+mod stem;
 
 pub use delivery::deliver;
 pub use end::{End, Output, OutputList};
 pub use status::Status;
+pub use stem::Stem;

@@ -17,13 +17,14 @@ use Rattle.scmos_rules.specs.declared.rules.Deck.{Deck}
 use Rattle.scmos_rules.specs.declared.rules.Deck.TheVariants as deck
 
 -- what a call asks for: `plan TECH SPICE CELL`, which may end with `--trails` for another kind of evidence, `make TECH
--- SPICE CELL OUT`, which may end with `--dogleg`, `--taps` and `--trails`, `check TECH SPICE CELL LOG`, or with
--- `--trails` behind the file's name, `extract TECH GDS CELL`, whose technology is none for the plain one and which may
+-- SPICE CELL OUT`, which may end with `--dogleg`, `--taps` and `--trails`, and behind them with `--from FILE` for the row
+-- that a file lists, `check TECH SPICE CELL LOG`, or with `--trails` behind the file's name, `extract TECH GDS CELL`, whose technology is none for the plain one and which may
 -- end with `--taps` for the deck of cells with taps, `bench NUMBER`, `row TECH SPICE OUT TOP CELL CELL ..`, or `agree
 -- TECH GDS LEF CELL`
 pub data Form : Type 0 where
   Plan : (cell : CellAsked) (evidence : Evidence) → Form
   Make : (cell : CellAsked) (out : List ℕ) (style : Style) (evidence : Evidence) → Form
+  MakeFrom : (cell : CellAsked) (out : List ℕ) (style : Style) (file : List ℕ) (evidence : Evidence) → Form
   Check : (cell : CellAsked) (file : List ℕ) (evidence : Evidence) → Form
   Extract : (tech : Option (List ℕ)) (gds cell : List ℕ) (rules : Deck) → Form
   Bench : (number : ℕ) → Form
@@ -34,6 +35,7 @@ pub data Form : Type 0 where
 abbrev pub shown : Read → Form
 shown (read.Plan cell evidence) = Plan cell evidence
 shown (read.Make cell out style evidence) = Make cell out.now style evidence
+shown (read.MakeFrom cell out style file evidence) = MakeFrom cell out.now style file.now evidence
 shown (read.Check cell file evidence) = Check cell file.now evidence
 shown (read.Extract tech gds cell rules) = Extract (option_map (λ name. name.now) tech) gds.now cell.now rules
 shown (read.Bench number) = Bench number
@@ -57,6 +59,7 @@ usage_text =
     ++ codes "plan TECH SPICE CELL --trails\n"
     ++ codes "check TECH SPICE CELL FILE --trails\n"
     ++ codes "make TECH SPICE CELL OUT [--dogleg] [--taps] --trails\n"
+    ++ codes "make TECH SPICE CELL OUT [--dogleg] [--taps] [--trails] --from FILE\n"
 
 -- the name of a file: not empty
 abbrev pub is_file : List ℕ → Bool
@@ -104,12 +107,38 @@ taps_of (word ∷ more) = if bytes_eq word (codes "--taps") then (With, more) el
 abbrev pub style_of : List (List ℕ) → Style
 style_of words = record { wiring = (wiring_of words).0; taps = (taps_of (wiring_of words).1).0 }
 
--- the words behind OUT: `--dogleg`, `--taps` and `--trails` in this order, or some of them
+-- `--trails` asks for a certificate by trails, where it comes first; and the words behind it
+abbrev pub trails_of : List (List ℕ) → Evidence × List (List ℕ)
+trails_of [] = (Log, [])
+trails_of (word ∷ more) = if bytes_eq word (codes "--trails") then (Trails, more) else (Log, word ∷ more)
+
+-- a drawing of the row that a file of such evidence lists
+abbrev pub making_from_of : Style → Evidence → List ℕ → List ℕ → List ℕ → List ℕ → List ℕ → Option Form
+making_from_of style evidence file tech spice cell out =
+    if is_file out && is_file file
+    then option_map (λ asked. MakeFrom asked out style file evidence) (cell_of tech spice cell)
+    else None
+
+-- the drawing of a file's row, where the words are `--from` and the name of the file
+abbrev pub given_of : Style → Evidence → List ℕ → List (List ℕ) → List ℕ → List ℕ → List ℕ → List ℕ → Option Form
+given_of style evidence word (file ∷ []) tech spice cell out =
+    if bytes_eq word (codes "--from") then making_from_of style evidence file tech spice cell out else None
+given_of style evidence word _ tech spice cell out = None
+
+-- the drawing of a row that is searched for, or with more words of a file's row
+abbrev pub drawing_of : Style → Evidence → List (List ℕ) → List ℕ → List ℕ → List ℕ → List ℕ → Option Form
+drawing_of style evidence [] tech spice cell out = making_of style evidence tech spice cell out
+drawing_of style evidence (word ∷ rest) tech spice cell out =
+    given_of style evidence word rest tech spice cell out
+
+-- the evidence of the words behind OUT, and the words behind it
+abbrev pub evidence_by : List (List ℕ) → Evidence × List (List ℕ)
+evidence_by more = trails_of (taps_of (wiring_of more).1).1
+
+-- the words behind OUT: `--dogleg`, `--taps`, `--trails` and `--from FILE` in this order, or some of them
 abbrev pub make_of : List (List ℕ) → Option Form
 make_of (tech ∷ spice ∷ cell ∷ out ∷ more) =
-    option_and_then
-    (λ evidence. making_of (style_of more) evidence tech spice cell out)
-    (evidence_of (taps_of (wiring_of more).1).1)
+    drawing_of (style_of more) (evidence_by more).0 (evidence_by more).1 tech spice cell out
 make_of _ = None
 
 -- a file of evidence that is checked

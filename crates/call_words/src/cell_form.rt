@@ -1,9 +1,9 @@
 ghost use Rattle.std.specs.Prelude.{◌≡◌, option_map};
 ghost use Rattle.call_words.specs.Asked.{texts};
-ghost use Rattle.call_words.specs.Words.{shown, plan_of, making_of, make_of, check_of};
+ghost use Rattle.call_words.specs.Words.{shown, plan_of, making_of, making_from_of, given_of, drawing_of, make_of, check_of};
 
 use crate::cell::cell_of;
-use crate::evidence::{Evidence, evidence_of};
+use crate::evidence::{Evidence, evidence_of, trails_of};
 use crate::form::Form;
 use crate::style::style_of;
 use cell_inputs::Style;
@@ -43,6 +43,77 @@ fn making_of<'a>(
     })
 }
 
+// A drawing of the row that a file of such evidence lists.
+fn making_from_of<'a>(
+    style: Style,
+    evidence: Evidence,
+    file: &'a str,
+    tech: &'a str,
+    spice: &'a str,
+    cell: &'a str,
+    out: &'a str,
+) -> Option<Form<'a>>
+    ensures { option_map shown result
+        ≡ making_from_of style evidence file.now tech.now spice.now cell.now out.now }
+{
+    if out.is_empty() || file.is_empty() {
+        return None;
+    }
+    let cell = cell_of(tech, spice, cell)?;
+    Some(Form::MakeFrom {
+        cell,
+        out,
+        style,
+        file,
+        evidence,
+    })
+}
+
+// The drawing of a file's row, where the words are `--from` and the name of the file.
+fn given_of<'a>(
+    style: Style,
+    evidence: Evidence,
+    word: &str,
+    rest: &'a [String],
+    tech: &'a str,
+    spice: &'a str,
+    cell: &'a str,
+    out: &'a str,
+) -> Option<Form<'a>>
+    ensures { option_map shown result
+        ≡ given_of style evidence word.now (texts rest.now) tech.now spice.now cell.now out.now }
+{
+    let [file] = rest else {
+        return None;
+    };
+    if word == "--from" {
+        making_from_of(style, evidence, file.as_str(), tech, spice, cell, out)
+    } else {
+        None
+    }
+}
+
+// The drawing of a row that is searched for, or with more words of a file's row.
+fn drawing_of<'a>(
+    style: Style,
+    evidence: Evidence,
+    more: &'a [String],
+    tech: &'a str,
+    spice: &'a str,
+    cell: &'a str,
+    out: &'a str,
+) -> Option<Form<'a>>
+    ensures { option_map shown result
+        ≡ drawing_of style evidence (texts more.now) tech.now spice.now cell.now out.now }
+{
+    match more.split_first() {
+        Some((word, rest)) => {
+            given_of(style, evidence, word.as_str(), rest, tech, spice, cell, out)
+        }
+        None => making_of(style, evidence, tech, spice, cell, out),
+    }
+}
+
 /// The form of the words behind `make`.
 pub(crate) fn make_of(words: &[String]) -> Option<Form<'_>>
     ensures { option_map shown result ≡ make_of (texts words.now) }
@@ -51,10 +122,11 @@ pub(crate) fn make_of(words: &[String]) -> Option<Form<'_>>
         return None;
     };
     let (style, more) = style_of(more);
-    let evidence = evidence_of(more)?;
-    making_of(
+    let (evidence, more) = trails_of(more);
+    drawing_of(
         style,
         evidence,
+        more,
         tech.as_str(),
         spice.as_str(),
         cell.as_str(),

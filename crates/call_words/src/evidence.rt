@@ -1,6 +1,6 @@
 ghost use Rattle.std.specs.Prelude.{◌≡◌};
 ghost use Rattle.call_words.specs.Asked.{texts};
-ghost use Rattle.call_words.specs.Words.{evidence_of};
+ghost use Rattle.call_words.specs.Words.{evidence_of, trails_of};
 
 /// What is to prove that no row of a cell has fewer gaps.
 #[derive(Clone, Copy, Debug, PartialEq, Eq)]
@@ -19,5 +19,16 @@ pub(crate) fn evidence_of(words: &[String]) -> Option<Evidence>
         [] => Some(Evidence::Log),
         [word] if word.as_str() == "--trails" => Some(Evidence::Trails),
         _ => None,
+    }
+}
+
+// The evidence, and the words behind `--trails` where it comes first.
+pub(crate) fn trails_of(words: &[String]) -> (Evidence, &[String])
+    ensures evidence { result.0 ≡ (trails_of (texts words.now)).0 }
+    ensures rest { texts result.1.now ≡ (trails_of (texts words.now)).1 }
+{
+    match words {
+        [word, more @ ..] if word.as_str() == "--trails" => (Evidence::Trails, more),
+        _ => (Evidence::Log, words),
     }
 }

@@ -26,6 +26,14 @@ pub enum Form<'a> {
         style: Style,
         evidence: Evidence,
     },
+    /// The drawing of the row that a file of evidence lists, in a style, in files whose names begin so.
+    MakeFrom {
+        cell: CellAsked<'a>,
+        out: &'a str,
+        style: Style,
+        file: &'a str,
+        evidence: Evidence,
+    },
     /// Whether a file holds evidence that certifies a row of a cell.
     Check {
         cell: CellAsked<'a>,
@@ -173,6 +181,7 @@ agree TECH GDS LEF CELL
 plan TECH SPICE CELL --trails
 check TECH SPICE CELL FILE --trails
 make TECH SPICE CELL OUT [--dogleg] [--taps] --trails
+make TECH SPICE CELL OUT [--dogleg] [--taps] [--trails] --from FILE
 ",
     )
 }

@@ -1,47 +1,49 @@
 -- What each command gathers, comes to and ends with. Each lemma has a line for each of them.
-use Rattle.std.proofs.Common.{ℕ, ◌≡◌, true, List, [], ◌∷◌, Option, Some, None, Result, Ok, Err, IfOk, Contains, inl, inr, refl, sym, subst}
+use Rattle.std.proofs.Common.{ℕ, ◌≡◌, true, List, [], ◌∷◌, ◌++◌, Option, Some, None, Result, Ok, Err, IfOk, Contains, ap, inl, inr, map, refl, sym, subst}
 use Rattle.std.proofs.lemmas.List.Elements.{Contains-append_left}
 use Rattle.cell_num.specs.declared.list.NoMemory.{NoMemory as Short}
-use Rattle.agree_run.specs.Agree.{comparing}
-use Rattle.agree_run.specs.declared.agreement.AgreeAnswer.TheVariants as agreement
+use Rattle.layout_commands.specs.Agree.{comparing}
+use Rattle.layout_commands.specs.declared.agreement.AgreeAnswer.TheVariants as agreement
 use Rattle.call_end.specs.declared.end.End.{End}
+use Rattle.call_end.specs.declared.end.Output.{Output}
 use Rattle.call_end.specs.declared.status.Status.{Status}
 use Rattle.call_end.specs.declared.status.Status.TheVariants as status
 use Rattle.call_read.proofs.Reading.{Keeps, keeps_on}
 use Rattle.call_read.specs.InputFiles.{input_files, inputs_from}
-use Rattle.call_read.specs.Reading.{Ends, ◌>>=◌}
+use Rattle.call_read.specs.Reading.{Ends, bytes_of, ◌>>=◌}
 use Rattle.call_read.specs.Sources.{Source}
 use Rattle.call_words.specs.Asked.{CellAsked, RowAsked}
 use Rattle.call_words.specs.declared.evidence.Evidence.{Evidence}
 use Rattle.call_words.specs.declared.evidence.Evidence.TheVariants.{Log, Trails}
-use Rattle.call_words.specs.Words.{Form, Plan, Make, Check, Extract, Bench, Row, Agree}
-use Rattle.call_work.proofs.EndsOf.{HasNoFiles, IsEndOf, makes, told}
+use Rattle.call_words.specs.Words.{Form, Plan, Make, MakeFrom, Check, Extract, Bench, Row, Agree}
+use Rattle.call_work.proofs.EndsOf.{HasNoFiles, IsEndOf, makes, makes_none, told}
 use Rattle.call_work.proofs.Gathered.{IsGathered, IsInputs, IsOwn, compared_keeps, drawn_keeps, evidence_there, gds_tech_there, gds_there, inputs_keep, macro_gds_there, macro_lef_there, macro_tech_there, rowing_keeps}
 use Rattle.call_work.proofs.Statuses.{are_apart}
 use Rattle.call_work.proofs.Works.{kept_works}
-use Rattle.bench_tally.specs.Report.{BenchesTo}
-use Rattle.call_work.specs.Commands.{Kind, Planning, Making, Checking, Extracting, Benching, Rowing, Agreeing, Material, MaterialOf, WorksOn, WorksTo, checking, gathered, kind_of, making, planning, read_by, settled_by}
+use Rattle.bench_command.specs.Report.{BenchesTo}
+use Rattle.call_work.specs.Commands.{Kind, Planning, Making, MakingFrom, Checking, Extracting, Benching, Rowing, Agreeing, Material, MaterialOf, WorksOn, WorksTo, checking, gathered, kind_of, making, making_from, planning, read_by, settled_by}
 use Rattle.call_work.specs.Ends.{desk_statuses, is_among}
-use Rattle.call_work.specs.Evidence.{ChecksBy, evidence_file}
+use Rattle.call_work.specs.Evidence.{evidence_file}
 use Rattle.call_work.specs.Kept.{WorksFor}
 use Rattle.call_work.specs.declared.commands.Material.TheVariants.{Bench as OfNumber, Read}
 use Rattle.call_work.specs.declared.commands.ReadMaterial.{ReadMaterial as Own}
 use Rattle.call_work.specs.declared.commands.ReadMaterial.TheVariants as held
-use Rattle.call_work.specs.declared.material.EvidenceFile.TheVariants as file
 use Rattle.cell_inputs.specs.declared.style.Style.{Style}
 use Rattle.cell_inputs.specs.Inputs.{Inputs}
 use Rattle.cell_make.specs.Making as made
 use Rattle.cell_make.specs.Rows.{RowDrawn, RowCyclic, RowTall}
-use Rattle.check_run.specs.declared.verdict.CheckAnswer.TheVariants.{Accepted, Misread, Rejected}
+use Rattle.cell_commands.specs.declared.verdict.CheckAnswer.TheVariants.{Accepted, Misread, Rejected}
 use Rattle.lef_read.specs.declared.differ.Differ.TheVariants as differ
-use Rattle.layout_run.specs.Extract.{extracting}
-use Rattle.layout_run.specs.declared.extraction.ExtractAnswer.TheVariants as answer
-use Rattle.row_make.specs.Rowed as rows
-use Rattle.row_make.specs.declared.outcome.InputFault.TheVariants as input
-use Rattle.row_run.specs.Row.{rowing}
-use Rattle.evidence_run.specs.Make as make
-use Rattle.evidence_run.specs.Plan as plan
-use Rattle.trail_run.specs.declared.checking.TrailAnswer.TheVariants as checked
+use Rattle.layout_commands.specs.Extract.{extracting}
+use Rattle.layout_commands.specs.declared.extraction.ExtractAnswer.TheVariants as answer
+use Rattle.cell_make.specs.Rowed as rows
+use Rattle.cell_make.specs.declared.row_outcome.InputFault.TheVariants as input
+use Rattle.layout_commands.specs.Row.{rowing}
+use Rattle.cell_commands.specs.Given.{ChecksBy, IsRefusedBy}
+use Rattle.cell_commands.specs.Make as make
+use Rattle.call_end.specs.End.{named}
+use Rattle.cell_commands.specs.Plan as plan
+use Rattle.cell_commands.specs.declared.trail_checking.TrailAnswer.TheVariants as checked
 
 -- ---- what the forms read, and what they end with by themselves
 
@@ -53,15 +55,25 @@ inputs_gathered asked form material files kind own =
     (λ inputs is. kind inputs)
     (λ e is. subst (λ (answer : Status). is_among (settled_by (kind_of form)) answer ≡ true) (sym is) own)
 
+-- the same of a form that reads a file of evidence behind the inputs
+evidence_gathered : (asked : CellAsked) (file : List ℕ) (evidence : Evidence) (form : Form) (material : Inputs → List ℕ → Material) → read_by (Some form) ≡ input_files asked.tech asked.spice ++ evidence_file evidence file ∷ [] → ((inputs : Inputs) (bytes : List ℕ) → (material inputs bytes).0 ≡ kind_of form) → is_among (settled_by (kind_of form)) status.Input ≡ true → Keeps (λ source. Contains (read_by (Some form)) source) (IsGathered (Some form)) (inputs_from asked >>= λ inputs. bytes_of (evidence_file evidence file) >>= λ bytes. Ends (Ok (material inputs bytes)))
+evidence_gathered asked file evidence form material files kind own =
+    keeps_on (λ source. Contains (read_by (Some form)) source) IsInputs (IsGathered (Some form)) (inputs_from asked) (λ inputs. bytes_of (evidence_file evidence file) >>= λ bytes. Ends (Ok (material inputs bytes)))
+    (inputs_keep (λ source. Contains (read_by (Some form)) source) asked (λ source there. among source (Contains-append_left (input_files asked.tech asked.spice) (evidence_file evidence file ∷ []) source there)))
+    (λ inputs is. (among (evidence_file evidence file) (evidence_there asked.tech asked.spice (evidence_file evidence file)), λ bytes. kind inputs bytes))
+    (λ e is. subst (λ (answer : Status). is_among (settled_by (kind_of form)) answer ≡ true) (sym is) own)
+  where
+    among : (source : Source) → Contains (input_files asked.tech asked.spice ++ evidence_file evidence file ∷ []) source → Contains (read_by (Some form)) source
+    among source there = subst (λ (sources : List Source). Contains sources source) (sym files) there
+
 pub gathered_keeps : (form : Option Form) → Keeps (λ source. Contains (read_by form) source) (IsGathered form) (gathered form)
 gathered_keeps None = refl
 gathered_keeps (Some (Plan asked evidence)) = inputs_gathered asked (Plan asked evidence) (planning evidence) refl (λ inputs. refl) refl
 gathered_keeps (Some (Make asked out style evidence)) = inputs_gathered asked (Make asked out style evidence) (making evidence out style) refl (λ inputs. refl) refl
+gathered_keeps (Some (MakeFrom asked out style file evidence)) =
+    evidence_gathered asked file evidence (MakeFrom asked out style file evidence) (making_from evidence out style) refl (λ inputs bytes. refl) refl
 gathered_keeps (Some (Check asked file evidence)) =
-    keeps_on (λ source. Contains (read_by (Some (Check asked file evidence))) source) IsInputs (IsGathered (Some (Check asked file evidence))) (inputs_from asked) _
-    (inputs_keep (λ source. Contains (read_by (Some (Check asked file evidence))) source) asked (λ source there. Contains-append_left (input_files asked.tech asked.spice) (evidence_file evidence file ∷ []) source there))
-    (λ inputs is. (evidence_there asked.tech asked.spice (evidence_file evidence file), λ bytes. refl))
-    (λ e is. rw is refl)
+    evidence_gathered asked file evidence (Check asked file evidence) (checking evidence) refl (λ inputs bytes. refl) refl
 gathered_keeps (Some (Extract tech gds name rules)) =
     keeps_on (λ source. Contains (read_by (Some (Extract tech gds name rules))) source) (IsOwn Extracting) (IsGathered (Some (Extract tech gds name rules))) (extracting tech gds name rules) _
     (drawn_keeps (λ source. Contains (read_by (Some (Extract tech gds name rules))) source) Extracting tech gds name rules refl refl (gds_tech_there tech gds) (gds_there tech gds))
@@ -82,12 +94,14 @@ gathered_keeps (Some (Agree tech gds lef name)) =
 -- the words of a form, by its kind, where they are looked at
 abbrev pub HasWords : Kind → Form → Type 0
 HasWords Making form = (asked : CellAsked) × (out : List ℕ) × (style : Style) × (evidence : Evidence) × (form ≡ Make asked out style evidence)
+HasWords MakingFrom form = (asked : CellAsked) × (out : List ℕ) × (style : Style) × (file : List ℕ) × (evidence : Evidence) × (form ≡ MakeFrom asked out style file evidence)
 HasWords Rowing form = (row : RowAsked) × (out : List ℕ) × (form ≡ Row row out)
 HasWords kind form = Unit {0}
 
 has_words : (form : Form) → HasWords (kind_of form) form
 has_words (Plan asked evidence) = tt
 has_words (Make asked out style evidence) = (asked, out, style, evidence, refl)
+has_words (MakeFrom asked out style file evidence) = (asked, out, style, file, evidence, refl)
 has_words (Check asked file evidence) = tt
 has_words (Extract tech gds name rules) = tt
 has_words (Bench number) = tt
@@ -97,6 +111,9 @@ has_words (Agree tech gds lef name) = tt
 pub is_make : (form : Form) → kind_of form ≡ Making → (asked : CellAsked) × (out : List ℕ) × (style : Style) × (evidence : Evidence) × (form ≡ Make asked out style evidence)
 is_make form is = subst (λ (kind : Kind). HasWords kind form) is (has_words form)
 
+pub is_make_from : (form : Form) → kind_of form ≡ MakingFrom → (asked : CellAsked) × (out : List ℕ) × (style : Style) × (file : List ℕ) × (evidence : Evidence) × (form ≡ MakeFrom asked out style file evidence)
+is_make_from form is = subst (λ (kind : Kind). HasWords kind form) is (has_words form)
+
 pub is_row : (form : Form) → kind_of form ≡ Rowing → (row : RowAsked) × (out : List ℕ) × (form ≡ Row row out)
 is_row form is = subst (λ (kind : Kind). HasWords kind form) is (has_words form)
 
@@ -105,8 +122,8 @@ is_row form is = subst (λ (kind : Kind). HasWords kind form) is (has_words form
 works_for : (kept : Own) (end : End) → WorksOn kept end → WorksFor (Read kept) end
 works_for (held.Planning m) end works = kept_works Planning m end works
 works_for (held.Making m) end works = kept_works Making m end works
-works_for (held.Checking inputs (file.Log log)) end works = λ m (bytes, is, behind). kept_works Checking (checking Log inputs bytes).1 end (works bytes behind) m is
-works_for (held.Checking inputs (file.Trails bytes)) end works = kept_works Checking (checking Trails inputs bytes).1 end works
+works_for (held.MakingFrom x) end works = λ m (evidence, bytes, is, read). kept_works MakingFrom (making_from evidence x.stem x.style x.inputs bytes).1 end (works evidence bytes read) m is
+works_for (held.Checking inputs file) end works = λ m (evidence, bytes, is, read). kept_works Checking (checking evidence inputs bytes).1 end (works evidence bytes read) m is
 works_for (held.Extracting cell) end works = kept_works Extracting cell end works
 works_for (held.Rowing m) end works = kept_works Rowing m end works
 works_for (held.Agreeing both) end works = kept_works Agreeing both end works
@@ -122,12 +139,22 @@ bench_works number (Ok end) works = kept_works Benching number end works
 -- ---- what the work comes to
 
 checks_end : (evidence : Evidence) (inputs : Inputs) (bytes : List ℕ) (end : End) → ChecksBy evidence inputs bytes end → IsEndOf Checking end
-checks_end Log inputs bytes end (Accepted gaps lemmas, h, is) = told Checking is refl refl
+checks_end Log inputs bytes end (Accepted row gaps lemmas, h, is) = told Checking is refl refl
 checks_end Log inputs bytes end (Misread f, h, is) = told Checking is refl refl
 checks_end Log inputs bytes end (Rejected f, h, is) = told Checking is refl refl
-checks_end Trails inputs bytes end (checked.Accepted gaps lemmas filled, h, is) = told Checking is refl refl
+checks_end Trails inputs bytes end (checked.Accepted row gaps lemmas filled, h, is) = told Checking is refl refl
 checks_end Trails inputs bytes end (checked.Misread f, h, is) = told Checking is refl refl
 checks_end Trails inputs bytes end (checked.Rejected cause, h, is) = told Checking is refl refl
+
+-- a file that is refused is rejected, and no file is made
+refused_end : (evidence : Evidence) (inputs : Inputs) (bytes : List ℕ) (end : End) → IsRefusedBy evidence inputs bytes end → IsEndOf MakingFrom end
+refused_end evidence inputs bytes end (checks, rejected) = by (checks_end evidence inputs bytes end checks).files
+  where
+    by : HasNoFiles Checking end → IsEndOf MakingFrom end
+    by (inl none) = makes_none MakingFrom rejected refl (ap (λ (files : List Output). map named files) none)
+    by (inr (inl (is, own))) = cc
+    by (inr (inr (inl (is, own)))) = cc
+    by (inr (inr (inr (is, own)))) = cc
 
 each_end : (kind : Kind) (m : MaterialOf kind) (end : End) → WorksTo kind m end → IsEndOf kind end
 each_end Planning m end (plan.Planned row certificate, h, is) = told Planning is refl refl
@@ -138,13 +165,17 @@ each_end Making m end (make.Made row certificate (RowCyclic ring), h, is) = make
 each_end Making m end (make.Made row certificate (RowTall routing), h, is) = makes is.status refl refl
 each_end Making m end (make.Open proved certificate, h, is) = makes is.status refl refl
 each_end Making m end (make.Crowded gate, h, is) = makes is.status refl refl
+each_end MakingFrom m end (inl (row, certificate, listed, (RowDrawn routing xs, h, is))) = record { settled = rw is.status refl; files = inr (inr (inr (refl, is.status))) }
+each_end MakingFrom m end (inl (row, certificate, listed, (RowCyclic ring, h, is))) = makes_none MakingFrom is.status refl is.files
+each_end MakingFrom m end (inl (row, certificate, listed, (RowTall routing, h, is))) = makes_none MakingFrom is.status refl is.files
+each_end MakingFrom m end (inr refused) = refused_end m.evidence m.inputs m.bytes end refused
 each_end Checking m end works = checks_end m.evidence m.inputs m.bytes end works
 each_end Extracting m end (answer.Extracted netlist bodies, h, is) = told Extracting is refl refl
 each_end Extracting m end (answer.Broken found, h, is) = told Extracting is refl refl
 each_end Extracting m end (answer.Unchecked f, h, is) = told Extracting is refl refl
 each_end Extracting m end (answer.Refused f, h, is) = told Extracting is refl refl
 each_end Benching m end (tally, h, is) = told Benching is refl refl
-each_end Rowing m end (rows.Rowed made, h, is) = record { settled = rw is.status refl; files = inr (inr (refl, is.status)) }
+each_end Rowing m end (rows.Rowed made, h, is) = record { settled = rw is.status refl; files = inr (inr (inl (refl, is.status))) }
 each_end Rowing m end (rows.Refused before name (input.Spice f), h, is) = told Rowing is refl refl
 each_end Rowing m end (rows.Refused before name (input.Fold f), h, is) = told Rowing is refl refl
 each_end Rowing m end (rows.Stopped before inputs (made.Made row log routing xs), h, is) = absurd is
@@ -169,6 +200,7 @@ files_by kind m end works = (each_end kind m end works).files
 pub outside_apart : (kind : Kind) → are_apart (settled_by kind) (status.Usage ∷ desk_statuses) ≡ true
 outside_apart Planning = refl
 outside_apart Making = refl
+outside_apart MakingFrom = refl
 outside_apart Checking = refl
 outside_apart Extracting = refl
 outside_apart Benching = refl

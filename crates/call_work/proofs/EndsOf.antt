@@ -1,20 +1,24 @@
 -- Ends of a kind: with a status that it settles for, and with files where it makes them.
-use Rattle.std.proofs.Common.{◌≡◌, ◌⊎◌, true, List, [], ◌∷◌, inl, inr, refl, sym, subst}
+use Rattle.std.proofs.Common.{◌≡◌, ◌⊎◌, true, List, [], ◌∷◌, inl, inr, map, refl, sym, subst}
 use Rattle.call_end.specs.declared.end.End.{End}
+use Rattle.call_end.specs.declared.end.Output.{Output}
 use Rattle.call_end.specs.declared.status.Status.{Status}
 use Rattle.call_end.specs.declared.status.Status.TheVariants as status
-use Rattle.call_work.specs.Commands.{Kind, Making, Rowing, settled_by}
+use Rattle.call_work.specs.Commands.{Kind, Making, MakingFrom, Rowing, settled_by}
 use Rattle.call_work.specs.Ends.{is_among}
+use Rattle.call_end.specs.End.{named}
 
 abbrev pub make_statuses : List Status
 make_statuses = status.Done ∷ status.Cycle ∷ status.Unfinished ∷ status.TooTall ∷ []
 
--- `make` makes files, but none where it ends with a status that is not its own, and `row` makes one where it is done
+-- `make` makes files, but none where it ends with a status that is not its own; with a given file it makes some where it
+-- is done, as `row` does
 abbrev pub HasNoFiles : Kind → End → Type 0
 HasNoFiles kind end =
     (end.files ≡ [])
     ⊎ ((kind ≡ Making) × (is_among make_statuses end.status ≡ true))
     ⊎ ((kind ≡ Rowing) × (end.status ≡ status.Done))
+    ⊎ ((kind ≡ MakingFrom) × (end.status ≡ status.Done))
 
 -- an end with a status that its kind settles for, and with files where its kind makes them
 pub record IsEndOf (kind : Kind) (end : End) : Type 0 where
@@ -30,3 +34,11 @@ makes is settled own =
       settled = subst (λ (answer : Status). is_among (settled_by Making) answer ≡ true) (sym is) settled;
       files = inr (inl (refl, subst (λ (answer : Status). is_among make_statuses answer ≡ true) (sym is) own));
     }
+
+-- an end that makes no file
+pub makes_none : {end : End} {answer : Status} (kind : Kind) → end.status ≡ answer → is_among (settled_by kind) answer ≡ true → map named end.files ≡ [] → IsEndOf kind end
+makes_none {end} kind is settled none = record { settled = subst (λ (s : Status). is_among (settled_by kind) s ≡ true) (sym is) settled; files = inl (none_are end.files none) }
+  where
+    none_are : (files : List Output) → map named files ≡ [] → files ≡ []
+    none_are [] e = refl
+    none_are (file ∷ more) e = cc

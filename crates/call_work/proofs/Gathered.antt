@@ -11,7 +11,7 @@ use Rattle.finger_fold.specs.Folding.{folded}
 use Rattle.gds_read.specs.Decoding.{decoded}
 use Rattle.lef_read.specs.Macros.{macro_in}
 use Rattle.lef_read.specs.declared.cell.Macro.{Macro}
-use Rattle.agree_run.specs.Agree.{compared, comparing, comparing_over, comparing_with}
+use Rattle.layout_commands.specs.Agree.{compared, comparing, comparing_over, comparing_with}
 use Rattle.cell_inputs.specs.Inputs.{inputs_of, unit_nm}
 use Rattle.call_end.specs.declared.status.Status.{Status}
 use Rattle.call_end.specs.declared.status.Status.TheVariants as status
@@ -28,9 +28,9 @@ use Rattle.call_read.specs.declared.refusal.Refusal.{Refusal}
 use Rattle.call_read.specs.declared.refusal.Refusal.TheVariants.{Words, Tech, Spice, Fold, Gds, Lef}
 use Rattle.call_work.specs.Commands.{Kind, Material, kind_of, settled_by}
 use Rattle.call_work.specs.Ends.{is_among, refusal_status}
-use Rattle.row_run.specs.Row.{rowing, rowing_over}
+use Rattle.layout_commands.specs.Row.{rowing, rowing_over}
 use Rattle.scmos_rules.specs.declared.rules.Deck.{Deck}
-use Rattle.layout_run.specs.Extract.{extracting, extracting_over, gds_cell}
+use Rattle.layout_commands.specs.Extract.{extracting, extracting_over, gds_cell}
 
 -- ---- faults of parts
 

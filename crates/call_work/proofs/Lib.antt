@@ -1,5 +1,6 @@
 pub mod EachCommand
 pub mod EndsOf
+pub mod Files
 pub mod Gathered
 pub mod Keeping
 pub mod Settled

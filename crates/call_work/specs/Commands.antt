@@ -1,8 +1,8 @@
 -- The commands: what the forms of a call read, in order, what they then work on, and what the work comes to. Each
 -- definition has a line for each of them.
 use Rattle.std.specs.Prelude.{ℕ, ◌≡◌, List, [], ◌∷◌, ◌++◌, Option, Some, None, Ok, Err}
-use Rattle.agree_run.specs.Agree.{AgreesTo, comparing}
-use Rattle.agree_run.specs.declared.compared.Compared.{Compared}
+use Rattle.layout_commands.specs.Agree.{AgreesTo, comparing}
+use Rattle.layout_commands.specs.declared.compared.Compared.{Compared}
 use Rattle.call_end.specs.declared.end.End.{End}
 use Rattle.call_end.specs.declared.status.Status.{Status}
 use Rattle.call_end.specs.declared.status.Status.TheVariants as status
@@ -11,34 +11,33 @@ use Rattle.call_read.specs.Reading.{Reading, Ends, bytes_of, ◌>>=◌}
 use Rattle.call_read.specs.Sources.{Source, GdsFile, LefFile}
 use Rattle.call_read.specs.declared.refusal.Refusal.TheVariants.{Words}
 use Rattle.call_words.specs.declared.evidence.Evidence.{Evidence}
-use Rattle.call_words.specs.declared.evidence.Evidence.TheVariants.{Log, Trails}
-use Rattle.call_words.specs.Words.{Form, Plan, Make, Check, Extract, Bench, Row, Agree}
-use Rattle.bench_tally.specs.Report.{BenchesTo}
-use Rattle.call_work.specs.Evidence.{ChecksBy, evidence_file}
+use Rattle.call_words.specs.Words.{Form, Plan, Make, MakeFrom, Check, Extract, Bench, Row, Agree}
+use Rattle.bench_command.specs.Report.{BenchesTo}
+use Rattle.call_work.specs.Evidence.{IsReadAs, evidence_file}
 use Rattle.call_work.specs.declared.commands.Material.{Material as Kept}
 use Rattle.call_work.specs.declared.commands.Material.TheVariants as kept
 use Rattle.call_work.specs.declared.commands.ReadMaterial.{ReadMaterial as Own}
 use Rattle.call_work.specs.declared.commands.ReadMaterial.TheVariants as read
 use Rattle.call_work.specs.declared.material.EvidenceFile.{EvidenceFile}
-use Rattle.call_work.specs.declared.material.EvidenceFile.TheVariants as held
 use Rattle.call_work.specs.declared.material.MakeMaterial.{MakeMaterial}
 use Rattle.call_work.specs.declared.material.PlanMaterial.{PlanMaterial}
 use Rattle.call_work.specs.declared.material.RowMaterial.{RowMaterial}
 use Rattle.cell_inputs.specs.declared.style.Style.{Style}
 use Rattle.cell_inputs.specs.Inputs.{Inputs}
-use Rattle.check_run.specs.LogRead.{AreBehindAll}
-use Rattle.evidence_run.specs.Make.{MakesTo}
-use Rattle.evidence_run.specs.Plan.{PlansTo}
-use Rattle.layout_run.specs.Extract.{ExtractsTo, extracting}
-use Rattle.layout_run.specs.declared.gds_cell.GdsCell.{GdsCell}
-use Rattle.row_make.specs.RowInputs.{RowInputs}
-use Rattle.row_run.specs.Row.{RowsTo, rowing}
+use Rattle.cell_commands.specs.Given.{ChecksBy, MakesFromTo}
+use Rattle.cell_commands.specs.Make.{MakesTo}
+use Rattle.cell_commands.specs.Plan.{PlansTo}
+use Rattle.layout_commands.specs.Extract.{ExtractsTo, extracting}
+use Rattle.layout_commands.specs.declared.gds_cell.GdsCell.{GdsCell}
+use Rattle.cell_make.specs.RowInputs.{RowInputs}
+use Rattle.layout_commands.specs.Row.{RowsTo, rowing}
 
 -- ---- kinds: what a call works on and which statuses it ends with are told by its kind
 
 pub data Kind : Type 0 where
   Planning : Kind
   Making : Kind
+  MakingFrom : Kind
   Checking : Kind
   Extracting : Kind
   Benching : Kind
@@ -48,6 +47,7 @@ pub data Kind : Type 0 where
 abbrev pub kind_of : Form → Kind
 kind_of (Plan cell evidence) = Planning
 kind_of (Make cell out style evidence) = Making
+kind_of (MakeFrom cell out style file evidence) = MakingFrom
 kind_of (Check cell file evidence) = Checking
 kind_of (Extract tech gds cell rules) = Extracting
 kind_of (Bench number) = Benching
@@ -62,12 +62,21 @@ pub record CheckMaterial : Type 0 where
   pub evidence : Evidence
   pub bytes : List ℕ
 
--- What a call works on: of a plan or a drawing its inputs and the evidence, of a check the bytes besides; a cell of a
--- GDSII file, and the deck that it is checked by; a number of generated cells; what a row of cells is made of; a cell
--- and its macro.
+-- the same of a file whose row is to be drawn in a style, and what the names of the drawing's files begin with
+pub record FromMaterial : Type 0 where
+  pub inputs : Inputs
+  pub evidence : Evidence
+  pub bytes : List ℕ
+  pub stem : List ℕ
+  pub style : Style
+
+-- What a call works on: of a plan or a drawing its inputs and the evidence, of a check or of the drawing of a file's
+-- row the bytes besides; a cell of a GDSII file, and the deck that it is checked by; a number of generated cells; what a
+-- row of cells is made of; a cell and its macro.
 abbrev pub MaterialOf : Kind → Type 0
 MaterialOf Planning = PlanMaterial
 MaterialOf Making = MakeMaterial
+MaterialOf MakingFrom = FromMaterial
 MaterialOf Checking = CheckMaterial
 MaterialOf Extracting = GdsCell
 MaterialOf Benching = ℕ
@@ -84,6 +93,10 @@ abbrev pub making : Evidence → List ℕ → Style → Inputs → Material
 making evidence out style inputs =
     (Making, record { inputs = inputs; stem = out; style = style; evidence = evidence })
 
+abbrev pub making_from : Evidence → List ℕ → Style → Inputs → List ℕ → Material
+making_from evidence out style inputs bytes =
+    (MakingFrom, record { inputs = inputs; evidence = evidence; bytes = bytes; stem = out; style = style })
+
 abbrev pub checking : Evidence → Inputs → List ℕ → Material
 checking evidence inputs bytes = (Checking, record { inputs = inputs; evidence = evidence; bytes = bytes })
 
@@ -95,11 +108,17 @@ abbrev pub checking_over : Evidence → List ℕ → Inputs → Reading Material
 checking_over evidence file inputs =
     bytes_of (evidence_file evidence file) >>= λ bytes. Ends (Ok (checking evidence inputs bytes))
 
+abbrev pub making_over : Evidence → List ℕ → Style → List ℕ → Inputs → Reading Material
+making_over evidence out style file inputs =
+    bytes_of (evidence_file evidence file) >>= λ bytes. Ends (Ok (making_from evidence out style inputs bytes))
+
 abbrev pub gathered : Option Form → Reading Material
 gathered None = Ends (Err Words)
 gathered (Some (Plan asked evidence)) = inputs_from asked >>= λ inputs. Ends (Ok (planning evidence inputs))
 gathered (Some (Make asked out style evidence)) =
     inputs_from asked >>= λ inputs. Ends (Ok (making evidence out style inputs))
+gathered (Some (MakeFrom asked out style file evidence)) =
+    inputs_from asked >>= making_over evidence out style file
 gathered (Some (Check asked file evidence)) = inputs_from asked >>= checking_over evidence file
 gathered (Some (Extract tech gds cell rules)) =
     extracting tech gds cell rules >>= λ drawn. Ends (Ok (Extracting, drawn))
@@ -112,6 +131,8 @@ abbrev pub read_by : Option Form → List Source
 read_by None = []
 read_by (Some (Plan asked evidence)) = input_files asked.tech asked.spice
 read_by (Some (Make asked out style evidence)) = input_files asked.tech asked.spice
+read_by (Some (MakeFrom asked out style file evidence)) =
+    input_files asked.tech asked.spice ++ evidence_file evidence file ∷ []
 read_by (Some (Check asked file evidence)) =
     input_files asked.tech asked.spice ++ evidence_file evidence file ∷ []
 read_by (Some (Extract tech gds cell rules)) = tech_files tech ++ GdsFile gds ∷ []
@@ -119,14 +140,21 @@ read_by (Some (Bench number)) = []
 read_by (Some (Row row out)) = input_files row.tech row.spice
 read_by (Some (Agree tech gds lef cell)) = tech_files tech ++ GdsFile gds ∷ LefFile lef ∷ []
 
--- how the program keeps it: in place of a log's bytes, what reading and checking them came to
+-- how the program keeps it
 abbrev pub IsKept : Material → Kept → Type 0
 IsKept m (kept.Bench number) = m ≡ (Benching, number)
 IsKept m (kept.Read (read.Planning x)) = m ≡ (Planning, x)
 IsKept m (kept.Read (read.Making x)) = m ≡ (Making, x)
-IsKept m (kept.Read (read.Checking inputs (held.Log log))) =
-    (bytes : List ℕ) × (m ≡ checking Log inputs bytes) × AreBehindAll inputs bytes log.reader log.checker
-IsKept m (kept.Read (read.Checking inputs (held.Trails bytes))) = m ≡ checking Trails inputs bytes
+IsKept m (kept.Read (read.MakingFrom x)) =
+    (evidence : Evidence)
+    × (bytes : List ℕ)
+    × (m ≡ making_from evidence x.stem x.style x.inputs bytes)
+    × IsReadAs evidence x.inputs bytes x.file
+IsKept m (kept.Read (read.Checking inputs file)) =
+    (evidence : Evidence)
+    × (bytes : List ℕ)
+    × (m ≡ checking evidence inputs bytes)
+    × IsReadAs evidence inputs bytes file
 IsKept m (kept.Read (read.Extracting cell)) = m ≡ (Extracting, cell)
 IsKept m (kept.Read (read.Rowing x)) = m ≡ (Rowing, x)
 IsKept m (kept.Read (read.Agreeing both)) = m ≡ (Agreeing, both)
@@ -136,33 +164,42 @@ IsKept m (kept.Read (read.Agreeing both)) = m ≡ (Agreeing, both)
 abbrev pub WorksTo : (kind : Kind) → MaterialOf kind → End → Type 0
 WorksTo Planning m end = PlansTo m.evidence m.inputs end
 WorksTo Making m end = MakesTo m.evidence m.style m.inputs m.stem end
+WorksTo MakingFrom m end = MakesFromTo m.evidence m.style m.inputs m.bytes m.stem end
 WorksTo Checking m end = ChecksBy m.evidence m.inputs m.bytes end
 WorksTo Extracting cell end = ExtractsTo cell end
 WorksTo Benching number end = BenchesTo number end
 WorksTo Rowing m end = RowsTo m.inputs m.stem end
 WorksTo Agreeing both end = AgreesTo both end
 
--- the same of a check, whatever the bytes were that its log is behind
+-- so it is of a file, whatever evidence and bytes it was read as
+abbrev pub OfFile : Inputs → EvidenceFile → (Evidence → List ℕ → Type 0) → Type 0
+OfFile inputs file Says =
+    (evidence : Evidence) (bytes : List ℕ) → IsReadAs evidence inputs bytes file → Says evidence bytes
+
 abbrev pub ChecksOn : Inputs → EvidenceFile → End → Type 0
-ChecksOn inputs (held.Log log) end =
-    (bytes : List ℕ) → AreBehindAll inputs bytes log.reader log.checker → ChecksBy Log inputs bytes end
-ChecksOn inputs (held.Trails bytes) end = ChecksBy Trails inputs bytes end
+ChecksOn inputs file end = OfFile inputs file (λ evidence bytes. ChecksBy evidence inputs bytes end)
+
+abbrev pub MakesFromOn : Style → Inputs → EvidenceFile → List ℕ → End → Type 0
+MakesFromOn style inputs file out end =
+    OfFile inputs file (λ evidence bytes. MakesFromTo evidence style inputs bytes out end)
 
 -- the same of what the program keeps
 abbrev pub WorksOn : Own → End → Type 0
 WorksOn (read.Planning m) end = PlansTo m.evidence m.inputs end
 WorksOn (read.Making m) end = MakesTo m.evidence m.style m.inputs m.stem end
+WorksOn (read.MakingFrom m) end = MakesFromOn m.style m.inputs m.file m.stem end
 WorksOn (read.Checking inputs file) end = ChecksOn inputs file end
 WorksOn (read.Extracting cell) end = ExtractsTo cell end
 WorksOn (read.Rowing m) end = RowsTo m.inputs m.stem end
 WorksOn (read.Agreeing both) end = AgreesTo both end
 
 -- the statuses that the words or the files call for: a search alone is unfinished, a making alone, of one cell or of a
--- row, meets a cycle or is too tall, evidence or a layout alone is rejected, a GDSII file alone holds no netlist, cells
--- of a row alone do not stand side by side, and an abstract alone does not agree
+-- row, meets a cycle or is too tall, a file of evidence or a layout alone is rejected, a GDSII file alone holds no
+-- netlist, cells of a row alone do not stand side by side, and an abstract alone does not agree
 abbrev pub settled_by : Kind → List Status
 settled_by Planning = status.Done ∷ status.Input ∷ status.Unfinished ∷ []
 settled_by Making = status.Done ∷ status.Input ∷ status.Cycle ∷ status.Unfinished ∷ status.TooTall ∷ []
+settled_by MakingFrom = status.Done ∷ status.Input ∷ status.Cycle ∷ status.Rejected ∷ status.TooTall ∷ []
 settled_by Checking = status.Done ∷ status.Input ∷ status.Rejected ∷ []
 settled_by Extracting = status.Done ∷ status.Input ∷ status.Rejected ∷ status.Layout ∷ []
 settled_by Benching = status.Done ∷ []

@@ -13,9 +13,9 @@ use Rattle.call_read.specs.Reading.{called, MayCome}
 use Rattle.call_read.specs.Sources.{Source}
 use Rattle.call_words.specs.Words.{Form, usage_text}
 use Rattle.call_work.specs.Commands.{Material, WorksTo, gathered, kind_of, read_by, settled_by}
-use Rattle.fault_text.specs.AbstractFaults.{lef_fault}
-use Rattle.fault_text.specs.Faults.{fault_line, tech_fault, spice_fault, fold_fault}
-use Rattle.fault_text.specs.LayoutFaults.{gds_fault}
+use Rattle.cell_report.specs.AbstractFaults.{lef_fault}
+use Rattle.cell_report.specs.Faults.{fault_line, tech_fault, spice_fault, fold_fault}
+use Rattle.cell_report.specs.LayoutFaults.{gds_fault}
 
 -- ---- a step that refuses
 

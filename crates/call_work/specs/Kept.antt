@@ -6,11 +6,14 @@ use Rattle.call_read.specs.Read.{IsRead}
 use Rattle.call_read.specs.Reading.{Reading, MayCome}
 use Rattle.call_read.specs.Sources.{LogFile}
 use Rattle.call_read.specs.declared.refusal.Refusal.{Refusal}
+use Rattle.call_words.specs.declared.evidence.Evidence.{Evidence}
 use Rattle.call_work.specs.Commands.{IsKept, Material, WorksTo}
+use Rattle.call_work.specs.Evidence.{IsReadAs, evidence_file}
+use Rattle.call_work.specs.declared.material.EvidenceFile.{EvidenceFile}
 use Rattle.call_work.specs.declared.commands.Material.{Material as Kept}
 use Rattle.cell_inputs.specs.Inputs.{Inputs}
-use Rattle.check_run.specs.LogRead.{AreBehindAll}
-use Rattle.check_run.specs.declared.checked_log.CheckedLog.{CheckedLog}
+use Rattle.cell_commands.specs.LogRead.{AreBehindAll}
+use Rattle.cell_commands.specs.declared.checked_log.CheckedLog.{CheckedLog}
 
 -- the material, or the refusal
 abbrev pub AreKept : Result Material Refusal → Result Kept Refusal → Type 0
@@ -25,6 +28,11 @@ MayKeep old new reading own = (got : Result Material Refusal) × MayCome old new
 -- the work on each material that is kept so may come to this end
 abbrev pub WorksFor : Kept → End → Type 0
 WorksFor kept end = (m : Material) → IsKept m kept → WorksTo m.0 m.1 end
+
+-- a file of evidence was read as these bytes, and is kept so
+abbrev pub HoldsFile : View → View → Evidence → List ℕ → Inputs → EvidenceFile → Type 0
+HoldsFile old new evidence file inputs kept =
+    (bytes : List ℕ) × IsRead old new (evidence_file evidence file) (Ok bytes) × IsReadAs evidence inputs bytes kept
 
 -- a log that is behind all bytes that were read of its file, for a check of these inputs
 abbrev pub HoldsLog : View → View → List ℕ → Inputs → CheckedLog → Type 0

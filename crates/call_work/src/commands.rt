@@ -11,21 +11,19 @@ mod cell;
 mod layout;
 mod rows;
 
-use crate::evidence::check_by;
-use crate::material::{EvidenceFile, MakeMaterial, PlanMaterial, RowMaterial};
+use crate::evidence::{check_by, make_from};
+use crate::material::{EvidenceFile, FromMaterial, MakeMaterial, PlanMaterial, RowMaterial};
 use abstracts::for_agree;
-use agree_run::{Compared, agree};
 use call_end::End;
 use call_read::Refusal;
 use call_words::{CellCount, Form};
-use cell::{for_check, for_make, for_plan};
+use cell::{for_check, for_make, for_make_from, for_plan};
+use cell_commands::{make, plan};
 use cell_inputs::Inputs;
 use cell_io::Desk;
 use cell_num::NoMemory;
-use evidence_run::{make, plan};
 use layout::for_extract;
-use layout_run::{GdsCell, extract};
-use row_run::row;
+use layout_commands::{Compared, GdsCell, agree, extract, row};
 use rows::for_row;
 use std::alloc::Global;
 
@@ -42,6 +40,7 @@ pub enum Material {
 pub enum ReadMaterial {
     Planning(PlanMaterial),
     Making(MakeMaterial),
+    MakingFrom(FromMaterial),
     /// The inputs, and the evidence that was read for them.
     Checking(Inputs, EvidenceFile),
     Extracting(GdsCell),
@@ -62,6 +61,13 @@ fn gather_form<D: Desk>(alloc: Global, desk: &mut D, form: Form<'_>) -> Result<M
             style,
             evidence,
         } => for_make(alloc, desk, &cell, out, style, evidence),
+        Form::MakeFrom {
+            cell,
+            out,
+            style,
+            file,
+            evidence,
+        } => for_make_from(alloc, desk, &cell, out, style, file, evidence),
         Form::Check {
             cell,
             file,
@@ -106,6 +112,7 @@ fn work_on(alloc: Global, material: &ReadMaterial) -> Result<End, NoMemory>
     match material {
         ReadMaterial::Planning(of) => plan(alloc, &of.inputs, of.evidence),
         ReadMaterial::Making(of) => make(alloc, &of.inputs, &of.stem, of.style, of.evidence),
+        ReadMaterial::MakingFrom(of) => make_from(alloc, of),
         ReadMaterial::Checking(inputs, file) => check_by(alloc, inputs, file),
         ReadMaterial::Extracting(cell) => extract(alloc, cell),
         ReadMaterial::Rowing(of) => row(alloc, &of.inputs, &of.stem),

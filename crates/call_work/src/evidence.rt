@@ -2,20 +2,19 @@ ghost use Rattle.std.specs.Prelude.{Err, IfErr, IfOk};
 ghost use Rattle.cell_io.specs.Desk.{OnlyReads};
 ghost use Rattle.call_read.specs.Read.{IsRead, KeepsReads};
 ghost use Rattle.call_read.specs.Sources.{LogFile};
-ghost use Rattle.call_work.specs.Commands.{ChecksOn, checking_over};
-ghost use Rattle.call_work.specs.Kept.{HoldsLog, MayKeep};
+ghost use Rattle.call_work.specs.Commands.{ChecksOn, MakesFromOn};
+ghost use Rattle.call_work.specs.Evidence.{evidence_file};
+ghost use Rattle.call_work.specs.Kept.{HoldsFile, HoldsLog};
 
-use crate::commands::{Material, ReadMaterial};
-use crate::material::EvidenceFile;
+use crate::material::{EvidenceFile, FromMaterial};
 use call_end::End;
 use call_read::{Refusal, Source, read_file, read_to};
 use call_words::Evidence;
+use cell_commands::{CheckedLog, check, check_by_trails, make_from_log, make_from_trails};
 use cell_inputs::Inputs;
 use cell_io::Desk;
 use cell_num::NoMemory;
-use check_run::{CheckedLog, check};
 use std::alloc::Global;
-use trail_run::check_by_trails;
 
 // The log of a check, behind all bytes of its file.
 fn read_log<D: Desk>(
@@ -40,35 +39,28 @@ fn read_log<D: Desk>(
     }
 }
 
-/// Reads the file of evidence behind the inputs.
-pub(crate) fn with_evidence<D: Desk>(
+/// Reads the file of evidence after the inputs.
+pub(crate) fn read_evidence<D: Desk>(
     alloc: Global,
     desk: &mut D,
-    inputs: Inputs,
+    inputs: &Inputs,
     file: &str,
     evidence: Evidence,
-) -> Result<Material, Refusal>
-    ensures comes { MayKeep (D.view desk.old) (D.view desk.new) (checking_over evidence file.now inputs) result }
+) -> Result<EvidenceFile, Refusal>
+    ensures read { IfOk result (HoldsFile (D.view desk.old) (D.view desk.new) evidence file.now inputs.now) }
+    ensures refused { IfErr result (λ e.
+        IsRead (D.view desk.old) (D.view desk.new) (evidence_file evidence file.now) (Err e)) }
     ensures quiet { KeepsReads result (D.view desk.old) (D.view desk.new) }
     ensures only { OnlyReads (D.view desk.old) (D.view desk.new) }
 {
     match evidence {
-        Evidence::Log => match read_log(alloc, desk, &inputs, file) {
-            Ok(log) => Ok(Material::Read(ReadMaterial::Checking(inputs, EvidenceFile::Log(log)))),
-            Err(refusal) => {
-                drop(inputs);
-                Err(refusal)
-            }
+        Evidence::Log => match read_log(alloc, desk, inputs, file) {
+            Ok(log) => Ok(EvidenceFile::Log(log)),
+            Err(refusal) => Err(refusal),
         },
         Evidence::Trails => match read_file(alloc, desk, Source::Trails(file)) {
-            Ok(bytes) => Ok(Material::Read(ReadMaterial::Checking(
-                inputs,
-                EvidenceFile::Trails(bytes),
-            ))),
-            Err(refusal) => {
-                drop(inputs);
-                Err(refusal)
-            }
+            Ok(bytes) => Ok(EvidenceFile::Trails(bytes)),
+            Err(refusal) => Err(refusal),
         },
     }
 }
@@ -79,5 +71,17 @@ pub(crate) fn check_by(alloc: Global, inputs: &Inputs, file: &EvidenceFile) -> R
     match file {
         EvidenceFile::Log(log) => check(alloc, inputs, log),
         EvidenceFile::Trails(bytes) => check_by_trails(alloc, inputs, bytes.as_slice()),
+    }
+}
+
+/// The drawing of the row that the file lists, or the end of its check.
+pub(crate) fn make_from(alloc: Global, of: &FromMaterial) -> Result<End, NoMemory>
+    ensures { IfOk result (MakesFromOn of.now.style of.now.inputs of.now.file of.now.stem) }
+{
+    match &of.file {
+        EvidenceFile::Log(log) => make_from_log(alloc, &of.inputs, &of.stem, of.style, log),
+        EvidenceFile::Trails(bytes) => {
+            make_from_trails(alloc, &of.inputs, &of.stem, of.style, bytes.as_slice())
+        }
     }
 }

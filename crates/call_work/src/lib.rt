@@ -7,5 +7,5 @@ mod material;
 mod refusal;
 
 pub use commands::{Material, ReadMaterial, gather, work};
-pub use material::{EvidenceFile, MakeMaterial, PlanMaterial, RowMaterial};
+pub use material::{EvidenceFile, FromMaterial, MakeMaterial, PlanMaterial, RowMaterial};
 pub use refusal::refused;

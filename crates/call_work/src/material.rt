@@ -1,10 +1,10 @@
 // What commands on cells of a SPICE file work on.
+use call_end::Stem;
 use call_read::FileBytes;
 use call_words::Evidence;
+use cell_commands::CheckedLog;
 use cell_inputs::{Inputs, Style};
-use check_run::CheckedLog;
-use make_run::Stem;
-use row_make::RowInputs;
+use cell_make::RowInputs;
 
 /// What a plan works on: the inputs of a cell, and the evidence that its row is found with.
 #[derive(Drop)]
@@ -28,6 +28,16 @@ pub struct MakeMaterial {
 pub enum EvidenceFile {
     Log(CheckedLog),
     Trails(FileBytes),
+}
+
+/// What the drawing of a file's row works on: the inputs of a cell, the evidence that was read for them, what the names
+/// of the drawing's files begin with, and the style.
+#[derive(Drop)]
+pub struct FromMaterial {
+    pub inputs: Inputs,
+    pub file: EvidenceFile,
+    pub stem: Stem,
+    pub style: Style,
 }
 
 /// What a row works on: what its cells are made of, and what the name of its file begins with.

@@ -5,7 +5,7 @@ use call_end::{End, Status};
 use call_read::Refusal;
 use call_words::put_usage;
 use cell_num::{Bytes, NoMemory};
-use fault_text::{put_fold, put_gds, put_lef, put_spice, put_tech};
+use cell_report::{put_fold, put_gds, put_lef, put_spice, put_tech};
 use std::alloc::Global;
 
 fn status_of(refusal: &Refusal) -> Status

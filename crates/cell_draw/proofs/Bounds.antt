@@ -56,12 +56,12 @@ contact_within f small c is =
     (all_two IsShapeWithin (around Active c.x (centre f c.row) 5) (around ContactCut c.x (centre f c.row) 2) (centre_within f small c.row Active c.x 5 is.right (omega arith)) (centre_within f small c.row ContactCut c.x 2 is.right (omega arith)))
     (All-cons IsShapeWithin (strap f c.row c.x c.reach) (reach_shapes f c.row c.x c.reach) (strap_within f small c.row c.x c.reach is.right) (reach_within f small c.row c.x c.reach is.right is.reach))
 
-low_within : (f : Frame) → IsSmallFrame f → (n track : Option ℕ) → IsWidth f.hn n → IsReach f track → IsWithin (gate_low f n track)
+low_within : (f : Frame) → IsSmallFrame f → (n track : Option ℕ) → IsWidth f.n_height n → IsReach f track → IsWithin (gate_low f n track)
 low_within f small (Some v) track n t = omega (arith, ints)
 low_within f small None (Some y) n t = omega (arith, ints)
 low_within f small None None n t = omega (arith, ints)
 
-high_within : (f : Frame) → IsSmallFrame f → (p track : Option ℕ) → IsWidth f.hp p → IsReach f track → IsWithin (gate_high f p track)
+high_within : (f : Frame) → IsSmallFrame f → (p track : Option ℕ) → IsWidth f.p_height p → IsReach f track → IsWithin (gate_high f p track)
 high_within f small (Some v) track p t = omega (arith, ints)
 high_within f small None (Some y) p t = omega (arith, ints)
 high_within f small None None p t = omega (arith, ints)

@@ -226,5 +226,5 @@ pub record IsDrawn (names : List (List ℕ)) (pins : Pins) (p : Placement) (r : 
   pub allowed : AreAllowed p pins (stretches_of r.trunks) xs
   pub frame : IsFrame f r.tracks
   pub width : f.width ≡ width_of p xs
-  pub hn : f.hn ≡ height_of N p.row
-  pub hp : f.hp ≡ height_of P p.row
+  pub n_height : f.n_height ≡ height_of N p.row
+  pub p_height : f.p_height ≡ height_of P p.row

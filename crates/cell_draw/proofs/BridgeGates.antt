@@ -51,14 +51,14 @@ some_finger (Some x) None net e = tt
 some_finger None (Some y) net e = tt
 some_finger None None net e = absurd cc
 
-pub gate_is : (p : Placement) (xs : List ℕ) (f : Frame) (trunks : List Trunk) → IsPlacement p → AreLines p xs → All HasWidths p.row → f.width ≡ width_of p xs → f.hn ≡ height_of N p.row → f.hp ≡ height_of P p.row → (g : Gate) → GateFrom p.row f trunks xs g → IsGate f g
+pub gate_is : (p : Placement) (xs : List ℕ) (f : Frame) (trunks : List Trunk) → IsPlacement p → AreLines p xs → All HasWidths p.row → f.width ≡ width_of p xs → f.n_height ≡ height_of N p.row → f.p_height ≡ height_of P p.row → (g : Gate) → GateFrom p.row f trunks xs g → IsGate f g
 gate_is p xs f trunks is lines widths width hn hp g from =
     let there : Contains p.row from.seat.column = contains_get p.row from.at from.seat.column from.stands in
     let w : HasWidths from.seat.column = All-contains HasWidths p.row from.seat.column widths there in
     record {
       inside = inside p xs f is lines width (2 * unit_of p.row from.at + 1) (omega (arith, unit_last p is from.at from.seat.column from.stands)) g.x from.x;
-      n = subst (λ o. IsWidth f.hn o) (sym from.n) (gate_width from.seat.column.n f.hn w.n (λ x e. omega (arith, hn, height_holds N p.row from.seat.column x there e)));
-      p = subst (λ o. IsWidth f.hp o) (sym from.p) (gate_width from.seat.column.p f.hp w.p (λ x e. omega (arith, hp, height_holds P p.row from.seat.column x there e)));
+      n = subst (λ o. IsWidth f.n_height o) (sym from.n) (gate_width from.seat.column.n f.n_height w.n (λ x e. omega (arith, hn, height_holds N p.row from.seat.column x there e)));
+      p = subst (λ o. IsWidth f.p_height o) (sym from.p) (gate_width from.seat.column.p f.p_height w.p (λ x e. omega (arith, hp, height_holds P p.row from.seat.column x there e)));
       finger = subst (λ o. HasFinger g.n o) (sym from.p) (subst (λ o. HasFinger o (finger_width from.seat.column.p)) (sym from.n) (some_finger from.seat.column.p from.seat.column.n from.place.net from.gate));
     }
 

@@ -43,7 +43,7 @@ pub laid : (names : List (List ℕ)) (pins : Pins) (p : Placement) (r : Routing)
 laid names pins p r xs f nets d = record {
   tracks = r.tracks;
   frame = d.frame;
-  strips = all_from_contains (IsStrip f) (laid_out f nets pins p r.trunks xs).strips (λ s there. strip_is p xs f d.placement lines wide d.width d.hn d.hp s (strip_from p.row xs s there));
+  strips = all_from_contains (IsStrip f) (laid_out f nets pins p r.trunks xs).strips (λ s there. strip_is p xs f d.placement lines wide d.width d.n_height d.p_height s (strip_from p.row xs s there));
   ordered = λ a b la lb row. ordered p xs d.placement lines a b (strip_from p.row xs a la) (strip_from p.row xs b lb) row;
   inside = all_from_contains (λ (c : Contact). IsInside f c.x) (laid_out f nets pins p r.trunks xs).contacts (λ c there. let from = contact c there in inside p xs f d.placement lines d.width from.node.line (node_last p d.placement from.node from.there) c.x from.x);
   spread = λ a b la lb. spread p xs f pins r d.placement lines a b (contact a la) (contact b lb);
@@ -52,7 +52,7 @@ laid names pins p r xs f nets d = record {
   reaches = reaches names pins p r xs f nets d;
   clear = clear names pins p r xs f nets d;
   ends = λ c s there listed row. ends p xs f pins r d.placement lines c s (contact c there) (strip_from p.row xs s listed);
-  gates = all_from_contains (IsGate f) (laid_out f nets pins p r.trunks xs).gates (λ g there. gate_is p xs f r.trunks d.placement lines wide d.width d.hn d.hp g (gate g there));
+  gates = all_from_contains (IsGate f) (laid_out f nets pins p r.trunks xs).gates (λ g there. gate_is p xs f r.trunks d.placement lines wide d.width d.n_height d.p_height g (gate g there));
   gate_spread = λ a b la lb. gate_spread p xs f r.trunks d.placement lines a b (gate a la) (gate b lb);
   beside = λ c g there listed. beside p xs f pins r d.placement d.wiring d.allowed lines c g (contact c there) (gate g listed);
   over = λ g s there listed. over p xs f r.trunks d.placement lines g s (gate g there) (strip_from p.row xs s listed);
@@ -75,7 +75,7 @@ laid names pins p r xs f nets d = record {
     gate g there = gate_from p.row f r.trunks xs g there
 
 -- the rows alone are laid
-pub base_laid : (pins : Pins) (p : Placement) (tracks : ℕ) (xs : List ℕ) (f : Frame) → IsPlacement p → AreLines p xs → All HasWidths p.row → IsFrame f tracks → f.width ≡ width_of p xs → f.hn ≡ height_of N p.row → f.hp ≡ height_of P p.row → IsLaid (base_of f pins p xs)
+pub base_laid : (pins : Pins) (p : Placement) (tracks : ℕ) (xs : List ℕ) (f : Frame) → IsPlacement p → AreLines p xs → All HasWidths p.row → IsFrame f tracks → f.width ≡ width_of p xs → f.n_height ≡ height_of N p.row → f.p_height ≡ height_of P p.row → IsLaid (base_of f pins p xs)
 base_laid pins p tracks xs f is lines wide frame width hn hp = record {
   tracks = tracks;
   frame = frame;

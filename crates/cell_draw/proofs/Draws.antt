@@ -52,8 +52,8 @@ drawn_is names pins p r xs height is row wiring allowed = record {
   allowed = allowed;
   frame = frame_is p r.tracks height xs (lines_of_allowed p pins r xs allowed);
   width = refl;
-  hn = refl;
-  hp = refl;
+  n_height = refl;
+  p_height = refl;
 }
 
 pub drawing_obeys : (shapes : List Shape) (names : List (List ℕ)) (pins : Pins) (p : Placement) (r : Routing) (xs : List ℕ) (height : ℕ) → shapes ≡ shapes_of (layout_of (length names) pins p r xs height) → IsPlacement p → IsSoundRow names pins p.row → IsWiring p pins r → AreAllowed p pins (stretches_of r.trunks) xs → Obeys Plain shapes

@@ -81,8 +81,8 @@ BeginsAt xs seat box = box.x1 ≡ pos (x_of xs (2 * seat.unit + 1)) -ℤ pos 2
 
 -- the heights of a row's boxes
 abbrev LiesIn : Frame → Row → Rectangle → Type 0
-LiesIn f N box = box.y2 ≡ pos f.yn
-LiesIn f P box = box.y1 ≡ pos f.yp
+LiesIn f N box = box.y2 ≡ pos f.n_edge
+LiesIn f P box = box.y1 ≡ pos f.p_edge
 
 lies : (f : Frame) (row : Row) (s : Strip) (z : ℕ) → LiesIn f row (box_in f row s z)
 lies f N s z = refl
@@ -120,7 +120,7 @@ apart_in_row names pins p r xs f w side = pairs_flat (λ (a b : Seat). a.unit < 
         let same : a.x1 ≡ b.x1 = ap (λ (z : Rectangle). z.x1) e in
         absurd (omega (arith, ints, gap, same, ha, hb))
 
-rows_apart : (f : Frame) → f.yn ≤ f.yp → (a b : Rectangle) → (LiesIn f P a × (a.y1 <ℤ a.y2)) → LiesIn f N b → a ≢ b
+rows_apart : (f : Frame) → f.n_edge ≤ f.p_edge → (a b : Rectangle) → (LiesIn f P a × (a.y1 <ℤ a.y2)) → LiesIn f N b → a ≢ b
 rows_apart f le a b (h, tall) k e =
     let same : a.y2 ≡ b.y2 = ap (λ (z : Rectangle). z.y2) e in
     absurd (omega (arith, ints, h, tall, k, same, le))

@@ -80,12 +80,12 @@ contact_in f tracks is c i r =
     (centre_in f tracks is c.row c.x i)
     (All-cons (IsInFrame f) (strap f c.row c.x c.reach) (reach_shapes f c.row c.x c.reach) (strap_in f tracks is c.row c.x c.reach i) (reach_in f tracks is c.row c.x c.reach i r))
 
-low_in : (f : Frame) (tracks : ℕ) → IsFrame f tracks → (n track : Option ℕ) → IsWidth f.hn n → IsReach f track → pos 20 ≤ℤ gate_low f n track
+low_in : (f : Frame) (tracks : ℕ) → IsFrame f tracks → (n track : Option ℕ) → IsWidth f.n_height n → IsReach f track → pos 20 ≤ℤ gate_low f n track
 low_in f tracks is (Some v) track n t = omega (arith, ints)
 low_in f tracks is None (Some y) n t = omega (arith, ints)
 low_in f tracks is None None n t = omega (arith, ints)
 
-high_in : (f : Frame) (tracks : ℕ) → IsFrame f tracks → (p track : Option ℕ) → IsWidth f.hp p → IsReach f track → (gate_high f p track +ℤ pos 20) ≤ℤ pos (cell_height f)
+high_in : (f : Frame) (tracks : ℕ) → IsFrame f tracks → (p track : Option ℕ) → IsWidth f.p_height p → IsReach f track → (gate_high f p track +ℤ pos 20) ≤ℤ pos (cell_height f)
 high_in f tracks is (Some v) track p t = omega (arith, ints)
 high_in f tracks is None (Some y) p t = omega (arith, ints)
 high_in f tracks is None None p t = omega (arith, ints)

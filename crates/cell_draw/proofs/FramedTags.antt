@@ -39,9 +39,9 @@ tag_at Q pins f nodes trunks xs gates a net t e = rails (net.0 == pins.gnd.0) (n
     trunk None is h = node (find (λ (n : NodePlace). n.net.0 == net.0) nodes) refl h
     trunk (Some u) is h = some_tag Q (metal_tag (x_of xs u.left) (track_y f u.track) net) t h (found_all (λ (z : Trunk). Q (x_of xs z.left)) (λ (z : Trunk). z.net.0 == net.0) trunks u a.at_trunks is)
 
-    rails : (g v : Bool) → (if g then Some (metal_tag 8 8 net) else if v then Some (metal_tag 8 (f.yp + f.hp + 16) net) else net_tag f nodes trunks xs gates net) ≡ Some t → Q t.x
+    rails : (g v : Bool) → (if g then Some (metal_tag 8 8 net) else if v then Some (metal_tag 8 (f.p_edge + f.p_height + 16) net) else net_tag f nodes trunks xs gates net) ≡ Some t → Q t.x
     rails true v h = some_tag Q (metal_tag 8 8 net) t h a.rails
-    rails false true h = some_tag Q (metal_tag 8 (f.yp + f.hp + 16) net) t h a.rails
+    rails false true h = some_tag Q (metal_tag 8 (f.p_edge + f.p_height + 16) net) t h a.rails
     rails false false h = trunk (trunk_of trunks net) refl h
 
 pub tags_at : (Q : ℕ → Type 0) (pins : Pins) (f : Frame) (nets : ℕ) (nodes : List NodePlace) (trunks : List Trunk) (xs : List ℕ) (gates : List Gate) → AtLines Q nodes trunks xs gates → All (λ (t : Tag). Q t.x) (tags_of pins f nets nodes trunks xs gates)

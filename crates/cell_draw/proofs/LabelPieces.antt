@@ -73,7 +73,7 @@ on_diffusion P = refl
 
 -- ---- a label at the end of a finger
 abbrev pub node_y : Frame → Row → ℕ
-node_y f row = if is_p row then f.yp + 4 else f.yn - 4
+node_y f row = if is_p row then f.p_edge + 4 else f.n_edge - 4
 
 pub left_corner : (f : Frame) (k : ℕ) → IsFrame f k → (row : Row) (s : Strip) (z x : ℕ) → s.left + 8 ≤ z → 6 ≤ s.width → s.left ≡ x → Holds (half_in f row s z left_end) (pos x) (pos (node_y f row))
 left_corner f k fr N s z x a wide e = omega (arith, ints)

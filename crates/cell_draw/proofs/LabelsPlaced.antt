@@ -61,7 +61,7 @@ layout names pins p r xs f = laid_out f (length names) pins p r.trunks xs
 gnd_holds : (f : Frame) (k : ℕ) → IsFrame f k → Holds (gnd_rail f).rect (pos 8) (pos 8)
 gnd_holds f k fr = omega (arith, ints)
 
-vdd_holds : (f : Frame) (k : ℕ) → IsFrame f k → Holds (vdd_rail f).rect (pos 8) (pos (f.yp + f.hp + 16))
+vdd_holds : (f : Frame) (k : ℕ) → IsFrame f k → Holds (vdd_rail f).rect (pos 8) (pos (f.p_edge + f.p_height + 16))
 vdd_holds f k fr = omega (arith, ints)
 
 -- ---- a gate without a trunk
@@ -137,7 +137,7 @@ no_pad f trunks place e = by (gate_reach f trunks place) refl
 -- the label of a net belongs to a piece of the net
 pub tag_label : (names : List (List ℕ)) (pins : Pins) (p : Placement) (r : Routing) (xs : List ℕ) (f : Frame) (w : IsWired names pins p r xs f) → (net : NetNo) (t : Tag) → TagFrom pins f p.nodes r.trunks xs (gates_on f r.trunks xs (seats_of p.row)) net t → LabelOn (layout names pins p r xs f) w.has.netted (label_of names t) net
 tag_label names pins p r xs f w net t (on_gnd e is) = subst (λ z. LabelOn (layout names pins p r xs f) w.has.netted (label_of names z) net) is (direct (layout names pins p r xs f) w.laid w.has.netted (metal gnd) Metal1 8 8 (get_or names net.0 []) net tt (sym e) refl (gnd_holds f r.tracks w.drawn.frame))
-tag_label names pins p r xs f w net t (on_vdd e is) = subst (λ z. LabelOn (layout names pins p r xs f) w.has.netted (label_of names z) net) is (direct (layout names pins p r xs f) w.laid w.has.netted (metal vdd) Metal1 8 (f.yp + f.hp + 16) (get_or names net.0 []) net tt (sym e) refl (vdd_holds f r.tracks w.drawn.frame))
+tag_label names pins p r xs f w net t (on_vdd e is) = subst (λ z. LabelOn (layout names pins p r xs f) w.has.netted (label_of names z) net) is (direct (layout names pins p r xs f) w.laid w.has.netted (metal vdd) Metal1 8 (f.p_edge + f.p_height + 16) (get_or names net.0 []) net tt (sym e) refl (vdd_holds f r.tracks w.drawn.frame))
 tag_label names pins p r xs f w net t (on_trunk u found is) =
     let from = trunk_from r.trunks net u found in
     let b : Bar = bar_from f p.nodes r.trunks xs u in

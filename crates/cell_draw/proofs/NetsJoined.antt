@@ -154,7 +154,7 @@ pad_bar l w n g t h on =
 gnd_meets : (f : Frame) (k : ℕ) → IsFrame f k → (x : ℕ) → Holds (strap f N x None).rect (pos x) (pos 15 +ℤ pos 1)
 gnd_meets f k fr x = omega (arith, ints)
 
-vdd_meets : (f : Frame) (k : ℕ) → IsFrame f k → (x : ℕ) → Holds (strap f P x None).rect (pos x) (pos (f.yp + f.hp + 7))
+vdd_meets : (f : Frame) (k : ℕ) → IsFrame f k → (x : ℕ) → Holds (strap f P x None).rect (pos x) (pos (f.p_edge + f.p_height + 7))
 vdd_meets f k fr x = omega (arith, ints)
 
 pub gnd_strap : (l : Layout) (w : IsLaid l) (n : IsNetted l) (c : Contact) → Contains l.contacts c → c.reach ≡ None → c.row ≡ N → Together l n (metal (strap_of c)) (metal gnd)
@@ -166,7 +166,7 @@ gnd_strap l w n c h none e =
 pub vdd_strap : (l : Layout) (w : IsLaid l) (n : IsNetted l) (c : Contact) → Contains l.contacts c → c.reach ≡ None → c.row ≡ P → Together l n (metal (strap_of c)) (metal vdd)
 vdd_strap l w n c h none e =
     let i : IsInside l.frame c.x = inside_of l w c h in
-    let y : ℤ = pos (l.frame.yp + l.frame.hp + 7) in
+    let y : ℤ = pos (l.frame.p_edge + l.frame.p_height + 7) in
     let on : Holds (strap l.frame c.row c.x c.reach).rect (pos c.x) y = subst (λ r. Holds (strap l.frame r c.x c.reach).rect (pos c.x) y) (sym e) (subst (λ o. Holds (strap l.frame P c.x o).rect (pos c.x) y) (sym none) (vdd_meets l.frame w.tracks w.frame c.x)) in
     stacked l n (metal (strap_of c)) (metal vdd) h tt refl (pos c.x) y on (omega (arith, ints))
 
@@ -178,10 +178,10 @@ record MeetsHalf (f : Frame) (row : Row) (s : Strip) (z x : ℕ) (e : End) : Typ
   on_half : Holds (half_in f row s z e) u v
 
 meets_half : (f : Frame) (row : Row) (s : Strip) (z x : ℕ) (e : End) → s.left + 8 ≤ z → z + 8 ≤ s.right → 6 ≤ s.width → x ≡ end_x e s → MeetsHalf f row s z x e
-meets_half f N s z x left_end a b wide at = record { u = pos s.left; v = pos f.yn -ℤ pos 1; on_pad = omega (arith, ints); on_half = omega (arith, ints) }
-meets_half f N s z x right_end a b wide at = record { u = pos s.right -ℤ pos 1; v = pos f.yn -ℤ pos 1; on_pad = omega (arith, ints); on_half = omega (arith, ints) }
-meets_half f P s z x left_end a b wide at = record { u = pos s.left; v = pos f.yp; on_pad = omega (arith, ints); on_half = omega (arith, ints) }
-meets_half f P s z x right_end a b wide at = record { u = pos s.right -ℤ pos 1; v = pos f.yp; on_pad = omega (arith, ints); on_half = omega (arith, ints) }
+meets_half f N s z x left_end a b wide at = record { u = pos s.left; v = pos f.n_edge -ℤ pos 1; on_pad = omega (arith, ints); on_half = omega (arith, ints) }
+meets_half f N s z x right_end a b wide at = record { u = pos s.right -ℤ pos 1; v = pos f.n_edge -ℤ pos 1; on_pad = omega (arith, ints); on_half = omega (arith, ints) }
+meets_half f P s z x left_end a b wide at = record { u = pos s.left; v = pos f.p_edge; on_pad = omega (arith, ints); on_half = omega (arith, ints) }
+meets_half f P s z x right_end a b wide at = record { u = pos s.right -ℤ pos 1; v = pos f.p_edge; on_pad = omega (arith, ints); on_half = omega (arith, ints) }
 
 pub half_pad : (l : Layout) (w : IsLaid l) (n : IsNetted l) (s : Strip) (e : End) → Contains l.strips s → (c : HasContact l s.row (end_x e s)) → Together l n (half s e) (pad c.contact)
 half_pad l w n s e h c =
@@ -197,8 +197,8 @@ record MeetsNext (f : Frame) (row : Row) (s t : Strip) (x z : ℕ) : Type 0 wher
   on_right : Holds (half_in f row t z left_end) (u +ℤ pos 1) v
 
 meets_next : (f : Frame) (row : Row) (s t : Strip) (x z : ℕ) → x + 8 ≤ s.right → t.left + 8 ≤ z → 6 ≤ s.width → 6 ≤ t.width → s.right ≡ t.left → MeetsNext f row s t x z
-meets_next f N s t x z a b wide also at = record { u = pos s.right -ℤ pos 1; v = pos f.yn -ℤ pos 1; on_left = omega (arith, ints); on_right = omega (arith, ints) }
-meets_next f P s t x z a b wide also at = record { u = pos s.right -ℤ pos 1; v = pos f.yp; on_left = omega (arith, ints); on_right = omega (arith, ints) }
+meets_next f N s t x z a b wide also at = record { u = pos s.right -ℤ pos 1; v = pos f.n_edge -ℤ pos 1; on_left = omega (arith, ints); on_right = omega (arith, ints) }
+meets_next f P s t x z a b wide also at = record { u = pos s.right -ℤ pos 1; v = pos f.p_edge; on_left = omega (arith, ints); on_right = omega (arith, ints) }
 
 pub next_halves : (l : Layout) (w : IsLaid l) (n : IsNetted l) (s t : Strip) → Contains l.strips s → Contains l.strips t → s.row ≡ t.row → s.right ≡ t.left → Together l n (half s right_end) (half t left_end)
 next_halves l w n s t hs ht rows at =

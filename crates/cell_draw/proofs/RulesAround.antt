@@ -154,7 +154,7 @@ pub n8_3 : (l : Layout) (w : IsLaid l) → IsEmpty (Fails Plain N8_3 (shapes_of 
 n8_3 l w x y f = let v = via_held l x y f.covered in f.out (metal_under l w v.piece v.listed x y f.s f.t v.holds f.near)
 
 -- no via is near a contact
-node_height : (f : Frame) (row : Row) (z : ℕ) (x y : ℤ) → Holds (node_in f row z).rect x y → (y <ℤ pos f.yn) ⊎ (pos f.yp ≤ℤ y)
+node_height : (f : Frame) (row : Row) (z : ℕ) (x y : ℤ) → Holds (node_in f row z).rect x y → (y <ℤ pos f.n_edge) ⊎ (pos f.p_edge ≤ℤ y)
 node_height f N z x y h = inl (omega (arith, ints))
 node_height f P z x y h = inr (omega (arith, ints))
 

@@ -33,12 +33,12 @@ pub record GateEnds (f : Frame) (row : Row) (width : ℕ) (n p track : Option �
   pub low : (gate_low f n track +ℤ pos 4) ≤ℤ finger_low f row width
   pub high : (finger_high f row width +ℤ pos 4) ≤ℤ gate_high f p track
 
-high_end : (f : Frame) (k : ℕ) → IsFrame f k → (p track : Option ℕ) → ((y : ℕ) → track ≡ Some y → InChannel f y) → pos (f.yn + 4) ≤ℤ gate_high f p track
+high_end : (f : Frame) (k : ℕ) → IsFrame f k → (p track : Option ℕ) → ((y : ℕ) → track ≡ Some y → InChannel f y) → pos (f.n_edge + 4) ≤ℤ gate_high f p track
 high_end f k fr (Some v) track t = omega (arith, ints)
 high_end f k fr None (Some y) t = let c = t y refl in omega (arith, ints)
 high_end f k fr None None t = omega (arith, ints)
 
-low_end : (f : Frame) (k : ℕ) → IsFrame f k → (n track : Option ℕ) → ((y : ℕ) → track ≡ Some y → InChannel f y) → (gate_low f n track +ℤ pos 4) ≤ℤ pos f.yp
+low_end : (f : Frame) (k : ℕ) → IsFrame f k → (n track : Option ℕ) → ((y : ℕ) → track ≡ Some y → InChannel f y) → (gate_low f n track +ℤ pos 4) ≤ℤ pos f.p_edge
 low_end f k fr (Some v) track t = omega (arith, ints)
 low_end f k fr None (Some y) t = let c = t y refl in omega (arith, ints)
 low_end f k fr None None t = omega (arith, ints)

@@ -12,8 +12,8 @@ use Rattle.cell_draw.specs.Laid.{IsFrame, IsTrack, AreFar, Follows, IsLaid}
 
 -- a height at least 20 from both edges of the channel
 pub record InChannel (f : Frame) (y : ℕ) : Type 0 where
-  pub low : f.yn + 20 ≤ y
-  pub high : y + 20 ≤ f.yp
+  pub low : f.n_edge + 20 ≤ y
+  pub high : y + 20 ≤ f.p_edge
 
 pub in_channel : (f : Frame) (k y : ℕ) → IsFrame f k → IsTrack f k y → InChannel f y
 in_channel f k y fr t = omega arith

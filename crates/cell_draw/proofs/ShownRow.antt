@@ -109,10 +109,10 @@ columns_shown names pins p r xs f w are unit before (c ∷ row) sub =
     )
 
 -- ---- neighbours
-join_n : (f : Frame) (s t : Strip) (z u : ℕ) (x : ℤ) → 6 ≤ s.width → 6 ≤ t.width → s.left ≤ z → s.right ≡ t.left → u ≤ t.right → (pos z +ℤ pos 2) ≤ℤ x → x <ℤ (pos u -ℤ pos 2) → Holds (finger_in f N s).rect x (pos f.yn -ℤ pos 1) ⊎ Holds (finger_in f N t).rect x (pos f.yn -ℤ pos 1)
+join_n : (f : Frame) (s t : Strip) (z u : ℕ) (x : ℤ) → 6 ≤ s.width → 6 ≤ t.width → s.left ≤ z → s.right ≡ t.left → u ≤ t.right → (pos z +ℤ pos 2) ≤ℤ x → x <ℤ (pos u -ℤ pos 2) → Holds (finger_in f N s).rect x (pos f.n_edge -ℤ pos 1) ⊎ Holds (finger_in f N t).rect x (pos f.n_edge -ℤ pos 1)
 join_n f s t z u x a b left e right from to = by_lt_z x (pos s.right) (λ less. inl (omega (arith, ints))) (λ most. inr (omega (arith, ints)))
 
-join_p : (f : Frame) (s t : Strip) (z u : ℕ) (x : ℤ) → 6 ≤ s.width → 6 ≤ t.width → s.left ≤ z → s.right ≡ t.left → u ≤ t.right → (pos z +ℤ pos 2) ≤ℤ x → x <ℤ (pos u -ℤ pos 2) → Holds (finger_in f P s).rect x (pos f.yp) ⊎ Holds (finger_in f P t).rect x (pos f.yp)
+join_p : (f : Frame) (s t : Strip) (z u : ℕ) (x : ℤ) → 6 ≤ s.width → 6 ≤ t.width → s.left ≤ z → s.right ≡ t.left → u ≤ t.right → (pos z +ℤ pos 2) ≤ℤ x → x <ℤ (pos u -ℤ pos 2) → Holds (finger_in f P s).rect x (pos f.p_edge) ⊎ Holds (finger_in f P t).rect x (pos f.p_edge)
 join_p f s t z u x a b left e right from to = by_lt_z x (pos s.right) (λ less. inl (omega (arith, ints))) (λ most. inr (omega (arith, ints)))
 
 get_map : {X Y : Type 0} (g : X → Y) (xs : List X) (at : ℕ) (x : X) → slice_get xs at ≡ Some x → slice_get (map g xs) at ≡ Some (g x)
@@ -138,8 +138,8 @@ joined_by names pins p r xs f w s t side x y hs ht next = by side hs ht
         let q : IsOver u (w.has.netted.over u) = (w.has.netted.gated u b.listed).1 in (
           refl,
           λ v from to. elim (join_n f z u (w.has.netted.over z).x (w.has.netted.over u).x v (strip_is (layout names pins p r xs f) w.laid z a.listed).least (strip_is (layout names pins p r xs f) w.laid u b.listed).least (omega (arith, o.left)) at (omega (arith, q.right)) from to) [
-            | inl h ↦ active N z v (pos f.yn -ℤ pos 1) a.listed refl h
-            | inr h ↦ active N u v (pos f.yn -ℤ pos 1) b.listed refl h
+            | inl h ↦ active N z v (pos f.n_edge -ℤ pos 1) a.listed refl h
+            | inr h ↦ active N u v (pos f.n_edge -ℤ pos 1) b.listed refl h
           ],
         )
     by P a b =
@@ -149,8 +149,8 @@ joined_by names pins p r xs f w s t side x y hs ht next = by side hs ht
         let q : IsOver u (w.has.netted.over u) = (w.has.netted.gated u b.listed).1 in (
           refl,
           λ v from to. elim (join_p f z u (w.has.netted.over z).x (w.has.netted.over u).x v (strip_is (layout names pins p r xs f) w.laid z a.listed).least (strip_is (layout names pins p r xs f) w.laid u b.listed).least (omega (arith, o.left)) at (omega (arith, q.right)) from to) [
-            | inl h ↦ active P z v (pos f.yp) a.listed refl h
-            | inr h ↦ active P u v (pos f.yp) b.listed refl h
+            | inl h ↦ active P z v (pos f.p_edge) a.listed refl h
+            | inr h ↦ active P u v (pos f.p_edge) b.listed refl h
           ],
         )
 

@@ -51,12 +51,12 @@ trunk_tag pins p r xs f net t signal found = rails (net.0 == pins.gnd.0) (net.0 
     trunk (Some u) e = ap (λ (z : Trunk). Some (metal_tag (x_of xs z.left) (track_y f z.track) net)) (some_same u t (sym e ∙ found))
     trunk None e = absurd (let wrong : None ≡ Some t = sym e ∙ found in cc)
 
-    rails : (g v : Bool) → (net.0 == pins.gnd.0) ≡ g → (net.0 == pins.vdd.0) ≡ v → (if g then Some (metal_tag 8 8 net) else if v then Some (metal_tag 8 (f.yp + f.hp + 16) net) else net_tag f p.nodes r.trunks xs (gates_on f r.trunks xs (seats_of p.row)) net) ≡ Some (metal_tag (x_of xs t.left) (track_y f t.track) net)
+    rails : (g v : Bool) → (net.0 == pins.gnd.0) ≡ g → (net.0 == pins.vdd.0) ≡ v → (if g then Some (metal_tag 8 8 net) else if v then Some (metal_tag 8 (f.p_edge + f.p_height + 16) net) else net_tag f p.nodes r.trunks xs (gates_on f r.trunks xs (seats_of p.row)) net) ≡ Some (metal_tag (x_of xs t.left) (track_y f t.track) net)
     rails true v eg ev = absurd (signal (inr ((net_decides net pins.gnd).0 eg)))
     rails false true eg ev = absurd (signal (inl ((net_decides net pins.vdd).0 ev)))
     rails false false eg ev = trunk (trunk_of r.trunks net) refl
 
-shows_track : (names : List (List ℕ)) (pins : Pins) (p : Placement) (r : Routing) (xs : List ℕ) (f : Frame) → IsDrawn names pins p r xs f → IsLegal p pins r → (t : Trunk) → Contains r.trunks t → ShowsTrack names f.yn (shapes names pins p r xs f) t
+shows_track : (names : List (List ℕ)) (pins : Pins) (p : Placement) (r : Routing) (xs : List ℕ) (f : Frame) → IsDrawn names pins p r xs f → IsLegal p pins r → (t : Trunk) → Contains r.trunks t → ShowsTrack names f.n_edge (shapes names pins p r xs f) t
 shows_track names pins p r xs f d legal t there =
     let g : List Gate = gates_on f r.trunks xs (seats_of p.row) in
     let tag : Tag = metal_tag (x_of xs t.left) (track_y f t.track) t.net in
@@ -72,7 +72,7 @@ shows_track names pins p r xs f d legal t there =
     }
 
 -- a drawn row shows its routing
-pub shows_routing : (names : List (List ℕ)) (pins : Pins) (p : Placement) (r : Routing) (xs : List ℕ) (f : Frame) → IsDrawn names pins p r xs f → IsLegal p pins r → f.yn ≡ channel_edge p.row → ShowsRouting names pins p (shapes names pins p r xs f) r
+pub shows_routing : (names : List (List ℕ)) (pins : Pins) (p : Placement) (r : Routing) (xs : List ℕ) (f : Frame) → IsDrawn names pins p r xs f → IsLegal p pins r → f.n_edge ≡ channel_edge p.row → ShowsRouting names pins p (shapes names pins p r xs f) r
 shows_routing names pins p r xs f d legal edge = record {
   nets = legal.nets;
   order = legal.order;

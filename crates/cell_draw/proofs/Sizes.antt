@@ -20,10 +20,10 @@ width_in c N h = h.n
 width_in c P h = h.p
 
 -- the ends of a gate ascend
-pub low_high : (n p : Option ℕ) (low high yn yp : ℕ) → HasFinger n p → yn ≤ yp → low + 4 ≤ yp → IfSome n (λ w. low ≤ yn) → yn + 4 ≤ high → IfSome p (λ w. yp ≤ high) → low < high
-low_high (Some w) p low high yn yp finger edges a b c d = omega (arith, b, c)
-low_high None (Some w) low high yn yp finger edges a b c d = omega (arith, a, d)
-low_high None None low high yn yp finger edges a b c d = absurd finger
+pub low_high : (n p : Option ℕ) (low high n_edge p_edge : ℕ) → HasFinger n p → n_edge ≤ p_edge → low + 4 ≤ p_edge → IfSome n (λ w. low ≤ n_edge) → n_edge + 4 ≤ high → IfSome p (λ w. p_edge ≤ high) → low < high
+low_high (Some w) p low high n_edge p_edge finger edges a b c d = omega (arith, b, c)
+low_high None (Some w) low high n_edge p_edge finger edges a b c d = omega (arith, a, d)
+low_high None None low high n_edge p_edge finger edges a b c d = absurd finger
 
 -- the units of a row of at most 32 columns are few
 pub seats_low : (row : List Column) (seats : List Seat) → seats ≡ seats_of row → length row ≤ 32 → All (λ seat. seat.unit ≤ 64) seats

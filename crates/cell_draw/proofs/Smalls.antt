@@ -84,7 +84,7 @@ pub record Lies (f : Frame) (tracks : ℕ) (trunks : List Trunk) (xs : List ℕ)
   pub lines : (line : ℕ) → x_of xs line ≤ 1000000
   pub on_gates : All (λ (g : Gate). g.x ≤ 1000000) gates
 
-node_small : (f : Frame) (xs : List ℕ) (node : NodePlace) (side : Row) → IsSmallFrame f → ((line : ℕ) → x_of xs line ≤ 1000000) → (if is_p side then f.yp + 4 else f.yn - 4) ≤ 200000
+node_small : (f : Frame) (xs : List ℕ) (node : NodePlace) (side : Row) → IsSmallFrame f → ((line : ℕ) → x_of xs line ≤ 1000000) → (if is_p side then f.p_edge + 4 else f.n_edge - 4) ≤ 200000
 node_small f xs node P small lines = omega (arith, small.top)
 node_small f xs node N small lines = omega (arith, small.top, small.rows.channel)
 
@@ -112,9 +112,9 @@ tag_small pins f tracks nodes trunks xs gates l net t e = rails (net.0 == pins.g
         let low : u.track < tracks = found_all (λ (z : Trunk). z.track < tracks) (λ (z : Trunk). z.net.0 == net.0) trunks u l.on_tracks is in
         some_tag (metal_tag (x_of xs u.left) (track_y f u.track) net) t h (record { right = l.lines u.left; top = omega (arith, low, l.frame.room, l.small.top) })
 
-    rails : (g v : Bool) → (if g then Some (metal_tag 8 8 net) else if v then Some (metal_tag 8 (f.yp + f.hp + 16) net) else net_tag f nodes trunks xs gates net) ≡ Some t → IsSmallTag t
+    rails : (g v : Bool) → (if g then Some (metal_tag 8 8 net) else if v then Some (metal_tag 8 (f.p_edge + f.p_height + 16) net) else net_tag f nodes trunks xs gates net) ≡ Some t → IsSmallTag t
     rails true v h = some_tag (metal_tag 8 8 net) t h (record { right = omega arith; top = omega arith })
-    rails false true h = some_tag (metal_tag 8 (f.yp + f.hp + 16) net) t h (record { right = omega arith; top = omega (arith, l.small.top) })
+    rails false true h = some_tag (metal_tag 8 (f.p_edge + f.p_height + 16) net) t h (record { right = omega arith; top = omega (arith, l.small.top) })
     rails false false h = trunk (trunk_of trunks net) refl h
 
 pub tags_small : (pins : Pins) (f : Frame) (tracks nets : ℕ) (nodes : List NodePlace) (trunks : List Trunk) (xs : List ℕ) (gates : List Gate) → Lies f tracks trunks xs gates → All IsSmallTag (filter_map (λ n. tag_of pins f nodes trunks xs gates (net_no n)) (range_with_len 0 nets))

@@ -25,7 +25,7 @@ use Rattle.cell_draw.proofs.Found.{found_is}
 -- the tag of a net: on its rail, on its trunk, or else at its first node place, or at its first gate
 pub data TagFrom (pins : Pins) (f : Frame) (nodes : List NodePlace) (trunks : List Trunk) (xs : List ℕ) (gates : List Gate) (net : NetNo) (t : Tag) : Type 0 where
   on_gnd : net ≡ pins.gnd → metal_tag 8 8 net ≡ t → TagFrom pins f nodes trunks xs gates net t
-  on_vdd : net ≡ pins.vdd → metal_tag 8 (f.yp + f.hp + 16) net ≡ t → TagFrom pins f nodes trunks xs gates net t
+  on_vdd : net ≡ pins.vdd → metal_tag 8 (f.p_edge + f.p_height + 16) net ≡ t → TagFrom pins f nodes trunks xs gates net t
   on_trunk : (u : Trunk) → trunk_of trunks net ≡ Some u → metal_tag (x_of xs u.left) (track_y f u.track) net ≡ t → TagFrom pins f nodes trunks xs gates net t
   at_node : (IsRail pins net → ⊥) → trunk_of trunks net ≡ None → (n : NodePlace) → find (λ (z : NodePlace). z.net.0 == net.0) nodes ≡ Some n → n.net ≡ net → node_tag f xs n ≡ t → TagFrom pins f nodes trunks xs gates net t
   at_gate : trunk_of trunks net ≡ None → (g : Gate) → find (λ (z : Gate). z.net.0 == net.0) gates ≡ Some g → g.net ≡ net → gate_tag f g ≡ t → TagFrom pins f nodes trunks xs gates net t
@@ -45,9 +45,9 @@ tag_from pins f nodes trunks xs gates net t e = rails (net.0 == pins.gnd.0) (net
     trunk signal None is h = node signal is (find (λ (z : NodePlace). z.net.0 == net.0) nodes) refl h
     trunk signal (Some u) is h = on_trunk u is (some_same (metal_tag (x_of xs u.left) (track_y f u.track) net) t h)
 
-    rails : (g v : Bool) → (net.0 == pins.gnd.0) ≡ g → (net.0 == pins.vdd.0) ≡ v → (if g then Some (metal_tag 8 8 net) else if v then Some (metal_tag 8 (f.yp + f.hp + 16) net) else net_tag f nodes trunks xs gates net) ≡ Some t → TagFrom pins f nodes trunks xs gates net t
+    rails : (g v : Bool) → (net.0 == pins.gnd.0) ≡ g → (net.0 == pins.vdd.0) ≡ v → (if g then Some (metal_tag 8 8 net) else if v then Some (metal_tag 8 (f.p_edge + f.p_height + 16) net) else net_tag f nodes trunks xs gates net) ≡ Some t → TagFrom pins f nodes trunks xs gates net t
     rails true v is at h = on_gnd ((net_decides net pins.gnd).0 is) (some_same (metal_tag 8 8 net) t h)
-    rails false true is at h = on_vdd ((net_decides net pins.vdd).0 at) (some_same (metal_tag 8 (f.yp + f.hp + 16) net) t h)
+    rails false true is at h = on_vdd ((net_decides net pins.vdd).0 at) (some_same (metal_tag 8 (f.p_edge + f.p_height + 16) net) t h)
     rails false false is at h = trunk signal (trunk_of trunks net) refl h
       where
         signal : IsRail pins net → ⊥

@@ -97,9 +97,9 @@ has_tag names pins p r xs f s is are net low = let t = rails (net.0 == pins.gnd.
     trunk signal (Some u) = (metal_tag (x_of xs u.left) (track_y f u.track) net, refl)
     trunk signal None = node signal (find (λ (z : NodePlace). z.net.0 == net.0) p.nodes) refl
 
-    rails : (g v : Bool) → (net.0 == pins.gnd.0) ≡ g → (net.0 == pins.vdd.0) ≡ v → (t : Tag) × ((if g then Some (metal_tag 8 8 net) else if v then Some (metal_tag 8 (f.yp + f.hp + 16) net) else net_tag f p.nodes r.trunks xs (gates_on f r.trunks xs (seats_of p.row)) net) ≡ Some t)
+    rails : (g v : Bool) → (net.0 == pins.gnd.0) ≡ g → (net.0 == pins.vdd.0) ≡ v → (t : Tag) × ((if g then Some (metal_tag 8 8 net) else if v then Some (metal_tag 8 (f.p_edge + f.p_height + 16) net) else net_tag f p.nodes r.trunks xs (gates_on f r.trunks xs (seats_of p.row)) net) ≡ Some t)
     rails true v eg ev = (metal_tag 8 8 net, refl)
-    rails false true eg ev = (metal_tag 8 (f.yp + f.hp + 16) net, refl)
+    rails false true eg ev = (metal_tag 8 (f.p_edge + f.p_height + 16) net, refl)
     rails false false eg ev = trunk signal (trunk_of r.trunks net)
       where
         signal : IsRail pins net → ⊥

@@ -36,12 +36,12 @@ IsTooTall row tracks height = (height ≢ 0) × (height < needed_of row tracks)
 -- The channel takes what the given height has to spare; the height 0 leaves it at the least.
 abbrev pub frame_of : List Column → ℕ → ℕ → ℕ → Frame
 frame_of row tracks height width = record {
-  hn = height_of N row;
-  hp = height_of P row;
-  yn = ROW_EDGE + height_of N row;
-  yp = ROW_EDGE + height_of N row + channel_of tracks + (height - needed_of row tracks);
+  n_height = height_of N row;
+  p_height = height_of P row;
+  n_edge = ROW_EDGE + height_of N row;
+  p_edge = ROW_EDGE + height_of N row + channel_of tracks + (height - needed_of row tracks);
   width = width;
 }
 
 abbrev pub track_y : Frame → ℕ → ℕ
-track_y f j = f.yn + EDGE_SPACE + TRACK_PITCH * j
+track_y f j = f.n_edge + EDGE_SPACE + TRACK_PITCH * j

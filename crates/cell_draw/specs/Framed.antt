@@ -40,7 +40,7 @@ pub record KeepsFrom (f : Frame) (side end : ℕ) (r : Rect) : Type 0 where
 
 -- below the channel or above it
 abbrev pub IsOutsideChannel : Frame → Rect → Type 0
-IsOutsideChannel f r = (r.y2 ≤ℤ pos f.yn) ⊎ (pos f.yp ≤ℤ r.y1)
+IsOutsideChannel f r = (r.y2 ≤ℤ pos f.n_edge) ⊎ (pos f.p_edge ≤ℤ r.y1)
 
 -- no well and no select, clear of the cell's sides and ends, and in one of the rows where it is active
 pub record IsInFrame (f : Frame) (s : Shape) : Type 0 where
@@ -61,12 +61,12 @@ pub record IsFramed (f : Frame) (xs : List ℕ) (d : Drawing) : Type 0 where
   pub first : SIDE_SPACE ≤ x_of xs 0
   pub last : f.width ≡ x_of xs (length xs - 1) + SIDE_SPACE
   -- upward: a rail, its gap, the N row, the channel, the P row, a gap, a rail
-  pub n_edge : f.yn ≡ ROW_EDGE + f.hn
-  pub p_edge : f.yn + LEAST_CHANNEL ≤ f.yp
-  pub n_row : LEAST_ROW ≤ f.hn
-  pub p_row : LEAST_ROW ≤ f.hp
+  pub n_edge : f.n_edge ≡ ROW_EDGE + f.n_height
+  pub p_edge : f.n_edge + LEAST_CHANNEL ≤ f.p_edge
+  pub n_row : LEAST_ROW ≤ f.n_height
+  pub p_row : LEAST_ROW ≤ f.p_height
   pub width : d.width ≡ f.width
-  pub height : d.height ≡ f.yp + f.hp + ROW_EDGE
+  pub height : d.height ≡ f.p_edge + f.p_height + ROW_EDGE
   -- well, selects and rails, then the rest, and the labels
   pub frame : BeginsWith (frame_shapes f) d.shapes.rects
   pub others : All (IsInFrame f) frame.others

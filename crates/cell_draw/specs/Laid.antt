@@ -16,22 +16,22 @@ use Rattle.cell_draw.specs.declared.layout.Layout.{Layout}
 -- Upward: the N row beside its rail, the channel, with room for a track at least, and the P row. No row is lower than a
 -- pad, and the cell is as wide as its two sides.
 pub record HasRows (f : Frame) : Type 0 where
-  pub low : f.yn ≡ ROW_EDGE + f.hn
-  pub channel : f.yn + LEAST_CHANNEL ≤ f.yp
-  pub n_least : LEAST_ROW ≤ f.hn
-  pub p_least : LEAST_ROW ≤ f.hp
+  pub low : f.n_edge ≡ ROW_EDGE + f.n_height
+  pub channel : f.n_edge + LEAST_CHANNEL ≤ f.p_edge
+  pub n_least : LEAST_ROW ≤ f.n_height
+  pub p_least : LEAST_ROW ≤ f.p_height
   pub wide : 2 * SIDE_SPACE ≤ f.width
 
 -- The channel has room for the tracks. It may be higher than that.
 pub record IsFrame (f : Frame) (tracks : ℕ) : Type 0 where
   pub rows : HasRows f
-  pub room : f.yn + LEAST_CHANNEL + TRACK_PITCH * tracks ≤ f.yp + TRACK_PITCH
+  pub room : f.n_edge + LEAST_CHANNEL + TRACK_PITCH * tracks ≤ f.p_edge + TRACK_PITCH
 
 -- a height at which a track lies
 pub record IsTrack (f : Frame) (tracks y : ℕ) : Type 0 where
   pub number : ℕ
   pub below : number < tracks
-  pub is : y ≡ f.yn + EDGE_SPACE + TRACK_PITCH * number
+  pub is : y ≡ f.n_edge + EDGE_SPACE + TRACK_PITCH * number
 
 -- a line at which something stands is well inside the cell
 pub record IsInside (f : Frame) (x : ℕ) : Type 0 where
@@ -39,8 +39,8 @@ pub record IsInside (f : Frame) (x : ℕ) : Type 0 where
   pub right : x + SIDE_SPACE ≤ f.width
 
 abbrev pub row_height : Frame → Row → ℕ
-row_height f N = f.hn
-row_height f P = f.hp
+row_height f N = f.n_height
+row_height f P = f.p_height
 
 abbrev pub width_in : Row → Gate → Option ℕ
 width_in N g = g.n
@@ -85,8 +85,8 @@ HasFinger _ _ = Unit {0}
 
 pub record IsGate (f : Frame) (g : Gate) : Type 0 where
   pub inside : IsInside f g.x
-  pub n : IsWidth f.hn g.n
-  pub p : IsWidth f.hp g.p
+  pub n : IsWidth f.n_height g.n
+  pub p : IsWidth f.p_height g.p
   pub finger : HasFinger g.n g.p
 
 -- a gate stands over the strip, as wide as it knows, or clear of it

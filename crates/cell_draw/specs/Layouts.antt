@@ -130,11 +130,11 @@ bar_of f nodes trunks xs t = record {
 
 -- A net's name stands on its rail, on its first trunk, or else at its only place.
 abbrev pub node_tag : Frame → List ℕ → NodePlace → Tag
-node_tag f xs node = record { layer = Active; x = x_of xs node.line; y = if is_p node.row then f.yp + LABEL_ON_FINGER else f.yn - LABEL_ON_FINGER; net = node.net }
+node_tag f xs node = record { layer = Active; x = x_of xs node.line; y = if is_p node.row then f.p_edge + LABEL_ON_FINGER else f.n_edge - LABEL_ON_FINGER; net = node.net }
 
 abbrev pub gate_y : Frame → Option ℕ → ℕ
-gate_y f None = f.yp - LABEL_ON_GATE
-gate_y f (Some width) = f.yn + LABEL_ON_GATE
+gate_y f None = f.p_edge - LABEL_ON_GATE
+gate_y f (Some width) = f.n_edge + LABEL_ON_GATE
 
 abbrev pub gate_tag : Frame → Gate → Tag
 gate_tag f g = record { layer = Poly; x = g.x; y = gate_y f g.n; net = g.net }
@@ -157,7 +157,7 @@ net_tag f nodes trunks xs gates net = or_else (option_map (λ t. metal_tag (x_of
 abbrev pub tag_of : Pins → Frame → List NodePlace → List Trunk → List ℕ → List Gate → NetNo → Option Tag
 tag_of pins f nodes trunks xs gates net =
     if net.0 == pins.gnd.0 then Some (metal_tag SIDE_SPACE LABEL_ON_GND net)
-    else if net.0 == pins.vdd.0 then Some (metal_tag SIDE_SPACE (f.yp + f.hp + LABEL_ON_VDD) net)
+    else if net.0 == pins.vdd.0 then Some (metal_tag SIDE_SPACE (f.p_edge + f.p_height + LABEL_ON_VDD) net)
     else net_tag f nodes trunks xs gates net
 
 abbrev pub net_no : ℕ → NetNo

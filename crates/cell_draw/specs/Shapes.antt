@@ -27,22 +27,22 @@ abbrev pub upright : Layer → ℕ → ℕ → ℤ → ℤ → Shape
 upright layer x by low high = box layer (pos x -ℤ pos by) low (pos x +ℤ pos by) high
 
 abbrev pub cell_height : Frame → ℕ
-cell_height f = f.yp + f.hp + ROW_EDGE
+cell_height f = f.p_edge + f.p_height + ROW_EDGE
 
 abbrev pub well : Frame → Shape
-well f = box Well (pos 0 -ℤ pos WELL_PAST_SIDE) (pos f.yp -ℤ pos WELL_PAST_ROW) (pos (f.width + WELL_PAST_SIDE)) (pos (cell_height f))
+well f = box Well (pos 0 -ℤ pos WELL_PAST_SIDE) (pos f.p_edge -ℤ pos WELL_PAST_ROW) (pos (f.width + WELL_PAST_SIDE)) (pos (cell_height f))
 
 abbrev pub p_select : Frame → Shape
-p_select f = box PSelect (pos 0 -ℤ pos SELECT_PAST_SIDE) (pos f.yp -ℤ pos SELECT_PAST_ROW) (pos (f.width + SELECT_PAST_SIDE)) (pos (f.yp + f.hp + SELECT_PAST_ROW))
+p_select f = box PSelect (pos 0 -ℤ pos SELECT_PAST_SIDE) (pos f.p_edge -ℤ pos SELECT_PAST_ROW) (pos (f.width + SELECT_PAST_SIDE)) (pos (f.p_edge + f.p_height + SELECT_PAST_ROW))
 
 abbrev pub n_select : Frame → Shape
-n_select f = box NSelect (pos 0 -ℤ pos SELECT_PAST_SIDE) (pos f.yn -ℤ pos (f.hn + SELECT_PAST_ROW)) (pos (f.width + SELECT_PAST_SIDE)) (pos (f.yn + SELECT_PAST_ROW))
+n_select f = box NSelect (pos 0 -ℤ pos SELECT_PAST_SIDE) (pos f.n_edge -ℤ pos (f.n_height + SELECT_PAST_ROW)) (pos (f.width + SELECT_PAST_SIDE)) (pos (f.n_edge + SELECT_PAST_ROW))
 
 abbrev pub gnd_rail : Frame → Shape
 gnd_rail f = box Metal1 (pos 0) (pos 0) (pos f.width) (pos RAIL)
 
 abbrev pub vdd_rail : Frame → Shape
-vdd_rail f = box Metal1 (pos 0) (pos (f.yp + f.hp + RAIL_GAP)) (pos f.width) (pos (cell_height f))
+vdd_rail f = box Metal1 (pos 0) (pos (f.p_edge + f.p_height + RAIL_GAP)) (pos f.width) (pos (cell_height f))
 
 -- well, selects and rails
 abbrev pub frame_shapes : Frame → List Shape
@@ -50,25 +50,25 @@ frame_shapes f = well f ∷ p_select f ∷ n_select f ∷ gnd_rail f ∷ vdd_rai
 
 -- the lower and the upper end of a finger of this width
 abbrev pub finger_low : Frame → Row → ℕ → ℤ
-finger_low f N width = pos f.yn -ℤ pos width
-finger_low f P width = pos f.yp
+finger_low f N width = pos f.n_edge -ℤ pos width
+finger_low f P width = pos f.p_edge
 
 abbrev pub finger_high : Frame → Row → ℕ → ℤ
-finger_high f N width = pos f.yn
-finger_high f P width = pos (f.yp + width)
+finger_high f N width = pos f.n_edge
+finger_high f P width = pos (f.p_edge + width)
 
 abbrev pub finger : Frame → Strip → Shape
 finger f s = box Active (pos s.left) (finger_low f s.row s.width) (pos s.right) (finger_high f s.row s.width)
 
 -- the centre of a node's contact, half a pad inside the row
 abbrev pub centre : Frame → Row → ℤ
-centre f N = pos f.yn -ℤ pos HALF_PAD
-centre f P = pos (f.yp + HALF_PAD)
+centre f N = pos f.n_edge -ℤ pos HALF_PAD
+centre f P = pos (f.p_edge + HALF_PAD)
 
 -- the centre of a signal's landing via, inside the channel
 abbrev pub landing : Frame → Row → ℤ
-landing f N = pos (f.yn + LANDING)
-landing f P = pos f.yp -ℤ pos LANDING
+landing f N = pos (f.n_edge + LANDING)
+landing f P = pos f.p_edge -ℤ pos LANDING
 
 -- A rail's strap goes from the rail's inner edge to past the centre. A signal's goes from past the centre, away from
 -- the channel, to past the landing via's.
@@ -80,7 +80,7 @@ strap_low f P (Some reach) = landing f P -ℤ pos HALF_METAL
 
 abbrev pub strap_high : Frame → Row → Option ℕ → ℤ
 strap_high f N None = centre f N +ℤ pos HALF_METAL
-strap_high f P None = pos (f.yp + f.hp + RAIL_GAP)
+strap_high f P None = pos (f.p_edge + f.p_height + RAIL_GAP)
 strap_high f N (Some reach) = landing f N +ℤ pos HALF_METAL
 strap_high f P (Some reach) = centre f P +ℤ pos HALF_METAL
 
@@ -110,14 +110,14 @@ contact_shapes f c = around Active c.x (centre f c.row) HALF_PAD ∷ around Cont
 -- A gate's poly goes past each finger's outer end. Where a row has no finger it ends at the track, or without a trunk
 -- past the other row's channel edge.
 abbrev pub gate_low : Frame → Option ℕ → Option ℕ → ℤ
-gate_low f (Some width) track = pos f.yn -ℤ pos (width + END_CAP)
+gate_low f (Some width) track = pos f.n_edge -ℤ pos (width + END_CAP)
 gate_low f None (Some track) = pos track
-gate_low f None None = pos f.yp -ℤ pos END_CAP
+gate_low f None None = pos f.p_edge -ℤ pos END_CAP
 
 abbrev pub gate_high : Frame → Option ℕ → Option ℕ → ℤ
-gate_high f (Some width) track = pos (f.yp + width + END_CAP)
+gate_high f (Some width) track = pos (f.p_edge + width + END_CAP)
 gate_high f None (Some track) = pos track
-gate_high f None None = pos (f.yn + END_CAP)
+gate_high f None None = pos (f.n_edge + END_CAP)
 
 abbrev pub gate_strip : Frame → Gate → Shape
 gate_strip f g = upright Poly g.x HALF_GATE (gate_low f g.n g.track) (gate_high f g.p g.track)

@@ -98,12 +98,12 @@ pub record ShowsColumns (deck : Deck) (names : List (List ℕ)) (pins : Pins) (r
   pub shown : ArePins (length names) pins → ShowsRow deck names row shapes
 
 -- the net's label stands on the track, where the channel begins at this height
-pub record ShowsTrack (names : List (List ℕ)) (yn : ℕ) (shapes : Shapes) (t : Trunk) : Type 0 where
+pub record ShowsTrack (names : List (List ℕ)) (n_edge : ℕ) (shapes : Shapes) (t : Trunk) : Type 0 where
   pub label : Label
   pub listed : Contains shapes.labels label
   pub reads : label.name ≡ name_of names t.net
   pub layer : label.layer ≡ Metal1
-  pub height : label.y ≡ pos (yn + EDGE_SPACE + TRACK_PITCH * t.track)
+  pub height : label.y ≡ pos (n_edge + EDGE_SPACE + TRACK_PITCH * t.track)
 
 -- The routing that a drawing shows: for each net that needs one a trunk from its first to its last line,
 -- on the track of its label; and one track more than the highest of them, if there is one.

@@ -27,12 +27,12 @@ pub record HasWidths (c : Column) : Type 0 where
 
 pub record IsSmallFrame (f : Frame) : Type 0 where
   pub rows : HasRows f
-  pub top : f.yp + f.hp ≤ 100000
+  pub top : f.p_edge + f.p_height ≤ 100000
   pub right : f.width ≤ MOST_X + SIDE_SPACE
 
 -- the height lies where tracks may
 abbrev pub IsHeight : Frame → ℕ → Type 0
-IsHeight f y = (f.yn + EDGE_SPACE ≤ y) × (y + EDGE_SPACE ≤ f.yp)
+IsHeight f y = (f.n_edge + EDGE_SPACE ≤ y) × (y + EDGE_SPACE ≤ f.p_edge)
 
 abbrev pub IsReach : Frame → Option ℕ → Type 0
 IsReach f None = Unit {0}
@@ -50,8 +50,8 @@ pub record IsSmallContact (f : Frame) (c : Contact) : Type 0 where
 
 pub record IsSmallGate (f : Frame) (g : Gate) : Type 0 where
   pub right : g.x ≤ MOST_X
-  pub n : IsWidth f.hn g.n
-  pub p : IsWidth f.hp g.p
+  pub n : IsWidth f.n_height g.n
+  pub p : IsWidth f.p_height g.p
   pub finger : HasFinger g.n g.p
   pub track : IsReach f g.track
 

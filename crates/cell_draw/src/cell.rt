@@ -49,7 +49,7 @@ pub fn drawing(alloc: Global, names: &[Name], layout: &Layout) -> Result<Drawing
     Ok(Drawing {
         shapes: Shapes { rects, labels },
         width: layout.frame.width,
-        height: layout.frame.yp + layout.frame.hp + ROW_EDGE,
+        height: layout.frame.p_edge + layout.frame.p_height + ROW_EDGE,
     })
 }
 

@@ -13,33 +13,33 @@ use box_geom::{Layer, Rect, Shape};
 // The lower end of a gate, by the finger of the N row.
 fn gate_low(frame: &Frame, n: Option<u32>, track: Option<u32>) -> u32
     requires frame { IsSmallFrame frame.now }
-    requires n { IsWidth frame.now.hn n }
+    requires n { IsWidth frame.now.n_height n }
     requires track { IsReach frame.now track }
     ensures value { pos result ≡ gate_low frame.now n track }
-    ensures most { result + END_CAP ≤ frame.now.yp }
-    ensures over { IfSome n (λ w. result ≤ frame.now.yn) }
+    ensures most { result + END_CAP ≤ frame.now.p_edge }
+    ensures over { IfSome n (λ w. result ≤ frame.now.n_edge) }
 {
     match (n, track) {
-        (Some(width), _) => frame.yn - (width + END_CAP),
+        (Some(width), _) => frame.n_edge - (width + END_CAP),
         (None, Some(track)) => track,
-        (None, None) => frame.yp - END_CAP,
+        (None, None) => frame.p_edge - END_CAP,
     }
 }
 
 // The upper end of a gate, by the finger of the P row.
 fn gate_high(frame: &Frame, p: Option<u32>, track: Option<u32>) -> u32
     requires frame { IsSmallFrame frame.now }
-    requires p { IsWidth frame.now.hp p }
+    requires p { IsWidth frame.now.p_height p }
     requires track { IsReach frame.now track }
     ensures value { pos result ≡ gate_high frame.now p track }
-    ensures least { frame.now.yn + END_CAP ≤ result }
-    ensures over { IfSome p (λ w. frame.now.yp ≤ result) }
+    ensures least { frame.now.n_edge + END_CAP ≤ result }
+    ensures over { IfSome p (λ w. frame.now.p_edge ≤ result) }
     ensures most { result ≤ MOST_Y }
 {
     match (p, track) {
-        (Some(width), _) => frame.yp + width + END_CAP,
+        (Some(width), _) => frame.p_edge + width + END_CAP,
         (None, Some(track)) => track,
-        (None, None) => frame.yn + END_CAP,
+        (None, None) => frame.n_edge + END_CAP,
     }
 }
 

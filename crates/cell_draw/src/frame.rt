@@ -92,15 +92,15 @@ pub fn frame(columns: &[Column], tracks: u32, height: u32, width: u32) -> Frame
     ensures exact { result ≡ frame_of columns.now tracks height width }
     ensures small { IsSmallFrame result }
 {
-    let hn = height_of(Row::N, columns);
-    let hp = height_of(Row::P, columns);
-    let yn = ROW_EDGE + hn;
+    let n_height = height_of(Row::N, columns);
+    let p_height = height_of(Row::P, columns);
+    let n_edge = ROW_EDGE + n_height;
     let spare = height.saturating_sub(needed(columns, tracks));
     Frame {
-        hn,
-        hp,
-        yn,
-        yp: yn + channel_of(tracks) + spare,
+        n_height,
+        p_height,
+        n_edge,
+        p_edge: n_edge + channel_of(tracks) + spare,
         width,
     }
 }
@@ -111,13 +111,13 @@ pub fn channel_edges(placement: &Placement, tracks: u32, height: u32) -> Edges
     requires tracks { tracks ≤ MOST_TRACKS }
     requires height { height ≤ MOST_HEIGHT }
     requires enough { IsTooTall placement.now.row tracks height → ⊥ }
-    ensures n { result.n ≡ (frame_of placement.now.row tracks height 16).yn }
-    ensures p { result.p ≡ (frame_of placement.now.row tracks height 16).yp }
+    ensures n { result.n ≡ (frame_of placement.now.row tracks height 16).n_edge }
+    ensures p { result.p ≡ (frame_of placement.now.row tracks height 16).p_edge }
 {
     let frame = frame(placement.row.as_slice(), tracks, height, 16);
     Edges {
-        n: frame.yn,
-        p: frame.yp,
+        n: frame.n_edge,
+        p: frame.p_edge,
     }
 }
 
@@ -127,5 +127,5 @@ pub fn track_y(frame: &Frame, track: u32) -> u32
     requires track { track ≤ MOST_TRACKS }
     ensures { result ≡ track_y frame.now track }
 {
-    frame.yn + EDGE_SPACE + TRACK_PITCH * track
+    frame.n_edge + EDGE_SPACE + TRACK_PITCH * track
 }

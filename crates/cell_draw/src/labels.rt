@@ -23,8 +23,8 @@ fn node_tag(frame: &Frame, xs: &[u32], node: &NodePlace) -> Tag
     ensures { result ≡ node_tag frame.now xs.now node.now }
 {
     let y = match node.row {
-        Row::P => frame.yp + LABEL_ON_FINGER,
-        Row::N => frame.yn - LABEL_ON_FINGER,
+        Row::P => frame.p_edge + LABEL_ON_FINGER,
+        Row::N => frame.n_edge - LABEL_ON_FINGER,
     };
     Tag {
         layer: Layer::Active,
@@ -39,8 +39,8 @@ fn gate_y(frame: &Frame, n: Option<u32>) -> u32
     ensures { result ≡ gate_y frame.now n }
 {
     match n {
-        Some(_) => frame.yn + LABEL_ON_GATE,
-        None => frame.yp - LABEL_ON_GATE,
+        Some(_) => frame.n_edge + LABEL_ON_GATE,
+        None => frame.p_edge - LABEL_ON_GATE,
     }
 }
 
@@ -135,7 +135,7 @@ fn tag_of(
     if net.0 == pins.gnd.0 {
         Some(metal_tag(SIDE_SPACE, LABEL_ON_GND, net))
     } else if net.0 == pins.vdd.0 {
-        let y = frame.yp + frame.hp + LABEL_ON_VDD;
+        let y = frame.p_edge + frame.p_height + LABEL_ON_VDD;
         Some(metal_tag(SIDE_SPACE, y, net))
     } else {
         net_tag(frame, nodes, trunks, xs, gates, net)

@@ -5,11 +5,11 @@ use cell_num::{List, NetNo, Row};
 #[derive(Clone, Copy, Debug, PartialEq, Eq)]
 pub struct Frame {
     /// The heights of the N and of the P row: at least that of a pad and at least each finger's width.
-    pub hn: u32,
-    pub hp: u32,
+    pub n_height: u32,
+    pub p_height: u32,
     /// The channel edges of the N and of the P row.
-    pub yn: u32,
-    pub yp: u32,
+    pub n_edge: u32,
+    pub p_edge: u32,
     pub width: u32,
 }
 

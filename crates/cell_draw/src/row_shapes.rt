@@ -27,12 +27,12 @@ fn finger_span(frame: &Frame, strip: &Strip) -> Span
 {
     match strip.row {
         Row::N => Span {
-            low: frame.yn - strip.width,
-            high: frame.yn,
+            low: frame.n_edge - strip.width,
+            high: frame.n_edge,
         },
         Row::P => Span {
-            low: frame.yp,
-            high: frame.yp + strip.width,
+            low: frame.p_edge,
+            high: frame.p_edge + strip.width,
         },
     }
 }
@@ -61,8 +61,8 @@ pub fn centre(frame: &Frame, row: Row) -> u32
     ensures most { result ≤ 150000 }
 {
     match row {
-        Row::N => frame.yn - HALF_PAD,
-        Row::P => frame.yp + HALF_PAD,
+        Row::N => frame.n_edge - HALF_PAD,
+        Row::P => frame.p_edge + HALF_PAD,
     }
 }
 
@@ -73,8 +73,8 @@ pub fn landing(frame: &Frame, row: Row) -> u32
     ensures most { result ≤ 150000 }
 {
     match row {
-        Row::N => frame.yn + LANDING,
-        Row::P => frame.yp - LANDING,
+        Row::N => frame.n_edge + LANDING,
+        Row::P => frame.p_edge - LANDING,
     }
 }
 
@@ -95,7 +95,7 @@ fn strap_span(frame: &Frame, row: Row, reach: Option<u32>) -> Span
         },
         (Row::P, None) => Span {
             low: centre - HALF_METAL,
-            high: frame.yp + frame.hp + RAIL_GAP,
+            high: frame.p_edge + frame.p_height + RAIL_GAP,
         },
         (Row::N, Some(_)) => Span {
             low: centre - HALF_METAL,

@@ -77,8 +77,8 @@ pub fn well(frame: &Frame) -> Shape
         Layer::Well,
         frame,
         WELL_PAST_SIDE,
-        frame.yp - WELL_PAST_ROW,
-        frame.yp + frame.hp + ROW_EDGE,
+        frame.p_edge - WELL_PAST_ROW,
+        frame.p_edge + frame.p_height + ROW_EDGE,
     )
 }
 
@@ -90,8 +90,8 @@ pub fn p_select(frame: &Frame) -> Shape
         Layer::PSelect,
         frame,
         SELECT_PAST_SIDE,
-        frame.yp - SELECT_PAST_ROW,
-        frame.yp + frame.hp + SELECT_PAST_ROW,
+        frame.p_edge - SELECT_PAST_ROW,
+        frame.p_edge + frame.p_height + SELECT_PAST_ROW,
     )
 }
 
@@ -103,8 +103,8 @@ pub fn n_select(frame: &Frame) -> Shape
         Layer::NSelect,
         frame,
         SELECT_PAST_SIDE,
-        frame.yn - (frame.hn + SELECT_PAST_ROW),
-        frame.yn + SELECT_PAST_ROW,
+        frame.n_edge - (frame.n_height + SELECT_PAST_ROW),
+        frame.n_edge + SELECT_PAST_ROW,
     )
 }
 
@@ -123,7 +123,7 @@ pub fn vdd_rail(frame: &Frame) -> Shape
         Layer::Metal1,
         frame,
         0,
-        frame.yp + frame.hp + RAIL_GAP,
-        frame.yp + frame.hp + ROW_EDGE,
+        frame.p_edge + frame.p_height + RAIL_GAP,
+        frame.p_edge + frame.p_height + ROW_EDGE,
     )
 }

@@ -1,11 +1,11 @@
 // The outside of the program: files that are read and made, and text that is said.
 #![tactic(auto)]
 
+mod chunk_size;
 pub mod desk;
 mod files;
 pub mod host;
 pub mod mem;
-mod most;
 pub mod output;
 mod reading;
 pub mod sink;

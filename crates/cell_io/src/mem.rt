@@ -3,8 +3,8 @@ ghost use Rattle.cell_io.specs.Desk.{IsHeld, AppendedIn, CreatedIn, CreatesOne, 
 ghost use Rattle.cell_io.specs.Mem.{mem_view, CountsFailed, CountsShort, files_of, given_files, made_files, created_names, said_bytes, failing_calls, most_of, next_call, read_faults_of, write_faults_of, shorts_of, IsToFail, IsAfterCall, IsCopied, one_more};
 ghost use Rattle.cell_io.specs.declared.desk.DeskAnswer.TheVariants as answer;
 
+use crate::chunk_size::ChunkSize;
 use crate::files::{append_to, copy_part, create_noted, find_file};
-use crate::most::Most;
 use crate::{Desk, DeskAnswer};
 use cell_num::{Bytes, List, Name, NoMemory};
 use std::alloc::Global;
@@ -31,7 +31,7 @@ pub struct MemDesk {
     created: Vec<Name>,
     said: Bytes,
     fail: CallList,
-    most: Most,
+    most: ChunkSize,
     calls: u64,
     read_faults: u64,
     write_faults: u64,
@@ -66,7 +66,7 @@ impl MemDesk {
             created: Vec::new(alloc),
             said: List::new(alloc),
             fail,
-            most: Most::all(),
+            most: ChunkSize::all(),
             calls: 0,
             read_faults: 0,
             write_faults: 0,
@@ -79,7 +79,7 @@ impl MemDesk {
         requires { 1 ≤ most }
         ensures { self.new ≡ record self.old { most = most } }
     {
-        self.most = Most::new(most);
+        self.most = ChunkSize::new(most);
     }
 
     /// The bytes of a file that was made.

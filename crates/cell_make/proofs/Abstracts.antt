@@ -1,10 +1,10 @@
 -- The abstract of a drawn row agrees with the drawing that is written.
 use Rattle.std.proofs.Common.{ℕ, ◌≡◌, ◌<◌, ◌≤◌, ◌/◌, List, length, sym, subst, arith}
 use Rattle.std.proofs.Math.Nat.{div-add-mod, mod-lt}
-use Rattle.abstract_laws.specs.Abstracts.{HasPorts, IsAbstractOf}
-use Rattle.abstract_laws.proofs.Pins.{ports_own}
-use Rattle.abstract_laws.proofs.Readable.{readable_drawing}
-use Rattle.abstract_laws.proofs.Whole.{plain_abstract, tapped_abstract}
+use Rattle.file_laws.specs.Abstracts.{HasPorts, IsAbstractOf}
+use Rattle.file_laws.proofs.Pins.{ports_own}
+use Rattle.file_laws.proofs.Readable.{readable_drawing}
+use Rattle.file_laws.proofs.LefWhole.{plain_abstract, tapped_abstract}
 use Rattle.box_geom.specs.Layers.{AreWithinLimits}
 use Rattle.row_model.specs.declared.column.Column.{Column}
 use Rattle.row_model.specs.Arrangement.{IsArrangement}
@@ -20,10 +20,10 @@ use Rattle.cell_draw.specs.Extracted.{ExtractsToRow}
 use Rattle.cell_draw.specs.Frame.{frame_of}
 use Rattle.cell_draw.specs.Framed.{IsFramed}
 use Rattle.cell_draw.specs.Layouts.{width_of}
-use Rattle.abstract_laws.specs.Drawn.{IsReadable}
+use Rattle.file_laws.specs.Drawn.{IsReadable}
 use Rattle.lef_write.specs.Drawn.{AreAllMetal, AreOfNet}
 use Rattle.lef_write.proofs.Placed.{ports_are}
-use Rattle.library_size.proofs.Whole.{few_labels}
+use Rattle.file_laws.proofs.Whole.{few_labels}
 use Rattle.well_tap.specs.Base.{IsBase}
 use Rattle.cell_inputs.specs.declared.style.Style.{Style}
 use Rattle.cell_inputs.specs.declared.style.Taps.{Taps}

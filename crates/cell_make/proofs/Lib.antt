@@ -3,9 +3,19 @@ pub mod Alone
 pub mod Extent
 pub mod Finals
 pub mod LeastLines
+pub mod LogFits
 pub mod Makes
 pub mod ReadBack
 pub mod Rings
 pub mod Small
 mod WithLog
 mod Wirings
+pub mod Apart
+pub mod Beside
+pub mod Decoded
+pub mod Library
+pub mod Made
+pub mod MadeCells
+pub mod Rails
+pub mod Stops
+pub mod Uses

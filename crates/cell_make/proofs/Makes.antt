@@ -1,7 +1,7 @@
 -- What drawing a row comes to, from what its steps answered.
 use Rattle.std.proofs.Common.{ℕ, ◌≡◌, ◌<◌, ◌≤◌, ◌/◌, ◌*◌, ◌%◌, List, length, sym, subst, arith}
 use Rattle.std.proofs.Math.Nat.{div-add-mod}
-use Rattle.abstract_laws.specs.Abstracts.{IsAbstractOf}
+use Rattle.file_laws.specs.Abstracts.{IsAbstractOf}
 use Rattle.cell_num.specs.declared.finger.Fingers.{Fingers}
 use Rattle.cell_num.specs.declared.net.Pins.{Pins}
 use Rattle.cell_num.specs.Fingers.{AreSound}

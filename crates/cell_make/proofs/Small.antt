@@ -11,9 +11,9 @@ use Rattle.cell_draw.specs.declared.cell.TheConstants.{MOST_SHAPES}
 use Rattle.cell_draw.specs.declared.drawing.Drawing.{Drawing}
 use Rattle.spice_net.specs.Subckts.{AreNames}
 use Rattle.gds_read.specs.RoundTrip.{IsReadable}
-use Rattle.abstract_laws.proofs.Short.{abstract_few}
+use Rattle.file_laws.proofs.Short.{abstract_few}
 use Rattle.lef_write.specs.Drawn.{AreAllMetal}
-use Rattle.library_size.proofs.Whole.{written_within}
+use Rattle.file_laws.proofs.Whole.{written_within}
 use Rattle.well_tap.specs.Tapped.{tapped}
 use Rattle.well_tap.proofs.Clauses.{twelve_more}
 use Rattle.cell_inputs.specs.declared.style.Style.{Style}

@@ -5,6 +5,9 @@ pub mod Rows
 pub mod Searched
 pub mod Structures
 pub mod Style
+pub mod RowInputs
+pub mod Rowed
+pub mod RowSteps
 -- What inner contracts and proofs alone cite.
 pub mod Channel
 pub mod WithLog

@@ -3,7 +3,7 @@
 use Rattle.std.specs.Prelude.{ℕ, ◌≡◌, ◌<◌, ◌≤◌, ◌*◌, List, length, unwrap_or}
 use Rattle.cell_num.specs.declared.net.Pins.{Pins}
 use Rattle.row_model.specs.declared.column.Column.{Column}
-use Rattle.abstract_laws.specs.Abstracts.{IsAbstractOf}
+use Rattle.file_laws.specs.Abstracts.{IsAbstractOf}
 use Rattle.bound_log.specs.declared.log.Log.{Log}
 use Rattle.row_place.specs.declared.placement.Placement.{Placement}
 use Rattle.row_place.specs.Places.{placement_of}

@@ -1,5 +1,5 @@
 // What making a cell comes to: its drawing, a cycle of its least row, a height that is not enough, or the log of an
-// unfinished search.
+// unfinished search; and making a row of cells: one library, or why there is none.
 #![tactic(auto)]
 
 mod channel;
@@ -7,9 +7,16 @@ pub mod draw_outcome;
 pub mod drawn;
 pub mod outcome;
 pub mod planned;
+mod row_cell;
+mod row_cells;
+pub mod row_inputs;
+pub mod row_outcome;
+mod row_stop;
 
 pub use cell_inputs::Inputs;
 pub use draw_outcome::DrawOutcome;
 pub use drawn::Drawn;
 pub use outcome::Outcome;
 pub use planned::Planned;
+pub use row_inputs::RowInputs;
+pub use row_outcome::{InputFault, RowOutcome, Undrawn};

@@ -6,3 +6,11 @@ pub mod Names
 pub mod Netlists
 pub mod Rows
 pub mod Violations
+pub mod AbstractFaults
+pub mod Faults
+pub mod LayoutFaults
+pub mod RowFaults
+pub mod TrailFaults
+pub mod Unfinished
+-- What inner contracts and proofs alone cite.
+pub mod Fields

@@ -2,7 +2,7 @@ ghost use Rattle.std.specs.Prelude.{◌≡◌, ◌≢◌, ◌≤◌, ◌↔◌, 
 ghost use Rattle.cell_io.specs.Desk.{Both, Rose};
 ghost use Rattle.call_end.specs.declared.end.End.{End as EndOf};
 ghost use Rattle.call_end.specs.declared.status.Status.TheVariants as status;
-ghost use Rattle.agree_run.specs.Agree.{DoesAgree};
+ghost use Rattle.layout_commands.specs.Agree.{DoesAgree};
 ghost use Rattle.run_laws.specs.Agree.{ComparesMade, HasDisagreement, HasNoNets, IsAgree, IsAgreedCell, IsDisagreed, IsWithoutNets, OfCompared};
 ghost use Rattle.run_laws.specs.Bench.{IsBench, IsBenchTold, WhereBenchEnds};
 ghost use Rattle.run_laws.specs.Calm.{IfCalm, IsDoneOrShort};
@@ -10,11 +10,13 @@ ghost use Rattle.run_laws.specs.Check.{HoldsAccepted, IsCheck};
 ghost use Rattle.run_laws.specs.Created.{CreatesOnce};
 ghost use Rattle.call_end.specs.Deliver.{Tells, TellsWhole};
 ghost use Rattle.call_work.specs.Ends.{CallsFor, IsOfOutside, MayEnd, is_status_of};
-ghost use Rattle.layout_run.specs.Extract.{BreaksRule, HasNetlist};
+ghost use Rattle.layout_commands.specs.Extract.{BreaksRule, HasNetlist};
 ghost use Rattle.run_laws.specs.Extract.{HasNoNetlist, IsBrokenCell, IsExtract, IsExtractedCell, IsRefusedLayout, OfGdsCell, WhereExtractEnds};
 ghost use Rattle.call_work.specs.Commands.{Agreeing, read_by};
 ghost use Rattle.run_laws.specs.Ended.{WhereEnds};
+ghost use Rattle.run_laws.specs.From.{FromFile, IsRefusedFile, IsUnaccepted, OfListed, WhereFromEnds, file_of};
 ghost use Rattle.run_laws.specs.Headline.{CanBeDrawn, FromInputs, HasCycle, IsCyclicCell, IsMadeCell, IsOrShort, IsTallCell, IsTooHigh, IsUnmade, MakesNone, OfFirstLeast, WhereMakeEnds};
+ghost use Rattle.run_laws.specs.Origin.{Search};
 ghost use Rattle.run_laws.specs.Plan.{CanBePlanned, IsPlannedRow, IsUnplanned, WherePlanEnds};
 ghost use Rattle.run_laws.specs.Row.{CanBeRowed, IsApartOrShort, IsKeptApart, IsMisreadRow, IsRow, IsRowedLibrary, IsStopStatus, IsStoppedRow, IsUnabuttedRow, MayLeaveFile, MayMakeFiles, OfRow, WhereRowEnds};
 ghost use Rattle.row_abut.specs.declared.cell.RowFault.{RowFault};
@@ -43,6 +45,8 @@ use std::alloc::Global;
 /// file GDS, or the first difference.
 /// With `--trails` as the last word `plan` finds the row with a certificate by trails, `make` makes that, `OUT.ctrail`,
 /// in the place of the log, and `check` reads its file as the text of such a certificate.
+/// With `--from FILE` as the last words `make` draws the row that the file FILE lists, where `check` accepts it: the
+/// text of a log, or after `--trails` of a certificate by trails. It makes `OUT.gds` and `OUT.lef` alone.
 ///
 /// All memory that is not the desk's own is taken before the first file is made.
 pub fn run<D: Desk>(alloc: Global, words: &[String], desk: &mut D) -> Status
@@ -90,7 +94,8 @@ pub fn run<D: Desk>(alloc: Global, words: &[String], desk: &mut D) -> Status
     ensures short_count { (D.view desk.old).shorts ≤ (D.view desk.new).shorts }
 
     // `make` and `row` alone make files: `make` none where it ends with another status than its own, WriteFault or
-    // NoMemory, and `row` none but where it is Done, or ends with one of these two.
+    // NoMemory, with `--from` none where it ends so without a drawing, and `row` none but where it is Done, or ends with
+    // WriteFault or NoMemory.
     ensures made { (MayMakeFiles (asked words.now) → ⊥) → (D.view desk.new).made ≡ (D.view desk.old).made }
     ensures alone { IsRow (asked words.now)
         → MayLeaveFile result ⊎ ((D.view desk.new).made ≡ (D.view desk.old).made) }
@@ -106,13 +111,13 @@ pub fn run<D: Desk>(alloc: Global, words: &[String], desk: &mut D) -> Status
     // to pair its fingers.
     ensures drawn { IfSome (D.view desk.old).given (λ files. WhereMakeEnds files (asked words.now) result
         status.Done (λ evidence style inputs out.
-        IsMadeCell evidence style inputs out (D.view desk.old) (D.view desk.new))) }
+        IsMadeCell (Search evidence) style inputs out (D.view desk.old) (D.view desk.new))) }
     ensures cyclic { IfSome (D.view desk.old).given (λ files. WhereMakeEnds files (asked words.now) result
         status.Cycle (λ evidence style inputs out.
-        IsCyclicCell evidence style inputs out (D.view desk.old) (D.view desk.new))) }
+        IsCyclicCell (Search evidence) style inputs out (D.view desk.old) (D.view desk.new))) }
     ensures tall { IfSome (D.view desk.old).given (λ files. WhereMakeEnds files (asked words.now) result
         status.TooTall (λ evidence style inputs out.
-        IsTallCell evidence style inputs out (D.view desk.old) (D.view desk.new))) }
+        IsTallCell (Search evidence) style inputs out (D.view desk.old) (D.view desk.new))) }
     ensures spent { IfSome (D.view desk.old).given (λ files. WhereMakeEnds files (asked words.now) result
         status.Unfinished (λ evidence style inputs out.
         IsUnmade evidence inputs out (D.view desk.old) (D.view desk.new))) }
@@ -124,6 +129,30 @@ pub fn run<D: Desk>(alloc: Global, words: &[String], desk: &mut D) -> Status
         FromInputs files (asked words.now) (OfFirstLeast HasCycle) → IsOrShort status.Cycle result) }
     ensures needs { IfCalm (D.view desk.old) (D.view desk.new) (λ files.
         FromInputs files (asked words.now) (OfFirstLeast IsTooHigh) → IsOrShort status.TooTall result) }
+
+    // What `make` with `--from FILE` leaves behind: the drawing of the row that FILE lists, than which no row has fewer
+    // gaps; or a cycle of that row; or the height that it needs; or what a check of FILE tells that does not accept it.
+    ensures drawn_from { IfSome (D.view desk.old).given (λ files. WhereFromEnds files (asked words.now) result
+        status.Done (λ m.
+        IsMadeCell (file_of m) m.style m.inputs m.stem (D.view desk.old) (D.view desk.new))) }
+    ensures cyclic_from { IfSome (D.view desk.old).given (λ files. WhereFromEnds files (asked words.now) result
+        status.Cycle (λ m.
+        IsCyclicCell (file_of m) m.style m.inputs m.stem (D.view desk.old) (D.view desk.new))) }
+    ensures tall_from { IfSome (D.view desk.old).given (λ files. WhereFromEnds files (asked words.now) result
+        status.TooTall (λ m.
+        IsTallCell (file_of m) m.style m.inputs m.stem (D.view desk.old) (D.view desk.new))) }
+    ensures rejected_from { IfSome (D.view desk.old).given (λ files. WhereFromEnds files (asked words.now) result
+        status.Rejected (λ m. IsRefusedFile m (D.view desk.old) (D.view desk.new))) }
+
+    // It ends so exactly where FILE and the row that it lists call for it, or memory ran out.
+    ensures draws_from { IfCalm (D.view desk.old) (D.view desk.new) (λ files.
+        FromFile files (asked words.now) (OfListed CanBeDrawn) → IsOrShort status.Done result) }
+    ensures meets_from { IfCalm (D.view desk.old) (D.view desk.new) (λ files.
+        FromFile files (asked words.now) (OfListed HasCycle) → IsOrShort status.Cycle result) }
+    ensures needs_from { IfCalm (D.view desk.old) (D.view desk.new) (λ files.
+        FromFile files (asked words.now) (OfListed IsTooHigh) → IsOrShort status.TooTall result) }
+    ensures rejects_from { IfCalm (D.view desk.old) (D.view desk.new) (λ files.
+        FromFile files (asked words.now) IsUnaccepted → IsOrShort status.Rejected result) }
 
     // What `plan` tells: the first least row, with evidence that is accepted; or what a search proves that spent its
     // budget, or a gate with too many ways to pair its fingers.

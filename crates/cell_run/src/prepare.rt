@@ -3,7 +3,7 @@ ghost use Rattle.cell_io.specs.Desk.{OnlyReads};
 ghost use Rattle.call_work.specs.Ends.{KeepsReadsOf, MayEnd};
 ghost use Rattle.call_words.specs.Words.{asked};
 
-use bench_run::bench_end;
+use bench_command::bench_end;
 use call_end::{End, Status};
 use call_words::form_of;
 use call_work::{Material, gather, refused, work};

@@ -58,7 +58,7 @@ tag_is pins p pieces xs f net t signal found = rails (net.0 == pins.gnd.0) (net.
     trunk (Some u) e = ap (λ (z : Trunk). Some (metal_tag (x_of xs z.left) (track_y f z.track) net)) (some_same u t (sym e ∙ found))
     trunk None e = absurd (let wrong : None ≡ Some t = sym e ∙ found in cc)
 
-    rails : (g v : Bool) → (net.0 == pins.gnd.0) ≡ g → (net.0 == pins.vdd.0) ≡ v → (if g then Some (metal_tag 8 8 net) else if v then Some (metal_tag 8 (f.yp + f.hp + 16) net) else net_tag f p.nodes pieces xs (gates_on f pieces xs (seats_of p.row)) net) ≡ Some (metal_tag (x_of xs t.left) (track_y f t.track) net)
+    rails : (g v : Bool) → (net.0 == pins.gnd.0) ≡ g → (net.0 == pins.vdd.0) ≡ v → (if g then Some (metal_tag 8 8 net) else if v then Some (metal_tag 8 (f.p_edge + f.p_height + 16) net) else net_tag f p.nodes pieces xs (gates_on f pieces xs (seats_of p.row)) net) ≡ Some (metal_tag (x_of xs t.left) (track_y f t.track) net)
     rails true v eg ev = absurd (signal (inr ((net_decides net pins.gnd).0 eg)))
     rails false true eg ev = absurd (signal (inl ((net_decides net pins.vdd).0 ev)))
     rails false false eg ev = trunk (trunk_of pieces net) refl

@@ -16,13 +16,13 @@ pub record IsFirstPiece (pieces : List Trunk) (t : Trunk) : Type 0 where
   pub none_before : (other : Trunk) → Contains pieces other → other.net ≡ t.net → t.left ≤ other.left
 
 -- the net's label stands where the piece begins, on its track, where the channel begins at this height
-pub record ShowsPiece (names : List (List ℕ)) (yn : ℕ) (xs : List ℕ) (shapes : Shapes) (t : Trunk) : Type 0 where
+pub record ShowsPiece (names : List (List ℕ)) (n_edge : ℕ) (xs : List ℕ) (shapes : Shapes) (t : Trunk) : Type 0 where
   pub label : Label
   pub listed : Contains shapes.labels label
   pub reads : label.name ≡ name_of names t.net
   pub layer : label.layer ≡ Metal1
   pub place : label.x ≡ pos (x_of xs t.left)
-  pub height : label.y ≡ pos (yn + 20 + 16 * t.track)
+  pub height : label.y ≡ pos (n_edge + 20 + 16 * t.track)
 
 -- the name of each net with pieces stands on the first of them
 abbrev pub ShowsFirsts : List (List ℕ) → Placement → List ℕ → Shapes → List Trunk → Type 0

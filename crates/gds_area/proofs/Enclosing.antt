@@ -42,8 +42,8 @@ at_place : (ends : List SideEnd) (i : ℕ) (d : SideEnd) → i < length ends →
 at_place ends i d less = drop-cons ends i d less ∙ ap (λ (n : ℕ). get_or ends i d ∷ drop n ends) (let e : suc i ≡ i + 1 = omega arith in e)
 
 pub same_row_at : (row : SideEnd) (xs zs : List ℤ) (ends : List SideEnd) (i : ℕ) (d : SideEnd) (all : Bool) → i < length ends → (get_or ends i d).y ≡ row.y → zs ≡ xs ++ (get_or ends i d).x ∷ [] → crossed_behind row xs (drop i ends) ≡ all → crossed_behind row zs (drop (i + 1) ends) ≡ all
-same_row_at row xs zs ends i d all less same taken so =
-    ap (λ (t : List ℤ). crossed_behind row t (drop (i + 1) ends)) taken
+same_row_at row xs zs ends i d all less same progress so =
+    ap (λ (t : List ℤ). crossed_behind row t (drop (i + 1) ends)) progress
     ∙ (ap has_some (sym (same_row row (get_or ends i d) xs (drop (i + 1) ends) same))
     ∙ (ap (crossed_behind row xs) (sym (at_place ends i d less)) ∙ so))
 
@@ -55,9 +55,9 @@ row_crossed row xs odd ends i d all less other is some so =
     ∙ (ap (crossed_behind row xs) (sym (at_place ends i d less)) ∙ so))
 
 pub next_row_at : (row : SideEnd) (xs odd zs : List ℤ) (ends : List SideEnd) (i : ℕ) (d : SideEnd) (all : Bool) → i < length ends → ((get_or ends i d).y ≡ row.y → ⊥) → odd ≡ odd_ones xs → has_some (runs row.y (get_or ends i d).y odd) ≡ false → zs ≡ odd ++ (get_or ends i d).x ∷ [] → crossed_behind row xs (drop i ends) ≡ all → crossed_behind (get_or ends i d) zs (drop (i + 1) ends) ≡ all
-next_row_at row xs odd zs ends i d all less other is none taken so =
+next_row_at row xs odd zs ends i d all less other is none progress so =
     let here : has_some (runs row.y (get_or ends i d).y (odd_ones xs)) ≡ false = ap (λ (t : List ℤ). has_some (runs row.y (get_or ends i d).y t)) (sym is) ∙ none in
-    ap (λ (t : List ℤ). crossed_behind (get_or ends i d) t (drop (i + 1) ends)) (taken ∙ ap (λ (t : List ℤ). t ++ (get_or ends i d).x ∷ []) is)
+    ap (λ (t : List ℤ). crossed_behind (get_or ends i d) t (drop (i + 1) ends)) (progress ∙ ap (λ (t : List ℤ). t ++ (get_or ends i d).x ∷ []) is)
     ∙ (sym (before_none (runs row.y (get_or ends i d).y (odd_ones xs)) (swept (get_or ends i d) (odd_ones xs ++ (get_or ends i d).x ∷ []) (drop (i + 1) ends)) here)
     ∙ (ap has_some (sym (another row (get_or ends i d) xs (drop (i + 1) ends) other))
     ∙ (ap (crossed_behind row xs) (sym (at_place ends i d less)) ∙ so)))

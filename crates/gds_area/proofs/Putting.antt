@@ -4,20 +4,20 @@ use Rattle.box_geom.specs.declared.shape.Shape.{Shape}
 use Rattle.gds_area.specs.declared.fault.GdsFault.{GdsFault}
 use Rattle.gds_area.specs.declared.fault.GdsFault.TheVariants as fault
 use Rattle.gds_area.specs.declared.area.Area.{Area}
-use Rattle.gds_area.specs.declared.area.Pen.{Pen}
+use Rattle.gds_area.specs.declared.area.DrawContext.{DrawContext}
 use Rattle.gds_area.specs.Areas.{shape_of, with_kept, put, Puts}
 use Rattle.cell_num.specs.Steps.{◌>>=◌}
 
-put_more : (pen : Pen) (old : List Shape) (xs bs : List Area) → put pen old (xs ++ bs) ≡ (put pen old xs >>= λ new. put pen new bs)
-put_more pen old [] bs = refl
-put_more pen old (a ∷ xs) bs = by (shape_of pen a) (λ s. put_more pen (with_kept old s) xs bs)
+put_more : (draw_context : DrawContext) (old : List Shape) (xs bs : List Area) → put draw_context old (xs ++ bs) ≡ (put draw_context old xs >>= λ new. put draw_context new bs)
+put_more draw_context old [] bs = refl
+put_more draw_context old (a ∷ xs) bs = by (shape_of draw_context a) (λ s. put_more draw_context (with_kept old s) xs bs)
   where
-    by : (x : Result Shape GdsFault) → ((s : Shape) → put pen (with_kept old s) (xs ++ bs) ≡ (put pen (with_kept old s) xs >>= λ new. put pen new bs)) → (x >>= λ s. put pen (with_kept old s) (xs ++ bs)) ≡ ((x >>= λ s. put pen (with_kept old s) xs) >>= λ new. put pen new bs)
+    by : (x : Result Shape GdsFault) → ((s : Shape) → put draw_context (with_kept old s) (xs ++ bs) ≡ (put draw_context (with_kept old s) xs >>= λ new. put draw_context new bs)) → (x >>= λ s. put draw_context (with_kept old s) (xs ++ bs)) ≡ ((x >>= λ s. put draw_context (with_kept old s) xs) >>= λ new. put draw_context new bs)
     by (Ok s) rest = rest s
     by (Err f) rest = refl
 
-pub goes_on : (pen : Pen) (old new : List Shape) (xs bs : List Area) → put pen old xs ≡ Ok new → put pen old (xs ++ bs) ≡ put pen new bs
-goes_on pen old new xs bs e = put_more pen old xs bs ∙ ap (λ (x : Result (List Shape) GdsFault). x >>= λ new. put pen new bs) e
+pub goes_on : (draw_context : DrawContext) (old new : List Shape) (xs bs : List Area) → put draw_context old xs ≡ Ok new → put draw_context old (xs ++ bs) ≡ put draw_context new bs
+goes_on draw_context old new xs bs e = put_more draw_context old xs bs ∙ ap (λ (x : Result (List Shape) GdsFault). x >>= λ new. put draw_context new bs) e
 
 -- Memory ran out, or the fault is the one told.
 pub fault_of : (f : GdsFault) (new : List Shape) (x : Result (List Shape) GdsFault) → Puts {A = Unit {0}} (Err f) new x → (f ≡ fault.NoMemory) ⊎ (x ≡ Err f)
@@ -57,6 +57,6 @@ carried f new last x y puts so = elim (fault_of f new x puts) [
   | inr same ↦ puts_same f last y (so same)
 ]
 
-pub stops : (pen : Pen) (old new last : List Shape) (xs bs : List Area) (f : GdsFault) (all : Result (List Shape) GdsFault) → Puts {A = Unit {0}} (Err f) new (put pen old xs) → put pen old (xs ++ bs) ≡ all → Puts {A = Unit {0}} (Err f) last all
-stops pen old new last xs bs f all puts so =
-    carried f new last (put pen old xs) all puts (λ e. sym so ∙ (put_more pen old xs bs ∙ ap (λ (x : Result (List Shape) GdsFault). x >>= λ new. put pen new bs) e))
+pub stops : (draw_context : DrawContext) (old new last : List Shape) (xs bs : List Area) (f : GdsFault) (all : Result (List Shape) GdsFault) → Puts {A = Unit {0}} (Err f) new (put draw_context old xs) → put draw_context old (xs ++ bs) ≡ all → Puts {A = Unit {0}} (Err f) last all
+stops draw_context old new last xs bs f all puts so =
+    carried f new last (put draw_context old xs) all puts (λ e. sym so ∙ (put_more draw_context old xs bs ∙ ap (λ (x : Result (List Shape) GdsFault). x >>= λ new. put draw_context new bs) e))

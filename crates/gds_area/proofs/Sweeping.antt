@@ -70,8 +70,8 @@ none_upto : (low y : ℤ) (es : List SideEnd) → Climbs low es → y <ℤ low �
 none_upto low y [] c h = refl
 none_upto low y (e ∷ es) c h = let l : low ≤ℤ e.y = c.0 in rw (above_is e.y y (omega (arith, ints))) (none_upto e.y y es c.1 (omega (arith, ints)))
 
-taken : (y : ℤ) (e : SideEnd) (es : List SideEnd) → e.y ≤ℤ y → upto y (e ∷ es) ≡ e.x ∷ upto y es
-taken y e es h = rw (below_is e.y y h) refl
+progress : (y : ℤ) (e : SideEnd) (es : List SideEnd) → e.y ≤ℤ y → upto y (e ∷ es) ≡ e.x ∷ upto y es
+progress y e es h = rw (below_is e.y y h) refl
 
 bands_same : (f g : ℤ → List ℤ) (low : ℤ) (ys : List ℤ) → ((y : ℤ) → low ≤ℤ y → f y ≡ g y) → Level low ys → bands f ys ≡ bands g ys
 bands_same f g low [] e l = refl
@@ -92,12 +92,12 @@ swept_is row xs (e ∷ es) c =
     by (int_eq e.y row.y) refl (swept_is row (xs ++ e.x ∷ []) es (climbs_lower e.y row.y es c.0 c.1)) (swept_is e (odd_ones xs ++ e.x ∷ []) es c.1)
   where
     grown : (y : ℤ) → e.y ≤ℤ y → row_of (xs ++ e.x ∷ []) es y ≡ row_of xs (e ∷ es) y
-    grown y h = ap odd_ones (append_assoc xs (e.x ∷ []) (upto y es) ∙ ap (λ (t : List ℤ). xs ++ t) (sym (taken y e es h)))
+    grown y h = ap odd_ones (append_assoc xs (e.x ∷ []) (upto y es) ∙ ap (λ (t : List ℤ). xs ++ t) (sym (progress y e es h)))
 
     again : (y : ℤ) → e.y ≤ℤ y → row_of (odd_ones xs ++ e.x ∷ []) es y ≡ row_of xs (e ∷ es) y
     again y h =
         ap odd_ones (append_assoc (odd_ones xs) (e.x ∷ []) (upto y es))
-        ∙ (odd_again xs (e.x ∷ upto y es) ∙ ap (λ (t : List ℤ). odd_ones (xs ++ t)) (sym (taken y e es h)))
+        ∙ (odd_again xs (e.x ∷ upto y es) ∙ ap (λ (t : List ℤ). odd_ones (xs ++ t)) (sym (progress y e es h)))
 
     so_far : row.y <ℤ e.y → odd_ones xs ≡ row_of xs (e ∷ es) row.y
     so_far less = ap odd_ones (sym (append-nil xs) ∙ ap (λ (t : List ℤ). xs ++ t) (sym (none_upto e.y row.y (e ∷ es) (omega (arith, ints), c.1) less)))

@@ -9,7 +9,7 @@ use Rattle.gds_area.specs.declared.units.Grid.{Grid}
 use Rattle.gds_area.specs.declared.units.Ends.{Ends}
 use Rattle.gds_area.specs.declared.area.Span.{Span}
 use Rattle.gds_area.specs.declared.area.Area.{Area}
-use Rattle.gds_area.specs.declared.area.Pen.{Pen}
+use Rattle.gds_area.specs.declared.area.DrawContext.{DrawContext}
 use Rattle.gds_area.specs.Moves.{moved_area}
 use Rattle.gds_area.specs.Units.{whole_units_of, ends_of}
 use Rattle.cell_num.specs.Steps.{◌>>=◌}
@@ -32,17 +32,17 @@ between _ _ = None
 unfoldable pub rectangle_of : Grid → Area → Option Rectangle
 rectangle_of grid area = between (side_of grid area.across) (side_of grid area.upward)
 
-abbrev pub shape_on : Pen → Option Rectangle → Result Shape GdsFault
-shape_on pen None = Err (fault.Grid pen.at)
-shape_on pen (Some rect) = Ok (record { layer = pen.layer; rect = rect })
+abbrev pub shape_on : DrawContext → Option Rectangle → Result Shape GdsFault
+shape_on draw_context None = Err (fault.Grid draw_context.at)
+shape_on draw_context (Some rect) = Ok (record { layer = draw_context.layer; rect = rect })
 
 -- the corners of the area as it stands are whole numbers of grid units within the limits of a drawing
-abbrev pub shape_of : Pen → Area → Result Shape GdsFault
-shape_of pen area = shape_on pen (rectangle_of pen.grid (moved_area pen.stands area))
+abbrev pub shape_of : DrawContext → Area → Result Shape GdsFault
+shape_of draw_context area = shape_on draw_context (rectangle_of draw_context.grid (moved_area draw_context.stands area))
 
-abbrev pub shapes_of : Pen → List Area → Result (List Shape) GdsFault
-shapes_of pen [] = Ok []
-shapes_of pen (a ∷ xs) = shape_of pen a >>= λ s. shapes_of pen xs >>= λ ss. Ok (s ∷ ss)
+abbrev pub shapes_of : DrawContext → List Area → Result (List Shape) GdsFault
+shapes_of draw_context [] = Ok []
+shapes_of draw_context (a ∷ xs) = shape_of draw_context a >>= λ s. shapes_of draw_context xs >>= λ ss. Ok (s ∷ ss)
 
 -- there is one at least
 abbrev pub has_some : {A : Type 0} → List A → Bool
@@ -55,13 +55,13 @@ has_some (x ∷ xs) = true
 unfoldable pub with_kept : List Shape → Shape → List Shape
 with_kept rects s = if nat_lt 1000000 (length rects) then rects else rects ++ s ∷ []
 
-abbrev pub put : Pen → List Shape → List Area → Result (List Shape) GdsFault
-put pen rects [] = Ok rects
-put pen rects (a ∷ xs) = shape_of pen a >>= λ s. put pen (with_kept rects s) xs
+abbrev pub put : DrawContext → List Shape → List Area → Result (List Shape) GdsFault
+put draw_context rects [] = Ok rects
+put draw_context rects (a ∷ xs) = shape_of draw_context a >>= λ s. put draw_context (with_kept rects s) xs
 
 -- the areas that an element is told to have, or its fault
-abbrev pub put_all : Pen → List Shape → Result (List Area) GdsFault → Result (List Shape) GdsFault
-put_all pen rects told = told >>= put pen rects
+abbrev pub put_all : DrawContext → List Shape → Result (List Area) GdsFault → Result (List Shape) GdsFault
+put_all draw_context rects told = told >>= put draw_context rects
 
 -- Memory may run out anywhere; else the fault is the one told.
 abbrev pub Faults : GdsFault → Result (List Shape) GdsFault → Type 0

@@ -5,7 +5,7 @@ pub mod Faults
 pub mod Moves
 pub mod Paths
 pub mod Points
-pub mod Taken
+pub mod Progress
 pub mod Units
 -- What inner contracts and proofs alone cite.
 pub mod Sweep

@@ -29,7 +29,7 @@ pub struct Area {
 
 /// What an element draws with: the grid, how its structure stands, its layer, and the place of its points.
 #[derive(Clone, Copy, Debug, PartialEq, Eq)]
-pub struct Pen {
+pub struct DrawContext {
     pub grid: Grid,
     pub stands: Move,
     pub layer: Layer,
@@ -127,18 +127,24 @@ fn keep(rects: &mut ShapeList, shape: Shape) -> Result<(), NoMemory>
 }
 
 /// Draws an area.
-pub fn add_area(pen: &Pen, area: &Area, rects: &mut ShapeList) -> Result<(), GdsFault>
-    requires grid { 1 ≤ pen.now.grid.lambda_nm }
-    requires unit { pen.now.grid.picometres ≤ MOST_PICOMETRES }
-    ensures { Puts result rects.new (put pen.now rects.old (area.now ∷ [])) }
+pub fn add_area(
+    draw_context: &DrawContext,
+    area: &Area,
+    rects: &mut ShapeList,
+) -> Result<(), GdsFault>
+    requires grid { 1 ≤ draw_context.now.grid.lambda_nm }
+    requires unit { draw_context.now.grid.picometres ≤ MOST_PICOMETRES }
+    ensures { Puts result rects.new (put draw_context.now rects.old (area.now ∷ [])) }
 {
-    let Some(rect) = rectangle(&pen.grid, &pen.stands, area) else {
-        return Err(GdsFault::Grid { at: pen.at });
+    let Some(rect) = rectangle(&draw_context.grid, &draw_context.stands, area) else {
+        return Err(GdsFault::Grid {
+            at: draw_context.at,
+        });
     };
     keep(
         rects,
         Shape {
-            layer: pen.layer,
+            layer: draw_context.layer,
             rect,
         },
     )?;

@@ -7,7 +7,7 @@ ghost use Rattle.gds_area.specs.Areas.{area_of, has_some, put, Puts};
 ghost use Rattle.gds_area.specs.Sweep.{ends_of, unpaired, PairsOff, row_areas, swept_all};
 
 use crate::GdsFault;
-use crate::area::{Area, Pen, add_area, doubled};
+use crate::area::{Area, DrawContext, add_area, doubled};
 use crate::point::Point;
 use crate::units::MOST_PICOMETRES;
 use box_geom::ShapeList;
@@ -109,16 +109,16 @@ fn add_runs(
     low: &SideEnd,
     high: &SideEnd,
     xs: &[i32],
-    pen: &Pen,
+    draw_context: &DrawContext,
     rects: &mut ShapeList,
 ) -> Result<(), GdsFault>
-    requires grid { 1 ≤ pen.now.grid.lambda_nm }
-    requires unit { pen.now.grid.picometres ≤ MOST_PICOMETRES }
-    ensures { Puts result rects.new (put pen.now rects.old (map area_of (runs low.now.y high.now.y xs.now))) }
+    requires grid { 1 ≤ draw_context.now.grid.lambda_nm }
+    requires unit { draw_context.now.grid.picometres ≤ MOST_PICOMETRES }
+    ensures { Puts result rects.new (put draw_context.now rects.old (map area_of (runs low.now.y high.now.y xs.now))) }
 {
     let mut rest = xs;
     while let [from, to, more @ ..] = rest {
-        add_area(pen, &run(low, high, from, to), rects)?;
+        add_area(draw_context, &run(low, high, from, to), rects)?;
         rest = more;
     }
     Ok(())
@@ -131,25 +131,30 @@ fn next_row(
     row: &SideEnd,
     end: &SideEnd,
     xs: Vec<i32>,
-    pen: &Pen,
+    draw_context: &DrawContext,
     rects: &mut ShapeList,
 ) -> Result<Vec<i32>, GdsFault>
-    requires grid { 1 ≤ pen.now.grid.lambda_nm }
-    requires unit { pen.now.grid.picometres ≤ MOST_PICOMETRES }
-    ensures drawn { Puts result rects.new (put pen.now rects.old (row_areas row.now end.now xs.items)) }
+    requires grid { 1 ≤ draw_context.now.grid.lambda_nm }
+    requires unit { draw_context.now.grid.picometres ≤ MOST_PICOMETRES }
+    ensures drawn { Puts result rects.new (put draw_context.now rects.old (row_areas row.now end.now xs.items)) }
     ensures crossings { IfOk result (λ v. v.items ≡ odd_ones xs.items ++ end.now.x ∷ []) }
 {
     let mut odd = odd_ones(alloc, xs)?;
-    add_runs(row, end, odd.as_slice(), pen, rects)?;
+    add_runs(row, end, odd.as_slice(), draw_context, rects)?;
     push(&mut odd, &end.x)?;
     Ok(odd)
 }
 
 // Draws what lies between the heights of ends that are sorted.
-fn sweep(alloc: Global, ends: &[SideEnd], pen: &Pen, rects: &mut ShapeList) -> Result<(), GdsFault>
-    requires grid { 1 ≤ pen.now.grid.lambda_nm }
-    requires unit { pen.now.grid.picometres ≤ MOST_PICOMETRES }
-    ensures { Puts result rects.new (put pen.now rects.old (map area_of (swept_all ends.now))) }
+fn sweep(
+    alloc: Global,
+    ends: &[SideEnd],
+    draw_context: &DrawContext,
+    rects: &mut ShapeList,
+) -> Result<(), GdsFault>
+    requires grid { 1 ≤ draw_context.now.grid.lambda_nm }
+    requires unit { draw_context.now.grid.picometres ≤ MOST_PICOMETRES }
+    ensures { Puts result rects.new (put draw_context.now rects.old (map area_of (swept_all ends.now))) }
 {
     let Some(first) = ends.first() else {
         return Ok(());
@@ -161,7 +166,7 @@ fn sweep(alloc: Global, ends: &[SideEnd], pen: &Pen, rects: &mut ShapeList) -> R
             push(&mut xs, &end.x)?;
             continue;
         }
-        xs = next_row(alloc, &row, end, xs, pen, rects)?;
+        xs = next_row(alloc, &row, end, xs, draw_context, rects)?;
         row = *end;
     }
     Ok(())
@@ -172,19 +177,19 @@ fn sweep(alloc: Global, ends: &[SideEnd], pen: &Pen, rects: &mut ShapeList) -> R
 pub fn add_inside(
     alloc: Global,
     walk: &[Point],
-    pen: &Pen,
+    draw_context: &DrawContext,
     rects: &mut ShapeList,
 ) -> Result<(), GdsFault>
-    requires grid { 1 ≤ pen.now.grid.lambda_nm }
-    requires unit { pen.now.grid.picometres ≤ MOST_PICOMETRES }
-    ensures { Puts result rects.new (put pen.now rects.old (map area_of (inside_walk walk.now))) }
+    requires grid { 1 ≤ draw_context.now.grid.lambda_nm }
+    requires unit { draw_context.now.grid.picometres ≤ MOST_PICOMETRES }
+    ensures { Puts result rects.new (put draw_context.now rects.old (map area_of (inside_walk walk.now))) }
 {
     let Some((first, rest)) = walk.split_first() else {
         return Ok(());
     };
     let mut ends = side_ends(alloc, first, rest)?;
     ends.sort_unstable();
-    sweep(alloc, ends.as_slice(), pen, rects)
+    sweep(alloc, ends.as_slice(), draw_context, rects)
 }
 
 fn has_run(xs: &[i32]) -> bool

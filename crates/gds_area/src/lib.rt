@@ -9,15 +9,15 @@ pub mod laws;
 pub mod path;
 pub mod placement;
 pub mod point;
-pub mod taken;
+pub mod progress;
 pub mod units;
 
-pub use area::{MOST_RECTANGLES, Pen};
+pub use area::{DrawContext, MOST_RECTANGLES};
 pub use even_odd::{add_inside, encloses};
 pub use fault::GdsFault;
 pub use laws::composed_moves;
 pub use path::{Reach, add_path_areas, has_path_areas, past_ends, width};
 pub use placement::{Move, Turn, composed};
 pub use point::{Point, close, points, read_point, signed, slanted};
-pub use taken::{Around, Frame, MOST_LEVELS, Taken, around_at, count_one, none_taken};
+pub use progress::{Context, MOST_LEVELS, Origin, Progress, count_one, no_progress, origin_at};
 pub use units::{Grid, MOST_PICOMETRES, floor_units};

@@ -4,7 +4,7 @@ ghost use Rattle.gds_area.specs.Areas.{has_some, put, Puts};
 ghost use Rattle.gds_area.specs.Paths.{thinned, width_of, stretch, long, segment, all_segments, past_second, past_ends, path_areas};
 
 use crate::GdsFault;
-use crate::area::{Area, Pen, Span, add_area};
+use crate::area::{Area, DrawContext, Span, add_area};
 use crate::point::{Point, signed};
 use crate::units::MOST_PICOMETRES;
 use box_geom::ShapeList;
@@ -92,18 +92,22 @@ fn past_second(reach: &Reach, more: &[Point]) -> u32
 fn add_segments(
     reach: &Reach,
     points: &[Point],
-    pen: &Pen,
+    draw_context: &DrawContext,
     rects: &mut ShapeList,
 ) -> Result<(), GdsFault>
-    requires grid { 1 ≤ pen.now.grid.lambda_nm }
-    requires unit { pen.now.grid.picometres ≤ MOST_PICOMETRES }
-    ensures { Puts result rects.new (put pen.now rects.old (all_segments reach.now.half reach.now.ends points.now)) }
+    requires grid { 1 ≤ draw_context.now.grid.lambda_nm }
+    requires unit { draw_context.now.grid.picometres ≤ MOST_PICOMETRES }
+    ensures { Puts result rects.new (put draw_context.now rects.old (all_segments reach.now.half reach.now.ends points.now)) }
 {
     let mut rest = points;
     let mut past = reach.ends;
     while let [a, b, more @ ..] = rest {
         let past_second = past_second(reach, more);
-        add_area(pen, &segment(reach.half, past, past_second, a, b), rects)?;
+        add_area(
+            draw_context,
+            &segment(reach.half, past, past_second, a, b),
+            rects,
+        )?;
         past = reach.half;
         rest = &rest[1..];
     }
@@ -121,18 +125,18 @@ fn thin(mut points: Vec<Point>) -> Vec<Point>
 pub fn add_path_areas(
     reach: &Reach,
     points: Vec<Point>,
-    pen: &Pen,
+    draw_context: &DrawContext,
     rects: &mut ShapeList,
 ) -> Result<(), GdsFault>
-    requires grid { 1 ≤ pen.now.grid.lambda_nm }
-    requires unit { pen.now.grid.picometres ≤ MOST_PICOMETRES }
-    ensures { Puts result rects.new (put pen.now rects.old (path_areas reach.now.half reach.now.ends points.items)) }
+    requires grid { 1 ≤ draw_context.now.grid.lambda_nm }
+    requires unit { draw_context.now.grid.picometres ≤ MOST_PICOMETRES }
+    ensures { Puts result rects.new (put draw_context.now rects.old (path_areas reach.now.half reach.now.ends points.items)) }
 {
     if reach.half == 0 {
         return Ok(());
     }
     let points = thin(points);
-    add_segments(reach, points.as_slice(), pen, rects)
+    add_segments(reach, points.as_slice(), draw_context, rects)
 }
 
 /// Whether a path through points covers anything.

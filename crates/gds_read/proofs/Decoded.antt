@@ -12,14 +12,14 @@ use Rattle.gds_read.specs.declared.structure.Lookup.TheVariants as lookup
 use Rattle.cell_num.specs.Steps.{◌>>=◌}
 use Rattle.gds_read.specs.Grammar.{first_pass_of}
 use Rattle.gds_read.specs.Structure.{found_in, one_of, Finds}
-use Rattle.gds_area.specs.declared.taken.Taken.{Taken}
+use Rattle.gds_area.specs.declared.progress.Progress.{Progress}
 use Rattle.gds_area.specs.declared.units.Grid.{Grid}
 use Rattle.gds_read.specs.Elements.{elements_of}
 use Rattle.gds_read.specs.Flat.{file_of, drawn, Gives}
 use Rattle.gds_read.specs.Decoding.{unit_in, grid_in, file_in, decoded, Decodes, GdsRefused, IsRefused, IsTwiceOf}
 
 abbrev drawn_whole : List ℕ → ℕ → List Item → Result Shapes GdsFault
-drawn_whole bytes lambda records = drawn (file_in bytes lambda) 0 (elements_of records) >>= λ taken. Ok taken.shapes
+drawn_whole bytes lambda records = drawn (file_in bytes lambda) 0 (elements_of records) >>= λ progress. Ok progress.shapes
 
 is_refused : (bytes name : List ℕ) (lambda : ℕ) (f : GdsFault) → decoded bytes name lambda ≡ Err f → IsRefused bytes name lambda f
 is_refused bytes name lambda (fault.Cut at) e = e
@@ -74,10 +74,10 @@ at_place bytes name lambda end place e f = behind_pass bytes name lambda end e �
 drawn_there : (bytes name : List ℕ) (lambda end place : ℕ) (shapes : Shapes) → first_pass_of bytes ≡ Ok end → Finds bytes (lookup.At place) (found_in bytes name) → Gives (Ok shapes) (drawn (file_in bytes lambda) 0 (elements_of (items_from bytes place))) → Decodes bytes name lambda shapes
 drawn_there bytes name lambda end place shapes e f gives = at_place bytes name lambda end place e f ∙ gives
 
-shapes_fault : {f : GdsFault} (read : Result Taken GdsFault) → read ≡ Err f → (read >>= λ taken. Ok taken.shapes) ≡ Err f
-shapes_fault read e = ap (λ (x : Result Taken GdsFault). x >>= λ taken. Ok taken.shapes) e
+shapes_fault : {f : GdsFault} (read : Result Progress GdsFault) → read ≡ Err f → (read >>= λ progress. Ok progress.shapes) ≡ Err f
+shapes_fault read e = ap (λ (x : Result Progress GdsFault). x >>= λ progress. Ok progress.shapes) e
 
-gives_refused : (bytes name : List ℕ) (lambda : ℕ) (f : GdsFault) (read : Result Taken GdsFault) → decoded bytes name lambda ≡ (read >>= λ taken. Ok taken.shapes) → Gives (Err f) read → IsRefused bytes name lambda f
+gives_refused : (bytes name : List ℕ) (lambda : ℕ) (f : GdsFault) (read : Result Progress GdsFault) → decoded bytes name lambda ≡ (read >>= λ progress. Ok progress.shapes) → Gives (Err f) read → IsRefused bytes name lambda f
 gives_refused bytes name lambda (fault.Cut at) read e gives = e ∙ shapes_fault read gives
 gives_refused bytes name lambda (fault.Length at) read e gives = e ∙ shapes_fault read gives
 gives_refused bytes name lambda (fault.Order at code) read e gives = e ∙ shapes_fault read gives

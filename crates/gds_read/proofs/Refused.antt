@@ -7,8 +7,8 @@ use Rattle.gds_area.specs.declared.fault.GdsFault.TheVariants as fault
 use Rattle.cell_num.specs.Steps.{◌>>=◌}
 use Rattle.gds_read.specs.Grammar.{first_pass_of}
 use Rattle.gds_read.specs.Structure.{found_in, one_of}
-use Rattle.gds_area.specs.declared.taken.Taken.{Taken}
-use Rattle.gds_area.specs.Taken.{nothing_taken, both, amount, in_order}
+use Rattle.gds_area.specs.declared.progress.Progress.{Progress}
+use Rattle.gds_area.specs.Progress.{no_progress, both, amount, in_order}
 use Rattle.gds_read.specs.Elements.{Element, elements_of}
 use Rattle.gds_read.specs.Flat.{File, drawn_by, drawn}
 use Rattle.gds_read.specs.Decoding.{file_in, decoded, GdsRefused, IsFirstFaulty, HasNoCell, HasTwice, HasFaultyElement, IsCellFault}
@@ -22,8 +22,8 @@ same_fault f g e = cc
 fault_is : {A : Type 0} (f g : GdsFault) → ◌≡◌ {A = Result A GdsFault} (Err f) (Err g) → f ≡ g
 fault_is f g e = cc
 
-taken_are : (a b : Taken) → ◌≡◌ {A = Result Taken GdsFault} (Ok a) (Ok b) → a ≡ b
-taken_are a b e = cc
+progress_is_one : (a b : Progress) → ◌≡◌ {A = Result Progress GdsFault} (Ok a) (Ok b) → a ≡ b
+progress_is_one a b e = cc
 
 no_fault : {A : Type 0} (x : A) (f : GdsFault) → ◌≡◌ {A = Result A GdsFault} (Ok x) (Err f) → ⊥
 no_fault x f e = absurd cc
@@ -35,40 +35,40 @@ bind_err (Err g) next f e = inl (same_fault g f e)
 
 -- ---- the elements
 
-abbrev rest_of : File → ℕ → List Element → Taken → Result Taken GdsFault
+abbrev rest_of : File → ℕ → List Element → Progress → Result Progress GdsFault
 rest_of file count es one = drawn file (count + amount one) es >>= λ rest. Ok (both one rest)
 
 -- the same, where so many rectangles stand before all of them
 record IsFaultyBehind (file : File) (count : ℕ) (elements : List Element) (f : GdsFault) : Type 0 where
   before : List Element
-  taken : Taken
+  progress : Progress
   faulty : Element
   behind : List Element
   is : elements ≡ before ++ (faulty ∷ behind)
-  drawn_before : drawn file count before ≡ Ok taken
-  fault : drawn_by file (count + amount taken) faulty faulty.kind ≡ Err f
+  drawn_before : drawn file count before ≡ Ok progress
+  fault : drawn_by file (count + amount progress) faulty faulty.kind ≡ Err f
 
 first_here : (file : File) (count : ℕ) (e : Element) (es : List Element) (f : GdsFault) → drawn_by file count e e.kind ≡ Err f → IsFaultyBehind file count (e ∷ es) f
 unfolding drawn in_order
-first_here file count e es f h = record { before = []; taken = nothing_taken; faulty = e; behind = es; is = refl; drawn_before = refl; fault = ap (λ (n : ℕ). drawn_by file n e e.kind) (let n : count + 0 ≡ count = omega arith in n) ∙ h }
+first_here file count e es f h = record { before = []; progress = no_progress; faulty = e; behind = es; is = refl; drawn_before = refl; fault = ap (λ (n : ℕ). drawn_by file n e e.kind) (let n : count + 0 ≡ count = omega arith in n) ∙ h }
 
-both_drawn : (file : File) (count : ℕ) (e : Element) (es : List Element) (one rest : Taken) → drawn_by file count e e.kind ≡ Ok one → drawn file (count + amount one) es ≡ Ok rest → drawn file count (e ∷ es) ≡ Ok (both one rest)
+both_drawn : (file : File) (count : ℕ) (e : Element) (es : List Element) (one rest : Progress) → drawn_by file count e e.kind ≡ Ok one → drawn file (count + amount one) es ≡ Ok rest → drawn file count (e ∷ es) ≡ Ok (both one rest)
 unfolding drawn in_order
 both_drawn file count e es one rest h k = rw (h, k) refl
 
-added : (count : ℕ) (one rest : Taken) → count + amount (both one rest) ≡ count + amount one + amount rest
+added : (count : ℕ) (one rest : Progress) → count + amount (both one rest) ≡ count + amount one + amount rest
 added count one rest = let e = amount_both one rest in omega (arith, e)
 
-first_later : (file : File) (count : ℕ) (e : Element) (es : List Element) (f : GdsFault) (one : Taken) → drawn_by file count e e.kind ≡ Ok one → IsFaultyBehind file (count + amount one) es f → IsFaultyBehind file count (e ∷ es) f
+first_later : (file : File) (count : ℕ) (e : Element) (es : List Element) (f : GdsFault) (one : Progress) → drawn_by file count e e.kind ≡ Ok one → IsFaultyBehind file (count + amount one) es f → IsFaultyBehind file count (e ∷ es) f
 first_later file count e es f one h s =
     record {
       before = e ∷ s.before;
-      taken = both one s.taken;
+      progress = both one s.progress;
       faulty = s.faulty;
       behind = s.behind;
       is = ap (λ (t : List Element). e ∷ t) s.is;
-      drawn_before = both_drawn file count e s.before one s.taken h s.drawn_before;
-      fault = ap (λ (n : ℕ). drawn_by file n s.faulty s.faulty.kind) (added count one s.taken) ∙ s.fault;
+      drawn_before = both_drawn file count e s.before one s.progress h s.drawn_before;
+      fault = ap (λ (n : ℕ). drawn_by file n s.faulty s.faulty.kind) (added count one s.progress) ∙ s.fault;
     }
 
 faulty_behind : (file : File) (count : ℕ) (es : List Element) (f : GdsFault) → drawn file count es ≡ Err f → IsFaultyBehind file count es f
@@ -85,33 +85,33 @@ faulty_behind file count (e ∷ es) f h = elim (bind_err (drawn_by file count e 
 first_faulty : (file : File) (es : List Element) (f : GdsFault) → drawn file 0 es ≡ Err f → IsFirstFaulty file es f
 first_faulty file es f h =
     let s = faulty_behind file 0 es f h in
-    record { before = s.before; taken = s.taken; faulty = s.faulty; behind = s.behind; is = s.is; drawn_before = s.drawn_before; fault = ap (λ (n : ℕ). drawn_by file n s.faulty s.faulty.kind) (let e : amount s.taken ≡ 0 + amount s.taken = omega arith in e) ∙ s.fault }
+    record { before = s.before; progress = s.progress; faulty = s.faulty; behind = s.behind; is = s.is; drawn_before = s.drawn_before; fault = ap (λ (n : ℕ). drawn_by file n s.faulty s.faulty.kind) (let e : amount s.progress ≡ 0 + amount s.progress = omega arith in e) ∙ s.fault }
 
-faulty_drawn : (file : File) (count : ℕ) (before behind : List Element) (faulty : Element) (f : GdsFault) (taken : Taken) → drawn file count before ≡ Ok taken → drawn_by file (count + amount taken) faulty faulty.kind ≡ Err f → drawn file count (before ++ (faulty ∷ behind)) ≡ Err f
+faulty_drawn : (file : File) (count : ℕ) (before behind : List Element) (faulty : Element) (f : GdsFault) (progress : Progress) → drawn file count before ≡ Ok progress → drawn_by file (count + amount progress) faulty faulty.kind ≡ Err f → drawn file count (before ++ (faulty ∷ behind)) ≡ Err f
 unfolding drawn in_order
-faulty_drawn file count [] behind faulty f taken all h =
-    let none : taken ≡ nothing_taken = sym (taken_are nothing_taken taken all) in
-    ap (λ (x : Result Taken GdsFault). x >>= rest_of file count behind)
-    (ap (λ (n : ℕ). drawn_by file n faulty faulty.kind) (let zero_more = ap amount none in let n : count ≡ count + amount taken = omega (arith, zero_more) in n) ∙ h)
-faulty_drawn file count (e ∷ es) behind faulty f taken all h =
-    let first = bind_ok (drawn_by file count e e.kind) (rest_of file count es) taken all in
-    let rest = bind_ok (drawn file (count + amount first.0) es) (λ rest. Ok (both first.0 rest)) taken first.2 in
-    let whole : both first.0 rest.0 ≡ taken = taken_are (both first.0 rest.0) taken rest.2 in
-    let places : count + amount taken ≡ count + amount first.0 + amount rest.0 = sym (ap (λ (s : Taken). count + amount s) whole) ∙ added count first.0 rest.0 in
-    ap (λ (x : Result Taken GdsFault). x >>= rest_of file count (es ++ (faulty ∷ behind))) first.1
-    ∙ ap (λ (x : Result Taken GdsFault). x >>= λ rest. Ok (both first.0 rest))
+faulty_drawn file count [] behind faulty f progress all h =
+    let none : progress ≡ no_progress = sym (progress_is_one no_progress progress all) in
+    ap (λ (x : Result Progress GdsFault). x >>= rest_of file count behind)
+    (ap (λ (n : ℕ). drawn_by file n faulty faulty.kind) (let zero_more = ap amount none in let n : count ≡ count + amount progress = omega (arith, zero_more) in n) ∙ h)
+faulty_drawn file count (e ∷ es) behind faulty f progress all h =
+    let first = bind_ok (drawn_by file count e e.kind) (rest_of file count es) progress all in
+    let rest = bind_ok (drawn file (count + amount first.0) es) (λ rest. Ok (both first.0 rest)) progress first.2 in
+    let whole : both first.0 rest.0 ≡ progress = progress_is_one (both first.0 rest.0) progress rest.2 in
+    let places : count + amount progress ≡ count + amount first.0 + amount rest.0 = sym (ap (λ (s : Progress). count + amount s) whole) ∙ added count first.0 rest.0 in
+    ap (λ (x : Result Progress GdsFault). x >>= rest_of file count (es ++ (faulty ∷ behind))) first.1
+    ∙ ap (λ (x : Result Progress GdsFault). x >>= λ rest. Ok (both first.0 rest))
     (faulty_drawn file (count + amount first.0) es behind faulty f rest.0 rest.1 (ap (λ (n : ℕ). drawn_by file n faulty faulty.kind) (sym places) ∙ h))
 
 -- ---- the cell
 
 abbrev then_drawn : List ℕ → ℕ → List Item → Result Shapes GdsFault
-then_drawn bytes lambda records = drawn (file_in bytes lambda) 0 (elements_of records) >>= λ taken. Ok taken.shapes
+then_drawn bytes lambda records = drawn (file_in bytes lambda) 0 (elements_of records) >>= λ progress. Ok progress.shapes
 
 abbrev then_found : List ℕ → List ℕ → ℕ → ℕ → Result Shapes GdsFault
 then_found bytes name lambda end = one_of name (found_in bytes name) >>= then_drawn bytes lambda
 
-taken_fault : (read : Result Taken GdsFault) (f : GdsFault) → (read >>= λ taken. Ok taken.shapes) ≡ Err f → read ≡ Err f
-taken_fault (Ok taken) f e = absurd (no_fault taken.shapes f e)
+taken_fault : (read : Result Progress GdsFault) (f : GdsFault) → (read >>= λ progress. Ok progress.shapes) ≡ Err f → read ≡ Err f
+taken_fault (Ok progress) f e = absurd (no_fault progress.shapes f e)
 taken_fault (Err g) f e = same_fault g f e
 
 abbrev ByName : List ℕ → List ℕ → ℕ → GdsFault → Type 0
@@ -147,4 +147,4 @@ cell_fault_is bytes name lambda f (inr (inl c)) = passed_on bytes name lambda c.
 cell_fault_is bytes name lambda f (inr (inr (inl c))) = passed_on bytes name lambda c.end (c.first ∷ c.second ∷ c.more) f (only bytes c.end c.library) c.two (ap (λ (g : GdsFault). Err g) (sym c.fault))
 cell_fault_is bytes name lambda f (inr (inr (inr c))) =
     passed_on bytes name lambda c.end (c.records ∷ []) f (only bytes c.end c.library) c.one
-    (ap (λ (x : Result Taken GdsFault). x >>= λ taken. Ok taken.shapes) (ap (λ (t : List Element). drawn (file_in bytes lambda) 0 t) c.first.is ∙ faulty_drawn (file_in bytes lambda) 0 c.first.before c.first.behind c.first.faulty f c.first.taken c.first.drawn_before (ap (λ (n : ℕ). drawn_by (file_in bytes lambda) n c.first.faulty c.first.faulty.kind) (let e : 0 + amount c.first.taken ≡ amount c.first.taken = omega arith in e) ∙ c.first.fault)))
+    (ap (λ (x : Result Progress GdsFault). x >>= λ progress. Ok progress.shapes) (ap (λ (t : List Element). drawn (file_in bytes lambda) 0 t) c.first.is ∙ faulty_drawn (file_in bytes lambda) 0 c.first.before c.first.behind c.first.faulty f c.first.progress c.first.drawn_before (ap (λ (n : ℕ). drawn_by (file_in bytes lambda) n c.first.faulty c.first.faulty.kind) (let e : 0 + amount c.first.progress ≡ amount c.first.progress = omega arith in e) ∙ c.first.fault)))

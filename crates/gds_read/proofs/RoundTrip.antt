@@ -12,8 +12,8 @@ use Rattle.gds_area.specs.declared.fault.GdsFault.{GdsFault}
 use Rattle.cell_num.specs.Steps.{◌>>=◌}
 use Rattle.gds_read.specs.Structure.{behind_name, found_in, one_of}
 use Rattle.gds_read.specs.Elements.{elements_of, until, content_of}
-use Rattle.gds_area.specs.declared.taken.Taken.{Taken}
-use Rattle.gds_area.specs.Taken.{plain, rectangles, both}
+use Rattle.gds_area.specs.declared.progress.Progress.{Progress}
+use Rattle.gds_area.specs.Progress.{plain, rectangles, both}
 use Rattle.gds_read.specs.Flat.{File, drawn, flat}
 use Rattle.gds_read.specs.Decoding.{unit_in, file_in, decoded, Decodes}
 use Rattle.gds_read.specs.RoundTrip.{HasNoZeroEnd, IsReadable, IsReadableStruct, AreReadable, IsToPlain, referred_rects, flat_shapes}
@@ -52,7 +52,7 @@ structure_drawn structs unit s rest at are there to few =
       proper = All-weaker (λ (s : Shape). IsRectangle s.rect) (λ (s : Shape). IsProper s.rect) (λ s limits. limits.proper) s.shapes.rects is.limits;
       limits = is.limits;
     }) (λ at n e. refs at n (omega (arith, e))) at 0 refl
-    ∙ ap (λ (t : Taken). Ok t) (taken_flat structs s)
+    ∙ ap (λ (t : Progress). Ok t) (taken_flat structs s)
 
 -- a library is read with its grid, and its database unit is a nanometre
 file_back : (structs : List Struct) (unit : ℕ) → All (IsWritableStruct unit) structs → file_in (library_of structs unit) (2 * unit) ≡ file unit (items unit structs)
@@ -71,10 +71,10 @@ flat_back structs unit s are there to few =
     let body : List Item = placed found.at (elements_records unit s found.rest) in
     let one : one_of s.name (found_in bytes s.name) ≡ Ok body =
     ap (λ (t : Stream). one_of s.name (behind_name s.name t.items)) (library_records_are unit structs is) ∙ ap (λ (t : List (List Item)). one_of s.name t) found.is in
-    ap (λ (r : Result ℕ GdsFault). r >>= λ end. one_of s.name (found_in bytes s.name) >>= λ records. drawn (file_in bytes (2 * unit)) 0 (elements_of records) >>= λ taken. Ok taken.shapes) (written_passes structs unit is)
-    ∙ (ap (λ (r : Result (List Item) GdsFault). r >>= λ records. drawn (file_in bytes (2 * unit)) 0 (elements_of records) >>= λ taken. Ok taken.shapes) one
-    ∙ (ap (λ (f : File). drawn f 0 (elements_of body) >>= λ taken. Ok taken.shapes) (file_back structs unit is)
-    ∙ ap (λ (r : Result Taken GdsFault). r >>= λ taken. Ok taken.shapes) (structure_drawn structs unit s found.rest found.at are there to few)))
+    ap (λ (r : Result ℕ GdsFault). r >>= λ end. one_of s.name (found_in bytes s.name) >>= λ records. drawn (file_in bytes (2 * unit)) 0 (elements_of records) >>= λ progress. Ok progress.shapes) (written_passes structs unit is)
+    ∙ (ap (λ (r : Result (List Item) GdsFault). r >>= λ records. drawn (file_in bytes (2 * unit)) 0 (elements_of records) >>= λ progress. Ok progress.shapes) one
+    ∙ (ap (λ (f : File). drawn f 0 (elements_of body) >>= λ progress. Ok progress.shapes) (file_back structs unit is)
+    ∙ ap (λ (r : Result Progress GdsFault). r >>= λ progress. Ok progress.shapes) (structure_drawn structs unit s found.rest found.at are there to few)))
 
 -- ---- structures without references
 

@@ -16,13 +16,13 @@ use Rattle.gds_area.specs.declared.fault.GdsFault.TheVariants as fault
 use Rattle.gds_area.specs.declared.placement.Turn.TheVariants as turn
 use Rattle.gds_area.specs.declared.placement.Move.{Move}
 use Rattle.gds_read.specs.declared.reference.Array.{Array}
-use Rattle.gds_area.specs.declared.taken.Taken.{Taken}
-use Rattle.gds_area.specs.declared.taken.Around.{Around}
+use Rattle.gds_area.specs.declared.progress.Progress.{Progress}
+use Rattle.gds_area.specs.declared.progress.Origin.{Origin}
 use Rattle.cell_num.specs.Steps.{◌>>=◌, or_fault}
 use Rattle.gds_read.specs.Structure.{behind_name}
 use Rattle.gds_read.specs.Elements.{Element, elements_of, until}
 use Rattle.gds_area.specs.Moves.{stays, composed}
-use Rattle.gds_area.specs.Taken.{nothing_taken, one_reference, rectangles, both, in_order, around_of}
+use Rattle.gds_area.specs.Progress.{no_progress, one_reference, rectangles, both, in_order, origin_of}
 use Rattle.gds_read.specs.References.{target_in, the_one, array_of, single, copy_at}
 use Rattle.gds_read.specs.Flat.{File, Below, inside_copy, copies_of, row_of, referred, one_level, flat}
 use Rattle.gds_write.specs.declared.library.Ref.{Ref}
@@ -59,13 +59,13 @@ copied_to unit r = a_move _ _ _ _ (still (r.x *ℤ pos unit) (no_step (r.x *ℤ 
 takes_copy : (unit : ℕ) (r : Ref) → Takes unit (composed stays (copy_at (array unit r) 0 0)) (rect_moved r.x r.y)
 takes_copy unit r = subst (λ (m : Move). Takes unit m (rect_moved r.x r.y)) (sym (copied_to unit r)) (shifting unit r.x r.y)
 
-order_one : {A : Type 0} (step : ℕ → A → Result Taken GdsFault) (count : ℕ) (x : A) (t : Taken) → step count x ≡ Ok t → in_order step count (x ∷ []) ≡ Ok t
+order_one : {A : Type 0} (step : ℕ → A → Result Progress GdsFault) (count : ℕ) (x : A) (t : Progress) → step count x ≡ Ok t → in_order step count (x ∷ []) ≡ Ok t
 unfolding in_order
-order_one step count x t one = order_more step count x [] t nothing_taken one refl ∙ ap (λ (u : Taken). Ok u) (sym (same_taken t))
+order_one step count x t one = order_more step count x [] t no_progress one refl ∙ ap (λ (u : Progress). Ok u) (sym (same_taken t))
 
-one_copy : (below : Below) (around : Around) (elements : List Element) (unit count : ℕ) (r : Ref) (t : Taken) → below (inside_copy around (copy_at (array unit r) 0 0)) count elements ≡ Ok t → copies_of below around elements (array unit r) count ≡ Ok t
-one_copy below around elements unit count r t one =
-    order_one (λ n row. row_of below around elements (array unit r) n row) count 0 t (order_one (λ n column. below (inside_copy around (copy_at (array unit r) column 0)) n elements) count 0 t one)
+one_copy : (below : Below) (origin : Origin) (elements : List Element) (unit count : ℕ) (r : Ref) (t : Progress) → below (inside_copy origin (copy_at (array unit r) 0 0)) count elements ≡ Ok t → copies_of below origin elements (array unit r) count ≡ Ok t
+one_copy below origin elements unit count r t one =
+    order_one (λ n row. row_of below origin elements (array unit r) n row) count 0 t (order_one (λ n column. below (inside_copy origin (copy_at (array unit r) column 0)) n elements) count 0 t one)
 
 -- ---- what is inside the copy
 
@@ -81,25 +81,25 @@ moved_limits unit r t enough at is =
           within_limits s.rect r.x r.y limits.proper (few_units unit s.rect.x1 enough fits.x1) (few_units unit s.rect.x2 enough fits.x2) (few_units unit s.rect.y1 enough fits.y1) (few_units unit s.rect.y2 enough fits.y2) (few_units unit r.x enough at.x) (few_units unit r.y enough at.y));
     }
 
-inside_taken : (below : Below) (recs : List Item) (around : Around) (unit count : ℕ) (f : Rectangle → Rectangle) (t : Struct) (behind : List Raw) (at : ℕ) → 10 ≤ unit → t.refs ≡ [] → count + length t.shapes.rects ≤ 1000000 → Takes unit around.stands f → AreDrawn unit f t.shapes.rects → one_level below (file unit recs) (Some around) count (elements_of (placed at (elements_records unit t behind))) ≡ Ok (rectangles (map (λ (s : Shape). record { layer = s.layer; rect = f s.rect }) t.shapes.rects))
-inside_taken below recs around unit count f t behind at enough plain few takes are =
+inside_taken : (below : Below) (recs : List Item) (origin : Origin) (unit count : ℕ) (f : Rectangle → Rectangle) (t : Struct) (behind : List Raw) (at : ℕ) → 10 ≤ unit → t.refs ≡ [] → count + length t.shapes.rects ≤ 1000000 → Takes unit origin.stands f → AreDrawn unit f t.shapes.rects → one_level below (file unit recs) (Some origin) count (elements_of (placed at (elements_records unit t behind))) ≡ Ok (rectangles (map (λ (s : Shape). record { layer = s.layer; rect = f s.rect }) t.shapes.rects))
+inside_taken below recs origin unit count f t behind at enough plain few takes are =
     let end : List Raw = raw record_type.EndStr [] ∷ behind in
     let rs : List Raw = flat_map (rectangle_records unit) t.shapes.rects in
     let ls : List Raw = flat_map (label_records unit) t.shapes.labels in
-    ap (λ (refs : List Ref). one_level below (file unit recs) (Some around) count (elements_of (placed at (rs ++ (flat_map (reference_records unit) refs ++ (ls ++ end)))))) plain
-    ∙ (rectangles_taken below recs (Some around) unit count f t.shapes.rects (ls ++ end) nothing_taken enough few (λ _. takes) are (labels_passed below recs around unit (count + length t.shapes.rects) t.shapes.labels behind) at count refl
-    ∙ ap (λ (u : Taken). Ok u) (sym (same_taken (rectangles (map (λ (s : Shape). record { layer = s.layer; rect = f s.rect }) t.shapes.rects)))))
+    ap (λ (refs : List Ref). one_level below (file unit recs) (Some origin) count (elements_of (placed at (rs ++ (flat_map (reference_records unit) refs ++ (ls ++ end)))))) plain
+    ∙ (rectangles_taken below recs (Some origin) unit count f t.shapes.rects (ls ++ end) no_progress enough few (λ _. takes) are (labels_passed below recs origin unit (count + length t.shapes.rects) t.shapes.labels behind) at count refl
+    ∙ ap (λ (u : Progress). Ok u) (sym (same_taken (rectangles (map (λ (s : Shape). record { layer = s.layer; rect = f s.rect }) t.shapes.rects)))))
 
 -- what a reference takes: itself, and rectangles
-abbrev pub one_and : List Shape → Taken
+abbrev pub one_and : List Shape → Progress
 one_and rects = record { shapes = record { rects = rects; labels = [] }; refs = 1 }
 
-copy_taken : (recs : List Item) (around : Around) (unit count : ℕ) (f : Rectangle → Rectangle) (t : Struct) (behind : List Raw) (at : ℕ) → 10 ≤ unit → t.refs ≡ [] → count + 1 + length t.shapes.rects ≤ 1000000 → Takes unit around.stands f → AreDrawn unit f t.shapes.rects → flat 16 (file unit recs) around count (elements_of (placed at (elements_records unit t behind))) ≡ Ok (one_and (map (λ (s : Shape). record { layer = s.layer; rect = f s.rect }) t.shapes.rects))
+copy_taken : (recs : List Item) (origin : Origin) (unit count : ℕ) (f : Rectangle → Rectangle) (t : Struct) (behind : List Raw) (at : ℕ) → 10 ≤ unit → t.refs ≡ [] → count + 1 + length t.shapes.rects ≤ 1000000 → Takes unit origin.stands f → AreDrawn unit f t.shapes.rects → flat 16 (file unit recs) origin count (elements_of (placed at (elements_records unit t behind))) ≡ Ok (one_and (map (λ (s : Shape). record { layer = s.layer; rect = f s.rect }) t.shapes.rects))
 unfolding flat
-copy_taken recs around unit count f t behind at enough plain few takes are =
+copy_taken recs origin unit count f t behind at enough plain few takes are =
     let elements : List Element = elements_of (placed at (elements_records unit t behind)) in
-    ap (λ (x : Result Taken GdsFault). x >>= λ one. one_level (flat 15 (file unit recs)) (file unit recs) (Some around) (count + 1) elements >>= λ rest. Ok (both one rest)) (within around.outer count one_reference (omega (arith, few)))
-    ∙ ap (λ (x : Result Taken GdsFault). x >>= λ rest. Ok (both one_reference rest)) (inside_taken (flat 15 (file unit recs)) recs around unit (count + 1) f t behind at enough plain (omega (arith, few)) takes are)
+    ap (λ (x : Result Progress GdsFault). x >>= λ one. one_level (flat 15 (file unit recs)) (file unit recs) (Some origin) (count + 1) elements >>= λ rest. Ok (both one rest)) (within origin.outer count one_reference (omega (arith, few)))
+    ∙ ap (λ (x : Result Progress GdsFault). x >>= λ rest. Ok (both one_reference rest)) (inside_taken (flat 15 (file unit recs)) recs origin unit (count + 1) f t behind at enough plain (omega (arith, few)) takes are)
 
 -- ---- one reference
 
@@ -114,14 +114,14 @@ target_back : (recs : List Item) (unit at : ℕ) (r : Ref) (rest target : List I
 target_back recs unit at r rest target whole found =
     ap (λ (n : List ℕ). the_one (behind_name n recs)) (padded_back r.name whole) ∙ ap (λ (t : List (List Item)). the_one t) found
 
-reference_taken : (recs : List Item) (unit at count : ℕ) (r : Ref) (t : Struct) (rest : List Item) → 10 ≤ unit → IsWritableRef unit r → HasNoZeroEnd r.name → IsReadableStruct unit t → t.refs ≡ [] → IsFound unit t (behind_name r.name recs) → count + 1 + length t.shapes.rects ≤ 1000000 → referred (flat 16 (file unit recs)) (file unit recs) (around_of None at) count (reference unit at r rest) record_type.SRef ≡ Ok (one_and (map (shape_moved r.x r.y) t.shapes.rects))
+reference_taken : (recs : List Item) (unit at count : ℕ) (r : Ref) (t : Struct) (rest : List Item) → 10 ≤ unit → IsWritableRef unit r → HasNoZeroEnd r.name → IsReadableStruct unit t → t.refs ≡ [] → IsFound unit t (behind_name r.name recs) → count + 1 + length t.shapes.rects ≤ 1000000 → referred (flat 16 (file unit recs)) (file unit recs) (origin_of None at) count (reference unit at r rest) record_type.SRef ≡ Ok (one_and (map (shape_moved r.x r.y) t.shapes.rects))
 reference_taken recs unit at count r t rest enough fits whole is plain found few =
     let below : Below = flat 16 (file unit recs) in
-    let around : Around = around_of None at in
+    let origin : Origin = origin_of None at in
     let target : List Item = placed found.at (elements_records unit t found.rest) in
-    ap (λ (x : Option (List Item)). or_fault x (fault.Reference at) >>= λ target. or_fault (array_of record_type.SRef (reference unit at r rest).inside) (fault.Reference at) >>= λ array. copies_of below around (elements_of target) array count) (target_back recs unit at r rest target whole found.is)
-    ∙ (ap (λ (x : Option Array). or_fault x (fault.Reference at) >>= λ array. copies_of below around (elements_of target) array count) (array_back unit at r rest fits)
-    ∙ one_copy below around (elements_of target) unit count r (one_and (map (shape_moved r.x r.y) t.shapes.rects)) (copy_taken recs (inside_copy around (copy_at (array unit r) 0 0)) unit count (rect_moved r.x r.y) t found.rest found.at enough plain few (takes_copy unit r) (moved_limits unit r t enough fits is)))
+    ap (λ (x : Option (List Item)). or_fault x (fault.Reference at) >>= λ target. or_fault (array_of record_type.SRef (reference unit at r rest).inside) (fault.Reference at) >>= λ array. copies_of below origin (elements_of target) array count) (target_back recs unit at r rest target whole found.is)
+    ∙ (ap (λ (x : Option Array). or_fault x (fault.Reference at) >>= λ array. copies_of below origin (elements_of target) array count) (array_back unit at r rest fits)
+    ∙ one_copy below origin (elements_of target) unit count r (one_and (map (shape_moved r.x r.y) t.shapes.rects)) (copy_taken recs (inside_copy origin (copy_at (array unit r) 0 0)) unit count (rect_moved r.x r.y) t found.rest found.at enough plain few (takes_copy unit r) (moved_limits unit r t enough fits is)))
 
 -- ---- all references of a structure
 
@@ -140,7 +140,7 @@ shown_are : (structs : List Struct) (unit : ℕ) (r : Ref) → AreReadable struc
 shown_are structs unit r are to =
     ap (λ (x : Option Struct). map (shape_moved r.x r.y) (rects_of x)) (sym (ap (structure_named structs) (sym to.named) ∙ named_is structs to.target are.different to.there))
 
-one_taken : (structs : List Struct) (unit at count : ℕ) (r : Ref) (rest : List Item) → AreReadable structs unit → IsWritableRef unit r → HasNoZeroEnd r.name → IsToPlain structs r → count + 1 + length (referred_rects structs r) ≤ 1000000 → referred (flat 16 (file unit (items unit structs))) (file unit (items unit structs)) (around_of None at) count (reference unit at r rest) record_type.SRef ≡ Ok (one_and (referred_rects structs r))
+one_taken : (structs : List Struct) (unit at count : ℕ) (r : Ref) (rest : List Item) → AreReadable structs unit → IsWritableRef unit r → HasNoZeroEnd r.name → IsToPlain structs r → count + 1 + length (referred_rects structs r) ≤ 1000000 → referred (flat 16 (file unit (items unit structs))) (file unit (items unit structs)) (origin_of None at) count (reference unit at r rest) record_type.SRef ≡ Ok (one_and (referred_rects structs r))
 one_taken structs unit at count r rest are fits whole to few =
     let shown : map (shape_moved r.x r.y) to.target.shapes.rects ≡ referred_rects structs r = shown_are structs unit r are to in
     let is : IsReadableStruct unit to.target = All-contains (IsReadableStruct unit) structs to.target are.each to.there in
@@ -149,16 +149,16 @@ one_taken structs unit at count r rest are fits whole to few =
     reference_taken (items unit structs) unit at count r to.target rest are.enough fits whole is to.plain found (omega (arith, few, size)) ∙ ap (λ (rects : List Shape). Ok (one_and rects)) shown
 
 -- so many references, and the rectangles that they show
-abbrev pub shown_by : List Struct → List Ref → Taken
+abbrev pub shown_by : List Struct → List Ref → Progress
 shown_by structs refs = record { shapes = record { rects = flat_map (referred_rects structs) refs; labels = [] }; refs = length refs }
 
-shown_more : (structs : List Struct) (r : Ref) (rs : List Ref) (t : Taken) → both (one_and (referred_rects structs r)) (both (shown_by structs rs) t) ≡ both (shown_by structs (r ∷ rs)) t
+shown_more : (structs : List Struct) (r : Ref) (rs : List Ref) (t : Progress) → both (one_and (referred_rects structs r)) (both (shown_by structs rs) t) ≡ both (shown_by structs (r ∷ rs)) t
 shown_more structs r rs t =
     ap (λ (rects : List Shape). record { shapes = record { rects = rects; labels = t.shapes.labels }; refs = 1 + (length rs + t.refs) }) (sym (append_assoc (referred_rects structs r) (flat_map (referred_rects structs) rs) t.shapes.rects))
     ∙ ap (λ (n : ℕ). record { shapes = record { rects = flat_map (referred_rects structs) (r ∷ rs) ++ t.shapes.rects; labels = t.shapes.labels }; refs = n }) (let e : 1 + (length rs + t.refs) ≡ length (r ∷ rs) + t.refs = omega arith in e)
 
-pub references_taken : (structs : List Struct) (unit count : ℕ) (refs : List Ref) (rest : List Raw) (t : Taken) → AreReadable structs unit → All (IsWritableRef unit) refs → All (λ (r : Ref). HasNoZeroEnd r.name) refs → All (IsToPlain structs) refs → count + (length (flat_map (referred_rects structs) refs) + length refs) ≤ 1000000 → TakesBehind (flat 16 (file unit (items unit structs))) (file unit (items unit structs)) None (count + (length (flat_map (referred_rects structs) refs) + length refs)) rest t → TakesBehind (flat 16 (file unit (items unit structs))) (file unit (items unit structs)) None count (flat_map (reference_records unit) refs ++ rest) (both (shown_by structs refs) t)
-references_taken structs unit count [] rest t are fits whole to few more at n same = more at n (omega (arith, same)) ∙ ap (λ (t : Taken). Ok t) (sym (nothing_more t))
+pub references_taken : (structs : List Struct) (unit count : ℕ) (refs : List Ref) (rest : List Raw) (t : Progress) → AreReadable structs unit → All (IsWritableRef unit) refs → All (λ (r : Ref). HasNoZeroEnd r.name) refs → All (IsToPlain structs) refs → count + (length (flat_map (referred_rects structs) refs) + length refs) ≤ 1000000 → TakesBehind (flat 16 (file unit (items unit structs))) (file unit (items unit structs)) None (count + (length (flat_map (referred_rects structs) refs) + length refs)) rest t → TakesBehind (flat 16 (file unit (items unit structs))) (file unit (items unit structs)) None count (flat_map (reference_records unit) refs ++ rest) (both (shown_by structs refs) t)
+references_taken structs unit count [] rest t are fits whole to few more at n same = more at n (omega (arith, same)) ∙ ap (λ (t : Progress). Ok t) (sym (nothing_more t))
 references_taken structs unit count (r ∷ rs) rest t are fits whole to few more at n same =
     let f : File = file unit (items unit structs) in
     let size : length (flat_map (referred_rects structs) (r ∷ rs)) ≡ length (referred_rects structs r) + length (flat_map (referred_rects structs) rs) = length-append (referred_rects structs r) (flat_map (referred_rects structs) rs) in
@@ -168,4 +168,4 @@ references_taken structs unit count (r ∷ rs) rest t are fits whole to few more
     let later : TakesBehind (flat 16 f) f None (count + (length one + 1)) (flat_map (reference_records unit) rs ++ rest) (both (shown_by structs rs) t) =
     references_taken structs unit (count + (length one + 1)) rs rest t are (All-tail (IsWritableRef unit) r rs fits) (All-tail (λ (r : Ref). HasNoZeroEnd r.name) r rs whole) (All-tail (IsToPlain structs) r rs to) (omega (arith, few, size)) (λ at n e. more at n (omega (arith, e, size))) in
     taken_more (flat 16 f) f None n (reference unit at r behind) (elements_of behind) (one_and one) (both (shown_by structs rs) t) (one_taken structs unit at n r behind are (All-head (IsWritableRef unit) r rs fits) (All-head (λ (r : Ref). HasNoZeroEnd r.name) r rs whole) (All-head (IsToPlain structs) r rs to) (omega (arith, few, size, same))) (later next (n + (length one + 1)) (omega (arith, same)))
-    ∙ ap (λ (t : Taken). Ok t) (shown_more structs r rs t)
+    ∙ ap (λ (t : Progress). Ok t) (shown_more structs r rs t)

@@ -10,15 +10,15 @@ use Rattle.gds_record.specs.Records.{Item}
 use Rattle.gds_area.specs.declared.fault.GdsFault.{GdsFault}
 use Rattle.gds_area.specs.declared.fault.GdsFault.TheVariants as fault
 use Rattle.gds_area.specs.declared.area.Area.{Area}
-use Rattle.gds_area.specs.declared.area.Pen.{Pen}
+use Rattle.gds_area.specs.declared.area.DrawContext.{DrawContext}
 use Rattle.gds_area.specs.declared.path.Reach.{Reach}
 use Rattle.gds_area.specs.declared.point.Point.{Point}
-use Rattle.gds_area.specs.declared.taken.Taken.{Taken}
+use Rattle.gds_area.specs.declared.progress.Progress.{Progress}
 use Rattle.gds_area.specs.Points.{has_slant, closed}
 use Rattle.gds_area.specs.EvenOdd.{inside_walk, boundary_rectangles}
 use Rattle.gds_area.specs.Paths.{path_areas}
 use Rattle.gds_area.specs.Areas.{area_of, has_some, shape_of, shapes_of}
-use Rattle.gds_area.specs.Taken.{nothing_taken, rectangles, both, amount, within_limit, in_order}
+use Rattle.gds_area.specs.Progress.{no_progress, rectangles, both, amount, within_limit, in_order}
 use Rattle.gds_area.proofs.Counting.{within, beyond}
 use Rattle.cell_num.specs.Steps.{◌>>=◌}
 use Rattle.gds_read.specs.Elements.{layer_of, xy_place, boundary_areas, areas_along, path_areas_of, drawn_on}
@@ -52,11 +52,11 @@ path_covered inside on some is told = told (xy_place inside) ∙ sym (ap (λ (o 
 
 -- ---- the limit
 
-pub record IsLimited (count : ℕ) (one got : Taken) : Type 0 where
+pub record IsLimited (count : ℕ) (one got : Progress) : Type 0 where
   pub is : got ≡ one
   pub few : count + amount got ≤ 1000000
 
-pub limited : (at count : ℕ) (one got : Taken) → within_limit at count one ≡ Ok got → IsLimited count one got
+pub limited : (at count : ℕ) (one got : Progress) → within_limit at count one ≡ Ok got → IsLimited count one got
 limited at count one got e = elim (cases_Bool (nat_lt 1000000 (count + amount one))) [
   | inl many ↦ absurd (fails (sym (beyond at count one (let l = ltb-true 1000000 (count + amount one) many in omega (arith, l))) ∙ e))
   | inr less ↦
@@ -65,39 +65,39 @@ limited at count one got e = elim (cases_Bool (nat_lt 1000000 (count + amount on
       record { is = is; few = let n = ap amount is in omega (arith, few, n) }
 ]
   where
-    fails : ◌≡◌ {A = Result Taken GdsFault} (Err (fault.Wide at)) (Ok got) → ⊥
+    fails : ◌≡◌ {A = Result Progress GdsFault} (Err (fault.Wide at)) (Ok got) → ⊥
     fails q = absurd cc
 
 -- ---- what a visit comes to
 
 -- What is taken leaves no more than the limit, if there was no more before.
-abbrev pub HasRoom : ℕ → Result Taken GdsFault → Type 0
-HasRoom count x = (one : Taken) → count ≤ 1000000 → x ≡ Ok one → count + amount one ≤ 1000000
+abbrev pub HasRoom : ℕ → Result Progress GdsFault → Type 0
+HasRoom count x = (one : Progress) → count ≤ 1000000 → x ≡ Ok one → count + amount one ≤ 1000000
 
 -- at least one rectangle or reference is taken
-abbrev pub TakesSome : Result Taken GdsFault → Type 0
-TakesSome x = (one : Taken) → x ≡ Ok one → 1 ≤ amount one
+abbrev pub TakesSome : Result Progress GdsFault → Type 0
+TakesSome x = (one : Progress) → x ≡ Ok one → 1 ≤ amount one
 
 -- An element that is looked at or not: a copy takes no labels.
-pub record IsVisit (labels looked : Bool) (count : ℕ) (x : Result Taken GdsFault) : Type 0 where
+pub record IsVisit (labels looked : Bool) (count : ℕ) (x : Result Progress GdsFault) : Type 0 where
   pub room : HasRoom count x
-  pub passed : looked ≡ false → count ≤ 1000000 → x ≡ Ok nothing_taken
+  pub passed : looked ≡ false → count ≤ 1000000 → x ≡ Ok no_progress
   pub counted : labels ≡ false → looked ≡ true → TakesSome x
 
-pub nothing : (labels : Bool) (count : ℕ) → IsVisit labels false count (Ok nothing_taken)
+pub nothing : (labels : Bool) (count : ℕ) → IsVisit labels false count (Ok no_progress)
 nothing labels count = record {
-  room = λ one few e. let n = ap amount (taken_is nothing_taken one e) in omega (arith, few, n);
+  room = λ one few e. let n = ap amount (taken_is no_progress one e) in omega (arith, few, n);
   passed = λ _ _. refl;
   counted = λ _ e one q. absurd cc;
 }
 
 -- ---- one after the other
 
-then_room : (count : ℕ) (x : Result Taken GdsFault) (rest : ℕ → Result Taken GdsFault) → HasRoom count x → ((n : ℕ) → HasRoom n (rest n)) → HasRoom count (x >>= λ one. rest (count + amount one) >>= λ more. Ok (both one more))
+then_room : (count : ℕ) (x : Result Progress GdsFault) (rest : ℕ → Result Progress GdsFault) → HasRoom count x → ((n : ℕ) → HasRoom n (rest n)) → HasRoom count (x >>= λ one. rest (count + amount one) >>= λ more. Ok (both one more))
 then_room count (Err f) rest room rooms one few e = absurd cc
 then_room count (Ok first) rest room rooms one few e = behind (rest (count + amount first)) (rooms (count + amount first)) e
   where
-    behind : (y : Result Taken GdsFault) → HasRoom (count + amount first) y → (y >>= λ more. Ok (both first more)) ≡ Ok one → count + amount one ≤ 1000000
+    behind : (y : Result Progress GdsFault) → HasRoom (count + amount first) y → (y >>= λ more. Ok (both first more)) ≡ Ok one → count + amount one ≤ 1000000
     behind (Err f) has q = absurd cc
     behind (Ok more) has q =
         let fit = has more (room first few refl) refl in
@@ -105,16 +105,16 @@ then_room count (Ok first) rest room rooms one few e = behind (rest (count + amo
         let m = amount_both first more in
         omega (arith, fit, n, m)
 
-pub ordered_room : {A : Type 0} (step : ℕ → A → Result Taken GdsFault) → ((n : ℕ) (x : A) → HasRoom n (step n x)) → (xs : List A) (count : ℕ) → HasRoom count (in_order step count xs)
+pub ordered_room : {A : Type 0} (step : ℕ → A → Result Progress GdsFault) → ((n : ℕ) (x : A) → HasRoom n (step n x)) → (xs : List A) (count : ℕ) → HasRoom count (in_order step count xs)
 unfolding in_order
-ordered_room step rooms [] count one few e = let n = ap amount (taken_is nothing_taken one e) in omega (arith, few, n)
+ordered_room step rooms [] count one few e = let n = ap amount (taken_is no_progress one e) in omega (arith, few, n)
 ordered_room step rooms (x ∷ xs) count one few e = then_room count (step count x) (λ n. in_order step n xs) (rooms count x) (ordered_room step rooms xs) one few e
 
-pub then_counts : (x : Result Taken GdsFault) (rest : Taken → Result Taken GdsFault) → TakesSome x → TakesSome (x >>= λ one. rest one >>= λ more. Ok (both one more))
+pub then_counts : (x : Result Progress GdsFault) (rest : Progress → Result Progress GdsFault) → TakesSome x → TakesSome (x >>= λ one. rest one >>= λ more. Ok (both one more))
 then_counts (Err f) rest some one e = absurd cc
 then_counts (Ok first) rest some one e = behind (rest first) e
   where
-    behind : (y : Result Taken GdsFault) → (y >>= λ more. Ok (both first more)) ≡ Ok one → 1 ≤ amount one
+    behind : (y : Result Progress GdsFault) → (y >>= λ more. Ok (both first more)) ≡ Ok one → 1 ≤ amount one
     behind (Err f) q = absurd cc
     behind (Ok more) q =
         let here = some first refl in
@@ -122,14 +122,14 @@ then_counts (Ok first) rest some one e = behind (rest first) e
         let m = amount_both first more in
         omega (arith, here, n, m)
 
-pub ordered_counts : (step : ℕ → ℕ → Result Taken GdsFault) → ((n x : ℕ) → TakesSome (step n x)) → (count most : ℕ) → 0 < most → TakesSome (in_order step count (range_with_len 0 most))
+pub ordered_counts : (step : ℕ → ℕ → Result Progress GdsFault) → ((n x : ℕ) → TakesSome (step n x)) → (count most : ℕ) → 0 < most → TakesSome (in_order step count (range_with_len 0 most))
 unfolding in_order
 ordered_counts step some count zero less one e = absurd (omega (arith, less))
 ordered_counts step some count (suc more) less one e = then_counts (step count 0) (λ first. in_order step (count + amount first) (range_with_len 1 more)) (some count 0) one e
 
 -- ---- boundaries and paths
 
-no_shape : (one : Taken) (f : GdsFault) → ◌≡◌ {A = Result Taken GdsFault} (Err f) (Ok one) → ⊥
+no_shape : (one : Progress) (f : GdsFault) → ◌≡◌ {A = Result Progress GdsFault} (Err f) (Ok one) → ⊥
 no_shape one f e = absurd cc
 
 put_down : (at count : ℕ) (x : Result (List Shape) GdsFault) → HasRoom count (x >>= λ rects. within_limit at count (rectangles rects))
@@ -141,18 +141,18 @@ some_put at count (Err f) y one e = absurd cc
 some_put at count (Ok s) (Err f) one e = absurd cc
 some_put at count (Ok s) (Ok ss) one e = let n = ap amount (limited at count (rectangles (s ∷ ss)) one e).is in omega (arith, n)
 
-pub drawn_visit : (labels : Bool) (at count : ℕ) (pen : Layer → Pen) (o : Option Layer) (areas : Result (List Area) GdsFault) → IsVisit labels (on_layer o (has_areas areas)) count (drawn_on at count (option_map pen o) areas)
-drawn_visit labels at count pen None areas = nothing labels count
-drawn_visit labels at count pen (Some on) (Err f) = record { room = λ one few e. absurd (no_shape one f e); passed = λ e. absurd cc; counted = λ _ _ one e. absurd (no_shape one f e) }
-drawn_visit labels at count pen (Some on) (Ok []) = record {
+pub drawn_visit : (labels : Bool) (at count : ℕ) (draw_context : Layer → DrawContext) (o : Option Layer) (areas : Result (List Area) GdsFault) → IsVisit labels (on_layer o (has_areas areas)) count (drawn_on at count (option_map draw_context o) areas)
+drawn_visit labels at count draw_context None areas = nothing labels count
+drawn_visit labels at count draw_context (Some on) (Err f) = record { room = λ one few e. absurd (no_shape one f e); passed = λ e. absurd cc; counted = λ _ _ one e. absurd (no_shape one f e) }
+drawn_visit labels at count draw_context (Some on) (Ok []) = record {
   room = put_down at count (Ok []);
   passed = λ _ few. within at count (rectangles []) (omega (arith, few));
   counted = λ _ e. absurd cc;
 }
-drawn_visit labels at count pen (Some on) (Ok (a ∷ xs)) = record {
-  room = put_down at count (shapes_of (pen on) (a ∷ xs));
+drawn_visit labels at count draw_context (Some on) (Ok (a ∷ xs)) = record {
+  room = put_down at count (shapes_of (draw_context on) (a ∷ xs));
   passed = λ e. absurd cc;
-  counted = λ _ _ one e. some_put at count (shape_of (pen on) a) (shapes_of (pen on) xs) one (told (shape_of (pen on) a) (shapes_of (pen on) xs) ∙ e);
+  counted = λ _ _ one e. some_put at count (shape_of (draw_context on) a) (shapes_of (draw_context on) xs) one (told (shape_of (draw_context on) a) (shapes_of (draw_context on) xs) ∙ e);
 }
   where
     told : (x : Result Shape GdsFault) (y : Result (List Shape) GdsFault) → (x >>= λ s. y >>= λ ss. Ok (s ∷ ss) >>= λ rects. within_limit at count (rectangles rects)) ≡ ((x >>= λ s. y >>= λ ss. Ok (s ∷ ss)) >>= λ rects. within_limit at count (rectangles rects))

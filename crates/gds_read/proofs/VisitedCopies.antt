@@ -10,11 +10,11 @@ use Rattle.gds_area.specs.declared.fault.GdsFault.{GdsFault}
 use Rattle.gds_area.specs.declared.fault.GdsFault.TheVariants as fault
 use Rattle.gds_area.specs.declared.units.Grid.{Grid}
 use Rattle.gds_area.specs.declared.point.Point.{Point}
-use Rattle.gds_area.specs.declared.taken.Taken.{Taken}
-use Rattle.gds_area.specs.declared.taken.Around.{Around}
-use Rattle.gds_area.specs.declared.taken.Frame.{Frame}
+use Rattle.gds_area.specs.declared.progress.Progress.{Progress}
+use Rattle.gds_area.specs.declared.progress.Origin.{Origin}
+use Rattle.gds_area.specs.declared.progress.Context.{Context}
 use Rattle.gds_area.specs.Points.{point_at}
-use Rattle.gds_area.specs.Taken.{plain, nothing_taken, one_reference, both, amount, within_limit, around_of}
+use Rattle.gds_area.specs.Progress.{plain, no_progress, one_reference, both, amount, within_limit, origin_of}
 use Rattle.cell_num.specs.Steps.{◌>>=◌, or_fault}
 use Rattle.gds_read.specs.declared.label.Spot.{Spot}
 use Rattle.gds_read.specs.declared.lattice.Counts.{Counts}
@@ -23,9 +23,9 @@ use Rattle.gds_read.specs.declared.reference.Facing.{Facing}
 use Rattle.gds_read.specs.declared.reference.Array.{Array}
 use Rattle.gds_read.specs.Structure.{trimmed}
 use Rattle.gds_read.specs.References.{counts_of, two_counts, counts_told, has_steps, lattice_on, single, may_stand, lattice_of, facing_on, facing_of, data_in, repeats, array_of, target_in, copy_at}
-use Rattle.gds_read.specs.Elements.{Element, until, elements_of, layer_of, xy_place, xy_of, content_of, areas_of, pen_of, text_spot, with_label}
+use Rattle.gds_read.specs.Elements.{Element, until, elements_of, layer_of, xy_place, xy_of, content_of, areas_of, draw_context_of, text_spot, with_label}
 use Rattle.gds_read.specs.Index.{covers, element_draws, draws}
-use Rattle.gds_read.specs.Flat.{File, Below, file_of, inside_copy, row_of, copies_of, referred, text_by, element_by, one_level, flat, record_in, drawn_around, in_copy}
+use Rattle.gds_read.specs.Flat.{File, Below, file_of, inside_copy, row_of, copies_of, referred, text_by, element_by, one_level, flat, record_in, drawn_from, in_copy}
 use Rattle.gds_read.proofs.Drawings.{amount_both, taken_is}
 use Rattle.gds_read.proofs.Visited.{limited, HasRoom, TakesSome, IsVisit, nothing, ordered_room, then_counts, ordered_counts, drawn_visit}
 
@@ -96,28 +96,28 @@ copies_hold false (Some f) (Some at) has = has
 -- ---- what a structure draws where it is referred to
 
 record IsBelow (below : Below) : Type 0 where
-  room : (around : Around) (count : ℕ) (es : List Element) → HasRoom count (below around count es)
-  counted : (around : Around) (count : ℕ) (es : List Element) → TakesSome (below around count es)
+  room : (origin : Origin) (count : ℕ) (es : List Element) → HasRoom count (below origin count es)
+  counted : (origin : Origin) (count : ℕ) (es : List Element) → TakesSome (below origin count es)
 
-row_room : (below : Below) (around : Around) (es : List Element) (array : Array) → IsBelow below → (count row : ℕ) → HasRoom count (row_of below around es array count row)
-row_room below around es array is count row = ordered_room (λ n column. below (inside_copy around (copy_at array column row)) n es) (λ n column. is.room (inside_copy around (copy_at array column row)) n es) _ count
+row_room : (below : Below) (origin : Origin) (es : List Element) (array : Array) → IsBelow below → (count row : ℕ) → HasRoom count (row_of below origin es array count row)
+row_room below origin es array is count row = ordered_room (λ n column. below (inside_copy origin (copy_at array column row)) n es) (λ n column. is.room (inside_copy origin (copy_at array column row)) n es) _ count
 
-row_counts : (below : Below) (around : Around) (es : List Element) (array : Array) → IsBelow below → 0 < array.lattice.columns → (count row : ℕ) → TakesSome (row_of below around es array count row)
-row_counts below around es array is some count row = ordered_counts (λ n column. below (inside_copy around (copy_at array column row)) n es) (λ n column. is.counted (inside_copy around (copy_at array column row)) n es) count array.lattice.columns some
+row_counts : (below : Below) (origin : Origin) (es : List Element) (array : Array) → IsBelow below → 0 < array.lattice.columns → (count row : ℕ) → TakesSome (row_of below origin es array count row)
+row_counts below origin es array is some count row = ordered_counts (λ n column. below (inside_copy origin (copy_at array column row)) n es) (λ n column. is.counted (inside_copy origin (copy_at array column row)) n es) count array.lattice.columns some
 
 refused : (labels : Bool) (count : ℕ) (f : GdsFault) → IsVisit labels true count (Err f)
 refused labels count f = record { room = λ one few e. absurd cc; passed = λ e. absurd cc; counted = λ _ _ one e. absurd cc }
 
-referred_visit : (labels : Bool) (below : Below) (file : File) (around : Around) (count : ℕ) (e : Element) (kind : RecordType) → IsBelow below → HasLattice (lattice_of kind (xy_of e.inside) (data_in record_type.ColRow e.inside)) → IsVisit labels true count (referred below file around count e kind)
-referred_visit labels below file around count e kind is has = by (target_in file.records e.inside) (array_of kind e.inside) (copies_hold (repeats e.inside) (facing_of e.inside) (lattice_of kind (xy_of e.inside) (data_in record_type.ColRow e.inside)) has)
+referred_visit : (labels : Bool) (below : Below) (file : File) (origin : Origin) (count : ℕ) (e : Element) (kind : RecordType) → IsBelow below → HasLattice (lattice_of kind (xy_of e.inside) (data_in record_type.ColRow e.inside)) → IsVisit labels true count (referred below file origin count e kind)
+referred_visit labels below file origin count e kind is has = by (target_in file.records e.inside) (array_of kind e.inside) (copies_hold (repeats e.inside) (facing_of e.inside) (lattice_of kind (xy_of e.inside) (data_in record_type.ColRow e.inside)) has)
   where
-    by : (t : Option (List Item)) (a : Option Array) → HasCopies a → IsVisit labels true count (or_fault t (fault.Reference e.at) >>= λ target. or_fault a (fault.Reference e.at) >>= λ array. copies_of below around (elements_of target) array count)
+    by : (t : Option (List Item)) (a : Option Array) → HasCopies a → IsVisit labels true count (or_fault t (fault.Reference e.at) >>= λ target. or_fault a (fault.Reference e.at) >>= λ array. copies_of below origin (elements_of target) array count)
     by None a some = refused labels count (fault.Reference e.at)
     by (Some t) None some = refused labels count (fault.Reference e.at)
     by (Some t) (Some array) some = record {
-      room = ordered_room (λ n row. row_of below around (elements_of t) array n row) (row_room below around (elements_of t) array is) _ count;
+      room = ordered_room (λ n row. row_of below origin (elements_of t) array n row) (row_room below origin (elements_of t) array is) _ count;
       passed = λ q. absurd cc;
-      counted = λ _ _. ordered_counts (λ n row. row_of below around (elements_of t) array n row) (row_counts below around (elements_of t) array is some.0) count array.lattice.rows some.1;
+      counted = λ _ _. ordered_counts (λ n row. row_of below origin (elements_of t) array n row) (row_counts below origin (elements_of t) array is some.0) count array.lattice.rows some.1;
     }
 
 -- ---- an element
@@ -126,63 +126,63 @@ label_room : (count : ℕ) (name : List ℕ) (o : Option Spot) → HasRoom count
 label_room count name None one few e = let n = ap amount (taken_is (plain (with_label name None)) one e) in omega (arith, few, n)
 label_room count name (Some spot) one few e = let n = ap amount (taken_is (plain (with_label name (Some spot))) one e) in omega (arith, few, n)
 
-text_room : (grid : Grid) (around : Option Around) (count : ℕ) (e : Element) → HasRoom count (text_by grid around e)
-text_room grid (Some around) count e = (nothing true count).room
+text_room : (grid : Grid) (origin : Option Origin) (count : ℕ) (e : Element) → HasRoom count (text_by grid origin e)
+text_room grid (Some origin) count e = (nothing true count).room
 text_room grid None count e = by (text_spot grid e)
   where
     by : (x : Result (Option Spot) GdsFault) → HasRoom count (x >>= λ spot. Ok (plain (with_label (trimmed (content_of record_type.StringText e.inside)) spot)))
     by (Err f) one few q = absurd cc
     by (Ok spot) one few q = label_room count (trimmed (content_of record_type.StringText e.inside)) spot one few q
 
-text_visit : (labels : Bool) (grid : Grid) (around : Option Around) (count : ℕ) (e : Element) → (labels ≡ false → text_by grid around e ≡ Ok nothing_taken) → IsVisit labels labels count (text_by grid around e)
-text_visit true grid around count e quiet = record { room = text_room grid around count e; passed = λ q. absurd cc; counted = λ q. absurd cc }
-text_visit false grid around count e quiet = record { room = text_room grid around count e; passed = λ q few. quiet q; counted = λ _ q. absurd cc }
+text_visit : (labels : Bool) (grid : Grid) (origin : Option Origin) (count : ℕ) (e : Element) → (labels ≡ false → text_by grid origin e ≡ Ok no_progress) → IsVisit labels labels count (text_by grid origin e)
+text_visit true grid origin count e quiet = record { room = text_room grid origin count e; passed = λ q. absurd cc; counted = λ q. absurd cc }
+text_visit false grid origin count e quiet = record { room = text_room grid origin count e; passed = λ q few. quiet q; counted = λ _ q. absurd cc }
 
-areas_visit : (labels : Bool) (grid : Grid) (around : Around) (count : ℕ) (inside : List Item) (kind : RecordType) → IsVisit labels (covers kind inside) count (drawn_around grid around count inside kind)
-areas_visit labels grid around count inside kind = drawn_visit labels around.outer count (pen_of grid around.stands inside) (layer_of inside) (areas_of (xy_place inside) inside kind)
+areas_visit : (labels : Bool) (grid : Grid) (origin : Origin) (count : ℕ) (inside : List Item) (kind : RecordType) → IsVisit labels (covers kind inside) count (drawn_from grid origin count inside kind)
+areas_visit labels grid origin count inside kind = drawn_visit labels origin.outer count (draw_context_of grid origin.stands inside) (layer_of inside) (areas_of (xy_place inside) inside kind)
 
-element_visit : (labels : Bool) (below : Below) (file : File) (around : Option Around) (count : ℕ) (e : Element) (kind : RecordType) → IsBelow below → (labels ≡ false → text_by file.grid around e ≡ Ok nothing_taken) → IsVisit labels (element_draws labels kind e.inside) count (element_by below file around count e kind)
-element_visit labels below file around count e record_type.Boundary is quiet = areas_visit labels file.grid (around_of around e.at) count e.inside record_type.Boundary
-element_visit labels below file around count e record_type.Path is quiet = areas_visit labels file.grid (around_of around e.at) count e.inside record_type.Path
-element_visit labels below file around count e record_type.Text is quiet = text_visit labels file.grid around count e quiet
-element_visit labels below file around count e record_type.SRef is quiet = referred_visit labels below file (around_of around e.at) count e record_type.SRef is (single_holds (xy_of e.inside) (data_in record_type.ColRow e.inside))
-element_visit labels below file around count e record_type.ARef is quiet = referred_visit labels below file (around_of around e.at) count e record_type.ARef is (array_holds (xy_of e.inside) (data_in record_type.ColRow e.inside))
-element_visit labels below file around count e record_type.Header is quiet = nothing labels count
-element_visit labels below file around count e record_type.BgnLib is quiet = nothing labels count
-element_visit labels below file around count e record_type.LibName is quiet = nothing labels count
-element_visit labels below file around count e record_type.Units is quiet = nothing labels count
-element_visit labels below file around count e record_type.EndLib is quiet = nothing labels count
-element_visit labels below file around count e record_type.BgnStr is quiet = nothing labels count
-element_visit labels below file around count e record_type.StrName is quiet = nothing labels count
-element_visit labels below file around count e record_type.EndStr is quiet = nothing labels count
-element_visit labels below file around count e record_type.Node is quiet = nothing labels count
-element_visit labels below file around count e record_type.Box is quiet = nothing labels count
-element_visit labels below file around count e record_type.Layer is quiet = nothing labels count
-element_visit labels below file around count e record_type.DataType is quiet = nothing labels count
-element_visit labels below file around count e record_type.Width is quiet = nothing labels count
-element_visit labels below file around count e record_type.Xy is quiet = nothing labels count
-element_visit labels below file around count e record_type.SName is quiet = nothing labels count
-element_visit labels below file around count e record_type.ColRow is quiet = nothing labels count
-element_visit labels below file around count e record_type.TextType is quiet = nothing labels count
-element_visit labels below file around count e record_type.Presentation is quiet = nothing labels count
-element_visit labels below file around count e record_type.StringText is quiet = nothing labels count
-element_visit labels below file around count e record_type.STrans is quiet = nothing labels count
-element_visit labels below file around count e record_type.Mag is quiet = nothing labels count
-element_visit labels below file around count e record_type.Angle is quiet = nothing labels count
-element_visit labels below file around count e record_type.PathType is quiet = nothing labels count
-element_visit labels below file around count e record_type.PropAttr is quiet = nothing labels count
-element_visit labels below file around count e record_type.PropValue is quiet = nothing labels count
-element_visit labels below file around count e record_type.EndEl is quiet = nothing labels count
+element_visit : (labels : Bool) (below : Below) (file : File) (origin : Option Origin) (count : ℕ) (e : Element) (kind : RecordType) → IsBelow below → (labels ≡ false → text_by file.grid origin e ≡ Ok no_progress) → IsVisit labels (element_draws labels kind e.inside) count (element_by below file origin count e kind)
+element_visit labels below file origin count e record_type.Boundary is quiet = areas_visit labels file.grid (origin_of origin e.at) count e.inside record_type.Boundary
+element_visit labels below file origin count e record_type.Path is quiet = areas_visit labels file.grid (origin_of origin e.at) count e.inside record_type.Path
+element_visit labels below file origin count e record_type.Text is quiet = text_visit labels file.grid origin count e quiet
+element_visit labels below file origin count e record_type.SRef is quiet = referred_visit labels below file (origin_of origin e.at) count e record_type.SRef is (single_holds (xy_of e.inside) (data_in record_type.ColRow e.inside))
+element_visit labels below file origin count e record_type.ARef is quiet = referred_visit labels below file (origin_of origin e.at) count e record_type.ARef is (array_holds (xy_of e.inside) (data_in record_type.ColRow e.inside))
+element_visit labels below file origin count e record_type.Header is quiet = nothing labels count
+element_visit labels below file origin count e record_type.BgnLib is quiet = nothing labels count
+element_visit labels below file origin count e record_type.LibName is quiet = nothing labels count
+element_visit labels below file origin count e record_type.Units is quiet = nothing labels count
+element_visit labels below file origin count e record_type.EndLib is quiet = nothing labels count
+element_visit labels below file origin count e record_type.BgnStr is quiet = nothing labels count
+element_visit labels below file origin count e record_type.StrName is quiet = nothing labels count
+element_visit labels below file origin count e record_type.EndStr is quiet = nothing labels count
+element_visit labels below file origin count e record_type.Node is quiet = nothing labels count
+element_visit labels below file origin count e record_type.Box is quiet = nothing labels count
+element_visit labels below file origin count e record_type.Layer is quiet = nothing labels count
+element_visit labels below file origin count e record_type.DataType is quiet = nothing labels count
+element_visit labels below file origin count e record_type.Width is quiet = nothing labels count
+element_visit labels below file origin count e record_type.Xy is quiet = nothing labels count
+element_visit labels below file origin count e record_type.SName is quiet = nothing labels count
+element_visit labels below file origin count e record_type.ColRow is quiet = nothing labels count
+element_visit labels below file origin count e record_type.TextType is quiet = nothing labels count
+element_visit labels below file origin count e record_type.Presentation is quiet = nothing labels count
+element_visit labels below file origin count e record_type.StringText is quiet = nothing labels count
+element_visit labels below file origin count e record_type.STrans is quiet = nothing labels count
+element_visit labels below file origin count e record_type.Mag is quiet = nothing labels count
+element_visit labels below file origin count e record_type.Angle is quiet = nothing labels count
+element_visit labels below file origin count e record_type.PathType is quiet = nothing labels count
+element_visit labels below file origin count e record_type.PropAttr is quiet = nothing labels count
+element_visit labels below file origin count e record_type.PropValue is quiet = nothing labels count
+element_visit labels below file origin count e record_type.EndEl is quiet = nothing labels count
 
 -- ---- so many references may stand in each other
 
 one_copy : (outer count : ℕ) → TakesSome (within_limit outer count one_reference)
 one_copy outer count one e = let n = ap amount (limited outer count one_reference one e).is in omega (arith, n)
 
-copy_room : (outer count : ℕ) (rest : Result Taken GdsFault) → HasRoom (count + 1) rest → HasRoom count (within_limit outer count one_reference >>= λ one. rest >>= λ more. Ok (both one more))
+copy_room : (outer count : ℕ) (rest : Result Progress GdsFault) → HasRoom (count + 1) rest → HasRoom count (within_limit outer count one_reference >>= λ one. rest >>= λ more. Ok (both one more))
 copy_room outer count rest has one few e = by (within_limit outer count one_reference) refl rest has e
   where
-    by : (x : Result Taken GdsFault) → within_limit outer count one_reference ≡ x → (y : Result Taken GdsFault) → HasRoom (count + 1) y → (x >>= λ one. y >>= λ more. Ok (both one more)) ≡ Ok one → count + amount one ≤ 1000000
+    by : (x : Result Progress GdsFault) → within_limit outer count one_reference ≡ x → (y : Result Progress GdsFault) → HasRoom (count + 1) y → (x >>= λ one. y >>= λ more. Ok (both one more)) ≡ Ok one → count + amount one ≤ 1000000
     by (Err f) p y fits q = absurd cc
     by (Ok first) p (Err f) fits q = absurd cc
     by (Ok first) p (Ok more) fits q =
@@ -195,23 +195,23 @@ copy_room outer count rest has one few e = by (within_limit outer count one_refe
 
 flat_below : (levels : ℕ) (file : File) → IsBelow (flat levels file)
 unfolding flat
-flat_below zero file = record { room = λ around count es one few e. absurd cc; counted = λ around count es one e. absurd cc }
+flat_below zero file = record { room = λ origin count es one few e. absurd cc; counted = λ origin count es one e. absurd cc }
 flat_below (suc levels) file = from (flat_below levels file)
   where
     from : IsBelow (flat levels file) → IsBelow (flat (suc levels) file)
     from is = record {
-      room = λ around count es. copy_room around.outer count (one_level (flat levels file) file (Some around) (count + 1) es)
-          (ordered_room (λ n e. element_by (flat levels file) file (Some around) n e e.kind) (λ n e. (element_visit false (flat levels file) file (Some around) n e e.kind is (λ _. refl)).room) es (count + 1));
-      counted = λ around count es. then_counts (within_limit around.outer count one_reference) (λ one. one_level (flat levels file) file (Some around) (count + 1) es) (one_copy around.outer count);
+      room = λ origin count es. copy_room origin.outer count (one_level (flat levels file) file (Some origin) (count + 1) es)
+          (ordered_room (λ n e. element_by (flat levels file) file (Some origin) n e e.kind) (λ n e. (element_visit false (flat levels file) file (Some origin) n e e.kind is (λ _. refl)).room) es (count + 1));
+      counted = λ origin count es. then_counts (within_limit origin.outer count one_reference) (λ one. one_level (flat levels file) file (Some origin) (count + 1) es) (one_copy origin.outer count);
     }
 
 -- ---- a record
 
-pub visit : (bytes : List ℕ) (frame : Frame) (labels : Bool) (count : ℕ) (r : Item) (rs : List Item) (o : Option RecordType) → (labels ≡ false → (e : Element) → text_by frame.grid frame.around e ≡ Ok nothing_taken) → IsVisit labels (draws labels o rs) count (record_in bytes frame count r rs o)
-visit bytes frame labels count r rs None quiet = nothing labels count
-visit bytes frame labels count r rs (Some kind) quiet =
+pub visit : (bytes : List ℕ) (context : Context) (labels : Bool) (count : ℕ) (r : Item) (rs : List Item) (o : Option RecordType) → (labels ≡ false → (e : Element) → text_by context.grid context.origin e ≡ Ok no_progress) → IsVisit labels (draws labels o rs) count (record_in bytes context count r rs o)
+visit bytes context labels count r rs None quiet = nothing labels count
+visit bytes context labels count r rs (Some kind) quiet =
     let e : Element = record { kind = kind; at = r.at; inside = until record_type.EndEl rs } in
-    element_visit labels (flat frame.levels (file_of frame.grid bytes)) (file_of frame.grid bytes) frame.around count e kind (flat_below frame.levels (file_of frame.grid bytes)) (λ q. quiet q e)
+    element_visit labels (flat context.levels (file_of context.grid bytes)) (file_of context.grid bytes) context.origin count e kind (flat_below context.levels (file_of context.grid bytes)) (λ q. quiet q e)
 
-pub copy_visit : (bytes : List ℕ) (grid : Grid) (levels : ℕ) (around : Around) (count : ℕ) (r : Item) (rs : List Item) → IsVisit false (draws false (type_numbered r.code) rs) count (in_copy bytes grid levels around count r rs)
-copy_visit bytes grid levels around count r rs = visit bytes (record { grid = grid; around = Some around; levels = levels }) false count r rs (type_numbered r.code) (λ _ e. refl)
+pub copy_visit : (bytes : List ℕ) (grid : Grid) (levels : ℕ) (origin : Origin) (count : ℕ) (r : Item) (rs : List Item) → IsVisit false (draws false (type_numbered r.code) rs) count (in_copy bytes grid levels origin count r rs)
+copy_visit bytes grid levels origin count r rs = visit bytes (record { grid = grid; origin = Some origin; levels = levels }) false count r rs (type_numbered r.code) (λ _ e. refl)

@@ -11,8 +11,8 @@ use Rattle.cell_num.specs.Steps.{◌>>=◌}
 use Rattle.gds_read.specs.Grammar.{first_pass_of}
 use Rattle.gds_read.specs.Library.{IsLibrary, IsFirstFault}
 use Rattle.gds_read.specs.Structure.{found_in, one_of}
-use Rattle.gds_area.specs.declared.taken.Taken.{Taken}
-use Rattle.gds_area.specs.Taken.{amount}
+use Rattle.gds_area.specs.declared.progress.Progress.{Progress}
+use Rattle.gds_area.specs.Progress.{amount}
 use Rattle.gds_read.specs.Elements.{Element, until, content_of, elements_of}
 use Rattle.gds_read.specs.Flat.{File, file_of, drawn_by, drawn}
 
@@ -37,7 +37,7 @@ decoded bytes name lambda =
     first_pass_of bytes
     >>= λ end. one_of name (found_in bytes name)
     >>= λ records. drawn (file_in bytes lambda) 0 (elements_of records)
-    >>= λ taken. Ok taken.shapes
+    >>= λ progress. Ok progress.shapes
 
 abbrev pub Decodes : List ℕ → List ℕ → ℕ → Shapes → Type 0
 Decodes bytes name lambda shapes = decoded bytes name lambda ≡ Ok shapes
@@ -64,12 +64,12 @@ pub record IsCell (bytes name : List ℕ) (lambda : ℕ) (shapes : Shapes) : Typ
 -- and references stand before it.
 pub record IsFirstFaulty (file : File) (elements : List Element) (f : GdsFault) : Type 0 where
   pub before : List Element
-  pub taken : Taken
+  pub progress : Progress
   pub faulty : Element
   pub behind : List Element
   pub is : elements ≡ before ++ (faulty ∷ behind)
-  pub drawn_before : drawn file 0 before ≡ Ok taken
-  pub fault : drawn_by file (amount taken) faulty faulty.kind ≡ Err f
+  pub drawn_before : drawn file 0 before ≡ Ok progress
+  pub fault : drawn_by file (amount progress) faulty faulty.kind ≡ Err f
 
 -- the bytes are a library, but no structure has the name
 pub record HasNoCell (bytes name : List ℕ) (f : GdsFault) : Type 0 where

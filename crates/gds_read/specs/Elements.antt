@@ -12,13 +12,13 @@ use Rattle.gds_area.specs.declared.fault.GdsFault.{GdsFault}
 use Rattle.gds_area.specs.declared.fault.GdsFault.TheVariants as fault
 use Rattle.gds_area.specs.declared.units.Grid.{Grid}
 use Rattle.gds_area.specs.declared.area.Area.{Area}
-use Rattle.gds_area.specs.declared.area.Pen.{Pen}
+use Rattle.gds_area.specs.declared.area.DrawContext.{DrawContext}
 use Rattle.gds_area.specs.declared.path.Reach.{Reach}
 use Rattle.gds_area.specs.declared.point.Point.{Point}
 use Rattle.gds_read.specs.declared.label.Spot.{Spot}
 use Rattle.gds_area.specs.declared.placement.Move.{Move}
-use Rattle.gds_area.specs.declared.taken.Taken.{Taken}
-use Rattle.gds_area.specs.Taken.{nothing_drawn, nothing_taken, rectangles, within_limit}
+use Rattle.gds_area.specs.declared.progress.Progress.{Progress}
+use Rattle.gds_area.specs.Progress.{nothing_drawn, no_progress, rectangles, within_limit}
 use Rattle.gds_area.specs.Units.{floor_units_of}
 use Rattle.gds_read.specs.Structure.{is_type}
 use Rattle.gds_area.specs.Points.{signed_at, points_of, has_slant, closed}
@@ -118,16 +118,16 @@ areas_of at inside record_type.Boundary = boundary_areas at (points_of (xy_of in
 areas_of at inside record_type.Path = path_areas_of at inside
 areas_of at inside _ = Ok []
 
-abbrev pub pen_of : Grid → Move → List Item → Layer → Pen
-pen_of grid stands inside on = record { grid = grid; stands = stands; layer = on; at = xy_place inside }
+abbrev pub draw_context_of : Grid → Move → List Item → Layer → DrawContext
+draw_context_of grid stands inside on = record { grid = grid; stands = stands; layer = on; at = xy_place inside }
 
 -- What is on a layer of the drawing is drawn.
-abbrev pub drawn_on : ℕ → ℕ → Option Pen → Result (List Area) GdsFault → Result Taken GdsFault
-drawn_on at count None areas = Ok nothing_taken
-drawn_on at count (Some pen) areas = areas >>= λ list. shapes_of pen list >>= λ rects. within_limit at count (rectangles rects)
+abbrev pub drawn_on : ℕ → ℕ → Option DrawContext → Result (List Area) GdsFault → Result Progress GdsFault
+drawn_on at count None areas = Ok no_progress
+drawn_on at count (Some draw_context) areas = areas >>= λ list. shapes_of draw_context list >>= λ rects. within_limit at count (rectangles rects)
 
-abbrev pub pen_for : Grid → Move → List Item → Option Pen
-pen_for grid stands inside = option_map (pen_of grid stands inside) (layer_of inside)
+abbrev pub draw_context_for : Grid → Move → List Item → Option DrawContext
+draw_context_for grid stands inside = option_map (draw_context_of grid stands inside) (layer_of inside)
 
 -- ---- labels
 

@@ -1,7 +1,7 @@
 // Labels.
 ghost use Rattle.std.specs.Prelude.{◌≡◌, ◌≤◌, ◌<◌, length, None, OnOk};
 ghost use Rattle.gds_record.specs.declared.types.RecordType.TheVariants as record_type;
-ghost use Rattle.gds_area.specs.Taken.{plain, both, amount, Adds};
+ghost use Rattle.gds_area.specs.Progress.{plain, both, amount, Adds};
 ghost use Rattle.gds_read.specs.Flat.{text_by};
 ghost use Rattle.gds_read.specs.Elements.{element_of, spot_of, text_spot, with_label};
 
@@ -9,7 +9,7 @@ use crate::field::{element_content, element_layer, field_place};
 use crate::structure::trim;
 use box_geom::{Label, Layer};
 use cell_num::{MOST_BYTES, NoMemory, copy};
-use gds_area::{GdsFault, Grid, MOST_RECTANGLES, Taken, floor_units, signed};
+use gds_area::{GdsFault, Grid, MOST_RECTANGLES, Progress, floor_units, signed};
 use gds_record::{GdsRec, RecordType};
 use std::alloc::Global;
 
@@ -57,11 +57,11 @@ fn text(bytes: &[u8], rec: &GdsRec, grid: &Grid) -> Result<Option<Spot>, GdsFaul
 // Adds a label, if there is one.
 fn add_label(
     alloc: Global,
-    taken: &mut Taken,
+    progress: &mut Progress,
     spot: Option<Spot>,
     name: &[u8],
 ) -> Result<(), NoMemory>
-    ensures { OnOk result (taken.new ≡ both taken.old (plain (with_label name.now spot))) }
+    ensures { OnOk result (progress.new ≡ both progress.old (plain (with_label name.now spot))) }
 {
     let Some(spot) = spot else {
         return Ok(());
@@ -73,7 +73,7 @@ fn add_label(
         y: spot.y,
         name,
     };
-    taken.shapes.labels.push(label)?;
+    progress.shapes.labels.push(label)?;
     Ok(())
 }
 
@@ -84,18 +84,18 @@ pub fn add_text(
     bytes: &[u8],
     rec: &GdsRec,
     grid: &Grid,
-    taken: &mut Taken,
+    progress: &mut Progress,
 ) -> Result<(), GdsFault>
     requires size { length bytes.now ≤ MOST_BYTES }
     requires place { rec.now.next ≤ length bytes.now }
     requires grid { 1 ≤ grid.now.lambda_nm }
-    requires room { amount taken.now ≤ MOST_RECTANGLES }
-    ensures adds { Adds result taken.old taken.new
+    requires room { amount progress.now ≤ MOST_RECTANGLES }
+    ensures adds { Adds result progress.old progress.new
         (text_by grid.now None (element_of bytes.now rec.now record_type.Text)) }
-    ensures room { OnOk result (amount taken.new ≤ MOST_RECTANGLES) }
+    ensures room { OnOk result (amount progress.new ≤ MOST_RECTANGLES) }
 {
     let spot = text(bytes, rec, grid)?;
     let name = element_content(bytes, rec.next, RecordType::StringText);
-    add_label(alloc, taken, spot, trim(name))?;
+    add_label(alloc, progress, spot, trim(name))?;
     Ok(())
 }

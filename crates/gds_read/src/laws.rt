@@ -17,9 +17,9 @@ ghost use Rattle.gds_area.specs.declared.units.Grid.{Grid};
 ghost use Rattle.gds_area.specs.EvenOdd.{IsInside, boundary_rectangles};
 ghost use Rattle.gds_area.specs.Units.{floor_units_of};
 ghost use Rattle.gds_read.specs.Drawn.{AreWalksOf, IsRunOf, IsBefore, IsFloor};
-ghost use Rattle.gds_area.specs.declared.taken.Taken.{Taken};
-ghost use Rattle.gds_area.specs.declared.taken.Around.{Around};
-ghost use Rattle.gds_area.specs.Taken.{nothing_taken, amount};
+ghost use Rattle.gds_area.specs.declared.progress.Progress.{Progress};
+ghost use Rattle.gds_area.specs.declared.progress.Origin.{Origin};
+ghost use Rattle.gds_area.specs.Progress.{no_progress, amount};
 ghost use Rattle.gds_read.specs.Index.{draws};
 ghost use Rattle.gds_read.specs.Flat.{in_copy};
 
@@ -76,10 +76,10 @@ pub fn drawn_elements()
 /// to what is listed takes a rectangle or a reference at least, or ends with a fault, so there are at most 1,000,000
 /// such visits and that one. It does nothing: its contract is the law.
 pub fn visited_elements()
-    ensures passed { (bytes : List ℕ) (grid : Grid) (levels : ℕ) (around : Around) (count : ℕ) (r : Item)
+    ensures passed { (bytes : List ℕ) (grid : Grid) (levels : ℕ) (origin : Origin) (count : ℕ) (r : Item)
         (rs : List Item) → count ≤ 1000000 → draws false (type_numbered r.code) rs ≡ false
-        → in_copy bytes grid levels around count r rs ≡ Ok nothing_taken }
-    ensures counted { (bytes : List ℕ) (grid : Grid) (levels : ℕ) (around : Around) (count : ℕ) (r : Item)
-        (rs : List Item) (one : Taken) → draws false (type_numbered r.code) rs ≡ true
-        → in_copy bytes grid levels around count r rs ≡ Ok one → 1 ≤ amount one }
+        → in_copy bytes grid levels origin count r rs ≡ Ok no_progress }
+    ensures counted { (bytes : List ℕ) (grid : Grid) (levels : ℕ) (origin : Origin) (count : ℕ) (r : Item)
+        (rs : List Item) (one : Progress) → draws false (type_numbered r.code) rs ≡ true
+        → in_copy bytes grid levels origin count r rs ≡ Ok one → 1 ≤ amount one }
 {}

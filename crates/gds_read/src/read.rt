@@ -12,7 +12,7 @@ use crate::real::picometres_at_place;
 use crate::structure::{Lookup, find_structure};
 use box_geom::Shapes;
 use cell_num::{MOST_BYTES, Name};
-use gds_area::{Frame, GdsFault, Grid, MOST_LEVELS, MOST_PICOMETRES, none_taken};
+use gds_area::{Context, GdsFault, Grid, MOST_LEVELS, MOST_PICOMETRES, no_progress};
 use gds_record::RecordType;
 use std::alloc::Global;
 
@@ -40,7 +40,7 @@ fn grid_of(bytes: &[u8], lambda_nm: u32) -> Grid
 }
 
 // What the elements draw that stand behind a place, up to the end of the structure.
-#[tactic(auto, using(crate::proofs::Listed::gives_listed, crate::proofs::Drawings::gives_fault, crate::proofs::Copied::own_frame))]
+#[tactic(auto, using(crate::proofs::Listed::gives_listed, crate::proofs::Drawings::gives_fault, crate::proofs::Copied::own_context))]
 fn read_elements(alloc: Global, bytes: &[u8], place: u64, grid: &Grid) -> Result<Shapes, GdsFault>
     requires size { length bytes.now ≤ MOST_BYTES }
     requires place { place ≤ length bytes.now }
@@ -48,16 +48,23 @@ fn read_elements(alloc: Global, bytes: &[u8], place: u64, grid: &Grid) -> Result
     requires unit { grid.now.picometres ≤ MOST_PICOMETRES }
     ensures { Gives result (drawn (file_of grid.now bytes.now) 0 (elements_of (items_from bytes.now place))) }
 {
-    let frame = Frame {
+    let context = Context {
         grid: *grid,
-        around: None,
+        origin: None,
         levels: MOST_LEVELS,
     };
     let index = read_index(alloc, bytes)?;
     let places = places_of(alloc, bytes, place, true)?;
-    let mut taken = none_taken(alloc);
-    add_elements(alloc, bytes, &index, places.as_slice(), &frame, &mut taken)?;
-    Ok(taken.shapes)
+    let mut progress = no_progress(alloc);
+    add_elements(
+        alloc,
+        bytes,
+        &index,
+        places.as_slice(),
+        &context,
+        &mut progress,
+    )?;
+    Ok(progress.shapes)
 }
 
 // The structure's name stands twice.

@@ -14,7 +14,7 @@ use Rattle.box_geom.specs.declared.shape.Shapes.{Shapes}
 use Rattle.scmos_rules.specs.declared.rules.Deck.TheVariants.{Plain}
 use Rattle.net_extract.specs.NetMaps.{NetMap, Maps, net_named}
 use Rattle.net_extract.specs.Naming.{label_of, name_of, name_or_number, other_of, other_than, short_net}
-use Rattle.net_extract.specs.declared.naming.Held.{Held}
+use Rattle.net_extract.specs.declared.naming.NetLabel.{NetLabel}
 use Rattle.net_extract.proofs.Filling.{and_true}
 use Rattle.net_extract.proofs.Finding.{found, found_none}
 use Rattle.lef_read.specs.declared.cell.LefPin.{LefPin}
@@ -27,8 +27,8 @@ in_range : (count n : ℕ) → n < count → Contains (range_with_len 0 count) n
 in_range count n less = (n, omega (arith, less, length-range_with_len 0 count), omega (arith, get_or-range_with_len 0 count n n less))
 
 -- where no net has two labels, the labels of a net have one name
-one_name : (held : List Held) (count : ℕ) → short_net held count ≡ None → (n : ℕ) → n < count → (h : Held) → Contains held h → h.net ≡ n → label_of n held ≡ Some h.name
-one_name held count no_short n less h listed is = by (find (λ (k : Held). k.net == n) held) refl
+one_name : (held : List NetLabel) (count : ℕ) → short_net held count ≡ None → (n : ℕ) → n < count → (h : NetLabel) → Contains held h → h.net ≡ n → label_of n held ≡ Some h.name
+one_name held count no_short n less h listed is = by (find (λ (k : NetLabel). k.net == n) held) refl
   where
     mine : (h.net == n) ≡ true
     mine = (Decides-eqb h.net n).1 is
@@ -36,30 +36,30 @@ one_name held count no_short n less h listed is = by (find (λ (k : Held). k.net
     not_short : is_some (other_of n held) ≡ true → ⊥
     not_short e = found_none (λ k. is_some (other_of k held)) (range_with_len 0 count) no_short n (in_range count n less) e
 
-    by : (o : Option Held) → find (λ (k : Held). k.net == n) held ≡ o → option_map (λ (k : Held). k.name) o ≡ Some h.name
-    by None e = absurd (found_none (λ (k : Held). k.net == n) held e h listed mine)
+    by : (o : Option NetLabel) → find (λ (k : NetLabel). k.net == n) held ≡ o → option_map (λ (k : NetLabel). k.name) o ≡ Some h.name
+    by None e = absurd (found_none (λ (k : NetLabel). k.net == n) held e h listed mine)
     by (Some w) e = elim (cases_Bool (bytes_eq h.name w.name)) [
       | inl same ↦ ap (λ z. Some z) (sym ((bytes_eq-Decides h.name w.name).0 same))
       | inr differs ↦ absurd (not_short (other w e differs))
     ]
       where
-        other : (w : Held) → find (λ (k : Held). k.net == n) held ≡ Some w → bytes_eq h.name w.name ≡ false → is_some (other_of n held) ≡ true
-        other w e differs = subst (λ o. is_some (other_than o n held) ≡ true) (sym (ap (λ o. option_map (λ (k : Held). k.name) o) e)) (some (find (λ (k : Held). (k.net == n) && not (bytes_eq k.name w.name)) held) refl)
+        other : (w : NetLabel) → find (λ (k : NetLabel). k.net == n) held ≡ Some w → bytes_eq h.name w.name ≡ false → is_some (other_of n held) ≡ true
+        other w e differs = subst (λ o. is_some (other_than o n held) ≡ true) (sym (ap (λ o. option_map (λ (k : NetLabel). k.name) o) e)) (some (find (λ (k : NetLabel). (k.net == n) && not (bytes_eq k.name w.name)) held) refl)
           where
-            some : (o : Option Held) → find (λ (k : Held). (k.net == n) && not (bytes_eq k.name w.name)) held ≡ o → is_some (option_map (λ (k : Held). k.name) o) ≡ true
+            some : (o : Option NetLabel) → find (λ (k : NetLabel). (k.net == n) && not (bytes_eq k.name w.name)) held ≡ o → is_some (option_map (λ (k : NetLabel). k.name) o) ≡ true
             some (Some k) f = refl
-            some None f = absurd (found_none (λ (k : Held). (k.net == n) && not (bytes_eq k.name w.name)) held f h listed (and_true (h.net == n) (not (bytes_eq h.name w.name)) mine (rw differs refl)))
+            some None f = absurd (found_none (λ (k : NetLabel). (k.net == n) && not (bytes_eq k.name w.name)) held f h listed (and_true (h.net == n) (not (bytes_eq h.name w.name)) mine (rw differs refl)))
 
 pub name_back : (shapes : Shapes) (m : NetMap) → Maps Plain shapes m → (name : List ℕ) (n : ℕ) → net_named m name ≡ Some n → n < length m.names → get_or m.names n [] ≡ name
 name_back shapes m maps name n e within = by (find named maps.held) refl (sym (maps.labels name) ∙ e)
   where
-    named : Held → Bool
+    named : NetLabel → Bool
     named h = bytes_eq h.name name
 
     less : n < length maps.firsts
     less = subst (λ k. n < k) (ap length maps.names ∙ length-map-range_with_len (name_of maps.held) 0 (length maps.firsts)) within
 
-    by : (o : Option Held) → find named maps.held ≡ o → option_map (λ (h : Held). h.net) o ≡ Some n → get_or m.names n [] ≡ name
+    by : (o : Option NetLabel) → find named maps.held ≡ o → option_map (λ (h : NetLabel). h.net) o ≡ Some n → get_or m.names n [] ≡ name
     by None f g = absurd (cc g)
     by (Some h) f g =
         let p = found named maps.held h f in

@@ -12,13 +12,13 @@ use Rattle.box_geom.specs.declared.shape.Label.{Label}
 use Rattle.box_geom.specs.declared.shape.Shape.{Shape}
 use Rattle.box_geom.specs.declared.shape.Shapes.{Shapes}
 use Rattle.scmos_rules.specs.declared.rules.Deck.TheVariants.{Plain}
-use Rattle.net_extract.specs.Labels.{is_conductor, conductor_labels, cells_round, IsFirstConductor, Belongs, IsHeld, IsNamed}
+use Rattle.net_extract.specs.Labels.{is_conductor, conductor_labels, cells_round, IsFirstConductor, Belongs, IsNetLabel, IsNamed}
 use Rattle.net_extract.specs.NetMaps.{NetMap, Maps, net_named, net_of}
 use Rattle.net_extract.specs.Nets.{layer_of, Site, Conducts}
 use Rattle.net_extract.specs.declared.piece.Conductor.{Conductor}
 use Rattle.net_extract.specs.declared.piece.Conductor.TheVariants.{PDiffusion, NDiffusion, Poly, Metal1, Metal2}
 use Rattle.net_extract.specs.Numbering.{IsInNet}
-use Rattle.net_extract.specs.declared.naming.Held.{Held}
+use Rattle.net_extract.specs.declared.naming.NetLabel.{NetLabel}
 use Rattle.net_extract.proofs.Agreeing.{label_held}
 use Rattle.net_extract.proofs.Belonging.{one_site}
 use Rattle.net_extract.proofs.ByName.{one_net, label_found}
@@ -62,8 +62,8 @@ facing R (w ∷ ws) (y ∷ ys) x z c =
 -- ---- names and nets
 
 -- the held label of a name that stands in the net of a site
-record Held_at (shapes : Shapes) (firsts : List Site) (held : List Held) (name : List ℕ) (a : Site) : Type 0 where
-  it : Held
+record Held_at (shapes : Shapes) (firsts : List Site) (held : List NetLabel) (name : List ℕ) (a : Site) : Type 0 where
+  it : NetLabel
   listed : Contains held it
   called : it.name ≡ name
   net : IsInNet Plain shapes.rects firsts it.net a
@@ -71,7 +71,7 @@ record Held_at (shapes : Shapes) (firsts : List Site) (held : List Held) (name :
 held_at : (shapes : Shapes) (m : NetMap) (maps : Maps Plain shapes m) (name : List ℕ) (a : Site) → IsNamed Plain shapes name a → Held_at shapes maps.firsts maps.held name a
 held_at shapes m maps name a named =
     let wiring : Contains (conductor_labels shapes.labels) named.label = contains_filter (λ (l : Label). is_conductor l.layer) shapes.labels named.label named.listed (on_wiring shapes.rects named.label.layer (cells_round named.label.x named.label.y) named.at named.belongs) in
-    let f = facing (IsHeld Plain shapes.rects maps.firsts) (conductor_labels shapes.labels) maps.held named.label maps.has.labels wiring in
+    let f = facing (IsNetLabel Plain shapes.rects maps.firsts) (conductor_labels shapes.labels) maps.held named.label maps.has.labels wiring in
     let site : f.is.site ≡ named.at = one_site shapes.rects named.label f.is.site named.at f.is.belongs named.belongs in
     record {
       it = f.it;
@@ -98,10 +98,10 @@ record Naming (shapes : Shapes) (firsts : List Site) (name : List ℕ) (n : ℕ)
 naming : (shapes : Shapes) (m : NetMap) (maps : Maps Plain shapes m) (name : List ℕ) (n : ℕ) → net_named m name ≡ Some n → Naming shapes maps.firsts name n
 naming shapes m maps name n e = by (find named maps.held) refl (sym (maps.labels name) ∙ e)
   where
-    named : Held → Bool
+    named : NetLabel → Bool
     named h = bytes_eq h.name name
 
-    by : (o : Option Held) → find named maps.held ≡ o → option_map (λ (h : Held). h.net) o ≡ Some n → Naming shapes maps.firsts name n
+    by : (o : Option NetLabel) → find named maps.held ≡ o → option_map (λ (h : NetLabel). h.net) o ≡ Some n → Naming shapes maps.firsts name n
     by None f g = absurd (cc g)
     by (Some h) f g =
         let p = found named maps.held h f in

@@ -10,13 +10,13 @@ use Rattle.box_geom.specs.declared.shape.Shapes.{Shapes}
 use Rattle.scmos_rules.specs.declared.rules.Deck.TheVariants.{Plain}
 use Rattle.net_extract.specs.Devices.{IsFirstOdd}
 use Rattle.net_extract.specs.Extraction.{IsLabelled, IsTooMany, IsStrayLabel, ExtractRefused}
-use Rattle.net_extract.specs.Labels.{IsHeld, IsStray, IsFirstStray, conductor_labels}
+use Rattle.net_extract.specs.Labels.{IsNetLabel, IsStray, IsFirstStray, conductor_labels}
 use Rattle.net_extract.specs.NetMaps.{NetMap, Maps}
 use Rattle.net_extract.specs.Naming.{IsShort, IsSplit, label_of, other_of, short_net, split_name}
 use Rattle.net_extract.specs.Nets.{Site}
 use Rattle.net_extract.specs.declared.fault.ExtractFault.{ExtractFault}
 use Rattle.net_extract.specs.declared.fault.ExtractFault.TheVariants.{TooMany, OddDevice, Stray, Short, Split, NoMemory}
-use Rattle.net_extract.specs.declared.naming.Held.{Held}
+use Rattle.net_extract.specs.declared.naming.NetLabel.{NetLabel}
 use Rattle.net_extract.proofs.Agreeing.{facing}
 use Rattle.net_extract.proofs.Extracting.{not_many}
 use Rattle.net_extract.proofs.Netlists.{one_labelling}
@@ -24,11 +24,11 @@ use Rattle.lef_read.specs.Differences.{HasNetlist, IsFirstNot}
 use Rattle.lef_read.proofs.Firsts.{one_first}
 
 -- each label of a drawing belongs to a conductor cell
-not_stray : (shapes : Shapes) (firsts : List Site) (held : List Held) (name : List ℕ) → IsLabelled Plain shapes firsts held → IsStrayLabel Plain shapes name → ⊥
+not_stray : (shapes : Shapes) (firsts : List Site) (held : List NetLabel) (name : List ℕ) → IsLabelled Plain shapes firsts held → IsStrayLabel Plain shapes name → ⊥
 not_stray shapes firsts held name has r =
     let l : Label = r.stray.label in
     let there : Contains (conductor_labels shapes.labels) l = subst (λ ls. Contains ls l) (sym r.stray.split) (Contains-append_right r.stray.before (l ∷ r.stray.after) l (contains_here l r.stray.after)) in
-    let (h, is) = facing (IsHeld Plain shapes.rects firsts) (conductor_labels shapes.labels) held l has.labels there in
+    let (h, is) = facing (IsNetLabel Plain shapes.rects firsts) (conductor_labels shapes.labels) held l has.labels there in
     r.stray.stray is.site is.belongs
 
 none_some : {X : Type 0} (o p : Option X) (x : X) → o ≡ None → p ≡ Some x → o ≡ p → ⊥
@@ -41,7 +41,7 @@ mapped_accepted shapes m maps (Stray name) r = absurd (not_stray shapes maps.fir
 mapped_accepted shapes m maps (Short one another) r =
     let (firsts, hs) = one_labelling Plain shapes maps.firsts r.firsts maps.held r.held maps.has r.labelled in
     absurd (none_some (short_net maps.held (length maps.firsts)) (short_net r.held (length r.firsts)) r.short.net maps.agreed.no_short r.short.short
-    (ap (λ (z : List Held). short_net z (length maps.firsts)) hs ∙ ap (λ (z : List Site). short_net r.held (length z)) firsts))
+    (ap (λ (z : List NetLabel). short_net z (length maps.firsts)) hs ∙ ap (λ (z : List Site). short_net r.held (length z)) firsts))
 mapped_accepted shapes m maps (Split name) r =
     let (firsts, hs) = one_labelling Plain shapes maps.firsts r.firsts maps.held r.held maps.has r.labelled in
     absurd (none_some (split_name maps.held) (split_name r.held) name maps.agreed.no_split r.split.split (ap split_name hs))
@@ -82,14 +82,14 @@ stray_same : (s : List Shape) (labels : List Label) (m n : List ℕ) → IsFirst
 stray_same s labels m n a b = sym a.named ∙ (ap (λ (l : Label). l.name) (one_first (λ l. IsStray s l → ⊥) (conductor_labels labels) a.label b.label (first_stray s labels m a) (first_stray s labels n b)) ∙ b.named)
 
 -- two ways to read the labels of a drawing come to the same
-record OneReading (shapes : Shapes) (hs ks : List Held) (fs gs : List Site) : Type 0 where
+record OneReading (shapes : Shapes) (hs ks : List NetLabel) (fs gs : List Site) : Type 0 where
   held : hs ≡ ks
   count : length fs ≡ length gs
 
-one_reading : (shapes : Shapes) (fs gs : List Site) (hs ks : List Held) → IsLabelled Plain shapes fs hs → IsLabelled Plain shapes gs ks → OneReading shapes hs ks fs gs
+one_reading : (shapes : Shapes) (fs gs : List Site) (hs ks : List NetLabel) → IsLabelled Plain shapes fs hs → IsLabelled Plain shapes gs ks → OneReading shapes hs ks fs gs
 one_reading shapes fs gs hs ks a b = let (firsts, held) = one_labelling Plain shapes fs gs hs ks a b in record { held = held; count = ap (λ (z : List Site). length z) firsts }
 
-shorts_same : (hs ks : List Held) (m n : ℕ) (a b c d : List ℕ) → hs ≡ ks → m ≡ n → IsShort hs m a b → IsShort ks n c d → Short a b ≡ Short c d
+shorts_same : (hs ks : List NetLabel) (m n : ℕ) (a b c d : List ℕ) → hs ≡ ks → m ≡ n → IsShort hs m a b → IsShort ks n c d → Short a b ≡ Short c d
 shorts_same hs ks m n a b c d e f p q =
     let nets : p.net ≡ q.net = some_same p.net q.net (sym p.short ∙ (ap (λ z. short_net z m) e ∙ (ap (λ z. short_net ks z) f ∙ q.short))) in
     made (some_same a c (sym p.first ∙ (ap (λ z. label_of z hs) nets ∙ (ap (λ z. label_of q.net z) e ∙ q.first))))
@@ -98,10 +98,10 @@ shorts_same hs ks m n a b c d e f p q =
     made : a ≡ c → b ≡ d → Short a b ≡ Short c d
     made x y = cc
 
-short_not_split : (hs ks : List Held) (m n : ℕ) (a b c : List ℕ) → hs ≡ ks → m ≡ n → IsShort hs m a b → IsSplit ks n c → ⊥
+short_not_split : (hs ks : List NetLabel) (m n : ℕ) (a b c : List ℕ) → hs ≡ ks → m ≡ n → IsShort hs m a b → IsSplit ks n c → ⊥
 short_not_split hs ks m n a b c e f p q = none_some (short_net ks n) (short_net hs m) p.net q.no_short p.short (sym (ap (λ z. short_net z m) e ∙ ap (λ z. short_net ks z) f))
 
-splits_same : (hs ks : List Held) (m n : ℕ) (a b : List ℕ) → hs ≡ ks → IsSplit hs m a → IsSplit ks n b → a ≡ b
+splits_same : (hs ks : List NetLabel) (m n : ℕ) (a b : List ℕ) → hs ≡ ks → IsSplit hs m a → IsSplit ks n b → a ≡ b
 splits_same hs ks m n a b e p q = some_same a b (sym p.split ∙ (ap split_name e ∙ q.split))
 
 pub one_refusal : (shapes : Shapes) (f g : ExtractFault) → (f ≡ NoMemory → ⊥) → (g ≡ NoMemory → ⊥) → ExtractRefused Plain shapes f → ExtractRefused Plain shapes g → f ≡ g

@@ -115,7 +115,7 @@ vdd_named : (names : List (List ℕ)) (pins : Pins) (p : Placement) (r : Routing
 vdd_named names pins p r xs height n g other e =
     let far : 16 ≤ width_of p xs = wide p pins r xs g.allowed in
     record {
-      label = label_of names (metal_tag 8 ((layout_of (length names) pins p r xs height).frame.yp + (layout_of (length names) pins p r xs height).frame.hp + 16) (net_no n));
+      label = label_of names (metal_tag 8 ((layout_of (length names) pins p r xs height).frame.p_edge + (layout_of (length names) pins p r xs height).frame.p_height + 16) (net_no n));
       listed = tagged names pins p r xs height n _ g.net (rw (ne_eqb n pins.gnd.0 other, eq-eqb n pins.vdd.0 e) refl);
       name = refl;
       layer = refl;

@@ -50,7 +50,7 @@ record FitsContact (f : Frame) (c : Contact) : Type 0 where
 
 record FitsBar (f : Frame) (b : Bar) : Type 0 where
   right : b.right + 8 ≤ f.width
-  top : b.y + 4 ≤ f.yp
+  top : b.y + 4 ≤ f.p_edge
 
 -- other layers do not count
 other : (f : Frame) (s : Shape) → (s.layer ≡ Metal1 → ⊥) → Fits f s
@@ -64,7 +64,7 @@ frame_fits f =
     (All-cons (Fits f) (gnd_rail f) (vdd_rail f ∷ []) (λ e. (omega (arith, ints), omega (arith, ints)))
     (all_one (Fits f) (vdd_rail f) (λ e. (omega (arith, ints), omega (arith, ints)))))))
 
-strap_fits : (f : Frame) (row : Row) (reach : Option ℕ) → f.yn + 40 ≤ f.yp → strap_high f row reach ≤ℤ pos (cell_height f)
+strap_fits : (f : Frame) (row : Row) (reach : Option ℕ) → f.n_edge + 40 ≤ f.p_edge → strap_high f row reach ≤ℤ pos (cell_height f)
 strap_fits f N None channel = omega (arith, ints, channel)
 strap_fits f P None channel = omega (arith, ints, channel)
 strap_fits f N (Some reach) channel = omega (arith, ints, channel)
@@ -74,7 +74,7 @@ reach_fits : (f : Frame) (row : Row) (x : ℕ) (reach : Option ℕ) → All (Fit
 reach_fits f row x None = All-nil (Fits f)
 reach_fits f row x (Some reach) = All-cons (Fits f) (around Via x (landing f row) 2) (branch f row x reach ∷ []) (other f (around Via x (landing f row) 2) (λ e. cc)) (all_one (Fits f) (branch f row x reach) (other f (branch f row x reach) (λ e. cc)))
 
-contact_fits : (f : Frame) (c : Contact) → f.yn + 40 ≤ f.yp → FitsContact f c → All (Fits f) (contact_shapes f c)
+contact_fits : (f : Frame) (c : Contact) → f.n_edge + 40 ≤ f.p_edge → FitsContact f c → All (Fits f) (contact_shapes f c)
 contact_fits f c channel fits =
     All-cons (Fits f) (around Active c.x (centre f c.row) 5) (around ContactCut c.x (centre f c.row) 2 ∷ strap f c.row c.x c.reach ∷ reach_shapes f c.row c.x c.reach) (other f (around Active c.x (centre f c.row) 5) (λ e. cc))
     (All-cons (Fits f) (around ContactCut c.x (centre f c.row) 2) (strap f c.row c.x c.reach ∷ reach_shapes f c.row c.x c.reach) (other f (around ContactCut c.x (centre f c.row) 2) (λ e. cc))
@@ -90,7 +90,7 @@ gate_fits f g = All-cons (Fits f) (gate_strip f g) (pad_shapes g.x g.track) (oth
 bar_fits : (f : Frame) (b : Bar) → FitsBar f b → All (Fits f) (bar_shapes b)
 bar_fits f b fits = All-cons (Fits f) (bar_metal b) (flat_map (via_shapes b.y) b.vias) (λ e. (omega (arith, ints, fits.right), omega (arith, ints, fits.top))) (all_flat (λ (x : ℕ). Unit {0}) (Fits f) (via_shapes b.y) b.vias (λ x u. all_one (Fits f) (around Via x (pos b.y) 2) (other f (around Via x (pos b.y) 2) (λ e. cc))) (λ k d lt. tt))
 
-all_fit : (l : Layout) → l.frame.yn + 40 ≤ l.frame.yp → All (FitsContact l.frame) l.contacts → All (FitsBar l.frame) l.bars → All (Fits l.frame) (shapes_of l)
+all_fit : (l : Layout) → l.frame.n_edge + 40 ≤ l.frame.p_edge → All (FitsContact l.frame) l.contacts → All (FitsBar l.frame) l.bars → All (Fits l.frame) (shapes_of l)
 all_fit l channel contacts bars =
     All-append (Fits l.frame) (frame_shapes l.frame ++ flat_map (λ (s : Strip). finger l.frame s ∷ []) l.strips ++ flat_map (contact_shapes l.frame) l.contacts ++ flat_map (gate_shapes l.frame) l.gates) (flat_map bar_shapes l.bars)
     (All-append (Fits l.frame) (frame_shapes l.frame ++ flat_map (λ (s : Strip). finger l.frame s ∷ []) l.strips ++ flat_map (contact_shapes l.frame) l.contacts) (flat_map (gate_shapes l.frame) l.gates)

@@ -6,7 +6,7 @@ ghost use Rattle.lemma_check.specs.Reaches.{BranchReaches, RuleReaches, StepReac
 ghost use Rattle.lemma_check.specs.Known.{best_known};
 ghost use Rattle.lemma_check.specs.Noted.{AreNoted};
 
-use crate::{Known, Trails};
+use crate::{Known, RowTrails};
 use bound_log::Rule;
 use cell_num::{NoMemory, Row};
 use row_state::{
@@ -65,7 +65,7 @@ fn branch_reaches(
 fn row_reaches<B: RowBound>(
     kinds: &Kinds,
     bound: &B,
-    trails: &mut Trails,
+    trails: &mut RowTrails,
     row: Row,
     state: &State,
     reached: u32,
@@ -85,7 +85,7 @@ fn row_reaches<B: RowBound>(
 
 /// What a lemma may rest on: all columns that may ever come next, the bounds of earlier lemmas, and that of a row.
 #[derive(Clone, Copy)]
-pub struct Grounds<'a, B> {
+pub struct Premises<'a, B> {
     pub kinds: &'a Kinds,
     pub candidates: &'a Candidates,
     pub known: &'a Known,
@@ -95,26 +95,26 @@ pub struct Grounds<'a, B> {
 /// Whether by this rule each completion of the state has so many further gaps. The trails of rows that are counted for it
 /// are noted.
 pub fn reaches<B: RowBound>(
-    grounds: &Grounds<B>,
-    trails: &mut Trails,
+    premises: &Premises<B>,
+    trails: &mut RowTrails,
     at: &Numbered,
     rule: Rule,
     reached: u32,
 ) -> Result<bool, NoMemory>
-    requires candidates { AreCandidates grounds.now.kinds.now grounds.now.candidates.now }
-    requires numbered { IsNumbered grounds.now.kinds.now at.now }
-    requires noted { AreNoted (B.trails_of grounds.now.bound.now) grounds.now.kinds.now trails.old }
-    ensures noted { AreNoted (B.trails_of grounds.now.bound.now) grounds.now.kinds.now trails.new }
-    ensures reaches { IfOk result (λ holds. IsTrue holds ↔ RuleReaches (B.value grounds.now.bound.now)
-        grounds.now.kinds.now (best_known grounds.now.known.now grounds.now.kinds.now) rule at.now.state reached) }
+    requires candidates { AreCandidates premises.now.kinds.now premises.now.candidates.now }
+    requires numbered { IsNumbered premises.now.kinds.now at.now }
+    requires noted { AreNoted (B.trails_of premises.now.bound.now) premises.now.kinds.now trails.old }
+    ensures noted { AreNoted (B.trails_of premises.now.bound.now) premises.now.kinds.now trails.new }
+    ensures reaches { IfOk result (λ holds. IsTrue holds ↔ RuleReaches (B.value premises.now.bound.now)
+        premises.now.kinds.now (best_known premises.now.known.now premises.now.kinds.now) rule at.now.state reached) }
 {
-    let kinds = grounds.kinds;
+    let kinds = premises.kinds;
     match rule {
-        Rule::P => row_reaches(kinds, grounds.bound, trails, Row::P, &at.state, reached),
-        Rule::N => row_reaches(kinds, grounds.bound, trails, Row::N, &at.state, reached),
+        Rule::P => row_reaches(kinds, premises.bound, trails, Row::P, &at.state, reached),
+        Rule::N => row_reaches(kinds, premises.bound, trails, Row::N, &at.state, reached),
         Rule::Branch => {
             if has_fingers(&at.state) {
-                Ok(branch_reaches(kinds, grounds.known, grounds.candidates, at, reached))
+                Ok(branch_reaches(kinds, premises.known, premises.candidates, at, reached))
             } else {
                 Ok(false)
             }

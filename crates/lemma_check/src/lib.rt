@@ -7,5 +7,5 @@ mod lemma;
 mod trails;
 
 pub use known::Known;
-pub use lemma::{Grounds, reaches};
-pub use trails::Trails;
+pub use lemma::{Premises, reaches};
+pub use trails::RowTrails;

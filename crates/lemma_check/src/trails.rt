@@ -16,7 +16,7 @@ use std::collections::HashMap;
 
 /// The trails that were counted, for each row by the number of what it has left.
 #[derive(Drop)]
-pub struct Trails {
+pub struct RowTrails {
     p: HashMap<u64, u32>,
     n: HashMap<u64, u32>,
 }
@@ -56,12 +56,12 @@ fn trails_of<B: RowBound>(
     Ok(trails)
 }
 
-impl Trails {
+impl RowTrails {
     /// None noted yet.
-    pub fn new(alloc: Global) -> Trails
+    pub fn new(alloc: Global) -> RowTrails
         ensures { (f : RowOf → Option NetNo → Sequence ℕ → KindsOf → ℕ) (k : KindsOf) → AreNoted f k result }
     {
-        Trails {
+        RowTrails {
             p: HashMap::new(alloc),
             n: HashMap::new(alloc),
         }

@@ -16,14 +16,14 @@ ghost use Rattle.log_check.specs.Refusal.{Proves, Refuses};
 use crate::{Refused, Seen};
 use bound_log::{Best, Lemma, Log, LogStep};
 use cell_num::{Fingers, MOST_BYTES, NoMemory};
-use lemma_check::Trails;
+use lemma_check::RowTrails;
 use row_state::RowBound;
 use std::alloc::Global;
 
 fn add_lemmas<B: RowBound>(
     seen: &mut Seen,
     bound: &B,
-    trails: &mut Trails,
+    trails: &mut RowTrails,
     lemmas: &[Lemma],
 ) -> Result<(), NoMemory>
     requires few { seen.old.lemmas + length lemmas.now ≤ MOST_BYTES }
@@ -76,7 +76,7 @@ fn see_all<B: RowBound>(
     ensures seen { IfOk result (λ c. HasSeen (B.value bound.now) c log.now) }
 {
     let mut seen = Seen::new(alloc, fingers, log.version)?;
-    let mut trails = Trails::new(alloc);
+    let mut trails = RowTrails::new(alloc);
     add_lemmas(&mut seen, bound, &mut trails, log.lemmas.as_slice())?;
     add_row(&mut seen, &log.best)?;
     Ok(seen)

@@ -10,9 +10,9 @@ ghost use Rattle.log_check.specs.declared.refused.Refused.TheVariants as because
 ghost use Rattle.log_check.specs.Refusal.{Proves, Refuses};
 
 use crate::{Refused, Seen};
-use bound_log::{Lemma, LogStep};
+use bound_log::{Best, Lemma, LogStep};
 use cell_num::{Fingers, MOST_BYTES, NoMemory};
-use lemma_check::Trails;
+use lemma_check::RowTrails;
 use row_state::RowBound;
 use std::alloc::Global;
 use std::marker::Model;
@@ -25,7 +25,7 @@ pub struct Checker<B: RowBound + Drop> {
     seen: Seen,
     bound: B,
     // By the bound, for the kinds of the fingers.
-    trails: Trails,
+    trails: RowTrails,
 }
 
 impl<B: RowBound + Drop> Model for Checker<B> {
@@ -54,7 +54,7 @@ impl<B: RowBound + Drop> Checker<B> {
             alloc,
             seen: Seen::new(alloc, fingers, version)?,
             bound,
-            trails: Trails::new(alloc),
+            trails: RowTrails::new(alloc),
         })
     }
 
@@ -67,7 +67,7 @@ impl<B: RowBound + Drop> Checker<B> {
         ensures seen { HasSeen (B.value bound) self.new.seen (empty_log (B.version_of bound)) }
     {
         self.seen.begin(bound.version());
-        self.trails = Trails::new(self.alloc);
+        self.trails = RowTrails::new(self.alloc);
         self.bound = bound;
     }
 
@@ -135,6 +135,13 @@ impl<B: RowBound + Drop> Checker<B> {
     {
         self.seen.column(step)?;
         Ok(())
+    }
+
+    /// The gaps that were said of a row, and its columns; None where no gaps were said.
+    pub fn row(&self) -> &Option<Best>
+        ensures { result.now ≡ self.now.seen.row }
+    {
+        self.seen.row()
     }
 
     /// The gaps of the row that the log certifies, where the log of the items is accepted: no arrangement

@@ -57,6 +57,12 @@ fn check_best(
 }
 
 impl Seen {
+    pub(crate) fn row(&self) -> &Option<Best>
+        ensures { result.now ≡ self.now.row }
+    {
+        &self.row
+    }
+
     #[tactic(auto, using(crate::proofs::Items::seen_gaps))]
     pub(crate) fn gaps(&mut self, said: u32)
         ensures kinds { self.new.kinds ≡ self.old.kinds }

@@ -10,5 +10,6 @@ mod seen;
 
 pub use check::check_log;
 pub use checker::Checker;
+pub use listed::arrangement;
 pub use refused::Refused;
 pub use seen::Seen;

@@ -1,4 +1,4 @@
-ghost use Rattle.std.specs.Prelude.{◌≡◌, ◌↔◌, All, IsTrue, IfOk, IfErr, map};
+ghost use Rattle.std.specs.Prelude.{◌≡◌, ◌↔◌, All, IsTrue, IfOk, IfErr};
 ghost use Rattle.std.specs.List.{list_all};
 ghost use Rattle.cell_num.specs.Fingers.{AreFingers};
 ghost use Rattle.log_check.specs.Accepted.{columns_listed, IsListed, IsRow, RowPasses};
@@ -54,7 +54,8 @@ fn columns(alloc: Global, kinds: &Kinds, steps: &[LogStep]) -> Result<Vec<Column
         .collect(alloc)
 }
 
-fn arrangement(alloc: Global, kinds: &Kinds, steps: &[LogStep]) -> Result<Arrangement, NoMemory>
+/// The columns of a listed row, by the kinds of its fingers.
+pub fn arrangement(alloc: Global, kinds: &Kinds, steps: &[LogStep]) -> Result<Arrangement, NoMemory>
     ensures { IfOk result (λ row. row ≡ columns_listed kinds.now steps.now) }
 {
     Ok(List::from_vec(columns(alloc, kinds, steps)?))

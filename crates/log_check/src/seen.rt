@@ -11,7 +11,7 @@ ghost use Rattle.log_check.specs.Items.{ForSeen, HasSeen, empty_log, with_lemmas
 
 use bound_log::{Best, Lemma};
 use cell_num::{Fingers, MOST_BYTES, NoMemory};
-use lemma_check::{Grounds, Known, Trails, reaches};
+use lemma_check::{Known, Premises, RowTrails, reaches};
 use row_state::{Candidates, Kinds, Numbered, RowBound, candidates, is_state, kinds};
 use std::alloc::{AllocError, Global};
 use std::marker::Model;
@@ -128,7 +128,7 @@ impl Seen {
     pub(crate) fn lemma<B: RowBound>(
         &mut self,
         bound: &B,
-        trails: &mut Trails,
+        trails: &mut RowTrails,
         lemma: &Lemma,
     ) -> Result<(), NoMemory>
         requires few { self.old.lemmas < MOST_BYTES }
@@ -175,7 +175,7 @@ impl Seen {
     pub(crate) fn valid_lemma<B: RowBound>(
         &mut self,
         bound: &B,
-        trails: &mut Trails,
+        trails: &mut RowTrails,
         lemma: Lemma,
     ) -> Result<(), NoMemory>
         requires few { self.old.lemmas < MOST_BYTES }
@@ -202,13 +202,13 @@ impl Seen {
             rule,
         } = lemma;
         let at = Numbered::new(state, &self.kinds);
-        let grounds = Grounds {
+        let premises = Premises {
             kinds: &self.kinds,
             candidates: &self.candidates,
             known: &self.known,
             bound,
         };
-        let holds = reaches(&grounds, trails, &at, rule, reached)?;
+        let holds = reaches(&premises, trails, &at, rule, reached)?;
         if !holds {
             self.unproved = Some(self.lemmas + 3);
             self.lemmas = count;

@@ -3,7 +3,7 @@ use Rattle.std.specs.Prelude.{ℕ, ◌≡◌, List, [], All}
 use Rattle.bound_log.specs.declared.log.Lemma.{Lemma}
 use Rattle.bound_log.specs.declared.log.Log.{Log}
 use Rattle.bound_log.specs.Fits.{Fits, ForSome, IsLogName}
-use Rattle.row_search.specs.Kept.{HasRoom}
+use Rattle.bound_log.specs.Kept.{HasRoom}
 
 -- What the lines of a log ask for: a name that stands in a line, lemmas and columns that a text can hold, room for each
 -- lemma, and an empty block.

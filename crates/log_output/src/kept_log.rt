@@ -1,8 +1,7 @@
 ghost use Rattle.std.specs.Prelude.{◌≡◌, length};
-ghost use Rattle.row_search.specs.Ended.{log_with, log_without};
+ghost use Rattle.bound_log.specs.Kept.{log_with, log_without};
 
-use bound_log::Best;
-use row_search::Kept;
+use bound_log::{Best, Kept};
 use std::marker::Model;
 
 /// A log whose lemmas are as the search kept them. Contracts see it as the log.

@@ -4,8 +4,8 @@
 mod block;
 mod content;
 mod kept_log;
+mod log_buffers;
 mod log_text;
-mod supplies;
 mod target;
 
 pub use content::Content;

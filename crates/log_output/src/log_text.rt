@@ -5,19 +5,18 @@ ghost use Rattle.cell_io.specs.Output.{CanPut};
 ghost use Rattle.cell_io.specs.declared.output.WriteFault.TheVariants.{Failed, NoMemory as Short};
 ghost use Rattle.bound_log.specs.Fits.{BestFits, Fits, ForSome, IsLogName, LemmaFits, StepFits};
 ghost use Rattle.bound_log.specs.Text.{best_text, column_line, lemma_line, log_text};
-ghost use Rattle.row_search.specs.Kept.{HasRoom};
+ghost use Rattle.bound_log.specs.Kept.{HasRoom};
 ghost use Rattle.log_output.specs.Giving.{Gives, GivesSome, KeepsUntold, OnlyPuts};
 ghost use Rattle.log_output.specs.Ready.{CanBeGiven};
 ghost use Rattle.log_output.specs.Targets.{place_of};
 
 use crate::block::Block;
 use crate::kept_log::KeptLog;
-use crate::supplies::Supplies;
+use crate::log_buffers::LogBuffers;
 use crate::target::Target;
-use bound_log::{Best, Lemma, LineWriter, LogStep};
+use bound_log::{Best, Kept, Lemma, LineWriter, LogStep};
 use cell_io::{Desk, WriteFault};
 use cell_num::{Name, NoMemory};
-use row_search::Kept;
 use std::alloc::Global;
 use std::marker::Model;
 
@@ -185,9 +184,9 @@ impl LogText {
         requires fits { ForSome (λ k. Fits k log) }
         ensures { IfOk result (λ text. text ≡ log_text name.now log) }
     {
-        match Supplies::new(alloc, name, &log.kept) {
+        match LogBuffers::new(alloc, name, &log.kept) {
             Ok(
-                Supplies {
+                LogBuffers {
                     name,
                     lemma,
                     lines,

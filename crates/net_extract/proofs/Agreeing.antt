@@ -10,25 +10,25 @@ use Rattle.cell_num.proofs.Lists.{contains_none, contains_cons, contains_here, c
 use Rattle.box_geom.specs.declared.shape.Label.{Label}
 use Rattle.box_geom.specs.declared.shape.Shape.{Shape}
 use Rattle.scmos_rules.specs.declared.rules.Deck.{Deck}
-use Rattle.net_extract.specs.declared.naming.Held.{Held}
-use Rattle.net_extract.specs.Labels.{is_conductor, conductor_labels, IsHeld, AreHeld}
+use Rattle.net_extract.specs.declared.naming.NetLabel.{NetLabel}
+use Rattle.net_extract.specs.Labels.{is_conductor, conductor_labels, IsNetLabel, AreNetLabels}
 use Rattle.net_extract.specs.Naming.{first_other, other_than, stands_elsewhere, IsShort, IsSplit}
 use Rattle.net_extract.specs.Nets.{Site}
 use Rattle.net_extract.proofs.Finding.{found, any_of}
 
 -- two labels of one net with different names
-pub record AreShort (held : List Held) : Type 0 where
-  pub one : Held
-  pub other : Held
+pub record AreShort (held : List NetLabel) : Type 0 where
+  pub one : NetLabel
+  pub other : NetLabel
   pub has_one : Contains held one
   pub has_other : Contains held other
   pub net : one.net ≡ other.net
   pub names : one.name ≡ other.name → ⊥
 
 -- two labels of one name in different nets
-pub record AreSplit (held : List Held) : Type 0 where
-  pub one : Held
-  pub other : Held
+pub record AreSplit (held : List NetLabel) : Type 0 where
+  pub one : NetLabel
+  pub other : NetLabel
   pub has_one : Contains held one
   pub has_other : Contains held other
   pub name : one.name ≡ other.name
@@ -44,10 +44,10 @@ mapped : {X Y : Type 0} (f : X → Y) (o : Option X) (y : Y) → option_map f o 
 mapped f None y e = absurd cc
 mapped f (Some x) y e = record { of = x; some = refl; is = cc }
 
-other_found : (held : List Held) (net : ℕ) (one other : List ℕ) → first_other one net held ≡ Some other → (h : Held) × Contains held h × (h.net ≡ net) × (h.name ≡ other) × (h.name ≡ one → ⊥)
+other_found : (held : List NetLabel) (net : ℕ) (one other : List ℕ) → first_other one net held ≡ Some other → (h : NetLabel) × Contains held h × (h.net ≡ net) × (h.name ≡ other) × (h.name ≡ one → ⊥)
 other_found held net one other e =
-    let m = mapped (λ (h : Held). h.name) (find (λ (h : Held). (h.net == net) && not (bytes_eq h.name one)) held) other e in
-    let p = found (λ (h : Held). (h.net == net) && not (bytes_eq h.name one)) held m.of m.some in
+    let m = mapped (λ (h : NetLabel). h.name) (find (λ (h : NetLabel). (h.net == net) && not (bytes_eq h.name one)) held) other e in
+    let p = found (λ (h : NetLabel). (h.net == net) && not (bytes_eq h.name one)) held m.of m.some in
     let (same, differs) = and_parts (m.of.net == net) (not (bytes_eq m.of.name one)) p.passes in (
       m.of,
       p.listed,
@@ -59,10 +59,10 @@ other_found held net one other e =
           cc,
     )
 
-pub short_held : (held : List Held) (count : ℕ) (one other : List ℕ) → IsShort held count one other → AreShort held
+pub short_held : (held : List NetLabel) (count : ℕ) (one other : List ℕ) → IsShort held count one other → AreShort held
 short_held held count one other s =
-    let m = mapped (λ (h : Held). h.name) (find (λ (h : Held). h.net == s.net) held) one s.first in
-    let p = found (λ (h : Held). h.net == s.net) held m.of m.some in
+    let m = mapped (λ (h : NetLabel). h.name) (find (λ (h : NetLabel). h.net == s.net) held) one s.first in
+    let p = found (λ (h : NetLabel). h.net == s.net) held m.of m.some in
     let (h, listed, net, name, differs) = other_found held s.net one other (subst (λ o. other_than o s.net held ≡ Some other) s.first s.differs) in
     record {
       one = m.of;
@@ -73,11 +73,11 @@ short_held held count one other s =
       names = λ e. differs (sym e ∙ m.is);
     }
 
-pub split_held : (held : List Held) (count : ℕ) (name : List ℕ) → IsSplit held count name → AreSplit held
+pub split_held : (held : List NetLabel) (count : ℕ) (name : List ℕ) → IsSplit held count name → AreSplit held
 split_held held count name s =
-    let m = mapped (λ (h : Held). h.name) (find (stands_elsewhere held) held) name s.split in
+    let m = mapped (λ (h : NetLabel). h.name) (find (stands_elsewhere held) held) name s.split in
     let p = found (stands_elsewhere held) held m.of m.some in
-    let q = any_of (λ (h : Held). not (h.net == m.of.net) && bytes_eq h.name m.of.name) held p.passes in
+    let q = any_of (λ (h : NetLabel). not (h.net == m.of.net) && bytes_eq h.name m.of.name) held p.passes in
     let (other, same) = and_parts (not (q.it.net == m.of.net)) (bytes_eq q.it.name m.of.name) q.passes in
     record {
       one = q.it;
@@ -125,7 +125,7 @@ facing R (w ∷ ws) (y ∷ ys) x z c =
     ]
 
 -- a held label is one of the drawing's
-pub label_held : (deck : Deck) (s : List Shape) (firsts : List Site) (labels : List Label) (held : List Held) (h : Held) → AreHeld deck s firsts labels held → Contains held h → (l : Label) × Contains labels l × IsHeld deck s firsts l h
+pub label_held : (deck : Deck) (s : List Shape) (firsts : List Site) (labels : List Label) (held : List NetLabel) (h : NetLabel) → AreNetLabels deck s firsts labels held → Contains held h → (l : Label) × Contains labels l × IsNetLabel deck s firsts l h
 label_held deck s firsts labels held h all c =
-    let (l, listed, is) = opposite (IsHeld deck s firsts) (conductor_labels labels) held h all c in
+    let (l, listed, is) = opposite (IsNetLabel deck s firsts) (conductor_labels labels) held h all c in
     (l, conductor_label labels l listed, is)

@@ -11,13 +11,13 @@ use Rattle.net_extract.specs.Nets.{Site}
 use Rattle.net_extract.specs.Extraction.{AreFew, AreRegular, IsLabelled, IsDrawn, Extracts, IsTooMany, SaysTooMany, ExtractRefused}
 use Rattle.net_extract.specs.Naming.{IsAgreed, names_of, short_net, split_name, IsNameFault}
 use Rattle.net_extract.specs.Labels.{IsFirstStray}
-use Rattle.net_extract.specs.Lookups.{is_lost, held_in, IsLostBy}
+use Rattle.net_extract.specs.Lookups.{is_lost, net_labels_in, IsLostBy}
 use Rattle.net_extract.specs.GateNets.{ArePolyOf, AreGateNets, AreWellNets, AreFound, IsOddFault, boxes_of}
 use Rattle.net_extract.specs.Connections.{firsts_of, AreWires}
 use Rattle.net_extract.specs.Steps.{AreNamed, IsMapped}
 use Rattle.net_extract.specs.declared.drawing.Mapped.{Mapped}
 use Rattle.net_extract.specs.declared.drawing.Named.{Named}
-use Rattle.net_extract.specs.declared.naming.Held.{Held}
+use Rattle.net_extract.specs.declared.naming.NetLabel.{NetLabel}
 use Rattle.net_extract.specs.declared.netlist.BodyNetlist.{BodyNetlist}
 use Rattle.net_extract.specs.declared.netlist.Drawn.{Drawn}
 use Rattle.net_extract.specs.declared.netlist.Netlist.{Netlist}
@@ -98,10 +98,10 @@ many_firsts : (firsts : List Piece) → length (firsts_of firsts) ≡ length fir
 many_firsts [] = refl
 many_firsts (p ∷ ps) = omega (arith, many_firsts ps)
 
-labelled : (deck : Deck) (shapes : Shapes) (wires : List Wire) (firsts : List Piece) → AreWires deck shapes.rects wires firsts → find (is_lost wires) shapes.labels ≡ None → IsLabelled deck shapes (firsts_of firsts) (held_in wires shapes.labels)
+labelled : (deck : Deck) (shapes : Shapes) (wires : List Wire) (firsts : List Piece) → AreWires deck shapes.rects wires firsts → find (is_lost wires) shapes.labels ≡ None → IsLabelled deck shapes (firsts_of firsts) (net_labels_in wires shapes.labels)
 labelled deck shapes wires firsts m e = record { nets = m.nets; labels = labels_held deck shapes.rects wires firsts m shapes.labels e }
 
-pub named_are : (deck : Deck) (shapes : Shapes) (wires : List Wire) (firsts : List Piece) (held : List Held) (count : ℕ) (names : List (List ℕ)) → AreWires deck shapes.rects wires firsts → find (is_lost wires) shapes.labels ≡ None → held ≡ held_in wires shapes.labels → count ≡ length firsts → short_net held count ≡ None → split_name held ≡ None → names ≡ names_of held count → (named : Named) → named.held.items ≡ held → named.names ≡ names → AreNamed deck shapes (firsts_of firsts) named
+pub named_are : (deck : Deck) (shapes : Shapes) (wires : List Wire) (firsts : List Piece) (held : List NetLabel) (count : ℕ) (names : List (List ℕ)) → AreWires deck shapes.rects wires firsts → find (is_lost wires) shapes.labels ≡ None → held ≡ net_labels_in wires shapes.labels → count ≡ length firsts → short_net held count ≡ None → split_name held ≡ None → names ≡ names_of held count → (named : Named) → named.held.items ≡ held → named.names ≡ names → AreNamed deck shapes (firsts_of firsts) named
 named_are deck shapes wires firsts held count names m e eh ec ss sp en named same_held same_names =
     let same : count ≡ length (firsts_of firsts) = ec ∙ sym (many_firsts firsts) in
     record {
@@ -110,7 +110,7 @@ named_are deck shapes wires firsts held count names m e eh ec ss sp en named sam
       are = same_names ∙ subst (λ n. names ≡ names_of held n) same en ∙ ap (λ hs. names_of hs (length (firsts_of firsts))) (sym same_held);
     }
 
-pub name_refused : (deck : Deck) (shapes : Shapes) (wires : List Wire) (firsts : List Piece) (held : List Held) (count : ℕ) (f : ExtractFault) → AreRegular deck shapes → AreWires deck shapes.rects wires firsts → find (is_lost wires) shapes.labels ≡ None → held ≡ held_in wires shapes.labels → count ≡ length firsts → IsNameFault held count f → ExtractRefused deck shapes f
+pub name_refused : (deck : Deck) (shapes : Shapes) (wires : List Wire) (firsts : List Piece) (held : List NetLabel) (count : ℕ) (f : ExtractFault) → AreRegular deck shapes → AreWires deck shapes.rects wires firsts → find (is_lost wires) shapes.labels ≡ None → held ≡ net_labels_in wires shapes.labels → count ≡ length firsts → IsNameFault held count f → ExtractRefused deck shapes f
 name_refused deck shapes wires firsts held count f regular m e eh ec is = by f (subst (λ n. IsNameFault held n f) (ec ∙ sym (many_firsts firsts)) is)
   where
     lab : IsLabelled deck shapes (firsts_of firsts) held

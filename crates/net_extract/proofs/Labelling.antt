@@ -19,10 +19,10 @@ use Rattle.number_trees.proofs.Tying.{eq_of_eqb}
 use Rattle.net_extract.specs.Nets.{layer_of, Site, site_at, Conducts, SameNet}
 use Rattle.net_extract.specs.Numbering.{IsInNet}
 use Rattle.net_extract.specs.Bonds.{AreDrawn, Bonded, IsIn}
-use Rattle.net_extract.specs.Labels.{is_conductor, conductor_labels, cells_round, IsConductorAt, IsFirstConductor, IsHeld, AreHeld, IsFirstStray}
+use Rattle.net_extract.specs.Labels.{is_conductor, conductor_labels, cells_round, IsConductorAt, IsFirstConductor, IsNetLabel, AreNetLabels, IsFirstStray}
 use Rattle.net_extract.specs.Pieces.{place, rect_of, corner_of, rects_in}
 use Rattle.net_extract.specs.Connections.{firsts_of, pieces_of, AreWires, IsFound}
-use Rattle.net_extract.specs.Lookups.{is_at, net_in, or_else, net_on, net_round, net_of_label, is_lost, held_in}
+use Rattle.net_extract.specs.Lookups.{is_at, net_in, or_else, net_on, net_round, net_of_label, is_lost, net_labels_in}
 use Rattle.net_extract.specs.declared.piece.Conductor.{Conductor}
 use Rattle.net_extract.specs.declared.piece.Conductor.TheVariants.{PDiffusion, NDiffusion, Poly, Metal1, Metal2}
 use Rattle.net_extract.specs.declared.piece.Piece.{Piece}
@@ -204,11 +204,11 @@ none_or : {X : Type 0} (o : Option X) → is_some o ≡ false → o ≡ None
 none_or None e = refl
 none_or (Some x) e = absurd (cc e)
 
-pub held_zip : (deck : Deck) (s : List Shape) (wires : List Wire) (firsts : List Piece) → AreWires deck s wires firsts → (labels : List Label) → ((l : Label) → Contains labels l → is_lost wires l ≡ true → ⊥) → AreHeld deck s (firsts_of firsts) labels (held_in wires labels)
+pub held_zip : (deck : Deck) (s : List Shape) (wires : List Wire) (firsts : List Piece) → AreWires deck s wires firsts → (labels : List Label) → ((l : Label) → Contains labels l → is_lost wires l ≡ true → ⊥) → AreNetLabels deck s (firsts_of firsts) labels (net_labels_in wires labels)
 held_zip deck s wires firsts m [] ok = tt
 held_zip deck s wires firsts m (l ∷ ls) ok = by (is_conductor l.layer) refl (net_of_label wires l) refl (held_zip deck s wires firsts m ls (λ k c e. ok k (contains_there l ls k c) e))
   where
-    by : (w : Bool) → is_conductor l.layer ≡ w → (o : Option ℕ) → net_of_label wires l ≡ o → AreHeld deck s (firsts_of firsts) ls (held_in wires ls) → AllZip (IsHeld deck s (firsts_of firsts)) (cond w (l ∷ conductor_labels ls) (conductor_labels ls)) (cons_option (if w then option_map (λ n. record { name = l.name; net = n }) o else None) (held_in wires ls))
+    by : (w : Bool) → is_conductor l.layer ≡ w → (o : Option ℕ) → net_of_label wires l ≡ o → AreNetLabels deck s (firsts_of firsts) ls (net_labels_in wires ls) → AllZip (IsNetLabel deck s (firsts_of firsts)) (cond w (l ∷ conductor_labels ls) (conductor_labels ls)) (cons_option (if w then option_map (λ n. record { name = l.name; net = n }) o else None) (net_labels_in wires ls))
     by false e o f rest = rest
     by true e None f rest = absurd (ok l (contains_here l ls) (rw e (rw f refl)))
     by true e (Some n) f rest =
@@ -260,7 +260,7 @@ stray_is deck s wires firsts m labels l e =
       named = refl;
     }
 
-pub labels_held : (deck : Deck) (s : List Shape) (wires : List Wire) (firsts : List Piece) → AreWires deck s wires firsts → (labels : List Label) → find (is_lost wires) labels ≡ None → AreHeld deck s (firsts_of firsts) labels (held_in wires labels)
+pub labels_held : (deck : Deck) (s : List Shape) (wires : List Wire) (firsts : List Piece) → AreWires deck s wires firsts → (labels : List Label) → find (is_lost wires) labels ≡ None → AreNetLabels deck s (firsts_of firsts) labels (net_labels_in wires labels)
 labels_held deck s wires firsts m labels e = held_zip deck s wires firsts m labels (λ l c t. found_none (is_lost wires) labels e l c t)
 
 pub filter_map_push : {X Y : Type 0} (h : X → Option Y) (xs : List X) (x : X) → filter_map h (xs ++ x ∷ []) ≡ filter_map h xs ++ option_to_list (h x)

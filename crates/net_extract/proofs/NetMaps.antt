@@ -35,7 +35,7 @@ use Rattle.net_extract.specs.Pieces.{corner_of, rect_of}
 use Rattle.net_extract.specs.Steps.{IsMapped}
 use Rattle.net_extract.specs.declared.connections.Wire.{Wire}
 use Rattle.net_extract.specs.declared.drawing.Mapped.{Mapped}
-use Rattle.net_extract.specs.declared.naming.Held.{Held}
+use Rattle.net_extract.specs.declared.naming.NetLabel.{NetLabel}
 use Rattle.net_extract.specs.declared.net_piece.NetPiece.{NetPiece}
 use Rattle.net_extract.specs.declared.piece.Piece.{Piece}
 use Rattle.net_extract.proofs.Agreeing.{label_held}
@@ -186,18 +186,18 @@ are_cells m are n layer rs e x y = subst (λ ss. Covers ss x y ↔ net_of m laye
 
 -- ---- numbers of names
 
-in_names : (deck : Deck) (s : List Shape) (firsts : List Site) (held : List Held) (names : List (List ℕ)) → names ≡ names_of held (length firsts) → (n : ℕ) (a : Site) → IsInNet deck s firsts n a → n < length names
+in_names : (deck : Deck) (s : List Shape) (firsts : List Site) (held : List NetLabel) (names : List (List ℕ)) → names ≡ names_of held (length firsts) → (n : ℕ) (a : Site) → IsInNet deck s firsts n a → n < length names
 in_names deck s firsts held names e n a net =
     let less : n < length firsts = slice_get_within firsts n net.first net.numbered in
     let many : length (names_of held (length firsts)) ≡ length firsts = length-map-range_with_len (name_of held) 0 (length firsts) in
     subst (λ k. n < k) (sym (ap length e ∙ many)) less
 
-pub have_names : (deck : Deck) (shapes : Shapes) (m : Mapped) (labels : List Held) → IsMapped deck shapes m → IsPermutation m.named.held.items labels → HaveNames (net_pieces m.connections.wires.items) labels m.named.names
+pub have_names : (deck : Deck) (shapes : Shapes) (m : Mapped) (labels : List NetLabel) → IsMapped deck shapes m → IsPermutation m.named.held.items labels → HaveNames (net_pieces m.connections.wires.items) labels m.named.names
 have_names deck shapes m labels is moved = record {
   pieces = all_from_contains (λ (p : NetPiece). p.net < length m.named.names) (net_pieces m.connections.wires.items) (λ p c.
       let i = in_map net_piece m.connections.wires.items p c in
       subst (λ (q : NetPiece). q.net < length m.named.names) i.is (at i.of.net (corner_of i.of.piece) (All-contains (λ (w : Wire). IsInNet deck shapes.rects (firsts_of m.connections.firsts.items) w.net (corner_of w.piece)) m.connections.wires.items i.of is.wires.numbers i.listed)));
-  labels = all_from_contains (λ (h : Held). h.net < length m.named.names) labels (λ h c.
+  labels = all_from_contains (λ (h : NetLabel). h.net < length m.named.names) labels (λ h c.
       let (l, listed, of) = label_held deck shapes.rects (firsts_of m.connections.firsts.items) shapes.labels m.named.held.items h is.named.labelled.labels (Contains-permutation labels m.named.held.items h (IsPermutation-sym m.named.held.items labels moved) c) in
       at h.net of.site of.net);
 }
@@ -213,11 +213,11 @@ net_within m have layer x y = by (find (at_cell layer x y) m.pieces) refl
     by (Some p) e = All-contains (λ (q : NetPiece). q.net < length m.names) m.pieces p have.pieces (found (at_cell layer x y) m.pieces p e).listed
 
 pub named_within : (m : NetMap) → HaveNames m.pieces m.labels m.names → (name : List ℕ) → IfSome (net_named m name) (λ n. n < length m.names)
-named_within m have name = by (find (λ (h : Held). bytes_eq h.name name) m.labels) refl
+named_within m have name = by (find (λ (h : NetLabel). bytes_eq h.name name) m.labels) refl
   where
-    by : (o : Option Held) → find (λ (h : Held). bytes_eq h.name name) m.labels ≡ o → IfSome (option_map (λ (h : Held). h.net) o) (λ n. n < length m.names)
+    by : (o : Option NetLabel) → find (λ (h : NetLabel). bytes_eq h.name name) m.labels ≡ o → IfSome (option_map (λ (h : NetLabel). h.net) o) (λ n. n < length m.names)
     by None e = tt
-    by (Some h) e = All-contains (λ (k : Held). k.net < length m.names) m.labels h have.labels (found (λ (k : Held). bytes_eq k.name name) m.labels h e).listed
+    by (Some h) e = All-contains (λ (k : NetLabel). k.net < length m.names) m.labels h have.labels (found (λ (k : NetLabel). bytes_eq k.name name) m.labels h e).listed
 
 -- ---- the whole map
 

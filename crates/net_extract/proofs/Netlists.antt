@@ -14,12 +14,12 @@ use Rattle.scmos_rules.specs.Layout.{On}
 use Rattle.scmos_rules.specs.declared.rules.Deck.{Deck}
 use Rattle.net_extract.specs.declared.fault.ExtractFault.{ExtractFault}
 use Rattle.net_extract.specs.declared.fault.ExtractFault.TheVariants.{TooMany, OddDevice, Stray, Short, Split, NoMemory}
-use Rattle.net_extract.specs.declared.naming.Held.{Held}
+use Rattle.net_extract.specs.declared.naming.NetLabel.{NetLabel}
 use Rattle.net_extract.specs.declared.netlist.Drawn.{Drawn}
 use Rattle.net_extract.specs.declared.netlist.Netlist.{Netlist}
 use Rattle.net_extract.specs.Devices.{diffusion_of, IsSide, IsClosed, left_of, below, source_side, drain_side, low_end, IsSize, BeginsBefore, AreDevices}
 use Rattle.net_extract.specs.Extraction.{IsDrawn, IsLabelled, Extracts, ExtractRefused}
-use Rattle.net_extract.specs.Labels.{AreHeld, IsHeld, conductor_labels}
+use Rattle.net_extract.specs.Labels.{AreNetLabels, IsNetLabel, conductor_labels}
 use Rattle.net_extract.specs.Naming.{names_of, short_net, split_name}
 use Rattle.net_extract.specs.Nets.{Site, site_at, Conducts}
 use Rattle.net_extract.specs.declared.piece.Conductor.TheVariants.{Poly}
@@ -33,36 +33,36 @@ use Rattle.net_extract.specs.declared.side.Current.{Current}
 use Rattle.net_extract.specs.declared.side.Current.TheVariants.{Rightward, Upward}
 
 -- ---- labels
-held_with : List ℕ → ℕ → Held
+held_with : List ℕ → ℕ → NetLabel
 held_with name net = record { name = name; net = net }
 
 held_made : (name other : List ℕ) (m n : ℕ) → name ≡ other → m ≡ n → held_with name m ≡ held_with other n
 held_made name other m n a b = cc
 
-same_held : (h k : Held) → h.name ≡ k.name → h.net ≡ k.net → h ≡ k
+same_held : (h k : NetLabel) → h.name ≡ k.name → h.net ≡ k.net → h ≡ k
 unfolding held_with
 same_held h k a b = held_made h.name k.name h.net k.net a b
 
-one_held : (deck : Deck) (s : List Shape) (firsts : List Site) (l : Label) (h k : Held) → AreNets deck s firsts → IsHeld deck s firsts l h → IsHeld deck s firsts l k → h ≡ k
+one_held : (deck : Deck) (s : List Shape) (firsts : List Site) (l : Label) (h k : NetLabel) → AreNets deck s firsts → IsNetLabel deck s firsts l h → IsNetLabel deck s firsts l k → h ≡ k
 one_held deck s firsts l h k nets a b =
     let site : a.site ≡ b.site = one_site s l a.site b.site a.belongs b.belongs in
     same_held h k (a.name ∙ sym b.name) (one_number deck s firsts h.net k.net a.site nets a.net (subst (IsInNet deck s firsts k.net) (sym site) b.net))
 
-all_held : (deck : Deck) (s : List Shape) (firsts : List Site) (ls : List Label) (hs ks : List Held) → AreNets deck s firsts → AllZip (IsHeld deck s firsts) ls hs → AllZip (IsHeld deck s firsts) ls ks → hs ≡ ks
-all_held deck s firsts [] [] [] nets a b = refl
-all_held deck s firsts [] [] (k ∷ ks) nets a b = absurd b
-all_held deck s firsts [] (h ∷ hs) ks nets a b = absurd a
-all_held deck s firsts (l ∷ ls) [] ks nets a b = absurd a
-all_held deck s firsts (l ∷ ls) (h ∷ hs) [] nets a b = absurd b
-all_held deck s firsts (l ∷ ls) (h ∷ hs) (k ∷ ks) nets a b =
+all_net_labels : (deck : Deck) (s : List Shape) (firsts : List Site) (ls : List Label) (hs ks : List NetLabel) → AreNets deck s firsts → AllZip (IsNetLabel deck s firsts) ls hs → AllZip (IsNetLabel deck s firsts) ls ks → hs ≡ ks
+all_net_labels deck s firsts [] [] [] nets a b = refl
+all_net_labels deck s firsts [] [] (k ∷ ks) nets a b = absurd b
+all_net_labels deck s firsts [] (h ∷ hs) ks nets a b = absurd a
+all_net_labels deck s firsts (l ∷ ls) [] ks nets a b = absurd a
+all_net_labels deck s firsts (l ∷ ls) (h ∷ hs) [] nets a b = absurd b
+all_net_labels deck s firsts (l ∷ ls) (h ∷ hs) (k ∷ ks) nets a b =
     let first : h ≡ k = one_held deck s firsts l h k nets a.0 b.0 in
-    let rest : hs ≡ ks = all_held deck s firsts ls hs ks nets a.1 b.1 in
+    let rest : hs ≡ ks = all_net_labels deck s firsts ls hs ks nets a.1 b.1 in
     cc
 
-pub one_labelling : (deck : Deck) (shapes : Shapes) (firsts others : List Site) (hs ks : List Held) → IsLabelled deck shapes firsts hs → IsLabelled deck shapes others ks → (firsts ≡ others) × (hs ≡ ks)
+pub one_labelling : (deck : Deck) (shapes : Shapes) (firsts others : List Site) (hs ks : List NetLabel) → IsLabelled deck shapes firsts hs → IsLabelled deck shapes others ks → (firsts ≡ others) × (hs ≡ ks)
 one_labelling deck shapes firsts others hs ks a b =
     let same : firsts ≡ others = same_numbering deck shapes.rects firsts others a.nets b.nets in
-    (same, all_held deck shapes.rects firsts (conductor_labels shapes.labels) hs ks a.nets a.labels (subst (λ (z : List Site). AreHeld deck shapes.rects z shapes.labels ks) (sym same) b.labels))
+    (same, all_net_labels deck shapes.rects firsts (conductor_labels shapes.labels) hs ks a.nets a.labels (subst (λ (z : List Site). AreNetLabels deck shapes.rects z shapes.labels ks) (sym same) b.labels))
 
 -- ---- devices
 begins_strict : (a b : Rectangle) → BeginsBefore a b → BeginsBefore b a → ⊥
@@ -199,12 +199,12 @@ pub only_memory : (deck : Deck) (shapes : Shapes) (n : Netlist) (f : ExtractFaul
 only_memory deck shapes n (TooMany count) e r = absurd (not_many shapes count e.few r)
 only_memory deck shapes n (OddDevice x y) e r = absurd (e.devices.none_odd x y r.odd.odd)
 only_memory deck shapes n (Stray name) e r =
-    let (h, is) = zip_middle (IsHeld deck shapes.rects e.firsts) r.stray.before r.stray.label r.stray.after e.held (subst (λ (ls : List Label). AllZip (IsHeld deck shapes.rects e.firsts) ls e.held) r.stray.split e.labelled.labels) in
+    let (h, is) = zip_middle (IsNetLabel deck shapes.rects e.firsts) r.stray.before r.stray.label r.stray.after e.held (subst (λ (ls : List Label). AllZip (IsNetLabel deck shapes.rects e.firsts) ls e.held) r.stray.split e.labelled.labels) in
     absurd (r.stray.stray is.site is.belongs)
 only_memory deck shapes n (Short one another) e r =
     let (firsts, hs) = one_labelling deck shapes e.firsts r.firsts e.held r.held e.labelled r.labelled in
     absurd (none_some (short_net e.held (length e.firsts)) (short_net r.held (length r.firsts)) r.short.net e.agreed.no_short r.short.short
-    (ap (λ (z : List Held). short_net z (length e.firsts)) hs ∙ ap (λ (z : List Site). short_net r.held (length z)) firsts))
+    (ap (λ (z : List NetLabel). short_net z (length e.firsts)) hs ∙ ap (λ (z : List Site). short_net r.held (length z)) firsts))
 only_memory deck shapes n (Split name) e r =
     let (firsts, hs) = one_labelling deck shapes e.firsts r.firsts e.held r.held e.labelled r.labelled in
     absurd (none_some (split_name e.held) (split_name r.held) name e.agreed.no_split r.split.split (ap split_name hs))

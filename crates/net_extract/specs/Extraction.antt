@@ -8,8 +8,8 @@ use Rattle.scmos_rules.specs.declared.rules.Deck.{Deck}
 use Rattle.net_extract.specs.Nets.{Site}
 use Rattle.net_extract.specs.Numbering.{AreNets, IsInNet}
 use Rattle.net_extract.specs.Devices.{IsDevice, IsOdd, IsFirstOdd, AreDevices}
-use Rattle.net_extract.specs.declared.naming.Held.{Held}
-use Rattle.net_extract.specs.Labels.{AreHeld, IsFirstStray}
+use Rattle.net_extract.specs.declared.naming.NetLabel.{NetLabel}
+use Rattle.net_extract.specs.Labels.{AreNetLabels, IsFirstStray}
 use Rattle.net_extract.specs.Naming.{IsAgreed, IsShort, IsSplit, names_of}
 use Rattle.net_extract.specs.declared.netlist.Drawn.{Drawn}
 use Rattle.net_extract.specs.declared.netlist.Netlist.{Netlist}
@@ -32,15 +32,15 @@ pub record IsDrawn (deck : Deck) (s : List Shape) (firsts : List Site) (box : Re
   pub order : d.lo ≤ d.hi
 
 -- the nets of a drawing and the labels in them
-pub record IsLabelled (deck : Deck) (shapes : Shapes) (firsts : List Site) (held : List Held) : Type 0 where
+pub record IsLabelled (deck : Deck) (shapes : Shapes) (firsts : List Site) (held : List NetLabel) : Type 0 where
   pub nets : AreNets deck shapes.rects firsts
-  pub labels : AreHeld deck shapes.rects firsts shapes.labels held
+  pub labels : AreNetLabels deck shapes.rects firsts shapes.labels held
 
 -- the netlist of a drawing
 pub record Extracts (deck : Deck) (shapes : Shapes) (netlist : Netlist) : Type 0 where
   pub few : AreFew shapes
   pub firsts : List Site
-  pub held : List Held
+  pub held : List NetLabel
   pub labelled : IsLabelled deck shapes firsts held
   pub agreed : IsAgreed held (length firsts)
   pub names : netlist.names ≡ names_of held (length firsts)
@@ -68,14 +68,14 @@ pub record IsStrayLabel (deck : Deck) (shapes : Shapes) (name : List ℕ) : Type
 pub record IsShortDrawing (deck : Deck) (shapes : Shapes) (one other : List ℕ) : Type 0 where
   pub regular : AreRegular deck shapes
   pub firsts : List Site
-  pub held : List Held
+  pub held : List NetLabel
   pub labelled : IsLabelled deck shapes firsts held
   pub short : IsShort held (length firsts) one other
 
 pub record IsSplitDrawing (deck : Deck) (shapes : Shapes) (name : List ℕ) : Type 0 where
   pub regular : AreRegular deck shapes
   pub firsts : List Site
-  pub held : List Held
+  pub held : List NetLabel
   pub labelled : IsLabelled deck shapes firsts held
   pub split : IsSplit held (length firsts) name
 

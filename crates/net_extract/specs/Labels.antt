@@ -9,7 +9,7 @@ use Rattle.box_geom.specs.declared.shape.Shapes.{Shapes}
 use Rattle.box_geom.specs.declared.layer.Layer.{Layer}
 use Rattle.box_geom.specs.declared.layer.Layer.TheVariants.{Active, Poly, Metal1, Metal2}
 use Rattle.scmos_rules.specs.declared.rules.Deck.{Deck}
-use Rattle.net_extract.specs.declared.naming.Held.{Held}
+use Rattle.net_extract.specs.declared.naming.NetLabel.{NetLabel}
 use Rattle.net_extract.specs.Nets.{layer_of, Site, Conducts, SameNet}
 use Rattle.net_extract.specs.Numbering.{IsInNet}
 
@@ -50,15 +50,15 @@ abbrev pub IsStray : List Shape → Label → Type 0
 IsStray s l = (a : Site) → Belongs s l a → ⊥
 
 -- the label's name and the number of its net
-pub record IsHeld (deck : Deck) (s : List Shape) (firsts : List Site) (l : Label) (h : Held) : Type 0 where
+pub record IsNetLabel (deck : Deck) (s : List Shape) (firsts : List Site) (l : Label) (h : NetLabel) : Type 0 where
   pub name : h.name ≡ l.name
   pub site : Site
   pub belongs : Belongs s l site
   pub net : IsInNet deck s firsts h.net site
 
 -- every label on a layer of conductors in the order of the list, with its net
-abbrev pub AreHeld : Deck → List Shape → List Site → List Label → List Held → Type 0
-AreHeld deck s firsts labels held = AllZip (IsHeld deck s firsts) (conductor_labels labels) held
+abbrev pub AreNetLabels : Deck → List Shape → List Site → List Label → List NetLabel → Type 0
+AreNetLabels deck s firsts labels held = AllZip (IsNetLabel deck s firsts) (conductor_labels labels) held
 
 -- the first label that is stray, and the labels before it
 pub record IsFirstStray (s : List Shape) (labels : List Label) (name : List ℕ) : Type 0 where

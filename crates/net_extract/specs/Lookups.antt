@@ -8,7 +8,7 @@ use Rattle.box_geom.specs.declared.layer.Layer.{Layer}
 use Rattle.box_geom.specs.declared.layer.Layer.TheVariants.{Well, Active, PSelect, NSelect, Poly as PolyLayer, Contact, Metal1 as Metal1Layer, Via, Metal2 as Metal2Layer}
 use Rattle.net_extract.specs.Labels.{is_conductor}
 use Rattle.net_extract.specs.Pieces.{place, rect_of}
-use Rattle.net_extract.specs.declared.naming.Held.{Held}
+use Rattle.net_extract.specs.declared.naming.NetLabel.{NetLabel}
 use Rattle.net_extract.specs.declared.fault.ExtractFault.{ExtractFault}
 use Rattle.net_extract.specs.declared.fault.ExtractFault.TheVariants.{Stray, NoMemory}
 use Rattle.net_extract.specs.declared.piece.Conductor.{Conductor}
@@ -51,11 +51,11 @@ net_of_label wires l = net_round wires l.layer l.x l.y
 abbrev pub is_lost : List Wire → Label → Bool
 is_lost wires l = is_conductor l.layer && not (is_some (net_of_label wires l))
 
-abbrev pub held_of : List Wire → Label → Option Held
-held_of wires l = if is_conductor l.layer then option_map (λ n. record { name = l.name; net = n }) (net_of_label wires l) else None
+abbrev pub net_label_of : List Wire → Label → Option NetLabel
+net_label_of wires l = if is_conductor l.layer then option_map (λ n. record { name = l.name; net = n }) (net_of_label wires l) else None
 
-abbrev pub held_in : List Wire → List Label → List Held
-held_in wires labels = filter_map (held_of wires) labels
+abbrev pub net_labels_in : List Wire → List Label → List NetLabel
+net_labels_in wires labels = filter_map (net_label_of wires) labels
 
 -- memory may be wanted in place of the answer
 abbrev pub IsStrayOf : List ℕ → ExtractFault → Type 0

@@ -21,13 +21,13 @@ use Rattle.net_extract.specs.Nets.{layer_of, Site}
 use Rattle.net_extract.specs.Numbering.{IsInNet}
 use Rattle.net_extract.specs.Pieces.{rect_of}
 use Rattle.net_extract.specs.declared.connections.Wire.{Wire}
-use Rattle.net_extract.specs.declared.naming.Held.{Held}
+use Rattle.net_extract.specs.declared.naming.NetLabel.{NetLabel}
 use Rattle.net_extract.specs.declared.net_piece.NetPiece.{NetPiece}
 
 -- conductor by layers with the nets of its rectangles, labels with their nets, and the names of all nets by number
 pub record NetMap : Type 0 where
   pub pieces : List NetPiece
-  pub labels : List Held
+  pub labels : List NetLabel
   pub names : List (List ℕ)
 
 -- the pieces are rectangles of the plane, and a cell of a layer lies in pieces of one net
@@ -56,22 +56,22 @@ abbrev pub blocks_of : ℕ → Layer → List NetPiece → List Rectangle
 blocks_of n layer pieces = map (λ (p : NetPiece). p.block) (filter (of_net n layer) pieces)
 
 -- the net of the first label of a name
-abbrev pub net_labelled : List Held → List ℕ → Option ℕ
-net_labelled held name = option_map (λ (h : Held). h.net) (find (λ (h : Held). bytes_eq h.name name) held)
+abbrev pub net_labelled : List NetLabel → List ℕ → Option ℕ
+net_labelled held name = option_map (λ (h : NetLabel). h.net) (find (λ (h : NetLabel). bytes_eq h.name name) held)
 
 -- the net that a label stands in
 abbrev pub net_named : NetMap → List ℕ → Option ℕ
 net_named m name = net_labelled m.labels name
 
 -- the labels ascend by their names, and those of one name are of one net
-pub record AreByName (labels : List Held) : Type 0 where
-  pub sorted : IsSortedByKey (λ (h : Held). h.name) (slice_cmp nat_cmp) labels
-  pub one : (h k : Held) → Contains labels h → Contains labels k → h.name ≡ k.name → h.net ≡ k.net
+pub record AreByName (labels : List NetLabel) : Type 0 where
+  pub sorted : IsSortedByKey (λ (h : NetLabel). h.name) (slice_cmp nat_cmp) labels
+  pub one : (h k : NetLabel) → Contains labels h → Contains labels k → h.name ≡ k.name → h.net ≡ k.net
 
 -- the nets of pieces and labels are numbers of names
-pub record HaveNames (ps : List NetPiece) (held : List Held) (names : List (List ℕ)) : Type 0 where
+pub record HaveNames (ps : List NetPiece) (held : List NetLabel) (names : List (List ℕ)) : Type 0 where
   pub pieces : All (λ (p : NetPiece). p.net < length names) ps
-  pub labels : All (λ (h : Held). h.net < length names) held
+  pub labels : All (λ (h : NetLabel). h.net < length names) held
 
 -- the cell is conductor of the layer, and in net n
 pub record IsNetAt (deck : Deck) (s : List Shape) (firsts : List Site) (layer : Layer) (x y : ℤ) (n : ℕ) : Type 0 where
@@ -83,7 +83,7 @@ pub record IsNetAt (deck : Deck) (s : List Shape) (firsts : List Site) (layer : 
 pub record Maps (deck : Deck) (shapes : Shapes) (map : NetMap) : Type 0 where
   pub regular : AreRegular deck shapes
   pub firsts : List Site
-  pub held : List Held
+  pub held : List NetLabel
   pub has : IsLabelled deck shapes firsts held
   pub agreed : IsAgreed held (length firsts)
   pub names : map.names ≡ names_of held (length firsts)

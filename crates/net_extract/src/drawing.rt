@@ -19,8 +19,8 @@ use crate::connections::{Connections, Wire, connections_of, count_of, tapped_con
 use crate::fault::ExtractFault;
 use crate::gate::devices;
 use crate::layers::Layers;
-use crate::lookup::{all_held, check_strays};
-use crate::naming::{Held, net_names};
+use crate::lookup::{all_net_labels, check_strays};
+use crate::naming::{NetLabel, net_names};
 use crate::netlist::{BodyList, BodyNetlist, DrawnList, Netlist};
 use box_geom::{Shape, Shapes};
 use cell_num::{Names, NoMemory};
@@ -34,7 +34,7 @@ const MOST_LABELS: usize = 2_000;
 /// The labels on layers of conductors with their nets, and the names of all nets by them.
 #[derive(Drop)]
 pub struct Named {
-    pub held: Vec<Held>,
+    pub held: Vec<NetLabel>,
     pub names: Names,
 }
 
@@ -97,7 +97,7 @@ fn named_by_labels(alloc: Global, shapes: &Shapes, map: &Connections) -> Result<
     ensures ok { IfOk result (AreNamed map.now.deck shapes.now (firsts_of map.now.firsts.items)) }
     ensures refused { IfErr result (λ f. ExtractRefused map.now.deck shapes.now f) }
 {
-    let Ok(held) = all_held(alloc, map.wires.as_slice(), shapes.labels.as_slice()) else {
+    let Ok(held) = all_net_labels(alloc, map.wires.as_slice(), shapes.labels.as_slice()) else {
         return Err(ExtractFault::NoMemory);
     };
     let count = count_of(map.firsts.as_slice());

@@ -5,17 +5,17 @@ ghost use Rattle.std.specs.Ordering.{nat_cmp};
 ghost use Rattle.std.specs.List.Sorted.{IsSortedByKey};
 ghost use Rattle.net_extract.specs.NetMaps.{AreByName, net_labelled};
 
-use crate::naming::Held;
+use crate::naming::NetLabel;
 use std::cmp::Ordering;
 
-fn compare(label: &Held, name: &[u8]) -> Ordering
+fn compare(label: &NetLabel, name: &[u8]) -> Ordering
     ensures { result ≡ slice_cmp nat_cmp label.now.name name.now }
 {
     label.name.as_slice().cmp(name)
 }
 
 /// Labels in the order of their names.
-pub(crate) fn by_name(mut labels: Vec<Held>) -> Vec<Held>
+pub(crate) fn by_name(mut labels: Vec<NetLabel>) -> Vec<NetLabel>
     ensures moved { IsPermutation labels.items result.items }
     ensures sorted { IsSortedByKey (λ h. h.name) (slice_cmp nat_cmp) result.items }
 {
@@ -24,7 +24,7 @@ pub(crate) fn by_name(mut labels: Vec<Held>) -> Vec<Held>
 }
 
 /// The net of the labels of a name; None where there is none.
-pub(crate) fn net_of_name(labels: &[Held], name: &[u8]) -> Option<u32>
+pub(crate) fn net_of_name(labels: &[NetLabel], name: &[u8]) -> Option<u32>
     requires { AreByName labels.now }
     ensures { result ≡ net_labelled labels.now name.now }
 {

@@ -4,12 +4,12 @@ ghost use Rattle.std.specs.Option.{option_map};
 ghost use Rattle.std.specs.List.{find};
 ghost use Rattle.box_geom.specs.Comparisons.{within, holding};
 ghost use Rattle.net_extract.specs.Labels.{is_conductor};
-ghost use Rattle.net_extract.specs.Lookups.{is_at, net_in, net_on, or_else, net_round, is_lost, held_of, held_in, IsStrayOf, IsLostBy};
+ghost use Rattle.net_extract.specs.Lookups.{is_at, net_in, net_on, or_else, net_round, is_lost, net_label_of, net_labels_in, IsStrayOf, IsLostBy};
 ghost use Rattle.net_extract.specs.Pieces.{rect_of};
 
 use crate::connections::Wire;
 use crate::fault::ExtractFault;
-use crate::naming::Held;
+use crate::naming::NetLabel;
 use crate::piece::{Conductor, Piece};
 use box_geom::{Label, Layer};
 use cell_num::{NoMemory, copy};
@@ -129,14 +129,14 @@ pub(crate) fn check_strays(
     }
 }
 
-fn held(alloc: Global, wires: &[Wire], label: &Label) -> Result<Option<Held>, NoMemory>
-    ensures { IfOk result (λ h. h ≡ held_of wires.now label.now) }
+fn net_label(alloc: Global, wires: &[Wire], label: &Label) -> Result<Option<NetLabel>, NoMemory>
+    ensures { IfOk result (λ h. h ≡ net_label_of wires.now label.now) }
 {
     if !is_conductor(label.layer) {
         return Ok(None);
     }
     match net_of_point(wires, label.layer, label.x, label.y) {
-        Some(net) => Ok(Some(Held {
+        Some(net) => Ok(Some(NetLabel {
             name: copy(alloc, label.name.as_slice())?,
             net,
         })),
@@ -144,31 +144,31 @@ fn held(alloc: Global, wires: &[Wire], label: &Label) -> Result<Option<Held>, No
     }
 }
 
-fn add_held(
+fn add_net_label(
     alloc: Global,
     wires: &[Wire],
     label: &Label,
-    all: &mut Vec<Held>,
+    all: &mut Vec<NetLabel>,
 ) -> Result<(), NoMemory>
-    ensures { OnOk result (all.new.items ≡ all.old.items ++ option_to_list (held_of wires.now label.now)) }
+    ensures { OnOk result (all.new.items ≡ all.old.items ++ option_to_list (net_label_of wires.now label.now)) }
 {
-    match held(alloc, wires, label)? {
-        Some(held) => all.push(held).map_err(|_| NoMemory),
+    match net_label(alloc, wires, label)? {
+        Some(net_label) => all.push(net_label).map_err(|_| NoMemory),
         None => Ok(()),
     }
 }
 
 /// The labels on layers of conductors with the nets that they belong to.
-pub(crate) fn all_held(
+pub(crate) fn all_net_labels(
     alloc: Global,
     wires: &[Wire],
     labels: &[Label],
-) -> Result<Vec<Held>, NoMemory>
-    ensures { IfOk result (λ h. h.items ≡ held_in wires.now labels.now) }
+) -> Result<Vec<NetLabel>, NoMemory>
+    ensures { IfOk result (λ h. h.items ≡ net_labels_in wires.now labels.now) }
 {
     let mut all = Vec::new(alloc);
     for label in labels {
-        add_held(alloc, wires, label, &mut all)?;
+        add_net_label(alloc, wires, label, &mut all)?;
     }
     Ok(all)
 }

@@ -1,4 +1,4 @@
-// The names of nets by the labels that they hold.
+// The names of nets by their labels.
 ghost use Rattle.std.specs.Prelude.{◌≡◌, ◌++◌, IsTrue, IfOk, IfErr, OnOk, is_some, None, codes, decimal};
 ghost use Rattle.std.specs.Option.{option_map};
 ghost use Rattle.std.specs.Str.{bytes_eq};
@@ -10,7 +10,7 @@ use std::alloc::Global;
 
 /// A label's name and the number of the net that it belongs to.
 #[derive(Debug, PartialEq, Eq, Drop)]
-pub struct Held {
+pub struct NetLabel {
     pub name: Name,
     pub net: u32,
 }
@@ -21,13 +21,13 @@ fn same_name(a: &Name, b: &Name) -> bool
     a.as_slice() == b.as_slice()
 }
 
-fn label(held: &[Held], net: u32) -> Option<&Name>
+fn label(held: &[NetLabel], net: u32) -> Option<&Name>
     ensures { option_map (λ n. n.now) result ≡ label_of net held.now }
 {
     held.iter().find(|h| h.net == net).map(|h| &h.name)
 }
 
-fn other_than<'a>(held: &'a [Held], net: u32, one: &Name) -> Option<&'a Name>
+fn other_than<'a>(held: &'a [NetLabel], net: u32, one: &Name) -> Option<&'a Name>
     ensures { option_map (λ n. n.now) result ≡ first_other one.now net held.now }
 {
     held.iter()
@@ -35,7 +35,7 @@ fn other_than<'a>(held: &'a [Held], net: u32, one: &Name) -> Option<&'a Name>
         .map(|h| &h.name)
 }
 
-fn other_label(held: &[Held], net: u32) -> Option<&Name>
+fn other_label(held: &[NetLabel], net: u32) -> Option<&Name>
     ensures { option_map (λ n. n.now) result ≡ other_of net held.now }
 {
     match label(held, net) {
@@ -44,26 +44,26 @@ fn other_label(held: &[Held], net: u32) -> Option<&Name>
     }
 }
 
-fn is_short(held: &[Held], net: u32) -> bool
+fn is_short(held: &[NetLabel], net: u32) -> bool
     ensures { result ≡ is_some (other_of net held.now) }
 {
     other_label(held, net).is_some()
 }
 
-fn first_short(held: &[Held], count: u32) -> Option<u32>
+fn first_short(held: &[NetLabel], count: u32) -> Option<u32>
     ensures { result ≡ short_net held.now count }
 {
     (0..count).find(|net| is_short(held, *net))
 }
 
-fn is_elsewhere(held: &[Held], label: &Held) -> bool
+fn is_elsewhere(held: &[NetLabel], label: &NetLabel) -> bool
     ensures { result ≡ stands_elsewhere held.now label.now }
 {
     held.iter()
         .any(|h| h.net != label.net && same_name(&h.name, &label.name))
 }
 
-fn first_split(held: &[Held]) -> Option<&Name>
+fn first_split(held: &[NetLabel]) -> Option<&Name>
     ensures { option_map (λ n. n.now) result ≡ split_name held.now }
 {
     held.iter()
@@ -81,7 +81,7 @@ fn short(alloc: Global, one: &Name, other: &Name) -> ExtractFault
 }
 
 #[tactic(auto, using(crate::proofs::Faults::other_has_label))]
-fn short_in(alloc: Global, held: &[Held], net: u32) -> ExtractFault
+fn short_in(alloc: Global, held: &[NetLabel], net: u32) -> ExtractFault
     requires { IsTrue (is_some (other_of net held.now)) }
     ensures { IsShortIn held.now net result }
 {
@@ -92,7 +92,7 @@ fn short_in(alloc: Global, held: &[Held], net: u32) -> ExtractFault
 }
 
 #[tactic(auto, using(crate::proofs::Faults::short_rules))]
-fn check_shorts(alloc: Global, held: &[Held], count: u32) -> Result<(), ExtractFault>
+fn check_shorts(alloc: Global, held: &[NetLabel], count: u32) -> Result<(), ExtractFault>
     ensures none { OnOk result (short_net held.now count ≡ None) }
     ensures refused { IfErr result (IsNameFault held.now count) }
 {
@@ -112,7 +112,7 @@ fn split(alloc: Global, name: &Name) -> ExtractFault
 }
 
 #[tactic(auto, using(crate::proofs::Faults::split_rules))]
-fn check_splits(alloc: Global, held: &[Held], count: u32) -> Result<(), ExtractFault>
+fn check_splits(alloc: Global, held: &[NetLabel], count: u32) -> Result<(), ExtractFault>
     requires { short_net held.now count ≡ None }
     ensures none { OnOk result (split_name held.now ≡ None) }
     ensures refused { IfErr result (IsNameFault held.now count) }
@@ -131,7 +131,7 @@ fn number_name(alloc: Global, net: u32) -> Result<Name, NoMemory>
     Ok(name)
 }
 
-fn net_name(alloc: Global, held: &[Held], net: u32) -> Result<Name, NoMemory>
+fn net_name(alloc: Global, held: &[NetLabel], net: u32) -> Result<Name, NoMemory>
     ensures { IfOk result (λ name. name ≡ name_of held.now net) }
 {
     match label(held, net) {
@@ -140,7 +140,7 @@ fn net_name(alloc: Global, held: &[Held], net: u32) -> Result<Name, NoMemory>
     }
 }
 
-fn all_names(alloc: Global, held: &[Held], count: u32) -> Result<Names, NoMemory>
+fn all_names(alloc: Global, held: &[NetLabel], count: u32) -> Result<Names, NoMemory>
     ensures { IfOk result (λ names. names ≡ names_of held.now count) }
 {
     let mut names = Names::new(alloc);
@@ -152,7 +152,7 @@ fn all_names(alloc: Global, held: &[Held], count: u32) -> Result<Names, NoMemory
 
 /// The names of `count` nets by number: a net's first label, or `_` and its number where it has none. It
 /// is refused where a net holds two different labels, or else where a label stands in two nets.
-pub fn net_names(alloc: Global, held: &[Held], count: u32) -> Result<Names, ExtractFault>
+pub fn net_names(alloc: Global, held: &[NetLabel], count: u32) -> Result<Names, ExtractFault>
     ensures names { IfOk result (λ names. names ≡ names_of held.now count) }
     ensures no_short { OnOk result (short_net held.now count ≡ None) }
     ensures no_split { OnOk result (split_name held.now ≡ None) }

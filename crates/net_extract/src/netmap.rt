@@ -9,7 +9,7 @@ ghost use Rattle.net_extract.specs.NetMaps.{AreCellsOf, Maps, net_named, net_of}
 use crate::drawing::{Mapped, map_drawing};
 use crate::fault::ExtractFault;
 use crate::label_nets::{by_name, net_of_name};
-use crate::naming::Held;
+use crate::naming::NetLabel;
 use crate::net_piece::{NetPiece, blocks_of, net_at, net_pieces};
 use box_geom::{Block, Layer, Shapes};
 use cell_num::{Name, Names, NoMemory};
@@ -22,7 +22,7 @@ use std::marker::Model;
 #[derive(Debug, Drop)]
 pub struct NetMap {
     pieces: Vec<NetPiece>,
-    labels: Vec<Held>,
+    labels: Vec<NetLabel>,
     names: Names,
 }
 

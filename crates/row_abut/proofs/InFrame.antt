@@ -61,7 +61,7 @@ pub inside_metal2 : (f : Frame) (xs : List ℕ) (d : Drawing) → IsFramed f xs 
 inside_metal2 f xs d i = no_frame f xs d i Metal2 refl
 
 -- active stands below the channel or above it
-pub active_row : (f : Frame) (xs : List ℕ) (d : Drawing) → IsFramed f xs d → (x y : ℤ) → On Active d.shapes.rects x y → (y <ℤ pos f.yn) ⊎ (pos f.yp ≤ℤ y)
+pub active_row : (f : Frame) (xs : List ℕ) (d : Drawing) → IsFramed f xs d → (x y : ℤ) → On Active d.shapes.rects x y → (y <ℤ pos f.n_edge) ⊎ (pos f.p_edge ≤ℤ y)
 active_row f xs d i x y c =
     let on : On Active i.frame.others x y = subst (λ ss. On Active ss x y) i.frame.is c in
     let o = found (IsInFrame f) i.frame.others Active x y i.others on in

@@ -52,8 +52,8 @@ pub record IsDrawn (c : RowCell) : Type 0 where
   pub frame : Frame
   pub xs : List ℕ
   pub framed : IsFramed frame xs c.drawing
-  pub n : c.edges.n ≡ frame.yn
-  pub p : c.edges.p ≡ frame.yp
+  pub n : c.edges.n ≡ frame.n_edge
+  pub p : c.edges.p ≡ frame.p_edge
   pub obeys : Obeys Plain c.drawing.shapes.rects
 
 -- all but the first and the last

@@ -2,22 +2,22 @@
 #![tactic(auto)]
 
 mod inputs;
-mod took;
+mod measurement;
 
 use cell_io::{HostDesk, say_all};
 use inputs::{Asked, fingers_of};
+use measurement::Measurement;
 use row_search::search_kept;
 use std::alloc::Global;
 use std::env;
 use std::process::ExitCode;
-use took::Took;
 
 // The report, or nothing where a word is wrong, a file is refused or memory ends.
 fn report(alloc: Global, words: &[String], desk: &mut HostDesk<'_, HostRuntime>) -> Option<String> {
     let asked = Asked::from_words(words)?;
     let (fingers, budget) = fingers_of(alloc, &asked, desk)?;
-    let took = Took::of(search_kept(alloc, &fingers, &asked.bound, budget))?;
-    took.report(alloc).ok()
+    let measurement = Measurement::of(search_kept(alloc, &fingers, &asked.bound, budget))?;
+    measurement.report(alloc).ok()
 }
 
 fn main(rt: HostRuntime) -> ExitCode {

@@ -17,8 +17,9 @@ use Rattle.lemma_check.proofs.States.{same_state_from, same_state_is}
 use Rattle.log_check.specs.Accepted.{IsJustified, AreJustified}
 use Rattle.row_state.specs.Start.{IsState, columns_left}
 use Rattle.bound_log.specs.declared.log.Rule.{Rule}
+use Rattle.bound_log.specs.Kept.{lemma_of}
 use Rattle.row_search.specs.Ended.{AreDistinct, IsLean}
-use Rattle.row_search.specs.Visit.{AreKept, IsGrown, lemma_of}
+use Rattle.row_search.specs.Visit.{AreKept, IsGrown}
 
 -- where the column may come next, its cost and the best bound of the state behind it reach the bound
 abbrev pub Reaches : Kinds → (State → ℕ) → State → ℕ → Candidate → Type 0

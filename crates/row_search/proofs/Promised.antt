@@ -21,7 +21,8 @@ use Rattle.log_check.proofs.Sound.{Holds, justified_least}
 use Rattle.row_search.specs.declared.found.FoundKept.{FoundKept}
 use Rattle.row_search.specs.declared.found.StopKept.{StopKept}
 use Rattle.row_search.specs.declared.found.StopKept.TheVariants.{Unfinished, NoMemory}
-use Rattle.row_search.specs.Ended.{IfOpen, IsInRange, IsSearchLog, IsSolved, IsSpent, log_with, log_without}
+use Rattle.bound_log.specs.Kept.{log_with, log_without}
+use Rattle.row_search.specs.Ended.{IfOpen, IsInRange, IsSearchLog, IsSolved, IsSpent}
 use Rattle.row_search.specs.Enough.{columns_in}
 use Rattle.row_search.specs.First.{IsFirstLeast}
 use Rattle.row_search.specs.Limits.{IsFound, IsFoundAt, IsOpen, ProveGaps, StopsWell, best_with, found_of}

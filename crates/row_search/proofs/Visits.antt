@@ -22,6 +22,7 @@ use Rattle.bound_log.specs.declared.log.Lemma.{Lemma}
 use Rattle.bound_log.specs.declared.log.Rule.{Rule}
 use Rattle.bound_log.specs.declared.log.Rule.TheVariants as by
 use Rattle.bound_log.specs.Fits.{SideFits}
+use Rattle.bound_log.specs.Kept.{lemma_of}
 use Rattle.lemma_check.specs.Reaches.{best_of, BranchReaches, StepReaches, RuleReaches}
 use Rattle.lemma_check.specs.Known.{best_known}
 use Rattle.log_check.specs.Accepted.{AreJustified}
@@ -30,7 +31,7 @@ use Rattle.row_search.specs.Ended.{IsLean}
 use Rattle.row_search.specs.Reached.{IsReached, IsWithin}
 use Rattle.row_search.specs.SoFar.{KnowsAll, SoFar, one_node}
 use Rattle.row_search.specs.Steps.{IsStep, row_of}
-use Rattle.row_search.specs.Visit.{AreKept, HasFailed, HasFound, HasSpent, IsAllowed, IsFirstWithin, IsFurther, IsGrown, RowReaches, lemma_of}
+use Rattle.row_search.specs.Visit.{AreKept, HasFailed, HasFound, HasSpent, IsAllowed, IsFirstWithin, IsFurther, IsGrown, RowReaches}
 use Rattle.row_search.proofs.Grown.{Reaches, all_reach_grown, best_unmoved, kept_push, grown_refl, grown_trans, grown_weaker, kept_bound, kept_grown, kept_length}
 use Rattle.row_search.proofs.Reach.{reached_after}
 use Rattle.row_search.proofs.Rows.{AreOrdered, Fails, fails, found, leaf, row_of_push}

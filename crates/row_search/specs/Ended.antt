@@ -1,5 +1,5 @@
 -- How a search ended: what its log proves, and what holds of the log in either case.
-use Rattle.std.specs.Prelude.{ℕ, ◌≡◌, ◌<◌, ◌≤◌, ◌+◌, List, Some, None, Result, Err, IsNone, All, length, slice_index_or}
+use Rattle.std.specs.Prelude.{ℕ, ◌≡◌, ◌<◌, ◌≤◌, ◌+◌, List, Result, Err, IsNone, All, length, slice_index_or}
 use Rattle.cell_num.specs.declared.finger.Row.{Row}
 use Rattle.cell_num.specs.declared.finger.Row.TheVariants.{P, N}
 use Rattle.cell_num.specs.declared.finger.Fingers.{Fingers}
@@ -13,7 +13,6 @@ use Rattle.row_state.specs.Start.{start_of}
 use Rattle.bound_log.specs.declared.log.Rule.{Rule}
 use Rattle.bound_log.specs.declared.log.Rule.TheVariants as by
 use Rattle.bound_log.specs.declared.log.Lemma.{Lemma}
-use Rattle.bound_log.specs.declared.log.Best.{Best}
 use Rattle.bound_log.specs.declared.log.Log.{Log}
 use Rattle.bound_log.specs.Fits.{Fits}
 use Rattle.lemma_check.specs.Reaches.{best_of}
@@ -36,14 +35,6 @@ IfUnfinished _ Says = Unit {0}
 abbrev pub IfOpen : Result FoundKept StopKept → (List Lemma → ℕ → Type 0) → Type 0
 IfOpen (Err (stopped.Unfinished kept proved)) Says = Says kept proved
 IfOpen _ Says = Unit {0}
-
--- the log of kept lemmas, of this version, that lists a row
-abbrev pub log_with : ℕ → List Lemma → Best → Log
-log_with version kept best = record { version = version; lemmas = kept; best = Some best }
-
--- and one that lists none
-abbrev pub log_without : ℕ → List Lemma → Log
-log_without version kept = record { version = version; lemmas = kept; best = None }
 
 -- no two lemmas have one state and one bound
 abbrev pub AreDistinct : List Lemma → Type 0

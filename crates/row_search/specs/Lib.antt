@@ -2,7 +2,6 @@
 pub mod Ended
 pub mod Enough
 pub mod First
-pub mod Kept
 pub mod Reached
 -- What inner contracts and proofs alone cite.
 pub mod Limits

@@ -24,9 +24,6 @@ pub record IsFirstWithin (k : Kinds) (s : State) (allowed : ℕ) (row : List Col
   pub within : further_gaps s row ≤ allowed
   pub first : (other : List Column) → Completes k s other → further_gaps s other ≤ allowed → (row ≡ other) ⊎ RowBefore row other
 
-abbrev pub lemma_of : State → ℕ → Rule → Lemma
-lemma_of s bound rule = record { state = s; bound = bound; rule = rule }
-
 -- the bound of a row serves, and no earlier one
 abbrev pub RowReaches : (Row → State → Kinds → ℕ) → Kinds → State → ℕ → Rule → Type 0
 RowReaches value k s bound by.Branch = ⊥

@@ -12,7 +12,7 @@ use crate::progress::Progress;
 use crate::row_rule::row_rule;
 use bound_log::Rule;
 use cell_num::{MOST_COLUMNS, NoMemory};
-use lemma_check::Trails;
+use lemma_check::RowTrails;
 use row_state::{Candidate, EmptyPlaces, Kinds, Numbered, RowBound, Steps, has_fingers};
 use std::alloc::Global;
 
@@ -50,7 +50,7 @@ impl From<NoMemory> for Halt {
 pub(crate) fn visit<B: RowBound>(
     task: &Task<B>,
     progress: &mut Progress,
-    trails: &mut Trails,
+    trails: &mut RowTrails,
     at: &Numbered,
     empty: EmptyPlaces,
     allowed: u32,

@@ -1,5 +1,4 @@
-use crate::Kept;
-use bound_log::{Best, Log};
+use bound_log::{Best, Kept, Log};
 use cell_num::NoMemory;
 use row_model::Arrangement;
 

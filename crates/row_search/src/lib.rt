@@ -3,15 +3,14 @@
 
 mod descent;
 mod found;
-mod kept;
 mod limits;
 mod listed;
 mod progress;
 mod row_rule;
 mod whole;
 
+pub use bound_log::Kept;
 pub use found::{Found, FoundKept, Stop, StopKept};
-pub use kept::Kept;
 pub use limits::search_kept;
 pub use listed::{arrangement, log_steps};
 pub use whole::search;

@@ -4,7 +4,8 @@ ghost use Rattle.row_state.specs.Candidates.{AreCandidates, IsNumbered};
 ghost use Rattle.row_state.specs.Start.{start_of};
 ghost use Rattle.lemma_check.specs.Noted.{AreNoted};
 ghost use Rattle.log_check.specs.Accepted.{WithKinds};
-ghost use Rattle.row_search.specs.Ended.{IfOpen, IsSolved, IsSpent, log_with, log_without};
+ghost use Rattle.bound_log.specs.Kept.{log_with, log_without};
+ghost use Rattle.row_search.specs.Ended.{IfOpen, IsSolved, IsSpent};
 ghost use Rattle.row_search.specs.First.{IsFirstLeast};
 ghost use Rattle.row_search.specs.Limits.{IsFound, StopsWell, found_of};
 
@@ -14,7 +15,7 @@ use crate::progress::Progress;
 use crate::{FoundKept, StopKept};
 use bound_log::Best;
 use cell_num::{Fingers, NoMemory};
-use lemma_check::Trails;
+use lemma_check::RowTrails;
 use row_state::{EmptyPlaces, Kinds, Numbered, RowBound, Step, candidates, columns, kinds, start};
 use std::alloc::Global;
 
@@ -50,7 +51,7 @@ fn numbered_start(alloc: Global, kinds: &Kinds) -> Result<Numbered, NoMemory>
 fn try_limits<B: RowBound>(
     task: &Task<B>,
     first: &Numbered,
-    trails: &mut Trails,
+    trails: &mut RowTrails,
 ) -> Result<FoundKept, StopKept>
     requires candidates { AreCandidates task.now.kinds.now task.now.candidates.now }
     requires state { first.now.state ≡ start_of task.now.kinds.now }
@@ -94,7 +95,7 @@ fn search_task<B: RowBound>(task: &Task<B>) -> Result<FoundKept, StopKept>
     ensures stopped { IfErr result (StopsWell (B.value task.now.bound.now) task.now.kinds.now task.now.budget) }
 {
     let first = numbered_start(task.alloc, task.kinds)?;
-    let mut trails = Trails::new(task.alloc);
+    let mut trails = RowTrails::new(task.alloc);
     let ended = try_limits(task, &first, &mut trails);
     drop(trails);
     drop(first);

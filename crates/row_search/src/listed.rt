@@ -1,4 +1,4 @@
-ghost use Rattle.std.specs.Prelude.{◌≡◌, IfOk, map};
+ghost use Rattle.std.specs.Prelude.{◌≡◌, IfOk};
 ghost use Rattle.row_search.specs.Steps.{gate_of, listed_of, row_of, steps_of};
 
 use bound_log::{LogStep, LogSteps};

@@ -3,14 +3,12 @@ ghost use Rattle.row_state.specs.declared.kind.Kinds.{Kinds as KindsOf};
 ghost use Rattle.row_state.specs.declared.state.State.{State as StateOf};
 ghost use Rattle.row_state.specs.Candidates.{IsNumbered};
 ghost use Rattle.row_state.specs.Code.{state_code};
+ghost use Rattle.bound_log.specs.Kept.{lemma_of};
 ghost use Rattle.lemma_check.specs.Known.{best_known};
 ghost use Rattle.row_search.specs.SoFar.{KnowsAll, one_node};
-ghost use Rattle.row_search.specs.Visit.{lemma_of};
 
-use crate::Kept;
-use crate::kept::Packed;
-use bound_log::Rule;
-use cell_num::{List, NoMemory};
+use bound_log::{Keeper, Kept, Rule};
+use cell_num::NoMemory;
 use lemma_check::Known;
 use row_state::{Kinds, Numbered};
 use std::alloc::Global;
@@ -22,15 +20,11 @@ pub(crate) struct Progress {
     nodes: u64,
     // The best bound of each state that the lemmas speak of.
     known: Known,
-    kinds: Kinds,
-    packed: List<Packed>,
+    kept: Keeper,
 }
 
 impl Model for Progress {
-    ghost use Rattle.std.specs.Prelude.{All, map};
-    ghost use Rattle.row_state.specs.Code.{IsCode};
     ghost use Rattle.lemma_check.specs.contracts.known.Known.{the_row as known_row};
-    ghost use Rattle.row_search.specs.Kept.{number_of, numbered_lemma};
     ghost use Rattle.row_search.specs.SoFar.{SoFar};
     ghost use Rattle.std.specs.Coded.{codes};
 
@@ -38,9 +32,7 @@ impl Model for Progress {
 
     ghost coded = { Prim.hlevel (codes, known_row.coded) };
 
-    ghost view = { λ p. record { nodes = p.nodes; known = p.known; kinds = p.kinds; lemmas = map (λ x. numbered_lemma p.kinds (number_of x.high x.low) x.bound x.rule) p.packed } };
-
-    ghost invariant = { λ p. All (λ x. IsCode p.kinds (number_of x.high x.low)) p.packed };
+    ghost view = { λ p. record { nodes = p.nodes; known = p.known; kinds = p.kept.kinds; lemmas = p.kept.lemmas } };
 }
 
 impl Progress {
@@ -52,8 +44,7 @@ impl Progress {
         Ok(Progress {
             nodes: 0,
             known: Known::new(alloc),
-            kinds: kinds.clone()?,
-            packed: List::new(alloc),
+            kept: Keeper::new(alloc, kinds)?,
         })
     }
 
@@ -86,18 +77,14 @@ impl Progress {
         ensures err { OnErr result (self.new.lemmas ≡ self.old.lemmas) }
         ensures knows { OnOk result ((k : KindsOf) → KnowsAll k self.old → KnowsAll k self.new) }
     {
-        self.kinds.show_limits();
         self.known.note_at(at.code, bound)?;
-        self.packed.push(Packed::new(at.code, bound, rule))?;
+        self.kept.keep(at, bound, rule)?;
         Ok(())
     }
 
     pub(crate) fn into_kept(self) -> Kept
         ensures { result ≡ self.lemmas }
     {
-        Kept {
-            kinds: self.kinds,
-            packed: self.packed,
-        }
+        self.kept.into_kept()
     }
 }

@@ -9,13 +9,13 @@ ghost use Rattle.row_search.specs.Visit.{RowReaches};
 use crate::descent::Task;
 use bound_log::Rule;
 use cell_num::{NoMemory, Row};
-use lemma_check::Trails;
+use lemma_check::RowTrails;
 use row_state::{EmptyPlaces, RowBound, State};
 
 // The rule by which the bound of one row alone is above what is allowed.
 pub(crate) fn row_rule<B: RowBound>(
     task: &Task<B>,
-    trails: &mut Trails,
+    trails: &mut RowTrails,
     state: &State,
     empty: &EmptyPlaces,
     allowed: u32,

@@ -4,8 +4,8 @@ ghost use Rattle.log_check.specs.Accepted.{WithKinds};
 ghost use Rattle.row_search.specs.Ended.{IfUnfinished, IsSolved, IsSpent};
 ghost use Rattle.row_search.specs.First.{IsFirstLeast};
 
-use crate::{Found, FoundKept, Kept, Stop, StopKept, search_kept};
-use bound_log::{LemmaList, Log};
+use crate::{Found, FoundKept, Stop, StopKept, search_kept};
+use bound_log::{Kept, LemmaList, Log};
 use cell_num::{Fingers, NoMemory};
 use row_state::RowBound;
 use std::alloc::Global;

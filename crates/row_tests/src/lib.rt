@@ -1,4 +1,4 @@
-// Worked examples of rows, their logs and their search. They stand here, since a crate with tests is proved twice.
+// Worked examples of rows, their logs, their search and their tracks. They stand here, since a crate with tests is proved twice.
 #![tactic(auto)]
 
 #[cfg(test)]
@@ -7,6 +7,8 @@ mod checks;
 mod columns;
 #[cfg(test)]
 mod gaps;
+#[cfg(test)]
+mod inverter;
 #[cfg(test)]
 mod logs;
 #[cfg(test)]

@@ -3,11 +3,11 @@ use Rattle.std.proofs.Common.{◌≡◌, ◌==◌, false, Option, IfSome, refl, 
 use Rattle.cell_io.specs.Desk.{Files, View}
 use Rattle.lef_read.specs.declared.differ.Differ.{Differ}
 use Rattle.lef_read.specs.declared.differ.Differ.TheVariants.{Extract, NoLabel, Port, Bare, NoMemory as NoRoom}
-use Rattle.agree_run.proofs.Agreed.{agrees_where, disagrees_where, unextracted_where}
-use Rattle.agree_run.specs.Agree.{AgreesTo, DoesAgree, HasDifference, IsAgreeAnswer, IsDisagreement, IsUnextracted, agree_end, differ_status}
-use Rattle.agree_run.specs.declared.agreement.AgreeAnswer.{AgreeAnswer}
-use Rattle.agree_run.specs.declared.agreement.AgreeAnswer.TheVariants.{Agreed, Differs}
-use Rattle.agree_run.specs.declared.compared.Compared.{Compared}
+use Rattle.layout_commands.proofs.Agreed.{agrees_where, disagrees_where, unextracted_where}
+use Rattle.layout_commands.specs.Agree.{AgreesTo, DoesAgree, HasDifference, IsAgreeAnswer, IsDisagreement, IsUnextracted, agree_end, differ_status}
+use Rattle.layout_commands.specs.declared.agreement.AgreeAnswer.{AgreeAnswer}
+use Rattle.layout_commands.specs.declared.agreement.AgreeAnswer.TheVariants.{Agreed, Differs}
+use Rattle.layout_commands.specs.declared.compared.Compared.{Compared}
 use Rattle.call_end.specs.Deliver.{TellsWhole}
 use Rattle.call_end.specs.Status.{number_of}
 use Rattle.call_end.specs.declared.end.End.{End}

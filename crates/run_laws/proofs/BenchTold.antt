@@ -6,7 +6,7 @@ use Rattle.call_read.specs.declared.refusal.Refusal.{Refusal}
 use Rattle.call_read.specs.declared.refusal.Refusal.TheVariants.{NoMemory}
 use Rattle.call_end.specs.declared.status.Status.{Status}
 use Rattle.call_end.specs.declared.status.Status.TheVariants as status
-use Rattle.bench_tally.specs.Report.{BenchesTo}
+use Rattle.bench_command.specs.Report.{BenchesTo}
 use Rattle.run_laws.specs.Bench.{IsBench, IsBenchTold, WhereBenchEnds}
 use Rattle.run_laws.specs.Calm.{IsDoneOrShort}
 use Rattle.call_end.specs.Deliver.{Says, TellsWhole}

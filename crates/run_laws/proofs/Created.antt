@@ -6,6 +6,7 @@ use Rattle.cell_io.specs.Desk.{View, Both}
 use Rattle.call_end.specs.declared.end.End.{End}
 use Rattle.call_end.specs.declared.end.Output.{Output}
 use Rattle.call_end.specs.declared.status.Status.{Status}
+use Rattle.call_end.specs.declared.status.Status.TheVariants as status
 use Rattle.call_end.specs.Deliver.{CreatesAll, CreatesFront, names_of}
 use Rattle.call_read.specs.declared.refusal.Refusal.{Refusal}
 use Rattle.call_words.specs.Words.{Form}
@@ -13,26 +14,30 @@ use Rattle.call_words.specs.declared.evidence.Evidence.{Evidence}
 use Rattle.call_words.specs.declared.evidence.Evidence.TheVariants.{Log, Trails}
 use Rattle.call_work.proofs.EachCommand.{files_by}
 use Rattle.call_work.proofs.EndsOf.{HasNoFiles}
-use Rattle.call_work.specs.Commands.{Kind, Material, MaterialOf, WorksTo, Planning, Making, Checking, Extracting, Benching, Rowing, Agreeing}
+use Rattle.call_work.specs.Commands.{FromMaterial, Kind, Material, MaterialOf, WorksTo, Planning, Making, MakingFrom, Checking, Extracting, Benching, Rowing, Agreeing}
+use Rattle.call_work.proofs.Statuses.{differ}
 use Rattle.call_work.specs.Ends.{EndsTo}
-use Rattle.evidence_run.specs.declared.certificate.Certificate.TheVariants as held
-use Rattle.evidence_run.specs.Certificate.{trails_evidence}
-use Rattle.evidence_run.specs.Make.{MakesTo}
-use Rattle.evidence_run.specs.Make as made
+use Rattle.cell_commands.specs.Given.{given_evidence}
+use Rattle.cell_commands.specs.declared.certificate.Certificate.TheVariants as held
+use Rattle.cell_commands.specs.Certificate.{trails_evidence}
+use Rattle.cell_commands.specs.Make.{MakesTo}
+use Rattle.cell_commands.specs.Make as made
 use Rattle.cell_inputs.specs.declared.style.Style.{Style}
 use Rattle.cell_inputs.specs.Inputs.{Inputs}
 use Rattle.cell_make.specs.Rows.{DrawAnswer, RowDrawn, RowCyclic, RowTall}
-use Rattle.make_run.specs.Make.{IsRowEnd, RowEvidence, log_evidence, named}
-use Rattle.row_make.specs.declared.outcome.InputFault.TheVariants.{Spice, Fold}
-use Rattle.row_make.specs.RowInputs.{RowInputs}
-use Rattle.row_make.specs.Rowed.{Rowed, Refused, Stopped, Unabutted}
+use Rattle.call_end.specs.End.{named}
+use Rattle.cell_commands.specs.RowEnd.{IsRowEnd, RowEvidence, log_evidence}
+use Rattle.cell_make.specs.declared.row_outcome.InputFault.TheVariants.{Spice, Fold}
+use Rattle.cell_make.specs.RowInputs.{RowInputs}
+use Rattle.cell_make.specs.Rowed.{Rowed, Refused, Stopped, Unabutted}
 use Rattle.row_model.specs.declared.column.Column.{Column}
-use Rattle.row_run.specs.Row.{RowsTo}
-use Rattle.run_laws.proofs.MadeFiles.{evidence_apart, gds_is_no_lef}
+use Rattle.layout_commands.specs.Row.{RowsTo}
+use Rattle.run_laws.proofs.MadeFiles.{evidence_apart, gds_is_no_lef, told_files}
 use Rattle.run_laws.proofs.RowTold.{no_files}
 use Rattle.run_laws.proofs.Telling.{Answers}
 use Rattle.run_laws.specs.Created.{AreDistinct, CreatesOnce}
-use Rattle.run_laws.specs.Evidence.{evidence_name}
+use Rattle.run_laws.specs.Evidence.{evidence_name, evidence_text}
+use Rattle.run_laws.specs.Origin.{Origin, Search, File}
 
 -- ---- names
 
@@ -44,6 +49,12 @@ distinct_front (suc count) (name ∷ names) h = (All-take (λ (other : List ℕ)
 distinct_one : (name : List ℕ) → AreDistinct (name ∷ [])
 distinct_one name = (All-nil (λ (other : List ℕ). other ≢ name), tt)
 
+distinct_two : (out : List ℕ) → AreDistinct ((out ++ codes ".gds") ∷ (out ++ codes ".lef") ∷ [])
+distinct_two out = (
+  All-cons (λ (other : List ℕ). other ≢ out ++ codes ".gds") (out ++ codes ".lef") [] (λ e. gds_is_no_lef out (sym e)) (All-nil (λ (other : List ℕ). other ≢ out ++ codes ".gds")),
+  distinct_one (out ++ codes ".lef"),
+)
+
 distinct_three : (evidence : Evidence) (out : List ℕ) → AreDistinct (evidence_name evidence out ∷ (out ++ codes ".gds") ∷ (out ++ codes ".lef") ∷ [])
 distinct_three evidence out =
     let no_gds : out ++ codes ".gds" ≢ evidence_name evidence out = λ e. evidence_apart evidence out (codes ".gds") refl (sym e) in
@@ -51,9 +62,7 @@ distinct_three evidence out =
     let from_evidence : All (λ (other : List ℕ). other ≢ evidence_name evidence out) ((out ++ codes ".gds") ∷ (out ++ codes ".lef") ∷ []) =
     All-cons (λ (other : List ℕ). other ≢ evidence_name evidence out) (out ++ codes ".gds") ((out ++ codes ".lef") ∷ []) no_gds
     (All-cons (λ (other : List ℕ). other ≢ evidence_name evidence out) (out ++ codes ".lef") [] no_lef (All-nil (λ (other : List ℕ). other ≢ evidence_name evidence out))) in
-    let from_gds : All (λ (other : List ℕ). other ≢ out ++ codes ".gds") ((out ++ codes ".lef") ∷ []) =
-    All-cons (λ (other : List ℕ). other ≢ out ++ codes ".gds") (out ++ codes ".lef") [] (λ e. gds_is_no_lef out (sym e)) (All-nil (λ (other : List ℕ). other ≢ out ++ codes ".gds")) in
-    (from_evidence, (from_gds, distinct_one (out ++ codes ".lef")))
+    (from_evidence, distinct_two out)
 
 -- ---- the names of files that are told
 
@@ -74,6 +83,7 @@ none_listed files is = rw is tt
 
 abbrev makes_files : Kind → Bool
 makes_files Making = true
+makes_files MakingFrom = true
 makes_files Rowing = true
 makes_files Planning = false
 makes_files Checking = false
@@ -84,21 +94,44 @@ makes_files Agreeing = false
 without_files : (kind : Kind) (end : End) → makes_files kind ≡ false → HasNoFiles kind end → AreDistinct (names_of end.files)
 without_files kind end none (inl is) = none_listed end.files is
 without_files kind end none (inr (inl (is, own))) = let clash : true ≡ false = ap makes_files (sym is) ∙ none in cc
-without_files kind end none (inr (inr (is, done))) = let clash : true ≡ false = ap makes_files (sym is) ∙ none in cc
+without_files kind end none (inr (inr (inr (is, done)))) = let clash : true ≡ false = ap makes_files (sym is) ∙ none in cc
+without_files kind end none (inr (inr (inl (is, done)))) = let clash : true ≡ false = ap makes_files (sym is) ∙ none in cc
 
-row_end : (evidence : Evidence) (style : Style) (inputs : Inputs) (out : List ℕ) (row : List Column) (told : RowEvidence) (drawing : DrawAnswer) (end : End) → told.file.0 ≡ evidence_name evidence out → IsRowEnd style inputs out row told drawing end → AreDistinct (names_of end.files)
-row_end evidence style inputs out row told (RowDrawn routing xs) end same is =
-    by_names end.files _ _ is.files refl
-    (subst (λ (name : List ℕ). AreDistinct (name ∷ (out ++ codes ".gds") ∷ (out ++ codes ".lef") ∷ [])) (sym same) (distinct_three evidence out))
-row_end evidence style inputs out row told (RowCyclic ring) end same is = by_names end.files (told.file ∷ []) (told.file.0 ∷ []) is.files refl (distinct_one told.file.0)
-row_end evidence style inputs out row told (RowTall routing) end same is = by_names end.files (told.file ∷ []) (told.file.0 ∷ []) is.files refl (distinct_one told.file.0)
+-- the files of a row, by where it comes from
+distinct_drawn : (origin : Origin) (out text bytes summary : List ℕ) → AreDistinct (map first_of (told_files origin out text ++ (out ++ codes ".gds", bytes) ∷ (out ++ codes ".lef", summary) ∷ []))
+distinct_drawn (Search evidence) out text bytes summary = distinct_three evidence out
+distinct_drawn (File evidence given) out text bytes summary = distinct_two out
+
+distinct_alone : (origin : Origin) (out text : List ℕ) → AreDistinct (map first_of (told_files origin out text))
+distinct_alone (Search evidence) out text = distinct_one (evidence_name evidence out)
+distinct_alone (File evidence given) out text = tt
+
+drawn_names : (origin : Origin) (out text bytes summary : List ℕ) (files : List Output) (told : List (List ℕ × List ℕ)) → told ≡ told_files origin out text → map named files ≡ told ++ (out ++ codes ".gds", bytes) ∷ (out ++ codes ".lef", summary) ∷ [] → AreDistinct (names_of files)
+drawn_names origin out text bytes summary files told same is =
+    by_names files (told_files origin out text ++ (out ++ codes ".gds", bytes) ∷ (out ++ codes ".lef", summary) ∷ []) _
+    (is ∙ ap (λ (xs : List (List ℕ × List ℕ)). xs ++ (out ++ codes ".gds", bytes) ∷ (out ++ codes ".lef", summary) ∷ []) same) refl (distinct_drawn origin out text bytes summary)
+
+row_end : (origin : Origin) (text : List ℕ) (style : Style) (inputs : Inputs) (out : List ℕ) (row : List Column) (told : RowEvidence) (drawing : DrawAnswer) (end : End) → told.files ≡ told_files origin out text → IsRowEnd style inputs out row told drawing end → AreDistinct (names_of end.files)
+row_end origin text style inputs out row told (RowDrawn routing xs) end same is = drawn_names origin out text _ _ end.files told.files same is.files
+row_end origin text style inputs out row told (RowCyclic ring) end same is = by_names end.files (told_files origin out text) _ (is.files ∙ same) refl (distinct_alone origin out text)
+row_end origin text style inputs out row told (RowTall routing) end same is = by_names end.files (told_files origin out text) _ (is.files ∙ same) refl (distinct_alone origin out text)
 
 makes_end : (evidence : Evidence) (style : Style) (inputs : Inputs) (out : List ℕ) (end : End) → MakesTo evidence style inputs out end → AreDistinct (names_of end.files)
-makes_end evidence style inputs out end (made.Made row (held.Log log) drawing, h, is) = row_end Log style inputs out row (log_evidence inputs.cell out log) drawing end refl is
-makes_end evidence style inputs out end (made.Made row (held.Trails trails) drawing, h, is) = row_end Trails style inputs out row (trails_evidence inputs.cell out trails) drawing end refl is
+makes_end evidence style inputs out end (made.Made row (held.Log log) drawing, h, is) = row_end (Search Log) (evidence_text Log inputs.cell.name log) style inputs out row (log_evidence inputs.cell out log) drawing end refl is
+makes_end evidence style inputs out end (made.Made row (held.Trails trails) drawing, h, is) = row_end (Search Trails) (evidence_text Trails inputs.cell.name trails) style inputs out row (trails_evidence inputs.cell out trails) drawing end refl is
 makes_end evidence style inputs out end (made.Open proved (held.Log log), h, is) = by_names end.files _ (evidence_name Log out ∷ []) is.files refl (distinct_one (evidence_name Log out))
 makes_end evidence style inputs out end (made.Open proved (held.Trails trails), h, is) = by_names end.files _ (evidence_name Trails out ∷ []) is.files refl (distinct_one (evidence_name Trails out))
 makes_end evidence style inputs out end (made.Crowded gate, h, is) = by_names end.files [] [] is.files refl tt
+
+from_end : (m : FromMaterial) (end : End) → WorksTo MakingFrom m end → AreDistinct (names_of end.files)
+from_end m end (inl (row, certificate, listed, (drawing, h, is))) = row_end (File m.evidence m.bytes) [] m.style m.inputs m.stem row (given_evidence certificate) drawing end refl is
+from_end m end (inr (checks, rejected)) = by (files_by MakingFrom m end (inr (checks, rejected)))
+  where
+    by : HasNoFiles MakingFrom end → AreDistinct (names_of end.files)
+    by (inl none) = none_listed end.files none
+    by (inr (inl (is, own))) = cc
+    by (inr (inr (inl (is, done)))) = cc
+    by (inr (inr (inr (is, done)))) = absurd (differ status.Done status.Rejected refl (sym done ∙ rejected))
 
 rows_end : (r : RowInputs) (out : List ℕ) (end : End) → RowsTo r out end → AreDistinct (names_of end.files)
 rows_end r out end (Rowed made, h, is) = by_names end.files _ ((out ++ codes ".gds") ∷ []) is.files refl (distinct_one (out ++ codes ".gds"))
@@ -109,6 +142,7 @@ rows_end r out end (Unabutted made fault, h, is) = none_listed end.files (ap (λ
 
 distinct_end : (kind : Kind) (m : MaterialOf kind) (end : End) → WorksTo kind m end → AreDistinct (names_of end.files)
 distinct_end Making m end works = makes_end m.evidence m.style m.inputs m.stem end works
+distinct_end MakingFrom m end works = from_end m end works
 distinct_end Rowing m end works = rows_end m.inputs m.stem end works
 distinct_end Planning m end works = without_files Planning end refl (files_by Planning m end works)
 distinct_end Checking m end works = without_files Checking end refl (files_by Checking m end works)

@@ -2,7 +2,7 @@
 use Rattle.std.proofs.Common.{ℕ, ◌≡◌, ◌⊎◌, Bool, true, false, nat_le, if◌then◌else◌, length, arith, List, [], ◌∷◌, Option, Some, None, Result, Ok, Err, Contains, inl, inr, refl, sym, ap, ◌∙◌, subst}
 use Rattle.cell_io.specs.Desk.{Files, View, Rose}
 use Rattle.call_end.specs.declared.end.End.{End}
-use Rattle.call_work.specs.Commands.{Kind, Making, Material, Rowing, gathered, read_by}
+use Rattle.call_work.specs.Commands.{Kind, Making, MakingFrom, Material, Rowing, gathered, read_by}
 use Rattle.call_read.specs.declared.refusal.Refusal.{Refusal}
 use Rattle.call_read.specs.declared.refusal.Refusal.TheVariants.{Unread, Long, NoMemory}
 use Rattle.call_end.specs.declared.status.Status.{Status}
@@ -36,7 +36,8 @@ no_files form (Ok m) end other (inr (e, is)) ends = cc
 no_files form (Ok m) end other (inl is) ends = elim (files_by m.0 m.1 end ends) [
   | inl none ↦ none
   | inr (inl (making, own)) ↦ absurd (other (inl (is_of_kind form Making m is making)))
-  | inr (inr (rowing, done)) ↦ absurd (other (inr (is_of_kind form Rowing m is rowing)))
+  | inr (inr (inl (rowing, done))) ↦ absurd (other (inr (inl (is_of_kind form Rowing m is rowing))))
+  | inr (inr (inr (from, done))) ↦ absurd (other (inr (inr (is_of_kind form MakingFrom m is from))))
 ]
 
 -- a row makes a file where it is done, and none else
@@ -46,7 +47,10 @@ row_files form (Ok m) end row (inr (e, is)) ends = cc
 row_files form (Ok m) end row (inl is) ends = elim (files_by m.0 m.1 end ends) [
   | inl none ↦ inl none
   | inr (inl (making, own)) ↦ absurd (other_kind form m row is making)
-  | inr (inr (rowing, done)) ↦ inr done
+  | inr (inr done) ↦ inr (elim done [
+    | inl (rowing, done) ↦ done
+    | inr (from, done) ↦ done
+  ])
 ]
   where
     other_kind : (form : Option Form) (m : Material) → IsRow form → IsGathered form (Ok m) → m.0 ≡ Making → ⊥
@@ -58,8 +62,12 @@ none_alone (Err e) end ends none = ap (λ (x : End). x.files) ends
 none_alone (Ok m) end ends none = elim (files_by m.0 m.1 end ends) [
   | inl alone ↦ alone
   | inr (inl (making, own)) ↦ absurd (among_one (status.NoMemory ∷ fileless_statuses) make_statuses end.status refl none own)
-  | inr (inr (rowing, done)) ↦ absurd (among_one (status.NoMemory ∷ fileless_statuses) (status.Done ∷ []) end.status refl none (rw done refl))
+  | inr (inr done) ↦ absurd (among_one (status.NoMemory ∷ fileless_statuses) (status.Done ∷ []) end.status refl none (is_done done))
 ]
+  where
+    is_done : ((m.0 ≡ Rowing) × (end.status ≡ status.Done)) ⊎ ((m.0 ≡ MakingFrom) × (end.status ≡ status.Done)) → is_among (status.Done ∷ []) end.status ≡ true
+    is_done (inl (rowing, done)) = rw done refl
+    is_done (inr (from, done)) = rw done refl
 
 -- how a call comes to what it gathers
 pub came_gathered : (old new : View) (form : Option Form) (got : Result Material Refusal) → MayCome old new (gathered form) got → IsGatheredOrRefused form got

@@ -13,11 +13,11 @@ use Rattle.run_laws.specs.Calm.{IsCalm}
 use Rattle.run_laws.specs.Extract.{HasNoNetlist, IsBrokenCell, IsExtract, IsExtractedCell, IsRefusedCell, IsRefusedLayout, IsToldOf, OfGdsCell, WhereExtractEnds}
 use Rattle.run_laws.specs.Ended.{IsGdsFault}
 use Rattle.run_laws.specs.Headline.{IsOrShort}
-use Rattle.layout_run.proofs.Extracted.{breaks_where, extracts_where, refuses_where}
-use Rattle.layout_run.specs.Extract.{BreaksRule, ExtractsTo, HasLayoutFault, HasNetlist, IsDrawingAnswer, extract_end}
-use Rattle.layout_run.specs.declared.extraction.ExtractAnswer.{ExtractAnswer}
-use Rattle.layout_run.specs.declared.extraction.ExtractAnswer.TheVariants.{Extracted, Broken, Unchecked, Refused}
-use Rattle.layout_run.specs.declared.gds_cell.GdsCell.{GdsCell}
+use Rattle.layout_commands.proofs.Extracted.{breaks_where, extracts_where, refuses_where}
+use Rattle.layout_commands.specs.Extract.{BreaksRule, ExtractsTo, HasLayoutFault, HasNetlist, IsDrawingAnswer, extract_end}
+use Rattle.layout_commands.specs.declared.extraction.ExtractAnswer.{ExtractAnswer}
+use Rattle.layout_commands.specs.declared.extraction.ExtractAnswer.TheVariants.{Extracted, Broken, Unchecked, Refused}
+use Rattle.layout_commands.specs.declared.gds_cell.GdsCell.{GdsCell}
 
 -- ---- by status
 

@@ -4,6 +4,7 @@ pub mod BenchTold
 pub mod Created
 pub mod Ends
 pub mod ExtractTold
+pub mod FromTold
 pub mod MadeCompared
 pub mod MadeFiles
 pub mod MakeSettled

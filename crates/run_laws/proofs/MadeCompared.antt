@@ -7,8 +7,8 @@ use Rattle.tech_file.specs.Technology.{Technology}
 use Rattle.gds_read.specs.Decoding.{Decodes}
 use Rattle.lef_read.specs.Macros.{macro_in}
 use Rattle.lef_read.specs.declared.cell.Macro.{Macro}
-use Rattle.agree_run.specs.Agree.{DoesAgree, compared, comparing, comparing_over, comparing_with}
-use Rattle.agree_run.specs.declared.compared.Compared.{Compared}
+use Rattle.layout_commands.specs.Agree.{DoesAgree, compared, comparing, comparing_over, comparing_with}
+use Rattle.layout_commands.specs.declared.compared.Compared.{Compared}
 use Rattle.call_end.specs.declared.status.Status.{Status}
 use Rattle.call_end.specs.declared.status.Status.TheVariants as status
 use Rattle.call_read.specs.InputFiles.{macro_from, macro_of, shapes_from, shapes_in, technology_from}

@@ -11,8 +11,9 @@ use Rattle.call_end.proofs.Delivered.{none_made}
 use Rattle.call_words.specs.declared.evidence.Evidence.{Evidence}
 use Rattle.call_words.specs.declared.evidence.Evidence.TheVariants.{Log, Trails}
 use Rattle.run_laws.specs.Evidence.{HasCell, HasEvidence, evidence_name}
+use Rattle.run_laws.specs.Origin.{Origin, Search, File, HasDrawing, HasFiles, HasNoDrawing}
 use Rattle.run_laws.specs.Row.{HasLibrary}
-use Rattle.make_run.specs.Make.{named}
+use Rattle.call_end.specs.End.{named}
 
 -- ---- names
 
@@ -105,6 +106,39 @@ cell_set evidence out text bytes summary old one two new s = record {
       ∙ set_elsewhere (evidence_name evidence out) name (Some text) old one s.first no_evidence);
 }
 
+-- two files are these
+two_are : (files : List Output) (a b : List ℕ × List ℕ) → map named files ≡ a ∷ b ∷ [] → (first second : Output) × (files ≡ first ∷ second ∷ []) × (named first ≡ a) × (named second ≡ b)
+two_are [] a b is = cc
+two_are (x ∷ []) a b is =
+    let none : [] ≡ b ∷ [] = rest_are (named x) a [] (b ∷ []) is in
+    cc
+two_are (x ∷ y ∷ []) a b is =
+    let rest : named y ∷ [] ≡ b ∷ [] = rest_are (named x) a (named y ∷ []) (b ∷ []) is in
+    (x, y, refl, first_is (named x) a (named y ∷ []) (b ∷ []) is, first_is (named y) b [] [] rest)
+two_are (x ∷ y ∷ z ∷ more) a b is =
+    let rest : named y ∷ named z ∷ map named more ≡ b ∷ [] = rest_are (named x) a (named y ∷ named z ∷ map named more) (b ∷ []) is in
+    let none : named z ∷ map named more ≡ [] = rest_are (named y) b (named z ∷ map named more) [] rest in
+    cc
+
+two_set : (out bytes summary : List ℕ) (first second : Output) (old new : Files) → named first ≡ (out ++ codes ".gds", bytes) → named second ≡ (out ++ codes ".lef", summary) → MakesAll (first ∷ second ∷ []) old new → HasDrawing out bytes summary old new
+two_set out bytes summary first second old new p q (one, a, (last, b, same)) =
+    let gds : Sets (out ++ codes ".gds") (Some bytes) old one = set_so first (out ++ codes ".gds") bytes old one p a in
+    let lef : Sets (out ++ codes ".lef") (Some summary) one new = subst (λ (files : Files). Sets (out ++ codes ".lef") (Some summary) one files) (sym same) (set_so second (out ++ codes ".lef") summary one last q b) in
+    record {
+      drawing =
+          set_elsewhere (out ++ codes ".lef") (out ++ codes ".gds") (Some summary) one new lef (gds_is_no_lef out)
+          ∙ set_here (out ++ codes ".gds") (Some bytes) old one gds;
+      lef = set_here (out ++ codes ".lef") (Some summary) one new lef;
+      others = λ name no_drawing no_lef.
+          set_elsewhere (out ++ codes ".lef") name (Some summary) one new lef no_lef
+          ∙ set_elsewhere (out ++ codes ".gds") name (Some bytes) old one gds no_drawing;
+    }
+
+drawing_made_in : (out bytes summary : List ℕ) (files : List Output) (old new : Files) → map named files ≡ (out ++ codes ".gds", bytes) ∷ (out ++ codes ".lef", summary) ∷ [] → MakesAll files old new → HasDrawing out bytes summary old new
+drawing_made_in out bytes summary files old new is made =
+    let (first, second, same, p, q) = two_are files (out ++ codes ".gds", bytes) (out ++ codes ".lef", summary) is in
+    two_set out bytes summary first second old new p q (subst (λ (fs : List Output). MakesAll fs old new) same made)
+
 -- three files are these
 three_are : (files : List Output) (a b c : List ℕ × List ℕ) → map named files ≡ a ∷ b ∷ c ∷ [] → (first second third : Output) × (files ≡ first ∷ second ∷ third ∷ []) × (named first ≡ a) × (named second ≡ b) × (named third ≡ c)
 three_are [] a b c is = cc
@@ -162,3 +196,20 @@ cell_made evidence out text bytes summary files old new is made = both_so (Makes
 
 pub library_made : (out bytes : List ℕ) (files : List Output) (old new : Option Files) → map named files ≡ (out ++ codes ".gds", bytes) ∷ [] → Both (MakesAll files) old new → Both (HasLibrary out bytes) old new
 library_made out bytes files old new is made = both_so (MakesAll files) (HasLibrary out bytes) (λ x y h. library_set out bytes files x y is h) old new made
+
+-- ---- by the origin of the row
+
+-- the file of its evidence, which is made of a search
+abbrev pub told_files : Origin → List ℕ → List ℕ → List (List ℕ × List ℕ)
+told_files (Search evidence) out text = (evidence_name evidence out, text) ∷ []
+told_files (File evidence given) out text = []
+
+pub files_made : (origin : Origin) (out text bytes summary : List ℕ) (files : List Output) (old new : Option Files) → map named files ≡ told_files origin out text ++ (out ++ codes ".gds", bytes) ∷ (out ++ codes ".lef", summary) ∷ [] → Both (MakesAll files) old new → Both (HasFiles origin out text bytes summary) old new
+files_made (Search evidence) out text bytes summary files old new is made = cell_made evidence out text bytes summary files old new is made
+files_made (File evidence given) out text bytes summary files old new is made =
+    both_so (MakesAll files) (HasDrawing out bytes summary) (λ x y h. drawing_made_in out bytes summary files x y is h) old new made
+
+pub none_drawn : (origin : Origin) (out text : List ℕ) (files : List Output) (old new : Option Files) → map named files ≡ told_files origin out text → Both (MakesAll files) old new → Both (HasNoDrawing origin out text) old new
+none_drawn (Search evidence) out text files old new is made = evidence_made (evidence_name evidence out) text files old new is made
+none_drawn (File evidence given) out text files old new is made =
+    both_so (MakesAll files) (λ (x y : Files). y ≡ x) (λ x y h. subst (λ (fs : List Output). MakesAll fs x y) (none_are files is) h) old new made

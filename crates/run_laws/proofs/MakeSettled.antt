@@ -3,7 +3,6 @@ use Rattle.std.proofs.Common.{ℕ, ◌≡◌, List, [], ◌∷◌, ◌++◌, Opt
 use Rattle.cell_io.specs.Desk.{View, Both}
 use Rattle.row_model.specs.declared.column.Column.{Column}
 use Rattle.row_place.specs.Places.{placement_of}
-use Rattle.row_search.specs.First.{IsFirstLeast}
 use Rattle.call_end.specs.declared.end.End.{End}
 use Rattle.call_end.specs.declared.status.Status.{Status}
 use Rattle.call_end.specs.declared.status.Status.TheVariants as status
@@ -20,29 +19,31 @@ use Rattle.cell_make.specs.Making.{abstract_of, drawing_in, final_in, library_of
 use Rattle.cell_make.specs.Making as made
 use Rattle.cell_make.specs.Rows.{Draws, DrawAnswer, RowDrawn, RowCyclic, RowTall}
 use Rattle.cell_report.specs.Logs.{unfinished_text}
-use Rattle.run_laws.proofs.MadeFiles.{cell_made, evidence_made, none_left}
-use Rattle.run_laws.specs.Evidence.{CertificateOf, Certifies, ProvesAlone, evidence_counts, evidence_name, evidence_text, lemma_count}
+use Rattle.run_laws.proofs.MadeFiles.{evidence_made, files_made, none_drawn, none_left, told_files}
+use Rattle.run_laws.specs.Evidence.{Certificate, ProvesAlone, evidence_counts, evidence_name, evidence_text, lemma_count}
+use Rattle.run_laws.specs.Origin.{CertifiesBy, IsRowOf, Origin, Search, kind_of_evidence}
 use Rattle.run_laws.specs.Headline.{IsCyclicCell, IsMadeCell, IsSpentSearch, IsTallCell, IsUnmade}
 use Rattle.run_laws.specs.Plan.{IsCrowdedCell}
 use Rattle.channel_route.specs.declared.ring.Ring.{Ring}
 use Rattle.channel_route.specs.declared.routing.Routing.{Routing}
-use Rattle.evidence_run.specs.declared.certificate.Certificate.{Certificate}
-use Rattle.evidence_run.specs.declared.certificate.Certificate.TheVariants as held
-use Rattle.evidence_run.specs.Certificate.{row_evidence}
-use Rattle.evidence_run.specs.Make.{IsOpenEnd, MakesTo}
-use Rattle.evidence_run.specs.Make as make
-use Rattle.evidence_run.specs.Searched.{IsFoundBy, IsOpenBy}
-use Rattle.make_run.specs.Make.{IsEnd, IsRowEnd, RowEvidence}
+use Rattle.cell_commands.specs.declared.certificate.Certificate.{Certificate as HeldCertificate}
+use Rattle.cell_commands.specs.declared.certificate.Certificate.TheVariants as held
+use Rattle.cell_commands.specs.Certificate.{row_evidence}
+use Rattle.cell_commands.specs.Make.{IsOpenEnd, MakesTo}
+use Rattle.cell_commands.specs.Make as make
+use Rattle.cell_commands.specs.Searched.{IsFoundBy, IsOpenBy}
+use Rattle.call_end.specs.End.{IsEnd}
+use Rattle.cell_commands.specs.RowEnd.{IsRowEnd, RowEvidence}
 
 -- what the end of a row has of its evidence
-abbrev pub told_evidence : (evidence : Evidence) → Inputs → List ℕ → CertificateOf evidence → RowEvidence
-told_evidence evidence inputs out certificate = record {
-  file = (evidence_name evidence out, evidence_text evidence inputs.cell.name certificate);
-  counts = evidence_counts evidence certificate;
+abbrev pub told_evidence : (origin : Origin) → Inputs → List ℕ → Certificate (kind_of_evidence origin) → RowEvidence
+told_evidence origin inputs out certificate = record {
+  files = told_files origin out (evidence_text (kind_of_evidence origin) inputs.cell.name certificate);
+  counts = evidence_counts (kind_of_evidence origin) certificate;
 }
 
 -- the end of a search that spent its budget
-abbrev pub IsSpentEnd : (evidence : Evidence) → Inputs → List ℕ → ℕ → CertificateOf evidence → End → Type 0
+abbrev pub IsSpentEnd : (evidence : Evidence) → Inputs → List ℕ → ℕ → Certificate evidence → End → Type 0
 IsSpentEnd evidence inputs out proved certificate =
     IsEnd status.Unfinished
     ((evidence_name evidence out, evidence_text evidence inputs.cell.name certificate) ∷ [])
@@ -50,28 +51,28 @@ IsSpentEnd evidence inputs out proved certificate =
 
 -- by the status of the call
 abbrev pub Leaves : Evidence → Style → Inputs → List ℕ → View → View → Status → Type 0
-Leaves evidence style inputs out old new status.Done = IsMadeCell evidence style inputs out old new
-Leaves evidence style inputs out old new status.Cycle = IsCyclicCell evidence style inputs out old new
-Leaves evidence style inputs out old new status.TooTall = IsTallCell evidence style inputs out old new
+Leaves evidence style inputs out old new status.Done = IsMadeCell (Search evidence) style inputs out old new
+Leaves evidence style inputs out old new status.Cycle = IsCyclicCell (Search evidence) style inputs out old new
+Leaves evidence style inputs out old new status.TooTall = IsTallCell (Search evidence) style inputs out old new
 Leaves evidence style inputs out old new status.Unfinished = IsUnmade evidence inputs out old new
 Leaves evidence style inputs out old new _ = Unit {0}
 
 -- with the status of the end that was told
-by_end : (Is : Status → Type 0) (settled answer : Status) (end : End) (old new : View) → end.status ≡ settled → TellsWhole end answer old new → Is settled → Is answer
+pub by_end : (Is : Status → Type 0) (settled answer : Status) (end : End) (old new : View) → end.status ≡ settled → TellsWhole end answer old new → Is settled → Is answer
 by_end Is settled answer end old new is whole so = subst Is (sym (whole.0 ∙ is)) so
 
-said_so : (text report : List ℕ) (old new : Option (List ℕ)) → report ≡ text → Both (Says report) old new → Both (Says text) old new
+pub said_so : (text report : List ℕ) (old new : Option (List ℕ)) → report ≡ text → Both (Says report) old new → Both (Says text) old new
 said_so text report old new is said = subst (λ (t : List ℕ). Both (Says t) old new) is said
 
 -- ---- a row, by what drawing it comes to
 
-drawn_so : (evidence : Evidence) (style : Style) (inputs : Inputs) (out : List ℕ) (row : List Column) (certificate : CertificateOf evidence) (routing : Routing) (xs : List ℕ) (end : End) (answer : Status) (old new : View) → IsFirstLeast inputs.fingers row → Certifies evidence inputs row certificate → made.IsDrawn style inputs row routing xs → IsRowEnd style inputs out row (told_evidence evidence inputs out certificate) (RowDrawn routing xs) end → TellsWhole end answer old new → IsMadeCell evidence style inputs out old new
-drawn_so evidence style inputs out row certificate routing xs end answer old new first certified h is whole = record {
+drawn_so : (origin : Origin) (style : Style) (inputs : Inputs) (out : List ℕ) (row : List Column) (certificate : Certificate (kind_of_evidence origin)) (routing : Routing) (xs : List ℕ) (end : End) (answer : Status) (old new : View) → IsRowOf origin inputs.fingers row → CertifiesBy origin inputs row certificate → made.IsDrawn style inputs row routing xs → IsRowEnd style inputs out row (told_evidence origin inputs out certificate) (RowDrawn routing xs) end → TellsWhole end answer old new → IsMadeCell origin style inputs out old new
+drawn_so origin style inputs out row certificate routing xs end answer old new first certified h is whole = record {
   row = row;
   certificate = certificate;
   routing = routing;
   lines = xs;
-  first_least = first;
+  least = first;
   certified = certified;
   acyclic = h.routed.acyclic;
   legal = h.routed.legal;
@@ -96,49 +97,50 @@ drawn_so evidence style inputs out row certificate routing xs end answer old new
   small = small_made style inputs row routing xs h.small;
   decodes = h.decodes;
   alone = h.alone;
-  files = cell_made evidence out (evidence_text evidence inputs.cell.name certificate) (library_of inputs (final_in style inputs row routing xs)) (abstract_of inputs routing (drawing_in inputs row routing xs)) end.files old.made new.made is.files whole.1;
+  files = files_made origin out (evidence_text (kind_of_evidence origin) inputs.cell.name certificate) (library_of inputs (final_in style inputs row routing xs)) (abstract_of inputs routing (drawing_in inputs row routing xs)) end.files old.made new.made is.files whole.1;
   says = said_so _ end.report old.said new.said is.report whole.2;
 }
 
-cyclic_so : (evidence : Evidence) (style : Style) (inputs : Inputs) (out : List ℕ) (row : List Column) (certificate : CertificateOf evidence) (ring : Ring) (end : End) (answer : Status) (old new : View) → IsFirstLeast inputs.fingers row → Certifies evidence inputs row certificate → Draws style inputs row (RowCyclic ring) → IsRowEnd style inputs out row (told_evidence evidence inputs out certificate) (RowCyclic ring) end → TellsWhole end answer old new → IsCyclicCell evidence style inputs out old new
-cyclic_so evidence style inputs out row certificate ring end answer old new first certified h is whole = record {
+cyclic_so : (origin : Origin) (style : Style) (inputs : Inputs) (out : List ℕ) (row : List Column) (certificate : Certificate (kind_of_evidence origin)) (ring : Ring) (end : End) (answer : Status) (old new : View) → IsRowOf origin inputs.fingers row → CertifiesBy origin inputs row certificate → Draws style inputs row (RowCyclic ring) → IsRowEnd style inputs out row (told_evidence origin inputs out certificate) (RowCyclic ring) end → TellsWhole end answer old new → IsCyclicCell origin style inputs out old new
+cyclic_so origin style inputs out row certificate ring end answer old new first certified h is whole = record {
   row = row;
   certificate = certificate;
   ring = ring;
-  first_least = first;
+  least = first;
   certified = certified;
   is_ring = ring_is style.wiring (placement_of row) inputs.cell.pins ring h;
   is_told = h;
-  files = evidence_made (evidence_name evidence out) (evidence_text evidence inputs.cell.name certificate) end.files old.made new.made is.files whole.1;
+  files = none_drawn origin out (evidence_text (kind_of_evidence origin) inputs.cell.name certificate) end.files old.made new.made is.files whole.1;
   says = said_so _ end.report old.said new.said is.report whole.2;
 }
 
-tall_so : (evidence : Evidence) (style : Style) (inputs : Inputs) (out : List ℕ) (row : List Column) (certificate : CertificateOf evidence) (routing : Routing) (end : End) (answer : Status) (old new : View) → IsFirstLeast inputs.fingers row → Certifies evidence inputs row certificate → Draws style inputs row (RowTall routing) → IsRowEnd style inputs out row (told_evidence evidence inputs out certificate) (RowTall routing) end → TellsWhole end answer old new → IsTallCell evidence style inputs out old new
-tall_so evidence style inputs out row certificate routing end answer old new first certified h is whole = record {
+tall_so : (origin : Origin) (style : Style) (inputs : Inputs) (out : List ℕ) (row : List Column) (certificate : Certificate (kind_of_evidence origin)) (routing : Routing) (end : End) (answer : Status) (old new : View) → IsRowOf origin inputs.fingers row → CertifiesBy origin inputs row certificate → Draws style inputs row (RowTall routing) → IsRowEnd style inputs out row (told_evidence origin inputs out certificate) (RowTall routing) end → TellsWhole end answer old new → IsTallCell origin style inputs out old new
+tall_so origin style inputs out row certificate routing end answer old new first certified h is whole = record {
   row = row;
   certificate = certificate;
   routing = routing;
-  first_least = first;
+  least = first;
   certified = certified;
   acyclic = h.0.acyclic;
   legal = h.0.legal;
   tight = h.0.tight;
   tall = h.1;
-  files = evidence_made (evidence_name evidence out) (evidence_text evidence inputs.cell.name certificate) end.files old.made new.made is.files whole.1;
+  files = none_drawn origin out (evidence_text (kind_of_evidence origin) inputs.cell.name certificate) end.files old.made new.made is.files whole.1;
   says = said_so _ end.report old.said new.said is.report whole.2;
 }
 
-row_leaves : (evidence : Evidence) (style : Style) (inputs : Inputs) (out : List ℕ) (row : List Column) (certificate : CertificateOf evidence) (drawing : DrawAnswer) (end : End) (answer : Status) (old new : View) → IsFirstLeast inputs.fingers row → Certifies evidence inputs row certificate → Draws style inputs row drawing → IsRowEnd style inputs out row (told_evidence evidence inputs out certificate) drawing end → TellsWhole end answer old new → Leaves evidence style inputs out old new answer
-row_leaves evidence style inputs out row certificate (RowDrawn routing xs) end answer old new first certified h is whole =
-    by_end (Leaves evidence style inputs out old new) status.Done answer end old new is.status whole (drawn_so evidence style inputs out row certificate routing xs end answer old new first certified h is whole)
-row_leaves evidence style inputs out row certificate (RowCyclic ring) end answer old new first certified h is whole =
-    by_end (Leaves evidence style inputs out old new) status.Cycle answer end old new is.status whole (cyclic_so evidence style inputs out row certificate ring end answer old new first certified h is whole)
-row_leaves evidence style inputs out row certificate (RowTall routing) end answer old new first certified h is whole =
-    by_end (Leaves evidence style inputs out old new) status.TooTall answer end old new is.status whole (tall_so evidence style inputs out row certificate routing end answer old new first certified h is whole)
+-- so it leaves what the three ends of a row leave, each by its status
+pub row_leaves : (origin : Origin) (style : Style) (inputs : Inputs) (out : List ℕ) (row : List Column) (certificate : Certificate (kind_of_evidence origin)) (drawing : DrawAnswer) (end : End) (answer : Status) (old new : View) (Is : Status → Type 0) → (IsMadeCell origin style inputs out old new → Is status.Done) → (IsCyclicCell origin style inputs out old new → Is status.Cycle) → (IsTallCell origin style inputs out old new → Is status.TooTall) → IsRowOf origin inputs.fingers row → CertifiesBy origin inputs row certificate → Draws style inputs row drawing → IsRowEnd style inputs out row (told_evidence origin inputs out certificate) drawing end → TellsWhole end answer old new → Is answer
+row_leaves origin style inputs out row certificate (RowDrawn routing xs) end answer old new Is made cyclic tall first certified h is whole =
+    by_end Is status.Done answer end old new is.status whole (made (drawn_so origin style inputs out row certificate routing xs end answer old new first certified h is whole))
+row_leaves origin style inputs out row certificate (RowCyclic ring) end answer old new Is made cyclic tall first certified h is whole =
+    by_end Is status.Cycle answer end old new is.status whole (cyclic (cyclic_so origin style inputs out row certificate ring end answer old new first certified h is whole))
+row_leaves origin style inputs out row certificate (RowTall routing) end answer old new Is made cyclic tall first certified h is whole =
+    by_end Is status.TooTall answer end old new is.status whole (tall (tall_so origin style inputs out row certificate routing end answer old new first certified h is whole))
 
 -- ---- by the kind of evidence
 
-spent_so : (evidence : Evidence) (inputs : Inputs) (out : List ℕ) (proved : ℕ) (certificate : CertificateOf evidence) (end : End) (answer : Status) (old new : View) → ProvesAlone evidence inputs proved certificate → IsSpentEnd evidence inputs out proved certificate end → TellsWhole end answer old new → IsSpentSearch evidence inputs out old new
+spent_so : (evidence : Evidence) (inputs : Inputs) (out : List ℕ) (proved : ℕ) (certificate : Certificate evidence) (end : End) (answer : Status) (old new : View) → ProvesAlone evidence inputs proved certificate → IsSpentEnd evidence inputs out proved certificate end → TellsWhole end answer old new → IsSpentSearch evidence inputs out old new
 spent_so evidence inputs out proved certificate end answer old new h is whole = record {
   certificate = certificate;
   proved = proved;
@@ -148,13 +150,15 @@ spent_so evidence inputs out proved certificate end answer old new h is whole = 
 }
 
 -- with an end of `make`
-made_so : (evidence : Evidence) (style : Style) (inputs : Inputs) (out : List ℕ) (row : List Column) (certificate : Certificate) (drawing : DrawAnswer) (end : End) (answer : Status) (old new : View) → IsFoundBy evidence inputs row certificate → Draws style inputs row drawing → IsRowEnd style inputs out row (row_evidence inputs.cell out certificate) drawing end → TellsWhole end answer old new → Leaves evidence style inputs out old new answer
-made_so Log style inputs out row (held.Log log) drawing end answer old new found h is whole = row_leaves Log style inputs out row log drawing end answer old new found.first found.certified h is whole
-made_so Trails style inputs out row (held.Trails trails) drawing end answer old new (nodes, found) h is whole = row_leaves Trails style inputs out row trails drawing end answer old new found.first found.certified h is whole
+made_so : (evidence : Evidence) (style : Style) (inputs : Inputs) (out : List ℕ) (row : List Column) (certificate : HeldCertificate) (drawing : DrawAnswer) (end : End) (answer : Status) (old new : View) → IsFoundBy evidence inputs row certificate → Draws style inputs row drawing → IsRowEnd style inputs out row (row_evidence inputs.cell out certificate) drawing end → TellsWhole end answer old new → Leaves evidence style inputs out old new answer
+made_so Log style inputs out row (held.Log log) drawing end answer old new found h is whole =
+    row_leaves (Search Log) style inputs out row log drawing end answer old new (Leaves Log style inputs out old new) (λ x. x) (λ x. x) (λ x. x) found.first found.certified h is whole
+made_so Trails style inputs out row (held.Trails trails) drawing end answer old new (nodes, found) h is whole =
+    row_leaves (Search Trails) style inputs out row trails drawing end answer old new (Leaves Trails style inputs out old new) (λ x. x) (λ x. x) (λ x. x) found.first found.certified h is whole
 made_so Log style inputs out row (held.Trails trails) drawing end answer old new found h is whole = absurd found
 made_so Trails style inputs out row (held.Log log) drawing end answer old new found h is whole = absurd found
 
-open_so : (evidence : Evidence) (inputs : Inputs) (out : List ℕ) (proved : ℕ) (certificate : Certificate) (end : End) (answer : Status) (old new : View) → IsOpenBy evidence inputs proved certificate → IsOpenEnd inputs.cell out proved certificate end → TellsWhole end answer old new → IsSpentSearch evidence inputs out old new
+open_so : (evidence : Evidence) (inputs : Inputs) (out : List ℕ) (proved : ℕ) (certificate : HeldCertificate) (end : End) (answer : Status) (old new : View) → IsOpenBy evidence inputs proved certificate → IsOpenEnd inputs.cell out proved certificate end → TellsWhole end answer old new → IsSpentSearch evidence inputs out old new
 open_so Log inputs out proved (held.Log log) end answer old new h is whole = spent_so Log inputs out proved log end answer old new h is whole
 open_so Trails inputs out proved (held.Trails trails) end answer old new h is whole = spent_so Trails inputs out proved trails end answer old new h is whole
 open_so Log inputs out proved (held.Trails trails) end answer old new h is whole = absurd h

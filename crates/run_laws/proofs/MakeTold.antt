@@ -19,13 +19,15 @@ use Rattle.run_laws.specs.Headline.{CanBeDrawn, FromInputs, HasCycle, IsOrShort,
 use Rattle.cell_inputs.specs.declared.style.Style.{Style}
 use Rattle.cell_inputs.specs.Inputs.{Inputs}
 use Rattle.cell_make.proofs.Rings.{no_ring, ring_is}
-use Rattle.cell_make.specs.Rows.{RowDrawn, RowCyclic, RowTall}
+use Rattle.cell_make.specs.Rows.{DrawAnswer, Draws, RowDrawn, RowCyclic, RowTall}
 use Rattle.cell_make.specs.Searched.{IsUnfinished}
-use Rattle.evidence_run.specs.declared.certificate.Certificate.{Certificate}
-use Rattle.evidence_run.specs.declared.certificate.Certificate.TheVariants as held
-use Rattle.evidence_run.specs.Make.{MakesTo}
-use Rattle.evidence_run.specs.Make as made
-use Rattle.evidence_run.specs.Searched.{Crowds, IsFoundBy, IsOpenBy}
+use Rattle.cell_commands.specs.declared.certificate.Certificate.{Certificate}
+use Rattle.cell_commands.specs.declared.certificate.Certificate.TheVariants as held
+use Rattle.cell_commands.specs.Certificate.{row_evidence}
+use Rattle.cell_commands.specs.Make.{MakesTo}
+use Rattle.cell_commands.specs.Make as made
+use Rattle.cell_commands.specs.Searched.{Crowds, IsFoundBy, IsOpenBy}
+use Rattle.cell_commands.specs.RowEnd.{IsRowEnd, RowEvidence}
 use Rattle.call_words.specs.Words.{Form}
 use Rattle.call_words.specs.declared.evidence.Evidence.{Evidence}
 use Rattle.call_words.specs.declared.evidence.Evidence.TheVariants.{Log, Trails}
@@ -62,36 +64,34 @@ pub enough_pairs : (evidence : Evidence) (inputs : Inputs) (gate : NetNo) → Ha
 enough_pairs Log inputs gate much none = none
 enough_pairs Trails inputs gate none crowds = none
 
-drawn_where : (evidence : Evidence) (style : Style) (inputs : Inputs) (out : List ℕ) (end : End) → OfFirstLeast CanBeDrawn evidence style inputs out → MakesTo evidence style inputs out end → end.status ≡ status.Done
-drawn_where evidence style inputs out end (much, can) (made.Made row certificate (RowDrawn routing xs), h, is) = is.status
-drawn_where evidence style inputs out end (much, can) (made.Made row certificate (RowCyclic ring), (found, h), is) = absurd (no_ring style.wiring (placement_of row) inputs.cell.pins ring (can row (found_first evidence inputs row certificate found)).acyclic (ring_is style.wiring (placement_of row) inputs.cell.pins ring h))
-drawn_where evidence style inputs out end (much, can) (made.Made row certificate (RowTall routing), (found, h), is) = absurd ((can row (found_first evidence inputs row certificate found)).fits routing h.0 h.1)
-drawn_where evidence style inputs out end (much, can) (made.Open proved certificate, h, is) = absurd (enough_found evidence inputs proved certificate much h)
-drawn_where evidence style inputs out end (much, can) (made.Crowded gate, h, is) = absurd (enough_pairs evidence inputs gate much h)
+-- ---- a row, by how it can be drawn
 
-cyclic_where : (evidence : Evidence) (style : Style) (inputs : Inputs) (out : List ℕ) (end : End) → OfFirstLeast HasCycle evidence style inputs out → MakesTo evidence style inputs out end → end.status ≡ status.Cycle
-cyclic_where evidence style inputs out end (much, has) (made.Made row certificate (RowDrawn routing xs), (found, h), is) =
-    let (ring, is_ring) = has row (found_first evidence inputs row certificate found) in
-    absurd (no_ring style.wiring (placement_of row) inputs.cell.pins ring h.routed.acyclic is_ring)
-cyclic_where evidence style inputs out end (much, has) (made.Made row certificate (RowCyclic ring), h, is) = is.status
-cyclic_where evidence style inputs out end (much, has) (made.Made row certificate (RowTall routing), (found, h), is) =
-    let (ring, is_ring) = has row (found_first evidence inputs row certificate found) in
-    absurd (no_ring style.wiring (placement_of row) inputs.cell.pins ring h.0.acyclic is_ring)
-cyclic_where evidence style inputs out end (much, has) (made.Open proved certificate, h, is) = absurd (enough_found evidence inputs proved certificate much h)
-cyclic_where evidence style inputs out end (much, has) (made.Crowded gate, h, is) = absurd (enough_pairs evidence inputs gate much h)
+pub row_draws : (style : Style) (inputs : Inputs) (out : List ℕ) (row : List Column) (told : RowEvidence) (drawing : DrawAnswer) (end : End) → CanBeDrawn style inputs row → Draws style inputs row drawing → IsRowEnd style inputs out row told drawing end → end.status ≡ status.Done
+row_draws style inputs out row told (RowDrawn routing xs) end can h is = is.status
+row_draws style inputs out row told (RowCyclic ring) end can h is = absurd (no_ring style.wiring (placement_of row) inputs.cell.pins ring can.acyclic (ring_is style.wiring (placement_of row) inputs.cell.pins ring h))
+row_draws style inputs out row told (RowTall routing) end can h is = absurd (can.fits routing h.0 h.1)
 
-tall_where : (evidence : Evidence) (style : Style) (inputs : Inputs) (out : List ℕ) (end : End) → OfFirstLeast IsTooHigh evidence style inputs out → MakesTo evidence style inputs out end → end.status ≡ status.TooTall
-tall_where evidence style inputs out end (much, high) (made.Made row certificate (RowDrawn routing xs), (found, h), is) = absurd (h.fits ((high row (found_first evidence inputs row certificate found)).tall routing h.routed))
-tall_where evidence style inputs out end (much, high) (made.Made row certificate (RowCyclic ring), (found, h), is) = absurd (no_ring style.wiring (placement_of row) inputs.cell.pins ring (high row (found_first evidence inputs row certificate found)).acyclic (ring_is style.wiring (placement_of row) inputs.cell.pins ring h))
-tall_where evidence style inputs out end (much, high) (made.Made row certificate (RowTall routing), h, is) = is.status
-tall_where evidence style inputs out end (much, high) (made.Open proved certificate, h, is) = absurd (enough_found evidence inputs proved certificate much h)
-tall_where evidence style inputs out end (much, high) (made.Crowded gate, h, is) = absurd (enough_pairs evidence inputs gate much h)
+pub row_cycles : (style : Style) (inputs : Inputs) (out : List ℕ) (row : List Column) (told : RowEvidence) (drawing : DrawAnswer) (end : End) → HasCycle style inputs row → Draws style inputs row drawing → IsRowEnd style inputs out row told drawing end → end.status ≡ status.Cycle
+row_cycles style inputs out row told (RowDrawn routing xs) end (ring, is_ring) h is = absurd (no_ring style.wiring (placement_of row) inputs.cell.pins ring h.routed.acyclic is_ring)
+row_cycles style inputs out row told (RowCyclic ring) end has h is = is.status
+row_cycles style inputs out row told (RowTall routing) end (ring, is_ring) h is = absurd (no_ring style.wiring (placement_of row) inputs.cell.pins ring h.0.acyclic is_ring)
+
+pub row_needs : (style : Style) (inputs : Inputs) (out : List ℕ) (row : List Column) (told : RowEvidence) (drawing : DrawAnswer) (end : End) → IsTooHigh style inputs row → Draws style inputs row drawing → IsRowEnd style inputs out row told drawing end → end.status ≡ status.TooTall
+row_needs style inputs out row told (RowDrawn routing xs) end high h is = absurd (h.fits (high.tall routing h.routed))
+row_needs style inputs out row told (RowCyclic ring) end high h is = absurd (no_ring style.wiring (placement_of row) inputs.cell.pins ring high.acyclic (ring_is style.wiring (placement_of row) inputs.cell.pins ring h))
+row_needs style inputs out row told (RowTall routing) end high h is = is.status
+
+-- what the end of a row settles, the end settles where the budget is enough
+made_where : (Says : Style → Inputs → List Column → Type 0) (settled : Status) (evidence : Evidence) (style : Style) (inputs : Inputs) (out : List ℕ) (end : End) → ((row : List Column) (told : RowEvidence) (drawing : DrawAnswer) → Says style inputs row → Draws style inputs row drawing → IsRowEnd style inputs out row told drawing end → end.status ≡ settled) → OfFirstLeast Says evidence style inputs out → MakesTo evidence style inputs out end → end.status ≡ settled
+made_where Says settled evidence style inputs out end each (much, so) (made.Made row certificate drawing, (found, h), is) = each row (row_evidence inputs.cell out certificate) drawing (so row (found_first evidence inputs row certificate found)) h is
+made_where Says settled evidence style inputs out end each (much, so) (made.Open proved certificate, h, is) = absurd (enough_found evidence inputs proved certificate much h)
+made_where Says settled evidence style inputs out end each (much, so) (made.Crowded gate, h, is) = absurd (enough_pairs evidence inputs gate much h)
 
 pub draws_told : (a c : View) (form : Option Form) (answer : Status) (given : Option Files) → IfSome given (λ files. IsCalm a c → Completes form files answer) → IfSome given (λ files. IsCalm a c → FromInputs files form (OfFirstLeast CanBeDrawn) → IsOrShort status.Done answer)
-draws_told a c form answer given told = settles Making (λ m. OfFirstLeast CanBeDrawn m.evidence m.style m.inputs m.stem) form status.Done answer a c given (λ m end is works. drawn_where m.evidence m.style m.inputs m.stem end is works) told
+draws_told a c form answer given told = settles Making (λ m. OfFirstLeast CanBeDrawn m.evidence m.style m.inputs m.stem) form status.Done answer a c given (λ m end is works. made_where CanBeDrawn status.Done m.evidence m.style m.inputs m.stem end (λ row told drawing. row_draws m.style m.inputs m.stem row told drawing end) is works) told
 
 pub meets_told : (a c : View) (form : Option Form) (answer : Status) (given : Option Files) → IfSome given (λ files. IsCalm a c → Completes form files answer) → IfSome given (λ files. IsCalm a c → FromInputs files form (OfFirstLeast HasCycle) → IsOrShort status.Cycle answer)
-meets_told a c form answer given told = settles Making (λ m. OfFirstLeast HasCycle m.evidence m.style m.inputs m.stem) form status.Cycle answer a c given (λ m end is works. cyclic_where m.evidence m.style m.inputs m.stem end is works) told
+meets_told a c form answer given told = settles Making (λ m. OfFirstLeast HasCycle m.evidence m.style m.inputs m.stem) form status.Cycle answer a c given (λ m end is works. made_where HasCycle status.Cycle m.evidence m.style m.inputs m.stem end (λ row told drawing. row_cycles m.style m.inputs m.stem row told drawing end) is works) told
 
 pub needs_told : (a c : View) (form : Option Form) (answer : Status) (given : Option Files) → IfSome given (λ files. IsCalm a c → Completes form files answer) → IfSome given (λ files. IsCalm a c → FromInputs files form (OfFirstLeast IsTooHigh) → IsOrShort status.TooTall answer)
-needs_told a c form answer given told = settles Making (λ m. OfFirstLeast IsTooHigh m.evidence m.style m.inputs m.stem) form status.TooTall answer a c given (λ m end is works. tall_where m.evidence m.style m.inputs m.stem end is works) told
+needs_told a c form answer given told = settles Making (λ m. OfFirstLeast IsTooHigh m.evidence m.style m.inputs m.stem) form status.TooTall answer a c given (λ m end is works. made_where IsTooHigh status.TooTall m.evidence m.style m.inputs m.stem end (λ row told drawing. row_needs m.style m.inputs m.stem row told drawing end) is works) told

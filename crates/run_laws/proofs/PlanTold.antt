@@ -11,13 +11,13 @@ use Rattle.call_words.specs.declared.evidence.Evidence.TheVariants.{Log, Trails}
 use Rattle.call_work.proofs.Statuses.{differ}
 use Rattle.call_work.specs.Commands.{Checking, Planning}
 use Rattle.call_work.specs.Ends.{IsOfOutside}
-use Rattle.call_work.specs.Evidence.{ChecksBy}
+use Rattle.cell_commands.specs.Given.{ChecksBy}
 use Rattle.cell_inputs.specs.Inputs.{Inputs}
-use Rattle.check_run.proofs.Checked as log
-use Rattle.evidence_run.specs.declared.certificate.Certificate.{Certificate}
-use Rattle.evidence_run.specs.declared.certificate.Certificate.TheVariants as held
-use Rattle.evidence_run.specs.Plan.{PlansTo, Planned, Open, Crowded, plan_end}
-use Rattle.evidence_run.specs.Searched.{IsFoundBy, IsOpenBy}
+use Rattle.cell_commands.proofs.Checked as log
+use Rattle.cell_commands.specs.declared.certificate.Certificate.{Certificate}
+use Rattle.cell_commands.specs.declared.certificate.Certificate.TheVariants as held
+use Rattle.cell_commands.specs.Plan.{PlansTo, Planned, Open, Crowded, plan_end}
+use Rattle.cell_commands.specs.Searched.{IsFoundBy, IsOpenBy}
 use Rattle.row_model.specs.declared.column.Column.{Column}
 use Rattle.run_laws.proofs.MakeTold.{enough_found, enough_pairs}
 use Rattle.run_laws.proofs.Worked.{Completes, IsAnswered, done_exactly, ends_told, settles}
@@ -25,7 +25,7 @@ use Rattle.run_laws.specs.Calm.{IsCalm, IsDoneOrShort}
 use Rattle.run_laws.specs.Check.{HoldsAccepted, IsCheck}
 use Rattle.run_laws.specs.Evidence.{HasEnough, IsTextOfAccepted}
 use Rattle.run_laws.specs.Plan.{CanBePlanned, IsOpenSearch, IsPlannedRow, IsUnplanned, WherePlanEnds}
-use Rattle.trail_run.proofs.Checked as trails
+use Rattle.cell_commands.proofs.TrailChecked as trails
 
 -- ---- plan
 
@@ -79,7 +79,7 @@ done_holds : (evidence : Evidence) (inputs : Inputs) (bytes : List ℕ) (end : E
 done_holds Log inputs bytes end works done = log.done_holds inputs bytes end works done
 done_holds Trails inputs bytes end works done = trails.done_holds inputs bytes end works done
 
-holds_done : (evidence : Evidence) (inputs : Inputs) (bytes : List ℕ) (end : End) → IsTextOfAccepted evidence inputs bytes → ChecksBy evidence inputs bytes end → end.status ≡ status.Done
+pub holds_done : (evidence : Evidence) (inputs : Inputs) (bytes : List ℕ) (end : End) → IsTextOfAccepted evidence inputs bytes → ChecksBy evidence inputs bytes end → end.status ≡ status.Done
 holds_done Log inputs bytes end (gaps, lemmas, text) works = log.holds_done inputs bytes end gaps lemmas text works
 holds_done Trails inputs bytes end holds works = trails.holds_done inputs bytes end holds works
 

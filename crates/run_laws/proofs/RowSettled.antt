@@ -22,19 +22,19 @@ use Rattle.run_laws.specs.Calm.{IsCalm, IsDoneOrShort}
 use Rattle.run_laws.specs.Headline.{CanBeDrawn, OfFirstLeast}
 use Rattle.run_laws.specs.Row.{CanBeMade, CanBeRowed, IsApartOrShort, IsKeptApart, OfRow}
 use Rattle.cell_num.specs.declared.finger.Fingers.{Fingers}
-use Rattle.fault_text.specs.Faults.{fault_line}
-use Rattle.fault_text.specs.RowFaults.{row_fault}
+use Rattle.cell_report.specs.Faults.{fault_line}
+use Rattle.cell_report.specs.RowFaults.{row_fault}
 use Rattle.finger_fold.specs.Folding.{folded}
 use Rattle.finger_fold.specs.declared.folding.FoldFault.{FoldFault}
 use Rattle.spice_net.specs.declared.fault.SpiceFault.{SpiceFault}
-use Rattle.row_make.specs.RowInputs.{RowInputs}
+use Rattle.cell_make.specs.RowInputs.{RowInputs}
 use Rattle.row_abut.specs.declared.cell.RowFault.{RowFault}
-use Rattle.row_make.proofs.Apart.{one_row_fault}
-use Rattle.row_make.specs.Rowed.{AreInputsOf, IsInputFault, IsNoDrawing, IsRefused, IsStopped, MadeCell, ComesNext, cell_name, row_cells, Rowed, Refused, Stopped, Unabutted}
-use Rattle.row_make.specs.declared.outcome.InputFault.{InputFault}
-use Rattle.row_make.specs.declared.outcome.InputFault.TheVariants.{Spice, Fold}
+use Rattle.cell_make.proofs.Apart.{one_row_fault}
+use Rattle.cell_make.specs.Rowed.{AreInputsOf, IsInputFault, IsNoDrawing, IsRefused, IsStopped, MadeCell, ComesNext, cell_name, row_cells, Rowed, Refused, Stopped, Unabutted}
+use Rattle.cell_make.specs.declared.row_outcome.InputFault.{InputFault}
+use Rattle.cell_make.specs.declared.row_outcome.InputFault.TheVariants.{Spice, Fold}
 use Rattle.row_place.specs.Places.{placement_of}
-use Rattle.row_run.specs.Row.{RowsTo}
+use Rattle.layout_commands.specs.Row.{RowsTo}
 use Rattle.tech_file.specs.Technology.{Technology}
 use Rattle.spice_net.specs.Subcircuit.{subcircuit}
 use Rattle.spice_net.specs.declared.subckt.Subckt.{Subckt}

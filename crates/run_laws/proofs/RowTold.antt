@@ -28,10 +28,10 @@ use Rattle.run_laws.proofs.Telling.{or_so}
 use Rattle.run_laws.proofs.Worked.{IsAnswered, ends_told, refused_told, work_statuses}
 use Rattle.run_laws.specs.Ended.{WhereEnds}
 use Rattle.run_laws.specs.Row.{IsInputRefusal, IsMisreadRow, IsRefusedRow, IsRow, IsRowAskedFor, IsRowedLibrary, IsStopStatus, IsStoppedRow, IsUnabuttedRow, WhereRowEnds, stop_statuses}
-use Rattle.row_make.specs.RowInputs.{RowInputs}
-use Rattle.row_make.specs.Rowed.{Rowed, Refused, Stopped, Unabutted}
-use Rattle.row_make.specs.declared.outcome.InputFault.TheVariants.{Spice, Fold}
-use Rattle.row_run.specs.Row.{IsStoppedEnd, RowsTo, input_end, rowing, rowing_over, row_of}
+use Rattle.cell_make.specs.RowInputs.{RowInputs}
+use Rattle.cell_make.specs.Rowed.{Rowed, Refused, Stopped, Unabutted}
+use Rattle.cell_make.specs.declared.row_outcome.InputFault.TheVariants.{Spice, Fold}
+use Rattle.layout_commands.specs.Row.{IsStoppedEnd, RowsTo, input_end, rowing, rowing_over, row_of}
 
 -- ---- what the words ask for
 

@@ -13,10 +13,10 @@ use Rattle.call_read.specs.Reading.{called}
 use Rattle.cell_inputs.specs.Inputs.{Inputs}
 use Rattle.cell_inputs.specs.declared.style.Style.{Style}
 use Rattle.cell_make.specs.Making.{IsDrawn, abstract_of, drawing_in, final_in, library_of}
-use Rattle.agree_run.specs.Agree.{HasDifference, IsAgreeAnswer, IsDisagreement, IsUnextracted, agree_end}
-use Rattle.agree_run.specs.declared.agreement.AgreeAnswer.{AgreeAnswer}
-use Rattle.agree_run.specs.declared.agreement.AgreeAnswer.TheVariants.{Agreed, Differs}
-use Rattle.agree_run.specs.declared.compared.Compared.{Compared}
+use Rattle.layout_commands.specs.Agree.{HasDifference, IsAgreeAnswer, IsDisagreement, IsUnextracted, agree_end}
+use Rattle.layout_commands.specs.declared.agreement.AgreeAnswer.{AgreeAnswer}
+use Rattle.layout_commands.specs.declared.agreement.AgreeAnswer.TheVariants.{Agreed, Differs}
+use Rattle.layout_commands.specs.declared.compared.Compared.{Compared}
 
 abbrev pub IsAgree : Option Form → Type 0
 IsAgree form = IsOfKind Agreeing form

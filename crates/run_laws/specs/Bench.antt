@@ -1,10 +1,10 @@
 -- What a call of `bench` tells.
 use Rattle.std.specs.Prelude.{ℕ, ◌≡◌, ◌++◌, Option, Some}
 use Rattle.cell_io.specs.Desk.{View, Both}
-use Rattle.bench_tally.specs.declared.tally.Tally.{Tally}
+use Rattle.bench_command.specs.declared.tally.Tally.{Tally}
 use Rattle.call_end.specs.declared.status.Status.{Status}
 use Rattle.call_end.specs.declared.status.Status.TheVariants as status
-use Rattle.bench_tally.specs.Report.{IsCounted, bench_text}
+use Rattle.bench_command.specs.Report.{IsCounted, bench_text}
 use Rattle.call_end.specs.Deliver.{Says}
 use Rattle.call_end.specs.Status.{first_line}
 use Rattle.call_words.specs.Words.{Form, Bench}

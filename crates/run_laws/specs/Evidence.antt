@@ -8,7 +8,7 @@ use Rattle.bound_log.specs.Text.{log_text}
 use Rattle.log_check.specs.Accepted.{ForKinds, WithKinds}
 use Rattle.row_search.specs.Enough.{enough}
 use Rattle.spice_net.specs.declared.subckt.Subckt.{Subckt}
-use Rattle.trail_log.specs.declared.trails.Trails.{Trails as TrailList}
+use Rattle.trail_log.specs.declared.trails.TrailCertificate.{TrailCertificate}
 use Rattle.trail_log.specs.Text.{trails_text}
 use Rattle.trail_search.specs.Ended.{IsCertified as IsCertifiedByTrails}
 use Rattle.call_words.specs.declared.evidence.Evidence.{Evidence}
@@ -16,26 +16,26 @@ use Rattle.call_words.specs.declared.evidence.Evidence.TheVariants.{Log, Trails}
 use Rattle.cell_inputs.specs.Inputs.{Inputs}
 use Rattle.cell_make.specs.Searched.{IsCertified, IsUnfinished}
 use Rattle.cell_report.specs.Rows.{plan_text}
-use Rattle.check_run.specs.Check.{IsTextOfAccepted as IsTextOfLog}
-use Rattle.trail_run.specs.Check.{IsTextOfAccepted as IsTextOfTrails}
-use Rattle.trail_run.specs.Counts.{counts_text}
-use Rattle.trail_run.specs.Plan.{IsUnfinished as IsUnfinishedByTrails}
+use Rattle.cell_commands.specs.Check.{IsTextOfAccepted as IsTextOfLog}
+use Rattle.cell_commands.specs.TrailCheck.{IsTextOfAccepted as IsTextOfTrails}
+use Rattle.cell_commands.specs.Counts.{counts_text}
+use Rattle.cell_commands.specs.Searched.{IsOpenByTrails}
 
-abbrev pub CertificateOf : Evidence → Type 0
-CertificateOf Log = SearchLog
-CertificateOf Trails = TrailList
+abbrev pub Certificate : Evidence → Type 0
+Certificate Log = SearchLog
+Certificate Trails = TrailCertificate
 
 -- Its checker accepts it with the gaps of the row, and the row that it lists is this one. A log was found within the
 -- budget, too.
-abbrev pub Certifies : (evidence : Evidence) → Inputs → List Column → CertificateOf evidence → Type 0
+abbrev pub Certifies : (evidence : Evidence) → Inputs → List Column → Certificate evidence → Type 0
 Certifies Log inputs row log = IsCertified inputs row log
 Certifies Trails inputs row trails =
     WithKinds inputs.fingers (λ k. IsCertifiedByTrails k inputs.fingers row trails)
 
 -- it lists no row, and proves so many gaps of every row
-abbrev pub ProvesAlone : (evidence : Evidence) → Inputs → ℕ → CertificateOf evidence → Type 0
+abbrev pub ProvesAlone : (evidence : Evidence) → Inputs → ℕ → Certificate evidence → Type 0
 ProvesAlone Log inputs proved log = IsUnfinished inputs proved log
-ProvesAlone Trails inputs proved trails = IsUnfinishedByTrails inputs proved trails
+ProvesAlone Trails inputs proved trails = IsOpenByTrails inputs proved trails
 
 -- The budget is enough to find it with a row, whatever the fingers are. For certificates by trails none is known to be.
 abbrev pub HasEnough : Evidence → Inputs → Type 0
@@ -54,21 +54,21 @@ evidence_name Log out = out ++ codes ".clog"
 evidence_name Trails out = out ++ codes ".ctrail"
 
 -- the text of its file
-abbrev pub evidence_text : (evidence : Evidence) → List ℕ → CertificateOf evidence → List ℕ
+abbrev pub evidence_text : (evidence : Evidence) → List ℕ → Certificate evidence → List ℕ
 evidence_text Log name log = log_text name log
 evidence_text Trails name trails = trails_text name trails
 
-abbrev pub lemma_count : (evidence : Evidence) → CertificateOf evidence → ℕ
+abbrev pub lemma_count : (evidence : Evidence) → Certificate evidence → ℕ
 lemma_count Log log = length log.lemmas
 lemma_count Trails trails = length trails.lemmas
 
 -- what the report of a drawn cell says of it: its lemmas, and the gates whose half columns are filled
-abbrev pub evidence_counts : (evidence : Evidence) → CertificateOf evidence → List ℕ
+abbrev pub evidence_counts : (evidence : Evidence) → Certificate evidence → List ℕ
 evidence_counts Log log = count_line (codes "lemmas ") (length log.lemmas)
 evidence_counts Trails trails = counts_text (length trails.lemmas) (length trails.fill)
 
 -- what the report of a plan says: the row, and of a certificate by trails its counts
-abbrev pub planned_text : (evidence : Evidence) → Subckt → List Column → CertificateOf evidence → List ℕ
+abbrev pub planned_text : (evidence : Evidence) → Subckt → List Column → Certificate evidence → List ℕ
 planned_text Log cell row log = plan_text cell.name cell.nets row
 planned_text Trails cell row trails = plan_text cell.name cell.nets row ++ evidence_counts Trails trails
 

@@ -8,10 +8,10 @@ use Rattle.call_end.specs.declared.status.Status.{Status}
 use Rattle.call_words.specs.Words.{Form}
 use Rattle.call_work.specs.Commands.{Extracting}
 use Rattle.run_laws.specs.Ended.{Gathers, IsGdsFault, IsOfKind, IsRefusedBy, IsToldFault, WhereEnds}
-use Rattle.layout_run.specs.Extract.{HasLayoutFault, IsDrawingAnswer, IsLayoutFault, extract_end}
-use Rattle.layout_run.specs.declared.extraction.ExtractAnswer.{ExtractAnswer}
-use Rattle.layout_run.specs.declared.extraction.ExtractAnswer.TheVariants.{Extracted, Broken}
-use Rattle.layout_run.specs.declared.gds_cell.GdsCell.{GdsCell}
+use Rattle.layout_commands.specs.Extract.{HasLayoutFault, IsDrawingAnswer, IsLayoutFault, extract_end}
+use Rattle.layout_commands.specs.declared.extraction.ExtractAnswer.{ExtractAnswer}
+use Rattle.layout_commands.specs.declared.extraction.ExtractAnswer.TheVariants.{Extracted, Broken}
+use Rattle.layout_commands.specs.declared.gds_cell.GdsCell.{GdsCell}
 
 abbrev pub IsExtract : Option Form → Type 0
 IsExtract form = IsOfKind Extracting form

@@ -1,7 +1,7 @@
 -- What a call of `make` leaves behind: the drawing of a cell with its evidence, or the evidence of why there is
 -- none. Files and what was said are told where the desk tells them.
 use Rattle.std.specs.Prelude.{ℕ, ◌≡◌, ◌<◌, ◌⊎◌, IsTrue, List, [], ◌∷◌, ◌++◌, Option, Some}
-use Rattle.abstract_laws.specs.Abstracts.{IsAbstractOf}
+use Rattle.file_laws.specs.Abstracts.{IsAbstractOf}
 use Rattle.cell_io.specs.Desk.{Files, View, Both}
 use Rattle.cell_num.specs.Names.{lowered}
 use Rattle.row_model.specs.declared.column.Column.{Column}
@@ -19,7 +19,8 @@ use Rattle.gds_read.specs.Decoding.{Decodes}
 use Rattle.lef_write.specs.Drawn.{AreAllMetal, AreOfNet, HasTrunkPorts, IsSized}
 use Rattle.call_end.specs.Status.{first_line}
 use Rattle.call_work.specs.Commands.{Making}
-use Rattle.run_laws.specs.Evidence.{CertificateOf, Certifies, HasCell, HasEnough, HasEvidence, ProvesAlone, evidence_counts, evidence_name, evidence_text, lemma_count}
+use Rattle.run_laws.specs.Evidence.{Certificate, HasEnough, HasEvidence, ProvesAlone, evidence_counts, evidence_name, evidence_text, lemma_count}
+use Rattle.run_laws.specs.Origin.{CertifiesBy, HasFiles, HasNoDrawing, IsRowOf, Origin, kind_of_evidence}
 use Rattle.run_laws.specs.Ended.{Gathers, IsOfKind, WhereEnds}
 use Rattle.run_laws.specs.Plan.{IsCrowdedCell}
 use Rattle.call_end.specs.declared.status.Status.{Status}
@@ -67,17 +68,18 @@ WhereMakeEnds files form answer settled Says =
 
 -- `row` is the row of the cell, `certificate` its evidence, `routing` its channel, and `lines` has a position for each
 -- line.
-pub record IsMadeCell (evidence : Evidence) (style : Style) (inputs : Inputs) (out : List ℕ)
+pub record IsMadeCell (origin : Origin) (style : Style) (inputs : Inputs) (out : List ℕ)
     (old new : View) : Type 0 where
   pub row : List Column
-  pub certificate : CertificateOf evidence
+  pub certificate : Certificate (kind_of_evidence origin)
   pub routing : Routing
   pub lines : List ℕ
-  -- Over all orders, flips and pairings with the fewest columns, no row has fewer gaps, and of those with as few
-  -- this one comes first.
-  pub first_least : IsFirstLeast inputs.fingers row
-  -- The checker accepts the evidence, a log by the bound of its version, and the row that it lists is this one.
-  pub certified : Certifies evidence inputs row certificate
+  -- Over all orders, flips and pairings with the fewest columns, no row has fewer gaps; and of those with as few
+  -- the one that a search finds comes first.
+  pub least : IsRowOf origin inputs.fingers row
+  -- The checker accepts the evidence, a log by the bound of its version, and the row that it lists is this one. Where a
+  -- file was given, its bytes are the text of the evidence.
+  pub certified : CertifiesBy origin inputs row certificate
   -- No nets stand above each other in a ring; with doglegs no pieces of nets do.
   pub acyclic : HasNoRing style.wiring (placement_of row) inputs.cell.pins
   -- Each net that needs a trunk has one, or with doglegs its pieces; trunks of different nets on one track are apart,
@@ -129,50 +131,51 @@ pub record IsMadeCell (evidence : Evidence) (style : Style) (inputs : Inputs) (o
       IsAbstractOf layout.shapes inputs.cell.name (unit_nm inputs.tech) (abstract_of inputs routing drawing)
   -- The library and the abstract are at most 200,000 bytes each.
   pub small : AreSmall (library_of inputs layout) (abstract_of inputs routing drawing)
-  -- The library stands in `OUT.gds`, the text of a log in `OUT.clog`, or of a certificate by trails in `OUT.ctrail`,
-  -- and in `OUT.lef` the macro of the cell with these ports, obstructions and this size.
+  -- The library stands in `OUT.gds`, and in `OUT.lef` the macro of the cell with these ports, obstructions and this
+  -- size. Of a search the text of a log stands in `OUT.clog`, or of a certificate by trails in `OUT.ctrail`.
   pub files :
-      Both (HasCell (evidence_name evidence out) out (evidence_text evidence inputs.cell.name certificate)
+      Both (HasFiles origin out (evidence_text (kind_of_evidence origin) inputs.cell.name certificate)
       (library_of inputs layout) (abstract_of inputs routing drawing)) old.made new.made
   -- The report says the columns, the tracks, the width and height, and how many lemmas the evidence has.
   pub says :
       Both (Says (first_line status.Done ++ plan_text inputs.cell.name inputs.cell.nets row
-      ++ sizes_text routing.tracks drawing.width drawing.height ++ evidence_counts evidence certificate))
+      ++ sizes_text routing.tracks drawing.width drawing.height
+      ++ evidence_counts (kind_of_evidence origin) certificate))
       old.said new.said
 
 -- ---- why there is none
 
--- In the first least row nets, or with doglegs pieces of nets, stand above each other in a ring, which the report says.
--- The evidence of that row is written all the same.
-pub record IsCyclicCell (evidence : Evidence) (style : Style) (inputs : Inputs) (out : List ℕ)
+-- In the first least row, or in the one that the given file lists, nets, or with doglegs pieces of nets, stand above
+-- each other in a ring, which the report says. The evidence that a search found of that row is written all the same.
+pub record IsCyclicCell (origin : Origin) (style : Style) (inputs : Inputs) (out : List ℕ)
     (old new : View) : Type 0 where
   pub row : List Column
-  pub certificate : CertificateOf evidence
+  pub certificate : Certificate (kind_of_evidence origin)
   pub ring : Ring
-  pub first_least : IsFirstLeast inputs.fingers row
-  pub certified : Certifies evidence inputs row certificate
+  pub least : IsRowOf origin inputs.fingers row
+  pub certified : CertifiesBy origin inputs row certificate
   pub is_ring : IsRing style.wiring (placement_of row) inputs.cell.pins ring
   pub is_told : IsToldRing style.wiring (placement_of row) inputs.cell.pins ring
   pub files :
-      Both (HasEvidence (evidence_name evidence out) (evidence_text evidence inputs.cell.name certificate))
+      Both (HasNoDrawing origin out (evidence_text (kind_of_evidence origin) inputs.cell.name certificate))
       old.made new.made
   pub says : Both (Says (first_line status.Cycle ++ ring_text inputs.cell.nets ring)) old.said new.said
 
--- The first least row, legally and tightly routed, needs more than the height of the technology, and the report
--- says both heights.
-pub record IsTallCell (evidence : Evidence) (style : Style) (inputs : Inputs) (out : List ℕ)
+-- The first least row, or the one that the given file lists, legally and tightly routed, needs more than the height of
+-- the technology, and the report says both heights.
+pub record IsTallCell (origin : Origin) (style : Style) (inputs : Inputs) (out : List ℕ)
     (old new : View) : Type 0 where
   pub row : List Column
-  pub certificate : CertificateOf evidence
+  pub certificate : Certificate (kind_of_evidence origin)
   pub routing : Routing
-  pub first_least : IsFirstLeast inputs.fingers row
-  pub certified : Certifies evidence inputs row certificate
+  pub least : IsRowOf origin inputs.fingers row
+  pub certified : CertifiesBy origin inputs row certificate
   pub acyclic : HasNoRing style.wiring (placement_of row) inputs.cell.pins
   pub legal : AreLegal style.wiring (placement_of row) inputs.cell.pins routing
   pub tight : AreTight style.wiring (placement_of row) inputs.cell.pins routing
   pub tall : IsTooTall row routing.tracks inputs.tech.height
   pub files :
-      Both (HasEvidence (evidence_name evidence out) (evidence_text evidence inputs.cell.name certificate))
+      Both (HasNoDrawing origin out (evidence_text (kind_of_evidence origin) inputs.cell.name certificate))
       old.made new.made
   pub says :
       Both (Says (first_line status.TooTall ++ tall_text (needed_of row routing.tracks) inputs.tech.height))
@@ -180,7 +183,7 @@ pub record IsTallCell (evidence : Evidence) (style : Style) (inputs : Inputs) (o
 
 -- The search spent its budget: the evidence proves that no row has fewer gaps than the report says.
 pub record IsSpentSearch (evidence : Evidence) (inputs : Inputs) (out : List ℕ) (old new : View) : Type 0 where
-  pub certificate : CertificateOf evidence
+  pub certificate : Certificate evidence
   pub proved : ℕ
   pub spent : ProvesAlone evidence inputs proved certificate
   pub files :

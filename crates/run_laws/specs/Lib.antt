@@ -7,6 +7,8 @@ pub mod Created
 pub mod Ended
 pub mod Evidence
 pub mod Extract
+pub mod From
 pub mod Headline
+pub mod Origin
 pub mod Plan
 pub mod Row

@@ -14,10 +14,10 @@ use Rattle.call_words.specs.declared.evidence.Evidence.{Evidence}
 use Rattle.call_work.specs.Commands.{Planning}
 use Rattle.cell_inputs.specs.Inputs.{Inputs}
 use Rattle.cell_report.specs.Logs.{unfinished_text}
-use Rattle.evidence_run.specs.Searched.{Crowds}
+use Rattle.cell_commands.specs.Searched.{Crowds}
 use Rattle.run_laws.specs.Ended.{Gathers, WhereEnds}
-use Rattle.run_laws.specs.Evidence.{CertificateOf, Certifies, HasEnough, ProvesAlone, evidence_text, lemma_count, planned_text}
-use Rattle.trail_run.specs.Plan.{gate_text}
+use Rattle.run_laws.specs.Evidence.{Certificate, Certifies, HasEnough, ProvesAlone, evidence_text, lemma_count, planned_text}
+use Rattle.cell_commands.specs.Evidence.{gate_text}
 
 -- so it is where `plan` ends with this status
 abbrev pub WherePlanEnds : Files → Option Form → Status → Status → (Evidence → Inputs → Type 0) → Type 0
@@ -27,7 +27,7 @@ WherePlanEnds files form answer settled Says =
 -- the row was told, and how many lemmas and filled gates a certificate by trails has
 pub record IsPlannedRow (evidence : Evidence) (inputs : Inputs) (old new : View) : Type 0 where
   pub row : List Column
-  pub certificate : CertificateOf evidence
+  pub certificate : Certificate evidence
   -- Over all orders, flips and pairings with the fewest columns, no row has fewer gaps, and of those with as few
   -- this one comes first.
   pub first_least : IsFirstLeast inputs.fingers row
@@ -38,7 +38,7 @@ pub record IsPlannedRow (evidence : Evidence) (inputs : Inputs) (old new : View)
 
 -- the evidence was told, which lists no row: it proves that no row has fewer gaps than the report says
 pub record IsOpenSearch (evidence : Evidence) (inputs : Inputs) (old new : View) : Type 0 where
-  pub certificate : CertificateOf evidence
+  pub certificate : Certificate evidence
   pub proved : ℕ
   pub spent : ProvesAlone evidence inputs proved certificate
   pub says :

@@ -18,14 +18,15 @@ use Rattle.cell_inputs.specs.Style.{plain_style}
 use Rattle.cell_make.specs.Making.{MakeAnswer}
 use Rattle.cell_num.specs.Names.{lowered}
 use Rattle.run_laws.specs.Ended.{Gathers, IsOfKind, IsToldFault, WhereEnds}
+use Rattle.run_laws.specs.From.{IsMakeFrom}
 use Rattle.run_laws.specs.Headline.{CanBeDrawn, IsMake, OfFirstLeast}
-use Rattle.fault_text.specs.Faults.{fault_line}
-use Rattle.fault_text.specs.RowFaults.{row_fault}
+use Rattle.cell_report.specs.Faults.{fault_line}
+use Rattle.cell_report.specs.RowFaults.{row_fault}
 use Rattle.row_abut.specs.declared.cell.RowFault.{RowFault}
-use Rattle.row_make.specs.RowInputs.{RowInputs}
-use Rattle.row_make.specs.Rowed.{AreInputsOf, AreMade, IsRefused, IsRowFault, IsRowed, IsStopped, IsUnabutted, MadeCell, row_cells, row_height, row_library, row_width}
-use Rattle.row_make.specs.declared.outcome.InputFault.{InputFault}
-use Rattle.row_run.specs.Row.{IsStoppedEnd, input_end, row_text}
+use Rattle.cell_make.specs.RowInputs.{RowInputs}
+use Rattle.cell_make.specs.Rowed.{AreInputsOf, AreMade, IsRefused, IsRowFault, IsRowed, IsStopped, IsUnabutted, MadeCell, row_cells, row_height, row_library, row_width}
+use Rattle.cell_make.specs.declared.row_outcome.InputFault.{InputFault}
+use Rattle.layout_commands.specs.Row.{IsStoppedEnd, input_end, row_text}
 
 abbrev pub IsRow : Option Form → Type 0
 IsRow form = IsOfKind Rowing form
@@ -139,9 +140,9 @@ IsApartOrShort fault answer old new =
 
 -- ---- calls that make files
 
--- a call of `make` or of `row`
+-- a call of `make`, for a row that is searched for or for that of a given file, or of `row`
 abbrev pub MayMakeFiles : Option Form → Type 0
-MayMakeFiles form = IsMake form ⊎ IsRow form
+MayMakeFiles form = IsMake form ⊎ IsRow form ⊎ IsMakeFrom form
 
 -- the statuses of a row that may leave a file behind
 abbrev pub row_file_statuses : List Status

@@ -1,6 +1,6 @@
 ghost use Rattle.std.specs.Prelude.{◌≤◌};
 
-use bench_run::{Tally, bench};
+use bench_command::{Tally, bench};
 use std::alloc::Global;
 
 // It has no other clauses, so that those of `bench` stay out of the test's proof.

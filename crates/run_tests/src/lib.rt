@@ -22,6 +22,8 @@ mod doglegs;
 #[cfg(test)]
 mod extract;
 #[cfg(test)]
+mod given_rows;
+#[cfg(test)]
 mod logs;
 #[cfg(test)]
 mod make;

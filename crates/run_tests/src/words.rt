@@ -22,6 +22,7 @@ agree TECH GDS LEF CELL
 plan TECH SPICE CELL --trails
 check TECH SPICE CELL FILE --trails
 make TECH SPICE CELL OUT [--dogleg] [--taps] --trails
+make TECH SPICE CELL OUT [--dogleg] [--taps] [--trails] --from FILE
 ";
 
 const BENCH: &str = "status 0 ok
@@ -48,7 +49,7 @@ bytes 1397094
 ";
 
 // Calls over the inverter: the words and the end.
-const CALLS: [(&str, Status, &str); 21] = [
+const CALLS: [(&str, Status, &str); 23] = [
     ("plan - c.sp INV", Status::Done, ROW),
     ("plan t.toml c.sp inv", Status::Done, ROW),
     ("plan - d.sp inv", Status::ReadFault, "status 2 read d.sp\n"),
@@ -79,6 +80,12 @@ const CALLS: [(&str, Status, &str); 21] = [
     ("check - c.sp inv", Status::Usage, USAGE),
     ("plan - c.sp a-b", Status::Usage, USAGE),
     ("make - c.sp inv out --trails --taps", Status::Usage, USAGE),
+    ("make - c.sp inv out --from", Status::Usage, USAGE),
+    (
+        "make - c.sp inv out --from l.clog --trails",
+        Status::Usage,
+        USAGE,
+    ),
     ("bench", Status::Usage, USAGE),
     ("bench 0", Status::Usage, USAGE),
     ("bench 201", Status::Usage, USAGE),

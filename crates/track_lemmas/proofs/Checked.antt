@@ -9,10 +9,10 @@ use Rattle.cell_num.proofs.Pairs.{Some', some_from_any, any_from_some}
 use Rattle.row_state.specs.declared.kind.Kinds.{Kinds}
 use Rattle.row_state.specs.declared.state.State.{State}
 use Rattle.row_state.specs.Steps.{column_of, state_after, IsPossible}
-use Rattle.channel_lines.specs.Lines.{is_rail}
-use Rattle.channel_lines.specs.Rows.{node_line}
-use Rattle.open_nets.specs.States.{is_behind, is_still_ahead, is_open_at}
-use Rattle.open_nets.specs.Paths.{lines_to, Ends, EndsFit, Goes}
+use Rattle.track_ways.specs.Lines.{is_rail}
+use Rattle.track_ways.specs.Rows.{node_line}
+use Rattle.track_ways.specs.States.{is_behind, is_still_ahead, is_open_at}
+use Rattle.track_ways.specs.Paths.{lines_to, Ends, EndsFit, Goes}
 use Rattle.track_ways.specs.declared.track.NetTrack.{NetTrack}
 use Rattle.track_lemmas.specs.declared.lemma.TrackLemma.{TrackLemma}
 use Rattle.track_lemmas.specs.Certificate.{Branches, Covers, IsRefuted, IsJustified, IsValid}
@@ -25,7 +25,7 @@ use Rattle.row_state.specs.Completion.{Completes}
 use Rattle.row_state.specs.Start.{AreSomeKinds, GatesAreNets}
 use Rattle.row_state.proofs.Exists.{completion_exists}
 use Rattle.row_state.proofs.Valid.{gates_are_nets}
-use Rattle.open_nets.proofs.Path.{StepsOf, steps_of}
+use Rattle.track_ways.proofs.Path.{StepsOf, steps_of}
 use Rattle.track_ways.proofs.Complete.{pass_complete}
 use Rattle.track_ways.proofs.Steps.{step_only, step_keys, step_behind, ends_listed}
 

@@ -22,8 +22,8 @@ use Rattle.row_state.specs.Steps.{column_of, state_after}
 use Rattle.row_state.proofs.Calls.{valid_after}
 use Rattle.row_state.proofs.Unfold.{columns_same, further_step}
 use Rattle.row_state.proofs.Valid.{gates_are_nets}
-use Rattle.open_nets.specs.Fails.{Fails}
-use Rattle.open_nets.proofs.Failing.{weaker, needs_more, more_tracks}
+use Rattle.track_ways.specs.Fails.{Fails}
+use Rattle.track_ways.proofs.Failing.{weaker, needs_more, more_tracks}
 use Rattle.track_ways.specs.declared.track.NetTrack.{NetTrack}
 use Rattle.track_lemmas.specs.declared.lemma.TrackLemma.{TrackLemma}
 use Rattle.track_lemmas.specs.Certificate.{AreJustified, Branches, Certifies, Covers, CoversAll, NeedsMore, IsJustified, IsRefuted, IsTrueOf}

@@ -11,9 +11,9 @@ use Rattle.row_state.specs.declared.step.Step.{Step}
 use Rattle.row_state.specs.Completion.{cost_of}
 use Rattle.row_state.specs.Start.{HasFingers, IsState, start_of}
 use Rattle.row_state.specs.Steps.{IsPossible, column_of, state_after}
-use Rattle.open_nets.specs.Fails.{Fails}
-use Rattle.open_nets.specs.Paths.{Goes, Ends, EndsFit}
-use Rattle.open_nets.specs.States.{is_open_at}
+use Rattle.track_ways.specs.Fails.{Fails}
+use Rattle.track_ways.specs.Paths.{Goes, Ends, EndsFit}
+use Rattle.track_ways.specs.States.{is_open_at}
 use Rattle.track_ways.specs.declared.track.NetTrack.{NetTrack}
 use Rattle.track_ways.specs.Tracks.{AreTracksOf, IsSingle}
 use Rattle.track_lemmas.specs.declared.lemma.TrackLemma.{TrackLemma}

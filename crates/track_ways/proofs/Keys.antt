@@ -4,10 +4,10 @@ use Rattle.cell_num.specs.declared.net.NetNo.{NetNo}
 use Rattle.cell_num.specs.declared.net.Pins.{Pins}
 use Rattle.cell_num.proofs.In.{in_flat, Piece}
 use Rattle.cell_num.proofs.Lists.{all_from_contains, contains_one}
-use Rattle.channel_lines.specs.declared.line.Line.{Line}
-use Rattle.channel_lines.specs.Lines.{has_place, is_ahead, is_open, with_line}
-use Rattle.channel_lines.proofs.Places.{kept}
-use Rattle.channel_lines.proofs.Passing.{with_lines, same_tests}
+use Rattle.track_ways.specs.declared.line.Line.{Line}
+use Rattle.track_ways.specs.Lines.{has_place, is_ahead, is_open, with_line}
+use Rattle.track_ways.proofs.Places.{kept}
+use Rattle.track_ways.proofs.LineParts.{with_lines, same_tests}
 use Rattle.track_ways.specs.declared.track.NetTrack.{NetTrack}
 use Rattle.track_ways.specs.Tracks.{IsSingle}
 use Rattle.track_ways.specs.Ways.{line_ways, open_of, pass_ways}

@@ -6,3 +6,17 @@ pub mod Nets
 pub mod Steps
 pub mod Tables
 pub mod Through
+pub mod Tracks
+pub mod Places
+pub mod Counts
+pub mod Holding
+pub mod Legal
+pub mod Least
+pub mod Placing
+pub mod Placed
+pub mod LineParts
+pub mod Trunks
+pub mod Behind
+pub mod Path
+pub mod Whole
+pub mod Failing

@@ -5,7 +5,7 @@ use Rattle.std.proofs.lemmas.List.Elements.{filter-append}
 use Rattle.std.proofs.lemmas.List.Concat.{flat_map-cons}
 use Rattle.std.proofs.lemmas.List.{append_assoc, flat_map_more}
 use Rattle.cell_num.specs.declared.net.NetNo.{NetNo}
-use Rattle.channel_lines.specs.declared.line.Line.{Line}
+use Rattle.track_ways.specs.declared.line.Line.{Line}
 use Rattle.track_ways.specs.declared.track.NetTrack.{NetTrack}
 use Rattle.track_ways.specs.Ways.{fills, line_test, on_track}
 

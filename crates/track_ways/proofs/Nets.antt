@@ -23,11 +23,11 @@ use Rattle.row_state.specs.Law.{gates_left}
 use Rattle.row_state.specs.Start.{AreSomeKinds, EndsAreNets, GatesAreNets, IsState, counts_of, start_of}
 use Rattle.row_state.specs.Steps.{column_of, oriented_of, placed_of}
 use Rattle.row_state.proofs.Valid.{ends_are_nets, gates_are_nets}
-use Rattle.channel_lines.specs.declared.line.Line.{Line}
-use Rattle.channel_lines.specs.Lines.{has_place, is_ahead, is_net}
-use Rattle.channel_lines.specs.Rows.{gate_line, is_gap_behind, left_end, lines_between, node_line}
-use Rattle.open_nets.specs.States.{is_behind, touched, touched_here, touched_left, touches}
-use Rattle.open_nets.specs.Paths.{lines_to}
+use Rattle.track_ways.specs.declared.line.Line.{Line}
+use Rattle.track_ways.specs.Lines.{has_place, is_ahead, is_net}
+use Rattle.track_ways.specs.Rows.{gate_line, is_gap_behind, left_end, lines_between, node_line}
+use Rattle.track_ways.specs.States.{is_behind, touched, touched_here, touched_left, touches}
+use Rattle.track_ways.specs.Paths.{lines_to}
 use Rattle.cell_num.proofs.Lists.{all_imply}
 use Rattle.track_ways.specs.Tables.{HasEntries, HasEntry}
 use Rattle.track_ways.specs.Ways.{net_of, nets_below}

@@ -11,11 +11,11 @@ use Rattle.row_state.specs.Completion.{Completes}
 use Rattle.row_state.specs.Start.{AreSomeKinds, GatesAreNets, IsState}
 use Rattle.row_state.specs.Steps.{column_of, state_after}
 use Rattle.row_state.proofs.Unfold.{unfold_from}
-use Rattle.channel_lines.specs.declared.line.Line.{Line}
-use Rattle.channel_lines.specs.Rows.{gate_line, lines_between, node_line}
-use Rattle.open_nets.specs.States.{is_behind, is_still_ahead}
-use Rattle.open_nets.specs.Paths.{lines_to, Ends, EndsFit, Goes, Leads}
-use Rattle.open_nets.proofs.Path.{behind_after, completes}
+use Rattle.track_ways.specs.declared.line.Line.{Line}
+use Rattle.track_ways.specs.Rows.{gate_line, lines_between, node_line}
+use Rattle.track_ways.specs.States.{is_behind, is_still_ahead}
+use Rattle.track_ways.specs.Paths.{lines_to, Ends, EndsFit, Goes, Leads}
+use Rattle.track_ways.proofs.Path.{behind_after, completes}
 use Rattle.track_ways.specs.declared.track.NetTrack.{NetTrack}
 use Rattle.track_ways.specs.Tracks.{IsSingle, AreTracksOf}
 use Rattle.track_ways.specs.Ways.{ends_ways, goes_ways, is_behind_step, nets_below}

@@ -4,9 +4,9 @@ use Rattle.std.specs.Prelude.{get_or, replicate, slice_set}
 use Rattle.std.proofs.lemmas.Bool.{cases_eq, eq-eqb, ne_eqb}
 use Rattle.std.proofs.lemmas.List.{get_or-set_other, get_or-set_same}
 use Rattle.row_trails.specs.Counts.{flag}
-use Rattle.channel_lines.specs.declared.line.Line.{Line}
-use Rattle.channel_lines.specs.Lines.{is_net, with_line}
-use Rattle.channel_lines.proofs.Passing.{same_tests}
+use Rattle.track_ways.specs.declared.line.Line.{Line}
+use Rattle.track_ways.specs.Lines.{is_net, with_line}
+use Rattle.track_ways.proofs.LineParts.{same_tests}
 use Rattle.track_ways.specs.Tables.{marked}
 use Rattle.track_ways.specs.Ways.{net_of}
 

@@ -7,11 +7,11 @@ use Rattle.row_state.specs.declared.kind.Kinds.{Kinds}
 use Rattle.row_state.specs.declared.state.State.{State}
 use Rattle.row_state.specs.declared.step.Step.{Step}
 use Rattle.row_state.specs.Steps.{column_of, state_after}
-use Rattle.open_nets.specs.Paths.{lines_to}
-use Rattle.open_nets.specs.States.{is_behind, is_still_ahead}
-use Rattle.channel_lines.specs.declared.line.Line.{Line}
-use Rattle.channel_lines.specs.Lines.{is_ahead, with_line}
-use Rattle.channel_lines.specs.Rows.{node_line}
+use Rattle.track_ways.specs.Paths.{lines_to}
+use Rattle.track_ways.specs.States.{is_behind, is_still_ahead}
+use Rattle.track_ways.specs.declared.line.Line.{Line}
+use Rattle.track_ways.specs.Lines.{is_ahead, with_line}
+use Rattle.track_ways.specs.Rows.{node_line}
 use Rattle.track_ways.specs.declared.track.NetTrack.{NetTrack}
 use Rattle.track_ways.specs.Ways.{ends_ways, goes_ways, line_ways, nets_below, open_of, pass_ways}
 

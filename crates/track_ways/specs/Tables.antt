@@ -2,7 +2,7 @@
 use Rattle.std.specs.Prelude.{ℕ, Bool, ◌<◌, List, Option, IfSome}
 use Rattle.cell_num.specs.declared.net.NetNo.{NetNo}
 use Rattle.row_trails.specs.Counts.{flag}
-use Rattle.channel_lines.specs.declared.line.Line.{Line}
+use Rattle.track_ways.specs.declared.line.Line.{Line}
 
 abbrev pub marked : List Bool → NetNo → Bool
 marked table net = flag table net.0

@@ -2,7 +2,7 @@
 use Rattle.std.specs.Prelude.{ℕ, ◌≡◌, Bool, true, List, All, Contains}
 use Rattle.cell_num.specs.declared.net.NetNo.{NetNo}
 use Rattle.cell_num.specs.declared.net.Pins.{Pins}
-use Rattle.channel_lines.specs.Lines.{is_open}
+use Rattle.track_ways.specs.Lines.{is_open}
 use Rattle.track_ways.specs.declared.track.NetTrack.{NetTrack}
 
 -- the listed nets have these tracks

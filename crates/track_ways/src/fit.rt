@@ -4,8 +4,8 @@ ghost use Rattle.track_ways.specs.Ways.{are_apart, is_listed, line_test};
 
 use crate::NetTrack;
 use crate::held::is_net;
+use crate::line::Line;
 use cell_num::NetNo;
-use channel_lines::Line;
 
 pub(crate) fn is_listed(tracks: &[NetTrack], net: NetNo) -> bool
     ensures { result ≡ is_listed tracks.now net }

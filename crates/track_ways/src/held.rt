@@ -1,10 +1,10 @@
 ghost use Rattle.std.specs.Prelude.{◌≡◌, ◌||◌};
 ghost use Rattle.row_trails.specs.Counts.{flag};
-ghost use Rattle.channel_lines.specs.Lines.{is_net, has_place, is_ahead, is_open, is_held, is_rail, begins_or_ends};
+ghost use Rattle.track_ways.specs.Lines.{is_net, has_place, is_ahead, is_open, is_held, is_rail, begins_or_ends};
 ghost use Rattle.track_ways.specs.Tables.{marked};
 
+use crate::line::Line;
 use cell_num::{NetNo, Pins};
-use channel_lines::Line;
 use row_trails::NETS;
 
 pub(crate) fn is_net(place: &Option<NetNo>, net: NetNo) -> bool

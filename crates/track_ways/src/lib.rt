@@ -1,16 +1,23 @@
-// The tracks that the open nets may have behind a next column, as a finite list.
+// Tracks line by line: which trunks hold a line, which nets are open behind a prefix of a row, and the tracks that
+// they may have behind a next column, as a finite list.
 #![tactic(auto)]
 
 mod fit;
 mod held;
 pub mod laws;
+pub mod line;
+pub mod line_laws;
 mod line_ways;
+pub mod net_laws;
 pub mod passing;
 pub mod stepping;
 mod table;
 pub mod track;
 
 pub use laws::tracks_listed;
+pub use line::Line;
+pub use line_laws::{legal_by_lines, rows_by_lines, tracks_by_lines, trunks_by_wires};
+pub use net_laws::{failures, open_by_states, tracks_by_states};
 pub use passing::ways_through;
 pub use stepping::{last_ways, step_ways};
 pub use track::{NetTrack, NetTracks, TrackWays};

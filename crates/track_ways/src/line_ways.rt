@@ -1,14 +1,14 @@
 // The tracks at a line, from those of the nets that are open before it.
 ghost use Rattle.std.specs.Prelude.{◌≡◌, ◌≤◌, ◌∷◌, ◌++◌, ◌||◌, filter, IfOk, OnOk};
-ghost use Rattle.channel_lines.specs.Lines.{is_ahead};
+ghost use Rattle.track_ways.specs.Lines.{is_ahead};
 ghost use Rattle.track_ways.specs.Tables.{marked};
 ghost use Rattle.track_ways.specs.Ways.{fills, line_test, line_ways, missing, nets_below, on_track, open_of};
 
 use crate::fit::{do_fit, is_listed};
 use crate::held::{is_held, is_open};
+use crate::line::Line;
 use crate::{NetTrack, NetTracks, TrackWays};
 use cell_num::{List, NetNo, NoMemory, Pins};
-use channel_lines::Line;
 use row_trails::NETS;
 use std::alloc::{AllocError, Global};
 

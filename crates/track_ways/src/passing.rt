@@ -4,11 +4,11 @@ ghost use Rattle.std.specs.List.{All};
 ghost use Rattle.track_ways.specs.Tables.{HasEntries, marked};
 ghost use Rattle.track_ways.specs.Ways.{nets_below, pass_ways};
 
+use crate::line::Line;
 use crate::line_ways::{open_tracks, tracks_at};
 use crate::table::with_line;
 use crate::{NetTrack, TrackWays};
 use cell_num::{List, NoMemory, Pins};
-use channel_lines::Line;
 use row_trails::NETS;
 use std::alloc::Global;
 

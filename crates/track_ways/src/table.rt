@@ -1,11 +1,11 @@
 ghost use Rattle.std.specs.Prelude.{◌≡◌, ◌||◌, ◌<◌, ℕ};
 ghost use Rattle.row_trails.specs.Counts.{flag};
-ghost use Rattle.channel_lines.specs.Lines.{is_net, with_line};
+ghost use Rattle.track_ways.specs.Lines.{is_net, with_line};
 ghost use Rattle.track_ways.specs.Tables.{HasEntries, HasEntry, marked};
 ghost use Rattle.track_ways.specs.Ways.{net_of};
 
+use crate::line::Line;
 use cell_num::NetNo;
-use channel_lines::Line;
 use row_trails::NETS;
 
 #[tactic(auto, using(crate::proofs::Tables::mark_at))]

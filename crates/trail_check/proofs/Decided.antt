@@ -13,7 +13,7 @@ use Rattle.cell_num.specs.declared.finger.Fingers.{Fingers}
 use Rattle.cell_num.specs.Fingers.{on_gate}
 use Rattle.cell_num.proofs.Lists.{all_from_contains}
 use Rattle.cell_num.proofs.Pairs.{Some', count_there, none_counted, pairs_head, pairs_none, pairs_tail, test_finds, test_there}
-use Rattle.trail_log.specs.declared.trails.Trails.{Trails}
+use Rattle.trail_log.specs.declared.trails.TrailCertificate.{TrailCertificate}
 use Rattle.trail_state.specs.Choices.{is_on}
 use Rattle.trail_state.specs.Levels.{IsGate, IsOrder}
 use Rattle.trail_check.specs.Gates.{AreGates, HasHalfColumns}
@@ -131,6 +131,6 @@ all_filled f fill =
     row : (fs : List Finger) → Decides (list_all (is_filled f fill) fs) (All (λ (x : Finger). IsFilled f fill x.gate) fs)
     row fs = Decides-by_and (is_filled f fill) (λ (x : Finger). IsFilled f fill x.gate) (list_all (is_filled f fill)) (filled_decides f fill) refl (λ _ _. refl) fs
 
-pub gates_decide : (f : Fingers) (trails : Trails) → IsTrue (gates_test f trails) ↔ AreGates f trails
+pub gates_decide : (f : Fingers) (trails : TrailCertificate) → IsTrue (gates_test f trails) ↔ AreGates f trails
 gates_decide f trails =
     Decides-like _ (λ both. record { order = both.0; filled = both.1 }) (λ are. (are.order, are.filled)) (Decides-and _ _ (order_decides f trails.order) (all_filled f trails.fill))

@@ -7,7 +7,7 @@ use Rattle.row_model.specs.Gaps.{gaps_of}
 use Rattle.trail_state.specs.declared.level.Level.{Level}
 use Rattle.trail_state.proofs.Law.{levels_law}
 use Rattle.trail_state.specs.Levels.{AreLevels, Ends}
-use Rattle.trail_log.specs.declared.trails.Trails.{Trails}
+use Rattle.trail_log.specs.declared.trails.TrailCertificate.{TrailCertificate}
 use Rattle.trail_check.specs.declared.refusal.TrailRefusal.{TrailRefusal}
 use Rattle.trail_check.specs.declared.refusal.TrailRefusal.TheVariants as refusal
 use Rattle.trail_check.specs.Accepted.{IsLow}
@@ -18,11 +18,11 @@ use Rattle.trail_check.specs.Refusal.{LemmasRefused, Proves}
 half : (ends gaps : ℕ) → ends ≤ 2 * (gaps + 1) → gaps_proved ends ≤ gaps
 half ends gaps h = omega (arith, h)
 
-pub ends_low : (f : Fingers) (trails : Trails) (levels : List Level) (ends : ℕ) → AreFingers f → AreGates f trails → AreLevels f trails.order levels → Ends levels [] ends → IsLow f (gaps_proved ends)
+pub ends_low : (f : Fingers) (trails : TrailCertificate) (levels : List Level) (ends : ℕ) → AreFingers f → AreGates f trails → AreLevels f trails.order levels → Ends levels [] ends → IsLow f (gaps_proved ends)
 ends_low f trails levels ends ok gates are holds row arranges =
     half ends (gaps_of row) (levels_law f ok trails.order gates.order levels ends are holds row arranges)
 
-pub row_low : (f : Fingers) (trails : Trails) (levels : List Level) (ends gaps : ℕ) → AreFingers f → AreGates f trails → AreLevels f trails.order levels → Ends levels [] ends → gaps ≤ gaps_proved ends → IsLow f gaps
+pub row_low : (f : Fingers) (trails : TrailCertificate) (levels : List Level) (ends gaps : ℕ) → AreFingers f → AreGates f trails → AreLevels f trails.order levels → Ends levels [] ends → gaps ≤ gaps_proved ends → IsLow f gaps
 row_low f trails levels ends gaps ok gates are holds few row arranges =
     let least : gaps_proved ends ≤ gaps_of row = ends_low f trails levels ends ok gates are holds row arranges in
     few_then gaps (gaps_proved ends) (gaps_of row) few least
@@ -31,7 +31,7 @@ row_low f trails levels ends gaps ok gates are holds few row arranges =
     few_then a b c h k = omega (arith, h, k)
 
 -- a refusal of a row tells the gaps that are proved
-pub refusal_low : (f : Fingers) (trails : Trails) (levels : List Level) (ends : ℕ) (cause : TrailRefusal) → AreFingers f → AreGates f trails → AreLevels f trails.order levels → Ends levels [] ends → Proves (λ (told : ℕ). told ≡ gaps_proved ends) cause → Proves (IsLow f) cause
+pub refusal_low : (f : Fingers) (trails : TrailCertificate) (levels : List Level) (ends : ℕ) (cause : TrailRefusal) → AreFingers f → AreGates f trails → AreLevels f trails.order levels → Ends levels [] ends → Proves (λ (told : ℕ). told ≡ gaps_proved ends) cause → Proves (IsLow f) cause
 refusal_low f trails levels ends refusal.Gates ok gates are holds h = tt
 refusal_low f trails levels ends (refusal.Choices gate) ok gates are holds h = tt
 refusal_low f trails levels ends (refusal.Unproved line) ok gates are holds h = tt

@@ -8,7 +8,7 @@ use Rattle.row_state.proofs.SameKinds.{same_kinds}
 use Rattle.bound_log.specs.declared.log.Best.{Best}
 use Rattle.log_check.specs.Accepted.{BestPasses, WithKinds}
 use Rattle.trail_state.specs.declared.level.Level.{Level}
-use Rattle.trail_log.specs.declared.trails.Trails.{Trails}
+use Rattle.trail_log.specs.declared.trails.TrailCertificate.{TrailCertificate}
 use Rattle.trail_check.specs.declared.refusal.TrailRefusal.{TrailRefusal}
 use Rattle.trail_check.specs.declared.refusal.TrailRefusal.TheVariants as refusal
 use Rattle.trail_check.specs.Accepted.{IsAccepted, first_unproved, least_gaps}
@@ -23,15 +23,15 @@ use Rattle.trail_check.specs.Refusal.{LemmasRefused, Refuses, RowRefused}
 by_levels : (P : List Level → Type 0) (levels all : List Level) → levels ≡ all → P levels → P all
 by_levels P levels all is h = subst P is h
 
-pub all_justified : (f : Fingers) (trails : Trails) (levels : List Level) → levels ≡ levels_of f trails.order → unproved levels [] 5 (lemmas_listed levels trails.lemmas) ≡ None → first_unproved f trails ≡ None
+pub all_justified : (f : Fingers) (trails : TrailCertificate) (levels : List Level) → levels ≡ levels_of f trails.order → unproved levels [] 5 (lemmas_listed levels trails.lemmas) ≡ None → first_unproved f trails ≡ None
 all_justified f trails levels are h =
     by_levels (λ (ls : List Level). unproved ls [] 5 (lemmas_listed ls trails.lemmas) ≡ None) levels (levels_of f trails.order) are h
 
-gaps_are : (f : Fingers) (trails : Trails) (levels : List Level) (ends : ℕ) → levels ≡ levels_of f trails.order → ends ≡ ends_proved (lemmas_listed levels trails.lemmas) → gaps_proved ends ≡ least_gaps f trails
+gaps_are : (f : Fingers) (trails : TrailCertificate) (levels : List Level) (ends : ℕ) → levels ≡ levels_of f trails.order → ends ≡ ends_proved (lemmas_listed levels trails.lemmas) → gaps_proved ends ≡ least_gaps f trails
 gaps_are f trails levels ends are is =
     ap gaps_proved (is ∙ ap (λ (ls : List Level). ends_proved (lemmas_listed ls trails.lemmas)) are)
 
-pub accepts : (f : Fingers) (trails : Trails) (levels : List Level) (ends gaps : ℕ) → AreGates f trails → first_with_many f trails.order ≡ None → levels ≡ levels_of f trails.order → unproved levels [] 5 (lemmas_listed levels trails.lemmas) ≡ None → ends ≡ ends_proved (lemmas_listed levels trails.lemmas) → WithKinds f (λ (k : Kinds). BestPasses k f (gaps_proved ends) trails.best gaps) → IsAccepted f trails gaps
+pub accepts : (f : Fingers) (trails : TrailCertificate) (levels : List Level) (ends gaps : ℕ) → AreGates f trails → first_with_many f trails.order ≡ None → levels ≡ levels_of f trails.order → unproved levels [] 5 (lemmas_listed levels trails.lemmas) ≡ None → ends ≡ ends_proved (lemmas_listed levels trails.lemmas) → WithKinds f (λ (k : Kinds). BestPasses k f (gaps_proved ends) trails.best gaps) → IsAccepted f trails gaps
 accepts f trails levels ends gaps gates few are justified is passes = record {
   gates = gates;
   few_ways = few;
@@ -41,11 +41,11 @@ accepts f trails levels ends gaps gates few are justified is passes = record {
 
 -- ---- refusals
 
-first_refused : (f : Fingers) (trails : Trails) (levels : List Level) → levels ≡ levels_of f trails.order → (cause : TrailRefusal) → LemmasRefused (unproved levels [] 5 (lemmas_listed levels trails.lemmas)) cause → LemmasRefused (first_unproved f trails) cause
+first_refused : (f : Fingers) (trails : TrailCertificate) (levels : List Level) → levels ≡ levels_of f trails.order → (cause : TrailRefusal) → LemmasRefused (unproved levels [] 5 (lemmas_listed levels trails.lemmas)) cause → LemmasRefused (first_unproved f trails) cause
 first_refused f trails levels are cause h =
     by_levels (λ (ls : List Level). LemmasRefused (unproved ls [] 5 (lemmas_listed ls trails.lemmas)) cause) levels (levels_of f trails.order) are h
 
-lemmas_cause : (f : Fingers) (trails : Trails) (cause : TrailRefusal) → AreGates f trails → first_with_many f trails.order ≡ None → LemmasRefused (first_unproved f trails) cause → Refuses f trails cause
+lemmas_cause : (f : Fingers) (trails : TrailCertificate) (cause : TrailRefusal) → AreGates f trails → first_with_many f trails.order ≡ None → LemmasRefused (first_unproved f trails) cause → Refuses f trails cause
 lemmas_cause f trails refusal.Gates gates few h = absurd h
 lemmas_cause f trails (refusal.Choices gate) gates few h = absurd h
 lemmas_cause f trails (refusal.Unproved line) gates few h = (gates, few, h)
@@ -55,10 +55,10 @@ lemmas_cause f trails (refusal.Gaps said counted) gates few h = absurd h
 lemmas_cause f trails (refusal.NotLeast best said) gates few h = absurd h
 lemmas_cause f trails refusal.NoMemory gates few h = tt
 
-pub lemmas_refuse : (f : Fingers) (trails : Trails) (levels : List Level) (cause : TrailRefusal) → AreGates f trails → first_with_many f trails.order ≡ None → levels ≡ levels_of f trails.order → LemmasRefused (unproved levels [] 5 (lemmas_listed levels trails.lemmas)) cause → Refuses f trails cause
+pub lemmas_refuse : (f : Fingers) (trails : TrailCertificate) (levels : List Level) (cause : TrailRefusal) → AreGates f trails → first_with_many f trails.order ≡ None → levels ≡ levels_of f trails.order → LemmasRefused (unproved levels [] 5 (lemmas_listed levels trails.lemmas)) cause → Refuses f trails cause
 lemmas_refuse f trails levels cause gates few are h = lemmas_cause f trails cause gates few (first_refused f trails levels are cause h)
 
-row_cause : (f : Fingers) (trails : Trails) (cause : TrailRefusal) → AreGates f trails → first_with_many f trails.order ≡ None → first_unproved f trails ≡ None → WithKinds f (λ (k : Kinds). RowRefused k f (least_gaps f trails) trails.best cause) → Refuses f trails cause
+row_cause : (f : Fingers) (trails : TrailCertificate) (cause : TrailRefusal) → AreGates f trails → first_with_many f trails.order ≡ None → first_unproved f trails ≡ None → WithKinds f (λ (k : Kinds). RowRefused k f (least_gaps f trails) trails.best cause) → Refuses f trails cause
 row_cause f trails refusal.Gates gates few justified (k, of_k, some_k, h) = absurd h
 row_cause f trails (refusal.Choices gate) gates few justified (k, of_k, some_k, h) = absurd h
 row_cause f trails (refusal.Unproved line) gates few justified (k, of_k, some_k, h) = absurd h
@@ -68,7 +68,7 @@ row_cause f trails (refusal.Gaps said counted) gates few justified h = (gates, f
 row_cause f trails (refusal.NotLeast best said) gates few justified h = (gates, few, justified, h)
 row_cause f trails refusal.NoMemory gates few justified h = tt
 
-pub row_refuses : (f : Fingers) (trails : Trails) (levels : List Level) (ends : ℕ) (cause : TrailRefusal) → AreGates f trails → first_with_many f trails.order ≡ None → levels ≡ levels_of f trails.order → unproved levels [] 5 (lemmas_listed levels trails.lemmas) ≡ None → ends ≡ ends_proved (lemmas_listed levels trails.lemmas) → WithKinds f (λ (k : Kinds). RowRefused k f (gaps_proved ends) trails.best cause) → Refuses f trails cause
+pub row_refuses : (f : Fingers) (trails : TrailCertificate) (levels : List Level) (ends : ℕ) (cause : TrailRefusal) → AreGates f trails → first_with_many f trails.order ≡ None → levels ≡ levels_of f trails.order → unproved levels [] 5 (lemmas_listed levels trails.lemmas) ≡ None → ends ≡ ends_proved (lemmas_listed levels trails.lemmas) → WithKinds f (λ (k : Kinds). RowRefused k f (gaps_proved ends) trails.best cause) → Refuses f trails cause
 row_refuses f trails levels ends cause gates few are justified is h =
     row_cause f trails cause gates few (all_justified f trails levels are justified)
     (subst (λ (least : ℕ). WithKinds f (λ (k : Kinds). RowRefused k f least trails.best cause)) (gaps_are f trails levels ends are is) h)
@@ -91,7 +91,7 @@ rows_not_both f least row gaps cause (j, of_j, some_j, passes) (k, of_k, some_k,
     row_not_both k f least row gaps cause (subst (λ (i : Kinds). BestPasses i f least row gaps) (same_kinds f j k of_j some_j of_k some_k) passes) h other
 
 -- no certificate is accepted that is refused for another cause than memory
-pub not_both : (f : Fingers) (trails : Trails) (gaps : ℕ) (cause : TrailRefusal) → IsAccepted f trails gaps → Refuses f trails cause → cause ≢ refusal.NoMemory → ⊥
+pub not_both : (f : Fingers) (trails : TrailCertificate) (gaps : ℕ) (cause : TrailRefusal) → IsAccepted f trails gaps → Refuses f trails cause → cause ≢ refusal.NoMemory → ⊥
 not_both f trails gaps refusal.Gates is h other = h is.gates
 not_both f trails gaps (refusal.Choices gate) is (gates, many) other = none-some gate (sym is.few_ways ∙ many)
 not_both f trails gaps (refusal.Unproved line) is (gates, few, first) other = none-some line (sym is.justified ∙ first)

@@ -6,26 +6,26 @@ use Rattle.row_model.specs.Arrangement.{IsArrangement}
 use Rattle.row_model.specs.Gaps.{gaps_of}
 use Rattle.row_state.specs.declared.kind.Kinds.{Kinds}
 use Rattle.log_check.specs.Accepted.{BestPasses, WithKinds}
-use Rattle.trail_log.specs.declared.trails.Trails.{Trails}
+use Rattle.trail_log.specs.declared.trails.TrailCertificate.{TrailCertificate}
 use Rattle.trail_check.specs.declared.lemma.TrailLemma.{TrailLemma}
 use Rattle.trail_check.specs.Gates.{AreGates, first_with_many}
 use Rattle.trail_check.specs.Justified.{ends_proved, gaps_proved, unproved}
 use Rattle.trail_check.specs.Leveled.{levels_of}
 use Rattle.trail_check.specs.Listed.{lemmas_listed}
 
-abbrev pub lemmas_of : Fingers → Trails → List TrailLemma
+abbrev pub lemmas_of : Fingers → TrailCertificate → List TrailLemma
 lemmas_of f trails = lemmas_listed (levels_of f trails.order) trails.lemmas
 
 -- the line of the first lemma that is not justified; the first lemma stands at line 5
-abbrev pub first_unproved : Fingers → Trails → Option ℕ
+abbrev pub first_unproved : Fingers → TrailCertificate → Option ℕ
 first_unproved f trails = unproved (levels_of f trails.order) [] 5 (lemmas_of f trails)
 
 -- the gaps that the lemmas prove of every row
-abbrev pub least_gaps : Fingers → Trails → ℕ
+abbrev pub least_gaps : Fingers → TrailCertificate → ℕ
 least_gaps f trails = gaps_proved (ends_proved (lemmas_of f trails))
 
 -- the row has no more gaps than the lemmas, each justified, prove of every row
-pub record IsAccepted (f : Fingers) (trails : Trails) (gaps : ℕ) : Type 0 where
+pub record IsAccepted (f : Fingers) (trails : TrailCertificate) (gaps : ℕ) : Type 0 where
   pub gates : AreGates f trails
   pub few_ways : first_with_many f trails.order ≡ None
   pub justified : first_unproved f trails ≡ None

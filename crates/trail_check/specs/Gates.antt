@@ -3,7 +3,7 @@ use Rattle.std.specs.Prelude.{ℕ, ◌≢◌, Bool, List, Option, Contains, find
 use Rattle.cell_num.specs.declared.net.NetNo.{NetNo}
 use Rattle.cell_num.specs.declared.finger.Fingers.{Fingers}
 use Rattle.cell_num.specs.Fingers.{on_gate}
-use Rattle.trail_log.specs.declared.trails.Trails.{Trails}
+use Rattle.trail_log.specs.declared.trails.TrailCertificate.{TrailCertificate}
 use Rattle.trail_state.specs.Levels.{IsOrder}
 use Rattle.trail_state.specs.Pairings.{has_long_front}
 
@@ -13,7 +13,7 @@ HasHalfColumns f gate = on_gate gate f.p ≢ on_gate gate f.n
 
 -- The order has each gate of a finger once, and each gate with half columns is filled. Other nets may be listed as
 -- filled too: there is nothing to fill at them.
-pub record AreGates (f : Fingers) (trails : Trails) : Type 0 where
+pub record AreGates (f : Fingers) (trails : TrailCertificate) : Type 0 where
   pub order : IsOrder f trails.order
   pub filled : (gate : NetNo) → HasHalfColumns f gate.0 → Contains trails.fill gate
 

@@ -6,7 +6,7 @@ use Rattle.bound_log.specs.declared.log.Best.{Best}
 use Rattle.log_check.specs.Accepted.{WithKinds}
 use Rattle.log_check.specs.declared.refused.Refused.TheVariants as because
 use Rattle.log_check.specs.Refusal.{BestRefuses}
-use Rattle.trail_log.specs.declared.trails.Trails.{Trails}
+use Rattle.trail_log.specs.declared.trails.TrailCertificate.{TrailCertificate}
 use Rattle.trail_check.specs.declared.refusal.TrailRefusal.{TrailRefusal}
 use Rattle.trail_check.specs.declared.refusal.TrailRefusal.TheVariants as refusal
 use Rattle.trail_check.specs.Accepted.{first_unproved, least_gaps}
@@ -29,7 +29,7 @@ LemmasRefused first _ = ⊥
 
 -- the gates are not as asked; or they are, and one has too many ways; or none has, and a lemma is not justified; or
 -- all are, and the row is refused
-abbrev pub Refuses : Fingers → Trails → TrailRefusal → Type 0
+abbrev pub Refuses : Fingers → TrailCertificate → TrailRefusal → Type 0
 Refuses f trails refusal.Gates = AreGates f trails → ⊥
 Refuses f trails (refusal.Choices gate) = AreGates f trails × (first_with_many f trails.order ≡ Some gate)
 Refuses f trails (refusal.Unproved line) = AreGates f trails × (first_with_many f trails.order ≡ None) × (first_unproved f trails ≡ Some line)

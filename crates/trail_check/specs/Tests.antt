@@ -5,7 +5,7 @@ use Rattle.cell_num.specs.declared.net.NetNo.{NetNo}
 use Rattle.cell_num.specs.declared.finger.Finger.{Finger}
 use Rattle.cell_num.specs.declared.finger.Fingers.{Fingers}
 use Rattle.cell_num.specs.Fingers.{on_gate}
-use Rattle.trail_log.specs.declared.trails.Trails.{Trails}
+use Rattle.trail_log.specs.declared.trails.TrailCertificate.{TrailCertificate}
 
 abbrev pub has_gate : List NetNo → ℕ → Bool
 has_gate gates gate = list_any (λ (g : NetNo). g.0 == gate) gates
@@ -30,5 +30,5 @@ is_filled f fill x = (on_gate x.gate.0 f.p == on_gate x.gate.0 f.n) || has_gate 
 abbrev pub are_filled : Fingers → List NetNo → Bool
 are_filled f fill = list_all (is_filled f fill) f.p && list_all (is_filled f fill) f.n
 
-abbrev pub gates_test : Fingers → Trails → Bool
+abbrev pub gates_test : Fingers → TrailCertificate → Bool
 gates_test f trails = is_order f trails.order && are_filled f trails.fill

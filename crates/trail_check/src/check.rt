@@ -10,11 +10,15 @@ use crate::ways::first_with_many;
 use crate::{TrailRefusal, check_lemmas, check_row, levels_of};
 use cell_num::{Fingers, MOST_BYTES};
 use std::alloc::Global;
-use trail_log::Trails;
+use trail_log::TrailCertificate;
 
 // The lemmas and the row, where the gates are as asked.
 #[tactic(auto, using(crate::proofs::Refusals::accepts, crate::proofs::Refusals::lemmas_refuse, crate::proofs::Refusals::row_refuses, crate::proofs::Least::row_low, crate::proofs::Least::refusal_low, crate::proofs::Least::lemmas_low))]
-fn check_listed(alloc: Global, fingers: &Fingers, trails: &Trails) -> Result<u32, TrailRefusal>
+fn check_listed(
+    alloc: Global,
+    fingers: &Fingers,
+    trails: &TrailCertificate,
+) -> Result<u32, TrailRefusal>
     requires fingers { AreFingers fingers.now }
     requires gates { AreGates fingers.now trails.now }
     requires ways { first_with_many fingers.now trails.now.order ≡ None }
@@ -31,7 +35,11 @@ fn check_listed(alloc: Global, fingers: &Fingers, trails: &Trails) -> Result<u32
 
 /// The gaps of the row that the certificate lists, where it is accepted: no arrangement of the fingers has fewer. Else
 /// the first cause to refuse it. At most [`MOST_BYTES`] lemmas.
-pub fn check_trails(alloc: Global, fingers: &Fingers, trails: &Trails) -> Result<u32, TrailRefusal>
+pub fn check_trails(
+    alloc: Global,
+    fingers: &Fingers,
+    trails: &TrailCertificate,
+) -> Result<u32, TrailRefusal>
     requires fingers { AreFingers fingers.now }
     requires few { length trails.now.lemmas ≤ MOST_BYTES }
     ensures accepted { IfOk result (IsAccepted fingers.now trails.now) }

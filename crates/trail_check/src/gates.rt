@@ -4,7 +4,7 @@ ghost use Rattle.trail_check.specs.Gates.{AreGates};
 ghost use Rattle.trail_check.specs.Tests.{are_filled, are_once, are_ordered, gates_test, has_gate, is_filled, is_gate, is_order};
 
 use cell_num::{Finger, Fingers, NetNo};
-use trail_log::Trails;
+use trail_log::TrailCertificate;
 use trail_state::count_on;
 
 fn has_gate(gates: &[NetNo], gate: u32) -> bool
@@ -70,7 +70,7 @@ fn are_filled(fingers: &Fingers, fill: &[NetNo]) -> bool
         && are_filled_in(fingers, fill, fingers.n.as_slice())
 }
 
-fn passes(fingers: &Fingers, trails: &Trails) -> bool
+fn passes(fingers: &Fingers, trails: &TrailCertificate) -> bool
     ensures { result ≡ gates_test fingers.now trails.now }
 {
     is_order(fingers, trails.order.as_slice()) && are_filled(fingers, trails.fill.as_slice())
@@ -78,7 +78,7 @@ fn passes(fingers: &Fingers, trails: &Trails) -> bool
 
 /// Whether the order is each gate of a finger once, and each gate with half columns is filled.
 #[tactic(auto, using(crate::proofs::Decided::gates_decide))]
-pub fn are_gates(fingers: &Fingers, trails: &Trails) -> bool
+pub fn are_gates(fingers: &Fingers, trails: &TrailCertificate) -> bool
     ensures { IsTrue result ↔ AreGates fingers.now trails.now }
 {
     passes(fingers, trails)

@@ -1,5 +1,5 @@
 // Where lemmas stand in a list, so that those on a state are found without a walk through all of them.
-ghost use Rattle.std.specs.Prelude.{◌≡◌, ◌≢◌, ◌++◌, [], ◌∷◌, ℕ, Some, OnOk, length, nat_eq, option_map, unwrap_or};
+ghost use Rattle.std.specs.Prelude.{◌≡◌, ◌≢◌, ◌++◌, [], ◌∷◌, ℕ, Some, OnOk, nat_eq, option_map, unwrap_or};
 ghost use Rattle.std.specs.HashMap.{get};
 ghost use Rattle.std.specs.List.{list_any};
 ghost use Rattle.trail_check.specs.Indexed.{IsIndexOf, marks, mixed, noted_at, says_at, state_number, with_place};

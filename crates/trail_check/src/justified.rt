@@ -1,9 +1,9 @@
-ghost use Rattle.std.specs.Prelude.{◌≡◌, ◌≢◌, ◌≤◌, ◌<◌, [], All, IfErr, IfOk, None, Some, length, slice_get};
+ghost use Rattle.std.specs.Prelude.{◌≡◌, ◌≢◌, ◌≤◌, ◌<◌, [], All, IfErr, IfOk, None, Some, length};
 ghost use Rattle.std.specs.List.{list_all};
 ghost use Rattle.trail_state.specs.declared.level.Level.{Level as LevelOf};
 ghost use Rattle.trail_state.specs.Levels.{Ends};
 ghost use Rattle.trail_check.specs.Indexed.{IsIndexOf};
-ghost use Rattle.trail_check.specs.Justified.{choice_reaches, ends_proved, is_justified, level_reaches, unproved};
+ghost use Rattle.trail_check.specs.Justified.{choice_reaches, ends_proved, is_justified, unproved};
 ghost use Rattle.trail_check.specs.Listed.{lemmas_listed};
 ghost use Rattle.trail_check.specs.Refusal.{LemmasRefused};
 ghost use Rattle.trail_check.specs.declared.refusal.TrailRefusal.TheVariants as refusal;

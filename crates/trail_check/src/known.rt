@@ -1,4 +1,4 @@
-ghost use Rattle.std.specs.Prelude.{◌≡◌, fold};
+ghost use Rattle.std.specs.Prelude.{◌≡◌};
 ghost use Rattle.trail_check.specs.Justified.{better, ends_proved, is_start, same_state, says};
 
 use crate::TrailLemma;

@@ -26,7 +26,7 @@ use Rattle.trail_log.specs.Spelling.{nets_text}
 use Rattle.trail_log.specs.declared.trails.LemmaLine.{LemmaLine}
 use Rattle.trail_log.specs.declared.trails.TrailEntry.{TrailEntry}
 use Rattle.trail_log.specs.declared.trails.TrailEntry.TheVariants as entry
-use Rattle.trail_log.specs.declared.trails.Trails.{Trails}
+use Rattle.trail_log.specs.declared.trails.TrailCertificate.{TrailCertificate}
 use Rattle.trail_log.specs.Fits.{LemmaFits, NetFits, TrailsFit}
 use Rattle.trail_log.specs.Line.{entry_in, fill_in, order_in}
 use Rattle.trail_log.specs.Reading.{begun_by, fill_at, lemmas_at, named_at, order_at, text_at, trails_of}
@@ -90,7 +90,7 @@ columns_only k n (line ∷ lines) rest steps h =
 -- ---- the whole certificate
 
 -- the lines from the lemmas on, for these gates
-record RestSpelled (fill order : List NetNo) (k : Kinds) (lines : List (List ℕ)) (rest : List ℕ) (trails : Trails) : Type 0 where
+record RestSpelled (fill order : List NetNo) (k : Kinds) (lines : List (List ℕ)) (rest : List ℕ) (trails : TrailCertificate) : Type 0 where
   text : lines_text lines rest ≡ flat_map lemma_line trails.lemmas ++ (best_text trails.best ++ codes "end\n")
   lemmas : All (LemmaFits k.nets) trails.lemmas
   best : IfSome trails.best (BestFits k)
@@ -102,7 +102,7 @@ before : (line : List ℕ) (lines : List (List ℕ)) (rest written later : List 
 before line lines rest written later here behind =
     text_cons line lines rest ∙ (ap (λ (bs : List ℕ). bs ++ lines_text lines rest) here ∙ ap (λ (bs : List ℕ). written ++ bs) behind)
 
-lemma_before : (fill order : List NetNo) (k : Kinds) (line : List ℕ) (lines : List (List ℕ)) (rest : List ℕ) (lemma : LemmaLine) (trails : Trails) → EntrySpelled k.nets (words_in line) (entry.Lemma lemma) → RestSpelled fill order k lines rest trails → RestSpelled fill order k (line ∷ lines) rest (record { fill = trails.fill; order = trails.order; lemmas = lemma ∷ trails.lemmas; best = trails.best })
+lemma_before : (fill order : List NetNo) (k : Kinds) (line : List ℕ) (lines : List (List ℕ)) (rest : List ℕ) (lemma : LemmaLine) (trails : TrailCertificate) → EntrySpelled k.nets (words_in line) (entry.Lemma lemma) → RestSpelled fill order k lines rest trails → RestSpelled fill order k (line ∷ lines) rest (record { fill = trails.fill; order = trails.order; lemmas = lemma ∷ trails.lemmas; best = trails.best })
 lemma_before fill order k line lines rest lemma trails one later =
     let here : fed line ≡ lemma_line lemma = line_of_words line (codes "lemma" ∷ lemma_words lemma) one.0 ∙ lemma_joined lemma in
     record {
@@ -136,14 +136,14 @@ open_before fill order k line lines rest one later = record {
   order_is = refl;
 }
 
-lemmas_only : (fill order : List NetNo) (k : Kinds) (n : ℕ) (lines : List (List ℕ)) (rest : List ℕ) (trails : Trails) → lemmas_at fill order k n lines rest ≡ Ok trails → RestSpelled fill order k lines rest trails
+lemmas_only : (fill order : List NetNo) (k : Kinds) (n : ℕ) (lines : List (List ℕ)) (rest : List ℕ) (trails : TrailCertificate) → lemmas_at fill order k n lines rest ≡ Ok trails → RestSpelled fill order k lines rest trails
 unfolding lemmas_at
 lemmas_only fill order k n [] rest trails h = absurd (err-ok fault.Cut trails h)
 lemmas_only fill order k n (line ∷ lines) rest trails h =
     let first = bound_ok (or_fault (entry_in k.nets (words_in line)) (fault.Line n)) _ trails h in
     by_entry first.0 first.2 (entry_only k.nets (words_in line) first.0 (there (entry_in k.nets (words_in line)) (fault.Line n) first.0 first.1)) (λ later read. lemmas_only fill order k (n + 1) lines rest later read)
   where
-    by_entry : (e : TrailEntry) → begun_by fill order e (lemmas_at fill order k (n + 1) lines rest) (columns_at k (n + 1) lines rest) (end_at (n + 1) lines rest) ≡ Ok trails → EntrySpelled k.nets (words_in line) e → ((later : Trails) → lemmas_at fill order k (n + 1) lines rest ≡ Ok later → RestSpelled fill order k lines rest later) → RestSpelled fill order k (line ∷ lines) rest trails
+    by_entry : (e : TrailEntry) → begun_by fill order e (lemmas_at fill order k (n + 1) lines rest) (columns_at k (n + 1) lines rest) (end_at (n + 1) lines rest) ≡ Ok trails → EntrySpelled k.nets (words_in line) e → ((later : TrailCertificate) → lemmas_at fill order k (n + 1) lines rest ≡ Ok later → RestSpelled fill order k lines rest later) → RestSpelled fill order k (line ∷ lines) rest trails
     by_entry (entry.Lemma lemma) read spelled more =
         let later = bound_ok (lemmas_at fill order k (n + 1) lines rest) _ trails read in
         subst (RestSpelled fill order k (line ∷ lines) rest) (same_Ok _ trails later.2) (lemma_before fill order k line lines rest lemma later.0 spelled (more later.0 later.1))
@@ -155,10 +155,10 @@ lemmas_only fill order k n (line ∷ lines) rest trails h =
         subst (RestSpelled fill order k (line ∷ lines) rest) (same_Ok _ trails end.2) (open_before fill order k line lines rest spelled (end_only (n + 1) lines rest end.0 end.1))
 
 -- the text of the last lines
-abbrev rest_text : Trails → List ℕ
+abbrev rest_text : TrailCertificate → List ℕ
 rest_text trails = flat_map lemma_line trails.lemmas ++ (best_text trails.best ++ codes "end\n")
 
-order_read : (fill : List NetNo) (k : Kinds) (lines : List (List ℕ)) (rest : List ℕ) (trails : Trails) → order_at fill k lines rest ≡ Ok trails → (lines_text lines rest ≡ order_line trails.order ++ rest_text trails) × All (NetFits k.nets) trails.order × All (LemmaFits k.nets) trails.lemmas × IfSome trails.best (BestFits k) × (trails.fill ≡ fill)
+order_read : (fill : List NetNo) (k : Kinds) (lines : List (List ℕ)) (rest : List ℕ) (trails : TrailCertificate) → order_at fill k lines rest ≡ Ok trails → (lines_text lines rest ≡ order_line trails.order ++ rest_text trails) × All (NetFits k.nets) trails.order × All (LemmaFits k.nets) trails.lemmas × IfSome trails.best (BestFits k) × (trails.fill ≡ fill)
 order_read fill k [] rest trails h = absurd (err-ok fault.Cut trails h)
 order_read fill k (line ∷ lines) rest trails h =
     let first = bound_ok (or_fault (order_in k.nets (words_in line)) (fault.Line 4)) _ trails h in
@@ -167,7 +167,7 @@ order_read fill k (line ∷ lines) rest trails h =
     let here : fed line ≡ order_line trails.order = line_of_words line (codes "order" ∷ nets_text first.0 ∷ []) spelled.0 ∙ (order_joined first.0 ∙ ap order_line (sym later.order_is)) in
     (before line lines rest (order_line trails.order) (rest_text trails) here later.text, subst (All (NetFits k.nets)) (sym later.order_is) spelled.1, later.lemmas, later.best, later.fill_is)
 
-fill_read : (k : Kinds) (lines : List (List ℕ)) (rest : List ℕ) (trails : Trails) → fill_at k lines rest ≡ Ok trails → (lines_text lines rest ≡ fill_line trails.fill ++ (order_line trails.order ++ rest_text trails)) × TrailsFit k trails
+fill_read : (k : Kinds) (lines : List (List ℕ)) (rest : List ℕ) (trails : TrailCertificate) → fill_at k lines rest ≡ Ok trails → (lines_text lines rest ≡ fill_line trails.fill ++ (order_line trails.order ++ rest_text trails)) × TrailsFit k trails
 fill_read k [] rest trails h = absurd (err-ok fault.Cut trails h)
 fill_read k (line ∷ lines) rest trails h =
     let first = bound_ok (or_fault (fill_in k.nets (words_in line)) (fault.Line 3)) _ trails h in
@@ -184,14 +184,14 @@ fill_read k (line ∷ lines) rest trails h =
       },
     )
 
-named_read : (name : List ℕ) (k : Kinds) (lines : List (List ℕ)) (rest : List ℕ) (trails : Trails) → named_at name k lines rest ≡ Ok trails → (lines_text lines rest ≡ fed (codes "cell " ++ name) ++ (fill_line trails.fill ++ (order_line trails.order ++ rest_text trails))) × TrailsFit k trails
+named_read : (name : List ℕ) (k : Kinds) (lines : List (List ℕ)) (rest : List ℕ) (trails : TrailCertificate) → named_at name k lines rest ≡ Ok trails → (lines_text lines rest ≡ fed (codes "cell " ++ name) ++ (fill_line trails.fill ++ (order_line trails.order ++ rest_text trails))) × TrailsFit k trails
 named_read name k [] rest trails h = absurd (err-ok fault.Cut trails h)
 named_read name k (line ∷ lines) rest trails h =
     let one = required (is_word line (codes "cell " ++ name)) fault.Cell _ trails h in
     let later = fill_read k lines rest trails one.1 in
     (before line lines rest (fed (codes "cell " ++ name)) _ (ap fed (same_words line (codes "cell " ++ name) one.0)) later.0, later.1)
 
-text_read : (name : List ℕ) (k : Kinds) (lines : List (List ℕ)) (rest : List ℕ) (trails : Trails) → text_at name k lines rest ≡ Ok trails → (lines_text lines rest ≡ trails_text name trails) × TrailsFit k trails
+text_read : (name : List ℕ) (k : Kinds) (lines : List (List ℕ)) (rest : List ℕ) (trails : TrailCertificate) → text_at name k lines rest ≡ Ok trails → (lines_text lines rest ≡ trails_text name trails) × TrailsFit k trails
 text_read name k [] rest trails h = absurd (err-ok fault.Cut trails h)
 text_read name k (line ∷ lines) rest trails h =
     let one = required (is_word line version_line) fault.Version _ trails h in
@@ -199,13 +199,13 @@ text_read name k (line ∷ lines) rest trails h =
     (before line lines rest (fed version_line) _ (ap fed (same_words line version_line one.0)) later.0 ∙ sym (text_apart name trails), later.1)
 
 -- what is read fits, and its text is what was read
-pub read_only : (bytes name : List ℕ) (k : Kinds) (trails : Trails) → trails_of bytes name k ≡ Ok trails → TrailsFit k trails × (bytes ≡ trails_text name trails)
+pub read_only : (bytes name : List ℕ) (k : Kinds) (trails : TrailCertificate) → trails_of bytes name k ≡ Ok trails → TrailsFit k trails × (bytes ≡ trails_text name trails)
 unfolding trails_of
 read_only bytes name k trails h =
     let read = text_read name k (lines_in bytes) (behind bytes) trails h in
     (read.1, bytes_again bytes ∙ read.0)
 
 -- no other certificate that fits has the text
-pub read_one : (bytes name : List ℕ) (k : Kinds) (trails other : Trails) → IsLogName name → AreSomeKinds k → trails_of bytes name k ≡ Ok trails → TrailsFit k other → trails_text name other ≡ bytes → other ≡ trails
+pub read_one : (bytes name : List ℕ) (k : Kinds) (trails other : TrailCertificate) → IsLogName name → AreSomeKinds k → trails_of bytes name k ≡ Ok trails → TrailsFit k other → trails_text name other ≡ bytes → other ≡ trails
 read_one bytes name k trails other is_name some h fits same =
     same_Ok other trails (sym (read_again name k other is_name some fits) ∙ (ap (λ (t : List ℕ). trails_of t name k) same ∙ h))

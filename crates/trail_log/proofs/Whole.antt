@@ -27,7 +27,7 @@ use Rattle.trail_log.specs.Spelling.{nets_text}
 use Rattle.trail_log.specs.declared.trails.LemmaLine.{LemmaLine}
 use Rattle.trail_log.specs.declared.trails.TrailEntry.{TrailEntry}
 use Rattle.trail_log.specs.declared.trails.TrailEntry.TheVariants as entry
-use Rattle.trail_log.specs.declared.trails.Trails.{Trails}
+use Rattle.trail_log.specs.declared.trails.TrailCertificate.{TrailCertificate}
 use Rattle.trail_log.specs.Fits.{LemmaFits, TrailsFit}
 use Rattle.trail_log.specs.Line.{entry_in, fill_in, order_in}
 use Rattle.trail_log.specs.Reading.{begun_by, fill_at, lemmas_at, named_at, order_at, text_at, trails_of}
@@ -117,7 +117,7 @@ fill_step fill k line lines rest some = rw some refl
 named_step : (name : List ℕ) (k : Kinds) (line : List ℕ) (lines : List (List ℕ)) (rest : List ℕ) → line ≡ codes "cell " ++ name → named_at name k (line ∷ lines) rest ≡ fill_at k lines rest
 named_step name k line lines rest is = rw (is_same line (codes "cell " ++ name) is) refl
 
-ordered_again : (k : Kinds) (trails : Trails) → AreSomeKinds k → TrailsFit k trails → order_at trails.fill k (lines_in (order_line trails.order ++ (flat_map lemma_line trails.lemmas ++ (best_text trails.best ++ codes "end\n")))) (behind (order_line trails.order ++ (flat_map lemma_line trails.lemmas ++ (best_text trails.best ++ codes "end\n")))) ≡ Ok trails
+ordered_again : (k : Kinds) (trails : TrailCertificate) → AreSomeKinds k → TrailsFit k trails → order_at trails.fill k (lines_in (order_line trails.order ++ (flat_map lemma_line trails.lemmas ++ (best_text trails.best ++ codes "end\n")))) (behind (order_line trails.order ++ (flat_map lemma_line trails.lemmas ++ (best_text trails.best ++ codes "end\n")))) ≡ Ok trails
 ordered_again k trails some fits =
     let line = join_with_byte 32 (codes "order" ∷ nets_text trails.order ∷ []) in
     let text = flat_map lemma_line trails.lemmas ++ (best_text trails.best ++ codes "end\n") in
@@ -127,7 +127,7 @@ ordered_again k trails some fits =
     ap (λ (l : List ℕ). order_at trails.fill k (lines_in (l ++ text)) (behind (l ++ text))) (sym (order_joined trails.order))
     ∙ (rw (fed_first line text lack, fed_behind line text lack) (order_step trails.fill trails.order k line (lines_in text) (behind text) words ∙ lemmas_again trails.fill trails.order k 5 trails.lemmas trails.best some fits.lemmas fits.best))
 
-filled_again : (k : Kinds) (trails : Trails) → AreSomeKinds k → TrailsFit k trails → fill_at k (lines_in (fill_line trails.fill ++ (order_line trails.order ++ (flat_map lemma_line trails.lemmas ++ (best_text trails.best ++ codes "end\n"))))) (behind (fill_line trails.fill ++ (order_line trails.order ++ (flat_map lemma_line trails.lemmas ++ (best_text trails.best ++ codes "end\n"))))) ≡ Ok trails
+filled_again : (k : Kinds) (trails : TrailCertificate) → AreSomeKinds k → TrailsFit k trails → fill_at k (lines_in (fill_line trails.fill ++ (order_line trails.order ++ (flat_map lemma_line trails.lemmas ++ (best_text trails.best ++ codes "end\n"))))) (behind (fill_line trails.fill ++ (order_line trails.order ++ (flat_map lemma_line trails.lemmas ++ (best_text trails.best ++ codes "end\n"))))) ≡ Ok trails
 filled_again k trails some fits =
     let line = join_with_byte 32 (codes "fill" ∷ nets_text trails.fill ∷ []) in
     let text = order_line trails.order ++ (flat_map lemma_line trails.lemmas ++ (best_text trails.best ++ codes "end\n")) in
@@ -138,14 +138,14 @@ filled_again k trails some fits =
     ∙ (rw (fed_first line text lack, fed_behind line text lack) (fill_step trails.fill k line (lines_in text) (behind text) words ∙ ordered_again k trails some fits))
 
 -- the lines of a certificate, one behind the other
-pub text_apart : (name : List ℕ) (trails : Trails) → trails_text name trails ≡ fed version_line ++ (fed (codes "cell " ++ name) ++ (fill_line trails.fill ++ (order_line trails.order ++ (flat_map lemma_line trails.lemmas ++ (best_text trails.best ++ codes "end\n")))))
+pub text_apart : (name : List ℕ) (trails : TrailCertificate) → trails_text name trails ≡ fed version_line ++ (fed (codes "cell " ++ name) ++ (fill_line trails.fill ++ (order_line trails.order ++ (flat_map lemma_line trails.lemmas ++ (best_text trails.best ++ codes "end\n")))))
 text_apart name trails = apart name (fill_line trails.fill) (order_line trails.order) (flat_map lemma_line trails.lemmas) (best_text trails.best)
   where
     apart : (cell fill order ls best : List ℕ) → (codes "cellgen-trails 1\ncell " ++ cell ++ codes "\n") ++ fill ++ order ++ ls ++ best ++ codes "end\n" ≡ fed version_line ++ (fed (codes "cell " ++ cell) ++ (fill ++ (order ++ (ls ++ (best ++ codes "end\n")))))
     apart cell fill order ls best = simp append_assoc
 
 -- what fits is read again
-pub read_again : (name : List ℕ) (k : Kinds) (trails : Trails) → IsLogName name → AreSomeKinds k → TrailsFit k trails → trails_of (trails_text name trails) name k ≡ Ok trails
+pub read_again : (name : List ℕ) (k : Kinds) (trails : TrailCertificate) → IsLogName name → AreSomeKinds k → TrailsFit k trails → trails_of (trails_text name trails) name k ≡ Ok trails
 unfolding trails_of
 read_again name k trails is_name some fits =
     let cell = codes "cell " ++ name in
@@ -158,7 +158,7 @@ read_again name k trails is_name some fits =
     (named_step name k cell (lines_in later) (behind later) refl ∙ filled_again k trails some fits))
 
 -- no certificate that fits has a text that is refused
-pub refused : (bytes name : List ℕ) (k : Kinds) (f : LogFault) (trails : Trails) → IsLogName name → AreSomeKinds k → trails_of bytes name k ≡ Err f → TrailsFit k trails → trails_text name trails ≢ bytes
+pub refused : (bytes name : List ℕ) (k : Kinds) (f : LogFault) (trails : TrailCertificate) → IsLogName name → AreSomeKinds k → trails_of bytes name k ≡ Err f → TrailsFit k trails → trails_text name trails ≢ bytes
 refused bytes name k f trails is_name some h fits same = err-ok f trails (sym h ∙ (ap (λ (t : List ℕ). trails_of t name k) (sym same) ∙ read_again name k trails is_name some fits))
 
 some_line : (lemma : LemmaLine) → 0 < length (lemma_line lemma)
@@ -168,12 +168,12 @@ lines_most : (lemmas : List LemmaLine) → length lemmas ≤ length (flat_map le
 lines_most [] = omega arith
 lines_most (lemma ∷ lemmas) = omega (arith, some_line lemma, lines_most lemmas, length-append (lemma_line lemma) (flat_map lemma_line lemmas))
 
-lemmas_within : (name : List ℕ) (trails : Trails) → length trails.lemmas ≤ length (trails_text name trails)
+lemmas_within : (name : List ℕ) (trails : TrailCertificate) → length trails.lemmas ≤ length (trails_text name trails)
 lemmas_within name trails =
     let front = head_lines name ++ fill_line trails.fill ++ order_line trails.order in
     let lines = flat_map lemma_line trails.lemmas in
     omega (arith, lines_most trails.lemmas, length-append ((front ++ lines) ++ best_text trails.best) (codes "end\n"), length-append (front ++ lines) (best_text trails.best), length-append front lines)
 
 -- each lemma takes a byte at least
-pub few_lemmas : (bytes name : List ℕ) (trails : Trails) → bytes ≡ trails_text name trails → length trails.lemmas ≤ length bytes
+pub few_lemmas : (bytes name : List ℕ) (trails : TrailCertificate) → bytes ≡ trails_text name trails → length trails.lemmas ≤ length bytes
 few_lemmas bytes name trails is = rw is (lemmas_within name trails)

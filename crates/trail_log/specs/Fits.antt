@@ -7,7 +7,7 @@ use Rattle.trail_log.specs.declared.class.Class.{Class}
 use Rattle.trail_log.specs.declared.class.NetPair.{NetPair}
 use Rattle.trail_log.specs.Order.{classes_in_order, increases, net_rank, node_rank}
 use Rattle.trail_log.specs.declared.trails.LemmaLine.{LemmaLine}
-use Rattle.trail_log.specs.declared.trails.Trails.{Trails}
+use Rattle.trail_log.specs.declared.trails.TrailCertificate.{TrailCertificate}
 
 abbrev pub NetFits : ℕ → NetNo → Type 0
 NetFits nets net = net.0 < nets
@@ -32,7 +32,7 @@ pub record LemmaFits (nets : ℕ) (lemma : LemmaLine) : Type 0 where
   pub class_order : IsTrue (classes_in_order lemma.classes)
 
 -- the filled gates are in the order of their numbers
-pub record TrailsFit (k : Kinds) (trails : Trails) : Type 0 where
+pub record TrailsFit (k : Kinds) (trails : TrailCertificate) : Type 0 where
   pub fill : All (NetFits k.nets) trails.fill
   pub increase : IsTrue (increases net_rank trails.fill)
   pub order : All (NetFits k.nets) trails.order

@@ -4,7 +4,7 @@ use Rattle.cell_num.specs.declared.net.NetNo.{NetNo}
 use Rattle.bound_log.specs.Text.{best_text, last_line}
 use Rattle.trail_log.specs.Spelling.{classes_text, nets_text, nodes_text}
 use Rattle.trail_log.specs.declared.trails.LemmaLine.{LemmaLine}
-use Rattle.trail_log.specs.declared.trails.Trails.{Trails}
+use Rattle.trail_log.specs.declared.trails.TrailCertificate.{TrailCertificate}
 
 -- the first line, without its line feed
 abbrev pub version_line : List ℕ
@@ -33,7 +33,7 @@ lemma_line lemma =
     ++ codes "\n"
 
 -- gates filled, the order, lemmas, then gaps and columns as a log has them, or `open`, and `end`
-abbrev pub trails_text : List ℕ → Trails → List ℕ
+abbrev pub trails_text : List ℕ → TrailCertificate → List ℕ
 trails_text name trails =
     head_lines name
     ++ fill_line trails.fill

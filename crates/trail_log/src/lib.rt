@@ -15,5 +15,5 @@ mod write;
 
 pub use class::{Class, ClassList, NetList, NetPair, NetPairs};
 pub use read::read_trails;
-pub use trails::{LemmaLine, LemmaLines, MOST_ENDS, TrailEntry, Trails};
+pub use trails::{LemmaLine, LemmaLines, MOST_ENDS, TrailCertificate, TrailEntry};
 pub use write::write_trails;

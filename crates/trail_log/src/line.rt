@@ -1,4 +1,4 @@
-ghost use Rattle.std.specs.Prelude.{◌≡◌, ◌≤◌, IfOk, List as Sequence, ℕ, codes, map};
+ghost use Rattle.std.specs.Prelude.{◌≡◌, ◌≤◌, IfOk, map};
 ghost use Rattle.log_lines.specs.Words.{words_in};
 ghost use Rattle.bound_log.specs.Line.{gaps_in};
 ghost use Rattle.trail_log.specs.Line.{entry_in, fill_in, lemma_in, nets_behind, order_in};

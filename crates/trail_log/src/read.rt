@@ -2,13 +2,13 @@ ghost use Rattle.std.specs.Prelude.{◌≡◌, ◌≢◌, ◌≤◌, IfOk, IfErr
 ghost use Rattle.log_lines.specs.Lines.{behind, lines_in};
 ghost use Rattle.bound_log.specs.declared.fault.LogFault.TheVariants as fault;
 ghost use Rattle.bound_log.specs.Fits.{IsLogName};
-ghost use Rattle.trail_log.specs.declared.trails.Trails.{Trails as TrailsOf};
+ghost use Rattle.trail_log.specs.declared.trails.TrailCertificate.{TrailCertificate as CertificateOf};
 ghost use Rattle.trail_log.specs.Fits.{TrailsFit};
 ghost use Rattle.trail_log.specs.Reading.{fill_at, lemmas_at, named_at, order_at, trails_of};
 ghost use Rattle.trail_log.specs.Text.{trails_text};
 
 use crate::line::{read_entry, read_fill, read_order};
-use crate::{LemmaLines, NetList, TrailEntry, Trails};
+use crate::{LemmaLines, NetList, TrailCertificate, TrailEntry};
 use bound_log::{Best, LogFault, read_columns, read_end};
 use cell_num::{MOST_BYTES, Name};
 use log_lines::{first_line, is_named, is_word};
@@ -23,7 +23,7 @@ fn read_lemmas(
     order: NetList,
     kinds: &Kinds,
     bytes: &[u8],
-) -> Result<Trails, LogFault>
+) -> Result<TrailCertificate, LogFault>
     requires few { length bytes.now ≤ MOST_BYTES }
     ensures trails { IfOk result (λ trails.
         lemmas_at fill order kinds.now 5 (lines_in bytes.now) (behind bytes.now) ≡ Ok trails) }
@@ -43,7 +43,7 @@ fn read_lemmas(
             Some(TrailEntry::Gaps(gaps)) => {
                 let steps = read_columns(alloc, kinds, first.after, number + 1)?;
                 let best = Some(Best { gaps, steps });
-                return Ok(Trails {
+                return Ok(TrailCertificate {
                     fill,
                     order,
                     lemmas,
@@ -52,7 +52,7 @@ fn read_lemmas(
             }
             Some(TrailEntry::Open) => {
                 read_end(first.after, number + 1)?;
-                return Ok(Trails {
+                return Ok(TrailCertificate {
                     fill,
                     order,
                     lemmas,
@@ -72,7 +72,7 @@ fn read_ordered(
     fill: NetList,
     kinds: &Kinds,
     bytes: &[u8],
-) -> Result<Trails, LogFault>
+) -> Result<TrailCertificate, LogFault>
     requires few { length bytes.now ≤ MOST_BYTES }
     ensures trails { IfOk result (λ trails.
         order_at fill kinds.now (lines_in bytes.now) (behind bytes.now) ≡ Ok trails) }
@@ -91,7 +91,7 @@ fn read_ordered(
 }
 
 // The line of the filled gates, and the order behind it.
-fn read_filled(alloc: Global, kinds: &Kinds, bytes: &[u8]) -> Result<Trails, LogFault>
+fn read_filled(alloc: Global, kinds: &Kinds, bytes: &[u8]) -> Result<TrailCertificate, LogFault>
     requires few { length bytes.now ≤ MOST_BYTES }
     ensures trails { IfOk result (λ trails.
         fill_at kinds.now (lines_in bytes.now) (behind bytes.now) ≡ Ok trails) }
@@ -110,7 +110,12 @@ fn read_filled(alloc: Global, kinds: &Kinds, bytes: &[u8]) -> Result<Trails, Log
 }
 
 // The line of the name, and the filled gates behind it.
-fn read_named(alloc: Global, bytes: &[u8], name: &Name, kinds: &Kinds) -> Result<Trails, LogFault>
+fn read_named(
+    alloc: Global,
+    bytes: &[u8],
+    name: &Name,
+    kinds: &Kinds,
+) -> Result<TrailCertificate, LogFault>
     requires few { length bytes.now ≤ MOST_BYTES }
     ensures trails { IfOk result (λ trails.
         named_at name.now kinds.now (lines_in bytes.now) (behind bytes.now) ≡ Ok trails) }
@@ -128,7 +133,12 @@ fn read_named(alloc: Global, bytes: &[u8], name: &Name, kinds: &Kinds) -> Result
 }
 
 #[tactic(auto, unfolding(crate::specs::Reading::trails_of))]
-fn read_text(alloc: Global, bytes: &[u8], name: &Name, kinds: &Kinds) -> Result<Trails, LogFault>
+fn read_text(
+    alloc: Global,
+    bytes: &[u8],
+    name: &Name,
+    kinds: &Kinds,
+) -> Result<TrailCertificate, LogFault>
     requires few { length bytes.now ≤ MOST_BYTES }
     ensures trails { IfOk result (λ trails. trails_of bytes.now name.now kinds.now ≡ Ok trails) }
     ensures fault { IfErr result (λ f. f ≢ fault.NoMemory → trails_of bytes.now name.now kinds.now ≡ Err f) }
@@ -150,7 +160,7 @@ pub fn read_trails(
     bytes: &[u8],
     name: &Name,
     kinds: &Kinds,
-) -> Result<Trails, LogFault>
+) -> Result<TrailCertificate, LogFault>
     requires name { IsLogName name.now }
     requires few { length bytes.now ≤ MOST_BYTES }
     // The certificate of the definition, or its first fault; memory may run out.
@@ -160,11 +170,11 @@ pub fn read_trails(
     // The one certificate that fits and has these bytes as its text; or none has them.
     ensures fits { IfOk result (λ trails. TrailsFit kinds.now trails) }
     ensures text { IfOk result (λ trails. bytes.now ≡ trails_text name.now trails) }
-    ensures one { IfOk result (λ trails. (other : TrailsOf) → TrailsFit kinds.now other →
+    ensures one { IfOk result (λ trails. (other : CertificateOf) → TrailsFit kinds.now other →
         trails_text name.now other ≡ bytes.now → other ≡ trails) }
     ensures few { IfOk result (λ trails. length trails.lemmas ≤ length bytes.now) }
     ensures none { IfErr result (λ f. f ≢ fault.NoMemory →
-        (trails : TrailsOf) → TrailsFit kinds.now trails → trails_text name.now trails ≢ bytes.now) }
+        (trails : CertificateOf) → TrailsFit kinds.now trails → trails_text name.now trails ≢ bytes.now) }
 {
     kinds.show_limits();
     let trails = read_text(alloc, bytes, name, kinds)?;

@@ -29,7 +29,7 @@ pub enum TrailEntry {
 /// A certificate: the gates whose half columns are filled, all gates in the order in which they are chosen, lemmas,
 /// and the row that they certify, where one was found.
 #[derive(Debug, Drop)]
-pub struct Trails {
+pub struct TrailCertificate {
     pub fill: NetList,
     pub order: NetList,
     pub lemmas: LemmaLines,

@@ -1,17 +1,17 @@
-ghost use Rattle.std.specs.Prelude.{◌≡◌, ◌≤◌, ◌++◌, All, IfOk, IfSome, Ok, OnOk};
+ghost use Rattle.std.specs.Prelude.{◌≡◌, ◌++◌, All, IfOk, IfSome, Ok, OnOk};
 ghost use Rattle.std.specs.List.{flat_map};
 ghost use Rattle.row_state.specs.declared.kind.Kinds.{Kinds as KindsOf};
 ghost use Rattle.row_state.specs.Start.{AreSomeKinds};
 ghost use Rattle.bound_log.specs.Fits.{BestFits, ForSome, IsLogName, StepFits};
 ghost use Rattle.bound_log.specs.Text.{best_text, column_line};
-ghost use Rattle.trail_log.specs.Spelling.{list_text, nets_text};
+ghost use Rattle.trail_log.specs.Spelling.{list_text};
 ghost use Rattle.trail_log.specs.Fits.{TrailsFit};
 ghost use Rattle.trail_log.specs.Reading.{trails_of};
 ghost use Rattle.trail_log.specs.Text.{fill_line, head_lines, lemma_line, order_line, trails_text};
 
 use crate::listed::list_text;
 use crate::text::number_text;
-use crate::{LemmaLine, NetList, Trails};
+use crate::{LemmaLine, NetList, TrailCertificate};
 use bound_log::{Best, LineWriter, LogStep};
 use cell_num::{Bytes, Name, NoMemory};
 use std::alloc::Global;
@@ -97,7 +97,7 @@ fn put_best(alloc: Global, out: &mut Bytes, best: &Option<Best>) -> Result<(), N
     Ok(())
 }
 
-fn text(alloc: Global, name: &Name, trails: &Trails) -> Result<Bytes, NoMemory>
+fn text(alloc: Global, name: &Name, trails: &TrailCertificate) -> Result<Bytes, NoMemory>
     requires { ForSome (λ k. TrailsFit k trails.now) }
     ensures { IfOk result (λ text. text ≡ trails_text name.now trails.now) }
 {
@@ -113,7 +113,11 @@ fn text(alloc: Global, name: &Name, trails: &Trails) -> Result<Bytes, NoMemory>
 
 /// The text of a certificate for the cell of that name, which has 1 to 32 bytes and no line feed. Reading it gives
 /// the same certificate, for all kinds that it fits.
-pub fn write_trails(alloc: Global, name: &Name, trails: &Trails) -> Result<Vec<u8>, NoMemory>
+pub fn write_trails(
+    alloc: Global,
+    name: &Name,
+    trails: &TrailCertificate,
+) -> Result<Vec<u8>, NoMemory>
     requires name { IsLogName name.now }
     requires fits { ForSome (λ k. TrailsFit k trails.now) }
     ensures text { IfOk result (λ bytes. bytes.items ≡ trails_text name.now trails.now) }

@@ -24,9 +24,9 @@ use Rattle.row_search.proofs.Columns.{all_fit, all_listed, listed_row}
 use Rattle.row_search.proofs.Least.{further_le}
 use Rattle.trail_log.specs.Fits.{TrailsFit}
 use Rattle.trail_check.specs.Accepted.{IsLow, least_gaps}
-use Rattle.trail_prove.specs.declared.proof.Proof.{Proof}
-use Rattle.trail_prove.specs.Proof.{IsMost, IsProof}
-use Rattle.trail_prove.proofs.Proved.{ends_gaps}
+use Rattle.trail_search.specs.declared.proof.Proof.{Proof}
+use Rattle.trail_search.specs.Proof.{IsMost, IsProof}
+use Rattle.trail_search.proofs.Proved.{ends_gaps}
 use Rattle.trail_search.specs.declared.first.ListedRow.{ListedRow}
 use Rattle.trail_search.specs.Searched.{AreSearched}
 use Rattle.trail_search.specs.Ended.{IsCertified, IsTrailFound, IsTrailSpent, row_nodes}

@@ -3,3 +3,13 @@ pub mod Front
 pub mod Listed
 pub mod Spent
 pub mod Tried
+pub mod Ends
+pub mod Finds
+pub mod Grown
+pub mod Lines
+pub mod StateListed
+pub mod New
+pub mod Orders
+pub mod Proved
+pub mod States
+pub mod Tied

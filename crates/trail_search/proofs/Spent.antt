@@ -18,7 +18,7 @@ use Rattle.lemma_check.specs.declared.known.Known.{Known}
 use Rattle.lemma_check.specs.Reaches.{raised, same_state}
 use Rattle.lemma_check.specs.Known.{best_known}
 use Rattle.lemma_check.proofs.States.{same_state_from}
-use Rattle.trail_prove.specs.Proof.{AttemptsOnce, IsAttempt}
+use Rattle.trail_search.specs.Proof.{AttemptsOnce, IsAttempt}
 use Rattle.trail_search.specs.Behind.{fingers_behind}
 use Rattle.trail_search.specs.Searched.{AreSearched, Bounded, IsBounded, IsTry, nodes_of}
 use Rattle.trail_search.specs.declared.descent.Halt.{Halt}

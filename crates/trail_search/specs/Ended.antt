@@ -9,27 +9,27 @@ use Rattle.row_model.specs.Gaps.{gaps_of}
 use Rattle.row_state.specs.declared.kind.Kinds.{Kinds}
 use Rattle.log_check.specs.Accepted.{Lists, WithKinds}
 use Rattle.row_search.specs.First.{IsFirstLeast}
-use Rattle.trail_log.specs.declared.trails.Trails.{Trails}
+use Rattle.trail_log.specs.declared.trails.TrailCertificate.{TrailCertificate}
 use Rattle.trail_log.specs.Fits.{TrailsFit}
 use Rattle.trail_check.specs.Accepted.{IsAccepted, IsLow, first_unproved, least_gaps}
 use Rattle.trail_check.specs.Gates.{AreGates, first_with_many, has_many_ways}
 use Rattle.trail_check.specs.Leveled.{levels_of}
 use Rattle.trail_check.specs.Listed.{lemmas_listed}
-use Rattle.trail_prove.specs.Proof.{IsMost}
-use Rattle.trail_prove.specs.Search.{AreNew}
+use Rattle.trail_search.specs.Proof.{IsMost}
+use Rattle.trail_search.specs.Search.{AreNew}
 use Rattle.trail_search.specs.Searched.{AreSearched}
 use Rattle.trail_search.specs.declared.found.TrailFound.{TrailFound}
 use Rattle.trail_search.specs.declared.found.TrailStop.{TrailStop}
 use Rattle.trail_search.specs.declared.found.TrailStop.TheVariants as stopped
 
 -- the certificate is accepted with the gaps of the row, lists it, and a text can hold it
-pub record IsCertified (k : Kinds) (f : Fingers) (row : List Column) (trails : Trails) : Type 0 where
+pub record IsCertified (k : Kinds) (f : Fingers) (row : List Column) (trails : TrailCertificate) : Type 0 where
   pub accepted : IsAccepted f trails (gaps_of row)
   pub lists : Lists k trails.best (λ listed. listed ≡ row)
   pub fits : TrailsFit k trails
 
 -- the row is the first least one, and is certified; a node was spent for each lemma
-pub record IsTrailFound (f : Fingers) (budget : ℕ) (row : List Column) (trails : Trails) (nodes : ℕ) : Type 0 where
+pub record IsTrailFound (f : Fingers) (budget : ℕ) (row : List Column) (trails : TrailCertificate) (nodes : ℕ) : Type 0 where
   pub first : IsFirstLeast f row
   pub certified : WithKinds f (λ k. IsCertified k f row trails)
   pub few : nodes ≤ budget
@@ -40,11 +40,11 @@ abbrev pub HaveMore : Fingers → ℕ → Type 0
 HaveMore f gaps = (other : List Column) → IsArrangement other f → gaps < gaps_of other
 
 -- no lemma of the certificate is said by an earlier one
-abbrev pub HasNew : Fingers → Trails → Type 0
+abbrev pub HasNew : Fingers → TrailCertificate → Type 0
 HasNew f trails = AreNew (levels_of f trails.order) (lemmas_listed (levels_of f trails.order) trails.lemmas)
 
 -- the nodes of the budget but those of the lemmas, one of each gate and one at the end
-abbrev pub row_nodes : ℕ → Trails → ℕ
+abbrev pub row_nodes : ℕ → TrailCertificate → ℕ
 row_nodes budget trails = budget - (length trails.lemmas + length trails.order + 1)
 
 -- The certificate lists no row. Its gates are as a checker asks, and all its lemmas are justified: they prove that no
@@ -52,7 +52,7 @@ row_nodes budget trails = budget - (length trails.lemmas + length trails.order +
 -- A node was spent for each lemma. The lemmas are as many as the budget has nodes, but for one of each gate; or no
 -- lemmas in this order prove more gaps. No arrangement has as few gaps; or the nodes for rows, but for one of each
 -- column, went for bounds of states, and for attempts to refute states by trails.
-pub record IsTrailSpent (f : Fingers) (budget : ℕ) (trails : Trails) (proved nodes : ℕ) : Type 0 where
+pub record IsTrailSpent (f : Fingers) (budget : ℕ) (trails : TrailCertificate) (proved nodes : ℕ) : Type 0 where
   pub lists_none : IsNone trails.best
   pub gates : AreGates f trails
   pub few_ways : first_with_many f trails.order ≡ None

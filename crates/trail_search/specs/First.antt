@@ -6,7 +6,7 @@ use Rattle.row_state.specs.Start.{start_of}
 use Rattle.bound_log.specs.declared.log.Best.{Best}
 use Rattle.row_search.specs.Limits.{best_with}
 use Rattle.row_search.specs.Steps.{row_of}
-use Rattle.trail_log.specs.declared.trails.Trails.{Trails}
+use Rattle.trail_log.specs.declared.trails.TrailCertificate.{TrailCertificate}
 use Rattle.trail_search.specs.declared.first.ListedRow.{ListedRow}
 use Rattle.trail_search.specs.Visit.{IsFirstOf}
 
@@ -20,5 +20,5 @@ pub record IsFirstRow (k : Kinds) (gaps : ℕ) (listed : ListedRow) : Type 0 whe
   pub first : IsFirstOf k (start_of k) gaps steps
 
 -- the certificate with this row
-abbrev pub with_best : Trails → Best → Trails
+abbrev pub with_best : TrailCertificate → Best → TrailCertificate
 with_best trails best = record { fill = trails.fill; order = trails.order; lemmas = trails.lemmas; best = Some best }

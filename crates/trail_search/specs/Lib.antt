@@ -2,6 +2,10 @@
 pub mod Behind
 pub mod Ended
 pub mod Searched
+pub mod Proof
+pub mod Search
 -- What inner contracts and proofs alone cite.
 pub mod First
 pub mod Visit
+pub mod Line
+pub mod Order

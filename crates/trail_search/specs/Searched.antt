@@ -4,7 +4,7 @@ use Rattle.row_state.specs.declared.kind.Kinds.{Kinds}
 use Rattle.row_state.specs.declared.state.State.{State}
 use Rattle.row_state.specs.Completion.{Need}
 use Rattle.row_state.specs.Start.{IsState}
-use Rattle.trail_prove.specs.Proof.{Attempt, IsAttempt, most_nodes}
+use Rattle.trail_search.specs.Proof.{Attempt, IsAttempt, most_nodes}
 use Rattle.trail_search.specs.Behind.{fingers_behind}
 
 -- so many further gaps of a state

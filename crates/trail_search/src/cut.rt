@@ -5,10 +5,11 @@ ghost use Rattle.trail_search.specs.Visit.{Halts, IfSpent, TriesOnce};
 
 use crate::behind::behind;
 use crate::descent::Halt;
+use crate::proof::RefuteStop;
+use crate::refute::is_refuted;
 use cell_num::{NoMemory, Row, are_fingers};
 use row_state::{Component, Kinds, RowBound, State};
 use std::alloc::Global;
-use trail_prove::{RefuteStop, is_refuted};
 
 fn is_above(row: Row, state: &State, kinds: &Kinds, allowed: u32) -> bool
     requires { IsState kinds.now state.now }
@@ -59,7 +60,7 @@ fn trails_refute(
 
 /// Whether it is proved that every completion of the state has more further gaps than are allowed.
 #[tactic(auto, using(crate::proofs::Spent::tries_none))]
-pub(crate) fn is_hopeless(
+pub(crate) fn exceeds_allowed(
     alloc: Global,
     state: &State,
     kinds: &Kinds,
@@ -67,7 +68,7 @@ pub(crate) fn is_hopeless(
     left: &mut u64,
 ) -> Result<bool, Halt>
     requires { IsState kinds.now state.now }
-    ensures hopeless { IfOk result (λ yes. IsTrue yes → Need kinds.now state.now (allowed + 1)) }
+    ensures exceeds { IfOk result (λ yes. IsTrue yes → Need kinds.now state.now (allowed + 1)) }
     ensures left { left.new ≤ left.old }
     ensures halted { IfErr result (Halts left.new) }
     ensures tries { IfOk result (λ _. TriesOnce kinds.now left.old left.new) }

@@ -5,7 +5,7 @@ ghost use Rattle.row_state.specs.Start.{columns_left};
 ghost use Rattle.lemma_check.specs.Known.{best_known};
 ghost use Rattle.trail_search.specs.Visit.{AreTrue, Halts, IfSpent, IsFirstOf, IsSpent};
 
-use crate::cut::is_hopeless;
+use crate::cut::exceeds_allowed;
 use cell_num::{MOST_COLUMNS, NoMemory};
 use lemma_check::Known;
 use row_state::{Candidate, Kinds, Numbered, Steps, has_fingers};
@@ -72,7 +72,7 @@ pub(crate) fn visit(
     if !has_fingers(&at.state) {
         return Ok(Some(Steps::new(task.alloc)));
     }
-    if is_hopeless(task.alloc, &at.state, task.kinds, allowed, left)? {
+    if exceeds_allowed(task.alloc, &at.state, task.kinds, allowed, left)? {
         known.note_at(at.code, allowed + 1)?;
         return Ok(None);
     }

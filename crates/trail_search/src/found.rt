@@ -1,13 +1,13 @@
 use cell_num::{NetNo, NoMemory};
 use row_model::Arrangement;
-use trail_log::Trails;
+use trail_log::TrailCertificate;
 
 /// The first least arrangement.
 #[derive(Debug, Drop)]
 pub struct TrailFound {
     pub row: Arrangement,
     /// The certificate that lists the row, and proves that no arrangement has fewer gaps.
-    pub trails: Trails,
+    pub trails: TrailCertificate,
     /// How many nodes of the budget the search took.
     pub nodes: u64,
 }
@@ -18,7 +18,7 @@ pub enum TrailStop {
     /// The lemmas of the certificate, which lists no row, prove that each arrangement has at least `proved` gaps. The
     /// budget is spent, or no arrangement has as few.
     Unfinished {
-        trails: Trails,
+        trails: TrailCertificate,
         proved: u32,
         /// How many nodes of the budget the search took.
         nodes: u64,

@@ -1,4 +1,5 @@
-// The first least row of some fingers, with a certificate by trails.
+// The first least row of some fingers, with a certificate by trails; and proofs by trails that every row has so many
+// gaps.
 #![tactic(auto)]
 
 mod behind;
@@ -6,7 +7,15 @@ mod cut;
 mod descent;
 mod first;
 mod found;
+mod gates;
+mod kept;
+mod limits;
+mod line;
+mod order;
+mod proof;
+mod refute;
 mod search;
+mod visit;
 
 pub use found::{TrailFound, TrailStop};
 pub use search::search_trails;

@@ -6,18 +6,19 @@ ghost use Rattle.trail_search.specs.First.{with_best};
 
 use crate::descent::Halt;
 use crate::first::first_row;
+use crate::limits::prove;
+use crate::proof::{Proof, ProveStop};
 use crate::{TrailFound, TrailStop};
 use bound_log::Best;
 use cell_num::Fingers;
 use row_state::kinds;
 use std::alloc::Global;
-use trail_log::Trails;
-use trail_prove::{Proof, ProveStop, prove};
+use trail_log::TrailCertificate;
 
-fn with_row(trails: Trails, best: Best) -> Trails
+fn with_row(trails: TrailCertificate, best: Best) -> TrailCertificate
     ensures { result ≡ with_best trails best }
 {
-    Trails {
+    TrailCertificate {
         fill: trails.fill,
         order: trails.order,
         lemmas: trails.lemmas,

@@ -12,13 +12,13 @@ use Rattle.box_geom.specs.declared.shape.Shapes.{Shapes}
 use Rattle.scmos_rules.specs.declared.rules.Deck.TheVariants.{Taps}
 use Rattle.net_extract.specs.Bodies.{IsBody, IsBodyOf, ExtractsBodies}
 use Rattle.net_extract.specs.Extraction.{IsDrawn}
-use Rattle.net_extract.specs.Labels.{is_conductor, conductor_labels, IsHeld, AreHeld, IsNamed}
+use Rattle.net_extract.specs.Labels.{is_conductor, conductor_labels, IsNetLabel, AreNetLabels, IsNamed}
 use Rattle.net_extract.specs.Naming.{label_of, name_or_number, name_of as name_held, names_of}
 use Rattle.net_extract.specs.Nets.{layer_of, Site}
 use Rattle.net_extract.specs.declared.piece.Conductor.{Conductor}
 use Rattle.net_extract.specs.declared.piece.Conductor.TheVariants.{PDiffusion, NDiffusion, Poly, Metal1, Metal2}
 use Rattle.net_extract.specs.Numbering.{AreNets, IsInNet}
-use Rattle.net_extract.specs.declared.naming.Held.{Held}
+use Rattle.net_extract.specs.declared.naming.NetLabel.{NetLabel}
 use Rattle.net_extract.specs.declared.netlist.BodyNetlist.{BodyNetlist}
 use Rattle.net_extract.specs.declared.netlist.Drawn.{Drawn}
 use Rattle.net_extract.proofs.Agreeing.{label_held}
@@ -68,8 +68,8 @@ wiring_kind Metal1 = refl
 wiring_kind Metal2 = refl
 
 -- the first label of a net with a named site is the name
-first_label : (names : List (List ℕ)) (shapes : Shapes) (firsts : List Site) (held : List Held) → AreNets Taps shapes.rects firsts → AreHeld Taps shapes.rects firsts shapes.labels held → AreNamed Taps names shapes → (name : List ℕ) (n : ℕ) (a : Site) → IsNamed Taps shapes name a → IsInNet Taps shapes.rects firsts n a → label_of n held ≡ Some name
-first_label names shapes firsts held nets labels are name n a named in_net = by (find (λ (h : Held). h.net == n) held) refl
+first_label : (names : List (List ℕ)) (shapes : Shapes) (firsts : List Site) (held : List NetLabel) → AreNets Taps shapes.rects firsts → AreNetLabels Taps shapes.rects firsts shapes.labels held → AreNamed Taps names shapes → (name : List ℕ) (n : ℕ) (a : Site) → IsNamed Taps shapes name a → IsInNet Taps shapes.rects firsts n a → label_of n held ≡ Some name
+first_label names shapes firsts held nets labels are name n a named in_net = by (find (λ (h : NetLabel). h.net == n) held) refl
   where
     s : List Shape
     s = shapes.rects
@@ -77,10 +77,10 @@ first_label names shapes firsts held nets labels are name n a named in_net = by 
     wiring : is_conductor named.label.layer ≡ true
     wiring = subst (λ l. is_conductor l ≡ true) (label_layer s named.label named.at named.belongs) (wiring_kind named.at.kind)
 
-    mine : (h : Held) × Contains held h × IsHeld Taps s firsts named.label h
-    mine = facing (IsHeld Taps s firsts) (conductor_labels shapes.labels) held named.label labels (in_filter (λ (l : Label). is_conductor l.layer) shapes.labels named.label named.listed wiring)
+    mine : (h : NetLabel) × Contains held h × IsNetLabel Taps s firsts named.label h
+    mine = facing (IsNetLabel Taps s firsts) (conductor_labels shapes.labels) held named.label labels (in_filter (λ (l : Label). is_conductor l.layer) shapes.labels named.label named.listed wiring)
 
-    at_net : (l : Label) (h : Held) (i : IsHeld Taps s firsts l h) (m : ℕ) → h.net ≡ m → IsInNet Taps s firsts m i.site
+    at_net : (l : Label) (h : NetLabel) (i : IsNetLabel Taps s firsts l h) (m : ℕ) → h.net ≡ m → IsInNet Taps s firsts m i.site
     at_net l h i m e = subst (λ k. IsInNet Taps s firsts k i.site) e i.net
 
     same_net : mine.0.net ≡ n
@@ -89,16 +89,16 @@ first_label names shapes firsts held nets labels are name n a named in_net = by 
         let own : i.site ≡ named.at = one_site s named.label i.site named.at i.belongs named.belongs in
         one_number Taps s firsts mine.0.net n a nets (move_net Taps s firsts mine.0.net named.at a (subst (IsInNet Taps s firsts mine.0.net) own i.net) named.same) in_net
 
-    by : (o : Option Held) → find (λ (h : Held). h.net == n) held ≡ o → option_map (λ (h : Held). h.name) o ≡ Some name
-    by None e = absurd (found_none (λ (h : Held). h.net == n) held e mine.0 mine.1 ((Decides-eqb mine.0.net n).1 same_net))
+    by : (o : Option NetLabel) → find (λ (h : NetLabel). h.net == n) held ≡ o → option_map (λ (h : NetLabel). h.name) o ≡ Some name
+    by None e = absurd (found_none (λ (h : NetLabel). h.net == n) held e mine.0 mine.1 ((Decides-eqb mine.0.net n).1 same_net))
     by (Some h) e =
-        let p = found (λ (z : Held). z.net == n) held h e in
+        let p = found (λ (z : NetLabel). z.net == n) held h e in
         let (l, listed, i) = label_held Taps s firsts shapes.labels held h labels p.listed in
         let both = in_first Taps s firsts n i.site named.at (at_net l h i n ((Decides-eqb h.net n).0 p.passes)) (move_net Taps s firsts n a named.at in_net (net_back Taps s named.at a named.same)) in
         let names_are : l.name ≡ named.label.name = (are.apart l named.label i.site named.at listed named.listed i.belongs named.belongs).0 both in
         ap (λ z. Some z) (i.name ∙ (names_are ∙ named.reads))
 
-named_net : (names : List (List ℕ)) (shapes : Shapes) (firsts : List Site) (held : List Held) → AreNets Taps shapes.rects firsts → AreHeld Taps shapes.rects firsts shapes.labels held → AreNamed Taps names shapes → (name : List ℕ) (n : ℕ) (a : Site) → IsNamed Taps shapes name a → IsInNet Taps shapes.rects firsts n a → get_or (names_of held (length firsts)) n [] ≡ name
+named_net : (names : List (List ℕ)) (shapes : Shapes) (firsts : List Site) (held : List NetLabel) → AreNets Taps shapes.rects firsts → AreNetLabels Taps shapes.rects firsts shapes.labels held → AreNamed Taps names shapes → (name : List ℕ) (n : ℕ) (a : Site) → IsNamed Taps shapes name a → IsInNet Taps shapes.rects firsts n a → get_or (names_of held (length firsts)) n [] ≡ name
 named_net names shapes firsts held nets labels are name n a named in_net =
     get_or-map-range_with_len (name_held held) 0 (length firsts) n n [] (get_below firsts n in_net.first in_net.numbered) (omega arith)
     ∙ ap (name_or_number n) (first_label names shapes firsts held nets labels are name n a named in_net)

@@ -22,10 +22,10 @@ last_line xs = x_of xs (length xs - 1)
 
 -- upward: a rail, its gap, the N row, the channel, the P row, a gap, a rail
 pub record IsStacked (f : Frame) : Type 0 where
-  pub n_edge : f.yn ≡ ROW_EDGE + f.hn
-  pub p_edge : f.yn + LEAST_CHANNEL ≤ f.yp
-  pub n_row : LEAST_ROW ≤ f.hn
-  pub p_row : LEAST_ROW ≤ f.hp
+  pub n_edge : f.n_edge ≡ ROW_EDGE + f.n_height
+  pub p_edge : f.n_edge + LEAST_CHANNEL ≤ f.p_edge
+  pub n_row : LEAST_ROW ≤ f.n_height
+  pub p_row : LEAST_ROW ≤ f.p_height
 
 -- the cell is as wide as its lines ask, which leave room for two taps
 pub record IsSpread (width first last : ℕ) : Type 0 where

@@ -7,9 +7,9 @@ ghost use Rattle.call_work.specs.Commands.{gathered};
 ghost use Rattle.call_work.specs.Kept.{MayKeep};
 
 use crate::commands::{Material, ReadMaterial};
-use agree_run::read_compared;
 use call_read::Refusal;
 use cell_io::Desk;
+use layout_commands::read_compared;
 use std::alloc::Global;
 
 pub(crate) fn for_agree<D: Desk>(

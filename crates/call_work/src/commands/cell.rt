@@ -2,18 +2,18 @@
 ghost use Rattle.std.specs.Prelude.{Some};
 ghost use Rattle.cell_io.specs.Desk.{OnlyReads};
 ghost use Rattle.call_read.specs.Read.{KeepsReads};
-ghost use Rattle.call_words.specs.Words.{Plan, Make, Check};
+ghost use Rattle.call_words.specs.Words.{Plan, Make, MakeFrom, Check};
 ghost use Rattle.call_work.specs.Commands.{gathered};
 ghost use Rattle.call_work.specs.Kept.{MayKeep};
 
 use crate::commands::{Material, ReadMaterial};
-use crate::evidence::with_evidence;
-use crate::material::{MakeMaterial, PlanMaterial};
+use crate::evidence::read_evidence;
+use crate::material::{FromMaterial, MakeMaterial, PlanMaterial};
+use call_end::Stem;
 use call_read::{Refusal, read_inputs};
 use call_words::{CellAsked, Evidence};
 use cell_inputs::Style;
 use cell_io::Desk;
-use make_run::Stem;
 use std::alloc::Global;
 
 pub(crate) fn for_plan<D: Desk>(
@@ -53,6 +53,38 @@ pub(crate) fn for_make<D: Desk>(
     })))
 }
 
+/// The inputs, and then the file whose row is to be drawn.
+pub(crate) fn for_make_from<D: Desk>(
+    alloc: Global,
+    desk: &mut D,
+    asked: &CellAsked<'_>,
+    out: &str,
+    style: Style,
+    file: &str,
+    evidence: Evidence,
+) -> Result<Material, Refusal>
+    ensures comes { MayKeep (D.view desk.old) (D.view desk.new)
+        (gathered (Some (MakeFrom asked.now out.now style file.now evidence))) result }
+    ensures quiet { KeepsReads result (D.view desk.old) (D.view desk.new) }
+    ensures only { OnlyReads (D.view desk.old) (D.view desk.new) }
+{
+    let stem = Stem::new(alloc, out)?;
+    let inputs = read_inputs(alloc, desk, asked)?;
+    match read_evidence(alloc, desk, &inputs, file, evidence) {
+        Ok(file) => Ok(Material::Read(ReadMaterial::MakingFrom(FromMaterial {
+            inputs,
+            file,
+            stem,
+            style,
+        }))),
+        Err(refusal) => {
+            drop(inputs);
+            Err(refusal)
+        }
+    }
+}
+
+/// The inputs, and then the file that is checked.
 pub(crate) fn for_check<D: Desk>(
     alloc: Global,
     desk: &mut D,
@@ -66,5 +98,11 @@ pub(crate) fn for_check<D: Desk>(
     ensures only { OnlyReads (D.view desk.old) (D.view desk.new) }
 {
     let inputs = read_inputs(alloc, desk, asked)?;
-    with_evidence(alloc, desk, inputs, file, evidence)
+    match read_evidence(alloc, desk, &inputs, file, evidence) {
+        Ok(file) => Ok(Material::Read(ReadMaterial::Checking(inputs, file))),
+        Err(refusal) => {
+            drop(inputs);
+            Err(refusal)
+        }
+    }
 }

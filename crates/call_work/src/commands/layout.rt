@@ -9,7 +9,7 @@ ghost use Rattle.call_work.specs.Kept.{MayKeep};
 use crate::commands::{Material, ReadMaterial};
 use call_read::Refusal;
 use cell_io::Desk;
-use layout_run::read_gds_cell;
+use layout_commands::read_gds_cell;
 use scmos_rules::Deck;
 use std::alloc::Global;
 

@@ -8,11 +8,11 @@ ghost use Rattle.call_work.specs.Kept.{MayKeep};
 
 use crate::commands::{Material, ReadMaterial};
 use crate::material::RowMaterial;
+use call_end::Stem;
 use call_read::Refusal;
 use call_words::RowAsked;
 use cell_io::Desk;
-use make_run::Stem;
-use row_run::read_row;
+use layout_commands::read_row;
 use std::alloc::Global;
 
 pub(crate) fn for_row<D: Desk>(

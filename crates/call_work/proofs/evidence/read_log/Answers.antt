@@ -4,7 +4,7 @@ use Rattle.call_read.specs.Sources.{LogFile}
 use Rattle.call_read.specs.declared.refusal.Refusal.{Refusal}
 use Rattle.call_read.specs.declared.refusal.Refusal.TheVariants.{NoMemory}
 use Rattle.call_work.proofs.Keeping.{holds_handed, holds_log}
-use Rattle.check_run.proofs.LogReads.{room_begun}
+use Rattle.cell_commands.proofs.LogReads.{room_begun}
 use Rattle.call_work.proofs.evidence.read_log.Goals as goal
 
 pub read_to-requires : goal.read_to-requires

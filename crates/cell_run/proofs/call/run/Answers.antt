@@ -5,6 +5,7 @@ use Rattle.run_laws.proofs.AgreeTold.{agreed_told, agrees_told, disagreed_told, 
 use Rattle.run_laws.proofs.BenchTold.{benched_told, benches_told}
 use Rattle.run_laws.proofs.Created.{once_told}
 use Rattle.run_laws.proofs.ExtractTold.{breaks_told, broken_told, extracted_told, extracts_told, layout_faults_told, layout_told}
+use Rattle.run_laws.proofs.FromTold.{from_draws_told, from_leaves, from_meets_told, from_needs_told, from_refuses_told}
 use Rattle.run_laws.proofs.MadeCompared.{agrees_made_told}
 use Rattle.run_laws.proofs.MakeTold.{draws_told, make_leaves, meets_told, needs_told}
 use Rattle.run_laws.proofs.PlanTold.{accepts_told, checked_told, planned_told, plans_told, unplanned_told}
@@ -176,3 +177,27 @@ returns-clause-unabuts g c = unabuts_told (g.D.Desk.view c.args.desk.now) (g.D.D
 
 pub returns-clause-agrees_made : goal.returns-clause-agrees_made
 returns-clause-agrees_made g c = agrees_made_told (g.D.Desk.view c.args.desk.now) (g.D.Desk.view c.deliver.new.desk) (asked c.args.words.now) c.deliver.result (g.D.Desk.view c.args.desk.now).given (returns-clause-completes g c)
+
+pub returns-clause-drawn_from : goal.returns-clause-drawn_from
+returns-clause-drawn_from g c = from_leaves status.Done (g.D.Desk.view c.args.desk.now) (g.D.Desk.view c.deliver.new.desk) (asked c.args.words.now) c.deliver.result (g.D.Desk.view c.args.desk.now).given refl (returns-clause-called_for g c)
+
+pub returns-clause-cyclic_from : goal.returns-clause-cyclic_from
+returns-clause-cyclic_from g c = from_leaves status.Cycle (g.D.Desk.view c.args.desk.now) (g.D.Desk.view c.deliver.new.desk) (asked c.args.words.now) c.deliver.result (g.D.Desk.view c.args.desk.now).given refl (returns-clause-called_for g c)
+
+pub returns-clause-tall_from : goal.returns-clause-tall_from
+returns-clause-tall_from g c = from_leaves status.TooTall (g.D.Desk.view c.args.desk.now) (g.D.Desk.view c.deliver.new.desk) (asked c.args.words.now) c.deliver.result (g.D.Desk.view c.args.desk.now).given refl (returns-clause-called_for g c)
+
+pub returns-clause-rejected_from : goal.returns-clause-rejected_from
+returns-clause-rejected_from g c = from_leaves status.Rejected (g.D.Desk.view c.args.desk.now) (g.D.Desk.view c.deliver.new.desk) (asked c.args.words.now) c.deliver.result (g.D.Desk.view c.args.desk.now).given refl (returns-clause-called_for g c)
+
+pub returns-clause-draws_from : goal.returns-clause-draws_from
+returns-clause-draws_from g c = from_draws_told (g.D.Desk.view c.args.desk.now) (g.D.Desk.view c.deliver.new.desk) (asked c.args.words.now) c.deliver.result (g.D.Desk.view c.args.desk.now).given (returns-clause-completes g c)
+
+pub returns-clause-meets_from : goal.returns-clause-meets_from
+returns-clause-meets_from g c = from_meets_told (g.D.Desk.view c.args.desk.now) (g.D.Desk.view c.deliver.new.desk) (asked c.args.words.now) c.deliver.result (g.D.Desk.view c.args.desk.now).given (returns-clause-completes g c)
+
+pub returns-clause-needs_from : goal.returns-clause-needs_from
+returns-clause-needs_from g c = from_needs_told (g.D.Desk.view c.args.desk.now) (g.D.Desk.view c.deliver.new.desk) (asked c.args.words.now) c.deliver.result (g.D.Desk.view c.args.desk.now).given (returns-clause-completes g c)
+
+pub returns-clause-rejects_from : goal.returns-clause-rejects_from
+returns-clause-rejects_from g c = from_refuses_told (g.D.Desk.view c.args.desk.now) (g.D.Desk.view c.deliver.new.desk) (asked c.args.words.now) c.deliver.result (g.D.Desk.view c.args.desk.now).given (returns-clause-completes g c)

@@ -3,7 +3,7 @@ use Rattle.std.specs.List.{flat_map}
 use Rattle.cell_io.specs.Desk.{IsQuiet}
 use Rattle.cell_io.specs.Output.{CanPut}
 use Rattle.bound_log.specs.Text.{lemma_line}
-use Rattle.row_search.specs.Kept.{HasRoom}
+use Rattle.bound_log.specs.Kept.{HasRoom}
 use Rattle.log_output.specs.Giving.{Gives, OnlyPuts}
 use Rattle.log_output.specs.Targets.{place_of}
 use Rattle.log_output.proofs.log_text.give_lemmas.Given as goal

@@ -6,10 +6,11 @@ use Rattle.row_state.specs.Emptied.{AreEmpty}
 use Rattle.row_state.specs.Start.{columns_left}
 use Rattle.row_state.proofs.Calls.{fewer_after}
 use Rattle.bound_log.specs.declared.log.Rule.TheVariants as by
+use Rattle.bound_log.specs.Kept.{lemma_of}
 use Rattle.lemma_check.specs.Reaches.{RuleReaches, best_of}
 use Rattle.row_search.specs.Ended.{IsLean}
 use Rattle.row_search.specs.SoFar.{KnowsAll}
-use Rattle.row_search.specs.Visit.{AreKept, HasFailed, HasFound, lemma_of}
+use Rattle.row_search.specs.Visit.{AreKept, HasFailed, HasFound}
 use Rattle.row_search.proofs.Grown.{Reaches}
 use Rattle.row_search.proofs.Visits.{branch_end, failed_kept, found_behind, found_leaf, further_behind, further_counted, further_kept, further_same, further_still, further_wider, known_behind, row_reaches, some_left, spent_behind, step_dear, step_fails, step_known, step_not, tried_more, tried_none}
 use Rattle.row_search.proofs.descent.+visit.Goals as goal

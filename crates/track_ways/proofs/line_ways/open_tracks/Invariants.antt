@@ -1,5 +1,5 @@
 use Rattle.std.proofs.Common.{◌≡◌, ◌++◌, ◌||◌, drop}
-use Rattle.channel_lines.specs.Lines.{is_ahead}
+use Rattle.track_ways.specs.Lines.{is_ahead}
 use Rattle.track_ways.specs.Tables.{marked}
 use Rattle.track_ways.specs.Ways.{open_of}
 use Rattle.track_ways.proofs.line_ways.open_tracks.Given as goal

@@ -1,5 +1,5 @@
 use Rattle.std.proofs.Common.{rules, ◌≡◌, ap, ◌∙◌}
-use Rattle.open_nets.specs.Paths.{lines_to}
+use Rattle.track_ways.specs.Paths.{lines_to}
 use Rattle.track_ways.specs.Tables.{marked}
 use Rattle.track_ways.specs.Ways.{goes_ways}
 use Rattle.track_ways.proofs.Nets.{entries}

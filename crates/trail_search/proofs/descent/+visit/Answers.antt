@@ -18,7 +18,7 @@ pub returns-then-not-has_fingers-clause-found : goal.returns-then-not-has_finger
 returns-then-not-has_fingers-clause-found t c = found_leaf c.args.task.now.kinds.now c.args.at.now.state c.args.allowed c.new.result c.has_fingers.result c.new.ensures (c.has_fingers.ensures c.args.task.now.kinds.now c.requires.numbered.valid) c.if-not-has_fingers.true
 
 pub returns-then-branch-clause-known : goal.returns-then-branch-clause-known
-returns-then-branch-clause-known t c = true_more c.args.task.now.kinds.now c.args.known.now c.note_at.new.self c.args.at.now (c.args.allowed + 1) c.requires.known c.requires.numbered (c.in_ok-is_hopeless.ensures.hopeless c.if-branch.true) c.in_ok-note_at.ensures.raised
+returns-then-branch-clause-known t c = true_more c.args.task.now.kinds.now c.args.known.now c.note_at.new.self c.args.at.now (c.args.allowed + 1) c.requires.known c.requires.numbered (c.in_ok-exceeds_allowed.ensures.exceeds c.if-branch.true) c.in_ok-note_at.ensures.raised
 
 pub loop-next-preserved-then-not-allows : goal.loop-next-preserved-then-not-allows
 unfolding blank
@@ -63,16 +63,16 @@ returns-clause-failed t c = none_left c.args.task.now.kinds.now c.args.at.now.st
 pub returns-then-left-eq0-clause-spent : goal.returns-then-left-eq0-clause-spent
 returns-then-left-eq0-clause-spent t c = spent_same c.args.task.now.kinds.now (columns_left c.args.task.now.kinds.now c.args.at.now.state + 1) (c.args.allowed + 1) c.args.known.now c.args.left.now (columns_left c.args.task.now.kinds.now c.args.at.now.state)
 
-pub returns-in_err-is_hopeless-clause-spent : goal.returns-in_err-is_hopeless-clause-spent
-returns-in_err-is_hopeless-clause-spent t c =
-    let told : IfSpent c.in_err-is_hopeless.field-0.0 (IsSpent c.args.task.now.kinds.now (columns_left c.args.task.now.kinds.now c.args.at.now.state + 1) (c.args.allowed + 1) c.args.known.now c.args.known.now c.args.left.now c.is_hopeless.new.left (columns_left c.args.task.now.kinds.now c.args.at.now.state)) = spent_in c.args.task.now.kinds.now c.args.at.now.state (c.args.allowed + 1) c.args.known.now c.in_err-is_hopeless.field-0.0 c.args.left.now (c.args.left.now - 1) c.is_hopeless.new.left c.show_limits.ensures (some_left (c.has_fingers.ensures c.args.task.now.kinds.now c.requires.numbered.valid) c.if-not-has_fingers.false) (omega (arith, c.if-left-eq0.false)) c.in_err-is_hopeless.ensures.spent_tries in
+pub returns-in_err-exceeds_allowed-clause-spent : goal.returns-in_err-exceeds_allowed-clause-spent
+returns-in_err-exceeds_allowed-clause-spent t c =
+    let told : IfSpent c.in_err-exceeds_allowed.field-0.0 (IsSpent c.args.task.now.kinds.now (columns_left c.args.task.now.kinds.now c.args.at.now.state + 1) (c.args.allowed + 1) c.args.known.now c.args.known.now c.args.left.now c.exceeds_allowed.new.left (columns_left c.args.task.now.kinds.now c.args.at.now.state)) = spent_in c.args.task.now.kinds.now c.args.at.now.state (c.args.allowed + 1) c.args.known.now c.in_err-exceeds_allowed.field-0.0 c.args.left.now (c.args.left.now - 1) c.exceeds_allowed.new.left c.show_limits.ensures (some_left (c.has_fingers.ensures c.args.task.now.kinds.now c.requires.numbered.valid) c.if-not-has_fingers.false) (omega (arith, c.if-left-eq0.false)) c.in_err-exceeds_allowed.ensures.spent_tries in
     search rules
 
 pub returns-then-branch-clause-bounds : goal.returns-then-branch-clause-bounds
-returns-then-branch-clause-bounds t c = spent_bound c.args.task.now.kinds.now c.args.at.now.state (c.args.allowed + 1) c.args.known.now c.args.known.now c.note_at.new.self c.args.left.now c.is_hopeless.new.left c.requires.numbered.valid (c.in_ok-is_hopeless.ensures.hopeless c.if-branch.true) (omega (arith, c.requires.unknown)) (c.in_ok-note_at.ensures.raised c.args.task.now.kinds.now c.args.at.now.state c.requires.numbered.valid (sym c.requires.numbered.code)) (spent_one c.args.task.now.kinds.now (columns_left c.args.task.now.kinds.now c.args.at.now.state) (c.args.allowed + 1) c.args.known.now c.args.left.now (c.args.left.now - 1) c.is_hopeless.new.left (omega (arith, c.if-left-eq0.false)) c.in_ok-is_hopeless.ensures.tries)
+returns-then-branch-clause-bounds t c = spent_bound c.args.task.now.kinds.now c.args.at.now.state (c.args.allowed + 1) c.args.known.now c.args.known.now c.note_at.new.self c.args.left.now c.exceeds_allowed.new.left c.requires.numbered.valid (c.in_ok-exceeds_allowed.ensures.exceeds c.if-branch.true) (omega (arith, c.requires.unknown)) (c.in_ok-note_at.ensures.raised c.args.task.now.kinds.now c.args.at.now.state c.requires.numbered.valid (sym c.requires.numbered.code)) (spent_one c.args.task.now.kinds.now (columns_left c.args.task.now.kinds.now c.args.at.now.state) (c.args.allowed + 1) c.args.known.now c.args.left.now (c.args.left.now - 1) c.exceeds_allowed.new.left (omega (arith, c.if-left-eq0.false)) c.in_ok-exceeds_allowed.ensures.tries)
 
 pub loop-next-init : goal.loop-next-init
-loop-next-init t c = (c.requires.known, omega (arith, c.in_ok-is_hopeless.ensures.left), All-nil (HasNone c.args.task.now.kinds.now c.args.at.now.state c.args.allowed), spent_one c.args.task.now.kinds.now (columns_left c.args.task.now.kinds.now c.args.at.now.state) (c.args.allowed + 1) c.args.known.now c.args.left.now (c.args.left.now - 1) c.is_hopeless.new.left (omega (arith, c.if-left-eq0.false)) c.in_ok-is_hopeless.ensures.tries)
+loop-next-init t c = (c.requires.known, omega (arith, c.in_ok-exceeds_allowed.ensures.left), All-nil (HasNone c.args.task.now.kinds.now c.args.at.now.state c.args.allowed), spent_one c.args.task.now.kinds.now (columns_left c.args.task.now.kinds.now c.args.at.now.state) (c.args.allowed + 1) c.args.known.now c.args.left.now (c.args.left.now - 1) c.exceeds_allowed.new.left (omega (arith, c.if-left-eq0.false)) c.in_ok-exceeds_allowed.ensures.tries)
 
 pub returns-in-Err-clause-spent : goal.returns-in-Err-clause-spent
 unfolding blank

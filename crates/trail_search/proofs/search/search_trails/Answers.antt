@@ -3,8 +3,8 @@ use Rattle.cell_num.specs.Fingers.{columns_of}
 use Rattle.row_state.specs.Completion.{Need}
 use Rattle.row_state.specs.Start.{columns_left, start_of}
 use Rattle.row_state.proofs.Unfold.{columns_same}
-use Rattle.trail_log.specs.declared.trails.Trails.{Trails}
-use Rattle.trail_prove.specs.Proof.{IsUnfinished}
+use Rattle.trail_log.specs.declared.trails.TrailCertificate.{TrailCertificate}
+use Rattle.trail_search.specs.Proof.{IsUnfinished}
 use Rattle.trail_search.specs.declared.found.TrailStop.TheVariants as stopped
 use Rattle.trail_search.specs.Ended.{IsTrailFound, Stops}
 use Rattle.trail_search.specs.Searched.{AreSearched}
@@ -25,7 +25,7 @@ first_row-requires c = record { few = few_gaps c.in_ok-kinds.kinds c.args.finger
 pub returns-in-Ok-Some-clause-found : goal.returns-in-Ok-Some-clause-found
 returns-in-Ok-Some-clause-found c =
     let first : IsFirstRow c.in_ok-kinds.kinds c.in-Ok.proof.gaps c.in-Ok-Some.first = rw c.in-Ok-Some.field-0-is at c.in-Ok-Some.ensures.found in
-    subst (λ (z : Trails). IsTrailFound c.args.fingers.now c.args.budget c.in-Ok-Some.first.row z (c.args.budget - c.first_row.new.left)) (sym c.with_row.ensures) (found_is c.in_ok-kinds.kinds c.args.fingers.now c.args.budget (c.args.budget - c.first_row.new.left) c.in-Ok.proof c.in-Ok-Some.first c.in_ok-kinds.ensures.kinds c.in_ok-kinds.ensures.sound c.in-Ok.ensures.proof first (omega arith) (omega (arith, c.in-Ok.ensures.nodes.few)))
+    subst (λ (z : TrailCertificate). IsTrailFound c.args.fingers.now c.args.budget c.in-Ok-Some.first.row z (c.args.budget - c.first_row.new.left)) (sym c.with_row.ensures) (found_is c.in_ok-kinds.kinds c.args.fingers.now c.args.budget (c.args.budget - c.first_row.new.left) c.in-Ok.proof c.in-Ok-Some.first c.in_ok-kinds.ensures.kinds c.in_ok-kinds.ensures.sound c.in-Ok.ensures.proof first (omega arith) (omega (arith, c.in-Ok.ensures.nodes.few)))
 
 pub returns-in-Ok-None-clause-stopped : goal.returns-in-Ok-None-clause-stopped
 returns-in-Ok-None-clause-stopped c =

@@ -1,7 +1,7 @@
 use Rattle.std.proofs.Common.{Ok, inl, refl}
 use Rattle.std.specs.Prelude.{option_map}
-use Rattle.agree_run.specs.Agree.{comparing}
-use Rattle.agree_run.specs.declared.compared.Compared.{Compared}
+use Rattle.layout_commands.specs.Agree.{comparing}
+use Rattle.layout_commands.specs.declared.compared.Compared.{Compared}
 use Rattle.call_read.proofs.Desks.{only_refl}
 use Rattle.call_read.specs.Reading.{Ends}
 use Rattle.call_work.proofs.Keeping.{keeps_behind, keeps_refusal}

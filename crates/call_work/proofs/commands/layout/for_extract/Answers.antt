@@ -4,8 +4,8 @@ use Rattle.call_read.proofs.Desks.{only_refl}
 use Rattle.call_read.specs.Reading.{Ends}
 use Rattle.call_work.proofs.Keeping.{keeps_behind, keeps_refusal}
 use Rattle.call_work.specs.Commands.{Extracting}
-use Rattle.layout_run.specs.Extract.{extracting}
-use Rattle.layout_run.specs.declared.gds_cell.GdsCell.{GdsCell}
+use Rattle.layout_commands.specs.Extract.{extracting}
+use Rattle.layout_commands.specs.declared.gds_cell.GdsCell.{GdsCell}
 use Rattle.call_work.proofs.commands.layout.for_extract.Goals as goal
 
 pub returns-in_err-drawn-clause-comes : goal.returns-in_err-drawn-clause-comes

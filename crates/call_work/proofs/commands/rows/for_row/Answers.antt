@@ -4,8 +4,8 @@ use Rattle.call_read.specs.Reading.{Ends}
 use Rattle.call_words.specs.Words.{Row}
 use Rattle.call_work.proofs.Keeping.{keeps_behind, keeps_refusal, keeps_short, kept_row}
 use Rattle.call_work.specs.Commands.{gathered, rowing_of}
-use Rattle.row_make.specs.RowInputs.{RowInputs}
-use Rattle.row_run.specs.Row.{rowing}
+use Rattle.cell_make.specs.RowInputs.{RowInputs}
+use Rattle.layout_commands.specs.Row.{rowing}
 use Rattle.call_work.proofs.commands.rows.for_row.Goals as goal
 
 pub returns-in_err-stem-clause-comes : goal.returns-in_err-stem-clause-comes

@@ -5,7 +5,8 @@ use Rattle.bound_log.specs.declared.log.Log.{Log}
 use Rattle.bound_log.specs.declared.log.Lemma.{Lemma}
 use Rattle.log_check.specs.Accepted.{WithKinds}
 use Rattle.row_search.specs.declared.found.StopKept.{StopKept}
-use Rattle.row_search.specs.Ended.{IfOpen, IsSolved, IsSpent, log_with, log_without}
+use Rattle.bound_log.specs.Kept.{log_with, log_without}
+use Rattle.row_search.specs.Ended.{IfOpen, IsSolved, IsSpent}
 use Rattle.row_search.specs.First.{IsFirstLeast}
 use Rattle.cell_inputs.specs.Inputs.{Inputs}
 use Rattle.cell_make.specs.declared.planned.Planned.TheVariants as planned

@@ -1,26 +1,19 @@
-use Rattle.std.proofs.Common.{All, ap, subst, sym, ◌∙◌}
+use Rattle.std.proofs.Common.{[], ◌∷◌, ◌++◌, ap, subst, sym, ◌∙◌}
 use Rattle.row_state.specs.declared.kind.Kinds.{Kinds}
 use Rattle.row_state.specs.Candidates.{IsNumbered}
-use Rattle.row_state.specs.Code.{IsCode}
-use Rattle.row_search.specs.declared.kept.Packed.{Packed}
+use Rattle.bound_log.specs.Kept.{lemma_of}
 use Rattle.row_search.specs.SoFar.{SoFar}
-use Rattle.row_search.proofs.Keeping.{code_fits, code_in, codes_more, lemmas_more, table_more}
+use Rattle.row_search.proofs.Keeping.{table_more}
 use Rattle.row_search.proofs.progress.Progress.keep.Goals as goal
 
-pub invariant_of-self-in_err-push : goal.invariant_of-self-in_err-push
-invariant_of-self-in_err-push c = subst (All (λ (y : Packed). IsCode c.self.inside.kinds (code_in y))) (sym c.in_err-push.ensures.err) c.self.invariant
-
-pub invariant_of-self-2 : goal.invariant_of-self-2
-invariant_of-self-2 c = codes_more c.args.self.now.kinds c.self.inside.kinds c.self.inside.packed c.push.new.self c.new.result c.args.at.now (ap (λ (z : SoFar). z.kinds) c.self.view_is) c.requires.state c.new.ensures.state c.self.invariant c.in_ok-push.ensures.ok
+pub keep-requires-clause-state : goal.keep-requires-clause-state
+keep-requires-clause-state c = subst (λ (z : Kinds). IsNumbered z c.args.at.now) (sym (ap (λ (z : SoFar). z.kinds) c.self.view_is)) c.requires.state
 
 pub returns-clause-ok : goal.returns-clause-ok
-returns-clause-ok c = lemmas_more c.args.self.now.kinds c.self.inside.kinds c.self.inside.packed c.push.new.self c.args.self.now.lemmas c.new.result c.args.at.now c.args.bound c.args.rule (ap (λ (z : SoFar). z.kinds) c.self.view_is) c.requires.state c.new.ensures.state c.new.ensures.bound c.new.ensures.rule (ap (λ (z : SoFar). z.lemmas) c.self.view_is) c.in_ok-push.ensures.ok
+returns-clause-ok c = c.in_ok-keep.ensures.ok ∙ ap (λ (z : SoFar). z.lemmas ++ lemma_of c.args.at.now.state c.args.bound c.args.rule ∷ []) c.self.view_is
 
 pub returns-clause-knows : goal.returns-clause-knows
 returns-clause-knows c = λ k before. record {
-  kinds = ap (λ (z : SoFar). z.kinds) c.self.view_is ∙ before.kinds;
-  table = table_more k c.args.self.now c.self.inside.known c.note_at.new.self _ c.args.at.now c.args.bound c.args.rule before (ap (λ (z : SoFar). z.known) (sym c.self.view_is)) (lemmas_more c.args.self.now.kinds c.self.inside.kinds c.self.inside.packed c.push.new.self c.args.self.now.lemmas c.new.result c.args.at.now c.args.bound c.args.rule (ap (λ (z : SoFar). z.kinds) c.self.view_is) c.requires.state c.new.ensures.state c.new.ensures.bound c.new.ensures.rule (ap (λ (z : SoFar). z.lemmas) c.self.view_is) c.in_ok-push.ensures.ok) c.requires.state c.in_ok-note_at.ensures.raised;
+  kinds = c.keep.ensures.kinds ∙ ap (λ (z : SoFar). z.kinds) c.self.view_is ∙ before.kinds;
+  table = table_more k c.args.self.now c.self.inside.known c.note_at.new.self _ c.args.at.now c.args.bound c.args.rule before (ap (λ (z : SoFar). z.known) (sym c.self.view_is)) (c.in_ok-keep.ensures.ok ∙ ap (λ (z : SoFar). z.lemmas ++ lemma_of c.args.at.now.state c.args.bound c.args.rule ∷ []) c.self.view_is) c.requires.state c.in_ok-note_at.ensures.raised;
 }
-
-pub new-requires-clause-state : goal.new-requires-clause-state
-new-requires-clause-state c = code_fits c.self.inside.kinds c.args.at.now c.show_limits.ensures (subst (λ (z : Kinds). IsNumbered z c.args.at.now) (sym (ap (λ (z : SoFar). z.kinds) c.self.view_is)) c.requires.state)

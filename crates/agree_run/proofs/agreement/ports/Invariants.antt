@@ -1,7 +1,0 @@
-use Rattle.std.proofs.Common.{◌≡◌, take}
-use Rattle.std.specs.List.{flat_map}
-use Rattle.lef_read.specs.declared.cell.LefPin.{LefPin}
-use Rattle.agree_run.proofs.agreement.ports.Given as goal
-
-abbrev pub invariant-loop-pin : goal.invariant-loop-pin
-invariant-loop-pin l = l.ports ≡ flat_map (λ (pin : LefPin). pin.ports) (take l.pin-index l.pins)

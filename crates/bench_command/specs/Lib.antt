@@ -1,0 +1,8 @@
+-- What contracts of public calls cite, and what these definitions stand on.
+pub mod Bench
+pub mod Report
+pub mod Tally
+pub mod Paired
+pub mod Read
+-- What inner contracts and proofs alone cite.
+pub mod Size

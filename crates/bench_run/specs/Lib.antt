@@ -1,2 +1,0 @@
--- What inner contracts and proofs alone cite.
-pub mod Size

@@ -1,0 +1,93 @@
+-- What a check of some bytes comes to, from what the reader and the checker of certificates answered.
+use Rattle.std.proofs.Common.{ℕ, ◌≡◌, ◌≢◌, List, [], Result, Ok, Err, IfOk, refl, sym, subst, arith}
+use Rattle.std.specs.Prelude.{MatchOption}
+use Rattle.cell_num.specs.declared.list.NoMemory.{NoMemory}
+use Rattle.row_model.specs.declared.column.Column.{Column}
+use Rattle.row_state.specs.declared.kind.Kinds.{Kinds}
+use Rattle.row_state.specs.Start.{AreKinds, AreSomeKinds}
+use Rattle.bound_log.specs.declared.fault.LogFault.{LogFault}
+use Rattle.bound_log.specs.declared.fault.LogFault.TheVariants as misread_by
+use Rattle.log_check.specs.Accepted.{BestPasses, WithKinds, columns_listed}
+use Rattle.log_check.proofs.SameKinds.{for_kinds}
+use Rattle.cell_commands.proofs.Accepted.{listed_so}
+use Rattle.trail_log.specs.declared.trails.TrailCertificate.{TrailCertificate}
+use Rattle.trail_log.specs.Fits.{TrailsFit}
+use Rattle.trail_log.specs.Reading.{trails_of}
+use Rattle.trail_log.specs.Text.{trails_text}
+use Rattle.trail_check.specs.declared.refusal.TrailRefusal.{TrailRefusal}
+use Rattle.trail_check.specs.declared.refusal.TrailRefusal.TheVariants as because
+use Rattle.trail_check.specs.Accepted.{IsAccepted, IsLow, least_gaps}
+use Rattle.trail_check.specs.Refusal.{Refuses}
+use Rattle.trail_check.proofs.Refusals.{not_both}
+use Rattle.call_end.specs.declared.end.End.{End}
+use Rattle.call_end.specs.declared.status.Status.TheVariants as status
+use Rattle.cell_inputs.specs.Inputs.{Inputs}
+use Rattle.cell_commands.specs.TrailCheck.{Checks, HoldsAccepted, IsListed, TrailChecksTo}
+use Rattle.cell_commands.specs.Judged.{Judges}
+use Rattle.cell_commands.specs.declared.trail_checking.TrailAnswer.{TrailAnswer}
+use Rattle.cell_commands.specs.declared.trail_checking.TrailAnswer.TheVariants.{Accepted, Misread, Rejected}
+
+-- the bytes are the text of this certificate and of no other, for the kinds of the fingers
+pub record AreTextOf (inputs : Inputs) (bytes : List ℕ) (k : Kinds) (trails : TrailCertificate) : Type 0 where
+  pub kinds : AreKinds inputs.fingers k
+  pub some_kinds : AreSomeKinds k
+  pub read : trails_of bytes inputs.cell.name k ≡ Ok trails
+  pub fits : TrailsFit k trails
+  pub text : bytes ≡ trails_text inputs.cell.name trails
+  pub one : (other : TrailCertificate) → TrailsFit k other → trails_text inputs.cell.name other ≡ bytes → other ≡ trails
+
+rejected : (inputs : Inputs) (bytes : List ℕ) (k : Kinds) (trails : TrailCertificate) (cause : TrailRefusal) → AreTextOf inputs bytes k trails → cause ≢ because.NoMemory → Refuses inputs.fingers trails cause → HoldsAccepted inputs bytes → ⊥
+rejected inputs bytes k trails cause is other refuses (gaps, lemmas, filled, (j, of_j, some_j, holds)) =
+    let fits : TrailsFit k holds.trails = for_kinds inputs.fingers j (λ kinds. TrailsFit kinds holds.trails) of_j some_j holds.fits k is.kinds is.some_kinds in
+    let same : holds.trails ≡ trails = is.one holds.trails fits (sym holds.text) in
+    not_both inputs.fingers trails gaps cause (subst (λ (t : TrailCertificate). IsAccepted inputs.fingers t gaps) same holds.accepted) refuses other
+
+-- the row that the certificate lists, by kinds of the fingers
+listed : (inputs : Inputs) (bytes : List ℕ) (k : Kinds) (trails : TrailCertificate) (row : List Column) (gaps : ℕ) → AreTextOf inputs bytes k trails → IsLow inputs.fingers gaps → IsAccepted inputs.fingers trails gaps → MatchOption trails.best (row ≡ []) (λ best. row ≡ columns_listed k best.steps) → IsListed inputs bytes row trails
+listed inputs bytes k trails row gaps is low accepted columns = by_kinds accepted.passes
+  where
+    by_kinds : WithKinds inputs.fingers (λ j. BestPasses j inputs.fingers (least_gaps inputs.fingers trails) trails.best gaps) → IsListed inputs bytes row trails
+    by_kinds (j, of_j, some_j, passed) =
+        let passes : BestPasses k inputs.fingers (least_gaps inputs.fingers trails) trails.best gaps = for_kinds inputs.fingers j (λ kinds. BestPasses kinds inputs.fingers (least_gaps inputs.fingers trails) trails.best gaps) of_j some_j passed k is.kinds is.some_kinds in
+        let (lists, arranges, same) = listed_so k inputs.fingers (least_gaps inputs.fingers trails) gaps row trails.best passes columns in
+        record {
+          arranges = arranges;
+          least = λ other arranged. omega (arith, low other arranged, same);
+          text = is.text;
+          listed = (k, is.kinds, is.some_kinds, record { accepted = subst (IsAccepted inputs.fingers trails) same accepted; lists = lists; fits = is.fits });
+        }
+
+judged : (inputs : Inputs) (bytes : List ℕ) (k : Kinds) (trails : TrailCertificate) (answer : TrailAnswer) → AreTextOf inputs bytes k trails → Judges inputs.fingers k trails answer → Checks inputs bytes answer
+judged inputs bytes k trails (Accepted row gaps lemmas filled) is (low, accepted, many, full, columns) = (
+  low,
+  (k, is.kinds, is.some_kinds, record { trails = trails; fits = is.fits; text = is.text; accepted = accepted; lemmas_are = many; filled_are = full }),
+  (trails, listed inputs bytes k trails row gaps is low accepted columns, many, full),
+)
+judged inputs bytes k trails (Misread f) is judges = absurd judges
+judged inputs bytes k trails (Rejected cause) is (other, refuses) =
+    (other, (k, is.kinds, is.some_kinds, (trails, is.read, refuses)), rejected inputs bytes k trails cause is other refuses)
+
+pub judged_checks : (inputs : Inputs) (bytes : List ℕ) (k : Kinds) (trails : TrailCertificate) (r : Result TrailAnswer NoMemory) → AreTextOf inputs bytes k trails → IfOk r (Judges inputs.fingers k trails) → IfOk r (Checks inputs bytes)
+judged_checks inputs bytes k trails (Ok answer) is judges = judged inputs bytes k trails answer is judges
+judged_checks inputs bytes k trails (Err e) is judges = tt
+
+misread : (inputs : Inputs) (bytes : List ℕ) (k : Kinds) (f : LogFault) → AreKinds inputs.fingers k → AreSomeKinds k → f ≢ misread_by.NoMemory → trails_of bytes inputs.cell.name k ≡ Err f → ((trails : TrailCertificate) → TrailsFit k trails → trails_text inputs.cell.name trails ≢ bytes) → Checks inputs bytes (Misread f)
+misread inputs bytes k f of_k some_k other wrong none =
+    (other, (k, of_k, some_k, wrong), λ (gaps, lemmas, filled, (j, of_j, some_j, holds)). none holds.trails (for_kinds inputs.fingers j (λ kinds. TrailsFit kinds holds.trails) of_j some_j holds.fits k of_k some_k) (sym holds.text))
+
+pub misread_checks : (inputs : Inputs) (bytes : List ℕ) (k : Kinds) (f : LogFault) (r : Result TrailAnswer NoMemory) → AreKinds inputs.fingers k → AreSomeKinds k → (f ≢ misread_by.NoMemory → trails_of bytes inputs.cell.name k ≡ Err f) → (f ≢ misread_by.NoMemory → (trails : TrailCertificate) → TrailsFit k trails → trails_text inputs.cell.name trails ≢ bytes) → IfOk r (λ answer. (f ≢ misread_by.NoMemory) × (answer ≡ Misread f)) → IfOk r (Checks inputs bytes)
+misread_checks inputs bytes k f (Ok answer) of_k some_k wrong none (other, is) =
+    subst (λ (a : TrailAnswer). Checks inputs bytes a) (sym is) (misread inputs bytes k f of_k some_k other (wrong other) (none other))
+misread_checks inputs bytes k f (Err e) of_k some_k wrong none is = tt
+
+-- ---- the status
+
+pub done_holds : (inputs : Inputs) (bytes : List ℕ) (end : End) → TrailChecksTo inputs bytes end → end.status ≡ status.Done → HoldsAccepted inputs bytes
+done_holds inputs bytes end (Accepted row gaps lemmas filled, (least, text, lists), is) done = (gaps, lemmas, filled, text)
+done_holds inputs bytes end (Misread f, h, is) done = cc
+done_holds inputs bytes end (Rejected cause, h, is) done = cc
+
+pub holds_done : (inputs : Inputs) (bytes : List ℕ) (end : End) → HoldsAccepted inputs bytes → TrailChecksTo inputs bytes end → end.status ≡ status.Done
+holds_done inputs bytes end holds (Accepted row gaps lemmas filled, h, is) = rw is refl
+holds_done inputs bytes end holds (Misread f, (other, wrong, none), is) = absurd (none holds)
+holds_done inputs bytes end holds (Rejected cause, (other, wrong, none), is) = absurd (none holds)

@@ -1,0 +1,14 @@
+-- What contracts of public calls cite, and what these definitions stand on.
+pub mod Evidence
+pub mod RowEnd
+pub mod TrailCheck
+pub mod Counts
+pub mod Check
+pub mod LogRead
+pub mod Given
+pub mod Make
+pub mod Plan
+pub mod Searched
+-- What inner contracts and proofs alone cite.
+pub mod Judged
+pub mod Certificate

@@ -1,0 +1,46 @@
+-- What a search for a row and its evidence comes to, by the kind of evidence.
+use Rattle.std.specs.Prelude.{ℕ, List}
+use Rattle.cell_num.specs.declared.net.NetNo.{NetNo}
+use Rattle.row_model.specs.declared.column.Column.{Column}
+use Rattle.call_words.specs.declared.evidence.Evidence.{Evidence}
+use Rattle.call_words.specs.declared.evidence.Evidence.TheVariants.{Log, Trails}
+use Rattle.cell_inputs.specs.Inputs.{Inputs}
+use Rattle.cell_make.specs.Searched as log
+use Rattle.cell_commands.specs.declared.certificate.Certificate.{Certificate}
+use Rattle.cell_commands.specs.declared.certificate.Certificate.TheVariants as held
+use Rattle.cell_commands.specs.declared.searched.Searched.{Searched}
+use Rattle.cell_commands.specs.declared.searched.Searched.TheVariants.{Found, Open, Crowded}
+use Rattle.trail_log.specs.declared.trails.TrailCertificate.{TrailCertificate}
+use Rattle.trail_search.specs.Ended.{IsCrowded, IsTrailFound, IsTrailSpent}
+
+-- the certificate by trails is accepted and lists the row, and was found within the budget
+abbrev pub IsFoundByTrails : Inputs → List Column → TrailCertificate → Type 0
+IsFoundByTrails inputs row trails = (nodes : ℕ) × IsTrailFound inputs.fingers inputs.tech.budget row trails nodes
+
+-- its lemmas are justified, and prove so many gaps of every row; the budget is spent, or no row has as few
+abbrev pub IsOpenByTrails : Inputs → ℕ → TrailCertificate → Type 0
+IsOpenByTrails inputs proved trails =
+    (nodes : ℕ) × IsTrailSpent inputs.fingers inputs.tech.budget trails proved nodes
+
+-- the row is the first least one, with a certificate of this kind that is accepted and lists it, found within the
+-- budget
+abbrev pub IsFoundBy : Evidence → Inputs → List Column → Certificate → Type 0
+IsFoundBy Log inputs row (held.Log found) = log.IsFound inputs row found
+IsFoundBy Trails inputs row (held.Trails found) = IsFoundByTrails inputs row found
+IsFoundBy _ inputs row _ = ⊥
+
+-- the certificate is of this kind, lists no row, and proves so many gaps of every row
+abbrev pub IsOpenBy : Evidence → Inputs → ℕ → Certificate → Type 0
+IsOpenBy Log inputs proved (held.Log spent) = log.IsUnfinished inputs proved spent
+IsOpenBy Trails inputs proved (held.Trails spent) = IsOpenByTrails inputs proved spent
+IsOpenBy _ inputs proved _ = ⊥
+
+-- There is none of a row, since the fingers of this gate pair in more ways than its checker lists. A log lists none.
+abbrev pub Crowds : Evidence → Inputs → NetNo → Type 0
+Crowds Log inputs gate = ⊥
+Crowds Trails inputs gate = IsCrowded inputs.fingers gate
+
+abbrev pub IsSearched : Evidence → Inputs → Searched → Type 0
+IsSearched evidence inputs (Found row certificate) = IsFoundBy evidence inputs row certificate
+IsSearched evidence inputs (Open certificate proved) = IsOpenBy evidence inputs proved certificate
+IsSearched evidence inputs (Crowded gate) = Crowds evidence inputs gate

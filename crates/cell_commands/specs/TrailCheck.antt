@@ -1,0 +1,91 @@
+-- What a check of a certificate by trails comes to.
+use Rattle.std.specs.Prelude.{ℕ, ◌≡◌, ◌≢◌, List, ◌++◌, codes, length, Ok, Err}
+use Rattle.cell_num.specs.Fingers.{columns_of}
+use Rattle.row_model.specs.declared.column.Column.{Column}
+use Rattle.row_model.specs.Arrangement.{IsArrangement}
+use Rattle.row_model.specs.Gaps.{gaps_of}
+use Rattle.row_state.specs.declared.kind.Kinds.{Kinds}
+use Rattle.bound_log.specs.declared.fault.LogFault.TheVariants as misread
+use Rattle.log_check.specs.Accepted.{WithKinds}
+use Rattle.trail_log.specs.declared.trails.TrailCertificate.{TrailCertificate}
+use Rattle.trail_log.specs.Fits.{TrailsFit}
+use Rattle.trail_log.specs.Reading.{trails_of}
+use Rattle.trail_log.specs.Text.{trails_text}
+use Rattle.trail_check.specs.declared.refusal.TrailRefusal.{TrailRefusal}
+use Rattle.trail_check.specs.declared.refusal.TrailRefusal.TheVariants as because
+use Rattle.trail_check.specs.Accepted.{IsAccepted, IsLow}
+use Rattle.trail_check.specs.Refusal.{Refuses}
+use Rattle.trail_search.specs.Ended.{IsCertified}
+use Rattle.call_end.specs.declared.end.End.{End}
+use Rattle.call_end.specs.declared.status.Status.TheVariants as status
+use Rattle.call_end.specs.End.{reports}
+use Rattle.cell_report.specs.Faults.{fault_line, log_fault}
+use Rattle.cell_report.specs.TrailFaults.{trail_fault}
+use Rattle.cell_inputs.specs.Inputs.{Inputs}
+use Rattle.cell_report.specs.Rows.{row_text}
+use Rattle.cell_commands.specs.Counts.{counts_text}
+use Rattle.cell_commands.specs.declared.trail_checking.TrailAnswer.{TrailAnswer}
+use Rattle.cell_commands.specs.declared.trail_checking.TrailAnswer.TheVariants.{Accepted, Misread, Rejected}
+
+-- the bytes are the text of a certificate that is accepted, with so many gaps, lemmas and filled gates
+pub record IsTextOf (inputs : Inputs) (bytes : List ℕ) (gaps lemmas filled : ℕ) (k : Kinds) : Type 0 where
+  pub trails : TrailCertificate
+  pub fits : TrailsFit k trails
+  pub text : bytes ≡ trails_text inputs.cell.name trails
+  pub accepted : IsAccepted inputs.fingers trails gaps
+  pub lemmas_are : lemmas ≡ length trails.lemmas
+  pub filled_are : filled ≡ length trails.fill
+
+-- The bytes are the text of the certificate, which is accepted and lists the row: an arrangement of the fingers, and
+-- no other has fewer gaps.
+pub record IsListed (inputs : Inputs) (bytes : List ℕ) (row : List Column) (trails : TrailCertificate) : Type 0 where
+  pub arranges : IsArrangement row inputs.fingers
+  pub least : IsLow inputs.fingers (gaps_of row)
+  pub text : bytes ≡ trails_text inputs.cell.name trails
+  pub listed : WithKinds inputs.fingers (λ k. IsCertified k inputs.fingers row trails)
+
+-- so it is for the kinds of the fingers
+abbrev pub IsTextOfAccepted : Inputs → List ℕ → ℕ → ℕ → ℕ → Type 0
+IsTextOfAccepted inputs bytes gaps lemmas filled = WithKinds inputs.fingers (IsTextOf inputs bytes gaps lemmas filled)
+
+-- with some counts
+abbrev pub HoldsAccepted : Inputs → List ℕ → Type 0
+HoldsAccepted inputs bytes =
+    (gaps : ℕ) × (lemmas : ℕ) × (filled : ℕ) × IsTextOfAccepted inputs bytes gaps lemmas filled
+
+-- they are the text of a certificate that is refused by this cause
+abbrev pub HoldsRefused : Inputs → List ℕ → TrailRefusal → Kinds → Type 0
+HoldsRefused inputs bytes cause k =
+    (trails : TrailCertificate)
+    × (trails_of bytes inputs.cell.name k ≡ Ok trails)
+    × Refuses inputs.fingers trails cause
+
+-- The bytes are the text of an accepted certificate that lists the row, and no arrangement of the fingers has fewer
+-- gaps; or they are no text of one, by the first place that is wrong; or the certificate is refused, by the first
+-- cause.
+abbrev pub Checks : Inputs → List ℕ → TrailAnswer → Type 0
+Checks inputs bytes (Accepted row gaps lemmas filled) =
+    IsLow inputs.fingers gaps
+    × IsTextOfAccepted inputs bytes gaps lemmas filled
+    × ((trails : TrailCertificate)
+    × IsListed inputs bytes row trails
+    × (lemmas ≡ length trails.lemmas)
+    × (filled ≡ length trails.fill))
+Checks inputs bytes (Misread f) =
+    (f ≢ misread.NoMemory)
+    × WithKinds inputs.fingers (λ k. trails_of bytes inputs.cell.name k ≡ Err f)
+    × (HoldsAccepted inputs bytes → ⊥)
+Checks inputs bytes (Rejected cause) =
+    (cause ≢ because.NoMemory)
+    × WithKinds inputs.fingers (HoldsRefused inputs bytes cause)
+    × (HoldsAccepted inputs bytes → ⊥)
+
+abbrev pub check_end : Inputs → TrailAnswer → End
+check_end inputs (Accepted row gaps lemmas filled) =
+    reports status.Done (row_text inputs.cell.name (columns_of inputs.fingers) gaps ++ counts_text lemmas filled)
+check_end inputs (Misread f) = reports status.Rejected (fault_line (codes "trails") (log_fault f))
+check_end inputs (Rejected cause) = reports status.Rejected (fault_line (codes "trails") (trail_fault cause))
+
+abbrev pub TrailChecksTo : Inputs → List ℕ → End → Type 0
+TrailChecksTo inputs bytes end =
+    (answer : TrailAnswer) × Checks inputs bytes answer × (end ≡ check_end inputs answer)

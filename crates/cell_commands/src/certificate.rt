@@ -1,0 +1,96 @@
+ghost use Rattle.std.specs.Prelude.{◌≡◌, ◌++◌, IfOk, codes, string_bytes};
+ghost use Rattle.bound_log.specs.Fits.{ForSome, IsLogName};
+ghost use Rattle.cell_commands.specs.Certificate.{CanBeWritten, lemma_count, row_evidence, trails_evidence};
+ghost use Rattle.cell_commands.specs.Evidence.{shown};
+ghost use Rattle.trail_log.specs.Fits.{TrailsFit};
+ghost use Rattle.trail_log.specs.Text.{trails_text};
+
+use crate::counts::put_counts;
+use crate::evidence::RowEvidence;
+use call_end::{Output, Stem};
+use cell_num::{Bytes, NoMemory};
+use log_output::{Content, KeptLog};
+use spice_net::Subckt;
+use std::alloc::Global;
+use trail_log::{TrailCertificate, write_trails};
+
+/// The evidence of a row, or of what a search proves.
+#[derive(Drop)]
+pub enum Certificate {
+    Log(KeptLog),
+    Trails(TrailCertificate),
+}
+
+// The file of a certificate by trails.
+fn trails_file(
+    alloc: Global,
+    cell: &Subckt,
+    stem: &Stem,
+    trails: &TrailCertificate,
+) -> Result<Output, NoMemory>
+    requires name { IsLogName cell.now.name }
+    requires fits { ForSome (λ k. TrailsFit k trails.now) }
+    ensures name { IfOk result (λ file. string_bytes file.name ≡ stem.now ++ codes ".ctrail") }
+    ensures bytes { IfOk result (λ file. file.bytes ≡ trails_text cell.now.name trails.now) }
+{
+    let name = stem.with(alloc, ".ctrail")?;
+    let text = write_trails(alloc, &cell.name, trails)?;
+    let bytes = Content::of_bytes(Bytes::from_vec(text));
+    Ok(Output { name, bytes })
+}
+
+fn trails_evidence(
+    alloc: Global,
+    cell: &Subckt,
+    stem: &Stem,
+    trails: &TrailCertificate,
+) -> Result<RowEvidence, NoMemory>
+    requires name { IsLogName cell.now.name }
+    requires fits { ForSome (λ k. TrailsFit k trails.now) }
+    ensures { IfOk result (λ evidence. shown evidence ≡ trails_evidence cell.now stem.now trails.now) }
+{
+    let mut counts = Bytes::new(alloc);
+    put_counts(
+        &mut counts,
+        trails.lemmas.len() as u64,
+        trails.fill.len() as u64,
+    )?;
+    let file = trails_file(alloc, cell, stem, trails)?;
+    Ok(RowEvidence {
+        file: Some(file),
+        counts,
+    })
+}
+
+/// The file of a certificate, and what the report of a drawn row says of it.
+pub(crate) fn row_evidence(
+    alloc: Global,
+    cell: &Subckt,
+    stem: &Stem,
+    certificate: Certificate,
+) -> Result<RowEvidence, NoMemory>
+    requires name { IsLogName cell.now.name }
+    requires fits { CanBeWritten certificate }
+    ensures { IfOk result (λ evidence. shown evidence ≡ row_evidence cell.now stem.now certificate) }
+{
+    match certificate {
+        Certificate::Log(log) => RowEvidence::of_log(alloc, cell, stem, log),
+        Certificate::Trails(trails) => {
+            let evidence = trails_evidence(alloc, cell, stem, &trails);
+            drop(trails);
+            evidence
+        }
+    }
+}
+
+impl Certificate {
+    /// How many lemmas it has.
+    pub(crate) fn lemmas(&self) -> u64
+        ensures { result ≡ lemma_count self.now }
+    {
+        match self {
+            Certificate::Log(log) => log.count(),
+            Certificate::Trails(trails) => trails.lemmas.len() as u64,
+        }
+    }
+}

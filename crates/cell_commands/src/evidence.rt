@@ -1,0 +1,78 @@
+ghost use Rattle.std.specs.Prelude.{◌≡◌, ◌++◌, IfOk, OnOk, codes, string_bytes};
+ghost use Rattle.bound_log.specs.Fits.{Fits, ForSome, IsLogName};
+ghost use Rattle.bound_log.specs.Text.{log_text};
+ghost use Rattle.call_end.specs.declared.status.Status.TheVariants as status;
+ghost use Rattle.call_end.specs.End.{reports};
+ghost use Rattle.cell_commands.specs.Evidence.{gate_text, shown};
+ghost use Rattle.cell_commands.specs.RowEnd.{log_evidence};
+
+use call_end::{End, Output, Status, Stem};
+use cell_num::{Bytes, NetNo, NoMemory, put_count, put_text};
+use log_output::{Content, KeptLog, LogText};
+use spice_net::Subckt;
+use std::alloc::Global;
+
+/// The evidence of a row: its file, where one is to be made, and what the report of a drawn row says of it.
+#[derive(Drop)]
+pub struct RowEvidence {
+    pub file: Option<Output>,
+    pub counts: Bytes,
+}
+
+/// The file of a log.
+pub(crate) fn log_file(
+    alloc: Global,
+    cell: &Subckt,
+    stem: &Stem,
+    log: KeptLog,
+) -> Result<Output, NoMemory>
+    requires name { IsLogName cell.now.name }
+    requires fits { ForSome (λ k. Fits k log) }
+    ensures name { IfOk result (λ file. string_bytes file.name ≡ stem.now ++ codes ".clog") }
+    ensures bytes { IfOk result (λ file. file.bytes ≡ log_text cell.now.name log) }
+{
+    let name = stem.with(alloc, ".clog")?;
+    let text = LogText::new(alloc, &cell.name, log)?;
+    let bytes = Content::of_log(alloc, text);
+    Ok(Output { name, bytes })
+}
+
+impl RowEvidence {
+    /// A log, in the file whose name ends with `.clog`.
+    pub fn of_log(
+        alloc: Global,
+        cell: &Subckt,
+        stem: &Stem,
+        log: KeptLog,
+    ) -> Result<RowEvidence, NoMemory>
+        requires name { IsLogName cell.now.name }
+        requires fits { ForSome (λ k. Fits k log) }
+        ensures { IfOk result (λ evidence. shown evidence ≡ log_evidence cell.now stem.now log) }
+    {
+        let mut counts = Bytes::new(alloc);
+        put_count(&mut counts, b"lemmas ", log.count())?;
+        let file = log_file(alloc, cell, stem, log)?;
+        Ok(RowEvidence {
+            file: Some(file),
+            counts,
+        })
+    }
+}
+
+fn put_gate(out: &mut Bytes, cell: &Subckt, gate: NetNo) -> Result<(), NoMemory>
+    ensures { OnOk result (out.new ≡ out.old ++ gate_text cell.now gate) }
+{
+    match cell.nets.get(gate.0 as usize) {
+        Some(name) => put_text(out, b"gate ", name.as_slice()),
+        None => put_text(out, b"gate ", b""),
+    }
+}
+
+/// The end of a search that meets a gate whose fingers pair in too many ways.
+pub(crate) fn too_many_pairings(alloc: Global, cell: &Subckt, gate: NetNo) -> Result<End, NoMemory>
+    ensures { IfOk result (λ end. end ≡ reports status.Unfinished (gate_text cell.now gate)) }
+{
+    let mut report = Status::Unfinished.report(alloc)?;
+    put_gate(&mut report, cell, gate)?;
+    Ok(End::says(alloc, Status::Unfinished, report))
+}

@@ -1,0 +1,237 @@
+ghost use Rattle.std.specs.Prelude.{◌≡◌, ◌≤◌, ◌<◌, [], ◌∷◌, ◌++◌, IfOk, codes, length, string_bytes};
+ghost use Rattle.call_end.specs.declared.status.Status.TheVariants as status;
+ghost use Rattle.call_end.specs.Status.{first_line};
+ghost use Rattle.cell_report.specs.Cells.{sizes_text};
+ghost use Rattle.cell_report.specs.Rows.{plan_text};
+ghost use Rattle.gds_read.specs.RoundTrip.{IsReadable};
+ghost use Rattle.gds_write.specs.Written.{written};
+ghost use Rattle.cell_make.specs.Making.{final_of};
+ghost use Rattle.cell_make.specs.Rows.{CanRowBeWritten, ComesFrom, row_answer};
+ghost use Rattle.lef_write.specs.Lef.{cell_text};
+ghost use Rattle.call_end.specs.End.{IsEnd, named};
+ghost use Rattle.call_end.specs.Files.{gds_file, lef_file};
+ghost use Rattle.cell_commands.specs.RowEnd.{IsDrawnEnd, IsRowEnd};
+ghost use Rattle.cell_commands.specs.Evidence.{evidence_files, shown};
+
+use crate::evidence::RowEvidence;
+use crate::make_report::drawn_report;
+use call_end::{End, Output, Status, Stem};
+use cell_draw::{Drawing, MOST_SHAPES};
+use cell_inputs::{Inputs, Style};
+use cell_make::{DrawOutcome, Drawn};
+use cell_num::{Bytes, NoMemory};
+use cell_report::{cycle_report, tall_report};
+use channel_route::Routing;
+use gds_write::write_cell;
+use lef_write::lef_text;
+use log_output::Content;
+use row_model::Arrangement;
+use spice_net::Subckt;
+use std::alloc::Global;
+
+fn gds_file(
+    alloc: Global,
+    cell: &Subckt,
+    stem: &Stem,
+    drawing: &Drawing,
+    unit_nm: u32,
+) -> Result<Output, NoMemory>
+    requires { IsReadable cell.now.name drawing.now.shapes unit_nm }
+    ensures name { IfOk result (λ file. string_bytes file.name ≡ stem.now ++ codes ".gds") }
+    ensures bytes { IfOk result (λ file. file.bytes ≡ written cell.now.name drawing.now.shapes unit_nm) }
+{
+    let name = stem.with(alloc, ".gds")?;
+    let library = write_cell(alloc, &cell.name, &drawing.shapes, unit_nm)?;
+    let bytes = Content::of_bytes(Bytes::from_vec(library));
+    Ok(Output { name, bytes })
+}
+
+fn lef_file(
+    alloc: Global,
+    cell: &Subckt,
+    stem: &Stem,
+    routing: &Routing,
+    drawing: &Drawing,
+    unit_nm: u32,
+) -> Result<Output, NoMemory>
+    requires pins { cell.now.pins.pins ≤ length cell.now.nets }
+    requires directions { length cell.now.directions ≡ cell.now.pins.pins }
+    requires few { length drawing.now.shapes.rects < MOST_SHAPES }
+    ensures name { IfOk result (λ file. string_bytes file.name ≡ stem.now ++ codes ".lef") }
+    ensures bytes { IfOk result (λ file. file.bytes ≡ cell_text cell.now routing.now drawing.now unit_nm) }
+{
+    let name = stem.with(alloc, ".lef")?;
+    let text = lef_text(alloc, cell, routing, drawing, unit_nm)?;
+    let bytes = Content::of_bytes(Bytes::from_vec(text));
+    Ok(Output { name, bytes })
+}
+
+// What is told of a drawn row beside its evidence.
+#[derive(Drop)]
+struct DrawnParts {
+    library: Output,
+    summary: Output,
+    report: Bytes,
+}
+
+// The files of a drawn row beside its evidence, and its report with these counts of that. Files are dropped by calls,
+// here and below: where one goes out of scope by itself, all its parts are proved at once, and that takes minutes.
+fn drawn_parts(
+    alloc: Global,
+    cell: &Subckt,
+    stem: &Stem,
+    row: &Arrangement,
+    counts: &Bytes,
+    routing: &Routing,
+    drawn: &Drawn,
+    unit_nm: u32,
+) -> Result<DrawnParts, NoMemory>
+    requires columns { length row.now ≤ 64 }
+    requires pins { cell.now.pins.pins ≤ length cell.now.nets }
+    requires directions { length cell.now.directions ≡ cell.now.pins.pins }
+    requires shapes { length drawn.now.drawing.shapes.rects < MOST_SHAPES }
+    requires readable { IsReadable cell.now.name (final_of drawn.now).shapes unit_nm }
+    ensures library { IfOk result (λ parts. named parts.library
+        ≡ gds_file stem.now (written cell.now.name (final_of drawn.now).shapes unit_nm)) }
+    ensures summary { IfOk result (λ parts. named parts.summary
+        ≡ lef_file stem.now (cell_text cell.now routing.now drawn.now.drawing unit_nm)) }
+    ensures report { IfOk result (λ parts. parts.report ≡ first_line status.Done
+        ++ plan_text cell.now.name cell.now.nets row.now
+        ++ sizes_text routing.now.tracks drawn.now.drawing.width drawn.now.drawing.height ++ counts.now) }
+{
+    let drawing = &drawn.drawing;
+    let report = drawn_report(alloc, cell, row, routing.tracks, drawing, counts)?;
+    let library = gds_file(alloc, cell, stem, drawn.final_drawing(), unit_nm)?;
+    match lef_file(alloc, cell, stem, routing, drawing, unit_nm) {
+        Ok(summary) => Ok(DrawnParts {
+            library,
+            summary,
+            report,
+        }),
+        Err(fault) => {
+            drop(library);
+            Err(fault)
+        }
+    }
+}
+
+// The end of a drawn row: the file of its evidence, where there is one, then its drawing, then its abstract.
+fn drawn_files(alloc: Global, file: Option<Output>, parts: DrawnParts) -> Result<End, NoMemory>
+    ensures { IfOk result (IsEnd status.Done (evidence_files file ++ named parts.library ∷ named parts.summary ∷ [])
+        parts.report) }
+{
+    match file {
+        Some(file) => End::makes_three(
+            alloc,
+            Status::Done,
+            file,
+            parts.library,
+            parts.summary,
+            parts.report,
+        ),
+        None => End::makes_two(
+            alloc,
+            Status::Done,
+            parts.library,
+            parts.summary,
+            parts.report,
+        ),
+    }
+}
+
+// The end of a drawn row; with taps where there are taps.
+fn with_drawing(
+    alloc: Global,
+    cell: &Subckt,
+    stem: &Stem,
+    row: &Arrangement,
+    evidence: RowEvidence,
+    routing: &Routing,
+    drawn: &Drawn,
+    unit_nm: u32,
+) -> Result<End, NoMemory>
+    requires columns { length row.now ≤ 64 }
+    requires pins { cell.now.pins.pins ≤ length cell.now.nets }
+    requires directions { length cell.now.directions ≡ cell.now.pins.pins }
+    requires shapes { length drawn.now.drawing.shapes.rects < MOST_SHAPES }
+    requires readable { IsReadable cell.now.name (final_of drawn.now).shapes unit_nm }
+    ensures { IfOk result (IsDrawnEnd cell.now stem.now row.now (shown evidence) routing.now drawn.now.drawing
+        (final_of drawn.now) unit_nm) }
+{
+    match drawn_parts(
+        alloc,
+        cell,
+        stem,
+        row,
+        &evidence.counts,
+        routing,
+        drawn,
+        unit_nm,
+    ) {
+        Ok(parts) => drawn_files(alloc, evidence.file, parts),
+        Err(fault) => {
+            drop(evidence);
+            Err(fault)
+        }
+    }
+}
+
+/// The end of a row that makes the file of its evidence alone, where there is one.
+pub(crate) fn evidence_end(
+    alloc: Global,
+    status: Status,
+    file: Option<Output>,
+    report: Bytes,
+) -> Result<End, NoMemory>
+    ensures { IfOk result (IsEnd status (evidence_files file) report) }
+{
+    match file {
+        Some(file) => End::makes_one(alloc, status, file, report),
+        None => Ok(End::says(alloc, status, report)),
+    }
+}
+
+/// The end of a row: its drawing; or its evidence alone, with a ring of its nets or a height that is not enough.
+pub(crate) fn row_end(
+    alloc: Global,
+    inputs: &Inputs,
+    stem: &Stem,
+    style: Style,
+    row: &Arrangement,
+    came: &DrawOutcome,
+    evidence: RowEvidence,
+) -> Result<End, NoMemory>
+    requires columns { length row.now ≤ 64 }
+    requires comes { ComesFrom style inputs.now row.now came.now }
+    requires written { CanRowBeWritten inputs.now came.now }
+    ensures { IfOk result (IsRowEnd style inputs.now stem.now row.now (shown evidence) (row_answer came.now)) }
+{
+    inputs.show_limits();
+    let cell = &inputs.cell;
+    match came {
+        DrawOutcome::Drawn { routing, drawn, .. } => with_drawing(
+            alloc,
+            cell,
+            stem,
+            row,
+            evidence,
+            routing,
+            drawn,
+            inputs.unit_nm(),
+        ),
+        DrawOutcome::Cyclic { ring, .. } => match cycle_report(alloc, &cell.nets, ring) {
+            Ok(report) => evidence_end(alloc, Status::Cycle, evidence.file, report),
+            Err(fault) => {
+                drop(evidence);
+                Err(fault)
+            }
+        },
+        DrawOutcome::Tall { needed, given, .. } => match tall_report(alloc, *needed, *given) {
+            Ok(report) => evidence_end(alloc, Status::TooTall, evidence.file, report),
+            Err(fault) => {
+                drop(evidence);
+                Err(fault)
+            }
+        },
+    }
+}

@@ -1,0 +1,77 @@
+ghost use Rattle.std.specs.Prelude.{IfOk};
+ghost use Rattle.call_words.specs.declared.evidence.Evidence.TheVariants.{Log, Trails};
+ghost use Rattle.cell_commands.specs.Searched.{IsSearched};
+
+use crate::certificate::Certificate;
+use call_words::Evidence;
+use cell_inputs::Inputs;
+use cell_make::Planned;
+use cell_num::{NetNo, NoMemory};
+use row_model::Arrangement;
+use std::alloc::Global;
+use trail_search::{TrailStop, search_trails};
+
+/// What a search for a row and its evidence comes to.
+#[derive(Drop)]
+pub enum Searched {
+    /// The first least row, and its evidence.
+    Found {
+        row: Arrangement,
+        certificate: Certificate,
+    },
+    /// The search spent its budget. The evidence proves that each row has at least `proved` gaps.
+    Open {
+        certificate: Certificate,
+        proved: u32,
+    },
+    /// The fingers of the gate pair in more ways than a checker lists.
+    Crowded {
+        gate: NetNo,
+    },
+}
+
+fn by_log(alloc: Global, inputs: &Inputs) -> Result<Searched, NoMemory>
+    ensures { IfOk result (IsSearched Log inputs.now) }
+{
+    match Planned::of(alloc, inputs)? {
+        Planned::Found { row, log } => Ok(Searched::Found {
+            row,
+            certificate: Certificate::Log(log),
+        }),
+        Planned::Unfinished { log, proved } => Ok(Searched::Open {
+            certificate: Certificate::Log(log),
+            proved,
+        }),
+    }
+}
+
+fn by_trails(alloc: Global, inputs: &Inputs) -> Result<Searched, NoMemory>
+    ensures { IfOk result (IsSearched Trails inputs.now) }
+{
+    inputs.show_limits();
+    match search_trails(alloc, &inputs.fingers, inputs.budget()) {
+        Ok(found) => Ok(Searched::Found {
+            row: found.row,
+            certificate: Certificate::Trails(found.trails),
+        }),
+        Err(TrailStop::Unfinished { trails, proved, .. }) => Ok(Searched::Open {
+            certificate: Certificate::Trails(trails),
+            proved,
+        }),
+        Err(TrailStop::Choices { gate }) => Ok(Searched::Crowded { gate }),
+        Err(TrailStop::NoMemory) => Err(NoMemory),
+    }
+}
+
+impl Searched {
+    /// The first least row of the fingers with such evidence; or what a search proves that spent its budget; or a gate
+    /// whose fingers pair in too many ways.
+    pub fn of(alloc: Global, inputs: &Inputs, evidence: Evidence) -> Result<Searched, NoMemory>
+        ensures { IfOk result (IsSearched evidence inputs.now) }
+    {
+        match evidence {
+            Evidence::Log => by_log(alloc, inputs),
+            Evidence::Trails => by_trails(alloc, inputs),
+        }
+    }
+}

@@ -1,0 +1,120 @@
+ghost use Rattle.std.specs.Prelude.{◌≡◌, ◌≢◌, ◌≤◌, IfOk, sum_by};
+ghost use Rattle.row_abut.specs.Faults.{first_height};
+ghost use Rattle.row_abut.specs.declared.cell.RowCell.{RowCell as ACell};
+ghost use Rattle.row_abut.specs.declared.cell.RowFault.TheVariants as row_fault;
+ghost use Rattle.cell_make.specs.Rowed.{ComesToRow};
+ghost use Rattle.cell_make.specs.RowSteps.{AreCellsOf};
+ghost use Rattle.cell_make.specs.declared.row_outcome.RowOutcome.TheVariants as outcome;
+
+use crate::row_cells::made_cells;
+use crate::row_inputs::RowInputs;
+use crate::row_stop::RowStop;
+use cell_inputs::Inputs;
+use cell_num::{Bytes, NoMemory};
+use channel_route::Ring;
+use finger_fold::FoldFault;
+use gds_write::write_library;
+use log_output::KeptLog;
+use row_abut::{RowCell, RowCellList, RowFault, abut};
+use spice_net::SpiceFault;
+use std::alloc::Global;
+
+/// Why a cell has no inputs.
+#[derive(Debug, Drop)]
+pub enum InputFault {
+    Spice(SpiceFault),
+    Fold(FoldFault),
+}
+
+/// Why a cell is not drawn.
+#[derive(Drop)]
+pub enum Undrawn {
+    /// Nets of its first least row stand above each other in a ring.
+    Cyclic { ring: Ring },
+    /// The given height is below the one that is needed.
+    Tall { needed: u32, given: u32 },
+    /// The search spent its budget.
+    Unfinished { log: KeptLog, proved: u32 },
+}
+
+/// What making a row of cells comes to.
+#[derive(Drop)]
+pub enum RowOutcome {
+    /// The library of the cells and of the row, and the row's size in grid units.
+    Rowed {
+        library: Bytes,
+        width: u32,
+        height: u32,
+    },
+    /// The first cell that is not made has no inputs.
+    Refused(InputFault),
+    /// The first cell that is not made has no drawing.
+    Stopped {
+        inputs: Inputs,
+        why: Undrawn,
+    },
+    /// The cells do not stand side by side.
+    Unabutted(RowFault),
+}
+
+fn width_of(cells: &[RowCell]) -> u32
+    requires { sum_by (λ (c : ACell). c.drawing.width) cells.now ≤ 2032256 }
+    ensures { result ≡ sum_by (λ (c : ACell). c.drawing.width) cells.now }
+{
+    let mut width = 0;
+    for cell in cells {
+        width += cell.drawing.width;
+    }
+    width
+}
+
+fn height_of(cells: &[RowCell]) -> u32
+    ensures { result ≡ first_height cells.now }
+{
+    match cells.first() {
+        Some(cell) => cell.drawing.height,
+        None => 0,
+    }
+}
+
+fn unabutted(fault: RowFault) -> Result<RowOutcome, NoMemory>
+    ensures { IfOk result (λ told. (fault ≢ row_fault.NoMemory) × (told ≡ outcome.Unabutted fault)) }
+{
+    match fault {
+        RowFault::NoMemory => Err(NoMemory),
+        fault => Ok(RowOutcome::Unabutted(fault)),
+    }
+}
+
+// The library of made cells, or why they do not stand side by side.
+fn side_by_side(alloc: Global, row: &RowInputs, cells: &RowCellList) -> Result<RowOutcome, NoMemory>
+    requires { AreCellsOf row.now row.now.names cells.now }
+    ensures { IfOk result (ComesToRow row.now) }
+{
+    row.show_limits();
+    match abut(alloc, &row.top, cells) {
+        Ok(structs) => {
+            let library = write_library(alloc, &structs, row.unit_nm())?;
+            Ok(RowOutcome::Rowed {
+                library: Bytes::from_vec(library),
+                width: width_of(cells.as_slice()),
+                height: height_of(cells.as_slice()),
+            })
+        }
+        Err(fault) => unabutted(fault),
+    }
+}
+
+impl RowOutcome {
+    /// The library of the cells side by side; or the first cell that is not made, and why; or why they do not stand so.
+    pub fn of(alloc: Global, row: &RowInputs) -> Result<RowOutcome, NoMemory>
+        ensures { IfOk result (ComesToRow row.now) }
+    {
+        match made_cells(alloc, row) {
+            Ok(cells) => side_by_side(alloc, row, &cells),
+            Err(RowStop::Refused(fault)) => Ok(RowOutcome::Refused(fault)),
+            Err(RowStop::Stopped { inputs, why }) => Ok(RowOutcome::Stopped { inputs, why }),
+            Err(RowStop::NoMemory) => Err(NoMemory),
+        }
+    }
+}

@@ -1,4 +1,0 @@
-use Rattle.fault_text.proofs.trail_faults.put_trail_refusal.Goals as goal
-
-pub returns-in-NotArrangement : goal.returns-in-NotArrangement
-returns-in-NotArrangement c = rw c.in-NotArrangement.is c.put_fault-in-NotArrangement.ensures

@@ -1,0 +1,3 @@
+pub mod Extracted
+pub mod Agreed
+pub mod RowEnds

@@ -1,0 +1,4 @@
+-- What contracts of public calls cite, and what these definitions stand on.
+pub mod Extract
+pub mod Agree
+pub mod Row

@@ -1,4 +1,0 @@
-mod RowEnds
-pub mod Logs
-pub mod MakeEnds
-pub mod Named

@@ -1,4 +1,0 @@
-pub mod Behind
-pub mod Path
-pub mod Whole
-pub mod Failing

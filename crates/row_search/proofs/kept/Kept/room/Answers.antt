@@ -1,5 +1,0 @@
-use Rattle.row_search.proofs.Keeping.{rooms_all}
-use Rattle.row_search.proofs.kept.Kept.room.Goals as goal
-
-pub returns : goal.returns
-returns c = rooms_all c.self.inside.kinds c.self.inside.packed c.args.self.now _ c.self.view_is c.in_ok-start.ensures.valid.p_kinds c.in_ok-start.ensures.valid.n_kinds

@@ -1,0 +1,34 @@
+-- Lemmas that are justified one after the other.
+use Rattle.std.proofs.Common.{ℕ, zero, suc, ◌≡◌, ◌+◌, ◌<◌, ◌≤◌, List, [], ◌∷◌, length, take, get_or, inl, inr, subst, arith, All, add-one}
+use Rattle.std.proofs.lemmas.List.{get_or_default}
+use Rattle.std.proofs.lemmas.List.Elements.{All-nil, All-more}
+use Rattle.std.proofs.lemmas.Bool.{cases_lt}
+use Rattle.cell_num.specs.declared.finger.Row.{Row}
+use Rattle.cell_num.specs.declared.net.Pins.{Pins}
+use Rattle.row_state.specs.declared.kind.Kinds.{Kinds}
+use Rattle.row_state.specs.declared.state.State.{State}
+use Rattle.track_lemmas.specs.declared.lemma.TrackLemma.{TrackLemma}
+use Rattle.track_lemmas.specs.Certificate.{IsJustified, IsValid}
+use Rattle.track_check.specs.Refusal.{AreJustifiedBelow}
+
+pub none_below : (value : Row → State → Kinds → ℕ) (pins : Pins) (limit : ℕ) (k : Kinds) (lemmas : List TrackLemma) → AreJustifiedBelow value pins limit k lemmas 0
+none_below value pins limit k lemmas i d below = absurd (omega (arith, below))
+
+pub below_more : (value : Row → State → Kinds → ℕ) (pins : Pins) (limit : ℕ) (k : Kinds) (lemmas : List TrackLemma) (n : ℕ) (e : TrackLemma) → n < length lemmas → AreJustifiedBelow value pins limit k lemmas n → IsJustified value pins limit k (take n lemmas) (get_or lemmas n e) → AreJustifiedBelow value pins limit k lemmas (n + 1)
+below_more value pins limit k lemmas n e within before here i d below =
+    elim (cases_lt i n) [
+      | inl less ↦ before i d less
+      | inr more ↦
+          let last : n ≡ i = omega (arith, more, below) in
+          subst (λ j. IsJustified value pins limit k (take j lemmas) (get_or lemmas j d)) last (subst (IsJustified value pins limit k (take n lemmas)) (get_or_default lemmas n e d within) here)
+    ]
+
+-- those before a place are valid
+pub valid_below : (value : Row → State → Kinds → ℕ) (pins : Pins) (limit : ℕ) (k : Kinds) (lemmas : List TrackLemma) (n : ℕ) → n ≤ length lemmas → AreJustifiedBelow value pins limit k lemmas n → All (IsValid pins k) (take n lemmas)
+valid_below value pins limit k lemmas zero within h = All-nil (IsValid pins k)
+valid_below value pins limit k [] (suc n) within h = absurd (omega (arith, within))
+valid_below value pins limit k (x ∷ xs) (suc n) within h =
+    let before : All (IsValid pins k) (take n (x ∷ xs)) = valid_below value pins limit k (x ∷ xs) n (omega (arith, within)) (λ i d below. h i d (omega (arith, below))) in
+    let at : n < length (x ∷ xs) = omega (arith, within) in
+    let here : IsJustified value pins limit k (take n (x ∷ xs)) (get_or (x ∷ xs) n x) = h n x (omega arith) in
+    subst (λ m. All (IsValid pins k) (take m (x ∷ xs))) (add-one n) (All-more (IsValid pins k) (x ∷ xs) n x at before here.valid)

@@ -1,0 +1,6 @@
+pub mod Around
+pub mod Certified
+pub mod Counting
+pub mod Failing
+pub mod Listed
+pub mod Loops

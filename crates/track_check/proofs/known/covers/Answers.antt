@@ -1,0 +1,15 @@
+use Rattle.std.proofs.Common.{arith}
+use Rattle.track_check.proofs.Loops.{no_from, not_both}
+use Rattle.track_check.proofs.known.covers.Goals as goal
+
+pub returns-then-not-is_same : goal.returns-then-not-is_same
+returns-then-not-is_same c = no_from (λ h. not_both c.is_same.result (c.is_same.ensures.1 h.state) c.if-not-is_same.true)
+
+pub returns-then-lemma-gaps : goal.returns-then-lemma-gaps
+returns-then-lemma-gaps c = no_from (λ h. absurd (omega (arith, h.enough, c.if-lemma-gaps.true)))
+
+pub returns : goal.returns
+returns c = (
+  λ e. record { state = c.is_same.ensures.0 c.if-not-is_same.false; enough = omega (arith, c.if-lemma-gaps.false); tracks = c.lists.ensures.0 e },
+  λ h. c.lists.ensures.1 h.tracks,
+)

@@ -1,0 +1,12 @@
+use Rattle.std.proofs.Common.{sym, ◌∙◌}
+use Rattle.track_check.proofs.Loops.{not_both, yes_from}
+use Rattle.track_check.proofs.lemma.end_fails.Goals as goal
+
+pub returns-then-has_fingers : goal.returns-then-has_fingers
+returns-then-has_fingers g c = yes_from (λ none. absurd (none ((c.has_fingers.ensures c.args.grounds.now.kinds.now c.requires.valid).0 c.if-has_fingers.true)))
+
+pub returns : goal.returns
+returns g c = (
+  λ e none. sym c.in_ok-ways.ensures ∙ c.is_empty.ensures.0 e,
+  λ h. c.is_empty.ensures.1 (c.in_ok-ways.ensures ∙ h (λ has. not_both c.has_fingers.result ((c.has_fingers.ensures c.args.grounds.now.kinds.now c.requires.valid).1 has) c.if-has_fingers.false)),
+)

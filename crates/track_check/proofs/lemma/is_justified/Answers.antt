@@ -1,0 +1,17 @@
+use Rattle.std.proofs.Common.{◌↔◌}
+use Rattle.track_lemmas.specs.Certificate.{IsJustified}
+use Rattle.track_lemmas.specs.Checked.{IsJustifiedListed}
+use Rattle.track_lemmas.proofs.Checked.{justified_decided}
+use Rattle.track_check.proofs.Loops.{no_from, not_both}
+use Rattle.track_check.proofs.lemma.is_justified.Goals as goal
+
+pub returns-then-not-is_state-clause-listed : goal.returns-then-not-is_state-clause-listed
+returns-then-not-is_state-clause-listed g c = no_from (λ j. not_both c.is_state.result (c.is_state.ensures.1 j.valid.state) c.if-not-is_state.true)
+
+pub returns-then-not-is_state-clause-justified : goal.returns-then-not-is_state-clause-justified
+returns-then-not-is_state-clause-justified g c = λ valid. no_from (λ j. not_both c.is_state.result (c.is_state.ensures.1 j.valid.state) c.if-not-is_state.true)
+
+pub returns-clause-justified : goal.returns-clause-justified
+returns-clause-justified g c = λ valid.
+    let d : IsJustified (g.B.RowBound.value c.args.grounds.now.bound.now) c.args.grounds.now.pins.now c.args.grounds.now.limit c.args.grounds.now.kinds.now c.args.earlier.now c.args.lemma.now ↔ IsJustifiedListed (g.B.RowBound.value c.args.grounds.now.bound.now) c.args.grounds.now.pins.now c.args.grounds.now.limit c.args.grounds.now.kinds.now c.args.earlier.now c.args.lemma.now = justified_decided (g.B.RowBound.value c.args.grounds.now.bound.now) c.args.grounds.now.pins.now c.args.grounds.now.limit c.args.grounds.now.kinds.now c.args.earlier.now c.args.lemma.now c.show_limits.ensures valid in
+    ((λ e. d.1 (c.in_ok-justified.ensures.0 e)), (λ j. c.in_ok-justified.ensures.1 (d.0 j)))

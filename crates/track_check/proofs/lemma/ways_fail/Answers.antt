@@ -1,0 +1,28 @@
+use Rattle.std.proofs.Common.{◌≡◌, ap, subst, ◌∙◌}
+use Rattle.row_state.specs.Start.{IsState}
+use Rattle.row_state.specs.Steps.{state_after}
+use Rattle.track_ways.specs.States.{is_still_ahead}
+use Rattle.track_lemmas.specs.Certificate.{NeedsMore}
+use Rattle.track_check.proofs.Failing.{known_fail, more_fail}
+use Rattle.track_check.proofs.Loops.{not_both, yes_from}
+use Rattle.track_check.proofs.lemma.ways_fail.Goals as goal
+
+pub returns-then-needs_more : goal.returns-then-needs_more
+returns-then-needs_more g c =
+    let after : c.in_ok-after.after.state ≡ state_after c.args.grounds.now.kinds.now c.args.lemma.now.state c.args.next.now.step = c.in_ok-after.ensures.state ∙ ap (λ s. state_after c.args.grounds.now.kinds.now s c.args.next.now.step) c.requires.state in
+    yes_from (more_fail (g.B.RowBound.value c.args.grounds.now.bound.now) c.args.grounds.now.pins.now c.args.grounds.now.limit c.args.grounds.now.kinds.now c.args.earlier.now c.args.lemma.now c.args.next.now.step c.args.left
+    (subst (λ s. NeedsMore (g.B.RowBound.value c.args.grounds.now.bound.now) c.args.grounds.now.kinds.now s c.args.left) after (c.needs_more.ensures.0 c.if-needs_more.true)))
+
+pub step_ways-requires : goal.step_ways-requires
+step_ways-requires g c =
+    let after : c.in_ok-after.after.state ≡ state_after c.args.grounds.now.kinds.now c.args.lemma.now.state c.args.next.now.step = c.in_ok-after.ensures.state ∙ ap (λ s. state_after c.args.grounds.now.kinds.now s c.args.next.now.step) c.requires.state in
+    record {
+      state = subst (IsState c.args.grounds.now.kinds.now) c.requires.state c.requires.numbered.valid;
+      before = c.requires.before;
+      behind = c.nets_ahead-ahead.ensures c.args.grounds.now.kinds.now c.in_ok-after.after.state c.touches-here.ensures.touches ∙ ap (is_still_ahead c.args.grounds.now.kinds.now) after;
+    }
+
+pub returns : goal.returns
+returns g c =
+    let after : c.in_ok-after.after.state ≡ state_after c.args.grounds.now.kinds.now c.args.lemma.now.state c.args.next.now.step = c.in_ok-after.ensures.state ∙ ap (λ s. state_after c.args.grounds.now.kinds.now s c.args.next.now.step) c.requires.state in
+    known_fail (g.B.RowBound.value c.args.grounds.now.bound.now) c.args.grounds.now.pins.now c.args.grounds.now.limit c.args.grounds.now.kinds.now c.args.earlier.now c.args.lemma.now c.args.next.now.step c.args.left c.in_ok-after.after.state c.as_slice.result.now c.are_covered.result after (c.as_slice.ensures ∙ c.in_ok-ways.ensures.ways) (λ more. not_both c.needs_more.result (c.needs_more.ensures.1 more) c.if-needs_more.false) c.are_covered.ensures

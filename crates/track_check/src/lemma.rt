@@ -1,0 +1,242 @@
+// Whether a lemma is justified by those before it.
+ghost use Rattle.std.specs.Prelude.{◌≡◌, ◌↔◌, [], All, IfOk, IsTrue, ℕ};
+ghost use Rattle.row_state.specs.declared.step.Step.{Step as StepOf};
+ghost use Rattle.row_state.specs.Candidates.{AreCandidates, IsCandidate, IsNumbered};
+ghost use Rattle.row_state.specs.Start.{HasFingers, IsState, start_of};
+ghost use Rattle.row_state.specs.Steps.{IsPossible};
+ghost use Rattle.track_ways.specs.States.{is_behind};
+ghost use Rattle.track_ways.specs.Tables.{marked};
+ghost use Rattle.track_ways.specs.Ways.{ends_ways};
+ghost use Rattle.track_lemmas.specs.Certificate.{IsJustified, IsValid};
+ghost use Rattle.track_lemmas.specs.Checked.{BranchesListed, IsJustifiedListed};
+ghost use Rattle.track_check.specs.Steps.{StepFailsListed, WaysFail};
+ghost use Rattle.track_check.specs.Touches.{AreTouches};
+
+use crate::known::are_covered;
+use crate::valid::is_valid;
+use crate::{needs_more, nets_ahead, state_nets, touches};
+use cell_num::{NoMemory, Pins};
+use row_state::{Candidate, Candidates, Kinds, Numbered, RowBound, State, has_fingers, is_state};
+use row_trails::NETS;
+use std::alloc::Global;
+use track_lemmas::TrackLemma;
+use track_ways::{TrackWays, last_ways, step_ways};
+
+/// What lemmas on tracks may rest on beside earlier ones: the cell, the number of tracks, all columns that may ever
+/// come next, the bound of a row, and how often the start state touches each net.
+#[derive(Clone, Copy)]
+pub struct TrackGrounds<'a, B> {
+    pub kinds: &'a Kinds,
+    pub pins: &'a Pins,
+    /// Tracks are numbered below it.
+    pub limit: u32,
+    pub candidates: &'a Candidates,
+    pub bound: &'a B,
+    pub all: &'a [u32; NETS],
+}
+
+// Whether all listed tracks after the column are refuted, with so many gaps left.
+fn ways_fail<B: RowBound>(
+    alloc: Global,
+    grounds: &TrackGrounds<B>,
+    earlier: &[TrackLemma],
+    lemma: &TrackLemma,
+    from: &Numbered,
+    before: &[bool; NETS],
+    next: &Candidate,
+    left: u32,
+) -> Result<bool, NoMemory>
+    requires numbered { IsNumbered grounds.now.kinds.now from.now }
+    requires state { from.now.state ≡ lemma.now.state }
+    requires before { marked before.now ≡ is_behind grounds.now.kinds.now lemma.now.state }
+    requires next { IsCandidate grounds.now.kinds.now next.now }
+    requires step { IsPossible grounds.now.kinds.now lemma.now.state next.now.step }
+    ensures { IfOk result (λ fail. IsTrue fail ↔ WaysFail (B.value grounds.now.bound.now) grounds.now.pins.now
+        grounds.now.limit grounds.now.kinds.now earlier.now lemma.now next.now.step left) }
+{
+    let kinds = grounds.kinds;
+    let after = from.behind(alloc, kinds, next)?;
+    if needs_more(grounds.bound, kinds, &after.state, left) {
+        return Ok(true);
+    }
+    let here = touches(kinds, &after.state);
+    let ahead = nets_ahead(&here);
+    let ways = step_ways(
+        alloc,
+        grounds.pins,
+        grounds.limit,
+        kinds,
+        &lemma.state,
+        before,
+        &next.step,
+        &ahead,
+        &lemma.tracks,
+    )?;
+    Ok(are_covered(earlier, &after.state, left, ways.as_slice()))
+}
+
+// Whether the column leaves the lemma justified.
+fn step_fails<B: RowBound>(
+    alloc: Global,
+    grounds: &TrackGrounds<B>,
+    earlier: &[TrackLemma],
+    lemma: &TrackLemma,
+    from: &Numbered,
+    before: &[bool; NETS],
+    next: &Candidate,
+) -> Result<bool, NoMemory>
+    requires numbered { IsNumbered grounds.now.kinds.now from.now }
+    requires state { from.now.state ≡ lemma.now.state }
+    requires before { marked before.now ≡ is_behind grounds.now.kinds.now lemma.now.state }
+    requires next { IsCandidate grounds.now.kinds.now next.now }
+    ensures { IfOk result (λ fails. IsTrue fails ↔ StepFailsListed (B.value grounds.now.bound.now) grounds.now.pins.now
+        grounds.now.limit grounds.now.kinds.now earlier.now lemma.now next.now.step) }
+{
+    if !from.allows(grounds.kinds, next) {
+        return Ok(true);
+    }
+    let cost = from.cost(next);
+    if lemma.gaps < cost {
+        return Ok(true);
+    }
+    let left = lemma.gaps - cost;
+    let fail = ways_fail(alloc, grounds, earlier, lemma, from, before, next, left)?;
+    Ok(fail)
+}
+
+#[tactic(auto, using(crate::proofs::Failing::candidate_is))]
+fn steps_fail<B: RowBound>(
+    alloc: Global,
+    grounds: &TrackGrounds<B>,
+    earlier: &[TrackLemma],
+    lemma: &TrackLemma,
+    from: &Numbered,
+    before: &[bool; NETS],
+) -> Result<bool, NoMemory>
+    requires candidates { AreCandidates grounds.now.kinds.now grounds.now.candidates.now }
+    requires numbered { IsNumbered grounds.now.kinds.now from.now }
+    requires state { from.now.state ≡ lemma.now.state }
+    requires before { marked before.now ≡ is_behind grounds.now.kinds.now lemma.now.state }
+    ensures { IfOk result (λ fail. IsTrue fail ↔ ((step : StepOf) → StepFailsListed (B.value grounds.now.bound.now)
+        grounds.now.pins.now grounds.now.limit grounds.now.kinds.now earlier.now lemma.now step)) }
+{
+    for next in grounds.candidates.as_slice() {
+        if !step_fails(alloc, grounds, earlier, lemma, from, before, next)? {
+            return Ok(false);
+        }
+    }
+    Ok(true)
+}
+
+#[tactic(auto, using(crate::proofs::Failing::no_ways))]
+fn is_empty(ways: &TrackWays) -> bool
+    ensures { IsTrue result ↔ (ways.now ≡ []) }
+{
+    ways.len() == 0
+}
+
+// Whether a finger is left, or no tracks go through the last line.
+fn end_fails<B: RowBound>(
+    alloc: Global,
+    grounds: &TrackGrounds<B>,
+    lemma: &TrackLemma,
+    before: &[bool; NETS],
+) -> Result<bool, NoMemory>
+    requires valid { IsState grounds.now.kinds.now lemma.now.state }
+    requires before { marked before.now ≡ is_behind grounds.now.kinds.now lemma.now.state }
+    ensures { IfOk result (λ fails. IsTrue fails ↔ ((HasFingers grounds.now.kinds.now lemma.now.state → ⊥)
+        → ends_ways grounds.now.pins.now grounds.now.limit grounds.now.kinds.now lemma.now.state lemma.now.tracks
+        ≡ [])) }
+{
+    if has_fingers(&lemma.state) {
+        return Ok(true);
+    }
+    let ways = last_ways(
+        alloc,
+        grounds.pins,
+        grounds.limit,
+        grounds.kinds,
+        &lemma.state,
+        before,
+        &lemma.tracks,
+    )?;
+    Ok(is_empty(&ways))
+}
+
+fn copied(state: &State) -> Result<State, NoMemory>
+    ensures { IfOk result (λ copy. copy ≡ state.now) }
+{
+    Ok(state.clone()?)
+}
+
+// Whether each next column leaves the lemma justified, and the end of a row does.
+fn branches<B: RowBound>(
+    alloc: Global,
+    grounds: &TrackGrounds<B>,
+    earlier: &[TrackLemma],
+    lemma: &TrackLemma,
+    before: &[bool; NETS],
+) -> Result<bool, NoMemory>
+    requires candidates { AreCandidates grounds.now.kinds.now grounds.now.candidates.now }
+    requires valid { IsState grounds.now.kinds.now lemma.now.state }
+    requires before { marked before.now ≡ is_behind grounds.now.kinds.now lemma.now.state }
+    ensures { IfOk result (λ fail. IsTrue fail ↔ BranchesListed (B.value grounds.now.bound.now) grounds.now.pins.now
+        grounds.now.limit grounds.now.kinds.now earlier.now lemma.now) }
+{
+    if !end_fails(alloc, grounds, lemma, before)? {
+        return Ok(false);
+    }
+    let state = copied(&lemma.state)?;
+    let from = Numbered::new(state, grounds.kinds);
+    let fail = steps_fail(alloc, grounds, earlier, lemma, &from, before)?;
+    Ok(fail)
+}
+
+// Whether the lemma of a valid state is justified.
+fn is_justified_at<B: RowBound>(
+    alloc: Global,
+    grounds: &TrackGrounds<B>,
+    earlier: &[TrackLemma],
+    lemma: &TrackLemma,
+) -> Result<bool, NoMemory>
+    requires candidates { AreCandidates grounds.now.kinds.now grounds.now.candidates.now }
+    requires all { AreTouches grounds.now.kinds.now (start_of grounds.now.kinds.now) grounds.now.all.now }
+    requires valid { IsState grounds.now.kinds.now lemma.now.state }
+    ensures { IfOk result (λ yes. IsTrue yes ↔ IsJustifiedListed (B.value grounds.now.bound.now) grounds.now.pins.now
+        grounds.now.limit grounds.now.kinds.now earlier.now lemma.now) }
+{
+    let kinds = grounds.kinds;
+    let here = touches(kinds, &lemma.state);
+    if !is_valid(grounds.pins, kinds, grounds.all, &here, lemma) {
+        return Ok(false);
+    }
+    if needs_more(grounds.bound, kinds, &lemma.state, lemma.gaps) {
+        return Ok(true);
+    }
+    let nets = state_nets(grounds.all, &here);
+    let fail = branches(alloc, grounds, earlier, lemma, &nets.before)?;
+    Ok(fail)
+}
+
+/// Whether the lemma is justified by the earlier ones.
+pub fn is_justified<B: RowBound>(
+    alloc: Global,
+    grounds: &TrackGrounds<B>,
+    earlier: &[TrackLemma],
+    lemma: &TrackLemma,
+) -> Result<bool, NoMemory>
+    requires candidates { AreCandidates grounds.now.kinds.now grounds.now.candidates.now }
+    requires all { AreTouches grounds.now.kinds.now (start_of grounds.now.kinds.now) grounds.now.all.now }
+    ensures listed { IfOk result (λ yes. IsTrue yes ↔ IsJustifiedListed (B.value grounds.now.bound.now)
+        grounds.now.pins.now grounds.now.limit grounds.now.kinds.now earlier.now lemma.now) }
+    ensures justified { IfOk result (λ yes. All (IsValid grounds.now.pins.now grounds.now.kinds.now) earlier.now →
+        (IsTrue yes ↔ IsJustified (B.value grounds.now.bound.now)
+        grounds.now.pins.now grounds.now.limit grounds.now.kinds.now earlier.now lemma.now)) }
+{
+    grounds.kinds.show_limits();
+    if !is_state(&lemma.state, grounds.kinds) {
+        return Ok(false);
+    }
+    let justified = is_justified_at(alloc, grounds, earlier, lemma)?;
+    Ok(justified)
+}

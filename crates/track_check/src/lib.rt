@@ -1,0 +1,18 @@
+// A checker of certificates of tracks: whether a lemma is justified by those before it, and whether a list of lemmas
+// shows that each row with so many gaps needs more tracks.
+#![tactic(auto)]
+
+pub mod check;
+pub mod counts;
+pub mod known;
+pub mod lemma;
+pub mod nets;
+mod refused;
+mod valid;
+
+pub use check::check_tracks;
+pub use counts::touches;
+pub use known::{covers, needs_more};
+pub use lemma::{TrackGrounds, is_justified};
+pub use nets::{StateNets, ends_fit, nets_ahead, state_nets};
+pub use refused::TracksRefused;

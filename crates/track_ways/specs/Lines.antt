@@ -1,0 +1,85 @@
+-- A channel line by line: the nets with places at a line, the trunks that hold it, and tracks for them.
+use Rattle.std.specs.Prelude.{ℕ, ◌≡◌, ◌≢◌, ◌<◌, ◌&&◌, ◌||◌, ◌==◌, ltb, not, cond, Bool, true, false}
+use Rattle.std.specs.Prelude.{List, [], ◌∷◌, Option, Some, None}
+use Rattle.cell_num.specs.declared.net.NetNo.{NetNo}
+use Rattle.cell_num.specs.declared.net.Pins.{Pins}
+use Rattle.track_ways.specs.declared.line.Line.{Line}
+
+abbrev pub is_net : Option NetNo → NetNo → Bool
+is_net None net = false
+is_net (Some x) net = x.0 == net.0
+
+abbrev pub has_place : Line → NetNo → Bool
+has_place line net = is_net line.p net || (is_net line.n net || is_net line.gate net)
+
+-- the net has places in both rows at the line
+abbrev pub is_twice : Line → NetNo → Bool
+is_twice line net = is_net line.p net && is_net line.n net
+
+-- a place at one of the lines
+abbrev pub is_ahead : List Line → NetNo → Bool
+is_ahead [] net = false
+is_ahead (line ∷ lines) net = has_place line net || is_ahead lines net
+
+-- the nets with a place so far, and those of one more line
+abbrev pub with_line : (NetNo → Bool) → Line → NetNo → Bool
+with_line before line net = before net || has_place line net
+
+abbrev pub is_rail : Pins → NetNo → Bool
+is_rail pins net = (net.0 == pins.vdd.0) || (net.0 == pins.gnd.0)
+
+-- Open between two lines: the net has a place before and one behind, so a trunk of it goes through.
+abbrev pub is_open : Pins → (NetNo → Bool) → (NetNo → Bool) → NetNo → Bool
+is_open pins before behind net = not (is_rail pins net) && (before net && behind net)
+
+-- a net with a place at the line has a trunk: it has another place, or is a pin
+abbrev pub begins_or_ends : Pins → (NetNo → Bool) → Line → (NetNo → Bool) → NetNo → Bool
+begins_or_ends pins before line behind net =
+    has_place line net && (before net || (behind net || (is_twice line net || ltb net.0 pins.pins)))
+
+-- a trunk of the net holds the line
+abbrev pub is_held : Pins → (NetNo → Bool) → Line → (NetNo → Bool) → NetNo → Bool
+is_held pins before line behind net =
+    not (is_rail pins net) && ((before net && behind net) || begins_or_ends pins before line behind net)
+
+-- Tracks below a limit for the nets whose trunks hold a line: different nets have different ones, and the
+-- net in the P row has a higher one than the net in the N row.
+pub record LineFits
+    (pins : Pins) (limit : ℕ) (track : NetNo → ℕ) (before : NetNo → Bool) (line : Line) (behind : NetNo → Bool)
+    : Type 0 where
+  pub low : (net : NetNo) → is_held pins before line behind net ≡ true → track net < limit
+  pub apart : (a b : NetNo)
+      → is_held pins before line behind a ≡ true → is_held pins before line behind b ≡ true → track a ≡ track b → a ≡ b
+  pub above : (upper lower : NetNo) → line.p ≡ Some upper → line.n ≡ Some lower → upper ≢ lower
+      → is_held pins before line behind upper ≡ true → is_held pins before line behind lower ≡ true
+      → track lower < track upper
+
+-- one track for each net fits every line
+abbrev pub Fits : Pins → ℕ → (NetNo → ℕ) → (NetNo → Bool) → List Line → Type 0
+Fits pins limit track before [] = Unit {0}
+Fits pins limit track before (line ∷ rest) =
+    LineFits pins limit track before line (is_ahead rest) × Fits pins limit track (with_line before line) rest
+
+-- the tracks are the same for each net that is open
+abbrev pub Agrees : Pins → (NetNo → Bool) → (NetNo → Bool) → (NetNo → ℕ) → (NetNo → ℕ) → Type 0
+Agrees pins before behind a b = (net : NetNo) → is_open pins before behind net ≡ true → b net ≡ a net
+
+-- tracks line by line, each as those of the line before for the nets that are open between the two
+abbrev pub Sweeps : Pins → ℕ → (NetNo → Bool) → (NetNo → ℕ) → List Line → Type 0
+Sweeps pins limit before track [] = Unit {0}
+Sweeps pins limit before track (line ∷ rest) =
+    (next : NetNo → ℕ) × Agrees pins before (is_ahead (line ∷ rest)) track next
+    × LineFits pins limit next before line (is_ahead rest) × Sweeps pins limit (with_line before line) next rest
+
+-- The same through some lines, from tracks before them to tracks behind them; `behind` has the nets with a place behind
+-- them.
+abbrev pub Passes : Pins → ℕ → (NetNo → Bool) → (NetNo → ℕ) → List Line → (NetNo → Bool) → (NetNo → ℕ) → Type 0
+Passes pins limit before track [] behind last = Agrees pins before behind track last
+Passes pins limit before track (line ∷ rest) behind last =
+    (next : NetNo → ℕ) × Agrees pins before (λ net. is_ahead (line ∷ rest) net || behind net) track next
+    × LineFits pins limit next before line (λ net. is_ahead rest net || behind net)
+    × Passes pins limit (with_line before line) next rest behind last
+
+-- the tracks before a line, with those that `next` gives the nets with a place at it
+abbrev pub chosen : Line → (NetNo → ℕ) → (NetNo → ℕ) → NetNo → ℕ
+chosen line next track net = cond (has_place line net) (next net) (track net)

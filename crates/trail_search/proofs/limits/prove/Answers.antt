@@ -1,0 +1,48 @@
+use Rattle.std.proofs.Common.{ℕ, ◌+◌, List, None, ap, arith, length, refl, subst, sym, ◌∙◌}
+use Rattle.cell_num.specs.declared.net.NetNo.{NetNo}
+use Rattle.trail_state.specs.Levels.{AreLevels}
+use Rattle.trail_check.specs.Gates.{first_with_many}
+use Rattle.trail_check.specs.Justified.{ends_proved, gaps_proved}
+use Rattle.trail_check.specs.Leveled.{levels_of}
+use Rattle.trail_search.proofs.Ends.{most_is}
+use Rattle.trail_search.proofs.Proved.{are_chained, as_many, is_proof, none_kept}
+use Rattle.trail_search.proofs.Tied.{spent_is}
+use Rattle.trail_search.proofs.limits.prove.Goals as goal
+
+pub refute_limits-requires-clause-kept : goal.refute_limits-requires-clause-kept
+refute_limits-requires-clause-kept c = none_kept c.in_ok-levels.levels c.new-kept.result c.new-kept.ensures.lemmas c.new-kept.ensures.lines c.new-kept.ensures.indexed
+
+pub returns-then-whole-clause-proof : goal.returns-then-whole-clause-proof
+returns-then-whole-clause-proof c =
+    is_proof c.args.fingers.now (record { trails = record { fill = c.in_ok-fill.fill; order = c.in_ok-order.order; lemmas = c.refute_limits.new.kept.lines; best = None }; gaps = c.gaps.result }) c.in_ok-levels.levels c.refute_limits.new.kept c.requires.fingers c.in_ok-order.ensures
+    (sym (c.in_ok-crowded.ensures ∙ ap (first_with_many c.args.fingers.now) c.as_slice.ensures) ∙ c.in_default.is)
+    (subst (λ (gs : List NetNo). AreLevels c.args.fingers.now gs c.in_ok-levels.levels) c.as_slice-2.ensures c.in_ok-levels.ensures.are)
+    (c.in_ok-levels.ensures.is ∙ ap (levels_of c.args.fingers.now) c.as_slice-2.ensures)
+    c.in_ok-whole.ensures.further.kept c.in_ok-fill.ensures refl refl c.gaps.ensures
+
+pub refute_limits-requires-clause-chained : goal.refute_limits-requires-clause-chained
+refute_limits-requires-clause-chained c = are_chained c.args.fingers.now c.in_ok-order.order c.in_ok-levels.levels c.requires.fingers (subst (λ (gs : List NetNo). AreLevels c.args.fingers.now gs c.in_ok-levels.levels) c.as_slice-2.ensures c.in_ok-levels.ensures.are)
+
+pub returns-then-whole-clause-most : goal.returns-then-whole-clause-most
+returns-then-whole-clause-most c = λ few.
+    most_is c.args.fingers.now c.in_ok-order.order c.in_ok-levels.levels c.gaps.result (gaps_proved (ends_proved c.refute_limits.new.kept.lemmas)) (c.in_ok-levels.ensures.is ∙ ap (levels_of c.args.fingers.now) c.as_slice-2.ensures) c.gaps.ensures
+    (c.in_ok-whole.ensures.most c.if-whole.true (omega (arith, few, c.gaps.ensures)))
+
+pub returns-then-whole-clause-nodes : goal.returns-then-whole-clause-nodes
+returns-then-whole-clause-nodes c =
+    spent_is c.in_ok-levels.levels (record { fill = c.in_ok-fill.fill; order = c.in_ok-order.order; lemmas = c.refute_limits.new.kept.lines; best = None }) c.new-kept.result c.refute_limits.new.kept c.args.left.now c.refute_limits.new.left (length c.in_ok-levels.levels + 1) (length c.in_ok-order.order + 1) c.in_ok-whole.ensures.further.kept refl c.new-kept.ensures.lemmas
+    (ap (λ (n : ℕ). n + 1) (as_many c.args.fingers.now c.in_ok-order.order c.in_ok-levels.levels (subst (λ (gs : List NetNo). AreLevels c.args.fingers.now gs c.in_ok-levels.levels) c.as_slice-2.ensures c.in_ok-levels.ensures.are)))
+    c.in_ok-whole.ensures.path
+
+pub returns-clause-stopped : goal.returns-clause-stopped
+returns-clause-stopped c = record {
+  none = c.in_ok-whole.ensures.spent c.if-whole.false;
+  proved = is_proof c.args.fingers.now (record { trails = record { fill = c.in_ok-fill.fill; order = c.in_ok-order.order; lemmas = c.refute_limits.new.kept.lines; best = None }; gaps = c.gaps.result }) c.in_ok-levels.levels c.refute_limits.new.kept c.requires.fingers c.in_ok-order.ensures
+      (sym (c.in_ok-crowded.ensures ∙ ap (first_with_many c.args.fingers.now) c.as_slice.ensures) ∙ c.in_default.is)
+      (subst (λ (gs : List NetNo). AreLevels c.args.fingers.now gs c.in_ok-levels.levels) c.as_slice-2.ensures c.in_ok-levels.ensures.are)
+      (c.in_ok-levels.ensures.is ∙ ap (levels_of c.args.fingers.now) c.as_slice-2.ensures)
+      c.in_ok-whole.ensures.further.kept c.in_ok-fill.ensures refl refl c.gaps.ensures;
+  nodes = spent_is c.in_ok-levels.levels (record { fill = c.in_ok-fill.fill; order = c.in_ok-order.order; lemmas = c.refute_limits.new.kept.lines; best = None }) c.new-kept.result c.refute_limits.new.kept c.args.left.now c.refute_limits.new.left (length c.in_ok-levels.levels) (length c.in_ok-order.order) c.in_ok-whole.ensures.further.kept refl c.new-kept.ensures.lemmas
+      (as_many c.args.fingers.now c.in_ok-order.order c.in_ok-levels.levels (subst (λ (gs : List NetNo). AreLevels c.args.fingers.now gs c.in_ok-levels.levels) c.as_slice-2.ensures c.in_ok-levels.ensures.are))
+      (c.in_ok-whole.ensures.spent_path c.if-whole.false);
+}

@@ -1,0 +1,17 @@
+use Rattle.std.proofs.Common.{◌+◌, ◌*◌, ◌<◌, arith}
+use Rattle.trail_check.specs.Justified.{ends_proved, gaps_proved}
+use Rattle.trail_search.specs.Search.{AreTied}
+use Rattle.trail_search.proofs.Ends.{limit_most, refutes}
+use Rattle.trail_search.proofs.Grown.{further_then}
+use Rattle.trail_search.proofs.New.{fewer_more}
+use Rattle.trail_search.proofs.limits.refute_limits.Goals as goal
+
+pub returns-in-Ok-true-clause-most : goal.returns-in-Ok-true-clause-most
+returns-in-Ok-true-clause-most c =
+    λ _ _. limit_most c.args.levels.now c.loop-limit.kept c.visit.new.kept c.new-start.result c.loop-limit.limit c.most_ends.result c.in-Ok-true.ensures.further c.loop-limit.invariant.3 c.new-start.ensures c.most_ends.ensures (c.in-Ok-true.ensures.found c.in-Ok-true.field-0-test)
+
+pub loop-limit-preserved : goal.loop-limit-preserved
+loop-limit-preserved c =
+    let above : c.loop-limit.limit < gaps_proved (ends_proved c.visit.new.kept.lemmas) = refutes c.visit.new.kept.lemmas c.new-start.result c.loop-limit.limit c.most_ends.result c.new-start.ensures c.most_ends.ensures (c.in-Ok-false.ensures.failed c.in-Ok-false.field-0-test) in
+    let each : AreTied c.loop-limit.kept c.visit.new.kept c.loop-limit.left c.visit.new.left 0 = c.in-Ok-false.ensures.each c.in-Ok-false.field-0-test in
+    (further_then c.args.levels.now c.args.kept.now c.loop-limit.kept c.visit.new.kept c.loop-limit.invariant.0 c.in-Ok-false.ensures.further, omega (arith, c.in-Ok-false.ensures.left, c.loop-limit.invariant.1), omega (arith, c.loop-limit.invariant.2, each.few, each.many), omega (arith, above), fewer_more (2 * (c.loop-limit.limit + 1)) (c.most_ends.result + 1) (2 * (c.loop-limit.limit + 1 + 1)) c.loop-limit.kept c.visit.new.kept (omega arith) (omega (arith, c.most_ends.ensures)) c.loop-limit.invariant.4 c.in-Ok-false.ensures.others)

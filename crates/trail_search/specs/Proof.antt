@@ -1,0 +1,108 @@
+-- What lemmas prove of every arrangement of some fingers, and how the search for them ends.
+use Rattle.std.specs.Prelude.{ℕ, ◌≡◌, ◌≤◌, ◌+◌, ◌*◌, ◌==◌, ◌⊎◌, Bool, true, not, List, [], None, length, map}
+use Rattle.std.specs.List.{filter, range_with_len}
+use Rattle.cell_num.specs.declared.net.NetNo.{NetNo}
+use Rattle.cell_num.specs.declared.finger.Fingers.{Fingers}
+use Rattle.cell_num.specs.Fingers.{on_gate}
+use Rattle.row_model.specs.declared.column.Column.{Column}
+use Rattle.row_model.specs.Arrangement.{IsArrangement}
+use Rattle.row_model.specs.Gaps.{gaps_of}
+use Rattle.row_state.specs.declared.kind.Kinds.{Kinds}
+use Rattle.trail_log.specs.declared.trails.TrailCertificate.{TrailCertificate}
+use Rattle.trail_log.specs.Fits.{TrailsFit}
+use Rattle.trail_state.specs.Levels.{Ends, IsOrder}
+use Rattle.trail_check.specs.Accepted.{first_unproved, least_gaps}
+use Rattle.trail_check.specs.declared.lemma.TrailLemma.{TrailLemma}
+use Rattle.trail_check.specs.Gates.{AreGates, first_with_many, has_many_ways}
+use Rattle.trail_check.specs.Justified.{unproved}
+use Rattle.trail_check.specs.Leveled.{levels_of}
+use Rattle.trail_check.specs.Listed.{lemmas_listed}
+use Rattle.trail_search.specs.Search.{AreNew}
+use Rattle.trail_search.specs.declared.proof.RefuteStop.{RefuteStop}
+use Rattle.trail_search.specs.declared.proof.RefuteStop.TheVariants as ended
+use Rattle.trail_search.specs.declared.proof.Proof.{Proof}
+use Rattle.trail_search.specs.declared.proof.ProveStop.{ProveStop}
+use Rattle.trail_search.specs.declared.proof.ProveStop.TheVariants as stopped
+
+-- more fingers of the gate in one row than in the other
+abbrev pub is_uneven : Fingers → ℕ → Bool
+is_uneven f gate = not (on_gate gate f.p == on_gate gate f.n)
+
+-- the gates with half columns, in the order of their numbers
+abbrev pub uneven_gates : Fingers → List NetNo
+uneven_gates f = map (λ g. record { 0 = g }) (filter (is_uneven f) (range_with_len 0 f.nets))
+
+-- A certificate that is accepted but for a row, which it does not list; and what its lemmas prove of every row. They
+-- are new, each of them. A text can hold it.
+pub record IsProof (f : Fingers) (proof : Proof) : Type 0 where
+  pub gates : AreGates f proof.trails
+  pub few_ways : first_with_many f proof.trails.order ≡ None
+  pub justified : first_unproved f proof.trails ≡ None
+  pub new : AreNew (levels_of f proof.trails.order) (lemmas_listed (levels_of f proof.trails.order) proof.trails.lemmas)
+  pub rowless : proof.trails.best ≡ None
+  pub fill : proof.trails.fill ≡ uneven_gates f
+  pub gaps : proof.gaps ≡ least_gaps f proof.trails
+  pub least : (row : List Column) → IsArrangement row f → proof.gaps ≤ gaps_of row
+  pub fits : (k : Kinds) → k.nets ≡ f.nets → TrailsFit k proof.trails
+
+-- Some choices along the order come to no more ends than a row of so many gaps has. So no lemmas in this order prove
+-- more gaps.
+abbrev pub IsMost : Fingers → List NetNo → ℕ → Type 0
+IsMost f order gaps = Ends (levels_of f order) [] (2 * (gaps + 1) + 1) → ⊥
+
+-- so it is in some order of the gates
+abbrev pub HasMost : Fingers → ℕ → Type 0
+HasMost f gaps = (order : List NetNo) × IsOrder f order × IsMost f order gaps
+
+-- of the nodes that were left a search took one for each lemma, and at most so many others
+pub record AreSpent (left left_after others : ℕ) (trails : TrailCertificate) : Type 0 where
+  pub few : left_after + length trails.lemmas ≤ left
+  pub many : left ≤ left_after + length trails.lemmas + others
+
+-- No node is left, and so much is proved: each node but one for each gate at most went for a lemma.
+pub record IsUnfinished (f : Fingers) (left left_after : ℕ) (proof : Proof) : Type 0 where
+  pub none : left_after ≡ 0
+  pub proved : IsProof f proof
+  pub nodes : AreSpent left left_after (length proof.trails.order) proof.trails
+
+-- lemmas over an order of the gates
+pub record Attempt : Type 0 where
+  pub order : List NetNo
+  pub lemmas : List TrailLemma
+
+-- each lemma is justified by those before it, and new
+pub record IsAttempt (f : Fingers) (a : Attempt) : Type 0 where
+  pub order : IsOrder f a.order
+  pub justified : unproved (levels_of f a.order) [] 5 a.lemmas ≡ None
+  pub new : AreNew (levels_of f a.order) a.lemmas
+
+-- a node for each lemma, and at most one for each gate and one at the end
+abbrev pub most_nodes : Attempt → ℕ
+most_nodes a = length a.lemmas + length a.order + 1
+
+-- the nodes went for the lemmas of an attempt
+pub record HasAttempted (f : Fingers) (left left_after : ℕ) : Type 0 where
+  pub attempt : Attempt
+  pub is : IsAttempt f attempt
+  pub many : left ≤ left_after + most_nodes attempt
+
+-- so they went, if any did
+abbrev pub AttemptsOnce : Fingers → ℕ → ℕ → Type 0
+AttemptsOnce f left left_after = (left_after ≡ left) ⊎ HasAttempted f left left_after
+
+-- so it is but where the memory ends
+abbrev pub AttemptsStopped : Fingers → ℕ → ℕ → RefuteStop → Type 0
+AttemptsStopped f left left_after ended.NoMemory = Unit {0}
+AttemptsStopped f left left_after stop = AttemptsOnce f left left_after
+
+-- no node is left; or the gate has too many ways
+abbrev pub EndsRefuting : Fingers → ℕ → RefuteStop → Type 0
+EndsRefuting f left ended.Spent = left ≡ 0
+EndsRefuting f left (ended.Choices gate) = has_many_ways f gate ≡ true
+EndsRefuting f left ended.NoMemory = Unit {0}
+
+-- no node is left, and so much is proved; or the gate has too many ways
+abbrev pub StopsProving : Fingers → ℕ → ℕ → ProveStop → Type 0
+StopsProving f left left_after (stopped.Unfinished proof) = IsUnfinished f left left_after proof
+StopsProving f left left_after (stopped.Choices gate) = has_many_ways f gate ≡ true
+StopsProving f left left_after stopped.NoMemory = Unit {0}

@@ -1,0 +1,100 @@
+ghost use Rattle.std.specs.Prelude.{◌≡◌, ◌≤◌, ◌<◌, ◌+◌, ◌*◌, [], true, false, IfOk, IfErr, length};
+ghost use Rattle.cell_num.specs.Fingers.{AreFingers};
+ghost use Rattle.trail_state.specs.Levels.{Ends};
+ghost use Rattle.trail_check.specs.Justified.{ends_proved, gaps_proved};
+ghost use Rattle.trail_search.specs.Proof.{AreSpent, IsMost, IsProof, StopsProving};
+ghost use Rattle.trail_search.specs.Search.{AreChained, AreKept, AreSmall, AreTied, IsFurther};
+
+use crate::gates::fill;
+use crate::kept::Kept;
+use crate::order::order;
+use crate::proof::{Proof, ProveStop};
+use crate::visit::{Halt, visit};
+use cell_num::{Fingers, List, NoMemory};
+use std::alloc::Global;
+use trail_check::{first_with_many, levels_of};
+use trail_log::TrailCertificate;
+use trail_state::{Level, TrailState};
+
+/// The greatest limit that is tried: a row of 32 columns has no more gaps than 31.
+pub(crate) const MOST_LIMIT: u32 = 30;
+
+/// The ends of trails of a row with so many gaps.
+pub(crate) fn most_ends(limit: u32) -> u32
+    requires { limit ≤ MOST_LIMIT }
+    ensures { result ≡ 2 * (limit + 1) }
+{
+    2 * (limit + 1)
+}
+
+// Refutes the limits in turn, from 0 on; whether it came to one that it does not refute before the nodes were spent.
+#[tactic(auto, using(crate::proofs::Grown::further_same, crate::proofs::Grown::further_then))]
+fn refute_limits(
+    alloc: Global,
+    levels: &List<Level>,
+    kept: &mut Kept,
+    left: &mut u64,
+) -> Result<bool, NoMemory>
+    requires small { AreSmall levels.now }
+    requires few { length levels.now ≤ 32 }
+    requires chained { AreChained levels.now }
+    requires kept { AreKept levels.now kept.old }
+    requires none { kept.old.lemmas ≡ [] }
+    ensures further { IfOk result (λ _. IsFurther levels.now kept.old kept.new) }
+    ensures most { IfOk result (λ whole. whole ≡ true → gaps_proved (ends_proved kept.new.lemmas) < 31 →
+        Ends levels.now [] (2 * (gaps_proved (ends_proved kept.new.lemmas) + 1) + 1) → ⊥) }
+    ensures left { left.new ≤ left.old }
+    ensures path { IfOk result (λ _. AreTied kept.old kept.new left.old left.new (length levels.now + 1)) }
+    ensures spent { IfOk result (λ whole. whole ≡ false → left.new ≡ 0) }
+    ensures spent_path { IfOk result (λ whole. whole ≡ false →
+        AreTied kept.old kept.new left.old left.new (length levels.now)) }
+{
+    let start = TrailState::new(alloc);
+    for limit in 0..MOST_LIMIT + 1 {
+        match visit(alloc, levels, kept, left, 0, &start, most_ends(limit)) {
+            Ok(true) => return Ok(true),
+            Ok(false) => {}
+            Err(Halt::Spent) => return Ok(false),
+            Err(Halt::NoMemory) => return Err(NoMemory),
+        }
+    }
+    Ok(true)
+}
+
+/// Lemmas that prove how many gaps every arrangement of the fingers has: 31, or the greatest number that lemmas in this
+/// order can prove. It takes at most `left` nodes, and leaves there how many are left for later calls. It takes a node
+/// for each lemma, and at most one more for each gate and one at the end.
+#[tactic(auto, using(crate::proofs::Proved::none_kept, crate::proofs::Proved::is_proof, crate::proofs::Proved::levels_short, crate::proofs::Proved::gate_crowded))]
+pub(crate) fn prove(alloc: Global, fingers: &Fingers, left: &mut u64) -> Result<Proof, ProveStop>
+    requires fingers { AreFingers fingers.now }
+    ensures proof { IfOk result (IsProof fingers.now) }
+    ensures most { IfOk result (λ proof. proof.gaps < 31 → IsMost fingers.now proof.trails.order proof.gaps) }
+    ensures left { left.new ≤ left.old }
+    ensures nodes { IfOk result (λ proof.
+        AreSpent left.old left.new (length proof.trails.order + 1) proof.trails) }
+    ensures stopped { IfErr result (StopsProving fingers.now left.old left.new) }
+{
+    let order = order(alloc, fingers)?;
+    let crowded = first_with_many(alloc, fingers, order.as_slice())?;
+    if let Some(gate) = crowded {
+        return Err(ProveStop::Choices { gate });
+    }
+    let fill = fill(alloc, fingers)?;
+    let levels = levels_of(alloc, fingers, order.as_slice())?;
+    let mut kept = Kept::new(alloc);
+    let whole = refute_limits(alloc, &levels, &mut kept, left)?;
+    let proof = Proof {
+        gaps: kept.gaps(),
+        trails: TrailCertificate {
+            fill,
+            order,
+            lemmas: kept.lines,
+            best: None,
+        },
+    };
+    if whole {
+        Ok(proof)
+    } else {
+        Err(ProveStop::Unfinished(proof))
+    }
+}

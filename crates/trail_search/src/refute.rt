@@ -1,0 +1,60 @@
+ghost use Rattle.std.specs.Prelude.{◌≡◌, ◌≤◌, ◌<◌, false, IfOk, IfErr, IsTrue, List as Sequence};
+ghost use Rattle.cell_num.specs.Fingers.{AreFingers};
+ghost use Rattle.row_model.specs.declared.column.Column.{Column};
+ghost use Rattle.row_model.specs.Arrangement.{IsArrangement};
+ghost use Rattle.row_model.specs.Gaps.{gaps_of};
+ghost use Rattle.trail_search.specs.Proof.{AttemptsOnce, AttemptsStopped, EndsRefuting, HasMost};
+
+use crate::kept::Kept;
+use crate::limits::{MOST_LIMIT, most_ends};
+use crate::order::order;
+use crate::proof::RefuteStop;
+use crate::visit::{Halt, visit};
+use cell_num::Fingers;
+use std::alloc::Global;
+use trail_check::{first_with_many, levels_of};
+use trail_state::TrailState;
+
+/// Whether it is proved that every arrangement of the fingers has more than `limit` gaps: a limit up to 30 is refuted
+/// where lemmas in the order that is tried can refute it. It takes at most `left` nodes, and leaves there how many are
+/// left for later calls. A node is a state of which no lemma says so much.
+#[tactic(auto, using(crate::proofs::States::state_first, crate::proofs::Proved::none_kept, crate::proofs::Proved::kept_least, crate::proofs::Proved::levels_short, crate::proofs::Proved::gate_crowded))]
+pub(crate) fn is_refuted(
+    alloc: Global,
+    fingers: &Fingers,
+    limit: u32,
+    left: &mut u64,
+) -> Result<bool, RefuteStop>
+    requires fingers { AreFingers fingers.now }
+    ensures refuted { IfOk result (λ yes. IsTrue yes → (row : Sequence Column) → IsArrangement row fingers.now →
+        limit < gaps_of row) }
+    ensures most { IfOk result (λ yes. yes ≡ false → limit ≤ 30 → HasMost fingers.now limit) }
+    ensures left { left.new ≤ left.old }
+    ensures halted { IfErr result (EndsRefuting fingers.now left.new) }
+    ensures attempt { IfOk result (λ _. AttemptsOnce fingers.now left.old left.new) }
+    ensures attempt_stopped { IfErr result (AttemptsStopped fingers.now left.old left.new) }
+{
+    if limit > MOST_LIMIT {
+        return Ok(false);
+    }
+    let order = order(alloc, fingers)?;
+    let crowded = first_with_many(alloc, fingers, order.as_slice())?;
+    if let Some(gate) = crowded {
+        return Err(RefuteStop::Choices { gate });
+    }
+    let levels = levels_of(alloc, fingers, order.as_slice())?;
+    let mut kept = Kept::new(alloc);
+    match visit(
+        alloc,
+        &levels,
+        &mut kept,
+        left,
+        0,
+        &TrailState::new(alloc),
+        most_ends(limit),
+    ) {
+        Ok(_) => Ok(limit < kept.gaps()),
+        Err(Halt::Spent) => Err(RefuteStop::Spent),
+        Err(Halt::NoMemory) => Err(RefuteStop::NoMemory),
+    }
+}

@@ -1,0 +1,95 @@
+ghost use Rattle.std.specs.Prelude.{◌≡◌, ◌≤◌, ◌+◌, ◌-◌, true, false, IfOk, IfErr, drop, length, slice_get};
+ghost use Rattle.trail_state.specs.Levels.{Ends};
+ghost use Rattle.trail_check.specs.Justified.{is_known};
+ghost use Rattle.trail_check.specs.Listed.{nodes_of};
+ghost use Rattle.trail_search.specs.declared.visit.Halt.TheVariants as halt;
+ghost use Rattle.trail_search.specs.Search.{AreChained, AreKept, AreSmall, AreTied, IsFurther, IsStateOf, StayAs};
+
+use crate::kept::Kept;
+use cell_num::{List, NoMemory};
+use std::alloc::Global;
+use trail_state::{Level, TrailState, after};
+
+/// Why a visit ends without an answer.
+#[derive(Debug, Drop)]
+pub(crate) enum Halt {
+    Spent,
+    NoMemory,
+}
+
+impl From<NoMemory> for Halt {
+    ghost use Rattle.std.specs.Prelude.{◌≡◌};
+    ghost use Rattle.trail_search.specs.declared.visit.Halt.TheVariants.{NoMemory};
+
+    ghost from_gives = { λ _ e. e ≡ NoMemory };
+
+    fn from(_: NoMemory) -> Halt {
+        Halt::NoMemory
+    }
+}
+
+/// Whether choices of the gates left come to at most so many more ends; else a kept lemma says that none do. A visit
+/// takes one node of those left. It leaves a lemma, unless such choices are found or no node is left.
+#[tactic(auto, using(crate::proofs::Grown::further_same, crate::proofs::Grown::further_then))]
+pub(crate) fn visit(
+    alloc: Global,
+    levels: &List<Level>,
+    kept: &mut Kept,
+    left: &mut u64,
+    done: u32,
+    state: &TrailState,
+    allowed: u32,
+) -> Result<bool, Halt>
+    requires small { AreSmall levels.now }
+    requires few { length levels.now ≤ 32 }
+    requires allowed { allowed ≤ 63 }
+    requires chained { AreChained levels.now }
+    requires state { IsStateOf (nodes_of (slice_get levels.now done)) state.now }
+    requires kept { AreKept levels.now kept.old }
+    requires new { is_known kept.old.lemmas done state.now (allowed + 1) ≡ false }
+    ensures further { IfOk result (λ _. IsFurther levels.now kept.old kept.new) }
+    ensures failed { IfOk result (λ found. found ≡ false →
+        is_known kept.new.lemmas done state.now (allowed + 1) ≡ true) }
+    ensures found { IfOk result (λ found. found ≡ true → Ends (drop done levels.now) state.now (allowed + 1) → ⊥) }
+    ensures others { IfOk result (λ _. StayAs done (allowed + 1) kept.old kept.new) }
+    ensures left { left.new ≤ left.old }
+    ensures each { IfOk result (λ found. found ≡ false → AreTied kept.old kept.new left.old left.new 0) }
+    ensures path { IfOk result (λ _. AreTied kept.old kept.new left.old left.new (length levels.now - done + 1)) }
+    ensures spent { IfErr result (λ why. why ≡ halt.Spent → left.new ≡ 0) }
+    ensures spent_kept { IfErr result (λ why. why ≡ halt.Spent → IsFurther levels.now kept.old kept.new) }
+    ensures spent_path { IfErr result (λ why. why ≡ halt.Spent →
+        AreTied kept.old kept.new left.old left.new (length levels.now - done)) }
+{
+    if *left == 0 {
+        return Err(Halt::Spent);
+    }
+    *left -= 1;
+    let Some(level) = levels.get(done as usize) else {
+        return Ok(true);
+    };
+    for choice in level.choices.as_slice() {
+        let settled = after(
+            alloc,
+            level.now.as_slice(),
+            level.next.as_slice(),
+            state,
+            choice.as_slice(),
+        )?;
+        if allowed < settled.ends {
+            continue;
+        }
+        let rest = allowed - settled.ends;
+        if kept.knows(done + 1, &settled.state, rest + 1) {
+            continue;
+        }
+        let found = match visit(alloc, levels, kept, left, done + 1, &settled.state, rest) {
+            Ok(found) => found,
+            Err(halt) => return Err(halt),
+        };
+        if found {
+            return Ok(true);
+        }
+    }
+    kept.keep(alloc, levels, done, state, allowed + 1)?;
+    Ok(false)
+}
