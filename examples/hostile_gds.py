@@ -1,10 +1,11 @@
 #!/usr/bin/env python3
-"""Runs `extract` of the built program on GDSII files that nobody would write: a structure in up to a million copies.
+"""Runs `extract` of the built program on hostile GDSII files: a structure in up to a million copies.
 
     examples/hostile_gds.py [--program PROGRAM] [CASE ..]
 
-Each call has to end with the answer that the manual names, in SECONDS of processor time at most. It prints a line a case with what
-it took, and ends with 1 where one fails. Elements that draw nothing may not be visited in each copy, and a fault among them is told.
+Each call has to end with the answer that the manual names, in SECONDS of processor time at most. It prints a line
+for each case with what it took, and ends with 1 where one fails. Elements that draw nothing may not be visited in
+each copy; a fault among them is reported.
 """
 import argparse
 import os
@@ -62,7 +63,7 @@ def comb(teeth):
 
 
 def cases():
-    """Each case's name with the bytes, the status and the front of the line that tells."""
+    """Each case's name with the bytes, the status and the first part of the line that says so."""
     copies = array(b"aa", 1000, 1000, 10)
     fault = record(PATHTYPE, shorts(1))
     square = [(0, 0), (0, 10), (10, 10), (10, 0)]

@@ -1,11 +1,11 @@
 #!/usr/bin/env python3
-"""Runs `agree` of the built program on LEF files of 64 MiB that nobody would write, beside a made inverter.
+"""Runs `agree` of the built program on hostile LEF files of 64 MiB, together with a made inverter.
 
     examples/hostile_lef.py [--program PROGRAM] [--bytes N] [CASE ..]
 
-Each call has to end with the answer that the manual names, in SECONDS of processor time and MEBIBYTES of memory at most. It prints
-a line a case with what it took, and ends with 1 where one fails. The inverter is made by the same program. Less memory than this
-script's own, some 20 MiB, can't be seen.
+Each call has to end with the answer that the manual names, in SECONDS of processor time and MEBIBYTES of memory at
+most. It prints a line for each case with what it took, and ends with 1 where one fails. The inverter is made by the
+same program. Less memory than this script's own, some 20 MiB, can't be seen.
 """
 import argparse
 import os
@@ -58,7 +58,7 @@ def bars():
 
 
 def cases(lef, size):
-    """Each case's name with the text, the status and the line behind it, all or its front."""
+    """Each case's name with the text, the status and the line after it, all of it or its first part."""
     in_port, in_obs = lef.index(b"RECT ", lef.index(b"PIN gnd")), lef.index(b"RECT ", lef.index(b"OBS"))
     in_cell, before = lef.index(b"  PIN "), lef.index(b"MACRO inv")
     port, obs, pins = (lef[:in_port], lef[in_port:]), (lef[:in_obs], lef[in_obs:]), (lef[:in_cell], lef[in_cell:])

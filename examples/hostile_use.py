@@ -1,10 +1,12 @@
 #!/usr/bin/env python3
-"""Runs the built program where the system refuses: no room, no memory, a small stack, closed pipes, files that change.
+"""Runs the built program where the system refuses: no room, no memory, a small stack, closed pipes, files that
+change.
 
     examples/hostile_use.py [PROGRAM]
 
-Each call has to end with a status of the manual and not by a signal, and no file may look whole that is not. It prints a line a
-case and ends with 1 where one fails. Cases that need root, as a full disk does, or a C compiler are passed over without it.
+Each call has to end with a status of the manual and not by a signal, and no cut file may look complete. It prints a
+line for each case and ends with 1 where one fails. Cases that need root, as a full disk does, or a C compiler are
+skipped without it.
 """
 import argparse
 import os
@@ -136,7 +138,7 @@ def little_memory(folder):
     return 0 in seen
 
 
-# Refuses one call of malloc or realloc, by its number, and tells at the end how many there were.
+# Refuses one call of malloc or realloc, by its number, and reports at the end how many there were.
 REFUSING = """
 #include <stdio.h>
 #include <stdlib.h>
@@ -225,7 +227,7 @@ def changing_file(folder):
 
 
 def not_a_file(folder):
-    """A folder in the place of a file, and a name that no file can have: status 2."""
+    """A folder instead of a file, and a name that no file can have: status 2."""
     names = [".", "x" * 5000, "no\x01such"]
     return all(run(["plan", "-", name, "inv"], folder).returncode == 2 for name in names)
 
@@ -237,7 +239,7 @@ def main():
             os.chmod(folder, 0o755)
             well = case(folder)
         bad += well is False
-        print(f"{case.__name__}: {'passed over' if well is None else 'well' if well else 'FAILS'}", flush=True)
+        print(f"{case.__name__}: {'skipped' if well is None else 'well' if well else 'FAILS'}", flush=True)
     sys.exit(1 if bad else 0)
 
 

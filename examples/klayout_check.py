@@ -1,10 +1,12 @@
-"""Compares made cells with the SPICE file that they were made from, by KLayout's own extractor (0.28 or later, no window):
+"""Compares made cells with the SPICE file that they were made from, by KLayout's own extractor (0.28 or later, no
+window):
 
     QT_QPA_PLATFORM=offscreen klayout -z -r examples/klayout_check.py -rd spice=lib.sp -rd folder=out [-rd lambda_nm=300]
 
-For each `folder/NAME.gds` the widths of all transistors on the same three nets are summed, in the drawing and in the SPICE
-file, where `*` and `+` lines, `$` comments, `m=` and scales u, n, p and m are read, a model's kind by its first letter; and where there is `folder/NAME.lef`, its ports and
-obstructions have to be the metal of the drawing. It prints a line a cell and ends with 1 where one differs.
+For each `folder/NAME.gds` the widths of all transistors on the same three nets are summed, in the drawing and in
+the SPICE file, where `*` and `+` lines, `$` comments, `m=` and scales u, n, p and m are read, a model's kind by its
+first letter; and where there is `folder/NAME.lef`, its ports and obstructions have to be the metal of the drawing.
+It prints a line for each cell. Status 0: all agree. Status 1: one differs.
 """
 import collections
 import os
@@ -106,11 +108,20 @@ def has_same_metal(path, name):
     )
 
 
+def has_cell(path, name):
+    layout = pya.Layout()
+    layout.read(path)
+    return layout.has_cell(name)
+
+
 text, bad = open(spice, encoding="latin-1").read(), 0
 for file in sorted(os.listdir(folder)):
     if file.endswith(".gds"):
         cell = file[:-4]
         path = os.path.join(folder, file)
+        if not has_cell(path, cell):
+            print(f"{file}: passed over, no cell has its name")
+            continue
         same = wanted(text, cell) == drawn(path, cell) and has_same_metal(path, cell)
         bad += not same
         print(f"{cell}: {'the same' if same else 'DIFFERS'}")

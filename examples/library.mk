@@ -1,20 +1,26 @@
 # One rule a cell: `make -f library.mk -j` in the folder that make-library made ready makes all cells on all processors,
-# `make -f library.mk .made/7` the seventh cell of the list alone. TECH, SPICE, PROGRAM and WORDS come from the environment.
+# `make -f library.mk .made/7` the seventh cell of the list alone. TECH, SPICE, PROGRAM, WORDS, TERMINAL and
+# LIMIT, the seconds that a cell may take, come from the environment.
 COUNT := $(shell wc -l < cells)
 
 all: $(addprefix .made/,$(shell seq $(COUNT)))
 
-# A cell is made again where the inputs are newer than its line in the table. What an earlier run made of it goes first, so that
-# no file of a cell that is refused now is left. A cell whose trunks stand above each other in a ring is made with `--dogleg`.
+# A cell is made again where the inputs are newer than its line in the table. What an earlier run made of it goes first,
+# so that no file of a cell that is refused now is left. A cell whose trunks stand above each other in a ring is made with
+# `--dogleg`.
 .made/%: inputs
 	@name=$$(sed -n '$*p' cells); \
-	rm -f "$$name.gds" "$$name.lef" "$$name.clog" "$$name.ctrail"; \
+	rm -f "$$name.gds" "$$name.lef" "$$name.svg" "$$name.clog" "$$name.ctrail"; \
 	began=$$(date +%s.%N); \
-	"$$PROGRAM" make "$$TECH" "$$SPICE" "$$name" "$$name" $$WORDS > "$$name.txt"; status=$$?; word=-; \
+	run() { if [ "$${LIMIT:-0}" = 0 ]; then "$$@"; else timeout "$$LIMIT" "$$@"; fi; }; \
+	run "$$PROGRAM" make "$$TECH" "$$SPICE" "$$name" "$$name" $$WORDS > "$$name.txt"; status=$$?; word=-; \
 	if [ $$status -eq 5 ]; then \
-		"$$PROGRAM" make "$$TECH" "$$SPICE" "$$name" "$$name" --dogleg $$WORDS > "$$name.txt"; status=$$?; word=--dogleg; \
+		run "$$PROGRAM" make "$$TECH" "$$SPICE" "$$name" "$$name" --dogleg $$WORDS > "$$name.txt"; \
+		status=$$?; word=--dogleg; \
 	fi; \
 	seconds=$$(echo "$$began $$(date +%s.%N)" | awk '{ printf "%.2f", $$2 - $$1 }'); \
-	awk -v name="$$name" -v status=$$status -v seconds=$$seconds -v word=$$word -f "$(TOP)/row.awk" "$$name.txt" > .made/$*.new; \
+	awk -v name="$$name" -v status=$$status -v seconds=$$seconds -v word=$$word -f "$(TOP)/row.awk" "$$name.txt" \
+		> .made/$*.new; \
 	mv .made/$*.new .made/$*; \
-	awk -v name="$$name" -v status=$$status -v at=$* -v count=$(COUNT) -f "$(TOP)/told.awk" "$$name.txt"
+	awk -v name="$$name" -v status=$$status -v at=$* -v count=$(COUNT) -v terminal="$$TERMINAL" -f "$(TOP)/told.awk" \
+		"$(TOP)/advice" "$$name.txt"

@@ -1,13 +1,15 @@
 #!/usr/bin/env python3
-"""Checks made cells by Magic and netgen (Debian's packages magic and netgen-lvs), with the technology file docs/cellgen.tech:
+"""Checks made cells by Magic and netgen (Debian's packages magic and netgen-lvs), with the technology file
+docs/cellgen.tech:
 
     examples/magic_check.py [--taps] SPICE FOLDER
 
-For each FOLDER/NAME.gds whose cell is a subcircuit of SPICE, Magic reads the drawing and the abstract FOLDER/NAME.lef, has to
-find nothing to complain of, and extracts the drawing; netgen compares the netlist with the subcircuit, widths and lengths
-included. The technology has a lambda of 300 nm. With --taps the cells have taps: besides, Magic's own technology for these
-rules (SCN3ME_SUBM.30, of Debian's package qflow-tech-osu050) has to find each transistor's body on its rail, by wells and
-taps. It prints a line a cell and ends with 1 where one differs.
+For each FOLDER/NAME.gds whose cell is a subcircuit of SPICE, Magic reads the drawing and the abstract
+FOLDER/NAME.lef, may complain of nothing, and extracts the drawing; netgen compares the netlist with the subcircuit,
+widths and lengths included. The technology has a lambda of 300 nm. With --taps the cells have taps: besides,
+Magic's own technology for these rules (SCN3ME_SUBM.30, of Debian's package qflow-tech-osu050) has to find each
+transistor's body on its rail, by wells and taps. It prints a line for each cell. Status 0: all agree. Status 1: one
+differs.
 """
 import pathlib
 import re

@@ -1,11 +1,13 @@
 #!/usr/bin/env python3
-"""Makes a row of six cells of this folder and has other programs look at it: Debian's klayout, magic, netgen-lvs, qflow-tech-osu050.
+"""Makes a row of six cells of this folder and checks it by other programs: Debian's klayout, magic, netgen-lvs,
+qflow-tech-osu050.
 
     examples/row_check.py FOLDER
 
-The files go to FOLDER: lib.sp, row.toml, and row.gds, in which a structure `six` refers to the five different cells. KLayout and
-Magic have to find the netlist of the six cells in it, Magic no broken rule (its 6.5.b is void), and `extract` as many nets and devices. The program is
-PROGRAM of the environment, or cellgen of the repository. It ends with 1 where one of them finds something else.
+The files go to FOLDER: lib.sp, row.toml, and row.gds, in which a structure `six` refers to the five different
+cells. KLayout and Magic have to find the netlist of the six cells in it, Magic no broken rule (its 6.5.b is void),
+and `extract` as many nets and devices. The program is PROGRAM of the environment, or cellgen of the repository.
+Status 0: all agree. Status 1: one finds something else.
 """
 import argparse
 import os

@@ -3,7 +3,7 @@
 
     examples/row_netlist.py SPICE TOP CELL CELL ..
 
-Net NAME of the cell that stands at place K, counted from 0, is K#NAME; the rails are those of all cells. So the scripts that
+Net NAME of the cell at place K, counted from 0, is K#NAME; the rails are those of all cells. So the scripts that
 check made cells (klayout_check.py, magic_check.py) check rows of them, too.
 """
 import pathlib

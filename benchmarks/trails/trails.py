@@ -1,4 +1,4 @@
-"""Ends of trails, gate by gate, as docs/MANUAL.md tells them: the choices of a gate, what they leave open, lemmas, and their check.
+"""Ends of trails, gate by gate, as docs/FORMATS.md has them: the choices of a gate, what they leave open, lemmas, and their check.
 
 A node is a pair of nets, P net and N net. An edge is a column with both places filled: its two nodes in order. It is plain and slow,
 and shares no code with the program.

@@ -2,9 +2,10 @@
 from __future__ import annotations
 
 import itertools
+from typing import Dict, Optional, Tuple
 
-Table = dict[tuple[int, ...], int]
-Term = tuple[int | None, ...]       # for each input 0, 1, or None where it plays no part
+Table = Dict[Tuple[int, ...], int]
+Term = Tuple[Optional[int], ...]       # for each input 0, 1, or None where it plays no part
 
 
 def covers(term: Term, point: tuple[int, ...]) -> bool:

@@ -7,6 +7,7 @@ from pathlib import Path
 
 import gdsii
 import lef
+import parts
 import project
 import spice
 import technology
@@ -29,6 +30,8 @@ class Library:
     grid: tuple[int, int]
     jobs: int
     has_taps: bool
+    has_trails: bool = False
+    seconds: int = 0
     tech: Technology = Technology()
 
     @property
@@ -47,12 +50,23 @@ class Library:
     def taps(self) -> list[str]:
         return ["--taps"] if self.has_taps else []
 
+    @property
+    def filler(self) -> str:
+        """The filler's name: qflow takes each cell for a filler whose name begins so."""
+        names = [cell.name for cell in spice.read(self.spice)]
+        tries = ("fill", "flowfill", *(f"flowfill{number}" for number in range(1000)))
+        return next(name for name in tries if not any(it.startswith(name) for it in names))
+
+    def parts(self) -> parts.Parts:
+        return parts.found(self.views.with_suffix(".lib").read_text())
+
     def make(self) -> str:
         """Every subcircuit of the SPICE file as a cell, all of one height."""
         self.folder.mkdir(parents=True, exist_ok=True)
-        told = tools.script("make-library", ["--one-height", *self.taps(), "--room", self.room, "--grid", self.grid[1],
-                                             self.given, self.spice, self.folder / "cells", f"-j{self.jobs}"],
-                            self.folder / "cells.log")
+        trails = ["--trails"] if self.has_trails else []
+        words = ["--one-height", *self.taps(), *trails, "--room", self.room, "--grid", self.grid[1],
+                 "--seconds", self.seconds, self.given, self.spice, self.folder / "cells", f"-j{self.jobs}"]
+        told = tools.script("make-library", words, self.folder / "cells.log", may_lack=True)
         self.tech = technology.read(self.height)
         if self.tech.lambda_nm != LAMBDA:
             raise Failed(f"lambda is {self.tech.lambda_nm} nm; Magic's technologies here are those of {LAMBDA} nm")
@@ -61,27 +75,38 @@ class Library:
     def add_pads(self) -> str:
         """Pads on the routing grid for all made cells, and the filler."""
         made, done = self.folder / "cells", self.pads / "done"
-        paths = sorted(made.glob("*.gds"))
+        paths = sorted(path for path in made.glob("*.gds") if path.stem != "library")
         if not done.exists() or any(path.stat().st_mtime > done.stat().st_mtime for path in paths):
             shutil.rmtree(self.pads, ignore_errors=True)
             self.pads.mkdir()
-            tools.script("filler", [self.height, self.pads / "fill", "--width", self.grid[0], *self.taps()],
+            tools.script("filler", [self.height, self.pads / self.filler, "--width", self.grid[0], *self.taps()],
                          self.folder / "filler.log")
-            tools.script("pin-pads", [self.height, made, self.pads, "--grid", *self.grid, "--jobs", self.jobs,
-                                      *self.taps()], self.folder / "pads.log")
-            done.touch()
-        pins = sum(len(macro.signals) for macro in self.macros())
-        return f"{pins} pins of {len(paths)} cells, each cell with its old netlist and no broken rule; a filler"
+            told = tools.script("pin-pads", [self.height, made, self.pads, "--grid", *self.grid, "--jobs", self.jobs,
+                                             *self.taps()], self.folder / "pads.log", may_lack=True)
+            done.write_text(told)
+        lost = done.read_text().partition("; ")[2].strip()
+        macros = self.macros()
+        pins, count = sum(len(macro.signals) for macro in macros), len(macros) - 1
+        if not count:
+            raise Failed(f"no cell has pads: {lost}")
+        return (f"{pins} pins of {count} cells, each cell with its old netlist and no broken rule; a filler"
+                + (f"; left out: {lost}" if lost else ""))
 
     def write_views(self) -> str:
         """Liberty, Verilog, SPICE and LEF of the cells with pads."""
         self.views.parent.mkdir(parents=True, exist_ok=True)
-        told = tools.script("liberty", [self.height, self.spice, self.pads, self.views], self.views.with_suffix(".log"))
+        told = tools.script("liberty", [self.height, self.spice, self.pads, self.views], self.views.with_suffix(".log"),
+                            may_lack=True)
         head = self.views.with_name("tech.lef")
         tools.script("tech-lef", [self.height, "--grid", *self.grid], head)
         text = lef.text(self.macros(), self.tech.unit_um, head=head.read_text().replace("END LIBRARY\n", ""))
         self.views.with_suffix(".lef").write_text(text)
-        return told
+        found = self.parts()
+        if "buffer" in found.missing or "inverter" in found.missing:
+            raise Failed(f"{told}; synthesis needs a buffer and an inverter, and the library has no "
+                         + ", ".join(found.missing))
+        parts_told = ", ".join(f"{part} {name}" for part, name in found.cells.items())
+        return f"{told}; for synthesis: {parts_told}"
 
     def macros(self) -> list[Macro]:
         return [macro for path in sorted(self.pads.glob("*.lef")) for macro in lef.read(path, self.tech.unit_um)]

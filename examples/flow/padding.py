@@ -1,6 +1,6 @@
 """Landing pads: leads each signal pin of a made cell to a pad of metal1 on a routing grid, by metal1, vias and metal2.
 
-Lengths are in grid units. The rules are those of docs/MANUAL.md, The layout; what comes out is to be checked by
+Lengths are in grid units. The rules are those of docs/FORMATS.md, The rules; what comes out is to be checked by
 `extract`.
 """
 from __future__ import annotations
@@ -43,8 +43,9 @@ class Piece(NamedTuple):
 class NoPlace(Exception):
     """No pad can be had for a pin."""
 
-    def __init__(self, pin: str, places: int) -> None:
-        super().__init__(f"no landing pad for pin {pin}: {places} places where one could stand")
+    def __init__(self, pin: str, places: int, shut: int) -> None:
+        of_these = f", {shut} of them shut in once the leads are drawn" if shut else ""
+        super().__init__(f"no landing pad for pin {pin}: {places} places where one could stand{of_these}")
         self.pin = pin
 
 
@@ -79,6 +80,7 @@ class Padder:
         self.fixed = [box for layer in ("poly", "active", "contact") for box in structure.on(layer)]
         self.vias = structure.on("via")
         self.leads: dict[str, Lead] = {}
+        self.shut: set[tuple[int, int, int]] = set()    # nets with places from which their leads leave no way out
 
     def net_of(self, pin: Pin) -> int:
         return next(p.net for p in self.pieces if (NAMES[p.metal], p.box) == pin.port[0])
@@ -120,7 +122,8 @@ class Padder:
             step += bytes(0 if b else NEAR if n else 1 for b, n in zip(blocked.bytes(), beside.bytes()))
         free, landing = self.places(net), Plane(self.width, self.height)
         for x, y in self.apart(free):
-            landing.add(x, y, x, y)
+            if (net, x, y) not in self.shut:
+                landing.add(x, y, x, y)
         return Maps(step, (self.no_pad(net) | outside).bytes(), landing.bytes(), len(free))
 
     def apart(self, places: list[tuple[int, int]]) -> list[tuple[int, int]]:
@@ -136,8 +139,26 @@ class Padder:
                 return True
         return False
 
+    def shut_in(self, lead: Lead) -> bool:
+        """Whether with this lead the router would get away no more from its pad, or from one before it."""
+        metal2 = [p.box for p in self.pieces if p.metal == METAL2] + [box for at, box in lead.metal if at == METAL2]
+        column = self.near(metal2, SPACING[METAL2] + WIRE)
+        pads = [it.pad for it in self.leads.values()] + [lead.pad]
+        return not all(self.is_open(column, pad.x0 + PAD, pad.y0 + PAD) for pad in pads)
+
     def lead(self, pin: Pin) -> Lead:
-        """Finds the cheapest lead from a pin's net to a place for a pad, and takes it down."""
+        """Finds the cheapest lead from a pin's net to a place for a pad that can be reached, and takes it down."""
+        while True:
+            lead, net = self.cheapest_lead(pin), self.net_of(pin)
+            if not self.shut_in(lead):
+                break
+            self.shut.add((net, lead.pad.x0 + PAD, lead.pad.y0 + PAD))
+        self.pieces += [Piece(metal, box, net) for metal, box in lead.metal]
+        self.vias = self.vias + lead.vias
+        self.leads[pin.name] = lead
+        return lead
+
+    def cheapest_lead(self, pin: Pin) -> Lead:
         net = self.net_of(pin)
         maps = self.maps(net)
         width = self.width + 1
@@ -147,13 +168,10 @@ class Padder:
                   for y in range(box.y0 + WIRE, box.y1 - WIRE + 1) for x in range(box.x0 + WIRE, box.x1 - WIRE + 1)]
         path = cheapest(starts, maps, width, plane)
         if not path:
-            raise NoPlace(pin.name, maps.places)
+            raise NoPlace(pin.name, maps.places, sum(1 for at, *_ in self.shut if at == net))
         nodes = [(at // plane, at % plane % width, at % plane // width) for at in unturned(path)]
         lead = lead_of(nodes)
         self.fill_clefts(net, lead)
-        self.pieces += [Piece(metal, box, net) for metal, box in lead.metal]
-        self.vias = self.vias + lead.vias
-        self.leads[pin.name] = lead
         return lead
 
     def fill_clefts(self, net: int, lead: Lead) -> None:

@@ -7,16 +7,6 @@ from technology import Technology
 
 NAME = "cells"
 
-# What qflow wants to know of the library: for each part the cell, and its pins by their part.
-PARTS = {
-    "flopcell": ("dff", {"floppinout": "q", "floppinin": "d", "floppinclk": "c"}),
-    "bufcell": ("buf2", {"bufpin_in": "a", "bufpin_out": "y"}),
-    "inverter": ("inv1", {"invertpin_in": "a", "invertpin_out": "y"}),
-    "norgate": ("nor2", {"norpin_in1": "a", "norpin_in2": "b", "norpin_out": "y"}),
-    "nandgate": ("nand2", {"nandpin_in1": "a", "nandpin_in2": "b", "nandpin_out": "y"}),
-    "fillcell": ("fill", {}),
-}
-
 # Distances are in hundredths of a micron. Rows abut, and each other row is mirrored, so that rails and wells meet.
 PAR = """RULES
     layer metal1 0.09 0.032 horizontal
@@ -62,13 +52,12 @@ GENR*flip_alternate_rows : 1
 """
 
 
-def settings(density: float | None) -> str:
+def settings(density: float | None, words: dict[str, str], filler: str) -> str:
     """The settings of the technology, as qflow's scripts read them. No via stands over a via (MOSIS 14.4)."""
     files = {"leffile": "lef", "spicefile": "sp", "libertyfile": "lib"}
     lines = [f"set {key}={NAME}.{end}" for key, end in files.items()]
     lines += ['set techleffile=""', f"set magicrc={NAME}.magicrc"]
-    for part, (cell, pins) in PARTS.items():
-        lines += [f"set {part}={cell}", *(f"set {key}={pin}" for key, pin in pins.items())]
+    lines += [f"set {key}={value}" for key, value in {**words, "fillcell": filler}.items()]
     none = ("decapcell", "antennacell", "antennapin_in", "tiehi", "tiehipin_out", "tielo", "tielopin_out", "separator")
     lines += [f'set {key}=""' for key in none]
     lines += ['set fanout_options="-l 300 -c 75"', 'set addspacers_options=""', 'set via_stacks="none"']
@@ -99,6 +88,6 @@ def write(folder: Path, design: Path, views: Path) -> None:
     (folder / NAME / f"{NAME}.magicrc").write_text("# qflow asks for this file; Magic is called without it\n")
 
 
-def configure(folder: Path, tech: Technology, grid: tuple[int, int], seed: int, density: float | None) -> None:
-    (folder / NAME / f"{NAME}.sh").write_text(settings(density))
+def configure(folder: Path, tech: Technology, grid: tuple[int, int], seed: int, settings_text: str) -> None:
+    (folder / NAME / f"{NAME}.sh").write_text(settings_text)
     (folder / NAME / f"{NAME}.par").write_text(parameters(tech, grid, seed))

@@ -67,16 +67,26 @@ class Flow:
         return f"{count} levels at {len(instants)} instants are those of the design"
 
     def configure(self, seed: int) -> None:
-        project.configure(self.project, self.library.tech, self.library.grid, seed, self.density)
+        settings = project.settings(self.density, self.library.parts().words, self.library.filler)
+        project.configure(self.project, self.library.tech, self.library.grid, seed, settings)
 
     def synthesise(self) -> str:
         """Gates of the library (yosys, by qflow)."""
         project.write(self.project, self.design, self.library.views)
         self.configure(1)
-        tools.qflow("synthesize", self.project, project.NAME, self.name)
+        lacks = ", ".join(self.library.parts().missing)
+        try:
+            tools.qflow("synthesize", self.project, project.NAME, self.name)
+        except Failed as fault:
+            more = f"; the library has no {lacks}" if lacks else ""
+            raise Failed(f"{fault}{more}; see {self.project / 'log' / 'synth.log'}") from None
         self.inputs, self.outputs = waveform.ports(self.verilog.read_text())
         used = re.findall(r"^X\S+ .* (\S+)$", self.netlist(), re.M)
         sizes = self.library.transistors()
+        lost = sorted(set(used) - set(sizes))
+        if lost or not used:
+            raise Failed((f"{' '.join(lost)}: no cell of the library does this" if lost else "no cell is left")
+                         + (f"; it has no {lacks}" if lacks else "") + f"; see {self.project / 'log' / 'synth.log'}")
         self.devices = sum(sizes[cell] for cell in used)
         kinds = ", ".join(f"{used.count(cell)} {cell}" for cell in sorted(set(used)))
         return f"{len(used)} cells of {self.devices} transistors: {kinds}"
@@ -84,7 +94,8 @@ class Flow:
     def netlist(self) -> str:
         """The synthesised netlist without the fillers, which have no transistors."""
         text = (self.project / "synthesis" / f"{self.name}.spc").read_text()
-        return re.sub(r"^(\.include .*|\.end|X\S+ (?:.* )?fill)\n", "", text, flags=re.M)
+        filler = re.escape(self.library.filler)
+        return re.sub(rf"^(\.include .*|\.end|X\S+ (?:.* )?{filler})\n", "", text, flags=re.M)
 
     def simulate_gates(self) -> str:
         """The synthesised netlist under the same testbench."""
@@ -150,14 +161,17 @@ class Flow:
         return match.said
 
     def control(self) -> str:
-        """The same comparison has to find two exchanged nets of the netlist, and a via that is missing in the drawing."""
+        """The same comparison has to find two exchanged nets of the netlist, and a via missing in the drawing."""
         return f"{self.exchange_nets()}; {self.leave_out_a_via()}"
 
     def exchange_nets(self) -> str:
         folder, tech = self.block.parent, self.library.tech
         top = self.netlist()
         name, first, *rest = re.search(r"^X.*$", top, re.M).group(0).split()
-        last = max(at for at, net in enumerate(rest[:-1]) if net not in (first, tech.vdd, tech.gnd))
+        others = [at for at, net in enumerate(rest[:-1]) if net not in (first, tech.vdd, tech.gnd)]
+        if not others:
+            raise Failed(f"{name} has no two nets that could be exchanged")
+        last = others[-1]
         rest[last], first = first, rest[last]
         exchanged = re.sub(r"^X.*$", " ".join([name, first, *rest]), top, count=1, flags=re.M)
         wrong = folder / "exchanged.spice"

@@ -8,12 +8,13 @@ from __future__ import annotations
 import itertools
 from collections.abc import Iterable, Iterator
 from dataclasses import dataclass
+from typing import Dict, Optional, Tuple
 
 from spice import Subcircuit, Transistor
 from technology import Technology
 
-Level = int | None
-State = dict[str, Level]
+Level = Optional[int]
+State = Dict[str, Level]
 ROUNDS = 200
 
 
@@ -98,7 +99,7 @@ def driven(net: str, old: Level, sure: list[set[str]], maybe: list[set[str]]) ->
     return level if net in sure[level] or old == level else None
 
 
-Table = dict[tuple[int, ...], int]
+Table = Dict[Tuple[int, ...], int]
 
 
 @dataclass(frozen=True)

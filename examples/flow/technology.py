@@ -3,11 +3,14 @@ from __future__ import annotations
 
 import os
 import subprocess
-import tomllib
+import sys
 from dataclasses import dataclass, field
 from pathlib import Path
 
 EXAMPLES = Path(__file__).resolve().parent.parent
+sys.path.append(str(EXAMPLES / "preparing"))
+import tech as keys
+
 PROGRAM = os.environ.get("PROGRAM", str(EXAMPLES.parent / "cellgen"))
 
 
@@ -35,7 +38,7 @@ def read(path: str | Path) -> Technology:
     """The technology of a file, the plain one for `-`."""
     if str(path) == "-":
         return Technology()
-    table = tomllib.loads(Path(path).read_text())
+    table = keys.table(Path(path).read_text())
     known = {key: table.pop(key) for key in Technology.__dataclass_fields__ if key in table}
     for key, value in known.items():
         if isinstance(value, str):
