@@ -17,8 +17,8 @@ HEAD = """# The public calls
 For who uses the crates as libraries. A crate's items stand at its root, as in `use finger_fold::{{FoldFault, fold}};`, and methods below
 their type. Each line has the first sentence of an item's comment; the comment has the rest, and the clauses beneath it what is
 promised and asked for. A *law* is a call that does nothing: its clauses are theorems. What a crate is for, and which items no program
-calls, is told in [ARCHITECTURE.md](ARCHITECTURE.md). `docs/api.py` makes this page: {calls} calls, {laws} laws, {others} types, traits and
-constants with {methods} methods. Crates of benches and tests are left out.
+calls, is in its page, `crates/NAME/README.md`; all crates are listed in [ARCHITECTURE.md](ARCHITECTURE.md#the-crates). `docs/api.py` makes
+this page: {calls} calls, {laws} laws, {others} types, traits and constants with {methods} methods. Crates of benches and tests are left out.
 """
 ITEM = r"(?m)^pub (fn|struct|enum|trait|type|const) (%s)\b"
 OWN = r"(?m)^impl(?:<[^\n]*?>)? %s(?:<[^\n]*>)? \{"

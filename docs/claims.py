@@ -1,109 +1,93 @@
 #!/usr/bin/env python3
-"""Checks docs/PROOFS.md against the code: each call, clause, definition and wrong body of its table is there. A row that the
-README's promises cite by its number beside a call, as in "`make`, 10", is a row of that call.
-It lists the public calls with a contract, functions and methods of exported types, and the wrong bodies that no row names. Run it
-anywhere; its status is 1 where a name is lost."""
+"""Checks docs/PROOFS.md against the code: its claims are numbered in order and at most 40, and each names a clause, a
+definition and a wrong body that are there, or says that it has no wrong body. A claim that the README's promises cite
+by its number and a call, as in "`make`, 6", speaks of that call. All contracts and wrong bodies are listed in
+docs/CONTRACTS.md, which has to be fresh (docs/contracts.py).
+Run it anywhere. Its status is 1 where a name is lost.
+"""
 import os
 import re
 import sys
 
-TOP = os.path.join(os.path.dirname(os.path.abspath(__file__)), "..")
-ROW = re.compile(r"^\| (\d+) \| (.*) \| (.*) \| (.*) \| (.*) \|$")
-EXPORTED = re.compile(r"pub use (\w+)::\{?([^;}]*)\}?;")
-BLOCK = re.compile(r"(?:impl(?:<[^>]*>)? (?:([\w<>', ]+) for )?|(pub )?trait )(\w+)")
-CALL = re.compile(r"`([^`]+)`: `([\w.]+)`(?: \*([\w, ]+)\*)?")
+import contracts
+from contracts import CRATES, TOP, functions, text_of
+
+MOST = 40
+CLAIM = re.compile(r"(?m)^### (\d+)\. ")
+PART = re.compile(r"(?ms)^- \*(Clause|Meaning|Refused)\*: (.*?)(?=^- \*|\n\n|\Z)")
+CALL = re.compile(r"`([^`]+)`: `([\w.]+)`(?: \*([\w,\s]+)\*)?")
 DEFINITION = re.compile(r"`([^`]+)`: `(\w+)`")
 DEFINED = r"(?m)^(?:(?:abbrev|unfoldable|opaque|pub|record|data)\s+)+%s\b"
+NONE = "none is kept"
 
 
-def text_of(path):
-    with open(os.path.join(TOP, "crates", path), encoding="utf-8") as file:
-        return file.read()
+def is_there(path):
+    return os.path.isfile(os.path.join(CRATES, path))
 
 
-def functions(path):
-    """Each function of a file: its type or nothing, its name, whether others can call it, and the labels of its clauses."""
-    owner, of_trait, found = "", False, []
-    for line in text_of(path).split("\n"):
-        block = BLOCK.match(line)
-        if block:
-            owner, of_trait = block.group(3), bool(block.group(1) or block.group(2))
-        elif line == "}":
-            owner, of_trait = "", False
-        begun = re.match(r"\s*(?:pub\(crate\) |(pub ))?fn (\w+)", line)
-        if begun:
-            found.append((owner, begun.group(2), bool(begun.group(1)) or of_trait, set()))
-        label = re.match(r"\s*ensures (\w*) ?\{", line)
-        if label and found:
-            found[-1][3].add(label.group(1))
-    return found
-
-
-def contracts(path):
-    """The labels of each function's clauses, by its name, and behind `Type.` by its type too."""
+def clauses_of(path):
+    """The labels of each function's clauses, by its name, and as `Type.name` too."""
     found = {}
-    for owner, name, _, labels in functions(path):
-        for key in (name, f"{owner}.{name}"):
-            found.setdefault(key, set()).update(labels)
+    for it in functions(path):
+        for key in (it.name, f"{it.owner}.{it.name}"):
+            found.setdefault(key, set()).update(it.labels)
     return found
 
 
-def lost_in(call, definition, edit):
-    """What a row names and is not there."""
-    for path, name, labels in CALL.findall(call):
-        clauses = contracts(path) if os.path.isfile(os.path.join(TOP, "crates", path)) else {}
+def lost_calls(text):
+    """The calls and clauses of a text that are not there."""
+    if not CALL.findall(text):
+        yield "no clause"
+    for path, name, labels in CALL.findall(text):
+        clauses = clauses_of(path) if is_there(path) else {}
         if name not in clauses:
             yield f"{path}: {name}"
-        for label in filter(None, labels.split(", ")):
+        for label in filter(None, re.split(r",\s*", labels)):
             if label not in clauses.get(name, ()):
                 yield f"{path}: {name} {label}"
-    for path, name in DEFINITION.findall(definition):
-        if not os.path.isfile(os.path.join(TOP, "crates", path)) or not re.search(DEFINED % name, text_of(path)):
+
+
+def lost_definitions(text):
+    """The definitions of a text that are not there."""
+    if not DEFINITION.findall(text):
+        yield "no definition"
+    for path, name in DEFINITION.findall(text):
+        if not is_there(path) or not re.search(DEFINED % name, text_of(path)):
             yield f"{path}: {name}"
-    for path in re.findall(r"`([^`]+)`", edit):
-        if not os.path.isfile(os.path.join(TOP, "crates", path)):
-            yield path
 
 
-def sources(crate):
-    """The files of a crate's code, below crates/."""
-    for folder, _, files in os.walk(os.path.join(TOP, "crates", crate, "src")):
-        for name in sorted(files):
-            if name.endswith(".rt"):
-                yield os.path.relpath(os.path.join(folder, name), os.path.join(TOP, "crates"))
+def lost_edits(text):
+    """The wrong bodies of a text that are not there."""
+    edits = re.findall(r"`([^`]+)`", text)
+    if not edits and NONE not in text:
+        yield f"no wrong body, and not: {NONE}"
+    yield from (path for path in edits if not is_there(path))
 
 
-def public_calls():
-    """What others can call of each crate and has a contract: functions, and methods of exported types as `Type.name`."""
-    for crate in sorted(os.listdir(os.path.join(TOP, "crates"))):
-        root = f"{crate}/src/lib.rt"
-        if crate.endswith("_tests") or not os.path.isfile(os.path.join(TOP, "crates", root)):
-            continue
-        exported = EXPORTED.findall(text_of(root))
-        types = {name for _, names in exported for name in re.findall(r"\b[A-Z]\w*", names)}
-        calls = {(f"{crate}/src/{module}.rt", name) for module, names in exported for name in re.findall(r"\b[a-z]\w*", names)}
-        for path in sources(crate):
-            for owner, name, is_public, labels in functions(path):
-                if labels and is_public and (owner in types or not owner and (path, name) in calls):
-                    yield path, f"{owner}.{name}".lstrip(".")
+LOST = {"Clause": lost_calls, "Meaning": lost_definitions, "Refused": lost_edits}
 
 
-def wrong_bodies():
-    """The edits that make a body wrong, below crates/."""
-    for crate in sorted(os.listdir(os.path.join(TOP, "crates"))):
-        for folder in ("must-fail", "wrong"):
-            place = os.path.join(TOP, "crates", crate, folder)
-            names = sorted(os.listdir(place)) if os.path.isdir(place) else []
-            yield from (f"{crate}/{folder}/{name}" for name in names if name.endswith(".edit"))
+def claims(page):
+    """The claims of the page: number, text, and what stands under each word of LOST."""
+    pieces = CLAIM.split(page.partition("\n## Only tested")[0])[1:]
+    for number, text in zip(pieces[::2], pieces[1::2]):
+        yield int(number), text, dict(PART.findall(text))
 
 
-def miscited(rows):
-    """What the README cites of these rows, a call and a number, where that row does not name the call."""
+def lost_in(number, parts):
+    """What a claim names and is not there."""
+    for word, find in LOST.items():
+        yield from (f"claim {number}: {it}" for it in find(parts.get(word, "")))
+
+
+def miscited(found):
+    """What the README cites, a call and a number, where that claim does not speak of the call."""
     with open(os.path.join(TOP, "README.md"), encoding="utf-8") as file:
         promises = file.read().partition("## What it promises")[2].partition("\n## ")[0]
-    calls = {row[0]: {name for _, name, _ in CALL.findall(row[2])} | set(re.findall(r"`(\w+)`", row[1])) for row in rows}
+    calls = {number: {name for _, name, _ in CALL.findall(text)} | set(re.findall(r"`(\w+)`", text))
+             for number, text, _ in found}
     for call, number in re.findall(r"`(\w+)`, (\d+)", promises):
-        if call not in calls.get(number, ()):
+        if call not in calls.get(int(number), ()):
             yield f"README: `{call}`, {number}"
 
 
@@ -112,17 +96,15 @@ def main():
         print(__doc__)
         return 0
     with open(os.path.join(TOP, "docs", "PROOFS.md"), encoding="utf-8") as file:
-        page = file.read()
-    rows = [match.groups() for match in map(ROW.match, page.split("\n")) if match]
-    lost = [f"row {number}: {name}" for number, _, call, definition, edit in rows for name in lost_in(call, definition, edit)]
-    lost += [f"row {at} is numbered {row[0]}" for at, row in enumerate(rows, 1) if int(row[0]) != at]
-    lost += miscited(rows)
-    named = {(path, name) for row in rows for path, name, _ in CALL.findall(row[2])}
-    unnamed = [f"{path}: {name}" for path, name in public_calls() if not {(path, name), (path, name.split(".")[-1])} & named]
-    tried = {path for row in rows for path in re.findall(r"`([^`]+)`", row[4])}
-    untold = [path for path in wrong_bodies() if path not in tried]
-    print(*[f"not there: {it}" for it in lost], *[f"in no row: {it}" for it in unnamed + untold], sep="\n")
-    print(f"{len(rows)} rows, {len(lost)} names not there, {len(unnamed)} public calls and {len(untold)} wrong bodies in no row")
+        found = list(claims(file.read()))
+    lost = [it for number, _, parts in found for it in lost_in(number, parts)]
+    lost += [f"claim {at} is numbered {number}" for at, (number, _, _) in enumerate(found, 1) if number != at]
+    lost += [f"more than {MOST} claims"] * (len(found) > MOST)
+    lost += miscited(found)
+    lost += [] if contracts.is_fresh() else [f"python3 docs/contracts.py > {contracts.PAGE}: that page is not fresh"]
+    print(*[f"not there: {it}\n" for it in lost], sep="", end="")
+    calls, wrong = len(list(contracts.public_calls())), len(list(contracts.wrong_bodies()))
+    print(f"{len(found)} claims, {len(lost)} faults; {calls} public calls and {wrong} wrong bodies are listed")
     return 1 if lost else 0
 
 

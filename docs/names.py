@@ -1,6 +1,7 @@
 #!/usr/bin/env python3
-"""Checks docs/CHANGING.md: each path is in the crate that stands in bold before it or at the top, names and numbers in parentheses
-are in the file before them, all other names in some crate. Run it anywhere; its status is 1 where one is lost."""
+"""Checks docs/CHANGING.md: each path is in the crate whose name in bold comes before it, or at the top, names and
+numbers in parentheses are in the file before them, all other names in some crate. Run it anywhere; its status is 1
+where one is lost."""
 import os
 import re
 import sys
@@ -29,7 +30,7 @@ def words_of_crates():
 
 
 def lost_in(file, behind):
-    """The names and numbers of the parentheses behind a file that are not in it."""
+    """The names and numbers of the parentheses after a file that are not in it."""
     text = text_of(file)
     plain = text.replace("_", "")
     words = set(NAME.findall(text))
