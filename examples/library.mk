@@ -1,5 +1,5 @@
 # One rule a cell: `make -f library.mk -j` in the folder that make-library made ready makes all cells on all processors,
-# `make -f library.mk .made/7` the seventh cell of the list alone. TECH, SPICE, PROGRAM, WORDS, TERMINAL and
+# `make -f library.mk .made/7` the seventh cell of the list alone. TECH, SPICE, PROGRAM, WORDS, LOWEST, TERMINAL and
 # LIMIT, the seconds that a cell may take, come from the environment.
 COUNT := $(shell wc -l < cells)
 
@@ -13,10 +13,18 @@ all: $(addprefix .made/,$(shell seq $(COUNT)))
 	rm -f "$$name.gds" "$$name.lef" "$$name.svg" "$$name.clog" "$$name.ctrail"; \
 	began=$$(date +%s.%N); \
 	run() { if [ "$${LIMIT:-0}" = 0 ]; then "$$@"; else timeout "$$LIMIT" "$$@"; fi; }; \
-	run "$$PROGRAM" make "$$TECH" "$$SPICE" "$$name" "$$name" $$WORDS > "$$name.txt"; status=$$?; word=-; \
+	cell() { \
+		if [ -n "$$LOWEST" ]; then \
+			"$(TOP)/lowest" "$$TECH" "$$SPICE" "$$name" "$$name" "$$@" --seconds "$${LIMIT:-0}" --program "$$PROGRAM" \
+				2> "$$name.low"; \
+		else \
+			run "$$PROGRAM" make "$$TECH" "$$SPICE" "$$name" "$$name" "$$@"; \
+		fi > "$$name.txt"; \
+	}; \
+	rm -f "$$name.low"; \
+	cell $$WORDS; status=$$?; word=-; \
 	if [ $$status -eq 5 ]; then \
-		run "$$PROGRAM" make "$$TECH" "$$SPICE" "$$name" "$$name" --dogleg $$WORDS > "$$name.txt"; \
-		status=$$?; word=--dogleg; \
+		cell --dogleg $$WORDS; status=$$?; word=--dogleg; \
 	fi; \
 	seconds=$$(echo "$$began $$(date +%s.%N)" | awk '{ printf "%.2f", $$2 - $$1 }'); \
 	awk -v name="$$name" -v status=$$status -v seconds=$$seconds -v word=$$word -f "$(TOP)/row.awk" "$$name.txt" \

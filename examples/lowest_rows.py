@@ -1,8 +1,10 @@
 """Rows with a given number of gaps that can be wired on few tracks: a search by columns, with the open nets' tracks."""
 
+import time
+
 
 class Spent(Exception):
-    """The visits are spent."""
+    """The visits or the seconds are spent."""
 
 
 class Cell:
@@ -59,8 +61,9 @@ def classes(ends):
 class Lowest:
     """A search over the rows of a cell."""
 
-    def __init__(self, cell, visits):
+    def __init__(self, cell, visits, seconds):
         self.cell, self.visits, self.limit = cell, visits, 0
+        self.end = time.monotonic() + seconds if seconds else None
         self.bounds, self.crossed, self.failed = {}, {}, {}
         self.left, self.next = {}, {}
         self.tracks = None  # of the best row so far
@@ -189,7 +192,7 @@ class Lowest:
 
     def visit(self):
         self.visits -= 1
-        if self.visits < 0:
+        if self.visits < 0 or self.end and time.monotonic() > self.end:
             raise Spent
 
     def last(self, ends):
