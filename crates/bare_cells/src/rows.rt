@@ -4,7 +4,8 @@ ghost use Rattle.std.specs.Prelude.{◌≡◌, ◌↔◌, ◌⊎◌, ℤ, ◌<�
 ghost use Rattle.std.specs.List.{All, filter};
 ghost use Rattle.box_geom.specs.Rectangle.{Covers};
 ghost use Rattle.box_geom.specs.Regions.{IsBlock, SameCells};
-ghost use Rattle.bare_cells.specs.Rows.{as_rows, does_meet, is_part, is_wide, AreAlike, AreHalves, AreJoined, AreRows, AreRowsOf};
+ghost use Rattle.bare_cells.specs.Rows.{as_rows, does_meet, is_part, is_wide, AreAlike};
+ghost use Rattle.bare_cells.specs.Rows.{AreHalves, AreJoined, AreRows, AreRowsOf};
 
 use box_geom::{Block, Region, XRange};
 use cell_num::NoMemory;

@@ -1,4 +1,4 @@
--- What making the generated cells comes to, counted.
+-- What making the generated cells results in, counted.
 use Rattle.std.specs.Prelude.{ℕ, ◌≡◌, ◌<◌, ◌≤◌, ◌+◌, List, Ok, Some, fold, length, slice_get}
 use Rattle.cell_num.specs.declared.finger.Fingers.{Fingers}
 use Rattle.row_model.specs.declared.column.Column.{Column}
@@ -15,7 +15,7 @@ use Rattle.bench_command.specs.Tally.{added, nothing}
 
 -- ---- the cells
 
--- a generated cell as it is read, and what making it comes to
+-- a generated cell as it is read, and what making it results in
 pub record BenchCell : Type 0 where
   pub inputs : Inputs
   pub answer : MakeAnswer
@@ -31,12 +31,12 @@ pub record IsBenchCell (text : List ℕ) (cell : ℕ) (one : BenchCell) : Type 0
   pub read : AreInputsOf text cell one.inputs
   pub makes : Makes plain_style one.inputs one.answer
 
--- all cells of the text that are numbered below so many, in order
+-- all cells of the text that are numbered below that many, in order
 pub record AreCellsOf (text : List ℕ) (number : ℕ) (cells : List BenchCell) : Type 0 where
   pub many : length cells ≡ number
   pub each : (cell : ℕ) (one : BenchCell) → slice_get cells cell ≡ Some one → IsBenchCell text cell one
 
--- the generated cells that are numbered below so many, each read from the text of all of them
+-- the generated cells that are numbered below that many, each read from the text of all of them
 abbrev pub AreBenchCells : ℕ → List BenchCell → Type 0
 AreBenchCells number cells = AreCellsOf (bench_text number) number cells
 
@@ -77,10 +77,10 @@ tally_of cells = fold (λ tally one. added tally (counted_of one)) nothing cells
 abbrev pub IsCountOf : List ℕ → ℕ → Tally → Type 0
 IsCountOf text cell tally = (one : BenchCell) × IsBenchCell text cell one × (tally ≡ counted_of one)
 
--- the tally of all cells of the text that are numbered below so many
+-- the tally of all cells of the text that are numbered below that many
 abbrev pub IsTallyOf : List ℕ → ℕ → Tally → Type 0
 IsTallyOf text number tally = (cells : List BenchCell) × AreCellsOf text number cells × (tally ≡ tally_of cells)
 
--- the tally of so many generated cells
+-- the tally of that many generated cells
 abbrev pub IsBenched : ℕ → Tally → Type 0
 IsBenched number tally = (cells : List BenchCell) × AreBenchCells number cells × (tally ≡ tally_of cells)

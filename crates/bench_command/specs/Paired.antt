@@ -14,10 +14,10 @@ pub record ArePaired (f : Fingers) : Type 0 where
   pub paired : (gate : ℕ) → on_gate gate f.n ≡ on_gate gate f.p
   pub few : columns_of f ≤ 10
 
--- every completion of a valid state has so many further gaps
+-- every completion of a valid state has that many further gaps
 abbrev pub IsBound : (Row → State → Kinds → ℕ) → Kinds → Type 0
 IsBound value k = (row : Row) (s : State) → IsState k s → Need k s (value row s k)
 
--- no search of such fingers takes so many nodes
+-- no search of such fingers takes that many nodes
 abbrev pub nodes_enough : ℕ
 nodes_enough = 184341

@@ -12,7 +12,7 @@ use Rattle.cell_bench.specs.Text.{bench_text, cell_name}
 abbrev pub most_cell_columns : ℕ
 most_cell_columns = 10
 
--- In the text of so many generated cells the cell is read, and its transistors fold into fingers of few columns. Each
+-- In the text of that many generated cells the cell is read, and its transistors fold into fingers of few columns. Each
 -- gate has a finger in both rows or none.
 pub record IsRead (number cell : ℕ) : Type 0 where
   pub subckt : Subckt

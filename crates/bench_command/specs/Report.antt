@@ -1,4 +1,4 @@
--- What a bench comes to.
+-- What a bench results in.
 use Rattle.std.specs.Prelude.{ℕ, ◌≡◌, ◌+◌, List, ◌++◌, codes}
 use Rattle.cell_num.specs.Lines.{count_line}
 use Rattle.bench_command.specs.Bench.{IsBenched}
@@ -26,7 +26,7 @@ sums_text t =
 abbrev pub bench_text : ℕ → Tally → List ℕ
 bench_text number t = cells_text number t ++ sums_text t
 
--- Each of so many generated cells is made or has a cycle, no search of one is unfinished, and these are the counts.
+-- Each of that many generated cells is made or has a cycle, no search of one is unfinished, and these are the counts.
 pub record IsCounted (number : ℕ) (tally : Tally) : Type 0 where
   pub benched : IsBenched number tally
   pub sum : tally.made + tally.cycles ≡ number

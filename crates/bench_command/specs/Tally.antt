@@ -21,7 +21,7 @@ added a b = record {
 abbrev pub most_of_cell : ℕ
 most_of_cell = 2 ^ 32
 
--- no count is above what so many cells come to
+-- no count is above what that many cells result in
 pub record IsWithin (cells : ℕ) (tally : Tally) : Type 0 where
   pub made : tally.made ≤ most_of_cell * cells
   pub cycles : tally.cycles ≤ most_of_cell * cells
@@ -31,7 +31,7 @@ pub record IsWithin (cells : ℕ) (tally : Tally) : Type 0 where
   pub fingers : tally.fingers ≤ most_of_cell * cells
   pub bytes : tally.bytes ≤ most_of_cell * cells
 
--- each of so many cells was made, or has a cycle
+-- each of that many cells was made, or has a cycle
 pub record AreAllEnded (cells : ℕ) (tally : Tally) : Type 0 where
   pub none_unfinished : tally.unfinished ≡ 0
   pub sum : tally.made + tally.cycles ≡ cells

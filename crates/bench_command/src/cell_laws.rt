@@ -22,7 +22,7 @@ pub fn cells_are_read()
 {}
 
 /// Where each gate has a finger in both rows or none, and there are ten columns at most, no search by a true bound
-/// spends a budget of so many nodes. It does nothing: its contract is the law.
+/// spends a budget of that many nodes. It does nothing: its contract is the law.
 pub fn paired_are_searched()
     ensures { (value : Row → State → Kinds → ℕ) (f : Fingers) (k : Kinds) (budget proved : ℕ) (log : Log)
         → IsBound value k → ArePaired f → AreKinds f k → AreSomeKinds k → nodes_enough ≤ budget

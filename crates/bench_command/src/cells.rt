@@ -11,8 +11,8 @@ use cell_make::Outcome;
 use cell_num::{MOST_BYTES, NoMemory};
 use std::alloc::Global;
 
-// The tally of one cell. Big values are dropped by calls: where they go out of scope by themselves, all their parts are
-// proved at once, and that takes minutes.
+// The tally of one cell. What making it resulted in is dropped by a call: where that goes out of scope by itself, all
+// its parts are proved at once, and that takes minutes.
 fn count_cell(alloc: Global, text: &[u8], cell: u32) -> Result<Tally, NoMemory>
     requires few { length text.now ≤ MOST_BYTES }
     requires holds { HoldsCell text.now cell }
@@ -22,21 +22,13 @@ fn count_cell(alloc: Global, text: &[u8], cell: u32) -> Result<Tally, NoMemory>
 {
     let inputs = bench_inputs(alloc, text, cell)?;
     inputs.show_limits();
-    match Outcome::of(alloc, &inputs, Style::plain()) {
-        Ok(outcome) => {
-            let tally = counted(&inputs, &outcome);
-            drop(outcome);
-            drop(inputs);
-            Ok(tally)
-        }
-        Err(fault) => {
-            drop(inputs);
-            Err(fault)
-        }
-    }
+    let outcome = Outcome::of(alloc, &inputs, Style::plain())?;
+    let tally = counted(&inputs, &outcome);
+    drop(outcome);
+    Ok(tally)
 }
 
-/// Makes so many generated cells, each read from the text of all of them, and counts what comes out. Each is made or
+/// Makes that many generated cells, each read from the text of all of them, and counts what comes out. Each is made or
 /// has a cycle.
 pub fn bench(alloc: Global, number: u32) -> Result<Tally, NoMemory>
     requires some { 1 ≤ number }

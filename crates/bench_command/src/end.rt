@@ -26,7 +26,7 @@ fn put_sums(out: &mut Bytes, tally: &Tally) -> Result<(), NoMemory>
     put_count(out, b"bytes ", tally.bytes)
 }
 
-/// The end of a call that counts so many generated cells, each with what making it comes to.
+/// The end of a call that counts that many generated cells, each with what making it results in.
 pub fn bench_end(alloc: Global, number: &CellCount) -> Result<End, NoMemory>
     ensures { IfOk result (BenchesTo number.now) }
 {

@@ -1,4 +1,4 @@
-// What `bench` comes to: the generated cells, made and counted, and the laws on them.
+// What `bench` results in: the generated cells, made and counted, and the laws on them.
 #![tactic(auto)]
 
 mod cell_laws;

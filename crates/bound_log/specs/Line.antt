@@ -1,5 +1,6 @@
 -- What one line of a log holds, by its words.
-use Rattle.std.specs.Prelude.{ℕ, Bool, true, false, ◌≤◌, ◌+◌, ◌||◌, ◌==◌, leb, All, List, [], ◌∷◌, Option, Some, None, length, find, codes, option_map, if◌then◌else◌}
+use Rattle.std.specs.Prelude.{ℕ, Bool, true, false, ◌≤◌, ◌+◌, ◌||◌, ◌==◌, leb, All, List, [], ◌∷◌, Option, Some, None}
+use Rattle.std.specs.Prelude.{length, find, codes, option_map, if◌then◌else◌}
 use Rattle.std.specs.Option.{is_some}
 use Rattle.cell_num.specs.declared.net.NetNo.{NetNo}
 use Rattle.row_state.specs.declared.bound.TheConstants.{PARITY_LOG, COMPONENT_LOG}

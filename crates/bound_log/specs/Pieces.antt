@@ -1,5 +1,6 @@
 -- A log read byte by byte: each line feed ends a line, which says one item.
-use Rattle.std.specs.Prelude.{ℕ, ◌+◌, ◌==◌, Bool, true, false, List, [], ◌∷◌, ◌++◌, Option, Some, None, Result, Ok, Err, length, codes, position, if◌then◌else◌}
+use Rattle.std.specs.Prelude.{ℕ, ◌+◌, ◌==◌, Bool, true, false, List, [], ◌∷◌, ◌++◌, Option, Some, None, Result, Ok, Err}
+use Rattle.std.specs.Prelude.{length, codes, position, if◌then◌else◌}
 use Rattle.row_state.specs.declared.kind.Kinds.{Kinds}
 use Rattle.row_state.specs.Versions.{IsVersion}
 use Rattle.log_lines.specs.Fronts.{longer}
@@ -59,12 +60,14 @@ abbrev pub end_said : Said
 end_said = record { item = item.End; next = place.Behind }
 
 abbrev pub columns_say : Kinds → ℕ → List ℕ → Result Said LogFault
-columns_say k n line = if is_word line (codes "end") then Ok end_said else column_says (column_in k (words_in line)) (fault.Line n)
+columns_say k n line = if is_word line (codes "end") then Ok end_said
+    else column_says (column_in k (words_in line)) (fault.Line n)
 
 -- what the line of that number says there
 abbrev pub line_says : List ℕ → Kinds → LogPlace → ℕ → List ℕ → Result Said LogFault
 line_says name k place.Version n line = version_says (version_in line)
-line_says name k (place.Cell version) n line = said_if (is_word line (codes "cell " ++ name)) (item.Head version) place.Lemmas fault.Cell
+line_says name k (place.Cell version) n line =
+    said_if (is_word line (codes "cell " ++ name)) (item.Head version) place.Lemmas fault.Cell
 line_says name k place.Lemmas n line = entry_says (entry_in k (words_in line)) (fault.Line n)
 line_says name k place.Columns n line = columns_say k n line
 line_says name k place.End n line = said_if (is_word line (codes "end")) item.End place.Behind (fault.Line n)
@@ -98,13 +101,34 @@ whole_says r (Some line) = line_says r.name r.kinds r.place r.number line
 whole_says r None = Err (wrong_at r.place r.number)
 
 abbrev pub with_line : Reader → Option (List ℕ) → Reader
-with_line r line = record { name = r.name; kinds = r.kinds; place = r.place; number = r.number; line = line; fault = r.fault }
+with_line r line = record {
+  name = r.name;
+  kinds = r.kinds;
+  place = r.place;
+  number = r.number;
+  line = line;
+  fault = r.fault;
+}
 
 abbrev pub refused : Reader → LogFault → Reader
-refused r f = record { name = r.name; kinds = r.kinds; place = r.place; number = r.number; line = Some []; fault = Some f }
+refused r f = record {
+  name = r.name;
+  kinds = r.kinds;
+  place = r.place;
+  number = r.number;
+  line = Some [];
+  fault = Some f;
+}
 
 abbrev pub passed : Reader → LogPlace → Reader
-passed r next = record { name = r.name; kinds = r.kinds; place = next; number = r.number + 1; line = Some []; fault = None }
+passed r next = record {
+  name = r.name;
+  kinds = r.kinds;
+  place = next;
+  number = r.number + 1;
+  line = Some [];
+  fault = None;
+}
 
 -- behind a line
 abbrev pub behind_line : Reader → Result Said LogFault → Reader
@@ -174,8 +198,16 @@ with_version version log = record { version = version; lemmas = log.lemmas; best
 abbrev pub log_told : List LogItem → Log
 log_told [] = record { version = 0; lemmas = []; best = None }
 log_told (item.Head version ∷ items) = with_version version (log_told items)
-log_told (item.Lemma lemma ∷ items) = record { version = (log_told items).version; lemmas = lemma ∷ (log_told items).lemmas; best = (log_told items).best }
-log_told (item.Gaps gaps ∷ items) = record { version = 0; lemmas = []; best = Some (record { gaps = gaps; steps = columns_told items }) }
+log_told (item.Lemma lemma ∷ items) = record {
+  version = (log_told items).version;
+  lemmas = lemma ∷ (log_told items).lemmas;
+  best = (log_told items).best;
+}
+log_told (item.Gaps gaps ∷ items) = record {
+  version = 0;
+  lemmas = [];
+  best = Some (record { gaps = gaps; steps = columns_told items });
+}
 log_told (_ ∷ items) = log_told items
 
 -- the log told, or the fault

@@ -1,5 +1,6 @@
 -- The log of which some bytes are the text, or the first place that is wrong.
-use Rattle.std.specs.Prelude.{ℕ, ◌+◌, ◌==◌, ◌&&◌, List, [], ◌∷◌, ◌++◌, Some, None, Result, Ok, Err, length, codes, if◌then◌else◌}
+use Rattle.std.specs.Prelude.{ℕ, ◌+◌, ◌==◌, ◌&&◌, List, [], ◌∷◌, ◌++◌, Some, None, Result, Ok, Err, length, codes}
+use Rattle.std.specs.Prelude.{if◌then◌else◌}
 use Rattle.cell_num.specs.Steps.{◌>>=◌, require, or_fault}
 use Rattle.row_state.specs.declared.kind.Kinds.{Kinds}
 use Rattle.log_lines.specs.Lines.{behind, lines_in}
@@ -31,9 +32,16 @@ columns_at k n (line ∷ lines) rest =
       Ok (column ∷ columns))
 
 -- a lemma before those of a log, or the line behind the lemmas and what it asks for
-abbrev pub begun_by : ℕ → Entry → Result Log LogFault → Result (List LogStep) LogFault → Result (Unit {0}) LogFault → Result Log LogFault
-begun_by version (entry.Lemma lemma) log columns end = log >>= λ later. Ok (record { version = later.version; lemmas = lemma ∷ later.lemmas; best = later.best })
-begun_by version (entry.Gaps gaps) log columns end = columns >>= λ steps. Ok (record { version = version; lemmas = []; best = Some (record { gaps = gaps; steps = steps }) })
+abbrev pub begun_by : ℕ → Entry → Result Log LogFault → Result (List LogStep) LogFault → Result (Unit {0}) LogFault
+    → Result Log LogFault
+begun_by version (entry.Lemma lemma) log columns end =
+    log >>= λ later. Ok (record { version = later.version; lemmas = lemma ∷ later.lemmas; best = later.best })
+begun_by version (entry.Gaps gaps) log columns end =
+    columns >>= λ steps. Ok (record {
+      version = version;
+      lemmas = [];
+      best = Some (record { gaps = gaps; steps = steps });
+    })
 begun_by version entry.Open log columns end = end >>= λ _. Ok (record { version = version; lemmas = []; best = None })
 
 -- of a log of that version: lemmas, then either gaps and columns or `open`, then `end`
@@ -41,7 +49,8 @@ unfoldable pub log_at : ℕ → Kinds → ℕ → List (List ℕ) → List ℕ �
 log_at version k n [] rest = Err fault.Cut
 log_at version k n (line ∷ lines) rest = do
   first ← or_fault (entry_in k (words_in line)) (fault.Line n)
-  begun_by version first (log_at version k (n + 1) lines rest) (columns_at k (n + 1) lines rest) (end_at (n + 1) lines rest)
+  begun_by version first (log_at version k (n + 1) lines rest) (columns_at k (n + 1) lines rest)
+      (end_at (n + 1) lines rest)
 
 -- the line of the name, and the log of that version behind it
 abbrev pub named_at : List ℕ → Kinds → ℕ → List (List ℕ) → List ℕ → Result Log LogFault

@@ -1,5 +1,6 @@
 -- The text of a log: ASCII lines, each ended by LF; numbers are decimal, and one space parts the fields.
-use Rattle.std.specs.Prelude.{ℕ, Bool, true, false, List, [], ◌∷◌, ◌++◌, Option, Some, None, map, flat_map, codes, decimal}
+use Rattle.std.specs.Prelude.{ℕ, Bool, true, false, List, [], ◌∷◌, ◌++◌, Option, Some, None, map, flat_map, codes}
+use Rattle.std.specs.Prelude.{decimal}
 use Rattle.std.specs.List.{join_with_byte}
 use Rattle.cell_num.specs.declared.net.NetNo.{NetNo}
 use Rattle.row_state.specs.declared.step.Side.{Side}
@@ -54,7 +55,8 @@ side_text None = codes "- 0"
 side_text (Some side) = decimal side.kind ++ codes " " ++ flip_text side.flipped
 
 abbrev pub column_line : LogStep → List ℕ
-column_line listed = codes "column " ++ decimal listed.gate.0 ++ codes " " ++ side_text listed.step.p ++ codes " " ++ side_text listed.step.n ++ codes "\n"
+column_line listed = codes "column " ++ decimal listed.gate.0 ++ codes " " ++ side_text listed.step.p ++ codes " "
+    ++ side_text listed.step.n ++ codes "\n"
 
 -- the first line, without its line feed
 abbrev pub version_line : ℕ → List ℕ

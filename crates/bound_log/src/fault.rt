@@ -10,7 +10,7 @@ pub enum LogFault {
     /// The second line is not `cell` and the name.
     #[error("Cell")]
     Cell,
-    /// A later line, or one behind `end`, has no form that is allowed there.
+    /// A later line, or one after `end`, has no form that is allowed there.
     #[error("Line")]
     Line { line: u32 },
     /// The bytes end before the line `end` does.

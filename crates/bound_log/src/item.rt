@@ -1,7 +1,7 @@
 use crate::{Lemma, LogStep};
 
 /// What a piece of a log says, up to the end of a line: nothing yet, or with the line of the name the version,
-/// a lemma, the gaps of the row that is listed behind, one of its columns, that no row is listed, or the end.
+/// a lemma, the gaps of the row that is listed next, one of its columns, that no row is listed, or the end.
 #[derive(Debug, Drop)]
 pub enum LogItem {
     More,
@@ -14,7 +14,7 @@ pub enum LogItem {
 }
 
 /// What line of a log comes next: the first line, or the second of a log of some version, one of the lemmas or
-/// the line behind them, a column or the last line, the last line alone, or none, behind it.
+/// the line after them, a column or the last line, the last line alone, or none, after it.
 #[derive(Clone, Copy, Debug, PartialEq, Eq)]
 pub enum LogPlace {
     Version,

@@ -65,6 +65,7 @@ impl Model for Kept {
 }
 
 impl Kept {
+    /// The number of lemmas.
     pub fn len(&self) -> u64
         ensures { result ≡ length self.now }
     {

@@ -21,6 +21,7 @@ pub use fault::LogFault;
 pub use item::{LogItem, LogPlace};
 pub use kept::{Keeper, Kept};
 pub use law::reads_in_pieces;
+pub use line::gaps_of_words;
 pub use log::{Best, Entry, Lemma, LemmaList, Log, LogStep, LogSteps, MOST_GAPS, Rule};
 pub use read::{read_columns, read_end, read_log};
 pub use reader::LogReader;

@@ -1,7 +1,8 @@
 ghost use Rattle.std.specs.Prelude.{◌≡◌, [], IfOk, IsTrue, map};
 ghost use Rattle.row_state.specs.Tests.{counts_fit, end_fits, state_test};
 ghost use Rattle.log_lines.specs.Words.{parts_at, words_in};
-ghost use Rattle.bound_log.specs.Line.{FewOfEach, column_in, counts_each, counts_in, entry_in, gaps_in, lemma_in, state_in, step_in};
+ghost use Rattle.bound_log.specs.Line.{FewOfEach, column_in, counts_each, counts_in, entry_in, gaps_in, lemma_in};
+ghost use Rattle.bound_log.specs.Line.{state_in, step_in};
 
 use crate::field::{end, rule, side};
 use crate::{Entry, Lemma, LogStep, MOST_GAPS};
@@ -123,7 +124,8 @@ fn lemma(alloc: Global, kinds: &Kinds, words: &[&[u8]]) -> Result<Option<Lemma>,
     Ok(Some(Lemma { state, bound, rule }))
 }
 
-fn gaps(words: &[&[u8]]) -> Option<u32>
+/// The gaps of a row, of the words after `gaps`: one number, of at most [`MOST_GAPS`].
+pub fn gaps_of_words(words: &[&[u8]]) -> Option<u32>
     ensures { result ≡ gaps_in (map (λ word. word.now) words.now) }
 {
     match words {
@@ -160,7 +162,7 @@ fn entry_of_words(alloc: Global, kinds: &Kinds, words: &[&[u8]]) -> Result<Optio
         return Ok(lemma(alloc, kinds, rest)?.map(Entry::Lemma));
     }
     if is_word(word, b"gaps") {
-        return Ok(gaps(rest).map(Entry::Gaps));
+        return Ok(gaps_of_words(rest).map(Entry::Gaps));
     }
     if is_word(word, b"open") && rest.is_empty() {
         return Ok(Some(Entry::Open));

@@ -13,16 +13,17 @@ pub enum Rule {
 }
 
 /// No completion of the state has fewer further gaps than the bound.
-#[derive(Debug, Drop)]
+#[derive(Clone, Debug, Drop)]
 pub struct Lemma {
     pub state: State,
     pub bound: u32,
     pub rule: Rule,
 }
 
+/// The lemmas of a log, each after those that it needs.
 pub type LemmaList = List<Lemma>;
 
-/// What a line says behind the name: a lemma, or what follows the lemmas: the gaps of a row whose columns
+/// What a line says after the name: a lemma, or what follows the lemmas: the gaps of a row whose columns
 /// are listed, or that none is.
 #[derive(Debug, Drop)]
 pub enum Entry {
@@ -38,10 +39,11 @@ pub struct LogStep {
     pub step: Step,
 }
 
+/// The columns of a row, from left to right, as a log lists them.
 pub type LogSteps = List<LogStep>;
 
 /// The row that a log certifies, and its gaps.
-#[derive(Debug, Drop)]
+#[derive(Clone, Debug, Drop)]
 pub struct Best {
     pub gaps: u32,
     pub steps: LogSteps,

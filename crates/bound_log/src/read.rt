@@ -14,7 +14,7 @@ use log_lines::{first_line, is_named, is_word};
 use row_state::Kinds;
 use std::alloc::Global;
 
-/// The line `end`, of that number, and nothing behind it: else the fault of the first place that is wrong.
+/// The line `end`, of that number, and nothing after it: else the fault of the first place that is wrong.
 #[tactic(auto, using(crate::proofs::Ends::ended, crate::proofs::Ends::ended_before, crate::proofs::Ends::not_ended))]
 pub fn read_end(bytes: &[u8], number: u32) -> Result<(), LogFault>
     requires { number ≤ MOST_BYTES + 5 }
@@ -66,7 +66,7 @@ pub fn read_columns(
     }
 }
 
-// The lemmas of a log of that version, and behind them the row that they certify, or `open`.
+// The lemmas of a log of that version, and after them the row that they certify, or `open`.
 #[tactic(auto, using(crate::proofs::Fronts::log_cut, crate::proofs::Fronts::log_wrong, crate::proofs::Fronts::log_more, crate::proofs::Fronts::log_listed, crate::proofs::Fronts::log_unlisted, crate::proofs::Fronts::log_ended, crate::proofs::Fronts::log_unended))]
 fn read_lemmas(
     alloc: Global,

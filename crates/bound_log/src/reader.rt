@@ -2,7 +2,8 @@ ghost use Rattle.std.specs.Prelude.{◌≡◌, ◌≢◌, ◌≤◌, ◌<◌, �
 ghost use Rattle.log_lines.specs.Fronts.{IsShort, longer};
 ghost use Rattle.bound_log.specs.declared.fault.LogFault.TheVariants as fault;
 ghost use Rattle.bound_log.specs.Fits.{IsLogName};
-ghost use Rattle.bound_log.specs.Pieces.{ItemFits, PlaceFits, SaidFits, begun, behind_line, ended, line_bytes, passed, refused, tale_of, told, whole_says, with_line};
+ghost use Rattle.bound_log.specs.Pieces.{ItemFits, PlaceFits, SaidFits, begun, behind_line, ended, line_bytes, passed};
+ghost use Rattle.bound_log.specs.Pieces.{refused, tale_of, told, whole_says, with_line};
 
 use crate::said::{Said, say_line, wrong_at};
 use crate::{LogFault, LogItem, LogPlace};
@@ -79,7 +80,7 @@ impl LogReader {
         )
     }
 
-    // What the line says that ends behind these bytes.
+    // What the line says that ends after these bytes.
     fn say(&mut self, part: &[u8]) -> Result<Said, LogFault>
         ensures same { self.new ≡ self.old }
         ensures short { IsShort self.old.line }
@@ -116,7 +117,7 @@ impl LogReader {
         self.line.clear();
     }
 
-    // The line feed behind these bytes.
+    // The line feed after these bytes.
     fn end_line(&mut self, part: &[u8]) -> Result<Said, LogFault>
         requires fault { self.old.fault ≡ None }
         requires few { self.old.number ≤ MOST_BYTES + 1 }

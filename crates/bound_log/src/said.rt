@@ -2,7 +2,8 @@ ghost use Rattle.std.specs.Prelude.{◌≡◌, ◌≢◌, Err, IfErr, IfOk, Ok};
 ghost use Rattle.log_lines.specs.Words.{words_in};
 ghost use Rattle.bound_log.specs.declared.fault.LogFault.TheVariants as fault;
 ghost use Rattle.bound_log.specs.Line.{entry_in, version_in};
-ghost use Rattle.bound_log.specs.Pieces.{column_says, columns_say, entry_says, line_says, said_if, version_says, wrong_at};
+ghost use Rattle.bound_log.specs.Pieces.{column_says, columns_say, entry_says, line_says, said_if, version_says};
+ghost use Rattle.bound_log.specs.Pieces.{wrong_at};
 
 use crate::head::version;
 use crate::line::{read_column, read_entry};
@@ -12,7 +13,7 @@ use log_lines::{is_named, is_word};
 use row_state::Kinds;
 use std::alloc::Global;
 
-/// What a line says, and what line comes behind it.
+/// What a line says, and what line comes after it.
 #[derive(Drop)]
 pub struct Said {
     pub item: LogItem,

@@ -1,5 +1,6 @@
 ghost use Rattle.std.specs.Prelude.{◌≡◌, ◌≤◌, ◌<◌, ◌+◌, ◌∷◌, ◌++◌, OnErr, OnOk, decimal, length};
-ghost use Rattle.bound_log.specs.Text.{column_line, counts_text, end_text, flip_text, gaps_line, head_lines, lemma_line, more_counts_text, rule_text, side_text};
+ghost use Rattle.bound_log.specs.Text.{column_line, counts_text, end_text, flip_text, gaps_line, head_lines};
+ghost use Rattle.bound_log.specs.Text.{lemma_line, more_counts_text, rule_text, side_text};
 
 use crate::out::Out;
 use crate::{Lemma, LogStep, Rule};
@@ -30,7 +31,7 @@ fn rule_word(rule: Rule) -> &'static [u8]
     }
 }
 
-// A count behind its comma.
+// A count after its comma.
 #[tactic(auto, using(std::proofs::lemmas::Fmt::decimal_digit))]
 fn put_next_count<O: Out>(out: &mut O, count: u32) -> Result<(), NoMemory>
     ensures text { OnOk result (O.text out.new ≡ O.text out.old ++ (44 ∷ decimal count)) }

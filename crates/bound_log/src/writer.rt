@@ -12,13 +12,14 @@ use std::alloc::Global;
 
 /// The lines of the text of a log, one at a time, in memory that is taken once: [`LineWriter::head`],
 /// each lemma, then the gaps and each column of a row, or [`LineWriter::unfinished`], then
-/// [`LineWriter::last`], one behind the other, are what [`write_log`](crate::write_log) writes.
+/// [`LineWriter::last`], one after the other, are what [`write_log`](crate::write_log) writes.
 #[derive(Debug, Drop)]
 pub struct LineWriter {
     line: LineRoom,
 }
 
 impl LineWriter {
+    /// Takes the memory for one line.
     pub fn new(alloc: Global) -> Result<LineWriter, NoMemory> {
         Ok(LineWriter {
             line: LineRoom::new(alloc)?,

@@ -1,5 +1,6 @@
 -- The comparisons by which the code decides.
-use Rattle.std.specs.Prelude.{ℕ, ℤ, ◌-ℤ◌, int_lt, int_le, unsigned_abs, Bool, true, false, ◌&&◌, ◌||◌, if◌then◌else◌, Option, Some, None, List}
+use Rattle.std.specs.Prelude.{ℕ, ℤ, ◌-ℤ◌, int_lt, int_le, unsigned_abs, Bool, true}
+use Rattle.std.specs.Prelude.{false, ◌&&◌, ◌||◌, if◌then◌else◌, Option, Some, None, List}
 use Rattle.std.specs.List.{list_any}
 use Rattle.box_geom.specs.Rectangle.{Rectangle}
 use Rattle.box_geom.specs.Layers.{same_layer}

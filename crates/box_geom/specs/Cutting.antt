@@ -28,4 +28,5 @@ SameSlot cuts x s = (z : ℤ) → Contains cuts z → (z ≤ℤ x ↔ z ≤ℤ s
 
 -- two cells between the same neighbouring cuts are covered alike on every layer
 pub record AreAlike (shapes : List Shape) (xs ys : List ℤ) : Type 0 where
-  pub alike : (layer : Layer) (x s y t : ℤ) → SameSlot xs x s → SameSlot ys y t → Covers (rects_on layer shapes) x y ↔ Covers (rects_on layer shapes) s t
+  pub alike : (layer : Layer) (x s y t : ℤ) → SameSlot xs x s → SameSlot ys y t →
+      Covers (rects_on layer shapes) x y ↔ Covers (rects_on layer shapes) s t

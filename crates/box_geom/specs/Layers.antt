@@ -4,7 +4,8 @@ use Rattle.std.specs.List.{All, filter}
 use Rattle.box_geom.specs.Rectangle.{Rectangle, IsRectangle}
 use Rattle.box_geom.specs.declared.shape.Shape.{Shape}
 use Rattle.box_geom.specs.declared.layer.Layer.{Layer}
-use Rattle.box_geom.specs.declared.layer.Layer.TheVariants.{Well, Active, PSelect, NSelect, Poly, Contact, Metal1, Via, Metal2}
+use Rattle.box_geom.specs.declared.layer.Layer.TheVariants.{Well, Active, PSelect, NSelect}
+use Rattle.box_geom.specs.declared.layer.Layer.TheVariants.{Poly, Contact, Metal1, Via, Metal2}
 
 -- the place of a layer in the list of layers
 abbrev pub layer_no : Layer → ℕ

@@ -5,7 +5,8 @@ use Rattle.box_geom.specs.Rectangle.{Rectangle, Covers}
 use Rattle.box_geom.specs.Ranges.{Hit, Spread}
 use Rattle.box_geom.specs.Layers.{layer_no, rects_on}
 use Rattle.box_geom.specs.declared.layer.Layer.{Layer}
-use Rattle.box_geom.specs.declared.layer.Layer.TheVariants.{Well, Active, PSelect, NSelect, Poly, Contact, Metal1, Via, Metal2}
+use Rattle.box_geom.specs.declared.layer.Layer.TheVariants.{Well, Active, PSelect, NSelect}
+use Rattle.box_geom.specs.declared.layer.Layer.TheVariants.{Poly, Contact, Metal1, Via, Metal2}
 use Rattle.box_geom.specs.declared.ranges.XRange.{XRange}
 use Rattle.box_geom.specs.declared.shape.Shape.{Shape}
 use Rattle.box_geom.specs.declared.slab.Slab.{Slab}

@@ -1,5 +1,6 @@
 -- Two sets of numbers, each given by spans in any order, put together from left to right.
-use Rattle.std.specs.Prelude.{ℤ, ◌≤ℤ◌, ◌<ℤ◌, List, [], ◌∷◌, ◌++◌, Bool, not, ◌&&◌, ◌||◌, if◌then◌else◌, int_lt, ◌⊎◌, ◌↔◌}
+use Rattle.std.specs.Prelude.{ℤ, ◌≤ℤ◌, ◌<ℤ◌, List, [], ◌∷◌, ◌++◌, Bool, not}
+use Rattle.std.specs.Prelude.{◌&&◌, ◌||◌, if◌then◌else◌, int_lt, ◌⊎◌, ◌↔◌}
 use Rattle.std.specs.List.{Contains, flat_map}
 use Rattle.std.specs.Int.{int_max}
 use Rattle.std.specs.Ordering.{int_cmp, ordering_then}
@@ -39,8 +40,10 @@ pub record AreRangesOf (op : Operation) (a b : List Rectangle) (rs : List XRange
 -- What is known from a place on: how far each of the two sets reaches from there. A set that does not reach
 -- beyond the place holds nothing from it on.
 abbrev pub events_of : Side → Rectangle → List Event
-events_of First r = record { at = r.x1; first = r.x2; second = r.x1 } ∷ record { at = r.x2; first = r.x2; second = r.x2 } ∷ []
-events_of Second r = record { at = r.x1; first = r.x1; second = r.x2 } ∷ record { at = r.x2; first = r.x2; second = r.x2 } ∷ []
+events_of First r =
+    record { at = r.x1; first = r.x2; second = r.x1 } ∷ record { at = r.x2; first = r.x2; second = r.x2 } ∷ []
+events_of Second r =
+    record { at = r.x1; first = r.x1; second = r.x2 } ∷ record { at = r.x2; first = r.x2; second = r.x2 } ∷ []
 
 abbrev pub all_events : List Rectangle → List Rectangle → List Event
 all_events a b = flat_map (events_of First) a ++ flat_map (events_of Second) b
@@ -60,7 +63,8 @@ after e f = record { at = f.at; first = int_max e.first f.first; second = int_ma
 -- the slots between neighbouring events that the operation holds
 abbrev pub slots : Operation → Event → List Event → List XRange
 slots op e [] = []
-slots op e (f ∷ fs) = if has_slot op e f then record { x1 = e.at; x2 = f.at } ∷ slots op (after e f) fs else slots op (after e f) fs
+slots op e (f ∷ fs) =
+    if has_slot op e f then record { x1 = e.at; x2 = f.at } ∷ slots op (after e f) fs else slots op (after e f) fs
 
 abbrev pub all_slots : Operation → List Event → List XRange
 all_slots op [] = []

@@ -25,10 +25,14 @@ pub use rect::Rect;
 pub use region::{Place, Region};
 pub use shape::{Label, Shape, Shapes, covered};
 pub use slab::{Slab, SlabList, Slabs, XRangeList};
+pub use span::{overlap, reach};
 pub use touching::{facing_gap, touches};
 
+/// Shapes in the order of their drawing.
 pub type ShapeList = List<Shape>;
 
+/// Labels in the order of their drawing.
 pub type LabelList = List<Label>;
 
+/// Values of one axis, in grid units.
 pub type CoordList = List<i32>;

@@ -8,7 +8,6 @@ ghost use Rattle.box_geom.specs.Banding.{IsMade};
 use crate::bands::bands;
 use crate::block::Block;
 use crate::moving::{all_moved, all_turned, along, outward, whole_plane};
-use crate::shape::is_on;
 use crate::sweep::Operation;
 use crate::{Layer, Rect, Shape, Shapes};
 use cell_num::NoMemory;
@@ -74,7 +73,7 @@ fn blocks_on(alloc: Global, shapes: &[Shape], layer: Layer) -> Result<Vec<Block>
 {
     let mut out = Vec::new(alloc);
     for shape in shapes {
-        if is_on(shape, layer) {
+        if shape.is_on(layer) {
             out.push(block_of(&shape.rect))?;
         }
     }

@@ -48,10 +48,13 @@ fn show_all_limits(shapes: &[Shape])
     }
 }
 
-pub(crate) fn is_on(shape: &Shape, layer: Layer) -> bool
-    ensures { result ≡ same_layer shape.now.layer layer }
-{
-    shape.layer == layer
+impl Shape {
+    /// Whether the shape is on the layer.
+    pub fn is_on(&self, layer: Layer) -> bool
+        ensures { result ≡ same_layer self.now.layer layer }
+    {
+        self.layer == layer
+    }
 }
 
 fn is_in(rect: &Rect, x: i32, y: i32) -> bool
@@ -65,7 +68,7 @@ fn is_covered(shapes: &[Shape], layer: Layer, x: i32, y: i32) -> bool
 {
     shapes
         .iter()
-        .any(|shape| is_on(shape, layer) && is_in(&shape.rect, x, y))
+        .any(|shape| shape.is_on(layer) && is_in(&shape.rect, x, y))
 }
 
 /// Whether the layer covers the cell with that lower left corner: some rectangle holds it.

@@ -1,9 +1,10 @@
 // The cells of all layers as slabs: the bands of each layer, with their ranges.
-ghost use Rattle.std.specs.Prelude.{◌≡◌, ◌≤◌, ◌↔◌, ℤ, length, map, IfOk, OnOk};
+ghost use Rattle.std.specs.Prelude.{◌≡◌, ◌↔◌, ℤ, IfOk};
 ghost use Rattle.std.specs.List.{All, AllPairs};
 ghost use Rattle.box_geom.specs.Rectangle.{Covers};
 ghost use Rattle.box_geom.specs.Layers.{rects_on};
-ghost use Rattle.box_geom.specs.Slabbing.{IsSlab, StandsBelow, SlabsCover, across, slab_of as slab_over, AreSlabsOf, AreSlabsUpTo, all_layers};
+ghost use Rattle.box_geom.specs.Slabbing.{IsSlab, StandsBelow, SlabsCover, across};
+ghost use Rattle.box_geom.specs.Slabbing.{slab_of as slab_over, AreSlabsOf, AreSlabsUpTo, all_layers};
 
 use crate::block::Block;
 use crate::ranges::XRange;
@@ -12,8 +13,10 @@ use crate::{Layer, Region, Shapes};
 use cell_num::{List, NoMemory};
 use std::alloc::Global;
 
+/// Ranges of x, ascending.
 pub type XRangeList = List<XRange>;
 
+/// Slabs layer by layer, on each by ascending y.
 pub type SlabList = List<Slab>;
 
 /// The cells (x, y) of a layer with `y1 <= y < y2` and `x1 <= x < x2` for one of the ranges, in grid

@@ -10,17 +10,17 @@ pub(crate) fn in_span(low: i32, high: i32, at: i32) -> bool
     low <= at && at < high
 }
 
-// Whether two spans have a place in common.
+/// Whether the spans from `a` to before `b` and from `c` to before `d` have a place in common.
 #[tactic(auto, unfolding(crate::specs::Comparisons::overlapping))]
-pub(crate) fn overlap(a: i32, b: i32, c: i32, d: i32) -> bool
+pub fn overlap(a: i32, b: i32, c: i32, d: i32) -> bool
     ensures { result ≡ overlapping a b c d }
 {
     a < d && c < b
 }
 
-// Whether two spans have a place or an end in common.
+/// Whether the spans from `a` to `b` and from `c` to `d` have a place or an end in common.
 #[tactic(auto, unfolding(crate::specs::Comparisons::reaching))]
-pub(crate) fn reach(a: i32, b: i32, c: i32, d: i32) -> bool
+pub fn reach(a: i32, b: i32, c: i32, d: i32) -> bool
     ensures { result ≡ reaching a b c d }
 {
     a <= d && c <= b

@@ -1,7 +1,8 @@
 // Two sets of numbers, each given by spans in any order, put together in one sweep from left to right.
 ghost use Rattle.std.specs.Prelude.{◌≡◌, ◌++◌, IfOk, OnOk};
 ghost use Rattle.std.specs.List.{flat_map};
-ghost use Rattle.box_geom.specs.Sweeping.{applied, events_of, all_events, is_held, has_slot, after, slots as slots_of, all_slots as all_slots_of, AreRangesOf};
+ghost use Rattle.box_geom.specs.Sweeping.{applied, events_of, all_events, is_held, has_slot, after};
+ghost use Rattle.box_geom.specs.Sweeping.{slots as slots_of, all_slots as all_slots_of, AreRangesOf};
 ghost use Rattle.box_geom.specs.declared.sweep.Side.TheVariants.{First, Second};
 
 use crate::block::Block;

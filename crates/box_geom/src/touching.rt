@@ -1,5 +1,4 @@
 ghost use Rattle.std.specs.Prelude.{◌≡◌, ◌↔◌, ◌⊎◌, IsTrue, IfSome, IsNone};
-ghost use Rattle.box_geom.specs.Rectangle.{IsRectangle};
 ghost use Rattle.box_geom.specs.Comparisons.{beside, stacked, touching, gap_between};
 ghost use Rattle.box_geom.specs.Touching.{Touch, Overlap, Face, FaceInNeither};
 

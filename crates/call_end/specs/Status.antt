@@ -1,7 +1,9 @@
 -- The numbers of the statuses, and how a report tells them.
 use Rattle.std.specs.Prelude.{ℕ, List, ◌++◌, codes}
 use Rattle.call_end.specs.declared.status.Status.{Status}
-use Rattle.call_end.specs.declared.status.Status.TheVariants.{Done, Usage, ReadFault, WriteFault, Input, Cycle, Unfinished, Rejected, NoMemory, Layout, TooLong, TooTall, Row, Disagree}
+use Rattle.call_end.specs.declared.status.Status.TheVariants.{Done, Usage, ReadFault, WriteFault, Input, Cycle}
+use Rattle.call_end.specs.declared.status.Status.TheVariants.{Unfinished, Rejected, NoMemory, Layout, TooLong}
+use Rattle.call_end.specs.declared.status.Status.TheVariants.{TooTall, Row, Disagree}
 
 abbrev pub number_of : Status → ℕ
 number_of Done = 0

@@ -28,11 +28,7 @@ fn make_file<D: Desk>(desk: &mut D, file: Output) -> Result<(), WriteFault>
     let Output { name, bytes } = file;
     match write_all(desk, name.as_str(), &[]) {
         Ok(()) => bytes.give(desk, Target::File(name.as_str())),
-        Err(fault) => {
-            // (a call, here and below, whose proof is short: in place all its parts would be dropped one by one)
-            drop(bytes);
-            Err(fault)
-        }
+        Err(fault) => Err(fault),
     }
 }
 
@@ -71,15 +67,8 @@ pub fn deliver<D: Desk>(desk: &mut D, end: End) -> Status
     } = end;
     match make_files(desk, files) {
         Ok(()) => (),
-        Err(WriteFault::Failed) => {
-            // (a call, as above)
-            drop(report);
-            return Status::WriteFault;
-        }
-        Err(WriteFault::NoMemory) => {
-            drop(report);
-            return Status::NoMemory;
-        }
+        Err(WriteFault::Failed) => return Status::WriteFault,
+        Err(WriteFault::NoMemory) => return Status::NoMemory,
     }
     match report.give(desk, Target::Report) {
         Ok(()) => status,

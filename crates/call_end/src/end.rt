@@ -13,9 +13,10 @@ pub struct Output {
     pub bytes: Content,
 }
 
+/// Files to make, in order.
 pub type OutputList = List<Output>;
 
-/// What a call comes to: it makes the files in order, says the report, and ends with the status.
+/// What a call results in: it makes the files in order, says the report, and ends with the status.
 #[derive(Drop)]
 pub struct End {
     pub status: Status,
@@ -30,18 +31,11 @@ fn with_file(mut files: OutputList, file: Output) -> Result<OutputList, NoMemory
     Ok(files)
 }
 
-// Files that can't be listed are dropped by calls, here and below: where one goes out of scope by itself, all its parts
-// are proved at once, and that takes long.
 fn two_files(alloc: Global, first: Output, second: Output) -> Result<OutputList, NoMemory>
     ensures { IfOk result (λ files. files ≡ first ∷ second ∷ []) }
 {
-    match with_file(OutputList::new(alloc), first) {
-        Ok(files) => with_file(files, second),
-        Err(fault) => {
-            drop(second);
-            Err(fault)
-        }
-    }
+    let files = with_file(OutputList::new(alloc), first)?;
+    with_file(files, second)
 }
 
 fn three_files(
@@ -52,13 +46,8 @@ fn three_files(
 ) -> Result<OutputList, NoMemory>
     ensures { IfOk result (λ files. files ≡ first ∷ second ∷ third ∷ []) }
 {
-    match two_files(alloc, first, second) {
-        Ok(files) => with_file(files, third),
-        Err(fault) => {
-            drop(third);
-            Err(fault)
-        }
-    }
+    let files = two_files(alloc, first, second)?;
+    with_file(files, third)
 }
 
 impl End {

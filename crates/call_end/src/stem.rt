@@ -19,6 +19,7 @@ impl Model for Stem {
 }
 
 impl Stem {
+    /// The text itself, copied.
     pub fn new(alloc: Global, text: &str) -> Result<Stem, NoMemory>
         ensures { IfOk result (λ stem. stem ≡ text.now) }
     {

@@ -11,7 +11,7 @@ pub data Reading (A : Type 0) : Type 0 where
   Ends : (ended : Result A Refusal) → Reading A
   Reads : (source : Source) (rest : List ℕ → Reading A) → Reading A
 
--- one reading, and behind it another
+-- one reading, and after it another
 infixl 10 ◌>>=◌
 abbrev pub ◌>>=◌ : {A B : Type 0} → Reading A → (A → Reading B) → Reading B
 (Ends (Ok x)) >>= next = next x
@@ -27,7 +27,7 @@ abbrev pub behind : {A : Type 0} → Result (List ℕ) Refusal → (List ℕ →
 behind (Ok bytes) rest = rest bytes
 behind (Err e) rest = Err e
 
--- what it comes to over files that are told
+-- what it results in over files that are told
 abbrev pub called : {A : Type 0} → Files → Reading A → Result A Refusal
 called files (Ends ended) = ended
 called files (Reads source rest) = behind (held files source) (λ bytes. called files (rest bytes))
@@ -37,7 +37,7 @@ abbrev pub Behind : {A : Type 0} → Result (List ℕ) Refusal → (List ℕ →
 Behind (Ok bytes) Rest ended = Rest bytes
 Behind (Err e) Rest ended = ended ≡ Err e
 
--- what it may come to, where each file may be read as so
+-- what it may result in, where each file may be read as so
 abbrev pub Comes : {A : Type 0} → (Source → Result (List ℕ) Refusal → Type 0) → Reading A → Result A Refusal → Type 0
 Comes May (Ends told) ended = ended ≡ told
 Comes May (Reads source rest) ended =
@@ -45,7 +45,7 @@ Comes May (Reads source rest) ended =
     × May source read
     × Behind read (λ bytes. Comes May (rest bytes) ended) ended
 
--- over a desk, seen before and after it, it may come to this, or memory ran out
+-- over a desk, seen before and after it, it may result in this, or memory ran out
 abbrev pub MayCome : {A : Type 0} → View → View → Reading A → Result A Refusal → Type 0
 MayCome old new reading ended =
     Comes (MayRead old.given (Rose old.read_faults new.read_faults)) reading ended ⊎ (ended ≡ Err NoMemory)

@@ -1,4 +1,4 @@
--- Faults of the parts that read files as refusals of the whole: want of memory is that of the whole.
+-- Faults of the parts that read files as refusals of the whole: out of memory is that of the whole.
 use Rattle.std.specs.Prelude.{Result, Ok, Err}
 use Rattle.tech_file.specs.declared.fault.TechFault.{TechFault}
 use Rattle.tech_file.specs.declared.fault.TechFault.TheVariants as tech

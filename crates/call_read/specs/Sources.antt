@@ -1,5 +1,6 @@
--- The files that a call reads, and what reading one may come to.
-use Rattle.std.specs.Prelude.{ℕ, ◌≡◌, ◌≤◌, ◌⊎◌, nat_le, List, length, Contains, IsNone, Option, Some, None, Result, Ok, Err, if◌then◌else◌}
+-- The files that a call reads, and what reading one may result in.
+use Rattle.std.specs.Prelude.{ℕ, ◌≡◌, ◌≤◌, ◌⊎◌, nat_le, List, length, Contains, IsNone, Option, Some, None, Result}
+use Rattle.std.specs.Prelude.{Ok, Err, if◌then◌else◌}
 use Rattle.cell_io.specs.Desk.{Files}
 use Rattle.call_read.specs.declared.refusal.Refusal.{Refusal}
 use Rattle.call_read.specs.declared.refusal.Refusal.TheVariants.{Unread, Long}
@@ -21,7 +22,8 @@ file_name (GdsFile name) = name
 file_name (LefFile name) = name
 file_name (TrailFile name) = name
 
--- the most bytes of a file: 4 MiB, 512 MiB for a log, and 64 MiB for a GDSII file, a LEF file and a certificate by trails
+-- the most bytes of a file: 4 MiB, 512 MiB for a log, and 64 MiB for a GDSII file, a LEF file and a certificate by
+-- trails
 abbrev pub most_bytes : Source → ℕ
 most_bytes (TechFile name) = 4194304
 most_bytes (SpiceFile name) = 4194304
@@ -39,7 +41,7 @@ within name most (Some bytes) = if nat_le (length bytes) most then Ok bytes else
 abbrev pub held : Files → Source → Result (List ℕ) Refusal
 held files source = within (file_name source) (most_bytes source) (files (file_name source))
 
--- What reading a file over a desk may come to: what its files call for, where they are told; some bytes within
+-- What reading a file over a desk may result in: what its files call for, where they are told; some bytes within
 -- the limit, or too many, where they are not; or, where a reading failed in the call, that the file is unread.
 abbrev pub MayRead : Option Files → Type 0 → Source → Result (List ℕ) Refusal → Type 0
 MayRead (Some files) failed source read =

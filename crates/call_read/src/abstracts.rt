@@ -23,8 +23,7 @@ fn macro_in(alloc: Global, bytes: &[u8], name: &Name, tech: &Tech) -> Result<Mac
     ensures refusal { IfErr result (λ e. e ≢ refused.NoMemory
         → as_refusal refused.Lef (macro_in bytes.now name.now (unit_nm tech.now)) ≡ Err e) }
 {
-    tech.show_limits();
-    Ok(lef_read::read_macro(alloc, bytes, name, tech.lambda_nm / 2)?)
+    Ok(lef_read::read_macro(alloc, bytes, name, tech.unit_nm())?)
 }
 
 /// The first macro of that name in a LEF file. The bytes of the file are kept no longer.

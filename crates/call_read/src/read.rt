@@ -27,6 +27,7 @@ impl Model for FileBytes {
 }
 
 impl FileBytes {
+    /// The bytes, in place.
     pub fn as_slice(&self) -> &[u8]
         ensures bytes { result.now ≡ self.now }
         ensures few { length result.now ≤ MOST_BYTES }
@@ -34,6 +35,7 @@ impl FileBytes {
         self.bytes.as_slice()
     }
 
+    /// The bytes alone.
     pub fn into_bytes(self) -> Bytes
         ensures bytes { result ≡ self }
         ensures few { length result ≤ MOST_BYTES }

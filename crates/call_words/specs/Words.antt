@@ -1,5 +1,6 @@
 -- The words of a call of the program.
-use Rattle.std.specs.Prelude.{ℕ, ◌&&◌, nat_le, Bool, List, [], ◌∷◌, ◌++◌, Option, Some, None, length, find, option_map, option_and_then, codes, bytes_eq, decimal, String, if◌then◌else◌}
+use Rattle.std.specs.Prelude.{ℕ, ◌&&◌, nat_le, Bool, List, [], ◌∷◌, ◌++◌, Option, Some, None, length, find}
+use Rattle.std.specs.Prelude.{option_map, option_and_then, codes, bytes_eq, decimal, String, if◌then◌else◌}
 use Rattle.std.specs.List.{range_with_len}
 use Rattle.std.specs.declared.alloc.Global.{Global}
 use Rattle.cell_num.specs.Names.{is_cell}
@@ -16,11 +17,15 @@ use Rattle.cell_inputs.specs.declared.style.Wiring.TheVariants.{Straight, Dogleg
 use Rattle.scmos_rules.specs.declared.rules.Deck.{Deck}
 use Rattle.scmos_rules.specs.declared.rules.Deck.TheVariants as deck
 
--- what a call asks for: `plan TECH SPICE CELL`, which may end with `--trails` for another kind of evidence, `make TECH
--- SPICE CELL OUT`, which may end with `--dogleg`, `--taps` and `--trails`, and behind them with `--from FILE` for the row
--- that a file lists, `check TECH SPICE CELL LOG`, or with `--trails` behind the file's name, `extract TECH GDS CELL`, whose technology is none for the plain one and which may
--- end with `--taps` for the deck of cells with taps, `bench NUMBER`, `row TECH SPICE OUT TOP CELL CELL ..`, or `agree
--- TECH GDS LEF CELL`
+-- What a call asks for.
+--   plan TECH SPICE CELL, which may end with `--trails` for another kind of evidence
+--   make TECH SPICE CELL OUT, which may end with `--dogleg`, `--taps` and `--trails`, and after them with `--from FILE`
+--     for the row that a file lists
+--   check TECH SPICE CELL LOG, or with `--trails` after the file's name
+--   extract TECH GDS CELL, which may end with `--taps` for the deck of cells with taps; no technology is the plain one
+--   bench NUMBER
+--   row TECH SPICE OUT TOP CELL CELL ..
+--   agree TECH GDS LEF CELL
 pub data Form : Type 0 where
   Plan : (cell : CellAsked) (evidence : Evidence) → Form
   Make : (cell : CellAsked) (out : List ℕ) (style : Style) (evidence : Evidence) → Form
@@ -42,7 +47,7 @@ shown (read.Bench number) = Bench number
 shown (read.Row row out) = Row row out.now
 shown (read.Agree tech gds lef cell) = Agree (option_map (λ name. name.now) tech) gds.now lef.now cell.now
 
--- a line for each form, as they are told to who gave other words
+-- a line for each form, as they are listed for who gave other words
 abbrev pub usage_text : List ℕ
 usage_text =
     codes "plan TECH SPICE CELL\n"
@@ -82,7 +87,7 @@ evidence_of [] = Some Log
 evidence_of (word ∷ []) = if bytes_eq word (codes "--trails") then Some Trails else None
 evidence_of _ = None
 
--- the form of the words behind a command
+-- the form of the words after a command
 abbrev pub plan_of : List (List ℕ) → Option Form
 plan_of (tech ∷ spice ∷ cell ∷ more) =
     option_and_then (λ evidence. option_map (λ asked. Plan asked evidence) (cell_of tech spice cell)) (evidence_of more)
@@ -93,21 +98,21 @@ abbrev pub making_of : Style → Evidence → List ℕ → List ℕ → List ℕ
 making_of style evidence tech spice cell out =
     if is_file out then option_map (λ asked. Make asked out style evidence) (cell_of tech spice cell) else None
 
--- `--dogleg` asks for doglegs, where it comes first; and the words behind it
+-- `--dogleg` asks for doglegs, where it comes first; and the words after it
 abbrev pub wiring_of : List (List ℕ) → Wiring × List (List ℕ)
 wiring_of [] = (Straight, [])
 wiring_of (word ∷ more) = if bytes_eq word (codes "--dogleg") then (Doglegs, more) else (Straight, word ∷ more)
 
--- `--taps` asks for taps, where it comes first; and the words behind it
+-- `--taps` asks for taps, where it comes first; and the words after it
 abbrev pub taps_of : List (List ℕ) → Taps × List (List ℕ)
 taps_of [] = (Without, [])
 taps_of (word ∷ more) = if bytes_eq word (codes "--taps") then (With, more) else (Without, word ∷ more)
 
--- the style of the words behind OUT
+-- the style of the words after OUT
 abbrev pub style_of : List (List ℕ) → Style
 style_of words = record { wiring = (wiring_of words).0; taps = (taps_of (wiring_of words).1).0 }
 
--- `--trails` asks for a certificate by trails, where it comes first; and the words behind it
+-- `--trails` asks for a certificate by trails, where it comes first; and the words after it
 abbrev pub trails_of : List (List ℕ) → Evidence × List (List ℕ)
 trails_of [] = (Log, [])
 trails_of (word ∷ more) = if bytes_eq word (codes "--trails") then (Trails, more) else (Log, word ∷ more)
@@ -131,11 +136,11 @@ drawing_of style evidence [] tech spice cell out = making_of style evidence tech
 drawing_of style evidence (word ∷ rest) tech spice cell out =
     given_of style evidence word rest tech spice cell out
 
--- the evidence of the words behind OUT, and the words behind it
+-- the evidence of the words after OUT, and the words after it
 abbrev pub evidence_by : List (List ℕ) → Evidence × List (List ℕ)
 evidence_by more = trails_of (taps_of (wiring_of more).1).1
 
--- the words behind OUT: `--dogleg`, `--taps`, `--trails` and `--from FILE` in this order, or some of them
+-- the words after OUT: `--dogleg`, `--taps`, `--trails` and `--from FILE` in this order, or some of them
 abbrev pub make_of : List (List ℕ) → Option Form
 make_of (tech ∷ spice ∷ cell ∷ out ∷ more) =
     drawing_of (style_of more) (evidence_by more).0 (evidence_by more).1 tech spice cell out
@@ -189,7 +194,7 @@ agree_of (tech ∷ gds ∷ lef ∷ cell ∷ []) =
     else None
 agree_of _ = None
 
--- the form of some words, told by the command first; None where they have none
+-- the form of some words, by the command first; None where they have none
 abbrev pub form_of : List (List ℕ) → Option Form
 form_of [] = None
 form_of (command ∷ rest) =

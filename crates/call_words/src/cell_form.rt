@@ -1,6 +1,7 @@
 ghost use Rattle.std.specs.Prelude.{◌≡◌, option_map};
 ghost use Rattle.call_words.specs.Asked.{texts};
-ghost use Rattle.call_words.specs.Words.{shown, plan_of, making_of, making_from_of, given_of, drawing_of, make_of, check_of};
+ghost use Rattle.call_words.specs.Words.{shown, plan_of, making_of, making_from_of, given_of};
+ghost use Rattle.call_words.specs.Words.{drawing_of, make_of, check_of};
 
 use crate::cell::cell_of;
 use crate::evidence::{Evidence, evidence_of, trails_of};
@@ -8,7 +9,7 @@ use crate::form::Form;
 use crate::style::style_of;
 use cell_inputs::Style;
 
-/// The form of the words behind `plan`.
+/// The form of the words after `plan`.
 pub(crate) fn plan_of(words: &[String]) -> Option<Form<'_>>
     ensures { option_map shown result ≡ plan_of (texts words.now) }
 {
@@ -114,7 +115,7 @@ fn drawing_of<'a>(
     }
 }
 
-/// The form of the words behind `make`.
+/// The form of the words after `make`.
 pub(crate) fn make_of(words: &[String]) -> Option<Form<'_>>
     ensures { option_map shown result ≡ make_of (texts words.now) }
 {
@@ -134,7 +135,7 @@ pub(crate) fn make_of(words: &[String]) -> Option<Form<'_>>
     )
 }
 
-/// The form of the words behind `check`.
+/// The form of the words after `check`.
 pub(crate) fn check_of(words: &[String]) -> Option<Form<'_>>
     ensures { option_map shown result ≡ check_of (texts words.now) }
 {

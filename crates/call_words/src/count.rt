@@ -34,6 +34,7 @@ impl CellCount {
         None
     }
 
+    /// The number itself.
     pub fn number(&self) -> u32
         ensures is { result ≡ self.now }
         ensures some { 1 ≤ result }

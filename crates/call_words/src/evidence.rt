@@ -22,7 +22,7 @@ pub(crate) fn evidence_of(words: &[String]) -> Option<Evidence>
     }
 }
 
-// The evidence, and the words behind `--trails` where it comes first.
+// The evidence, and the words after `--trails` where it comes first.
 pub(crate) fn trails_of(words: &[String]) -> (Evidence, &[String])
     ensures evidence { result.0 ≡ (trails_of (texts words.now)).0 }
     ensures rest { texts result.1.now ≡ (trails_of (texts words.now)).1 }

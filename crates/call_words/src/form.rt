@@ -1,6 +1,7 @@
 ghost use Rattle.std.specs.Prelude.{◌≡◌, ◌++◌, OnOk, option_map};
 ghost use Rattle.call_words.specs.Asked.{texts};
-ghost use Rattle.call_words.specs.Words.{shown, extracting_of, extract_of, bench_of, row_of, agree_of, asked, usage_text};
+ghost use Rattle.call_words.specs.Words.{shown, extracting_of, extract_of, bench_of, row_of};
+ghost use Rattle.call_words.specs.Words.{agree_of, asked, usage_text};
 
 use crate::cell::{CellAsked, tech_of};
 use crate::cell_form::{check_of, make_of, plan_of};
@@ -47,7 +48,7 @@ pub enum Form<'a> {
         cell: &'a str,
         rules: Deck,
     },
-    /// What making so many generated cells comes to.
+    /// What making that many generated cells results in.
     Bench {
         number: CellCount,
     },
@@ -81,7 +82,7 @@ fn extracting_of<'a>(rules: Deck, tech: &'a str, gds: &'a str, cell: &'a str) ->
     }
 }
 
-// The form of the words behind `extract`.
+// The form of the words after `extract`.
 fn extract_of(words: &[String]) -> Option<Form<'_>>
     ensures { option_map shown result ≡ extract_of (texts words.now) }
 {
@@ -94,7 +95,7 @@ fn extract_of(words: &[String]) -> Option<Form<'_>>
     }
 }
 
-// The form of the words behind `bench`.
+// The form of the words after `bench`.
 fn bench_of(words: &[String]) -> Option<Form<'_>>
     ensures { option_map shown result ≡ bench_of (texts words.now) }
 {
@@ -107,7 +108,7 @@ fn bench_of(words: &[String]) -> Option<Form<'_>>
     }
 }
 
-// The form of the words behind `row`.
+// The form of the words after `row`.
 fn row_of(words: &[String]) -> Option<Form<'_>>
     ensures { option_map shown result ≡ row_of (texts words.now) }
 {
@@ -126,7 +127,7 @@ fn row_of(words: &[String]) -> Option<Form<'_>>
     }
 }
 
-// The form of the words behind `agree`.
+// The form of the words after `agree`.
 fn agree_of(words: &[String]) -> Option<Form<'_>>
     ensures { option_map shown result ≡ agree_of (texts words.now) }
 {
@@ -145,7 +146,7 @@ fn agree_of(words: &[String]) -> Option<Form<'_>>
     }
 }
 
-/// The form of the words, told by the command first, or None where they have none of the listed forms.
+/// The form of the words, by the command first, or None where they have none of the listed forms.
 pub fn form_of(words: &[String]) -> Option<Form<'_>>
     ensures { option_map shown result ≡ asked words.now }
 {

@@ -1,4 +1,5 @@
-ghost use Rattle.std.specs.Prelude.{◌≡◌, ◌≢◌, ◌≤◌, ◌&&◌, not, nat_le, length, map, bytes_eq, string_bytes, All, IfOk, IsTrue};
+ghost use Rattle.std.specs.Prelude.{◌≡◌, ◌≢◌, ◌≤◌, ◌&&◌, not, nat_le, length, map, bytes_eq, string_bytes};
+ghost use Rattle.std.specs.Prelude.{All, IfOk, IsTrue};
 ghost use Rattle.std.specs.List.{list_all};
 ghost use Rattle.cell_num.specs.Names.{is_cell, lowered};
 ghost use Rattle.call_words.specs.Asked.{are_row_cells, is_top, texts};

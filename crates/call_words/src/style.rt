@@ -4,7 +4,7 @@ ghost use Rattle.call_words.specs.Words.{style_of, taps_of, wiring_of};
 
 use cell_inputs::{Style, Taps, Wiring};
 
-// The wiring, and the words behind `--dogleg` where it comes first.
+// The wiring, and the words after `--dogleg` where it comes first.
 fn wiring_of(words: &[String]) -> (Wiring, &[String])
     ensures wiring { result.0 ≡ (wiring_of (texts words.now)).0 }
     ensures rest { texts result.1.now ≡ (wiring_of (texts words.now)).1 }
@@ -15,7 +15,7 @@ fn wiring_of(words: &[String]) -> (Wiring, &[String])
     }
 }
 
-// The taps, and the words behind `--taps` where it comes first.
+// The taps, and the words after `--taps` where it comes first.
 fn taps_of(words: &[String]) -> (Taps, &[String])
     ensures taps { result.0 ≡ (taps_of (texts words.now)).0 }
     ensures rest { texts result.1.now ≡ (taps_of (texts words.now)).1 }
@@ -26,7 +26,7 @@ fn taps_of(words: &[String]) -> (Taps, &[String])
     }
 }
 
-/// The style that `--dogleg` and `--taps` ask for, in this order, and the words behind them.
+/// The style that `--dogleg` and `--taps` ask for, in this order, and the words after them.
 pub(crate) fn style_of(words: &[String]) -> (Style, &[String])
     ensures style { result.0 ≡ style_of (texts words.now) }
     ensures rest { texts result.1.now ≡ (taps_of (wiring_of (texts words.now)).1).1 }

@@ -1,5 +1,5 @@
 -- What holds of a file of evidence, whatever it was read as.
-use Rattle.std.proofs.Common.{ℕ, ◌≡◌, List, Result, Ok, Err, IfOk, subst}
+use Rattle.std.proofs.Common.{ℕ, List, Result, Ok, Err, IfOk, subst}
 use Rattle.cell_num.specs.declared.list.NoMemory.{NoMemory}
 use Rattle.call_end.specs.declared.end.End.{End}
 use Rattle.call_words.specs.declared.evidence.Evidence.{Evidence}

@@ -20,7 +20,6 @@ use Rattle.call_read.specs.Reading.{Reading, Ends, ◌>>=◌, MayCome, bytes_of}
 use Rattle.call_read.specs.Sources.{LogFile, most_bytes}
 use Rattle.call_words.specs.Words.{Bench}
 use Rattle.call_words.specs.declared.evidence.Evidence.{Evidence}
-use Rattle.call_words.specs.declared.evidence.Evidence.TheVariants.{Log}
 use Rattle.call_read.proofs.Desks.{IsHanded, came_bytes, only_refl, refused, taken}
 use Rattle.cell_commands.proofs.LogReads.{behind_all}
 

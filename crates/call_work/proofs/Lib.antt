@@ -6,3 +6,4 @@ pub mod Keeping
 pub mod Settled
 pub mod Statuses
 pub mod Works
+pub mod Quiet

@@ -1,4 +1,4 @@
--- The commands: what the forms of a call read, in order, what they then work on, and what the work comes to. Each
+-- The commands: what the forms of a call read, in order, what they then work on, and what the work results in. Each
 -- definition has a line for each of them.
 use Rattle.std.specs.Prelude.{ℕ, ◌≡◌, List, [], ◌∷◌, ◌++◌, Option, Some, None, Ok, Err}
 use Rattle.layout_commands.specs.Agree.{AgreesTo, comparing}
@@ -71,8 +71,8 @@ pub record FromMaterial : Type 0 where
   pub style : Style
 
 -- What a call works on: of a plan or a drawing its inputs and the evidence, of a check or of the drawing of a file's
--- row the bytes besides; a cell of a GDSII file, and the deck that it is checked by; a number of generated cells; what a
--- row of cells is made of; a cell and its macro.
+-- row the bytes besides; a cell of a GDSII file, and the deck that it is checked by; a number of generated cells;
+-- what a row of cells is made of; a cell and its macro.
 abbrev pub MaterialOf : Kind → Type 0
 MaterialOf Planning = PlanMaterial
 MaterialOf Making = MakeMaterial
@@ -103,7 +103,7 @@ checking evidence inputs bytes = (Checking, record { inputs = inputs; evidence =
 abbrev pub rowing_of : List ℕ → RowInputs → Material
 rowing_of out inputs = (Rowing, record { inputs = inputs; stem = out })
 
--- the evidence is read behind the inputs
+-- the evidence is read after the inputs
 abbrev pub checking_over : Evidence → List ℕ → Inputs → Reading Material
 checking_over evidence file inputs =
     bytes_of (evidence_file evidence file) >>= λ bytes. Ends (Ok (checking evidence inputs bytes))
@@ -126,7 +126,7 @@ gathered (Some (Bench number)) = Ends (Ok (Benching, number))
 gathered (Some (Row row out)) = rowing row >>= λ inputs. Ends (Ok (rowing_of out inputs))
 gathered (Some (Agree tech gds lef cell)) = comparing tech gds lef cell >>= λ both. Ends (Ok (Agreeing, both))
 
--- the files that a form comes to read, in order
+-- the files that a form reads, in order
 abbrev pub read_by : Option Form → List Source
 read_by None = []
 read_by (Some (Plan asked evidence)) = input_files asked.tech asked.spice
@@ -159,7 +159,7 @@ IsKept m (kept.Read (read.Extracting cell)) = m ≡ (Extracting, cell)
 IsKept m (kept.Read (read.Rowing x)) = m ≡ (Rowing, x)
 IsKept m (kept.Read (read.Agreeing both)) = m ≡ (Agreeing, both)
 
--- ---- what the work comes to
+-- ---- what the work results in
 
 abbrev pub WorksTo : (kind : Kind) → MaterialOf kind → End → Type 0
 WorksTo Planning m end = PlansTo m.evidence m.inputs end

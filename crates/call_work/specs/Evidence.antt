@@ -14,7 +14,7 @@ evidence_file Log name = LogFile name
 evidence_file Trails name = TrailFile name
 
 -- the file was read as evidence of this kind, with these bytes: in place of a log's bytes what reading and checking
--- them for the inputs came to is kept
+-- them for the inputs resulted in is kept
 abbrev pub IsReadAs : Evidence → Inputs → List ℕ → EvidenceFile → Type 0
 IsReadAs Log inputs bytes (held.Log log) = AreBehindAll inputs bytes log.reader log.checker
 IsReadAs Trails inputs bytes (held.Trails kept) = kept ≡ bytes

@@ -21,11 +21,11 @@ AreKept (Ok material) (Ok own) = IsKept material own
 AreKept (Err e) (Err told) = told ≡ e
 AreKept _ _ = ⊥
 
--- a reading over a desk, seen before and after it, may come to a material that is kept so, or refuse so
+-- a reading over a desk, seen before and after it, may result in a material that is kept so, or refuse so
 abbrev pub MayKeep : View → View → Reading Material → Result Kept Refusal → Type 0
 MayKeep old new reading own = (got : Result Material Refusal) × MayCome old new reading got × AreKept got own
 
--- the work on each material that is kept so may come to this end
+-- the work on each material that is kept so may result in this end
 abbrev pub WorksFor : Kept → End → Type 0
 WorksFor kept end = (m : Material) → IsKept m kept → WorksTo m.0 m.1 end
 
@@ -34,7 +34,7 @@ abbrev pub HoldsFile : View → View → Evidence → List ℕ → Inputs → Ev
 HoldsFile old new evidence file inputs kept =
     (bytes : List ℕ) × IsRead old new (evidence_file evidence file) (Ok bytes) × IsReadAs evidence inputs bytes kept
 
--- a log that is behind all bytes that were read of its file, for a check of these inputs
+-- a log that is after all bytes that were read of its file, for a check of these inputs
 abbrev pub HoldsLog : View → View → List ℕ → Inputs → CheckedLog → Type 0
 HoldsLog old new file inputs log =
     (bytes : List ℕ) × IsRead old new (LogFile file) (Ok bytes) × AreBehindAll inputs bytes log.reader log.checker

@@ -16,7 +16,7 @@ use cell_io::Desk;
 use cell_num::NoMemory;
 use std::alloc::Global;
 
-// The log of a check, behind all bytes of its file.
+// The log of a check, after all bytes of its file.
 fn read_log<D: Desk>(
     alloc: Global,
     desk: &mut D,
@@ -29,14 +29,8 @@ fn read_log<D: Desk>(
     ensures only { OnlyReads (D.view desk.old) (D.view desk.new) }
 {
     let mut log = CheckedLog::new(alloc, inputs)?;
-    match read_to(alloc, desk, Source::Log(file), &mut log) {
-        Ok(()) => Ok(log),
-        Err(refusal) => {
-            // (a call, whose proof is short: in place all its parts would be dropped one by one)
-            drop(log);
-            Err(refusal)
-        }
-    }
+    read_to(alloc, desk, Source::Log(file), &mut log)?;
+    Ok(log)
 }
 
 /// Reads the file of evidence after the inputs.

@@ -23,7 +23,7 @@ pub struct MakeMaterial {
     pub evidence: Evidence,
 }
 
-/// A file of evidence that was read: a log behind all its bytes, or the bytes of a certificate by trails.
+/// A file of evidence that was read: a log after all its bytes, or the bytes of a certificate by trails.
 #[derive(Drop)]
 pub enum EvidenceFile {
     Log(CheckedLog),

@@ -4,6 +4,7 @@ use Rattle.std.specs.List.{flat_map, range_with_len}
 use Rattle.std.proofs.lemmas.List.{append-nil}
 use Rattle.std.proofs.lemmas.List.FromFn.{map-range_with_len_more}
 use Rattle.std.proofs.lemmas.Grind.{flat_map-append}
+use Rattle.cell_num.proofs.Ranges.{range_more}
 use Rattle.cell_bench.specs.Draws.{next, state_before}
 use Rattle.cell_bench.specs.Cells.{stage_at}
 
@@ -12,13 +13,6 @@ state_more seed draws = rw (add-one draws) refl
 
 pub stages_more : (cell place : ℕ) → map (stage_at cell) (range_with_len 0 (place + 1)) ≡ map (stage_at cell) (range_with_len 0 place) ++ stage_at cell place ∷ []
 stages_more cell place = map-range_with_len_more (stage_at cell) 0 place place (let e : ◌≡◌ {A = ℕ} (0 + place) place = omega arith in e)
-
-map_same : (xs : List ℕ) → map (λ k. k) xs ≡ xs
-map_same [] = refl
-map_same (x ∷ xs) = ap (λ z. x ∷ z) (map_same xs)
-
-range_more : (n : ℕ) → range_with_len 0 (n + 1) ≡ range_with_len 0 n ++ n ∷ []
-range_more n = sym (map_same (range_with_len 0 (n + 1))) ∙ (map-range_with_len_more (λ k. k) 0 n n (omega arith) ∙ ap (λ z. z ++ n ∷ []) (map_same (range_with_len 0 n)))
 
 pub text_more : (f : ℕ → List ℕ) (n : ℕ) (old new : List ℕ) → old ≡ flat_map f (range_with_len 0 n) → new ≡ old ++ f n → new ≡ flat_map f (range_with_len 0 (n + 1))
 text_more f n old new e is =

@@ -15,11 +15,11 @@ use Rattle.cell_bench.specs.Draws.{draw}
 abbrev pub stage_of : ℕ → Stage
 stage_of drawn = if drawn % 3 == 0 then Inverter else if drawn % 3 == 1 then Nand2 else Nor2
 
--- The draws of a cell have its number as the seed. The first one tells how many stages there are, 2 to 5,
+-- The draws of a cell have its number as the seed. The first one gives the number of stages, 2 to 5,
 abbrev pub stage_count : ℕ → ℕ
 stage_count cell = 2 + draw cell 0 % 4
 
--- and each further one tells a stage.
+-- and each further one gives a stage.
 abbrev pub stage_at : ℕ → ℕ → Stage
 stage_at cell place = stage_of (draw cell (place + 1))
 

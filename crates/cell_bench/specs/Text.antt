@@ -20,7 +20,7 @@ net_text (Inner stage) = codes "t" ++ decimal stage
 net_text Vdd = codes "vdd"
 net_text Gnd = codes "gnd"
 
--- a net behind a space
+-- a net after a space
 unfoldable pub word_text : Net → List ℕ
 word_text net = codes " " ++ net_text net
 
@@ -51,6 +51,6 @@ chain_text cell stages =
 abbrev pub cell_text : ℕ → List ℕ
 cell_text cell = chain_text cell (stages_of cell)
 
--- the cells numbered below so many
+-- the cells with the numbers below `cells`
 abbrev pub bench_text : ℕ → List ℕ
 bench_text cells = flat_map cell_text (range_with_len 0 cells)

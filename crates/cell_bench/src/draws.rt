@@ -8,7 +8,7 @@ const INCREMENT: u64 = 12_345;
 
 const MODULUS: u64 = 1 << 31;
 
-/// The draws still to come, told by the state.
+/// The draws that follow; the state determines them.
 #[derive(Drop)]
 pub struct Draws {
     pub state: u32,

@@ -1,5 +1,5 @@
 -- The end of a row, from what drawing it came to.
-use Rattle.std.proofs.Common.{ℕ, ◌≡◌, ◌<◌, ◌++◌, List, [], ◌∷◌, Result, IfOk, ap, ◌∙◌, codes, length, refl, string_bytes, subst, sym}
+use Rattle.std.proofs.Common.{ℕ, ◌≡◌, ◌<◌, ◌++◌, List, [], ◌∷◌, Result, IfOk, ap, ◌∙◌, codes, length, string_bytes, subst, sym}
 use Rattle.cell_num.specs.declared.list.NoMemory.{NoMemory}
 use Rattle.cell_num.specs.Lines.{count_line}
 use Rattle.row_model.specs.declared.column.Column.{Column}
@@ -10,7 +10,6 @@ use Rattle.channel_route.specs.declared.routing.Routing.{Routing}
 use Rattle.row_place.specs.declared.placement.Placement.{Placement}
 use Rattle.cell_draw.specs.declared.cell.TheConstants.{MOST_SHAPES}
 use Rattle.cell_draw.specs.declared.drawing.Drawing.{Drawing}
-use Rattle.cell_draw.specs.Frame.{needed_of}
 use Rattle.gds_read.specs.RoundTrip.{IsReadable}
 use Rattle.spice_net.specs.declared.subckt.Subckt.{Subckt}
 use Rattle.cell_inputs.specs.declared.style.Style.{Style}

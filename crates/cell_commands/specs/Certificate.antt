@@ -1,4 +1,4 @@
--- The evidence of a row, or of what a search proves, by its kind: its file, and what is told of it.
+-- The evidence of a row, or of what a search proves, by its kind: its file, and what is reported of it.
 use Rattle.std.specs.Prelude.{ℕ, List, [], ◌∷◌, ◌++◌, codes, length}
 use Rattle.bound_log.specs.Fits.{Fits, ForSome}
 use Rattle.cell_num.specs.Lines.{count_line}

@@ -1,4 +1,4 @@
--- What a check of a log comes to.
+-- What a check of a log results in.
 use Rattle.std.specs.Prelude.{ℕ, ◌≡◌, ◌≢◌, ◌≤◌, List, codes, length, Option, Some, None, Ok, Err}
 use Rattle.cell_num.specs.Fingers.{columns_of}
 use Rattle.row_model.specs.declared.column.Column.{Column}
@@ -25,7 +25,7 @@ use Rattle.cell_report.specs.Faults.{fault_line, log_fault, check_fault}
 use Rattle.cell_inputs.specs.Inputs.{Inputs}
 use Rattle.cell_report.specs.Logs.{checked_text}
 
--- the bytes are the text of a log that is accepted, with so many gaps and lemmas
+-- the bytes are the text of a log that is accepted, with that many gaps and lemmas
 abbrev pub HoldsAccepted : Inputs → List ℕ → ℕ → ℕ → Kinds → Type 0
 HoldsAccepted inputs bytes gaps lemmas k =
     (log : Log)
@@ -79,7 +79,7 @@ Checks inputs bytes (Rejected f) =
     × WithKinds inputs.fingers (HoldsRefused inputs bytes f)
     × IsNoAccepted inputs bytes
 
--- want of memory is no answer
+-- out of memory is no answer
 abbrev pub misread_answer : LogFault → Option CheckAnswer
 misread_answer misread.NoMemory = None
 misread_answer f = Some (Misread f)

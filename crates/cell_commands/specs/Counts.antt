@@ -1,4 +1,4 @@
--- What is told of a certificate by trails.
+-- What is reported of a certificate by trails.
 use Rattle.std.specs.Prelude.{ℕ, List, ◌++◌, codes}
 use Rattle.cell_num.specs.Lines.{count_line}
 

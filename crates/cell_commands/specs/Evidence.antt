@@ -1,4 +1,4 @@
--- The evidence of a row, as the code has it; and how a gate is told that leaves a row without evidence.
+-- The evidence of a row, as the code has it; and how a gate is reported that leaves a row without evidence.
 use Rattle.std.specs.Prelude.{ℕ, List, codes}
 use Rattle.cell_num.specs.Lines.{text_line}
 use Rattle.cell_num.specs.declared.net.NetNo.{NetNo}

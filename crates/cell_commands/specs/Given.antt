@@ -1,4 +1,4 @@
--- What `make` with a file of evidence comes to: the drawing of the row that the file lists, or the end of its check.
+-- What `make` with a file of evidence results in: the drawing of the row that the file lists, or the end of its check.
 use Rattle.std.specs.Prelude.{ℕ, ◌≡◌, ◌⊎◌, List, []}
 use Rattle.row_model.specs.declared.column.Column.{Column}
 use Rattle.row_model.specs.Arrangement.{IsArrangement}
@@ -18,7 +18,7 @@ use Rattle.cell_commands.specs.declared.given.Given.TheVariants.{Row, Refused}
 use Rattle.cell_commands.specs.Certificate.{counts_of}
 use Rattle.cell_commands.specs.Make.{IsDrawnTo}
 
--- what a check of the bytes comes to, as evidence of this kind
+-- what a check of the bytes results in, as evidence of this kind
 abbrev pub ChecksBy : Evidence → Inputs → List ℕ → End → Type 0
 ChecksBy Log inputs bytes end = log.ChecksTo inputs bytes end
 ChecksBy Trails inputs bytes end = trail.TrailChecksTo inputs bytes end
@@ -29,7 +29,7 @@ IsListedBy Log inputs bytes row (held.Log found) = log.IsListed inputs bytes row
 IsListedBy Trails inputs bytes row (held.Trails found) = trail.IsListed inputs bytes row found
 IsListedBy _ inputs bytes row _ = ⊥
 
--- a check of the bytes does not accept them, and comes to this end
+-- a check of the bytes does not accept them, and results in this end
 abbrev pub IsRefusedBy : Evidence → Inputs → List ℕ → End → Type 0
 IsRefusedBy evidence inputs bytes end = ChecksBy evidence inputs bytes end × (end.status ≡ status.Rejected)
 

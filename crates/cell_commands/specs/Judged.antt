@@ -1,4 +1,4 @@
--- What a certificate that was read comes to.
+-- What a certificate that was read results in.
 use Rattle.std.specs.Prelude.{◌≡◌, ◌≢◌, [], MatchOption, length}
 use Rattle.cell_num.specs.declared.finger.Fingers.{Fingers}
 use Rattle.row_state.specs.declared.kind.Kinds.{Kinds}

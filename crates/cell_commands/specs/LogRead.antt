@@ -47,7 +47,7 @@ abbrev pub SeesMore : Checked → List LogItem → Checked → Type 0
 SeesMore before items after =
     (log : Log) → HasSeenLog before log → HasSeenLog after (with_items log items)
 
--- Some bytes brought a reader and a checker from where they stood to where they stand. Behind a fault of the text
+-- Some bytes brought a reader and a checker from where they stood to where they stand. After a fault of the text
 -- the checker counts for nothing.
 pub record AreBehind (from : Reader) (before : Checked) (bytes : List ℕ) (to : Reader) (after : Checked) : Type 0 where
   pub reader : to ≡ (tale_of from bytes).reader
@@ -56,7 +56,7 @@ pub record AreBehind (from : Reader) (before : Checked) (bytes : List ℕ) (to :
   pub lines : to.number ≤ from.number + length bytes
   pub lemmas : after.lemmas ≤ before.lemmas + length bytes
 
--- so many bytes more are not too many, for a reader by the kinds of the checker's fingers
+-- that many bytes more are not too many, for a reader by the kinds of the checker's fingers
 pub record HaveRoom (reader : Reader) (checker : Checked) (count : ℕ) : Type 0 where
   pub kinds : AreKinds checker.fingers reader.kinds
   pub some : AreSomeKinds reader.kinds
@@ -73,13 +73,13 @@ pub record AreBegun (inputs : Inputs) (reader : Reader) (checker : Checked) : Ty
 abbrev pub whole_tale : Inputs → List ℕ → Kinds → Tale
 whole_tale inputs bytes k = tale_of (begun inputs.cell.name k) bytes
 
--- for these kinds, both are behind all the bytes of a log
+-- for these kinds, both are after all the bytes of a log
 abbrev pub IsBehindAll : Inputs → List ℕ → Reader → Checked → Kinds → Type 0
 IsBehindAll inputs bytes reader checker k =
     (reader ≡ (whole_tale inputs bytes k).reader)
     × (reader.fault ≡ None → HasSeenLog checker (with_items no_log (whole_tale inputs bytes k).items))
 
--- a reader and a checker of logs for the inputs, behind all the bytes of a log
+-- a reader and a checker of logs for the inputs, after all the bytes of a log
 pub record AreBehindAll (inputs : Inputs) (bytes : List ℕ) (reader : Reader) (checker : Checked) : Type 0 where
   pub log : WithKinds inputs.fingers (IsBehindAll inputs bytes reader checker)
   pub fingers : checker.fingers ≡ inputs.fingers
@@ -91,7 +91,8 @@ items_append log [] b = refl
 items_append log (i ∷ a) b = items_append (with_item log i) a b
 
 -- where there is no fault now, there was none before
-sound_before : (from to : Reader) (bytes : List ℕ) → to ≡ (tale_of from bytes).reader → to.fault ≡ None → from.fault ≡ None
+sound_before :
+    (from to : Reader) (bytes : List ℕ) → to ≡ (tale_of from bytes).reader → to.fault ≡ None → from.fault ≡ None
 sound_before from to bytes is sound = by_fault from.fault refl
   where
     by_fault : (o : Option LogFault) → from.fault ≡ o → from.fault ≡ None

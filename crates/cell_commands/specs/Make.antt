@@ -1,5 +1,5 @@
--- What `make` comes to, with any evidence: its files, and its report.
-use Rattle.std.specs.Prelude.{ℕ, List, [], ◌∷◌, ◌++◌}
+-- What `make` results in, with any evidence: its files, and its report.
+use Rattle.std.specs.Prelude.{ℕ, List, [], ◌++◌}
 use Rattle.cell_num.specs.declared.net.NetNo.{NetNo}
 use Rattle.row_model.specs.declared.column.Column.{Column}
 use Rattle.spice_net.specs.declared.subckt.Subckt.{Subckt}
@@ -23,15 +23,15 @@ pub data MakeAnswer : Type 0 where
   Open : (proved : ℕ) (certificate : Certificate) → MakeAnswer
   Crowded : (gate : NetNo) → MakeAnswer
 
--- The row is the first least one, with a certificate that is accepted and lists it, and drawing it comes to this; or a
--- certificate proves so many gaps of every row; or the fingers of a gate pair in too many ways.
+-- The row is the first least one, with a certificate that is accepted and lists it, and drawing it results in this;
+-- or a certificate proves that many gaps of every row; or the fingers of a gate pair in too many ways.
 abbrev pub Makes : Evidence → Style → Inputs → MakeAnswer → Type 0
 Makes evidence style inputs (Made row certificate answer) =
     IsFoundBy evidence inputs row certificate × Draws style inputs row answer
 Makes evidence style inputs (Open proved certificate) = IsOpenBy evidence inputs proved certificate
 Makes evidence style inputs (Crowded gate) = Crowds evidence inputs gate
 
--- what drawing the row comes to, with this evidence
+-- what drawing the row results in, with this evidence
 abbrev pub IsDrawnTo : Style → Inputs → List ℕ → List Column → RowEvidence → End → Type 0
 IsDrawnTo style inputs out row evidence end =
     (answer : DrawAnswer) × Draws style inputs row answer × IsRowEnd style inputs out row evidence answer end

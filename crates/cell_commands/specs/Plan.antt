@@ -1,4 +1,4 @@
--- What `plan` comes to, with any evidence: its report.
+-- What `plan` results in, with any evidence: its report.
 use Rattle.std.specs.Prelude.{ℕ, ◌≡◌, List, ◌++◌, length}
 use Rattle.bound_log.specs.Text.{log_text}
 use Rattle.call_end.specs.declared.end.End.{End}
@@ -24,7 +24,7 @@ pub data PlanAnswer : Type 0 where
   Open : (proved : ℕ) (certificate : Certificate) → PlanAnswer
   Crowded : (gate : NetNo) → PlanAnswer
 
--- The row is the first least one, with a certificate that is accepted and lists it; or a certificate proves so many
+-- The row is the first least one, with a certificate that is accepted and lists it; or a certificate proves that many
 -- gaps of every row; or the fingers of a gate pair in too many ways.
 abbrev pub Plans : Evidence → Inputs → PlanAnswer → Type 0
 Plans evidence inputs (Planned row certificate) = IsFoundBy evidence inputs row certificate

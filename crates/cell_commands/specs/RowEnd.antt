@@ -1,4 +1,4 @@
--- How what drawing a row comes to is told: its files, and its report.
+-- What a call reports and makes of a drawn row: its files, and its report.
 use Rattle.std.specs.Prelude.{ℕ, List, [], ◌∷◌, ◌++◌, codes, length}
 use Rattle.cell_num.specs.Lines.{count_line}
 use Rattle.row_model.specs.declared.column.Column.{Column}

@@ -1,4 +1,4 @@
--- What a search for a row and its evidence comes to, by the kind of evidence.
+-- What a search for a row and its evidence results in, by the kind of evidence.
 use Rattle.std.specs.Prelude.{ℕ, List}
 use Rattle.cell_num.specs.declared.net.NetNo.{NetNo}
 use Rattle.row_model.specs.declared.column.Column.{Column}
@@ -17,7 +17,7 @@ use Rattle.trail_search.specs.Ended.{IsCrowded, IsTrailFound, IsTrailSpent}
 abbrev pub IsFoundByTrails : Inputs → List Column → TrailCertificate → Type 0
 IsFoundByTrails inputs row trails = (nodes : ℕ) × IsTrailFound inputs.fingers inputs.tech.budget row trails nodes
 
--- its lemmas are justified, and prove so many gaps of every row; the budget is spent, or no row has as few
+-- its lemmas are justified, and prove that many gaps of every row; the budget is spent, or no row has as few
 abbrev pub IsOpenByTrails : Inputs → ℕ → TrailCertificate → Type 0
 IsOpenByTrails inputs proved trails =
     (nodes : ℕ) × IsTrailSpent inputs.fingers inputs.tech.budget trails proved nodes
@@ -29,7 +29,7 @@ IsFoundBy Log inputs row (held.Log found) = log.IsFound inputs row found
 IsFoundBy Trails inputs row (held.Trails found) = IsFoundByTrails inputs row found
 IsFoundBy _ inputs row _ = ⊥
 
--- the certificate is of this kind, lists no row, and proves so many gaps of every row
+-- the certificate is of this kind, lists no row, and proves that many gaps of every row
 abbrev pub IsOpenBy : Evidence → Inputs → ℕ → Certificate → Type 0
 IsOpenBy Log inputs proved (held.Log spent) = log.IsUnfinished inputs proved spent
 IsOpenBy Trails inputs proved (held.Trails spent) = IsOpenByTrails inputs proved spent

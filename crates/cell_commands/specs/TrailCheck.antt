@@ -1,4 +1,4 @@
--- What a check of a certificate by trails comes to.
+-- What a check of a certificate by trails results in.
 use Rattle.std.specs.Prelude.{ℕ, ◌≡◌, ◌≢◌, List, ◌++◌, codes, length, Ok, Err}
 use Rattle.cell_num.specs.Fingers.{columns_of}
 use Rattle.row_model.specs.declared.column.Column.{Column}
@@ -27,7 +27,7 @@ use Rattle.cell_commands.specs.Counts.{counts_text}
 use Rattle.cell_commands.specs.declared.trail_checking.TrailAnswer.{TrailAnswer}
 use Rattle.cell_commands.specs.declared.trail_checking.TrailAnswer.TheVariants.{Accepted, Misread, Rejected}
 
--- the bytes are the text of a certificate that is accepted, with so many gaps, lemmas and filled gates
+-- the bytes are the text of a certificate that is accepted, with that many gaps, lemmas and filled gates
 pub record IsTextOf (inputs : Inputs) (bytes : List ℕ) (gaps lemmas filled : ℕ) (k : Kinds) : Type 0 where
   pub trails : TrailCertificate
   pub fits : TrailsFit k trails

@@ -10,15 +10,23 @@ use cell_num::NoMemory;
 use row_state::kinds;
 use std::alloc::Global;
 
-/// A log that is read and checked as its bytes come, in memory for one line and the best bounds of states. Behind
+/// A log that is read and checked as its bytes come, in memory for one line and the best bounds of states. After
 /// the first fault of its text the bytes count for nothing.
-#[derive(Drop)]
 pub struct CheckedLog {
     pub reader: LogReader,
     pub checker: LogChecker,
 }
 
-// Behind a fault of the text all bytes are passed over.
+// (by hand, so that functions in which one goes out of scope cite this proof)
+impl Drop for CheckedLog {
+    fn drop(self) {
+        let CheckedLog { reader, checker } = self;
+        drop(reader);
+        drop(checker);
+    }
+}
+
+// After a fault of the text all bytes are passed over.
 fn pass_over(fault: LogFault, part: &[u8]) -> Result<usize, NoMemory>
     ensures { IfOk result (λ used. (fault ≢ misread.NoMemory) × (used ≡ length part.now)) }
 {

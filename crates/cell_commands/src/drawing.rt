@@ -12,8 +12,8 @@ use cell_num::NoMemory;
 use row_model::Arrangement;
 use std::alloc::Global;
 
-/// The row, drawn, with its evidence. The drawing and the evidence are dropped by calls: where one goes out of scope by
-/// itself, all its parts are proved at once, and that takes minutes.
+/// The row, drawn, with its evidence. The drawing is dropped by a call: where it goes out of scope by itself, all its
+/// parts are proved at once, and that takes minutes.
 pub(crate) fn drawn(
     alloc: Global,
     inputs: &Inputs,
@@ -26,15 +26,8 @@ pub(crate) fn drawn(
     ensures { IfOk result (IsDrawnTo style inputs.now stem.now row.now (shown evidence)) }
 {
     inputs.show_limits();
-    match DrawOutcome::of(alloc, inputs, style, row) {
-        Ok(came) => {
-            let end = row_end(alloc, inputs, stem, style, row, &came, evidence);
-            drop(came);
-            end
-        }
-        Err(fault) => {
-            drop(evidence);
-            Err(fault)
-        }
-    }
+    let came = DrawOutcome::of(alloc, inputs, style, row)?;
+    let end = row_end(alloc, inputs, stem, style, row, &came, evidence);
+    drop(came);
+    end
 }

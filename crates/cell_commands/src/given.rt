@@ -29,7 +29,7 @@ pub(crate) enum Given {
     Refused(End),
 }
 
-// The row of an accepted log of so many lemmas; a row of other fingers is refused.
+// The row of an accepted log of that many lemmas; a row of other fingers is refused.
 fn logged_row(
     alloc: Global,
     inputs: &Inputs,
@@ -52,7 +52,7 @@ fn logged_row(
 }
 
 impl Given {
-    /// What a log gives that is behind the bytes of its file.
+    /// What a log gives that is after the bytes of its file.
     fn by_log(alloc: Global, inputs: &Inputs, log: &CheckedLog) -> Result<Given, NoMemory>
         ensures arranged { IfOk result (Arranges inputs.now) }
         ensures given { IfOk result (λ given. (bytes : Sequence ℕ) →
@@ -115,15 +115,13 @@ fn given_end(
     match given {
         Given::Row { row, counts } => {
             let evidence = RowEvidence { file: None, counts };
-            let end = drawn(alloc, inputs, stem, style, &row, evidence);
-            drop(row);
-            end
+            drawn(alloc, inputs, stem, style, &row, evidence)
         }
         Given::Refused(end) => Ok(end),
     }
 }
 
-/// The drawing of the row that a log lists, which is behind the bytes of its file; or a ring of the row's nets, or a
+/// The drawing of the row that a log lists, which is after the bytes of its file; or a ring of the row's nets, or a
 /// height that is not enough; or the end of a check that does not accept the log.
 pub fn make_from_log(
     alloc: Global,

@@ -1,4 +1,4 @@
-// What `plan`, `make` and `check` come to, with any evidence: a log, or a certificate by trails.
+// What `plan`, `make` and `check` result in, with any evidence: a log, or a certificate by trails.
 #![tactic(auto)]
 
 mod certificate;

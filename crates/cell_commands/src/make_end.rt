@@ -66,7 +66,7 @@ fn lef_file(
     Ok(Output { name, bytes })
 }
 
-// What is told of a drawn row beside its evidence.
+// What is reported of a drawn row beside its evidence.
 #[derive(Drop)]
 struct DrawnParts {
     library: Output,
@@ -74,8 +74,7 @@ struct DrawnParts {
     report: Bytes,
 }
 
-// The files of a drawn row beside its evidence, and its report with these counts of that. Files are dropped by calls,
-// here and below: where one goes out of scope by itself, all its parts are proved at once, and that takes minutes.
+// The files of a drawn row beside its evidence, and its report with these counts of that.
 fn drawn_parts(
     alloc: Global,
     cell: &Subckt,
@@ -102,17 +101,12 @@ fn drawn_parts(
     let drawing = &drawn.drawing;
     let report = drawn_report(alloc, cell, row, routing.tracks, drawing, counts)?;
     let library = gds_file(alloc, cell, stem, drawn.final_drawing(), unit_nm)?;
-    match lef_file(alloc, cell, stem, routing, drawing, unit_nm) {
-        Ok(summary) => Ok(DrawnParts {
-            library,
-            summary,
-            report,
-        }),
-        Err(fault) => {
-            drop(library);
-            Err(fault)
-        }
-    }
+    let summary = lef_file(alloc, cell, stem, routing, drawing, unit_nm)?;
+    Ok(DrawnParts {
+        library,
+        summary,
+        report,
+    })
 }
 
 // The end of a drawn row: the file of its evidence, where there is one, then its drawing, then its abstract.
@@ -158,7 +152,7 @@ fn with_drawing(
     ensures { IfOk result (IsDrawnEnd cell.now stem.now row.now (shown evidence) routing.now drawn.now.drawing
         (final_of drawn.now) unit_nm) }
 {
-    match drawn_parts(
+    let parts = drawn_parts(
         alloc,
         cell,
         stem,
@@ -167,13 +161,8 @@ fn with_drawing(
         routing,
         drawn,
         unit_nm,
-    ) {
-        Ok(parts) => drawn_files(alloc, evidence.file, parts),
-        Err(fault) => {
-            drop(evidence);
-            Err(fault)
-        }
-    }
+    )?;
+    drawn_files(alloc, evidence.file, parts)
 }
 
 /// The end of a row that makes the file of its evidence alone, where there is one.
@@ -219,19 +208,13 @@ pub(crate) fn row_end(
             drawn,
             inputs.unit_nm(),
         ),
-        DrawOutcome::Cyclic { ring, .. } => match cycle_report(alloc, &cell.nets, ring) {
-            Ok(report) => evidence_end(alloc, Status::Cycle, evidence.file, report),
-            Err(fault) => {
-                drop(evidence);
-                Err(fault)
-            }
-        },
-        DrawOutcome::Tall { needed, given, .. } => match tall_report(alloc, *needed, *given) {
-            Ok(report) => evidence_end(alloc, Status::TooTall, evidence.file, report),
-            Err(fault) => {
-                drop(evidence);
-                Err(fault)
-            }
-        },
+        DrawOutcome::Cyclic { ring, .. } => {
+            let report = cycle_report(alloc, &cell.nets, ring)?;
+            evidence_end(alloc, Status::Cycle, evidence.file, report)
+        }
+        DrawOutcome::Tall { needed, given, .. } => {
+            let report = tall_report(alloc, *needed, *given)?;
+            evidence_end(alloc, Status::TooTall, evidence.file, report)
+        }
     }
 }

@@ -38,7 +38,7 @@ fn certified(
 }
 
 // The certificate of what a search proves that spent its budget.
-fn unfinished(
+fn open_end(
     alloc: Global,
     cell: &Subckt,
     stem: &Stem,
@@ -69,14 +69,12 @@ pub fn make(
     let searched = Searched::of(alloc, inputs, evidence)?;
     match searched {
         Searched::Found { row, certificate } => {
-            let end = certified(alloc, inputs, stem, style, &row, certificate);
-            drop(row);
-            end
+            certified(alloc, inputs, stem, style, &row, certificate)
         }
         Searched::Open {
             certificate,
             proved,
-        } => unfinished(alloc, &inputs.cell, stem, certificate, proved),
+        } => open_end(alloc, &inputs.cell, stem, certificate, proved),
         Searched::Crowded { gate } => too_many_pairings(alloc, &inputs.cell, gate),
     }
 }

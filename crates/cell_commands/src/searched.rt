@@ -11,7 +11,7 @@ use row_model::Arrangement;
 use std::alloc::Global;
 use trail_search::{TrailStop, search_trails};
 
-/// What a search for a row and its evidence comes to.
+/// What a search for a row and its evidence results in.
 #[derive(Drop)]
 pub enum Searched {
     /// The first least row, and its evidence.

@@ -17,10 +17,10 @@ use std::alloc::Global;
 use trail_check::{TrailRefusal, check_trails};
 use trail_log::{TrailCertificate, read_trails};
 
-/// What a check of some bytes came to.
+/// What a check of some bytes resulted in.
 #[derive(Drop)]
 pub enum TrailAnswer {
-    /// They are the text of an accepted certificate, of so many gaps, lemmas and filled gates, that lists the row.
+    /// They are the text of an accepted certificate, of that many gaps, lemmas and filled gates, that lists the row.
     Accepted {
         row: Arrangement,
         gaps: u32,
@@ -65,7 +65,7 @@ fn misread(fault: LogFault) -> Result<TrailAnswer, NoMemory>
     }
 }
 
-/// What a check of the bytes comes to: whether they are the text of a certificate by trails that is accepted for the
+/// What a check of the bytes results in: whether they are the text of a certificate by trails that is accepted for the
 /// inputs.
 pub(crate) fn answer_trails(
     alloc: Global,
@@ -83,7 +83,7 @@ pub(crate) fn answer_trails(
     }
 }
 
-/// The end of a check that came to the answer.
+/// The end of a check that resulted in the answer.
 pub(crate) fn trails_end(
     alloc: Global,
     inputs: &Inputs,

@@ -14,10 +14,10 @@ use row_model::Arrangement;
 use row_state::kinds;
 use std::alloc::Global;
 
-/// What a check of some bytes came to.
+/// What a check of some bytes resulted in.
 #[derive(Drop)]
 pub enum CheckAnswer {
-    /// They are the text of an accepted log, of so many gaps and lemmas, that lists the row.
+    /// They are the text of an accepted log, of that many gaps and lemmas, that lists the row.
     Accepted {
         row: Arrangement,
         gaps: u32,
@@ -68,7 +68,7 @@ fn judge(alloc: Global, inputs: &Inputs, log: &CheckedLog) -> Result<CheckAnswer
     }
 }
 
-/// What a check of the bytes that were read comes to: whether they are the text of a log that is accepted for the
+/// What a check of the bytes that were read results in: whether they are the text of a log that is accepted for the
 /// inputs.
 pub(crate) fn answer_log(
     alloc: Global,
@@ -85,7 +85,7 @@ pub(crate) fn answer_log(
     }
 }
 
-/// The end of a check that came to the answer.
+/// The end of a check that resulted in the answer.
 pub(crate) fn log_end(alloc: Global, inputs: &Inputs, answer: &CheckAnswer) -> Result<End, NoMemory>
     ensures { IfOk result (λ end. end ≡ check_end inputs.now answer.now) }
 {

@@ -10,14 +10,14 @@ use Rattle.cell_num.proofs.In.{Piece, in_flat}
 use Rattle.row_model.proofs.Decide.{net_decides}
 use Rattle.row_model.specs.declared.column.Placed.{Placed}
 use Rattle.row_model.specs.declared.column.Column.{Column}
-use Rattle.row_model.specs.Arrangement.{place}
+use Rattle.row_model.specs.Arrangement.{place, gate_in}
 use Rattle.row_place.specs.declared.placement.NodePlace.{NodePlace}
 use Rattle.row_place.specs.declared.placement.GatePlace.{GatePlace}
 use Rattle.row_place.specs.declared.placement.Seat.{Seat}
 use Rattle.row_place.specs.declared.placement.Placement.{Placement}
 use Rattle.row_place.specs.Places.{IsPlacement}
 use Rattle.row_place.specs.Units.{seats_of, unit_of}
-use Rattle.row_place.specs.Steps.{gate_in, gate_of, gates_of}
+use Rattle.row_place.specs.Steps.{gate_of, gates_of}
 use Rattle.row_place.proofs.Units.{SitsAt, seat_at}
 use Rattle.cell_num.proofs.Lists.{contains_filter_map}
 use Rattle.channel_route.specs.declared.routing.Trunk.{Trunk}

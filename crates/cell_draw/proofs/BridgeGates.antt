@@ -9,11 +9,10 @@ use Rattle.cell_num.specs.declared.finger.Row.TheVariants.{P, N}
 use Rattle.cell_num.proofs.Lists.{some_same, contains_get}
 use Rattle.row_model.specs.declared.column.Placed.{Placed}
 use Rattle.row_model.specs.declared.column.Column.{Column}
-use Rattle.row_model.specs.Arrangement.{place}
+use Rattle.row_model.specs.Arrangement.{place, gate_in}
 use Rattle.row_place.specs.declared.placement.Placement.{Placement}
 use Rattle.row_place.specs.declared.placement.UnitKind.TheVariants.{Column as ColumnUnit}
 use Rattle.row_place.specs.Places.{IsPlacement}
-use Rattle.row_place.specs.Steps.{gate_in}
 use Rattle.row_place.specs.Trunks.{IsContacted}
 use Rattle.row_place.specs.Units.{unit_of}
 use Rattle.row_place.proofs.Apart.{even_node}

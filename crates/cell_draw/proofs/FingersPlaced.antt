@@ -12,11 +12,10 @@ use Rattle.cell_num.proofs.In.{contains_flat}
 use Rattle.cell_num.proofs.Lists.{some_same, contains_get, contains_here}
 use Rattle.row_model.specs.declared.column.Placed.{Placed}
 use Rattle.row_model.specs.declared.column.Column.{Column}
-use Rattle.row_model.specs.Arrangement.{place, IsColumn, AreOneColumn}
+use Rattle.row_model.specs.Arrangement.{place, IsColumn, AreOneColumn, gate_in}
 use Rattle.row_model.specs.Gaps.{left_net, right_net}
 use Rattle.row_place.specs.declared.placement.Placement.{Placement}
 use Rattle.row_place.specs.declared.placement.Seat.{Seat}
-use Rattle.row_place.specs.Steps.{gate_in}
 use Rattle.row_place.specs.Units.{seats_of, unit_of}
 use Rattle.row_place.proofs.Units.{SitsAt, seat_at}
 use Rattle.channel_route.specs.declared.routing.Routing.{Routing}

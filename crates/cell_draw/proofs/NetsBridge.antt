@@ -10,11 +10,12 @@ use Rattle.cell_num.proofs.Lists.{some_same, contains_get, contains_filter_map}
 use Rattle.row_model.specs.declared.column.Placed.{Placed}
 use Rattle.row_model.specs.declared.column.Column.{Column}
 use Rattle.row_model.specs.Gaps.{left_net, right_net}
+use Rattle.row_model.specs.Arrangement.{gate_in}
 use Rattle.row_place.specs.declared.placement.NodePlace.{NodePlace}
 use Rattle.row_place.specs.declared.placement.GatePlace.{GatePlace}
 use Rattle.row_place.specs.declared.placement.Placement.{Placement}
 use Rattle.row_place.specs.Places.{IsNode, IsPlacement}
-use Rattle.row_place.specs.Steps.{gate_in, gates_of}
+use Rattle.row_place.specs.Steps.{gates_of}
 use Rattle.row_place.specs.Units.{seats_of, unit_of}
 use Rattle.row_place.proofs.Placed.{only_placement}
 use Rattle.channel_route.specs.declared.routing.Routing.{Routing}

@@ -11,13 +11,13 @@ use Rattle.cell_num.proofs.In.{contains_flat}
 use Rattle.cell_num.proofs.Lists.{some_same, contains_get, contains_here, contains_filter_map, all_from_contains}
 use Rattle.row_model.specs.declared.column.Placed.{Placed}
 use Rattle.row_model.specs.declared.column.Column.{Column}
-use Rattle.row_model.specs.Arrangement.{place}
+use Rattle.row_model.specs.Arrangement.{place, gate_in}
 use Rattle.row_place.specs.declared.placement.NodePlace.{NodePlace}
 use Rattle.row_place.specs.declared.placement.GatePlace.{GatePlace}
 use Rattle.row_place.specs.declared.placement.Placement.{Placement}
 use Rattle.row_place.specs.declared.placement.Seat.{Seat}
 use Rattle.row_place.specs.Places.{IsPlacement}
-use Rattle.row_place.specs.Steps.{gate_in, gate_of}
+use Rattle.row_place.specs.Steps.{gate_of}
 use Rattle.row_place.specs.Units.{seats_of, unit_of}
 use Rattle.row_place.proofs.Bounds.{node_line}
 use Rattle.row_place.proofs.Seated.{seat_of}

@@ -19,11 +19,16 @@ abbrev pub label_of : List (List ℕ) → Tag → Label
 label_of names tag = record { layer = tag.layer; x = pos tag.x; y = pos tag.y; name = get_or names tag.net.0 [] }
 
 abbrev pub drawing_of : List (List ℕ) → Layout → Drawing
-drawing_of names l = record { shapes = record { rects = shapes_of l; labels = map (label_of names) l.tags }; width = l.frame.width; height = cell_height l.frame }
+drawing_of names l = record {
+  shapes = record { rects = shapes_of l; labels = map (label_of names) l.tags };
+  width = l.frame.width;
+  height = cell_height l.frame;
+}
 
 -- the drawing of a routed row on lines at these places, in a cell of this height
 abbrev pub drawn_of : List (List ℕ) → Pins → Placement → Routing → List ℕ → ℕ → Drawing
-drawn_of names pins placement routing xs height = drawing_of names (layout_of (length names) pins placement routing xs height)
+drawn_of names pins placement routing xs height =
+    drawing_of names (layout_of (length names) pins placement routing xs height)
 
 -- well, selects, rails and fingers alone
 abbrev pub base_of : Frame → Pins → Placement → List ℕ → Layout
@@ -39,7 +44,8 @@ base_of f pins placement xs = record {
 }
 
 abbrev pub base_drawn_of : Pins → Placement → ℕ → List ℕ → ℕ → Drawing
-base_drawn_of pins placement tracks xs height = drawing_of [] (base_of (frame_of placement.row tracks height (width_of placement xs)) pins placement xs)
+base_drawn_of pins placement tracks xs height =
+    drawing_of [] (base_of (frame_of placement.row tracks height (width_of placement xs)) pins placement xs)
 
 -- the given height, or without one the least
 abbrev pub height_given : List Column → ℕ → ℕ → ℕ

@@ -26,13 +26,16 @@ pub record AreGates (s : List Shape) (boxes : List Rectangle) : Type 0 where
 
 -- The device of the box is the finger: of its row, its width and the length of a gate, on its nets. It may be
 -- turned round.
-pub record IsFingerAt (deck : Deck) (names : List (List ℕ)) (shapes : Shapes) (box : Rectangle) (f : Finger) : Type 0 where
+pub record IsFingerAt (deck : Deck) (names : List (List ℕ)) (shapes : Shapes) (box : Rectangle) (f : Finger)
+    : Type 0 where
   pub gate : Site
   pub left : Site
   pub right : Site
   pub is : IsDevice deck shapes.rects box f.row gate left right f.width GATE_LENGTH
   pub gate_net : IsNamed deck shapes (name_of names f.gate) gate
-  pub ends : (IsNamed deck shapes (name_of names f.lo) left × IsNamed deck shapes (name_of names f.hi) right) ⊎ (IsNamed deck shapes (name_of names f.hi) left × IsNamed deck shapes (name_of names f.lo) right)
+  pub ends :
+      (IsNamed deck shapes (name_of names f.lo) left × IsNamed deck shapes (name_of names f.hi) right)
+      ⊎ (IsNamed deck shapes (name_of names f.hi) left × IsNamed deck shapes (name_of names f.lo) right)
 
 -- the devices of a drawing, one for each class of gate cells, are the fingers, net by net
 pub record ExtractsTo (deck : Deck) (names : List (List ℕ)) (fingers : Fingers) (shapes : Shapes) : Type 0 where
@@ -49,5 +52,7 @@ pub record Arranges (names : List (List ℕ)) (pins : Pins) (row : List Column) 
   pub arranged : IsArrangement row fingers
 
 -- Whichever fingers the row arranges, the drawing extracts to them; the rails are two of the pins.
-pub record ExtractsToRow (deck : Deck) (names : List (List ℕ)) (pins : Pins) (row : List Column) (shapes : Shapes) : Type 0 where
-  pub to : ArePins (length names) pins → (fingers : Fingers) → Arranges names pins row fingers → ExtractsTo deck names fingers shapes
+pub record ExtractsToRow (deck : Deck) (names : List (List ℕ)) (pins : Pins) (row : List Column) (shapes : Shapes)
+    : Type 0 where
+  pub to : ArePins (length names) pins → (fingers : Fingers) → Arranges names pins row fingers →
+      ExtractsTo deck names fingers shapes

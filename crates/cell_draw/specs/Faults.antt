@@ -10,7 +10,8 @@ too_tall row tracks height = TooTall (needed_of row tracks) height
 
 -- the cell is too tall, and the fault says both heights; or memory was wanting
 abbrev pub IsCause : List Column → ℕ → ℕ → DrawFault → Type 0
-IsCause row tracks height (TooTall needed given) = IsTooTall row tracks height × (TooTall needed given ≡ too_tall row tracks height)
+IsCause row tracks height (TooTall needed given) =
+    IsTooTall row tracks height × (TooTall needed given ≡ too_tall row tracks height)
 IsCause row tracks height NoMemory = Unit {0}
 
 -- where the cell is too tall, the answer says so

@@ -91,11 +91,16 @@ pub record IsGate (f : Frame) (g : Gate) : Type 0 where
 
 -- a gate stands over the strip, as wide as it knows, or clear of it
 abbrev pub Crosses : Gate → Strip → Type 0
-Crosses g s = ((s.left + LINE_SPACE ≤ g.x) × (g.x + LINE_SPACE ≤ s.right) × (width_in s.row g ≡ Some s.width)) ⊎ ((g.x + LINE_SPACE ≤ s.left) ⊎ (s.right + LINE_SPACE ≤ g.x))
+Crosses g s =
+    ((s.left + LINE_SPACE ≤ g.x) × (g.x + LINE_SPACE ≤ s.right) × (width_in s.row g ≡ Some s.width))
+    ⊎ ((g.x + LINE_SPACE ≤ s.left) ⊎ (s.right + LINE_SPACE ≤ g.x))
 
 -- two bars lie on two tracks, or apart on one, or overlap there and are of one net
 abbrev pub AreBars : Bar → Bar → Type 0
-AreBars a b = AreFar TRACK_PITCH a.y b.y ⊎ ((a.y ≡ b.y) × (((a.right + STRETCH_SPACE ≤ b.left) ⊎ (b.right + STRETCH_SPACE ≤ a.left)) ⊎ ((a.left ≤ b.right) × (b.left ≤ a.right) × (a.net ≡ b.net))))
+AreBars a b =
+    AreFar TRACK_PITCH a.y b.y
+    ⊎ ((a.y ≡ b.y) × (((a.right + STRETCH_SPACE ≤ b.left) ⊎ (b.right + STRETCH_SPACE ≤ a.left))
+    ⊎ ((a.left ≤ b.right) × (b.left ≤ a.right) × (a.net ≡ b.net))))
 
 -- a place on a track lies on a bar of the net
 pub record IsOnBar (l : Layout) (net : NetNo) (x y : ℕ) : Type 0 where
@@ -128,14 +133,17 @@ pub record IsLaid (l : Layout) : Type 0 where
   pub frame : IsFrame l.frame tracks
   -- fingers: of one row, each behind the next
   pub strips : All (IsStrip l.frame) l.strips
-  pub ordered : (a b : Strip) → Contains l.strips a → Contains l.strips b → a.row ≡ b.row → (a ≡ b) ⊎ (Follows a b ⊎ Follows b a)
+  pub ordered : (a b : Strip) → Contains l.strips a → Contains l.strips b → a.row ≡ b.row →
+      (a ≡ b) ⊎ (Follows a b ⊎ Follows b a)
   -- contacts: inside, at one line or two lines apart, one of a row at a line
   pub inside : All (λ (c : Contact). IsInside l.frame c.x) l.contacts
-  pub spread : (a b : Contact) → Contains l.contacts a → Contains l.contacts b → (a.x ≡ b.x) ⊎ AreFar (2 * LINE_SPACE) a.x b.x
+  pub spread : (a b : Contact) → Contains l.contacts a → Contains l.contacts b →
+      (a.x ≡ b.x) ⊎ AreFar (2 * LINE_SPACE) a.x b.x
   pub single : (a b : Contact) → Contains l.contacts a → Contains l.contacts b → a.row ≡ b.row → a.x ≡ b.x → a ≡ b
   pub rails : (c : Contact) → Contains l.contacts c → c.reach ≡ None → c.net ≡ rail_in c.row l
   pub reaches : (c : Contact) (y : ℕ) → Contains l.contacts c → c.reach ≡ Some y → IsTrack l.frame tracks y
-  pub clear : (a b : Contact) (n p : ℕ) → Contains l.contacts a → Contains l.contacts b → a.row ≡ N → b.row ≡ P → a.x ≡ b.x → a.reach ≡ Some n → b.reach ≡ Some p → KeepClear a b n p
+  pub clear : (a b : Contact) (n p : ℕ) → Contains l.contacts a → Contains l.contacts b → a.row ≡ N → b.row ≡ P →
+      a.x ≡ b.x → a.reach ≡ Some n → b.reach ≡ Some p → KeepClear a b n p
   pub ends : (c : Contact) (s : Strip) → Contains l.contacts c → Contains l.strips s → c.row ≡ s.row → MeetsEnd c s
   -- gates: two lines apart, clear of contacts, over the fingers of their columns
   pub gates : All (IsGate l.frame) l.gates

@@ -1,5 +1,6 @@
 -- The layout of a routed row on its lines.
-use Rattle.std.specs.Prelude.{ℕ, ◌+◌, ◌*◌, ◌-◌, ◌==◌, ◌&&◌, ltb, min, max, not, Bool, true, false, if◌then◌else◌, List, [], ◌∷◌, ◌++◌, map, filter, length, Option, Some, None, option_map, filter_map, find}
+use Rattle.std.specs.Prelude.{ℕ, ◌+◌, ◌*◌, ◌-◌, ◌==◌, ◌&&◌, ltb, min, max, not, Bool, true, false, if◌then◌else◌, List}
+use Rattle.std.specs.Prelude.{[], ◌∷◌, ◌++◌, map, filter, length, Option, Some, None, option_map, filter_map, find}
 use Rattle.std.specs.List.{flat_map, list_any, range_with_len, reduce}
 use Rattle.cell_num.specs.declared.net.NetNo.{NetNo}
 use Rattle.cell_num.specs.declared.net.Pins.{Pins}
@@ -36,7 +37,8 @@ width_of placement xs = x_of xs (2 * length placement.units) + SIDE_SPACE
 -- a finger goes from the left node line of its column's unit to the right one
 abbrev pub strip_of : List ℕ → ℕ → Row → Option Placed → List Strip
 strip_of xs unit row None = []
-strip_of xs unit row (Some x) = record { row = row; left = x_of xs (2 * unit); right = x_of xs (2 * unit + 2); width = x.finger.width } ∷ []
+strip_of xs unit row (Some x) =
+    record { row = row; left = x_of xs (2 * unit); right = x_of xs (2 * unit + 2); width = x.finger.width } ∷ []
 
 abbrev pub strips_at : List ℕ → Seat → List Strip
 strips_at xs seat = strip_of xs seat.unit N seat.column.n ++ strip_of xs seat.unit P seat.column.p
@@ -112,7 +114,8 @@ begins_before t line other = holds t.net line other && (other.track == t.track) 
 
 -- the trunk has the via of the place: no other of its net and track that holds the line begins before
 abbrev pub has_via : List NodePlace → List Trunk → Trunk → NodePlace → Bool
-has_via nodes trunks t node = holds node.net node.line t && has_own_via nodes node && not (list_any (begins_before t node.line) trunks)
+has_via nodes trunks t node =
+    holds node.net node.line t && has_own_via nodes node && not (list_any (begins_before t node.line) trunks)
 
 -- Where the vias of a trunk stand, from left to right: at each node line of its net that it holds, but for those at
 -- which a trunk of the net on the same track begins before it and has the via.
@@ -130,7 +133,12 @@ bar_of f nodes trunks xs t = record {
 
 -- A net's name stands on its rail, on its first trunk, or else at its only place.
 abbrev pub node_tag : Frame → List ℕ → NodePlace → Tag
-node_tag f xs node = record { layer = Active; x = x_of xs node.line; y = if is_p node.row then f.p_edge + LABEL_ON_FINGER else f.n_edge - LABEL_ON_FINGER; net = node.net }
+node_tag f xs node = record {
+  layer = Active;
+  x = x_of xs node.line;
+  y = if is_p node.row then f.p_edge + LABEL_ON_FINGER else f.n_edge - LABEL_ON_FINGER;
+  net = node.net;
+}
 
 abbrev pub gate_y : Frame → Option ℕ → ℕ
 gate_y f None = f.p_edge - LABEL_ON_GATE
@@ -148,11 +156,15 @@ or_else (Some tag) other = Some tag
 
 -- at the first place of a net
 abbrev pub place_tag : Frame → List NodePlace → List ℕ → List Gate → NetNo → Option Tag
-place_tag f nodes xs gates net = or_else (option_map (node_tag f xs) (find (λ node. node.net.0 == net.0) nodes)) (option_map (gate_tag f) (find (λ g. g.net.0 == net.0) gates))
+place_tag f nodes xs gates net =
+    or_else (option_map (node_tag f xs) (find (λ node. node.net.0 == net.0) nodes))
+    (option_map (gate_tag f) (find (λ g. g.net.0 == net.0) gates))
 
 -- on the first trunk of a net, or else at its first place
 abbrev pub net_tag : Frame → List NodePlace → List Trunk → List ℕ → List Gate → NetNo → Option Tag
-net_tag f nodes trunks xs gates net = or_else (option_map (λ t. metal_tag (x_of xs t.left) (track_y f t.track) net) (trunk_of trunks net)) (place_tag f nodes xs gates net)
+net_tag f nodes trunks xs gates net =
+    or_else (option_map (λ t. metal_tag (x_of xs t.left) (track_y f t.track) net) (trunk_of trunks net))
+    (place_tag f nodes xs gates net)
 
 abbrev pub tag_of : Pins → Frame → List NodePlace → List Trunk → List ℕ → List Gate → NetNo → Option Tag
 tag_of pins f nodes trunks xs gates net =
@@ -165,7 +177,8 @@ net_no n = record { 0 = n }
 
 -- in order of net
 abbrev pub tags_of : Pins → Frame → ℕ → List NodePlace → List Trunk → List ℕ → List Gate → List Tag
-tags_of pins f nets nodes trunks xs gates = filter_map (λ n. tag_of pins f nodes trunks xs gates (net_no n)) (range_with_len 0 nets)
+tags_of pins f nets nodes trunks xs gates =
+    filter_map (λ n. tag_of pins f nodes trunks xs gates (net_no n)) (range_with_len 0 nets)
 
 abbrev pub gates_on : Frame → List Trunk → List ℕ → List Seat → List Gate
 gates_on f trunks xs seats = filter_map (gate_at f trunks xs) seats
@@ -184,4 +197,6 @@ laid_out f nets pins placement trunks xs = record {
 
 -- the layout of a routed row, on lines at these places and in a cell of this height
 abbrev pub layout_of : ℕ → Pins → Placement → Routing → List ℕ → ℕ → Layout
-layout_of nets pins placement routing xs height = laid_out (frame_of placement.row routing.tracks height (width_of placement xs)) nets pins placement routing.trunks xs
+layout_of nets pins placement routing xs height =
+    laid_out (frame_of placement.row routing.tracks height (width_of placement xs)) nets pins placement
+    routing.trunks xs

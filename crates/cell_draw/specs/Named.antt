@@ -23,5 +23,6 @@ pub record AreNamed (deck : Deck) (names : List (List ℕ)) (shapes : Shapes) : 
   pub belong : (l : Label) → Contains shapes.labels l → HasSite shapes l
   pub known : (l : Label) → Contains shapes.labels l → Contains names l.name
   pub all : (name : List ℕ) → Contains names name → Any (λ (l : Label). l.name ≡ name) shapes.labels
-  pub apart : (l m : Label) (a b : Site) → Contains shapes.labels l → Contains shapes.labels m → Belongs shapes.rects l a → Belongs shapes.rects m b → SameNet deck shapes.rects a b ↔ l.name ≡ m.name
+  pub apart : (l m : Label) (a b : Site) → Contains shapes.labels l → Contains shapes.labels m →
+      Belongs shapes.rects l a → Belongs shapes.rects m b → SameNet deck shapes.rects a b ↔ l.name ≡ m.name
   pub every : (a : Site) → Conducts shapes.rects a → (name : List ℕ) × IsNamed deck shapes name a

@@ -6,8 +6,10 @@ use Rattle.cell_num.specs.declared.finger.Row.{Row}
 use Rattle.cell_num.specs.declared.finger.Row.TheVariants.{P, N}
 use Rattle.box_geom.specs.declared.shape.Shape.{Shape}
 use Rattle.box_geom.specs.declared.layer.Layer.{Layer}
-use Rattle.box_geom.specs.declared.layer.Layer.TheVariants.{Well, Active, PSelect, NSelect, Poly, Contact as ContactCut, Metal1, Via, Metal2}
-use Rattle.cell_draw.specs.Measures.{HALF_CUT, HALF_GATE, HALF_PAD, HALF_METAL, END_CAP, WELL_PAST_ROW, WELL_PAST_SIDE, SELECT_PAST_ROW, SELECT_PAST_SIDE, RAIL, RAIL_GAP, ROW_EDGE, LANDING}
+use Rattle.box_geom.specs.declared.layer.Layer.TheVariants.{Well, Active, PSelect, NSelect, Poly}
+use Rattle.box_geom.specs.declared.layer.Layer.TheVariants.{Contact as ContactCut, Metal1, Via, Metal2}
+use Rattle.cell_draw.specs.Measures.{HALF_CUT, HALF_GATE, HALF_PAD, HALF_METAL, END_CAP, WELL_PAST_ROW, WELL_PAST_SIDE}
+use Rattle.cell_draw.specs.Measures.{SELECT_PAST_ROW, SELECT_PAST_SIDE, RAIL, RAIL_GAP, ROW_EDGE, LANDING}
 use Rattle.cell_draw.specs.declared.layout.Frame.{Frame}
 use Rattle.cell_draw.specs.declared.layout.Strip.{Strip}
 use Rattle.cell_draw.specs.declared.layout.Contact.{Contact}
@@ -30,13 +32,19 @@ abbrev pub cell_height : Frame → ℕ
 cell_height f = f.p_edge + f.p_height + ROW_EDGE
 
 abbrev pub well : Frame → Shape
-well f = box Well (pos 0 -ℤ pos WELL_PAST_SIDE) (pos f.p_edge -ℤ pos WELL_PAST_ROW) (pos (f.width + WELL_PAST_SIDE)) (pos (cell_height f))
+well f =
+    box Well (pos 0 -ℤ pos WELL_PAST_SIDE) (pos f.p_edge -ℤ pos WELL_PAST_ROW)
+    (pos (f.width + WELL_PAST_SIDE)) (pos (cell_height f))
 
 abbrev pub p_select : Frame → Shape
-p_select f = box PSelect (pos 0 -ℤ pos SELECT_PAST_SIDE) (pos f.p_edge -ℤ pos SELECT_PAST_ROW) (pos (f.width + SELECT_PAST_SIDE)) (pos (f.p_edge + f.p_height + SELECT_PAST_ROW))
+p_select f =
+    box PSelect (pos 0 -ℤ pos SELECT_PAST_SIDE) (pos f.p_edge -ℤ pos SELECT_PAST_ROW)
+    (pos (f.width + SELECT_PAST_SIDE)) (pos (f.p_edge + f.p_height + SELECT_PAST_ROW))
 
 abbrev pub n_select : Frame → Shape
-n_select f = box NSelect (pos 0 -ℤ pos SELECT_PAST_SIDE) (pos f.n_edge -ℤ pos (f.n_height + SELECT_PAST_ROW)) (pos (f.width + SELECT_PAST_SIDE)) (pos (f.n_edge + SELECT_PAST_ROW))
+n_select f =
+    box NSelect (pos 0 -ℤ pos SELECT_PAST_SIDE) (pos f.n_edge -ℤ pos (f.n_height + SELECT_PAST_ROW))
+    (pos (f.width + SELECT_PAST_SIDE)) (pos (f.n_edge + SELECT_PAST_ROW))
 
 abbrev pub gnd_rail : Frame → Shape
 gnd_rail f = box Metal1 (pos 0) (pos 0) (pos f.width) (pos RAIL)
@@ -105,7 +113,9 @@ reach_shapes f row x None = []
 reach_shapes f row x (Some reach) = around Via x (landing f row) HALF_CUT ∷ branch f row x reach ∷ []
 
 abbrev pub contact_shapes : Frame → Contact → List Shape
-contact_shapes f c = around Active c.x (centre f c.row) HALF_PAD ∷ around ContactCut c.x (centre f c.row) HALF_CUT ∷ strap f c.row c.x c.reach ∷ reach_shapes f c.row c.x c.reach
+contact_shapes f c =
+    around Active c.x (centre f c.row) HALF_PAD ∷ around ContactCut c.x (centre f c.row) HALF_CUT ∷
+    strap f c.row c.x c.reach ∷ reach_shapes f c.row c.x c.reach
 
 -- A gate's poly goes past each finger's outer end. Where a row has no finger it ends at the track, or without a trunk
 -- past the other row's channel edge.
@@ -131,7 +141,9 @@ abbrev pub gate_shapes : Frame → Gate → List Shape
 gate_shapes f g = gate_strip f g ∷ pad_shapes g.x g.track
 
 abbrev pub bar_metal : Bar → Shape
-bar_metal b = box Metal1 (pos b.left -ℤ pos HALF_METAL) (pos b.y -ℤ pos HALF_METAL) (pos b.right +ℤ pos HALF_METAL) (pos b.y +ℤ pos HALF_METAL)
+bar_metal b =
+    box Metal1 (pos b.left -ℤ pos HALF_METAL) (pos b.y -ℤ pos HALF_METAL)
+    (pos b.right +ℤ pos HALF_METAL) (pos b.y +ℤ pos HALF_METAL)
 
 abbrev pub via_shapes : ℕ → ℕ → List Shape
 via_shapes y x = around Via x (pos y) HALF_CUT ∷ []

@@ -1,5 +1,6 @@
 -- The row and the routing that a drawing shows.
-use Rattle.std.specs.Prelude.{◌≡◌, ℤ, pos, ◌-ℤ◌, ◌≤ℤ◌, ◌<ℤ◌, ℕ, ◌+◌, ◌*◌, ◌<◌, ◌↔◌, false, List, length, Option, Some, None, slice_get}
+use Rattle.std.specs.Prelude.{◌≡◌, ℤ, pos, ◌-ℤ◌, ◌≤ℤ◌, ◌<ℤ◌, ℕ, ◌+◌, ◌*◌, ◌<◌, ◌↔◌}
+use Rattle.std.specs.Prelude.{false, List, length, Option, Some, None, slice_get}
 use Rattle.std.specs.List.{All, AllPairs, AllZip, Any, Contains}
 use Rattle.cell_num.specs.declared.net.NetNo.{NetNo}
 use Rattle.cell_num.specs.declared.net.Pins.{Pins}
@@ -45,7 +46,8 @@ pub record IsInRow (deck : Deck) (s : List Shape) (side : Row) (span : Span) (bo
   pub of_side : device.row ≡ side
 
 -- the device, with its nets from left to right
-pub record IsPlacedAt (deck : Deck) (names : List (List ℕ)) (shapes : Shapes) (side : Row) (box : Rectangle) (x : Placed) : Type 0 where
+pub record IsPlacedAt (deck : Deck) (names : List (List ℕ)) (shapes : Shapes) (side : Row) (box : Rectangle)
+    (x : Placed) : Type 0 where
   pub gate : Site
   pub left : Site
   pub right : Site
@@ -56,7 +58,8 @@ pub record IsPlacedAt (deck : Deck) (names : List (List ℕ)) (shapes : Shapes) 
   pub right_end : IsNamed deck shapes (name_of names (right_net x)) right
 
 -- exactly one device of the row stands in the column, and is the finger
-pub record IsOneIn (deck : Deck) (names : List (List ℕ)) (shapes : Shapes) (side : Row) (span : Span) (x : Placed) : Type 0 where
+pub record IsOneIn (deck : Deck) (names : List (List ℕ)) (shapes : Shapes) (side : Row) (span : Span) (x : Placed)
+    : Type 0 where
   pub box : Rectangle
   pub inside : IsIn span box
   pub placed : IsPlacedAt deck names shapes side box x
@@ -67,7 +70,8 @@ abbrev pub IsPlace : Deck → List (List ℕ) → Shapes → Row → Span → Op
 IsPlace deck names shapes side span None = (box : Rectangle) → IsInRow deck shapes.rects side span box → ⊥
 IsPlace deck names shapes side span (Some x) = IsOneIn deck names shapes side span x
 
-pub record IsShownColumn (deck : Deck) (names : List (List ℕ)) (shapes : Shapes) (span : Span) (column : Column) : Type 0 where
+pub record IsShownColumn (deck : Deck) (names : List (List ℕ)) (shapes : Shapes) (span : Span) (column : Column)
+    : Type 0 where
   pub p : IsPlace deck names shapes P span column.p
   pub n : IsPlace deck names shapes N span column.n
 
@@ -91,10 +95,13 @@ pub record ShowsRow (deck : Deck) (names : List (List ℕ)) (row : List Column) 
   pub ascending : AllPairs (λ (a b : Span). a.right ≤ℤ b.left) spans
   pub columns : AllZip (IsShownColumn deck names shapes) spans row
   pub all : (box : Rectangle) → IsSomeDevice deck shapes.rects box → Any (λ (span : Span). IsIn span box) spans
-  pub abut : (a b : Column) (one other : Span) → AreNeighbours row spans a b one other → is_gap (a, b) ≡ false → (side : Row) (left right : Rectangle) → IsInRow deck shapes.rects side one left → IsInRow deck shapes.rects side other right → IsJoined shapes.rects side left right
+  pub abut : (a b : Column) (one other : Span) → AreNeighbours row spans a b one other → is_gap (a, b) ≡ false →
+      (side : Row) (left right : Rectangle) → IsInRow deck shapes.rects side one left →
+      IsInRow deck shapes.rects side other right → IsJoined shapes.rects side left right
 
 -- The drawing shows the row; the rails are two of the pins.
-pub record ShowsColumns (deck : Deck) (names : List (List ℕ)) (pins : Pins) (row : List Column) (shapes : Shapes) : Type 0 where
+pub record ShowsColumns (deck : Deck) (names : List (List ℕ)) (pins : Pins) (row : List Column) (shapes : Shapes)
+    : Type 0 where
   pub shown : ArePins (length names) pins → ShowsRow deck names row shapes
 
 -- the net's label stands on the track, where the channel begins at this height
@@ -107,7 +114,8 @@ pub record ShowsTrack (names : List (List ℕ)) (n_edge : ℕ) (shapes : Shapes)
 
 -- The routing that a drawing shows: for each net that needs one a trunk from its first to its last line,
 -- on the track of its label; and one track more than the highest of them, if there is one.
-pub record ShowsRouting (names : List (List ℕ)) (pins : Pins) (placement : Placement) (shapes : Shapes) (r : Routing) : Type 0 where
+pub record ShowsRouting (names : List (List ℕ)) (pins : Pins) (placement : Placement) (shapes : Shapes) (r : Routing)
+    : Type 0 where
   pub nets : (net : NetNo) → HasTrunk placement pins net ↔ Any (λ (t : Trunk). t.net ≡ net) r.trunks
   pub order : AllPairs (λ (a b : Trunk). a.net.0 < b.net.0) r.trunks
   pub spans : All (λ (t : Trunk). IsSpan placement t.net t.left t.right) r.trunks

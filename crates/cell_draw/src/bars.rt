@@ -104,6 +104,7 @@ fn bar_of(
     })
 }
 
+/// The bars of trunks, in their order.
 pub fn bars(
     alloc: Global,
     frame: &Frame,

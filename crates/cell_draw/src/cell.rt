@@ -87,7 +87,10 @@ pub fn fitting_frame(
 
 /// Draws a row of sound fingers on lines that its distances allow, in a cell of the given height, or of
 /// the least where that is 0. The shapes obey every rule, extract to the fingers of the row, net by net,
-/// and show the row and the routing.
+/// and show the row and the routing. Positions and heights are in grid units.
+///
+/// Errors: `TooTall`, before anything is drawn, where the given height is below the needed one;
+/// `NoMemory`.
 pub fn draw(
     alloc: Global,
     names: &Names,
@@ -163,7 +166,8 @@ fn base_drawn(
     Ok(drawing(alloc, &[], &layout)?)
 }
 
-/// Draws well, selects, rails and fingers alone, with room for so many tracks. They obey every rule.
+/// Draws well, selects, rails and fingers alone, with room for `tracks` tracks. They obey every rule.
+/// Errors are those of `draw`.
 pub fn draw_base(
     alloc: Global,
     pins: &Pins,

@@ -3,7 +3,7 @@
 ghost use Rattle.std.specs.Prelude.{◌≡◌, ◌≤◌, ◌<◌, ◌+◌, pos, IfSome};
 ghost use Rattle.box_geom.specs.declared.layer.Layer.TheVariants.{Poly, Metal1};
 ghost use Rattle.cell_draw.specs.Laid.{IsWidth};
-ghost use Rattle.cell_draw.specs.Shapes.{upright, finger, gate_low, gate_high, gate_strip, bar_metal};
+ghost use Rattle.cell_draw.specs.Shapes.{upright, gate_low, gate_high, gate_strip, bar_metal};
 ghost use Rattle.cell_draw.specs.Small.{IsSmallFrame, IsSmallGate, IsSmallBar, IsReach};
 
 use crate::shape::upright;
@@ -43,6 +43,7 @@ fn gate_high(frame: &Frame, p: Option<u32>, track: Option<u32>) -> u32
     }
 }
 
+/// The poly of a gate: past its fingers, or from its one finger to its track.
 #[tactic(auto, using(crate::proofs::Sizes::low_high))]
 pub fn gate_strip(frame: &Frame, gate: &Gate) -> Shape
     requires frame { IsSmallFrame frame.now }
@@ -54,6 +55,7 @@ pub fn gate_strip(frame: &Frame, gate: &Gate) -> Shape
     upright(Layer::Poly, gate.x, HALF_GATE, low, high)
 }
 
+/// The metal1 of a bar along its track.
 pub fn bar_metal(frame: &Frame, bar: &Bar) -> Shape
     requires frame { IsSmallFrame frame.now }
     requires bar { IsSmallBar frame.now bar.now }

@@ -21,6 +21,7 @@ fn is_rail(pins: &Pins, net: NetNo) -> bool
     pins.is_rail(net)
 }
 
+/// The first trunk of a net.
 pub fn trunk_of(trunks: &[Trunk], net: NetNo) -> Option<&Trunk>
     ensures { option_copied result ≡ trunk_of trunks.now net }
 {
@@ -109,6 +110,7 @@ fn contact_of(
     }
 }
 
+/// The contacts of node places, in their order: of the rails' nets and of nets with a trunk.
 pub fn contacts(
     alloc: Global,
     frame: &Frame,

@@ -58,7 +58,7 @@ fn height_of(row: Row, columns: &[Column]) -> u32
     most
 }
 
-// The height of a channel of so many tracks.
+// The height of a channel of `tracks` tracks, in grid units.
 fn channel_of(tracks: u32) -> u32
     requires { tracks ≤ MOST_TRACKS }
     ensures value { result ≡ channel_of tracks }
@@ -67,7 +67,7 @@ fn channel_of(tracks: u32) -> u32
     LEAST_CHANNEL + TRACK_PITCH * tracks.saturating_sub(1)
 }
 
-/// The least height of a cell with so many tracks.
+/// The least height of a cell with `tracks` tracks, in grid units.
 pub fn needed(columns: &[Column], tracks: u32) -> u32
     requires widths { All HasWidths columns.now }
     requires tracks { tracks ≤ MOST_TRACKS }

@@ -61,6 +61,7 @@ fn gate_at(frame: &Frame, trunks: &[Trunk], xs: &[u32], seat: &Seat) -> Option<G
     })
 }
 
+/// The gates of the seats that have one, in their order.
 pub fn gates(
     alloc: Global,
     frame: &Frame,

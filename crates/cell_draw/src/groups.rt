@@ -1,15 +1,18 @@
 // The shapes of a layout, group by group.
 
-ghost use Rattle.std.specs.Prelude.{◌≡◌, ◌≤◌, ◌++◌, ◌∷◌, [], All, IfOk, OnOk};
+ghost use Rattle.std.specs.Prelude.{◌≡◌, ◌≤◌, ◌++◌, ◌∷◌, [], pos, All, IfOk, OnOk};
 ghost use Rattle.std.specs.List.{flat_map};
-ghost use Rattle.cell_draw.specs.Shapes.{frame_shapes, finger, reach_shapes, contact_shapes, pad_shapes, gate_shapes, via_shapes, bar_shapes, shapes_of};
-ghost use Rattle.cell_draw.specs.Small.{IsSmall, IsSmallFrame, IsSmallStrip, IsSmallContact, IsSmallGate, IsSmallBar, IsReach};
+ghost use Rattle.box_geom.specs.declared.layer.Layer.TheVariants.{Via};
+ghost use Rattle.cell_draw.specs.Shapes.{around, frame_shapes, finger, reach_shapes, contact_shapes};
+ghost use Rattle.cell_draw.specs.Shapes.{pad_shapes, gate_shapes, via_shapes, bar_shapes, shapes_of};
+ghost use Rattle.cell_draw.specs.Small.{IsSmall, IsSmallFrame, IsSmallStrip};
+ghost use Rattle.cell_draw.specs.Small.{IsSmallContact, IsSmallGate, IsSmallBar, IsReach};
 
 use crate::{
     Bar, Contact, Frame, Gate, HALF_CUT, HALF_PAD, Layout, MOST_X, MOST_Y, Strip, channel_shapes,
     row_shapes, shape,
 };
-use box_geom::{Layer, ShapeList};
+use box_geom::{Layer, Shape, ShapeList};
 use cell_num::{NoMemory, Row};
 use std::alloc::Global;
 
@@ -35,6 +38,14 @@ fn add_fingers(out: &mut ShapeList, frame: &Frame, strips: &[Strip]) -> Result<(
     Ok(())
 }
 
+fn via(x: u32, y: u32) -> Shape
+    requires x { x ≤ MOST_X }
+    requires y { y ≤ MOST_Y }
+    ensures { result ≡ around Via x (pos y) HALF_CUT }
+{
+    shape::square(Layer::Via, x, y, HALF_CUT)
+}
+
 // The landing via of a signal and its metal2.
 fn add_reach(
     out: &mut ShapeList,
@@ -52,7 +63,7 @@ fn add_reach(
         return Ok(());
     };
     let landing = row_shapes::landing(frame, row);
-    out.push(shape::square(Layer::Via, x, landing, HALF_CUT))?;
+    out.push(via(x, landing))?;
     out.push(row_shapes::branch(frame, row, x, reach))
 }
 
@@ -118,7 +129,7 @@ fn add_vias(out: &mut ShapeList, y: u32, vias: &[u32]) -> Result<(), NoMemory>
     ensures { OnOk result (out.new ≡ out.old ++ flat_map (via_shapes y) vias.now) }
 {
     for x in vias {
-        out.push(shape::square(Layer::Via, *x, y, HALF_CUT))?;
+        out.push(via(*x, y))?;
     }
     Ok(())
 }

@@ -16,7 +16,7 @@ use crate::{
 };
 
 /// Where a drawing of at most 10,000 rectangles and 2,000 labels extracts to fingers, its extraction is refused
-/// for want of memory alone.
+/// only where memory runs out.
 pub fn extraction_law()
     ensures { (deck : Deck) (names : List (List ℕ)) (fingers : Fingers) (shapes : Shapes) (f : ExtractFault) →
         AreFew shapes → ExtractsTo deck names fingers shapes → ExtractRefused deck shapes f → f ≡ NoMemory }

@@ -28,4 +28,5 @@ pub use measure::{
     LABEL_ON_GATE, LABEL_ON_GND, LABEL_ON_VDD, LANDING, LEAST_CHANNEL, LEAST_ROW, RAIL, RAIL_GAP,
     ROW_EDGE, SELECT_PAST_ROW, SELECT_PAST_SIDE, TRACK_PITCH, WELL_PAST_ROW, WELL_PAST_SIDE,
 };
+pub use shape::square;
 pub use wiring::draw_wiring;

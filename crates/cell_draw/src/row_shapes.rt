@@ -2,7 +2,8 @@
 
 ghost use Rattle.std.specs.Prelude.{◌≡◌, ◌≤◌, ◌<◌, ◌+◌, pos};
 ghost use Rattle.box_geom.specs.declared.layer.Layer.TheVariants.{Metal1, Metal2};
-ghost use Rattle.cell_draw.specs.Shapes.{upright, finger_low, finger_high, finger, centre, landing, strap_low, strap_high, strap, branch_low, branch_high, branch};
+ghost use Rattle.cell_draw.specs.Shapes.{upright, finger_low, finger_high, finger, centre, landing};
+ghost use Rattle.cell_draw.specs.Shapes.{strap_low, strap_high, strap, branch_low, branch_high, branch};
 ghost use Rattle.cell_draw.specs.Small.{IsSmallFrame, IsSmallStrip, IsSmallContact, IsHeight};
 
 use crate::shape::upright;
@@ -37,6 +38,7 @@ fn finger_span(frame: &Frame, strip: &Strip) -> Span
     }
 }
 
+/// The active of a finger, between its node lines and as high as its transistor is wide.
 pub fn finger(frame: &Frame, strip: &Strip) -> Shape
     requires frame { IsSmallFrame frame.now }
     requires strip { IsSmallStrip frame.now strip.now }
@@ -54,7 +56,7 @@ pub fn finger(frame: &Frame, strip: &Strip) -> Shape
     }
 }
 
-// The centre of a node's contact, half a pad inside the row.
+/// The height of the centre of a node's contact, in grid units: half a pad inside the row.
 pub fn centre(frame: &Frame, row: Row) -> u32
     requires { IsSmallFrame frame.now }
     ensures value { pos result ≡ centre frame.now row }
@@ -66,7 +68,7 @@ pub fn centre(frame: &Frame, row: Row) -> u32
     }
 }
 
-// The centre of a signal's landing via, inside the channel.
+/// The height of the centre of a signal's landing via, in grid units: inside the channel.
 pub fn landing(frame: &Frame, row: Row) -> u32
     requires { IsSmallFrame frame.now }
     ensures value { pos result ≡ landing frame.now row }
@@ -108,6 +110,7 @@ fn strap_span(frame: &Frame, row: Row, reach: Option<u32>) -> Span
     }
 }
 
+/// The metal1 of a node's contact: to the rail of a rail's net, to the landing via of a signal.
 pub fn strap(frame: &Frame, contact: &Contact) -> Shape
     requires frame { IsSmallFrame frame.now }
     requires contact { IsSmallContact frame.now contact.now }
@@ -139,6 +142,7 @@ fn branch_span(frame: &Frame, row: Row, reach: u32) -> Span
     }
 }
 
+/// The metal2 from the landing via at `x` to a track whose middle is at the height `reach`.
 pub fn branch(frame: &Frame, row: Row, x: u32, reach: u32) -> Shape
     requires frame { IsSmallFrame frame.now }
     requires x { x ≤ MOST_X }

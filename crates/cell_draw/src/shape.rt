@@ -11,7 +11,7 @@ use crate::{
 };
 use box_geom::{Layer, Rect, Shape};
 
-// A rectangle that begins at the left edge of the cell and goes so far beyond it to both sides.
+// A rectangle over the width of the cell and `beyond` grid units past it on both sides.
 fn across(layer: Layer, frame: &Frame, beyond: u32, low: u32, high: u32) -> Shape
     requires frame { IsSmallFrame frame.now }
     requires beyond { beyond ≤ 10 }
@@ -30,10 +30,11 @@ fn across(layer: Layer, frame: &Frame, beyond: u32, low: u32, high: u32) -> Shap
     }
 }
 
-// The square around a point that reaches so far to each side.
+/// The square around a point that reaches `by` grid units to each side.
 pub fn square(layer: Layer, x: u32, y: u32, by: u32) -> Shape
-    requires x { x ≤ MOST_X }
-    requires y { y ≤ MOST_Y }
+    // Its sides stay within the limits of a rectangle.
+    requires x { x ≤ 999999990 }
+    requires y { y ≤ 999999990 }
     requires some { 0 < by }
     requires by { by ≤ 10 }
     ensures { result ≡ around layer x (pos y) by }
@@ -49,7 +50,7 @@ pub fn square(layer: Layer, x: u32, y: u32, by: u32) -> Shape
     }
 }
 
-// From low to high, so far to both sides of a line.
+/// From `low` to `high`, and `by` grid units to both sides of a line.
 pub fn upright(layer: Layer, x: u32, by: u32, low: u32, high: u32) -> Shape
     requires x { x ≤ MOST_X }
     requires some { 0 < by }
@@ -69,6 +70,7 @@ pub fn upright(layer: Layer, x: u32, by: u32, low: u32, high: u32) -> Shape
     }
 }
 
+/// The well: over the P row, past its channel edge and the cell's sides, up to the top of the cell.
 pub fn well(frame: &Frame) -> Shape
     requires { IsSmallFrame frame.now }
     ensures { result ≡ well frame.now }
@@ -82,6 +84,7 @@ pub fn well(frame: &Frame) -> Shape
     )
 }
 
+/// The select of the P row, past the row on all sides.
 pub fn p_select(frame: &Frame) -> Shape
     requires { IsSmallFrame frame.now }
     ensures { result ≡ p_select frame.now }
@@ -95,6 +98,7 @@ pub fn p_select(frame: &Frame) -> Shape
     )
 }
 
+/// The select of the N row, past the row on all sides.
 pub fn n_select(frame: &Frame) -> Shape
     requires { IsSmallFrame frame.now }
     ensures { result ≡ n_select frame.now }
@@ -108,6 +112,7 @@ pub fn n_select(frame: &Frame) -> Shape
     )
 }
 
+/// The lower rail, at the bottom of the cell.
 pub fn gnd_rail(frame: &Frame) -> Shape
     requires { IsSmallFrame frame.now }
     ensures { result ≡ gnd_rail frame.now }
@@ -115,6 +120,7 @@ pub fn gnd_rail(frame: &Frame) -> Shape
     across(Layer::Metal1, frame, 0, 0, RAIL)
 }
 
+/// The upper rail, at the top of the cell.
 pub fn vdd_rail(frame: &Frame) -> Shape
     requires { IsSmallFrame frame.now }
     ensures { result ≡ vdd_rail frame.now }

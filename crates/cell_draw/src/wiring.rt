@@ -59,9 +59,10 @@ fn drawn(
     Ok(drawing(alloc, names.as_slice(), &layout)?)
 }
 
-/// Draws a wired row of sound fingers, with trunks on so many tracks, on lines that the distances of the
+/// Draws a wired row of sound fingers, with trunks on `tracks` tracks, on lines that the distances of the
 /// row and of the trunks allow, in a cell of the given height, or of the least where that is 0. The shapes
-/// obey every rule, extract to the fingers of the row, net by net, and show the row.
+/// obey every rule, extract to the fingers of the row, net by net, and show the row. Errors are those of
+/// `draw`.
 pub fn draw_wiring(
     alloc: Global,
     names: &Names,

@@ -8,11 +8,24 @@ use tech_file::Tech;
 
 /// What a cell is made of: the technology, the subcircuit, whose name is one that
 /// [`is_cell`](cell_num::is_cell) takes, and its fingers, of which there is at least one.
-#[derive(Drop)]
 pub struct Inputs {
     pub tech: Tech,
     pub cell: Subckt,
     pub fingers: Fingers,
+}
+
+// (by hand, so that functions in which they go out of scope cite this proof)
+impl Drop for Inputs {
+    fn drop(self) {
+        let Inputs {
+            tech,
+            cell,
+            fingers,
+        } = self;
+        drop(tech);
+        drop(cell);
+        drop(fingers);
+    }
 }
 
 impl Model for Inputs {
@@ -31,6 +44,20 @@ impl Inputs {
         ensures { AreInputs self.now }
     {
         let _ = &self.fingers;
+    }
+
+    /// The subcircuit alone.
+    pub fn into_cell(self) -> Subckt
+        ensures { result ≡ self.cell }
+    {
+        let Inputs {
+            tech,
+            cell,
+            fingers,
+        } = self;
+        drop(tech);
+        drop(fingers);
+        cell
     }
 
     /// The most nodes of a search, at most 1,000,000.
@@ -57,7 +84,6 @@ impl Inputs {
         ensures least { 10 ≤ result }
         ensures most { result ≤ 1000 }
     {
-        self.tech.show_limits();
-        self.tech.lambda_nm / 2
+        self.tech.unit_nm()
     }
 }

@@ -17,5 +17,6 @@ pub mod Library
 pub mod Made
 pub mod MadeCells
 pub mod Rails
+pub mod Split
 pub mod Stops
 pub mod Uses

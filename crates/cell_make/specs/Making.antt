@@ -1,4 +1,4 @@
--- What making a cell comes to: its drawing, a cycle of its least row, a height that is not enough, or the log of
+-- What making a cell results in: its drawing, a cycle of its least row, a height that is not enough, or the log of
 -- an unfinished search.
 use Rattle.std.specs.Prelude.{ℕ, ◌≡◌, ◌<◌, ◌≤◌, ◌*◌, List, length, unwrap_or}
 use Rattle.cell_num.specs.declared.net.Pins.{Pins}
@@ -34,7 +34,8 @@ use Rattle.cell_inputs.specs.Inputs.{Inputs, unit_nm}
 use Rattle.cell_make.specs.Extent.{frame_in}
 use Rattle.cell_make.specs.Searched.{IsFound, IsUnfinished}
 use Rattle.cell_make.specs.Structures.{HasOneStructure}
-use Rattle.cell_make.specs.Style.{AreBodiedBy, AreLegal, AreTight, HasNoRing, HasPinPort, IsToldRing, ShowsWiring, deck_of, final, tapped_by}
+use Rattle.cell_make.specs.Style.{AreBodiedBy, AreLegal, AreTight, HasNoRing, HasPinPort, IsToldRing, ShowsWiring}
+use Rattle.cell_make.specs.Style.{deck_of, final, tapped_by}
 
 -- ---- the parts
 
@@ -129,7 +130,7 @@ pub record IsDrawn (style : Style) (inputs : Inputs) (row : List Column) (routin
   pub agrees : HasAbstract style inputs row routing xs
   pub small : HasSmallFiles style inputs row routing xs
 
--- ---- what making a cell comes to
+-- ---- what making a cell results in
 
 -- A cell that was made: its row is the first least arrangement of the fingers, the log is accepted and lists it, and
 -- the row is drawn.

@@ -10,7 +10,8 @@ use Rattle.finger_fold.specs.declared.folding.FoldFault.TheVariants as fold
 use Rattle.gds_read.specs.RoundTrip.{IsReadable}
 use Rattle.row_abut.specs.declared.cell.RowCell.{RowCell}
 use Rattle.cell_make.specs.RowInputs.{RowInputs}
-use Rattle.cell_make.specs.Rowed.{AreInputsOf, AreMade, IsInputFault, IsMadeCell, IsNoDrawing, IsRefused, IsStopped, MadeCell, TellsWhy, cell_drawing, cell_frame, cell_name, row_cell, row_cells}
+use Rattle.cell_make.specs.Rowed.{AreInputsOf, AreMade, IsInputFault, IsMadeCell, IsNoDrawing, IsRefused, IsStopped}
+use Rattle.cell_make.specs.Rowed.{MadeCell, TellsWhy, cell_drawing, cell_frame, cell_name, row_cell, row_cells}
 use Rattle.cell_make.specs.declared.row_outcome.InputFault.TheVariants.{Spice, Fold}
 use Rattle.cell_make.specs.declared.row_stop.RowStop.{RowStop}
 use Rattle.cell_make.specs.declared.row_stop.RowStop.TheVariants.{Refused, Stopped, NoMemory}
@@ -55,7 +56,7 @@ pub record AreCellsOf (r : RowInputs) (names : List (List ℕ)) (cells : List Ro
   pub sound : All IsSoundCell made
   pub shown : cells ≡ row_cells made
 
--- why the cell of this name is not made, but for want of memory
+-- why the cell of this name is not made, unless memory ran out
 abbrev pub IsStop : RowInputs → List ℕ → RowStop → Type 0
 IsStop r name (Refused f) = IsInputFault r name f
 IsStop r name (Stopped inputs why) =

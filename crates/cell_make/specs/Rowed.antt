@@ -1,4 +1,4 @@
--- What making a row of cells comes to: a library of its cells and of the row, or why there is none.
+-- What making a row of cells results in: a library of its cells and of the row, or why there is none.
 use Rattle.std.specs.Prelude.{ℕ, ◌≡◌, List, ◌∷◌, ◌++◌, map, All, AllPairs, Ok, Err}
 use Rattle.std.specs.List.{sum_by}
 use Rattle.bound_log.specs.declared.log.Log.{Log}
@@ -88,7 +88,7 @@ row_cell m = record {
 abbrev pub row_cells : List MadeCell → List RowCell
 row_cells made = map row_cell made
 
--- a structure for each different cell, and behind them the row
+-- a structure for each different cell, and after them the row
 abbrev pub row_library : RowInputs → List MadeCell → List ℕ
 row_library r made = library_of (abutted r.top (row_cells made)) (unit_nm r.tech)
 
@@ -129,7 +129,8 @@ pub record ComesNext (r : RowInputs) (before : List MadeCell) (name : List ℕ) 
 -- the first fault of the subcircuit of this name, or of its folding
 abbrev pub IsInputFault : RowInputs → List ℕ → InputFault → Type 0
 IsInputFault r name (Spice f) = subcircuit r.spice name r.tech ≡ Err f
-IsInputFault r name (Fold f) = (cell : Subckt) × (subcircuit r.spice name r.tech ≡ Ok cell) × (folded r.tech cell ≡ Err f)
+IsInputFault r name (Fold f) =
+    (cell : Subckt) × (subcircuit r.spice name r.tech ≡ Ok cell) × (folded r.tech cell ≡ Err f)
 
 -- the next cell has no inputs
 pub record IsRefused (r : RowInputs) (before : List MadeCell) (name : List ℕ) (fault : InputFault) : Type 0 where
@@ -150,7 +151,7 @@ pub record IsStopped (r : RowInputs) (before : List MadeCell) (inputs : Inputs) 
   pub makes : Makes plain_style inputs answer
   pub stops : IsNoDrawing answer
 
--- why there is no drawing, as it is told: the ring, the heights that are needed and given, or the log of the search
+-- why there is no drawing, as it is reported: the ring, the heights that are needed and given, or the log of the search
 abbrev pub TellsWhy : Inputs → Undrawn → MakeAnswer → Type 0
 TellsWhy inputs (why.Cyclic ring) answer = (row : List Column) × (log : Log) × (answer ≡ Cyclic row log ring)
 TellsWhy inputs (why.Tall needed given) answer =
@@ -163,7 +164,7 @@ pub record IsUnabutted (r : RowInputs) (made : List MadeCell) (fault : RowFault)
   pub cells : AreMade r r.names made
   pub is : IsRowFault (row_cells made) fault
 
--- ---- what it comes to
+-- ---- what it results in
 
 pub data RowAnswer : Type 0 where
   Rowed : (made : List MadeCell) → RowAnswer

@@ -1,4 +1,4 @@
--- What drawing a row comes to: its drawing, a ring of its nets, or a height that is not enough.
+-- What drawing a row results in: its drawing, a ring of its nets, or a height that is not enough.
 use Rattle.std.specs.Prelude.{ℕ, ◌≡◌, ◌<◌, List, length}
 use Rattle.row_model.specs.declared.column.Column.{Column}
 use Rattle.row_place.specs.declared.placement.Placement.{Placement}
@@ -21,8 +21,8 @@ pub data DrawAnswer : Type 0 where
   RowCyclic : (ring : Ring) → DrawAnswer
   RowTall : (routing : Routing) → DrawAnswer
 
--- The row is drawn on these tracks and lines; or nets of it stand above each other in this ring, as it is told; or it
--- is routed, and needs more than the height.
+-- The row is drawn on these tracks and lines; or nets of it stand above each other in this ring, as it is reported;
+-- or it is routed, and needs more than the height.
 abbrev pub Draws : Style → Inputs → List Column → DrawAnswer → Type 0
 Draws style inputs row (RowDrawn routing xs) = IsDrawn style inputs row routing xs
 Draws style inputs row (RowCyclic ring) = IsToldRing style.wiring (placement_of row) inputs.cell.pins ring

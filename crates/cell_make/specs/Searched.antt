@@ -22,13 +22,13 @@ pub record IsFound (inputs : Inputs) (row : List Column) (log : Log) : Type 0 wh
   pub first : IsFirstLeast inputs.fingers row
   pub certified : IsCertified inputs row log
 
--- the budget is spent, and the log proves so many gaps of every row
+-- the budget is spent, and the log proves that many gaps of every row
 abbrev pub IsUnfinished : Inputs → ℕ → Log → Type 0
 IsUnfinished inputs proved log =
     (log.version ≡ COMPONENT_LOG)
     × WithKinds inputs.fingers (λ k. IsSpent component_value k inputs.fingers inputs.tech.budget log proved)
 
--- what planning comes to: the first least row with its log, or the log of a spent budget
+-- what planning results in: the first least row with its log, or the log of a spent budget
 abbrev pub IsPlanned : Inputs → Planned → Type 0
 IsPlanned inputs (planned.Found row log) = IsFound inputs row log
 IsPlanned inputs (planned.Unfinished log proved) = IsUnfinished inputs proved log

@@ -1,4 +1,4 @@
--- What drawing the first least row came to, with the log of its search.
+-- What drawing the first least row resulted in, with the log of its search.
 use Rattle.bound_log.specs.declared.log.Log.{Log}
 use Rattle.cell_make.specs.declared.outcome.Outcome.{Outcome}
 use Rattle.cell_make.specs.declared.outcome.Outcome.TheVariants as outcome

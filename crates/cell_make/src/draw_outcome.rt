@@ -14,7 +14,7 @@ use row_model::Arrangement;
 use row_place::{Placement, place};
 use std::alloc::Global;
 
-/// What drawing a row comes to.
+/// What drawing a row results in.
 #[derive(Drop)]
 pub enum DrawOutcome {
     /// The row on its lines, drawn.

@@ -1,4 +1,4 @@
-// What making a cell comes to: its drawing, a cycle of its least row, a height that is not enough, or the log of an
+// What making a cell results in: its drawing, a cycle of its least row, a height that is not enough, or the log of an
 // unfinished search; and making a row of cells: one library, or why there is none.
 #![tactic(auto)]
 

@@ -13,7 +13,7 @@ use log_output::KeptLog;
 use row_place::Placement;
 use std::alloc::Global;
 
-/// What making a cell comes to.
+/// What making a cell results in.
 #[derive(Drop)]
 pub enum Outcome {
     /// The first least row on its lines, drawn.
@@ -45,7 +45,7 @@ pub enum Outcome {
 }
 
 impl Outcome {
-    // What the first least row came to, with the log of its search.
+    // What the first least row resulted in, with the log of its search.
     fn with_log(came: DrawOutcome, log: KeptLog) -> Outcome
         ensures { result ≡ with_log came log }
     {

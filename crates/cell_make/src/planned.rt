@@ -9,7 +9,7 @@ use row_search::{StopKept, search_kept};
 use row_state::{COMPONENT_LOG, Component};
 use std::alloc::Global;
 
-/// What planning a cell comes to.
+/// What planning a cell results in.
 #[derive(Drop)]
 pub enum Planned {
     /// The first least row, and the log of its search.

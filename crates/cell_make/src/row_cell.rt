@@ -1,10 +1,11 @@
-ghost use Rattle.std.specs.Prelude.{◌≡◌, ◌≤◌, All, IfErr, IfOk, IsTrue};
+ghost use Rattle.std.specs.Prelude.{◌≡◌, ◌≤◌, All, IfErr, IfOk, IsTrue, Ok};
 ghost use Rattle.cell_draw.specs.Frame.{IsTooTall, frame_of};
 ghost use Rattle.cell_draw.specs.Small.{HasWidths};
 ghost use Rattle.cell_num.specs.Names.{is_cell};
 ghost use Rattle.cell_make.specs.Rowed.{AreInputsOf};
 ghost use Rattle.tech_file.specs.Technology.{IsTechnology};
 ghost use Rattle.cell_make.specs.RowSteps.{IsCellOf, IsStop};
+ghost use Rattle.spice_net.specs.Chosen.{lines_in};
 ghost use Rattle.cell_make.specs.declared.row_stop.RowStop.TheVariants.{Stopped};
 
 use crate::drawn::Drawn;
@@ -19,7 +20,8 @@ use channel_route::Routing;
 use finger_fold::fold;
 use row_abut::RowCell;
 use row_place::Placement;
-use spice_net::read_cell;
+use spice_net::read_cell_in;
+use spice_text::Lines;
 use std::alloc::Global;
 use tech_file::Tech;
 
@@ -42,15 +44,16 @@ fn copy_tech(tech: &Tech) -> Result<Tech, NoMemory>
     })
 }
 
-// The inputs of the cell of that name.
-fn inputs_of(alloc: Global, row: &RowInputs, name: &Name) -> Result<Inputs, RowStop>
-    requires { IsTrue (is_cell name.now) }
+// The inputs of the cell of that name, of the lines of the row's file.
+fn inputs_of(alloc: Global, row: &RowInputs, lines: &Lines, name: &Name) -> Result<Inputs, RowStop>
+    requires cell { IsTrue (is_cell name.now) }
+    requires lines { lines_in row.now.spice ≡ Ok lines.now }
     ensures inputs { IfOk result (AreInputsOf row.now) }
     ensures name { IfOk result (λ inputs. inputs.cell.name ≡ name.now) }
     ensures stops { IfErr result (IsStop row.now name.now) }
 {
     row.show_limits();
-    let cell = read_cell(alloc, row.spice.as_slice(), name, &row.tech)?;
+    let cell = read_cell_in(alloc, lines.as_slice(), name, &row.tech)?;
     let fingers = fold(alloc, &cell, &row.tech)?;
     let tech = copy_tech(&row.tech)?;
     Ok(Inputs {
@@ -73,7 +76,7 @@ fn row_cell(inputs: Inputs, placement: &Placement, routing: &Routing, drawn: Dra
     ensures p { result.edges.p ≡ (frame_of placement.now.row routing.now.tracks inputs.tech.height 16).p_edge }
 {
     let edges = channel_edges(placement, routing.tracks, inputs.height());
-    let Inputs { cell, .. } = inputs;
+    let cell = inputs.into_cell();
     RowCell {
         name: cell.name,
         nets: cell.nets,
@@ -83,8 +86,8 @@ fn row_cell(inputs: Inputs, placement: &Placement, routing: &Routing, drawn: Dra
     }
 }
 
-// A cell that is not made. What is not needed any more is dropped by calls, here and below: where a big value goes out
-// of scope by itself, all its parts are proved at once, and that takes long.
+// A cell that is not made. What is not needed any more is dropped by calls, here and below: where a placed row and its
+// channel go out of scope by themselves, all their parts are proved at once, and that takes long.
 fn stopped<T: Drop>(inputs: Inputs, unneeded: T, why: Undrawn) -> RowStop
     ensures { result ≡ Stopped inputs why }
 {
@@ -92,18 +95,21 @@ fn stopped<T: Drop>(inputs: Inputs, unneeded: T, why: Undrawn) -> RowStop
     RowStop::Stopped { inputs, why }
 }
 
-/// Makes the cell of that name, with straight trunks and no taps.
-pub fn made_cell(alloc: Global, row: &RowInputs, name: &Name) -> Result<RowCell, RowStop>
-    requires { IsTrue (is_cell name.now) }
+/// Makes the cell of that name, of the lines of the row's file, with straight trunks and no taps.
+pub fn made_cell(
+    alloc: Global,
+    row: &RowInputs,
+    lines: &Lines,
+    name: &Name,
+) -> Result<RowCell, RowStop>
+    requires cell { IsTrue (is_cell name.now) }
+    requires lines { lines_in row.now.spice ≡ Ok lines.now }
     ensures made { IfOk result (IsCellOf row.now name.now) }
     ensures stops { IfErr result (IsStop row.now name.now) }
 {
-    let inputs = inputs_of(alloc, row, name)?;
+    let inputs = inputs_of(alloc, row, lines, name)?;
     inputs.show_limits();
-    let Ok(outcome) = Outcome::of(alloc, &inputs, Style::plain()) else {
-        drop(inputs);
-        return Err(RowStop::NoMemory);
-    };
+    let outcome = Outcome::of(alloc, &inputs, Style::plain())?;
     match outcome {
         Outcome::Made {
             placement,

@@ -41,6 +41,6 @@ impl RowInputs {
     pub fn unit_nm(&self) -> u32
         ensures { result ≡ unit_nm self.now.tech }
     {
-        self.tech.lambda_nm / 2
+        self.tech.unit_nm()
     }
 }

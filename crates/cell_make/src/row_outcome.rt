@@ -1,5 +1,4 @@
 ghost use Rattle.std.specs.Prelude.{◌≡◌, ◌≢◌, ◌≤◌, IfOk, sum_by};
-ghost use Rattle.row_abut.specs.Faults.{first_height};
 ghost use Rattle.row_abut.specs.declared.cell.RowCell.{RowCell as ACell};
 ghost use Rattle.row_abut.specs.declared.cell.RowFault.TheVariants as row_fault;
 ghost use Rattle.cell_make.specs.Rowed.{ComesToRow};
@@ -15,7 +14,7 @@ use channel_route::Ring;
 use finger_fold::FoldFault;
 use gds_write::write_library;
 use log_output::KeptLog;
-use row_abut::{RowCell, RowCellList, RowFault, abut};
+use row_abut::{RowCell, RowCellList, RowFault, abut, first_height};
 use spice_net::SpiceFault;
 use std::alloc::Global;
 
@@ -37,7 +36,7 @@ pub enum Undrawn {
     Unfinished { log: KeptLog, proved: u32 },
 }
 
-/// What making a row of cells comes to.
+/// The outcome of making a row of cells.
 #[derive(Drop)]
 pub enum RowOutcome {
     /// The library of the cells and of the row, and the row's size in grid units.
@@ -68,15 +67,6 @@ fn width_of(cells: &[RowCell]) -> u32
     width
 }
 
-fn height_of(cells: &[RowCell]) -> u32
-    ensures { result ≡ first_height cells.now }
-{
-    match cells.first() {
-        Some(cell) => cell.drawing.height,
-        None => 0,
-    }
-}
-
 fn unabutted(fault: RowFault) -> Result<RowOutcome, NoMemory>
     ensures { IfOk result (λ told. (fault ≢ row_fault.NoMemory) × (told ≡ outcome.Unabutted fault)) }
 {
@@ -98,7 +88,7 @@ fn side_by_side(alloc: Global, row: &RowInputs, cells: &RowCellList) -> Result<R
             Ok(RowOutcome::Rowed {
                 library: Bytes::from_vec(library),
                 width: width_of(cells.as_slice()),
-                height: height_of(cells.as_slice()),
+                height: first_height(cells.as_slice()),
             })
         }
         Err(fault) => unabutted(fault),

@@ -1,5 +1,6 @@
 -- Lengths in metres as decimal numbers, and the nearest whole number of units.
-use Rattle.std.specs.Prelude.{ℕ, ◌+◌, ◌*◌, ◌/◌, ◌^◌, ◌<◌, ◌≤◌, ℤ, pos, negsuc, ◌+ℤ◌, nat_lt, Option, Some, None, if◌then◌else◌}
+use Rattle.std.specs.Prelude.{ℕ, ◌+◌, ◌*◌, ◌/◌, ◌^◌, ◌<◌, ◌≤◌, ℤ, pos, negsuc, ◌+ℤ◌, nat_lt, Option, Some, None}
+use Rattle.std.specs.Prelude.{if◌then◌else◌}
 use Rattle.cell_num.specs.declared.length.Fixed.{Fixed}
 
 -- A power of ten, written as a fraction of two whole powers: the one above the line ..
@@ -35,4 +36,5 @@ nearest_units value unit_pm = (2 * parts_of value + unit_pm * parts_in_one value
 
 -- that number, where it is at most so many
 abbrev pub units_up_to : ℕ → Fixed → ℕ → Option ℕ
-units_up_to most value unit_pm = if nat_lt most (nearest_units value unit_pm) then None else Some (nearest_units value unit_pm)
+units_up_to most value unit_pm = if nat_lt most (nearest_units value unit_pm) then None
+    else Some (nearest_units value unit_pm)

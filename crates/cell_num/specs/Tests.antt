@@ -16,4 +16,5 @@ abbrev pub finger_test : Row → ℕ → Finger → Bool
 finger_test at nets f = same_row f.row at && nat_le f.lo.0 f.hi.0 && nat_lt f.gate.0 nets && nat_lt f.hi.0 nets
 
 abbrev pub fingers_test : Fingers → Bool
-fingers_test f = nat_le f.nets 256 && list_all (finger_test P f.nets) f.p && list_all (finger_test N f.nets) f.n && nat_le (columns_of f) 32
+fingers_test f = nat_le f.nets 256 && list_all (finger_test P f.nets) f.p && list_all (finger_test N f.nets) f.n
+    && nat_le (columns_of f) 32

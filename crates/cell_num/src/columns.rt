@@ -9,6 +9,7 @@ fn gate_count(fingers: &[Finger], gate: u32) -> usize
     fingers.iter().filter(|f| f.gate.0 == gate).count()
 }
 
+/// The larger of the two counts of fingers on a gate, of the P row and of the N row.
 pub fn larger_count(fingers: &Fingers, gate: u32) -> usize
     ensures { result ≡ max (on_gate gate fingers.now.p) (on_gate gate fingers.now.n) }
 {

@@ -63,9 +63,9 @@ fn nearest(value: &Fixed, unit_pm: u64) -> Option<u128>
     Some((2 * parts + unit) / (2 * unit))
 }
 
-#[tactic(auto, using(crate::proofs::Nearest::far, crate::proofs::Nearest::not_far, crate::proofs::Nearest::is_told, crate::proofs::Nearest::is_beyond, crate::proofs::Nearest::is_above))]
 /// The number of units of `unit_pm` picometres nearest to a length, ties upward; None exactly where
 /// that is above [`MOST_UNITS`].
+#[tactic(auto, using(crate::proofs::Nearest::far, crate::proofs::Nearest::not_far, crate::proofs::Nearest::is_told, crate::proofs::Nearest::is_beyond, crate::proofs::Nearest::is_above))]
 pub fn snap(value: &Fixed, unit_pm: u64) -> Option<u32>
     requires some { 0 < unit_pm }
     requires small { unit_pm ≤ 1000000 }

@@ -25,6 +25,7 @@ pub use name::{MOST_CELL_BYTES, MOST_NAME_BYTES, copy, is_cell, is_name, lower};
 pub use net::{NetNo, Pins};
 pub use room::Room;
 
+/// Fingers of one row.
 pub type FingerList = List<Finger>;
 
 /// Bytes of any kind.
@@ -33,4 +34,5 @@ pub type Bytes = List<u8>;
 /// A name, as its bytes.
 pub type Name = List<u8>;
 
+/// Names, as those of the nets by their numbers.
 pub type Names = List<Name>;

@@ -29,7 +29,7 @@ pub fn put_count(out: &mut Bytes, word: &[u8], count: u64) -> Result<(), NoMemor
     out.extend(b"\n")
 }
 
-/// Adds a line of two numbers, each behind its word.
+/// Adds a line of two numbers, each after its word.
 pub fn put_pair(
     out: &mut Bytes,
     word: &[u8],

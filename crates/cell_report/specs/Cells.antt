@@ -4,7 +4,8 @@ use Rattle.cell_num.specs.Lines.{count_line, pair_line}
 
 -- the tracks of a drawn cell, its width and height
 abbrev pub sizes_text : ℕ → ℕ → ℕ → List ℕ
-sizes_text tracks width height = count_line (codes "tracks ") tracks ++ pair_line (codes "size ") width (codes " ") height
+sizes_text tracks width height =
+    count_line (codes "tracks ") tracks ++ pair_line (codes "size ") width (codes " ") height
 
 -- the height that the cell needs, and the given one
 abbrev pub tall_text : ℕ → ℕ → List ℕ

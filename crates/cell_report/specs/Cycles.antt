@@ -1,5 +1,6 @@
 -- The lines of a cycle of nets or of pieces of nets, each of which stands above the next, and the last above the first.
-use Rattle.std.specs.Prelude.{ℕ, ◌+◌, nat_lt, if◌then◌else◌, List, [], ◌++◌, length, slice_get, flat_map, codes, decimal, Option, Some, None}
+use Rattle.std.specs.Prelude.{ℕ, ◌+◌, nat_lt, if◌then◌else◌, List, [], ◌++◌, length, slice_get, flat_map, codes}
+use Rattle.std.specs.Prelude.{decimal, Option, Some, None}
 use Rattle.std.specs.List.{enumerate_from}
 use Rattle.channel_route.specs.declared.ring.Ring.{Ring}
 use Rattle.channel_route.specs.declared.ring.Ring.TheVariants.{OfNets, OfPieces}
@@ -7,11 +8,11 @@ use Rattle.channel_route.specs.declared.routing.Above.{Above}
 use Rattle.channel_route.specs.declared.routing.WireAbove.{WireAbove}
 use Rattle.cell_report.specs.Names.{name_of}
 
--- the place of the entry below another: the next one, or behind the last the first
+-- the place of the entry below another: the next one, or after the last the first
 abbrev pub below : ℕ → ℕ → ℕ
 below count at = if nat_lt (at + 1) count then at + 1 else 0
 
--- ---- entries of any type, by how one is told, and by the line at which it meets the entry below
+-- ---- entries of any type, by how one is reported, and by the line at which it meets the entry below
 
 abbrev pub entry_text : {A : Type 0} → (A → List ℕ) → Option A → List ℕ
 entry_text told None = []

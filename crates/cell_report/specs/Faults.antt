@@ -40,7 +40,7 @@ fault_of name fields = record { name = name; fields = fields }
 abbrev pub at_line : List ℕ → ℕ → Fault
 at_line name line = fault_of name (Number (codes "line") line ∷ [])
 
--- two numbers, each behind its name
+-- two numbers, each after its name
 abbrev pub with_two : List ℕ → List ℕ → ℕ → List ℕ → ℕ → Fault
 with_two name one first other second = fault_of name (Number one first ∷ Number other second ∷ [])
 

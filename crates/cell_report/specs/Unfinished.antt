@@ -1,4 +1,4 @@
--- What is told of a search that spent its budget: the counts, and the text of its log.
+-- What is reported of a search that spent its budget: the counts, and the text of its log.
 use Rattle.std.specs.Prelude.{ℕ, ◌++◌, length}
 use Rattle.bound_log.specs.declared.log.Log.{Log}
 use Rattle.bound_log.specs.Text.{log_text}

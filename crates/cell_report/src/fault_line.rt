@@ -13,7 +13,7 @@ pub enum Field<'a> {
     Text(&'a [u8], &'a [u8]),
 }
 
-// Adds a word behind a blank.
+// Adds a word after a blank.
 fn put_word(out: &mut Bytes, word: &[u8]) -> Result<(), NoMemory>
     ensures { OnOk result (out.new ≡ out.old ++ codes " " ++ word.now) }
 {

@@ -1,5 +1,6 @@
 ghost use Rattle.std.specs.Prelude.{◌≡◌, ◌++◌, [], codes, OnOk};
-ghost use Rattle.cell_report.specs.Faults.{fault_line, fault_of, at_line, with_two, tech_fault, what_text, spice_fault, fold_fault, log_fault, check_fault};
+ghost use Rattle.cell_report.specs.Faults.{fault_line, fault_of, at_line, with_two, tech_fault, what_text};
+ghost use Rattle.cell_report.specs.Faults.{spice_fault, fold_fault, log_fault, check_fault};
 
 use crate::fault_line::{Field, put_fault};
 use bound_log::LogFault;
@@ -154,7 +155,7 @@ pub fn put_fold(out: &mut Bytes, fault: &FoldFault) -> Result<(), NoMemory>
     }
 }
 
-/// Adds the line of a fault of the text of evidence, behind the word of that: a log, or a certificate by trails.
+/// Adds the line of a fault of the text of evidence, after the word of that: a log, or a certificate by trails.
 pub(crate) fn put_text_fault(out: &mut Bytes, word: &[u8], fault: &LogFault) -> Result<(), NoMemory>
     ensures { OnOk result (out.new ≡ out.old ++ fault_line word.now (log_fault fault.now)) }
 {
@@ -181,7 +182,7 @@ pub fn put_log(out: &mut Bytes, fault: &LogFault) -> Result<(), NoMemory>
     put_text_fault(out, b"log", fault)
 }
 
-/// Adds the line of a cause of two numbers, each behind its name.
+/// Adds the line of a cause of two numbers, each after its name.
 pub(crate) fn put_cause(
     out: &mut Bytes,
     word: &[u8],

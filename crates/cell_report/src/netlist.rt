@@ -1,5 +1,6 @@
 ghost use Rattle.std.specs.Prelude.{◌≡◌, ◌++◌, OnOk, slice_get};
-ghost use Rattle.cell_report.specs.Netlists.{device_row, nets_text, body_name, body_text, device_line, net_lines, device_lines, netlist_text};
+ghost use Rattle.cell_report.specs.Netlists.{device_row, nets_text, body_name, body_text, device_line, net_lines};
+ghost use Rattle.cell_report.specs.Netlists.{device_lines, netlist_text};
 
 use crate::names::put_net;
 use cell_num::{Bytes, Name, Names, NoMemory, Row, put_count, put_number, put_text};

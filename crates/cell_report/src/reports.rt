@@ -44,7 +44,7 @@ pub fn spent_report(alloc: Global, proved: u32, lemmas: u64) -> Result<Bytes, No
     Ok(report)
 }
 
-/// The end of a search that spent its budget: its log behind the counts.
+/// The end of a search that spent its budget: its log after the counts.
 pub fn log_unfinished(
     alloc: Global,
     cell: &Subckt,

@@ -7,7 +7,7 @@ use channel_route::{Above, Ring, WireAbove};
 
 /// An entry of a cycle.
 pub(crate) trait Entry {
-    /// How it is told, by the names of the nets.
+    /// How it is reported, by the names of the nets.
     ghost told: { Sequence (Sequence ℕ) → Self → Sequence ℕ };
 
     /// The line at which it meets the entry below.

@@ -16,7 +16,7 @@ pub fn put_trails(out: &mut Bytes, fault: &LogFault) -> Result<(), NoMemory>
     put_text_fault(out, b"trails", fault)
 }
 
-// A cause of one number, behind its name.
+// A cause of one number, after its name.
 fn put_one(out: &mut Bytes, name: &[u8], field: &[u8], count: u32) -> Result<(), NoMemory>
     ensures { OnOk result
         (out.new ≡ out.old ++ fault_line (codes "trails") (with_one name.now field.now count)) }

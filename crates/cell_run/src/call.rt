@@ -3,7 +3,8 @@ ghost use Rattle.cell_io.specs.Desk.{Both, Rose};
 ghost use Rattle.call_end.specs.declared.end.End.{End as EndOf};
 ghost use Rattle.call_end.specs.declared.status.Status.TheVariants as status;
 ghost use Rattle.layout_commands.specs.Agree.{DoesAgree};
-ghost use Rattle.run_laws.specs.Agree.{ComparesMade, HasDisagreement, HasNoNets, IsAgree, IsAgreedCell, IsDisagreed, IsWithoutNets, OfCompared};
+ghost use Rattle.run_laws.specs.Agree.{ComparesMade, HasDisagreement, HasNoNets, IsAgree, IsAgreedCell, IsDisagreed};
+ghost use Rattle.run_laws.specs.Agree.{IsWithoutNets, OfCompared};
 ghost use Rattle.run_laws.specs.Bench.{IsBench, IsBenchTold, WhereBenchEnds};
 ghost use Rattle.run_laws.specs.Calm.{IfCalm, IsDoneOrShort};
 ghost use Rattle.run_laws.specs.Check.{HoldsAccepted, IsCheck};
@@ -11,14 +12,18 @@ ghost use Rattle.run_laws.specs.Created.{CreatesOnce};
 ghost use Rattle.call_end.specs.Deliver.{Tells, TellsWhole};
 ghost use Rattle.call_work.specs.Ends.{CallsFor, IsOfOutside, MayEnd, is_status_of};
 ghost use Rattle.layout_commands.specs.Extract.{BreaksRule, HasNetlist};
-ghost use Rattle.run_laws.specs.Extract.{HasNoNetlist, IsBrokenCell, IsExtract, IsExtractedCell, IsRefusedLayout, OfGdsCell, WhereExtractEnds};
+ghost use Rattle.run_laws.specs.Extract.{HasNoNetlist, IsBrokenCell, IsExtract, IsExtractedCell, IsRefusedLayout};
+ghost use Rattle.run_laws.specs.Extract.{OfGdsCell, WhereExtractEnds};
 ghost use Rattle.call_work.specs.Commands.{Agreeing, read_by};
 ghost use Rattle.run_laws.specs.Ended.{WhereEnds};
 ghost use Rattle.run_laws.specs.From.{FromFile, IsRefusedFile, IsUnaccepted, OfListed, WhereFromEnds, file_of};
-ghost use Rattle.run_laws.specs.Headline.{CanBeDrawn, FromInputs, HasCycle, IsCyclicCell, IsMadeCell, IsOrShort, IsTallCell, IsTooHigh, IsUnmade, MakesNone, OfFirstLeast, WhereMakeEnds};
+ghost use Rattle.run_laws.specs.Headline.{CanBeDrawn, FromInputs, HasCycle, IsCyclicCell, IsMadeCell, IsOrShort};
+ghost use Rattle.run_laws.specs.Headline.{IsTallCell, IsTooHigh, IsUnmade, MakesNone, OfFirstLeast, WhereMakeEnds};
 ghost use Rattle.run_laws.specs.Origin.{Search};
 ghost use Rattle.run_laws.specs.Plan.{CanBePlanned, IsPlannedRow, IsUnplanned, WherePlanEnds};
-ghost use Rattle.run_laws.specs.Row.{CanBeRowed, IsApartOrShort, IsKeptApart, IsMisreadRow, IsRow, IsRowedLibrary, IsStopStatus, IsStoppedRow, IsUnabuttedRow, MayLeaveFile, MayMakeFiles, OfRow, WhereRowEnds};
+ghost use Rattle.run_laws.specs.Row.{CanBeRowed, IsApartOrShort, IsKeptApart, IsMisreadRow, IsRow, IsRowedLibrary};
+ghost use Rattle.run_laws.specs.Row.{IsStopStatus, IsStoppedRow, IsUnabuttedRow, MayLeaveFile, MayMakeFiles, OfRow};
+ghost use Rattle.run_laws.specs.Row.{WhereRowEnds};
 ghost use Rattle.row_abut.specs.declared.cell.RowFault.{RowFault};
 ghost use Rattle.call_read.specs.Sources.{Lacks};
 ghost use Rattle.call_words.specs.Words.{asked};
@@ -33,15 +38,15 @@ use std::alloc::Global;
 /// `plan TECH SPICE CELL` finds the first least row of a cell: TECH is a technology file or `-` for the
 /// plain technology, SPICE a file, and CELL the name of one of its subcircuits. `make TECH SPICE CELL OUT`
 /// draws that row: it makes the log `OUT.clog`, the GDSII library `OUT.gds` and then the abstract `OUT.lef`. With
-/// `--dogleg` behind OUT, trunks may change their tracks at node lines of their nets; with `--taps` as the last word
+/// `--dogleg` after OUT, trunks may change their tracks at node lines of their nets; with `--taps` as the last word
 /// the library has taps of the well and of the substrate, on the rails at the first and at the last line.
-/// `check TECH SPICE CELL LOG` tells whether the file LOG is the text of a log that certifies a row of that cell.
-/// `extract TECH GDS CELL` tells the netlist of a cell of the GDSII file GDS, or the rules that it breaks. With
-/// `--taps` behind CELL the rules are those of cells with taps, and the net of each device's body is told.
-/// `bench NUMBER` makes so many generated cells in memory, 1 to 200, and tells what came out.
+/// `check TECH SPICE CELL LOG` reports whether the file LOG is the text of a log that certifies a row of that cell.
+/// `extract TECH GDS CELL` reports the netlist of a cell of the GDSII file GDS, or the rules that it breaks. With
+/// `--taps` after CELL the rules are those of cells with taps, and the net of each device's body is reported.
+/// `bench NUMBER` makes that many generated cells in memory, 1 to 200, and reports what came out.
 /// `row TECH SPICE OUT TOP CELL CELL ..` draws 2 to 16 cells as `make` does, and makes the GDSII library `OUT.gds` of
 /// them and of the cell TOP, in which they stand side by side in the words' order.
-/// `agree TECH GDS LEF CELL` tells whether the macro of a cell in the LEF file LEF agrees with the cell in the GDSII
+/// `agree TECH GDS LEF CELL` reports whether the macro of a cell in the LEF file LEF agrees with the cell in the GDSII
 /// file GDS, or the first difference.
 /// With `--trails` as the last word `plan` finds the row with a certificate by trails, `make` makes that, `OUT.ctrail`,
 /// in the place of the log, and `check` reads its file as the text of such a certificate.
@@ -50,13 +55,13 @@ use std::alloc::Global;
 ///
 /// All memory that is not the desk's own is taken before the first file is made.
 pub fn run<D: Desk>(alloc: Global, words: &[String], desk: &mut D) -> Status
-    // The call came to such an end, and it was told: whole, or up to where writing failed or the desk found no
+    // The call resulted in such an end, and it was reported: whole, or up to where writing failed or the desk found no
     // memory. Where memory ran out before, the end is to say nothing.
     ensures ends { (end : EndOf)
         × MayEnd (D.view desk.old) (D.view desk.new) (asked words.now) end
         × Tells end result (D.view desk.old) (D.view desk.new) }
 
-    // Over files that are told, an end that they call for is told whole, but for ReadFault, WriteFault and
+    // Over files that are told, an end that they call for is reported whole, except ReadFault, WriteFault and
     // NoMemory.
     ensures called_for { IfSome (D.view desk.old).given (λ files. IsOfOutside result ⊎ ((end : EndOf)
         × CallsFor files (asked words.now) end
@@ -81,7 +86,7 @@ pub fn run<D: Desk>(alloc: Global, words: &[String], desk: &mut D) -> Status
     ensures other { IsTrue (is_status_of (asked words.now) result) }
 
     // A failing call of the desk ends the call: a count is as before wherever the status tells of no such failure.
-    // Behind a failed read, telling of it may fail in turn, or find no memory.
+    // After a failed read, telling of it may fail in turn, or find no memory.
     ensures same_reads { (IsOfOutside result → ⊥)
         → (D.view desk.new).read_faults ≡ (D.view desk.old).read_faults }
     ensures same_writes { result ≢ status.WriteFault
@@ -94,8 +99,8 @@ pub fn run<D: Desk>(alloc: Global, words: &[String], desk: &mut D) -> Status
     ensures short_count { (D.view desk.old).shorts ≤ (D.view desk.new).shorts }
 
     // `make` and `row` alone make files: `make` none where it ends with another status than its own, WriteFault or
-    // NoMemory, with `--from` none where it ends so without a drawing, and `row` none but where it is Done, or ends with
-    // WriteFault or NoMemory.
+    // NoMemory, with `--from` none where it ends so without a drawing, and `row` none except where it is Done, or
+    // ends with WriteFault or NoMemory.
     ensures made { (MayMakeFiles (asked words.now) → ⊥) → (D.view desk.new).made ≡ (D.view desk.old).made }
     ensures alone { IsRow (asked words.now)
         → MayLeaveFile result ⊎ ((D.view desk.new).made ≡ (D.view desk.old).made) }
@@ -106,7 +111,7 @@ pub fn run<D: Desk>(alloc: Global, words: &[String], desk: &mut D) -> Status
     // No file is created twice, whatever the end is. (That they are those of the end, in order, is said by `ends`.)
     ensures once { Both CreatesOnce (D.view desk.old).created (D.view desk.new).created }
 
-    // What `make` leaves behind: the drawing of the first least row, with its evidence; or a cycle of that row; or the
+    // What `make` leaves: the drawing of the first least row, with its evidence; or a cycle of that row; or the
     // height that it needs; or the evidence of what a search proves that spent its budget, or a gate with too many ways
     // to pair its fingers.
     ensures drawn { IfSome (D.view desk.old).given (λ files. WhereMakeEnds files (asked words.now) result
@@ -130,8 +135,9 @@ pub fn run<D: Desk>(alloc: Global, words: &[String], desk: &mut D) -> Status
     ensures needs { IfCalm (D.view desk.old) (D.view desk.new) (λ files.
         FromInputs files (asked words.now) (OfFirstLeast IsTooHigh) → IsOrShort status.TooTall result) }
 
-    // What `make` with `--from FILE` leaves behind: the drawing of the row that FILE lists, than which no row has fewer
-    // gaps; or a cycle of that row; or the height that it needs; or what a check of FILE tells that does not accept it.
+    // What `make` with `--from FILE` leaves: the drawing of the row that FILE lists, than which no row has fewer
+    // gaps; or a cycle of that row; or the height that it needs; or what a check of FILE reports that does not accept
+    // it.
     ensures drawn_from { IfSome (D.view desk.old).given (λ files. WhereFromEnds files (asked words.now) result
         status.Done (λ m.
         IsMadeCell (file_of m) m.style m.inputs m.stem (D.view desk.old) (D.view desk.new))) }
@@ -154,7 +160,7 @@ pub fn run<D: Desk>(alloc: Global, words: &[String], desk: &mut D) -> Status
     ensures rejects_from { IfCalm (D.view desk.old) (D.view desk.new) (λ files.
         FromFile files (asked words.now) IsUnaccepted → IsOrShort status.Rejected result) }
 
-    // What `plan` tells: the first least row, with evidence that is accepted; or what a search proves that spent its
+    // What `plan` reports: the first least row, with evidence that is accepted; or what a search proves that spent its
     // budget, or a gate with too many ways to pair its fingers.
     ensures planned { IfSome (D.view desk.old).given (λ files. WherePlanEnds files (asked words.now) result
         status.Done (λ evidence inputs. IsPlannedRow evidence inputs (D.view desk.old) (D.view desk.new))) }
@@ -165,14 +171,14 @@ pub fn run<D: Desk>(alloc: Global, words: &[String], desk: &mut D) -> Status
     ensures plans { IfCalm (D.view desk.old) (D.view desk.new) (λ files.
         CanBePlanned files (asked words.now) → IsDoneOrShort result) }
 
-    // A check is done exactly where the file is the text of accepted evidence, but for ReadFault, WriteFault and
+    // A check is done exactly where the file is the text of accepted evidence, except ReadFault, WriteFault and
     // NoMemory; and where neither reading nor writing failed it is done there, or memory ran out.
     ensures checked { IfSome (D.view desk.old).given (λ files. IsCheck (asked words.now)
         → IsOfOutside result ⊎ (result ≡ status.Done ↔ HoldsAccepted files (asked words.now))) }
     ensures accepts { IfCalm (D.view desk.old) (D.view desk.new) (λ files.
         HoldsAccepted files (asked words.now) → IsDoneOrShort result) }
 
-    // What `extract` tells: the netlist of a cell that obeys all rules; or all rules that it breaks; or why the file
+    // What `extract` reports: the netlist of a cell that obeys all rules; or all rules that it breaks; or why the file
     // has no cell to check, or the cell no netlist.
     ensures extracted { IfSome (D.view desk.old).given (λ files. WhereExtractEnds files (asked words.now) result
         status.Done (λ cell. IsExtractedCell cell (D.view desk.old) (D.view desk.new))) }
@@ -189,8 +195,8 @@ pub fn run<D: Desk>(alloc: Global, words: &[String], desk: &mut D) -> Status
     ensures refuses { IfCalm (D.view desk.old) (D.view desk.new) (λ files.
         HasNoNetlist files (asked words.now) → IsOrShort status.Layout result) }
 
-    // What `agree` tells: that the macro agrees with the drawing of the cell; or that there is none, or how it differs;
-    // or that there is no drawing, or no netlist of it.
+    // What `agree` reports: that the macro agrees with the drawing of the cell; or that there is none, or how it
+    // differs; or that there is no drawing, or no netlist of it.
     ensures agreed { IfSome (D.view desk.old).given (λ files. WhereEnds Agreeing files (asked words.now) result
         status.Done (λ both. IsAgreedCell both (D.view desk.old) (D.view desk.new))) }
     ensures disagreed { IfSome (D.view desk.old).given (λ files. IsAgree (asked words.now) → result ≡ status.Disagree
@@ -205,11 +211,11 @@ pub fn run<D: Desk>(alloc: Global, words: &[String], desk: &mut D) -> Status
         HasDisagreement files (asked words.now) → IsOrShort status.Disagree result) }
     ensures unextracts { IfCalm (D.view desk.old) (D.view desk.new) (λ files.
         HasNoNets files (asked words.now) → IsOrShort status.Layout result) }
-    // The files that a `make` left behind agree.
+    // The files that a `make` left agree.
     ensures agrees_made { IfCalm (D.view desk.old) (D.view desk.new) (λ files.
         ComparesMade files (asked words.now) → IsOrShort status.Done result) }
 
-    // What `row` leaves behind: the library of its cells side by side; or why the first cell that is not made has no
+    // What `row` leaves: the library of its cells side by side; or why the first cell that is not made has no
     // drawing, or no inputs; or why its cells do not stand side by side.
     ensures rowed { IfSome (D.view desk.old).given (λ files. WhereRowEnds files (asked words.now) result
         status.Done (λ r out. IsRowedLibrary r out (D.view desk.old) (D.view desk.new))) }
@@ -222,14 +228,14 @@ pub fn run<D: Desk>(alloc: Global, words: &[String], desk: &mut D) -> Status
         status.Row (λ r out. IsUnabuttedRow r (D.view desk.old) (D.view desk.new))) }
 
     // Where the cells can be made and stand side by side, it is done, or memory ran out; where they can be made and a
-    // fault keeps them apart, it ends with 12 and tells that fault, or memory ran out.
+    // fault keeps them apart, it ends with 12 and reports that fault, or memory ran out.
     ensures rows { IfCalm (D.view desk.old) (D.view desk.new) (λ files.
         OfRow files (asked words.now) (λ r out. CanBeRowed r) → IsDoneOrShort result) }
     ensures unabuts { IfCalm (D.view desk.old) (D.view desk.new) (λ files. (fault : RowFault)
         → OfRow files (asked words.now) (λ r out. IsKeptApart r fault)
         → IsApartOrShort fault result (D.view desk.old) (D.view desk.new)) }
 
-    // What `bench` tells: the counts of what making each generated cell comes to. It is done, or writing failed, or
+    // What `bench` reports: the counts of what making each generated cell results in. It is done, or writing failed, or
     // memory ran out.
     ensures benched { WhereBenchEnds (asked words.now) result
         (λ number. IsBenchTold number (D.view desk.old) (D.view desk.new)) }

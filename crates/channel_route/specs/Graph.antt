@@ -1,5 +1,6 @@
 -- The channel as wires and constraints, and what stands when the tracks below one are full.
-use Rattle.std.specs.Prelude.{ℕ, ◌≡◌, ◌≢◌, ◌<◌, ◌≤◌, ◌⊎◌, ◌++◌, ◌&&◌, ◌||◌, ◌==◌, ltb, not, Bool, true, List, Option, Some, None, map, length, take, count_by, All, AllPairs, Any, Contains, IsPermutation, []}
+use Rattle.std.specs.Prelude.{ℕ, ◌≡◌, ◌≢◌, ◌<◌, ◌≤◌, ◌⊎◌, ◌++◌, ◌&&◌, ◌||◌, ◌==◌, ltb, not, Bool, true, List, Option}
+use Rattle.std.specs.Prelude.{Some, None, map, length, take, count_by, All, AllPairs, Any, Contains, IsPermutation, []}
 use Rattle.std.specs.List.{list_any}
 use Rattle.channel_route.specs.declared.routing.Trunk.{Trunk}
 use Rattle.channel_route.specs.declared.wire.Wire.{Wire}
@@ -13,7 +14,8 @@ abbrev pub wire_of : PlacedWire → Wire
 wire_of placed = placed.wire
 
 abbrev pub trunk_of : PlacedWire → Trunk
-trunk_of placed = record { net = placed.wire.net; left = placed.wire.left; right = placed.wire.right; track = placed.track }
+trunk_of placed =
+    record { net = placed.wire.net; left = placed.wire.left; right = placed.wire.right; track = placed.track }
 
 -- the order of first line, then key
 abbrev pub IsBefore : Wire → Wire → Type 0
@@ -61,16 +63,20 @@ pub record HasWireBelow (placed : List PlacedWire) (key : ℕ) (track : ℕ) : T
 
 -- What holds of the wires that are placed and those that are left: each wire is one of them, the tracks
 -- below this one are full, legal and tight, and no wire that is left could stand on one of them.
-pub record IsPartial (wires : List Wire) (constraints : List Constraint) (placed : List PlacedWire) (left : List Wire) (track : ℕ) : Type 0 where
+pub record IsPartial (wires : List Wire) (constraints : List Constraint) (placed : List PlacedWire) (left : List Wire)
+    (track : ℕ) : Type 0 where
   pub all : IsPermutation wires (map wire_of placed ++ left)
   pub order : AllPairs IsBefore left
   pub full : (i : ℕ) → i < track → Any (λ t. t.track ≡ i) placed
-  pub apart : (a b : PlacedWire) → Contains placed a → Contains placed b → a.wire.net ≢ b.wire.net → a.track ≡ b.track → AreApart (trunk_of a) (trunk_of b)
-  pub above : (t : PlacedWire) → Contains placed t → (c : Constraint) → Contains constraints c → c.upper ≡ t.wire.key → HasWireBelow placed c.lower t.track
+  pub apart : (a b : PlacedWire) → Contains placed a → Contains placed b → a.wire.net ≢ b.wire.net → a.track ≡ b.track →
+      AreApart (trunk_of a) (trunk_of b)
+  pub above : (t : PlacedWire) → Contains placed t → (c : Constraint) → Contains constraints c → c.upper ≡ t.wire.key →
+      HasWireBelow placed c.lower t.track
   pub tight : (t : PlacedWire) → Contains placed t → (i : ℕ) → i < t.track → IsBlocked constraints placed t.wire i
   pub blocked : (w : Wire) → Contains left w → (i : ℕ) → i < track → IsBlocked constraints placed w i
 
-pub record IsFilled (wires : List Wire) (constraints : List Constraint) (placed : List PlacedWire) (left : List Wire) (track : ℕ) : Type 0 where
+pub record IsFilled (wires : List Wire) (constraints : List Constraint) (placed : List PlacedWire) (left : List Wire)
+    (track : ℕ) : Type 0 where
   pub part : IsPartial wires constraints placed left track
   pub low : (t : PlacedWire) → Contains placed t → t.track < track
 
@@ -92,10 +98,13 @@ has_room left constraints last w = not (waits left constraints w) && starts_behi
 
 -- either a wire was put on the track, or each one so far waits
 abbrev pub HasMoved : List Wire → List Constraint → ℕ → List Wire → Option Wire → Type 0
-HasMoved left constraints at still None = (length still ≡ at) × All (λ w. waits left constraints w ≡ true) (take at left)
+HasMoved left constraints at still None =
+    (length still ≡ at) × All (λ w. waits left constraints w ≡ true) (take at left)
 HasMoved left constraints at still (Some last) = length still < at
 
 -- what filling tracks comes to
 abbrev pub IsOutcome : List Wire → List Constraint → Filled → Type 0
 IsOutcome wires constraints (Done placed tracks) = IsFilled wires constraints placed.items [] tracks
-IsOutcome wires constraints (Stuck left) = (0 < length left.items) × All (λ w. waits left.items constraints w ≡ true) left.items × (placed : List PlacedWire) × (tracks : ℕ) × IsFilled wires constraints placed left.items tracks
+IsOutcome wires constraints (Stuck left) =
+    (0 < length left.items) × All (λ w. waits left.items constraints w ≡ true) left.items × (placed : List PlacedWire)
+    × (tracks : ℕ) × IsFilled wires constraints placed left.items tracks

@@ -1,5 +1,6 @@
 -- Legal and tight routings of the channel between the rows, and their density.
-use Rattle.std.specs.Prelude.{ℕ, ◌≡◌, ◌≢◌, ◌<◌, ◌≤◌, ◌⊎◌, ◌↔◌, ◌&&◌, leb, Bool, List, count_by, All, AllPairs, Any, Contains}
+use Rattle.std.specs.Prelude.{ℕ, ◌≡◌, ◌≢◌, ◌<◌, ◌≤◌, ◌⊎◌, ◌↔◌, ◌&&◌, leb, Bool}
+use Rattle.std.specs.Prelude.{List, count_by, All, AllPairs, Any, Contains}
 use Rattle.cell_num.specs.declared.net.NetNo.{NetNo}
 use Rattle.cell_num.specs.declared.net.Pins.{Pins}
 use Rattle.row_place.specs.declared.placement.Placement.{Placement}
@@ -18,8 +19,10 @@ pub record IsLegal (placement : Placement) (pins : Pins) (routing : Routing) : T
   pub nets : (net : NetNo) → HasTrunk placement pins net ↔ Any (λ t. t.net ≡ net) routing.trunks
   pub order : AllPairs (λ a b. a.net.0 < b.net.0) routing.trunks
   pub spans : All (λ t. IsSpan placement t.net t.left t.right) routing.trunks
-  pub apart : (a b : Trunk) → Contains routing.trunks a → Contains routing.trunks b → a.net ≢ b.net → a.track ≡ b.track → AreApart a b
-  pub above : (a b : Trunk) → Contains routing.trunks a → Contains routing.trunks b → (line : ℕ) → IsAbove placement pins a.net b.net line → b.track < a.track
+  pub apart : (a b : Trunk) → Contains routing.trunks a → Contains routing.trunks b → a.net ≢ b.net →
+      a.track ≡ b.track → AreApart a b
+  pub above : (a b : Trunk) → Contains routing.trunks a → Contains routing.trunks b → (line : ℕ) →
+      IsAbove placement pins a.net b.net line → b.track < a.track
   pub tracks : All (λ t. t.track < routing.tracks) routing.trunks
   pub full : (track : ℕ) → track < routing.tracks → Any (λ t. t.track ≡ track) routing.trunks
 
@@ -35,7 +38,9 @@ pub record IsFree (placement : Placement) (pins : Pins) (trunks : List Trunk) (t
 
 -- each trunk stands on the least track that is free for it
 abbrev pub IsTight : Placement → Pins → Routing → Type 0
-IsTight placement pins routing = (t : Trunk) → Contains routing.trunks t → IsFree placement pins routing.trunks t t.track × ((track : ℕ) → track < t.track → IsFree placement pins routing.trunks t track → ⊥)
+IsTight placement pins routing =
+    (t : Trunk) → Contains routing.trunks t → IsFree placement pins routing.trunks t t.track
+    × ((track : ℕ) → track < t.track → IsFree placement pins routing.trunks t track → ⊥)
 
 -- no net stands above another
 abbrev pub HasNoAbove : Placement → Pins → Type 0

@@ -16,7 +16,8 @@ use Rattle.channel_route.specs.Cycle.{IsCycleBelow}
 pub record IsStuck (placement : Placement) (pins : Pins) (net : NetNo) : Type 0 where
   pub set : NetNo → Bool
   pub there : set net ≡ true
-  pub each : (n : NetNo) → set n ≡ true → (lower : NetNo) × (line : ℕ) × IsAbove placement pins n lower line × (set lower ≡ true)
+  pub each : (n : NetNo) → set n ≡ true →
+      (lower : NetNo) × (line : ℕ) × IsAbove placement pins n lower line × (set lower ≡ true)
 
 -- the first of the nets that can not be placed, by first line, then number
 pub record IsFirstStuck (placement : Placement) (pins : Pins) (net : NetNo) : Type 0 where
@@ -24,13 +25,15 @@ pub record IsFirstStuck (placement : Placement) (pins : Pins) (net : NetNo) : Ty
   pub first : ℕ
   pub last : ℕ
   pub span : IsSpan placement net first last
-  pub none_before : (other : NetNo) (begin end : ℕ) → IsStuck placement pins other → IsSpan placement other begin end → (first < begin) ⊎ ((first ≡ begin) × (net.0 ≤ other.0))
+  pub none_before : (other : NetNo) (begin end : ℕ) → IsStuck placement pins other → IsSpan placement other begin end →
+      (first < begin) ⊎ ((first ≡ begin) × (net.0 ≤ other.0))
 
 -- one step down
 pub record IsStep (placement : Placement) (pins : Pins) (upper lower : NetNo) (line : ℕ) : Type 0 where
   pub over : IsAbove placement pins upper lower line
   pub stuck : IsStuck placement pins lower
-  pub first : (other : NetNo) (earlier : ℕ) → IsAbove placement pins upper other earlier → IsStuck placement pins other → line ≤ earlier
+  pub first : (other : NetNo) (earlier : ℕ) → IsAbove placement pins upper other earlier →
+      IsStuck placement pins other → line ≤ earlier
 
 pub record IsTold (placement : Placement) (pins : Pins) (cycle : List Above) : Type 0 where
   pub start : NetNo

@@ -1,5 +1,6 @@
 -- A walk down along constraints that comes back to where it was.
-use Rattle.std.specs.Prelude.{ℕ, ◌≡◌, ◌<◌, ◌≤◌, ◌⊎◌, ◌==◌, ◌&&◌, Bool, true, List, [], ◌∷◌, count_by, AllPairs, Contains}
+use Rattle.std.specs.Prelude.{ℕ, ◌≡◌, ◌<◌, ◌≤◌, ◌⊎◌, ◌==◌, ◌&&◌, Bool, true}
+use Rattle.std.specs.Prelude.{List, [], ◌∷◌, count_by, AllPairs, Contains}
 use Rattle.std.specs.List.{list_any}
 use Rattle.channel_route.specs.declared.routing.Above.{Above}
 use Rattle.channel_route.specs.declared.constraint.Constraint.{Constraint}
@@ -31,7 +32,8 @@ waits_at left key constraints = list_any (leads left key) constraints
 pub record IsDown (left : List Wire) (constraints : List Constraint) (upper lower : ℕ) (line : ℕ) : Type 0 where
   pub over : IsOver constraints upper lower line
   pub left' : has_key left lower ≡ true
-  pub first : (c : Constraint) → Contains constraints c → leads left upper c ≡ true → (line < c.line) ⊎ ((line ≡ c.line) × (lower ≤ c.lower))
+  pub first : (c : Constraint) → Contains constraints c → leads left upper c ≡ true →
+      (line < c.line) ⊎ ((line ≡ c.line) × (lower ≤ c.lower))
 
 -- in order of line; those of one upper wire at one line in order of the lower one's key
 abbrev pub IsNoLater : Constraint → Constraint → Type 0
@@ -46,4 +48,6 @@ passes e path key = list_any (λ a. e.key a == key) path
 -- a closed walk over different keys, to which a walk comes from a key
 abbrev pub IsTurn : {X : Type 0} → Entries X → (ℕ → ℕ → ℕ → Type 0) → ℕ → List X → Type 0
 IsTurn e Over start [] = ⊥
-IsTurn e Over start (first ∷ rest) = IsWalk e Over (first ∷ rest) (e.key first) × ((n : ℕ) → count_by (λ a. e.key a == n) (first ∷ rest) ≤ 1) × ComesTo e Over start (e.key first)
+IsTurn e Over start (first ∷ rest) =
+    IsWalk e Over (first ∷ rest) (e.key first) × ((n : ℕ) → count_by (λ a. e.key a == n) (first ∷ rest) ≤ 1)
+    × ComesTo e Over start (e.key first)

@@ -19,7 +19,8 @@ IsWalk e Over (a ∷ more) back = Over (e.key a) (next_key e more back) (e.line 
 
 -- At least two keys, pairwise different, each above the next and the last above the first, which is the
 -- least.
-pub record IsCycleFrom {X : Type 0} (e : Entries X) (Over : ℕ → ℕ → ℕ → Type 0) (first : X) (rest : List X) : Type 0 where
+pub record IsCycleFrom {X : Type 0} (e : Entries X) (Over : ℕ → ℕ → ℕ → Type 0) (first : X) (rest : List X)
+    : Type 0 where
   pub two : 0 < length rest
   pub differ : AllPairs (λ a b. e.key a ≢ e.key b) (first ∷ rest)
   pub above : IsWalk e Over (first ∷ rest) (e.key first)

@@ -1,5 +1,6 @@
 -- The wires of a placement and the constraints between them.
-use Rattle.std.specs.Prelude.{ℕ, ◌≡◌, ◌&&◌, ◌==◌, leb, not, cond, Bool, true, false, List, [], ◌∷◌, All, AllPairs, flat_map}
+use Rattle.std.specs.Prelude.{ℕ, ◌≡◌, ◌&&◌, ◌==◌, leb, not, cond, Bool, true}
+use Rattle.std.specs.Prelude.{false, List, [], ◌∷◌, All, AllPairs, flat_map}
 use Rattle.std.specs.declared.cmp.Ordering.{Ordering}
 use Rattle.std.specs.Ordering.{nat_cmp, ordering_then}
 use Rattle.cell_num.specs.declared.net.NetNo.{NetNo}
@@ -33,7 +34,9 @@ pub record AreWires (placement : Placement) (pins : Pins) (wires : List Wire) : 
 
 -- the order of wires as a comparison
 abbrev pub wire_cmp : Wire → Wire → Ordering
-wire_cmp a b = ordering_then (nat_cmp a.left b.left) (ordering_then (nat_cmp a.key b.key) (ordering_then (nat_cmp a.right b.right) (nat_cmp a.net.0 b.net.0)))
+wire_cmp a b =
+    ordering_then (nat_cmp a.left b.left) (ordering_then (nat_cmp a.key b.key)
+    (ordering_then (nat_cmp a.right b.right) (nat_cmp a.net.0 b.net.0)))
 
 -- the wire is of the net of the place, and holds its line
 abbrev pub holds_place : NodePlace → Wire → Bool
@@ -66,4 +69,6 @@ constraints_of wires nodes = flat_map (λ p. flat_map (over wires p) nodes) node
 
 -- the order of trunks as a comparison
 abbrev pub trunk_cmp : Trunk → Trunk → Ordering
-trunk_cmp a b = ordering_then (nat_cmp a.net.0 b.net.0) (ordering_then (nat_cmp a.left b.left) (ordering_then (nat_cmp a.right b.right) (nat_cmp a.track b.track)))
+trunk_cmp a b =
+    ordering_then (nat_cmp a.net.0 b.net.0) (ordering_then (nat_cmp a.left b.left)
+    (ordering_then (nat_cmp a.right b.right) (nat_cmp a.track b.track)))

@@ -48,10 +48,14 @@ pub record IsWiring (placement : Placement) (pins : Pins) (routing : Routing) : 
   pub nets : (net : NetNo) → HasTrunk placement pins net ↔ Any (λ t. t.net ≡ net) routing.trunks
   pub ends : All (AreEnds placement) routing.trunks
   pub order : AllPairs AreInOrder routing.trunks
-  pub held : (net : NetNo) (line : ℕ) → HasTrunk placement pins net → Contains (lines_of placement net) line → IsHeldAt routing.trunks net line
-  pub next : (at : ℕ) (a b : Trunk) → slice_get routing.trunks at ≡ Some a → slice_get routing.trunks (at + 1) ≡ Some b → a.net ≡ b.net → AreJoined placement a b
-  pub apart : (a b : Trunk) → Contains routing.trunks a → Contains routing.trunks b → a.net ≢ b.net → a.track ≡ b.track → AreApart a b
-  pub above : (a b : Trunk) → Contains routing.trunks a → Contains routing.trunks b → (line : ℕ) → IsAbove placement pins a.net b.net line → HoldsLine a line → HoldsLine b line → b.track < a.track
+  pub held : (net : NetNo) (line : ℕ) → HasTrunk placement pins net → Contains (lines_of placement net) line →
+      IsHeldAt routing.trunks net line
+  pub next : (at : ℕ) (a b : Trunk) → slice_get routing.trunks at ≡ Some a →
+      slice_get routing.trunks (at + 1) ≡ Some b → a.net ≡ b.net → AreJoined placement a b
+  pub apart : (a b : Trunk) → Contains routing.trunks a → Contains routing.trunks b → a.net ≢ b.net →
+      a.track ≡ b.track → AreApart a b
+  pub above : (a b : Trunk) → Contains routing.trunks a → Contains routing.trunks b → (line : ℕ) →
+      IsAbove placement pins a.net b.net line → HoldsLine a line → HoldsLine b line → b.track < a.track
   pub tracks : All (λ t. t.track < routing.tracks) routing.trunks
   pub full : (track : ℕ) → track < routing.tracks → Any (λ t. t.track ≡ track) routing.trunks
 

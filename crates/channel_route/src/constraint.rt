@@ -18,7 +18,7 @@ pub struct Constraint {
     pub line: u32,
 }
 
-// Whether the constraint puts the wire of the key above one that is left.
+/// Whether the constraint puts the wire of the key above one that is left.
 pub fn leads_on(constraint: &Constraint, left: &[Wire], key: u32) -> bool
     ensures { result ≡ leads left.now key constraint.now }
 {

@@ -66,7 +66,7 @@ fn place_in(path: &[Step], key: u32) -> usize
     unreachable!()
 }
 
-// Goes down from a wire until it comes to one again, and gives the walk from there on.
+// Goes down from a wire until it reaches one again, and gives the walk from there on.
 fn turn(
     alloc: Global,
     left: &[Wire],

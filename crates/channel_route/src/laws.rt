@@ -21,7 +21,7 @@ pub fn no_cycle()
     ensures { (placement : Placement) (pins : Pins) → HasOneInBothRows placement pins → HasNoCycle placement pins }
 {}
 
-/// One cycle is told at most, and it is a cycle. It does nothing: its contract is the law.
+/// At most one cycle is reported, and it is a cycle. It does nothing: its contract is the law.
 pub fn one_told()
     ensures cycle { (placement : Placement) (pins : Pins) (cycle : List Above)
         → IsTold placement pins cycle → IsCycle placement pins cycle }

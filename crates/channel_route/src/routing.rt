@@ -11,6 +11,7 @@ pub struct Trunk {
     pub track: u32,
 }
 
+/// A list of trunks, in a routing in order of net.
 pub type TrunkList = List<Trunk>;
 
 /// The trunks of a channel, in order of net.
@@ -27,9 +28,10 @@ pub struct Above {
     pub line: u32,
 }
 
+/// A cycle of nets: each stands above the next one, the last above the first.
 pub type CycleList = List<Above>;
 
-/// A wire, told by its net and its first line, that stands above the next one of a cycle at a line.
+/// A wire, named by its net and its first line, that stands above the next one of a cycle at a line.
 #[derive(Clone, Copy, Debug, PartialEq, Eq)]
 pub struct WireAbove {
     pub net: NetNo,
@@ -37,6 +39,7 @@ pub struct WireAbove {
     pub line: u32,
 }
 
+/// A cycle of wires: each stands above the next one, the last above the first.
 pub type WireCycleList = List<WireAbove>;
 
 /// Why a channel has no routing.
@@ -49,7 +52,6 @@ pub enum RouteStop {
 
 impl From<AllocError> for RouteStop {
     ghost use Rattle.std.specs.Prelude.{◌≡◌};
-    ghost use Rattle.channel_route.specs.declared.routing.RouteStop.{RouteStop as Stop};
     ghost use Rattle.channel_route.specs.declared.routing.RouteStop.TheVariants.{NoMemory as OutOfMemory};
 
     ghost from_gives = { λ _ e. e ≡ OutOfMemory };

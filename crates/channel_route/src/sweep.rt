@@ -1,5 +1,5 @@
 // Fills the channel track by track: on each one the wires that stand above no wire that is left are
-// put in order, each that begins behind the one put before it, or where that one of its own net ends.
+// put in order, each that begins after the one put before it, or where that one of its own net ends.
 
 ghost use Rattle.std.specs.Prelude.{◌≡◌, ◌≤◌, ◌<◌, ◌+◌, true, All, IfOk, List, length};
 ghost use Rattle.channel_route.specs.declared.wire.Wire.{Wire as AWire};
@@ -41,7 +41,7 @@ fn fits(wire: &Wire, left: &[Wire], constraints: &[Constraint], last: Option<Wir
     !is_held(wire, left, constraints) && is_behind(last, wire)
 }
 
-// Fills one track, and gives the wires that are left behind it, in order.
+// Fills one track, and gives the wires that are left after it, in order.
 fn fill_track(
     alloc: Global,
     left: &[Wire],

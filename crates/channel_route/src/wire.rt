@@ -35,13 +35,14 @@ pub const MOST_WIRES: usize = 1_000_000;
 /// More trunks than a row has places.
 pub const MOST_TRUNKS: usize = 1024;
 
+/// Whether some wire has the key.
 pub fn holds_key(wires: &[Wire], key: u32) -> bool
     ensures { result ≡ has_key wires.now key }
 {
     wires.iter().any(|wire| wire.key == key)
 }
 
-// The lines of the places of a net.
+/// The lines of the places of a net: its node places in order, then its gate places.
 pub fn lines(alloc: Global, placement: &Placement, net: NetNo) -> Result<Vec<u32>, AllocError>
     ensures { IfOk result (λ lines. lines.items ≡ lines_of placement.now net) }
 {

@@ -25,7 +25,8 @@ rest_of w from = cond (is_left w from) (stretch w from w.right ∷ []) []
 -- a wire from a line on, cut at its node places
 abbrev pub cuts_from : Wire → ℕ → List NodePlace → List Stretch
 cuts_from w from [] = rest_of w from
-cuts_from w from (node ∷ nodes) = cond (cuts_at w from node) (stretch w from node.line ∷ cuts_from w node.line nodes) (cuts_from w from nodes)
+cuts_from w from (node ∷ nodes) =
+    cond (cuts_at w from node) (stretch w from node.line ∷ cuts_from w node.line nodes) (cuts_from w from nodes)
 
 abbrev pub cuts_of : List NodePlace → Wire → List Stretch
 cuts_of nodes w = cuts_from w w.left nodes
@@ -35,7 +36,8 @@ all_cuts nodes wires = flat_map (cuts_of nodes) wires
 
 -- the order of first line, then last line, then net, as a comparison
 abbrev pub stretch_cmp : Stretch → Stretch → Ordering
-stretch_cmp a b = ordering_then (nat_cmp a.left b.left) (ordering_then (nat_cmp a.right b.right) (nat_cmp a.net.0 b.net.0))
+stretch_cmp a b =
+    ordering_then (nat_cmp a.left b.left) (ordering_then (nat_cmp a.right b.right) (nat_cmp a.net.0 b.net.0))
 
 abbrev pub wire_at : ℕ → Stretch → Wire
 wire_at key s = record { left = s.left; key = key; right = s.right; net = s.net }

@@ -26,4 +26,5 @@ pub record ShowsPiece (names : List (List ℕ)) (n_edge : ℕ) (xs : List ℕ) (
 
 -- the name of each net with pieces stands on the first of them
 abbrev pub ShowsFirsts : List (List ℕ) → Placement → List ℕ → Shapes → List Trunk → Type 0
-ShowsFirsts names placement xs shapes pieces = (t : Trunk) → IsFirstPiece pieces t → ShowsPiece names (channel_edge placement.row) xs shapes t
+ShowsFirsts names placement xs shapes pieces =
+    (t : Trunk) → IsFirstPiece pieces t → ShowsPiece names (channel_edge placement.row) xs shapes t

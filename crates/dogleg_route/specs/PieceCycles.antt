@@ -26,7 +26,8 @@ next_entry (a ∷ more) back = a
 -- each piece stands above the next one, and the last above `back`
 abbrev pub IsWalkDown : Placement → Pins → List WireAbove → WireAbove → Type 0
 IsWalkDown placement pins [] back = ⊤
-IsWalkDown placement pins (a ∷ more) back = GoesDown placement pins a (next_entry more back) × IsWalkDown placement pins more back
+IsWalkDown placement pins (a ∷ more) back =
+    GoesDown placement pins a (next_entry more back) × IsWalkDown placement pins more back
 
 -- at least two pieces, pairwise different, each above the next and the last above the first
 pub record IsRound (placement : Placement) (pins : Pins) (first : WireAbove) (rest : List WireAbove) : Type 0 where
@@ -44,7 +45,8 @@ pub record IsEntryEarlier (placement : Placement) (pins : Pins) (a b : WireAbove
   pub piece : IsPiece placement pins a.net a.left right
   pub other_right : ℕ
   pub other : IsPiece placement pins b.net b.left other_right
-  pub earlier : (a.left < b.left) ⊎ ((a.left ≡ b.left) × ((right < other_right) ⊎ ((right ≡ other_right) × (a.net.0 < b.net.0))))
+  pub earlier :
+      (a.left < b.left) ⊎ ((a.left ≡ b.left) × ((right < other_right) ⊎ ((right ≡ other_right) × (a.net.0 < b.net.0))))
 
 -- the first entry comes before the others
 abbrev pub BeginsFirst : Placement → Pins → List WireAbove → Type 0

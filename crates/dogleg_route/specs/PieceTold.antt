@@ -18,7 +18,9 @@ entry_at net left line = record { net = net; left = left; line = line }
 pub record IsStuckPiece (placement : Placement) (pins : Pins) (net : NetNo) (left : ℕ) : Type 0 where
   pub set : NetNo → ℕ → Bool
   pub there : set net left ≡ true
-  pub each : (n : NetNo) (l : ℕ) → set n l ≡ true → (line : ℕ) × (lower : WireAbove) × GoesDown placement pins (entry_at n l line) lower × (set lower.net lower.left ≡ true)
+  pub each :
+      (n : NetNo) (l : ℕ) → set n l ≡ true → (line : ℕ) × (lower : WireAbove)
+      × GoesDown placement pins (entry_at n l line) lower × (set lower.net lower.left ≡ true)
 
 -- two entries tell one piece
 pub record AreOnePiece (a b : WireAbove) : Type 0 where
@@ -32,18 +34,22 @@ IsNoLaterEntry placement pins a b = AreOnePiece a b ⊎ IsEntryEarlier placement
 -- the first of the pieces that can not be placed, by first line, last line and net
 pub record IsFirstStuckPiece (placement : Placement) (pins : Pins) (e : WireAbove) : Type 0 where
   pub stuck : IsStuckPiece placement pins e.net e.left
-  pub none_before : (other : WireAbove) → IsStuckPiece placement pins other.net other.left → IsNoLaterEntry placement pins e other
+  pub none_before : (other : WireAbove) → IsStuckPiece placement pins other.net other.left →
+      IsNoLaterEntry placement pins e other
 
 -- one step down
 pub record IsPieceStep (placement : Placement) (pins : Pins) (a b : WireAbove) : Type 0 where
   pub over : GoesDown placement pins a b
   pub stuck : IsStuckPiece placement pins b.net b.left
-  pub first : (line : ℕ) (other : WireAbove) → GoesDown placement pins (entry_at a.net a.left line) other → IsStuckPiece placement pins other.net other.left → (a.line < line) ⊎ ((a.line ≡ line) × IsNoLaterEntry placement pins b other)
+  pub first : (line : ℕ) (other : WireAbove) → GoesDown placement pins (entry_at a.net a.left line) other →
+      IsStuckPiece placement pins other.net other.left →
+      (a.line < line) ⊎ ((a.line ≡ line) × IsNoLaterEntry placement pins b other)
 
 -- each entry is a step above the next one, and the last above `back`
 abbrev pub IsStepwise : Placement → Pins → List WireAbove → WireAbove → Type 0
 IsStepwise placement pins [] back = ⊤
-IsStepwise placement pins (a ∷ more) back = IsPieceStep placement pins a (next_entry more back) × IsStepwise placement pins more back
+IsStepwise placement pins (a ∷ more) back =
+    IsPieceStep placement pins a (next_entry more back) × IsStepwise placement pins more back
 
 -- from the first piece that can not be placed steps lead to the cycle, and round it
 pub record IsReached (placement : Placement) (pins : Pins) (first : WireAbove) (rest : List WireAbove) : Type 0 where

@@ -19,12 +19,14 @@ pub record IsBetween (net : NetNo) (left right : ℕ) (w : Wire) : Type 0 where
 
 -- the order of first line, then last line, then net; keys rise with it
 pub record ComesBefore (a b : Wire) : Type 0 where
-  pub lines : (a.left < b.left) ⊎ ((a.left ≡ b.left) × ((a.right < b.right) ⊎ ((a.right ≡ b.right) × (a.net.0 < b.net.0))))
+  pub lines :
+      (a.left < b.left) ⊎ ((a.left ≡ b.left) × ((a.right < b.right) ⊎ ((a.right ≡ b.right) × (a.net.0 < b.net.0))))
   pub keys : a.key < b.key
 
 -- A wire for each piece, in order.
 pub record ArePieceWires (placement : Placement) (pins : Pins) (wires : List Wire) : Type 0 where
   pub each : All (IsPieceWire placement pins) wires
-  pub all : (net : NetNo) (left right : ℕ) → IsPiece placement pins net left right → Any (IsBetween net left right) wires
+  pub all : (net : NetNo) (left right : ℕ) → IsPiece placement pins net left right →
+      Any (IsBetween net left right) wires
   pub nets : (net : NetNo) → HasTrunk placement pins net → Any (λ w. w.net ≡ net) wires
   pub order : AllPairs ComesBefore wires

@@ -73,6 +73,7 @@ pub fn cut_all(
     Ok(stretches)
 }
 
+/// Sorts stretches by the order of `stretch_cmp`.
 pub fn sort(stretches: &mut Vec<Stretch>)
     ensures moved { IsPermutation stretches.old.items stretches.new.items }
     ensures sorted { IsSorted stretch_cmp stretches.new.items }

@@ -37,7 +37,7 @@ pub fn no_piece_cycle()
     ensures { (p : APlacement) (pins : SomePins) → HasNoCycle p pins → HasNoPieceCycle p pins }
 {}
 
-/// One cycle of pieces is told at most. It does nothing: its contract is the law.
+/// At most one cycle of pieces is reported. It does nothing: its contract is the law.
 pub fn one_piece_told()
     ensures { (p : APlacement) (pins : SomePins) (a b : List WireAbove)
         → IsPieceTold p pins a → BeginsFirst p pins a

@@ -5,11 +5,13 @@ use std::alloc::AllocError;
 /// has a trunk's fields.
 pub type Piece = Trunk;
 
+/// A list of pieces, in a routing in order of net and first line.
 pub type PieceList = TrunkList;
 
-/// A piece, told by its net and its first line, that stands above the next one of a cycle at a line.
+/// A piece, named by its net and its first line, that stands above the next one of a cycle at a line.
 pub type PieceAbove = WireAbove;
 
+/// A cycle of pieces: each stands above the next one, the last above the first.
 pub type PieceCycle = WireCycleList;
 
 /// The pieces of a channel, in order of net and first line.

@@ -50,8 +50,8 @@ fn piece_wires(alloc: Global, placement: &Placement, pins: &Pins) -> Result<Vec<
 
 /// Routes the channel between the rows of a placement in pieces, where each pin other than the rails has a place:
 /// the trunk of each net is cut at the node lines of the net between its first and its last one. Each piece
-/// stands on the least track that the pieces below it and the pieces of other nets before it allow. Cycle comes
-/// exactly where no routing of pieces is legal; of several cycles it tells the one below the first piece that can
+/// is on the least track that the pieces below it and the pieces of other nets before it allow. `Cycle` is
+/// reported exactly where no routing of pieces is legal; of several cycles it is the one below the first piece that can
 /// not be placed, written from its first piece on, by first line, last line and net.
 pub fn route_pieces(
     alloc: Global,

@@ -21,7 +21,7 @@ use Rattle.lef_write.specs.Drawn.{AreAllMetal, AreOfNet}
 use Rattle.lef_write.specs.Ports.{IsPort}
 use Rattle.lef_write.specs.declared.port.Port.{Port}
 
--- The text is read as a macro of the name, a grid unit being so many nanometres; the shapes have a netlist, and the
+-- The text is read as a macro of the name, a grid unit being `unit` nanometres; the shapes have a netlist, and the
 -- macro agrees with them.
 pub record IsAbstractOf (shapes : Shapes) (name : List ℕ) (unit : ℕ) (text : List ℕ) : Type 0 where
   pub cell : Macro

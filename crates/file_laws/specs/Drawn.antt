@@ -42,7 +42,7 @@ pub record IsWord (w : List ℕ) : Type 0 where
   pub some : 0 < length w
   pub all : IsInWord w
 
--- so many grid units are at most 1,000,000 microns
+-- n grid units of `unit` nanometres are at most 1,000,000 microns
 abbrev pub IsMetric : ℕ → ℕ → Type 0
 IsMetric unit n = n * unit ≤ 1000000000
 

@@ -8,7 +8,7 @@ use Rattle.gds_write.specs.Written.{padded}
 abbrev pub label_size : List ℕ → ℕ
 label_size name = 36 + length (padded name)
 
--- the records before and behind the elements, 64 bytes a rectangle, and the labels
+-- the records before and after the elements, 64 bytes a rectangle, and the labels
 abbrev pub library_bytes : List ℕ → ℕ → List (List ℕ) → ℕ
 library_bytes name rectangles labels = 106 + length (padded name) + 64 * rectangles + sum_by label_size labels
 

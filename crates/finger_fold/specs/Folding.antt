@@ -1,6 +1,7 @@
 -- The fingers of a subcircuit: each transistor is cut into as few fingers as its row's greatest width and
 -- the number that is asked for allow, whose widths differ by one unit at most.
-use Rattle.std.specs.Prelude.{ℕ, ◌+◌, ◌-◌, ◌/◌, ◌%◌, ◌^◌, nat_le, List, ◌++◌, length, min, max, filter, flat_map, replicate, Result, Ok}
+use Rattle.std.specs.Prelude.{ℕ, ◌+◌, ◌-◌, ◌/◌, ◌%◌, ◌^◌, nat_le, List, ◌++◌, length}
+use Rattle.std.specs.Prelude.{min, max, filter, flat_map, replicate, Result, Ok}
 use Rattle.std.specs.Int.{div_ceil}
 use Rattle.cell_num.specs.declared.finger.Row.{Row}
 use Rattle.cell_num.specs.declared.finger.Row.TheVariants.{P, N}
@@ -26,11 +27,18 @@ count_of tech d = max (div_ceil d.width (widest tech d.row)) d.fingers
 
 -- a finger of a transistor, with its lower-numbered end net first
 abbrev pub finger_of : Device → ℕ → Finger
-finger_of d width = record { row = d.row; gate = d.gate; lo = record { 0 = min d.drain.0 d.source.0 }; hi = record { 0 = max d.drain.0 d.source.0 }; width = width }
+finger_of d width = record {
+  row = d.row;
+  gate = d.gate;
+  lo = record { 0 = min d.drain.0 d.source.0 };
+  hi = record { 0 = max d.drain.0 d.source.0 };
+  width = width;
+}
 
 -- W units over k fingers, W = q * k + r with r below k: r fingers of q + 1 units, and then k - r of q units
 abbrev pub shared_out : Device → ℕ → List Finger
-shared_out d k = replicate (d.width % k) (finger_of d (d.width / k + 1)) ++ replicate (k - d.width % k) (finger_of d (d.width / k))
+shared_out d k =
+    replicate (d.width % k) (finger_of d (d.width / k + 1)) ++ replicate (k - d.width % k) (finger_of d (d.width / k))
 
 abbrev pub fingers_of : Technology → Device → List Finger
 fingers_of tech d = shared_out d (count_of tech d)
@@ -40,7 +48,8 @@ abbrev pub fingers_in : Row → Technology → List Device → List Finger
 fingers_in row tech devices = flat_map (fingers_of tech) (filter (λ d. same_row d.row row) devices)
 
 abbrev pub all_fingers : Technology → Subckt → Fingers
-all_fingers tech cell = record { nets = length cell.nets; p = fingers_in P tech cell.devices; n = fingers_in N tech cell.devices }
+all_fingers tech cell =
+    record { nets = length cell.nets; p = fingers_in P tech cell.devices; n = fingers_in N tech cell.devices }
 
 -- a count as a fault tells it: it stands still at the greatest number of 64 bits
 abbrev pub saturated : ℕ → ℕ

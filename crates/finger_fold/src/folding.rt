@@ -19,11 +19,11 @@ const MOST_IN_A_ROW: u128 = 64;
 /// Why a subcircuit is not folded.
 #[derive(Debug, Drop, Error)]
 pub enum FoldFault {
-    /// A row has so many fingers, more than 64; the P row is looked at first. A count that needs more
-    /// than 64 bits is told as the greatest u64.
+    /// A row has `count` fingers, more than 64; the P row is looked at first. A count that needs more
+    /// than 64 bits is reported as the greatest u64.
     #[error("TooManyFingers")]
     TooManyFingers { count: u64 },
-    /// The fingers need so many columns, more than 32.
+    /// The fingers need `count` columns, more than 32.
     #[error("TooManyColumns")]
     TooManyColumns { count: u64 },
     #[error("NoMemory")]
@@ -74,6 +74,9 @@ fn few_in_rows(cell: &Subckt, tech: &Tech) -> Result<(), FoldFault>
 /// The fingers of a subcircuit: each transistor is cut into as few fingers as the technology's widest
 /// finger of its row allows, and at least into as many as it asks for. The answer is sound for the
 /// subcircuit's nets and pins.
+///
+/// Errors, in this order: `TooManyFingers` of the P row, of the N row, `TooManyColumns`; `NoMemory` may
+/// come from the building of the fingers.
 #[tactic(auto, using(crate::proofs::Sound::asked, crate::proofs::Told::never_folded))]
 pub fn fold(alloc: Global, cell: &Subckt, tech: &Tech) -> Result<Fingers, FoldFault>
     requires { IsSubckt cell.now }
@@ -84,7 +87,8 @@ pub fn fold(alloc: Global, cell: &Subckt, tech: &Tech) -> Result<Fingers, FoldFa
     // Memory alone makes it NoMemory: the definition never answers so.
     ensures told { folded tech.now cell.now ≢ Err fault.NoMemory }
 
-    // What the layers above ask of fingers, and that these are the cell's. Where it has a transistor, there is a finger.
+    // What the layers above ask of fingers, and that these are the cell's. Where it has a transistor,
+    // there is a finger.
     ensures asked { IfOk result (λ f. AreFingers f) }
     ensures some { IfOk result (λ f. 1 ≤ length cell.now.devices → 1 ≤ length f.p + length f.n) }
     ensures few_p { IfOk result (λ f. length f.p ≤ MOST_IN_A_ROW) }

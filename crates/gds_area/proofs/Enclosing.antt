@@ -65,6 +65,8 @@ next_row_at row xs odd zs ends i d all less other is none progress so =
 pub rows_done : (row : SideEnd) (xs : List ℤ) (ends : List SideEnd) (i : ℕ) (all : Bool) → length ends ≤ i → crossed_behind row xs (drop i ends) ≡ all → false ≡ all
 rows_done row xs ends i all past so = ap (crossed_behind row xs) (sym (drop_of_length-le ends past)) ∙ so
 
+pub ruleset crossed_rules = (no_end, same_row_at, row_crossed, next_row_at, rows_done)
+
 -- ---- a path
 
 pub some_segment : (half ends : ℕ) (ps : List Point) → 2 ≤ length ps → has_some (all_segments half ends ps) ≡ true

@@ -1,6 +1,7 @@
 -- What an element draws is first a list of areas in halves of a file unit, so that half a width is a
 -- whole number of them. In the end each is a rectangle of whole grid units.
-use Rattle.std.specs.Prelude.{◌≡◌, Bool, true, false, ℤ, pos, ◌*ℤ◌, List, [], ◌∷◌, ◌++◌, length, nat_lt, if◌then◌else◌, Option, Some, None, Result, Ok, Err}
+use Rattle.std.specs.Prelude.{◌≡◌, Bool, true, false, ℤ, pos, ◌*ℤ◌}
+use Rattle.std.specs.Prelude.{List, [], ◌∷◌, ◌++◌, length, nat_lt, if◌then◌else◌, Option, Some, None, Result, Ok, Err}
 use Rattle.box_geom.specs.Rectangle.{Rectangle}
 use Rattle.box_geom.specs.declared.shape.Shape.{Shape}
 use Rattle.gds_area.specs.declared.fault.GdsFault.{GdsFault}
@@ -38,7 +39,8 @@ shape_on draw_context (Some rect) = Ok (record { layer = draw_context.layer; rec
 
 -- the corners of the area as it stands are whole numbers of grid units within the limits of a drawing
 abbrev pub shape_of : DrawContext → Area → Result Shape GdsFault
-shape_of draw_context area = shape_on draw_context (rectangle_of draw_context.grid (moved_area draw_context.stands area))
+shape_of draw_context area =
+    shape_on draw_context (rectangle_of draw_context.grid (moved_area draw_context.stands area))
 
 abbrev pub shapes_of : DrawContext → List Area → Result (List Shape) GdsFault
 shapes_of draw_context [] = Ok []
@@ -51,7 +53,7 @@ has_some (x ∷ xs) = true
 
 -- ---- one area after the other, for the functions that draw
 
--- One rectangle above the limit tells that there are too many; no more are kept.
+-- One rectangle above the limit shows that there are too many; no more are kept.
 unfoldable pub with_kept : List Shape → Shape → List Shape
 with_kept rects s = if nat_lt 1000000 (length rects) then rects else rects ++ s ∷ []
 
@@ -59,16 +61,16 @@ abbrev pub put : DrawContext → List Shape → List Area → Result (List Shape
 put draw_context rects [] = Ok rects
 put draw_context rects (a ∷ xs) = shape_of draw_context a >>= λ s. put draw_context (with_kept rects s) xs
 
--- the areas that an element is told to have, or its fault
+-- the areas of an element one after the other, or its fault
 abbrev pub put_all : DrawContext → List Shape → Result (List Area) GdsFault → Result (List Shape) GdsFault
 put_all draw_context rects told = told >>= put draw_context rects
 
--- Memory may run out anywhere; else the fault is the one told.
+-- Memory may run out anywhere; else the fault is that of what is put.
 abbrev pub Faults : GdsFault → Result (List Shape) GdsFault → Type 0
 Faults fault.NoMemory told = Unit {0}
 Faults f told = told ≡ Err f
 
--- the rectangles are the ones told, or the fault
+-- the rectangles are what is put, or the fault is
 abbrev pub Puts : {A : Type 0} → Result A GdsFault → List Shape → Result (List Shape) GdsFault → Type 0
 Puts (Ok _) new told = told ≡ Ok new
 Puts (Err f) new told = Faults f told

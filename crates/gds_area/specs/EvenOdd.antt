@@ -1,4 +1,4 @@
--- The cells of a boundary by the even-odd rule, as rectangles in file units. A cell goes by its lower
+-- The cells of a boundary by the even-odd rule, as rectangles in file units. A cell is named by its lower
 -- left corner; a side that is not upright crosses no row of cells.
 use Rattle.std.specs.Prelude.{◌≡◌, ◌%◌, ◌&&◌, ◌||◌, Bool, ℤ, int_le, int_lt, List, [], ◌∷◌, ◌++◌, map, if◌then◌else◌}
 use Rattle.std.specs.List.{filter, count_by}

@@ -81,11 +81,11 @@ composed outer inner = record {
 
 -- ---- limits
 
--- a coordinate of so many binary digits at most
+-- a coordinate of at most N binary digits
 abbrev pub IsWithin : ℕ → ℤ → Type 0
 IsWithin digits z = (neg_ℤ (pos (2 ^ digits)) ≤ℤ z) × (z ≤ℤ pos (2 ^ digits))
 
--- So many references stand in each other at most.
+-- N references stand in each other at most.
 pub record IsNear (levels : ℕ) (m : Move) : Type 0 where
   pub left : neg_ℤ (pos (levels * 2 ^ 52)) ≤ℤ m.x
   pub right : m.x ≤ℤ pos (levels * 2 ^ 52)

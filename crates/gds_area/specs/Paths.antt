@@ -1,5 +1,6 @@
 -- The areas of a path, in halves of a file unit, so that half its width is a whole number of them.
-use Rattle.std.specs.Prelude.{ℕ, ◌==◌, ◌&&◌, Bool, ℤ, pos, ◌+ℤ◌, ◌-ℤ◌, ◌*ℤ◌, int_lt, unsigned_abs, List, [], ◌∷◌, length, Option, Some, None, if◌then◌else◌}
+use Rattle.std.specs.Prelude.{ℕ, ◌==◌, ◌&&◌, Bool, ℤ, pos, ◌+ℤ◌, ◌-ℤ◌, ◌*ℤ◌, int_lt, unsigned_abs}
+use Rattle.std.specs.Prelude.{List, [], ◌∷◌, length, Option, Some, None, if◌then◌else◌}
 use Rattle.std.specs.List.{dedup}
 use Rattle.std.specs.Ordering.{int_eq}
 use Rattle.gds_area.specs.declared.point.Point.{Point}
@@ -45,7 +46,8 @@ past_second half ends (p ∷ ps) = half
 abbrev pub segments : ℕ → ℕ → ℕ → List Point → List Area
 segments half ends past [] = []
 segments half ends past (a ∷ []) = []
-segments half ends past (a ∷ b ∷ more) = segment half past (past_second half ends more) a b ∷ segments half ends half (b ∷ more)
+segments half ends past (a ∷ b ∷ more) =
+    segment half past (past_second half ends more) a b ∷ segments half ends half (b ∷ more)
 
 abbrev pub all_segments : ℕ → ℕ → List Point → List Area
 all_segments half ends points = segments half ends ends points

@@ -33,7 +33,10 @@ pub record PairsOff (old : List ℤ) (waiting : Option ℤ) (x : ℤ) (new : Lis
 -- Ends in order of their heights, with the height reached and the x values of all ends up to it.
 abbrev pub swept : SideEnd → List ℤ → List SideEnd → List Rectangle
 swept row xs [] = []
-swept row xs (e ∷ es) = if int_eq e.y row.y then swept row (xs ++ e.x ∷ []) es else runs row.y e.y (odd_ones xs) ++ swept e (odd_ones xs ++ e.x ∷ []) es
+swept row xs (e ∷ es) =
+    if int_eq e.y row.y
+    then swept row (xs ++ e.x ∷ []) es
+    else runs row.y e.y (odd_ones xs) ++ swept e (odd_ones xs ++ e.x ∷ []) es
 
 abbrev pub swept_all : List SideEnd → List Rectangle
 swept_all [] = []

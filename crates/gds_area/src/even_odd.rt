@@ -203,7 +203,7 @@ fn has_run(xs: &[i32]) -> bool
 
 // Whether any row between ends that are sorted has a run. A row without one leaves at most one crossing to the
 // rows above, so no end is sorted again and again.
-#[tactic(auto, using(crate::proofs::Enclosing::no_end, crate::proofs::Enclosing::same_row_at, crate::proofs::Enclosing::row_crossed, crate::proofs::Enclosing::next_row_at, crate::proofs::Enclosing::rows_done))]
+#[tactic(auto, using(crate::proofs::Enclosing::crossed_rules))]
 fn crossed(alloc: Global, ends: &[SideEnd]) -> Result<bool, AllocError>
     ensures { IfOk result (λ some. some ≡ has_some (swept_all ends.now)) }
 {

@@ -1,7 +1,8 @@
 // The areas of a path.
 ghost use Rattle.std.specs.Prelude.{◌≡◌, ◌≤◌, ◌==◌};
 ghost use Rattle.gds_area.specs.Areas.{has_some, put, Puts};
-ghost use Rattle.gds_area.specs.Paths.{thinned, width_of, stretch, long, segment, all_segments, past_second, past_ends, path_areas};
+ghost use Rattle.gds_area.specs.Paths.{thinned, width_of, stretch, long, segment};
+ghost use Rattle.gds_area.specs.Paths.{all_segments, past_second, past_ends, path_areas};
 
 use crate::GdsFault;
 use crate::area::{Area, DrawContext, Span, add_area};
@@ -97,7 +98,8 @@ fn add_segments(
 ) -> Result<(), GdsFault>
     requires grid { 1 ≤ draw_context.now.grid.lambda_nm }
     requires unit { draw_context.now.grid.picometres ≤ MOST_PICOMETRES }
-    ensures { Puts result rects.new (put draw_context.now rects.old (all_segments reach.now.half reach.now.ends points.now)) }
+    ensures { Puts result rects.new
+        (put draw_context.now rects.old (all_segments reach.now.half reach.now.ends points.now)) }
 {
     let mut rest = points;
     let mut past = reach.ends;
@@ -130,7 +132,8 @@ pub fn add_path_areas(
 ) -> Result<(), GdsFault>
     requires grid { 1 ≤ draw_context.now.grid.lambda_nm }
     requires unit { draw_context.now.grid.picometres ≤ MOST_PICOMETRES }
-    ensures { Puts result rects.new (put draw_context.now rects.old (path_areas reach.now.half reach.now.ends points.items)) }
+    ensures { Puts result rects.new
+        (put draw_context.now rects.old (path_areas reach.now.half reach.now.ends points.items)) }
 {
     if reach.half == 0 {
         return Ok(());

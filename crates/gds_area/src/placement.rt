@@ -1,6 +1,7 @@
 // How a structure stands where it is referred to.
 ghost use Rattle.std.specs.Prelude.{◌≡◌, ◌≤◌, ◌^◌, ℤ, pos, neg_ℤ, ◌+ℤ◌, ◌*ℤ◌, ◌≤ℤ◌};
-ghost use Rattle.gds_area.specs.Moves.{faced, moved, quarter_more, both_turns, seen_turn, differ, composed, IsWithin, IsNear};
+ghost use Rattle.gds_area.specs.Moves.{faced, moved, quarter_more, both_turns};
+ghost use Rattle.gds_area.specs.Moves.{seen_turn, differ, composed, IsWithin, IsNear};
 
 /// A turn to the left.
 #[derive(Clone, Copy, Debug, PartialEq, Eq)]
@@ -11,7 +12,7 @@ pub enum Turn {
     ThreeQuarters,
 }
 
-/// Mirrored about the x axis or not, then turned, then moved by so many file units.
+/// Mirrored about the x axis or not, then turned, then moved, in file units.
 #[derive(Clone, Copy, Debug, PartialEq, Eq)]
 pub struct Move {
     pub mirrored: bool,

@@ -10,7 +10,7 @@ use box_geom::Shapes;
 use cell_num::List;
 use std::alloc::Global;
 
-/// So many references may stand in each other.
+/// At most this number of references may stand in each other.
 pub const MOST_LEVELS: u8 = 16;
 
 /// Shapes, and how many references were taken.

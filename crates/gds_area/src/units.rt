@@ -1,6 +1,7 @@
 ghost use Rattle.std.specs.Prelude.{◌≡◌, ◌≤◌, ◌<◌, ◌*◌, ℤ, pos, ◌≤ℤ◌, neg_ℤ, IfSome};
 ghost use Rattle.gds_area.specs.Moves.{IsWithin};
-ghost use Rattle.gds_area.specs.Units.{limited_to_grid, scaled_by, step_of_grid, two_steps, whole_units_of, floor_units_of};
+ghost use Rattle.gds_area.specs.Units.{limited_to_grid, scaled_by, step_of_grid};
+ghost use Rattle.gds_area.specs.Units.{two_steps, whole_units_of, floor_units_of};
 
 /// The database unit of a file in picometres, and lambda in nanometres. A grid unit is half a lambda.
 #[derive(Clone, Copy, Debug, PartialEq, Eq)]

@@ -118,6 +118,10 @@ inner_context grid (suc levels) origin some few most not_none near =
     let e : 17 - suc levels ≡ 16 - (suc levels - 1) = omega (arith, most) in
     record { lambda = some; unit = few; levels = omega (arith, most); near = subst (λ (n : ℕ). IsNear n origin.stands) e near }
 
+pub ruleset copy_rules = (deep_copy, wide_copy, inner_context)
+
+pub ruleset reference_rules = (no_target, no_array, with_copies, near_origin)
+
 -- ---- the kinds of elements
 
 pub same_taken : (old : Progress) → old ≡ both old no_progress
@@ -134,6 +138,8 @@ text_drawn bytes context r result old new is adds = subst (λ (o : Option Origin
 
 pub text_passed : (bytes : List ℕ) (context : Context) (r : GdsRec) (origin : Origin) (old : Progress) → context.origin ≡ Some origin → Adds (Ok tt) old old (element_in bytes context (amount old) (element_of bytes r record_type.Text) record_type.Text)
 text_passed bytes context r origin old is = subst (λ (o : Option Origin). Adds (Ok tt) old old (text_by context.grid o (element_of bytes r record_type.Text))) (sym is) (same_taken old)
+
+pub ruleset kind_rules = (same_taken, boundary_drawn, path_drawn, text_drawn, text_passed)
 
 -- ---- the copies of a row, and the rows
 
@@ -185,3 +191,7 @@ rows_stop bytes context origin copies row old done new last f less adds e = numb
 pub rows_done : (bytes : List ℕ) (context : Context) (origin : Origin) (copies : Copies) (row : ℕ) (old done : Progress) → copies.array.lattice.rows ≤ row → rows_behind bytes context origin copies row done ≡ with_front old (copies_in bytes context origin copies (amount old)) → Adds (Ok tt) old done (copies_in bytes context origin copies (amount old))
 unfolding rows_behind
 rows_done bytes context origin copies row old done past e = numbers_done (row_in bytes context origin copies) row copies.array.lattice.rows old done (copies_in bytes context origin copies (amount old)) past e
+
+pub ruleset column_rules = (row_starts, row_more, row_stops, row_done)
+
+pub ruleset row_rules = (rows_start, rows_more, rows_stop, rows_done)

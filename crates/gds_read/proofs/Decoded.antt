@@ -132,3 +132,5 @@ unit_limit units = elim (cases_Bool (length units == 16)) [
   ])
   | inr e ↦ rw e (omega arith)
 ]
+
+pub ruleset refusal_rules = (refused_first, no_cell, twice_refused)

@@ -25,3 +25,5 @@ this_one bytes end kind at r e other k = ap (λ (t : List Item). find (is_type k
 
 pub later : (bytes : List ℕ) (end kind : RecordType) (at : ℕ) (r : GdsRec) → record_at bytes at ≡ Ok r → (r.code ≡ number_of end → ⊥) → (r.code ≡ number_of kind → ⊥) → found_from bytes end kind at ≡ found_from bytes end kind r.next
 later bytes end kind at r e other differs = ap (λ (t : List Item). find (is_type kind) (until end t)) (items_more bytes at r e) ∙ (rw (ne_eqb r.code (number_of end) other, ne_eqb r.code (number_of kind) differs) refl)
+
+pub ruleset field_rules = (none_left, none_before, this_one, later)

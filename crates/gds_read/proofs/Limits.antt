@@ -142,6 +142,8 @@ adds_fault at draw_context old new last areas f puts = elim (fault_of f last (ar
   | inr same ↦ adds_fault_of f old new (drawn_on at (amount old) (Some draw_context) areas) (inr (faulty at (amount old) draw_context old.shapes.rects areas f same))
 ]
 
+pub ruleset limit_rules = (adds_drawn, is_wide, adds_fault)
+
 -- ---- the faults of a boundary and of a path
 
 draw_context_at : (grid : Grid) (stands : Move) (inside : List Item) (draw_context : DrawContext) → draw_context_for grid stands inside ≡ Some draw_context → draw_context.at ≡ xy_place inside

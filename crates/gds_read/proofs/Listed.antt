@@ -18,8 +18,8 @@ use Rattle.gds_area.specs.Progress.{no_progress, one_reference, both, amount, wi
 use Rattle.gds_read.specs.Elements.{Element, elements_of}
 use Rattle.gds_read.specs.Index.{draws, drawing_places}
 use Rattle.gds_read.specs.Flat.{file_of, text_by, drawn_record, drawn_in, drawn_told, drawn_at, listed_in, drawn, Gives, flat_in}
-use Rattle.gds_read.proofs.Drawings.{with_front, front_nothing, adds_all, ordered_none, ordered_more, ordered_stops, fault_kept, front_fault, drawn_from, rest_after, nothing_before, here, own, gives_taken}
-use Rattle.gds_read.proofs.Copied.{context_inside, counted_room, copied}
+use Rattle.gds_read.proofs.Drawings.{with_front, front_nothing, adds_all, ordered_none, ordered_more, ordered_stops, fault_kept, front_fault, drawn_from, rest_after, nothing_before, here, own, gives_taken, gives_fault}
+use Rattle.gds_read.proofs.Copied.{context_inside, counted_room, copied, own_context}
 use Rattle.gds_read.proofs.VisitedCopies.{visit}
 
 -- ---- the list, an element at a time
@@ -58,6 +58,8 @@ one_place_more bytes labels places new all at r e other drawn_so is so =
 
 pub passed_over : (bytes : List ℕ) (labels : Bool) (places all : List ℕ) (at : ℕ) (r : GdsRec) → record_at bytes at ≡ Ok r → (r.code ≡ number_of record_type.EndStr → ⊥) → draws labels (type_numbered r.code) (items_from bytes r.next) ≡ false → places ++ drawing_places labels (items_from bytes at) ≡ all → places ++ drawing_places labels (items_from bytes r.next) ≡ all
 passed_over bytes labels places all at r e other not_so so = sym (ap (λ (t : List ℕ). places ++ t) (places_past bytes labels at r e other not_so)) ∙ so
+
+pub ruleset place_rules = (ends_none, ends_there, one_place_more, passed_over)
 
 -- ---- where no labels are asked for, texts draw none
 
@@ -144,6 +146,8 @@ listed_stops bytes context place places rest old done new last r f read is e add
 pub listed_done : (bytes : List ℕ) (context : Context) (places : List ℕ) (old done : Progress) (read : Result Progress GdsFault) → places ≡ [] → listed_behind bytes context done places ≡ with_front old read → Adds (Ok tt) old done read
 listed_done bytes context places old done read is so = adds_all old done read (sym so ∙ (ap (listed_behind bytes context done) is ∙ ordered_none (drawn_at bytes context) done))
 
+pub ruleset listed_rules = (listed_more, listed_past, listed_stops, listed_done)
+
 -- ---- a copy, and the structure itself
 
 pub copied_listed : (bytes : List ℕ) (grid : Grid) (levels : ℕ) (origin : Origin) (place : ℕ) (places : List ℕ) (old mid new : Progress) (result : Result (Unit {0}) GdsFault) → (levels ≡ 0 → ⊥) → Adds (Ok tt) old mid (within_limit origin.outer (amount old) one_reference) → places ≡ drawing_places false (items_from bytes place) → Adds result mid new (listed_in bytes (context_inside grid levels origin) (amount mid) places) → Adds result old new (flat_in bytes grid levels origin (amount old) place)
@@ -162,3 +166,5 @@ drawn_listed bytes grid place places new result is adds =
 
 pub gives_listed : (bytes : List ℕ) (grid : Grid) (place : ℕ) (places : List ℕ) (new : Progress) → places ≡ drawing_places true (items_from bytes place) → Adds (Ok tt) no_progress new (listed_in bytes (own grid) 0 places) → Gives (Ok new.shapes) (drawn (file_of grid bytes) 0 (elements_of (items_from bytes place)))
 gives_listed bytes grid place places new is adds = gives_taken bytes grid place new (drawn_listed bytes grid place places new (Ok tt) is adds)
+
+pub ruleset read_rules = (gives_listed, gives_fault, own_context)

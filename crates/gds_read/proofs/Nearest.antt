@@ -62,3 +62,7 @@ power_small k lt = let small : k ≤ 4 = omega arith in pow-le-pow_right (omega 
 
 pub power_fits : (k : ℕ) → k < 25 → 16 ^ k ≤ 16 ^ 24
 power_fits k lt = let small : k ≤ 24 = omega arith in pow-le-pow_right (omega arith) small
+
+pub ruleset nearest_rules = (small, below, above, large)
+
+pub ruleset power_rules = (power_fits, power_pos, power_small)

@@ -34,3 +34,5 @@ others Ended a b not = absurd (not refl)
 pub pass_goes : (bytes : List ℕ) (place : Place) (at : ℕ) (r : GdsRec) (next : Place) → record_at bytes at ≡ Ok r → step_of place (item_of bytes r) ≡ Ok next → (next ≡ Ended → ⊥) → pass_from bytes place at ≡ pass_from bytes next r.next
 unfolding pass
 pass_goes bytes place at r next e s not = rw (from_step bytes at, e, s) (others next (zeros_behind bytes r.next) (pass_from bytes next r.next) not)
+
+pub ruleset pass_rules = (pass_stops, pass_fails, pass_ends, pass_goes)

@@ -57,3 +57,5 @@ twice_here bytes kind from at r seen told e other k so = sym (ap (λ (b : Bool).
 
 pub seen_first : (bytes : List ℕ) (kind : RecordType) (from at : ℕ) (r : GdsRec) (seen : Bool) → seen ≡ false → record_at bytes at ≡ Ok r → (r.code ≡ number_of record_type.EndEl → ⊥) → r.code ≡ number_of kind → again_from bytes seen kind at ≡ again_from bytes false kind from → again_from bytes true kind r.next ≡ again_from bytes false kind from
 seen_first bytes kind from at r seen told e other k so = sym (ap (λ (b : Bool). b || again_from bytes true kind r.next) told) ∙ (sym (one_more bytes seen kind at r e other k) ∙ so)
+
+pub ruleset repeat_rules = (none_more, none_before, one_more, other_one, twice_told)

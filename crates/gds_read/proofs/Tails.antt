@@ -38,3 +38,5 @@ finds bytes name at r e same s = sym (here bytes name at r e same) ∙ s
 
 pub again : (bytes name : List ℕ) (at : ℕ) (found : Lookup) (r : GdsRec) → record_at bytes at ≡ Ok r → is_named name (item_of bytes r) ≡ true → (found ≡ lookup.NoCell → ⊥) → SoFar bytes found (behind_name name (items_from bytes at)) (found_in bytes name) → Finds bytes lookup.Twice (found_in bytes name)
 again bytes name at found r e same other s = two bytes found (items_from bytes r.next) (behind_name name (items_from bytes r.next)) (found_in bytes name) other (subst (λ (t : List (List Item)). SoFar bytes found t (found_in bytes name)) (here bytes name at r e same) s)
+
+pub ruleset tail_rules = (ends, passes, finds, again)

@@ -60,8 +60,8 @@ pub record IsCell (bytes name : List ℕ) (lambda : ℕ) (shapes : Shapes) : Typ
   pub refs : ℕ
   pub draws : drawn (file_in bytes lambda) 0 (elements_of records) ≡ Ok (record { shapes = shapes; refs = refs })
 
--- The first element that has a fault: those before it are drawn without one, and so many rectangles
--- and references stand before it.
+-- The first element that has a fault: those before it are drawn without one, and the rectangles and
+-- references that they give count for the limit.
 pub record IsFirstFaulty (file : File) (elements : List Element) (f : GdsFault) : Type 0 where
   pub before : List Element
   pub progress : Progress
@@ -98,7 +98,8 @@ pub record HasFaultyElement (bytes name : List ℕ) (lambda : ℕ) (f : GdsFault
 
 -- why no cell is read
 abbrev pub IsCellFault : List ℕ → List ℕ → ℕ → GdsFault → Type 0
-IsCellFault bytes name lambda f = IsFirstFault bytes f ⊎ (HasNoCell bytes name f ⊎ (HasTwice bytes name f ⊎ HasFaultyElement bytes name lambda f))
+IsCellFault bytes name lambda f =
+    IsFirstFault bytes f ⊎ (HasNoCell bytes name f ⊎ (HasTwice bytes name f ⊎ HasFaultyElement bytes name lambda f))
 
 abbrev pub IsTwiceOf : List ℕ → GdsFault → Type 0
 IsTwiceOf name fault.NoMemory = Unit {0}

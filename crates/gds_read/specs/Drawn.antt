@@ -47,7 +47,7 @@ pub record HasHeight (points : List Point) (y : ℤ) : Type 0 where
   pub is : point.y ≡ y
 
 -- From one height of the points to the next one, and in its lowest row a run of the cells inside: all
--- from x1 to before x2 are inside, the one before and the one behind are not.
+-- from x1 to before x2 are inside, the one before and the one after are not.
 pub record IsRunOf (points : List Point) (r : Rectangle) : Type 0 where
   pub low : HasHeight points r.y1
   pub high : HasHeight points r.y2

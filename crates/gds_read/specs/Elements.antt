@@ -1,5 +1,6 @@
 -- What the elements of a structure draw.
-use Rattle.std.specs.Prelude.{ℕ, ◌+◌, ◌*◌, ◌==◌, not, is_some, ℤ, List, [], ◌∷◌, length, map, find, option_map, Option, Some, None, Result, Ok, Err, if◌then◌else◌}
+use Rattle.std.specs.Prelude.{ℕ, ◌+◌, ◌*◌, ◌==◌, not, is_some, ℤ, List, [], ◌∷◌, length, map, find, option_map}
+use Rattle.std.specs.Prelude.{Option, Some, None, Result, Ok, Err, if◌then◌else◌}
 use Rattle.box_geom.specs.declared.layer.Layer.{Layer}
 use Rattle.box_geom.specs.declared.shape.Shapes.{Shapes}
 use Rattle.gds_record.specs.declared.types.RecordType.{RecordType}
@@ -49,12 +50,16 @@ element_of bytes rec kind = record { kind = kind; at = rec.at; inside = inside_o
 -- the element that a record of the table begins, if it begins one
 abbrev pub with_element : Item → List Item → Option RecordType → List Element → List Element
 with_element r rs None rest = rest
-with_element r rs (Some kind) rest = if is_some (element_begun kind) then record { kind = kind; at = r.at; inside = until record_type.EndEl rs } ∷ rest else rest
+with_element r rs (Some kind) rest =
+    if is_some (element_begun kind)
+    then record { kind = kind; at = r.at; inside = until record_type.EndEl rs } ∷ rest
+    else rest
 
--- the elements of the structure behind whose name the records stand
+-- the elements of the structure whose name the records follow
 abbrev pub elements_of : List Item → List Element
 elements_of [] = []
-elements_of (r ∷ rs) = if is_type record_type.EndStr r then [] else with_element r rs (type_numbered r.code) (elements_of rs)
+elements_of (r ∷ rs) =
+    if is_type record_type.EndStr r then [] else with_element r rs (type_numbered r.code) (elements_of rs)
 
 -- the data of the first record of a type, and its place
 abbrev pub data_of : Option Item → List ℕ
@@ -88,7 +93,8 @@ xy_of inside = content_of record_type.Xy inside
 
 -- A boundary is taken round to its first point.
 unfoldable pub boundary_areas : ℕ → List Point → Result (List Area) GdsFault
-boundary_areas at points = require (not (has_slant (closed points))) (fault.Slant at) >>= λ _. Ok (map area_of (boundary_rectangles points))
+boundary_areas at points =
+    require (not (has_slant (closed points))) (fault.Slant at) >>= λ _. Ok (map area_of (boundary_rectangles points))
 
 -- half the width of a path
 abbrev pub half_of : List Item → ℕ
@@ -103,10 +109,13 @@ reach_told half f (Some ends) = Ok (record { half = half; ends = ends })
 
 -- half its width, and how far it goes past its outer points; its ends have one of two forms
 abbrev pub reach_of : List Item → Result Reach GdsFault
-reach_of inside = reach_told (half_of inside) (form_fault inside) (past_ends (half_of inside) (short_of (content_of record_type.PathType inside)))
+reach_of inside =
+    reach_told (half_of inside) (form_fault inside)
+    (past_ends (half_of inside) (short_of (content_of record_type.PathType inside)))
 
 unfoldable pub areas_along : ℕ → Reach → List Point → Result (List Area) GdsFault
-areas_along at reach points = require (not (has_slant points)) (fault.Slant at) >>= λ _. Ok (path_areas reach.half reach.ends points)
+areas_along at reach points =
+    require (not (has_slant points)) (fault.Slant at) >>= λ _. Ok (path_areas reach.half reach.ends points)
 
 -- The form of the ends is looked at first.
 abbrev pub path_areas_of : ℕ → List Item → Result (List Area) GdsFault
@@ -124,7 +133,10 @@ draw_context_of grid stands inside on = record { grid = grid; stands = stands; l
 -- What is on a layer of the drawing is drawn.
 abbrev pub drawn_on : ℕ → ℕ → Option DrawContext → Result (List Area) GdsFault → Result Progress GdsFault
 drawn_on at count None areas = Ok no_progress
-drawn_on at count (Some draw_context) areas = areas >>= λ list. shapes_of draw_context list >>= λ rects. within_limit at count (rectangles rects)
+drawn_on at count (Some draw_context) areas =
+    areas >>= λ list.
+    shapes_of draw_context list >>= λ rects.
+    within_limit at count (rectangles rects)
 
 abbrev pub draw_context_for : Grid → Move → List Item → Option DrawContext
 draw_context_for grid stands inside = option_map (draw_context_of grid stands inside) (layer_of inside)
@@ -137,7 +149,10 @@ spot_at on _ _ = None
 
 -- the one point of a text
 abbrev pub spot_of : Grid → Layer → List ℕ → Option Spot
-spot_of grid on xy = if length xy == 8 then spot_at on (floor_units_of grid (signed_at 0 xy)) (floor_units_of grid (signed_at 4 xy)) else None
+spot_of grid on xy =
+    if length xy == 8
+    then spot_at on (floor_units_of grid (signed_at 0 xy)) (floor_units_of grid (signed_at 4 xy))
+    else None
 
 abbrev pub spot_on : ℕ → Option Spot → Result (Option Spot) GdsFault
 spot_on at None = Err (fault.Grid at)
@@ -153,4 +168,7 @@ text_spot grid e = text_on grid (xy_place e.inside) (xy_of e.inside) (layer_of e
 
 abbrev pub with_label : List ℕ → Option Spot → Shapes
 with_label name None = nothing_drawn
-with_label name (Some spot) = record { rects = []; labels = record { layer = spot.layer; x = spot.x; y = spot.y; name = name } ∷ [] }
+with_label name (Some spot) = record {
+  rects = [];
+  labels = record { layer = spot.layer; x = spot.x; y = spot.y; name = name } ∷ [];
+}

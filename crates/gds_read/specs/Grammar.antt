@@ -1,6 +1,7 @@
 -- The grammar of a library, as a recognizer of the list of its records: which records of the table are
 -- allowed at which place, and the first record that is not right where it stands.
-use Rattle.std.specs.Prelude.{ℕ, ◌+◌, ◌%◌, ◌==◌, ◌||◌, ◌&&◌, not, nat_lt, is_some, Bool, true, false, List, [], ◌∷◌, length, get_or, drop, position, Option, Some, None, Result, Ok, Err, if◌then◌else◌}
+use Rattle.std.specs.Prelude.{ℕ, ◌+◌, ◌%◌, ◌==◌, ◌||◌, ◌&&◌, not, nat_lt, is_some, Bool, true, false, List, [], ◌∷◌}
+use Rattle.std.specs.Prelude.{length, get_or, drop, position, Option, Some, None, Result, Ok, Err, if◌then◌else◌}
 use Rattle.cell_num.specs.Steps.{◌>>=◌}
 use Rattle.gds_record.specs.declared.record.GdsRec.{GdsRec}
 use Rattle.gds_record.specs.declared.record.RecFault.{RecFault}
@@ -108,12 +109,12 @@ has_wrong_length (Element element.Text seen) record_type.Xy size = not (size == 
 has_wrong_length _ record_type.Xy size = size == 0 || not (size % 8 == 0)
 has_wrong_length _ _ _ = false
 
--- behind a structure's record that begins no element the structure has ended
+-- after a structure's record that begins no element the structure has ended
 abbrev pub behind_structure : Option ElementKind → Place
 behind_structure (Some kind) = Element kind nothing_seen
 behind_structure None = Library true true true
 
--- the place behind a record that is allowed
+-- the place after a record that is allowed
 abbrev pub follows : Place → RecordType → Place
 follows Start _ = Opened
 follows Opened _ = Library false false false
@@ -132,7 +133,8 @@ abbrev pub is_wrong_unit : ℕ → Bool
 is_wrong_unit picometres = nat_lt picometres 1 || nat_lt 1000000 picometres
 
 abbrev pub with_unit : RecordType → Item → Place → Result Place GdsFault
-with_unit record_type.Units r next = if is_wrong_unit (picometres_at r.content 8) then Err (fault.Unit (picometres_at r.content 8)) else Ok next
+with_unit record_type.Units r next =
+    if is_wrong_unit (picometres_at r.content 8) then Err (fault.Unit (picometres_at r.content 8)) else Ok next
 with_unit _ r next = Ok next
 
 -- at a record of the table the faults are looked for in this order
@@ -149,11 +151,11 @@ at_type Start r None = Err (fault.Order r.at r.code)
 at_type place r None = Ok place
 at_type place r (Some kind) = known_step place r kind
 
--- a record at a place: the place behind it, or its first fault
+-- a record at a place: the place after it, or its first fault
 abbrev pub step_of : Place → Item → Result Place GdsFault
 step_of place r = at_type place r (type_numbered r.code)
 
--- behind the end there are zero bytes alone
+-- after the end there are zero bytes alone
 abbrev pub first_behind : List ℕ → ℕ → Option ℕ → Result ℕ GdsFault
 first_behind bytes from None = Ok from
 first_behind bytes from (Some more) = Err (fault.Order (from + more) (get_or bytes (from + more) 0))
@@ -165,15 +167,16 @@ abbrev pub goes_on : Place → Result ℕ GdsFault → Result ℕ GdsFault → R
 goes_on Ended behind rest = behind
 goes_on _ behind rest = rest
 
--- The records of the library, up to its end: the place behind them, or the fault of the first record
+-- The records of the library, up to its end: the place after them, or the fault of the first record
 -- that is not right where it stands.
 unfoldable pub pass : List ℕ → Place → List Item → RecFault → Result ℕ GdsFault
 pass bytes place [] end = Err (as_fault end)
-pass bytes place (r ∷ rs) end = step_of place r >>= λ next. goes_on next (zeros_behind bytes r.next) (pass bytes next rs end)
+pass bytes place (r ∷ rs) end =
+    step_of place r >>= λ next. goes_on next (zeros_behind bytes r.next) (pass bytes next rs end)
 
 abbrev pub pass_from : List ℕ → Place → ℕ → Result ℕ GdsFault
 pass_from bytes place at = pass bytes place (records_from bytes at).items (records_from bytes at).fault
 
--- the place behind the library, or the first fault
+-- the place after the library, or the first fault
 abbrev pub first_pass_of : List ℕ → Result ℕ GdsFault
 first_pass_of bytes = pass_from bytes Start 0

@@ -1,6 +1,7 @@
 -- The structures of a library by their names, and what of each draws where it is referred to.
 use Rattle.std.specs.HashMap.{get, get_by}
-use Rattle.std.specs.Prelude.{ℕ, ◌≡◌, ◌==◌, nat_eq, Bool, true, false, List, [], ◌∷◌, length, option_map, Option, Some, None, Result, Ok, Err, if◌then◌else◌}
+use Rattle.std.specs.Prelude.{ℕ, ◌≡◌, ◌==◌, nat_eq, Bool, true, false, List, [], ◌∷◌, length, option_map}
+use Rattle.std.specs.Prelude.{Option, Some, None, Result, Ok, Err, if◌then◌else◌}
 use Rattle.std.specs.Str.{bytes_eq}
 use Rattle.box_geom.specs.declared.layer.Layer.{Layer}
 use Rattle.gds_area.specs.Areas.{has_some}
@@ -18,7 +19,7 @@ use Rattle.gds_read.specs.Elements.{until, layer_of, xy_place, areas_of}
 
 -- ---- what is drawn of a structure
 
--- some areas are told, or a fault
+-- there are some areas, or a fault
 abbrev pub has_areas : Result (List Area) GdsFault → Bool
 has_areas (Ok list) = has_some list
 has_areas (Err f) = true
@@ -41,7 +42,7 @@ element_draws labels record_type.SRef inside = true
 element_draws labels record_type.ARef inside = true
 element_draws labels _ inside = false
 
--- the same of a record, behind which others stand
+-- the same of a record, which others follow
 abbrev pub draws : Bool → Option RecordType → List Item → Bool
 draws labels None behind = false
 draws labels (Some kind) behind = element_draws labels kind (until record_type.EndEl behind)
@@ -63,7 +64,7 @@ found_as (Some found) = found
 abbrev pub looked_up : Index → List ℕ → Lookup
 looked_up index name = found_as (get_by (λ k. bytes_eq name k.now) index.names)
 
--- the list of the structure behind whose name a place is, without labels
+-- the list of the structure whose name ends at a place, without labels
 abbrev pub listed_at : Index → ℕ → Option (List ℕ)
 listed_at index place = option_map (λ places. places.items) (get nat_eq index.drawing place)
 
@@ -77,7 +78,7 @@ pub record IsIndex (bytes : List ℕ) (index : Index) : Type 0 where
   pub within : (name : List ℕ) → IsWithin (length bytes) (looked_up index name)
   pub lists : (place : ℕ) → IsListOf bytes place (listed_at index place)
 
--- one structure more, behind whose name a place is
+-- one structure more, whose name ends at a place
 abbrev pub once_more : Lookup → ℕ → Lookup
 once_more lookup.NoCell place = lookup.At place
 once_more _ place = lookup.Twice
@@ -89,18 +90,26 @@ Met bytes (lookup.At place) rest all = items_from bytes place ∷ rest ≡ all
 Met bytes lookup.Twice rest all = Finds bytes lookup.Twice all
 
 pub record IsIndexBefore (bytes : List ℕ) (index : Index) (at : ℕ) : Type 0 where
-  pub met : (name : List ℕ) → Met bytes (looked_up index name) (behind_name name (items_from bytes at)) (found_in bytes name)
+  pub met :
+      (name : List ℕ) →
+      Met bytes (looked_up index name) (behind_name name (items_from bytes at)) (found_in bytes name)
   pub within : (name : List ℕ) → IsWithin (length bytes) (looked_up index name)
   pub lists : (place : ℕ) → IsListOf bytes place (listed_at index place)
 
--- A structure is added under a name, behind which a place is.
+-- A structure is added under a name, which ends at a place.
 pub record IsStructureAdded (bytes : List ℕ) (old new : Index) (name : List ℕ) (place : ℕ) : Type 0 where
-  pub names : (other : List ℕ) → looked_up new other ≡ (if bytes_eq name other then once_more (looked_up old name) place else looked_up old other)
+  pub names :
+      (other : List ℕ) →
+      looked_up new other
+      ≡ (if bytes_eq name other then once_more (looked_up old name) place else looked_up old other)
   pub lists : (other : ℕ) → IsListOf bytes other (listed_at old other) → IsListOf bytes other (listed_at new other)
 
 -- A name is added, and nothing else changes.
 pub record IsNamed (old new : Index) (name : List ℕ) (place : ℕ) : Type 0 where
-  pub names : (other : List ℕ) → looked_up new other ≡ (if bytes_eq name other then once_more (looked_up old name) place else looked_up old other)
+  pub names :
+      (other : List ℕ) →
+      looked_up new other
+      ≡ (if bytes_eq name other then once_more (looked_up old name) place else looked_up old other)
   pub lists : (other : ℕ) → listed_at new other ≡ listed_at old other
 
 -- The list of a structure is added, and nothing else changes.

@@ -1,4 +1,4 @@
--- The bytes of a library: whole records in the order of the grammar, and zero bytes behind.
+-- The bytes of a library: whole records in the order of the grammar, then zero bytes.
 use Rattle.std.specs.Prelude.{ℕ, ◌≡◌, ◌+◌, List, [], ◌∷◌, ◌++◌, length, Result, Ok, Err, replicate}
 use Rattle.std.specs.List.{AllByRecursion}
 use Rattle.gds_record.specs.Records.{Raw, IsRaw, spelling, item, item_of, record_at}
@@ -11,13 +11,14 @@ use Rattle.gds_read.specs.Grammar.{step_of, zeros_behind}
 use Rattle.gds_area.specs.Faults.{as_fault}
 
 -- Each record, from a place of the bytes and a place of the grammar on, is right where it stands, and
--- they lead to another place of the grammar. Behind the end of the library stands no record.
+-- they lead to another place of the grammar. After the end of the library stands no record.
 abbrev pub Follows : ℕ → Place → List Raw → Place → Type 0
 Follows at place [] last = place ≡ last
 Follows at Ended (r ∷ rs) last = ⊥
-Follows at place (r ∷ rs) last = (next : Place) × (step_of place (item at r) ≡ Ok next) × Follows (at + (length r.content + 4)) next rs last
+Follows at place (r ∷ rs) last =
+    (next : Place) × (step_of place (item at r) ≡ Ok next) × Follows (at + (length r.content + 4)) next rs last
 
--- whole records from the grammar's start to its end, and zero bytes behind
+-- whole records from the grammar's start to its end, then zero bytes
 pub record IsLibrary (bytes : List ℕ) (end : ℕ) : Type 0 where
   pub records : List Raw
   pub zeros : ℕ
@@ -34,12 +35,12 @@ fault_or (Ok r) step = step r
 abbrev pub step_at : List ℕ → ℕ → Place → Result Place GdsFault
 step_at bytes at place = fault_or (record_at bytes at) (λ r. step_of place (item_of bytes r))
 
--- Behind the end the first byte that is not zero is wrong, elsewhere the record.
+-- After the end the first byte that is not zero is wrong, elsewhere the record.
 abbrev pub HasFault : List ℕ → ℕ → Place → GdsFault → Type 0
 HasFault bytes at Ended f = zeros_behind bytes at ≡ Err f
 HasFault bytes at place f = step_at bytes at place ≡ Err f
 
--- Whole records that are right where they stand, and behind them the first that is not.
+-- Whole records that are right where they stand, and after them the first that is not.
 pub record IsFirstFault (bytes : List ℕ) (f : GdsFault) : Type 0 where
   pub before : List Raw
   pub rest : List ℕ

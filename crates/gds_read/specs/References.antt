@@ -1,5 +1,7 @@
 -- What a reference says: which structure it names, and where the copies of it stand.
-use Rattle.std.specs.Prelude.{ℕ, suc, ◌≡◌, ◌≤◌, ◌+◌, ◌*◌, ◌==◌, ◌&&◌, ◌||◌, not, nat_lt, Bool, true, false, ℤ, pos, ◌+ℤ◌, ◌-ℤ◌, ◌*ℤ◌, unsigned_abs, List, [], ◌∷◌, length, find, option_map, Option, Some, None, if◌then◌else◌}
+use Rattle.std.specs.Prelude.{ℕ, suc, ◌≡◌, ◌≤◌, ◌+◌, ◌*◌, ◌==◌, ◌&&◌, ◌||◌, not, nat_lt}
+use Rattle.std.specs.Prelude.{Bool, true, false, ℤ, pos, ◌+ℤ◌, ◌-ℤ◌, ◌*ℤ◌, unsigned_abs}
+use Rattle.std.specs.Prelude.{List, [], ◌∷◌, length, find, option_map, Option, Some, None, if◌then◌else◌}
 use Rattle.std.specs.Int.{int_div_euclid, int_rem_euclid}
 use Rattle.gds_record.specs.declared.types.RecordType.{RecordType}
 use Rattle.gds_record.specs.declared.types.RecordType.TheVariants as record_type
@@ -31,7 +33,7 @@ named_in records (Some name) = the_one (behind_name (trimmed name.content) recor
 abbrev pub target_in : List Item → List Item → Option (List Item)
 target_in records inside = named_in records (find (is_type record_type.SName) inside)
 
--- the records behind its name begin at a place
+-- the records after its name begin at a place
 abbrev pub Targets : List ℕ → Option ℕ → Option (List Item) → Type 0
 Targets bytes (Some place) (Some one) = (one ≡ items_from bytes place) × (place ≤ length bytes)
 Targets bytes None None = Unit {0}
@@ -91,7 +93,10 @@ faces (Some mirrored) (Some turn) = Some (record { mirrored = mirrored; turn = t
 faces _ _ = None
 
 abbrev pub facing_of : List Item → Option Facing
-facing_of inside = if is_full_size (data_in record_type.Mag inside) then faces (mirror_told (data_in record_type.STrans inside)) (turn_told (data_in record_type.Angle inside)) else None
+facing_of inside =
+    if is_full_size (data_in record_type.Mag inside)
+    then faces (mirror_told (data_in record_type.STrans inside)) (turn_told (data_in record_type.Angle inside))
+    else None
 
 -- ---- where its copies stand
 
@@ -99,7 +104,8 @@ abbrev pub is_count : ℕ → Bool
 is_count n = nat_lt 0 n && nat_lt n 32768
 
 abbrev pub counts_of : ℕ → ℕ → Option Counts
-counts_of columns rows = if is_count columns && is_count rows then Some (record { columns = columns; rows = rows }) else None
+counts_of columns rows =
+    if is_count columns && is_count rows then Some (record { columns = columns; rows = rows }) else None
 
 -- two numbers of two bytes, each 1 or more in two's complement
 abbrev pub two_counts : List ℕ → Option Counts
@@ -113,13 +119,16 @@ counts_told (Some content) = two_counts content
 abbrev pub divides : ℕ → ℤ → Bool
 divides n z = unsigned_abs (int_rem_euclid z (pos n)) == 0
 
--- so many equal steps of whole file units lead from one point to another
+-- N equal steps of whole file units lead from one point to another
 abbrev pub has_steps : ℕ → Point → Point → Bool
 has_steps n p q = divides n (q.x -ℤ p.x) && divides n (q.y -ℤ p.y)
 
 abbrev pub lattice_on : Point → Point → Point → Option Counts → Option Lattice
 lattice_on p q s None = None
-lattice_on p q s (Some n) = if has_steps n.columns p q && has_steps n.rows p s then Some (record { first = p; behind_columns = q; behind_rows = s; columns = n.columns; rows = n.rows }) else None
+lattice_on p q s (Some n) =
+    if has_steps n.columns p q && has_steps n.rows p s
+    then Some (record { first = p; behind_columns = q; behind_rows = s; columns = n.columns; rows = n.rows })
+    else None
 
 abbrev pub single : Point → Lattice
 single p = record { first = p; behind_columns = p; behind_rows = p; columns = 1; rows = 1 }
@@ -130,8 +139,12 @@ may_stand (Some counts) = length counts == 4
 
 -- one point of SREF, or three points of AREF: the first, and it moved by all columns and by all rows
 abbrev pub lattice_of : RecordType → List ℕ → Option (List ℕ) → Option Lattice
-lattice_of record_type.SRef xy counts = if length xy == 8 && may_stand counts then Some (single (point_at 0 xy)) else None
-lattice_of record_type.ARef xy counts = if length xy == 24 then lattice_on (point_at 0 xy) (point_at 8 xy) (point_at 16 xy) (counts_told counts) else None
+lattice_of record_type.SRef xy counts =
+    if length xy == 8 && may_stand counts then Some (single (point_at 0 xy)) else None
+lattice_of record_type.ARef xy counts =
+    if length xy == 24
+    then lattice_on (point_at 0 xy) (point_at 8 xy) (point_at 16 xy) (counts_told counts)
+    else None
 lattice_of _ xy counts = None
 
 abbrev pub facing_on : Option Facing → Option Lattice → Option Array
@@ -143,7 +156,7 @@ array_of kind inside =
     if repeats inside then None else
     facing_on (facing_of inside) (lattice_of kind (xy_of inside) (data_in record_type.ColRow inside))
 
--- so many of the steps that lead from one coordinate to another
+-- PART of the WHOLE number of steps that lead from one coordinate to another
 abbrev pub shift : ℤ → ℤ → ℕ → ℕ → ℤ
 shift from to part whole = pos part *ℤ int_div_euclid (to -ℤ from) (pos whole)
 
@@ -151,6 +164,10 @@ abbrev pub copy_at : Array → ℕ → ℕ → Move
 copy_at a column row = record {
   mirrored = a.facing.mirrored;
   turn = a.facing.turn;
-  x = a.lattice.first.x +ℤ (shift a.lattice.first.x a.lattice.behind_columns.x column a.lattice.columns +ℤ shift a.lattice.first.x a.lattice.behind_rows.x row a.lattice.rows);
-  y = a.lattice.first.y +ℤ (shift a.lattice.first.y a.lattice.behind_columns.y column a.lattice.columns +ℤ shift a.lattice.first.y a.lattice.behind_rows.y row a.lattice.rows);
+  x = a.lattice.first.x
+      +ℤ (shift a.lattice.first.x a.lattice.behind_columns.x column a.lattice.columns
+      +ℤ shift a.lattice.first.x a.lattice.behind_rows.x row a.lattice.rows);
+  y = a.lattice.first.y
+      +ℤ (shift a.lattice.first.y a.lattice.behind_columns.y column a.lattice.columns
+      +ℤ shift a.lattice.first.y a.lattice.behind_rows.y row a.lattice.rows);
 }

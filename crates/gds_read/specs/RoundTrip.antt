@@ -61,9 +61,12 @@ shape_moved x y s = record { layer = s.layer; rect = rect_moved x y s.rect }
 abbrev pub referred_rects : List Struct → Ref → List Shape
 referred_rects structs r = map (shape_moved r.x r.y) (rects_of (structure_named structs r.name))
 
--- the rectangles of a structure, and behind them those of its references; its own labels alone
+-- the rectangles of a structure, then those of its references; its own labels alone
 abbrev pub flat_shapes : List Struct → Struct → Shapes
-flat_shapes structs s = record { rects = s.shapes.rects ++ flat_map (referred_rects structs) s.refs; labels = s.shapes.labels }
+flat_shapes structs s = record {
+  rects = s.shapes.rects ++ flat_map (referred_rects structs) s.refs;
+  labels = s.shapes.labels;
+}
 
 -- a reference to one of the structures, which refers to none itself
 pub record IsToPlain (structs : List Struct) (r : Ref) : Type 0 where

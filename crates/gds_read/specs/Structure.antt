@@ -25,7 +25,7 @@ trimmed (b ∷ bs) = or_nothing b (trimmed bs)
 abbrev pub is_named : List ℕ → Item → Bool
 is_named name r = is_type record_type.StrName r && bytes_eq (trimmed r.content) name
 
--- what stands behind the name of each structure that has this name
+-- what follows the name of each structure that has this name
 abbrev pub behind_name : List ℕ → List Item → List (List Item)
 behind_name name [] = []
 behind_name name (r ∷ rs) = if is_named name r then rs ∷ behind_name name rs else behind_name name rs

@@ -1,11 +1,12 @@
 -- The grammar of a library in its written form, over the types of its records. Records whose type the
--- table does not have may stand between them, but not in front.
+-- table does not have may stand between them, but not before them.
 --
 --   library   ::= HEADER BGNLIB head structure* ENDLIB
 --   head      ::= UNITS | LIBNAME UNITS | UNITS LIBNAME
 --   structure ::= BGNSTR STRNAME element* ENDSTR
 --   element   ::= (BOUNDARY | PATH | TEXT | SREF | AREF | NODE | BOX) content* ENDEL
-use Rattle.std.specs.Prelude.{ℕ, suc, ◌≡◌, ◌≤◌, ◌==◌, ◌⊎◌, Bool, true, false, List, [], ◌∷◌, ◌++◌, Option, Some, None, if◌then◌else◌}
+use Rattle.std.specs.Prelude.{ℕ, suc, ◌≡◌, ◌≤◌, ◌==◌, ◌⊎◌, Bool, true, false}
+use Rattle.std.specs.Prelude.{List, [], ◌∷◌, ◌++◌, Option, Some, None, if◌then◌else◌}
 use Rattle.std.specs.List.{AllByRecursion}
 use Rattle.gds_record.specs.declared.types.RecordType.{RecordType}
 use Rattle.gds_record.specs.declared.types.RecordType.TheVariants as record_type
@@ -67,7 +68,7 @@ pub record IsElement (word : List RecordType) : Type 0 where
   pub parts : HasParts kind inside
   pub is : word ≡ first ∷ (inside ++ record_type.EndEl ∷ [])
 
--- words one behind the other
+-- words one after the other
 abbrev pub in_a_row : List (List RecordType) → List RecordType
 in_a_row [] = []
 in_a_row (w ∷ ws) = w ++ in_a_row ws

@@ -98,7 +98,7 @@ fn element_draws(
     }
 }
 
-/// Whether a record begins an element that may draw something, or has a fault; texts are told where labels are
+/// Whether a record begins an element that may draw something, or has a fault; a text draws where labels are
 /// asked for.
 pub fn draws(alloc: Global, bytes: &[u8], rec: &GdsRec, labels: bool) -> Result<bool, NoMemory>
     requires size { length bytes.now ≤ MOST_BYTES }

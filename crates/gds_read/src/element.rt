@@ -5,7 +5,8 @@ ghost use Rattle.gds_area.specs.Points.{points_of};
 ghost use Rattle.gds_area.specs.Areas.{put_all, Puts};
 ghost use Rattle.gds_area.specs.Progress.{amount, Adds};
 ghost use Rattle.gds_read.specs.Flat.{drawn_from};
-ghost use Rattle.gds_read.specs.Elements.{inside_of, draw_context_for, boundary_areas, reach_of, areas_along, path_areas_of};
+ghost use Rattle.gds_read.specs.Elements.{inside_of, draw_context_for, boundary_areas};
+ghost use Rattle.gds_read.specs.Elements.{reach_of, areas_along, path_areas_of};
 
 use crate::field::{element_content, element_layer, field_place, short};
 use box_geom::ShapeList;
@@ -43,7 +44,8 @@ fn boundary(
 ) -> Result<(), GdsFault>
     requires grid { 1 ≤ draw_context.now.grid.lambda_nm }
     requires unit { draw_context.now.grid.picometres ≤ MOST_PICOMETRES }
-    ensures { Puts result rects.new (put_all draw_context.now rects.old (boundary_areas draw_context.now.at (points_of xy.now))) }
+    ensures { Puts result rects.new
+        (put_all draw_context.now rects.old (boundary_areas draw_context.now.at (points_of xy.now))) }
 {
     let mut walk = points(alloc, xy)?;
     close(&mut walk)?;
@@ -84,7 +86,8 @@ fn along(
 ) -> Result<(), GdsFault>
     requires grid { 1 ≤ draw_context.now.grid.lambda_nm }
     requires unit { draw_context.now.grid.picometres ≤ MOST_PICOMETRES }
-    ensures { Puts result rects.new (put_all draw_context.now rects.old (areas_along draw_context.now.at reach.now (points_of xy.now))) }
+    ensures { Puts result rects.new
+        (put_all draw_context.now rects.old (areas_along draw_context.now.at reach.now (points_of xy.now))) }
 {
     let points = points(alloc, xy)?;
     if slanted(points.as_slice()) {
@@ -115,8 +118,8 @@ fn path(
     along(alloc, xy, &reach, draw_context, rects)
 }
 
-#[tactic(auto, using(crate::proofs::Limits::adds_drawn, crate::proofs::Limits::is_wide, crate::proofs::Limits::adds_fault))]
 /// Adds what a boundary draws.
+#[tactic(auto, using(crate::proofs::Limits::limit_rules))]
 pub fn add_boundary(
     alloc: Global,
     bytes: &[u8],
@@ -145,8 +148,8 @@ pub fn add_boundary(
     Ok(())
 }
 
-#[tactic(auto, using(crate::proofs::Limits::adds_drawn, crate::proofs::Limits::is_wide, crate::proofs::Limits::adds_fault))]
 /// Adds what a path draws.
+#[tactic(auto, using(crate::proofs::Limits::limit_rules))]
 pub fn add_path(
     alloc: Global,
     bytes: &[u8],

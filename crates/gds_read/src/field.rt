@@ -10,7 +10,7 @@ use cell_num::MOST_BYTES;
 use gds_record::{GdsRec, RecordType, layers, next_record};
 
 /// The first record of a type between a place and the next record of the type `end`.
-#[tactic(auto, using(gds_record::proofs::Walks::moves, crate::proofs::Fields::none_left, crate::proofs::Fields::none_before, crate::proofs::Fields::this_one, crate::proofs::Fields::later))]
+#[tactic(auto, using(gds_record::proofs::Walks::moves, crate::proofs::Fields::field_rules))]
 pub fn field(bytes: &[u8], from: u64, end: RecordType, kind: RecordType) -> Option<GdsRec>
     requires size { length bytes.now ≤ MOST_BYTES }
     requires place { from ≤ length bytes.now }
@@ -45,7 +45,7 @@ pub fn field_content(bytes: &[u8], from: u64, end: RecordType, kind: RecordType)
     }
 }
 
-/// The place of that record in an element behind whose first record a place is, or 0.
+/// The place of the record of a type in an element whose first record ends at `from`, or 0.
 pub fn field_place(bytes: &[u8], from: u64, kind: RecordType) -> u64
     requires size { length bytes.now ≤ MOST_BYTES }
     requires place { from ≤ length bytes.now }
@@ -57,7 +57,7 @@ pub fn field_place(bytes: &[u8], from: u64, kind: RecordType) -> u64
     }
 }
 
-/// Its data in that element, or none.
+/// The data of that record, or none.
 pub fn element_content(bytes: &[u8], from: u64, kind: RecordType) -> &[u8]
     requires size { length bytes.now ≤ MOST_BYTES }
     requires place { from ≤ length bytes.now }
@@ -76,7 +76,7 @@ pub fn short(content: &[u8]) -> u16
     }
 }
 
-/// The layer of the element behind whose first record a place is.
+/// The layer of the element whose first record ends at `from`.
 pub fn element_layer(bytes: &[u8], from: u64) -> Option<Layer>
     requires size { length bytes.now ≤ MOST_BYTES }
     requires place { from ≤ length bytes.now }

@@ -4,7 +4,8 @@ ghost use Rattle.gds_read.specs.Elements.{element_of};
 ghost use Rattle.gds_area.specs.Moves.{IsNear};
 ghost use Rattle.gds_read.specs.Index.{IsIndex};
 ghost use Rattle.gds_area.specs.Progress.{amount, Adds};
-ghost use Rattle.gds_read.specs.Flat.{row_in, copies_in, referred_in, element_in, drawn_record, flat_in, listed_in, IsContext};
+ghost use Rattle.gds_read.specs.Flat.{row_in, copies_in, referred_in, element_in};
+ghost use Rattle.gds_read.specs.Flat.{drawn_record, flat_in, listed_in, IsContext};
 
 use crate::element::{add_boundary, add_path};
 use crate::index::{Index, list_of};
@@ -18,7 +19,7 @@ use gds_record::{GdsRec, RecordType, next_record};
 use std::alloc::Global;
 
 // A copy of a structure: one reference more, and what its elements draw.
-#[tactic(auto, using(crate::proofs::Copied::deep_copy, crate::proofs::Copied::wide_copy, crate::proofs::Listed::copied_listed, crate::proofs::Copied::inner_context))]
+#[tactic(auto, using(crate::proofs::Copied::copy_rules, crate::proofs::Listed::copied_listed))]
 #[cycle(references)]
 fn add_copy(
     alloc: Global,
@@ -52,7 +53,7 @@ fn add_copy(
     add_elements(alloc, bytes, index, places.as_slice(), &inside, progress)
 }
 
-#[tactic(auto, using(crate::proofs::Copied::row_starts, crate::proofs::Copied::row_more, crate::proofs::Copied::row_stops, crate::proofs::Copied::row_done, gds_area::proofs::Moved::near_inside))]
+#[tactic(auto, using(crate::proofs::Copied::column_rules, gds_area::proofs::Moved::near_inside))]
 #[cycle(references)]
 fn add_row(
     alloc: Global,
@@ -86,7 +87,7 @@ fn add_row(
     Ok(())
 }
 
-#[tactic(auto, using(crate::proofs::Copied::rows_start, crate::proofs::Copied::rows_more, crate::proofs::Copied::rows_stop, crate::proofs::Copied::rows_done))]
+#[tactic(auto, using(crate::proofs::Copied::row_rules))]
 #[cycle(references)]
 fn add_copies(
     alloc: Global,
@@ -114,7 +115,7 @@ fn add_copies(
 }
 
 // What the reference draws that a record of a type begins.
-#[tactic(auto, using(crate::proofs::Copied::no_target, crate::proofs::Copied::no_array, crate::proofs::Copied::with_copies, crate::proofs::Copied::near_origin, crate::proofs::Drawings::adds_same))]
+#[tactic(auto, using(crate::proofs::Copied::reference_rules, crate::proofs::Drawings::adds_same))]
 #[cycle(references)]
 fn add_reference(
     alloc: Global,
@@ -130,7 +131,8 @@ fn add_reference(
     requires place { rec.now.next ≤ length bytes.now }
     requires context { IsContext context.now }
     requires room { amount progress.now ≤ MOST_RECTANGLES }
-    ensures adds { Adds result progress.old progress.new (referred_in bytes.now context.now (amount progress.old) rec.now kind) }
+    ensures adds { Adds result progress.old progress.new
+        (referred_in bytes.now context.now (amount progress.old) rec.now kind) }
     ensures room { OnOk result (amount progress.new ≤ MOST_RECTANGLES) }
 {
     let Some(place) = target(bytes, index, rec.next) else {
@@ -145,7 +147,7 @@ fn add_reference(
 }
 
 // What the element draws that a record of a type begins, if it begins one.
-#[tactic(auto, using(crate::proofs::Copied::same_taken, crate::proofs::Copied::boundary_drawn, crate::proofs::Copied::path_drawn, crate::proofs::Copied::text_drawn, crate::proofs::Copied::text_passed))]
+#[tactic(auto, using(crate::proofs::Copied::kind_rules))]
 #[cycle(references)]
 fn add_element(
     alloc: Global,
@@ -213,7 +215,8 @@ fn add_record(
     requires place { rec.now.next ≤ length bytes.now }
     requires context { IsContext context.now }
     requires room { amount progress.now ≤ MOST_RECTANGLES }
-    ensures adds { Adds result progress.old progress.new (drawn_record bytes.now context.now (amount progress.old) rec.now) }
+    ensures adds { Adds result progress.old progress.new
+        (drawn_record bytes.now context.now (amount progress.old) rec.now) }
     ensures room { OnOk result (amount progress.new ≤ MOST_RECTANGLES) }
 {
     match RecordType::numbered(rec.code) {
@@ -223,7 +226,7 @@ fn add_record(
 }
 
 /// What the elements draw whose first records stand at some places.
-#[tactic(auto, using(gds_record::proofs::Walks::moves, crate::proofs::Listed::listed_more, crate::proofs::Listed::listed_past, crate::proofs::Listed::listed_stops, crate::proofs::Listed::listed_done))]
+#[tactic(auto, using(gds_record::proofs::Walks::moves, crate::proofs::Listed::listed_rules))]
 #[cycle(references)]
 pub fn add_elements(
     alloc: Global,
@@ -237,7 +240,8 @@ pub fn add_elements(
     requires index { IsIndex bytes.now index.now }
     requires context { IsContext context.now }
     requires room { amount progress.now ≤ MOST_RECTANGLES }
-    ensures adds { Adds result progress.old progress.new (listed_in bytes.now context.now (amount progress.old) places.now) }
+    ensures adds { Adds result progress.old progress.new
+        (listed_in bytes.now context.now (amount progress.old) places.now) }
     ensures room { OnOk result (amount progress.new ≤ MOST_RECTANGLES) }
 {
     for place in places {

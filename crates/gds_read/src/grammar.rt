@@ -1,10 +1,11 @@
 ghost use Rattle.std.specs.Prelude.{◌≡◌};
 ghost use Rattle.gds_read.specs.declared.grammar.Place.TheVariants.{Library};
-ghost use Rattle.gds_read.specs.Grammar.{element_begun, is_complete, is_allowed_inside, seen_with, is_allowed, has_wrong_length, follows};
+ghost use Rattle.gds_read.specs.Grammar.{element_begun, is_complete, is_allowed_inside};
+ghost use Rattle.gds_read.specs.Grammar.{seen_with, is_allowed, has_wrong_length, follows};
 
 use gds_record::RecordType;
 
-/// The elements as the grammar tells them apart.
+/// The kinds of elements that the grammar distinguishes.
 #[derive(Clone, Copy, Debug, PartialEq, Eq)]
 pub enum ElementKind {
     Boundary,
@@ -24,12 +25,12 @@ pub struct Seen {
     pub string: bool,
 }
 
-/// A place between two records of a library, as the grammar tells places apart.
+/// A place between two records of a library: which records may follow.
 #[derive(Clone, Copy, Debug, PartialEq, Eq)]
 pub enum Place {
-    /// In front of HEADER.
+    /// Before HEADER.
     Start,
-    /// Behind HEADER.
+    /// After HEADER.
     Opened,
     /// In the library, outside its structures.
     Library {
@@ -45,7 +46,7 @@ pub enum Place {
         kind: ElementKind,
         seen: Seen,
     },
-    /// Behind ENDLIB.
+    /// After ENDLIB.
     Ended,
 }
 
@@ -180,7 +181,7 @@ pub fn wrong_length(place: Place, inner: RecordType, size: usize) -> bool
     }
 }
 
-// The place behind a record inside a library.
+// The place after a record inside a library.
 fn after_in_library(named: bool, units: bool, structures: bool, inner: RecordType) -> Place
     ensures { result ≡ follows (Library named units structures) inner }
 {
@@ -200,7 +201,7 @@ fn after_in_library(named: bool, units: bool, structures: bool, inner: RecordTyp
     }
 }
 
-/// The place behind a record that is allowed at a place.
+/// The place after a record that is allowed at a place.
 pub fn after(place: Place, inner: RecordType) -> Place
     ensures { result ≡ follows place inner }
 {

@@ -3,7 +3,8 @@
 ghost use Rattle.std.specs.Prelude.{◌≡◌, ◌≤◌, [], ◌∷◌, ◌++◌, false, length, IfOk, OnOk};
 ghost use Rattle.gds_record.specs.Records.{items_from};
 ghost use Rattle.gds_read.specs.Structure.{Finds, IsWithin, found_in};
-ghost use Rattle.gds_read.specs.Index.{looked_up, once_more, drawing_places, IsIndex, IsNamed, IsListed, IsStructureAdded};
+ghost use Rattle.gds_read.specs.Index.{looked_up, once_more, drawing_places};
+ghost use Rattle.gds_read.specs.Index.{IsIndex, IsNamed, IsListed, IsStructureAdded};
 
 use crate::draws::draws;
 use crate::structure::{Lookup, trim};
@@ -12,7 +13,7 @@ use gds_record::{RecordType, next_record};
 use indexmap::IndexMap;
 use std::alloc::{AllocError, Global};
 
-/// The structures by name, and by the place behind its name the places of the elements of each that may draw.
+/// The structures by name, and by the place after its name the places of the elements of each that may draw.
 #[derive(Drop)]
 pub struct Index<'a> {
     pub names: IndexMap<&'a [u8], Lookup>,
@@ -29,7 +30,7 @@ fn looked_up(index: &Index, name: &[u8]) -> Lookup
     }
 }
 
-// One structure more, behind whose name a place is.
+// One structure more, whose name ends at a place.
 fn once_more(found: Lookup, place: u64) -> Lookup
     ensures { result ≡ once_more found place }
 {
@@ -54,9 +55,9 @@ fn add_list(index: &mut Index, places: Vec<u64>, place: u64) -> Result<(), Alloc
     Ok(())
 }
 
-/// The places of the elements that may draw behind a place, up to the end of the structure; texts are told
-/// where labels are asked for.
-#[tactic(auto, using(gds_record::proofs::Walks::moves, crate::proofs::Listed::ends_none, crate::proofs::Listed::ends_there, crate::proofs::Listed::one_place_more, crate::proofs::Listed::passed_over))]
+/// The places of the elements that may draw, from a place up to the end of the structure; texts are among
+/// them where labels are asked for.
+#[tactic(auto, using(gds_record::proofs::Walks::moves, crate::proofs::Listed::place_rules))]
 pub fn places_of(
     alloc: Global,
     bytes: &[u8],
@@ -132,7 +133,7 @@ pub fn read_index(alloc: Global, bytes: &[u8]) -> Result<Index<'_>, NoMemory>
     }
 }
 
-/// The place behind the name of the structure that has it.
+/// The place after the name of the structure that has it.
 pub fn find_name(bytes: &[u8], index: &Index, name: &[u8]) -> Lookup
     requires { IsIndex bytes.now index.now }
     ensures found { Finds bytes.now result (found_in bytes.now name.now) }
@@ -149,7 +150,7 @@ fn copied(alloc: Global, places: &[u64]) -> Result<Vec<u64>, NoMemory>
     Ok(copy)
 }
 
-/// The places of the elements that may draw of the structure behind whose name a place is, without labels.
+/// The places of the elements that may draw of the structure whose name ends at a place, without labels.
 pub fn list_of(alloc: Global, bytes: &[u8], index: &Index, place: u64) -> Result<Vec<u64>, NoMemory>
     requires size { length bytes.now ≤ MOST_BYTES }
     requires place { place ≤ length bytes.now }

@@ -107,7 +107,7 @@ fn lattice_on(
     }
 }
 
-/// The places that a reference of a type tells by its points and by its numbers of columns and rows.
+/// The places that a reference of a type gives by its points and by its numbers of columns and rows.
 pub fn read_lattice(kind: RecordType, xy: &[u8], content: Option<&[u8]>) -> Option<Lattice>
     ensures { result ≡ lattice_of kind xy.now (option_map (λ w. w.now) content.entry) }
 {
@@ -159,7 +159,7 @@ fn step(from: &i32, to: &i32, whole: u16) -> i64
     apart(from, to).div_euclid(i64::from(whole))
 }
 
-/// So many of the equal steps that lead from one coordinate to another.
+/// `part` of the `whole` equal steps that lead from one coordinate to another.
 pub fn shift(from: &i32, to: &i32, part: u16, whole: u16) -> i64
     requires { 0 < whole }
     ensures value { result ≡ shift from.now to.now part whole }

@@ -1,6 +1,7 @@
 ghost use Rattle.std.specs.Prelude.{position, not, ◌==◌, IfSome, ◌≡◌, ◌≤◌, ◌<◌, length, ◌+◌};
 ghost use Rattle.gds_record.specs.declared.types.RecordType.TheVariants as record_type;
-ghost use Rattle.gds_read.specs.Grammar.{is_wrong_unit, item_with, with_unit, known_step, step_of, zeros_behind, first_pass_of};
+ghost use Rattle.gds_read.specs.Grammar.{is_wrong_unit, item_with, with_unit, known_step};
+ghost use Rattle.gds_read.specs.Grammar.{step_of, zeros_behind, first_pass_of};
 
 use crate::grammar::{Place, after, allowed, wrong_length};
 use crate::real::picometres_at_place;
@@ -14,13 +15,8 @@ fn wrong_unit(picometres: u64) -> bool
     picometres < 1 || 1_000_000 < picometres
 }
 
-// The place behind a record that is right but for the unit that it may say.
-fn behind_unit(
-    kind: RecordType,
-    rec: &GdsRec,
-    content: &[u8],
-    next: Place,
-) -> Result<Place, GdsFault>
+// The place after a record that is right, except the unit that it may give.
+fn with_unit(kind: RecordType, rec: &GdsRec, content: &[u8], next: Place) -> Result<Place, GdsFault>
     requires { kind ≡ record_type.Units → length content.now ≡ 16 }
     ensures { result ≡ with_unit kind (item_with rec.now content.now) next }
 {
@@ -48,7 +44,7 @@ fn known(place: Place, kind: RecordType, rec: &GdsRec, content: &[u8]) -> Result
     if wrong_length(place, kind, content.len()) {
         return Err(GdsFault::Length { at });
     }
-    behind_unit(kind, rec, content, after(place, kind))
+    with_unit(kind, rec, content, after(place, kind))
 }
 
 fn step(place: Place, rec: &GdsRec, content: &[u8]) -> Result<Place, GdsFault>
@@ -71,7 +67,7 @@ fn first_other(bytes: &[u8]) -> Option<usize>
     bytes.iter().position(|b| *b != 0)
 }
 
-// Behind the library there are zero bytes alone.
+// After the library there are zero bytes alone.
 fn behind(bytes: &[u8], from: u64) -> Result<u64, GdsFault>
     requires { from ≤ length bytes.now }
     ensures { result ≡ zeros_behind bytes.now from }
@@ -88,8 +84,8 @@ fn behind(bytes: &[u8], from: u64) -> Result<u64, GdsFault>
     }
 }
 
-/// Goes over all records of a library, and answers the place behind it.
-#[tactic(auto, using(gds_record::proofs::Walks::moves, crate::proofs::Passes::pass_stops, crate::proofs::Passes::pass_fails, crate::proofs::Passes::pass_ends, crate::proofs::Passes::pass_goes))]
+/// Goes over all records of a library, and gives the place after it.
+#[tactic(auto, using(gds_record::proofs::Walks::moves, crate::proofs::Passes::pass_rules))]
 pub fn first_pass(bytes: &[u8]) -> Result<u64, GdsFault>
     requires { length bytes.now ≤ MOST_BYTES }
     ensures { result ≡ first_pass_of bytes.now }

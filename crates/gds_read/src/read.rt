@@ -39,8 +39,8 @@ fn grid_of(bytes: &[u8], lambda_nm: u32) -> Grid
     }
 }
 
-// What the elements draw that stand behind a place, up to the end of the structure.
-#[tactic(auto, using(crate::proofs::Listed::gives_listed, crate::proofs::Drawings::gives_fault, crate::proofs::Copied::own_context))]
+// What the elements draw, from a place up to the end of the structure.
+#[tactic(auto, using(crate::proofs::Listed::read_rules))]
 fn read_elements(alloc: Global, bytes: &[u8], place: u64, grid: &Grid) -> Result<Shapes, GdsFault>
     requires size { length bytes.now ≤ MOST_BYTES }
     requires place { place ≤ length bytes.now }
@@ -82,7 +82,7 @@ fn twice(name: &Name) -> GdsFault
 /// then of the structure's elements in order. A reference draws what the structure draws that it names, as
 /// mirrored, turned and moved (GDSII Stream Format Manual, Release 6.0: SREF, AREF); labels are the
 /// structure's own. At most 1,073,741,824 bytes are taken.
-#[tactic(auto, using(crate::proofs::Decoded::refused_first, crate::proofs::Decoded::no_cell, crate::proofs::Decoded::twice_refused))]
+#[tactic(auto, using(crate::proofs::Decoded::refusal_rules))]
 pub fn read_cell(
     alloc: Global,
     bytes: &[u8],

@@ -6,7 +6,7 @@ ghost use Rattle.gds_read.specs.Real.{nearest, within, picometres_of, picometres
 const LIMIT: u64 = 1_000_000_000_000_000_000;
 
 // fraction * 16 ^ exponent / 16 ^ 78, times 10 ^ 12
-#[tactic(auto, using(crate::proofs::Nearest::small, crate::proofs::Nearest::below, crate::proofs::Nearest::above, crate::proofs::Nearest::large))]
+#[tactic(auto, using(crate::proofs::Nearest::nearest_rules))]
 fn scaled(fraction: u64, exponent: u64) -> u64
     requires fraction { fraction < 2 ^ 56 }
     requires exponent { exponent < 128 }
@@ -27,7 +27,7 @@ fn scaled(fraction: u64, exponent: u64) -> u64
     }
 }
 
-#[tactic(auto, using(crate::proofs::Nearest::power_fits, crate::proofs::Nearest::power_pos, crate::proofs::Nearest::power_small))]
+#[tactic(auto, using(crate::proofs::Nearest::power_rules))]
 fn sixteen_to(power: u64) -> u128
     requires { power < 25 }
     ensures value { result ≡ 16 ^ power }

@@ -32,14 +32,14 @@ pub struct Array {
     pub lattice: Lattice,
 }
 
-/// The copies of the structure behind whose name a place is.
+/// The copies of the structure whose name ends at a place.
 #[derive(Clone, Copy, Debug, PartialEq, Eq)]
 pub struct Copies {
     pub place: u64,
     pub array: Array,
 }
 
-/// The place behind the name of the structure that the element names behind whose first record a place is.
+/// The place after the name of the structure that an element names; its first record ends at `from`.
 pub fn target(bytes: &[u8], index: &Index, from: u64) -> Option<u64>
     requires size { length bytes.now ≤ MOST_BYTES }
     requires index { IsIndex bytes.now index.now }
@@ -58,7 +58,7 @@ pub fn target(bytes: &[u8], index: &Index, from: u64) -> Option<u64>
 }
 
 // Whether the element has two records of a type or more.
-#[tactic(auto, using(gds_record::proofs::Walks::moves, crate::proofs::Repeats::none_more, crate::proofs::Repeats::none_before, crate::proofs::Repeats::one_more, crate::proofs::Repeats::other_one, crate::proofs::Repeats::twice_told))]
+#[tactic(auto, using(gds_record::proofs::Walks::moves, crate::proofs::Repeats::repeat_rules))]
 fn twice(bytes: &[u8], from: u64, kind: RecordType) -> bool
     requires size { length bytes.now ≤ MOST_BYTES }
     requires place { from ≤ length bytes.now }

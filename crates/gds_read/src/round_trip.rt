@@ -15,7 +15,7 @@ pub fn read_written()
 {}
 
 /// Of a library of several structures with different names each structure is read back by its name, where
-/// it refers to none; and where it refers to some of these, they stand behind its own rectangles, moved, up
+/// it refers to none; and where it refers to some of these, they follow its own rectangles, moved, up
 /// to 1,000,000 rectangles and references in all. It does nothing: its contract is the law.
 pub fn read_library()
     ensures plain { (structs : List Struct) (unit : ℕ) (s : Struct) → AreReadable structs unit → Contains structs s

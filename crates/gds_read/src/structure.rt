@@ -10,7 +10,7 @@ use gds_record::{GdsRec, RecordType, next_record};
 pub enum Lookup {
     NoCell,
     Twice,
-    /// One, with the place behind its name.
+    /// One, with the place after its name.
     At { place: u64 },
 }
 
@@ -35,8 +35,8 @@ fn named(rec: &GdsRec, content: &[u8], name: &[u8]) -> bool
     rec.code == RecordType::StrName.number() && trim(content) == name
 }
 
-/// The place behind the name of the structure that has it.
-#[tactic(auto, using(gds_record::proofs::Walks::moves, crate::proofs::Tails::ends, crate::proofs::Tails::passes, crate::proofs::Tails::finds, crate::proofs::Tails::again))]
+/// The place after the name of the structure that has it.
+#[tactic(auto, using(gds_record::proofs::Walks::moves, crate::proofs::Tails::tail_rules))]
 pub fn find_structure(bytes: &[u8], name: &[u8]) -> Lookup
     requires { length bytes.now ≤ MOST_BYTES }
     ensures found { Finds bytes.now result (found_in bytes.now name.now) }

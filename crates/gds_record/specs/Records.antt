@@ -1,5 +1,6 @@
 -- Records: two bytes of length, which counts the four bytes of the header, a type, a data type, the data.
-use Rattle.std.specs.Prelude.{ℕ, zero, suc, ◌≡◌, ◌+◌, ◌*◌, ◌%◌, ◌<◌, ◌==◌, ◌||◌, nat_lt, List, [], ◌∷◌, ◌++◌, length, get_or, slice_range, drop, Result, Ok, Err, if◌then◌else◌}
+use Rattle.std.specs.Prelude.{ℕ, zero, suc, ◌≡◌, ◌+◌, ◌*◌, ◌%◌, ◌<◌, ◌==◌, ◌||◌, nat_lt}
+use Rattle.std.specs.Prelude.{List, [], ◌∷◌, ◌++◌, length, get_or, slice_range, drop, Result, Ok, Err, if◌then◌else◌}
 use Rattle.std.specs.Int.{w16, to_be_bytes}
 use Rattle.gds_record.specs.declared.record.GdsRec.{GdsRec}
 use Rattle.gds_record.specs.declared.record.RecFault.{RecFault}
@@ -26,7 +27,7 @@ pub record IsRaw (r : Raw) : Type 0 where
 unfoldable pub spelled : Raw → List ℕ
 spelled r = to_be_bytes w16 (length r.content + 4) ++ (r.code ∷ r.form ∷ r.content)
 
--- the bytes of records, one behind the other
+-- the bytes of records, one after the other
 abbrev pub spelling : List Raw → List ℕ
 spelling [] = []
 spelling (r ∷ rs) = spelled r ++ spelling rs
@@ -41,9 +42,14 @@ record_at bytes at =
     if nat_lt (length bytes) (at + 4) then Err (Cut at) else
     if nat_lt (length bytes) (at + size_at bytes at) then Err (Cut at) else
     if nat_lt (size_at bytes at) 4 || size_at bytes at % 2 == 1 then Err (Length at) else
-    Ok (record { at = at; code = get_or bytes (at + 2) 0; form = get_or bytes (at + 3) 0; next = at + size_at bytes at })
+    Ok (record {
+      at = at;
+      code = get_or bytes (at + 2) 0;
+      form = get_or bytes (at + 3) 0;
+      next = at + size_at bytes at;
+    })
 
--- a record of a file: its place, the place behind it, and its data
+-- a record of a file: its place, the place after it, and its data
 pub record Item : Type 0 where
   pub at : ℕ
   pub code : ℕ
@@ -52,9 +58,15 @@ pub record Item : Type 0 where
   pub next : ℕ
 
 abbrev pub item_of : List ℕ → GdsRec → Item
-item_of bytes r = record { at = r.at; code = r.code; form = r.form; content = slice_range bytes (r.at + 4) r.next; next = r.next }
+item_of bytes r = record {
+  at = r.at;
+  code = r.code;
+  form = r.form;
+  content = slice_range bytes (r.at + 4) r.next;
+  next = r.next;
+}
 
--- records one behind the other, and why no other record stands behind them
+-- records one after the other, and why no other record follows them
 pub record Stream : Type 0 where
   pub items : List Item
   pub fault : RecFault
@@ -63,7 +75,7 @@ abbrev pub with_record : List ℕ → Result GdsRec RecFault → (ℕ → Stream
 with_record bytes (Err f) rest = record { items = []; fault = f }
 with_record bytes (Ok r) rest = record { items = item_of bytes r ∷ (rest r.next).items; fault = (rest r.next).fault }
 
--- at most so many records from a place on
+-- at most N records from a place on
 unfoldable pub walk : ℕ → List ℕ → ℕ → Stream
 walk zero bytes at = record { items = []; fault = Cut at }
 walk (suc n) bytes at = with_record bytes (record_at bytes at) (λ next. walk n bytes next)
@@ -79,7 +91,7 @@ items_from bytes at = (records_from bytes at).items
 abbrev pub item : ℕ → Raw → Item
 item at r = record { at = at; code = r.code; form = r.form; content = r.content; next = at + (length r.content + 4) }
 
--- records one behind the other, from a place on, and the place behind them
+-- records one after the other, from a place on, and the place after them
 abbrev pub placed : ℕ → List Raw → List Item
 placed at [] = []
 placed at (r ∷ rs) = item at r ∷ placed (at + (length r.content + 4)) rs

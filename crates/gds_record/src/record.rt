@@ -4,7 +4,7 @@ ghost use Rattle.gds_record.specs.Records.{record_at};
 use cell_num::MOST_BYTES;
 use thiserror::Error;
 
-/// A record: its place, its type and data type, and the place behind it. Its data lies between
+/// A record: its place, its type and data type, and the place after it. Its data lies between
 /// `at + 4` and `next`.
 #[derive(Clone, Copy, Debug, PartialEq, Eq)]
 pub struct GdsRec {

@@ -1,5 +1,6 @@
 -- The records of a GDSII library (Stream format, release 6), and their bytes.
-use Rattle.std.specs.Prelude.{ℕ, ℤ, pos, ◌*ℤ◌, ◌≤◌, ◌%◌, ◌==◌, List, [], ◌∷◌, ◌++◌, length, if◌then◌else◌, replicate, codes, FitsSigned, All}
+use Rattle.std.specs.Prelude.{ℕ, ℤ, pos, ◌*ℤ◌, ◌≤◌, ◌%◌, ◌==◌}
+use Rattle.std.specs.Prelude.{List, [], ◌∷◌, ◌++◌, length, if◌then◌else◌, replicate, codes, FitsSigned, All}
 use Rattle.std.specs.Int.{w16, w32, to_be_bytes, cast_unsigned}
 use Rattle.std.specs.List.{flat_map}
 use Rattle.box_geom.specs.Rectangle.{Rectangle}
@@ -29,7 +30,10 @@ point unit x y = long unit x ++ long unit y
 
 -- the corners from the lower left one round to it again: upward, to the right, downward
 unfoldable pub corners : ℕ → Rectangle → List ℕ
-corners unit r = point unit r.x1 r.y1 ++ (point unit r.x1 r.y2 ++ (point unit r.x2 r.y2 ++ (point unit r.x2 r.y1 ++ point unit r.x1 r.y1)))
+corners unit r =
+    point unit r.x1 r.y1
+    ++ (point unit r.x1 r.y2
+    ++ (point unit r.x2 r.y2 ++ (point unit r.x2 r.y1 ++ point unit r.x1 r.y1)))
 
 -- a boundary element
 abbrev pub rectangle_records : ℕ → Shape → List Raw
@@ -59,7 +63,9 @@ times = replicate 24 0
 -- A database unit in user units, 0.001, and in metres, 10^-9: each the eight-byte real with a 53-bit
 -- fraction that is nearest.
 abbrev pub units : List ℕ
-units = 0x3e ∷ 0x41 ∷ 0x89 ∷ 0x37 ∷ 0x4b ∷ 0xc6 ∷ 0xa7 ∷ 0xf0 ∷ 0x39 ∷ 0x44 ∷ 0xb8 ∷ 0x2f ∷ 0xa0 ∷ 0x9b ∷ 0x5a ∷ 0x54 ∷ []
+units =
+    0x3e ∷ 0x41 ∷ 0x89 ∷ 0x37 ∷ 0x4b ∷ 0xc6 ∷ 0xa7 ∷ 0xf0
+    ∷ 0x39 ∷ 0x44 ∷ 0xb8 ∷ 0x2f ∷ 0xa0 ∷ 0x9b ∷ 0x5a ∷ 0x54 ∷ []
 
 -- a reference element: neither mirrored nor turned
 abbrev pub reference_records : ℕ → Ref → List Raw
@@ -88,7 +94,7 @@ head_records =
     ∷ raw record_type.Units units
     ∷ []
 
--- all records: the structures in their order, and the end of the library behind them
+-- all records: the structures in their order, and the end of the library after them
 abbrev pub all_records : List Struct → ℕ → List Raw
 all_records structs unit = head_records ++ (flat_map (structure_records unit) structs ++ raw record_type.EndLib [] ∷ [])
 

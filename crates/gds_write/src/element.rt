@@ -3,7 +3,8 @@ ghost use Rattle.std.specs.Prelude.{◌≡◌, ◌++◌, OnOk};
 ghost use Rattle.gds_record.specs.Layers.{layer_number};
 ghost use Rattle.gds_record.specs.Records.{raw, spelled, spelling};
 ghost use Rattle.gds_record.specs.declared.types.RecordType.TheVariants as record_type;
-ghost use Rattle.gds_write.specs.Written.{short, point, corners, Fits, rectangle_records, label_records, reference_records, IsWritableShape, IsLabelUpTo, IsWritableRef};
+ghost use Rattle.gds_write.specs.Written.{short, point, corners, Fits, rectangle_records, label_records};
+ghost use Rattle.gds_write.specs.Written.{reference_records, IsWritableShape, IsLabelUpTo, IsWritableRef};
 
 use crate::library::Ref;
 use crate::put::{put, put_header, put_point, put_text};

@@ -2,7 +2,9 @@ ghost use Rattle.std.specs.Prelude.{◌≡◌, [], ◌∷◌, ◌++◌, OnOk, If
 ghost use Rattle.std.specs.List.{flat_map};
 ghost use Rattle.gds_record.specs.Records.{raw, spelling};
 ghost use Rattle.gds_record.specs.declared.types.RecordType.TheVariants as record_type;
-ghost use Rattle.gds_write.specs.Written.{head_records, rectangle_records, label_records, reference_records, structure_records, library_of, written, IsWritableName, IsWritableShape, IsWritableLabel, IsLabelUpTo, IsWritableRef, IsWritableStruct};
+ghost use Rattle.gds_write.specs.Written.{head_records, rectangle_records, label_records, reference_records};
+ghost use Rattle.gds_write.specs.Written.{structure_records, library_of, written, IsWritableName, IsWritableShape};
+ghost use Rattle.gds_write.specs.Written.{IsWritableLabel, IsLabelUpTo, IsWritableRef, IsWritableStruct};
 ghost use Rattle.gds_write.specs.declared.library.Struct.{Struct};
 
 use crate::element::{put_label, put_rectangle, put_reference};

@@ -1,4 +1,4 @@
--- What is read to compare the macro of an abstract with a cell of a GDSII file, and what it comes to.
+-- What is read to compare the macro of an abstract with a cell of a GDSII file, and what it results in.
 use Rattle.std.specs.Prelude.{ℕ, ◌≡◌, ◌≢◌, List, ◌++◌, Option, Ok, codes, length}
 use Rattle.std.specs.List.{flat_map}
 use Rattle.box_geom.specs.declared.shape.Shapes.{Shapes}
@@ -36,7 +36,7 @@ comparing_over gds lef name tech = shapes_from gds name tech >>= comparing_with 
 abbrev pub comparing : Option (List ℕ) → List ℕ → List ℕ → List ℕ → Reading Compared
 comparing tech gds lef name = technology_from tech >>= comparing_over gds lef name
 
--- ---- what it comes to
+-- ---- what it results in
 
 -- the drawing has a netlist, and the macro agrees with it
 abbrev pub DoesAgree : Compared → Type 0

@@ -1,4 +1,4 @@
--- What is read for the extraction of a cell of a GDSII file, and what it comes to.
+-- What is read for the extraction of a cell of a GDSII file, and what it results in.
 use Rattle.std.specs.Prelude.{ℕ, ◌≡◌, ◌≢◌, ◌≤◌, ℤ, List, Option, Some, None, Ok, codes, length}
 use Rattle.std.specs.List.{Contains}
 use Rattle.box_geom.specs.declared.shape.Shapes.{Shapes}
@@ -45,7 +45,8 @@ IsSmall shapes = length shapes.rects ≤ 10000
 abbrev pub AreBodiesOf : Deck → Shapes → Netlist → Option (List (Option ℕ)) → Type 0
 AreBodiesOf deck.Plain shapes netlist bodies = bodies ≡ None
 AreBodiesOf deck.Taps shapes netlist None = ⊥
-AreBodiesOf deck.Taps shapes netlist (Some bodies) = ExtractsBodies shapes (record { netlist = netlist; bodies = bodies })
+AreBodiesOf deck.Taps shapes netlist (Some bodies) =
+    ExtractsBodies shapes (record { netlist = netlist; bodies = bodies })
 
 -- A drawing obeys all rules of the deck, and this is its netlist; or these are the rules that it breaks; or it has too
 -- many rectangles; or it obeys all rules, and this is why it has no netlist.

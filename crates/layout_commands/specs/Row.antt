@@ -1,4 +1,4 @@
--- What is read for a row of cells, and what it comes to.
+-- What is read for a row of cells, and what it results in.
 use Rattle.std.specs.Prelude.{ℕ, ◌≡◌, List, [], ◌∷◌, ◌++◌, map, length, codes, Ok}
 use Rattle.bound_log.specs.Fits.{Fits, ForSome}
 use Rattle.cell_draw.specs.Frame.{needed_of}
@@ -21,7 +21,8 @@ use Rattle.cell_report.specs.RowFaults.{row_fault}
 use Rattle.call_end.specs.Files.{gds_file}
 use Rattle.cell_report.specs.Unfinished.{unfinished_end}
 use Rattle.cell_make.specs.RowInputs.{RowInputs, row_inputs}
-use Rattle.cell_make.specs.Rowed.{RowAnswer, Rowed, Refused, Stopped, Unabutted, Rows, row_height, row_library, row_width}
+use Rattle.cell_make.specs.Rowed.{RowAnswer, Rowed, Refused, Stopped, Unabutted, Rows, row_height, row_library}
+use Rattle.cell_make.specs.Rowed.{row_width}
 use Rattle.cell_make.specs.declared.row_outcome.InputFault.{InputFault}
 use Rattle.cell_make.specs.declared.row_outcome.InputFault.TheVariants.{Spice, Fold}
 use Rattle.cell_make.specs.declared.row_outcome.Undrawn.{Undrawn}
@@ -39,7 +40,7 @@ rowing_over asked tech = bytes_of (SpiceFile asked.spice) >>= λ bytes. Ends (Ok
 abbrev pub rowing : RowAsked → Reading RowInputs
 rowing asked = technology_from asked.tech >>= rowing_over asked
 
--- ---- what it comes to
+-- ---- what it results in
 
 -- the name of the row, the number of its cells, its width and height
 abbrev pub row_text : List ℕ → ℕ → ℕ → ℕ → List ℕ
@@ -51,7 +52,7 @@ abbrev pub input_end : InputFault → End
 input_end (Spice f) = reports status.Input (fault_line (codes "spice") (spice_fault f))
 input_end (Fold f) = reports status.Input (fault_line (codes "fold") (fold_fault f))
 
--- a cell that can't be drawn ends the row as it ends a drawing, without files; a log is told as a plan tells it
+-- a cell that can't be drawn ends the row as it ends a drawing, without files; a log is reported as by a plan
 abbrev pub IsStoppedEnd : Inputs → MakeAnswer → End → Type 0
 IsStoppedEnd inputs (Made row log routing xs) end = ⊥
 IsStoppedEnd inputs (Cyclic row log ring) end = end ≡ reports status.Cycle (ring_text inputs.cell.nets ring)
@@ -71,7 +72,7 @@ IsRowEnd r out (Unabutted made fault) end = end ≡ reports status.Row (fault_li
 abbrev pub RowsTo : RowInputs → List ℕ → End → Type 0
 RowsTo r out end = (answer : RowAnswer) × Rows r answer × IsRowEnd r out answer end
 
--- a log that is told fits its text
+-- a log that is reported fits its text
 abbrev pub CanBeTold : Undrawn → Type 0
 CanBeTold (why.Cyclic ring) = Unit {0}
 CanBeTold (why.Tall needed given) = Unit {0}

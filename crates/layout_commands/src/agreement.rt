@@ -1,7 +1,8 @@
 ghost use Rattle.std.specs.Prelude.{◌≡◌, ◌≢◌, ◌++◌, IfOk, OnOk};
 ghost use Rattle.lef_read.specs.declared.differ.Differ.TheVariants as differ;
 ghost use Rattle.layout_commands.specs.declared.agreement.AgreeAnswer.TheVariants as answer;
-ghost use Rattle.layout_commands.specs.Agree.{AgreesTo, IsAgreeAnswer, agree_end, agreed_text, all_ports, counts_text, differ_status};
+ghost use Rattle.layout_commands.specs.Agree.{AgreesTo, IsAgreeAnswer, agree_end, agreed_text, all_ports};
+ghost use Rattle.layout_commands.specs.Agree.{counts_text, differ_status};
 
 use crate::compared::Compared;
 use call_end::{End, Status};
@@ -10,7 +11,7 @@ use cell_report::put_differ;
 use lef_read::{Differ, LefPin, LefRectList, Macro};
 use std::alloc::Global;
 
-/// What comparing a macro with a drawing came to.
+/// What comparing a macro with a drawing resulted in.
 #[derive(Drop)]
 pub enum AgreeAnswer {
     Agreed,

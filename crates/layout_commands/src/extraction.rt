@@ -15,7 +15,7 @@ use net_extract::{BodyList, BodyNetlist, ExtractFault, Netlist, extract_bodies};
 use scmos_rules::{Deck, RuleFault, Rules, Violations, violations};
 use std::alloc::Global;
 
-/// What the extraction of a cell came to.
+/// What the extraction of a cell resulted in.
 #[derive(Drop)]
 pub enum ExtractAnswer {
     /// With the net of each device's body, where the deck has taps.

@@ -1,4 +1,4 @@
-// What `extract`, `agree` and `row` come to.
+// What `extract`, `agree` and `row` result in.
 #![tactic(auto)]
 
 mod agreement;

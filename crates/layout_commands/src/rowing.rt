@@ -105,7 +105,7 @@ fn stopped(alloc: Global, inputs: &Inputs, why: Undrawn) -> Result<End, NoMemory
     }
 }
 
-// Tells what making a row came to.
+// Reports what making a row resulted in.
 fn end_of(alloc: Global, row: &RowInputs, stem: &Stem, outcome: RowOutcome) -> Result<End, NoMemory>
     requires { ComesToRow row.now outcome }
     ensures { IfOk result (RowsTo row.now stem.now) }

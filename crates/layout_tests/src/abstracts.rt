@@ -9,7 +9,7 @@ use spice_net::{DeviceList, Direction, DirectionList, Subckt};
 use std::alloc::Global;
 use std::test::Fail;
 
-// An inverter on its least lines, but for its metal2.
+// An inverter on its least lines, without its metal2.
 const INVERTER: [(Layer, Sides); 27] = [
     (Layer::Well, [-10, 62, 51, 118]),
     (Layer::PSelect, [-2, 70, 43, 98]),

@@ -10,7 +10,7 @@ use lef_read::{Differ, Macro, agree};
 use std::alloc::Global;
 use std::test::Fail;
 
-// What a macro comes to.
+// The answer for a macro.
 #[derive(Clone, Copy)]
 enum Want<'a> {
     Agrees,
@@ -61,7 +61,7 @@ fn inverter(alloc: Global, output: &[u8]) -> Result<Shapes, Fail> {
     Ok(shapes)
 }
 
-// Whether a text comes to this beside the inverter.
+// Whether this is the answer for a text and the inverter.
 fn is_compared(alloc: Global, shapes: &Shapes, text: &[u8], want: &Want) -> bool {
     match read(alloc, text) {
         Ok(cell) => comes_to(alloc, shapes, &cell, want),
@@ -85,7 +85,7 @@ const PORT: &[u8] = b"MACRO inv PIN a PORT LAYER ";
 
 const PORT_END: &[u8] = b" 7.5 3.9 8.7 ; END END a END inv";
 
-// A net without a label goes by its number; no pin has that name.
+// A net without a label is named by its number; no pin has that name.
 const MACROS: [(&[&[u8]], Want); 6] = [
     (&[TEXT, METAL2_TEXT, END_TEXT], Want::Agrees),
     (&[TEXT, END_TEXT], Want::Bare(Layer::Metal2, [4, 36])),

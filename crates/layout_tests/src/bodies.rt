@@ -71,7 +71,7 @@ fn is_short(alloc: Global, shapes: &Shapes) -> bool {
     }
 }
 
-// The same labels, but for the last one.
+// The same labels, except the last one.
 const OTHER: [Letter; 4] = [
     (b'a', Layer::Active, 49, 5),
     (b'b', Layer::Active, 49, 105),

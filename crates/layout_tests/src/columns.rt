@@ -1,4 +1,4 @@
-// Rows of columns, told by the nets at their fingers' ends.
+// Rows of columns, given by the nets at their fingers' ends.
 ghost use Rattle.std.specs.Prelude.{◌≡◌, ◌≤◌, All, IfOk, length};
 ghost use Rattle.row_model.specs.Arrangement.{IsPlaced, IsColumn};
 ghost use Rattle.row_place.specs.Places.{IsPlacement};
@@ -68,7 +68,7 @@ pub fn placed(alloc: Global, columns: &[Column]) -> Result<Placement, NoMemory>
     place(alloc, &row)
 }
 
-// The rails stand behind the other pins.
+// The rails stand after the other pins.
 pub fn rails_at(vdd: u32) -> Pins
     requires { vdd ≤ 100 }
 {

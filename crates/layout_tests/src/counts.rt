@@ -46,7 +46,7 @@ fn add_labels(alloc: Global, labels: &mut LabelList, count: u32) -> Result<(), N
     Ok(())
 }
 
-// Whether a drawing has so many nets and no device, or is refused.
+// Whether a drawing has this number of nets and no device, or is refused.
 fn counts(alloc: Global, shapes: &Shapes, nets: usize) -> bool {
     match netlist(alloc, shapes) {
         Ok(netlist) => [netlist.names.len(), netlist.devices.len()] == [nets, 0],

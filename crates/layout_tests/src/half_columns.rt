@@ -28,7 +28,7 @@ const RIGHT: Column = Column {
     }),
 };
 
-// Pins `a y vdd gnd b`: a P finger on `a`, and behind it an N finger on `b`.
+// Pins `a y vdd gnd b`: a P finger on `a`, and after it an N finger on `b`.
 #[tactic(auto, using(crate::proofs::Halves::sound_if))]
 fn halves(alloc: Global) -> Result<Cell, NoMemory>
     ensures sound { IfOk result (λ cell. IsSoundRow cell.names cell.pins cell.row) }

@@ -216,7 +216,7 @@ fn is_twice(alloc: Global, bytes: &[u8]) -> bool {
     }
 }
 
-// The structure and its end stand once more behind the first ones.
+// The structure and its end stand once more after the first ones.
 #[test]
 fn a_second_structure_is_refused(rt: HostRuntime) -> Result<(), Fail> {
     let bytes = joined(rt.alloc(), &[&HEAD, &TAIL[..4], &HEAD[66..], &TAIL])?;

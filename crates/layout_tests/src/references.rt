@@ -10,7 +10,7 @@ const SREF: u8 = 10;
 
 const AREF: u8 = 11;
 
-// The element of `top` stands at 192, behind the head of the library, `box`, and the records in front of it.
+// The element of `top` stands at 192, after the head of the library, `box`, and the records before it.
 
 // A record of an element: its type, its data type and its data.
 pub type Record<'a> = (u8, u8, &'a [u8]);

@@ -57,7 +57,7 @@ fn breaks_without(
     Ok(are)
 }
 
-// They stand behind the 29 shapes of the inverter.
+// They stand after the 29 shapes of the inverter.
 fn has_taps(rects: &[Shape]) -> bool {
     match rects.get(29..) {
         Some(taps) => are_shapes(taps, &TAPS),

@@ -127,3 +127,5 @@ agrees_answer shapes m maps cell claims (Err e) none are fit bare = tt
 pub bare_answer : (shapes : Shapes) (m : NetMap) → Maps Plain shapes m → (cell : Macro) (claims : List Claim) (r : Result (Unit {0}) Differ) → find (lacks_net m) cell.pins ≡ None → AreClaims m (ports_of cell.pins) claims → All (Fits m) claims → IfErr r (IsBareBy shapes cell) → IfErr r (DiffersBy shapes cell)
 bare_answer shapes m maps cell claims (Ok x) none are fit is = tt
 bare_answer shapes m maps cell claims (Err d) none are fit is = bare_differs shapes m maps cell claims d none are fit is
+
+pub ruleset answer_rules = (extract_differs, lack_differs, port_differs, netlist_answer, agrees_answer, bare_answer)

@@ -111,3 +111,5 @@ layer_blocks layer rects all = all_map HasLimits IsBlock (λ (r : LefRect). r.re
 
 pub shown_blocks : (layer : Layer) (cell : Macro) (made : List Rectangle) → All HavePortsLimits cell.pins → All HasLimits cell.obstructions → made ≡ shown_on layer cell → All IsBlock made
 shown_blocks layer cell made ports obs e = subst (All IsBlock) (sym e) (All-append IsBlock (flat_map (λ (p : LefPin). on_layer layer p.ports) cell.pins) (on_layer layer cell.obstructions) (all_flat HavePortsLimits IsBlock (λ (p : LefPin). on_layer layer p.ports) cell.pins (λ p all. layer_blocks layer p.ports all) ports) (layer_blocks layer cell.obstructions obs))
+
+pub ruleset bare_rules = (none_bare, only_metal1, only_metal2, both_bare)

@@ -63,3 +63,5 @@ small word whole tail n t a b h e f most = rw (sym a, sym b, f) (sym (is_length 
   where
     few : (nm : ℕ) → nm ≤ 1000000000 → at_most nm ≡ Some nm
     few nm le = rw (le-leb nm 1000000000 le) refl
+
+pub ruleset length_rules = (no_number, no_microns, large, small)

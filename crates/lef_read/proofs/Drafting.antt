@@ -147,3 +147,5 @@ last_whole u ps (Some p) = rw (append-nil p.ports) refl
 
 pub ends_whole : (d : Draft) → d.stage ≢ Before → d.off_grid ≡ None → completed d [] ≡ Ok (record { name = d.wanted; pins = pins_with d.pins d.last; obstructions = d.obstructions })
 ends_whole d other e = at_end d other ∙ rw (e, last_whole d.unit d.pins d.last, append-nil d.obstructions) refl
+
+pub ruleset end_rules = (none_found, ends_off_grid, ends_whole)

@@ -454,3 +454,58 @@ pin_body_fails d e cell ts us n w f later after g same bad = refused_part f _ (o
 
 pub pin_body_goes : (d e : Draft) (cell : List ℕ) (ts us : List Token) (n : ℕ) (w : List ℕ) (later : Result Macro LefFault) → word_in ts ≡ Ok (word_at n w, us) → ((items : List Item) → completed d (Pin w ∷ items) ≡ completed e items) → outcome e (read (At (InPin cell w)) us) ≡ later → outcome d (read (PinName cell) ts) ≡ later
 pin_body_goes d e cell ts us n w later g same good = pin_begun d e cell ts us n w g same ∙ good
+
+-- ---- what each step of the reader uses
+
+pub ruleset rect_rules = (rect_layerless, rect_fails, other_fails, other_goes, wires_fails, wires_goes, no_memory)
+
+pub ruleset block_rules = (
+  block_fails,
+  block_ends,
+  block_layer_fails,
+  block_layer_goes,
+  block_class_fails,
+  block_class_goes,
+  block_rect_fails,
+  block_rect_goes,
+  block_other,
+)
+
+pub ruleset pin_statement_rules =
+    (pin_fails, pin_ends_fails, pin_ends_goes, pin_port_fails, pin_port_goes, pin_other_fails, pin_other_goes)
+
+pub ruleset pin_head_rules = (pin_named, pin_body_fails, pin_body_goes, no_memory)
+
+pub ruleset macro_statement_rules = (
+  macro_fails,
+  macro_ends_fails,
+  macro_ends_goes,
+  macro_size_fails,
+  macro_size_goes,
+  macro_origin_fails,
+  macro_origin_goes,
+  macro_pin_fails,
+  macro_pin_goes,
+  macro_obs_fails,
+  macro_obs_goes,
+  macro_density,
+  macro_other_fails,
+  macro_other_goes,
+)
+
+pub ruleset macro_head_rules = (macro_named, macro_body_fails, macro_body_goes)
+
+pub ruleset library_rules = (
+  library_fails,
+  library_stops,
+  library_ends_fails,
+  library_ends_goes,
+  ended_there,
+  library_header_fails,
+  library_header_goes,
+  library_units_fails,
+  library_units_goes,
+  library_macro_fails,
+  library_macro_goes,
+  library_other,
+)

@@ -99,3 +99,5 @@ fewer (token.Word n w) old new e = omega (arith, ap length e)
 fewer (token.Quoted n) old new e = omega (arith, ap length e)
 fewer (token.Semicolon n) old new e = omega (arith, ap length e)
 fewer token.Torn old new e = omega (arith, ap length e)
+
+pub ruleset token_rules = (semicolon_first, quote_first, word_first)

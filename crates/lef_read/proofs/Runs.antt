@@ -136,3 +136,5 @@ misfit_is m claims c p NoMemory first at is = tt
 misfit_is m claims c p (Extract f) first at is = absurd is
 misfit_is m claims c p (NoLabel n) first at is = absurd is
 misfit_is m claims c p (BareOff l x y) first at is = absurd is
+
+pub ruleset misfit_rules = (front_fails, second_fails, not_empty)

@@ -72,3 +72,5 @@ none_left false n = refl
 pub nothing_left : (bytes : List ℕ) (at n : ℕ) (c : Bool) (all : List Token) → length bytes ≤ at → (scan (between_tokens c) n (drop at bytes)).tokens ≡ all → tokens_from n [] ≡ all
 nothing_left bytes at n c all past f =
     sym (none_left c n) ∙ (sym (ap (λ (bs : List ℕ). (scan (between_tokens c) n bs).tokens) (drop_of_length-le bytes {i = at} past)) ∙ f)
+
+pub ruleset skip_rules = (passed_over, token_there, token_begins, nothing_left)

@@ -15,9 +15,10 @@ use Rattle.lef_read.specs.declared.cell.LefPin.{LefPin}
 use Rattle.lef_read.specs.declared.cell.Macro.{Macro}
 use Rattle.lef_read.specs.Agreement.{IsOnNet, IsOnItsNet, HasLabel, Port, ports_of, shown_on}
 use Rattle.lef_read.specs.declared.differ.Differ.{Differ}
-use Rattle.lef_read.specs.declared.differ.Differ.TheVariants.{Extract, NoLabel, Port as PortOff, Bare as BareMetal, NoMemory}
+use Rattle.lef_read.specs.declared.differ.Differ.TheVariants.{Extract, NoLabel, NoMemory}
+use Rattle.lef_read.specs.declared.differ.Differ.TheVariants.{Port as PortOff, Bare as BareMetal}
 
--- Extraction refuses the drawing for want of memory alone.
+-- Extraction refuses the drawing only where memory runs out.
 abbrev pub HasNetlist : Shapes → Type 0
 HasNetlist shapes = (f : ExtractFault) → ExtractRefused Plain shapes f → f ≡ fault.NoMemory
 

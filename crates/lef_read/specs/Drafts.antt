@@ -1,10 +1,11 @@
--- The reader's own words: a macro that is being read, and what it comes to with the items that are still to come.
+-- The reader's own words: a macro that is being read, and what it is with the items that follow.
 use Rattle.std.specs.Prelude.{ℕ, ◌≡◌, List, [], ◌∷◌, ◌++◌, Option, Some, None, Result, Ok, Err}
 use Rattle.std.specs.List.{find, filter_map}
 use Rattle.std.specs.Option.{option_map}
 use Rattle.cell_num.specs.Steps.{◌>>=◌, or_fault}
 use Rattle.lef_read.specs.Reading.{Item, Block, OfPin, OfMacro}
-use Rattle.lef_read.specs.Macros.{rect_in, up_to_next, ports_in, pins_in, obstructions_in, boxes_in, is_off_grid, items_of, on_grid}
+use Rattle.lef_read.specs.Macros.{rect_in, up_to_next, ports_in, pins_in, obstructions_in}
+use Rattle.lef_read.specs.Macros.{boxes_in, is_off_grid, items_of, on_grid}
 use Rattle.lef_read.specs.declared.block_kind.Block.{Block as BlockIn}
 use Rattle.lef_read.specs.declared.block_kind.Block.TheVariants as block
 use Rattle.lef_read.specs.declared.stage.Stage.{Stage}
@@ -52,7 +53,7 @@ closed_at Before d items = or_fault (items_of d.wanted items) NoMacro >>= λ own
 closed_at Inside d items = closed d.off_grid d (up_to_next items)
 closed_at Behind d items = closed d.off_grid d []
 
--- what a draft comes to with the items to come
+-- what a draft results in with the items that follow
 unfoldable pub completed : Draft → List Item → Result Macro LefFault
 completed d items = closed_at d.stage d items
 

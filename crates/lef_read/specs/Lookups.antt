@@ -1,5 +1,6 @@
--- Pins, ports and metal as they are looked up in the nets of a drawing; each answer may be want of memory instead.
-use Rattle.std.specs.Prelude.{◌≡◌, ◌<◌, ◌==◌, ◌||◌, ◌&&◌, int_le, int_lt, if◌then◌else◌, ℕ, ℤ, Bool, List, [], get_or, length, map, Option, Some, None, is_some, not}
+-- Pins, ports and metal as they are looked up in the nets of a drawing; each answer may be out of memory instead.
+use Rattle.std.specs.Prelude.{◌≡◌, ◌<◌, ◌==◌, ◌||◌, ◌&&◌, int_le, int_lt, if◌then◌else◌, ℕ, ℤ}
+use Rattle.std.specs.Prelude.{Bool, List, [], get_or, length, map, Option, Some, None, is_some, not}
 use Rattle.std.specs.List.{All}
 use Rattle.box_geom.specs.Layers.{same_layer}
 use Rattle.box_geom.specs.Rectangle.{IsRectangle, Holds}
@@ -39,13 +40,13 @@ IsLackOf None d = ⊥
 
 -- ---- ports with the nets of their pins
 
--- the net of the pin, which goes by the pin's name
+-- the net of the pin, which has the pin's name
 pub record IsNetOf (m : NetMap) (pin : LefPin) (n : ℕ) : Type 0 where
   pub within : n < length m.names
   pub net : net_named m pin.name ≡ Some n
   pub name : get_or m.names n [] ≡ pin.name
 
--- where the pin has a net, this goes by the pin's name
+-- where the pin has a net, this net has the pin's name
 abbrev pub GoesByName : NetMap → LefPin → Type 0
 GoesByName m pin = (n : ℕ) → net_named m pin.name ≡ Some n → n < length m.names → IsNetOf m pin n
 

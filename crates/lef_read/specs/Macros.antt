@@ -1,5 +1,6 @@
 -- The macro of a name in a LEF library, in grid units.
-use Rattle.std.specs.Prelude.{ℕ, ◌==◌, Bool, ℤ, pos, unsigned_abs, List, [], ◌∷◌, Option, Some, None, Result, Ok, Err, bytes_eq, is_some, not, if◌then◌else◌}
+use Rattle.std.specs.Prelude.{ℕ, ◌==◌, Bool, ℤ, pos, unsigned_abs, List, [], ◌∷◌, Option, Some, None}
+use Rattle.std.specs.Prelude.{Result, Ok, Err, bytes_eq, is_some, not, if◌then◌else◌}
 use Rattle.std.specs.Int.{int_div_euclid, int_rem_euclid}
 use Rattle.std.specs.List.{find, filter_map}
 use Rattle.std.specs.Option.{option_map}

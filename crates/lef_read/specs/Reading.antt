@@ -1,5 +1,6 @@
--- The statements of a LEF library, token by token: what may stand at each place, and what it tells.
-use Rattle.std.specs.Prelude.{ℕ, ◌&&◌, ◌==◌, Bool, ℤ, int_lt, unsigned_abs, List, [], ◌∷◌, ◌++◌, codes, Option, Some, None, Result, Ok, Err, bytes_eq, if◌then◌else◌}
+-- The statements of a LEF library, token by token: what may stand at each place, and what it gives.
+use Rattle.std.specs.Prelude.{ℕ, ◌&&◌, ◌==◌, Bool, ℤ, int_lt, unsigned_abs, List, [], ◌∷◌, ◌++◌, codes}
+use Rattle.std.specs.Prelude.{Option, Some, None, Result, Ok, Err, bytes_eq, if◌then◌else◌}
 use Rattle.box_geom.specs.Rectangle.{Rectangle}
 use Rattle.box_geom.specs.declared.layer.Layer.{Layer}
 use Rattle.box_geom.specs.declared.layer.Layer.TheVariants.{Metal1, Metal2}
@@ -19,7 +20,7 @@ pub record Box : Type 0 where
   pub layer : Layer
   pub sides : Rectangle
 
--- what a library tells of its macros, in order
+-- what a library says of its macros, in order
 pub data Item : Type 0 where
   Begins : (name : List ℕ) → Item
   Pin : (name : List ℕ) → Item
@@ -44,10 +45,10 @@ pub data Place : Type 0 where
   Passing : (between : Between) → Place
   -- `;` alone
   Closing : (between : Between) → Place
-  -- UNITS up to END UNITS, and behind an END in it
+  -- UNITS up to END UNITS, and after an END in it
   Units : Place
   UnitsEnd : Place
-  -- behind END in a library
+  -- after END in a library
   LibraryEnd : Place
   MacroName : Place
   MacroEnd : (cell : List ℕ) → Place
@@ -65,10 +66,10 @@ pub data Place : Type 0 where
   Y1 : (block : Block) (layer : Current) (line : ℕ) (x1 : ℤ) → Place
   X2 : (block : Block) (layer : Current) (line : ℕ) (x1 y1 : ℤ) → Place
   Y2 : (block : Block) (layer : Current) (line : ℕ) (x1 y1 x2 : ℤ) → Place
-  -- behind END LIBRARY, where nothing is looked at
+  -- after END LIBRARY, where nothing is looked at
   Ended : Place
 
--- what a token tells, and the place behind it
+-- what a token gives, and the place after it
 pub record Told : Type 0 where
   pub items : List Item
   pub next : Place

@@ -1,8 +1,10 @@
 -- The reader's own words: what single steps take from the tokens to come.
-use Rattle.std.specs.Prelude.{ℕ, suc, ◌≡◌, ◌==◌, ◌||◌, not, Bool, true, false, ℤ, unsigned_abs, List, [], ◌∷◌, codes, Option, Some, None, Result, Ok, Err, bytes_eq, if◌then◌else◌}
+use Rattle.std.specs.Prelude.{ℕ, suc, ◌≡◌, ◌==◌, ◌||◌, not, Bool, true, false, ℤ, unsigned_abs}
+use Rattle.std.specs.Prelude.{List, [], ◌∷◌, codes, Option, Some, None, Result, Ok, Err, bytes_eq, if◌then◌else◌}
 use Rattle.cell_num.specs.Steps.{◌>>=◌, require, or_fault}
 use Rattle.box_geom.specs.Rectangle.{Rectangle}
-use Rattle.lef_read.specs.Tokens.{Token, Word, Quoted, Semicolon, Torn, Inside, Nothing, AComment, is_white, ends_word, line_behind}
+use Rattle.lef_read.specs.Tokens.{Token, Word, Quoted, Semicolon, Torn, Inside}
+use Rattle.lef_read.specs.Tokens.{Nothing, AComment, is_white, ends_word, line_behind}
 use Rattle.lef_read.specs.Numbers.{nanometres_of}
 use Rattle.lef_read.specs.Keywords.{is}
 use Rattle.lef_read.specs.Reading.{ascending, layer_named}
@@ -12,7 +14,7 @@ use Rattle.lef_read.specs.declared.token.Token.TheVariants as token
 use Rattle.lef_read.specs.declared.fault.LefFault.{LefFault}
 use Rattle.lef_read.specs.declared.fault.LefFault.TheVariants.{Statement, Number, Cut}
 
--- no white space and no comment stands in front
+-- no white space and no comment stands at the start
 abbrev pub begins_token : List ℕ → Bool
 begins_token [] = true
 begins_token (b ∷ bs) = not (is_white b || b == 35)
@@ -29,7 +31,7 @@ pub record LinedWord : Type 0 where
   pub line : ℕ
   pub text : List ℕ
 
--- what a step takes, and the tokens behind it
+-- what a step takes, and the tokens after it
 abbrev pub Taken : Type 0 → Type 0
 Taken X = Result (X × List Token) LefFault
 
@@ -84,7 +86,7 @@ units_passed end (Quoted n ∷ ts) = units_passed false ts
 units_passed end (Semicolon n ∷ ts) = units_passed false ts
 units_passed end (Torn ∷ ts) = Err Cut
 
--- ---- whole statements behind their first word
+-- ---- whole statements after their first word
 
 abbrev pub size_in : List Token → Taken (Unit {0})
 size_in ts =
@@ -104,7 +106,7 @@ origin_in line ts =
 abbrev pub ascending_sides : ℕ → Rectangle → List Token → Taken Rectangle
 ascending_sides line sides ts = require (ascending sides) (Number line) >>= λ _. Ok (sides, ts)
 
--- the sides of a rectangle whose word RECT stands on a line
+-- the sides of a rectangle whose word RECT is on a line
 abbrev pub rect_of : ℕ → List Token → Taken Rectangle
 rect_of line ts =
     number_in ts
@@ -127,7 +129,7 @@ abbrev pub until_quote : List ℕ → ℕ
 until_quote [] = 0
 until_quote (b ∷ bs) = if b == 34 then 0 else suc (until_quote bs)
 
--- the line behind a text
+-- the line after a text
 abbrev pub line_at : ℕ → List ℕ → ℕ
 line_at n [] = n
 line_at n (b ∷ bs) = line_at (line_behind n b) bs

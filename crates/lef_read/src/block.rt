@@ -39,8 +39,8 @@ fn layer(cursor: &mut Cursor<'_>) -> Result<Current, LefFault>
     Ok(layer_named(word.text))
 }
 
-// A rectangle whose word RECT stands on the line.
-#[tactic(auto, using(crate::proofs::Flows::rect_layerless, crate::proofs::Flows::rect_fails, crate::proofs::Flows::other_fails, crate::proofs::Flows::other_goes, crate::proofs::Flows::wires_fails, crate::proofs::Flows::wires_goes, crate::proofs::Flows::no_memory))]
+// A rectangle after its word RECT, which is on the line.
+#[tactic(auto, using(crate::proofs::Flows::rect_rules))]
 fn rect(
     cursor: &mut Cursor<'_>,
     draft: &mut Draft,
@@ -70,7 +70,7 @@ fn rect(
 }
 
 /// Takes the statements of a block up to and with its END.
-#[tactic(auto, using(crate::proofs::Flows::block_fails, crate::proofs::Flows::block_ends, crate::proofs::Flows::block_layer_fails, crate::proofs::Flows::block_layer_goes, crate::proofs::Flows::block_class_fails, crate::proofs::Flows::block_class_goes, crate::proofs::Flows::block_rect_fails, crate::proofs::Flows::block_rect_goes, crate::proofs::Flows::block_other))]
+#[tactic(auto, using(crate::proofs::Flows::block_rules))]
 pub fn block(cursor: &mut Cursor<'_>, draft: &mut Draft, block: &Block<'_>) -> Result<(), LefFault>
     ensures less { OnOk result (length cursor.new ≤ length cursor.old) }
     ensures keeps { Keeps result

@@ -46,7 +46,7 @@ fn check_labels(alloc: Global, map: &NetMap, pins: &[LefPin]) -> Result<(), Diff
 /// net of that label on the port's layer, and each other cell of metal1 or metal2 is in an obstruction of
 /// its layer. The answer is the first difference, in the order of `Differ`; ports are looked at in the
 /// order of the text, cells by y, then x, then layer.
-#[tactic(auto, using(crate::proofs::Answers::extract_differs, crate::proofs::Answers::lack_differs, crate::proofs::Answers::port_differs, crate::proofs::Answers::netlist_answer, crate::proofs::Answers::agrees_answer, crate::proofs::Answers::bare_answer, crate::proofs::Names::goes_by_name))]
+#[tactic(auto, using(crate::proofs::Answers::answer_rules, crate::proofs::Names::goes_by_name))]
 pub fn agree(alloc: Global, shapes: &Shapes, cell: &Macro) -> Result<(), Differ>
     ensures netlist { OnOk result (HasNetlist shapes.now) }
     ensures agrees { OnOk result (Agrees shapes.now cell.now) }

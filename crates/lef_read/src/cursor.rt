@@ -1,6 +1,8 @@
-ghost use Rattle.std.specs.Prelude.{◌≡◌, ◌≢◌, ◌≤◌, ◌<◌, ◌+◌, [], true, pos, neg_ℤ, ◌≤ℤ◌, Some, Ok, Err, length, IfOk, IfErr, IfSome, IfNone, OnOk};
+ghost use Rattle.std.specs.Prelude.{◌≡◌, ◌≢◌, ◌≤◌, ◌<◌, ◌+◌, [], true, pos, neg_ℤ, ◌≤ℤ◌, Some, Ok, Err, length};
+ghost use Rattle.std.specs.Prelude.{IfOk, IfErr, IfSome, IfNone, OnOk};
 ghost use Rattle.lef_read.specs.Tokens.{AText, quoted, scan, tokens_from};
-ghost use Rattle.lef_read.specs.Statements.{Steps, Takes, begins_token, keyword_in, named_in, number_in, semicolon_in, word_in};
+ghost use Rattle.lef_read.specs.Statements.{Steps, Takes, begins_token, keyword_in};
+ghost use Rattle.lef_read.specs.Statements.{named_in, number_in, semicolon_in, word_in};
 
 use crate::fault::LefFault;
 use crate::keyword::is;
@@ -27,7 +29,7 @@ impl<'a> Model for Cursor<'a> {
     ghost invariant = { λ c. c.line + length c.rest.now ≤ 2000000000 };
 }
 
-// A token, what stands behind it, and the line there.
+// A token, what follows it, and the line there.
 #[derive(Clone, Copy, Debug)]
 struct Lexed<'a> {
     token: Token<'a>,
@@ -35,7 +37,7 @@ struct Lexed<'a> {
     line: u32,
 }
 
-// A text behind its first quote, which stands on the line.
+// A text after its first quote, which is on the line.
 #[tactic(auto, using(crate::proofs::Lexing::text_torn, crate::proofs::Lexing::text_quoted))]
 fn text(bytes: &[u8], line: u32) -> Lexed<'_>
     requires { line + length bytes.now ≤ 2000000000 }
@@ -59,7 +61,7 @@ fn text(bytes: &[u8], line: u32) -> Lexed<'_>
 }
 
 // The token that begins a text.
-#[tactic(auto, using(crate::proofs::Lexing::semicolon_first, crate::proofs::Lexing::quote_first, crate::proofs::Lexing::word_first))]
+#[tactic(auto, using(crate::proofs::Lexing::token_rules))]
 fn first_token(bytes: &[u8], line: u32) -> Option<Lexed<'_>>
     requires begins { begins_token bytes.now ≡ true }
     requires few { line + length bytes.now ≤ 2000000000 }
@@ -94,6 +96,7 @@ fn first_token(bytes: &[u8], line: u32) -> Option<Lexed<'_>>
 }
 
 impl<'a> Cursor<'a> {
+    /// A whole text, from its first byte on line 1.
     pub fn new(bytes: &'a [u8]) -> Cursor<'a>
         requires { length bytes.now ≤ 1073741824 }
         ensures { result ≡ tokens_from 1 bytes.now }
@@ -129,7 +132,8 @@ impl<'a> Cursor<'a> {
     /// Takes a word.
     pub fn word(&mut self) -> Result<Word<'a>, LefFault>
         ensures less { OnOk result (length self.new < length self.old) }
-        ensures ok { IfOk result (λ w. word_in self.old ≡ Ok (record { line = w.line; text = w.text.now }, self.new)) }
+        ensures ok { IfOk result (λ w.
+            word_in self.old ≡ Ok (record { line = w.line; text = w.text.now }, self.new)) }
         ensures err { IfErr result (λ f. word_in self.old ≡ Err f) }
     {
         match self.next() {
@@ -179,6 +183,7 @@ impl<'a> Cursor<'a> {
         }
     }
 
+    /// Takes a `;`.
     pub fn semicolon(&mut self) -> Result<(), LefFault>
         ensures steps { Steps result (semicolon_in self.old) self.new }
         ensures less { OnOk result (length self.new ≤ length self.old) }

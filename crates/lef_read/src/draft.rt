@@ -140,7 +140,7 @@ impl Draft {
         }
     }
 
-    /// A rectangle of a block whose word RECT stands on the line.
+    /// A rectangle of a block; its word RECT is on the line.
     #[tactic(auto, using(crate::proofs::Drafting::rect_elsewhere, crate::proofs::Drafting::rect_behind_fault))]
     pub fn rect(
         &mut self,
@@ -163,8 +163,8 @@ impl Draft {
         }
     }
 
-    /// The macro that was wanted, behind the last item of the library.
-    #[tactic(auto, using(crate::proofs::Drafting::none_found, crate::proofs::Drafting::ends_off_grid, crate::proofs::Drafting::ends_whole))]
+    /// The macro that was wanted, after the last item of the library.
+    #[tactic(auto, using(crate::proofs::Drafting::end_rules))]
     pub fn finish(self) -> Result<Macro, LefFault>
         ensures read { IfOk result (λ m. completed self [] ≡ Ok m) }
         ensures refused { IfErr result (λ f. f ≢ fault.NoMemory → completed self [] ≡ Err f) }

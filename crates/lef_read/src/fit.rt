@@ -1,7 +1,7 @@
 // Whether ports are on the nets of their pins: those of one net and layer are looked at together.
-ghost use Rattle.std.specs.Prelude.{◌≡◌, ◌≤◌, ◌↔◌, ◌∷◌, ◌&&◌, ◌==◌, length, map, IfErr, IfOk, OnOk, IfSome, IsNone, IsTrue, IsPermutation};
+ghost use Rattle.std.specs.Prelude.{◌≡◌, ◌≤◌, ◌↔◌, ◌∷◌, ◌&&◌, ◌==◌, length, map, IfErr};
+ghost use Rattle.std.specs.Prelude.{IfOk, OnOk, IfSome, IsNone, IsTrue, IsPermutation};
 ghost use Rattle.std.specs.List.{All, prefix_len};
-ghost use Rattle.box_geom.specs.Layers.{same_layer};
 ghost use Rattle.box_geom.specs.Regions.{IsBlock, IsFirst};
 ghost use Rattle.lef_read.specs.Differences.{IsFirstNot};
 ghost use Rattle.lef_read.specs.declared.claim.Claim.{Claim as ClaimOf};
@@ -93,7 +93,7 @@ fn all_fit(alloc: Global, map: &NetMap, claims: &[Claim]) -> Result<bool, NoMemo
 
 // The first of claims that are not all on their nets. A half is looked at as a whole, so all halves together take no
 // more than the claims twice.
-#[tactic(auto, using(crate::proofs::Runs::front_fails, crate::proofs::Runs::second_fails, crate::proofs::Runs::not_empty))]
+#[tactic(auto, using(crate::proofs::Runs::misfit_rules))]
 fn first_misfit<'a>(alloc: Global, map: &NetMap, claims: &'a [Claim]) -> Result<&'a Claim, NoMemory>
     requires blocks { All HasBlock claims.now }
     requires some { All (Fits map.now) claims.now → ⊥ }

@@ -1,5 +1,4 @@
 ghost use Rattle.std.specs.Prelude.{◌≡◌, ◌≤◌, ℤ, pos, neg_ℤ, ◌≤ℤ◌, IfSome};
-ghost use Rattle.std.specs.Option.{option_map};
 ghost use Rattle.lef_read.specs.Macros.{units_in, sides_in};
 
 use crate::sides::Sides;

@@ -1,4 +1,4 @@
-ghost use Rattle.std.specs.Prelude.{◌≡◌, codes};
+ghost use Rattle.std.specs.Prelude.{◌≡◌};
 ghost use Rattle.lef_read.specs.Keywords.{is, is_header, block_word, keyword_of};
 
 /// The keywords of LEF that the reading knows, which stand in either case.

@@ -14,7 +14,7 @@ use crate::statements::{origin, pass, size, units};
 use std::alloc::Global;
 
 // The statements of a macro up to and with its END.
-#[tactic(auto, using(crate::proofs::Flows::macro_fails, crate::proofs::Flows::macro_ends_fails, crate::proofs::Flows::macro_ends_goes, crate::proofs::Flows::macro_size_fails, crate::proofs::Flows::macro_size_goes, crate::proofs::Flows::macro_origin_fails, crate::proofs::Flows::macro_origin_goes, crate::proofs::Flows::macro_pin_fails, crate::proofs::Flows::macro_pin_goes, crate::proofs::Flows::macro_obs_fails, crate::proofs::Flows::macro_obs_goes, crate::proofs::Flows::macro_density, crate::proofs::Flows::macro_other_fails, crate::proofs::Flows::macro_other_goes))]
+#[tactic(auto, using(crate::proofs::Flows::macro_statement_rules))]
 fn statements(
     alloc: Global,
     cursor: &mut Cursor<'_>,
@@ -42,8 +42,8 @@ fn statements(
     }
 }
 
-// A macro behind its word MACRO.
-#[tactic(auto, using(crate::proofs::Flows::macro_named, crate::proofs::Flows::macro_body_fails, crate::proofs::Flows::macro_body_goes))]
+// A macro after its word MACRO.
+#[tactic(auto, using(crate::proofs::Flows::macro_head_rules))]
 fn cell(alloc: Global, cursor: &mut Cursor<'_>, draft: &mut Draft) -> Result<(), LefFault>
     ensures less { OnOk result (length cursor.new ≤ length cursor.old) }
     ensures keeps { Keeps result (outcome draft.old (read MacroName cursor.old))
@@ -56,7 +56,7 @@ fn cell(alloc: Global, cursor: &mut Cursor<'_>, draft: &mut Draft) -> Result<(),
 }
 
 /// Takes all statements of a library, to its end.
-#[tactic(auto, using(crate::proofs::Flows::library_fails, crate::proofs::Flows::library_stops, crate::proofs::Flows::library_ends_fails, crate::proofs::Flows::library_ends_goes, crate::proofs::Flows::ended_there, crate::proofs::Flows::library_header_fails, crate::proofs::Flows::library_header_goes, crate::proofs::Flows::library_units_fails, crate::proofs::Flows::library_units_goes, crate::proofs::Flows::library_macro_fails, crate::proofs::Flows::library_macro_goes, crate::proofs::Flows::library_other))]
+#[tactic(auto, using(crate::proofs::Flows::library_rules))]
 pub fn library(alloc: Global, cursor: &mut Cursor<'_>, draft: &mut Draft) -> Result<(), LefFault>
     ensures less { OnOk result (length cursor.new ≤ length cursor.old) }
     ensures keeps { Keeps result (outcome draft.old (read (At InLibrary) cursor.old)) (outcome draft.new (Ok [])) }

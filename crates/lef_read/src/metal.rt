@@ -1,7 +1,7 @@
 // The metal of a drawing that a macro does not show.
-ghost use Rattle.std.specs.Prelude.{◌≡◌, ◌++◌, ◌⊎◌, ℤ, map, IfOk, IfErr, IfSome, IsNone, OnOk};
-ghost use Rattle.std.specs.List.{All, filter, flat_map};
-ghost use Rattle.box_geom.specs.Layers.{same_layer, rects_on};
+ghost use Rattle.std.specs.Prelude.{◌≡◌, ◌++◌, IfOk, IfErr, IfSome, IsNone, OnOk};
+ghost use Rattle.std.specs.List.{All, flat_map};
+ghost use Rattle.box_geom.specs.Layers.{rects_on};
 ghost use Rattle.box_geom.specs.Regions.{IsBlock, IsEmpty, IsFirst};
 ghost use Rattle.lef_read.specs.declared.cell.LefPin.{LefPin as LefPinOf};
 ghost use Rattle.lef_read.specs.Agreement.{on_layer, shown_on};
@@ -132,7 +132,7 @@ fn earlier(one: &Place, two: &Place) -> Differ
 }
 
 /// Refuses the first cell of metal, by y, x and layer, that lies in no port and no obstruction.
-#[tactic(auto, using(crate::proofs::BareMetal::none_bare, crate::proofs::BareMetal::only_metal1, crate::proofs::BareMetal::only_metal2, crate::proofs::BareMetal::both_bare))]
+#[tactic(auto, using(crate::proofs::BareMetal::bare_rules))]
 pub(crate) fn check_metal(alloc: Global, shapes: &Shapes, cell: &Macro) -> Result<(), Differ>
     ensures none { OnOk result (IsEmpty (IsBareMetal shapes.now cell.now)) }
     ensures bare { IfErr result (IsBareBy shapes.now cell.now) }

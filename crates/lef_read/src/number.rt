@@ -1,7 +1,8 @@
 ghost use Rattle.std.specs.Prelude.{◌≡◌, ◌≤◌, ◌*◌, ◌<◌, IfSome, IfNone, ℤ, pos, neg_ℤ, ◌≤ℤ◌};
 ghost use Rattle.std.specs.List.{list_all};
 ghost use Rattle.std.specs.Char.{is_ascii_digit};
-ghost use Rattle.lef_read.specs.Numbers.{before_point, behind_point, digit_at, is_number, is_zero, length_of, nanometres_of, thousandths, zeros_behind, whole_after};
+ghost use Rattle.lef_read.specs.Numbers.{before_point, behind_point, digit_at, is_number, is_zero};
+ghost use Rattle.lef_read.specs.Numbers.{length_of, nanometres_of, thousandths, zeros_behind, whole_after};
 
 /// The most microns of a number.
 const MOST_MICRONS: u32 = 1_000_000;
@@ -40,7 +41,7 @@ fn are_zeros(text: &[u8]) -> bool
     text.iter().all(|b| *b == b'0')
 }
 
-// Whether zeros alone stand behind the third decimal.
+// Whether zeros alone follow the third decimal.
 fn few_decimals(tail: &[u8]) -> bool
     ensures { result ≡ zeros_behind tail.now }
 {
@@ -91,7 +92,7 @@ fn thousandths(tail: &[u8]) -> u32
 }
 
 // A length without a sign, in nanometres.
-#[tactic(auto, using(crate::proofs::Digits::no_number, crate::proofs::Digits::no_microns, crate::proofs::Digits::large, crate::proofs::Digits::small))]
+#[tactic(auto, using(crate::proofs::Digits::length_rules))]
 fn length(word: &[u8]) -> Option<u32>
     ensures is { result ≡ length_of word.now }
     ensures most { IfSome result (λ nm. nm ≤ 1000000000) }
@@ -109,8 +110,8 @@ fn length(word: &[u8]) -> Option<u32>
     }
 }
 
-/// The nanometres of a number of microns: digits with at most one point, at most three decimals but for
-/// zeros, behind a `-` or without it, and at most 1,000,000 microns.
+/// The nanometres of a number of microns: digits with at most one point, after a `-` or without it, zeros
+/// alone after the third decimal, and at most 1,000,000 microns.
 #[tactic(auto, unfolding(crate::specs::Numbers::nanometres_of))]
 pub fn nanometres(word: &[u8]) -> Option<i32>
     ensures is { result ≡ nanometres_of word.now }

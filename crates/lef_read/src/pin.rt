@@ -13,7 +13,7 @@ use crate::statements::pass;
 use std::alloc::Global;
 
 // The statements of a pin up to and with its END.
-#[tactic(auto, using(crate::proofs::Flows::pin_fails, crate::proofs::Flows::pin_ends_fails, crate::proofs::Flows::pin_ends_goes, crate::proofs::Flows::pin_port_fails, crate::proofs::Flows::pin_port_goes, crate::proofs::Flows::pin_other_fails, crate::proofs::Flows::pin_other_goes))]
+#[tactic(auto, using(crate::proofs::Flows::pin_statement_rules))]
 fn statements(
     alloc: Global,
     cursor: &mut Cursor<'_>,
@@ -38,8 +38,8 @@ fn statements(
     }
 }
 
-/// Takes a pin behind its word PIN.
-#[tactic(auto, using(crate::proofs::Flows::pin_named, crate::proofs::Flows::pin_body_fails, crate::proofs::Flows::pin_body_goes, crate::proofs::Flows::no_memory))]
+/// Takes a pin after its word PIN.
+#[tactic(auto, using(crate::proofs::Flows::pin_head_rules))]
 pub fn pin(
     alloc: Global,
     cursor: &mut Cursor<'_>,

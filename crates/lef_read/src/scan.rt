@@ -21,7 +21,7 @@ fn line_behind(line: u32, byte: u8) -> u32
     if byte == b'\n' { line + 1 } else { line }
 }
 
-// Whether a comment goes on behind a byte that stands between two tokens; None where a token begins.
+// Whether a comment goes on after a byte between two tokens; None where a token begins.
 fn passes(comment: bool, byte: u8) -> Option<bool>
     ensures { result ≡ passes comment byte }
 {
@@ -37,8 +37,8 @@ fn passes(comment: bool, byte: u8) -> Option<bool>
     None
 }
 
-/// What stands behind the white space and the comments in front, and its line.
-#[tactic(auto, using(crate::proofs::Skipping::passed_over, crate::proofs::Skipping::token_there, crate::proofs::Skipping::token_begins, crate::proofs::Skipping::nothing_left))]
+/// The bytes after leading white space and comments, and their line.
+#[tactic(auto, using(crate::proofs::Skipping::skip_rules))]
 pub fn skip(bytes: &[u8], line: u32) -> (&[u8], u32)
     requires { line + length bytes.now ≤ 2000000000 }
     ensures tokens { tokens_from result.1 result.0.now ≡ tokens_from line bytes.now }
@@ -57,7 +57,7 @@ pub fn skip(bytes: &[u8], line: u32) -> (&[u8], u32)
     (&[], number)
 }
 
-/// The bytes of the word in front.
+/// How many bytes the word at the start has.
 pub fn word_length(bytes: &[u8]) -> usize
     ensures is { result ≡ word_length bytes.now }
     ensures within { result ≤ length bytes.now }
@@ -70,7 +70,7 @@ pub fn word_length(bytes: &[u8]) -> usize
     bytes.len()
 }
 
-/// The bytes before the first quote, or all.
+/// How many bytes stand before the first quote, or all of them.
 pub fn until_quote(bytes: &[u8]) -> usize
     ensures is { result ≡ until_quote bytes.now }
     ensures within { result ≤ length bytes.now }
@@ -83,7 +83,7 @@ pub fn until_quote(bytes: &[u8]) -> usize
     bytes.len()
 }
 
-/// The line behind a text that begins on a line.
+/// The line after a text that begins on a line.
 pub fn line_at(line: u32, bytes: &[u8]) -> u32
     requires { line + length bytes.now ≤ 2000000000 }
     ensures is { result ≡ line_at line bytes.now }

@@ -1,7 +1,7 @@
 ghost use Rattle.std.specs.Prelude.{◌≡◌, bytes_eq};
 ghost use Rattle.lef_read.specs.Stages.{next_stage};
 
-/// Where a text stands: before the first macro of the wanted name, in it, or behind it.
+/// How far a text is read: before the first macro of the wanted name, in it, or after it.
 #[derive(Clone, Copy, Debug, PartialEq, Eq)]
 pub enum Stage {
     Before,
@@ -9,7 +9,7 @@ pub enum Stage {
     Behind,
 }
 
-/// Where a text stands behind the head of a macro of a name.
+/// How far a text is read after the head of a macro of a name.
 pub fn next_stage(stage: Stage, name: &[u8], wanted: &[u8]) -> Stage
     ensures { result ≡ next_stage stage (bytes_eq name.now wanted.now) }
 {

@@ -1,4 +1,4 @@
-// Whole statements behind their first word.
+// Whole statements after their first word.
 ghost use Rattle.std.specs.Prelude.{◌≤◌, false, length, OnOk};
 ghost use Rattle.lef_read.specs.Statements.{Steps, origin_in, passed, rect_of, size_in, units_passed};
 
@@ -56,7 +56,7 @@ pub fn size(cursor: &mut Cursor<'_>) -> Result<(), LefFault>
     Ok(())
 }
 
-/// ORIGIN 0 0 `;`, whose first word stands on the line.
+/// ORIGIN 0 0 `;`, whose first word is on the line.
 pub fn origin(cursor: &mut Cursor<'_>, line: u32) -> Result<(), LefFault>
     ensures steps { Steps result (origin_in line cursor.old) cursor.new }
     ensures less { OnOk result (length cursor.new ≤ length cursor.old) }
@@ -73,7 +73,7 @@ pub fn origin(cursor: &mut Cursor<'_>, line: u32) -> Result<(), LefFault>
     Ok(())
 }
 
-/// The sides of a rectangle whose word RECT stands on the line.
+/// The sides of a rectangle after its word RECT, which is on the line.
 #[tactic(auto, using(crate::proofs::Numbered::flat, crate::proofs::Numbered::low, crate::proofs::Numbered::whole))]
 pub fn sides(cursor: &mut Cursor<'_>, line: u32) -> Result<Sides, LefFault>
     ensures steps { Steps result (rect_of line cursor.old) cursor.new }

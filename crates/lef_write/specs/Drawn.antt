@@ -1,5 +1,6 @@
 -- What holds of the ports and of the size of a drawn cell.
-use Rattle.std.specs.Prelude.{ℕ, ◌≡◌, ◌==◌, ℤ, pos, ◌≤ℤ◌, ◌+ℤ◌, ◌-ℤ◌, List, [], ◌∷◌, ◌++◌, filter, filter_map, map, slice_get, get_or, IsPermutation}
+use Rattle.std.specs.Prelude.{ℕ, ◌≡◌, ◌==◌, ℤ, pos, ◌≤ℤ◌, ◌+ℤ◌, ◌-ℤ◌}
+use Rattle.std.specs.Prelude.{List, [], ◌∷◌, ◌++◌, filter, filter_map, map, slice_get, get_or, IsPermutation}
 use Rattle.std.specs.List.{All, Any, Contains}
 use Rattle.box_geom.specs.Layers.{same_layer}
 use Rattle.box_geom.specs.Rectangle.{Holds}
@@ -84,7 +85,8 @@ IsOfNet deck word shapes s = (x y : ℤ) → Holds s.rect x y → IsNamed deck s
 
 -- the pin's ports are of the net that its name names
 abbrev pub AreOfNet : Deck → List (List ℕ) → List Port → Drawing → ℕ → Type 0
-AreOfNet deck names ports d n = All (IsOfNet deck (get_or names n []) d.shapes) (port_shapes ports d.shapes.rects (net_no n))
+AreOfNet deck names ports d n =
+    All (IsOfNet deck (get_or names n []) d.shapes) (port_shapes ports d.shapes.rects (net_no n))
 
 -- the shapes at all ports
 abbrev pub all_port_shapes : List Port → List Shape → List Shape
@@ -92,7 +94,10 @@ all_port_shapes ports rects = filter_map (λ (port : Port). slice_get rects port
 
 -- Ports and obstructions are together the metal of the drawing, each shape once.
 abbrev pub AreAllMetal : List Port → List Shape → Type 0
-AreAllMetal ports rects = IsPermutation (all_port_shapes ports rects ++ obstructions ports rects) (shapes_on Metal1Layer rects ++ shapes_on Metal2Layer rects)
+AreAllMetal ports rects =
+    IsPermutation
+    (all_port_shapes ports rects ++ obstructions ports rects)
+    (shapes_on Metal1Layer rects ++ shapes_on Metal2Layer rects)
 
 -- no metal1 reaches beyond this width and height
 pub record IsWithin (d : Drawing) (s : Shape) : Type 0 where

@@ -1,6 +1,7 @@
 -- The macro of a cell as the text of a LEF library, by the LEF/DEF 5.8 Language Reference. Numbers are in
 -- microns.
-use Rattle.std.specs.Prelude.{ℕ, ◌+◌, ◌*◌, ◌/◌, ◌%◌, ◌==◌, ◌&&◌, ℤ, pos, int_lt, unsigned_abs, List, [], ◌∷◌, ◌++◌, length, codes, decimal, slice_get, unwrap_or, if◌then◌else◌}
+use Rattle.std.specs.Prelude.{ℕ, ◌+◌, ◌*◌, ◌/◌, ◌%◌, ◌==◌, ◌&&◌, ℤ, pos, int_lt, unsigned_abs}
+use Rattle.std.specs.Prelude.{List, [], ◌∷◌, ◌++◌, length, codes, decimal, slice_get, unwrap_or, if◌then◌else◌}
 use Rattle.std.specs.List.{flat_map, range_with_len}
 use Rattle.cell_num.specs.declared.net.NetNo.{NetNo}
 use Rattle.cell_num.specs.declared.net.Pins.{Pins}
@@ -33,7 +34,7 @@ microns nm = decimal (nm / 1000) ++ codes "." ++ three_digits (nm % 1000)
 abbrev pub minus_of : ℤ → List ℕ
 minus_of z = if int_lt z (pos 0) then codes "-" else []
 
--- a coordinate in grid units of so many nanometres
+-- a coordinate in grid units of `unit` nanometres
 unfoldable pub coordinate : ℕ → ℤ → List ℕ
 coordinate unit z = minus_of z ++ microns (unsigned_abs z * unit)
 
@@ -76,7 +77,8 @@ direction_of directions n = unwrap_or (slice_get directions n) Inout
 
 -- a port, which lies on metal1
 unfoldable pub port_text : ℕ → List Shape → List ℕ
-port_text unit shapes = codes "    PORT\n      LAYER metal1 ;\n" ++ rects_text (codes "      ") unit shapes ++ codes "    END\n"
+port_text unit shapes =
+    codes "    PORT\n      LAYER metal1 ;\n" ++ rects_text (codes "      ") unit shapes ++ codes "    END\n"
 
 -- a pin with its direction, its use and its port
 unfoldable pub pin_text : Subckt → List Port → List Shape → ℕ → ℕ → List ℕ
@@ -105,13 +107,16 @@ block_text unit first second = codes "  OBS\n" ++ metal1_text unit first ++ meta
 
 -- the obstructions, where there are any
 unfoldable pub obstructions_text : ℕ → List Shape → List Shape → List ℕ
-obstructions_text unit first second = if length first == 0 && length second == 0 then [] else block_text unit first second
+obstructions_text unit first second =
+    if length first == 0 && length second == 0 then [] else block_text unit first second
 
 unfoldable pub head_text : List ℕ
-head_text = codes "VERSION 5.8 ;\nBUSBITCHARS \"[]\" ;\nDIVIDERCHAR \"/\" ;\nUNITS\n  DATABASE MICRONS 1000 ;\nEND UNITS\n"
+head_text =
+    codes "VERSION 5.8 ;\nBUSBITCHARS \"[]\" ;\nDIVIDERCHAR \"/\" ;\nUNITS\n  DATABASE MICRONS 1000 ;\nEND UNITS\n"
 
 unfoldable pub size_text : ℕ → ℕ → ℕ → List ℕ
-size_text width height unit = codes "  SIZE " ++ microns (width * unit) ++ codes " BY " ++ microns (height * unit) ++ codes " ;\n"
+size_text width height unit =
+    codes "  SIZE " ++ microns (width * unit) ++ codes " BY " ++ microns (height * unit) ++ codes " ;\n"
 
 -- a core cell with its lower left corner at the origin, which may be mirrored at both axes
 unfoldable pub macro_text : List ℕ → ℕ → ℕ → ℕ → List ℕ
@@ -121,16 +126,18 @@ macro_text name width height unit =
     ++ size_text width height unit
     ++ codes "  SYMMETRY X Y ;\n"
 
--- The library of one macro: the cell with these ports. A grid unit has so many nanometres.
+-- The library of one macro: the cell with these ports. A grid unit has `unit` nanometres.
 abbrev pub library_text : Subckt → List Port → Drawing → ℕ → List ℕ
 library_text cell ports drawing unit =
     head_text
     ++ macro_text cell.name drawing.width drawing.height unit
     ++ pins_text cell ports drawing.shapes.rects unit
-    ++ obstructions_text unit (obstructions_on Metal1 ports drawing.shapes.rects) (obstructions_on Metal2 ports drawing.shapes.rects)
+    ++ obstructions_text unit
+    (obstructions_on Metal1 ports drawing.shapes.rects) (obstructions_on Metal2 ports drawing.shapes.rects)
     ++ text_line (codes "END ") cell.name
     ++ codes "END LIBRARY\n"
 
 -- the same with each pin's rail, or the trunks of its net, as its port
 abbrev pub cell_text : Subckt → Routing → Drawing → ℕ → List ℕ
-cell_text cell routing drawing unit = library_text cell (ports_of cell.pins routing.trunks drawing.shapes.rects) drawing unit
+cell_text cell routing drawing unit =
+    library_text cell (ports_of cell.pins routing.trunks drawing.shapes.rects) drawing unit

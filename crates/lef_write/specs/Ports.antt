@@ -1,5 +1,6 @@
 -- The ports and the obstructions of a cell: which shapes of its drawing are which.
-use Rattle.std.specs.Prelude.{ℕ, ◌≡◌, ◌-◌, ◌==◌, ◌&&◌, not, Bool, List, ◌++◌, length, filter_map, drop, slice_get, Option, Some, None, option_map, option_to_list, if◌then◌else◌}
+use Rattle.std.specs.Prelude.{ℕ, ◌≡◌, ◌-◌, ◌==◌, ◌&&◌, not, Bool, List, ◌++◌, length, filter_map, drop, slice_get}
+use Rattle.std.specs.Prelude.{Option, Some, None, option_map, option_to_list, if◌then◌else◌}
 use Rattle.std.specs.List.{flat_map, list_any, enumerate_from, range_with_len, zip}
 use Rattle.cell_num.specs.declared.net.NetNo.{NetNo}
 use Rattle.cell_num.specs.declared.net.Pins.{Pins}
@@ -21,7 +22,7 @@ place_on layer placed = if same_layer placed.1.layer layer then Some placed.0 el
 abbrev pub places_on : Layer → List Shape → List ℕ
 places_on layer rects = filter_map (place_on layer) (enumerate_from 0 rects)
 
--- the last items of a list, so many
+-- the last items of a list, at most `count`
 abbrev pub last_ones : {X : Type 0} → ℕ → List X → List X
 last_ones count xs = drop (length xs - count) xs
 
@@ -81,7 +82,8 @@ is_taken ports place = list_any (λ (port : Port). port.shape == place) ports
 
 -- a shape of the layer that is no port
 abbrev pub obstruction_on : Layer → List Port → ℕ × Shape → Option Shape
-obstruction_on layer ports placed = if same_layer placed.1.layer layer && not (is_taken ports placed.0) then Some placed.1 else None
+obstruction_on layer ports placed =
+    if same_layer placed.1.layer layer && not (is_taken ports placed.0) then Some placed.1 else None
 
 -- the obstructions on a layer, in the order of the drawing
 abbrev pub obstructions_on : Layer → List Port → List Shape → List Shape

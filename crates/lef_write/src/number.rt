@@ -28,7 +28,7 @@ fn put_minus(out: &mut Bytes, value: i32) -> Result<(), NoMemory>
     if value < 0 { out.extend(b"-") } else { Ok(()) }
 }
 
-/// Adds a coordinate that is given in grid units of so many nanometres.
+/// Adds a coordinate that is given in grid units of `unit_nm` nanometres.
 #[tactic(auto, unfolding(crate::specs::Lef::coordinate))]
 pub fn put_coordinate(out: &mut Bytes, value: i32, unit_nm: u32) -> Result<(), NoMemory>
     ensures { OnOk result (out.new ≡ out.old ++ coordinate unit_nm value) }

@@ -1,8 +1,8 @@
 // Which shapes of a drawing are ports, and which are obstructions.
 ghost use Rattle.std.specs.Prelude.{◌≡◌, ◌<◌, ◌++◌, length, IfOk, OnOk};
 ghost use Rattle.std.specs.List.{flat_map, range_with_len};
-ghost use Rattle.box_geom.specs.Layers.{same_layer};
-ghost use Rattle.lef_write.specs.Ports.{places_on, last_ones, trunk_port, trunk_ports, rail_port, pin_ports, ports_on, ports_of, shape_of, port_shapes, is_taken, obstructions_on};
+ghost use Rattle.lef_write.specs.Ports.{places_on, last_ones, trunk_port, trunk_ports, rail_port, pin_ports};
+ghost use Rattle.lef_write.specs.Ports.{ports_on, ports_of, shape_of, port_shapes, is_taken, obstructions_on};
 
 use crate::{Port, PortList};
 use box_geom::{Layer, Shape, ShapeList};
@@ -11,19 +11,13 @@ use cell_num::{List, NetNo, NoMemory, Pins};
 use channel_route::Trunk;
 use std::alloc::{AllocError, Global};
 
-fn is_on(shape: &Shape, layer: Layer) -> bool
-    ensures { result ≡ same_layer shape.now.layer layer }
-{
-    shape.layer == layer
-}
-
 fn places_on(alloc: Global, layer: Layer, rects: &[Shape]) -> Result<List<u32>, NoMemory>
     requires { length rects.now < MOST_SHAPES }
     ensures { IfOk result (λ places. places ≡ places_on layer rects.now) }
 {
     let mut places = List::new(alloc);
     'shapes: for (at, shape) in rects.iter().enumerate() {
-        if is_on(shape, layer) {
+        if shape.is_on(layer) {
             places.push(at as u32)?;
         }
     }
@@ -174,7 +168,7 @@ pub fn obstructions_on(
 {
     let mut found = ShapeList::new(alloc);
     'shapes: for (at, shape) in rects.iter().enumerate() {
-        if is_on(shape, layer) && !is_taken(ports, at) {
+        if shape.is_on(layer) && !is_taken(ports, at) {
             found.push(*shape)?;
         }
     }

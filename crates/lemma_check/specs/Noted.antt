@@ -14,7 +14,8 @@ use Rattle.lemma_check.specs.declared.trails.RowTrails.{RowTrails}
 
 -- what is noted by the number of what a row has left is what f says of it
 abbrev pub AreNotedOf : (Row → Option NetNo → List ℕ → Kinds → ℕ) → Row → Kinds → (ℕ → Option ℕ) → Type 0
-AreNotedOf f row k noted = (number trails : ℕ) (s : State) → noted number ≡ Some trails → IsState k s → row_code row k s ≡ number → trails ≡ f row (end_of row s) (left_of row s) k
+AreNotedOf f row k noted = (number trails : ℕ) (s : State) → noted number ≡ Some trails → IsState k s
+    → row_code row k s ≡ number → trails ≡ f row (end_of row s) (left_of row s) k
 
 pub record AreNoted (f : Row → Option NetNo → List ℕ → Kinds → ℕ) (k : Kinds) (noted : RowTrails) : Type 0 where
   pub p : AreNotedOf f P k (get nat_eq noted.p)

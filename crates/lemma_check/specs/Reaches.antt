@@ -20,7 +20,8 @@ same_end (Some a) (Some b) = a.0 == b.0
 same_end _ _ = false
 
 abbrev pub same_state : State → State → Bool
-same_state a b = bytes_eq a.p_left b.p_left && bytes_eq a.n_left b.n_left && same_end a.p_end b.p_end && same_end a.n_end b.n_end
+same_state a b = bytes_eq a.p_left b.p_left && bytes_eq a.n_left b.n_left && same_end a.p_end b.p_end
+    && same_end a.n_end b.n_end
 
 -- the best bound of s so far, with one more bound, of x
 abbrev pub raised : State → ℕ → State → ℕ → ℕ

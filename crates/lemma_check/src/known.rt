@@ -37,6 +37,7 @@ fn keep(bounds: &mut HashMap<u128, u32>, number: u128, bound: u32) -> Result<(),
 }
 
 impl Known {
+    /// No bound so far.
     pub fn new(alloc: Global) -> Known
         ensures { (k : KindsOf) (s : StateOf) → best_known result k s ≡ 0 }
     {

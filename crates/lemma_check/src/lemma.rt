@@ -13,7 +13,7 @@ use row_state::{
     Candidate, Candidates, Kinds, Numbered, RowBound, State, count_empty, has_fingers,
 };
 
-// Whether the column's cost and the best earlier bound behind it reach the bound.
+// Whether the column's cost and the best earlier bound after it reach the bound.
 fn step_reaches(kinds: &Kinds, known: &Known, from: &Numbered, next: &Candidate, bound: u32) -> bool
     requires numbered { IsNumbered kinds.now from.now }
     requires next { IsCandidate kinds.now next.now }
@@ -92,8 +92,8 @@ pub struct Premises<'a, B> {
     pub bound: &'a B,
 }
 
-/// Whether by this rule each completion of the state has so many further gaps. The trails of rows that are counted for it
-/// are noted.
+/// Whether by this rule each completion of the state has `reached` further gaps or more. The trails of rows that are
+/// counted for it are noted.
 pub fn reaches<B: RowBound>(
     premises: &Premises<B>,
     trails: &mut RowTrails,

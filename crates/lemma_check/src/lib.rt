@@ -1,5 +1,5 @@
-// Whether a lemma of a log follows from those before it: the best bounds known of states, and the trails of rows, which are
-// counted once.
+// Whether a lemma of a log follows from those before it: the best bounds known of states, and the trails of rows,
+// which are counted once.
 #![tactic(auto)]
 
 mod known;

@@ -1,5 +1,6 @@
 -- Which lemmas are justified, and which logs are accepted.
-use Rattle.std.specs.Prelude.{ℕ, ◌≡◌, ◌≤◌, ◌<◌, List, Option, Some, None, All, length, map, take, slice_get, slice_index_or, option_map}
+use Rattle.std.specs.Prelude.{ℕ, ◌≡◌, ◌≤◌, ◌<◌, List, Option, Some, None, All, length, map, take, slice_get}
+use Rattle.std.specs.Prelude.{slice_index_or, option_map}
 use Rattle.cell_num.specs.declared.finger.Row.{Row}
 use Rattle.cell_num.specs.declared.net.NetNo.{NetNo}
 use Rattle.cell_num.specs.declared.finger.Fingers.{Fingers}
@@ -26,7 +27,8 @@ pub record IsJustified (value : Row → State → Kinds → ℕ) (k : Kinds) (be
 
 -- each lemma is justified by those before it
 abbrev pub AreJustified : (Row → State → Kinds → ℕ) → Kinds → List Lemma → Type 0
-AreJustified value k lemmas = (i : ℕ) (d : Lemma) → i < length lemmas → IsJustified value k (λ s. best_of s (take i lemmas)) (slice_index_or lemmas i d)
+AreJustified value k lemmas = (i : ℕ) (d : Lemma) → i < length lemmas
+    → IsJustified value k (λ s. best_of s (take i lemmas)) (slice_index_or lemmas i d)
 
 -- every completion of the state has so many further gaps
 abbrev pub IsTrueOf : Kinds → Lemma → Type 0

@@ -58,13 +58,21 @@ abbrev pub with_lemmas : Log → List Lemma → Log
 with_lemmas log lemmas = record { version = log.version; lemmas = log.lemmas ++ lemmas; best = log.best }
 
 abbrev pub with_gaps : Log → ℕ → Log
-with_gaps log gaps = record { version = log.version; lemmas = log.lemmas; best = Some (record { gaps = gaps; steps = [] }) }
+with_gaps log gaps = record {
+  version = log.version;
+  lemmas = log.lemmas;
+  best = Some (record { gaps = gaps; steps = [] });
+}
 
 abbrev pub more_steps : List LogStep → Best → Best
 more_steps steps row = record { gaps = row.gaps; steps = row.steps ++ steps }
 
 abbrev pub with_columns : Log → List LogStep → Log
-with_columns log steps = record { version = log.version; lemmas = log.lemmas; best = option_map (more_steps steps) log.best }
+with_columns log steps = record {
+  version = log.version;
+  lemmas = log.lemmas;
+  best = option_map (more_steps steps) log.best;
+}
 
 -- so it is of each log whose items came
 abbrev pub ForSeen : (Row → State → Kinds → ℕ) → Checked → (Log → Type 0) → Type 0

@@ -15,16 +15,21 @@ use Rattle.log_check.specs.declared.refused.Refused.TheVariants as because
 use Rattle.log_check.specs.Accepted.{IsJustified, AreJustified, IsRow, columns_listed}
 
 -- all lemmas before this one are justified, and it is not
-pub record IsFirstUnjustified (value : Row → State → Kinds → ℕ) (k : Kinds) (lemmas : List Lemma) (at : ℕ) : Type 0 where
-  pub within : at < length lemmas
-  pub before : (i : ℕ) (d : Lemma) → i < at → IsJustified value k (λ s. best_of s (take i lemmas)) (slice_index_or lemmas i d)
-  pub unproved : (d : Lemma) → IsJustified value k (λ s. best_of s (take at lemmas)) (slice_index_or lemmas at d) → ⊥
+pub record IsFirstUnjustified (value : Row → State → Kinds → ℕ) (k : Kinds) (lemmas : List Lemma) (at : ℕ) : Type 0
+  where
+    pub within : at < length lemmas
+    pub before : (i : ℕ) (d : Lemma) → i < at
+        → IsJustified value k (λ s. best_of s (take i lemmas)) (slice_index_or lemmas i d)
+    pub unproved : (d : Lemma) → IsJustified value k (λ s. best_of s (take at lemmas)) (slice_index_or lemmas at d) → ⊥
 
 -- what is wrong with the listed row, where the lemmas prove `best` gaps of the start state
 abbrev pub RowRefuses : Kinds → Fingers → ℕ → Best → Refused → Type 0
 RowRefuses k f best row because.NotArrangement = IsRow k f row.steps → ⊥
-RowRefuses k f best row (because.Gaps said counted) = IsRow k f row.steps × (said ≡ row.gaps) × (counted ≡ gaps_of (columns_listed k row.steps)) × (said ≢ counted)
-RowRefuses k f best row (because.NotLeast proved said) = IsRow k f row.steps × (row.gaps ≡ gaps_of (columns_listed k row.steps)) × (proved ≡ best) × (said ≡ row.gaps) × (proved < said)
+RowRefuses k f best row (because.Gaps said counted) =
+    IsRow k f row.steps × (said ≡ row.gaps) × (counted ≡ gaps_of (columns_listed k row.steps)) × (said ≢ counted)
+RowRefuses k f best row (because.NotLeast proved said) =
+    IsRow k f row.steps × (row.gaps ≡ gaps_of (columns_listed k row.steps)) × (proved ≡ best) × (said ≡ row.gaps)
+    × (proved < said)
 RowRefuses k f best row because.NoMemory = Unit {0}
 RowRefuses k f best row _ = ⊥
 
@@ -45,7 +50,8 @@ LemmasRefuse value k lemmas _ = ⊥
 abbrev pub Refuses : (Row → State → Kinds → ℕ) → Kinds → Fingers → Log → Refused → Type 0
 Refuses value k f log (because.Unproved line) = LemmasRefuse value k log.lemmas (because.Unproved line)
 Refuses value k f log because.NoMemory = Unit {0}
-Refuses value k f log fault = AreJustified value k log.lemmas × BestRefuses k f (best_of (start_of k) log.lemmas) log.best fault
+Refuses value k f log fault = AreJustified value k log.lemmas
+    × BestRefuses k f (best_of (start_of k) log.lemmas) log.best fault
 
 -- so it is of the number of gaps that the lemmas prove, where the refusal tells it
 abbrev pub Proves : (ℕ → Type 0) → Refused → Type 0

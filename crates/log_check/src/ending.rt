@@ -1,5 +1,6 @@
-// The row that a log lists behind its lemmas, and what all its items come to.
-ghost use Rattle.std.specs.Prelude.{◌≡◌, ◌≢◌, ◌≤◌, ◌∷◌, [], All, IfErr, IfOk, List as Sequence, OnErr, OnOk, ℕ, option_map};
+// The row that a log lists after its lemmas, and the result of all its items.
+ghost use Rattle.std.specs.Prelude.{◌≡◌, ◌≢◌, ◌≤◌, ◌∷◌, [], All, IfErr, IfOk, List as Sequence, OnErr, OnOk, ℕ};
+ghost use Rattle.std.specs.Prelude.{option_map};
 ghost use Rattle.cell_num.specs.declared.finger.Row.{Row as RowOf};
 ghost use Rattle.cell_num.specs.Fingers.{AreFingers};
 ghost use Rattle.row_model.specs.declared.column.Column.{Column};

@@ -9,7 +9,7 @@ pub enum Refused {
     /// The first lemma that is not justified, by its line in the text of the log.
     #[error("Unproved")]
     Unproved { line: u32 },
-    /// The log lists no row. The lemmas prove that each has at least so many gaps.
+    /// The log lists no row. The lemmas prove that each has at least `best` gaps.
     #[error("NoRow")]
     NoRow { best: u32 },
     /// The listed columns are no arrangement of the fingers.

@@ -36,7 +36,7 @@ fn copied_lemma(lemma: &Lemma) -> Result<Lemma, AllocError>
     })
 }
 
-/// What a checker has come to: the best bounds so far, how many lemmas there were and the first that was
+/// What a checker has found so far: the best bounds, how many lemmas there were and the first that was
 /// not justified, and the row whose gaps and columns came.
 #[derive(Drop)]
 pub struct Seen {

@@ -31,7 +31,7 @@ impl Model for Block {
     ghost invariant = { λ b. b.bytes.most ≡ 65536 };
 }
 
-// Puts all the bytes there.
+/// Puts all the bytes there.
 #[tactic(auto, using(crate::proofs::Giving::gives_all, crate::proofs::Giving::gives_some, crate::proofs::Giving::keeps_untold))]
 pub fn put<D: Desk>(desk: &mut D, target: Target<'_>, bytes: &[u8]) -> Result<(), WriteFault>
     requires { CanPut (place_of target) (D.view desk.old) }
@@ -90,7 +90,7 @@ impl Block {
         Ok(())
     }
 
-    /// Adds a line: it gathers here, behind what goes there first where it would not fit.
+    /// Adds a line: it gathers here, after what goes there first where it would not fit.
     #[tactic(auto, using(crate::proofs::Giving::some_wider, crate::proofs::Giving::some_more, crate::proofs::Giving::gives_none, crate::proofs::Giving::gives_more, crate::proofs::Giving::can_still, crate::proofs::Giving::only_none, crate::proofs::Giving::only_more, crate::proofs::Giving::failed_behind, crate::proofs::Giving::short_behind, crate::proofs::Giving::untold_behind, crate::proofs::Giving::quiet_none))]
     pub fn add<D: Desk>(
         &mut self,

@@ -13,12 +13,20 @@ use cell_num::Bytes;
 use std::alloc::Global;
 use std::marker::Model;
 
-/// What a file holds or a report says: bytes, and behind them the text of a log, where there is one. Contracts
-/// see it as all its bytes.
-#[derive(Drop)]
+/// What a file holds or a report says: bytes, and after them the text of a log, where there is one. Contracts see it as
+/// all its bytes.
 pub struct Content {
     bytes: Bytes,
     log: Option<LogText>,
+}
+
+// (by hand, so that functions in which one goes out of scope cite this proof)
+impl Drop for Content {
+    fn drop(self) {
+        let Content { bytes, log } = self;
+        drop(bytes);
+        drop(log);
+    }
 }
 
 impl Model for Content {
@@ -30,19 +38,21 @@ impl Model for Content {
 }
 
 impl Content {
+    /// Bytes alone.
     pub fn of_bytes(bytes: Bytes) -> Content
         ensures { result ≡ bytes }
     {
         Content { bytes, log: None }
     }
 
+    /// The text of a log alone.
     pub fn of_log(alloc: Global, log: LogText) -> Content
         ensures { result ≡ log }
     {
         Content::with_log(Bytes::new(alloc), log)
     }
 
-    /// Bytes, and behind them the text of a log.
+    /// Bytes, and after them the text of a log.
     pub fn with_log(bytes: Bytes, log: LogText) -> Content
         ensures { result ≡ bytes ++ log }
     {

@@ -5,11 +5,23 @@ use bound_log::{Best, Kept};
 use std::marker::Model;
 
 /// A log whose lemmas are as the search kept them. Contracts see it as the log.
-#[derive(Drop)]
 pub struct KeptLog {
     pub(crate) version: u32,
     pub(crate) kept: Kept,
     pub(crate) best: Option<Best>,
+}
+
+// (by hand, so that functions in which one goes out of scope cite this proof)
+impl Drop for KeptLog {
+    fn drop(self) {
+        let KeptLog {
+            version: _,
+            kept,
+            best,
+        } = self;
+        drop(kept);
+        drop(best);
+    }
 }
 
 impl Model for KeptLog {

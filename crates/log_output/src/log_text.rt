@@ -22,13 +22,30 @@ use std::marker::Model;
 
 /// The text of a log, which is never whole in memory: its lines are spelled as they are given, in memory that was
 /// taken before. Contracts see it as the text.
-#[derive(Drop)]
 pub struct LogText {
     name: Name,
     log: KeptLog,
     lemma: Lemma,
     lines: LineWriter,
     block: Block,
+}
+
+// (by hand, so that functions in which one goes out of scope cite this proof)
+impl Drop for LogText {
+    fn drop(self) {
+        let LogText {
+            name,
+            log,
+            lemma,
+            lines,
+            block,
+        } = self;
+        drop(name);
+        drop(log);
+        drop(lemma);
+        drop(lines);
+        drop(block);
+    }
 }
 
 impl Model for LogText {
@@ -184,27 +201,19 @@ impl LogText {
         requires fits { ForSome (λ k. Fits k log) }
         ensures { IfOk result (λ text. text ≡ log_text name.now log) }
     {
-        match LogBuffers::new(alloc, name, &log.kept) {
-            Ok(
-                LogBuffers {
-                    name,
-                    lemma,
-                    lines,
-                    block,
-                },
-            ) => Ok(LogText {
-                name,
-                log,
-                lemma,
-                lines,
-                block,
-            }),
-            Err(fault) => {
-                // (a call, whose proof is short: in place all its parts would be dropped one by one)
-                drop(log);
-                Err(fault)
-            }
-        }
+        let LogBuffers {
+            name,
+            lemma,
+            lines,
+            block,
+        } = LogBuffers::new(alloc, name, &log.kept)?;
+        Ok(LogText {
+            name,
+            log,
+            lemma,
+            lines,
+            block,
+        })
     }
 
     /// Puts the text at the end of the file, or says it. It takes no memory but what the desk itself takes.
@@ -228,11 +237,9 @@ impl LogText {
         let given = give_whole(
             desk, target, &mut block, &mut lines, &mut lemma, &name, &log,
         );
-        // (calls, as above)
-        drop(log);
+        // (calls, whose proofs are short: in place all parts of the two would be dropped one by one)
         drop(lemma);
         drop(lines);
-        drop(block);
         given
     }
 }

@@ -16,7 +16,8 @@ cells_in a = record { x1 = a.x1; y1 = a.y1; x2 = a.x2; y2 = a.y2 }
 
 -- the first rectangle of the layer that holds the cell
 abbrev pub holder : List Shape → Layer → ℤ → ℤ → Option Rectangle
-holder shapes layer x y = option_map (λ (s : Shape). s.rect) (find (λ (s : Shape). same_layer s.layer layer && holding s.rect x y) shapes)
+holder shapes layer x y =
+    option_map (λ (s : Shape). s.rect) (find (λ (s : Shape). same_layer s.layer layer && holding s.rect x y) shapes)
 
 abbrev pub meeting_across : Rectangle → Rectangle → Bool
 meeting_across a b = overlapping a.x1 a.x2 b.x1 b.x2

@@ -1,5 +1,6 @@
 -- The nets of a drawing as the code keeps them: each piece of conductor with its net's number.
-use Rattle.std.specs.Prelude.{◌≡◌, ℕ, zero, suc, ◌<◌, ◌==◌, ℤ, pos, if◌then◌else◌, List, [], ◌∷◌, ◌++◌, map, get_or, slice_get, Some, take}
+use Rattle.std.specs.Prelude.{◌≡◌, ℕ, zero, suc, ◌<◌, ◌==◌, ℤ, pos, if◌then◌else◌}
+use Rattle.std.specs.Prelude.{List, [], ◌∷◌, ◌++◌, map, get_or, slice_get, Some, take}
 use Rattle.std.specs.List.{All}
 use Rattle.box_geom.specs.declared.shape.Shape.{Shape}
 use Rattle.scmos_rules.specs.declared.rules.Deck.{Deck}
@@ -39,10 +40,13 @@ blank = record { low = pos 0; left = pos 0; kind = PDiffusion; top = pos 0; righ
 -- the pieces below number k that are labelled by their own numbers
 abbrev pub heads_below : List Piece → List ℕ → ℕ → List Piece
 heads_below ps labels zero = []
-heads_below ps labels (suc k) = heads_below ps labels k ++ (if get_or labels k 0 == k then get_or ps k blank ∷ [] else [])
+heads_below ps labels (suc k) =
+    heads_below ps labels k ++ (if get_or labels k 0 == k then get_or ps k blank ∷ [] else [])
 
 -- the pieces below number k have their numbers
-pub record AreNumbered (ps : List Piece) (labels : List ℕ) (k : ℕ) (wires : List Wire) (firsts : List Piece) : Type 0 where
+pub record AreNumbered (ps : List Piece) (labels : List ℕ) (k : ℕ) (wires : List Wire) (firsts : List Piece)
+    : Type 0 where
   pub pieces : pieces_of wires ≡ take k ps
   pub heads : firsts ≡ heads_below ps labels k
-  pub numbers : (i : ℕ) → i < k → slice_get firsts (get_or (nets_of wires) i 0) ≡ Some (get_or ps (get_or labels i 0) blank)
+  pub numbers : (i : ℕ) → i < k →
+      slice_get firsts (get_or (nets_of wires) i 0) ≡ Some (get_or ps (get_or labels i 0) blank)

@@ -6,7 +6,8 @@ use Rattle.box_geom.specs.Rectangle.{Rectangle}
 use Rattle.box_geom.specs.Layers.{same_layer}
 use Rattle.box_geom.specs.declared.shape.Shape.{Shape}
 use Rattle.box_geom.specs.declared.layer.Layer.{Layer}
-use Rattle.box_geom.specs.declared.layer.Layer.TheVariants.{Well, Active, Poly as PolyLayer, Metal1 as Metal1Layer, Metal2 as Metal2Layer}
+use Rattle.box_geom.specs.declared.layer.Layer.TheVariants.{Well, Active, Poly as PolyLayer}
+use Rattle.box_geom.specs.declared.layer.Layer.TheVariants.{Metal1 as Metal1Layer, Metal2 as Metal2Layer}
 use Rattle.net_extract.specs.Meetings.{sharing_cell}
 use Rattle.net_extract.specs.Pieces.{rect_of, piece_of}
 use Rattle.net_extract.specs.declared.piece.Conductor.{Conductor}
@@ -27,10 +28,22 @@ abbrev pub right_part : Piece → Rectangle → Piece
 right_part p r = record { low = p.low; left = int_max p.left r.x2; kind = p.kind; top = p.top; right = p.right }
 
 abbrev pub low_part : Piece → Rectangle → Piece
-low_part p r = record { low = p.low; left = int_max p.left r.x1; kind = p.kind; top = int_min p.top r.y1; right = int_min p.right r.x2 }
+low_part p r = record {
+  low = p.low;
+  left = int_max p.left r.x1;
+  kind = p.kind;
+  top = int_min p.top r.y1;
+  right = int_min p.right r.x2;
+}
 
 abbrev pub high_part : Piece → Rectangle → Piece
-high_part p r = record { low = int_max p.low r.y2; left = int_max p.left r.x1; kind = p.kind; top = p.top; right = int_min p.right r.x2 }
+high_part p r = record {
+  low = int_max p.low r.y2;
+  left = int_max p.left r.x1;
+  kind = p.kind;
+  top = p.top;
+  right = int_min p.right r.x2;
+}
 
 -- what is left of a piece without a rectangle
 abbrev pub around : Rectangle → Piece → List Piece
@@ -38,7 +51,13 @@ around r p = kept (left_part p r) ++ (kept (right_part p r) ++ (kept (low_part p
 
 -- what a piece and a rectangle have in common
 abbrev pub common_part : Piece → Rectangle → Piece
-common_part p r = record { low = int_max p.low r.y1; left = int_max p.left r.x1; kind = p.kind; top = int_min p.top r.y2; right = int_min p.right r.x2 }
+common_part p r = record {
+  low = int_max p.low r.y1;
+  left = int_max p.left r.x1;
+  kind = p.kind;
+  top = int_min p.top r.y2;
+  right = int_min p.right r.x2;
+}
 
 abbrev pub shared_part : Rectangle → Piece → List Piece
 shared_part r p = kept (common_part p r)
@@ -93,7 +112,9 @@ n_diffusion_in shapes = cut_all PolyLayer (cut_all Well (drawn_all NDiffusion Ac
 
 -- all conductor of a drawing
 abbrev pub pieces_in : List Shape → List Piece
-pieces_in shapes = (((p_diffusion_in shapes ++ n_diffusion_in shapes) ++ drawn_all Poly PolyLayer shapes) ++ drawn_all Metal1 Metal1Layer shapes) ++ drawn_all Metal2 Metal2Layer shapes
+pieces_in shapes =
+    (((p_diffusion_in shapes ++ n_diffusion_in shapes) ++ drawn_all Poly PolyLayer shapes)
+    ++ drawn_all Metal1 Metal1Layer shapes) ++ drawn_all Metal2 Metal2Layer shapes
 
 abbrev pub gates_in : List Shape → List Piece
 gates_in shapes = shared_all PolyLayer (drawn_all Poly Active shapes) shapes

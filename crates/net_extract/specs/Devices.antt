@@ -74,7 +74,8 @@ pub record IsSize (current : Current) (r : Rectangle) (width length : ℕ) : Typ
   pub upright : current ≡ Upward → (r.x2 ≡ r.x1 +ℤ pos width) × (r.y2 ≡ r.y1 +ℤ pos length)
 
 -- a device by cells: its gate and its sides are given by any site of their nets
-pub record IsDevice (deck : Deck) (s : List Shape) (box : Rectangle) (row : Row) (gate left right : Site) (width length : ℕ) : Type 0 where
+pub record IsDevice (deck : Deck) (s : List Shape) (box : Rectangle) (row : Row) (gate left right : Site)
+    (width length : ℕ) : Type 0 where
   pub current : Current
   pub class : IsGateBox s box
   pub of_row : (x y : ℤ) → Holds box x y → InRow row s x y

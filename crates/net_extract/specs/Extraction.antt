@@ -28,7 +28,9 @@ pub record IsDrawn (deck : Deck) (s : List Shape) (firsts : List Site) (box : Re
   pub right : Site
   pub is : IsDevice deck s box d.row gate left right d.width d.length
   pub gate_net : IsInNet deck s firsts d.gate gate
-  pub sides : (IsInNet deck s firsts d.lo left × IsInNet deck s firsts d.hi right) ⊎ (IsInNet deck s firsts d.lo right × IsInNet deck s firsts d.hi left)
+  pub sides :
+      (IsInNet deck s firsts d.lo left × IsInNet deck s firsts d.hi right)
+      ⊎ (IsInNet deck s firsts d.lo right × IsInNet deck s firsts d.hi left)
   pub order : d.lo ≤ d.hi
 
 -- the nets of a drawing and the labels in them
@@ -50,7 +52,9 @@ pub record Extracts (deck : Deck) (shapes : Shapes) (netlist : Netlist) : Type 0
 
 -- ---- refusals, each where those before it do not come
 pub record IsTooMany (shapes : Shapes) (count : ℕ) : Type 0 where
-  pub which : ((10000 < length shapes.rects) × (count ≡ length shapes.rects)) ⊎ ((length shapes.rects ≤ 10000) × (2000 < length shapes.labels) × (count ≡ length shapes.labels))
+  pub which :
+      ((10000 < length shapes.rects) × (count ≡ length shapes.rects))
+      ⊎ ((length shapes.rects ≤ 10000) × (2000 < length shapes.labels) × (count ≡ length shapes.labels))
 
 pub record IsOddDevice (deck : Deck) (shapes : Shapes) (x y : ℤ) : Type 0 where
   pub few : AreFew shapes

@@ -48,7 +48,14 @@ pub record AreWells (deck : Deck) (s : List Shape) (wires : List Wire) : Type 0 
 
 -- the piece widened to a wire of the net
 abbrev pub wider : ℕ → Piece → Wire → Piece
-wider n p w = if w.net == n then record { low = int_min p.low w.piece.low; left = int_min p.left w.piece.left; kind = p.kind; top = int_max p.top w.piece.top; right = int_max p.right w.piece.right } else p
+wider n p w =
+    if w.net == n then record {
+      low = int_min p.low w.piece.low;
+      left = int_min p.left w.piece.left;
+      kind = p.kind;
+      top = int_max p.top w.piece.top;
+      right = int_max p.right w.piece.right;
+    } else p
 
 -- the lower left corner of a piece
 abbrev pub point_of : Piece → Piece
@@ -71,7 +78,8 @@ abbrev pub boxes_of : List Wire → List Piece → List Rectangle
 boxes_of wires firsts = boxes_below wires firsts (length firsts)
 
 -- all classes of gates are devices, whose boxes are listed
-pub record AreFound (deck : Deck) (s : List Shape) (firsts : List Site) (boxes : List Rectangle) (devices : List Drawn) : Type 0 where
+pub record AreFound (deck : Deck) (s : List Shape) (firsts : List Site) (boxes : List Rectangle) (devices : List Drawn)
+    : Type 0 where
   pub are : AreDevices deck s boxes
   pub drawn : AllZip (IsDrawn deck s firsts) boxes devices
 

@@ -1,11 +1,13 @@
 -- Where the code finds the net of a place and of a label.
-use Rattle.std.specs.Prelude.{◌≡◌, ℕ, ℤ, pos, ◌-ℤ◌, Bool, ◌&&◌, ◌==◌, if◌then◌else◌, Option, Some, None, is_some, not, List}
+use Rattle.std.specs.Prelude.{◌≡◌, ℕ, ℤ, pos, ◌-ℤ◌, Bool, ◌&&◌, ◌==◌, if◌then◌else◌}
+use Rattle.std.specs.Prelude.{Option, Some, None, is_some, not, List}
 use Rattle.std.specs.Option.{option_map}
 use Rattle.std.specs.List.{find, filter_map}
 use Rattle.box_geom.specs.Comparisons.{holding}
 use Rattle.box_geom.specs.declared.shape.Label.{Label}
 use Rattle.box_geom.specs.declared.layer.Layer.{Layer}
-use Rattle.box_geom.specs.declared.layer.Layer.TheVariants.{Well, Active, PSelect, NSelect, Poly as PolyLayer, Contact, Metal1 as Metal1Layer, Via, Metal2 as Metal2Layer}
+use Rattle.box_geom.specs.declared.layer.Layer.TheVariants.{Well, Active, PSelect, NSelect, Poly as PolyLayer, Contact}
+use Rattle.box_geom.specs.declared.layer.Layer.TheVariants.{Metal1 as Metal1Layer, Via, Metal2 as Metal2Layer}
 use Rattle.net_extract.specs.Labels.{is_conductor}
 use Rattle.net_extract.specs.Pieces.{place, rect_of}
 use Rattle.net_extract.specs.declared.naming.NetLabel.{NetLabel}
@@ -42,7 +44,9 @@ net_on wires Via x y = None
 
 -- the net of the first of the four cells round a point
 abbrev pub net_round : List Wire → Layer → ℤ → ℤ → Option ℕ
-net_round wires layer x y = or_else (or_else (net_on wires layer x y) (net_on wires layer (x -ℤ pos 1) y)) (or_else (net_on wires layer x (y -ℤ pos 1)) (net_on wires layer (x -ℤ pos 1) (y -ℤ pos 1)))
+net_round wires layer x y =
+    or_else (or_else (net_on wires layer x y) (net_on wires layer (x -ℤ pos 1) y))
+    (or_else (net_on wires layer x (y -ℤ pos 1)) (net_on wires layer (x -ℤ pos 1) (y -ℤ pos 1)))
 
 abbrev pub net_of_label : List Wire → Label → Option ℕ
 net_of_label wires l = net_round wires l.layer l.x l.y
@@ -52,7 +56,8 @@ abbrev pub is_lost : List Wire → Label → Bool
 is_lost wires l = is_conductor l.layer && not (is_some (net_of_label wires l))
 
 abbrev pub net_label_of : List Wire → Label → Option NetLabel
-net_label_of wires l = if is_conductor l.layer then option_map (λ n. record { name = l.name; net = n }) (net_of_label wires l) else None
+net_label_of wires l =
+    if is_conductor l.layer then option_map (λ n. record { name = l.name; net = n }) (net_of_label wires l) else None
 
 abbrev pub net_labels_in : List Wire → List Label → List NetLabel
 net_labels_in wires labels = filter_map (net_label_of wires) labels

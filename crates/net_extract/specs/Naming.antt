@@ -1,6 +1,7 @@
 -- Names of nets, from the labels that each net holds. A net may hold one label many times, but no two different ones,
 -- and a label stands in one net.
-use Rattle.std.specs.Prelude.{◌≡◌, ℕ, Bool, not, ◌&&◌, ◌==◌, Option, Some, None, is_some, List, ◌++◌, map, codes, decimal}
+use Rattle.std.specs.Prelude.{◌≡◌, ℕ, Bool, not, ◌&&◌, ◌==◌, Option, Some}
+use Rattle.std.specs.Prelude.{None, is_some, List, ◌++◌, map, codes, decimal}
 use Rattle.std.specs.Option.{option_map}
 use Rattle.std.specs.List.{find, list_any, range_with_len}
 use Rattle.std.specs.Str.{bytes_eq}
@@ -14,7 +15,8 @@ label_of n held = option_map (λ (h : NetLabel). h.name) (find (λ (h : NetLabel
 
 -- the first label of a net that differs from a name
 abbrev pub first_other : List ℕ → ℕ → List NetLabel → Option (List ℕ)
-first_other one n held = option_map (λ (h : NetLabel). h.name) (find (λ (h : NetLabel). (h.net == n) && not (bytes_eq h.name one)) held)
+first_other one n held =
+    option_map (λ (h : NetLabel). h.name) (find (λ (h : NetLabel). (h.net == n) && not (bytes_eq h.name one)) held)
 
 abbrev pub other_than : Option (List ℕ) → ℕ → List NetLabel → Option (List ℕ)
 other_than (Some one) n held = first_other one n held

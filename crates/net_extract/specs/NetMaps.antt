@@ -33,7 +33,8 @@ pub record NetMap : Type 0 where
 -- the pieces are rectangles of the plane, and a cell of a layer lies in pieces of one net
 pub record AreOfNets (pieces : List NetPiece) : Type 0 where
   pub blocks : All (λ (p : NetPiece). IsBlock p.block) pieces
-  pub one : (p q : NetPiece) → Contains pieces p → Contains pieces q → p.layer ≡ q.layer → (x y : ℤ) → Holds p.block x y → Holds q.block x y → p.net ≡ q.net
+  pub one : (p q : NetPiece) → Contains pieces p → Contains pieces q → p.layer ≡ q.layer → (x y : ℤ) →
+      Holds p.block x y → Holds q.block x y → p.net ≡ q.net
 
 abbrev pub at_cell : Layer → ℤ → ℤ → NetPiece → Bool
 at_cell layer x y p = same_layer p.layer layer && holding p.block x y
@@ -88,7 +89,8 @@ pub record Maps (deck : Deck) (shapes : Shapes) (map : NetMap) : Type 0 where
   pub agreed : IsAgreed held (length firsts)
   pub names : map.names ≡ names_of held (length firsts)
   pub labels : (name : List ℕ) → net_named map name ≡ net_labelled held name
-  pub nets : (layer : Layer) (x y : ℤ) (n : ℕ) → net_of map layer x y ≡ Some n ↔ IsNetAt deck shapes.rects firsts layer x y n
+  pub nets : (layer : Layer) (x y : ℤ) (n : ℕ) →
+      net_of map layer x y ≡ Some n ↔ IsNetAt deck shapes.rects firsts layer x y n
 
 -- the connections of a drawing by layers
 abbrev pub net_piece : Wire → NetPiece

@@ -45,7 +45,10 @@ rects_in (p ∷ ps) k = if is_of k p.kind then rect_of p ∷ rects_in ps k else 
 
 -- by first cells
 abbrev pub piece_cmp : Piece → Piece → Ordering
-piece_cmp a b = ordering_then (int_cmp a.low b.low) (ordering_then (int_cmp a.left b.left) (ordering_then (nat_cmp (place a.kind) (place b.kind)) (ordering_then (int_cmp a.top b.top) (int_cmp a.right b.right))))
+piece_cmp a b =
+    ordering_then (int_cmp a.low b.low) (ordering_then (int_cmp a.left b.left)
+    (ordering_then (nat_cmp (place a.kind) (place b.kind))
+    (ordering_then (int_cmp a.top b.top) (int_cmp a.right b.right))))
 
 -- the layer whose shapes link two kinds
 abbrev pub link_layer : Conductor → Conductor → Option Layer

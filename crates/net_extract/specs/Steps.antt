@@ -25,5 +25,7 @@ pub record IsMapped (deck : Deck) (shapes : Shapes) (m : Mapped) : Type 0 where
   pub wires : AreWires deck shapes.rects m.connections.wires.items m.connections.firsts.items
   pub wells : AreWells deck shapes.rects m.wells.items
   pub gates : AreGateNets shapes.rects m.gates.wires.items m.gates.firsts.items
-  pub found : AreFound deck shapes.rects (firsts_of m.connections.firsts.items) (boxes_of m.gates.wires.items m.gates.firsts.items) m.devices
+  pub found :
+      AreFound deck shapes.rects (firsts_of m.connections.firsts.items)
+      (boxes_of m.gates.wires.items m.gates.firsts.items) m.devices
   pub named : AreNamed deck shapes (firsts_of m.connections.firsts.items) m.named

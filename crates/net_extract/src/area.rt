@@ -2,9 +2,9 @@
 ghost use Rattle.std.specs.Prelude.{◌≡◌, ◌↔◌, ◌≤ℤ◌, ◌<ℤ◌, All, IsTrue, IfSome, None};
 ghost use Rattle.box_geom.specs.Comparisons.{holding, overlapping};
 ghost use Rattle.box_geom.specs.Rectangle.{IsProper};
-ghost use Rattle.net_extract.specs.Areas.{cells_in, holder, meeting_across, meeting_upward, meeting, meeting_any, IsFull, IsFree, AreRows};
+ghost use Rattle.net_extract.specs.Areas.{cells_in, holder, meeting_across, meeting_upward};
+ghost use Rattle.net_extract.specs.Areas.{meeting, meeting_any, IsFull, IsFree, AreRows};
 
-use crate::bond::is_on;
 use crate::layers::Layers;
 use crate::lookup::is_within;
 use box_geom::{Layer, Rect, Shape};
@@ -29,7 +29,7 @@ fn rect_at(shapes: &[Shape], layer: Layer, x: i64, y: i64) -> Option<Rect>
 {
     shapes
         .iter()
-        .find(|shape| is_on(shape, layer) && holds(&shape.rect, x, y))
+        .find(|shape| shape.is_on(layer) && holds(&shape.rect, x, y))
         .map(|shape| shape.rect)
 }
 
@@ -64,7 +64,7 @@ pub(crate) fn does_meet(shapes: &[Shape], layer: Layer, area: &Area) -> bool
 {
     shapes
         .iter()
-        .any(|shape| is_on(shape, layer) && meets(area, &shape.rect))
+        .any(|shape| shape.is_on(layer) && meets(area, &shape.rect))
 }
 
 #[tactic(auto, using(crate::proofs::Filling::free_decides))]

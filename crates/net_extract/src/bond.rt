@@ -1,31 +1,15 @@
 // Whether two pieces are of one kind and touch, or a contact or a via links them.
 ghost use Rattle.std.specs.Prelude.{◌≡◌, ◌↔◌, ◌∷◌, [], IsTrue};
-ghost use Rattle.box_geom.specs.Comparisons.{overlapping, reaching, beside, stacked, touching};
-ghost use Rattle.box_geom.specs.Layers.{same_layer};
+ghost use Rattle.box_geom.specs.Comparisons.{beside, stacked, touching};
 ghost use Rattle.box_geom.specs.Rectangle.{IsProper};
 ghost use Rattle.scmos_rules.specs.declared.rules.Deck.TheVariants.{Plain};
-ghost use Rattle.net_extract.specs.Meetings.{sharing, crossing_across, crossing_upward, crossing, sharing_cell, linking, links_kind, is_reached, bonding};
+ghost use Rattle.net_extract.specs.Meetings.{sharing, crossing_across, crossing_upward, crossing};
+ghost use Rattle.net_extract.specs.Meetings.{sharing_cell, linking, links_kind, is_reached, bonding};
 ghost use Rattle.net_extract.specs.Bonds.{AreJoined, Bond};
 ghost use Rattle.net_extract.specs.Pieces.{rect_of, link_layer};
 
 use crate::piece::{Conductor, Piece};
-use box_geom::{Layer, Rect, Shape};
-
-// Whether two spans have a place in common.
-#[tactic(auto, unfolding(box_geom::specs::Comparisons::overlapping))]
-pub(crate) fn overlap(a: i32, b: i32, c: i32, d: i32) -> bool
-    ensures { result ≡ overlapping a b c d }
-{
-    a < d && c < b
-}
-
-// Whether two spans have a place or an end in common.
-#[tactic(auto, unfolding(box_geom::specs::Comparisons::reaching))]
-fn reach(a: i32, b: i32, c: i32, d: i32) -> bool
-    ensures { result ≡ reaching a b c d }
-{
-    a <= d && c <= b
-}
+use box_geom::{Layer, Rect, Shape, overlap, reach};
 
 // Whether three spans have a place in common.
 #[tactic(auto, unfolding(crate::specs::Meetings::sharing))]
@@ -73,12 +57,6 @@ fn crosses(a: &Piece, b: &Piece, c: &Rect) -> bool
     share_column(a, b, c) && share_row(a, b, c)
 }
 
-pub(crate) fn is_on(shape: &Shape, layer: Layer) -> bool
-    ensures { result ≡ same_layer shape.now.layer layer }
-{
-    shape.layer == layer
-}
-
 /// Whether a piece and a rectangle have a cell in common.
 pub(crate) fn meets(piece: &Piece, rect: &Rect) -> bool
     ensures { result ≡ sharing_cell (rect_of piece.now) rect.now }
@@ -103,7 +81,7 @@ fn does_link(link: &Shape, a: &Piece, b: &Piece) -> bool
     ensures { result ≡ linking link.now (link_layer a.now.kind b.now.kind) (rect_of a.now) (rect_of b.now) }
 {
     match layer_between(a.kind, b.kind) {
-        Some(layer) => is_on(link, layer) && crosses(a, b, &link.rect),
+        Some(layer) => link.is_on(layer) && crosses(a, b, &link.rect),
         None => false,
     }
 }

@@ -1,5 +1,5 @@
 // Classes of pieces: each is labelled by the number of its first piece. Pieces that are bonded come into one tree,
-// whose root is its least number: first those of one kind that touch, each tried with those behind it up to the first
+// whose root is its least number: first those of one kind that touch, each tried with those after it up to the first
 // that begins above it, then those that a contact or a via links. Last come the ties, which reach over any distance.
 ghost use Rattle.std.specs.Prelude.{◌≡◌, ◌<◌, ◌≤◌, [], length, int_lt, IfOk, All, IsSorted};
 ghost use Rattle.std.specs.List.{range_with_len};

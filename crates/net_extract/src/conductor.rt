@@ -3,7 +3,6 @@ ghost use Rattle.std.specs.Prelude.{◌≡◌, ◌++◌, IfOk, OnOk};
 ghost use Rattle.net_extract.specs.Cuts.{drawn_all, p_diffusion_in, n_diffusion_in, pieces_in, gates_in};
 ghost use Rattle.net_extract.specs.Links.{is_linking, links_in};
 
-use crate::bond::is_on;
 use crate::cut::without;
 use crate::piece::{Conductor, Piece};
 use crate::shared::{drawn, within};
@@ -30,7 +29,7 @@ fn n_diffusion(alloc: Global, shapes: &[Shape]) -> Result<List<Piece>, NoMemory>
 fn is_link(shape: &Shape) -> bool
     ensures { result ≡ is_linking shape.now.layer }
 {
-    is_on(shape, Layer::Contact) || is_on(shape, Layer::Via)
+    shape.is_on(Layer::Contact) || shape.is_on(Layer::Via)
 }
 
 /// The contacts and the vias.

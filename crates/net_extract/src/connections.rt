@@ -1,5 +1,6 @@
 // The nets of a drawing: every piece of conductor with the number of its net.
-ghost use Rattle.std.specs.Prelude.{◌≡◌, ◌<◌, ◌≤◌, ◌++◌, ◌∷◌, [], ◌+◌, All, IsPermutation, IsSorted, length, get_or, IfOk, OnOk};
+ghost use Rattle.std.specs.Prelude.{◌≡◌, ◌<◌, ◌≤◌, ◌++◌, ◌∷◌, [], ◌+◌, All};
+ghost use Rattle.std.specs.Prelude.{IsPermutation, IsSorted, length, get_or, IfOk, OnOk};
 ghost use Rattle.scmos_rules.specs.declared.rules.Deck.TheVariants.{Plain, Taps};
 ghost use Rattle.number_trees.specs.Classes.{AreHeads, AreLeast};
 ghost use Rattle.box_geom.specs.Rectangle.{IsProper, IsRectangle};
@@ -26,7 +27,8 @@ pub struct Wire {
     pub net: u32,
 }
 
-// The nets of a drawing by the bonds of a deck: by number, and its pieces.
+/// The nets of a drawing by the bonds of a deck: each piece with the number of its net, and by number
+/// the first piece of each net.
 #[derive(Debug, Drop)]
 pub struct Connections {
     pub deck: Deck,

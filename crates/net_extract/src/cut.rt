@@ -1,7 +1,8 @@
 // Pieces without the shapes of a layer.
 ghost use Rattle.std.specs.Prelude.{◌≡◌, ◌++◌, ◌∷◌, [], IfOk, OnOk};
 ghost use Rattle.std.specs.List.{flat_map};
-ghost use Rattle.net_extract.specs.Cuts.{is_some_piece, kept, left_part, right_part, low_part, high_part, around, carved, carved_once, left_of_piece, left_of_pieces, cut_all};
+ghost use Rattle.net_extract.specs.Cuts.{is_some_piece, kept, left_part, right_part, low_part, high_part};
+ghost use Rattle.net_extract.specs.Cuts.{around, carved, carved_once, left_of_piece, left_of_pieces, cut_all};
 
 use crate::bond::meets;
 use crate::layers::on_layer;

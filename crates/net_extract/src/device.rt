@@ -7,7 +7,8 @@ ghost use Rattle.net_extract.specs.Extraction.{IsDrawn};
 ghost use Rattle.net_extract.specs.Connections.{AreWires, firsts_of};
 ghost use Rattle.net_extract.specs.Nets.{Site};
 ghost use Rattle.net_extract.specs.Pieces.{rect_of};
-ghost use Rattle.net_extract.specs.Sides.{IsInRow, IsDiffusion, IsSideNet, IsAlong, IsNotAlong, AreClosed, AreSideNets, drawn_as};
+ghost use Rattle.net_extract.specs.Sides.{IsInRow, IsDiffusion, IsSideNet, IsAlong};
+ghost use Rattle.net_extract.specs.Sides.{IsNotAlong, AreClosed, AreSideNets, drawn_as};
 ghost use Rattle.net_extract.specs.Lookups.{net_in};
 ghost use Rattle.net_extract.specs.declared.piece.Conductor.TheVariants.{Poly};
 

@@ -3,7 +3,8 @@ ghost use Rattle.std.specs.Prelude.{◌≡◌, ◌↔◌, ◌<◌, All, IsTrue, 
 ghost use Rattle.box_geom.specs.Rectangle.{IsProper};
 ghost use Rattle.net_extract.specs.Devices.{IsOdd};
 ghost use Rattle.net_extract.specs.Extraction.{IsDrawn};
-ghost use Rattle.net_extract.specs.GateNets.{AreGateNets, wider, point_of, box_of, IsAllGate, AreFound, boxes_of, IsOddFault};
+ghost use Rattle.net_extract.specs.GateNets.{AreGateNets, wider, point_of, box_of};
+ghost use Rattle.net_extract.specs.GateNets.{IsAllGate, AreFound, boxes_of, IsOddFault};
 ghost use Rattle.net_extract.specs.Connections.{AreWires, firsts_of, blank};
 ghost use Rattle.net_extract.specs.Pieces.{rect_of};
 ghost use Rattle.net_extract.specs.declared.fault.ExtractFault.TheVariants.{OddDevice};

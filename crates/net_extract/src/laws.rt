@@ -35,7 +35,7 @@ pub fn one_numbering()
         AreNets deck s firsts → IsInNet deck s firsts m a → IsInNet deck s firsts n a → m ≡ n }
 {}
 
-/// A drawing has one netlist, and where it has one it is refused for want of memory alone.
+/// A drawing has one netlist, and where it has one it is refused only where memory runs out.
 pub fn one_netlist()
     ensures same { (deck : Deck) (shapes : Shapes) (n m : Netlist) → Extracts deck shapes n →
         Extracts deck shapes m → n ≡ m }
@@ -43,7 +43,8 @@ pub fn one_netlist()
         ExtractRefused deck shapes f → f ≡ NoMemory }
 {}
 
-/// A drawing with taps has one netlist with bodies, and where it has one it is refused for want of memory alone.
+/// A drawing with taps has one netlist with bodies, and where it has one it is refused only where memory
+/// runs out.
 pub fn one_body_netlist()
     ensures same { (shapes : Shapes) (b c : BodyNetlist) → ExtractsBodies shapes b → ExtractsBodies shapes c → b ≡ c }
     ensures refused { (shapes : Shapes) (b : BodyNetlist) (f : ExtractFault) → ExtractsBodies shapes b →

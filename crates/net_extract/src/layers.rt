@@ -4,7 +4,6 @@ ghost use Rattle.box_geom.specs.Layers.{rects_on};
 ghost use Rattle.box_geom.specs.Rectangle.{IsProper};
 ghost use Rattle.net_extract.specs.Cuts.{shapes_on};
 
-use crate::bond::is_on;
 use box_geom::{Layer, Shape};
 use cell_num::{List, NoMemory};
 use std::alloc::Global;
@@ -42,7 +41,7 @@ pub(crate) fn on_layer(
 {
     let mut out = List::new(alloc);
     for shape in shapes {
-        if is_on(shape, layer) {
+        if shape.is_on(layer) {
             out.push(*shape)?;
         }
     }

@@ -49,7 +49,7 @@ fn link_behind(parents: &mut Vec<usize>, link: &Shape, pieces: &[Piece], at: usi
     }
 }
 
-// Joins a piece with those behind it that a contact or a via links with it.
+// Joins a piece with those after it that a contact or a via links with it.
 fn link_later(parents: &mut Vec<usize>, link: &Shape, pieces: &[Piece], at: usize)
     requires low { AreLow parents.old.items }
     requires count { length parents.old.items ≡ length pieces.now }

@@ -4,7 +4,8 @@ ghost use Rattle.std.specs.Option.{option_map};
 ghost use Rattle.std.specs.List.{find};
 ghost use Rattle.box_geom.specs.Comparisons.{within, holding};
 ghost use Rattle.net_extract.specs.Labels.{is_conductor};
-ghost use Rattle.net_extract.specs.Lookups.{is_at, net_in, net_on, or_else, net_round, is_lost, net_label_of, net_labels_in, IsStrayOf, IsLostBy};
+ghost use Rattle.net_extract.specs.Lookups.{is_at, net_in, net_on, or_else, net_round, is_lost};
+ghost use Rattle.net_extract.specs.Lookups.{net_label_of, net_labels_in, IsStrayOf, IsLostBy};
 ghost use Rattle.net_extract.specs.Pieces.{rect_of};
 
 use crate::connections::Wire;

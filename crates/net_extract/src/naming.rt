@@ -2,7 +2,8 @@
 ghost use Rattle.std.specs.Prelude.{◌≡◌, ◌++◌, IsTrue, IfOk, IfErr, OnOk, is_some, None, codes, decimal};
 ghost use Rattle.std.specs.Option.{option_map};
 ghost use Rattle.std.specs.Str.{bytes_eq};
-ghost use Rattle.net_extract.specs.Naming.{label_of, first_other, other_of, short_net, stands_elsewhere, split_name, name_of, names_of, IsShortOf, IsShortIn, IsSplitOf, IsNameFault};
+ghost use Rattle.net_extract.specs.Naming.{label_of, first_other, other_of, short_net, stands_elsewhere, split_name};
+ghost use Rattle.net_extract.specs.Naming.{name_of, names_of, IsShortOf, IsShortIn, IsSplitOf, IsNameFault};
 
 use crate::fault::ExtractFault;
 use cell_num::{Name, Names, NoMemory, copy, put_number};

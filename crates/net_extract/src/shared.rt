@@ -5,7 +5,6 @@ ghost use Rattle.net_extract.specs.Cuts.{common_part, shared_part, shared_once, 
 ghost use Rattle.net_extract.specs.Cuts.{drawn_once, drawn_all};
 ghost use Rattle.net_extract.specs.Pieces.{piece_of};
 
-use crate::bond::is_on;
 use crate::cut::keep;
 use crate::piece::{Conductor, Piece};
 use box_geom::{Layer, Rect, Shape};
@@ -41,7 +40,7 @@ fn keep_shared(
 ) -> Result<(), NoMemory>
     ensures { OnOk result (out.new ≡ out.old ++ shared_once layer pieces.now shape.now) }
 {
-    if is_on(shape, layer) {
+    if shape.is_on(layer) {
         keep_common(out, pieces, &shape.rect)
     } else {
         Ok(())
@@ -84,7 +83,7 @@ fn add_drawn(
 ) -> Result<(), NoMemory>
     ensures { OnOk result (out.new ≡ out.old ++ drawn_once kind layer shape.now) }
 {
-    if is_on(shape, layer) {
+    if shape.is_on(layer) {
         out.push(piece(kind, &shape.rect))
     } else {
         Ok(())

@@ -1,7 +1,8 @@
 // The cells of a gate and along its four sides.
 ghost use Rattle.std.specs.Prelude.{◌≡◌};
 ghost use Rattle.net_extract.specs.Areas.{cells_in};
-ghost use Rattle.net_extract.specs.Devices.{left_of, right_of, below, above, source_side, drain_side, low_end, high_end};
+ghost use Rattle.net_extract.specs.Devices.{left_of, right_of, below, above};
+ghost use Rattle.net_extract.specs.Devices.{source_side, drain_side, low_end, high_end};
 ghost use Rattle.net_extract.specs.Pieces.{rect_of};
 
 use crate::area::Area;

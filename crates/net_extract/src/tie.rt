@@ -12,7 +12,7 @@ use box_geom::{Layer, Shape};
 use cell_num::NoMemory;
 use std::alloc::Global;
 
-/// The tie of taps of the substrate; those of wells come behind it.
+/// The tie of taps of the substrate; those of wells come after it.
 pub(crate) const SUBSTRATE: u64 = 0;
 
 /// The tie of the well that a cell lies in; None outside the well.

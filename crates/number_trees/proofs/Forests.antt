@@ -1,20 +1,11 @@
 -- Trees of numbers in which each number hangs on one that is none above it.
-use Rattle.std.proofs.Common.{◌≡◌, ℕ, zero, suc, ◌+◌, ◌<◌, ◌≤◌, max, min, List, [], ◌∷◌, ◌++◌, length, get_or, set, arith, add-one, refl, sym, subst, ap, ◌∙◌, inl, inr}
-use Rattle.std.specs.List.{range_with_len}
+use Rattle.std.proofs.Common.{◌≡◌, ℕ, zero, suc, ◌+◌, ◌<◌, ◌≤◌, max, min, List, length, get_or, set, arith, refl, sym, subst, ap, ◌∙◌, inl, inr}
 use Rattle.std.proofs.lemmas.List.{length-set, get_or-set_same, get_or-set_other}
 use Rattle.std.proofs.lemmas.Bool.{cases_eq}
 use Rattle.box_geom.specs.Chains.{Chain, Steps}
 use Rattle.number_trees.proofs.Chains.{none, one, joined, turned}
 use Rattle.number_trees.specs.Classes.{IsParent, AreKin, InTree, AreLow, IsRoot, hung, IsJoined, AreRoots, AreSound, AreTrees, AreLeast, IsTried}
 use Rattle.number_trees.proofs.Classing.{GoesBack, rechained, ends}
-
--- ---- lone trees
-range_from : (a n : ℕ) → range_with_len a (suc n) ≡ range_with_len a n ++ (a + n) ∷ []
-range_from a zero = let e : ◌≡◌ {A = ℕ} a (a + 0) = omega arith in ap (λ z. z ∷ []) e
-range_from a (suc n) = let e : ◌≡◌ {A = ℕ} (a + 1 + n) (a + suc n) = omega arith in ap (λ zs. a ∷ zs) (range_from (a + 1) n ∙ ap (λ z. range_with_len (a + 1) n ++ z ∷ []) e)
-
-pub range_more : (n : ℕ) → range_with_len 0 (n + 1) ≡ range_with_len 0 n ++ n ∷ []
-range_more n = let e : ◌≡◌ {A = ℕ} (0 + n) n = omega arith in rw add-one (range_from 0 n ∙ ap (λ z. range_with_len 0 n ++ z ∷ []) e)
 
 -- ---- trees
 kin_back : (ls : List ℕ) (a b : ℕ) → AreKin ls a b → AreKin ls b a

@@ -16,7 +16,7 @@ fn tech_of(alloc: Global, limits: &str) -> Result<Tech, FoldFault> {
     }
 }
 
-// An inverter whose P and N transistors are so many grid units wide; `more` stands behind the line of the P
+// An inverter whose P and N transistors have these widths in grid units; `more` follows on the line of the P
 // transistor.
 fn inverter(alloc: Global, widths: (u32, u32), more: &str) -> Result<String, AllocError> {
     let p = 150 * u64::from(widths.0);
@@ -68,7 +68,7 @@ fn put_fault(alloc: Global, told: &mut Vec<u8>, fault: &FoldFault) -> Result<(),
     told.extend_from_slice(text.as_bytes())
 }
 
-// Whether the widths of the fingers, or the fault, are told so.
+// Whether the fingers have these widths, or the fault is this one.
 fn tells(
     alloc: Global,
     limits: &str,

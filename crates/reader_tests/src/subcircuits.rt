@@ -52,7 +52,7 @@ fn put_fault(alloc: Global, told: &mut Vec<u8>, fault: &SpiceFault) -> Result<()
     told.extend_from_slice(text.as_bytes())
 }
 
-// whether the cell `c`, or the fault, is told so
+// whether the text gives this cell `c`, or this fault
 fn tells(alloc: Global, text: &[u8], want: &str) -> Result<bool, Fail> {
     let mut told = Vec::new(alloc);
     match read(alloc, text)? {
@@ -66,19 +66,23 @@ const INVERTER: &str = "4 2 3 a y vdd gnd, P 1 0 2 20 1, N 1 0 3 10 1";
 
 const SUBCIRCUITS: [(&[u8], &str); 11] = [
     (
-        b".SUBCKT c a y vdd gnd\n*.PININFO a:I y:O vdd:B gnd:B\nMP y a vdd vdd p W=3u L=0.6u\nMN y a gnd gnd n W=1.5u L=0.6u\n.ENDS\n",
+        b".SUBCKT c a y vdd gnd\n*.PININFO a:I y:O vdd:B gnd:B\nMP y a vdd vdd p W=3u L=0.6u\n\
+          MN y a gnd gnd n W=1.5u L=0.6u\n.ENDS\n",
         INVERTER,
     ),
     (
-        b".SUBCKT c a y vdd gnd\nMP y a vdd vdd p W=3u L=0.6u\nMn Y a\n+ GND gnd NMOS w=1.5UM $ width\n+ L = 600N AD=2p\n.ENDS\n",
+        b".SUBCKT c a y vdd gnd\nMP y a vdd vdd p W=3u L=0.6u\nMn Y a\n+ GND gnd NMOS w=1.5UM $ width\n\
+          + L = 600N AD=2p\n.ENDS\n",
         INVERTER,
     ),
     (
-        b".subckt c a y vdd\nMP y a vdd vdd p W=3u L=0.6u\nMN y a gnd gnd n w=9 W=1.5E-6 L=0.6u NF=2 nf=1 m=1000m\n.ends\n.GLOBAL x gnd",
+        b".subckt c a y vdd\nMP y a vdd vdd p W=3u L=0.6u\nMN y a gnd gnd n w=9 W=1.5E-6 L=0.6u NF=2 nf=1 m=1000m\n\
+          .ends\n.GLOBAL x gnd",
         INVERTER,
     ),
     (
-        b".global gnd vdd\n.subckt c a y\n.global\nMP y a vdd vdd p W=3u L=0.6u\nmn y a t gnd n w=1.575u l=.6u\nmn2 t a gnd gnd nch w=0.825u l=600n\n.ENDS\n",
+        b".global gnd vdd\n.subckt c a y\n.global\nMP y a vdd vdd p W=3u L=0.6u\nmn y a t gnd n w=1.575u l=.6u\n\
+          mn2 t a gnd gnd nch w=0.825u l=600n\n.ENDS\n",
         "4 2 3 a y vdd gnd t, P 1 0 2 20 1, N 1 0 4 11 1, N 4 0 3 6 1",
     ),
     (b"", "NoCell"),
@@ -107,7 +111,7 @@ fn reads_subcircuits(rt: HostRuntime) -> Result<(), Fail> {
     Ok(())
 }
 
-// an inverter whose lines have more words behind them
+// an inverter whose lines have more words at their ends
 fn inverter_tells(alloc: Global, p: &str, n: &str, want: &str) -> Result<bool, Fail> {
     let text = format!(in alloc;
         ".subckt c a y vdd gnd\nmp y a vdd vdd p w=3u l=.6u {p}\nmn y a gnd gnd n w=1.5u l=.6u {n}\n.ends\n"
@@ -225,9 +229,9 @@ fn directs(alloc: Global, text: &[u8], want: &str) -> Result<bool, Fail> {
 }
 
 fn directs_with(alloc: Global, comments: [&str; 3], want: &str) -> Result<bool, Fail> {
-    let [front, inside, behind] = comments;
+    let [head, body, end] = comments;
     let text = format!(in alloc;
-        "{front}.SUBCKT c a y vdd gnd\n{inside}MP y a vdd vdd p W=3u L=0.6u\nMN y a gnd gnd n W=1.5u L=0.6u\n.ENDS\n{behind}"
+        "{head}.SUBCKT c a y vdd gnd\n{body}MP y a vdd vdd p W=3u L=0.6u\nMN y a gnd gnd n W=1.5u L=0.6u\n.ENDS\n{end}"
     )?;
     directs(alloc, text.as_bytes(), want)
 }

@@ -72,7 +72,7 @@ fn read(alloc: Global, text: &[u8]) -> Result<Tech, TechFault> {
     read_tech(alloc, &text[..text.len().min(1000)])
 }
 
-// Whether the technology of the text, or the fault, is told so.
+// Whether the text gives this technology, or this fault.
 fn tells(alloc: Global, text: &[u8], want: &[u8]) -> Result<bool, Fail> {
     let answer = read(alloc, text);
     let mut told = Vec::new(alloc);

@@ -60,7 +60,7 @@ pub record IsDrawn (c : RowCell) : Type 0 where
 abbrev pub inner_cells : List RowCell → List RowCell
 inner_cells cells = drop 1 (take (length cells - 1) cells)
 
--- All are drawn. What is 19 wide keeps apart what stands on its two sides: active and a well by rule 2.3.
+-- All are drawn. A cell 19 wide keeps its two neighbours apart: active and a well by rule 2.3.
 pub record AreDrawn (cells : List RowCell) : Type 0 where
   pub each : All IsDrawn cells
   pub inner : All (λ (c : RowCell). LEAST_INNER ≤ c.drawing.width) (inner_cells cells)

@@ -16,7 +16,7 @@ name_in_row s name = if is_rail s.cell name then name else numbered_name s.numbe
 abbrev pub names_of_row : List RowCell → List (List ℕ)
 names_of_row cells = flat_map (λ (s : Standing). map (name_in_row s) s.cell.nets) (standing cells)
 
--- the finger where its nets are numbered behind so many others
+-- the finger where its nets are numbered after `nets` others
 abbrev pub behind : ℕ → Finger → Finger
 behind nets f = record {
   row = f.row;
@@ -26,7 +26,7 @@ behind nets f = record {
   width = f.width;
 }
 
--- the fingers of one side of all cells, the nets of the cells numbered one behind the other
+-- the fingers of one side of all cells, the nets numbered cell after cell, after `nets` others
 abbrev pub fingers_behind : (Fingers → List Finger) → ℕ → List RowCell → List Fingers → List Finger
 fingers_behind side nets (c ∷ cs) (f ∷ fs) =
     map (behind nets) (side f) ++ fingers_behind side (nets + length c.nets) cs fs

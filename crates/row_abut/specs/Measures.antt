@@ -5,8 +5,8 @@ use Rattle.std.specs.Prelude.{ℕ}
 abbrev pub MOST_CELLS : ℕ
 MOST_CELLS = 16
 
--- Widths, channel edges and coordinates of cells lie within so many units of 0, a choice: twice the 1,000,000 that a
--- line of a drawing may stand at.
+-- How far from 0 widths, channel edges and coordinates of cells may lie, a choice: twice the 1,000,000 that a line of
+-- a drawing may stand at.
 abbrev pub MOST_REACH : ℕ
 MOST_REACH = 2000000
 

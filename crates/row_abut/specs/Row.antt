@@ -13,7 +13,7 @@ pub record Standing : Type 0 where
   pub x : ℕ
   pub cell : RowCell
 
--- the cells behind so many others, which are so wide together
+-- the cells after `number` others, which are `x` wide together
 abbrev pub standing_behind : ℕ → ℕ → List RowCell → List Standing
 standing_behind number x [] = []
 standing_behind number x (c ∷ cs) =
@@ -22,7 +22,7 @@ standing_behind number x (c ∷ cs) =
 abbrev pub standing : List RowCell → List Standing
 standing cells = standing_behind 0 0 cells
 
--- so far to the right
+-- moved to the right
 abbrev pub shifted : ℕ → Shape → Shape
 shifted by s = record {
   layer = s.layer;

@@ -10,7 +10,7 @@ use Rattle.row_abut.specs.Row.{Standing, standing, row_labels}
 abbrev pub has_name : List RowCell → List ℕ → Bool
 has_name cells name = list_any (λ (c : RowCell). bytes_eq c.name name) cells
 
--- the cells whose names no cell before them has, behind some others
+-- the cells whose names no cell before them has, nor one of `before`
 abbrev pub first_uses : List RowCell → List RowCell → List RowCell
 first_uses before [] = []
 first_uses before (c ∷ cs) =

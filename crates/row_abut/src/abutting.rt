@@ -21,9 +21,9 @@ use gds_write::StructList;
 use std::alloc::Global;
 
 /// Puts 1 to [`MOST_CELLS`](crate::MOST_CELLS) cells side by side, from the left: a structure for each different cell,
-/// then the top, which refers to each cell in its place. The nets of cell K but the rails are labelled `K#name` there, K
-/// from 0; the rails are common. Drawn cells of one height whose channels fit obey the rules side by side and are all
-/// their circuits.
+/// then the top, which refers to each cell in its place. The nets of cell K except the rails are labelled `K#name`
+/// there, K from 0; the rails are common. Drawn cells of one height whose channels fit obey the rules side by side and
+/// are all their circuits.
 pub fn abut(alloc: Global, top: &Name, cells: &RowCellList) -> Result<StructList, RowFault>
     requires some { 1 ≤ length cells.now }
     requires few { length cells.now ≤ MOST_CELLS }

@@ -5,7 +5,7 @@ ghost use Rattle.row_abut.specs.Faults.{first_height, other_height, clash, first
 
 use crate::{CHANNEL_ROOM, RowCell};
 
-/// The height of the first cell.
+/// The height of the first cell, in grid units; 0 where there is none.
 pub fn first_height(cells: &[RowCell]) -> u32
     ensures { result ≡ first_height cells.now }
 {
@@ -15,7 +15,7 @@ pub fn first_height(cells: &[RowCell]) -> u32
     }
 }
 
-/// The height of the first cell that is not so high.
+/// The height of the first cell that has another height than `first`.
 pub fn other_height(cells: &[RowCell], first: u32) -> Option<u32>
     ensures { result ≡ other_height first cells.now }
 {

@@ -11,5 +11,6 @@ mod structs;
 
 pub use abutting::abut;
 pub use cell::{RowCell, RowCellList, RowFault};
+pub use fault::first_height;
 pub use laws::measure_numbers;
 pub use measure::{CHANNEL_ROOM, LEAST_INNER, MOST_CELLS, MOST_REACH};

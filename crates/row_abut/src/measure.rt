@@ -3,7 +3,7 @@
 /// The most cells of a row.
 pub const MOST_CELLS: usize = 16;
 
-/// Widths, channel edges and coordinates of cells lie within so many units of 0.
+/// How far from 0 widths, channel edges and coordinates of cells may lie.
 pub const MOST_REACH: u32 = 2_000_000;
 
 /// From the N edge of a cell to the P edge of its neighbour.

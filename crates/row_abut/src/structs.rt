@@ -1,6 +1,6 @@
 // The structures of a row.
 
-ghost use Rattle.std.specs.Prelude.{◌≡◌, ◌≤◌, ◌*◌, ◌++◌, [], All, IfOk, OnOk, length, map};
+ghost use Rattle.std.specs.Prelude.{◌≡◌, ◌≤◌, ◌*◌, [], All, IfOk, length, map};
 ghost use Rattle.row_abut.specs.Cells.{IsRowCell};
 ghost use Rattle.row_abut.specs.Measures.{MOST_CELLS, MOST_REACH};
 ghost use Rattle.row_abut.specs.Row.{standing};

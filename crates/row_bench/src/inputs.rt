@@ -22,6 +22,7 @@ pub struct Asked<'a> {
 }
 
 impl<'a> Asked<'a> {
+    /// From a version, a technology file, a SPICE file and a cell, if there are just these words.
     pub fn from_words(words: &'a [String]) -> Option<Asked<'a>> {
         match words {
             [version, tech, spice, cell] => Some(Asked {

@@ -131,3 +131,5 @@ pub one_least : (d : Distances) (xs ys : List ℕ) → IsLeast d xs → IsLeast 
 one_least d xs ys a b = same_number_lists xs ys (a.solution.lines ∙ sym b.solution.lines) (λ k short.
     let low : k < d.lines = omega (arith, short, a.solution.lines) in
     omega (arith, a.least ys b.solution k low, b.least xs a.solution k low))
+
+pub ruleset push_rules = (begun, pushed, whole, modest_entries)

@@ -40,9 +40,12 @@ pub record AreAllowed (placement : Placement) (pins : Pins) (stretches : List St
   pub lines : length xs ≡ 2 * length placement.units + 1
   pub first : SIDE_SPACE ≤ x_of xs 0
   pub next : (line : ℕ) → line < 2 * length placement.units → x_of xs line + LINE_SPACE ≤ x_of xs (line + 1)
-  pub left : (unit : ℕ) → slice_get placement.units unit ≡ Some Column → HasContact placement pins (2 * unit) → x_of xs (2 * unit) + CONTACT_SPACE ≤ x_of xs (2 * unit + 1)
-  pub right : (unit : ℕ) → slice_get placement.units unit ≡ Some Column → HasContact placement pins (2 * unit + 2) → x_of xs (2 * unit + 1) + CONTACT_SPACE ≤ x_of xs (2 * unit + 2)
-  pub apart : (a b : Stretch) → Contains stretches a → Contains stretches b → a.track ≡ b.track → a.right < b.left → x_of xs a.right + STRETCH_SPACE ≤ x_of xs b.left
+  pub left : (unit : ℕ) → slice_get placement.units unit ≡ Some Column → HasContact placement pins (2 * unit) →
+      x_of xs (2 * unit) + CONTACT_SPACE ≤ x_of xs (2 * unit + 1)
+  pub right : (unit : ℕ) → slice_get placement.units unit ≡ Some Column → HasContact placement pins (2 * unit + 2) →
+      x_of xs (2 * unit + 1) + CONTACT_SPACE ≤ x_of xs (2 * unit + 2)
+  pub apart : (a b : Stretch) → Contains stretches a → Contains stretches b → a.track ≡ b.track → a.right < b.left →
+      x_of xs a.right + STRETCH_SPACE ≤ x_of xs b.left
 
 -- the solutions of the distances are exactly the positions that the row allows
 abbrev pub AreDistances : Placement → Pins → List Stretch → Distances → Type 0
@@ -50,4 +53,6 @@ AreDistances placement pins stretches d = (xs : List ℕ) → IsSolution d xs �
 
 -- positions that every legal routing with so many lines allows
 abbrev pub AreAlwaysAllowed : ℕ → List ℕ → Type 0
-AreAlwaysAllowed lines xs = (p : Placement) (pins : Pins) (r : Routing) → IsPlacement p → IsLegal p pins r → lines ≡ 2 * length p.units + 1 → AreAllowed p pins (stretches_of r.trunks) xs
+AreAlwaysAllowed lines xs =
+    (p : Placement) (pins : Pins) (r : Routing) → IsPlacement p → IsLegal p pins r → lines ≡ 2 * length p.units + 1 →
+    AreAllowed p pins (stretches_of r.trunks) xs

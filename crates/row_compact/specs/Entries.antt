@@ -1,5 +1,6 @@
 -- The list of distances of a routed row.
-use Rattle.std.specs.Prelude.{ℕ, ◌+◌, ◌*◌, ◌==◌, ◌&&◌, ◌||◌, ltb, max, get_or, Bool, true, false, cond, List, [], ◌∷◌, ◌++◌, Option, Some, None, filter_map}
+use Rattle.std.specs.Prelude.{ℕ, ◌+◌, ◌*◌, ◌==◌, ◌&&◌, ◌||◌, ltb, max, get_or, Bool, true}
+use Rattle.std.specs.Prelude.{false, cond, List, [], ◌∷◌, ◌++◌, Option, Some, None, filter_map}
 use Rattle.std.specs.List.{flat_map, list_any}
 use Rattle.cell_num.specs.declared.net.NetNo.{NetNo}
 use Rattle.cell_num.specs.declared.net.Pins.{Pins}
@@ -35,7 +36,8 @@ least_in Column false = LINE_SPACE
 
 -- from the left node line of a unit to its gate line, and on to the right one
 abbrev pub two_entries : ℕ → ℕ → ℕ → List Distance
-two_entries unit before behind = entry (2 * unit) (2 * unit + 1) before ∷ entry (2 * unit + 1) (2 * unit + 2) behind ∷ []
+two_entries unit before behind =
+    entry (2 * unit) (2 * unit + 1) before ∷ entry (2 * unit + 1) (2 * unit + 2) behind ∷ []
 
 -- the distances inside a unit
 abbrev pub unit_entries : (ℕ → Bool) → ℕ → UnitKind → List Distance

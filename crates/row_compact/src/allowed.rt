@@ -6,7 +6,8 @@ ghost use Rattle.channel_route.specs.Routing.{IsLegal};
 ghost use Rattle.channel_route.specs.Wiring.{AreWiring};
 ghost use Rattle.row_compact.specs.Solution.{IsEntry};
 ghost use Rattle.row_compact.specs.Allowed.{AreDistances, stretches_of};
-ghost use Rattle.row_compact.specs.Entries.{is_rail, has_trunk, is_contacted, is_wide, least_in, two_entries, units_from, pair_entry, pairs_of, entries_of};
+ghost use Rattle.row_compact.specs.Entries.{is_rail, has_trunk, is_contacted, is_wide, least_in};
+ghost use Rattle.row_compact.specs.Entries.{two_entries, units_from, pair_entry, pairs_of, entries_of};
 
 use crate::{
     CONTACT_SPACE, Distance, DistanceList, Distances, LINE_SPACE, MOST_LINES, STRETCH_SPACE,
@@ -113,6 +114,8 @@ fn add_all_pairs(list: &mut DistanceList, trunks: &[Trunk]) -> Result<(), NoMemo
     Ok(())
 }
 
+/// The distances of a routed row: those of its units from left to right, then those of pairs of
+/// trunks on one track.
 pub fn entries(
     alloc: Global,
     placement: &Placement,

@@ -6,7 +6,7 @@ use cell_num::List;
 /// The most lines of a row: two for each unit, and the last one.
 pub const MOST_LINES: u32 = 127;
 
-/// One line stands at least so far behind another, in grid units.
+/// The line `to` stands at least `least` grid units after the line `from`.
 #[derive(Clone, Copy, Debug, PartialEq, Eq)]
 pub struct Distance {
     pub from: u32,
@@ -14,9 +14,10 @@ pub struct Distance {
     pub least: u32,
 }
 
+/// Distances in any order.
 pub type DistanceList = List<Distance>;
 
-/// What so many lines keep between them. Line 0 besides stands at 8 or more.
+/// What `lines` lines keep between them. Line 0 besides stands at 8 grid units or more.
 #[derive(Debug, PartialEq, Drop)]
 pub struct Distances {
     pub lines: u32,
@@ -26,7 +27,7 @@ pub struct Distances {
 /// The position of each line, in grid units.
 pub type LineXs = List<u32>;
 
-/// Where a line stands; 0 behind the last.
+/// The position of a line, in grid units; 0 after the last line.
 pub fn x_of(xs: &[u32], line: u32) -> u32
     ensures { result ≡ x_at xs.now line }
 {

@@ -1,6 +1,6 @@
 // Positions of lines: at even distances, and the least that distances allow.
 
-ghost use Rattle.std.specs.Prelude.{◌≡◌, ◌≤◌, ◌<◌, ◌+◌, ◌*◌, ℕ, List as Sequence, All, IfOk, length, map};
+ghost use Rattle.std.specs.Prelude.{◌≡◌, ◌≤◌, ◌<◌, ◌+◌, ◌*◌, ℕ, List as Sequence, All, IfOk, map};
 ghost use Rattle.std.specs.List.{range_with_len};
 ghost use Rattle.row_compact.specs.declared.distance.Distances.{Distances as SomeDistances};
 ghost use Rattle.row_compact.specs.Solution.{AreSpread, IsEntry, IsLeast, x_of as x_at};
@@ -42,7 +42,7 @@ fn least_x(list: &[Distance], xs: &[u32], line: u32) -> u32
 }
 
 /// The least solution of the distances: at every line it is at most every other solution.
-#[tactic(auto, using(crate::proofs::Least::begun, crate::proofs::Least::pushed, crate::proofs::Least::whole, crate::proofs::Least::modest_entries))]
+#[tactic(auto, using(crate::proofs::Least::push_rules))]
 pub fn least_lines(alloc: Global, distances: &Distances) -> Result<LineXs, NoMemory>
     requires some { 0 < distances.now.lines }
     requires few { distances.now.lines ≤ MOST_LINES }

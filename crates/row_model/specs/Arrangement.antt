@@ -8,6 +8,7 @@ use Rattle.cell_num.specs.declared.finger.Row.{Row}
 use Rattle.cell_num.specs.declared.finger.Row.TheVariants.{P, N}
 use Rattle.cell_num.specs.declared.finger.Finger.{Finger}
 use Rattle.cell_num.specs.declared.finger.Fingers.{Fingers}
+use Rattle.cell_num.specs.declared.net.NetNo.{NetNo}
 use Rattle.cell_num.specs.Fingers.{columns_of}
 use Rattle.row_model.specs.declared.column.Placed.{Placed}
 use Rattle.row_model.specs.declared.column.Column.{Column}
@@ -16,6 +17,12 @@ use Rattle.row_model.specs.declared.column.Column.{Column}
 abbrev pub place : Row → Column → Option Placed
 place P column = column.p
 place N column = column.n
+
+-- the gate of what stands in the two places of a column
+abbrev pub gate_in : Option Placed → Option Placed → Option NetNo
+gate_in (Some x) y = Some x.finger.gate
+gate_in None (Some y) = Some y.finger.gate
+gate_in None None = None
 
 -- the fingers of a row, from left to right
 abbrev pub fingers_in : Row → List Column → List Finger

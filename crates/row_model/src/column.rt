@@ -1,5 +1,5 @@
 ghost use Rattle.std.specs.Prelude.{◌≡◌};
-ghost use Rattle.row_model.specs.Arrangement.{place};
+ghost use Rattle.row_model.specs.Arrangement.{gate_in, place};
 ghost use Rattle.row_model.specs.Gaps.{left_net, right_net};
 
 use cell_num::{Finger, List, NetNo, Row};
@@ -50,6 +50,17 @@ impl Column {
         match row {
             Row::P => self.p,
             Row::N => self.n,
+        }
+    }
+
+    /// The net of its gate: that of the P finger, and without one that of the N finger.
+    pub fn gate(&self) -> Option<NetNo>
+        ensures { result ≡ gate_in self.now.p self.now.n }
+    {
+        match (&self.p, &self.n) {
+            (Some(x), _) => Some(x.finger.gate),
+            (None, Some(y)) => Some(y.finger.gate),
+            (None, None) => None,
         }
     }
 }

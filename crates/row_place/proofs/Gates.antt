@@ -8,12 +8,12 @@ use Rattle.cell_num.specs.declared.finger.Row.{Row}
 use Rattle.cell_num.specs.declared.finger.Row.TheVariants.{P, N}
 use Rattle.row_model.specs.declared.column.Placed.{Placed}
 use Rattle.row_model.specs.declared.column.Column.{Column}
-use Rattle.row_model.specs.Arrangement.{place, AreOneColumn, IsColumn}
+use Rattle.row_model.specs.Arrangement.{place, AreOneColumn, IsColumn, gate_in}
 use Rattle.row_place.specs.declared.placement.GatePlace.{GatePlace}
 use Rattle.row_place.specs.declared.placement.Seat.{Seat}
 use Rattle.row_place.specs.Units.{gap_between, unit_of, seats_from, seats_of}
 use Rattle.row_place.specs.Places.{IsGate}
-use Rattle.row_place.specs.Steps.{gate_in, gate_of, gates_of}
+use Rattle.row_place.specs.Steps.{gate_of, gates_of}
 use Rattle.cell_num.proofs.Lists.{some_same, contains_get, contains_filter_map, Kept, kept_from, all_from_contains}
 use Rattle.row_place.proofs.Units.{SitsAt, seat_at, seat_from, unit_from}
 

@@ -1,5 +1,6 @@
 -- The places of nets on the lines: node places at the ends of fingers, gate places at the gates of columns.
-use Rattle.std.specs.Prelude.{ℕ, ◌≡◌, ◌+◌, ◌*◌, ◌<◌, ◌≤◌, ◌⊎◌, ◌↔◌, List, Some, slice_get, length, All, AllPairs, Contains}
+use Rattle.std.specs.Prelude.{ℕ, ◌≡◌, ◌+◌, ◌*◌, ◌<◌, ◌≤◌, ◌⊎◌, ◌↔◌, List, Some}
+use Rattle.std.specs.Prelude.{slice_get, length, All, AllPairs, Contains}
 use Rattle.cell_num.specs.declared.finger.Row.{Row}
 use Rattle.cell_num.specs.declared.finger.Row.TheVariants.{P, N}
 use Rattle.row_model.specs.declared.column.Placed.{Placed}
@@ -19,7 +20,9 @@ pub record IsNode (row : List Column) (node : NodePlace) : Type 0 where
   pub finger : Placed
   pub stands : slice_get row at ≡ Some column
   pub filled : place node.row column ≡ Some finger
-  pub end : ((node.line ≡ 2 * unit_of row at) × (node.net ≡ left_net finger)) ⊎ ((node.line ≡ 2 * unit_of row at + 2) × (node.net ≡ right_net finger))
+  pub end :
+      ((node.line ≡ 2 * unit_of row at) × (node.net ≡ left_net finger))
+      ⊎ ((node.line ≡ 2 * unit_of row at + 2) × (node.net ≡ right_net finger))
 
 -- some column has a finger on this net, and this gate line
 pub record IsGate (row : List Column) (gate : GatePlace) : Type 0 where
@@ -48,4 +51,9 @@ pub record IsPlacement (placement : Placement) : Type 0 where
 
 -- the units and the places of a row, as a value
 abbrev pub placement_of : List Column → Placement
-placement_of row = record { row = row; units = units_of row; nodes = nodes_below (seats_of row) (length (units_of row) + 1); gates = gates_of (seats_of row) }
+placement_of row = record {
+  row = row;
+  units = units_of row;
+  nodes = nodes_below (seats_of row) (length (units_of row) + 1);
+  gates = gates_of (seats_of row);
+}

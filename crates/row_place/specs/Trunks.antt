@@ -9,7 +9,9 @@ use Rattle.row_place.specs.declared.placement.Placement.{Placement}
 
 -- the lines of the places of a net, one for each place
 abbrev pub lines_of : Placement → NetNo → List ℕ
-lines_of placement net = map (λ node. node.line) (filter (λ node. node.net.0 == net.0) placement.nodes) ++ map (λ gate. gate.line) (filter (λ gate. gate.net.0 == net.0) placement.gates)
+lines_of placement net =
+    map (λ node. node.line) (filter (λ node. node.net.0 == net.0) placement.nodes)
+    ++ map (λ gate. gate.line) (filter (λ gate. gate.net.0 == net.0) placement.gates)
 
 -- each pin other than the rails has a place
 abbrev pub HasPins : Placement → Pins → Type 0

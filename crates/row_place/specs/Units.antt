@@ -27,7 +27,9 @@ unit_of row at = at + gaps_of (take (suc at) row)
 -- the columns with their units, where the first unit that is free has this number
 abbrev pub seats_from : ℕ → Option Column → List Column → List Seat
 seats_from unit before [] = []
-seats_from unit before (column ∷ row) = record { column = column; unit = unit + length (gap_between before column) } ∷ seats_from (unit + length (gap_between before column) + 1) (Some column) row
+seats_from unit before (column ∷ row) =
+    record { column = column; unit = unit + length (gap_between before column) } ∷
+    seats_from (unit + length (gap_between before column) + 1) (Some column) row
 
 -- the columns of a row, each with its unit
 abbrev pub seats_of : List Column → List Seat

@@ -4,7 +4,7 @@ ghost use Rattle.row_model.specs.Arrangement.{IsColumn};
 ghost use Rattle.row_place.specs.declared.placement.NodePlace.{NodePlace};
 ghost use Rattle.row_place.specs.declared.placement.GatePlace.{GatePlace};
 ghost use Rattle.row_place.specs.declared.placement.Placement.{Placement};
-ghost use Rattle.row_place.specs.Units.{gap_between, units_of, unit_of, seats_of};
+ghost use Rattle.row_place.specs.Units.{gap_between, unit_of, seats_of};
 ghost use Rattle.row_place.specs.Places.{IsNode, IsGate, IsPlacement, placement_of};
 
 use crate::MOST_NODES;

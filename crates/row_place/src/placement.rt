@@ -36,12 +36,16 @@ pub struct GatePlace {
     pub net: NetNo,
 }
 
+/// The units of a row from left to right.
 pub type UnitList = List<UnitKind>;
 
+/// The seats of a row from left to right.
 pub type SeatList = List<Seat>;
 
+/// The places of nodes by ascending line, at one line the N row's before the P row's.
 pub type NodeList = List<NodePlace>;
 
+/// The places of gates by ascending line.
 pub type GateList = List<GatePlace>;
 
 /// A row on its lines. Places stand in order of line, the N place of a line before its P place.

@@ -1,10 +1,9 @@
 ghost use Rattle.std.specs.Prelude.{◌≡◌, ◌≤◌};
 ghost use Rattle.row_model.specs.Arrangement.{place};
-ghost use Rattle.row_place.specs.Steps.{end_at, gate_in, gate_of};
+ghost use Rattle.row_place.specs.Steps.{end_at, gate_of};
 
 use crate::{GatePlace, MOST_UNITS, Seat};
 use cell_num::{NetNo, Row};
-use row_model::Column;
 
 impl Seat {
     /// The net that the finger in a row has at a node line.
@@ -27,20 +26,10 @@ impl Seat {
         requires { self.now.unit ≤ MOST_UNITS }
         ensures { result ≡ gate_of self.now }
     {
-        let net = gate_net(&self.column)?;
+        let net = self.column.gate()?;
         Some(GatePlace {
             line: 2 * self.unit + 1,
             net,
         })
-    }
-}
-
-fn gate_net(column: &Column) -> Option<NetNo>
-    ensures { result ≡ gate_in column.now.p column.now.n }
-{
-    match (&column.p, &column.n) {
-        (Some(x), _) => Some(x.finger.gate),
-        (None, Some(y)) => Some(y.finger.gate),
-        (None, None) => None,
     }
 }

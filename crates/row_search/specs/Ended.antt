@@ -38,7 +38,9 @@ IfOpen _ Says = Unit {0}
 
 -- no two lemmas have one state and one bound
 abbrev pub AreDistinct : List Lemma → Type 0
-AreDistinct lemmas = (i j : ℕ) (d : Lemma) → i < j → j < length lemmas → (slice_index_or lemmas i d).state ≡ (slice_index_or lemmas j d).state → (slice_index_or lemmas i d).bound ≡ (slice_index_or lemmas j d).bound → ⊥
+AreDistinct lemmas = (i j : ℕ) (d : Lemma) → i < j → j < length lemmas
+    → (slice_index_or lemmas i d).state ≡ (slice_index_or lemmas j d).state
+    → (slice_index_or lemmas i d).bound ≡ (slice_index_or lemmas j d).bound → ⊥
 
 -- a bound from 1 to n
 abbrev pub IsInRange : ℕ → Lemma → Type 0
@@ -67,7 +69,8 @@ pub record IsSearchLog (value : Row → State → Kinds → ℕ) (k : Kinds) (f 
 
 -- The evidence of a search that found a row: the log is accepted by the rule of inference alone, and lists the
 -- row. A node for each lemma, one for each column and one at the end are within the budget.
-pub record IsSolved (value : Row → State → Kinds → ℕ) (k : Kinds) (f : Fingers) (budget : ℕ) (row : List Column) (log : Log) : Type 0 where
+pub record IsSolved (value : Row → State → Kinds → ℕ) (k : Kinds) (f : Fingers) (budget : ℕ) (row : List Column)
+    (log : Log) : Type 0 where
   pub accepted : IsAccepted value k f log (gaps_of row)
   pub lists : Lists k log.best (λ listed. listed ≡ row)
   pub kept : length log.lemmas + columns_of f + 1 ≤ budget
@@ -76,7 +79,8 @@ pub record IsSolved (value : Row → State → Kinds → ℕ) (k : Kinds) (f : F
 -- The evidence of a search whose budget is spent: the log lists no row, and its lemmas are as many as the budget has
 -- nodes but for those of one row. The best bound of the start state is proved: no arrangement has fewer gaps. A budget
 -- that is enough is never spent.
-pub record IsSpent (value : Row → State → Kinds → ℕ) (k : Kinds) (f : Fingers) (budget : ℕ) (log : Log) (proved : ℕ) : Type 0 where
+pub record IsSpent (value : Row → State → Kinds → ℕ) (k : Kinds) (f : Fingers) (budget : ℕ) (log : Log)
+    (proved : ℕ) : Type 0 where
   pub lists_none : IsNone log.best
   pub many : budget ≤ length log.lemmas + columns_of f
   pub few : length log.lemmas ≤ budget

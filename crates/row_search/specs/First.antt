@@ -10,4 +10,5 @@ use Rattle.row_state.specs.Order.{RowBefore}
 pub record IsFirstLeast (f : Fingers) (row : List Column) : Type 0 where
   pub arranges : IsArrangement row f
   pub least : (other : List Column) → IsArrangement other f → gaps_of row ≤ gaps_of other
-  pub first : (other : List Column) → IsArrangement other f → gaps_of other ≡ gaps_of row → (row ≡ other) ⊎ RowBefore row other
+  pub first : (other : List Column) → IsArrangement other f → gaps_of other ≡ gaps_of row
+      → (row ≡ other) ⊎ RowBefore row other

@@ -22,7 +22,12 @@ best_with k gaps steps = record { gaps = gaps; steps = steps_of k steps }
 
 -- the row of the steps, with the lemmas and the nodes so far
 abbrev pub found_of : Kinds → SoFar → ℕ → List Step → FoundKept
-found_of k p gaps steps = record { row = row_of k steps; kept = p.lemmas; best = best_with k gaps steps; nodes = p.nodes }
+found_of k p gaps steps = record {
+  row = row_of k steps;
+  kept = p.lemmas;
+  best = best_with k gaps steps;
+  nodes = p.nodes;
+}
 
 -- the lemmas prove that each row has so many gaps, and are of states that limits up to so many reach
 pub record ProveGaps (value : Row → State → Kinds → ℕ) (k : Kinds) (gaps : ℕ) (lemmas : List Lemma) : Type 0 where
@@ -32,7 +37,8 @@ pub record ProveGaps (value : Row → State → Kinds → ℕ) (k : Kinds) (gaps
 
 -- at the limit of so many gaps the row of the steps was found; a node was taken for each lemma, for each
 -- column and at the end
-pub record IsFoundAt (value : Row → State → Kinds → ℕ) (k : Kinds) (budget : ℕ) (gaps : ℕ) (steps : List Step) (p : SoFar) : Type 0 where
+pub record IsFoundAt (value : Row → State → Kinds → ℕ) (k : Kinds) (budget : ℕ) (gaps : ℕ) (steps : List Step)
+    (p : SoFar) : Type 0 where
   pub first : IsFirstWithin k (start_of k) gaps (row_of k steps)
   pub sound : All (IsStep k) steps
   pub lemmas : ProveGaps value k gaps p.lemmas
@@ -48,11 +54,12 @@ pub record IsFound (value : Row → State → Kinds → ℕ) (k : Kinds) (budget
   pub last : IsFoundAt value k budget gaps steps p
 
 -- the budget was spent
-pub record IsOpen (value : Row → State → Kinds → ℕ) (k : Kinds) (budget : ℕ) (kept : List Lemma) (proved : ℕ) : Type 0 where
-  pub lemmas : ProveGaps value k proved kept
-  pub proved_is : proved ≡ best_of (start_of k) kept
-  pub many : budget ≤ length kept + columns_in k
-  pub few : length kept ≤ budget
+pub record IsOpen (value : Row → State → Kinds → ℕ) (k : Kinds) (budget : ℕ) (kept : List Lemma) (proved : ℕ) : Type 0
+  where
+    pub lemmas : ProveGaps value k proved kept
+    pub proved_is : proved ≡ best_of (start_of k) kept
+    pub many : budget ≤ length kept + columns_in k
+    pub few : length kept ≤ budget
 
 abbrev pub StopsWell : (Row → State → Kinds → ℕ) → Kinds → ℕ → StopKept → Type 0
 StopsWell value k budget (Unfinished kept proved) = IsOpen value k budget kept proved

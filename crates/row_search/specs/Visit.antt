@@ -22,7 +22,8 @@ use Rattle.row_search.specs.Steps.{IsStep, row_of}
 pub record IsFirstWithin (k : Kinds) (s : State) (allowed : ℕ) (row : List Column) : Type 0 where
   pub completes : Completes k s row
   pub within : further_gaps s row ≤ allowed
-  pub first : (other : List Column) → Completes k s other → further_gaps s other ≤ allowed → (row ≡ other) ⊎ RowBefore row other
+  pub first : (other : List Column) → Completes k s other → further_gaps s other ≤ allowed
+      → (row ≡ other) ⊎ RowBefore row other
 
 -- the bound of a row serves, and no earlier one
 abbrev pub RowReaches : (Row → State → Kinds → ℕ) → Kinds → State → ℕ → Rule → Type 0
@@ -51,11 +52,13 @@ pub record IsGrown (k : Kinds) (n : ℕ) (before after : List Lemma) : Type 0 wh
 -- a search went on from `before` to `after`, with so many gaps allowed at a state: it kept the budget, it
 -- added only lemmas of states with fewer than n columns left, which each limit reaches that reaches the
 -- state, and it took at least a node for each of them
-pub record IsFurther (value : Row → State → Kinds → ℕ) (k : Kinds) (budget n : ℕ) (s : State) (allowed : ℕ) (before after : SoFar) : Type 0 where
+pub record IsFurther (value : Row → State → Kinds → ℕ) (k : Kinds) (budget n : ℕ) (s : State) (allowed : ℕ)
+    (before after : SoFar) : Type 0 where
   pub nodes : after.nodes ≤ budget
   pub lemmas : AreKept value k after.lemmas
   pub grown : IsGrown k n before.lemmas after.lemmas
-  pub within : (limit : ℕ) → IsAllowed k limit s allowed → All (IsWithin k limit) before.lemmas → All (IsWithin k limit) after.lemmas
+  pub within : (limit : ℕ) → IsAllowed k limit s allowed → All (IsWithin k limit) before.lemmas
+      → All (IsWithin k limit) after.lemmas
   pub fewer : before.nodes + length after.lemmas ≤ after.nodes + length before.lemmas
 
 -- no completion has so few gaps, and the lemmas prove it: a node for each one that was added

@@ -19,7 +19,7 @@ use lemma_check::RowTrails;
 use row_state::{EmptyPlaces, Kinds, Numbered, RowBound, Step, candidates, columns, kinds, start};
 use std::alloc::Global;
 
-// The answer where the row of the steps is found, at so many gaps.
+// The answer where the row of the steps is found, with this number of gaps.
 fn finish(
     alloc: Global,
     kinds: &Kinds,

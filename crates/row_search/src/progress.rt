@@ -14,7 +14,7 @@ use row_state::{Kinds, Numbered};
 use std::alloc::Global;
 use std::marker::Model;
 
-/// What a search has come to.
+/// What a search has found so far.
 #[derive(Drop)]
 pub(crate) struct Progress {
     nodes: u64,

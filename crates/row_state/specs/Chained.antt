@@ -61,7 +61,12 @@ label_joined label a b u same = elim (cases_eq u (max a b)) [
 
 pub least_le : (fs : List Finger) (u : ℕ) → least_chained fs u ≤ u
 least_le [] u = omega arith
-least_le (f ∷ fs) u = omega (arith, least_le fs u, joined_le (least_chained fs f.lo.0) (least_chained fs f.hi.0) (least_chained fs u))
+least_le (f ∷ fs) u = omega (
+  arith,
+  least_le fs u,
+  joined_le (least_chained fs f.lo.0) (least_chained fs f.hi.0)
+      (least_chained fs u),
+)
 
 -- the names are such labels
 pub least_labels : (fs : List Finger) → IsLabelling (least_chained fs) fs
@@ -71,7 +76,9 @@ least_labels (f ∷ fs) =
     let b : ℕ = least_chained fs f.hi.0 in
     All-cons (λ (g : Finger). joined a b (least_chained fs g.lo.0) ≡ joined a b (least_chained fs g.hi.0)) f fs
     (joined_a a b ∙ sym (joined_b a b))
-    (All-weaker (λ (g : Finger). least_chained fs g.lo.0 ≡ least_chained fs g.hi.0) (λ (g : Finger). joined a b (least_chained fs g.lo.0) ≡ joined a b (least_chained fs g.hi.0)) (λ g e. ap (joined a b) e) fs (least_labels fs))
+    (All-weaker (λ (g : Finger). least_chained fs g.lo.0 ≡ least_chained fs g.hi.0)
+    (λ (g : Finger). joined a b (least_chained fs g.lo.0) ≡ joined a b (least_chained fs g.hi.0))
+    (λ g e. ap (joined a b) e) fs (least_labels fs))
 
 -- a class's name is chained with its nets
 pub least_is_chained : (fs : List Finger) (u : ℕ) → AreChained fs (least_chained fs u) u
@@ -79,8 +86,10 @@ least_is_chained [] u label h = refl
 least_is_chained (f ∷ fs) u label h =
     let ends : label f.lo.0 ≡ label f.hi.0 = All-head (λ (g : Finger). label g.lo.0 ≡ label g.hi.0) f fs h in
     let rest : IsLabelling label fs = All-tail (λ (g : Finger). label g.lo.0 ≡ label g.hi.0) f fs h in
-    let same : label (least_chained fs f.lo.0) ≡ label (least_chained fs f.hi.0) = least_is_chained fs f.lo.0 label rest ∙ ends ∙ sym (least_is_chained fs f.hi.0 label rest) in
-    label_joined label (least_chained fs f.lo.0) (least_chained fs f.hi.0) (least_chained fs u) same ∙ least_is_chained fs u label rest
+    let same : label (least_chained fs f.lo.0) ≡ label (least_chained fs f.hi.0) = least_is_chained fs f.lo.0 label rest
+    ∙ ends ∙ sym (least_is_chained fs f.hi.0 label rest) in
+    label_joined label (least_chained fs f.lo.0) (least_chained fs f.hi.0) (least_chained fs u) same
+    ∙ least_is_chained fs u label rest
 
 pub class_chained : (fs : List Finger) (u v : ℕ) → least_chained fs u ≡ least_chained fs v → AreChained fs u v
 class_chained fs u v e label h = sym (least_is_chained fs u label h) ∙ ap label e ∙ least_is_chained fs v label h
@@ -92,13 +101,17 @@ pub least_is_least : (fs : List Finger) (u v : ℕ) → AreChained fs u v → le
 least_is_least fs u v h = omega (arith, chained_class fs u v h, least_le fs v)
 
 -- fewer demands on the labels chain fewer nets
-least_more : (xs ys : List Finger) → ((label : ℕ → ℕ) → IsLabelling label ys → IsLabelling label xs) → (u : ℕ) → least_chained ys u ≤ least_chained xs u
+least_more : (xs ys : List Finger) → ((label : ℕ → ℕ) → IsLabelling label ys → IsLabelling label xs) → (u : ℕ)
+    → least_chained ys u ≤ least_chained xs u
 least_more xs ys also u =
     least_is_least ys u (least_chained xs u) (λ label h. sym (least_is_chained xs u label (also label h)))
 
 -- the names depend on the fingers alone, and not on their order
 pub least_permuted : (xs ys : List Finger) (u : ℕ) → IsPermutation xs ys → least_chained xs u ≡ least_chained ys u
 least_permuted xs ys u h =
-    let there : least_chained ys u ≤ least_chained xs u = least_more xs ys (λ label l. All-permutation (λ (f : Finger). label f.lo.0 ≡ label f.hi.0) ys xs (IsPermutation-sym xs ys h) l) u in
-    let back : least_chained xs u ≤ least_chained ys u = least_more ys xs (λ label l. All-permutation (λ (f : Finger). label f.lo.0 ≡ label f.hi.0) xs ys h l) u in
+    let there : least_chained ys u ≤ least_chained xs u =
+    least_more xs ys (λ label l. All-permutation (λ (f : Finger). label f.lo.0 ≡ label f.hi.0) ys xs
+    (IsPermutation-sym xs ys h) l) u in
+    let back : least_chained xs u ≤ least_chained ys u =
+    least_more ys xs (λ label l. All-permutation (λ (f : Finger). label f.lo.0 ≡ label f.hi.0) xs ys h l) u in
     omega (arith, there, back)

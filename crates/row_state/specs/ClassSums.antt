@@ -1,5 +1,6 @@
 -- Sums over the classes, with two of them apart.
-use Rattle.std.proofs.Common.{ℕ, zero, suc, ◌≡◌, ◌+◌, ◌<◌, ◌≤◌, ◌==◌, if◌then◌else◌, max, min, refl, sym, ap, arith, inl, inr}
+use Rattle.std.proofs.Common.{ℕ, zero, suc, ◌≡◌, ◌+◌, ◌<◌, ◌≤◌, ◌==◌, if◌then◌else◌, max, min, refl, sym, ap, arith}
+use Rattle.std.proofs.Common.{inl, inr}
 use Rattle.std.proofs.lemmas.Bool.{cases_eq, cases_lt, eq-eqb, ne_eqb}
 use Rattle.cell_num.specs.Fingers.{sum_below}
 use Rattle.row_state.specs.Gates.{OneDiffers, one_differs}
@@ -21,7 +22,8 @@ but_other f at h other = rw (ne_eqb h at other) refl
 
 sum_at : (f : ℕ → ℕ) (n at : ℕ) → at < n → sum_below f n ≡ f at + sum_below (but f at) n
 sum_at f n at within =
-    let differs : OneDiffers f (but f at) n at = one_differs f (but f at) n at (λ h other. sym (but_other f at h other)) in
+    let differs : OneDiffers f (but f at) n at =
+    one_differs f (but f at) n at (λ h other. sym (but_other f at h other)) in
     let none : but f at at ≡ 0 = but_at f at at refl in
     omega (arith, differs.within within, none)
 
@@ -33,19 +35,28 @@ pub sum_pair : (f : ℕ → ℕ) (n a b : ℕ) → a < n → b < n → sum_below
 unfolding rest
 sum_pair f n a b a_net b_net = omega (arith, sum_at f n b b_net, sum_at (but f b) n a a_net)
 
-pub rest_le : (f g : ℕ → ℕ) (n a b : ℕ) → ((h : ℕ) → (h ≡ a → ⊥) → (h ≡ b → ⊥) → f h ≤ g h) → rest f a b n ≤ rest g a b n
+pub rest_le : (f g : ℕ → ℕ) (n a b : ℕ) → ((h : ℕ) → (h ≡ a → ⊥) → (h ≡ b → ⊥) → f h ≤ g h) → rest f a b n
+    ≤ rest g a b n
 unfolding rest
 rest_le f g n a b le =
     sum_below_mono (but (but f b) a) (but (but g b) a) n (λ h. elim (cases_eq h a) [
       | inl e ↦ omega (arith, but_at (but f b) a h e)
       | inr not_a ↦ elim (cases_eq h b) [
         | inl e ↦ omega (arith, but_other (but f b) a h not_a, but_at f b h e)
-        | inr not_b ↦ omega (arith, but_other (but f b) a h not_a, but_other f b h not_b, but_other (but g b) a h not_a, but_other g b h not_b, le h not_a not_b)
+        | inr not_b ↦ omega (
+          arith,
+          but_other (but f b) a h not_a,
+          but_other f b h not_b,
+          but_other (but g b) a h not_a,
+          but_other g b h not_b,
+          le h not_a not_b,
+        )
       ]
     ])
 
 -- a sum in which the two classes are one
-pub sum_low : (f g : ℕ → ℕ) (n a b : ℕ) → a < n → b < n → ((h : ℕ) → (h ≡ a → ⊥) → (h ≡ b → ⊥) → f h ≤ g h) → ((a ≡ b → ⊥) → f (max a b) ≡ 0) → sum_below f n ≤ f (min a b) + rest g a b n
+pub sum_low : (f g : ℕ → ℕ) (n a b : ℕ) → a < n → b < n → ((h : ℕ) → (h ≡ a → ⊥) → (h ≡ b → ⊥) → f h ≤ g h)
+    → ((a ≡ b → ⊥) → f (max a b) ≡ 0) → sum_below f n ≤ f (min a b) + rest g a b n
 sum_low f g n a b a_net b_net le high =
     let pair : sum_below f n ≡ f b + but f b a + rest f a b n = sum_pair f n a b a_net b_net in
     let behind : rest f a b n ≤ rest g a b n = rest_le f g n a b le in

@@ -28,7 +28,8 @@ end_code None = 0
 end_code (Some v) = v.0 + 1
 
 abbrev pub state_code : Kinds → State → ℕ
-state_code k s = ((counts_code k.p s.p_left * count_lists k.n + counts_code k.n s.n_left) * (k.nets + 1) + end_code s.p_end) * (k.nets + 1) + end_code s.n_end
+state_code k s = ((counts_code k.p s.p_left * count_lists k.n + counts_code k.n s.n_left) * (k.nets + 1)
+    + end_code s.p_end) * (k.nets + 1) + end_code s.n_end
 
 -- the number of what a row has left: its counts, and behind them its open end
 abbrev pub row_code : Row → Kinds → State → ℕ

@@ -1,5 +1,7 @@
 -- The law of the component bound.
-use Rattle.std.proofs.Common.{ℕ, zero, suc, ◌≡◌, ◌+◌, ◌-◌, ◌/◌, ◌<◌, ◌≤◌, Bool, true, false, ◌==◌, if◌then◌else◌, max, min, List, [], ◌∷◌, Option, Some, None, replicate, refl, sym, ap, subst, arith, ◌∙◌, inl, inr, All, IsPermutation}
+use Rattle.std.proofs.Common.{ℕ, zero, suc, ◌≡◌, ◌+◌, ◌-◌, ◌/◌, ◌<◌, ◌≤◌, Bool, true, false, ◌==◌, if◌then◌else◌, max}
+use Rattle.std.proofs.Common.{min, List, [], ◌∷◌, Option, Some, None, replicate, refl, sym, ap, subst, arith, ◌∙◌, inl}
+use Rattle.std.proofs.Common.{inr, All, IsPermutation}
 use Rattle.std.proofs.lemmas.Bool.{cases_eq, eq-eqb, ne_eqb}
 use Rattle.std.proofs.lemmas.List.Elements.{All-append, All-head, All-nil, All-replicate, All-tail}
 use Rattle.std.proofs.lemmas.List.Sorted.{All-permutation, list_any-IsPermutation}
@@ -13,9 +15,11 @@ use Rattle.row_model.specs.Gaps.{left_net, right_net}
 use Rattle.row_model.specs.declared.column.Column.{Column}
 use Rattle.row_model.specs.declared.column.Placed.{Placed}
 use Rattle.row_trails.specs.Counts.{fewest_trails, size_in}
-use Rattle.row_trails.specs.Trails.{empties, end_differs, n_cost_le, odd, p_cost_le, places, row_cost, size_same, toggle}
+use Rattle.row_trails.specs.Trails.{empties, end_differs, n_cost_le, odd, p_cost_le, places, row_cost, size_same}
+use Rattle.row_trails.specs.Trails.{toggle}
 use Rattle.row_state.specs.Chained.{joined_a, joined_turned, least_labels, least_le, least_permuted}
-use Rattle.row_state.specs.ClassBounds.{Classes, IsEven, IsJoined, begins, breaks, closed_none, free_at, free_is, goes_on, open_at, open_here, open_le_free, open_other, trails_low}
+use Rattle.row_state.specs.ClassBounds.{Classes, IsEven, IsJoined, begins, breaks, closed_none, free_at, free_is}
+use Rattle.row_state.specs.ClassBounds.{goes_on, open_at, open_here, open_le_free, open_other, trails_low}
 use Rattle.row_state.specs.ClassSums.{sum_below_mono}
 use Rattle.row_state.specs.ClassSizes.{has_no_high, has_stays, no_finger_even}
 use Rattle.row_state.specs.Classes.{joined, least_chained}
@@ -35,38 +39,53 @@ EndsBelow n f = (f.lo.0 < n) × (f.hi.0 < n)
 
 -- the classes of the fingers in a row's places, and the nets that it meets an odd number of times
 classes_of : List (Option Placed) → Classes
-classes_of xs = record { class = least_chained (fingers_of xs); has = has_finger (least_chained (fingers_of xs)) (fingers_of xs); odd = odd xs }
+classes_of xs = record {
+  class = least_chained (fingers_of xs);
+  has = has_finger (least_chained (fingers_of xs)) (fingers_of xs);
+  odd = odd xs;
+}
 
 -- a finger joins the classes of its ends, whichever of them is the left one
-class_step : (f : Finger) (flipped : Bool) (fs : List Finger) (u : ℕ) → (let x : Placed = record { finger = f; flipped = flipped } in least_chained (f ∷ fs) u ≡ joined (least_chained fs (left_net x).0) (least_chained fs (right_net x).0) (least_chained fs u))
+class_step : (f : Finger) (flipped : Bool) (fs : List Finger) (u : ℕ)
+    → (let x : Placed = record { finger = f; flipped = flipped } in
+    least_chained (f ∷ fs) u ≡ joined (least_chained fs (left_net x).0) (least_chained fs (right_net x).0)
+    (least_chained fs u))
 class_step f true fs u = joined_turned (least_chained fs f.lo.0) (least_chained fs f.hi.0) (least_chained fs u)
 class_step f false fs u = refl
 
-low_step : (f : Finger) (flipped : Bool) (fs : List Finger) → (let x : Placed = record { finger = f; flipped = flipped } in least_chained (f ∷ fs) f.lo.0 ≡ min (least_chained fs (left_net x).0) (least_chained fs (right_net x).0))
+low_step : (f : Finger) (flipped : Bool) (fs : List Finger)
+    → (let x : Placed = record { finger = f; flipped = flipped } in least_chained (f ∷ fs) f.lo.0
+    ≡ min (least_chained fs (left_net x).0) (least_chained fs (right_net x).0))
 low_step f true fs =
-    let turned : min (least_chained fs f.lo.0) (least_chained fs f.hi.0) ≡ min (least_chained fs f.hi.0) (least_chained fs f.lo.0) = omega arith in
+    let turned : min (least_chained fs f.lo.0) (least_chained fs f.hi.0)
+    ≡ min (least_chained fs f.hi.0) (least_chained fs f.lo.0) = omega arith in
     joined_a (least_chained fs f.lo.0) (least_chained fs f.hi.0) ∙ turned
 low_step f false fs = joined_a (least_chained fs f.lo.0) (least_chained fs f.hi.0)
 
-nets_step : (f : Finger) (flipped : Bool) (n : ℕ) → EndsBelow n f → (let x : Placed = record { finger = f; flipped = flipped } in ((left_net x).0 < n) × ((right_net x).0 < n))
+nets_step : (f : Finger) (flipped : Bool) (n : ℕ) → EndsBelow n f
+    → (let x : Placed = record { finger = f; flipped = flipped } in ((left_net x).0 < n) × ((right_net x).0 < n))
 nets_step f true n h = (h.1, h.0)
 nets_step f false n h = h
 
-has_other : (f : Finger) (fs : List Finger) (a b h : ℕ) (c d : ℕ → ℕ) → ((u : ℕ) → d u ≡ joined a b (c u)) → d f.lo.0 ≡ min a b → (h ≡ a → ⊥) → (h ≡ b → ⊥) → has_finger d (f ∷ fs) h ≡ has_finger c fs h
+has_other : (f : Finger) (fs : List Finger) (a b h : ℕ) (c d : ℕ → ℕ) → ((u : ℕ) → d u ≡ joined a b (c u))
+    → d f.lo.0 ≡ min a b → (h ≡ a → ⊥) → (h ≡ b → ⊥) → has_finger d (f ∷ fs) h ≡ has_finger c fs h
 has_other f fs a b h c d is low not_a not_b =
     let gone : (d f.lo.0 == h) ≡ false = ne_eqb (d f.lo.0) h (λ e. omega (arith, low, e, not_a, not_b)) in
     rw gone (has_stays fs a b h c d is not_a not_b)
 
-has_high : (f : Finger) (fs : List Finger) (a b : ℕ) (c d : ℕ → ℕ) → ((u : ℕ) → d u ≡ joined a b (c u)) → d f.lo.0 ≡ min a b → (a ≡ b → ⊥) → has_finger d (f ∷ fs) (max a b) ≡ false
+has_high : (f : Finger) (fs : List Finger) (a b : ℕ) (c d : ℕ → ℕ) → ((u : ℕ) → d u ≡ joined a b (c u))
+    → d f.lo.0 ≡ min a b → (a ≡ b → ⊥) → has_finger d (f ∷ fs) (max a b) ≡ false
 has_high f fs a b c d is low differ =
     let gone : (d f.lo.0 == max a b) ≡ false = ne_eqb (d f.lo.0) (max a b) (λ e. omega (arith, low, e, differ)) in
     rw gone (has_no_high fs a b c d is differ)
 
 classes_even : (n : ℕ) (xs : List (Option Placed)) → IsEven n (classes_of xs)
 unfolding classes_of
-classes_even n xs h none = no_finger_even n (least_chained (fingers_of xs)) (fingers_of xs) (odd xs) h (least_labels (fingers_of xs)) (λ u. odd_degree xs u) none
+classes_even n xs h none = no_finger_even n (least_chained (fingers_of xs)) (fingers_of xs) (odd xs) h
+    (least_labels (fingers_of xs)) (λ u. odd_degree xs u) none
 
-classes_joined : (n : ℕ) (x : Placed) (xs : List (Option Placed)) → EndsBelow n x.finger → IsJoined n (left_net x).0 (right_net x).0 (classes_of xs) (classes_of (Some x ∷ xs))
+classes_joined : (n : ℕ) (x : Placed) (xs : List (Option Placed)) → EndsBelow n x.finger
+    → IsJoined n (left_net x).0 (right_net x).0 (classes_of xs) (classes_of (Some x ∷ xs))
 unfolding classes_of fingers_of
 classes_joined n x xs ends =
     let fs : List Finger = fingers_of xs in
@@ -79,8 +98,10 @@ classes_joined n x xs ends =
       l_net = omega (arith, nets.0, least_le fs (left_net x).0);
       r_net = omega (arith, nets.1, least_le fs (right_net x).0);
       class = λ u. class_step x.finger x.flipped fs u;
-      other = λ h not_a not_b. has_other x.finger fs a b h (least_chained fs) (least_chained (x.finger ∷ fs)) (λ u. class_step x.finger x.flipped fs u) low not_a not_b;
-      high = λ differ. has_high x.finger fs a b (least_chained fs) (least_chained (x.finger ∷ fs)) (λ u. class_step x.finger x.flipped fs u) low differ;
+      other = λ h not_a not_b. has_other x.finger fs a b h (least_chained fs) (least_chained (x.finger ∷ fs))
+          (λ u. class_step x.finger x.flipped fs u) low not_a not_b;
+      high = λ differ. has_high x.finger fs a b (least_chained fs) (least_chained (x.finger ∷ fs))
+          (λ u. class_step x.finger x.flipped fs u) low differ;
       odd = refl;
     }
 
@@ -97,27 +118,53 @@ record Walks (n : ℕ) (xs : List (Option Placed)) : Type 0 where
   pub after : (v : NetNo) → sum_below (open_at n (classes_of xs) v.0) n ≤ row_cost (Some v) xs + empties xs
   pub free : sum_below (free_at n (classes_of xs)) n ≤ row_cost None xs + empties xs + 1
 
-open_free : (n v : ℕ) (xs : List (Option Placed)) → sum_below (open_at n (classes_of xs) v) n ≤ sum_below (free_at n (classes_of xs)) n
-open_free n v xs = sum_below_mono (open_at n (classes_of xs) v) (free_at n (classes_of xs)) n (λ h. open_le_free n (classes_of xs) v h (classes_even n xs))
+open_free : (n v : ℕ) (xs : List (Option Placed)) → sum_below (open_at n (classes_of xs) v) n
+    ≤ sum_below (free_at n (classes_of xs)) n
+open_free n v xs = sum_below_mono (open_at n (classes_of xs) v) (free_at n (classes_of xs)) n
+    (λ h. open_le_free n (classes_of xs) v h (classes_even n xs))
 
 walks_empty : (n : ℕ) (xs : List (Option Placed)) → Walks n xs → Walks n (None ∷ xs)
 unfolding classes_of fingers_of
-walks_empty n xs rest = record { after = λ v. omega (arith, rest.free, open_free n v.0 xs); free = omega (arith, rest.free) }
+walks_empty n xs rest = record {
+  after = λ v. omega (arith, rest.free, open_free n v.0 xs);
+  free = omega (arith, rest.free);
+}
 
 walks_on : (n : ℕ) (x : Placed) (xs : List (Option Placed)) → EndsBelow n x.finger → Walks n xs → Walks n (Some x ∷ xs)
 walks_on n x xs ends rest =
     let j = classes_joined n x xs ends in
-    let behind : sum_below (open_at n (classes_of xs) (right_net x).0) n ≤ row_cost (Some (right_net x)) xs + empties xs = rest.after (right_net x) in
+    let behind : sum_below (open_at n (classes_of xs) (right_net x).0) n
+    ≤ row_cost (Some (right_net x)) xs + empties xs = rest.after (right_net x) in
     record {
       after = λ v. elim (cases_eq v.0 (left_net x).0) [
         | inl same ↦
-            let moved : sum_below (open_at n (classes_of (Some x ∷ xs)) v.0) n ≡ sum_below (open_at n (classes_of (Some x ∷ xs)) (left_net x).0) n = ap (λ u. sum_below (open_at n (classes_of (Some x ∷ xs)) u) n) same in
-            omega (arith, moved, behind, goes_on n (left_net x).0 (right_net x).0 (classes_of xs) (classes_of (Some x ∷ xs)) j)
+            let moved : sum_below (open_at n (classes_of (Some x ∷ xs)) v.0) n
+            ≡ sum_below (open_at n (classes_of (Some x ∷ xs)) (left_net x).0) n =
+            ap (λ u. sum_below (open_at n (classes_of (Some x ∷ xs)) u) n) same in
+            omega (
+              arith,
+              moved,
+              behind,
+              goes_on n (left_net x).0 (right_net x).0 (classes_of xs)
+                  (classes_of (Some x ∷ xs)) j,
+            )
         | inr other ↦
-            let costs : ◌≡◌ {A = ℕ} (if end_differs (Some v) (Some x) then 1 else 0) 1 = rw (ne_eqb v.0 (left_net x).0 other) refl in
-            omega (arith, costs, behind, breaks n (left_net x).0 (right_net x).0 v.0 (classes_of xs) (classes_of (Some x ∷ xs)) j)
+            let costs : ◌≡◌ {A = ℕ} (if end_differs (Some v) (Some x) then 1 else 0) 1 =
+            rw (ne_eqb v.0 (left_net x).0 other) refl in
+            omega (
+              arith,
+              costs,
+              behind,
+              breaks n (left_net x).0 (right_net x).0 v.0 (classes_of xs)
+                  (classes_of (Some x ∷ xs)) j,
+            )
       ];
-      free = omega (arith, behind, begins n (left_net x).0 (right_net x).0 (classes_of xs) (classes_of (Some x ∷ xs)) j);
+      free = omega (
+        arith,
+        behind,
+        begins n (left_net x).0 (right_net x).0 (classes_of xs) (classes_of (Some x ∷ xs))
+            j,
+      );
     }
 
 walks : (n : ℕ) (xs : List (Option Placed)) → All (EndsBelow n) (fingers_of xs) → Walks n xs
@@ -126,83 +173,132 @@ walks n [] ends =
     let none : sum_below (free_at n (classes_of [])) n ≡ 0 = zeros (free_at n (classes_of [])) n (no_classes n) in
     record { after = λ v. omega (arith, none, open_free n v.0 []); free = omega (arith, none) }
 walks n (None ∷ xs) ends = walks_empty n xs (walks n xs ends)
-walks n (Some x ∷ xs) ends = walks_on n x xs (All-head (EndsBelow n) x.finger (fingers_of xs) ends) (walks n xs (All-tail (EndsBelow n) x.finger (fingers_of xs) ends))
+walks n (Some x ∷ xs) ends = walks_on n x xs (All-head (EndsBelow n) x.finger (fingers_of xs) ends)
+    (walks n xs (All-tail (EndsBelow n) x.finger (fingers_of xs) ends))
 
 -- the bound's numbers are those of the walk, or lower
 has_same : (c d : ℕ → ℕ) (fs : List Finger) (h : ℕ) → ((u : ℕ) → c u ≡ d u) → has_finger c fs h ≡ has_finger d fs h
 has_same c d [] h same = refl
 has_same c d (f ∷ fs) h same = rw (same f.lo.0, has_same c d fs h same) refl
 
-size_in_agree : (n : ℕ) (c d : ℕ → ℕ) (o p : ℕ → Bool) (h : ℕ) → ((u : ℕ) → c u ≡ d u) → ((u : ℕ) → o u ≡ p u) → size_in n c o h ≡ size_in n d p h
+size_in_agree : (n : ℕ) (c d : ℕ → ℕ) (o p : ℕ → Bool) (h : ℕ) → ((u : ℕ) → c u ≡ d u) → ((u : ℕ) → o u ≡ p u)
+    → size_in n c o h ≡ size_in n d p h
 size_in_agree n c d o p h classes odds = size_same n _ _ (λ u l. rw (classes u, odds u) refl)
 
 -- the same fingers, in another order
 record IsRow (mine : List Finger) (xs : List (Option Placed)) : Type 0 where
   pub class : (u : ℕ) → least_chained mine u ≡ least_chained (fingers_of xs) u
-  pub has : (h : ℕ) → has_finger (least_chained mine) mine h ≡ has_finger (least_chained (fingers_of xs)) (fingers_of xs) h
+  pub has : (h : ℕ) → has_finger (least_chained mine) mine h
+      ≡ has_finger (least_chained (fingers_of xs)) (fingers_of xs) h
   pub odd_nets : (u : ℕ) → is_odd mine u ≡ odd xs u
 
-row_trails : (n : ℕ) (mine : List Finger) (xs : List (Option Placed)) (h : ℕ) → IsRow mine xs → trails_of n mine h ≤ free_at n (classes_of xs) h
+row_trails : (n : ℕ) (mine : List Finger) (xs : List (Option Placed)) (h : ℕ) → IsRow mine xs → trails_of n mine h
+    ≤ free_at n (classes_of xs) h
 unfolding classes_of
 row_trails n mine xs h row =
     let fs : List Finger = fingers_of xs in
-    let size_is : size_in n (least_chained mine) (is_odd mine) h ≡ size_in n (least_chained fs) (odd xs) h = size_in_agree n (least_chained mine) (least_chained fs) (is_odd mine) (odd xs) h row.class row.odd_nets in
-    let same : trails_of n mine h ≡ fewest_trails (has_finger (least_chained fs) fs h) (size_in n (least_chained fs) (odd xs) h) = rw (row.has h, size_is) refl in
-    omega (arith, same, free_is n (classes_of xs) h, trails_low (has_finger (least_chained fs) fs h) (size_in n (least_chained fs) (odd xs) h))
+    let size_is : size_in n (least_chained mine) (is_odd mine) h ≡ size_in n (least_chained fs) (odd xs) h =
+    size_in_agree n (least_chained mine) (least_chained fs) (is_odd mine) (odd xs) h row.class row.odd_nets in
+    let same : trails_of n mine h ≡ fewest_trails (has_finger (least_chained fs) fs h)
+    (size_in n (least_chained fs) (odd xs) h) = rw (row.has h, size_is) refl in
+    omega (
+      arith,
+      same,
+      free_is n (classes_of xs) h,
+      trails_low (has_finger (least_chained fs) fs h) (size_in n (least_chained fs) (odd xs) h),
+    )
 
-row_behind : (n v : ℕ) (mine : List Finger) (xs : List (Option Placed)) (h : ℕ) → IsRow mine xs → trails_behind n mine v h ≤ open_at n (classes_of xs) v h
+row_behind : (n v : ℕ) (mine : List Finger) (xs : List (Option Placed)) (h : ℕ) → IsRow mine xs
+    → trails_behind n mine v h ≤ open_at n (classes_of xs) v h
 unfolding classes_of
 row_behind n v mine xs h row = elim (cases_eq h (least_chained mine v)) [
   | inl e ↦
       let fs : List Finger = fingers_of xs in
-      let toggled : size_in n (least_chained mine) (toggle v (is_odd mine)) h ≡ size_in n (least_chained fs) (toggle v (odd xs)) h =
-      size_in_agree n (least_chained mine) (least_chained fs) (toggle v (is_odd mine)) (toggle v (odd xs)) h row.class (λ u. rw (row.odd_nets u) refl) in
-      let here : trails_behind n mine v h ≡ (size_in n (least_chained mine) (toggle v (is_odd mine)) h - 1) / 2 = rw (eq-eqb h (least_chained mine v) e) refl in
+      let toggled : size_in n (least_chained mine) (toggle v (is_odd mine)) h
+      ≡ size_in n (least_chained fs) (toggle v (odd xs)) h =
+      size_in_agree n (least_chained mine) (least_chained fs) (toggle v (is_odd mine)) (toggle v (odd xs)) h row.class
+      (λ u. rw (row.odd_nets u) refl) in
+      let here : trails_behind n mine v h ≡ (size_in n (least_chained mine) (toggle v (is_odd mine)) h - 1) / 2 =
+      rw (eq-eqb h (least_chained mine v) e) refl in
       omega (arith, here, toggled, open_here n (classes_of xs) v h (e ∙ row.class v))
   | inr other ↦
       let here : trails_behind n mine v h ≡ trails_of n mine h = rw (ne_eqb h (least_chained mine v) other) refl in
-      omega (arith, here, row_trails n mine xs h row, open_other n (classes_of xs) v h (λ e. other (e ∙ sym (row.class v))))
+      omega (
+        arith,
+        here,
+        row_trails n mine xs h row,
+        open_other n (classes_of xs) v h (λ e. other (e ∙ sym (row.class v))),
+      )
 ]
 
-low_row : (nets : ℕ) (end : Option NetNo) (xs : List (Option Placed)) (mine other : List Finger) (cost : ℕ) → IsRow mine xs → All (EndsBelow nets) (fingers_of xs) → empties xs ≡ empty_left mine other nets → row_cost end xs ≤ cost → component_of nets end mine other ≤ cost
+low_row : (nets : ℕ) (end : Option NetNo) (xs : List (Option Placed)) (mine other : List Finger) (cost : ℕ)
+    → IsRow mine xs → All (EndsBelow nets) (fingers_of xs) → empties xs ≡ empty_left mine other nets → row_cost end xs
+    ≤ cost → component_of nets end mine other ≤ cost
 low_row nets (Some v) xs mine other cost row ends empty low =
     let w : Walks nets xs = walks nets xs ends in
-    omega (arith, sum_below_mono (trails_behind nets mine v.0) (open_at nets (classes_of xs) v.0) nets (λ h. row_behind nets v.0 mine xs h row), w.after v, empty, low)
+    omega (
+      arith,
+      sum_below_mono (trails_behind nets mine v.0) (open_at nets (classes_of xs) v.0) nets
+          (λ h. row_behind nets v.0 mine xs h row),
+      w.after v,
+      empty,
+      low,
+    )
 low_row nets None xs mine other cost row ends empty low =
     let w : Walks nets xs = walks nets xs ends in
-    omega (arith, sum_below_mono (trails_of nets mine) (free_at nets (classes_of xs)) nets (λ h. row_trails nets mine xs h row), w.free, empty, low)
+    omega (
+      arith,
+      sum_below_mono (trails_of nets mine) (free_at nets (classes_of xs)) nets
+          (λ h. row_trails nets mine xs h row),
+      w.free,
+      empty,
+      low,
+    )
 
-pub ends_left : (row : Row) (kinds : List Kind) (left : List ℕ) (nets : ℕ) → All (IsKind nets) kinds → All (EndsBelow nets) (fingers_left row kinds left)
+pub ends_left : (row : Row) (kinds : List Kind) (left : List ℕ) (nets : ℕ) → All (IsKind nets) kinds
+    → All (EndsBelow nets) (fingers_left row kinds left)
 ends_left row [] left nets h = All-nil (EndsBelow nets)
 ends_left row (k ∷ ks) [] nets h = All-nil (EndsBelow nets)
 ends_left row (k ∷ ks) (c ∷ cs) nets h =
     let here : IsKind nets k = All-head (IsKind nets) k ks h in
-    All-append (EndsBelow nets) (replicate c (finger_of row k)) (fingers_left row ks cs) (All-replicate (EndsBelow nets) c (finger_of row k) (omega (arith, here.order, here.ends), here.ends)) (ends_left row ks cs nets (All-tail (IsKind nets) k ks h))
+    All-append (EndsBelow nets) (replicate c (finger_of row k)) (fingers_left row ks cs)
+    (All-replicate (EndsBelow nets) c (finger_of row k) (omega (arith, here.order, here.ends), here.ends))
+    (ends_left row ks cs nets (All-tail (IsKind nets) k ks h))
 
 -- the fingers left are those of the row
-is_row : (row : Row) (cs : List Column) (left : List Finger) → IsPermutation left (fingers_in row cs) → IsRow left (places row cs)
+is_row : (row : Row) (cs : List Column) (left : List Finger) → IsPermutation left (fingers_in row cs)
+    → IsRow left (places row cs)
 is_row row cs left h =
-    let moved : IsPermutation left (fingers_of (places row cs)) = subst (IsPermutation left) (sym (fingers_of_places row cs)) h in
+    let moved : IsPermutation left (fingers_of (places row cs)) =
+    subst (IsPermutation left) (sym (fingers_of_places row cs)) h in
     let fs : List Finger = fingers_of (places row cs) in
     record {
       class = λ u. least_permuted left fs u moved;
-      has = λ u. list_any-IsPermutation (λ (f : Finger). least_chained left f.lo.0 == u) left fs moved ∙ has_same (least_chained left) (least_chained fs) fs u (λ v. least_permuted left fs v moved);
+      has = λ u. list_any-IsPermutation (λ (f : Finger). least_chained left f.lo.0 == u) left fs moved
+          ∙ has_same (least_chained left) (least_chained fs) fs u (λ v. least_permuted left fs v moved);
       odd_nets = λ u. sym (odd_places row cs left u h);
     }
 
-ends_in : (row : Row) (cs : List Column) (left : List Finger) (nets : ℕ) → IsPermutation left (fingers_in row cs) → All (EndsBelow nets) left → All (EndsBelow nets) (fingers_of (places row cs))
-ends_in row cs left nets h ends = All-permutation (EndsBelow nets) left (fingers_of (places row cs)) (subst (IsPermutation left) (sym (fingers_of_places row cs)) h) ends
+ends_in : (row : Row) (cs : List Column) (left : List Finger) (nets : ℕ) → IsPermutation left (fingers_in row cs)
+    → All (EndsBelow nets) left → All (EndsBelow nets) (fingers_of (places row cs))
+ends_in row cs left nets h ends = All-permutation (EndsBelow nets) left (fingers_of (places row cs))
+    (subst (IsPermutation left) (sym (fingers_of_places row cs)) h) ends
 
 -- no completion has fewer further gaps
 pub component_holds : (k : Kinds) (s : State) (row : Row) → AreSomeKinds k → Need k s (component_value row s k)
 unfolding component_value
 component_holds k s P some cs h =
-    let low : row_cost s.p_end (places P cs) ≤ further_gaps s cs = omega (arith, p_cost_le s.p_end s.n_end cs, cost_is s cs) in
-    low_row k.nets s.p_end (places P cs) (left_in k s).p (left_in k s).n (further_gaps s cs) (is_row P cs (left_in k s).p h.p)
+    let low : row_cost s.p_end (places P cs) ≤ further_gaps s cs =
+    omega (arith, p_cost_le s.p_end s.n_end cs, cost_is s cs) in
+    low_row k.nets s.p_end (places P cs) (left_in k s).p (left_in k s).n (further_gaps s cs)
+    (is_row P cs (left_in k s).p h.p)
     (ends_in P cs (left_in k s).p k.nets h.p (ends_left P k.p s.p_left k.nets some.p))
     (empties_are P cs (left_in k s).p (left_in k s).n k.nets h.p (gates_left P k.p s.p_left k.nets some.p) h.fewest) low
 component_holds k s N some cs h =
-    let low : row_cost s.n_end (places N cs) ≤ further_gaps s cs = omega (arith, n_cost_le s.p_end s.n_end cs, cost_is s cs) in
-    low_row k.nets s.n_end (places N cs) (left_in k s).n (left_in k s).p (further_gaps s cs) (is_row N cs (left_in k s).n h.n)
+    let low : row_cost s.n_end (places N cs) ≤ further_gaps s cs =
+    omega (arith, n_cost_le s.p_end s.n_end cs, cost_is s cs) in
+    low_row k.nets s.n_end (places N cs) (left_in k s).n (left_in k s).p (further_gaps s cs)
+    (is_row N cs (left_in k s).n h.n)
     (ends_in N cs (left_in k s).n k.nets h.n (ends_left N k.n s.n_left k.nets some.n))
-    (empties_are N cs (left_in k s).n (left_in k s).p k.nets h.n (gates_left N k.n s.n_left k.nets some.n) (h.fewest ∙ most_turned (left_in k s).p (left_in k s).n k.nets)) low
+    (empties_are N cs (left_in k s).n (left_in k s).p k.nets h.n (gates_left N k.n s.n_left k.nets some.n)
+    (h.fewest ∙ most_turned (left_in k s).p (left_in k s).n k.nets)) low

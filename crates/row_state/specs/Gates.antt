@@ -26,7 +26,8 @@ one_differs f h (suc n) at same =
       | inr ne ↦
           let here : f n ≡ h n = same n (λ x. ne x) in
           record {
-            within = λ l. let w : sum_below f n + h at ≡ sum_below h n + f at = r.within (omega arith) in omega (arith, w, here);
+            within = λ l. let w : sum_below f n + h at ≡ sum_below h n + f at = r.within (omega arith) in
+                omega (arith, w, here);
             beyond = λ l. let b : sum_below f n ≡ sum_below h n = r.beyond (omega arith) in omega (arith, b, here);
           }
     ]

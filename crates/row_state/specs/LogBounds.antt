@@ -30,6 +30,7 @@ log_bound_known by.One = inl refl
 log_bound_known by.Two = inr refl
 
 -- no completion has fewer further gaps
-pub log_bound_holds : (b : LogBound) (row : Row) (s : State) (k : Kinds) → AreSomeKinds k → Need k s (value_of (log_version b) row s k)
+pub log_bound_holds : (b : LogBound) (row : Row) (s : State) (k : Kinds) → AreSomeKinds k
+    → Need k s (value_of (log_version b) row s k)
 log_bound_holds by.One row s k some = parity_holds k s row some
 log_bound_holds by.Two row s k some = component_holds k s row some

@@ -1,5 +1,6 @@
 -- The kinds of fingers, the state before the first column, and the states that are valid.
-use Rattle.std.specs.Prelude.{ℕ, ◌≡◌, ◌+◌, ◌≤◌, ◌<◌, List, Some, None, length, slice_get, slice_index, map, All, AllPairs, IsPermutation, IfSome}
+use Rattle.std.specs.Prelude.{ℕ, ◌≡◌, ◌+◌, ◌≤◌, ◌<◌, List, Some, None, length, slice_get, slice_index, map, All}
+use Rattle.std.specs.Prelude.{AllPairs, IsPermutation, IfSome}
 use Rattle.cell_num.specs.declared.finger.Row.{Row}
 use Rattle.cell_num.specs.declared.finger.Row.TheVariants.{P, N}
 use Rattle.cell_num.specs.declared.finger.Fingers.{Fingers}
@@ -67,8 +68,10 @@ HasFingers k s = 0 < length (left_in k s).p + length (left_in k s).n
 
 -- no gate has more fingers left in the row that began with no more on it
 abbrev pub KeepsLead : Kinds → State → ℕ → Type 0
-KeepsLead k s gate = (on_gate gate (left_in k (start_of k)).n ≤ on_gate gate (left_in k (start_of k)).p → on_gate gate (left_in k s).n ≤ on_gate gate (left_in k s).p)
-    × (on_gate gate (left_in k (start_of k)).p ≤ on_gate gate (left_in k (start_of k)).n → on_gate gate (left_in k s).p ≤ on_gate gate (left_in k s).n)
+KeepsLead k s gate = (on_gate gate (left_in k (start_of k)).n ≤ on_gate gate (left_in k (start_of k)).p
+    → on_gate gate (left_in k s).n ≤ on_gate gate (left_in k s).p)
+    × (on_gate gate (left_in k (start_of k)).p ≤ on_gate gate (left_in k (start_of k)).n → on_gate gate (left_in k s).p
+    ≤ on_gate gate (left_in k s).n)
 
 -- counts and ends are in range, and each gate keeps its lead
 pub record IsState (k : Kinds) (s : State) : Type 0 where

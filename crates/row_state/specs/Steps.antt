@@ -1,5 +1,6 @@
 -- The possible next columns of a state, and the state after one.
-use Rattle.std.specs.Prelude.{ℕ, Bool, ◌≡◌, ◌-◌, ◌<◌, List, ◌∷◌, Option, Some, None, length, slice_get, slice_set, slice_index, slice_index_or, All, Contains}
+use Rattle.std.specs.Prelude.{ℕ, Bool, ◌≡◌, ◌-◌, ◌<◌, List, ◌∷◌, Option, Some, None, length, slice_get, slice_set}
+use Rattle.std.specs.Prelude.{slice_index, slice_index_or, All, Contains}
 use Rattle.std.specs.Option.{option_map}
 use Rattle.cell_num.specs.declared.finger.Row.{Row}
 use Rattle.cell_num.specs.declared.finger.Row.TheVariants.{P, N}
@@ -21,7 +22,8 @@ oriented_of row kind flipped = record { finger = finger_of row kind; flipped = f
 
 abbrev pub placed_of : Row → List Kind → Option Side → Option Placed
 placed_of row kinds None = None
-placed_of row kinds (Some side) = option_map (λ (kind : Kind). oriented_of row kind side.flipped) (slice_get kinds side.kind)
+placed_of row kinds (Some side) = option_map (λ (kind : Kind). oriented_of row kind side.flipped)
+    (slice_get kinds side.kind)
 
 abbrev pub column_of : Kinds → Step → Column
 column_of k step = record { p = placed_of P k.p step.p; n = placed_of N k.n step.n }
@@ -41,7 +43,8 @@ pub record IsPossible (k : Kinds) (s : State) (step : Step) : Type 0 where
   pub p : IsLeft k.p s.p_left step.p
   pub n : IsLeft k.n s.n_left step.n
   pub column : IsColumn (column_of k step)
-  pub half : HalfMayStand (column_of k step).p (column_of k step).n (λ gate. on_gate gate (fingers_left P k.p s.p_left)) (λ gate. on_gate gate (fingers_left N k.n s.n_left))
+  pub half : HalfMayStand (column_of k step).p (column_of k step).n (λ gate. on_gate gate (fingers_left P k.p s.p_left))
+      (λ gate. on_gate gate (fingers_left N k.n s.n_left))
 
 abbrev pub left_after : List ℕ → Option Side → List ℕ
 left_after left None = left
@@ -60,8 +63,10 @@ state_after k s step =
 pub record AreSuccessors (k : Kinds) (s : State) (steps : List Step) : Type 0 where
   pub possible : All (IsPossible k s) steps
   pub all : (step : Step) → IsPossible k s step → Contains steps step
-  pub order : (i j : ℕ) (d : Step) → i < j → j < length steps → ColumnBefore (column_of k (slice_index_or steps i d)) (column_of k (slice_index_or steps j d))
+  pub order : (i j : ℕ) (d : Step) → i < j → j < length steps
+      → ColumnBefore (column_of k (slice_index_or steps i d)) (column_of k (slice_index_or steps j d))
 
 -- each completion begins with one of the next columns, and its rest completes the state behind that
 abbrev pub Unfolds : Kinds → State → List Step → Type 0
-Unfolds k s steps = (c : Column) (cs : List Column) → Completes k s (c ∷ cs) → (step : Step) × Contains steps step × (column_of k step ≡ c) × Completes k (state_after k s step) cs
+Unfolds k s steps = (c : Column) (cs : List Column) → Completes k s (c ∷ cs) → (step : Step) × Contains steps step
+    × (column_of k step ≡ c) × Completes k (state_after k s step) cs

@@ -1,5 +1,7 @@
 -- Counts, tests and lists that compute the facts of kinds, states and next columns.
-use Rattle.std.specs.Prelude.{ℕ, zero, suc, ◌≡◌, ◌+◌, ◌-◌, ◌%◌, Bool, true, false, not, cond, ◌&&◌, ◌||◌, ◌==◌, ltb, leb, max, min, if◌then◌else◌, List, [], ◌∷◌, ◌++◌, Option, Some, None, length, map, sum_by, count_by, slice_get, slice_index}
+use Rattle.std.specs.Prelude.{ℕ, zero, suc, ◌≡◌, ◌+◌, ◌-◌, ◌%◌, Bool, true, false, not, cond, ◌&&◌, ◌||◌, ◌==◌, ltb}
+use Rattle.std.specs.Prelude.{leb, max, min, if◌then◌else◌, List, [], ◌∷◌, ◌++◌, Option, Some, None, length, map}
+use Rattle.std.specs.Prelude.{sum_by, count_by, slice_get, slice_index}
 use Rattle.std.specs.List.{zip, list_all, flat_map}
 use Rattle.std.specs.declared.cmp.Ordering.{Ordering}
 use Rattle.std.specs.Ordering.{nat_cmp, ordering_then}
@@ -24,7 +26,9 @@ abbrev pub single : Finger → Kind
 single f = record { gate = f.gate; lo = f.lo; hi = f.hi; width = f.width; count = 1 }
 
 abbrev pub kind_cmp : Kind → Kind → Ordering
-kind_cmp a b = ordering_then (nat_cmp a.gate.0 b.gate.0) (ordering_then (nat_cmp a.lo.0 b.lo.0) (ordering_then (nat_cmp a.hi.0 b.hi.0) (ordering_then (nat_cmp a.width b.width) (nat_cmp a.count b.count))))
+kind_cmp a b = ordering_then (nat_cmp a.gate.0 b.gate.0)
+    (ordering_then (nat_cmp a.lo.0 b.lo.0)
+    (ordering_then (nat_cmp a.hi.0 b.hi.0) (ordering_then (nat_cmp a.width b.width) (nat_cmp a.count b.count))))
 
 abbrev pub is_same_kind : Kind → Kind → Bool
 is_same_kind a b = (a.gate.0 == b.gate.0) && (a.lo.0 == b.lo.0) && (a.hi.0 == b.hi.0) && (a.width == b.width)
@@ -66,7 +70,8 @@ is_odd_behind (Some v) kinds left net = toggle v.0 (is_odd_net kinds left) net
 
 -- so many are left of each kind, at most as many as there are
 abbrev pub counts_fit : List Kind → List ℕ → Bool
-counts_fit kinds left = (length left == length kinds) && list_all (λ (pair : Kind × ℕ). leb pair.1 pair.0.count) (zip kinds left)
+counts_fit kinds left = (length left == length kinds)
+    && list_all (λ (pair : Kind × ℕ). leb pair.1 pair.0.count) (zip kinds left)
 
 abbrev pub end_fits : Option NetNo → ℕ → Bool
 end_fits None nets = true
@@ -110,7 +115,9 @@ columns_from ps ns p_more n_more = flat_map (with_side ns p_more) ps ++ (if n_mo
 
 -- the next columns on one gate
 abbrev pub columns_on : Kinds → State → ℕ → List Step
-columns_on k s gate = columns_from (sides_on k.p s.p_left gate) (sides_on k.n s.n_left gate) (ltb (gate_left k.n s.n_left gate) (gate_left k.p s.p_left gate)) (ltb (gate_left k.p s.p_left gate) (gate_left k.n s.n_left gate))
+columns_on k s gate = columns_from (sides_on k.p s.p_left gate) (sides_on k.n s.n_left gate)
+    (ltb (gate_left k.n s.n_left gate) (gate_left k.p s.p_left gate))
+    (ltb (gate_left k.p s.p_left gate) (gate_left k.n s.n_left gate))
 
 abbrev pub next_columns : Kinds → State → List Step
 next_columns k s = joined_below (columns_on k s) k.nets
@@ -129,15 +136,18 @@ columns_test k gate = max (gate_left k.p (counts_of k.p) gate) (gate_left k.n (c
 -- the row that began with no more fingers on the gate has no more left
 abbrev pub keeps_lead : Kinds → State → ℕ → Bool
 keeps_lead k s gate =
-    (ltb (gate_left k.p (counts_of k.p) gate) (gate_left k.n (counts_of k.n) gate) || leb (gate_left k.n s.n_left gate) (gate_left k.p s.p_left gate))
-    && (ltb (gate_left k.n (counts_of k.n) gate) (gate_left k.p (counts_of k.p) gate) || leb (gate_left k.p s.p_left gate) (gate_left k.n s.n_left gate))
+    (ltb (gate_left k.p (counts_of k.p) gate) (gate_left k.n (counts_of k.n) gate)
+    || leb (gate_left k.n s.n_left gate) (gate_left k.p s.p_left gate))
+    && (ltb (gate_left k.n (counts_of k.n) gate) (gate_left k.p (counts_of k.p) gate)
+    || leb (gate_left k.p s.p_left gate) (gate_left k.n s.n_left gate))
 
 abbrev pub leads_below : Kinds → State → ℕ → Bool
 leads_below k s zero = true
 leads_below k s (suc n) = keeps_lead k s n && leads_below k s n
 
 abbrev pub state_test : Kinds → State → Bool
-state_test k s = counts_fit k.p s.p_left && counts_fit k.n s.n_left && leads_below k s k.nets && end_fits s.p_end k.nets && end_fits s.n_end k.nets
+state_test k s = counts_fit k.p s.p_left && counts_fit k.n s.n_left && leads_below k s k.nets && end_fits s.p_end k.nets
+    && end_fits s.n_end k.nets
 
 abbrev pub kinds_in : Row → Kinds → List Kind
 kinds_in P k = k.p

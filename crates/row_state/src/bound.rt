@@ -18,7 +18,7 @@ pub const PARITY_LOG: u32 = 1;
 /// The version of a log whose lemmas rest on the component bound.
 pub const COMPONENT_LOG: u32 = 2;
 
-// Whether so many trails, less the places that stay empty, are more than a number.
+// Whether the trails, less the places that stay empty, are more than a number.
 pub(crate) fn are_above(trails: u32, empty: u32, most: u32) -> bool
     ensures { result ≡ ltb most (trails - empty) }
 {
@@ -45,7 +45,7 @@ pub trait RowBound {
         requires state { IsState kinds.now state.now }
         ensures { result ≡ trails_of self.now row (end_of row state.now) (left_of row state.now) kinds.now };
 
-    /// Whether the bound is above a number, where the trails of the row and its places that stay empty are told.
+    /// Whether the bound is above a number, given the trails of the row and its places that stay empty.
     fn is_above(
         &self,
         row: Row,
@@ -64,7 +64,7 @@ pub trait RowBound {
     fn version(&self) -> u32
         ensures { result ≡ version_of self.now };
 
-    /// Every completion has at least so many further gaps.
+    /// Every completion has at least that number of further gaps.
     ghost holds: { (b : Self) (row : Row) (s : State) (k : Kinds) → AreSomeKinds k → IsState k s →
         Need k s (value b row s k) };
 

@@ -1,6 +1,7 @@
 ghost use Rattle.std.specs.Prelude.{◌≡◌, ◌≤◌, ◌<◌, IfOk, IfSome, AllPairs, length};
 ghost use Rattle.row_state.specs.declared.state.State.{State as StateOf};
-ghost use Rattle.row_state.specs.Candidates.{AreCandidates, HaveEachNext, IsCandidate, candidate_steps, digit_of, ends_of_step, rows_of_step};
+ghost use Rattle.row_state.specs.Candidates.{AreCandidates, HaveEachNext, IsCandidate, candidate_steps, digit_of};
+ghost use Rattle.row_state.specs.Candidates.{ends_of_step, rows_of_step};
 ghost use Rattle.row_state.specs.Code.{count_lists};
 ghost use Rattle.row_state.specs.Order.{KindBefore, gate_key};
 ghost use Rattle.row_state.specs.Runs.{GatesFrom};
@@ -21,13 +22,14 @@ pub struct Candidate {
     pub column: Column,
     /// What its fingers count in the number of the counts.
     pub rows: u64,
-    /// The open ends behind it, as the last two digits of a state's number.
+    /// The open ends after it, as the last two digits of a state's number.
     pub ends: u32,
     /// Where the kinds of its gate begin in each row.
     pub p_from: usize,
     pub n_from: usize,
 }
 
+/// Columns in the order of [`successors`].
 pub type Candidates = List<Candidate>;
 
 // What a finger of the side's kind counts.

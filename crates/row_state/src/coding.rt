@@ -1,7 +1,8 @@
 ghost use Rattle.std.specs.Prelude.{◌≡◌, ◌≤◌, ◌<◌, ◌+◌, ◌*◌, ℕ, IfSome, Some, length, slice_get, slice_index};
 ghost use Rattle.row_state.specs.declared.kind.Kind.{Kind as KindOf};
 ghost use Rattle.row_state.specs.declared.state.State.{State as StateOf};
-ghost use Rattle.row_state.specs.Code.{IsCode, count_lists, counts_code, counts_of_code, end_code, end_of_code, most_states, row_code, rows_of_code, state_code, state_of};
+ghost use Rattle.row_state.specs.Code.{IsCode, count_lists, counts_code, counts_of_code, end_code, end_of_code};
+ghost use Rattle.row_state.specs.Code.{most_states, row_code, rows_of_code, state_code, state_of};
 ghost use Rattle.row_state.specs.Decoded.{rows_code};
 ghost use Rattle.row_state.specs.Start.{IsState};
 ghost use Rattle.row_state.specs.Tests.{left_of};
@@ -85,7 +86,7 @@ pub fn code(state: &State, kinds: &Kinds) -> u128
     code_of_rows(rows_number(state, kinds), state, kinds)
 }
 
-// The counts of a row, and behind them its end.
+// The counts of a row, and after them its end.
 fn row_digits(kinds: &[Kind], left: &[u32], end: &Option<NetNo>, nets: u32) -> u64
     requires nets { nets ≤ MOST_NETS }
     requires few { count_lists kinds.now ≤ 4294967296 }

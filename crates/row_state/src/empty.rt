@@ -40,7 +40,7 @@ impl EmptyPlaces {
         }
     }
 
-    /// Those of the state behind a column that may come next, from those of the state before it.
+    /// Those of the state after a column that may come next, from those of the state before it.
     pub fn beyond(&self, next: &Candidate) -> EmptyPlaces
         ensures { (k : KindsOf) (s : StateOf) → AreSomeKinds k → IsCandidate k next.now →
             IsPossible k s next.now.step → AreEmpty k s self.now →

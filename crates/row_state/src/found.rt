@@ -1,4 +1,5 @@
-ghost use Rattle.std.specs.Prelude.{◌≡◌, ◌≤◌, ◌+◌, ◌↔◌, ◌∷◌, ◌++◌, ℕ, All, IfOk, OnOk, IsPermutation, IsSorted, List as Sequence, length, map};
+ghost use Rattle.std.specs.Prelude.{◌≡◌, ◌≤◌, ◌+◌, ◌↔◌, ◌∷◌, ◌++◌, ℕ, All, IfOk, OnOk, IsPermutation, IsSorted};
+ghost use Rattle.std.specs.Prelude.{List as Sequence, length, map};
 ghost use Rattle.cell_num.specs.declared.finger.Row.{Row};
 ghost use Rattle.cell_num.specs.Fingers.{AreFingers, IsFinger};
 ghost use Rattle.row_model.specs.declared.column.Column.{Column};

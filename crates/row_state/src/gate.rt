@@ -126,7 +126,7 @@ pub(crate) fn next_on(state: &State, kinds: &Kinds, cursor: &Cursor) -> Option<O
     }
 }
 
-// The kinds behind those of a gate.
+// The kinds after those of a gate.
 pub(crate) fn behind(on: &OnGate) -> Cursor
     requires { on.now.gate ≤ MOST_NETS }
     ensures gate { result.gate ≡ on.now.gate + 1 }

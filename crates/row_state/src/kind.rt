@@ -15,6 +15,7 @@ pub struct Kind {
     pub count: u32,
 }
 
+/// Kinds of the fingers of one row.
 pub type KindList = List<Kind>;
 
 /// The kinds of the fingers of each row, by gate, lower end, higher end and width, no two of a row alike,

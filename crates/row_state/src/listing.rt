@@ -189,7 +189,7 @@ fn list_next(alloc: Global, state: &State, kinds: &Kinds) -> Result<Steps, NoMem
 }
 
 /// All possible next columns, each once: by gate, P kind, P orientation, N kind and N orientation, an
-/// empty place behind all kinds and unflipped before flipped.
+/// empty place after all kinds and unflipped before flipped.
 #[tactic(auto, using(crate::proofs::Calls::next_succeed, crate::proofs::Calls::next_unfold))]
 pub fn successors(alloc: Global, state: &State, kinds: &Kinds) -> Result<Steps, NoMemory>
     requires state { IsState kinds.now state.now }

@@ -80,6 +80,7 @@ fn stands(state: &State, kinds: &Kinds, next: &Candidate) -> bool
 }
 
 impl Numbered {
+    /// The state with its numbers.
     pub fn new(state: State, kinds: &Kinds) -> Numbered
         requires state { IsState kinds.now state }
         ensures state { result.state ≡ state }
@@ -104,7 +105,7 @@ impl Numbered {
         stands(&self.state, kinds, next)
     }
 
-    /// 1 where the column fills a row behind an open end of another net, else 0.
+    /// 1 where the column fills a row after an open end of another net, else 0.
     #[tactic(auto, using(crate::proofs::Digits::cost_is))]
     pub fn cost(&self, next: &Candidate) -> u32
         ensures { (k : KindsOf) → IsCandidate k next.now → result ≡ cost_of self.now.state (column_of k next.now.step) }
@@ -112,7 +113,7 @@ impl Numbered {
         column_cost(&self.state, &next.column)
     }
 
-    // The number of the counts behind a column that may come next.
+    // The number of the counts after a column that may come next.
     #[tactic(auto, using(crate::proofs::Digits::counts_less))]
     fn counts_behind(&self, kinds: &Kinds, next: &Candidate) -> u64
         requires numbered { IsNumbered kinds.now self.now }
@@ -123,7 +124,7 @@ impl Numbered {
         self.counts - next.rows
     }
 
-    /// The number of the state behind a column that may come next.
+    /// The number of the state after a column that may come next.
     #[tactic(auto, using(crate::proofs::Digits::code_from, crate::proofs::Digits::code_fits, crate::proofs::Digits::nets_few, crate::proofs::Digits::ends_few))]
     pub fn code_behind(&self, kinds: &Kinds, next: &Candidate) -> u128
         requires numbered { IsNumbered kinds.now self.now }
@@ -136,7 +137,7 @@ impl Numbered {
         u128::from(counts) * u128::from(nets * nets) + u128::from(next.ends)
     }
 
-    /// The state behind a column that may come next.
+    /// The state after a column that may come next.
     #[tactic(auto, using(crate::proofs::Digits::numbered_behind))]
     pub fn behind(
         &self,

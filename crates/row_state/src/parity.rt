@@ -1,4 +1,5 @@
-ghost use Rattle.std.specs.Prelude.{◌<◌, All, IfSome, cond, false, not, slice_index_or, ◌≡◌, ◌≤◌, ◌+◌, ◌-◌, ◌/◌, ◌%◌, ◌==◌, ℕ, length, refl};
+ghost use Rattle.std.specs.Prelude.{◌<◌, All, IfSome, cond, false, not, slice_index_or, ◌≡◌, ◌≤◌, ◌+◌, ◌-◌, ◌/◌, ◌%◌};
+ghost use Rattle.std.specs.Prelude.{◌==◌, ℕ, length, refl};
 ghost use Rattle.std.proofs.Common.{inl};
 ghost use Rattle.row_trails.specs.Counts.{halved};
 ghost use Rattle.row_trails.specs.Trails.{size};
@@ -8,7 +9,8 @@ ghost use Rattle.row_state.specs.declared.kind.Kinds.{Kinds as KindsOf};
 ghost use Rattle.row_state.specs.declared.state.State.{State as StateOf};
 ghost use Rattle.row_state.specs.Runs.{IsOnGate};
 ghost use Rattle.row_state.specs.Start.{IsKind, IsState};
-ghost use Rattle.row_state.specs.Tests.{adds_odd, empty_in, empty_test, is_odd_behind, is_odd_net, kinds_in, left_of, parity_test, parity_trails};
+ghost use Rattle.row_state.specs.Tests.{adds_odd, empty_in, empty_test, is_odd_behind, is_odd_net, kinds_in, left_of};
+ghost use Rattle.row_state.specs.Tests.{parity_test, parity_trails};
 ghost use Rattle.row_state.specs.Trails.{end_of};
 
 use crate::bound::are_above;

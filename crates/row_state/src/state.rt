@@ -7,13 +7,15 @@ ghost use Rattle.row_state.specs.declared.state.State.{State as StateOf};
 ghost use Rattle.row_state.specs.Runs.{IsOnGate};
 ghost use Rattle.row_state.specs.Completion.{further_gaps};
 ghost use Rattle.row_state.specs.Start.{HasFingers, IsState, columns_left, counts_of, start_of};
-ghost use Rattle.row_state.specs.Tests.{columns_test, counts_fit, end_fits, gate_left, keeps_lead, leads_below, left_of_kind, state_test};
+ghost use Rattle.row_state.specs.Tests.{columns_test, counts_fit, end_fits, gate_left, keeps_lead, leads_below};
+ghost use Rattle.row_state.specs.Tests.{left_of_kind, state_test};
 
 use crate::gate::{OnGate, are_level, behind, first_gates, next_on};
 use crate::{Kind, Kinds};
 use cell_num::{List, MOST_FINGERS, NetNo, NoMemory};
 use std::alloc::{AllocError, Global};
 
+/// Counts of fingers, by the kinds of a row.
 pub type Counts = List<u32>;
 
 /// How many fingers of each kind are left, and the open right end of each row.

@@ -25,6 +25,7 @@ pub struct Step {
     pub n: Option<Side>,
 }
 
+/// Steps from state to state, each of them a next column.
 pub type Steps = List<Step>;
 
 fn oriented(row: Row, kind: &Kind, flipped: bool) -> Placed

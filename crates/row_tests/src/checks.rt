@@ -44,7 +44,7 @@ fn put_row(checker: &mut Checker<Parity>, said: u32) -> Result<(), NoMemory> {
     Ok(())
 }
 
-// The answer to the lemma, and behind it the three columns, where their gaps are said.
+// The answer to the lemma, and then to the three columns, where their gaps are given.
 fn answer(alloc: Global, rows: &Fingers, bound: u32, said: Option<u32>) -> Result<u32, Refused>
     requires { AreFingers rows.now }
 {

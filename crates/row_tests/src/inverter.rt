@@ -43,7 +43,7 @@ fn inverter(alloc: Global) -> Result<Fingers, Fail>
     }
 }
 
-// No row with at most so many gaps has a legal routing.
+// No row with at most `gaps` gaps has a legal routing.
 fn of_start(alloc: Global, kinds: &Kinds, gaps: u32) -> Result<TrackLemma, NoMemory> {
     Ok(TrackLemma {
         state: start(alloc, kinds)?,

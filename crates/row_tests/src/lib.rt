@@ -1,4 +1,5 @@
-// Worked examples of rows, their logs, their search and their tracks. They stand here, since a crate with tests is proved twice.
+// Worked examples of rows, their logs, their search and their tracks. They stand here, since a crate with tests is
+// proved twice.
 #![tactic(auto)]
 
 #[cfg(test)]

@@ -21,7 +21,7 @@ fn ended(
     }
 }
 
-// Whether a search within that budget ends so, with these lines behind the first two.
+// Whether a search within that budget ends so, with these lines after the first two.
 fn ends(
     alloc: Global,
     nets: u32,
@@ -87,7 +87,7 @@ end
     Ok(())
 }
 
-// Twelve pairs between two nets and two between two others need a gap, and no parity tells it.
+// Twelve pairs between two nets and two between two others need a gap, and no parity shows it.
 #[test]
 fn searches_long(rt: HostRuntime) -> Result<(), Fail> {
     let alloc = rt.alloc();

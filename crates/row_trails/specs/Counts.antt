@@ -1,5 +1,6 @@
 -- Tables of nets and classes, and the trails that so many odd nets need.
-use Rattle.std.specs.Prelude.{ℕ, ◌-◌, ◌/◌, Bool, false, ◌&&◌, ◌==◌, if◌then◌else◌, max, List, Option, Some, None, slice_index_or}
+use Rattle.std.specs.Prelude.{ℕ, ◌-◌, ◌/◌, Bool, false, ◌&&◌, ◌==◌, if◌then◌else◌, max, List, Option, Some, None}
+use Rattle.std.specs.Prelude.{slice_index_or}
 use Rattle.cell_num.specs.declared.net.NetNo.{NetNo}
 use Rattle.row_trails.specs.Trails.{size}
 

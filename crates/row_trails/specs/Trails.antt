@@ -1,5 +1,6 @@
 -- One row of a list of columns as a walk: what it costs, and which nets it meets an odd number of times.
-use Rattle.std.specs.Prelude.{ℕ, zero, suc, ◌≡◌, ◌+◌, ◌*◌, ◌<◌, ◌≤◌, Bool, true, false, not, ◌||◌, ◌==◌, if◌then◌else◌, cond, List, [], ◌∷◌, Option, Some, None, refl}
+use Rattle.std.specs.Prelude.{ℕ, zero, suc, ◌≡◌, ◌+◌, ◌*◌, ◌<◌, ◌≤◌, Bool, true, false, not, ◌||◌, ◌==◌, if◌then◌else◌}
+use Rattle.std.specs.Prelude.{cond, List, [], ◌∷◌, Option, Some, None, refl}
 use Rattle.std.proofs.Common.{arith, ◌∙◌, inl, inr}
 use Rattle.std.proofs.lemmas.Bool.{cases_eq, eq-eqb, ne_eqb}
 use Rattle.cell_num.specs.declared.net.NetNo.{NetNo}
@@ -79,7 +80,8 @@ size_toggle zero v f = omega arith
 size_toggle (suc n) v f =
     elim (cases_eq n v) [
       | inl same ↦
-          let below : size n (toggle v f) ≡ size n f = size_same n (toggle v f) f (λ u l. toggle_other v f u (λ e. omega (arith, same))) in
+          let below : size n (toggle v f) ≡ size n f =
+          size_same n (toggle v f) f (λ u l. toggle_other v f u (λ e. omega (arith, same))) in
           omega (arith, below, bit_le (toggle v f n))
       | inr other ↦
           let here : toggle v f n ≡ f n = toggle_other v f n other in
@@ -97,22 +99,34 @@ size_none zero = refl
 size_none (suc n) = omega (arith, size_none n)
 
 pub bounds : (n : ℕ) (xs : List (Option Placed)) → Bounds n xs
-bounds n [] = record { after = λ v. omega (arith, size_toggle n v.0 (λ u. false), size_none n); free = omega (arith, size_none n) }
+bounds n [] = record {
+  after = λ v. omega (arith, size_toggle n v.0 (λ u. false), size_none n);
+  free = omega (arith, size_none n);
+}
 bounds n (None ∷ xs) =
     let rest = bounds n xs in
     record { after = λ v. omega (arith, rest.free, size_toggle n v.0 (odd xs)); free = omega (arith, rest.free) }
 bounds n (Some x ∷ xs) =
     let rest : Bounds n xs = bounds n xs in
-    let inner : size n (toggle (right_net x).0 (odd xs)) ≤ 2 * (row_cost (Some (right_net x)) xs + empties xs) + 1 = rest.after (right_net x) in
+    let inner : size n (toggle (right_net x).0 (odd xs)) ≤ 2 * (row_cost (Some (right_net x)) xs + empties xs) + 1 =
+    rest.after (right_net x) in
     record {
       after = λ v. elim (cases_eq v.0 (left_net x).0) [
         | inl same ↦
-            let gone : size n (toggle v.0 (toggle (left_net x).0 (toggle (right_net x).0 (odd xs)))) ≡ size n (toggle (right_net x).0 (odd xs)) =
+            let gone : size n (toggle v.0 (toggle (left_net x).0 (toggle (right_net x).0 (odd xs))))
+            ≡ size n (toggle (right_net x).0 (odd xs)) =
             size_same n _ _ (λ u l. rw same (toggle_twice (left_net x).0 (toggle (right_net x).0 (odd xs)) u)) in
             omega (arith, gone, inner)
         | inr other ↦
-            let costs : ◌≡◌ {A = ℕ} (if end_differs (Some v) (Some x) then 1 else 0) 1 = rw (ne_eqb v.0 (left_net x).0 other) refl in
-            omega (arith, costs, inner, size_toggle n v.0 (toggle (left_net x).0 (toggle (right_net x).0 (odd xs))), size_toggle n (left_net x).0 (toggle (right_net x).0 (odd xs)))
+            let costs : ◌≡◌ {A = ℕ} (if end_differs (Some v) (Some x) then 1 else 0) 1 =
+            rw (ne_eqb v.0 (left_net x).0 other) refl in
+            omega (
+              arith,
+              costs,
+              inner,
+              size_toggle n v.0 (toggle (left_net x).0 (toggle (right_net x).0 (odd xs))),
+              size_toggle n (left_net x).0 (toggle (right_net x).0 (odd xs)),
+            )
       ];
       free = omega (arith, inner, size_toggle n (left_net x).0 (toggle (right_net x).0 (odd xs)));
     }
@@ -137,17 +151,31 @@ or_right_le : (a b : Bool) → (if b then 1 else 0) ≤ (if a || b then 1 else 0
 or_right_le true b = bit_le b
 or_right_le false b = omega arith
 
-p_cost_step : (p n : Option NetNo) (x y : Option Placed) (cs : List Column) → ((e f : Option NetNo) → row_cost e (places P cs) ≤ cost_behind e f cs) → row_cost p (x ∷ places P cs) ≤ (if end_differs p x || end_differs n y then 1 else 0) + cost_behind (option_map right_net x) (option_map right_net y) cs
+p_cost_step : (p n : Option NetNo) (x y : Option Placed) (cs : List Column)
+    → ((e f : Option NetNo) → row_cost e (places P cs) ≤ cost_behind e f cs) → row_cost p (x ∷ places P cs)
+    ≤ (if end_differs p x || end_differs n y then 1 else 0) + cost_behind (option_map right_net x)
+    (option_map right_net y) cs
 p_cost_step p n None y cs rest = omega (arith, rest None (option_map right_net y))
-p_cost_step p n (Some x) y cs rest = omega (arith, or_left_le (end_differs p (Some x)) (end_differs n y), rest (Some (right_net x)) (option_map right_net y))
+p_cost_step p n (Some x) y cs rest = omega (
+  arith,
+  or_left_le (end_differs p (Some x)) (end_differs n y),
+  rest (Some (right_net x)) (option_map right_net y),
+)
 
 pub p_cost_le : (p n : Option NetNo) (cs : List Column) → row_cost p (places P cs) ≤ cost_behind p n cs
 p_cost_le p n [] = omega arith
 p_cost_le p n (c ∷ cs) = p_cost_step p n c.p c.n cs (λ e f. p_cost_le e f cs)
 
-n_cost_step : (p n : Option NetNo) (x y : Option Placed) (cs : List Column) → ((e f : Option NetNo) → row_cost f (places N cs) ≤ cost_behind e f cs) → row_cost n (y ∷ places N cs) ≤ (if end_differs p x || end_differs n y then 1 else 0) + cost_behind (option_map right_net x) (option_map right_net y) cs
+n_cost_step : (p n : Option NetNo) (x y : Option Placed) (cs : List Column)
+    → ((e f : Option NetNo) → row_cost f (places N cs) ≤ cost_behind e f cs) → row_cost n (y ∷ places N cs)
+    ≤ (if end_differs p x || end_differs n y then 1 else 0) + cost_behind (option_map right_net x)
+    (option_map right_net y) cs
 n_cost_step p n x None cs rest = omega (arith, rest (option_map right_net x) None)
-n_cost_step p n x (Some y) cs rest = omega (arith, or_right_le (end_differs p x) (end_differs n (Some y)), rest (option_map right_net x) (Some (right_net y)))
+n_cost_step p n x (Some y) cs rest = omega (
+  arith,
+  or_right_le (end_differs p x) (end_differs n (Some y)),
+  rest (option_map right_net x) (Some (right_net y)),
+)
 
 pub n_cost_le : (p n : Option NetNo) (cs : List Column) → row_cost n (places N cs) ≤ cost_behind p n cs
 n_cost_le p n [] = omega arith
@@ -158,10 +186,17 @@ end_facing None y = refl
 end_facing (Some x) None = refl
 end_facing (Some x) (Some y) = refl
 
-gap_cost : (c d : Column) → cost_at (option_map right_net c.p) (option_map right_net c.n) d ≡ (if is_gap (c, d) then 1 else 0)
+gap_cost : (c d : Column) → cost_at (option_map right_net c.p) (option_map right_net c.n) d
+    ≡ (if is_gap (c, d) then 1 else 0)
 gap_cost c d = rw (end_facing c.p d.p, end_facing c.n d.n) refl
 
 -- behind a column these are gaps
-pub gaps_behind : (c : Column) (cs : List Column) → cost_behind (option_map right_net c.p) (option_map right_net c.n) cs ≡ gaps_of (c ∷ cs)
+pub gaps_behind : (c : Column) (cs : List Column) → cost_behind (option_map right_net c.p) (option_map right_net c.n) cs
+    ≡ gaps_of (c ∷ cs)
 gaps_behind c [] = refl
-gaps_behind c (d ∷ cs) = omega (arith, gap_cost c d, gaps_behind d cs, sum_by-cons (λ x. cond (is_gap x) 1 0) (c, d) (zip (d ∷ cs) cs))
+gaps_behind c (d ∷ cs) = omega (
+  arith,
+  gap_cost c d,
+  gaps_behind d cs,
+  sum_by-cons (λ x. cond (is_gap x) 1 0) (c, d) (zip (d ∷ cs) cs),
+)

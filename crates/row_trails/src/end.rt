@@ -25,7 +25,7 @@ pub fn cost_at_ends(p_end: &Option<NetNo>, n_end: &Option<NetNo>, column: &Colum
     }
 }
 
-/// The open end of a row behind a place of it. Behind an empty one there is none.
+/// The open end of a row after one of its places. After an empty place there is none.
 pub fn end_behind(place: &Option<Placed>) -> Option<NetNo>
     ensures { result ≡ option_map right_net place.now }
 {

@@ -1,5 +1,5 @@
-// One row of a list of columns as trails: what a column costs behind open ends, sets of nets, and the trails that
-// so many nets of odd degree need. It knows nothing of kinds of fingers and of states.
+// One row of a list of columns as trails: what a column costs after open ends, sets of nets, and the trails that a
+// number of nets of odd degree needs. It knows nothing of kinds of fingers and of states.
 #![tactic(auto)]
 
 mod count;

@@ -1,5 +1,5 @@
 -- What the top call owes of `make` with a given file, from the end that the files call for and how it was told.
-use Rattle.std.proofs.Common.{ℕ, ◌≡◌, ◌++◌, true, List, [], Option, Some, None, Result, Ok, IfSome, inl, inr, ap, length, refl, sym, subst, ◌∙◌}
+use Rattle.std.proofs.Common.{ℕ, ◌≡◌, true, List, [], Option, Some, None, Result, Ok, IfSome, inl, inr, ap, length, refl, sym, subst, ◌∙◌}
 use Rattle.cell_io.specs.Desk.{Files, View}
 use Rattle.cell_num.proofs.Lists.{some_same}
 use Rattle.row_model.specs.declared.column.Column.{Column}

@@ -1,5 +1,5 @@
 -- What the top call owes of its answer, from the end that it came to and how this was told.
-use Rattle.std.proofs.Common.{ℕ, ◌≡◌, ◌≤◌, ◌⊎◌, ◌||◌, Bool, true, false, List, [], Option, Some, None, IfSome, IsNone, inl, inr, refl, sym, ap, ◌∙◌, subst, arith}
+use Rattle.std.proofs.Common.{ℕ, ◌≡◌, ◌⊎◌, ◌||◌, Bool, true, false, List, [], Option, Some, None, IfSome, IsNone, inl, inr, refl, sym, ap, ◌∙◌, subst, arith}
 use Rattle.std.proofs.lemmas.List.{append-nil}
 use Rattle.cell_io.specs.Desk.{Files, View, Both, ForSome, AddsPart, OnlyReads, Rose}
 use Rattle.call_end.specs.declared.end.End.{End}
@@ -17,7 +17,7 @@ use Rattle.call_end.proofs.Delivered.{none_begun, none_made}
 use Rattle.call_read.proofs.Desks.{came_between}
 use Rattle.run_laws.proofs.Ends.{came_gathered, end_cases, end_told, file_outside, file_status, file_unread, no_files, row_files}
 use Rattle.call_work.proofs.Settled.{not_of_desk, usage_alone}
-use Rattle.run_laws.proofs.Worked.{Completes, IsAnswered}
+use Rattle.run_laws.proofs.Worked.{Completes}
 
 -- ---- the whole call
 

@@ -1,4 +1,4 @@
--- What a call of `agree` tells.
+-- What a call of `agree` reports.
 use Rattle.std.specs.Prelude.{◌⊎◌, Option, ℕ, ◌≡◌, List, Some, Ok}
 use Rattle.cell_io.specs.Desk.{Files, View, Both}
 use Rattle.channel_route.specs.declared.routing.Routing.{Routing}
@@ -26,11 +26,11 @@ pub record IsToldOf (c : Compared) (answer : AgreeAnswer) (old new : View) : Typ
   pub is : IsAgreeAnswer c answer
   pub says : Both (Says (agree_end c.cell answer).report) old.said new.said
 
--- it was told that they agree
+-- it was reported that they agree
 abbrev pub IsAgreedCell : Compared → View → View → Type 0
 IsAgreedCell c old new = IsToldOf c Agreed old new
 
--- such a first difference was told
+-- such a first difference was reported
 abbrev pub IsDifferingCell : (Differ → Type 0) → Compared → View → View → Type 0
 IsDifferingCell Is c old new = (d : Differ) × Is d × IsToldOf c (Differs d) old new
 
@@ -39,12 +39,12 @@ IsDifferingCell Is c old new = (d : Differ) × Is d × IsToldOf c (Differs d) ol
 abbrev pub OfCompared : Files → Option Form → (Compared → Type 0) → Type 0
 OfCompared files form Is = Gathers Agreeing files form Is
 
--- it was told why the two do not agree: the LEF file has no such macro, or the macro differs from the drawing
+-- it was reported why the two do not agree: the LEF file has no such macro, or the macro differs from the drawing
 abbrev pub IsDisagreed : Files → Option Form → View → View → Type 0
 IsDisagreed files form old new =
     IsToldFault IsLefFault files form old new ⊎ OfCompared files form (λ c. IsDifferingCell IsDisagreement c old new)
 
--- it was told why there are no nets to compare with: the GDSII file has no such drawing, or the drawing no netlist
+-- it was reported why there are no nets to compare with: the GDSII file has no such drawing, or the drawing no netlist
 abbrev pub IsWithoutNets : Files → Option Form → View → View → Type 0
 IsWithoutNets files form old new =
     IsToldFault IsGdsFault files form old new ⊎ OfCompared files form (λ c. IsDifferingCell IsUnextracted c old new)

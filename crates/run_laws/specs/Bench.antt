@@ -1,4 +1,4 @@
--- What a call of `bench` tells.
+-- What a call of `bench` reports.
 use Rattle.std.specs.Prelude.{ℕ, ◌≡◌, ◌++◌, Option, Some}
 use Rattle.cell_io.specs.Desk.{View, Both}
 use Rattle.bench_command.specs.declared.tally.Tally.{Tally}
@@ -12,7 +12,7 @@ use Rattle.call_words.specs.Words.{Form, Bench}
 abbrev pub IsBench : Option Form → Type 0
 IsBench form = (number : ℕ) × (form ≡ Some (Bench number))
 
--- the counts were told
+-- the counts were reported
 pub record IsBenchTold (number : ℕ) (old new : View) : Type 0 where
   pub tally : Tally
   pub counted : IsCounted number tally

@@ -1,4 +1,4 @@
--- What a call of `check` tells.
+-- What a call of `check` reports.
 use Rattle.std.specs.Prelude.{Option}
 use Rattle.cell_io.specs.Desk.{Files}
 use Rattle.call_words.specs.Words.{Form}

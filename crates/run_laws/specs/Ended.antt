@@ -38,7 +38,7 @@ IsLefFault e = (f : LefFault) × (e ≡ Lef f)
 abbrev pub IsRefusedBy : (Refusal → Type 0) → Files → Option Form → Type 0
 IsRefusedBy Is files form = (e : Refusal) × Is e × (called files (gathered form) ≡ Err e)
 
--- it was told
+-- it was reported
 pub record IsToldFault (Is : Refusal → Type 0) (files : Files) (form : Option Form) (old new : View) : Type 0 where
   pub fault : Refusal
   pub of : Is fault

@@ -32,7 +32,7 @@ Certifies Log inputs row log = IsCertified inputs row log
 Certifies Trails inputs row trails =
     WithKinds inputs.fingers (λ k. IsCertifiedByTrails k inputs.fingers row trails)
 
--- it lists no row, and proves so many gaps of every row
+-- it lists no row, and proves that many gaps of every row
 abbrev pub ProvesAlone : (evidence : Evidence) → Inputs → ℕ → Certificate evidence → Type 0
 ProvesAlone Log inputs proved log = IsUnfinished inputs proved log
 ProvesAlone Trails inputs proved trails = IsOpenByTrails inputs proved trails

@@ -1,4 +1,4 @@
--- What a call of `extract` tells.
+-- What a call of `extract` reports.
 use Rattle.std.specs.Prelude.{ℕ, ◌⊎◌, List, Option}
 use Rattle.cell_io.specs.Desk.{Files, View, Both}
 use Rattle.scmos_rules.specs.declared.violation.Violation.{Violation}
@@ -21,16 +21,16 @@ pub record IsToldOf (cell : GdsCell) (answer : ExtractAnswer) (old new : View) :
   pub is : IsDrawingAnswer cell.rules cell.shapes answer
   pub says : Both (Says (extract_end cell.name answer).report) old.said new.said
 
--- the netlist was told, and with taps the bodies of its devices
+-- the netlist was reported, and with taps the bodies of its devices
 abbrev pub IsExtractedCell : GdsCell → View → View → Type 0
 IsExtractedCell cell old new =
     (netlist : Netlist) × (bodies : Option (List (Option ℕ))) × IsToldOf cell (Extracted netlist bodies) old new
 
--- all broken rules were told
+-- all broken rules were reported
 abbrev pub IsBrokenCell : GdsCell → View → View → Type 0
 IsBrokenCell cell old new = (found : List Violation) × IsToldOf cell (Broken found) old new
 
--- it was told why there is no netlist
+-- it was reported why there is no netlist
 abbrev pub IsRefusedCell : GdsCell → View → View → Type 0
 IsRefusedCell cell old new = (answer : ExtractAnswer) × IsLayoutFault answer × IsToldOf cell answer old new
 
@@ -43,7 +43,7 @@ OfGdsCell files form Is = Gathers Extracting files form Is
 abbrev pub WhereExtractEnds : Files → Option Form → Status → Status → (GdsCell → Type 0) → Type 0
 WhereExtractEnds files form answer settled Is = WhereEnds Extracting files form answer settled Is
 
--- it was told why there is no netlist: the file has no such drawing, or the drawing no netlist
+-- it was reported why there is no netlist: the file has no such drawing, or the drawing no netlist
 abbrev pub IsRefusedLayout : Files → Option Form → View → View → Type 0
 IsRefusedLayout files form old new =
     IsToldFault IsGdsFault files form old new ⊎ OfGdsCell files form (λ cell. IsRefusedCell cell old new)

@@ -1,4 +1,4 @@
--- What a call of `make` with a given file leaves behind, and how it has to end.
+-- What a call of `make` with a given file leaves, and how it has to end.
 use Rattle.std.specs.Prelude.{ℕ, ◌≡◌, List, Option, Some, Ok}
 use Rattle.cell_io.specs.Desk.{Files, View, Both}
 use Rattle.cell_num.specs.Names.{lowered}

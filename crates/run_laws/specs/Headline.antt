@@ -1,4 +1,4 @@
--- What a call of `make` leaves behind: the drawing of a cell with its evidence, or the evidence of why there is
+-- What a call of `make` leaves: the drawing of a cell with its evidence, or the evidence of why there is
 -- none. Files and what was said are told where the desk tells them.
 use Rattle.std.specs.Prelude.{ℕ, ◌≡◌, ◌<◌, ◌⊎◌, IsTrue, List, [], ◌∷◌, ◌++◌, Option, Some}
 use Rattle.file_laws.specs.Abstracts.{IsAbstractOf}
@@ -19,7 +19,8 @@ use Rattle.gds_read.specs.Decoding.{Decodes}
 use Rattle.lef_write.specs.Drawn.{AreAllMetal, AreOfNet, HasTrunkPorts, IsSized}
 use Rattle.call_end.specs.Status.{first_line}
 use Rattle.call_work.specs.Commands.{Making}
-use Rattle.run_laws.specs.Evidence.{Certificate, HasEnough, HasEvidence, ProvesAlone, evidence_counts, evidence_name, evidence_text, lemma_count}
+use Rattle.run_laws.specs.Evidence.{Certificate, HasEnough, HasEvidence, ProvesAlone, evidence_counts, evidence_name}
+use Rattle.run_laws.specs.Evidence.{evidence_text, lemma_count}
 use Rattle.run_laws.specs.Origin.{CertifiesBy, HasFiles, HasNoDrawing, IsRowOf, Origin, kind_of_evidence}
 use Rattle.run_laws.specs.Ended.{Gathers, IsOfKind, WhereEnds}
 use Rattle.run_laws.specs.Plan.{IsCrowdedCell}
@@ -35,7 +36,8 @@ use Rattle.cell_report.specs.Cells.{sizes_text, tall_text}
 use Rattle.cell_report.specs.Rows.{plan_text}
 use Rattle.cell_report.specs.Logs.{unfinished_text}
 use Rattle.cell_make.specs.Structures.{HasOneStructure}
-use Rattle.cell_make.specs.Style.{AreBodiedBy, AreLegal, AreTight, HasNoRing, HasPinPort, IsRing, IsToldRing, ShowsWiring, deck_of, final}
+use Rattle.cell_make.specs.Style.{AreBodiedBy, AreLegal, AreTight, HasNoRing, HasPinPort, IsRing, IsToldRing}
+use Rattle.cell_make.specs.Style.{ShowsWiring, deck_of, final}
 use Rattle.call_words.specs.Asked.{CellAsked}
 use Rattle.call_words.specs.declared.evidence.Evidence.{Evidence}
 use Rattle.call_words.specs.Words.{Form, Make}
@@ -111,7 +113,7 @@ pub record IsMadeCell (origin : Origin) (style : Style) (inputs : Inputs) (out :
   pub decodes : Decodes (library_of inputs layout) inputs.cell.name inputs.tech.lambda_nm layout.shapes
   pub alone : HasOneStructure (library_of inputs layout)
   -- Each pin has exactly one port: one of the shapes without taps, on which the label of the pin's name stands. With
-  -- doglegs it may have more behind that one.
+  -- doglegs it may have more after that one.
   pub ports : (n : ℕ) → n < inputs.cell.pins.pins
       → HasPinPort style.wiring inputs.cell.nets (ports_in inputs routing drawing) drawing n
   -- A pin that is no rail has a port for each trunk of its net, or with doglegs for each piece: the metal1 of that.
@@ -193,7 +195,7 @@ pub record IsSpentSearch (evidence : Evidence) (inputs : Inputs) (out : List ℕ
       Both (Says (first_line status.Unfinished ++ unfinished_text proved (lemma_count evidence certificate)))
       old.said new.said
 
--- The evidence was told and is there, or a gate was told, and the files are as before.
+-- The evidence was reported and is there, or a gate was reported, and the files are as before.
 abbrev pub IsUnmade : Evidence → Inputs → List ℕ → View → View → Type 0
 IsUnmade evidence inputs out old new =
     IsSpentSearch evidence inputs out old new ⊎ (IsCrowdedCell evidence inputs old new × (new.made ≡ old.made))

@@ -1,4 +1,4 @@
--- What contracts of public calls cite, and what these definitions stand on.
+-- What contracts of public calls cite, and what these definitions depend on.
 pub mod Agree
 pub mod Bench
 pub mod Calm

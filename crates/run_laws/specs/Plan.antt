@@ -1,6 +1,6 @@
--- What a call of `plan` tells: the row, with evidence; or what a search that spent its budget proves, or a gate with
+-- What a call of `plan` reports: the row, with evidence; or what a search that spent its budget proves, or a gate with
 -- too many ways to pair its fingers. What calls for the row.
-use Rattle.std.specs.Prelude.{ℕ, ◌≡◌, ◌⊎◌, List, ◌++◌, Option}
+use Rattle.std.specs.Prelude.{ℕ, ◌⊎◌, List, ◌++◌, Option}
 use Rattle.cell_io.specs.Desk.{Files, View, Both}
 use Rattle.cell_num.specs.declared.net.NetNo.{NetNo}
 use Rattle.row_model.specs.declared.column.Column.{Column}
@@ -16,7 +16,8 @@ use Rattle.cell_inputs.specs.Inputs.{Inputs}
 use Rattle.cell_report.specs.Logs.{unfinished_text}
 use Rattle.cell_commands.specs.Searched.{Crowds}
 use Rattle.run_laws.specs.Ended.{Gathers, WhereEnds}
-use Rattle.run_laws.specs.Evidence.{Certificate, Certifies, HasEnough, ProvesAlone, evidence_text, lemma_count, planned_text}
+use Rattle.run_laws.specs.Evidence.{Certificate, Certifies, HasEnough, ProvesAlone, evidence_text, lemma_count}
+use Rattle.run_laws.specs.Evidence.{planned_text}
 use Rattle.cell_commands.specs.Evidence.{gate_text}
 
 -- so it is where `plan` ends with this status
@@ -24,7 +25,7 @@ abbrev pub WherePlanEnds : Files → Option Form → Status → Status → (Evid
 WherePlanEnds files form answer settled Says =
     WhereEnds Planning files form answer settled (λ m. Says m.evidence m.inputs)
 
--- the row was told, and how many lemmas and filled gates a certificate by trails has
+-- the row was reported, and how many lemmas and filled gates a certificate by trails has
 pub record IsPlannedRow (evidence : Evidence) (inputs : Inputs) (old new : View) : Type 0 where
   pub row : List Column
   pub certificate : Certificate evidence
@@ -36,7 +37,7 @@ pub record IsPlannedRow (evidence : Evidence) (inputs : Inputs) (old new : View)
   pub says :
       Both (Says (first_line status.Done ++ planned_text evidence inputs.cell row certificate)) old.said new.said
 
--- the evidence was told, which lists no row: it proves that no row has fewer gaps than the report says
+-- the evidence was reported, which lists no row: it proves that no row has fewer gaps than the report says
 pub record IsOpenSearch (evidence : Evidence) (inputs : Inputs) (old new : View) : Type 0 where
   pub certificate : Certificate evidence
   pub proved : ℕ
@@ -45,7 +46,7 @@ pub record IsOpenSearch (evidence : Evidence) (inputs : Inputs) (old new : View)
       Both (Says (first_line status.Unfinished ++ unfinished_text proved (lemma_count evidence certificate)
       ++ evidence_text evidence inputs.cell.name certificate)) old.said new.said
 
--- a gate was told whose fingers pair in more ways than a checker lists
+-- a gate was reported whose fingers pair in more ways than a checker lists
 pub record IsCrowdedCell (evidence : Evidence) (inputs : Inputs) (old new : View) : Type 0 where
   pub gate : NetNo
   pub crowded : Crowds evidence inputs gate

@@ -1,4 +1,4 @@
--- What a call of `row` leaves behind: the library of its cells side by side, with its evidence, or why there is none.
+-- What a call of `row` leaves: the library of its cells side by side, with its evidence, or why there is none.
 use Rattle.std.specs.Prelude.{ℕ, ◌≡◌, ◌≢◌, ◌⊎◌, IsTrue, List, [], ◌∷◌, ◌++◌, codes, length, map, All, Option, Some}
 use Rattle.cell_io.specs.Desk.{Files, View, Both}
 use Rattle.call_end.specs.Deliver.{Says}
@@ -24,7 +24,8 @@ use Rattle.cell_report.specs.Faults.{fault_line}
 use Rattle.cell_report.specs.RowFaults.{row_fault}
 use Rattle.row_abut.specs.declared.cell.RowFault.{RowFault}
 use Rattle.cell_make.specs.RowInputs.{RowInputs}
-use Rattle.cell_make.specs.Rowed.{AreInputsOf, AreMade, IsRefused, IsRowFault, IsRowed, IsStopped, IsUnabutted, MadeCell, row_cells, row_height, row_library, row_width}
+use Rattle.cell_make.specs.Rowed.{AreInputsOf, AreMade, IsRefused, IsRowFault, IsRowed, IsStopped, IsUnabutted}
+use Rattle.cell_make.specs.Rowed.{MadeCell, row_cells, row_height, row_library, row_width}
 use Rattle.cell_make.specs.declared.row_outcome.InputFault.{InputFault}
 use Rattle.layout_commands.specs.Row.{IsStoppedEnd, input_end, row_text}
 
@@ -61,7 +62,7 @@ pub record IsRowedLibrary (r : RowInputs) (out : List ℕ) (old new : View) : Ty
       old.said new.said
 
 -- The first cell that is not made has no drawing: a ring of nets, a height that is not enough, or a search that spent
--- its budget, whose log is told. No file is made.
+-- its budget, whose log is reported. No file is made.
 pub record IsStoppedRow (r : RowInputs) (answer : Status) (old new : View) : Type 0 where
   pub before : List MadeCell
   pub inputs : Inputs
@@ -81,7 +82,7 @@ pub record IsRefusedRow (r : RowInputs) (old new : View) : Type 0 where
   pub refused : IsRefused r before name fault
   pub says : Both (Says (input_end fault).report) old.said new.said
 
--- the fault of the technology was told, or that of a cell
+-- the fault of the technology was reported, or that of a cell
 abbrev pub IsInputRefusal : Refusal → Type 0
 IsInputRefusal e = refusal_status e ≡ status.Input
 
@@ -89,7 +90,7 @@ abbrev pub IsMisreadRow : Files → Option Form → View → View → Type 0
 IsMisreadRow files form old new =
     IsToldFault IsInputRefusal files form old new ⊎ OfRow files form (λ r out. IsRefusedRow r old new)
 
--- what is told of such a fault
+-- what is reported of such a fault
 abbrev pub TellsRowFault : RowFault → View → View → Type 0
 TellsRowFault fault old new =
     Both (Says (reports status.Row (fault_line (codes "row") (row_fault fault))).report) old.said new.said
@@ -144,7 +145,7 @@ IsApartOrShort fault answer old new =
 abbrev pub MayMakeFiles : Option Form → Type 0
 MayMakeFiles form = IsMake form ⊎ IsRow form ⊎ IsMakeFrom form
 
--- the statuses of a row that may leave a file behind
+-- the statuses of a row that may leave a file
 abbrev pub row_file_statuses : List Status
 row_file_statuses = status.Done ∷ status.WriteFault ∷ status.NoMemory ∷ []
 

@@ -1,2 +1,2 @@
-// No code: what a call leaves behind, by its command and its status, and how this follows from the end that it came to.
+// No code: what a call leaves, by its command and its status, and how this follows from the end that it resulted in.
 #![tactic(auto)]

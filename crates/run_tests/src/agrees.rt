@@ -107,8 +107,8 @@ fn agrees_with(alloc: Global, gds: &[u8]) -> Result<bool, Fail> {
     Ok(are? && are_different(alloc, gds)?)
 }
 
-// The abstract that was made with the drawing agrees with it, but for a cell of another name; of others the first
-// difference is told.
+// The abstract that was made with the drawing agrees with it, except under another cell's name; of others the
+// first difference is reported.
 #[test]
 fn agrees_with_a_made_cell(rt: HostRuntime) -> Result<(), Fail> {
     let alloc = rt.alloc();

@@ -1,4 +1,4 @@
-// Calls over desks in memory, and what they come to.
+// Calls over desks in memory, and how they end.
 use cell_io::{CallList, Desk, File, FileList, MemDesk};
 use cell_num::{List, Name};
 use cell_run::{Status, run};
@@ -25,7 +25,7 @@ pub enum Left<'a> {
     Bytes(&'a [u8]),
 }
 
-/// What a call comes to.
+/// How a call ends.
 #[derive(Clone, Copy)]
 pub struct End<'said, 'files> {
     pub status: Status,

@@ -8,18 +8,21 @@ use std::test::Fail;
 const ROWS: [(&str, &str, &str); 8] = [
     (
         "",
-        ".SUBCKT x a b y vdd gnd\nM1 y a vdd vdd p W=3u L=0.6u\nM2 y b vdd vdd p W=3u L=0.6u\nM3 y a n1 gnd n W=3u L=0.6u\nM4 n1 b gnd gnd n W=3u L=0.6u\n.ENDS\n",
+        ".SUBCKT x a b y vdd gnd\nM1 y a vdd vdd p W=3u L=0.6u\nM2 y b vdd vdd p W=3u L=0.6u\n\
+          M3 y a n1 gnd n W=3u L=0.6u\nM4 n1 b gnd gnd n W=3u L=0.6u\n.ENDS\n",
         "columns 2\ngaps 0\nwidth 2\ncolumn 0 gate a p y vdd 20 n y n1 20\ncolumn 1 gate b p vdd y 20 n n1 gnd 20\n",
     ),
     (
         "",
-        ".SUBCKT x a b x y vdd gnd\nM1 x a vdd vdd p W=3u L=0.6u\nM2 x a gnd gnd n W=1.5u L=0.6u\nM3 y b vdd vdd p W=3u L=0.6u\nM4 y b gnd gnd n W=1.5u L=0.6u\n.ENDS\n",
+        ".SUBCKT x a b x y vdd gnd\nM1 x a vdd vdd p W=3u L=0.6u\nM2 x a gnd gnd n W=1.5u L=0.6u\n\
+          M3 y b vdd vdd p W=3u L=0.6u\nM4 y b gnd gnd n W=1.5u L=0.6u\n.ENDS\n",
         "columns 2\ngaps 0\nwidth 2\ncolumn 0 gate a p x vdd 20 n x gnd 10\ncolumn 1 gate b p vdd y 20 n gnd y 10\n",
     ),
     (
         "wmax_p = 20",
         ".SUBCKT x a y vdd gnd\nMP y a vdd vdd p W=6.15u L=0.6u\nMN y a gnd gnd n W=1.5u L=0.6u\n.ENDS\n",
-        "columns 3\ngaps 0\nwidth 3\ncolumn 0 gate a p y vdd 13 n y gnd 10\ncolumn 1 gate a p vdd y 14 n - - 0\ncolumn 2 gate a p y vdd 14 n - - 0\n",
+        "columns 3\ngaps 0\nwidth 3\ncolumn 0 gate a p y vdd 13 n y gnd 10\ncolumn 1 gate a p vdd y 14 n - - 0\n\
+          column 2 gate a p y vdd 14 n - - 0\n",
     ),
     (
         "",
@@ -33,7 +36,8 @@ const ROWS: [(&str, &str, &str); 8] = [
     ),
     (
         "",
-        ".GLOBAL gnd\n.SUBCKT x a y vdd\nMP y a vdd vdd p W=3u L=0.6u\nMn Y a\n+ GND gnd NMOS w=1.5UM $ width\n+ L = 600N AD=2p\n.ENDS\n",
+        ".GLOBAL gnd\n.SUBCKT x a y vdd\nMP y a vdd vdd p W=3u L=0.6u\nMn Y a\n+ GND gnd NMOS w=1.5UM $ width\n\
+          + L = 600N AD=2p\n.ENDS\n",
         "columns 1\ngaps 0\nwidth 1\ncolumn 0 gate a p y vdd 20 n y gnd 10\n",
     ),
     (
@@ -44,11 +48,12 @@ const ROWS: [(&str, &str, &str); 8] = [
     (
         "",
         ".SUBCKT x a y vdd gnd\nMP y a vdd vdd p W=3u L=0.6u nf=3\nMN y a gnd gnd n W=1.5u L=0.6u\n.ENDS\n",
-        "columns 3\ngaps 0\nwidth 3\ncolumn 0 gate a p y vdd 6 n y gnd 10\ncolumn 1 gate a p vdd y 7 n - - 0\ncolumn 2 gate a p y vdd 7 n - - 0\n",
+        "columns 3\ngaps 0\nwidth 3\ncolumn 0 gate a p y vdd 6 n y gnd 10\ncolumn 1 gate a p vdd y 7 n - - 0\n\
+          column 2 gate a p y vdd 7 n - - 0\n",
     ),
 ];
 
-// Whether the least row of `x` is told so.
+// Whether this is the report of the least row of `x`.
 fn is_planned(alloc: Global, tech: &str, spice: &str, said: &str) -> Result<bool, Fail> {
     let said = ["status 0 ok\ncell x\n", said];
     tells(
@@ -73,7 +78,8 @@ const LARGER: [(&str, &str, Status, &str); 3] = [
         "",
         INVERTERS,
         Status::Done,
-        "status 0 ok\ncell x3\ncolumns 3\ngaps 1\nwidth 4\ncolumn 0 gate a p x vdd 20 n x gnd 10\ncolumn 1 gate b p y vdd 20 n y gnd 10\ncolumn 2 gate c p vdd z 20 n gnd z 10\n",
+        "status 0 ok\ncell x3\ncolumns 3\ngaps 1\nwidth 4\ncolumn 0 gate a p x vdd 20 n x gnd 10\n\
+          column 1 gate b p y vdd 20 n y gnd 10\ncolumn 2 gate c p vdd z 20 n gnd z 10\n",
     ),
     (
         "budget = 1",
@@ -83,9 +89,15 @@ const LARGER: [(&str, &str, Status, &str); 3] = [
     ),
     (
         "",
-        ".GLOBAL vdd gnd\n.SUBCKT x3 e d q\nM1 en e vdd vdd p W=3u L=0.6u AD=3p PD=4u\nM2 en e gnd gnd n W=1.5u L=0.6u\nM3 p1 d vdd vdd p W=3u L=0.6u\nM4 m en p1 vdd p W=3u L=0.6u\nM5 n1 d gnd gnd n W=1.5u L=0.6u\nM6 m e n1 gnd n W=1.5u L=0.6u\nM7 q m vdd vdd p W=3u L=0.6u\nM8 q m gnd gnd n W=1.5u L=0.6u\nM9 m q vdd vdd p W=0.9u L=0.6u\nM10 m q gnd gnd n W=0.9u L=0.6u\n.ENDS\n",
+        ".GLOBAL vdd gnd\n.SUBCKT x3 e d q\nM1 en e vdd vdd p W=3u L=0.6u AD=3p PD=4u\n\
+          M2 en e gnd gnd n W=1.5u L=0.6u\nM3 p1 d vdd vdd p W=3u L=0.6u\nM4 m en p1 vdd p W=3u L=0.6u\n\
+          M5 n1 d gnd gnd n W=1.5u L=0.6u\nM6 m e n1 gnd n W=1.5u L=0.6u\nM7 q m vdd vdd p W=3u L=0.6u\n\
+          M8 q m gnd gnd n W=1.5u L=0.6u\nM9 m q vdd vdd p W=0.9u L=0.6u\nM10 m q gnd gnd n W=0.9u L=0.6u\n.ENDS\n",
         Status::Done,
-        "status 0 ok\ncell x3\ncolumns 6\ngaps 0\nwidth 6\ncolumn 0 gate e p en vdd 20 n en gnd 10\ncolumn 1 gate d p vdd p1 20 n gnd n1 10\ncolumn 2 gate e p - - 0 n n1 m 10\ncolumn 3 gate en p p1 m 20 n - - 0\ncolumn 4 gate q p m vdd 6 n m gnd 6\ncolumn 5 gate m p vdd q 20 n gnd q 10\n",
+        "status 0 ok\ncell x3\ncolumns 6\ngaps 0\nwidth 6\ncolumn 0 gate e p en vdd 20 n en gnd 10\n\
+          column 1 gate d p vdd p1 20 n gnd n1 10\ncolumn 2 gate e p - - 0 n n1 m 10\n\
+          column 3 gate en p p1 m 20 n - - 0\ncolumn 4 gate q p m vdd 6 n m gnd 6\n\
+          column 5 gate m p vdd q 20 n gnd q 10\n",
     ),
 ];
 

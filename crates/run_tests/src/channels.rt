@@ -34,8 +34,8 @@ const ROW: &str = "status 0 ok\ncell top\ncells 2\nsize 82 298\n";
 
 const NO_ROW: &str = "status 12 row\nrow Channel left 0 right 1\n";
 
-// Two of them, the end, and the length of the library. Between the N edge and the P edge are 24 of the cells of 113, and
-// 23 where one is of 114.
+// Two of them, the end, and the length of the library. Between the N edge and the P edge are 24 of the cells of 113,
+// and 23 where one is of 114.
 const CALLS: [(&str, Status, &str, usize); 6] = [
     ("row t.toml c.sp out top pw nw", Status::Row, NO_ROW, 0),
     ("row t.toml c.sp out top nw pw", Status::Row, NO_ROW, 0),

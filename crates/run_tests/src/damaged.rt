@@ -6,7 +6,7 @@ use cell_run::Status;
 use std::alloc::{AllocError, Global};
 use std::test::Fail;
 
-// Lemmas of the log of the three inverters, what stands behind its end, and the fault.
+// Lemmas of the log of the three inverters, what follows its end, and the fault.
 const LOGS: [(&str, &str, &str); 4] = [
     ("lemma 64 P 1,1,1 1,1,1 - -\n", "", "Line line 3"),
     ("lemma 1 P 1,1,2 1,1,1 - -\n", "", "Line line 3"),
@@ -26,7 +26,7 @@ fn refuses_damaged_logs(rt: HostRuntime) -> Result<(), Fail> {
     Ok(())
 }
 
-// Whether a subcircuit of one byte, so many times, is refused so.
+// Whether a subcircuit of `count` times one byte is refused so.
 fn is_refused(alloc: Global, byte: u8, count: usize, said: &str) -> Result<bool, Fail> {
     let spice = vec![in alloc; byte; count]?;
     let said = ["status 4 input\nspice ", said];
@@ -115,7 +115,7 @@ fn are_refused(alloc: Global, made: &[u8]) -> Result<bool, Fail> {
     Ok(are_cut(alloc, made)? && is_longer(alloc, made)?)
 }
 
-// Each front of a made cell is cut, and a byte behind it is no record.
+// Each first part of a made cell is cut, and a byte after it is no record.
 #[test]
 fn refuses_fronts_of_files(rt: HostRuntime) -> Result<(), Fail> {
     let alloc = rt.alloc();

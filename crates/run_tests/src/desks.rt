@@ -56,7 +56,7 @@ fn are_same(desk: &MemDesk, whole: &MemDesk) -> bool {
         && NAMES.iter().all(|name| desk.file(name) == whole.file(name))
 }
 
-// What a failed call may leave behind: nothing where a file was not read, and else a front of all.
+// What a failed call may leave: nothing where a file was not read, and else the first part of all.
 fn is_left_so(status: Status, desk: &MemDesk, whole: &MemDesk) -> bool {
     match status {
         Status::ReadFault => {
@@ -74,7 +74,7 @@ fn is_same(alloc: Global, words: &str, desk: &mut MemDesk, whole: &MemDesk) -> R
     Ok(status == Status::Done && are_same(desk, whole))
 }
 
-// Whether a desk that moves so many bytes a call ends the same.
+// Whether the call ends the same where the desk moves only this number of bytes at a time.
 fn is_same_in_pieces(
     alloc: Global,
     words: &str,
@@ -102,7 +102,7 @@ fn is_failed(
     Ok((status == Status::ReadFault) == is_reading && is_left_so(status, desk, whole))
 }
 
-// Whether the call of the desk fails so, and leaves what it may behind.
+// Whether the call of the desk fails so, and leaves what it may.
 fn fails_so(
     alloc: Global,
     words: &str,
@@ -147,7 +147,7 @@ fn ends_on(
     Ok(status == Status::Done && ends_beside(alloc, words, drawing, whole, counts)?)
 }
 
-// Whether the words end so where the calls of the desk fail in turn, and well where the one behind the last would fail.
+// Whether the words end so where the calls of the desk fail in turn, and well where the one after the last would fail.
 fn ends_so(
     alloc: Global,
     words: &str,

@@ -106,7 +106,7 @@ const RINGS: [(&str, &str, Status, &str, [usize; 2]); 4] = [
     ),
 ];
 
-// A ring of whole nets is none of their pieces; the height that the cell needs is told as without the word.
+// A ring of whole nets is none of their pieces; the height that the cell needs is reported as without the word.
 #[test]
 fn makes_a_ring_of_nets_with_doglegs(rt: HostRuntime) -> Result<(), Fail> {
     for (tech, words, status, said, lengths) in &RINGS {
@@ -154,9 +154,9 @@ fn ends_with_doglegs(rt: HostRuntime) -> Result<(), Fail> {
     Ok(())
 }
 
-// The word asks for doglegs behind OUT alone, and in its place it is OUT.
+// The word asks for doglegs only after OUT, and in the place of OUT it is OUT.
 #[test]
-fn takes_the_word_behind_out(rt: HostRuntime) -> Result<(), Fail> {
+fn takes_the_word_after_out(rt: HostRuntime) -> Result<(), Fail> {
     let words = [
         "make - c.sp inv o --Dogleg",
         "make - c.sp inv o --dogle",

@@ -157,7 +157,7 @@ fn says_with(
     is
 }
 
-// The label of `y` in the made inverter, with the name `q`, behind the labels.
+// The label of `y` in the made inverter, with the name `q`, after the labels.
 fn is_short(alloc: Global, made: &[u8]) -> Result<bool, Fail> {
     let (Some(front), Some(end)) = (made.get(1996..2028), made.get(2029..2114)) else {
         return Err(Fail::from("no label"));
@@ -177,8 +177,8 @@ fn is_extracted(alloc: Global, made: &[u8]) -> Result<bool, Fail> {
     )
 }
 
-// Bytes behind the library are passed over. A cut one, the label of `y` with the name of another net, and one more
-// label on that net are not.
+// Zero bytes after the library are passed over. A cut one, the label of `y` with the name of another net, and one
+// more label on that net are not.
 #[test]
 fn extracts_a_made_cell(rt: HostRuntime) -> Result<(), Fail> {
     let made = inverter(rt.alloc())?;

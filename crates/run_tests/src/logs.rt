@@ -3,7 +3,7 @@ use cell_run::Status;
 use std::alloc::{AllocError, Global};
 use std::test::Fail;
 
-/// Whether a check of a log of the three inverters, told by its parts, ends so.
+/// Whether a check of a log of the three inverters, given by its parts, ends so.
 pub fn is_checked(
     alloc: Global,
     parts: &[&str],
@@ -34,7 +34,7 @@ const UNPROVED: &str = "lemma 2 P 1,1,1 1,1,1 - -\n";
 
 const BROKEN: &str = "lemma 1 P 1,1 1,1,1 - -\n";
 
-// Lemmas before and behind 2,600 copies of one, and why the log is rejected.
+// Lemmas before and after 2,600 copies of one, and why the log is rejected.
 const LOGS: [(&str, &str, &str); 3] = [
     (LEMMA, UNPROVED, "Unproved line 2604"),
     (UNPROVED, LEMMA, "Unproved line 3"),

@@ -143,7 +143,11 @@ const CELLS: [Made; 9] = [
         words: "make - c.sp latch out",
         status: Status::Done,
         said: "column 5 gate m p vdd q 20 n gnd q 10\ntracks 3\nsize 154 150\nlemmas 8\n",
-        log: "cellgen-log 2\ncell latch\nlemma 1 B 0,1,1,1,1 0,1,1,1,1 5 5\nlemma 1 B 0,1,1,1,1 0,1,1,1,1 5 3\nlemma 1 B 0,1,1,1,1 1,0,1,1,1 5 8\nlemma 1 B 0,1,1,1,1 1,0,1,1,1 5 7\nlemma 1 B 0,1,1,1,1 0,1,1,1,1 4 5\nlemma 1 P 0,0,0,1,1 0,0,0,0,1 7 3\nlemma 1 P 0,0,0,1,1 0,0,0,0,1 4 3\nlemma 1 N 0,0,0,0,1 0,0,0,0,1 4 7\ngaps 0\ncolumn 0 0 1 0 1\ncolumn 1 1 0 2 0\ncolumn 0 - 0 1 1\ncolumn 5 3 0 - 0\ncolumn 2 2 1 3 1\ncolumn 7 4 1 4 1\nend\n",
+        log: "cellgen-log 2\ncell latch\nlemma 1 B 0,1,1,1,1 0,1,1,1,1 5 5\nlemma 1 B 0,1,1,1,1 0,1,1,1,1 5 3\n\
+          lemma 1 B 0,1,1,1,1 1,0,1,1,1 5 8\nlemma 1 B 0,1,1,1,1 1,0,1,1,1 5 7\nlemma 1 B 0,1,1,1,1 0,1,1,1,1 4 5\n\
+          lemma 1 P 0,0,0,1,1 0,0,0,0,1 7 3\nlemma 1 P 0,0,0,1,1 0,0,0,0,1 4 3\nlemma 1 N 0,0,0,0,1 0,0,0,0,1 4 7\n\
+          gaps 0\ncolumn 0 0 1 0 1\ncolumn 1 1 0 2 0\ncolumn 0 - 0 1 1\ncolumn 5 3 0 - 0\ncolumn 2 2 1 3 1\n\
+          column 7 4 1 4 1\nend\n",
         gds: 6986,
         lef: 1858,
     },

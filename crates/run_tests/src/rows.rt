@@ -40,7 +40,7 @@ pub fn ends_so(
 }
 
 // Calls of rows: the technology, the words, the end, and the length of the library. The first cell that is not made
-// ends the row, whatever stands behind it, and no file is made.
+// ends the row, whatever follows it, and no file is made.
 const CALLS: [(&str, &str, Status, &str, usize); 10] = [
     (
         "",
@@ -148,7 +148,7 @@ fn takes_two_to_sixteen_cells(rt: HostRuntime) -> Result<(), Fail> {
     Ok(())
 }
 
-// What `extract` tells of a row of two inverters, and of one of them.
+// What `extract` reports of a row of two inverters, and of one of them.
 const CIRCUITS: [(&str, &str); 2] = [
     (
         "extract - out.gds pair",

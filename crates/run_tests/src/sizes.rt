@@ -173,7 +173,7 @@ fn is_checked(
     ends(alloc, "check - c.sp dff l.clog", &given, &[failing], &end)
 }
 
-// It is checked in 106 pieces and its end, behind the two calls for the subcircuit.
+// It is checked in 106 pieces and its end, after the two calls for the subcircuit.
 fn is_right(alloc: Global, log: &[u8]) -> Result<bool, Fail> {
     Ok(
         mark(Some(log)) == LOG_MARK

@@ -85,7 +85,7 @@ fn ends_as_without_taps(rt: HostRuntime) -> Result<(), Fail> {
     Ok(())
 }
 
-// The word asks for taps as the last word behind OUT alone, and in the place of OUT it is OUT.
+// The word asks for taps only as the last word after OUT, and in the place of OUT it is OUT.
 #[test]
 fn takes_taps_as_the_last_word(rt: HostRuntime) -> Result<(), Fail> {
     let alloc = rt.alloc();

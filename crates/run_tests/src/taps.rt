@@ -55,7 +55,7 @@ fn add_tapped(out: &mut Vec<u8>, made: &[u8]) -> Result<(), Fail> {
     Ok(out.extend_from_slice(end)?)
 }
 
-// Whether these bodies of the N and of the P device are told.
+// Whether these bodies of the N and of the P device are reported.
 fn has_bodies(alloc: Global, bytes: &[u8], n: &str, p: &str) -> Result<bool, Fail> {
     let said = [NETS, N_DEVICE, n, P_DEVICE, p, "\n"];
     says_to(alloc, WORDS, bytes, Status::Done, &said)
@@ -78,7 +78,7 @@ fn has_all(alloc: Global, made: &[u8]) -> Result<bool, Fail> {
     Ok(has_bodies(alloc, made, "-", "-")? && is_tapped(alloc, made)?)
 }
 
-// Bodies are told with the word alone.
+// Bodies are reported only with the word.
 #[test]
 fn tells_bodies(rt: HostRuntime) -> Result<(), Fail> {
     let alloc = rt.alloc();
@@ -98,9 +98,9 @@ fn tells_bodies(rt: HostRuntime) -> Result<(), Fail> {
     Ok(())
 }
 
-// The word stands behind CELL, once, and taps are no word of another form.
+// The word follows CELL, once, and taps are no word of another form.
 #[test]
-fn takes_taps_behind_the_cell(rt: HostRuntime) -> Result<(), Fail> {
+fn takes_taps_after_the_cell(rt: HostRuntime) -> Result<(), Fail> {
     let words = [
         "extract - f.gds inv --taps --taps",
         "extract - f.gds inv --dogleg",

@@ -22,7 +22,7 @@ fn by_log(alloc: Global, name: &str) -> Result<Vec<u8>, Fail> {
     made_file(alloc, "make - c.sp x3 out", &given, &[], &BY_LOG, name)
 }
 
-// Whether the certificate is this one, and the files behind it are these.
+// Whether the certificate is this one, and the files after it are these.
 fn is_made<'a>(alloc: Global, trails: &'a str, gds: &'a [u8], lef: &'a [u8]) -> Result<bool, Fail> {
     let said = [X3, "tracks 1\nsize 107 118\nlemmas 4\nfilled 0\n"];
     let files = [
@@ -54,7 +54,7 @@ fn is_certified(alloc: Global, trails: &str) -> Result<bool, Fail> {
     is
 }
 
-// The certificate is the one that `check` accepts, and the files behind it are those of a cell with a log.
+// The certificate is the one that `check` accepts, and the files after it are those of a cell with a log.
 #[test]
 fn makes_a_cell_by_trails(rt: HostRuntime) -> Result<(), Fail> {
     let trails = joined(rt.alloc(), &[HEAD, ORDER, LEMMAS, ROW])?;
@@ -87,7 +87,8 @@ const UNDRAWN: [(&str, &str, &str, Status, &str, &str); 3] = [
         "make - c.sp cross out --taps --trails",
         Status::Cycle,
         "status 5 cycle\nx above y at line 0\ny above x at line 4\n",
-        "cellgen-trails 1\ncell cross\nfill -\norder 6,7\nlemma 1 1 - - -\nlemma 3 0 - - -\ngaps 1\ncolumn 6 0 0 0 0\ncolumn 7 1 0 1 0\nend\n",
+        "cellgen-trails 1\ncell cross\nfill -\norder 6,7\nlemma 1 1 - - -\nlemma 3 0 - - -\ngaps 1\ncolumn 6 0 0 0 0\n\
+          column 7 1 0 1 0\nend\n",
     ),
     (
         "budget = 1",
@@ -122,7 +123,7 @@ fn ends_so(
     ends(alloc, words, &inputs([tech, spice, ""]), &[], &end)
 }
 
-// Such a gate is told, and no file is made.
+// The report names such a gate, and no file is made.
 const CROWDED: End = End {
     status: Status::Unfinished,
     said: Said::Whole(&["status 6 unfinished\ngate g\n"]),
@@ -134,7 +135,7 @@ const CROWDED: End = End {
     ],
 };
 
-// A gate of seven different fingers over seven: behind its fifth column 7! / 2! * 2^5 = 80,640 ways to pair them.
+// A gate of seven different fingers over seven: after its fifth column 7! / 2! * 2^5 = 80,640 ways to pair them.
 fn put_crowded(alloc: Global, text: &mut String) -> Result<(), Fail> {
     text.push_str(".SUBCKT many g vdd gnd\n")?;
     for at in 0..7u32 {

@@ -107,7 +107,7 @@ pub const HEAD: &str = "cellgen-trails 1\ncell x3\nfill -\n";
 
 pub const ORDER: &str = "order 0,1,2\n";
 
-// With one gate left, behind both ways in which the columns of the first two gates may meet; with two left; with all.
+// With one gate left, after both ways in which the columns of the first two gates may meet; with two left; with all.
 // Another program, written after the definitions, listed them.
 pub const LEMMAS: &str =
     "lemma 1 2 - - 6.7!\nlemma 2 1 6.7 - 6.7!\nlemma 1 1 - - -\nlemma 3 0 - - -\n";
@@ -117,7 +117,7 @@ pub const ROW: &str = "gaps 1\ncolumn 0 0 0 0 0\ncolumn 1 1 0 1 0\ncolumn 2 2 1 
 // The same columns, none of them turned.
 const UNTURNED: &str = "gaps 2\ncolumn 0 0 0 0 0\ncolumn 1 1 0 1 0\ncolumn 2 2 0 2 0\nend\n";
 
-// Whether a certificate that is told by its parts is judged so.
+// Whether a certificate of these parts is judged so.
 fn is_judged(alloc: Global, parts: &[&str], status: Status, said: &[&str]) -> Result<bool, Fail> {
     let text = joined(alloc, parts)?;
     let files = ["", INVERTERS, text.as_str()];

@@ -106,7 +106,7 @@ fn says_what_the_words_ask_for(rt: HostRuntime) -> Result<(), Fail> {
     Ok(())
 }
 
-// Whether a technology and a subcircuit of so many comment bytes end so.
+// Whether a technology and a subcircuit with these numbers of comment bytes end so.
 fn ends_long(
     alloc: Global,
     tech: usize,

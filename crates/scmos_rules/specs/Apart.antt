@@ -16,4 +16,6 @@ some_part d a b = if is_proper (near_part d a b) then near_part d a b ∷ [] els
 
 -- of two parts with different labels, what of each is within d of the other
 abbrev pub hits_of : ℕ → List ℕ → NumberedBlock → NumberedBlock → List Rectangle
-hits_of d labels a b = if slice_index labels a.number == slice_index labels b.number then [] else some_part d a.block b.block ++ some_part d b.block a.block
+hits_of d labels a b =
+    if slice_index labels a.number == slice_index labels b.number then []
+    else some_part d a.block b.block ++ some_part d b.block a.block

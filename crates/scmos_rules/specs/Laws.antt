@@ -5,7 +5,8 @@ use Rattle.box_geom.specs.Rectangle.{Rectangle, Covers}
 use Rattle.box_geom.specs.Regions.{IsEmpty}
 use Rattle.scmos_rules.specs.Lengths.{FailsWidth, FailsSize}
 use Rattle.scmos_rules.specs.Failing.{FailsSpacing, FailsSurround, FailsAway}
-use Rattle.scmos_rules.specs.Conditions.{IsWide, IsSquare, IsIn, AreSpaced, AreTouching, AreAlone, AreClear, Marked, IsBound}
+use Rattle.scmos_rules.specs.Conditions.{IsWide, IsSquare, IsIn, AreSpaced, AreTouching}
+use Rattle.scmos_rules.specs.Conditions.{AreAlone, AreClear, Marked, IsBound}
 
 abbrev pub WidthLaw : Type 0
 WidthLaw = (rs : List Rectangle) (v : ℕ) → All (IsWide v) rs → IsEmpty (FailsWidth (Covers rs) v)
@@ -20,7 +21,8 @@ abbrev pub SizeLaw : Type 0
 SizeLaw = (rs : List Rectangle) (v : ℕ) → All (IsSquare v) rs → AreAlone rs → IsEmpty (FailsSize (Covers rs) v)
 
 abbrev pub SurroundLaw : Type 0
-SurroundLaw = (ins outs : List Rectangle) (d : ℕ) → All (IsIn d outs) ins → IsEmpty (FailsSurround (Covers ins) (Covers outs) d)
+SurroundLaw =
+    (ins outs : List Rectangle) (d : ℕ) → All (IsIn d outs) ins → IsEmpty (FailsSurround (Covers ins) (Covers outs) d)
 
 -- for cells marked among those of a list, and cells marked that hold all of another list
 abbrev pub MarkedSurroundLaw : Type 0

@@ -1,5 +1,6 @@
 -- The rectangles of a set with their places in the list, and which of them lie near one.
-use Rattle.std.specs.Prelude.{ℕ, ℤ, ◌+◌, ◌-ℤ◌, ◌++◌, List, [], ◌∷◌, Bool, if◌then◌else◌, ◌||◌, ◌&&◌, int_lt, nat_lt, unsigned_abs, ◌<◌}
+use Rattle.std.specs.Prelude.{ℕ, ℤ, ◌+◌, ◌-ℤ◌, ◌++◌, List, [], ◌∷◌, Bool, if◌then◌else◌}
+use Rattle.std.specs.Prelude.{◌||◌, ◌&&◌, int_lt, nat_lt, unsigned_abs, ◌<◌}
 use Rattle.std.specs.List.{flat_map}
 use Rattle.box_geom.specs.Rectangle.{Rectangle}
 use Rattle.box_geom.specs.Regions.{IsBlock}

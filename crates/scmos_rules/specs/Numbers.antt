@@ -1,7 +1,9 @@
 -- The numbers of the rules: how they are printed, and which of them a deck has, in the table's order.
 use Rattle.std.specs.Prelude.{ℕ, List, [], ◌∷◌, codes}
 use Rattle.scmos_rules.specs.declared.number.RuleNo.{RuleNo}
-use Rattle.scmos_rules.specs.declared.number.RuleNo.TheVariants.{N1_1, N2_1, N2_2, N2_3, N2_4, N3_1, N3_2, N3_3, N3_4, N3_5, N4_2, N5_1, N5_2, N5_3, N5_4, N6_2, N7_1, N7_2, N7_3, N8_1, N8_2, N8_3, N8_4, N8_5, N9_1, N9_2, N9_3}
+use Rattle.scmos_rules.specs.declared.number.RuleNo.TheVariants.{N1_1, N2_1, N2_2, N2_3, N2_4, N3_1, N3_2, N3_3, N3_4}
+use Rattle.scmos_rules.specs.declared.number.RuleNo.TheVariants.{N3_5, N4_2, N5_1, N5_2, N5_3, N5_4, N6_2, N7_1, N7_2}
+use Rattle.scmos_rules.specs.declared.number.RuleNo.TheVariants.{N7_3, N8_1, N8_2, N8_3, N8_4, N8_5, N9_1, N9_2, N9_3}
 use Rattle.scmos_rules.specs.declared.rules.Deck.{Deck}
 use Rattle.scmos_rules.specs.declared.rules.Deck.TheVariants.{Plain, Taps}
 

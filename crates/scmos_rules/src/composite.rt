@@ -2,7 +2,8 @@
 ghost use Rattle.std.specs.Prelude.{IfOk};
 ghost use Rattle.box_geom.specs.declared.layer.Layer.TheVariants.{Well, Active, PSelect, NSelect, Poly, Contact, Via};
 ghost use Rattle.scmos_rules.specs.Failing.{FailsSurround, FailsAway, FailsPartly};
-ghost use Rattle.scmos_rules.specs.Layout.{On, Gate, WellTap, SubstrateTap, PActive, NActive, PSelected, NSelected, PolyContact, DiffusionContact, BareContact};
+ghost use Rattle.scmos_rules.specs.Layout.{On, Gate, WellTap, SubstrateTap, PActive, NActive, PSelected};
+ghost use Rattle.scmos_rules.specs.Layout.{NSelected, PolyContact, DiffusionContact, BareContact};
 ghost use Rattle.scmos_rules.specs.Cells.{AreCells};
 ghost use Rattle.scmos_rules.specs.Regions.{EitherOf};
 

@@ -5,7 +5,8 @@ ghost use Rattle.box_geom.specs.declared.shape.Shape.{Shape};
 ghost use Rattle.scmos_rules.specs.declared.rules.Deck.{Deck};
 ghost use Rattle.scmos_rules.specs.declared.violation.Violation.{Violation};
 ghost use Rattle.scmos_rules.specs.Violations.{AreViolations};
-ghost use Rattle.scmos_rules.specs.Laws.{WidthLaw, SpacingLaw, TouchingLaw, SizeLaw, SurroundLaw, MarkedSurroundLaw, AwayLaw, MarkedAwayLaw};
+ghost use Rattle.scmos_rules.specs.Laws.{WidthLaw, SpacingLaw, TouchingLaw, SizeLaw};
+ghost use Rattle.scmos_rules.specs.Laws.{SurroundLaw, MarkedSurroundLaw, AwayLaw, MarkedAwayLaw};
 
 /// Where both sides of every rectangle are at least v, no cell fails width v.
 pub fn width_law()

@@ -1,6 +1,8 @@
 // The sets of cells of a layout that the rules speak of, as regions.
 ghost use Rattle.std.specs.Prelude.{IfOk};
-ghost use Rattle.scmos_rules.specs.Layout.{On, Gate, Diffusion, FieldPoly, InWell, OutOfWell, WellTap, SubstrateTap, PActive, NActive, PSelected, NSelected, PolyContact, DiffusionContact, BareContact};
+ghost use Rattle.scmos_rules.specs.Layout.{On, Gate, Diffusion, FieldPoly, InWell, OutOfWell};
+ghost use Rattle.scmos_rules.specs.Layout.{WellTap, SubstrateTap, PActive, NActive, PSelected};
+ghost use Rattle.scmos_rules.specs.Layout.{NSelected, PolyContact, DiffusionContact, BareContact};
 ghost use Rattle.scmos_rules.specs.Cells.{AreCells, AreInner};
 ghost use Rattle.scmos_rules.specs.declared.rules.Deck.TheVariants.{Taps};
 

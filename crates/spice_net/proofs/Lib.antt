@@ -1,3 +1,4 @@
+pub mod CellRules
 pub mod Copies
 pub mod Counts
 pub mod Last

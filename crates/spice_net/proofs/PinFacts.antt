@@ -96,3 +96,5 @@ pub idle_among : (tech : Technology) (pins named : List (List ℕ)) (ts : List T
 idle_among tech pins named ts e =
     let once : named ≡ distinct (named_nets ts) = e ∙ distinct_behind [] (named_nets ts) in
     find_alike (is_idle tech named) (is_idle tech (named_nets ts)) pins (λ pin. rw (once, has_distinct pin (named_nets ts)) refl)
+
+pub ruleset pin_rules = (pins_repeat, pins_unnamed, pins_differ, pins_once)

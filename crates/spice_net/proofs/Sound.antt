@@ -282,51 +282,50 @@ record IsRead (name : List ℕ) (tech : Technology) (cell : Subckt) (lines : Lis
   accepted : IsAccepted tech pins ts
   made : subckt_with name tech lines pins ts ≡ cell
 
-is_read : (bytes name : List ℕ) (tech : Technology) (cell : Subckt) → subcircuit bytes name tech ≡ Ok cell → (lines : List Line) × (pins : List (List ℕ)) × (ts : List Transistor) × IsRead name tech cell lines pins ts
-is_read bytes name tech cell e =
-    let lines = granted_step (lines_in bytes) (subckt_in name tech) cell e in
-    let chosen = granted_step (chosen_in name lines.0) _ cell lines.2 in
+is_read : (name : List ℕ) (tech : Technology) (lines : List Line) (cell : Subckt) → subckt_in name tech lines ≡ Ok cell → (inside : List Line) × (pins : List (List ℕ)) × (ts : List Transistor) × IsRead name tech cell inside pins ts
+is_read name tech lines cell e =
+    let chosen = granted_step (chosen_in name lines) _ cell e in
     let listed = granted_step (pins_of chosen.0.head) _ cell chosen.2 in
-    let inside = granted_step (transistors_of tech (without_comments chosen.0.inside)) (λ ts. subckt_of name tech chosen.0.inside (with_rails tech lines.0 listed.0) ts) cell listed.2 in
-    let whole = accepted name tech chosen.0.inside (with_rails tech lines.0 listed.0) inside.0 cell inside.2 in (
+    let inside = granted_step (transistors_of tech (without_comments chosen.0.inside)) (λ ts. subckt_of name tech chosen.0.inside (with_rails tech lines listed.0) ts) cell listed.2 in
+    let whole = accepted name tech chosen.0.inside (with_rails tech lines listed.0) inside.0 cell inside.2 in (
       chosen.0.inside,
-      with_rails tech lines.0 listed.0,
+      with_rails tech lines listed.0,
       inside.0,
       record {
-        pins_whole = pin_rail lines.0 tech.gnd (with_rail lines.0 tech.vdd listed.0) (pin_rail lines.0 tech.vdd listed.0 (lines_pins chosen.0.head listed.0 listed.1));
+        pins_whole = pin_rail lines tech.gnd (with_rail lines tech.vdd listed.0) (pin_rail lines tech.vdd listed.0 (lines_pins chosen.0.head listed.0 listed.1));
         right = all_right tech (without_comments chosen.0.inside) inside.0 inside.1;
         accepted = whole.0;
         made = whole.1;
       },
     )
 
-pub sound : (bytes name : List ℕ) (tech : Technology) (cell : Subckt) → IsTechnology tech → subcircuit bytes name tech ≡ Ok cell → IsSubckt cell
-sound bytes name tech cell technology e =
-    let read = is_read bytes name tech cell e in
+pub sound : (name : List ℕ) (tech : Technology) (lines : List Line) (cell : Subckt) → IsTechnology tech → subckt_in name tech lines ≡ Ok cell → IsSubckt cell
+sound name tech lines cell technology e =
+    let read = is_read name tech lines cell e in
     subst (λ (c : Subckt). IsSubckt c) read.3.made (sound_with name tech read.0 read.1 read.2 read.3.accepted read.3.right)
 
-pub some_devices : (bytes name : List ℕ) (tech : Technology) (cell : Subckt) → subcircuit bytes name tech ≡ Ok cell → 1 ≤ length cell.devices
-some_devices bytes name tech cell e =
-    let read = is_read bytes name tech cell e in
+pub some_devices : (name : List ℕ) (tech : Technology) (lines : List Line) (cell : Subckt) → subckt_in name tech lines ≡ Ok cell → 1 ≤ length cell.devices
+some_devices name tech lines cell e =
+    let read = is_read name tech lines cell e in
     subst (λ (c : Subckt). 1 ≤ length c.devices) read.3.made (some_with name tech read.0 read.1 read.2 read.3.accepted read.3.right)
 
-pub pins : (bytes name : List ℕ) (tech : Technology) (cell : Subckt) → IsTechnology tech → subcircuit bytes name tech ≡ Ok cell → ArePins (length cell.nets) cell.pins
-pins bytes name tech cell technology e =
-    let read = is_read bytes name tech cell e in
+pub pins : (name : List ℕ) (tech : Technology) (lines : List Line) (cell : Subckt) → IsTechnology tech → subckt_in name tech lines ≡ Ok cell → ArePins (length cell.nets) cell.pins
+pins name tech lines cell technology e =
+    let read = is_read name tech lines cell e in
     subst (λ (c : Subckt). ArePins (length c.nets) c.pins) read.3.made (pins_with name tech read.0 read.1 read.2 technology read.3.accepted read.3.pins_whole)
 
-pub few_pins : (bytes name : List ℕ) (tech : Technology) (cell : Subckt) → subcircuit bytes name tech ≡ Ok cell → cell.pins.pins ≤ 64
-few_pins bytes name tech cell e =
-    let read = is_read bytes name tech cell e in
+pub few_pins : (name : List ℕ) (tech : Technology) (lines : List Line) (cell : Subckt) → subckt_in name tech lines ≡ Ok cell → cell.pins.pins ≤ 64
+few_pins name tech lines cell e =
+    let read = is_read name tech lines cell e in
     subst (λ (c : Subckt). c.pins.pins ≤ 64) read.3.made read.3.accepted.few_pins
 
-pub few_devices : (bytes name : List ℕ) (tech : Technology) (cell : Subckt) → subcircuit bytes name tech ≡ Ok cell → length cell.devices ≤ 128
-few_devices bytes name tech cell e =
-    let read = is_read bytes name tech cell e in
+pub few_devices : (name : List ℕ) (tech : Technology) (lines : List Line) (cell : Subckt) → subckt_in name tech lines ≡ Ok cell → length cell.devices ≤ 128
+few_devices name tech lines cell e =
+    let read = is_read name tech lines cell e in
     subst (λ (c : Subckt). length c.devices ≤ 128) read.3.made (omega (arith, read.3.accepted.few_devices, length-map (with_copies read.2) (device_of (nets_of read.1 read.2))))
 
 -- each pin has a direction
-pub all_directed : (bytes name : List ℕ) (tech : Technology) (cell : Subckt) → subcircuit bytes name tech ≡ Ok cell → length cell.directions ≡ cell.pins.pins
-all_directed bytes name tech cell e =
-    let read = is_read bytes name tech cell e in
+pub all_directed : (name : List ℕ) (tech : Technology) (lines : List Line) (cell : Subckt) → subckt_in name tech lines ≡ Ok cell → length cell.directions ≡ cell.pins.pins
+all_directed name tech lines cell e =
+    let read = is_read name tech lines cell e in
     subst (λ (c : Subckt). length c.directions ≡ c.pins.pins) read.3.made (length-map read.1 (direction_of tech read.0 read.2))

@@ -142,19 +142,18 @@ net_names pins ts listed used = distinct_names (pins ++ named_nets ts) (All-appe
 made_names : (name : List ℕ) (tech : Technology) (lines : List Line) (pins : List (List ℕ)) (ts : List Transistor) (cell : Subckt) → AreNames (nets_of pins ts) → subckt_with name tech lines pins ts ≡ cell → AreNames cell.nets × (cell.name ≡ name)
 made_names name tech lines pins ts cell names made = subst (λ (c : Subckt). AreNames c.nets × (c.name ≡ name)) made (names, refl)
 
-read_names : (bytes name : List ℕ) (tech : Technology) (cell : Subckt) → IsTechnology tech → subcircuit bytes name tech ≡ Ok cell → AreNames cell.nets × (cell.name ≡ name)
-read_names bytes name tech cell technology e =
-    let lines = granted_step (lines_in bytes) (subckt_in name tech) cell e in
-    let chosen = granted_step (chosen_in name lines.0) _ cell lines.2 in
+read_names : (name : List ℕ) (tech : Technology) (lines : List Line) (cell : Subckt) → IsTechnology tech → subckt_in name tech lines ≡ Ok cell → AreNames cell.nets × (cell.name ≡ name)
+read_names name tech lines cell technology e =
+    let chosen = granted_step (chosen_in name lines) _ cell e in
     let listed = granted_step (pins_of chosen.0.head) _ cell chosen.2 in
-    let inside = granted_step (transistors_of tech (without_comments chosen.0.inside)) (λ ts. subckt_of name tech chosen.0.inside (with_rails tech lines.0 listed.0) ts) cell listed.2 in
-    let whole = accepted name tech chosen.0.inside (with_rails tech lines.0 listed.0) inside.0 cell inside.2 in
-    let pins = pin_names tech lines.0 listed.0 technology (listed_names chosen.0.head listed.0 listed.1) in
+    let inside = granted_step (transistors_of tech (without_comments chosen.0.inside)) (λ ts. subckt_of name tech chosen.0.inside (with_rails tech lines listed.0) ts) cell listed.2 in
+    let whole = accepted name tech chosen.0.inside (with_rails tech lines listed.0) inside.0 cell inside.2 in
+    let pins = pin_names tech lines listed.0 technology (listed_names chosen.0.head listed.0 listed.1) in
     let used = used_names tech (without_comments chosen.0.inside) inside.0 inside.1 in
-    made_names name tech chosen.0.inside (with_rails tech lines.0 listed.0) inside.0 cell (net_names (with_rails tech lines.0 listed.0) inside.0 pins used) whole.1
+    made_names name tech chosen.0.inside (with_rails tech lines listed.0) inside.0 cell (net_names (with_rails tech lines listed.0) inside.0 pins used) whole.1
 
-pub named : (bytes name : List ℕ) (tech : Technology) (cell : Subckt) → IsTechnology tech → subcircuit bytes name tech ≡ Ok cell → AreNames cell.nets
-named bytes name tech cell technology e = (read_names bytes name tech cell technology e).0
+pub named : (name : List ℕ) (tech : Technology) (lines : List Line) (cell : Subckt) → IsTechnology tech → subckt_in name tech lines ≡ Ok cell → AreNames cell.nets
+named name tech lines cell technology e = (read_names name tech lines cell technology e).0
 
-pub name_kept : (bytes name : List ℕ) (tech : Technology) (cell : Subckt) → IsTechnology tech → subcircuit bytes name tech ≡ Ok cell → cell.name ≡ name
-name_kept bytes name tech cell technology e = (read_names bytes name tech cell technology e).1
+pub name_kept : (name : List ℕ) (tech : Technology) (lines : List Line) (cell : Subckt) → IsTechnology tech → subckt_in name tech lines ≡ Ok cell → cell.name ≡ name
+name_kept name tech lines cell technology e = (read_names name tech lines cell technology e).1

@@ -116,12 +116,15 @@ never_whole name tech lines pins ts =
     required (not (length ts == 0)) fault.Empty _ (λ q. cc) (λ u3.
     never_step fault.NoMemory (few_enough pins ts) _ (never_few pins ts) (λ u4 q. cc))))
 
-never_in : (name : List ℕ) (tech : Technology) (lines : List Line) → Never (subckt_in name tech lines)
+pub never_in : (name : List ℕ) (tech : Technology) (lines : List Line) → Never (subckt_in name tech lines)
 never_in name tech lines =
     never_step fault.NoMemory (chosen_in name lines) _ (never_chosen (from_first (begins name) lines)) (λ chosen.
     never_step fault.NoMemory (pins_of chosen.head) _ (required (list_all is_name (drop 2 chosen.head.words) && length (distinct (drop 2 chosen.head.words)) == length (drop 2 chosen.head.words)) (fault.Fields chosen.head.number) _ (λ q. cc) (λ u q. cc)) (λ pins.
     never_step fault.NoMemory (transistors_of tech (without_comments chosen.inside)) _ (never_lines tech (without_comments chosen.inside)) (λ ts. never_whole name tech chosen.inside (with_rails tech lines pins) ts)))
 
+pub never_lines_in : (bytes : List ℕ) → Never (lines_in bytes)
+never_lines_in bytes = never_text (split_of bytes) (never_split bytes)
+
 pub never_subcircuit : (bytes name : List ℕ) (tech : Technology) → Never (subcircuit bytes name tech)
 never_subcircuit bytes name tech =
-    never_step fault.NoMemory (lines_in bytes) (subckt_in name tech) (never_text (split_of bytes) (never_split bytes)) (never_in name tech)
+    never_step fault.NoMemory (lines_in bytes) (subckt_in name tech) (never_lines_in bytes) (never_in name tech)

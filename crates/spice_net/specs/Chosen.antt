@@ -1,5 +1,6 @@
 -- The lines of a file that belong to the subcircuit of a name.
-use Rattle.std.specs.Prelude.{ℕ, ◌&&◌, not, Bool, false, List, [], ◌∷◌, take, drop, filter, position, codes, bytes_eq, Result, Ok, Err, if◌then◌else◌}
+use Rattle.std.specs.Prelude.{ℕ, ◌&&◌, not, Bool, false, List, [], ◌∷◌, take, drop, filter}
+use Rattle.std.specs.Prelude.{position, codes, bytes_eq, Result, Ok, Err, if◌then◌else◌}
 use Rattle.std.specs.List.{list_any}
 use Rattle.spice_text.specs.declared.logical.Line.{Line}
 use Rattle.spice_text.specs.declared.logical.TextFault.{TextFault}
@@ -49,7 +50,8 @@ pub record Chosen : Type 0 where
 -- the lines of the subcircuit that begins with the first line, up to the next line that ends one
 abbrev pub chosen_at : List Line → Result Chosen SpiceFault
 chosen_at [] = Err fault.NoCell
-chosen_at (head ∷ behind) = or_fault (position ends behind) fault.Unended >>= λ end. Ok (record { head = head; inside = take end behind })
+chosen_at (head ∷ behind) =
+    or_fault (position ends behind) fault.Unended >>= λ end. Ok (record { head = head; inside = take end behind })
 
 abbrev pub chosen_in : List ℕ → List Line → Result Chosen SpiceFault
 chosen_in name lines = chosen_at (from_first (begins name) lines)

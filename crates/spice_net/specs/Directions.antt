@@ -11,7 +11,8 @@ use Rattle.spice_net.specs.Transistors.{Transistor, is_rail}
 -- a net that is a gate, and no drain or source
 abbrev pub meets_gates_alone : List Transistor → List ℕ → Bool
 meets_gates_alone transistors net =
-    list_any (λ t. bytes_eq net t.gate) transistors && not (list_any (λ t. bytes_eq net t.drain || bytes_eq net t.source) transistors)
+    list_any (λ t. bytes_eq net t.gate) transistors
+    && not (list_any (λ t. bytes_eq net t.drain || bytes_eq net t.source) transistors)
 
 -- the direction of a pin of which no pair tells
 abbrev pub shown_of : Technology → List Transistor → List ℕ → Direction

@@ -1,5 +1,6 @@
 -- The numbers that values are: sizes in grid units, and counts.
-use Rattle.std.specs.Prelude.{ℕ, ℤ, pos, negsuc, ◌+◌, ◌*◌, ◌/◌, ◌%◌, ◌^◌, ◌==◌, ◌&&◌, nat_le, List, Option, Some, None, option_and_then, unwrap_or, if◌then◌else◌}
+use Rattle.std.specs.Prelude.{ℕ, ℤ, pos, negsuc, ◌+◌, ◌*◌, ◌/◌, ◌%◌, ◌^◌, ◌==◌, ◌&&◌, nat_le}
+use Rattle.std.specs.Prelude.{List, Option, Some, None, option_and_then, unwrap_or, if◌then◌else◌}
 use Rattle.cell_num.specs.declared.length.Fixed.{Fixed}
 use Rattle.cell_num.specs.Length.{units_up_to}
 use Rattle.spice_text.specs.Numbers.{fixed_of}

@@ -1,5 +1,6 @@
 -- Pairs of a pin and its direction, which comments hold.
-use Rattle.std.specs.Prelude.{ℕ, List, drop, filter_map, codes, bytes_eq, Option, Some, None, option_and_then, if◌then◌else◌}
+use Rattle.std.specs.Prelude.{ℕ, List, drop, filter_map, codes, bytes_eq, Option}
+use Rattle.std.specs.Prelude.{Some, None, option_and_then, if◌then◌else◌}
 use Rattle.spice_text.specs.declared.logical.Line.{Line}
 use Rattle.spice_net.specs.declared.subckt.Direction.{Direction}
 use Rattle.spice_net.specs.declared.subckt.Direction.TheVariants.{Input, Output, Inout}

@@ -1,5 +1,6 @@
 -- Parameters, the words `key=value`, and the one that counts.
-use Rattle.std.specs.Prelude.{ℕ, ◌==◌, nat_eq, Bool, List, [], ◌∷◌, length, drop, filter_map, Option, Some, None, if◌then◌else◌}
+use Rattle.std.specs.Prelude.{ℕ, ◌==◌, nat_eq, Bool, List, [], ◌∷◌, length, drop}
+use Rattle.std.specs.Prelude.{filter_map, Option, Some, None, if◌then◌else◌}
 use Rattle.std.specs.List.{starts_with, list_any}
 
 abbrev pub is_parameter : List ℕ → Bool

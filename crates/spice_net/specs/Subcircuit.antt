@@ -1,5 +1,6 @@
 -- The subcircuit of a name in a file, or the first fault.
-use Rattle.std.specs.Prelude.{ℕ, ◌==◌, ◌&&◌, not, nat_le, Bool, List, [], ◌∷◌, ◌++◌, length, drop, find, Option, Some, None, Result, Ok, Err, if◌then◌else◌}
+use Rattle.std.specs.Prelude.{ℕ, ◌==◌, ◌&&◌, not, nat_le, Bool, List, [], ◌∷◌, ◌++◌, length}
+use Rattle.std.specs.Prelude.{drop, find, Option, Some, None, Result, Ok, Err, if◌then◌else◌}
 use Rattle.std.specs.List.{list_all}
 use Rattle.cell_num.specs.Names.{is_name}
 use Rattle.spice_text.specs.declared.logical.Line.{Line}
@@ -19,7 +20,9 @@ use Rattle.cell_num.specs.Steps.{require, ◌>>=◌}
 -- the pins that the first line of a subcircuit lists: names, none of them twice
 abbrev pub pins_of : Line → Result (List (List ℕ)) SpiceFault
 pins_of line =
-    require (list_all is_name (drop 2 line.words) && length (distinct (drop 2 line.words)) == length (drop 2 line.words)) (fault.Fields line.number)
+    require
+    (list_all is_name (drop 2 line.words) && length (distinct (drop 2 line.words)) == length (drop 2 line.words))
+    (fault.Fields line.number)
     >>= λ _. Ok (drop 2 line.words)
 
 -- a rail that is no pin stands behind the pins where a line of the file makes it global
@@ -65,7 +68,11 @@ abbrev pub subckt_with : List ℕ → Technology → List Line → List (List �
 subckt_with name tech lines pins transistors =
     record {
       name = name;
-      pins = record { pins = length pins; vdd = net_of (nets_of pins transistors) tech.vdd; gnd = net_of (nets_of pins transistors) tech.gnd };
+      pins = record {
+        pins = length pins;
+        vdd = net_of (nets_of pins transistors) tech.vdd;
+        gnd = net_of (nets_of pins transistors) tech.gnd;
+      };
       nets = nets_of pins transistors;
       devices = devices_of (nets_of pins transistors) transistors;
       directions = directions_of tech lines pins transistors;
@@ -73,7 +80,8 @@ subckt_with name tech lines pins transistors =
 
 -- the subcircuit of pins and transistors that are not too many
 abbrev pub numbered : List ℕ → Technology → List Line → List (List ℕ) → List Transistor → Result Subckt SpiceFault
-numbered name tech lines pins transistors = few_enough pins transistors >>= λ _. Ok (subckt_with name tech lines pins transistors)
+numbered name tech lines pins transistors =
+    few_enough pins transistors >>= λ _. Ok (subckt_with name tech lines pins transistors)
 
 -- the lines are those inside the subcircuit, which tell directions of pins
 abbrev pub subckt_of : List ℕ → Technology → List Line → List (List ℕ) → List Transistor → Result Subckt SpiceFault

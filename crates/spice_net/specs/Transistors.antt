@@ -1,5 +1,6 @@
 -- What a line inside a subcircuit says: a transistor, or its first fault.
-use Rattle.std.specs.Prelude.{ℕ, ◌==◌, ◌&&◌, ◌||◌, not, nat_eq, nat_le, Bool, false, List, [], ◌∷◌, codes, bytes_eq, Option, Some, None, unwrap_or, Result, Ok, Err, if◌then◌else◌}
+use Rattle.std.specs.Prelude.{ℕ, ◌==◌, ◌&&◌, ◌||◌, not, nat_eq, nat_le, Bool, false, List, [], ◌∷◌, codes}
+use Rattle.std.specs.Prelude.{bytes_eq, Option, Some, None, unwrap_or, Result, Ok, Err, if◌then◌else◌}
 use Rattle.std.specs.List.{starts_with, list_all}
 use Rattle.cell_num.specs.declared.finger.Row.{Row}
 use Rattle.cell_num.specs.declared.finger.Row.TheVariants.{P, N}
@@ -105,7 +106,8 @@ is_rail tech net = bytes_eq net tech.vdd || bytes_eq net tech.gnd
 -- the gate is no rail, and neither end is the other row's
 abbrev pub rails_allowed : Technology → Row → Fields → Bool
 rails_allowed tech row fields =
-    not (is_rail tech fields.gate) && not (bytes_eq fields.drain (other_rail tech row)) && not (bytes_eq fields.source (other_rail tech row))
+    not (is_rail tech fields.gate) && not (bytes_eq fields.drain (other_rail tech row))
+    && not (bytes_eq fields.source (other_rail tech row))
 
 -- The transistor of some fields, its channel 4 units long and at least 6 wide for each finger; or the
 -- first of its faults, in this order.
@@ -142,8 +144,9 @@ is_transistor (first ∷ more) = starts_with nat_eq first (codes "m")
 -- a line's transistor in front of those of the lines behind it
 abbrev pub with_line : Technology → Line → Result (List Transistor) SpiceFault → Result (List Transistor) SpiceFault
 with_line tech line behind =
-    if is_transistor line.words then transistor_of tech line.number line.words >>= (λ transistor. behind >>= λ more. Ok (transistor ∷ more)) else
-    require (first_is (codes ".global") line.words) (fault.Element line.number) >>= λ _. behind
+    if is_transistor line.words
+    then transistor_of tech line.number line.words >>= (λ transistor. behind >>= λ more. Ok (transistor ∷ more))
+    else require (first_is (codes ".global") line.words) (fault.Element line.number) >>= λ _. behind
 
 -- the transistors of lines, or the first fault of the first line that is refused
 abbrev pub transistors_of : Technology → List Line → Result (List Transistor) SpiceFault

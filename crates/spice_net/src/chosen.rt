@@ -1,6 +1,6 @@
-ghost use Rattle.std.specs.Prelude.{◌≡◌, ◌<◌, ◌≤◌, [], ◌∷◌, length, position, IfOk, IfErr, IfSome, Ok, Err};
-ghost use Rattle.std.specs.List.{list_any};
-ghost use Rattle.spice_net.specs.Chosen.{first_is, second_is, begins, ends, has_name, makes_global, is_global, from_first, chosen_in};
+ghost use Rattle.std.specs.Prelude.{◌≡◌, ◌<◌, [], length, position, IfOk, IfErr, IfSome, Ok, Err};
+ghost use Rattle.spice_net.specs.Chosen.{first_is, second_is, begins, ends, has_name};
+ghost use Rattle.spice_net.specs.Chosen.{makes_global, is_global, from_first, chosen_in};
 
 use crate::fault::SpiceFault;
 use crate::pairs::behind_first;

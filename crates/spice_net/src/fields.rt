@@ -28,7 +28,17 @@ impl<'a> Model for Fields<'a> {
 
     ghost Value = { FieldsOf };
 
-    ghost view = { λ v. record { drain = v.drain.now; gate = v.gate.now; source = v.source.now; bulk = v.bulk.now; model = v.model.now; width = v.width.now; channel = v.channel.now; m = v.m.now; nf = v.nf.now } };
+    ghost view = { λ v. record {
+      drain = v.drain.now;
+      gate = v.gate.now;
+      source = v.source.now;
+      bulk = v.bulk.now;
+      model = v.model.now;
+      width = v.width.now;
+      channel = v.channel.now;
+      m = v.m.now;
+      nf = v.nf.now;
+    } };
 }
 
 /// Whether each of the words may name something.

@@ -17,5 +17,5 @@ mod subckt;
 mod transistor;
 
 pub use fault::{SpiceFault, What};
-pub use read::read_cell;
+pub use read::{read_cell, read_cell_in, split_file};
 pub use subckt::{Device, DeviceList, Direction, DirectionList, Subckt};

@@ -1,6 +1,7 @@
 ghost use Rattle.std.specs.Prelude.{◌≡◌, ◌≤◌, [], ◌∷◌, ◌++◌, length, replicate, All, IfOk, OnOk};
 ghost use Rattle.indexmap.specs.IndexSet.{index_set_len};
-ghost use Rattle.spice_net.specs.Nets.{distinct, named_nets, nets_of, number_of, net_of, device_of, with_copies, devices_of};
+ghost use Rattle.spice_net.specs.Nets.{distinct, named_nets, nets_of, number_of};
+ghost use Rattle.spice_net.specs.Nets.{net_of, device_of, with_copies, devices_of};
 ghost use Rattle.spice_net.specs.Numbers.{most_counted};
 ghost use Rattle.spice_net.specs.Reader.{names_of, with_name, with_names};
 

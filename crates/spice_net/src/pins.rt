@@ -1,7 +1,7 @@
-ghost use Rattle.std.specs.Prelude.{◌≡◌, ◌≢◌, drop, find, option_map, IfOk, IfErr, OnOk, Ok, Err, not, ◌&&◌};
+ghost use Rattle.std.specs.Prelude.{◌≡◌, ◌≢◌, drop, find, option_map, IfOk, IfErr, OnOk, Ok, Err, ◌&&◌};
 ghost use Rattle.spice_net.specs.declared.fault.SpiceFault.TheVariants as fault;
 ghost use Rattle.spice_net.specs.Chosen.{has_name};
-ghost use Rattle.spice_net.specs.Nets.{distinct, named_nets};
+ghost use Rattle.spice_net.specs.Nets.{distinct};
 ghost use Rattle.spice_net.specs.Reader.{names_of};
 ghost use Rattle.spice_net.specs.Subcircuit.{pins_of, with_rail, with_rails, is_idle, idle_pin, none_idle};
 
@@ -26,7 +26,7 @@ fn behind_two(words: &[Name]) -> &[Name]
 }
 
 /// The pins that the first line of a subcircuit lists.
-#[tactic(auto, using(crate::proofs::PinFacts::pins_repeat, crate::proofs::PinFacts::pins_unnamed, crate::proofs::PinFacts::pins_differ, crate::proofs::PinFacts::pins_once))]
+#[tactic(auto, using(crate::proofs::PinFacts::pin_rules))]
 pub fn read_pins<'a>(alloc: Global, head: &'a Line) -> Result<IndexSet<&'a [u8]>, SpiceFault>
     ensures pins { IfOk result (λ pins. pins_of head.now ≡ Ok (names_of pins.keys)) }
     ensures distinct { IfOk result (λ pins. distinct (names_of pins.keys) ≡ names_of pins.keys) }

@@ -1,4 +1,4 @@
-ghost use Rattle.std.specs.Prelude.{◌≡◌, ◌≢◌, ◌≤◌, ◌++◌, length, Ok, Err, All, IfOk, IfErr, OnOk, List, ℕ, Result};
+ghost use Rattle.std.specs.Prelude.{◌≡◌, ◌≢◌, ◌≤◌, length, Ok, Err, All, IfOk, IfErr, OnOk, List, Result};
 ghost use Rattle.cell_num.specs.Pins.{ArePins};
 ghost use Rattle.spice_net.specs.declared.fault.SpiceFault.{SpiceFault as FaultOf};
 ghost use Rattle.spice_net.specs.declared.fault.SpiceFault.TheVariants as fault;
@@ -105,10 +105,13 @@ fn read_lines(alloc: Global, name: &Name, tech: &Tech, lines: &[Line]) -> Result
     Ok(cell)
 }
 
-fn split(alloc: Global, bytes: &[u8]) -> Result<Lines, SpiceFault>
+/// The logical lines of a SPICE file of at most a gibibyte, of which [`read_cell_in`] reads subcircuits.
+#[tactic(auto, using(crate::proofs::Told::never_lines_in))]
+pub fn split_file(alloc: Global, bytes: &[u8]) -> Result<Lines, SpiceFault>
     requires { length bytes.now ≤ MOST_BYTES }
     ensures lines { IfOk result (λ lines. lines_in bytes.now ≡ Ok lines) }
     ensures fault { IfErr result (λ f. f ≢ fault.NoMemory → lines_in bytes.now ≡ Err f) }
+    ensures told { lines_in bytes.now ≢ Err fault.NoMemory }
 {
     match split_lines(alloc, bytes) {
         Ok(lines) => Ok(lines),
@@ -117,18 +120,38 @@ fn split(alloc: Global, bytes: &[u8]) -> Result<Lines, SpiceFault>
     }
 }
 
-fn read_text(alloc: Global, bytes: &[u8], name: &Name, tech: &Tech) -> Result<Subckt, SpiceFault>
-    requires { length bytes.now ≤ MOST_BYTES }
-    ensures cell { IfOk result (λ cell. subcircuit bytes.now name.now tech.now ≡ Ok cell) }
-    ensures fault { IfErr result (λ f. f ≢ fault.NoMemory → subcircuit bytes.now name.now tech.now ≡ Err f) }
+/// Reads the subcircuit of a name, given in lower case, from the lines of a SPICE file.
+#[tactic(auto, using(crate::proofs::CellRules::cell_rules))]
+pub fn read_cell_in(
+    alloc: Global,
+    lines: &[Line],
+    name: &Name,
+    tech: &Tech,
+) -> Result<Subckt, SpiceFault>
+    // The subcircuit of the definition, or its first fault; memory may run out.
+    ensures cell { IfOk result (λ cell. subckt_in name.now tech.now lines.now ≡ Ok cell) }
+    ensures fault { IfErr result (λ f. f ≢ fault.NoMemory → subckt_in name.now tech.now lines.now ≡ Err f) }
+
+    // Memory alone makes it NoMemory: the definition never answers so.
+    ensures told { subckt_in name.now tech.now lines.now ≢ Err fault.NoMemory }
+
+    // What holds of every one.
+    ensures sound { IfOk result (λ cell. IsSubckt cell) }
+    ensures some { IfOk result (λ cell. 1 ≤ length cell.devices) }
+    ensures pins { IfOk result (λ cell. ArePins (length cell.nets) cell.pins) }
+    ensures few_pins { IfOk result (λ cell. cell.pins.pins ≤ MOST_PINS) }
+    ensures few_devices { IfOk result (λ cell. length cell.devices ≤ MOST_DEVICES) }
+    ensures directions { IfOk result (λ cell. length cell.directions ≡ cell.pins.pins) }
+    ensures named { IfOk result (λ cell. AreNames cell.nets) }
+    ensures name { IfOk result (λ cell. cell.name ≡ name.now) }
 {
-    let lines = split(alloc, bytes)?;
-    let cell = read_lines(alloc, name, tech, lines.as_slice())?;
+    tech.show_limits();
+    let cell = read_lines(alloc, name, tech, lines)?;
     Ok(cell)
 }
 
 /// Reads the subcircuit of a name, given in lower case, from a SPICE file of at most a gibibyte.
-#[tactic(auto, using(crate::proofs::Sound::sound, crate::proofs::Sound::some_devices, crate::proofs::Sound::pins, crate::proofs::Sound::few_pins, crate::proofs::Sound::few_devices, crate::proofs::Sound::all_directed, crate::proofs::Spelled::named, crate::proofs::Spelled::name_kept, crate::proofs::Told::never_subcircuit))]
+#[tactic(auto, using(crate::proofs::Told::never_subcircuit))]
 pub fn read_cell(
     alloc: Global,
     bytes: &[u8],
@@ -153,7 +176,7 @@ pub fn read_cell(
     ensures named { IfOk result (λ cell. AreNames cell.nets) }
     ensures name { IfOk result (λ cell. cell.name ≡ name.now) }
 {
-    tech.show_limits();
-    let cell = read_text(alloc, bytes, name, tech)?;
+    let lines = split_file(alloc, bytes)?;
+    let cell = read_cell_in(alloc, lines.as_slice(), name, tech)?;
     Ok(cell)
 }

@@ -2,7 +2,7 @@ ghost use Rattle.std.specs.Prelude.{◌≡◌};
 ghost use Rattle.spice_net.specs.declared.fault.SpiceFault.TheVariants as fault;
 ghost use Rattle.spice_text.specs.Numbers.{fixed_of};
 ghost use Rattle.cell_num.specs.Steps.{or_fault};
-ghost use Rattle.spice_net.specs.Numbers.{units_of, counted, count_of, least_width};
+ghost use Rattle.spice_net.specs.Numbers.{units_of};
 ghost use Rattle.spice_net.specs.Transistors.{sizes_of};
 
 use crate::fault::SpiceFault;

@@ -1,6 +1,7 @@
 ghost use Rattle.std.specs.Prelude.{◌≡◌, ◌≢◌, IfOk, IfErr, Ok, Err};
 ghost use Rattle.spice_net.specs.declared.fault.SpiceFault.TheVariants as fault;
-ghost use Rattle.spice_net.specs.Transistors.{row_of, own_rail, other_rail, is_rail, rails_allowed, transistor_with, transistor_of, is_transistor};
+ghost use Rattle.spice_net.specs.Transistors.{row_of, own_rail, other_rail, is_rail, rails_allowed};
+ghost use Rattle.spice_net.specs.Transistors.{transistor_with, transistor_of, is_transistor};
 ghost use Rattle.spice_net.specs.Reader.{transistor_as};
 
 use crate::chosen::has_name;
@@ -33,7 +34,15 @@ impl Model for Transistor {
 
     ghost Value = { TransistorOf };
 
-    ghost view = { λ v. record { copies = v.copies; row = v.row; drain = v.drain; gate = v.gate; source = v.source; width = v.width; fingers = v.fingers } };
+    ghost view = { λ v. record {
+      copies = v.copies;
+      row = v.row;
+      drain = v.drain;
+      gate = v.gate;
+      source = v.source;
+      width = v.width;
+      fingers = v.fingers;
+    } };
 }
 
 pub type TransistorList = List<Transistor>;

@@ -173,3 +173,5 @@ pub line_is : (bytes : List ℕ) (e u : ℕ) → e ≡ end_of bytes → u ≡ un
 line_is bytes e u at_end at_feed lt =
     let all : take (length bytes - (u + 1)) (drop (u + 1) bytes) ≡ drop (u + 1) bytes = ap (λ (n : ℕ). take n (drop (u + 1) bytes)) (sym (length-drop (u + 1) bytes)) ∙ take-length (drop (u + 1) bytes) in
     rw (all, at_end, at_feed) (ended_line bytes (omega (arith, at_feed, lt)))
+
+pub ruleset line_rules = (last_line, line_is, end_le, no_line)

@@ -77,3 +77,7 @@ never_split bytes h = of_lines (group 1 (physical bytes)) (never_group 1 (physic
     of_lines : (r : Result Group TextFault) → (r ≡ Err fault.NoMemory → ⊥) → lines_of r ≡ Err fault.NoMemory → ⊥
     of_lines (Ok g) first h = cc
     of_lines (Err e) first h = first cc
+
+pub ruleset line_rules = (went_on, began, commented, skipped)
+
+pub ruleset split_rules = (is_refused_line, is_taken, is_done, starts, never_split)

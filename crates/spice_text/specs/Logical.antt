@@ -1,5 +1,6 @@
 -- Logical lines.
-use Rattle.std.specs.Prelude.{Bool, true, false, ℕ, ◌+◌, ◌==◌, List, [], ◌∷◌, ◌++◌, codes, Result, Ok, Err, if◌then◌else◌}
+use Rattle.std.specs.Prelude.{Bool, true, false, ℕ, ◌+◌, ◌==◌, List, [], ◌∷◌}
+use Rattle.std.specs.Prelude.{◌++◌, codes, Result, Ok, Err, if◌then◌else◌}
 use Rattle.std.specs.Str.{bytes_eq}
 use Rattle.spice_text.specs.declared.logical.Line.{Line}
 use Rattle.spice_text.specs.declared.logical.TextFault.{TextFault}
@@ -51,7 +52,8 @@ then_group n line (Err e) = Err e
 abbrev pub group : ℕ → List (List ℕ) → Result Group TextFault
 group n [] = Ok nothing
 group n (line ∷ lines) =
-    if is_refused (without_comment true line) then Err (fault.NotAscii n) else then_group n (without_comment true line) (group (n + 1) lines)
+    if is_refused (without_comment true line) then Err (fault.NotAscii n)
+    else then_group n (without_comment true line) (group (n + 1) lines)
 
 abbrev pub lines_of : Result Group TextFault → Result (List Line) TextFault
 lines_of (Ok g) = Ok g.lines

@@ -1,5 +1,7 @@
 -- Numbers of a SPICE text: digits with a point, an exponent, and letters that may begin with a scale.
-use Rattle.std.specs.Prelude.{ℕ, ◌+◌, ◌-◌, ◌*◌, ◌==◌, ◌||◌, ◌&&◌, not, nat_lt, nat_le, Bool, false, ℤ, pos, neg_ℤ, ◌+ℤ◌, ◌-ℤ◌, int_le, List, [], ◌∷◌, length, take, drop, filter, fold, codes, Option, Some, None, if◌then◌else◌}
+use Rattle.std.specs.Prelude.{ℕ, ◌+◌, ◌-◌, ◌*◌, ◌==◌, ◌||◌, ◌&&◌, not, nat_lt, nat_le, Bool}
+use Rattle.std.specs.Prelude.{false, ℤ, pos, neg_ℤ, ◌+ℤ◌, ◌-ℤ◌, int_le, List, [], ◌∷◌, length}
+use Rattle.std.specs.Prelude.{take, drop, filter, fold, codes, Option, Some, None, if◌then◌else◌}
 use Rattle.std.specs.Char.{is_ascii_digit, is_ascii_alphabetic}
 use Rattle.std.specs.List.{prefix_len, suffix_len, take_while, after_first, count_by, list_any, list_all}
 use Rattle.std.specs.Str.{str_eq_ignore_ascii_case}
@@ -92,12 +94,15 @@ signed minus n = if minus then neg_ℤ (pos n) else pos n
 -- the exponent at a text's begin, 0 where there is none ..
 abbrev pub exponent_of : List ℕ → ℤ
 exponent_of text =
-    if has_exponent text then signed (begins_with_minus (drop 1 text)) (spelled_number (exponent_digits (behind_sign (drop 1 text)))) else pos 0
+    if has_exponent text
+    then signed (begins_with_minus (drop 1 text)) (spelled_number (exponent_digits (behind_sign (drop 1 text))))
+    else pos 0
 
 -- .. and what stands behind it
 abbrev pub behind_exponent : List ℕ → List ℕ
 behind_exponent text =
-    if has_exponent text then drop (length (exponent_digits (behind_sign (drop 1 text)))) (behind_sign (drop 1 text)) else text
+    if has_exponent text then drop (length (exponent_digits (behind_sign (drop 1 text)))) (behind_sign (drop 1 text))
+    else text
 
 -- ---- the letters, in either case
 
@@ -125,7 +130,8 @@ scales =
 -- the power of the first scale that a text begins with, 0 where it begins with none
 abbrev pub first_scale : List (List ℕ × ℤ) → List ℕ → ℤ
 first_scale [] text = pos 0
-first_scale ((letters, power) ∷ others) text = if begins_with_letters letters text then power else first_scale others text
+first_scale ((letters, power) ∷ others) text =
+    if begins_with_letters letters text then power else first_scale others text
 
 abbrev pub scale_of : List ℕ → ℤ
 scale_of text = first_scale scales text

@@ -1,5 +1,6 @@
 -- The reader's own words, which its inner functions promise; no definition of the text needs them.
-use Rattle.std.specs.Prelude.{ℕ, suc, ◌==◌, ◌&&◌, nat_le, Bool, true, List, [], ◌∷◌, ◌++◌, Option, Some, None, Result, Ok, Err, if◌then◌else◌}
+use Rattle.std.specs.Prelude.{ℕ, suc, ◌==◌, ◌&&◌, nat_le, Bool, true, List, [], ◌∷◌}
+use Rattle.std.specs.Prelude.{◌++◌, Option, Some, None, Result, Ok, Err, if◌then◌else◌}
 use Rattle.spice_text.specs.declared.logical.Line.{Line}
 use Rattle.spice_text.specs.declared.logical.TextFault.{TextFault}
 use Rattle.spice_text.specs.Physical.{begins_with}

@@ -2,7 +2,8 @@
 ghost use Rattle.std.specs.Prelude.{◌≡◌, ◌≤◌, ◌<◌, ◌^◌, length, filter};
 ghost use Rattle.std.specs.Char.{is_ascii_digit};
 ghost use Rattle.std.specs.List.{prefix_len};
-ghost use Rattle.spice_text.specs.Numbers.{begins_with_minus, behind_sign, exponent_digits, has_exponent, exponent_of, behind_exponent, signed, most_digits};
+ghost use Rattle.spice_text.specs.Numbers.{begins_with_minus, behind_sign, exponent_digits, has_exponent};
+ghost use Rattle.spice_text.specs.Numbers.{exponent_of, behind_exponent, signed, most_digits};
 
 use crate::mantissa::spelled_number;
 
@@ -72,7 +73,7 @@ pub fn exponent(text: &[u8]) -> i64
     signed(begins_with_minus(signed_digits), spelled_number(digits))
 }
 
-/// What stands behind the exponent in front of a text.
+/// What follows the exponent at the beginning of a text.
 pub fn behind_exponent(text: &[u8]) -> &[u8]
     ensures { result.now ≡ behind_exponent text.now }
 {

@@ -1,4 +1,4 @@
-ghost use Rattle.std.specs.Prelude.{◌≡◌, ◌≤◌, ◌<◌, ◌+◌, ◌++◌, [], ◌∷◌, Some, None, length, ◌≢◌, Ok, Err, IfOk, IfErr};
+ghost use Rattle.std.specs.Prelude.{◌≡◌, ◌≤◌, ◌<◌, ◌+◌, ◌++◌, [], Some, None, length, ◌≢◌, Ok, Err, IfOk, IfErr};
 ghost use Rattle.spice_text.specs.declared.logical.TextFault.TheVariants as fault;
 ghost use Rattle.spice_text.specs.Words.{words_of};
 ghost use Rattle.spice_text.specs.Logical.{Group, grouped, tells_directions, split_of};
@@ -20,6 +20,7 @@ pub struct Line {
     pub words: Names,
 }
 
+/// Logical lines and the comments that give directions of pins, in the order of a text.
 pub type Lines = List<Line>;
 
 /// A logical line that may go on.
@@ -58,7 +59,7 @@ impl From<NoMemory> for TextFault {
     }
 }
 
-// the lines that are done, the one that may go on, and the comments behind it
+// the lines that are done, the one that may go on, and the comments after it
 #[derive(Debug, Drop)]
 struct State {
     done: Lines,
@@ -144,7 +145,7 @@ fn add_comment(alloc: Global, number: u32, line: &[u8], behind: Lines) -> Result
 }
 
 // takes a physical line without its comment
-#[tactic(auto, using(crate::proofs::Groups::went_on, crate::proofs::Groups::began, crate::proofs::Groups::commented, crate::proofs::Groups::skipped))]
+#[tactic(auto, using(crate::proofs::Groups::line_rules))]
 fn take_line(alloc: Global, number: u32, line: &[u8], state: State) -> Result<State, NoMemory>
     ensures { IfOk result (λ new. (g : Group) → finish new.done new.last new.behind g ≡
         finish state.done state.last state.behind (grouped number line.now g)) }
@@ -181,7 +182,7 @@ fn take_line(alloc: Global, number: u32, line: &[u8], state: State) -> Result<St
 
 /// The logical lines of a text, and its comments that tell directions of pins, in the order of
 /// their first physical lines. The text has at most a gibibyte.
-#[tactic(auto, using(crate::proofs::Groups::is_refused_line, crate::proofs::Groups::is_taken, crate::proofs::Groups::is_done, crate::proofs::Groups::starts, crate::proofs::Groups::never_split))]
+#[tactic(auto, using(crate::proofs::Groups::split_rules))]
 pub fn split_lines(alloc: Global, bytes: &[u8]) -> Result<Lines, TextFault>
     requires { length bytes.now ≤ MOST_BYTES }
     // The lines of the definition, or the first line that it refuses; memory may run out.

@@ -2,7 +2,8 @@
 ghost use Rattle.std.specs.Prelude.{◌≡◌, ◌≤◌, ◌<◌, ◌^◌, length, filter};
 ghost use Rattle.std.specs.Char.{is_ascii_digit};
 ghost use Rattle.std.specs.List.{prefix_len, count_by, list_any};
-ghost use Rattle.spice_text.specs.Numbers.{is_point, is_mantissa_byte, is_mantissa, places_of, without_zeros_at_end, digits_of, spelled_number, most_digits};
+ghost use Rattle.spice_text.specs.Numbers.{is_point, is_mantissa_byte, is_mantissa, places_of};
+ghost use Rattle.spice_text.specs.Numbers.{without_zeros_at_end, digits_of, spelled_number, most_digits};
 ghost use Rattle.spice_text.specs.Reader.{is_significant};
 
 fn is_mantissa_byte(byte: u8) -> bool
@@ -46,7 +47,7 @@ pub fn is_mantissa(text: &[u8]) -> bool
     any_digit(text) && count_points(text) <= 1
 }
 
-/// How many digits stand behind the point.
+/// The number of digits after the point.
 pub fn digits_behind_point(text: &[u8]) -> usize
     ensures { result ≡ places_of text.now }
 {

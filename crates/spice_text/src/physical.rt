@@ -1,4 +1,4 @@
-ghost use Rattle.std.specs.Prelude.{◌≡◌, ◌≤◌, ◌<◌, ◌+◌, [], ◌∷◌, length, position, ◌==◌, IsTrue, ◌↔◌, take, drop};
+ghost use Rattle.std.specs.Prelude.{◌≡◌, ◌≤◌, ◌<◌, ◌+◌, [], ◌∷◌, length, position, ◌==◌};
 ghost use Rattle.spice_text.specs.Physical.{physical};
 ghost use Rattle.spice_text.specs.Reader.{until_end, end_of};
 
@@ -34,8 +34,8 @@ fn before_return(bytes: &[u8], end: usize) -> usize
     if last == b'\r' { end - 1 } else { end }
 }
 
-/// The first physical line of a text, and what stands behind it.
-#[tactic(auto, using(crate::proofs::Ends::last_line, crate::proofs::Ends::line_is, crate::proofs::Ends::end_le, crate::proofs::Ends::no_line))]
+/// The first physical line of a text, and what follows it.
+#[tactic(auto, using(crate::proofs::Ends::line_rules))]
 pub fn first_line(bytes: &[u8]) -> (&[u8], &[u8])
     requires { 0 < length bytes.now }
     ensures line { physical bytes.now ≡ result.0.now ∷ physical result.1.now }

@@ -1,4 +1,4 @@
-// The letters behind a number, which may begin with a scale.
+// The letters after a number, which may begin with a scale.
 ghost use Rattle.std.specs.Prelude.{◌≡◌};
 ghost use Rattle.std.specs.Char.{is_ascii_alphabetic};
 ghost use Rattle.std.specs.List.{list_all};
@@ -19,7 +19,7 @@ fn all_letters(text: &[u8]) -> bool
     text.iter().all(|b| b.is_ascii_alphabetic())
 }
 
-/// Whether a text may stand behind a number: letters, none of a thousandth of an inch.
+/// Whether a text may follow a number: letters, none of a thousandth of an inch.
 pub fn are_letters(text: &[u8]) -> bool
     ensures { result ≡ are_letters text.now }
 {

@@ -1,7 +1,9 @@
-ghost use Rattle.std.specs.Prelude.{◌≡◌, ◌≤◌, ◌<◌, ◌+◌, [], ◌∷◌, ◌==◌, not, false, true, filter, map, length, IfOk, OnOk};
+ghost use Rattle.std.specs.Prelude.{◌≡◌, ◌<◌, [], ◌∷◌, ◌==◌, not};
+ghost use Rattle.std.specs.Prelude.{false, true, filter, map, length, IfOk, OnOk};
 ghost use Rattle.std.specs.List.{slice_split, join_with_byte, list_any};
 ghost use Rattle.cell_num.specs.Names.{lowered};
-ghost use Rattle.spice_text.specs.Physical.{is_blank, without_comment, without_blanks_in_front, is_comment, is_bad, is_refused};
+ghost use Rattle.spice_text.specs.Physical.{is_blank, without_comment, without_blanks_in_front};
+ghost use Rattle.spice_text.specs.Physical.{is_comment, is_bad, is_refused};
 ghost use Rattle.spice_text.specs.Words.{without_blanks_at_end, trimmed, joined_at_equals, words_of};
 
 use cell_num::{Bytes, Names, NoMemory, lower};
@@ -33,7 +35,7 @@ pub fn before_mark(line: &[u8]) -> &[u8]
     line
 }
 
-/// What stands behind the blanks in front.
+/// A text without the blanks at its beginning.
 pub fn behind_blanks(line: &[u8]) -> &[u8]
     ensures { result.now ≡ without_blanks_in_front line.now }
 {
@@ -93,7 +95,7 @@ fn parts_between_equals(alloc: Global, text: &[u8]) -> Result<Vec<&[u8]>, AllocE
     text.split(|b| *b == b'=').collect(alloc)
 }
 
-// behind a text, each part without the blanks around it, `=` in front of each
+// after a text, each part without the blanks around it, `=` before each
 fn add_parts(out: &mut Bytes, parts: &[&[u8]]) -> Result<(), NoMemory>
     ensures { OnOk result (out.new ≡ join_with_byte 61 (out.old ∷ map trimmed (map (λ w. w.now) parts.now))) }
 {

@@ -1,10 +1,12 @@
 -- What a text says of a technology: keys of a TOML table, each with a plain value where it is absent.
-use Rattle.std.specs.Prelude.{ℕ, ℤ, pos, negsuc, ◌%◌, ◌==◌, ◌&&◌, not, nat_le, Bool, List, [], ◌∷◌, length, codes, bytes_eq, Option, Some, None, option_and_then, unwrap_or, Result, Ok, Err, if◌then◌else◌}
+use Rattle.std.specs.Prelude.{ℕ, ℤ, pos, negsuc, ◌%◌, ◌==◌, ◌&&◌, not, nat_le, Bool, List, [], ◌∷◌, length, codes}
+use Rattle.std.specs.Prelude.{bytes_eq, Option, Some, None, option_and_then, unwrap_or, Result, Ok, Err, if◌then◌else◌}
 use Rattle.std.specs.List.{list_any}
 use Rattle.std.specs.Str.{is_utf8}
 use Rattle.std.specs.Ordering.{is_lt, nat_cmp}
 use Rattle.std.specs.Cmp.Lexicographic.{slice_cmp}
-use Rattle.toml.specs.Data.{Data, string, integer, array, Items, no_items, item, Members, no_members, member, get_member, as_integer, as_str, as_array}
+use Rattle.toml.specs.Data.{Data, string, integer, array, Items, no_items, item, Members}
+use Rattle.toml.specs.Data.{no_members, member, get_member, as_integer, as_str, as_array}
 use Rattle.toml.specs.Parse.{parse_document}
 use Rattle.tech_file.specs.declared.fault.TechFault.{TechFault}
 use Rattle.tech_file.specs.declared.fault.TechFault.TheVariants as fault
@@ -19,7 +21,9 @@ abbrev pub table_of : List ℕ → Option Members
 table_of bytes = if is_utf8 bytes then parse_document bytes else None
 
 abbrev pub known_keys : List (List ℕ)
-known_keys = codes "lambda_nm" ∷ codes "wmax_p" ∷ codes "wmax_n" ∷ codes "budget" ∷ codes "height" ∷ codes "vdd" ∷ codes "gnd" ∷ codes "p_models" ∷ codes "n_models" ∷ []
+known_keys =
+    codes "lambda_nm" ∷ codes "wmax_p" ∷ codes "wmax_n" ∷ codes "budget" ∷ codes "height" ∷ codes "vdd" ∷ codes "gnd" ∷
+    codes "p_models" ∷ codes "n_models" ∷ []
 
 abbrev pub is_known : List ℕ → Bool
 is_known key = list_any (λ known. bytes_eq key known) known_keys
@@ -32,7 +36,8 @@ lesser key (Some other) = if is_lt (slice_cmp nat_cmp key other) then key else o
 -- the least key by its bytes that is not known
 abbrev pub least_unknown : Members → Option (List ℕ)
 least_unknown no_members = None
-least_unknown (member key value members) = if is_known key then least_unknown members else Some (lesser key (least_unknown members))
+least_unknown (member key value members) =
+    if is_known key then least_unknown members else Some (lesser key (least_unknown members))
 
 abbrev pub none_unknown : Option (List ℕ) → Result (Unit {0}) TechFault
 none_unknown (Some key) = Err (fault.Key key)
@@ -63,7 +68,8 @@ within key limits (pos n) = if is_within limits n then Ok n else Err (fault.Rang
 within key limits (negsuc n) = Err (fault.Range key (negsuc n))
 
 abbrev pub number_at : List ℕ → Limits → Members → Result ℕ TechFault
-number_at key limits members = or_fault (as_integer (value_at key (integer (pos limits.plain)) members)) (fault.Form key) >>= within key limits
+number_at key limits members =
+    or_fault (as_integer (value_at key (integer (pos limits.plain)) members)) (fault.Form key) >>= within key limits
 
 abbrev pub lambda_limits : Limits
 lambda_limits = record { plain = plain.lambda_nm; least = 20; most = 2000; step = 2 }

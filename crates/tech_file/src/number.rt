@@ -107,7 +107,13 @@ impl Model for Numbers {
 
     ghost Value = { NumbersOf };
 
-    ghost view = { λ v. record { lambda_nm = v.lambda_nm; wmax_p = v.wmax_p; wmax_n = v.wmax_n; budget = v.budget; height = v.height } };
+    ghost view = { λ v. record {
+      lambda_nm = v.lambda_nm;
+      wmax_p = v.wmax_p;
+      wmax_n = v.wmax_n;
+      budget = v.budget;
+      height = v.height;
+    } };
 }
 
 /// The integers of a table.

@@ -65,6 +65,11 @@ fn technology_of(alloc: Global, table: &Table) -> Result<Tech, TechFault>
 
 /// Reads a technology file, a TOML document. The names in it are made lower case, and a key that is
 /// absent has its plain value.
+///
+/// The first fault is reported, in this order: `Text`, `Key`, then by key `Form` or `Range` of
+/// `lambda_nm`, `wmax_p`, `wmax_n`, `budget` and `height`, `Form` of `vdd` and `gnd` (also where both
+/// are one name), `Form` of `p_models` and `n_models` (also where they share a name). `NoMemory` may
+/// come at any step.
 #[tactic(auto, using(crate::proofs::Told::technology_never))]
 pub fn read_tech(alloc: Global, bytes: &[u8]) -> Result<Tech, TechFault>
     requires { length bytes.now ≤ MOST_BYTES }

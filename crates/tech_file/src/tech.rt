@@ -1,4 +1,4 @@
-ghost use Rattle.std.specs.Prelude.{◌≡◌, [], IfOk, Ok};
+ghost use Rattle.std.specs.Prelude.{◌≡◌, ◌≤◌, ◌/◌, [], IfOk, Ok};
 
 use crate::words::{copies, copy};
 use cell_num::{Name, Names, NoMemory};
@@ -34,13 +34,35 @@ impl Model for Tech {
 
     ghost Value = { Technology };
 
-    ghost view = { λ t. record { lambda_nm = t.lambda_nm; wmax_p = t.wmax_p; wmax_n = t.wmax_n; vdd = t.vdd; gnd = t.gnd; p_models = t.p_models; n_models = t.n_models; budget = t.budget; height = t.height } };
+    ghost view = { λ t. record {
+      lambda_nm = t.lambda_nm;
+      wmax_p = t.wmax_p;
+      wmax_n = t.wmax_n;
+      vdd = t.vdd;
+      gnd = t.gnd;
+      p_models = t.p_models;
+      n_models = t.n_models;
+      budget = t.budget;
+      height = t.height;
+    } };
 
-    ghost invariant = { λ t. IsTechnology (record { lambda_nm = t.lambda_nm; wmax_p = t.wmax_p; wmax_n = t.wmax_n; vdd = t.vdd; gnd = t.gnd; p_models = t.p_models; n_models = t.n_models; budget = t.budget; height = t.height }) };
+    ghost invariant = { λ t. IsTechnology (record {
+      lambda_nm = t.lambda_nm;
+      wmax_p = t.wmax_p;
+      wmax_n = t.wmax_n;
+      vdd = t.vdd;
+      gnd = t.gnd;
+      p_models = t.p_models;
+      n_models = t.n_models;
+      budget = t.budget;
+      height = t.height;
+    }) };
 }
 
+/// The models of P transistors where a technology file names none.
 pub const PLAIN_P: [&str; 3] = ["p", "pmos", "pch"];
 
+/// The models of N transistors where a technology file names none.
 pub const PLAIN_N: [&str; 3] = ["n", "nmos", "nch"];
 
 impl Tech {
@@ -75,5 +97,15 @@ impl Tech {
         ensures { IsTechnology self.now }
     {
         let _ = &self.lambda_nm;
+    }
+
+    /// The nanometres of a grid unit, half a lambda.
+    pub fn unit_nm(&self) -> u32
+        ensures is { result ≡ self.now.lambda_nm / 2 }
+        ensures least { 10 ≤ result }
+        ensures most { result ≤ 1000 }
+    {
+        self.show_limits();
+        self.lambda_nm / 2
     }
 }

@@ -12,10 +12,10 @@ use Rattle.cell_num.specs.declared.finger.Row.TheVariants.{P, N}
 use Rattle.cell_num.specs.declared.finger.Finger.{Finger}
 use Rattle.row_model.specs.declared.column.Placed.{Placed}
 use Rattle.row_model.specs.declared.column.Column.{Column}
-use Rattle.row_model.specs.Arrangement.{fingers_in, IsColumn, AreOneColumn}
+use Rattle.row_model.specs.Arrangement.{fingers_in, IsColumn, AreOneColumn, gate_in}
 use Rattle.row_model.specs.Gaps.{left_net}
 use Rattle.row_trails.specs.Trails.{end_differs}
-use Rattle.row_place.specs.Steps.{or_else, gate_in}
+use Rattle.row_place.specs.Steps.{or_else}
 use Rattle.row_state.specs.declared.kind.Kinds.{Kinds}
 use Rattle.row_state.specs.declared.state.State.{State}
 use Rattle.row_state.specs.Completion.{left_in, Completes}

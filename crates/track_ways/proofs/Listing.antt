@@ -1,10 +1,11 @@
 -- Lists of tracks, one more track or one more way at a time.
-use Rattle.std.proofs.Common.{ℕ, zero, suc, ◌≡◌, ◌+◌, ◌++◌, Bool, List, [], ◌∷◌, refl, sym, ap, arith, ◌∙◌}
+use Rattle.std.proofs.Common.{ℕ, ◌≡◌, ◌+◌, ◌++◌, Bool, List, [], ◌∷◌, refl, sym, ap, ◌∙◌}
 use Rattle.std.specs.List.{filter, flat_map, range_with_len}
 use Rattle.std.proofs.lemmas.List.Elements.{filter-append}
 use Rattle.std.proofs.lemmas.List.Concat.{flat_map-cons}
 use Rattle.std.proofs.lemmas.List.{append_assoc, flat_map_more}
 use Rattle.cell_num.specs.declared.net.NetNo.{NetNo}
+use Rattle.cell_num.proofs.Ranges.{range_more}
 use Rattle.track_ways.specs.declared.line.Line.{Line}
 use Rattle.track_ways.specs.declared.track.NetTrack.{NetTrack}
 use Rattle.track_ways.specs.Ways.{fills, line_test, on_track}
@@ -12,13 +13,6 @@ use Rattle.track_ways.specs.Ways.{fills, line_test, on_track}
 pub filter_flat : {X Y : Type 0} (p : Y → Bool) (f : X → List Y) (xs : List X) → filter p (flat_map f xs) ≡ flat_map (λ x. filter p (f x)) xs
 filter_flat p f [] = refl
 filter_flat p f (x ∷ xs) = ap (filter p) (flat_map-cons f x xs) ∙ filter-append p (f x) (flat_map f xs) ∙ ap (λ ys. filter p (f x) ++ ys) (filter_flat p f xs) ∙ sym (flat_map-cons (λ x. filter p (f x)) x xs)
-
-last : (a n j : ℕ) → a + n ≡ j → range_with_len a (suc n) ≡ range_with_len a n ++ j ∷ []
-last a zero j e = let same : a ≡ j = omega (arith, e) in ap (λ z. z ∷ []) same
-last a (suc n) j e = ap (λ zs. a ∷ zs) (last (a + 1) n j (omega (arith, e)))
-
-range_more : (n : ℕ) → range_with_len 0 (n + 1) ≡ range_with_len 0 n ++ n ∷ []
-range_more n = let e : n + 1 ≡ suc n = omega arith in ap (range_with_len 0) e ∙ last 0 n n (omega arith)
 
 -- the ways of the first tracks of a net
 abbrev pub fits_below : ℕ → Line → NetNo → List NetNo → List NetTrack → ℕ → List (List NetTrack)

@@ -11,7 +11,8 @@ use Rattle.cell_num.specs.declared.finger.Finger.{Finger}
 use Rattle.cell_num.proofs.In.{contains_map}
 use Rattle.row_model.specs.declared.column.Placed.{Placed}
 use Rattle.row_model.specs.declared.column.Column.{Column}
-use Rattle.row_place.specs.Steps.{gate_in, or_else}
+use Rattle.row_model.specs.Arrangement.{gate_in}
+use Rattle.row_place.specs.Steps.{or_else}
 use Rattle.row_state.specs.declared.kind.Kind.{Kind}
 use Rattle.row_state.specs.declared.kind.Kinds.{Kinds}
 use Rattle.row_state.specs.declared.state.State.{State}

@@ -8,12 +8,12 @@ use Rattle.cell_num.specs.declared.finger.Row.TheVariants.{P, N}
 use Rattle.cell_num.proofs.Lists.{all_from_contains}
 use Rattle.cell_num.proofs.Pairs.{pairs_append, pairs_none, pairs_one}
 use Rattle.row_model.specs.declared.column.Column.{Column}
-use Rattle.row_model.specs.Arrangement.{IsColumn}
+use Rattle.row_model.specs.Arrangement.{IsColumn, gate_in}
 use Rattle.row_model.specs.Gaps.{left_net, right_net}
 use Rattle.row_place.specs.declared.placement.NodePlace.{NodePlace}
 use Rattle.row_place.specs.declared.placement.GatePlace.{GatePlace}
 use Rattle.row_place.specs.declared.placement.Seat.{Seat}
-use Rattle.row_place.specs.Steps.{or_else, gate_in, gate_of as seat_gate, gates_of}
+use Rattle.row_place.specs.Steps.{or_else, gate_of as seat_gate, gates_of}
 use Rattle.row_place.specs.Units.{gap_between, unit_of, seats_from, seats_of}
 use Rattle.row_place.specs.Places.{IsNode, StandsBefore, IsPlacement, placement_of}
 use Rattle.row_place.proofs.Placed.{placement_is}

@@ -5,10 +5,10 @@ use Rattle.cell_num.specs.declared.net.NetNo.{NetNo}
 use Rattle.cell_num.specs.declared.finger.Row.{Row}
 use Rattle.row_model.specs.declared.column.Placed.{Placed}
 use Rattle.row_model.specs.declared.column.Column.{Column}
-use Rattle.row_model.specs.Arrangement.{place}
+use Rattle.row_model.specs.Arrangement.{place, gate_in}
 use Rattle.row_model.specs.Gaps.{left_net, right_net}
 use Rattle.row_trails.specs.Trails.{end_differs}
-use Rattle.row_place.specs.Steps.{or_else, gate_in}
+use Rattle.row_place.specs.Steps.{or_else}
 use Rattle.track_ways.specs.declared.line.Line.{Line}
 
 abbrev pub left_end : Option Placed → Option NetNo

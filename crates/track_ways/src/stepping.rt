@@ -1,7 +1,8 @@
 // The tracks behind a next column of a state, and behind its last line.
 ghost use Rattle.std.specs.Prelude.{◌≡◌, ◌∷◌, [], ℕ, All, Any, IfOk, false};
 ghost use Rattle.cell_num.specs.declared.net.NetNo.{NetNo as NetOf};
-ghost use Rattle.row_place.specs.Steps.{gate_in, or_else};
+ghost use Rattle.row_model.specs.Arrangement.{gate_in};
+ghost use Rattle.row_place.specs.Steps.{or_else};
 ghost use Rattle.row_state.specs.Start.{IsState};
 ghost use Rattle.row_state.specs.Steps.{state_after};
 ghost use Rattle.track_ways.specs.Rows.{gate_line, is_gap_behind, left_end, node_line};
@@ -47,15 +48,10 @@ fn or_else(end: Option<NetNo>, other: Option<NetNo>) -> Option<NetNo>
 fn gate_line(column: &Column) -> Line
     ensures { result ≡ gate_line column.now }
 {
-    let gate = match (&column.p, &column.n) {
-        (Some(x), _) => Some(x.finger.gate),
-        (None, Some(y)) => Some(y.finger.gate),
-        (None, None) => None,
-    };
     Line {
         p: None,
         n: None,
-        gate,
+        gate: column.gate(),
     }
 }
 

@@ -1,5 +1,6 @@
 -- Lemmas that are looked up by numbers of their states.
-use Rattle.std.specs.Prelude.{ℕ, ◌≡◌, ◌+◌, ◌*◌, ◌%◌, ◌^◌, Bool, false, List, [], Some, Contains, cond, fold, nat_eq, option_map, slice_get, unwrap_or}
+use Rattle.std.specs.Prelude.{ℕ, ◌≡◌, ◌+◌, ◌*◌, ◌%◌, ◌^◌, Bool, false, List, [], Some, Contains, cond, fold, nat_eq}
+use Rattle.std.specs.Prelude.{option_map, slice_get, unwrap_or}
 use Rattle.std.specs.HashMap.{get}
 use Rattle.trail_state.specs.declared.state.Place.{Place}
 use Rattle.trail_check.specs.declared.lemma.TrailLemma.{TrailLemma}
@@ -30,4 +31,5 @@ says_at lemmas done state need at = unwrap_or (option_map (says done state need)
 
 -- each lemma is noted where its number is looked up
 abbrev pub IsIndexOf : List TrailLemma → LemmaIndex → Type 0
-IsIndexOf lemmas index = (at : ℕ) (lemma : TrailLemma) → slice_get lemmas at ≡ Some lemma → Contains (noted_at index (state_number lemma.done lemma.state)) at
+IsIndexOf lemmas index = (at : ℕ) (lemma : TrailLemma) → slice_get lemmas at ≡ Some lemma
+    → Contains (noted_at index (state_number lemma.done lemma.state)) at

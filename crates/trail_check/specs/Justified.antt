@@ -1,5 +1,6 @@
 -- Which lemmas are justified by those before them, and what justified lemmas prove.
-use Rattle.std.specs.Prelude.{ℕ, ◌+◌, ◌-◌, ◌/◌, ◌==◌, ◌&&◌, ◌||◌, Bool, false, nat_le, cond, max, List, [], ◌∷◌, ◌++◌, Option, Some, None, fold, length, slice_get, if◌then◌else◌}
+use Rattle.std.specs.Prelude.{ℕ, ◌+◌, ◌-◌, ◌/◌, ◌==◌, ◌&&◌, ◌||◌, Bool, false, nat_le, cond, max, List, [], ◌∷◌, ◌++◌}
+use Rattle.std.specs.Prelude.{Option, Some, None, fold, length, slice_get, if◌then◌else◌}
 use Rattle.std.proofs.Math.Bool.{beq}
 use Rattle.std.specs.Cmp.Lexicographic.{pointwise}
 use Rattle.std.specs.List.{list_all, list_any}
@@ -27,7 +28,8 @@ is_known earlier done state need = (need == 0) || list_any (says done state need
 -- behind this choice the lemma's bound, less the ends that are certain then, is known
 abbrev pub choice_reaches : List TrailLemma → Level → TrailLemma → List Edge → Bool
 choice_reaches earlier level lemma choice =
-    is_known earlier (lemma.done + 1) (state_after level.now level.next lemma.state choice) (lemma.bound - ends_after level.now level.next lemma.state choice)
+    is_known earlier (lemma.done + 1) (state_after level.now level.next lemma.state choice)
+    (lemma.bound - ends_after level.now level.next lemma.state choice)
 
 abbrev pub level_reaches : List TrailLemma → TrailLemma → Option Level → Bool
 level_reaches earlier lemma None = false
@@ -40,7 +42,8 @@ is_justified levels earlier lemma = level_reaches earlier lemma (slice_get level
 -- the line of the first lemma that is not justified by those before it, where these stand before the line n
 unfoldable pub unproved : List Level → List TrailLemma → ℕ → List TrailLemma → Option ℕ
 unproved levels earlier n [] = None
-unproved levels earlier n (lemma ∷ lemmas) = if is_justified levels earlier lemma then unproved levels (earlier ++ lemma ∷ []) (n + 1) lemmas else Some n
+unproved levels earlier n (lemma ∷ lemmas) =
+    if is_justified levels earlier lemma then unproved levels (earlier ++ lemma ∷ []) (n + 1) lemmas else Some n
 
 -- a lemma on the state before the first gate
 abbrev pub is_start : TrailLemma → Bool

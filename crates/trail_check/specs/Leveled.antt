@@ -7,7 +7,11 @@ use Rattle.trail_state.specs.Nodes.{open_nodes}
 use Rattle.trail_state.specs.Pairings.{choices_of}
 
 abbrev pub level_of : Fingers → NetNo → List NetNo → Level
-level_of f gate later = record { now = open_nodes f (gate ∷ later); next = open_nodes f later; choices = choices_of f gate.0 }
+level_of f gate later = record {
+  now = open_nodes f (gate ∷ later);
+  next = open_nodes f later;
+  choices = choices_of f gate.0;
+}
 
 unfoldable pub levels_of : Fingers → List NetNo → List Level
 levels_of f [] = []

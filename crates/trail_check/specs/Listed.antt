@@ -1,5 +1,6 @@
 -- The lemma that a line of a certificate lists.
-use Rattle.std.specs.Prelude.{ℕ, ◌+◌, ◌*◌, ◌==◌, Bool, List, [], Option, Some, None, map, find, option_map, unwrap_or, slice_get}
+use Rattle.std.specs.Prelude.{ℕ, ◌+◌, ◌*◌, ◌==◌, Bool, List, [], Option, Some, None, map, find, option_map, unwrap_or}
+use Rattle.std.specs.Prelude.{slice_get}
 use Rattle.std.specs.List.{filter_map, list_any}
 use Rattle.trail_state.specs.declared.edge.Node.{Node}
 use Rattle.trail_state.specs.declared.state.Place.{Place}
@@ -31,7 +32,8 @@ place_in nodes odd node class = record {
 
 -- the node's place, if a class lists it
 abbrev pub place_listed : List Node → LemmaLine → Node → Option Place
-place_listed nodes line node = option_map (place_in nodes line.odd node) (find (λ (class : Class). is_listed class.nodes node) line.classes)
+place_listed nodes line node = option_map (place_in nodes line.odd node)
+    (find (λ (class : Class). is_listed class.nodes node) line.classes)
 
 -- the places of these nodes, in their order
 abbrev pub state_listed : List Node → LemmaLine → List Place
@@ -43,7 +45,11 @@ nodes_of (Some level) = level.now
 
 -- its state has the nodes that the gates left can meet
 abbrev pub lemma_listed : List Level → LemmaLine → TrailLemma
-lemma_listed levels line = record { bound = line.bound; done = line.done; state = state_listed (nodes_of (slice_get levels line.done)) line }
+lemma_listed levels line = record {
+  bound = line.bound;
+  done = line.done;
+  state = state_listed (nodes_of (slice_get levels line.done)) line;
+}
 
 abbrev pub lemmas_listed : List Level → List LemmaLine → List TrailLemma
 lemmas_listed levels lines = map (lemma_listed levels) lines

@@ -32,7 +32,8 @@ LemmasRefused first _ = ⊥
 abbrev pub Refuses : Fingers → TrailCertificate → TrailRefusal → Type 0
 Refuses f trails refusal.Gates = AreGates f trails → ⊥
 Refuses f trails (refusal.Choices gate) = AreGates f trails × (first_with_many f trails.order ≡ Some gate)
-Refuses f trails (refusal.Unproved line) = AreGates f trails × (first_with_many f trails.order ≡ None) × (first_unproved f trails ≡ Some line)
+Refuses f trails (refusal.Unproved line) = AreGates f trails × (first_with_many f trails.order ≡ None)
+    × (first_unproved f trails ≡ Some line)
 Refuses f trails refusal.NoMemory = Unit {0}
 Refuses f trails cause =
     AreGates f trails

@@ -1,7 +1,8 @@
 ghost use Rattle.std.specs.Prelude.{◌≡◌, ◌↔◌, IsTrue};
 ghost use Rattle.std.specs.List.{list_all};
 ghost use Rattle.trail_check.specs.Gates.{AreGates};
-ghost use Rattle.trail_check.specs.Tests.{are_filled, are_once, are_ordered, gates_test, has_gate, is_filled, is_gate, is_order};
+ghost use Rattle.trail_check.specs.Tests.{are_filled, are_once, are_ordered, gates_test, has_gate, is_filled, is_gate};
+ghost use Rattle.trail_check.specs.Tests.{is_order};
 
 use cell_num::{Finger, Fingers, NetNo};
 use trail_log::TrailCertificate;

@@ -18,7 +18,7 @@ pub struct LemmaIndex {
     places: HashMap<u64, Vec<usize>>,
 }
 
-// The number is one of 64 bits, and states with one number are told apart by themselves.
+// The number is one of 64 bits, and states with one number are compared themselves.
 fn mixed(number: u64, more: u64) -> u64
     ensures { result ≡ mixed number more }
 {
@@ -98,6 +98,7 @@ fn note(
 }
 
 impl LemmaIndex {
+    /// The index of no lemmas.
     pub fn new(alloc: Global) -> LemmaIndex
         ensures { IsIndexOf [] result }
     {
@@ -106,7 +107,7 @@ impl LemmaIndex {
         }
     }
 
-    /// One lemma more, behind those that are noted.
+    /// One lemma more, after those that are noted.
     pub fn add(
         &mut self,
         alloc: Global,
@@ -138,7 +139,7 @@ impl LemmaIndex {
         is_said_at_one(lemmas, done, state, need, places)
     }
 
-    /// Whether so many ends are known by the lemmas to come from the state behind so many gates on.
+    /// Whether the lemmas say that at least `need` more ends come from the state after the first `done` gates on.
     pub fn knows(&self, lemmas: &[TrailLemma], done: u64, state: &TrailState, need: u32) -> bool
         requires { IsIndexOf lemmas.now self.now }
         ensures { result ≡ is_known lemmas.now done state.now need }

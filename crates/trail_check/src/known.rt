@@ -11,7 +11,7 @@ pub fn is_same_state(a: &[Place], b: &[Place]) -> bool
     a == b
 }
 
-/// Whether the lemma is on the state behind so many gates, with this bound or a greater one.
+/// Whether the lemma is on the state after the first `done` gates, with this bound or a greater one.
 pub(crate) fn is_said(lemma: &TrailLemma, done: u64, state: &[Place], need: u32) -> bool
     ensures { result ≡ says done state.now need lemma.now }
 {

@@ -1,13 +1,14 @@
 ghost use Rattle.std.specs.Prelude.{◌≡◌, ◌<◌, IfOk, find, option_map, slice_get};
 ghost use Rattle.trail_log.specs.declared.class.Class.{Class as ClassOf};
-ghost use Rattle.trail_check.specs.Listed.{is_listed, lemma_listed, name_of, nodes_of, number_of, place_listed, state_listed};
+ghost use Rattle.trail_check.specs.Listed.{is_listed, lemma_listed, name_of, nodes_of, number_of, place_listed};
+ghost use Rattle.trail_check.specs.Listed.{state_listed};
 
 use cell_num::{List, NoMemory};
 use std::alloc::{AllocError, Global};
 use trail_log::{Class, LemmaLine, NetPair};
 use trail_state::{Level, Node, Place, TrailState};
 
-/// From the state behind the first `done` gates on, at least `bound` more ends of trails come.
+/// From the state after the first `done` gates on, at least `bound` more ends of trails come.
 #[derive(Debug, Drop)]
 pub struct TrailLemma {
     pub bound: u32,

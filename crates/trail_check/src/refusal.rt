@@ -15,7 +15,7 @@ pub enum TrailRefusal {
     /// The first lemma that is not justified, by its line in the text of the certificate.
     #[error("Unproved")]
     Unproved { line: u32 },
-    /// The certificate lists no row. The lemmas prove that each has at least so many gaps.
+    /// The certificate lists no row. The lemmas prove that each has at least `best` gaps.
     #[error("NoRow")]
     NoRow { best: u32 },
     /// The listed columns are no arrangement of the fingers.

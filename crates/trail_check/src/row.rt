@@ -11,20 +11,11 @@ use log_check::{Refused, check_log};
 use row_state::{PARITY_LOG, Parity};
 use std::alloc::{AllocError, Global};
 
-fn copied(best: &Best) -> Result<Best, AllocError>
-    ensures { IfOk result (λ copy. copy ≡ best.now) }
-{
-    Ok(Best {
-        gaps: best.gaps,
-        steps: best.steps.clone()?,
-    })
-}
-
 fn copied_row(best: &Option<Best>) -> Result<Option<Best>, AllocError>
     ensures { IfOk result (λ copy. copy ≡ best.now) }
 {
     match best {
-        Some(best) => Ok(Some(copied(best)?)),
+        Some(best) => Ok(Some(best.clone()?)),
         None => Ok(None),
     }
 }
@@ -53,7 +44,7 @@ fn least(said: u32, proved: u32) -> Result<u32, TrailRefusal>
     }
 }
 
-/// The gaps of the listed row, where each row is proved to have so many; else what is wrong with it.
+/// The gaps of the listed row, where each row is proved to have as many; else what is wrong with it.
 pub fn check_row(
     alloc: Global,
     fingers: &Fingers,

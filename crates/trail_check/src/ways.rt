@@ -9,7 +9,7 @@ use trail_state::has_long_front;
 /// The most different ways to pair the fingers of a gate's first columns, where a checker lists them.
 pub const MOST_CHOICES: usize = 65_536;
 
-/// Whether the fingers of the gate pair in more than [`MOST_CHOICES`] ways: column by column, behind one of them. Each
+/// Whether the fingers of the gate pair in more than [`MOST_CHOICES`] ways: column by column, after one of them. Each
 /// pair is turned alike or not, a place that stays empty is filled with each two nets of its row, and ways with equal
 /// columns that leave equal fingers are one.
 pub fn has_many_ways(alloc: Global, fingers: &Fingers, gate: &NetNo) -> Result<bool, NoMemory>

@@ -33,7 +33,8 @@ abbrev pub node_in : ℕ → List ℕ → Option NetPair
 node_in nets word = node_of nets (parts_at 46 word)
 
 abbrev pub class_with : ℕ → Bool → List ℕ → Option Class
-class_with nets flagged word = option_map (λ nodes. record { nodes = nodes; flagged = flagged }) (each_in (node_in nets) (parts_at 43 word))
+class_with nets flagged word = option_map (λ nodes. record { nodes = nodes; flagged = flagged })
+    (each_in (node_in nets) (parts_at 43 word))
 
 -- with `!` (byte 33) behind it, or none
 abbrev pub class_of : ℕ → List (List ℕ) → Option Class

@@ -27,4 +27,5 @@ class_rank class = first_rank class.nodes
 
 -- the nodes of each class, and the classes
 abbrev pub classes_in_order : List Class → Bool
-classes_in_order classes = list_all (λ (class : Class). increases node_rank class.nodes) classes && increases class_rank classes
+classes_in_order classes = list_all (λ (class : Class). increases node_rank class.nodes) classes
+    && increases class_rank classes

@@ -18,17 +18,33 @@ use Rattle.trail_log.specs.Text.{version_line}
 -- Below, line n is the first of the lines, and the rest are the bytes behind the last one.
 
 -- a lemma before those of a certificate, or the line behind the lemmas and what it asks for
-abbrev pub begun_by : List NetNo → List NetNo → TrailEntry → Result TrailCertificate LogFault → Result (List LogStep) LogFault → Result (Unit {0}) LogFault → Result TrailCertificate LogFault
-begun_by fill order (entry.Lemma lemma) trails columns end = trails >>= λ later. Ok (record { fill = later.fill; order = later.order; lemmas = lemma ∷ later.lemmas; best = later.best })
-begun_by fill order (entry.Gaps gaps) trails columns end = columns >>= λ steps. Ok (record { fill = fill; order = order; lemmas = []; best = Some (record { gaps = gaps; steps = steps }) })
-begun_by fill order entry.Open trails columns end = end >>= λ _. Ok (record { fill = fill; order = order; lemmas = []; best = None })
+abbrev pub begun_by : List NetNo → List NetNo → TrailEntry → Result TrailCertificate LogFault
+    → Result (List LogStep) LogFault → Result (Unit {0}) LogFault → Result TrailCertificate LogFault
+begun_by fill order (entry.Lemma lemma) trails columns end =
+    trails >>= λ later. Ok (record {
+      fill = later.fill;
+      order = later.order;
+      lemmas = lemma ∷ later.lemmas;
+      best = later.best;
+    })
+begun_by fill order (entry.Gaps gaps) trails columns end =
+    columns >>= λ steps. Ok (record {
+      fill = fill;
+      order = order;
+      lemmas = [];
+      best = Some (record { gaps = gaps; steps = steps });
+    })
+begun_by fill order entry.Open trails columns end =
+    end >>= λ _. Ok (record { fill = fill; order = order; lemmas = []; best = None })
 
 -- lemmas, then either gaps and columns or `open`, then `end`
-unfoldable pub lemmas_at : List NetNo → List NetNo → Kinds → ℕ → List (List ℕ) → List ℕ → Result TrailCertificate LogFault
+unfoldable pub lemmas_at : List NetNo → List NetNo → Kinds → ℕ → List (List ℕ) → List ℕ
+    → Result TrailCertificate LogFault
 lemmas_at fill order k n [] rest = Err fault.Cut
 lemmas_at fill order k n (line ∷ lines) rest = do
   first ← or_fault (entry_in k.nets (words_in line)) (fault.Line n)
-  begun_by fill order first (lemmas_at fill order k (n + 1) lines rest) (columns_at k (n + 1) lines rest) (end_at (n + 1) lines rest)
+  begun_by fill order first (lemmas_at fill order k (n + 1) lines rest) (columns_at k (n + 1) lines rest)
+      (end_at (n + 1) lines rest)
 
 -- the line of the order, and the lemmas behind it
 abbrev pub order_at : List NetNo → Kinds → List (List ℕ) → List ℕ → Result TrailCertificate LogFault

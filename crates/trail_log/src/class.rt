@@ -1,5 +1,6 @@
 use cell_num::{List, NetNo};
 
+/// Nets, by their numbers.
 pub type NetList = List<NetNo>;
 
 /// A net of the P row above a net of the N row, the place of an end of a column.
@@ -9,6 +10,7 @@ pub struct NetPair {
     pub n: NetNo,
 }
 
+/// Pairs of a net of each row.
 pub type NetPairs = List<NetPair>;
 
 /// Pairs of nets that the columns so far chain, and whether a trail through them has an end already.
@@ -18,4 +20,5 @@ pub struct Class {
     pub flagged: bool,
 }
 
+/// Classes of pairs.
 pub type ClassList = List<Class>;

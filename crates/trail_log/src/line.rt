@@ -1,12 +1,11 @@
 ghost use Rattle.std.specs.Prelude.{◌≡◌, ◌≤◌, IfOk, map};
 ghost use Rattle.log_lines.specs.Words.{words_in};
-ghost use Rattle.bound_log.specs.Line.{gaps_in};
 ghost use Rattle.trail_log.specs.Line.{entry_in, fill_in, lemma_in, nets_behind, order_in};
 
 use crate::listed::{increases, read_list};
 use crate::ordered::{read_classes, read_odd};
 use crate::{LemmaLine, MOST_ENDS, NetList, TrailEntry};
-use bound_log::MOST_GAPS;
+use bound_log::gaps_of_words;
 use cell_num::{MOST_COLUMNS, MOST_NETS, NoMemory};
 use log_lines::{all_parts, is_word, number_below};
 use std::alloc::Global;
@@ -44,15 +43,6 @@ fn lemma(alloc: Global, nets: u32, words: &[&[u8]]) -> Result<Option<LemmaLine>,
     }))
 }
 
-fn gaps(words: &[&[u8]]) -> Option<u32>
-    ensures { result ≡ gaps_in (map (λ word. word.now) words.now) }
-{
-    match words {
-        [gaps] => number_below(gaps, MOST_GAPS as u32 + 1),
-        _ => None,
-    }
-}
-
 fn entry_of_words(alloc: Global, nets: u32, words: &[&[u8]]) -> Result<Option<TrailEntry>, NoMemory>
     requires { nets ≤ MOST_NETS }
     ensures { IfOk result (λ entry. entry ≡ entry_in nets (map (λ word. word.now) words.now)) }
@@ -64,7 +54,7 @@ fn entry_of_words(alloc: Global, nets: u32, words: &[&[u8]]) -> Result<Option<Tr
         return Ok(lemma(alloc, nets, rest)?.map(TrailEntry::Lemma));
     }
     if is_word(word, b"gaps") {
-        return Ok(gaps(rest).map(TrailEntry::Gaps));
+        return Ok(gaps_of_words(rest).map(TrailEntry::Gaps));
     }
     if is_word(word, b"open") && rest.is_empty() {
         return Ok(Some(TrailEntry::Open));
@@ -72,7 +62,7 @@ fn entry_of_words(alloc: Global, nets: u32, words: &[&[u8]]) -> Result<Option<Tr
     Ok(None)
 }
 
-/// What a line behind the order says.
+/// What a line after the order says.
 pub(crate) fn read_entry(
     alloc: Global,
     nets: u32,

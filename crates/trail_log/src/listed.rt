@@ -15,7 +15,7 @@ pub trait Listed: Drop + Sized {
     /// How it is written.
     ghost spelling: { Self → Sequence ℕ };
 
-    /// What the word says, over so many nets.
+    /// What the word says, over this number of nets.
     ghost said: { ℕ → Sequence ℕ → Option Self };
 
     /// Where it stands among others.

@@ -15,7 +15,7 @@ use log_lines::{first_line, is_named, is_word};
 use row_state::Kinds;
 use std::alloc::Global;
 
-// The lemmas behind the order, and behind them the row that they certify, or `open`.
+// The lemmas after the order, and after them the row that they certify, or `open`.
 #[tactic(auto, using(crate::proofs::Fronts::lemmas_cut, crate::proofs::Fronts::lemmas_wrong, crate::proofs::Fronts::lemmas_more, crate::proofs::Fronts::lemmas_listed, crate::proofs::Fronts::lemmas_unlisted, crate::proofs::Fronts::lemmas_ended, crate::proofs::Fronts::lemmas_unended))]
 fn read_lemmas(
     alloc: Global,
@@ -66,7 +66,7 @@ fn read_lemmas(
     }
 }
 
-// The line of the order, and the lemmas behind it.
+// The line of the order, and the lemmas after it.
 fn read_ordered(
     alloc: Global,
     fill: NetList,
@@ -90,7 +90,7 @@ fn read_ordered(
     Ok(trails)
 }
 
-// The line of the filled gates, and the order behind it.
+// The line of the filled gates, and the order after it.
 fn read_filled(alloc: Global, kinds: &Kinds, bytes: &[u8]) -> Result<TrailCertificate, LogFault>
     requires few { length bytes.now ≤ MOST_BYTES }
     ensures trails { IfOk result (λ trails.
@@ -109,7 +109,7 @@ fn read_filled(alloc: Global, kinds: &Kinds, bytes: &[u8]) -> Result<TrailCertif
     Ok(trails)
 }
 
-// The line of the name, and the filled gates behind it.
+// The line of the name, and the filled gates after it.
 fn read_named(
     alloc: Global,
     bytes: &[u8],

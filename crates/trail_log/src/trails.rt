@@ -5,7 +5,7 @@ use cell_num::List;
 /// The greatest bound that the text of a certificate can hold: two ends for each of 32 columns.
 pub const MOST_ENDS: u32 = 64;
 
-/// Behind the first `done` gates of the order, where they left an odd number of ends at the pairs `odd`, and
+/// After the first `done` gates of the order, where they left an odd number of ends at the pairs `odd`, and
 /// chained those that later gates can meet to these classes, at least `bound` more ends of trails come.
 #[derive(Debug, Drop)]
 pub struct LemmaLine {
@@ -15,9 +15,10 @@ pub struct LemmaLine {
     pub classes: ClassList,
 }
 
+/// The lemmas of a certificate.
 pub type LemmaLines = List<LemmaLine>;
 
-/// What a line behind the order says: a lemma, or what follows the lemmas: the gaps of a row whose columns are
+/// What a line after the order says: a lemma, or what follows the lemmas: the gaps of a row whose columns are
 /// listed, or that none is.
 #[derive(Debug, Drop)]
 pub enum TrailEntry {

@@ -29,11 +29,12 @@ pub record IsCertified (k : Kinds) (f : Fingers) (row : List Column) (trails : T
   pub fits : TrailsFit k trails
 
 -- the row is the first least one, and is certified; a node was spent for each lemma
-pub record IsTrailFound (f : Fingers) (budget : ℕ) (row : List Column) (trails : TrailCertificate) (nodes : ℕ) : Type 0 where
-  pub first : IsFirstLeast f row
-  pub certified : WithKinds f (λ k. IsCertified k f row trails)
-  pub few : nodes ≤ budget
-  pub kept : length trails.lemmas ≤ nodes
+pub record IsTrailFound (f : Fingers) (budget : ℕ) (row : List Column) (trails : TrailCertificate) (nodes : ℕ) : Type 0
+  where
+    pub first : IsFirstLeast f row
+    pub certified : WithKinds f (λ k. IsCertified k f row trails)
+    pub few : nodes ≤ budget
+    pub kept : length trails.lemmas ≤ nodes
 
 -- every arrangement has more gaps
 abbrev pub HaveMore : Fingers → ℕ → Type 0

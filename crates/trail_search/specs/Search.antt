@@ -1,5 +1,6 @@
 -- What a search keeps, how it goes on, and the nodes that it spends.
-use Rattle.std.specs.Prelude.{ℕ, ◌≡◌, ◌≤◌, ◌<◌, ◌+◌, ◌++◌, ◌⊎◌, false, List, [], Some, None, All, AllPairs, Contains, length, slice_get}
+use Rattle.std.specs.Prelude.{ℕ, ◌≡◌, ◌≤◌, ◌<◌, ◌+◌, ◌++◌, ◌⊎◌, false, List, [], Some, None, All, AllPairs, Contains}
+use Rattle.std.specs.Prelude.{length, slice_get}
 use Rattle.trail_state.specs.declared.edge.Node.{Node}
 use Rattle.trail_state.specs.declared.state.Place.{Place}
 use Rattle.trail_state.specs.declared.level.Level.{Level}
@@ -18,7 +19,8 @@ AreSmall levels = All (λ (level : Level). length level.now ≤ 65536) levels
 -- the nodes of a level ascend, and those that later gates can meet are the nodes of the next level
 pub record AreChained (levels : List Level) : Type 0 where
   pub ascend : (i : ℕ) → AllPairs (λ (a b : Node). a.0 < b.0) (nodes_of (slice_get levels i))
-  pub next : (i : ℕ) (level : Level) → slice_get levels i ≡ Some level → level.next ≡ nodes_of (slice_get levels (i + 1))
+  pub next : (i : ℕ) (level : Level) → slice_get levels i ≡ Some level
+      → level.next ≡ nodes_of (slice_get levels (i + 1))
 
 -- a place at the node of this number, which names its own class
 pub record Names (s : List Place) (name : ℕ) : Type 0 where
@@ -67,4 +69,5 @@ pub record AreTied (before after : Kept) (left left_after others : ℕ) : Type 0
 
 -- No more is known of states behind fewer gates, nor of more ends than the bound behind as many.
 abbrev pub StayAs : ℕ → ℕ → Kept → Kept → Type 0
-StayAs done bound before after = (d : ℕ) (s : List Place) (need : ℕ) → (d < done) ⊎ ((d ≡ done) × (bound < need)) → is_known after.lemmas d s need ≡ is_known before.lemmas d s need
+StayAs done bound before after = (d : ℕ) (s : List Place) (need : ℕ) → (d < done) ⊎ ((d ≡ done) × (bound < need))
+    → is_known after.lemmas d s need ≡ is_known before.lemmas d s need

@@ -33,7 +33,7 @@ fn listed(alloc: Global, kinds: &Kinds, gaps: u32, steps: &[Step]) -> Result<Lis
     })
 }
 
-// The first row from the start that has no more than so many gaps, or none. Big values are dropped by calls, here and
+// The first row from the start that has at most this number of gaps, or none. Big values are dropped by calls, here and
 // below: where one goes out of scope by itself, all its parts are proved at each end.
 #[tactic(auto, using(crate::proofs::Tried::true_none, crate::proofs::Tried::first_found, crate::proofs::Tried::none_found, crate::proofs::Spent::searched))]
 fn row_from(
@@ -69,7 +69,7 @@ fn row_from(
     }
 }
 
-/// The first row that has no more than so many gaps, or none.
+/// The first row that has at most this number of gaps, or none.
 pub(crate) fn first_row(
     alloc: Global,
     kinds: &Kinds,

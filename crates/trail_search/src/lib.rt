@@ -1,5 +1,5 @@
-// The first least row of some fingers, with a certificate by trails; and proofs by trails that every row has so many
-// gaps.
+// The first least row of some fingers, with a certificate by trails; and proofs by trails that every row has at
+// least a number of gaps.
 #![tactic(auto)]
 
 mod behind;

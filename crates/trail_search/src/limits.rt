@@ -19,7 +19,7 @@ use trail_state::{Level, TrailState};
 /// The greatest limit that is tried: a row of 32 columns has no more gaps than 31.
 pub(crate) const MOST_LIMIT: u32 = 30;
 
-/// The ends of trails of a row with so many gaps.
+/// The ends of trails of a row with this number of gaps.
 pub(crate) fn most_ends(limit: u32) -> u32
     requires { limit ≤ MOST_LIMIT }
     ensures { result ≡ 2 * (limit + 1) }

@@ -71,7 +71,7 @@ fn nodes_of<'a>(gates: &'a [Gate], gate: &NetNo) -> &'a [Node] {
     }
 }
 
-// The more, the more nodes stay open behind the gate.
+// The more, the more nodes stay open after the gate.
 fn weight(meetings: &[Meeting], nodes: &[Node]) -> usize {
     let opened = nodes.iter().filter(|node| opens(meetings, node)).count();
     let closed = nodes.iter().filter(|node| closes(meetings, node)).count();
@@ -116,7 +116,7 @@ fn met_by(alloc: Global, fingers: &Fingers, gates: &[Gate]) -> Result<Vec<Meetin
     Ok(meetings)
 }
 
-/// Each gate of the fingers once, each of them the one behind which the fewest nodes are open.
+/// Each gate of the fingers once, each of them the one after which the fewest nodes are open.
 #[tactic(auto, using(crate::proofs::Orders::order_is))]
 pub(crate) fn order(alloc: Global, fingers: &Fingers) -> Result<NetList, NoMemory>
     requires { AreFingers fingers.now }

@@ -15,9 +15,11 @@ use Rattle.trail_state.specs.Nodes.{is_net_in}
 abbrev pub IsEdgeOf : Fingers → Option Placed → Option Placed → Edge → Type 0
 IsEdgeOf f (Some x) (Some y) e = e ≡ edge_of (left_net x).0 (left_net y).0 (right_net x).0 (right_net y).0
 IsEdgeOf f (Some x) None e =
-    (l : ℕ) × (r : ℕ) × (is_net_in f.n l ≡ true) × (is_net_in f.n r ≡ true) × (e ≡ edge_of (left_net x).0 l (right_net x).0 r)
+    (l : ℕ) × (r : ℕ) × (is_net_in f.n l ≡ true) × (is_net_in f.n r ≡ true)
+    × (e ≡ edge_of (left_net x).0 l (right_net x).0 r)
 IsEdgeOf f None (Some y) e =
-    (l : ℕ) × (r : ℕ) × (is_net_in f.p l ≡ true) × (is_net_in f.p r ≡ true) × (e ≡ edge_of l (left_net y).0 r (right_net y).0)
+    (l : ℕ) × (r : ℕ) × (is_net_in f.p l ≡ true) × (is_net_in f.p r ≡ true)
+    × (e ≡ edge_of l (left_net y).0 r (right_net y).0)
 IsEdgeOf f None None e = ⊥
 
 abbrev pub AreEdgesOf : Fingers → List Column → List Edge → Type 0

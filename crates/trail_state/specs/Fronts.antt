@@ -1,5 +1,6 @@
 -- The choices of a gate as a list, found column by column.
-use Rattle.std.specs.Prelude.{ℕ, zero, suc, Bool, ◌&&◌, ◌==◌, ◌++◌, if◌then◌else◌, leb, ltb, max, List, [], ◌∷◌, drop, length, map, fold}
+use Rattle.std.specs.Prelude.{ℕ, zero, suc, Bool, ◌&&◌, ◌==◌, ◌++◌, if◌then◌else◌, leb, ltb, max, List, [], ◌∷◌, drop}
+use Rattle.std.specs.Prelude.{length, map, fold}
 use Rattle.std.specs.Cmp.Lexicographic.{pointwise}
 use Rattle.std.specs.List.{after_first, before_first, flat_map, list_any, range_with_len}
 use Rattle.trail_state.specs.declared.edge.Edge.{Edge}

@@ -1,5 +1,6 @@
 -- The places that the edges so far meet: the classes that edges chain, and the nodes that an odd number of ends meet.
-use Rattle.std.specs.Prelude.{ℕ, Bool, true, false, not, ◌||◌, ◌==◌, if◌then◌else◌, min, List, Option, Some, None, map, find, fold, unwrap_or}
+use Rattle.std.specs.Prelude.{ℕ, Bool, true, false, not, ◌||◌, ◌==◌, if◌then◌else◌, min, List, Option, Some, None, map}
+use Rattle.std.specs.Prelude.{find, fold, unwrap_or}
 use Rattle.std.specs.List.{filter_map, list_any}
 use Rattle.trail_state.specs.declared.edge.Node.{Node}
 use Rattle.trail_state.specs.declared.edge.Edge.{Edge}

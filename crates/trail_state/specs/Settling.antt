@@ -1,5 +1,6 @@
 -- What is certain once a gate is done: ends at nodes that no later gate can meet, and classes without other nodes.
-use Rattle.std.specs.Prelude.{ℕ, ◌+◌, ◌*◌, Bool, not, ◌||◌, ◌&&◌, ◌==◌, List, map, find, unwrap_or, option_map, count_by}
+use Rattle.std.specs.Prelude.{ℕ, ◌+◌, ◌*◌, Bool, not, ◌||◌, ◌&&◌, ◌==◌, List, map, find, unwrap_or, option_map}
+use Rattle.std.specs.Prelude.{count_by}
 use Rattle.std.specs.List.{filter, list_any}
 use Rattle.trail_state.specs.declared.edge.Node.{Node}
 use Rattle.trail_state.specs.declared.edge.Edge.{Edge}

@@ -1,7 +1,8 @@
 ghost use Rattle.std.specs.Prelude.{◌≡◌, ◌<◌, ◌≤◌, ◌++◌, [], All, IfNone, IfOk, IfSome, OnOk, length, position};
 ghost use Rattle.std.specs.Hash as fed;
 ghost use Rattle.std.specs.Hash.{same_Alike};
-ghost use Rattle.trail_state.specs.Fronts.{alone, first_front, n_alone, next_front, next_parts, paired, paired_with, same_nets, with_all, with_column, with_new, without};
+ghost use Rattle.trail_state.specs.Fronts.{alone, first_front, n_alone, next_front, next_parts, paired, paired_with};
+ghost use Rattle.trail_state.specs.Fronts.{same_nets, with_all, with_column, with_new, without};
 ghost use Rattle.trail_state.specs.Same.{part_decides};
 
 use crate::edge::{Edge, NetPair};
@@ -109,7 +110,7 @@ fn add_paired(
     Ok(())
 }
 
-// Adds the part with a column of the P finger alone, where those behind it are as many as the N fingers left.
+// Adds the part with a column of the P finger alone, where those after it are as many as the N fingers left.
 fn add_alone(
     alloc: Global,
     all: &mut IndexSet<Part>,
@@ -192,7 +193,7 @@ pub(crate) fn next_front(
     Ok(all)
 }
 
-/// The same, where they are at most so many. It stops once they are more.
+/// The same, where they are at most `most`. It stops once they are more.
 #[tactic(auto, using(crate::proofs::Parts::longer_yet))]
 pub(crate) fn next_short(
     alloc: Global,

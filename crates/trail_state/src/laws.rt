@@ -9,7 +9,7 @@ ghost use Rattle.trail_state.specs.declared.level.Level.{Level};
 ghost use Rattle.trail_state.specs.Levels.{AreLevels, Ends, IsOrder};
 
 /// No arrangement of the fingers has fewer ends of trails than every list of choices along an order
-/// comes to, and a row has two for each stretch without a gap. It does nothing: its contract is the law.
+/// has, and a row has two for each stretch without a gap. It does nothing: its contract is the law.
 pub fn least_ends()
     ensures { (f : Fingers) → AreFingers f → (order : List NetNo) → IsOrder f order → (levels : List Level) (ends : ℕ) →
         AreLevels f order levels → Ends levels [] ends → (row : List Column) → IsArrangement row f →

@@ -15,14 +15,14 @@ fn columns(gate: &Gate) -> usize
     gate.p.len().max(gate.n.len())
 }
 
-// The P fingers that stand in none of so many columns.
+// The P fingers that stand in none of the first columns.
 fn behind(gate: &Gate, at: usize) -> &[NetPair]
     ensures { result.now ≡ drop at gate.now.p }
 {
     gate.p.as_slice().get(at..).unwrap_or(&[])
 }
 
-// The front behind all columns.
+// The front after all columns.
 fn last_front(alloc: Global, gate: &Gate) -> Result<IndexSet<Part>, NoMemory>
     requires p { All (λ net. net < 256) gate.now.p_fill }
     requires n { All (λ net. net < 256) gate.now.n_fill }
@@ -73,7 +73,7 @@ fn has_long(alloc: Global, gate: &Gate, most: usize) -> Result<bool, NoMemory>
     Ok(false)
 }
 
-/// Whether behind one of the columns of the gate there are more than `most` ways to pair its fingers so far: the edges
+/// Whether after one of the columns of the gate there are more than `most` ways to pair its fingers so far: the edges
 /// of the columns with the N fingers that are left, each once. It takes memory for `most` of them, and those with one
 /// column more of one of them.
 #[tactic(auto, unfolding(crate::specs::Fronts::has_long_front))]

@@ -5,7 +5,8 @@ ghost use Rattle.cell_num.specs.Fingers.{on_gate, AreFingers};
 ghost use Rattle.trail_state.specs.Edges.{pair_node};
 ghost use Rattle.trail_state.specs.Places.{node_at};
 ghost use Rattle.trail_state.specs.Choices.{is_on};
-ghost use Rattle.trail_state.specs.Nodes.{has_net, is_end_in, is_net_in, is_net_on, may_have, node_cmp, nodes_of, open_nodes};
+ghost use Rattle.trail_state.specs.Nodes.{has_net, is_end_in, is_net_in, is_net_on, may_have, node_cmp, nodes_of};
+ghost use Rattle.trail_state.specs.Nodes.{open_nodes};
 ghost use Rattle.trail_state.specs.Pairings.{nets_in};
 
 use crate::Node;

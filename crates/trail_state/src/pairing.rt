@@ -18,7 +18,7 @@ pub fn choices(alloc: Global, fingers: &Fingers, gate: NetNo) -> Result<List<Cho
     Ok(all)
 }
 
-/// Whether behind one of the columns of the gate there are more than `most` ways to pair its fingers so far: the edges
+/// Whether after one of the columns of the gate there are more than `most` ways to pair its fingers so far: the edges
 /// of the columns with the N fingers that are left, each once. It takes memory for `most` of them, and those with one
 /// column more of one of them.
 pub fn has_long_front(

@@ -1,13 +1,14 @@
 ghost use Rattle.std.specs.Prelude.{◌≡◌, ◌≤◌, IfOk, count_by, length};
 ghost use Rattle.trail_state.specs.Places.{with_edges};
-ghost use Rattle.trail_state.specs.Settling.{is_open, has_class, has_odd, kept_of, closing_of, is_closed_trail, ends_settled, name_in, left_place, places_left, state_after, ends_after};
+ghost use Rattle.trail_state.specs.Settling.{is_open, has_class, has_odd, kept_of, closing_of, is_closed_trail};
+ghost use Rattle.trail_state.specs.Settling.{ends_settled, name_in, left_place, places_left, state_after, ends_after};
 
 use crate::state::add_all;
 use crate::{Edge, Node, Place, TrailState};
 use cell_num::{List, NoMemory};
 use std::alloc::{AllocError, Global};
 
-/// What a choice of a gate comes to.
+/// What a choice of a gate results in.
 #[derive(Debug, PartialEq, Drop)]
 pub struct Settled {
     pub state: TrailState,

@@ -1,7 +1,8 @@
 ghost use Rattle.std.specs.Prelude.{◌≡◌, IfOk, fold};
 ghost use Rattle.std.specs.List.{list_any};
 ghost use Rattle.std.specs.Option.{option_copied};
-ghost use Rattle.trail_state.specs.Places.{new_place, place_of, place_or_new, is_met, met_place, met_places, is_joined, differ, joined_place, with_edge, with_edges};
+ghost use Rattle.trail_state.specs.Places.{new_place, place_of, place_or_new, is_met, met_place, met_places, is_joined};
+ghost use Rattle.trail_state.specs.Places.{differ, joined_place, with_edge, with_edges};
 
 use crate::{Edge, Node};
 use cell_num::{List, NoMemory};

@@ -1,12 +1,11 @@
 // Adding taps to a drawing.
 
-ghost use Rattle.std.specs.Prelude.{◌≡◌, ◌≤◌, ◌<◌, ◌+◌, ◌++◌, ℕ, List, map, length, pos, All, IfOk, OnOk};
+ghost use Rattle.std.specs.Prelude.{◌≡◌, ◌≤◌, ◌<◌, ◌+◌, ◌++◌, ℕ, List, map, length, All, IfOk, OnOk};
 ghost use Rattle.box_geom.specs.declared.layer.Layer.TheVariants.{PSelect, NSelect};
 ghost use Rattle.cell_num.specs.declared.net.Pins.{Pins};
 ghost use Rattle.scmos_rules.specs.Rules.{Obeys};
 ghost use Rattle.scmos_rules.specs.declared.rules.Deck.TheVariants.{Plain, Taps};
 ghost use Rattle.cell_draw.specs.Bounds.{AreWithin};
-ghost use Rattle.cell_draw.specs.Shapes.{around};
 ghost use Rattle.well_tap.specs.Base.{IsBase, last_line};
 ghost use Rattle.well_tap.specs.Bodied.{AreBodied, AreRails};
 ghost use Rattle.well_tap.specs.Kept.{KeepsMetal, IsSameCircuit, ShowsTheSame};
@@ -15,7 +14,7 @@ ghost use Rattle.well_tap.specs.Tapped.{CanRise, raised, tap_at, taps_at, tapped
 
 use crate::{HALF_SELECT, TAP_RISE, WELL_PAST_END};
 use box_geom::{Layer, Rect, Shape, ShapeList, Shapes};
-use cell_draw::{Drawing, HALF_CUT, HALF_PAD};
+use cell_draw::{Drawing, HALF_CUT, HALF_PAD, square};
 use cell_num::NoMemory;
 use row_compact::{LineXs, x_of};
 use std::alloc::Global;
@@ -51,25 +50,6 @@ fn add_raised(shapes: &[Shape], top: u32, out: &mut ShapeList) -> Result<(), NoM
         out.push(raised(shape, top))?;
     }
     Ok(())
-}
-
-// The square around a point that reaches so far to each side.
-fn square(layer: Layer, x: u32, y: u32, by: u32) -> Shape
-    requires x { x ≤ MOST_LINE }
-    requires y { y ≤ MOST_TAPPED_HEIGHT }
-    requires some { 0 < by }
-    requires by { by ≤ HALF_SELECT }
-    ensures { result ≡ around layer x (pos y) by }
-{
-    Shape {
-        layer,
-        rect: Rect {
-            x1: x as i32 - by as i32,
-            y1: y as i32 - by as i32,
-            x2: x as i32 + by as i32,
-            y2: y as i32 + by as i32,
-        },
-    }
 }
 
 fn add_tap(out: &mut ShapeList, select: Layer, x: u32, y: u32) -> Result<(), NoMemory>

@@ -70,18 +70,13 @@ pub(crate) fn for_make_from<D: Desk>(
 {
     let stem = Stem::new(alloc, out)?;
     let inputs = read_inputs(alloc, desk, asked)?;
-    match read_evidence(alloc, desk, &inputs, file, evidence) {
-        Ok(file) => Ok(Material::Read(ReadMaterial::MakingFrom(FromMaterial {
-            inputs,
-            file,
-            stem,
-            style,
-        }))),
-        Err(refusal) => {
-            drop(inputs);
-            Err(refusal)
-        }
-    }
+    let file = read_evidence(alloc, desk, &inputs, file, evidence)?;
+    Ok(Material::Read(ReadMaterial::MakingFrom(FromMaterial {
+        inputs,
+        file,
+        stem,
+        style,
+    })))
 }
 
 /// The inputs, and then the file that is checked.
@@ -98,11 +93,6 @@ pub(crate) fn for_check<D: Desk>(
     ensures only { OnlyReads (D.view desk.old) (D.view desk.new) }
 {
     let inputs = read_inputs(alloc, desk, asked)?;
-    match read_evidence(alloc, desk, &inputs, file, evidence) {
-        Ok(file) => Ok(Material::Read(ReadMaterial::Checking(inputs, file))),
-        Err(refusal) => {
-            drop(inputs);
-            Err(refusal)
-        }
-    }
+    let file = read_evidence(alloc, desk, &inputs, file, evidence)?;
+    Ok(Material::Read(ReadMaterial::Checking(inputs, file)))
 }

@@ -1,4 +1,3 @@
-use Rattle.std.proofs.Common.{refl}
 use Rattle.call_work.proofs.Keeping.{keeps_bench}
 use Rattle.call_work.proofs.commands.gather_form.Goals as goal
 

@@ -23,12 +23,12 @@ returns-in-Drawn c =
     drawn_ends c.args.style c.args.inputs.now (inputs_of c.inputs.inside.tech c.inputs.inside.cell c.inputs.inside.fingers) c.args.stem.now c.args.row.now (shown c.args.evidence) c.args.came.now c.in-Drawn.placement c.in-Drawn.routing c.in-Drawn.drawn c.unit_nm.result c.with_drawing.result
     c.inputs.view_is c.unit_nm.ensures.is c.in-Drawn.is c.requires.comes c.with_drawing.ensures
 
-pub returns-in-Ok : goal.returns-in-Ok
-returns-in-Ok c =
-    cyclic_ends c.args.style c.args.inputs.now (inputs_of c.inputs.inside.tech c.inputs.inside.cell c.inputs.inside.fingers) c.args.stem.now c.args.row.now c.args.evidence c.args.came.now c.in-Cyclic.placement c.in-Cyclic.ring c.in-Ok.report c.evidence_end.result
-    c.inputs.view_is c.in-Cyclic.is c.in-Ok.ensures c.evidence_end.ensures
+pub returns-in_ok-report-in-Cyclic : goal.returns-in_ok-report-in-Cyclic
+returns-in_ok-report-in-Cyclic c =
+    cyclic_ends c.args.style c.args.inputs.now (inputs_of c.inputs.inside.tech c.inputs.inside.cell c.inputs.inside.fingers) c.args.stem.now c.args.row.now c.args.evidence c.args.came.now c.in-Cyclic.placement c.in-Cyclic.ring c.in_ok-report-in-Cyclic.report c.evidence_end.result
+    c.inputs.view_is c.in-Cyclic.is c.in_ok-report-in-Cyclic.ensures c.evidence_end.ensures
 
-pub returns-in-Ok-tall_report : goal.returns-in-Ok-tall_report
-returns-in-Ok-tall_report c =
-    tall_ends c.args.style c.args.inputs.now c.args.stem.now c.args.row.now c.args.evidence c.args.came.now c.in-Tall.placement c.in-Tall.routing c.in-Tall.needed c.in-Tall.given c.in-Ok-tall_report.report c.evidence_end-in-Ok-tall_report.result
-    c.in-Tall.is c.requires.comes c.in-Ok-tall_report.ensures c.evidence_end-in-Ok-tall_report.ensures
+pub returns-in_ok-report-in-Tall : goal.returns-in_ok-report-in-Tall
+returns-in_ok-report-in-Tall c =
+    tall_ends c.args.style c.args.inputs.now c.args.stem.now c.args.row.now c.args.evidence c.args.came.now c.in-Tall.placement c.in-Tall.routing c.in-Tall.needed c.in-Tall.given c.in_ok-report-in-Tall.report c.evidence_end-in-Tall.result
+    c.in-Tall.is c.requires.comes c.in_ok-report-in-Tall.ensures c.evidence_end-in-Tall.ensures

@@ -1,4 +1,4 @@
-use Rattle.std.proofs.Common.{◌≡◌, IfOk, subst, ◌∙◌, ap}
+use Rattle.std.proofs.Common.{◌≡◌, IfOk, subst}
 use Rattle.cell_inputs.specs.Inputs.{Inputs, inputs_of}
 use Rattle.cell_commands.specs.RowEnd.{RowEvidence}
 use Rattle.cell_commands.specs.Evidence.{shown}

@@ -49,7 +49,7 @@ returns-in_ok-library-in-Ok c =
       record {
         bytes = c.from_vec.ensures ∙ c.in_ok-library-in-Ok.ensures.exact ∙ ap (λ n. library_of c.in-Ok.structs n) unit ∙ ap (λ (ss : List Struct). library_of ss (unit_nm c.args.row.now.tech)) structs;
         wide = c.width_of.ensures ∙ ap (λ (cs : List RowCell). sum_by (λ (x : RowCell). x.drawing.width) cs) (c.as_slice.ensures ∙ c.requires.shown) ∙ width_is c.requires.made;
-        high = c.height_of.ensures ∙ ap first_height (c.as_slice-in-Ok.ensures ∙ c.requires.shown);
+        high = c.first_height.ensures ∙ ap first_height (c.as_slice-in-Ok.ensures ∙ c.requires.shown);
       },
     )
 

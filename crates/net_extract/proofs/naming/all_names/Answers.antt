@@ -1,6 +1,6 @@
 use Rattle.std.proofs.Common.{arith}
 use Rattle.std.proofs.lemmas.Grind.{common_steps}
-use Rattle.number_trees.proofs.Forests.{range_more}
+use Rattle.cell_num.proofs.Ranges.{range_more}
 use Rattle.net_extract.proofs.naming.all_names.Goals as goal
 
 pub loop-net-preserved : goal.loop-net-preserved

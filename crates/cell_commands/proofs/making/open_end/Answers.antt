@@ -6,7 +6,7 @@ use Rattle.cell_commands.specs.Evidence.{evidence_files}
 use Rattle.call_end.specs.End.{IsEnd}
 use Rattle.cell_commands.specs.RowEnd.{RowEvidence as EvidenceOf}
 use Rattle.cell_commands.specs.Certificate.{lemma_count, row_evidence}
-use Rattle.cell_commands.proofs.making.unfinished.Goals as goal
+use Rattle.cell_commands.proofs.making.open_end.Goals as goal
 
 pub returns : goal.returns
 returns c =
