@@ -1,0 +1,137 @@
+-- The whole text of a certificate that fits is read again.
+use Rattle.std.specs.Prelude.{ℕ, ◌≡◌, ◌≢◌, ◌+◌, ◌<◌, ◌≤◌, ◌==◌, false, List, [], ◌∷◌, ◌++◌, Some, Ok, Err, All, length, codes, decimal}
+use Rattle.std.proofs.Common.{refl, sym, ap, arith, ◌∙◌}
+use Rattle.std.specs.List.{flat_map, join_with_byte}
+use Rattle.std.proofs.lemmas.Bool.{ne_eqb}
+use Rattle.std.proofs.lemmas.List.{append_assoc, length-append}
+use Rattle.std.proofs.lemmas.List.Elements.{All-append, All-cons, All-head, All-nil, All-tail}
+use Rattle.row_state.specs.declared.kind.Kinds.{Kinds}
+use Rattle.row_state.specs.Start.{AreSomeKinds}
+use Rattle.log_lines.specs.Words.{is_word, words_in}
+use Rattle.log_lines.specs.Lines.{behind, lines_in}
+use Rattle.log_lines.proofs.Numbers.{is_same}
+use Rattle.log_lines.proofs.Splits.{IsAbove, Lacks, above_lacks, fed, line_behind}
+use Rattle.bound_log.specs.declared.fault.LogFault.{LogFault}
+use Rattle.bound_log.specs.Fits.{IsLogName}
+use Rattle.bound_log.specs.Text.{gaps_line}
+use Rattle.bound_log.proofs.Again.{by_test, words_again, words_lack}
+use Rattle.bound_log.proofs.Only.{err-ok}
+use Rattle.bound_log.proofs.Whole.{fed_first}
+use Rattle.track_lemmas.specs.declared.lemma.TrackLemma.{TrackLemma}
+use Rattle.track_log.specs.declared.certificate.TrackCertificate.{TrackCertificate}
+use Rattle.track_log.specs.Fits.{CertificateFits, LemmaFits}
+use Rattle.track_log.specs.Line.{count_in, gaps_in, lemma_in}
+use Rattle.track_log.specs.Reading.{certificate_of, count_at, gaps_at, lemmas_at, named_at, text_at}
+use Rattle.track_log.specs.Text.{certificate_text, head_lines, lemma_line, tracks_line, version_line}
+use Rattle.track_log.proofs.Words.{count_above, count_again, count_joined, gaps_above, gaps_again, gaps_joined, lemma_above, lemma_again, lemma_joined, lemma_words}
+
+fed_behind : (line text : List ℕ) → Lacks 10 line → behind (fed line ++ text) ≡ behind text
+fed_behind line text lack = ap behind (append_assoc line (10 ∷ []) text) ∙ line_behind line text lack
+
+-- ---- lemmas
+
+lemma_step : (k : Kinds) (n : ℕ) (line : List ℕ) (lines : List (List ℕ)) (rest : List ℕ) (lemma : TrackLemma) (lemmas : List TrackLemma) → is_word line (codes "end") ≡ false → lemma_in k (words_in line) ≡ Some lemma → lemmas_at k (n + 1) lines rest ≡ Ok lemmas → lemmas_at k n (line ∷ lines) rest ≡ Ok (lemma ∷ lemmas)
+unfolding lemmas_at
+lemma_step k n line lines rest lemma lemmas other some later = rw (other, some, later) refl
+
+end_again : (k : Kinds) (n : ℕ) → lemmas_at k n (lines_in (codes "end\n")) (behind (codes "end\n")) ≡ Ok []
+unfolding lemmas_at lines_in behind
+end_again k n = refl
+
+not_end : (lemma : TrackLemma) → is_word (join_with_byte 32 (codes "lemma" ∷ lemma_words lemma)) (codes "end") ≡ false
+unfolding lemma_words
+not_end lemma = refl
+
+lemmas_front : (lemma : TrackLemma) (lemmas : List TrackLemma) (rest : List ℕ) → flat_map lemma_line (lemma ∷ lemmas) ++ rest ≡ fed (join_with_byte 32 (codes "lemma" ∷ lemma_words lemma)) ++ (flat_map lemma_line lemmas ++ rest)
+lemmas_front lemma lemmas rest =
+    append_assoc (lemma_line lemma) (flat_map lemma_line lemmas) rest ∙ ap (λ (bs : List ℕ). bs ++ (flat_map lemma_line lemmas ++ rest)) (sym (lemma_joined lemma))
+
+lemmas_again : (k : Kinds) (n : ℕ) (lemmas : List TrackLemma) → AreSomeKinds k → All (LemmaFits k) lemmas → lemmas_at k n (lines_in (flat_map lemma_line lemmas ++ codes "end\n")) (behind (flat_map lemma_line lemmas ++ codes "end\n")) ≡ Ok lemmas
+lemmas_again k n [] some h = end_again k n
+lemmas_again k n (lemma ∷ lemmas) some h =
+    let line = join_with_byte 32 (codes "lemma" ∷ lemma_words lemma) in
+    let text = flat_map lemma_line lemmas ++ codes "end\n" in
+    let fits : LemmaFits k lemma = All-head (LemmaFits k) lemma lemmas h in
+    let above : All (IsAbove 32) (codes "lemma" ∷ lemma_words lemma) = lemma_above lemma in
+    let lack : Lacks 10 line = words_lack (codes "lemma" ∷ lemma_words lemma) above in
+    let whole : flat_map lemma_line (lemma ∷ lemmas) ++ codes "end\n" ≡ fed line ++ text = lemmas_front lemma lemmas (codes "end\n") in
+    let words : lemma_in k (words_in line) ≡ Some lemma = ap (lemma_in k) (words_again (codes "lemma") (lemma_words lemma) above) ∙ lemma_again k lemma some fits in
+    ap (λ (t : List ℕ). lemmas_at k n (lines_in t) (behind t)) whole
+    ∙ (rw (fed_first line text lack, fed_behind line text lack) (lemma_step k n line (lines_in text) (behind text) lemma lemmas (not_end lemma) words (lemmas_again k (n + 1) lemmas some (All-tail (LemmaFits k) lemma lemmas h))))
+
+-- ---- the lines before them
+
+other_lack : (text : List ℕ) → All (λ byte. byte ≢ 10) text → Lacks 10 text
+other_lack [] h = All-nil (λ b. (b == 10) ≡ false)
+other_lack (b ∷ bs) h = All-cons (λ b. (b == 10) ≡ false) b bs (ne_eqb b 10 (All-head (λ byte. byte ≢ 10) b bs h)) (other_lack bs (All-tail (λ byte. byte ≢ 10) b bs h))
+
+count_step : (gaps tracks : ℕ) (k : Kinds) (line : List ℕ) (lines : List (List ℕ)) (rest : List ℕ) (lemmas : List TrackLemma) → count_in (words_in line) ≡ Some tracks → lemmas_at k 5 lines rest ≡ Ok lemmas → count_at gaps k (line ∷ lines) rest ≡ Ok (record { gaps = gaps; tracks = tracks; lemmas = lemmas })
+count_step gaps tracks k line lines rest lemmas some later = rw (some, later) refl
+
+gaps_step : (gaps : ℕ) (k : Kinds) (line : List ℕ) (lines : List (List ℕ)) (rest : List ℕ) → gaps_in (words_in line) ≡ Some gaps → gaps_at k (line ∷ lines) rest ≡ count_at gaps k lines rest
+gaps_step gaps k line lines rest some = rw some refl
+
+named_step : (name : List ℕ) (k : Kinds) (line : List ℕ) (lines : List (List ℕ)) (rest : List ℕ) → line ≡ codes "cell " ++ name → named_at name k (line ∷ lines) rest ≡ gaps_at k lines rest
+named_step name k line lines rest is = rw (is_same line (codes "cell " ++ name) is) refl
+
+counted_again : (k : Kinds) (c : TrackCertificate) → AreSomeKinds k → CertificateFits k c → count_at c.gaps k (lines_in (tracks_line c.tracks ++ (flat_map lemma_line c.lemmas ++ codes "end\n"))) (behind (tracks_line c.tracks ++ (flat_map lemma_line c.lemmas ++ codes "end\n"))) ≡ Ok c
+counted_again k c some fits =
+    let line = join_with_byte 32 (codes "tracks" ∷ decimal c.tracks ∷ []) in
+    let text = flat_map lemma_line c.lemmas ++ codes "end\n" in
+    let above : All (IsAbove 32) (codes "tracks" ∷ decimal c.tracks ∷ []) = count_above c.tracks in
+    let lack : Lacks 10 line = words_lack (codes "tracks" ∷ decimal c.tracks ∷ []) above in
+    let words : count_in (words_in line) ≡ Some c.tracks = ap count_in (words_again (codes "tracks") (decimal c.tracks ∷ []) above) ∙ count_again c.tracks fits.some fits.few in
+    ap (λ (l : List ℕ). count_at c.gaps k (lines_in (l ++ text)) (behind (l ++ text))) (sym (count_joined c.tracks))
+    ∙ (rw (fed_first line text lack, fed_behind line text lack) (count_step c.gaps c.tracks k line (lines_in text) (behind text) c.lemmas words (lemmas_again k 5 c.lemmas some fits.lemmas)))
+
+bounded_again : (k : Kinds) (c : TrackCertificate) → AreSomeKinds k → CertificateFits k c → gaps_at k (lines_in (gaps_line c.gaps ++ (tracks_line c.tracks ++ (flat_map lemma_line c.lemmas ++ codes "end\n")))) (behind (gaps_line c.gaps ++ (tracks_line c.tracks ++ (flat_map lemma_line c.lemmas ++ codes "end\n")))) ≡ Ok c
+bounded_again k c some fits =
+    let line = join_with_byte 32 (codes "gaps" ∷ decimal c.gaps ∷ []) in
+    let text = tracks_line c.tracks ++ (flat_map lemma_line c.lemmas ++ codes "end\n") in
+    let above : All (IsAbove 32) (codes "gaps" ∷ decimal c.gaps ∷ []) = gaps_above c.gaps in
+    let lack : Lacks 10 line = words_lack (codes "gaps" ∷ decimal c.gaps ∷ []) above in
+    let words : gaps_in (words_in line) ≡ Some c.gaps = ap gaps_in (words_again (codes "gaps") (decimal c.gaps ∷ []) above) ∙ gaps_again c.gaps fits.gaps in
+    ap (λ (l : List ℕ). gaps_at k (lines_in (l ++ text)) (behind (l ++ text))) (sym (gaps_joined c.gaps))
+    ∙ (rw (fed_first line text lack, fed_behind line text lack) (gaps_step c.gaps k line (lines_in text) (behind text) words ∙ counted_again k c some fits))
+
+-- the lines of a certificate, one after the other
+pub text_apart : (name : List ℕ) (c : TrackCertificate) → certificate_text name c ≡ fed version_line ++ (fed (codes "cell " ++ name) ++ (gaps_line c.gaps ++ (tracks_line c.tracks ++ (flat_map lemma_line c.lemmas ++ codes "end\n"))))
+text_apart name c = apart name (gaps_line c.gaps) (tracks_line c.tracks) (flat_map lemma_line c.lemmas)
+  where
+    apart : (cell gaps tracks ls : List ℕ) → (codes "cellgen-tracks 1\ncell " ++ cell ++ codes "\n") ++ gaps ++ tracks ++ ls ++ codes "end\n" ≡ fed version_line ++ (fed (codes "cell " ++ cell) ++ (gaps ++ (tracks ++ (ls ++ codes "end\n"))))
+    apart cell gaps tracks ls = simp append_assoc
+
+-- what fits is read again
+pub read_again : (name : List ℕ) (k : Kinds) (c : TrackCertificate) → IsLogName name → AreSomeKinds k → CertificateFits k c → certificate_of (certificate_text name c) name k ≡ Ok c
+unfolding certificate_of
+read_again name k c is_name some fits =
+    let cell = codes "cell " ++ name in
+    let later = gaps_line c.gaps ++ (tracks_line c.tracks ++ (flat_map lemma_line c.lemmas ++ codes "end\n")) in
+    let version : Lacks 10 version_line = above_lacks 31 10 version_line (omega arith) (by_test 31 version_line refl) in
+    let front : Lacks 10 (codes "cell ") = above_lacks 31 10 (codes "cell ") (omega arith) (by_test 31 (codes "cell ") refl) in
+    let named : Lacks 10 cell = All-append (λ b. (b == 10) ≡ false) (codes "cell ") name front (other_lack name is_name.line) in
+    ap (λ (t : List ℕ). text_at name k (lines_in t) (behind t)) (text_apart name c)
+    ∙ (rw (fed_first version_line (fed cell ++ later) version, fed_behind version_line (fed cell ++ later) version, fed_first cell later named, fed_behind cell later named)
+    (named_step name k cell (lines_in later) (behind later) refl ∙ bounded_again k c some fits))
+
+-- no certificate that fits has a text that is refused
+pub refused : (bytes name : List ℕ) (k : Kinds) (f : LogFault) (c : TrackCertificate) → IsLogName name → AreSomeKinds k → certificate_of bytes name k ≡ Err f → CertificateFits k c → certificate_text name c ≢ bytes
+refused bytes name k f c is_name some h fits same =
+    err-ok f c (sym h ∙ (ap (λ (t : List ℕ). certificate_of t name k) (sym same) ∙ read_again name k c is_name some fits))
+
+some_line : (lemma : TrackLemma) → 0 < length (lemma_line lemma)
+some_line lemma = omega arith
+
+lines_most : (lemmas : List TrackLemma) → length lemmas ≤ length (flat_map lemma_line lemmas)
+lines_most [] = omega arith
+lines_most (lemma ∷ lemmas) = omega (arith, some_line lemma, lines_most lemmas, length-append (lemma_line lemma) (flat_map lemma_line lemmas))
+
+lemmas_within : (name : List ℕ) (c : TrackCertificate) → length c.lemmas ≤ length (certificate_text name c)
+lemmas_within name c =
+    let front = head_lines name ++ gaps_line c.gaps ++ tracks_line c.tracks in
+    let lines = flat_map lemma_line c.lemmas in
+    omega (arith, lines_most c.lemmas, length-append (front ++ lines) (codes "end\n"), length-append front lines)
+
+-- each lemma takes a byte at least
+pub few_lemmas : (bytes name : List ℕ) (c : TrackCertificate) → bytes ≡ certificate_text name c → length c.lemmas ≤ length bytes
+few_lemmas bytes name c is = rw is (lemmas_within name c)

@@ -1,0 +1,57 @@
+-- The certificate of which some bytes are the text, or the first place that is wrong.
+use Rattle.std.specs.Prelude.{ℕ, ◌+◌, List, [], ◌∷◌, ◌++◌, Result, Ok, Err, codes, if◌then◌else◌}
+use Rattle.cell_num.specs.Steps.{◌>>=◌, require, or_fault}
+use Rattle.row_state.specs.declared.kind.Kinds.{Kinds}
+use Rattle.log_lines.specs.Words.{is_word, words_in}
+use Rattle.log_lines.specs.Lines.{behind, lines_in}
+use Rattle.bound_log.specs.declared.fault.LogFault.{LogFault}
+use Rattle.bound_log.specs.declared.fault.LogFault.TheVariants as fault
+use Rattle.bound_log.specs.Reading.{end_at}
+use Rattle.track_lemmas.specs.declared.lemma.TrackLemma.{TrackLemma}
+use Rattle.track_log.specs.declared.certificate.TrackCertificate.{TrackCertificate}
+use Rattle.track_log.specs.Line.{count_in, gaps_in, lemma_in}
+use Rattle.track_log.specs.Text.{version_line}
+
+-- Below, line n is the first of the lines, and the rest are the bytes after the last one.
+
+-- lemmas, until `end`
+unfoldable pub lemmas_at : Kinds → ℕ → List (List ℕ) → List ℕ → Result (List TrackLemma) LogFault
+lemmas_at k n [] rest = Err fault.Cut
+lemmas_at k n (line ∷ lines) rest =
+    if is_word line (codes "end") then (end_at n (line ∷ lines) rest >>= λ _. Ok []) else (do
+      lemma ← or_fault (lemma_in k (words_in line)) (fault.Line n)
+      lemmas ← lemmas_at k (n + 1) lines rest
+      Ok (lemma ∷ lemmas))
+
+-- the line of the tracks, and the lemmas after it
+abbrev pub count_at : ℕ → Kinds → List (List ℕ) → List ℕ → Result TrackCertificate LogFault
+count_at gaps k [] rest = Err fault.Cut
+count_at gaps k (line ∷ lines) rest = do
+  tracks ← or_fault (count_in (words_in line)) (fault.Line 4)
+  lemmas ← lemmas_at k 5 lines rest
+  Ok (record { gaps = gaps; tracks = tracks; lemmas = lemmas })
+
+-- the line of the gaps, and that of the tracks after it
+abbrev pub gaps_at : Kinds → List (List ℕ) → List ℕ → Result TrackCertificate LogFault
+gaps_at k [] rest = Err fault.Cut
+gaps_at k (line ∷ lines) rest = do
+  gaps ← or_fault (gaps_in (words_in line)) (fault.Line 3)
+  count_at gaps k lines rest
+
+-- the line of the name, and that of the gaps after it
+abbrev pub named_at : List ℕ → Kinds → List (List ℕ) → List ℕ → Result TrackCertificate LogFault
+named_at name k [] rest = Err fault.Cut
+named_at name k (line ∷ lines) rest = do
+  _ ← require (is_word line (codes "cell " ++ name)) fault.Cell
+  gaps_at k lines rest
+
+-- the line of the version, and that of the name after it
+abbrev pub text_at : List ℕ → Kinds → List (List ℕ) → List ℕ → Result TrackCertificate LogFault
+text_at name k [] rest = Err fault.Cut
+text_at name k (line ∷ lines) rest = do
+  _ ← require (is_word line version_line) fault.Version
+  named_at name k lines rest
+
+-- the certificate of the bytes, or their first fault
+unfoldable pub certificate_of : List ℕ → List ℕ → Kinds → Result TrackCertificate LogFault
+certificate_of bytes name k = text_at name k (lines_in bytes) (behind bytes)

@@ -1,0 +1,65 @@
+ghost use Rattle.std.specs.Prelude.{◌≡◌, ◌≤◌, ◌++◌, ◌∷◌, IfOk, OnOk, flat_map, map};
+ghost use Rattle.trail_log.specs.Listed.{each_in, list_in};
+ghost use Rattle.trail_log.specs.Spelling.{list_text};
+
+use crate::item::Item;
+use cell_num::{Bytes, List, MOST_NETS, NoMemory};
+use log_lines::{all_parts, is_word};
+use std::alloc::Global;
+
+// One item of each word, where each is one.
+#[tactic(auto, using(trail_log::proofs::Each::no_item, trail_log::proofs::Each::one_item, trail_log::proofs::Each::all_items))]
+fn each_of<T: Item>(alloc: Global, nets: u32, words: &[&[u8]]) -> Result<Option<List<T>>, NoMemory>
+    requires { nets ≤ MOST_NETS }
+    ensures { IfOk result (λ items. items ≡ each_in (T.said nets) (map (λ word. word.now) words.now)) }
+{
+    let mut items = List::new(alloc);
+    for word in words {
+        let Some(item) = T::read(nets, word) else {
+            return Ok(None);
+        };
+        items.push(item)?;
+    }
+    Ok(Some(items))
+}
+
+/// The items with commas between them; `-` for none.
+pub(crate) fn read_list<T: Item>(
+    alloc: Global,
+    nets: u32,
+    text: &[u8],
+) -> Result<Option<List<T>>, NoMemory>
+    requires { nets ≤ MOST_NETS }
+    ensures { IfOk result (λ items. items ≡ list_in 44 (T.said nets) text.now) }
+{
+    if is_word(text, b"-") {
+        return Ok(Some(List::new(alloc)));
+    }
+    let words = all_parts(alloc, text, b',')?;
+    let items = each_of(alloc, nets, words.as_slice())?;
+    Ok(items)
+}
+
+// Further items, each after its comma.
+fn put_more<T: Item>(out: &mut Bytes, items: &[T]) -> Result<(), NoMemory>
+    ensures { OnOk result (out.new ≡ out.old ++ flat_map (λ item. 44 ∷ T.spelling item) items.now) }
+{
+    for item in items {
+        out.push(b',')?;
+        item.put(out)?;
+    }
+    Ok(())
+}
+
+/// The items with commas between them; `-` for none.
+#[tactic(auto, using(crate::proofs::Items::items_apart))]
+pub(crate) fn put_list<T: Item>(out: &mut Bytes, items: &[T]) -> Result<(), NoMemory>
+    ensures { OnOk result (out.new ≡ out.old ++ list_text 44 (map T.spelling items.now)) }
+{
+    let [first, rest @ ..] = items else {
+        return out.extend(b"-");
+    };
+    first.put(out)?;
+    put_more(out, rest)?;
+    Ok(())
+}

@@ -1,0 +1,93 @@
+ghost use Rattle.std.specs.Prelude.{◌≡◌, ◌++◌, IfOk, Ok, OnOk};
+ghost use Rattle.std.specs.List.{flat_map};
+ghost use Rattle.row_state.specs.declared.kind.Kinds.{Kinds as KindsOf};
+ghost use Rattle.row_state.specs.Start.{AreSomeKinds};
+ghost use Rattle.bound_log.specs.Fits.{IsLogName};
+ghost use Rattle.bound_log.specs.Text.{gaps_line};
+ghost use Rattle.track_log.specs.Fits.{CertificateFits};
+ghost use Rattle.track_log.specs.Reading.{certificate_of};
+ghost use Rattle.track_log.specs.Text.{certificate_text, head_lines, lemma_line, tracks_line};
+
+use crate::TrackCertificate;
+use crate::state::put_state;
+use crate::tracks::put_net_tracks;
+use cell_num::{Bytes, Name, NoMemory, put_number};
+use std::alloc::Global;
+use track_lemmas::TrackLemma;
+
+fn put_head(out: &mut Bytes, name: &Name) -> Result<(), NoMemory>
+    ensures { OnOk result (out.new ≡ out.old ++ head_lines name.now) }
+{
+    out.extend(b"cellgen-tracks 1\ncell ")?;
+    out.extend(name.as_slice())?;
+    out.extend(b"\n")?;
+    Ok(())
+}
+
+fn put_gaps(out: &mut Bytes, gaps: u32) -> Result<(), NoMemory>
+    ensures { OnOk result (out.new ≡ out.old ++ gaps_line gaps) }
+{
+    out.extend(b"gaps ")?;
+    put_number(out, u64::from(gaps))?;
+    out.extend(b"\n")?;
+    Ok(())
+}
+
+fn put_tracks(out: &mut Bytes, tracks: u32) -> Result<(), NoMemory>
+    ensures { OnOk result (out.new ≡ out.old ++ tracks_line tracks) }
+{
+    out.extend(b"tracks ")?;
+    put_number(out, u64::from(tracks))?;
+    out.extend(b"\n")?;
+    Ok(())
+}
+
+fn put_lemma(out: &mut Bytes, lemma: &TrackLemma) -> Result<(), NoMemory>
+    ensures { OnOk result (out.new ≡ out.old ++ lemma_line lemma.now) }
+{
+    out.extend(b"lemma ")?;
+    put_number(out, u64::from(lemma.gaps))?;
+    out.extend(b" ")?;
+    put_state(out, &lemma.state)?;
+    out.extend(b" ")?;
+    put_net_tracks(out, &lemma.tracks)?;
+    out.extend(b"\n")?;
+    Ok(())
+}
+
+fn put_lemmas(out: &mut Bytes, lemmas: &[TrackLemma]) -> Result<(), NoMemory>
+    ensures { OnOk result (out.new ≡ out.old ++ flat_map lemma_line lemmas.now) }
+{
+    for lemma in lemmas {
+        put_lemma(out, lemma)?;
+    }
+    Ok(())
+}
+
+fn text(alloc: Global, name: &Name, certificate: &TrackCertificate) -> Result<Bytes, NoMemory>
+    ensures { IfOk result (λ text. text ≡ certificate_text name.now certificate.now) }
+{
+    let mut out = Bytes::new(alloc);
+    put_head(&mut out, name)?;
+    put_gaps(&mut out, certificate.gaps)?;
+    put_tracks(&mut out, certificate.tracks)?;
+    put_lemmas(&mut out, certificate.lemmas.as_slice())?;
+    out.extend(b"end\n")?;
+    Ok(out)
+}
+
+/// The text of a certificate for the cell of that name, which has 1 to 32 bytes and no line feed. Reading it gives the
+/// same certificate, for all kinds that it fits.
+pub fn write_tracks(
+    alloc: Global,
+    name: &Name,
+    certificate: &TrackCertificate,
+) -> Result<Vec<u8>, NoMemory>
+    requires name { IsLogName name.now }
+    ensures text { IfOk result (λ bytes. bytes.items ≡ certificate_text name.now certificate.now) }
+    ensures reads { IfOk result (λ bytes. (k : KindsOf) → AreSomeKinds k → CertificateFits k certificate.now →
+        certificate_of bytes.items name.now k ≡ Ok certificate.now) }
+{
+    let text = text(alloc, name, certificate)?;
+    Ok(text.into_vec())
+}

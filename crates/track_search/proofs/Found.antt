@@ -1,0 +1,222 @@
+-- The first completion along which tracks go, from that of the state after its first column.
+use Rattle.std.proofs.Common.{ℕ, zero, suc, ◌≡◌, ◌+◌, ◌-◌, ◌<◌, ◌≤◌, ◌⊎◌, ◌++◌, true, false, List, [], ◌∷◌, length, get_or, take, map, reverse, inl, inr, refl, sym, ap, subst, arith, All, Contains, ◌∙◌, IsPermutation}
+use Rattle.std.proofs.lemmas.Bool.{cases_order}
+use Rattle.std.proofs.lemmas.List.{get_or-map, get_or-take, get_or_default, length-map, length-take, reverse-append}
+use Rattle.std.proofs.lemmas.List.Elements.{All-contains, All-nil}
+use Rattle.std.proofs.lemmas.List.Sorted.{IsPermutation-refl}
+use Rattle.cell_num.specs.declared.finger.Finger.{Finger}
+use Rattle.cell_num.specs.declared.finger.Row.{Row}
+use Rattle.cell_num.specs.declared.finger.Row.TheVariants.{P, N}
+use Rattle.cell_num.specs.declared.net.NetNo.{NetNo}
+use Rattle.cell_num.specs.declared.net.Pins.{Pins}
+use Rattle.cell_num.proofs.Lists.{contains_here}
+use Rattle.cell_num.proofs.Pairs.{Some', some_from_any}
+use Rattle.row_model.specs.declared.column.Column.{Column}
+use Rattle.row_model.specs.Arrangement.{IsColumn}
+use Rattle.row_state.specs.declared.candidate.Candidate.{Candidate}
+use Rattle.row_state.specs.declared.kind.Kinds.{Kinds}
+use Rattle.row_state.specs.declared.state.State.{State}
+use Rattle.row_state.specs.declared.step.Step.{Step}
+use Rattle.row_state.specs.Candidates.{AreCandidates, candidate_steps}
+use Rattle.row_state.specs.Completion.{Completes, cost_of, fingers_left, further_gaps}
+use Rattle.row_state.specs.Gates.{most}
+use Rattle.row_state.specs.Order.{ColumnBefore, RowBefore}
+use Rattle.row_state.specs.Start.{AreSomeKinds, IsState}
+use Rattle.row_state.specs.Steps.{IsPossible, column_of, state_after}
+use Rattle.row_state.proofs.Digits.{among_candidates}
+use Rattle.row_state.proofs.Fewest.{most_none, most_same}
+use Rattle.row_state.proofs.Unfold.{further_step}
+use Rattle.row_state.proofs.Valid.{gates_are_nets}
+use Rattle.row_state.proofs.Calls.{valid_after}
+use Rattle.track_ways.specs.Paths.{Ends, Goes, Leads, Runs}
+use Rattle.track_ways.specs.Rows.{node_line}
+use Rattle.track_ways.specs.States.{is_behind, is_open_at, is_still_ahead}
+use Rattle.track_ways.specs.Tracks.{AreKeys, AreTracksOf, IsSingle, Listed}
+use Rattle.track_ways.specs.Ways.{ends_ways, goes_ways, nets_below}
+use Rattle.track_ways.specs.declared.track.NetTrack.{NetTrack}
+use Rattle.track_ways.proofs.Exact.{Passed, pass_exact}
+use Rattle.track_ways.proofs.Nets.{behind_among, end_among}
+use Rattle.track_ways.proofs.Path.{completes}
+use Rattle.track_ways.proofs.Steps.{step_all, step_only}
+use Rattle.track_ways.proofs.Whole.{again}
+use Rattle.track_lemmas.specs.declared.lemma.TrackLemma.{TrackLemma}
+use Rattle.track_lemmas.specs.Certificate.{AreJustified}
+use Rattle.track_lemmas.specs.Checked.{IsRefutedListed}
+use Rattle.track_lemmas.proofs.Sound.{Holds, lemmas_true, refuted_fails}
+use Rattle.track_check.specs.Steps.{StepFailsListed}
+use Rattle.track_search.specs.declared.ahead.Ahead.{Ahead}
+use Rattle.track_search.specs.First.{IsFirstRouted, IsRouted, RunsOn}
+use Rattle.track_search.specs.Visit.{AreTaken, AreWaysAt, EndsFail, EndsGo, GoOn, IsAhead, IsTaken, lemma_at}
+use Rattle.track_search.proofs.Grown.{WaysFail}
+use Rattle.track_search.proofs.Refuted.{refuted_listed}
+
+-- nothing runs from a way that is refuted
+refuted_none : (value : Row → State → Kinds → ℕ) (pins : Pins) (limit : ℕ) (k : Kinds) (lemmas : List TrackLemma) (s : State) (gaps : ℕ) (way : List NetTrack) (next : NetNo → ℕ) (steps : List Step) → AreSomeKinds k → Holds value k → AreJustified value pins limit k lemmas → IsState k s → AreTracksOf way next → IsRefutedListed value k lemmas s gaps way → Leads k s steps → further_gaps s (map (column_of k) steps) ≤ gaps → Runs pins limit k s next steps → ⊥
+refuted_none value pins limit k lemmas s gaps way next steps some law all state lie refuted leads within runs =
+    refuted_fails value pins limit k lemmas s gaps next (gates_are_nets k some) law (lemmas_true value pins limit k lemmas law some all) state (refuted_listed value k lemmas s gaps way next lie refuted) steps leads within runs
+
+-- what goes on after the first column
+record After (pins : Pins) (limit : ℕ) (k : Kinds) (s : State) (ways : List (List NetTrack)) (step : Step) (steps : List Step) : Type 0 where
+  pub way : List NetTrack
+  pub there : Contains ways way
+  pub next : List NetTrack
+  pub listed : Contains (goes_ways pins limit k s way step) next
+  pub track : NetNo → ℕ
+  pub lie : AreTracksOf next track
+  pub runs : Runs pins limit k (state_after k s step) track steps
+
+after_first : (pins : Pins) (limit : ℕ) (k : Kinds) (s : State) (ways : List (List NetTrack)) (step : Step) (steps : List Step) → RunsOn pins limit k s ways (step ∷ steps) → After pins limit k s ways step steps
+after_first pins limit k s ways step steps on = parts on.runs
+  where
+    parts : Runs pins limit k s on.track (step ∷ steps) → After pins limit k s ways step steps
+    parts (next, goes, more) =
+        let found : Some' (λ way. AreTracksOf way next) (goes_ways pins limit k s on.way step) = some_from_any (λ way. AreTracksOf way next) (goes_ways pins limit k s on.way step) (step_all pins limit k s step on.way on.track next on.lie goes) in
+        record { way = on.way; there = on.there; next = found.it; listed = found.there; track = next; lie = found.holds; runs = more }
+
+within_after : (cost left gaps further rest : ℕ) → cost + left ≡ gaps → further ≡ cost + rest → further ≤ gaps → rest ≤ left
+within_after cost left gaps further rest e f le = omega (arith, e, f, le)
+
+-- a completion through a column that fails
+routed_fails : (value : Row → State → Kinds → ℕ) (pins : Pins) (limit : ℕ) (k : Kinds) (lemmas : List TrackLemma) (s : State) (ways : List (List NetTrack)) (gaps : ℕ) (step : Step) (steps : List Step) → AreSomeKinds k → Holds value k → AreJustified value pins limit k lemmas → IsState k s → All (λ way. StepFailsListed value pins limit k lemmas (lemma_at s gaps way) step) ways → IsRouted pins limit k s ways gaps (step ∷ steps) → ⊥
+routed_fails value pins limit k lemmas s ways gaps step steps some law all state fails routed =
+    let further : further_gaps s (column_of k step ∷ map (column_of k) steps) ≡ cost_of s (column_of k step) + further_gaps (state_after k s step) (map (column_of k) steps) = further_step k s step (map (column_of k) steps) in
+    let sum : cost_of s (column_of k step) + (gaps - cost_of s (column_of k step)) ≡ gaps = omega (arith, further, routed.within) in
+    let a : After pins limit k s ways step steps = after_first pins limit k s ways step steps routed.on in
+    refuted_none value pins limit k lemmas (state_after k s step) (gaps - cost_of s (column_of k step)) a.next a.track steps some law all (valid_after k s step some state routed.leads.0) a.lie
+    (All-contains (IsRefutedListed value k lemmas (state_after k s step) (gaps - cost_of s (column_of k step))) (goes_ways pins limit k s a.way step) a.next
+    (All-contains (λ way. StepFailsListed value pins limit k lemmas (lemma_at s gaps way) step) ways a.way fails a.there (gaps - cost_of s (column_of k step)) routed.leads.0 sum) a.listed)
+    routed.leads.1 (within_after (cost_of s (column_of k step)) (gaps - cost_of s (column_of k step)) gaps _ _ sum further routed.within) a.runs
+
+-- a completion through the column goes on from the ways after it
+routed_after : (value : Row → State → Kinds → ℕ) (pins : Pins) (limit : ℕ) (k : Kinds) (lemmas : List TrackLemma) (s : State) (ways onward : List (List NetTrack)) (gaps left : ℕ) (step : Step) (steps : List Step) → AreSomeKinds k → Holds value k → AreJustified value pins limit k lemmas → IsState k s → cost_of s (column_of k step) + left ≡ gaps → All (AreTaken pins limit k lemmas s step (state_after k s step) left onward) ways → IsRouted pins limit k s ways gaps (step ∷ steps) → IsRouted pins limit k (state_after k s step) onward left steps
+routed_after value pins limit k lemmas s ways onward gaps left step steps some law all state sum taken routed =
+    let further : further_gaps s (column_of k step ∷ map (column_of k) steps) ≡ cost_of s (column_of k step) + further_gaps (state_after k s step) (map (column_of k) steps) = further_step k s step (map (column_of k) steps) in
+    let within : further_gaps (state_after k s step) (map (column_of k) steps) ≤ left = within_after (cost_of s (column_of k step)) left gaps _ _ sum further routed.within in
+    let a : After pins limit k s ways step steps = after_first pins limit k s ways step steps routed.on in
+    let t : IsTaken lemmas (state_after k s step) left onward a.next = All-contains (IsTaken lemmas (state_after k s step) left onward) (goes_ways pins limit k s a.way step) a.next (All-contains (AreTaken pins limit k lemmas s step (state_after k s step) left onward) ways a.way taken a.there) a.listed in
+    record {
+      leads = routed.leads.1;
+      within = within;
+      on = elim t [
+        | inl any ↦ absurd (refuted_none value pins limit k lemmas (state_after k s step) left a.next a.track steps some law all (valid_after k s step some state routed.leads.0) a.lie (inr any) routed.leads.1 within a.runs)
+        | inr there ↦ record { way = a.next; there = there; track = a.track; lie = a.lie; runs = a.runs }
+      ];
+    }
+
+-- two tracks of a way are the same for the open nets
+same_open : (pins : Pins) (k : Kinds) (s : State) (way : List NetTrack) (track other : NetNo → ℕ) → AreKeys pins (is_behind k s) (is_still_ahead k s) way → AreTracksOf way track → AreTracksOf way other → (net : NetNo) → is_open_at pins k s net ≡ true → track net ≡ other net
+same_open pins k s way track other keys lie also net open' =
+    let l : Listed way net = keys.each net open' in
+    let mine : track l.it.net ≡ l.it.track = All-contains (λ (t : NetTrack). track t.net ≡ t.track) way l.it lie l.there in
+    let its : other l.it.net ≡ l.it.track = All-contains (λ (t : NetTrack). other t.net ≡ t.track) way l.it also l.there in
+    subst (λ n. track n ≡ other n) l.is (mine ∙ sym its)
+
+-- a completion after the column is one through it
+routed_through : (pins : Pins) (limit : ℕ) (k : Kinds) (s : State) (ways onward : List (List NetTrack)) (gaps left : ℕ) (step : Step) (steps : List Step) → AreSomeKinds k → IsState k s → IsPossible k s step → cost_of s (column_of k step) + left ≡ gaps → AreWaysAt pins k s ways → AreWaysAt pins k (state_after k s step) onward → All (GoOn pins limit k s step ways) onward → IsRouted pins limit k (state_after k s step) onward left steps → IsRouted pins limit k s ways gaps (step ∷ steps)
+routed_through pins limit k s ways onward gaps left step steps some state possible sum keys after from routed =
+    let on : RunsOn pins limit k (state_after k s step) onward steps = routed.on in
+    let of : Some' (λ way. Contains (goes_ways pins limit k s way step) on.way) ways = some_from_any (λ way. Contains (goes_ways pins limit k s way step) on.way) ways (All-contains (GoOn pins limit k s step ways) onward on.way from on.there) in
+    let own : AreKeys pins (is_behind k s) (is_still_ahead k s) of.it = All-contains (AreKeys pins (is_behind k s) (is_still_ahead k s)) ways of.it keys of.there in
+    let only : (track : NetNo → ℕ) × (next : NetNo → ℕ) × AreTracksOf of.it track × Goes pins limit k s track step next × AreTracksOf on.way next = step_only pins limit k s step of.it on.way some state own.one of.holds in
+    record {
+      leads = (possible, routed.leads);
+      within = omega (arith, further_step k s step (map (column_of k) steps), routed.within, sum);
+      on = record {
+        way = of.it;
+        there = of.there;
+        track = only.0;
+        lie = only.2;
+        runs = (
+          only.1,
+          only.3,
+          again pins limit k (state_after k s step) on.track only.1 steps (gates_are_nets k some) routed.leads
+              (same_open pins k (state_after k s step) on.way on.track only.1 (All-contains (AreKeys pins (is_behind k (state_after k s step)) (is_still_ahead k (state_after k s step))) onward on.way after on.there) on.lie only.4) on.runs,
+        );
+      };
+    }
+
+-- the order of two rows that begin with next columns, by the places of these
+ordered : (k : Kinds) (steps : List Step) (i j : ℕ) (a b d : Step) (rest cs : List Column) → ((i j : ℕ) (d : Step) → i < j → j < length steps → ColumnBefore (column_of k (get_or steps i d)) (column_of k (get_or steps j d))) → get_or steps i d ≡ a → get_or steps j d ≡ b → j < length steps → (j < i → ⊥) → (a ≡ b → (rest ≡ cs) ⊎ RowBefore rest cs) → (column_of k a ∷ rest ≡ column_of k b ∷ cs) ⊎ RowBefore (column_of k a ∷ rest) (column_of k b ∷ cs)
+ordered k steps i j a b d rest cs order here there within not_before same =
+    elim (cases_order i j) [
+      | inl e ↦
+          let is : a ≡ b = sym here ∙ ap (λ (n : ℕ). get_or steps n d) e ∙ there in
+          elim (same is) [
+            | inl equal ↦ inl (ap (λ (z : Step). column_of k z ∷ rest) is ∙ ap (λ r. column_of k b ∷ r) equal)
+            | inr before ↦ inr (inr (ap (column_of k) is, before))
+          ]
+      | inr other ↦ elim other [
+        | inl less ↦ inr (inl (subst (λ z. ColumnBefore z (column_of k b)) (ap (column_of k) here) (subst (λ z. ColumnBefore (column_of k (get_or steps i d)) z) (ap (column_of k) there) (order i j d less within))))
+        | inr more ↦ absurd (not_before more)
+      ]
+    ]
+
+no_rows : (k : Kinds) (s : State) (c : Column) (cs : List Column) → Completes k s [] → Completes k s (c ∷ cs) → ⊥
+no_rows k s c cs none some = omega (arith, none.fewest, some.fewest)
+
+first_with : (value : Row → State → Kinds → ℕ) (pins : Pins) (limit : ℕ) (k : Kinds) (lemmas : List TrackLemma) (s : State) (ways onward : List (List NetTrack)) (gaps left : ℕ) (items : List Candidate) (i : ℕ) (d : Candidate) (rest : List Step) → AreSomeKinds k → Holds value k → AreJustified value pins limit k lemmas → IsState k s → AreCandidates k items → i < length items → All (WaysFail value pins limit k lemmas s gaps ways) (take i items) → cost_of s (column_of k (get_or items i d).step) + left ≡ gaps → All (AreTaken pins limit k lemmas s (get_or items i d).step (state_after k s (get_or items i d).step) left onward) ways → IsFirstRouted pins limit k (state_after k s (get_or items i d).step) onward left rest → Completes k s (column_of k (get_or items i d).step ∷ map (column_of k) rest) → (other : List Step) → IsRouted pins limit k s ways gaps other → (column_of k (get_or items i d).step ∷ map (column_of k) rest ≡ map (column_of k) other) ⊎ RowBefore (column_of k (get_or items i d).step ∷ map (column_of k) rest) (map (column_of k) other)
+first_with value pins limit k lemmas s ways onward gaps left items i d rest some law all state are within fails sum taken h whole [] routed = absurd (no_rows k s _ _ routed.leads whole)
+first_with value pins limit k lemmas s ways onward gaps left items i d rest some law all state are within fails sum taken h whole (z ∷ zs) routed =
+    let steps : List Step = candidate_steps items in
+    let there : Contains steps z = among_candidates k items s z are state routed.leads.0 in
+    let j : ℕ = there.0 in
+    let inside : j < length items = omega (arith, there.1, length-map items (λ (c : Candidate). c.step)) in
+    let here : get_or steps i d.step ≡ (get_or items i d).step = get_or-map (λ (c : Candidate). c.step) items i d d.step within in
+    let is_z : get_or steps j d.step ≡ z = get_or_default steps j d.step z there.1 ∙ there.2 in
+    let item : (get_or items j d).step ≡ z = sym (get_or-map (λ (c : Candidate). c.step) items j d d.step inside) ∙ is_z in
+    ordered k steps i j (get_or items i d).step z d.step (map (column_of k) rest) (map (column_of k) zs) are.steps.order here is_z there.1
+    (λ less.
+    let shorter : j < length (take i items) = omega (arith, length-take i items, less, within) in
+    let bad : WaysFail value pins limit k lemmas s gaps ways (get_or items j d) = subst (WaysFail value pins limit k lemmas s gaps ways) (get_or-take i items j d less) (fails j d shorter) in
+    routed_fails value pins limit k lemmas s ways gaps z zs some law all state (subst (λ (y : Step). All (λ way. StepFailsListed value pins limit k lemmas (lemma_at s gaps way) y) ways) item bad) routed)
+    (λ same. h.first zs (routed_after value pins limit k lemmas s ways onward gaps left (get_or items i d).step zs some law all state sum taken (subst (λ (y : Step). IsRouted pins limit k s ways gaps (y ∷ zs)) (sym same) routed)))
+
+-- the first completion after the first column that does not fail is the first of the state
+pub first_through : (value : Row → State → Kinds → ℕ) (pins : Pins) (limit : ℕ) (k : Kinds) (lemmas : List TrackLemma) (s : State) (ways onward : List (List NetTrack)) (gaps : ℕ) (ahead : Ahead) (items : List Candidate) (i : ℕ) (d : Candidate) (rest pushed : List Step) → AreSomeKinds k → Holds value k → AreJustified value pins limit k lemmas → IsState k s → AreCandidates k items → AreWaysAt pins k s ways → AreWaysAt pins k (state_after k s (get_or items i d).step) onward → i < length items → All (WaysFail value pins limit k lemmas s gaps ways) (take i items) → IsAhead k s gaps (get_or items i d).step ahead → All (AreTaken pins limit k lemmas s (get_or items i d).step ahead.state.state ahead.left onward) ways → All (GoOn pins limit k s (get_or items i d).step ways) onward → IsFirstRouted pins limit k ahead.state.state onward ahead.left (reverse rest) → pushed ≡ rest ++ (get_or items i d).step ∷ [] → IsFirstRouted pins limit k s ways gaps (reverse pushed)
+first_through value pins limit k lemmas s ways onward gaps ahead items i d rest pushed some law all state are keys after within fails a taken from h is =
+    let step : Step = (get_or items i d).step in
+    let taken' : All (AreTaken pins limit k lemmas s step (state_after k s step) ahead.left onward) ways = subst (λ z. All (AreTaken pins limit k lemmas s step z ahead.left onward) ways) a.state taken in
+    let h' : IsFirstRouted pins limit k (state_after k s step) onward ahead.left (reverse rest) = subst (λ z. IsFirstRouted pins limit k z onward ahead.left (reverse rest)) a.state h in
+    let routed : IsRouted pins limit k s ways gaps (step ∷ reverse rest) = routed_through pins limit k s ways onward gaps ahead.left step (reverse rest) some state a.possible a.left keys after from h'.routed in
+    subst (IsFirstRouted pins limit k s ways gaps) (sym (ap reverse is ∙ reverse-append rest (step ∷ [])))
+    (record {
+      routed = routed;
+      first = first_with value pins limit k lemmas s ways onward gaps ahead.left items i d (reverse rest) some law all state are within fails a.left taken' h' (completes k s (step ∷ reverse rest) (gates_are_nets k some) routed.leads);
+    })
+
+nil_of : {X : Type 0} (xs : List X) → length xs ≡ 0 → xs ≡ []
+nil_of [] e = refl
+nil_of (x ∷ xs) e = absurd (omega (arith, e))
+
+nil_perm : (xs : List Finger) → length xs ≡ 0 → IsPermutation xs []
+nil_perm xs e = subst (λ ys. IsPermutation xs ys) (nil_of xs e) (IsPermutation-refl xs)
+
+none_of_both : (a b : ℕ) → (0 < a + b → ⊥) → (a ≡ 0) × (b ≡ 0)
+none_of_both zero zero none = (refl, refl)
+none_of_both (suc a) b none = absurd (none (omega arith))
+none_of_both zero (suc b) none = absurd (none (omega arith))
+
+-- a way from which tracks go through the last line
+end_runs : (pins : Pins) (limit : ℕ) (k : Kinds) (s : State) (way : List NetTrack) (found : List (List NetTrack)) → AreSomeKinds k → IsState k s → IsSingle way → ends_ways pins limit k s way ≡ found → (found ≡ [] → ⊥) → (track : NetNo → ℕ) × AreTracksOf way track × Ends pins limit k s track
+end_runs pins limit k s way [] some state one is go = absurd (go refl)
+end_runs pins limit k s way (x ∷ xs) some state one is go =
+    let p : Passed pins limit (is_behind k s) (node_line s.p_end s.n_end ∷ []) (λ net. false) way x = pass_exact pins limit (nets_below k.nets) (is_behind k s) (node_line s.p_end s.n_end ∷ []) (λ net. false) way x one (behind_among k s some) (end_among k s state) (subst (λ zs. Contains zs x) (sym is) (contains_here x xs)) in
+    (p.track, p.from, (p.last, p.passes))
+
+-- with no finger left the empty list is the first
+pub first_at_end : (pins : Pins) (limit : ℕ) (k : Kinds) (s : State) (ways : List (List NetTrack)) (gaps : ℕ) (steps : List Step) → AreSomeKinds k → IsState k s → AreWaysAt pins k s ways → EndsGo pins limit k s ways → steps ≡ [] → IsFirstRouted pins limit k s ways gaps (reverse steps)
+first_at_end pins limit k s ways gaps steps some state keys ends is =
+    let none : (length (fingers_left P k.p s.p_left) ≡ 0) × (length (fingers_left N k.n s.n_left) ≡ 0) = none_of_both (length (fingers_left P k.p s.p_left)) (length (fingers_left N k.n s.n_left)) ends.none in
+    let no_columns : most (fingers_left P k.p s.p_left) (fingers_left N k.n s.n_left) k.nets ≡ 0 = most_same _ _ _ _ k.nets (nil_perm (fingers_left P k.p s.p_left) none.0) (nil_perm (fingers_left N k.n s.n_left) none.1) ∙ most_none k.nets in
+    let go : Some' (λ way. EndsFail pins limit k s way → ⊥) ways = some_from_any (λ way. EndsFail pins limit k s way → ⊥) ways ends.go in
+    let own : AreKeys pins (is_behind k s) (is_still_ahead k s) go.it = All-contains (AreKeys pins (is_behind k s) (is_still_ahead k s)) ways go.it keys go.there in
+    let last : (track : NetNo → ℕ) × AreTracksOf go.it track × Ends pins limit k s track = end_runs pins limit k s go.it (ends_ways pins limit k s go.it) some state own.one refl go.holds in
+    subst (λ zs. IsFirstRouted pins limit k s ways gaps (reverse zs)) (sym is)
+    (record {
+      routed = record {
+        leads = record { columns = All-nil IsColumn; p = nil_perm (fingers_left P k.p s.p_left) none.0; n = nil_perm (fingers_left N k.n s.n_left) none.1; fewest = sym no_columns };
+        within = omega arith;
+        on = record { way = go.it; there = go.there; track = last.0; lie = last.1; runs = last.2 };
+      };
+      first = λ other routed. inl (sym (nil_of (map (column_of k) other) ((completes k s other (gates_are_nets k some) routed.leads).fewest ∙ no_columns)));
+    })

@@ -1,0 +1,96 @@
+-- What loops over lists show.
+use Rattle.std.proofs.Common.{ℕ, ◌≡◌, ◌+◌, ◌<◌, ◌≤◌, ◌↔◌, ◌==◌, ◌++◌, true, List, [], ◌∷◌, length, get_or, take, take_all, inl, inr, refl, sym, ap, subst, arith, All, Contains, ◌∙◌, append_assoc, append-nil}
+use Rattle.std.specs.Prelude.{IsTrue}
+use Rattle.std.specs.Bool.{Decides}
+use Rattle.std.specs.Cmp.Lexicographic.{pointwise, pointwise_decides}
+use Rattle.std.proofs.lemmas.Bool.{and_from, and_parts, eq-eqb, eqb-true}
+use Rattle.std.proofs.lemmas.List.Elements.{All-nil, All-append, All-contains, All-more, All-push, All-weaker, Contains-append_left, Contains-append_right}
+use Rattle.cell_num.specs.declared.net.NetNo.{NetNo}
+use Rattle.cell_num.specs.declared.net.Pins.{Pins}
+use Rattle.cell_num.proofs.Lists.{all_from_contains, all_imply, contains_here}
+use Rattle.cell_num.proofs.Pairs.{any_at}
+use Rattle.row_state.specs.declared.kind.Kinds.{Kinds}
+use Rattle.row_state.specs.declared.step.Step.{Step}
+use Rattle.row_state.specs.declared.state.State.{State}
+use Rattle.track_ways.specs.Ways.{goes_ways}
+use Rattle.track_ways.specs.declared.track.NetTrack.{NetTrack}
+use Rattle.track_ways.proofs.Complete.{net_same}
+use Rattle.track_lemmas.specs.declared.lemma.TrackLemma.{TrackLemma}
+use Rattle.track_search.specs.Visit.{AreAdded, AreTaken, GoOn, IsTaken, same_track}
+
+no_items : {X : Type 0} (xs : List X) → length xs ≡ 0 → xs ≡ []
+no_items [] e = refl
+no_items (x ∷ xs) e = absurd (omega (arith, e))
+
+pub no_ways : {X : Type 0} (xs : List X) (n : ℕ) → n ≡ length xs → IsTrue (n == 0) ↔ (xs ≡ [])
+no_ways xs n is = (
+  λ e. no_items xs (sym is ∙ eqb-true n 0 e),
+  λ none. eq-eqb n 0 (is ∙ subst (λ ys. length ys ≡ 0) (sym none) refl),
+)
+
+-- nothing holds of the items of an empty list
+pub all_of_none : {X : Type 0} (P : X → Type 0) (xs : List X) (n : ℕ) → n ≡ length xs → n ≡ 0 → All P xs
+all_of_none P xs n is none = subst (All P) (sym (no_items xs (sym is ∙ none))) (All-nil P)
+
+-- an item of the list, as the loop names it
+pub there_at : {X : Type 0} (xs : List X) (i : ℕ) (x y : X) → x ≡ get_or xs i x → i < length xs → x ≡ y → Contains xs y
+there_at xs i x y is within e = (i, within, subst (λ z. get_or xs i z ≡ z) e (sym is))
+
+taken_grown : (lemmas : List TrackLemma) (s : State) (left : ℕ) (xs ys : List (List NetTrack)) (more : List (List NetTrack)) → ys ≡ xs ++ more → (way : List NetTrack) → IsTaken lemmas s left xs way → IsTaken lemmas s left ys way
+taken_grown lemmas s left xs ys more is way (inl known) = inl known
+taken_grown lemmas s left xs ys more is way (inr there) = inr (subst (λ zs. Contains zs way) (sym is) (Contains-append_left xs more way there))
+
+pub all_taken_grown : (lemmas : List TrackLemma) (s : State) (left : ℕ) (xs ys more ways : List (List NetTrack)) → ys ≡ xs ++ more → All (IsTaken lemmas s left xs) ways → All (IsTaken lemmas s left ys) ways
+all_taken_grown lemmas s left xs ys more ways is all = All-weaker (IsTaken lemmas s left xs) (IsTaken lemmas s left ys) (taken_grown lemmas s left xs ys more is) ways all
+
+pub added_none : (lemmas : List TrackLemma) (s : State) (left : ℕ) (found ways : List (List NetTrack)) → AreAdded lemmas s left found [] ways ways
+added_none lemmas s left found ways = record { more = []; is = sym (append-nil ways); from = All-nil (Contains found); taken = All-nil (IsTaken lemmas s left ways) }
+
+-- one more found way that is taken already
+pub added_taken : (lemmas : List TrackLemma) (s : State) (left : ℕ) (found before after : List (List NetTrack)) (i : ℕ) (x : List NetTrack) → x ≡ get_or found i x → i < length found → AreAdded lemmas s left found (take i found) before after → IsTaken lemmas s left after x → AreAdded lemmas s left found (take (i + 1) found) before after
+added_taken lemmas s left found before after i x is within h taken =
+    record { more = h.more; is = h.is; from = h.from; taken = All-more (IsTaken lemmas s left after) found i x within h.taken (subst (IsTaken lemmas s left after) is taken) }
+
+-- one more that is added
+pub added_push : (lemmas : List TrackLemma) (s : State) (left : ℕ) (found before after pushed : List (List NetTrack)) (i : ℕ) (x : List NetTrack) → x ≡ get_or found i x → i < length found → AreAdded lemmas s left found (take i found) before after → pushed ≡ after ++ x ∷ [] → AreAdded lemmas s left found (take (i + 1) found) before pushed
+added_push lemmas s left found before after pushed i x is within h e =
+    let there : Contains pushed x = subst (λ zs. Contains zs x) (sym e) (Contains-append_right after (x ∷ []) x (contains_here x [])) in
+    record {
+      more = h.more ++ x ∷ [];
+      is = e ∙ ap (λ zs. zs ++ x ∷ []) h.is ∙ append_assoc before h.more (x ∷ []);
+      from = All-push (Contains found) h.more x h.from (i, within, sym is);
+      taken = All-more (IsTaken lemmas s left pushed) found i x within (all_taken_grown lemmas s left after pushed (x ∷ []) (take i found) e h.taken) (subst (IsTaken lemmas s left pushed) is (inr there));
+    }
+
+pub added_all : (lemmas : List TrackLemma) (s : State) (left : ℕ) (found before after : List (List NetTrack)) (i : ℕ) → length found ≤ i → AreAdded lemmas s left found (take i found) before after → AreAdded lemmas s left found found before after
+added_all lemmas s left found before after i past h = subst (λ done. AreAdded lemmas s left found done before after) (take_all i found past) h
+
+-- one more way before the column, with all its ways after it
+pub onward_more : (pins : Pins) (limit : ℕ) (k : Kinds) (lemmas : List TrackLemma) (s : State) (step : Step) (after : State) (left : ℕ) (ways items before new found : List (List NetTrack)) (i : ℕ) (x : List NetTrack) → items ≡ ways → x ≡ get_or items i x → i < length items → found ≡ goes_ways pins limit k s x step → All (AreTaken pins limit k lemmas s step after left before) (take i items) × All (GoOn pins limit k s step ways) before → AreAdded lemmas after left found found before new → All (AreTaken pins limit k lemmas s step after left new) (take (i + 1) items) × All (GoOn pins limit k s step ways) new
+onward_more pins limit k lemmas s step after left ways items before new found i x same is within are h a = (
+  All-more (AreTaken pins limit k lemmas s step after left new) items i x within
+      (all_imply (AreTaken pins limit k lemmas s step after left before) (AreTaken pins limit k lemmas s step after left new) (take i items) (λ w all. all_taken_grown lemmas after left before new a.more (goes_ways pins limit k s w step) a.is all) h.0)
+      (subst (AreTaken pins limit k lemmas s step after left new) is (subst (All (IsTaken lemmas after left new)) are a.taken)),
+  subst (All (GoOn pins limit k s step ways)) (sym a.is) (All-append (GoOn pins limit k s step ways) before a.more h.1
+      (all_from_contains (GoOn pins limit k s step ways) a.more (λ next there.
+      any_at (λ way. Contains (goes_ways pins limit k s way step) next) ways x (subst (λ zs. Contains zs x) same (i, within, sym is)) (subst (λ fs. Contains fs next) are (All-contains (Contains found) a.more next a.from there))))),
+)
+
+make_track : NetNo → ℕ → NetTrack
+make_track net track = record { net = net; track = track }
+
+made_track : {a b : NetNo} {i j : ℕ} → a ≡ b → i ≡ j → make_track a i ≡ make_track b j
+made_track e f = cc
+
+track_is : (t u : NetTrack) → same_track t u ≡ true → t ≡ u
+unfolding make_track
+track_is t u e =
+    let parts : ((t.net.0 == u.net.0) ≡ true) × ((t.track == u.track) ≡ true) = and_parts (t.net.0 == u.net.0) (t.track == u.track) e in
+    let whole : make_track t.net t.track ≡ make_track u.net u.track = made_track (net_same t.net u.net (eqb-true t.net.0 u.net.0 parts.0)) (eqb-true t.track u.track parts.1) in
+    whole
+
+track_decides : (t u : NetTrack) → Decides (same_track t u) (t ≡ u)
+track_decides t u = (track_is t u, λ same. and_from (t.net.0 == u.net.0) (t.track == u.track) (eq-eqb t.net.0 u.net.0 (ap (λ (z : NetTrack). z.net.0) same)) (eq-eqb t.track u.track (ap (λ (z : NetTrack). z.track) same)))
+
+pub tracks_are : (a b : List NetTrack) → pointwise same_track a b ≡ true → a ≡ b
+tracks_are a b e = (pointwise_decides track_decides a b).0 e

@@ -1,0 +1,93 @@
+-- What lemmas say of ways stays said when there are more of them, and is true.
+use Rattle.std.proofs.Common.{ℕ, ◌≡◌, ◌++◌, List, [], ◌∷◌, length, get_or, take, map, inl, inr, refl, sym, subst, arith, Some, slice_get, All, Any, Contains, length-append, append_assoc, append-nil}
+use Rattle.std.proofs.lemmas.Bool.{cases_lt}
+use Rattle.std.proofs.Math.Seq.{get_or-append_seam, take-append_seam}
+use Rattle.std.proofs.lemmas.List.{take-append-le, get_or_append_left}
+use Rattle.std.proofs.lemmas.List.Elements.{All-contains, All-head, All-tail, All-weaker}
+use Rattle.cell_num.specs.declared.finger.Row.{Row}
+use Rattle.cell_num.specs.declared.net.NetNo.{NetNo}
+use Rattle.cell_num.specs.declared.net.Pins.{Pins}
+use Rattle.cell_num.proofs.Lists.{all_from_contains, contains_get}
+use Rattle.cell_num.proofs.Pairs.{Some', any_append_left, any_at, any_from_some, some_from_any}
+use Rattle.row_state.specs.declared.kind.Kinds.{Kinds}
+use Rattle.row_state.specs.declared.state.State.{State}
+use Rattle.row_state.specs.declared.step.Step.{Step}
+use Rattle.row_state.specs.Start.{AreSomeKinds}
+use Rattle.row_state.specs.Steps.{state_after}
+use Rattle.track_ways.specs.declared.track.NetTrack.{NetTrack}
+use Rattle.track_ways.specs.Tracks.{AreTracksOf}
+use Rattle.track_ways.specs.Ways.{goes_ways}
+use Rattle.track_lemmas.specs.declared.lemma.TrackLemma.{TrackLemma}
+use Rattle.track_lemmas.specs.Certificate.{AreJustified, Covers, IsJustified, IsRefuted, IsValid}
+use Rattle.track_lemmas.specs.Checked.{CoversListed, IsJustifiedListed, IsRefutedListed}
+use Rattle.track_lemmas.proofs.Checked.{justified_decided}
+use Rattle.track_check.specs.Steps.{StepFailsListed}
+use Rattle.track_search.specs.Visit.{lemma_at}
+
+refuted_more : (value : Row → State → Kinds → ℕ) (k : Kinds) (xs ys more : List TrackLemma) (s : State) (gaps : ℕ) → ys ≡ xs ++ more → (way : List NetTrack) → IsRefutedListed value k xs s gaps way → IsRefutedListed value k ys s gaps way
+refuted_more value k xs ys more s gaps is way (inl d) = inl d
+refuted_more value k xs ys more s gaps is way (inr any) = inr (subst (Any (CoversListed s gaps way)) (sym is) (any_append_left (CoversListed s gaps way) xs more any))
+
+all_refuted_more : (value : Row → State → Kinds → ℕ) (k : Kinds) (xs ys more : List TrackLemma) (s : State) (gaps : ℕ) (ways : List (List NetTrack)) → ys ≡ xs ++ more → All (IsRefutedListed value k xs s gaps) ways → All (IsRefutedListed value k ys s gaps) ways
+all_refuted_more value k xs ys more s gaps ways is all = All-weaker (IsRefutedListed value k xs s gaps) (IsRefutedListed value k ys s gaps) (refuted_more value k xs ys more s gaps is) ways all
+
+pub step_fails_more : (value : Row → State → Kinds → ℕ) (pins : Pins) (limit : ℕ) (k : Kinds) (xs ys more : List TrackLemma) (lemma : TrackLemma) (step : Step) → ys ≡ xs ++ more → StepFailsListed value pins limit k xs lemma step → StepFailsListed value pins limit k ys lemma step
+step_fails_more value pins limit k xs ys more lemma step is h left possible sum =
+    all_refuted_more value k xs ys more (state_after k lemma.state step) left (goes_ways pins limit k lemma.state lemma.tracks step) is (h left possible sum)
+
+justified_more : (value : Row → State → Kinds → ℕ) (pins : Pins) (limit : ℕ) (k : Kinds) (xs ys more : List TrackLemma) (lemma : TrackLemma) → ys ≡ xs ++ more → IsJustifiedListed value pins limit k xs lemma → IsJustifiedListed value pins limit k ys lemma
+justified_more value pins limit k xs ys more lemma is h = record {
+  valid = h.valid;
+  holds = elim h.holds [
+    | inl d ↦ inl d
+    | inr b ↦ inr (record {
+      steps = λ step left possible sum. all_refuted_more value k xs ys more (state_after k lemma.state step) left (goes_ways pins limit k lemma.state lemma.tracks step) is (b.steps step left possible sum);
+      ends = b.ends;
+    })
+  ];
+}
+
+all_valid : (value : Row → State → Kinds → ℕ) (pins : Pins) (limit : ℕ) (k : Kinds) (xs : List TrackLemma) → AreJustified value pins limit k xs → All (IsValid pins k) xs
+all_valid value pins limit k xs all i d within = (all i d within).valid
+
+justified_push : (value : Row → State → Kinds → ℕ) (pins : Pins) (limit : ℕ) (k : Kinds) (xs : List TrackLemma) (x : TrackLemma) → AreJustified value pins limit k xs → IsJustified value pins limit k xs x → AreJustified value pins limit k (xs ++ x ∷ [])
+justified_push value pins limit k xs x all here i d within =
+    elim (cases_lt i (length xs)) [
+      | inl less ↦
+          let e : take i (xs ++ x ∷ []) ≡ take i xs = take-append-le i xs (x ∷ []) (omega arith) in
+          let f : get_or (xs ++ x ∷ []) i d ≡ get_or xs i d = get_or_append_left xs (x ∷ []) d i less in
+          subst (λ y. IsJustified value pins limit k (take i (xs ++ x ∷ [])) y) (sym f) (subst (λ ys. IsJustified value pins limit k ys (get_or xs i d)) (sym e) (all i d less))
+      | inr more ↦
+          let at : length xs ≡ i = omega (arith, length-append xs (x ∷ []), within) in
+          subst (λ n. IsJustified value pins limit k (take n (xs ++ x ∷ [])) (get_or (xs ++ x ∷ []) n d)) at
+          (subst (λ y. IsJustified value pins limit k (take (length xs) (xs ++ x ∷ [])) y) (sym (get_or-append_seam xs x [] d)) (subst (λ ys. IsJustified value pins limit k ys x) (sym (take-append_seam xs (x ∷ []))) here))
+    ]
+
+-- a lemma more for each of some ways
+pub kept_all : (value : Row → State → Kinds → ℕ) (pins : Pins) (limit : ℕ) (k : Kinds) (some : AreSomeKinds k) (s : State) (gaps : ℕ) (ways : List (List NetTrack)) (xs : List TrackLemma) → AreJustified value pins limit k xs → All (λ way. IsJustifiedListed value pins limit k xs (lemma_at s gaps way)) ways → AreJustified value pins limit k (xs ++ map (lemma_at s gaps) ways)
+kept_all value pins limit k some s gaps [] xs all each = subst (AreJustified value pins limit k) (sym (append-nil xs)) all
+kept_all value pins limit k some s gaps (way ∷ ways) xs all each =
+    let here : IsJustifiedListed value pins limit k xs (lemma_at s gaps way) = All-head (λ way. IsJustifiedListed value pins limit k xs (lemma_at s gaps way)) way ways each in
+    let rest : All (λ way. IsJustifiedListed value pins limit k xs (lemma_at s gaps way)) ways = All-tail (λ way. IsJustifiedListed value pins limit k xs (lemma_at s gaps way)) way ways each in
+    let one : AreJustified value pins limit k (xs ++ lemma_at s gaps way ∷ []) = justified_push value pins limit k xs (lemma_at s gaps way) all ((justified_decided value pins limit k xs (lemma_at s gaps way) some (all_valid value pins limit k xs all)).1 here) in
+    subst (AreJustified value pins limit k) (append_assoc xs (lemma_at s gaps way ∷ []) (map (lemma_at s gaps) ways))
+    (kept_all value pins limit k some s gaps ways (xs ++ lemma_at s gaps way ∷ []) one
+    (All-weaker (λ way. IsJustifiedListed value pins limit k xs (lemma_at s gaps way)) (λ w. IsJustifiedListed value pins limit k (xs ++ lemma_at s gaps way ∷ []) (lemma_at s gaps w)) (λ w h. justified_more value pins limit k xs (xs ++ lemma_at s gaps way ∷ []) (lemma_at s gaps way ∷ []) (lemma_at s gaps w) refl h) ways rest))
+
+pub covered_at : (s : State) (gaps : ℕ) (way : List NetTrack) (lemmas : List TrackLemma) (at : ℕ) (lemma : TrackLemma) → slice_get lemmas at ≡ Some lemma → CoversListed s gaps way lemma → Any (CoversListed s gaps way) lemmas
+covered_at s gaps way lemmas at lemma is covers = any_at (CoversListed s gaps way) lemmas lemma (contains_get lemmas at lemma is) covers
+
+-- the tracks of a way that a lemma speaks of
+pub refuted_listed : (value : Row → State → Kinds → ℕ) (k : Kinds) (lemmas : List TrackLemma) (s : State) (gaps : ℕ) (way : List NetTrack) (next : NetNo → ℕ) → AreTracksOf way next → IsRefutedListed value k lemmas s gaps way → IsRefuted value k lemmas s gaps next
+refuted_listed value k lemmas s gaps way next have (inl d) = inl d
+refuted_listed value k lemmas s gaps way next have (inr any) =
+    let found : Some' (CoversListed s gaps way) lemmas = some_from_any (CoversListed s gaps way) lemmas any in
+    inr (any_from_some (Covers s gaps next) lemmas (record {
+      it = found.it;
+      there = found.there;
+      holds = record {
+        state = found.holds.state;
+        enough = found.holds.enough;
+        tracks = all_from_contains (λ (t : NetTrack). next t.net ≡ t.track) found.it.tracks (λ t there. All-contains (λ (t : NetTrack). next t.net ≡ t.track) way t have (All-contains (Contains way) found.it.tracks t found.holds.tracks there));
+      };
+    }))

@@ -1,0 +1,70 @@
+use Rattle.std.proofs.Common.{rules, ◌≡◌, ◌≤◌, ◌<◌, ◌+◌, ◌++◌, None, ap, arith, get_or, map, reverse, subst, sym, take, ◌∙◌}
+use Rattle.std.proofs.lemmas.List.Elements.{All-more}
+use Rattle.row_state.specs.declared.candidate.Candidate.{Candidate}
+use Rattle.row_state.specs.declared.state.State.{State}
+use Rattle.row_state.specs.Candidates.{IsNumbered}
+use Rattle.row_state.specs.Start.{columns_left}
+use Rattle.row_state.proofs.Calls.{fewer_after}
+use Rattle.row_state.proofs.Valid.{gates_are_nets}
+use Rattle.track_ways.specs.Paths.{EndsFit}
+use Rattle.track_lemmas.specs.Certificate.{AreJustified}
+use Rattle.track_search.specs.First.{IsFirstRouted}
+use Rattle.track_search.specs.Visit.{AlwaysFails, AreCovered, AreWaysAt, IsAhead, lemma_at}
+use Rattle.track_search.proofs.Found.{first_at_end, first_through}
+use Rattle.track_search.proofs.Grown.{WaysFail, ahead_fails, always_fails, grown_on, kept_covers, kept_grown, ways_fail_more}
+use Rattle.track_search.proofs.Ways.{ends_fit_after, ways_after}
+use Rattle.track_search.proofs.descent.+visit.Goals as goal
+
+blank : Candidate
+blank = record { step = record { p = None; n = None }; column = record { p = None; n = None }; rows = 0; ends = 0; p_from = 0; n_from = 0 }
+
+pub returns-then-branch-clause-first : goal.returns-then-branch-clause-first
+returns-then-branch-clause-first g t c = first_at_end c.args.task.now.pins.now c.args.task.now.limit c.args.task.now.kinds.now c.args.at.now.state c.args.ways.now c.args.allowed c.new.result c.show_limits.ensures c.requires.numbered.valid c.requires.ways (c.in_ok-ends.ensures.yes c.if-branch.true) c.new.ensures
+
+pub loop-next-preserved-in_default : goal.loop-next-preserved-in_default
+unfolding blank
+loop-next-preserved-in_default g t c =
+    let fails : AlwaysFails (g.B.RowBound.value c.args.task.now.bound.now) c.args.task.now.pins.now c.args.task.now.limit c.args.task.now.kinds.now c.args.at.now.state c.args.allowed (get_or c.args.task.now.candidates.now c.loop-next.next-index blank).step = rw c.in_default.is at c.in_ok-ahead.ensures.none in
+    (c.loop-next.invariant.0, always_fails (g.B.RowBound.value c.args.task.now.bound.now) c.args.task.now.pins.now c.args.task.now.limit c.args.task.now.kinds.now c.loop-next.progress.lemmas c.args.at.now.state c.args.allowed c.args.ways.now c.args.task.now.candidates.now c.loop-next.next-index blank c.loop-next-test.true c.loop-next.invariant.1 fails)
+
+pub visit-requires : goal.visit-requires
+unfolding blank
+visit-requires g t c κs within =
+    let a : IsAhead c.args.task.now.kinds.now c.args.at.now.state c.args.allowed (get_or c.args.task.now.candidates.now c.loop-next.next-index blank).step c.in-Some.ahead = rw c.in-Some.is at c.in_ok-ahead.ensures.some in
+    let fewer : columns_left c.args.task.now.kinds.now c.args.at.now.state ≡ columns_left c.args.task.now.kinds.now c.in-Some.ahead.state.state + 1 = fewer_after c.args.task.now.kinds.now c.args.at.now.state (get_or c.args.task.now.candidates.now c.loop-next.next-index blank).step c.show_limits.ensures a.possible ∙ ap (λ (z : State). columns_left c.args.task.now.kinds.now z + 1) (sym a.state) in
+    let less : columns_left c.args.task.now.kinds.now c.in-Some.ahead.state.state < columns_left c.args.task.now.kinds.now c.args.at.now.state = omega (arith, fewer) in
+    let numbered : IsNumbered c.args.task.now.kinds.now c.in-Some.ahead.state = a.numbered in
+    let ends : EndsFit c.args.task.now.kinds.now c.in-Some.ahead.state.state = subst (EndsFit c.args.task.now.kinds.now) (sym a.state) (ends_fit_after c.args.task.now.kinds.now c.args.at.now.state (get_or c.args.task.now.candidates.now c.loop-next.next-index blank).step (gates_are_nets c.args.task.now.kinds.now c.show_limits.ensures) c.requires.ends a.possible) in
+    let ways : AreWaysAt c.args.task.now.pins.now c.args.task.now.kinds.now c.in-Some.ahead.state.state c.in_ok-onward.onward = subst (λ z. AreWaysAt c.args.task.now.pins.now c.args.task.now.kinds.now z c.in_ok-onward.onward) (sym a.state) (ways_after c.args.task.now.pins.now c.args.task.now.limit c.args.task.now.kinds.now c.args.at.now.state (get_or c.args.task.now.candidates.now c.loop-next.next-index blank).step c.args.ways.now c.in_ok-onward.onward c.show_limits.ensures c.requires.numbered.valid c.requires.ends a.possible c.requires.ways c.in_ok-onward.ensures.from) in
+    let visits : c.loop-next.progress.visits ≤ c.args.task.now.budget = c.loop-next.invariant.0.visits in
+    let justified : AreJustified (g.B.RowBound.value c.args.task.now.bound.now) c.args.task.now.pins.now c.args.task.now.limit c.args.task.now.kinds.now c.loop-next.progress.lemmas = c.loop-next.invariant.0.justified in
+    search rules
+
+pub returns-in-Some-tried-clause-first : goal.returns-in-Some-tried-clause-first
+unfolding blank
+returns-in-Some-tried-clause-first g t c =
+    let a : IsAhead c.args.task.now.kinds.now c.args.at.now.state c.args.allowed (get_or c.args.task.now.candidates.now c.loop-next.next-index blank).step c.in-Some.ahead = rw c.in-Some.is at c.in_ok-ahead.ensures.some in
+    let first : IsFirstRouted c.args.task.now.pins.now c.args.task.now.limit c.args.task.now.kinds.now c.in-Some.ahead.state.state c.in_ok-onward.onward c.in-Some.ahead.left (reverse c.in-Some-tried.rest) = rw c.in-Some-tried.is at c.in-Ok.ensures.first in
+    first_through (g.B.RowBound.value c.args.task.now.bound.now) c.args.task.now.pins.now c.args.task.now.limit c.args.task.now.kinds.now c.loop-next.progress.lemmas c.args.at.now.state c.args.ways.now c.in_ok-onward.onward c.args.allowed c.in-Some.ahead c.args.task.now.candidates.now c.loop-next.next-index blank c.in-Some-tried.rest c.push.new.self c.show_limits.ensures (λ row s valid. g.met.B.RowBound.holds c.args.task.now.bound.now row s c.args.task.now.kinds.now c.show_limits.ensures valid) c.loop-next.invariant.0.justified c.requires.numbered.valid c.requires.candidates c.requires.ways
+    (ways_after c.args.task.now.pins.now c.args.task.now.limit c.args.task.now.kinds.now c.args.at.now.state (get_or c.args.task.now.candidates.now c.loop-next.next-index blank).step c.args.ways.now c.in_ok-onward.onward c.show_limits.ensures c.requires.numbered.valid c.requires.ends a.possible c.requires.ways c.in_ok-onward.ensures.from)
+    c.loop-next-test.true c.loop-next.invariant.1 a c.in_ok-onward.ensures.taken c.in_ok-onward.ensures.from first c.in_ok-push.ensures.ok
+
+pub loop-next-preserved : goal.loop-next-preserved
+unfolding blank
+loop-next-preserved g t c =
+    let a : IsAhead c.args.task.now.kinds.now c.args.at.now.state c.args.allowed (get_or c.args.task.now.candidates.now c.loop-next.next-index blank).step c.in-Some.ahead = rw c.in-Some.is at c.in_ok-ahead.ensures.some in
+    let covered : AreCovered c.visit.new.progress.lemmas c.in-Some.ahead.state.state c.in-Some.ahead.left c.in_ok-onward.onward = rw c.in_default-tried.is at c.in-Ok.ensures.none in (
+      grown_on (g.B.RowBound.value c.args.task.now.bound.now) c.args.task.now.pins.now c.args.task.now.limit c.args.task.now.kinds.now c.args.task.now.budget c.args.progress.now c.loop-next.progress c.visit.new.progress c.loop-next.invariant.0 c.in-Ok.ensures.grown,
+      All-more (WaysFail (g.B.RowBound.value c.args.task.now.bound.now) c.args.task.now.pins.now c.args.task.now.limit c.args.task.now.kinds.now c.visit.new.progress.lemmas c.args.at.now.state c.args.allowed c.args.ways.now) c.args.task.now.candidates.now c.loop-next.next-index blank c.loop-next-test.true
+          (ways_fail_more (g.B.RowBound.value c.args.task.now.bound.now) c.args.task.now.pins.now c.args.task.now.limit c.args.task.now.kinds.now c.loop-next.progress.lemmas c.visit.new.progress.lemmas c.in-Ok.ensures.grown.more c.args.at.now.state c.args.allowed c.args.ways.now (take c.loop-next.next-index c.args.task.now.candidates.now) c.in-Ok.ensures.grown.is c.loop-next.invariant.1)
+          (ahead_fails (g.B.RowBound.value c.args.task.now.bound.now) c.args.task.now.pins.now c.args.task.now.limit c.args.task.now.kinds.now c.loop-next.progress.lemmas c.visit.new.progress.lemmas c.in-Ok.ensures.grown.more c.args.at.now.state c.args.allowed c.args.ways.now c.in_ok-onward.onward (get_or c.args.task.now.candidates.now c.loop-next.next-index blank).step c.in-Some.ahead c.in-Ok.ensures.grown.is a c.in_ok-onward.ensures.taken covered),
+    )
+
+pub returns-clause-grown : goal.returns-clause-grown
+returns-clause-grown g t c =
+    kept_grown (g.B.RowBound.value c.args.task.now.bound.now) c.args.task.now.pins.now c.args.task.now.limit c.args.task.now.kinds.now c.args.task.now.budget c.args.progress.now c.loop-next.progress c.keep.new.self c.args.at.now.state c.args.allowed c.args.ways.now c.args.task.now.candidates.now c.loop-next.next-index c.show_limits.ensures c.requires.candidates c.requires.numbered.valid c.requires.ends c.requires.ways c.loop-next-test.false c.loop-next.invariant.1 (c.in_ok-ends.ensures.no c.if-branch.false) c.loop-next.invariant.0
+    (c.in_ok-keep.ensures.lemmas ∙ ap (λ ws. c.loop-next.progress.lemmas ++ map (lemma_at c.args.at.now.state c.args.allowed) ws) c.as_slice.ensures) c.in_ok-keep.ensures.visits
+
+pub returns-clause-none : goal.returns-clause-none
+returns-clause-none g t c =
+    kept_covers c.loop-next.progress.lemmas c.keep.new.self.lemmas c.args.at.now.state c.args.allowed c.args.ways.now (c.in_ok-keep.ensures.lemmas ∙ ap (λ ws. c.loop-next.progress.lemmas ++ map (lemma_at c.args.at.now.state c.args.allowed) ws) c.as_slice.ensures)

@@ -1,0 +1,16 @@
+use Rattle.std.proofs.Common.{All, Any, subst}
+use Rattle.track_search.specs.Visit.{EndsFail}
+use Rattle.track_check.proofs.Loops.{not_both}
+use Rattle.track_search.proofs.ends.ends.Goals as goal
+
+pub returns-then-has_fingers-clause-no : goal.returns-then-has_fingers-clause-no
+returns-then-has_fingers-clause-no g c = λ e none. absurd (none ((c.has_fingers.ensures c.args.task.now.kinds.now c.requires.state).0 c.if-has_fingers.true))
+
+pub returns-clause-yes : goal.returns-clause-yes
+returns-clause-yes g c = λ e. record {
+  none = λ has. not_both c.has_fingers.result ((c.has_fingers.ensures c.args.task.now.kinds.now c.requires.state).1 has) c.if-has_fingers.false;
+  go = subst (Any (λ way. EndsFail c.args.task.now.pins.now c.args.task.now.limit c.args.task.now.kinds.now c.args.state.now way → ⊥)) c.as_slice.ensures (c.in_ok-go.ensures.yes e);
+}
+
+pub returns-clause-no : goal.returns-clause-no
+returns-clause-no g c = λ e none. subst (All (EndsFail c.args.task.now.pins.now c.args.task.now.limit c.args.task.now.kinds.now c.args.state.now)) c.as_slice.ensures (c.in_ok-go.ensures.no e)

@@ -1,0 +1,19 @@
+use Rattle.std.proofs.Common.{subst, sym}
+use Rattle.row_state.specs.Candidates.{AreCandidates}
+use Rattle.track_check.specs.Touches.{AreTouches}
+use Rattle.track_search.proofs.Least.{legal_tracks, take_tracks}
+use Rattle.track_search.proofs.fewest.fewest_tracks.Goals as goal
+
+pub try_limits-requires : goal.try_limits-requires
+try_limits-requires g c = record {
+  candidates = subst (AreCandidates c.args.kinds.now) (sym c.as_slice.ensures) c.in_ok-candidates.ensures.candidates;
+  all = subst (λ s. AreTouches c.args.kinds.now s c.touches-all.result) c.in_ok-first.ensures.state c.touches-all.ensures.touches;
+  state = c.in_ok-first.ensures.state;
+  numbered = c.in_ok-first.ensures.numbered;
+}
+
+pub returns-clause-take : goal.returns-clause-take
+returns-clause-take g c = take_tracks (g.B.RowBound.value c.args.bound.now) c.args.pins.now c.args.kinds.now c.args.gaps c.in_ok-fewest.fewest c.show_limits.ensures (λ row s valid. g.met.B.RowBound.holds c.args.bound.now row s c.args.kinds.now c.show_limits.ensures valid) c.in_ok-fewest.ensures
+
+pub returns-clause-legal : goal.returns-clause-legal
+returns-clause-legal g c = legal_tracks (g.B.RowBound.value c.args.bound.now) c.args.pins.now c.args.kinds.now c.args.gaps c.in_ok-fewest.fewest c.show_limits.ensures (λ row s valid. g.met.B.RowBound.holds c.args.bound.now row s c.args.kinds.now c.show_limits.ensures valid) c.in_ok-fewest.ensures

@@ -1,0 +1,6 @@
+-- What contracts of public calls cite, and what these definitions stand on.
+pub mod Fewest
+pub mod Limit
+-- What inner contracts and proofs alone cite.
+pub mod First
+pub mod Visit

@@ -1,0 +1,92 @@
+-- What one visit of a state promises.
+use Rattle.std.specs.Prelude.{ℕ, ◌≡◌, ◌+◌, ◌≤◌, ◌⊎◌, ◌++◌, ◌==◌, ◌&&◌, Bool, List, [], All, Any, Contains}
+use Rattle.cell_num.specs.declared.finger.Row.{Row}
+use Rattle.cell_num.specs.declared.net.Pins.{Pins}
+use Rattle.row_state.specs.declared.kind.Kinds.{Kinds}
+use Rattle.row_state.specs.declared.state.State.{State}
+use Rattle.row_state.specs.declared.step.Step.{Step}
+use Rattle.row_state.specs.Candidates.{IsNumbered}
+use Rattle.row_state.specs.Completion.{cost_of}
+use Rattle.row_state.specs.Start.{HasFingers}
+use Rattle.row_state.specs.Steps.{IsPossible, column_of, state_after}
+use Rattle.track_ways.specs.States.{is_behind, is_still_ahead}
+use Rattle.track_ways.specs.Tables.{marked}
+use Rattle.track_ways.specs.Tracks.{AreKeys}
+use Rattle.track_ways.specs.Ways.{ends_ways, goes_ways}
+use Rattle.track_ways.specs.declared.track.NetTrack.{NetTrack}
+use Rattle.track_lemmas.specs.declared.lemma.TrackLemma.{TrackLemma}
+use Rattle.track_lemmas.specs.Certificate.{AreJustified}
+use Rattle.track_lemmas.specs.Checked.{CoversListed}
+use Rattle.track_check.specs.Steps.{StepFailsListed}
+use Rattle.track_search.specs.declared.ahead.Ahead.{Ahead}
+use Rattle.track_search.specs.declared.progress.Progress.{Progress}
+
+abbrev pub lemma_at : State → ℕ → List NetTrack → TrackLemma
+lemma_at s gaps way = record { state = s; gaps = gaps; tracks = way }
+
+-- a lemma speaks of each way
+abbrev pub AreCovered : List TrackLemma → State → ℕ → List (List NetTrack) → Type 0
+AreCovered lemmas s gaps ways = All (λ way. Any (CoversListed s gaps way) lemmas) ways
+
+-- each way lists the tracks of the nets that are open at the state
+abbrev pub AreWaysAt : Pins → Kinds → State → List (List NetTrack) → Type 0
+AreWaysAt pins k s ways = All (AreKeys pins (is_behind k s) (is_still_ahead k s)) ways
+
+-- whatever the lemmas and the tracks are, the column leaves a lemma on the state justified
+abbrev pub AlwaysFails : (Row → State → Kinds → ℕ) → Pins → ℕ → Kinds → State → ℕ → Step → Type 0
+AlwaysFails value pins limit k s allowed step =
+    (lemmas : List TrackLemma) (way : List NetTrack)
+    → StepFailsListed value pins limit k lemmas (lemma_at s allowed way) step
+
+-- the state after a possible next column, the gaps that are left there, and the nets with places there or later
+pub record IsAhead (k : Kinds) (s : State) (allowed : ℕ) (step : Step) (ahead : Ahead) : Type 0 where
+  pub possible : IsPossible k s step
+  pub numbered : IsNumbered k ahead.state
+  pub state : ahead.state.state ≡ state_after k s step
+  pub left : cost_of s (column_of k step) + ahead.left ≡ allowed
+  pub nets : marked ahead.nets ≡ is_still_ahead k (state_after k s step)
+
+-- the same net on the same track
+abbrev pub same_track : NetTrack → NetTrack → Bool
+same_track t u = (t.net.0 == u.net.0) && (t.track == u.track)
+
+-- a lemma speaks of the way, or it is among the ways
+abbrev pub IsTaken : List TrackLemma → State → ℕ → List (List NetTrack) → List NetTrack → Type 0
+IsTaken lemmas s left ways way = Any (CoversListed s left way) lemmas ⊎ Contains ways way
+
+-- so it is of each way after the column from these tracks
+abbrev pub AreTaken :
+    Pins → ℕ → Kinds → List TrackLemma → State → Step → State → ℕ → List (List NetTrack) → List NetTrack → Type 0
+AreTaken pins limit k lemmas s step after left onward way =
+    All (IsTaken lemmas after left onward) (goes_ways pins limit k s way step)
+
+-- the way is one after the column, from one of the ways before it
+abbrev pub GoOn : Pins → ℕ → Kinds → State → Step → List (List NetTrack) → List NetTrack → Type 0
+GoOn pins limit k s step ways next = Any (λ way. Contains (goes_ways pins limit k s way step) next) ways
+
+-- of the found ways those of which no lemma speaks were added, as far as they are done
+pub record AreAdded
+    (lemmas : List TrackLemma) (s : State) (left : ℕ) (found done before after : List (List NetTrack))
+    : Type 0 where
+  pub more : List (List NetTrack)
+  pub is : after ≡ before ++ more
+  pub from : All (Contains found) more
+  pub taken : All (IsTaken lemmas s left after) done
+
+-- no tracks go through the last line
+abbrev pub EndsFail : Pins → ℕ → Kinds → State → List NetTrack → Type 0
+EndsFail pins limit k s way = ends_ways pins limit k s way ≡ []
+
+-- no finger is left, and tracks go through the last line
+pub record EndsGo (pins : Pins) (limit : ℕ) (k : Kinds) (s : State) (ways : List (List NetTrack)) : Type 0 where
+  pub none : HasFingers k s → ⊥
+  pub go : Any (λ way. EndsFail pins limit k s way → ⊥) ways
+
+-- the lemmas after the visit are justified, those before it come first, and the budget is kept
+pub record IsGrown
+    (value : Row → State → Kinds → ℕ) (pins : Pins) (limit : ℕ) (k : Kinds) (budget : ℕ) (before after : Progress)
+    : Type 0 where
+  pub justified : AreJustified value pins limit k after.lemmas
+  pub more : List TrackLemma
+  pub is : after.lemmas ≡ before.lemmas ++ more
+  pub visits : after.visits ≤ budget

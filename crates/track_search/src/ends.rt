@@ -1,0 +1,81 @@
+// Whether tracks go through the last line.
+ghost use Rattle.std.specs.Prelude.{◌≡◌, ◌↔◌, [], All, Any, IfOk, IsTrue, false};
+ghost use Rattle.row_state.specs.Start.{HasFingers, IsState};
+ghost use Rattle.track_ways.specs.States.{is_behind};
+ghost use Rattle.track_ways.specs.Tables.{marked};
+ghost use Rattle.track_search.specs.Visit.{EndsFail, EndsGo};
+
+use crate::ahead::Task;
+use cell_num::NoMemory;
+use row_state::{RowBound, State, has_fingers};
+use row_trails::NETS;
+use track_ways::{NetTracks, TrackWays, last_ways};
+
+#[tactic(auto, using(crate::proofs::Lists::no_ways))]
+fn is_empty(ways: &TrackWays) -> bool
+    ensures { IsTrue result ↔ (ways.now ≡ []) }
+{
+    ways.len() == 0
+}
+
+// Whether no tracks go through the last line from the way.
+fn way_fails<B: RowBound>(
+    task: &Task<B>,
+    state: &State,
+    before: &[bool; NETS],
+    way: &NetTracks,
+) -> Result<bool, NoMemory>
+    requires state { IsState task.now.kinds.now state.now }
+    requires before { marked before.now ≡ is_behind task.now.kinds.now state.now }
+    ensures { IfOk result (λ fails. IsTrue fails ↔ EndsFail task.now.pins.now task.now.limit task.now.kinds.now
+        state.now way.now) }
+{
+    let last = last_ways(
+        task.alloc, task.pins, task.limit, task.kinds, state, before, way,
+    )?;
+    Ok(is_empty(&last))
+}
+
+// Whether tracks go through the last line from one of the ways.
+fn some_way_ends<B: RowBound>(
+    task: &Task<B>,
+    state: &State,
+    before: &[bool; NETS],
+    ways: &[NetTracks],
+) -> Result<bool, NoMemory>
+    requires state { IsState task.now.kinds.now state.now }
+    requires before { marked before.now ≡ is_behind task.now.kinds.now state.now }
+    ensures yes { IfOk result (λ go. IsTrue go → Any (λ way. EndsFail task.now.pins.now task.now.limit
+        task.now.kinds.now state.now way → ⊥) ways.now) }
+    ensures no { IfOk result (λ go. go ≡ false → All (EndsFail task.now.pins.now task.now.limit
+        task.now.kinds.now state.now) ways.now) }
+{
+    for way in ways {
+        if !way_fails(task, state, before, way)? {
+            return Ok(true);
+        }
+    }
+    Ok(false)
+}
+
+/// Whether no finger is left and tracks go through the last line from one of the ways. `before` has the nets with a
+/// place before the state.
+pub(crate) fn ends<B: RowBound>(
+    task: &Task<B>,
+    state: &State,
+    before: &[bool; NETS],
+    ways: &TrackWays,
+) -> Result<bool, NoMemory>
+    requires state { IsState task.now.kinds.now state.now }
+    requires before { marked before.now ≡ is_behind task.now.kinds.now state.now }
+    ensures yes { IfOk result (λ go. IsTrue go → EndsGo task.now.pins.now task.now.limit task.now.kinds.now state.now
+        ways.now) }
+    ensures no { IfOk result (λ go. go ≡ false → (HasFingers task.now.kinds.now state.now → ⊥)
+        → All (EndsFail task.now.pins.now task.now.limit task.now.kinds.now state.now) ways.now) }
+{
+    if has_fingers(state) {
+        return Ok(false);
+    }
+    let go = some_way_ends(task, state, before, ways.as_slice())?;
+    Ok(go)
+}

@@ -1,0 +1,118 @@
+// The fewest tracks of a row, by limits from 0 on.
+ghost use Rattle.std.specs.Prelude.{◌≡◌, ◌≤◌, IfOk};
+ghost use Rattle.row_state.specs.Candidates.{AreCandidates, IsNumbered};
+ghost use Rattle.row_state.specs.Start.{start_of};
+ghost use Rattle.track_check.specs.Touches.{AreTouches};
+ghost use Rattle.track_search.specs.Fewest.{AreLegalTracks, IsFewest, TakeTracks};
+
+use crate::Limit;
+use crate::ahead::Task;
+use crate::limit::{numbered_start, search_task};
+use cell_num::{NoMemory, Pins};
+use row_model::Arrangement;
+use row_state::{Kinds, Numbered, RowBound, candidates};
+use std::alloc::Global;
+use track_check::touches;
+use track_lemmas::TrackLemmas;
+
+/// What the search for the fewest tracks ends with.
+#[derive(Debug, Drop)]
+pub enum Fewest {
+    /// The first row on the fewest tracks, and, where these are some, a certificate that no row has one track less.
+    Found {
+        row: Arrangement,
+        tracks: u32,
+        lemmas: TrackLemmas,
+    },
+    /// The visits are spent, or no row has tracks below the most: each row takes at least so many tracks, which the
+    /// lemmas certify where these are some.
+    Open {
+        proved: u32,
+        lemmas: TrackLemmas,
+    },
+}
+
+// Tries the limits in turn, from 0 on.
+fn try_limits<B: RowBound>(
+    task: &Task<B>,
+    first: &Numbered,
+    gaps: u32,
+    most: u32,
+) -> Result<Fewest, NoMemory>
+    requires candidates { AreCandidates task.now.kinds.now task.now.candidates.now }
+    requires all { AreTouches task.now.kinds.now (start_of task.now.kinds.now) task.now.all.now }
+    requires state { first.now.state ≡ start_of task.now.kinds.now }
+    requires numbered { IsNumbered task.now.kinds.now first.now }
+    ensures { IfOk result (IsFewest (B.value task.now.bound.now) task.now.pins.now task.now.kinds.now gaps) }
+{
+    let mut visits = 0;
+    let mut lemmas = TrackLemmas::new(task.alloc);
+    for limit in 0..most {
+        let here = Task {
+            alloc: task.alloc,
+            kinds: task.kinds,
+            pins: task.pins,
+            limit,
+            candidates: task.candidates,
+            bound: task.bound,
+            all: task.all,
+            budget: task.budget,
+        };
+        match search_task(&here, first, gaps, &mut visits)? {
+            Limit::Found { row } => {
+                return Ok(Fewest::Found {
+                    row,
+                    tracks: limit,
+                    lemmas,
+                });
+            }
+            Limit::Refuted { lemmas: next } => lemmas = next,
+            Limit::Spent => {
+                return Ok(Fewest::Open {
+                    proved: limit,
+                    lemmas,
+                });
+            }
+        }
+    }
+    Ok(Fewest::Open {
+        proved: most,
+        lemmas,
+    })
+}
+
+/// The first row of the kinds' fingers with at most so many gaps that has a legal routing on the fewest tracks, where
+/// these are fewer than the most; or, where the visits for all numbers of tracks are spent before, how many each row
+/// takes at least.
+pub fn fewest_tracks<B: RowBound>(
+    alloc: Global,
+    bound: &B,
+    pins: &Pins,
+    kinds: &Kinds,
+    gaps: u32,
+    most: u32,
+    budget: u64,
+) -> Result<Fewest, NoMemory>
+    ensures fewest { IfOk result (IsFewest (B.value bound.now) pins.now kinds.now gaps) }
+    // each legal routing takes so many tracks or more
+    ensures take { IfOk result (TakeTracks pins.now kinds.now gaps) }
+    // and trunks on the tracks that the row has are a legal routing on exactly so many
+    ensures legal { IfOk result (AreLegalTracks pins.now) }
+{
+    kinds.show_limits();
+    let first = numbered_start(alloc, kinds)?;
+    let candidates = candidates(alloc, kinds)?;
+    let all = touches(kinds, &first.state);
+    let task = Task {
+        alloc,
+        kinds,
+        pins,
+        limit: 0,
+        candidates: candidates.as_slice(),
+        bound,
+        all: &all,
+        budget,
+    };
+    let fewest = try_limits(&task, &first, gaps, most)?;
+    Ok(fewest)
+}

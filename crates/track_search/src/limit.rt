@@ -1,0 +1,158 @@
+// The first row with tracks below a limit, or a certificate that none has.
+ghost use Rattle.std.specs.Prelude.{◌≡◌, ◌≤◌, [], ◌∷◌, IfNone, IfOk, IfSome, OnOk, map, reverse};
+ghost use Rattle.row_state.specs.Candidates.{AreCandidates, IsNumbered};
+ghost use Rattle.row_state.specs.Start.{start_of};
+ghost use Rattle.row_state.specs.Steps.{column_of};
+ghost use Rattle.track_check.specs.Touches.{AreTouches};
+ghost use Rattle.track_lemmas.specs.Certificate.{Certifies};
+ghost use Rattle.track_search.specs.Limit.{IsEnd, IsFirstRow, NeedsMoreTracks};
+
+use crate::ahead::Task;
+use crate::descent::{Halt, visit};
+use crate::progress::Progress;
+use cell_num::{List, NoMemory, Pins};
+use row_model::{Arrangement, Column};
+use row_state::{Kinds, Numbered, RowBound, Step, candidates, column, start};
+use std::alloc::{AllocError, Global};
+use track_check::touches;
+use track_lemmas::TrackLemmas;
+use track_ways::{NetTracks, TrackWays};
+
+/// What the search for a row with tracks below a limit ends with.
+#[derive(Debug, Drop)]
+pub enum Limit {
+    /// The first row that has such tracks.
+    Found { row: Arrangement },
+    /// They certify that no row has.
+    Refuted { lemmas: TrackLemmas },
+    /// The visits are spent.
+    Spent,
+}
+
+fn columns(alloc: Global, steps: &[Step], kinds: &Kinds) -> Result<Vec<Column>, AllocError>
+    ensures { IfOk result (λ columns. columns.items ≡ map (column_of kinds.now) (reverse steps.now)) }
+{
+    steps
+        .iter()
+        .rev()
+        .map(|step| column(step, kinds))
+        .collect(alloc)
+}
+
+// The row of the steps, which were found from the last to the first.
+fn row_of(alloc: Global, steps: &[Step], kinds: &Kinds) -> Result<Arrangement, NoMemory>
+    ensures { IfOk result (λ row. row ≡ map (column_of kinds.now) (reverse steps.now)) }
+{
+    Ok(List::from_vec(columns(alloc, steps, kinds)?))
+}
+
+pub(crate) fn numbered_start(alloc: Global, kinds: &Kinds) -> Result<Numbered, NoMemory>
+    ensures state { IfOk result (λ first. first.state ≡ start_of kinds.now) }
+    ensures numbered { IfOk result (IsNumbered kinds.now) }
+{
+    Ok(Numbered::new(start(alloc, kinds)?, kinds))
+}
+
+// At the start no net has a track.
+fn no_tracks(alloc: Global) -> Result<TrackWays, NoMemory>
+    ensures { IfOk result (λ ways. ways ≡ [] ∷ []) }
+{
+    let mut ways = TrackWays::new(alloc);
+    ways.push(NetTracks::new(alloc))?;
+    Ok(ways)
+}
+
+// The first row from the start, or none: then the lemmas are a certificate.
+fn search_start<B: RowBound>(
+    task: &Task<B>,
+    first: &Numbered,
+    progress: &mut Progress,
+    gaps: u32,
+) -> Result<Option<Arrangement>, Halt>
+    requires candidates { AreCandidates task.now.kinds.now task.now.candidates.now }
+    requires all { AreTouches task.now.kinds.now (start_of task.now.kinds.now) task.now.all.now }
+    requires state { first.now.state ≡ start_of task.now.kinds.now }
+    requires numbered { IsNumbered task.now.kinds.now first.now }
+    requires visits { progress.old.visits ≤ task.now.budget }
+    requires lemmas { progress.old.lemmas ≡ [] }
+    ensures visits { OnOk result (progress.new.visits ≤ task.now.budget) }
+    ensures found { IfOk result (λ r. IfSome r (IsFirstRow task.now.pins.now task.now.limit task.now.kinds.now gaps)) }
+    ensures none { IfOk result (λ r. IfNone r (Certifies (B.value task.now.bound.now) task.now.pins.now task.now.limit
+        task.now.kinds.now gaps progress.new.lemmas)) }
+{
+    task.kinds.show_limits();
+    let ways = no_tracks(task.alloc)?;
+    let found = match visit(task, progress, first, &ways, gaps) {
+        Ok(found) => found,
+        Err(halt) => return Err(halt),
+    };
+    if let Some(steps) = found {
+        let row = row_of(task.alloc, steps.as_slice(), task.kinds)?;
+        return Ok(Some(row));
+    }
+    Ok(None)
+}
+
+/// The search from the start, with the visits so far, which go on.
+pub(crate) fn search_task<B: RowBound>(
+    task: &Task<B>,
+    first: &Numbered,
+    gaps: u32,
+    visits: &mut u64,
+) -> Result<Limit, NoMemory>
+    requires candidates { AreCandidates task.now.kinds.now task.now.candidates.now }
+    requires all { AreTouches task.now.kinds.now (start_of task.now.kinds.now) task.now.all.now }
+    requires state { first.now.state ≡ start_of task.now.kinds.now }
+    requires numbered { IsNumbered task.now.kinds.now first.now }
+    requires visits { visits.old ≤ task.now.budget }
+    ensures end { IfOk result (IsEnd (B.value task.now.bound.now) task.now.pins.now task.now.limit task.now.kinds.now
+        gaps) }
+    ensures visits { OnOk result (visits.new ≤ task.now.budget) }
+{
+    let mut progress = Progress::new(task.alloc, *visits);
+    match search_start(task, first, &mut progress, gaps) {
+        Ok(Some(row)) => Ok(Limit::Found { row }),
+        Ok(None) => {
+            *visits = progress.visits;
+            Ok(Limit::Refuted {
+                lemmas: progress.lemmas,
+            })
+        }
+        Err(Halt::Spent) => Ok(Limit::Spent),
+        Err(Halt::NoMemory) => Err(NoMemory),
+    }
+}
+
+/// The first row of the kinds' fingers with at most so many gaps that has tracks below the limit; or a certificate that
+/// no such row has a legal routing on so many tracks; or neither, where the visits are spent.
+pub fn search_limit<B: RowBound>(
+    alloc: Global,
+    bound: &B,
+    pins: &Pins,
+    limit: u32,
+    kinds: &Kinds,
+    gaps: u32,
+    budget: u64,
+) -> Result<Limit, NoMemory>
+    ensures end { IfOk result (IsEnd (B.value bound.now) pins.now limit kinds.now gaps) }
+    // a certificate is true: each legal routing has more tracks
+    ensures more { IfOk result (NeedsMoreTracks pins.now limit kinds.now gaps) }
+{
+    kinds.show_limits();
+    let first = numbered_start(alloc, kinds)?;
+    let candidates = candidates(alloc, kinds)?;
+    let all = touches(kinds, &first.state);
+    let task = Task {
+        alloc,
+        kinds,
+        pins,
+        limit,
+        candidates: candidates.as_slice(),
+        bound,
+        all: &all,
+        budget,
+    };
+    let mut visits = 0;
+    let ended = search_task(&task, &first, gaps, &mut visits)?;
+    Ok(ended)
+}
