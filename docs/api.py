@@ -1,6 +1,7 @@
 #!/usr/bin/env python3
-"""Writes docs/API.md out of the sources: what each crate exports at its root, with the first sentence of its comment, in the groups of
-crates.txt. It goes to standard output; with --check it is compared with docs/API.md, and the status is 1 where that is not fresh:
+"""Writes docs/API.md from the sources: what each crate exports at its root, with the first sentence of its comment, in
+the groups of crates.txt. It goes to standard output. With --check it is compared with docs/API.md, and the status is 1
+where that is not fresh:
 
     python3 docs/api.py > docs/API.md
 """
@@ -14,11 +15,13 @@ PAGE = os.path.join("docs", "API.md")
 LEFT_OUT = "Bench, tests and what benchmarks/ needs"
 HEAD = """# The public calls
 
-For who uses the crates as libraries. A crate's items stand at its root, as in `use finger_fold::{{FoldFault, fold}};`, and methods below
-their type. Each line has the first sentence of an item's comment; the comment has the rest, and the clauses beneath it what is
-promised and asked for. A *law* is a call that does nothing: its clauses are theorems. What a crate is for, and which items no program
-calls, is in its page, `crates/NAME/README.md`; all crates are listed in [ARCHITECTURE.md](ARCHITECTURE.md#the-crates). `docs/api.py` makes
-this page: {calls} calls, {laws} laws, {others} types, traits and constants with {methods} methods. Crates of benches and tests are left out.
+This page is for users of the crates as libraries. A crate's items are at its root, as in `use
+finger_fold::{{FoldFault, fold}};`. Methods are below their type. Each line has the first sentence of an item's
+comment. The comment in the source has the rest, and the clauses below it say what is promised and required. A *law* is
+a call that does nothing: its clauses are theorems. A crate's page, `crates/NAME/README.md`, says what the crate is for
+and which items no program calls. [ARCHITECTURE.md](ARCHITECTURE.md#the-crates) lists all crates. `docs/api.py` makes
+this page: {calls} calls, {laws} laws, {others} types, traits and constants with {methods} methods. Crates of benches
+and tests are left out.
 """
 ITEM = r"(?m)^pub (fn|struct|enum|trait|type|const) (%s)\b"
 OWN = r"(?m)^impl(?:<[^\n]*?>)? %s(?:<[^\n]*>)? \{"

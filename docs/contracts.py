@@ -24,14 +24,14 @@ IMPORT = re.compile(r"ghost use Rattle\.(\w+)\.specs\.(\w+)\.\{([^}]*)\}")
 NAME = re.compile(r"[A-Za-z_]\w*")
 TITLE = """# The contracts
 
-`docs/contracts.py` makes this page from the sources. It lists the {calls} public calls with a contract, by crate. After
-each stand its file in the crate's folder, the names of its clauses in *italics*, and the definitions that the contract
-uses. A clause without a name is written *ensures*. `Module.name` stands in `crates/NAME/specs/Module.antt`; where that
-is another crate, it is named. Crates of tests are left out.
+`docs/contracts.py` makes this page from the sources. It lists the {calls} public calls with a contract, by crate. Each
+has its file in the crate's folder, the names of its clauses in *italics*, and the definitions that the contract uses. A
+clause without a name is written *ensures*. `Module.name` is in `crates/NAME/specs/Module.antt`. Definitions of another
+crate have its name. Crates of tests are left out.
 
-A **wrong body** is a change of one line that says something wrong and that the prover has to refuse. There are {wrong}.
-Each is listed with the file that it changes, and the function if it is in one. [PROOFS.md](PROOFS.md#how-to-read-a-claim)
-says who tries them, and has the claims that somebody may rely on. [API.md](API.md) has a sentence on each call.
+A **wrong body** is a change of one line that makes a body wrong, so the prover has to refuse it. There are {wrong}. Each
+is listed with the file that it changes, and the function if it is in one. [PROOFS.md](PROOFS.md#how-to-read-a-claim)
+says who tries them, and has the claims that a user may rely on. [API.md](API.md) has a sentence on each call.
 """
 
 

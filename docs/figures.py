@@ -2,7 +2,7 @@
 
     python3 docs/figures.py [PROGRAM [WORD ..]]
 
-PROGRAM is ./cellgen where none is given; WORDs stand in front of those of each call.
+PROGRAM is ./cellgen where none is given; WORDs come before those of each call.
 """
 import os
 import struct

@@ -3,7 +3,7 @@
 
     python3 docs/lesson.py [PROGRAM [WORD ..]]
 
-PROGRAM is ./cellgen where none is given; WORDs stand in front of those of each call. Python 3.8, nothing else.
+PROGRAM is ./cellgen where none is given; WORDs come before those of each call. Python 3.8, nothing else.
 """
 import os
 import sys

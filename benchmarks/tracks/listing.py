@@ -1,0 +1,81 @@
+"""The fewest tracks of all rows of a small cell, by listing all rows and trying tracks net by net: what the search of
+`tracks` is compared with. It goes by whole rows, not by states.
+"""
+from tracks import after, cost
+
+
+def rows_of(cell, state, gaps):
+    """All rows from a state on with at most so many gaps, as lists of columns and whether a gap stands before each."""
+    if not any(state.p + state.n):
+        yield []
+        return
+    for column in cell.columns(state):
+        gap = cost(state, column)
+        if gap <= gaps:
+            yield from ([(column, gap)] + rest for rest in rows_of(cell, after(state, column), gaps - gap))
+
+
+def places_of(row):
+    """The nets of each line: P nets, N nets, gates."""
+    places, line = {}, 0
+
+    def put(at, row_at, net):
+        places.setdefault(at, [None, None, None])[row_at] = net
+    for column, gap in row:
+        line += 2 * gap
+        for row_at, place in enumerate(column):
+            if place:
+                put(line, row_at, place.left)
+                put(line + 1, 2, place.gate)
+                put(line + 2, row_at, place.right)
+        line += 2
+    return places
+
+
+def trunks_of(cell, places):
+    """The first and the last line of each net that needs a trunk."""
+    found = {}
+    for line in sorted(places):
+        for net in places[line]:
+            if net is not None and net not in cell.rails:
+                found.setdefault(net, []).append(line)
+    return {net: (lines[0], lines[-1]) for net, lines in found.items() if len(lines) > 1 or net < cell.pins}
+
+
+def has_tracks(trunks, above, most):
+    """Whether tracks below a number serve all trunks: those that share a line apart, and each upper net above its lower."""
+    tracks = {}
+
+    def fits(net, track):
+        first, last = trunks[net]
+        for other, at in tracks.items():
+            if at == track and trunks[other][0] <= last and first <= trunks[other][1]:
+                return False
+            if (net, other) in above and track <= at or (other, net) in above and at <= track:
+                return False
+        return True
+
+    def go(nets):
+        if not nets:
+            return True
+        for track in range(most):
+            if fits(nets[0], track):
+                tracks[nets[0]] = track
+                if go(nets[1:]):
+                    return True
+                del tracks[nets[0]]
+        return False
+    return go(sorted(trunks))
+
+
+def is_wired(cell, row, most):
+    places = places_of(row)
+    trunks = trunks_of(cell, places)
+    above = {(p, n) for p, n, _ in places.values() if p in trunks and n in trunks and p != n}
+    return has_tracks(trunks, above, most)
+
+
+def fewest_tracks(cell, gaps, most):
+    """The fewest tracks of the rows with at most so many gaps, no more than `most`."""
+    rows = list(rows_of(cell, cell.start, gaps))
+    return next((tracks for tracks in range(most + 1) if any(is_wired(cell, row, tracks) for row in rows)), None)
