@@ -48,7 +48,7 @@ placed_pins pins k gaps tracks row p placed have first = subst (λ (q : Placemen
 pub have_pins : (names : List (List ℕ)) (pins : Pins) (f : Fingers) (k : Kinds) (gaps : ℕ) → AreSound names pins f → ArePins f.nets pins → AreKinds f k → HavePins pins k gaps
 have_pins names pins f k gaps sound are_pins kinds row arranges = has_pins names pins f row sound are_pins (arranges.arranges f kinds)
 
--- on another number that is the same
+-- the routing has as many tracks as the row takes
 pub prove_same : (value : Row → State → Kinds → ℕ) (pins : Pins) (k : Kinds) (gaps tracks same : ℕ) (lemmas : List TrackLemma) → same ≡ tracks → Prove value pins k gaps tracks lemmas → Prove value pins k gaps same lemmas
 prove_same value pins k gaps tracks same lemmas e h = subst (λ n. Prove value pins k gaps n lemmas) (sym e) h
 

@@ -20,7 +20,7 @@ use Rattle.track_ways.specs.Channel.{AreTrunks, trunk_on}
 use Rattle.track_ways.proofs.Trunks.{trunks_of_wires}
 use Rattle.track_search.specs.Fewest.{HasLegalTracks}
 
--- the trunk on the track of its net
+-- a trunk on this track of its net
 moved_to : (NetNo → ℕ) → Trunk → Trunk
 moved_to track t = record { net = t.net; left = t.left; right = t.right; track = track t.net }
 
@@ -28,7 +28,7 @@ low_trunks : (wires : List Wire) → map trunk_of (map low_wire wires) ≡ map (
 low_trunks [] = refl
 low_trunks (w ∷ wires) = ap (λ ts. trunk_on (λ net. 0) w ∷ ts) (low_trunks wires)
 
--- trunks on other tracks
+-- trunks of all nets, each on another track of its net
 trunks_on : (p : Placement) (pins : Pins) (before track : NetNo → ℕ) (trunks : List Trunk) → AreTrunks p pins before trunks → AreTrunks p pins track (map (moved_to track) trunks)
 unfolding moved_to
 trunks_on p pins before track trunks are = record {
@@ -50,7 +50,7 @@ trunks_on p pins before track trunks are = record {
         let same : i.of.net ≡ net = subst (λ (t : Trunk). t.net ≡ net) (sym i.is) s.holds in
         (are.nets net).1 (any_at (λ (t : Trunk). t.net ≡ net) trunks i.of i.listed same)
 
--- so that one has is no answer
+-- a legal routing has so many tracks, so the tries cannot end with none
 pub has_routing : (p : Placement) (pins : Pins) (tracks before now : ℕ) → p ≡ placement_of p.row → HasLegalTracks pins p.row tracks → HasNoRouting p pins tracks → WereMade p pins tracks before now → ⊥
 has_routing p pins tracks before now placed has none (all, made, is) =
     let wires : IsPermutation (map (trunk_on (λ net. 0)) made.wires) made.trunks = subst (λ ts. IsPermutation ts made.trunks) (low_trunks made.wires) made.moved in

@@ -9,7 +9,6 @@ ghost use Rattle.lowest_row.specs.Lowest.{Arranges, HavePins, IfFound, IsFirstLo
 use cell_num::{NoMemory, Pins};
 use channel_route::Routing;
 use first_route::{FirstStop, first_routing};
-use row_model::Arrangement;
 use row_place::{Placement, place};
 use row_state::{Kinds, RowBound};
 use std::alloc::Global;

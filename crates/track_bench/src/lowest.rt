@@ -5,6 +5,7 @@ use cell_num::Bytes;
 use row_search::search_kept;
 use row_state::{Component, kinds};
 use std::alloc::Global;
+use track_lemmas::TrackLemmas;
 use track_log::{MOST_TRACKS, TrackCertificate};
 use track_search::{Fewest, fewest_tracks};
 
@@ -15,6 +16,17 @@ pub fn least_gaps(alloc: Global, inputs: &Inputs) -> Option<u32> {
         Ok(found) => Some(found.best.gaps),
         Err(_) => None,
     }
+}
+
+// The tracks of each lemma in order of net, as a text lists them.
+fn in_order(mut lemmas: TrackLemmas) -> TrackLemmas {
+    for lemma in lemmas.as_mut_slice() {
+        lemma
+            .tracks
+            .as_mut_slice()
+            .sort_unstable_by_key(|t| t.net.0);
+    }
+    lemmas
 }
 
 /// The answer for rows of the cell with at most so many gaps, or none where memory ends.
@@ -43,7 +55,7 @@ pub fn lowest_row(alloc: Global, inputs: &Inputs, gaps: u32) -> Option<Bytes> {
             let certificate = TrackCertificate {
                 gaps,
                 tracks,
-                lemmas,
+                lemmas: in_order(lemmas),
             };
             answer::found(alloc, name, steps.as_slice(), &certificate).ok()
         }
@@ -51,7 +63,7 @@ pub fn lowest_row(alloc: Global, inputs: &Inputs, gaps: u32) -> Option<Bytes> {
             let certificate = TrackCertificate {
                 gaps,
                 tracks: proved,
-                lemmas,
+                lemmas: in_order(lemmas),
             };
             answer::open(alloc, name, &certificate).ok()
         }
