@@ -9,8 +9,8 @@ use track_check::{TracksRefused, check_tracks};
 use track_lemmas::{TrackLemma, TrackLemmas};
 use track_ways::NetTracks;
 
-// The input 0, the output 1, and the rails.
-const PINS: Pins = Pins {
+/// The input 0, the output 1, and the rails.
+pub const PINS: Pins = Pins {
     pins: 4,
     vdd: NetNo(2),
     gnd: NetNo(3),

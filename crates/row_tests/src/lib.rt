@@ -18,3 +18,5 @@ mod places;
 mod rows;
 #[cfg(test)]
 mod searches;
+#[cfg(test)]
+mod track_texts;
