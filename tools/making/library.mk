@@ -1,6 +1,6 @@
 # One rule a cell: `make -f library.mk -j` in the folder that make-library made ready makes all cells on all processors,
-# `make -f library.mk .made/7` the seventh cell of the list alone. TECH, SPICE, PROGRAM, WORDS, LOWEST, TERMINAL and
-# LIMIT, the seconds that a cell may take, come from the environment.
+# `make -f library.mk .made/7` the seventh cell of the list alone. TECH, SPICE, PROGRAM, WORDS, LOWEST, FINDER, TERMINAL
+# and LIMIT, the seconds that a cell may take, come from the environment.
 COUNT := $(shell wc -l < cells)
 
 all: $(addprefix .made/,$(shell seq $(COUNT)))
@@ -10,13 +10,13 @@ all: $(addprefix .made/,$(shell seq $(COUNT)))
 # `--dogleg`.
 .made/%: inputs
 	@name=$$(sed -n '$*p' cells); \
-	rm -f "$$name.gds" "$$name.lef" "$$name.svg" "$$name.clog" "$$name.ctrail"; \
+	rm -f "$$name.gds" "$$name.lef" "$$name.svg" "$$name.clog" "$$name.ctrail" "$$name.ctrack"; \
 	began=$$(date +%s.%N); \
 	run() { if [ "$${LIMIT:-0}" = 0 ]; then "$$@"; else timeout "$$LIMIT" "$$@"; fi; }; \
 	cell() { \
 		if [ -n "$$LOWEST" ]; then \
 			"$(TOP)/lowest" "$$TECH" "$$SPICE" "$$name" "$$name" "$$@" --seconds "$${LIMIT:-0}" --program "$$PROGRAM" \
-				2> "$$name.low"; \
+				$${FINDER:+--finder "$$FINDER"} 2> "$$name.low"; \
 		else \
 			run "$$PROGRAM" make "$$TECH" "$$SPICE" "$$name" "$$name" "$$@"; \
 		fi > "$$name.txt"; \
