@@ -1,5 +1,6 @@
 -- What contracts see of a desk, and what its calls do to it.
-use Rattle.std.specs.Prelude.{ℕ, ◌≡◌, ◌+◌, ◌-◌, ◌^◌, ◌<◌, ◌≤◌, ◌↔◌, min, List, [], ◌∷◌, ◌++◌, length, take, drop, Option, Some, None, IsNone, MatchOption, bytes_eq, if◌then◌else◌}
+use Rattle.std.specs.Prelude.{ℕ, ◌≡◌, ◌+◌, ◌-◌, ◌^◌, ◌<◌, ◌≤◌, ◌↔◌, min, List, [], ◌∷◌, ◌++◌, length, take, drop}
+use Rattle.std.specs.Prelude.{Option, Some, None, IsNone, MatchOption, bytes_eq, if◌then◌else◌}
 
 -- files by name
 abbrev pub Files : Type 0
@@ -81,7 +82,8 @@ told (Some files) name = files name
 
 -- a file is called missing: of told files exactly one that is not there, and else only where reading failed
 abbrev pub IsMissing : Type 0 → List ℕ → View → View → Type 0
-IsMissing called name old new = MatchOption old.given (called → ReadingFailed old new) (λ files. called ↔ IsNone (files name))
+IsMissing called name old new =
+    MatchOption old.given (called → ReadingFailed old new) (λ files. called ↔ IsNone (files name))
 
 -- bytes of a file from a place on were copied to the front of a buffer; none of them is the file's end
 pub record ReadsPart (file : List ℕ) (from : ℕ) (buffer : List ℕ) (count : ℕ) : Type 0 where
@@ -110,7 +112,8 @@ CreatesOne name old new = new ≡ old ++ name ∷ []
 
 -- the file has the first bytes of the part at its end, the others are as before
 abbrev pub AppendedIn : List ℕ → List ℕ → ℕ → Files → Files → Type 0
-AppendedIn name part count old new = (bytes : List ℕ) → old name ≡ Some bytes → Sets name (Some (bytes ++ take count part)) old new
+AppendedIn name part count old new =
+    (bytes : List ℕ) → old name ≡ Some bytes → Sets name (Some (bytes ++ take count part)) old new
 
 -- the file has the first bytes and no others, the other files are as before
 abbrev pub WrittenIn : List ℕ → List ℕ → ℕ → Files → Files → Type 0

@@ -14,4 +14,12 @@ shorts_of desk = desk.shorts
 
 -- what contracts see of it: its counts alone
 abbrev pub host_view : {R F D : Type 0} → HostDesk R F D → View
-host_view desk = record { given = None; made = None; created = None; said = None; read_faults = read_faults_of desk; write_faults = write_faults_of desk; shorts = shorts_of desk }
+host_view desk = record {
+  given = None;
+  made = None;
+  created = None;
+  said = None;
+  read_faults = read_faults_of desk;
+  write_faults = write_faults_of desk;
+  shorts = shorts_of desk;
+}

@@ -1,5 +1,6 @@
 -- What the desks in memory hold.
-use Rattle.std.specs.Prelude.{ℕ, ◌≡◌, ◌+◌, ◌-◌, ◌^◌, min, List, length, take, drop, Contains, option_map, find, Result, Err, Some, None}
+use Rattle.std.specs.Prelude.{ℕ, ◌≡◌, ◌+◌, ◌-◌, ◌^◌, min, List, length, take, drop, Contains, option_map, find}
+use Rattle.std.specs.Prelude.{Result, Err, Some, None}
 use Rattle.std.specs.Str.{bytes_eq}
 use Rattle.std.specs.BTreeMap.{get_by_text}
 use Rattle.cell_io.specs.Desk.{Files, View}
@@ -52,7 +53,15 @@ shorts_of desk = desk.shorts
 
 -- what contracts see of it
 abbrev pub mem_view : MemDesk → View
-mem_view desk = record { given = Some (given_files desk); made = Some (made_files desk); created = Some (created_names desk); said = Some (said_bytes desk); read_faults = read_faults_of desk; write_faults = write_faults_of desk; shorts = shorts_of desk }
+mem_view desk = record {
+  given = Some (given_files desk);
+  made = Some (made_files desk);
+  created = Some (created_names desk);
+  said = Some (said_bytes desk);
+  read_faults = read_faults_of desk;
+  write_faults = write_faults_of desk;
+  shorts = shorts_of desk;
+}
 
 -- the next call is to fail
 abbrev pub IsToFail : MemDesk → Type 0
@@ -99,4 +108,12 @@ bytes_said desk = desk.said
 
 -- what contracts see of it: its files, and counts that stay at 0
 abbrev pub steady_view : SteadyDesk → View
-steady_view desk = record { given = Some (steady_files desk); made = None; created = None; said = None; read_faults = 0; write_faults = 0; shorts = 0 }
+steady_view desk = record {
+  given = Some (steady_files desk);
+  made = None;
+  created = None;
+  said = None;
+  read_faults = 0;
+  write_faults = 0;
+  shorts = 0;
+}

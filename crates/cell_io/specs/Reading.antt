@@ -16,4 +16,6 @@ file_of reading = reading.file
 
 -- where a file of this kind tells its bytes and where it stands, a read gives the bytes from there on
 abbrev pub LeavesTheRest : {F : Type 0} → (F → Option (List ℕ)) → (F → Option ℕ) → (F → Option (List ℕ)) → Type 0
-LeavesTheRest {F} remaining position bytes = (f : F) → (at : ℕ) → (all : List ℕ) → position f ≡ Some at → bytes f ≡ Some all → remaining f ≡ Some (drop at all)
+LeavesTheRest {F} remaining position bytes =
+    (f : F) → (at : ℕ) → (all : List ℕ) → position f ≡ Some at → bytes f ≡ Some all
+    → remaining f ≡ Some (drop at all)

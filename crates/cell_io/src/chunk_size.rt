@@ -26,6 +26,7 @@ impl ChunkSize {
         ChunkSize { bytes: usize::MAX }
     }
 
+    /// Chunks of at most that many bytes: 1 or more.
     pub fn new(bytes: u32) -> ChunkSize
         requires { 1 ≤ bytes }
         ensures { result ≡ bytes }
@@ -35,6 +36,7 @@ impl ChunkSize {
         }
     }
 
+    /// The most bytes of one chunk.
     pub fn bytes(&self) -> usize
         ensures is { result ≡ self.now }
         ensures some { 1 ≤ result }
@@ -42,7 +44,7 @@ impl ChunkSize {
         self.bytes
     }
 
-    /// How many of so many bytes are moved.
+    /// How many of that many bytes are moved.
     pub fn of(&self, count: usize) -> usize
         ensures is { result ≡ min count self.now }
         ensures some { 1 ≤ self.now }

@@ -1,5 +1,7 @@
 ghost use Rattle.std.specs.Prelude.{◌≡◌, ◌≤◌, ◌<◌, OnOk, length, OnErr, IfOk, IfSome, IsErrOf};
-ghost use Rattle.cell_io.specs.Desk.{View, told, IsMissing, ReadsPart, AddsPart, CreatedIn, AppendedIn, CreatesOne, Both, IsHeld, OnlyReads, OnlyMakes, OnlyAppends, OnlySays, IsQuiet, ReadingFailed, WritingFailed, MemoryFailed};
+ghost use Rattle.cell_io.specs.Desk.{View, told, IsMissing, ReadsPart, AddsPart, CreatedIn, AppendedIn, CreatesOne};
+ghost use Rattle.cell_io.specs.Desk.{Both, IsHeld, OnlyReads, OnlyMakes, OnlyAppends, OnlySays, IsQuiet};
+ghost use Rattle.cell_io.specs.Desk.{ReadingFailed, WritingFailed, MemoryFailed};
 ghost use Rattle.cell_io.specs.declared.desk.DeskAnswer.TheVariants.{Missing, Failed, NoMemory};
 
 /// Why a call of a desk gave up.

@@ -68,7 +68,7 @@ pub(crate) fn create_in(
     }
 }
 
-// Makes an empty file, and notes its name behind those noted before.
+// Makes an empty file, and notes its name after those noted before.
 pub(crate) fn create_noted(
     alloc: Global,
     files: &mut BTreeMap<String, Bytes>,

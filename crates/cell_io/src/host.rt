@@ -1,4 +1,5 @@
-ghost use Rattle.std.specs.Prelude.{◌≡◌, ◌≢◌, ◌≤◌, ◌<◌, ◌+◌, ◌-◌, None, Ok, Err, IfOk, IfErr, IfSome, OnOk, OnErr, length};
+ghost use Rattle.std.specs.Prelude.{◌≡◌, ◌≢◌, ◌≤◌, ◌<◌, ◌+◌, ◌-◌, None, Ok, Err, IfOk, IfErr, IfSome, OnOk, OnErr};
+ghost use Rattle.std.specs.Prelude.{length};
 ghost use Rattle.std.specs.Io.KnownBytes.{WriteAppends};
 ghost use Rattle.std.specs.IoError.{error_kind};
 ghost use Rattle.std.specs.declared.io.ErrorKind.TheVariants.{NotFound};
@@ -113,6 +114,7 @@ fn count_fault(
 }
 
 impl<'a, R: Files + Print> HostDesk<'a, R> {
+    /// A desk over the system's files and output, before its first call.
     pub fn new(rt: &'a R) -> HostDesk<'a, R>
         ensures read_count { read_faults_of result ≡ 0 }
         ensures write_count { write_faults_of result ≡ 0 }

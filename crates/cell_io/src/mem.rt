@@ -1,6 +1,11 @@
-ghost use Rattle.std.specs.Prelude.{◌≡◌, ◌<◌, ◌≤◌, ◌+◌, ◌++◌, ◌-◌, ◌^◌, min, [], Contains, ℕ, List as Sequence, None, option_map, Some, length, take, IsTrue, IsNone, IsSome, IfSome, IfOk, IsErrOf, ◌↔◌, OnOk, OnErr};
-ghost use Rattle.cell_io.specs.Desk.{IsHeld, AppendedIn, CreatedIn, CreatesOne, OnlyReads, OnlyMakes, OnlyAppends, OnlySays, ReadingFailed};
-ghost use Rattle.cell_io.specs.Mem.{mem_view, CountsFailed, CountsShort, files_of, given_files, made_files, created_names, said_bytes, failing_calls, most_of, next_call, read_faults_of, write_faults_of, shorts_of, IsToFail, IsAfterCall, IsCopied, one_more};
+ghost use Rattle.std.specs.Prelude.{◌≡◌, ◌<◌, ◌≤◌, ◌+◌, ◌++◌, ◌-◌, ◌^◌, min, [], Contains, ℕ, List as Sequence, None};
+ghost use Rattle.std.specs.Prelude.{option_map, Some, length, take, IsTrue, IsNone, IsSome, IfSome, IfOk, IsErrOf};
+ghost use Rattle.std.specs.Prelude.{◌↔◌, OnOk, OnErr};
+ghost use Rattle.cell_io.specs.Desk.{IsHeld, AppendedIn, CreatedIn, CreatesOne, OnlyReads, OnlyMakes, OnlyAppends};
+ghost use Rattle.cell_io.specs.Desk.{OnlySays, ReadingFailed};
+ghost use Rattle.cell_io.specs.Mem.{mem_view, CountsFailed, CountsShort, files_of, given_files, made_files};
+ghost use Rattle.cell_io.specs.Mem.{created_names, said_bytes, failing_calls, most_of, next_call, read_faults_of};
+ghost use Rattle.cell_io.specs.Mem.{write_faults_of, shorts_of, IsToFail, IsAfterCall, IsCopied, one_more};
 ghost use Rattle.cell_io.specs.declared.desk.DeskAnswer.TheVariants as answer;
 
 use crate::chunk_size::ChunkSize;
@@ -74,7 +79,7 @@ impl MemDesk {
         }
     }
 
-    /// From now on each call moves at most so many bytes.
+    /// From now on each call moves at most that many bytes.
     pub fn cut(&mut self, most: u32)
         requires { 1 ≤ most }
         ensures { self.new ≡ record self.old { most = most } }
@@ -106,7 +111,7 @@ impl MemDesk {
         self.said.as_slice()
     }
 
-    // Takes the next number, and tells whether that call is to fail.
+    // Takes the next number, and answers whether that call is to fail.
     fn fails(&mut self) -> bool
         ensures fails { IsTrue result ↔ IsToFail self.old }
         ensures number { self.new ≡ record self.old { calls = one_more self.old.calls } }

@@ -1,5 +1,7 @@
-ghost use Rattle.std.specs.Prelude.{◌≡◌, ◌≤◌, ◌<◌, ◌⊎◌, length, Some, option_map, Ok, Err, IsOk, OnOk, OnErr, IfOk, IfSome, IsErrOf};
-ghost use Rattle.cell_io.specs.Desk.{Both, ForSome, AddsPart, AppendedIn, CreatesOne, WrittenIn, IsHeld, Sets, IsQuiet, OnlyMakes, OnlyAppends, OnlySays, WritingFailed, MemoryFailed};
+ghost use Rattle.std.specs.Prelude.{◌≡◌, ◌≤◌, ◌<◌, ◌⊎◌, length, Some, option_map, Ok, Err, IsOk, OnOk, OnErr, IfOk};
+ghost use Rattle.std.specs.Prelude.{IfSome, IsErrOf};
+ghost use Rattle.cell_io.specs.Desk.{Both, ForSome, AddsPart, AppendedIn, CreatesOne, WrittenIn, IsHeld, Sets};
+ghost use Rattle.cell_io.specs.Desk.{IsQuiet, OnlyMakes, OnlyAppends, OnlySays, WritingFailed, MemoryFailed};
 ghost use Rattle.cell_io.specs.Output.{Puts, CanPut, IsSpared};
 ghost use Rattle.cell_io.specs.declared.desk.DeskAnswer.TheVariants as answer;
 ghost use Rattle.cell_io.specs.declared.output.WriteFault.TheVariants.{Failed, NoMemory};

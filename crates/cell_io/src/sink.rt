@@ -5,10 +5,10 @@ use cell_num::NoMemory;
 /// What takes the bytes of a file part by part, in order. What it has made of them is a relation to what it was
 /// before, so that it need not keep them.
 pub trait Sink {
-    /// The second one is the first, behind these bytes.
+    /// The second one is the first, after these bytes.
     ghost took: { Self → Sequence ℕ → Self → Type 0 };
 
-    /// It may be given so many bytes more.
+    /// It may be given that many bytes more.
     ghost may: { Self → ℕ → Type 0 };
 
     /// Takes some bytes more.
@@ -19,7 +19,7 @@ pub trait Sink {
     /// Behind no bytes it is as before.
     ghost none: { (a : Self) → took a [] a };
 
-    /// Behind two parts, one after the other, it is behind both together.
+    /// After two parts, one after the other, it is after both together.
     ghost more: { (a b c : Self) (x y : Sequence ℕ) → took a x b → took b y c → took a (x ++ y) c };
 
     /// What it may be given is what it might have been given, less what came.

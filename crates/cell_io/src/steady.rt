@@ -1,4 +1,5 @@
-ghost use Rattle.std.specs.Prelude.{◌≡◌, ◌<◌, ◌+◌, ◌-◌, ◌^◌, ◌↔◌, min, Some, None, Ok, IsNone, IsErrOf, IsOk, OnErr, IfOk, IfSome, length};
+ghost use Rattle.std.specs.Prelude.{◌≡◌, ◌<◌, ◌+◌, ◌-◌, ◌^◌, ◌↔◌, min, Some, None, Ok, IsNone, IsErrOf, IsOk, OnErr};
+ghost use Rattle.std.specs.Prelude.{IfOk, IfSome, length};
 ghost use Rattle.cell_io.specs.Mem.{steady_view, files_of, steady_files, bytes_written, bytes_said, IsCopied};
 ghost use Rattle.cell_io.specs.declared.desk.DeskAnswer.TheVariants.{Missing, Failed, NoMemory};
 
@@ -15,6 +16,7 @@ pub struct SteadyDesk {
 }
 
 impl SteadyDesk {
+    /// A desk that gives these files, and whose calls never fail.
     pub fn new(given: FileList) -> SteadyDesk
         ensures given { steady_files result ≡ files_of given }
         ensures written { bytes_written result ≡ 0 }
