@@ -1,17 +1,19 @@
 -- What the search for the fewest tracks says of the row that it found, and of the row's first routing on them.
-use Rattle.std.proofs.Common.{ℕ, ◌≡◌, ◌≤◌, List, Option, IfSome, Some, refl, subst, sym, length, arith, All}
+use Rattle.std.proofs.Common.{ℕ, ◌≡◌, ◌<◌, ◌≤◌, ◌⊎◌, List, Option, IfSome, Some, inl, inr, refl, subst, sym, length, arith, All}
 use Rattle.std.proofs.lemmas.List.Sorted.{IsPermutation-refl}
 use Rattle.cell_num.specs.declared.finger.Fingers.{Fingers}
 use Rattle.cell_num.specs.declared.finger.Row.{Row}
 use Rattle.cell_num.specs.declared.net.Pins.{Pins}
 use Rattle.cell_num.specs.Fingers.{AreSound}
 use Rattle.cell_num.specs.Pins.{ArePins}
+use Rattle.cell_num.proofs.Lists.{all_imply}
 use Rattle.row_model.specs.declared.column.Column.{Column}
 use Rattle.row_model.specs.Arrangement.{IsArrangement, IsColumn}
 use Rattle.row_place.specs.declared.placement.Placement.{Placement}
 use Rattle.row_place.specs.Places.{placement_of}
 use Rattle.row_place.specs.Trunks.{HasPins}
 use Rattle.row_place.proofs.Pins.{has_pins}
+use Rattle.first_route.specs.Tries.{AreMore}
 use Rattle.row_state.specs.declared.kind.Kinds.{Kinds}
 use Rattle.row_state.specs.declared.state.State.{State}
 use Rattle.row_state.specs.Completion.{left_in}
@@ -19,9 +21,11 @@ use Rattle.row_state.specs.Start.{AreKinds, AreSomeKinds, start_of}
 use Rattle.track_lemmas.specs.declared.lemma.TrackLemma.{TrackLemma}
 use Rattle.track_search.specs.declared.fewest.Fewest.{Fewest}
 use Rattle.track_search.specs.declared.fewest.Fewest.TheVariants as fewest
-use Rattle.track_search.specs.Fewest.{IsFewest, IsFirstOn, Prove, TakeAtLeast, TakeTracks}
+use Rattle.track_log.specs.Fits.{LemmaFits, TrackFits}
+use Rattle.track_search.specs.Fewest.{AreAtMost, IsFewest, IsFirstOn, IsOpen, Prove, TakeAtLeast, TakeTracks, lemmas_of}
+use Rattle.track_search.specs.Kept.{IsTrackBelow, IsWithin}
 use Rattle.track_search.specs.Limit.{IsFirstRow}
-use Rattle.lowest_row.specs.Lowest.{HavePins, IsFirstLow}
+use Rattle.lowest_row.specs.Lowest.{HavePins, IsBudgetSpent, IsFirstLow}
 
 pub first_on : (value : Row → State → Kinds → ℕ) (pins : Pins) (k : Kinds) (gaps : ℕ) (e : Fewest) (row : List Column) (tracks : ℕ) (lemmas : List TrackLemma) → e ≡ fewest.Found row tracks lemmas → IsFewest value pins k gaps e → IsFirstOn value pins k gaps row tracks lemmas
 first_on value pins k gaps e row tracks lemmas is h = subst (IsFewest value pins k gaps) is h
@@ -57,3 +61,34 @@ take_same pins k gaps tracks same e h = subst (TakeAtLeast pins k gaps) (sym e) 
 
 pub first_low : (pins : Pins) (k : Kinds) (gaps tracks same : ℕ) (row placed : List Column) → same ≡ tracks → placed ≡ row → IsFirstRow pins tracks k gaps row → IsFirstLow pins k gaps same placed
 first_low pins k gaps tracks same row placed e is first = subst (IsFirstLow pins k gaps same) (sym is) (subst (λ n. IsFirstLow pins k gaps n row) (sym e) first.first)
+
+-- ---- lemmas, and why the search ends open
+
+pub fits_lemmas : (k : Kinds) (gaps most : ℕ) (lemmas : List TrackLemma) → gaps ≤ 63 → most ≤ 256 → All (IsWithin k most gaps) lemmas → All (LemmaFits k) lemmas
+fits_lemmas k gaps most lemmas few low all = all_imply (IsWithin k most gaps) (LemmaFits k) lemmas (λ lemma w. record {
+  state = w.state;
+  gaps = omega (arith, w.gaps, few);
+  tracks = all_imply (IsTrackBelow k.nets most) (TrackFits k.nets) lemma.tracks (λ t b. record { net = b.net; track = omega (arith, b.track, low) }) w.tracks;
+  order = w.order;
+}) all
+
+pub within_found : (k : Kinds) (most gaps : ℕ) (e : Fewest) (row : List Column) (tracks : ℕ) (lemmas : List TrackLemma) → e ≡ fewest.Found row tracks lemmas → All (IsWithin k most gaps) (lemmas_of e) → All (IsWithin k most gaps) lemmas
+within_found k most gaps e row tracks lemmas is h = subst (λ z. All (IsWithin k most gaps) (lemmas_of z)) is h
+
+pub within_open : (k : Kinds) (most gaps : ℕ) (e : Fewest) (proved : ℕ) (lemmas : List TrackLemma) → e ≡ fewest.Open proved lemmas → All (IsWithin k most gaps) (lemmas_of e) → All (IsWithin k most gaps) lemmas
+within_open k most gaps e proved lemmas is h = subst (λ z. All (IsWithin k most gaps) (lemmas_of z)) is h
+
+pub below_found : (most : ℕ) (e : Fewest) (row : List Column) (tracks : ℕ) (lemmas : List TrackLemma) → e ≡ fewest.Found row tracks lemmas → AreAtMost most e → tracks < most
+below_found most e row tracks lemmas is h = subst (AreAtMost most) is h
+
+pub below_open : (most : ℕ) (e : Fewest) (proved : ℕ) (lemmas : List TrackLemma) → e ≡ fewest.Open proved lemmas → AreAtMost most e → proved ≤ most
+below_open most e proved lemmas is h = subst (AreAtMost most) is h
+
+pub still_open : (value : Row → State → Kinds → ℕ) (pins : Pins) (k : Kinds) (gaps most budget : ℕ) (e : Fewest) (proved : ℕ) (lemmas : List TrackLemma) → e ≡ fewest.Open proved lemmas → IsOpen value pins k gaps most budget e → (proved ≡ most) ⊎ IsBudgetSpent value pins k gaps proved budget
+still_open value pins k gaps most budget e proved lemmas is h = elim (subst (IsOpen value pins k gaps most budget) is h) [
+  | inl all ↦ inl all
+  | inr spent ↦ inr (inl spent)
+]
+
+pub tries_spent : (value : Row → State → Kinds → ℕ) (pins : Pins) (k : Kinds) (gaps most tracks budget : ℕ) (row : List Column) (p : Placement) → p ≡ placement_of row → IsFirstRow pins tracks k gaps row → AreMore p pins tracks budget → (tracks ≡ most) ⊎ IsBudgetSpent value pins k gaps tracks budget
+tries_spent value pins k gaps most tracks budget row p placed first more = inr (inr (record { row = row; first = first; more = subst (λ q. AreMore q pins tracks budget) placed more }))

@@ -1,4 +1,4 @@
--- Where trunks on the tracks of the nets are legal, some legal routing has so many tracks.
+-- Where trunks on the tracks of the nets are legal, some legal routing has that many tracks.
 use Rattle.std.proofs.Common.{ℕ, ◌≡◌, ◌<◌, List, [], ◌∷◌, map, refl, ap, subst, sym, Any, IsPermutation}
 use Rattle.cell_num.specs.declared.net.NetNo.{NetNo}
 use Rattle.cell_num.specs.declared.net.Pins.{Pins}
@@ -50,7 +50,7 @@ trunks_on p pins before track trunks are = record {
         let same : i.of.net ≡ net = subst (λ (t : Trunk). t.net ≡ net) (sym i.is) s.holds in
         (are.nets net).1 (any_at (λ (t : Trunk). t.net ≡ net) trunks i.of i.listed same)
 
--- a legal routing has so many tracks, so the tries cannot end with none
+-- a legal routing has that many tracks, so the tries cannot end with none
 pub has_routing : (p : Placement) (pins : Pins) (tracks before now : ℕ) → p ≡ placement_of p.row → HasLegalTracks pins p.row tracks → HasNoRouting p pins tracks → WereMade p pins tracks before now → ⊥
 has_routing p pins tracks before now placed has none (all, made, is) =
     let wires : IsPermutation (map (trunk_on (λ net. 0)) made.wires) made.trunks = subst (λ ts. IsPermutation ts made.trunks) (low_trunks made.wires) made.moved in

@@ -1,10 +1,12 @@
-ghost use Rattle.std.specs.Prelude.{◌≡◌, IfOk, IfSome};
+ghost use Rattle.std.specs.Prelude.{◌≡◌, ◌<◌, ◌≤◌, All, IfNone, IfOk, IfSome};
 ghost use Rattle.row_place.specs.Places.{IsPlacement, placement_of};
 ghost use Rattle.row_place.specs.Trunks.{HasPins};
 ghost use Rattle.channel_route.specs.Routing.{IsLegal};
 ghost use Rattle.first_route.specs.First.{IsFirstRouting};
+ghost use Rattle.first_route.specs.Tries.{AreMore};
+ghost use Rattle.track_log.specs.Fits.{LemmaFits};
 ghost use Rattle.track_search.specs.Fewest.{HasLegalTracks, Prove, TakeAtLeast};
-ghost use Rattle.lowest_row.specs.Lowest.{Arranges, HavePins, IfFound, IsFirstLow, lemmas_of, least_of};
+ghost use Rattle.lowest_row.specs.Lowest.{Arranges, HavePins, IfFound, IsFirstLow, IsOpen, lemmas_of, least_of};
 
 use cell_num::{NoMemory, Pins};
 use channel_route::Routing;
@@ -25,8 +27,8 @@ pub enum Lowest {
         routing: Routing,
         lemmas: TrackLemmas,
     },
-    /// The visits or the tries are spent, or no row has tracks below the most: each row takes at least so many tracks,
-    /// which the lemmas certify where these are some.
+    /// The visits or the tries are spent, or no row has tracks below the most: each row takes at least that many
+    /// tracks, which the lemmas certify where these are some.
     Open {
         proved: u32,
         lemmas: TrackLemmas,
@@ -45,7 +47,8 @@ fn routing_on(
     requires placed { placement.now ≡ placement_of placement.now.row }
     requires pins { HasPins placement.now pins.now }
     requires tracks { HasLegalTracks pins.now placement.now.row tracks }
-    ensures { IfOk result (λ r. IfSome r (IsFirstRouting placement.now pins.now tracks)) }
+    ensures first { IfOk result (λ r. IfSome r (IsFirstRouting placement.now pins.now tracks)) }
+    ensures spent { IfOk result (λ r. IfNone r (AreMore placement.now pins.now tracks budget)) }
 {
     let mut tries = budget;
     match first_routing(alloc, placement, pins, tracks, &mut tries) {
@@ -56,7 +59,7 @@ fn routing_on(
     }
 }
 
-/// The first row of the kinds' fingers with at most so many gaps that has a legal routing on the fewest tracks, where
+/// The first row of the kinds' fingers with at most that many gaps that has a legal routing on the fewest tracks, where
 /// these are fewer than the most, and the first of its legal routings on these tracks. Where the budget is spent
 /// before, it gives how many tracks each row takes at least. The budget is of visits of the search for the row, and
 /// again of tries of the search for the routing.
@@ -70,7 +73,7 @@ pub fn lowest_row<B: RowBound>(
     budget: u64,
 ) -> Result<Lowest, NoMemory>
     requires { HavePins pins.now kinds.now gaps }
-    // the row has all fingers and at most so many gaps
+    // the row has all fingers and at most that many gaps
     ensures arranges { IfOk result (IfFound (λ p _. Arranges kinds.now gaps p.row)) }
     ensures placed { IfOk result (IfFound (λ p _. p ≡ placement_of p.row)) }
     ensures legal { IfOk result (IfFound (λ p r. IsLegal p pins.now r)) }
@@ -82,6 +85,12 @@ pub fn lowest_row<B: RowBound>(
     ensures routing { IfOk result (IfFound (λ p r. IsFirstRouting p pins.now r.tracks r)) }
     ensures certified { IfOk result (λ lowest. Prove (B.value bound.now) pins.now kinds.now gaps (least_of lowest)
         (lemmas_of lowest)) }
+    // a text can hold the lemmas
+    ensures fits { gaps ≤ 63 → most ≤ 256 → IfOk result (λ lowest. All (LemmaFits kinds.now) (lemmas_of lowest)) }
+    ensures most { IfOk result (λ lowest. least_of lowest ≤ most) }
+    ensures below { IfOk result (IfFound (λ _ r. r.tracks < most)) }
+    // the search ends open only at the most tracks, or where the budget is spent for a reason
+    ensures open { IfOk result (IsOpen (B.value bound.now) pins.now kinds.now gaps most budget) }
 {
     kinds.show_limits();
     match fewest_tracks(alloc, bound, pins, kinds, gaps, most, budget)? {

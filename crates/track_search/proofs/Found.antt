@@ -9,7 +9,7 @@ use Rattle.cell_num.specs.declared.finger.Row.{Row}
 use Rattle.cell_num.specs.declared.finger.Row.TheVariants.{P, N}
 use Rattle.cell_num.specs.declared.net.NetNo.{NetNo}
 use Rattle.cell_num.specs.declared.net.Pins.{Pins}
-use Rattle.cell_num.proofs.Lists.{contains_here}
+use Rattle.cell_num.proofs.Lists.{all_imply, contains_here}
 use Rattle.cell_num.proofs.Pairs.{Some', some_from_any}
 use Rattle.row_model.specs.declared.column.Column.{Column}
 use Rattle.row_model.specs.Arrangement.{IsColumn}
@@ -46,9 +46,13 @@ use Rattle.track_lemmas.proofs.Sound.{Holds, lemmas_true, refuted_fails}
 use Rattle.track_check.specs.Steps.{StepFailsListed}
 use Rattle.track_search.specs.declared.ahead.Ahead.{Ahead}
 use Rattle.track_search.specs.First.{IsFirstRouted, IsRouted, RunsOn}
-use Rattle.track_search.specs.Visit.{AreTaken, AreWaysAt, EndsFail, EndsGo, GoOn, IsAhead, IsTaken, lemma_at}
+use Rattle.track_search.specs.Visit.{AreTaken, AreWaysAt, EndsFail, EndsGo, GoOn, HasPart, IsAhead, IsTaken, lemma_at}
 use Rattle.track_search.proofs.Grown.{WaysFail}
 use Rattle.track_search.proofs.Refuted.{refuted_listed}
+
+-- the tracks of a part
+part_tracks : (way other : List NetTrack) (track : NetNo → ℕ) → HasPart way other → AreTracksOf way track → AreTracksOf other track
+part_tracks way other track part lie = all_imply (Contains way) (λ (t : NetTrack). track t.net ≡ t.track) other (λ t there. All-contains (λ (t : NetTrack). track t.net ≡ t.track) way t lie there) part
 
 -- nothing runs from a way that is refuted
 refuted_none : (value : Row → State → Kinds → ℕ) (pins : Pins) (limit : ℕ) (k : Kinds) (lemmas : List TrackLemma) (s : State) (gaps : ℕ) (way : List NetTrack) (next : NetNo → ℕ) (steps : List Step) → AreSomeKinds k → Holds value k → AreJustified value pins limit k lemmas → IsState k s → AreTracksOf way next → IsRefutedListed value k lemmas s gaps way → Leads k s steps → further_gaps s (map (column_of k) steps) ≤ gaps → Runs pins limit k s next steps → ⊥
@@ -99,7 +103,9 @@ routed_after value pins limit k lemmas s ways onward gaps left step steps some l
       within = within;
       on = elim t [
         | inl any ↦ absurd (refuted_none value pins limit k lemmas (state_after k s step) left a.next a.track steps some law all (valid_after k s step some state routed.leads.0) a.lie (inr any) routed.leads.1 within a.runs)
-        | inr there ↦ record { way = a.next; there = there; track = a.track; lie = a.lie; runs = a.runs }
+        | inr part ↦
+            let found : Some' (HasPart a.next) onward = some_from_any (HasPart a.next) onward part in
+            record { way = found.it; there = found.there; track = a.track; lie = part_tracks a.next found.it a.track found.holds a.lie; runs = a.runs }
       ];
     }
 

@@ -1,7 +1,11 @@
 pub mod Found
 pub mod Grown
+pub mod InOrder
+pub mod Kept
 pub mod Least
 pub mod Lists
+pub mod Noted
 pub mod Refuted
+pub mod Spent
 pub mod Starts
 pub mod Ways

@@ -1,22 +1,19 @@
 -- What loops over lists show.
-use Rattle.std.proofs.Common.{ℕ, ◌≡◌, ◌+◌, ◌<◌, ◌≤◌, ◌↔◌, ◌==◌, ◌++◌, true, List, [], ◌∷◌, length, get_or, take, take_all, inl, inr, refl, sym, ap, subst, arith, All, Contains, ◌∙◌, append_assoc, append-nil}
+use Rattle.std.proofs.Common.{ℕ, ◌≡◌, ◌+◌, ◌<◌, ◌≤◌, ◌↔◌, ◌==◌, ◌++◌, List, [], ◌∷◌, length, get_or, take, take_all, inl, inr, refl, sym, ap, subst, arith, All, Any, Contains, ◌∙◌, append_assoc, append-nil}
 use Rattle.std.specs.Prelude.{IsTrue}
-use Rattle.std.specs.Bool.{Decides}
-use Rattle.std.specs.Cmp.Lexicographic.{pointwise, pointwise_decides}
-use Rattle.std.proofs.lemmas.Bool.{and_from, and_parts, eq-eqb, eqb-true}
-use Rattle.std.proofs.lemmas.List.Elements.{All-nil, All-append, All-contains, All-more, All-push, All-weaker, Contains-append_left, Contains-append_right}
-use Rattle.cell_num.specs.declared.net.NetNo.{NetNo}
+use Rattle.std.proofs.lemmas.Bool.{eq-eqb, eqb-true}
+use Rattle.std.proofs.lemmas.List.Elements.{All-nil, All-append, All-contains, All-contains_itself, All-more, All-push, All-weaker, Contains-append_right}
 use Rattle.cell_num.specs.declared.net.Pins.{Pins}
-use Rattle.cell_num.proofs.Lists.{all_from_contains, all_imply, contains_here}
-use Rattle.cell_num.proofs.Pairs.{any_at}
+use Rattle.cell_num.proofs.Lists.{all_from_contains, all_imply, all_one, contains_here}
+use Rattle.cell_num.proofs.Pairs.{any_append_left, any_at, pairs_append, pairs_none, pairs_one}
 use Rattle.row_state.specs.declared.kind.Kinds.{Kinds}
 use Rattle.row_state.specs.declared.step.Step.{Step}
 use Rattle.row_state.specs.declared.state.State.{State}
 use Rattle.track_ways.specs.Ways.{goes_ways}
 use Rattle.track_ways.specs.declared.track.NetTrack.{NetTrack}
-use Rattle.track_ways.proofs.Complete.{net_same}
 use Rattle.track_lemmas.specs.declared.lemma.TrackLemma.{TrackLemma}
-use Rattle.track_search.specs.Visit.{AreAdded, AreTaken, GoOn, IsTaken, same_track}
+use Rattle.track_lemmas.specs.Checked.{CoversListed}
+use Rattle.track_search.specs.Visit.{AreAdded, AreFresh, AreTaken, GoOn, HasPart, IsTaken}
 
 no_items : {X : Type 0} (xs : List X) → length xs ≡ 0 → xs ≡ []
 no_items [] e = refl
@@ -32,13 +29,9 @@ no_ways xs n is = (
 pub all_of_none : {X : Type 0} (P : X → Type 0) (xs : List X) (n : ℕ) → n ≡ length xs → n ≡ 0 → All P xs
 all_of_none P xs n is none = subst (All P) (sym (no_items xs (sym is ∙ none))) (All-nil P)
 
--- an item of the list, as the loop names it
-pub there_at : {X : Type 0} (xs : List X) (i : ℕ) (x y : X) → x ≡ get_or xs i x → i < length xs → x ≡ y → Contains xs y
-there_at xs i x y is within e = (i, within, subst (λ z. get_or xs i z ≡ z) e (sym is))
-
 taken_grown : (lemmas : List TrackLemma) (s : State) (left : ℕ) (xs ys : List (List NetTrack)) (more : List (List NetTrack)) → ys ≡ xs ++ more → (way : List NetTrack) → IsTaken lemmas s left xs way → IsTaken lemmas s left ys way
 taken_grown lemmas s left xs ys more is way (inl known) = inl known
-taken_grown lemmas s left xs ys more is way (inr there) = inr (subst (λ zs. Contains zs way) (sym is) (Contains-append_left xs more way there))
+taken_grown lemmas s left xs ys more is way (inr any) = inr (subst (Any (HasPart way)) (sym is) (any_append_left (HasPart way) xs more any))
 
 pub all_taken_grown : (lemmas : List TrackLemma) (s : State) (left : ℕ) (xs ys more ways : List (List NetTrack)) → ys ≡ xs ++ more → All (IsTaken lemmas s left xs) ways → All (IsTaken lemmas s left ys) ways
 all_taken_grown lemmas s left xs ys more ways is all = All-weaker (IsTaken lemmas s left xs) (IsTaken lemmas s left ys) (taken_grown lemmas s left xs ys more is) ways all
@@ -59,7 +52,7 @@ added_push lemmas s left found before after pushed i x is within h e =
       more = h.more ++ x ∷ [];
       is = e ∙ ap (λ zs. zs ++ x ∷ []) h.is ∙ append_assoc before h.more (x ∷ []);
       from = All-push (Contains found) h.more x h.from (i, within, sym is);
-      taken = All-more (IsTaken lemmas s left pushed) found i x within (all_taken_grown lemmas s left after pushed (x ∷ []) (take i found) e h.taken) (subst (IsTaken lemmas s left pushed) is (inr there));
+      taken = All-more (IsTaken lemmas s left pushed) found i x within (all_taken_grown lemmas s left after pushed (x ∷ []) (take i found) e h.taken) (subst (IsTaken lemmas s left pushed) is (inr (any_at (HasPart x) pushed x there (All-contains_itself x))));
     }
 
 pub added_all : (lemmas : List TrackLemma) (s : State) (left : ℕ) (found before after : List (List NetTrack)) (i : ℕ) → length found ≤ i → AreAdded lemmas s left found (take i found) before after → AreAdded lemmas s left found found before after
@@ -76,21 +69,17 @@ onward_more pins limit k lemmas s step after left ways items before new found i 
       any_at (λ way. Contains (goes_ways pins limit k s way step) next) ways x (subst (λ zs. Contains zs x) same (i, within, sym is)) (subst (λ fs. Contains fs next) are (All-contains (Contains found) a.more next a.from there))))),
 )
 
-make_track : NetNo → ℕ → NetTrack
-make_track net track = record { net = net; track = track }
+-- one more way of which no lemma speaks, and that has all tracks of no other
+pub fresh_push : (lemmas : List TrackLemma) (s : State) (left : ℕ) (ways pushed : List (List NetTrack)) (x : List NetTrack) → AreFresh lemmas s left ways → pushed ≡ ways ++ x ∷ [] → (Any (CoversListed s left x) lemmas → ⊥) → All (λ other. HasPart x other → ⊥) ways → AreFresh lemmas s left pushed
+fresh_push lemmas s left ways pushed x h is none apart = subst (AreFresh lemmas s left) (sym is) (record {
+  open' = All-push (λ way. Any (CoversListed s left way) lemmas → ⊥) ways x h.open' none;
+  apart = pairs_append (λ a b. HasPart b a → ⊥) ways (x ∷ []) h.apart (pairs_one (λ a b. HasPart b a → ⊥) x)
+      (all_imply (λ other. HasPart x other → ⊥) (λ a. All (λ b. HasPart b a → ⊥) (x ∷ [])) ways (λ a not'. all_one (λ b. HasPart b a → ⊥) x not') apart);
+})
 
-made_track : {a b : NetNo} {i j : ℕ} → a ≡ b → i ≡ j → make_track a i ≡ make_track b j
-made_track e f = cc
+pub fresh_none : (lemmas : List TrackLemma) (s : State) (left : ℕ) (ways : List (List NetTrack)) → ways ≡ [] → AreFresh lemmas s left ways
+fresh_none lemmas s left ways none = subst (AreFresh lemmas s left) (sym none) (record { open' = All-nil (λ way. Any (CoversListed s left way) lemmas → ⊥); apart = pairs_none (λ a b. HasPart b a → ⊥) })
 
-track_is : (t u : NetTrack) → same_track t u ≡ true → t ≡ u
-unfolding make_track
-track_is t u e =
-    let parts : ((t.net.0 == u.net.0) ≡ true) × ((t.track == u.track) ≡ true) = and_parts (t.net.0 == u.net.0) (t.track == u.track) e in
-    let whole : make_track t.net t.track ≡ make_track u.net u.track = made_track (net_same t.net u.net (eqb-true t.net.0 u.net.0 parts.0)) (eqb-true t.track u.track parts.1) in
-    whole
-
-track_decides : (t u : NetTrack) → Decides (same_track t u) (t ≡ u)
-track_decides t u = (track_is t u, λ same. and_from (t.net.0 == u.net.0) (t.track == u.track) (eq-eqb t.net.0 u.net.0 (ap (λ (z : NetTrack). z.net.0) same)) (eq-eqb t.track u.track (ap (λ (z : NetTrack). z.track) same)))
-
-pub tracks_are : (a b : List NetTrack) → pointwise same_track a b ≡ true → a ≡ b
-tracks_are a b e = (pointwise_decides track_decides a b).0 e
+-- before the first way
+pub onward_none : (pins : Pins) (limit : ℕ) (k : Kinds) (lemmas : List TrackLemma) (s : State) (step : Step) (after : State) (left : ℕ) (ways items onward : List (List NetTrack)) → onward ≡ [] → All (AreTaken pins limit k lemmas s step after left onward) (take 0 items) × All (GoOn pins limit k s step ways) onward
+onward_none pins limit k lemmas s step after left ways items onward none = (All-nil (AreTaken pins limit k lemmas s step after left onward), subst (All (GoOn pins limit k s step ways)) (sym none) (All-nil (GoOn pins limit k s step ways)))

@@ -1,5 +1,5 @@
 -- What lemmas say of ways stays said when there are more of them, and is true.
-use Rattle.std.proofs.Common.{ℕ, ◌≡◌, ◌++◌, List, [], ◌∷◌, length, get_or, take, map, inl, inr, refl, sym, subst, arith, Some, slice_get, All, Any, Contains, length-append, append_assoc, append-nil}
+use Rattle.std.proofs.Common.{ℕ, true, ◌≡◌, ◌++◌, List, [], ◌∷◌, length, get_or, take, map, inl, inr, refl, sym, subst, arith, Some, slice_get, All, Any, Contains, length-append, append_assoc, append-nil}
 use Rattle.std.proofs.lemmas.Bool.{cases_lt}
 use Rattle.std.proofs.Math.Seq.{get_or-append_seam, take-append_seam}
 use Rattle.std.proofs.lemmas.List.{take-append-le, get_or_append_left}
@@ -7,7 +7,7 @@ use Rattle.std.proofs.lemmas.List.Elements.{All-contains, All-head, All-tail, Al
 use Rattle.cell_num.specs.declared.finger.Row.{Row}
 use Rattle.cell_num.specs.declared.net.NetNo.{NetNo}
 use Rattle.cell_num.specs.declared.net.Pins.{Pins}
-use Rattle.cell_num.proofs.Lists.{all_from_contains, contains_get}
+use Rattle.cell_num.proofs.Lists.{all_from_contains, all_imply, contains_get}
 use Rattle.cell_num.proofs.Pairs.{Some', any_append_left, any_at, any_from_some, some_from_any}
 use Rattle.row_state.specs.declared.kind.Kinds.{Kinds}
 use Rattle.row_state.specs.declared.state.State.{State}
@@ -16,13 +16,16 @@ use Rattle.row_state.specs.Start.{AreSomeKinds}
 use Rattle.row_state.specs.Steps.{state_after}
 use Rattle.track_ways.specs.declared.track.NetTrack.{NetTrack}
 use Rattle.track_ways.specs.Tracks.{AreTracksOf}
+use Rattle.track_ways.specs.States.{is_open_at}
 use Rattle.track_ways.specs.Ways.{goes_ways}
 use Rattle.track_lemmas.specs.declared.lemma.TrackLemma.{TrackLemma}
 use Rattle.track_lemmas.specs.Certificate.{AreJustified, Covers, IsJustified, IsRefuted, IsValid}
 use Rattle.track_lemmas.specs.Checked.{CoversListed, IsJustifiedListed, IsRefutedListed}
 use Rattle.track_lemmas.proofs.Checked.{justified_decided}
 use Rattle.track_check.specs.Steps.{StepFailsListed}
-use Rattle.track_search.specs.Visit.{lemma_at}
+use Rattle.track_search.specs.InOrder.{in_order}
+use Rattle.track_search.specs.Visit.{kept_at, lemma_at}
+use Rattle.track_search.proofs.Kept.{AreSame}
 
 refuted_more : (value : Row → State → Kinds → ℕ) (k : Kinds) (xs ys more : List TrackLemma) (s : State) (gaps : ℕ) → ys ≡ xs ++ more → (way : List NetTrack) → IsRefutedListed value k xs s gaps way → IsRefutedListed value k ys s gaps way
 refuted_more value k xs ys more s gaps is way (inl d) = inl d
@@ -63,16 +66,39 @@ justified_push value pins limit k xs x all here i d within =
           (subst (λ y. IsJustified value pins limit k (take (length xs) (xs ++ x ∷ [])) y) (sym (get_or-append_seam xs x [] d)) (subst (λ ys. IsJustified value pins limit k ys x) (sym (take-append_seam xs (x ∷ []))) here))
     ]
 
+have_tracks : (xs ys : List NetTrack) (track : NetNo → ℕ) → All (Contains xs) ys → AreTracksOf xs track → AreTracksOf ys track
+have_tracks xs ys track there lie = all_imply (Contains xs) (λ (t : NetTrack). track t.net ≡ t.track) ys (λ t at. All-contains (λ (t : NetTrack). track t.net ≡ t.track) xs t lie at) there
+
+-- the same tracks in another order leave a lemma justified
+justified_same : (value : Row → State → Kinds → ℕ) (pins : Pins) (limit : ℕ) (k : Kinds) (earlier : List TrackLemma) (s : State) (gaps : ℕ) (way other : List NetTrack) → AreSame way other → IsJustified value pins limit k earlier (lemma_at s gaps way) → IsJustified value pins limit k earlier (lemma_at s gaps other)
+justified_same value pins limit k earlier s gaps way other same h = record {
+  valid = record {
+    state = h.valid.state;
+    ends = h.valid.ends;
+    open' = all_imply (Contains way) (λ (t : NetTrack). is_open_at pins k s t.net ≡ true) other (λ t at. All-contains (λ (t : NetTrack). is_open_at pins k s t.net ≡ true) way t h.valid.open' at) same.to;
+    one = λ t u at also e. h.valid.one t u (All-contains (Contains way) other t same.to at) (All-contains (Contains way) other u same.to also) e;
+  };
+  holds = elim h.holds [
+    | inl d ↦ inl d
+    | inr b ↦ inr (record {
+      steps = λ step possible track next left lie goes sum. b.steps step possible track next left (have_tracks other way track same.from lie) goes sum;
+      ends = λ none track lie last. b.ends none track (have_tracks other way track same.from lie) last;
+    })
+  ];
+}
+
 -- a lemma more for each of some ways
-pub kept_all : (value : Row → State → Kinds → ℕ) (pins : Pins) (limit : ℕ) (k : Kinds) (some : AreSomeKinds k) (s : State) (gaps : ℕ) (ways : List (List NetTrack)) (xs : List TrackLemma) → AreJustified value pins limit k xs → All (λ way. IsJustifiedListed value pins limit k xs (lemma_at s gaps way)) ways → AreJustified value pins limit k (xs ++ map (lemma_at s gaps) ways)
-kept_all value pins limit k some s gaps [] xs all each = subst (AreJustified value pins limit k) (sym (append-nil xs)) all
-kept_all value pins limit k some s gaps (way ∷ ways) xs all each =
+pub kept_all : (value : Row → State → Kinds → ℕ) (pins : Pins) (limit : ℕ) (k : Kinds) (some : AreSomeKinds k) (s : State) (gaps : ℕ) (ways : List (List NetTrack)) (xs : List TrackLemma) → AreJustified value pins limit k xs → All (λ way. AreSame way (in_order k.nets way)) ways → All (λ way. IsJustifiedListed value pins limit k xs (lemma_at s gaps way)) ways → AreJustified value pins limit k (xs ++ map (kept_at k.nets s gaps) ways)
+kept_all value pins limit k some s gaps [] xs all same each = subst (AreJustified value pins limit k) (sym (append-nil xs)) all
+kept_all value pins limit k some s gaps (way ∷ ways) xs all same each =
     let here : IsJustifiedListed value pins limit k xs (lemma_at s gaps way) = All-head (λ way. IsJustifiedListed value pins limit k xs (lemma_at s gaps way)) way ways each in
     let rest : All (λ way. IsJustifiedListed value pins limit k xs (lemma_at s gaps way)) ways = All-tail (λ way. IsJustifiedListed value pins limit k xs (lemma_at s gaps way)) way ways each in
-    let one : AreJustified value pins limit k (xs ++ lemma_at s gaps way ∷ []) = justified_push value pins limit k xs (lemma_at s gaps way) all ((justified_decided value pins limit k xs (lemma_at s gaps way) some (all_valid value pins limit k xs all)).1 here) in
-    subst (AreJustified value pins limit k) (append_assoc xs (lemma_at s gaps way ∷ []) (map (lemma_at s gaps) ways))
-    (kept_all value pins limit k some s gaps ways (xs ++ lemma_at s gaps way ∷ []) one
-    (All-weaker (λ way. IsJustifiedListed value pins limit k xs (lemma_at s gaps way)) (λ w. IsJustifiedListed value pins limit k (xs ++ lemma_at s gaps way ∷ []) (lemma_at s gaps w)) (λ w h. justified_more value pins limit k xs (xs ++ lemma_at s gaps way ∷ []) (lemma_at s gaps way ∷ []) (lemma_at s gaps w) refl h) ways rest))
+    let alike : AreSame way (in_order k.nets way) = All-head (λ way. AreSame way (in_order k.nets way)) way ways same in
+    let own : IsJustified value pins limit k xs (kept_at k.nets s gaps way) = justified_same value pins limit k xs s gaps way (in_order k.nets way) alike ((justified_decided value pins limit k xs (lemma_at s gaps way) some (all_valid value pins limit k xs all)).1 here) in
+    let one : AreJustified value pins limit k (xs ++ kept_at k.nets s gaps way ∷ []) = justified_push value pins limit k xs (kept_at k.nets s gaps way) all own in
+    subst (AreJustified value pins limit k) (append_assoc xs (kept_at k.nets s gaps way ∷ []) (map (kept_at k.nets s gaps) ways))
+    (kept_all value pins limit k some s gaps ways (xs ++ kept_at k.nets s gaps way ∷ []) one (All-tail (λ way. AreSame way (in_order k.nets way)) way ways same)
+    (All-weaker (λ way. IsJustifiedListed value pins limit k xs (lemma_at s gaps way)) (λ w. IsJustifiedListed value pins limit k (xs ++ kept_at k.nets s gaps way ∷ []) (lemma_at s gaps w)) (λ w h. justified_more value pins limit k xs (xs ++ kept_at k.nets s gaps way ∷ []) (kept_at k.nets s gaps way ∷ []) (lemma_at s gaps w) refl h) ways rest))
 
 pub covered_at : (s : State) (gaps : ℕ) (way : List NetTrack) (lemmas : List TrackLemma) (at : ℕ) (lemma : TrackLemma) → slice_get lemmas at ≡ Some lemma → CoversListed s gaps way lemma → Any (CoversListed s gaps way) lemmas
 covered_at s gaps way lemmas at lemma is covers = any_at (CoversListed s gaps way) lemmas lemma (contains_get lemmas at lemma is) covers

@@ -1,5 +1,5 @@
 -- What the search for the fewest tracks ends with.
-use Rattle.std.specs.Prelude.{ℕ, ◌≡◌, ◌+◌, ◌≤◌, List}
+use Rattle.std.specs.Prelude.{ℕ, ◌≡◌, ◌+◌, ◌<◌, ◌≤◌, ◌⊎◌, List}
 use Rattle.cell_num.specs.declared.finger.Fingers.{Fingers}
 use Rattle.cell_num.specs.declared.finger.Row.{Row}
 use Rattle.cell_num.specs.declared.net.NetNo.{NetNo}
@@ -20,6 +20,7 @@ use Rattle.track_lemmas.specs.declared.lemma.TrackLemma.{TrackLemma}
 use Rattle.track_lemmas.specs.Certificate.{Certifies}
 use Rattle.track_search.specs.declared.fewest.Fewest.{Fewest}
 use Rattle.track_search.specs.declared.fewest.Fewest.TheVariants as ended
+use Rattle.track_search.specs.Kept.{IsSpent}
 use Rattle.track_search.specs.Limit.{IsFirstRow}
 
 -- the lemmas certify that no row has one track less, where the tracks are some
@@ -37,7 +38,7 @@ abbrev pub IsFewest : (Row → State → Kinds → ℕ) → Pins → Kinds → �
 IsFewest value pins k gaps (ended.Found row tracks lemmas) = IsFirstOn value pins k gaps row tracks lemmas
 IsFewest value pins k gaps (ended.Open proved lemmas) = Prove value pins k gaps proved lemmas
 
--- each legal routing of an arrangement with at most so many gaps takes so many tracks or more
+-- each legal routing of an arrangement with at most that many gaps takes that many tracks or more
 abbrev pub TakeAtLeast : Pins → Kinds → ℕ → ℕ → Type 0
 TakeAtLeast pins k gaps tracks =
     (f : Fingers) (row : List Column) (r : Routing) → AreKinds f k → IsArrangement row f → gaps_of row ≤ gaps
@@ -47,7 +48,7 @@ abbrev pub TakeTracks : Pins → Kinds → ℕ → Fewest → Type 0
 TakeTracks pins k gaps (ended.Found row tracks lemmas) = TakeAtLeast pins k gaps tracks
 TakeTracks pins k gaps (ended.Open proved lemmas) = TakeAtLeast pins k gaps proved
 
--- one track for each net: trunks on these tracks are a legal routing on exactly so many
+-- one track for each net: trunks on these tracks are a legal routing on exactly that many
 pub record HasLegalTracks (pins : Pins) (row : List Column) (tracks : ℕ) : Type 0 where
   pub track : NetNo → ℕ
   pub legal : (trunks : List Trunk) → AreTrunks (placement_of row) pins track trunks
@@ -56,3 +57,23 @@ pub record HasLegalTracks (pins : Pins) (row : List Column) (tracks : ℕ) : Typ
 abbrev pub AreLegalTracks : Pins → Fewest → Type 0
 AreLegalTracks pins (ended.Found row tracks lemmas) = HasLegalTracks pins row tracks
 AreLegalTracks pins (ended.Open proved lemmas) = Unit {0}
+
+-- how many tracks each row takes at least, by either answer
+abbrev pub least_of : Fewest → ℕ
+least_of (ended.Found row tracks lemmas) = tracks
+least_of (ended.Open proved lemmas) = proved
+
+abbrev pub lemmas_of : Fewest → List TrackLemma
+lemmas_of (ended.Found row tracks lemmas) = lemmas
+lemmas_of (ended.Open proved lemmas) = lemmas
+
+-- a row has fewer tracks than the most, and no more are proved
+abbrev pub AreAtMost : ℕ → Fewest → Type 0
+AreAtMost most (ended.Found row tracks lemmas) = tracks < most
+AreAtMost most (ended.Open proved lemmas) = proved ≤ most
+
+-- no row has tracks below the most, or the visits are spent
+abbrev pub IsOpen : (Row → State → Kinds → ℕ) → Pins → Kinds → ℕ → ℕ → ℕ → Fewest → Type 0
+IsOpen value pins k gaps most budget (ended.Found row tracks lemmas) = Unit {0}
+IsOpen value pins k gaps most budget (ended.Open proved lemmas) =
+    (proved ≡ most) ⊎ IsSpent value pins k gaps proved budget

@@ -21,7 +21,7 @@ pub record RunsOn (pins : Pins) (limit : ℕ) (k : Kinds) (s : State) (ways : Li
   pub lie : AreTracksOf way track
   pub runs : Runs pins limit k s track steps
 
--- the steps complete the state with at most so many further gaps, and tracks of one of the ways go along them
+-- the steps complete the state with at most that many further gaps, and tracks of one of the ways go along them
 pub record IsRouted
     (pins : Pins) (limit : ℕ) (k : Kinds) (s : State) (ways : List (List NetTrack)) (gaps : ℕ) (steps : List Step)
     : Type 0 where

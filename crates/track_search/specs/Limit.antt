@@ -1,5 +1,5 @@
 -- What the search for a row with tracks below a limit ends with.
-use Rattle.std.specs.Prelude.{ℕ, ◌≡◌, ◌≤◌, ◌<◌, ◌⊎◌, List, []}
+use Rattle.std.specs.Prelude.{ℕ, ◌≡◌, ◌+◌, ◌≤◌, ◌<◌, ◌⊎◌, List, [], length}
 use Rattle.cell_num.specs.declared.finger.Fingers.{Fingers}
 use Rattle.cell_num.specs.declared.finger.Row.{Row}
 use Rattle.cell_num.specs.declared.net.NetNo.{NetNo}
@@ -21,6 +21,7 @@ use Rattle.track_ways.specs.Rows.{lines_of_row}
 use Rattle.track_lemmas.specs.Certificate.{Certifies}
 use Rattle.track_search.specs.declared.limit.Limit.{Limit}
 use Rattle.track_search.specs.declared.limit.Limit.TheVariants as ended
+use Rattle.track_search.specs.Kept.{AreKept, IsSpentBelow}
 
 -- one track below the limit for each net, which fits each line of the row: trunks on these tracks are legal, but that a
 -- track may be empty
@@ -30,8 +31,8 @@ pub record HasTracks (pins : Pins) (limit : ℕ) (row : List Column) : Type 0 wh
   pub legal : (trunks : List Trunk) → AreTrunks (placement_of row) pins track trunks
       → AreLegalWithin (placement_of row) pins limit trunks
 
--- the row is an arrangement with at most so many gaps and has tracks below the limit, and it precedes all others that
--- have a legal routing on so many
+-- the row is an arrangement with at most that many gaps and has tracks below the limit, and it precedes all others that
+-- have a legal routing on that many
 pub record IsFirstRow (pins : Pins) (limit : ℕ) (k : Kinds) (gaps : ℕ) (row : List Column) : Type 0 where
   pub arranges : (f : Fingers) → AreKinds f k → IsArrangement row f
   pub within : gaps_of row ≤ gaps
@@ -51,3 +52,15 @@ NeedsMoreTracks pins limit k gaps (ended.Refuted lemmas) =
     (f : Fingers) (row : List Column) (r : Routing) → AreKinds f k → IsArrangement row f → gaps_of row ≤ gaps
     → IsLegal (placement_of row) pins r → limit < r.tracks
 NeedsMoreTracks pins limit k gaps _ = Unit {0}
+
+-- No lemma of a certificate follows from an earlier one. Visits are spent for a reason, where `before` were made
+-- before.
+abbrev pub HasReason : (Row → State → Kinds → ℕ) → Pins → ℕ → Kinds → ℕ → ℕ → ℕ → Limit → Type 0
+HasReason value pins limit k gaps before budget (ended.Found row) = Unit {0}
+HasReason value pins limit k gaps before budget (ended.Refuted lemmas) = AreKept value pins limit k gaps lemmas
+HasReason value pins limit k gaps before budget ended.Spent = IsSpentBelow value pins limit k gaps before budget
+
+-- where a certificate is found, there is a lemma for each visit
+abbrev pub AreCountedIn : ℕ → ℕ → Limit → Type 0
+AreCountedIn before after (ended.Refuted lemmas) = after ≤ before + length lemmas
+AreCountedIn before after _ = Unit {0}

@@ -1,5 +1,6 @@
 -- What one visit of a state promises.
-use Rattle.std.specs.Prelude.{ℕ, ◌≡◌, ◌+◌, ◌≤◌, ◌⊎◌, ◌++◌, ◌==◌, ◌&&◌, Bool, List, [], All, Any, Contains}
+use Rattle.std.specs.Prelude.{ℕ, ◌≡◌, ◌+◌, ◌<◌, ◌≤◌, ◌⊎◌, ◌++◌, Some, List, [], All, Any, Contains, length, slice_get}
+use Rattle.std.specs.List.{AllPairs}
 use Rattle.cell_num.specs.declared.finger.Row.{Row}
 use Rattle.cell_num.specs.declared.net.Pins.{Pins}
 use Rattle.row_state.specs.declared.kind.Kinds.{Kinds}
@@ -7,7 +8,7 @@ use Rattle.row_state.specs.declared.state.State.{State}
 use Rattle.row_state.specs.declared.step.Step.{Step}
 use Rattle.row_state.specs.Candidates.{IsNumbered}
 use Rattle.row_state.specs.Completion.{cost_of}
-use Rattle.row_state.specs.Start.{HasFingers}
+use Rattle.row_state.specs.Start.{HasFingers, columns_left}
 use Rattle.row_state.specs.Steps.{IsPossible, column_of, state_after}
 use Rattle.track_ways.specs.States.{is_behind, is_still_ahead}
 use Rattle.track_ways.specs.Tables.{marked}
@@ -20,9 +21,21 @@ use Rattle.track_lemmas.specs.Checked.{CoversListed}
 use Rattle.track_check.specs.Steps.{StepFailsListed}
 use Rattle.track_search.specs.declared.ahead.Ahead.{Ahead}
 use Rattle.track_search.specs.declared.progress.Progress.{Progress}
+use Rattle.track_search.specs.InOrder.{in_order}
+use Rattle.track_search.specs.Kept.{AreNew, IsWithin}
+use Rattle.track_search.specs.Noted.{AreNoted}
 
 abbrev pub lemma_at : State → ℕ → List NetTrack → TrackLemma
 lemma_at s gaps way = record { state = s; gaps = gaps; tracks = way }
+
+-- the lemma that is kept of a way: its tracks are in order of their nets
+abbrev pub kept_at : ℕ → State → ℕ → List NetTrack → TrackLemma
+kept_at nets s gaps way = lemma_at s gaps (in_order nets way)
+
+-- the lemma at the place does not speak of the way
+abbrev pub IsPassed : List TrackLemma → State → ℕ → List NetTrack → ℕ → Type 0
+IsPassed lemmas s gaps way at = (lemma : TrackLemma) → slice_get lemmas at ≡ Some lemma
+    → CoversListed s gaps way lemma → ⊥
 
 -- a lemma speaks of each way
 abbrev pub AreCovered : List TrackLemma → State → ℕ → List (List NetTrack) → Type 0
@@ -31,6 +44,19 @@ AreCovered lemmas s gaps ways = All (λ way. Any (CoversListed s gaps way) lemma
 -- each way lists the tracks of the nets that are open at the state
 abbrev pub AreWaysAt : Pins → Kinds → State → List (List NetTrack) → Type 0
 AreWaysAt pins k s ways = All (AreKeys pins (is_behind k s) (is_still_ahead k s)) ways
+
+-- with tracks below the limit
+abbrev pub AreBelow : ℕ → List NetTrack → Type 0
+AreBelow limit way = All (λ (t : NetTrack). t.track < limit) way
+
+-- the other lists only tracks of the way
+abbrev pub HasPart : List NetTrack → List NetTrack → Type 0
+HasPart way other = All (Contains way) other
+
+-- no lemma speaks of any of the ways, and no way has all tracks of an earlier one
+pub record AreFresh (lemmas : List TrackLemma) (s : State) (gaps : ℕ) (ways : List (List NetTrack)) : Type 0 where
+  pub open' : All (λ way. Any (CoversListed s gaps way) lemmas → ⊥) ways
+  pub apart : AllPairs (λ a b. HasPart b a → ⊥) ways
 
 -- whatever the lemmas and the tracks are, the column leaves a lemma on the state justified
 abbrev pub AlwaysFails : (Row → State → Kinds → ℕ) → Pins → ℕ → Kinds → State → ℕ → Step → Type 0
@@ -46,13 +72,9 @@ pub record IsAhead (k : Kinds) (s : State) (allowed : ℕ) (step : Step) (ahead 
   pub left : cost_of s (column_of k step) + ahead.left ≡ allowed
   pub nets : marked ahead.nets ≡ is_still_ahead k (state_after k s step)
 
--- the same net on the same track
-abbrev pub same_track : NetTrack → NetTrack → Bool
-same_track t u = (t.net.0 == u.net.0) && (t.track == u.track)
-
--- a lemma speaks of the way, or it is among the ways
+-- a lemma speaks of the way, or it has all tracks of one of the ways
 abbrev pub IsTaken : List TrackLemma → State → ℕ → List (List NetTrack) → List NetTrack → Type 0
-IsTaken lemmas s left ways way = Any (CoversListed s left way) lemmas ⊎ Contains ways way
+IsTaken lemmas s left ways way = Any (CoversListed s left way) lemmas ⊎ Any (HasPart way) ways
 
 -- so it is of each way after the column from these tracks
 abbrev pub AreTaken :
@@ -82,11 +104,28 @@ pub record EndsGo (pins : Pins) (limit : ℕ) (k : Kinds) (s : State) (ways : Li
   pub none : HasFingers k s → ⊥
   pub go : Any (λ way. EndsFail pins limit k s way → ⊥) ways
 
--- the lemmas after the visit are justified, those before it come first, and the budget is kept
+-- The lemmas after a visit are justified and noted, and none follows from an earlier one. Those before it come first;
+-- the others are of states with fewer columns left than these, and of at most that many gaps. The budget is kept.
 pub record IsGrown
-    (value : Row → State → Kinds → ℕ) (pins : Pins) (limit : ℕ) (k : Kinds) (budget : ℕ) (before after : Progress)
-    : Type 0 where
+    (value : Row → State → Kinds → ℕ) (pins : Pins) (limit : ℕ) (k : Kinds) (budget columns gaps : ℕ)
+    (before after : Progress) : Type 0 where
   pub justified : AreJustified value pins limit k after.lemmas
+  pub own : AreNew after.lemmas
+  pub noted : AreNoted k after.lemmas after.places
   pub more : List TrackLemma
   pub is : after.lemmas ≡ before.lemmas ++ more
+  pub fewer : All (λ (lemma : TrackLemma). columns_left k lemma.state < columns) more
+  pub within : All (IsWithin k limit gaps) more
   pub visits : after.visits ≤ budget
+
+-- Where a visit fails, each visit kept a lemma or more.
+abbrev pub AreCounted : Progress → Progress → Type 0
+AreCounted before after = after.visits + length before.lemmas ≤ before.visits + length after.lemmas
+
+-- Where the budget is spent in a visit, so did each visit but the ones that are not done, one for each column at most.
+pub record IsCut
+    (value : Row → State → Kinds → ℕ) (pins : Pins) (limit : ℕ) (k : Kinds) (budget columns gaps : ℕ)
+    (before after : Progress) : Type 0 where
+  pub grown : IsGrown value pins limit k budget (columns + 1) gaps before after
+  pub all : after.visits ≡ budget
+  pub many : budget + length before.lemmas ≤ before.visits + length after.lemmas + columns

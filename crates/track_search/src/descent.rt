@@ -1,13 +1,15 @@
-ghost use Rattle.std.specs.Prelude.{◌≡◌, ◌≤◌, IfErr, IfNone, IfOk, IfSome, OnOk, reverse};
+ghost use Rattle.std.specs.Prelude.{◌≡◌, ◌+◌, ◌≤◌, All, IfErr, IfNone, IfOk, IfSome, OnOk, reverse};
 ghost use Rattle.row_state.specs.Candidates.{AreCandidates, IsNumbered};
-ghost use Rattle.row_state.specs.Start.{IsState, start_of};
+ghost use Rattle.row_state.specs.Start.{IsState, columns_left, start_of};
 ghost use Rattle.track_ways.specs.Paths.{EndsFit};
 ghost use Rattle.track_ways.specs.States.{is_behind};
 ghost use Rattle.track_ways.specs.Tables.{marked};
 ghost use Rattle.track_check.specs.Touches.{AreTouches};
 ghost use Rattle.track_lemmas.specs.Certificate.{AreJustified};
 ghost use Rattle.track_search.specs.First.{IsFirstRouted};
-ghost use Rattle.track_search.specs.Visit.{AreCovered, AreWaysAt, IsGrown};
+ghost use Rattle.track_search.specs.Kept.{AreNew};
+ghost use Rattle.track_search.specs.Noted.{AreNoted};
+ghost use Rattle.track_search.specs.Visit.{AreBelow, AreCounted, AreCovered, AreFresh, AreWaysAt, IsCut, IsGrown};
 ghost use Rattle.track_search.specs.declared.descent.Halt.TheVariants.{Spent};
 
 use crate::ahead::{Task, state_ahead};
@@ -63,15 +65,23 @@ pub(crate) fn visit<B: RowBound>(
     requires numbered { IsNumbered task.now.kinds.now at.now }
     requires ends { EndsFit task.now.kinds.now at.now.state }
     requires ways { AreWaysAt task.now.pins.now task.now.kinds.now at.now.state ways.now }
+    requires below { All (AreBelow task.now.limit) ways.now }
+    requires fresh { AreFresh progress.old.lemmas at.now.state allowed ways.now }
     requires visits { progress.old.visits ≤ task.now.budget }
     requires justified { AreJustified (B.value task.now.bound.now) task.now.pins.now task.now.limit task.now.kinds.now
         progress.old.lemmas }
+    requires own { AreNew progress.old.lemmas }
+    requires noted { AreNoted task.now.kinds.now progress.old.lemmas progress.old.places }
     ensures grown { OnOk result (IsGrown (B.value task.now.bound.now) task.now.pins.now task.now.limit
-        task.now.kinds.now task.now.budget progress.old progress.new) }
+        task.now.kinds.now task.now.budget (columns_left task.now.kinds.now at.now.state + 1) allowed progress.old
+        progress.new) }
     ensures none { IfOk result (λ r. IfNone r (AreCovered progress.new.lemmas at.now.state allowed ways.now)) }
+    ensures counted { IfOk result (λ r. IfNone r (AreCounted progress.old progress.new)) }
     ensures first { IfOk result (λ r. IfSome r (λ steps. IsFirstRouted task.now.pins.now task.now.limit
         task.now.kinds.now at.now.state ways.now allowed (reverse steps))) }
-    ensures spent { IfErr result (λ halt. halt ≡ Spent → progress.new.visits ≡ task.now.budget) }
+    ensures spent { IfErr result (λ halt. halt ≡ Spent → IsCut (B.value task.now.bound.now) task.now.pins.now
+        task.now.limit task.now.kinds.now task.now.budget (columns_left task.now.kinds.now at.now.state) allowed
+        progress.old progress.new) }
 {
     task.kinds.show_limits();
     if ways.len() == 0 {
@@ -99,6 +109,6 @@ pub(crate) fn visit<B: RowBound>(
             return Ok(Some(rest));
         }
     }
-    progress.keep(task.alloc, at, allowed, ways.as_slice())?;
+    progress.keep(task.alloc, task.kinds, at, allowed, ways.as_slice())?;
     Ok(None)
 }

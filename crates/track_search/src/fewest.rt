@@ -1,9 +1,10 @@
 // The fewest tracks of a row, by limits from 0 on.
-ghost use Rattle.std.specs.Prelude.{◌≡◌, ◌≤◌, IfOk};
+ghost use Rattle.std.specs.Prelude.{◌≡◌, All, IfOk};
 ghost use Rattle.row_state.specs.Candidates.{AreCandidates, IsNumbered};
 ghost use Rattle.row_state.specs.Start.{start_of};
 ghost use Rattle.track_check.specs.Touches.{AreTouches};
-ghost use Rattle.track_search.specs.Fewest.{AreLegalTracks, IsFewest, TakeTracks};
+ghost use Rattle.track_search.specs.Fewest.{AreAtMost, AreLegalTracks, IsFewest, IsOpen, TakeTracks, lemmas_of};
+ghost use Rattle.track_search.specs.Kept.{IsWithin};
 
 use crate::Limit;
 use crate::ahead::Task;
@@ -24,7 +25,7 @@ pub enum Fewest {
         tracks: u32,
         lemmas: TrackLemmas,
     },
-    /// The visits are spent, or no row has tracks below the most: each row takes at least so many tracks, which the
+    /// The visits are spent, or no row has tracks below the most: each row takes at least that many tracks, which the
     /// lemmas certify where these are some.
     Open {
         proved: u32,
@@ -43,7 +44,11 @@ fn try_limits<B: RowBound>(
     requires all { AreTouches task.now.kinds.now (start_of task.now.kinds.now) task.now.all.now }
     requires state { first.now.state ≡ start_of task.now.kinds.now }
     requires numbered { IsNumbered task.now.kinds.now first.now }
-    ensures { IfOk result (IsFewest (B.value task.now.bound.now) task.now.pins.now task.now.kinds.now gaps) }
+    ensures fewest { IfOk result (IsFewest (B.value task.now.bound.now) task.now.pins.now task.now.kinds.now gaps) }
+    ensures most { IfOk result (AreAtMost most) }
+    ensures within { IfOk result (λ e. All (IsWithin task.now.kinds.now most gaps) (lemmas_of e)) }
+    ensures open { IfOk result (IsOpen (B.value task.now.bound.now) task.now.pins.now task.now.kinds.now gaps most
+        task.now.budget) }
 {
     let mut visits = 0;
     let mut lemmas = TrackLemmas::new(task.alloc);
@@ -81,9 +86,9 @@ fn try_limits<B: RowBound>(
     })
 }
 
-/// The first row of the kinds' fingers with at most so many gaps that has a legal routing on the fewest tracks, where
+/// The first row of the kinds' fingers with at most that many gaps that has a legal routing on the fewest tracks, where
 /// these are fewer than the most; or, where the visits for all numbers of tracks are spent before, how many each row
-/// takes at least.
+/// takes at least. `budget` is the most visits.
 pub fn fewest_tracks<B: RowBound>(
     alloc: Global,
     bound: &B,
@@ -94,10 +99,15 @@ pub fn fewest_tracks<B: RowBound>(
     budget: u64,
 ) -> Result<Fewest, NoMemory>
     ensures fewest { IfOk result (IsFewest (B.value bound.now) pins.now kinds.now gaps) }
-    // each legal routing takes so many tracks or more
+    // each legal routing takes that many tracks or more
     ensures take { IfOk result (TakeTracks pins.now kinds.now gaps) }
-    // and trunks on the tracks that the row has are a legal routing on exactly so many
+    // and trunks on the tracks that the row has are a legal routing on exactly that many
     ensures legal { IfOk result (AreLegalTracks pins.now) }
+    ensures most { IfOk result (AreAtMost most) }
+    // the lemmas are on valid states, on nets of the kinds and on tracks below the most
+    ensures within { IfOk result (λ e. All (IsWithin kinds.now most gaps) (lemmas_of e)) }
+    // the search ends open only at the most tracks, or where the visits are spent for a reason
+    ensures open { IfOk result (IsOpen (B.value bound.now) pins.now kinds.now gaps most budget) }
 {
     kinds.show_limits();
     let first = numbered_start(alloc, kinds)?;

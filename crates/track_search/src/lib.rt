@@ -7,6 +7,7 @@ mod ends;
 mod fewest;
 mod limit;
 mod onward;
+mod order;
 mod places;
 mod progress;
 

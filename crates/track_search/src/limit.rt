@@ -1,11 +1,13 @@
 // The first row with tracks below a limit, or a certificate that none has.
-ghost use Rattle.std.specs.Prelude.{◌≡◌, ◌≤◌, [], ◌∷◌, IfNone, IfOk, IfSome, OnOk, map, reverse};
+ghost use Rattle.std.specs.Prelude.{◌≡◌, ◌+◌, ◌≤◌, [], ◌∷◌, IfErr, IfNone, IfOk, IfSome, OnOk, length, map, reverse};
 ghost use Rattle.row_state.specs.Candidates.{AreCandidates, IsNumbered};
 ghost use Rattle.row_state.specs.Start.{start_of};
 ghost use Rattle.row_state.specs.Steps.{column_of};
 ghost use Rattle.track_check.specs.Touches.{AreTouches};
 ghost use Rattle.track_lemmas.specs.Certificate.{Certifies};
-ghost use Rattle.track_search.specs.Limit.{IsEnd, IsFirstRow, NeedsMoreTracks};
+ghost use Rattle.track_search.specs.declared.descent.Halt.TheVariants.{Spent};
+ghost use Rattle.track_search.specs.Kept.{AreKept, IsSpentBelow};
+ghost use Rattle.track_search.specs.Limit.{AreCountedIn, HasReason, IsEnd, IsFirstRow, NeedsMoreTracks};
 
 use crate::ahead::Task;
 use crate::descent::{Halt, visit};
@@ -79,6 +81,12 @@ fn search_start<B: RowBound>(
     ensures found { IfOk result (λ r. IfSome r (IsFirstRow task.now.pins.now task.now.limit task.now.kinds.now gaps)) }
     ensures none { IfOk result (λ r. IfNone r (Certifies (B.value task.now.bound.now) task.now.pins.now task.now.limit
         task.now.kinds.now gaps progress.new.lemmas)) }
+    ensures kept { IfOk result (λ r. IfNone r (AreKept (B.value task.now.bound.now) task.now.pins.now task.now.limit
+        task.now.kinds.now gaps progress.new.lemmas)) }
+    ensures counted { IfOk result (λ r. IfNone r (progress.new.visits
+        ≤ progress.old.visits + length progress.new.lemmas)) }
+    ensures spent { IfErr result (λ halt. halt ≡ Spent → IsSpentBelow (B.value task.now.bound.now) task.now.pins.now
+        task.now.limit task.now.kinds.now gaps progress.old.visits task.now.budget) }
 {
     task.kinds.show_limits();
     let ways = no_tracks(task.alloc)?;
@@ -108,6 +116,9 @@ pub(crate) fn search_task<B: RowBound>(
     ensures end { IfOk result (IsEnd (B.value task.now.bound.now) task.now.pins.now task.now.limit task.now.kinds.now
         gaps) }
     ensures visits { OnOk result (visits.new ≤ task.now.budget) }
+    ensures kept { IfOk result (HasReason (B.value task.now.bound.now) task.now.pins.now task.now.limit
+        task.now.kinds.now gaps visits.old task.now.budget) }
+    ensures counted { IfOk result (AreCountedIn visits.old visits.new) }
 {
     let mut progress = Progress::new(task.alloc, *visits);
     match search_start(task, first, &mut progress, gaps) {
@@ -123,8 +134,9 @@ pub(crate) fn search_task<B: RowBound>(
     }
 }
 
-/// The first row of the kinds' fingers with at most so many gaps that has tracks below the limit; or a certificate that
-/// no such row has a legal routing on so many tracks; or neither, where the visits are spent.
+/// The first row of the kinds' fingers with at most that many gaps that has tracks below the limit; or a certificate
+/// that no such row has a legal routing on that many tracks; or neither, where the visits are spent. `budget` is the
+/// most visits.
 pub fn search_limit<B: RowBound>(
     alloc: Global,
     bound: &B,
@@ -137,6 +149,8 @@ pub fn search_limit<B: RowBound>(
     ensures end { IfOk result (IsEnd (B.value bound.now) pins.now limit kinds.now gaps) }
     // a certificate is true: each legal routing has more tracks
     ensures more { IfOk result (NeedsMoreTracks pins.now limit kinds.now gaps) }
+    // none of its lemmas is idle; where the visits are spent, there are as many lemmas but for the columns of one row
+    ensures kept { IfOk result (HasReason (B.value bound.now) pins.now limit kinds.now gaps 0 budget) }
 {
     kinds.show_limits();
     let first = numbered_start(alloc, kinds)?;

@@ -1,11 +1,13 @@
 // The ways of tracks after a next column.
-ghost use Rattle.std.specs.Prelude.{◌≡◌, All, Contains, IfOk, IsTrue, OnOk};
-ghost use Rattle.std.specs.Cmp.Lexicographic.{pointwise};
+ghost use Rattle.std.specs.Prelude.{◌≡◌, ◌↔◌, All, Any, IfOk, IsTrue, OnOk, false};
+ghost use Rattle.std.specs.List.{list_all, list_any};
 ghost use Rattle.row_state.specs.Start.{IsState};
 ghost use Rattle.row_state.specs.Steps.{state_after};
 ghost use Rattle.track_ways.specs.States.{is_behind, is_still_ahead};
 ghost use Rattle.track_ways.specs.Tables.{marked};
-ghost use Rattle.track_search.specs.Visit.{AreAdded, AreTaken, GoOn, same_track};
+ghost use Rattle.track_check.specs.Steps.{is_track};
+ghost use Rattle.track_search.specs.Noted.{AreNotedAt};
+ghost use Rattle.track_search.specs.Visit.{AreAdded, AreFresh, AreTaken, GoOn, HasPart};
 
 use crate::ahead::{Ahead, Task};
 use crate::progress::{Progress, copied_way};
@@ -13,19 +15,33 @@ use cell_num::NoMemory;
 use row_state::{Candidate, Numbered, RowBound, State};
 use row_trails::NETS;
 use std::alloc::Global;
-use track_ways::{NetTracks, TrackWays, step_ways};
+use track_ways::{NetTrack, NetTracks, TrackWays, step_ways};
 
-fn is_same(a: &NetTracks, b: &NetTracks) -> bool
-    ensures { result ≡ pointwise same_track a.now b.now }
+fn is_in(way: &[NetTrack], t: &NetTrack) -> bool
+    ensures { result ≡ list_any (is_track t.now) way.now }
 {
-    a == b
+    way.iter().any(|u| u.net.0 == t.net.0 && u.track == t.track)
 }
 
-fn has_way(ways: &[NetTracks], way: &NetTracks) -> bool
-    ensures { IsTrue result → Contains ways.now way.now }
+fn all_in(way: &[NetTrack], other: &[NetTrack]) -> bool
+    ensures { result ≡ list_all (λ t. list_any (is_track t) way.now) other.now }
 {
-    for other in ways {
-        if is_same(other, way) {
+    other.iter().all(|t| is_in(way, t))
+}
+
+fn has_part(way: &NetTracks, other: &NetTracks) -> bool
+    ensures { IsTrue result ↔ HasPart way.now other.now }
+{
+    all_in(way.as_slice(), other.as_slice())
+}
+
+// Whether the way has all tracks of one of the others.
+fn has_one(way: &NetTracks, others: &[NetTracks]) -> bool
+    ensures yes { IsTrue result → Any (HasPart way.now) others.now }
+    ensures no { result ≡ false → All (λ other. HasPart way.now other → ⊥) others.now }
+{
+    for other in others {
+        if has_part(way, other) {
             return true;
         }
     }
@@ -41,13 +57,17 @@ fn add_new(
     found: &[NetTracks],
     ways: &mut TrackWays,
 ) -> Result<(), NoMemory>
-    ensures { OnOk result (AreAdded progress.now.lemmas at.now.state left found.now found.now ways.old ways.new) }
+    requires noted { AreNotedAt progress.now at.now }
+    requires fresh { AreFresh progress.now.lemmas at.now.state left ways.old }
+    ensures added { OnOk result (AreAdded progress.now.lemmas at.now.state left found.now found.now ways.old
+        ways.new) }
+    ensures fresh { OnOk result (AreFresh progress.now.lemmas at.now.state left ways.new) }
 {
     for way in found {
         if progress.covers(at, left, way) {
             continue;
         }
-        if has_way(ways.as_slice(), way) {
+        if has_one(way, ways.as_slice()) {
             continue;
         }
         ways.push(copied_way(alloc, way)?)?;
@@ -69,10 +89,12 @@ pub(crate) fn onward_ways<B: RowBound>(
     requires before { marked before.now ≡ is_behind task.now.kinds.now state.now }
     requires nets { marked ahead.now.nets ≡ is_still_ahead task.now.kinds.now
         (state_after task.now.kinds.now state.now next.now.step) }
+    requires noted { AreNotedAt progress.now ahead.now.state }
     ensures taken { IfOk result (λ onward. All (AreTaken task.now.pins.now task.now.limit task.now.kinds.now
         progress.now.lemmas state.now next.now.step ahead.now.state.state ahead.now.left onward) ways.now) }
     ensures from { IfOk result (λ onward. All (GoOn task.now.pins.now task.now.limit task.now.kinds.now state.now
         next.now.step ways.now) onward) }
+    ensures fresh { IfOk result (AreFresh progress.now.lemmas ahead.now.state.state ahead.now.left) }
 {
     let mut onward = TrackWays::new(task.alloc);
     for way in ways.as_slice() {

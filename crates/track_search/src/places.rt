@@ -1,62 +1,64 @@
 // Where the lemmas on each state are.
-ghost use Rattle.std.specs.Prelude.{◌<◌};
+ghost use Rattle.std.specs.Prelude.{◌≡◌, ◌≢◌, ◌++◌, [], ◌∷◌, ℕ, OnOk, Some, nat_eq, option_map, unwrap_or};
+ghost use Rattle.std.specs.HashMap.{get};
+ghost use Rattle.track_search.specs.Noted.{noted_at};
 
 use cell_num::NoMemory;
 use std::alloc::Global;
 use std::collections::HashMap;
 
-/// Where the lemmas on each state are in their list, by the number of the state. A place is 1 more than an index, and 0
-/// is none. It makes a look-up short and is no part of what a search promises.
+/// Where the lemmas on each state are in their list, by the number of the state. It makes a look-up short.
 #[derive(Drop)]
 pub(crate) struct Places {
-    // The last place of each state.
-    last: HashMap<u128, usize>,
-    // For each place the one before it that is of the same state.
-    before: Vec<usize>,
+    noted: HashMap<u128, Vec<usize>>,
+}
+
+fn note(
+    alloc: Global,
+    noted: &mut HashMap<u128, Vec<usize>>,
+    number: u128,
+    at: usize,
+) -> Result<(), NoMemory>
+    ensures kept { OnOk result (option_map (λ p. p.items) (get nat_eq noted.new number) ≡
+        Some (unwrap_or (option_map (λ p. p.items) (get nat_eq noted.old number)) [] ++ at ∷ [])) }
+    ensures others { OnOk result ((q : ℕ) → q ≢ number → get nat_eq noted.new q ≡ get nat_eq noted.old q) }
+{
+    let mut places = match noted.remove(&number) {
+        Some(places) => places,
+        None => Vec::new(alloc),
+    };
+    if places.push(at).is_err() {
+        return Err(NoMemory);
+    }
+    match noted.insert(number, places) {
+        Ok(_) => Ok(()),
+        Err(_) => Err(NoMemory),
+    }
 }
 
 impl Places {
     pub(crate) fn new(alloc: Global) -> Places {
         Places {
-            last: HashMap::new(alloc),
-            before: Vec::new(alloc),
+            noted: HashMap::new(alloc),
         }
     }
 
-    /// The last place of the state with the number.
-    pub(crate) fn last(&self, code: u128) -> usize {
-        self.last.get(&code).copied().unwrap_or(0)
-    }
-
-    /// The place before it.
-    pub(crate) fn before(&self, place: usize) -> usize
-        requires { 0 < place }
-        ensures { result < place }
+    /// The indices of the lemmas on the state with the number.
+    pub(crate) fn at(&self, number: u128) -> &[usize]
+        ensures { result.now ≡ noted_at self.now number }
     {
-        match self.before.get(place - 1) {
-            Some(earlier) => (*earlier).min(place - 1),
-            None => 0,
+        match self.noted.get(&number) {
+            Some(places) => places.as_slice(),
+            None => &[],
         }
     }
 
-    // One place more of the state.
-    fn add_one(&mut self, code: u128) -> Result<(), NoMemory> {
-        let earlier = self.last(code);
-        match self.before.push(earlier) {
-            Ok(()) => {}
-            Err(_) => return Err(NoMemory),
-        }
-        match self.last.insert(code, self.before.len()) {
-            Ok(_) => Ok(()),
-            Err(_) => Err(NoMemory),
-        }
-    }
-
-    /// So many places more of the state.
-    pub(crate) fn add(&mut self, code: u128, count: usize) -> Result<(), NoMemory> {
-        for _ in 0..count {
-            self.add_one(code)?;
-        }
+    /// One lemma more on the state with the number.
+    pub(crate) fn add(&mut self, alloc: Global, number: u128, at: usize) -> Result<(), NoMemory>
+        ensures kept { OnOk result (noted_at self.new number ≡ noted_at self.old number ++ at ∷ []) }
+        ensures others { OnOk result ((q : ℕ) → q ≢ number → noted_at self.new q ≡ noted_at self.old q) }
+    {
+        note(alloc, &mut self.noted, number, at)?;
         Ok(())
     }
 }

@@ -1,5 +1,5 @@
-use Rattle.std.proofs.Common.{rules, ◌≡◌, ◌≤◌, ◌<◌, ◌+◌, ◌++◌, None, ap, arith, get_or, map, reverse, subst, sym, take, ◌∙◌}
-use Rattle.std.proofs.lemmas.List.Elements.{All-more}
+use Rattle.std.proofs.Common.{rules, ◌≡◌, ◌≤◌, ◌<◌, ◌+◌, ◌++◌, All, None, ap, arith, get_or, length, map, refl, reverse, subst, sym, take, ◌∙◌}
+use Rattle.std.proofs.lemmas.List.Elements.{All-more, All-nil}
 use Rattle.row_state.specs.declared.candidate.Candidate.{Candidate}
 use Rattle.row_state.specs.declared.state.State.{State}
 use Rattle.row_state.specs.Candidates.{IsNumbered}
@@ -9,9 +9,13 @@ use Rattle.row_state.proofs.Valid.{gates_are_nets}
 use Rattle.track_ways.specs.Paths.{EndsFit}
 use Rattle.track_lemmas.specs.Certificate.{AreJustified}
 use Rattle.track_search.specs.First.{IsFirstRouted}
-use Rattle.track_search.specs.Visit.{AlwaysFails, AreCovered, AreWaysAt, IsAhead, lemma_at}
+use Rattle.track_search.specs.Kept.{AreNew}
+use Rattle.track_search.specs.Noted.{AreNoted}
+use Rattle.track_search.specs.Visit.{AlwaysFails, AreBelow, AreCounted, AreCovered, AreFresh, AreWaysAt, IsAhead, kept_at}
 use Rattle.track_search.proofs.Found.{first_at_end, first_through}
-use Rattle.track_search.proofs.Grown.{WaysFail, ahead_fails, always_fails, grown_on, kept_covers, kept_grown, ways_fail_more}
+use Rattle.track_search.proofs.Grown.{WaysFail, ahead_fails, always_fails, cut_on, grown_above, grown_same, grown_through, kept_covers, kept_grown, ways_fail_more}
+use Rattle.track_search.proofs.Kept.{ways_below}
+use Rattle.track_search.proofs.Noted.{noted_here}
 use Rattle.track_search.proofs.Ways.{ends_fit_after, ways_after}
 use Rattle.track_search.proofs.descent.+visit.Goals as goal
 
@@ -25,7 +29,7 @@ pub loop-next-preserved-in_default : goal.loop-next-preserved-in_default
 unfolding blank
 loop-next-preserved-in_default g t c =
     let fails : AlwaysFails (g.B.RowBound.value c.args.task.now.bound.now) c.args.task.now.pins.now c.args.task.now.limit c.args.task.now.kinds.now c.args.at.now.state c.args.allowed (get_or c.args.task.now.candidates.now c.loop-next.next-index blank).step = rw c.in_default.is at c.in_ok-ahead.ensures.none in
-    (c.loop-next.invariant.0, always_fails (g.B.RowBound.value c.args.task.now.bound.now) c.args.task.now.pins.now c.args.task.now.limit c.args.task.now.kinds.now c.loop-next.progress.lemmas c.args.at.now.state c.args.allowed c.args.ways.now c.args.task.now.candidates.now c.loop-next.next-index blank c.loop-next-test.true c.loop-next.invariant.1 fails)
+    (c.loop-next.invariant.0, always_fails (g.B.RowBound.value c.args.task.now.bound.now) c.args.task.now.pins.now c.args.task.now.limit c.args.task.now.kinds.now c.loop-next.progress.lemmas c.args.at.now.state c.args.allowed c.args.ways.now c.args.task.now.candidates.now c.loop-next.next-index blank c.loop-next-test.true c.loop-next.invariant.1 fails, c.loop-next.invariant.2)
 
 pub visit-requires : goal.visit-requires
 unfolding blank
@@ -38,7 +42,24 @@ visit-requires g t c κs within =
     let ways : AreWaysAt c.args.task.now.pins.now c.args.task.now.kinds.now c.in-Some.ahead.state.state c.in_ok-onward.onward = subst (λ z. AreWaysAt c.args.task.now.pins.now c.args.task.now.kinds.now z c.in_ok-onward.onward) (sym a.state) (ways_after c.args.task.now.pins.now c.args.task.now.limit c.args.task.now.kinds.now c.args.at.now.state (get_or c.args.task.now.candidates.now c.loop-next.next-index blank).step c.args.ways.now c.in_ok-onward.onward c.show_limits.ensures c.requires.numbered.valid c.requires.ends a.possible c.requires.ways c.in_ok-onward.ensures.from) in
     let visits : c.loop-next.progress.visits ≤ c.args.task.now.budget = c.loop-next.invariant.0.visits in
     let justified : AreJustified (g.B.RowBound.value c.args.task.now.bound.now) c.args.task.now.pins.now c.args.task.now.limit c.args.task.now.kinds.now c.loop-next.progress.lemmas = c.loop-next.invariant.0.justified in
+    let below : All (AreBelow c.args.task.now.limit) c.in_ok-onward.onward = ways_below c.args.task.now.pins.now c.args.task.now.limit c.args.task.now.kinds.now c.args.at.now.state (get_or c.args.task.now.candidates.now c.loop-next.next-index blank).step c.args.ways.now c.in_ok-onward.onward c.requires.below c.in_ok-onward.ensures.from in
+    let fresh : AreFresh c.loop-next.progress.lemmas c.in-Some.ahead.state.state c.in-Some.ahead.left c.in_ok-onward.onward = c.in_ok-onward.ensures.fresh in
+    let own : AreNew c.loop-next.progress.lemmas = c.loop-next.invariant.0.own in
+    let noted : AreNoted c.args.task.now.kinds.now c.loop-next.progress.lemmas c.loop-next.progress.places = c.loop-next.invariant.0.noted in
     search rules
+
+pub onward_ways-requires-clause-noted : goal.onward_ways-requires-clause-noted
+unfolding blank
+onward_ways-requires-clause-noted g t c =
+    let a : IsAhead c.args.task.now.kinds.now c.args.at.now.state c.args.allowed (get_or c.args.task.now.candidates.now c.loop-next.next-index blank).step c.in-Some.ahead = rw c.in-Some.is at c.in_ok-ahead.ensures.some in
+    noted_here c.args.task.now.kinds.now c.loop-next.progress c.in-Some.ahead.state a.numbered.code c.loop-next.invariant.0.noted
+
+pub returns-in-Err-clause-spent : goal.returns-in-Err-clause-spent
+unfolding blank
+returns-in-Err-clause-spent g t c = λ e.
+    let a : IsAhead c.args.task.now.kinds.now c.args.at.now.state c.args.allowed (get_or c.args.task.now.candidates.now c.loop-next.next-index blank).step c.in-Some.ahead = rw c.in-Some.is at c.in_ok-ahead.ensures.some in
+    let fewer : columns_left c.args.task.now.kinds.now c.args.at.now.state ≡ columns_left c.args.task.now.kinds.now c.in-Some.ahead.state.state + 1 = fewer_after c.args.task.now.kinds.now c.args.at.now.state (get_or c.args.task.now.candidates.now c.loop-next.next-index blank).step c.show_limits.ensures a.possible ∙ ap (λ (z : State). columns_left c.args.task.now.kinds.now z + 1) (sym a.state) in
+    cut_on (g.B.RowBound.value c.args.task.now.bound.now) c.args.task.now.pins.now c.args.task.now.limit c.args.task.now.kinds.now c.args.task.now.budget (columns_left c.args.task.now.kinds.now c.args.at.now.state) (columns_left c.args.task.now.kinds.now c.in-Some.ahead.state.state) c.args.allowed c.in-Some.ahead.left c.args.progress.now c.loop-next.progress c.visit.new.progress fewer (omega (arith, a.left)) c.loop-next.invariant.0 c.loop-next.invariant.2 (c.in-Err.ensures.spent e)
 
 pub returns-in-Some-tried-clause-first : goal.returns-in-Some-tried-clause-first
 unfolding blank
@@ -53,18 +74,54 @@ pub loop-next-preserved : goal.loop-next-preserved
 unfolding blank
 loop-next-preserved g t c =
     let a : IsAhead c.args.task.now.kinds.now c.args.at.now.state c.args.allowed (get_or c.args.task.now.candidates.now c.loop-next.next-index blank).step c.in-Some.ahead = rw c.in-Some.is at c.in_ok-ahead.ensures.some in
+    let fewer : columns_left c.args.task.now.kinds.now c.args.at.now.state ≡ columns_left c.args.task.now.kinds.now c.in-Some.ahead.state.state + 1 = fewer_after c.args.task.now.kinds.now c.args.at.now.state (get_or c.args.task.now.candidates.now c.loop-next.next-index blank).step c.show_limits.ensures a.possible ∙ ap (λ (z : State). columns_left c.args.task.now.kinds.now z + 1) (sym a.state) in
+    let counted : AreCounted c.loop-next.progress c.visit.new.progress = rw c.in_default-tried.is at c.in-Ok.ensures.counted in
     let covered : AreCovered c.visit.new.progress.lemmas c.in-Some.ahead.state.state c.in-Some.ahead.left c.in_ok-onward.onward = rw c.in_default-tried.is at c.in-Ok.ensures.none in (
-      grown_on (g.B.RowBound.value c.args.task.now.bound.now) c.args.task.now.pins.now c.args.task.now.limit c.args.task.now.kinds.now c.args.task.now.budget c.args.progress.now c.loop-next.progress c.visit.new.progress c.loop-next.invariant.0 c.in-Ok.ensures.grown,
+      grown_through (g.B.RowBound.value c.args.task.now.bound.now) c.args.task.now.pins.now c.args.task.now.limit c.args.task.now.kinds.now c.args.task.now.budget (columns_left c.args.task.now.kinds.now c.args.at.now.state) (columns_left c.args.task.now.kinds.now c.in-Some.ahead.state.state) c.args.allowed c.in-Some.ahead.left c.args.progress.now c.loop-next.progress c.visit.new.progress fewer (omega (arith, a.left)) c.loop-next.invariant.0
+          c.in-Ok.ensures.grown,
       All-more (WaysFail (g.B.RowBound.value c.args.task.now.bound.now) c.args.task.now.pins.now c.args.task.now.limit c.args.task.now.kinds.now c.visit.new.progress.lemmas c.args.at.now.state c.args.allowed c.args.ways.now) c.args.task.now.candidates.now c.loop-next.next-index blank c.loop-next-test.true
           (ways_fail_more (g.B.RowBound.value c.args.task.now.bound.now) c.args.task.now.pins.now c.args.task.now.limit c.args.task.now.kinds.now c.loop-next.progress.lemmas c.visit.new.progress.lemmas c.in-Ok.ensures.grown.more c.args.at.now.state c.args.allowed c.args.ways.now (take c.loop-next.next-index c.args.task.now.candidates.now) c.in-Ok.ensures.grown.is c.loop-next.invariant.1)
           (ahead_fails (g.B.RowBound.value c.args.task.now.bound.now) c.args.task.now.pins.now c.args.task.now.limit c.args.task.now.kinds.now c.loop-next.progress.lemmas c.visit.new.progress.lemmas c.in-Ok.ensures.grown.more c.args.at.now.state c.args.allowed c.args.ways.now c.in_ok-onward.onward (get_or c.args.task.now.candidates.now c.loop-next.next-index blank).step c.in-Some.ahead c.in-Ok.ensures.grown.is a c.in_ok-onward.ensures.taken covered),
+      omega (arith, c.loop-next.invariant.2, counted),
     )
 
 pub returns-clause-grown : goal.returns-clause-grown
 returns-clause-grown g t c =
-    kept_grown (g.B.RowBound.value c.args.task.now.bound.now) c.args.task.now.pins.now c.args.task.now.limit c.args.task.now.kinds.now c.args.task.now.budget c.args.progress.now c.loop-next.progress c.keep.new.self c.args.at.now.state c.args.allowed c.args.ways.now c.args.task.now.candidates.now c.loop-next.next-index c.show_limits.ensures c.requires.candidates c.requires.numbered.valid c.requires.ends c.requires.ways c.loop-next-test.false c.loop-next.invariant.1 (c.in_ok-ends.ensures.no c.if-branch.false) c.loop-next.invariant.0
-    (c.in_ok-keep.ensures.lemmas ∙ ap (λ ws. c.loop-next.progress.lemmas ++ map (lemma_at c.args.at.now.state c.args.allowed) ws) c.as_slice.ensures) c.in_ok-keep.ensures.visits
+    kept_grown (g.B.RowBound.value c.args.task.now.bound.now) c.args.task.now.pins.now c.args.task.now.limit c.args.task.now.kinds.now c.args.task.now.budget (columns_left c.args.task.now.kinds.now c.args.at.now.state) c.args.progress.now c.loop-next.progress c.keep.new.self c.args.at.now.state c.args.allowed c.args.ways.now c.args.task.now.candidates.now c.loop-next.next-index c.show_limits.ensures c.requires.candidates c.requires.numbered.valid c.requires.ends c.requires.ways c.requires.below c.requires.fresh c.loop-next-test.false c.loop-next.invariant.1 (c.in_ok-ends.ensures.no c.if-branch.false) refl c.loop-next.invariant.0
+    (c.in_ok-keep.ensures.lemmas ∙ ap (λ ws. c.loop-next.progress.lemmas ++ map (kept_at c.args.task.now.kinds.now.nets c.args.at.now.state c.args.allowed) ws) c.as_slice.ensures) c.in_ok-keep.ensures.noted c.in_ok-keep.ensures.visits
 
 pub returns-clause-none : goal.returns-clause-none
 returns-clause-none g t c =
-    kept_covers c.loop-next.progress.lemmas c.keep.new.self.lemmas c.args.at.now.state c.args.allowed c.args.ways.now (c.in_ok-keep.ensures.lemmas ∙ ap (λ ws. c.loop-next.progress.lemmas ++ map (lemma_at c.args.at.now.state c.args.allowed) ws) c.as_slice.ensures)
+    kept_covers c.args.task.now.pins.now c.args.task.now.kinds.now c.loop-next.progress.lemmas c.keep.new.self.lemmas c.args.at.now.state c.args.allowed c.args.ways.now c.show_limits.ensures c.requires.ways (c.in_ok-keep.ensures.lemmas ∙ ap (λ ws. c.loop-next.progress.lemmas ++ map (kept_at c.args.task.now.kinds.now.nets c.args.at.now.state c.args.allowed) ws) c.as_slice.ensures)
+
+pub returns-then-len-eq0-clause-grown : goal.returns-then-len-eq0-clause-grown
+returns-then-len-eq0-clause-grown g t c = grown_same (g.B.RowBound.value c.args.task.now.bound.now) c.args.task.now.pins.now c.args.task.now.limit c.args.task.now.kinds.now c.args.task.now.budget (columns_left c.args.task.now.kinds.now c.args.at.now.state + 1) c.args.allowed c.args.progress.now c.args.progress.now c.requires.justified c.requires.own c.requires.noted refl refl c.requires.visits
+
+pub returns-then-progress-task-clause-spent : goal.returns-then-progress-task-clause-spent
+returns-then-progress-task-clause-spent g t c = λ e.
+    let all : c.args.progress.now.visits ≡ c.args.task.now.budget = search rules in
+    record {
+      grown = grown_same (g.B.RowBound.value c.args.task.now.bound.now) c.args.task.now.pins.now c.args.task.now.limit c.args.task.now.kinds.now c.args.task.now.budget (columns_left c.args.task.now.kinds.now c.args.at.now.state + 1) c.args.allowed c.args.progress.now c.args.progress.now c.requires.justified c.requires.own c.requires.noted refl refl c.requires.visits;
+      all = all;
+      many = omega (arith, all);
+    }
+
+pub returns-then-branch-clause-grown : goal.returns-then-branch-clause-grown
+returns-then-branch-clause-grown g t c =
+    let few : c.count_visit.new.self.visits ≤ c.args.task.now.budget = search rules in
+    grown_same (g.B.RowBound.value c.args.task.now.bound.now) c.args.task.now.pins.now c.args.task.now.limit c.args.task.now.kinds.now c.args.task.now.budget (columns_left c.args.task.now.kinds.now c.args.at.now.state + 1) c.args.allowed c.args.progress.now c.count_visit.new.self c.requires.justified c.requires.own c.requires.noted c.count_visit.ensures.lemmas c.count_visit.ensures.places few
+
+pub loop-next-init : goal.loop-next-init
+loop-next-init g t c =
+    let few : c.count_visit.new.self.visits ≤ c.args.task.now.budget = search rules in (
+      grown_same (g.B.RowBound.value c.args.task.now.bound.now) c.args.task.now.pins.now c.args.task.now.limit c.args.task.now.kinds.now c.args.task.now.budget (columns_left c.args.task.now.kinds.now c.args.at.now.state) c.args.allowed c.args.progress.now c.count_visit.new.self c.requires.justified c.requires.own c.requires.noted c.count_visit.ensures.lemmas c.count_visit.ensures.places few,
+      All-nil (WaysFail (g.B.RowBound.value c.args.task.now.bound.now) c.args.task.now.pins.now c.args.task.now.limit c.args.task.now.kinds.now c.count_visit.new.self.lemmas c.args.at.now.state c.args.allowed c.args.ways.now),
+      omega (arith, ap length c.count_visit.ensures.lemmas, c.count_visit.ensures.visits),
+    )
+
+pub returns-in-Some-tried-clause-grown : goal.returns-in-Some-tried-clause-grown
+unfolding blank
+returns-in-Some-tried-clause-grown g t c =
+    let a : IsAhead c.args.task.now.kinds.now c.args.at.now.state c.args.allowed (get_or c.args.task.now.candidates.now c.loop-next.next-index blank).step c.in-Some.ahead = rw c.in-Some.is at c.in_ok-ahead.ensures.some in
+    let fewer : columns_left c.args.task.now.kinds.now c.args.at.now.state ≡ columns_left c.args.task.now.kinds.now c.in-Some.ahead.state.state + 1 = fewer_after c.args.task.now.kinds.now c.args.at.now.state (get_or c.args.task.now.candidates.now c.loop-next.next-index blank).step c.show_limits.ensures a.possible ∙ ap (λ (z : State). columns_left c.args.task.now.kinds.now z + 1) (sym a.state) in
+    grown_above (g.B.RowBound.value c.args.task.now.bound.now) c.args.task.now.pins.now c.args.task.now.limit c.args.task.now.kinds.now c.args.task.now.budget (columns_left c.args.task.now.kinds.now c.args.at.now.state) (columns_left c.args.task.now.kinds.now c.in-Some.ahead.state.state) c.args.allowed c.in-Some.ahead.left c.args.progress.now c.loop-next.progress c.visit.new.progress fewer (omega (arith, a.left)) c.loop-next.invariant.0 c.in-Ok.ensures.grown

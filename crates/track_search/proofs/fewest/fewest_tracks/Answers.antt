@@ -13,7 +13,7 @@ try_limits-requires g c = record {
 }
 
 pub returns-clause-take : goal.returns-clause-take
-returns-clause-take g c = take_tracks (g.B.RowBound.value c.args.bound.now) c.args.pins.now c.args.kinds.now c.args.gaps c.in_ok-fewest.fewest c.show_limits.ensures (λ row s valid. g.met.B.RowBound.holds c.args.bound.now row s c.args.kinds.now c.show_limits.ensures valid) c.in_ok-fewest.ensures
+returns-clause-take g c = take_tracks (g.B.RowBound.value c.args.bound.now) c.args.pins.now c.args.kinds.now c.args.gaps c.in_ok-fewest.fewest c.show_limits.ensures (λ row s valid. g.met.B.RowBound.holds c.args.bound.now row s c.args.kinds.now c.show_limits.ensures valid) c.in_ok-fewest.ensures.fewest
 
 pub returns-clause-legal : goal.returns-clause-legal
-returns-clause-legal g c = legal_tracks (g.B.RowBound.value c.args.bound.now) c.args.pins.now c.args.kinds.now c.args.gaps c.in_ok-fewest.fewest c.show_limits.ensures (λ row s valid. g.met.B.RowBound.holds c.args.bound.now row s c.args.kinds.now c.show_limits.ensures valid) c.in_ok-fewest.ensures
+returns-clause-legal g c = legal_tracks (g.B.RowBound.value c.args.bound.now) c.args.pins.now c.args.kinds.now c.args.gaps c.in_ok-fewest.fewest c.show_limits.ensures (λ row s valid. g.met.B.RowBound.holds c.args.bound.now row s c.args.kinds.now c.show_limits.ensures valid) c.in_ok-fewest.ensures.fewest

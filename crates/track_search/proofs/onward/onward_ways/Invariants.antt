@@ -1,8 +1,9 @@
 use Rattle.std.proofs.Common.{All, take}
-use Rattle.track_search.specs.Visit.{AreTaken, GoOn}
+use Rattle.track_search.specs.Visit.{AreFresh, AreTaken, GoOn}
 use Rattle.track_search.proofs.onward.onward_ways.Given as goal
 
 abbrev pub invariant-loop-way : goal.invariant-loop-way
 invariant-loop-way g l =
-    All (AreTaken l.task.pins.now l.task.limit l.task.kinds.now l.progress.lemmas l.state l.next.step l.ahead.state.state l.ahead.left l.onward) (take l.way-index l.way-items)
-    × All (GoOn l.task.pins.now l.task.limit l.task.kinds.now l.state l.next.step l.ways) l.onward
+    (All (AreTaken l.task.pins.now l.task.limit l.task.kinds.now l.progress.lemmas l.state l.next.step l.ahead.state.state l.ahead.left l.onward) (take l.way-index l.way-items)
+    × All (GoOn l.task.pins.now l.task.limit l.task.kinds.now l.state l.next.step l.ways) l.onward)
+    × AreFresh l.progress.lemmas l.ahead.state.state l.ahead.left l.onward

@@ -1,0 +1,120 @@
+-- The lemmas that are kept of ways: their tracks in order, and why none follows from an earlier one.
+use Rattle.std.proofs.Common.{ℕ, Bool, true, not, ltb, ◌&&◌, ◌||◌, ◌≡◌, ◌<◌, ◌++◌, List, [], ◌∷◌, map, inl, inr, ap, subst, arith, All, Any, Contains}
+use Rattle.std.specs.List.{AllPairs, list_all}
+use Rattle.std.proofs.lemmas.Bool.{and_parts, ltb-true}
+use Rattle.std.proofs.lemmas.List.Elements.{All-contains, Contains-append_cases}
+use Rattle.cell_num.specs.declared.net.NetNo.{NetNo}
+use Rattle.cell_num.specs.declared.net.Pins.{Pins}
+use Rattle.cell_num.proofs.In.{Image, Piece, in_flat, in_map}
+use Rattle.cell_num.proofs.Lists.{all_from_contains, all_imply, all_map, contains_one}
+use Rattle.cell_num.proofs.Pairs.{Some', any_at, pairs_append, pairs_map, some_from_any}
+use Rattle.row_state.specs.declared.kind.Kinds.{Kinds}
+use Rattle.row_state.specs.declared.state.State.{State}
+use Rattle.row_state.specs.declared.step.Step.{Step}
+use Rattle.row_state.specs.Start.{AreSomeKinds, IsState, columns_left}
+use Rattle.row_state.specs.Steps.{column_of, state_after}
+use Rattle.std.specs.List.{range_with_len}
+use Rattle.track_ways.specs.declared.line.Line.{Line}
+use Rattle.track_ways.specs.declared.track.NetTrack.{NetTrack}
+use Rattle.track_ways.specs.Lines.{is_ahead, is_open, is_rail, with_line}
+use Rattle.track_ways.specs.Paths.{lines_to}
+use Rattle.track_ways.specs.States.{is_behind, is_still_ahead}
+use Rattle.track_ways.specs.Tracks.{AreKeys}
+use Rattle.track_ways.specs.Ways.{are_apart, fills, goes_ways, line_test, line_ways, missing, net_of, nets_below, open_of, pass_ways}
+use Rattle.track_ways.proofs.Exact.{pass_at}
+use Rattle.track_ways.proofs.Nets.{behind_among}
+use Rattle.track_ways.proofs.Places.{kept}
+use Rattle.track_lemmas.specs.declared.lemma.TrackLemma.{TrackLemma}
+use Rattle.track_lemmas.specs.Checked.{CoversListed}
+use Rattle.track_search.specs.InOrder.{in_order}
+use Rattle.track_search.specs.Kept.{AreNew, IsTrackBelow, IsWithin}
+use Rattle.track_search.specs.Visit.{AreBelow, AreFresh, AreWaysAt, GoOn, HasPart, kept_at}
+use Rattle.track_search.proofs.InOrder.{From, in_order_from, in_order_increases, in_order_to, range_below}
+
+pub part_of_part : (way part less : List NetTrack) → HasPart way part → HasPart part less → HasPart way less
+part_of_part way part less has more = all_imply (Contains part) (Contains way) less (λ t there. All-contains (Contains way) part t has there) more
+
+-- the same tracks are listed
+pub record AreSame (way other : List NetTrack) : Type 0 where
+  pub to : HasPart way other
+  pub from : HasPart other way
+
+-- an open net is one of the kinds
+open_low : (pins : Pins) (k : Kinds) (s : State) (net : NetNo) → AreSomeKinds k → is_open pins (is_behind k s) (is_still_ahead k s) net ≡ true → net.0 < k.nets
+open_low pins k s net some o =
+    let behind : is_behind k s net ≡ true = (and_parts (is_behind k s net) (is_still_ahead k s net) (and_parts (not (is_rail pins net)) (is_behind k s net && is_still_ahead k s net) o).1).0 in
+    let i : Image net_of (range_with_len 0 k.nets) net = in_map net_of (range_with_len 0 k.nets) net (behind_among k s some net behind) in
+    let low : i.of < k.nets = range_below k.nets i.of i.listed in
+    subst (λ (n : NetNo). n.0 < k.nets) i.is low
+
+pub ways_in_order : (pins : Pins) (k : Kinds) (s : State) (ways : List (List NetTrack)) → AreSomeKinds k → AreWaysAt pins k s ways → All (λ way. AreSame way (in_order k.nets way)) ways
+ways_in_order pins k s ways some keys = all_imply (AreKeys pins (is_behind k s) (is_still_ahead k s)) (λ way. AreSame way (in_order k.nets way)) ways (λ way own. record {
+  to = all_from_contains (Contains way) (in_order k.nets way) (λ t there. (in_order_from k.nets way t there).there);
+  from = all_from_contains (Contains (in_order k.nets way)) way (λ t there. in_order_to k.nets way t own.one (open_low pins k s t.net some (All-contains (λ (t : NetTrack). is_open pins (is_behind k s) (is_still_ahead k s) t.net ≡ true) way t own.open' there)) there);
+}) keys
+
+-- the lemmas that are kept of some ways are in range
+pub kept_within : (k : Kinds) (limit : ℕ) (s : State) (gaps : ℕ) (ways : List (List NetTrack)) → IsState k s → All (AreBelow limit) ways → All (IsWithin k limit gaps) (map (kept_at k.nets s gaps) ways)
+kept_within k limit s gaps ways state below = all_map (AreBelow limit) (IsWithin k limit gaps) (kept_at k.nets s gaps) ways (λ way low. record {
+  state = state;
+  gaps = omega arith;
+  tracks = all_from_contains (IsTrackBelow k.nets limit) (in_order k.nets way) (λ t there.
+      let from : From k.nets way t = in_order_from k.nets way t there in
+      record { net = from.low; track = All-contains (λ (t : NetTrack). t.track < limit) way t low from.there });
+  order = in_order_increases k.nets way;
+}) below
+
+-- lemmas on states with fewer columns left speak of none of the ways
+pub fresh_grown : (k : Kinds) (s : State) (gaps : ℕ) (ways : List (List NetTrack)) (xs ys more : List TrackLemma) → ys ≡ xs ++ more → All (λ (lemma : TrackLemma). columns_left k lemma.state < columns_left k s) more → AreFresh xs s gaps ways → AreFresh ys s gaps ways
+fresh_grown k s gaps ways xs ys more is fewer fresh = record { open' = all_imply (λ way. Any (CoversListed s gaps way) xs → ⊥) (λ way. Any (CoversListed s gaps way) ys → ⊥) ways none fresh.open'; apart = fresh.apart }
+  where
+    none : (way : List NetTrack) → (Any (CoversListed s gaps way) xs → ⊥) → Any (CoversListed s gaps way) ys → ⊥
+    none way not' any =
+        let found : Some' (CoversListed s gaps way) ys = some_from_any (CoversListed s gaps way) ys any in
+        elim (Contains-append_cases xs more found.it (subst (λ zs. Contains zs found.it) is found.there)) [
+          | inl before ↦ not' (any_at (CoversListed s gaps way) xs found.it before found.holds)
+          | inr after ↦
+              let less : columns_left k found.it.state < columns_left k s = All-contains (λ (lemma : TrackLemma). columns_left k lemma.state < columns_left k s) more found.it fewer after in
+              absurd (omega (arith, less, ap (columns_left k) found.holds.state))
+        ]
+
+abbrev pub Differ : TrackLemma → TrackLemma → Type 0
+Differ earlier lemma = CoversListed lemma.state lemma.gaps lemma.tracks earlier → ⊥
+
+-- where no lemma speaks of the ways, those that are kept of them are new
+pub kept_new : (k : Kinds) (s : State) (gaps : ℕ) (ways : List (List NetTrack)) (lemmas : List TrackLemma) → All (λ way. AreSame way (in_order k.nets way)) ways → AreNew lemmas → AreFresh lemmas s gaps ways → AreNew (lemmas ++ map (kept_at k.nets s gaps) ways)
+kept_new k s gaps ways lemmas same own fresh = pairs_append Differ lemmas (map (kept_at k.nets s gaps) ways) own among across
+  where
+    among : AllPairs Differ (map (kept_at k.nets s gaps) ways)
+    among = pairs_map (λ a b. HasPart b a → ⊥) (λ way. AreSame way (in_order k.nets way)) Differ (kept_at k.nets s gaps) ways
+        (λ a b of_a of_b apart covers. apart (part_of_part b (in_order k.nets b) a of_b.to (part_of_part (in_order k.nets b) (in_order k.nets a) a covers.tracks of_a.from))) same fresh.apart
+
+    across : All (λ earlier. All (Differ earlier) (map (kept_at k.nets s gaps) ways)) lemmas
+    across = all_from_contains (λ earlier. All (Differ earlier) (map (kept_at k.nets s gaps) ways)) lemmas (λ earlier there.
+        all_from_contains (Differ earlier) (map (kept_at k.nets s gaps) ways) (λ lemma at.
+        let i : Image (kept_at k.nets s gaps) ways lemma = in_map (kept_at k.nets s gaps) ways lemma at in
+        subst (Differ earlier) i.is (λ covers.
+        All-contains (λ way. Any (CoversListed s gaps way) lemmas → ⊥) ways i.of fresh.open' i.listed
+        (any_at (CoversListed s gaps i.of) lemmas earlier there (record { state = covers.state; enough = covers.enough; tracks = part_of_part i.of (in_order k.nets i.of) earlier.tracks (All-contains (λ way. AreSame way (in_order k.nets way)) ways i.of same i.listed).to covers.tracks })))))
+
+-- ---- the tracks after a column are below the limit
+
+open_below : (pins : Pins) (limit : ℕ) (before behind : NetNo → Bool) (way : List NetTrack) → AreBelow limit way → AreBelow limit (open_of pins before behind way)
+open_below pins limit before behind way low = all_from_contains (λ (t : NetTrack). t.track < limit) (open_of pins before behind way) (λ t there.
+    All-contains (λ (t : NetTrack). t.track < limit) way t low (kept (λ (t : NetTrack). is_open pins before behind t.net) way t there).0)
+
+line_below : (limit : ℕ) (line : Line) (way : List NetTrack) → line_test limit line way ≡ true → AreBelow limit way
+line_below limit line way e = all_from_contains (λ (t : NetTrack). t.track < limit) way (λ t there.
+    ltb-true t.track limit (and_parts _ _ (pass_at (λ (t : NetTrack). ltb t.track limit && list_all (are_apart line t) way) way t e there)).0)
+
+pass_below : (pins : Pins) (limit : ℕ) (nets : List NetNo) (before : NetNo → Bool) (lines : List Line) (behind : NetNo → Bool) (tracks way : List NetTrack) → AreBelow limit tracks → Contains (pass_ways pins limit nets before lines behind tracks) way → AreBelow limit way
+pass_below pins limit nets before [] behind tracks way low there = subst (AreBelow limit) (contains_one (open_of pins before behind tracks) way there) (open_below pins limit before behind tracks low)
+pass_below pins limit nets before (line ∷ rest) behind tracks way low there =
+    let at : Piece (pass_ways pins limit nets (with_line before line) rest behind) (line_ways pins limit nets before line (λ net. is_ahead rest net || behind net) (open_of pins before (λ net. is_ahead (line ∷ rest) net || behind net) tracks)) way = in_flat (pass_ways pins limit nets (with_line before line) rest behind) (line_ways pins limit nets before line (λ net. is_ahead rest net || behind net) (open_of pins before (λ net. is_ahead (line ∷ rest) net || behind net) tracks)) way there in
+    let tested : line_test limit line at.of ≡ true = (kept (line_test limit line) (fills limit (missing pins before line (λ net. is_ahead rest net || behind net) nets (open_of pins before (λ net. is_ahead (line ∷ rest) net || behind net) tracks)) (open_of pins before (λ net. is_ahead (line ∷ rest) net || behind net) tracks)) at.of at.listed).1 in
+    pass_below pins limit nets (with_line before line) rest behind at.of way (line_below limit line at.of tested) at.inside
+
+pub ways_below : (pins : Pins) (limit : ℕ) (k : Kinds) (s : State) (step : Step) (ways onward : List (List NetTrack)) → All (AreBelow limit) ways → All (GoOn pins limit k s step ways) onward → All (AreBelow limit) onward
+ways_below pins limit k s step ways onward low from = all_imply (GoOn pins limit k s step ways) (AreBelow limit) onward (λ next go.
+    let of : Some' (λ way. Contains (goes_ways pins limit k s way step) next) ways = some_from_any (λ way. Contains (goes_ways pins limit k s way step) next) ways go in
+    pass_below pins limit (nets_below k.nets) (is_behind k s) (lines_to s (column_of k step)) (is_still_ahead k (state_after k s step)) of.it next (All-contains (AreBelow limit) ways of.it low of.there) of.holds) from

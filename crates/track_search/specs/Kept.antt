@@ -1,0 +1,66 @@
+-- The lemmas that a search keeps, and why its budget is spent.
+use Rattle.std.specs.Prelude.{ℕ, ◌≡◌, ◌+◌, ◌<◌, ◌≤◌, List, [], ◌∷◌, All, IsTrue, length, sum_by}
+use Rattle.std.specs.List.{AllPairs}
+use Rattle.cell_num.specs.declared.finger.Row.{Row}
+use Rattle.cell_num.specs.declared.net.Pins.{Pins}
+use Rattle.row_state.specs.declared.kind.Kinds.{Kinds}
+use Rattle.row_state.specs.declared.state.State.{State}
+use Rattle.row_state.specs.Start.{IsState, columns_left, start_of}
+use Rattle.trail_log.specs.Order.{increases}
+use Rattle.track_log.specs.Line.{track_rank}
+use Rattle.track_ways.specs.declared.track.NetTrack.{NetTrack}
+use Rattle.track_lemmas.specs.declared.lemma.TrackLemma.{TrackLemma}
+use Rattle.track_lemmas.specs.Certificate.{AreJustified}
+use Rattle.track_lemmas.specs.Checked.{CoversListed}
+
+-- a net of the kinds, on a track below the limit
+pub record IsTrackBelow (nets limit : ℕ) (t : NetTrack) : Type 0 where
+  pub net : t.net.0 < nets
+  pub track : t.track < limit
+
+-- a valid state, at most that many gaps, and tracks below the limit in the order of their nets, no net twice
+pub record IsWithin (k : Kinds) (limit most : ℕ) (lemma : TrackLemma) : Type 0 where
+  pub state : IsState k lemma.state
+  pub gaps : lemma.gaps ≤ most
+  pub tracks : All (IsTrackBelow k.nets limit) lemma.tracks
+  pub order : IsTrue (increases track_rank lemma.tracks)
+
+-- no lemma follows from an earlier one: that is on another state, on fewer gaps, or on a track that it does not list
+abbrev pub AreNew : List TrackLemma → Type 0
+AreNew lemmas = AllPairs (λ earlier lemma. CoversListed lemma.state lemma.gaps lemma.tracks earlier → ⊥) lemmas
+
+-- lemmas that no row with at most that many gaps has tracks below the limit: each is justified, and none follows from
+-- an earlier one
+pub record AreKept
+    (value : Row → State → Kinds → ℕ) (pins : Pins) (limit : ℕ) (k : Kinds) (gaps : ℕ) (lemmas : List TrackLemma)
+    : Type 0 where
+  pub justified : AreJustified value pins limit k lemmas
+  pub own : AreNew lemmas
+  pub within : All (IsWithin k limit gaps) lemmas
+
+-- how many columns the fingers need
+abbrev pub columns_in : Kinds → ℕ
+columns_in k = columns_left k (start_of k)
+
+-- Why the visits below one limit are spent, where `before` were made before: there are as many lemmas as visits, but
+-- for the columns of one row.
+pub record IsSpentBelow
+    (value : Row → State → Kinds → ℕ) (pins : Pins) (limit : ℕ) (k : Kinds) (gaps before budget : ℕ) : Type 0 where
+  pub lemmas : List TrackLemma
+  pub kept : AreKept value pins limit k gaps lemmas
+  pub many : budget ≤ before + length lemmas + columns_in k
+
+-- lists of lemmas on the limits from 0 on, the last one first
+abbrev pub AreKeptBelow : (Row → State → Kinds → ℕ) → Pins → Kinds → ℕ → List (List TrackLemma) → Type 0
+AreKeptBelow value pins k gaps [] = Unit {0}
+AreKeptBelow value pins k gaps (lemmas ∷ lower) =
+    AreKept value pins (length lower) k gaps lemmas × AreKeptBelow value pins k gaps lower
+
+-- Why visits are spent below the limits from 0 to the one that was tried: there are as many lemmas as the budget has
+-- visits, but for the columns of one row.
+pub record IsSpent
+    (value : Row → State → Kinds → ℕ) (pins : Pins) (k : Kinds) (gaps tried budget : ℕ) : Type 0 where
+  pub lists : List (List TrackLemma)
+  pub limits : length lists ≡ tried + 1
+  pub kept : AreKeptBelow value pins k gaps lists
+  pub many : budget ≤ sum_by length lists + columns_in k
