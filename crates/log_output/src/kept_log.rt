@@ -55,6 +55,19 @@ impl KeptLog {
         }
     }
 
+    /// The same log with this row in place of its own.
+    pub fn listing(self, best: Best) -> KeptLog
+        ensures { result ≡ log_with self.version self.lemmas best }
+    {
+        let KeptLog {
+            version,
+            kept,
+            best: own,
+        } = self;
+        drop(own);
+        KeptLog::with_row(version, kept, best)
+    }
+
     /// How many lemmas it has.
     pub fn count(&self) -> u64
         ensures { result ≡ length self.now.lemmas }

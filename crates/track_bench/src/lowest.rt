@@ -1,7 +1,7 @@
 use crate::answer;
-use crate::listed::listed_row;
 use cell_inputs::Inputs;
-use cell_num::Bytes;
+use cell_num::{Bytes, NoMemory};
+use row_list::list_row;
 use row_search::search_kept;
 use row_state::{Component, kinds};
 use std::alloc::Global;
@@ -29,35 +29,25 @@ fn in_order(mut lemmas: TrackLemmas) -> TrackLemmas {
     lemmas
 }
 
-/// The answer for rows of the cell with at most so many gaps, or none where memory ends.
-pub fn lowest_row(alloc: Global, inputs: &Inputs, gaps: u32) -> Option<Bytes> {
+fn answer_for(alloc: Global, inputs: &Inputs, gaps: u32) -> Result<Bytes, NoMemory> {
     inputs.show_limits();
-    let kinds = kinds(alloc, &inputs.fingers).ok()?;
+    let kinds = kinds(alloc, &inputs.fingers)?;
     let pins = &inputs.cell.pins;
     let name = &inputs.cell.name;
-    match fewest_tracks(
-        alloc,
-        &Component,
-        pins,
-        &kinds,
-        gaps,
-        MOST_TRACKS,
-        inputs.budget(),
-    )
-    .ok()?
-    {
+    let most = MOST_TRACKS;
+    match fewest_tracks(alloc, &Component, pins, &kinds, gaps, most, inputs.budget())? {
         Fewest::Found {
             row,
             tracks,
             lemmas,
         } => {
-            let steps = listed_row(alloc, row.as_slice(), &kinds)?;
+            let steps = list_row(alloc, &kinds, &row)?;
             let certificate = TrackCertificate {
                 gaps,
                 tracks,
                 lemmas: in_order(lemmas),
             };
-            answer::found(alloc, name, steps.as_slice(), &certificate).ok()
+            answer::found(alloc, name, steps.as_slice(), &certificate)
         }
         Fewest::Open { proved, lemmas } => {
             let certificate = TrackCertificate {
@@ -65,7 +55,12 @@ pub fn lowest_row(alloc: Global, inputs: &Inputs, gaps: u32) -> Option<Bytes> {
                 tracks: proved,
                 lemmas: in_order(lemmas),
             };
-            answer::open(alloc, name, &certificate).ok()
+            answer::open(alloc, name, &certificate)
         }
     }
+}
+
+/// The answer for rows of the cell with at most that many gaps, or none where memory ends.
+pub fn lowest_row(alloc: Global, inputs: &Inputs, gaps: u32) -> Option<Bytes> {
+    answer_for(alloc, inputs, gaps).ok()
 }

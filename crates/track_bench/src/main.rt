@@ -3,7 +3,6 @@
 
 mod answer;
 mod asked;
-mod listed;
 mod lowest;
 
 use asked::asked_of;
