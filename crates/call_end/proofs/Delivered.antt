@@ -5,7 +5,6 @@ use Rattle.cell_io.specs.Desk.{Files, View, Both, ForSome, AddsPart, CreatesOne,
 use Rattle.call_end.specs.declared.end.Output.{Output}
 use Rattle.call_end.specs.declared.end.End.{End}
 use Rattle.call_end.specs.declared.status.Status.{Status}
-use Rattle.call_end.specs.End.{leaves}
 use Rattle.call_end.specs.Deliver.{CreatesAll, CreatesFront, GivesUp, Makes, MakesAll, MakesSome, Tells, names_of}
 use Rattle.log_output.specs.Giving.{GivesSome, OnlyPuts}
 use Rattle.log_output.proofs.Giving.{said_some}
@@ -115,9 +114,3 @@ report_some end answer a b c makes all created only some gives =
     let said : Both (ForSome end.report (AddsPart end.report)) a.said c.said = subst (λ (text : Option (List ℕ)). Both (ForSome end.report (AddsPart end.report)) text c.said) makes.said (said_some end.report b c some) in
     let names : Both (CreatesAll end.files) a.created c.created = subst (λ (names : Option (List (List ℕ))). Both (CreatesAll end.files) a.created names) (sym only.created) created in
     inr (gives, inr (made, said, names))
-
--- ---- an end with files
-
-pub leaves_listed : (status : Status) (files all : List Output) (told report : List ℕ) → all ≡ files → told ≡ report → leaves status all told ≡ leaves status files report
-leaves_listed status files all told report a is =
-    ap (λ (xs : List Output). leaves status xs told) a ∙ ap (λ (text : List ℕ). leaves status files text) is

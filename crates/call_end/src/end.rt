@@ -1,4 +1,4 @@
-ghost use Rattle.std.specs.Prelude.{◌≡◌, [], ◌∷◌, ◌++◌, IfOk};
+ghost use Rattle.std.specs.Prelude.{◌≡◌, [], ◌∷◌, IfOk};
 ghost use Rattle.call_end.specs.End.{says, leaves};
 
 use crate::status::Status;
@@ -24,33 +24,18 @@ pub struct End {
     pub report: Content,
 }
 
-fn with_file(mut files: OutputList, file: Output) -> Result<OutputList, NoMemory>
-    ensures { IfOk result (λ all. all ≡ files ++ file ∷ []) }
-{
-    files.push(file)?;
-    Ok(files)
-}
-
-fn two_files(alloc: Global, first: Output, second: Output) -> Result<OutputList, NoMemory>
-    ensures { IfOk result (λ files. files ≡ first ∷ second ∷ []) }
-{
-    let files = with_file(OutputList::new(alloc), first)?;
-    with_file(files, second)
-}
-
-fn three_files(
-    alloc: Global,
-    first: Output,
-    second: Output,
-    third: Output,
-) -> Result<OutputList, NoMemory>
-    ensures { IfOk result (λ files. files ≡ first ∷ second ∷ third ∷ []) }
-{
-    let files = two_files(alloc, first, second)?;
-    with_file(files, third)
-}
-
 impl End {
+    /// An end that makes files in order. It takes no memory.
+    pub fn makes(status: Status, files: OutputList, report: Bytes) -> End
+        ensures { result ≡ leaves status files report }
+    {
+        End {
+            status,
+            files,
+            report: Content::of_bytes(report),
+        }
+    }
+
     /// An end that makes a file.
     pub fn makes_one(
         alloc: Global,
@@ -62,48 +47,7 @@ impl End {
     {
         let mut files = OutputList::new(alloc);
         files.push(file)?;
-        Ok(End {
-            status,
-            files,
-            report: Content::of_bytes(report),
-        })
-    }
-
-    /// An end that makes two files in order.
-    pub fn makes_two(
-        alloc: Global,
-        status: Status,
-        first: Output,
-        second: Output,
-        report: Bytes,
-    ) -> Result<End, NoMemory>
-        ensures { IfOk result (λ end. end ≡ leaves status (first ∷ second ∷ []) report) }
-    {
-        let files = two_files(alloc, first, second)?;
-        Ok(End {
-            status,
-            files,
-            report: Content::of_bytes(report),
-        })
-    }
-
-    /// An end that makes three files in order.
-    pub fn makes_three(
-        alloc: Global,
-        status: Status,
-        first: Output,
-        second: Output,
-        third: Output,
-        report: Bytes,
-    ) -> Result<End, NoMemory>
-        ensures { IfOk result (λ end. end ≡ leaves status (first ∷ second ∷ third ∷ []) report) }
-    {
-        let files = three_files(alloc, first, second, third)?;
-        Ok(End {
-            status,
-            files,
-            report: Content::of_bytes(report),
-        })
+        Ok(End::makes(status, files, report))
     }
 
     /// An end without files.

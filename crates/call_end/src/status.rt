@@ -17,7 +17,7 @@ pub enum Status {
     WriteFault,
     /// The technology, the subcircuit or its folding is refused.
     Input,
-    /// The least row has a cycle of vertical constraints.
+    /// The least row has a cycle of vertical constraints; with `--low`, each least row has one.
     Cycle,
     /// The budget ended the search.
     Unfinished,

@@ -5,7 +5,8 @@ use Rattle.call_read.specs.declared.read.Source.{Source as Asked}
 use Rattle.call_read.specs.declared.read.Source.TheVariants as asked
 use Rattle.call_read.specs.declared.refusal.Refusal.{Refusal}
 use Rattle.call_read.specs.declared.refusal.Refusal.TheVariants.{Unread, NoMemory}
-use Rattle.call_read.specs.Sources.{Source, TechFile, SpiceFile, LogFile, GdsFile, LefFile, TrailFile, MayRead}
+use Rattle.call_read.specs.Sources.{Source, TechFile, SpiceFile, LogFile, GdsFile, LefFile, TrailFile, TrackFile}
+use Rattle.call_read.specs.Sources.{MayRead}
 
 -- the program's source, by its text
 abbrev pub named : Asked → Source
@@ -15,6 +16,7 @@ named (asked.Log name) = LogFile name.now
 named (asked.Gds name) = GdsFile name.now
 named (asked.Lef name) = LefFile name.now
 named (asked.Trails name) = TrailFile name.now
+named (asked.Tracks name) = TrackFile name.now
 
 -- it was read so, or memory ran out
 abbrev pub IsRead : View → View → Source → Result (List ℕ) Refusal → Type 0

@@ -13,6 +13,7 @@ pub data Source : Type 0 where
   GdsFile : (name : List ℕ) → Source
   LefFile : (name : List ℕ) → Source
   TrailFile : (name : List ℕ) → Source
+  TrackFile : (name : List ℕ) → Source
 
 abbrev pub file_name : Source → List ℕ
 file_name (TechFile name) = name
@@ -21,9 +22,10 @@ file_name (LogFile name) = name
 file_name (GdsFile name) = name
 file_name (LefFile name) = name
 file_name (TrailFile name) = name
+file_name (TrackFile name) = name
 
 -- the most bytes of a file: 4 MiB, 512 MiB for a log, and 64 MiB for a GDSII file, a LEF file and a certificate by
--- trails
+-- trails or of tracks
 abbrev pub most_bytes : Source → ℕ
 most_bytes (TechFile name) = 4194304
 most_bytes (SpiceFile name) = 4194304
@@ -31,6 +33,7 @@ most_bytes (LogFile name) = 536870912
 most_bytes (GdsFile name) = 67108864
 most_bytes (LefFile name) = 67108864
 most_bytes (TrailFile name) = 67108864
+most_bytes (TrackFile name) = 67108864
 
 -- the bytes of a file that is there and within its limit
 abbrev pub within : List ℕ → ℕ → Option (List ℕ) → Result (List ℕ) Refusal

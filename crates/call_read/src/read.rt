@@ -53,6 +53,7 @@ pub enum Source<'a> {
     Gds(&'a str),
     Lef(&'a str),
     Trails(&'a str),
+    Tracks(&'a str),
 }
 
 fn file_name(source: Source<'_>) -> &str
@@ -64,7 +65,8 @@ fn file_name(source: Source<'_>) -> &str
         | Source::Log(name)
         | Source::Gds(name)
         | Source::Lef(name)
-        | Source::Trails(name) => name,
+        | Source::Trails(name)
+        | Source::Tracks(name) => name,
     }
 }
 
@@ -75,7 +77,7 @@ fn most_bytes(source: Source<'_>) -> u64
     match source {
         Source::Tech(_) | Source::Spice(_) => 4_194_304,
         Source::Log(_) => 536_870_912,
-        Source::Gds(_) | Source::Lef(_) | Source::Trails(_) => 67_108_864,
+        Source::Gds(_) | Source::Lef(_) | Source::Trails(_) | Source::Tracks(_) => 67_108_864,
     }
 }
 

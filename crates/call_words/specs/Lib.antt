@@ -1,3 +1,4 @@
--- What contracts of public calls cite, and what these definitions stand on.
+-- What contracts of public calls cite, and what these definitions depend on.
 pub mod Asked
+pub mod Options
 pub mod Words

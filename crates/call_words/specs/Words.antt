@@ -5,13 +5,12 @@ use Rattle.std.specs.List.{range_with_len}
 use Rattle.std.specs.declared.alloc.Global.{Global}
 use Rattle.cell_num.specs.Names.{is_cell}
 use Rattle.call_words.specs.declared.evidence.Evidence.{Evidence}
-use Rattle.call_words.specs.declared.evidence.Evidence.TheVariants.{Log, Trails}
 use Rattle.call_words.specs.declared.form.Form.{Form as Read}
 use Rattle.call_words.specs.declared.form.Form.TheVariants as read
 use Rattle.call_words.specs.Asked.{CellAsked, RowAsked, are_row_cells, is_top, texts}
+use Rattle.call_words.specs.Options.{evidence_of, style_of, taps_of, trails_of, wiring_of}
 use Rattle.cell_inputs.specs.declared.style.Style.{Style}
 use Rattle.cell_inputs.specs.declared.style.Taps.{Taps}
-use Rattle.cell_inputs.specs.declared.style.Taps.TheVariants.{Without, With}
 use Rattle.cell_inputs.specs.declared.style.Wiring.{Wiring}
 use Rattle.cell_inputs.specs.declared.style.Wiring.TheVariants.{Straight, Doglegs}
 use Rattle.scmos_rules.specs.declared.rules.Deck.{Deck}
@@ -21,7 +20,9 @@ use Rattle.scmos_rules.specs.declared.rules.Deck.TheVariants as deck
 --   plan TECH SPICE CELL, which may end with `--trails` for another kind of evidence
 --   make TECH SPICE CELL OUT, which may end with `--dogleg`, `--taps` and `--trails`, and after them with `--from FILE`
 --     for the row that a file lists
---   check TECH SPICE CELL LOG, or with `--trails` after the file's name
+--   make TECH SPICE CELL OUT [--taps] --low [--trails]: the lowest of the least rows
+--   check TECH SPICE CELL LOG, or with `--trails` or `--low` after the file's name: a log, a certificate by trails, a
+--     certificate of tracks
 --   extract TECH GDS CELL, which may end with `--taps` for the deck of cells with taps; no technology is the plain one
 --   bench NUMBER
 --   row TECH SPICE OUT TOP CELL CELL ..
@@ -30,7 +31,9 @@ pub data Form : Type 0 where
   Plan : (cell : CellAsked) (evidence : Evidence) → Form
   Make : (cell : CellAsked) (out : List ℕ) (style : Style) (evidence : Evidence) → Form
   MakeFrom : (cell : CellAsked) (out : List ℕ) (style : Style) (file : List ℕ) (evidence : Evidence) → Form
+  MakeLow : (cell : CellAsked) (out : List ℕ) (taps : Taps) (evidence : Evidence) → Form
   Check : (cell : CellAsked) (file : List ℕ) (evidence : Evidence) → Form
+  CheckLow : (cell : CellAsked) (file : List ℕ) → Form
   Extract : (tech : Option (List ℕ)) (gds cell : List ℕ) (rules : Deck) → Form
   Bench : (number : ℕ) → Form
   Row : (row : RowAsked) (out : List ℕ) → Form
@@ -41,7 +44,9 @@ abbrev pub shown : Read → Form
 shown (read.Plan cell evidence) = Plan cell evidence
 shown (read.Make cell out style evidence) = Make cell out.now style evidence
 shown (read.MakeFrom cell out style file evidence) = MakeFrom cell out.now style file.now evidence
+shown (read.MakeLow cell out taps evidence) = MakeLow cell out.now taps evidence
 shown (read.Check cell file evidence) = Check cell file.now evidence
+shown (read.CheckLow cell file) = CheckLow cell file.now
 shown (read.Extract tech gds cell rules) = Extract (option_map (λ name. name.now) tech) gds.now cell.now rules
 shown (read.Bench number) = Bench number
 shown (read.Row row out) = Row row out.now
@@ -65,6 +70,8 @@ usage_text =
     ++ codes "check TECH SPICE CELL FILE --trails\n"
     ++ codes "make TECH SPICE CELL OUT [--dogleg] [--taps] --trails\n"
     ++ codes "make TECH SPICE CELL OUT [--dogleg] [--taps] [--trails] --from FILE\n"
+    ++ codes "make TECH SPICE CELL OUT [--taps] --low [--trails]\n"
+    ++ codes "check TECH SPICE CELL FILE --low\n"
 
 -- the name of a file: not empty
 abbrev pub is_file : List ℕ → Bool
@@ -81,12 +88,6 @@ cell_of tech spice cell =
     then Some (record { tech = tech_of tech; spice = spice; cell = cell })
     else None
 
--- the evidence of the last words: a log, or with `--trails` a certificate by trails
-abbrev pub evidence_of : List (List ℕ) → Option Evidence
-evidence_of [] = Some Log
-evidence_of (word ∷ []) = if bytes_eq word (codes "--trails") then Some Trails else None
-evidence_of _ = None
-
 -- the form of the words after a command
 abbrev pub plan_of : List (List ℕ) → Option Form
 plan_of (tech ∷ spice ∷ cell ∷ more) =
@@ -97,25 +98,6 @@ plan_of _ = None
 abbrev pub making_of : Style → Evidence → List ℕ → List ℕ → List ℕ → List ℕ → Option Form
 making_of style evidence tech spice cell out =
     if is_file out then option_map (λ asked. Make asked out style evidence) (cell_of tech spice cell) else None
-
--- `--dogleg` asks for doglegs, where it comes first; and the words after it
-abbrev pub wiring_of : List (List ℕ) → Wiring × List (List ℕ)
-wiring_of [] = (Straight, [])
-wiring_of (word ∷ more) = if bytes_eq word (codes "--dogleg") then (Doglegs, more) else (Straight, word ∷ more)
-
--- `--taps` asks for taps, where it comes first; and the words after it
-abbrev pub taps_of : List (List ℕ) → Taps × List (List ℕ)
-taps_of [] = (Without, [])
-taps_of (word ∷ more) = if bytes_eq word (codes "--taps") then (With, more) else (Without, word ∷ more)
-
--- the style of the words after OUT
-abbrev pub style_of : List (List ℕ) → Style
-style_of words = record { wiring = (wiring_of words).0; taps = (taps_of (wiring_of words).1).0 }
-
--- `--trails` asks for a certificate by trails, where it comes first; and the words after it
-abbrev pub trails_of : List (List ℕ) → Evidence × List (List ℕ)
-trails_of [] = (Log, [])
-trails_of (word ∷ more) = if bytes_eq word (codes "--trails") then (Trails, more) else (Log, word ∷ more)
 
 -- a drawing of the row that a file of such evidence lists
 abbrev pub making_from_of : Style → Evidence → List ℕ → List ℕ → List ℕ → List ℕ → List ℕ → Option Form
@@ -136,14 +118,35 @@ drawing_of style evidence [] tech spice cell out = making_of style evidence tech
 drawing_of style evidence (word ∷ rest) tech spice cell out =
     given_of style evidence word rest tech spice cell out
 
--- the evidence of the words after OUT, and the words after it
-abbrev pub evidence_by : List (List ℕ) → Evidence × List (List ℕ)
-evidence_by more = trails_of (taps_of (wiring_of more).1).1
+-- the drawing of a row that is searched for or of a file's row, by the words after the style
+abbrev pub evident_of : Style → List (List ℕ) → List ℕ → List ℕ → List ℕ → List ℕ → Option Form
+evident_of style more tech spice cell out =
+    drawing_of style (trails_of more).0 (trails_of more).1 tech spice cell out
 
--- the words after OUT: `--dogleg`, `--taps`, `--trails` and `--from FILE` in this order, or some of them
+-- the drawing of the lowest of the least rows, whose wiring is straight
+abbrev pub making_low_of : Wiring → Taps → Evidence → List ℕ → List ℕ → List ℕ → List ℕ → Option Form
+making_low_of Straight taps evidence tech spice cell out =
+    if is_file out then option_map (λ asked. MakeLow asked out taps evidence) (cell_of tech spice cell) else None
+making_low_of Doglegs taps evidence tech spice cell out = None
+
+-- the same by the words after `--low`: the evidence of its gaps
+abbrev pub low_of : Style → List (List ℕ) → List ℕ → List ℕ → List ℕ → List ℕ → Option Form
+low_of style more tech spice cell out =
+    option_and_then (λ evidence. making_low_of style.wiring style.taps evidence tech spice cell out) (evidence_of more)
+
+-- a drawing in a style, by the words after it
+abbrev pub styled_of : Style → List (List ℕ) → List ℕ → List ℕ → List ℕ → List ℕ → Option Form
+styled_of style [] tech spice cell out = evident_of style [] tech spice cell out
+styled_of style (word ∷ more) tech spice cell out =
+    if bytes_eq word (codes "--low")
+    then low_of style more tech spice cell out
+    else evident_of style (word ∷ more) tech spice cell out
+
+-- the words after OUT: `--dogleg`, `--taps`, `--trails` and `--from FILE` in this order, or some of them; or `--taps`,
+-- `--low` and `--trails`, of which `--low` has to be there
 abbrev pub make_of : List (List ℕ) → Option Form
 make_of (tech ∷ spice ∷ cell ∷ out ∷ more) =
-    drawing_of (style_of more) (evidence_by more).0 (evidence_by more).1 tech spice cell out
+    styled_of (style_of more) (taps_of (wiring_of more).1).1 tech spice cell out
 make_of _ = None
 
 -- a file of evidence that is checked
@@ -151,9 +154,26 @@ abbrev pub checking_of : Evidence → List ℕ → List ℕ → List ℕ → Lis
 checking_of evidence tech spice cell file =
     if is_file file then option_map (λ asked. Check asked file evidence) (cell_of tech spice cell) else None
 
-abbrev pub check_of : List (List ℕ) → Option Form
-check_of (tech ∷ spice ∷ cell ∷ file ∷ more) =
+-- a certificate of tracks that is checked
+abbrev pub checking_low_of : List ℕ → List ℕ → List ℕ → List ℕ → Option Form
+checking_low_of tech spice cell file =
+    if is_file file then option_map (λ asked. CheckLow asked file) (cell_of tech spice cell) else None
+
+-- a file of evidence that is checked, by the words after its name
+abbrev pub checking_by : List (List ℕ) → List ℕ → List ℕ → List ℕ → List ℕ → Option Form
+checking_by more tech spice cell file =
     option_and_then (λ evidence. checking_of evidence tech spice cell file) (evidence_of more)
+
+-- a file that is checked, by the words after its name
+abbrev pub checked_of : List (List ℕ) → List ℕ → List ℕ → List ℕ → List ℕ → Option Form
+checked_of (word ∷ []) tech spice cell file =
+    if bytes_eq word (codes "--low")
+    then checking_low_of tech spice cell file
+    else checking_by (word ∷ []) tech spice cell file
+checked_of more tech spice cell file = checking_by more tech spice cell file
+
+abbrev pub check_of : List (List ℕ) → Option Form
+check_of (tech ∷ spice ∷ cell ∷ file ∷ more) = checked_of more tech spice cell file
 check_of _ = None
 
 -- a layout that is checked by these rules

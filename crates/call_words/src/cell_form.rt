@@ -1,13 +1,13 @@
 ghost use Rattle.std.specs.Prelude.{◌≡◌, option_map};
 ghost use Rattle.call_words.specs.Asked.{texts};
 ghost use Rattle.call_words.specs.Words.{shown, plan_of, making_of, making_from_of, given_of};
-ghost use Rattle.call_words.specs.Words.{drawing_of, make_of, check_of};
+ghost use Rattle.call_words.specs.Words.{drawing_of, evident_of, making_low_of, low_of, styled_of, make_of};
 
 use crate::cell::cell_of;
 use crate::evidence::{Evidence, evidence_of, trails_of};
 use crate::form::Form;
 use crate::style::style_of;
-use cell_inputs::Style;
+use cell_inputs::{Style, Taps, Wiring};
 
 /// The form of the words after `plan`.
 pub(crate) fn plan_of(words: &[String]) -> Option<Form<'_>>
@@ -115,7 +115,85 @@ fn drawing_of<'a>(
     }
 }
 
+// The drawing of a row that is searched for or of a file's row, by the words after the style.
+fn evident_of<'a>(
+    style: Style,
+    more: &'a [String],
+    tech: &'a str,
+    spice: &'a str,
+    cell: &'a str,
+    out: &'a str,
+) -> Option<Form<'a>>
+    ensures { option_map shown result ≡ evident_of style (texts more.now) tech.now spice.now cell.now out.now }
+{
+    let (evidence, more) = trails_of(more);
+    drawing_of(style, evidence, more, tech, spice, cell, out)
+}
+
+// The drawing of the lowest of the least rows, whose wiring is straight.
+fn making_low_of<'a>(
+    wiring: Wiring,
+    taps: Taps,
+    evidence: Evidence,
+    tech: &'a str,
+    spice: &'a str,
+    cell: &'a str,
+    out: &'a str,
+) -> Option<Form<'a>>
+    ensures { option_map shown result
+        ≡ making_low_of wiring taps evidence tech.now spice.now cell.now out.now }
+{
+    let Wiring::Straight = wiring else {
+        return None;
+    };
+    if out.is_empty() {
+        return None;
+    }
+    let cell = cell_of(tech, spice, cell)?;
+    Some(Form::MakeLow {
+        cell,
+        out,
+        taps,
+        evidence,
+    })
+}
+
+// The same by the words after `--low`.
+fn low_of<'a>(
+    style: Style,
+    more: &'a [String],
+    tech: &'a str,
+    spice: &'a str,
+    cell: &'a str,
+    out: &'a str,
+) -> Option<Form<'a>>
+    ensures { option_map shown result ≡ low_of style (texts more.now) tech.now spice.now cell.now out.now }
+{
+    let evidence = evidence_of(more)?;
+    making_low_of(style.wiring, style.taps, evidence, tech, spice, cell, out)
+}
+
+// A drawing in a style, by the words after it.
+fn styled_of<'a>(
+    style: Style,
+    more: &'a [String],
+    tech: &'a str,
+    spice: &'a str,
+    cell: &'a str,
+    out: &'a str,
+) -> Option<Form<'a>>
+    ensures { option_map shown result ≡ styled_of style (texts more.now) tech.now spice.now cell.now out.now }
+{
+    match more {
+        [word, rest @ ..] if word.as_str() == "--low" => {
+            low_of(style, rest, tech, spice, cell, out)
+        }
+        _ => evident_of(style, more, tech, spice, cell, out),
+    }
+}
+
 /// The form of the words after `make`.
+#[tactic(auto, using(crate::proofs::Makes::too_few))]
 pub(crate) fn make_of(words: &[String]) -> Option<Form<'_>>
     ensures { option_map shown result ≡ make_of (texts words.now) }
 {
@@ -123,33 +201,12 @@ pub(crate) fn make_of(words: &[String]) -> Option<Form<'_>>
         return None;
     };
     let (style, more) = style_of(more);
-    let (evidence, more) = trails_of(more);
-    drawing_of(
+    styled_of(
         style,
-        evidence,
         more,
         tech.as_str(),
         spice.as_str(),
         cell.as_str(),
         out.as_str(),
     )
-}
-
-/// The form of the words after `check`.
-pub(crate) fn check_of(words: &[String]) -> Option<Form<'_>>
-    ensures { option_map shown result ≡ check_of (texts words.now) }
-{
-    let [tech, spice, cell, file, more @ ..] = words else {
-        return None;
-    };
-    let evidence = evidence_of(more)?;
-    if file.is_empty() {
-        return None;
-    }
-    let cell = cell_of(tech.as_str(), spice.as_str(), cell.as_str())?;
-    Some(Form::Check {
-        cell,
-        file: file.as_str(),
-        evidence,
-    })
 }

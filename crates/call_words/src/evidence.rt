@@ -1,6 +1,6 @@
 ghost use Rattle.std.specs.Prelude.{◌≡◌};
 ghost use Rattle.call_words.specs.Asked.{texts};
-ghost use Rattle.call_words.specs.Words.{evidence_of, trails_of};
+ghost use Rattle.call_words.specs.Options.{evidence_of, trails_of};
 
 /// What is to prove that no row of a cell has fewer gaps.
 #[derive(Clone, Copy, Debug, PartialEq, Eq)]

@@ -4,11 +4,12 @@ ghost use Rattle.call_words.specs.Words.{shown, extracting_of, extract_of, bench
 ghost use Rattle.call_words.specs.Words.{agree_of, asked, usage_text};
 
 use crate::cell::{CellAsked, tech_of};
-use crate::cell_form::{check_of, make_of, plan_of};
+use crate::cell_form::{make_of, plan_of};
+use crate::check_form::check_of;
 use crate::count::CellCount;
 use crate::evidence::Evidence;
 use crate::row::{self, RowAsked};
-use cell_inputs::Style;
+use cell_inputs::{Style, Taps};
 use cell_num::{Bytes, NoMemory, is_cell};
 use scmos_rules::Deck;
 
@@ -35,11 +36,24 @@ pub enum Form<'a> {
         file: &'a str,
         evidence: Evidence,
     },
+    /// The drawing of the lowest of a cell's least rows, with evidence of its gaps and of its tracks, in files whose
+    /// names begin so. Its wiring is straight.
+    MakeLow {
+        cell: CellAsked<'a>,
+        out: &'a str,
+        taps: Taps,
+        evidence: Evidence,
+    },
     /// Whether a file holds evidence that certifies a row of a cell.
     Check {
         cell: CellAsked<'a>,
         file: &'a str,
         evidence: Evidence,
+    },
+    /// Whether a file holds a certificate of the fewest tracks of a cell's rows.
+    CheckLow {
+        cell: CellAsked<'a>,
+        file: &'a str,
     },
     /// The netlist of a cell of a GDSII file, checked by a deck of rules; no technology's file is the plain technology.
     Extract {
@@ -183,6 +197,8 @@ plan TECH SPICE CELL --trails
 check TECH SPICE CELL FILE --trails
 make TECH SPICE CELL OUT [--dogleg] [--taps] --trails
 make TECH SPICE CELL OUT [--dogleg] [--taps] [--trails] --from FILE
+make TECH SPICE CELL OUT [--taps] --low [--trails]
+check TECH SPICE CELL FILE --low
 ",
     )
 }

@@ -3,6 +3,7 @@
 
 mod cell;
 mod cell_form;
+mod check_form;
 mod count;
 mod evidence;
 mod form;

@@ -1,6 +1,6 @@
 ghost use Rattle.std.specs.Prelude.{◌≡◌};
 ghost use Rattle.call_words.specs.Asked.{texts};
-ghost use Rattle.call_words.specs.Words.{style_of, taps_of, wiring_of};
+ghost use Rattle.call_words.specs.Options.{style_of, taps_of, wiring_of};
 
 use cell_inputs::{Style, Taps, Wiring};
 

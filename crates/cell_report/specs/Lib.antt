@@ -10,6 +10,7 @@ pub mod AbstractFaults
 pub mod Faults
 pub mod LayoutFaults
 pub mod RowFaults
+pub mod TrackFaults
 pub mod TrailFaults
 pub mod Unfinished
 -- What inner contracts and proofs alone cite.

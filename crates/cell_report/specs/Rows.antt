@@ -2,8 +2,10 @@
 use Rattle.std.specs.Prelude.{ℕ, ◌+◌, List, [], ◌++◌, length, flat_map, codes, decimal, Option, Some, None}
 use Rattle.std.specs.List.{enumerate_from}
 use Rattle.cell_num.specs.Lines.{text_line, count_line}
+use Rattle.cell_num.specs.declared.net.NetNo.{NetNo}
 use Rattle.row_model.specs.declared.column.Placed.{Placed}
 use Rattle.row_model.specs.declared.column.Column.{Column}
+use Rattle.row_model.specs.Arrangement.{gate_in}
 use Rattle.row_model.specs.Gaps.{left_net, right_net, gaps_of}
 use Rattle.cell_report.specs.Names.{name_of}
 
@@ -14,17 +16,16 @@ place_text nets (Some x) =
     name_of nets (left_net x).0 ++ codes " " ++ name_of nets (right_net x).0 ++ codes " " ++ decimal x.finger.width
 
 -- the gate of a column by its name
-abbrev pub gate_text : List (List ℕ) → Option Placed → Option Placed → List ℕ
-gate_text nets (Some x) n = name_of nets x.finger.gate.0
-gate_text nets None (Some y) = name_of nets y.finger.gate.0
-gate_text nets None None = []
+abbrev pub gate_text : List (List ℕ) → Option NetNo → List ℕ
+gate_text nets None = []
+gate_text nets (Some gate) = name_of nets gate.0
 
 abbrev pub column_text : List (List ℕ) → ℕ × Column → List ℕ
 column_text nets numbered =
     codes "column "
     ++ decimal numbered.0
     ++ codes " gate "
-    ++ gate_text nets numbered.1.p numbered.1.n
+    ++ gate_text nets (gate_in numbered.1.p numbered.1.n)
     ++ codes " p "
     ++ place_text nets numbered.1.p
     ++ codes " n "

@@ -1,13 +1,27 @@
 ghost use Rattle.std.specs.Prelude.{◌≡◌, ◌++◌, OnOk};
-ghost use Rattle.cell_report.specs.Cells.{sizes_text, tall_text};
+ghost use Rattle.cell_report.specs.Cells.{fewest_text, sizes_with, tall_text};
 
 use cell_num::{Bytes, NoMemory, put_count, put_pair};
 
-/// Adds the tracks of a drawn cell, its width and height in grid units.
-pub fn put_sizes(out: &mut Bytes, tracks: u32, width: u32, height: u32) -> Result<(), NoMemory>
-    ensures { OnOk result (out.new ≡ out.old ++ sizes_text tracks width height) }
+/// Adds the line of the fewest tracks: no least row has a legal routing on fewer.
+pub fn put_fewest(out: &mut Bytes, fewest: u32) -> Result<(), NoMemory>
+    ensures { OnOk result (out.new ≡ out.old ++ fewest_text fewest) }
+{
+    put_count(out, b"fewest ", u64::from(fewest))
+}
+
+/// Adds the tracks of a drawn cell, the text of [`put_fewest`] or none, the cell's width and height in grid units.
+pub fn put_sizes(
+    out: &mut Bytes,
+    tracks: u32,
+    fewest: &[u8],
+    width: u32,
+    height: u32,
+) -> Result<(), NoMemory>
+    ensures { OnOk result (out.new ≡ out.old ++ sizes_with tracks fewest.now width height) }
 {
     put_count(out, b"tracks ", u64::from(tracks))?;
+    out.extend(fewest)?;
     put_pair(out, b"size ", width, b" ", height)
 }
 

@@ -2,12 +2,12 @@ ghost use Rattle.std.specs.Prelude.{◌≡◌, ◌++◌, IfOk};
 ghost use Rattle.bound_log.specs.Fits.{Fits, ForSome, IsLogName};
 ghost use Rattle.call_end.specs.declared.status.Status.TheVariants as status;
 ghost use Rattle.call_end.specs.Status.{first_line};
-ghost use Rattle.cell_report.specs.Cells.{tall_text};
+ghost use Rattle.cell_report.specs.Cells.{fewest_text, tall_text};
 ghost use Rattle.cell_report.specs.Cycles.{ring_text};
 ghost use Rattle.cell_report.specs.Logs.{unfinished_text};
 ghost use Rattle.cell_report.specs.Unfinished.{unfinished_end};
 
-use crate::cells::put_tall;
+use crate::cells::{put_fewest, put_tall};
 use crate::logs::put_unfinished;
 use crate::ring::put_ring;
 use call_end::{End, Status};
@@ -26,12 +26,31 @@ pub fn cycle_report(alloc: Global, nets: &Names, ring: &Ring) -> Result<Bytes, N
     Ok(report)
 }
 
-/// The report of a cell that is too tall, its heights in grid units.
-pub fn tall_report(alloc: Global, needed: u32, given: u32) -> Result<Bytes, NoMemory>
-    ensures { IfOk result (λ report. report ≡ first_line status.TooTall ++ tall_text needed given) }
+/// The report of a cell that is too tall: the text of [`put_fewest`] or none, and its heights in grid units.
+pub fn tall_report(alloc: Global, fewest: &[u8], needed: u32, given: u32) -> Result<Bytes, NoMemory>
+    ensures { IfOk result
+        (λ report. report ≡ first_line status.TooTall ++ fewest.now ++ tall_text needed given) }
 {
     let mut report = Status::TooTall.report(alloc)?;
+    report.extend(fewest)?;
     put_tall(&mut report, needed, given)?;
+    Ok(report)
+}
+
+/// The report of an open search for the lowest row, where the first least row has a ring of nets: the fewest tracks, as
+/// in [`put_fewest`], and the ring.
+pub fn open_ring_report(
+    alloc: Global,
+    nets: &Names,
+    fewest: u32,
+    ring: &Ring,
+) -> Result<Bytes, NoMemory>
+    ensures { IfOk result (λ report. report ≡ first_line status.Unfinished ++ fewest_text fewest
+        ++ ring_text nets.now ring.now) }
+{
+    let mut report = Status::Unfinished.report(alloc)?;
+    put_fewest(&mut report, fewest)?;
+    put_ring(&mut report, nets, ring)?;
     Ok(report)
 }
 

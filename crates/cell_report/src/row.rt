@@ -1,4 +1,5 @@
 ghost use Rattle.std.specs.Prelude.{◌≡◌, ◌≤◌, ◌++◌, OnOk, length};
+ghost use Rattle.row_model.specs.Arrangement.{gate_in};
 ghost use Rattle.cell_report.specs.Rows.{place_text, gate_text, column_text, columns_text, row_text, plan_text};
 
 use crate::names::put_net;
@@ -6,11 +7,11 @@ use cell_num::{Bytes, Name, Names, NoMemory, put_count, put_number, put_text};
 use row_model::{Arrangement, Column, Placed, gaps};
 
 fn put_gate(out: &mut Bytes, nets: &Names, column: &Column) -> Result<(), NoMemory>
-    ensures { OnOk result (out.new ≡ out.old ++ gate_text nets.now column.now.p column.now.n) }
+    ensures { OnOk result (out.new ≡ out.old ++ gate_text nets.now (gate_in column.now.p column.now.n)) }
 {
-    match (&column.p, &column.n) {
-        (Some(placed), _) | (None, Some(placed)) => put_net(out, nets, placed.finger.gate.0),
-        (None, None) => Ok(()),
+    match column.gate() {
+        Some(gate) => put_net(out, nets, gate.0),
+        None => Ok(()),
     }
 }
 
