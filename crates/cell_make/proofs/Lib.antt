@@ -1,9 +1,13 @@
 pub mod Abstracts
 pub mod Alone
+pub mod DrawnAs
 pub mod Extent
+pub mod FewTracks
 pub mod Finals
 pub mod LeastLines
 pub mod LogFits
+pub mod LowDrawn
+pub mod LowRows
 pub mod Makes
 pub mod ReadBack
 pub mod Rings

@@ -12,6 +12,7 @@ use Rattle.row_model.specs.Arrangement.{IsArrangement}
 use Rattle.row_place.specs.declared.placement.Placement.{Placement}
 use Rattle.row_place.specs.Places.{IsPlacement, placement_of}
 use Rattle.row_place.specs.Trunks.{HasPins}
+use Rattle.row_place.proofs.Placed.{placement_is}
 use Rattle.channel_route.specs.declared.ring.Ring.{Ring}
 use Rattle.channel_route.specs.declared.routing.Routing.{Routing}
 use Rattle.row_compact.specs.Allowed.{AreAllowed, stretches_of}
@@ -40,8 +41,8 @@ use Rattle.cell_inputs.specs.declared.style.Wiring.{Wiring}
 use Rattle.cell_inputs.specs.declared.style.Wiring.TheVariants.{Straight, Doglegs}
 use Rattle.cell_inputs.specs.Inputs.{Inputs, AreInputs, unit_nm}
 use Rattle.cell_make.specs.Extent.{frame_in}
-use Rattle.cell_make.specs.Making.{AreLeastLines, AreSmall, HasAbstract, HasSmallFiles, IsDrawn, IsRouted, abstract_of, drawing_in, final_in, library_of, ports_in}
-use Rattle.cell_make.specs.Rows.{ComesFrom}
+use Rattle.cell_make.specs.Making.{AreLeastLines, AreSmall, HasAbstract, HasSmallFiles, IsDrawnAs, IsRouted, abstract_of, drawing_in, final_in, library_of, ports_in}
+use Rattle.cell_make.specs.Rows.{ComesAs}
 use Rattle.cell_make.specs.Style.{AreBodiedBy, AreLegal, AreTight, HasNoRing, HasPinPort, IsToldRing, ShowsWiring, deck_of, final, tapped_by}
 use Rattle.cell_make.specs.Writable.{AreWritable}
 use Rattle.cell_make.proofs.Abstracts.{IsDrawnBare, abstract_so, seen_bare, unit_least, unit_most}
@@ -52,7 +53,7 @@ use Rattle.cell_make.proofs.Wirings.{wired_by}
 
 -- ---- what the steps ask; they see the inputs from inside
 
-sound_row : (inputs : Inputs) (row : List Column) → AreInputs inputs → IsArrangement row inputs.fingers → IsSoundRow inputs.cell.nets inputs.cell.pins row
+pub sound_row : (inputs : Inputs) (row : List Column) → AreInputs inputs → IsArrangement row inputs.fingers → IsSoundRow inputs.cell.nets inputs.cell.pins row
 sound_row inputs row are arranged = record { fingers = inputs.fingers; sound = are.sound; few_nets = are.fingers.few_nets; arranged = arranged }
 
 pub few_columns : (inputs : Inputs) (row : List Column) → AreInputs inputs → IsArrangement row inputs.fingers → length row ≤ 32
@@ -62,9 +63,12 @@ pub placed_row : (inputs inside : Inputs) (row : List Column) (placement : Place
 placed_row inputs inside row placement same are arranged is =
     subst (λ (p : Placement). IsSoundRow inside.cell.nets inside.cell.pins p.row) (sym is) (subst (λ (i : Inputs). IsSoundRow i.cell.nets i.cell.pins row) (sym same) (sound_row inputs row are arranged))
 
-pub placed_legal : (style : Style) (inputs inside : Inputs) (row : List Column) (placement : Placement) (routing : Routing) → inside ≡ inputs → placement ≡ placement_of row → IsRouted style inputs row routing → AreLegal style.wiring placement inside.cell.pins routing
-placed_legal style inputs inside row placement routing same is routed =
-    subst (λ (p : Placement). AreLegal style.wiring p inside.cell.pins routing) (sym is) (subst (λ (i : Inputs). AreLegal style.wiring (placement_of row) i.cell.pins routing) (sym same) routed.legal)
+pub placed_legal : (style : Style) (inputs inside : Inputs) (placement : Placement) (routing : Routing) → inside ≡ inputs → AreLegal style.wiring placement inputs.cell.pins routing → AreLegal style.wiring placement inside.cell.pins routing
+placed_legal style inputs inside placement routing same legal = subst (λ (i : Inputs). AreLegal style.wiring placement i.cell.pins routing) (sym same) legal
+
+-- a row on its lines is a placement
+pub placed_low : (inputs : Inputs) (placement : Placement) → AreInputs inputs → IsArrangement placement.row inputs.fingers → placement ≡ placement_of placement.row → IsPlacement placement
+placed_low inputs placement are arranged is = subst IsPlacement (sym is) (placement_is placement.row arranged.columns (few_columns inputs placement.row are arranged))
 
 pub all_pins : (inputs inside : Inputs) (row : List Column) (placement : Placement) → inside ≡ inputs → AreInputs inputs → IsArrangement row inputs.fingers → ((names : List (List ℕ)) (pins : Pins) (f : Fingers) → AreSound names pins f → ArePins f.nets pins → IsArrangement row f → HasPins placement pins) → HasPins placement inside.cell.pins
 all_pins inputs inside row placement same are arranged has =
@@ -106,9 +110,9 @@ pub record IsSoundDrawing (style : Style) (inputs : Inputs) (row : List Column) 
   pub sized : IsSized drawing
   pub readable : IsReadable inputs.cell.name (final style.taps drawing xs).shapes (unit_nm inputs.tech)
 
-is_drawn : (style : Style) (inputs : Inputs) (row : List Column) (routing : Routing) (xs : List ℕ) (drawing : Drawing) → AreInputs inputs → IsRouted style inputs row routing → AreLeastLines (placement_of row) inputs.cell.pins routing xs → (IsTooTall row routing.tracks inputs.tech.height → ⊥) → drawing ≡ drawing_in inputs row routing xs → IsSoundDrawing style inputs row routing xs drawing → IsAbstractOf (final style.taps drawing xs).shapes inputs.cell.name (unit_nm inputs.tech) (abstract_of inputs routing drawing) → AreSmall (library_of inputs (final style.taps drawing xs)) (abstract_of inputs routing drawing) → IsDrawn style inputs row routing xs
+is_drawn : (Routed : Type 0) (style : Style) (inputs : Inputs) (row : List Column) (routing : Routing) (xs : List ℕ) (drawing : Drawing) → AreInputs inputs → Routed → AreLeastLines (placement_of row) inputs.cell.pins routing xs → (IsTooTall row routing.tracks inputs.tech.height → ⊥) → drawing ≡ drawing_in inputs row routing xs → IsSoundDrawing style inputs row routing xs drawing → IsAbstractOf (final style.taps drawing xs).shapes inputs.cell.name (unit_nm inputs.tech) (abstract_of inputs routing drawing) → AreSmall (library_of inputs (final style.taps drawing xs)) (abstract_of inputs routing drawing) → IsDrawnAs Routed style inputs row routing xs
 unfolding HasAbstract HasSmallFiles
-is_drawn style inputs row routing xs drawing are routed lines fits is sound agrees small =
+is_drawn Routed style inputs row routing xs drawing are routed lines fits is sound agrees small =
     let drawn : IsSoundDrawing style inputs row routing xs (drawing_in inputs row routing xs) = subst (λ (d : Drawing). IsSoundDrawing style inputs row routing xs d) is sound in
     record {
       routed = routed;
@@ -155,42 +159,42 @@ has_pin_port : (wiring : Wiring) (names : List (List ℕ)) (pins : Pins) (p : Pl
 has_pin_port Straight names pins p r xs height n is legal allowed few lt = has_port names pins p r xs height n is legal allowed few lt
 has_pin_port Doglegs names pins p r xs height n is legal allowed few lt = has_ports_of names pins p r xs height n is (wired_by Doglegs p pins r legal) allowed few lt
 
-has_ports : (style : Style) (inputs : Inputs) (row : List Column) (routing : Routing) (lines : List ℕ) (drawing : Drawing) → AreInputs inputs → IsPlacement (placement_of row) → IsRouted style inputs row routing → AreLeastLines (placement_of row) inputs.cell.pins routing lines → drawing ≡ drawing_in inputs row routing lines → (n : ℕ) → n < inputs.cell.pins.pins → HasPinPort style.wiring inputs.cell.nets (ports_in inputs routing drawing) drawing n
-has_ports style inputs row routing lines drawing are placed routed least is n lt =
+has_ports : (style : Style) (inputs : Inputs) (row : List Column) (routing : Routing) (lines : List ℕ) (drawing : Drawing) → AreInputs inputs → IsPlacement (placement_of row) → AreLegal style.wiring (placement_of row) inputs.cell.pins routing → AreLeastLines (placement_of row) inputs.cell.pins routing lines → drawing ≡ drawing_in inputs row routing lines → (n : ℕ) → n < inputs.cell.pins.pins → HasPinPort style.wiring inputs.cell.nets (ports_in inputs routing drawing) drawing n
+has_ports style inputs row routing lines drawing are placed legal least is n lt =
     subst (λ (d : Drawing). HasPinPort style.wiring inputs.cell.nets (ports_in inputs routing d) d n) (sym is)
-    (has_pin_port style.wiring inputs.cell.nets inputs.cell.pins (placement_of row) routing lines inputs.tech.height n placed routed.legal least.allowed are.pins.named lt)
+    (has_pin_port style.wiring inputs.cell.nets inputs.cell.pins (placement_of row) routing lines inputs.tech.height n placed legal least.allowed are.pins.named lt)
 
 has_trunk_ports : (inputs : Inputs) (row : List Column) (routing : Routing) (lines : List ℕ) (drawing : Drawing) → drawing ≡ drawing_in inputs row routing lines → (n : ℕ) → n < inputs.cell.pins.pins → HasTrunkPorts inputs.cell.pins (frame_in inputs row routing lines) lines routing.trunks (ports_in inputs routing drawing) drawing n
 has_trunk_ports inputs row routing lines drawing is n lt =
     subst (λ (d : Drawing). HasTrunkPorts inputs.cell.pins (frame_in inputs row routing lines) lines routing.trunks (ports_in inputs routing d) d n) (sym is)
     (trunk_ports inputs.cell.nets inputs.cell.pins (placement_of row) routing lines inputs.tech.height n lt)
 
-of_nets : (style : Style) (inputs : Inputs) (row : List Column) (routing : Routing) (lines : List ℕ) (drawing : Drawing) → AreInputs inputs → IsArrangement row inputs.fingers → IsPlacement (placement_of row) → IsRouted style inputs row routing → AreLeastLines (placement_of row) inputs.cell.pins routing lines → drawing ≡ drawing_in inputs row routing lines → (n : ℕ) → n < inputs.cell.pins.pins → AreOfNet Plain inputs.cell.nets (ports_in inputs routing drawing) drawing n
-of_nets style inputs row routing lines drawing are arranged placed routed least is n lt =
+of_nets : (style : Style) (inputs : Inputs) (row : List Column) (routing : Routing) (lines : List ℕ) (drawing : Drawing) → AreInputs inputs → IsArrangement row inputs.fingers → IsPlacement (placement_of row) → AreLegal style.wiring (placement_of row) inputs.cell.pins routing → AreLeastLines (placement_of row) inputs.cell.pins routing lines → drawing ≡ drawing_in inputs row routing lines → (n : ℕ) → n < inputs.cell.pins.pins → AreOfNet Plain inputs.cell.nets (ports_in inputs routing drawing) drawing n
+of_nets style inputs row routing lines drawing are arranged placed legal least is n lt =
     subst (λ (d : Drawing). AreOfNet Plain inputs.cell.nets (ports_in inputs routing d) d n) (sym is)
-    (of_net inputs.cell.nets inputs.cell.pins (placement_of row) routing lines inputs.tech.height n placed (sound_row inputs row are arranged) (wired_by style.wiring (placement_of row) inputs.cell.pins routing routed.legal) least.allowed are.pins lt)
+    (of_net inputs.cell.nets inputs.cell.pins (placement_of row) routing lines inputs.tech.height n placed (sound_row inputs row are arranged) (wired_by style.wiring (placement_of row) inputs.cell.pins routing legal) least.allowed are.pins lt)
 
 has_metal : (inputs : Inputs) (row : List Column) (routing : Routing) (lines : List ℕ) (drawing : Drawing) → drawing ≡ drawing_in inputs row routing lines → AreAllMetal (ports_in inputs routing drawing) drawing.shapes.rects
 has_metal inputs row routing lines drawing is =
     subst (λ (d : Drawing). AreAllMetal (ports_in inputs routing d) d.shapes.rects) (sym is)
     (metal inputs.cell.nets inputs.cell.pins (placement_of row) routing lines inputs.tech.height)
 
-has_size : (style : Style) (inputs : Inputs) (row : List Column) (routing : Routing) (lines : List ℕ) (drawing : Drawing) → IsPlacement (placement_of row) → IsRouted style inputs row routing → AreLeastLines (placement_of row) inputs.cell.pins routing lines → drawing ≡ drawing_in inputs row routing lines → IsSized drawing
-has_size style inputs row routing lines drawing placed routed least is =
-    subst IsSized (sym is) (wired_sized inputs.cell.nets inputs.cell.pins (placement_of row) routing lines inputs.tech.height placed (wired_by style.wiring (placement_of row) inputs.cell.pins routing routed.legal) least.allowed)
+has_size : (style : Style) (inputs : Inputs) (row : List Column) (routing : Routing) (lines : List ℕ) (drawing : Drawing) → IsPlacement (placement_of row) → AreLegal style.wiring (placement_of row) inputs.cell.pins routing → AreLeastLines (placement_of row) inputs.cell.pins routing lines → drawing ≡ drawing_in inputs row routing lines → IsSized drawing
+has_size style inputs row routing lines drawing placed legal least is =
+    subst IsSized (sym is) (wired_sized inputs.cell.nets inputs.cell.pins (placement_of row) routing lines inputs.tech.height placed (wired_by style.wiring (placement_of row) inputs.cell.pins routing legal) least.allowed)
 
-sound_drawing : (style : Style) (inputs : Inputs) (row : List Column) (routing : Routing) (lines : List ℕ) (drawing : Drawing) → AreInputs inputs → IsArrangement row inputs.fingers → IsPlacement (placement_of row) → IsRouted style inputs row routing → IsDrawnSo style inputs row (placement_of row) routing lines drawing inputs.tech.height → IsReadable inputs.cell.name (final style.taps drawing lines).shapes (unit_nm inputs.tech) → IsSoundDrawing style inputs row routing lines drawing
-sound_drawing style inputs row routing lines drawing are arranged placed routed h readable = record {
+sound_drawing : (style : Style) (inputs : Inputs) (row : List Column) (routing : Routing) (lines : List ℕ) (drawing : Drawing) → AreInputs inputs → IsArrangement row inputs.fingers → IsPlacement (placement_of row) → AreLegal style.wiring (placement_of row) inputs.cell.pins routing → IsDrawnSo style inputs row (placement_of row) routing lines drawing inputs.tech.height → IsReadable inputs.cell.name (final style.taps drawing lines).shapes (unit_nm inputs.tech) → IsSoundDrawing style inputs row routing lines drawing
+sound_drawing style inputs row routing lines drawing are arranged placed legal h readable = record {
   obeys = h.obeys;
   extracts = h.extracts.to are.pins inputs.fingers (record { sound = are.sound; arranged = arranged });
   bodied = h.bodied are.pins;
   shows_row = h.shows.shown are.pins;
   shows_routing = h.routed;
-  ports = has_ports style inputs row routing lines drawing are placed routed h.least h.exact;
+  ports = has_ports style inputs row routing lines drawing are placed legal h.least h.exact;
   port_trunks = has_trunk_ports inputs row routing lines drawing h.exact;
-  port_nets = of_nets style inputs row routing lines drawing are arranged placed routed h.least h.exact;
+  port_nets = of_nets style inputs row routing lines drawing are arranged placed legal h.least h.exact;
   obstructs = has_metal inputs row routing lines drawing h.exact;
-  sized = has_size style inputs row routing lines drawing placed routed h.least h.exact;
+  sized = has_size style inputs row routing lines drawing placed legal h.least h.exact;
   readable = readable;
 }
 
@@ -201,15 +205,15 @@ readable_so inputs inside shapes same are writable =
     readable inputs.cell.nets inputs.cell.name shapes (unit_nm inputs.tech) are.nets are.cell (unit_least inputs.tech.lambda_nm are.tech.lambda_least) (unit_most inputs.tech.lambda_nm are.tech.lambda_most)
     (subst (λ (i : Inputs). AreWritable i.cell.nets shapes) same writable)
 
-pub drawn_so : (style : Style) (inputs inside : Inputs) (placement : Placement) (routing : Routing) (drawn : Drawn) (height : ℕ) → inside ≡ inputs → placement ≡ placement_of placement.row → height ≡ inputs.tech.height → AreInputs inputs → IsArrangement placement.row inputs.fingers → IsPlacement placement → IsRouted style inputs placement.row routing → IsDrawnSo style inside placement.row placement routing drawn.lines drawn.drawing height → IsDrawnBare inside placement routing drawn.lines drawn.drawing height → drawn.tapped ≡ tapped_by style.taps drawn.drawing drawn.lines → IsReadable inputs.cell.name (final style.taps drawn.drawing drawn.lines).shapes (unit_nm inputs.tech) → ComesFrom style inputs placement.row (came.Drawn placement routing drawn)
-drawn_so style inputs inside placement routing drawn height same is high are arranged placed routed h bare tapped readable =
+pub drawn_so : (Says : Routing → Type 0) (style : Style) (inputs inside : Inputs) (placement : Placement) (routing : Routing) (drawn : Drawn) (height : ℕ) → inside ≡ inputs → placement ≡ placement_of placement.row → height ≡ inputs.tech.height → AreInputs inputs → IsArrangement placement.row inputs.fingers → IsPlacement placement → AreLegal style.wiring placement inputs.cell.pins routing → Says routing → IsDrawnSo style inside placement.row placement routing drawn.lines drawn.drawing height → IsDrawnBare inside placement routing drawn.lines drawn.drawing height → drawn.tapped ≡ tapped_by style.taps drawn.drawing drawn.lines → IsReadable inputs.cell.name (final style.taps drawn.drawing drawn.lines).shapes (unit_nm inputs.tech) → ComesAs Says style inputs placement.row (came.Drawn placement routing drawn)
+drawn_so Says style inputs inside placement routing drawn height same is high are arranged placed legal says h bare tapped readable =
     let seen = seen_so style inputs inside placement.row placement routing drawn.lines drawn.drawing height same is high h in
-    let sound = sound_drawing style inputs placement.row routing drawn.lines drawn.drawing are arranged (subst IsPlacement is placed) routed seen readable in
+    let sound = sound_drawing style inputs placement.row routing drawn.lines drawn.drawing are arranged (subst IsPlacement is placed) (subst (λ (p : Placement). AreLegal style.wiring p inputs.cell.pins routing) is legal) seen readable in
     let agrees = abstract_so style inputs inside placement.row placement routing drawn.lines drawn.drawing height same is high are arranged (subst IsPlacement is placed) seen.least seen.exact sound.port_nets sound.obstructs bare in
     let near = seen_bare inputs inside placement.row placement routing drawn.lines drawn.drawing height same is high bare in
     let small = small_so style inputs placement.row routing drawn.lines drawn.drawing are seen.exact near sound.obstructs readable in
     record {
       placed = is;
-      draws = is_drawn style inputs placement.row routing drawn.lines drawn.drawing are routed seen.least seen.fits seen.exact sound agrees small;
+      draws = is_drawn (Says routing) style inputs placement.row routing drawn.lines drawn.drawing are says seen.least seen.fits seen.exact sound agrees small;
       exact = (seen.exact, tapped);
     }

@@ -1,5 +1,5 @@
 -- The files of a drawn row are small.
-use Rattle.std.proofs.Common.{ℕ, ◌≡◌, ◌&&◌, ◌+◌, ◌<◌, ◌≤◌, nat_le, true, IsTrue, List, All, length, refl, arith}
+use Rattle.std.proofs.Common.{ℕ, ◌≡◌, ◌&&◌, ◌+◌, ◌<◌, ◌≤◌, nat_le, IsTrue, List, All, length, refl, arith}
 use Rattle.std.specs.List.{list_all}
 use Rattle.std.proofs.lemmas.Bool.{and_parts, leb-true}
 use Rattle.std.proofs.lemmas.List.Elements.{All-weaker}
@@ -9,7 +9,6 @@ use Rattle.row_place.specs.Places.{placement_of}
 use Rattle.channel_route.specs.declared.routing.Routing.{Routing}
 use Rattle.cell_draw.specs.declared.cell.TheConstants.{MOST_SHAPES}
 use Rattle.cell_draw.specs.declared.drawing.Drawing.{Drawing}
-use Rattle.spice_net.specs.Subckts.{AreNames}
 use Rattle.gds_read.specs.RoundTrip.{IsReadable}
 use Rattle.file_laws.proofs.Short.{abstract_few}
 use Rattle.lef_write.specs.Drawn.{AreAllMetal}

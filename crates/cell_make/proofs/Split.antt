@@ -1,5 +1,5 @@
 -- A SPICE file that is split into lines once, of which each subcircuit is read.
-use Rattle.std.proofs.Common.{ℕ, ◌≡◌, ◌≢◌, ◌≤◌, List, [], ◌∷◌, Result, Ok, Err, ap, arith, length, refl, sym, subst, ◌∙◌}
+use Rattle.std.proofs.Common.{ℕ, ◌≡◌, ◌≢◌, ◌≤◌, List, [], ◌∷◌, Result, Ok, Err, ap, arith, length, refl, subst, ◌∙◌}
 use Rattle.cell_num.specs.Steps.{◌>>=◌}
 use Rattle.spice_text.specs.declared.logical.Line.{Line}
 use Rattle.tech_file.specs.Technology.{Technology}

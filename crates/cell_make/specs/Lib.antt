@@ -1,5 +1,6 @@
 -- What contracts of public calls cite, and what these definitions depend on.
 pub mod Extent
+pub mod Low
 pub mod Making
 pub mod Rows
 pub mod Searched
@@ -10,5 +11,6 @@ pub mod Rowed
 pub mod RowSteps
 -- What inner contracts and proofs alone cite.
 pub mod Channel
+pub mod LowEnded
 pub mod WithLog
 pub mod Writable

@@ -90,15 +90,15 @@ HasSmallFiles style inputs row routing xs =
     AreSmall (library_of inputs (final_in style inputs row routing xs))
     (abstract_of inputs routing (drawing_in inputs row routing xs))
 
--- What is said of a drawn row. Its channel is routed legally and tightly, its lines stand at the least places, and the
--- height is enough. The shapes obey every rule, extract net by net to the fingers, and show the row and the routing;
+-- What is said of a drawn row. `Routed` holds of its channel, its lines stand at the least places, and the height is
+-- enough. The shapes obey every rule, extract net by net to the fingers, and show the row and the routing;
 -- with taps each device's body is its row's rail. The bytes, which have no other structure, decode with the cell's name
 -- and the technology's lambda to these shapes. Each pin has a port, and one for each trunk of its net, every cell of
 -- them is in the pin's net, all other metal obstructs, and the size is that of metal1: these without the taps. The text
 -- of the abstract is read as a macro that agrees with the shapes. Both files are small.
-pub record IsDrawn (style : Style) (inputs : Inputs) (row : List Column) (routing : Routing)
+pub record IsDrawnAs (Routed : Type 0) (style : Style) (inputs : Inputs) (row : List Column) (routing : Routing)
     (xs : List ℕ) : Type 0 where
-  pub routed : IsRouted style inputs row routing
+  pub routed : Routed
   pub lines : AreLeastLines (placement_of row) inputs.cell.pins routing xs
   pub fits : IsTooTall row routing.tracks inputs.tech.height → ⊥
   pub obeys : Obeys (deck_of style.taps) (final_in style inputs row routing xs).shapes.rects
@@ -129,6 +129,10 @@ pub record IsDrawn (style : Style) (inputs : Inputs) (row : List Column) (routin
   pub alone : HasOneStructure (library_of inputs (final_in style inputs row routing xs))
   pub agrees : HasAbstract style inputs row routing xs
   pub small : HasSmallFiles style inputs row routing xs
+
+-- with its channel routed legally and tightly
+abbrev pub IsDrawn : Style → Inputs → List Column → Routing → List ℕ → Type 0
+IsDrawn style inputs row routing xs = IsDrawnAs (IsRouted style inputs row routing) style inputs row routing xs
 
 -- ---- what making a cell results in
 

@@ -13,7 +13,7 @@ use Rattle.gds_read.specs.RoundTrip.{IsReadable}
 use Rattle.cell_make.specs.declared.draw_outcome.DrawOutcome.{DrawOutcome}
 use Rattle.cell_make.specs.declared.draw_outcome.DrawOutcome.TheVariants as came
 use Rattle.cell_make.specs.Extent.{HasExtent, frame_in}
-use Rattle.cell_make.specs.Making.{IsDrawn, IsRouted, drawing_in, final_of}
+use Rattle.cell_make.specs.Making.{IsDrawnAs, IsRouted, drawing_in, final_of}
 use Rattle.cell_make.specs.Style.{IsToldRing, tapped_by}
 
 pub data DrawAnswer : Type 0 where
@@ -21,13 +21,17 @@ pub data DrawAnswer : Type 0 where
   RowCyclic : (ring : Ring) → DrawAnswer
   RowTall : (routing : Routing) → DrawAnswer
 
--- The row is drawn on these tracks and lines; or nets of it stand above each other in this ring, as it is reported;
--- or it is routed, and needs more than the height.
+-- The row is drawn on these tracks and lines, with this said of its routing; or nets of it stand above each other in
+-- this ring, as it is reported; or this is said of its routing, and it needs more than the height.
+abbrev pub DrawsAs : (Routing → Type 0) → Style → Inputs → List Column → DrawAnswer → Type 0
+DrawsAs Routed style inputs row (RowDrawn routing xs) = IsDrawnAs (Routed routing) style inputs row routing xs
+DrawsAs Routed style inputs row (RowCyclic ring) = IsToldRing style.wiring (placement_of row) inputs.cell.pins ring
+DrawsAs Routed style inputs row (RowTall routing) =
+    Routed routing × IsTooTall row routing.tracks inputs.tech.height
+
+-- its channel is routed legally and tightly
 abbrev pub Draws : Style → Inputs → List Column → DrawAnswer → Type 0
-Draws style inputs row (RowDrawn routing xs) = IsDrawn style inputs row routing xs
-Draws style inputs row (RowCyclic ring) = IsToldRing style.wiring (placement_of row) inputs.cell.pins ring
-Draws style inputs row (RowTall routing) =
-    IsRouted style inputs row routing × IsTooTall row routing.tracks inputs.tech.height
+Draws style inputs row answer = DrawsAs (IsRouted style inputs row) style inputs row answer
 
 -- ---- as the code answers it
 
@@ -51,10 +55,25 @@ IsRowDrawnBy style inputs row (came.Cyclic placement ring) = Unit {0}
 IsRowDrawnBy style inputs row (came.Tall placement routing needed given) =
     (needed ≡ needed_of row routing.tracks) × (given ≡ inputs.tech.height)
 
-pub record ComesFrom (style : Style) (inputs : Inputs) (row : List Column) (of : DrawOutcome) : Type 0 where
+pub record ComesAs (Routed : Routing → Type 0) (style : Style) (inputs : Inputs) (row : List Column) (of : DrawOutcome)
+    : Type 0 where
   pub placed : placement_in of ≡ placement_of row
-  pub draws : Draws style inputs row (row_answer of)
+  pub draws : DrawsAs Routed style inputs row (row_answer of)
   pub exact : IsRowDrawnBy style inputs row of
+
+-- with its channel routed legally and tightly
+abbrev pub ComesFrom : Style → Inputs → List Column → DrawOutcome → Type 0
+ComesFrom style inputs row of = ComesAs (IsRouted style inputs row) style inputs row of
+
+-- it is this routing
+abbrev pub IsThat : Routing → Routing → Type 0
+IsThat routing other = other ≡ routing
+
+-- it is no ring
+abbrev pub IsWired : DrawOutcome → Type 0
+IsWired (came.Drawn placement routing drawn) = Unit {0}
+IsWired (came.Cyclic placement ring) = ⊥
+IsWired (came.Tall placement routing needed given) = Unit {0}
 
 -- a drawing can be written as a library that is read back, and without taps is small enough for an abstract
 abbrev pub CanRowBeWritten : Inputs → DrawOutcome → Type 0

@@ -1,10 +1,11 @@
 // What making a cell results in: its drawing, a cycle of its least row, a height that is not enough, or the log of an
-// unfinished search; and making a row of cells: one library, or why there is none.
+// unfinished search; the lowest row of a cell; and making a row of cells: one library, or why there is none.
 #![tactic(auto)]
 
 mod channel;
 pub mod draw_outcome;
 pub mod drawn;
+pub mod low_planned;
 pub mod outcome;
 pub mod planned;
 mod row_cell;
@@ -16,6 +17,7 @@ mod row_stop;
 pub use cell_inputs::Inputs;
 pub use draw_outcome::DrawOutcome;
 pub use drawn::Drawn;
+pub use low_planned::LowPlanned;
 pub use outcome::Outcome;
 pub use planned::Planned;
 pub use row_inputs::RowInputs;

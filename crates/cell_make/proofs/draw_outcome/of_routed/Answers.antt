@@ -1,7 +1,8 @@
-use Rattle.std.proofs.Common.{subst, sym}
+use Rattle.std.proofs.Common.{refl, subst, sym}
 use Rattle.cell_draw.specs.declared.drawing.Drawing.{Drawing}
 use Rattle.gds_read.specs.RoundTrip.{IsReadable}
 use Rattle.cell_inputs.specs.Inputs.{inputs_of, unit_nm}
+use Rattle.cell_make.specs.Rows.{IsThat}
 use Rattle.cell_make.specs.Style.{final}
 use Rattle.cell_make.proofs.Extent.{lies_so, some_column}
 use Rattle.cell_make.proofs.Finals.{final_is}
@@ -15,12 +16,12 @@ pub draw_routed-requires-clause-some : goal.draw_routed-requires-clause-some
 draw_routed-requires-clause-some c = some_column c.args.placement.row c.args.inputs.now.fingers c.requires.arranged c.show_limits.ensures.some
 
 pub draw_routed-requires-clause-routing : goal.draw_routed-requires-clause-routing
-draw_routed-requires-clause-routing c = placed_legal c.args.style c.args.inputs.now (inputs_of c.inputs.inside.tech c.inputs.inside.cell c.inputs.inside.fingers) c.args.placement.row c.args.placement c.args.routing c.inputs.view_is c.requires.placed c.requires.routed
+draw_routed-requires-clause-routing c = placed_legal c.args.style c.args.inputs.now (inputs_of c.inputs.inside.tech c.inputs.inside.cell c.inputs.inside.fingers) c.args.placement c.args.routing c.inputs.view_is c.requires.legal
 
 pub returns-in-Ok-clause-comes : goal.returns-in-Ok-clause-comes
 returns-in-Ok-clause-comes c =
-    drawn_so c.args.style c.args.inputs.now (inputs_of c.inputs.inside.tech c.inputs.inside.cell c.inputs.inside.fingers) c.args.placement c.args.routing c.in-Ok.drawn c.height.result
-    c.inputs.view_is c.requires.placed c.height.ensures.is c.show_limits.ensures c.requires.arranged c.requires.places c.requires.routed
+    drawn_so (IsThat c.args.routing) c.args.style c.args.inputs.now (inputs_of c.inputs.inside.tech c.inputs.inside.cell c.inputs.inside.fingers) c.args.placement c.args.routing c.in-Ok.drawn c.height.result
+    c.inputs.view_is c.requires.placed c.height.ensures.is c.show_limits.ensures c.requires.arranged c.requires.places c.requires.legal refl
     (record {
       least = c.in-Ok.ensures.lines;
       fits = c.in-Ok.ensures.fits;
