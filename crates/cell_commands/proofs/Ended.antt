@@ -1,5 +1,5 @@
--- What a cell made with its evidence comes to, from what the search and the drawing answered.
-use Rattle.std.proofs.Common.{ℕ, ◌≡◌, ◌≤◌, List, [], ◌∷◌, ◌++◌, Result, IfOk, ap, length, map, subst, string_bytes, arith}
+-- What making a cell with its evidence results in, from what the search and the drawing answered.
+use Rattle.std.proofs.Common.{ℕ, ◌≡◌, ◌≤◌, List, [], ◌++◌, Result, IfOk, ap, length, map, subst, arith}
 use Rattle.std.proofs.lemmas.Result.{IfOk-weaker}
 use Rattle.cell_num.specs.declared.finger.Fingers.{Fingers}
 use Rattle.cell_num.specs.declared.list.NoMemory.{NoMemory}
@@ -8,7 +8,6 @@ use Rattle.row_model.specs.declared.column.Column.{Column}
 use Rattle.row_model.specs.Arrangement.{IsArrangement}
 use Rattle.spice_net.specs.declared.subckt.Subckt.{Subckt}
 use Rattle.call_end.specs.declared.end.End.{End}
-use Rattle.call_end.specs.declared.end.Output.{Output}
 use Rattle.call_end.specs.declared.status.Status.TheVariants as status
 use Rattle.call_end.specs.End.{reports, IsEnd, named}
 use Rattle.call_end.specs.Status.{first_line}
@@ -44,7 +43,7 @@ pub open_to : (evidence : Evidence) (style : Style) (inputs inside : Inputs) (ou
 open_to evidence style inputs inside out proved certificate r same spent ends =
     to evidence style inputs out (Open proved certificate) r spent (subst (λ (i : Inputs). IfOk r (IsOpenEnd i.cell out proved certificate)) same ends)
 
-crowded_end : (cell : Subckt) (gate : NetNo) (end : End) → end ≡ reports status.Unfinished (gate_text cell gate) → IsEnd status.Unfinished [] (first_line status.Unfinished ++ gate_text cell gate) end
+pub crowded_end : (cell : Subckt) (gate : NetNo) (end : End) → end ≡ reports status.Unfinished (gate_text cell gate) → IsEnd status.Unfinished [] (first_line status.Unfinished ++ gate_text cell gate) end
 crowded_end cell gate end is = record {
   status = ap (λ (x : End). x.status) is;
   files = ap (λ (x : End). map named x.files) is;
@@ -88,8 +87,3 @@ open_fits Trails inputs proved (held.Log spent) is = absurd is
 
 pub short_row : (inputs : Inputs) (row : List Column) → AreInputs inputs → IsArrangement row inputs.fingers → length row ≤ 64
 short_row inputs row are arranged = omega (arith, few_columns inputs row are arranged)
-
--- ---- the evidence
-
-pub evidence_is : (file : Output) (name bytes counts told : List ℕ) → string_bytes file.name ≡ name → file.bytes ≡ bytes → counts ≡ told → ◌≡◌ {A = RowEvidence} (record { files = named file ∷ []; counts = counts }) (record { files = (name, bytes) ∷ []; counts = told })
-evidence_is file name bytes counts told named_so holds counted = cc

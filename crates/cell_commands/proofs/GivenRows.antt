@@ -1,5 +1,5 @@
 -- What a file of evidence gives to draw, from what its check answered, and the end of its drawing.
-use Rattle.std.proofs.Common.{ℕ, ◌≡◌, List, [], Result, Ok, Err, IfOk, ap, codes, inl, inr, length, subst, sym, ◌∙◌}
+use Rattle.std.proofs.Common.{ℕ, ◌≡◌, List, Result, Ok, Err, IfOk, ap, codes, inl, inr, length, subst, sym, ◌∙◌}
 use Rattle.cell_num.specs.Lines.{count_line}
 use Rattle.cell_num.specs.declared.list.NoMemory.{NoMemory}
 use Rattle.row_model.specs.declared.column.Column.{Column}
@@ -26,6 +26,7 @@ use Rattle.cell_commands.specs.declared.given.Given.{Given}
 use Rattle.cell_commands.specs.declared.given.Given.TheVariants.{Row, Refused}
 use Rattle.cell_commands.specs.Given.{Arranges, IsGiven, IsGivenEnd, IsListedBy, IsRefusedBy, MakesFromTo}
 use Rattle.cell_commands.specs.Make.{IsDrawnTo}
+use Rattle.cell_commands.specs.RowEnd.{no_file}
 
 -- ---- a log
 
@@ -66,14 +67,14 @@ given_arranges evidence inputs bytes (Refused end) is = tt
 
 given_made : (evidence : Evidence) (style : Style) (inputs : Inputs) (bytes out : List ℕ) (given : Given) (end : End) → IsGiven evidence inputs bytes given → IsGivenEnd style inputs out given end → MakesFromTo evidence style inputs bytes out end
 given_made evidence style inputs bytes out (Row row counts) end (certificate, listed, counted) drawn =
-    inl (row, certificate, listed, subst (λ (told : List ℕ). IsDrawnTo style inputs out row (record { files = []; counts = told }) end) counted drawn)
+    inl (row, certificate, listed, subst (λ (told : List ℕ). IsDrawnTo style inputs out row (no_file told) end) counted drawn)
 given_made evidence style inputs bytes out (Refused refused) end is same = inr (subst (IsRefusedBy evidence inputs bytes) (sym same) is)
 
 pub makes_from : (evidence : Evidence) (style : Style) (inputs : Inputs) (bytes out : List ℕ) (given : Given) (r : Result End NoMemory) → IsGiven evidence inputs bytes given → IfOk r (IsGivenEnd style inputs out given) → IfOk r (MakesFromTo evidence style inputs bytes out)
 makes_from evidence style inputs bytes out given (Err e) is ends = tt
 makes_from evidence style inputs bytes out given (Ok end) is ends = given_made evidence style inputs bytes out given end is ends
 
--- so it is of all bytes that a log may be behind
+-- so it is of all bytes that a log may be after
 pub all_make_from : (style : Style) (inputs : Inputs) (reader : Reader) (checker : Checked) (out : List ℕ) (given : Given) (r : Result End NoMemory) → OfAll inputs reader checker (λ bytes. IsGiven Log inputs bytes given) → IfOk r (IsGivenEnd style inputs out given) → IfOk r (λ end. OfAll inputs reader checker (λ bytes. MakesFromTo Log style inputs bytes out end))
 all_make_from style inputs reader checker out given (Err e) is ends = tt
 all_make_from style inputs reader checker out given (Ok end) is ends = λ bytes behind. given_made Log style inputs bytes out given end (is bytes behind) ends

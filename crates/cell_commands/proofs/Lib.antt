@@ -11,3 +11,5 @@ pub mod Versions
 pub mod Ended
 pub mod GivenRows
 pub mod Planned
+pub mod Lows
+pub mod LowChecked

@@ -1,10 +1,7 @@
--- The end of a row, from what drawing it came to.
-use Rattle.std.proofs.Common.{ℕ, ◌≡◌, ◌<◌, ◌++◌, List, [], ◌∷◌, Result, IfOk, ap, ◌∙◌, codes, length, string_bytes, subst, sym}
+-- The end of a row, from what drawing it resulted in.
+use Rattle.std.proofs.Common.{ℕ, ◌≡◌, ◌<◌, ◌⊎◌, ◌++◌, true, false, Bool, List, Result, IfOk, length, inl, inr, string_bytes, subst, sym}
 use Rattle.cell_num.specs.declared.list.NoMemory.{NoMemory}
-use Rattle.cell_num.specs.Lines.{count_line}
 use Rattle.row_model.specs.declared.column.Column.{Column}
-use Rattle.bound_log.specs.declared.log.Log.{Log}
-use Rattle.bound_log.specs.Text.{log_text}
 use Rattle.channel_route.specs.declared.ring.Ring.{Ring}
 use Rattle.channel_route.specs.declared.routing.Routing.{Routing}
 use Rattle.row_place.specs.declared.placement.Placement.{Placement}
@@ -18,10 +15,10 @@ use Rattle.cell_make.specs.declared.drawn.Drawn.{Drawn}
 use Rattle.cell_make.specs.declared.draw_outcome.DrawOutcome.{DrawOutcome}
 use Rattle.cell_make.specs.declared.draw_outcome.DrawOutcome.TheVariants as came
 use Rattle.cell_make.specs.Making.{drawing_in, final_of}
-use Rattle.cell_make.specs.Rows.{CanRowBeWritten, ComesFrom, RowDrawn, row_answer}
+use Rattle.cell_make.specs.Rows.{CanRowBeWritten, IsRowDrawnBy, IsWired, RowDrawn, row_answer}
 use Rattle.cell_make.specs.Style.{final, tapped_by}
 use Rattle.cell_make.proofs.Finals.{final_is}
-use Rattle.cell_report.specs.Cells.{tall_text}
+use Rattle.cell_report.specs.Cells.{fewest_text, tall_text}
 use Rattle.cell_report.specs.Cycles.{ring_text}
 use Rattle.call_end.specs.declared.end.End.{End}
 use Rattle.call_end.specs.declared.end.Output.{Output}
@@ -29,23 +26,22 @@ use Rattle.call_end.specs.declared.status.Status.TheVariants as status
 use Rattle.call_end.specs.Status.{first_line}
 use Rattle.cell_commands.specs.declared.evidence.RowEvidence.{RowEvidence}
 use Rattle.cell_commands.specs.Evidence.{evidence_files, shown}
-use Rattle.cell_commands.specs.RowEnd.{IsDrawnEnd, IsRowEnd, RowEvidence as EvidenceOf, log_evidence, log_file}
+use Rattle.cell_commands.specs.LowEnds.{IsFirstEnd}
+use Rattle.cell_commands.specs.RowEnd.{IsDrawnEnd, IsRowEnd, RowEvidence as EvidenceOf, one_file}
 use Rattle.call_end.specs.End.{IsEnd, named}
 use Rattle.cell_commands.proofs.MakeEnds.{file_is}
 
 -- ---- the evidence
 
-abbrev evidence_of : List (List ℕ × List ℕ) → List ℕ → EvidenceOf
-evidence_of files counts = record { files = files; counts = counts }
-
-pub log_shown : (file : Output) (told : List ℕ) (cell : Subckt) (out : List ℕ) (log : Log) → string_bytes file.name ≡ out ++ codes ".clog" → file.bytes ≡ log_text cell.name log → told ≡ count_line (codes "lemmas ") (length log.lemmas) → evidence_of (named file ∷ []) told ≡ log_evidence cell out log
-log_shown file told cell out log name bytes counted =
-    ap (λ (f : List ℕ × List ℕ). evidence_of (f ∷ []) told) (file_is file (out ++ codes ".clog") (log_text cell.name log) name bytes)
-    ∙ ap (λ (counts : List ℕ). evidence_of (log_file cell out log ∷ []) counts) counted
+-- by the name and the bytes of its file, and what the report says of it
+pub file_shown : (file : Output) (name bytes counts told : List ℕ) (r : Result RowEvidence NoMemory) → string_bytes file.name ≡ name → file.bytes ≡ bytes → counts ≡ told → IfOk r (λ e. shown e ≡ one_file (named file) counts) → IfOk r (λ e. shown e ≡ one_file (name, bytes) told)
+file_shown file name bytes counts told r named_so holds counted is =
+    subst (λ (c : List ℕ). IfOk r (λ e. shown e ≡ one_file (name, bytes) c)) counted
+    (subst (λ (f : List ℕ × List ℕ). IfOk r (λ e. shown e ≡ one_file f counts)) (file_is file name bytes named_so holds) is)
 
 -- ---- a drawn row
 
--- what drawing came to, where it is a drawing
+-- what drawing resulted in, where it is a drawing
 pub written_so : (inputs inside : Inputs) (outcome : DrawOutcome) (placement : Placement) (routing : Routing) (drawn : Drawn) (unit : ℕ) → inside ≡ inputs → unit ≡ unit_nm inputs.tech → outcome ≡ came.Drawn placement routing drawn → CanRowBeWritten inputs outcome → IsReadable inside.cell.name (final_of drawn).shapes unit
 written_so inputs inside outcome placement routing drawn unit same nm is written =
     let can : CanRowBeWritten inputs (came.Drawn placement routing drawn) = subst (CanRowBeWritten inputs) is written in
@@ -64,26 +60,42 @@ drawn_end style inputs inside out row evidence routing drawn unit r same nm is t
     (subst (λ (i : Inputs). IfOk r (IsDrawnEnd i.cell out row evidence routing drawn.drawing (final_of drawn) (unit_nm inputs.tech))) same
     (subst (λ u. IfOk r (IsDrawnEnd inside.cell out row evidence routing drawn.drawing (final_of drawn) u)) nm ends)))
 
-pub drawn_ends : (style : Style) (inputs inside : Inputs) (out : List ℕ) (row : List Column) (evidence : EvidenceOf) (outcome : DrawOutcome) (placement : Placement) (routing : Routing) (drawn : Drawn) (unit : ℕ) (r : Result End NoMemory) → inside ≡ inputs → unit ≡ unit_nm inputs.tech → outcome ≡ came.Drawn placement routing drawn → ComesFrom style inputs row outcome → IfOk r (IsDrawnEnd inside.cell out row evidence routing drawn.drawing (final_of drawn) unit) → IfOk r (IsRowEnd style inputs out row evidence (row_answer outcome))
-drawn_ends style inputs inside out row evidence outcome placement routing drawn unit r same nm is comes ends =
-    let from : ComesFrom style inputs row (came.Drawn placement routing drawn) = subst (ComesFrom style inputs row) is comes in
-    let (exact, tapped) = from.exact in
+pub drawn_ends : (style : Style) (inputs inside : Inputs) (out : List ℕ) (row : List Column) (evidence : EvidenceOf) (outcome : DrawOutcome) (placement : Placement) (routing : Routing) (drawn : Drawn) (unit : ℕ) (r : Result End NoMemory) → inside ≡ inputs → unit ≡ unit_nm inputs.tech → outcome ≡ came.Drawn placement routing drawn → IsRowDrawnBy style inputs row outcome → IfOk r (IsDrawnEnd inside.cell out row evidence routing drawn.drawing (final_of drawn) unit) → IfOk r (IsRowEnd style inputs out row evidence (row_answer outcome))
+drawn_ends style inputs inside out row evidence outcome placement routing drawn unit r same nm is by ends =
+    let from : IsRowDrawnBy style inputs row (came.Drawn placement routing drawn) = subst (IsRowDrawnBy style inputs row) is by in
+    let (exact, tapped) = from in
     subst (λ (o : DrawOutcome). IfOk r (IsRowEnd style inputs out row evidence (row_answer o))) (sym is)
     (drawn_end style inputs inside out row evidence routing drawn unit r same nm exact tapped ends)
 
 -- ---- a row that is not drawn
 
-pub cyclic_ends : (style : Style) (inputs inside : Inputs) (out : List ℕ) (row : List Column) (evidence : RowEvidence) (outcome : DrawOutcome) (placement : Placement) (ring : Ring) (report : List ℕ) (r : Result End NoMemory) → inside ≡ inputs → outcome ≡ came.Cyclic placement ring → report ≡ first_line status.Cycle ++ ring_text inside.cell.nets ring → IfOk r (IsEnd status.Cycle (evidence_files evidence.file) report) → IfOk r (IsRowEnd style inputs out row (shown evidence) (row_answer outcome))
-cyclic_ends style inputs inside out row evidence outcome placement ring report r same is told ends =
-    subst (λ (o : DrawOutcome). IfOk r (IsRowEnd style inputs out row (shown evidence) (row_answer o))) (sym is)
-    (subst (λ (text : List ℕ). IfOk r (IsEnd status.Cycle (evidence_files evidence.file) text))
+pub cyclic_ends : (style : Style) (inputs inside : Inputs) (out : List ℕ) (row : List Column) (evidence : RowEvidence) (outcome : DrawOutcome) (placement : Placement) (ring : Ring) (report : List ℕ) (end : End) → inside ≡ inputs → outcome ≡ came.Cyclic placement ring → report ≡ first_line status.Cycle ++ ring_text inside.cell.nets ring → IsEnd status.Cycle (evidence_files evidence.files) report end → IsRowEnd style inputs out row (shown evidence) (row_answer outcome) end
+cyclic_ends style inputs inside out row evidence outcome placement ring report end same is told ends =
+    subst (λ (o : DrawOutcome). IsRowEnd style inputs out row (shown evidence) (row_answer o) end) (sym is)
+    (subst (λ (text : List ℕ). IsEnd status.Cycle (evidence_files evidence.files) text end)
     (subst (λ (i : Inputs). report ≡ first_line status.Cycle ++ ring_text i.cell.nets ring) same told) ends)
 
-pub tall_ends : (style : Style) (inputs : Inputs) (out : List ℕ) (row : List Column) (evidence : RowEvidence) (outcome : DrawOutcome) (placement : Placement) (routing : Routing) (needed given : ℕ) (report : List ℕ) (r : Result End NoMemory) → outcome ≡ came.Tall placement routing needed given → ComesFrom style inputs row outcome → report ≡ first_line status.TooTall ++ tall_text needed given → IfOk r (IsEnd status.TooTall (evidence_files evidence.file) report) → IfOk r (IsRowEnd style inputs out row (shown evidence) (row_answer outcome))
-tall_ends style inputs out row evidence outcome placement routing needed given report r is comes told ends =
-    let from : ComesFrom style inputs row (came.Tall placement routing needed given) = subst (ComesFrom style inputs row) is comes in
-    let (needs, has) = from.exact in
-    subst (λ (o : DrawOutcome). IfOk r (IsRowEnd style inputs out row (shown evidence) (row_answer o))) (sym is)
-    (subst (λ (text : List ℕ). IfOk r (IsEnd status.TooTall (evidence_files evidence.file) text))
-    (subst (λ n. report ≡ first_line status.TooTall ++ tall_text n inputs.tech.height) needs
-    (subst (λ h. report ≡ first_line status.TooTall ++ tall_text needed h) has told)) ends)
+pub tall_ends : (style : Style) (inputs : Inputs) (out : List ℕ) (row : List Column) (evidence : RowEvidence) (outcome : DrawOutcome) (placement : Placement) (routing : Routing) (needed given : ℕ) (report : List ℕ) (end : End) → outcome ≡ came.Tall placement routing needed given → IsRowDrawnBy style inputs row outcome → report ≡ first_line status.TooTall ++ evidence.fewest ++ tall_text needed given → IsEnd status.TooTall (evidence_files evidence.files) report end → IsRowEnd style inputs out row (shown evidence) (row_answer outcome) end
+tall_ends style inputs out row evidence outcome placement routing needed given report end is by told ends =
+    let from : IsRowDrawnBy style inputs row (came.Tall placement routing needed given) = subst (IsRowDrawnBy style inputs row) is by in
+    let (needs, has) = from in
+    subst (λ (o : DrawOutcome). IsRowEnd style inputs out row (shown evidence) (row_answer o) end) (sym is)
+    (subst (λ (text : List ℕ). IsEnd status.TooTall (evidence_files evidence.files) text end)
+    (subst (λ n. report ≡ first_line status.TooTall ++ evidence.fewest ++ tall_text n inputs.tech.height) needs
+    (subst (λ h. report ≡ first_line status.TooTall ++ evidence.fewest ++ tall_text needed h) has told)) ends)
+
+-- a ring leaves an open search for the lowest row unfinished
+pub open_ends : (style : Style) (inputs inside : Inputs) (out : List ℕ) (row : List Column) (evidence : RowEvidence) (fewest : ℕ) (none_wired : Bool) (outcome : DrawOutcome) (placement : Placement) (ring : Ring) (report : List ℕ) (end : End) → inside ≡ inputs → none_wired ≡ false → outcome ≡ came.Cyclic placement ring → report ≡ first_line status.Unfinished ++ fewest_text fewest ++ ring_text inside.cell.nets ring → IsEnd status.Unfinished (evidence_files evidence.files) report end → IsFirstEnd style inputs out row (shown evidence) fewest none_wired (row_answer outcome) end
+open_ends style inputs inside out row evidence fewest none_wired outcome placement ring report end same wired is told ends =
+    subst (λ (b : Bool). IsFirstEnd style inputs out row (shown evidence) fewest b (row_answer outcome) end) (sym wired)
+    (subst (λ (o : DrawOutcome). IsFirstEnd style inputs out row (shown evidence) fewest false (row_answer o) end) (sym is)
+    (subst (λ (text : List ℕ). IsEnd status.Unfinished (evidence_files evidence.files) text end)
+    (subst (λ (i : Inputs). report ≡ first_line status.Unfinished ++ fewest_text fewest ++ ring_text i.cell.nets ring) same told) ends))
+
+-- where no least row is wired, or this one is, its end is that of any row
+pub wired_ends : (style : Style) (inputs : Inputs) (out : List ℕ) (row : List Column) (evidence : EvidenceOf) (fewest : ℕ) (none_wired : Bool) (outcome : DrawOutcome) (end : End) → (none_wired ≡ true) ⊎ IsWired outcome → IsRowEnd style inputs out row evidence (row_answer outcome) end → IsFirstEnd style inputs out row evidence fewest none_wired (row_answer outcome) end
+wired_ends style inputs out row evidence fewest true outcome end wired ends = ends
+wired_ends style inputs out row evidence fewest false (came.Drawn placement routing drawn) end wired ends = ends
+wired_ends style inputs out row evidence fewest false (came.Cyclic placement ring) end (inl none) ends = cc
+wired_ends style inputs out row evidence fewest false (came.Cyclic placement ring) end (inr wired) ends = absurd wired
+wired_ends style inputs out row evidence fewest false (came.Tall placement routing needed given) end wired ends = ends

@@ -1,5 +1,5 @@
 -- What `make` with a file of evidence results in: the drawing of the row that the file lists, or the end of its check.
-use Rattle.std.specs.Prelude.{ℕ, ◌≡◌, ◌⊎◌, List, []}
+use Rattle.std.specs.Prelude.{ℕ, ◌≡◌, ◌⊎◌, List}
 use Rattle.row_model.specs.declared.column.Column.{Column}
 use Rattle.row_model.specs.Arrangement.{IsArrangement}
 use Rattle.call_end.specs.declared.end.End.{End}
@@ -10,7 +10,7 @@ use Rattle.cell_inputs.specs.declared.style.Style.{Style}
 use Rattle.cell_inputs.specs.Inputs.{Inputs}
 use Rattle.cell_commands.specs.Check as log
 use Rattle.cell_commands.specs.TrailCheck as trail
-use Rattle.cell_commands.specs.RowEnd.{RowEvidence}
+use Rattle.cell_commands.specs.RowEnd.{RowEvidence, no_file}
 use Rattle.cell_commands.specs.declared.certificate.Certificate.{Certificate}
 use Rattle.cell_commands.specs.declared.certificate.Certificate.TheVariants as held
 use Rattle.cell_commands.specs.declared.given.Given.{Given}
@@ -35,7 +35,7 @@ IsRefusedBy evidence inputs bytes end = ChecksBy evidence inputs bytes end × (e
 
 -- no file is made of evidence that was given
 abbrev pub given_evidence : Certificate → RowEvidence
-given_evidence certificate = record { files = []; counts = counts_of certificate }
+given_evidence certificate = no_file (counts_of certificate)
 
 -- the row that the bytes list is drawn, or the bytes are refused
 abbrev pub MakesFromTo : Evidence → Style → Inputs → List ℕ → List ℕ → End → Type 0
@@ -60,5 +60,5 @@ Arranges inputs (Refused end) = Unit {0}
 
 abbrev pub IsGivenEnd : Style → Inputs → List ℕ → Given → End → Type 0
 IsGivenEnd style inputs out (Row row counts) end =
-    IsDrawnTo style inputs out row (record { files = []; counts = counts }) end
+    IsDrawnTo style inputs out row (no_file counts) end
 IsGivenEnd style inputs out (Refused refused) end = end ≡ refused

@@ -9,6 +9,10 @@ pub mod Given
 pub mod Make
 pub mod Plan
 pub mod Searched
+pub mod Low
+pub mod LowCheck
 -- What inner contracts and proofs alone cite.
 pub mod Judged
 pub mod Certificate
+pub mod LowEnds
+pub mod Relisted

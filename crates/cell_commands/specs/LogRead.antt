@@ -103,27 +103,52 @@ sound_before from to bytes is sound = by_fault from.fault refl
 
 pub behind_none : (reader : Reader) (checker : Checked) → AreBehind reader checker [] reader checker
 unfolding tale_of
-behind_none reader checker = record { reader = refl; seen = λ sound log seen. seen; fingers = refl; lines = omega arith; lemmas = omega arith }
+behind_none reader checker = record {
+  reader = refl;
+  seen = λ sound log seen. seen;
+  fingers = refl;
+  lines = omega arith;
+  lemmas = omega arith;
+}
 
-pub behind_more : (r s t : Reader) (c d e : Checked) (x y : List ℕ) → AreBehind r c x s d → AreBehind s d y t e → AreBehind r c (x ++ y) t e
+-- what the checker has seen after two parts, from what it has seen after each
+seen_more :
+    (r s t : Reader) (c d e : Checked) (x y : List ℕ) (whole : Tale)
+    → whole ≡ then_tale (tale_of r x) (λ q. tale_of q y) → AreBehind r c x s d → AreBehind s d y t e
+    → t.fault ≡ None → SeesMore c whole.items e
+seen_more r s t c d e x y whole is first second sound log seen =
+    let front : Log = with_items log (tale_of r x).items in
+    let before : HasSeenLog d front = first.seen (sound_before s t y second.reader sound) log seen in
+    let all : HasSeenLog e (with_items front (tale_of s y).items) = second.seen sound front before in
+    let joined : with_items front (tale_of (tale_of r x).reader y).items ≡ with_items log whole.items =
+    sym (items_append log (tale_of r x).items (tale_of (tale_of r x).reader y).items)
+    ∙ ap (λ (tale : Tale). with_items log tale.items) (sym is) in
+    let items : with_items front (tale_of s y).items ≡ with_items log whole.items =
+    ap (λ (q : Reader). with_items front (tale_of q y).items) first.reader ∙ joined in
+    subst (λ (l : Log). HasSeenLog e l) items all
+
+pub behind_more :
+    (r s t : Reader) (c d e : Checked) (x y : List ℕ)
+    → AreBehind r c x s d → AreBehind s d y t e → AreBehind r c (x ++ y) t e
 behind_more r s t c d e x y first second =
     let whole : tale_of r (x ++ y) ≡ then_tale (tale_of r x) (λ q. tale_of q y) = tale_append r x y in
     record {
-      reader = second.reader ∙ (ap (λ (q : Reader). (tale_of q y).reader) first.reader ∙ ap (λ (tale : Tale). tale.reader) (sym whole));
-      seen = λ sound log seen.
-          let all : HasSeenLog e (with_items (with_items log (tale_of r x).items) (tale_of s y).items) = second.seen sound (with_items log (tale_of r x).items) (first.seen (sound_before s t y second.reader sound) log seen) in
-          let items : with_items (with_items log (tale_of r x).items) (tale_of s y).items ≡ with_items log (tale_of r (x ++ y)).items = ap (λ (q : Reader). with_items (with_items log (tale_of r x).items) (tale_of q y).items) first.reader ∙ (sym (items_append log (tale_of r x).items (tale_of (tale_of r x).reader y).items) ∙ ap (λ (tale : Tale). with_items log tale.items) (sym whole)) in
-          subst (λ (l : Log). HasSeenLog e l) items all;
+      reader = second.reader
+          ∙ (ap (λ (q : Reader). (tale_of q y).reader) first.reader ∙ ap (λ (tale : Tale). tale.reader) (sym whole));
+      seen = seen_more r s t c d e x y (tale_of r (x ++ y)) whole first second;
       fingers = second.fingers ∙ first.fingers;
       lines = omega (arith, first.lines, second.lines, length-append x y);
       lemmas = omega (arith, first.lemmas, second.lemmas, length-append x y);
     }
 
-pub room_left : (r s : Reader) (c d : Checked) (x : List ℕ) (count : ℕ) → AreBehind r c x s d → HaveRoom r c (length x + count) → HaveRoom s d count
+pub room_left :
+    (r s : Reader) (c d : Checked) (x : List ℕ) (count : ℕ)
+    → AreBehind r c x s d → HaveRoom r c (length x + count) → HaveRoom s d count
 room_left r s c d x count behind room =
     let same : s.kinds ≡ r.kinds = ap (λ (q : Reader). q.kinds) behind.reader ∙ tale_kinds r x in
+    let of : AreKinds c.fingers s.kinds = subst (AreKinds c.fingers) (sym same) room.kinds in
     record {
-      kinds = subst (λ (f : Fingers). AreKinds f s.kinds) (sym behind.fingers) (subst (AreKinds c.fingers) (sym same) room.kinds);
+      kinds = subst (λ (f : Fingers). AreKinds f s.kinds) (sym behind.fingers) of;
       some = subst AreSomeKinds (sym same) room.some;
       lines = omega (arith, behind.lines, room.lines);
       lemmas = omega (arith, behind.lemmas, room.lemmas);

@@ -6,12 +6,13 @@ use Rattle.call_words.specs.declared.evidence.Evidence.{Evidence}
 use Rattle.call_words.specs.declared.evidence.Evidence.TheVariants.{Log, Trails}
 use Rattle.cell_inputs.specs.Inputs.{Inputs}
 use Rattle.cell_make.specs.Searched as log
+use Rattle.log_check.specs.Accepted.{WithKinds}
 use Rattle.cell_commands.specs.declared.certificate.Certificate.{Certificate}
 use Rattle.cell_commands.specs.declared.certificate.Certificate.TheVariants as held
 use Rattle.cell_commands.specs.declared.searched.Searched.{Searched}
 use Rattle.cell_commands.specs.declared.searched.Searched.TheVariants.{Found, Open, Crowded}
 use Rattle.trail_log.specs.declared.trails.TrailCertificate.{TrailCertificate}
-use Rattle.trail_search.specs.Ended.{IsCrowded, IsTrailFound, IsTrailSpent}
+use Rattle.trail_search.specs.Ended.{IsCertified as IsCertifiedByTrails, IsCrowded, IsTrailFound, IsTrailSpent}
 
 -- the certificate by trails is accepted and lists the row, and was found within the budget
 abbrev pub IsFoundByTrails : Inputs → List Column → TrailCertificate → Type 0
@@ -28,6 +29,14 @@ abbrev pub IsFoundBy : Evidence → Inputs → List Column → Certificate → T
 IsFoundBy Log inputs row (held.Log found) = log.IsFound inputs row found
 IsFoundBy Trails inputs row (held.Trails found) = IsFoundByTrails inputs row found
 IsFoundBy _ inputs row _ = ⊥
+
+-- the certificate is of this kind, is accepted with the gaps of the row, lists it, and a text can hold it; a log was
+-- found within the budget
+abbrev pub IsCertifiedBy : Evidence → Inputs → List Column → Certificate → Type 0
+IsCertifiedBy Log inputs row (held.Log found) = log.IsCertified inputs row found
+IsCertifiedBy Trails inputs row (held.Trails found) =
+    WithKinds inputs.fingers (λ k. IsCertifiedByTrails k inputs.fingers row found)
+IsCertifiedBy _ inputs row _ = ⊥
 
 -- the certificate is of this kind, lists no row, and proves that many gaps of every row
 abbrev pub IsOpenBy : Evidence → Inputs → ℕ → Certificate → Type 0

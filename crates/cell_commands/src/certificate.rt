@@ -56,10 +56,7 @@ fn trails_evidence(
         trails.fill.len() as u64,
     )?;
     let file = trails_file(alloc, cell, stem, trails)?;
-    Ok(RowEvidence {
-        file: Some(file),
-        counts,
-    })
+    RowEvidence::of_file(alloc, file, counts)
 }
 
 /// The file of a certificate, and what the report of a drawn row says of it.

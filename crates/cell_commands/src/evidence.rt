@@ -2,20 +2,24 @@ ghost use Rattle.std.specs.Prelude.{◌≡◌, ◌++◌, IfOk, OnOk, codes, stri
 ghost use Rattle.bound_log.specs.Fits.{Fits, ForSome, IsLogName};
 ghost use Rattle.bound_log.specs.Text.{log_text};
 ghost use Rattle.call_end.specs.declared.status.Status.TheVariants as status;
-ghost use Rattle.call_end.specs.End.{reports};
+ghost use Rattle.call_end.specs.End.{named, reports};
 ghost use Rattle.cell_commands.specs.Evidence.{gate_text, shown};
-ghost use Rattle.cell_commands.specs.RowEnd.{log_evidence};
+ghost use Rattle.cell_commands.specs.RowEnd.{log_evidence, no_file, one_file};
 
-use call_end::{End, Output, Status, Stem};
+use call_end::{End, Output, OutputList, Status, Stem};
 use cell_num::{Bytes, NetNo, NoMemory, put_count, put_text};
 use log_output::{Content, KeptLog, LogText};
 use spice_net::Subckt;
 use std::alloc::Global;
 
-/// The evidence of a row: its file, where one is to be made, and what the report of a drawn row says of it.
+/// The evidence of a row.
 #[derive(Drop)]
 pub struct RowEvidence {
-    pub file: Option<Output>,
+    /// Its files, where some are to be made.
+    pub files: OutputList,
+    /// The line of how many tracks each least row takes at least, or nothing.
+    pub fewest: Bytes,
+    /// What the report of a drawn row says of it.
     pub counts: Bytes,
 }
 
@@ -38,6 +42,34 @@ pub(crate) fn log_file(
 }
 
 impl RowEvidence {
+    /// One file, of which the report says these counts.
+    pub(crate) fn of_file(
+        alloc: Global,
+        file: Output,
+        counts: Bytes,
+    ) -> Result<RowEvidence, NoMemory>
+        ensures { IfOk result (λ evidence. shown evidence ≡ one_file (named file) counts) }
+    {
+        let mut files = OutputList::new(alloc);
+        files.push(file)?;
+        Ok(RowEvidence {
+            files,
+            fewest: Bytes::new(alloc),
+            counts,
+        })
+    }
+
+    /// No file, since the evidence was given. The report says these counts of it.
+    pub(crate) fn without_file(alloc: Global, counts: Bytes) -> RowEvidence
+        ensures { shown result ≡ no_file counts }
+    {
+        RowEvidence {
+            files: OutputList::new(alloc),
+            fewest: Bytes::new(alloc),
+            counts,
+        }
+    }
+
     /// A log, in the file whose name ends with `.clog`.
     pub fn of_log(
         alloc: Global,
@@ -52,10 +84,7 @@ impl RowEvidence {
         let mut counts = Bytes::new(alloc);
         put_count(&mut counts, b"lemmas ", log.count())?;
         let file = log_file(alloc, cell, stem, log)?;
-        Ok(RowEvidence {
-            file: Some(file),
-            counts,
-        })
+        RowEvidence::of_file(alloc, file, counts)
     }
 }
 

@@ -114,7 +114,7 @@ fn given_end(
 {
     match given {
         Given::Row { row, counts } => {
-            let evidence = RowEvidence { file: None, counts };
+            let evidence = RowEvidence::without_file(alloc, counts);
             drawn(alloc, inputs, stem, style, &row, evidence)
         }
         Given::Refused(end) => Ok(end),

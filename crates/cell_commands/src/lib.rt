@@ -1,4 +1,4 @@
-// What `plan`, `make` and `check` result in, with any evidence: a log, or a certificate by trails.
+// What `plan`, `make` and `check` result in, with any evidence: a log, a certificate by trails or one of tracks.
 #![tactic(auto)]
 
 mod certificate;
@@ -9,10 +9,15 @@ mod evidence;
 mod given;
 mod listed;
 mod log_checker;
+mod low;
+mod low_check;
+mod low_end;
+mod low_evidence;
 mod make_end;
 mod make_report;
 mod making;
 mod planning;
+mod relisted;
 mod searched;
 mod trail_checking;
 mod verdict;
@@ -22,6 +27,8 @@ pub use checked_log::CheckedLog;
 pub use evidence::RowEvidence;
 pub use given::{make_from_log, make_from_trails};
 pub use log_checker::LogChecker;
+pub use low::make_low;
+pub use low_check::check_low;
 pub use making::make;
 pub use planning::plan;
 pub use searched::Searched;

@@ -1,12 +1,12 @@
 ghost use Rattle.std.specs.Prelude.{◌≡◌, ◌≤◌, ◌<◌, [], ◌∷◌, ◌++◌, IfOk, codes, length, string_bytes};
 ghost use Rattle.call_end.specs.declared.status.Status.TheVariants as status;
 ghost use Rattle.call_end.specs.Status.{first_line};
-ghost use Rattle.cell_report.specs.Cells.{sizes_text};
+ghost use Rattle.cell_report.specs.Cells.{sizes_with};
 ghost use Rattle.cell_report.specs.Rows.{plan_text};
 ghost use Rattle.gds_read.specs.RoundTrip.{IsReadable};
 ghost use Rattle.gds_write.specs.Written.{written};
 ghost use Rattle.cell_make.specs.Making.{final_of};
-ghost use Rattle.cell_make.specs.Rows.{CanRowBeWritten, ComesFrom, row_answer};
+ghost use Rattle.cell_make.specs.Rows.{CanRowBeWritten, IsRowDrawnBy, row_answer};
 ghost use Rattle.lef_write.specs.Lef.{cell_text};
 ghost use Rattle.call_end.specs.End.{IsEnd, named};
 ghost use Rattle.call_end.specs.Files.{gds_file, lef_file};
@@ -15,7 +15,7 @@ ghost use Rattle.cell_commands.specs.Evidence.{evidence_files, shown};
 
 use crate::evidence::RowEvidence;
 use crate::make_report::drawn_report;
-use call_end::{End, Output, Status, Stem};
+use call_end::{End, Output, OutputList, Status, Stem};
 use cell_draw::{Drawing, MOST_SHAPES};
 use cell_inputs::{Inputs, Style};
 use cell_make::{DrawOutcome, Drawn};
@@ -74,13 +74,13 @@ struct DrawnParts {
     report: Bytes,
 }
 
-// The files of a drawn row beside its evidence, and its report with these counts of that.
+// The files of a drawn row beside those of its evidence, and its report.
 fn drawn_parts(
     alloc: Global,
     cell: &Subckt,
     stem: &Stem,
     row: &Arrangement,
-    counts: &Bytes,
+    evidence: &RowEvidence,
     routing: &Routing,
     drawn: &Drawn,
     unit_nm: u32,
@@ -96,10 +96,11 @@ fn drawn_parts(
         ≡ lef_file stem.now (cell_text cell.now routing.now drawn.now.drawing unit_nm)) }
     ensures report { IfOk result (λ parts. parts.report ≡ first_line status.Done
         ++ plan_text cell.now.name cell.now.nets row.now
-        ++ sizes_text routing.now.tracks drawn.now.drawing.width drawn.now.drawing.height ++ counts.now) }
+        ++ sizes_with routing.now.tracks evidence.now.fewest drawn.now.drawing.width drawn.now.drawing.height
+        ++ evidence.now.counts) }
 {
     let drawing = &drawn.drawing;
-    let report = drawn_report(alloc, cell, row, routing.tracks, drawing, counts)?;
+    let report = drawn_report(alloc, cell, row, routing.tracks, drawing, evidence)?;
     let library = gds_file(alloc, cell, stem, drawn.final_drawing(), unit_nm)?;
     let summary = lef_file(alloc, cell, stem, routing, drawing, unit_nm)?;
     Ok(DrawnParts {
@@ -109,28 +110,15 @@ fn drawn_parts(
     })
 }
 
-// The end of a drawn row: the file of its evidence, where there is one, then its drawing, then its abstract.
-fn drawn_files(alloc: Global, file: Option<Output>, parts: DrawnParts) -> Result<End, NoMemory>
-    ensures { IfOk result (IsEnd status.Done (evidence_files file ++ named parts.library ∷ named parts.summary ∷ [])
+// The end of a drawn row: the files of its evidence, then its drawing, then its abstract.
+fn drawn_files(files: OutputList, parts: DrawnParts) -> Result<End, NoMemory>
+    ensures { IfOk result (IsEnd status.Done (evidence_files files ++ named parts.library ∷ named parts.summary ∷ [])
         parts.report) }
 {
-    match file {
-        Some(file) => End::makes_three(
-            alloc,
-            Status::Done,
-            file,
-            parts.library,
-            parts.summary,
-            parts.report,
-        ),
-        None => End::makes_two(
-            alloc,
-            Status::Done,
-            parts.library,
-            parts.summary,
-            parts.report,
-        ),
-    }
+    let mut files = files;
+    files.push(parts.library)?;
+    files.push(parts.summary)?;
+    Ok(End::makes(Status::Done, files, parts.report))
 }
 
 // The end of a drawn row; with taps where there are taps.
@@ -152,32 +140,15 @@ fn with_drawing(
     ensures { IfOk result (IsDrawnEnd cell.now stem.now row.now (shown evidence) routing.now drawn.now.drawing
         (final_of drawn.now) unit_nm) }
 {
-    let parts = drawn_parts(
-        alloc,
-        cell,
-        stem,
-        row,
-        &evidence.counts,
-        routing,
-        drawn,
-        unit_nm,
-    )?;
-    drawn_files(alloc, evidence.file, parts)
+    let parts = drawn_parts(alloc, cell, stem, row, &evidence, routing, drawn, unit_nm)?;
+    drawn_files(evidence.files, parts)
 }
 
-/// The end of a row that makes the file of its evidence alone, where there is one.
-pub(crate) fn evidence_end(
-    alloc: Global,
-    status: Status,
-    file: Option<Output>,
-    report: Bytes,
-) -> Result<End, NoMemory>
-    ensures { IfOk result (IsEnd status (evidence_files file) report) }
+/// The end of a row that makes the files of its evidence alone.
+pub(crate) fn evidence_end(status: Status, files: OutputList, report: Bytes) -> End
+    ensures { IsEnd status (evidence_files files) report result }
 {
-    match file {
-        Some(file) => End::makes_one(alloc, status, file, report),
-        None => Ok(End::says(alloc, status, report)),
-    }
+    End::makes(status, files, report)
 }
 
 /// The end of a row: its drawing; or its evidence alone, with a ring of its nets or a height that is not enough.
@@ -191,7 +162,7 @@ pub(crate) fn row_end(
     evidence: RowEvidence,
 ) -> Result<End, NoMemory>
     requires columns { length row.now ≤ 64 }
-    requires comes { ComesFrom style inputs.now row.now came.now }
+    requires exact { IsRowDrawnBy style inputs.now row.now came.now }
     requires written { CanRowBeWritten inputs.now came.now }
     ensures { IfOk result (IsRowEnd style inputs.now stem.now row.now (shown evidence) (row_answer came.now)) }
 {
@@ -210,11 +181,11 @@ pub(crate) fn row_end(
         ),
         DrawOutcome::Cyclic { ring, .. } => {
             let report = cycle_report(alloc, &cell.nets, ring)?;
-            evidence_end(alloc, Status::Cycle, evidence.file, report)
+            Ok(evidence_end(Status::Cycle, evidence.files, report))
         }
         DrawOutcome::Tall { needed, given, .. } => {
-            let report = tall_report(alloc, *needed, *given)?;
-            evidence_end(alloc, Status::TooTall, evidence.file, report)
+            let report = tall_report(alloc, evidence.fewest.as_slice(), *needed, *given)?;
+            Ok(evidence_end(Status::TooTall, evidence.files, report))
         }
     }
 }

@@ -37,8 +37,8 @@ fn certified(
     drawn(alloc, inputs, stem, style, row, evidence)
 }
 
-// The certificate of what a search proves that spent its budget.
-fn open_end(
+/// The certificate of what a search proves that spent its budget.
+pub(crate) fn open_end(
     alloc: Global,
     cell: &Subckt,
     stem: &Stem,
@@ -51,7 +51,7 @@ fn open_end(
 {
     let report = spent_report(alloc, proved, certificate.lemmas())?;
     let evidence = row_evidence(alloc, cell, stem, certificate)?;
-    evidence_end(alloc, Status::Unfinished, evidence.file, report)
+    Ok(evidence_end(Status::Unfinished, evidence.files, report))
 }
 
 /// The drawing of the first least row with its evidence; or the evidence, with a ring of the row's nets, with a height

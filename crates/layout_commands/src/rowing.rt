@@ -87,7 +87,7 @@ fn cyclic(alloc: Global, cell: &Subckt, ring: &Ring) -> Result<End, NoMemory>
 fn tall(alloc: Global, needed: u32, given: u32) -> Result<End, NoMemory>
     ensures { IfOk result (λ end. end ≡ reports status.TooTall (tall_text needed given)) }
 {
-    let report = tall_report(alloc, needed, given)?;
+    let report = tall_report(alloc, b"", needed, given)?;
     Ok(End::says(alloc, Status::TooTall, report))
 }
 

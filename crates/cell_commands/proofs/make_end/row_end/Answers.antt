@@ -1,4 +1,7 @@
-use Rattle.std.proofs.Common.{◌≡◌, ◌≤◌, length, subst, sym}
+use Rattle.std.proofs.Common.{ℕ, ◌≡◌, ◌≤◌, ◌++◌, List, length, subst, sym}
+use Rattle.call_end.specs.declared.status.Status.TheVariants as status
+use Rattle.call_end.specs.Status.{first_line}
+use Rattle.cell_report.specs.Cells.{tall_text}
 use Rattle.cell_inputs.specs.Inputs.{Inputs, inputs_of}
 use Rattle.cell_commands.specs.Evidence.{shown}
 use Rattle.cell_commands.proofs.RowEnds.{cyclic_ends, drawn_ends, few_so, tall_ends, written_so}
@@ -21,7 +24,7 @@ with_drawing-requires-clause-readable c =
 pub returns-in-Drawn : goal.returns-in-Drawn
 returns-in-Drawn c =
     drawn_ends c.args.style c.args.inputs.now (inputs_of c.inputs.inside.tech c.inputs.inside.cell c.inputs.inside.fingers) c.args.stem.now c.args.row.now (shown c.args.evidence) c.args.came.now c.in-Drawn.placement c.in-Drawn.routing c.in-Drawn.drawn c.unit_nm.result c.with_drawing.result
-    c.inputs.view_is c.unit_nm.ensures.is c.in-Drawn.is c.requires.comes c.with_drawing.ensures
+    c.inputs.view_is c.unit_nm.ensures.is c.in-Drawn.is c.requires.exact c.with_drawing.ensures
 
 pub returns-in_ok-report-in-Cyclic : goal.returns-in_ok-report-in-Cyclic
 returns-in_ok-report-in-Cyclic c =
@@ -30,5 +33,7 @@ returns-in_ok-report-in-Cyclic c =
 
 pub returns-in_ok-report-in-Tall : goal.returns-in_ok-report-in-Tall
 returns-in_ok-report-in-Tall c =
+    let told : c.in_ok-report-in-Tall.report ≡ first_line status.TooTall ++ c.args.evidence.fewest ++ tall_text c.in-Tall.needed c.in-Tall.given =
+    subst (λ (fewest : List ℕ). c.in_ok-report-in-Tall.report ≡ first_line status.TooTall ++ fewest ++ tall_text c.in-Tall.needed c.in-Tall.given) c.as_slice.ensures c.in_ok-report-in-Tall.ensures in
     tall_ends c.args.style c.args.inputs.now c.args.stem.now c.args.row.now c.args.evidence c.args.came.now c.in-Tall.placement c.in-Tall.routing c.in-Tall.needed c.in-Tall.given c.in_ok-report-in-Tall.report c.evidence_end-in-Tall.result
-    c.in-Tall.is c.requires.comes c.in_ok-report-in-Tall.ensures c.evidence_end-in-Tall.ensures
+    c.in-Tall.is c.requires.exact told c.evidence_end-in-Tall.ensures

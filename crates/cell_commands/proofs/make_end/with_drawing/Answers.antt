@@ -8,7 +8,7 @@ use Rattle.cell_commands.proofs.make_end.with_drawing.Goals as goal
 
 pub returns : goal.returns
 returns c =
-    drawn_told (evidence_files c.args.evidence.file) c.in_ok-parts.parts.library c.in_ok-parts.parts.summary
+    drawn_told (evidence_files c.args.evidence.files) c.in_ok-parts.parts.library c.in_ok-parts.parts.summary
     (gds_file c.args.stem.now (written c.args.cell.now.name (final_of c.args.drawn.now).shapes c.args.unit_nm))
     (lef_file c.args.stem.now (cell_text c.args.cell.now c.args.routing.now c.args.drawn.now.drawing c.args.unit_nm))
     c.in_ok-parts.parts.report _ c.drawn_files.result

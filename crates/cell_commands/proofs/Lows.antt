@@ -1,0 +1,168 @@
+-- What making the lowest row results in, from what the searches and the drawing answered.
+use Rattle.std.proofs.Common.{ℕ, ◌≡◌, ◌∙◌, ◌++◌, true, false, Bool, List, Result, IfOk, ap, inr, refl, subst, sym, arith}
+use Rattle.std.proofs.lemmas.Result.{IfOk-weaker}
+use Rattle.cell_num.specs.declared.list.NoMemory.{NoMemory}
+use Rattle.cell_num.specs.declared.net.NetNo.{NetNo}
+use Rattle.row_model.specs.declared.column.Column.{Column}
+use Rattle.row_model.specs.Gaps.{gaps_of}
+use Rattle.row_state.specs.declared.kind.Kinds.{Kinds}
+use Rattle.row_state.specs.Component.{component_value}
+use Rattle.row_state.specs.Start.{AreKinds, AreSomeKinds}
+use Rattle.bound_log.specs.declared.log.Best.{Best}
+use Rattle.row_search.specs.First.{IsFirstLeast}
+use Rattle.row_list.specs.Listed.{IsBestOf}
+use Rattle.row_list.proofs.Listing.{certified_too, solved_too}
+use Rattle.call_words.specs.declared.evidence.Evidence.{Evidence}
+use Rattle.call_words.specs.declared.evidence.Evidence.TheVariants.{Log, Trails}
+use Rattle.call_end.specs.declared.end.End.{End}
+use Rattle.call_end.specs.declared.end.Output.{Output}
+use Rattle.call_end.specs.declared.status.Status.TheVariants as status
+use Rattle.call_end.specs.End.{IsEnd, reports}
+use Rattle.call_end.specs.Status.{first_line}
+use Rattle.cell_report.specs.Cells.{fewest_text}
+use Rattle.cell_report.specs.Cycles.{ring_text}
+use Rattle.channel_route.specs.declared.routing.Routing.{Routing}
+use Rattle.spice_net.specs.declared.subckt.Subckt.{Subckt}
+use Rattle.track_log.specs.declared.certificate.TrackCertificate.{TrackCertificate}
+use Rattle.cell_inputs.specs.declared.style.Taps.{Taps}
+use Rattle.cell_inputs.specs.Inputs.{Inputs}
+use Rattle.cell_make.specs.declared.draw_outcome.DrawOutcome.{DrawOutcome}
+use Rattle.cell_make.specs.declared.draw_outcome.DrawOutcome.TheVariants as came
+use Rattle.cell_make.specs.Low.{DrawsLow, IsLeast, IsLowest, IsTrackEnd, ProvesTracks, low_style}
+use Rattle.cell_make.specs.Rows.{ComesAs, ComesFrom, DrawAnswer, IsThat, IsWired, RowDrawn, RowTall, row_answer}
+use Rattle.cell_make.proofs.LogFits as log
+use Rattle.cell_make.proofs.LowDrawn.{first_draws, lowest_draws, none_draws}
+use Rattle.cell_commands.specs.declared.certificate.Certificate.{Certificate}
+use Rattle.cell_commands.specs.declared.certificate.Certificate.TheVariants as held
+use Rattle.cell_commands.specs.declared.evidence.RowEvidence.{RowEvidence as EvidenceOf}
+use Rattle.cell_commands.specs.Certificate.{CanBeWritten, row_evidence}
+use Rattle.cell_commands.specs.Evidence.{evidence_files, gate_text, shown}
+use Rattle.cell_commands.specs.Low.{Crowded, Made, MakesLowTo, Open, Unwired, low_evidence, track_files}
+use Rattle.cell_commands.specs.LowEnds.{IsFirstEnd}
+use Rattle.cell_commands.specs.Make.{IsOpenEnd}
+use Rattle.cell_commands.specs.RowEnd.{IsRowEnd, RowEvidence}
+use Rattle.cell_commands.proofs.Ended.{crowded_end}
+use Rattle.cell_commands.specs.Relisted.{IsFoundFor, IsFoundForSome, ListsInstead, kind_of, listing}
+use Rattle.cell_commands.specs.Searched.{Crowds, IsCertifiedBy, IsFoundBy, IsOpenBy}
+
+-- ---- what is found
+
+pub found_kind : (evidence : Evidence) (inputs : Inputs) (row : List Column) (certificate : Certificate) → IsFoundBy evidence inputs row certificate → kind_of certificate ≡ evidence
+found_kind Log inputs row (held.Log found) is = refl
+found_kind Trails inputs row (held.Trails found) is = refl
+found_kind Log inputs row (held.Trails found) is = absurd is
+found_kind Trails inputs row (held.Log found) is = absurd is
+
+-- it was found for the row, as its own kind has it
+pub found_for : (evidence : Evidence) (inputs : Inputs) (row : List Column) (certificate : Certificate) → IsFoundBy evidence inputs row certificate → IsFoundFor inputs row certificate
+found_for evidence inputs row certificate is = subst (λ (e : Evidence). IsFoundBy e inputs row certificate) (sym (found_kind evidence inputs row certificate is)) is
+
+pub found_first : (evidence : Evidence) (inputs : Inputs) (row : List Column) (certificate : Certificate) → IsFoundBy evidence inputs row certificate → IsFirstLeast inputs.fingers row
+found_first Log inputs row (held.Log found) is = is.first
+found_first Trails inputs row (held.Trails found) (nodes, is) = is.first
+found_first Log inputs row (held.Trails found) is = absurd is
+found_first Trails inputs row (held.Log found) is = absurd is
+
+pub first_least : (inputs : Inputs) (row : List Column) → IsFirstLeast inputs.fingers row → IsLeast inputs.fingers row
+first_least inputs row first = record { arranges = first.arranges; least = first.least }
+
+pub found_certified : (evidence : Evidence) (inputs : Inputs) (row : List Column) (certificate : Certificate) → IsFoundBy evidence inputs row certificate → IsCertifiedBy evidence inputs row certificate
+found_certified Log inputs row (held.Log found) is = is.certified
+found_certified Trails inputs row (held.Trails found) (nodes, is) = is.certified
+found_certified Log inputs row (held.Trails found) is = absurd is
+found_certified Trails inputs row (held.Log found) is = absurd is
+
+pub certified_fits : (evidence : Evidence) (inputs : Inputs) (row : List Column) (certificate : Certificate) → IsCertifiedBy evidence inputs row certificate → CanBeWritten certificate
+certified_fits Log inputs row (held.Log found) is = log.found_fits inputs row found is
+certified_fits Trails inputs row (held.Trails found) (k, of_k, some_k, certified) = (k, some_k, certified.fits)
+certified_fits Log inputs row (held.Trails found) is = absurd is
+certified_fits Trails inputs row (held.Log found) is = absurd is
+
+-- ---- another least row
+
+-- two least rows have as many gaps
+same_gaps : (inputs : Inputs) (row other : List Column) → IsLeast inputs.fingers row → IsLeast inputs.fingers other → gaps_of other ≡ gaps_of row
+same_gaps inputs row other least too = omega (arith, too.least row least.arranges, least.least other too.arranges)
+
+-- the certificate that was found for one certifies the other, where it lists that
+listed_by : (inputs : Inputs) (row other : List Column) (certificate : Certificate) (k : Kinds) (best : Best) → IsFoundFor inputs row certificate → IsLeast inputs.fingers other → AreKinds inputs.fingers k → AreSomeKinds k → IsBestOf k other best → IsCertifiedBy (kind_of certificate) inputs other (listing certificate best)
+listed_by inputs row other (held.Log found) k best is least of_k some_k lists =
+    let (version, solved) = is.certified in
+    (version, solved_too component_value k inputs.fingers inputs.tech.budget found row other best of_k some_k solved least.arranges (same_gaps inputs row other (first_least inputs row is.first) least) lists)
+listed_by inputs row other (held.Trails found) k best (nodes, is) least of_k some_k lists =
+    certified_too k inputs.fingers found row other best of_k some_k is.certified least.arranges (same_gaps inputs row other (first_least inputs row is.first) least) lists
+
+pub relisted_certified : (inputs : Inputs) (row other : List Column) (certificate relisted : Certificate) → IsFoundFor inputs row certificate → IsLeast inputs.fingers other → ListsInstead inputs other certificate relisted → IsCertifiedBy (kind_of certificate) inputs other relisted
+relisted_certified inputs row other certificate relisted is least (k, of_k, some_k, (best, lists, same)) =
+    subst (IsCertifiedBy (kind_of certificate) inputs other) (sym same) (listed_by inputs row other certificate k best is least of_k some_k lists)
+
+-- where it was found for some row
+pub relisted_for : (inputs : Inputs) (other : List Column) (certificate relisted : Certificate) → IsFoundForSome inputs certificate → IsLeast inputs.fingers other → ListsInstead inputs other certificate relisted → IsCertifiedBy (kind_of certificate) inputs other relisted
+relisted_for inputs other certificate relisted (row, is) least lists = relisted_certified inputs row other certificate relisted is least lists
+
+pub lists_instead : (inside inputs : Inputs) (row : List Column) (certificate other : Certificate) (k : Kinds) (best : Best) → inside ≡ inputs → AreKinds inside.fingers k → AreSomeKinds k → IsBestOf k row best → other ≡ listing certificate best → ListsInstead inputs row certificate other
+lists_instead inside inputs row certificate other k best same of_k some_k lists is =
+    subst (λ (i : Inputs). ListsInstead i row certificate other) same (k, of_k, some_k, (best, lists, is))
+
+-- ---- the evidence
+
+evidence_is : (files files' : List (List ℕ × List ℕ)) (fewest fewest' counts counts' : List ℕ) → files ≡ files' → fewest ≡ fewest' → counts ≡ counts' → ◌≡◌ {A = RowEvidence} (record { files = files; fewest = fewest; counts = counts }) (record { files = files'; fewest = fewest'; counts = counts' })
+evidence_is files files' fewest fewest' counts counts' f w c = cc
+
+-- that of a row, with the file of its tracks after its files
+pub evidence_shown : (cell : Subckt) (out : List ℕ) (certificate : Certificate) (tracks : TrackCertificate) (of_row : EvidenceOf) (files : List Output) (fewest : List ℕ) → shown of_row ≡ row_evidence cell out certificate → evidence_files files ≡ evidence_files of_row.files ++ track_files cell out tracks → fewest ≡ fewest_text tracks.tracks → shown (record { files = files; fewest = fewest; counts = of_row.counts }) ≡ low_evidence cell out certificate tracks
+evidence_shown cell out certificate tracks of_row files fewest is more counted =
+    evidence_is (evidence_files files) ((row_evidence cell out certificate).files ++ track_files cell out tracks) fewest (fewest_text tracks.tracks) of_row.counts (row_evidence cell out certificate).counts
+    (more ∙ ap (λ (e : RowEvidence). e.files ++ track_files cell out tracks) is) counted (ap (λ (e : RowEvidence). e.counts) is)
+
+-- ---- the end
+
+-- the evidence as the code has it, of the inputs as they are seen
+pub evidence_of : (inside inputs : Inputs) (out : List ℕ) (certificate : Certificate) (tracks : TrackCertificate) (told : RowEvidence) → inside ≡ inputs → told ≡ low_evidence inside.cell out certificate tracks → told ≡ low_evidence inputs.cell out certificate tracks
+evidence_of inside inputs out certificate tracks told same is = subst (λ (i : Inputs). told ≡ low_evidence i.cell out certificate tracks) same is
+
+-- a row that is drawn, or too tall, or has a ring where no least row is wired
+row_made : (evidence : Evidence) (taps : Taps) (inputs : Inputs) (out : List ℕ) (row : List Column) (certificate : Certificate) (tracks : TrackCertificate) (answer : DrawAnswer) (told : RowEvidence) (end : End) → told ≡ low_evidence inputs.cell out certificate tracks → ProvesTracks inputs tracks → IsCertifiedBy evidence inputs row certificate → DrawsLow (low_style taps) inputs row tracks answer → IsRowEnd (low_style taps) inputs out row told answer end → MakesLowTo evidence taps inputs out end
+row_made evidence taps inputs out row certificate tracks answer told end is proves certified draws ends =
+    (Made row certificate tracks answer, (proves, certified, draws), subst (λ (t : RowEvidence). IsRowEnd (low_style taps) inputs out row t answer end) is ends)
+
+pub lowest_made : (evidence : Evidence) (taps : Taps) (inputs : Inputs) (out : List ℕ) (row drawn : List Column) (certificate : Certificate) (tracks : TrackCertificate) (routing : Routing) (came : DrawOutcome) (told : RowEvidence) (r : Result End NoMemory) → drawn ≡ row → told ≡ low_evidence inputs.cell out certificate tracks → ProvesTracks inputs tracks → IsCertifiedBy evidence inputs row certificate → IsLowest inputs row routing tracks.tracks → IsWired came → ComesAs (IsThat routing) (low_style taps) inputs row came → IfOk r (IsRowEnd (low_style taps) inputs out drawn told (row_answer came)) → IfOk r (MakesLowTo evidence taps inputs out)
+lowest_made evidence taps inputs out row drawn certificate tracks routing came told r same is proves certified lowest wired comes ends =
+    IfOk-weaker r (IsRowEnd (low_style taps) inputs out row told (row_answer came)) (MakesLowTo evidence taps inputs out)
+    (λ end e. row_made evidence taps inputs out row certificate tracks (row_answer came) told end is proves certified (lowest_draws (low_style taps) inputs row tracks routing came lowest wired comes) e)
+    (subst (λ (columns : List Column). IfOk r (IsRowEnd (low_style taps) inputs out columns told (row_answer came))) same ends)
+
+-- the first row, by why the search for the lowest one is open
+first_made : (evidence : Evidence) (taps : Taps) (inputs : Inputs) (out : List ℕ) (row : List Column) (certificate : Certificate) (tracks : TrackCertificate) (none_wired : Bool) (of : DrawOutcome) (told : RowEvidence) (end : End) → told ≡ low_evidence inputs.cell out certificate tracks → ProvesTracks inputs tracks → IsTrackEnd inputs tracks none_wired → IsFoundBy evidence inputs row certificate → ComesFrom (low_style taps) inputs row of → IsFirstEnd (low_style taps) inputs out row told tracks.tracks none_wired (row_answer of) end → MakesLowTo evidence taps inputs out end
+first_made evidence taps inputs out row certificate tracks true of told end is proves none found comes ends =
+    row_made evidence taps inputs out row certificate tracks (row_answer of) told end is proves (found_certified evidence inputs row certificate found)
+    (none_draws (low_style taps) inputs row tracks of (found_first evidence inputs row certificate found) none comes) ends
+first_made evidence taps inputs out row certificate tracks false (came.Drawn placement routing drawn) told end is proves spent found comes ends =
+    row_made evidence taps inputs out row certificate tracks (RowDrawn routing drawn.lines) told end is proves (found_certified evidence inputs row certificate found)
+    (first_draws (low_style taps) inputs row tracks (came.Drawn placement routing drawn) (found_first evidence inputs row certificate found) (inr spent) tt comes) ends
+first_made evidence taps inputs out row certificate tracks false (came.Tall placement routing needed given) told end is proves spent found comes ends =
+    row_made evidence taps inputs out row certificate tracks (RowTall routing) told end is proves (found_certified evidence inputs row certificate found)
+    (first_draws (low_style taps) inputs row tracks (came.Tall placement routing needed given) (found_first evidence inputs row certificate found) (inr spent) tt comes) ends
+first_made evidence taps inputs out row certificate tracks false (came.Cyclic placement ring) told end is proves spent found comes ends = (
+  Unwired row certificate tracks ring,
+  (proves, spent, found, comes.draws),
+  subst (λ (t : RowEvidence). IsEnd status.Unfinished t.files (first_line status.Unfinished ++ fewest_text tracks.tracks ++ ring_text inputs.cell.nets ring) end) is ends,
+)
+
+pub first_ends : (evidence : Evidence) (taps : Taps) (inputs : Inputs) (out : List ℕ) (row : List Column) (certificate : Certificate) (tracks : TrackCertificate) (none_wired : Bool) (of : DrawOutcome) (told : RowEvidence) (r : Result End NoMemory) → told ≡ low_evidence inputs.cell out certificate tracks → ProvesTracks inputs tracks → IsTrackEnd inputs tracks none_wired → IsFoundBy evidence inputs row certificate → ComesFrom (low_style taps) inputs row of → IfOk r (IsFirstEnd (low_style taps) inputs out row told tracks.tracks none_wired (row_answer of)) → IfOk r (MakesLowTo evidence taps inputs out)
+first_ends evidence taps inputs out row certificate tracks none_wired of told r is proves end_of found comes ends =
+    IfOk-weaker r (IsFirstEnd (low_style taps) inputs out row told tracks.tracks none_wired (row_answer of)) (MakesLowTo evidence taps inputs out)
+    (λ end e. first_made evidence taps inputs out row certificate tracks none_wired of told end is proves end_of found comes e) ends
+
+-- ---- without a row
+
+pub open_low : (evidence : Evidence) (taps : Taps) (inputs inside : Inputs) (out : List ℕ) (proved : ℕ) (certificate : Certificate) (r : Result End NoMemory) → inside ≡ inputs → IsOpenBy evidence inputs proved certificate → IfOk r (IsOpenEnd inside.cell out proved certificate) → IfOk r (MakesLowTo evidence taps inputs out)
+open_low evidence taps inputs inside out proved certificate r same spent ends =
+    IfOk-weaker r (IsOpenEnd inputs.cell out proved certificate) (MakesLowTo evidence taps inputs out) (λ end e. (Open proved certificate, spent, e))
+    (subst (λ (i : Inputs). IfOk r (IsOpenEnd i.cell out proved certificate)) same ends)
+
+pub crowded_low : (evidence : Evidence) (taps : Taps) (inputs inside : Inputs) (out : List ℕ) (gate : NetNo) (r : Result End NoMemory) → inside ≡ inputs → Crowds evidence inputs gate → IfOk r (λ end. end ≡ reports status.Unfinished (gate_text inside.cell gate)) → IfOk r (MakesLowTo evidence taps inputs out)
+crowded_low evidence taps inputs inside out gate r same crowded is =
+    IfOk-weaker r (λ (end : End). end ≡ reports status.Unfinished (gate_text inputs.cell gate)) (MakesLowTo evidence taps inputs out)
+    (λ end said. (Crowded gate, crowded, crowded_end inputs.cell gate end said))
+    (subst (λ (i : Inputs). IfOk r (λ end. end ≡ reports status.Unfinished (gate_text i.cell gate))) same is)

@@ -1,0 +1,90 @@
+-- What `make` with `--low` results in: of all least rows the first on the fewest tracks, or the first one of all.
+use Rattle.std.specs.Prelude.{ℕ, ◌==◌, List, [], ◌∷◌, ◌++◌, codes, if◌then◌else◌}
+use Rattle.cell_num.specs.declared.net.NetNo.{NetNo}
+use Rattle.row_model.specs.declared.column.Column.{Column}
+use Rattle.row_place.specs.Places.{placement_of}
+use Rattle.channel_route.specs.declared.ring.Ring.{Ring}
+use Rattle.spice_net.specs.declared.subckt.Subckt.{Subckt}
+use Rattle.track_log.specs.declared.certificate.TrackCertificate.{TrackCertificate}
+use Rattle.track_log.specs.Text.{certificate_text}
+use Rattle.call_end.specs.declared.end.End.{End}
+use Rattle.call_end.specs.declared.status.Status.TheVariants as status
+use Rattle.call_end.specs.End.{IsEnd}
+use Rattle.call_end.specs.Status.{first_line}
+use Rattle.call_words.specs.declared.evidence.Evidence.{Evidence}
+use Rattle.cell_inputs.specs.declared.style.Style.{Style}
+use Rattle.cell_inputs.specs.declared.style.Taps.{Taps}
+use Rattle.cell_inputs.specs.Inputs.{Inputs}
+use Rattle.cell_make.specs.Low.{DrawsLow, IsTrackSpent, ProvesTracks, low_style}
+use Rattle.cell_make.specs.Rows.{DrawAnswer}
+use Rattle.cell_make.specs.Style.{IsToldRing}
+use Rattle.cell_report.specs.Cells.{fewest_text}
+use Rattle.cell_report.specs.Cycles.{ring_text}
+use Rattle.cell_commands.specs.declared.certificate.Certificate.{Certificate}
+use Rattle.cell_commands.specs.Certificate.{row_evidence}
+use Rattle.cell_commands.specs.Evidence.{gate_text}
+use Rattle.cell_commands.specs.Make.{IsOpenEnd}
+use Rattle.cell_commands.specs.RowEnd.{IsRowEnd, RowEvidence}
+use Rattle.cell_commands.specs.Searched.{Crowds, IsCertifiedBy, IsFoundBy, IsOpenBy}
+
+-- ---- the evidence
+
+-- the file of the certificate of the tracks, where each least row takes one at least
+abbrev pub track_files : Subckt → List ℕ → TrackCertificate → List (List ℕ × List ℕ)
+track_files cell out tracks =
+    if tracks.tracks == 0 then [] else (out ++ codes ".ctrack", certificate_text cell.name tracks) ∷ []
+
+-- the evidence of a row, and after it that of its tracks
+abbrev pub low_evidence : Subckt → List ℕ → Certificate → TrackCertificate → RowEvidence
+low_evidence cell out certificate tracks = record {
+  files = (row_evidence cell out certificate).files ++ track_files cell out tracks;
+  fewest = fewest_text tracks.tracks;
+  counts = (row_evidence cell out certificate).counts;
+}
+
+-- ---- what it results in
+
+pub data LowAnswer : Type 0 where
+  Made : (row : List Column) (certificate : Certificate) (tracks : TrackCertificate) (answer : DrawAnswer) → LowAnswer
+  Unwired : (row : List Column) (certificate : Certificate) (tracks : TrackCertificate) (ring : Ring) → LowAnswer
+  Open : (proved : ℕ) (certificate : Certificate) → LowAnswer
+  Crowded : (gate : NetNo) → LowAnswer
+
+-- A certificate proves how many tracks each least row takes at least, and one of the two:
+-- - the row has a certificate that is accepted and lists it, and drawing it results in this: the lowest row, or the
+--   first least one where the search for the lowest row is open;
+-- - the budget of that search is spent, and nets of the first least row stand above each other in this ring.
+-- Or a certificate proves that many gaps of every row, or the fingers of a gate pair in too many ways.
+abbrev pub MakesLow : Evidence → Style → Inputs → LowAnswer → Type 0
+MakesLow evidence style inputs (Made row certificate tracks answer) =
+    ProvesTracks inputs tracks
+    × IsCertifiedBy evidence inputs row certificate
+    × DrawsLow style inputs row tracks answer
+MakesLow evidence style inputs (Unwired row certificate tracks ring) =
+    ProvesTracks inputs tracks
+    × IsTrackSpent inputs tracks
+    × IsFoundBy evidence inputs row certificate
+    × IsToldRing style.wiring (placement_of row) inputs.cell.pins ring
+MakesLow evidence style inputs (Open proved certificate) = IsOpenBy evidence inputs proved certificate
+MakesLow evidence style inputs (Crowded gate) = Crowds evidence inputs gate
+
+-- the evidence, without a drawing: how many tracks each least row takes at least, and the ring of the first one
+abbrev pub IsUnwiredEnd : Inputs → List ℕ → Certificate → TrackCertificate → Ring → End → Type 0
+IsUnwiredEnd inputs out certificate tracks ring =
+    IsEnd status.Unfinished (low_evidence inputs.cell out certificate tracks).files
+    (first_line status.Unfinished ++ fewest_text tracks.tracks ++ ring_text inputs.cell.nets ring)
+
+abbrev pub IsLowEnd : Style → Inputs → List ℕ → LowAnswer → End → Type 0
+IsLowEnd style inputs out (Made row certificate tracks answer) =
+    IsRowEnd style inputs out row (low_evidence inputs.cell out certificate tracks) answer
+IsLowEnd style inputs out (Unwired row certificate tracks ring) = IsUnwiredEnd inputs out certificate tracks ring
+IsLowEnd style inputs out (Open proved certificate) = IsOpenEnd inputs.cell out proved certificate
+IsLowEnd style inputs out (Crowded gate) =
+    IsEnd status.Unfinished [] (first_line status.Unfinished ++ gate_text inputs.cell gate)
+
+-- with straight trunks, with taps or without
+abbrev pub MakesLowTo : Evidence → Taps → Inputs → List ℕ → End → Type 0
+MakesLowTo evidence taps inputs out end =
+    (answer : LowAnswer)
+    × MakesLow evidence (low_style taps) inputs answer
+    × IsLowEnd (low_style taps) inputs out answer end

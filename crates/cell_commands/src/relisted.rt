@@ -1,0 +1,38 @@
+ghost use Rattle.std.specs.Prelude.{◌≡◌, IfOk};
+ghost use Rattle.row_model.specs.Arrangement.{IsArrangement};
+ghost use Rattle.cell_commands.specs.Relisted.{ListsInstead, listing};
+
+use crate::certificate::Certificate;
+use bound_log::Best;
+use cell_inputs::Inputs;
+use cell_num::NoMemory;
+use row_list::{list_best, trails_listing};
+use row_model::Arrangement;
+use row_state::kinds;
+use std::alloc::Global;
+
+// The same with this row in place of the one that it lists.
+fn listing(certificate: Certificate, best: Best) -> Certificate
+    ensures { result ≡ listing certificate best }
+{
+    match certificate {
+        Certificate::Log(log) => Certificate::Log(log.listing(best)),
+        Certificate::Trails(trails) => Certificate::Trails(trails_listing(trails, best)),
+    }
+}
+
+/// The same certificate, with this row of the inputs' fingers in place of the one that it lists.
+pub(crate) fn relisted(
+    alloc: Global,
+    inputs: &Inputs,
+    row: &Arrangement,
+    certificate: Certificate,
+) -> Result<Certificate, NoMemory>
+    requires arranged { IsArrangement row.now inputs.now.fingers }
+    ensures { IfOk result (ListsInstead inputs.now row.now certificate) }
+{
+    inputs.show_limits();
+    let kinds = kinds(alloc, &inputs.fingers)?;
+    let best = list_best(alloc, &kinds, row)?;
+    Ok(listing(certificate, best))
+}
