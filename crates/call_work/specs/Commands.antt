@@ -8,10 +8,10 @@ use Rattle.call_end.specs.declared.status.Status.{Status}
 use Rattle.call_end.specs.declared.status.Status.TheVariants as status
 use Rattle.call_read.specs.InputFiles.{inputs_from, input_files, tech_files}
 use Rattle.call_read.specs.Reading.{Reading, Ends, bytes_of, ◌>>=◌}
-use Rattle.call_read.specs.Sources.{Source, GdsFile, LefFile}
+use Rattle.call_read.specs.Sources.{Source, GdsFile, LefFile, TrackFile}
 use Rattle.call_read.specs.declared.refusal.Refusal.TheVariants.{Words}
 use Rattle.call_words.specs.declared.evidence.Evidence.{Evidence}
-use Rattle.call_words.specs.Words.{Form, Plan, Make, MakeFrom, Check, Extract, Bench, Row, Agree}
+use Rattle.call_words.specs.Words.{Form, Plan, Make, MakeFrom, MakeLow, Check, CheckLow, Extract, Bench, Row, Agree}
 use Rattle.bench_command.specs.Report.{BenchesTo}
 use Rattle.call_work.specs.Evidence.{IsReadAs, evidence_file}
 use Rattle.call_work.specs.declared.commands.Material.{Material as Kept}
@@ -19,12 +19,17 @@ use Rattle.call_work.specs.declared.commands.Material.TheVariants as kept
 use Rattle.call_work.specs.declared.commands.ReadMaterial.{ReadMaterial as Own}
 use Rattle.call_work.specs.declared.commands.ReadMaterial.TheVariants as read
 use Rattle.call_work.specs.declared.material.EvidenceFile.{EvidenceFile}
+use Rattle.call_work.specs.declared.material.LowCheckMaterial.{LowCheckMaterial}
+use Rattle.call_work.specs.declared.material.LowMaterial.{LowMaterial}
 use Rattle.call_work.specs.declared.material.MakeMaterial.{MakeMaterial}
 use Rattle.call_work.specs.declared.material.PlanMaterial.{PlanMaterial}
 use Rattle.call_work.specs.declared.material.RowMaterial.{RowMaterial}
 use Rattle.cell_inputs.specs.declared.style.Style.{Style}
+use Rattle.cell_inputs.specs.declared.style.Taps.{Taps}
 use Rattle.cell_inputs.specs.Inputs.{Inputs}
 use Rattle.cell_commands.specs.Given.{ChecksBy, MakesFromTo}
+use Rattle.cell_commands.specs.Low.{MakesLowTo}
+use Rattle.cell_commands.specs.LowCheck.{LowChecksTo}
 use Rattle.cell_commands.specs.Make.{MakesTo}
 use Rattle.cell_commands.specs.Plan.{PlansTo}
 use Rattle.layout_commands.specs.Extract.{ExtractsTo, extracting}
@@ -32,13 +37,15 @@ use Rattle.layout_commands.specs.declared.gds_cell.GdsCell.{GdsCell}
 use Rattle.cell_make.specs.RowInputs.{RowInputs}
 use Rattle.layout_commands.specs.Row.{RowsTo, rowing}
 
--- ---- kinds: what a call works on and which statuses it ends with are told by its kind
+-- ---- kinds: what a call works on, and which statuses it may end with, follow from its kind
 
 pub data Kind : Type 0 where
   Planning : Kind
   Making : Kind
   MakingFrom : Kind
+  MakingLow : Kind
   Checking : Kind
+  CheckingLow : Kind
   Extracting : Kind
   Benching : Kind
   Rowing : Kind
@@ -48,7 +55,9 @@ abbrev pub kind_of : Form → Kind
 kind_of (Plan cell evidence) = Planning
 kind_of (Make cell out style evidence) = Making
 kind_of (MakeFrom cell out style file evidence) = MakingFrom
+kind_of (MakeLow cell out taps evidence) = MakingLow
 kind_of (Check cell file evidence) = Checking
+kind_of (CheckLow cell file) = CheckingLow
 kind_of (Extract tech gds cell rules) = Extracting
 kind_of (Bench number) = Benching
 kind_of (Row row out) = Rowing
@@ -71,13 +80,15 @@ pub record FromMaterial : Type 0 where
   pub style : Style
 
 -- What a call works on: of a plan or a drawing its inputs and the evidence, of a check or of the drawing of a file's
--- row the bytes besides; a cell of a GDSII file, and the deck that it is checked by; a number of generated cells;
--- what a row of cells is made of; a cell and its macro.
+-- row the bytes besides, of a check of tracks its inputs and the bytes; a cell of a GDSII file, and the deck that it
+-- is checked by; a number of generated cells; what a row of cells is made of; a cell and its macro.
 abbrev pub MaterialOf : Kind → Type 0
 MaterialOf Planning = PlanMaterial
 MaterialOf Making = MakeMaterial
 MaterialOf MakingFrom = FromMaterial
+MaterialOf MakingLow = LowMaterial
 MaterialOf Checking = CheckMaterial
+MaterialOf CheckingLow = LowCheckMaterial
 MaterialOf Extracting = GdsCell
 MaterialOf Benching = ℕ
 MaterialOf Rowing = RowMaterial
@@ -97,16 +108,26 @@ abbrev pub making_from : Evidence → List ℕ → Style → Inputs → List ℕ
 making_from evidence out style inputs bytes =
     (MakingFrom, record { inputs = inputs; evidence = evidence; bytes = bytes; stem = out; style = style })
 
+abbrev pub making_low : Evidence → List ℕ → Taps → Inputs → Material
+making_low evidence out taps inputs =
+    (MakingLow, record { inputs = inputs; stem = out; taps = taps; evidence = evidence })
+
 abbrev pub checking : Evidence → Inputs → List ℕ → Material
 checking evidence inputs bytes = (Checking, record { inputs = inputs; evidence = evidence; bytes = bytes })
+
+abbrev pub checking_low : Inputs → List ℕ → Material
+checking_low inputs bytes = (CheckingLow, record { inputs = inputs; bytes = bytes })
 
 abbrev pub rowing_of : List ℕ → RowInputs → Material
 rowing_of out inputs = (Rowing, record { inputs = inputs; stem = out })
 
--- the evidence is read after the inputs
+-- the evidence, or the certificate of the tracks, is read after the inputs
 abbrev pub checking_over : Evidence → List ℕ → Inputs → Reading Material
 checking_over evidence file inputs =
     bytes_of (evidence_file evidence file) >>= λ bytes. Ends (Ok (checking evidence inputs bytes))
+
+abbrev pub checking_low_over : List ℕ → Inputs → Reading Material
+checking_low_over file inputs = bytes_of (TrackFile file) >>= λ bytes. Ends (Ok (checking_low inputs bytes))
 
 abbrev pub making_over : Evidence → List ℕ → Style → List ℕ → Inputs → Reading Material
 making_over evidence out style file inputs =
@@ -119,7 +140,10 @@ gathered (Some (Make asked out style evidence)) =
     inputs_from asked >>= λ inputs. Ends (Ok (making evidence out style inputs))
 gathered (Some (MakeFrom asked out style file evidence)) =
     inputs_from asked >>= making_over evidence out style file
+gathered (Some (MakeLow asked out taps evidence)) =
+    inputs_from asked >>= λ inputs. Ends (Ok (making_low evidence out taps inputs))
 gathered (Some (Check asked file evidence)) = inputs_from asked >>= checking_over evidence file
+gathered (Some (CheckLow asked file)) = inputs_from asked >>= checking_low_over file
 gathered (Some (Extract tech gds cell rules)) =
     extracting tech gds cell rules >>= λ drawn. Ends (Ok (Extracting, drawn))
 gathered (Some (Bench number)) = Ends (Ok (Benching, number))
@@ -133,8 +157,10 @@ read_by (Some (Plan asked evidence)) = input_files asked.tech asked.spice
 read_by (Some (Make asked out style evidence)) = input_files asked.tech asked.spice
 read_by (Some (MakeFrom asked out style file evidence)) =
     input_files asked.tech asked.spice ++ evidence_file evidence file ∷ []
+read_by (Some (MakeLow asked out taps evidence)) = input_files asked.tech asked.spice
 read_by (Some (Check asked file evidence)) =
     input_files asked.tech asked.spice ++ evidence_file evidence file ∷ []
+read_by (Some (CheckLow asked file)) = input_files asked.tech asked.spice ++ TrackFile file ∷ []
 read_by (Some (Extract tech gds cell rules)) = tech_files tech ++ GdsFile gds ∷ []
 read_by (Some (Bench number)) = []
 read_by (Some (Row row out)) = input_files row.tech row.spice
@@ -150,11 +176,13 @@ IsKept m (kept.Read (read.MakingFrom x)) =
     × (bytes : List ℕ)
     × (m ≡ making_from evidence x.stem x.style x.inputs bytes)
     × IsReadAs evidence x.inputs bytes x.file
-IsKept m (kept.Read (read.Checking inputs file)) =
+IsKept m (kept.Read (read.MakingLow x)) = m ≡ (MakingLow, x)
+IsKept m (kept.Read (read.Checking x)) =
     (evidence : Evidence)
     × (bytes : List ℕ)
-    × (m ≡ checking evidence inputs bytes)
-    × IsReadAs evidence inputs bytes file
+    × (m ≡ checking evidence x.inputs bytes)
+    × IsReadAs evidence x.inputs bytes x.file
+IsKept m (kept.Read (read.CheckingLow x)) = m ≡ (CheckingLow, x)
 IsKept m (kept.Read (read.Extracting cell)) = m ≡ (Extracting, cell)
 IsKept m (kept.Read (read.Rowing x)) = m ≡ (Rowing, x)
 IsKept m (kept.Read (read.Agreeing both)) = m ≡ (Agreeing, both)
@@ -165,7 +193,9 @@ abbrev pub WorksTo : (kind : Kind) → MaterialOf kind → End → Type 0
 WorksTo Planning m end = PlansTo m.evidence m.inputs end
 WorksTo Making m end = MakesTo m.evidence m.style m.inputs m.stem end
 WorksTo MakingFrom m end = MakesFromTo m.evidence m.style m.inputs m.bytes m.stem end
+WorksTo MakingLow m end = MakesLowTo m.evidence m.taps m.inputs m.stem end
 WorksTo Checking m end = ChecksBy m.evidence m.inputs m.bytes end
+WorksTo CheckingLow m end = LowChecksTo m.inputs m.bytes end
 WorksTo Extracting cell end = ExtractsTo cell end
 WorksTo Benching number end = BenchesTo number end
 WorksTo Rowing m end = RowsTo m.inputs m.stem end
@@ -188,19 +218,23 @@ abbrev pub WorksOn : Own → End → Type 0
 WorksOn (read.Planning m) end = PlansTo m.evidence m.inputs end
 WorksOn (read.Making m) end = MakesTo m.evidence m.style m.inputs m.stem end
 WorksOn (read.MakingFrom m) end = MakesFromOn m.style m.inputs m.file m.stem end
-WorksOn (read.Checking inputs file) end = ChecksOn inputs file end
+WorksOn (read.MakingLow m) end = MakesLowTo m.evidence m.taps m.inputs m.stem end
+WorksOn (read.Checking m) end = ChecksOn m.inputs m.file end
+WorksOn (read.CheckingLow m) end = LowChecksTo m.inputs m.bytes end
 WorksOn (read.Extracting cell) end = ExtractsTo cell end
 WorksOn (read.Rowing m) end = RowsTo m.inputs m.stem end
 WorksOn (read.Agreeing both) end = AgreesTo both end
 
 -- the statuses that the words or the files call for: a search alone is unfinished, a making alone, of one cell or of a
--- row, meets a cycle or is too tall, a file of evidence or a layout alone is rejected, a GDSII file alone holds no
+-- row, meets a cycle or is too tall, a checked file or a layout alone is rejected, a GDSII file alone holds no
 -- netlist, cells of a row alone do not stand side by side, and an abstract alone does not agree
 abbrev pub settled_by : Kind → List Status
 settled_by Planning = status.Done ∷ status.Input ∷ status.Unfinished ∷ []
 settled_by Making = status.Done ∷ status.Input ∷ status.Cycle ∷ status.Unfinished ∷ status.TooTall ∷ []
 settled_by MakingFrom = status.Done ∷ status.Input ∷ status.Cycle ∷ status.Rejected ∷ status.TooTall ∷ []
+settled_by MakingLow = status.Done ∷ status.Input ∷ status.Cycle ∷ status.Unfinished ∷ status.TooTall ∷ []
 settled_by Checking = status.Done ∷ status.Input ∷ status.Rejected ∷ []
+settled_by CheckingLow = status.Done ∷ status.Input ∷ status.Rejected ∷ []
 settled_by Extracting = status.Done ∷ status.Input ∷ status.Rejected ∷ status.Layout ∷ []
 settled_by Benching = status.Done ∷ []
 settled_by Rowing =

@@ -2,13 +2,16 @@
 use Rattle.std.specs.Prelude.{ℕ, ◌≡◌, List, Result, Ok, Err}
 use Rattle.cell_io.specs.Desk.{View}
 use Rattle.call_end.specs.declared.end.End.{End}
+use Rattle.call_read.specs.InputFiles.{inputs_from}
 use Rattle.call_read.specs.Read.{IsRead}
-use Rattle.call_read.specs.Reading.{Reading, MayCome}
-use Rattle.call_read.specs.Sources.{LogFile}
+use Rattle.call_read.specs.Reading.{Reading, Ends, MayCome, bytes_of, ◌>>=◌}
+use Rattle.call_read.specs.Sources.{Source, LogFile}
 use Rattle.call_read.specs.declared.refusal.Refusal.{Refusal}
+use Rattle.call_words.specs.Asked.{CellAsked}
 use Rattle.call_words.specs.declared.evidence.Evidence.{Evidence}
 use Rattle.call_work.specs.Commands.{IsKept, Material, WorksTo}
 use Rattle.call_work.specs.Evidence.{IsReadAs, evidence_file}
+use Rattle.call_work.specs.declared.material.CheckMaterial.{CheckMaterial as Checked}
 use Rattle.call_work.specs.declared.material.EvidenceFile.{EvidenceFile}
 use Rattle.call_work.specs.declared.commands.Material.{Material as Kept}
 use Rattle.cell_inputs.specs.Inputs.{Inputs}
@@ -38,3 +41,23 @@ HoldsFile old new evidence file inputs kept =
 abbrev pub HoldsLog : View → View → List ℕ → Inputs → CheckedLog → Type 0
 HoldsLog old new file inputs log =
     (bytes : List ℕ) × IsRead old new (LogFile file) (Ok bytes) × AreBehindAll inputs bytes log.reader log.checker
+
+-- ---- the inputs of a cell, and then a file
+
+-- for a material of both
+abbrev pub both_from : CellAsked → Source → (Inputs → List ℕ → Material) → Reading Material
+both_from asked source material =
+    inputs_from asked >>= λ inputs. bytes_of source >>= λ bytes. Ends (Ok (material inputs bytes))
+
+-- Both were read, the file as evidence: what is kept as each material of them, is kept so by the reading for this
+-- material. Or reading both is refused, for whatever material.
+abbrev pub ReadsBoth : View → View → CellAsked → Evidence → List ℕ → Result Checked Refusal → Type 0
+ReadsBoth old new asked evidence file (Ok read) =
+    (material : Inputs → List ℕ → Material) (kept : Kept)
+    → ((bytes : List ℕ)
+    → IsReadAs evidence read.inputs bytes read.file
+    → IsKept (material read.inputs bytes) kept)
+    → MayKeep old new (both_from asked (evidence_file evidence file) material) (Ok kept)
+ReadsBoth old new asked evidence file (Err e) =
+    (material : Inputs → List ℕ → Material)
+    → MayKeep old new (both_from asked (evidence_file evidence file) material) (Err e)

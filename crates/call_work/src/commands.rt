@@ -12,14 +12,16 @@ mod layout;
 mod rows;
 
 use crate::evidence::{check_by, make_from};
-use crate::material::{EvidenceFile, FromMaterial, MakeMaterial, PlanMaterial, RowMaterial};
+use crate::material::{
+    CheckMaterial, FromMaterial, LowCheckMaterial, LowMaterial, MakeMaterial, PlanMaterial,
+    RowMaterial,
+};
 use abstracts::for_agree;
 use call_end::End;
 use call_read::Refusal;
 use call_words::{CellCount, Form};
-use cell::{for_check, for_make, for_make_from, for_plan};
-use cell_commands::{make, plan};
-use cell_inputs::Inputs;
+use cell::{for_check, for_check_low, for_make, for_make_from, for_make_low, for_plan};
+use cell_commands::{check_low, make, make_low, plan};
 use cell_io::Desk;
 use cell_num::NoMemory;
 use layout::for_extract;
@@ -41,8 +43,9 @@ pub enum ReadMaterial {
     Planning(PlanMaterial),
     Making(MakeMaterial),
     MakingFrom(FromMaterial),
-    /// The inputs, and the evidence that was read for them.
-    Checking(Inputs, EvidenceFile),
+    MakingLow(LowMaterial),
+    Checking(CheckMaterial),
+    CheckingLow(LowCheckMaterial),
     Extracting(GdsCell),
     Rowing(RowMaterial),
     Agreeing(Compared),
@@ -68,11 +71,18 @@ fn gather_form<D: Desk>(alloc: Global, desk: &mut D, form: Form<'_>) -> Result<M
             file,
             evidence,
         } => for_make_from(alloc, desk, &cell, out, style, file, evidence),
+        Form::MakeLow {
+            cell,
+            out,
+            taps,
+            evidence,
+        } => for_make_low(alloc, desk, &cell, out, taps, evidence),
         Form::Check {
             cell,
             file,
             evidence,
         } => for_check(alloc, desk, &cell, file, evidence),
+        Form::CheckLow { cell, file } => for_check_low(alloc, desk, &cell, file),
         Form::Extract {
             tech,
             gds,
@@ -113,7 +123,9 @@ fn work_on(alloc: Global, material: &ReadMaterial) -> Result<End, NoMemory>
         ReadMaterial::Planning(of) => plan(alloc, &of.inputs, of.evidence),
         ReadMaterial::Making(of) => make(alloc, &of.inputs, &of.stem, of.style, of.evidence),
         ReadMaterial::MakingFrom(of) => make_from(alloc, of),
-        ReadMaterial::Checking(inputs, file) => check_by(alloc, inputs, file),
+        ReadMaterial::MakingLow(of) => make_low(alloc, &of.inputs, &of.stem, of.taps, of.evidence),
+        ReadMaterial::Checking(of) => check_by(alloc, &of.inputs, &of.file),
+        ReadMaterial::CheckingLow(of) => check_low(alloc, &of.inputs, of.bytes.as_slice()),
         ReadMaterial::Extracting(cell) => extract(alloc, cell),
         ReadMaterial::Rowing(of) => row(alloc, &of.inputs, &of.stem),
         ReadMaterial::Agreeing(both) => agree(alloc, both),

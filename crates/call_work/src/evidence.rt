@@ -4,12 +4,12 @@ ghost use Rattle.call_read.specs.Read.{IsRead, KeepsReads};
 ghost use Rattle.call_read.specs.Sources.{LogFile};
 ghost use Rattle.call_work.specs.Commands.{ChecksOn, MakesFromOn};
 ghost use Rattle.call_work.specs.Evidence.{evidence_file};
-ghost use Rattle.call_work.specs.Kept.{HoldsFile, HoldsLog};
+ghost use Rattle.call_work.specs.Kept.{HoldsFile, HoldsLog, ReadsBoth};
 
-use crate::material::{EvidenceFile, FromMaterial};
+use crate::material::{CheckMaterial, EvidenceFile, FromMaterial};
 use call_end::End;
-use call_read::{Refusal, Source, read_file, read_to};
-use call_words::Evidence;
+use call_read::{Refusal, Source, read_file, read_inputs, read_to};
+use call_words::{CellAsked, Evidence};
 use cell_commands::{CheckedLog, check, check_by_trails, make_from_log, make_from_trails};
 use cell_inputs::Inputs;
 use cell_io::Desk;
@@ -33,8 +33,8 @@ fn read_log<D: Desk>(
     Ok(log)
 }
 
-/// Reads the file of evidence after the inputs.
-pub(crate) fn read_evidence<D: Desk>(
+// The file of evidence for the inputs.
+fn read_evidence<D: Desk>(
     alloc: Global,
     desk: &mut D,
     inputs: &Inputs,
@@ -57,6 +57,23 @@ pub(crate) fn read_evidence<D: Desk>(
             Err(refusal) => Err(refusal),
         },
     }
+}
+
+/// Reads the inputs of a cell, and then a file of evidence for them.
+pub(crate) fn read_with_evidence<D: Desk>(
+    alloc: Global,
+    desk: &mut D,
+    asked: &CellAsked<'_>,
+    file: &str,
+    evidence: Evidence,
+) -> Result<CheckMaterial, Refusal>
+    ensures comes { ReadsBoth (D.view desk.old) (D.view desk.new) asked.now evidence file.now result }
+    ensures quiet { KeepsReads result (D.view desk.old) (D.view desk.new) }
+    ensures only { OnlyReads (D.view desk.old) (D.view desk.new) }
+{
+    let inputs = read_inputs(alloc, desk, asked)?;
+    let file = read_evidence(alloc, desk, &inputs, file, evidence)?;
+    Ok(CheckMaterial { inputs, file })
 }
 
 pub(crate) fn check_by(alloc: Global, inputs: &Inputs, file: &EvidenceFile) -> Result<End, NoMemory>

@@ -7,5 +7,8 @@ mod material;
 mod refusal;
 
 pub use commands::{Material, ReadMaterial, gather, work};
-pub use material::{EvidenceFile, FromMaterial, MakeMaterial, PlanMaterial, RowMaterial};
+pub use material::{
+    CheckMaterial, EvidenceFile, FromMaterial, LowCheckMaterial, LowMaterial, MakeMaterial,
+    PlanMaterial, RowMaterial,
+};
 pub use refusal::refused;

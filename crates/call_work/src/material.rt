@@ -3,7 +3,7 @@ use call_end::Stem;
 use call_read::FileBytes;
 use call_words::Evidence;
 use cell_commands::CheckedLog;
-use cell_inputs::{Inputs, Style};
+use cell_inputs::{Inputs, Style, Taps};
 use cell_make::RowInputs;
 
 /// What a plan works on: the inputs of a cell, and the evidence that its row is found with.
@@ -30,6 +30,13 @@ pub enum EvidenceFile {
     Trails(FileBytes),
 }
 
+/// What a check works on: the inputs of a cell, and the evidence that was read for them.
+#[derive(Drop)]
+pub struct CheckMaterial {
+    pub inputs: Inputs,
+    pub file: EvidenceFile,
+}
+
 /// What the drawing of a file's row works on: the inputs of a cell, the evidence that was read for them, what the names
 /// of the drawing's files begin with, and the style.
 #[derive(Drop)]
@@ -38,6 +45,23 @@ pub struct FromMaterial {
     pub file: EvidenceFile,
     pub stem: Stem,
     pub style: Style,
+}
+
+/// What the drawing of the lowest row works on: the inputs of a cell, what the names of its files begin with, whether it
+/// has taps, and the evidence that its gaps are found with.
+#[derive(Drop)]
+pub struct LowMaterial {
+    pub inputs: Inputs,
+    pub stem: Stem,
+    pub taps: Taps,
+    pub evidence: Evidence,
+}
+
+/// What a check of tracks works on: the inputs of a cell, and the bytes of the certificate's file.
+#[derive(Drop)]
+pub struct LowCheckMaterial {
+    pub inputs: Inputs,
+    pub bytes: FileBytes,
 }
 
 /// What a row works on: what its cells are made of, and what the name of its file begins with.

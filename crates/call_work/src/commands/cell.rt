@@ -2,17 +2,19 @@
 ghost use Rattle.std.specs.Prelude.{Some};
 ghost use Rattle.cell_io.specs.Desk.{OnlyReads};
 ghost use Rattle.call_read.specs.Read.{KeepsReads};
-ghost use Rattle.call_words.specs.Words.{Plan, Make, MakeFrom, Check};
+ghost use Rattle.call_words.specs.Words.{Plan, Make, MakeFrom, MakeLow, Check, CheckLow};
 ghost use Rattle.call_work.specs.Commands.{gathered};
 ghost use Rattle.call_work.specs.Kept.{MayKeep};
 
 use crate::commands::{Material, ReadMaterial};
-use crate::evidence::read_evidence;
-use crate::material::{FromMaterial, MakeMaterial, PlanMaterial};
+use crate::evidence::read_with_evidence;
+use crate::material::{
+    CheckMaterial, FromMaterial, LowCheckMaterial, LowMaterial, MakeMaterial, PlanMaterial,
+};
 use call_end::Stem;
-use call_read::{Refusal, read_inputs};
+use call_read::{Refusal, Source, read_file, read_inputs};
 use call_words::{CellAsked, Evidence};
-use cell_inputs::Style;
+use cell_inputs::{Style, Taps};
 use cell_io::Desk;
 use std::alloc::Global;
 
@@ -69,13 +71,36 @@ pub(crate) fn for_make_from<D: Desk>(
     ensures only { OnlyReads (D.view desk.old) (D.view desk.new) }
 {
     let stem = Stem::new(alloc, out)?;
-    let inputs = read_inputs(alloc, desk, asked)?;
-    let file = read_evidence(alloc, desk, &inputs, file, evidence)?;
+    let read = read_with_evidence(alloc, desk, asked, file, evidence)?;
+    let CheckMaterial { inputs, file } = read;
     Ok(Material::Read(ReadMaterial::MakingFrom(FromMaterial {
         inputs,
         file,
         stem,
         style,
+    })))
+}
+
+pub(crate) fn for_make_low<D: Desk>(
+    alloc: Global,
+    desk: &mut D,
+    asked: &CellAsked<'_>,
+    out: &str,
+    taps: Taps,
+    evidence: Evidence,
+) -> Result<Material, Refusal>
+    ensures comes { MayKeep (D.view desk.old) (D.view desk.new)
+        (gathered (Some (MakeLow asked.now out.now taps evidence))) result }
+    ensures quiet { KeepsReads result (D.view desk.old) (D.view desk.new) }
+    ensures only { OnlyReads (D.view desk.old) (D.view desk.new) }
+{
+    let stem = Stem::new(alloc, out)?;
+    let inputs = read_inputs(alloc, desk, asked)?;
+    Ok(Material::Read(ReadMaterial::MakingLow(LowMaterial {
+        inputs,
+        stem,
+        taps,
+        evidence,
     })))
 }
 
@@ -92,7 +117,22 @@ pub(crate) fn for_check<D: Desk>(
     ensures quiet { KeepsReads result (D.view desk.old) (D.view desk.new) }
     ensures only { OnlyReads (D.view desk.old) (D.view desk.new) }
 {
+    let read = read_with_evidence(alloc, desk, asked, file, evidence)?;
+    Ok(Material::Read(ReadMaterial::Checking(read)))
+}
+
+/// The inputs, and then the certificate of the tracks that is checked.
+pub(crate) fn for_check_low<D: Desk>(
+    alloc: Global,
+    desk: &mut D,
+    asked: &CellAsked<'_>,
+    file: &str,
+) -> Result<Material, Refusal>
+    ensures comes { MayKeep (D.view desk.old) (D.view desk.new) (gathered (Some (CheckLow asked.now file.now))) result }
+    ensures quiet { KeepsReads result (D.view desk.old) (D.view desk.new) }
+    ensures only { OnlyReads (D.view desk.old) (D.view desk.new) }
+{
     let inputs = read_inputs(alloc, desk, asked)?;
-    let file = read_evidence(alloc, desk, &inputs, file, evidence)?;
-    Ok(Material::Read(ReadMaterial::Checking(inputs, file)))
+    let bytes = read_file(alloc, desk, Source::Tracks(file))?;
+    Ok(Material::Read(ReadMaterial::CheckingLow(LowCheckMaterial { inputs, bytes })))
 }

@@ -1,56 +1,20 @@
-use Rattle.std.proofs.Common.{Ok, Some}
-use Rattle.call_read.specs.InputFiles.{inputs_from}
-use Rattle.call_read.proofs.Desks.{only_refl}
+use Rattle.std.proofs.Common.{Some}
 use Rattle.call_words.specs.Words.{MakeFrom}
-use Rattle.call_work.specs.Commands.{gathered, making_from, making_over}
-use Rattle.call_work.proofs.Keeping.{keeps_behind, keeps_file, keeps_refusal, keeps_short, keeps_unread, kept_making}
-use Rattle.call_work.proofs.Quiet.{quiet_behind}
+use Rattle.call_work.specs.Commands.{gathered, making_from}
+use Rattle.call_work.proofs.Keeping.{keeps_handed, keeps_short, kept_making}
 use Rattle.call_work.proofs.commands.cell.for_make_from.Goals as goal
 
 pub returns-in_err-stem-clause-comes : goal.returns-in_err-stem-clause-comes
 returns-in_err-stem-clause-comes g c =
     keeps_short (g.D.Desk.view c.args.desk.now) (g.D.Desk.view c.args.desk.now) (gathered (Some (MakeFrom c.args.asked.now c.args.out.now c.args.style c.args.file.now c.args.evidence))) c.from_residual.result c.from_residual.ensures
 
-pub returns-in_err-inputs-clause-comes : goal.returns-in_err-inputs-clause-comes
-returns-in_err-inputs-clause-comes g c =
-    keeps_refusal (g.D.Desk.view c.args.desk.now) (g.D.Desk.view c.read_inputs.new.desk) (g.D.Desk.view c.read_inputs.new.desk)
-    (inputs_from c.args.asked.now) (making_over c.args.evidence c.args.out.now c.args.style c.args.file.now) c.read_inputs.result c.in_err-inputs.field-0.0 c.from_residual-in_err-inputs.result
-    (only_refl (g.D.Desk.view c.read_inputs.new.desk))
-    c.read_inputs.ensures.comes
-    c.in_err-inputs.was
-    c.from_residual-in_err-inputs.ensures
+pub returns-in_err-read-clause-comes : goal.returns-in_err-read-clause-comes
+returns-in_err-read-clause-comes g c =
+    keeps_handed (g.D.Desk.view c.args.desk.now) (g.D.Desk.view c.read_with_evidence.new.desk) (gathered (Some (MakeFrom c.args.asked.now c.args.out.now c.args.style c.args.file.now c.args.evidence))) c.in_err-read.field-0.0 c.from_residual-in_err-read.result
+    c.from_residual-in_err-read.ensures
+    (c.in_err-read.ensures.comes (making_from c.args.evidence c.args.out.now c.args.style))
 
 pub returns-clause-comes : goal.returns-clause-comes
 returns-clause-comes g c =
-    keeps_behind (g.D.Desk.view c.args.desk.now) (g.D.Desk.view c.read_inputs.new.desk) (g.D.Desk.view c.read_evidence.new.desk)
-    (inputs_from c.args.asked.now) (making_over c.args.evidence c.args.out.now c.args.style c.args.file.now) c.read_inputs.result c.in_ok-inputs.inputs (Ok _)
-    c.read_inputs.ensures.only
-    c.read_evidence.ensures.only
-    c.read_inputs.ensures.comes
-    c.in_ok-inputs.was
-    (keeps_file (g.D.Desk.view c.read_inputs.new.desk) (g.D.Desk.view c.read_evidence.new.desk) c.args.evidence c.args.file.now (making_from c.args.evidence c.args.out.now c.args.style c.in_ok-inputs.inputs) c.in_ok-inputs.inputs c.in_ok-file.file _
-    c.read_evidence.ensures.only
-    c.in_ok-file.ensures.read
-    (kept_making c.args.evidence c.args.out.now c.in_ok-stem.stem c.args.style c.in_ok-inputs.inputs c.in_ok-file.file c.in_ok-stem.ensures))
-
-pub returns-in_err-file-clause-comes : goal.returns-in_err-file-clause-comes
-returns-in_err-file-clause-comes g c =
-    keeps_behind (g.D.Desk.view c.args.desk.now) (g.D.Desk.view c.read_inputs.new.desk) (g.D.Desk.view c.read_evidence.new.desk)
-    (inputs_from c.args.asked.now) (making_over c.args.evidence c.args.out.now c.args.style c.args.file.now) c.read_inputs.result c.in_ok-inputs.inputs c.from_residual-in_err-file.result
-    c.read_inputs.ensures.only
-    c.read_evidence.ensures.only
-    c.read_inputs.ensures.comes
-    c.in_ok-inputs.was
-    (keeps_unread (g.D.Desk.view c.read_inputs.new.desk) (g.D.Desk.view c.read_evidence.new.desk) c.args.evidence c.args.file.now (making_from c.args.evidence c.args.out.now c.args.style c.in_ok-inputs.inputs) c.in_err-file.field-0.0 c.from_residual-in_err-file.result
-    c.in_err-file.ensures.refused
-    c.from_residual-in_err-file.ensures)
-
-pub returns-in_err-file-clause-quiet : goal.returns-in_err-file-clause-quiet
-returns-in_err-file-clause-quiet g c =
-    quiet_behind (g.D.Desk.view c.args.desk.now) (g.D.Desk.view c.read_inputs.new.desk) (g.D.Desk.view c.read_evidence.new.desk)
-    c.read_inputs.result c.in_ok-inputs.inputs c.read_evidence.result c.in_err-file.field-0.0 c.from_residual-in_err-file.result
-    c.in_ok-inputs.was
-    c.read_inputs.ensures.quiet
-    c.in_err-file.was
-    c.read_evidence.ensures.quiet
-    c.from_residual-in_err-file.ensures
+    c.in_ok-read.ensures.comes (making_from c.args.evidence c.args.out.now c.args.style) _
+    (kept_making c.args.evidence c.args.out.now c.in_ok-stem.stem c.args.style c.in_ok-read.read.inputs c.in_ok-read.read.file c.in_ok-stem.ensures)
