@@ -6,7 +6,7 @@ ghost use Rattle.layout_commands.specs.Agree.{DoesAgree};
 ghost use Rattle.run_laws.specs.Agree.{ComparesMade, HasDisagreement, HasNoNets, IsAgree, IsAgreedCell, IsDisagreed};
 ghost use Rattle.run_laws.specs.Agree.{IsWithoutNets, OfCompared};
 ghost use Rattle.run_laws.specs.Bench.{IsBench, IsBenchTold, WhereBenchEnds};
-ghost use Rattle.run_laws.specs.Calm.{IfCalm, IsDoneOrShort};
+ghost use Rattle.run_laws.specs.Calm.{EndsSo, IfCalm, IsDoneOrShort};
 ghost use Rattle.run_laws.specs.Check.{HoldsAccepted, IsCheck};
 ghost use Rattle.run_laws.specs.Created.{CreatesOnce};
 ghost use Rattle.call_end.specs.Deliver.{Tells, TellsWhole};
@@ -14,11 +14,14 @@ ghost use Rattle.call_work.specs.Ends.{CallsFor, IsOfOutside, MayEnd, is_status_
 ghost use Rattle.layout_commands.specs.Extract.{BreaksRule, HasNetlist};
 ghost use Rattle.run_laws.specs.Extract.{HasNoNetlist, IsBrokenCell, IsExtract, IsExtractedCell, IsRefusedLayout};
 ghost use Rattle.run_laws.specs.Extract.{OfGdsCell, WhereExtractEnds};
-ghost use Rattle.call_work.specs.Commands.{Agreeing, read_by};
+ghost use Rattle.call_work.specs.Commands.{Agreeing, CheckingLow, read_by};
 ghost use Rattle.run_laws.specs.Ended.{WhereEnds};
-ghost use Rattle.run_laws.specs.From.{FromFile, IsRefusedFile, IsUnaccepted, OfListed, WhereFromEnds, file_of};
+ghost use Rattle.run_laws.specs.From.{FromFile, IfFrom, IsCyclicFrom, IsMadeFrom, IsRefusedFile, IsTallFrom};
+ghost use Rattle.run_laws.specs.From.{IsUnaccepted, OfListed};
 ghost use Rattle.run_laws.specs.Headline.{CanBeDrawn, FromInputs, HasCycle, IsCyclicCell, IsMadeCell, IsOrShort};
 ghost use Rattle.run_laws.specs.Headline.{IsTallCell, IsTooHigh, IsUnmade, MakesNone, OfFirstLeast, WhereMakeEnds};
+ghost use Rattle.run_laws.specs.Low.{DrawsLow, HoldsTracks, IfLow, IsCheckLow, IsCyclicLow, IsMadeLow, IsOpenLow};
+ghost use Rattle.run_laws.specs.Low.{IsProvedLow, IsTallLow};
 ghost use Rattle.run_laws.specs.Origin.{Search};
 ghost use Rattle.run_laws.specs.Plan.{CanBePlanned, IsPlannedRow, IsUnplanned, WherePlanEnds};
 ghost use Rattle.run_laws.specs.Row.{CanBeRowed, IsApartOrShort, IsKeptApart, IsMisreadRow, IsRow, IsRowedLibrary};
@@ -35,12 +38,16 @@ use std::alloc::Global;
 
 /// Does what the words ask for, and says the report.
 ///
-/// `plan TECH SPICE CELL` finds the first least row of a cell: TECH is a technology file or `-` for the
-/// plain technology, SPICE a file, and CELL the name of one of its subcircuits. `make TECH SPICE CELL OUT`
-/// draws that row: it makes the log `OUT.clog`, the GDSII library `OUT.gds` and then the abstract `OUT.lef`. With
-/// `--dogleg` after OUT, trunks may change their tracks at node lines of their nets; with `--taps` as the last word
-/// the library has taps of the well and of the substrate, on the rails at the first and at the last line.
+/// `plan TECH SPICE CELL` finds the first least row of a cell: TECH is a technology file or `-` for the plain
+/// technology, SPICE a file, and CELL the name of one of its subcircuits. `make TECH SPICE CELL OUT` draws that row: it
+/// makes the log `OUT.clog`, the GDSII library `OUT.gds` and then the abstract `OUT.lef`. With `--dogleg` after OUT,
+/// trunks may change their tracks at node lines of their nets; with `--taps` as the last word the library has taps of
+/// the well and of the substrate, on the rails at the first and at the last line.
+/// With `--low` after OUT or `--taps`, `make` draws the first least row on the fewest tracks, with the first of its
+/// routings on these, and makes the certificate of the tracks, `OUT.ctrack`, after the log. Where the budget is spent
+/// before that row is found, it draws the first least row.
 /// `check TECH SPICE CELL LOG` reports whether the file LOG is the text of a log that certifies a row of that cell.
+/// With `--low` after the file's name it reports the gaps and the tracks of a certificate of tracks.
 /// `extract TECH GDS CELL` reports the netlist of a cell of the GDSII file GDS, or the rules that it breaks. With
 /// `--taps` after CELL the rules are those of cells with taps, and the net of each device's body is reported.
 /// `bench NUMBER` makes that many generated cells in memory, 1 to 200, and reports what came out.
@@ -57,40 +64,32 @@ use std::alloc::Global;
 pub fn run<D: Desk>(alloc: Global, words: &[String], desk: &mut D) -> Status
     // The call resulted in such an end, and it was reported: whole, or up to where writing failed or the desk found no
     // memory. Where memory ran out before, the end is to say nothing.
-    ensures ends { (end : EndOf)
-        × MayEnd (D.view desk.old) (D.view desk.new) (asked words.now) end
+    ensures ends { (end : EndOf) × MayEnd (D.view desk.old) (D.view desk.new) (asked words.now) end
         × Tells end result (D.view desk.old) (D.view desk.new) }
 
     // Over files that are told, an end that they call for is reported whole, except ReadFault, WriteFault and
     // NoMemory.
     ensures called_for { IfSome (D.view desk.old).given (λ files. IsOfOutside result ⊎ ((end : EndOf)
-        × CallsFor files (asked words.now) end
-        × TellsWhole end result (D.view desk.old) (D.view desk.new))) }
+        × CallsFor files (asked words.now) end × TellsWhole end result (D.view desk.old) (D.view desk.new))) }
 
     // Over such files, where neither reading nor writing failed, the status is of an end that they call for,
     // or memory ran out.
     ensures completes { IfCalm (D.view desk.old) (D.view desk.new) (λ files.
-        ((end : EndOf) × CallsFor files (asked words.now) end × (result ≡ end.status))
-        ⊎ (result ≡ status.NoMemory)) }
+        ((end : EndOf) × CallsFor files (asked words.now) end × (result ≡ end.status)) ⊎ (result ≡ status.NoMemory)) }
 
     // Each fault of the outside has its cause.
     ensures usage { result ≡ status.Usage → IsNone (asked words.now) }
-    ensures read { result ≡ status.ReadFault
-        → Rose (D.view desk.old).read_faults (D.view desk.new).read_faults
+    ensures read { result ≡ status.ReadFault → Rose (D.view desk.old).read_faults (D.view desk.new).read_faults
         ⊎ Lacks (D.view desk.old).given (read_by (asked words.now)) }
-    ensures write { result ≡ status.WriteFault
-        → Rose (D.view desk.old).write_faults (D.view desk.new).write_faults }
-    ensures memory { result ≡ status.NoMemory
-        → Rose (D.view desk.old).shorts (D.view desk.new).shorts
+    ensures write { result ≡ status.WriteFault → Rose (D.view desk.old).write_faults (D.view desk.new).write_faults }
+    ensures memory { result ≡ status.NoMemory → Rose (D.view desk.old).shorts (D.view desk.new).shorts
         ⊎ ((D.view desk.new).said ≡ (D.view desk.old).said) }
     ensures other { IsTrue (is_status_of (asked words.now) result) }
 
     // A failing call of the desk ends the call: a count is as before wherever the status tells of no such failure.
     // After a failed read, telling of it may fail in turn, or find no memory.
-    ensures same_reads { (IsOfOutside result → ⊥)
-        → (D.view desk.new).read_faults ≡ (D.view desk.old).read_faults }
-    ensures same_writes { result ≢ status.WriteFault
-        → (D.view desk.new).write_faults ≡ (D.view desk.old).write_faults }
+    ensures same_reads { (IsOfOutside result → ⊥) → (D.view desk.new).read_faults ≡ (D.view desk.old).read_faults }
+    ensures same_writes { result ≢ status.WriteFault → (D.view desk.new).write_faults ≡ (D.view desk.old).write_faults }
     ensures same_shorts { result ≢ status.NoMemory → (D.view desk.new).shorts ≡ (D.view desk.old).shorts }
 
     ensures given { (D.view desk.new).given ≡ (D.view desk.old).given }
@@ -102,11 +101,9 @@ pub fn run<D: Desk>(alloc: Global, words: &[String], desk: &mut D) -> Status
     // NoMemory, with `--from` none where it ends so without a drawing, and `row` none except where it is Done, or
     // ends with WriteFault or NoMemory.
     ensures made { (MayMakeFiles (asked words.now) → ⊥) → (D.view desk.new).made ≡ (D.view desk.old).made }
-    ensures alone { IsRow (asked words.now)
-        → MayLeaveFile result ⊎ ((D.view desk.new).made ≡ (D.view desk.old).made) }
+    ensures alone { IsRow (asked words.now) → MayLeaveFile result ⊎ ((D.view desk.new).made ≡ (D.view desk.old).made) }
     ensures none { MakesNone result → (D.view desk.new).made ≡ (D.view desk.old).made }
-    ensures unmade { result ≡ status.NoMemory
-        → Rose (D.view desk.old).shorts (D.view desk.new).shorts
+    ensures unmade { result ≡ status.NoMemory → Rose (D.view desk.old).shorts (D.view desk.new).shorts
         ⊎ ((D.view desk.new).made ≡ (D.view desk.old).made) }
     // No file is created twice, whatever the end is. (That they are those of the end, in order, is said by `ends`.)
     ensures once { Both CreatesOnce (D.view desk.old).created (D.view desk.new).created }
@@ -114,18 +111,14 @@ pub fn run<D: Desk>(alloc: Global, words: &[String], desk: &mut D) -> Status
     // What `make` leaves: the drawing of the first least row, with its evidence; or a cycle of that row; or the
     // height that it needs; or the evidence of what a search proves that spent its budget, or a gate with too many ways
     // to pair its fingers.
-    ensures drawn { IfSome (D.view desk.old).given (λ files. WhereMakeEnds files (asked words.now) result
-        status.Done (λ evidence style inputs out.
-        IsMadeCell (Search evidence) style inputs out (D.view desk.old) (D.view desk.new))) }
-    ensures cyclic { IfSome (D.view desk.old).given (λ files. WhereMakeEnds files (asked words.now) result
-        status.Cycle (λ evidence style inputs out.
-        IsCyclicCell (Search evidence) style inputs out (D.view desk.old) (D.view desk.new))) }
-    ensures tall { IfSome (D.view desk.old).given (λ files. WhereMakeEnds files (asked words.now) result
-        status.TooTall (λ evidence style inputs out.
-        IsTallCell (Search evidence) style inputs out (D.view desk.old) (D.view desk.new))) }
+    ensures drawn { IfSome (D.view desk.old).given (λ files. WhereMakeEnds files (asked words.now) result status.Done
+        (λ e style inputs out. IsMadeCell (Search e) style inputs out (D.view desk.old) (D.view desk.new))) }
+    ensures cyclic { IfSome (D.view desk.old).given (λ files. WhereMakeEnds files (asked words.now) result status.Cycle
+        (λ e style inputs out. IsCyclicCell (Search e) style inputs out (D.view desk.old) (D.view desk.new))) }
+    ensures tall { IfSome (D.view desk.old).given (λ files. WhereMakeEnds files (asked words.now) result status.TooTall
+        (λ e style inputs out. IsTallCell (Search e) style inputs out (D.view desk.old) (D.view desk.new))) }
     ensures spent { IfSome (D.view desk.old).given (λ files. WhereMakeEnds files (asked words.now) result
-        status.Unfinished (λ evidence style inputs out.
-        IsUnmade evidence inputs out (D.view desk.old) (D.view desk.new))) }
+        status.Unfinished (λ e style inputs out. IsUnmade e inputs out (D.view desk.old) (D.view desk.new))) }
 
     // Where the budget is enough, it ends so exactly where the first least row calls for it, or memory ran out.
     ensures draws { IfCalm (D.view desk.old) (D.view desk.new) (λ files.
@@ -138,17 +131,12 @@ pub fn run<D: Desk>(alloc: Global, words: &[String], desk: &mut D) -> Status
     // What `make` with `--from FILE` leaves: the drawing of the row that FILE lists, than which no row has fewer
     // gaps; or a cycle of that row; or the height that it needs; or what a check of FILE reports that does not accept
     // it.
-    ensures drawn_from { IfSome (D.view desk.old).given (λ files. WhereFromEnds files (asked words.now) result
-        status.Done (λ m.
-        IsMadeCell (file_of m) m.style m.inputs m.stem (D.view desk.old) (D.view desk.new))) }
-    ensures cyclic_from { IfSome (D.view desk.old).given (λ files. WhereFromEnds files (asked words.now) result
-        status.Cycle (λ m.
-        IsCyclicCell (file_of m) m.style m.inputs m.stem (D.view desk.old) (D.view desk.new))) }
-    ensures tall_from { IfSome (D.view desk.old).given (λ files. WhereFromEnds files (asked words.now) result
-        status.TooTall (λ m.
-        IsTallCell (file_of m) m.style m.inputs m.stem (D.view desk.old) (D.view desk.new))) }
-    ensures rejected_from { IfSome (D.view desk.old).given (λ files. WhereFromEnds files (asked words.now) result
-        status.Rejected (λ m. IsRefusedFile m (D.view desk.old) (D.view desk.new))) }
+    ensures drawn_from { IfFrom (D.view desk.old) (D.view desk.new) (asked words.now) result status.Done IsMadeFrom }
+    ensures cyclic_from { IfFrom (D.view desk.old) (D.view desk.new) (asked words.now) result status.Cycle
+        IsCyclicFrom }
+    ensures tall_from { IfFrom (D.view desk.old) (D.view desk.new) (asked words.now) result status.TooTall IsTallFrom }
+    ensures rejected_from { IfFrom (D.view desk.old) (D.view desk.new) (asked words.now) result status.Rejected
+        IsRefusedFile }
 
     // It ends so exactly where FILE and the row that it lists call for it, or memory ran out.
     ensures draws_from { IfCalm (D.view desk.old) (D.view desk.new) (λ files.
@@ -160,6 +148,15 @@ pub fn run<D: Desk>(alloc: Global, words: &[String], desk: &mut D) -> Status
     ensures rejects_from { IfCalm (D.view desk.old) (D.view desk.new) (λ files.
         FromFile files (asked words.now) IsUnaccepted → IsOrShort status.Rejected result) }
 
+    // What `make` with `--low` leaves: the drawing of the first least row on the fewest tracks, with both certificates;
+    // or a cycle; or the height that the row needs; or what a search proves that spent its budget. It draws each cell
+    // that `make` draws where the budget is enough, or memory ran out.
+    ensures drawn_low { IfLow (D.view desk.old) (D.view desk.new) (asked words.now) result status.Done IsMadeLow }
+    ensures cyclic_low { IfLow (D.view desk.old) (D.view desk.new) (asked words.now) result status.Cycle IsCyclicLow }
+    ensures tall_low { IfLow (D.view desk.old) (D.view desk.new) (asked words.now) result status.TooTall IsTallLow }
+    ensures spent_low { IfLow (D.view desk.old) (D.view desk.new) (asked words.now) result status.Unfinished IsOpenLow }
+    ensures draws_low { EndsSo (D.view desk.old) (D.view desk.new) (asked words.now) result status.Done DrawsLow }
+
     // What `plan` reports: the first least row, with evidence that is accepted; or what a search proves that spent its
     // budget, or a gate with too many ways to pair its fingers.
     ensures planned { IfSome (D.view desk.old).given (λ files. WherePlanEnds files (asked words.now) result
@@ -168,15 +165,21 @@ pub fn run<D: Desk>(alloc: Global, words: &[String], desk: &mut D) -> Status
         status.Unfinished (λ evidence inputs. IsUnplanned evidence inputs (D.view desk.old) (D.view desk.new))) }
 
     // A plan whose budget is enough is done, or memory ran out.
-    ensures plans { IfCalm (D.view desk.old) (D.view desk.new) (λ files.
-        CanBePlanned files (asked words.now) → IsDoneOrShort result) }
+    ensures plans { EndsSo (D.view desk.old) (D.view desk.new) (asked words.now) result status.Done CanBePlanned }
 
     // A check is done exactly where the file is the text of accepted evidence, except ReadFault, WriteFault and
     // NoMemory; and where neither reading nor writing failed it is done there, or memory ran out.
     ensures checked { IfSome (D.view desk.old).given (λ files. IsCheck (asked words.now)
         → IsOfOutside result ⊎ (result ≡ status.Done ↔ HoldsAccepted files (asked words.now))) }
-    ensures accepts { IfCalm (D.view desk.old) (D.view desk.new) (λ files.
-        HoldsAccepted files (asked words.now) → IsDoneOrShort result) }
+    ensures accepts { EndsSo (D.view desk.old) (D.view desk.new) (asked words.now) result status.Done HoldsAccepted }
+
+    // So is a check with `--low`, where the file is the text of an accepted certificate of tracks. Then each row with
+    // at most its gaps takes its tracks at least.
+    ensures checked_low { IfSome (D.view desk.old).given (λ files. IsCheckLow (asked words.now)
+        → IsOfOutside result ⊎ (result ≡ status.Done ↔ HoldsTracks files (asked words.now))) }
+    ensures proved_low { IfSome (D.view desk.old).given (λ files. WhereEnds CheckingLow files (asked words.now) result
+        status.Done (λ m. IsProvedLow m.inputs m.bytes (D.view desk.old) (D.view desk.new))) }
+    ensures accepts_low { EndsSo (D.view desk.old) (D.view desk.new) (asked words.now) result status.Done HoldsTracks }
 
     // What `extract` reports: the netlist of a cell that obeys all rules; or all rules that it breaks; or why the file
     // has no cell to check, or the cell no netlist.
@@ -192,8 +195,7 @@ pub fn run<D: Desk>(alloc: Global, words: &[String], desk: &mut D) -> Status
         OfGdsCell files (asked words.now) HasNetlist → IsOrShort status.Done result) }
     ensures breaks { IfCalm (D.view desk.old) (D.view desk.new) (λ files.
         OfGdsCell files (asked words.now) BreaksRule → IsOrShort status.Rejected result) }
-    ensures refuses { IfCalm (D.view desk.old) (D.view desk.new) (λ files.
-        HasNoNetlist files (asked words.now) → IsOrShort status.Layout result) }
+    ensures refuses { EndsSo (D.view desk.old) (D.view desk.new) (asked words.now) result status.Layout HasNoNetlist }
 
     // What `agree` reports: that the macro agrees with the drawing of the cell; or that there is none, or how it
     // differs; or that there is no drawing, or no netlist of it.
@@ -209,11 +211,9 @@ pub fn run<D: Desk>(alloc: Global, words: &[String], desk: &mut D) -> Status
         OfCompared files (asked words.now) DoesAgree → IsOrShort status.Done result) }
     ensures disagrees { IfCalm (D.view desk.old) (D.view desk.new) (λ files.
         HasDisagreement files (asked words.now) → IsOrShort status.Disagree result) }
-    ensures unextracts { IfCalm (D.view desk.old) (D.view desk.new) (λ files.
-        HasNoNets files (asked words.now) → IsOrShort status.Layout result) }
+    ensures unextracts { EndsSo (D.view desk.old) (D.view desk.new) (asked words.now) result status.Layout HasNoNets }
     // The files that a `make` left agree.
-    ensures agrees_made { IfCalm (D.view desk.old) (D.view desk.new) (λ files.
-        ComparesMade files (asked words.now) → IsOrShort status.Done result) }
+    ensures agrees_made { EndsSo (D.view desk.old) (D.view desk.new) (asked words.now) result status.Done ComparesMade }
 
     // What `row` leaves: the library of its cells side by side; or why the first cell that is not made has no
     // drawing, or no inputs; or why its cells do not stand side by side.

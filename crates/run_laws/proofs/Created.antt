@@ -1,7 +1,5 @@
 -- No file of an end has the name of another one, so none is created twice.
-use Rattle.std.proofs.Common.{ℕ, zero, suc, ◌≡◌, ◌≢◌, Bool, true, false, List, [], ◌∷◌, ◌++◌, take, codes, map, string_bytes, Option, Some, None, Result, Ok, Err, inl, inr, refl, sym, ap, ◌∙◌, subst}
-use Rattle.std.specs.Prelude.{All}
-use Rattle.std.proofs.lemmas.List.Elements.{All-cons, All-nil, All-take}
+use Rattle.std.proofs.Common.{ℕ, ◌≡◌, Bool, true, false, List, [], ◌∷◌, ◌++◌, take, codes, map, string_bytes, Option, Some, None, Result, Ok, Err, inl, inr, refl, sym, ap, ◌∙◌, subst}
 use Rattle.cell_io.specs.Desk.{View, Both}
 use Rattle.call_end.specs.declared.end.End.{End}
 use Rattle.call_end.specs.declared.end.Output.{Output}
@@ -14,16 +12,23 @@ use Rattle.call_words.specs.declared.evidence.Evidence.{Evidence}
 use Rattle.call_words.specs.declared.evidence.Evidence.TheVariants.{Log, Trails}
 use Rattle.call_work.proofs.EachCommand.{files_by}
 use Rattle.call_work.proofs.EndsOf.{HasNoFiles}
-use Rattle.call_work.specs.Commands.{FromMaterial, Kind, Material, MaterialOf, WorksTo, Planning, Making, MakingFrom, Checking, Extracting, Benching, Rowing, Agreeing}
+use Rattle.call_work.specs.Commands.{FromMaterial, Kind, Material, MaterialOf, WorksTo, Planning, Making, MakingFrom, MakingLow, Checking, CheckingLow, Extracting, Benching, Rowing, Agreeing}
 use Rattle.call_work.proofs.Statuses.{differ}
 use Rattle.call_work.specs.Ends.{EndsTo}
 use Rattle.cell_commands.specs.Given.{given_evidence}
+use Rattle.cell_commands.specs.Low as low
+use Rattle.cell_commands.specs.declared.certificate.Certificate.{Certificate}
 use Rattle.cell_commands.specs.declared.certificate.Certificate.TheVariants as held
 use Rattle.cell_commands.specs.Certificate.{trails_evidence}
 use Rattle.cell_commands.specs.Make.{MakesTo}
 use Rattle.cell_commands.specs.Make as made
 use Rattle.cell_inputs.specs.declared.style.Style.{Style}
+use Rattle.cell_inputs.specs.declared.style.Taps.{Taps}
 use Rattle.cell_inputs.specs.Inputs.{Inputs}
+use Rattle.cell_make.specs.Low.{low_style}
+use Rattle.channel_route.specs.declared.ring.Ring.{Ring}
+use Rattle.spice_net.specs.declared.subckt.Subckt.{Subckt}
+use Rattle.track_log.specs.declared.certificate.TrackCertificate.{TrackCertificate}
 use Rattle.cell_make.specs.Rows.{DrawAnswer, RowDrawn, RowCyclic, RowTall}
 use Rattle.call_end.specs.End.{named}
 use Rattle.cell_commands.specs.RowEnd.{IsRowEnd, RowEvidence, log_evidence}
@@ -32,42 +37,14 @@ use Rattle.cell_make.specs.RowInputs.{RowInputs}
 use Rattle.cell_make.specs.Rowed.{Rowed, Refused, Stopped, Unabutted}
 use Rattle.row_model.specs.declared.column.Column.{Column}
 use Rattle.layout_commands.specs.Row.{RowsTo}
-use Rattle.run_laws.proofs.MadeFiles.{evidence_apart, gds_is_no_lef, told_files}
+use Rattle.run_laws.proofs.FileNames.{distinct_alone, distinct_drawn, distinct_front, distinct_one, first_of, told_files}
 use Rattle.run_laws.proofs.RowTold.{no_files}
 use Rattle.run_laws.proofs.Telling.{Answers}
 use Rattle.run_laws.specs.Created.{AreDistinct, CreatesOnce}
 use Rattle.run_laws.specs.Evidence.{evidence_name, evidence_text}
-use Rattle.run_laws.specs.Origin.{Origin, Search, File}
-
--- ---- names
-
-distinct_front : (count : ℕ) (names : List (List ℕ)) → AreDistinct names → AreDistinct (take count names)
-distinct_front zero names h = tt
-distinct_front (suc count) [] h = tt
-distinct_front (suc count) (name ∷ names) h = (All-take (λ (other : List ℕ). other ≢ name) count names h.0, distinct_front count names h.1)
-
-distinct_one : (name : List ℕ) → AreDistinct (name ∷ [])
-distinct_one name = (All-nil (λ (other : List ℕ). other ≢ name), tt)
-
-distinct_two : (out : List ℕ) → AreDistinct ((out ++ codes ".gds") ∷ (out ++ codes ".lef") ∷ [])
-distinct_two out = (
-  All-cons (λ (other : List ℕ). other ≢ out ++ codes ".gds") (out ++ codes ".lef") [] (λ e. gds_is_no_lef out (sym e)) (All-nil (λ (other : List ℕ). other ≢ out ++ codes ".gds")),
-  distinct_one (out ++ codes ".lef"),
-)
-
-distinct_three : (evidence : Evidence) (out : List ℕ) → AreDistinct (evidence_name evidence out ∷ (out ++ codes ".gds") ∷ (out ++ codes ".lef") ∷ [])
-distinct_three evidence out =
-    let no_gds : out ++ codes ".gds" ≢ evidence_name evidence out = λ e. evidence_apart evidence out (codes ".gds") refl (sym e) in
-    let no_lef : out ++ codes ".lef" ≢ evidence_name evidence out = λ e. evidence_apart evidence out (codes ".lef") refl (sym e) in
-    let from_evidence : All (λ (other : List ℕ). other ≢ evidence_name evidence out) ((out ++ codes ".gds") ∷ (out ++ codes ".lef") ∷ []) =
-    All-cons (λ (other : List ℕ). other ≢ evidence_name evidence out) (out ++ codes ".gds") ((out ++ codes ".lef") ∷ []) no_gds
-    (All-cons (λ (other : List ℕ). other ≢ evidence_name evidence out) (out ++ codes ".lef") [] no_lef (All-nil (λ (other : List ℕ). other ≢ evidence_name evidence out))) in
-    (from_evidence, distinct_two out)
+use Rattle.run_laws.specs.Origin.{Origin, Search, File, Low, cell_files}
 
 -- ---- the names of files that are told
-
-abbrev first_of : List ℕ × List ℕ → List ℕ
-first_of file = file.0
 
 names_told : (files : List Output) → names_of files ≡ map first_of (map named files)
 names_told [] = refl
@@ -84,9 +61,11 @@ none_listed files is = rw is tt
 abbrev makes_files : Kind → Bool
 makes_files Making = true
 makes_files MakingFrom = true
+makes_files MakingLow = true
 makes_files Rowing = true
 makes_files Planning = false
 makes_files Checking = false
+makes_files CheckingLow = false
 makes_files Extracting = false
 makes_files Benching = false
 makes_files Agreeing = false
@@ -94,34 +73,41 @@ makes_files Agreeing = false
 without_files : (kind : Kind) (end : End) → makes_files kind ≡ false → HasNoFiles kind end → AreDistinct (names_of end.files)
 without_files kind end none (inl is) = none_listed end.files is
 without_files kind end none (inr (inl (is, own))) = let clash : true ≡ false = ap makes_files (sym is) ∙ none in cc
-without_files kind end none (inr (inr (inr (is, done)))) = let clash : true ≡ false = ap makes_files (sym is) ∙ none in cc
+without_files kind end none (inr (inr (inr (inl (is, done))))) = let clash : true ≡ false = ap makes_files (sym is) ∙ none in cc
+without_files kind end none (inr (inr (inr (inr (is, own))))) = let clash : true ≡ false = ap makes_files (sym is) ∙ none in cc
 without_files kind end none (inr (inr (inl (is, done)))) = let clash : true ≡ false = ap makes_files (sym is) ∙ none in cc
 
 -- the files of a row, by where it comes from
-distinct_drawn : (origin : Origin) (out text bytes summary : List ℕ) → AreDistinct (map first_of (told_files origin out text ++ (out ++ codes ".gds", bytes) ∷ (out ++ codes ".lef", summary) ∷ []))
-distinct_drawn (Search evidence) out text bytes summary = distinct_three evidence out
-distinct_drawn (File evidence given) out text bytes summary = distinct_two out
+drawn_names : (origin : Origin) (cell : Subckt) (out text bytes summary : List ℕ) (files : List Output) (told : List (List ℕ × List ℕ)) → told ≡ told_files origin cell out text → map named files ≡ told ++ cell_files out bytes summary → AreDistinct (names_of files)
+drawn_names origin cell out text bytes summary files told same is =
+    by_names files (told_files origin cell out text ++ cell_files out bytes summary) _
+    (is ∙ ap (λ (xs : List (List ℕ × List ℕ)). xs ++ cell_files out bytes summary) same) refl (distinct_drawn origin cell out text bytes summary)
 
-distinct_alone : (origin : Origin) (out text : List ℕ) → AreDistinct (map first_of (told_files origin out text))
-distinct_alone (Search evidence) out text = distinct_one (evidence_name evidence out)
-distinct_alone (File evidence given) out text = tt
+row_end : (origin : Origin) (text : List ℕ) (style : Style) (inputs : Inputs) (out : List ℕ) (row : List Column) (told : RowEvidence) (drawing : DrawAnswer) (end : End) → told.files ≡ told_files origin inputs.cell out text → IsRowEnd style inputs out row told drawing end → AreDistinct (names_of end.files)
+row_end origin text style inputs out row told (RowDrawn routing xs) end same is = drawn_names origin inputs.cell out text _ _ end.files told.files same is.files
+row_end origin text style inputs out row told (RowCyclic ring) end same is = by_names end.files (told_files origin inputs.cell out text) _ (is.files ∙ same) refl (distinct_alone origin inputs.cell out text)
+row_end origin text style inputs out row told (RowTall routing) end same is = by_names end.files (told_files origin inputs.cell out text) _ (is.files ∙ same) refl (distinct_alone origin inputs.cell out text)
 
-drawn_names : (origin : Origin) (out text bytes summary : List ℕ) (files : List Output) (told : List (List ℕ × List ℕ)) → told ≡ told_files origin out text → map named files ≡ told ++ (out ++ codes ".gds", bytes) ∷ (out ++ codes ".lef", summary) ∷ [] → AreDistinct (names_of files)
-drawn_names origin out text bytes summary files told same is =
-    by_names files (told_files origin out text ++ (out ++ codes ".gds", bytes) ∷ (out ++ codes ".lef", summary) ∷ []) _
-    (is ∙ ap (λ (xs : List (List ℕ × List ℕ)). xs ++ (out ++ codes ".gds", bytes) ∷ (out ++ codes ".lef", summary) ∷ []) same) refl (distinct_drawn origin out text bytes summary)
-
-row_end : (origin : Origin) (text : List ℕ) (style : Style) (inputs : Inputs) (out : List ℕ) (row : List Column) (told : RowEvidence) (drawing : DrawAnswer) (end : End) → told.files ≡ told_files origin out text → IsRowEnd style inputs out row told drawing end → AreDistinct (names_of end.files)
-row_end origin text style inputs out row told (RowDrawn routing xs) end same is = drawn_names origin out text _ _ end.files told.files same is.files
-row_end origin text style inputs out row told (RowCyclic ring) end same is = by_names end.files (told_files origin out text) _ (is.files ∙ same) refl (distinct_alone origin out text)
-row_end origin text style inputs out row told (RowTall routing) end same is = by_names end.files (told_files origin out text) _ (is.files ∙ same) refl (distinct_alone origin out text)
+open_end : (cell : Subckt) (out : List ℕ) (proved : ℕ) (certificate : Certificate) (end : End) → made.IsOpenEnd cell out proved certificate end → AreDistinct (names_of end.files)
+open_end cell out proved (held.Log log) end is = by_names end.files _ (evidence_name Log out ∷ []) is.files refl (distinct_one (evidence_name Log out))
+open_end cell out proved (held.Trails trails) end is = by_names end.files _ (evidence_name Trails out ∷ []) is.files refl (distinct_one (evidence_name Trails out))
 
 makes_end : (evidence : Evidence) (style : Style) (inputs : Inputs) (out : List ℕ) (end : End) → MakesTo evidence style inputs out end → AreDistinct (names_of end.files)
 makes_end evidence style inputs out end (made.Made row (held.Log log) drawing, h, is) = row_end (Search Log) (evidence_text Log inputs.cell.name log) style inputs out row (log_evidence inputs.cell out log) drawing end refl is
 makes_end evidence style inputs out end (made.Made row (held.Trails trails) drawing, h, is) = row_end (Search Trails) (evidence_text Trails inputs.cell.name trails) style inputs out row (trails_evidence inputs.cell out trails) drawing end refl is
-makes_end evidence style inputs out end (made.Open proved (held.Log log), h, is) = by_names end.files _ (evidence_name Log out ∷ []) is.files refl (distinct_one (evidence_name Log out))
-makes_end evidence style inputs out end (made.Open proved (held.Trails trails), h, is) = by_names end.files _ (evidence_name Trails out ∷ []) is.files refl (distinct_one (evidence_name Trails out))
+makes_end evidence style inputs out end (made.Open proved certificate, h, is) = open_end inputs.cell out proved certificate end is
 makes_end evidence style inputs out end (made.Crowded gate, h, is) = by_names end.files [] [] is.files refl tt
+
+unwired_end : (inputs : Inputs) (out : List ℕ) (certificate : Certificate) (tracks : TrackCertificate) (ring : Ring) (end : End) → low.IsUnwiredEnd inputs out certificate tracks ring end → AreDistinct (names_of end.files)
+unwired_end inputs out (held.Log log) tracks ring end is = by_names end.files (told_files (Low Log tracks) inputs.cell out (evidence_text Log inputs.cell.name log)) _ is.files refl (distinct_alone (Low Log tracks) inputs.cell out (evidence_text Log inputs.cell.name log))
+unwired_end inputs out (held.Trails trails) tracks ring end is = by_names end.files (told_files (Low Trails tracks) inputs.cell out (evidence_text Trails inputs.cell.name trails)) _ is.files refl (distinct_alone (Low Trails tracks) inputs.cell out (evidence_text Trails inputs.cell.name trails))
+
+low_end : (evidence : Evidence) (taps : Taps) (inputs : Inputs) (out : List ℕ) (end : End) → low.MakesLowTo evidence taps inputs out end → AreDistinct (names_of end.files)
+low_end evidence taps inputs out end (low.Made row (held.Log log) tracks drawing, h, is) = row_end (Low Log tracks) (evidence_text Log inputs.cell.name log) (low_style taps) inputs out row (low.low_evidence inputs.cell out (held.Log log) tracks) drawing end refl is
+low_end evidence taps inputs out end (low.Made row (held.Trails trails) tracks drawing, h, is) = row_end (Low Trails tracks) (evidence_text Trails inputs.cell.name trails) (low_style taps) inputs out row (low.low_evidence inputs.cell out (held.Trails trails) tracks) drawing end refl is
+low_end evidence taps inputs out end (low.Unwired row certificate tracks ring, h, is) = unwired_end inputs out certificate tracks ring end is
+low_end evidence taps inputs out end (low.Open proved certificate, h, is) = open_end inputs.cell out proved certificate end is
+low_end evidence taps inputs out end (low.Crowded gate, h, is) = by_names end.files [] [] is.files refl tt
 
 from_end : (m : FromMaterial) (end : End) → WorksTo MakingFrom m end → AreDistinct (names_of end.files)
 from_end m end (inl (row, certificate, listed, (drawing, h, is))) = row_end (File m.evidence m.bytes) [] m.style m.inputs m.stem row (given_evidence certificate) drawing end refl is
@@ -131,7 +117,8 @@ from_end m end (inr (checks, rejected)) = by (files_by MakingFrom m end (inr (ch
     by (inl none) = none_listed end.files none
     by (inr (inl (is, own))) = cc
     by (inr (inr (inl (is, done)))) = cc
-    by (inr (inr (inr (is, done)))) = absurd (differ status.Done status.Rejected refl (sym done ∙ rejected))
+    by (inr (inr (inr (inl (is, done))))) = absurd (differ status.Done status.Rejected refl (sym done ∙ rejected))
+    by (inr (inr (inr (inr (is, own))))) = cc
 
 rows_end : (r : RowInputs) (out : List ℕ) (end : End) → RowsTo r out end → AreDistinct (names_of end.files)
 rows_end r out end (Rowed made, h, is) = by_names end.files _ ((out ++ codes ".gds") ∷ []) is.files refl (distinct_one (out ++ codes ".gds"))
@@ -143,9 +130,11 @@ rows_end r out end (Unabutted made fault, h, is) = none_listed end.files (ap (λ
 distinct_end : (kind : Kind) (m : MaterialOf kind) (end : End) → WorksTo kind m end → AreDistinct (names_of end.files)
 distinct_end Making m end works = makes_end m.evidence m.style m.inputs m.stem end works
 distinct_end MakingFrom m end works = from_end m end works
+distinct_end MakingLow m end works = low_end m.evidence m.taps m.inputs m.stem end works
 distinct_end Rowing m end works = rows_end m.inputs m.stem end works
 distinct_end Planning m end works = without_files Planning end refl (files_by Planning m end works)
 distinct_end Checking m end works = without_files Checking end refl (files_by Checking m end works)
+distinct_end CheckingLow m end works = without_files CheckingLow end refl (files_by CheckingLow m end works)
 distinct_end Extracting m end works = without_files Extracting end refl (files_by Extracting m end works)
 distinct_end Benching m end works = without_files Benching end refl (files_by Benching m end works)
 distinct_end Agreeing m end works = without_files Agreeing end refl (files_by Agreeing m end works)

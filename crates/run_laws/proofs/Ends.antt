@@ -2,7 +2,7 @@
 use Rattle.std.proofs.Common.{ℕ, ◌≡◌, ◌⊎◌, Bool, true, false, nat_le, if◌then◌else◌, length, arith, List, [], ◌∷◌, Option, Some, None, Result, Ok, Err, Contains, inl, inr, refl, sym, ap, ◌∙◌, subst}
 use Rattle.cell_io.specs.Desk.{Files, View, Rose}
 use Rattle.call_end.specs.declared.end.End.{End}
-use Rattle.call_work.specs.Commands.{Kind, Making, MakingFrom, Material, Rowing, gathered, read_by}
+use Rattle.call_work.specs.Commands.{Kind, Making, MakingFrom, MakingLow, Material, Rowing, gathered, read_by}
 use Rattle.call_read.specs.declared.refusal.Refusal.{Refusal}
 use Rattle.call_read.specs.declared.refusal.Refusal.TheVariants.{Unread, Long, NoMemory}
 use Rattle.call_end.specs.declared.status.Status.{Status}
@@ -37,7 +37,8 @@ no_files form (Ok m) end other (inl is) ends = elim (files_by m.0 m.1 end ends) 
   | inl none ↦ none
   | inr (inl (making, own)) ↦ absurd (other (inl (is_of_kind form Making m is making)))
   | inr (inr (inl (rowing, done))) ↦ absurd (other (inr (inl (is_of_kind form Rowing m is rowing))))
-  | inr (inr (inr (from, done))) ↦ absurd (other (inr (inr (is_of_kind form MakingFrom m is from))))
+  | inr (inr (inr (inl (from, done)))) ↦ absurd (other (inr (inr (inl (is_of_kind form MakingFrom m is from)))))
+  | inr (inr (inr (inr (low, own)))) ↦ absurd (other (inr (inr (inr (is_of_kind form MakingLow m is low)))))
 ]
 
 -- a row makes a file where it is done, and none else
@@ -46,28 +47,28 @@ row_files form (Err e) end row how ends = inl (rw ends refl)
 row_files form (Ok m) end row (inr (e, is)) ends = cc
 row_files form (Ok m) end row (inl is) ends = elim (files_by m.0 m.1 end ends) [
   | inl none ↦ inl none
-  | inr (inl (making, own)) ↦ absurd (other_kind form m row is making)
-  | inr (inr done) ↦ inr (elim done [
-    | inl (rowing, done) ↦ done
-    | inr (from, done) ↦ done
-  ])
+  | inr (inl (making, own)) ↦ absurd (no_row form m Making row is making (λ clash. cc))
+  | inr (inr (inl (rowing, done))) ↦ inr done
+  | inr (inr (inr (inl (from, done)))) ↦ inr done
+  | inr (inr (inr (inr (low, own)))) ↦ absurd (no_row form m MakingLow row is low (λ clash. cc))
 ]
   where
-    other_kind : (form : Option Form) (m : Material) → IsRow form → IsGathered form (Ok m) → m.0 ≡ Making → ⊥
-    other_kind None m row is making = is
-    other_kind (Some form) m row is making = let clash : Rowing ≡ Making = sym row ∙ sym is ∙ making in cc
+    no_row : (form : Option Form) (m : Material) (kind : Kind) → IsRow form → IsGathered form (Ok m) → m.0 ≡ kind → (Rowing ≡ kind → ⊥) → ⊥
+    no_row None m kind row is of apart = is
+    no_row (Some form) m kind row is of apart = apart (sym row ∙ sym is ∙ of)
 
 pub none_alone : (got : Result Material Refusal) (end : End) → EndsTo got end → is_among (status.NoMemory ∷ fileless_statuses) end.status ≡ true → end.files ≡ []
 none_alone (Err e) end ends none = ap (λ (x : End). x.files) ends
 none_alone (Ok m) end ends none = elim (files_by m.0 m.1 end ends) [
   | inl alone ↦ alone
   | inr (inl (making, own)) ↦ absurd (among_one (status.NoMemory ∷ fileless_statuses) make_statuses end.status refl none own)
-  | inr (inr done) ↦ absurd (among_one (status.NoMemory ∷ fileless_statuses) (status.Done ∷ []) end.status refl none (is_done done))
+  | inr (inr (inl (rowing, done))) ↦ absurd (not_done done)
+  | inr (inr (inr (inl (from, done)))) ↦ absurd (not_done done)
+  | inr (inr (inr (inr (low, own)))) ↦ absurd (among_one (status.NoMemory ∷ fileless_statuses) make_statuses end.status refl none own)
 ]
   where
-    is_done : ((m.0 ≡ Rowing) × (end.status ≡ status.Done)) ⊎ ((m.0 ≡ MakingFrom) × (end.status ≡ status.Done)) → is_among (status.Done ∷ []) end.status ≡ true
-    is_done (inl (rowing, done)) = rw done refl
-    is_done (inr (from, done)) = rw done refl
+    not_done : end.status ≡ status.Done → ⊥
+    not_done done = among_one (status.NoMemory ∷ fileless_statuses) (status.Done ∷ []) end.status refl none (rw done refl)
 
 -- how a call comes to what it gathers
 pub came_gathered : (old new : View) (form : Option Form) (got : Result Material Refusal) → MayCome old new (gathered form) got → IsGatheredOrRefused form got

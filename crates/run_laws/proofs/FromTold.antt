@@ -24,13 +24,14 @@ use Rattle.call_work.specs.Ends.{is_among}
 use Rattle.call_work.specs.Evidence.{evidence_file}
 use Rattle.cell_inputs.specs.declared.style.Style.{Style}
 use Rattle.cell_inputs.specs.Inputs.{Inputs}
-use Rattle.cell_make.specs.Rows.{DrawAnswer, Draws}
+use Rattle.cell_make.specs.Making.{IsRouted}
+use Rattle.cell_make.specs.Rows.{DrawAnswer, Draws, RowDrawn, RowCyclic, RowTall}
 use Rattle.cell_commands.specs.declared.certificate.Certificate.{Certificate}
 use Rattle.cell_commands.specs.declared.certificate.Certificate.TheVariants as held
 use Rattle.cell_commands.specs.Given.{IsListedBy, IsRefusedBy, MakesFromTo, given_evidence}
 use Rattle.cell_commands.specs.RowEnd.{IsRowEnd, RowEvidence}
 use Rattle.run_laws.proofs.MadeFiles.{none_left}
-use Rattle.run_laws.proofs.MakeSettled.{by_end, row_leaves}
+use Rattle.run_laws.proofs.MakeSettled.{IsDrawnBy, IsStopBy, by_end, row_leaves}
 use Rattle.run_laws.proofs.MakeTold.{row_cycles, row_draws, row_needs}
 use Rattle.run_laws.proofs.PlanTold.{holds_done}
 use Rattle.run_laws.proofs.Worked.{Completes, IsAnswered, ends_told, settles, work_statuses}
@@ -76,7 +77,7 @@ asked_told form answer settled Says (Some files) told = λ make is.
     let (m, comes, says) = told make is in
     (m, comes, (asked_for files form m make comes, says))
 
--- ---- what it leaves behind, by its status
+-- ---- what it leaves, by its status
 
 abbrev pub FromLeaves : FromMaterial → View → View → Status → Type 0
 FromLeaves m old new status.Done = IsMadeCell (file_of m) m.style m.inputs m.stem old new
@@ -85,11 +86,24 @@ FromLeaves m old new status.TooTall = IsTallCell (file_of m) m.style m.inputs m.
 FromLeaves m old new status.Rejected = IsRefusedFile m old new
 FromLeaves m old new _ = Unit {0}
 
+-- a ring says nothing of a row that is given
+no_stop : (evidence : Evidence) (bytes : List ℕ) (inputs : Inputs) (row : List Column) (drawing : DrawAnswer) → IsStopBy (File evidence bytes) inputs row drawing
+no_stop evidence bytes inputs row (RowDrawn routing xs) = tt
+no_stop evidence bytes inputs row (RowCyclic ring) = tt
+no_stop evidence bytes inputs row (RowTall routing) = tt
+
+given_so : (evidence : Evidence) (bytes : List ℕ) (style : Style) (inputs : Inputs) (row : List Column) (drawing : DrawAnswer) → Draws style inputs row drawing → IsDrawnBy (File evidence bytes) style inputs row (IsRouted style inputs row) drawing
+given_so evidence bytes style inputs row drawing h = record {
+  routed = λ routing r. record { acyclic = r.acyclic; legal = r.legal; tracks = r.tight };
+  stops = no_stop evidence bytes inputs row drawing;
+  draws = h;
+}
+
 listed_leaves : (evidence : Evidence) (style : Style) (inputs : Inputs) (bytes out : List ℕ) (row : List Column) (certificate : Certificate) (drawing : DrawAnswer) (end : End) (answer : Status) (old new : View) (Is : Status → Type 0) → (IsMadeCell (File evidence bytes) style inputs out old new → Is status.Done) → (IsCyclicCell (File evidence bytes) style inputs out old new → Is status.Cycle) → (IsTallCell (File evidence bytes) style inputs out old new → Is status.TooTall) → IsListedBy evidence inputs bytes row certificate → Draws style inputs row drawing → IsRowEnd style inputs out row (given_evidence certificate) drawing end → TellsWhole end answer old new → Is answer
 listed_leaves Log style inputs bytes out row (held.Log log) drawing end answer old new Is made cyclic tall listed h is whole =
-    row_leaves (File Log bytes) style inputs out row log drawing end answer old new Is made cyclic tall (record { arranges = listed.arranges; least = listed.least }) listed h is whole
+    row_leaves (File Log bytes) style inputs out row log (IsRouted style inputs row) drawing end answer old new Is made cyclic tall (record { arranges = listed.arranges; least = listed.least }) listed (given_so Log bytes style inputs row drawing h) is whole
 listed_leaves Trails style inputs bytes out row (held.Trails found) drawing end answer old new Is made cyclic tall listed h is whole =
-    row_leaves (File Trails bytes) style inputs out row found drawing end answer old new Is made cyclic tall (record { arranges = listed.arranges; least = listed.least }) listed h is whole
+    row_leaves (File Trails bytes) style inputs out row found (IsRouted style inputs row) drawing end answer old new Is made cyclic tall (record { arranges = listed.arranges; least = listed.least }) listed (given_so Trails bytes style inputs row drawing h) is whole
 listed_leaves Log style inputs bytes out row (held.Trails found) drawing end answer old new Is made cyclic tall listed h is whole = absurd listed
 listed_leaves Trails style inputs bytes out row (held.Log log) drawing end answer old new Is made cyclic tall listed h is whole = absurd listed
 
@@ -101,7 +115,8 @@ refused_files m end refused = by (files_by MakingFrom m end (inr refused))
     by (inl none) = none
     by (inr (inl (is, own))) = cc
     by (inr (inr (inl (is, done)))) = cc
-    by (inr (inr (inr (is, done)))) = absurd (differ status.Done status.Rejected refl (sym done ∙ refused.1))
+    by (inr (inr (inr (inl (is, done))))) = absurd (differ status.Done status.Rejected refl (sym done ∙ refused.1))
+    by (inr (inr (inr (inr (is, own))))) = cc
 
 from_leaves_so : (m : FromMaterial) (end : End) (answer : Status) (old new : View) → MakesFromTo m.evidence m.style m.inputs m.bytes m.stem end → TellsWhole end answer old new → FromLeaves m old new answer
 from_leaves_so m end answer old new (inl (row, certificate, listed, (drawing, h, is))) whole =

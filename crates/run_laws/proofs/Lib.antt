@@ -4,7 +4,11 @@ pub mod BenchTold
 pub mod Created
 pub mod Ends
 pub mod ExtractTold
+pub mod FileNames
 pub mod FromTold
+pub mod Heights
+pub mod LowChecked
+pub mod LowTold
 pub mod MadeCompared
 pub mod MadeFiles
 pub mod MakeSettled

@@ -1,5 +1,5 @@
 -- The files of a made cell are found to agree.
-use Rattle.std.proofs.Common.{ℕ, ◌≡◌, ◌≤◌, List, Option, Some, None, Result, Ok, Err, IfSome, length, refl, arith, ap, ◌∙◌, subst, sym}
+use Rattle.std.proofs.Common.{ℕ, ◌≡◌, ◌≤◌, List, Option, Some, None, Result, Ok, Err, IfSome, inl, inr, length, refl, arith, ap, ◌∙◌, subst, sym}
 use Rattle.std.proofs.lemmas.Bool.{le-leb}
 use Rattle.cell_io.specs.Desk.{Files, View}
 use Rattle.box_geom.specs.declared.shape.Shapes.{Shapes}
@@ -19,11 +19,14 @@ use Rattle.call_read.specs.declared.refusal.Refusal.{Refusal}
 use Rattle.call_read.specs.declared.refusal.Refusal.TheVariants.{Gds, Lef}
 use Rattle.call_words.specs.Words.{Form, Agree}
 use Rattle.call_work.specs.Commands.{Agreeing, Material, gathered}
-use Rattle.cell_inputs.specs.Inputs.{unit_nm}
+use Rattle.cell_inputs.specs.declared.style.Style.{Style}
+use Rattle.cell_inputs.specs.Inputs.{Inputs, unit_nm}
+use Rattle.channel_route.specs.declared.routing.Routing.{Routing}
+use Rattle.row_model.specs.declared.column.Column.{Column}
 use Rattle.cell_make.proofs.Abstracts.{abstract_made}
 use Rattle.cell_make.proofs.Small.{small_made}
-use Rattle.cell_make.specs.Making.{final_in}
-use Rattle.run_laws.specs.Agree.{ComparesMade, OfCompared}
+use Rattle.cell_make.specs.Making.{HasAbstract, HasSmallFiles, final_in, library_of}
+use Rattle.run_laws.specs.Agree.{ComparesMade, IsDrawnAnyhow, OfCompared}
 use Rattle.run_laws.specs.Calm.{IsCalm}
 use Rattle.run_laws.specs.Headline.{IsOrShort}
 use Rattle.run_laws.proofs.AgreeTold.{agrees_told}
@@ -77,15 +80,26 @@ compared_so files word gds lef name tech shapes cell one two three =
 
 -- ---- they agree
 
+-- what a comparison needs of a drawn row
+record IsComparable (style : Style) (inputs : Inputs) (row : List Column) (routing : Routing) (lines : List ℕ) : Type 0 where
+  pub agrees : HasAbstract style inputs row routing lines
+  pub small : HasSmallFiles style inputs row routing lines
+  pub decodes : Decodes (library_of inputs (final_in style inputs row routing lines)) inputs.cell.name inputs.tech.lambda_nm (final_in style inputs row routing lines).shapes
+
+comparable : (style : Style) (inputs : Inputs) (row : List Column) (routing : Routing) (lines : List ℕ) → IsDrawnAnyhow style inputs row routing lines → IsComparable style inputs row routing lines
+comparable style inputs row routing lines (inl h) = record { agrees = h.agrees; small = h.small; decodes = h.decodes }
+comparable style inputs row routing lines (inr (tracks, h)) = record { agrees = h.agrees; small = h.small; decodes = h.decodes }
+
 of_made : (files : Files) (form : Option Form) → ComparesMade files form → OfCompared files form DoesAgree
 of_made files form m =
     let shapes : Shapes = (final_in m.style m.inputs m.row m.routing m.lines).shapes in
-    let agrees = abstract_made m.style m.inputs m.row m.routing m.lines m.drawn.agrees in
-    let small = small_made m.style m.inputs m.row m.routing m.lines m.drawn.small in (
+    let drawn : IsComparable m.style m.inputs m.row m.routing m.lines = comparable m.style m.inputs m.row m.routing m.lines m.drawn in
+    let agrees = abstract_made m.style m.inputs m.row m.routing m.lines drawn.agrees in
+    let small = small_made m.style m.inputs m.row m.routing m.lines drawn.small in (
       compared shapes agrees.cell,
       subst (λ f. called files (gathered f) ≡ Ok (Agreeing, compared shapes agrees.cell)) (sym m.words)
           (compared_so files m.tech m.gds m.lef m.inputs.cell.name m.inputs.tech shapes agrees.cell m.technology
-          (shapes_so files m.gds m.inputs.cell.name _ m.inputs.tech shapes (library_held files m.gds _ m.library small.library) m.drawn.decodes)
+          (shapes_so files m.gds m.inputs.cell.name _ m.inputs.tech shapes (library_held files m.gds _ m.library small.library) drawn.decodes)
           (macro_so files m.lef m.inputs.cell.name _ m.inputs.tech agrees.cell (abstract_held files m.lef _ m.abstract small.abstract) agrees.read)),
       (agrees.netlist, agrees.agrees),
     )

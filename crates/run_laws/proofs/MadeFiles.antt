@@ -1,36 +1,20 @@
 -- The files of an end of `make` or `row`, once they are made.
-use Rattle.std.proofs.Common.{ℕ, ◌≡◌, ◌≢◌, List, [], ◌∷◌, ◌++◌, Option, Some, None, Bool, if◌then◌else◌, codes, length, length-append, map, string_bytes, refl, sym, ap, ◌∙◌, subst, arith}
-use Rattle.std.specs.Prelude.{bytes_eq, get_or}
+use Rattle.std.proofs.Common.{ℕ, ◌≡◌, ◌≢◌, List, [], ◌∷◌, ◌++◌, Option, Some, None, Bool, if◌then◌else◌, codes, map, string_bytes, refl, ap, ◌∙◌, subst}
+use Rattle.std.specs.Prelude.{All, bytes_eq}
 use Rattle.std.proofs.lemmas.Bool.{false_from_ne_true}
-use Rattle.std.proofs.lemmas.List.{append_cancel_left}
+use Rattle.std.proofs.lemmas.List.Elements.{All-cons, All-head, All-nil, All-tail}
 use Rattle.std.proofs.lemmas.Slice.Eq.{bytes_eq-Decides}
 use Rattle.cell_io.specs.Desk.{Files, Both, Sets}
 use Rattle.call_end.specs.declared.end.Output.{Output}
 use Rattle.call_end.specs.Deliver.{MakesAll}
 use Rattle.call_end.proofs.Delivered.{none_made}
-use Rattle.call_words.specs.declared.evidence.Evidence.{Evidence}
-use Rattle.call_words.specs.declared.evidence.Evidence.TheVariants.{Log, Trails}
+use Rattle.spice_net.specs.declared.subckt.Subckt.{Subckt}
+use Rattle.run_laws.proofs.FileNames.{apart_of, distinct_alone, distinct_drawn, distinct_one, distinct_three, distinct_two, first_of, told_files}
+use Rattle.run_laws.specs.Created.{AreDistinct}
 use Rattle.run_laws.specs.Evidence.{HasCell, HasEvidence, evidence_name}
-use Rattle.run_laws.specs.Origin.{Origin, Search, File, HasDrawing, HasFiles, HasNoDrawing}
+use Rattle.run_laws.specs.Origin.{Origin, Search, File, Low, HasAll, HasDrawing, HasFiles, HasNoDrawing, cell_files}
 use Rattle.run_laws.specs.Row.{HasLibrary}
 use Rattle.call_end.specs.End.{named}
-
--- ---- names
-
--- the evidence's name ends with more letters than the others
-pub evidence_apart : (evidence : Evidence) (out last : List ℕ) → length last ≡ 4 → evidence_name evidence out ≢ out ++ last
-evidence_apart Log out last four e =
-    let five : length (codes ".clog") ≡ 5 = refl in
-    absurd (omega (arith, five, four, ap (λ (name : List ℕ). length name) e, length-append out (codes ".clog"), length-append out last))
-evidence_apart Trails out last four e =
-    let seven : length (codes ".ctrail") ≡ 7 = refl in
-    absurd (omega (arith, seven, four, ap (λ (name : List ℕ). length name) e, length-append out (codes ".ctrail"), length-append out last))
-
-pub gds_is_no_lef : (out : List ℕ) → out ++ codes ".gds" ≢ out ++ codes ".lef"
-gds_is_no_lef out e =
-    let same : codes ".gds" ≡ codes ".lef" = append_cancel_left out (codes ".gds") (codes ".lef") e in
-    let g_is_l : 103 ≡ 108 = ap (λ (name : List ℕ). get_or name 1 0) same in
-    absurd (omega (arith, g_is_l))
 
 -- ---- one file
 
@@ -59,118 +43,69 @@ first_is a b xs ys e = cc
 rest_are : (a b : List ℕ × List ℕ) (xs ys : List (List ℕ × List ℕ)) → a ∷ xs ≡ b ∷ ys → xs ≡ ys
 rest_are a b xs ys e = cc
 
--- one file, by its name and its bytes
-one_set : (name bytes : List ℕ) (files : List Output) (old new : Files) → map named files ≡ (name, bytes) ∷ [] → MakesAll files old new → Sets name (Some bytes) old new
-one_set name bytes [] old new is made = cc
-one_set name bytes (file ∷ []) old new is (mid, sets, same) =
-    subst (λ (files : Files). Sets name (Some bytes) old files) (sym same) (set_so file name bytes old mid (first_is (named file) (name, bytes) [] [] is) sets)
-one_set name bytes (file ∷ other ∷ more) old new is made =
-    let none : named other ∷ map named more ≡ [] = rest_are (named file) (name, bytes) (named other ∷ map named more) [] is in
-    cc
-
-one_made : (file text : List ℕ) (files : List Output) (old new : Files) → map named files ≡ (file, text) ∷ [] → MakesAll files old new → HasEvidence file text old new
-one_made file text files old new is made =
-    let set = one_set file text files old new is made in
-    record {
-      evidence = set_here file (Some text) old new set;
-      others = λ name differ. set_elsewhere file name (Some text) old new set differ;
-    }
-
-library_set : (out bytes : List ℕ) (files : List Output) (old new : Files) → map named files ≡ (out ++ codes ".gds", bytes) ∷ [] → MakesAll files old new → HasLibrary out bytes old new
-library_set out bytes files old new is made =
-    let set = one_set (out ++ codes ".gds") bytes files old new is made in
-    record {
-      library = set_here (out ++ codes ".gds") (Some bytes) old new set;
-      others = λ name differ. set_elsewhere (out ++ codes ".gds") name (Some bytes) old new set differ;
-    }
-
--- the files of a cell, each made where the one before it was
-pub record AreSet (file out text bytes summary : List ℕ) (old one two new : Files) : Type 0 where
-  pub first : Sets file (Some text) old one
-  pub second : Sets (out ++ codes ".gds") (Some bytes) one two
-  pub third : Sets (out ++ codes ".lef") (Some summary) two new
-
-cell_set : (evidence : Evidence) (out text bytes summary : List ℕ) (old one two new : Files) → AreSet (evidence_name evidence out) out text bytes summary old one two new → HasCell (evidence_name evidence out) out text bytes summary old new
-cell_set evidence out text bytes summary old one two new s = record {
-  evidence =
-      set_elsewhere (out ++ codes ".lef") (evidence_name evidence out) (Some summary) two new s.third (evidence_apart evidence out (codes ".lef") refl)
-      ∙ (set_elsewhere (out ++ codes ".gds") (evidence_name evidence out) (Some bytes) one two s.second (evidence_apart evidence out (codes ".gds") refl)
-      ∙ set_here (evidence_name evidence out) (Some text) old one s.first);
-  drawing =
-      set_elsewhere (out ++ codes ".lef") (out ++ codes ".gds") (Some summary) two new s.third (gds_is_no_lef out)
-      ∙ set_here (out ++ codes ".gds") (Some bytes) one two s.second;
-  lef = set_here (out ++ codes ".lef") (Some summary) two new s.third;
-  others = λ name no_evidence no_drawing no_lef.
-      set_elsewhere (out ++ codes ".lef") name (Some summary) two new s.third no_lef
-      ∙ (set_elsewhere (out ++ codes ".gds") name (Some bytes) one two s.second no_drawing
-      ∙ set_elsewhere (evidence_name evidence out) name (Some text) old one s.first no_evidence);
+-- what the files are after the first one is set, and then the others
+with_first : (name bytes : List ℕ) (told : List (List ℕ × List ℕ)) (old mid new : Files) → AreDistinct (name ∷ map first_of told) → Sets name (Some bytes) old mid → HasAll told mid new → HasAll ((name, bytes) ∷ told) old new
+with_first name bytes told old mid new apart set has = record {
+  each =
+      All-cons (λ (file : List ℕ × List ℕ). new file.0 ≡ Some file.1) (name, bytes) told
+      (has.others name (apart_of name told apart.0) ∙ set_here name (Some bytes) old mid set) has.each;
+  others = λ other differ.
+      has.others other (All-tail (λ (file : List ℕ × List ℕ). other ≢ file.0) (name, bytes) told differ)
+      ∙ set_elsewhere name other (Some bytes) old mid set (All-head (λ (file : List ℕ × List ℕ). other ≢ file.0) (name, bytes) told differ);
 }
 
--- two files are these
-two_are : (files : List Output) (a b : List ℕ × List ℕ) → map named files ≡ a ∷ b ∷ [] → (first second : Output) × (files ≡ first ∷ second ∷ []) × (named first ≡ a) × (named second ≡ b)
-two_are [] a b is = cc
-two_are (x ∷ []) a b is =
-    let none : [] ≡ b ∷ [] = rest_are (named x) a [] (b ∷ []) is in
-    cc
-two_are (x ∷ y ∷ []) a b is =
-    let rest : named y ∷ [] ≡ b ∷ [] = rest_are (named x) a (named y ∷ []) (b ∷ []) is in
-    (x, y, refl, first_is (named x) a (named y ∷ []) (b ∷ []) is, first_is (named y) b [] [] rest)
-two_are (x ∷ y ∷ z ∷ more) a b is =
-    let rest : named y ∷ named z ∷ map named more ≡ b ∷ [] = rest_are (named x) a (named y ∷ named z ∷ map named more) (b ∷ []) is in
-    let none : named z ∷ map named more ≡ [] = rest_are (named y) b (named z ∷ map named more) [] rest in
-    cc
+-- files of different names are there as they were made
+all_made : (told : List (List ℕ × List ℕ)) (files : List Output) (old new : Files) → AreDistinct (map first_of told) → map named files ≡ told → MakesAll files old new → HasAll told old new
+all_made [] [] old new apart is made = record {
+  each = All-nil (λ (file : List ℕ × List ℕ). new file.0 ≡ Some file.1);
+  others = λ name differ. ap (λ (f : Files). f name) made;
+}
+all_made [] (file ∷ files) old new apart is made = cc
+all_made (it ∷ told) [] old new apart is made = cc
+all_made (it ∷ told) (file ∷ files) old new apart is (mid, sets, made) =
+    with_first it.0 it.1 told old mid new apart (set_so file it.0 it.1 old mid (first_is (named file) it (map named files) told is) sets)
+    (all_made told files mid new apart.1 (rest_are (named file) it (map named files) told is) made)
 
-two_set : (out bytes summary : List ℕ) (first second : Output) (old new : Files) → named first ≡ (out ++ codes ".gds", bytes) → named second ≡ (out ++ codes ".lef", summary) → MakesAll (first ∷ second ∷ []) old new → HasDrawing out bytes summary old new
-two_set out bytes summary first second old new p q (one, a, (last, b, same)) =
-    let gds : Sets (out ++ codes ".gds") (Some bytes) old one = set_so first (out ++ codes ".gds") bytes old one p a in
-    let lef : Sets (out ++ codes ".lef") (Some summary) one new = subst (λ (files : Files). Sets (out ++ codes ".lef") (Some summary) one files) (sym same) (set_so second (out ++ codes ".lef") summary one last q b) in
-    record {
-      drawing =
-          set_elsewhere (out ++ codes ".lef") (out ++ codes ".gds") (Some summary) one new lef (gds_is_no_lef out)
-          ∙ set_here (out ++ codes ".gds") (Some bytes) old one gds;
-      lef = set_here (out ++ codes ".lef") (Some summary) one new lef;
-      others = λ name no_drawing no_lef.
-          set_elsewhere (out ++ codes ".lef") name (Some summary) one new lef no_lef
-          ∙ set_elsewhere (out ++ codes ".gds") name (Some bytes) old one gds no_drawing;
-    }
+-- ---- by name
 
-drawing_made_in : (out bytes summary : List ℕ) (files : List Output) (old new : Files) → map named files ≡ (out ++ codes ".gds", bytes) ∷ (out ++ codes ".lef", summary) ∷ [] → MakesAll files old new → HasDrawing out bytes summary old new
-drawing_made_in out bytes summary files old new is made =
-    let (first, second, same, p, q) = two_are files (out ++ codes ".gds", bytes) (out ++ codes ".lef", summary) is in
-    two_set out bytes summary first second old new p q (subst (λ (fs : List Output). MakesAll fs old new) same made)
+one_made : (file text : List ℕ) (old new : Files) → HasAll ((file, text) ∷ []) old new → HasEvidence file text old new
+one_made file text old new has = record {
+  evidence = All-head (λ (it : List ℕ × List ℕ). new it.0 ≡ Some it.1) (file, text) [] has.each;
+  others = λ name differ. has.others name (All-cons (λ (it : List ℕ × List ℕ). name ≢ it.0) (file, text) [] differ (All-nil (λ (it : List ℕ × List ℕ). name ≢ it.0)));
+}
 
--- three files are these
-three_are : (files : List Output) (a b c : List ℕ × List ℕ) → map named files ≡ a ∷ b ∷ c ∷ [] → (first second third : Output) × (files ≡ first ∷ second ∷ third ∷ []) × (named first ≡ a) × (named second ≡ b) × (named third ≡ c)
-three_are [] a b c is = cc
-three_are (x ∷ []) a b c is =
-    let none : [] ≡ b ∷ c ∷ [] = rest_are (named x) a [] (b ∷ c ∷ []) is in
-    cc
-three_are (x ∷ y ∷ []) a b c is =
-    let rest : named y ∷ [] ≡ b ∷ c ∷ [] = rest_are (named x) a (named y ∷ []) (b ∷ c ∷ []) is in
-    let none : [] ≡ c ∷ [] = rest_are (named y) b [] (c ∷ []) rest in
-    cc
-three_are (x ∷ y ∷ z ∷ []) a b c is =
-    let rest : named y ∷ named z ∷ [] ≡ b ∷ c ∷ [] = rest_are (named x) a (named y ∷ named z ∷ []) (b ∷ c ∷ []) is in
-    let last : named z ∷ [] ≡ c ∷ [] = rest_are (named y) b (named z ∷ []) (c ∷ []) rest in
-    (x, y, z, refl, first_is (named x) a (named y ∷ named z ∷ []) (b ∷ c ∷ []) is, first_is (named y) b (named z ∷ []) (c ∷ []) rest, first_is (named z) c [] [] last)
-three_are (x ∷ y ∷ z ∷ w ∷ more) a b c is =
-    let rest : named y ∷ named z ∷ named w ∷ map named more ≡ b ∷ c ∷ [] = rest_are (named x) a (named y ∷ named z ∷ named w ∷ map named more) (b ∷ c ∷ []) is in
-    let last : named z ∷ named w ∷ map named more ≡ c ∷ [] = rest_are (named y) b (named z ∷ named w ∷ map named more) (c ∷ []) rest in
-    let none : named w ∷ map named more ≡ [] = rest_are (named z) c (named w ∷ map named more) [] last in
-    cc
+library_alone : (out bytes : List ℕ) (old new : Files) → HasEvidence (out ++ codes ".gds") bytes old new → HasLibrary out bytes old new
+library_alone out bytes old new has = record { library = has.evidence; others = has.others }
 
-three_set : (evidence : Evidence) (out text bytes summary : List ℕ) (first second third : Output) (old new : Files) → named first ≡ (evidence_name evidence out, text) → named second ≡ (out ++ codes ".gds", bytes) → named third ≡ (out ++ codes ".lef", summary) → MakesAll (first ∷ second ∷ third ∷ []) old new → HasCell (evidence_name evidence out) out text bytes summary old new
-three_set evidence out text bytes summary first second third old new p q r (one, a, (two, b, (last, c, same))) =
-    cell_set evidence out text bytes summary old one two new (record {
-      first = set_so first (evidence_name evidence out) text old one p a;
-      second = set_so second (out ++ codes ".gds") bytes one two q b;
-      third = subst (λ (files : Files). Sets (out ++ codes ".lef") (Some summary) two files) (sym same) (set_so third (out ++ codes ".lef") summary two last r c);
-    })
+-- a name that is that of no drawing
+no_drawing : (name out bytes summary : List ℕ) → name ≢ out ++ codes ".gds" → name ≢ out ++ codes ".lef" → All (λ (it : List ℕ × List ℕ). name ≢ it.0) (cell_files out bytes summary)
+no_drawing name out bytes summary no_gds no_lef =
+    All-cons (λ (it : List ℕ × List ℕ). name ≢ it.0) (out ++ codes ".gds", bytes) ((out ++ codes ".lef", summary) ∷ []) no_gds
+    (All-cons (λ (it : List ℕ × List ℕ). name ≢ it.0) (out ++ codes ".lef", summary) [] no_lef (All-nil (λ (it : List ℕ × List ℕ). name ≢ it.0)))
 
-cell_made_in : (evidence : Evidence) (out text bytes summary : List ℕ) (files : List Output) (old new : Files) → map named files ≡ (evidence_name evidence out, text) ∷ (out ++ codes ".gds", bytes) ∷ (out ++ codes ".lef", summary) ∷ [] → MakesAll files old new → HasCell (evidence_name evidence out) out text bytes summary old new
-cell_made_in evidence out text bytes summary files old new is made =
-    let (first, second, third, same, p, q, r) = three_are files (evidence_name evidence out, text) (out ++ codes ".gds", bytes) (out ++ codes ".lef", summary) is in
-    three_set evidence out text bytes summary first second third old new p q r (subst (λ (fs : List Output). MakesAll fs old new) same made)
+drawing_made : (out bytes summary : List ℕ) (old new : Files) → HasAll (cell_files out bytes summary) old new → HasDrawing out bytes summary old new
+drawing_made out bytes summary old new has = record {
+  drawing = All-head Holds (out ++ codes ".gds", bytes) ((out ++ codes ".lef", summary) ∷ []) has.each;
+  lef = All-head Holds (out ++ codes ".lef", summary) [] (All-tail Holds (out ++ codes ".gds", bytes) ((out ++ codes ".lef", summary) ∷ []) has.each);
+  others = λ name no_gds no_lef. has.others name (no_drawing name out bytes summary no_gds no_lef);
+}
+  where
+    Holds : List ℕ × List ℕ → Type 0
+    Holds it = new it.0 ≡ Some it.1
+
+cell_all : (file out text bytes summary : List ℕ) (old new : Files) → HasAll ((file, text) ∷ cell_files out bytes summary) old new → HasCell file out text bytes summary old new
+cell_all file out text bytes summary old new has = record {
+  evidence = All-head Holds (file, text) (cell_files out bytes summary) has.each;
+  drawing = All-head Holds (out ++ codes ".gds", bytes) ((out ++ codes ".lef", summary) ∷ []) drawn;
+  lef = All-head Holds (out ++ codes ".lef", summary) [] (All-tail Holds (out ++ codes ".gds", bytes) ((out ++ codes ".lef", summary) ∷ []) drawn);
+  others = λ name differ no_gds no_lef. has.others name (All-cons (λ (it : List ℕ × List ℕ). name ≢ it.0) (file, text) (cell_files out bytes summary) differ (no_drawing name out bytes summary no_gds no_lef));
+}
+  where
+    Holds : List ℕ × List ℕ → Type 0
+    Holds it = new it.0 ≡ Some it.1
+
+    drawn : All Holds (cell_files out bytes summary)
+    drawn = All-tail Holds (file, text) (cell_files out bytes summary) has.each
 
 -- ---- where they are told
 
@@ -179,6 +114,9 @@ both_so R S f None None h = tt
 both_so R S f (Some x) (Some y) h = f x y h
 both_so R S f None (Some y) h = absurd h
 both_so R S f (Some x) None h = absurd h
+
+both_all : (told : List (List ℕ × List ℕ)) (R : Files → Files → Type 0) (files : List Output) (old new : Option Files) → ((x y : Files) → HasAll told x y → R x y) → AreDistinct (map first_of told) → map named files ≡ told → Both (MakesAll files) old new → Both R old new
+both_all told R files old new so apart is made = both_so (MakesAll files) R (λ x y h. so x y (all_made told files x y apart is h)) old new made
 
 -- no file
 none_are : (files : List Output) → map named files ≡ [] → files ≡ []
@@ -189,27 +127,24 @@ pub none_left : (files : List Output) (old new : Option Files) → map named fil
 none_left files old new is made = none_made old new (subst (λ (fs : List Output). Both (MakesAll fs) old new) (none_are files is) made)
 
 pub evidence_made : (file text : List ℕ) (files : List Output) (old new : Option Files) → map named files ≡ (file, text) ∷ [] → Both (MakesAll files) old new → Both (HasEvidence file text) old new
-evidence_made file text files old new is made = both_so (MakesAll files) (HasEvidence file text) (λ x y h. one_made file text files x y is h) old new made
-
-pub cell_made : (evidence : Evidence) (out text bytes summary : List ℕ) (files : List Output) (old new : Option Files) → map named files ≡ (evidence_name evidence out, text) ∷ (out ++ codes ".gds", bytes) ∷ (out ++ codes ".lef", summary) ∷ [] → Both (MakesAll files) old new → Both (HasCell (evidence_name evidence out) out text bytes summary) old new
-cell_made evidence out text bytes summary files old new is made = both_so (MakesAll files) (HasCell (evidence_name evidence out) out text bytes summary) (λ x y h. cell_made_in evidence out text bytes summary files x y is h) old new made
+evidence_made file text files old new is made = both_all ((file, text) ∷ []) (HasEvidence file text) files old new (one_made file text) (distinct_one file) is made
 
 pub library_made : (out bytes : List ℕ) (files : List Output) (old new : Option Files) → map named files ≡ (out ++ codes ".gds", bytes) ∷ [] → Both (MakesAll files) old new → Both (HasLibrary out bytes) old new
-library_made out bytes files old new is made = both_so (MakesAll files) (HasLibrary out bytes) (λ x y h. library_set out bytes files x y is h) old new made
+library_made out bytes files old new is made = both_so (HasEvidence (out ++ codes ".gds") bytes) (HasLibrary out bytes) (library_alone out bytes) old new (evidence_made (out ++ codes ".gds") bytes files old new is made)
 
 -- ---- by the origin of the row
 
--- the file of its evidence, which is made of a search
-abbrev pub told_files : Origin → List ℕ → List ℕ → List (List ℕ × List ℕ)
-told_files (Search evidence) out text = (evidence_name evidence out, text) ∷ []
-told_files (File evidence given) out text = []
+pub files_made : (origin : Origin) (cell : Subckt) (out text bytes summary : List ℕ) (files : List Output) (old new : Option Files) → map named files ≡ told_files origin cell out text ++ cell_files out bytes summary → Both (MakesAll files) old new → Both (HasFiles origin cell out text bytes summary) old new
+files_made (Search evidence) cell out text bytes summary files old new is made =
+    both_all ((evidence_name evidence out, text) ∷ cell_files out bytes summary) (HasCell (evidence_name evidence out) out text bytes summary) files old new (cell_all (evidence_name evidence out) out text bytes summary) (distinct_three evidence out) is made
+files_made (File evidence given) cell out text bytes summary files old new is made =
+    both_all (cell_files out bytes summary) (HasDrawing out bytes summary) files old new (drawing_made out bytes summary) (distinct_two out) is made
+files_made (Low evidence tracks) cell out text bytes summary files old new is made =
+    both_all (told_files (Low evidence tracks) cell out text ++ cell_files out bytes summary) (HasFiles (Low evidence tracks) cell out text bytes summary) files old new (λ x y h. h) (distinct_drawn (Low evidence tracks) cell out text bytes summary) is made
 
-pub files_made : (origin : Origin) (out text bytes summary : List ℕ) (files : List Output) (old new : Option Files) → map named files ≡ told_files origin out text ++ (out ++ codes ".gds", bytes) ∷ (out ++ codes ".lef", summary) ∷ [] → Both (MakesAll files) old new → Both (HasFiles origin out text bytes summary) old new
-files_made (Search evidence) out text bytes summary files old new is made = cell_made evidence out text bytes summary files old new is made
-files_made (File evidence given) out text bytes summary files old new is made =
-    both_so (MakesAll files) (HasDrawing out bytes summary) (λ x y h. drawing_made_in out bytes summary files x y is h) old new made
-
-pub none_drawn : (origin : Origin) (out text : List ℕ) (files : List Output) (old new : Option Files) → map named files ≡ told_files origin out text → Both (MakesAll files) old new → Both (HasNoDrawing origin out text) old new
-none_drawn (Search evidence) out text files old new is made = evidence_made (evidence_name evidence out) text files old new is made
-none_drawn (File evidence given) out text files old new is made =
+pub none_drawn : (origin : Origin) (cell : Subckt) (out text : List ℕ) (files : List Output) (old new : Option Files) → map named files ≡ told_files origin cell out text → Both (MakesAll files) old new → Both (HasNoDrawing origin cell out text) old new
+none_drawn (Search evidence) cell out text files old new is made = evidence_made (evidence_name evidence out) text files old new is made
+none_drawn (File evidence given) cell out text files old new is made =
     both_so (MakesAll files) (λ (x y : Files). y ≡ x) (λ x y h. subst (λ (fs : List Output). MakesAll fs x y) (none_are files is) h) old new made
+none_drawn (Low evidence tracks) cell out text files old new is made =
+    both_all (told_files (Low evidence tracks) cell out text) (HasNoDrawing (Low evidence tracks) cell out text) files old new (λ x y h. h) (distinct_alone (Low evidence tracks) cell out text) is made

@@ -35,7 +35,7 @@ use Rattle.run_laws.proofs.AskedFor.{asked_told}
 use Rattle.run_laws.proofs.MakeSettled.{Leaves, make_leaves_so}
 use Rattle.run_laws.proofs.Worked.{Completes, IsAnswered, ends_told, settles, work_statuses}
 
--- ---- what it leaves behind, by its status
+-- ---- what it leaves, by its status
 
 pub make_leaves : (settled : Status) (a c : View) (form : Option Form) (answer : Status) (given : Option Files) → is_among work_statuses settled ≡ true → IfSome given (IsAnswered form a c answer) → IfSome given (λ files. WhereMakeEnds files form answer settled (λ evidence style inputs out. Leaves evidence style inputs out a c settled))
 make_leaves settled a c form answer given own told =
@@ -48,7 +48,7 @@ pub spends_less : (inputs : Inputs) (log : SearchLog) (proved : ℕ) → ForKind
 spends_less inputs log proved much (version, (k, are, some, spent)) = absurd (omega (arith, much k are some, spent.short))
 
 -- what is found is the first least row, whatever the evidence is
-found_first : (evidence : Evidence) (inputs : Inputs) (row : List Column) (certificate : Certificate) → IsFoundBy evidence inputs row certificate → IsFirstLeast inputs.fingers row
+pub found_first : (evidence : Evidence) (inputs : Inputs) (row : List Column) (certificate : Certificate) → IsFoundBy evidence inputs row certificate → IsFirstLeast inputs.fingers row
 found_first Log inputs row (held.Log log) is = is.first
 found_first Trails inputs row (held.Trails trails) (nodes, is) = is.first
 found_first Log inputs row (held.Trails trails) is = absurd is

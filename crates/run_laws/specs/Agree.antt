@@ -2,6 +2,7 @@
 use Rattle.std.specs.Prelude.{◌⊎◌, Option, ℕ, ◌≡◌, List, Some, Ok}
 use Rattle.cell_io.specs.Desk.{Files, View, Both}
 use Rattle.channel_route.specs.declared.routing.Routing.{Routing}
+use Rattle.track_log.specs.declared.certificate.TrackCertificate.{TrackCertificate}
 use Rattle.row_model.specs.declared.column.Column.{Column}
 use Rattle.lef_read.specs.declared.differ.Differ.{Differ}
 use Rattle.call_end.specs.Deliver.{Says}
@@ -12,7 +13,8 @@ use Rattle.call_read.specs.InputFiles.{technology_from}
 use Rattle.call_read.specs.Reading.{called}
 use Rattle.cell_inputs.specs.Inputs.{Inputs}
 use Rattle.cell_inputs.specs.declared.style.Style.{Style}
-use Rattle.cell_make.specs.Making.{IsDrawn, abstract_of, drawing_in, final_in, library_of}
+use Rattle.cell_make.specs.Low.{IsLowRouted}
+use Rattle.cell_make.specs.Making.{IsDrawn, IsDrawnAs, abstract_of, drawing_in, final_in, library_of}
 use Rattle.layout_commands.specs.Agree.{HasDifference, IsAgreeAnswer, IsDisagreement, IsUnextracted, agree_end}
 use Rattle.layout_commands.specs.declared.agreement.AgreeAnswer.{AgreeAnswer}
 use Rattle.layout_commands.specs.declared.agreement.AgreeAnswer.TheVariants.{Agreed, Differs}
@@ -57,6 +59,13 @@ HasDisagreement files form = IsRefusedBy IsLefFault files form ⊎ OfCompared fi
 abbrev pub HasNoNets : Files → Option Form → Type 0
 HasNoNets files form = IsRefusedBy IsGdsFault files form ⊎ OfCompared files form (HasDifference IsUnextracted)
 
+-- the row is drawn, with its channel routed as `make` routes it, or with `--low`
+abbrev pub IsDrawnAnyhow : Style → Inputs → List Column → Routing → List ℕ → Type 0
+IsDrawnAnyhow style inputs row routing lines =
+    IsDrawn style inputs row routing lines
+    ⊎ ((tracks : TrackCertificate)
+    × IsDrawnAs (IsLowRouted style inputs row tracks routing) style inputs row routing lines)
+
 -- The words ask for a comparison of the files of a drawn row, in any style and with any evidence: the technology is
 -- that of its inputs, CELL is its name, the GDSII file is its library and the LEF file its abstract.
 pub record ComparesMade (files : Files) (form : Option Form) : Type 0 where
@@ -65,7 +74,7 @@ pub record ComparesMade (files : Files) (form : Option Form) : Type 0 where
   pub row : List Column
   pub routing : Routing
   pub lines : List ℕ
-  pub drawn : IsDrawn style inputs row routing lines
+  pub drawn : IsDrawnAnyhow style inputs row routing lines
   pub tech : Option (List ℕ)
   pub gds : List ℕ
   pub lef : List ℕ

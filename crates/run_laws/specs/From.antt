@@ -1,5 +1,5 @@
 -- What a call of `make` with a given file leaves, and how it has to end.
-use Rattle.std.specs.Prelude.{ℕ, ◌≡◌, List, Option, Some, Ok}
+use Rattle.std.specs.Prelude.{ℕ, ◌≡◌, List, Option, Some, Ok, IfSome}
 use Rattle.cell_io.specs.Desk.{Files, View, Both}
 use Rattle.cell_num.specs.Names.{lowered}
 use Rattle.row_model.specs.declared.column.Column.{Column}
@@ -16,6 +16,7 @@ use Rattle.cell_inputs.specs.Inputs.{Inputs}
 use Rattle.cell_commands.specs.Given.{IsRefusedBy}
 use Rattle.run_laws.specs.Ended.{Gathers, IsOfKind, WhereEnds}
 use Rattle.run_laws.specs.Evidence.{Certificate, IsTextOfAccepted}
+use Rattle.run_laws.specs.Headline.{IsCyclicCell, IsMadeCell, IsTallCell}
 use Rattle.run_laws.specs.Origin.{ListsIn, Origin, File}
 
 abbrev pub IsMakeFrom : Option Form → Type 0
@@ -38,6 +39,22 @@ pub record IsAskedFrom (files : Files) (form : Option Form) (m : FromMaterial) :
 abbrev pub WhereFromEnds : Files → Option Form → Status → Status → (FromMaterial → Type 0) → Type 0
 WhereFromEnds files form answer settled Says =
     WhereEnds MakingFrom files form answer settled (λ m. IsAskedFrom files form m × Says m)
+
+-- over files that are told, so it is of the inputs and of the desk before and after the call, where it ends so
+abbrev pub IfFrom : View → View → Option Form → Status → Status → (FromMaterial → View → View → Type 0) → Type 0
+IfFrom old new form answer settled Says =
+    IfSome old.given (λ files. WhereFromEnds files form answer settled (λ m. Says m old new))
+
+-- the row that the file lists is drawn; or nets of it stand above each other in a ring; or it needs more than the
+-- height
+abbrev pub IsMadeFrom : FromMaterial → View → View → Type 0
+IsMadeFrom m old new = IsMadeCell (file_of m) m.style m.inputs m.stem old new
+
+abbrev pub IsCyclicFrom : FromMaterial → View → View → Type 0
+IsCyclicFrom m old new = IsCyclicCell (file_of m) m.style m.inputs m.stem old new
+
+abbrev pub IsTallFrom : FromMaterial → View → View → Type 0
+IsTallFrom m old new = IsTallCell (file_of m) m.style m.inputs m.stem old new
 
 -- A check of the file does not accept it. The report of the check was said, and no file is made.
 pub record IsRefusedFile (m : FromMaterial) (old new : View) : Type 0 where

@@ -21,7 +21,8 @@ use Rattle.call_end.specs.Status.{first_line}
 use Rattle.call_work.specs.Commands.{Making}
 use Rattle.run_laws.specs.Evidence.{Certificate, HasEnough, HasEvidence, ProvesAlone, evidence_counts, evidence_name}
 use Rattle.run_laws.specs.Evidence.{evidence_text, lemma_count}
-use Rattle.run_laws.specs.Origin.{CertifiesBy, HasFiles, HasNoDrawing, IsRowOf, Origin, kind_of_evidence}
+use Rattle.run_laws.specs.Origin.{CertifiesBy, HasFiles, HasNoDrawing, IsRoutedOf, IsRowOf, IsStopOf, Origin}
+use Rattle.run_laws.specs.Origin.{fewest_of, kind_of_evidence}
 use Rattle.run_laws.specs.Ended.{Gathers, IsOfKind, WhereEnds}
 use Rattle.run_laws.specs.Plan.{IsCrowdedCell}
 use Rattle.call_end.specs.declared.status.Status.{Status}
@@ -32,11 +33,11 @@ use Rattle.cell_inputs.specs.declared.style.Style.{Style}
 use Rattle.cell_make.specs.Extent.{frame_in}
 use Rattle.cell_make.specs.Making.{AreLeastLines, AreSmall, IsRouted, abstract_of, drawing_in, library_of, ports_in}
 use Rattle.cell_report.specs.Cycles.{ring_text}
-use Rattle.cell_report.specs.Cells.{sizes_text, tall_text}
+use Rattle.cell_report.specs.Cells.{sizes_with, tall_text}
 use Rattle.cell_report.specs.Rows.{plan_text}
 use Rattle.cell_report.specs.Logs.{unfinished_text}
 use Rattle.cell_make.specs.Structures.{HasOneStructure}
-use Rattle.cell_make.specs.Style.{AreBodiedBy, AreLegal, AreTight, HasNoRing, HasPinPort, IsRing, IsToldRing}
+use Rattle.cell_make.specs.Style.{AreBodiedBy, AreLegal, HasNoRing, HasPinPort, IsRing, IsToldRing}
 use Rattle.cell_make.specs.Style.{ShowsWiring, deck_of, final}
 use Rattle.call_words.specs.Asked.{CellAsked}
 use Rattle.call_words.specs.declared.evidence.Evidence.{Evidence}
@@ -84,10 +85,11 @@ pub record IsMadeCell (origin : Origin) (style : Style) (inputs : Inputs) (out :
   pub certified : CertifiesBy origin inputs row certificate
   -- No nets stand above each other in a ring; with doglegs no pieces of nets do.
   pub acyclic : HasNoRing style.wiring (placement_of row) inputs.cell.pins
-  -- Each net that needs a trunk has one, or with doglegs its pieces; trunks of different nets on one track are apart,
-  -- and each stands on the least track that is free for it.
+  -- Each net that needs a trunk has one, or with doglegs its pieces; trunks of different nets on one track are apart.
+  -- Each stands on the least track that is free for it, or with `--low` the row is the first least one on the fewest
+  -- tracks, and its routing the first on these.
   pub legal : AreLegal style.wiring (placement_of row) inputs.cell.pins routing
-  pub tight : AreTight style.wiring (placement_of row) inputs.cell.pins routing
+  pub tracks : IsRoutedOf origin style inputs row routing
   -- The lines keep their distances, each of them as far left as any other such lines.
   pub least_lines : AreLeastLines (placement_of row) inputs.cell.pins routing lines
   -- The height of the technology, where it has one, is enough.
@@ -136,12 +138,12 @@ pub record IsMadeCell (origin : Origin) (style : Style) (inputs : Inputs) (out :
   -- The library stands in `OUT.gds`, and in `OUT.lef` the macro of the cell with these ports, obstructions and this
   -- size. Of a search the text of a log stands in `OUT.clog`, or of a certificate by trails in `OUT.ctrail`.
   pub files :
-      Both (HasFiles origin out (evidence_text (kind_of_evidence origin) inputs.cell.name certificate)
+      Both (HasFiles origin inputs.cell out (evidence_text (kind_of_evidence origin) inputs.cell.name certificate)
       (library_of inputs layout) (abstract_of inputs routing drawing)) old.made new.made
   -- The report says the columns, the tracks, the width and height, and how many lemmas the evidence has.
   pub says :
       Both (Says (first_line status.Done ++ plan_text inputs.cell.name inputs.cell.nets row
-      ++ sizes_text routing.tracks drawing.width drawing.height
+      ++ sizes_with routing.tracks (fewest_of origin) drawing.width drawing.height
       ++ evidence_counts (kind_of_evidence origin) certificate))
       old.said new.said
 
@@ -158,8 +160,9 @@ pub record IsCyclicCell (origin : Origin) (style : Style) (inputs : Inputs) (out
   pub certified : CertifiesBy origin inputs row certificate
   pub is_ring : IsRing style.wiring (placement_of row) inputs.cell.pins ring
   pub is_told : IsToldRing style.wiring (placement_of row) inputs.cell.pins ring
+  pub alone : IsStopOf origin inputs row
   pub files :
-      Both (HasNoDrawing origin out (evidence_text (kind_of_evidence origin) inputs.cell.name certificate))
+      Both (HasNoDrawing origin inputs.cell out (evidence_text (kind_of_evidence origin) inputs.cell.name certificate))
       old.made new.made
   pub says : Both (Says (first_line status.Cycle ++ ring_text inputs.cell.nets ring)) old.said new.said
 
@@ -174,14 +177,14 @@ pub record IsTallCell (origin : Origin) (style : Style) (inputs : Inputs) (out :
   pub certified : CertifiesBy origin inputs row certificate
   pub acyclic : HasNoRing style.wiring (placement_of row) inputs.cell.pins
   pub legal : AreLegal style.wiring (placement_of row) inputs.cell.pins routing
-  pub tight : AreTight style.wiring (placement_of row) inputs.cell.pins routing
+  pub tracks : IsRoutedOf origin style inputs row routing
   pub tall : IsTooTall row routing.tracks inputs.tech.height
   pub files :
-      Both (HasNoDrawing origin out (evidence_text (kind_of_evidence origin) inputs.cell.name certificate))
+      Both (HasNoDrawing origin inputs.cell out (evidence_text (kind_of_evidence origin) inputs.cell.name certificate))
       old.made new.made
   pub says :
-      Both (Says (first_line status.TooTall ++ tall_text (needed_of row routing.tracks) inputs.tech.height))
-      old.said new.said
+      Both (Says (first_line status.TooTall ++ fewest_of origin
+      ++ tall_text (needed_of row routing.tracks) inputs.tech.height)) old.said new.said
 
 -- The search spent its budget: the evidence proves that no row has fewer gaps than the report says.
 pub record IsSpentSearch (evidence : Evidence) (inputs : Inputs) (out : List ℕ) (old new : View) : Type 0 where

@@ -9,6 +9,7 @@ pub mod Evidence
 pub mod Extract
 pub mod From
 pub mod Headline
+pub mod Low
 pub mod Origin
 pub mod Plan
 pub mod Row

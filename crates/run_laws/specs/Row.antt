@@ -20,6 +20,7 @@ use Rattle.cell_num.specs.Names.{lowered}
 use Rattle.run_laws.specs.Ended.{Gathers, IsOfKind, IsToldFault, WhereEnds}
 use Rattle.run_laws.specs.From.{IsMakeFrom}
 use Rattle.run_laws.specs.Headline.{CanBeDrawn, IsMake, OfFirstLeast}
+use Rattle.run_laws.specs.Low.{IsMakeLow}
 use Rattle.cell_report.specs.Faults.{fault_line}
 use Rattle.cell_report.specs.RowFaults.{row_fault}
 use Rattle.row_abut.specs.declared.cell.RowFault.{RowFault}
@@ -141,9 +142,9 @@ IsApartOrShort fault answer old new =
 
 -- ---- calls that make files
 
--- a call of `make`, for a row that is searched for or for that of a given file, or of `row`
+-- a call of `make`, for a row that is searched for, for that of a given file or for the lowest one, or of `row`
 abbrev pub MayMakeFiles : Option Form → Type 0
-MayMakeFiles form = IsMake form ⊎ IsRow form ⊎ IsMakeFrom form
+MayMakeFiles form = IsMake form ⊎ IsRow form ⊎ IsMakeFrom form ⊎ IsMakeLow form
 
 -- the statuses of a row that may leave a file
 abbrev pub row_file_statuses : List Status

@@ -6,6 +6,8 @@ use Rattle.run_laws.proofs.BenchTold.{benched_told, benches_told}
 use Rattle.run_laws.proofs.Created.{once_told}
 use Rattle.run_laws.proofs.ExtractTold.{breaks_told, broken_told, extracted_told, extracts_told, layout_faults_told, layout_told}
 use Rattle.run_laws.proofs.FromTold.{from_draws_told, from_leaves, from_meets_told, from_needs_told, from_refuses_told}
+use Rattle.run_laws.proofs.LowChecked.{low_accepts_told, low_checked_told, low_proved_told}
+use Rattle.run_laws.proofs.LowTold.{low_draws_told, low_leaves}
 use Rattle.run_laws.proofs.MadeCompared.{agrees_made_told}
 use Rattle.run_laws.proofs.MakeTold.{draws_told, make_leaves, meets_told, needs_told}
 use Rattle.run_laws.proofs.PlanTold.{accepts_told, checked_told, planned_told, plans_told, unplanned_told}
@@ -201,3 +203,27 @@ returns-clause-needs_from g c = from_needs_told (g.D.Desk.view c.args.desk.now) 
 
 pub returns-clause-rejects_from : goal.returns-clause-rejects_from
 returns-clause-rejects_from g c = from_refuses_told (g.D.Desk.view c.args.desk.now) (g.D.Desk.view c.deliver.new.desk) (asked c.args.words.now) c.deliver.result (g.D.Desk.view c.args.desk.now).given (returns-clause-completes g c)
+
+pub returns-clause-drawn_low : goal.returns-clause-drawn_low
+returns-clause-drawn_low g c = low_leaves status.Done (g.D.Desk.view c.args.desk.now) (g.D.Desk.view c.deliver.new.desk) (asked c.args.words.now) c.deliver.result (g.D.Desk.view c.args.desk.now).given refl (returns-clause-called_for g c)
+
+pub returns-clause-cyclic_low : goal.returns-clause-cyclic_low
+returns-clause-cyclic_low g c = low_leaves status.Cycle (g.D.Desk.view c.args.desk.now) (g.D.Desk.view c.deliver.new.desk) (asked c.args.words.now) c.deliver.result (g.D.Desk.view c.args.desk.now).given refl (returns-clause-called_for g c)
+
+pub returns-clause-tall_low : goal.returns-clause-tall_low
+returns-clause-tall_low g c = low_leaves status.TooTall (g.D.Desk.view c.args.desk.now) (g.D.Desk.view c.deliver.new.desk) (asked c.args.words.now) c.deliver.result (g.D.Desk.view c.args.desk.now).given refl (returns-clause-called_for g c)
+
+pub returns-clause-spent_low : goal.returns-clause-spent_low
+returns-clause-spent_low g c = low_leaves status.Unfinished (g.D.Desk.view c.args.desk.now) (g.D.Desk.view c.deliver.new.desk) (asked c.args.words.now) c.deliver.result (g.D.Desk.view c.args.desk.now).given refl (returns-clause-called_for g c)
+
+pub returns-clause-draws_low : goal.returns-clause-draws_low
+returns-clause-draws_low g c = low_draws_told (g.D.Desk.view c.args.desk.now) (g.D.Desk.view c.deliver.new.desk) (asked c.args.words.now) c.deliver.result (g.D.Desk.view c.args.desk.now).given (returns-clause-completes g c)
+
+pub returns-clause-checked_low : goal.returns-clause-checked_low
+returns-clause-checked_low g c = low_checked_told (g.D.Desk.view c.args.desk.now) (g.D.Desk.view c.deliver.new.desk) (asked c.args.words.now) c.deliver.result (g.D.Desk.view c.args.desk.now).given (returns-clause-called_for g c)
+
+pub returns-clause-proved_low : goal.returns-clause-proved_low
+returns-clause-proved_low g c = low_proved_told (g.D.Desk.view c.args.desk.now) (g.D.Desk.view c.deliver.new.desk) (asked c.args.words.now) c.deliver.result (g.D.Desk.view c.args.desk.now).given (returns-clause-called_for g c)
+
+pub returns-clause-accepts_low : goal.returns-clause-accepts_low
+returns-clause-accepts_low g c = low_accepts_told (g.D.Desk.view c.args.desk.now) (g.D.Desk.view c.deliver.new.desk) (asked c.args.words.now) c.deliver.result (g.D.Desk.view c.args.desk.now).given (returns-clause-completes g c)
