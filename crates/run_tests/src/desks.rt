@@ -7,7 +7,7 @@ use cell_run::Status;
 use std::alloc::Global;
 use std::test::Fail;
 
-const NAMES: [&str; 3] = ["out.clog", "out.gds", "out.lef"];
+const NAMES: [&str; 4] = ["out.clog", "out.ctrack", "out.gds", "out.lef"];
 
 const LOG: &str = "cellgen-log 1
 cell x3
@@ -19,12 +19,22 @@ column 2 2 1 2 1
 end
 ";
 
-// A technology, three inverters, their log and their drawing.
-fn files_with(drawing: &[u8]) -> [Given; 4] {
+// They need a track.
+const TRACKS: &str = "cellgen-tracks 1
+cell x3
+gaps 1
+tracks 1
+lemma 1 1,1,1 1,1,1 - - -
+end
+";
+
+// A technology, three inverters, their log, their certificate of tracks and their drawing.
+fn files_with(drawing: &[u8]) -> [Given; 5] {
     [
         ("t.toml", b"budget = 9\n"),
         ("c.sp", INVERTERS.as_bytes()),
         ("l.clog", LOG.as_bytes()),
+        ("l.ctrack", TRACKS.as_bytes()),
         ("c.gds", drawing),
     ]
 }
@@ -161,11 +171,13 @@ fn ends_so(
 }
 
 // Words, how many calls of the desk read, and how many there are. A file is read by two calls, its bytes and its end.
-const COMMANDS: [(&str, [u64; 2]); 7] = [
+const COMMANDS: [(&str, [u64; 2]); 9] = [
     ("plan t.toml c.sp x3", [4, 5]),
     ("make t.toml c.sp x3 out", [4, 11]),
     ("make t.toml c.sp x3 out --from l.clog", [6, 11]),
+    ("make t.toml c.sp x3 out --low", [4, 13]),
     ("check t.toml c.sp X3 l.clog", [6, 7]),
+    ("check t.toml c.sp x3 l.ctrack --low", [6, 7]),
     ("extract t.toml c.gds x3", [4, 5]),
     ("row t.toml c.sp out pair x3 x3", [4, 7]),
     ("bench 1", [0, 1]),

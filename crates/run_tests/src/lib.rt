@@ -26,6 +26,8 @@ mod given_rows;
 #[cfg(test)]
 mod logs;
 #[cfg(test)]
+mod low_rows;
+#[cfg(test)]
 mod make;
 #[cfg(test)]
 mod rows;
@@ -37,6 +39,8 @@ mod sizes;
 mod tapped;
 #[cfg(test)]
 mod taps;
+#[cfg(test)]
+mod track_checks;
 #[cfg(test)]
 mod trail_cells;
 #[cfg(test)]

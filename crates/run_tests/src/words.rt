@@ -23,6 +23,8 @@ plan TECH SPICE CELL --trails
 check TECH SPICE CELL FILE --trails
 make TECH SPICE CELL OUT [--dogleg] [--taps] --trails
 make TECH SPICE CELL OUT [--dogleg] [--taps] [--trails] --from FILE
+make TECH SPICE CELL OUT [--taps] --low [--trails]
+check TECH SPICE CELL FILE --low
 ";
 
 const BENCH: &str = "status 0 ok
@@ -49,7 +51,7 @@ bytes 1397094
 ";
 
 // Calls over the inverter: the words and the end.
-const CALLS: [(&str, Status, &str); 23] = [
+const CALLS: [(&str, Status, &str); 28] = [
     ("plan - c.sp INV", Status::Done, ROW),
     ("plan t.toml c.sp inv", Status::Done, ROW),
     ("plan - d.sp inv", Status::ReadFault, "status 2 read d.sp\n"),
@@ -83,6 +85,19 @@ const CALLS: [(&str, Status, &str); 23] = [
     ("make - c.sp inv out --from", Status::Usage, USAGE),
     (
         "make - c.sp inv out --from l.clog --trails",
+        Status::Usage,
+        USAGE,
+    ),
+    ("make - c.sp inv out --dogleg --low", Status::Usage, USAGE),
+    ("make - c.sp inv out --low --taps", Status::Usage, USAGE),
+    ("make - c.sp inv out --trails --low", Status::Usage, USAGE),
+    (
+        "make - c.sp inv out --low --from l.clog",
+        Status::Usage,
+        USAGE,
+    ),
+    (
+        "check - c.sp inv l.clog --low --trails",
         Status::Usage,
         USAGE,
     ),
