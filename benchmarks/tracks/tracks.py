@@ -158,6 +158,8 @@ def held(cell, before, line, later):
 def ways_at(cell, limit, before, line, later, tracks):
     """Each way to give tracks to the nets that hold a line, where some have one already."""
     holding = held(cell, before, line, later)
+    if len(set(tracks.values())) < len(tracks):
+        return
     missing = sorted(holding - set(tracks))
     free = [track for track in range(limit) if track not in tracks.values()]
     for chosen in itertools.permutations(free, len(missing)):

@@ -1,0 +1,227 @@
+"""What `make .. --low` answers for a small cell, compared with what its lowest row has to be."""
+import importlib.machinery
+import pathlib
+import resource
+import signal
+import subprocess
+
+from lowest_row import channel, lines_of, needed_height, rows
+
+certificate = importlib.machinery.SourceFileLoader("certificate", str(pathlib.Path(__file__).resolve().parent / "certificate")).load_module()
+UNIT_NM, METAL1 = 150, 49
+LAYER, XY = 0x0D02, 0x1003                                         # records of a GDSII file
+SECONDS = 20                                                       # of a processor, for one call
+
+
+class Differs(Exception):
+    """What the program answers and what was expected."""
+
+
+class Spent(Exception):
+    """A call took more than SECONDS."""
+
+
+def same(what, found, wanted):
+    if found != wanted:
+        raise Differs(f"{what}:\n{found}\nexpected:\n{wanted}")
+
+
+def row_lines(cell, row):
+    """The report's lines of a row's columns."""
+    def place(at, one):
+        return "- - 0" if one is None else "{} {} {}".format(*(cell.nets[net] for net in cell.ends(at, one)), cell.width(at, one))
+    return [f"column {at} gate {cell.nets[column.gate]} p {place(0, column.p)} n {place(1, column.n)}" for at, column in enumerate(row)]
+
+
+def evidence_lines(row):
+    """The lines of a row's columns in a log or a certificate by trails."""
+    return ["column " + " ".join(map(str, (column.gate, *(column.p or ("-", 0)), *(column.n or ("-", 0))))) for column in row]
+
+
+def expected(cell, name, found, height):
+    """The report of a cell that is made, to the line of its size."""
+    width = lines_of(channel(cell, found.row), found.routing)[-1] + 8
+    return ["status 0 ok", f"cell {name}", f"columns {cell.columns}", f"gaps {found.gaps}", f"width {cell.columns + found.gaps}",
+            *row_lines(cell, found.row), f"tracks {found.tracks}", f"fewest {found.tracks}",
+            f"size {width} {height or needed_height(cell, found.row, found.tracks)}"]
+
+
+def rectangles(data, layer):
+    """The rectangles of a layer of a GDSII file, in grid units."""
+    at, on, found = 0, None, set()
+    while at < len(data):
+        size, code = int.from_bytes(data[at:at + 2], "big"), int.from_bytes(data[at + 2:at + 4], "big")
+        body, at = data[at + 4:at + size], at + size
+        if code == LAYER:
+            on = int.from_bytes(body, "big")
+        elif code == XY and on == layer and len(body) == 40:
+            points = [int.from_bytes(body[byte:byte + 4], "big", signed=True) / UNIT_NM for byte in range(0, 40, 4)]
+            found.add((min(points[::2]), min(points[1::2]), max(points[::2]), max(points[1::2])))
+    return found
+
+
+class Made:
+    """A cell in a folder, the program, and what the program has to find."""
+
+    def __init__(self, program, room, cell, found):
+        self.program, self.room, self.cell, self.found = str(pathlib.Path(program).resolve()), room, cell, found
+        self.first = next(rows(cell, found.gaps))
+        self.accepted = set()                                      # certificates that both readers accept
+
+    def run(self, *words):
+        """The lines of the report, of which the first names the status."""
+        ended = subprocess.run([self.program, *words], cwd=self.room, capture_output=True, check=False,
+                               preexec_fn=lambda: resource.setrlimit(resource.RLIMIT_CPU, (SECONDS, SECONDS + 1)))
+        if ended.returncode in (-signal.SIGXCPU, -signal.SIGKILL):
+            raise Spent
+        lines = ended.stdout.decode("latin-1").splitlines()
+        same(f"the status of {' '.join(words)}", [lines[0].split()[1] if lines else "", ended.stderr], [str(ended.returncode), b""])
+        return lines
+
+    def make(self, tech, out, *words):
+        """The report of `make` and its files by their endings."""
+        for file in self.room.glob(f"{out}.*"):
+            file.unlink()
+        lines = self.run("make", tech, "x.sp", "x", out, *words)
+        return lines, {file.suffix[1:]: file.read_bytes() for file in self.room.glob(f"{out}.*")}
+
+    def tracks_proved(self, tech, files, fewest):
+        """The certificate of tracks is there where it says something, and both readers accept it."""
+        same("whether there is a certificate of tracks", "ctrack" in files, fewest > 0)
+        if fewest and files["ctrack"] not in self.accepted:
+            said = ["status 0 ok", "cell x", f"gaps {self.found.gaps}", f"fewest {fewest}"]
+            same("check .. --low", self.run("check", tech, "x.sp", "x", "low.ctrack", "--low"), said)
+            try:
+                reading = certificate.cell_of(self.room / "x.sp", "x")
+                read = certificate.check(reading, "x", files["ctrack"].decode("latin-1"))
+            except certificate.Wrong as wrong:
+                raise Differs(f"the other reader refuses the certificate: {wrong}") from None
+            same("the certificate", read[:2], (self.found.gaps, fewest))
+            self.accepted.add(files["ctrack"])
+        if fewest:
+            head = files["ctrack"].decode("latin-1").splitlines()[:4]
+            same("the certificate's head", head, ["cellgen-tracks 1", "cell x", f"gaps {self.found.gaps}", f"tracks {fewest}"])
+
+    def evidence(self, tech, files, words, row):
+        """The evidence for the gaps is accepted, and lists that row. Returns the report's lines about it."""
+        trails = [word for word in words if word == "--trails"]
+        ending = "ctrail" if trails else "clog"
+        text = files[ending].decode("latin-1").splitlines()
+        same("the row of the evidence", [line for line in text if line.startswith("column")], evidence_lines(row))
+        counts = [f"lemmas {sum(line.startswith('lemma ') for line in text)}"]
+        if trails:
+            counts += [f"filled {len(text[2].replace(',', ' ').replace('-', '').split()) - 1}"]
+        if files[ending] not in self.accepted:
+            checked = self.run("check", tech, "x.sp", "x", f"low.{ending}", *trails)
+            same("check of the evidence", [checked[0], *checked[5:]], ["status 0 ok", *counts])
+            self.accepted.add(files[ending])
+        return counts
+
+    def drawn(self, tech, files, words):
+        """The drawing has the trunks of the first routing, and is the subcircuit; the abstract agrees."""
+        cell, found = self.cell, self.found
+        it = channel(cell, found.row)
+        xs = lines_of(it, found.routing)
+        base = 44 + max([10, *(cell.width(1, column.n) for column in found.row if column.n)])
+        trunks = {(xs[it.spans[net][0]] - 4, base + 16 * track - 4, xs[it.spans[net][1]] + 4, base + 16 * track + 4)
+                  for net, track in found.routing.items()}
+        same("trunks that are not drawn", trunks - rectangles(files["gds"], METAL1), set())
+        said = self.run("extract", tech, "low.gds", "x", *(word for word in words if word == "--taps"))
+        same("extract", said[0], "status 0 ok")
+        same("the nets", sorted(line.split()[2] for line in said if line.startswith("net ")), sorted(cell.nets))
+        devices = sorted((at, cell.nets[one.gate], *sorted((cell.nets[one.lo], cell.nets[one.hi])), str(one.width))
+                         for at, kinds in enumerate(cell.kinds) for one, count in zip(kinds, cell.counts[at]) for _ in range(count))
+        parts = [line.split() for line in said if line.startswith("device ")]
+        same("the devices", sorted(("pn".index(part[2]), part[4], *sorted(part[6:8]), part[9]) for part in parts), devices)
+        same("agree", self.run("agree", tech, "low.gds", "low.lef", "x")[0], "status 0 ok")
+
+    def tech(self, **keys):
+        (self.room / "x.toml").write_text("".join(f"{key} = {value}\n" for key, value in keys.items()), encoding="ascii")
+        return "x.toml"
+
+
+def whole(made, tech, words, height=0, is_read=True):
+    """The answer within the budget, where the cell is made."""
+    said, files = made.make(tech, "low", *words)
+    counts = made.evidence(tech, files, words, made.found.row)
+    same("the report", said, expected(made.cell, "x", made.found, height) + counts)
+    same("the files", sorted(files), sorted([*("ctrack" for _ in range(made.found.tracks > 0)), "gds", "lef",
+                                             "ctrail" if "--trails" in words else "clog"]))
+    made.tracks_proved(tech, files, made.found.tracks)
+    if is_read:
+        made.drawn(tech, files, words)
+
+
+def unwired(made, tech, words):
+    """No least row is wired: the answer of `make`, and a proof that each takes as many tracks as there are nets."""
+    said, files = made.make(tech, "low", *words)
+    plain, old = made.make(tech, "make", *(word for word in words if word != "--low"))
+    same("the report", said, plain)
+    same("the status", said[0], "status 5 cycle")
+    made.evidence(tech, files, words, made.first)
+    made.tracks_proved(tech, files, len(made.cell.nets))
+    same("the files", {**files, "ctrack": b""}, {**old, "ctrack": b""})
+
+
+def too_tall(made, tech, words, height):
+    said, files = made.make(tech, "low", *words)
+    needed = needed_height(made.cell, made.found.row, made.found.tracks)
+    same("the report", said, ["status 11 tall", f"fewest {made.found.tracks}", f"needed {needed}", f"given {height}"])
+    made.evidence(tech, files, words, made.found.row)
+    made.tracks_proved(tech, files, made.found.tracks)
+    same("a drawing", {"gds", "lef"} & set(files), set())
+
+
+def within(made, budget, words):
+    """The answer with a small budget. Returns what it is."""
+    tech = made.tech(budget=budget)
+    plain, old = made.make(tech, "make", *(word for word in words if word != "--low"))
+    said, files = made.make(tech, "low", *words)
+    if plain[0] == "status 6 unfinished":
+        same("the report", (said, files), (plain, old))
+        return "search for the gaps open"
+    fewest = [line for line in said if line.startswith("fewest")]
+    proved = int(fewest[0].split()[1]) if fewest else len(made.cell.nets)
+    if said[0] == "status 0 ok" and {**files, "ctrack": b""} != {**old, "ctrack": b""}:      # not as `make` draws it
+        whole(made, tech, words, is_read=False)
+        return "budget enough for the lowest row"
+    if said[0] == "status 5 cycle":
+        same("a row that is wired", made.found.row, None)
+        unwired(made, tech, words)
+        return "budget enough for a ring in each row"
+    made.tracks_proved(tech, files, proved)
+    made.evidence(tech, files, words, made.first)
+    most = len(made.cell.nets) if made.found.row is None else made.found.tracks
+    if proved > most:
+        raise Differs(f"{proved} tracks are proved, and {most} are enough")
+    files.pop("ctrack", None)
+    same("the files", files, old)
+    if plain[0] == "status 5 cycle":
+        same("the report", said, ["status 6 unfinished", *fewest, *plain[1:]])
+        return "budget spent, first row with a ring"
+    at = next(at for at, line in enumerate(plain) if line.startswith("size"))
+    same("the report", said, plain[:at] + fewest + plain[at:])
+    same("the row of make", [line for line in plain if line.startswith("column ")], row_lines(made.cell, made.first))
+    return f"budget spent, {'fewest less than tracks' if f'tracks {proved}' not in plain else 'tracks proved fewest'}"
+
+
+def differences(made, draw):
+    """Makes the cell in several ways. Yields what the answers are; raises Differs where one is not as expected."""
+    def words():
+        return [*draw.choice((["--taps"], [])), "--low", *draw.choice((["--trails"], []))]
+    if made.found.row is None:
+        unwired(made, "-", words())
+        yield "no least row wired"
+    else:
+        asked = words()
+        whole(made, "-", asked)
+        yield f"made on {made.found.tracks} tracks"
+        yield from (f"made with {word}" for word in asked if word != "--low")
+        needed = needed_height(made.cell, made.found.row, made.found.tracks)
+        too_tall(made, made.tech(height=needed - 1), words(), needed - 1)
+        yield "height too small"
+        height = needed + draw.randint(0, 20)
+        whole(made, made.tech(height=height), words(), height, is_read=draw.random() < 0.2)
+        yield "height given"
+    for budget in (draw.randint(1, 8), draw.randint(6, 80)):
+        yield within(made, budget, words())
