@@ -113,10 +113,10 @@ for file in sorted(os.listdir(folder)):
         cell = file[:-4]
         path = os.path.join(folder, file)
         if not has_cell(path, cell):
-            print(f"{file}: passed over, no cell has its name")
+            print(f"{file}: ignored, no cell has its name")
             continue
         if not re.search(rf"^\s*\.subckt\s+{re.escape(cell)}\s", text, re.I | re.M):
-            print(f"{file}: passed over, SPICE has no such subcircuit")
+            print(f"{file}: ignored, SPICE has no such subcircuit")
             continue
         same = wanted(text, cell) == drawn(path, cell) and has_same_metal(path, cell)
         bad += not same

@@ -46,7 +46,7 @@ class Wiring:
 
 @dataclass
 class Placed:
-    """What a DEF file tells."""
+    """What a DEF file says."""
     components: list[Component]
     ports: list[Port]
     nets: dict[str, Wiring]

@@ -25,7 +25,7 @@ def gates(structure: Structure, metal1: list[Box]) -> list[Box]:
 
 def places(structure: Structure, own: list[Box], metal1: list[Box], vias: list[Box],
            rows: Iterable[int]) -> list[tuple[int, int]]:
-    """Where a further contact may stand on a gate under `own` metal1, at heights of `rows`: its poly and its metal1 are
+    """Where a further contact may be on a gate under `own` metal1, at heights of `rows`: its poly and its metal1 are
     near to nothing else there. `metal1` and `vias` are all those of the cell."""
     here = gates(structure, own)
     if not here:

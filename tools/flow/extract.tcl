@@ -1,4 +1,4 @@
-# The netlist of a block's drawing: GDS, CELL and OUT of the environment. With BODIES the technology SCN3ME_SUBM.30 tells each
+# The netlist of a block's drawing: GDS, CELL and OUT of the environment. With BODIES the technology SCN3ME_SUBM.30 reports each
 # transistor's body by wells and taps; else docs/cellgen.tech, with which Magic was called, gives bodies by their names.
 if {[info exists ::env(BODIES)]} {
     path sys +/usr/share/qflow/tech/osu050

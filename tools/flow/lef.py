@@ -56,7 +56,7 @@ def rectangles(lines: str, unit: float) -> list[tuple[str, Box]]:
 
 
 def read(path: Path, unit: float) -> list[Macro]:
-    """The macros of a file; a unit is so many microns."""
+    """The macros of a file; `unit_um` is a unit in microns."""
     macros = []
     for name, body in re.findall(r"^MACRO (\S+)\n(.*?)^END \1\n", path.read_text(), re.S | re.M):
         width, height = re.search(r"SIZE (\S+) BY (\S+) ;", body).groups()

@@ -30,6 +30,7 @@ class Library:
     grid: tuple[int, int]
     jobs: int
     has_taps: bool
+    is_low: bool = False
     has_trails: bool = False
     seconds: int = 0
     tech: Technology = Technology()
@@ -63,8 +64,8 @@ class Library:
     def make(self) -> str:
         """Every subcircuit of the SPICE file as a cell, all of one height."""
         self.folder.mkdir(parents=True, exist_ok=True)
-        trails = ["--trails"] if self.has_trails else []
-        words = ["--one-height", *self.taps(), *trails, "--room", self.room, "--grid", self.grid[1],
+        how = [word for word, is_on in (("--low", self.is_low), ("--trails", self.has_trails)) if is_on]
+        words = ["--one-height", *self.taps(), *how, "--room", self.room, "--grid", self.grid[1],
                  "--seconds", self.seconds, self.given, self.spice, self.folder / "cells", f"-j{self.jobs}"]
         told = tools.script("make-library", words, self.folder / "cells.log", may_lack=True)
         self.tech = technology.read(self.height)

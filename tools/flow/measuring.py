@@ -24,7 +24,7 @@ if TYPE_CHECKING:
     from views import Cell
 
 LOADS, SLOPES = (0.01, 0.05, 0.2), (0.1, 0.5, 1.5)  # picofarads; nanoseconds from LOW to HIGH
-LOW, HIGH = 0.2, 0.8                # of the supply: where Liberty takes slopes, unless told
+LOW, HIGH = 0.2, 0.8                # of the supply: where Liberty takes slopes, if no other levels are given
 DEPTH = 4                           # changes of inputs until an output answers: set up, clock, set up, clock
 PHASES = (20.0, 100.0)              # nanoseconds that each change may take; the longer one where the first is too short
 FAULT = r"^.*(?:could not find a valid modelname|unknown model|can't find model|\.include).*$"      # of ngspice
@@ -151,7 +151,7 @@ Arc = tuple[str, str, int]
 
 
 def arcs(cell: Cell) -> Iterator[Arc]:
-    """The delays that the cell's tables have: from an input to an output, which comes to a level."""
+    """The delays that the cell's tables have: from an input to an output, which goes to a level."""
     it = cell.function
     for output in cell.outputs:
         if not isinstance(it, Stored):
@@ -177,7 +177,7 @@ def measure(cells: list[Cell], bench: Bench, jobs: int) -> list[str]:
             if path := changes(cell.network, *arc):
                 cell.measured[arc] = bench.measured(cell.subcircuit, path, *arc[:2])
         except (NotMeasured, NotKnown) as fault:
-            return f"{cell.name}: {arc[0]} to {arc[1]}, to {arc[2]}: reckoned: {fault}"
+            return f"{cell.name}: {arc[0]} to {arc[1]}, to {arc[2]}: estimated: {fault}"
         return ""
 
     with concurrent.futures.ThreadPoolExecutor(jobs) as pool:

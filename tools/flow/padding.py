@@ -23,7 +23,7 @@ RAIL = 16
 
 
 class Grid(NamedTuple):
-    """Vias of the router stand at x = pitch_x / 2 + i * pitch_x, and so do y."""
+    """Vias of the router are at x = pitch_x / 2 + i * pitch_x, and so do y."""
     pitch_x: int
     pitch_y: int
 
@@ -34,7 +34,7 @@ class Grid(NamedTuple):
 
 
 class Piece(NamedTuple):
-    """A rectangle of metal1 or metal2, and its net: a number that stands for nothing else."""
+    """A rectangle of metal1 or metal2, and its net: a number of its own."""
     metal: int
     box: Box
     net: int

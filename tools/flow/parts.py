@@ -25,7 +25,7 @@ class Pins:
 
 
 def groups(text: str, kind: str) -> Iterator[tuple[str, str]]:
-    """The groups of one kind, as `cell(nand2) {..}`, each with its name and what stands inside."""
+    """The groups of one kind, as `cell(nand2) {..}`, each with its name and its content."""
     for found in re.finditer(rf"\b{kind}\s*\(([^)]*)\)\s*{{", text):
         depth, at = 1, found.end()
         while depth and at < len(text):

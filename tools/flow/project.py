@@ -53,7 +53,7 @@ GENR*flip_alternate_rows : 1
 
 
 def settings(density: float | None, words: dict[str, str], filler: str) -> str:
-    """The settings of the technology, as qflow's scripts read them. No via stands over a via (MOSIS 14.4)."""
+    """The settings of the technology, as qflow's scripts read them. No via is over a via (MOSIS 14.4)."""
     files = {"leffile": "lef", "spicefile": "sp", "libertyfile": "lib"}
     lines = [f"set {key}={NAME}.{end}" for key, end in files.items()]
     lines += ['set techleffile=""', f"set magicrc={NAME}.magicrc"]

@@ -12,7 +12,7 @@ NUMBER = re.compile(r"([0-9]*\.?[0-9]*(?:e[-+]?[0-9]{1,2})?)(meg|[tgkmunpf])?[a-
 
 @dataclass(frozen=True)
 class Transistor:
-    """Widths and lengths in metres; the width is that of all that the line stands for."""
+    """Widths and lengths in metres; the width is that of all transistors of the line together."""
     name: str
     drain: str
     gate: str
@@ -37,7 +37,7 @@ def number(word: str) -> float:
 
 
 def logical_lines(text: str) -> Iterator[str]:
-    """Lines in lower case without comments, those that go on joined; a `*.PININFO` line stands as it is."""
+    """Lines in lower case without comments, continued ones joined; a `*.PININFO` line stays as it is."""
     line = ""
     for piece in text.lower().splitlines():
         bare = re.sub(r"(^|\s)\$.*", "", piece).strip()
@@ -58,7 +58,7 @@ def transistor(words: list[str]) -> Transistor:
 
 
 def read(path: Path) -> list[Subcircuit]:
-    """The subcircuits of a file in its order; rails that a `.global` line names are pins of each, behind the others."""
+    """The subcircuits of a file in its order; rails that a `.global` line names are pins of each, after the others."""
     found: list[Subcircuit] = []
     rails: list[str] = []
     inside = False

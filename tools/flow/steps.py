@@ -1,4 +1,4 @@
-"""The steps from a design in Verilog and a library of cells to a block that was checked. Each tells what came of it."""
+"""The steps from a design in Verilog and a library of cells to a block that was checked. Each reports its result."""
 from __future__ import annotations
 
 import re
@@ -19,7 +19,7 @@ from tools import Failed
 
 @dataclass
 class Flow:
-    """The flow while it runs: what is asked for, and what its steps leave for those behind them."""
+    """The flow while it runs: what is asked for, and what its steps leave for later ones."""
     library: Library
     design: Path
     testbench: Path

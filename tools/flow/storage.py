@@ -27,7 +27,7 @@ class Force:
 
 @dataclass(frozen=True)
 class Stored:
-    """A latch (open while `control` has the level) or a flip-flop (which takes its data where `control` comes to it).
+    """A latch (open while `control` has the level) or a flip-flop (which takes its data where `control` goes to it).
 
     `data` is a table over the other inputs; `is_inverted` says of each output whether it has the stored complement.
     `both` has the outputs' levels while `clear` and `preset` are active together.

@@ -19,7 +19,7 @@ ROUNDS = 200
 
 
 class NotKnown(Exception):
-    """Why no function is told for a cell."""
+    """Why a cell has no function."""
 
 
 @dataclass(frozen=True)

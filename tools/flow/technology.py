@@ -55,7 +55,7 @@ def read(path: str | Path) -> Technology:
 
 @dataclass(frozen=True)
 class Netlist:
-    """What `extract` tells of a cell: its status, the report's first lines, and its devices by the names of nets."""
+    """What `extract` reports of a cell: its status, the report's first lines, and its devices by the names of nets."""
     status: int
     said: str
     devices: tuple[str, ...] = ()
@@ -78,7 +78,7 @@ def extract(technology: str | Path, gds: Path, cell: str, has_taps: bool = False
 
 
 def difference(technology: str | Path, gds: Path, lef: Path, cell: str) -> str:
-    """In what a LEF macro differs from the cell, as `agree` tells it; nothing where it fits."""
+    """In what a LEF macro differs from the cell, as `agree` reports it; nothing where it fits."""
     ended = subprocess.run([PROGRAM, "agree", str(technology), str(gds), str(lef), cell],
                            capture_output=True, text=True, check=False)
     return "; ".join(ended.stdout.splitlines()[:2]) or f"status {ended.returncode}" if ended.returncode else ""

@@ -79,7 +79,7 @@ class Difference:
 
 
 def differences(wanted: Trace, found: Trace, instants: list[int], outputs: list[str]) -> tuple[int, list[Difference]]:
-    """How many levels were compared, and where the two differ; what is not known in the first is passed over."""
+    """How many levels were compared, and where the two differ; what is not known in the first is ignored."""
     compared, wrong = 0, []
     for time in instants:
         for bit in outputs:

@@ -1,4 +1,4 @@
-# One line on a cell: which it is, how it ended, and what to mend where it was refused. The first file is `advice`, the
+# One line on a cell: which it is, how it ended, and what to correct where it was refused. The first file is `advice`, the
 # second the cell's report. Of a fault, as `spice Empty line 3` or `gate a`, the line of `advice` by status and word comes
 # before that of the status. On a terminal a made cell's line is overwritten by the next one; elsewhere it is not reported.
 FILENAME == ARGV[1] { key = $1; sub(/^[^ ]+ /, ""); advice[key] = $0; next }

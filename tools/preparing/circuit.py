@@ -1,4 +1,4 @@
-"""The subcircuits of a SPICE file as they stand there. Python 3.8."""
+"""The subcircuits of a SPICE file, unchanged. Python 3.8."""
 from __future__ import annotations
 
 from collections import Counter
@@ -66,13 +66,13 @@ class Library:
             else:
                 self.take(line)
         for what, count in self.passed.items():
-            self.said.add("file", f"{count} lines {what} outside subcircuits passed over")
+            self.said.add("file", f"{count} lines {what} outside subcircuits ignored")
 
     def add(self, cell: Cell) -> None:
         if not cell.name:
-            self.said.add(cell.place, "a subcircuit without a name passed over")
+            self.said.add(cell.place, "a subcircuit without a name ignored")
         elif cell.name in self.cells:
-            self.said.add(cell.name, f"{cell.place}: a second subcircuit of this name passed over")
+            self.said.add(cell.name, f"{cell.place}: a second subcircuit of this name ignored")
         else:
             self.cells[cell.name] = cell
 
@@ -96,4 +96,4 @@ class Library:
             try:
                 self.scale = Scope(None, self.values).value(str(given["scale"]))
             except NoValue as fault:
-                self.said.add(place, f"the scale has no value ({fault}), passed over")
+                self.said.add(place, f"the scale has no value ({fault}), ignored")

@@ -117,7 +117,7 @@ class Fitting:
             self.report(cell.name, "nets renamed: " + ", ".join(f"{old} to {new}" for old, new in names.items()))
 
     def round_sizes(self, cell: Flat) -> None:
-        """Widths as they are drawn, in whole units; a channel that is not drawn as it stands is refused."""
+        """Widths as they are drawn, in whole units; a channel that is not drawn with its length is refused."""
         drawn_as: Dict[str, str] = {}
         for t in cell.transistors:
             units = self.units(t.width)

@@ -1,4 +1,4 @@
-"""A subcircuit as transistors alone: calls replaced by what they stand for, sizes as numbers. Python 3.8."""
+"""A subcircuit as transistors alone: calls replaced by their transistors, sizes as numbers. Python 3.8."""
 from __future__ import annotations
 
 import re
@@ -79,7 +79,7 @@ class Flattener:
     def put(self, cell: Cell, given: Dict[str, object], nets: Dict[str, str], at: str, depth: int) -> None:
         """Adds the cell's transistors with its nets by the names that they have outside."""
         if depth > DEEPEST:
-            raise Refused(f"calls stand in each other more than {DEEPEST} deep, or {cell.name} calls itself")
+            raise Refused(f"calls are nested more than {DEEPEST} deep, or {cell.name} calls itself")
         if not cell.is_ended:
             raise Refused(f"{cell.place}: no .ends follows before the next .subckt or the file's end")
         scope = Scope(Scope(None, self.library.values), {**cell.values, **given})

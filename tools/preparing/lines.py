@@ -16,7 +16,7 @@ class Line(NamedTuple):
 
 
 class Said(NamedTuple):
-    """The notes on what was changed or passed over, in their order."""
+    """The notes on what was changed or ignored, in their order."""
     lines: List[str]
 
     def add(self, about: str, text: str) -> None:
@@ -57,7 +57,7 @@ class Reader:
         yield from self.finished(path, place, text)
 
     def cleaned(self, raw: str, place: str) -> str:
-        """The line without comments; one with the directions of pins stands as it is."""
+        """The line without comments; one with the directions of pins stays as it is."""
         bare = raw.strip()
         if INFO.match(bare):
             return bare
@@ -85,7 +85,7 @@ class Reader:
         if other.resolve() in self.read:
             return
         if not other.is_file():
-            self.said.add(place, f"{other} is not there, passed over")
+            self.said.add(place, f"{other} is not there, ignored")
             return
         self.said.add(place, f"{other} read in its place")
         yield from self.lines(other, False)

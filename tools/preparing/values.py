@@ -61,7 +61,7 @@ class Reader:
     def whole(self) -> float:
         value = self.sum()
         if self.rest:
-            raise NoValue(f"{self.rest[0].text} stands where it may not")
+            raise NoValue(f"{self.rest[0].text} is where it may not be")
         return value
 
     def sum(self) -> float:
