@@ -268,7 +268,7 @@ def trail_words(row, name):
 
 def draw_inverters():
     row = row_of(say("plan", "-", os.path.join(EXAMPLES, "inverters.sp"), "x3"))
-    pic = Picture(900, 320, "The P row of three inverters: four odd nets, two trails, one gap")
+    pic = Picture(1040, 560, "The P row of three inverters: four odd nets, two trails; a row with one gap, and one with two")
     spots = {"x": (60, 70), "y": (60, 230), "vdd": (190, 150), "z": (320, 150)}
     colours = {1: TEAL, 2: ORANGE}
     for number, column in zip(trail_numbers(row), row):
@@ -283,8 +283,15 @@ def draw_inverters():
         part = [column for column, n in zip(row, trail_numbers(row)) if n == number]
         pic.text(190, 270 + 22 * number - 22, f"trail {number}: " + trail_words(part, "p"), colour=colours[number])
     draw_row(pic, row, 450, 80)
-    pic.text(658, 24, "a row with one gap", bold=True)
+    pic.text(658, 24, "a least row: one gap", bold=True)
+    draw_row(pic, unflipped(), 450, 350)
+    pic.text(710, 294, "not least: two gaps", bold=True)
     pic.save("inverters.svg")
+
+
+def unflipped():
+    """The row of the three inverters in the order a, b, c with no finger flipped."""
+    return row_of([f"column {at} gate {gate} p {net} vdd 20 n {net} gnd 10".split() for at, (gate, net) in enumerate(("ax", "by", "cz"))])
 
 
 # ---------------------------------------------------------------- the tree of a log
