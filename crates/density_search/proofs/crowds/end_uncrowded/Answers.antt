@@ -1,0 +1,11 @@
+use Rattle.std.proofs.Common.{rules, ◌∙◌}
+use Rattle.track_ways.specs.Tables.{marked}
+use Rattle.track_ways.proofs.Nets.{end_entries}
+use Rattle.density_search.proofs.Crowded.{end_is}
+use Rattle.density_search.proofs.crowds.end_uncrowded.Goals as goal
+
+pub none_crowded-free-requires : goal.none_crowded-free-requires
+none_crowded-free-requires c = end_entries c.args.kinds.now c.args.state.now c.deref.result.now c.show_limits.ensures c.requires.state (c.deref.ensures.value ∙ c.in_ok-lines.ensures)
+
+pub returns : goal.returns
+returns c = end_is c.args.pins.now c.args.limit c.args.kinds.now c.args.state.now (marked c.args.before.now) (marked c.no_nets-none.result) c.deref.result.now c.none_crowded-free.result (c.deref.ensures.value ∙ c.in_ok-lines.ensures) c.requires.before c.no_nets-none.ensures (search rules)

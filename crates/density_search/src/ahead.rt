@@ -1,0 +1,77 @@
+// A next column that the gaps allow and that leaves no line crowded.
+ghost use Rattle.std.specs.Prelude.{◌≡◌, IfNone, IfOk, IfSome};
+ghost use Rattle.row_state.specs.Candidates.{IsCandidate, IsNumbered};
+ghost use Rattle.track_ways.specs.States.{is_behind};
+ghost use Rattle.track_ways.specs.Tables.{marked};
+ghost use Rattle.density_search.specs.Visit.{AlwaysFails, IsAhead};
+
+use crate::crowds::step_uncrowded;
+use cell_num::{NoMemory, Pins};
+use row_state::{Candidate, Kinds, Numbered, RowBound};
+use row_trails::NETS;
+use std::alloc::Global;
+use track_check::{needs_more, nets_ahead, touches};
+
+/// What a search is given.
+#[derive(Clone, Copy)]
+pub(crate) struct Task<'a, B> {
+    pub alloc: Global,
+    pub kinds: &'a Kinds,
+    pub pins: &'a Pins,
+    /// The most nets that may hold a line.
+    pub limit: u32,
+    /// All columns that may come next in some state.
+    pub candidates: &'a [Candidate],
+    pub bound: &'a B,
+    /// How often the start state touches each net.
+    pub all: &'a [u32; NETS],
+    /// The most lemmas.
+    pub budget: u64,
+}
+
+/// The state after a next column.
+#[derive(Drop)]
+pub(crate) struct Ahead {
+    pub state: Numbered,
+    /// How many gaps are allowed after the column.
+    pub left: u32,
+}
+
+/// The state after the column, or none where the column may not come next, needs more gaps than are allowed, or leaves
+/// a line crowded. `before` has the nets with a place before the state.
+pub(crate) fn state_ahead<B: RowBound>(
+    task: &Task<B>,
+    at: &Numbered,
+    before: &[bool; NETS],
+    next: &Candidate,
+    allowed: u32,
+) -> Result<Option<Ahead>, NoMemory>
+    requires numbered { IsNumbered task.now.kinds.now at.now }
+    requires before { marked before.now ≡ is_behind task.now.kinds.now at.now.state }
+    requires next { IsCandidate task.now.kinds.now next.now }
+    ensures none { IfOk result (λ ahead. IfNone ahead (AlwaysFails (B.value task.now.bound.now) task.now.pins.now
+        task.now.limit task.now.kinds.now at.now.state allowed next.now.step)) }
+    ensures some { IfOk result (λ ahead. IfSome ahead (IsAhead task.now.pins.now task.now.limit task.now.kinds.now
+        at.now.state allowed next.now.step)) }
+{
+    task.kinds.show_limits();
+    if !at.allows(task.kinds, next) {
+        return Ok(None);
+    }
+    let cost = at.cost(next);
+    if allowed < cost {
+        return Ok(None);
+    }
+    let left = allowed - cost;
+    let state = at.behind(task.alloc, task.kinds, next)?;
+    if needs_more(task.bound, task.kinds, &state.state, left) {
+        return Ok(None);
+    }
+    let after = nets_ahead(&touches(task.kinds, &state.state));
+    if !step_uncrowded(
+        task.alloc, task.pins, task.limit, task.kinds, &at.state, before, &next.step, &after,
+    )? {
+        return Ok(None);
+    }
+    Ok(Some(Ahead { state, left }))
+}
