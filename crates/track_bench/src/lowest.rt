@@ -5,7 +5,6 @@ use row_list::list_row;
 use row_search::search_kept;
 use row_state::{Component, kinds};
 use std::alloc::Global;
-use track_lemmas::TrackLemmas;
 use track_log::{MOST_TRACKS, TrackCertificate};
 use track_search::{Fewest, fewest_tracks};
 
@@ -16,17 +15,6 @@ pub fn least_gaps(alloc: Global, inputs: &Inputs) -> Option<u32> {
         Ok(found) => Some(found.best.gaps),
         Err(_) => None,
     }
-}
-
-// The tracks of each lemma in order of net, as a text lists them.
-fn in_order(mut lemmas: TrackLemmas) -> TrackLemmas {
-    for lemma in lemmas.as_mut_slice() {
-        lemma
-            .tracks
-            .as_mut_slice()
-            .sort_unstable_by_key(|t| t.net.0);
-    }
-    lemmas
 }
 
 fn answer_for(alloc: Global, inputs: &Inputs, gaps: u32) -> Result<Bytes, NoMemory> {
@@ -45,7 +33,7 @@ fn answer_for(alloc: Global, inputs: &Inputs, gaps: u32) -> Result<Bytes, NoMemo
             let certificate = TrackCertificate {
                 gaps,
                 tracks,
-                lemmas: in_order(lemmas),
+                lemmas,
             };
             answer::found(alloc, name, steps.as_slice(), &certificate)
         }
@@ -53,7 +41,7 @@ fn answer_for(alloc: Global, inputs: &Inputs, gaps: u32) -> Result<Bytes, NoMemo
             let certificate = TrackCertificate {
                 gaps,
                 tracks: proved,
-                lemmas: in_order(lemmas),
+                lemmas,
             };
             answer::open(alloc, name, &certificate)
         }
