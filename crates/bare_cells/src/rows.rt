@@ -180,7 +180,7 @@ fn minus(alloc: Global, one: Region, other: &Region) -> Result<Region, NoMemory>
     one.minus(alloc, other)
 }
 
-// The rows of a stretch from those of its two parts. The wide rectangles of both lists come to these.
+// The rows of a stretch from those of its two parts. The wide rectangles of both lists give these.
 fn joined(
     alloc: Global,
     filled: Region,

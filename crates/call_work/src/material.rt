@@ -47,8 +47,8 @@ pub struct FromMaterial {
     pub style: Style,
 }
 
-/// What the drawing of the lowest row works on: the inputs of a cell, what the names of its files begin with, whether it
-/// has taps, and the evidence that its gaps are found with.
+/// What the drawing of the lowest row works on: the inputs of a cell, what the names of its files begin with, whether
+/// it has taps, and the evidence that its gaps are found with.
 #[derive(Drop)]
 pub struct LowMaterial {
     pub inputs: Inputs,

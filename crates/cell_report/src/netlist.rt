@@ -37,7 +37,7 @@ fn put_body(out: &mut Bytes, nets: &Names, bodies: &BodyList, at: usize) -> Resu
     }
 }
 
-// The body of the device with that number, where bodies are told.
+// The body of the device with that number, where bodies are reported.
 fn put_body_of(
     out: &mut Bytes,
     nets: &Names,
@@ -101,7 +101,7 @@ fn put_device_lines(
 
 /// Adds the cell's name, the numbers of nets and of devices, a line for each net with its number and name, and a line
 /// for each device: its row, the nets at its gate and its two ends, its width and length in grid units, and, where
-/// bodies are told, the net of its body.
+/// bodies are reported, the net of its body.
 pub fn put_netlist(
     out: &mut Bytes,
     name: &Name,

@@ -29,7 +29,7 @@ fn put_one(out: &mut Bytes, name: &[u8], field: &[u8], count: u32) -> Result<(),
     )
 }
 
-/// Adds the line of the cause that refuses a certificate by trails. A gate is told by the number of its net.
+/// Adds the line of the cause that refuses a certificate by trails. A gate is named by the number of its net.
 pub fn put_trail_refusal(out: &mut Bytes, cause: &TrailRefusal) -> Result<(), NoMemory>
     ensures { OnOk result (out.new ≡ out.old ++ fault_line (codes "trails") (trail_fault cause.now)) }
 {

@@ -57,7 +57,7 @@ fn nets_of(alloc: Global, cycle: &[Step]) -> Result<CycleList, AllocError>
 
 /// Routes the channel between the rows of a placement, in which each pin other than the rails has a
 /// place. Each trunk stands on the least track that the nets below it and the trunks before it allow.
-/// Cycle comes exactly where no routing is legal; of several cycles it tells the one below the first
+/// Cycle comes exactly where no routing is legal; of several cycles it names the one below the first
 /// net that can not be placed.
 pub fn route(alloc: Global, placement: &Placement, pins: &Pins) -> Result<Routing, RouteStop>
     requires placement { IsPlacement placement.now }

@@ -8,7 +8,7 @@ use crate::fit::{fits, on_track};
 use crate::room::is_open;
 use channel_route::{Constraint, Trunk};
 
-/// What the trunks are put on: so many tracks, with constraints between them.
+/// What the trunks are put on: that many tracks, with constraints between them.
 #[derive(Drop)]
 pub(crate) struct Channel<'a> {
     pub constraints: &'a [Constraint],

@@ -18,7 +18,7 @@ use thiserror::Error;
 /// Why there is no first routing.
 #[derive(Debug, Drop, Error)]
 pub enum FirstStop {
-    /// No legal routing has so many tracks.
+    /// No legal routing has that many tracks.
     #[error("no legal routing has so many tracks")]
     None,
     /// The tries of the budget are spent.
@@ -54,7 +54,7 @@ fn low_trunks(alloc: Global, wires: &[Wire]) -> Result<Vec<Trunk>, AllocError>
     trunks_of(alloc, &placed)
 }
 
-/// The first of the legal routings of a placement on so many tracks: it has the lowest track for the first net, of
+/// The first of the legal routings of a placement on N tracks: it has the lowest track for the first net, of
 /// those of which this is true the lowest for the second one, and so on. The budget is of tries, each a trunk that is
 /// put on a track; what is left of it is written back.
 pub fn first_routing(

@@ -63,7 +63,7 @@ impl LineFront {
         !self.is_long && self.bytes.as_slice().is_empty()
     }
 
-    /// Writes the line that ends behind these bytes, if it is not too long with them.
+    /// Writes the line that ends after these bytes, if it is not too long with them.
     pub fn put_whole(&self, part: &[u8], whole: &mut LineRoom)
         requires { IsTrue (is_some (longer self.now part.now)) }
         ensures { Some whole.new ≡ longer self.now part.now }

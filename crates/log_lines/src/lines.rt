@@ -3,7 +3,7 @@ ghost use Rattle.log_lines.specs.Lines.{behind, lines_in};
 
 use crate::word::find_byte;
 
-/// A line without its line feed, and what stands behind it.
+/// A line without its line feed, and what is after it.
 #[derive(Clone, Copy)]
 pub struct Line<'a> {
     pub line: &'a [u8],

@@ -42,7 +42,7 @@ impl LineRoom {
         self.bytes.as_slice()
     }
 
-    /// Writes the bytes behind the others.
+    /// Writes the bytes after the others.
     pub fn extend(&mut self, bytes: &[u8])
         requires { length self.old + length bytes.now ≤ MOST_LINE_BYTES + 1 }
         ensures { self.new ≡ self.old ++ bytes.now }

@@ -16,7 +16,7 @@ pub fn find_byte(text: &[u8], byte: u8) -> Option<usize>
     memchr(byte, text)
 }
 
-/// The first part of a text, and what stands behind the byte that ends it.
+/// The first part of a text, and what is after the byte that ends it.
 #[derive(Clone, Copy)]
 pub struct Part<'a> {
     pub part: &'a [u8],

@@ -31,7 +31,7 @@ fn tied_before(ties: &[Option<u64>], at: usize) -> Option<usize>
     None
 }
 
-/// Joins the trees of numbers that have one tie. `ties` tells the tie of each number, where it has one, for no more
+/// Joins the trees of numbers that have one tie. `ties` has the tie of each number, where it has one, for no more
 /// numbers than have parents, and no parent may be above its number. Afterwards those numbers stand in one tree that
 /// the former trees and the ties chain.
 pub fn join_tied(parents: &mut Vec<usize>, ties: &[Option<u64>])

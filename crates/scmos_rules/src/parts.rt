@@ -25,7 +25,7 @@ pub(crate) fn parts_of(alloc: Global, blocks: &[Block]) -> Result<Vec<NumberedBl
     Ok(parts)
 }
 
-// Whether a span begins less than a distance behind the end of another, or before it.
+// Whether a span begins less than a distance after the end of another, or before it.
 #[tactic(auto, unfolding(crate::specs::Near::closer))]
 fn is_closer(end: i32, begin: i32, by: u32) -> bool
     ensures { result ≡ closer by end begin }
@@ -59,7 +59,7 @@ fn add_close(
     Ok(())
 }
 
-// Those of the parts behind one that lie within a distance of it, where the lower sides ascend: the
+// Those of the parts after one that lie within a distance of it, where the lower sides ascend: the
 // first that begins too high ends the search.
 pub(crate) fn near_behind(
     alloc: Global,

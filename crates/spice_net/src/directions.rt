@@ -23,7 +23,7 @@ fn is_end(transistors: &[Transistor], net: &[u8]) -> bool
     transistors.iter().any(|t| net == t.drain.as_slice() || net == t.source.as_slice())
 }
 
-// the direction of a pin of which no pair tells
+// the direction of a pin that no pair names
 fn shown_of(tech: &Tech, transistors: &[Transistor], pin: &[u8]) -> Direction
     ensures { result ≡ shown_of tech.now transistors.now pin.now }
 {

@@ -12,7 +12,7 @@ pub enum What {
 }
 
 /// Why no subcircuit was read. A line is the number, counted from 1, of a logical line's first
-/// physical line, but for `NotAscii`. Units are grid units of half a lambda.
+/// physical line, except for `NotAscii`. Units are grid units of half a lambda.
 #[derive(Debug, Drop, Error)]
 pub enum SpiceFault {
     /// A physical line that is no comment holds a byte that is neither printable ASCII nor a tab.

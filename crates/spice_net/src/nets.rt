@@ -44,7 +44,7 @@ fn add_nets<'a>(nets: &mut IndexSet<&'a [u8]>, transistor: &'a Transistor) -> Re
     Ok(())
 }
 
-/// The names, and behind them the nets that transistors name.
+/// The names, and after them the nets that transistors name.
 #[tactic(auto, using(crate::proofs::NetFacts::more_names))]
 pub fn with_nets<'a>(
     names: IndexSet<&'a [u8]>,

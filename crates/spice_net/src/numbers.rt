@@ -49,7 +49,7 @@ pub fn count(number: &Fixed) -> Option<u32>
     Some(whole as u32)
 }
 
-/// The least width, in grid units, of a transistor that is cut into so many fingers, or of one that is not.
+/// The least width, in grid units, of a transistor that is cut into N fingers, or of one that is not.
 pub fn least_width(fingers: Option<u32>) -> u64
     ensures { result ≡ least_width fingers }
 {

@@ -36,7 +36,7 @@ fn later(told: Option<Direction>, before: Option<Direction>) -> Option<Direction
     }
 }
 
-// what the last pair for a pin tells
+// what the last pair for a pin says
 #[tactic(auto, using(crate::proofs::Last::word_more))]
 fn told_among(pin: &[u8], words: &[Name]) -> Option<Direction>
     ensures { result ≡ told_among pin.now words.now }
@@ -48,7 +48,7 @@ fn told_among(pin: &[u8], words: &[Name]) -> Option<Direction>
     found
 }
 
-/// The words behind the first.
+/// The words after the first.
 pub fn behind_first(words: &[Name]) -> &[Name]
     ensures { result.now ≡ drop 1 words.now }
 {
@@ -68,7 +68,7 @@ fn told_in(pin: &[u8], line: &Line) -> Option<Direction>
     }
 }
 
-/// What the last line tells of a pin that is a comment with a pair for it: `name:i`, `name:o` or `name:b`.
+/// What the last line says of a pin that is a comment with a pair for it: `name:i`, `name:o` or `name:b`.
 #[tactic(auto, using(crate::proofs::Last::line_more))]
 pub fn told_of(lines: &[Line], pin: &[u8]) -> Option<Direction>
     ensures { result ≡ told_of lines.now pin.now }

@@ -57,7 +57,7 @@ fn add_rail<'a>(
     Ok(())
 }
 
-/// The pins, and behind them the rails that a line of the file makes global.
+/// The pins, and after them the rails that a line of the file makes global.
 #[tactic(auto, using(crate::proofs::PinFacts::rails_distinct))]
 pub fn with_rails<'a>(
     pins: IndexSet<&'a [u8]>,

@@ -34,7 +34,7 @@ pub enum Direction {
 pub type DirectionList = List<Direction>;
 
 /// A subcircuit: its nets by their numbers, the pins first, its transistors in the order of the file,
-/// with the copies of one behind each other, and the direction of each pin.
+/// with the copies of one after each other, and the direction of each pin.
 #[derive(Debug, Drop)]
 pub struct Subckt {
     pub name: Name,

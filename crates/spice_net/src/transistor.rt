@@ -94,7 +94,7 @@ fn rails_allowed(tech: &Tech, row: Row, fields: &Fields) -> bool
     !is_rail(tech, fields.gate) && fields.drain != other && fields.source != other
 }
 
-// what is told of a transistor that is not refused, beside its nets
+// what is known of a transistor that is not refused, beside its nets
 #[derive(Clone, Copy)]
 struct Judged {
     copies: u32,

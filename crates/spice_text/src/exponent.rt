@@ -61,7 +61,7 @@ fn signed(minus: bool, number: u64) -> i64
     }
 }
 
-/// The exponent in front of a text, 0 where there is none.
+/// The exponent at the start of a text, 0 where there is none.
 pub fn exponent(text: &[u8]) -> i64
     ensures { result ≡ exponent_of text.now }
 {

@@ -180,7 +180,7 @@ fn take_line(alloc: Global, number: u32, line: &[u8], state: State) -> Result<St
     }
 }
 
-/// The logical lines of a text, and its comments that tell directions of pins, in the order of
+/// The logical lines of a text, and its comments that give directions of pins, in the order of
 /// their first physical lines. The text has at most a gibibyte.
 #[tactic(auto, using(crate::proofs::Groups::split_rules))]
 pub fn split_lines(alloc: Global, bytes: &[u8]) -> Result<Lines, TextFault>

@@ -12,7 +12,7 @@ fn is_mantissa_byte(byte: u8) -> bool
     byte.is_ascii_digit() || byte == b'.'
 }
 
-/// How many digits and points stand in front of a word.
+/// How many digits and points a word begins with.
 pub fn mantissa_length(word: &[u8]) -> usize
     ensures is { result ≡ prefix_len is_mantissa_byte word.now }
     ensures within { result ≤ length word.now }

@@ -89,7 +89,7 @@ fn covers_all(lemma: &TrackLemma, state: &State, gaps: u32) -> bool
     is_empty(&lemma.tracks)
 }
 
-// Whether a lemma speaks of the state, of so many gaps and of any tracks.
+// Whether a lemma speaks of the state, of that many gaps and of any tracks.
 fn is_covered(lemmas: &[TrackLemma], state: &State, gaps: u32) -> bool
     ensures { IsTrue result ↔ Any (CoversAll state.now gaps) lemmas.now }
 {
@@ -101,7 +101,7 @@ fn is_covered(lemmas: &[TrackLemma], state: &State, gaps: u32) -> bool
     false
 }
 
-/// Checks a certificate that each row of the kinds' fingers with at most so many gaps needs more tracks than the limit:
+/// Checks a certificate that each row of the kinds' fingers with at most N gaps needs more tracks than the limit:
 /// each lemma is justified by those before it, and one speaks of the start state, of the gaps and of any tracks. Else
 /// the first cause to refuse it.
 pub fn check_tracks<B: RowBound>(

@@ -83,7 +83,7 @@ fn is_covered(earlier: &[TrackLemma], state: &State, gaps: u32, way: &NetTracks)
     false
 }
 
-/// Whether an earlier lemma speaks of the state, of so many gaps, for each of the ways.
+/// Whether an earlier lemma speaks of the state, of that many gaps, for each of the ways.
 pub(crate) fn are_covered(
     earlier: &[TrackLemma],
     state: &State,

@@ -35,7 +35,7 @@ pub struct TrackGrounds<'a, B> {
     pub all: &'a [u32; NETS],
 }
 
-// Whether all listed tracks after the column are refuted, with so many gaps left.
+// Whether all listed tracks after the column are refuted, with that many gaps left.
 fn ways_fail<B: RowBound>(
     alloc: Global,
     grounds: &TrackGrounds<B>,

@@ -1,5 +1,5 @@
 // A checker of certificates of tracks: whether a lemma is justified by those before it, and whether a list of lemmas
-// shows that each row with so many gaps needs more tracks.
+// shows that each row with that many gaps needs more tracks.
 #![tactic(auto)]
 
 pub mod check;

@@ -18,7 +18,7 @@ ghost use Rattle.track_lemmas.specs.Checked.{IsJustifiedListed};
 use row_state::RowBound;
 
 /// Justified lemmas are true, so a certificate shows that each legal routing of each arrangement of the fingers with at
-/// most so many gaps has more tracks than the limit. It does nothing: its contract is the law.
+/// most that many gaps has more tracks than the limit. It does nothing: its contract is the law.
 pub fn tracks_by_lemmas<B: RowBound>(_bound: &B)
     ensures lemmas { (pins : Pins) (limit : ℕ) (k : Kinds) (lemmas : List TrackLemma) → AreSomeKinds k
         → AreJustified (B.value _bound.now) pins limit k lemmas → All (IsTrueOf pins limit k) lemmas }

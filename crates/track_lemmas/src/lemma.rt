@@ -2,7 +2,7 @@ use cell_num::List;
 use row_state::State;
 use track_ways::NetTracks;
 
-/// No completion of the state with at most so many further gaps has tracks that go on from tracks with these of the
+/// No completion of the state with at most that many further gaps has tracks that go on from tracks with these of the
 /// open nets; without any net, from any tracks.
 #[derive(Debug, Drop)]
 pub struct TrackLemma {

@@ -1,4 +1,4 @@
-// Certificates that no row with so many gaps has a legal routing on so many tracks.
+// Certificates that no row with at most G gaps has a legal routing on K tracks.
 #![tactic(auto)]
 
 pub mod laws;

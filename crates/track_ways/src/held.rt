@@ -53,7 +53,7 @@ fn is_later(lines: &[Line], behind: &[bool; NETS], net: NetNo) -> bool
 }
 
 /// Whether the net is open before the lines, of which `before` and `behind` have the nets with a place before and
-/// behind them.
+/// after them.
 pub(crate) fn is_open(
     pins: &Pins,
     before: &[bool; NETS],
@@ -74,7 +74,7 @@ fn begins_or_ends(pins: &Pins, before: bool, line: &Line, behind: bool, net: Net
             || (behind || (is_net(&line.p, net) && is_net(&line.n, net) || net.0 < pins.pins)))
 }
 
-/// Whether a trunk of the net holds the line in front of the rest of the lines.
+/// Whether a trunk of the net holds the line before the rest of the lines.
 pub(crate) fn is_held(
     pins: &Pins,
     before: &[bool; NETS],

@@ -12,7 +12,7 @@ ghost use Rattle.track_ways.specs.declared.track.NetTrack.{NetTrack};
 ghost use Rattle.track_ways.specs.Tracks.{AreKeys, AreTracksOf, IsSingle};
 ghost use Rattle.track_ways.specs.Ways.{ends_ways, goes_ways, is_behind_step};
 
-/// The tracks behind a next column can be listed. It does nothing: its contract is the law.
+/// The tracks after a next column can be listed. It does nothing: its contract is the law.
 pub fn tracks_listed()
     // each way of tracks through the next column is listed
     ensures all { (pins : Pins) (limit : ℕ) (k : Kinds) (s : State) (step : Step) (tracks : List NetTrack)
@@ -23,15 +23,15 @@ pub fn tracks_listed()
         → AreSomeKinds k → IsState k s → IsSingle tracks → Contains (goes_ways pins limit k s tracks step) way
         → (track : NetNo → ℕ) × (next : NetNo → ℕ)
         × AreTracksOf tracks track × Goes pins limit k s track step next × AreTracksOf way next }
-    // it has one track for each net that is open behind the column, and none for others
+    // it has one track for each net that is open after the column, and none for others
     ensures keys { (pins : Pins) (limit : ℕ) (k : Kinds) (s : State) (step : Step) (tracks way : List NetTrack)
         → AreSomeKinds k → IsState k s → IsSingle tracks → Contains (goes_ways pins limit k s tracks step) way
         → AreKeys pins (is_behind_step k s step) (is_still_ahead k (state_after k s step)) way }
-    // those nets are open at the state behind it, where a completion goes on from there
+    // those nets are open at the state after it, where a completion goes on from there
     ensures behind { (k : Kinds) (s : State) (step : Step) (steps : List Step)
         → GatesAreNets k → EndsFit k s → Leads k s (step ∷ steps)
         → (net : NetNo) → is_behind_step k s step net ≡ is_behind k (state_after k s step) net }
-    // none is listed behind the last line exactly where no tracks go through it
+    // none is listed after the last line exactly where no tracks go through it
     ensures ends { (pins : Pins) (limit : ℕ) (k : Kinds) (s : State) (tracks : List NetTrack)
         → AreSomeKinds k → IsState k s → IsSingle tracks
         → (ends_ways pins limit k s tracks ≡ [])

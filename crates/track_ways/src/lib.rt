@@ -1,5 +1,5 @@
-// Tracks line by line: which trunks hold a line, which nets are open behind a prefix of a row, and the tracks that
-// they may have behind a next column, as a finite list.
+// Tracks line by line: which trunks hold a line, which nets are open after a prefix of a row, and the tracks that
+// they may have after a next column, as a finite list.
 #![tactic(auto)]
 
 mod fit;

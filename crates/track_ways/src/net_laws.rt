@@ -24,7 +24,7 @@ ghost use Rattle.track_ways.specs.States.{is_open_at, IsBehind};
 ghost use Rattle.track_ways.specs.Paths.{Runs, Leads, Goes, Ends};
 ghost use Rattle.track_ways.specs.Fails.{Fails};
 
-/// Which nets are open behind a prefix follows from its state. It does nothing: its contract is the law.
+/// Which nets are open after a prefix follows from its state. It does nothing: its contract is the law.
 pub fn open_by_states()
     ensures { (pins : Pins) (k : Kinds) (prefix rest : List Column) (s : State) (net : NetNo)
         → All IsColumn prefix → IsBehind k prefix s → Completes k s rest
@@ -66,8 +66,8 @@ pub fn tracks_by_states()
 /// The rules by which it is shown that no completion of a state has tracks below a limit. It does nothing: its
 /// contract is the law.
 pub fn failures()
-    // each next column fails that does not cost more than the gaps, whatever the tracks behind it are: of these the
-    // ones of the open nets are told
+    // each next column fails that does not cost more than the gaps, whatever the tracks after it are: of these the
+    // ones of the open nets are listed
     ensures branch { (pins : Pins) (limit : ℕ) (k : Kinds) (s : State) (track : NetNo → ℕ) (gaps : ℕ)
         → GatesAreNets k → HasFingers k s
         → ((step : Step) (next : NetNo → ℕ) (left : ℕ) → IsPossible k s step
@@ -92,7 +92,7 @@ pub fn failures()
         (nets : List NetNo) → GatesAreNets k → ((n : ℕ) → count_by (λ (net : NetNo). net.0 == n) nets ≤ 1)
         → All (λ net. is_open_at pins k s net ≡ true) nets → limit < length nets
         → Fails pins limit k s track gaps }
-    // where the first state fails, each legal routing of an arrangement with at most so many gaps has more tracks
+    // where the first state fails, each legal routing of an arrangement with at most N gaps has more tracks
     ensures more_tracks { (pins : Pins) (f : Fingers) (k : Kinds) (limit gaps : ℕ) (track : NetNo → ℕ)
         → AreKinds f k → GatesAreNets k → Fails pins limit k (start_of k) track gaps
         → (row : List Column) (r : Routing) → IsArrangement row f → length row ≤ 32 → gaps_of row ≤ gaps

@@ -1,4 +1,4 @@
-// The tracks behind some lines.
+// The tracks after some lines.
 ghost use Rattle.std.specs.Prelude.{◌≡◌, ◌++◌, IfOk, OnOk};
 ghost use Rattle.std.specs.List.{All};
 ghost use Rattle.track_ways.specs.Tables.{HasEntries, marked};
@@ -13,7 +13,7 @@ use row_trails::NETS;
 use std::alloc::Global;
 
 // Adds each way of the tracks through the lines, of which `before` and `behind` have the nets with a place before and
-// behind them.
+// after them.
 fn add_ways(
     alloc: Global,
     pins: &Pins,
@@ -52,8 +52,8 @@ fn add_ways(
     Ok(())
 }
 
-/// All tracks behind some lines that go on from these, line by line: of the nets numbered below `nets`, and below the
-/// limit. `before` and `behind` have the nets with a place before and behind the lines, by number.
+/// All tracks after some lines that go on from these, line by line: of the nets numbered below `nets`, and below the
+/// limit. `before` and `behind` have the nets with a place before and after the lines, by number.
 pub fn ways_through(
     alloc: Global,
     pins: &Pins,

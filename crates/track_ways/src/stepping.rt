@@ -1,4 +1,4 @@
-// The tracks behind a next column of a state, and behind its last line.
+// The tracks after a next column of a state, and after its last line.
 ghost use Rattle.std.specs.Prelude.{◌≡◌, ◌∷◌, [], ℕ, All, Any, IfOk, false};
 ghost use Rattle.cell_num.specs.declared.net.NetNo.{NetNo as NetOf};
 ghost use Rattle.row_model.specs.Arrangement.{gate_in};
@@ -79,8 +79,8 @@ fn lines_to(alloc: Global, state: &State, column: &Column) -> Result<Vec<Line>, 
     Ok(lines)
 }
 
-/// All tracks behind a next column that go on from these, below the limit. `before` has the nets with a place before
-/// the state's last node line, `behind` those with a place at the last node line behind the column or later.
+/// All tracks after a next column that go on from these, below the limit. `before` has the nets with a place before
+/// the state's last node line, `behind` those with a place at the last node line after the column or later.
 #[tactic(auto, using(crate::proofs::Through::goes_is))]
 pub fn step_ways(
     alloc: Global,

@@ -88,7 +88,7 @@ fn row_behind(
     Ok(fingers)
 }
 
-/// The fingers that the state has left, and those of a column in front of them that leaves its open ends.
+/// The fingers that the state has left, and those of a column before them that leaves its open ends.
 pub(crate) fn behind(alloc: Global, kinds: &Kinds, state: &State) -> Result<Fingers, NoMemory>
     requires { IsState kinds.now state.now }
     ensures { IfOk result (λ fingers. fingers ≡ fingers_behind kinds.now state.now) }

@@ -28,8 +28,8 @@ impl From<NoMemory> for Halt {
     }
 }
 
-/// Whether some choices of the gates left have at most `allowed` more ends; else a kept lemma says that none do. A visit
-/// takes one node of those left. It leaves a lemma, unless such choices are found or no node is left.
+/// Whether some choices of the gates left have at most `allowed` more ends; else a kept lemma says that none do.
+/// A visit takes one node of those left. It leaves a lemma, unless such choices are found or no node is left.
 #[tactic(auto, using(crate::proofs::Grown::further_same, crate::proofs::Grown::further_then))]
 pub(crate) fn visit(
     alloc: Global,
