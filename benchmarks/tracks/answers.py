@@ -11,6 +11,7 @@ certificate = importlib.machinery.SourceFileLoader("certificate", str(pathlib.Pa
 UNIT_NM, METAL1 = 150, 49
 LAYER, XY = 0x0D02, 0x1003                                         # records of a GDSII file
 SECONDS = 20                                                       # of a processor, for one call
+MOST_READ = 6                                                      # tracks; the plain reader tries all orders of them
 
 
 class Differs(Exception):
@@ -86,21 +87,24 @@ class Made:
         return lines, {file.suffix[1:]: file.read_bytes() for file in self.room.glob(f"{out}.*")}
 
     def tracks_proved(self, tech, files, fewest):
-        """The certificate of tracks is there where it says something, and both readers accept it."""
+        """The certificate of tracks is there where it says something, and the program and the plain reader accept it."""
         same("whether there is a certificate of tracks", "ctrack" in files, fewest > 0)
         if fewest and files["ctrack"] not in self.accepted:
             said = ["status 0 ok", "cell x", f"gaps {self.found.gaps}", f"fewest {fewest}"]
             same("check .. --low", self.run("check", tech, "x.sp", "x", "low.ctrack", "--low"), said)
-            try:
-                reading = certificate.cell_of(self.room / "x.sp", "x")
-                read = certificate.check(reading, "x", files["ctrack"].decode("latin-1"))
-            except certificate.Wrong as wrong:
-                raise Differs(f"the other reader refuses the certificate: {wrong}") from None
-            same("the certificate", read[:2], (self.found.gaps, fewest))
             self.accepted.add(files["ctrack"])
+            if fewest <= MOST_READ:
+                self.read_again(files["ctrack"], fewest)
         if fewest:
             head = files["ctrack"].decode("latin-1").splitlines()[:4]
             same("the certificate's head", head, ["cellgen-tracks 1", "cell x", f"gaps {self.found.gaps}", f"tracks {fewest}"])
+
+    def read_again(self, data, fewest):
+        try:
+            read = certificate.check(certificate.cell_of(self.room / "x.sp", "x"), "x", data.decode("latin-1"))
+        except certificate.Wrong as wrong:
+            raise Differs(f"the other reader refuses the certificate: {wrong}") from None
+        same("the certificate", read[:2], (self.found.gaps, fewest))
 
     def evidence(self, tech, files, words, row):
         """The evidence for the gaps is accepted, and lists that row. Returns the report's lines about it."""

@@ -43,9 +43,22 @@ def of_nets(draw, most):
     return lines[:most]
 
 
+def of_pairs(draw, most):
+    """A P and an N transistor on each gate net, between few nets and hardly a rail: many rows have a ring."""
+    ends = ["m", "k", "y", "t"][:draw.randint(2, 4)]
+    lines = []
+    for on in INPUTS[:draw.randint(2, min(4, most // 2))]:
+        first, second = draw.sample(ends, 2)
+        other = (second, first) if draw.random() < 0.5 else draw.sample(ends, 2)
+        lines += [("p", first, on, second), ("n", other[0], on, other[1])]
+        if draw.random() < 0.2:
+            lines[-1] = ("n", "gnd", on, second)
+    return lines
+
+
 def spice(draw, most=8):
     """The text of a cell `x` with at most that many transistors."""
-    lines = draw.choice((of_gates, of_gates, of_nets))(draw, most)
+    lines = draw.choice((of_gates, of_gates, of_nets, of_pairs))(draw, most)
     nets = sorted({net for line in lines for net in line[1:]} - {"vdd", "gnd"})
     pins = [net for net in nets if net in "abcdy" or draw.random() < 0.1]
     if draw.random() < 0.08:
