@@ -1,5 +1,5 @@
 """Runs inside KLayout, called by checks/klayout with the words spice, folder and lambda_nm: compares each cell of the
-folder with its subcircuit, and prints a line for each. Status 1: one differs.
+folder with its subcircuit, and prints a line for each. Status 1: one differs. Status 2: there is none.
 """
 import collections
 import os
@@ -107,7 +107,7 @@ def has_cell(path, name):
     return layout.has_cell(name)
 
 
-text, bad = open(spice, encoding="latin-1").read(), 0
+text, count, bad = open(spice, encoding="latin-1").read(), 0, 0
 for file in sorted(os.listdir(folder)):
     if file.endswith(".gds"):
         cell = file[:-4]
@@ -119,6 +119,9 @@ for file in sorted(os.listdir(folder)):
             print(f"{file}: ignored, SPICE has no such subcircuit")
             continue
         same = wanted(text, cell) == drawn(path, cell) and has_same_metal(path, cell)
-        bad += not same
+        count, bad = count + 1, bad + (not same)
         print(f"{cell}: {'the same' if same else 'DIFFERS'}")
+if not count:
+    print(f"klayout: {folder} has no cell of {spice}", file=sys.stderr)
+    sys.exit(2)
 sys.exit(1 if bad else 0)
