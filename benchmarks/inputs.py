@@ -211,7 +211,7 @@ def boundaries_of(data):
 
 
 def side_by_side(text, name, most):
-    """As many copies of a made cell as have so many rectangles, far enough apart to obey the rules, without labels."""
+    """As many copies of a made cell as have N rectangles, far enough apart to obey the rules, without labels."""
     def make(folder, program):
         subprocess.run([program] + made(text, name, 200000)(folder, program)[0], cwd=folder, capture_output=True, check=True)
         shapes = list(boundaries_of((folder / f"{name}.gds").read_bytes()))
@@ -245,7 +245,7 @@ def comb(teeth):
 
 
 def compared(front, count):
-    """An inverter and its abstract, with so many random rectangles before the first one behind the word."""
+    """An inverter and its abstract, with N random rectangles before the first one after the word."""
     def make(folder, program):
         subprocess.run([program] + made(inverters("inv", 1), "inv", 200000)(folder, program)[0], cwd=folder, capture_output=True, check=True)
         draw = random.Random(1)

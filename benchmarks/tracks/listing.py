@@ -5,7 +5,7 @@ from tracks import after, cost
 
 
 def rows_of(cell, state, gaps):
-    """All rows from a state on with at most so many gaps, as lists of columns and whether a gap stands before each."""
+    """All rows from a state on with at most N gaps, as lists of columns and whether a gap stands before each."""
     if not any(state.p + state.n):
         yield []
         return
@@ -76,6 +76,6 @@ def is_wired(cell, row, most):
 
 
 def fewest_tracks(cell, gaps, most):
-    """The fewest tracks of the rows with at most so many gaps, no more than `most`."""
+    """The fewest tracks of the rows with at most N gaps, no more than `most`."""
     rows = list(rows_of(cell, cell.start, gaps))
     return next((tracks for tracks in range(most + 1) if any(is_wired(cell, row, tracks) for row in rows)), None)

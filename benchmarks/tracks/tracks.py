@@ -277,7 +277,7 @@ def fewest_gaps(cell):
 
 
 def fewest_tracks(cell, gaps, most):
-    """The fewest tracks of the rows with so many gaps, and the lemmas that fewer are not enough; no more than `most`."""
+    """The fewest tracks of the rows with N gaps, and the lemmas that fewer are not enough; no more than `most`."""
     lemmas = []
     for tracks in range(most + 1):
         search = Search(cell, tracks)

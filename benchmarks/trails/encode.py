@@ -1,5 +1,5 @@
 #!/usr/bin/env python3
-"""Asks a solver of propositional logic whether some fingers have an arrangement with at most so many gaps.
+"""Asks a solver of propositional logic whether some fingers have an arrangement with at most N gaps.
 
     benchmarks/trails/encode.py SPICE CELL GAPS > cell.cnf          # DIMACS; a solver says yes where there is such an arrangement
 
@@ -122,7 +122,7 @@ class Edge:
 
 
 def edge_of(out, row, other, at, count):
-    """The edge of a finger of a full row, of which the other row has so many on its gate."""
+    """The edge of a finger of a full row, of which the other row has that many on its gate."""
     one = row.fingers[at]
     mates = [mate for mate, finger in enumerate(other.fingers) if finger.gate == one.gate]
     nets = {net for mate in mates for net in (other.fingers[mate].lo, other.fingers[mate].hi)}
@@ -148,7 +148,7 @@ def count_ends(out, rows, full, most):
 
 
 def encode(fingers, most):
-    """The clauses that some arrangement of the fingers with at most so many gaps satisfies, and nothing else."""
+    """The clauses that some arrangement of the fingers with at most N gaps satisfies, and nothing else."""
     out, columns = Clauses(), columns_of(fingers)
     rows = [Row(out, row, columns) for row in (fingers.p, fingers.n)]
     for row in rows:

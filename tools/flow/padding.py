@@ -41,7 +41,7 @@ class Piece(NamedTuple):
 
 
 class NoPlace(Exception):
-    """No pad can be had for a pin."""
+    """There is no room for a pad of a pin."""
 
     def __init__(self, pin: str, places: int, shut: int) -> None:
         of_these = f", {shut} of them shut in once the leads are drawn" if shut else ""

@@ -1,4 +1,4 @@
-"""A made cell with a landing pad for each signal pin, as narrow as can be had. Lengths are in grid units."""
+"""A made cell with a landing pad for each signal pin, as narrow as possible. Lengths are in grid units."""
 from __future__ import annotations
 
 from dataclasses import replace
@@ -52,7 +52,7 @@ def ordered(cell: tuple[Structure, Macro], grid: Grid, reach: int, has_contacts:
 
 
 def padded(structure: Structure, macro: Macro, grid: Grid, reach: int) -> Padder:
-    """The cell with its pads, on as few columns of the grid as can be had; pins get further contacts only where that
+    """The cell with its pads, on as few columns of the grid as possible; pins get further contacts only where that
     saves a column."""
     least = -(-macro.width // grid.pitch_x)
     for more in range(MOST_COLUMNS + 1):
