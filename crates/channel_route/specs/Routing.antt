@@ -42,6 +42,12 @@ IsTight placement pins routing =
     (t : Trunk) → Contains routing.trunks t → IsFree placement pins routing.trunks t t.track
     × ((track : ℕ) → track < t.track → IsFree placement pins routing.trunks t track → ⊥)
 
+-- some routing is legal and tight
+pub record HasTightRouting (placement : Placement) (pins : Pins) : Type 0 where
+  pub routing : Routing
+  pub legal : IsLegal placement pins routing
+  pub tight : IsTight placement pins routing
+
 -- no net stands above another
 abbrev pub HasNoAbove : Placement → Pins → Type 0
 HasNoAbove placement pins = (upper lower : NetNo) (line : ℕ) → IsAbove placement pins upper lower line → ⊥

@@ -2,9 +2,10 @@ ghost use Rattle.std.specs.Prelude.{◌≡◌, List};
 ghost use Rattle.cell_num.specs.declared.net.Pins.{Pins};
 ghost use Rattle.row_place.specs.declared.placement.Placement.{Placement};
 ghost use Rattle.row_place.specs.Places.{IsPlacement};
+ghost use Rattle.row_place.specs.Trunks.{HasPins};
 ghost use Rattle.channel_route.specs.declared.routing.Routing.{Routing};
 ghost use Rattle.channel_route.specs.declared.routing.Above.{Above};
-ghost use Rattle.channel_route.specs.Routing.{IsLegal, IsTight};
+ghost use Rattle.channel_route.specs.Routing.{HasTightRouting, IsLegal, IsTight};
 ghost use Rattle.channel_route.specs.Cycle.{IsCycle, HasOneInBothRows, HasNoCycle};
 ghost use Rattle.channel_route.specs.Told.{IsTold};
 
@@ -13,6 +14,13 @@ pub fn one_routing()
     ensures { (placement : Placement) (pins : Pins) (a b : Routing)
         → IsLegal placement pins a → IsTight placement pins a
         → IsLegal placement pins b → IsTight placement pins b → a ≡ b }
+{}
+
+/// A placement in which each pin other than the rails has a place, and no cycle, has a legal and tight routing. It does
+/// nothing: its contract is the law.
+pub fn some_routing()
+    ensures { (placement : Placement) (pins : Pins) → HasPins placement pins → HasNoCycle placement pins
+        → HasTightRouting placement pins }
 {}
 
 /// Each net of a cycle has node places in both rows, so there is none where only one net with a trunk

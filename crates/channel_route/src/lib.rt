@@ -13,7 +13,7 @@ mod wire;
 pub use channel::{route, trunks_of};
 pub use constraint::{Constraint, constraints};
 pub use cycle::{Step, find_cycle};
-pub use laws::{no_cycle, one_routing, one_told};
+pub use laws::{no_cycle, one_routing, one_told, some_routing};
 pub use ring::Ring;
 pub use routing::{
     Above, CycleList, RouteStop, Routing, Trunk, TrunkList, WireAbove, WireCycleList,
